@@ -1,0 +1,3 @@
+pub mod Limits
+pub mod Types
+pub mod Values

@@ -1,0 +1,1 @@
+// Types and limits of 01.
