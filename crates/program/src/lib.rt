@@ -1,0 +1,1 @@
+// The definitions and laws of the program stream stand in specs/.
