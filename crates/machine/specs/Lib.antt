@@ -1,0 +1,5 @@
+pub mod Published
+pub mod Rules
+pub mod Stops
+pub mod Machine
+pub mod Represents

@@ -1,0 +1,286 @@
+-- The executable machine: one command of an instance, and one schedule move (01, 'Table and turns').
+-- An instance holds a suffix of its step's list, so that `if n` goes on or leaves n commands out; commands carry their notes,
+-- and stack values what put them there, which no outcome depends on. Where no rule fits, the outcome is `stuck`.
+use Prim.Native.Nat.{ℕ, zero, suc, _+_}
+use mathlib.Core.Bool.{Bool, true, false, not}
+use mathlib.Core.Option.{Option, none, some}
+use mathlib.Core.List.{List, [], _∷_, _++_, map, reverse}
+use lib.ListN.{length, getD, getElem?, set, take, drop}
+use lib.Dec.{ltb, leb, eqb}
+use Rattle.types.specs.Limits.{max-instances, max-stability, first-local}
+use Rattle.types.specs.Types.{Ty, Ty.int, Ty.bool, Ty.ref}
+use Rattle.types.specs.Values.{Val, Val.int-val, Val.nat-val, Val.bool-val, Val.label}
+use Rattle.program.specs.Tree.{Op, Stmts, Program}
+use Rattle.commands.specs.Context.{params-of, context}
+use Rattle.commands.specs.Typing.{Sort, Sort.equality, Sort.order, Sort.arithmetic, Sort.logic, sort}
+use Rattle.commands.specs.Noted.{Note, Note.n-push, Note.n-this, Note.n-not, Note.n-rd, Note.n-wr, Note.n-get, Note.n-set, Note.n-cons, Note.n-op, Note.n-if, noted}
+use Rattle.words.specs.Apply.{Answer, Answer.value, Answer.outside, Answer.unfit, apply, same-val}
+use Rattle.machine.specs.Published.{Sched, Sched.done, Sched.start, Sched.start-in, Sched.fixpoint, Sched.active, before, Env, lookup, assign, fresh-env, structs, arity, step-of}
+use Rattle.machine.specs.Rules.{meet}
+
+-- a stack value: the type that what put it there gives it, and the value (01, 'The words of demand 3')
+pub record Tagged : Type 0 where
+  pub by : Ty
+  pub is : Val
+
+abbrev pub tagged : Ty → Val → Tagged
+tagged t v = record { by = t; is = v }
+
+pub record Instance : Type 0 where
+  pub struct : ℕ
+  pub code : List Note
+  pub stack : List Tagged
+  pub env : Env
+  -- the locals whose declaration was taken in this passage through the step
+  pub written : List ℕ
+
+pub record Machine : Type 0 where
+  pub sched : Sched
+  pub instances : List Instance
+  pub stability : List Bool
+
+-- what an act comes to: the next machine, a number from the state, or no rule
+pub data Out : Type 0 where
+  next : Machine → Out
+  refused : ℕ → Out
+  stuck : Out
+
+-- the numbers from the state
+abbrev pub full : ℕ
+full = 34
+
+abbrev pub exceeded : ℕ
+exceeded = 35
+
+abbrev pub nested : ℕ
+nested = 36
+
+-- Few setters ------------------------------------------------------------------
+
+abbrev pub with-code : Instance → List Note → List Tagged → Instance
+with-code i c χ = record { struct = i .struct; code = c; stack = χ; env = i .env; written = i .written }
+
+abbrev pub with-written : Instance → List ℕ → Instance
+with-written i w = record { struct = i .struct; code = i .code; stack = i .stack; env = i .env; written = w }
+
+abbrev pub with-env : Instance → Env → Instance
+with-env i ξ = record { struct = i .struct; code = i .code; stack = i .stack; env = ξ; written = i .written }
+
+unfoldable pub update-env : List Instance → ℕ → Env → List Instance
+update-env [] l ξ = []
+update-env (i ∷ is) zero ξ = with-env i ξ ∷ is
+update-env (i ∷ is) (suc l) ξ = i ∷ update-env is l ξ
+
+abbrev pub with-instances : Machine → List Instance → Machine
+with-instances m is = record { sched = m .sched; instances = is; stability = m .stability }
+
+-- the instance l put back
+abbrev pub put : Machine → ℕ → Instance → Machine
+put m l i = with-instances m (set (m .instances) l i)
+
+abbrev pub with-stability : Machine → List Bool → Machine
+with-stability m b = record { sched = m .sched; instances = m .instances; stability = b }
+
+-- Commands ---------------------------------------------------------------------
+
+-- arithmetic gives its operands' type, the other operators Bool
+abbrev pub result-type : Sort → Ty → Ty
+result-type equality t = bool
+result-type order t = bool
+result-type arithmetic t = t
+result-type logic t = bool
+
+-- whether a write leaves stability as it is: variable v is no parameter of struct k, or has the value x already
+unfoldable pub settled : Program → ℕ → ℕ → Val → Option Val → Bool
+settled p k v x none = true
+settled p k v x (some y) = elim (ltb v (arity p k)) [ true ↦ same-val y x | false ↦ true ]
+
+module _ (p : Program) (m : Machine) (l : ℕ) (i : Instance) where
+  -- the value of variable v of the instance on top, under the tag t
+  unfoldable pub read-from : List Note → List Tagged → ℕ → Ty → Option Val → Out
+  read-from c χ v t none = stuck
+  read-from c χ v t (some x) = next (put m l (with-code i c (tagged t x ∷ χ)))
+
+  unfoldable pub read-at : List Note → List Tagged → ℕ → Ty → Option Instance → Out
+  read-at c χ v t none = stuck
+  read-at c χ v t (some j) = read-from c χ v t (lookup (j .env) v)
+
+  unfoldable pub read : List Note → List Tagged → ℕ → Ty → Out
+  read c [] v t = stuck
+  read c (x ∷ χ) v t = elim (x .is) [
+    | int-val z ↦ stuck
+    | nat-val n ↦ stuck
+    | bool-val b ↦ stuck
+    | label r ↦ read-at c χ v t (getElem? (m .instances) r)
+  ]
+
+  -- x written to variable v of the instance r, which is j
+  unfoldable pub write-to : List Note → List Tagged → ℕ → Val → ℕ → Instance → Out
+  write-to c χ v x r j =
+      next
+      (with-stability
+      (with-instances m (update-env (set (m .instances) l (with-code i c χ)) r (assign (j .env) v x)))
+      (meet (settled p (j .struct) v x (lookup (j .env) v)) (m .stability)))
+
+  -- a parameter that has no value has no rule
+  unfoldable pub write-parameter : List Note → List Tagged → ℕ → Val → ℕ → Instance → Option Val → Out
+  write-parameter c χ v x r j none = stuck
+  write-parameter c χ v x r j (some y) = write-to c χ v x r j
+
+  -- a parameter of a null instance stays as it is
+  unfoldable pub write-at : List Note → List Tagged → ℕ → Val → ℕ → Option Instance → Out
+  write-at c χ v x r none = stuck
+  write-at c χ v x r (some j) =
+      elim (ltb v (arity p (j .struct))) [
+        | true ↦
+            elim (ltb r (structs p)) [
+              | true ↦ next (put m l (with-code i c χ))
+              | false ↦ write-parameter c χ v x r j (lookup (j .env) v)
+            ]
+        | false ↦ write-to c χ v x r j
+      ]
+
+  unfoldable pub write : List Note → List Tagged → ℕ → Out
+  write c [] v = stuck
+  write c (y ∷ []) v = stuck
+  write c (y ∷ x ∷ χ) v = elim (y .is) [
+    | int-val z ↦ stuck
+    | nat-val n ↦ stuck
+    | bool-val b ↦ stuck
+    | label r ↦ write-at c χ v (x .is) r (getElem? (m .instances) r)
+  ]
+
+  unfoldable pub negate : List Note → List Tagged → Out
+  negate c [] = stuck
+  negate c (x ∷ χ) = elim (x .is) [
+    | int-val z ↦ stuck
+    | nat-val n ↦ stuck
+    | bool-val b ↦ next (put m l (with-code i c (tagged bool (bool-val (not b)) ∷ χ)))
+    | label r ↦ stuck
+  ]
+
+  unfoldable pub branch : ℕ → List Note → List Tagged → Out
+  branch n c [] = stuck
+  branch n c (x ∷ χ) = elim (x .is) [
+    | int-val z ↦ stuck
+    | nat-val n ↦ stuck
+    | bool-val b ↦ next (put m l (with-code i (elim b [ true ↦ c | false ↦ drop n c ]) χ))
+    | label r ↦ stuck
+  ]
+
+  unfoldable pub operated : List Note → List Tagged → Ty → Answer → Out
+  operated c χ t (value v) = next (put m l (with-code i c (tagged t v ∷ χ)))
+  operated c χ t outside = refused exceeded
+  operated c χ t unfit = stuck
+
+  unfoldable pub operate : Op → List Note → List Tagged → Out
+  operate o c [] = stuck
+  operate o c (y ∷ []) = stuck
+  operate o c (y ∷ x ∷ χ) = operated c χ (result-type (sort o) (x .by)) (apply o (x .is) (y .is))
+
+  -- an instance of struct k with the n values on top, the last on top; it holds no commands
+  abbrev pub made : ℕ → ℕ → List Tagged → Instance
+  made k n χ = record {
+    struct = k;
+    code = [];
+    stack = [];
+    env = fresh-env (reverse (map (λ x. x .is) (take n χ)));
+    written = [];
+  }
+
+  unfoldable pub construct : ℕ → List Note → List Tagged → Out
+  construct k c χ =
+      elim (leb (arity p k) (length χ)) [
+        | true ↦
+            elim (ltb (length (m .instances)) max-instances) [
+              | true ↦
+                  next
+                  (with-stability
+                  (with-instances m
+                  (set (m .instances) l (with-code i c (tagged (ref k) (label (length (m .instances))) ∷ drop (arity p k) χ))
+                  ++ made k (arity p k) χ ∷ []))
+                  (meet false (m .stability)))
+              | false ↦ refused full
+            ]
+        | false ↦ stuck
+      ]
+
+  -- one command, the rest of the code behind it
+  unfoldable pub perform : Note → List Note → Out
+  perform (n-push t v) c = next (put m l (with-code i c (tagged t v ∷ i .stack)))
+  perform n-this c = next (put m l (with-code i c (tagged (ref (i .struct)) (label l) ∷ i .stack)))
+  perform n-not c = negate c (i .stack)
+  perform (n-rd k x) c = read c (i .stack) x (getD (params-of p k) x int)
+  perform (n-wr k x) c = write c (i .stack) x
+  perform (n-get t x) c = read c (i .stack) (first-local + x) t
+  perform (n-set d t x) c = write c (i .stack) (first-local + x)
+  perform (n-cons k) c = construct k c (i .stack)
+  perform (n-op o) c = operate o c (i .stack)
+  perform (n-if n) c = branch n c (i .stack)
+
+-- the locals written once this command is taken
+unfoldable pub now-written : Note → List ℕ → List ℕ
+now-written (n-push t v) w = w
+now-written n-this w = w
+now-written n-not w = w
+now-written (n-rd k x) w = w
+now-written (n-wr k x) w = w
+now-written (n-get t x) w = w
+now-written (n-set true t x) w = x ∷ w
+now-written (n-set false t x) w = w
+now-written (n-cons k) w = w
+now-written (n-op o) w = w
+now-written (n-if n) w = w
+
+-- instance l takes its next command
+unfoldable pub command-of : Program → Machine → ℕ → Instance → List Note → Out
+command-of p m l i [] = stuck
+command-of p m l i (n ∷ c) = perform p m l (with-written i (now-written n (i .written))) n c
+
+unfoldable pub command-at : Program → Machine → ℕ → Option Instance → Out
+command-at p m l none = stuck
+command-at p m l (some i) = command-of p m l i (i .code)
+
+unfoldable pub command : Program → ℕ → Machine → Out
+command p l m = command-at p m l (getElem? (m .instances) l)
+
+-- Schedule moves ----------------------------------------------------------------
+
+-- the commands of the step n, where the instance's struct has it, with its notes; its stack and passage begin anew
+unfoldable pub given : Program → Option Stmts → Instance → Instance
+given p none i = i
+given p (some b) i = record {
+  struct = i .struct;
+  code = noted (context p (i .struct) b) b;
+  stack = [];
+  env = i .env;
+  written = [];
+}
+
+unfoldable pub started : Program → ℕ → Instance → Instance
+started p n i = given p (step-of p (i .struct) n) i
+
+unfoldable pub started-in : Program → ℕ → ℕ → Instance → Instance
+started-in p k n i = elim (eqb (i .struct) k) [ true ↦ started p n i | false ↦ i ]
+
+abbrev pub machine : Sched → List Instance → List Bool → Machine
+machine s is b = record { sched = s; instances = is; stability = b }
+
+unfoldable pub repeat : Sched → Sched → List Instance → List Bool → Out
+repeat f s is [] = stuck
+repeat f s is (true ∷ b) = next (machine s is b)
+repeat f s is (false ∷ b) = next (machine (before f (active f s)) is (true ∷ b))
+
+-- one move of the schedule, where no instance holds commands
+unfoldable pub move-by : Program → Sched → List Instance → List Bool → Out
+move-by p done is b = stuck
+move-by p (start n s) is b = next (machine s (map (started p n) is) b)
+move-by p (start-in k n s) is b = next (machine s (map (started-in p k n) is) b)
+move-by p (fixpoint f s) is b = elim (ltb (length b) max-stability) [
+  | true ↦ next (machine (before f (active f s)) is (true ∷ b))
+  | false ↦ refused nested
+]
+move-by p (active f s) is b = repeat f s is b
+
+abbrev pub move : Program → Machine → Out
+move p m = move-by p (m .sched) (m .instances) (m .stability)

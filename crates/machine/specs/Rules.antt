@@ -1,0 +1,126 @@
+-- The fifteen rules of 000, section 4, each under its published name, with 01's arithmetic, labels and limits.
+-- Computed parts are premises. 01 departs from 000 in two places: a new instance takes the next label, and starting a step
+-- empties the stacks of the instances that have it and of no others ('Table and turns').
+use Prim.Native.Nat.{ℕ, _<_, _≤_}
+use mathlib.Core.Path.{_≡_}
+use mathlib.Core.Bool.{Bool, true, false, not as negation}
+use mathlib.Core.Option.{Option, none, some}
+use mathlib.Core.List.{List, [], _∷_, _++_, map, reverse}
+use lib.ListN.{length, getElem?, set}
+use lib.Dec.{eqb}
+use Rattle.types.specs.Limits.{max-instances, max-stability}
+use Rattle.types.specs.Types.{Ty}
+use Rattle.types.specs.Values.{Val, Val.bool-val, Val.label}
+use Rattle.program.specs.Tree.{Op, Stmts, Program}
+use Rattle.program.specs.Counts.{All}
+use Rattle.commands.specs.Commands.{Com.push, Com.push-this, Com.rd, Com.wr, Com.cons, Com.not, Com.oper, Coms, Coms.nil, Coms.act, Coms.if-then, then, body-coms}
+use Rattle.words.specs.Operators.{Applies}
+use Rattle.machine.specs.Published.{Sched, Sched.start, Sched.start-in, Sched.fixpoint, Sched.active, before, Env, lookup, assign, fresh-env, Inst, Inst.inst, State, State.state, update-env, structs, arity, step-of, Idle}
+
+-- Done(σ)
+abbrev pub Done : List Inst → Type 0
+Done σ = All Idle σ
+
+-- su of rule ComWr: the variable is no parameter, or it has the value already
+pub data Settled (p : Program) (k v : ℕ) (ξ : Env) (x : Val) : Bool → Type 0 where
+  no-parameter : arity p k ≤ v → Settled p k v ξ x true
+  same-value : v < arity p k → lookup ξ v ≡ some x → Settled p k v ξ x true
+  other-value : {y : Val} → v < arity p k → lookup ξ v ≡ some y → (y ≡ x → ⊥) → Settled p k v ξ x false
+
+-- sχ₁ ∧ su; ..; sχₙ ∧ su
+unfoldable pub meet : Bool → List Bool → List Bool
+meet true sχ = sχ
+meet false sχ = map (λ t. false) sχ
+
+-- the instances that have the step n get its commands and an empty stack
+unfoldable pub given : Option Stmts → Inst → Inst
+given none i = i
+given (some b) (inst k c χ ξ) = inst k (body-coms b) [] ξ
+
+abbrev pub started : Program → ℕ → Inst → Inst
+started p n (inst k c χ ξ) = given (step-of p k n) (inst k c χ ξ)
+
+-- the same, of struct x alone
+unfoldable pub started-in : Program → ℕ → ℕ → Inst → Inst
+started-in p x n (inst k c χ ξ) = elim (eqb k x) [ true ↦ started p n (inst k c χ ξ) | false ↦ inst k c χ ξ ]
+
+-- who acts: an instance by a command, or the schedule
+pub data Actor : Type 0 where
+  instance : ℕ → Actor
+  schedule : Actor
+
+pub data Rule (p : Program) : Actor → State → State → Type 0 where
+  ComPush : {s : Sched} {σ τ : List Inst} {b : List Bool} {l k : ℕ} {t : Ty} {v : Val} {c : Coms} {χ : List Val} {ξ : Env}
+      → getElem? σ l ≡ some (inst k (act (push t v) c) χ ξ)
+      → τ ≡ set σ l (inst k c (v ∷ χ) ξ)
+      → Rule p (instance l) (state s σ b) (state s τ b)
+  ComPushThis : {s : Sched} {σ τ : List Inst} {b : List Bool} {l k : ℕ} {c : Coms} {χ : List Val} {ξ : Env}
+      → getElem? σ l ≡ some (inst k (act push-this c) χ ξ)
+      → τ ≡ set σ l (inst k c (label l ∷ χ) ξ)
+      → Rule p (instance l) (state s σ b) (state s τ b)
+  ComRd : {s : Sched} {σ τ : List Inst} {b : List Bool} {l m k j v : ℕ} {c d : Coms} {χ ψ : List Val} {ξ η : Env} {x : Val}
+      → getElem? σ l ≡ some (inst k (act (rd v) c) (label m ∷ χ) ξ)
+      → getElem? σ m ≡ some (inst j d ψ η)
+      → lookup η v ≡ some x
+      → τ ≡ set σ l (inst k c (x ∷ χ) ξ)
+      → Rule p (instance l) (state s σ b) (state s τ b)
+  ComWr : {s : Sched} {σ τ : List Inst} {b b′ : List Bool} {l m k j v : ℕ} {c d : Coms} {χ ψ : List Val} {ξ η : Env} {x : Val} {su : Bool}
+      → getElem? σ l ≡ some (inst k (act (wr v) c) (label m ∷ x ∷ χ) ξ)
+      → getElem? σ m ≡ some (inst j d ψ η)
+      → (m < structs p → v < arity p j → ⊥)
+      → Settled p j v η x su
+      → τ ≡ update-env (set σ l (inst k c χ ξ)) m (assign η v x)
+      → b′ ≡ meet su b
+      → Rule p (instance l) (state s σ b) (state s τ b′)
+  ComWrNSkip : {s : Sched} {σ τ : List Inst} {b : List Bool} {l m k j v : ℕ} {c d : Coms} {χ ψ : List Val} {ξ η : Env} {x : Val}
+      → getElem? σ l ≡ some (inst k (act (wr v) c) (label m ∷ x ∷ χ) ξ)
+      → getElem? σ m ≡ some (inst j d ψ η)
+      → m < structs p
+      → v < arity p j
+      → τ ≡ set σ l (inst k c χ ξ)
+      → Rule p (instance l) (state s σ b) (state s τ b)
+  ComNot : {s : Sched} {σ τ : List Inst} {b : List Bool} {l k : ℕ} {c : Coms} {χ : List Val} {ξ : Env} {t : Bool}
+      → getElem? σ l ≡ some (inst k (act not c) (bool-val t ∷ χ) ξ)
+      → τ ≡ set σ l (inst k c (bool-val (negation t) ∷ χ) ξ)
+      → Rule p (instance l) (state s σ b) (state s τ b)
+  ComOp : {s : Sched} {σ τ : List Inst} {b : List Bool} {l k : ℕ} {c : Coms} {χ : List Val} {ξ : Env} {o : Op} {x y z : Val}
+      → getElem? σ l ≡ some (inst k (act (oper o) c) (y ∷ x ∷ χ) ξ)
+      → Applies o x y z
+      → τ ≡ set σ l (inst k c (z ∷ χ) ξ)
+      → Rule p (instance l) (state s σ b) (state s τ b)
+  ComCons : {s : Sched} {σ τ : List Inst} {b b′ : List Bool} {l k j : ℕ} {c : Coms} {χ′ : List Val} {ξ : Env} (xs χ : List Val)
+      → getElem? σ l ≡ some (inst k (act (cons j) c) χ′ ξ)
+      → length xs ≡ arity p j
+      → χ′ ≡ reverse xs ++ χ
+      → length σ < max-instances
+      → τ ≡ set σ l (inst k c (label (length σ) ∷ χ) ξ) ++ inst j nil [] (fresh-env xs) ∷ []
+      → b′ ≡ meet false b
+      → Rule p (instance l) (state s σ b) (state s τ b′)
+  ComIfT : {s : Sched} {σ τ : List Inst} {b : List Bool} {l k : ℕ} {c d : Coms} {χ : List Val} {ξ : Env}
+      → getElem? σ l ≡ some (inst k (if-then d c) (bool-val true ∷ χ) ξ)
+      → τ ≡ set σ l (inst k (then d c) χ ξ)
+      → Rule p (instance l) (state s σ b) (state s τ b)
+  ComIfF : {s : Sched} {σ τ : List Inst} {b : List Bool} {l k : ℕ} {c d : Coms} {χ : List Val} {ξ : Env}
+      → getElem? σ l ≡ some (inst k (if-then d c) (bool-val false ∷ χ) ξ)
+      → τ ≡ set σ l (inst k c χ ξ)
+      → Rule p (instance l) (state s σ b) (state s τ b)
+  InitG : {s : Sched} {σ τ : List Inst} {b : List Bool} {n : ℕ}
+      → Done σ
+      → τ ≡ map (started p n) σ
+      → Rule p schedule (state (start n s) σ b) (state s τ b)
+  InitL : {s : Sched} {σ τ : List Inst} {b : List Bool} {k n : ℕ}
+      → Done σ
+      → τ ≡ map (started-in p k n) σ
+      → Rule p schedule (state (start-in k n s) σ b) (state s τ b)
+  FixInit : {f s s′ : Sched} {σ : List Inst} {b : List Bool}
+      → Done σ
+      → length b < max-stability
+      → s′ ≡ before f (active f s)
+      → Rule p schedule (state (fixpoint f s) σ b) (state s′ σ (true ∷ b))
+  FixIter : {f s s′ : Sched} {σ : List Inst} {b : List Bool}
+      → Done σ
+      → s′ ≡ before f (active f s)
+      → Rule p schedule (state (active f s) σ (false ∷ b)) (state s′ σ (true ∷ b))
+  FixTerm : {f s : Sched} {σ : List Inst} {b : List Bool}
+      → Done σ
+      → Rule p schedule (state (active f s) σ (true ∷ b)) (state s σ b)

@@ -1,0 +1,32 @@
+-- The conditions of the numbers from the state (01, 'Numbers from the state'), on published states.
+use Prim.Native.Nat.{ℕ, _≤_}
+use mathlib.Core.Path.{_≡_}
+use mathlib.Core.Bool.{Bool}
+use mathlib.Core.Option.{some}
+use mathlib.Core.List.{List, _∷_}
+use lib.ListN.{length, getElem?}
+use Rattle.types.specs.Limits.{max-instances, max-stability}
+use Rattle.types.specs.Values.{Val}
+use Rattle.program.specs.Tree.{Op, Program}
+use Rattle.commands.specs.Commands.{Com.cons, Com.oper, Coms, Coms.act}
+use Rattle.words.specs.Operators.{Exceeds}
+use Rattle.machine.specs.Published.{Sched, Sched.fixpoint, Env, Inst, Inst.inst, State, State.state, arity}
+
+-- 34: cons with 256 instances
+pub data Full (p : Program) (l : ℕ) : State → Type 0 where
+  no-label : {s : Sched} {σ : List Inst} {b : List Bool} {k j : ℕ} {c : Coms} {χ : List Val} {ξ : Env}
+      → getElem? σ l ≡ some (inst k (act (cons j) c) χ ξ)
+      → arity p j ≤ length χ
+      → max-instances ≤ length σ
+      → Full p l (state s σ b)
+
+-- 35: zero divisor, or result outside its type
+pub data Exceeded (l : ℕ) : State → Type 0 where
+  no-result : {s : Sched} {σ : List Inst} {b : List Bool} {k : ℕ} {c : Coms} {χ : List Val} {ξ : Env} {o : Op} {x y : Val}
+      → getElem? σ l ≡ some (inst k (act (oper o) c) (y ∷ x ∷ χ) ξ)
+      → Exceeds o x y
+      → Exceeded l (state s σ b)
+
+-- 36: Fix met with 8 stability entries
+pub data Nested : State → Type 0 where
+  no-entry : {f s : Sched} {σ : List Inst} {b : List Bool} → max-stability ≤ length b → Nested (state (fixpoint f s) σ b)

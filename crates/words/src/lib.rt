@@ -1,0 +1,1 @@
+// The definitions and laws of the operators stand in specs/.
