@@ -1,0 +1,1 @@
+// The definitions and laws of demand 3 stand in specs/.
