@@ -1,2 +1,6 @@
 pub mod Tags
 pub mod Needs
+pub mod SafeLaws
+pub mod Locals
+pub mod LocalsLaws
+pub mod Compiled
