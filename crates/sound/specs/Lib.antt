@@ -4,3 +4,4 @@ pub mod SafeLaws
 pub mod Locals
 pub mod LocalsLaws
 pub mod Compiled
+pub mod Static
