@@ -5,3 +5,4 @@ pub mod Locals
 pub mod LocalsLaws
 pub mod Compiled
 pub mod Static
+pub mod Steps
