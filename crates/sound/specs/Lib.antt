@@ -6,3 +6,4 @@ pub mod LocalsLaws
 pub mod Compiled
 pub mod Static
 pub mod Steps
+pub mod Heights
