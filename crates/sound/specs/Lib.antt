@@ -7,3 +7,4 @@ pub mod Compiled
 pub mod Static
 pub mod Steps
 pub mod Heights
+pub mod Exhibits
