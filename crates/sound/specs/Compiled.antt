@@ -9,7 +9,7 @@ use lib.Seq.{drop-append-seam}
 use Rattle.types.specs.Types.{Ty}
 use Rattle.program.specs.Tree.{Var, Var.par, Var.loc, Expr, Expr.inv, Expr.make, Expr.path, Expr.int-lit, Expr.nat-lit, Expr.bool-lit, Expr.null, Expr.self, Expr.op, Exprs, Exprs.none, Exprs.more, Stmt, Stmt.when, Stmt.declare, Stmt.update, Stmt.create, Stmts, Stmts.end, Stmts.next}
 use Rattle.program.specs.Encoding.{var-code}
-use Rattle.commands.specs.Commands.{Com.push-this, Com.wr, Coms, Coms.nil, Coms.act, Coms.if-then, then, one, reads, variables, front, last, expr-coms, args-coms, update-coms, stmt-coms, body-coms, Flat, Flat.plain, flatten, commands}
+use Rattle.commands.specs.Commands.{Com.push-this, Com.wr, Coms, Coms.nil, Coms.act, Coms.if-then, then, reads, variables, front, last, expr-coms, args-coms, update-coms, stmt-coms, body-coms, Flat, Flat.plain, flatten, commands}
 use Rattle.commands.specs.Context.{Ctx, typ}
 use Rattle.commands.specs.Noted.{Note, Note.n-this, Note.n-not, Note.n-set, Note.n-cons, Note.n-op, Note.n-if, erase, struct-of, walk, store, read-path, write-path, note-expr, note-exprs, note-stmt, note-body, noted}
 

@@ -10,15 +10,15 @@ use lib.ListN.{length}
 use Rattle.types.specs.Limits.{step-commands, max-depth}
 use Rattle.types.specs.Types.{Ty, Ty.int, Ty.bool, Ty.ref}
 use Rattle.types.specs.Values.{value-of}
-use Rattle.program.specs.Tree.{Var.par, Var.loc, Op.op-add, Expr, Expr.inv, Expr.make, Expr.path, Expr.int-lit, Expr.bool-lit, Expr.self, Expr.op, Exprs.none, Exprs.more, Stmt, Stmt.when, Stmt.declare, Stmt.update, Stmt.create, Stmts, Stmts.end, Stmts.next, Item.call, Items.stop, Items.item, Step, Program, args, size, items}
+use Rattle.program.specs.Tree.{Var.par, Var.loc, Op.op-add, Expr.inv, Expr.path, Expr.int-lit, Expr.bool-lit, Expr.self, Expr.op, Exprs.none, Exprs.more, Stmt.when, Stmt.declare, Stmt.update, Stmt.create, Stmts, Stmts.end, Stmts.next, Item.call, Items.stop, Items.item, Program, args, size, items}
 use Rattle.program.specs.Counts.{Counts, CountsExpr, CountsStmts, CountsItems, CountsStep, CountsSchedule, IsPath, IsVar, height, nests, fixes-in}
 use Rattle.commands.specs.Commands.{commands, flatten, body-coms, expr-coms, update-coms, reads, front, last, then}
 use Rattle.commands.specs.Context.{Ctx, context, body-local}
 use Rattle.commands.specs.Names.{Names, declared, Named, step-names, Scheduled, NamesRight}
-use Rattle.commands.specs.Typing.{Takes.arith-int, Leads.arrived, Leads.onward, Reaches, Reaches.from-own, Reaches.from-local, Types, Types.t-not, Types.t-path, Types.t-int, Types.t-bool, Types.t-this, Types.t-op, Types-all.t-none, Types-all.t-more, Typed-stmt, Typed-stmt.t-when, Typed-stmt.t-declare, Typed-stmt.t-update, Typed-stmt.t-create, Typed, Typed.t-end, Typed.t-next, TypesRight}
+use Rattle.commands.specs.Typing.{Takes.arith-int, Leads.arrived, Leads.onward, Reaches, Reaches.from-own, Reaches.from-local, Types, Types.t-not, Types.t-path, Types.t-int, Types.t-bool, Types.t-this, Types.t-op, Types-all.t-none, Types-all.t-more, Typed-stmt.t-when, Typed-stmt.t-declare, Typed-stmt.t-update, Typed-stmt.t-create, Typed, Typed.t-end, Typed.t-next, TypesRight}
 use Rattle.commands.specs.Noted.{Note, Note.n-push, Note.n-this, Note.n-not, Note.n-wr, Note.n-get, struct-of, walk, store, read-path, write-path, note-expr, note-body, noted}
 use Rattle.commands.specs.Depth.{depth}
-use Rattle.commands.specs.Bounds.{Within, program-size, program-depth, total, greatest, items-count}
+use Rattle.commands.specs.Bounds.{Within, program-size, total, items-count}
 use Rattle.machine.specs.Published.{find-step, step-of}
 use Rattle.machine.specs.Machine.{now-written}
 use Rattle.sound.specs.Tags.{Tags, tags, at-start, Asks, Way, Way.start, Way.on, Way.over}
@@ -50,18 +50,21 @@ program b = record {
 }
 
 -- its counts are right and it keeps within the limits: it is refused with no number below 7
-abbrev Formed : Stmts → Type 0
+abbrev pub Formed : Stmts → Type 0
 Formed b = Counts (program b) × Within (program b)
 
 formed : (b : Stmts) → CountsStep (2 ∷ 2 ∷ []) (record { name = 0; body = b }) → length (commands b) ≤ step-commands
     → depth (2 ∷ 2 ∷ []) (commands b) 0 0 ≤ max-depth → Formed b
 unfolding Counts CountsSchedule CountsItems fixes-in items Within total program-size items-count
-formed b c s d =
-    ( ( (omega arith, omega arith, ((omega arith, omega arith, (tt, (tt, tt))), ((omega arith, omega arith, (tt, (omega arith, tt))), tt)))
-      , refl
-      , ((omega arith, omega arith, (c, tt)), ((omega arith, omega arith, tt), tt))
-      , (omega arith, omega arith, (omega arith, tt), omega arith))
-    , (((s, tt), (tt, tt)), omega arith, ((d, tt), (tt, tt)), omega arith))
+formed b c s d = (
+  (
+    (omega arith, omega arith, ((omega arith, omega arith, (tt, (tt, tt))), ((omega arith, omega arith, (tt, (omega arith, tt))), tt))),
+    refl,
+    ((omega arith, omega arith, (c, tt)), ((omega arith, omega arith, tt), tt)),
+    (omega arith, omega arith, (omega arith, tt), omega arith),
+  ),
+  (((s, tt), (tt, tt)), omega arith, ((d, tt), (tt, tt)), omega arith),
+)
 
 -- its names are right, or wrong, as its step's are
 named : (b : Stmts) → Named b 2 [] [] → NamesRight (program b)
@@ -132,12 +135,15 @@ outlived = next (when (bool-lit 1) (next (declare int 0 (int-lit 1)) end)) (next
 outlived-formed : Formed outlived
 unfolding CountsStep CountsStmts CountsExpr IsPath IsVar height nests size commands flatten body-coms expr-coms update-coms reads front last then depth
 outlived-formed =
-    formed outlived
-    ( omega arith
-    , omega arith
-    , ( (omega arith, omega arith, omega arith, ((tt, omega arith, omega arith, omega arith), tt))
-      , (((omega arith, omega arith, tt), (omega arith, omega arith, tt), omega arith), tt))
-    , omega arith)
+    formed outlived (
+      omega arith,
+      omega arith,
+      (
+        (omega arith, omega arith, omega arith, ((tt, omega arith, omega arith, omega arith), tt)),
+        (((omega arith, omega arith, tt), (omega arith, omega arith, tt), omega arith), tt),
+      ),
+      omega arith,
+    )
     (omega arith) (omega arith)
 
 outlived-lacking : Lacking (program outlived)
@@ -157,13 +163,14 @@ outlived-lacking = record {
 -- its types are right and its names are not: it is refused with 7, and where its if is left out its local was never written
 pub refused-7 : Formed outlived × (NamesRight (program outlived) → ⊥) × TypesRight (program outlived) × Lacking (program outlived)
 unfolding Named Names body-local
-refused-7 =
-    ( outlived-formed
-    , λ h. List·Memᴰ·not-nil (step-named outlived h .1 .0 .1)
-    , typed outlived
+refused-7 = (
+  outlived-formed,
+  λ h. List·Memᴰ·not-nil (step-named outlived h .1 .0 .1),
+  typed outlived
       (t-next (t-when t-bool (t-next (t-declare t-int) t-end))
-      (t-next (t-update (from-own (onward {k = 0} {x = 0} (omega arith) arrived)) (t-path (from-local arrived))) t-end))
-    , outlived-lacking)
+      (t-next (t-update (from-own (onward {k = 0} {x = 0} (omega arith) arrived)) (t-path (from-local arrived))) t-end)),
+  outlived-lacking,
+)
 
 -- Accepted -----------------------------------------------------------------------
 
@@ -176,32 +183,43 @@ joined =
     (next (declare int 0 (int-lit 1)) (next (update (par 0) [] (op op-add (path (loc 0) []) (path (par 0) []))) end))))
     (next (update (par 0) [] (int-lit 2)) end)
 
-abbrev G₁ : Ctx
+-- what its step is read against
+abbrev pub G₁ : Ctx
 G₁ = context (program joined) 0 joined
 
 joined-formed : Formed joined
 unfolding CountsStep CountsStmts CountsExpr IsPath IsVar height nests size args commands flatten body-coms expr-coms update-coms reads front last then depth
 joined-formed =
     let v : IsPath (par 0) [] = (omega arith, omega arith, tt) in
-    formed joined
-    ( omega arith
-    , omega arith
-    , ( ( (omega arith, omega arith, tt)
-        , omega arith
-        , omega arith
-        , ( (omega arith, refl, (omega arith, (tt, tt)), omega arith)
-          , ( (tt, omega arith, omega arith, omega arith)
-            , ((v, (v, v), omega arith), tt))))
-      , ((v, omega arith, omega arith), tt))
-    , omega arith)
+    formed joined (
+      omega arith,
+      omega arith,
+      (
+        (
+          (omega arith, omega arith, tt),
+          omega arith,
+          omega arith,
+          (
+            (omega arith, refl, (omega arith, (tt, tt)), omega arith),
+            (
+              (tt, omega arith, omega arith, omega arith),
+              ((v, (v, v), omega arith), tt),
+            ),
+          ),
+        ),
+        ((v, omega arith, omega arith), tt),
+      ),
+      omega arith,
+    )
     (omega arith) (omega arith)
 
 joined-named : NamesRight (program joined)
 unfolding Named Names declared
 joined-named =
-    named joined
-    ( (omega arith, ((tt, (tt, tt)), ((tt, λ m. List·Memᴰ·not-nil m), ((omega arith, (List·Memᴰ·head refl, omega arith)), tt))))
-    , ((omega arith, tt), tt))
+    named joined (
+      (omega arith, ((tt, (tt, tt)), ((tt, λ m. List·Memᴰ·not-nil m), ((omega arith, (List·Memᴰ·head refl, omega arith)), tt)))),
+      ((omega arith, tt), tt),
+    )
 
 p0 : Reaches G₁ (par 0) [] int
 p0 = from-own (onward {k = 0} {x = 0} (omega arith) arrived)
@@ -216,18 +234,21 @@ joined-typed =
     (t-next (t-declare t-int) (t-next (t-update p0 (t-op arith-int (t-path (from-local arrived)) (t-path p0))) t-end))))
     (t-next (t-update p0 t-int) t-end))
 
--- the commands behind the if
-abbrev behind : List Note
+-- its commands behind the if
+abbrev pub behind : List Note
 behind = n-push int (value-of int 2) ∷ n-this ∷ n-wr 0 0 ∷ []
 
--- it is accepted, and both ways through its if meet again behind it: without the label that the body leaves, and with it
-pub accepted : Formed joined × NamesRight (program joined) × TypesRight (program joined)
+-- it is accepted, so that no command lacks anything; both ways through its if meet again behind it, without the label that the body
+-- leaves and with it
+pub accepted : Formed joined × NamesRight (program joined) × TypesRight (program joined) × (Lacking (program joined) → ⊥)
     × Way G₁ (noted G₁ joined) at-start behind (tags [] [] false)
     × Way G₁ (noted G₁ joined) at-start behind (tags (ref 1 ∷ []) (0 ∷ []) false)
 unfolding noted note-body note-expr write-path read-path walk store struct-of now-written body-local
-accepted =
-    ( joined-formed
-    , joined-named
-    , joined-typed
-    , over (on (on start))
-    , on (on (on (on (on (on (on (on (on (on (on (on (on (on (on (on start))))))))))))))))
+accepted = (
+  joined-formed,
+  joined-named,
+  joined-typed,
+  none-lacking (program joined) joined-named joined-typed,
+  over (on (on start)),
+  on (on (on (on (on (on (on (on (on (on (on (on (on (on (on (on start))))))))))))))),
+)
