@@ -5,3 +5,4 @@ pub mod Reader
 pub mod Exact
 pub mod StandsLaws
 pub mod PartLaws
+pub mod JoinLaws
