@@ -164,19 +164,19 @@ opened-exact {key = key} Opens o sound complete cut = record {
   cut = λ s t n l. cut-then (byte-exact .cut s t n l) λ b k l. cut s t n k l (key b);
 }
 
--- lists are rows
+-- lists are rows, by any bytes that go with them element by element
 abbrev pub AllOf : {A : Type 0} → (A → Type 0) → ℕ → List A → Type 0
 AllOf C i l = (length l ≡ i) × (All C l)
 
-pub list-row : {A : Type 0} (C : A → Type 0) (E : A → List ℕ) → Rowed [] _∷_ C E (AllOf C) (λ i. flat E)
-unfolding flat
-list-row {A} C E = record {
+pub list-row : {A : Type 0} (C : A → Type 0) (E : A → List ℕ) (F : List A → List ℕ) → F [] ≡ [] → ((a : A) (l : List A) → F (a ∷ l) ≡ E a ++ F l)
+    → Rowed [] _∷_ C E (AllOf C) (λ i. F)
+list-row {A} C E F none more = record {
   nil = (refl, tt);
   cons = λ i a l c d. (ap suc (d .0), (c, d .1));
   nil-only = nil-only;
   cons-only = cons-only;
-  nil-bytes = refl;
-  cons-bytes = λ i a l c. refl;
+  nil-bytes = none;
+  cons-bytes = λ i a l c. more a l;
 }
   where
     nil-only : (l : List A) → AllOf C 0 l → [] ≡ l
@@ -187,10 +187,15 @@ list-row {A} C E = record {
     cons-only i [] h = absurd (omega arith)
     cons-only i (a ∷ l) h = (a, l, h .1 .0, (omega arith, h .1 .1), refl)
 
+-- a list's elements in a row
+pub flat-row : {A : Type 0} (C : A → Type 0) (E : A → List ℕ) → Rowed [] _∷_ C E (AllOf C) (λ i. flat E)
+unfolding flat
+flat-row C E = list-row C E (flat E) refl (λ a l. refl)
+
 -- a count and so many values, whose condition may know the count
 pub list-exact : {A : Type 0} {C : ℕ → A → Type 0} {E : A → List ℕ} {r : ℕ → List ℕ → ℕ → Result A} (lo hi : ℕ)
     → ((i : ℕ) → Exact (C i) E (r i))
     → Exact (λ l. (lo ≤ length l) × (length l ≤ hi) × (All (C (length l)) l)) (λ l. length l ∷ flat E l) (λ s. counted s lo hi (λ i. many [] _∷_ (r i s) i))
 list-exact {C = C} {E = E} lo hi y =
-    exact-iff (counted-exact lo hi length (λ i l h d. d .0) (λ i. row-exact (y i) (list-row (C i) E) i))
+    exact-iff (counted-exact lo hi length (λ i l h d. d .0) (λ i. row-exact (y i) (flat-row (C i) E) i))
     λ l. (λ h. (h .0, h .1, h .2 .1), λ h. (h .0, h .1, (refl, h .2)))

@@ -6,3 +6,5 @@ pub mod Exact
 pub mod StandsLaws
 pub mod PartLaws
 pub mod JoinLaws
+pub mod CodeLaws
+pub mod WordLaws
