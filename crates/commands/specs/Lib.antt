@@ -5,3 +5,6 @@ pub mod Typing
 pub mod Depth
 pub mod Bounds
 pub mod Noted
+pub mod Ways
+pub mod CommandLaws
+pub mod NotedLaws
