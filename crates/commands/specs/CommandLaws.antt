@@ -5,7 +5,9 @@ use mathlib.Core.Path.{_≡_, refl, ap, sym, _∙_}
 use mathlib.Core.List.{List, [], _∷_, _++_, append-assoc, append-nil}
 use lib.ListN.{length, take, drop}
 use lib.Seq.{take-append-seam, drop-append-seam}
-use Rattle.commands.specs.Commands.{Com, Coms, Coms.nil, Coms.act, Coms.if-then, then, Flat, Flat.plain, Flat.if-n, flatten}
+use Rattle.program.specs.Tree.{Var, Expr, Stmts}
+use Rattle.program.specs.Encoding.{var-code}
+use Rattle.commands.specs.Commands.{Com, Com.push-this, Com.wr, Coms, Coms.nil, Coms.act, Coms.if-then, then, reads, front, last, expr-coms, update-coms, body-coms, Flat, Flat.plain, Flat.if-n, flatten}
 use Rattle.commands.specs.Ways.{Reached, Reached.start, Reached.on, Reached.over}
 
 -- `then` has nil as its unit on the right; on the left it computes
@@ -32,6 +34,22 @@ flatten-then (if-then b c) d = rw (flatten-then c d, append-assoc)
 -- before further commands
 pub flatten-app : (c d : Coms) (f : List Flat) → flatten (then c d) ++ f ≡ flatten c ++ (flatten d ++ f)
 flatten-app c d f = rw (flatten-then, append-assoc)
+
+-- rd of all but the last of x, xs and wr of the last, before further commands
+abbrev pub stored : ℕ → List ℕ → List Flat → List Flat
+stored x xs f = flatten (reads (front x xs)) ++ plain (wr (last x xs)) ∷ f
+
+-- an update: the expression, push this, rd of all but the last variable, wr of the last
+pub update-flat : (v : Var) (vs : List ℕ) (e : Expr) (f : List Flat)
+    → flatten (update-coms v vs e) ++ f ≡ flatten (expr-coms e) ++ plain push-this ∷ stored (var-code v) vs f
+unfolding update-coms flatten
+update-flat v vs e f = rw (flatten-app, flatten-app)
+
+-- an if: the condition, then `if n` before its n body commands
+pub when-flat : (e : Expr) (b : Stmts) (f : List Flat)
+    → flatten (then (expr-coms e) (if-then (body-coms b) nil)) ++ f ≡ flatten (expr-coms e) ++ if-n (length (flatten (body-coms b))) ∷ (flatten (body-coms b) ++ f)
+unfolding flatten
+when-flat e b f = rw (flatten-app, append-assoc (flatten (body-coms b)) [] f)
 
 -- two lists in a row, of which the first are equally long, are equal by parts
 parts : {a b c d : List Flat} → length a ≡ length b → a ++ c ≡ b ++ d → (a ≡ b) × (c ≡ d)

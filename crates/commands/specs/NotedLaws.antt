@@ -10,7 +10,7 @@ use Rattle.types.specs.Types.{Ty}
 use Rattle.program.specs.Tree.{Var, Var.par, Var.loc, Expr, Expr.inv, Expr.make, Expr.path, Expr.int-lit, Expr.nat-lit, Expr.bool-lit, Expr.null, Expr.self, Expr.op, Exprs, Exprs.none, Exprs.more, Stmt, Stmt.when, Stmt.declare, Stmt.update, Stmt.create, Stmts, Stmts.end, Stmts.next}
 use Rattle.program.specs.Encoding.{var-code}
 use Rattle.commands.specs.Commands.{Com.push-this, Com.wr, Com.cons, Com.not, Com.oper, Coms.nil, Coms.if-then, then, one, reads, variables, front, last, expr-coms, args-coms, update-coms, stmt-coms, body-coms, Flat, Flat.plain, flatten, commands}
-use Rattle.commands.specs.CommandLaws.{flatten-app}
+use Rattle.commands.specs.CommandLaws.{flatten-app, stored, update-flat, when-flat}
 use Rattle.commands.specs.Context.{Ctx, typ}
 use Rattle.commands.specs.Noted.{Note, Note.n-this, Note.n-not, Note.n-set, Note.n-cons, Note.n-op, Note.n-if, erase, struct-of, walk, store, read-path, write-path, note-expr, note-exprs, note-stmt, note-body, noted}
 
@@ -84,10 +84,6 @@ module _ (G : Ctx) where
   walk-erased t [] c = refl
   walk-erased t (x ∷ xs) c = rw (walk-erased (typ G (struct-of t) x) xs c)
 
-  -- rd of all but the last of x, xs and wr of the last
-  abbrev stored : ℕ → List ℕ → List Flat → List Flat
-  stored x xs c = flatten (reads (front x xs)) ++ plain (wr (last x xs)) ∷ c
-
   store-erased : (t : Ty) (x : ℕ) (xs : List ℕ) (c : List Note) → map erase (store G t x xs c) ≡ stored x xs (map erase c)
   unfolding store erase reads flatten front last
   store-erased t x [] c = refl
@@ -118,24 +114,22 @@ mutual
   expr-erased (bool-lit w) G c = refl
   expr-erased (null t) G c = refl
   expr-erased self G c = refl
-  expr-erased (op o a b) G c = ?
+  expr-erased (op o a b) G c =
+      rw (flatten-app, flatten-app (expr-coms b), expr-erased a G (note-expr b G (n-op o ∷ c)), expr-erased b G (n-op o ∷ c))
 
   exprs-erased : (es : Exprs) (G : Ctx) (c : List Note) → map erase (note-exprs es G c) ≡ flatten (args-coms es) ++ map erase c
   exprs-erased none G c = refl
   exprs-erased (more e es) G c = rw (flatten-app, expr-erased e G (note-exprs es G c), exprs-erased es G c)
 
-update-erased : (v : Var) (vs : List ℕ) (e : Expr) (G : Ctx) (c : List Note)
-    → map erase (note-expr e G (write-path G v vs c)) ≡ flatten (update-coms v vs e) ++ map erase c
-unfolding update-coms flatten
-update-erased v vs e G c = ?
-
 mutual
-  unfolding note-stmt stmt-coms erase flatten
+  unfolding note-stmt stmt-coms erase flatten reads front last var-code
 
   stmt-erased : (s : Stmt) (G : Ctx) (c : List Note) → map erase (note-stmt s G c) ≡ flatten (stmt-coms s) ++ map erase c
-  stmt-erased (when e b) G c = ?
-  stmt-erased (declare t x e) G c = ?
-  stmt-erased (update v vs e) G c = update-erased v vs e G c
+  stmt-erased (when e b) G c =
+      let n = sym (length-map (note-body b G []) erase) ∙ ap length (body-erased b G [] ∙ append-nil (flatten (body-coms b))) in
+      rw (when-flat e b (map erase c), expr-erased e G (n-if (length (note-body b G [])) ∷ note-body b G c), n, body-erased b G c)
+  stmt-erased (declare t x e) G c = rw (update-flat, expr-erased e G (n-this ∷ n-set true t x ∷ c))
+  stmt-erased (update v vs e) G c = rw (update-flat, expr-erased e G (write-path G v vs c), write-erased)
   stmt-erased (create k es) G c = rw flatten-app (exprs-erased es G (n-cons k ∷ c))
 
   body-erased : (b : Stmts) (G : Ctx) (c : List Note) → map erase (note-body b G c) ≡ flatten (body-coms b) ++ map erase c
