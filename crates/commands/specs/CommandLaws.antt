@@ -5,9 +5,9 @@ use mathlib.Core.Path.{_≡_, refl, ap, sym, _∙_}
 use mathlib.Core.List.{List, [], _∷_, _++_, append-assoc, append-nil}
 use lib.ListN.{length, take, drop}
 use lib.Seq.{take-append-seam, drop-append-seam}
-use Rattle.program.specs.Tree.{Var, Expr, Stmts}
+use Rattle.program.specs.Tree.{Var, Expr, Stmt.when, Stmts}
 use Rattle.program.specs.Encoding.{var-code}
-use Rattle.commands.specs.Commands.{Com, Com.push-this, Com.wr, Coms, Coms.nil, Coms.act, Coms.if-then, then, reads, front, last, expr-coms, update-coms, body-coms, Flat, Flat.plain, Flat.if-n, flatten}
+use Rattle.commands.specs.Commands.{Com, Com.push-this, Com.wr, Coms, Coms.nil, Coms.act, Coms.if-then, then, reads, front, last, expr-coms, update-coms, stmt-coms, body-coms, Flat, Flat.plain, Flat.if-n, flatten}
 use Rattle.commands.specs.Ways.{Reached, Reached.start, Reached.on, Reached.over}
 
 -- `then` has nil as its unit on the right; on the left it computes
@@ -47,8 +47,8 @@ update-flat v vs e f = rw (flatten-app, flatten-app)
 
 -- an if: the condition, then `if n` before its n body commands
 pub when-flat : (e : Expr) (b : Stmts) (f : List Flat)
-    → flatten (then (expr-coms e) (if-then (body-coms b) nil)) ++ f ≡ flatten (expr-coms e) ++ if-n (length (flatten (body-coms b))) ∷ (flatten (body-coms b) ++ f)
-unfolding flatten
+    → flatten (stmt-coms (when e b)) ++ f ≡ flatten (expr-coms e) ++ if-n (length (flatten (body-coms b))) ∷ (flatten (body-coms b) ++ f)
+unfolding stmt-coms flatten
 when-flat e b f = rw (flatten-app, append-assoc (flatten (body-coms b)) [] f)
 
 -- two lists in a row, of which the first are equally long, are equal by parts

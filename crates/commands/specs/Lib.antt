@@ -8,3 +8,5 @@ pub mod Noted
 pub mod Ways
 pub mod CommandLaws
 pub mod NotedLaws
+pub mod Sizes
+pub mod SizeLaws

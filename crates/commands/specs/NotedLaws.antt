@@ -127,7 +127,7 @@ mutual
   stmt-erased : (s : Stmt) (G : Ctx) (c : List Note) → map erase (note-stmt s G c) ≡ flatten (stmt-coms s) ++ map erase c
   stmt-erased (when e b) G c =
       let n = sym (length-map (note-body b G []) erase) ∙ ap length (body-erased b G [] ∙ append-nil (flatten (body-coms b))) in
-      rw (when-flat e b (map erase c), expr-erased e G (n-if (length (note-body b G [])) ∷ note-body b G c), n, body-erased b G c)
+      rw (when-flat, expr-erased e G (n-if (length (note-body b G [])) ∷ note-body b G c), n, body-erased b G c)
   stmt-erased (declare t x e) G c = rw (update-flat, expr-erased e G (n-this ∷ n-set true t x ∷ c))
   stmt-erased (update v vs e) G c = rw (update-flat, expr-erased e G (write-path G v vs c), write-erased)
   stmt-erased (create k es) G c = rw flatten-app (exprs-erased es G (n-cons k ∷ c))
