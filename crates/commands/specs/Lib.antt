@@ -10,3 +10,4 @@ pub mod CommandLaws
 pub mod NotedLaws
 pub mod Sizes
 pub mod SizeLaws
+pub mod DepthLaws
