@@ -1,13 +1,12 @@
 -- Laws of nested and of flat commands (000, definitions 1 and 2; 01, 'Names, types, commands').
 use Prim.Native.Nat.{ℕ}
-use native.Mathlib.Omega.{arith}
 use mathlib.Core.Path.{_≡_, refl, ap, sym, _∙_}
-use mathlib.Core.List.{List, [], _∷_, _++_, append-assoc, append-nil}
-use lib.ListN.{length, take, drop}
+use mathlib.Core.List.{List, [], _∷_, _++_, append-assoc}
+use lib.ListN.{length, drop}
 use lib.Seq.{take-append-seam, drop-append-seam}
 use Rattle.program.specs.Tree.{Var, Expr, Stmt.when, Stmts}
 use Rattle.program.specs.Encoding.{var-code}
-use Rattle.commands.specs.Commands.{Com, Com.push-this, Com.wr, Coms, Coms.nil, Coms.act, Coms.if-then, then, reads, front, last, expr-coms, update-coms, stmt-coms, body-coms, Flat, Flat.plain, Flat.if-n, flatten}
+use Rattle.commands.specs.Commands.{Com.push-this, Com.wr, Coms, Coms.nil, Coms.act, Coms.if-then, then, reads, front, last, expr-coms, update-coms, stmt-coms, body-coms, Flat, Flat.plain, Flat.if-n, flatten}
 use Rattle.commands.specs.Ways.{Reached, Reached.start, Reached.on, Reached.over}
 
 -- `then` has nil as its unit on the right; on the left it computes
@@ -89,13 +88,15 @@ if-false b c = rw flatten-then (drop-append-seam (flatten b) (flatten c))
 abbrev pub Nested : List Flat → Type 0
 Nested f = (c : Coms) × (flatten c ≡ f)
 
-one-on : {m : Flat} {f : List Flat} → Nested (m ∷ f) → Nested f
+-- behind one command of a nested list stands a nested list
+pub one-on : {m : Flat} {f : List Flat} → Nested (m ∷ f) → Nested f
 unfolding flatten
 one-on (nil, e) = (nil, cc)
 one-on (act m c, e) = (c, cc)
 one-on (if-then b c, e) = (then b c, cc (flatten-then b c))
 
-body-over : {n : ℕ} {f : List Flat} → Nested (if-n n ∷ f) → Nested (drop n f)
+-- and so behind the n commands behind an `if n`
+pub body-over : {n : ℕ} {f : List Flat} → Nested (if-n n ∷ f) → Nested (drop n f)
 unfolding flatten
 body-over (nil, e) = (nil, cc)
 body-over (act m c, e) = (nil, cc)

@@ -2,15 +2,15 @@
 use Prim.Native.Nat.{ℕ, zero, suc, _+_, _-_, max, _≤_}
 use native.Mathlib.Omega.{arith}
 use native.Mathlib.Numerals.{add-one}
-use native.Mathlib.Nat.{add-zero, add-suc, suc-add, add-assoc, add-sub-cancel}
+use native.Mathlib.Nat.{add-zero, add-suc, suc-add, add-assoc}
 use mathlib.Core.Path.{_≡_, refl, _∙_, ap, sym}
-use mathlib.Core.List.{List, [], _∷_, _++_, map, append-nil}
+use mathlib.Core.List.{List, [], _∷_, _++_, append-nil}
 use lib.ListN.{length, drop, getD}
 use lib.Seq.{drop-append-seam}
 use Rattle.program.specs.Tree.{Var, Var.loc, Expr, Expr.inv, Expr.make, Expr.path, Expr.int-lit, Expr.nat-lit, Expr.bool-lit, Expr.null, Expr.self, Expr.op, Exprs, Exprs.none, Exprs.more, Stmt, Stmt.when, Stmt.declare, Stmt.update, Stmt.create, Stmts, Stmts.end, Stmts.next, Step, Program, args}
 use Rattle.program.specs.Encoding.{var-code}
 use Rattle.program.specs.Counts.{All, CountsExpr, CountsExprs, CountsStmt, CountsStmts, CountsStep, Counts}
-use Rattle.commands.specs.Commands.{Com, Com.push, Com.push-this, Com.rd, Com.wr, Com.cons, Com.not, Com.oper, then, one, reads, variables, front, last, expr-coms, args-coms, update-coms, stmt-coms, body-coms, Flat, Flat.plain, Flat.if-n, flatten, commands}
+use Rattle.commands.specs.Commands.{Com, Com.push, Com.push-this, Com.rd, Com.wr, Com.cons, Com.not, Com.oper, reads, front, last, expr-coms, args-coms, update-coms, stmt-coms, body-coms, Flat, Flat.plain, Flat.if-n, flatten, commands}
 use Rattle.commands.specs.CommandLaws.{flatten-app, stored, update-flat, when-flat}
 use Rattle.commands.specs.Depth.{after, depth, peak, peaks, stmt-growth, growth, stmt-height, height}
 use Rattle.commands.specs.Ways.{depth-taken}
@@ -198,7 +198,7 @@ module _ (ar : List ℕ) {D : List Flat → ℕ → ℕ} (w : Walks ar D) where
         (omega (arith, peak-pos e))
     stmt-depth (declare t x e) d c h = update-depth (loc x) [] e (d .2) c h
     stmt-depth (update v vs e) d c h = update-depth v vs e (d .1) c h
-    stmt-depth (create k es) d c h = rw add-one (expr-depth (make k es) (d .0, d .1, d .2) c h)
+    stmt-depth (create k es) d c h = rw (← add-one h) at (expr-depth (make k es) (d .0, d .1, d .2) c h)
 
     body-depth : (b : Stmts) → CountsStmts ar b → (c : List Flat) (h : ℕ)
         → D (flatten (body-coms b) ++ c) h ≡ max (h + height b) (D c (h + growth b))

@@ -11,3 +11,4 @@ pub mod NotedLaws
 pub mod Sizes
 pub mod SizeLaws
 pub mod DepthLaws
+pub mod Rows

@@ -1,12 +1,13 @@
 -- The counts on the tree are the lengths of the command lists (01, 'Names, types, commands').
 use Prim.Native.Nat.{ℕ, suc, _+_}
 use native.Mathlib.Omega.{arith}
-use mathlib.Core.Path.{_≡_, refl, ap}
-use mathlib.Core.List.{List, [], _∷_, _++_, append-nil}
+use mathlib.Core.Path.{_≡_, refl, ap, fun-ext}
+use mathlib.Core.List.{List, [], _∷_, append-nil}
 use lib.ListN.{length, length-append}
-use Rattle.program.specs.Tree.{Var, Var.loc, Expr, Expr.inv, Expr.make, Expr.path, Expr.int-lit, Expr.nat-lit, Expr.bool-lit, Expr.null, Expr.self, Expr.op, Exprs, Exprs.none, Exprs.more, Stmt, Stmt.when, Stmt.declare, Stmt.update, Stmt.create, Stmts, Stmts.end, Stmts.next, Program}
-use Rattle.commands.specs.Commands.{Coms, Coms.nil, Coms.act, Coms.if-then, then, reads, front, last, expr-coms, args-coms, update-coms, stmt-coms, body-coms, flatten, commands}
+use Rattle.program.specs.Tree.{Var, Var.loc, Expr, Expr.inv, Expr.make, Expr.path, Expr.int-lit, Expr.nat-lit, Expr.bool-lit, Expr.null, Expr.self, Expr.op, Exprs, Exprs.none, Exprs.more, Stmt, Stmt.when, Stmt.declare, Stmt.update, Stmt.create, Stmts, Stmts.end, Stmts.next, Step, Program}
+use Rattle.commands.specs.Commands.{Coms, then, reads, front, expr-coms, args-coms, update-coms, stmt-coms, body-coms, flatten, commands}
 use Rattle.commands.specs.CommandLaws.{flatten-then}
+use Rattle.commands.specs.Bounds.{total, program-size}
 use Rattle.commands.specs.Sizes.{expr-size, args-size, stmt-size, body-size}
 
 -- the length of the flat list
@@ -68,3 +69,8 @@ mutual
 pub body-length : (b : Stmts) → length (commands b) ≡ body-size b
 unfolding commands
 body-length b = body-len b
+
+-- the commands of a program, counted on its trees
+pub program-size-is : (p : Program) → program-size p ≡ total (total (λ t. body-size (t .body))) (p .steps)
+unfolding program-size
+program-size-is p = ap (λ f. total (total f) (p .steps)) (fun-ext (λ (t : Step). body-length (t .body)))
