@@ -52,9 +52,10 @@ when-flat e b f = rw (flatten-app, append-assoc (flatten (body-coms b)) [] f)
 
 -- two lists in a row, of which the first are equally long, are equal by parts
 parts : {a b c d : List Flat} → length a ≡ length b → a ++ c ≡ b ++ d → (a ≡ b) × (c ≡ d)
-parts {a} {b} {c} {d} n e =
-    ( sym (take-append-seam a c) ∙ rw (n, e) (take-append-seam b d)
-    , sym (drop-append-seam a c) ∙ rw (n, e) (drop-append-seam b d))
+parts {a} {b} {c} {d} n e = (
+  sym (take-append-seam a c) ∙ rw (n, e) (take-append-seam b d),
+  sym (drop-append-seam a c) ∙ rw (n, e) (drop-append-seam b d),
+)
 
 -- the flat list determines the nested one
 pub flatten-injective : (c d : Coms) → flatten c ≡ flatten d → c ≡ d

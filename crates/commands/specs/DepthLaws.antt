@@ -1,4 +1,5 @@
--- Depth on the tree (01, 'Names, types, commands'): over both ways it is what one walk gives, and what the way that takes every body gives.
+-- Depth on the tree (01, 'Names, types, commands'): over both ways it is what one walk gives, and the way that takes every body
+-- goes as deep.
 use Prim.Native.Nat.{ℕ, zero, suc, _+_, _-_, max, _≤_}
 use native.Mathlib.Omega.{arith}
 use native.Mathlib.Numerals.{add-one}
@@ -39,22 +40,24 @@ after-mono ar not p = omega arith
 after-mono ar (oper o) p = omega arith
 
 module _ (ar : List ℕ) where
-  -- the commands left out are as if they were not there
-  dropped : (c : List Flat) (j h : ℕ) → depth ar (drop j c) 0 h ≡ depth ar c j h
+  -- leaving out j commands is being without them
+  pub dropped : (c : List Flat) (j h : ℕ) → depth ar (drop j c) 0 h ≡ depth ar c j h
   unfolding depth
   dropped [] zero h = refl
   dropped [] (suc j) h = refl
   dropped (m ∷ c) zero h = refl
   dropped (m ∷ c) (suc j) h = dropped c j h
 
-  depth-high : (c : List Flat) (j h : ℕ) → h ≤ depth ar c j h
+  -- no depth is below the height that it starts from
+  pub depth-high : (c : List Flat) (j h : ℕ) → h ≤ depth ar c j h
   unfolding depth
   depth-high [] j h = omega arith
   depth-high (m ∷ c) (suc j) h = depth-high c j h
   depth-high (plain m ∷ c) zero h = omega arith
   depth-high (if-n n ∷ c) zero h = omega arith
 
-  depth-mono : (c : List Flat) (j : ℕ) {h h' : ℕ} → h ≤ h' → depth ar c j h ≤ depth ar c j h'
+  -- from a greater height no less deep
+  pub depth-mono : (c : List Flat) (j : ℕ) {h h' : ℕ} → h ≤ h' → depth ar c j h ≤ depth ar c j h'
   unfolding depth
   depth-mono [] j p = p
   depth-mono (m ∷ c) (suc j) p = depth-mono c j p
@@ -135,11 +138,12 @@ module _ (ar : List ℕ) {D : List Flat → ℕ → ℕ} (w : Walks ar D) where
   stored-depth : (x : ℕ) (xs : List ℕ) (c : List Flat) (h : ℕ)
       → D (plain push-this ∷ stored x xs c) (suc h) ≡ max (suc (suc h)) (D c h)
   stored-depth x xs c h =
-      omega
-      ( arith
-      , to push-this (stored x xs c) (suc h) (suc (suc h)) refl
-      , reads-depth (front x xs) (plain (wr (last x xs)) ∷ c) (suc h)
-      , to (wr (last x xs)) c (suc (suc h)) h (omega arith))
+      omega (
+        arith,
+        to push-this (stored x xs c) (suc h) (suc (suc h)) refl,
+        reads-depth (front x xs) (plain (wr (last x xs)) ∷ c) (suc h),
+        to (wr (last x xs)) c (suc (suc h)) h (omega arith),
+      )
 
   pushed : (m : Com) (c : List Flat) (h : ℕ) → after ar m h ≡ suc h → D (plain m ∷ c) h ≡ max (h + 1) (D c (suc h))
   pushed m c h e = omega (arith, to m c h (suc h) e, w .high c (suc h))
@@ -147,6 +151,7 @@ module _ (ar : List ℕ) {D : List Flat → ℕ → ℕ} (w : Walks ar D) where
   mutual
     unfolding expr-coms peak CountsExpr args flatten
 
+    -- an expression rises by its peak and leaves one value
     expr-depth : (e : Expr) → CountsExpr ar e → (c : List Flat) (h : ℕ)
         → D (flatten (expr-coms e) ++ c) h ≡ max (h + peak e) (D c (suc h))
     expr-depth (inv e) d c h =
@@ -163,8 +168,13 @@ module _ (ar : List ℕ) {D : List Flat → ℕ → ℕ} (w : Walks ar D) where
     expr-depth (null t) d c h = pushed _ c h refl
     expr-depth self d c h = pushed push-this c h refl
     expr-depth (op o a b) d c h =
-        rw
-        (flatten-app, flatten-app (expr-coms b), expr-depth a (d .0) (flatten (expr-coms b) ++ plain (oper o) ∷ c) h, expr-depth b (d .1) (plain (oper o) ∷ c) (suc h), to (oper o) c (suc (suc h)) (suc h) (omega arith))
+        rw (
+          flatten-app,
+          flatten-app (expr-coms b),
+          expr-depth a (d .0) (flatten (expr-coms b) ++ plain (oper o) ∷ c) h,
+          expr-depth b (d .1) (plain (oper o) ∷ c) (suc h),
+          to (oper o) c (suc (suc h)) (suc h) (omega arith),
+        )
         (omega (arith, peak-pos b, w .high c (suc h)))
 
     args-depth : (es : Exprs) → CountsExprs ar es → (c : List Flat) (h : ℕ)
@@ -188,6 +198,7 @@ module _ (ar : List ℕ) {D : List Flat → ℕ → ℕ} (w : Walks ar D) where
   mutual
     unfolding stmt-coms expr-coms peak CountsExpr growth height CountsStmts flatten
 
+    -- a statement rises by its height and leaves its growth, whatever stands behind it
     stmt-depth : (s : Stmt) → CountsStmt ar s → (c : List Flat) (h : ℕ)
         → D (flatten (stmt-coms s) ++ c) h ≡ max (h + stmt-height s) (D c (h + stmt-growth s))
     stmt-depth (when e b) d c h =
@@ -204,8 +215,12 @@ module _ (ar : List ℕ) {D : List Flat → ℕ → ℕ} (w : Walks ar D) where
         → D (flatten (body-coms b) ++ c) h ≡ max (h + height b) (D c (h + growth b))
     body-depth end d c h = rw add-zero (omega (arith, w .high c h))
     body-depth (next s b) d c h =
-        rw
-        (flatten-app, stmt-depth s (d .0) (flatten (body-coms b) ++ c) h, body-depth b (d .1) c (h + stmt-growth s), ← add-assoc h (stmt-growth s) (growth b))
+        rw (
+          flatten-app,
+          stmt-depth s (d .0) (flatten (body-coms b) ++ c) h,
+          body-depth b (d .1) c (h + stmt-growth s),
+          ← add-assoc h (stmt-growth s) (growth b),
+        )
         (omega arith)
 
   walk-is : (b : Stmts) → CountsStmts ar b → D (commands b) 0 ≡ height b
@@ -216,13 +231,13 @@ module _ (ar : List ℕ) {D : List Flat → ℕ → ℕ} (w : Walks ar D) where
 pub depth-is : (ar : List ℕ) (b : Stmts) → CountsStmts ar b → depth ar (commands b) 0 0 ≡ height b
 depth-is ar b d = walk-is ar (depth-walks ar) b d
 
--- and the depth of the way that takes every body
+-- the way that takes every body goes as deep as both ways
 pub taken-is : (ar : List ℕ) (b : Stmts) → CountsStmts ar b → depth-taken ar (commands b) 0 ≡ depth ar (commands b) 0 0
 taken-is ar b d = walk-is ar (taken-walks ar) b d ∙ sym (depth-is ar b d)
 
 -- Of programs --------------------------------------------------------------------
 
--- the greatest of equal numbers
+-- two functions equal on each element are greatest at one number
 greatest-same : {A : Type 0} {f g : A → ℕ} {C : A → Type 0} → ((a : A) → C a → f a ≡ g a) → (l : List A) → All C l → greatest f l ≡ greatest g l
 unfolding greatest
 greatest-same e [] c = refl
