@@ -5,3 +5,7 @@ pub mod Typing
 pub mod Depth
 pub mod Bounds
 pub mod Noted
+pub mod Decide
+pub mod DecideLaws
+pub mod NamesDecide
+pub mod NamesDecideLaws
