@@ -9,3 +9,8 @@ pub mod Decide
 pub mod DecideLaws
 pub mod NamesDecide
 pub mod NamesDecideLaws
+pub mod TypingDecide
+pub mod TypingDecideLaws
+pub mod BoundsDecide
+pub mod BoundsDecideLaws
+pub mod Numbers
