@@ -7,8 +7,8 @@ use Rattle.program.specs.Tree.{Step, Program}
 use Rattle.commands.specs.Bounds.{items-count, step-size, step-depth, program-size}
 use Rattle.commands.specs.Decide.{every}
 
-unfoldable pub in-bounds : Program → Bool
-in-bounds p =
+unfoldable pub within : Program → Bool
+within p =
     every (every (λ t. leb (step-size t) step-commands)) (p .steps)
     && (leb (program-size p) max-commands
     && (every (every (λ t. leb (step-depth p t) max-depth)) (p .steps)

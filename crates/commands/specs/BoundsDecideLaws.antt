@@ -7,11 +7,11 @@ use Rattle.program.specs.Tree.{Step, Program}
 use Rattle.commands.specs.Bounds.{items-count, step-size, step-depth, program-size, Within}
 use Rattle.commands.specs.Decide.{Reflects}
 use Rattle.commands.specs.DecideLaws.{reflects-iff, reflects-map, reflects-both, every-reflects, le-reflects}
-use Rattle.commands.specs.BoundsDecide.{in-bounds}
+use Rattle.commands.specs.BoundsDecide.{within}
 
 -- the test decides whether a program keeps to the limits
-pub within-reflects : (p : Program) → Reflects (Within p) (in-bounds p)
-unfolding Within in-bounds
+pub within-reflects : (p : Program) → Reflects (Within p) (within p)
+unfolding Within within
 within-reflects p =
     reflects-map (λ h. (h .0, h .1 .0, h .1 .1 .0, h .1 .1 .1)) (λ h. (h .0, (h .1, (h .2, h .3))))
     (reflects-both (every-reflects (every-reflects (λ t. le-reflects (step-size t) step-commands)) (p .steps))
@@ -20,5 +20,5 @@ within-reflects p =
     (le-reflects (items-count (p .schedule)) schedule-items))))
 
 -- the test is true exactly where a program keeps to the limits
-pub within-exact : (p : Program) → (in-bounds p ≡ true) ↔ Within p
+pub within-exact : (p : Program) → (within p ≡ true) ↔ Within p
 within-exact p = reflects-iff (within-reflects p)

@@ -14,3 +14,4 @@ pub mod TypingDecideLaws
 pub mod BoundsDecide
 pub mod BoundsDecideLaws
 pub mod Numbers
+pub mod NumbersLaws

@@ -9,7 +9,7 @@ use Rattle.program.specs.Counts.{All}
 use Rattle.commands.specs.Bounds.{Within}
 use Rattle.commands.specs.Names.{NamesRight}
 use Rattle.commands.specs.Typing.{TypesRight}
-use Rattle.commands.specs.BoundsDecide.{in-bounds}
+use Rattle.commands.specs.BoundsDecide.{within}
 use Rattle.commands.specs.NamesDecide.{names-right}
 use Rattle.commands.specs.TypingDecide.{types-right}
 
@@ -32,9 +32,9 @@ pub data Breach (n : ℕ) (p : Program) : Type 0 where
   types-broken : n ≡ wrong-types → (TypesRight p → ⊥) → Breach n p
 
 -- whether it holds
-unfoldable pub breached : Program → ℕ → Bool
-breached p n = elim (eqb n over-limits) [
-  | true ↦ not (in-bounds p)
+unfoldable pub breach : ℕ → Program → Bool
+breach n p = elim (eqb n over-limits) [
+  | true ↦ not (within p)
   | false ↦ elim (eqb n wrong-names) [
     | true ↦ not (names-right p)
     | false ↦ elim (eqb n wrong-types) [ true ↦ not (types-right p) | false ↦ false ]
@@ -59,4 +59,4 @@ unfoldable pub order : List ℕ
 order = over-limits ∷ wrong-names ∷ wrong-types ∷ []
 
 unfoldable pub program-number : Program → ℕ
-program-number p = first (breached p) order
+program-number p = first (λ n. breach n p) order
