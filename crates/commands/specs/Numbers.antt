@@ -48,9 +48,9 @@ unfoldable pub first : (ℕ → Bool) → List ℕ → ℕ
 first f [] = accepted
 first f (n ∷ l) = elim (f n) [ true ↦ n | false ↦ first f l ]
 
--- n stands at a place of the list, its test is true, and none before that place is
-abbrev pub Foremost : (ℕ → Bool) → List ℕ → ℕ → Type 0
-Foremost f l n = (before behind : List ℕ) × (l ≡ before ++ n ∷ behind) × (f n ≡ true) × (All (λ m. f m ≡ false) before)
+-- n stands at a place of the list, its condition holds, and none before that place does
+abbrev pub Foremost : (ℕ → Type 0) → List ℕ → ℕ → Type 0
+Foremost C l n = (before behind : List ℕ) × (l ≡ before ++ n ∷ behind) × C n × (All (λ m. C m → ⊥) before)
 
 -- Programs --------------------------------------------------------------------------
 

@@ -1,9 +1,9 @@
 -- The number that comes out is the first whose condition holds (01, 'Numbers from the input'), and so for programs.
 use Prim.Native.Nat.{ℕ}
-use mathlib.Core.Bool.{Bool, true, false, not, true≢false}
+use mathlib.Core.Bool.{Bool, true, false, not}
 use mathlib.Core.List.{List, [], _∷_, _++_, List·Memᴰ, List·Memᴰ·head, List·Memᴰ·tail, List·Memᴰ·cases-cons}
 use mathlib.Core.Logic.{_↔_, inl, inr}
-use mathlib.Core.Path.{_≡_, refl, sym, _∙_, ap, subst}
+use mathlib.Core.Path.{_≡_, refl, sym, ap, subst}
 use native.Mathlib.Omega.{arith}
 use lib.Dec.{eqb}
 use Rattle.program.specs.Tree.{Program}
@@ -12,7 +12,7 @@ use Rattle.commands.specs.Bounds.{Within}
 use Rattle.commands.specs.Names.{NamesRight}
 use Rattle.commands.specs.Typing.{TypesRight}
 use Rattle.commands.specs.Decide.{Reflects, Reflects.holds, Reflects.fails}
-use Rattle.commands.specs.DecideLaws.{reflects-map, reflects-negation, eq-reflects}
+use Rattle.commands.specs.DecideLaws.{reflects-iff, reflects-not, reflects-map, reflects-negation, eq-reflects}
 use Rattle.commands.specs.BoundsDecide.{within}
 use Rattle.commands.specs.NamesDecide.{names-right}
 use Rattle.commands.specs.TypingDecide.{types-right}
@@ -23,45 +23,46 @@ use Rattle.commands.specs.Numbers.{accepted, over-limits, wrong-names, w
 
 -- The first of several --------------------------------------------------------------
 
-module _ (f : ℕ → Bool) where
-  found : (l : List ℕ) (n : ℕ) → (n ≡ accepted → ⊥) → first f l ≡ n → Foremost f l n
+-- nothing comes out but 0 and the numbers of the list
+pub first-among : (f : ℕ → Bool) (l : List ℕ) → List·Memᴰ (first f l) (accepted ∷ l)
+unfolding first
+first-among f [] = List·Memᴰ·head refl
+first-among f (m ∷ l) = go (f m) (first-among f l)
+  where
+    go : (t : Bool) → List·Memᴰ (first f l) (accepted ∷ l) → List·Memᴰ (elim t [ true ↦ m | false ↦ first f l ]) (accepted ∷ m ∷ l)
+    go true r = List·Memᴰ·tail (List·Memᴰ·head refl)
+    go false r = elim (List·Memᴰ·cases-cons r) [ inl e ↦ List·Memᴰ·head e | inr k ↦ List·Memᴰ·tail (List·Memᴰ·tail k) ]
+
+-- each number's test decides its condition
+module _ (C : ℕ → Type 0) (f : ℕ → Bool) (decides : (n : ℕ) → Reflects (C n) (f n)) where
+  found : (l : List ℕ) (n : ℕ) → (n ≡ accepted → ⊥) → first f l ≡ n → Foremost C l n
   unfolding first
   found [] n h e = absurd (h (sym e))
-  found (m ∷ l) n h e = go (f m) refl e (λ r. found l n h r)
+  found (m ∷ l) n h e = go (decides m) e (λ r. found l n h r)
     where
-      go : (t : Bool) → f m ≡ t → (elim t [ true ↦ m | false ↦ first f l ]) ≡ n → (first f l ≡ n → Foremost f l n) → Foremost f (m ∷ l) n
-      go true e r below = ([], l, rw r, rw (← r) e, tt)
-      go false e r below = let q = below r in (m ∷ q .0, q .1, ap (λ (k : List ℕ). m ∷ k) (q .2), q .3, (e, q .4))
+      go : {t : Bool} → Reflects (C m) t → (elim t [ true ↦ m | false ↦ first f l ]) ≡ n → (first f l ≡ n → Foremost C l n) → Foremost C (m ∷ l) n
+      go (holds c) e below = ([], l, rw e, subst C e c, tt)
+      go (fails x) e below = let q = below e in (m ∷ q .0, q .1, ap (λ (k : List ℕ). m ∷ k) (q .2), q .3, (x, q .4))
 
-  comes : (before behind : List ℕ) (n : ℕ) → f n ≡ true → All (λ m. f m ≡ false) before → first f (before ++ n ∷ behind) ≡ n
+  comes : (before behind : List ℕ) (n : ℕ) → C n → All (λ m. C m → ⊥) before → first f (before ++ n ∷ behind) ≡ n
   unfolding first
-  comes [] behind n e h = rw e
-  comes (m ∷ before) behind n e h = rw (h .0) (comes before behind n e (h .1))
+  comes [] behind n c h = rw (reflects-iff (decides n) .1 c)
+  comes (m ∷ before) behind n c h = rw (reflects-not (decides m) .1 (h .0)) (comes before behind n c (h .1))
 
-  -- a number comes out exactly where it stands foremost of those whose test is true
-  pub first-exact : (l : List ℕ) (n : ℕ) → (n ≡ accepted → ⊥) → (first f l ≡ n) ↔ Foremost f l n
+  -- a number comes out exactly where it stands foremost of those whose condition holds
+  pub first-exact : (l : List ℕ) (n : ℕ) → (n ≡ accepted → ⊥) → (first f l ≡ n) ↔ Foremost C l n
   first-exact l n h = (found l n h, λ q. rw (q .2) (comes (q .0) (q .1) n (q .3) (q .4)))
 
-  -- 0 comes out exactly where no test is true
-  pub first-none : (l : List ℕ) → All (λ m. m ≡ accepted → ⊥) l → (first f l ≡ accepted) ↔ All (λ m. f m ≡ false) l
+  -- 0 comes out exactly where no condition holds
+  pub first-none : (l : List ℕ) → All (λ m. m ≡ accepted → ⊥) l → (first f l ≡ accepted) ↔ All (λ m. C m → ⊥) l
   unfolding first
   first-none [] h = (λ e. tt, λ q. refl)
-  first-none (m ∷ l) h = go (f m) refl (first-none l (h .1))
+  first-none (m ∷ l) h = go (decides m) (first-none l (h .1))
     where
-      go : (t : Bool) → f m ≡ t → (first f l ≡ accepted) ↔ All (λ k. f k ≡ false) l
-          → ((elim t [ true ↦ m | false ↦ first f l ]) ≡ accepted) ↔ ((f m ≡ false) × All (λ k. f k ≡ false) l)
-      go true e r = (λ q. absurd (h .0 q), λ q. absurd (true≢false (sym e ∙ q .0)))
-      go false e r = (λ q. (e, r .0 q), λ q. r .1 (q .1))
-
-  -- nothing comes out but 0 and the numbers of the list
-  pub first-among : (l : List ℕ) → List·Memᴰ (first f l) (accepted ∷ l)
-  unfolding first
-  first-among [] = List·Memᴰ·head refl
-  first-among (m ∷ l) = go (f m) (first-among l)
-    where
-      go : (t : Bool) → List·Memᴰ (first f l) (accepted ∷ l) → List·Memᴰ (elim t [ true ↦ m | false ↦ first f l ]) (accepted ∷ m ∷ l)
-      go true r = List·Memᴰ·tail (List·Memᴰ·head refl)
-      go false r = elim (List·Memᴰ·cases-cons r) [ inl e ↦ List·Memᴰ·head e | inr k ↦ List·Memᴰ·tail (List·Memᴰ·tail k) ]
+      go : {t : Bool} → Reflects (C m) t → (first f l ≡ accepted) ↔ All (λ k. C k → ⊥) l
+          → ((elim t [ true ↦ m | false ↦ first f l ]) ≡ accepted) ↔ ((C m → ⊥) × All (λ k. C k → ⊥) l)
+      go (holds c) r = (λ q. absurd (h .0 q), λ q. absurd (q .0 c))
+      go (fails x) r = (λ q. (x, r .0 q), λ q. r .1 (q .1))
 
 -- Programs --------------------------------------------------------------------------
 
@@ -169,6 +170,6 @@ module _ (p : Program) where
   number-among = first-among (λ n. breach n p) order
 
   -- a number comes out exactly where its condition holds and that of none before it in the order
-  pub number-first : (n : ℕ) → (n ≡ accepted → ⊥) → (program-number p ≡ n) ↔ Foremost (λ m. breach m p) order n
+  pub number-first : (n : ℕ) → (n ≡ accepted → ⊥) → (program-number p ≡ n) ↔ Foremost (λ m. Breach m p) order n
   unfolding program-number
-  number-first n h = first-exact (λ m. breach m p) order n h
+  number-first n h = first-exact (λ m. Breach m p) (λ m. breach m p) (λ m. breach-reflects m p) order n h
