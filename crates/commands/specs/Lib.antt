@@ -15,3 +15,4 @@ pub mod BoundsDecide
 pub mod BoundsDecideLaws
 pub mod Numbers
 pub mod NumbersLaws
+pub mod NumberRows
