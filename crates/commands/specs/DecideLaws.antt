@@ -26,17 +26,18 @@ pub reflects-map : {A B : Type 0} {b : Bool} → (A → B) → (B → A) → Ref
 reflects-map f g (holds a) = holds (f a)
 reflects-map f g (fails n) = fails (λ b. n (g b))
 
--- the negation, the conjunction
+-- the negated test decides the negation
 pub reflects-negation : {A : Type 0} {b : Bool} → Reflects A b → Reflects (A → ⊥) (not b)
 reflects-negation (holds a) = fails (λ f. f a)
 reflects-negation (fails f) = holds f
 
+-- the conjunction of tests decides that of conditions
 pub reflects-both : {A B : Type 0} {a b : Bool} → Reflects A a → Reflects B b → Reflects (A × B) (a && b)
 reflects-both (holds a) (holds b) = holds (a, b)
 reflects-both (holds a) (fails g) = fails (λ p. g (p .1))
 reflects-both (fails f) s = fails (λ p. f (p .0))
 
--- every element's test decides the condition of every element
+-- where a test decides a condition, the test of every element decides the condition of every element
 pub every-reflects : {A : Type 0} {C : A → Type 0} {f : A → Bool} → ((a : A) → Reflects (C a) (f a)) → (l : List A) → Reflects (All C l) (every f l)
 unfolding every
 every-reflects r [] = holds tt
@@ -47,11 +48,13 @@ pub reflects-self : (b : Bool) → Reflects (b ≡ true) b
 reflects-self true = holds refl
 reflects-self false = fails false≢true
 
+-- a test is true of every element exactly where it is true of each
 pub every-iff : {A : Type 0} (f : A → Bool) (l : List A) → (every f l ≡ true) ↔ All (λ a. f a ≡ true) l
 every-iff f l = reflects-iff (every-reflects (λ a. reflects-self (f a)) l)
 
 -- Numbers ------------------------------------------------------------------------
 
+-- the comparisons decide ≤, < and equality
 pub le-reflects : (a b : ℕ) → Reflects (a ≤ b) (leb a b)
 le-reflects a b = go (leb a b) refl
   where
@@ -71,6 +74,7 @@ eq-reflects a b = go (eqb a b) refl
 
 -- Membership -----------------------------------------------------------------------
 
+-- the membership test decides membership
 pub member-reflects : (x : ℕ) (l : List ℕ) → Reflects (List·Memᴰ x l) (member x l)
 unfolding member
 member-reflects x [] = fails List·Memᴰ·not-nil
@@ -81,9 +85,11 @@ member-reflects x (y ∷ l) = go (eq-reflects x y) (member-reflects x l)
     go (fails f) (holds m) = holds (List·Memᴰ·tail m)
     go (fails f) (fails g) = fails (λ m. elim (List·Memᴰ·cases-cons m) [ inl e ↦ f e | inr n ↦ g n ])
 
+-- it is true exactly of the elements
 pub member-iff : (x : ℕ) (l : List ℕ) → (member x l ≡ true) ↔ List·Memᴰ x l
 member-iff x l = reflects-iff (member-reflects x l)
 
+-- the test for repetition decides whether each stands once
 pub once-reflects : (l : List ℕ) → Reflects (Once l) (distinct l)
 unfolding distinct
 once-reflects [] = holds tt
