@@ -1,9 +1,8 @@
 -- Whether a program keeps to the limits (01, number 6), as a test: the definitions of Bounds with a comparison in each place.
-use Prim.Native.Nat.{ℕ}
 use mathlib.Core.Bool.{Bool, _&&_}
 use lib.Dec.{leb}
 use Rattle.types.specs.Limits.{step-commands, max-commands, max-depth, schedule-items}
-use Rattle.program.specs.Tree.{Step, Program}
+use Rattle.program.specs.Tree.{Program}
 use Rattle.commands.specs.Bounds.{items-count, step-size, step-depth, program-size}
 use Rattle.commands.specs.Decide.{every}
 

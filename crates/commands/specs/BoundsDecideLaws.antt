@@ -3,7 +3,7 @@ use mathlib.Core.Bool.{true}
 use mathlib.Core.Logic.{_↔_}
 use mathlib.Core.Path.{_≡_}
 use Rattle.types.specs.Limits.{step-commands, max-commands, max-depth, schedule-items}
-use Rattle.program.specs.Tree.{Step, Program}
+use Rattle.program.specs.Tree.{Program}
 use Rattle.commands.specs.Bounds.{items-count, step-size, step-depth, program-size, Within}
 use Rattle.commands.specs.Decide.{Reflects}
 use Rattle.commands.specs.DecideLaws.{reflects-iff, reflects-map, reflects-both, every-reflects, le-reflects}

@@ -1,13 +1,13 @@
 -- The test of names is exact (01, number 7).
 use Prim.Native.Nat.{ℕ, zero, suc}
-use mathlib.Core.Bool.{Bool, true, false, _||_}
+use mathlib.Core.Bool.{Bool, true, _||_}
 use mathlib.Core.List.{List, [], _∷_, _++_, List·Memᴰ, List·Memᴰ·not-nil}
 use mathlib.Core.Logic.{_↔_}
 use mathlib.Core.Path.{_≡_}
 use lib.ListN.{length, getD}
 use Rattle.program.specs.Tree.{Var, Var.par, Var.loc, Expr, Expr.inv, Expr.make, Expr.path, Expr.int-lit, Expr.nat-lit, Expr.bool-lit, Expr.null, Expr.self, Expr.op, Exprs, Exprs.none, Exprs.more, Stmt, Stmt.when, Stmt.declare, Stmt.update, Stmt.create, Stmts, Stmts.end, Stmts.next, Item, Item.call, Item.call-in, Item.fix, Items, Items.stop, Items.item, Step, Program}
 use Rattle.commands.specs.Names.{Starts, Names, Names-all, declares, live-after, Named-stmt, Named, step-names, NamedSteps, Had, Scheduled-item, Scheduled, NamesRight}
-use Rattle.commands.specs.Decide.{Reflects, Reflects.holds, Reflects.fails, every}
+use Rattle.commands.specs.Decide.{Reflects, Reflects.holds, Reflects.fails}
 use Rattle.commands.specs.DecideLaws.{reflects-iff, reflects-map, reflects-negation, reflects-both, every-reflects, lt-reflects, member-reflects, once-reflects}
 use Rattle.commands.specs.NamesDecide.{start-named, expr-named, args-named, stmt-named, body-named, steps-named, stepped, item-stepped, items-stepped, names-right}
 
@@ -18,6 +18,7 @@ start-reflects n live (loc x) = member-reflects x live
 
 mutual
   unfolding Names expr-named Names-all args-named
+
   expr-reflects : (e : Expr) (n : ℕ) (live : List ℕ) → Reflects (Names e n live) (expr-named e n live)
   expr-reflects (inv e) n live = expr-reflects e n live
   expr-reflects (make k es) n live = args-reflects es n live
@@ -35,6 +36,7 @@ mutual
 
 mutual
   unfolding Named-stmt stmt-named Named body-named
+
   stmt-reflects : (s : Stmt) (n : ℕ) (live seen : List ℕ) → Reflects (Named-stmt s n live seen) (stmt-named s n live seen)
   stmt-reflects (when e b) n live seen = reflects-both (expr-reflects e n live) (body-reflects b n live seen)
   stmt-reflects (declare t x e) n live seen = reflects-both (expr-reflects e n live) (reflects-negation (member-reflects x seen))
@@ -71,6 +73,7 @@ had-reflects n (ts ∷ tss) = go (member-reflects n (step-names ts)) (had-reflec
 
 mutual
   unfolding Scheduled-item item-stepped Scheduled items-stepped
+
   item-reflects : (i : Item) (tss : List (List Step)) → Reflects (Scheduled-item i tss) (item-stepped i tss)
   item-reflects (call n) tss = had-reflects n tss
   item-reflects (call-in k n) tss = member-reflects n (step-names (getD tss k []))

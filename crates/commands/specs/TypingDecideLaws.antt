@@ -39,14 +39,17 @@ pub data Judges (T : Ty → Type 0) : Judgement → Type 0 where
   only : {t : Ty} → T t → ((u : Ty) → T u → t ≡ u) → Judges T (of-type t)
   no-type : ((u : Ty) → T u → ⊥) → Judges T untypable
 
+-- conditions that follow from each other have the same judgement
 judges-map : {T U : Ty → Type 0} {j : Judgement} → ((t : Ty) → T t → U t) → ((t : Ty) → U t → T t) → Judges T j → Judges U j
 judges-map f g (only {t = t} h one) = only (f t h) (λ u r. one u (g u r))
 judges-map f g (no-type n) = no-type (λ u r. n u (g u r))
 
+-- what is judged holds of at most one type
 judges-unique : {T : Ty → Type 0} {j : Judgement} {t u : Ty} → Judges T j → T t → T u → t ≡ u
 judges-unique {t = t} {u = u} (only h one) a b = sym (one t a) ∙ one u b
 judges-unique {t = t} (no-type n) a b = absurd (n t a)
 
+-- comparing the judgement with a type decides the condition at that type; comparing two, at some common type
 is-of-reflects : {T : Ty → Type 0} {j : Judgement} → Judges T j → (t : Ty) → Reflects (T t) (is-of t j)
 unfolding is-of
 is-of-reflects {T} (only {t = u} h one) t = reflects-map (λ e. subst T (sym e) h) (λ r. sym (one t r)) (same-reflects t u)
@@ -58,6 +61,7 @@ agree-reflects {U = U} (only {t = t} h one) s =
     reflects-map (λ r. (t, h, r)) (λ r. subst U (sym (one (r .0) (r .1))) (r .2)) (is-of-reflects s t)
 agree-reflects (no-type n) s = fails (λ r. n (r .0) (r .1))
 
+-- a type under a test, where the condition holds of that type alone and only where the tested one does
 given-judges : {A : Type 0} {T : Ty → Type 0} {b : Bool} {t : Ty} → (A → T t) → ((u : Ty) → T u → A × (t ≡ u)) → Reflects A b → Judges T (given b t)
 unfolding given
 given-judges f g (holds a) = only (f a) (λ u r. g u r .1)
@@ -65,6 +69,7 @@ given-judges f g (fails n) = no-type (λ u r. n (g u r .0))
 
 -- Operators --------------------------------------------------------------------
 
+-- the result type is computed
 takes-result : {s : Sort} {t u : Ty} → Takes s t u → result s t ≡ of-type u
 unfolding result
 takes-result any-equal = refl
@@ -100,6 +105,7 @@ result-judges logic (ref k) = no-type (λ u h. apart (takes-result h))
 abbrev Operated : Sort → (Ty → Type 0) → (Ty → Type 0) → Ty → Type 0
 Operated s T U u = (t : Ty) × Takes s t u × T t × U t
 
+-- two operands' judgements give that of the operation
 operate-judges : {T U : Ty → Type 0} {i j : Judgement} (s : Sort) → Judges T i → Judges U j → Judges (Operated s T U) (operate s i j)
 unfolding operate
 operate-judges {T} {U} s (only {t = t} h one) r = go (is-of-reflects r t) (result-judges s t)
@@ -117,12 +123,14 @@ operate-judges s (no-type n) r = no-type (λ u z. n (z .0) (z .2))
 -- Paths --------------------------------------------------------------------------
 
 module _ (G : Ctx) where
+  -- each rule read backwards, here and below
   leads-nowhere : {t u : Ty} → Leads G t [] u → t ≡ u
   leads-nowhere arrived = refl
 
   leads-on : {k x : ℕ} {xs : List ℕ} {u : Ty} → Leads G (ref k) (x ∷ xs) u → (x < length (G .params k)) × (Leads G (typ G k x) xs u)
   leads-on (onward h l) = (h, l)
 
+  -- parameters lead to the computed type and no other, or nowhere; so does a path
   lead-judges : (t : Ty) (xs : List ℕ) → Judges (Leads G t xs) (lead G t xs)
   unfolding lead
   lead-judges t [] = only arrived (λ u h. leads-nowhere h)
@@ -181,6 +189,7 @@ module _ (G : Ctx) where
 
   mutual
     unfolding expr-type args-typed
+
     -- an expression has the computed type and no other, or none
     pub expr-judges : (e : Expr) → Judges (Types G e) (expr-type G e)
     expr-judges (inv e) = given-judges (λ h. t-not h) t-not-back (is-of-reflects (expr-judges e) bool)
@@ -194,6 +203,7 @@ module _ (G : Ctx) where
     expr-judges (op o a b) =
         judges-map (λ u h. t-op (h .1) (h .2) (h .3)) t-op-back (operate-judges (sort o) (expr-judges a) (expr-judges b))
 
+    -- and the test of arguments decides whether each is of its parameter's type
     pub args-reflects : (es : Exprs) (ts : List Ty) → Reflects (Types-all G es ts) (args-typed G es ts)
     args-reflects none [] = holds t-none
     args-reflects none (t ∷ ts) = fails (λ h. elim h [ ])
@@ -220,6 +230,7 @@ module _ (G : Ctx) where
 
   mutual
     unfolding stmt-typed body-typed
+
     stmt-reflects : (s : Stmt) → Reflects (Typed-stmt G s) (stmt-typed G s)
     stmt-reflects (when e b) =
         reflects-map (λ h. t-when (h .0) (h .1)) t-when-back (reflects-both (is-of-reflects (expr-judges e) bool) (body-reflects b))
