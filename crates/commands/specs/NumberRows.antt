@@ -59,11 +59,11 @@ load-prev = int ∷ ref 0 ∷ []
 abbrev benched : Stmts → Program
 benched b = program (load-prev ∷ [] ∷ []) ((step 0 b ∷ []) ∷ [] ∷ []) once
 
--- struct 0 has an Int, a reference to itself, a Nat, a Bool and a reference to struct 1, which has a Nat, and the step 0
+-- struct 0 has an Int, a reference to itself, a Nat, a Bool and a reference to struct 1, which has a Nat; struct 0 has the step 0
 abbrev wide : Stmts → Program
 wide b = program ((int ∷ ref 0 ∷ nat ∷ bool ∷ ref 1 ∷ []) ∷ (nat ∷ []) ∷ []) ((step 0 b ∷ []) ∷ [] ∷ []) once
 
--- a step on P's struct that is right, under another schedule; with further steps
+-- two structs like P's: one right step each, 0 and 1, under this schedule; these steps each, the step 0 scheduled
 abbrev scheduled : Items → Program
 scheduled is = program (load-prev ∷ load-prev ∷ []) ((step 0 (only literal) ∷ []) ∷ (step 1 (only literal) ∷ []) ∷ []) is
 
@@ -116,8 +116,8 @@ rows =
     ∷ row (scheduled (item (fix (in-a-row 31 (call 0) stop)) (item (fix (in-a-row 31 (call 0) stop)) stop))) 0
     ∷ row (scheduled (item (fix (in-a-row 31 (call 0) stop)) (item (fix (in-a-row 31 (call 0) stop)) once))) 6
     -- a path whose first variable is the last parameter, and none, read and written
-    ∷ row (to 0 (path (par 0) [])) 0
-    ∷ row (to 0 (path (par 5) [])) 7
+    ∷ row (to 4 (path (par 4) [])) 0
+    ∷ row (to 4 (path (par 5) [])) 7
     ∷ row (to 5 (int-lit 1)) 7
     -- a local in its if; behind it; in its own declaration; declared in disjoint ifs; updated
     ∷ row (wide (only (when yes-bool (next declare-0 (only (update (par 0) [] local-0)))))) 0
