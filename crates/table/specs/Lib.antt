@@ -1,2 +1,4 @@
 pub mod Table
+pub mod TableExact
 pub mod TableReader
+pub mod ValueLaws
