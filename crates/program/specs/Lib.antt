@@ -8,3 +8,5 @@ pub mod PartLaws
 pub mod JoinLaws
 pub mod CodeLaws
 pub mod WordLaws
+pub mod ExprLaws
+pub mod StmtLaws
