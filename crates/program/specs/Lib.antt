@@ -10,3 +10,6 @@ pub mod CodeLaws
 pub mod WordLaws
 pub mod ExprLaws
 pub mod StmtLaws
+pub mod ItemLaws
+pub mod StreamLaws
+pub mod ProgramLaws
