@@ -13,3 +13,4 @@ pub mod StmtLaws
 pub mod ItemLaws
 pub mod StreamLaws
 pub mod ProgramLaws
+pub mod Rows
