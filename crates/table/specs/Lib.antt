@@ -1,4 +1,8 @@
 pub mod Table
-pub mod TableExact
 pub mod TableReader
+pub mod Sizes
 pub mod ValueLaws
+pub mod TableExact
+pub mod ReferenceLaws
+pub mod TableLaws
+pub mod SizeLaws
