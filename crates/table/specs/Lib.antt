@@ -6,3 +6,4 @@ pub mod TableExact
 pub mod ReferenceLaws
 pub mod TableLaws
 pub mod SizeLaws
+pub mod Rows
