@@ -1,11 +1,10 @@
 -- A table stream is as long as its records say, fits its blocks, and is made of bytes (01, 'Table and turns').
-use Prim.Native.Nat.{ℕ, zero, suc, _+_, _*_, _/_, _%_, _<_, _≤_}
+use Prim.Native.Nat.{ℕ, zero, suc, _*_, _/_, _<_, _≤_}
 use native.Mathlib.Omega.{arith}
-use native.Mathlib.Nat.{mul-le-mul}
 use mathlib.Core.Path.{_≡_, refl, ap}
 use mathlib.Core.List.{List, [], _∷_, _++_}
 use lib.ListN.{length, getD, length-append}
-use Rattle.types.specs.Limits.{max-params, max-instances}
+use Rattle.types.specs.Limits.{max-params}
 use Rattle.types.specs.Types.{Ty}
 use Rattle.types.specs.Values.{Val, word}
 use Rattle.program.specs.Encoding.{enc-word, flat}

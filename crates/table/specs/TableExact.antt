@@ -1,24 +1,22 @@
 -- Tables are read exactly (01, 'Table and turns').
-use Prim.Native.Nat.{ℕ, suc, _+_, _^_, _<_, _≤_}
+use Prim.Native.Nat.{ℕ, _+_, _≤_}
 use native.Mathlib.Omega.{arith}
-use mathlib.Core.Path.{_≡_, refl, sym}
-use mathlib.Core.Logic.{_↔_}
+use mathlib.Core.Path.{_≡_, refl}
 use mathlib.Core.Bool.{Bool, true, false}
 use mathlib.Core.List.{List, [], _∷_, _++_}
 use lib.ListN.{length, getD}
 use lib.Dec.{leb, T, leb→le, le→leb}
-use Rattle.types.specs.Limits.{nat-end, max-instances}
-use Rattle.types.specs.Types.{Ty, Ty.int}
+use Rattle.types.specs.Limits.{max-instances}
+use Rattle.types.specs.Types.{Ty}
 use Rattle.types.specs.Values.{Val, Val.nat-val, word, value-of}
 use Rattle.program.specs.Encoding.{enc-word, flat}
-use Rattle.program.specs.Counts.{All}
-use Rattle.program.specs.Reader.{Result, Result.ok, then, guard, ranged}
+use Rattle.program.specs.Reader.{Result, Result.ok, then, guard}
 use Rattle.program.specs.Exact.{Stands, Stands.done, Told, Told.told, Told.silent, Cut, Cut.same, Cut.stop, At, Exact}
 use Rattle.program.specs.StandsLaws.{both, split, stands-none}
 use Rattle.program.specs.PartLaws.{told-then, told-weak, then-ok, cut-then}
 use Rattle.program.specs.JoinLaws.{exact-iff, made-exact, pair-exact, row-exact, flat-row}
 use Rattle.program.specs.WordLaws.{below-exact, word-exact}
-use Rattle.table.specs.Table.{Record, value-bytes, count-bytes, enc-value, enc-record, enc-table, Each, Held, HeldRecord, HeldTable}
+use Rattle.table.specs.Table.{value-bytes, count-bytes, enc-value, enc-record, enc-table, Each, Held, HeldRecord, HeldTable}
 use Rattle.table.specs.TableReader.{allowed, read-value, read-values, read-record, read-count, read-table}
 use Rattle.table.specs.ValueLaws.{value-of-word, word-of-value}
 

@@ -1,23 +1,22 @@
 -- What a table stream comes to (01, 'Table and turns'; 11 and 12 of 'Numbers from the input').
-use Prim.Native.Nat.{ℕ, _+_, _<_, _≤_}
+use Prim.Native.Nat.{ℕ, _+_, _<_}
 use native.Mathlib.Omega.{arith}
-use mathlib.Core.Path.{_≡_, refl, sym, _∙_}
+use mathlib.Core.Path.{_≡_, refl}
 use mathlib.Core.Logic.{_↔_, _⊎_, inl, inr}
 use mathlib.Core.Bool.{Bool, true, false}
-use mathlib.Core.List.{List, [], _∷_, _++_}
+use mathlib.Core.List.{List, _∷_, _++_}
 use lib.ListN.{length}
-use lib.Dec.{eqb, leb}
+use lib.Dec.{eqb}
 use borrow.Author.Tests.{lt-leb}
 use Rattle.types.specs.Limits.{max-instances}
 use Rattle.types.specs.Types.{Ty}
 use Rattle.program.specs.Encoding.{enc-word}
 use Rattle.program.specs.Reader.{Result, Result.ok, Result.bad, wrong-end, wrong-byte, then, guard, whole}
 use Rattle.program.specs.StandsLaws.{stands-front}
-use Rattle.program.specs.PartLaws.{then-ok}
 use Rattle.program.specs.WordLaws.{word-exact}
 use Rattle.program.specs.StreamLaws.{exact, injective, trailing, early, final}
 use Rattle.table.specs.Table.{Record, count-bytes, enc-table, HeldTable, References, TableRight}
-use Rattle.table.specs.TableReader.{read-count, read-table, references, TableAnswer, TableAnswer.table, TableAnswer.no-table, table-end, table-value, table-number, table-answer, table-of-stream}
+use Rattle.table.specs.TableReader.{read-count, read-table, references, TableAnswer.table, TableAnswer.no-table, table-end, table-value, table-number, table-answer, table-of-stream}
 use Rattle.table.specs.TableExact.{table-exact}
 use Rattle.table.specs.ReferenceLaws.{references-exact}
 
@@ -42,7 +41,7 @@ module _ (pss : List (List Ty)) where
   unfolding table-of-stream table-answer
   of-wrong s e h = rw e (rw (h, table-answer))
 
-  -- THE LAW: a stream comes to a table exactly where the table is right and the stream is its bytes
+  -- a stream comes to a table exactly where the table is right and the stream is its bytes
   pub table-answer-exact : (s : List ℕ) (rs : List Record) → (table-of-stream pss s ≡ table rs) ↔ ((TableRight pss rs) × (s ≡ enc-table rs))
   unfolding TableRight
   table-answer-exact s rs = (λ e. go (whole (read-table pss) s) refl e, back)
