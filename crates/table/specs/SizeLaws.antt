@@ -5,10 +5,11 @@ use mathlib.Core.Path.{_≡_, refl, ap}
 use mathlib.Core.List.{List, [], _∷_, _++_}
 use lib.ListN.{length, getD, length-append}
 use Rattle.types.specs.Limits.{max-params}
-use Rattle.types.specs.Types.{Ty}
+use Rattle.types.specs.Types.{Ty, IsType}
 use Rattle.types.specs.Values.{Val, word}
+use Rattle.program.specs.Tree.{Program}
 use Rattle.program.specs.Encoding.{enc-word, flat}
-use Rattle.program.specs.Counts.{All}
+use Rattle.program.specs.Counts.{All, Few, Counts}
 use Rattle.program.specs.Reader.{byte-end}
 use Rattle.table.specs.Table.{Record, value-bytes, count-bytes, enc-value, enc-record, enc-table, Each, Held, HeldRecord, HeldTable}
 use Rattle.table.specs.Sizes.{record-size, records-size, table-size}
@@ -65,6 +66,15 @@ module _ (pss : List (List Ty)) where
     -- a held table fits the payload of 17 blocks, 504 bytes each
     pub table-fits : (rs : List Record) → HeldTable pss rs → length (enc-table rs) ≤ 8568
     table-fits rs h = omega (arith, table-bound rs h)
+
+params-few : (S : ℕ) (pss : List (List Ty)) → All (Few 0 max-params (IsType S)) pss → All (λ ps. length ps ≤ max-params) pss
+params-few S [] h = tt
+params-few S (ps ∷ pss) h = (h .0 .1, params-few S pss (h .1))
+
+-- so does every held table of a program that keeps to its counts
+pub program-table-fits : (p : Program) → Counts p → (rs : List Record) → HeldTable (p .params) rs → length (enc-table rs) ≤ 8568
+unfolding Counts
+program-table-fits p c rs h = table-fits (p .params) (params-few (length (p .params)) (p .params) (c .0 .2)) rs h
 
 -- Bytes --------------------------------------------------------------------------
 
