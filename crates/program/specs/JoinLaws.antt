@@ -1,7 +1,7 @@
 -- What is exact stays exact when it is tested, made into something, joined, counted, repeated or opened by a byte (01, 'Program stream').
 use Prim.Native.Nat.{ℕ, zero, suc, _+_, _<_, _≤_}
 use native.Mathlib.Omega.{arith}
-use mathlib.Core.Path.{_≡_, refl, sym, ap, _∙_}
+use mathlib.Core.Path.{_≡_, refl, ap, _∙_}
 use mathlib.Core.Logic.{_↔_}
 use mathlib.Core.List.{List, [], _∷_, _++_}
 use mathlib.Core.Bool.{Bool, true, false, _&&_}
@@ -10,8 +10,8 @@ use lib.Dec.{ltb, leb, eqb, T, leb→le, ltb→lt, le→leb, lt→ltb}
 use borrow.Author.Tests.{eqb-true}
 use Rattle.program.specs.Encoding.{flat}
 use Rattle.program.specs.Counts.{All}
-use Rattle.program.specs.Reader.{Result, Result.ok, Result.bad, wrong-byte, then, pair, made, many, guard, Row, Row.row, lookup, between, byte, tested, ranged, counted, opened}
-use Rattle.program.specs.Exact.{Stands, Stands.done, Stands.letter, Told, Told.told, Told.silent, Cut, Cut.same, Cut.stop, At, Exact, Rowed}
+use Rattle.program.specs.Reader.{Result, Result.ok, Result.bad, wrong-byte, pair, made, many, guard, Row, Row.row, lookup, between, byte, tested, ranged, counted, opened}
+use Rattle.program.specs.Exact.{Stands, Stands.done, Told, Told.told, Told.silent, Cut, Cut.same, Cut.stop, At, Exact, Rowed}
 use Rattle.program.specs.StandsLaws.{both, split, stands-none}
 use Rattle.program.specs.PartLaws.{told-then, told-weak, told-made, then-ok, made-ok, cut-then, cut-made, byte-ok, byte-exact}
 
@@ -96,10 +96,11 @@ tested-exact t = record {
     cut n b k true l = same l
     cut n b k false l = stop
 
--- a byte from lo up to below hi
+-- from lo up to below hi
 abbrev pub Within : ℕ → ℕ → ℕ → Type 0
 Within lo hi b = (lo ≤ b) × (b < hi)
 
+-- the test of a range says what it should
 pub between-iff : (lo hi b : ℕ) → T (between lo hi b) ↔ Within lo hi b
 unfolding between
 between-iff lo hi b = (λ h. let p = apart (leb lo b) (ltb b hi) h in (leb→le lo b (p .0), ltb→lt b hi (p .1)), λ h. joined (leb lo b) (ltb b hi) (le→leb lo b (h .0)) (lt→ltb b hi (h .1)))
@@ -110,6 +111,7 @@ between-iff lo hi b = (λ h. let p = apart (leb lo b) (ltb b hi) h in (leb→le 
     joined : (x y : Bool) → T x → T y → T (x && y)
     joined true y h k = k
 
+-- a byte of a range
 pub ranged-exact : (lo hi : ℕ) → Exact (Within lo hi) (λ b. b ∷ []) (λ s. ranged s lo hi)
 unfolding ranged
 ranged-exact lo hi = exact-iff (tested-exact (between lo hi)) (between-iff lo hi)
@@ -154,7 +156,7 @@ pub opened-exact : {I A : Type 0} {C : A → Type 0} {E : A → List ℕ} {key :
     (Opens : ℕ → I → Type 0) → ((b : ℕ) → Opens b (key b))
     → ((s : List ℕ) (n b k : ℕ) → Stands s n (b ∷ []) k → (f : I) → Opens b f → Told (At C E s n) (rule s n k f))
     → ((s : List ℕ) (a : A) (n m : ℕ) → C a → Stands s n (E a) m
-        → (b : ℕ) × (n < length s) × (getD s n 0 ≡ b) × (rule s n (n + 1) (key b) ≡ ok a m))
+    → (b : ℕ) × (n < length s) × (getD s n 0 ≡ b) × (rule s n (n + 1) (key b) ≡ ok a m))
     → ((s t : List ℕ) (n k : ℕ) → k ≤ length s → (f : I) → Cut (length s) (rule s n k f) (rule (s ++ t) n k f))
     → Exact C E (λ s. opened s key (rule s))
 unfolding opened
