@@ -7,11 +7,11 @@ use lib.ListN.{length, getD}
 use Rattle.program.specs.Tree.{Op, Op.op-eq, Op.op-ne, Op.op-le, Op.op-ge, Op.op-lt, Op.op-gt, Op.op-mul, Op.op-div, Op.op-rem, Op.op-add, Op.op-sub, Op.op-and, Op.op-or, Expr, Expr.inv, Expr.make, Expr.path, Expr.int-lit, Expr.nat-lit, Expr.bool-lit, Expr.null, Expr.self, Expr.op, Exprs, Exprs.none, Exprs.more, args}
 use Rattle.program.specs.Encoding.{op-code, enc-expr, enc-exprs}
 use Rattle.program.specs.Counts.{height, heights, CountsExpr, CountsExprs}
-use Rattle.program.specs.Reader.{Result, Result.ok, lookup, Form, Form.form-inv, Form.form-make, Form.form-path, Form.form-int, Form.form-nat, Form.form-bool, Form.form-null, Form.form-self, Form.form-op, Form.form-none, forms, form, bool-end, word-bytes, read-make, rule-expr, read-expr}
+use Rattle.program.specs.Reader.{Result, lookup, Form, Form.form-inv, Form.form-make, Form.form-path, Form.form-int, Form.form-nat, Form.form-bool, Form.form-null, Form.form-self, Form.form-op, Form.form-none, forms, form, bool-end, word-bytes, read-make, rule-expr, read-expr}
 use Rattle.program.specs.Exact.{Stands, Stands.done, Stands.letter, Told, Told.told, Told.silent, Cut, Cut.same, Cut.stop, At, Exact, Rowed}
 use Rattle.program.specs.StandsLaws.{both}
 use Rattle.program.specs.PartLaws.{told-then, told-made, made-ok, cut-then, cut-made, byte-exact}
-use Rattle.program.specs.JoinLaws.{pair-exact, row-exact, lookup-is, opened-exact}
+use Rattle.program.specs.JoinLaws.{pair-exact, row-exact, lookup-is, Reads, opened-exact}
 use Rattle.program.specs.WordLaws.{below-exact, word-exact, type-exact, path-exact}
 
 -- the bytes that open a form
@@ -116,7 +116,7 @@ module _ (ar : List ℕ) where
     sound-rule s n b k p form-none o = silent
 
     complete-rule : (s : List ℕ) (e : Expr) (n m : ℕ) → InExpr (suc d) e → Stands s n (enc-expr e) m
-        → (b : ℕ) × (n < length s) × (getD s n 0 ≡ b) × (rule-expr ar s (r s) n (n + 1) (form b) ≡ ok e m)
+        → Reads s (λ b. rule-expr ar s (r s) n (n + 1) (form b)) e n m
     unfolding rule-expr CountsExpr height enc-expr form lookup
     complete-rule s (inv e) n m c (letter h q w) = (16, h, q, made-ok _ (x .complete s e _ m (c .0, omega arith) w))
     complete-rule s (make k es) n m c (letter h q w) =

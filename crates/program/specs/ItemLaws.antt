@@ -1,18 +1,18 @@
 -- Items and the schedule are read exactly (01, 'Program stream'), at every number of levels of Fix.
-use Prim.Native.Nat.{ℕ, zero, suc, _+_, _<_, _≤_}
+use Prim.Native.Nat.{ℕ, zero, suc, _+_, _≤_}
 use native.Mathlib.Omega.{arith}
 use mathlib.Core.Path.{_≡_, refl, ap}
 use mathlib.Core.List.{List, [], _∷_, _++_}
-use lib.ListN.{length, getD}
+use lib.ListN.{length}
 use Rattle.types.specs.Limits.{step-names, max-items, fix-levels}
 use Rattle.program.specs.Tree.{Item, Item.call, Item.call-in, Item.fix, Items, Items.stop, Items.item, items}
 use Rattle.program.specs.Encoding.{enc-item, enc-items}
 use Rattle.program.specs.Counts.{fixes, fixes-in, CountsItem, CountsItems, CountsSchedule}
-use Rattle.program.specs.Reader.{Result, Result.ok, ranged, opened, pair, lookup, Sort, Sort.sort-call, Sort.sort-call-in, Sort.sort-fix, Sort.sort-none, sorts, sort, read-items, rule-item, read-item}
+use Rattle.program.specs.Reader.{Result, ranged, opened, pair, lookup, Sort, Sort.sort-call, Sort.sort-call-in, Sort.sort-fix, Sort.sort-none, sorts, sort, read-items, rule-item, read-item}
 use Rattle.program.specs.Exact.{Stands, Stands.letter, Told, Told.silent, Cut, Cut.stop, At, Exact, Rowed}
 use Rattle.program.specs.StandsLaws.{both}
 use Rattle.program.specs.PartLaws.{told-made, made-ok, cut-made}
-use Rattle.program.specs.JoinLaws.{exact-iff, pair-exact, row-exact, counted-exact, shut-exact, lookup-is, opened-exact}
+use Rattle.program.specs.JoinLaws.{exact-iff, pair-exact, row-exact, counted-exact, shut-exact, lookup-is, Reads, opened-exact}
 use Rattle.program.specs.WordLaws.{below-exact}
 
 -- the byte that opens an item
@@ -74,7 +74,8 @@ module _ (ar : List ℕ) where
   unfolding CountsItem
   call-exact = below-exact step-names
 
-  call-in-exact : Exact (λ p. CountsItem ar (call-in (p .0) (p .1))) (λ p. p .0 ∷ p .1 ∷ []) (λ s n. pair (ranged s 0 (length ar) n) λ c. ranged s 0 step-names)
+  call-in-exact : Exact (λ p. CountsItem ar (call-in (p .0) (p .1)))
+      (λ p. p .0 ∷ p .1 ∷ []) (λ s n. pair (ranged s 0 (length ar) n) λ c. ranged s 0 step-names)
   unfolding CountsItem
   call-in-exact = pair-exact (below-exact (length ar)) λ c. below-exact step-names
 
@@ -90,7 +91,7 @@ module _ (ar : List ℕ) where
     sound-rule s n b k p sort-none o = silent
 
     complete-rule : (s : List ℕ) (t : Item) (n m : ℕ) → InItem d t → Stands s n (enc-item t) m
-        → (b : ℕ) × (n < length s) × (getD s n 0 ≡ b) × (rule-item ar s (w s) n (n + 1) (sort b) ≡ ok t m)
+        → Reads s (λ b. rule-item ar s (w s) n (n + 1) (sort b)) t n m
     unfolding rule-item enc-item sort lookup
     complete-rule s (call i) n m c (letter h q v) = (1, h, q, made-ok _ (call-exact .complete s i _ m (c .0) v))
     complete-rule s (call-in k i) n m c (letter h q v) = (2, h, q, made-ok _ (call-in-exact .complete s (k, i) _ m (c .0) v))

@@ -1,19 +1,19 @@
 -- Statements and steps are read exactly (01, 'Program stream'), at every number of levels of if.
-use Prim.Native.Nat.{ℕ, zero, suc, _+_, _<_, _≤_}
+use Prim.Native.Nat.{ℕ, zero, suc, _+_, _≤_}
 use native.Mathlib.Omega.{arith}
 use mathlib.Core.Path.{_≡_, refl, ap}
 use mathlib.Core.List.{List, [], _∷_, _++_}
-use lib.ListN.{length, getD}
+use lib.ListN.{length}
 use Rattle.types.specs.Limits.{step-names, max-steps, max-statements, if-levels, expr-levels, first-local}
 use Rattle.types.specs.Types.{code}
 use Rattle.program.specs.Tree.{Expr, Stmt, Stmt.when, Stmt.declare, Stmt.update, Stmt.create, Stmts, Stmts.end, Stmts.next, size}
 use Rattle.program.specs.Encoding.{enc-path, enc-expr, enc-exprs, enc-stmt, enc-stmts, enc-list, enc-step}
 use Rattle.program.specs.Counts.{nest, nests, CountsStmt, CountsStmts, CountsStep, Few}
-use Rattle.program.specs.Reader.{Result, Result.ok, lookup, Kind, Kind.kind-when, Kind.kind-declare, Kind.kind-update, Kind.kind-create, Kind.kind-none, kinds, kind, opened, read-make, read-expr, read-body, read-when, read-declare, read-update, rule-stmt, read-stmt, read-step, read-steps}
+use Rattle.program.specs.Reader.{Result, lookup, Kind, Kind.kind-when, Kind.kind-declare, Kind.kind-update, Kind.kind-create, Kind.kind-none, kinds, kind, opened, read-make, read-expr, read-body, read-when, read-declare, read-update, rule-stmt, read-stmt, read-step, read-steps}
 use Rattle.program.specs.Exact.{Stands, Stands.letter, Told, Told.silent, Cut, Cut.stop, At, Exact, Rowed}
 use Rattle.program.specs.StandsLaws.{both}
 use Rattle.program.specs.PartLaws.{told-made, made-ok, cut-made}
-use Rattle.program.specs.JoinLaws.{exact-iff, made-exact, pair-exact, row-exact, counted-exact, shut-exact, lookup-is, opened-exact, list-exact}
+use Rattle.program.specs.JoinLaws.{exact-iff, made-exact, pair-exact, row-exact, counted-exact, shut-exact, lookup-is, Reads, opened-exact, list-exact}
 use Rattle.program.specs.WordLaws.{below-exact, type-exact, local-exact, path-exact}
 use Rattle.program.specs.ExprLaws.{make-exact, expr-exact}
 
@@ -84,19 +84,22 @@ module _ (ar : List ℕ) where
       λ p. (λ h. ((h .0 .0, h .0 .1, h .1 .0, h .1 .1), omega arith), λ h. ((h .0 .0, h .0 .1), (h .0 .2, h .0 .3, omega arith)))
 
   -- the parts of the statements that hold no others
-  declare-exact : Exact (λ p. CountsStmt ar (declare (p .0) (p .1 .0) (p .1 .1))) (λ p. code (p .0) ∷ (first-local + p .1 .0) ∷ enc-expr (p .1 .1)) (read-declare ar)
+  declare-exact : Exact (λ p. CountsStmt ar (declare (p .0) (p .1 .0) (p .1 .1)))
+      (λ p. code (p .0) ∷ (first-local + p .1 .0) ∷ enc-expr (p .1 .1)) (read-declare ar)
   unfolding read-declare CountsStmt
   declare-exact =
       exact-iff (pair-exact (type-exact (length ar)) λ t. pair-exact local-exact λ x. expr-exact ar expr-levels)
       λ p. (λ h. (h .0, h .1 .0, h .1 .1 .0, h .1 .1 .1), λ h. (h .0, (h .1, (h .2, h .3))))
 
-  update-exact : Exact (λ p. CountsStmt ar (update (p .0 .0) (p .0 .1) (p .1))) (λ p. enc-path (p .0 .0) (p .0 .1) ++ enc-expr (p .1)) (read-update ar)
+  update-exact : Exact (λ p. CountsStmt ar (update (p .0 .0) (p .0 .1) (p .1)))
+      (λ p. enc-path (p .0 .0) (p .0 .1) ++ enc-expr (p .1)) (read-update ar)
   unfolding read-update CountsStmt
   update-exact =
       exact-iff (pair-exact path-exact λ p. expr-exact ar expr-levels)
       λ p. (λ h. (h .0, h .1 .0, h .1 .1), λ h. (h .0, (h .1, h .2)))
 
-  create-exact : Exact (λ p. CountsStmt ar (create (p .0) (p .1))) (λ p. p .0 ∷ enc-exprs (p .1)) (λ s. read-make ar s (read-expr ar s expr-levels))
+  create-exact : Exact (λ p. CountsStmt ar (create (p .0) (p .1)))
+      (λ p. p .0 ∷ enc-exprs (p .1)) (λ s. read-make ar s (read-expr ar s expr-levels))
   unfolding CountsStmt
   create-exact =
       exact-iff (make-exact ar expr-levels _ (expr-exact ar expr-levels))
@@ -115,7 +118,7 @@ module _ (ar : List ℕ) where
     sound-rule s n b k p kind-none o = silent
 
     complete-rule : (s : List ℕ) (t : Stmt) (n m : ℕ) → InStmt d t → Stands s n (enc-stmt t) m
-        → (b : ℕ) × (n < length s) × (getD s n 0 ≡ b) × (rule-stmt ar s (w s) n (n + 1) (kind b) ≡ ok t m)
+        → Reads s (λ b. rule-stmt ar s (w s) n (n + 1) (kind b)) t n m
     unfolding rule-stmt enc-stmt kind lookup
     complete-rule s (when e b) n m c (letter h q v) = (1, h, q, made-ok _ (x n .complete s (e, b) _ m c v))
     complete-rule s (declare t y e) n m c (letter h q v) = (2, h, q, made-ok _ (declare-exact .complete s (t, (y, e)) _ m (c .0) v))
