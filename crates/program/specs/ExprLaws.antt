@@ -1,19 +1,17 @@
 -- Expressions are read exactly (01, 'Program stream'), at every number of levels.
-use Prim.Native.Nat.{ℕ, zero, suc, max, _+_, _<_, _≤_}
+use Prim.Native.Nat.{ℕ, zero, suc, _+_, _<_, _≤_}
 use native.Mathlib.Omega.{arith}
 use mathlib.Core.Path.{_≡_, refl, ap}
 use mathlib.Core.List.{List, [], _∷_, _++_}
 use lib.ListN.{length, getD}
-use Rattle.types.specs.Limits.{nat-end}
-use Rattle.types.specs.Types.{code}
 use Rattle.program.specs.Tree.{Op, Op.op-eq, Op.op-ne, Op.op-le, Op.op-ge, Op.op-lt, Op.op-gt, Op.op-mul, Op.op-div, Op.op-rem, Op.op-add, Op.op-sub, Op.op-and, Op.op-or, Expr, Expr.inv, Expr.make, Expr.path, Expr.int-lit, Expr.nat-lit, Expr.bool-lit, Expr.null, Expr.self, Expr.op, Exprs, Exprs.none, Exprs.more, args}
-use Rattle.program.specs.Encoding.{op-code, enc-word, enc-path, enc-expr, enc-exprs}
+use Rattle.program.specs.Encoding.{op-code, enc-expr, enc-exprs}
 use Rattle.program.specs.Counts.{height, heights, CountsExpr, CountsExprs}
-use Rattle.program.specs.Reader.{Result, Result.ok, made, lookup, Form, Form.form-inv, Form.form-make, Form.form-path, Form.form-int, Form.form-nat, Form.form-bool, Form.form-null, Form.form-self, Form.form-op, Form.form-none, forms, form, read-make, rule-expr, read-expr}
+use Rattle.program.specs.Reader.{Result, lookup, Form, Form.form-inv, Form.form-make, Form.form-path, Form.form-int, Form.form-nat, Form.form-bool, Form.form-null, Form.form-self, Form.form-op, Form.form-none, forms, form, bool-end, word-bytes, read-make, rule-expr, read-expr}
 use Rattle.program.specs.Exact.{Stands, Stands.done, Stands.letter, Told, Told.told, Told.silent, Cut, Cut.same, Cut.stop, At, Exact, Rowed}
 use Rattle.program.specs.StandsLaws.{both}
 use Rattle.program.specs.PartLaws.{told-then, told-made, made-ok, cut-then, cut-made, byte-exact}
-use Rattle.program.specs.JoinLaws.{pair-exact, row-exact, lookup-is, opened-exact}
+use Rattle.program.specs.JoinLaws.{pair-exact, row-exact, lookup-is, Reads, opened-exact}
 use Rattle.program.specs.WordLaws.{below-exact, word-exact, type-exact, path-exact}
 
 -- the bytes that open a form
@@ -33,8 +31,7 @@ Opens b form-none = Unit {0}
 pub opens : (b : ℕ) → Opens b (form b)
 unfolding form op-code
 opens b =
-    lookup-is Opens forms form-none b tt
-    (refl, (refl, (refl, (refl, (refl, (refl, (refl, (refl, (refl, (refl, (refl, (refl, (refl, (refl, (refl, (refl, (refl, (refl, (refl, (refl, (refl, tt)))))))))))))))))))))
+    lookup-is Opens forms form-none b tt (omega arith)
 
 -- an operator's byte opens its form
 pub form-code : (o : Op) → form (op-code o) ≡ form-op o
@@ -74,6 +71,7 @@ module _ (ar : List ℕ) where
   abbrev pub InExprs : ℕ → ℕ → Exprs → Type 0
   InExprs d i es = (args es ≡ i) × (CountsExprs ar es) × (heights es ≤ d)
 
+  -- the arguments of a construct are a row of expressions
   pub exprs-row : (d : ℕ) → Rowed none more (InExpr d) enc-expr (InExprs d) (λ i. enc-exprs)
   unfolding args CountsExprs heights enc-exprs
   exprs-row d = record {
@@ -100,6 +98,7 @@ module _ (ar : List ℕ) where
     unfolding read-make
     make-exact = pair-exact (below-exact (length ar)) λ k. row-exact x (exprs-row d) (getD ar k 0)
 
+    -- what is read behind the byte of a form, what is read of a tree, and what is read in a shorter stream
     sound-rule : (s : List ℕ) (n b k : ℕ) → Stands s n (b ∷ []) k → (f : Form) → Opens b f
         → Told (At (InExpr (suc d)) enc-expr s n) (rule-expr ar s (r s) n k f)
     unfolding rule-expr CountsExpr height enc-expr
@@ -107,9 +106,9 @@ module _ (ar : List ℕ) where
     sound-rule s n b k p form-make o =
         told-made _ (make-exact .sound s k) λ a m q. (((q .0 .0, q .0 .1 .0, q .0 .1 .1), omega arith), rw o at (both p (q .1)))
     sound-rule s n b k p form-path o = told-made _ (path-exact .sound s k) λ a m q. ((q .0, omega arith), rw o at (both p (q .1)))
-    sound-rule s n b k p form-int o = told-made _ (word-exact 4 .sound s k) λ a m q. ((q .0, omega arith), rw o at (both p (q .1)))
-    sound-rule s n b k p form-nat o = told-made _ (word-exact 4 .sound s k) λ a m q. ((q .0, omega arith), rw o at (both p (q .1)))
-    sound-rule s n b k p form-bool o = told-made _ (below-exact 2 .sound s k) λ a m q. ((q .0, omega arith), rw o at (both p (q .1)))
+    sound-rule s n b k p form-int o = told-made _ (word-exact word-bytes .sound s k) λ a m q. ((q .0, omega arith), rw o at (both p (q .1)))
+    sound-rule s n b k p form-nat o = told-made _ (word-exact word-bytes .sound s k) λ a m q. ((q .0, omega arith), rw o at (both p (q .1)))
+    sound-rule s n b k p form-bool o = told-made _ (below-exact bool-end .sound s k) λ a m q. ((q .0, omega arith), rw o at (both p (q .1)))
     sound-rule s n b k p form-null o = told-made _ (type-exact (length ar) .sound s k) λ a m q. ((q .0, omega arith), rw o at (both p (q .1)))
     sound-rule s n b k p form-self o = told {a = self} ((tt, omega arith), rw o at p)
     sound-rule s n b k p (form-op c) o =
@@ -117,15 +116,15 @@ module _ (ar : List ℕ) where
     sound-rule s n b k p form-none o = silent
 
     complete-rule : (s : List ℕ) (e : Expr) (n m : ℕ) → InExpr (suc d) e → Stands s n (enc-expr e) m
-        → (b : ℕ) × (n < length s) × (getD s n 0 ≡ b) × (rule-expr ar s (r s) n (n + 1) (form b) ≡ ok e m)
+        → Reads s (λ b. rule-expr ar s (r s) n (n + 1) (form b)) e n m
     unfolding rule-expr CountsExpr height enc-expr form lookup
     complete-rule s (inv e) n m c (letter h q w) = (16, h, q, made-ok _ (x .complete s e _ m (c .0, omega arith) w))
     complete-rule s (make k es) n m c (letter h q w) =
         (17, h, q, made-ok _ (make-exact .complete s (k, es) _ m (c .0 .0, (c .0 .1, c .0 .2, omega arith)) w))
     complete-rule s (path v vs) n m c (letter h q w) = (18, h, q, made-ok _ (path-exact .complete s (v, vs) _ m (c .0) w))
-    complete-rule s (int-lit v) n m c (letter h q w) = (19, h, q, made-ok _ (word-exact 4 .complete s v _ m (c .0) w))
-    complete-rule s (nat-lit v) n m c (letter h q w) = (20, h, q, made-ok _ (word-exact 4 .complete s v _ m (c .0) w))
-    complete-rule s (bool-lit v) n m c (letter h q w) = (21, h, q, made-ok _ (below-exact 2 .complete s v _ m (c .0) w))
+    complete-rule s (int-lit v) n m c (letter h q w) = (19, h, q, made-ok _ (word-exact word-bytes .complete s v _ m (c .0) w))
+    complete-rule s (nat-lit v) n m c (letter h q w) = (20, h, q, made-ok _ (word-exact word-bytes .complete s v _ m (c .0) w))
+    complete-rule s (bool-lit v) n m c (letter h q w) = (21, h, q, made-ok _ (below-exact bool-end .complete s v _ m (c .0) w))
     complete-rule s (null t) n m c (letter h q w) = (22, h, q, made-ok _ (type-exact (length ar) .complete s t _ m (c .0) w))
     complete-rule s self n m c (letter h q done) = (23, h, q, refl)
     complete-rule s (op o a b) n m c (letter h q w) =
@@ -138,14 +137,15 @@ module _ (ar : List ℕ) where
     cut-rule s t n k l form-inv = cut-made _ (x .cut s t k l)
     cut-rule s t n k l form-make = cut-made _ (make-exact .cut s t k l)
     cut-rule s t n k l form-path = cut-made _ (path-exact .cut s t k l)
-    cut-rule s t n k l form-int = cut-made _ (word-exact 4 .cut s t k l)
-    cut-rule s t n k l form-nat = cut-made _ (word-exact 4 .cut s t k l)
-    cut-rule s t n k l form-bool = cut-made _ (below-exact 2 .cut s t k l)
+    cut-rule s t n k l form-int = cut-made _ (word-exact word-bytes .cut s t k l)
+    cut-rule s t n k l form-nat = cut-made _ (word-exact word-bytes .cut s t k l)
+    cut-rule s t n k l form-bool = cut-made _ (below-exact bool-end .cut s t k l)
     cut-rule s t n k l form-null = cut-made _ (type-exact (length ar) .cut s t k l)
     cut-rule s t n k l form-self = same l
     cut-rule s t n k l (form-op c) = cut-made _ (pair-exact x (λ e. x) .cut s t k l)
     cut-rule s t n k l form-none = stop
 
+  -- an expression of at most d levels
   pub expr-exact : (d : ℕ) → Exact (InExpr d) enc-expr (λ s. read-expr ar s d)
   unfolding read-expr
   expr-exact zero = record {

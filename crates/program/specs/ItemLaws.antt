@@ -1,18 +1,18 @@
 -- Items and the schedule are read exactly (01, 'Program stream'), at every number of levels of Fix.
-use Prim.Native.Nat.{ℕ, zero, suc, max, _+_, _<_, _≤_}
+use Prim.Native.Nat.{ℕ, zero, suc, _+_, _≤_}
 use native.Mathlib.Omega.{arith}
 use mathlib.Core.Path.{_≡_, refl, ap}
 use mathlib.Core.List.{List, [], _∷_, _++_}
-use lib.ListN.{length, getD}
+use lib.ListN.{length}
 use Rattle.types.specs.Limits.{step-names, max-items, fix-levels}
 use Rattle.program.specs.Tree.{Item, Item.call, Item.call-in, Item.fix, Items, Items.stop, Items.item, items}
 use Rattle.program.specs.Encoding.{enc-item, enc-items}
 use Rattle.program.specs.Counts.{fixes, fixes-in, CountsItem, CountsItems, CountsSchedule}
-use Rattle.program.specs.Reader.{Result, Result.ok, ranged, opened, pair, lookup, Sort, Sort.sort-call, Sort.sort-call-in, Sort.sort-fix, Sort.sort-none, sorts, sort, read-items, rule-item, read-item}
+use Rattle.program.specs.Reader.{Result, ranged, opened, pair, lookup, Sort, Sort.sort-call, Sort.sort-call-in, Sort.sort-fix, Sort.sort-none, sorts, sort, read-items, rule-item, read-item}
 use Rattle.program.specs.Exact.{Stands, Stands.letter, Told, Told.silent, Cut, Cut.stop, At, Exact, Rowed}
 use Rattle.program.specs.StandsLaws.{both}
 use Rattle.program.specs.PartLaws.{told-made, made-ok, cut-made}
-use Rattle.program.specs.JoinLaws.{exact-iff, pair-exact, row-exact, counted-exact, shut-exact, lookup-is, opened-exact}
+use Rattle.program.specs.JoinLaws.{exact-iff, pair-exact, row-exact, counted-exact, shut-exact, lookup-is, Reads, opened-exact}
 use Rattle.program.specs.WordLaws.{below-exact}
 
 -- the byte that opens an item
@@ -25,7 +25,7 @@ OpensItem b sort-none = Unit {0}
 -- a byte is the one that opens its sort
 pub opens-item : (b : ℕ) → OpensItem b (sort b)
 unfolding sort
-opens-item b = lookup-is OpensItem sorts sort-none b tt (refl, (refl, (refl, tt)))
+opens-item b = lookup-is OpensItem sorts sort-none b tt (omega arith)
 
 module _ (ar : List ℕ) where
   -- within the counts, with at most d levels of Fix; a row of i such items; the items of a Fix
@@ -41,6 +41,7 @@ module _ (ar : List ℕ) where
   abbrev pub enc-schedule : Items → List ℕ
   enc-schedule is = items is ∷ enc-items is
 
+  -- the items of a Fix are a row of items
   pub items-row : (d : ℕ) → Rowed stop item (InItem d) enc-item (InItems d) (λ i. enc-items)
   unfolding items CountsItems fixes-in enc-items
   items-row d = record {
@@ -73,12 +74,14 @@ module _ (ar : List ℕ) where
   unfolding CountsItem
   call-exact = below-exact step-names
 
-  call-in-exact : Exact (λ p. CountsItem ar (call-in (p .0) (p .1))) (λ p. p .0 ∷ p .1 ∷ []) (λ s n. pair (ranged s 0 (length ar) n) λ c. ranged s 0 step-names)
+  call-in-exact : Exact (λ p. CountsItem ar (call-in (p .0) (p .1)))
+      (λ p. p .0 ∷ p .1 ∷ []) (λ s n. pair (ranged s 0 (length ar) n) λ c. ranged s 0 step-names)
   unfolding CountsItem
   call-in-exact = pair-exact (below-exact (length ar)) λ c. below-exact step-names
 
   -- where w reads what stands behind the byte of a Fix, with at most d levels in all
   module _ (d : ℕ) (w : List ℕ → ℕ → ℕ → Result Items) (x : (at : ℕ) → Exact (InFix d) enc-schedule (λ s. w s at)) where
+    -- what is read behind the byte of an item, what is read of a tree, and what is read in a shorter stream
     sound-rule : (s : List ℕ) (n b k : ℕ) → Stands s n (b ∷ []) k → (f : Sort) → OpensItem b f
         → Told (At (InItem d) enc-item s n) (rule-item ar s (w s) n k f)
     unfolding rule-item fixes enc-item
@@ -88,7 +91,7 @@ module _ (ar : List ℕ) where
     sound-rule s n b k p sort-none o = silent
 
     complete-rule : (s : List ℕ) (t : Item) (n m : ℕ) → InItem d t → Stands s n (enc-item t) m
-        → (b : ℕ) × (n < length s) × (getD s n 0 ≡ b) × (rule-item ar s (w s) n (n + 1) (sort b) ≡ ok t m)
+        → Reads s (λ b. rule-item ar s (w s) n (n + 1) (sort b)) t n m
     unfolding rule-item enc-item sort lookup
     complete-rule s (call i) n m c (letter h q v) = (1, h, q, made-ok _ (call-exact .complete s i _ m (c .0) v))
     complete-rule s (call-in k i) n m c (letter h q v) = (2, h, q, made-ok _ (call-in-exact .complete s (k, i) _ m (c .0) v))
@@ -105,6 +108,7 @@ module _ (ar : List ℕ) where
     item-in : Exact (InItem d) enc-item (λ s. opened s sort (rule-item ar s (w s)))
     item-in = opened-exact OpensItem opens-item sound-rule complete-rule cut-rule
 
+  -- an item with at most d levels of Fix
   pub item-exact : (d : ℕ) → Exact (InItem d) enc-item (λ s. read-item ar s d)
   unfolding read-item CountsItem fixes
   item-exact zero = item-in 0 _ (λ at. shut-exact at λ is h. omega arith)
@@ -112,6 +116,7 @@ module _ (ar : List ℕ) where
       let x = items-exact d (item-exact d) in
       item-in (suc d) _ λ at. exact-iff x λ is. (λ h. ((h .0, h .1, h .2), omega arith), λ h. (h .0 .0, h .0 .1, h .0 .2, omega arith))
 
+  -- the schedule
   pub schedule-exact : Exact (CountsSchedule ar) enc-schedule (λ s. read-items ar s (read-item ar s fix-levels))
   unfolding CountsSchedule
   schedule-exact = items-exact fix-levels (item-exact fix-levels)

@@ -1,17 +1,17 @@
 -- Programs are read exactly (01, 'Program stream'), and what that says of whole streams (4 and 5 of 'Numbers from the input').
 use Prim.Native.Nat.{ℕ}
-use mathlib.Core.Path.{_≡_, refl, sym}
+use mathlib.Core.Path.{_≡_, refl}
 use mathlib.Core.Logic.{_↔_}
 use mathlib.Core.List.{List, [], _∷_, _++_, map, append-assoc}
 use lib.ListN.{length}
 use Rattle.types.specs.Limits.{max-structs, max-params}
-use Rattle.types.specs.Types.{Ty, code, IsType}
+use Rattle.types.specs.Types.{code, IsType}
 use Rattle.program.specs.Tree.{Program}
 use Rattle.program.specs.Encoding.{enc-list, enc-program}
 use Rattle.program.specs.Counts.{Few, Counts}
-use Rattle.program.specs.Reader.{Result, Result.ok, Result.bad, wrong-end, wrong-byte, whole, read-params, read-program, read}
+use Rattle.program.specs.Reader.{Result.ok, Result.bad, wrong-end, wrong-byte, whole, read-params, read-program, read}
 use Rattle.program.specs.Exact.{Exact, Refused}
-use Rattle.program.specs.JoinLaws.{exact-iff, made-exact, pair-exact, row-exact, flat-row, list-exact}
+use Rattle.program.specs.JoinLaws.{made-exact, pair-exact, row-exact, flat-row, list-exact}
 use Rattle.program.specs.WordLaws.{type-exact}
 use Rattle.program.specs.StmtLaws.{steps-exact}
 use Rattle.program.specs.ItemLaws.{schedule-exact}

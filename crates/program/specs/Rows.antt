@@ -1,8 +1,8 @@
 -- Streams and what reading them answers, by computation (01, 'Bench rows' on reading, and the bounds of 'Program stream').
 use Prim.Native.Nat.{ℕ, zero, suc}
 use mathlib.Core.Path.{_≡_, refl}
-use mathlib.Core.List.{List, [], _∷_, _++_, map}
-use mathlib.Core.Bool.{Bool, true, false, _&&_, _||_}
+use mathlib.Core.List.{List, [], _∷_, _++_}
+use mathlib.Core.Bool.{Bool, true, false, _&&_}
 use lib.ListN.{replicate}
 use lib.Dec.{eqb, T}
 use Rattle.types.specs.Types.{Ty.int, Ty.ref, type-of}
@@ -143,11 +143,11 @@ rows-hold = tt
 -- P's stream is read to its tree
 pub tree-P : read stream-P
     ≡ ok
-      (record {
-        params = (int ∷ ref 0 ∷ []) ∷ [];
-        steps = (record { name = 0; body = next (update (par 0) [] (op op-add (path (par 0) []) (path (par 1) (0 ∷ [])))) end } ∷ []) ∷ [];
-        schedule = item (call 0) stop;
-      })
-      21
+    (record {
+      params = (int ∷ ref 0 ∷ []) ∷ [];
+      steps = (record { name = 0; body = next (update (par 0) [] (op op-add (path (par 0) []) (path (par 1) (0 ∷ [])))) end } ∷ []) ∷ [];
+      schedule = item (call 0) stop;
+    })
+    21
 unfolding program step adding stream-P reading
 tree-P = refl

@@ -10,7 +10,7 @@ use lib.Seq.{drop-append-seam, drop-cons}
 use borrow.Author.Tests.{lt-ltb, le-ltb}
 use Rattle.program.specs.Reader.{Result, Result.ok, Result.bad, wrong-end, wrong-byte, then, ended, whole}
 use Rattle.program.specs.Exact.{Stands, Told, Told.told, Told.silent, Cut, Cut.same, Cut.stop, Cut.short, Exact, Refused, Refused.not-allowed, Refused.ends-early, Refused.goes-on}
-use Rattle.program.specs.StandsLaws.{stands-drop, stands-length, stands-of, stands-front, stands-self, stands-whole}
+use Rattle.program.specs.StandsLaws.{stands-drop, stands-length, stands-in, stands-of, stands-front, stands-self, stands-whole}
 use Rattle.program.specs.PartLaws.{told-then, told-is, then-ok}
 
 ended-in : {A : Type 0} (s : List ℕ) (a : A) (k : ℕ) → length s ≤ k → ended s a k ≡ ok a k
@@ -36,6 +36,10 @@ module _ {A : Type 0} {C : A → Type 0} {E : A → List ℕ} {r : List ℕ → 
   sound-at s a n m e =
       let h = exact-at s a n m .0 e in
       (h .0, sym (take-append-drop n s) ∙ rw (stands-drop (h .1)), stands-length (h .1))
+
+  -- the next place lies behind the value's bytes, in the stream
+  pub next-place : (s : List ℕ) (a : A) (n m : ℕ) → n ≤ length s → r s n ≡ ok a m → (m ≡ n + length (E a)) × (m ≤ length s)
+  next-place s a n m l e = let h = exact-at s a n m .0 e in (stands-length (h .1), stands-in (h .1) l)
 
   sound-whole : (s : List ℕ) → Told (λ a m. (C a) × (s ≡ E a) × (m ≡ length s)) (whole r s)
   unfolding whole
