@@ -41,3 +41,9 @@ pub record Rowed {A B : Type 0} (z : B) (c : A → B → B) (C : A → Type 0) (
   pub cons-only : (i : ℕ) (b : B) → D (suc i) b → (a : A) × (l : B) × (C a) × (D i l) × (c a l ≡ b)
   pub nil-bytes : F 0 z ≡ []
   pub cons-bytes : (i : ℕ) (a : A) (b : B) → C a → F (suc i) (c a b) ≡ E a ++ F i b
+
+-- why a whole stream is refused: a byte not allowed; its end, where it ends early; the byte behind a value's, where it goes on
+pub data Refused {A : Type 0} (C : A → Type 0) (E : A → List ℕ) (s : List ℕ) : ℕ → ℕ → Type 0 where
+  not-allowed : {p : ℕ} → Refused C E s p wrong-byte
+  ends-early : Refused C E s (length s) wrong-end
+  goes-on : (a : A) (b : ℕ) (bs : List ℕ) → C a → s ≡ E a ++ b ∷ bs → Refused C E s (length (E a)) wrong-end

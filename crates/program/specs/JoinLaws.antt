@@ -1,17 +1,17 @@
 -- What is exact stays exact when it is tested, made into something, joined, counted, repeated or opened by a byte (01, 'Program stream').
 use Prim.Native.Nat.{ℕ, zero, suc, _+_, _<_, _≤_}
 use native.Mathlib.Omega.{arith}
-use mathlib.Core.Path.{_≡_, refl, sym, ap, _∙_}
+use mathlib.Core.Path.{_≡_, refl, ap, _∙_}
 use mathlib.Core.Logic.{_↔_}
 use mathlib.Core.List.{List, [], _∷_, _++_}
 use mathlib.Core.Bool.{Bool, true, false, _&&_}
 use lib.ListN.{length, getD}
 use lib.Dec.{ltb, leb, eqb, T, leb→le, ltb→lt, le→leb, lt→ltb}
 use borrow.Author.Tests.{eqb-true}
-use Rattle.program.specs.Encoding.{flat}
-use Rattle.program.specs.Counts.{All}
-use Rattle.program.specs.Reader.{Result, Result.ok, Result.bad, wrong-byte, then, pair, made, many, guard, Row, Row.row, lookup, between, byte, tested, ranged, counted, opened}
-use Rattle.program.specs.Exact.{Stands, Stands.done, Stands.letter, Told, Told.told, Told.silent, Cut, Cut.same, Cut.stop, At, Exact, Rowed}
+use Rattle.program.specs.Encoding.{flat, enc-list}
+use Rattle.program.specs.Counts.{All, Few}
+use Rattle.program.specs.Reader.{Result, Result.ok, Result.bad, wrong-byte, pair, made, many, guard, Row, Row.row, lookup, between, byte, tested, ranged, counted, opened}
+use Rattle.program.specs.Exact.{Stands, Stands.done, Told, Told.told, Told.silent, Cut, Cut.same, Cut.stop, At, Exact, Rowed}
 use Rattle.program.specs.StandsLaws.{both, split, stands-none}
 use Rattle.program.specs.PartLaws.{told-then, told-weak, told-made, then-ok, made-ok, cut-then, cut-made, byte-ok, byte-exact}
 
@@ -85,7 +85,8 @@ tested-exact t = record {
   cut = λ s u n l. cut-then (byte-exact .cut s u n l) λ b k l. cut n b k (t b) l;
 }
   where
-    sound : (s : List ℕ) (n b k : ℕ) (v : Bool) → t b ≡ v → Stands s n (b ∷ []) k → Told (At (λ b. T (t b)) (λ b. b ∷ []) s n) (guard v n b k)
+    sound : (s : List ℕ) (n b k : ℕ) (v : Bool) → t b ≡ v → Stands s n (b ∷ []) k
+        → Told (At (λ b. T (t b)) (λ b. b ∷ []) s n) (guard v n b k)
     sound s n b k true e w = told {a = b} (rw e tt, w)
     sound s n b k false e w = silent
 
@@ -96,13 +97,17 @@ tested-exact t = record {
     cut n b k true l = same l
     cut n b k false l = stop
 
--- a byte from lo up to below hi
+-- from lo up to below hi
 abbrev pub Within : ℕ → ℕ → ℕ → Type 0
 Within lo hi b = (lo ≤ b) × (b < hi)
 
+-- the test of a range says what it should
 pub between-iff : (lo hi b : ℕ) → T (between lo hi b) ↔ Within lo hi b
 unfolding between
-between-iff lo hi b = (λ h. let p = apart (leb lo b) (ltb b hi) h in (leb→le lo b (p .0), ltb→lt b hi (p .1)), λ h. joined (leb lo b) (ltb b hi) (le→leb lo b (h .0)) (lt→ltb b hi (h .1)))
+between-iff lo hi b = (
+  λ h. let p = apart (leb lo b) (ltb b hi) h in (leb→le lo b (p .0), ltb→lt b hi (p .1)),
+  λ h. joined (leb lo b) (ltb b hi) (le→leb lo b (h .0)) (lt→ltb b hi (h .1)),
+)
   where
     apart : (x y : Bool) → T (x && y) → (T x) × (T y)
     apart true y h = (tt, h)
@@ -110,6 +115,7 @@ between-iff lo hi b = (λ h. let p = apart (leb lo b) (ltb b hi) h in (leb→le 
     joined : (x y : Bool) → T x → T y → T (x && y)
     joined true y h k = k
 
+-- a byte of a range
 pub ranged-exact : (lo hi : ℕ) → Exact (Within lo hi) (λ b. b ∷ []) (λ s. ranged s lo hi)
 unfolding ranged
 ranged-exact lo hi = exact-iff (tested-exact (between lo hi)) (between-iff lo hi)
@@ -149,12 +155,15 @@ lookup-is P (row k f ∷ rs) z b p h = go (eqb b k) refl (lookup-is P rs z b p (
     go true e q = rw (e, lookup) (rw (eqb-true b k e) (h .0))
     go false e q = rw (e, lookup) q
 
+-- the byte at n opens what q reads behind it as a
+abbrev pub Reads : {A : Type 0} → List ℕ → (ℕ → Result A) → A → ℕ → ℕ → Type 0
+Reads s q a n m = (b : ℕ) × (n < length s) × (getD s n 0 ≡ b) × (q b ≡ ok a m)
+
 -- what a byte opens is read exactly, where each form is: `Opens` tells a form's bytes
 pub opened-exact : {I A : Type 0} {C : A → Type 0} {E : A → List ℕ} {key : ℕ → I} {rule : List ℕ → ℕ → ℕ → I → Result A}
     (Opens : ℕ → I → Type 0) → ((b : ℕ) → Opens b (key b))
     → ((s : List ℕ) (n b k : ℕ) → Stands s n (b ∷ []) k → (f : I) → Opens b f → Told (At C E s n) (rule s n k f))
-    → ((s : List ℕ) (a : A) (n m : ℕ) → C a → Stands s n (E a) m
-        → (b : ℕ) × (n < length s) × (getD s n 0 ≡ b) × (rule s n (n + 1) (key b) ≡ ok a m))
+    → ((s : List ℕ) (a : A) (n m : ℕ) → C a → Stands s n (E a) m → Reads s (λ b. rule s n (n + 1) (key b)) a n m)
     → ((s t : List ℕ) (n k : ℕ) → k ≤ length s → (f : I) → Cut (length s) (rule s n k f) (rule (s ++ t) n k f))
     → Exact C E (λ s. opened s key (rule s))
 unfolding opened
@@ -168,7 +177,8 @@ opened-exact {key = key} Opens o sound complete cut = record {
 abbrev pub AllOf : {A : Type 0} → (A → Type 0) → ℕ → List A → Type 0
 AllOf C i l = (length l ≡ i) × (All C l)
 
-pub list-row : {A : Type 0} (C : A → Type 0) (E : A → List ℕ) (F : List A → List ℕ) → F [] ≡ [] → ((a : A) (l : List A) → F (a ∷ l) ≡ E a ++ F l)
+pub list-row : {A : Type 0} (C : A → Type 0) (E : A → List ℕ) (F : List A → List ℕ)
+    → F [] ≡ [] → ((a : A) (l : List A) → F (a ∷ l) ≡ E a ++ F l)
     → Rowed [] _∷_ C E (AllOf C) (λ i. F)
 list-row {A} C E F none more = record {
   nil = (refl, tt);
@@ -195,7 +205,7 @@ flat-row C E = list-row C E (flat E) refl (λ a l. refl)
 -- a count and so many values, whose condition may know the count
 pub list-exact : {A : Type 0} {C : ℕ → A → Type 0} {E : A → List ℕ} {r : ℕ → List ℕ → ℕ → Result A} (lo hi : ℕ)
     → ((i : ℕ) → Exact (C i) E (r i))
-    → Exact (λ l. (lo ≤ length l) × (length l ≤ hi) × (All (C (length l)) l)) (λ l. length l ∷ flat E l) (λ s. counted s lo hi (λ i. many [] _∷_ (r i s) i))
+    → Exact (λ l. Few lo hi (C (length l)) l) (enc-list E) (λ s. counted s lo hi (λ i. many [] _∷_ (r i s) i))
 list-exact {C = C} {E = E} lo hi y =
     exact-iff (counted-exact lo hi length (λ i l h d. d .0) (λ i. row-exact (y i) (flat-row (C i) E) i))
     λ l. (λ h. (h .0, h .1, h .2 .1), λ h. (h .0, h .1, (refl, h .2)))

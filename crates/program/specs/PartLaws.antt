@@ -1,17 +1,13 @@
 -- The readers that the others are made of are exact, or carry exactness on (01, 'Program stream').
-use Prim.Native.Nat.{ℕ, zero, suc, _+_, _<_, _≤_}
+use Prim.Native.Nat.{ℕ, _+_, _<_, _≤_}
 use native.Mathlib.Omega.{arith}
 use native.Mathlib.Decide.{decLt}
-use mathlib.Core.Path.{_≡_, refl, sym, ap, _∙_}
-use mathlib.Core.Logic.{_↔_}
+use mathlib.Core.Path.{_≡_, refl}
 use mathlib.Core.List.{List, [], _∷_, _++_}
-use mathlib.Core.Bool.{Bool, true, false, _&&_}
 use lib.ListN.{length, getD, length-append, List·getD-append}
-use lib.Dec.{ltb, leb, eqb, T, leb→le, ltb→lt, le→leb, lt→ltb}
-use borrow.Author.Tests.{lt-ltb, le-ltb, eqb-true}
-use Rattle.program.specs.Reader.{Result, Result.ok, Result.bad, wrong-end, wrong-byte, then, pair, made, many, guard, Row, Row.row, lookup, between, byte, tested, ranged, counted, opened}
-use Rattle.program.specs.Exact.{Stands, Stands.done, Stands.letter, Told, Told.told, Told.silent, Cut, Cut.same, Cut.stop, Cut.short, At, Exact, Rowed}
-use Rattle.program.specs.StandsLaws.{both, split, stands-none}
+use borrow.Author.Tests.{lt-ltb, le-ltb}
+use Rattle.program.specs.Reader.{Result, Result.ok, Result.bad, wrong-end, then, made, byte}
+use Rattle.program.specs.Exact.{Stands, Stands.done, Stands.letter, Told, Told.told, Told.silent, Cut, Cut.same, Cut.stop, Cut.short, At, Exact}
 
 -- what is said of an answer goes on behind it, gets weaker, and holds of its value
 pub told-then : {A B : Type 0} {P : A → ℕ → Type 0} {Q : B → ℕ → Type 0} {r : Result A} {f : A → ℕ → Result B}
