@@ -3,3 +3,4 @@ pub mod Rules
 pub mod Stops
 pub mod Machine
 pub mod Represents
+pub mod Measure

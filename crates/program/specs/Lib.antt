@@ -1,3 +1,16 @@
 pub mod Tree
 pub mod Encoding
 pub mod Counts
+pub mod Reader
+pub mod Exact
+pub mod StandsLaws
+pub mod PartLaws
+pub mod JoinLaws
+pub mod CodeLaws
+pub mod WordLaws
+pub mod ExprLaws
+pub mod StmtLaws
+pub mod ItemLaws
+pub mod StreamLaws
+pub mod ProgramLaws
+pub mod Rows

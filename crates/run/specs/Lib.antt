@@ -1,0 +1,5 @@
+pub mod Turns
+pub mod Runs
+pub mod Run
+pub mod Visits
+pub mod Begin

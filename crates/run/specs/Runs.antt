@@ -1,0 +1,47 @@
+-- A run as a relation over the published rules alone (01, 'Table and turns', 'Numbers from the state', 'The words of demand 3').
+-- From it the number, the turns taken and the last state are read off.
+use Prim.Native.Nat.{ℕ, suc}
+use mathlib.Core.Path.{_≡_}
+use mathlib.Core.Bool.{Bool}
+use mathlib.Core.List.{List, [], _∷_}
+use Rattle.program.specs.Tree.{Program}
+use Rattle.machine.specs.Published.{Sched, Sched.done, Inst, State, State.state}
+use Rattle.machine.specs.Rules.{Done, Actor.instance, Actor.schedule, Rule}
+use Rattle.machine.specs.Stops.{Full, Exceeded, Nested}
+use Rattle.run.specs.Turns.{holders-of, chosen}
+
+-- 0 is the ended run; 33: commands remain, no turn byte does; 34, 35 and 36 are the conditions of Stops
+abbrev pub ended : ℕ
+ended = 0
+
+abbrev pub out-of-turns : ℕ
+out-of-turns = 33
+
+abbrev pub full : ℕ
+full = 34
+
+abbrev pub exceeded : ℕ
+exceeded = 35
+
+abbrev pub nested : ℕ
+nested = 36
+
+-- the instance that a byte picks in a state: some instance holds commands
+pub data Picks (e l : ℕ) : State → Type 0 where
+  picks : {s : Sched} {σ : List Inst} {b : List Bool} {h : ℕ} {hs : List ℕ} → holders-of σ ≡ h ∷ hs → l ≡ chosen (h ∷ hs) e
+      → Picks e l (state s σ b)
+
+-- no instance holds commands; some instance does
+abbrev pub AllDone : State → Type 0
+AllDone (state s σ b) = Done σ
+
+-- from a state, with these bytes left, a run comes to a number, after so many turns, in a last state
+pub data Runs (p : Program) : State → List ℕ → ℕ → ℕ → State → Type 0 where
+  at-end : {σ : List Inst} {b : List Bool} {es : List ℕ} → Done σ → Runs p (state done σ b) es ended 0 (state done σ b)
+  at-36 : {st : State} {es : List ℕ} → AllDone st → Nested st → Runs p st es nested 0 st
+  moves : {st st′ z : State} {es : List ℕ} {n t : ℕ} → AllDone st → Rule p schedule st st′ → Runs p st′ es n t z → Runs p st es n t z
+  at-33 : {st : State} → (AllDone st → ⊥) → Runs p st [] out-of-turns 0 st
+  at-34 : {st : State} {e l : ℕ} {es : List ℕ} → Picks e l st → Full p l st → Runs p st (e ∷ es) full 0 st
+  at-35 : {st : State} {e l : ℕ} {es : List ℕ} → Picks e l st → Exceeded l st → Runs p st (e ∷ es) exceeded 0 st
+  takes : {st st′ z : State} {e l : ℕ} {es : List ℕ} {n t : ℕ} → Picks e l st → Rule p (instance l) st st′ → Runs p st′ es n t z
+      → Runs p st (e ∷ es) n (suc t) z

@@ -1,0 +1,1 @@
+// The definitions and laws of tables stand in specs/.
