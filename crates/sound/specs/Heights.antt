@@ -13,7 +13,7 @@ use Rattle.commands.specs.Depth.{after, depth}
 use Rattle.commands.specs.Bounds.{greatest, arities, step-depth, program-depth}
 use Rattle.machine.specs.Published.{step-of}
 use Rattle.sound.specs.Tags.{Tags, at-start, next, jump, Way, Way.start, Way.on, Way.over}
-use Rattle.sound.specs.Compiled.{erased}
+use Rattle.commands.specs.NotedLaws.{erased}
 use Rattle.sound.specs.Steps.{found}
 
 -- the height after a command of the list, and how many commands the other way leaves out

@@ -16,7 +16,7 @@ use Rattle.machine.specs.Machine.{result-type, now-written}
 use Rattle.sound.specs.Tags.{Tags, tags, at-start, next, Asks, jump, Safe, Safe.stop, Safe.act}
 use Rattle.sound.specs.Locals.{Declaration, Declaration.itself, Declaration.inside, Declaration-in.first, Declaration-in.later, Locals-right}
 use Rattle.sound.specs.LocalsLaws.{declared-type}
-use Rattle.sound.specs.Compiled.{left-out}
+use Rattle.commands.specs.NotedLaws.{left-out}
 
 -- the first locals are among the second
 abbrev Among : List ℕ → List ℕ → Type 0
