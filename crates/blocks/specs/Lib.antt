@@ -6,3 +6,5 @@ pub mod Blocks
 pub mod BlockLaws
 pub mod BlockRoundTrip
 pub mod Images
+pub mod Faults
+pub mod FaultLaws
