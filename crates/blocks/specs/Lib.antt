@@ -8,3 +8,5 @@ pub mod BlockRoundTrip
 pub mod Images
 pub mod Faults
 pub mod FaultLaws
+pub mod ImageLaws
+pub mod ImageRoundTrip
