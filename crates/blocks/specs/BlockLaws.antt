@@ -7,8 +7,9 @@ use mathlib.Core.Path.{_≡_, refl, ap, sym, _∙_, subst}
 use mathlib.Core.Bool.{Bool, true, false, _&&_}
 use mathlib.Core.List.{List, [], _∷_, _++_, append-assoc}
 use lib.ListN.{length, take, drop, replicate, length-append, length-take, length-drop, length-replicate, getD-replicate, List·getD-eq-default, List·getD-append, take-append-drop, drop-of-length-le}
-use lib.Seq.{slice, getD-take, getD-drop, getD-append-add, take-append-seam, take-at, drop-cons, drop-drop, length-take-le}
+use lib.Seq.{slice, slice-cons, getD-take, getD-drop}
 use lib.Dec.{eqb, leb}
+use borrow.Author.Tests.{ne-eqb}
 use Rattle.blocks.specs.Sums.{byte, sum-a, sum-b, wrap}
 use Rattle.blocks.specs.SumLaws.{sums-front}
 use Rattle.blocks.specs.Blocks.{pair-at, pair, index, used, used-part, unused-part, SumsRight, UsedRight, LaidOut, sums-right, used-right, zeros, laid-out, front, block-of, block-size, payload-size}
@@ -69,3 +70,17 @@ layout-exact k last b =
     decides-as (decides-both _ _ (decides-eqb (index b) k) (decides-both _ _ (used-exact last (used b)) (unused-exact b)))
     (λ p. record { index-right = p .0; used-right = p .1 .0; unused-zero = p .1 .1 })
     (λ r. (r .index-right, (r .used-right, r .unused-zero)))
+
+-- A walk over the bytes up to 507 -------------------------------------------------
+
+pub zeros-more : (b : List ℕ) (i : ℕ) → 508 ≤ length b → i < 508 → byte b i ≡ 0 → zeros (slice i 508 b) ≡ zeros (slice (i + 1) 508 b)
+unfolding zeros
+zeros-more b i full h e = rw (add-one, slice-cons i 508 b 0 h full, e)
+
+pub zeros-stop : (b : List ℕ) (i : ℕ) → 508 ≤ length b → i < 508 → (byte b i ≡ 0 → ⊥) → zeros (slice i 508 b) ≡ false
+unfolding zeros
+zeros-stop b i full h n = rw (slice-cons i 508 b 0 h full, ne-eqb (byte b i) 0 n)
+
+pub zeros-end : (b : List ℕ) (i : ℕ) → 508 ≤ i → zeros (slice i 508 b) ≡ true
+unfolding zeros
+zeros-end b i h = rw (drop-of-length-le (take 508 b) {i = i} (omega (arith, length-take 508 b)))

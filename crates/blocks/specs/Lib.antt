@@ -4,6 +4,7 @@ pub mod Sums
 pub mod SumLaws
 pub mod Blocks
 pub mod BlockLaws
+pub mod BlockWays
 pub mod BlockRoundTrip
 pub mod Images
 pub mod Faults

@@ -1,4 +1,5 @@
 // Images of blocks and their streams (01, 'Blocks').
+mod block;
 
 // What is wrong with an image.
 pub enum Fault {
