@@ -103,7 +103,7 @@ zero-split (suc n) b i h z =
     ∙ ap (λ (t : List ℕ). 0 ∷ t)
         (zero-split n b (suc i) (omega arith) (λ j l m. z j (omega arith) (omega arith)) ∙ ap (λ (m : ℕ). replicate n 0 ++ drop m b) e)
 
-used-most : (last : Bool) (u : ℕ) → UsedRight last u → u ≤ payload-size
+pub used-most : (last : Bool) (u : ℕ) → UsedRight last u → u ≤ payload-size
 used-most true u r = r .1
 used-most false u r = omega arith
 

@@ -73,7 +73,7 @@ image-block s (suc m) k h = go (eqb k m) refl (image-block s m k)
 -- The stream of an image --------------------------------------------------------
 
 -- the first k payloads begin the joined payloads
-joined-starts : (x : List ℕ) (k m : ℕ) → k ≤ m → (r : List ℕ) × (joined x m ≡ joined x k ++ r)
+pub joined-starts : (x : List ℕ) (k m : ℕ) → k ≤ m → (r : List ℕ) × (joined x m ≡ joined x k ++ r)
 unfolding joined
 joined-starts x k zero h = ([], rw (let e : k ≡ 0 = omega arith in e))
 joined-starts x k (suc m) h = go (eqb k (suc m)) refl (joined-starts x k m)
@@ -86,74 +86,75 @@ joined-starts x k (suc m) h = go (eqb k (suc m)) refl (joined-starts x k m)
         let p = used-part (block x m) in
         (t .0 ++ p, ap (λ (l : List ℕ). l ++ p) (t .1) ∙ append-assoc (joined x k) (t .0) p)
 
-module _ (max : ℕ) (x : List ℕ) (long : LengthRight max (length x)) (right : AllRight (count x) x (count x)) where
-  pub count-length : length x ≡ block-size * count x
-  unfolding count
-  count-length = omega (arith, long .whole)
+pub count-length : (max : ℕ) (x : List ℕ) → LengthRight max (length x) → length x ≡ block-size * count x
+count-length max x long = omega (arith, long .whole)
 
-  pub block-full : (k : ℕ) → k < count x → length (block x k) ≡ block-size
-  unfolding block
-  block-full k h = length-take-le block-size (drop (block-size * k) x) (omega (arith, length-drop (block-size * k) x, count-length))
+-- an image of n blocks has whole blocks
+pub block-whole : (n : ℕ) (x : List ℕ) → length x ≡ block-size * n → (k : ℕ) → k < n → length (block x k) ≡ block-size
+unfolding block
+block-whole n x whole k h = length-take-le block-size (drop (block-size * k) x) (omega (arith, length-drop (block-size * k) x))
 
-  used-length : (k : ℕ) → k < count x → length (used-part (block x k)) ≡ used (block x k)
-  used-length k h = part-length k (is-last (count x) k) (block x k) (block-full k h) (right k h .layout)
+-- an image of n right blocks
+module _ (n : ℕ) (x : List ℕ) (whole : length x ≡ block-size * n) (right : AllRight n x n) where
+  pub used-length : (k : ℕ) → k < n → length (used-part (block x k)) ≡ used (block x k)
+  used-length k h = part-length k (is-last n k) (block x k) (block-whole n x whole k h) (right k h .layout)
 
-  used-inner : (k : ℕ) → suc k < count x → used (block x k) ≡ payload-size
+  used-inner : (k : ℕ) → suc k < n → used (block x k) ≡ payload-size
   unfolding is-last
   used-inner k h =
-      let other : eqb (k + 1) (count x) ≡ false = ne-eqb (k + 1) (count x) (omega arith) in
+      let other : eqb (k + 1) n ≡ false = ne-eqb (k + 1) n (omega arith) in
       subst (λ (t : Bool). UsedRight t (used (block x k))) other (right k (omega arith) .layout .used-right)
 
-  pub used-last : (k : ℕ) → suc k ≡ count x → (1 ≤ used (block x k)) × (used (block x k) ≤ payload-size)
+  used-last : (k : ℕ) → suc k ≡ n → (1 ≤ used (block x k)) × (used (block x k) ≤ payload-size)
   unfolding is-last
   used-last k e =
-      let same : eqb (k + 1) (count x) ≡ true = eq-eqb (k + 1) (count x) (omega arith) in
+      let same : eqb (k + 1) n ≡ true = eq-eqb (k + 1) n (omega arith) in
       subst (λ (t : Bool). UsedRight t (used (block x k))) same (right k (omega arith) .layout .used-right)
 
-  pub joined-length : (k : ℕ) → k < count x → length (joined x k) ≡ payload-size * k
+  pub joined-length : (k : ℕ) → k < n → length (joined x k) ≡ payload-size * k
   unfolding joined
   joined-length zero h = refl
   joined-length (suc k) h =
       length-append (joined x k) (used-part (block x k))
       ∙ omega (arith, joined-length k (omega arith), used-length k (omega arith), used-inner k h)
 
-  pub stream-length : (k : ℕ) → suc k ≡ count x → length (stream x) ≡ payload-size * k + used (block x k)
-  unfolding stream joined
+  pub stream-length : (k : ℕ) → suc k ≡ n → length (joined x n) ≡ payload-size * k + used (block x k)
+  unfolding joined
   stream-length k e =
-      ap (λ (n : ℕ). length (joined x n)) (sym e)
+      ap (λ (m : ℕ). length (joined x m)) (sym e)
       ∙ length-append (joined x k) (used-part (block x k))
       ∙ omega (arith, joined-length k (omega arith), used-length k (omega arith))
 
   -- piece k of the stream is what block k uses
-  pub stream-piece : (k : ℕ) → k < count x → piece (stream x) k ≡ used-part (block x k)
-  unfolding piece stream joined
-  stream-piece k h = go (eqb (suc k) (count x)) refl
+  pub stream-piece : (k : ℕ) → k < n → piece (joined x n) k ≡ used-part (block x k)
+  unfolding piece joined
+  stream-piece k h = go (eqb (suc k) n) refl
     where
       j : List ℕ
       j = joined x k
       p : List ℕ
       p = used-part (block x k)
-      at : (r : List ℕ) → joined x (count x) ≡ (j ++ p) ++ r → take payload-size (drop (payload-size * k) (joined x (count x))) ≡ take payload-size (p ++ r)
+      at : (r : List ℕ) → joined x n ≡ (j ++ p) ++ r → take payload-size (drop (payload-size * k) (joined x n)) ≡ take payload-size (p ++ r)
       at r e =
           ap (λ (t : List ℕ). take payload-size (drop (payload-size * k) t)) (e ∙ append-assoc j p r)
           ∙ ap (λ (t : List ℕ). take payload-size t) (drop-at j (p ++ r) (payload-size * k) (joined-length k h))
-      go : (t : Bool) → eqb (suc k) (count x) ≡ t → take payload-size (drop (payload-size * k) (joined x (count x))) ≡ p
+      go : (t : Bool) → eqb (suc k) n ≡ t → take payload-size (drop (payload-size * k) (joined x n)) ≡ p
       go true e =
-          let same = eqb-true (suc k) (count x) e in
+          let same = eqb-true (suc k) n e in
           let u = used-last k same in
           at [] (ap (joined x) (sym same) ∙ sym (append-nil (j ++ p)))
           ∙ ap (λ (t : List ℕ). take payload-size t) (append-nil p)
           ∙ take-all payload-size p (omega (arith, used-length k h))
       go false e =
-          let l : suc k < count x = omega (arith, eqb-false (suc k) (count x) e) in
-          let s = joined-starts x (suc k) (count x) h in
+          let l : suc k < n = omega (arith, eqb-false (suc k) n e) in
+          let s = joined-starts x (suc k) n h in
           at (s .0) (s .1) ∙ take-at p (s .0) payload-size (used-length k h ∙ used-inner k l)
 
   -- and there are as many pieces as blocks
-  pub stream-pieces : pieces (length (stream x)) ≡ count x
+  pub stream-pieces : 1 ≤ n → pieces (length (joined x n)) ≡ n
   unfolding pieces
-  stream-pieces =
-      let k = count x - 1 in
-      let e : suc k ≡ count x = omega (arith, count-length, long .from-one) in
+  stream-pieces some =
+      let k = n - 1 in
+      let e : suc k ≡ n = omega arith in
       let u = used-last k e in
       omega (arith, stream-length k e)

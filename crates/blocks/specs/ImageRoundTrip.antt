@@ -13,7 +13,7 @@ use Rattle.blocks.specs.Sums.{byte}
 use Rattle.blocks.specs.Blocks.{block-size, payload-size, SumsRight, LaidOut, used-part, block-of}
 use Rattle.blocks.specs.BlockRoundTrip.{Bytes, block-part, block-sums, block-layout, right-block}
 use Rattle.blocks.specs.Images.{LengthRight, most, block, count, is-last, fault, joined, stream, piece, pieces, image-of, image}
-use Rattle.blocks.specs.ImageLaws.{piece-length, piece-used, image-length, image-block, count-length, block-full, stream-piece, stream-pieces}
+use Rattle.blocks.specs.ImageLaws.{piece-length, piece-used, image-length, image-block, count-length, block-whole, stream-piece, stream-pieces}
 use Rattle.blocks.specs.Faults.{BlockRight, AllRight, Says}
 use Rattle.blocks.specs.FaultLaws.{fault-says, fault-exact}
 use Rattle.blocks.specs.declared.Found.the-variants.{Right, Wrong}
@@ -28,7 +28,6 @@ module _ (s : List ℕ) (some : 1 ≤ length s) where
   pieces-most n h = omega arith
 
   image-count : count (image s) ≡ pieces (length s)
-  unfolding count
   image-count = omega (arith, image-size)
 
   image-right : AllRight (pieces (length s)) (image s) (pieces (length s))
@@ -87,25 +86,30 @@ module _ (max : ℕ) (x : List ℕ) (small : Bytes x) (accepted : fault max x �
   block-small k = bytes-take block-size (drop (block-size * k) x) (λ i. rw getD-drop (small (block-size * k + i)))
 
   image-grows : (k : ℕ) → k ≤ count x → image-of (stream x) k ≡ take (block-size * k) x
-  unfolding image-of block
+  unfolding image-of block stream
   image-grows zero h = refl
   image-grows (suc k) h =
-      let l = says .0 in
+      let n = count x in
+      let whole = count-length max x (says .0) in
       let r = says .1 in
       let b = block x k in
       let e : block-size * suc k ≡ block-size * k + block-size = omega arith in
       let same : block-of k (piece (stream x) k) ≡ b =
-          ap (block-of k) (stream-piece max x l r k h)
-          ∙ sym (right-block k (is-last (count x) k) b (block-full max x l r k h) (r k h .layout) (block-small k) (r k h .sums)) in
+          ap (block-of k) (stream-piece n x whole r k h)
+          ∙ sym (right-block k (is-last n k) b (block-whole n x whole k h) (r k h .layout) (block-small k) (r k h .sums)) in
       ap₂ _++_ (image-grows k (omega arith)) same
       ∙ sym (take-add (block-size * k) block-size x)
-      ∙ ap (λ (n : ℕ). take n x) (sym e)
+      ∙ ap (λ (m : ℕ). take m x) (sym e)
 
   pub stream-image : image (stream x) ≡ x
-  unfolding image
+  unfolding image stream
   stream-image =
-      let l = says .0 in
-      let r = says .1 in
-      ap (image-of (stream x)) (stream-pieces max x l r)
-      ∙ image-grows (count x) (omega arith)
-      ∙ take-all (block-size * count x) x (omega (arith, count-length max x l r))
+      let n = count x in
+      let whole = count-length max x (says .0) in
+      ap (image-of (stream x)) (stream-pieces n x whole (says .1) (omega (arith, says .0 .from-one)))
+      ∙ image-grows n (omega arith)
+      ∙ take-all (block-size * n) x (omega arith)
+
+-- so one accepted image belongs to a stream
+pub one-image : (max : ℕ) (x y : List ℕ) → Bytes x → Bytes y → fault max x ≡ Right → fault max y ≡ Right → stream x ≡ stream y → x ≡ y
+one-image max x y bx by ax ay e = sym (stream-image max x bx ax) ∙ ap image e ∙ stream-image max y by ay

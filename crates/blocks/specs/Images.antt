@@ -18,7 +18,7 @@ use Rattle.blocks.specs.declared.Written.{Written}
 use Rattle.blocks.specs.declared.Written.the-variants.{Blocks, Length as Wrong-length, Short as Short-output}
 
 -- how many blocks an image may have where max are allowed: an index has two bytes, so 65,536 at most
-unfoldable pub most : ℕ → ℕ
+abbrev pub most : ℕ → ℕ
 most max = min max wrap
 
 -- a length of an image: a multiple of 512 from 512 to 512 × most
@@ -36,7 +36,7 @@ length-right max n = eqb (n % block-size) 0 && (leb block-size n && leb n (block
 unfoldable pub block : List ℕ → ℕ → List ℕ
 block x k = take block-size (drop (block-size * k) x)
 
-unfoldable pub count : List ℕ → ℕ
+abbrev pub count : List ℕ → ℕ
 count x = length x / block-size
 
 -- whether block k is the last of n
@@ -111,12 +111,12 @@ written-into Short-output s out = out
 
 -- 01's numbers of a program image's faults, and of a table image's -------------------
 
-unfoldable pub program-number : Fault → ℕ
+abbrev pub program-number : Fault → ℕ
 program-number Length = 1
 program-number Sum = 2
 program-number Layout = 3
 
-unfoldable pub table-number : Fault → ℕ
+abbrev pub table-number : Fault → ℕ
 table-number Length = 9
 table-number Sum = 10
 table-number Layout = 10

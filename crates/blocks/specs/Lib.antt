@@ -10,4 +10,5 @@ pub mod Images
 pub mod Faults
 pub mod FaultLaws
 pub mod ImageLaws
+pub mod ImageWays
 pub mod ImageRoundTrip

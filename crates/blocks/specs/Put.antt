@@ -5,8 +5,8 @@ use native.Mathlib.Nat.{zero-add}
 use native.Mathlib.Numerals.{add-one}
 use mathlib.Core.Path.{_≡_, refl, ap, sym, _∙_}
 use mathlib.Core.List.{List, [], _∷_, _++_, append-assoc}
-use lib.ListN.{length, take, drop, set, length-append, length-drop, take-append-drop}
-use lib.Seq.{length-take-le, take-at, drop-append-add, drop-drop, set-split}
+use lib.ListN.{length, take, drop, set, getD, length-append, length-drop, take-append-drop}
+use lib.Seq.{length-take-le, take-at, take-suc, drop-append-add, drop-drop, set-split}
 
 -- d with xs in the place of its elements from `at` on
 unfoldable pub put : List ℕ → ℕ → List ℕ → List ℕ
@@ -54,3 +54,12 @@ module _ (d : List ℕ) (at : ℕ) (xs : List ℕ) where
   put-set x h =
       let fits : at + length xs ≤ length d = omega arith in
       put-one (put d at xs) (at + length xs) x (rw length-put (omega arith)) ∙ put-put (x ∷ []) (omega arith)
+
+-- a turn of a loop that copies s
+pub put-turn : (d : List ℕ) (at : ℕ) (s : List ℕ) (i : ℕ) → at + length s ≤ length d → i < length s
+    → set (put d at (take i s)) (at + i) (getD s i 0) ≡ put d at (take (i + 1) s)
+put-turn d at s i fits h =
+    let e : length (take i s) ≡ i = length-take-le i s (omega arith) in
+    ap (λ (n : ℕ). set (put d at (take i s)) (at + n) (getD s i 0)) (sym e)
+    ∙ put-set d at (take i s) (getD s i 0) (omega arith)
+    ∙ rw (add-one, take-suc s i 0 h)
