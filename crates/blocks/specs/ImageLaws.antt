@@ -19,12 +19,12 @@ pub piece-length : (s : List ℕ) (k : ℕ) → length (piece s k) ≡ min paylo
 unfolding piece
 piece-length s k = simp (length-take, length-drop)
 
-piece-fits : (s : List ℕ) (k : ℕ) → length (piece s k) ≤ payload-size
+pub piece-fits : (s : List ℕ) (k : ℕ) → length (piece s k) ≤ payload-size
 piece-fits s k = omega (arith, piece-length s k)
 
 -- the last piece has 1 to 504 bytes, and the others 504
 pub piece-used : (s : List ℕ) (k : ℕ) → k < pieces (length s) → UsedRight (is-last (pieces (length s)) k) (length (piece s k))
-unfolding pieces is-last
+unfolding is-last
 piece-used s k h = go (eqb (k + 1) n) refl
   where
     n : ℕ
@@ -152,7 +152,6 @@ module _ (n : ℕ) (x : List ℕ) (whole : length x ≡ block-size * n) (right :
 
   -- and there are as many pieces as blocks
   pub stream-pieces : 1 ≤ n → pieces (length (joined x n)) ≡ n
-  unfolding pieces
   stream-pieces some =
       let k = n - 1 in
       let e : suc k ≡ n = omega arith in

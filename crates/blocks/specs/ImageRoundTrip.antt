@@ -24,7 +24,6 @@ module _ (s : List ℕ) (some : 1 ≤ length s) where
   image-size = image-length s (pieces (length s))
 
   pub pieces-most : (n : ℕ) → length s ≤ payload-size * n → (1 ≤ pieces (length s)) × (pieces (length s) ≤ n)
-  unfolding pieces
   pieces-most n h = omega arith
 
   image-count : count (image s) ≡ pieces (length s)
@@ -61,7 +60,7 @@ module _ (s : List ℕ) (some : 1 ≤ length s) where
 
   -- and its stream is the stream
   pub image-stream : stream (image s) ≡ s
-  unfolding stream pieces
+  unfolding stream
   image-stream =
       let n = pieces (length s) in
       let enough : length s ≤ payload-size * n = omega arith in

@@ -10,7 +10,7 @@ use lib.ListN.{length, take, drop, length-append}
 use lib.Seq.{getD-take, getD-drop}
 use lib.Dec.{eqb, leb}
 use borrow.Author.Tests.{eq-eqb, ne-eqb, le-leb, lt-leb, lt-ltb, le-ltb}
-use Rattle.blocks.specs.Put.{put, put-put, put-front}
+use Rattle.blocks.specs.Put.{put, put-next, put-front}
 use Rattle.blocks.specs.Sums.{byte}
 use Rattle.blocks.specs.Blocks.{block-size, payload-size, pair-at, used, used-part, block-fault}
 use Rattle.blocks.specs.Images.{LengthRight, length-right, most, block, count, is-last, first-fault, fault, joined, stream, read, read-of, read-into}
@@ -110,9 +110,9 @@ module _ (n : ℕ) (x : List ℕ) (whole : length x ≡ block-size * n) (right :
       → b′ ≡ put b (payload-size * k) p → b′ ≡ put d 0 (joined x (k + 1))
   unfolding joined
   join-turn d b b′ p fits eb ep e =
-      let j = joined x k in
-      let at : payload-size * k ≡ 0 + length j = omega (arith, joined-length n x whole right k h) in
-      e ∙ rw (eb, ep, at, add-one) (put-put d 0 j (used-part (block x k)) (omega (arith, joined-fits)))
+      rw add-one
+      (put-next d 0 (joined x k) (used-part (block x k)) (payload-size * k) b b′
+      (omega (arith, joined-length n x whole right k h)) (omega (arith, joined-fits)) eb (rw (← ep) e))
 
   pub used-fits : (u : ℕ) → u ≡ pair-at (take (512 * k + 512 - 512 * k) (drop (512 * k) x)) 2 → u ≤ payload-size
   unfolding used

@@ -80,7 +80,7 @@ read-into Short-buffer s buffer = buffer
 unfoldable pub piece : List ℕ → ℕ → List ℕ
 piece s k = take payload-size (drop (payload-size * k) s)
 
-unfoldable pub pieces : ℕ → ℕ
+abbrev pub pieces : ℕ → ℕ
 pieces n = (n + 503) / payload-size
 
 -- the first k blocks that hold a stream; all of them are its image

@@ -11,4 +11,5 @@ pub mod Faults
 pub mod FaultLaws
 pub mod ImageLaws
 pub mod ImageWays
+pub mod WriteWays
 pub mod ImageRoundTrip

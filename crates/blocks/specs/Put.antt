@@ -63,3 +63,8 @@ put-turn d at s i fits h =
     ap (λ (n : ℕ). set (put d at (take i s)) (at + n) (getD s i 0)) (sym e)
     ∙ put-set d at (take i s) (getD s i 0) (omega arith)
     ∙ rw (add-one, take-suc s i 0 h)
+
+-- two writes by functions, one behind the other
+pub put-next : (d : List ℕ) (at : ℕ) (xs ys : List ℕ) (m : ℕ) (d₁ d₂ : List ℕ) → m ≡ at + length xs → m + length ys ≤ length d
+    → d₁ ≡ put d at xs → d₂ ≡ put d₁ m ys → d₂ ≡ put d at (xs ++ ys)
+put-next d at xs ys m d₁ d₂ em fits e₁ e₂ = e₂ ∙ rw (e₁, em) (put-put d at xs ys (omega arith))

@@ -3,10 +3,11 @@
 mod block;
 mod put;
 mod reading;
+mod writing;
 
 ghost use mathlib.Core.Path.{_≡_};
 ghost use lib.ListN.{length};
-ghost use Rattle.blocks.specs.Images.{fault, stream, read, read-into, program-number, table-number};
+ghost use Rattle.blocks.specs.Images.{fault, stream, read, read-into, write, written-into, program-number, table-number};
 
 // What is wrong with an image.
 pub enum Fault {
@@ -81,4 +82,20 @@ pub fn read_image(image: &[u8], max: usize, buffer: &mut [u8]) -> Read
     }
     reading::join(image, n, buffer);
     Read::Stream(length)
+}
+
+// The image of a stream where max blocks are allowed, in the front of the output.
+pub fn write_image(stream: &[u8], max: usize, out: &mut [u8]) -> Written
+    ensures { λ r. ⌜ (r ≡ write max (length (now (stream .entry))) (length (now (out .entry)))) × (now (out .exit) ≡ written-into r (now (stream .entry)) (now (out .entry))) ⌝ }
+{
+    let length = stream.len();
+    if !writing::stream_right(length, max) {
+        return Written::Length;
+    }
+    let n = (length + 503) / 504;
+    if out.len() < 512 * n {
+        return Written::Short;
+    }
+    writing::put_blocks(stream, n, out);
+    Written::Blocks(n)
 }
