@@ -21,7 +21,7 @@ pub data Beyond {A : Type 0} (N M : ℕ) : Result A → Type 0 where
   refusal-beyond : {p k : ℕ} → N ≤ p → Beyond N M (bad p k)
 
 -- the answers from n on in a stream of N bytes and in a longer one of M: both are alike and lie before the end, or the shorter
--- is refused at its end and the longer goes beyond; a byte may be refused by the one behind it
+-- is refused at its end and the longer goes beyond; what stands behind a byte may refuse that byte, so a refused place from n - 1 on
 pub data Cut {A : Type 0} (n N M : ℕ) : Result A → Result A → Type 0 where
   same : {a : A} {m : ℕ} → n ≤ m → m ≤ N → Cut n N M (ok a m) (ok a m)
   stop : {p : ℕ} → n ≤ suc p → p < N → Cut n N M (bad p wrong-byte) (bad p wrong-byte)

@@ -2,15 +2,14 @@
 use Prim.Native.Nat.{ℕ, zero, suc, _+_, _<_, _≤_}
 use native.Mathlib.Omega.{arith}
 use mathlib.Core.Path.{_≡_, refl, ap, _∙_}
-use mathlib.Core.List.{List, [], _∷_, _++_}
+use mathlib.Core.List.{List, _∷_}
 use lib.ListN.{length, getD}
 use Rattle.program.specs.Tree.{Op, Op.op-eq, Op.op-ne, Op.op-le, Op.op-ge, Op.op-lt, Op.op-gt, Op.op-mul, Op.op-div, Op.op-rem, Op.op-add, Op.op-sub, Op.op-and, Op.op-or, Expr, Expr.inv, Expr.make, Expr.path, Expr.int-lit, Expr.nat-lit, Expr.bool-lit, Expr.null, Expr.self, Expr.op, Exprs, Exprs.none, Exprs.more, args}
 use Rattle.program.specs.Encoding.{op-code, enc-expr, enc-exprs}
 use Rattle.program.specs.Counts.{height, heights, CountsExpr, CountsExprs}
 use Rattle.program.specs.Reader.{Result, lookup, Form, Form.form-inv, Form.form-make, Form.form-path, Form.form-int, Form.form-nat, Form.form-bool, Form.form-null, Form.form-self, Form.form-op, Form.form-none, forms, form, bool-end, word-bytes, read-make, rule-expr, read-expr}
-use Rattle.program.specs.Exact.{Stands, Stands.done, Stands.letter, Told, Told.told, Told.silent, Cut, Cut.same, Cut.stop, At, Exact, Formed, Rowed}
-use Rattle.program.specs.StandsLaws.{both}
-use Rattle.program.specs.PartLaws.{told-then, told-made, made-ok, told-byte, cuts-byte, cuts-ok}
+use Rattle.program.specs.Exact.{Stands, Stands.done, Stands.letter, Told.told, Told.silent, Cut.stop, Exact, Formed, Rowed}
+use Rattle.program.specs.PartLaws.{made-ok, told-byte, cuts-byte, cuts-ok}
 use Rattle.program.specs.JoinLaws.{pair-exact, row-exact, behind, formed, no-form, lookup-is, Reads, opened-exact}
 use Rattle.program.specs.WordLaws.{below-exact, word-exact, type-exact, path-exact}
 

@@ -2,7 +2,7 @@
 use Prim.Native.Nat.{ℕ, zero, suc, _+_, _≤_}
 use native.Mathlib.Omega.{arith}
 use mathlib.Core.Path.{_≡_, refl, ap}
-use mathlib.Core.List.{List, [], _∷_, _++_}
+use mathlib.Core.List.{List, [], _∷_}
 use lib.ListN.{length}
 use Rattle.types.specs.Limits.{step-names, max-items, fix-levels}
 use Rattle.program.specs.Tree.{Item, Item.call, Item.call-in, Item.fix, Items, Items.stop, Items.item, items}
@@ -10,7 +10,6 @@ use Rattle.program.specs.Encoding.{enc-item, enc-items}
 use Rattle.program.specs.Counts.{fixes, fixes-in, CountsItem, CountsItems, CountsSchedule}
 use Rattle.program.specs.Reader.{Result, ranged, opened, pair, lookup, Sort, Sort.sort-call, Sort.sort-call-in, Sort.sort-fix, Sort.sort-none, sorts, sort, read-items, rule-item, read-item}
 use Rattle.program.specs.Exact.{Stands, Stands.letter, Exact, Behind, Formed, Rowed}
-use Rattle.program.specs.StandsLaws.{both}
 use Rattle.program.specs.PartLaws.{made-ok}
 use Rattle.program.specs.JoinLaws.{exact-iff, pair-exact, row-exact, behind, shut, formed, no-form, counted-exact, lookup-is, Reads, opened-exact}
 use Rattle.program.specs.WordLaws.{below-exact}

@@ -9,7 +9,7 @@ use Rattle.types.specs.Types.{code, IsType}
 use Rattle.program.specs.Tree.{Program}
 use Rattle.program.specs.Encoding.{enc-list, enc-program}
 use Rattle.program.specs.Counts.{Few, Counts}
-use Rattle.program.specs.Reader.{Result.ok, Result.bad, wrong-end, wrong-byte, whole, read-params, read-program, read}
+use Rattle.program.specs.Reader.{Result.ok, Result.bad, wrong-end, wrong-byte, read-params, read-program, read}
 use Rattle.program.specs.Exact.{Exact, Refused}
 use Rattle.program.specs.JoinLaws.{made-exact, pair-exact, row-exact, flat-row, list-exact}
 use Rattle.program.specs.WordLaws.{type-exact}

@@ -2,7 +2,7 @@
 use Prim.Native.Nat.{ℕ, zero, suc, _+_, _≤_}
 use native.Mathlib.Omega.{arith}
 use mathlib.Core.Path.{_≡_, refl, ap}
-use mathlib.Core.List.{List, [], _∷_, _++_}
+use mathlib.Core.List.{List, _∷_, _++_}
 use lib.ListN.{length}
 use Rattle.types.specs.Limits.{step-names, max-steps, max-statements, if-levels, expr-levels, first-local}
 use Rattle.types.specs.Types.{code}
@@ -11,7 +11,6 @@ use Rattle.program.specs.Encoding.{enc-path, enc-expr, enc-exprs, enc-st
 use Rattle.program.specs.Counts.{nest, nests, CountsStmt, CountsStmts, CountsStep, Few}
 use Rattle.program.specs.Reader.{Result, lookup, Kind, Kind.kind-when, Kind.kind-declare, Kind.kind-update, Kind.kind-create, Kind.kind-none, kinds, kind, opened, read-make, read-expr, read-body, read-when, read-declare, read-update, rule-stmt, read-stmt, read-step, read-steps}
 use Rattle.program.specs.Exact.{Stands, Stands.letter, Exact, Behind, Formed, Rowed}
-use Rattle.program.specs.StandsLaws.{both}
 use Rattle.program.specs.PartLaws.{made-ok}
 use Rattle.program.specs.JoinLaws.{exact-iff, made-exact, pair-exact, row-exact, behind, shut, formed, no-form, counted-exact, lookup-is, Reads, opened-exact, list-exact}
 use Rattle.program.specs.WordLaws.{below-exact, type-exact, local-exact, path-exact}

@@ -103,7 +103,7 @@ module _ {A : Type 0} {C : A → Type 0} {E : A → List ℕ} {r : List ℕ → 
       go q u h (stop {p = o} i l) e = let n : o ≡ p = cc in let v : wrong-byte ≡ k = cc in rw (← v) (not-allowed {p = p} (omega arith))
       go q u h (short b) e = let n : length s ≡ p = cc in let v : wrong-end ≡ k = cc in rw (← n, ← v) ends-early
 
-  -- 5 is the number exactly where the reader itself refuses with it
+  -- a whole stream is refused with 5 only where the reader itself refuses
   refuses : (s : List ℕ) (p : ℕ) → whole r s ≡ bad p wrong-byte → r s 0 ≡ bad p wrong-byte
   unfolding whole then
   refuses s p e = go (r s 0) e
@@ -124,11 +124,14 @@ module _ {A : Type 0} {C : A → Type 0} {E : A → List ℕ} {r : List ℕ → 
       go : (u : Result A) → Cut 0 (length s) (length (s ++ t)) (bad p wrong-byte) u → then u (ended (s ++ t)) ≡ bad p wrong-byte
       go u (stop h i) = refl
 
-  -- where a byte is not allowed the stream before it is only too short, and the stream up to it is refused alike: it is the first
+  -- a byte that is not allowed is the first one: the stream before it is only too short, and what stands behind it does not matter
   pub first : (s t : List ℕ) (b : ℕ) → whole r (s ++ b ∷ t) ≡ bad (length s) wrong-byte
       → (whole r s ≡ bad (length s) wrong-end) × (whole r (s ++ b ∷ []) ≡ bad (length s) wrong-byte)
   unfolding whole then
-  first s t b e = (before (r s 0) (rw (refuses _ _ e) at (cut-0 s (b ∷ t))), at-byte (r up 0) (rw (append-assoc s (b ∷ []) t, refuses _ _ e) at (cut-0 up t)))
+  first s t b e = (
+    before (r s 0) (rw (refuses _ _ e) at (cut-0 s (b ∷ t))),
+    at-byte (r up 0) (rw (append-assoc s (b ∷ []) t, refuses _ _ e) at (cut-0 up t)),
+  )
     where
       up : List ℕ
       up = s ++ b ∷ []
