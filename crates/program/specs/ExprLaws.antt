@@ -1,17 +1,16 @@
 -- Expressions are read exactly (01, 'Program stream'), at every number of levels.
 use Prim.Native.Nat.{ℕ, zero, suc, _+_, _<_, _≤_}
 use native.Mathlib.Omega.{arith}
-use mathlib.Core.Path.{_≡_, refl, ap}
-use mathlib.Core.List.{List, [], _∷_, _++_}
+use mathlib.Core.Path.{_≡_, refl, ap, _∙_}
+use mathlib.Core.List.{List, _∷_}
 use lib.ListN.{length, getD}
 use Rattle.program.specs.Tree.{Op, Op.op-eq, Op.op-ne, Op.op-le, Op.op-ge, Op.op-lt, Op.op-gt, Op.op-mul, Op.op-div, Op.op-rem, Op.op-add, Op.op-sub, Op.op-and, Op.op-or, Expr, Expr.inv, Expr.make, Expr.path, Expr.int-lit, Expr.nat-lit, Expr.bool-lit, Expr.null, Expr.self, Expr.op, Exprs, Exprs.none, Exprs.more, args}
 use Rattle.program.specs.Encoding.{op-code, enc-expr, enc-exprs}
 use Rattle.program.specs.Counts.{height, heights, CountsExpr, CountsExprs}
 use Rattle.program.specs.Reader.{Result, lookup, Form, Form.form-inv, Form.form-make, Form.form-path, Form.form-int, Form.form-nat, Form.form-bool, Form.form-null, Form.form-self, Form.form-op, Form.form-none, forms, form, bool-end, word-bytes, read-make, rule-expr, read-expr}
-use Rattle.program.specs.Exact.{Stands, Stands.done, Stands.letter, Told, Told.told, Told.silent, Cut, Cut.same, Cut.stop, At, Exact, Rowed}
-use Rattle.program.specs.StandsLaws.{both}
-use Rattle.program.specs.PartLaws.{told-then, told-made, made-ok, cut-then, cut-made, byte-exact}
-use Rattle.program.specs.JoinLaws.{pair-exact, row-exact, lookup-is, Reads, opened-exact}
+use Rattle.program.specs.Exact.{Stands, Stands.done, Stands.letter, Told.told, Told.silent, Cut.stop, Exact, Formed, Rowed}
+use Rattle.program.specs.PartLaws.{made-ok, told-byte, cuts-byte, cuts-ok}
+use Rattle.program.specs.JoinLaws.{pair-exact, row-exact, behind, formed, no-form, lookup-is, Reads, opened-exact}
 use Rattle.program.specs.WordLaws.{below-exact, word-exact, type-exact, path-exact}
 
 -- the bytes that open a form
@@ -98,23 +97,24 @@ module _ (ar : List ℕ) where
     unfolding read-make
     make-exact = pair-exact (below-exact (length ar)) λ k. row-exact x (exprs-row d) (getD ar k 0)
 
-    -- what is read behind the byte of a form, what is read of a tree, and what is read in a shorter stream
-    sound-rule : (s : List ℕ) (n b k : ℕ) → Stands s n (b ∷ []) k → (f : Form) → Opens b f
-        → Told (At (InExpr (suc d)) enc-expr s n) (rule-expr ar s (r s) n k f)
+    -- each form, behind a byte that opens it
+    form-laws : (f : Form) → Formed (InExpr (suc d)) enc-expr (λ b. Opens b f) (λ s n. rule-expr ar s (r s) n (n + 1) f)
     unfolding rule-expr CountsExpr height enc-expr
-    sound-rule s n b k p form-inv o = told-made _ (x .sound s k) λ e m q. ((q .0 .0, omega arith), rw o at (both p (q .1)))
-    sound-rule s n b k p form-make o =
-        told-made _ (make-exact .sound s k) λ a m q. (((q .0 .0, q .0 .1 .0, q .0 .1 .1), omega arith), rw o at (both p (q .1)))
-    sound-rule s n b k p form-path o = told-made _ (path-exact .sound s k) λ a m q. ((q .0, omega arith), rw o at (both p (q .1)))
-    sound-rule s n b k p form-int o = told-made _ (word-exact word-bytes .sound s k) λ a m q. ((q .0, omega arith), rw o at (both p (q .1)))
-    sound-rule s n b k p form-nat o = told-made _ (word-exact word-bytes .sound s k) λ a m q. ((q .0, omega arith), rw o at (both p (q .1)))
-    sound-rule s n b k p form-bool o = told-made _ (below-exact bool-end .sound s k) λ a m q. ((q .0, omega arith), rw o at (both p (q .1)))
-    sound-rule s n b k p form-null o = told-made _ (type-exact (length ar) .sound s k) λ a m q. ((q .0, omega arith), rw o at (both p (q .1)))
-    sound-rule s n b k p form-self o = told {a = self} ((tt, omega arith), rw o at p)
-    sound-rule s n b k p (form-op c) o =
-        told-made _ (pair-exact x (λ e. x) .sound s k) λ a m q. (((q .0 .0 .0, q .0 .1 .0), omega arith), rw o at (both p (q .1)))
-    sound-rule s n b k p form-none o = silent
+    form-laws form-inv = formed (behind x) _ (λ e h. (h .0, omega arith)) λ b e o. rw o
+    form-laws form-make = formed (behind make-exact) _ (λ p h. ((h .0, h .1 .0, h .1 .1), omega arith)) λ b p o. rw o
+    form-laws form-path = formed (behind path-exact) _ (λ p h. (h, omega arith)) λ b p o. rw o
+    form-laws form-int = formed (behind (word-exact word-bytes)) _ (λ v h. (h, omega arith)) λ b v o. rw o
+    form-laws form-nat = formed (behind (word-exact word-bytes)) _ (λ v h. (h, omega arith)) λ b v o. rw o
+    form-laws form-bool = formed (behind (below-exact bool-end)) _ (λ v h. (h, omega arith)) λ b v o. rw o
+    form-laws form-null = formed (behind (type-exact (length ar))) _ (λ t h. (h, omega arith)) λ b t o. rw o
+    form-laws form-self = record {
+      sound = λ s n b l e o. told {a = self} ((tt, omega arith), letter l (e ∙ o) done);
+      cut = λ s t n l. cuts-ok self s t (n + 1) (omega arith);
+    }
+    form-laws (form-op c) = formed (behind (pair-exact x λ e. x)) _ (λ p h. ((h .0 .0, h .1 .0), omega arith)) λ b p o. rw o
+    form-laws form-none = no-form
 
+    -- each tree, at the byte that opens it
     complete-rule : (s : List ℕ) (e : Expr) (n m : ℕ) → InExpr (suc d) e → Stands s n (enc-expr e) m
         → Reads s (λ b. rule-expr ar s (r s) n (n + 1) (form b)) e n m
     unfolding rule-expr CountsExpr height enc-expr form lookup
@@ -131,28 +131,12 @@ module _ (ar : List ℕ) where
         let e = pair-exact x (λ e. x) .complete s (a, b) _ m ((c .0 .0, omega arith), (c .0 .1, omega arith)) w in
         (op-code o, h, q, rw (form-code o) (made-ok _ e))
 
-    cut-rule : (s t : List ℕ) (n k : ℕ) → k ≤ length s → (f : Form)
-        → Cut (length s) (rule-expr ar s (r s) n k f) (rule-expr ar (s ++ t) (r (s ++ t)) n k f)
-    unfolding rule-expr
-    cut-rule s t n k l form-inv = cut-made _ (x .cut s t k l)
-    cut-rule s t n k l form-make = cut-made _ (make-exact .cut s t k l)
-    cut-rule s t n k l form-path = cut-made _ (path-exact .cut s t k l)
-    cut-rule s t n k l form-int = cut-made _ (word-exact word-bytes .cut s t k l)
-    cut-rule s t n k l form-nat = cut-made _ (word-exact word-bytes .cut s t k l)
-    cut-rule s t n k l form-bool = cut-made _ (below-exact bool-end .cut s t k l)
-    cut-rule s t n k l form-null = cut-made _ (type-exact (length ar) .cut s t k l)
-    cut-rule s t n k l form-self = same l
-    cut-rule s t n k l (form-op c) = cut-made _ (pair-exact x (λ e. x) .cut s t k l)
-    cut-rule s t n k l form-none = stop
-
   -- an expression of at most d levels
   pub expr-exact : (d : ℕ) → Exact (InExpr d) enc-expr (λ s. read-expr ar s d)
   unfolding read-expr
   expr-exact zero = record {
-    sound = λ s n. told-then (byte-exact .sound s n) λ b k p. silent;
+    sound = λ s n. told-byte _ s n λ b l e. silent;
     complete = λ s e n m c w. absurd (omega (arith, height-pos e));
-    cut = λ s t n l. cut-then (byte-exact .cut s t n l) λ b k l. stop;
+    cut = cuts-byte _ λ b s t n l. stop {p = n} (omega arith) l;
   }
-  expr-exact (suc d) =
-      let x = expr-exact d in
-      opened-exact Opens opens (sound-rule d _ x) (complete-rule d _ x) (cut-rule d _ x)
+  expr-exact (suc d) = let x = expr-exact d in opened-exact _ Opens opens (form-laws d _ x) (complete-rule d _ x)

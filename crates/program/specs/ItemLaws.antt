@@ -2,17 +2,16 @@
 use Prim.Native.Nat.{ℕ, zero, suc, _+_, _≤_}
 use native.Mathlib.Omega.{arith}
 use mathlib.Core.Path.{_≡_, refl, ap}
-use mathlib.Core.List.{List, [], _∷_, _++_}
+use mathlib.Core.List.{List, [], _∷_}
 use lib.ListN.{length}
 use Rattle.types.specs.Limits.{step-names, max-items, fix-levels}
 use Rattle.program.specs.Tree.{Item, Item.call, Item.call-in, Item.fix, Items, Items.stop, Items.item, items}
 use Rattle.program.specs.Encoding.{enc-item, enc-items}
 use Rattle.program.specs.Counts.{fixes, fixes-in, CountsItem, CountsItems, CountsSchedule}
 use Rattle.program.specs.Reader.{Result, ranged, opened, pair, lookup, Sort, Sort.sort-call, Sort.sort-call-in, Sort.sort-fix, Sort.sort-none, sorts, sort, read-items, rule-item, read-item}
-use Rattle.program.specs.Exact.{Stands, Stands.letter, Told, Told.silent, Cut, Cut.stop, At, Exact, Rowed}
-use Rattle.program.specs.StandsLaws.{both}
-use Rattle.program.specs.PartLaws.{told-made, made-ok, cut-made}
-use Rattle.program.specs.JoinLaws.{exact-iff, pair-exact, row-exact, counted-exact, shut-exact, lookup-is, Reads, opened-exact}
+use Rattle.program.specs.Exact.{Stands, Stands.letter, Exact, Behind, Formed, Rowed}
+use Rattle.program.specs.PartLaws.{made-ok}
+use Rattle.program.specs.JoinLaws.{exact-iff, pair-exact, row-exact, behind, shut, formed, no-form, counted-exact, lookup-is, Reads, opened-exact}
 use Rattle.program.specs.WordLaws.{below-exact}
 
 -- the byte that opens an item
@@ -80,41 +79,33 @@ module _ (ar : List ℕ) where
   call-in-exact = pair-exact (below-exact (length ar)) λ c. below-exact step-names
 
   -- where w reads what stands behind the byte of a Fix, with at most d levels in all
-  module _ (d : ℕ) (w : List ℕ → ℕ → ℕ → Result Items) (x : (at : ℕ) → Exact (InFix d) enc-schedule (λ s. w s at)) where
-    -- what is read behind the byte of an item, what is read of a tree, and what is read in a shorter stream
-    sound-rule : (s : List ℕ) (n b k : ℕ) → Stands s n (b ∷ []) k → (f : Sort) → OpensItem b f
-        → Told (At (InItem d) enc-item s n) (rule-item ar s (w s) n k f)
+  module _ (d : ℕ) (w : List ℕ → ℕ → ℕ → Result Items) (x : Behind (InFix d) enc-schedule (λ s n. w s n (n + 1))) where
+    -- each sort, behind the byte that opens it
+    sort-laws : (f : Sort) → Formed (InItem d) enc-item (λ b. OpensItem b f) (λ s n. rule-item ar s (w s) n (n + 1) f)
     unfolding rule-item fixes enc-item
-    sound-rule s n b k p sort-call o = told-made _ (call-exact .sound s k) λ a m q. ((q .0, omega arith), rw o at (both p (q .1)))
-    sound-rule s n b k p sort-call-in o = told-made _ (call-in-exact .sound s k) λ a m q. ((q .0, omega arith), rw o at (both p (q .1)))
-    sound-rule s n b k p sort-fix o = told-made _ (x n .sound s k) λ a m q. (q .0, rw o at (both p (q .1)))
-    sound-rule s n b k p sort-none o = silent
+    sort-laws sort-call = formed (behind call-exact) _ (λ n h. (h, omega arith)) λ b n o. rw o
+    sort-laws sort-call-in = formed (behind call-in-exact) _ (λ p h. (h, omega arith)) λ b p o. rw o
+    sort-laws sort-fix = formed x _ (λ is h. h) λ b is o. rw o
+    sort-laws sort-none = no-form
 
+    -- each tree, at the byte that opens it
     complete-rule : (s : List ℕ) (t : Item) (n m : ℕ) → InItem d t → Stands s n (enc-item t) m
         → Reads s (λ b. rule-item ar s (w s) n (n + 1) (sort b)) t n m
     unfolding rule-item enc-item sort lookup
     complete-rule s (call i) n m c (letter h q v) = (1, h, q, made-ok _ (call-exact .complete s i _ m (c .0) v))
     complete-rule s (call-in k i) n m c (letter h q v) = (2, h, q, made-ok _ (call-in-exact .complete s (k, i) _ m (c .0) v))
-    complete-rule s (fix is) n m c (letter h q v) = (3, h, q, made-ok _ (x n .complete s is _ m c v))
-
-    cut-rule : (s t : List ℕ) (n k : ℕ) → k ≤ length s → (f : Sort)
-        → Cut (length s) (rule-item ar s (w s) n k f) (rule-item ar (s ++ t) (w (s ++ t)) n k f)
-    unfolding rule-item
-    cut-rule s t n k l sort-call = cut-made _ (call-exact .cut s t k l)
-    cut-rule s t n k l sort-call-in = cut-made _ (call-in-exact .cut s t k l)
-    cut-rule s t n k l sort-fix = cut-made _ (x n .cut s t k l)
-    cut-rule s t n k l sort-none = stop
+    complete-rule s (fix is) n m c (letter h q v) = (3, h, q, made-ok _ (x .complete s is n m c v))
 
     item-in : Exact (InItem d) enc-item (λ s. opened s sort (rule-item ar s (w s)))
-    item-in = opened-exact OpensItem opens-item sound-rule complete-rule cut-rule
+    item-in = opened-exact _ OpensItem opens-item sort-laws complete-rule
 
   -- an item with at most d levels of Fix
   pub item-exact : (d : ℕ) → Exact (InItem d) enc-item (λ s. read-item ar s d)
   unfolding read-item CountsItem fixes
-  item-exact zero = item-in 0 _ (λ at. shut-exact at λ is h. omega arith)
+  item-exact zero = item-in 0 _ (shut λ is h. omega arith)
   item-exact (suc d) =
       let x = items-exact d (item-exact d) in
-      item-in (suc d) _ λ at. exact-iff x λ is. (λ h. ((h .0, h .1, h .2), omega arith), λ h. (h .0 .0, h .0 .1, h .0 .2, omega arith))
+      item-in (suc d) _ (behind (exact-iff x λ is. (λ h. ((h .0, h .1, h .2), omega arith), λ h. (h .0 .0, h .0 .1, h .0 .2, omega arith))))
 
   -- the schedule
   pub schedule-exact : Exact (CountsSchedule ar) enc-schedule (λ s. read-items ar s (read-item ar s fix-levels))

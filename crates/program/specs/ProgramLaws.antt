@@ -9,13 +9,13 @@ use Rattle.types.specs.Types.{code, IsType}
 use Rattle.program.specs.Tree.{Program}
 use Rattle.program.specs.Encoding.{enc-list, enc-program}
 use Rattle.program.specs.Counts.{Few, Counts}
-use Rattle.program.specs.Reader.{Result.ok, Result.bad, wrong-end, wrong-byte, whole, read-params, read-program, read}
+use Rattle.program.specs.Reader.{Result.ok, Result.bad, wrong-end, wrong-byte, read-params, read-program, read}
 use Rattle.program.specs.Exact.{Exact, Refused}
 use Rattle.program.specs.JoinLaws.{made-exact, pair-exact, row-exact, flat-row, list-exact}
 use Rattle.program.specs.WordLaws.{type-exact}
 use Rattle.program.specs.StmtLaws.{steps-exact}
 use Rattle.program.specs.ItemLaws.{schedule-exact}
-use Rattle.program.specs.StreamLaws.{exact, injective, trailing, early, final, refused}
+use Rattle.program.specs.StreamLaws.{exact, injective, trailing, early, refused, final, first}
 
 -- for each struct its parameters' types, which may name any struct
 pub params-exact : Exact (λ ts. Few 1 max-structs (Few 0 max-params (IsType (length ts))) ts) (enc-list (enc-list (λ t. code t ∷ []))) read-params
@@ -59,7 +59,13 @@ pub program-final : (s t : List ℕ) (n : ℕ) → read s ≡ bad n wrong-byte �
 unfolding read
 program-final = final program-exact
 
--- what is refused is refused with 5, with 4 at the end of the stream, or with 4 behind a program's bytes
+-- and it is the first place: the stream before it is refused only at its end, with 4
+pub program-first : (s t : List ℕ) (b : ℕ) → read (s ++ b ∷ t) ≡ bad (length s) wrong-byte
+    → (read s ≡ bad (length s) wrong-end) × (read (s ++ b ∷ []) ≡ bad (length s) wrong-byte)
+unfolding read
+program-first = first program-exact
+
+-- what is refused is refused with 5 in the stream, with 4 at its end, or with 4 behind a program's bytes
 pub program-refused : (s : List ℕ) (n k : ℕ) → read s ≡ bad n k → Refused Counts enc-program s n k
 unfolding read
 program-refused = refused program-exact

@@ -2,7 +2,7 @@
 use Prim.Native.Nat.{ℕ, zero, suc, _+_, _≤_}
 use native.Mathlib.Omega.{arith}
 use mathlib.Core.Path.{_≡_, refl, ap}
-use mathlib.Core.List.{List, [], _∷_, _++_}
+use mathlib.Core.List.{List, _∷_, _++_}
 use lib.ListN.{length}
 use Rattle.types.specs.Limits.{step-names, max-steps, max-statements, if-levels, expr-levels, first-local}
 use Rattle.types.specs.Types.{code}
@@ -10,10 +10,9 @@ use Rattle.program.specs.Tree.{Expr, Stmt, Stmt.when, Stmt.declare, Stmt
 use Rattle.program.specs.Encoding.{enc-path, enc-expr, enc-exprs, enc-stmt, enc-stmts, enc-list, enc-step}
 use Rattle.program.specs.Counts.{nest, nests, CountsStmt, CountsStmts, CountsStep, Few}
 use Rattle.program.specs.Reader.{Result, lookup, Kind, Kind.kind-when, Kind.kind-declare, Kind.kind-update, Kind.kind-create, Kind.kind-none, kinds, kind, opened, read-make, read-expr, read-body, read-when, read-declare, read-update, rule-stmt, read-stmt, read-step, read-steps}
-use Rattle.program.specs.Exact.{Stands, Stands.letter, Told, Told.silent, Cut, Cut.stop, At, Exact, Rowed}
-use Rattle.program.specs.StandsLaws.{both}
-use Rattle.program.specs.PartLaws.{told-made, made-ok, cut-made}
-use Rattle.program.specs.JoinLaws.{exact-iff, made-exact, pair-exact, row-exact, counted-exact, shut-exact, lookup-is, Reads, opened-exact, list-exact}
+use Rattle.program.specs.Exact.{Stands, Stands.letter, Exact, Behind, Formed, Rowed}
+use Rattle.program.specs.PartLaws.{made-ok}
+use Rattle.program.specs.JoinLaws.{exact-iff, made-exact, pair-exact, row-exact, behind, shut, formed, no-form, counted-exact, lookup-is, Reads, opened-exact, list-exact}
 use Rattle.program.specs.WordLaws.{below-exact, type-exact, local-exact, path-exact}
 use Rattle.program.specs.ExprLaws.{make-exact, expr-exact}
 
@@ -106,42 +105,33 @@ module _ (ar : List ℕ) where
       λ p. (λ h. (h .0, h .1 .0, h .1 .1, h .1 .2), λ h. (h .0, (h .1, h .2, h .3)))
 
   -- where w reads what stands behind the byte of an if, with at most d levels in all
-  module _ (d : ℕ) (w : List ℕ → ℕ → ℕ → Result (Expr × Stmts)) (x : (at : ℕ) → Exact (InWhen d) enc-when (λ s. w s at)) where
-    -- what is read behind the byte of a statement, what is read of a tree, and what is read in a shorter stream
-    sound-rule : (s : List ℕ) (n b k : ℕ) → Stands s n (b ∷ []) k → (f : Kind) → OpensStmt b f
-        → Told (At (InStmt d) enc-stmt s n) (rule-stmt ar s (w s) n k f)
+  module _ (d : ℕ) (w : List ℕ → ℕ → ℕ → Result (Expr × Stmts)) (x : Behind (InWhen d) enc-when (λ s n. w s n (n + 1))) where
+    -- each kind, behind the byte that opens it
+    kind-laws : (f : Kind) → Formed (InStmt d) enc-stmt (λ b. OpensStmt b f) (λ s n. rule-stmt ar s (w s) n (n + 1) f)
     unfolding rule-stmt nest enc-stmt
-    sound-rule s n b k p kind-when o = told-made _ (x n .sound s k) λ a m q. (q .0, rw o at (both p (q .1)))
-    sound-rule s n b k p kind-declare o = told-made _ (declare-exact .sound s k) λ a m q. ((q .0, omega arith), rw o at (both p (q .1)))
-    sound-rule s n b k p kind-update o = told-made _ (update-exact .sound s k) λ a m q. ((q .0, omega arith), rw o at (both p (q .1)))
-    sound-rule s n b k p kind-create o = told-made _ (create-exact .sound s k) λ a m q. ((q .0, omega arith), rw o at (both p (q .1)))
-    sound-rule s n b k p kind-none o = silent
+    kind-laws kind-when = formed x _ (λ p h. h) λ b p o. rw o
+    kind-laws kind-declare = formed (behind declare-exact) _ (λ p h. (h, omega arith)) λ b p o. rw o
+    kind-laws kind-update = formed (behind update-exact) _ (λ p h. (h, omega arith)) λ b p o. rw o
+    kind-laws kind-create = formed (behind create-exact) _ (λ p h. (h, omega arith)) λ b p o. rw o
+    kind-laws kind-none = no-form
 
+    -- each tree, at the byte that opens it
     complete-rule : (s : List ℕ) (t : Stmt) (n m : ℕ) → InStmt d t → Stands s n (enc-stmt t) m
         → Reads s (λ b. rule-stmt ar s (w s) n (n + 1) (kind b)) t n m
     unfolding rule-stmt enc-stmt kind lookup
-    complete-rule s (when e b) n m c (letter h q v) = (1, h, q, made-ok _ (x n .complete s (e, b) _ m c v))
+    complete-rule s (when e b) n m c (letter h q v) = (1, h, q, made-ok _ (x .complete s (e, b) n m c v))
     complete-rule s (declare t y e) n m c (letter h q v) = (2, h, q, made-ok _ (declare-exact .complete s (t, (y, e)) _ m (c .0) v))
     complete-rule s (update y ys e) n m c (letter h q v) = (3, h, q, made-ok _ (update-exact .complete s ((y, ys), e) _ m (c .0) v))
     complete-rule s (create k es) n m c (letter h q v) = (4, h, q, made-ok _ (create-exact .complete s (k, es) _ m (c .0) v))
 
-    cut-rule : (s t : List ℕ) (n k : ℕ) → k ≤ length s → (f : Kind)
-        → Cut (length s) (rule-stmt ar s (w s) n k f) (rule-stmt ar (s ++ t) (w (s ++ t)) n k f)
-    unfolding rule-stmt
-    cut-rule s t n k l kind-when = cut-made _ (x n .cut s t k l)
-    cut-rule s t n k l kind-declare = cut-made _ (declare-exact .cut s t k l)
-    cut-rule s t n k l kind-update = cut-made _ (update-exact .cut s t k l)
-    cut-rule s t n k l kind-create = cut-made _ (create-exact .cut s t k l)
-    cut-rule s t n k l kind-none = stop
-
     stmt-in : Exact (InStmt d) enc-stmt (λ s. opened s kind (rule-stmt ar s (w s)))
-    stmt-in = opened-exact OpensStmt opens-stmt sound-rule complete-rule cut-rule
+    stmt-in = opened-exact _ OpensStmt opens-stmt kind-laws complete-rule
 
   -- a statement with at most d levels of if
   pub stmt-exact : (d : ℕ) → Exact (InStmt d) enc-stmt (λ s. read-stmt ar s d)
   unfolding read-stmt nest
-  stmt-exact zero = stmt-in 0 _ (λ at. shut-exact at λ p h. omega arith)
-  stmt-exact (suc d) = let x = when-exact d (stmt-exact d) in stmt-in (suc d) _ (λ at. x)
+  stmt-exact zero = stmt-in 0 _ (shut λ p h. omega arith)
+  stmt-exact (suc d) = let x = when-exact d (stmt-exact d) in stmt-in (suc d) _ (behind x)
 
   -- a step's name and statements
   pub step-exact : Exact (CountsStep ar) enc-step (read-step ar)

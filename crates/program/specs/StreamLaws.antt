@@ -4,12 +4,12 @@ use native.Mathlib.Omega.{arith}
 use native.Mathlib.Decide.{decLt}
 use mathlib.Core.Path.{_≡_, refl, sym, ap, _∙_}
 use mathlib.Core.Logic.{_↔_}
-use mathlib.Core.List.{List, [], _∷_, _++_}
+use mathlib.Core.List.{List, [], _∷_, _++_, append-assoc}
 use lib.ListN.{length, getD, take, drop, length-append, take-append-drop}
 use lib.Seq.{drop-append-seam, drop-cons}
 use borrow.Author.Tests.{lt-ltb, le-ltb}
 use Rattle.program.specs.Reader.{Result, Result.ok, Result.bad, wrong-end, wrong-byte, then, ended, whole}
-use Rattle.program.specs.Exact.{Stands, Told, Told.told, Told.silent, Cut, Cut.same, Cut.stop, Cut.short, Exact, Refused, Refused.not-allowed, Refused.ends-early, Refused.goes-on}
+use Rattle.program.specs.Exact.{Stands, Told, Told.told, Told.silent, Beyond.refusal-beyond, Cut, Cut.same, Cut.stop, Cut.short, Exact, Refused, Refused.not-allowed, Refused.ends-early, Refused.goes-on}
 use Rattle.program.specs.StandsLaws.{stands-drop, stands-length, stands-in, stands-of, stands-front, stands-self, stands-whole}
 use Rattle.program.specs.PartLaws.{told-then, told-is, then-ok}
 
@@ -69,33 +69,23 @@ module _ {A : Type 0} {C : A → Type 0} {E : A → List ℕ} {r : List ℕ → 
       let s = E a ++ b ∷ bs in
       then-ok _ (x .complete s a 0 _ c (stands-front (E a) (b ∷ bs))) (ended-out s a _ (simp length-append (omega arith)))
 
+  -- how a stream and a longer one are read
+  cut-0 : (s t : List ℕ) → Cut 0 (length s) (length (s ++ t)) (r s 0) (r (s ++ t) 0)
+  cut-0 s t = x .cut s t 0 (omega arith)
+
   -- a stream that ends early is refused at its end with 4
   pub early : (pre : List ℕ) (b : ℕ) (bs : List ℕ) (a : A) → C a → E a ≡ pre ++ b ∷ bs → whole r pre ≡ bad (length pre) wrong-end
   unfolding whole then
-  early pre b bs a c e = go (r pre 0) (rw (← e, x .complete (E a) a 0 _ c (stands-self (E a))) at (x .cut pre (b ∷ bs) 0 (omega arith)))
+  early pre b bs a c e = go (r pre 0) (rw (← e, x .complete (E a) a 0 _ c (stands-self (E a))) at (cut-0 pre (b ∷ bs)))
     where
-      go : (q : Result A) → Cut (length pre) q (ok a (length (E a))) → then q (ended pre) ≡ bad (length pre) wrong-end
-      go q short = refl
-      go q (same l) = absurd (omega (arith, simp length-append at (ap length e)))
+      go : (q : Result A) → Cut 0 (length pre) (length (E a)) q (ok a (length (E a))) → then q (ended pre) ≡ bad (length pre) wrong-end
+      go q (short h) = refl
+      go q (same h l) = absurd (omega (arith, simp length-append at (ap length e)))
 
-  -- a byte that is not allowed is final: no stream that goes on behind it is read
-  pub final : (s t : List ℕ) (p : ℕ) → whole r s ≡ bad p wrong-byte → whole r (s ++ t) ≡ bad p wrong-byte
-  unfolding whole then
-  final s t p e = go (r s 0) (r (s ++ t) 0) (x .cut s t 0 (omega arith)) e
-    where
-      in-stream : (a : A) (m : ℕ) → ended s a m ≡ bad p wrong-byte → Dec (m < length s) → ⊥
-      in-stream a m e (yes l) = let z : _≡_ {A = ℕ} 4 5 = cc (ended-out s a m l) in omega arith
-      in-stream a m e (no l) = let z : _≡_ {A = ℕ} 0 1 = cc (ended-in s a m (omega arith)) in omega arith
-
-      go : (q u : Result A) → Cut (length s) q u → then q (ended s) ≡ bad p wrong-byte → then u (ended (s ++ t)) ≡ bad p wrong-byte
-      go q u (same {a = a} {m = m} l) e = absurd (in-stream a m e (decLt m (length s)))
-      go q u stop e = e
-      go q u short e = let z : _≡_ {A = ℕ} 4 5 = cc in absurd (omega arith)
-
-  -- what is refused is refused with 5, with 4 at the end of the stream, or with 4 behind the bytes of a value
+  -- what is refused is refused with 5 in the stream, with 4 at its end, or with 4 behind the bytes of a value
   pub refused : (s : List ℕ) (p k : ℕ) → whole r s ≡ bad p k → Refused C E s p k
   unfolding whole then
-  refused s p k e = go (r s 0) (r (s ++ []) 0) refl (x .cut s [] 0 (omega arith)) e
+  refused s p k e = go (r s 0) (r (s ++ []) 0) refl (cut-0 s []) e
     where
       in-stream : (a : A) (m : ℕ) → r s 0 ≡ ok a m → ended s a m ≡ bad p k → Dec (m < length s) → Refused C E s p k
       in-stream a m q e (yes l) =
@@ -108,7 +98,48 @@ module _ {A : Type 0} {C : A → Type 0} {E : A → List ℕ} {r : List ℕ → 
           rw (← u, ← v) (goes-on a (getD s m 0) (drop (suc m) s) (h .0) y)
       in-stream a m q e (no l) = let z : _≡_ {A = ℕ} 0 1 = cc (ended-in s a m (omega arith)) in absurd (omega arith)
 
-      go : (q u : Result A) → r s 0 ≡ q → Cut (length s) q u → then q (ended s) ≡ bad p k → Refused C E s p k
-      go q u h (same {a = a} {m = m} l) e = in-stream a m h e (decLt m (length s))
-      go q u h stop e = let v : wrong-byte ≡ k = cc in rw (← v) not-allowed
-      go q u h short e = let n : length s ≡ p = cc in let v : wrong-end ≡ k = cc in rw (← n, ← v) ends-early
+      go : (q u : Result A) → r s 0 ≡ q → Cut 0 (length s) (length (s ++ [])) q u → then q (ended s) ≡ bad p k → Refused C E s p k
+      go q u h (same {a = a} {m = m} i l) e = in-stream a m h e (decLt m (length s))
+      go q u h (stop {p = o} i l) e = let n : o ≡ p = cc in let v : wrong-byte ≡ k = cc in rw (← v) (not-allowed {p = p} (omega arith))
+      go q u h (short b) e = let n : length s ≡ p = cc in let v : wrong-end ≡ k = cc in rw (← n, ← v) ends-early
+
+  -- a whole stream is refused with 5 only where the reader itself refuses
+  refuses : (s : List ℕ) (p : ℕ) → whole r s ≡ bad p wrong-byte → r s 0 ≡ bad p wrong-byte
+  unfolding whole then
+  refuses s p e = go (r s 0) e
+    where
+      in-stream : (a : A) (m : ℕ) → ended s a m ≡ bad p wrong-byte → Dec (m < length s) → ⊥
+      in-stream a m e (yes l) = let z : _≡_ {A = ℕ} 4 5 = cc (ended-out s a m l) in omega arith
+      in-stream a m e (no l) = let z : _≡_ {A = ℕ} 0 1 = cc (ended-in s a m (omega arith)) in omega arith
+
+      go : (q : Result A) → then q (ended s) ≡ bad p wrong-byte → q ≡ bad p wrong-byte
+      go (ok a m) e = absurd (in-stream a m e (decLt m (length s)))
+      go (bad n k) e = e
+
+  -- a byte that is not allowed is final: no stream that goes on behind it is read
+  pub final : (s t : List ℕ) (p : ℕ) → whole r s ≡ bad p wrong-byte → whole r (s ++ t) ≡ bad p wrong-byte
+  unfolding whole then
+  final s t p e = go (r (s ++ t) 0) (rw (refuses s p e) at (cut-0 s t))
+    where
+      go : (u : Result A) → Cut 0 (length s) (length (s ++ t)) (bad p wrong-byte) u → then u (ended (s ++ t)) ≡ bad p wrong-byte
+      go u (stop h i) = refl
+
+  -- a byte that is not allowed is the first one: the stream before it is only too short, and what stands behind it does not matter
+  pub first : (s t : List ℕ) (b : ℕ) → whole r (s ++ b ∷ t) ≡ bad (length s) wrong-byte
+      → (whole r s ≡ bad (length s) wrong-end) × (whole r (s ++ b ∷ []) ≡ bad (length s) wrong-byte)
+  unfolding whole then
+  first s t b e = (
+    before (r s 0) (rw (refuses _ _ e) at (cut-0 s (b ∷ t))),
+    at-byte (r up 0) (rw (append-assoc s (b ∷ []) t, refuses _ _ e) at (cut-0 up t)),
+  )
+    where
+      up : List ℕ
+      up = s ++ b ∷ []
+
+      before : {M : ℕ} (q : Result A) → Cut 0 (length s) M q (bad (length s) wrong-byte) → then q (ended s) ≡ bad (length s) wrong-end
+      before q (short h) = refl
+      before q (stop h i) = absurd (omega arith)
+
+      at-byte : {M : ℕ} (q : Result A) → Cut 0 (length up) M q (bad (length s) wrong-byte) → then q (ended up) ≡ bad (length s) wrong-byte
+      at-byte q (stop h i) = refl
+      at-byte q (short (refusal-beyond h)) = absurd (omega (arith, length-append s (b ∷ [])))
