@@ -3,3 +3,5 @@ pub mod Rules
 pub mod Stops
 pub mod Machine
 pub mod Represents
+pub mod Wanted
+pub mod RepresentsLaws
