@@ -5,3 +5,4 @@ pub mod Machine
 pub mod Represents
 pub mod Wanted
 pub mod RepresentsLaws
+pub mod CommandFollows
