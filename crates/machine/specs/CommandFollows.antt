@@ -61,11 +61,11 @@ pub values-length : (χ : List Tagged) → length (values χ) ≡ length χ
 unfolding values
 values-length χ = length-map χ (λ x. x .is)
 
--- leaving n commands out, with and without their notes
-pub map-drop : (n : ℕ) (r : List Note) → map erase (drop n r) ≡ drop n (map erase r)
-map-drop ℕ.zero r = refl
-map-drop (ℕ.suc n) [] = refl
-map-drop (ℕ.suc n) (x ∷ r) = map-drop n r
+-- leaving n elements out before and after a map is one
+pub map-drop : {A B : Type 0} (f : A → B) (n : ℕ) (l : List A) → map f (drop n l) ≡ drop n (map f l)
+map-drop f ℕ.zero l = refl
+map-drop f (ℕ.suc n) [] = refl
+map-drop f (ℕ.suc n) (x ∷ l) = map-drop f n l
 
 module _ (W : Wanted) (p : Program) where
   -- the machine's answer, whether a write leaves stability as it is, is that of rule ComWr
@@ -246,7 +246,7 @@ module _ (W : Wanted) (p : Program) (m : Machine) (l : ℕ) (s : Sched) (σ : Li
         put-follows (with-code i r χ) (inst (i .struct) (then d c) (values χ) (i .env)) (ComIfT g refl) (refl, e ∙ sym (W .flatten-then d c), refl, refl)
     branch-top t (bool-val false) χ g =
         put-follows (with-code i (drop (length (flatten d)) r) χ) (inst (i .struct) c (values χ) (i .env)) (ComIfF g refl)
-        (refl, rw (map-drop, e) (drop-append-seam (flatten d) (flatten c)), refl, refl)
+        (refl, rw (map-drop erase, e) (drop-append-seam (flatten d) (flatten c)), refl, refl)
     branch-top t (label q) χ g = tt
 
     branch-follows : (χ : List Tagged) → getElem? σ l ≡ some (inst (i .struct) (if-then d c) (values χ) (i .env))

@@ -6,3 +6,4 @@ pub mod Represents
 pub mod Wanted
 pub mod RepresentsLaws
 pub mod CommandFollows
+pub mod CommandComplete
