@@ -7,3 +7,6 @@ pub mod Wanted
 pub mod RepresentsLaws
 pub mod CommandFollows
 pub mod CommandComplete
+pub mod CommandAgrees
+pub mod MoveAgrees
+pub mod RuleUnique
