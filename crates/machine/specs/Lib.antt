@@ -10,3 +10,5 @@ pub mod CommandComplete
 pub mod CommandAgrees
 pub mod MoveAgrees
 pub mod RuleUnique
+pub mod Measure
+pub mod MeasureLaws
