@@ -12,3 +12,4 @@ pub mod MoveAgrees
 pub mod RuleUnique
 pub mod Measure
 pub mod MeasureLaws
+pub mod RulesLaws
