@@ -5,27 +5,28 @@ use mathlib.Core.Bool.{Bool, true, false, not as negation}
 use mathlib.Core.Option.{Option, none, some}
 use mathlib.Core.List.{List, [], _∷_, _++_, map, reverse, reverse-reverse}
 use native.Mathlib.Omega.{arith}
-use lib.ListN.{length, getD, getElem?, set, take, drop, length-append, length-reverse, length-map}
+use lib.ListN.{length, getD, getElem?, set, take, drop, length-append, length-reverse}
 use lib.Seq.{take-at, drop-at, drop-append-seam}
-use lib.Dec.{ltb, leb}
-use borrow.Author.Tests.{ltb-true, ltb-false, lt-ltb, le-ltb, le-leb}
+use lib.Dec.{ltb}
+use borrow.Author.Tests.{ltb-true, lt-ltb, le-ltb, le-leb}
 use Rattle.types.specs.Limits.{max-instances, first-local}
 use Rattle.types.specs.Types.{Ty, Ty.int, Ty.bool, Ty.ref}
-use Rattle.types.specs.Values.{Val, Val.int-val, Val.nat-val, Val.bool-val, Val.label}
+use Rattle.types.specs.Values.{Val, Val.bool-val, Val.label}
 use Rattle.program.specs.Tree.{Op, Program}
-use Rattle.commands.specs.Commands.{Com, Com.push, Com.push-this, Com.rd, Com.wr, Com.cons, Com.not, Com.oper, Coms, Coms.nil, Coms.act, Coms.if-then, then, Flat, Flat.plain, Flat.if-n, flatten}
+use Rattle.commands.specs.Commands.{Com.push, Com.push-this, Com.rd, Com.wr, Com.cons, Com.not, Com.oper, Coms, Coms.nil, then, Flat, Flat.plain, Flat.if-n, flatten}
 use Rattle.commands.specs.Context.{params-of}
 use Rattle.commands.specs.Typing.{sort}
 use Rattle.commands.specs.Noted.{Note, Note.n-push, Note.n-this, Note.n-not, Note.n-rd, Note.n-wr, Note.n-get, Note.n-set, Note.n-cons, Note.n-op, Note.n-if, erase}
 use Rattle.words.specs.Operators.{Applies, Exceeds}
-use Rattle.words.specs.Apply.{Answer, Answer.value, Answer.outside, Answer.unfit, apply, same-val}
+use Rattle.words.specs.Apply.{Answer, apply, same-val}
 use Rattle.machine.specs.Published.{Sched, Env, lookup, assign, fresh-env, Inst, Inst.inst, State, State.state, update-env, structs, arity}
 use Rattle.machine.specs.Rules.{Settled, Settled.no-parameter, Settled.same-value, Settled.other-value, meet, Actor.instance, Rule, Rule.ComPush, Rule.ComPushThis, Rule.ComRd, Rule.ComWr, Rule.ComWrNSkip, Rule.ComNot, Rule.ComOp, Rule.ComCons, Rule.ComIfT, Rule.ComIfF}
 use Rattle.machine.specs.Stops.{Full, Full.no-label, Exceeded, Exceeded.no-result}
 use Rattle.machine.specs.Machine.{Tagged, tagged, Instance, Machine, Out, Out.next, Out.refused, Out.stuck, full, exceeded, with-code, with-written, put, result-type, settled, read-from, read-at, read, write-to, write-parameter, write-at, write, negate, branch, operated, operate, made, construct, perform, now-written, command}
-use Rattle.machine.specs.Represents.{values, Represents-inst, Represents-all, Represents}
+use Rattle.machine.specs.Represents.{values, Represents-inst, Represents}
 use Rattle.machine.specs.RepresentsLaws.{instance-at, represents-length, represents-set, represents-env, represents-append}
-use Rattle.machine.specs.CommandFollows.{performs, values-length, map-drop}
+use Rattle.machine.specs.PerformedLaws.{performs}
+use Rattle.machine.specs.CommandFollows.{values-length, map-drop}
 use Rattle.machine.specs.Wanted.{Wanted}
 
 -- a machine comes to be that stands for this state

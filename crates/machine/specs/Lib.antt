@@ -5,6 +5,8 @@ pub mod Machine
 pub mod Represents
 pub mod Wanted
 pub mod RepresentsLaws
+pub mod Performed
+pub mod PerformedLaws
 pub mod CommandFollows
 pub mod CommandComplete
 pub mod CommandAgrees

@@ -1,24 +1,23 @@
 -- Laws of the measures: moves cannot go on for ever without a command, nor commands without a move (01, 'Table and turns').
 use Prim.Native.Nat.{ℕ, zero, suc, max, _+_, _<_, _≤_}
-use mathlib.Core.Path.{_≡_, refl, ap, sym, _∙_, subst}
+use mathlib.Core.Path.{_≡_, refl, ap, sym, _∙_}
 use mathlib.Core.Bool.{Bool, true, false}
 use mathlib.Core.Option.{Option, none, some}
 use mathlib.Core.List.{List, [], _∷_, _++_, map}
 use native.Mathlib.Omega.{arith}
-use lib.ListN.{length, getD, getElem?, set, drop, length-drop, length-map}
-use lib.Dec.{ltb, leb, eqb}
-use Rattle.types.specs.Limits.{max-stability, max-instances, first-local}
-use Rattle.types.specs.Types.{Ty, Ty.int, Ty.bool, Ty.ref}
-use Rattle.types.specs.Values.{Val, Val.int-val, Val.nat-val, Val.bool-val, Val.label}
-use Rattle.program.specs.Tree.{Op, Stmts, Program}
-use Rattle.commands.specs.Commands.{commands}
-use Rattle.commands.specs.Context.{params-of, context}
-use Rattle.commands.specs.Typing.{sort}
-use Rattle.commands.specs.Noted.{Note, Note.n-push, Note.n-this, Note.n-not, Note.n-rd, Note.n-wr, Note.n-get, Note.n-set, Note.n-cons, Note.n-op, Note.n-if, erase, noted}
-use Rattle.words.specs.Apply.{Answer, Answer.value, Answer.outside, Answer.unfit, apply}
-use Rattle.machine.specs.Published.{Sched, Sched.done, Sched.start, Sched.start-in, Sched.fixpoint, Sched.active, before, Env, lookup, structs, arity, step-of}
-use Rattle.machine.specs.Machine.{Tagged, tagged, Instance, Machine, Out, Out.next, Out.refused, Out.stuck, with-code, with-written, update-env, read-from, read-at, read, write-to, write-parameter, write-at, write, negate, branch, operated, operate, result-type, made, construct, perform, now-written, command-of, command-at, command, given, started, started-in, repeat, move-by, move}
+use lib.ListN.{length, getElem?, set, drop, length-drop, length-map}
+use lib.Dec.{ltb, eqb}
+use Rattle.types.specs.Limits.{max-stability}
+use Rattle.types.specs.Types.{Ty.ref}
+use Rattle.types.specs.Values.{Val.label}
+use Rattle.program.specs.Tree.{Stmts, Program}
+use Rattle.commands.specs.Context.{context}
+use Rattle.commands.specs.Noted.{Note, erase, noted}
+use Rattle.machine.specs.Published.{Sched, Sched.done, Sched.start, Sched.start-in, Sched.fixpoint, Sched.active, before, Env, arity, step-of}
+use Rattle.machine.specs.Machine.{Tagged, tagged, Instance, Machine, Out, Out.next, Out.refused, Out.stuck, with-code, with-written, update-env, made, now-written, command, given, started, started-in, repeat, move-by, move}
 use Rattle.machine.specs.RepresentsLaws.{Still}
+use Rattle.machine.specs.Performed.{Performed, Performed.pushed, Performed.pushed-this, Performed.negated, Performed.read-one, Performed.skipped, Performed.wrote, Performed.calculated, Performed.exceeding, Performed.constructed, Performed.filled, Performed.branched, Performed.no-way}
+use Rattle.machine.specs.PerformedLaws.{by-ways}
 use Rattle.machine.specs.Measure.{weight, bound, passages, measure, total, codes, count, share, share-in}
 use Rattle.machine.specs.Wanted.{Wanted}
 
@@ -90,137 +89,36 @@ Fewer n (next m) = codes (m .instances) < n
 Fewer n (refused k) = Unit {0}
 Fewer n stuck = Unit {0}
 
--- instance l, whose code is longer than r
-module _ (p : Program) (m : Machine) (l : ℕ) (i₀ : Instance) (g : getElem? (m .instances) l ≡ some i₀) (i : Instance) (r : List Note) (short : length r < length (i₀ .code)) where
+-- every way through a command with r behind it leaves r or less
+module _ (p : Program) (m : Machine) (l : ℕ) {i₀ : Instance} (g : getElem? (m .instances) l ≡ some i₀) (i : Instance) (r : List Note) (h : length r < length (i₀ .code)) where
   kept : (r′ : List Note) (χ : List Tagged) → length r′ ≤ length r → codes (set (m .instances) l (with-code i r′ χ)) < codes (m .instances)
-  kept r′ χ h = omega (arith, codes-set (m .instances) l (with-code i r′ χ) g)
+  kept r′ χ k = omega (arith, codes-set (m .instances) l (with-code i r′ χ) g)
 
   all : (χ : List Tagged) → codes (set (m .instances) l (with-code i r χ)) < codes (m .instances)
   all χ = kept r χ (omega arith)
 
-  negate-top : (t : Ty) (v : Val) (χ : List Tagged) → Fewer (codes (m .instances)) (negate p m l i r (tagged t v ∷ χ))
-  unfolding negate
-  negate-top t (int-val z) χ = tt
-  negate-top t (nat-val n) χ = tt
-  negate-top t (bool-val u) χ = all (tagged bool (bool-val _) ∷ χ)
-  negate-top t (label q) χ = tt
-
-  negate-fewer : (χ : List Tagged) → Fewer (codes (m .instances)) (negate p m l i r χ)
-  unfolding negate
-  negate-fewer [] = tt
-  negate-fewer (x ∷ χ) = negate-top (x .by) (x .is) χ
-
-  branch-top : (n : ℕ) (t : Ty) (v : Val) (χ : List Tagged) → Fewer (codes (m .instances)) (branch p m l i n r (tagged t v ∷ χ))
-  unfolding branch
-  branch-top n t (int-val z) χ = tt
-  branch-top n t (nat-val k) χ = tt
-  branch-top n t (bool-val true) χ = all χ
-  branch-top n t (bool-val false) χ = kept (drop n r) χ (rw length-drop (omega arith))
-  branch-top n t (label q) χ = tt
-
-  branch-fewer : (n : ℕ) (χ : List Tagged) → Fewer (codes (m .instances)) (branch p m l i n r χ)
-  unfolding branch
-  branch-fewer n [] = tt
-  branch-fewer n (x ∷ χ) = branch-top n (x .by) (x .is) χ
-
-  read-top : (x : ℕ) (t u : Ty) (v : Val) (χ : List Tagged) → Fewer (codes (m .instances)) (read p m l i r (tagged u v ∷ χ) x t)
-  unfolding read read-at read-from
-  read-top x t u (int-val z) χ = tt
-  read-top x t u (nat-val k) χ = tt
-  read-top x t u (bool-val b) χ = tt
-  read-top x t u (label q) χ = at (getElem? (m .instances) q)
-    where
-      from : (o : Option Val) → Fewer (codes (m .instances)) (read-from p m l i r χ x t o)
-      from none = tt
-      from (some y) = all (tagged t y ∷ χ)
-
-      at : (o : Option Instance) → Fewer (codes (m .instances)) (read-at p m l i r χ x t o)
-      at none = tt
-      at (some j) = from (lookup (j .env) x)
-
-  read-fewer : (χ : List Tagged) (x : ℕ) (t : Ty) → Fewer (codes (m .instances)) (read p m l i r χ x t)
-  unfolding read
-  read-fewer [] x t = tt
-  read-fewer (y ∷ χ) x t = read-top x t (y .by) (y .is) χ
-
-  write-to-fewer : (χ : List Tagged) (x : ℕ) (w : Val) (q : ℕ) (j : Instance) → Fewer (codes (m .instances)) (write-to p m l i r χ x w q j)
-  unfolding write-to
-  write-to-fewer χ x w q j = rw codes-env (all χ)
-
-  write-at-fewer : (χ : List Tagged) (x : ℕ) (w : Val) (q : ℕ) (o : Option Instance) → Fewer (codes (m .instances)) (write-at p m l i r χ x w q o)
-  unfolding write-at write-parameter
-  write-at-fewer χ x w q none = tt
-  write-at-fewer χ x w q (some j) = go (ltb x (arity p (j .struct))) refl (ltb q (structs p)) refl
-    where
-      par : (o : Option Val) → Fewer (codes (m .instances)) (write-parameter p m l i r χ x w q j o)
-      par none = tt
-      par (some y) = write-to-fewer χ x w q j
-
-      go : (t : Bool) → ltb x (arity p (j .struct)) ≡ t → (u : Bool) → ltb q (structs p) ≡ u → Fewer (codes (m .instances)) (write-at p m l i r χ x w q (some j))
-      go true a true b = rw (a, b, write-at) (all χ)
-      go true a false b = rw (a, b, write-at) (par (lookup (j .env) x))
-      go false a u b = rw (a, write-at) (write-to-fewer χ x w q j)
-
-  write-top : (x : ℕ) (u : Ty) (v : Val) (y : Tagged) (χ : List Tagged) → Fewer (codes (m .instances)) (write p m l i r (tagged u v ∷ y ∷ χ) x)
-  unfolding write
-  write-top x u (int-val z) y χ = tt
-  write-top x u (nat-val k) y χ = tt
-  write-top x u (bool-val b) y χ = tt
-  write-top x u (label q) y χ = write-at-fewer χ x (y .is) q (getElem? (m .instances) q)
-
-  write-fewer : (χ : List Tagged) (x : ℕ) → Fewer (codes (m .instances)) (write p m l i r χ x)
-  unfolding write
-  write-fewer [] x = tt
-  write-fewer (y ∷ []) x = tt
-  write-fewer (y ∷ z ∷ χ) x = write-top x (y .by) (y .is) z χ
-
-  operate-fewer : (o : Op) (χ : List Tagged) → Fewer (codes (m .instances)) (operate p m l i o r χ)
-  unfolding operate operated
-  operate-fewer o [] = tt
-  operate-fewer o (y ∷ []) = tt
-  operate-fewer o (y ∷ x ∷ χ) = go (apply o (x .is) (y .is))
-    where
-      go : (a : Answer) → Fewer (codes (m .instances)) (operated p m l i r χ (result-type (sort o) (x .by)) a)
-      go (value z) = all (tagged (result-type (sort o) (x .by)) z ∷ χ)
-      go outside = tt
-      go unfit = tt
-
-  construct-fewer : (k : ℕ) (χ : List Tagged) → Fewer (codes (m .instances)) (construct p m l i k r χ)
-  unfolding construct
-  construct-fewer k χ = go (leb (arity p k) (length χ)) refl (ltb (length (m .instances)) max-instances) refl
-    where
-      go : (t : Bool) → leb (arity p k) (length χ) ≡ t → (u : Bool) → ltb (length (m .instances)) max-instances ≡ u → Fewer (codes (m .instances)) (construct p m l i k r χ)
-      go true a true b =
-          let χ′ : List Tagged = tagged (ref k) (label (length (m .instances))) ∷ drop (arity p k) χ in
-          rw (a, b, construct) (omega (arith, all χ′, codes-append (set (m .instances) l (with-code i r χ′)) (made p m l i k (arity p k) χ)))
-      go true a false b = rw (a, b, construct) tt
-      go false a u b = rw (a, construct) tt
-
-  perform-fewer : (n : Note) → Fewer (codes (m .instances)) (perform p m l i n r)
-  unfolding perform
-  perform-fewer (n-push t v) = all (tagged t v ∷ i .stack)
-  perform-fewer n-this = all (tagged (ref (i .struct)) (label l) ∷ i .stack)
-  perform-fewer n-not = negate-fewer (i .stack)
-  perform-fewer (n-rd k x) = read-fewer (i .stack) x (getD (params-of p k) x int)
-  perform-fewer (n-wr k x) = write-fewer (i .stack) x
-  perform-fewer (n-get t x) = read-fewer (i .stack) (first-local + x) t
-  perform-fewer (n-set d t x) = write-fewer (i .stack) (first-local + x)
-  perform-fewer (n-cons k) = construct-fewer k (i .stack)
-  perform-fewer (n-op o) = operate-fewer o (i .stack)
-  perform-fewer (n-if n) = branch-fewer n (i .stack)
+  fewer : {n : Note} {o : Out} → Performed p m l i r n o → Fewer (codes (m .instances)) o
+  fewer pushed = all _
+  fewer pushed-this = all _
+  fewer (negated x) = all _
+  fewer (read-one k x j a) = all _
+  fewer (skipped k x j u a) = all _
+  fewer (wrote {χ = χ} k x j u a) = rw codes-env (all χ)
+  fewer (calculated x a) = all _
+  fewer (exceeding x a) = tt
+  fewer (constructed {k = k} a u) =
+      let χ : List Tagged = tagged (ref k) (label (length (m .instances))) ∷ drop (arity p k) (i .stack) in
+      omega (arith, all χ, codes-append (set (m .instances) l (with-code i r χ)) (made p m l i k (arity p k) (i .stack)))
+  fewer (filled a u) = tt
+  fewer (branched {b = true} x) = all _
+  fewer (branched {n = n} {b = false} {χ = χ} x) = kept (drop n r) χ (rw length-drop (omega arith))
+  fewer no-way = tt
 
 -- each command leaves fewer commands held in all
 pub command-shortens : (p : Program) (l : ℕ) (m : Machine) {m′ : Machine} → command p l m ≡ next m′ → codes (m′ .instances) < codes (m .instances)
-unfolding command command-at command-of
-command-shortens p l m e = rw e at (at (getElem? (m .instances) l) refl)
-  where
-    at : (o : Option Instance) → getElem? (m .instances) l ≡ o → Fewer (codes (m .instances)) (command-at p m l o)
-    at none g = tt
-    at (some i) g = go (i .code) refl
-      where
-        go : (n : List Note) → i .code ≡ n → Fewer (codes (m .instances)) (command-of p m l i n)
-        go [] f = tt
-        go (n ∷ r) f = perform-fewer p m l i g (with-written i (now-written n (i .written))) r (omega (arith, ap length f)) n
+command-shortens p l m e =
+    rw e at (by-ways (Fewer (codes (m .instances))) p m l tt
+    λ i n r o g f h. fewer p m l g (with-written i (now-written n (i .written))) r (omega (arith, ap length f)) h)
 
 -- Starts ---------------------------------------------------------------------------
 

@@ -1,6 +1,6 @@
 -- A schedule move of the machine and the published rules for the schedule agree, both ways (000, section 4; 01, number 36).
-use Prim.Native.Nat.{ℕ, _<_, _≤_}
-use mathlib.Core.Path.{_≡_, refl, ap, sym, subst, subst₂}
+use Prim.Native.Nat.{ℕ}
+use mathlib.Core.Path.{_≡_, refl, sym, subst, subst₂}
 use mathlib.Core.Logic.{_↔_}
 use mathlib.Core.Bool.{Bool, true, false}
 use mathlib.Core.Option.{Option, none, some}
@@ -11,12 +11,12 @@ use lib.Dec.{ltb, eqb}
 use borrow.Author.Tests.{ltb-true, ltb-false, lt-ltb, le-ltb}
 use Rattle.types.specs.Limits.{max-stability}
 use Rattle.program.specs.Tree.{Stmts, Program}
-use Rattle.commands.specs.Commands.{commands, body-coms, flatten}
+use Rattle.commands.specs.Commands.{commands}
 use Rattle.commands.specs.Context.{context}
 use Rattle.machine.specs.Published.{Sched, Sched.done, Sched.start, Sched.start-in, Sched.fixpoint, Sched.active, before, Inst, Inst.inst, State, State.state, step-of}
 use Rattle.machine.specs.Rules.{Done, given, started, started-in, Actor.schedule, Rule, Rule.InitG, Rule.InitL, Rule.FixInit, Rule.FixIter, Rule.FixTerm}
 use Rattle.machine.specs.Stops.{Nested, Nested.no-entry}
-use Rattle.machine.specs.Machine.{Instance, Machine, machine, Out, Out.next, Out.refused, Out.stuck, nested, given as equip, started as begin, started-in as begin-in, repeat, move-by, move}
+use Rattle.machine.specs.Machine.{Instance, Machine, Out, Out.next, Out.refused, Out.stuck, nested, given as equip, started as begin, started-in as begin-in, repeat, move-by, move}
 use Rattle.machine.specs.Represents.{values, Represents-inst, Represents-all, Represents}
 use Rattle.machine.specs.RepresentsLaws.{Still, still-done, represents-map}
 use Rattle.machine.specs.CommandComplete.{Leads}

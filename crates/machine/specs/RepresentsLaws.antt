@@ -1,15 +1,14 @@
 -- Laws of Represents: it looks up, replaces and adds place by place, and a machine stands for at most one state.
 use Prim.Native.Nat.{ℕ, zero, suc}
-use mathlib.Core.Path.{_≡_, refl, ap, sym, _∙_, subst}
+use mathlib.Core.Path.{_≡_, refl, ap, sym, _∙_}
 use mathlib.Core.Logic.{_↔_}
 use mathlib.Core.Option.{Option, none, some}
 use mathlib.Core.List.{List, [], _∷_, _++_, map}
-use native.Mathlib.Omega.{arith}
 use lib.ListN.{length, getElem?, set}
-use Rattle.commands.specs.Commands.{Coms, Coms.nil, Coms.act, Coms.if-then, Flat, flatten}
+use Rattle.commands.specs.Commands.{Coms, Coms.nil, Coms.act, Coms.if-then, flatten}
 use Rattle.commands.specs.Noted.{Note, erase}
 use Rattle.program.specs.Counts.{All}
-use Rattle.machine.specs.Published.{Env, Inst, Inst.inst, State, State.state, Idle, update-env}
+use Rattle.machine.specs.Published.{Env, Inst, Inst.inst, State, State.state, update-env}
 use Rattle.machine.specs.Rules.{Done}
 use Rattle.machine.specs.Machine.{Instance, Machine, update-env as change-env}
 use Rattle.machine.specs.Represents.{values, Represents-inst, Represents-all, Represents}

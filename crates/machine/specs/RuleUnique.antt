@@ -11,8 +11,8 @@ use Rattle.commands.specs.Noted.{Note, Note.n-push, Note.n-this, Note.n-not, No
 use Rattle.machine.specs.Published.{Inst, Inst.inst, State, State.state}
 use Rattle.machine.specs.Rules.{Actor, Actor.instance, Actor.schedule, Rule}
 use Rattle.machine.specs.Stops.{Full, Exceeded, Nested}
-use Rattle.machine.specs.Machine.{Tagged, tagged, Instance, Machine, machine, Out, Out.next, Out.refused, full, exceeded, nested, command, move}
-use Rattle.machine.specs.Represents.{values, Represents-inst, Represents-all, Represents}
+use Rattle.machine.specs.Machine.{Tagged, tagged, Instance, Machine, machine, Out, Out.next, full, exceeded}
+use Rattle.machine.specs.Represents.{values, Represents-all, Represents}
 use Rattle.machine.specs.RepresentsLaws.{represents-unique}
 use Rattle.machine.specs.CommandAgrees.{command-complete, command-full, command-exceeded}
 use Rattle.machine.specs.MoveAgrees.{move-complete, move-nested}

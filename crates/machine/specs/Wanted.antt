@@ -2,14 +2,14 @@
 use mathlib.Core.Path.{_≡_}
 use mathlib.Core.Logic.{_↔_}
 use mathlib.Core.Bool.{true}
-use mathlib.Core.List.{List, _++_, map}
+use mathlib.Core.List.{_++_, map}
 use Rattle.types.specs.Values.{Val}
 use Rattle.program.specs.Tree.{Op, Stmts}
 use Rattle.commands.specs.Commands.{Coms, then, flatten, commands}
 use Rattle.commands.specs.Context.{Ctx}
 use Rattle.commands.specs.Noted.{erase, noted}
 use Rattle.words.specs.Operators.{Applies, Exceeds}
-use Rattle.words.specs.Apply.{Answer, Answer.value, Answer.outside, apply, same-val}
+use Rattle.words.specs.Apply.{Answer.value, Answer.outside, apply, same-val}
 
 pub record Wanted : Type 0 where
   pub flatten-then : (c d : Coms) → flatten (then c d) ≡ flatten c ++ flatten d
