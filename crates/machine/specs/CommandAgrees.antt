@@ -58,11 +58,14 @@ module _ (W : Wanted) (p : Program) (l : ℕ) (m : Machine) where
   -- no command comes of it exactly where no rule and no condition of a number fits
   pub command-stuck : (st : State) → Represents m st
       → (command p l m ≡ stuck) ↔ (((st′ : State) → Rule p (instance l) st st′ → ⊥) × (Full p l st → ⊥) × (Exceeded l st → ⊥))
-  command-stuck st R =
-      ( λ e. ( λ st′ r. let (m′, f, h) = command-complete R r in let z : _≡_ {A = ℕ} 0 1 = cc in omega arith
-             , λ h. let f = command-full st R .1 h in let z : _≡_ {A = ℕ} 0 1 = cc in omega arith
-             , λ h. let f = command-exceeded st R .1 h in let z : _≡_ {A = ℕ} 0 1 = cc in omega arith)
-      , λ h. go (command p l m) (outcome st R) h)
+  command-stuck st R = (
+    λ e. (
+      λ st′ r. let (m′, f, h) = command-complete R r in let z : _≡_ {A = ℕ} 0 1 = cc in omega arith,
+      λ h. let f = command-full st R .1 h in let z : _≡_ {A = ℕ} 0 1 = cc in omega arith,
+      λ h. let f = command-exceeded st R .1 h in let z : _≡_ {A = ℕ} 0 1 = cc in omega arith,
+    ),
+    λ h. go (command p l m) (outcome st R) h,
+  )
     where
       go : (o : Out) → Follows p l st o → ((st′ : State) → Rule p (instance l) st st′ → ⊥) × (Full p l st → ⊥) × (Exceeded l st → ⊥) → o ≡ stuck
       go (next m′) (st′, r, q) h = absurd (h .0 st′ r)

@@ -1,5 +1,5 @@
 -- What a published rule or condition gives, the command of the machine comes to (000, section 4; 01, numbers 34 and 35).
-use Prim.Native.Nat.{ℕ, zero, suc, _+_, _<_, _≤_}
+use Prim.Native.Nat.{ℕ, _<_, _≤_}
 use mathlib.Core.Path.{_≡_, refl, ap, ap₂, sym, _∙_, subst, subst₂}
 use mathlib.Core.Bool.{Bool, true, false, not as negation}
 use mathlib.Core.Option.{Option, none, some}
@@ -9,14 +9,14 @@ use lib.ListN.{length, getD, getElem?, set, take, drop, length-append, length-re
 use lib.Seq.{take-at, drop-at, drop-append-seam}
 use lib.Dec.{ltb}
 use borrow.Author.Tests.{ltb-true, lt-ltb, le-ltb, le-leb}
-use Rattle.types.specs.Limits.{max-instances, first-local}
+use Rattle.types.specs.Limits.{max-instances}
 use Rattle.types.specs.Types.{Ty, Ty.int, Ty.bool, Ty.ref}
 use Rattle.types.specs.Values.{Val, Val.bool-val, Val.label}
 use Rattle.program.specs.Tree.{Op, Program}
 use Rattle.commands.specs.Commands.{Com.push, Com.push-this, Com.rd, Com.wr, Com.cons, Com.not, Com.oper, Coms, Coms.nil, then, Flat, Flat.plain, Flat.if-n, flatten}
 use Rattle.commands.specs.Context.{params-of}
 use Rattle.commands.specs.Typing.{sort}
-use Rattle.commands.specs.Noted.{Note, Note.n-push, Note.n-this, Note.n-not, Note.n-rd, Note.n-wr, Note.n-get, Note.n-set, Note.n-cons, Note.n-op, Note.n-if, erase}
+use Rattle.commands.specs.Noted.{Note, erase}
 use Rattle.words.specs.Operators.{Applies, Exceeds}
 use Rattle.words.specs.Apply.{Answer, apply, same-val}
 use Rattle.machine.specs.Published.{Sched, Env, lookup, assign, fresh-env, Inst, Inst.inst, State, State.state, update-env, structs, arity}
@@ -24,9 +24,9 @@ use Rattle.machine.specs.Rules.{Settled, Settled.no-parameter, Settled.s
 use Rattle.machine.specs.Stops.{Full, Full.no-label, Exceeded, Exceeded.no-result}
 use Rattle.machine.specs.Machine.{Tagged, tagged, Instance, Machine, Out, Out.next, Out.refused, Out.stuck, full, exceeded, with-code, with-written, put, result-type, settled, read-from, read-at, read, write-to, write-parameter, write-at, write, negate, branch, operated, operate, made, construct, perform, now-written, command}
 use Rattle.machine.specs.Represents.{values, Represents-inst, Represents}
-use Rattle.machine.specs.RepresentsLaws.{instance-at, represents-length, represents-set, represents-env, represents-append}
+use Rattle.machine.specs.RepresentsLaws.{instance-at, values-length, map-drop, map-take, top, represents-length, represents-set, represents-env, represents-append}
 use Rattle.machine.specs.PerformedLaws.{performs}
-use Rattle.machine.specs.CommandFollows.{values-length, map-drop}
+use Rattle.machine.specs.Heads.{Means, Means.m-push, Means.m-this, Means.m-not, Means.m-rd, Means.m-get, Means.m-wr, Means.m-set, Means.m-cons, Means.m-op, Means.m-if, next-note}
 use Rattle.machine.specs.Wanted.{Wanted}
 
 -- a machine comes to be that stands for this state
@@ -34,51 +34,6 @@ abbrev pub Leads : State → Out → Type 0
 Leads st (next m) = Represents m st
 Leads st (refused n) = ⊥
 Leads st stuck = ⊥
-
--- the notes of a command
-pub data Means : Flat → Note → Type 0 where
-  m-push : {t : Ty} {v : Val} → Means (plain (push t v)) (n-push t v)
-  m-this : Means (plain push-this) n-this
-  m-not : Means (plain not) n-not
-  m-rd : {k x : ℕ} → Means (plain (rd x)) (n-rd k x)
-  m-get : {t : Ty} {v x : ℕ} → first-local + x ≡ v → Means (plain (rd v)) (n-get t x)
-  m-wr : {k x : ℕ} → Means (plain (wr x)) (n-wr k x)
-  m-set : {d : Bool} {t : Ty} {v x : ℕ} → first-local + x ≡ v → Means (plain (wr v)) (n-set d t x)
-  m-cons : {k : ℕ} → Means (plain (cons k)) (n-cons k)
-  m-op : {o : Op} → Means (plain (oper o)) (n-op o)
-  m-if : {n : ℕ} → Means (if-n n) (n-if n)
-
--- a note means what it erases to
-means : (n : Note) → Means (erase n) n
-unfolding erase
-means (n-push t v) = m-push
-means n-this = m-this
-means n-not = m-not
-means (n-rd k x) = m-rd
-means (n-wr k x) = m-wr
-means (n-get t x) = m-get refl
-means (n-set d t x) = m-set refl
-means (n-cons k) = m-cons
-means (n-op o) = m-op
-means (n-if n) = m-if
-
--- code that stands for a list with a command in front has a note of it in front
-next-note : (n : List Note) {f : Flat} {fs : List Flat} → map erase n ≡ f ∷ fs → (a : Note) × (r : List Note) × (n ≡ a ∷ r) × (Means f a) × (map erase r ≡ fs)
-next-note [] e = let z : _≡_ {A = ℕ} 0 1 = cc in absurd (omega arith)
-next-note (a ∷ r) {f} e = (a, r, refl, (let h : erase a ≡ f = cc in subst (λ g. Means g a) h (means a)), cc)
-
--- a stack that stands for one with a value on top has it on top, under some tag
-top : (P : List Tagged → Type 0) {v : Val} {ψ : List Val} (χ : List Tagged) → values χ ≡ v ∷ ψ
-    → ((t : Ty) (χ′ : List Tagged) → values χ′ ≡ ψ → P (tagged t v ∷ χ′)) → P χ
-unfolding values
-top P [] e h = let z : _≡_ {A = ℕ} 0 1 = cc in absurd (omega arith)
-top P {v} (x ∷ χ) e h =
-    let f : x .is ≡ v = cc in subst (λ u. P (tagged (x .by) u ∷ χ)) (sym f) (h (x .by) χ cc)
-
-pub map-take : {A B : Type 0} (f : A → B) (n : ℕ) (l : List A) → map f (take n l) ≡ take n (map f l)
-map-take f zero l = refl
-map-take f (suc n) [] = refl
-map-take f (suc n) (x ∷ l) = ap {B = List _} (λ r. f x ∷ r) (map-take f n l)
 
 module _ (W : Wanted) (p : Program) where
   -- the answer of rule ComWr, whether a write leaves stability as it is, is the machine's
@@ -187,10 +142,11 @@ module _ (W : Wanted) (p : Program) (m : Machine) (l : ℕ) (s : Sched) (σ : Li
 
         to-leads : Wrote (write-to p m l i r χ′ v y q a)
         unfolding write-to
-        to-leads =
-            ( R .0
-            , represents-env _ _ q (represents-set (m .instances) σ l (with-code i r χ′) (inst k c χ ξ) (R .1) (ek, ec, ex, eξ)) (ap (λ z. assign z v y) eη)
-            , ap₂ meet (settled-is W p settled-there) (R .2))
+        to-leads = (
+          R .0,
+          represents-env _ _ q (represents-set (m .instances) σ l (with-code i r χ′) (inst k c χ ξ) (R .1) (ek, ec, ex, eξ)) (ap (λ z. assign z v y) eη),
+          ap₂ meet (settled-is W p settled-there) (R .2),
+        )
 
         parameter-leads : v < arity p (a .struct) → Wrote (write-parameter p m l i r χ′ v y q a (lookup (a .env) v))
         unfolding write-parameter
@@ -236,12 +192,13 @@ module _ (W : Wanted) (p : Program) (m : Machine) (l : ℕ) (s : Sched) (σ : Li
         let i′ : Instance = with-code i r (tagged (ref j) (label (length (m .instances))) ∷ drop (arity p j) (i .stack)) in
         let v : values (drop (arity p j) (i .stack)) ≡ χ = rw (map-drop (λ (x : Tagged). x .is), e) (drop-at (reverse xs) χ (arity p j) a) in
         let w : reverse (values (take (arity p j) (i .stack))) ≡ xs = rw (map-take (λ (x : Tagged). x .is), e, take-at (reverse xs) χ (arity p j) a) (reverse-reverse xs) in
-        rw (le-leb (arity p j) (length (i .stack)) d, lt-ltb (length (m .instances)) max-instances t, construct)
-        ( R .0
-        , represents-append (set (m .instances) l i′) (set σ l (inst k c (label (length σ) ∷ χ) ξ)) (made p m l i j (arity p j) (i .stack)) (inst j nil [] (fresh-env xs))
-          (represents-set (m .instances) σ l i′ (inst k c (label (length σ) ∷ χ) ξ) (R .1) (ek, ec, rw (q, v), eξ))
-          (refl, refl, refl, ap fresh-env w)
-        , ap (meet false) (R .2))
+        rw (le-leb (arity p j) (length (i .stack)) d, lt-ltb (length (m .instances)) max-instances t, construct) (
+          R .0,
+          represents-append (set (m .instances) l i′) (set σ l (inst k c (label (length σ) ∷ χ) ξ)) (made p m l i j (arity p j) (i .stack)) (inst j nil [] (fresh-env xs))
+              (represents-set (m .instances) σ l i′ (inst k c (label (length σ) ∷ χ) ξ) (R .1) (ek, ec, rw (q, v), eξ))
+              (refl, refl, refl, ap fresh-env w),
+          ap (meet false) (R .2),
+        )
 
     -- 34 and 35
     full-is : {j : ℕ} {n : Note} {χ : List Val} → values (i .stack) ≡ χ → arity p j ≤ length χ → max-instances ≤ length σ → Means (plain (cons j)) n → perform p m l i n r ≡ refused full

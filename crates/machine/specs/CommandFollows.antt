@@ -6,14 +6,14 @@ use mathlib.Core.Bool.{Bool, true, false, not as negation}
 use mathlib.Core.Option.{Option, none, some}
 use mathlib.Core.List.{List, [], _∷_, _++_, map, map-append, reverse, reverse-reverse}
 use native.Mathlib.Omega.{arith}
-use lib.ListN.{length, getElem?, set, take, drop, length-reverse, length-map, take-append-drop}
+use lib.ListN.{length, getElem?, set, take, drop, length-reverse, take-append-drop}
 use lib.Seq.{length-take-le, drop-at}
 use lib.Dec.{ltb}
 use borrow.Author.Tests.{ltb-true, ltb-false}
-use Rattle.types.specs.Types.{Ty, Ty.bool, Ty.ref}
+use Rattle.types.specs.Types.{Ty.bool, Ty.ref}
 use Rattle.types.specs.Values.{Val, Val.bool-val, Val.label}
 use Rattle.program.specs.Tree.{Program}
-use Rattle.commands.specs.Commands.{Com, Com.push, Com.push-this, Com.rd, Com.wr, Com.cons, Com.not, Com.oper, Coms, Coms.nil, Coms.act, Coms.if-then, then, Flat, Flat.plain, Flat.if-n, flatten}
+use Rattle.commands.specs.Commands.{Com.push, Com.push-this, Com.rd, Com.wr, Com.cons, Com.not, Com.oper, Coms, Coms.nil, then, flatten}
 use Rattle.commands.specs.Typing.{sort}
 use Rattle.commands.specs.Noted.{Note, erase}
 use Rattle.words.specs.Apply.{same-val}
@@ -22,42 +22,17 @@ use Rattle.machine.specs.Rules.{Settled, Settled.no-parameter, Settled.s
 use Rattle.machine.specs.Stops.{Full, Full.no-label, Exceeded, Exceeded.no-result}
 use Rattle.machine.specs.Machine.{Tagged, tagged, Instance, Machine, Out, Out.next, Out.refused, Out.stuck, full, exceeded, with-code, with-written, put, result-type, settled, made, now-written, command}
 use Rattle.machine.specs.Represents.{values, Represents-inst, Represents}
-use Rattle.machine.specs.RepresentsLaws.{inst-at, represents-length, represents-set, represents-env, represents-append}
-use Rattle.machine.specs.Performed.{Reads, Reads.parameter, Reads.local, Writes, Writes.to-parameter, Writes.to-local, Performed, Performed.pushed, Performed.pushed-this, Performed.negated, Performed.read-one, Performed.skipped, Performed.wrote, Performed.calculated, Performed.exceeding, Performed.constructed, Performed.filled, Performed.branched, Performed.no-way}
+use Rattle.machine.specs.RepresentsLaws.{inst-at, values-length, map-drop, represents-length, represents-set, represents-env, represents-append}
+use Rattle.machine.specs.Performed.{Performed, Performed.pushed, Performed.pushed-this, Performed.negated, Performed.read-one, Performed.skipped, Performed.wrote, Performed.calculated, Performed.exceeding, Performed.constructed, Performed.filled, Performed.branched, Performed.no-way}
 use Rattle.machine.specs.PerformedLaws.{by-ways}
+use Rattle.machine.specs.Heads.{plain-head, if-head, reads-erase, writes-erase}
 use Rattle.machine.specs.Wanted.{Wanted}
-
--- a plain command in front of a flat list is that in front of the nested one
-pub plain-head : (d : Coms) (f : Com) (r : List Flat) → plain f ∷ r ≡ flatten d → (c : Coms) × (d ≡ act f c) × (r ≡ flatten c)
-unfolding flatten
-plain-head nil f r e = (nil, cc, cc)
-plain-head (act g c) f r e = (c, cc, cc)
-plain-head (if-then b c) f r e = (nil, cc, cc)
-
--- and so is an if, with its body and the rest behind it
-pub if-head : (d : Coms) (n : ℕ) (r : List Flat) → if-n n ∷ r ≡ flatten d
-    → (b c : Coms) × (d ≡ if-then b c) × (n ≡ length (flatten b)) × (r ≡ flatten b ++ flatten c)
-unfolding flatten
-if-head nil n r e = (nil, nil, cc, cc, cc)
-if-head (act g c) n r e = (nil, nil, cc, cc, cc)
-if-head (if-then b c) n r e = (b, c, refl, cc, cc)
 
 -- what an outcome says of the published state
 abbrev pub Follows : Program → ℕ → State → Out → Type 0
 Follows p l st (next m) = (st′ : State) × (Rule p (instance l) st st′) × (Represents m st′)
 Follows p l st (refused n) = ((n ≡ full) × (Full p l st)) ⊎ ((n ≡ exceeded) × (Exceeded l st))
 Follows p l st stuck = Unit {0}
-
--- taking the values off, or the notes, keeps the length
-pub values-length : (χ : List Tagged) → length (values χ) ≡ length χ
-unfolding values
-values-length χ = length-map χ (λ x. x .is)
-
--- leaving n elements out before and after a map is one
-pub map-drop : {A B : Type 0} (f : A → B) (n : ℕ) (l : List A) → map f (drop n l) ≡ drop n (map f l)
-map-drop f ℕ.zero l = refl
-map-drop f (ℕ.suc n) [] = refl
-map-drop f (ℕ.suc n) (x ∷ l) = map-drop f n l
 
 module _ (W : Wanted) (p : Program) where
   -- the machine's answer, whether a write leaves stability as it is, is that of rule ComWr
@@ -74,17 +49,6 @@ module _ (W : Wanted) (p : Program) where
       go true a true b = rw (a, b) (same-value (ltb-true v (arity p k) a) (e ∙ ap {B = Option Val} some (W .same-val-exact y x .0 b)))
       go true a false b = rw (a, b) (other-value (ltb-true v (arity p k) a) e (λ q. let z : _≡_ {A = ℕ} 0 1 = cc (W .same-val-exact y x .1 q) in omega arith))
       go false a u b = rw a (no-parameter (ltb-false v (arity p k) a))
-
--- a note of rd, or of wr, is one of the published command
-pub reads-erase : {p : Program} {n : Note} {v : ℕ} {t : Ty} → Reads p n v t → erase n ≡ plain (rd v)
-unfolding erase
-reads-erase parameter = refl
-reads-erase local = refl
-
-pub writes-erase : {n : Note} {v : ℕ} → Writes n v → erase n ≡ plain (wr v)
-unfolding erase
-writes-erase to-parameter = refl
-writes-erase to-local = refl
 
 -- the values on top and those beneath
 parted : (n : ℕ) (χ : List Tagged) → values χ ≡ reverse (reverse (values (take n χ))) ++ values (drop n χ)
@@ -128,12 +92,15 @@ module _ (W : Wanted) (p : Program) (m : Machine) (l : ℕ) (s : Sched) (σ : Li
       (refl, h, refl, refl)
   way-follows i r d (wrote {v = v} {q = q} {y = y} {χ = χ} {j = a} k x j u w) e g =
       let (c, f, h) = plain-head d (wr v) (map erase r) (rw (writes-erase k) at e) in
-      let z : Bool = settled p (a .struct) v (y .is) (lookup (a .env) v) in
-      ( state s (update-env (set σ l (inst (i .struct) c (values χ) (i .env))) q (assign (a .env) v (y .is))) (meet z b)
-      , ComWr (rw (f, x) at g) (inst-at (m .instances) σ q (R .1) j .1) u (settles W p (a .struct) v (a .env) (y .is) (lookup (a .env) v) refl w) refl refl
-      , ( R .0
-        , represents-env _ _ q (represents-set (m .instances) σ l (with-code i r χ) (inst (i .struct) c (values χ) (i .env)) (R .1) (refl, h, refl, refl)) refl
-        , ap (meet z) (R .2)))
+      let z : Bool = settled p (a .struct) v (y .is) (lookup (a .env) v) in (
+        state s (update-env (set σ l (inst (i .struct) c (values χ) (i .env))) q (assign (a .env) v (y .is))) (meet z b),
+        ComWr (rw (f, x) at g) (inst-at (m .instances) σ q (R .1) j .1) u (settles W p (a .struct) v (a .env) (y .is) (lookup (a .env) v) refl w) refl refl,
+        (
+          R .0,
+          represents-env _ _ q (represents-set (m .instances) σ l (with-code i r χ) (inst (i .struct) c (values χ) (i .env)) (R .1) (refl, h, refl, refl)) refl,
+          ap (meet z) (R .2),
+        ),
+      )
   way-follows i r d (calculated {o = o} {x = x} {y = y} {χ = χ} {z = z} k a) e g =
       let (c, f, h) = plain-head d (oper o) (map erase r) e in
       put-follows (with-code i r (tagged (result-type (sort o) (x .by)) z ∷ χ)) (inst (i .struct) c (z ∷ values χ) (i .env))
@@ -147,14 +114,17 @@ module _ (W : Wanted) (p : Program) (m : Machine) (l : ℕ) (s : Sched) (σ : Li
       let q : length (m .instances) ≡ length σ = represents-length (m .instances) σ (R .1) in
       let xs : List Val = reverse (values (take n (i .stack))) in
       let j : Inst = inst (i .struct) c (label (length σ) ∷ values (drop n (i .stack))) (i .env) in
-      let i′ : Instance = with-code i r (tagged (ref k) (label (length (m .instances))) ∷ drop n (i .stack)) in
-      ( state s (set σ l j ++ inst k nil [] (fresh-env xs) ∷ []) (meet false b)
-      , ComCons xs (values (drop n (i .stack))) (rw f at g) (rw (length-reverse, values-length) (length-take-le n (i .stack) a)) (parted n (i .stack)) (rw q at u) refl refl
-      , ( R .0
-        , represents-append (set (m .instances) l i′) (set σ l j) (made p m l i k n (i .stack)) (inst k nil [] (fresh-env xs))
-          (represents-set (m .instances) σ l i′ j (R .1) (refl, h, rw q, refl))
-          (refl, refl, refl, refl)
-        , ap (meet false) (R .2)))
+      let i′ : Instance = with-code i r (tagged (ref k) (label (length (m .instances))) ∷ drop n (i .stack)) in (
+        state s (set σ l j ++ inst k nil [] (fresh-env xs) ∷ []) (meet false b),
+        ComCons xs (values (drop n (i .stack))) (rw f at g) (rw (length-reverse, values-length) (length-take-le n (i .stack) a)) (parted n (i .stack)) (rw q at u) refl refl,
+        (
+          R .0,
+          represents-append (set (m .instances) l i′) (set σ l j) (made p m l i k n (i .stack)) (inst k nil [] (fresh-env xs))
+              (represents-set (m .instances) σ l i′ j (R .1) (refl, h, rw q, refl))
+              (refl, refl, refl, refl),
+          ap (meet false) (R .2),
+        ),
+      )
   way-follows i r d (filled {k = k} a u) e g =
       let (c, f, h) = plain-head d (cons k) (map erase r) e in
       inl (refl, no-label (rw f at g) (rw values-length a) (rw (represents-length (m .instances) σ (R .1)) at u))

@@ -7,6 +7,7 @@ pub mod Wanted
 pub mod RepresentsLaws
 pub mod Performed
 pub mod PerformedLaws
+pub mod Heads
 pub mod CommandFollows
 pub mod CommandComplete
 pub mod CommandAgrees

@@ -107,10 +107,13 @@ module _ (W : Wanted) (p : Program) where
     -- no move comes of it, where no instance holds commands, exactly where no rule and no condition of 36 fits
     pub move-stuck : (st : State) → Represents m st → Still (m .instances)
         → (move p m ≡ stuck) ↔ (((st′ : State) → Rule p schedule st st′ → ⊥) × (Nested st → ⊥))
-    move-stuck (state s σ b) R t =
-        ( λ e. ( λ st′ r. let (m′, f, h) = move-complete R r in let z : _≡_ {A = ℕ} 0 1 = cc in omega arith
-               , λ h. let f = move-nested (state s σ b) R .1 h in let z : _≡_ {A = ℕ} 0 1 = cc in omega arith)
-        , λ h. go (move p m) (outcome s σ b R) h)
+    move-stuck (state s σ b) R t = (
+      λ e. (
+        λ st′ r. let (m′, f, h) = move-complete R r in let z : _≡_ {A = ℕ} 0 1 = cc in omega arith,
+        λ h. let f = move-nested (state s σ b) R .1 h in let z : _≡_ {A = ℕ} 0 1 = cc in omega arith,
+      ),
+      λ h. go (move p m) (outcome s σ b R) h,
+    )
       where
         go : (o : Out) → Moves p s σ b o → ((st′ : State) → Rule p schedule (state s σ b) st′ → ⊥) × (Nested (state s σ b) → ⊥) → o ≡ stuck
         go (next m′) f h = let (st′, r, q) = f (still-done (m .instances) σ (R .1) .0 t) in absurd (h .0 st′ r)

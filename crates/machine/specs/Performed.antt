@@ -54,10 +54,10 @@ pub data Performed (p : Program) (m : Machine) (l : ℕ) (i : Instance) (r : Lis
       → (q < structs p → v < arity p (j .struct) → ⊥)
       → (v < arity p (j .struct) → lookup (j .env) v ≡ none → ⊥)
       → Performed p m l i r n
-        (next
-        (with-stability
-        (with-instances m (update-env (set (m .instances) l (with-code i r χ)) q (assign (j .env) v (y .is))))
-        (meet (settled p (j .struct) v (y .is) (lookup (j .env) v)) (m .stability))))
+      (next
+      (with-stability
+      (with-instances m (update-env (set (m .instances) l (with-code i r χ)) q (assign (j .env) v (y .is))))
+      (meet (settled p (j .struct) v (y .is) (lookup (j .env) v)) (m .stability))))
   calculated : {o : Op} {x y : Tagged} {χ : List Tagged} {z : Val}
       → i .stack ≡ y ∷ x ∷ χ
       → apply o (x .is) (y .is) ≡ value z
@@ -70,12 +70,12 @@ pub data Performed (p : Program) (m : Machine) (l : ℕ) (i : Instance) (r : Lis
       → arity p k ≤ length (i .stack)
       → length (m .instances) < max-instances
       → Performed p m l i r (n-cons k)
-        (next
-        (with-stability
-        (with-instances m
-        (set (m .instances) l (with-code i r (tagged (ref k) (label (length (m .instances))) ∷ drop (arity p k) (i .stack)))
-        ++ made p m l i k (arity p k) (i .stack) ∷ []))
-        (meet false (m .stability))))
+      (next
+      (with-stability
+      (with-instances m
+      (set (m .instances) l (with-code i r (tagged (ref k) (label (length (m .instances))) ∷ drop (arity p k) (i .stack)))
+      ++ made p m l i k (arity p k) (i .stack) ∷ []))
+      (meet false (m .stability))))
   filled : {k : ℕ}
       → arity p k ≤ length (i .stack)
       → max-instances ≤ length (m .instances)

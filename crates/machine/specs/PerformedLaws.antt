@@ -145,7 +145,7 @@ performs P p m l {i} g e h =
 -- what holds of `stuck` and of every way through the next command of instance l holds of its command
 pub by-ways : (P : Out → Type 0) (p : Program) (m : Machine) (l : ℕ) → P stuck
     → ((i : Instance) (n : Note) (r : List Note) (o : Out) → getElem? (m .instances) l ≡ some i → i .code ≡ n ∷ r
-      → Performed p m l (with-written i (now-written n (i .written))) r n o → P o)
+    → Performed p m l (with-written i (now-written n (i .written))) r n o → P o)
     → P (command p l m)
 unfolding command command-at command-of
 by-ways P p m l s h = at (getElem? (m .instances) l) refl

@@ -1,16 +1,19 @@
 -- Laws of Represents: it looks up, replaces and adds place by place, and a machine stands for at most one state.
 use Prim.Native.Nat.{ℕ, zero, suc}
-use mathlib.Core.Path.{_≡_, refl, ap, sym, _∙_}
+use mathlib.Core.Path.{_≡_, refl, ap, sym, _∙_, subst}
+use native.Mathlib.Omega.{arith}
 use mathlib.Core.Logic.{_↔_}
 use mathlib.Core.Option.{Option, none, some}
 use mathlib.Core.List.{List, [], _∷_, _++_, map}
-use lib.ListN.{length, getElem?, set}
+use lib.ListN.{length, getElem?, set, take, drop, length-map}
+use Rattle.types.specs.Types.{Ty}
+use Rattle.types.specs.Values.{Val}
 use Rattle.commands.specs.Commands.{Coms, Coms.nil, Coms.act, Coms.if-then, flatten}
 use Rattle.commands.specs.Noted.{Note, erase}
 use Rattle.program.specs.Counts.{All}
 use Rattle.machine.specs.Published.{Env, Inst, Inst.inst, State, State.state, update-env}
 use Rattle.machine.specs.Rules.{Done}
-use Rattle.machine.specs.Machine.{Instance, Machine, update-env as change-env}
+use Rattle.machine.specs.Machine.{Tagged, tagged, Instance, Machine, update-env as change-env}
 use Rattle.machine.specs.Represents.{values, Represents-inst, Represents-all, Represents}
 use Rattle.machine.specs.Wanted.{Wanted}
 
@@ -96,6 +99,32 @@ represents-map f g h [] [] R = tt
 represents-map f g h [] (y ∷ σ) R = absurd R
 represents-map f g h (x ∷ is) [] R = absurd R
 represents-map f g h (x ∷ is) (y ∷ σ) R = (h x y (R .0), represents-map f g h is σ (R .1))
+
+-- Stacks --------------------------------------------------------------------------
+
+-- taking the values off, or the notes, keeps the length
+pub values-length : (χ : List Tagged) → length (values χ) ≡ length χ
+unfolding values
+values-length χ = length-map χ (λ x. x .is)
+
+-- leaving n elements out before and after a map is one
+pub map-drop : {A B : Type 0} (f : A → B) (n : ℕ) (l : List A) → map f (drop n l) ≡ drop n (map f l)
+map-drop f ℕ.zero l = refl
+map-drop f (ℕ.suc n) [] = refl
+map-drop f (ℕ.suc n) (x ∷ l) = map-drop f n l
+
+-- a stack that stands for one with a value on top has it on top, under some tag
+pub top : (P : List Tagged → Type 0) {v : Val} {ψ : List Val} (χ : List Tagged) → values χ ≡ v ∷ ψ
+    → ((t : Ty) (χ′ : List Tagged) → values χ′ ≡ ψ → P (tagged t v ∷ χ′)) → P χ
+unfolding values
+top P [] e h = let z : _≡_ {A = ℕ} 0 1 = cc in absurd (omega arith)
+top P {v} (x ∷ χ) e h =
+    let f : x .is ≡ v = cc in subst (λ u. P (tagged (x .by) u ∷ χ)) (sym f) (h (x .by) χ cc)
+
+pub map-take : {A B : Type 0} (f : A → B) (n : ℕ) (l : List A) → map f (take n l) ≡ take n (map f l)
+map-take f zero l = refl
+map-take f (suc n) [] = refl
+map-take f (suc n) (x ∷ l) = ap {B = List _} (λ r. f x ∷ r) (map-take f n l)
 
 -- No commands --------------------------------------------------------------------
 
