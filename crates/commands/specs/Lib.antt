@@ -5,3 +5,10 @@ pub mod Typing
 pub mod Depth
 pub mod Bounds
 pub mod Noted
+pub mod Ways
+pub mod CommandLaws
+pub mod NotedLaws
+pub mod Sizes
+pub mod SizeLaws
+pub mod DepthLaws
+pub mod Rows
