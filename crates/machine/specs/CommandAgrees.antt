@@ -11,7 +11,6 @@ use Rattle.machine.specs.Machine.{Machine, Out, Out.next, Out.refused, O
 use Rattle.machine.specs.Represents.{Represents}
 use Rattle.machine.specs.CommandFollows.{Follows, command-outcome}
 use Rattle.machine.specs.CommandComplete.{Leads, rule-leads, full-refused, exceeded-refused}
-use Rattle.machine.specs.Wanted.{Wanted}
 
 -- the machine that an outcome leads to
 pub led : (st : State) (o : Out) → Leads st o → (m : Machine) × (o ≡ next m) × (Represents m st)
@@ -19,9 +18,9 @@ led st (next m) h = (m, refl, h)
 led st (refused n) h = absurd h
 led st stuck h = absurd h
 
-module _ (W : Wanted) (p : Program) (l : ℕ) (m : Machine) where
+module _ (p : Program) (l : ℕ) (m : Machine) where
   outcome : (st : State) → Represents m st → Follows p l st (command p l m)
-  outcome (state s σ b) R = command-outcome W p m l s σ b R
+  outcome (state s σ b) R = command-outcome p m l s σ b R
 
   -- what the next machine stands for, a rule gives
   pub command-follows : (st : State) {m′ : Machine} → Represents m st → command p l m ≡ next m′ → (st′ : State) × (Rule p (instance l) st st′) × (Represents m′ st′)
@@ -29,11 +28,11 @@ module _ (W : Wanted) (p : Program) (l : ℕ) (m : Machine) where
 
   -- what a rule gives, the next machine stands for
   pub command-complete : {st st′ : State} → Represents m st → Rule p (instance l) st st′ → (m′ : Machine) × (command p l m ≡ next m′) × (Represents m′ st′)
-  command-complete {st = state s σ b} {st′} R r = led st′ (command p l m) (rule-leads W p m l s σ b R r)
+  command-complete {st = state s σ b} {st′} R r = led st′ (command p l m) (rule-leads p m l s σ b R r)
 
   -- a command is refused with 34 exactly where it is cons with 256 instances
   pub command-full : (st : State) → Represents m st → (command p l m ≡ refused full) ↔ (Full p l st)
-  command-full (state s σ b) R = (λ e. go (rw e at (outcome (state s σ b) R)), full-refused W p m l s σ b R)
+  command-full (state s σ b) R = (λ e. go (rw e at (outcome (state s σ b) R)), full-refused p m l s σ b R)
     where
       go : Follows p l (state s σ b) (refused full) → Full p l (state s σ b)
       go (inl h) = h .1
@@ -41,7 +40,7 @@ module _ (W : Wanted) (p : Program) (l : ℕ) (m : Machine) where
 
   -- and with 35 exactly where the divisor is zero or the result outside its type
   pub command-exceeded : (st : State) → Represents m st → (command p l m ≡ refused exceeded) ↔ (Exceeded l st)
-  command-exceeded (state s σ b) R = (λ e. go (rw e at (outcome (state s σ b) R)), exceeded-refused W p m l s σ b R)
+  command-exceeded (state s σ b) R = (λ e. go (rw e at (outcome (state s σ b) R)), exceeded-refused p m l s σ b R)
     where
       go : Follows p l (state s σ b) (refused exceeded) → Exceeded l (state s σ b)
       go (inl h) = absurd (omega arith)

@@ -17,8 +17,11 @@ use Rattle.commands.specs.Commands.{Com.push, Com.push-this, Com.rd, Com.wr, Co
 use Rattle.commands.specs.Context.{params-of}
 use Rattle.commands.specs.Typing.{sort}
 use Rattle.commands.specs.Noted.{Note, erase}
+use Rattle.commands.specs.CommandLaws.{flatten-then}
 use Rattle.words.specs.Operators.{Applies, Exceeds}
 use Rattle.words.specs.Apply.{Answer, apply, same-val}
+use Rattle.words.specs.ApplyLaws.{apply-value, apply-outside}
+use Rattle.words.specs.TestLaws.{same-val-exact}
 use Rattle.machine.specs.Published.{Sched, Env, lookup, assign, fresh-env, Inst, Inst.inst, State, State.state, update-env, structs, arity}
 use Rattle.machine.specs.Rules.{Settled, Settled.no-parameter, Settled.same-value, Settled.other-value, meet, Actor.instance, Rule, Rule.ComPush, Rule.ComPushThis, Rule.ComRd, Rule.ComWr, Rule.ComWrNSkip, Rule.ComNot, Rule.ComOp, Rule.ComCons, Rule.ComIfT, Rule.ComIfF}
 use Rattle.machine.specs.Stops.{Full, Full.no-label, Exceeded, Exceeded.no-result}
@@ -27,7 +30,6 @@ use Rattle.machine.specs.Represents.{values, Represents-inst, Represents
 use Rattle.machine.specs.RepresentsLaws.{instance-at, values-length, map-drop, map-take, top, represents-length, represents-set, represents-env, represents-append}
 use Rattle.machine.specs.PerformedLaws.{performs}
 use Rattle.machine.specs.Heads.{Means, Means.m-push, Means.m-this, Means.m-not, Means.m-rd, Means.m-get, Means.m-wr, Means.m-set, Means.m-cons, Means.m-op, Means.m-if, next-note}
-use Rattle.machine.specs.Wanted.{Wanted}
 
 -- a machine comes to be that stands for this state
 abbrev pub Leads : State → Out → Type 0
@@ -35,7 +37,7 @@ Leads st (next m) = Represents m st
 Leads st (refused n) = ⊥
 Leads st stuck = ⊥
 
-module _ (W : Wanted) (p : Program) where
+module _ (p : Program) where
   -- the answer of rule ComWr, whether a write leaves stability as it is, is the machine's
   pub settled-is : {k v : ℕ} {ξ : Env} {x : Val} {u : Bool} → Settled p k v ξ x u → settled p k v x (lookup ξ v) ≡ u
   unfolding settled
@@ -44,11 +46,11 @@ module _ (W : Wanted) (p : Program) where
       go : (o : Option Val) → settled p k v x o ≡ true
       go none = refl
       go (some y) = rw (le-ltb v (arity p k) h, settled)
-  settled-is {k} {v} {ξ} {x} (same-value h e) = rw (e, settled, lt-ltb v (arity p k) h) (W .same-val-exact x x .1 refl)
+  settled-is {k} {v} {ξ} {x} (same-value h e) = rw (e, settled, lt-ltb v (arity p k) h) (same-val-exact x x .1 refl)
   settled-is {k} {v} {ξ} {x} (other-value {y = y} h e n) = rw (e, settled, lt-ltb v (arity p k) h) (go (same-val y x) refl)
     where
       go : (t : Bool) → same-val y x ≡ t → t ≡ false
-      go true f = absurd (n (W .same-val-exact y x .0 f))
+      go true f = absurd (n (same-val-exact y x .0 f))
       go false f = refl
 
 -- a parameter that a write settles has a value
@@ -57,7 +59,7 @@ has-value p {x = x} (no-parameter h) a = (x, absurd (omega arith))
 has-value p {x = x} (same-value h e) a = (x, e)
 has-value p (other-value {y = y} h e n) a = (y, e)
 
-module _ (W : Wanted) (p : Program) (m : Machine) (l : ℕ) (s : Sched) (σ : List Inst) (b : List Bool) (R : Represents m (state s σ b)) where
+module _ (p : Program) (m : Machine) (l : ℕ) (s : Sched) (σ : List Inst) (b : List Bool) (R : Represents m (state s σ b)) where
   -- what holds of performing the next command of instance l holds of the command
   taken : (P : Out → Type 0) {k : ℕ} {c : Coms} {χ : List Val} {ξ : Env} {f : Flat} {fs : List Flat}
       → getElem? σ l ≡ some (inst k c χ ξ) → flatten c ≡ f ∷ fs
@@ -145,7 +147,7 @@ module _ (W : Wanted) (p : Program) (m : Machine) (l : ℕ) (s : Sched) (σ : Li
         to-leads = (
           R .0,
           represents-env _ _ q (represents-set (m .instances) σ l (with-code i r χ′) (inst k c χ ξ) (R .1) (ek, ec, ex, eξ)) (ap (λ z. assign z v y) eη),
-          ap₂ meet (settled-is W p settled-there) (R .2),
+          ap₂ meet (settled-is p settled-there) (R .2),
         )
 
         parameter-leads : v < arity p (a .struct) → Wrote (write-parameter p m l i r χ′ v y q a (lookup (a .env) v))
@@ -178,7 +180,7 @@ module _ (W : Wanted) (p : Program) (m : Machine) (l : ℕ) (s : Sched) (σ : Li
         → Leads (state s (set σ l (inst k c (z ∷ χ) ξ)) b) (perform p m l i n r)
     unfolding operated values
     op-leads {o} {x} {y} {z} {χ = χ} e h t =
-        answered (Leads (state s (set σ l (inst k c (z ∷ χ) ξ)) b)) e (W .apply-value o x y z .1 h) t
+        answered (Leads (state s (set σ l (inst k c (z ∷ χ) ξ)) b)) e (apply-value o x y z .1 h) t
         λ u χ′ f. put-leads (with-code i r (tagged u z ∷ χ′)) (inst k c (z ∷ χ) ξ) (ek, ec, cc, eξ)
 
     cons-leads : {j : ℕ} {n : Note} (xs χ : List Val) → values (i .stack) ≡ reverse xs ++ χ → length xs ≡ arity p j → length σ < max-instances → Means (plain (cons j)) n
@@ -210,7 +212,7 @@ module _ (W : Wanted) (p : Program) (m : Machine) (l : ℕ) (s : Sched) (σ : Li
 
     exceeded-is : {o : Op} {x y : Val} {n : Note} {χ : List Val} → values (i .stack) ≡ y ∷ x ∷ χ → Exceeds o x y → Means (plain (oper o)) n → perform p m l i n r ≡ refused exceeded
     unfolding operated
-    exceeded-is {o} {x} {y} e h t = answered (λ out. out ≡ refused exceeded) e (W .apply-outside o x y .1 h) t (λ u χ′ f. refl)
+    exceeded-is {o} {x} {y} e h t = answered (λ out. out ≡ refused exceeded) e (apply-outside o x y .1 h) t (λ u χ′ f. refl)
 
   -- if
   branch-leads : (i : Instance) (r : List Note) (d c : Coms) {k : ℕ} {ξ : Env} {χ : List Val} {n : Note} (u : Bool)
@@ -219,7 +221,7 @@ module _ (W : Wanted) (p : Program) (m : Machine) (l : ℕ) (s : Sched) (σ : Li
   unfolding perform branch
   branch-leads i r d c {k} {ξ} {χ} true ek ec ex eξ m-if =
       top (λ ψ. Leads (state s (set σ l (inst k (then d c) χ ξ)) b) (branch p m l i (length (flatten d)) r ψ)) (i .stack) ex
-      λ t χ′ f. put-leads (with-code i r χ′) (inst k (then d c) χ ξ) (ek, ec ∙ sym (W .flatten-then d c), f, eξ)
+      λ t χ′ f. put-leads (with-code i r χ′) (inst k (then d c) χ ξ) (ek, ec ∙ sym (flatten-then d c), f, eξ)
   branch-leads i r d c {k} {ξ} {χ} false ek ec ex eξ m-if =
       top (λ ψ. Leads (state s (set σ l (inst k c χ ξ)) b) (branch p m l i (length (flatten d)) r ψ)) (i .stack) ex
       λ t χ′ f. put-leads (with-code i (drop (length (flatten d)) r) χ′) (inst k c χ ξ)

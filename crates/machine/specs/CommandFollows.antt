@@ -16,7 +16,10 @@ use Rattle.program.specs.Tree.{Program}
 use Rattle.commands.specs.Commands.{Com.push, Com.push-this, Com.rd, Com.wr, Com.cons, Com.not, Com.oper, Coms, Coms.nil, then, flatten}
 use Rattle.commands.specs.Typing.{sort}
 use Rattle.commands.specs.Noted.{Note, erase}
+use Rattle.commands.specs.CommandLaws.{flatten-then}
 use Rattle.words.specs.Apply.{same-val}
+use Rattle.words.specs.ApplyLaws.{apply-value, apply-outside}
+use Rattle.words.specs.TestLaws.{same-val-exact}
 use Rattle.machine.specs.Published.{Sched, Env, lookup, assign, fresh-env, Inst, Inst.inst, State, State.state, update-env, arity}
 use Rattle.machine.specs.Rules.{Settled, Settled.no-parameter, Settled.same-value, Settled.other-value, meet, Actor.instance, Rule, Rule.ComPush, Rule.ComPushThis, Rule.ComRd, Rule.ComWr, Rule.ComWrNSkip, Rule.ComNot, Rule.ComOp, Rule.ComCons, Rule.ComIfT, Rule.ComIfF}
 use Rattle.machine.specs.Stops.{Full, Full.no-label, Exceeded, Exceeded.no-result}
@@ -26,7 +29,6 @@ use Rattle.machine.specs.RepresentsLaws.{inst-at, values-length, map-dro
 use Rattle.machine.specs.Performed.{Performed, Performed.pushed, Performed.pushed-this, Performed.negated, Performed.read-one, Performed.skipped, Performed.wrote, Performed.calculated, Performed.exceeding, Performed.constructed, Performed.filled, Performed.branched, Performed.no-way}
 use Rattle.machine.specs.PerformedLaws.{by-ways}
 use Rattle.machine.specs.Heads.{plain-head, if-head, reads-erase, writes-erase}
-use Rattle.machine.specs.Wanted.{Wanted}
 
 -- what an outcome says of the published state
 abbrev pub Follows : Program → ℕ → State → Out → Type 0
@@ -34,7 +36,7 @@ Follows p l st (next m) = (st′ : State) × (Rule p (instance l) st st′) × (
 Follows p l st (refused n) = ((n ≡ full) × (Full p l st)) ⊎ ((n ≡ exceeded) × (Exceeded l st))
 Follows p l st stuck = Unit {0}
 
-module _ (W : Wanted) (p : Program) where
+module _ (p : Program) where
   -- the machine's answer, whether a write leaves stability as it is, is that of rule ComWr
   pub settles : (k v : ℕ) (ξ : Env) (x : Val) (o : Option Val) → lookup ξ v ≡ o → (v < arity p k → o ≡ none → ⊥) → Settled p k v ξ x (settled p k v x o)
   unfolding settled
@@ -46,8 +48,8 @@ module _ (W : Wanted) (p : Program) where
   settles k v ξ x (some y) e h = go (ltb v (arity p k)) refl (same-val y x) refl
     where
       go : (t : Bool) → ltb v (arity p k) ≡ t → (u : Bool) → same-val y x ≡ u → Settled p k v ξ x (elim (ltb v (arity p k)) [ true ↦ same-val y x | false ↦ true ])
-      go true a true b = rw (a, b) (same-value (ltb-true v (arity p k) a) (e ∙ ap {B = Option Val} some (W .same-val-exact y x .0 b)))
-      go true a false b = rw (a, b) (other-value (ltb-true v (arity p k) a) e (λ q. let z : _≡_ {A = ℕ} 0 1 = cc (W .same-val-exact y x .1 q) in omega arith))
+      go true a true b = rw (a, b) (same-value (ltb-true v (arity p k) a) (e ∙ ap {B = Option Val} some (same-val-exact y x .0 b)))
+      go true a false b = rw (a, b) (other-value (ltb-true v (arity p k) a) e (λ q. let z : _≡_ {A = ℕ} 0 1 = cc (same-val-exact y x .1 q) in omega arith))
       go false a u b = rw a (no-parameter (ltb-false v (arity p k) a))
 
 -- the values on top and those beneath
@@ -55,7 +57,7 @@ parted : (n : ℕ) (χ : List Tagged) → values χ ≡ reverse (reverse (values
 unfolding values
 parted n χ = rw (reverse-reverse, ← map-append, take-append-drop)
 
-module _ (W : Wanted) (p : Program) (m : Machine) (l : ℕ) (s : Sched) (σ : List Inst) (b : List Bool) (R : Represents m (state s σ b)) where
+module _ (p : Program) (m : Machine) (l : ℕ) (s : Sched) (σ : List Inst) (b : List Bool) (R : Represents m (state s σ b)) where
   -- instance l is put back
   put-follows : (i : Instance) (j : Inst) → Rule p (instance l) (state s σ b) (state s (set σ l j) b) → Represents-inst i j
       → Follows p l (state s σ b) (next (put m l i))
@@ -94,7 +96,7 @@ module _ (W : Wanted) (p : Program) (m : Machine) (l : ℕ) (s : Sched) (σ : Li
       let (c, f, h) = plain-head d (wr v) (map erase r) (rw (writes-erase k) at e) in
       let z : Bool = settled p (a .struct) v (y .is) (lookup (a .env) v) in (
         state s (update-env (set σ l (inst (i .struct) c (values χ) (i .env))) q (assign (a .env) v (y .is))) (meet z b),
-        ComWr (rw (f, x) at g) (inst-at (m .instances) σ q (R .1) j .1) u (settles W p (a .struct) v (a .env) (y .is) (lookup (a .env) v) refl w) refl refl,
+        ComWr (rw (f, x) at g) (inst-at (m .instances) σ q (R .1) j .1) u (settles p (a .struct) v (a .env) (y .is) (lookup (a .env) v) refl w) refl refl,
         (
           R .0,
           represents-env _ _ q (represents-set (m .instances) σ l (with-code i r χ) (inst (i .struct) c (values χ) (i .env)) (R .1) (refl, h, refl, refl)) refl,
@@ -104,10 +106,10 @@ module _ (W : Wanted) (p : Program) (m : Machine) (l : ℕ) (s : Sched) (σ : Li
   way-follows i r d (calculated {o = o} {x = x} {y = y} {χ = χ} {z = z} k a) e g =
       let (c, f, h) = plain-head d (oper o) (map erase r) e in
       put-follows (with-code i r (tagged (result-type (sort o) (x .by)) z ∷ χ)) (inst (i .struct) c (z ∷ values χ) (i .env))
-      (ComOp (rw (f, k) at g) (W .apply-value o (x .is) (y .is) z .0 a) refl)
+      (ComOp (rw (f, k) at g) (apply-value o (x .is) (y .is) z .0 a) refl)
       (refl, h, refl, refl)
   way-follows i r d (exceeding {o = o} {x = x} {y = y} k a) e g =
-      let (c, f, h) = plain-head d (oper o) (map erase r) e in inr (refl, no-result (rw (f, k) at g) (W .apply-outside o (x .is) (y .is) .0 a))
+      let (c, f, h) = plain-head d (oper o) (map erase r) e in inr (refl, no-result (rw (f, k) at g) (apply-outside o (x .is) (y .is) .0 a))
   way-follows i r d (constructed {k = k} a u) e g =
       let (c, f, h) = plain-head d (cons k) (map erase r) e in
       let n : ℕ = arity p k in
@@ -130,7 +132,7 @@ module _ (W : Wanted) (p : Program) (m : Machine) (l : ℕ) (s : Sched) (σ : Li
       inl (refl, no-label (rw f at g) (rw values-length a) (rw (represents-length (m .instances) σ (R .1)) at u))
   way-follows i r d (branched {n = n} {b = true} {χ = χ} x) e g =
       let (a, c, f, h, k) = if-head d n (map erase r) e in
-      put-follows (with-code i r χ) (inst (i .struct) (then a c) (values χ) (i .env)) (ComIfT (rw (f, x) at g) refl) (refl, k ∙ sym (W .flatten-then a c), refl, refl)
+      put-follows (with-code i r χ) (inst (i .struct) (then a c) (values χ) (i .env)) (ComIfT (rw (f, x) at g) refl) (refl, k ∙ sym (flatten-then a c), refl, refl)
   way-follows i r d (branched {n = n} {b = false} {χ = χ} x) e g =
       let (a, c, f, h, k) = if-head d n (map erase r) e in
       put-follows (with-code i (drop n r) χ) (inst (i .struct) c (values χ) (i .env)) (ComIfF (rw (f, x) at g) refl)

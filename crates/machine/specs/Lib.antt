@@ -3,7 +3,6 @@ pub mod Rules
 pub mod Stops
 pub mod Machine
 pub mod Represents
-pub mod Wanted
 pub mod RepresentsLaws
 pub mod Performed
 pub mod PerformedLaws

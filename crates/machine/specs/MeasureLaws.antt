@@ -13,13 +13,13 @@ use Rattle.types.specs.Values.{Val.label}
 use Rattle.program.specs.Tree.{Stmts, Program}
 use Rattle.commands.specs.Context.{context}
 use Rattle.commands.specs.Noted.{Note, erase, noted}
+use Rattle.commands.specs.NotedLaws.{erased}
 use Rattle.machine.specs.Published.{Sched, Sched.done, Sched.start, Sched.start-in, Sched.fixpoint, Sched.active, before, Env, arity, step-of}
 use Rattle.machine.specs.Machine.{Tagged, tagged, Instance, Machine, Out, Out.next, Out.refused, Out.stuck, with-code, with-written, update-env, made, now-written, command, given, started, started-in, repeat, move-by, move}
 use Rattle.machine.specs.RepresentsLaws.{Still}
 use Rattle.machine.specs.Performed.{Performed, Performed.pushed, Performed.pushed-this, Performed.negated, Performed.read-one, Performed.skipped, Performed.wrote, Performed.calculated, Performed.exceeding, Performed.constructed, Performed.filled, Performed.branched, Performed.no-way}
 use Rattle.machine.specs.PerformedLaws.{by-ways}
 use Rattle.machine.specs.Measure.{weight, bound, passages, measure, total, codes, count, share, share-in}
-use Rattle.machine.specs.Wanted.{Wanted}
 
 -- Moves ----------------------------------------------------------------------------
 
@@ -127,11 +127,11 @@ unfolding codes total
 codes-map f g h [] t = refl
 codes-map f g h (i ∷ is) t = rw (h i (t .0), codes-map f g h is (t .1))
 
-module _ (W : Wanted) (p : Program) where
+module _ (p : Program) where
   given-code : (o : Option Stmts) (i : Instance) → i .code ≡ [] → length (given p o i .code) ≡ count o
   unfolding given count
   given-code none i e = ap length e
-  given-code (some b) i e = sym (length-map (noted (context p (i .struct) b) b) erase) ∙ ap length (W .erased (context p (i .struct) b) b)
+  given-code (some b) i e = sym (length-map (noted (context p (i .struct) b) b) erase) ∙ ap length (erased (context p (i .struct) b) b)
 
   started-code : (n : ℕ) (i : Instance) → i .code ≡ [] → length (started p n i .code) ≡ share p n i
   unfolding started share

@@ -13,6 +13,7 @@ use Rattle.types.specs.Limits.{max-stability}
 use Rattle.program.specs.Tree.{Stmts, Program}
 use Rattle.commands.specs.Commands.{commands}
 use Rattle.commands.specs.Context.{context}
+use Rattle.commands.specs.NotedLaws.{erased}
 use Rattle.machine.specs.Published.{Sched, Sched.done, Sched.start, Sched.start-in, Sched.fixpoint, Sched.active, before, Inst, Inst.inst, State, State.state, step-of}
 use Rattle.machine.specs.Rules.{Done, given, started, started-in, Actor.schedule, Rule, Rule.InitG, Rule.InitL, Rule.FixInit, Rule.FixIter, Rule.FixTerm}
 use Rattle.machine.specs.Stops.{Nested, Nested.no-entry}
@@ -21,7 +22,6 @@ use Rattle.machine.specs.Represents.{values, Represents-inst, Represents
 use Rattle.machine.specs.RepresentsLaws.{Still, still-done, represents-map}
 use Rattle.machine.specs.CommandComplete.{Leads}
 use Rattle.machine.specs.CommandAgrees.{led}
-use Rattle.machine.specs.Wanted.{Wanted}
 
 -- what an outcome of a move says of the published state
 abbrev pub Moves : Program → Sched → List Inst → List Bool → Out → Type 0
@@ -29,12 +29,12 @@ Moves p s σ b (next m) = Done σ → (st : State) × (Rule p schedule (state s 
 Moves p s σ b (refused n) = (n ≡ nested) × (Nested (state s σ b))
 Moves p s σ b stuck = Unit {0}
 
-module _ (W : Wanted) (p : Program) where
+module _ (p : Program) where
   -- the commands of a step with their notes stand for those of rules InitG and InitL
   given-represents : (o : Option Stmts) (i : Instance) (j : Inst) → Represents-inst i j → Represents-inst (equip p o i) (given o j)
   unfolding equip given values commands
   given-represents none i (inst k c χ ξ) r = r
-  given-represents (some b) i (inst k c χ ξ) r = (r .0, W .erased (context p (i .struct) b) b, refl, r .3)
+  given-represents (some b) i (inst k c χ ξ) r = (r .0, erased (context p (i .struct) b) b, refl, r .3)
 
   -- an instance of the machine begins the step where that of the state does
   pub started-represents : (n : ℕ) (i : Instance) (j : Inst) → Represents-inst i j → Represents-inst (begin p n i) (started p n j)

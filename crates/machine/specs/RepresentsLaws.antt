@@ -8,14 +8,14 @@ use mathlib.Core.List.{List, [], _∷_, _++_, map}
 use lib.ListN.{length, getElem?, set, take, drop, length-map}
 use Rattle.types.specs.Types.{Ty}
 use Rattle.types.specs.Values.{Val}
+use Rattle.program.specs.Counts.{All}
 use Rattle.commands.specs.Commands.{Coms, Coms.nil, Coms.act, Coms.if-then, flatten}
 use Rattle.commands.specs.Noted.{Note, erase}
-use Rattle.program.specs.Counts.{All}
+use Rattle.commands.specs.CommandLaws.{flatten-injective}
 use Rattle.machine.specs.Published.{Env, Inst, Inst.inst, State, State.state, update-env}
 use Rattle.machine.specs.Rules.{Done}
 use Rattle.machine.specs.Machine.{Tagged, tagged, Instance, Machine, update-env as change-env}
 use Rattle.machine.specs.Represents.{values, Represents-inst, Represents-all, Represents}
-use Rattle.machine.specs.Wanted.{Wanted}
 
 -- Place by place -----------------------------------------------------------------
 
@@ -154,23 +154,22 @@ still-done (x ∷ is) (inst k c χ ξ ∷ σ) R =
 
 -- One state ----------------------------------------------------------------------
 
-module _ (W : Wanted) where
-  -- instances stand for one list of instances of a state
-  pub represents-all-unique : (is : List Instance) (σ τ : List Inst) → Represents-all is σ → Represents-all is τ → σ ≡ τ
-  represents-all-unique [] [] [] R Q = refl
-  represents-all-unique [] [] (z ∷ τ) R Q = absurd Q
-  represents-all-unique [] (y ∷ σ) τ R Q = absurd R
-  represents-all-unique (x ∷ is) [] τ R Q = absurd R
-  represents-all-unique (x ∷ is) (y ∷ σ) [] R Q = absurd Q
-  represents-all-unique (x ∷ is) (inst k c χ ξ ∷ σ) (inst j d ψ η ∷ τ) R Q =
-      let h = represents-all-unique is σ τ (R .1) (Q .1) in
-      let a = R .0 in
-      let b = Q .0 in
-      let e = W .flatten-injective c d (sym (a .1) ∙ b .1) in
-      cc
+-- instances stand for one list of instances of a state
+pub represents-all-unique : (is : List Instance) (σ τ : List Inst) → Represents-all is σ → Represents-all is τ → σ ≡ τ
+represents-all-unique [] [] [] R Q = refl
+represents-all-unique [] [] (z ∷ τ) R Q = absurd Q
+represents-all-unique [] (y ∷ σ) τ R Q = absurd R
+represents-all-unique (x ∷ is) [] τ R Q = absurd R
+represents-all-unique (x ∷ is) (y ∷ σ) [] R Q = absurd Q
+represents-all-unique (x ∷ is) (inst k c χ ξ ∷ σ) (inst j d ψ η ∷ τ) R Q =
+    let h = represents-all-unique is σ τ (R .1) (Q .1) in
+    let a = R .0 in
+    let b = Q .0 in
+    let e = flatten-injective c d (sym (a .1) ∙ b .1) in
+    cc
 
-  -- a machine stands for at most one state
-  pub represents-unique : (m : Machine) (st st′ : State) → Represents m st → Represents m st′ → st ≡ st′
-  represents-unique m (state s σ b) (state t τ c) R Q =
-      let h = represents-all-unique (m .instances) σ τ (R .1) (Q .1) in
-      cc
+-- a machine stands for at most one state
+pub represents-unique : (m : Machine) (st st′ : State) → Represents m st → Represents m st′ → st ≡ st′
+represents-unique m (state s σ b) (state t τ c) R Q =
+    let h = represents-all-unique (m .instances) σ τ (R .1) (Q .1) in
+    cc

@@ -16,7 +16,6 @@ use Rattle.machine.specs.Represents.{values, Represents-all, Represents}
 use Rattle.machine.specs.RepresentsLaws.{represents-unique}
 use Rattle.machine.specs.CommandAgrees.{command-complete, command-full, command-exceeded}
 use Rattle.machine.specs.MoveAgrees.{move-complete, move-nested}
-use Rattle.machine.specs.Wanted.{Wanted}
 
 -- Every state has a machine --------------------------------------------------------
 
@@ -67,25 +66,25 @@ represented (state s σ b) = (machine s (map noting σ) b, (refl, noting-represe
 
 -- One next state -------------------------------------------------------------------
 
-module _ (W : Wanted) (p : Program) where
+module _ (p : Program) where
   -- machines that an outcome comes to, stand for one state
   same : {o : Out} {st st′ : State} → (m : Machine) × (o ≡ next m) × (Represents m st) → (m : Machine) × (o ≡ next m) × (Represents m st′) → st ≡ st′
   same {st = st} {st′ = st′} (m, e, R) (n, f, Q) =
-      let h : n ≡ m = cc in represents-unique W m st st′ R (subst (λ x. Represents x st′) h Q)
+      let h : n ≡ m = cc in represents-unique m st st′ R (subst (λ x. Represents x st′) h Q)
 
   -- a state has at most one next state by the command of an instance, and at most one by a move of the schedule
   pub rule-unique : (a : Actor) {st st′ st″ : State} → Rule p a st st′ → Rule p a st st″ → st′ ≡ st″
   rule-unique (instance l) {st} r q =
-      let (m, R) = represented st in same (command-complete W p l m R r) (command-complete W p l m R q)
+      let (m, R) = represented st in same (command-complete p l m R r) (command-complete p l m R q)
   rule-unique schedule {st} r q =
-      let (m, R) = represented st in same (move-complete W p m R r) (move-complete W p m R q)
+      let (m, R) = represented st in same (move-complete p m R r) (move-complete p m R q)
 
   -- no rule fits where 34 is due
   pub rule-not-full : {l : ℕ} {st st′ : State} → Rule p (instance l) st st′ → Full p l st → ⊥
   rule-not-full {l} {st} r h =
       let (m, R) = represented st in
-      let (m′, e, Q) = command-complete W p l m R r in
-      let f = command-full W p l m st R .1 h in
+      let (m′, e, Q) = command-complete p l m R r in
+      let f = command-full p l m st R .1 h in
       let z : _≡_ {A = ℕ} 0 1 = cc in
       omega arith
 
@@ -93,8 +92,8 @@ module _ (W : Wanted) (p : Program) where
   pub rule-not-exceeded : {l : ℕ} {st st′ : State} → Rule p (instance l) st st′ → Exceeded l st → ⊥
   rule-not-exceeded {l} {st} r h =
       let (m, R) = represented st in
-      let (m′, e, Q) = command-complete W p l m R r in
-      let f = command-exceeded W p l m st R .1 h in
+      let (m′, e, Q) = command-complete p l m R r in
+      let f = command-exceeded p l m st R .1 h in
       let z : _≡_ {A = ℕ} 0 1 = cc in
       omega arith
 
@@ -102,8 +101,8 @@ module _ (W : Wanted) (p : Program) where
   pub full-not-exceeded : {l : ℕ} {st : State} → Full p l st → Exceeded l st → ⊥
   full-not-exceeded {l} {st} g h =
       let (m, R) = represented st in
-      let e = command-full W p l m st R .1 g in
-      let f = command-exceeded W p l m st R .1 h in
+      let e = command-full p l m st R .1 g in
+      let f = command-exceeded p l m st R .1 h in
       let z : full ≡ exceeded = cc in
       omega arith
 
@@ -111,7 +110,7 @@ module _ (W : Wanted) (p : Program) where
   pub rule-not-nested : {st st′ : State} → Rule p schedule st st′ → Nested st → ⊥
   rule-not-nested {st} r h =
       let (m, R) = represented st in
-      let (m′, e, Q) = move-complete W p m R r in
-      let f = move-nested W p m st R .1 h in
+      let (m′, e, Q) = move-complete p m R r in
+      let f = move-nested p m st R .1 h in
       let z : _≡_ {A = ℕ} 0 1 = cc in
       omega arith
