@@ -1,6 +1,7 @@
 -- What falls as a machine acts: a measure of the schedule and its stability stack, which falls with every move, and the
 -- commands held, which fall with every command (01, 'Table and turns').
 use Prim.Native.Nat.{ℕ, suc, max, _+_}
+use mathlib.Core.Path.{_≡_}
 use mathlib.Core.Bool.{Bool, true, false}
 use mathlib.Core.Option.{Option, none, some}
 use mathlib.Core.List.{List, [], _∷_}
@@ -9,7 +10,7 @@ use lib.Dec.{eqb}
 use Rattle.program.specs.Tree.{Stmts, Program}
 use Rattle.commands.specs.Commands.{commands}
 use Rattle.machine.specs.Published.{Sched, Sched.done, Sched.start, Sched.start-in, Sched.fixpoint, Sched.active, step-of}
-use Rattle.machine.specs.Machine.{Instance, Machine}
+use Rattle.machine.specs.Machine.{Instance, Machine, Out.next, command, move}
 
 -- the moves that a schedule takes where each fixpoint goes through its body once
 unfoldable pub weight : Sched → ℕ
@@ -56,3 +57,12 @@ share p n i = count (step-of p (i .struct) n)
 
 unfoldable pub share-in : Program → ℕ → ℕ → Instance → ℕ
 share-in p x n i = elim (eqb (i .struct) x) [ true ↦ share p n i | false ↦ 0 ]
+
+-- n moves in a row; n commands in a row, of whichever instances
+pub data Moved (p : Program) : ℕ → Machine → Machine → Type 0 where
+  unmoved : {m : Machine} → Moved p 0 m m
+  moved : {n : ℕ} {m m′ m″ : Machine} → move p m ≡ next m′ → Moved p n m′ m″ → Moved p (suc n) m m″
+
+pub data Took (p : Program) : ℕ → Machine → Machine → Type 0 where
+  untaken : {m : Machine} → Took p 0 m m
+  took : {n : ℕ} {m m′ m″ : Machine} (l : ℕ) → command p l m ≡ next m′ → Took p n m′ m″ → Took p (suc n) m m″

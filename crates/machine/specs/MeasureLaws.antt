@@ -15,11 +15,11 @@ use Rattle.commands.specs.Context.{context}
 use Rattle.commands.specs.Noted.{Note, erase, noted}
 use Rattle.commands.specs.NotedLaws.{erased}
 use Rattle.machine.specs.Published.{Sched, Sched.done, Sched.start, Sched.start-in, Sched.fixpoint, Sched.active, before, Env, arity, step-of}
-use Rattle.machine.specs.Machine.{Tagged, tagged, Instance, Machine, Out, Out.next, Out.refused, Out.stuck, with-code, with-written, update-env, made, now-written, command, given, started, started-in, repeat, move-by, move}
+use Rattle.machine.specs.Machine.{Tagged, tagged, Instance, Machine, Out, Out.next, Out.refused, Out.stuck, with-code, with-written, update-env, made, now-written, command, given, started, started-in, machine, repeat, move-by, move}
 use Rattle.machine.specs.RepresentsLaws.{Still}
 use Rattle.machine.specs.Performed.{Performed, Performed.pushed, Performed.pushed-this, Performed.negated, Performed.read-one, Performed.skipped, Performed.wrote, Performed.calculated, Performed.exceeding, Performed.constructed, Performed.filled, Performed.branched, Performed.no-way}
 use Rattle.machine.specs.PerformedLaws.{by-ways}
-use Rattle.machine.specs.Measure.{weight, bound, passages, measure, total, codes, count, share, share-in}
+use Rattle.machine.specs.Measure.{weight, bound, passages, measure, total, codes, count, share, share-in, Moved, Moved.unmoved, Moved.moved, Took, Took.untaken, Took.took}
 
 -- Moves ----------------------------------------------------------------------------
 
@@ -63,6 +63,12 @@ falls-by p B (active f s) is (false ∷ b) h = (omega (arith, weight-before f (a
 pub move-falls : (p : Program) (B : ℕ) (m : Machine) {m′ : Machine} → bound (m .sched) ≤ B → move p m ≡ next m′ → (measure B m′ < measure B m) × (bound (m′ .sched) ≤ B)
 unfolding measure
 move-falls p B m h e = rw e at (falls-by p B (m .sched) (m .instances) (m .stability) h)
+
+-- so many moves in a row take at most the measure
+pub moves-bounded : (p : Program) (B : ℕ) {n : ℕ} {m m′ : Machine} → bound (m .sched) ≤ B → Moved p n m m′ → n + measure B m′ ≤ measure B m
+moves-bounded p B h unmoved = omega arith
+moves-bounded p B h (moved {m = m} e r) =
+    let (f, k) = move-falls p B m h e in omega (arith, moves-bounded p B k r)
 
 -- Commands -------------------------------------------------------------------------
 
@@ -120,6 +126,11 @@ command-shortens p l m e =
     rw e at (by-ways (Fewer (codes (m .instances))) p m l tt
     λ i n r o g f h. fewer p m l g (with-written i (now-written n (i .written))) r (omega (arith, ap length f)) h)
 
+-- so many commands in a row take at most those held
+pub commands-bounded : {p : Program} {n : ℕ} {m m′ : Machine} → Took p n m m′ → n + codes (m′ .instances) ≤ codes (m .instances)
+commands-bounded untaken = omega arith
+commands-bounded {p} (took {m = m} l e r) = omega (arith, command-shortens p l m e, commands-bounded r)
+
 -- Starts ---------------------------------------------------------------------------
 
 codes-map : (f : Instance → Instance) (g : Instance → ℕ) → ((i : Instance) → i .code ≡ [] → length (f i .code) ≡ g i) → (is : List Instance) → Still is → codes (map f is) ≡ total g is
@@ -152,3 +163,21 @@ module _ (p : Program) where
   -- and so for a step of one struct
   pub started-in-codes : (x n : ℕ) (is : List Instance) → Still is → codes (map (started-in p x n) is) ≡ total (share-in p x n) is
   started-in-codes x n = codes-map (started-in p x n) (share-in p x n) (started-in-code x n)
+
+  -- a started step takes at most the sum of its command counts, each over its instances, in turns
+  pub started-turns : (n : ℕ) (s : Sched) (is : List Instance) (b : List Bool) {k : ℕ} {m m′ : Machine}
+      → Still is → move p (machine (start n s) is b) ≡ next m → Took p k m m′ → k ≤ total (share p n) is
+  unfolding move-by
+  started-turns n s is b {m = m} t e r =
+      let h : m ≡ machine s (map (started p n) is) b = cc in
+      let f : codes (m .instances) ≡ total (share p n) is = rw h (started-codes n is t) in
+      omega (arith, commands-bounded r)
+
+  -- and so for a step of one struct
+  pub started-in-turns : (x n : ℕ) (s : Sched) (is : List Instance) (b : List Bool) {k : ℕ} {m m′ : Machine}
+      → Still is → move p (machine (start-in x n s) is b) ≡ next m → Took p k m m′ → k ≤ total (share-in p x n) is
+  unfolding move-by
+  started-in-turns x n s is b {m = m} t e r =
+      let h : m ≡ machine s (map (started-in p x n) is) b = cc in
+      let f : codes (m .instances) ≡ total (share-in p x n) is = rw h (started-in-codes x n is t) in
+      omega (arith, commands-bounded r)
