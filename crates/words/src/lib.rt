@@ -1,1 +1,220 @@
-// The definitions and laws of the operators stand in specs/.
+ghost use mathlib.Core.Path.{_≡_};
+ghost use mathlib.Core.Option.{some};
+ghost use Prim.Native.Nat.{ℕ, _<_};
+ghost use lib.IntN.{ℤ, pos};
+ghost use lib.Signed.{mag};
+ghost use Rattle.types.specs.Limits.{int-half};
+ghost use Rattle.types.specs.Values.{word-int, Val.int-val, Val.nat-val, Val.bool-val, Val.label};
+ghost use Rattle.words.specs.Operators.{quotient, remainder};
+ghost use Rattle.words.specs.Apply.{Answer.value, int-answer, answer, compute, apply};
+ghost use Rattle.words.specs.Words.{answered, op-of, apply-word, IntOf};
+
+// A value as its word, number 35, or operands that the operator does not take.
+pub enum Answered {
+    Value(u32),
+    Outside,
+    Unfit,
+}
+
+fn truth(t: bool) -> Answered
+    ensures { λ r. ⌜ r ≡ answered (value (bool-val t)) ⌝ }
+{
+    if t {
+        return Answered::Value(1);
+    }
+    Answered::Value(0)
+}
+
+// The Int that a word is in two's complement.
+fn int_of(a: u32) -> i64
+    ensures { λ r. ⌜ IntOf a r ⌝ }
+{
+    if a < 0x8000_0000 {
+        return a as i64;
+    }
+    (a as i64) - 0x1_0000_0000
+}
+
+fn int_answer(z: i64) -> Answered
+    ensures { λ r. ⌜ r ≡ answered (int-answer (some z)) ⌝ }
+{
+    if z < 0 {
+        if z < -0x8000_0000 {
+            return Answered::Outside;
+        }
+        return Answered::Value((z + 0x1_0000_0000) as u32);
+    }
+    if z < 0x8000_0000 {
+        return Answered::Value(z as u32);
+    }
+    Answered::Outside
+}
+
+fn quotient_of(x: i64, y: i64) -> i64
+    requires { ⌜ (mag x < int-half) × (y ≡ pos 0 → ⊥) ⌝ }
+    ensures { λ r. ⌜ r ≡ quotient x y ⌝ }
+{
+    x / y
+}
+
+fn remainder_of(x: i64, y: i64) -> i64
+    requires { ⌜ (mag x < int-half) × (y ≡ pos 0 → ⊥) ⌝ }
+    ensures { λ r. ⌜ r ≡ remainder x y ⌝ }
+{
+    x % y
+}
+
+// Every operator on two numbers of Int.
+fn compute_int(op: u8, x: i64, y: i64) -> Answered
+    requires { ⌜ (mag x < int-half) × (mag y < int-half) ⌝ }
+    ensures { λ r. ⌜ r ≡ answered (answer int-answer (compute (op-of op) x y)) ⌝ }
+{
+    if op <= 32 {
+        return truth(x == y);
+    }
+    if op == 33 {
+        return truth(x != y);
+    }
+    if op == 34 {
+        return truth(x <= y);
+    }
+    if op == 35 {
+        return truth(y <= x);
+    }
+    if op == 36 {
+        return truth(x < y);
+    }
+    if op == 37 {
+        return truth(y < x);
+    }
+    if op == 38 {
+        return int_answer(x * y);
+    }
+    if op == 39 {
+        if y == 0 {
+            return Answered::Outside;
+        }
+        return int_answer(quotient_of(x, y));
+    }
+    if op == 40 {
+        if y == 0 {
+            return Answered::Outside;
+        }
+        return int_answer(remainder_of(x, y));
+    }
+    if op == 41 {
+        return int_answer(x + y);
+    }
+    if op == 42 {
+        return int_answer(x - y);
+    }
+    Answered::Unfit
+}
+
+fn apply_int(op: u8, a: u32, b: u32) -> Answered
+    ensures { λ r. ⌜ r ≡ answered (apply (op-of op) (int-val (word-int a)) (int-val (word-int b))) ⌝ }
+{
+    compute_int(op, int_of(a), int_of(b))
+}
+
+fn apply_nat(op: u8, a: u32, b: u32) -> Answered
+    ensures { λ r. ⌜ r ≡ answered (apply (op-of op) (nat-val a) (nat-val b)) ⌝ }
+{
+    if op <= 32 {
+        return truth(a == b);
+    }
+    if op == 33 {
+        return truth(a != b);
+    }
+    if op == 34 {
+        return truth(a <= b);
+    }
+    if op == 35 {
+        return truth(b <= a);
+    }
+    if op == 36 {
+        return truth(a < b);
+    }
+    if op == 37 {
+        return truth(b < a);
+    }
+    if op == 38 {
+        let n = (a as u64) * (b as u64);
+        if n < 0x1_0000_0000 {
+            return Answered::Value(n as u32);
+        }
+        return Answered::Outside;
+    }
+    if op == 39 {
+        if b == 0 {
+            return Answered::Outside;
+        }
+        return Answered::Value(a / b);
+    }
+    if op == 40 {
+        if b == 0 {
+            return Answered::Outside;
+        }
+        return Answered::Value(a % b);
+    }
+    if op == 41 {
+        let n = (a as u64) + (b as u64);
+        if n < 0x1_0000_0000 {
+            return Answered::Value(n as u32);
+        }
+        return Answered::Outside;
+    }
+    if op == 42 {
+        if a < b {
+            return Answered::Outside;
+        }
+        return Answered::Value(a - b);
+    }
+    Answered::Unfit
+}
+
+fn apply_bool(op: u8, s: bool, t: bool) -> Answered
+    ensures { λ r. ⌜ r ≡ answered (apply (op-of op) (bool-val s) (bool-val t)) ⌝ }
+{
+    if op <= 32 {
+        return truth(s == t);
+    }
+    if op == 33 {
+        return truth(s != t);
+    }
+    if op < 43 {
+        return Answered::Unfit;
+    }
+    if op == 43 {
+        return truth(s & t);
+    }
+    truth(s | t)
+}
+
+fn apply_label(op: u8, a: u32, b: u32) -> Answered
+    ensures { λ r. ⌜ r ≡ answered (apply (op-of op) (label a) (label b)) ⌝ }
+{
+    if op <= 32 {
+        return truth(a == b);
+    }
+    if op == 33 {
+        return truth(a != b);
+    }
+    Answered::Unfit
+}
+
+// The operator that the byte op names on two words of the type that the byte kind names.
+pub fn apply_word(op: u8, kind: u8, a: u32, b: u32) -> Answered
+    ensures { λ r. ⌜ r ≡ apply-word op kind a b ⌝ }
+{
+    if kind == 0 {
+        return apply_int(op, a, b);
+    }
+    if kind == 1 {
+        return apply_nat(op, a, b);
+    }
+    if kind == 2 {
+        return apply_bool(op, a == 1, b == 1);
+    }
+    apply_label(op, a, b)
+}
