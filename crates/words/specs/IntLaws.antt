@@ -20,11 +20,12 @@ use Rattle.words.specs.declared.Answered.the-variants.{Value, Outside}
 
 -- a word to an Int --------------------------------------------------------------
 
-word-low : (a : ℕ) → a < int-half → word-int a ≡ pos a
+-- The Int of a word below 2147483648, and from there on.
+pub word-low : (a : ℕ) → a < int-half → word-int a ≡ pos a
 unfolding word-int
 word-low a h = rw (lt-ltb a int-half h, word-int)
 
-word-high : (a : ℕ) → int-half ≤ a → word-int a ≡ negsuc (nat-end - suc a)
+pub word-high : (a : ℕ) → int-half ≤ a → word-int a ≡ negsuc (nat-end - suc a)
 unfolding word-int
 word-high a h = rw (le-ltb a int-half h, word-int)
 

@@ -10,3 +10,4 @@ pub mod Words
 pub mod IntLaws
 pub mod NatLaws
 pub mod WordLaws
+pub mod ValueLaws

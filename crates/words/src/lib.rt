@@ -1,8 +1,8 @@
 // The operators on words of four bytes, as the engine holds values: each contract is an equation with the definitions in specs/.
 ghost use mathlib.Core.Path.{_≡_};
 ghost use mathlib.Core.Option.{some};
-ghost use Prim.Native.Nat.{ℕ, _<_};
-ghost use lib.IntN.{ℤ, pos};
+ghost use Prim.Native.Nat.{_<_};
+ghost use lib.IntN.{pos};
 ghost use lib.Signed.{mag};
 ghost use Rattle.types.specs.Limits.{int-half};
 ghost use Rattle.types.specs.Values.{word-int, Val.int-val, Val.nat-val, Val.bool-val, Val.label};
