@@ -6,7 +6,7 @@ use native.Mathlib.Numerals.{add-one}
 use mathlib.Core.Path.{_≡_, refl, ap, sym, _∙_}
 use mathlib.Core.List.{List, _++_}
 use lib.ListN.{length, take, List·getD-append}
-use Rattle.blocks.specs.Sums.{byte, sum, sum-a, sum-b, summed, wrap}
+use Rattle.blocks.specs.Sums.{byte, sum, sum-a, sum-b, summed, weight, wrap}
 
 -- a sum depends on its terms alone
 pub sum-ext : (n : ℕ) (f g : ℕ → ℕ) → ((i : ℕ) → i < n → f i ≡ g i) → sum n f ≡ sum n g
@@ -39,7 +39,7 @@ sums-front x y h =
     (
       ap (λ (n : ℕ). n % wrap) (sum-ext summed (λ i. byte (x ++ y) i) (λ i. byte x i) same),
       ap (λ (n : ℕ). n % wrap)
-      (sum-ext summed (λ i. (508 - i) * byte (x ++ y) i) (λ i. (508 - i) * byte x i) (λ i k. ap (λ (n : ℕ). (508 - i) * n) (same i k)))
+      (sum-ext summed (λ i. weight i * byte (x ++ y) i) (λ i. weight i * byte x i) (λ i k. ap (λ (n : ℕ). weight i * n) (same i k)))
     )
 
 -- a wrapped sum plus a wrapped sum, wrapped

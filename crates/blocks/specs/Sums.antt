@@ -24,6 +24,10 @@ wrap = 65536
 unfoldable pub sum-a : List ℕ → ℕ
 sum-a b = sum summed (λ i. byte b i) % wrap
 
+-- what byte i counts in sum B
+abbrev pub weight : ℕ → ℕ
+weight i = 508 - i
+
 -- sum B of (508 - i) × byte i, for i from 0 to 507
 unfoldable pub sum-b : List ℕ → ℕ
-sum-b b = sum summed (λ i. (508 - i) * byte b i) % wrap
+sum-b b = sum summed (λ i. weight i * byte b i) % wrap

@@ -9,6 +9,10 @@ ghost use mathlib.Core.Path.{_≡_};
 ghost use lib.ListN.{length};
 ghost use Rattle.blocks.specs.Images.{fault, stream, read, read-into, write, written-into, program-number, table-number};
 
+pub const BLOCK_SIZE: usize = 512;
+
+pub const PAYLOAD_SIZE: usize = 504;
+
 // What is wrong with an image.
 pub enum Fault {
     Length,
@@ -65,7 +69,7 @@ pub fn image_fault(image: &[u8], max: usize) -> Found
     if !reading::length_right(image.len(), max) {
         return Found::Wrong(Fault::Length);
     }
-    reading::first_fault(image, image.len() / 512)
+    reading::first_fault(image, image.len() / BLOCK_SIZE)
 }
 
 // The stream of an image where max blocks are allowed, in the front of the buffer. Every block is looked at before the first byte is written.
@@ -75,7 +79,7 @@ pub fn read_image(image: &[u8], max: usize, buffer: &mut [u8]) -> Read
     if let Found::Wrong(f) = image_fault(image, max) {
         return Read::Refused(f);
     }
-    let n = image.len() / 512;
+    let n = image.len() / BLOCK_SIZE;
     let length = reading::stream_length(image, n);
     if buffer.len() < length {
         return Read::Short;
@@ -92,8 +96,8 @@ pub fn write_image(stream: &[u8], max: usize, out: &mut [u8]) -> Written
     if !writing::stream_right(length, max) {
         return Written::Length;
     }
-    let n = (length + 503) / 504;
-    if out.len() < 512 * n {
+    let n = (length + 503) / PAYLOAD_SIZE;
+    if out.len() < BLOCK_SIZE * n {
         return Written::Short;
     }
     writing::put_blocks(stream, n, out);
