@@ -13,7 +13,7 @@ use borrow.Author.Tests.{ne-eqb}
 use Rattle.blocks.specs.Sums.{byte, sum-a, sum-b, wrap}
 use Rattle.blocks.specs.SumLaws.{sums-front}
 use Rattle.blocks.specs.Blocks.{pair-at, pair, index, used, used-part, unused-part, SumsRight, UsedRight, LaidOut, sums-right, used-right, zeros, laid-out, front, block-of, block-size, payload-size}
-use Rattle.blocks.specs.Decides.{Decides, is-true, decides-eqb, decides-leb, decides-both, decides-as}
+use Rattle.types.specs.Decides.{Decides, is-true, decides-eqb, decides-leb, decides-both, decides-as}
 
 -- The tests are exact ---------------------------------------------------------
 

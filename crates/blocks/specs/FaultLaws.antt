@@ -12,7 +12,7 @@ use borrow.Author.Count.{below-more}
 use borrow.Author.Tests.{ltb-true, ltb-false}
 use Rattle.blocks.specs.Blocks.{block-size, SumsRight, LaidOut, block-fault, sums-right, laid-out}
 use Rattle.blocks.specs.BlockLaws.{sums-exact, layout-exact}
-use Rattle.blocks.specs.Decides.{Decides, decides-eqb, decides-leb, decides-both, decides-as}
+use Rattle.types.specs.Decides.{Decides, decides-eqb, decides-leb, decides-both, decides-as}
 use Rattle.blocks.specs.Images.{LengthRight, length-right, most, block, count, is-last, first-fault, fault}
 use Rattle.blocks.specs.Faults.{BlockRight, HasFault, BlockSays, AllRight, FirstFault, FirstSays, Says}
 use Rattle.blocks.specs.declared.Fault.{Fault}

@@ -1,4 +1,3 @@
-pub mod Decides
 pub mod Put
 pub mod Sums
 pub mod SumLaws

@@ -10,7 +10,7 @@ use lib.ListN.{length, take, drop, set, replicate, length-append, length-drop, l
 use lib.Seq.{take-all, take-at, drop-at, length-take-le}
 use lib.Dec.{leb, ltb}
 use borrow.Author.Tests.{le-leb, lt-leb, lt-ltb, le-ltb}
-use Rattle.blocks.specs.Decides.{Decides, decides-leb, decides-both}
+use Rattle.types.specs.Decides.{Decides, decides-leb, decides-both}
 use Rattle.blocks.specs.Put.{put, put-one, put-set, put-next, put-front}
 use Rattle.blocks.specs.Sums.{sum-a, sum-b, wrap}
 use Rattle.blocks.specs.Blocks.{block-size, payload-size, pair, front, block-of}
