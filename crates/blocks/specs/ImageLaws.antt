@@ -105,7 +105,7 @@ module _ (n : ℕ) (x : List ℕ) (whole : length x ≡ block-size * n) (right :
       let other : eqb (k + 1) n ≡ false = ne-eqb (k + 1) n (omega arith) in
       subst (λ (t : Bool). UsedRight t (used (block x k))) other (right k (omega arith) .layout .used-right)
 
-  used-last : (k : ℕ) → suc k ≡ n → (1 ≤ used (block x k)) × (used (block x k) ≤ payload-size)
+  pub used-last : (k : ℕ) → suc k ≡ n → (1 ≤ used (block x k)) × (used (block x k) ≤ payload-size)
   unfolding is-last
   used-last k e =
       let same : eqb (k + 1) n ≡ true = eq-eqb (k + 1) n (omega arith) in

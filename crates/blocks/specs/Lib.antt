@@ -11,4 +11,5 @@ pub mod FaultLaws
 pub mod ImageLaws
 pub mod ImageWays
 pub mod WriteWays
+pub mod ReadLaws
 pub mod ImageRoundTrip
