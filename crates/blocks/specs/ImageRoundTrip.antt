@@ -9,9 +9,9 @@ use lib.ListN.{length, take, drop, length-take, List·getD-eq-default}
 use lib.Seq.{take-all, take-add, getD-take, getD-drop}
 use lib.Dec.{ltb}
 use borrow.Author.Tests.{ltb-true, ltb-false}
-use Rattle.blocks.specs.Sums.{byte}
+use Rattle.blocks.specs.Sums.{byte, Bytes}
 use Rattle.blocks.specs.Blocks.{block-size, payload-size, SumsRight, LaidOut, used-part, block-of}
-use Rattle.blocks.specs.BlockRoundTrip.{Bytes, block-part, block-sums, block-layout, right-block}
+use Rattle.blocks.specs.BlockRoundTrip.{block-part, block-sums, block-layout, right-block}
 use Rattle.blocks.specs.Images.{LengthRight, most, block, count, is-last, fault, joined, stream, piece, pieces, image-of, image}
 use Rattle.blocks.specs.ImageLaws.{piece-length, piece-used, image-length, image-block, count-length, block-whole, stream-piece, stream-pieces}
 use Rattle.blocks.specs.Faults.{BlockRight, AllRight, Says}

@@ -10,7 +10,8 @@ use lib.ListN.{length, take, drop, length-append}
 use lib.Seq.{getD-take, getD-drop}
 use lib.Dec.{eqb, leb}
 use borrow.Author.Tests.{eq-eqb, ne-eqb, le-leb, lt-leb, lt-ltb, le-ltb}
-use Rattle.blocks.specs.Put.{put, put-next, put-front}
+use Rattle.blocks.specs.Put.{put}
+use Rattle.blocks.specs.PutLaws.{put-next, put-front}
 use Rattle.blocks.specs.Sums.{byte}
 use Rattle.blocks.specs.Blocks.{block-size, payload-size, pair-at, used, used-part, block-fault}
 use Rattle.blocks.specs.Images.{LengthRight, length-right, most, block, count, is-last, first-fault, fault, joined, stream, read, read-of, read-into}

@@ -1,4 +1,5 @@
 pub mod Put
+pub mod PutLaws
 pub mod Sums
 pub mod SumLaws
 pub mod Blocks
@@ -9,7 +10,8 @@ pub mod Images
 pub mod Faults
 pub mod FaultLaws
 pub mod ImageLaws
-pub mod ImageWays
-pub mod WriteWays
-pub mod ReadLaws
 pub mod ImageRoundTrip
+pub mod ImageWays
+pub mod Answers
+pub mod WriteWays
+pub mod AnswerLaws

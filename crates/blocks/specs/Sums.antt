@@ -1,11 +1,15 @@
 -- Sums over the first bytes of a list, and the two sums of a block (01, 'Blocks').
-use Prim.Native.Nat.{ℕ, zero, suc, _+_, _*_, _-_, _%_}
+use Prim.Native.Nat.{ℕ, zero, suc, _+_, _*_, _-_, _%_, _<_}
 use mathlib.Core.List.{List}
 use lib.ListN.{getD}
 
 -- byte i of a list
 abbrev pub byte : List ℕ → ℕ → ℕ
 byte b i = getD b i 0
+
+-- every one is below 256
+abbrev pub Bytes : List ℕ → Type 0
+Bytes b = (i : ℕ) → byte b i < 256
 
 -- f 0 + f 1 + .. + f (n - 1)
 unfoldable pub sum : ℕ → (ℕ → ℕ) → ℕ

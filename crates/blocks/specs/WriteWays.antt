@@ -11,12 +11,14 @@ use lib.Seq.{take-all, take-at, drop-at, length-take-le}
 use lib.Dec.{leb, ltb}
 use borrow.Author.Tests.{le-leb, lt-leb, lt-ltb, le-ltb}
 use Rattle.types.specs.Decides.{Decides, decides-leb, decides-both}
-use Rattle.blocks.specs.Put.{put, put-one, put-set, put-next, put-front}
+use Rattle.blocks.specs.Put.{put}
+use Rattle.blocks.specs.PutLaws.{put-one, put-set, put-next, put-front}
 use Rattle.blocks.specs.Sums.{sum-a, sum-b, wrap}
 use Rattle.blocks.specs.Blocks.{block-size, payload-size, pair, front, block-of}
 use Rattle.blocks.specs.BlockRoundTrip.{front-length, block-length}
 use Rattle.blocks.specs.Images.{most, piece, pieces, image-of, image, stream-right, write, written-into}
 use Rattle.blocks.specs.ImageLaws.{image-length, piece-fits}
+use Rattle.blocks.specs.Answers.{StreamRight}
 use Rattle.blocks.specs.declared.Written.{Written}
 use Rattle.blocks.specs.declared.Written.the-variants.{Blocks, Length as Wrong-length, Short as Short-output}
 
@@ -103,7 +105,7 @@ blocks-turn s d d₁ d₂ n k p fits h e₁ ep e₂ =
 
 -- What writing answers -------------------------------------------------------------
 
-stream-exact : (max n : ℕ) → Decides (stream-right max n) ((1 ≤ n) × (n ≤ payload-size * most max))
+pub stream-exact : (max n : ℕ) → Decides (stream-right max n) (StreamRight max n)
 unfolding stream-right
 stream-exact max n = decides-both _ _ (decides-leb 1 n) (decides-leb n (payload-size * most max))
 

@@ -74,7 +74,8 @@ pub fn image_fault(image: &[u8], max: usize) -> Found
 
 // The stream of an image where max blocks are allowed, in the front of the buffer. Every block is looked at before the first byte is written.
 pub fn read_image(image: &[u8], max: usize, buffer: &mut [u8]) -> Read
-    ensures { λ r. ⌜ (r ≡ read max (now (image .entry)) (length (now (buffer .entry)))) × (now (buffer .exit) ≡ read-into r (stream (now (image .entry))) (now (buffer .entry))) ⌝ }
+    ensures { λ r. ⌜ r ≡ read max (now (image .entry)) (length (now (buffer .entry))) ⌝ }
+    ensures { λ r. ⌜ now (buffer .exit) ≡ read-into r (stream (now (image .entry))) (now (buffer .entry)) ⌝ }
 {
     if let Found::Wrong(f) = image_fault(image, max) {
         return Read::Refused(f);
@@ -90,7 +91,8 @@ pub fn read_image(image: &[u8], max: usize, buffer: &mut [u8]) -> Read
 
 // The image of a stream where max blocks are allowed, in the front of the output.
 pub fn write_image(stream: &[u8], max: usize, out: &mut [u8]) -> Written
-    ensures { λ r. ⌜ (r ≡ write max (length (now (stream .entry))) (length (now (out .entry)))) × (now (out .exit) ≡ written-into r (now (stream .entry)) (now (out .entry))) ⌝ }
+    ensures { λ r. ⌜ r ≡ write max (length (now (stream .entry))) (length (now (out .entry))) ⌝ }
+    ensures { λ r. ⌜ now (out .exit) ≡ written-into r (now (stream .entry)) (now (out .entry)) ⌝ }
 {
     let length = stream.len();
     if !writing::stream_right(length, max) {

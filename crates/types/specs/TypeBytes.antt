@@ -1,10 +1,15 @@
 -- Which bytes are types, and what is read off a type (01, 'Program stream').
 use Prim.Native.Nat.{ℕ, _-_, _<_}
+use mathlib.Core.Path.{_≡_}
 use mathlib.Core.Bool.{Bool, true, false, _&&_, _||_}
 use lib.Dec.{leb, ltb}
 use Rattle.types.specs.Limits.{nat-end}
-use Rattle.types.specs.Types.{Ty, Ty.int, Ty.nat, Ty.bool, Ty.ref, struct-code}
+use Rattle.types.specs.Types.{Ty, Ty.int, Ty.nat, Ty.bool, Ty.ref, struct-code, code, IsType}
 use Rattle.types.specs.Values.{Val, Val.int-val, Val.nat-val, Val.bool-val, Val.label, IntRange}
+
+-- the byte of a type of a program with S structs
+abbrev pub TypeByte : ℕ → ℕ → Type 0
+TypeByte S b = (t : Ty) × IsType S t × (code t ≡ b)
 
 -- whether a byte is a type of a program with S structs: 0, 1, 2, or 16 + k, k below S
 unfoldable pub is-type : ℕ → ℕ → Bool

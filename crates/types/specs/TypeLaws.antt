@@ -6,9 +6,9 @@ use mathlib.Core.Path.{_≡_, refl, ap, sym, _∙_}
 use mathlib.Core.Bool.{Bool, true, false, _&&_, _||_}
 use lib.Dec.{eqb, leb, ltb}
 use borrow.Author.Tests.{eqb-true, eqb-false, eq-eqb, ne-eqb, leb-true, leb-false, ltb-true, le-leb, lt-leb, lt-ltb}
-use Rattle.types.specs.Decides.{Decides, decides-eqb, decides-as}
+use Rattle.types.specs.Decides.{Decides, is-true, is-false, decides-eqb, decides-as}
 use Rattle.types.specs.Types.{Ty, Ty.int, Ty.nat, Ty.bool, Ty.ref, struct-code, code, IsType, type-of, same-type}
-use Rattle.types.specs.TypeBytes.{is-type, is-ref, struct-of}
+use Rattle.types.specs.TypeBytes.{TypeByte, is-type, is-ref, struct-of}
 
 -- a byte of 3 or more names a struct
 pub type-of-struct : (b : ℕ) → 3 ≤ b → type-of b ≡ ref (b - struct-code)
@@ -32,10 +32,6 @@ code-is-type S nat h = refl
 code-is-type S bool h = refl
 code-is-type S (ref k) h =
     rw (lt-leb (struct-code + k) 2 (omega arith), le-leb struct-code (struct-code + k) (omega arith), add-sub-cancel-left struct-code k, lt-ltb k S h)
-
--- the byte of a type of a program with S structs
-abbrev pub TypeByte : ℕ → ℕ → Type 0
-TypeByte S b = (t : Ty) × IsType S t × (code t ≡ b)
 
 first-bytes : (S b : ℕ) → b ≤ 2 → TypeByte S b
 unfolding code
@@ -94,6 +90,16 @@ same-exact (ref j) int = unlike (ref j) int (omega arith)
 same-exact (ref j) nat = unlike (ref j) nat (omega arith)
 same-exact (ref j) bool = unlike (ref j) bool (omega arith)
 same-exact (ref j) (ref k) = decides-as (decides-eqb j k) (ap ref) (λ p. let e : j ≡ k = cc in e)
+
+-- the bytes of two types are equal where the types are
+pub same-byte : (S a b : ℕ) → is-type S a ≡ true → is-type S b ≡ true → same-type (type-of a) (type-of b) ≡ eqb a b
+same-byte S a b ha hb = go (eqb a b) refl
+  where
+    go : (t : Bool) → eqb a b ≡ t → same-type (type-of a) (type-of b) ≡ t
+    go true e = is-true (same-exact (type-of a) (type-of b)) (ap type-of (eqb-true a b e))
+    go false e =
+        is-false (same-exact (type-of a) (type-of b))
+        (λ p. eqb-false a b e (sym (code-type-of S a ha) ∙ ap code p ∙ code-type-of S b hb))
 
 -- What is read off a byte ---------------------------------------------------------
 

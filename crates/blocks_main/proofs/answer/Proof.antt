@@ -2,7 +2,8 @@
 use Prim.Native.Nat.{ℕ, _≤_}
 use mathlib.Core.Path.{subst, _∙_, sym}
 use lib.Seq.{length-take-le}
-use Rattle.blocks.specs.ReadLaws.{ReadSays, read-says}
+use Rattle.blocks.specs.Answers.{ReadSays}
+use Rattle.blocks.specs.AnswerLaws.{read-says}
 use borrow.Author.Needs.{needs}
 use Rattle.blocks_main.proofs.answer.Statement.{statement}
 use Rattle.blocks_main.proofs.answer.Tie as tie

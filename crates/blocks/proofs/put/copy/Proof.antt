@@ -3,7 +3,8 @@ use Prim.Native.Nat.{_≤_, _-_, _+_}
 use mathlib.Core.Path.{_≡_, _∙_, ap, sym}
 use lib.ListN.{length, length-set, set, take, getD}
 use lib.Seq.{take-all}
-use Rattle.blocks.specs.Put.{put, put-nil, put-turn}
+use Rattle.blocks.specs.Put.{put}
+use Rattle.blocks.specs.PutLaws.{put-nil, put-turn}
 use borrow.Author.Needs.{needs}
 use native.Mathlib.Omega.{arith}
 use Rattle.blocks.proofs.put.copy.Statement.{statement}

@@ -2,7 +2,8 @@
 use Prim.Native.Nat.{_≤_, _-_, _+_}
 use mathlib.Core.Path.{_≡_, _∙_, ap, sym, refl}
 use lib.ListN.{length, length-set, set, replicate}
-use Rattle.blocks.specs.Put.{put, put-nil}
+use Rattle.blocks.specs.Put.{put}
+use Rattle.blocks.specs.PutLaws.{put-nil}
 use Rattle.blocks.specs.WriteWays.{zeros-turn}
 use native.Mathlib.Omega.{arith}
 use Rattle.blocks.proofs.put.zeros.Statement.{statement}

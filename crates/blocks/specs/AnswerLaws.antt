@@ -1,4 +1,4 @@
--- What an answer of reading means (01, 'Blocks'), and that reading gives back what was written.
+-- What reading and writing answer holds (01, 'Blocks'), and reading gives back what was written.
 use Prim.Native.Nat.{ℕ, suc, _+_, _*_, _-_, _<_, _≤_}
 use native.Mathlib.Omega.{arith}
 use mathlib.Core.Path.{_≡_, refl, ap, sym, _∙_, subst}
@@ -7,24 +7,22 @@ use mathlib.Core.List.{List, _++_}
 use lib.ListN.{length, drop}
 use lib.Dec.{ltb}
 use borrow.Author.Tests.{ltb-true, ltb-false}
-use Rattle.blocks.specs.Blocks.{payload-size}
-use Rattle.blocks.specs.Images.{LengthRight, most, count, fault, stream, image, read-of, read, read-into}
+use Rattle.types.specs.Decides.{Decides}
+use Rattle.blocks.specs.Blocks.{block-size, payload-size}
+use Rattle.blocks.specs.Images.{most, count, fault, stream, image, pieces, read-of, read, read-into, stream-right, write}
 use Rattle.blocks.specs.ImageLaws.{count-length, stream-length, used-last}
 use Rattle.blocks.specs.ImageRoundTrip.{image-accepted, image-stream}
 use Rattle.blocks.specs.ImageWays.{read-done}
+use Rattle.blocks.specs.WriteWays.{stream-exact}
+use Rattle.blocks.specs.Answers.{ReadSays, StreamRight, WriteSays}
 use Rattle.blocks.specs.Faults.{Says}
 use Rattle.blocks.specs.FaultLaws.{fault-says}
 use Rattle.blocks.specs.declared.Fault.{Fault}
 use Rattle.blocks.specs.declared.Found.{Found}
 use Rattle.blocks.specs.declared.Found.the-variants.{Right, Wrong}
 use Rattle.blocks.specs.declared.Read.{Read}
-use Rattle.blocks.specs.declared.Read.the-variants.{Stream, Refused, Short}
-
--- what an answer says of an image and a buffer of that many bytes
-abbrev pub ReadSays : ℕ → List ℕ → ℕ → Read → Type 0
-ReadSays max x room (Stream n) = (fault max x ≡ Right) × (n ≡ length (stream x)) × (n ≤ room)
-ReadSays max x room (Refused f) = fault max x ≡ Wrong f
-ReadSays max x room Short = (fault max x ≡ Right) × (room < length (stream x))
+use Rattle.blocks.specs.declared.Read.the-variants.{Stream, Refused, Short as Short-buffer}
+use Rattle.blocks.specs.declared.Written.the-variants.{Blocks, Length as Wrong-length, Short as Short-output}
 
 pub read-says : (max : ℕ) (x : List ℕ) (room : ℕ) → ReadSays max x room (read max x room)
 unfolding read read-of
@@ -32,12 +30,29 @@ read-says max x room = go (fault max x) refl
   where
     n : ℕ
     n = length (stream x)
-    fits : fault max x ≡ Right → (t : Bool) → ltb room n ≡ t → ReadSays max x room (elim t [ true ↦ Short | false ↦ Stream n ])
+    fits : fault max x ≡ Right → (t : Bool) → ltb room n ≡ t → ReadSays max x room (elim t [ true ↦ Short-buffer | false ↦ Stream n ])
     fits e true p = (e, ltb-true room n p)
     fits e false p = (e, refl, ltb-false room n p)
     go : (r : Found) → fault max x ≡ r → ReadSays max x room (read-of r n room)
     go (Wrong f) e = e
     go Right e = fits e (ltb room n) refl
+
+pub write-says : (max n room : ℕ) → WriteSays max n room (write max n room)
+unfolding write
+write-says max n room = go (stream-right max n) (stream-exact max n)
+  where
+    fits : StreamRight max n → (t : Bool) → ltb room (block-size * pieces n) ≡ t
+        → WriteSays max n room (elim t [ true ↦ Short-output | false ↦ Blocks (pieces n) ])
+    fits r true p = (r, ltb-true room (block-size * pieces n) p)
+    fits r false p = (r, refl, ltb-false room (block-size * pieces n) p)
+    go : (t : Bool) → Decides t (StreamRight max n)
+        → WriteSays max n room
+        (elim t [
+          | false ↦ Wrong-length
+          | true ↦ elim (ltb room (block-size * pieces n)) [ true ↦ Short-output | false ↦ Blocks (pieces n) ]
+        ])
+    go false d = d .fails refl
+    go true d = fits (d .holds refl) (ltb room (block-size * pieces n)) refl
 
 -- the stream of an accepted image is no longer than the payloads of as many blocks as are allowed
 pub stream-most : (max : ℕ) (x : List ℕ) → fault max x ≡ Right → length (stream x) ≤ payload-size * most max
