@@ -1,5 +1,5 @@
 -- What reading and writing answer holds (01, 'Blocks'), and reading gives back what was written.
-use Prim.Native.Nat.{ℕ, suc, _+_, _*_, _-_, _<_, _≤_}
+use Prim.Native.Nat.{ℕ, suc, _*_, _-_, _≤_}
 use native.Mathlib.Omega.{arith}
 use mathlib.Core.Path.{_≡_, refl, ap, sym, _∙_, subst}
 use mathlib.Core.Bool.{Bool, true, false}
@@ -17,11 +17,10 @@ use Rattle.blocks.specs.WriteWays.{stream-exact}
 use Rattle.blocks.specs.Answers.{ReadSays, StreamRight, WriteSays}
 use Rattle.blocks.specs.Faults.{Says}
 use Rattle.blocks.specs.FaultLaws.{fault-says}
-use Rattle.blocks.specs.declared.Fault.{Fault}
 use Rattle.blocks.specs.declared.Found.{Found}
 use Rattle.blocks.specs.declared.Found.the-variants.{Right, Wrong}
 use Rattle.blocks.specs.declared.Read.{Read}
-use Rattle.blocks.specs.declared.Read.the-variants.{Stream, Refused, Short as Short-buffer}
+use Rattle.blocks.specs.declared.Read.the-variants.{Stream, Short as Short-buffer}
 use Rattle.blocks.specs.declared.Written.the-variants.{Blocks, Length as Wrong-length, Short as Short-output}
 
 pub read-says : (max : ℕ) (x : List ℕ) (room : ℕ) → ReadSays max x room (read max x room)
@@ -30,9 +29,11 @@ read-says max x room = go (fault max x) refl
   where
     n : ℕ
     n = length (stream x)
+
     fits : fault max x ≡ Right → (t : Bool) → ltb room n ≡ t → ReadSays max x room (elim t [ true ↦ Short-buffer | false ↦ Stream n ])
     fits e true p = (e, ltb-true room n p)
     fits e false p = (e, refl, ltb-false room n p)
+
     go : (r : Found) → fault max x ≡ r → ReadSays max x room (read-of r n room)
     go (Wrong f) e = e
     go Right e = fits e (ltb room n) refl
@@ -45,6 +46,7 @@ write-says max n room = go (stream-right max n) (stream-exact max n)
         → WriteSays max n room (elim t [ true ↦ Short-output | false ↦ Blocks (pieces n) ])
     fits r true p = (r, ltb-true room (block-size * pieces n) p)
     fits r false p = (r, refl, ltb-false room (block-size * pieces n) p)
+
     go : (t : Bool) → Decides t (StreamRight max n)
         → WriteSays max n room
         (elim t [
@@ -72,5 +74,5 @@ unfolding read-into
 read-written max s room some most′ fits buffer =
     let back = image-stream s some in
     let e : read max (image s) room ≡ Stream (length s) =
-        sym (read-done max (image s) room (length s) (image-accepted s some max most′) (ap length (sym back)) fits) in
+    sym (read-done max (image s) room (length s) (image-accepted s some max most′) (ap length (sym back)) fits) in
     (e, ap (λ (r : Read). read-into r (stream (image s)) buffer) e ∙ ap (λ (t : List ℕ). t ++ drop (length s) buffer) back)

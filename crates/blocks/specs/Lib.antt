@@ -10,6 +10,7 @@ pub mod Images
 pub mod Faults
 pub mod FaultLaws
 pub mod ImageLaws
+pub mod ImageBytes
 pub mod ImageRoundTrip
 pub mod ImageWays
 pub mod Answers

@@ -1,9 +1,9 @@
 -- Laws of bytes written into a list: how long it stays, and how writes follow one another.
-use Prim.Native.Nat.{ℕ, zero, suc, _+_, _-_, _<_, _≤_}
+use Prim.Native.Nat.{ℕ, _+_, _<_, _≤_}
 use native.Mathlib.Omega.{arith}
 use native.Mathlib.Nat.{zero-add}
 use native.Mathlib.Numerals.{add-one}
-use mathlib.Core.Path.{_≡_, refl, ap, sym, _∙_}
+use mathlib.Core.Path.{_≡_, ap, sym, _∙_}
 use mathlib.Core.List.{List, [], _∷_, _++_, append-assoc}
 use lib.ListN.{length, take, drop, set, getD, length-append, length-drop, take-append-drop}
 use lib.Seq.{length-take-le, take-at, take-suc, drop-append-add, drop-drop, set-split}
@@ -42,7 +42,7 @@ module _ (d : List ℕ) (at : ℕ) (xs : List ℕ) where
       let whole : take at d ++ (xs ++ drop m d) ≡ p ++ drop m d = sym (append-assoc (take at d) xs (drop m d)) in
       let front : take m (p ++ drop m d) ≡ p = take-at p (drop m d) m e in
       let back : drop (m + length ys) (p ++ drop m d) ≡ drop (m + length ys) d =
-          ap (λ (n : ℕ). drop (n + length ys) (p ++ drop m d)) (sym e) ∙ drop-append-add p (drop m d) (length ys) ∙ drop-drop (length ys) m d in
+      ap (λ (n : ℕ). drop (n + length ys) (p ++ drop m d)) (sym e) ∙ drop-append-add p (drop m d) (length ys) ∙ drop-drop (length ys) m d in
       let both : length (xs ++ ys) ≡ length xs + length ys = length-append xs ys in
       let sum : m + length ys ≡ at + (length xs + length ys) = omega arith in
       rw (whole, front, back, both, sum) (simp append-assoc)

@@ -2,7 +2,6 @@
 use crate::Fault;
 use crate::Found;
 use crate::PAYLOAD_SIZE;
-
 ghost use mathlib.Core.Path.{_≡_};
 ghost use Prim.Native.Nat.{_+_, _<_, _≤_};
 ghost use lib.ListN.{length, take, drop};

@@ -1,10 +1,9 @@
 // An image of blocks, looked through and joined to its stream (01, 'Blocks').
+use crate::BLOCK_SIZE;
+use crate::Found;
+use crate::PAYLOAD_SIZE;
 use crate::block;
 use crate::put;
-use crate::Found;
-use crate::BLOCK_SIZE;
-use crate::PAYLOAD_SIZE;
-
 ghost use mathlib.Core.Path.{_≡_};
 ghost use Prim.Native.Nat.{_*_, _≤_};
 ghost use lib.ListN.{length};
@@ -16,11 +15,7 @@ ghost use Rattle.blocks.specs.Faults.{AllRight};
 pub(crate) fn most(max: usize) -> usize
     ensures { λ r. ⌜ (r ≡ most max) × (r ≤ 65536) ⌝ }
 {
-    if max < 65536 {
-        max
-    } else {
-        65536
-    }
+    if max < 65536 { max } else { 65536 }
 }
 
 pub(crate) fn length_right(n: usize, max: usize) -> bool

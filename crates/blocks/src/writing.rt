@@ -1,10 +1,9 @@
 // The blocks that hold a stream, written one behind the other (01, 'Blocks').
+use crate::BLOCK_SIZE;
+use crate::PAYLOAD_SIZE;
 use crate::block;
 use crate::put;
 use crate::reading;
-use crate::BLOCK_SIZE;
-use crate::PAYLOAD_SIZE;
-
 ghost use mathlib.Core.Path.{_≡_};
 ghost use Prim.Native.Nat.{_+_, _*_, _≤_, _<_};
 ghost use lib.ListN.{length};

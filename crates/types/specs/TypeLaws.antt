@@ -5,7 +5,7 @@ use native.Mathlib.Nat.{add-sub-cancel-left}
 use mathlib.Core.Path.{_≡_, refl, ap, sym, _∙_}
 use mathlib.Core.Bool.{Bool, true, false, _&&_, _||_}
 use lib.Dec.{eqb, leb, ltb}
-use borrow.Author.Tests.{eqb-true, eqb-false, eq-eqb, ne-eqb, leb-true, leb-false, ltb-true, le-leb, lt-leb, lt-ltb}
+use borrow.Author.Tests.{eqb-true, eqb-false, ne-eqb, leb-true, ltb-true, le-leb, lt-leb, lt-ltb}
 use Rattle.types.specs.Decides.{Decides, is-true, is-false, decides-eqb, decides-as}
 use Rattle.types.specs.Types.{Ty, Ty.int, Ty.nat, Ty.bool, Ty.ref, struct-code, code, IsType, type-of, same-type}
 use Rattle.types.specs.TypeBytes.{TypeByte, is-type, is-ref, struct-of}
@@ -56,7 +56,7 @@ is-type-holds S b e = go (leb b 2) refl (leb struct-code b) refl e
 pub type-exact : (S b : ℕ) → Decides (is-type S b) (TypeByte S b)
 type-exact S b = record {
   holds = is-type-holds S b;
-  fails = λ e p. let t = ap (is-type S) (p .2) in let h = code-is-type S (p .0) (p .1) in let z : _≡_ {A = ℕ} 0 1 = cc in omega arith
+  fails = λ e p. let t = ap (is-type S) (p .2) in let h = code-is-type S (p .0) (p .1) in let z : _≡_ {A = ℕ} 0 1 = cc in omega arith;
 }
 
 pub code-type-of : (S b : ℕ) → is-type S b ≡ true → code (type-of b) ≡ b

@@ -7,18 +7,31 @@ ghost use Rattle.types.specs.Constants.{limits, codes};
 
 // 01, 'Program stream'
 pub const MAX_STRUCTS: usize = 16;
+
 pub const MAX_PARAMS: usize = 8;
+
 pub const MAX_STEPS: usize = 8;
+
 pub const STEP_NAMES: usize = 32;
+
 pub const MAX_STATEMENTS: usize = 32;
+
 pub const MAX_ITEMS: usize = 32;
+
 pub const INT_HALF: u64 = 2147483648;
+
 pub const NAT_END: u64 = 4294967296;
+
 pub const FIRST_LOCAL: usize = 8;
+
 pub const VARIABLES: usize = 16;
+
 pub const MAX_PATH: usize = 4;
+
 pub const FIX_LEVELS: usize = 8;
+
 pub const IF_LEVELS: usize = 8;
+
 pub const EXPR_LEVELS: usize = 16;
 
 // 01, 'Table and turns'
@@ -26,11 +39,17 @@ pub const MAX_INSTANCES: usize = 256;
 
 // 01, 'Numbers from the input'
 pub const PROGRAM_BLOCKS: usize = 64;
+
 pub const TABLE_BLOCKS: usize = 17;
+
 pub const STEP_COMMANDS: usize = 64;
+
 pub const MAX_COMMANDS: usize = 1024;
+
 pub const MAX_DEPTH: usize = 16;
+
 pub const SCHEDULE_ITEMS: usize = 64;
+
 pub const MAX_TURNS: usize = 65536;
 
 // 01, 'Numbers from the state'
@@ -38,8 +57,11 @@ pub const MAX_STABILITY: usize = 8;
 
 // The bytes of types; struct k's is k more than that of struct 0.
 pub const INT: u8 = 0;
+
 pub const NAT: u8 = 1;
+
 pub const BOOL: u8 = 2;
+
 pub const STRUCT: u8 = 16;
 
 // Every limit, so that a contract can tie each constant to its definition.

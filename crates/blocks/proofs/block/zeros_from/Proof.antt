@@ -1,8 +1,7 @@
 -- `block::zeros_from` meets its contract. The loop's invariant: the bytes from `from` on are zero where those from `at` on are. The measure is what is
 -- left of the 508 bytes.
-use Prim.Native.Nat.{ℕ, _≤_, _-_}
+use Prim.Native.Nat.{_-_}
 use mathlib.Core.Path.{_≡_, _∙_, sym, refl}
-use lib.ListN.{length}
 use lib.Seq.{slice}
 use Rattle.blocks.specs.Blocks.{zeros}
 use Rattle.blocks.specs.BlockLaws.{zeros-more, zeros-stop, zeros-end}
