@@ -7,13 +7,13 @@ use mathlib.Core.List.{List, _++_}
 use lib.ListN.{length, drop}
 use lib.Dec.{ltb}
 use borrow.Author.Tests.{ltb-true, ltb-false}
-use Rattle.types.specs.Decides.{Decides}
+use Rattle.types.specs.Decides.{Decides, is-true}
 use Rattle.blocks.specs.Blocks.{block-size, payload-size}
 use Rattle.blocks.specs.Images.{most, count, fault, stream, image, pieces, read-of, read, read-into, stream-right, write}
 use Rattle.blocks.specs.ImageLaws.{count-length, stream-length, used-last}
 use Rattle.blocks.specs.ImageRoundTrip.{image-accepted, image-stream}
 use Rattle.blocks.specs.ImageWays.{read-done}
-use Rattle.blocks.specs.WriteWays.{stream-exact}
+use Rattle.blocks.specs.WriteWays.{stream-exact, write-done}
 use Rattle.blocks.specs.Answers.{ReadSays, StreamRight, WriteSays}
 use Rattle.blocks.specs.Faults.{Says}
 use Rattle.blocks.specs.FaultLaws.{fault-says}
@@ -67,12 +67,25 @@ stream-most max x e =
     let u = used-last n x whole (says .1) (n - 1) k in
     omega (arith, stream-length n x whole (says .1) (n - 1) k, says .0 .to-most)
 
--- reading what was written gives the stream back
-pub read-written : (max : ℕ) (s : List ℕ) (room : ℕ) → 1 ≤ length s → length s ≤ payload-size * most max → length s ≤ room
-    → (buffer : List ℕ) → (read max (image s) room ≡ Stream (length s)) × (read-into (read max (image s) room) (stream (image s)) buffer ≡ s ++ drop (length s) buffer)
-unfolding read-into
-read-written max s room some most′ fits buffer =
-    let back = image-stream s some in
-    let e : read max (image s) room ≡ Stream (length s) =
-    sym (read-done max (image s) room (length s) (image-accepted s some max most′) (ap length (sym back)) fits) in
-    (e, ap (λ (r : Read). read-into r (stream (image s)) buffer) e ∙ ap (λ (t : List ℕ). t ++ drop (length s) buffer) back)
+-- so a buffer for that many bytes is never too short, nor an output for that many blocks
+pub read-fits : (max : ℕ) (x : List ℕ) (room : ℕ) → fault max x ≡ Right → payload-size * most max ≤ room
+    → read max x room ≡ Stream (length (stream x))
+read-fits max x room e h = sym (read-done max x room (length (stream x)) e refl (omega (arith, stream-most max x e)))
+
+pub write-fits : (max n room : ℕ) → StreamRight max n → block-size * most max ≤ room → write max n room ≡ Blocks (pieces n)
+write-fits max n room right h =
+    sym (write-done max n room true (sym (is-true (stream-exact max n) right)) refl (omega (arith, right .0, right .1)))
+
+-- reading what was written gives the stream back, in front of a buffer that is otherwise as it was
+module _ (max : ℕ) (s : List ℕ) (right : StreamRight max (length s)) (room : ℕ) (fits : length s ≤ room) where
+  pub read-written : read max (image s) room ≡ Stream (length s)
+  read-written =
+      let back = image-stream s (right .0) in
+      sym (read-done max (image s) room (length s) (image-accepted s (right .0) max (right .1)) (ap length (sym back)) fits)
+
+  pub read-written-into : (buffer : List ℕ)
+      → read-into (read max (image s) room) (stream (image s)) buffer ≡ s ++ drop (length s) buffer
+  unfolding read-into
+  read-written-into buffer =
+      ap (λ (r : Read). read-into r (stream (image s)) buffer) read-written
+      ∙ ap (λ (t : List ℕ). t ++ drop (length s) buffer) (image-stream s (right .0))

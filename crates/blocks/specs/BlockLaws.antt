@@ -1,5 +1,4 @@
--- Laws of one block (01, 'Blocks'): the tests are exact; the block that holds given bytes is right and gives them back; and a right block is the
--- block that holds its used part.
+-- Laws of one block (01, 'Blocks'): the tests of its sums and of its layout are exact.
 use Prim.Native.Nat.{ℕ, zero, suc, _+_, _-_, _<_, _≤_}
 use native.Mathlib.Omega.{arith}
 use native.Mathlib.Numerals.{add-one}
@@ -11,7 +10,8 @@ use lib.Seq.{slice, slice-cons, getD-take, getD-drop}
 use lib.Dec.{leb}
 use borrow.Author.Tests.{ne-eqb}
 use Rattle.blocks.specs.Sums.{byte, sum-a, sum-b}
-use Rattle.blocks.specs.Blocks.{pair-at, index, used, unused-part, SumsRight, UsedRight, LaidOut, sums-right, used-right, zeros, laid-out, payload-size}
+use Rattle.blocks.specs.Blocks.{pair-at, index, used, unused-part, SumsRight, UsedRight, LaidOut, sums-right, used-right, zeros}
+use Rattle.blocks.specs.Blocks.{laid-out, payload-size}
 use Rattle.types.specs.Decides.{Decides, decides-eqb, decides-leb, decides-both, decides-as}
 
 -- The tests are exact ---------------------------------------------------------

@@ -5,11 +5,13 @@ use native.Mathlib.Omega.{arith}
 use mathlib.Core.Path.{_≡_, ap, sym, _∙_}
 use mathlib.Core.Bool.{Bool, true, false}
 use mathlib.Core.List.{List, _∷_, _++_, append-assoc, append-nil}
-use lib.ListN.{length, take, drop, replicate, length-append, length-drop, length-replicate, getD-replicate, List·getD-append, take-append-drop, drop-of-length-le}
+use lib.ListN.{length, take, drop, replicate, length-append, length-drop, length-replicate, getD-replicate, List·getD-append}
+use lib.ListN.{take-append-drop, drop-of-length-le}
 use lib.Seq.{getD-append-add, take-append-seam, drop-cons, drop-drop, length-take-le}
 use Rattle.blocks.specs.Sums.{byte, Bytes, sum-a, sum-b}
 use Rattle.blocks.specs.SumLaws.{sums-front}
-use Rattle.blocks.specs.Blocks.{pair-at, pair, index, used, used-part, SumsRight, UsedRight, LaidOut, front, block-of, block-size, payload-size}
+use Rattle.blocks.specs.Blocks.{pair-at, pair, index, used, used-part, SumsRight, UsedRight, LaidOut, front, block-of, block-size}
+use Rattle.blocks.specs.Blocks.{payload-size}
 
 -- a byte behind a list of known length
 behind : (x y : List ℕ) (m n : ℕ) → length x ≡ m → byte (x ++ y) (m + n) ≡ byte y n

@@ -11,7 +11,8 @@ use Rattle.blocks.specs.Blocks.{block-size, payload-size, used-part, blo
 use Rattle.blocks.specs.BlockRoundTrip.{block-part, block-sums, block-layout, right-block}
 use Rattle.blocks.specs.ImageBytes.{bytes-take, bytes-drop}
 use Rattle.blocks.specs.Images.{most, block, count, is-last, fault, joined, stream, piece, pieces, image-of, image}
-use Rattle.blocks.specs.ImageLaws.{piece-length, piece-used, image-length, image-block, count-length, block-whole, stream-piece, stream-pieces}
+use Rattle.blocks.specs.ImageLaws.{piece-length, piece-used, image-length, image-block, count-length, block-whole, stream-piece}
+use Rattle.blocks.specs.ImageLaws.{stream-pieces}
 use Rattle.blocks.specs.Faults.{AllRight, Says}
 use Rattle.blocks.specs.FaultLaws.{fault-says, fault-exact}
 use Rattle.blocks.specs.declared.Found.the-variants.{Right}

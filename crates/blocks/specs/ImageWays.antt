@@ -78,14 +78,15 @@ module _ (n : ℕ) (x : List ℕ) where
 
 -- The stream -----------------------------------------------------------------------
 
+block-byte : (x : List ℕ) (k j : ℕ) → j < 512 → byte (block x k) j ≡ byte x (512 * k + j)
+unfolding block
+block-byte x k j h = getD-take 512 (drop (512 * k) x) j 0 h ∙ getD-drop (512 * k) x j 0
+
 pub used-at : (x : List ℕ) (k : ℕ) → pair-at x (512 * k + 2) ≡ used (block x k)
-unfolding used pair-at block
+unfolding used pair-at
 used-at x k =
-    let i = 512 * k in
-    let at : (j : ℕ) → j < 512 → byte (take 512 (drop i x)) j ≡ byte x (i + j) = λ j h.
-    getD-take 512 (drop i x) j 0 h ∙ getD-drop i x j 0 in
-    let three : i + 2 + 1 ≡ i + 3 = omega arith in
-    rw three (omega (arith, at 2 (omega arith), at 3 (omega arith)))
+    let three : 512 * k + 2 + 1 ≡ 512 * k + 3 = omega arith in
+    rw three (omega (arith, block-byte x k 2 (omega arith), block-byte x k 3 (omega arith)))
 
 -- what the code hands on of block k is its used part
 pub part-at : (x : List ℕ) (k u : ℕ) (p : List ℕ) → u ≡ pair-at (take (512 * k + 512 - 512 * k) (drop (512 * k) x)) 2

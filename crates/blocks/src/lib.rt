@@ -1,5 +1,6 @@
 // Images of blocks and their streams, for any number of blocks (01, 'Blocks'): what is wrong with an image, the stream of an image, the image of a
-// stream. Both work in memory that the caller lends, and a refusal writes nothing there.
+// stream. Both work in memory that the caller lends, and a refusal writes nothing there. A caller says how many blocks are allowed; where it says more
+// than 65,536, the number of indices that two bytes hold, that many are.
 mod block;
 mod put;
 mod reading;

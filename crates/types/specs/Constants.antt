@@ -1,5 +1,7 @@
 -- Every limit and every byte of a type, as the code hands them out: each field is the definition of its name.
-use Rattle.types.specs.Limits.{max-structs, max-params, max-steps, step-names, max-statements, max-items, int-half, nat-end, first-local, variables, max-path, fix-levels, if-levels, expr-levels, max-instances, program-blocks, table-blocks, step-commands, max-commands, max-depth, schedule-items, max-turns, max-stability}
+use Rattle.types.specs.Limits.{max-structs, max-params, max-steps, step-names, max-statements, max-items, int-half, nat-end}
+use Rattle.types.specs.Limits.{first-local, variables, max-path, fix-levels, if-levels, expr-levels, max-instances, program-blocks}
+use Rattle.types.specs.Limits.{table-blocks, step-commands, max-commands, max-depth, schedule-items, max-turns, max-stability}
 use Rattle.types.specs.Types.{Ty.int, Ty.nat, Ty.bool, Ty.ref, code}
 use Rattle.types.specs.declared.Limits.{Limits}
 use Rattle.types.specs.declared.Codes.{Codes}

@@ -10,7 +10,8 @@ use Rattle.types.specs.Decides.{Decides}
 use Rattle.types.specs.Limits.{int-half, nat-end}
 use Rattle.types.specs.Types.{Ty, Ty.int, Ty.nat, Ty.bool, Ty.ref}
 use Rattle.types.specs.TypeBytes.{struct-of, word-end, ValueOf}
-use Rattle.types.specs.Values.{Val, Val.int-val, Val.nat-val, Val.bool-val, Val.label, default, IntRange, in-int, int-word, word-int, word, value-of}
+use Rattle.types.specs.Values.{Val, Val.int-val, Val.nat-val, Val.bool-val, Val.label, default, IntRange, in-int, int-word, word-int}
+use Rattle.types.specs.Values.{word, value-of}
 
 -- Int ---------------------------------------------------------------------------
 

@@ -15,26 +15,40 @@ enum-known-f c = search needs
 
 returns : tie.Need-returns
 unfolding read-into
-returns c = (read-refused _ (c .before .before .before .before .before .before .args .image .now) _ _ (sym (c .before .before .before .image-fault .ensures) ∙ c .before .f .given .1), refl)
+returns c =
+    let args = c .before .before .before .before .before .before .args in
+    let image-fault = c .before .before .before .image-fault in
+    let f = c .before .f in
+    (read-refused _ (args .image .now) _ _ (sym (image-fault .ensures) ∙ f .given .1), refl)
 
 enum-told : tie.Need-enum-told
 enum-told c = search needs
 
 stream-length-requires : tie.Need-stream-length-requires
 stream-length-requires c κs =
-    let ok = accepted (c .before .before .before .before .before .args .max) (c .before .before .before .before .before .args .image .now) (sym (c .before .before .image-fault .ensures) ∙ c .enum-told .given .1) in
+    let args = c .before .before .before .before .before .args in
+    let image-fault = c .before .before .image-fault in
+    let ok = accepted (args .max) (args .image .now) (sym (image-fault .ensures) ∙ c .enum-told .given .1) in
     ((ok .0, ok .1), ok .2)
 
 returns-2 : tie.Need-returns-2
 unfolding read-into stream
 returns-2 c =
-    let x = c .before .before .before .before .before .before .before .args .image .now in
-    (read-short (c .before .before .before .before .before .before .before .args .max) x _ _ (sym (c .before .before .before .before .image-fault .ensures) ∙ c .before .before .enum-told .given .1) (c .before .stream-length .ensures) (c .if1 .taken), refl)
+    let args = c .before .before .before .before .before .before .before .args in
+    let image-fault = c .before .before .before .before .image-fault in
+    let enum-told = c .before .before .enum-told in
+    let stream-length = c .before .stream-length in
+    let x = args .image .now in
+    (read-short (args .max) x _ _ (sym (image-fault .ensures) ∙ enum-told .given .1) (stream-length .ensures) (c .if1 .taken), refl)
 
 join-requires : tie.Need-join-requires
 join-requires c κs =
-    let ok = accepted (c .before .before .before .before .before .before .before .before .args .max) (c .before .before .before .before .before .before .before .before .args .image .now) (sym (c .before .before .before .before .before .image-fault .ensures) ∙ c .before .before .before .enum-told .given .1) in
-    (ok .0, (ok .2, omega (arith, c .before .before .stream-length .ensures)))
+    let args = c .before .before .before .before .before .before .before .before .args in
+    let image-fault = c .before .before .before .before .before .image-fault in
+    let enum-told = c .before .before .before .enum-told in
+    let stream-length = c .before .before .stream-length in
+    let ok = accepted (args .max) (args .image .now) (sym (image-fault .ensures) ∙ enum-told .given .1) in
+    (ok .0, (ok .2, omega (arith, stream-length .ensures)))
 
 same-length : tie.Need-same-length
 same-length c = c .before .before .join .kept .1 .1 .0
@@ -42,9 +56,15 @@ same-length c = c .before .before .join .kept .1 .1 .0
 returns-3 : tie.Need-returns-3
 unfolding stream
 returns-3 c =
-    let x = c .before .before .before .before .before .before .before .before .before .before .before .args .image .now in (
-      read-done (c .before .before .before .before .before .before .before .before .before .before .before .args .max) x _ _ (sym (c .before .before .before .before .before .before .before .before .image-fault .ensures) ∙ c .before .before .before .before .before .before .enum-told .given .1) (c .before .before .before .before .before .stream-length .ensures) (c .before .before .before .before .if1 .left),
-      c .before .before .join .ensures ∙ read-after x (c .before .before .before .before .before .before .before .before .before .before .before .args .buffer .now) _ (c .before .before .before .before .before .stream-length .ensures),
+    let args = c .before .before .before .before .before .before .before .before .before .before .before .args in
+    let image-fault = c .before .before .before .before .before .before .before .before .image-fault in
+    let enum-told = c .before .before .before .before .before .before .enum-told in
+    let stream-length = c .before .before .before .before .before .stream-length in
+    let if1 = c .before .before .before .before .if1 in
+    let join = c .before .before .join in
+    let x = args .image .now in (
+      read-done (args .max) x _ _ (sym (image-fault .ensures) ∙ enum-told .given .1) (stream-length .ensures) (if1 .left),
+      join .ensures ∙ read-after x (args .buffer .now) _ (stream-length .ensures),
     )
 
 pub read-image-spec : {M : Type 1} → statement M

@@ -23,20 +23,31 @@ mul-if2 c = omega (arith, right-stream _ _ _ (c .before .stream-right .ensures) 
 
 returns-2 : tie.Need-returns-2
 unfolding written-into
-returns-2 c = (write-short _ _ _ _ (c .before .before .stream-right .ensures) (not-false _ (c .before .if1 .left)) (c .if2 .taken), refl)
+returns-2 c =
+    let stream-right = c .before .before .stream-right in
+    let if1 = c .before .if1 in
+    (write-short _ _ _ _ (stream-right .ensures) (not-false _ (if1 .left)) (c .if2 .taken), refl)
 
 put-blocks-requires : tie.Need-put-blocks-requires
-put-blocks-requires c κs = omega (arith, right-stream _ _ _ (c .before .before .before .stream-right .ensures) (not-false _ (c .before .before .if1 .left)))
+put-blocks-requires c κs =
+    let stream-right = c .before .before .before .stream-right in
+    let if1 = c .before .before .if1 in
+    omega (arith, right-stream _ _ _ (stream-right .ensures) (not-false _ (if1 .left)))
 
 same-length : tie.Need-same-length
 same-length c = c .before .before .put-blocks .kept .1 .1 .0
 
 returns-3 : tie.Need-returns-3
 unfolding image
-returns-3 c = (
-  write-done _ _ _ _ (c .before .before .before .before .before .before .stream-right .ensures) (not-false _ (c .before .before .before .before .before .if1 .left)) (c .before .before .before .before .if2 .left),
-  c .before .before .put-blocks .ensures ∙ write-after (c .before .before .before .before .before .before .before .before .before .args .stream .now) (c .before .before .before .before .before .before .before .before .before .args .out .now),
-)
+returns-3 c =
+    let args = c .before .before .before .before .before .before .before .before .before .args in
+    let stream-right = c .before .before .before .before .before .before .stream-right in
+    let if1 = c .before .before .before .before .before .if1 in
+    let if2 = c .before .before .before .before .if2 in
+    let put-blocks = c .before .before .put-blocks in (
+      write-done _ _ _ _ (stream-right .ensures) (not-false _ (if1 .left)) (if2 .left),
+      put-blocks .ensures ∙ write-after (args .stream .now) (args .out .now),
+    )
 
 pub write-image-spec : {M : Type 1} → statement M
 write-image-spec =

@@ -19,8 +19,10 @@ enum-known-length c = search needs
 
 array-share-prefix-buffer : tie.Need-array-share-prefix-buffer
 array-share-prefix-buffer c =
-    let fits = subst (ReadSays _ _ _) (sym (c .before .before .before .before .read-image .ensures .0) ∙ c .before .length .given .1) (read-says _ _ _) .2 in
-    subst (λ (n : ℕ). c .before .length .given .0 .0 ≤ n) (sym (c .before .before .before .before .read-image .kept .1 .1 .0)) fits
+    let read-image = c .before .before .before .before .read-image in
+    let length = c .before .length in
+    let fits = subst (ReadSays _ _ _) (sym (read-image .ensures .0) ∙ length .given .1) (read-says _ _ _) .2 in
+    subst (λ (n : ℕ). length .given .0 .0 ≤ n) (sym (read-image .kept .1 .1 .0)) fits
 
 slice-aggregate-write-all : tie.Need-slice-aggregate-write-all
 slice-aggregate-write-all c = sym (length-take-le _ _ (array-share-prefix-buffer (c .before)))

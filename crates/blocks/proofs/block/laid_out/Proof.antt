@@ -18,7 +18,12 @@ used-right-requires : tie.Need-used-right-requires
 used-right-requires c κs = search needs
 
 returns-2 : tie.Need-returns-2
-returns-2 c = used-wrong _ _ _ _ _ _ (c .before .before .before .before .pair-at .ensures .0) (c .before .before .before .if1 .left) (c .before .before .pair-at2 .ensures .0) (c .before .used-right .ensures) (not-true _ (c .if2 .taken))
+returns-2 c =
+    let pair-at = c .before .before .before .before .pair-at in
+    let if1 = c .before .before .before .if1 in
+    let pair-at2 = c .before .before .pair-at2 in
+    let used-right = c .before .used-right in
+    used-wrong _ _ _ _ _ _ (pair-at .ensures .0) (if1 .left) (pair-at2 .ensures .0) (used-right .ensures) (not-true _ (c .if2 .taken))
 
 add-zeros-from : tie.Need-add-zeros-from
 add-zeros-from c = search needs
@@ -27,7 +32,13 @@ zeros-from-requires : tie.Need-zeros-from-requires
 zeros-from-requires c κs = search needs
 
 returns-3 : tie.Need-returns-3
-returns-3 c = used-agrees _ _ _ _ _ _ _ (c .before .before .before .before .before .pair-at .ensures .0) (c .before .before .before .before .if1 .left) (c .before .before .before .pair-at2 .ensures .0) (c .before .before .used-right .ensures) (not-false _ (c .before .if2 .left)) (c .zeros-from .ensures)
+returns-3 c =
+    let pair-at = c .before .before .before .before .before .pair-at in
+    let if1 = c .before .before .before .before .if1 in
+    let pair-at2 = c .before .before .before .pair-at2 in
+    let used-right = c .before .before .used-right in
+    let if2 = c .before .if2 in
+    used-agrees _ _ _ _ _ _ _ (pair-at .ensures .0) (if1 .left) (pair-at2 .ensures .0) (used-right .ensures) (not-false _ (if2 .left)) (c .zeros-from .ensures)
 
 pub laid-out-spec : {M : Type 1} → statement M
 laid-out-spec =

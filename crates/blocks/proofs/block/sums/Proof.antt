@@ -39,19 +39,25 @@ loop-less c = search needs
 
 loop-again : tie.Need-loop-again Inv-loop μ-loop
 loop-again c =
-    let s = c .before .before .before .before .before .before .args .block .now in
-    let i = c .before .before .before .before .loop .i in
-    let inv = c .before .before .before .before .loop .inv in (
+    let args = c .before .before .before .before .before .before .args in
+    let loop = c .before .before .before .before .loop in
+    let shared-slice-known2 = c .before .before .shared-slice-known2 in
+    let wrapping-add-u16 = c .before .wrapping-add-u16 in
+    let s = args .block .now in
+    let i = loop .i in
+    let inv = loop .inv in (
       omega arith,
-      sums-turn s i _ _ _ _ _ (inv .1 .0) (inv .1 .1) refl (omega (arith, c .before .before .shared-slice-known2 .given i)) (c .before .wrapping-add-u16 .ensures) (c .wrapping-add-u162 .ensures),
+      sums-turn s i _ _ _ _ _ (inv .1 .0) (inv .1 .1) refl (omega (arith, shared-slice-known2 .given i)) (wrapping-add-u16 .ensures) (c .wrapping-add-u162 .ensures),
     )
 
 returns : tie.Need-returns Inv-loop μ-loop
 unfolding sum-a sum-b
 returns c =
-    let s = c .before .before .before .args .block .now in
-    let e : c .before .loop .i ≡ 508 = omega arith in
-    subst (λ (n : ℕ). (c .before .loop .a ≡ sum n (λ j. byte s j) % 65536) × (c .before .loop .b ≡ sum n (λ j. (n - j) * byte s j) % 65536)) e (c .before .loop .inv .1)
+    let args = c .before .before .before .args in
+    let loop = c .before .loop in
+    let s = args .block .now in
+    let e : loop .i ≡ 508 = omega arith in
+    subst (λ (n : ℕ). (loop .a ≡ sum n (λ j. byte s j) % 65536) × (loop .b ≡ sum n (λ j. (n - j) * byte s j) % 65536)) e (loop .inv .1)
 
 pub sums-spec : {M : Type 1} → statement M
 sums-spec =

@@ -14,7 +14,10 @@ cast-if1 : tie.Need-cast-if1
 cast-if1 c = search needs
 
 returns : tie.Need-returns
-returns c = a-differs _ _ _ (c .before .before .pair-at .ensures .0) (c .before .before .before .sums .ensures .0) (c .if1 .taken)
+returns c =
+    let sums = c .before .before .before .sums in
+    let pair-at = c .before .before .pair-at in
+    a-differs _ _ _ (pair-at .ensures .0) (sums .ensures .0) (c .if1 .taken)
 
 pair-at-requires-2 : tie.Need-pair-at-requires-2
 pair-at-requires-2 c κs = search needs
@@ -23,7 +26,12 @@ cast-result : tie.Need-cast-result
 cast-result c = search needs
 
 returns-2 : tie.Need-returns-2
-returns-2 c = a-agrees _ _ _ _ _ (c .before .before .before .before .pair-at .ensures .0) (c .before .before .before .before .before .sums .ensures .0) (c .before .before .if1 .left) (c .before .pair-at2 .ensures .0) (c .before .before .before .before .before .sums .ensures .1)
+returns-2 c =
+    let sums = c .before .before .before .before .before .sums in
+    let pair-at = c .before .before .before .before .pair-at in
+    let if1 = c .before .before .if1 in
+    let pair-at2 = c .before .pair-at2 in
+    a-agrees _ _ _ _ _ (pair-at .ensures .0) (sums .ensures .0) (if1 .left) (pair-at2 .ensures .0) (sums .ensures .1)
 
 pub sums-right-spec : {M : Type 1} → statement M
 sums-right-spec =

@@ -11,7 +11,10 @@ returns c = let h = c .before .if1 .taken in let l = c .if2 .taken in rw (h, use
 
 returns-2 : tie.Need-returns-2
 unfolding used-right
-returns-2 c = let h = c .before .if1 .taken in let l : 1 ≤ c .before .before .args .used = c .if2 .left in rw (h, used-right, le-leb 1 (c .before .before .args .used) l)
+returns-2 c =
+    let args = c .before .before .args in
+    let if1 = c .before .if1 in
+    let h = if1 .taken in let l : 1 ≤ args .used = c .if2 .left in rw (h, used-right, le-leb 1 (args .used) l)
 
 returns-3 : tie.Need-returns-3
 unfolding used-right

@@ -22,7 +22,12 @@ shared-slice-read-if1 : tie.Need-shared-slice-read-if1 Inv-loop μ-loop
 shared-slice-read-if1 c = search needs
 
 returns : tie.Need-returns Inv-loop μ-loop
-returns c = sym (c .before .before .before .loop .inv ∙ zeros-stop (c .before .before .before .before .args .block .now) _ (c .before .before .before .before .pre) (c .before .before .loop-test .taken) (c .if1 .taken))
+returns c =
+    let args = c .before .before .before .before .args in
+    let pre = c .before .before .before .before .pre in
+    let loop = c .before .before .before .loop in
+    let loop-test = c .before .before .loop-test in
+    sym (loop .inv ∙ zeros-stop (args .block .now) _ pre (loop-test .taken) (c .if1 .taken))
 
 add-at : tie.Need-add-at Inv-loop μ-loop
 add-at c = search needs
@@ -31,7 +36,12 @@ loop-less : tie.Need-loop-less Inv-loop μ-loop
 loop-less c = search needs
 
 loop-again : tie.Need-loop-again Inv-loop μ-loop
-loop-again c = c .before .before .before .loop .inv ∙ zeros-more (c .before .before .before .before .args .block .now) _ (c .before .before .before .before .pre) (c .before .before .loop-test .taken) (c .if1 .left)
+loop-again c =
+    let args = c .before .before .before .before .args in
+    let pre = c .before .before .before .before .pre in
+    let loop = c .before .before .before .loop in
+    let loop-test = c .before .before .loop-test in
+    loop .inv ∙ zeros-more (args .block .now) _ pre (loop-test .taken) (c .if1 .left)
 
 returns-2 : tie.Need-returns-2 Inv-loop μ-loop
 returns-2 c = sym (c .before .loop .inv ∙ zeros-end (c .before .before .args .block .now) _ (c .loop-test .left))

@@ -51,10 +51,15 @@ enum-known-f c = search needs
 
 returns : tie.Need-returns Inv-loop μ-loop
 returns c =
-    let x = c .before .before .before .before .before .before .before .before .args .image .now in
-    let k = c .before .before .before .before .before .before .loop .k in
-    let here = ap (block-fault k _) (sym (block-at x k)) ∙ sym (c .before .before .before .fault .ensures) ∙ c .before .f .given .1 in
-    sym (first-stop _ x k _ (c .before .before .before .before .before .loop-test .taken) (c .before .before .before .before .before .before .loop .inv .1) here)
+    let args = c .before .before .before .before .before .before .before .before .args in
+    let loop = c .before .before .before .before .before .before .loop in
+    let loop-test = c .before .before .before .before .before .loop-test in
+    let fault = c .before .before .before .fault in
+    let f = c .before .f in
+    let x = args .image .now in
+    let k = loop .k in
+    let here = ap (block-fault k _) (sym (block-at x k)) ∙ sym (fault .ensures) ∙ f .given .1 in
+    sym (first-stop _ x k _ (loop-test .taken) (loop .inv .1) here)
 
 enum-told : tie.Need-enum-told Inv-loop μ-loop
 enum-told c = search needs
@@ -67,10 +72,13 @@ loop-less c = omega arith
 
 loop-again : tie.Need-loop-again Inv-loop μ-loop
 loop-again c =
-    let x = c .before .before .before .before .before .before .before .args .image .now in
-    let k = c .before .before .before .before .before .loop .k in
-    let here = ap (block-fault k _) (sym (block-at x k)) ∙ sym (c .before .before .fault .ensures) ∙ c .enum-told .given .1 in
-    (omega arith, first-more _ x k (c .before .before .before .before .before .loop .inv .1) here)
+    let args = c .before .before .before .before .before .before .before .args in
+    let loop = c .before .before .before .before .before .loop in
+    let fault = c .before .before .fault in
+    let x = args .image .now in
+    let k = loop .k in
+    let here = ap (block-fault k _) (sym (block-at x k)) ∙ sym (fault .ensures) ∙ c .enum-told .given .1 in
+    (omega arith, first-more _ x k (loop .inv .1) here)
 
 returns-2 : tie.Need-returns-2 Inv-loop μ-loop
 returns-2 c =

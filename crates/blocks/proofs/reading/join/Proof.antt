@@ -39,8 +39,12 @@ part-block-end c = omega arith
 
 pair-at-requires : tie.Need-pair-at-requires Inv-loop μ-loop
 pair-at-requires c κs =
-    let x = c .before .before .before .before .before .args .image .now in
-    let full = ap length (block-at x (c .before .before .loop .k)) ∙ block-whole _ x (c .before .before .before .before .before .pre .0) (c .before .before .loop .k) (c .before .loop-test .taken) in
+    let args = c .before .before .before .before .before .args in
+    let pre = c .before .before .before .before .before .pre in
+    let loop = c .before .before .loop in
+    let loop-test = c .before .loop-test in
+    let x = args .image .now in
+    let full = ap length (block-at x (loop .k)) ∙ block-whole _ x (pre .0) (loop .k) (loop-test .taken) in
     omega arith
 
 mul-copy : tie.Need-mul-copy Inv-loop μ-loop
@@ -48,16 +52,26 @@ mul-copy c = omega arith
 
 payload-requires : tie.Need-payload-requires Inv-loop μ-loop
 payload-requires c κs =
-    let x = c .before .before .before .before .before .before .before .args .image .now in
-    let full = ap length (block-at x (c .before .before .before .before .loop .k)) ∙ block-whole _ x (c .before .before .before .before .before .before .before .pre .0) (c .before .before .before .before .loop .k) (c .before .before .before .loop-test .taken) in
-    (used-fits _ x (c .before .before .before .before .before .before .before .pre .0) (c .before .before .before .before .before .before .before .pre .1 .0) (c .before .before .before .before .loop .k) (c .before .before .before .loop-test .taken) _ (c .before .pair-at .ensures .0), full)
+    let args = c .before .before .before .before .before .before .before .args in
+    let pre = c .before .before .before .before .before .before .before .pre in
+    let loop = c .before .before .before .before .loop in
+    let loop-test = c .before .before .before .loop-test in
+    let pair-at = c .before .pair-at in
+    let x = args .image .now in
+    let full = ap length (block-at x (loop .k)) ∙ block-whole _ x (pre .0) (loop .k) (loop-test .taken) in
+    (used-fits _ x (pre .0) (pre .1 .0) (loop .k) (loop-test .taken) _ (pair-at .ensures .0), full)
 
 copy-requires : tie.Need-copy-requires Inv-loop μ-loop
 copy-requires c κs =
-    let x = c .before .before .before .before .before .before .before .before .args .image .now in
-    let k = c .before .before .before .before .before .loop .k in
-    let part = part-at x k _ _ (c .before .before .pair-at .ensures .0) (c .payload .ensures) in
-    omega (arith, ap length part, joined-fits _ x (c .before .before .before .before .before .before .before .before .pre .0) (c .before .before .before .before .before .before .before .before .pre .1 .0) k (c .before .before .before .before .loop-test .taken))
+    let args = c .before .before .before .before .before .before .before .before .args in
+    let pre = c .before .before .before .before .before .before .before .before .pre in
+    let loop = c .before .before .before .before .before .loop in
+    let loop-test = c .before .before .before .before .loop-test in
+    let pair-at = c .before .before .pair-at in
+    let x = args .image .now in
+    let k = loop .k in
+    let part = part-at x k _ _ (pair-at .ensures .0) (c .payload .ensures) in
+    omega (arith, ap length part, joined-fits _ x (pre .0) (pre .1 .0) k (loop-test .taken))
 
 add-k : tie.Need-add-k Inv-loop μ-loop
 add-k c = omega arith
@@ -67,20 +81,29 @@ loop-less c = omega arith
 
 loop-again : tie.Need-loop-again Inv-loop μ-loop
 loop-again c =
-    let x = c .before .before .before .before .before .before .before .before .before .before .before .args .image .now in
-    let k = c .before .before .before .before .before .before .before .before .loop .k in
-    let d = c .before .before .before .before .before .before .before .before .before .before .before .args .buffer .now in
-    let inv = c .before .before .before .before .before .before .before .before .loop .inv in
-    let part = part-at x k _ _ (c .before .before .before .before .before .pair-at .ensures .0) (c .before .before .before .payload .ensures) in
-    (omega arith, (c .before .before .copy .kept .0 ∙ inv .1 .0, join-turn _ x (c .before .before .before .before .before .before .before .before .before .before .before .pre .0) (c .before .before .before .before .before .before .before .before .before .before .before .pre .1 .0) k (c .before .before .before .before .before .before .before .loop-test .taken) d _ _ _ (c .before .before .before .before .before .before .before .before .before .before .before .pre .1 .1) (inv .1 .1) part (c .before .before .copy .ensures)))
+    let args = c .before .before .before .before .before .before .before .before .before .before .before .args in
+    let pre = c .before .before .before .before .before .before .before .before .before .before .before .pre in
+    let loop = c .before .before .before .before .before .before .before .before .loop in
+    let loop-test = c .before .before .before .before .before .before .before .loop-test in
+    let pair-at = c .before .before .before .before .before .pair-at in
+    let payload = c .before .before .before .payload in
+    let copy = c .before .before .copy in
+    let x = args .image .now in
+    let k = loop .k in
+    let d = args .buffer .now in
+    let inv = loop .inv in
+    let part = part-at x k _ _ (pair-at .ensures .0) (payload .ensures) in
+    (omega arith, (copy .kept .0 ∙ inv .1 .0, join-turn _ x (pre .0) (pre .1 .0) k (loop-test .taken) d _ _ _ (pre .1 .1) (inv .1 .1) part (copy .ensures)))
 
 same-length : tie.Need-same-length Inv-loop μ-loop
 same-length c = c .before .loop .inv .1 .0
 
 returns : tie.Need-returns Inv-loop μ-loop
 returns c =
-    let e : c .before .loop .k ≡ c .before .before .before .before .args .n = omega arith in
-    c .before .loop .inv .1 .1 ∙ ap (λ k. put (c .before .before .before .before .args .buffer .now) 0 (joined (c .before .before .before .before .args .image .now) k)) e
+    let args = c .before .before .before .before .args in
+    let loop = c .before .loop in
+    let e : loop .k ≡ args .n = omega arith in
+    loop .inv .1 .1 ∙ ap (λ k. put (args .buffer .now) 0 (joined (args .image .now) k)) e
 
 pub join-spec : {M : Type 1} → statement M
 join-spec =

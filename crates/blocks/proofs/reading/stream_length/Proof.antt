@@ -28,10 +28,12 @@ add-result c = search needs
 
 returns : tie.Need-returns
 returns c =
-    let x = c .before .before .args .image .now in
-    let n = c .before .before .args .n in
+    let args = c .before .before .args in
+    let pre = c .before .before .pre in
+    let x = args .image .now in
+    let n = args .n in
     let e : suc (n - 1) ≡ n = omega arith in
-    omega (arith, stream-length n x (c .before .before .pre .0 .0) (c .before .before .pre .1) (n - 1) e, used-at x (n - 1), c .pair-at .ensures .0)
+    omega (arith, stream-length n x (pre .0 .0) (pre .1) (n - 1) e, used-at x (n - 1), c .pair-at .ensures .0)
 
 pub stream-length-spec : {M : Type 1} → statement M
 stream-length-spec =

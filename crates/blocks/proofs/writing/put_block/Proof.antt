@@ -41,7 +41,13 @@ same-length : tie.Need-same-length
 same-length c = search needs
 
 returns : tie.Need-returns
-returns c = block-put _ _ _ _ (c .before .before .before .before .before .before .before .before .before .before .before .before .before .before .before .before .before .before .before .pre .1) _ _ _ _ _ (c .before .before .before .before .before .before .before .before .before .before .before .before .before .before .before .before .before .before .before .pre .0 .0) (c .before .before .before .before .before .before .before .before .before .before .before .before .before .before .before .put-front .ensures) (c .before .before .before .before .before .before .before .before .before .before .sums .ensures .0) (c .before .before .before .before .before .before .before .before .before .before .sums .ensures .1) (c .before .before .before .before .before .before .before .pair .ensures) (c .before .before .pair2 .ensures)
+returns c =
+    let pre = c .before .before .before .before .before .before .before .before .before .before .before .before .before .before .before .before .before .before .before .pre in
+    let put-front = c .before .before .before .before .before .before .before .before .before .before .before .before .before .before .before .put-front in
+    let sums = c .before .before .before .before .before .before .before .before .before .before .sums in
+    let pair = c .before .before .before .before .before .before .before .pair in
+    let pair2 = c .before .before .pair2 in
+    block-put _ _ _ _ (pre .1) _ _ _ _ _ (pre .0 .0) (put-front .ensures) (sums .ensures .0) (sums .ensures .1) (pair .ensures) (pair2 .ensures)
 
 pub put-block-spec : {M : Type 1} → statement M
 put-block-spec =

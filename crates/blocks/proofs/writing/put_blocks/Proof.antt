@@ -28,7 +28,10 @@ piece-requires : tie.Need-piece-requires Inv-loop μ-loop
 piece-requires c κs = omega arith
 
 put-block-requires : tie.Need-put-block-requires Inv-loop μ-loop
-put-block-requires c κs = omega (arith, ap length (c .piece .ensures), piece-fits (c .before .before .before .before .before .before .args .stream .now) (c .before .before .before .loop .k))
+put-block-requires c κs =
+    let args = c .before .before .before .before .before .before .args in
+    let loop = c .before .before .before .loop in
+    omega (arith, ap length (c .piece .ensures), piece-fits (args .stream .now) (loop .k))
 
 add-k : tie.Need-add-k Inv-loop μ-loop
 add-k c = omega arith
@@ -38,13 +41,19 @@ loop-less c = omega arith
 
 loop-again : tie.Need-loop-again Inv-loop μ-loop
 loop-again c =
-    let s = c .before .before .before .before .before .before .before .before .before .args .stream .now in
-    let k = c .before .before .before .before .before .before .loop .k in
-    let inv = c .before .before .before .before .before .before .loop .inv in (
+    let args = c .before .before .before .before .before .before .before .before .before .args in
+    let pre = c .before .before .before .before .before .before .before .before .before .pre in
+    let loop = c .before .before .before .before .before .before .loop in
+    let loop-test = c .before .before .before .before .before .loop-test in
+    let piece = c .before .before .before .piece in
+    let put-block = c .before .before .put-block in
+    let s = args .stream .now in
+    let k = loop .k in
+    let inv = loop .inv in (
       omega arith,
       (
-        c .before .before .put-block .kept .0 ∙ inv .1 .0,
-        blocks-turn s (c .before .before .before .before .before .before .before .before .before .args .out .now) _ _ _ k _ (c .before .before .before .before .before .before .before .before .before .pre .0 .0) (c .before .before .before .before .before .loop-test .taken) (inv .1 .1) (c .before .before .before .piece .ensures) (c .before .before .put-block .ensures),
+        put-block .kept .0 ∙ inv .1 .0,
+        blocks-turn s (args .out .now) _ _ _ k _ (pre .0 .0) (loop-test .taken) (inv .1 .1) (piece .ensures) (put-block .ensures),
       ),
     )
 
@@ -53,8 +62,10 @@ same-length c = c .before .loop .inv .1 .0
 
 returns : tie.Need-returns Inv-loop μ-loop
 returns c =
-    let e : c .before .loop .k ≡ c .before .before .before .before .args .n = omega arith in
-    c .before .loop .inv .1 .1 ∙ ap (λ k. put (c .before .before .before .before .args .out .now) 0 (image-of (c .before .before .before .before .args .stream .now) k)) e
+    let args = c .before .before .before .before .args in
+    let loop = c .before .loop in
+    let e : loop .k ≡ args .n = omega arith in
+    loop .inv .1 .1 ∙ ap (λ k. put (args .out .now) 0 (image-of (args .stream .now) k)) e
 
 pub put-blocks-spec : {M : Type 1} → statement M
 put-blocks-spec =

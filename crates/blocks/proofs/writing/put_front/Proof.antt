@@ -35,7 +35,13 @@ same-length : tie.Need-same-length
 same-length c = search needs
 
 returns : tie.Need-returns
-returns c = front-put _ _ _ _ (c .before .before .before .before .before .before .before .before .before .before .before .before .before .before .before .before .before .before .pre .1) _ _ _ _ (c .before .before .before .before .before .before .before .before .before .before .before .before .before .before .before .before .before .before .pre .0 .0) (c .before .before .before .before .before .before .before .before .before .before .before .before .before .before .pair .ensures) (c .before .before .before .before .before .before .before .before .before .before .pair2 .ensures) (c .before .before .before .before .before .before .copy .ensures) (c .before .before .zeros .ensures)
+returns c =
+    let pre = c .before .before .before .before .before .before .before .before .before .before .before .before .before .before .before .before .before .before .pre in
+    let pair = c .before .before .before .before .before .before .before .before .before .before .before .before .before .before .pair in
+    let pair2 = c .before .before .before .before .before .before .before .before .before .before .pair2 in
+    let copy = c .before .before .before .before .before .before .copy in
+    let zeros = c .before .before .zeros in
+    front-put _ _ _ _ (pre .1) _ _ _ _ (pre .0 .0) (pair .ensures) (pair2 .ensures) (copy .ensures) (zeros .ensures)
 
 pub put-front-spec : {M : Type 1} → statement M
 put-front-spec =
