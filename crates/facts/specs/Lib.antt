@@ -1,1 +1,4 @@
 pub mod Facts
+pub mod DigitLaws
+pub mod Verdicts
+pub mod FaultLaws

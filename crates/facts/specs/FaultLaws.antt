@@ -1,0 +1,48 @@
+-- Faults joined (01, 'Numbers from the input'): the lower number stands, and 8 only where names are right.
+use Prim.Native.Nat.{ℕ, suc}
+use native.Mathlib.Omega.{arith}
+use mathlib.Core.Bool.{Bool, true, false, _&&_, and-true}
+use mathlib.Core.Logic.{_↔_}
+use mathlib.Core.Path.{_≡_, refl, sym, ap, _∙_, subst}
+use lib.Dec.{eqb, ltb}
+use borrow.Author.Tests.{eq-eqb, ne-eqb, eqb-true, eqb-false}
+use Rattle.facts.specs.Facts.{worst, demand, named}
+use Rattle.facts.specs.Verdicts.{Says, Says.misnamed, Says.mistyped, Says.right}
+
+-- two faults come to none exactly where both are none
+pub worst-none : (a b : ℕ) → (worst a b ≡ 0) ↔ ((a ≡ 0) × (b ≡ 0))
+unfolding worst
+worst-none a b = go (eqb a 0) refl (eqb b 0) refl (ltb a b) refl
+  where
+    go : (s : Bool) → eqb a 0 ≡ s → (t : Bool) → eqb b 0 ≡ t → (u : Bool) → ltb a b ≡ u → (worst a b ≡ 0) ↔ ((a ≡ 0) × (b ≡ 0))
+    go true p t q u r = rw (p, worst) (λ e. (eqb-true a 0 p, e), λ e. e .1)
+    go false p true q u r = rw (p, q, worst) (λ e. (e, eqb-true b 0 q), λ e. e .0)
+    go false p false q true r = rw (p, q, r, worst) (λ e. absurd (eqb-false a 0 p e), λ e. e .0)
+    go false p false q false r = rw (p, q, r, worst) (λ e. absurd (eqb-false b 0 q e), λ e. e .1)
+
+-- what two faults say, the worse of them says of both
+pub says-both : {f g : ℕ} {a b c d : Bool} → Says f a b → Says g c d → Says (worst f g) (a && c) (b && d)
+unfolding worst
+says-both (misnamed e) (misnamed h) = misnamed (rw (e, h))
+says-both (misnamed e) (mistyped h) = misnamed (rw (e, h))
+says-both (misnamed e) (right h) = misnamed (rw (e, h))
+says-both (mistyped e) (misnamed h) = misnamed (rw (e, h))
+says-both (mistyped e) (mistyped h) = mistyped (rw (e, h))
+says-both (mistyped e) (right h) = mistyped (rw (e, h))
+says-both (right e) (misnamed h) = misnamed (rw (e, h))
+says-both (right e) (mistyped h) = mistyped (rw (e, h))
+says-both (right e) (right h) = right (rw (e, h))
+
+-- a test of types makes 8 of no fault
+pub says-demand : {f : ℕ} {a b : Bool} (t : Bool) → Says f a b → Says (demand f t) a (b && t)
+unfolding demand
+says-demand t (misnamed e) = misnamed (rw e)
+says-demand t (mistyped e) = mistyped (rw e)
+says-demand true (right e) = right (rw e)
+says-demand false (right e) = mistyped (rw e)
+
+-- a test of names makes 7
+pub says-named : (t : Bool) → Says (named t) t true
+unfolding named
+says-named true = right refl
+says-named false = misnamed refl

@@ -1,0 +1,52 @@
+-- What a fault says of names and types (01, numbers 7 and 8), and when tables and numbers of locals stand for a context.
+use Prim.Native.Nat.{ℕ, suc, _+_, _*_, _<_}
+use mathlib.Core.Bool.{Bool, true, false}
+use mathlib.Core.List.{List}
+use mathlib.Core.Path.{_≡_}
+use lib.ListN.{length, getD}
+use Rattle.types.specs.Limits.{max-params, first-local}
+use Rattle.types.specs.Types.{Ty, code}
+use Rattle.commands.specs.Context.{Ctx, typ}
+use Rattle.commands.specs.Decide.{member}
+use Rattle.commands.specs.TypingDecide.{Judgement, Judgement.untypable, Judgement.of-type}
+use Rattle.facts.specs.Facts.{no-fault, name-fault, type-fault, digit}
+use Rattle.facts.specs.declared.Scope.{Scope}
+
+-- 7 where names are wrong; else 8 where types are; else 0
+pub data Says (f : ℕ) : Bool → Bool → Type 0 where
+  misnamed : {t : Bool} → f ≡ name-fault → Says f false t
+  mistyped : f ≡ type-fault → Says f true false
+  right : f ≡ no-fault → Says f true true
+
+-- the same of an expression or a path, and then its type's byte
+pub data Shows (f t : ℕ) : Bool → Judgement → Type 0 where
+  unnamed : {j : Judgement} → f ≡ name-fault → Shows f t false j
+  untyped : f ≡ type-fault → Shows f t true untypable
+  typed : {u : Ty} → f ≡ no-fault → t ≡ code u → Shows f t true (of-type u)
+
+-- the counts of parameters and their types' bytes are the context's
+pub record Tables (ar types : List ℕ) (G : Ctx) : Type 0 where
+  pub arities : (k : ℕ) → getD ar k 0 ≡ length (G .params k)
+  pub codes : (k x : ℕ) → x < length (G .params k) → getD types (max-params * k + x) 0 ≡ code (typ G k x)
+
+-- the digit of a local that lives, or does not
+abbrev pub tagged : Bool → Ty → ℕ
+tagged true t = suc (code t)
+tagged false t = 0
+
+-- a number whose digits are these living locals with their types; these locals
+abbrev pub Living : ℕ → List ℕ → (ℕ → Ty) → Type 0
+Living w live L = (x : ℕ) → x < first-local → digit w x ≡ tagged (member x live) (L x)
+
+abbrev pub flag : Bool → ℕ
+flag true = 1
+flag false = 0
+
+abbrev pub Marked : ℕ → List ℕ → Type 0
+Marked w seen = (x : ℕ) → x < first-local → digit w x ≡ flag (member x seen)
+
+-- the scope has these living locals, with these types, and these declared ones, of which the living are
+pub record Fits (c : Scope) (live seen : List ℕ) (L : ℕ → Ty) : Type 0 where
+  pub living : Living (c .live) live L
+  pub marked : Marked (c .seen) seen
+  pub older : (x : ℕ) → member x live ≡ true → member x seen ≡ true
