@@ -60,13 +60,28 @@ module _ (w x v : ℕ) where
   higher y d e z h =
       rw (e, behind (w + v * 256 ^ x) x d, behind w x d, add-mul-div-right w v (pos x), kept (w / 256 ^ x) v z h)
 
-  -- and every other digit as it was
-  pub digit-other : (y : ℕ) → (y ≡ x → ⊥) → digit w x ≡ 0 → v < 256 → digit (mark w x v) y ≡ digit w y
-  digit-other y n e h = rw (mark-fresh e) (go (ltb x y) refl)
+  apart : (y : ℕ) → (y ≡ x → ⊥) → digit w x ≡ 0 → v < 256 → digit (mark w x v) y ≡ digit w y
+  apart y n e h = ap (λ u. digit u y) (mark-fresh e) ∙ go (ltb x y) refl
     where
       go : (t : Bool) → ltb x y ≡ t → digit (w + v * 256 ^ x) y ≡ digit w y
       go true l = higher y (y - suc x) (omega (arith, ltb-true x y l)) e h
-      go false l = lower y (x - suc y) (omega (arith, ltb-false x y l)) 
+      go false l = lower y (x - suc y) (omega (arith, ltb-false x y l))
+
+  -- a digit that is not 0 as it was, and every other
+  pub digit-held : (y : ℕ) → (digit w y ≡ 0 → ⊥) → v < 256 → digit (mark w x v) y ≡ digit w y
+  digit-held y n h = go (eqb y x) refl (eqb (digit w x) 0) refl
+    where
+      go : (s : Bool) → eqb y x ≡ s → (t : Bool) → eqb (digit w x) 0 ≡ t → digit (mark w x v) y ≡ digit w y
+      go s p false q = ap (λ u. digit u y) (mark-kept (eqb-false (digit w x) 0 q))
+      go true p true q = absurd (n (ap (digit w) (eqb-true y x p) ∙ eqb-true (digit w x) 0 q))
+      go false p true q = apart y (eqb-false y x p) (eqb-true (digit w x) 0 q) h
+
+  pub digit-other : (y : ℕ) → (y ≡ x → ⊥) → v < 256 → digit (mark w x v) y ≡ digit w y
+  digit-other y n h = go (eqb (digit w x) 0) refl
+    where
+      go : (t : Bool) → eqb (digit w x) 0 ≡ t → digit (mark w x v) y ≡ digit w y
+      go true q = apart y n (eqb-true (digit w x) 0 q) h
+      go false q = ap (λ u. digit u y) (mark-kept (eqb-false (digit w x) 0 q))
 
   -- a number of eight digits stays one, d being the digits above x
   bounded : (d : ℕ) → x + suc d ≡ 8 → w < 256 ^ 8 → v < 256 → digit w x ≡ 0 → w + v * 256 ^ x < 256 ^ 8

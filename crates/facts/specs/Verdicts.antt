@@ -6,6 +6,7 @@ use mathlib.Core.Path.{_≡_}
 use lib.ListN.{length, getD}
 use Rattle.types.specs.Limits.{max-params, first-local}
 use Rattle.types.specs.Types.{Ty, code}
+use Rattle.program.specs.Tree.{Stmt, Stmt.when, Stmt.declare, Stmt.update, Stmt.create, Stmts, Stmts.end, Stmts.next}
 use Rattle.commands.specs.Context.{Ctx, typ}
 use Rattle.commands.specs.Decide.{member}
 use Rattle.commands.specs.TypingDecide.{Judgement, Judgement.untypable, Judgement.of-type}
@@ -45,8 +46,19 @@ flag false = 0
 abbrev pub Marked : ℕ → List ℕ → Type 0
 Marked w seen = (x : ℕ) → x < first-local → digit w x ≡ flag (member x seen)
 
--- the scope has these living locals, with these types, and these declared ones, of which the living are
+-- the scope has these living locals, with these types, and these declared ones
 pub record Fits (c : Scope) (live seen : List ℕ) (L : ℕ → Ty) : Type 0 where
   pub living : Living (c .live) live L
   pub marked : Marked (c .seen) seen
-  pub older : (x : ℕ) → member x live ≡ true → member x seen ≡ true
+
+-- these types are those of the declarations in statements
+unfoldable mutual
+  pub Locals-stmt : (ℕ → Ty) → Stmt → Type 0
+  Locals-stmt L (when e b) = Locals L b
+  Locals-stmt L (declare t x e) = t ≡ L x
+  Locals-stmt L (update v vs e) = Unit {0}
+  Locals-stmt L (create k es) = Unit {0}
+
+  pub Locals : (ℕ → Ty) → Stmts → Type 0
+  Locals L end = Unit {0}
+  Locals L (next s b) = Locals-stmt L s × Locals L b
