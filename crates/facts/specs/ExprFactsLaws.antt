@@ -154,7 +154,7 @@ module _ (ar types : List ℕ) where
       subst (λ j. Judges j true untypable) (sym (ap (λ j. lead ar types j xs) (by-plain t x h) ∙ stays type-fault 0 xs (λ e. omega arith)))
       (untyped refl)
 
-module _ {ar types : List ℕ} {G : Ctx} (T : Tables ar types G) where
+module _ {cs ar types : List ℕ} {G : Ctx} (T : Tables cs ar types G) where
   abbrev has : ℕ → ℕ → Bool
   has k x = ltb x (length (G .params k))
 
@@ -221,10 +221,10 @@ module _ {ar types : List ℕ} {G : Ctx} (T : Tables ar types G) where
       unfolding expr-facts args-facts expr-named args-named expr-type args-typed CountsExpr CountsExprs IsPath args negated combined travelled argued constructed code
 
       -- an expression's fault is 7 where a name is wrong in it, else 8 where it has no type, else 0, and its type is told
-      pub expr-shows : (e : Expr) → CountsExpr ar e
+      pub expr-shows : (e : Expr) → CountsExpr cs e
           → Shows (expr-facts ar types (G .own) w e .fault) (expr-facts ar types (G .own) w e .typ) (expr-named e (length (G .params (G .own))) live) (expr-type G e)
       expr-shows (inv e) c = negated-shows (expr-shows e c)
-      expr-shows (make k es) c = made-shows k (args-says es (c .2) k 0 (G .params k) (c .1 ∙ T .arities k) (λ i h. rw zero-add (T .codes k i h)))
+      expr-shows (make k es) c = made-shows k (args-says es (c .2) k 0 (G .params k) (c .1 ∙ T .counts k) (λ i h. rw zero-add (T .codes k i h)))
       expr-shows (path v vs) c = path-shows v vs (c .0)
       expr-shows (int-lit n) c = typed refl refl
       expr-shows (nat-lit n) c = typed refl refl
@@ -234,7 +234,7 @@ module _ {ar types : List ℕ} {G : Ctx} (T : Tables ar types G) where
       expr-shows (op o a b) c = op-shows (sort o) (expr-shows a (c .0)) (expr-shows b (c .1))
 
       -- and that of arguments for parameters of these types, from parameter x of struct k on
-      pub args-says : (es : Exprs) → CountsExprs ar es → (k x : ℕ) (ts : List Ty) → args es ≡ length ts
+      pub args-says : (es : Exprs) → CountsExprs cs es → (k x : ℕ) (ts : List Ty) → args es ≡ length ts
           → ((i : ℕ) → i < length ts → getD types (max-params * k + (x + i)) 0 ≡ code (getD ts i int))
           → Says (args-facts ar types (G .own) w es k x .fault) (args-named es (length (G .params (G .own))) live) (args-typed G es ts)
       args-says none c k x [] a h = right refl

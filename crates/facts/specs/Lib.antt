@@ -5,3 +5,8 @@ pub mod FaultLaws
 pub mod SizeFactsLaws
 pub mod ExprFactsLaws
 pub mod LocalLaws
+pub mod ScopeLaws
+pub mod BodyFactsLaws
+pub mod ProgramFacts
+pub mod ProgramTableLaws
+pub mod TotalLaws

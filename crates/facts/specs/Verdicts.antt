@@ -25,8 +25,9 @@ pub data Shows (f t : ℕ) : Bool → Judgement → Type 0 where
   untyped : f ≡ type-fault → Shows f t true untypable
   typed : {u : Ty} → f ≡ no-fault → t ≡ code u → Shows f t true (of-type u)
 
--- the counts of parameters and their types' bytes are the context's
-pub record Tables (ar types : List ℕ) (G : Ctx) : Type 0 where
+-- the counts `cs` that a tree is read by, and the tables `ar` and `types`, which may go on behind the structs, are the context's
+pub record Tables (cs ar types : List ℕ) (G : Ctx) : Type 0 where
+  pub counts : (k : ℕ) → getD cs k 0 ≡ length (G .params k)
   pub arities : (k : ℕ) → getD ar k 0 ≡ length (G .params k)
   pub codes : (k x : ℕ) → x < length (G .params k) → getD types (max-params * k + x) 0 ≡ code (typ G k x)
 
