@@ -20,7 +20,7 @@ use Rattle.commands.specs.NamesDecide.{stmt-named, body-named}
 use Rattle.commands.specs.TypingDecide.{is-of, expr-type, stmt-typed, body-typed}
 use Rattle.facts.specs.Facts.{worst, named, digit, no-locals, branched, declared as declaring, updated, created, followed, stmt-facts, body-facts}
 use Rattle.facts.specs.Verdicts.{Says, Says.misnamed, Says.right, Tables, tagged, flag, Living, Marked, Fits, Locals-stmt, Locals}
-use Rattle.facts.specs.FaultLaws.{says-both, says-named}
+use Rattle.facts.specs.FaultLaws.{says-as, says-both, says-named}
 use Rattle.facts.specs.ExprFactsLaws.{wanted, agree-says, path-shows, expr-shows, args-says}
 use Rattle.facts.specs.LocalLaws.{step-locals}
 use Rattle.facts.specs.ScopeLaws.{types-after, stmt-fits, fits-none}
@@ -46,9 +46,6 @@ settle {f = f} false h p = go (p .found)
   where
     go : {u t : Bool} → Says f false u → Says f false t
     go (misnamed e) = misnamed e
-
-unless : {f : ℕ} {b : Bool} (t : Bool) → Says f b (t && true) → Says f b t
-unless t s = rw and-true at s
 
 -- two tables of types agree on these locals
 abbrev Agrees : List ℕ → (ℕ → Ty) → (ℕ → Ty) → Type 0
@@ -112,7 +109,7 @@ module _ {cs ar types : List ℕ} {G : Ctx} (T : Tables cs ar types G) (few : le
       met = _;
       found = says-both (wanted t refl (expr-shows (same L) (c .live) live (f .living) e (n .2))) (fresh x (n .1) f);
       meant = λ h.
-          unless (is-of t (expr-type (at G M) e))
+          says-as refl (and-true (is-of t (expr-type (at G M) e)))
           (says-both
           (wanted t refl (expr-shows (same M) (c .live) live (living-as (c .live) live L M (f .living) (h .0)) e (n .2)))
           (fresh x (n .1) f));

@@ -1,11 +1,11 @@
 -- Faults joined (01, 'Numbers from the input'): the lower number stands, and 8 only where names are right.
 use Prim.Native.Nat.{ℕ, suc}
 use native.Mathlib.Omega.{arith}
-use mathlib.Core.Bool.{Bool, true, false, _&&_, and-true}
+use mathlib.Core.Bool.{Bool, true, false, not, _&&_}
 use mathlib.Core.Logic.{_↔_}
-use mathlib.Core.Path.{_≡_, refl, sym, ap, _∙_, subst}
+use mathlib.Core.Path.{_≡_, refl, subst}
 use lib.Dec.{eqb, ltb}
-use borrow.Author.Tests.{eq-eqb, ne-eqb, eqb-true, eqb-false}
+use borrow.Author.Tests.{eqb-true, eqb-false}
 use Rattle.facts.specs.Facts.{worst, demand, named}
 use Rattle.facts.specs.Verdicts.{Says, Says.misnamed, Says.mistyped, Says.right}
 
@@ -46,3 +46,13 @@ pub says-named : (t : Bool) → Says (named t) t true
 unfolding named
 says-named true = right refl
 says-named false = misnamed refl
+
+-- a fault says the same of equal tests
+pub says-as : {f : ℕ} {a a' b b' : Bool} → a ≡ a' → b ≡ b' → Says f a b → Says f a' b'
+says-as {f} {a} {a'} {b} {b'} p q s = subst (λ x. Says f x b') p (subst (λ x. Says f a x) q s)
+
+-- the number that a fault is, by the tests
+pub says-number : {f : ℕ} {a b : Bool} → Says f a b → f ≡ elim (not a) [ true ↦ 7 | false ↦ elim (not b) [ true ↦ 8 | false ↦ 0 ] ]
+says-number (misnamed e) = e
+says-number (mistyped e) = e
+says-number (right e) = e

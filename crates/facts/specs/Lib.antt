@@ -10,3 +10,5 @@ pub mod BodyFactsLaws
 pub mod ProgramFacts
 pub mod ProgramTableLaws
 pub mod TotalLaws
+pub mod NameTotalLaws
+pub mod ProgramFactsLaws

@@ -2,7 +2,7 @@
 use Prim.Native.Nat.{ℕ, zero, suc, _+_, _*_, _<_, _≤_}
 use native.Mathlib.Omega.{arith}
 use mathlib.Core.Bool.{Bool, true, false, _||_, or-true, or-false}
-use mathlib.Core.List.{List, [], _∷_, _++_, map}
+use mathlib.Core.List.{List, [], _∷_, _++_, append-nil}
 use mathlib.Core.Path.{_≡_, refl, ap, _∙_, sym, subst}
 use lib.ListN.{length, getD, set, replicate, length-set, length-replicate, getD-replicate, List·getD-map, List·getD-append}
 use lib.Seq.{getD-append-add, getD-set-same, getD-set-other}
@@ -20,7 +20,7 @@ use Rattle.commands.specs.NamesDecide.{stepped}
 use Rattle.facts.specs.Verdicts.{Tables, flag}
 use Rattle.facts.specs.ProgramFacts.{row, types-table, place, places, no-steps, Totals, added, struct-totals, step-totals, had}
 use Rattle.facts.specs.Facts.{no-locals, body-facts}
-use Rattle.facts.specs.ScopeLaws.{swap}
+use Rattle.facts.specs.ScopeLaws.{swapped}
 
 -- Types ----------------------------------------------------------------------------
 
@@ -92,19 +92,23 @@ holds-none k l = record {
   holds-at = λ n i. getD-replicate {A = ℕ} places (place k n) 0 0 (omega arith);
 }
 
--- the names of each step of a struct, and of each struct's steps
-abbrev Low : List Step → Type 0
+-- only membership counts
+holds-as : {hs : List ℕ} {k : ℕ} {ns ms : List ℕ} → ((n : ℕ) → member n ns ≡ member n ms) → Holds hs k ns → Holds hs k ms
+holds-as e H = record { long = H .long; holds-at = λ n i. H .holds-at n i ∙ ap flag (e n) }
+
+-- the names of a struct's steps are names
+abbrev pub Low : List Step → Type 0
 Low = All (λ t. t .name < step-names)
 
 module _ (ar types : List ℕ) where
   -- behind a struct's steps the table has their names too
   pub struct-holds : (ts : List Step) → Low ts → {k : ℕ} {ns : List ℕ} (T : Totals) → k < max-structs → Holds (T .has) k ns
-      → (n : ℕ) → n < step-names → getD (struct-totals ar types k ts T .has) (place k n) 0 ≡ flag (member n (names ts) || member n ns)
-  unfolding struct-totals added names member
-  struct-holds [] a T l H n i = H .holds-at n i
-  struct-holds (t ∷ ts) a {k} {ns} T l H n i =
-      struct-holds ts (a .1) (added k (t .name) (body-facts ar types k (t .body) no-locals) T) l (holds-more (t .name) l (a .0) H) n i
-      ∙ ap flag (swap (eqb n (t .name)) (member n (names ts)) (member n ns))
+      → Holds (struct-totals ar types k ts T .has) k (names ts ++ ns)
+  unfolding struct-totals added names
+  struct-holds [] a T l H = H
+  struct-holds (t ∷ ts) a {k} {ns} T l H =
+      holds-as (λ n. swapped n (t .name ∷ []) (names ts) ns)
+      (struct-holds ts (a .1) (added k (t .name) (body-facts ar types k (t .body) no-locals) T) l (holds-more (t .name) l (a .0) H))
 
   -- and for another struct what it had
   pub struct-other : (ts : List Step) → Low ts → {j : ℕ} {ns : List ℕ} (k : ℕ) (T : Totals) → (j ≡ k → ⊥) → Holds (T .has) j ns
@@ -130,14 +134,10 @@ module _ (ar types : List ℕ) where
   steps-hold [] a k T l H j h n i = absurd (omega arith)
   steps-hold (ts ∷ tss) a k T l H zero h n i =
       let e : k + 0 ≡ k = omega arith in
-      let here : Holds (struct-totals ar types k ts T .has) k (names ts) = record {
-        long = struct-other-long ts T (H k (omega arith) (omega arith) .long);
-        holds-at = λ m b. struct-holds ts (a .0) T (omega arith) (H k (omega arith) (omega arith)) m b ∙ rw or-false;
-      } in
+      let here : Holds (struct-totals ar types k ts T .has) k (names ts) =
+          holds-as (λ m. ap (member m) (append-nil (names ts))) (struct-holds ts (a .0) T (omega arith) (H k (omega arith) (omega arith)))
+      in
       rw e (steps-other tss (a .1) (suc k) (struct-totals ar types k ts T) (omega arith) here .holds-at n i)
-    where
-      struct-other-long : (us : List Step) (U : Totals) → length (U .has) ≡ places → length (struct-totals ar types k us U .has) ≡ places
-      struct-other-long us U e = ?
   steps-hold (ts ∷ tss) a k T l H (suc j) h n i =
       let e : k + suc j ≡ suc k + j = omega arith in
       rw e (steps-hold tss (a .1) (suc k) (struct-totals ar types k ts T) (omega arith)
@@ -154,12 +154,10 @@ had-is hs n [] k h = refl
 had-is hs n (ts ∷ tss) k h =
     let e : k + 0 ≡ k = omega arith in
     let here : getD hs (place k n) 0 ≡ flag (member n (names ts)) = rw e at (h 0 (omega arith)) in
-    ap (λ v. elim (eqb v 0) [ false ↦ true | true ↦ had hs n (suc k) (length tss) ]) here
-    ∙ go (member n (names ts))
+    ap {B = Bool} (λ v. elim (eqb v 0) [ false ↦ true | true ↦ had hs n (suc k) (length tss) ]) here
+    ∙ go (member n (names ts)) (had-is hs n tss (suc k) (λ j l. let q : k + suc j ≡ suc k + j = omega arith in rw q at (h (suc j) (omega arith))))
   where
-    later : had hs n (suc k) (length tss) ≡ stepped n tss
-    later = ?
-
-    go : (b : Bool) → _≡_ {A = Bool} (elim (eqb (flag b) 0) [ false ↦ true | true ↦ had hs n (suc k) (length tss) ]) (b || stepped n tss)
-    go true = refl
-    go false = later
+    go : (b : Bool) → had hs n (suc k) (length tss) ≡ stepped n tss
+        → _≡_ {A = Bool} (elim (eqb (flag b) 0) [ false ↦ true | true ↦ had hs n (suc k) (length tss) ]) (b || stepped n tss)
+    go true e = refl
+    go false e = e

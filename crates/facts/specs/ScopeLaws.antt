@@ -81,12 +81,12 @@ marked-mark w x seen l y k = go (member y seen) (l y k)
         at true = refl
         at false = refl
 
--- or, in another order
-pub swap : (a b c : Bool) → (b || (a || c)) ≡ ((a || b) || c)
+swap : (a b c : Bool) → (b || (a || c)) ≡ ((a || b) || c)
 swap true b c = or-true b
 swap false b c = refl
 
-swapped : (x : ℕ) (a b c : List ℕ) → member x (b ++ (a ++ c)) ≡ member x ((a ++ b) ++ c)
+-- one of three lists, in another order
+pub swapped : (x : ℕ) (a b c : List ℕ) → member x (b ++ (a ++ c)) ≡ member x ((a ++ b) ++ c)
 swapped x a b c = rw (member-append x b (a ++ c), member-append x a c, member-append x (a ++ b) c, member-append x a b) (swap (member x a) (member x b) (member x c))
 
 module _ (ar types : List ℕ) (own : ℕ) where

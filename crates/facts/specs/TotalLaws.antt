@@ -18,7 +18,7 @@ use Rattle.facts.specs.Verdicts.{flag}
 use Rattle.facts.specs.SizeFactsLaws.{body-facts-size, body-facts-height}
 use Rattle.facts.specs.ProgramFacts.{Totals, added, struct-totals, step-totals}
 
--- one total is another and so many steps and commands more, so deep, and over a limit unless w holds
+-- U is T and so many steps and commands more, so deep, and over a limit unless w holds
 pub record Grown (T U : Totals) (s c d : ℕ) (w : Bool) : Type 0 where
   pub steps : U .steps ≡ T .steps + s
   pub commands : U .commands ≡ T .commands + c
@@ -28,8 +28,8 @@ pub record Grown (T U : Totals) (s c d : ℕ) (w : Bool) : Type 0 where
 unchanged : (T : Totals) → Grown T T 0 0 0 true
 unchanged T = record { steps = omega arith; commands = omega arith; depth = omega arith; over = λ ok e. rw and-true e }
 
-grown-then : {T U V : Totals} {s c d s' c' d' : ℕ} {w w' : Bool} → Grown T U s c d w → Grown U V s' c' d' w'
-    → Grown T V (s + s') (c + c') (max d d') (w && w')
+grown-then : {T U W : Totals} {s c d s' c' d' : ℕ} {w w' : Bool} → Grown T U s c d w → Grown U W s' c' d' w'
+    → Grown T W (s + s') (c + c') (max d d') (w && w')
 grown-then {w = w} {w' = w'} g h = record {
   steps = omega arith;
   commands = omega arith;
@@ -58,11 +58,16 @@ module _ (ar types : List ℕ) where
     commands = rw (body-facts-size ar types k (t .body) no-locals);
     depth = rw (body-facts-height ar types k (t .body) no-locals);
     over = λ ok e.
-        rw (body-facts-size ar types k (t .body) no-locals, body-facts-height ar types k (t .body) no-locals,
-          above (body-size (t .body)) step-commands, above (height (t .body)) max-depth)
-        (go (leb (body-size (t .body)) step-commands) (leb (height (t .body)) max-depth) ok e);
+        ap {B = ℕ} (λ q. elim q [ true ↦ 1 | false ↦ T .over ]) test
+        ∙ go (leb (body-size (t .body)) step-commands) (leb (height (t .body)) max-depth) ok e;
   }
     where
+      test : (ltb step-commands (body-facts ar types k (t .body) no-locals .size) || ltb max-depth (body-facts ar types k (t .body) no-locals .height))
+          ≡ (not (leb (body-size (t .body)) step-commands) || not (leb (height (t .body)) max-depth))
+      test =
+          rw (body-facts-size ar types k (t .body) no-locals, body-facts-height ar types k (t .body) no-locals,
+            above (body-size (t .body)) step-commands, above (height (t .body)) max-depth)
+
       go : (a b ok : Bool) → T .over ≡ flag (not ok) → _≡_ {A = ℕ} (elim (not a || not b) [ true ↦ 1 | false ↦ T .over ]) (flag (not (ok && (a && b))))
       go true true ok e = rw and-true e
       go true false true e = refl
@@ -74,7 +79,10 @@ module _ (ar types : List ℕ) where
       → Grown T (struct-totals ar types k ts T) (length ts) (total (λ t. body-size (t .body)) ts) (greatest (λ t. height (t .body)) ts) (every step-fits ts)
   unfolding struct-totals total greatest every
   struct-grown [] k T = unchanged T
-  struct-grown (t ∷ ts) k T = ?
+  struct-grown (t ∷ ts) k T =
+      let U = added k (t .name) (body-facts ar types k (t .body) no-locals) T in
+      let g = grown-then (step-grown k t T) (struct-grown ts k U) in
+      record { steps = omega arith; commands = g .commands; depth = g .depth; over = g .over }
 
   -- over the steps of each struct: how many, their commands, their greatest height, and whether each is within its limits
   pub steps-grown : (tss : List (List Step)) (k : ℕ) (T : Totals)
