@@ -88,6 +88,12 @@ types-order false y z = refl
 types-order true true z = refl
 types-order true false z = refl
 
+-- the names of steps within the counts are names
+pub low : (cs : List ℕ) (ts : List Step) → All (CountsStep cs) ts → Low ts
+unfolding CountsStep
+low cs [] c = tt
+low cs (t ∷ ts) c = (c .0 .0, low cs ts (c .1))
+
 module _ (p : Program) {cs ar types : List ℕ} (tables : (k : ℕ) (t : Step) → Tables cs ar types (context p k (t .body))) (few : length cs ≤ max-structs) where
   -- a body of struct k is named right, typed right
   abbrev well-named : ℕ → Step → Bool
@@ -95,11 +101,6 @@ module _ (p : Program) {cs ar types : List ℕ} (tables : (k : ℕ) (t : Step) �
 
   abbrev well-typed : ℕ → Step → Bool
   well-typed k t = body-typed (context p k (t .body)) (t .body)
-
-  low : (ts : List Step) → All (CountsStep cs) ts → Low ts
-  unfolding CountsStep
-  low [] c = tt
-  low (t ∷ ts) c = (c .0 .0, low ts (c .1))
 
   added-says : {a b : Bool} (k : ℕ) (t : Step) (ns : List ℕ) (T : Totals) → CountsStep cs t → Holds (T .has) k ns → Says (T .fault) a b
       → Says (added k (t .name) (body-facts ar types k (t .body) no-locals) T .fault) (a && (well-named k t && not (member (t .name) ns))) (b && (well-typed k t && true))
@@ -134,5 +135,5 @@ module _ (p : Program) {cs ar types : List ℕ} (tables : (k : ℕ) (t : Step) �
       ∙ ap (λ q. a && q) (and-assoc (distinct (names ts)) (every (well-named k) ts) (steps-named p (suc k) tss)))
       (and-assoc b (every (well-typed k) ts) (steps-typed p (suc k) tss))
       (steps-say tss (c .1) (suc k) (struct-totals ar types k ts T) (omega arith)
-      (λ j m n. struct-other ar types ts (low ts (c .0)) k T (λ e. omega arith) (H j (omega arith) n))
+      (λ j m n. struct-other ar types ts (low cs ts (c .0)) k T (λ e. omega arith) (H j (omega arith) n))
       (struct-says ts (c .0) k [] T (omega arith) (H k (omega arith) (omega arith)) s))

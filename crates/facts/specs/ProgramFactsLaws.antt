@@ -27,9 +27,9 @@ use Rattle.commands.specs.Numbers.{breach, first, order, program-number}
 use Rattle.facts.specs.Facts.{worst, named}
 use Rattle.facts.specs.Verdicts.{Says, Says.right, Tables, flag}
 use Rattle.facts.specs.FaultLaws.{says-as, says-both, says-named, says-number}
-use Rattle.facts.specs.ProgramFacts.{place, no-totals, step-totals, had, joined, item-plan, items-plan, exceeded, totals-number}
+use Rattle.facts.specs.ProgramFacts.{place, Totals, Planned, no-totals, step-totals, had, joined, item-plan, items-plan, exceeded, totals-number}
 use Rattle.facts.specs.ProgramTableLaws.{Low, holds-none, steps-hold, had-is}
-use Rattle.facts.specs.TotalLaws.{above, step-fits, steps-grown}
+use Rattle.facts.specs.TotalLaws.{Grown, above, step-fits, steps-grown}
 use Rattle.facts.specs.NameTotalLaws.{low, steps-say}
 
 -- The schedule ---------------------------------------------------------------------
@@ -75,16 +75,19 @@ every-and f g [] = refl
 every-and f g (a ∷ l) = ap (λ q. (f a && g a) && q) (every-and f g l) ∙ go (f a) (g a) (every f l)
   where
     go : (x y z : Bool) → ((x && y) && (z && every g l)) ≡ ((x && z) && (y && every g l))
-    go true true z = ?
-    go true false z = ?
+    go true true true = refl
+    go true true false = refl
+    go true false true = refl
+    go true false false = refl
     go false y z = refl
 
 every-same : {A : Type 0} {C : A → Type 0} {f g : A → Bool} → ((a : A) → C a → f a ≡ g a) → (l : List A) → All C l → every f l ≡ every g l
 unfolding every
 every-same e [] c = refl
-every-same e (a ∷ l) c = ap (λ q. q && _) (e a (c .0)) ∙ ap (λ q. _ && q) (every-same e l (c .1))
+every-same {C = C} {f = f} {g = g} e (a ∷ l) c = rw (e a (c .0), every-same {C = C} {f = f} {g = g} e l (c .1))
 
-limits : (s c d i : Bool) → (not (s && d) || (not c || not i)) ≡ not (s && (c && (d && i)))
+-- one limit or another is passed
+limits : (s c d i : Bool) → (not (eqb (flag (not (s && d))) 0) || (not c || not i)) ≡ not (s && (c && (d && i)))
 limits true true true i = refl
 limits true true false i = refl
 limits true false true i = refl
@@ -93,10 +96,11 @@ limits false c d i = refl
 
 -- Programs -------------------------------------------------------------------------
 
-module _ (p : Program) (c : Counts p) where
-  size-fits : Step → Bool
-  size-fits t = leb (step-size t) step-commands
+all-map : {A : Type 0} {C D : A → Type 0} → ((a : A) → C a → D a) → (l : List A) → All C l → All D l
+all-map f [] c = tt
+all-map f (a ∷ l) c = (f a (c .0), all-map f l (c .1))
 
+module _ (p : Program) (c : Counts p) where
   -- each step is within its limits exactly where the commands of each are few and each is not deep
   fits-is : every (every step-fits) (p .steps)
       ≡ (every (every (λ t. leb (step-size t) step-commands)) (p .steps) && every (every (λ t. leb (step-depth p t) max-depth)) (p .steps))
@@ -109,3 +113,72 @@ module _ (p : Program) (c : Counts p) where
     where
       one : (t : Step) → CountsStep (arities p) t → step-fits t ≡ (leb (step-size t) step-commands && leb (step-depth p t) max-depth)
       one t h = rw (body-length (t .body), step-depth-is p t h)
+
+  module _ {ar types : List ℕ} (tables : (k : ℕ) (t : Step) → Tables (arities p) ar types (context p k (t .body))) where
+    abbrev pub totals : Totals
+    totals = step-totals ar types 0 (p .steps) no-totals
+
+    abbrev pub planned : Planned
+    planned = items-plan (totals .has) (length (p .steps)) (p .schedule)
+
+    grown : Grown no-totals totals (total length (p .steps)) (total (total (λ t. body-size (t .body))) (p .steps))
+        (greatest (greatest (λ t. height (t .body))) (p .steps)) (every (every step-fits) (p .steps))
+    grown = steps-grown ar types (p .steps) 0 no-totals
+
+    -- the steps are counted
+    pub totals-steps : totals .steps ≡ total length (p .steps)
+    unfolding no-totals
+    totals-steps = grown .steps ∙ zero-add (total length (p .steps))
+
+    -- the commands are the program's
+    pub totals-commands : totals .commands ≡ program-size p
+    unfolding no-totals
+    totals-commands = grown .commands ∙ zero-add _ ∙ sym (program-size-is p)
+
+    -- the depth is the program's
+    pub totals-depth : totals .depth ≡ program-depth p
+    unfolding no-totals
+    totals-depth = omega (arith, grown .depth, program-depth-is p c)
+
+    few : 0 + length (p .steps) ≤ max-structs
+    unfolding Counts
+    few = omega (arith, c .1, c .0 .1)
+
+    same : length (arities p) ≡ length (p .steps)
+    unfolding Counts
+    same = length-map (p .params) length ∙ sym (c .1)
+
+    steps-counts : All (All (CountsStep (arities p))) (p .steps)
+    unfolding Counts
+    steps-counts = all-map (λ ts h. h .2) (p .steps) (c .2)
+
+    items-counts : CountsItems (arities p) (p .schedule)
+    unfolding Counts CountsSchedule
+    items-counts = c .3 .2
+
+    -- a limit is passed exactly where one is passed on the tree
+    exceeded-is : exceeded totals planned ≡ not (within p)
+    unfolding exceeded within no-totals
+    exceeded-is =
+        rw (grown .over true refl, totals-commands, items-plan-count (totals .has) (length (p .steps)) (p .schedule),
+          above (program-size p) max-commands, above (items-count (p .schedule)) schedule-items, fits-is)
+        (limits (every (every (λ t. leb (step-size t) step-commands)) (p .steps)) (leb (program-size p) max-commands)
+        (every (every (λ t. leb (step-depth p t) max-depth)) (p .steps)) (leb (items-count (p .schedule)) schedule-items))
+
+    -- the number is the program's
+    pub totals-law : totals-number totals planned ≡ program-number p
+    unfolding totals-number program-number first order breach names-right types-right no-totals
+    totals-law =
+        ap {B = ℕ} (λ q. elim q [ true ↦ 6 | false ↦ worst (totals .fault) (planned .fault) ]) exceeded-is
+        ∙ ap {B = ℕ} (λ n. elim (not (within p)) [ true ↦ 6 | false ↦ n ]) (says-number said)
+      where
+        held : (k : ℕ) → k < length (p .steps) → (n : ℕ) → n < step-names
+            → getD (totals .has) (place k n) 0 ≡ flag (member n (names (getD (p .steps) k [])))
+        held k l n i = rw zero-add at (steps-hold ar types (p .steps) (all-map (low (arities p)) (p .steps) steps-counts) 0 no-totals few
+          (λ j a b. holds-none j b) k l n i)
+
+        said : Says (worst (totals .fault) (planned .fault)) (names-right p) (types-right p)
+        said =
+            says-as refl (and-true (types-right p))
+            (says-both (steps-say p tables (omega (arith, few, same)) (p .steps) steps-counts 0 no-totals few (λ j a b. holds-none j b) (right refl))
+            (items-say (totals .has) (p .steps) (arities p) same held (p .schedule) items-counts))

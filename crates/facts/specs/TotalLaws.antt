@@ -38,7 +38,7 @@ grown-then {w = w} {w' = w'} g h = record {
 }
 
 -- above a bound, or not
-above : (a b : ℕ) → ltb b a ≡ not (leb a b)
+pub above : (a b : ℕ) → ltb b a ≡ not (leb a b)
 above a b = go (leb a b) refl
   where
     go : (t : Bool) → leb a b ≡ t → ltb b a ≡ not t
