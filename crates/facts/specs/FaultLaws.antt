@@ -1,7 +1,7 @@
 -- Faults joined (01, 'Numbers from the input'): the lower number stands, and 8 only where names are right.
 use Prim.Native.Nat.{ℕ, suc}
 use native.Mathlib.Omega.{arith}
-use mathlib.Core.Bool.{Bool, true, false, not, _&&_}
+use mathlib.Core.Bool.{Bool, true, false, not, _&&_, true≢false, false≢true}
 use mathlib.Core.Logic.{_↔_}
 use mathlib.Core.Path.{_≡_, refl, subst}
 use lib.Dec.{eqb, ltb}
@@ -46,6 +46,22 @@ pub says-named : (t : Bool) → Says (named t) t true
 unfolding named
 says-named true = right refl
 says-named false = misnamed refl
+
+-- a fault is 7 exactly where names are wrong, 8 exactly where only types are, 0 exactly where both are right
+pub says-seven : {f : ℕ} {a b : Bool} → Says f a b → (f ≡ 7) ↔ (a ≡ false)
+says-seven (misnamed e) = (λ h. refl, λ h. e)
+says-seven (mistyped e) = (λ h. absurd (omega arith), λ h. absurd (true≢false h))
+says-seven (right e) = (λ h. absurd (omega arith), λ h. absurd (true≢false h))
+
+pub says-eight : {f : ℕ} {a b : Bool} → Says f a b → (f ≡ 8) ↔ ((a ≡ true) × (b ≡ false))
+says-eight (misnamed e) = (λ h. absurd (omega arith), λ h. absurd (false≢true (h .0)))
+says-eight (mistyped e) = (λ h. (refl, refl), λ h. e)
+says-eight (right e) = (λ h. absurd (omega arith), λ h. absurd (true≢false (h .1)))
+
+pub says-zero : {f : ℕ} {a b : Bool} → Says f a b → (f ≡ 0) ↔ ((a ≡ true) × (b ≡ true))
+says-zero (misnamed e) = (λ h. absurd (omega arith), λ h. absurd (false≢true (h .0)))
+says-zero (mistyped e) = (λ h. absurd (omega arith), λ h. absurd (false≢true (h .1)))
+says-zero (right e) = (λ h. (refl, refl), λ h. e)
 
 -- a fault says the same of equal tests
 pub says-as : {f : ℕ} {a a' b b' : Bool} → a ≡ a' → b ≡ b' → Says f a b → Says f a' b'

@@ -12,3 +12,4 @@ pub mod ProgramTableLaws
 pub mod TotalLaws
 pub mod NameTotalLaws
 pub mod ProgramFactsLaws
+pub mod FactRows

@@ -3,7 +3,7 @@
 use Prim.Native.Nat.{ℕ, zero, suc, _+_, _*_, max}
 use mathlib.Core.Bool.{Bool, true, false, not, _||_}
 use mathlib.Core.List.{List, [], _∷_, _++_}
-use lib.ListN.{getD, set, replicate}
+use lib.ListN.{length, getD, set, replicate}
 use lib.Dec.{ltb, eqb}
 use Rattle.types.specs.Limits.{max-structs, max-params, step-names, step-commands, max-commands, max-depth, schedule-items}
 use Rattle.types.specs.Types.{Ty, code}
@@ -109,3 +109,13 @@ exceeded T P = not (eqb (T .over) 0) || (ltb max-commands (T .commands) || ltb s
 
 unfoldable pub totals-number : Totals → Planned → ℕ
 totals-number T P = elim (exceeded T P) [ true ↦ over-limits | false ↦ worst (T .fault) (P .fault) ]
+
+-- what is totalled up over a program's steps, and over its schedule; its number
+unfoldable pub program-totals : Program → Totals
+program-totals p = step-totals (arities p) (types-table (p .params)) 0 (p .steps) no-totals
+
+unfoldable pub program-plan : Program → Planned
+program-plan p = items-plan (program-totals p .has) (length (p .steps)) (p .schedule)
+
+unfoldable pub checked-number : Program → ℕ
+checked-number p = totals-number (program-totals p) (program-plan p)

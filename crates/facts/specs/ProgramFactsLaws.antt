@@ -27,8 +27,8 @@ use Rattle.commands.specs.Numbers.{breach, first, order, program-number}
 use Rattle.facts.specs.Facts.{worst, named}
 use Rattle.facts.specs.Verdicts.{Says, Says.right, Tables, flag}
 use Rattle.facts.specs.FaultLaws.{says-as, says-both, says-named, says-number}
-use Rattle.facts.specs.ProgramFacts.{place, Totals, Planned, no-totals, step-totals, had, joined, item-plan, items-plan, exceeded, totals-number}
-use Rattle.facts.specs.ProgramTableLaws.{Low, holds-none, steps-hold, had-is}
+use Rattle.facts.specs.ProgramFacts.{place, Totals, Planned, no-totals, step-totals, had, joined, item-plan, items-plan, exceeded, totals-number, types-table, program-totals, program-plan, checked-number}
+use Rattle.facts.specs.ProgramTableLaws.{tables-of, Low, holds-none, steps-hold, had-is}
 use Rattle.facts.specs.TotalLaws.{Grown, above, step-fits, steps-grown}
 use Rattle.facts.specs.NameTotalLaws.{low, steps-say}
 
@@ -182,3 +182,26 @@ module _ (p : Program) (c : Counts p) where
             says-as refl (and-true (types-right p))
             (says-both (steps-say p tables (omega (arith, few, same)) (p .steps) steps-counts 0 no-totals few (λ j a b. holds-none j b) (right refl))
             (items-say (totals .has) (p .steps) (arities p) same held (p .schedule) items-counts))
+
+  -- over the tables that a program's parameters give
+  own-tables : (k : ℕ) (t : Step) → Tables (arities p) (arities p) (types-table (p .params)) (context p k (t .body))
+  unfolding Counts
+  own-tables k t = tables-of p (all-map (λ ts h. h .1) (p .params) (c .0 .2)) k (t .body)
+
+  -- the number that is computed of a program within the counts is its number
+  pub checked-law : checked-number p ≡ program-number p
+  unfolding checked-number program-totals program-plan
+  checked-law = totals-law own-tables
+
+  -- and so are its commands, its depth and its steps
+  pub checked-commands : program-totals p .commands ≡ program-size p
+  unfolding program-totals
+  checked-commands = totals-commands own-tables
+
+  pub checked-depth : program-totals p .depth ≡ program-depth p
+  unfolding program-totals
+  checked-depth = totals-depth own-tables
+
+  pub checked-steps : program-totals p .steps ≡ total length (p .steps)
+  unfolding program-totals
+  checked-steps = totals-steps own-tables
