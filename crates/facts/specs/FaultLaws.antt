@@ -9,17 +9,6 @@ use borrow.Author.Tests.{eqb-true, eqb-false}
 use Rattle.facts.specs.Facts.{worst, demand, named}
 use Rattle.facts.specs.Verdicts.{Says, Says.misnamed, Says.mistyped, Says.right}
 
--- two faults come to none exactly where both are none
-pub worst-none : (a b : ℕ) → (worst a b ≡ 0) ↔ ((a ≡ 0) × (b ≡ 0))
-unfolding worst
-worst-none a b = go (eqb a 0) refl (eqb b 0) refl (ltb a b) refl
-  where
-    go : (s : Bool) → eqb a 0 ≡ s → (t : Bool) → eqb b 0 ≡ t → (u : Bool) → ltb a b ≡ u → (worst a b ≡ 0) ↔ ((a ≡ 0) × (b ≡ 0))
-    go true p t q u r = rw (p, worst) (λ e. (eqb-true a 0 p, e), λ e. e .1)
-    go false p true q u r = rw (p, q, worst) (λ e. (e, eqb-true b 0 q), λ e. e .0)
-    go false p false q true r = rw (p, q, r, worst) (λ e. absurd (eqb-false a 0 p e), λ e. e .0)
-    go false p false q false r = rw (p, q, r, worst) (λ e. absurd (eqb-false b 0 q e), λ e. e .1)
-
 -- what two faults say, the worse of them says of both
 pub says-both : {f g : ℕ} {a b c d : Bool} → Says f a b → Says g c d → Says (worst f g) (a && c) (b && d)
 unfolding worst
@@ -46,6 +35,17 @@ pub says-named : (t : Bool) → Says (named t) t true
 unfolding named
 says-named true = right refl
 says-named false = misnamed refl
+
+-- two faults come to none exactly where both are none
+pub worst-none : (a b : ℕ) → (worst a b ≡ 0) ↔ ((a ≡ 0) × (b ≡ 0))
+unfolding worst
+worst-none a b = go (eqb a 0) refl (eqb b 0) refl (ltb a b) refl
+  where
+    go : (s : Bool) → eqb a 0 ≡ s → (t : Bool) → eqb b 0 ≡ t → (u : Bool) → ltb a b ≡ u → (worst a b ≡ 0) ↔ ((a ≡ 0) × (b ≡ 0))
+    go true p t q u r = rw (p, worst) (λ e. (eqb-true a 0 p, e), λ e. e .1)
+    go false p true q u r = rw (p, q, worst) (λ e. (e, eqb-true b 0 q), λ e. e .0)
+    go false p false q true r = rw (p, q, r, worst) (λ e. absurd (eqb-false a 0 p e), λ e. e .0)
+    go false p false q false r = rw (p, q, r, worst) (λ e. absurd (eqb-false b 0 q e), λ e. e .1)
 
 -- a fault is 7 exactly where names are wrong, 8 exactly where only types are, 0 exactly where both are right
 pub says-seven : {f : ℕ} {a b : Bool} → Says f a b → (f ≡ 7) ↔ (a ≡ false)
