@@ -1,25 +1,24 @@
 -- What is computed of a step's body is right: 7 where a name is wrong, else 8 where a type is (01, numbers 7 and 8). On the way
 -- the types of locals are those declared so far; where names are right they are the step's.
-use Prim.Native.Nat.{ℕ, suc, _+_, _<_, _≤_}
-use native.Mathlib.Omega.{arith}
+use Prim.Native.Nat.{ℕ, _<_, _≤_}
 use native.Mathlib.Nat.{zero-add}
 use mathlib.Core.Bool.{Bool, true, false, not, _&&_, _||_, and-true, false≢true}
-use mathlib.Core.List.{List, [], _∷_, _++_}
-use mathlib.Core.Path.{_≡_, refl, ap, _∙_, sym, subst}
+use mathlib.Core.List.{List, [], _++_}
+use mathlib.Core.Path.{_≡_, refl, ap, _∙_, sym}
 use lib.ListN.{length, getD}
 use lib.Dec.{eqb}
 use borrow.Author.Tests.{eqb-true}
 use Rattle.types.specs.Limits.{max-structs, first-local}
 use Rattle.types.specs.Types.{Ty, Ty.int, Ty.bool, code}
-use Rattle.program.specs.Tree.{Expr, Stmt, Stmt.when, Stmt.declare, Stmt.update, Stmt.create, Stmts, Stmts.end, Stmts.next, Program}
-use Rattle.program.specs.Counts.{IsPath, CountsExpr, CountsStmt, CountsStmts}
-use Rattle.commands.specs.Context.{Ctx, typ, body-local, context}
+use Rattle.program.specs.Tree.{Stmt, Stmt.when, Stmt.declare, Stmt.update, Stmt.create, Stmts, Stmts.end, Stmts.next, Program}
+use Rattle.program.specs.Counts.{IsPath, CountsStmt, CountsStmts}
+use Rattle.commands.specs.Context.{Ctx, body-local, context}
 use Rattle.commands.specs.Names.{declares, live-after}
 use Rattle.commands.specs.Decide.{member}
 use Rattle.commands.specs.NamesDecide.{stmt-named, body-named}
 use Rattle.commands.specs.TypingDecide.{is-of, expr-type, stmt-typed, body-typed}
 use Rattle.facts.specs.Facts.{worst, named, digit, no-locals, branched, declared as declaring, updated, created, followed, stmt-facts, body-facts}
-use Rattle.facts.specs.Verdicts.{Says, Says.misnamed, Says.right, Tables, tagged, flag, Living, Marked, Fits, Locals-stmt, Locals}
+use Rattle.facts.specs.Verdicts.{Says, Says.misnamed, Says.right, Tables, tagged, flag, Living, Fits, Locals-stmt, Locals}
 use Rattle.facts.specs.FaultLaws.{says-as, says-both, says-named}
 use Rattle.facts.specs.ExprFactsLaws.{wanted, agree-says, path-shows, expr-shows, args-says}
 use Rattle.facts.specs.LocalLaws.{step-locals}

@@ -1,25 +1,25 @@
 -- What is computed of an expression is right: its names and its type (01, numbers 7 and 8).
-use Prim.Native.Nat.{ℕ, zero, suc, _+_, _*_, _-_, _<_, _≤_, max}
+use Prim.Native.Nat.{ℕ, suc, _+_, _*_, _-_, _<_}
 use native.Mathlib.Omega.{arith}
 use native.Mathlib.Nat.{zero-add, add-zero, add-suc, suc-add}
 use mathlib.Core.Bool.{Bool, true, false, _&&_}
 use mathlib.Core.List.{List, [], _∷_}
 use mathlib.Core.Path.{_≡_, refl, sym, ap, _∙_, subst}
 use lib.ListN.{length, getD}
-use lib.Dec.{eqb, ltb, leb}
+use lib.Dec.{eqb, ltb}
 use borrow.Author.Tests.{eq-eqb, ne-eqb, le-leb, lt-leb, le-ltb, ltb-true}
-use Rattle.types.specs.Limits.{max-params, first-local}
+use Rattle.types.specs.Limits.{max-params}
 use Rattle.types.specs.Types.{Ty, Ty.int, Ty.nat, Ty.bool, Ty.ref, struct-code, code, same-type, type-of}
-use Rattle.program.specs.Tree.{Var, Var.par, Var.loc, Op, Expr, Expr.inv, Expr.make, Expr.path, Expr.int-lit, Expr.nat-lit, Expr.bool-lit, Expr.null, Expr.self, Expr.op, Exprs, Exprs.none, Exprs.more, args}
+use Rattle.program.specs.Tree.{Var, Var.par, Var.loc, Expr, Expr.inv, Expr.make, Expr.path, Expr.int-lit, Expr.nat-lit, Expr.bool-lit, Expr.null, Expr.self, Expr.op, Exprs, Exprs.none, Exprs.more, args}
 use Rattle.program.specs.Counts.{IsVar, IsPath, CountsExpr, CountsExprs}
 use Rattle.program.specs.CodeLaws.{type-code}
 use Rattle.commands.specs.Context.{Ctx, typ}
 use Rattle.commands.specs.Typing.{Sort, Sort.equality, Sort.order, Sort.arithmetic, Sort.logic, sort}
 use Rattle.commands.specs.Decide.{Reflects, Reflects.holds, Reflects.fails, member}
 use Rattle.commands.specs.NamesDecide.{start-named, expr-named, args-named}
-use Rattle.commands.specs.TypingDecide.{Judgement, Judgement.untypable, Judgement.of-type, is-of, agree, given, result, operate, lead as type-lead, path-type, expr-type, args-typed}
+use Rattle.commands.specs.TypingDecide.{Judgement, Judgement.untypable, is-of, agree, given, result, operate, lead as type-lead, path-type, expr-type, args-typed}
 use Rattle.commands.specs.TypingDecideLaws.{same-reflects}
-use Rattle.facts.specs.Facts.{name-fault, type-fault, worst, demand, digit, judged, param, lead-by, lead, start-of, path-of, takes, gives, negated, combined, travelled, argued, constructed, expr-facts, args-facts}
+use Rattle.facts.specs.Facts.{name-fault, type-fault, worst, demand, judged, param, lead-by, lead, start-of, path-of, takes, gives, negated, combined, travelled, argued, constructed, expr-facts, args-facts}
 use Rattle.facts.specs.declared.Judged.{Judged}
 use Rattle.facts.specs.Verdicts.{Says, Says.misnamed, Says.mistyped, Says.right, Shows, Shows.unnamed, Shows.untyped, Shows.typed, Tables, tagged, Living}
 use Rattle.facts.specs.FaultLaws.{says-both, says-demand}
@@ -200,7 +200,7 @@ module _ {cs ar types : List ℕ} {G : Ctx} (T : Tables cs ar types G) where
         → Judges (path-of ar types (G .own) w v vs) (start-named (length (G .params (G .own))) live v) (path-type G v vs)
     unfolding path-of start-of start-named path-type type-lead IsVar
     path-shows (par x) vs h = subst (λ j. Judges j (has (G .own) x) (path-type G (par x) vs)) (sym (behind name-fault (G .own) x vs (λ e. omega arith)))
-      (go (has (G .own) x) (lead-shows vs (typ G (G .own) x)))
+        (go (has (G .own) x) (lead-shows vs (typ G (G .own) x)))
       where
         go : (b : Bool) {j : Judged} {i : Judgement} → Judges j true i
             → Judges (elim b [ true ↦ j | false ↦ judged name-fault 0 ]) b (elim b [ true ↦ i | false ↦ untypable ])

@@ -1,11 +1,11 @@
 -- Programs, their numbers and totals, by computation (01, 'Bench rows'; numbers 6, 7 and 8).
 use Prim.Native.Nat.{ℕ, zero, suc}
-use mathlib.Core.Bool.{Bool, true, _&&_}
+use mathlib.Core.Bool.{true, _&&_}
 use mathlib.Core.Path.{_≡_, refl}
 use mathlib.Core.List.{List, [], _∷_}
 use lib.Dec.{eqb}
-use Rattle.types.specs.Types.{Ty, Ty.int, Ty.nat, Ty.bool, Ty.ref, code}
-use Rattle.program.specs.Tree.{Var.par, Var.loc, Op.op-add, Expr, Expr.path, Expr.int-lit, Expr.nat-lit, Expr.bool-lit, Expr.op, Exprs.none, Stmt, Stmt.when, Stmt.declare, Stmt.update, Stmt.create, Stmts, Stmts.end, Stmts.next, Item.call, Item.call-in, Items, Items.stop, Items.item, Step, Program}
+use Rattle.types.specs.Types.{Ty.int, Ty.ref, code}
+use Rattle.program.specs.Tree.{Var.par, Var.loc, Op.op-add, Expr.path, Expr.int-lit, Expr.nat-lit, Expr.bool-lit, Expr.op, Exprs.none, Stmt, Stmt.when, Stmt.declare, Stmt.update, Stmt.create, Stmts, Stmts.end, Stmts.next, Item.call, Item.call-in, Items, Items.stop, Items.item, Step, Program}
 use Rattle.commands.specs.Decide.{every}
 use Rattle.facts.specs.Facts.{worst, demand, named, digit, mark, param, lead-by, lead, start-of, path-of, negated, takes, gives, combined, travelled, argued, constructed, expr-facts, args-facts, branched, declared, updated, created, followed, stmt-facts, body-facts}
 use Rattle.facts.specs.ProgramFacts.{row, types-table, no-steps, no-totals, added, struct-totals, step-totals, had, joined, item-plan, items-plan, exceeded, totals-number, program-totals, program-plan, checked-number}

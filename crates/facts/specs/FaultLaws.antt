@@ -1,5 +1,5 @@
 -- Faults joined (01, 'Numbers from the input'): the lower number stands, and 8 only where names are right.
-use Prim.Native.Nat.{ℕ, suc}
+use Prim.Native.Nat.{ℕ}
 use native.Mathlib.Omega.{arith}
 use mathlib.Core.Bool.{Bool, true, false, not, _&&_, true≢false, false≢true}
 use mathlib.Core.Logic.{_↔_}

@@ -13,3 +13,4 @@ pub mod TotalLaws
 pub mod NameTotalLaws
 pub mod ProgramFactsLaws
 pub mod FactRows
+pub mod ByteBoundLaws

@@ -106,9 +106,10 @@ mutual
   body-types : (b : Stmts) (n : ℕ) (live seen : List ℕ) (L : ℕ → Ty) → body-named b n live seen ≡ true → Reads L b → Locals L b
   body-types end n live seen L h r = tt
   body-types (next s b) n live seen L h r =
-      let q = body-named b n (live-after s live) (declares s ++ seen) in
-      (stmt-types s n live seen L (and-left (stmt-named s n live seen) q h) first,
-       body-types b n (live-after s live) (declares s ++ seen) L (and-right (stmt-named s n live seen) q h) (later (and-right (stmt-named s n live seen) q h)))
+      let q = body-named b n (live-after s live) (declares s ++ seen) in (
+        stmt-types s n live seen L (and-left (stmt-named s n live seen) q h) first,
+        body-types b n (live-after s live) (declares s ++ seen) L (and-right (stmt-named s n live seen) q h) (later (and-right (stmt-named s n live seen) q h)),
+      )
     where
       first : Reads-stmt L s
       first x m =

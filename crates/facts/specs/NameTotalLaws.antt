@@ -1,13 +1,13 @@
 -- What is totalled up over steps: 7 where a name is wrong or stands twice in a struct, else 8 where a type is (01, numbers 7 and 8).
-use Prim.Native.Nat.{ℕ, zero, suc, _+_, _≤_, _<_}
+use Prim.Native.Nat.{ℕ, suc, _+_, _≤_, _<_}
 use native.Mathlib.Omega.{arith}
 use mathlib.Core.Bool.{Bool, true, false, not, _&&_, _||_, and-true, and-false, and-assoc}
-use mathlib.Core.List.{List, [], _∷_, _++_}
-use mathlib.Core.Path.{_≡_, refl, ap, _∙_, sym, subst}
+use mathlib.Core.List.{List, [], _∷_}
+use mathlib.Core.Path.{_≡_, refl, ap, _∙_, sym}
 use lib.ListN.{length, getD}
 use lib.Dec.{eqb}
 use borrow.Author.Tests.{eqb-true, eqb-false, eq-eqb, ne-eqb}
-use Rattle.types.specs.Limits.{max-structs, step-names}
+use Rattle.types.specs.Limits.{max-structs}
 use Rattle.program.specs.Tree.{Step, Program}
 use Rattle.program.specs.Counts.{All, CountsStep}
 use Rattle.commands.specs.Context.{context}
@@ -19,7 +19,7 @@ use Rattle.facts.specs.Facts.{named, no-locals, body-facts}
 use Rattle.facts.specs.Verdicts.{Says, Tables, flag}
 use Rattle.facts.specs.FaultLaws.{says-as, says-both, says-named}
 use Rattle.facts.specs.BodyFactsLaws.{step-says}
-use Rattle.facts.specs.ProgramFacts.{place, Totals, added, struct-totals, step-totals}
+use Rattle.facts.specs.ProgramFacts.{Totals, added, struct-totals, step-totals}
 use Rattle.facts.specs.ProgramTableLaws.{Holds, holds-more, Low, struct-other}
 
 -- Names that stand once --------------------------------------------------------------

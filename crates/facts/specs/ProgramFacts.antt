@@ -31,7 +31,7 @@ abbrev pub place : ℕ → ℕ → ℕ
 place k n = step-names * k + n
 
 abbrev pub places : ℕ
-places = 512
+places = step-names * max-structs
 
 unfoldable pub no-steps : List ℕ
 no-steps = replicate places 0

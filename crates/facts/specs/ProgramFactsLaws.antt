@@ -1,14 +1,13 @@
 -- What a checker totals up over a program gives its number, its commands, its depth and its steps (01, numbers 6 to 8).
-use Prim.Native.Nat.{ℕ, zero, suc, _+_, _≤_, _<_, max}
+use Prim.Native.Nat.{ℕ, suc, _+_, _≤_, _<_}
 use native.Mathlib.Omega.{arith}
 use native.Mathlib.Nat.{zero-add}
 use mathlib.Core.Bool.{Bool, true, false, not, _&&_, _||_, and-true}
 use mathlib.Core.List.{List, [], _∷_}
 use mathlib.Core.Path.{_≡_, refl, ap, _∙_, sym}
 use lib.ListN.{length, getD, length-map}
-use lib.Dec.{ltb, leb, eqb}
-use Rattle.types.specs.Limits.{max-structs, max-params, step-names, step-commands, max-commands, max-depth, schedule-items}
-use Rattle.types.specs.Types.{Ty, IsType}
+use lib.Dec.{leb, eqb}
+use Rattle.types.specs.Limits.{max-structs, step-names, step-commands, max-commands, max-depth, schedule-items}
 use Rattle.program.specs.Tree.{Item, Item.call, Item.call-in, Item.fix, Items, Items.stop, Items.item, Step, Program}
 use Rattle.program.specs.Counts.{All, Few, CountsItem, CountsItems, CountsStep, CountsSchedule, Counts}
 use Rattle.commands.specs.Context.{context}
@@ -21,14 +20,14 @@ use Rattle.commands.specs.Bounds.{item-count, items-count, total, greatest, ste
 use Rattle.commands.specs.Names.{step-names as names}
 use Rattle.commands.specs.Decide.{every, member}
 use Rattle.commands.specs.BoundsDecide.{within}
-use Rattle.commands.specs.NamesDecide.{stepped, item-stepped, items-stepped, steps-named, names-right}
-use Rattle.commands.specs.TypingDecide.{steps-typed, types-right}
+use Rattle.commands.specs.NamesDecide.{stepped, item-stepped, items-stepped, names-right}
+use Rattle.commands.specs.TypingDecide.{types-right}
 use Rattle.commands.specs.Numbers.{breach, first, order, program-number}
 use Rattle.facts.specs.Facts.{worst, named}
 use Rattle.facts.specs.Verdicts.{Says, Says.right, Tables, flag}
 use Rattle.facts.specs.FaultLaws.{says-as, says-both, says-named, says-number}
-use Rattle.facts.specs.ProgramFacts.{place, Totals, Planned, no-totals, step-totals, had, joined, item-plan, items-plan, exceeded, totals-number, types-table, program-totals, program-plan, checked-number}
-use Rattle.facts.specs.ProgramTableLaws.{tables-of, Low, holds-none, steps-hold, had-is}
+use Rattle.facts.specs.ProgramFacts.{place, Totals, Planned, no-totals, step-totals, joined, item-plan, items-plan, exceeded, totals-number, types-table, program-totals, program-plan, checked-number}
+use Rattle.facts.specs.ProgramTableLaws.{tables-of, holds-none, steps-hold, had-is}
 use Rattle.facts.specs.TotalLaws.{Grown, above, step-fits, steps-grown}
 use Rattle.facts.specs.NameTotalLaws.{low, steps-say}
 
@@ -160,8 +159,14 @@ module _ (p : Program) (c : Counts p) where
     exceeded-is : exceeded totals planned ≡ not (within p)
     unfolding exceeded within no-totals
     exceeded-is =
-        rw (grown .over true refl, totals-commands, items-plan-count (totals .has) (length (p .steps)) (p .schedule),
-          above (program-size p) max-commands, above (items-count (p .schedule)) schedule-items, fits-is)
+        rw (
+          grown .over true refl,
+          totals-commands,
+          items-plan-count (totals .has) (length (p .steps)) (p .schedule),
+          above (program-size p) max-commands,
+          above (items-count (p .schedule)) schedule-items,
+          fits-is,
+        )
         (limits (every (every (λ t. leb (step-size t) step-commands)) (p .steps)) (leb (program-size p) max-commands)
         (every (every (λ t. leb (step-depth p t) max-depth)) (p .steps)) (leb (items-count (p .schedule)) schedule-items))
 
@@ -175,7 +180,7 @@ module _ (p : Program) (c : Counts p) where
         held : (k : ℕ) → k < length (p .steps) → (n : ℕ) → n < step-names
             → getD (totals .has) (place k n) 0 ≡ flag (member n (names (getD (p .steps) k [])))
         held k l n i = rw zero-add at (steps-hold ar types (p .steps) (all-map (low (arities p)) (p .steps) steps-counts) 0 no-totals few
-          (λ j a b. holds-none j b) k l n i)
+            (λ j a b. holds-none j b) k l n i)
 
         said : Says (worst (totals .fault) (planned .fault)) (names-right p) (types-right p)
         said =

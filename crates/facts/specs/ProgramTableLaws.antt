@@ -1,18 +1,18 @@
 -- The tables of a program's types and steps hold what they are to (for 01, numbers 7 and 8).
 use Prim.Native.Nat.{ℕ, zero, suc, _+_, _*_, _<_, _≤_}
 use native.Mathlib.Omega.{arith}
-use mathlib.Core.Bool.{Bool, true, false, _||_, or-true, or-false}
+use mathlib.Core.Bool.{Bool, true, false, _||_}
 use mathlib.Core.List.{List, [], _∷_, _++_, append-nil}
-use mathlib.Core.Path.{_≡_, refl, ap, _∙_, sym, subst}
-use lib.ListN.{length, getD, set, replicate, length-set, length-replicate, getD-replicate, List·getD-map, List·getD-append}
+use mathlib.Core.Path.{_≡_, refl, ap, _∙_}
+use lib.ListN.{length, getD, set, length-set, length-replicate, getD-replicate, List·getD-map, List·getD-append}
 use lib.Seq.{getD-append-add, getD-set-same, getD-set-other}
 use lib.Dec.{eqb}
-use borrow.Author.Tests.{eqb-true, eqb-false, eq-eqb}
+use borrow.Author.Tests.{eqb-true, eqb-false}
 use Rattle.types.specs.Limits.{max-structs, max-params, step-names}
 use Rattle.types.specs.Types.{Ty, Ty.int, code}
 use Rattle.program.specs.Tree.{Stmts, Step, Program}
-use Rattle.program.specs.Counts.{All, Few, CountsStep, Counts}
-use Rattle.commands.specs.Context.{context}
+use Rattle.program.specs.Counts.{All}
+use Rattle.commands.specs.Context.{Ctx, context}
 use Rattle.commands.specs.Bounds.{arities}
 use Rattle.commands.specs.Names.{step-names as names}
 use Rattle.commands.specs.Decide.{member}
@@ -58,6 +58,15 @@ tables-of p a k b = record {
   counts = λ j. List·getD-map length (p .params) j [];
   arities = λ j. List·getD-map length (p .params) j [];
   codes = λ j x h. types-at (p .params) a j x h;
+}
+
+-- tables that read the same, as longer ones with zeros behind, do as well
+pub tables-as : {cs ar types : List ℕ} {G : Ctx} (ar' types' : List ℕ) → ((k : ℕ) → getD ar' k 0 ≡ getD ar k 0) → ((i : ℕ) → getD types' i 0 ≡ getD types i 0)
+    → Tables cs ar types G → Tables cs ar' types' G
+tables-as ar' types' a t T = record {
+  counts = T .counts;
+  arities = λ k. a k ∙ T .arities k;
+  codes = λ k x h. t (max-params * k + x) ∙ T .codes k x h;
 }
 
 -- Steps ----------------------------------------------------------------------------
@@ -135,7 +144,7 @@ module _ (ar types : List ℕ) where
   steps-hold (ts ∷ tss) a k T l H zero h n i =
       let e : k + 0 ≡ k = omega arith in
       let here : Holds (struct-totals ar types k ts T .has) k (names ts) =
-          holds-as (λ m. ap (member m) (append-nil (names ts))) (struct-holds ts (a .0) T (omega arith) (H k (omega arith) (omega arith)))
+      holds-as (λ m. ap (member m) (append-nil (names ts))) (struct-holds ts (a .0) T (omega arith) (H k (omega arith) (omega arith)))
       in
       rw e (steps-other tss (a .1) (suc k) (struct-totals ar types k ts T) (omega arith) here .holds-at n i)
   steps-hold (ts ∷ tss) a k T l H (suc j) h n i =

@@ -1,5 +1,5 @@
 -- Sizes and heights that are computed beside names and types are those of the trees (01, number 6).
-use Prim.Native.Nat.{ℕ, suc, _+_, max}
+use Prim.Native.Nat.{ℕ, suc}
 use mathlib.Core.List.{List}
 use mathlib.Core.Path.{_≡_, refl, ap}
 use Rattle.program.specs.Tree.{Expr, Expr.inv, Expr.make, Expr.path, Expr.int-lit, Expr.nat-lit, Expr.bool-lit, Expr.null, Expr.self, Expr.op, Exprs, Exprs.none, Exprs.more, Stmt, Stmt.when, Stmt.declare, Stmt.update, Stmt.create, Stmts, Stmts.end, Stmts.next}

@@ -1,9 +1,9 @@
 -- What is totalled up over steps: how many steps and commands, how deep, and whether a step passes its limits (01, number 6).
-use Prim.Native.Nat.{ℕ, suc, _+_, max, _≤_, _<_}
+use Prim.Native.Nat.{ℕ, suc, _+_, max}
 use native.Mathlib.Omega.{arith}
 use mathlib.Core.Bool.{Bool, true, false, not, _&&_, _||_, and-true, and-assoc}
 use mathlib.Core.List.{List, [], _∷_}
-use mathlib.Core.Path.{_≡_, refl, ap, _∙_, sym}
+use mathlib.Core.Path.{_≡_, refl, ap, _∙_}
 use lib.ListN.{length}
 use lib.Dec.{ltb, leb}
 use borrow.Author.Tests.{leb-true, leb-false, le-ltb, lt-ltb}
@@ -65,8 +65,12 @@ module _ (ar types : List ℕ) where
       test : (ltb step-commands (body-facts ar types k (t .body) no-locals .size) || ltb max-depth (body-facts ar types k (t .body) no-locals .height))
           ≡ (not (leb (body-size (t .body)) step-commands) || not (leb (height (t .body)) max-depth))
       test =
-          rw (body-facts-size ar types k (t .body) no-locals, body-facts-height ar types k (t .body) no-locals,
-            above (body-size (t .body)) step-commands, above (height (t .body)) max-depth)
+          rw (
+            body-facts-size ar types k (t .body) no-locals,
+            body-facts-height ar types k (t .body) no-locals,
+            above (body-size (t .body)) step-commands,
+            above (height (t .body)) max-depth,
+          )
 
       go : (a b ok : Bool) → T .over ≡ flag (not ok) → _≡_ {A = ℕ} (elim (not a || not b) [ true ↦ 1 | false ↦ T .over ]) (flag (not (ok && (a && b))))
       go true true ok e = rw and-true e
