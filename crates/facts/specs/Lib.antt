@@ -1,1 +1,16 @@
 pub mod Facts
+pub mod DigitLaws
+pub mod Verdicts
+pub mod FaultLaws
+pub mod SizeFactsLaws
+pub mod ExprFactsLaws
+pub mod LocalLaws
+pub mod ScopeLaws
+pub mod BodyFactsLaws
+pub mod ProgramFacts
+pub mod ProgramTableLaws
+pub mod TotalLaws
+pub mod NameTotalLaws
+pub mod ProgramFactsLaws
+pub mod FactRows
+pub mod ByteBoundLaws
