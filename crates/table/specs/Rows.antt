@@ -5,6 +5,7 @@ use mathlib.Core.Bool.{true, false}
 use mathlib.Core.List.{List, [], _∷_, _++_, map}
 use lib.ListN.{replicate}
 use lib.IntN.{pos, negsuc}
+use Rattle.types.specs.TypeBytes.{word-end}
 use Rattle.types.specs.Types.{Ty, Ty.int, Ty.nat, Ty.bool, Ty.ref}
 use Rattle.types.specs.Values.{Val, Val.int-val, Val.nat-val, Val.bool-val, Val.label, word-int, value-of}
 use Rattle.program.specs.Reader.{then, pair, made, many, guard, ended, whole, between, byte, tested, ranged, read-word}
@@ -93,5 +94,5 @@ rows =
 
 -- every row's stream comes to its answer
 pub rows-hold : map (λ r. table-of-stream (r .params) (r .stream)) rows ≡ map (λ r. r .answer) rows
-unfolding rows word-int value-of then pair made many guard ended whole between byte tested ranged read-word struct-at read-value read-values read-record read-count read-table is-struct refers refers-each references table-number table-answer table-of-stream
+unfolding word-end rows word-int value-of then pair made many guard ended whole between byte tested ranged read-word struct-at read-value read-values read-record read-count read-table is-struct refers refers-each references table-number table-answer table-of-stream
 rows-hold = refl

@@ -1,15 +1,15 @@
 -- Tables (01, 'Table and turns'): records, their stream, and when a table is right for a program.
 use Prim.Native.Nat.{ℕ, _+_, _-_, _<_, _≤_}
 use mathlib.Core.Path.{_≡_}
-use mathlib.Core.Bool.{Bool, true, false}
+use mathlib.Core.Bool.{true, false}
 use mathlib.Core.Option.{Option, none, some}
 use mathlib.Core.List.{List, [], _∷_, _++_}
 use lib.ListN.{length, getD, getElem?}
 use lib.Dec.{ltb}
-use Rattle.types.specs.Limits.{nat-end, max-instances}
+use Rattle.types.specs.Limits.{max-instances}
 use Rattle.types.specs.Types.{Ty, Ty.int, Ty.nat, Ty.bool, Ty.ref}
-use Rattle.types.specs.Values.{Val, Val.int-val, Val.nat-val, Val.bool-val, Val.label, IntRange, word}
-use Rattle.program.specs.Tree.{Program}
+use Rattle.types.specs.Values.{Val, Val.int-val, Val.nat-val, Val.bool-val, Val.label, word}
+use Rattle.types.specs.TypeBytes.{ValueOf}
 use Rattle.program.specs.Encoding.{enc-word, flat}
 use Rattle.program.specs.Counts.{All}
 
@@ -43,22 +43,7 @@ Each P (t ∷ ts) (x ∷ xs) = (P t x) × (Each P ts xs)
 
 -- a value of a type as four bytes hold it; which label a reference names is judged last
 abbrev pub Held : Ty → Val → Type 0
-Held int (int-val z) = IntRange z
-Held int (nat-val n) = ⊥
-Held int (bool-val b) = ⊥
-Held int (label l) = ⊥
-Held nat (int-val z) = ⊥
-Held nat (nat-val n) = n < nat-end
-Held nat (bool-val b) = ⊥
-Held nat (label l) = ⊥
-Held bool (int-val z) = ⊥
-Held bool (nat-val n) = ⊥
-Held bool (bool-val b) = Unit {0}
-Held bool (label l) = ⊥
-Held (ref k) (int-val z) = ⊥
-Held (ref k) (nat-val n) = ⊥
-Held (ref k) (bool-val b) = ⊥
-Held (ref k) (label l) = l < nat-end
+Held t v = ValueOf t v
 
 module _ (pss : List (List Ty)) where
   -- a struct byte below S, a value for each of its parameters

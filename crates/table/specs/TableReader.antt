@@ -7,16 +7,14 @@ use lib.ListN.{length, getD}
 use lib.Dec.{ltb, leb, eqb}
 use Rattle.types.specs.Limits.{max-instances}
 use Rattle.types.specs.Types.{Ty, Ty.int, Ty.nat, Ty.bool, Ty.ref}
+use Rattle.types.specs.TypeBytes.{word-end}
 use Rattle.types.specs.Values.{Val, Val.int-val, Val.nat-val, Val.bool-val, Val.label, value-of}
 use Rattle.program.specs.Reader.{Result, Result.ok, Result.bad, wrong-end, wrong-byte, then, pair, made, many, guard, whole, ranged, read-word}
 use Rattle.table.specs.Table.{Record, value-bytes, count-bytes, struct-at}
 
 -- a Bool is the number 0 or 1; any other value may be any number of four bytes
 abbrev pub allowed : Ty → ℕ → Bool
-allowed int w = true
-allowed nat w = true
-allowed bool w = ltb w 2
-allowed (ref k) w = true
+allowed t w = ltb w (word-end t)
 
 module _ (s : List ℕ) where
   -- a value is judged at its last byte: one that is cut short is 11 whatever its first bytes are
