@@ -14,3 +14,5 @@ pub mod NameTotalLaws
 pub mod ProgramFactsLaws
 pub mod FactRows
 pub mod ByteBoundLaws
+pub mod CodeOps
+pub mod CodeDigits
