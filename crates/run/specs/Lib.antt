@@ -4,3 +4,8 @@ pub mod Run
 pub mod Visits
 pub mod Begin
 pub mod Entry
+pub mod EntryStreams
+pub mod EntryStreamLaws
+pub mod RowsOpen
+pub mod RowPrograms
+pub mod Rows
