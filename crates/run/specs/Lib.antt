@@ -9,3 +9,4 @@ pub mod EntryStreamLaws
 pub mod RowsOpen
 pub mod RowPrograms
 pub mod Rows
+pub mod RowsOfImages

@@ -2,8 +2,8 @@
 use Prim.Native.Nat.{ℕ, zero, suc}
 use mathlib.Core.List.{List, [], _∷_, _++_}
 use lib.ListN.{replicate}
-use Rattle.program.specs.Encoding.{enc-word, flat}
-use Rattle.program.specs.Rows.{program, adding, addings}
+use Rattle.program.specs.Encoding.{enc-word}
+use Rattle.program.specs.Rows.{program, addings}
 
 -- 01's programs --------------------------------------------------------------------
 
@@ -28,7 +28,7 @@ in-fix = 1 ∷ 3 ∷ 1 ∷ 1 ∷ 0 ∷ []
 unfoldable pub P-65 : List ℕ
 P-65 = 2 ∷ 2 ∷ 0 ∷ 16 ∷ 0 ∷ 1 ∷ 0 ∷ 9 ∷ addings 8 ++ 4 ∷ 1 ∷ 0 ∷ once
 
--- one struct with one parameter of a type: n nots over true are written to it
+-- one struct with a Bool: n nots over true are written to it
 unfoldable pub nots : ℕ → List ℕ
 nots n = program (1 ∷ 2 ∷ []) (1 ∷ 3 ∷ 1 ∷ 0 ∷ replicate n 16 ++ 21 ∷ 1 ∷ []) once
 
@@ -66,11 +66,6 @@ both-sides o b =
 unfoldable pub constructing : List ℕ
 constructing = 2 ∷ 0 ∷ 0 ∷ 1 ∷ 0 ∷ 1 ∷ 4 ∷ 1 ∷ 0 ∷ 1 ∷ 3 ∷ 1 ∷ 2 ∷ 0 ∷ 0 ∷ []
 
--- one struct with a Bool, which begins as false: in a Fix, where it is not true, it becomes true and a struct 1 is constructed
-unfoldable pub constructing-once : List ℕ
-constructing-once =
-    2 ∷ 1 ∷ 17 ∷ 0 ∷ 1 ∷ 0 ∷ 1 ∷ 1 ∷ 32 ∷ 18 ∷ 1 ∷ 0 ∷ 22 ∷ 17 ∷ 1 ∷ 4 ∷ 1 ∷ 0 ∷ 1 ∷ 3 ∷ 1 ∷ 1 ∷ 0 ∷ []
-
 -- one struct with an Int: step 0 declares a local; step 1 makes the load 1 where it is less; Fix (0, Fix (1))
 unfoldable pub inner-fix : List ℕ
 inner-fix =
@@ -93,6 +88,17 @@ chosen-by schedule = 3 ∷ 0 ∷ 0 ∷ 0 ∷ 1 ∷ 0 ∷ 1 ∷ 4 ∷ 2 ∷ 1 ∷
 -- P's struct: prev.prev.load := load
 unfoldable pub along-path : List ℕ
 along-path = program (2 ∷ 0 ∷ 16 ∷ []) (1 ∷ 3 ∷ 3 ∷ 1 ∷ 1 ∷ 0 ∷ 18 ∷ 1 ∷ 0 ∷ []) once
+
+-- a scheduled step that no struct has; an Int that becomes a truth
+unfoldable pub no-such-step : List ℕ
+no-such-step = P-with 1 (1 ∷ 1 ∷ 1 ∷ [])
+
+unfoldable pub truth-as-int : List ℕ
+truth-as-int = program (1 ∷ 0 ∷ []) (1 ∷ 3 ∷ 1 ∷ 0 ∷ 21 ∷ 1 ∷ []) once
+
+-- struct 0: step 0 declares a local as 7 and constructs a struct 1, and has nothing in step 2; struct 1 has nothing in step 1
+unfoldable pub leaving : List ℕ → List ℕ
+leaving schedule = 2 ∷ 0 ∷ 0 ∷ 2 ∷ 0 ∷ 2 ∷ 2 ∷ 0 ∷ 8 ∷ 19 ∷ 7 ∷ 0 ∷ 0 ∷ 0 ∷ 4 ∷ 1 ∷ 2 ∷ 0 ∷ 1 ∷ 1 ∷ 0 ∷ schedule
 
 -- Tables --------------------------------------------------------------------------------
 

@@ -2,7 +2,6 @@
 -- a row is a fact by computation.
 use Prim.Native.Nat.{ℕ}
 use mathlib.Core.List.{List}
-use lib.ListN.{length}
 use Rattle.types.specs.Types.{same-type, code}
 use Rattle.types.specs.Values.{default, in-int, int-word, word-int, word, value-of}
 use Rattle.program.specs.Encoding.{enc-word, flat, op-code}
@@ -12,7 +11,6 @@ use Rattle.commands.specs.Commands.{then, reads, front, last, expr-coms, args-c
 use Rattle.commands.specs.Coding.{coded, com-word, command-word, words}
 use Rattle.commands.specs.Context.{stmt-local, body-local}
 use Rattle.commands.specs.Names.{declares, declared, step-names}
-use Rattle.commands.specs.Typing.{sort}
 use Rattle.commands.specs.Depth.{depth}
 use Rattle.commands.specs.Bounds.{item-count, items-count, total, greatest, program-size, program-depth}
 use Rattle.commands.specs.Decide.{every, member, distinct}
@@ -37,7 +35,7 @@ use Rattle.run.specs.EntryStreams.{Summary, of-outcome, summed, table-re
 
 -- what a program stream comes to
 unfoldable pub checking : List ℕ → Checked
-unfolding reading same-type then reads front last expr-coms args-coms update-coms stmt-coms body-coms flatten commands stmt-local body-local declares declared step-names sort depth item-count items-count total greatest program-size program-depth every member distinct start-named expr-named args-named stmt-named body-named steps-named stepped item-stepped items-stepped names-right is-of agree given-type result operate-types lead path-type expr-type args-typed stmt-typed body-typed steps-typed types-right within breach first order program-number judge of-read
+unfolding reading same-type then reads front last expr-coms args-coms update-coms stmt-coms body-coms flatten commands stmt-local body-local declares declared step-names depth item-count items-count total greatest program-size program-depth every member distinct start-named expr-named args-named stmt-named body-named steps-named stepped item-stepped items-stepped names-right is-of agree given-type result operate-types lead path-type expr-type args-typed stmt-typed body-typed steps-typed types-right within breach first order program-number judge of-read
 checking s = of-read (read s)
 
 -- what a run of program stream, table stream and turn bytes comes to, where output and list have room
