@@ -10,3 +10,6 @@ pub mod RowsOpen
 pub mod RowPrograms
 pub mod Rows
 pub mod RowsOfImages
+pub mod RowsKept
+pub mod Input
+pub mod InputLaws
