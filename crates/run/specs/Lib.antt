@@ -4,3 +4,12 @@ pub mod Run
 pub mod Visits
 pub mod Begin
 pub mod Entry
+pub mod EntryStreams
+pub mod EntryStreamLaws
+pub mod RowsOpen
+pub mod RowPrograms
+pub mod Rows
+pub mod RowsOfImages
+pub mod RowsKept
+pub mod Input
+pub mod InputLaws

@@ -1,0 +1,68 @@
+-- The conditions of the numbers from the input, in 01's words ('Numbers from the input'), and their order.
+use Prim.Native.Nat.{ℕ, _*_, _<_}
+use mathlib.Core.Path.{_≡_}
+use mathlib.Core.List.{List, [], _∷_}
+use lib.ListN.{length}
+use Rattle.types.specs.Limits.{program-blocks, table-blocks, max-commands, max-turns}
+use Rattle.blocks.specs.Blocks.{block-size}
+use Rattle.blocks.specs.Images.{LengthRight, count, stream}
+use Rattle.blocks.specs.Faults.{AllRight, FirstFault}
+use Rattle.blocks.specs.declared.Fault.{Fault}
+use Rattle.blocks.specs.declared.Fault.the-variants.{Sum, Layout}
+use Rattle.program.specs.Tree.{Program}
+use Rattle.program.specs.Encoding.{enc-program}
+use Rattle.program.specs.Counts.{Counts}
+use Rattle.program.specs.Reader.{Result.bad, read, wrong-end, wrong-byte}
+use Rattle.commands.specs.Bounds.{Within}
+use Rattle.commands.specs.Names.{NamesRight}
+use Rattle.commands.specs.Typing.{TypesRight}
+use Rattle.table.specs.Table.{Record, TableRight, enc-table}
+use Rattle.table.specs.TableReader.{TableAnswer.no-table, table-of-stream, table-end, table-value}
+
+-- an image of at most max blocks, its length and every block right
+pub record ImageRight (max : ℕ) (x : List ℕ) : Type 0 where
+  pub length-right : LengthRight max (length x)
+  pub blocks-right : AllRight (count x) x (count x)
+
+-- the image's stream is the program's bytes, and the program keeps to the counts, ranges and levels
+pub record Reads (x : List ℕ) (p : Program) : Type 0 where
+  pub counts : Counts p
+  pub bytes : stream x ≡ enc-program p
+
+-- program image, table image, turn bytes, output, list
+module _ (x y es out list : List ℕ) where
+  -- the condition of each number
+  pub data Refuses : ℕ → Type 0 where
+    program-length : (LengthRight program-blocks (length x) → ⊥) → Refuses 1
+    program-sums : FirstFault (count x) x (count x) Sum → Refuses 2
+    program-layout : FirstFault (count x) x (count x) Layout → Refuses 3
+    program-end : {at : ℕ} → read (stream x) ≡ bad at wrong-end → Refuses 4
+    program-byte : {at : ℕ} → read (stream x) ≡ bad at wrong-byte → Refuses 5
+    program-limits : {p : Program} → Reads x p → (Within p → ⊥) → Refuses 6
+    program-names : {p : Program} → Reads x p → (NamesRight p → ⊥) → Refuses 7
+    program-types : {p : Program} → Reads x p → (TypesRight p → ⊥) → Refuses 8
+    table-length : (LengthRight table-blocks (length y) → ⊥) → Refuses 9
+    table-block : {f : Fault} → FirstFault (count y) y (count y) f → Refuses 10
+    table-ends : {p : Program} → Reads x p → table-of-stream (p .params) (stream y) ≡ no-table table-end → Refuses 11
+    table-values : {p : Program} → Reads x p → table-of-stream (p .params) (stream y) ≡ no-table table-value → Refuses 12
+    output-short : length out < block-size * table-blocks → Refuses 13
+    list-short : length list < max-commands → Refuses 13
+    turns-many : max-turns < length es → Refuses 14
+
+-- lowest number first
+unfoldable pub order : List ℕ
+order = 1 ∷ 2 ∷ 3 ∷ 4 ∷ 5 ∷ 6 ∷ 7 ∷ 8 ∷ 9 ∷ 10 ∷ 11 ∷ 12 ∷ 13 ∷ 14 ∷ []
+
+-- a program image that is accepted
+pub record Accepted (x : List ℕ) (p : Program) : Type 0 where
+  pub image : ImageRight program-blocks x
+  pub reads : Reads x p
+  pub within : Within p
+  pub names : NamesRight p
+  pub types : TypesRight p
+
+-- a table image that is accepted under a program
+pub record TableAccepted (p : Program) (y : List ℕ) (rs : List Record) : Type 0 where
+  pub image : ImageRight table-blocks y
+  pub right : TableRight (p .params) rs
+  pub bytes : stream y ≡ enc-table rs
