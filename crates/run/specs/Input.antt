@@ -1,5 +1,5 @@
 -- The conditions of the numbers from the input, in 01's words ('Numbers from the input'), and their order.
-use Prim.Native.Nat.{ℕ, _*_, _<_}
+use Prim.Native.Nat.{ℕ, _*_, _<_, _≤_}
 use mathlib.Core.Path.{_≡_}
 use mathlib.Core.List.{List, [], _∷_}
 use lib.ListN.{length}
@@ -66,3 +66,11 @@ pub record TableAccepted (p : Program) (y : List ℕ) (rs : List Record) : Type 
   pub image : ImageRight table-blocks y
   pub right : TableRight (p .params) rs
   pub bytes : stream y ≡ enc-table rs
+
+-- a run that may begin
+pub record Ready (x y es out list : List ℕ) (p : Program) (rs : List Record) : Type 0 where
+  pub program : Accepted x p
+  pub table : TableAccepted p y rs
+  pub output-room : block-size * table-blocks ≤ length out
+  pub list-room : max-commands ≤ length list
+  pub turns-few : length es ≤ max-turns

@@ -12,4 +12,5 @@ pub mod Rows
 pub mod RowsOfImages
 pub mod RowsKept
 pub mod Input
+pub mod InputOrder
 pub mod InputLaws

@@ -9,7 +9,7 @@ use lib.Dec.{leb}
 use borrow.Author.Tests.{le-ltb}
 use Rattle.types.specs.Limits.{program-blocks, table-blocks, max-commands}
 use Rattle.blocks.specs.Blocks.{block-size, payload-size}
-use Rattle.blocks.specs.Decides.{Decides, decides-leb, decides-both}
+use Rattle.types.specs.Decides.{Decides, decides-leb, decides-both}
 use Rattle.blocks.specs.Images.{image, pieces}
 use Rattle.program.specs.Counts.{All}
 use Rattle.program.specs.Reader.{read}
