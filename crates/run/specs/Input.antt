@@ -1,7 +1,7 @@
 -- The conditions of the numbers from the input, in 01's words ('Numbers from the input'), and their order.
 use Prim.Native.Nat.{ℕ, _*_, _<_, _≤_}
 use mathlib.Core.Path.{_≡_}
-use mathlib.Core.List.{List, [], _∷_}
+use mathlib.Core.List.{List, [], _∷_, _++_}
 use lib.ListN.{length}
 use Rattle.types.specs.Limits.{program-blocks, table-blocks, max-commands, max-turns}
 use Rattle.blocks.specs.Blocks.{block-size}
@@ -29,29 +29,46 @@ pub record Reads (x : List ℕ) (p : Program) : Type 0 where
   pub counts : Counts p
   pub bytes : stream x ≡ enc-program p
 
--- program image, table image, turn bytes, output, list
-module _ (x y es out list : List ℕ) where
-  -- the condition of each number
-  pub data Refuses : ℕ → Type 0 where
-    program-length : (LengthRight program-blocks (length x) → ⊥) → Refuses 1
-    program-sums : FirstFault (count x) x (count x) Sum → Refuses 2
-    program-layout : FirstFault (count x) x (count x) Layout → Refuses 3
-    program-end : {at : ℕ} → read (stream x) ≡ bad at wrong-end → Refuses 4
-    program-byte : {at : ℕ} → read (stream x) ≡ bad at wrong-byte → Refuses 5
-    program-limits : {p : Program} → Reads x p → (Within p → ⊥) → Refuses 6
-    program-names : {p : Program} → Reads x p → (NamesRight p → ⊥) → Refuses 7
-    program-types : {p : Program} → Reads x p → (TypesRight p → ⊥) → Refuses 8
-    table-length : (LengthRight table-blocks (length y) → ⊥) → Refuses 9
-    table-block : {f : Fault} → FirstFault (count y) y (count y) f → Refuses 10
-    table-ends : {p : Program} → Reads x p → table-of-stream (p .params) (stream y) ≡ no-table table-end → Refuses 11
-    table-values : {p : Program} → Reads x p → table-of-stream (p .params) (stream y) ≡ no-table table-value → Refuses 12
-    output-short : length out < block-size * table-blocks → Refuses 13
-    list-short : length list < max-commands → Refuses 13
-    turns-many : max-turns < length es → Refuses 14
+-- The conditions ---------------------------------------------------------------------
 
--- lowest number first
+-- on a program image: 1 to 8
+pub data ProgramRefuses (x : List ℕ) : ℕ → Type 0 where
+  program-length : (LengthRight program-blocks (length x) → ⊥) → ProgramRefuses x 1
+  program-sums : FirstFault (count x) x (count x) Sum → ProgramRefuses x 2
+  program-layout : FirstFault (count x) x (count x) Layout → ProgramRefuses x 3
+  program-end : {at : ℕ} → read (stream x) ≡ bad at wrong-end → ProgramRefuses x 4
+  program-byte : {at : ℕ} → read (stream x) ≡ bad at wrong-byte → ProgramRefuses x 5
+  program-limits : {p : Program} → Reads x p → (Within p → ⊥) → ProgramRefuses x 6
+  program-names : {p : Program} → Reads x p → (NamesRight p → ⊥) → ProgramRefuses x 7
+  program-types : {p : Program} → Reads x p → (TypesRight p → ⊥) → ProgramRefuses x 8
+
+-- on what checking is given: a program image and a list
+pub data CheckRefuses (x list : List ℕ) : ℕ → Type 0 where
+  of-program : {n : ℕ} → ProgramRefuses x n → CheckRefuses x list n
+  list-short : length list < max-commands → CheckRefuses x list 13
+
+-- on what a run is given: program image, table image, turn bytes, output, list
+pub data Refuses (x y es out list : List ℕ) : ℕ → Type 0 where
+  of-program : {n : ℕ} → ProgramRefuses x n → Refuses x y es out list n
+  table-length : (LengthRight table-blocks (length y) → ⊥) → Refuses x y es out list 9
+  table-block : {f : Fault} → FirstFault (count y) y (count y) f → Refuses x y es out list 10
+  table-ends : {p : Program} → Reads x p → table-of-stream (p .params) (stream y) ≡ no-table table-end → Refuses x y es out list 11
+  table-values : {p : Program} → Reads x p → table-of-stream (p .params) (stream y) ≡ no-table table-value → Refuses x y es out list 12
+  output-short : length out < block-size * table-blocks → Refuses x y es out list 13
+  list-short : length list < max-commands → Refuses x y es out list 13
+  turns-many : max-turns < length es → Refuses x y es out list 14
+
+-- lowest number first: of a program image, of checking, of a run
+abbrev pub program-order : List ℕ
+program-order = 1 ∷ 2 ∷ 3 ∷ 4 ∷ 5 ∷ 6 ∷ 7 ∷ 8 ∷ []
+
+unfoldable pub check-order : List ℕ
+check-order = program-order ++ 13 ∷ []
+
 unfoldable pub order : List ℕ
-order = 1 ∷ 2 ∷ 3 ∷ 4 ∷ 5 ∷ 6 ∷ 7 ∷ 8 ∷ 9 ∷ 10 ∷ 11 ∷ 12 ∷ 13 ∷ 14 ∷ []
+order = program-order ++ 9 ∷ 10 ∷ 11 ∷ 12 ∷ 13 ∷ 14 ∷ []
+
+-- What is accepted -----------------------------------------------------------------------
 
 -- a program image that is accepted
 pub record Accepted (x : List ℕ) (p : Program) : Type 0 where

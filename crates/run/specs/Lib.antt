@@ -13,4 +13,5 @@ pub mod RowsOfImages
 pub mod RowsKept
 pub mod Input
 pub mod InputOrder
+pub mod InputProgram
 pub mod InputLaws
