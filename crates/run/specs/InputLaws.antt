@@ -35,7 +35,7 @@ module _ (x y es out list : List ℕ) where
   C = Refuses x y es out list
 
   -- the program and the table of an answer, ready to run
-  abbrev Began : Begun → Type 0
+  abbrev pub Began : Begun → Type 0
   Began b = (p : Program) × (rs : List Record) × (b ≡ begun p rs) × (Ready x y es out list p rs)
 
   abbrev Tell : List ℕ → Begun → Type 0

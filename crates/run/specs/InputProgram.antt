@@ -199,7 +199,7 @@ program-low = omega arith
 
 module _ (x list : List ℕ) where
   -- the verdict on an accepted program, where the list has room
-  abbrev Approved : Verdict → Type 0
+  abbrev pub Approved : Verdict → Type 0
   Approved v = (p : Program) × (v ≡ approval p) × (Accepted x p) × (max-commands ≤ length list)
 
   check-alike : (m : ℕ) → m ≤ 8 → (ProgramRefuses x m) ↔ (CheckRefuses x list m)

@@ -1,6 +1,7 @@
 -- Runs and checks by computation (01, 'Bench rows', 'Slips seen before'): every row is a program image, a table image and turn
 -- bytes, with the verdict, the report and the bytes that the entries come to.
 use Prim.Native.Nat.{ℕ, _*_, _≤_}
+use native.Mathlib.Omega.{arith}
 use mathlib.Core.Path.{_≡_, refl, ap, _∙_}
 use mathlib.Core.Bool.{Bool, true, false, _&&_}
 use mathlib.Core.List.{List, [], _∷_, _++_, map}
@@ -14,7 +15,7 @@ use Rattle.blocks.specs.Images.{image, pieces}
 use Rattle.program.specs.Counts.{All}
 use Rattle.program.specs.Reader.{read}
 use Rattle.program.specs.Rows.{program, adding, addings}
-use Rattle.run.specs.Entry.{Checked, Checked.accepted, Checked.refused, Verdict, refusal, approval, verdict-of, check-verdict, of-read, Begun, run-report-by, run-output-by, run-report, run-output}
+use Rattle.run.specs.Entry.{Checked, Checked.accepted, Checked.refused, Verdict, refusal, approval, verdict-of, check-verdict, program-words, listed, list-of, check-list, of-read, Begun, run-report-by, run-output-by, run-report, run-output}
 use Rattle.run.specs.EntryStreams.{Summary, summary, summed, reported, begins-streams}
 use Rattle.run.specs.EntryStreamLaws.{report-summed, output-summed, checked-image, begins-image}
 use Rattle.run.specs.RowsOpen.{checking, running}
@@ -193,10 +194,36 @@ row-right r e =
           ∙ ap (λ (c : Computed). left-in (c .comes-to) out) e;
     }
 
+-- of every element of a list P holds, where it follows from an equation of two functions, and these are equal on the list
+pub each : {A B : Type 0} {P : A → Type 0} (f g : A → B) → ((a : A) → f a ≡ g a → P a) → (l : List A) → map f l ≡ map g l → All P l
+each f g h [] e = tt
+each f g h (a ∷ l) e = (h a (cc), each f g h l (cc))
+
 -- every row is right
 pub rows-right : All RowRight rows
-rows-right = go rows rows-computed
-  where
-    go : (l : List Row) → map computed l ≡ map said l → All RowRight l
-    go [] e = tt
-    go (r ∷ l) e = (row-right r (cc), go l (cc))
+rows-right = each computed said row-right rows rows-computed
+
+-- The list -----------------------------------------------------------------------------------
+
+abbrev words-by : Checked → List ℕ
+words-by (accepted p) = program-words p
+words-by (refused n) = []
+
+list-room : (c : Checked) (list : List ℕ) → max-commands ≤ length list → list-of c list ≡ words-by c ++ drop (length (words-by c)) list
+unfolding list-of listed
+list-room (refused n) list h = refl
+list-room (accepted p) list h = rw (le-ltb (length list) max-commands h, list-of)
+
+words-P : words-by (of-read (read P)) ≡ 2 ∷ 3 ∷ 2 ∷ 4294967299 ∷ 3 ∷ 176093659144 ∷ 2 ∷ 4 ∷ []
+unfolding running P
+words-P = refl
+
+-- P's commands stand in the first 8 places of the list, and further places are untouched: push this, rd 0, push this, rd 1, rd 0,
+-- op 41, push this, wr 0
+pub listed-P : (list : List ℕ) → max-commands ≤ length list
+    → check-list (image P) list ≡ 2 ∷ 3 ∷ 2 ∷ 4294967299 ∷ 3 ∷ 176093659144 ∷ 2 ∷ 4 ∷ drop 8 list
+unfolding check-list P
+listed-P list h =
+    ap (λ (c : Checked). list-of c list) (checked-image P (omega arith) (omega arith))
+    ∙ list-room (of-read (read P)) list h
+    ∙ ap (λ (w : List ℕ). w ++ drop (length w) list) words-P

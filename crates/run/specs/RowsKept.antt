@@ -8,6 +8,7 @@ use lib.ListN.{length, replicate}
 use lib.IntN.{pos}
 use Rattle.types.specs.Limits.{first-local}
 use Rattle.types.specs.Values.{Val, Val.int-val}
+use Rattle.program.specs.Counts.{All}
 use Rattle.machine.specs.Published.{lookup}
 use Rattle.run.specs.Run.{Outcome, Outcome.stopped, Outcome.jammed, run}
 use Rattle.run.specs.Begin.{begin}
@@ -15,6 +16,7 @@ use Rattle.run.specs.Entry.{Begun, Begun.begun, Begun.not-begun}
 use Rattle.run.specs.EntryStreams.{begins-streams}
 use Rattle.run.specs.RowsOpen.{running}
 use Rattle.run.specs.RowPrograms.{once, twice, empty, leaving}
+use Rattle.run.specs.Rows.{each}
 
 -- of each instance: the height of its stack, its first local
 pub record Kept : Type 0 where
@@ -49,7 +51,13 @@ kept-rows =
     ∷ row twice (has 1 (some (int-val (pos 7))) ∷ has 0 none ∷ has 0 none ∷ has 0 none ∷ [])
     ∷ []
 
--- every schedule leaves what its row says
-pub kept-rows-right : map (λ r. kept (begins-streams (leaving (r .schedule)) empty (replicate 9 0)) (replicate 9 0)) kept-rows ≡ map (λ r. r .keeps) kept-rows
+abbrev pub leaves : KeptRow → List Kept
+leaves r = kept (begins-streams (leaving (r .schedule)) empty (replicate 9 0)) (replicate 9 0)
+
+kept-rows-computed : map leaves kept-rows ≡ map (λ r. r .keeps) kept-rows
 unfolding kept-rows kept at-last running leaving
-kept-rows-right = refl
+kept-rows-computed = refl
+
+-- every schedule leaves what its row says
+pub kept-rows-right : All (λ r. leaves r ≡ r .keeps) kept-rows
+kept-rows-right = each leaves (λ r. r .keeps) (λ r e. e) kept-rows kept-rows-computed

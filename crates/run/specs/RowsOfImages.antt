@@ -1,17 +1,17 @@
 -- Damaged images, short outputs and lists, by computation on their bytes (01, numbers 1 to 3, 9, 10 and 13): blocks in order,
 -- sums before layout, lowest number first.
-use Prim.Native.Nat.{ℕ, _+_, _*_}
-use mathlib.Core.Path.{_≡_, refl, ap, _∙_}
+use Prim.Native.Nat.{ℕ}
+use mathlib.Core.Path.{_≡_, refl}
 use mathlib.Core.List.{List, [], _∷_, _++_, map}
-use lib.ListN.{length, take, drop, set, replicate}
+use lib.ListN.{take, set, replicate}
 use Rattle.blocks.specs.Sums.{sum, sum-a, sum-b}
 use Rattle.blocks.specs.Blocks.{pair-at, pair, index, used, used-part, unused-part, sums-right, used-right, zeros, laid-out, block-fault, front, block-of}
 use Rattle.blocks.specs.Images.{length-right, block, is-last, first-fault, fault, joined, stream, piece, image-of, image}
 use Rattle.program.specs.Counts.{All}
 use Rattle.run.specs.Entry.{of-image, checked, of-table-image, of-checked, begins, Report, report-of, run-report-by, run-report}
-use Rattle.run.specs.EntryStreams.{summed}
 use Rattle.run.specs.RowsOpen.{running}
 use Rattle.run.specs.RowPrograms.{P, cell, cells}
+use Rattle.run.specs.Rows.{each}
 
 -- images, turn bytes, the lengths of output and list, and the number
 pub record ImageRow : Type 0 where
@@ -70,10 +70,13 @@ image-rows =
     ∷ row program-image table-image 8704 1024 0
     ∷ []
 
-abbrev reports : ImageRow → Report
+abbrev pub reports : ImageRow → Report
 reports r = run-report (r .program) (r .table) (r .turns) (replicate (r .out) 0) (replicate (r .list) 0)
 
--- every row's report has its number
-pub image-rows-right : map (λ r. reports r .number) image-rows ≡ map (λ r. r .number) image-rows
+image-rows-computed : map (λ r. reports r .number) image-rows ≡ map (λ r. r .number) image-rows
 unfolding image-rows running sum sum-a sum-b pair-at pair index used used-part unused-part sums-right used-right zeros laid-out block-fault front block-of length-right block is-last first-fault fault joined stream piece image-of image of-image checked of-table-image of-checked begins report-of run-report-by run-report P cell cells
-image-rows-right = refl
+image-rows-computed = refl
+
+-- every row's report has its number
+pub image-rows-right : All (λ r. reports r .number ≡ r .number) image-rows
+image-rows-right = each (λ r. reports r .number) (λ r. r .number) (λ r e. e) image-rows image-rows-computed
