@@ -4,3 +4,14 @@ pub mod Run
 pub mod Visits
 pub mod Begin
 pub mod Entry
+pub mod EntryStreams
+pub mod EntryStreamLaws
+pub mod RowsOpen
+pub mod RowPrograms
+pub mod Rows
+pub mod RowsOfImages
+pub mod RowsKept
+pub mod Input
+pub mod InputOrder
+pub mod InputProgram
+pub mod InputLaws
