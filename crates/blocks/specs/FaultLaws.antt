@@ -91,6 +91,10 @@ first-unique n x k Right (Wrong g) p q = absurd (not-right _ _ _ g (q .faulty) (
 first-unique n x k (Wrong f) Right p q = absurd (not-right _ _ _ f (p .faulty) (q (p .at) (p .within)))
 first-unique n x k (Wrong f) (Wrong g) p q = ap Wrong (first-one n x k f g p q)
 
+-- no other answer says what holds of the first blocks
+pub first-exact : (n : ℕ) (x : List ℕ) (k : ℕ) (r : Found) → FirstSays n x k r → first-fault n x k ≡ r
+first-exact n x k r p = first-unique n x k (first-fault n x k) r (first-says n x k) p
+
 -- The whole image --------------------------------------------------------------
 
 -- what the answer says holds

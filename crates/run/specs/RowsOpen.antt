@@ -2,6 +2,7 @@
 -- a row is a fact by computation.
 use Prim.Native.Nat.{ℕ}
 use mathlib.Core.List.{List}
+use Rattle.types.specs.TypeBytes.{word-end}
 use Rattle.types.specs.Types.{same-type, code}
 use Rattle.types.specs.Values.{default, in-int, int-word, word-int, word, value-of}
 use Rattle.program.specs.Encoding.{enc-word, flat, op-code, var-code}
@@ -40,5 +41,5 @@ checking s = of-read (read s)
 
 -- what a run of program stream, table stream and turn bytes comes to, where output and list have room
 unfoldable pub running : List ℕ → List ℕ → List ℕ → Summary
-unfolding checking var-code coded com-word command-word words of-steps of-structs program-words code default in-int int-word word-int word value-of enc-word flat op-code struct-of walk store read-path write-path note-expr note-exprs note-stmt note-body noted quotient remainder same-int same-bool same-val int-answer nat-answer by-nonzero compute answer on-truths on-labels apply struct-at enc-value enc-record enc-table read-value read-values read-record read-count read-table is-struct refers refers-each references table-number table-answer table-of-stream before of-item of-items lookup assign find-step meet weight bound update-env settled read-from read-at read-variable write-to write-parameter write-at write negate branch operated operate construct perform now-written command-of command-at command given started started-in repeat move-by labels-from chosen holds-code holders later is-done moved settle-by settle fuel taken turn at-last run nulls first-instances begin record-of table-of of-table with-room of-outcome summed table-read begins-streams
+unfolding checking word-end var-code coded com-word command-word words of-steps of-structs program-words code default in-int int-word word-int word value-of enc-word flat op-code struct-of walk store read-path write-path note-expr note-exprs note-stmt note-body noted quotient remainder same-int same-bool same-val int-answer nat-answer by-nonzero compute answer on-truths on-labels apply struct-at enc-value enc-record enc-table read-value read-values read-record read-count read-table is-struct refers refers-each references table-number table-answer table-of-stream before of-item of-items lookup assign find-step meet weight bound update-env settled read-from read-at read-variable write-to write-parameter write-at write negate branch operated operate construct perform now-written command-of command-at command given started started-in repeat move-by labels-from chosen holds-code holders later is-done moved settle-by settle fuel taken turn at-last run nulls first-instances begin record-of table-of of-table with-room of-outcome summed table-read begins-streams
 running s t es = summed (begins-streams s t es) es
