@@ -4,3 +4,12 @@ pub mod Run
 pub mod Visits
 pub mod Begin
 pub mod Entry
+pub mod TurnLaws
+pub mod Settles
+pub mod FuelLaws
+pub mod RunAgrees
+pub mod RunsUnique
+pub mod PublishedVisits
+pub mod RunAgreesVisits
+pub mod Initial
+pub mod BeginLaws
