@@ -15,3 +15,12 @@ pub mod Input
 pub mod InputOrder
 pub mod InputProgram
 pub mod InputLaws
+pub mod TurnLaws
+pub mod Settles
+pub mod FuelLaws
+pub mod RunAgrees
+pub mod RunsUnique
+pub mod PublishedVisits
+pub mod RunAgreesVisits
+pub mod Initial
+pub mod BeginLaws

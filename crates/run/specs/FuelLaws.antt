@@ -1,0 +1,186 @@
+-- The fuel of the executable run is enough (01, 'Table and turns'): more of it changes nothing, and none is the reason of `jammed`.
+-- So a run does what `Ran` says, which no fuel is in.
+use Prim.Native.Nat.{ℕ, zero, suc, _+_, _*_, _<_, _≤_}
+use mathlib.Core.Path.{_≡_, refl, ap, sym, _∙_}
+use mathlib.Core.Logic.{_↔_}
+use mathlib.Core.Bool.{Bool, true, false}
+use mathlib.Core.List.{List, [], _∷_}
+use native.Mathlib.Omega.{arith}
+use lib.ListN.{length}
+use Rattle.program.specs.Tree.{Program}
+use Rattle.machine.specs.Published.{Sched, Sched.done, Sched.start, Sched.start-in, Sched.fixpoint, Sched.active}
+use Rattle.machine.specs.Machine.{Machine, Out, Out.next, Out.refused, Out.stuck, command, move-by, move}
+use Rattle.machine.specs.Measure.{bound, passages, measure, Moved, Moved.unmoved, Moved.moved as moved-on}
+use Rattle.machine.specs.MeasureLaws.{move-falls}
+use Rattle.run.specs.Turns.{holders, chosen}
+use Rattle.run.specs.Runs.{ended}
+use Rattle.run.specs.Run.{Outcome, Outcome.stopped, Outcome.jammed, later, Settled, Settled.hold, Settled.stop, is-done, moved, settle-by, settle, fuel, taken, turn, at-last, run}
+use Rattle.run.specs.Settles.{Settles, Settles.holds, Settles.ends, Settles.refuses, Settles.sticks, Settles.moves, Ran, Ran.ends, Ran.refuses, Ran.sticks, Ran.moves, Ran.lasts, Ran.fails, Ran.jams, Ran.takes}
+
+-- The schedule's moves -------------------------------------------------------------
+
+is-done-done : (s : Sched) → (is-done s ≡ true) ↔ (s ≡ done)
+unfolding is-done
+is-done-done done = (λ e. refl, λ e. refl)
+is-done-done (start n s) = (λ e. cc, λ e. cc)
+is-done-done (start-in k n s) = (λ e. cc, λ e. cc)
+is-done-done (fixpoint f s) = (λ e. cc, λ e. cc)
+is-done-done (active f s) = (λ e. cc, λ e. cc)
+
+-- the fuel f is more than the moves that m can make, by a bound B on its bodies
+abbrev pub Enough : ℕ → ℕ → Machine → Type 0
+Enough B f m = (bound (m .sched) ≤ B) × (measure B m < f)
+
+not-done : (s : Sched) → (s ≡ done → ⊥) → is-done s ≡ false
+unfolding is-done
+not-done done n = absurd (n refl)
+not-done (start k s) n = refl
+not-done (start-in k j s) n = refl
+not-done (fixpoint f s) n = refl
+not-done (active f s) n = refl
+
+module _ (p : Program) (m : Machine) where
+  -- an empty schedule makes no move
+  done-stuck : m .sched ≡ done → move p m ≡ stuck
+  unfolding move-by
+  done-stuck e = ap (λ s. move-by p s (m .instances) (m .stability)) e
+
+  -- where nobody holds commands and the schedule is not empty, it moves
+  settle-moves : (k : Machine → Settled) → holders m ≡ [] → (m .sched ≡ done → ⊥) → settle-by k p m (holders m) ≡ moved k m (move p m)
+  unfolding settle-by
+  settle-moves k g n = rw (g, not-done (m .sched) n, settle-by)
+
+module _ (p : Program) (B : ℕ) where
+  -- by the cases of a move, where more than f moves cannot be made, and f are enough for the machine after it
+  module _ (f : ℕ) (m : Machine) (h : Enough B (suc f) m) (r : (m′ : Machine) → Enough B f m′ → Settles p m′ (settle p f m′)) where
+    by-move : holders m ≡ [] → (m .sched ≡ done → ⊥) → (o : Out) → move p m ≡ o → Settles p m (moved (λ m′. settle p f m′) m o)
+    unfolding moved
+    by-move g n (next m′) e = let (a, b) = move-falls p B m (h .0) e in moves g e (r m′ (b, omega arith))
+    by-move g n (refused k) e = refuses g e
+    by-move g n stuck e = sticks g n e
+
+    by-done : holders m ≡ [] → (t : Bool) → is-done (m .sched) ≡ t
+        → Settles p m (elim t [ true ↦ stop (stopped ended 0 m) | false ↦ moved (λ m′. settle p f m′) m (move p m) ])
+    by-done g true e = ends g (is-done-done (m .sched) .0 e)
+    by-done g false e =
+        by-move g (λ d. let a = is-done-done (m .sched) .1 d in let z : true ≡ false = cc in let y : _≡_ {A = ℕ} 0 1 = cc in omega arith) (move p m) refl
+
+    by-holders : (hs : List ℕ) → holders m ≡ hs → Settles p m (settle-by (λ m′. settle p f m′) p m hs)
+    unfolding settle-by
+    by-holders [] g = by-done g (is-done (m .sched)) refl
+    by-holders (h ∷ hs) g = holds g
+
+  -- with enough fuel, the moves lead where they lead without any
+  pub settle-settles : (f : ℕ) (m : Machine) → Enough B f m → Settles p m (settle p f m)
+  unfolding settle
+  settle-settles zero m h = absurd (omega arith)
+  settle-settles (suc f) m h = by-holders f m h (λ m′ k. settle-settles f m′ k) (holders m) refl
+
+  -- and where they lead, they lead with any fuel that is enough
+  pub settles-settle : (f : ℕ) {m : Machine} {x : Settled} → Settles p m x → Enough B f m → settle p f m ≡ x
+  unfolding settle settle-by moved is-done
+  settles-settle zero s h = absurd (omega arith)
+  settles-settle (suc f) (holds g) h = rw g
+  settles-settle (suc f) (ends g e) h = rw (g, e)
+  settles-settle (suc f) {m} (refuses g e) h =
+      settle-moves p m (λ m′. settle p f m′) g (λ d. let a = done-stuck p m d in let z : _≡_ {A = ℕ} 0 1 = cc in omega arith) ∙ ap (λ o. moved (λ m′. settle p f m′) m o) e
+  settles-settle (suc f) {m} (sticks g n e) h = settle-moves p m (λ m′. settle p f m′) g n ∙ ap (λ o. moved (λ m′. settle p f m′) m o) e
+  settles-settle (suc f) {m} (moves g e s) h =
+      let (a, b) = move-falls p B m (h .0) e in
+      settle-moves p m (λ m′. settle p f m′) g (λ d. let a = done-stuck p m d in let z : _≡_ {A = ℕ} 0 1 = cc in omega arith)
+      ∙ ap (λ o. moved (λ m′. settle p f m′) m o) e
+      ∙ settles-settle f s (b, omega arith)
+
+passages-bounded : (B : ℕ) (b : List Bool) → passages B b ≤ length b * suc B
+unfolding passages
+passages-bounded B [] = omega arith
+passages-bounded B (true ∷ b) = omega (arith, passages-bounded B b)
+passages-bounded B (false ∷ b) = omega (arith, passages-bounded B b)
+
+-- the fuel of a run is enough
+pub fuel-suffices : (m : Machine) → Enough (bound (m .sched)) (fuel m) m
+unfolding fuel measure
+fuel-suffices m = (omega arith, omega (arith, passages-bounded (bound (m .sched)) (m .stability)))
+
+module _ (p : Program) where
+  -- the moves of a run lead where they lead without fuel
+  pub fuel-settles : (m : Machine) → Settles p m (settle p (fuel m) m)
+  fuel-settles m = settle-settles p (bound (m .sched)) (fuel m) m (fuel-suffices m)
+
+  -- what the moves lead to, a run has
+  pub settled : {m : Machine} {x : Settled} → Settles p m x → settle p (fuel m) m ≡ x
+  settled {m} s = settles-settle p (bound (m .sched)) (fuel m) s (fuel-suffices m)
+
+  -- more fuel changes nothing
+  pub fuel-enough : (m : Machine) (f : ℕ) → fuel m ≤ f → settle p f m ≡ settle p (fuel m) m
+  fuel-enough m f h =
+      let (a, b) = fuel-suffices m in settles-settle p (bound (m .sched)) f (fuel-settles m) (a, omega arith)
+
+  jams-stuck : {m : Machine} {x : Settled} → Settles p m x → x ≡ stop jammed
+      → (n : ℕ) × (m′ : Machine) × (Moved p n m m′) × (holders m′ ≡ []) × (m′ .sched ≡ done → ⊥) × (move p m′ ≡ stuck)
+  jams-stuck (holds g) e = let z : _≡_ {A = ℕ} 0 1 = cc in absurd (omega arith)
+  jams-stuck (ends g d) e = let z : _≡_ {A = ℕ} 0 1 = cc in absurd (omega arith)
+  jams-stuck (refuses g r) e = let z : _≡_ {A = ℕ} 0 1 = cc in absurd (omega arith)
+  jams-stuck {m} (sticks g n q) e = (0, m, unmoved, g, n, q)
+  jams-stuck (moves g q s) e = let (n, m′, a, b, c, d) = jams-stuck s e in (suc n, m′, moved-on q a, b, c, d)
+
+  -- fuel is not the reason of `jammed`: after some moves nobody holds commands, the schedule is not empty, and no rule moves it
+  pub settle-jammed : (m : Machine) → settle p (fuel m) m ≡ stop jammed
+      → (n : ℕ) × (m′ : Machine) × (Moved p n m m′) × (holders m′ ≡ []) × (m′ .sched ≡ done → ⊥) × (move p m′ ≡ stuck)
+  settle-jammed m e = jams-stuck (fuel-settles m) e
+
+-- The whole run --------------------------------------------------------------------
+
+  -- a way F to go on from where the moves lead
+  settles-ran : {m : Machine} {x : Settled} → Settles p m x → (es : List ℕ) (F : Settled → Outcome) → ((o : Outcome) → F (stop o) ≡ o)
+      → ((z : Machine) (h : ℕ) (hs : List ℕ) → holders z ≡ h ∷ hs → Ran p z es (F (hold z h hs))) → Ran p m es (F x)
+  settles-ran (holds {m = m} {h = h} {hs = hs} g) es F s k = k m h hs g
+  settles-ran (ends {m = m} g d) es F s k = rw (s (stopped ended 0 m)) (ends g d)
+  settles-ran (refuses {m = m} {n = n} g r) es F s k = rw (s (stopped n 0 m)) (refuses g r)
+  settles-ran (sticks g n q) es F s k = rw (s jammed) (sticks g n q)
+  settles-ran (moves g q x) es F s k = moves g q (settles-ran x es F s k)
+
+  by-command : (es : List ℕ) (e : ℕ) (z : Machine) {h : ℕ} {hs : List ℕ} → ((m : Machine) → Ran p m es (run p m es)) → holders z ≡ h ∷ hs
+      → (o : Out) → command p (chosen (h ∷ hs) e) z ≡ o → Ran p z (e ∷ es) (taken (λ m. run p m es) z o)
+  unfolding taken
+  by-command es e z r g (next m) c = takes g c (r m) refl
+  by-command es e z r g (refused n) c = fails g c
+  by-command es e z r g stuck c = jams g c
+
+  -- a run does what it does without fuel
+  pub run-ran : (es : List ℕ) (m : Machine) → Ran p m es (run p m es)
+  unfolding run at-last turn
+  run-ran [] m = settles-ran (fuel-settles m) [] at-last (λ o. refl) (λ z h hs g. lasts g)
+  run-ran (e ∷ es) m =
+      settles-ran (fuel-settles m) (e ∷ es) (turn (λ m′. run p m′ es) p e) (λ o. refl)
+      λ z h hs g. by-command es e z (λ m′. run-ran es m′) g (command p (chosen (h ∷ hs) e) z) refl
+
+  -- moves that lead to an outcome are the whole run
+  run-stop : (es : List ℕ) {m : Machine} {o : Outcome} → Settles p m (stop o) → run p m es ≡ o
+  unfolding run at-last turn
+  run-stop [] s = ap at-last (settled s)
+  run-stop (e ∷ es) s = ap (turn (λ m′. run p m′ es) p e) (settled s)
+
+  -- a move where nobody holds commands leaves the run to the next machine
+  pub run-moves : (es : List ℕ) (m : Machine) {m′ : Machine} → holders m ≡ [] → move p m ≡ next m′ → run p m es ≡ run p m′ es
+  unfolding run
+  run-moves [] m {m′} g q = ap at-last (settled (moves g q (fuel-settles m′)))
+  run-moves (e ∷ es) m {m′} g q = ap (turn (λ z. run p z es) p e) (settled (moves g q (fuel-settles m′)))
+
+  -- a turn
+  run-turn : (e : ℕ) (es : List ℕ) (m : Machine) {h : ℕ} {hs : List ℕ} {o : Out} → holders m ≡ h ∷ hs → command p (chosen (h ∷ hs) e) m ≡ o
+      → run p m (e ∷ es) ≡ taken (λ m′. run p m′ es) m o
+  unfolding run turn
+  run-turn e es m g c = ap (turn (λ m′. run p m′ es) p e) (settled (holds g)) ∙ ap (taken (λ m′. run p m′ es) m) c
+
+  -- what it does without fuel, a run does
+  pub ran-run : {m : Machine} {es : List ℕ} {o : Outcome} → Ran p m es o → run p m es ≡ o
+  unfolding run at-last taken
+  ran-run {es = es} (ends g d) = run-stop es (ends g d)
+  ran-run {es = es} (refuses g r) = run-stop es (refuses g r)
+  ran-run {es = es} (sticks g n q) = run-stop es (sticks g n q)
+  ran-run {m} {es} (moves g q r) = run-moves es m g q ∙ ran-run r
+  ran-run (lasts g) = ap at-last (settled (holds g))
+  ran-run {m} (fails {e = e} {es = es} g c) = run-turn e es m g c
+  ran-run {m} (jams {e = e} {es = es} g c) = run-turn e es m g c
+  ran-run {m} (takes {e = e} {es = es} g c r q) = run-turn e es m g c ∙ ap later (ran-run r) ∙ sym q
