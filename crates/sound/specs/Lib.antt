@@ -1,2 +1,4 @@
 pub mod Tags
 pub mod Needs
+pub mod Invariant
+pub mod Keeps
