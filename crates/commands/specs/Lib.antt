@@ -12,3 +12,14 @@ pub mod Sizes
 pub mod SizeLaws
 pub mod DepthLaws
 pub mod Rows
+pub mod Decide
+pub mod DecideLaws
+pub mod NamesDecide
+pub mod NamesDecideLaws
+pub mod TypingDecide
+pub mod TypingDecideLaws
+pub mod BoundsDecide
+pub mod BoundsDecideLaws
+pub mod Numbers
+pub mod NumbersLaws
+pub mod NumberRows
