@@ -2,3 +2,10 @@ pub mod Tags
 pub mod Needs
 pub mod Invariant
 pub mod Keeps
+pub mod SafeLaws
+pub mod Locals
+pub mod LocalsLaws
+pub mod Compiled
+pub mod Static
+pub mod Steps
+pub mod Heights

@@ -1,0 +1,61 @@
+-- What holds of each step of a program, found by its struct and name (01, numbers 7 and 8; 'Names, types, commands').
+use Prim.Native.Nat.{ℕ, zero, suc, _+_, _≤_}
+use native.Mathlib.Omega.{arith}
+use native.Mathlib.Nat.{suc-add, add-suc, zero-add, add-zero}
+use mathlib.Core.Path.{_≡_, refl, sym}
+use mathlib.Core.Bool.{Bool, true, false}
+use mathlib.Core.Option.{Option, none, some}
+use mathlib.Core.List.{List, [], _∷_, List·Memᴰ, List·Memᴰ·head, List·Memᴰ·tail, List·Memᴰ·not-nil}
+use lib.ListN.{length, getD}
+use lib.Dec.{eqb}
+use Rattle.program.specs.Tree.{Stmts, Step, Program}
+use Rattle.program.specs.Counts.{All}
+use Rattle.commands.specs.Context.{params-of, context}
+use Rattle.commands.specs.Names.{Named, NamedSteps, NamesRight}
+use Rattle.commands.specs.Typing.{Typed, TypedSteps, TypesRight}
+use Rattle.commands.specs.Noted.{noted}
+use Rattle.commands.specs.Bounds.{greatest, step-depth, program-depth}
+use Rattle.machine.specs.Published.{find-step, step-of}
+use Rattle.sound.specs.Tags.{at-start, Safe}
+use Rattle.sound.specs.Static.{static-step}
+
+-- what holds of all holds of each
+pub of-each : {A : Type 0} (C : A → Type 0) {a : A} {l : List A} → All C l → List·Memᴰ a l → C a
+of-each C c (List·Memᴰ·head e) = rw e (c .0)
+of-each C c (List·Memᴰ·tail m) = of-each C (c .1) m
+
+-- where P holds of the steps of each struct, counted from j on, it holds of those of struct j + k
+each-step : (P : ℕ → Step → Type 0) (Q : ℕ → List (List Step) → Type 0)
+    → ((j : ℕ) (ts : List Step) (tss : List (List Step)) → Q j (ts ∷ tss) → All (P j) ts × Q (suc j) tss)
+    → (j : ℕ) (tss : List (List Step)) (k : ℕ) {t : Step} → Q j tss → List·Memᴰ t (getD tss k []) → P (j + k) t
+each-step P Q take j [] k q m = absurd (List·Memᴰ·not-nil m)
+each-step P Q take j (ts ∷ tss) zero q m = rw add-zero (of-each (P j) (take j ts tss q .0) m)
+each-step P Q take j (ts ∷ tss) (suc k) {t = t} q m =
+    rw (add-suc, ← suc-add) (each-step P Q take (suc j) tss k (take j ts tss q .1) m)
+
+-- a step that is found is one of the steps
+pub found : (ts : List Step) (n : ℕ) {b : Stmts} → find-step ts n ≡ some b → (t : Step) × List·Memᴰ t ts × (t .body ≡ b)
+unfolding find-step
+found [] n e = let z : _≡_ {A = ℕ} 0 1 = cc in absurd (omega arith)
+found (t ∷ ts) n {b = b} e = go (eqb (t .name) n) e (λ e. found ts n e)
+  where
+    go : (q : Bool) → elim q [ true ↦ some (t .body) | false ↦ find-step ts n ] ≡ some b
+        → (find-step ts n ≡ some b → (u : Step) × List·Memᴰ u ts × (u .body ≡ b))
+        → (u : Step) × List·Memᴰ u (t ∷ ts) × (u .body ≡ b)
+    go true e k = (t, List·Memᴰ·head refl, cc)
+    go false e k = let (u, m, q) = k e in (u, List·Memᴰ·tail m, q)
+
+module _ (p : Program) (names : NamesRight p) (types : TypesRight p) (k : ℕ) where
+  -- every step of a program with right names and types is safe on every way
+  pub program-safe : (t : Step) → List·Memᴰ t (getD (p .steps) k [])
+      → Safe (context p k (t .body)) (noted (context p k (t .body)) (t .body)) at-start
+  unfolding NamesRight TypesRight
+  program-safe t m =
+      let d = each-step (λ j t. Typed (context p j (t .body)) (t .body)) (TypedSteps p) (λ j ts tss q. q) 0 (p .steps) k types m in
+      let n =
+        each-step (λ j t. Named (t .body) (length (params-of p j)) [] []) (NamedSteps p) (λ j ts tss q. (q .1, q .2)) 0 (p .steps) k (names .0) m in
+      static-step p k (t .body) (rw zero-add at d) (rw zero-add at n)
+
+  -- so are the commands that the step n of struct k gives its instances
+  pub step-safe : (n : ℕ) {b : Stmts} → step-of p k n ≡ some b → Safe (context p k b) (noted (context p k b) b) at-start
+  step-safe n e = let (t, m, q) = found (getD (p .steps) k []) n e in rw q at (program-safe t m)
