@@ -9,7 +9,6 @@ use mathlib.Core.List.{List, [], _∷_, _++_}
 use lib.ListN.{length, getElem?, set}
 use Rattle.types.specs.Types.{Ty, Ty.int, Ty.nat, Ty.bool, Ty.ref}
 use Rattle.types.specs.Values.{Val, Val.int-val, Val.nat-val, Val.bool-val, Val.label}
-use Rattle.table.specs.Table.{Each}
 use Rattle.machine.specs.Published.{Env}
 use Rattle.machine.specs.Machine.{Tagged, Instance, with-env, update-env}
 use Rattle.sound.specs.Needs.{Of}
@@ -118,10 +117,3 @@ module _ {is js : List Instance} (k : Keeps is js) where
 
   pub fits-kept : (t : Ty) (x : Tagged) → Fits is t x → Fits js t x
   fits-kept t x f = (f .0, of-kept t (x .is) (f .1))
-
--- what holds of each pair and follows from another
-pub each-map : {A : Type 0} {P Q : Ty → A → Type 0} → ((t : Ty) (x : A) → P t x → Q t x) → (ts : List Ty) (xs : List A) → Each P ts xs → Each Q ts xs
-each-map f [] [] e = tt
-each-map f [] (x ∷ xs) e = absurd e
-each-map f (t ∷ ts) [] e = absurd e
-each-map f (t ∷ ts) (x ∷ xs) e = (f t x (e .0), each-map f ts xs (e .1))

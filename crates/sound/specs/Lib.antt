@@ -2,6 +2,14 @@ pub mod Tags
 pub mod Needs
 pub mod Invariant
 pub mod Keeps
+pub mod EachLaws
+pub mod GoodLaws
+pub mod Sized
+pub mod SizedLaws
+pub mod Accepted
+pub mod AcceptedLaws
+pub mod PassageLaws
+pub mod ReadyLaws
 pub mod SafeLaws
 pub mod Locals
 pub mod LocalsLaws
