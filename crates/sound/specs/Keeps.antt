@@ -48,6 +48,11 @@ module _ {A : Type 0} where
   at-snoc (x ∷ l) b zero a e = inl e
   at-snoc (x ∷ l) b (suc n) a e = ⊎-elim (λ h. inl h) (λ h. inr (ap suc (h .0), h .1)) (at-snoc l b n a e)
 
+  -- the one more
+  pub at-last : (l : List A) (b : A) → getElem? (l ++ b ∷ []) (length l) ≡ some b
+  at-last [] b = refl
+  at-last (x ∷ l) b = at-last l b
+
 -- the environment of the instance at a place changed
 pub at-env-same : (is : List Instance) (n : ℕ) (ξ : Env) (i : Instance) → getElem? is n ≡ some i
     → getElem? (update-env is n ξ) n ≡ some (with-env i ξ)
@@ -63,6 +68,13 @@ at-env-other (x ∷ is) zero zero ξ h = absurd (h refl)
 at-env-other (x ∷ is) zero (suc k) ξ h = refl
 at-env-other (x ∷ is) (suc n) zero ξ h = refl
 at-env-other (x ∷ is) (suc n) (suc k) ξ h = at-env-other is n k ξ (λ e. h (ap suc e))
+
+-- of the instance put there
+pub env-set : (is : List Instance) (n : ℕ) (ξ : Env) (i : Instance) → update-env (set is n i) n ξ ≡ set is n (with-env i ξ)
+unfolding update-env
+env-set [] n ξ i = refl
+env-set (x ∷ is) zero ξ i = refl
+env-set (x ∷ is) (suc n) ξ i = ap (λ js. x ∷ js) (env-set is n ξ i)
 
 -- every instance of the first is in the second, with its struct
 pub record Keeps (is js : List Instance) : Type 0 where

@@ -10,6 +10,13 @@ pub mod Accepted
 pub mod AcceptedLaws
 pub mod PassageLaws
 pub mod ReadyLaws
+pub mod Conditions
+pub mod Outcomes
+pub mod EnvLaws
+pub mod Advance
+pub mod WriteKept
+pub mod ConsKept
+pub mod CommandKept
 pub mod SafeLaws
 pub mod Locals
 pub mod LocalsLaws

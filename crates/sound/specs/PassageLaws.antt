@@ -55,7 +55,7 @@ module _ {p : Program} {is : List Instance} {l : ℕ} {i : Instance} (g : Passag
   local-value x h = g .locals x (rw (g .wrote) h)
 
   module _ (firm : Firm p) (n : Note) (c : List Note) (e : i .code ≡ n ∷ c) where
-    way-at : Way ctx (noted ctx (g .body)) at-start (n ∷ c) (g .place)
+    pub way-at : Way ctx (noted ctx (g .body)) at-start (n ∷ c) (g .place)
     way-at = rw e at (g .way)
 
     -- its next command finds what it asks for, and carries what is in its range
