@@ -6,30 +6,33 @@ use mathlib.Core.Bool.{Bool, true, false, not, false≢true}
 use mathlib.Core.Option.{Option, none, some}
 use mathlib.Core.List.{List, [], _∷_, _++_, map, reverse, List·Memᴰ}
 use lib.ListN.{length, getD, getElem?, set, drop, length-reverse}
+use lib.Seq.{drop-at}
 use lib.Dec.{ltb}
 use borrow.Author.Tests.{lt-ltb, le-ltb, ltb-true, ltb-false}
 use Rattle.types.specs.Limits.{max-instances, first-local}
 use Rattle.types.specs.Types.{Ty, Ty.int, Ty.nat, Ty.bool, Ty.ref}
 use Rattle.types.specs.Values.{Val, Val.int-val, Val.nat-val, Val.bool-val, Val.label}
 use Rattle.program.specs.Tree.{Op, Program}
-use Rattle.commands.specs.Context.{params-of, typ}
-use Rattle.commands.specs.Typing.{Sort, sort, Takes, Takes.any-equal, Takes.order-int, Takes.order-nat, Takes.arith-int, Takes.arith-nat, Takes.logic-bool}
+use Rattle.commands.specs.Context.{Ctx, params-of, typ}
+use Rattle.commands.specs.Typing.{sort, Takes}
 use Rattle.commands.specs.Noted.{Note, Note.n-push, Note.n-this, Note.n-not, Note.n-rd, Note.n-wr, Note.n-get, Note.n-set, Note.n-cons, Note.n-op, Note.n-if, noted}
 use Rattle.table.specs.Table.{Each}
 use Rattle.words.specs.Apply.{Answer, Answer.value, Answer.outside, Answer.unfit, apply}
 use Rattle.words.specs.ApplyLaws.{apply-outside}
-use Rattle.words.specs.Ranges.{Of as Range, Of.of-int, Of.of-nat, Of.of-bool, Of.of-ref, Fits as Answers}
+use Rattle.words.specs.Ranges.{Fits as Answers}
 use Rattle.words.specs.RangesLaws.{apply-fits}
 use Rattle.machine.specs.Published.{structs, arity}
-use Rattle.machine.specs.Machine.{Tagged, tagged, Instance, Machine, with-code, with-written, put, now-written, result-type, write-to, operated, perform}
-use Rattle.sound.specs.Tags.{Top, stack-after, next as leads, at-start, Way, Way.on, Way.over}
+use Rattle.machine.specs.Machine.{Tagged, tagged, Instance, Machine, with-code, with-written, put, now-written, result-type, write-to, operated, perform, command-of, command-at, command}
+use Rattle.run.specs.Begin.{resting}
+use Rattle.sound.specs.Tags.{Tags, Top, Asks, stack-after, next as leads, at-start, Way, Way.on, Way.over}
 use Rattle.sound.specs.Needs.{Of}
-use Rattle.sound.specs.Invariant.{Fits, Passage, Good}
+use Rattle.sound.specs.Invariant.{Fits, Passage, Place, Place.resting as rests, Place.passing, Good}
 use Rattle.sound.specs.Keeps.{of-kept, fits-kept}
 use Rattle.sound.specs.EachLaws.{each-length, each-map, each-of-map, each-reverse}
 use Rattle.sound.specs.EnvLaws.{param-holds}
 use Rattle.sound.specs.Static.{result-of}
 use Rattle.sound.specs.SizedLaws.{lasting-of}
+use Rattle.sound.specs.ValueLaws.{bool-value, label-value, ranges, result-of-type}
 use Rattle.sound.specs.Accepted.{Firm}
 use Rattle.sound.specs.PassageLaws.{ctx, tops, top-one, top-two, own-top, local-value, asks, next-sized, way-at}
 use Rattle.sound.specs.Conditions.{Meets, Meets.no-label, Meets.no-result}
@@ -38,51 +41,15 @@ use Rattle.sound.specs.Advance.{Kept, after, advance, locals-kept, good-
 use Rattle.sound.specs.WriteKept.{param-kept, local-kept-good}
 use Rattle.sound.specs.ConsKept.{cons-keeps, new-label, cons-kept}
 
--- Values of a type -----------------------------------------------------------------
+-- whichever a test says
+either : {A : Type 0} (t : Bool) {u : Bool} → u ≡ t → (u ≡ true → A) → (u ≡ false → A) → A
+either true e f h = f e
+either false e f h = h e
 
-module _ (is : List Instance) where
-  -- a value of Bool is a truth, one of a struct is a label
-  bool-value : (v : Val) → Of is bool v → (b : Bool) × (v ≡ bool-val b)
-  bool-value (int-val z) o = absurd o
-  bool-value (nat-val n) o = absurd o
-  bool-value (bool-val b) o = (b, refl)
-  bool-value (label l) o = absurd o
-
-  label-value : (k : ℕ) (v : Val) → Of is (ref k) v → (r : ℕ) × (v ≡ label r) × (j : Instance) × (getElem? is r ≡ some j) × (j .struct ≡ k)
-  label-value k (int-val z) o = absurd o
-  label-value k (nat-val n) o = absurd o
-  label-value k (bool-val b) o = absurd o
-  label-value k (label r) o = (r, refl, o .0, o .1, o .2)
-
-  -- within its range
-  ranges : (t : Ty) (v : Val) → Of is t v → Range t v
-  ranges int (int-val z) o = of-int o
-  ranges int (nat-val n) o = absurd o
-  ranges int (bool-val b) o = absurd o
-  ranges int (label l) o = absurd o
-  ranges nat (int-val z) o = absurd o
-  ranges nat (nat-val n) o = of-nat o
-  ranges nat (bool-val b) o = absurd o
-  ranges nat (label l) o = absurd o
-  ranges bool (int-val z) o = absurd o
-  ranges bool (nat-val n) o = absurd o
-  ranges bool (bool-val b) o = of-bool
-  ranges bool (label l) o = absurd o
-  ranges (ref k) (int-val z) o = absurd o
-  ranges (ref k) (nat-val n) o = absurd o
-  ranges (ref k) (bool-val b) o = absurd o
-  ranges (ref k) (label l) o = of-ref
-
-  -- an operator's result, which is no label
-  result-of-type : {s : Sort} {t u : Ty} {v : Val} → Takes s t u → Range u v → Of is u v
-  result-of-type any-equal of-bool = tt
-  result-of-type order-int of-bool = tt
-  result-of-type order-nat of-bool = tt
-  result-of-type arith-int (of-int h) = h
-  result-of-type arith-nat (of-nat h) = h
-  result-of-type logic-bool of-bool = tt
-
--- Each command ----------------------------------------------------------------------
+-- what a local's wr asks, the declaration's or another
+set-asks : (G : Ctx) (d : Bool) (t : Ty) (v : ℕ) (x : Tags) → Asks G (n-set d t v) x → (x .fresh ≡ true) × (t ≡ G .local v) × Top (ref (G .own) ∷ t ∷ []) x
+set-asks G true t v x a = a
+set-asks G false t v x a = (a .0, a .1, a .3)
 
 module _ {p : Program} (firm : Firm p) {m : Machine} (good : Good p m) (l : ℕ) (i : Instance) (at : getElem? (m .instances) l ≡ some i)
   (g : Passage p (m .instances) l i) (c : List Note) where
@@ -98,7 +65,7 @@ module _ {p : Program} (firm : Firm p) {m : Machine} (good : Good p m) (l : ℕ)
   unfolding perform now-written
   pushes t v e =
       goes-on good l i at (n-push t v) c (tagged t v ∷ i .stack) g (on (way-at g firm (n-push t v) c e)) refl refl (t ∷ g .place .stack) refl
-      ((refl, lasting-of (good .all) (next-sized g firm (n-push t v) c e)), g .stacked)
+      ((refl, lasting-of p (m .instances) (good .all .nulls) (next-sized g firm (n-push t v) c e)), g .stacked)
 
   pushes-this : Goes n-this
   unfolding perform now-written
@@ -182,13 +149,101 @@ module _ {p : Program} (firm : Firm p) {m : Machine} (good : Good p m) (l : ℕ)
       let (z, z′, o) =
         param-holds (m .instances) (params-of p (j .struct)) (firm .few (j .struct)) v b′ (j .env) (good .all .each t j at′ .fitted) in
       let below = lt-ltb v (arity p (j .struct)) b′ in
-      go (ltb t (structs p)) refl
+      either (ltb t (structs p)) refl
         (λ null. subst (Kept p (Meets m i)) (sym (leaves-null p m l (acting n) c v s′ at′ below null)) own)
         (λ other.
           subst (Kept p (Meets m i)) (sym (writes-param p m l (acting n) c v s′ at′ below other z′))
           (param-kept firm m l i at (after i n c χ (i .env)) refl refl own t j at′ v (x .is) _ b′
           (subst (λ d. Of (m .instances) (getD (params-of p d) v int) (x .is)) (sym w) (f′ .1))))
+
+  writes-own : (d : Bool) (t : Ty) (v : ℕ) → Goes (n-set d t v)
+  unfolding perform write-to
+  writes-own d t v e =
+      let n = n-set d t v in
+      let (u, b, (h, a)) = set-asks (ctx g) d t v (g .place) (asks g firm n c e) in
+      let (y, x, χ, s, f, f′, r) = top-two g (ref (i .struct)) t (h, a) in
+      let s′ = s ∙ ap (λ u. tagged (y .by) u ∷ x ∷ χ) (own-top g u y (x ∷ χ) s) in
+      let few = firm .few (i .struct) in
+      let beyond = le-ltb (first-local + v) (arity p (i .struct)) (omega arith) in
+      subst (Kept p (Meets m i)) (sym (writes-local p m l (acting n) c (first-local + v) s′ at beyond))
+      (local-kept-good firm m l i at good g d t v (next-sized g firm n c e) b c (on (way-at g firm n c e)) h (ap (stack-after (ctx g) n) a) χ r (x .is) _
+      (f′ .1))
+
+  constructs-one : (k : ℕ) → Goes (n-cons k)
+  unfolding perform now-written
+  constructs-one k e =
+      let n = n-cons k in
+      let (h, a) = asks g firm n c e in
+      let ps = params-of p k in
+      let (ξ, χ, s, f, r) = tops g (reverse ps) (h, a) in
+      let size : length ξ ≡ arity p k = each-length (Fits (m .instances)) (reverse ps) ξ f ∙ length-reverse ps in
+      let vs = reverse (map (λ x. x .is) ξ) in
+      let ψ = tagged (ref k) (label (length (m .instances))) ∷ χ in
+      let keeps = cons-keeps good l i at n c ψ k vs in
+      let js = set (m .instances) l (after i n c ψ (i .env)) ++ resting k vs ∷ [] in
+      either (ltb (length (m .instances)) max-instances) refl
+        (λ q.
+          subst (Kept p (Meets m i)) (sym (constructs p m l (acting n) c k ξ χ s size q))
+          (cons-kept good l i at n c ψ k vs
+          (each-reverse (Of js) ps (map (λ x. x .is) ξ)
+          (each-of-map (Of js) (λ x. x .is) (reverse ps) ξ (each-map (λ t x z. of-kept keeps t (x .is) (z .1)) (reverse ps) ξ f)))
+          (advance g n (on (way-at g firm n c e)) js (ref k ∷ h)
+          (ap (stack-after (ctx g) n) a ∙ ap (λ r. ref k ∷ r) (drop-at (reverse ps) h (length ps) (length-reverse ps)))
+          ψ
+          ((refl, new-label good l i at n c ψ k vs), each-map (fits-kept keeps) h χ r)
+          (λ q. absurd (false≢true q))
+          (i .env)
+          (locals-kept g keeps refl))))
+        (λ q. subst (Kept p (Meets m i)) (sym (finds-full p m l (acting n) c k ξ χ s size q)) (no-label e (ltb-false (length (m .instances)) max-instances q)))
+
+  operates-on : (o : Op) → Goes (n-op o)
+  unfolding perform now-written operated
+  operates-on o e =
+      let n = n-op o in
+      let (t, u, k, (h, a)) = asks g firm n c e in
+      let (y, x, χ, s, f, f′, r) = top-two g t t (h, a) in
+      subst (Kept p (Meets m i)) (sym (operates p m l (acting n) c o s))
+      (go t u k h a y x χ s (f′ .0) r (apply o (x .is) (y .is)) refl
+      (apply-fits o k (ranges (m .instances) t (x .is) (f′ .1)) (ranges (m .instances) t (y .is) (f .1))))
     where
-      go : {A : Type 0} (t : Bool) {u : Bool} → u ≡ t → (u ≡ true → A) → (u ≡ false → A) → A
-      go true e f h = f e
-      go false e f h = h e
+      go : (t u : Ty) → Takes (sort o) t u → (h : List Ty) → g .place .stack ≡ t ∷ t ∷ h → (y x : Tagged) (χ : List Tagged) → i .stack ≡ y ∷ x ∷ χ
+          → x .by ≡ t
+          → Each (Fits (m .instances)) h χ
+          → (w : Answer) → apply o (x .is) (y .is) ≡ w → Answers u w
+          → Kept p (Meets m i) (operated p m l (acting (n-op o)) c χ (result-type (sort o) (x .by)) w)
+      go t u k h a y x χ s b r (value v) q z =
+          goes-on good l i at (n-op o) c (tagged (result-type (sort o) (x .by)) v ∷ χ) g (on (way-at g firm (n-op o) c e)) refl refl
+          (result-type (sort o) t ∷ h)
+          (ap (stack-after (ctx g) (n-op o)) a)
+          ((ap (result-type (sort o)) b, subst (λ d. Of (m .instances) d v) (result-of k) (result-of-type (m .instances) k z)), r)
+      go t u k h a y x χ s b r outside q z = no-result e s (apply-outside o (x .is) (y .is) .0 q)
+      go t u k h a y x χ s b r unfit q z = absurd z
+
+  -- each comes to a good machine or meets its condition
+  takes : (n : Note) → Goes n
+  takes (n-push t v) = pushes t v
+  takes n-this = pushes-this
+  takes n-not = negates
+  takes (n-rd k v) = reads-param k v
+  takes (n-wr k v) = writes k v
+  takes (n-get t v) = reads-local t v
+  takes (n-set d t v) = writes-own d t v
+  takes (n-cons k) = constructs-one k
+  takes (n-op o) = operates-on o
+  takes (n-if n) = branches n
+
+-- the instance at l takes its next command
+pub commanded : (p : Program) (m : Machine) (l : ℕ) (i : Instance) (n : Note) (c : List Note) → getElem? (m .instances) l ≡ some i → i .code ≡ n ∷ c
+    → command p l m ≡ perform p m l (with-written i (now-written n (i .written))) n c
+unfolding command command-at command-of
+commanded p m l i n c at e = ap (command-at p m l) at ∙ ap (command-of p m l i) e
+
+-- a command of a holder keeps the invariant, or meets the condition of its number
+pub command-kept : {p : Program} → Firm p → {m : Machine} → Good p m → (l : ℕ) (i : Instance) → getElem? (m .instances) l ≡ some i
+    → (n : Note) (c : List Note) → i .code ≡ n ∷ c
+    → Kept p (Meets m i) (command p l m)
+command-kept {p} firm {m} good l i at n c e = subst (Kept p (Meets m i)) (sym (commanded p m l i n c at e)) (go (good .all .each l i at .place))
+  where
+    go : Place p (m .instances) l i → Kept p (Meets m i) (perform p m l (with-written i (now-written n (i .written))) n c)
+    go (rests q χ) = let z : _≡_ {A = ℕ} 0 1 = cc in absurd (omega arith)
+    go (passing g) = takes firm good l i at g c n e

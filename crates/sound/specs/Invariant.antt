@@ -65,9 +65,13 @@ pub data Open : Sched → ℕ → Type 0 where
   open-fix : {k : ℕ} {f s : Sched} → Unbegun f → Open s k → Open (fixpoint f s) k
   open-active : {k : ℕ} {f s : Sched} → Unbegun f → Open s k → Open (active f s) (suc k)
 
--- of all instances: the null instance of each struct is there, and each is good
+-- the null instance of each struct is there
+abbrev pub Nulls : Program → List Instance → Type 0
+Nulls p is = (k : ℕ) → k < structs p → (i : Instance) × (getElem? is k ≡ some i) × (i .struct ≡ k)
+
+-- of all instances
 pub record GoodAll (p : Program) (is : List Instance) : Type 0 where
-  pub nulls : (k : ℕ) → k < structs p → (i : Instance) × (getElem? is k ≡ some i) × (i .struct ≡ k)
+  pub nulls : Nulls p is
   pub each : (l : ℕ) (i : Instance) → getElem? is l ≡ some i → GoodInst p is l i
 
 pub record Good (p : Program) (m : Machine) : Type 0 where

@@ -1,11 +1,12 @@
 -- Instances never change their struct and never go: what is of a type stays so.
-use Prim.Native.Nat.{ℕ, zero, suc, _+_, _<_}
+use Prim.Native.Nat.{ℕ, zero, suc, _-_, _≤_}
 use native.Mathlib.Omega.{arith}
+use native.Mathlib.Nat.{sub-zero, suc-sub-suc}
 use native.Mathlib.Decide.{ℕ-discrete}
 use mathlib.Core.Path.{_≡_, refl, sym, ap, _∙_}
 use mathlib.Core.Option.{Option, none, some}
 use mathlib.Core.Logic.{_⊎_, inl, inr, ⊎-elim}
-use mathlib.Core.List.{List, [], _∷_, _++_}
+use mathlib.Core.List.{List, [], _∷_, _++_, map}
 use lib.ListN.{length, getElem?, set}
 use Rattle.types.specs.Types.{Ty, Ty.int, Ty.nat, Ty.bool, Ty.ref}
 use Rattle.types.specs.Values.{Val, Val.int-val, Val.nat-val, Val.bool-val, Val.label}
@@ -48,10 +49,34 @@ module _ {A : Type 0} where
   at-snoc (x ∷ l) b zero a e = inl e
   at-snoc (x ∷ l) b (suc n) a e = ⊎-elim (λ h. inl h) (λ h. inr (ap suc (h .0), h .1)) (at-snoc l b n a e)
 
+  -- an element of two lists joined
+  pub at-joined : (l r : List A) (n : ℕ) (a : A) → getElem? (l ++ r) n ≡ some a
+      → (getElem? l n ≡ some a) ⊎ ((length l ≤ n) × (getElem? r (n - length l) ≡ some a))
+  at-joined [] r n a e = inr (omega arith, rw (sub-zero n) e)
+  at-joined (x ∷ l) r zero a e = inl e
+  at-joined (x ∷ l) r (suc n) a e = ⊎-elim (λ h. inl h) (λ h. inr (let q = h .0 in omega arith, rw (suc-sub-suc n (length l)) (h .1))) (at-joined l r n a e)
+
+  pub at-behind : (l r : List A) (n : ℕ) → length l ≤ n → getElem? (l ++ r) n ≡ getElem? r (n - length l)
+  at-behind [] r n h = rw (sub-zero n)
+  at-behind (x ∷ l) r zero h = absurd (omega arith)
+  at-behind (x ∷ l) r (suc n) h = rw (suc-sub-suc n (length l)) (at-behind l r n (omega arith))
+
   -- the one more
   pub at-last : (l : List A) (b : A) → getElem? (l ++ b ∷ []) (length l) ≡ some b
   at-last [] b = refl
   at-last (x ∷ l) b = at-last l b
+
+-- the element at a place of a mapped list
+module _ {A B : Type 0} (f : A → B) where
+  pub at-map : (l : List A) (n : ℕ) (a : A) → getElem? l n ≡ some a → getElem? (map f l) n ≡ some (f a)
+  at-map [] n a e = none-some e
+  at-map (x ∷ l) zero a e = ap (λ y. some (f y)) (some-is e)
+  at-map (x ∷ l) (suc n) a e = at-map l n a e
+
+  pub map-at : (l : List A) (n : ℕ) (b : B) → getElem? (map f l) n ≡ some b → (a : A) × (getElem? l n ≡ some a) × (f a ≡ b)
+  map-at [] n b e = none-some e
+  map-at (x ∷ l) zero b e = (x, refl, some-is e)
+  map-at (x ∷ l) (suc n) b e = map-at l n b e
 
 -- the environment of the instance at a place changed
 pub at-env-same : (is : List Instance) (n : ℕ) (ξ : Env) (i : Instance) → getElem? is n ≡ some i

@@ -16,7 +16,15 @@ pub mod EnvLaws
 pub mod Advance
 pub mod WriteKept
 pub mod ConsKept
+pub mod ValueLaws
 pub mod CommandKept
+pub mod MoveKept
+pub mod BeginGood
+pub mod FuelLaws
+pub mod HolderLaws
+pub mod ConditionLaws
+pub mod NeverStuck
+pub mod NeverStuckLaws
 pub mod SafeLaws
 pub mod Locals
 pub mod LocalsLaws

@@ -19,15 +19,15 @@ use Rattle.machine.specs.Published.{structs}
 use Rattle.machine.specs.Machine.{Instance}
 use Rattle.sound.specs.Tags.{Tags, jump, Way, Way.start, Way.on, Way.over}
 use Rattle.sound.specs.Needs.{Of}
-use Rattle.sound.specs.Invariant.{GoodAll}
+use Rattle.sound.specs.Invariant.{Nulls}
 use Rattle.sound.specs.Sized.{Lasting, Lasting.an-int, Lasting.a-nat, Lasting.a-bool, Lasting.a-null, SizedAll, SizedAll.none, SizedAll.more, Sized}
 
--- what lasts is of its type in every good machine
-pub lasting-of : {p : Program} {is : List Instance} {t : Ty} {v : Val} → GoodAll p is → Lasting (structs p) t v → Of is t v
-lasting-of a (an-int h) = h
-lasting-of a (a-nat h) = h
-lasting-of a a-bool = tt
-lasting-of a (a-null {k = k} h) = a .nulls k h
+-- what lasts is of its type where the null instances are
+pub lasting-of : (p : Program) (is : List Instance) {t : Ty} {v : Val} → Nulls p is → Lasting (structs p) t v → Of is t v
+lasting-of p is a (an-int h) = h
+lasting-of p is a (a-nat h) = h
+lasting-of p is a a-bool = tt
+lasting-of p is a (a-null {k = k} h) = a k h
 
 -- four bytes stand for a number of Int
 word-range : (w : ℕ) → w < nat-end → IntRange (word-int w)

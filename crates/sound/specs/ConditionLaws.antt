@@ -1,0 +1,61 @@
+-- The conditions of the numbers exclude one another, and behind them nothing is visited (01, 'The words of demand 3').
+use Prim.Native.Nat.{ℕ, _≤_}
+use native.Mathlib.Omega.{arith}
+use mathlib.Core.Path.{_≡_, refl, ap, sym, _∙_}
+use mathlib.Core.Bool.{Bool, true, false}
+use mathlib.Core.Option.{some}
+use mathlib.Core.List.{List, [], _∷_}
+use lib.ListN.{length, getElem?}
+use lib.Dec.{ltb, leb}
+use borrow.Author.Tests.{le-ltb}
+use Rattle.types.specs.Limits.{max-instances, max-stability}
+use Rattle.program.specs.Tree.{Program}
+use Rattle.commands.specs.Noted.{Note, Note.n-cons, Note.n-op}
+use Rattle.words.specs.ApplyLaws.{apply-outside}
+use Rattle.machine.specs.Published.{Sched, Sched.done, Sched.fixpoint}
+use Rattle.machine.specs.Machine.{Tagged, Instance, Machine, Out, Out.next, Out.refused, Out.stuck, full, exceeded, nested, construct, operate, operated, perform, move-by, move, command, with-written, now-written}
+use Rattle.run.specs.Turns.{holders, chosen}
+use Rattle.run.specs.Visits.{Visits, Visits.here, Visits.moves, Visits.takes}
+use Rattle.sound.specs.Keeps.{some-is}
+use Rattle.sound.specs.Conditions.{Meets, Meets.no-label, Meets.no-result, Condition, Condition.at-end, Condition.at-33, Condition.at-command, Condition.at-36}
+use Rattle.sound.specs.CommandKept.{commanded}
+use Rattle.sound.specs.Outcomes.{operates}
+
+meets-one : {m : Machine} {i j : Instance} {n k : ℕ} → i ≡ j → Meets m i n → Meets m j k → n ≡ k
+meets-one q (no-label e h) (no-label e′ h′) = refl
+meets-one q (no-label e h) (no-result e′ s x) = cc
+meets-one q (no-result e s x) (no-label e′ h) = cc
+meets-one q (no-result e s x) (no-result e′ s′ x′) = refl
+
+-- at most one condition holds
+pub condition-one : {m : Machine} {es : List ℕ} {n k : ℕ} → Condition m es n → Condition m es k → n ≡ k
+condition-one (at-end h s) (at-end h′ s′) = refl
+condition-one (at-end h s) (at-33 h′ e) = cc
+condition-one (at-end h s) (at-command h′ e a c) = cc
+condition-one (at-end h s) (at-36 h′ s′ b) = cc
+condition-one (at-33 h e) (at-end h′ s) = cc
+condition-one (at-33 h e) (at-33 h′ e′) = refl
+condition-one (at-33 h e) (at-command h′ e′ a c) = cc
+condition-one (at-33 h e) (at-36 h′ s′ b) = cc
+condition-one (at-command h e a c) (at-end h′ s) = cc
+condition-one (at-command h e a c) (at-33 h′ e′) = cc
+condition-one {m} (at-command h e a c) (at-command h′ e′ a′ c′) = meets-one (cc) c c′
+condition-one (at-command h e a c) (at-36 h′ s′ b) = cc
+condition-one (at-36 h s b) (at-end h′ s′) = cc
+condition-one (at-36 h s b) (at-33 h′ e) = cc
+condition-one (at-36 h s b) (at-command h′ e a c) = cc
+condition-one (at-36 h s b) (at-36 h′ s′ b′) = refl
+
+clash : {X : Type 0} {m : Machine} {n : ℕ} → next m ≡ refused n → X
+clash e = let z : _≡_ {A = ℕ} 0 1 = cc in absurd (omega arith)
+
+-- a command that meets a condition has no next machine
+meets-stops : (p : Program) {m z : Machine} {i : Instance} {n : ℕ} (l : ℕ) → getElem? (m .instances) l ≡ some i → Meets m i n → command p l m ≡ next z → ⊥
+unfolding perform construct operated
+meets-stops p {m} {z} {i} l at (no-label {k = k} {c = c} e h) q =
+    go (leb _ _) (sym (commanded p m l i (n-cons k) c at e) ∙ q)
+  where
+    go : (t : Bool) → ? ≡ next z → ⊥
+    go t = ?
+meets-stops p {m} {z} {i} l at (no-result {o = o} {c = c} {x = x} {y = y} e s h) q =
+    clash (sym q ∙ commanded p m l i (n-op o) c at e ∙ operates p m l (with-written i (now-written (n-op o) (i .written))) c o s ∙ ?)
