@@ -2,6 +2,7 @@ pub mod Commands
 pub mod Context
 pub mod Names
 pub mod Typing
+pub mod Coding
 pub mod Depth
 pub mod Bounds
 pub mod Noted

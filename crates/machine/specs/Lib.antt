@@ -3,4 +3,15 @@ pub mod Rules
 pub mod Stops
 pub mod Machine
 pub mod Represents
+pub mod RepresentsLaws
+pub mod Performed
+pub mod PerformedLaws
+pub mod Heads
+pub mod CommandFollows
+pub mod CommandComplete
+pub mod CommandAgrees
+pub mod MoveAgrees
+pub mod RuleUnique
 pub mod Measure
+pub mod MeasureLaws
+pub mod RulesLaws

@@ -1,18 +1,68 @@
--- A weight of the schedule left, by which its moves without a turn are counted (01, 'Table and turns').
-use Prim.Native.Nat.{ℕ, _+_, max}
-use Rattle.machine.specs.Published.{Sched, Sched.done, Sched.start, Sched.start-in, Sched.fixpoint, Sched.active}
+-- What falls as a machine acts: a measure of the schedule and its stability stack, which falls with every move, and the
+-- commands held, which fall with every command (01, 'Table and turns').
+use Prim.Native.Nat.{ℕ, suc, max, _+_}
+use mathlib.Core.Path.{_≡_}
+use mathlib.Core.Bool.{Bool, true, false}
+use mathlib.Core.Option.{Option, none, some}
+use mathlib.Core.List.{List, [], _∷_}
+use lib.ListN.{length}
+use lib.Dec.{eqb}
+use Rattle.program.specs.Tree.{Stmts, Program}
+use Rattle.commands.specs.Commands.{commands}
+use Rattle.machine.specs.Published.{Sched, Sched.done, Sched.start, Sched.start-in, Sched.fixpoint, Sched.active, step-of}
+use Rattle.machine.specs.Machine.{Instance, Machine, Out.next, command, move}
 
+-- the moves that a schedule takes where each fixpoint goes through its body once
 unfoldable pub weight : Sched → ℕ
 weight done = 0
-weight (start n s) = 1 + weight s
-weight (start-in k n s) = 1 + weight s
+weight (start n s) = suc (weight s)
+weight (start-in k n s) = suc (weight s)
 weight (fixpoint f s) = weight f + 2 + weight s
-weight (active f s) = 1 + weight s
+weight (active f s) = suc (weight s)
 
--- the greatest weight of a Fix's body, inner ones too
+-- the greatest weight of a body of a fixpoint, those inside bodies too
 unfoldable pub bound : Sched → ℕ
 bound done = 0
 bound (start n s) = bound s
 bound (start-in k n s) = bound s
-bound (fixpoint f s) = max (weight f) (max (bound f) (bound s))
-bound (active f s) = max (weight f) (max (bound f) (bound s))
+bound (fixpoint f s) = max (max (weight f) (bound f)) (bound s)
+bound (active f s) = max (max (weight f) (bound f)) (bound s)
+
+-- each false entry stands for one more passage through a body of weight B at most
+unfoldable pub passages : ℕ → List Bool → ℕ
+passages B [] = 0
+passages B (true ∷ b) = passages B b
+passages B (false ∷ b) = suc B + passages B b
+
+unfoldable pub measure : ℕ → Machine → ℕ
+measure B m = passages B (m .stability) + weight (m .sched)
+
+-- a number for each instance, in all
+unfoldable pub total : (Instance → ℕ) → List Instance → ℕ
+total f [] = 0
+total f (i ∷ is) = f i + total f is
+
+-- how many commands the instances hold in all
+unfoldable pub codes : List Instance → ℕ
+codes is = total (λ i. length (i .code)) is
+
+-- the command count of a step, where the struct has it
+unfoldable pub count : Option Stmts → ℕ
+count none = 0
+count (some b) = length (commands b)
+
+-- that of the step n for an instance; of struct x alone
+unfoldable pub share : Program → ℕ → Instance → ℕ
+share p n i = count (step-of p (i .struct) n)
+
+unfoldable pub share-in : Program → ℕ → ℕ → Instance → ℕ
+share-in p x n i = elim (eqb (i .struct) x) [ true ↦ share p n i | false ↦ 0 ]
+
+-- n moves in a row; n commands in a row, of whichever instances
+pub data Moved (p : Program) : ℕ → Machine → Machine → Type 0 where
+  unmoved : {m : Machine} → Moved p 0 m m
+  moved : {n : ℕ} {m m′ m″ : Machine} → move p m ≡ next m′ → Moved p n m′ m″ → Moved p (suc n) m m″
+
+pub data Took (p : Program) : ℕ → Machine → Machine → Type 0 where
+  untaken : {m : Machine} → Took p 0 m m
+  took : {n : ℕ} {m m′ m″ : Machine} (l : ℕ) → command p l m ≡ next m′ → Took p n m′ m″ → Took p (suc n) m m″

@@ -1,19 +1,17 @@
 -- Types and variables and the bytes that name them (01, 'Program stream'): each goes to its byte and back.
-use Prim.Native.Nat.{ℕ, zero, suc, _+_, _-_, _<_, _≤_}
+use Prim.Native.Nat.{ℕ, zero, suc, _+_, _-_, _<_}
 use native.Mathlib.Omega.{arith}
 use native.Mathlib.Decide.{decLt}
-use mathlib.Core.Path.{_≡_, refl, ap}
-use mathlib.Core.List.{[], _∷_}
-use mathlib.Core.Bool.{Bool, true, false, _||_}
-use lib.Dec.{ltb, T, ltb→lt, lt→ltb}
+use mathlib.Core.Path.{_≡_, refl}
+use lib.Dec.{T}
 use borrow.Author.Tests.{lt-ltb, le-ltb, ne-eqb}
 use Rattle.types.specs.Limits.{first-local, variables}
 use Rattle.types.specs.Types.{Ty, Ty.int, Ty.nat, Ty.bool, Ty.ref, struct-code, code, IsType, type-of}
 use Rattle.program.specs.Tree.{Var, Var.par, Var.loc}
 use Rattle.program.specs.Encoding.{var-code}
 use Rattle.program.specs.Counts.{IsVar}
-use Rattle.program.specs.Reader.{plain-types, between, type-byte, var-of}
-use Rattle.program.specs.JoinLaws.{Within, between-iff}
+use Rattle.program.specs.Reader.{plain-types, type-byte, var-of}
+use Rattle.program.specs.JoinLaws.{between-iff}
 
 -- a type's byte names it
 pub type-code : (t : Ty) → type-of (code t) ≡ t

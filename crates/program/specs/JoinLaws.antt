@@ -1,19 +1,19 @@
 -- What is exact stays exact when it is tested, made into something, joined, counted, repeated or opened by a byte (01, 'Program stream').
 use Prim.Native.Nat.{ℕ, zero, suc, _+_, _<_, _≤_}
 use native.Mathlib.Omega.{arith}
-use mathlib.Core.Path.{_≡_, refl, sym, ap, _∙_}
+use mathlib.Core.Path.{_≡_, refl, ap, _∙_}
 use mathlib.Core.Logic.{_↔_}
 use mathlib.Core.List.{List, [], _∷_, _++_}
 use mathlib.Core.Bool.{Bool, true, false, _&&_}
 use lib.ListN.{length, getD}
 use lib.Dec.{ltb, leb, eqb, T, leb→le, ltb→lt, le→leb, lt→ltb}
 use borrow.Author.Tests.{eqb-true}
-use Rattle.program.specs.Encoding.{flat}
-use Rattle.program.specs.Counts.{All}
-use Rattle.program.specs.Reader.{Result, Result.ok, Result.bad, wrong-byte, then, pair, made, many, guard, Row, Row.row, lookup, between, byte, tested, ranged, counted, opened}
-use Rattle.program.specs.Exact.{Stands, Stands.done, Stands.letter, Told, Told.told, Told.silent, Cut, Cut.same, Cut.stop, At, Exact, Rowed}
+use Rattle.program.specs.Encoding.{flat, enc-list}
+use Rattle.program.specs.Counts.{All, Few}
+use Rattle.program.specs.Reader.{Result, Result.ok, Result.bad, wrong-byte, pair, made, many, guard, Row, Row.row, lookup, between, tested, ranged, counted, opened}
+use Rattle.program.specs.Exact.{Stands, Stands.done, Stands.letter, Told, Told.told, Told.silent, Cut, Cut.same, Cut.stop, Cuts, At, Exact, Behind, Formed, Rowed}
 use Rattle.program.specs.StandsLaws.{both, split, stands-none}
-use Rattle.program.specs.PartLaws.{told-then, told-weak, told-made, then-ok, made-ok, cut-then, cut-made, byte-ok, byte-exact}
+use Rattle.program.specs.PartLaws.{told-then, told-weak, told-made, then-ok, made-ok, cuts-ok, cuts-then, cut-made, byte-ok, told-byte, cuts-byte}
 
 module _ {A : Type 0} {C : A → Type 0} {E : A → List ℕ} {r : List ℕ → ℕ → Result A} (x : Exact C E r) where
   -- the same condition in other words
@@ -45,7 +45,7 @@ module _ {A : Type 0} {C : A → Type 0} {E : A → List ℕ} {r : List ℕ → 
     complete = λ s p n m c w.
         let k = split (E (p .0)) w in
         then-ok _ (x .complete s (p .0) n (k .0) (c .0) (k .1)) (then-ok _ (y (p .0) .complete s (p .1) (k .0) m (c .1) (k .2)) refl);
-    cut = λ s t n l. cut-then (x .cut s t n l) λ a k l. cut-then (y a .cut s t k l) λ b m l. same l;
+    cut = cuts-then (x .cut) λ a. cuts-then (y a .cut) λ b. cuts-ok (a, b);
   }
 
   -- a row of i values
@@ -53,7 +53,7 @@ module _ {A : Type 0} {C : A → Type 0} {E : A → List ℕ} {r : List ℕ → 
       → Exact (D i) (F i) (λ s. many z c (r s) i)
   unfolding many
   row-exact {B} {z} {c} {D} {F} w i =
-      record { sound = λ s. sound s i; complete = λ s. complete s i; cut = λ s t. cut s t i }
+      record { sound = λ s. sound s i; complete = λ s. complete s i; cut = cut i }
     where
       sound : (s : List ℕ) (i n : ℕ) → Told (At (D i) (F i) s n) (many z c (r s) i n)
       sound s zero n = told {m = n} (w .nil, rw (w .nil-bytes) done)
@@ -72,37 +72,53 @@ module _ {A : Type 0} {C : A → Type 0} {E : A → List ℕ} {r : List ℕ → 
           then-ok _ (x .complete s (p .0) n (k .0) (p .2) (k .1))
           (then-ok _ (complete s i (p .1) (k .0) m (p .3) (k .2)) (rw (p .4)))
 
-      cut : (s t : List ℕ) (i n : ℕ) → n ≤ length s → Cut (length s) (many z c (r s) i n) (many z c (r (s ++ t)) i n)
-      cut s t zero n l = same l
-      cut s t (suc i) n l = cut-then (x .cut s t n l) λ a k l. cut-then (cut s t i k l) λ b m l. same l
+      cut : (i : ℕ) → Cuts (λ s n. many z c (r s) i n)
+      cut zero = cuts-ok z
+      cut (suc i) = cuts-then (x .cut) λ a. cuts-then (cut i) λ b. cuts-ok (c a b)
+
+  -- behind a byte
+  pub behind : Behind C E (λ s n. r s (n + 1))
+  behind = record {
+    sound = λ s n. x .sound s (n + 1);
+    complete = λ s a n m. x .complete s a (n + 1) m;
+    cut = λ s t n l. x .cut s t (n + 1) (omega arith);
+  }
 
 -- a byte that passes a test
 pub tested-exact : (t : ℕ → Bool) → Exact (λ b. T (t b)) (λ b. b ∷ []) (λ s. tested s t)
 unfolding tested guard
 tested-exact t = record {
-  sound = λ s n. told-then (byte-exact .sound s n) λ b k p. sound s n b k (t b) refl (p .1);
-  complete = λ s b n m c w. then-ok _ (byte-exact .complete s b n m tt w) (complete n b m (t b) c);
-  cut = λ s u n l. cut-then (byte-exact .cut s u n l) λ b k l. cut n b k (t b) l;
+  sound = λ s n. told-byte _ s n λ b l e. sound s n b (t b) refl (letter l e done);
+  complete = complete;
+  cut = cuts-byte _ λ b s u n l. cut n b (t b) l;
 }
   where
-    sound : (s : List ℕ) (n b k : ℕ) (v : Bool) → t b ≡ v → Stands s n (b ∷ []) k → Told (At (λ b. T (t b)) (λ b. b ∷ []) s n) (guard v n b k)
-    sound s n b k true e w = told {a = b} (rw e tt, w)
-    sound s n b k false e w = silent
+    sound : (s : List ℕ) (n b : ℕ) (v : Bool) → t b ≡ v → Stands s n (b ∷ []) (n + 1)
+        → Told (At (λ b. T (t b)) (λ b. b ∷ []) s n) (guard v n b (n + 1))
+    sound s n b true e w = told {a = b} (rw e tt, w)
+    sound s n b false e w = silent
 
-    complete : (n b m : ℕ) (v : Bool) → T v → guard v n b m ≡ ok b m
-    complete n b m true c = refl
+    passed : (n b m : ℕ) (v : Bool) → T v → guard v n b m ≡ ok b m
+    passed n b m true c = refl
 
-    cut : {N : ℕ} (n b k : ℕ) (v : Bool) → k ≤ N → Cut N (guard v n b k) (guard v n b k)
-    cut n b k true l = same l
-    cut n b k false l = stop
+    complete : (s : List ℕ) (b n m : ℕ) → T (t b) → Stands s n (b ∷ []) m → tested s t n ≡ ok b m
+    complete s b n m c (letter l e done) = then-ok _ (byte-ok s l e) (passed n b m (t b) c)
 
--- a byte from lo up to below hi
+    cut : {N M : ℕ} (n b : ℕ) (v : Bool) → n < N → Cut (n + 1) N M (guard v n b (n + 1)) (guard v n b (n + 1))
+    cut n b true l = same {m = n + 1} (omega arith) (omega arith)
+    cut n b false l = stop {p = n} (omega arith) l
+
+-- from lo up to below hi
 abbrev pub Within : ℕ → ℕ → ℕ → Type 0
 Within lo hi b = (lo ≤ b) × (b < hi)
 
+-- the test of a range says what it should
 pub between-iff : (lo hi b : ℕ) → T (between lo hi b) ↔ Within lo hi b
 unfolding between
-between-iff lo hi b = (λ h. let p = apart (leb lo b) (ltb b hi) h in (leb→le lo b (p .0), ltb→lt b hi (p .1)), λ h. joined (leb lo b) (ltb b hi) (le→leb lo b (h .0)) (lt→ltb b hi (h .1)))
+between-iff lo hi b = (
+  λ h. let p = apart (leb lo b) (ltb b hi) h in (leb→le lo b (p .0), ltb→lt b hi (p .1)),
+  λ h. joined (leb lo b) (ltb b hi) (le→leb lo b (h .0)) (lt→ltb b hi (h .1)),
+)
   where
     apart : (x y : Bool) → T (x && y) → (T x) × (T y)
     apart true y h = (tt, h)
@@ -110,6 +126,7 @@ between-iff lo hi b = (λ h. let p = apart (leb lo b) (ltb b hi) h in (leb→le 
     joined : (x y : Bool) → T x → T y → T (x && y)
     joined true y h k = k
 
+-- a byte of a range
 pub ranged-exact : (lo hi : ℕ) → Exact (Within lo hi) (λ b. b ∷ []) (λ s. ranged s lo hi)
 unfolding ranged
 ranged-exact lo hi = exact-iff (tested-exact (between lo hi)) (between-iff lo hi)
@@ -128,12 +145,25 @@ counted-exact lo hi count h y = record {
   complete = λ s b n m c w.
       let k = split (count b ∷ []) w in
       then-ok _ (ranged-exact lo (suc hi) .complete s (count b) n (k .0) (omega arith) (k .1)) (y (count b) .complete s b (k .0) m (c .2) (k .2));
-  cut = λ s t n l. cut-then (ranged-exact lo (suc hi) .cut s t n l) λ i k l. y i .cut s t k l;
+  cut = cuts-then (ranged-exact lo (suc hi) .cut) λ i. y i .cut;
 }
 
--- what is refused at a byte before it
-pub shut-exact : {A : Type 0} {C : A → Type 0} {E : A → List ℕ} (at : ℕ) → ((a : A) → C a → ⊥) → Exact C E (λ s n. bad at wrong-byte)
-shut-exact at h = record { sound = λ s n. silent; complete = λ s a n m c w. absurd (h a c); cut = λ s t n l. stop }
+-- what no value is read behind: the byte itself is refused
+pub shut : {A : Type 0} {C : A → Type 0} {E : A → List ℕ} → ((a : A) → C a → ⊥) → Behind C E (λ s n. bad n wrong-byte)
+shut h = record {
+  sound = λ s n. silent;
+  complete = λ s a n m c w. absurd (h a c);
+  cut = λ s t n l. stop {p = n} (omega arith) l;
+}
+
+-- what f makes of a value read behind a byte
+pub formed : {A P : Type 0} {C : A → Type 0} {E : A → List ℕ} {B : ℕ → Type 0} {D : P → Type 0} {F : P → List ℕ} {r : List ℕ → ℕ → Result P}
+    → Behind D F r → (f : P → A) → ((p : P) → D p → C (f p)) → ((b : ℕ) (p : P) → B b → b ∷ F p ≡ E (f p))
+    → Formed C E B (λ s n. made f (r s n))
+formed x f h g = record {
+  sound = λ s n b l e o. told-made f (x .sound s n) λ p m q. (h p (q .0), rw (g b p o) at (letter l e (q .1)));
+  cut = λ s t n l. cut-made f (x .cut s t n l);
+}
 
 -- what holds of each row holds of the row found
 abbrev pub EachRow : {A : Type 0} → (ℕ → A → Type 0) → List (Row A) → Type 0
@@ -149,26 +179,33 @@ lookup-is P (row k f ∷ rs) z b p h = go (eqb b k) refl (lookup-is P rs z b p (
     go true e q = rw (e, lookup) (rw (eqb-true b k e) (h .0))
     go false e q = rw (e, lookup) q
 
+-- a byte that opens no form
+pub no-form : {A : Type 0} {C : A → Type 0} {E : A → List ℕ} {B : ℕ → Type 0} → Formed C E B (λ s n. bad n wrong-byte)
+no-form = record { sound = λ s n b l e o. silent; cut = λ s t n l. stop {p = n} (omega arith) l }
+
+-- the byte at n opens what q reads behind it as a
+abbrev pub Reads : {A : Type 0} → List ℕ → (ℕ → Result A) → A → ℕ → ℕ → Type 0
+Reads s q a n m = (b : ℕ) × (n < length s) × (getD s n 0 ≡ b) × (q b ≡ ok a m)
+
 -- what a byte opens is read exactly, where each form is: `Opens` tells a form's bytes
-pub opened-exact : {I A : Type 0} {C : A → Type 0} {E : A → List ℕ} {key : ℕ → I} {rule : List ℕ → ℕ → ℕ → I → Result A}
+pub opened-exact : {I A : Type 0} {C : A → Type 0} {E : A → List ℕ} {key : ℕ → I} (rule : List ℕ → ℕ → ℕ → I → Result A)
     (Opens : ℕ → I → Type 0) → ((b : ℕ) → Opens b (key b))
-    → ((s : List ℕ) (n b k : ℕ) → Stands s n (b ∷ []) k → (f : I) → Opens b f → Told (At C E s n) (rule s n k f))
-    → ((s : List ℕ) (a : A) (n m : ℕ) → C a → Stands s n (E a) m
-        → (b : ℕ) × (n < length s) × (getD s n 0 ≡ b) × (rule s n (n + 1) (key b) ≡ ok a m))
-    → ((s t : List ℕ) (n k : ℕ) → k ≤ length s → (f : I) → Cut (length s) (rule s n k f) (rule (s ++ t) n k f))
+    → ((f : I) → Formed C E (λ b. Opens b f) (λ s n. rule s n (n + 1) f))
+    → ((s : List ℕ) (a : A) (n m : ℕ) → C a → Stands s n (E a) m → Reads s (λ b. rule s n (n + 1) (key b)) a n m)
     → Exact C E (λ s. opened s key (rule s))
 unfolding opened
-opened-exact {key = key} Opens o sound complete cut = record {
-  sound = λ s n. told-then (byte-exact .sound s n) λ b k p. sound s n b k (p .1) (key b) (o b);
+opened-exact {key = key} rule Opens o x complete = record {
+  sound = λ s n. told-byte _ s n λ b l e. x (key b) .sound s n b l e (o b);
   complete = λ s a n m c w. let p = complete s a n m c w in then-ok _ (byte-ok s (p .1) (p .2)) (p .3);
-  cut = λ s t n l. cut-then (byte-exact .cut s t n l) λ b k l. cut s t n k l (key b);
+  cut = cuts-byte _ λ b. x (key b) .cut;
 }
 
 -- lists are rows, by any bytes that go with them element by element
 abbrev pub AllOf : {A : Type 0} → (A → Type 0) → ℕ → List A → Type 0
 AllOf C i l = (length l ≡ i) × (All C l)
 
-pub list-row : {A : Type 0} (C : A → Type 0) (E : A → List ℕ) (F : List A → List ℕ) → F [] ≡ [] → ((a : A) (l : List A) → F (a ∷ l) ≡ E a ++ F l)
+pub list-row : {A : Type 0} (C : A → Type 0) (E : A → List ℕ) (F : List A → List ℕ)
+    → F [] ≡ [] → ((a : A) (l : List A) → F (a ∷ l) ≡ E a ++ F l)
     → Rowed [] _∷_ C E (AllOf C) (λ i. F)
 list-row {A} C E F none more = record {
   nil = (refl, tt);
@@ -195,7 +232,7 @@ flat-row C E = list-row C E (flat E) refl (λ a l. refl)
 -- a count and so many values, whose condition may know the count
 pub list-exact : {A : Type 0} {C : ℕ → A → Type 0} {E : A → List ℕ} {r : ℕ → List ℕ → ℕ → Result A} (lo hi : ℕ)
     → ((i : ℕ) → Exact (C i) E (r i))
-    → Exact (λ l. (lo ≤ length l) × (length l ≤ hi) × (All (C (length l)) l)) (λ l. length l ∷ flat E l) (λ s. counted s lo hi (λ i. many [] _∷_ (r i s) i))
+    → Exact (λ l. Few lo hi (C (length l)) l) (enc-list E) (λ s. counted s lo hi (λ i. many [] _∷_ (r i s) i))
 list-exact {C = C} {E = E} lo hi y =
     exact-iff (counted-exact lo hi length (λ i l h d. d .0) (λ i. row-exact (y i) (flat-row (C i) E) i))
     λ l. (λ h. (h .0, h .1, h .2 .1), λ h. (h .0, h .1, (refl, h .2)))

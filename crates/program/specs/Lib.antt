@@ -8,3 +8,9 @@ pub mod PartLaws
 pub mod JoinLaws
 pub mod CodeLaws
 pub mod WordLaws
+pub mod ExprLaws
+pub mod StmtLaws
+pub mod ItemLaws
+pub mod StreamLaws
+pub mod ProgramLaws
+pub mod Rows

@@ -1,17 +1,13 @@
 -- The readers that the others are made of are exact, or carry exactness on (01, 'Program stream').
-use Prim.Native.Nat.{ℕ, zero, suc, _+_, _<_, _≤_}
+use Prim.Native.Nat.{ℕ, _+_, _<_, _≤_}
 use native.Mathlib.Omega.{arith}
 use native.Mathlib.Decide.{decLt}
-use mathlib.Core.Path.{_≡_, refl, sym, ap, _∙_}
-use mathlib.Core.Logic.{_↔_}
-use mathlib.Core.List.{List, [], _∷_, _++_}
-use mathlib.Core.Bool.{Bool, true, false, _&&_}
+use mathlib.Core.Path.{_≡_, refl}
+use mathlib.Core.List.{List, [], _++_}
 use lib.ListN.{length, getD, length-append, List·getD-append}
-use lib.Dec.{ltb, leb, eqb, T, leb→le, ltb→lt, le→leb, lt→ltb}
-use borrow.Author.Tests.{lt-ltb, le-ltb, eqb-true}
-use Rattle.program.specs.Reader.{Result, Result.ok, Result.bad, wrong-end, wrong-byte, then, pair, made, many, guard, Row, Row.row, lookup, between, byte, tested, ranged, counted, opened}
-use Rattle.program.specs.Exact.{Stands, Stands.done, Stands.letter, Told, Told.told, Told.silent, Cut, Cut.same, Cut.stop, Cut.short, At, Exact, Rowed}
-use Rattle.program.specs.StandsLaws.{both, split, stands-none}
+use borrow.Author.Tests.{lt-ltb, le-ltb}
+use Rattle.program.specs.Reader.{Result, Result.ok, Result.bad, wrong-end, then, made, byte}
+use Rattle.program.specs.Exact.{Told, Told.told, Told.silent, Beyond, Beyond.value-beyond, Beyond.refusal-beyond, Cut, Cut.same, Cut.stop, Cut.short, Cuts, CutsBehind}
 
 -- what is said of an answer goes on behind it, gets weaker, and holds of its value
 pub told-then : {A B : Type 0} {P : A → ℕ → Type 0} {Q : B → ℕ → Type 0} {r : Result A} {f : A → ℕ → Result B}
@@ -36,13 +32,33 @@ pub then-ok : {A B : Type 0} {r : Result A} {a : A} {k : ℕ} (f : A → ℕ →
 unfolding then
 then-ok f p q = rw p q
 
--- two streams' answers go on alike
-pub cut-then : {A B : Type 0} {N : ℕ} {r r' : Result A} {f g : A → ℕ → Result B} → Cut N r r'
-    → ((a : A) (m : ℕ) → m ≤ N → Cut N (f a m) (g a m)) → Cut N (then r f) (then r' g)
+-- what is said of an answer from m on is said of it from an earlier place on
+cut-weak : {A : Type 0} {n m N M : ℕ} {u v : Result A} → n ≤ m → Cut m N M u v → Cut n N M u v
+cut-weak l (same {m = k} h i) = same {m = k} (omega arith) i
+cut-weak l (stop {p = p} h i) = stop {p = p} (omega arith) i
+cut-weak l (short b) = short b
+
+-- what is read from behind N on goes beyond N
+cut-beyond : {A : Type 0} {n N L M : ℕ} {u v : Result A} → N < n → n ≤ L → Cut n L M u v → Beyond N L u
+cut-beyond l k (same {m = m} h i) = value-beyond {m = m} (omega arith) i
+cut-beyond l k (stop {p = p} h i) = refusal-beyond {p = p} (omega arith)
+cut-beyond {L = L} l k (short b) = refusal-beyond {p = L} (omega arith)
+
+-- two streams are read alike by one reader and another behind it
+pub cuts-ok : {A : Type 0} (a : A) → Cuts (λ s n. ok a n)
+cuts-ok a s t n l = same {m = n} (omega arith) l
+
+pub cuts-then : {A B : Type 0} {r : List ℕ → ℕ → Result A} {q : A → List ℕ → ℕ → Result B} → Cuts r → ((a : A) → Cuts (q a))
+    → Cuts (λ s n. then (r s n) λ a k. q a s k)
 unfolding then
-cut-then (same l) h = h _ _ l
-cut-then stop h = stop
-cut-then short h = short
+cuts-then {A = A} {B = B} {r = r} {q = q} x y s t n l = go (r s n) (r (s ++ t) n) (x s t n l)
+  where
+    go : (u v : Result A) → Cut n (length s) (length (s ++ t)) u v
+        → Cut n (length s) (length (s ++ t)) (then u λ a k. q a s k) (then v λ a k. q a (s ++ t) k)
+    go u v (same {a = a} {m = m} h i) = cut-weak h (y a s t m i)
+    go u v (stop h i) = stop h i
+    go u v (short (value-beyond {a = a} {m = m} h i)) = short (cut-beyond h i (y a (s ++ t) [] m i))
+    go u v (short (refusal-beyond h)) = short (refusal-beyond h)
 
 -- what is made of a thing that is read
 pub told-made : {A B : Type 0} {P : A → ℕ → Type 0} {Q : B → ℕ → Type 0} {r : Result A} (f : A → B) → Told P r
@@ -54,31 +70,51 @@ pub made-ok : {A B : Type 0} {r : Result A} {a : A} {m : ℕ} (f : A → B) → 
 unfolding made
 made-ok f e = then-ok _ e refl
 
-pub cut-made : {A B : Type 0} {N : ℕ} {r q : Result A} (f : A → B) → Cut N r q → Cut N (made f r) (made f q)
-unfolding made
-cut-made f h = cut-then h λ a m l. same l
+pub cut-made : {A B : Type 0} {n N M : ℕ} {u v : Result A} (f : A → B) → Cut n N M u v → Cut n N M (made f u) (made f v)
+unfolding made then
+cut-made f (same h i) = same h i
+cut-made f (stop h i) = stop h i
+cut-made f (short (value-beyond h i)) = short (value-beyond h i)
+cut-made f (short (refusal-beyond h)) = short (refusal-beyond h)
 
 -- one byte
 pub byte-ok : (s : List ℕ) {n b : ℕ} → n < length s → getD s n 0 ≡ b → byte s n ≡ ok b (n + 1)
 unfolding byte
 byte-ok s {n} h e = rw (lt-ltb n (length s) h, byte) (rw e)
 
-pub byte-exact : Exact (λ b. Unit {0}) (λ b. b ∷ []) byte
+pub byte-none : (s : List ℕ) {n : ℕ} → length s ≤ n → byte s n ≡ bad n wrong-end
 unfolding byte
-byte-exact = record { sound = λ s n. sound s n (decLt n (length s)); complete = complete; cut = λ s t n l. cut s t n l (decLt n (length s)) }
+byte-none s {n} h = rw (le-ltb n (length s) h, byte)
+
+-- what is said of a byte and of an answer behind it
+pub told-byte : {B : Type 0} {Q : B → ℕ → Type 0} (f : ℕ → ℕ → Result B) (s : List ℕ) (n : ℕ)
+    → ((b : ℕ) → n < length s → getD s n 0 ≡ b → Told Q (f b (n + 1))) → Told Q (then (byte s n) f)
+unfolding then
+told-byte {Q = Q} f s n h = go (decLt n (length s))
   where
-    none : (s : List ℕ) (n : ℕ) → length s ≤ n → byte s n ≡ bad n wrong-end
-    none s n h = rw (le-ltb n (length s) h, byte)
+    go : Dec (n < length s) → Told Q (then (byte s n) f)
+    go (yes l) = rw (byte-ok s l refl) (h (getD s n 0) l refl)
+    go (no l) = rw (byte-none s {n = n} (omega arith)) silent
 
-    sound : (s : List ℕ) (n : ℕ) → Dec (n < length s) → Told (At (λ b. Unit {0}) (λ b. b ∷ []) s n) (byte s n)
-    sound s n (yes h) = rw (byte-ok s h refl) (told (tt, letter h refl done))
-    sound s n (no h) = rw (none s n (omega arith)) silent
+-- two streams are read alike by a byte and a reader behind it
+module _ {A : Type 0} (q : ℕ → List ℕ → ℕ → ℕ → Result A) (y : (b : ℕ) → CutsBehind (λ s n. q b s n (n + 1))) where
+  byte-beyond : (s : List ℕ) (n : ℕ) → Beyond n (length s) (then (byte s n) λ b k. q b s n k)
+  unfolding then
+  byte-beyond s n = go (decLt n (length s))
+    where
+      go : Dec (n < length s) → Beyond n (length s) (then (byte s n) λ b k. q b s n k)
+      go (yes h) = rw (byte-ok s h refl) (cut-beyond (omega arith) (omega arith) (y (getD s n 0) s [] n h))
+      go (no h) = rw (byte-none s {n = n} (omega arith)) (refusal-beyond {p = n} (omega arith))
 
-    complete : (s : List ℕ) (b n m : ℕ) → Unit {0} → Stands s n (b ∷ []) m → byte s n ≡ ok b m
-    complete s b n m c (letter h e done) = byte-ok s h e
-
-    cut : (s t : List ℕ) (n : ℕ) → n ≤ length s → Dec (n < length s) → Cut (length s) (byte s n) (byte (s ++ t) n)
-    cut s t n l (yes h) =
-        rw (byte-ok s h refl, byte-ok (s ++ t) (simp length-append (omega arith)) (List·getD-append s t 0 n h))
-        (same {m = n + 1} (omega arith))
-    cut s t n l (no h) = let e : n ≡ length s = omega arith in rw (none s n (omega arith)) (rw e short)
+  pub cuts-byte : Cuts (λ s n. then (byte s n) λ b k. q b s n k)
+  unfolding then
+  cuts-byte s t n l = go (decLt n (length s))
+    where
+      go : Dec (n < length s)
+          → Cut n (length s) (length (s ++ t)) (then (byte s n) λ b k. q b s n k) (then (byte (s ++ t) n) λ b k. q b (s ++ t) n k)
+      go (yes h) =
+          rw (byte-ok s h refl, byte-ok (s ++ t) (simp length-append (omega arith)) (List·getD-append s t 0 n h))
+          (cut-weak {m = n + 1} (omega arith) (y (getD s n 0) s t n h))
+      go (no h) =
+          let e : n ≡ length s = omega arith in
+          rw (byte-none s {n = n} (omega arith)) (rw e (short (byte-beyond (s ++ t) (length s))))

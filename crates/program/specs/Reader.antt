@@ -123,9 +123,15 @@ type-byte S b = ltb b plain-types || between struct-code (struct-code + S) b
 unfoldable pub var-of : ℕ → Var
 var-of b = elim (ltb b first-local) [ true ↦ par b | false ↦ loc (b - first-local) ]
 
--- how many numbers a byte can be
+-- a byte is below byte-end, the byte of a Bool below bool-end; a number has word-bytes bytes
 abbrev pub byte-end : ℕ
 byte-end = 256
+
+abbrev pub bool-end : ℕ
+bool-end = 2
+
+abbrev pub word-bytes : ℕ
+word-bytes = 4
 
 module _ (s : List ℕ) where
   unfoldable pub byte : ℕ → Result ℕ
@@ -178,9 +184,9 @@ module _ (ar s : List ℕ) where
   rule-expr r at k form-inv = made inv (r k)
   rule-expr r at k form-make = made (λ p. make (p .0) (p .1)) (read-make r k)
   rule-expr r at k form-path = made (λ p. path (p .0) (p .1)) (read-path s k)
-  rule-expr r at k form-int = made int-lit (read-word s 4 k)
-  rule-expr r at k form-nat = made nat-lit (read-word s 4 k)
-  rule-expr r at k form-bool = made bool-lit (ranged s 0 2 k)
+  rule-expr r at k form-int = made int-lit (read-word s word-bytes k)
+  rule-expr r at k form-nat = made nat-lit (read-word s word-bytes k)
+  rule-expr r at k form-bool = made bool-lit (ranged s 0 bool-end k)
   rule-expr r at k form-null = made null (read-type s (length ar) k)
   rule-expr r at k form-self = ok self k
   rule-expr r at k (form-op o) = made (λ p. op o (p .0) (p .1)) (pair (r k) λ a. r)

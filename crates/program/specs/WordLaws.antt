@@ -1,19 +1,18 @@
 -- Bytes, types, variables, words and paths are read exactly (01, 'Program stream').
-use Prim.Native.Nat.{ℕ, zero, suc, _+_, _-_, _*_, _/_, _%_, _^_, _<_, _≤_}
+use Prim.Native.Nat.{ℕ, suc, _+_, _-_, _*_, _/_, _%_, _^_, _<_}
 use native.Mathlib.Omega.{arith}
 use native.Mathlib.Nat.{pow-suc}
-use mathlib.Core.Path.{_≡_, refl, ap}
-use mathlib.Core.List.{List, [], _∷_, _++_}
+use mathlib.Core.Path.{_≡_, refl}
+use mathlib.Core.List.{[], _∷_}
 use lib.ListN.{length}
-use Rattle.types.specs.Limits.{first-local, variables, max-path, nat-end}
-use Rattle.types.specs.Types.{Ty, code, IsType, type-of}
-use Rattle.program.specs.Tree.{Var}
-use Rattle.program.specs.Encoding.{enc-word, flat, var-code, enc-path}
-use Rattle.program.specs.Counts.{All, IsVar, IsPath}
+use Rattle.types.specs.Limits.{first-local, variables, max-path}
+use Rattle.types.specs.Types.{code, IsType, type-of}
+use Rattle.program.specs.Encoding.{enc-word, var-code, enc-path}
+use Rattle.program.specs.Counts.{IsVar, IsPath}
 use Rattle.program.specs.Reader.{byte-end, ranged, type-byte, var-of, read-word, read-type, read-var, read-local, read-path}
 use Rattle.program.specs.Exact.{Exact, Rowed}
 use Rattle.program.specs.CodeLaws.{type-code, code-type, type-allowed, var-code-of, code-var}
-use Rattle.program.specs.JoinLaws.{exact-iff, made-exact, pair-exact, row-exact, tested-exact, Within, ranged-exact, counted-exact, AllOf, list-row}
+use Rattle.program.specs.JoinLaws.{exact-iff, made-exact, pair-exact, row-exact, tested-exact, ranged-exact, counted-exact, AllOf, list-row}
 
 -- a byte below a bound
 pub below-exact : (hi : ℕ) → Exact (λ b. b < hi) (λ b. b ∷ []) (λ s. ranged s 0 hi)
@@ -37,10 +36,12 @@ word-row = record {
     high : (b v : ℕ) → b < 256 → (b + 256 * v) / 256 ≡ v
     high b v h = omega arith
 
+-- a number of i bytes, the lowest first
 pub word-exact : (i : ℕ) → Exact (λ v. v < 256 ^ i) (enc-word i) (λ s. read-word s i)
 unfolding read-word
 word-exact i = row-exact (below-exact byte-end) word-row i
 
+-- a type, where there are S structs
 pub type-exact : (S : ℕ) → Exact (IsType S) (λ t. code t ∷ []) (λ s. read-type s S)
 unfolding read-type
 type-exact S =
@@ -48,6 +49,7 @@ type-exact S =
     (λ b h. let p = code-type S b h in (p .0, rw (p .1)))
     (λ t h. (type-allowed S t h, type-code t))
 
+-- the first variable of a path
 pub var-exact : Exact IsVar (λ v. var-code v ∷ []) read-var
 unfolding read-var
 var-exact =
@@ -55,6 +57,7 @@ var-exact =
     (λ b h. let p = code-var b h in (p .0, rw (p .1)))
     (λ v h. var-code-of v h)
 
+-- a declared local
 pub local-exact : Exact (λ x. x < first-local) (λ x. (first-local + x) ∷ []) read-local
 unfolding read-local
 local-exact =

@@ -3,3 +3,4 @@ pub mod Runs
 pub mod Run
 pub mod Visits
 pub mod Begin
+pub mod Entry

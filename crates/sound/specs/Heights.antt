@@ -1,20 +1,19 @@
 -- No way through a step's commands goes higher than their depth (01, 'Names, types, commands'); this needs no types.
 use Prim.Native.Nat.{ℕ, zero, suc, _-_, max, _≤_}
 use native.Mathlib.Omega.{arith}
-use mathlib.Core.Path.{_≡_, refl, ap, _∙_, sym}
+use mathlib.Core.Path.{_≡_, refl, ap}
 use mathlib.Core.Option.{some}
-use mathlib.Core.Bool.{true, false}
 use mathlib.Core.List.{List, [], _∷_, map, List·Memᴰ, List·Memᴰ·head, List·Memᴰ·tail}
 use lib.ListN.{length, getD, drop, length-drop, List·getD-map}
 use Rattle.program.specs.Tree.{Stmts, Step, Program}
 use Rattle.commands.specs.Commands.{Flat, Flat.plain, Flat.if-n, commands}
-use Rattle.commands.specs.Context.{Ctx, params-of, context}
+use Rattle.commands.specs.Context.{Ctx, context}
 use Rattle.commands.specs.Noted.{Note, Note.n-push, Note.n-this, Note.n-not, Note.n-rd, Note.n-wr, Note.n-get, Note.n-set, Note.n-cons, Note.n-op, Note.n-if, erase, noted}
 use Rattle.commands.specs.Depth.{after, depth}
 use Rattle.commands.specs.Bounds.{greatest, arities, step-depth, program-depth}
 use Rattle.machine.specs.Published.{step-of}
-use Rattle.sound.specs.Tags.{Tags, at-start, stack-after, next, jump, Way, Way.start, Way.on, Way.over}
-use Rattle.sound.specs.Compiled.{erased}
+use Rattle.sound.specs.Tags.{Tags, at-start, next, jump, Way, Way.start, Way.on, Way.over}
+use Rattle.commands.specs.NotedLaws.{erased}
 use Rattle.sound.specs.Steps.{found}
 
 -- the height after a command of the list, and how many commands the other way leaves out

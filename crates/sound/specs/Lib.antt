@@ -28,7 +28,7 @@ pub mod NeverStuckLaws
 pub mod SafeLaws
 pub mod Locals
 pub mod LocalsLaws
-pub mod Compiled
 pub mod Static
 pub mod Steps
 pub mod Heights
+pub mod Exhibits

@@ -14,9 +14,9 @@ use Rattle.commands.specs.Typing.{Sort, sort, Takes, Takes.any-equal, Takes.ord
 use Rattle.commands.specs.Noted.{Note, Note.n-push, Note.n-this, Note.n-not, Note.n-rd, Note.n-wr, Note.n-get, Note.n-set, Note.n-cons, Note.n-op, Note.n-if, struct-of, walk, store, read-path, write-path, note-expr, note-exprs, note-stmt, note-body, noted}
 use Rattle.machine.specs.Machine.{result-type, now-written}
 use Rattle.sound.specs.Tags.{Tags, tags, at-start, next, Asks, jump, Safe, Safe.stop, Safe.act}
-use Rattle.sound.specs.Locals.{Declaration, Declaration.itself, Declaration.inside, Declaration-in, Declaration-in.first, Declaration-in.later, Locals-right}
+use Rattle.sound.specs.Locals.{Declaration, Declaration.itself, Declaration.inside, Declaration-in.first, Declaration-in.later, Locals-right}
 use Rattle.sound.specs.LocalsLaws.{declared-type}
-use Rattle.sound.specs.Compiled.{left-out}
+use Rattle.commands.specs.NotedLaws.{left-out}
 
 -- the first locals are among the second
 abbrev Among : List ℕ → List ℕ → Type 0
@@ -160,8 +160,8 @@ module _ (G : Ctx) where
       stmt {c = c} right (t-when {e = e} {b = b} d db) seen m k χ w i =
           expr n i e d (m .0)
           (λ f.
-            act (n-if _) (χ, refl) (body (λ x t p. right x t (inside p)) db seen (m .1) k χ w i false)
-            (rw (left-out b G c) (k χ w i false)))
+          act (n-if _) (χ, refl) (body (λ x t p. right x t (inside p)) db seen (m .1) k χ w i false)
+          (rw (left-out b G c) (k χ w i false)))
       stmt right (t-declare {t = t} {x = x} {e = e} d) seen m k χ w i =
           expr n i e d (m .0)
           (λ f. one n-this refl tt (one (n-set true t x) refl (refl, right x t itself, (χ, refl)) (k χ (x ∷ w) (widen x i) false)))
@@ -174,7 +174,7 @@ module _ (G : Ctx) where
       body {l = l} right (t-next {s = s} d ds) seen m k χ w i f =
           stmt (λ x t p. right x t (first p)) d seen (m .0)
           (λ χ w i f.
-            body (λ x t p. right x t (later p)) ds (declares s ++ seen) (m .1) (λ χ w i. k χ w (λ y q. i y (live-on s l y q))) χ w i f)
+          body (λ x t p. right x t (later p)) ds (declares s ++ seen) (m .1) (λ χ w i. k χ w (λ y q. i y (live-on s l y q))) χ w i f)
           χ w i f
 
 -- statements with right names and types, read against a context that has their locals' types, are safe on every way

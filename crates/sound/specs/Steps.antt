@@ -1,10 +1,10 @@
 -- What holds of each step of a program, found by its struct and name (01, numbers 7 and 8; 'Names, types, commands').
-use Prim.Native.Nat.{ℕ, zero, suc, _+_, _≤_}
+use Prim.Native.Nat.{ℕ, zero, suc, _+_}
 use native.Mathlib.Omega.{arith}
 use native.Mathlib.Nat.{suc-add, add-suc, zero-add, add-zero}
-use mathlib.Core.Path.{_≡_, refl, sym}
+use mathlib.Core.Path.{_≡_, refl}
 use mathlib.Core.Bool.{Bool, true, false}
-use mathlib.Core.Option.{Option, none, some}
+use mathlib.Core.Option.{some}
 use mathlib.Core.List.{List, [], _∷_, List·Memᴰ, List·Memᴰ·head, List·Memᴰ·tail, List·Memᴰ·not-nil}
 use lib.ListN.{length, getD}
 use lib.Dec.{eqb}
@@ -14,7 +14,6 @@ use Rattle.commands.specs.Context.{params-of, context}
 use Rattle.commands.specs.Names.{Named, NamedSteps, NamesRight}
 use Rattle.commands.specs.Typing.{Typed, TypedSteps, TypesRight}
 use Rattle.commands.specs.Noted.{noted}
-use Rattle.commands.specs.Bounds.{greatest, step-depth, program-depth}
 use Rattle.machine.specs.Published.{find-step, step-of}
 use Rattle.sound.specs.Tags.{at-start, Safe}
 use Rattle.sound.specs.Static.{static-step}
@@ -53,7 +52,7 @@ module _ (p : Program) (names : NamesRight p) (types : TypesRight p) (k : ℕ) w
   program-safe t m =
       let d = each-step (λ j t. Typed (context p j (t .body)) (t .body)) (TypedSteps p) (λ j ts tss q. q) 0 (p .steps) k types m in
       let n =
-        each-step (λ j t. Named (t .body) (length (params-of p j)) [] []) (NamedSteps p) (λ j ts tss q. (q .1, q .2)) 0 (p .steps) k (names .0) m in
+      each-step (λ j t. Named (t .body) (length (params-of p j)) [] []) (NamedSteps p) (λ j ts tss q. (q .1, q .2)) 0 (p .steps) k (names .0) m in
       static-step p k (t .body) (rw zero-add at d) (rw zero-add at n)
 
   -- so are the commands that the step n of struct k gives its instances

@@ -1,2 +1,9 @@
 pub mod Table
 pub mod TableReader
+pub mod Sizes
+pub mod ValueLaws
+pub mod TableExact
+pub mod ReferenceLaws
+pub mod TableLaws
+pub mod SizeLaws
+pub mod Rows

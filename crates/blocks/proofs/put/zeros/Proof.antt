@@ -1,0 +1,62 @@
+-- `put::zeros` meets its contract. The loop's invariant: the first i zeros have been written. The measure is what is left of the n bytes.
+use Prim.Native.Nat.{_≤_, _-_, _+_}
+use mathlib.Core.Path.{_≡_, _∙_, ap, sym, refl}
+use lib.ListN.{length, length-set, set, replicate}
+use Rattle.blocks.specs.Put.{put, put-nil}
+use Rattle.blocks.specs.WriteWays.{zeros-turn}
+use native.Mathlib.Omega.{arith}
+use Rattle.blocks.proofs.put.zeros.Statement.{statement}
+use Rattle.blocks.proofs.put.zeros.Tie as tie
+
+abbrev Inv-loop : tie.InvT-loop
+Inv-loop dst₀ at n i₀ dst i = (i ≤ n) × ((length dst ≡ length dst₀) × (dst ≡ put dst₀ at (replicate i 0)))
+
+abbrev μ-loop : tie.MeasureT-loop
+μ-loop dst₀ at n i₀ dst i = n - i
+
+loop-holds : tie.Need-loop-holds Inv-loop μ-loop
+loop-holds c = (omega arith, (refl, sym (put-nil _ _)))
+
+add-dst : tie.Need-add-dst Inv-loop μ-loop
+add-dst c = omega arith
+
+slice-write-dst : tie.Need-slice-write-dst Inv-loop μ-loop
+slice-write-dst c = omega arith
+
+add-i : tie.Need-add-i Inv-loop μ-loop
+add-i c = omega arith
+
+loop-less : tie.Need-loop-less Inv-loop μ-loop
+loop-less c = omega arith
+
+loop-again : tie.Need-loop-again Inv-loop μ-loop
+loop-again c =
+    let i = c .before .loop .i in
+    let inv = c .before .loop .inv in
+    (
+      omega arith,
+      (simp length-set (inv .1 .0), ap (λ d. set d (c .before .before .args .at + i) 0) (inv .1 .1) ∙ zeros-turn _ _ _ i (c .before .before .pre) (c .loop-test .taken))
+    )
+
+same-length : tie.Need-same-length Inv-loop μ-loop
+same-length c = c .before .loop .inv .1 .0
+
+returns : tie.Need-returns Inv-loop μ-loop
+returns c =
+    let e : c .before .loop .i ≡ c .before .before .args .n = omega arith in
+    c .before .loop .inv .1 .1 ∙ ap (λ i. put (c .before .before .args .dst .now) (c .before .before .args .at) (replicate i 0)) e
+
+pub zeros-spec : {M : Type 1} → statement M
+zeros-spec =
+    tie.close
+    (tie.spec
+    Inv-loop
+    μ-loop
+    loop-holds
+    add-dst
+    slice-write-dst
+    add-i
+    loop-less
+    loop-again
+    same-length
+    returns)

@@ -1,0 +1,53 @@
+-- `write_image` meets its contract: a length that is not allowed before a short output, and the image only where neither is.
+use mathlib.Core.Path.{_≡_, _∙_, refl}
+use borrow.Author.Tests.{not-true, not-false}
+use Rattle.blocks.specs.Images.{image, written-into}
+use Rattle.blocks.specs.WriteWays.{right-stream, write-refused, write-short, write-done, write-after}
+use borrow.Author.Needs.{needs}
+use native.Mathlib.Omega.{arith}
+use Rattle.blocks.proofs.write_image.Statement.{statement}
+use Rattle.blocks.proofs.write_image.Tie as tie
+
+stream-right-requires : tie.Need-stream-right-requires
+stream-right-requires c κs = search needs
+
+returns : tie.Need-returns
+unfolding written-into
+returns c = (write-refused _ _ _ _ (c .before .stream-right .ensures) (not-true _ (c .if1 .taken)), refl)
+
+add-n : tie.Need-add-n
+add-n c = omega (arith, right-stream _ _ _ (c .before .stream-right .ensures) (not-false _ (c .if1 .left)))
+
+mul-if2 : tie.Need-mul-if2
+mul-if2 c = omega (arith, right-stream _ _ _ (c .before .stream-right .ensures) (not-false _ (c .if1 .left)))
+
+returns-2 : tie.Need-returns-2
+unfolding written-into
+returns-2 c = (write-short _ _ _ _ (c .before .before .stream-right .ensures) (not-false _ (c .before .if1 .left)) (c .if2 .taken), refl)
+
+put-blocks-requires : tie.Need-put-blocks-requires
+put-blocks-requires c κs = omega (arith, right-stream _ _ _ (c .before .before .before .stream-right .ensures) (not-false _ (c .before .before .if1 .left)))
+
+same-length : tie.Need-same-length
+same-length c = c .before .before .put-blocks .kept .1 .1 .0
+
+returns-3 : tie.Need-returns-3
+unfolding image
+returns-3 c =
+    (
+      write-done _ _ _ _ (c .before .before .before .before .before .before .stream-right .ensures) (not-false _ (c .before .before .before .before .before .if1 .left)) (c .before .before .before .before .if2 .left),
+      c .before .before .put-blocks .ensures ∙ write-after (c .before .before .before .before .before .before .before .before .before .args .stream .now) (c .before .before .before .before .before .before .before .before .before .args .out .now)
+    )
+
+pub write-image-spec : {M : Type 1} → statement M
+write-image-spec =
+    tie.close
+    (tie.spec
+    stream-right-requires
+    returns
+    add-n
+    mul-if2
+    returns-2
+    put-blocks-requires
+    same-length
+    returns-3)

@@ -1,0 +1,15 @@
+pub mod Decides
+pub mod Put
+pub mod Sums
+pub mod SumLaws
+pub mod Blocks
+pub mod BlockLaws
+pub mod BlockWays
+pub mod BlockRoundTrip
+pub mod Images
+pub mod Faults
+pub mod FaultLaws
+pub mod ImageLaws
+pub mod ImageWays
+pub mod WriteWays
+pub mod ImageRoundTrip

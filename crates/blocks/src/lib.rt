@@ -1,0 +1,101 @@
+// Images of blocks and their streams, for any number of blocks (01, 'Blocks'): what is wrong with an image, the stream of an image, the image of a
+// stream. Both work in memory that the caller lends, and a refusal writes nothing there.
+mod block;
+mod put;
+mod reading;
+mod writing;
+
+ghost use mathlib.Core.Path.{_≡_};
+ghost use lib.ListN.{length};
+ghost use Rattle.blocks.specs.Images.{fault, stream, read, read-into, write, written-into, program-number, table-number};
+
+// What is wrong with an image.
+pub enum Fault {
+    Length,
+    Sum,
+    Layout,
+}
+
+// What looking through an image finds.
+pub enum Found {
+    Right,
+    Wrong(Fault),
+}
+
+// What reading an image answers: the stream's length, with the stream in the buffer; or why nothing was written.
+pub enum Read {
+    Stream(usize),
+    Refused(Fault),
+    Short,
+}
+
+// What writing a stream answers: the number of blocks, with the image in the output; or why nothing was written.
+pub enum Written {
+    Blocks(usize),
+    Length,
+    Short,
+}
+
+// 01's number of a program image's fault.
+pub fn program_number(fault: Fault) -> u8
+    ensures { λ r. ⌜ r ≡ program-number fault ⌝ }
+{
+    match fault {
+        Fault::Length => 1,
+        Fault::Sum => 2,
+        Fault::Layout => 3,
+    }
+}
+
+// 01's number of a table image's fault.
+pub fn table_number(fault: Fault) -> u8
+    ensures { λ r. ⌜ r ≡ table-number fault ⌝ }
+{
+    match fault {
+        Fault::Length => 9,
+        Fault::Sum => 10,
+        Fault::Layout => 10,
+    }
+}
+
+// What is wrong with an image where max blocks are allowed.
+pub fn image_fault(image: &[u8], max: usize) -> Found
+    ensures { λ r. ⌜ r ≡ fault max (now (image .entry)) ⌝ }
+{
+    if !reading::length_right(image.len(), max) {
+        return Found::Wrong(Fault::Length);
+    }
+    reading::first_fault(image, image.len() / 512)
+}
+
+// The stream of an image where max blocks are allowed, in the front of the buffer. Every block is looked at before the first byte is written.
+pub fn read_image(image: &[u8], max: usize, buffer: &mut [u8]) -> Read
+    ensures { λ r. ⌜ (r ≡ read max (now (image .entry)) (length (now (buffer .entry)))) × (now (buffer .exit) ≡ read-into r (stream (now (image .entry))) (now (buffer .entry))) ⌝ }
+{
+    if let Found::Wrong(f) = image_fault(image, max) {
+        return Read::Refused(f);
+    }
+    let n = image.len() / 512;
+    let length = reading::stream_length(image, n);
+    if buffer.len() < length {
+        return Read::Short;
+    }
+    reading::join(image, n, buffer);
+    Read::Stream(length)
+}
+
+// The image of a stream where max blocks are allowed, in the front of the output.
+pub fn write_image(stream: &[u8], max: usize, out: &mut [u8]) -> Written
+    ensures { λ r. ⌜ (r ≡ write max (length (now (stream .entry))) (length (now (out .entry)))) × (now (out .exit) ≡ written-into r (now (stream .entry)) (now (out .entry))) ⌝ }
+{
+    let length = stream.len();
+    if !writing::stream_right(length, max) {
+        return Written::Length;
+    }
+    let n = (length + 503) / 504;
+    if out.len() < 512 * n {
+        return Written::Short;
+    }
+    writing::put_blocks(stream, n, out);
+    Written::Blocks(n)
+}

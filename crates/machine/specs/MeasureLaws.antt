@@ -1,0 +1,183 @@
+-- Laws of the measures: moves cannot go on for ever without a command, nor commands without a move (01, 'Table and turns').
+use Prim.Native.Nat.{ℕ, zero, suc, max, _+_, _<_, _≤_}
+use mathlib.Core.Path.{_≡_, refl, ap, sym, _∙_}
+use mathlib.Core.Bool.{Bool, true, false}
+use mathlib.Core.Option.{Option, none, some}
+use mathlib.Core.List.{List, [], _∷_, _++_, map}
+use native.Mathlib.Omega.{arith}
+use lib.ListN.{length, getElem?, set, drop, length-drop, length-map}
+use lib.Dec.{ltb, eqb}
+use Rattle.types.specs.Limits.{max-stability}
+use Rattle.types.specs.Types.{Ty.ref}
+use Rattle.types.specs.Values.{Val.label}
+use Rattle.program.specs.Tree.{Stmts, Program}
+use Rattle.commands.specs.Context.{context}
+use Rattle.commands.specs.Noted.{Note, erase, noted}
+use Rattle.commands.specs.NotedLaws.{erased}
+use Rattle.machine.specs.Published.{Sched, Sched.done, Sched.start, Sched.start-in, Sched.fixpoint, Sched.active, before, Env, arity, step-of}
+use Rattle.machine.specs.Machine.{Tagged, tagged, Instance, Machine, Out, Out.next, Out.refused, Out.stuck, with-code, with-written, update-env, made, now-written, command, given, started, started-in, machine, repeat, move-by, move}
+use Rattle.machine.specs.RepresentsLaws.{Still}
+use Rattle.machine.specs.Performed.{Performed, Performed.pushed, Performed.pushed-this, Performed.negated, Performed.read-one, Performed.skipped, Performed.wrote, Performed.calculated, Performed.exceeding, Performed.constructed, Performed.filled, Performed.branched, Performed.no-way}
+use Rattle.machine.specs.PerformedLaws.{by-ways}
+use Rattle.machine.specs.Measure.{weight, bound, passages, measure, total, codes, count, share, share-in, Moved, Moved.unmoved, Moved.moved, Took, Took.untaken, Took.took}
+
+-- Moves ----------------------------------------------------------------------------
+
+weight-before : (f s : Sched) → weight (before f s) ≡ weight f + weight s
+unfolding weight before
+weight-before done s = omega arith
+weight-before (start n r) s = omega (arith, weight-before r s)
+weight-before (start-in k n r) s = omega (arith, weight-before r s)
+weight-before (fixpoint g r) s = omega (arith, weight-before r s)
+weight-before (active g r) s = omega (arith, weight-before r s)
+
+bound-before : (f s : Sched) → bound (before f s) ≡ max (bound f) (bound s)
+unfolding bound before
+bound-before done s = omega arith
+bound-before (start n r) s = bound-before r s
+bound-before (start-in k n r) s = bound-before r s
+bound-before (fixpoint g r) s = omega (arith, bound-before r s)
+bound-before (active g r) s = omega (arith, bound-before r s)
+
+-- the measure is below M, and the bound at most B
+abbrev Falls : ℕ → ℕ → Out → Type 0
+Falls B M (next m) = (measure B m < M) × (bound (m .sched) ≤ B)
+Falls B M (refused n) = Unit {0}
+Falls B M stuck = Unit {0}
+
+falls-by : (p : Program) (B : ℕ) (s : Sched) (is : List Instance) (b : List Bool) → bound s ≤ B → Falls B (passages B b + weight s) (move-by p s is b)
+unfolding move-by repeat measure weight bound passages
+falls-by p B done is b h = tt
+falls-by p B (start n s) is b h = (omega arith, h)
+falls-by p B (start-in k n s) is b h = (omega arith, h)
+falls-by p B (fixpoint f s) is b h = go (ltb (length b) max-stability) refl
+  where
+    go : (t : Bool) → ltb (length b) max-stability ≡ t → Falls B (passages B b + (weight f + 2 + weight s)) (move-by p (fixpoint f s) is b)
+    go true e = rw (e, move-by) (omega (arith, weight-before f (active f s)), omega (arith, bound-before f (active f s)))
+    go false e = rw (e, move-by) tt
+falls-by p B (active f s) is [] h = tt
+falls-by p B (active f s) is (true ∷ b) h = (omega arith, omega arith)
+falls-by p B (active f s) is (false ∷ b) h = (omega (arith, weight-before f (active f s)), omega (arith, bound-before f (active f s)))
+
+-- with every move the measure falls, and the bound does not grow: moves alone come to an end
+pub move-falls : (p : Program) (B : ℕ) (m : Machine) {m′ : Machine} → bound (m .sched) ≤ B → move p m ≡ next m′ → (measure B m′ < measure B m) × (bound (m′ .sched) ≤ B)
+unfolding measure
+move-falls p B m h e = rw e at (falls-by p B (m .sched) (m .instances) (m .stability) h)
+
+-- so many moves in a row take at most the measure
+pub moves-bounded : (p : Program) (B : ℕ) {n : ℕ} {m m′ : Machine} → bound (m .sched) ≤ B → Moved p n m m′ → n + measure B m′ ≤ measure B m
+moves-bounded p B h unmoved = omega arith
+moves-bounded p B h (moved {m = m} e r) =
+    let (f, k) = move-falls p B m h e in omega (arith, moves-bounded p B k r)
+
+-- Commands -------------------------------------------------------------------------
+
+codes-set : (is : List Instance) (l : ℕ) {i : Instance} (j : Instance) → getElem? is l ≡ some i → codes (set is l j) + length (i .code) ≡ codes is + length (j .code)
+unfolding codes total
+codes-set [] l j e = let z : _≡_ {A = ℕ} 0 1 = cc in absurd (omega arith)
+codes-set (x ∷ is) zero {i} j e = let h : x ≡ i = cc in rw h (omega arith)
+codes-set (x ∷ is) (suc l) {i} j e = omega (arith, codes-set is l {i = i} j e)
+
+codes-env : (is : List Instance) (l : ℕ) (ξ : Env) → codes (update-env is l ξ) ≡ codes is
+unfolding codes total update-env
+codes-env [] l ξ = refl
+codes-env (i ∷ is) zero ξ = refl
+codes-env (i ∷ is) (suc l) ξ = rw (codes-env is l ξ)
+
+codes-append : (is : List Instance) (i : Instance) → codes (is ++ i ∷ []) ≡ codes is + length (i .code)
+unfolding codes total
+codes-append [] i = omega arith
+codes-append (x ∷ is) i = omega (arith, codes-append is i)
+
+-- fewer than n commands are held
+abbrev Fewer : ℕ → Out → Type 0
+Fewer n (next m) = codes (m .instances) < n
+Fewer n (refused k) = Unit {0}
+Fewer n stuck = Unit {0}
+
+-- every way through a command with r behind it leaves r or less
+module _ (p : Program) (m : Machine) (l : ℕ) {i₀ : Instance} (g : getElem? (m .instances) l ≡ some i₀) (i : Instance) (r : List Note) (h : length r < length (i₀ .code)) where
+  kept : (r′ : List Note) (χ : List Tagged) → length r′ ≤ length r → codes (set (m .instances) l (with-code i r′ χ)) < codes (m .instances)
+  kept r′ χ k = omega (arith, codes-set (m .instances) l (with-code i r′ χ) g)
+
+  all : (χ : List Tagged) → codes (set (m .instances) l (with-code i r χ)) < codes (m .instances)
+  all χ = kept r χ (omega arith)
+
+  fewer : {n : Note} {o : Out} → Performed p m l i r n o → Fewer (codes (m .instances)) o
+  fewer pushed = all _
+  fewer pushed-this = all _
+  fewer (negated x) = all _
+  fewer (read-one k x j a) = all _
+  fewer (skipped k x j u a) = all _
+  fewer (wrote {χ = χ} k x j u a) = rw codes-env (all χ)
+  fewer (calculated x a) = all _
+  fewer (exceeding x a) = tt
+  fewer (constructed {k = k} a u) =
+      let χ : List Tagged = tagged (ref k) (label (length (m .instances))) ∷ drop (arity p k) (i .stack) in
+      omega (arith, all χ, codes-append (set (m .instances) l (with-code i r χ)) (made p m l i k (arity p k) (i .stack)))
+  fewer (filled a u) = tt
+  fewer (branched {b = true} x) = all _
+  fewer (branched {n = n} {b = false} {χ = χ} x) = kept (drop n r) χ (rw length-drop (omega arith))
+  fewer no-way = tt
+
+-- each command leaves fewer commands held in all
+pub command-shortens : (p : Program) (l : ℕ) (m : Machine) {m′ : Machine} → command p l m ≡ next m′ → codes (m′ .instances) < codes (m .instances)
+command-shortens p l m e =
+    rw e at (by-ways (Fewer (codes (m .instances))) p m l tt
+    λ i n r o g f h. fewer p m l g (with-written i (now-written n (i .written))) r (omega (arith, ap length f)) h)
+
+-- so many commands in a row take at most those held
+pub commands-bounded : {p : Program} {n : ℕ} {m m′ : Machine} → Took p n m m′ → n + codes (m′ .instances) ≤ codes (m .instances)
+commands-bounded untaken = omega arith
+commands-bounded {p} (took {m = m} l e r) = omega (arith, command-shortens p l m e, commands-bounded r)
+
+-- Starts ---------------------------------------------------------------------------
+
+codes-map : (f : Instance → Instance) (g : Instance → ℕ) → ((i : Instance) → i .code ≡ [] → length (f i .code) ≡ g i) → (is : List Instance) → Still is → codes (map f is) ≡ total g is
+unfolding codes total
+codes-map f g h [] t = refl
+codes-map f g h (i ∷ is) t = rw (h i (t .0), codes-map f g h is (t .1))
+
+module _ (p : Program) where
+  given-code : (o : Option Stmts) (i : Instance) → i .code ≡ [] → length (given p o i .code) ≡ count o
+  unfolding given count
+  given-code none i e = ap length e
+  given-code (some b) i e = sym (length-map (noted (context p (i .struct) b) b) erase) ∙ ap length (erased (context p (i .struct) b) b)
+
+  started-code : (n : ℕ) (i : Instance) → i .code ≡ [] → length (started p n i .code) ≡ share p n i
+  unfolding started share
+  started-code n i e = given-code (step-of p (i .struct) n) i e
+
+  started-in-code : (x n : ℕ) (i : Instance) → i .code ≡ [] → length (started-in p x n i .code) ≡ share-in p x n i
+  unfolding started-in share-in
+  started-in-code x n i e = go (eqb (i .struct) x) refl
+    where
+      go : (t : Bool) → eqb (i .struct) x ≡ t → length (started-in p x n i .code) ≡ share-in p x n i
+      go true h = rw (h, started-in, share-in) (started-code n i e)
+      go false h = rw (h, started-in, share-in) (ap length e)
+
+  -- a step started where no instance holds commands leaves the sum of its command counts, each over its instances
+  pub started-codes : (n : ℕ) (is : List Instance) → Still is → codes (map (started p n) is) ≡ total (share p n) is
+  started-codes n = codes-map (started p n) (share p n) (started-code n)
+
+  -- and so for a step of one struct
+  pub started-in-codes : (x n : ℕ) (is : List Instance) → Still is → codes (map (started-in p x n) is) ≡ total (share-in p x n) is
+  started-in-codes x n = codes-map (started-in p x n) (share-in p x n) (started-in-code x n)
+
+  -- a started step takes at most the sum of its command counts, each over its instances, in turns
+  pub started-turns : (n : ℕ) (s : Sched) (is : List Instance) (b : List Bool) {k : ℕ} {m m′ : Machine}
+      → Still is → move p (machine (start n s) is b) ≡ next m → Took p k m m′ → k ≤ total (share p n) is
+  unfolding move-by
+  started-turns n s is b {m = m} t e r =
+      let h : m ≡ machine s (map (started p n) is) b = cc in
+      let f : codes (m .instances) ≡ total (share p n) is = rw h (started-codes n is t) in
+      omega (arith, commands-bounded r)
+
+  -- and so for a step of one struct
+  pub started-in-turns : (x n : ℕ) (s : Sched) (is : List Instance) (b : List Bool) {k : ℕ} {m m′ : Machine}
+      → Still is → move p (machine (start-in x n s) is b) ≡ next m → Took p k m m′ → k ≤ total (share-in p x n) is
+  unfolding move-by
+  started-in-turns x n s is b {m = m} t e r =
+      let h : m ≡ machine s (map (started-in p x n) is) b = cc in
+      let f : codes (m .instances) ≡ total (share-in p x n) is = rw h (started-in-codes x n is t) in
+      omega (arith, commands-bounded r)

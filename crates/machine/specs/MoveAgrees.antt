@@ -1,0 +1,121 @@
+-- A schedule move of the machine and the published rules for the schedule agree, both ways (000, section 4; 01, number 36).
+use Prim.Native.Nat.{ℕ}
+use mathlib.Core.Path.{_≡_, refl, sym, subst, subst₂}
+use mathlib.Core.Logic.{_↔_}
+use mathlib.Core.Bool.{Bool, true, false}
+use mathlib.Core.Option.{Option, none, some}
+use mathlib.Core.List.{List, [], _∷_, map}
+use native.Mathlib.Omega.{arith}
+use lib.ListN.{length}
+use lib.Dec.{ltb, eqb}
+use borrow.Author.Tests.{ltb-true, ltb-false, lt-ltb, le-ltb}
+use Rattle.types.specs.Limits.{max-stability}
+use Rattle.program.specs.Tree.{Stmts, Program}
+use Rattle.commands.specs.Commands.{commands}
+use Rattle.commands.specs.Context.{context}
+use Rattle.commands.specs.NotedLaws.{erased}
+use Rattle.machine.specs.Published.{Sched, Sched.done, Sched.start, Sched.start-in, Sched.fixpoint, Sched.active, before, Inst, Inst.inst, State, State.state, step-of}
+use Rattle.machine.specs.Rules.{Done, given, started, started-in, Actor.schedule, Rule, Rule.InitG, Rule.InitL, Rule.FixInit, Rule.FixIter, Rule.FixTerm}
+use Rattle.machine.specs.Stops.{Nested, Nested.no-entry}
+use Rattle.machine.specs.Machine.{Instance, Machine, Out, Out.next, Out.refused, Out.stuck, nested, given as equip, started as begin, started-in as begin-in, repeat, move-by, move}
+use Rattle.machine.specs.Represents.{values, Represents-inst, Represents-all, Represents}
+use Rattle.machine.specs.RepresentsLaws.{Still, still-done, represents-map}
+use Rattle.machine.specs.CommandComplete.{Leads}
+use Rattle.machine.specs.CommandAgrees.{led}
+
+-- what an outcome of a move says of the published state
+abbrev pub Moves : Program → Sched → List Inst → List Bool → Out → Type 0
+Moves p s σ b (next m) = Done σ → (st : State) × (Rule p schedule (state s σ b) st) × (Represents m st)
+Moves p s σ b (refused n) = (n ≡ nested) × (Nested (state s σ b))
+Moves p s σ b stuck = Unit {0}
+
+module _ (p : Program) where
+  -- the commands of a step with their notes stand for those of rules InitG and InitL
+  given-represents : (o : Option Stmts) (i : Instance) (j : Inst) → Represents-inst i j → Represents-inst (equip p o i) (given o j)
+  unfolding equip given values commands
+  given-represents none i (inst k c χ ξ) r = r
+  given-represents (some b) i (inst k c χ ξ) r = (r .0, erased (context p (i .struct) b) b, refl, r .3)
+
+  -- an instance of the machine begins the step where that of the state does
+  pub started-represents : (n : ℕ) (i : Instance) (j : Inst) → Represents-inst i j → Represents-inst (begin p n i) (started p n j)
+  unfolding begin
+  started-represents n i (inst k c χ ξ) r =
+      subst (λ x. Represents-inst (equip p (step-of p x n) i) (started p n (inst k c χ ξ))) (sym (r .0)) (given-represents (step-of p k n) i (inst k c χ ξ) r)
+
+  pub started-in-represents : (x n : ℕ) (i : Instance) (j : Inst) → Represents-inst i j → Represents-inst (begin-in p x n i) (started-in p x n j)
+  unfolding begin-in started-in
+  started-in-represents x n i (inst k c χ ξ) r = go (eqb k x) refl
+    where
+      go : (t : Bool) → eqb k x ≡ t → Represents-inst (begin-in p x n i) (started-in p x n (inst k c χ ξ))
+      go true e = rw (r .0, e, begin-in, started-in) (started-represents n i (inst k c χ ξ) r)
+      go false e = rw (r .0, e, begin-in, started-in) r
+
+  -- what a move comes to follows the rules
+  moves-by : (s : Sched) (is : List Instance) (σ : List Inst) (b : List Bool) → Represents-all is σ → Moves p s σ b (move-by p s is b)
+  unfolding move-by repeat
+  moves-by done is σ b R = tt
+  moves-by (start n s) is σ b R =
+      λ d. (state s (map (started p n) σ) b, InitG d refl, (refl, represents-map (begin p n) (started p n) (started-represents n) is σ R, refl))
+  moves-by (start-in k n s) is σ b R =
+      λ d. (state s (map (started-in p k n) σ) b, InitL d refl, (refl, represents-map (begin-in p k n) (started-in p k n) (started-in-represents k n) is σ R, refl))
+  moves-by (fixpoint f s) is σ b R = go (ltb (length b) max-stability) refl
+    where
+      go : (u : Bool) → ltb (length b) max-stability ≡ u → Moves p (fixpoint f s) σ b (move-by p (fixpoint f s) is b)
+      go true e = rw (e, move-by) λ d. (state (before f (active f s)) σ (true ∷ b), FixInit d (ltb-true (length b) max-stability e) refl, (refl, R, refl))
+      go false e = rw (e, move-by) (refl, no-entry (ltb-false (length b) max-stability e))
+  moves-by (active f s) is σ [] R = tt
+  moves-by (active f s) is σ (true ∷ b) R = λ d. (state s σ b, FixTerm d, (refl, R, refl))
+  moves-by (active f s) is σ (false ∷ b) R = λ d. (state (before f (active f s)) σ (true ∷ b), FixIter d refl, (refl, R, refl))
+
+  -- a rule for the schedule gives what the move comes to
+  leads-by : {s : Sched} (is : List Instance) {σ : List Inst} {b : List Bool} {st : State} → Represents-all is σ → Rule p schedule (state s σ b) st → Leads st (move-by p s is b)
+  unfolding move-by repeat
+  leads-by is {σ} R (InitG {n = n} d e) = rw e (refl, represents-map (begin p n) (started p n) (started-represents n) is σ R, refl)
+  leads-by is {σ} R (InitL {k = k} {n = n} d e) = rw e (refl, represents-map (begin-in p k n) (started-in p k n) (started-in-represents k n) is σ R, refl)
+  leads-by is R (FixInit {b = b} d h e) = rw (e, lt-ltb (length b) max-stability h, move-by) (refl, R, refl)
+  leads-by is R (FixIter d e) = rw e (refl, R, refl)
+  leads-by is R (FixTerm d) = (refl, R, refl)
+
+  nested-by : {s : Sched} {σ : List Inst} {b : List Bool} (is : List Instance) → Nested (state s σ b) → move-by p s is b ≡ refused nested
+  unfolding move-by
+  nested-by is (no-entry {b = b} h) = rw (le-ltb (length b) max-stability h, move-by)
+
+  module _ (m : Machine) where
+    -- a move from the schedule and the stability stack that the machine stands for
+    from : (P : Out → Type 0) {s : Sched} {b : List Bool} → m .sched ≡ s → m .stability ≡ b → P (move-by p s (m .instances) b) → P (move p m)
+    from P e f = subst₂ (λ s b. P (move-by p s (m .instances) b)) (sym e) (sym f)
+
+    outcome : (s : Sched) (σ : List Inst) (b : List Bool) → Represents m (state s σ b) → Moves p s σ b (move p m)
+    outcome s σ b R = from (Moves p s σ b) (R .0) (R .2) (moves-by s (m .instances) σ b (R .1))
+
+    -- what the next machine stands for, a rule gives, where no instance holds commands
+    pub move-follows : (st : State) {m′ : Machine} → Represents m st → Still (m .instances) → move p m ≡ next m′ → (st′ : State) × (Rule p schedule st st′) × (Represents m′ st′)
+    move-follows (state s σ b) R t e = (rw e at (outcome s σ b R)) (still-done (m .instances) σ (R .1) .0 t)
+
+    -- what a rule gives, the next machine stands for
+    pub move-complete : {st st′ : State} → Represents m st → Rule p schedule st st′ → (m′ : Machine) × (move p m ≡ next m′) × (Represents m′ st′)
+    move-complete {st = state s σ b} {st′} R r = led st′ (move p m) (from (Leads st′) (R .0) (R .2) (leads-by (m .instances) (R .1) r))
+
+    -- a move is refused with 36 exactly where Fix is met with 8 stability entries
+    pub move-nested : (st : State) → Represents m st → (move p m ≡ refused nested) ↔ (Nested st)
+    move-nested (state s σ b) R = (λ e. (rw e at (outcome s σ b R)) .1, λ h. from (λ o. o ≡ refused nested) (R .0) (R .2) (nested-by (m .instances) h))
+
+    -- a move is refused with no other number
+    pub move-numbers : (st : State) {n : ℕ} → Represents m st → move p m ≡ refused n → n ≡ nested
+    move-numbers (state s σ b) R e = (rw e at (outcome s σ b R)) .0
+
+    -- no move comes of it, where no instance holds commands, exactly where no rule and no condition of 36 fits
+    pub move-stuck : (st : State) → Represents m st → Still (m .instances)
+        → (move p m ≡ stuck) ↔ (((st′ : State) → Rule p schedule st st′ → ⊥) × (Nested st → ⊥))
+    move-stuck (state s σ b) R t = (
+      λ e. (
+        λ st′ r. let (m′, f, h) = move-complete R r in let z : _≡_ {A = ℕ} 0 1 = cc in omega arith,
+        λ h. let f = move-nested (state s σ b) R .1 h in let z : _≡_ {A = ℕ} 0 1 = cc in omega arith,
+      ),
+      λ h. go (move p m) (outcome s σ b R) h,
+    )
+      where
+        go : (o : Out) → Moves p s σ b o → ((st′ : State) → Rule p schedule (state s σ b) st′ → ⊥) × (Nested (state s σ b) → ⊥) → o ≡ stuck
+        go (next m′) f h = let (st′, r, q) = f (still-done (m .instances) σ (R .1) .0 t) in absurd (h .0 st′ r)
+        go (refused n) f h = absurd (h .1 (f .1))
+        go stuck f h = refl

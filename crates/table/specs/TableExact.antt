@@ -1,0 +1,110 @@
+-- Tables are read exactly (01, 'Table and turns').
+use Prim.Native.Nat.{ℕ, _+_, _≤_}
+use native.Mathlib.Omega.{arith}
+use mathlib.Core.Path.{_≡_, refl}
+use mathlib.Core.Bool.{Bool, true, false}
+use mathlib.Core.List.{List, [], _∷_, _++_}
+use lib.ListN.{length, getD}
+use lib.Dec.{leb, T, leb→le, le→leb}
+use Rattle.types.specs.Limits.{max-instances}
+use Rattle.types.specs.Types.{Ty}
+use Rattle.types.specs.Values.{Val, Val.nat-val, word, value-of}
+use Rattle.program.specs.Encoding.{enc-word, flat}
+use Rattle.program.specs.Reader.{Result, Result.ok, then, guard}
+use Rattle.program.specs.Exact.{Stands, Stands.done, Told, Told.told, Told.silent, Cut, Cut.same, Cut.stop, At, Exact}
+use Rattle.program.specs.StandsLaws.{both, split, stands-none}
+use Rattle.program.specs.PartLaws.{told-then, told-weak, then-ok, cut-then}
+use Rattle.program.specs.JoinLaws.{exact-iff, made-exact, pair-exact, row-exact, flat-row}
+use Rattle.program.specs.WordLaws.{below-exact, word-exact}
+use Rattle.table.specs.Table.{value-bytes, count-bytes, enc-value, enc-record, enc-table, Each, Held, HeldRecord, HeldTable}
+use Rattle.table.specs.TableReader.{allowed, read-value, read-values, read-record, read-count, read-table}
+use Rattle.table.specs.ValueLaws.{value-of-word, word-of-value}
+
+module _ {A : Type 0} {C : A → Type 0} {E : A → List ℕ} {r : List ℕ → ℕ → Result A} (x : Exact C E r) where
+  -- a value that passes a test
+  pub guard-exact : (t : A → Bool) → Exact (λ a. (C a) × (T (t a))) E (λ s n. then (r s n) λ a k. guard (t a) n a k)
+  unfolding guard
+  guard-exact t = record {
+    sound = λ s n. told-then (x .sound s n) λ a k p. sound s n a k (t a) refl p;
+    complete = λ s a n m c w. then-ok _ (x .complete s a n m (c .0) w) (complete n a m (t a) (c .1));
+    cut = λ s u n l. cut-then (x .cut s u n l) λ a k l. cut n a k (t a) l;
+  }
+    where
+      sound : (s : List ℕ) (n : ℕ) (a : A) (k : ℕ) (v : Bool) → t a ≡ v → At C E s n a k → Told (At (λ a. (C a) × (T (t a))) E s n) (guard v n a k)
+      sound s n a k true e w = told {a = a} ((w .0, rw e tt), w .1)
+      sound s n a k false e w = silent
+
+      complete : (n : ℕ) (a : A) (m : ℕ) (v : Bool) → T v → guard v n a m ≡ ok a m
+      complete n a m true c = refl
+
+      cut : {N : ℕ} (n : ℕ) (a : A) (k : ℕ) (v : Bool) → k ≤ N → Cut N (guard v n a k) (guard v n a k)
+      cut n a k true l = same l
+      cut n a k false l = stop
+
+  -- a value behind one that tells how to read it: `head` tells the first again from the second
+  pub led-exact : {B : Type 0} {D : A → B → Type 0} {F : B → List ℕ} {q : A → List ℕ → ℕ → Result B} (head : B → A)
+      → ((a : A) (b : B) → D a b → head b ≡ a) → ((a : A) → Exact (D a) F (q a))
+      → Exact (λ b. (C (head b)) × (D (head b) b)) (λ b. E (head b) ++ F b) (λ s n. then (r s n) λ a. q a s)
+  led-exact head h y = record {
+    sound = λ s n.
+        told-then (x .sound s n) λ a k p.
+        told-weak (y a .sound s k) λ b m u.
+        let e = h a b (u .0) in
+        ((rw e (p .0), rw e (u .0)), rw e (both (p .1) (u .1)));
+    complete = λ s b n m c w.
+        let k = split (E (head b)) w in
+        then-ok _ (x .complete s (head b) n (k .0) (c .0) (k .1)) (y (head b) .complete s b (k .0) m (c .1) (k .2));
+    cut = λ s t n l. cut-then (x .cut s t n l) λ a k l. y a .cut s t k l;
+  }
+
+pub value-exact : (t : Ty) → Exact (Held t) enc-value (λ s. read-value s t)
+unfolding read-value enc-value
+value-exact t =
+    made-exact (guard-exact (word-exact value-bytes) (allowed t)) (value-of t) word
+    (λ w h. let p = word-of-value t w (h .0) (h .1) in (p .0, rw (p .1)))
+    (λ v h. let p = value-of-word t v h in ((p .0, p .1), p .2))
+
+-- a value for each type
+pub values-exact : (ts : List Ty) → Exact (Each Held ts) (flat enc-value) (λ s. read-values s ts)
+unfolding read-values flat
+values-exact [] = record {
+  sound = λ s n. told (tt, done);
+  complete = complete;
+  cut = λ s t n l. same l;
+}
+  where
+    complete : (s : List ℕ) (vs : List Val) (n m : ℕ) → Each Held [] vs → Stands s n (flat enc-value vs) m → ok [] n ≡ ok vs m
+    complete s [] n m c w = rw (stands-none w)
+values-exact (t ∷ ts) =
+    made-exact (pair-exact (value-exact t) λ v. values-exact ts) (λ p. p .0 ∷ p .1) parts
+    (λ p h. (h, refl))
+    both-parts
+  where
+    parts : List Val → Val × List Val
+    parts [] = (nat-val 0, [])
+    parts (v ∷ vs) = (v, vs)
+
+    both-parts : (vs : List Val) → Each Held (t ∷ ts) vs → ((Held t (parts vs .0)) × (Each Held ts (parts vs .1))) × (parts vs .0 ∷ parts vs .1 ≡ vs)
+    both-parts (v ∷ vs) h = (h, refl)
+
+module _ (pss : List (List Ty)) where
+  pub record-exact : Exact (HeldRecord pss) enc-record (λ s. read-record pss s)
+  unfolding read-record enc-record
+  record-exact =
+      made-exact (pair-exact (below-exact (length pss)) λ k. values-exact (getD pss k []))
+      (λ p. record { struct = p .0; values = p .1 }) (λ r. (r .struct, r .values))
+      (λ p h. (h, refl))
+      (λ r h. (h, refl))
+
+  pub count-exact : Exact (λ n. n + length pss ≤ max-instances) (enc-word count-bytes) (λ s. read-count pss s)
+  unfolding read-count
+  count-exact =
+      exact-iff (guard-exact (word-exact count-bytes) (λ n. leb (n + length pss) max-instances))
+      λ n. (λ h. leb→le (n + length pss) max-instances (h .1), λ h. (omega arith, le→leb (n + length pss) max-instances h))
+
+  -- the records of a table, behind their number
+  pub table-exact : Exact (HeldTable pss) enc-table (λ s. read-table pss s)
+  unfolding read-table enc-table HeldTable
+  table-exact =
+      exact-iff (led-exact count-exact length (λ n rs h. h .0) λ n. row-exact record-exact (flat-row (HeldRecord pss) enc-record) n)
+      λ rs. (λ h. (h .0, h .1 .1), λ h. (h .0, (refl, h .1)))

@@ -1,0 +1,100 @@
+#!/usr/bin/env bash
+# Compares engines by cases; the format stands in docs/CASES.md.
+#
+#   compare.sh                           the committed cases and answers are
+#                                        what the package makes now
+#   compare.sh write                     writes them anew
+#   compare.sh many SEED COUNT OTHER...  the edges and COUNT seeded cases, in
+#                                        chunks, answered by both engines;
+#                                        OTHER... reads cases, prints lines
+set -euo pipefail
+
+here=$(cd "$(dirname "$0")" && pwd)
+chunk=2000
+
+usage() {
+    sed -n 's/^#   //p' "$0" >&2
+    exit 2
+}
+
+build() {
+    cargo build --quiet --offline --release --jobs 1 --manifest-path "$here/Cargo.toml"
+    second=${CARGO_TARGET_DIR:-$here/target}/release/second
+    work=$(mktemp -d)
+    trap 'rm -rf "$work"' EXIT
+}
+
+make_committed() {
+    {
+        "$second" edges
+        "$second" generate 1 200
+    } >"$work/cases.bin"
+    "$second" <"$work/cases.bin" >"$work/expected.txt"
+}
+
+same_as_committed() {
+    make_committed
+    if ! cmp "$work/cases.bin" "$here/cases/cases.bin"; then
+        echo "compare: the committed cases are not those generated now" >&2
+        exit 1
+    fi
+    if ! diff "$here/cases/expected.txt" "$work/expected.txt" >"$work/difference"; then
+        head -n 10 "$work/difference" >&2
+        echo "compare: the committed answers are not those given now" >&2
+        exit 1
+    fi
+    echo "compare: $(wc -l <"$work/expected.txt") committed cases agree"
+}
+
+# Answers $work/cases.bin by both; $1 says how to make it again.
+answer_both() {
+    local made=$1
+    shift
+    "$second" <"$work/cases.bin" >"$work/ours.txt"
+    if ! "$@" <"$work/cases.bin" >"$work/theirs.txt"; then
+        echo "compare: the other command failed on 'second $made'" >&2
+        exit 1
+    fi
+    if ! cmp -s "$work/ours.txt" "$work/theirs.txt"; then
+        echo "compare: the answers to 'second $made' differ (line: ours | theirs)" >&2
+        paste -d '|' "$work/ours.txt" "$work/theirs.txt" |
+            awk -F '|' '$1 != $2 { print NR ": " $1 " | " $2 }' | head -n 10 >&2
+        exit 1
+    fi
+    total=$((total + $(wc -l <"$work/ours.txt")))
+}
+
+many() {
+    local seed=$1 left=$2 count
+    shift 2
+    total=0
+    "$second" edges >"$work/cases.bin"
+    answer_both edges "$@"
+    while [ "$left" -gt 0 ]; do
+        count=$((left < chunk ? left : chunk))
+        "$second" generate "$seed" "$count" >"$work/cases.bin"
+        answer_both "generate $seed $count" "$@"
+        left=$((left - count))
+        seed=$((seed + 1))
+    done
+    echo "compare: $total cases agree"
+}
+
+case ${1-} in
+"")
+    build
+    same_as_committed
+    ;;
+write)
+    build
+    make_committed
+    cp "$work/cases.bin" "$work/expected.txt" "$here/cases/"
+    ;;
+many)
+    [ $# -ge 4 ] || usage
+    shift
+    build
+    many "$@"
+    ;;
+*) usage ;;
+esac

@@ -1,0 +1,127 @@
+//! Cases to compare engines by: their format, and the line that answers one.
+//! The format stands in docs/CASES.md.
+
+use crate::engine::{check, run};
+use std::io::{self, Read};
+
+pub const LIST_FILL: u64 = 0xA5A5_A5A5_A5A5_A5A5;
+pub const OUTPUT_FILL: u8 = 0xA5;
+
+pub const MOST_PLACES: usize = 1_100;
+pub const MOST_OUTPUT: usize = 9_216;
+pub const MOST_PROGRAM: usize = 33_792;
+pub const MOST_TABLE: usize = 9_728;
+pub const MOST_TURNS: usize = 65_600;
+
+#[derive(Clone, Debug, PartialEq, Eq)]
+pub enum Case {
+    Check { places: usize, program: Vec<u8> },
+    Run { places: usize, output: usize, program: Vec<u8>, table: Vec<u8>, turns: Vec<u8> },
+}
+
+impl Case {
+    /// Adds the case to a file's bytes.
+    pub fn write(&self, file: &mut Vec<u8>) {
+        match self {
+            Case::Check { places, program } => {
+                file.push(1);
+                put_number(file, *places);
+                put_bytes(file, program);
+            }
+            Case::Run { places, output, program, table, turns } => {
+                file.push(2);
+                put_number(file, *places);
+                put_number(file, *output);
+                put_bytes(file, program);
+                put_bytes(file, table);
+                put_bytes(file, turns);
+            }
+        }
+    }
+
+    /// Reads the next case; none at the end of the file.
+    pub fn read(file: &mut impl Read) -> io::Result<Option<Case>> {
+        let mut kind = [0];
+        if file.read(&mut kind)? == 0 {
+            return Ok(None);
+        }
+        let places = take_number(file, MOST_PLACES)?;
+        match kind[0] {
+            1 => Ok(Some(Case::Check { places, program: take_bytes(file, MOST_PROGRAM)? })),
+            2 => Ok(Some(Case::Run {
+                places,
+                output: take_number(file, MOST_OUTPUT)?,
+                program: take_bytes(file, MOST_PROGRAM)?,
+                table: take_bytes(file, MOST_TABLE)?,
+                turns: take_bytes(file, MOST_TURNS)?,
+            })),
+            _ => Err(io::Error::other("a case is of kind 1 or 2")),
+        }
+    }
+
+    /// The line that answers the case.
+    pub fn answer(&self) -> String {
+        match self {
+            Case::Check { places, program } => {
+                let mut list = vec![LIST_FILL; *places];
+                let answer = check(program, &mut list);
+                format!(
+                    "check {} {} {} {} {} {}",
+                    answer.number,
+                    answer.structs,
+                    answer.steps,
+                    answer.commands,
+                    answer.depth,
+                    list_digest(&list)
+                )
+            }
+            Case::Run { places, output, program, table, turns } => {
+                let mut list = vec![LIST_FILL; *places];
+                let mut output = vec![OUTPUT_FILL; *output];
+                let answer = run(program, table, turns, &mut output, &mut list);
+                format!(
+                    "run {} {} {} {} {} {}",
+                    answer.number,
+                    answer.turns,
+                    answer.blocks,
+                    answer.depth,
+                    digest(output.iter().copied()),
+                    list_digest(&list)
+                )
+            }
+        }
+    }
+}
+
+fn list_digest(list: &[u64]) -> u64 {
+    digest(list.iter().flat_map(|place| place.to_le_bytes()))
+}
+
+/// h := (h × 65599 + byte + 1) mod 4294967291, from 0.
+pub fn digest(bytes: impl Iterator<Item = u8>) -> u64 {
+    bytes.fold(0, |h, byte| (h * 65_599 + u64::from(byte) + 1) % 4_294_967_291)
+}
+
+fn put_number(file: &mut Vec<u8>, number: usize) {
+    file.extend_from_slice(&(number as u32).to_le_bytes());
+}
+
+fn put_bytes(file: &mut Vec<u8>, bytes: &[u8]) {
+    put_number(file, bytes.len());
+    file.extend_from_slice(bytes);
+}
+
+fn take_number(file: &mut impl Read, most: usize) -> io::Result<usize> {
+    let mut bytes = [0; 4];
+    file.read_exact(&mut bytes)?;
+    match usize::try_from(u32::from_le_bytes(bytes)) {
+        Ok(number) if number <= most => Ok(number),
+        _ => Err(io::Error::other("a number of a case is over its bound")),
+    }
+}
+
+fn take_bytes(file: &mut impl Read, most: usize) -> io::Result<Vec<u8>> {
+    let mut bytes = vec![0; take_number(file, most)?];
+    file.read_exact(&mut bytes)?;
+    Ok(bytes)
+}

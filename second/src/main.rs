@@ -1,0 +1,67 @@
+//! The second engine as a program. Without a word it answers cases, one line
+//! each; the other words are `listing`, `edges`, `generate SEED COUNT` and
+//! `bench`.
+#![forbid(unsafe_code)]
+
+use second::bench::bench;
+use second::cases::Case;
+use second::generate::{Generator, edges::edges};
+use second::listing;
+use std::io::{self, BufReader, BufWriter, Read, Write};
+use std::process::ExitCode;
+
+const USAGE: &str = "second [listing | edges | generate SEED COUNT | bench]";
+
+fn main() -> ExitCode {
+    let words: Vec<String> = std::env::args().skip(1).collect();
+    let words: Vec<&str> = words.iter().map(String::as_str).collect();
+    let done = match words[..] {
+        [] => answer_cases(),
+        ["listing"] => list_image(),
+        ["edges"] => write_cases(edges().into_iter()),
+        ["generate", seed, count] => match (seed.parse(), count.parse()) {
+            (Ok(seed), Ok(count)) => generate(seed, count),
+            _ => Err(io::Error::other(USAGE)),
+        },
+        ["bench"] => io::stdout().write_all(bench().as_bytes()),
+        _ => Err(io::Error::other(USAGE)),
+    };
+    match done {
+        Ok(()) => ExitCode::SUCCESS,
+        Err(error) => {
+            eprintln!("second: {error}");
+            ExitCode::FAILURE
+        }
+    }
+}
+
+fn answer_cases() -> io::Result<()> {
+    let mut input = BufReader::new(io::stdin().lock());
+    let mut output = BufWriter::new(io::stdout().lock());
+    while let Some(case) = Case::read(&mut input)? {
+        writeln!(output, "{}", case.answer())?;
+    }
+    output.flush()
+}
+
+fn list_image() -> io::Result<()> {
+    let mut image = Vec::new();
+    io::stdin().lock().read_to_end(&mut image)?;
+    io::stdout().write_all(listing(&image).as_bytes())
+}
+
+fn generate(seed: u64, count: usize) -> io::Result<()> {
+    let mut generator = Generator::new(seed);
+    write_cases((0..count).map(|_| generator.next_case()))
+}
+
+fn write_cases(cases: impl Iterator<Item = Case>) -> io::Result<()> {
+    let mut output = BufWriter::new(io::stdout().lock());
+    let mut bytes = Vec::new();
+    for case in cases {
+        bytes.clear();
+        case.write(&mut bytes);
+        output.write_all(&bytes)?;
+    }
+    output.flush()
+}
