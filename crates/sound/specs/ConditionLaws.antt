@@ -11,9 +11,10 @@ use borrow.Author.Tests.{le-ltb}
 use Rattle.types.specs.Limits.{max-instances, max-stability}
 use Rattle.program.specs.Tree.{Program}
 use Rattle.commands.specs.Noted.{Note, Note.n-cons, Note.n-op}
+use Rattle.commands.specs.Typing.{sort}
 use Rattle.words.specs.ApplyLaws.{apply-outside}
-use Rattle.machine.specs.Published.{Sched, Sched.done, Sched.fixpoint}
-use Rattle.machine.specs.Machine.{Tagged, Instance, Machine, Out, Out.next, Out.refused, Out.stuck, full, exceeded, nested, construct, operate, operated, perform, move-by, move, command, with-written, now-written}
+use Rattle.machine.specs.Published.{Sched, Sched.done, Sched.fixpoint, arity}
+use Rattle.machine.specs.Machine.{Tagged, Instance, Machine, Out, Out.next, Out.refused, Out.stuck, full, exceeded, nested, result-type, construct, operate, operated, perform, move-by, move, command, with-written, now-written}
 use Rattle.run.specs.Turns.{holders, chosen}
 use Rattle.run.specs.Visits.{Visits, Visits.here, Visits.moves, Visits.takes}
 use Rattle.sound.specs.Keeps.{some-is}
@@ -49,13 +50,33 @@ condition-one (at-36 h s b) (at-36 h′ s′ b′) = refl
 clash : {X : Type 0} {m : Machine} {n : ℕ} → next m ≡ refused n → X
 clash e = let z : _≡_ {A = ℕ} 0 1 = cc in absurd (omega arith)
 
+-- cons where no label is free
+full-stops : {z : Machine} (t u : Bool) (o : Out) → u ≡ false → elim t [ true ↦ elim u [ true ↦ o | false ↦ refused full ] | false ↦ stuck ] ≡ next z → ⊥
+full-stops true true o e q = let z : _≡_ {A = ℕ} 0 1 = cc in omega arith
+full-stops true false o e q = clash (sym q)
+full-stops false u o e q = let z : _≡_ {A = ℕ} 0 1 = cc in omega arith
+
 -- a command that meets a condition has no next machine
 meets-stops : (p : Program) {m z : Machine} {i : Instance} {n : ℕ} (l : ℕ) → getElem? (m .instances) l ≡ some i → Meets m i n → command p l m ≡ next z → ⊥
 unfolding perform construct operated
-meets-stops p {m} {z} {i} l at (no-label {k = k} {c = c} e h) q =
-    go (leb _ _) (sym (commanded p m l i (n-cons k) c at e) ∙ q)
-  where
-    go : (t : Bool) → ? ≡ next z → ⊥
-    go t = ?
-meets-stops p {m} {z} {i} l at (no-result {o = o} {c = c} {x = x} {y = y} e s h) q =
-    clash (sym q ∙ commanded p m l i (n-op o) c at e ∙ operates p m l (with-written i (now-written (n-op o) (i .written))) c o s ∙ ?)
+meets-stops p {m} {i = i} l at (no-label {k = k} {c = c} e h) q =
+    full-stops (leb (arity p k) (length (i .stack))) (ltb (length (m .instances)) max-instances) _ (le-ltb (length (m .instances)) max-instances h)
+    (sym (commanded p m l i (n-cons k) c at e) ∙ q)
+meets-stops p {m} {i = i} l at (no-result {o = o} {c = c} {x = x} {y = y} {χ = χ} e s h) q =
+    let j = with-written i (now-written (n-op o) (i .written)) in
+    clash {n = exceeded}
+    (sym q ∙ commanded p m l i (n-op o) c at e ∙ operates p m l j c o s
+    ∙ ap (operated p m l j c χ (result-type (sort o) (x .by))) (apply-outside o (x .is) (y .is) .1 h))
+
+-- no machine is visited behind one at which a condition holds
+pub condition-last : {p : Program} {m z : Machine} {es : List ℕ} {n : ℕ} → Condition m es n → Visits p m es z → z ≡ m
+unfolding move-by
+condition-last c here = refl
+condition-last (at-end h s) (moves {m = m} h′ e v) = ?a
+condition-last (at-33 h b) (moves h′ e v) = let z : _≡_ {A = ℕ} 0 1 = cc in absurd (omega arith)
+condition-last (at-command h b a c) (moves h′ e v) = let z : _≡_ {A = ℕ} 0 1 = cc in absurd (omega arith)
+condition-last (at-36 h s b) (moves h′ e v) = ?b
+condition-last (at-end h s) (takes h′ e v) = let z : _≡_ {A = ℕ} 0 1 = cc in absurd (omega arith)
+condition-last (at-33 h b) (takes h′ e v) = let z : _≡_ {A = ℕ} 0 1 = cc in absurd (omega arith)
+condition-last {p} (at-command h b a c) (takes h′ e v) = ?c
+condition-last (at-36 h s b) (takes h′ e v) = let z : _≡_ {A = ℕ} 0 1 = cc in absurd (omega arith)
