@@ -1,19 +1,18 @@
 -- Laws of one block (01, 'Blocks'): the tests are exact; the block that holds given bytes is right and gives them back; and a right block is the
 -- block that holds its used part.
-use Prim.Native.Nat.{ℕ, zero, suc, _+_, _*_, _-_, _/_, _%_, _<_, _≤_}
+use Prim.Native.Nat.{ℕ, zero, suc, _+_, _-_, _<_, _≤_}
 use native.Mathlib.Omega.{arith}
 use native.Mathlib.Numerals.{add-one}
-use mathlib.Core.Path.{_≡_, refl, ap, sym, _∙_, subst}
-use mathlib.Core.Bool.{Bool, true, false, _&&_}
-use mathlib.Core.List.{List, [], _∷_, _++_, append-assoc}
-use lib.ListN.{length, take, drop, replicate, length-append, length-take, length-drop, length-replicate, getD-replicate, List·getD-eq-default, List·getD-append, take-append-drop, drop-of-length-le}
+use mathlib.Core.Path.{_≡_, refl, ap, sym, _∙_}
+use mathlib.Core.Bool.{Bool, true, false}
+use mathlib.Core.List.{List, [], _∷_}
+use lib.ListN.{length, take, length-take, List·getD-eq-default, drop-of-length-le}
 use lib.Seq.{slice, slice-cons, getD-take, getD-drop}
-use lib.Dec.{eqb, leb}
+use lib.Dec.{leb}
 use borrow.Author.Tests.{ne-eqb}
-use Rattle.blocks.specs.Sums.{byte, sum-a, sum-b, wrap}
-use Rattle.blocks.specs.SumLaws.{sums-front}
-use Rattle.blocks.specs.Blocks.{pair-at, pair, index, used, used-part, unused-part, SumsRight, UsedRight, LaidOut, sums-right, used-right, zeros, laid-out, front, block-of, block-size, payload-size}
-use Rattle.blocks.specs.Decides.{Decides, is-true, decides-eqb, decides-leb, decides-both, decides-as}
+use Rattle.blocks.specs.Sums.{byte, sum-a, sum-b}
+use Rattle.blocks.specs.Blocks.{pair-at, index, used, unused-part, SumsRight, UsedRight, LaidOut, sums-right, used-right, zeros, laid-out, payload-size}
+use Rattle.types.specs.Decides.{Decides, decides-eqb, decides-leb, decides-both, decides-as}
 
 -- The tests are exact ---------------------------------------------------------
 
@@ -50,11 +49,13 @@ unused-exact b = decides-as (zeros-exact (slice f 508 b)) to from
   where
     f : ℕ
     f = 4 + used b
+
     to : ((i : ℕ) → byte (slice f 508 b) i ≡ 0) → (i : ℕ) → f ≤ i → i < 508 → byte b i ≡ 0
     to p i h k =
         let e : f + (i - f) ≡ i = omega arith in
         let q : f + (i - f) < 508 = omega arith in
         ap (λ (n : ℕ). byte b n) (sym e) ∙ sym (slice-byte f 508 b (i - f) q) ∙ p (i - f)
+
     from : ((i : ℕ) → f ≤ i → i < 508 → byte b i ≡ 0) → (i : ℕ) → byte (slice f 508 b) i ≡ 0
     from p i = go (leb 508 (f + i)) (decides-leb 508 (f + i))
       where

@@ -2,19 +2,14 @@
 -- holds its used part.
 use Prim.Native.Nat.{ℕ, zero, suc, _+_, _*_, _-_, _/_, _%_, _<_, _≤_}
 use native.Mathlib.Omega.{arith}
-use native.Mathlib.Numerals.{add-one}
-use mathlib.Core.Path.{_≡_, refl, ap, sym, _∙_}
+use mathlib.Core.Path.{_≡_, ap, sym, _∙_}
 use mathlib.Core.Bool.{Bool, true, false}
-use mathlib.Core.List.{List, [], _∷_, _++_, append-assoc, append-nil}
+use mathlib.Core.List.{List, _∷_, _++_, append-assoc, append-nil}
 use lib.ListN.{length, take, drop, replicate, length-append, length-drop, length-replicate, getD-replicate, List·getD-append, take-append-drop, drop-of-length-le}
 use lib.Seq.{getD-append-add, take-append-seam, drop-cons, drop-drop, length-take-le}
-use Rattle.blocks.specs.Sums.{byte, sum-a, sum-b}
+use Rattle.blocks.specs.Sums.{byte, Bytes, sum-a, sum-b}
 use Rattle.blocks.specs.SumLaws.{sums-front}
 use Rattle.blocks.specs.Blocks.{pair-at, pair, index, used, used-part, SumsRight, UsedRight, LaidOut, front, block-of, block-size, payload-size}
-
--- a list of bytes
-abbrev pub Bytes : List ℕ → Type 0
-Bytes b = (i : ℕ) → byte b i < 256
 
 -- a byte behind a list of known length
 behind : (x y : List ℕ) (m n : ℕ) → length x ≡ m → byte (x ++ y) (m + n) ≡ byte y n
@@ -48,7 +43,7 @@ module _ (k : ℕ) (p : List ℕ) (fits : length p ≤ payload-size) where
       let at : (n : ℕ) → byte (f ++ t) (508 + n) ≡ byte t n = λ n. behind f t 508 n front-length in
       record {
         a-right = omega (arith, same .0, at 0, at 1);
-        b-right = omega (arith, same .1, at 2, at 3)
+        b-right = omega (arith, same .1, at 2, at 3);
       }
 
   block-zero : (i : ℕ) → 4 + length p ≤ i → i < 508 → byte (block-of k p) i ≡ 0
@@ -74,7 +69,7 @@ module _ (k : ℕ) (p : List ℕ) (fits : length p ≤ payload-size) where
   block-layout last right = record {
     index-right = unfold index pair-at block-of front pair in omega arith;
     used-right = rw block-used right;
-    unused-zero = rw block-used block-zero
+    unused-zero = rw block-used block-zero;
   }
 
 -- A right block ---------------------------------------------------------------
@@ -101,7 +96,7 @@ zero-split (suc n) b i h z =
     drop-cons b i 0 (omega arith)
     ∙ ap (λ (x : ℕ). x ∷ drop (suc i) b) (z i (omega arith) (omega arith))
     ∙ ap (λ (t : List ℕ). 0 ∷ t)
-        (zero-split n b (suc i) (omega arith) (λ j l m. z j (omega arith) (omega arith)) ∙ ap (λ (m : ℕ). replicate n 0 ++ drop m b) e)
+    (zero-split n b (suc i) (omega arith) (λ j l m. z j (omega arith) (omega arith)) ∙ ap (λ (m : ℕ). replicate n 0 ++ drop m b) e)
 
 pub used-most : (last : Bool) (u : ℕ) → UsedRight last u → u ≤ payload-size
 used-most true u r = r .1

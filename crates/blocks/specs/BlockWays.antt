@@ -1,16 +1,14 @@
 -- One law for each way through the functions that test a block (01, 'Blocks'): from what a way has seen to the test's answer.
-use Prim.Native.Nat.{ℕ, _+_, _<_, _≤_}
-use mathlib.Core.Path.{_≡_, refl, ap, sym, _∙_}
-use mathlib.Core.Bool.{Bool, true, false, not}
+use Prim.Native.Nat.{ℕ, _+_}
+use mathlib.Core.Path.{_≡_, sym, _∙_}
+use mathlib.Core.Bool.{Bool, true, false}
 use mathlib.Core.List.{List}
-use lib.ListN.{length}
 use lib.Seq.{slice}
 use lib.Dec.{eqb}
 use borrow.Author.Tests.{eq-eqb, ne-eqb}
 use Rattle.blocks.specs.Sums.{sum-a, sum-b}
 use Rattle.blocks.specs.Blocks.{pair-at, index, used, unused-part, sums-right, used-right, zeros, laid-out, block-fault}
 use Rattle.blocks.specs.declared.Fault.the-variants.{Sum, Layout}
-use Rattle.blocks.specs.declared.Found.{Found}
 use Rattle.blocks.specs.declared.Found.the-variants.{Right, Wrong}
 
 module _ (b : List ℕ) where

@@ -1,6 +1,6 @@
 -- The answer on an image is exact: what it says holds, and it is the one answer of which that is so. So the first faulty block decides, and in it the
 -- sums before the layout.
-use Prim.Native.Nat.{ℕ, zero, suc, _+_, _*_, _%_, _<_, _≤_}
+use Prim.Native.Nat.{ℕ, zero, suc, _*_, _%_}
 use native.Mathlib.Omega.{arith}
 use native.Mathlib.Numerals.{add-one}
 use mathlib.Core.Path.{_≡_, refl, ap, sym, _∙_, subst}
@@ -12,7 +12,7 @@ use borrow.Author.Count.{below-more}
 use borrow.Author.Tests.{ltb-true, ltb-false}
 use Rattle.blocks.specs.Blocks.{block-size, SumsRight, LaidOut, block-fault, sums-right, laid-out}
 use Rattle.blocks.specs.BlockLaws.{sums-exact, layout-exact}
-use Rattle.blocks.specs.Decides.{Decides, decides-eqb, decides-leb, decides-both, decides-as}
+use Rattle.types.specs.Decides.{Decides, decides-eqb, decides-leb, decides-both, decides-as}
 use Rattle.blocks.specs.Images.{LengthRight, length-right, most, block, count, is-last, first-fault, fault}
 use Rattle.blocks.specs.Faults.{BlockRight, HasFault, BlockSays, AllRight, FirstFault, FirstSays, Says}
 use Rattle.blocks.specs.declared.Fault.{Fault}
@@ -46,6 +46,7 @@ first-says n x (suc k) = ahead (first-fault n x k) (first-says n x k)
     here : (r : Found) → AllRight n x k → BlockSays k (is-last n k) (block x k) r → FirstSays n x (suc k) r
     here Right all right = λ j h. below-more _ k all right j (rw add-one h)
     here (Wrong f) all bad = record { at = k; within = omega arith; before = all; faulty = bad }
+
     ahead : (r : Found) → FirstSays n x k r
         → FirstSays n x (suc k) (elim r [ Wrong f ↦ Wrong f | Right ↦ block-fault k (is-last n k) (block x k) ])
     ahead (Wrong f) p = record { at = p .at; within = omega (arith, p .within); before = p .before; faulty = p .faulty }
@@ -72,8 +73,10 @@ first-one n x k f g p q = go (ltb i j) refl (ltb j i) refl
   where
     i : ℕ
     i = p .at
+
     j : ℕ
     j = q .at
+
     go : (s : Bool) → ltb i j ≡ s → (t : Bool) → ltb j i ≡ t → f ≡ g
     go true e t d = absurd (not-right i _ _ f (p .faulty) (q .before i (ltb-true i j e)))
     go false e true d = absurd (not-right j _ _ g (q .faulty) (p .before j (ltb-true j i d)))
@@ -103,6 +106,7 @@ fault-says max x = go (length-right max (length x)) (length-exact max (length x)
     inside l (Wrong Length) p = absurd (p .faulty)
     inside l (Wrong Sum) p = (l, p)
     inside l (Wrong Layout) p = (l, p)
+
     go : (t : Bool) → Decides t (LengthRight max (length x))
         → Says max x (elim t [ false ↦ Wrong Length | true ↦ first-fault (count x) x (count x) ])
     go false d = d .fails refl

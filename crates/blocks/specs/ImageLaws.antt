@@ -1,16 +1,16 @@
 -- Laws of images and streams (01, 'Blocks'): how long blocks, pieces, streams and images are, and where they stand.
-use Prim.Native.Nat.{ℕ, zero, suc, _+_, _*_, _-_, _/_, _%_, _<_, _≤_, min}
+use Prim.Native.Nat.{ℕ, zero, suc, _+_, _*_, _-_, _/_, _<_, _≤_, min}
 use native.Mathlib.Omega.{arith}
 use mathlib.Core.Path.{_≡_, refl, ap, sym, _∙_, subst}
 use mathlib.Core.Bool.{Bool, true, false}
-use mathlib.Core.List.{List, [], _∷_, _++_, append-assoc, append-nil}
+use mathlib.Core.List.{List, [], _++_, append-assoc, append-nil}
 use lib.ListN.{length, take, drop, length-append, length-take, length-drop}
-use lib.Seq.{take-at, drop-at, take-all, take-append-le, drop-append-le, length-take-le, take-add}
+use lib.Seq.{take-at, drop-at, take-all, take-append-le, drop-append-le, length-take-le}
 use lib.Dec.{eqb}
 use borrow.Author.Tests.{eqb-true, eqb-false, eq-eqb, ne-eqb}
 use Rattle.blocks.specs.Blocks.{block-size, payload-size, UsedRight, used, used-part, block-of}
 use Rattle.blocks.specs.BlockRoundTrip.{block-length, part-length}
-use Rattle.blocks.specs.Images.{LengthRight, most, block, count, is-last, joined, stream, piece, pieces, image-of, image}
+use Rattle.blocks.specs.Images.{LengthRight, block, count, is-last, joined, piece, pieces, image-of}
 use Rattle.blocks.specs.Faults.{AllRight}
 
 -- The image of a stream ---------------------------------------------------------
@@ -29,6 +29,7 @@ piece-used s k h = go (eqb (k + 1) n) refl
   where
     n : ℕ
     n = (length s + 503) / 504
+
     go : (t : Bool) → eqb (k + 1) n ≡ t → UsedRight t (length (piece s k))
     go true e = omega (arith, piece-length s k, eqb-true (k + 1) n e)
     go false e = omega (arith, piece-length s k, eqb-false (k + 1) n e)
@@ -59,8 +60,10 @@ image-block s (suc m) k h = go (eqb k m) refl (image-block s m k)
   where
     x : List ℕ
     x = image-of s m
+
     b : ℕ → List ℕ
     b j = block-of j (piece s j)
+
     go : (t : Bool) → eqb k m ≡ t → (k < m → block x k ≡ b k) → block (x ++ b m) k ≡ b k
     go true e ih =
         let same : m ≡ k = sym (eqb-true k m e) in
@@ -105,7 +108,7 @@ module _ (n : ℕ) (x : List ℕ) (whole : length x ≡ block-size * n) (right :
       let other : eqb (k + 1) n ≡ false = ne-eqb (k + 1) n (omega arith) in
       subst (λ (t : Bool). UsedRight t (used (block x k))) other (right k (omega arith) .layout .used-right)
 
-  used-last : (k : ℕ) → suc k ≡ n → (1 ≤ used (block x k)) × (used (block x k) ≤ payload-size)
+  pub used-last : (k : ℕ) → suc k ≡ n → (1 ≤ used (block x k)) × (used (block x k) ≤ payload-size)
   unfolding is-last
   used-last k e =
       let same : eqb (k + 1) n ≡ true = eq-eqb (k + 1) n (omega arith) in
@@ -132,12 +135,15 @@ module _ (n : ℕ) (x : List ℕ) (whole : length x ≡ block-size * n) (right :
     where
       j : List ℕ
       j = joined x k
+
       p : List ℕ
       p = used-part (block x k)
+
       at : (r : List ℕ) → joined x n ≡ (j ++ p) ++ r → take payload-size (drop (payload-size * k) (joined x n)) ≡ take payload-size (p ++ r)
       at r e =
           ap (λ (t : List ℕ). take payload-size (drop (payload-size * k) t)) (e ∙ append-assoc j p r)
           ∙ ap (λ (t : List ℕ). take payload-size t) (drop-at j (p ++ r) (payload-size * k) (joined-length k h))
+
       go : (t : Bool) → eqb (suc k) n ≡ t → take payload-size (drop (payload-size * k) (joined x n)) ≡ p
       go true e =
           let same = eqb-true (suc k) n e in

@@ -1,22 +1,20 @@
 -- An image there and back (01, 'Blocks'): reading what was written gives the stream back, and an accepted image is the written image of its stream, so
 -- that one image belongs to a stream.
-use Prim.Native.Nat.{ℕ, zero, suc, _+_, _*_, _-_, _/_, _%_, _<_, _≤_, min}
+use Prim.Native.Nat.{ℕ, zero, suc, _+_, _*_, _≤_}
 use native.Mathlib.Omega.{arith}
 use mathlib.Core.Path.{_≡_, refl, ap, ap₂, sym, _∙_, subst}
-use mathlib.Core.Bool.{Bool, true, false}
-use mathlib.Core.List.{List, [], _∷_, _++_}
-use lib.ListN.{length, take, drop, length-take, List·getD-eq-default}
-use lib.Seq.{take-all, take-add, getD-take, getD-drop}
-use lib.Dec.{ltb}
-use borrow.Author.Tests.{ltb-true, ltb-false}
-use Rattle.blocks.specs.Sums.{byte}
-use Rattle.blocks.specs.Blocks.{block-size, payload-size, SumsRight, LaidOut, used-part, block-of}
-use Rattle.blocks.specs.BlockRoundTrip.{Bytes, block-part, block-sums, block-layout, right-block}
-use Rattle.blocks.specs.Images.{LengthRight, most, block, count, is-last, fault, joined, stream, piece, pieces, image-of, image}
+use mathlib.Core.List.{List, _++_}
+use lib.ListN.{length, take, drop}
+use lib.Seq.{take-all, take-add}
+use Rattle.blocks.specs.Sums.{Bytes}
+use Rattle.blocks.specs.Blocks.{block-size, payload-size, used-part, block-of}
+use Rattle.blocks.specs.BlockRoundTrip.{block-part, block-sums, block-layout, right-block}
+use Rattle.blocks.specs.ImageBytes.{bytes-take, bytes-drop}
+use Rattle.blocks.specs.Images.{most, block, count, is-last, fault, joined, stream, piece, pieces, image-of, image}
 use Rattle.blocks.specs.ImageLaws.{piece-length, piece-used, image-length, image-block, count-length, block-whole, stream-piece, stream-pieces}
-use Rattle.blocks.specs.Faults.{BlockRight, AllRight, Says}
+use Rattle.blocks.specs.Faults.{AllRight, Says}
 use Rattle.blocks.specs.FaultLaws.{fault-says, fault-exact}
-use Rattle.blocks.specs.declared.Found.the-variants.{Right, Wrong}
+use Rattle.blocks.specs.declared.Found.the-variants.{Right}
 
 module _ (s : List ℕ) (some : 1 ≤ length s) where
   image-size : length (image s) ≡ block-size * pieces (length s)
@@ -52,10 +50,9 @@ module _ (s : List ℕ) (some : 1 ≤ length s) where
   image-accepted max h =
       let e = image-size in
       let blocks = pieces-most (most max) h in
-      fault-exact max (image s) Right
-      (
+      fault-exact max (image s) Right (
         record { whole = omega arith; from-one = omega arith; to-most = omega arith },
-        subst (λ (c : ℕ). AllRight c (image s) c) (sym image-count) image-right
+        subst (λ (c : ℕ). AllRight c (image s) c) (sym image-count) image-right,
       )
 
   -- and its stream is the stream
@@ -66,15 +63,6 @@ module _ (s : List ℕ) (some : 1 ≤ length s) where
       let enough : length s ≤ payload-size * n = omega arith in
       ap (joined (image s)) image-count ∙ image-joined n (omega arith) ∙ take-all (payload-size * n) s enough
 
-bytes-take : (n : ℕ) (x : List ℕ) → Bytes x → Bytes (take n x)
-bytes-take n x small i = go (ltb i n) refl
-  where
-    go : (t : Bool) → ltb i n ≡ t → byte (take n x) i < 256
-    go true e = omega (arith, getD-take n x i 0 (ltb-true i n e), small i)
-    go false e =
-        let past : length (take n x) ≤ i = omega (arith, length-take n x, ltb-false i n e) in
-        omega (arith, List·getD-eq-default (take n x) 0 past)
-
 -- an accepted image is the image of its stream
 module _ (max : ℕ) (x : List ℕ) (small : Bytes x) (accepted : fault max x ≡ Right) where
   says : Says max x Right
@@ -82,7 +70,7 @@ module _ (max : ℕ) (x : List ℕ) (small : Bytes x) (accepted : fault max x �
 
   block-small : (k : ℕ) → Bytes (block x k)
   unfolding block
-  block-small k = bytes-take block-size (drop (block-size * k) x) (λ i. rw getD-drop (small (block-size * k + i)))
+  block-small k = bytes-take block-size (drop (block-size * k) x) (bytes-drop (block-size * k) x small)
 
   image-grows : (k : ℕ) → k ≤ count x → image-of (stream x) k ≡ take (block-size * k) x
   unfolding image-of block stream
@@ -94,8 +82,8 @@ module _ (max : ℕ) (x : List ℕ) (small : Bytes x) (accepted : fault max x �
       let b = block x k in
       let e : block-size * suc k ≡ block-size * k + block-size = omega arith in
       let same : block-of k (piece (stream x) k) ≡ b =
-          ap (block-of k) (stream-piece n x whole r k h)
-          ∙ sym (right-block k (is-last n k) b (block-whole n x whole k h) (r k h .layout) (block-small k) (r k h .sums)) in
+      ap (block-of k) (stream-piece n x whole r k h)
+      ∙ sym (right-block k (is-last n k) b (block-whole n x whole k h) (r k h .layout) (block-small k) (r k h .sums)) in
       ap₂ _++_ (image-grows k (omega arith)) same
       ∙ sym (take-add (block-size * k) block-size x)
       ∙ ap (λ (m : ℕ). take m x) (sym e)

@@ -3,24 +3,24 @@ use Prim.Native.Nat.{ℕ, zero, suc, _+_, _*_, _-_, _%_, _<_, _≤_}
 use native.Mathlib.Omega.{arith}
 use native.Mathlib.Nat.{add-sub-cancel-left}
 use native.Mathlib.Numerals.{add-one}
-use mathlib.Core.Path.{_≡_, refl, ap, sym, _∙_, subst}
+use mathlib.Core.Path.{_≡_, ap, sym, _∙_, subst}
 use mathlib.Core.Bool.{Bool, true, false}
-use mathlib.Core.List.{List, [], _∷_, _++_}
+use mathlib.Core.List.{List}
 use lib.ListN.{length, take, drop, length-append}
 use lib.Seq.{getD-take, getD-drop}
 use lib.Dec.{eqb, leb}
 use borrow.Author.Tests.{eq-eqb, ne-eqb, le-leb, lt-leb, lt-ltb, le-ltb}
-use Rattle.blocks.specs.Put.{put, put-next, put-front}
+use Rattle.blocks.specs.Put.{put}
+use Rattle.blocks.specs.PutLaws.{put-next, put-front}
 use Rattle.blocks.specs.Sums.{byte}
 use Rattle.blocks.specs.Blocks.{block-size, payload-size, pair-at, used, used-part, block-fault}
-use Rattle.blocks.specs.Images.{LengthRight, length-right, most, block, count, is-last, first-fault, fault, joined, stream, read, read-of, read-into}
+use Rattle.blocks.specs.Images.{length-right, most, block, count, is-last, first-fault, fault, joined, stream, read, read-of, read-into}
 use Rattle.blocks.specs.BlockRoundTrip.{used-most}
 use Rattle.blocks.specs.ImageLaws.{count-length, joined-length, joined-starts}
 use Rattle.blocks.specs.Faults.{AllRight, Says}
 use Rattle.blocks.specs.FaultLaws.{length-exact, fault-says}
 use Rattle.blocks.specs.declared.Fault.{Fault}
 use Rattle.blocks.specs.declared.Fault.the-variants.{Length}
-use Rattle.blocks.specs.declared.Found.{Found}
 use Rattle.blocks.specs.declared.Found.the-variants.{Right, Wrong}
 use Rattle.blocks.specs.declared.Read.the-variants.{Stream, Refused, Short as Short-buffer}
 
@@ -83,7 +83,7 @@ unfolding used pair-at block
 used-at x k =
     let i = 512 * k in
     let at : (j : ℕ) → j < 512 → byte (take 512 (drop i x)) j ≡ byte x (i + j) = λ j h.
-        getD-take 512 (drop i x) j 0 h ∙ getD-drop i x j 0 in
+    getD-take 512 (drop i x) j 0 h ∙ getD-drop i x j 0 in
     let three : i + 2 + 1 ≡ i + 3 = omega arith in
     rw three (omega (arith, at 2 (omega arith), at 3 (omega arith)))
 

@@ -1,13 +1,13 @@
 -- Images of several blocks and their streams (01, 'Blocks' and 'Numbers from the input'): what is wrong with an image, the stream of an image,
 -- the image of a stream; what reading and writing answer, and what they leave in the buffer.
-use Prim.Native.Nat.{ℕ, zero, suc, _+_, _*_, _-_, _/_, _%_, _<_, _≤_, min}
+use Prim.Native.Nat.{ℕ, zero, suc, _+_, _*_, _/_, _%_, _≤_, min}
 use mathlib.Core.Path.{_≡_}
 use mathlib.Core.Bool.{Bool, true, false, _&&_}
-use mathlib.Core.List.{List, [], _∷_, _++_}
+use mathlib.Core.List.{List, [], _++_}
 use lib.ListN.{length, take, drop}
 use lib.Dec.{eqb, leb, ltb}
 use Rattle.blocks.specs.Sums.{wrap}
-use Rattle.blocks.specs.Blocks.{block-size, payload-size, block-fault, used-part, block-of, SumsRight, LaidOut}
+use Rattle.blocks.specs.Blocks.{block-size, payload-size, block-fault, used-part, block-of}
 use Rattle.blocks.specs.declared.Fault.{Fault}
 use Rattle.blocks.specs.declared.Fault.the-variants.{Length, Sum, Layout}
 use Rattle.blocks.specs.declared.Found.{Found}

@@ -1,5 +1,5 @@
-pub mod Decides
 pub mod Put
+pub mod PutLaws
 pub mod Sums
 pub mod SumLaws
 pub mod Blocks
@@ -10,6 +10,9 @@ pub mod Images
 pub mod Faults
 pub mod FaultLaws
 pub mod ImageLaws
-pub mod ImageWays
-pub mod WriteWays
+pub mod ImageBytes
 pub mod ImageRoundTrip
+pub mod ImageWays
+pub mod Answers
+pub mod WriteWays
+pub mod AnswerLaws

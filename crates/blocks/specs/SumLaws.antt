@@ -5,8 +5,8 @@ use native.Mathlib.Nat.{suc-mul}
 use native.Mathlib.Numerals.{add-one}
 use mathlib.Core.Path.{_≡_, refl, ap, sym, _∙_}
 use mathlib.Core.List.{List, _++_}
-use lib.ListN.{length, take, List·getD-append}
-use Rattle.blocks.specs.Sums.{byte, sum, sum-a, sum-b, summed, wrap}
+use lib.ListN.{length, List·getD-append}
+use Rattle.blocks.specs.Sums.{byte, sum, sum-a, sum-b, summed, weight, wrap}
 
 -- a sum depends on its terms alone
 pub sum-ext : (n : ℕ) (f g : ℕ → ℕ) → ((i : ℕ) → i < n → f i ≡ g i) → sum n f ≡ sum n g
@@ -35,11 +35,10 @@ weighted-suc n f =
 pub sums-front : (x y : List ℕ) → summed ≤ length x → (sum-a (x ++ y) ≡ sum-a x) × (sum-b (x ++ y) ≡ sum-b x)
 unfolding sum-a sum-b
 sums-front x y h =
-    let same : (i : ℕ) → i < summed → byte (x ++ y) i ≡ byte x i = λ i k. List·getD-append x y 0 i (omega arith) in
-    (
+    let same : (i : ℕ) → i < summed → byte (x ++ y) i ≡ byte x i = λ i k. List·getD-append x y 0 i (omega arith) in (
       ap (λ (n : ℕ). n % wrap) (sum-ext summed (λ i. byte (x ++ y) i) (λ i. byte x i) same),
       ap (λ (n : ℕ). n % wrap)
-      (sum-ext summed (λ i. (508 - i) * byte (x ++ y) i) (λ i. (508 - i) * byte x i) (λ i k. ap (λ (n : ℕ). (508 - i) * n) (same i k)))
+          (sum-ext summed (λ i. weight i * byte (x ++ y) i) (λ i. weight i * byte x i) (λ i k. ap (λ (n : ℕ). weight i * n) (same i k))),
     )
 
 -- a wrapped sum plus a wrapped sum, wrapped
@@ -54,5 +53,5 @@ unfolding sum
 sums-turn s i a b x a′ b′ ea eb ex small pa pb =
     let ha : a′ ≡ sum (suc i) (λ j. byte s j) % wrap = wrap-add _ (byte s i) a x a′ ea (omega arith) pa in
     let hb : b′ ≡ sum (suc i) (λ j. (suc i - j) * byte s j) % wrap =
-        wrap-add _ _ b a′ b′ eb ha pb ∙ ap (λ (n : ℕ). n % wrap) (sym (weighted-suc i (λ j. byte s j))) in
+    wrap-add _ _ b a′ b′ eb ha pb ∙ ap (λ (n : ℕ). n % wrap) (sym (weighted-suc i (λ j. byte s j))) in
     (rw add-one ha, rw add-one hb)

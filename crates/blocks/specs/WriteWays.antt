@@ -1,23 +1,24 @@
 -- One law for each way through the functions that write an image (01, 'Blocks').
-use Prim.Native.Nat.{ℕ, zero, suc, _+_, _*_, _-_, _/_, _%_, _<_, _≤_}
+use Prim.Native.Nat.{ℕ, _+_, _*_, _-_, _/_, _%_, _<_, _≤_}
 use native.Mathlib.Omega.{arith}
 use native.Mathlib.Nat.{add-sub-cancel-left}
 use native.Mathlib.Numerals.{add-one}
-use mathlib.Core.Path.{_≡_, refl, ap, ap₂, sym, _∙_, subst}
+use mathlib.Core.Path.{_≡_, refl, ap, sym, _∙_}
 use mathlib.Core.Bool.{Bool, true, false}
 use mathlib.Core.List.{List, [], _∷_, _++_, append-assoc}
 use lib.ListN.{length, take, drop, set, replicate, length-append, length-drop, length-replicate, replicate-append-replicate}
 use lib.Seq.{take-all, take-at, drop-at, length-take-le}
-use lib.Dec.{leb, ltb}
+use lib.Dec.{leb}
 use borrow.Author.Tests.{le-leb, lt-leb, lt-ltb, le-ltb}
-use Rattle.blocks.specs.Decides.{Decides, decides-leb, decides-both}
-use Rattle.blocks.specs.Put.{put, put-one, put-set, put-next, put-front}
-use Rattle.blocks.specs.Sums.{sum-a, sum-b, wrap}
-use Rattle.blocks.specs.Blocks.{block-size, payload-size, pair, front, block-of}
+use Rattle.types.specs.Decides.{Decides, decides-leb, decides-both}
+use Rattle.blocks.specs.Put.{put}
+use Rattle.blocks.specs.PutLaws.{put-one, put-set, put-next, put-front}
+use Rattle.blocks.specs.Sums.{sum-a, sum-b}
+use Rattle.blocks.specs.Blocks.{payload-size, pair, front, block-of}
 use Rattle.blocks.specs.BlockRoundTrip.{front-length, block-length}
 use Rattle.blocks.specs.Images.{most, piece, pieces, image-of, image, stream-right, write, written-into}
 use Rattle.blocks.specs.ImageLaws.{image-length, piece-fits}
-use Rattle.blocks.specs.declared.Written.{Written}
+use Rattle.blocks.specs.Answers.{StreamRight}
 use Rattle.blocks.specs.declared.Written.the-variants.{Blocks, Length as Wrong-length, Short as Short-output}
 
 -- Bytes -------------------------------------------------------------------------
@@ -103,7 +104,7 @@ blocks-turn s d d₁ d₂ n k p fits h e₁ ep e₂ =
 
 -- What writing answers -------------------------------------------------------------
 
-stream-exact : (max n : ℕ) → Decides (stream-right max n) ((1 ≤ n) × (n ≤ payload-size * most max))
+pub stream-exact : (max n : ℕ) → Decides (stream-right max n) (StreamRight max n)
 unfolding stream-right
 stream-exact max n = decides-both _ _ (decides-leb 1 n) (decides-leb n (payload-size * most max))
 

@@ -1,7 +1,7 @@
 // One block of an image: its sums, the tests of which a failed one is a fault, and its payload (01, 'Blocks').
 use crate::Fault;
 use crate::Found;
-
+use crate::PAYLOAD_SIZE;
 ghost use mathlib.Core.Path.{_≡_};
 ghost use Prim.Native.Nat.{_+_, _<_, _≤_};
 ghost use lib.ListN.{length, take, drop};
@@ -9,6 +9,10 @@ ghost use lib.Seq.{slice};
 ghost use Rattle.blocks.specs.Sums.{sum-a, sum-b};
 ghost use Rattle.blocks.specs.Blocks.{pair-at, sums-right, used-right, zeros, laid-out, block-fault};
 
+// The bytes that are summed, behind which the sums stand.
+pub const SUMMED: usize = 508;
+
+// The two sums of a block.
 pub struct Both {
     pub a: u16,
     pub b: u16,
@@ -36,7 +40,7 @@ pub(crate) fn sums(block: &[u8]) -> Both
     let mut a: u16 = 0;
     let mut b: u16 = 0;
     let mut i = 0;
-    while i < 508 {
+    while i < SUMMED {
         a = std::num::wrapping_add_u16(a, block[i] as u16);
         b = std::num::wrapping_add_u16(b, a);
         i += 1;
@@ -60,12 +64,12 @@ fn zeros_from(block: &[u8], from: usize) -> bool
     requires { ⌜ 508 ≤ length (now block) ⌝ }
     ensures { λ r. ⌜ r ≡ zeros (slice from 508 (now (block .entry))) ⌝ }
 {
-    let mut i = from;
-    while i < 508 {
-        if block[i] != 0 {
+    let mut at = from;
+    while at < SUMMED {
+        if block[at] != 0 {
             return false;
         }
-        i += 1;
+        at += 1;
     }
     true
 }
@@ -77,9 +81,9 @@ fn used_right(last: bool, used: usize) -> bool
         if used < 1 {
             return false;
         }
-        return used <= 504;
+        return used <= PAYLOAD_SIZE;
     }
-    used == 504
+    used == PAYLOAD_SIZE
 }
 
 fn laid_out(block: &[u8], k: usize, last: bool) -> bool

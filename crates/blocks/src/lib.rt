@@ -9,6 +9,10 @@ ghost use mathlib.Core.Path.{_≡_};
 ghost use lib.ListN.{length};
 ghost use Rattle.blocks.specs.Images.{fault, stream, read, read-into, write, written-into, program-number, table-number};
 
+pub const BLOCK_SIZE: usize = 512;
+
+pub const PAYLOAD_SIZE: usize = 504;
+
 // What is wrong with an image.
 pub enum Fault {
     Length,
@@ -65,17 +69,18 @@ pub fn image_fault(image: &[u8], max: usize) -> Found
     if !reading::length_right(image.len(), max) {
         return Found::Wrong(Fault::Length);
     }
-    reading::first_fault(image, image.len() / 512)
+    reading::first_fault(image, image.len() / BLOCK_SIZE)
 }
 
 // The stream of an image where max blocks are allowed, in the front of the buffer. Every block is looked at before the first byte is written.
 pub fn read_image(image: &[u8], max: usize, buffer: &mut [u8]) -> Read
-    ensures { λ r. ⌜ (r ≡ read max (now (image .entry)) (length (now (buffer .entry)))) × (now (buffer .exit) ≡ read-into r (stream (now (image .entry))) (now (buffer .entry))) ⌝ }
+    ensures { λ r. ⌜ r ≡ read max (now (image .entry)) (length (now (buffer .entry))) ⌝ }
+    ensures { λ r. ⌜ now (buffer .exit) ≡ read-into r (stream (now (image .entry))) (now (buffer .entry)) ⌝ }
 {
     if let Found::Wrong(f) = image_fault(image, max) {
         return Read::Refused(f);
     }
-    let n = image.len() / 512;
+    let n = image.len() / BLOCK_SIZE;
     let length = reading::stream_length(image, n);
     if buffer.len() < length {
         return Read::Short;
@@ -86,14 +91,15 @@ pub fn read_image(image: &[u8], max: usize, buffer: &mut [u8]) -> Read
 
 // The image of a stream where max blocks are allowed, in the front of the output.
 pub fn write_image(stream: &[u8], max: usize, out: &mut [u8]) -> Written
-    ensures { λ r. ⌜ (r ≡ write max (length (now (stream .entry))) (length (now (out .entry)))) × (now (out .exit) ≡ written-into r (now (stream .entry)) (now (out .entry))) ⌝ }
+    ensures { λ r. ⌜ r ≡ write max (length (now (stream .entry))) (length (now (out .entry))) ⌝ }
+    ensures { λ r. ⌜ now (out .exit) ≡ written-into r (now (stream .entry)) (now (out .entry)) ⌝ }
 {
     let length = stream.len();
     if !writing::stream_right(length, max) {
         return Written::Length;
     }
-    let n = (length + 503) / 504;
-    if out.len() < 512 * n {
+    let n = (length + 503) / PAYLOAD_SIZE;
+    if out.len() < BLOCK_SIZE * n {
         return Written::Short;
     }
     writing::put_blocks(stream, n, out);

@@ -1,8 +1,9 @@
 // An image of blocks, looked through and joined to its stream (01, 'Blocks').
+use crate::BLOCK_SIZE;
+use crate::Found;
+use crate::PAYLOAD_SIZE;
 use crate::block;
 use crate::put;
-use crate::Found;
-
 ghost use mathlib.Core.Path.{_≡_};
 ghost use Prim.Native.Nat.{_*_, _≤_};
 ghost use lib.ListN.{length};
@@ -14,23 +15,19 @@ ghost use Rattle.blocks.specs.Faults.{AllRight};
 pub(crate) fn most(max: usize) -> usize
     ensures { λ r. ⌜ (r ≡ most max) × (r ≤ 65536) ⌝ }
 {
-    if max < 65536 {
-        max
-    } else {
-        65536
-    }
+    if max < 65536 { max } else { 65536 }
 }
 
 pub(crate) fn length_right(n: usize, max: usize) -> bool
     ensures { λ r. ⌜ r ≡ length-right max n ⌝ }
 {
-    if n % 512 != 0 {
+    if n % BLOCK_SIZE != 0 {
         return false;
     }
-    if n < 512 {
+    if n < BLOCK_SIZE {
         return false;
     }
-    n <= 512 * most(max)
+    n <= BLOCK_SIZE * most(max)
 }
 
 // The first fault of an image of n blocks.
@@ -40,8 +37,8 @@ pub(crate) fn first_fault(image: &[u8], n: usize) -> Found
 {
     let mut k = 0;
     while k < n {
-        let start = 512 * k;
-        let end = start + 512;
+        let start = BLOCK_SIZE * k;
+        let end = start + BLOCK_SIZE;
         let last = k + 1 == n;
         if let Found::Wrong(f) = block::fault(&image[start..end], k, last) {
             return Found::Wrong(f);
@@ -58,7 +55,7 @@ pub(crate) fn stream_length(image: &[u8], n: usize) -> usize
     ensures { λ r. ⌜ r ≡ length (joined (now (image .entry)) n) ⌝ }
 {
     let k = n - 1;
-    504 * k + block::pair_at(image, 512 * k + 2)
+    PAYLOAD_SIZE * k + block::pair_at(image, BLOCK_SIZE * k + 2)
 }
 
 // The used payloads of n right blocks, joined from the start of the buffer.
@@ -70,11 +67,11 @@ pub(crate) fn join(image: &[u8], n: usize, buffer: &mut [u8])
 {
     let mut k = 0;
     while k < n {
-        let start = 512 * k;
-        let end = start + 512;
+        let start = BLOCK_SIZE * k;
+        let end = start + BLOCK_SIZE;
         let block = &image[start..end];
         let used = block::pair_at(block, 2);
-        put::copy(buffer, 504 * k, block::payload(block, used));
+        put::copy(buffer, PAYLOAD_SIZE * k, block::payload(block, used));
         k += 1;
     }
 }

@@ -1,8 +1,9 @@
 // The blocks that hold a stream, written one behind the other (01, 'Blocks').
+use crate::BLOCK_SIZE;
+use crate::PAYLOAD_SIZE;
 use crate::block;
 use crate::put;
 use crate::reading;
-
 ghost use mathlib.Core.Path.{_≡_};
 ghost use Prim.Native.Nat.{_+_, _*_, _≤_, _<_};
 ghost use lib.ListN.{length};
@@ -16,7 +17,7 @@ pub(crate) fn stream_right(n: usize, max: usize) -> bool
     if n < 1 {
         return false;
     }
-    n <= 504 * reading::most(max)
+    n <= PAYLOAD_SIZE * reading::most(max)
 }
 
 // Bytes 0 to 507 of block k, which holds the bytes of part.
@@ -29,7 +30,7 @@ fn put_front(out: &mut [u8], at: usize, k: usize, part: &[u8])
     put::pair(out, at, k);
     put::pair(out, at + 2, n);
     put::copy(out, at + 4, part);
-    put::zeros(out, at + 4 + n, 504 - n);
+    put::zeros(out, at + 4 + n, PAYLOAD_SIZE - n);
 }
 
 // Block k, which holds the bytes of part: its sums are taken of what stands in the output already.
@@ -39,7 +40,7 @@ fn put_block(out: &mut [u8], at: usize, k: usize, part: &[u8])
     ensures { λ _. ⌜ now (out .exit) ≡ put (now (out .entry)) at (block-of k (now (part .entry))) ⌝ }
 {
     put_front(out, at, k, part);
-    let end = at + 508;
+    let end = at + block::SUMMED;
     let s = block::sums(&out[at..end]);
     put::pair(out, end, s.a as usize);
     put::pair(out, end + 2, s.b as usize);
@@ -50,11 +51,11 @@ fn piece<'a>(stream: &'a [u8], k: usize) -> &'a [u8]
     requires { ⌜ 504 * k ≤ length (now stream) ⌝ }
     ensures { λ r. ⌜ now r ≡ piece (now (stream .entry)) k ⌝ }
 {
-    let start = 504 * k;
-    if stream.len() - start < 504 {
+    let start = PAYLOAD_SIZE * k;
+    if stream.len() - start < PAYLOAD_SIZE {
         return &stream[start..];
     }
-    let end = start + 504;
+    let end = start + PAYLOAD_SIZE;
     &stream[start..end]
 }
 
@@ -66,7 +67,7 @@ pub(crate) fn put_blocks(stream: &[u8], n: usize, out: &mut [u8])
 {
     let mut k = 0;
     while k < n {
-        put_block(out, 512 * k, k, piece(stream, k));
+        put_block(out, BLOCK_SIZE * k, k, piece(stream, k));
         k += 1;
     }
 }

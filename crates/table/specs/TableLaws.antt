@@ -1,5 +1,5 @@
 -- What a table stream comes to (01, 'Table and turns'; 11 and 12 of 'Numbers from the input').
-use Prim.Native.Nat.{ℕ, _+_, _<_}
+use Prim.Native.Nat.{_-_, ℕ, _+_, _<_}
 use native.Mathlib.Omega.{arith}
 use mathlib.Core.Path.{_≡_, refl}
 use mathlib.Core.Logic.{_↔_, _⊎_, inl, inr}
@@ -116,5 +116,5 @@ module _ (pss : List (List Ty)) where
       → table-of-stream pss (enc-word count-bytes n ++ t) ≡ no-table table-value
   unfolding table-number whole read-table read-count guard then
   table-too-many n t h w =
-      of-refused (enc-word count-bytes n ++ t) {p = 0} {k = wrong-byte}
+      of-refused (enc-word count-bytes n ++ t) {p = length (enc-word count-bytes n) - 1} {k = wrong-byte}
       (rw (word-exact count-bytes .complete (enc-word count-bytes n ++ t) n 0 _ h (stands-front (enc-word count-bytes n) t), lt-leb (n + length pss) max-instances w))

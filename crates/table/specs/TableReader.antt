@@ -19,8 +19,9 @@ allowed bool w = ltb w 2
 allowed (ref k) w = true
 
 module _ (s : List ℕ) where
+  -- a value is judged at its last byte: one that is cut short is 11 whatever its first bytes are
   unfoldable pub read-value : Ty → ℕ → Result Val
-  read-value t at = made (value-of t) (then (read-word s value-bytes at) λ w k. guard (allowed t w) at w k)
+  read-value t at = made (value-of t) (then (read-word s value-bytes at) λ w k. guard (allowed t w) (k - 1) w k)
 
   -- a value for each type
   unfoldable pub read-values : List Ty → ℕ → Result (List Val)
@@ -35,7 +36,7 @@ module _ (pss : List (List Ty)) (s : List ℕ) where
 
   -- N, where S + N is at most 256
   unfoldable pub read-count : ℕ → Result ℕ
-  read-count at = then (read-word s count-bytes at) λ n k. guard (leb (n + length pss) max-instances) at n k
+  read-count at = then (read-word s count-bytes at) λ n k. guard (leb (n + length pss) max-instances) (k - 1) n k
 
   unfoldable pub read-table : ℕ → Result (List Record)
   read-table at = then (read-count at) λ n k. many [] _∷_ read-record n k

@@ -155,7 +155,8 @@ says o (label l) (label m) = labels-say o l m
 
 -- what holds the function says ----------------------------------------------------
 
-nonzero : (y z : ℤ) → (y ≡ pos 0 → ⊥) → by-nonzero y z ≡ some z
+-- A divisor that is not zero has a quotient.
+pub nonzero : (y z : ℤ) → (y ≡ pos 0 → ⊥) → by-nonzero y z ≡ some z
 unfolding by-nonzero
 nonzero (pos zero) z h = absurd (h refl)
 nonzero (pos (suc n)) z h = refl

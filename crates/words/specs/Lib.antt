@@ -5,3 +5,9 @@ pub mod TestLaws
 pub mod ApplyLaws
 pub mod RangesLaws
 pub mod Rows
+pub mod SignedLaws
+pub mod Words
+pub mod IntLaws
+pub mod NatLaws
+pub mod WordLaws
+pub mod ValueLaws

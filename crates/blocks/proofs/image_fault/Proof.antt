@@ -1,5 +1,5 @@
 -- `image_fault` meets its contract: its length before its blocks.
-use mathlib.Core.Path.{_≡_, _∙_}
+use mathlib.Core.Path.{_∙_}
 use borrow.Author.Tests.{not-true, not-false}
 use Rattle.blocks.specs.ImageWays.{length-wrong, length-agrees, length-blocks}
 use borrow.Author.Needs.{needs}

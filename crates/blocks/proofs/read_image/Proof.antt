@@ -1,6 +1,5 @@
 -- `read_image` meets its contract: a fault before a short buffer, and the stream only where neither is.
-use mathlib.Core.Path.{_≡_, _∙_, ap, sym, refl}
-use lib.ListN.{length}
+use mathlib.Core.Path.{_∙_, sym, refl}
 use Rattle.blocks.specs.Images.{stream, read-into}
 use Rattle.blocks.specs.ImageWays.{accepted, read-refused, read-short, read-done, read-after}
 use borrow.Author.Needs.{needs}
@@ -43,10 +42,9 @@ same-length c = c .before .before .join .kept .1 .1 .0
 returns-3 : tie.Need-returns-3
 unfolding stream
 returns-3 c =
-    let x = c .before .before .before .before .before .before .before .before .before .before .before .args .image .now in
-    (
+    let x = c .before .before .before .before .before .before .before .before .before .before .before .args .image .now in (
       read-done (c .before .before .before .before .before .before .before .before .before .before .before .args .max) x _ _ (sym (c .before .before .before .before .before .before .before .before .image-fault .ensures) ∙ c .before .before .before .before .before .before .enum-told .given .1) (c .before .before .before .before .before .stream-length .ensures) (c .before .before .before .before .if1 .left),
-      c .before .before .join .ensures ∙ read-after x (c .before .before .before .before .before .before .before .before .before .before .before .args .buffer .now) _ (c .before .before .before .before .before .stream-length .ensures)
+      c .before .before .join .ensures ∙ read-after x (c .before .before .before .before .before .before .before .before .before .before .before .args .buffer .now) _ (c .before .before .before .before .before .stream-length .ensures),
     )
 
 pub read-image-spec : {M : Type 1} → statement M

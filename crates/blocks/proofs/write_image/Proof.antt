@@ -1,5 +1,5 @@
 -- `write_image` meets its contract: a length that is not allowed before a short output, and the image only where neither is.
-use mathlib.Core.Path.{_≡_, _∙_, refl}
+use mathlib.Core.Path.{_∙_, refl}
 use borrow.Author.Tests.{not-true, not-false}
 use Rattle.blocks.specs.Images.{image, written-into}
 use Rattle.blocks.specs.WriteWays.{right-stream, write-refused, write-short, write-done, write-after}
@@ -33,11 +33,10 @@ same-length c = c .before .before .put-blocks .kept .1 .1 .0
 
 returns-3 : tie.Need-returns-3
 unfolding image
-returns-3 c =
-    (
-      write-done _ _ _ _ (c .before .before .before .before .before .before .stream-right .ensures) (not-false _ (c .before .before .before .before .before .if1 .left)) (c .before .before .before .before .if2 .left),
-      c .before .before .put-blocks .ensures ∙ write-after (c .before .before .before .before .before .before .before .before .before .args .stream .now) (c .before .before .before .before .before .before .before .before .before .args .out .now)
-    )
+returns-3 c = (
+  write-done _ _ _ _ (c .before .before .before .before .before .before .stream-right .ensures) (not-false _ (c .before .before .before .before .before .if1 .left)) (c .before .before .before .before .if2 .left),
+  c .before .before .put-blocks .ensures ∙ write-after (c .before .before .before .before .before .before .before .before .before .args .stream .now) (c .before .before .before .before .before .before .before .before .before .args .out .now),
+)
 
 pub write-image-spec : {M : Type 1} → statement M
 write-image-spec =

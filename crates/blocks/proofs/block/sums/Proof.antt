@@ -41,10 +41,9 @@ loop-again : tie.Need-loop-again Inv-loop μ-loop
 loop-again c =
     let s = c .before .before .before .before .before .before .args .block .now in
     let i = c .before .before .before .before .loop .i in
-    let inv = c .before .before .before .before .loop .inv in
-    (
+    let inv = c .before .before .before .before .loop .inv in (
       omega arith,
-      sums-turn s i _ _ _ _ _ (inv .1 .0) (inv .1 .1) refl (omega (arith, c .before .before .shared-slice-known2 .given i)) (c .before .wrapping-add-u16 .ensures) (c .wrapping-add-u162 .ensures)
+      sums-turn s i _ _ _ _ _ (inv .1 .0) (inv .1 .1) refl (omega (arith, c .before .before .shared-slice-known2 .given i)) (c .before .wrapping-add-u16 .ensures) (c .wrapping-add-u162 .ensures),
     )
 
 returns : tie.Need-returns Inv-loop μ-loop

@@ -1,8 +1,7 @@
--- `block::zeros_from` meets its contract. The loop's invariant: the bytes from `from` on are zero where those from `i` on are. The measure is what is
+-- `block::zeros_from` meets its contract. The loop's invariant: the bytes from `from` on are zero where those from `at` on are. The measure is what is
 -- left of the 508 bytes.
-use Prim.Native.Nat.{ℕ, _≤_, _-_}
+use Prim.Native.Nat.{_-_}
 use mathlib.Core.Path.{_≡_, _∙_, sym, refl}
-use lib.ListN.{length}
 use lib.Seq.{slice}
 use Rattle.blocks.specs.Blocks.{zeros}
 use Rattle.blocks.specs.BlockLaws.{zeros-more, zeros-stop, zeros-end}
@@ -11,10 +10,10 @@ use Rattle.blocks.proofs.block.zeros_from.Statement.{statement}
 use Rattle.blocks.proofs.block.zeros_from.Tie as tie
 
 abbrev Inv-loop : tie.InvT-loop
-Inv-loop block from i₀ i = zeros (slice from 508 block) ≡ zeros (slice i 508 block)
+Inv-loop block from at₀ at = zeros (slice from 508 block) ≡ zeros (slice at 508 block)
 
 abbrev μ-loop : tie.MeasureT-loop
-μ-loop block from i₀ i = 508 - i
+μ-loop block from at₀ at = 508 - at
 
 loop-holds : tie.Need-loop-holds Inv-loop μ-loop
 loop-holds c = refl
@@ -25,8 +24,8 @@ shared-slice-read-if1 c = search needs
 returns : tie.Need-returns Inv-loop μ-loop
 returns c = sym (c .before .before .before .loop .inv ∙ zeros-stop (c .before .before .before .before .args .block .now) _ (c .before .before .before .before .pre) (c .before .before .loop-test .taken) (c .if1 .taken))
 
-add-i : tie.Need-add-i Inv-loop μ-loop
-add-i c = search needs
+add-at : tie.Need-add-at Inv-loop μ-loop
+add-at c = search needs
 
 loop-less : tie.Need-loop-less Inv-loop μ-loop
 loop-less c = search needs
@@ -46,7 +45,7 @@ zeros-from-spec =
     loop-holds
     shared-slice-read-if1
     returns
-    add-i
+    add-at
     loop-less
     loop-again
     returns-2)

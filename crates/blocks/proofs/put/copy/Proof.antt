@@ -3,7 +3,8 @@ use Prim.Native.Nat.{_≤_, _-_, _+_}
 use mathlib.Core.Path.{_≡_, _∙_, ap, sym}
 use lib.ListN.{length, length-set, set, take, getD}
 use lib.Seq.{take-all}
-use Rattle.blocks.specs.Put.{put, put-nil, put-turn}
+use Rattle.blocks.specs.Put.{put}
+use Rattle.blocks.specs.PutLaws.{put-nil, put-turn}
 use borrow.Author.Needs.{needs}
 use native.Mathlib.Omega.{arith}
 use Rattle.blocks.proofs.put.copy.Statement.{statement}
@@ -37,13 +38,12 @@ loop-again : tie.Need-loop-again Inv-loop μ-loop
 loop-again c =
     let s = c .before .before .before .args .src .now in
     let i = c .before .before .loop .i in
-    let inv = c .before .before .loop .inv in
-    (
+    let inv = c .before .before .loop .inv in (
       omega arith,
       (
         simp length-set (inv .1 .0),
-        ap (λ d. set d (c .before .before .before .args .at + i) (getD s i 0)) (inv .1 .1) ∙ put-turn _ _ s i (c .before .before .before .pre) (c .before .loop-test .taken)
-      )
+        ap (λ d. set d (c .before .before .before .args .at + i) (getD s i 0)) (inv .1 .1) ∙ put-turn _ _ s i (c .before .before .before .pre) (c .before .loop-test .taken),
+      ),
     )
 
 same-length : tie.Need-same-length Inv-loop μ-loop

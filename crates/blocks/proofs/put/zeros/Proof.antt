@@ -2,7 +2,8 @@
 use Prim.Native.Nat.{_≤_, _-_, _+_}
 use mathlib.Core.Path.{_≡_, _∙_, ap, sym, refl}
 use lib.ListN.{length, length-set, set, replicate}
-use Rattle.blocks.specs.Put.{put, put-nil}
+use Rattle.blocks.specs.Put.{put}
+use Rattle.blocks.specs.PutLaws.{put-nil}
 use Rattle.blocks.specs.WriteWays.{zeros-turn}
 use native.Mathlib.Omega.{arith}
 use Rattle.blocks.proofs.put.zeros.Statement.{statement}
@@ -32,10 +33,9 @@ loop-less c = omega arith
 loop-again : tie.Need-loop-again Inv-loop μ-loop
 loop-again c =
     let i = c .before .loop .i in
-    let inv = c .before .loop .inv in
-    (
+    let inv = c .before .loop .inv in (
       omega arith,
-      (simp length-set (inv .1 .0), ap (λ d. set d (c .before .before .args .at + i) 0) (inv .1 .1) ∙ zeros-turn _ _ _ i (c .before .before .pre) (c .loop-test .taken))
+      (simp length-set (inv .1 .0), ap (λ d. set d (c .before .before .args .at + i) 0) (inv .1 .1) ∙ zeros-turn _ _ _ i (c .before .before .pre) (c .loop-test .taken)),
     )
 
 same-length : tie.Need-same-length Inv-loop μ-loop

@@ -1,12 +1,12 @@
 -- `reading::first_fault` meets its contract. The loop's invariant: the first k blocks have no fault. The measure is what is left of the n blocks.
-use Prim.Native.Nat.{_≤_, _-_, _+_}
+use Prim.Native.Nat.{_≤_, _-_}
 use mathlib.Core.Path.{_≡_, _∙_, ap, sym, refl, subst}
 use lib.ListN.{length}
 use Rattle.blocks.specs.Blocks.{block-fault}
 use Rattle.blocks.specs.Images.{first-fault}
 use Rattle.blocks.specs.ImageLaws.{block-whole}
 use Rattle.blocks.specs.ImageWays.{block-at, first-more, first-stop}
-use Rattle.blocks.specs.declared.Found.the-variants.{Right, Wrong}
+use Rattle.blocks.specs.declared.Found.the-variants.{Right}
 use borrow.Author.Needs.{needs}
 use native.Mathlib.Omega.{arith}
 use Rattle.blocks.proofs.reading.first_fault.Statement.{statement}

@@ -1,9 +1,10 @@
 -- `reading::join` meets its contract. The loop's invariant: the used payloads of the first k blocks have been joined. The measure is what is left of the
 -- n blocks.
-use Prim.Native.Nat.{_≤_, _-_, _+_, _*_}
-use mathlib.Core.Path.{_≡_, _∙_, ap, sym, refl, subst}
+use Prim.Native.Nat.{_≤_, _-_}
+use mathlib.Core.Path.{_≡_, _∙_, ap, sym, refl}
 use lib.ListN.{length}
-use Rattle.blocks.specs.Put.{put, put-nil}
+use Rattle.blocks.specs.Put.{put}
+use Rattle.blocks.specs.PutLaws.{put-nil}
 use Rattle.blocks.specs.Images.{joined}
 use Rattle.blocks.specs.ImageLaws.{block-whole}
 use Rattle.blocks.specs.ImageWays.{block-at, part-at, joined-fits, join-turn, used-fits}

@@ -2,7 +2,8 @@
 use Prim.Native.Nat.{_≤_, _-_}
 use mathlib.Core.Path.{_≡_, _∙_, ap, sym, refl}
 use lib.ListN.{length}
-use Rattle.blocks.specs.Put.{put, put-nil}
+use Rattle.blocks.specs.Put.{put}
+use Rattle.blocks.specs.PutLaws.{put-nil}
 use Rattle.blocks.specs.Images.{image-of}
 use Rattle.blocks.specs.ImageLaws.{piece-fits}
 use Rattle.blocks.specs.WriteWays.{blocks-turn}
@@ -39,13 +40,12 @@ loop-again : tie.Need-loop-again Inv-loop μ-loop
 loop-again c =
     let s = c .before .before .before .before .before .before .before .before .before .args .stream .now in
     let k = c .before .before .before .before .before .before .loop .k in
-    let inv = c .before .before .before .before .before .before .loop .inv in
-    (
+    let inv = c .before .before .before .before .before .before .loop .inv in (
       omega arith,
       (
         c .before .before .put-block .kept .0 ∙ inv .1 .0,
-        blocks-turn s (c .before .before .before .before .before .before .before .before .before .args .out .now) _ _ _ k _ (c .before .before .before .before .before .before .before .before .before .pre .0 .0) (c .before .before .before .before .before .loop-test .taken) (inv .1 .1) (c .before .before .before .piece .ensures) (c .before .before .put-block .ensures)
-      )
+        blocks-turn s (c .before .before .before .before .before .before .before .before .before .args .out .now) _ _ _ k _ (c .before .before .before .before .before .before .before .before .before .pre .0 .0) (c .before .before .before .before .before .loop-test .taken) (inv .1 .1) (c .before .before .before .piece .ensures) (c .before .before .put-block .ensures),
+      ),
     )
 
 same-length : tie.Need-same-length Inv-loop μ-loop

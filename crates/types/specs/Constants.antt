@@ -1,0 +1,35 @@
+-- Every limit and every byte of a type, as the code hands them out: each field is the definition of its name.
+use Rattle.types.specs.Limits.{max-structs, max-params, max-steps, step-names, max-statements, max-items, int-half, nat-end, first-local, variables, max-path, fix-levels, if-levels, expr-levels, max-instances, program-blocks, table-blocks, step-commands, max-commands, max-depth, schedule-items, max-turns, max-stability}
+use Rattle.types.specs.Types.{Ty.int, Ty.nat, Ty.bool, Ty.ref, code}
+use Rattle.types.specs.declared.Limits.{Limits}
+use Rattle.types.specs.declared.Codes.{Codes}
+
+abbrev pub limits : Limits
+limits = record {
+  «max_structs» = max-structs;
+  «max_params» = max-params;
+  «max_steps» = max-steps;
+  «step_names» = step-names;
+  «max_statements» = max-statements;
+  «max_items» = max-items;
+  «int_half» = int-half;
+  «nat_end» = nat-end;
+  «first_local» = first-local;
+  «variables» = variables;
+  «max_path» = max-path;
+  «fix_levels» = fix-levels;
+  «if_levels» = if-levels;
+  «expr_levels» = expr-levels;
+  «max_instances» = max-instances;
+  «program_blocks» = program-blocks;
+  «table_blocks» = table-blocks;
+  «step_commands» = step-commands;
+  «max_commands» = max-commands;
+  «max_depth» = max-depth;
+  «schedule_items» = schedule-items;
+  «max_turns» = max-turns;
+  «max_stability» = max-stability;
+}
+
+unfoldable pub codes : Codes
+codes = record { int = code int; nat = code nat; «bool_type» = code bool; «struct_0» = code (ref 0) }
