@@ -68,15 +68,34 @@ meets-stops p {m} {i = i} l at (no-result {o = o} {c = c} {x = x} {y = y} {χ = 
     (sym q ∙ commanded p m l i (n-op o) c at e ∙ operates p m l j c o s
     ∙ ap (operated p m l j c χ (result-type (sort o) (x .by))) (apply-outside o (x .is) (y .is) .1 h))
 
+-- no move leads on from an empty schedule, nor from a Fix met with 8 stability entries
+pub done-stops : (p : Program) (m : Machine) {z : Machine} → m .sched ≡ done → move p m ≡ next z → ⊥
+unfolding move-by
+done-stops p m s e =
+    let q : move p m ≡ stuck = ap (λ s. move-by p s (m .instances) (m .stability)) s in
+    let z : _≡_ {A = ℕ} 0 1 = cc in
+    omega arith
+
+nested-stops : (p : Program) (m : Machine) {f s : Sched} {z : Machine} → m .sched ≡ fixpoint f s → max-stability ≤ length (m .stability) → move p m ≡ next z → ⊥
+unfolding move-by
+nested-stops p m {f} {s} {z} q b e =
+    go (ltb (length (m .stability)) max-stability) _ (le-ltb (length (m .stability)) max-stability b)
+    (ap (λ s. move-by p s (m .instances) (m .stability)) (sym q) ∙ e)
+  where
+    go : (u : Bool) (o : Out) → u ≡ false → elim u [ true ↦ o | false ↦ refused nested ] ≡ next z → ⊥
+    go true o e q = let z : _≡_ {A = ℕ} 0 1 = cc in omega arith
+    go false o e q = clash (sym q)
+
 -- no machine is visited behind one at which a condition holds
 pub condition-last : {p : Program} {m z : Machine} {es : List ℕ} {n : ℕ} → Condition m es n → Visits p m es z → z ≡ m
-unfolding move-by
 condition-last c here = refl
-condition-last (at-end h s) (moves {m = m} h′ e v) = ?a
+condition-last {p} (at-end h s) (moves {m = m} h′ e v) = absurd (done-stops p m s e)
 condition-last (at-33 h b) (moves h′ e v) = let z : _≡_ {A = ℕ} 0 1 = cc in absurd (omega arith)
 condition-last (at-command h b a c) (moves h′ e v) = let z : _≡_ {A = ℕ} 0 1 = cc in absurd (omega arith)
-condition-last (at-36 h s b) (moves h′ e v) = ?b
+condition-last {p} (at-36 h s b) (moves {m = m} h′ e v) = absurd (nested-stops p m s b e)
 condition-last (at-end h s) (takes h′ e v) = let z : _≡_ {A = ℕ} 0 1 = cc in absurd (omega arith)
 condition-last (at-33 h b) (takes h′ e v) = let z : _≡_ {A = ℕ} 0 1 = cc in absurd (omega arith)
-condition-last {p} (at-command h b a c) (takes h′ e v) = ?c
+condition-last {p} (at-command {h = k} {e = d} {hs = ks} h b a c) (takes {m = m} {e = d′} {h = k′} {hs = ks′} h′ e v) =
+    let q : chosen (k ∷ ks) d ≡ chosen (k′ ∷ ks′) d′ = cc in
+    absurd (meets-stops p (chosen (k ∷ ks) d) a c (ap (λ l. command p l m) q ∙ e))
 condition-last (at-36 h s b) (takes h′ e v) = let z : _≡_ {A = ℕ} 0 1 = cc in absurd (omega arith)

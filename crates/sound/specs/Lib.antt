@@ -23,6 +23,8 @@ pub mod BeginGood
 pub mod FuelLaws
 pub mod HolderLaws
 pub mod ConditionLaws
+pub mod NeverStuck
+pub mod NeverStuckLaws
 pub mod SafeLaws
 pub mod Locals
 pub mod LocalsLaws
