@@ -10,7 +10,6 @@ use Rattle.types.specs.Types.{IsType}
 use Rattle.program.specs.Tree.{Stmts, Program}
 use Rattle.program.specs.Counts.{All, Few, CountsStmts, CountsStep, Counts}
 use Rattle.commands.specs.Context.{params-of, context}
-use Rattle.commands.specs.Noted.{noted}
 use Rattle.machine.specs.Published.{structs, step-of}
 use Rattle.sound.specs.Steps.{of-each, found, step-safe}
 use Rattle.sound.specs.Heights.{program-height}

@@ -3,8 +3,8 @@ use Prim.Native.Nat.{ℕ, _+_}
 use mathlib.Core.Path.{_≡_, refl, ap, sym, _∙_}
 use mathlib.Core.Bool.{true, false, false≢true}
 use mathlib.Core.Option.{some}
-use mathlib.Core.List.{List, [], _∷_, _++_, List·Memᴰ}
-use lib.ListN.{length, getElem?, set}
+use mathlib.Core.List.{List, _∷_, List·Memᴰ}
+use lib.ListN.{getElem?, set}
 use Rattle.types.specs.Limits.{first-local}
 use Rattle.types.specs.Types.{Ty, Ty.int}
 use Rattle.types.specs.Values.{Val, Val.label}
@@ -13,10 +13,10 @@ use Rattle.commands.specs.Context.{body-local, params-of}
 use Rattle.commands.specs.Noted.{Note, noted}
 use Rattle.table.specs.Table.{Each}
 use Rattle.machine.specs.Published.{Env, lookup}
-use Rattle.machine.specs.Machine.{Tagged, Instance, Machine, with-code, with-written, put, now-written, Out, Out.next, Out.refused, Out.stuck}
+use Rattle.machine.specs.Machine.{Tagged, Instance, Machine, put, now-written, Out, Out.next, Out.refused, Out.stuck}
 use Rattle.sound.specs.Tags.{stack-after, is-this, next as leads, at-start, Way}
 use Rattle.sound.specs.Needs.{Of}
-use Rattle.sound.specs.Invariant.{Fits, Passage, Place.passing, GoodInst, Good}
+use Rattle.sound.specs.Invariant.{Fits, Passage, Place.passing, Good}
 use Rattle.sound.specs.Keeps.{Keeps, keeps-set, of-kept, fits-kept}
 use Rattle.sound.specs.EachLaws.{each-map}
 use Rattle.sound.specs.GoodLaws.{fitted-kept, good-set}

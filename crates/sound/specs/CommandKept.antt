@@ -1,17 +1,17 @@
 -- A command of an instance that holds commands keeps the invariant, or meets the condition of 34 or 35; it never lacks a rule.
-use Prim.Native.Nat.{ℕ, _+_, _<_, _≤_}
+use Prim.Native.Nat.{ℕ, _+_, _<_}
 use native.Mathlib.Omega.{arith}
 use mathlib.Core.Path.{_≡_, refl, ap, sym, _∙_, subst}
 use mathlib.Core.Bool.{Bool, true, false, not, false≢true}
-use mathlib.Core.Option.{Option, none, some}
-use mathlib.Core.List.{List, [], _∷_, _++_, map, reverse, List·Memᴰ}
+use mathlib.Core.Option.{some}
+use mathlib.Core.List.{List, [], _∷_, _++_, map, reverse}
 use lib.ListN.{length, getD, getElem?, set, drop, length-reverse}
 use lib.Seq.{drop-at}
 use lib.Dec.{ltb}
-use borrow.Author.Tests.{lt-ltb, le-ltb, ltb-true, ltb-false}
+use borrow.Author.Tests.{lt-ltb, le-ltb, ltb-false}
 use Rattle.types.specs.Limits.{max-instances, first-local}
-use Rattle.types.specs.Types.{Ty, Ty.int, Ty.nat, Ty.bool, Ty.ref}
-use Rattle.types.specs.Values.{Val, Val.int-val, Val.nat-val, Val.bool-val, Val.label}
+use Rattle.types.specs.Types.{Ty, Ty.int, Ty.bool, Ty.ref}
+use Rattle.types.specs.Values.{Val, Val.bool-val, Val.label}
 use Rattle.program.specs.Tree.{Op, Program}
 use Rattle.commands.specs.Context.{Ctx, params-of, typ}
 use Rattle.commands.specs.Typing.{sort, Takes}
@@ -22,7 +22,7 @@ use Rattle.words.specs.ApplyLaws.{apply-outside}
 use Rattle.words.specs.Ranges.{Fits as Answers}
 use Rattle.words.specs.RangesLaws.{apply-fits}
 use Rattle.machine.specs.Published.{structs, arity}
-use Rattle.machine.specs.Machine.{Tagged, tagged, Instance, Machine, with-code, with-written, put, now-written, result-type, write-to, operated, perform, command-of, command-at, command}
+use Rattle.machine.specs.Machine.{Tagged, tagged, Instance, Machine, with-written, put, now-written, result-type, write-to, operated, perform, command-of, command-at, command}
 use Rattle.run.specs.Begin.{resting}
 use Rattle.sound.specs.Tags.{Tags, Top, Asks, stack-after, next as leads, at-start, Way, Way.on, Way.over}
 use Rattle.sound.specs.Needs.{Of}

@@ -4,20 +4,19 @@ use native.Mathlib.Omega.{arith}
 use mathlib.Core.Path.{_≡_, refl, ap, sym, _∙_}
 use mathlib.Core.Bool.{Bool, true, false}
 use mathlib.Core.Option.{some}
-use mathlib.Core.List.{List, [], _∷_}
+use mathlib.Core.List.{List, _∷_}
 use lib.ListN.{length, getElem?}
 use lib.Dec.{ltb, leb}
 use borrow.Author.Tests.{le-ltb}
 use Rattle.types.specs.Limits.{max-instances, max-stability}
 use Rattle.program.specs.Tree.{Program}
-use Rattle.commands.specs.Noted.{Note, Note.n-cons, Note.n-op}
+use Rattle.commands.specs.Noted.{Note.n-cons, Note.n-op}
 use Rattle.commands.specs.Typing.{sort}
 use Rattle.words.specs.ApplyLaws.{apply-outside}
 use Rattle.machine.specs.Published.{Sched, Sched.done, Sched.fixpoint, arity}
-use Rattle.machine.specs.Machine.{Tagged, Instance, Machine, Out, Out.next, Out.refused, Out.stuck, full, exceeded, nested, result-type, construct, operate, operated, perform, move-by, move, command, with-written, now-written}
-use Rattle.run.specs.Turns.{holders, chosen}
+use Rattle.machine.specs.Machine.{Instance, Machine, Out, Out.next, Out.refused, Out.stuck, full, exceeded, nested, result-type, construct, operated, perform, move-by, move, command, with-written, now-written}
+use Rattle.run.specs.Turns.{chosen}
 use Rattle.run.specs.Visits.{Visits, Visits.here, Visits.moves, Visits.takes}
-use Rattle.sound.specs.Keeps.{some-is}
 use Rattle.sound.specs.Conditions.{Meets, Meets.no-label, Meets.no-result, Condition, Condition.at-end, Condition.at-33, Condition.at-command, Condition.at-36}
 use Rattle.sound.specs.CommandKept.{commanded}
 use Rattle.sound.specs.Outcomes.{operates}

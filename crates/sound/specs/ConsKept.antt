@@ -1,26 +1,25 @@
 -- cons keeps the invariant: the new instance rests, with parameters of their types, and the actor has its label.
-use Prim.Native.Nat.{ℕ, _<_, _≤_}
+use Prim.Native.Nat.{ℕ}
 use native.Mathlib.Decide.{ℕ-discrete}
-use mathlib.Core.Path.{_≡_, refl, ap, sym, _∙_}
+use mathlib.Core.Path.{_≡_, refl, sym, _∙_}
 use mathlib.Core.Bool.{false}
 use mathlib.Core.Option.{Option, none, some}
 use mathlib.Core.Logic.{_⊎_, inl, inr}
-use mathlib.Core.List.{List, [], _∷_, _++_, map, reverse}
+use mathlib.Core.List.{List, [], _∷_, _++_}
 use lib.ListN.{length, getElem?, set, length-set, length-replicate}
 use Rattle.types.specs.Limits.{first-local}
-use Rattle.types.specs.Types.{Ty, Ty.ref}
+use Rattle.types.specs.Types.{Ty.ref}
 use Rattle.types.specs.Values.{Val, Val.label}
 use Rattle.program.specs.Tree.{Program}
 use Rattle.commands.specs.Context.{params-of}
-use Rattle.commands.specs.Noted.{Note, Note.n-cons, noted}
+use Rattle.commands.specs.Noted.{Note}
 use Rattle.table.specs.Table.{Each}
 use Rattle.machine.specs.Rules.{meet}
-use Rattle.machine.specs.Machine.{Tagged, tagged, Instance, Machine, with-instances, with-stability}
+use Rattle.machine.specs.Machine.{Tagged, Instance, Machine, with-instances, with-stability}
 use Rattle.run.specs.Begin.{resting as at-rest}
 use Rattle.sound.specs.Needs.{Of}
-use Rattle.sound.specs.Invariant.{Fits, Passage, Place.resting, Place.passing, GoodInst, GoodAll, Good}
+use Rattle.sound.specs.Invariant.{Passage, Place.resting, Place.passing, GoodInst, Good}
 use Rattle.sound.specs.Keeps.{Keeps, keeps-then, keeps-set, keeps-append, at-set-same, at-set-other, at-snoc, at-last, some-is}
-use Rattle.sound.specs.EachLaws.{each-map, each-of-map, each-reverse}
 use Rattle.sound.specs.GoodLaws.{fitted-kept, good-change, meet-length}
 use Rattle.sound.specs.Advance.{after}
 

@@ -1,11 +1,11 @@
 -- The run's fuel is more than the moves that its machine can make without a turn (01, 'Table and turns').
-use Prim.Native.Nat.{ℕ, suc, _+_, _*_, _<_, _≤_}
+use Prim.Native.Nat.{ℕ, suc, _*_, _<_, _≤_}
 use native.Mathlib.Omega.{arith}
 use mathlib.Core.Bool.{Bool, true, false}
 use mathlib.Core.List.{List, [], _∷_}
 use lib.ListN.{length}
 use Rattle.machine.specs.Machine.{Machine}
-use Rattle.machine.specs.Measure.{weight, bound, passages, measure}
+use Rattle.machine.specs.Measure.{bound, passages, measure}
 use Rattle.run.specs.Run.{fuel}
 
 passages-few : (B : ℕ) (b : List Bool) → passages B b ≤ length b * suc B

@@ -1,19 +1,19 @@
 -- The invariant through a change of the instances: every instance after it is one from before, or good by itself.
-use Prim.Native.Nat.{ℕ, suc, _+_, _<_}
+use Prim.Native.Nat.{ℕ}
 use native.Mathlib.Decide.{ℕ-discrete}
-use mathlib.Core.Path.{_≡_, refl, sym, ap, _∙_}
+use mathlib.Core.Path.{_≡_, refl, sym, _∙_}
 use mathlib.Core.Bool.{Bool, true, false}
-use mathlib.Core.Option.{Option, none, some}
+use mathlib.Core.Option.{some}
 use mathlib.Core.Logic.{_⊎_, inl, inr, ⊎-elim}
-use mathlib.Core.List.{List, [], _∷_, _++_, map}
+use mathlib.Core.List.{List}
 use lib.ListN.{length, getElem?, set, length-map}
 use Rattle.types.specs.Types.{Ty, Ty.int}
 use Rattle.program.specs.Tree.{Program}
 use Rattle.commands.specs.Context.{params-of, body-local}
 use Rattle.machine.specs.Published.{Env, Env.env}
 use Rattle.machine.specs.Rules.{meet}
-use Rattle.machine.specs.Machine.{Instance, Machine, with-env, update-env}
-use Rattle.sound.specs.Invariant.{Fits, Fitted, Passage, Place, Place.resting, Place.passing, GoodInst, GoodAll}
+use Rattle.machine.specs.Machine.{Instance, with-env, update-env}
+use Rattle.sound.specs.Invariant.{Fitted, Passage, Place, Place.resting, Place.passing, GoodInst, GoodAll}
 use Rattle.sound.specs.Keeps.{Keeps, of-kept, fits-kept, keeps-set, keeps-env, at-set-same, at-set-other, at-env-same, at-env-other, some-is}
 use Rattle.sound.specs.EachLaws.{each-map}
 

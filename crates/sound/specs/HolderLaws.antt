@@ -1,7 +1,7 @@
 -- The instance that a byte picks holds commands (01, 'Table and turns').
 use Prim.Native.Nat.{ℕ, zero, suc, _+_, _%_, _<_}
 use native.Mathlib.Omega.{arith}
-use native.Mathlib.Nat.{add-zero, add-suc, suc-add, zero-add, mod-lt}
+use native.Mathlib.Nat.{add-zero, zero-add, mod-lt}
 use mathlib.Core.Path.{_≡_, refl, ap, sym, _∙_}
 use mathlib.Core.Bool.{Bool, true, false}
 use mathlib.Core.Option.{some}

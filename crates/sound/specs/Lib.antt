@@ -23,6 +23,7 @@ pub mod BeginGood
 pub mod FuelLaws
 pub mod HolderLaws
 pub mod ConditionLaws
+pub mod SettleLaws
 pub mod NeverStuck
 pub mod NeverStuckLaws
 pub mod SafeLaws

@@ -1,11 +1,11 @@
 -- A move of a schedule that is not empty keeps the invariant, or meets the condition of 36; it never lacks a rule.
 use Prim.Native.Nat.{ℕ, suc, _≤_}
 use native.Mathlib.Omega.{arith}
-use mathlib.Core.Path.{_≡_, refl, ap, sym, _∙_}
+use mathlib.Core.Path.{_≡_, refl, _∙_}
 use mathlib.Core.Bool.{Bool, true, false, false≢true}
 use mathlib.Core.Option.{Option, none, some}
 use mathlib.Core.List.{List, [], _∷_, map, List·Memᴰ·not-nil}
-use lib.ListN.{length, getElem?}
+use lib.ListN.{length}
 use lib.Dec.{ltb, eqb}
 use borrow.Author.Tests.{ltb-false}
 use Rattle.types.specs.Limits.{max-stability}
@@ -13,7 +13,7 @@ use Rattle.program.specs.Tree.{Stmts, Program}
 use Rattle.machine.specs.Published.{Sched, Sched.done, Sched.start, Sched.start-in, Sched.fixpoint, Sched.active, before, step-of}
 use Rattle.machine.specs.Machine.{Instance, machine, Out.next, Out.refused, nested, given, started, started-in, repeat, move-by}
 use Rattle.sound.specs.Tags.{at-start, Way.start as begins}
-use Rattle.sound.specs.Invariant.{Place.passing, GoodInst, GoodAll, Unbegun, Open, Open.open-done, Open.open-start, Open.open-start-in, Open.open-fix, Open.open-active}
+use Rattle.sound.specs.Invariant.{Place.passing, GoodInst, GoodAll, Unbegun, Open, Open.open-start, Open.open-start-in, Open.open-fix, Open.open-active}
 use Rattle.sound.specs.Keeps.{Keeps, at-map, map-at}
 use Rattle.sound.specs.GoodLaws.{inst-kept}
 use Rattle.sound.specs.Advance.{Kept}

@@ -29,7 +29,9 @@ pub record NeverStuck (p : Program) (m : Machine) (es : List ℕ) : Type 0 where
   pub visited : (z : Machine) → Visits p last (drop turns es) z → Visits p m es z
   -- its number is returned exactly at its condition
   pub exactly : (k : ℕ) → Condition last (drop turns es) k ↔ k ≡ number
-  -- and nothing is visited behind it: a refused act changes nothing and is the last
+  -- every machine that the run passes through leads to it, and none is visited behind it: a refused act changes nothing and is
+  -- the last
+  pub leads : (z : Machine) → Visits p m es z → (fs : List ℕ) × Visits p z fs last
   pub final : (z : Machine) → Visits p last (drop turns es) z → z ≡ last
 
 -- of a run that begins with a table and the whole schedule

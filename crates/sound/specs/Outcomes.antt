@@ -1,9 +1,9 @@
 -- What each command comes to, given the operands that it finds (01, 'Table and turns').
-use Prim.Native.Nat.{ℕ, _<_, _≤_}
+use Prim.Native.Nat.{ℕ}
 use native.Mathlib.Omega.{arith}
-use mathlib.Core.Path.{_≡_, refl}
+use mathlib.Core.Path.{_≡_}
 use mathlib.Core.Bool.{Bool, true, false, not}
-use mathlib.Core.Option.{Option, none, some}
+use mathlib.Core.Option.{some}
 use mathlib.Core.List.{List, [], _∷_, _++_, map, reverse}
 use lib.ListN.{length, getElem?, set, take, drop, length-append}
 use lib.Seq.{take-at, drop-at}
@@ -15,10 +15,10 @@ use Rattle.types.specs.Values.{Val, Val.bool-val, Val.label}
 use Rattle.program.specs.Tree.{Op, Program}
 use Rattle.commands.specs.Noted.{Note}
 use Rattle.commands.specs.Typing.{sort}
-use Rattle.words.specs.Apply.{Answer, apply}
+use Rattle.words.specs.Apply.{apply}
 use Rattle.machine.specs.Rules.{meet}
-use Rattle.machine.specs.Published.{lookup, assign, structs, arity}
-use Rattle.machine.specs.Machine.{Tagged, tagged, Instance, Machine, with-code, with-instances, with-stability, put, update-env, settled, result-type, Out, Out.next, Out.refused, full, read-from, read-at, read, write-to, write-parameter, write-at, write, negate, branch, operated, operate, made, construct}
+use Rattle.machine.specs.Published.{lookup, structs, arity}
+use Rattle.machine.specs.Machine.{Tagged, tagged, Instance, Machine, with-code, with-instances, with-stability, put, result-type, Out.next, Out.refused, full, read-from, read-at, read, write-to, write-parameter, write-at, write, negate, branch, operated, operate, construct}
 use Rattle.run.specs.Begin.{resting}
 
 module _ (p : Program) (m : Machine) (l : ℕ) (i : Instance) (c : List Note) {χ ψ : List Tagged} where

@@ -1,12 +1,11 @@
 -- A machine with the invariant is right: every next command finds what it needs (01, 'The words of demand 3').
 use Prim.Native.Nat.{ℕ, _≤_}
 use native.Mathlib.Omega.{arith}
-use mathlib.Core.Path.{_≡_, refl, sym, ap, _∙_}
+use mathlib.Core.Path.{_≡_, refl}
 use mathlib.Core.Bool.{true, false}
-use mathlib.Core.Option.{some}
-use mathlib.Core.List.{List, [], _∷_, _++_, reverse, reverse-reverse}
-use lib.ListN.{length, getElem?}
-use Rattle.types.specs.Types.{Ty, Ty.bool, Ty.ref}
+use mathlib.Core.List.{List, [], _∷_, reverse, reverse-reverse}
+use lib.ListN.{length}
+use Rattle.types.specs.Types.{Ty.bool, Ty.ref}
 use Rattle.program.specs.Tree.{Program}
 use Rattle.commands.specs.Context.{params-of, typ}
 use Rattle.commands.specs.Noted.{Note, Note.n-push, Note.n-this, Note.n-not, Note.n-rd, Note.n-wr, Note.n-get, Note.n-set, Note.n-cons, Note.n-op, Note.n-if}
@@ -48,7 +47,7 @@ module _ {p : Program} (m : Machine) {l : ℕ} {i : Instance} (g : Passage p (m 
       let (w, q, o) = local-value g v (a .2) in
       (x, y, (χ, e), (f .0, own-top g (a .0) y (x ∷ χ) e), f′, (rw (g .wrote) (a .2), w, q, rw (a .1) o))
 
-module _ {p : Program} (firm : Firm p) {m : Machine} (good : Good p m) (l : ℕ) (i : Instance) (at : getElem? (m .instances) l ≡ some i) where
+module _ {p : Program} (firm : Firm p) (m : Machine) (l : ℕ) (i : Instance) where
   is-ready : Place p (m .instances) l i → (c : List Note) → i .code ≡ c → Ready p m l i c
   is-ready (resting e χ) [] q = tt
   is-ready (resting e χ) (n ∷ c) q = let z : _≡_ {A = ℕ} 0 1 = cc in absurd (omega arith)
@@ -66,8 +65,8 @@ module _ {p : Program} (firm : Firm p) {m : Machine} (good : Good p m) (l : ℕ)
 
 -- a machine with the invariant is right, with the depth that the checker reports
 pub good-right : {p : Program} → Firm p → {m : Machine} → Good p m → Right p (program-depth p) m
-good-right firm good = record {
-  ready = λ l i at. is-ready firm good l i at (good .all .each l i at .place) (i .code) refl;
-  typed = λ l i at. is-typed firm good l i at (i .env) (good .all .each l i at .fitted);
-  low = λ l i at. is-low firm good l i at (good .all .each l i at .place);
+good-right firm {m} good = record {
+  ready = λ l i at. is-ready firm m l i (good .all .each l i at .place) (i .code) refl;
+  typed = λ l i at. is-typed firm m l i (i .env) (good .all .each l i at .fitted);
+  low = λ l i at. is-low firm m l i (good .all .each l i at .place);
 }

@@ -10,7 +10,7 @@ use lib.IntN.{pos, negsuc}
 use borrow.Author.Tests.{ltb-true, ltb-false}
 use Rattle.types.specs.Limits.{int-half, nat-end}
 use Rattle.types.specs.Types.{Ty, Ty.int, Ty.nat, Ty.bool, Ty.ref, IsType}
-use Rattle.types.specs.Values.{Val, Val.int-val, IntRange, default, word-int, value-of}
+use Rattle.types.specs.Values.{Val, IntRange, default, word-int, value-of}
 use Rattle.program.specs.Tree.{Var, Var.par, Var.loc, Expr, Expr.inv, Expr.make, Expr.path, Expr.int-lit, Expr.nat-lit, Expr.bool-lit, Expr.null, Expr.self, Expr.op, Exprs, Exprs.none, Exprs.more, Stmt, Stmt.when, Stmt.declare, Stmt.update, Stmt.create, Stmts, Stmts.end, Stmts.next, Program}
 use Rattle.program.specs.Counts.{IsVar, IsPath, CountsExpr, CountsExprs, CountsStmt, CountsStmts}
 use Rattle.commands.specs.Context.{Ctx, typ}

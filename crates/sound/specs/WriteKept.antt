@@ -1,15 +1,15 @@
 -- Writes keep the invariant: a parameter takes a value of its type, and a local's wr goes to the actor itself.
-use Prim.Native.Nat.{ℕ, _+_, _<_, _≤_}
+use Prim.Native.Nat.{ℕ, _+_, _<_}
 use native.Mathlib.Omega.{arith}
 use native.Mathlib.Decide.{ℕ-discrete}
 use mathlib.Core.Path.{_≡_, refl, ap, sym, _∙_}
 use mathlib.Core.Bool.{Bool, true, false, false≢true}
-use mathlib.Core.Option.{Option, none, some}
+use mathlib.Core.Option.{some}
 use mathlib.Core.Logic.{_⊎_, inl, inr}
-use mathlib.Core.List.{List, [], _∷_, List·Memᴰ, List·Memᴰ·cases-cons}
+use mathlib.Core.List.{List, List·Memᴰ, List·Memᴰ·cases-cons}
 use lib.ListN.{length, getD, getElem?, set}
 use Rattle.types.specs.Limits.{first-local}
-use Rattle.types.specs.Types.{Ty, Ty.int, Ty.ref}
+use Rattle.types.specs.Types.{Ty, Ty.int}
 use Rattle.types.specs.Values.{Val}
 use Rattle.program.specs.Tree.{Program}
 use Rattle.commands.specs.Context.{body-local, params-of}
@@ -18,9 +18,9 @@ use Rattle.table.specs.Table.{Each}
 use Rattle.machine.specs.Published.{Env, lookup, assign}
 use Rattle.machine.specs.Machine.{Tagged, Instance, Machine, with-env, with-instances, with-stability, put, update-env, now-written}
 use Rattle.machine.specs.Rules.{meet}
-use Rattle.sound.specs.Tags.{Top, stack-after, next as leads, at-start, Way}
+use Rattle.sound.specs.Tags.{stack-after, next as leads, at-start, Way}
 use Rattle.sound.specs.Needs.{Of}
-use Rattle.sound.specs.Invariant.{Fits, Fitted, Passage, Place, Place.resting, Place.passing, GoodInst, GoodAll, Good}
+use Rattle.sound.specs.Invariant.{Fits, Fitted, Passage, Place, Place.resting, Place.passing, GoodInst, Good}
 use Rattle.sound.specs.Keeps.{Keeps, keeps-set, of-kept, fits-kept, at-set-same, at-set-other, env-set, some-is}
 use Rattle.sound.specs.EachLaws.{each-map}
 use Rattle.sound.specs.EnvLaws.{other-kept, local-kept, local-holds, local-fitted, param-fitted}
