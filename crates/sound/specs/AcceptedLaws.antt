@@ -2,6 +2,7 @@
 use Prim.Native.Nat.{ℕ, zero, suc, _≤_}
 use native.Mathlib.Omega.{arith}
 use mathlib.Core.Path.{_≡_}
+use mathlib.Core.Logic.{_↔_}
 use mathlib.Core.Option.{some}
 use mathlib.Core.List.{List, [], _∷_, map}
 use lib.ListN.{length, getD, length-map}
@@ -10,6 +11,8 @@ use Rattle.types.specs.Types.{IsType}
 use Rattle.program.specs.Tree.{Stmts, Program}
 use Rattle.program.specs.Counts.{All, Few, CountsStmts, CountsStep, Counts}
 use Rattle.commands.specs.Context.{params-of, context}
+use Rattle.commands.specs.Numbers.{accepted, program-number}
+use Rattle.commands.specs.NumbersLaws.{number-accepted}
 use Rattle.machine.specs.Published.{structs, step-of}
 use Rattle.sound.specs.Steps.{of-each, found, step-safe}
 use Rattle.sound.specs.Heights.{program-height}
@@ -38,6 +41,11 @@ module _ (p : Program) (counts : Counts p) where
       let C = CountsStep (map length (p .params)) in
       let f = all-at (Few 0 8 C) (p .steps) k (omega arith, omega arith, tt) (counts .2) in
       rw q at (of-each C (f .2) m .2)
+
+-- a program that keeps to the counts is accepted exactly where its number is 0
+pub number-accepts : (p : Program) → Counts p → (program-number p ≡ accepted) ↔ Accepted p
+number-accepts p c =
+    (λ e. let (w, n, t) = number-accepted p .0 e in (c, w, n, t), λ a. number-accepted p .1 (a .1, a .2, a .3))
 
 -- an accepted program is firm
 pub accepted-firm : {p : Program} → Accepted p → Firm p
