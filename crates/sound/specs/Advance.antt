@@ -42,7 +42,7 @@ pub advance : {p : Program} {is : List Instance} {l : ℕ} {i : Instance} (g : P
     → (is-this n ≡ true → (x : Tagged) × (ψ : List Tagged) × (χ ≡ x ∷ ψ) × (x .is ≡ label l))
     → (ξ : Env)
     → ((x : ℕ) → List·Memᴰ x (now-written n (i .written))
-      → (v : Val) × (lookup ξ (first-local + x) ≡ some v) × (Of js (body-local (g .body) x int) v))
+    → (v : Val) × (lookup ξ (first-local + x) ≡ some v) × (Of js (body-local (g .body) x int) v))
     → Passage p js l (after i n c χ ξ)
 advance g n w js ts q χ s o ξ h = record {
   name = g .name;
@@ -63,21 +63,21 @@ pub locals-kept : {p : Program} {is : List Instance} {l : ℕ} {i : Instance} (g
 locals-kept g k a x h = let (v, e, o) = g .locals x (rw a at h) in (v, e, of-kept k (body-local (g .body) x int) v o)
 
 module _ {p : Program} {m : Machine} (good : Good p m) (l : ℕ) (i : Instance) (at : getElem? (m .instances) l ≡ some i)
-  (n : Note) (c : List Note) (χ : List Tagged) where
+    (n : Note) (c : List Note) (χ : List Tagged) where
   -- the actor put back, its environment as it was
   pub good-put : (Keeps (m .instances) (set (m .instances) l (after i n c χ (i .env)))
-        → Passage p (set (m .instances) l (after i n c χ (i .env))) l (after i n c χ (i .env)))
+      → Passage p (set (m .instances) l (after i n c χ (i .env))) l (after i n c χ (i .env)))
       → Good p (put m l (after i n c χ (i .env)))
   good-put f =
       let j = after i n c χ (i .env) in
       let k = keeps-set (m .instances) l i j at refl in
       record {
         all =
-          good-set p (m .instances) l i j at refl (good .all)
-          (record {
-            fitted = fitted-kept p k (params-of p (i .struct)) (i .env) (good .all .each l i at .fitted);
-            place = passing (f k);
-          });
+            good-set p (m .instances) l i j at refl (good .all)
+            (record {
+              fitted = fitted-kept p k (params-of p (i .struct)) (i .env) (good .all .each l i at .fitted);
+              place = passing (f k);
+            });
         opened = good .opened;
       }
 
@@ -92,7 +92,7 @@ module _ {p : Program} {m : Machine} (good : Good p m) (l : ℕ) (i : Instance) 
       → Good p (put m l (after i n c χ (i .env)))
   goes-on g w a b ts q s =
       good-put (λ k.
-        advance g n w (set (m .instances) l (after i n c χ (i .env))) ts q χ (each-map (fits-kept k) ts χ s)
-        (λ h. absurd (false≢true (sym b ∙ h)))
-        (i .env)
-        (locals-kept g k a))
+      advance g n w (set (m .instances) l (after i n c χ (i .env))) ts q χ (each-map (fits-kept k) ts χ s)
+      (λ h. absurd (false≢true (sym b ∙ h)))
+      (i .env)
+      (locals-kept g k a))

@@ -30,6 +30,7 @@ use Rattle.sound.specs.ConsKept.{rests}
 
 mutual
   unfolding of-item of-items Unbegun
+
   unbegun-item : (i : Item) (s : Sched) → Unbegun s → Unbegun (of-item i s)
   unbegun-item (call n) s u = u
   unbegun-item (call-in k n) s u = u
@@ -106,6 +107,7 @@ module _ (p : Program) (counts : Counts p) (rs : List Record) where
           → elim o [ none ↦ none | some r ↦ some (r .struct) ] ≡ some k → Of at-first (ref k) (label l)
       found h none q e = none-some e
       found h (some r) q e = (resting (r .struct) (r .values), record-first l r h q, some-is e)
+
       go : (t : Bool) → ltb l (length (p .params)) ≡ t
           → elim t [ true ↦ some l | false ↦ elim (getElem? rs (l - length (p .params))) [ none ↦ none | some r ↦ some (r .struct) ] ] ≡ some k
           → Of at-first (ref k) (label l)
@@ -146,7 +148,7 @@ module _ (p : Program) (counts : Counts p) (rs : List Record) where
     first-good l i (inl e) =
         let h : l < length (p .params) = omega (arith, elem-below (nulls 0 (p .params)) l i e, nulls-length 0 (p .params)) in
         let q : resting l (map default (params-of p l)) ≡ i =
-          some-is (sym (ap (λ n. some (resting n (map default (params-of p l)))) (zero-add l)) ∙ sym (null-at 0 (p .params) l h) ∙ e) in
+        some-is (sym (ap (λ n. some (resting n (map default (params-of p l)))) (zero-add l)) ∙ sym (null-at 0 (p .params) l h) ∙ e) in
         rw (← q) (rests p at-first l l (map default (params-of p l)) (defaults (params-of p l) (params-counted p counts l .1)))
     first-good l i (inr e) =
         let j = l - length (nulls 0 (p .params)) in

@@ -52,7 +52,7 @@ set-asks G true t v x a = a
 set-asks G false t v x a = (a .0, a .1, a .3)
 
 module _ {p : Program} (firm : Firm p) {m : Machine} (good : Good p m) (l : ℕ) (i : Instance) (at : getElem? (m .instances) l ≡ some i)
-  (g : Passage p (m .instances) l i) (c : List Note) where
+    (g : Passage p (m .instances) l i) (c : List Note) where
   -- the actor as the machine has it while it takes the command n
   abbrev acting : Note → Instance
   acting n = with-written i (now-written n (i .written))
@@ -72,12 +72,13 @@ module _ {p : Program} (firm : Firm p) {m : Machine} (good : Good p m) (l : ℕ)
   pushes-this e =
       let x = tagged (ref (i .struct)) (label l) in
       good-put good l i at n-this c (x ∷ i .stack) (λ k.
-        advance g n-this (on (way-at g firm n-this c e)) (set (m .instances) l (after i n-this c (x ∷ i .stack) (i .env))) (ref (i .struct) ∷ g .place .stack) refl (x ∷ i .stack)
-        ((refl, of-kept k (ref (i .struct)) (label l) (i, at, refl)),
-        each-map (fits-kept k) (g .place .stack) (i .stack) (g .stacked))
-        (λ q. (x, i .stack, refl, refl))
-        (i .env)
-        (locals-kept g k refl))
+      advance g n-this (on (way-at g firm n-this c e)) (set (m .instances) l (after i n-this c (x ∷ i .stack) (i .env))) (ref (i .struct) ∷ g .place .stack) refl (x ∷ i .stack) (
+        (refl, of-kept k (ref (i .struct)) (label l) (i, at, refl)),
+        each-map (fits-kept k) (g .place .stack) (i .stack) (g .stacked),
+      )
+      (λ q. (x, i .stack, refl, refl))
+      (i .env)
+      (locals-kept g k refl))
 
   negates : Goes n-not
   unfolding perform now-written
@@ -115,7 +116,7 @@ module _ {p : Program} (firm : Firm p) {m : Machine} (good : Good p m) (l : ℕ)
       let (t, q, j, at′, w) = label-value (m .instances) k (x .is) (f .1) in
       let b′ : v < length (params-of p (j .struct)) = rw w b in
       let (y, z, o) =
-        param-holds (m .instances) (params-of p (j .struct)) (firm .few (j .struct)) v b′ (j .env) (good .all .each t j at′ .fitted) in
+      param-holds (m .instances) (params-of p (j .struct)) (firm .few (j .struct)) v b′ (j .env) (good .all .each t j at′ .fitted) in
       subst (Kept p (Meets m i))
       (sym (has-read p m l (acting (n-rd k v)) c v (typ (ctx g) k v) (s ∙ ap (λ u. tagged (x .by) u ∷ χ) q) at′ z))
       (goes-on good l i at (n-rd k v) c (tagged (typ (ctx g) k v) y ∷ χ) g (on (way-at g firm (n-rd k v) c e)) refl refl (typ (ctx g) k v ∷ h)
@@ -145,16 +146,16 @@ module _ {p : Program} (firm : Firm p) {m : Machine} (good : Good p m) (l : ℕ)
       let s′ = s ∙ ap (λ u. tagged (y .by) u ∷ x ∷ χ) q in
       let b′ : v < arity p (j .struct) = rw w b in
       let own : Good p (put m l (after i n c χ (i .env))) =
-        goes-on good l i at n c χ g (on (way-at g firm n c e)) refl refl h (ap (stack-after (ctx g) n) a) r in
+      goes-on good l i at n c χ g (on (way-at g firm n c e)) refl refl h (ap (stack-after (ctx g) n) a) r in
       let (z, z′, o) =
-        param-holds (m .instances) (params-of p (j .struct)) (firm .few (j .struct)) v b′ (j .env) (good .all .each t j at′ .fitted) in
+      param-holds (m .instances) (params-of p (j .struct)) (firm .few (j .struct)) v b′ (j .env) (good .all .each t j at′ .fitted) in
       let below = lt-ltb v (arity p (j .struct)) b′ in
       either (ltb t (structs p)) refl
-        (λ null. subst (Kept p (Meets m i)) (sym (leaves-null p m l (acting n) c v s′ at′ below null)) own)
-        (λ other.
-          subst (Kept p (Meets m i)) (sym (writes-param p m l (acting n) c v s′ at′ below other z′))
-          (param-kept firm m l i at (after i n c χ (i .env)) refl refl own t j at′ v (x .is) _ b′
-          (subst (λ d. Of (m .instances) (getD (params-of p d) v int) (x .is)) (sym w) (f′ .1))))
+      (λ null. subst (Kept p (Meets m i)) (sym (leaves-null p m l (acting n) c v s′ at′ below null)) own)
+      (λ other.
+      subst (Kept p (Meets m i)) (sym (writes-param p m l (acting n) c v s′ at′ below other z′))
+      (param-kept firm m l i at (after i n c χ (i .env)) refl refl own t j at′ v (x .is) _ b′
+      (subst (λ d. Of (m .instances) (getD (params-of p d) v int) (x .is)) (sym w) (f′ .1))))
 
   writes-own : (d : Bool) (t : Ty) (v : ℕ) → Goes (n-set d t v)
   unfolding perform write-to
@@ -182,19 +183,19 @@ module _ {p : Program} (firm : Firm p) {m : Machine} (good : Good p m) (l : ℕ)
       let keeps = cons-keeps good l i at n c ψ k vs in
       let js = set (m .instances) l (after i n c ψ (i .env)) ++ resting k vs ∷ [] in
       either (ltb (length (m .instances)) max-instances) refl
-        (λ q.
-          subst (Kept p (Meets m i)) (sym (constructs p m l (acting n) c k ξ χ s size q))
-          (cons-kept good l i at n c ψ k vs
-          (each-reverse (Of js) ps (map (λ x. x .is) ξ)
-          (each-of-map (Of js) (λ x. x .is) (reverse ps) ξ (each-map (λ t x z. of-kept keeps t (x .is) (z .1)) (reverse ps) ξ f)))
-          (advance g n (on (way-at g firm n c e)) js (ref k ∷ h)
-          (ap (stack-after (ctx g) n) a ∙ ap (λ r. ref k ∷ r) (drop-at (reverse ps) h (length ps) (length-reverse ps)))
-          ψ
-          ((refl, new-label good l i at n c ψ k vs), each-map (fits-kept keeps) h χ r)
-          (λ q. absurd (false≢true q))
-          (i .env)
-          (locals-kept g keeps refl))))
-        (λ q. subst (Kept p (Meets m i)) (sym (finds-full p m l (acting n) c k ξ χ s size q)) (no-label e (ltb-false (length (m .instances)) max-instances q)))
+      (λ q.
+      subst (Kept p (Meets m i)) (sym (constructs p m l (acting n) c k ξ χ s size q))
+      (cons-kept good l i at n c ψ k vs
+      (each-reverse (Of js) ps (map (λ x. x .is) ξ)
+      (each-of-map (Of js) (λ x. x .is) (reverse ps) ξ (each-map (λ t x z. of-kept keeps t (x .is) (z .1)) (reverse ps) ξ f)))
+      (advance g n (on (way-at g firm n c e)) js (ref k ∷ h)
+      (ap (stack-after (ctx g) n) a ∙ ap (λ r. ref k ∷ r) (drop-at (reverse ps) h (length ps) (length-reverse ps)))
+      ψ
+      ((refl, new-label good l i at n c ψ k vs), each-map (fits-kept keeps) h χ r)
+      (λ q. absurd (false≢true q))
+      (i .env)
+      (locals-kept g keeps refl))))
+      (λ q. subst (Kept p (Meets m i)) (sym (finds-full p m l (acting n) c k ξ χ s size q)) (no-label e (ltb-false (length (m .instances)) max-instances q)))
 
   operates-on : (o : Op) → Goes (n-op o)
   unfolding perform now-written operated

@@ -28,7 +28,7 @@ pub rests : (p : Program) (is : List Instance) (l k : ℕ) (vs : List Val) → E
 rests p is l k vs f = record { fitted = (f, length-replicate {A = Option Val} first-local none); place = resting refl refl }
 
 module _ {p : Program} {m : Machine} (good : Good p m) (l : ℕ) (i : Instance) (at : getElem? (m .instances) l ≡ some i)
-  (n : Note) (c : List Note) (χ : List Tagged) (k : ℕ) (vs : List Val) where
+    (n : Note) (c : List Note) (χ : List Tagged) (k : ℕ) (vs : List Val) where
   abbrev actor : Instance
   actor = after i n c χ (i .env)
 
@@ -61,6 +61,7 @@ module _ {p : Program} {m : Machine} (good : Good p m) (l : ℕ) (i : Instance) 
             place = passing g;
           }))
       old r x e (no q) = inl (sym (at-set-other (m .instances) l r actor q) ∙ e)
+
       split : (r : ℕ) (x : Instance)
           → (getElem? (set (m .instances) l actor) r ≡ some x) ⊎ ((r ≡ length (set (m .instances) l actor)) × (at-rest k vs ≡ x))
           → (getElem? (m .instances) r ≡ some x) ⊎ GoodInst p all-after r x

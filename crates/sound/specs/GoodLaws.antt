@@ -68,6 +68,7 @@ good-env p is r j ξ at a g = good-change p keeps a (λ n x e. go n x e (ℕ-dis
   where
     keeps : Keeps is (update-env is r ξ)
     keeps = keeps-env is r ξ
+
     go : (n : ℕ) (x : Instance) → getElem? (update-env is r ξ) n ≡ some x → Dec (n ≡ r)
         → (getElem? is n ≡ some x) ⊎ GoodInst p (update-env is r ξ) n x
     go n x e (yes q) =

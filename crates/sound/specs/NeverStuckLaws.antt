@@ -67,11 +67,12 @@ module _ {p : Program} (firm : Firm p) where
   -- at once, behind moves
   ends-now : {m z : Machine} (es : List ℕ) (n t : ℕ) → t ≡ 0 → Through p m z → Condition z es n → Ends m es (stopped n t z)
   ends-now {m} {z} es n t q f c =
-      rw q
-      (f .onward es,
-      λ w v. ⊎-elim (λ a. (es, a es z here)) (λ x. (es, subst (λ y. Visits p y es z) (sym (condition-last c x)) here)) (f .before es w v),
-      c,
-      omega arith)
+      rw q (
+        f .onward es,
+        λ w v. ⊎-elim (λ a. (es, a es z here)) (λ x. (es, subst (λ y. Visits p y es z) (sym (condition-last c x)) here)) (f .before es w v),
+        c,
+        omega arith,
+      )
 
   -- behind moves and a turn
   ends-later : (e : ℕ) (es : List ℕ) {m y z : Machine} {h : ℕ} {hs : List ℕ} → Through p m y → holders y ≡ h ∷ hs → command p (chosen (h ∷ hs) e) y ≡ next z
@@ -79,11 +80,12 @@ module _ {p : Program} (firm : Firm p) where
   unfolding later
   ends-later e es {y = y} {z = z} f q c (stopped n t x) s =
       let to : Visits p y (e ∷ es) x = takes q c (s .0 x here) in
-      let k = s .3 in
-      (λ w v. f .onward (e ∷ es) w (takes q c (s .0 w v)),
-      λ w v. ⊎-elim (λ a. (e ∷ es, a (e ∷ es) x to)) (go q c to (s .1)) (f .before (e ∷ es) w v),
-      s .2,
-      omega arith)
+      let k = s .3 in (
+        λ w v. f .onward (e ∷ es) w (takes q c (s .0 w v)),
+        λ w v. ⊎-elim (λ a. (e ∷ es, a (e ∷ es) x to)) (go q c to (s .1)) (f .before (e ∷ es) w v),
+        s .2,
+        omega arith,
+      )
     where
       go : {y : Machine} {e h : ℕ} {hs es : List ℕ} {w : Machine} → holders y ≡ h ∷ hs → command p (chosen (h ∷ hs) e) y ≡ next z → Visits p y (e ∷ es) x
           → ((w : Machine) → Visits p z es w → (fs : List ℕ) × Visits p w fs x)

@@ -60,7 +60,7 @@ module _ (p : Program) (m : Machine) (l : ℕ) (i : Instance) (c : List Note) {�
     writes-local h = rw (s, a, write-at, h)
 
 module _ (p : Program) (m : Machine) (l : ℕ) (i : Instance) (c : List Note) (k : ℕ) (ξ χ : List Tagged) {ψ : List Tagged}
-  (s : ψ ≡ ξ ++ χ) (q : length ξ ≡ arity p k) where
+    (s : ψ ≡ ξ ++ χ) (q : length ξ ≡ arity p k) where
   enough : leb (arity p k) (length ψ) ≡ true
   enough = le-leb (arity p k) (length ψ) (rw (s, ← q) (omega (arith, length-append ξ χ)))
 

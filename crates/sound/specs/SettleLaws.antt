@@ -73,7 +73,7 @@ module _ (p : Program) where
   settles-before (stop jammed) f s = s
 
   module _ (k : Machine → Settled) (m : Machine) (good : Good p m) (B : ℕ) (low : bound (m .sched) ≤ B)
-    (rest : (z : Machine) → Good p z → bound (z .sched) ≤ B → measure B z < measure B m → Settles z (k z)) where
+      (rest : (z : Machine) → Good p z → bound (z .sched) ≤ B → measure B z < measure B m → Settles z (k z)) where
     moved-settles : holders m ≡ [] → (o : Out) → move p m ≡ o → Kept p (Blocked (m .sched) (m .stability)) o → Settles m (moved k m o)
     unfolding moved
     moved-settles h (next z) e g = let (f, b) = move-falls p B m low e in settles-before (k z) (through-one h e) (rest z g b f)

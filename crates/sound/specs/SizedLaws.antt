@@ -73,6 +73,7 @@ module _ (ar : List ℕ) (G : Ctx) where
 
   mutual
     unfolding CountsExpr CountsExprs note-expr note-exprs value-of
+
     expr-small : (e : Expr) {c : List Note} → CountsExpr ar e → Small c → Small (note-expr e G c)
     expr-small (inv e) n s = expr-small e n (more tt s)
     expr-small (make k es) n s = exprs-small es (n .2) (more tt s)
@@ -90,6 +91,7 @@ module _ (ar : List ℕ) (G : Ctx) where
 
   mutual
     unfolding CountsStmt CountsStmts note-stmt note-body
+
     stmt-small : (t : Stmt) {c : List Note} → CountsStmt ar t → Small c → Small (note-stmt t G c)
     stmt-small (when e b) n s = expr-small e (n .0) (more tt (body-small b (n .3) s))
     stmt-small (declare t x e) n s = expr-small e (n .2) (more tt (more (n .1) s))

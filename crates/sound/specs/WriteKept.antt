@@ -101,8 +101,8 @@ module _ {p : Program} (firm : Firm p) (m : Machine) (l : ℕ) (i : Instance) (a
       let k = keeps-set (m .instances) l i a at s in
       record {
         all =
-          good-env p js r j′ (assign (j .env) v x) q (good .all)
-          (param-written p firm js r j′ (j .struct) (j .env) w z v x h (of-kept k (getD (params-of p (j .struct)) v int) x o) (good .all .each r j′ q));
+            good-env p js r j′ (assign (j .env) v x) q (good .all)
+            (param-written p firm js r j′ (j .struct) (j .env) w z v x h (of-kept k (getD (params-of p (j .struct)) v int) x o) (good .all .each r j′ q));
         opened = rw (meet-length t (m .stability)) (good .opened);
       }
 
@@ -124,14 +124,14 @@ module _ {p : Program} (firm : Firm p) (m : Machine) (l : ℕ) (i : Instance) (a
         let fits = good .all .each l i at .fitted in
         record {
           all =
-            rw (env-set (m .instances) l ξ (after i (n-set d t y) c χ (i .env)))
-            (good-set p (m .instances) l i a at refl (good .all)
-            (record {
-              fitted = fitted-kept p k (params-of p (i .struct)) ξ (local-fitted (m .instances) (params-of p (i .struct)) (i .env) y x fits);
-              place = passing (advance g (n-set d t y) w js ts q χ (each-map (fits-kept k) ts χ f) (λ q. absurd (false≢true q)) ξ
-                (λ z h.
-                  locals-after k (params-of p (i .struct)) (i .env) fits (λ z. body-local (g .body) z int) y small x (rw same at o) (i .written)
-                  (g .locals) z (ℕ-discrete z y) (is-written d t y (i .written) z h)));
-            }));
+              rw (env-set (m .instances) l ξ (after i (n-set d t y) c χ (i .env)))
+              (good-set p (m .instances) l i a at refl (good .all)
+              (record {
+                fitted = fitted-kept p k (params-of p (i .struct)) ξ (local-fitted (m .instances) (params-of p (i .struct)) (i .env) y x fits);
+                place = passing (advance g (n-set d t y) w js ts q χ (each-map (fits-kept k) ts χ f) (λ q. absurd (false≢true q)) ξ
+                    (λ z h.
+                    locals-after k (params-of p (i .struct)) (i .env) fits (λ z. body-local (g .body) z int) y small x (rw same at o) (i .written)
+                    (g .locals) z (ℕ-discrete z y) (is-written d t y (i .written) z h)));
+              }));
           opened = rw (meet-length b (m .stability)) (good .opened);
         }
