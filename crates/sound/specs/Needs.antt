@@ -13,6 +13,7 @@ use Rattle.program.specs.Tree.{Program}
 use Rattle.commands.specs.Context.{params-of}
 use Rattle.commands.specs.Typing.{Takes, sort}
 use Rattle.commands.specs.Noted.{Note, Note.n-push, Note.n-this, Note.n-not, Note.n-rd, Note.n-wr, Note.n-get, Note.n-set, Note.n-cons, Note.n-op, Note.n-if}
+use Rattle.table.specs.Table.{Each}
 use Rattle.machine.specs.Published.{Env, Env.env, lookup}
 use Rattle.machine.specs.Machine.{Tagged, Instance, Machine}
 
@@ -34,13 +35,6 @@ Of is (ref k) (int-val z) = ⊥
 Of is (ref k) (nat-val n) = ⊥
 Of is (ref k) (bool-val b) = ⊥
 Of is (ref k) (label l) = (i : Instance) × (getElem? is l ≡ some i) × (i .struct ≡ k)
-
--- one value for each type, of its type
-abbrev pub Each : {A : Type 0} → (Ty → A → Type 0) → List Ty → List A → Type 0
-Each P [] [] = Unit {0}
-Each P [] (x ∷ xs) = ⊥
-Each P (t ∷ ts) [] = ⊥
-Each P (t ∷ ts) (x ∷ xs) = (P t x) × (Each P ts xs)
 
 module _ (p : Program) (m : Machine) where
   -- in both senses

@@ -36,7 +36,7 @@ live-on (create k es) l x m = m
 stays : {G : Ctx} {t u : Ty} → Leads G t [] u → u ≡ t
 stays arrived = refl
 
-result-of : {s : Sort} {t u : Ty} → Takes s t u → u ≡ result-type s t
+pub result-of : {s : Sort} {t u : Ty} → Takes s t u → u ≡ result-type s t
 result-of any-equal = refl
 result-of order-int = refl
 result-of order-nat = refl

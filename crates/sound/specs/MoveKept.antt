@@ -1,0 +1,137 @@
+-- A move of a schedule that is not empty keeps the invariant, or meets the condition of 36; it never lacks a rule.
+use Prim.Native.Nat.{ℕ, suc, _≤_}
+use native.Mathlib.Omega.{arith}
+use mathlib.Core.Path.{_≡_, refl, _∙_}
+use mathlib.Core.Bool.{Bool, true, false, false≢true}
+use mathlib.Core.Option.{Option, none, some}
+use mathlib.Core.List.{List, [], _∷_, map, List·Memᴰ·not-nil}
+use lib.ListN.{length}
+use lib.Dec.{ltb, eqb}
+use borrow.Author.Tests.{ltb-false}
+use Rattle.types.specs.Limits.{max-stability}
+use Rattle.program.specs.Tree.{Stmts, Program}
+use Rattle.machine.specs.Published.{Sched, Sched.done, Sched.start, Sched.start-in, Sched.fixpoint, Sched.active, before, step-of}
+use Rattle.machine.specs.Machine.{Instance, machine, Out.next, Out.refused, nested, given, started, started-in, repeat, move-by}
+use Rattle.sound.specs.Tags.{at-start, Way.start as begins}
+use Rattle.sound.specs.Invariant.{Place.passing, GoodInst, GoodAll, Unbegun, Open, Open.open-start, Open.open-start-in, Open.open-fix, Open.open-active}
+use Rattle.sound.specs.Keeps.{Keeps, at-map, map-at}
+use Rattle.sound.specs.GoodLaws.{inst-kept}
+use Rattle.sound.specs.Advance.{Kept}
+
+-- 36: the schedule's next item is a Fix, met with 8 stability entries
+pub data Blocked : Sched → List Bool → ℕ → Type 0 where
+  blocked : {f s : Sched} {b : List Bool} → max-stability ≤ length b → Blocked (fixpoint f s) b nested
+
+-- Schedules ----------------------------------------------------------------------
+
+module _ {s : Sched} {k : ℕ} where
+  past-start : {n : ℕ} → Open (start n s) k → Open s k
+  past-start (open-start o) = o
+
+  past-start-in : {j n : ℕ} → Open (start-in j n s) k → Open s k
+  past-start-in (open-start-in o) = o
+
+  past-fix : {f : Sched} → Open (fixpoint f s) k → (Unbegun f) × (Open s k)
+  past-fix (open-fix u o) = (u, o)
+
+  past-active : {f : Sched} → Open (active f s) (suc k) → (Unbegun f) × (Open s k)
+  past-active (open-active u o) = (u, o)
+
+active-open : {f s : Sched} → Open (active f s) 0 → ⊥
+active-open {f} {s} o = go o refl
+  where
+    go : {k : ℕ} → Open (active f s) k → k ≡ 0 → ⊥
+    go (open-active u o) e = omega arith
+
+-- what has not begun stands before an open schedule
+open-before : (f : Sched) {s : Sched} {k : ℕ} → Unbegun f → Open s k → Open (before f s) k
+unfolding before Unbegun
+open-before done u o = o
+open-before (start n f) u o = open-start (open-before f u o)
+open-before (start-in j n f) u o = open-start-in (open-before f u o)
+open-before (fixpoint f r) u o = open-fix (u .0) (open-before r (u .1) o)
+open-before (active f r) u o = absurd u
+
+-- Instances ----------------------------------------------------------------------
+
+-- each instance changed in a way that keeps its struct and keeps it good
+good-map : (p : Program) (f : Instance → Instance) → ((i : Instance) → f i .struct ≡ i .struct)
+    → ((is : List Instance) (l : ℕ) (i : Instance) → GoodInst p is l i → GoodInst p is l (f i))
+    → (is : List Instance) → GoodAll p is → GoodAll p (map f is)
+good-map p f s h is a = record {
+  nulls = λ n q. let (i, e, t) = a .nulls n q in (f i, at-map f is n i e, s i ∙ t);
+  each = λ l j e.
+      let (i, q, z) = map-at f is l j e in
+      rw (← z) (h (map f is) l i (inst-kept p keeps l i (a .each l i q)));
+}
+  where
+    keeps : Keeps is (map f is)
+    keeps = record { at = λ l i e. (f i, at-map f is l i e, s i) }
+
+module _ (p : Program) (n : ℕ) where
+  given-struct : (o : Option Stmts) (i : Instance) → given p o i .struct ≡ i .struct
+  unfolding given
+  given-struct none i = refl
+  given-struct (some b) i = refl
+
+  -- an instance that begins a step stands at its start
+  given-good : (is : List Instance) (l : ℕ) (i : Instance) (o : Option Stmts) → step-of p (i .struct) n ≡ o → GoodInst p is l i → GoodInst p is l (given p o i)
+  unfolding given
+  given-good is l i none e g = g
+  given-good is l i (some b) e g = record {
+    fitted = g .fitted;
+    place = passing (record {
+      name = n;
+      body = b;
+      has = e;
+      place = at-start;
+      way = begins;
+      wrote = refl;
+      stacked = tt;
+      own = λ q. absurd (false≢true q);
+      locals = λ x h. absurd (List·Memᴰ·not-nil h);
+    });
+  }
+
+  started-struct : (i : Instance) → started p n i .struct ≡ i .struct
+  unfolding started
+  started-struct i = given-struct (step-of p (i .struct) n) i
+
+  started-good : (is : List Instance) (l : ℕ) (i : Instance) → GoodInst p is l i → GoodInst p is l (started p n i)
+  unfolding started
+  started-good is l i g = given-good is l i (step-of p (i .struct) n) refl g
+
+  module _ (k : ℕ) where
+    started-in-struct : (i : Instance) → started-in p k n i .struct ≡ i .struct
+    unfolding started-in
+    started-in-struct i = go (eqb (i .struct) k)
+      where
+        go : (t : Bool) → (elim t as (λ x. Instance) [ true ↦ started p n i | false ↦ i ]) .struct ≡ i .struct
+        go true = started-struct i
+        go false = refl
+
+    started-in-good : (is : List Instance) (l : ℕ) (i : Instance) → GoodInst p is l i → GoodInst p is l (started-in p k n i)
+    unfolding started-in
+    started-in-good is l i g = go (eqb (i .struct) k)
+      where
+        go : (t : Bool) → GoodInst p is l (elim t [ true ↦ started p n i | false ↦ i ])
+        go true = started-good is l i g
+        go false = g
+
+-- a move keeps the invariant, or meets the condition of 36
+pub move-kept : (p : Program) (s : Sched) (is : List Instance) (b : List Bool) → GoodAll p is → Open s (length b) → (s ≡ done → ⊥)
+    → Kept p (Blocked s b) (move-by p s is b)
+unfolding move-by repeat
+move-kept p done is b a o h = absurd (h refl)
+move-kept p (start n s) is b a o h = record { all = good-map p (started p n) (started-struct p n) (started-good p n) is a; opened = past-start o }
+move-kept p (start-in k n s) is b a o h =
+    record { all = good-map p (started-in p k n) (started-in-struct p n k) (started-in-good p n k) is a; opened = past-start-in o }
+move-kept p (fixpoint f s) is b a o h = go (ltb (length b) max-stability) refl
+  where
+    go : (t : Bool) → ltb (length b) max-stability ≡ t
+        → Kept p (Blocked (fixpoint f s) b) (elim t [ true ↦ next (machine (before f (active f s)) is (true ∷ b)) | false ↦ refused nested ])
+    go true e = let (u, r) = past-fix o in record { all = a; opened = open-before f u (open-active u r) }
+    go false e = blocked (ltb-false (length b) max-stability e)
+move-kept p (active f s) is [] a o h = absurd (active-open o)
+move-kept p (active f s) is (true ∷ b) a o h = record { all = a; opened = past-active o .1 }
+move-kept p (active f s) is (false ∷ b) a o h = let (u, r) = past-active o in record { all = a; opened = open-before f u (open-active u r) }

@@ -1,0 +1,83 @@
+-- What each command comes to, given the operands that it finds (01, 'Table and turns').
+use Prim.Native.Nat.{ℕ}
+use native.Mathlib.Omega.{arith}
+use mathlib.Core.Path.{_≡_}
+use mathlib.Core.Bool.{Bool, true, false, not}
+use mathlib.Core.Option.{some}
+use mathlib.Core.List.{List, [], _∷_, _++_, map, reverse}
+use lib.ListN.{length, getElem?, set, take, drop, length-append}
+use lib.Seq.{take-at, drop-at}
+use lib.Dec.{ltb, leb}
+use borrow.Author.Tests.{le-leb}
+use Rattle.types.specs.Limits.{max-instances}
+use Rattle.types.specs.Types.{Ty, Ty.bool, Ty.ref}
+use Rattle.types.specs.Values.{Val, Val.bool-val, Val.label}
+use Rattle.program.specs.Tree.{Op, Program}
+use Rattle.commands.specs.Noted.{Note}
+use Rattle.commands.specs.Typing.{sort}
+use Rattle.words.specs.Apply.{apply}
+use Rattle.machine.specs.Rules.{meet}
+use Rattle.machine.specs.Published.{lookup, structs, arity}
+use Rattle.machine.specs.Machine.{Tagged, tagged, Instance, Machine, with-code, with-instances, with-stability, put, result-type, Out.next, Out.refused, full, read-from, read-at, read, write-to, write-parameter, write-at, write, negate, branch, operated, operate, construct}
+use Rattle.run.specs.Begin.{resting}
+
+module _ (p : Program) (m : Machine) (l : ℕ) (i : Instance) (c : List Note) {χ ψ : List Tagged} where
+  pub negated : {t : Ty} {b : Bool} → ψ ≡ tagged t (bool-val b) ∷ χ → negate p m l i c ψ ≡ next (put m l (with-code i c (tagged bool (bool-val (not b)) ∷ χ)))
+  unfolding negate
+  negated s = rw s
+
+  pub branched : (n : ℕ) {t : Ty} {b : Bool} → ψ ≡ tagged t (bool-val b) ∷ χ
+      → branch p m l i n c ψ ≡ next (put m l (with-code i (elim b [ true ↦ c | false ↦ drop n c ]) χ))
+  unfolding branch
+  branched n s = rw s
+
+  pub operates : (o : Op) {x y : Tagged} → ψ ≡ y ∷ x ∷ χ
+      → operate p m l i o c ψ ≡ operated p m l i c χ (result-type (sort o) (x .by)) (apply o (x .is) (y .is))
+  unfolding operate
+  operates o s = rw s
+
+  pub has-read : (v : ℕ) (t : Ty) {u : Ty} {r : ℕ} {j : Instance} {x : Val} → ψ ≡ tagged u (label r) ∷ χ → getElem? (m .instances) r ≡ some j
+      → lookup (j .env) v ≡ some x
+      → read p m l i c ψ v t ≡ next (put m l (with-code i c (tagged t x ∷ χ)))
+  unfolding read read-at read-from
+  has-read v t s a b = rw (s, a, b)
+
+  module _ (v : ℕ) {u : Ty} {r : ℕ} {x : Tagged} {j : Instance} (s : ψ ≡ tagged u (label r) ∷ x ∷ χ) (a : getElem? (m .instances) r ≡ some j) where
+    -- a parameter of a null instance
+    pub leaves-null : ltb v (arity p (j .struct)) ≡ true → ltb r (structs p) ≡ true → write p m l i c ψ v ≡ next (put m l (with-code i c χ))
+    unfolding write write-at
+    leaves-null h k = rw (s, a, write-at, h, k)
+
+    -- a parameter of another instance
+    pub writes-param : ltb v (arity p (j .struct)) ≡ true → ltb r (structs p) ≡ false → {y : Val} → lookup (j .env) v ≡ some y
+        → write p m l i c ψ v ≡ write-to p m l i c χ v (x .is) r j
+    unfolding write write-at write-parameter
+    writes-param h k q = rw (s, a, write-at, h, k, q)
+
+    -- a local
+    pub writes-local : ltb v (arity p (j .struct)) ≡ false → write p m l i c ψ v ≡ write-to p m l i c χ v (x .is) r j
+    unfolding write write-at
+    writes-local h = rw (s, a, write-at, h)
+
+module _ (p : Program) (m : Machine) (l : ℕ) (i : Instance) (c : List Note) (k : ℕ) (ξ χ : List Tagged) {ψ : List Tagged}
+    (s : ψ ≡ ξ ++ χ) (q : length ξ ≡ arity p k) where
+  enough : leb (arity p k) (length ψ) ≡ true
+  enough = le-leb (arity p k) (length ψ) (rw (s, ← q) (omega (arith, length-append ξ χ)))
+
+  -- as many operands as parameters, and room for an instance
+  pub constructs : ltb (length (m .instances)) max-instances ≡ true
+      → construct p m l i k c ψ
+      ≡ next
+      (with-stability
+      (with-instances m
+      (set (m .instances) l (with-code i c (tagged (ref k) (label (length (m .instances))) ∷ χ)) ++ resting k (reverse (map (λ x. x .is) ξ)) ∷ []))
+      (meet false (m .stability)))
+  unfolding construct
+  constructs h =
+      let d : drop (arity p k) ψ ≡ χ = rw s (drop-at ξ χ (arity p k) q) in
+      let t : take (arity p k) ψ ≡ ξ = rw s (take-at ξ χ (arity p k) q) in
+      rw (construct, enough, h, d, t)
+
+  pub finds-full : ltb (length (m .instances)) max-instances ≡ false → construct p m l i k c ψ ≡ refused full
+  unfolding construct
+  finds-full h = rw (construct, enough, h)

@@ -1,0 +1,66 @@
+-- What an instance that stands in a step has on its stack, from what its commands ask (01, 'The words of demand 3').
+use Prim.Native.Nat.{ℕ, _+_}
+use mathlib.Core.Path.{_≡_}
+use mathlib.Core.Bool.{true}
+use mathlib.Core.Option.{some}
+use mathlib.Core.List.{List, [], _∷_, _++_, List·Memᴰ}
+use Rattle.types.specs.Limits.{first-local}
+use Rattle.types.specs.Types.{Ty, Ty.int}
+use Rattle.types.specs.Values.{Val, Val.label}
+use Rattle.program.specs.Tree.{Program}
+use Rattle.commands.specs.Context.{Ctx, body-local, context}
+use Rattle.commands.specs.Noted.{Note, noted}
+use Rattle.table.specs.Table.{Each}
+use Rattle.machine.specs.Published.{structs, lookup}
+use Rattle.machine.specs.Machine.{Tagged, Instance}
+use Rattle.sound.specs.Tags.{Top, Asks, Way, at-start}
+use Rattle.sound.specs.Needs.{Of}
+use Rattle.sound.specs.Invariant.{Fits, Passage}
+use Rattle.sound.specs.SafeLaws.{ready, way-safe}
+use Rattle.sound.specs.EachLaws.{each-uncons, each-split}
+use Rattle.sound.specs.Sized.{Sized}
+use Rattle.sound.specs.SizedLaws.{sized-first, way-sized}
+use Rattle.sound.specs.Accepted.{Firm}
+
+module _ {p : Program} {is : List Instance} {l : ℕ} {i : Instance} (g : Passage p is l i) where
+  -- its step's context
+  abbrev pub ctx : Ctx
+  ctx = context p (i .struct) (g .body)
+
+  -- these types on top, and those beneath
+  pub tops : (ts : List Ty) (h : Top ts (g .place))
+      → (xs : List Tagged) × (χ : List Tagged) × (i .stack ≡ xs ++ χ) × (Each (Fits is) ts xs) × (Each (Fits is) (h .0) χ)
+  tops ts h = each-split (Fits is) ts (h .0) (i .stack) (rw (h .1) at (g .stacked))
+
+  -- one type on top
+  pub top-one : (t : Ty) (h : Top (t ∷ []) (g .place))
+      → (x : Tagged) × (χ : List Tagged) × (i .stack ≡ x ∷ χ) × (Fits is t x) × (Each (Fits is) (h .0) χ)
+  top-one t h = each-uncons (Fits is) t (h .0) (i .stack) (rw (h .1) at (g .stacked))
+
+  -- two types on top
+  pub top-two : (t u : Ty) (h : Top (t ∷ u ∷ []) (g .place))
+      → (y : Tagged) × (x : Tagged) × (χ : List Tagged) × (i .stack ≡ y ∷ x ∷ χ) × (Fits is t y) × (Fits is u x) × (Each (Fits is) (h .0) χ)
+  top-two t u h =
+      let (y, χ, e, f, r) = each-uncons (Fits is) t (u ∷ h .0) (i .stack) (rw (h .1) at (g .stacked)) in
+      let (x, ψ, e′, f′, r′) = each-uncons (Fits is) u (h .0) χ r in
+      (y, x, ψ, cc, f, f′, r′)
+
+  -- behind a push this its own label is on top
+  pub own-top : g .place .fresh ≡ true → (x : Tagged) (χ : List Tagged) → i .stack ≡ x ∷ χ → x .is ≡ label l
+  own-top f x χ e = let (y, ψ, q, h) = g .own f in cc
+
+  -- a local that is written holds a value of its type
+  pub local-value : (x : ℕ) → List·Memᴰ x (g .place .written)
+      → (v : Val) × (lookup (i .env) (first-local + x) ≡ some v) × (Of is (body-local (g .body) x int) v)
+  local-value x h = g .locals x (rw (g .wrote) h)
+
+  module _ (firm : Firm p) (n : Note) (c : List Note) (e : i .code ≡ n ∷ c) where
+    pub way-at : Way ctx (noted ctx (g .body)) at-start (n ∷ c) (g .place)
+    way-at = rw e at (g .way)
+
+    -- its next command finds what it asks for, and carries what is in its range
+    pub asks : Asks ctx n (g .place)
+    asks = ready (way-safe (firm .safe (i .struct) (g .name) (g .has)) way-at)
+
+    pub next-sized : Sized (structs p) n
+    next-sized = sized-first (way-sized (firm .sized (i .struct) (g .name) (g .has)) way-at)
