@@ -33,3 +33,4 @@ pub mod ConditionLaws
 pub mod SettleLaws
 pub mod NeverStuckLaws
 pub mod Exhibits
+pub mod Statements

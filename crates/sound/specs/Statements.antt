@@ -1,0 +1,69 @@
+-- The claims of the definitions, each in one place with the law that proves it. docs/THEOREMS.md points here.
+use Prim.Native.Nat.{ℕ}
+use mathlib.Core.Path.{_≡_}
+use mathlib.Core.Logic.{_↔_}
+use mathlib.Core.List.{List, map}
+use Rattle.program.specs.Tree.{Stmts, Program}
+use Rattle.commands.specs.Commands.{commands}
+use Rattle.commands.specs.Context.{Ctx}
+use Rattle.commands.specs.Noted.{erase, noted}
+use Rattle.commands.specs.NotedLaws.{erased}
+use Rattle.commands.specs.Numbers.{Foremost}
+use Rattle.table.specs.Table.{Record}
+use Rattle.machine.specs.Published.{State}
+use Rattle.machine.specs.Machine.{Machine}
+use Rattle.machine.specs.Represents.{Represents}
+use Rattle.run.specs.Run.{Outcome.stopped, run}
+use Rattle.run.specs.Visits.{Visits}
+use Rattle.run.specs.Begin.{begin, table-of}
+use Rattle.run.specs.Initial.{initial, Comes}
+use Rattle.run.specs.PublishedVisits.{Passes, turns-of}
+use Rattle.run.specs.Entry.{Checked.accepted, checked, Begun.not-begun, Begun.begun, begins, report, run-report, run-output, run-list}
+use Rattle.run.specs.Input.{Accepted as AcceptedImage, Refuses, Ready, order}
+use Rattle.run.specs.InputProgram.{checked-accepted}
+use Rattle.run.specs.InputLaws.{begins-number, begins-ready, refusal-untouched}
+use Rattle.run.specs.RunAgreesVisits.{visits-passes}
+use Rattle.run.specs.BeginLaws.{begin-represents, outcome-exact, comes-unique}
+use Rattle.sound.specs.NeverStuck.{Demand3}
+use Rattle.sound.specs.NeverStuckLaws.{demand3}
+
+module _ (x y es out list : List ℕ) where
+  -- Demand 1, of the answers: a refusal from the input is that of the foremost condition; it returns its number, no turns and no
+  -- blocks, and leaves output and list as they were
+  pub refused-exactly : (n : ℕ) → (begins x y es out list ≡ not-begun n) ↔ Foremost (Refuses x y es out list) order n
+  refused-exactly n = begins-number x y es out list n
+
+  pub refused-untouched : (n : ℕ) → Foremost (Refuses x y es out list) order n
+      → (run-report x y es out list ≡ report n 0 0 0) × (run-output x y es out list ≡ out) × (run-list x y es out list ≡ list)
+  refused-untouched n q = refusal-untouched x y es out list n q
+
+  -- Demand 2: a program image is accepted exactly where it meets 01's conditions; a run begins exactly where everything does
+  pub accepted-exactly : (p : Program) → (checked x ≡ accepted p) ↔ AcceptedImage x p
+  accepted-exactly p = checked-accepted x p
+
+  pub begun-exactly : (p : Program) (rs : List Record) → (begins x y es out list ≡ begun p rs) ↔ Ready x y es out list p rs
+  begun-exactly p rs = begins-ready x y es out list p rs
+
+  -- Demand 3, of every call that is not refused: one statement about the whole run
+  pub never-stuck-run : (p : Program) (rs : List Record) → Ready x y es out list p rs → Demand3 p rs es
+  never-stuck-run p rs r =
+      let a = r .program in
+      demand3 (a .reads .counts, a .within, a .names, a .types) rs (r .table .right) es
+
+-- Demand 2: a step's commands are those of the published interpretation function, whatever notes they carry
+pub commands-published : (G : Ctx) (b : Stmts) → map erase (noted G b) ≡ commands b
+commands-published = erased
+
+module _ (p : Program) (rs : List Record) (es : List ℕ) where
+  -- Demand 2: a run passes through the states that the published rules give for those turns,
+  pub states-published : {z : Machine} (v : Visits p (begin p rs) es z)
+      → (st : State) × (Passes p (initial p rs) es (turns-of p v) st) × (Represents z st)
+  states-published v = visits-passes p (initial p rs) (begin-represents p rs) v
+
+  -- and comes to the one number, turns and last table that they give
+  pub outcome-published : {n t : ℕ} {z : Machine} → run p (begin p rs) es ≡ stopped n t z → Comes p rs es n t (table-of p z)
+  outcome-published = outcome-exact p rs es
+
+  pub outcome-one : {n n′ t t′ : ℕ} {rs′ rs″ : List Record} → Comes p rs es n t rs′ → Comes p rs es n′ t′ rs″
+      → (n ≡ n′) × (t ≡ t′) × (rs′ ≡ rs″)
+  outcome-one = comes-unique p rs es
