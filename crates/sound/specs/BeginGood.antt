@@ -21,7 +21,7 @@ use Rattle.machine.specs.Machine.{Instance}
 use Rattle.run.specs.Begin.{resting, nulls, first-instances, begin}
 use Rattle.sound.specs.Needs.{Of}
 use Rattle.sound.specs.Invariant.{GoodInst, Unbegun, Open, Open.open-done, Open.open-start, Open.open-start-in, Open.open-fix, Good, Nulls}
-use Rattle.sound.specs.Keeps.{none-some, some-is, at-append, at-joined, at-behind, at-map, map-at}
+use Rattle.sound.specs.ElemLaws.{none-some, some-is, at-append, at-joined, at-behind, at-map, map-at}
 use Rattle.sound.specs.SizedLaws.{lasting-of, default-lasts}
 use Rattle.sound.specs.AcceptedLaws.{params-counted}
 use Rattle.sound.specs.ConsKept.{rests}

@@ -23,6 +23,7 @@ pub data Meets (m : Machine) (i : Instance) : ℕ → Type 0 where
       → Exceeds o (x .is) (y .is)
       → Meets m i exceeded
 
+-- at a machine, with these bytes left, the condition of a number holds
 pub data Condition (m : Machine) (es : List ℕ) : ℕ → Type 0 where
   -- the schedule is empty and no instance holds commands
   at-end : holders m ≡ [] → m .sched ≡ done → Condition m es ended

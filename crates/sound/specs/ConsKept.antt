@@ -19,7 +19,8 @@ use Rattle.machine.specs.Machine.{Tagged, Instance, Machine, with-instances, wi
 use Rattle.run.specs.Begin.{resting as at-rest}
 use Rattle.sound.specs.Needs.{Of}
 use Rattle.sound.specs.Invariant.{Passage, Place.resting, Place.passing, GoodInst, Good}
-use Rattle.sound.specs.Keeps.{Keeps, keeps-then, keeps-set, keeps-append, at-set-same, at-set-other, at-snoc, at-last, some-is}
+use Rattle.sound.specs.Keeps.{Keeps, keeps-then, keeps-set, keeps-append}
+use Rattle.sound.specs.ElemLaws.{at-set-same, at-set-other, at-snoc, at-last, some-is}
 use Rattle.sound.specs.GoodLaws.{fitted-kept, good-change, meet-length}
 use Rattle.sound.specs.Advance.{after}
 
@@ -43,6 +44,7 @@ module _ {p : Program} {m : Machine} (good : Good p m) (l : ℕ) (i : Instance) 
   pub new-label : Of all-after (ref k) (label (length (m .instances)))
   new-label = (at-rest k vs, rw (length-set (m .instances) l actor) at (at-last (set (m .instances) l actor) (at-rest k vs)), refl)
 
+  -- all of them are good
   pub cons-kept : Each (Of all-after) (params-of p k) vs → Passage p all-after l actor
       → Good p (with-stability (with-instances m all-after) (meet false (m .stability)))
   cons-kept f g = record {

@@ -14,10 +14,12 @@ use Rattle.machine.specs.Published.{Env, Env.env}
 use Rattle.machine.specs.Rules.{meet}
 use Rattle.machine.specs.Machine.{Instance, with-env, update-env}
 use Rattle.sound.specs.Invariant.{Fitted, Passage, Place, Place.resting, Place.passing, GoodInst, GoodAll}
-use Rattle.sound.specs.Keeps.{Keeps, of-kept, fits-kept, keeps-set, keeps-env, at-set-same, at-set-other, at-env-same, at-env-other, some-is}
+use Rattle.sound.specs.Keeps.{Keeps, of-kept, fits-kept, keeps-set, keeps-env, at-env-same, at-env-other}
+use Rattle.sound.specs.ElemLaws.{at-set-same, at-set-other, some-is}
 use Rattle.sound.specs.EachLaws.{each-map}
 
 module _ (p : Program) {is js : List Instance} (k : Keeps is js) where
+  -- an environment stays fitted, a passage a passage, an instance good
   pub fitted-kept : (ts : List Ty) (ξ : Env) → Fitted is ts ξ → Fitted js ts ξ
   fitted-kept ts (env ps ls) f = (each-map (of-kept k) ts ps (f .0), f .1)
 

@@ -10,7 +10,7 @@ use lib.ListN.{length, getD, getElem?}
 use Rattle.commands.specs.Noted.{Note}
 use Rattle.machine.specs.Machine.{Instance, Machine}
 use Rattle.run.specs.Turns.{labels-from, chosen, holds-code, holders}
-use Rattle.sound.specs.Keeps.{map-at}
+use Rattle.sound.specs.ElemLaws.{map-at}
 
 -- a label that is listed has true
 label-true : (l : ℕ) (bs : List Bool) (n : ℕ) → n < length (labels-from l bs) → (j : ℕ) × (getElem? bs j ≡ some true) × (getD (labels-from l bs) n 0 ≡ l + j)

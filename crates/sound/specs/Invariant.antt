@@ -45,6 +45,7 @@ pub data Place (p : Program) (is : List Instance) (l : ℕ) (i : Instance) : Typ
   resting : i .code ≡ [] → i .stack ≡ [] → Place p is l i
   passing : Passage p is l i → Place p is l i
 
+-- its parameters and locals fit, and it stands where it may
 pub record GoodInst (p : Program) (is : List Instance) (l : ℕ) (i : Instance) : Type 0 where
   pub fitted : Fitted is (params-of p (i .struct)) (i .env)
   pub place : Place p is l i
@@ -74,6 +75,7 @@ pub record GoodAll (p : Program) (is : List Instance) : Type 0 where
   pub nulls : Nulls p is
   pub each : (l : ℕ) (i : Instance) → getElem? is l ≡ some i → GoodInst p is l i
 
+-- of a machine
 pub record Good (p : Program) (m : Machine) : Type 0 where
   pub all : GoodAll p (m .instances)
   pub opened : Open (m .sched) (length (m .stability))

@@ -1,82 +1,17 @@
 -- Instances never change their struct and never go: what is of a type stays so.
-use Prim.Native.Nat.{ℕ, zero, suc, _-_, _≤_}
-use native.Mathlib.Omega.{arith}
-use native.Mathlib.Nat.{sub-zero, suc-sub-suc}
+use Prim.Native.Nat.{ℕ, zero, suc}
 use native.Mathlib.Decide.{ℕ-discrete}
 use mathlib.Core.Path.{_≡_, refl, sym, ap, _∙_}
-use mathlib.Core.Option.{none, some}
-use mathlib.Core.Logic.{_⊎_, inl, inr, ⊎-elim}
-use mathlib.Core.List.{List, [], _∷_, _++_, map}
-use lib.ListN.{length, getElem?, set}
+use mathlib.Core.Option.{some}
+use mathlib.Core.List.{List, [], _∷_, _++_}
+use lib.ListN.{getElem?, set}
 use Rattle.types.specs.Types.{Ty, Ty.int, Ty.nat, Ty.bool, Ty.ref}
 use Rattle.types.specs.Values.{Val, Val.int-val, Val.nat-val, Val.bool-val, Val.label}
 use Rattle.machine.specs.Published.{Env}
 use Rattle.machine.specs.Machine.{Tagged, Instance, with-env, update-env}
 use Rattle.sound.specs.Needs.{Of}
 use Rattle.sound.specs.Invariant.{Fits}
-
--- nothing is no element
-pub none-some {ℓ} : {A : Type 0} {X : Type ℓ} {a : A} → none ≡ some a → X
-none-some e = let z : _≡_ {A = ℕ} 0 1 = cc in absurd (omega arith)
-
-pub some-is : {A : Type 0} {a b : A} → some a ≡ some b → a ≡ b
-some-is e = cc
-
--- the element at a place, after a change at that place, at another, and of a list with more behind it
-module _ {A : Type 0} where
-  pub at-set-same : (l : List A) (n : ℕ) (a b : A) → getElem? l n ≡ some b → getElem? (set l n a) n ≡ some a
-  at-set-same [] n a b e = none-some e
-  at-set-same (x ∷ l) zero a b e = refl
-  at-set-same (x ∷ l) (suc n) a b e = at-set-same l n a b e
-
-  pub at-set-other : (l : List A) (n k : ℕ) (a : A) → (k ≡ n → ⊥) → getElem? (set l n a) k ≡ getElem? l k
-  at-set-other [] n k a h = refl
-  at-set-other (x ∷ l) zero zero a h = absurd (h refl)
-  at-set-other (x ∷ l) zero (suc k) a h = refl
-  at-set-other (x ∷ l) (suc n) zero a h = refl
-  at-set-other (x ∷ l) (suc n) (suc k) a h = at-set-other l n k a (λ e. h (ap suc e))
-
-  pub at-append : (l r : List A) (n : ℕ) (a : A) → getElem? l n ≡ some a → getElem? (l ++ r) n ≡ some a
-  at-append [] r n a e = none-some e
-  at-append (x ∷ l) r zero a e = e
-  at-append (x ∷ l) r (suc n) a e = at-append l r n a e
-
-  -- an element of a list with one more behind it
-  pub at-snoc : (l : List A) (b : A) (n : ℕ) (a : A) → getElem? (l ++ b ∷ []) n ≡ some a
-      → (getElem? l n ≡ some a) ⊎ ((n ≡ length l) × (b ≡ a))
-  at-snoc [] b zero a e = inr (refl, some-is e)
-  at-snoc [] b (suc n) a e = none-some e
-  at-snoc (x ∷ l) b zero a e = inl e
-  at-snoc (x ∷ l) b (suc n) a e = ⊎-elim (λ h. inl h) (λ h. inr (ap suc (h .0), h .1)) (at-snoc l b n a e)
-
-  -- an element of two lists joined
-  pub at-joined : (l r : List A) (n : ℕ) (a : A) → getElem? (l ++ r) n ≡ some a
-      → (getElem? l n ≡ some a) ⊎ ((length l ≤ n) × (getElem? r (n - length l) ≡ some a))
-  at-joined [] r n a e = inr (omega arith, rw (sub-zero n) e)
-  at-joined (x ∷ l) r zero a e = inl e
-  at-joined (x ∷ l) r (suc n) a e = ⊎-elim (λ h. inl h) (λ h. inr (let q = h .0 in omega arith, rw (suc-sub-suc n (length l)) (h .1))) (at-joined l r n a e)
-
-  pub at-behind : (l r : List A) (n : ℕ) → length l ≤ n → getElem? (l ++ r) n ≡ getElem? r (n - length l)
-  at-behind [] r n h = rw (sub-zero n)
-  at-behind (x ∷ l) r zero h = absurd (omega arith)
-  at-behind (x ∷ l) r (suc n) h = rw (suc-sub-suc n (length l)) (at-behind l r n (omega arith))
-
-  -- the one more
-  pub at-last : (l : List A) (b : A) → getElem? (l ++ b ∷ []) (length l) ≡ some b
-  at-last [] b = refl
-  at-last (x ∷ l) b = at-last l b
-
--- the element at a place of a mapped list
-module _ {A B : Type 0} (f : A → B) where
-  pub at-map : (l : List A) (n : ℕ) (a : A) → getElem? l n ≡ some a → getElem? (map f l) n ≡ some (f a)
-  at-map [] n a e = none-some e
-  at-map (x ∷ l) zero a e = ap (λ y. some (f y)) (some-is e)
-  at-map (x ∷ l) (suc n) a e = at-map l n a e
-
-  pub map-at : (l : List A) (n : ℕ) (b : B) → getElem? (map f l) n ≡ some b → (a : A) × (getElem? l n ≡ some a) × (f a ≡ b)
-  map-at [] n b e = none-some e
-  map-at (x ∷ l) zero b e = (x, refl, some-is e)
-  map-at (x ∷ l) (suc n) b e = map-at l n b e
+use Rattle.sound.specs.ElemLaws.{none-some, some-is, at-set-same, at-set-other, at-append}
 
 -- the environment of the instance at a place changed
 pub at-env-same : (is : List Instance) (n : ℕ) (ξ : Env) (i : Instance) → getElem? is n ≡ some i
@@ -86,6 +21,7 @@ at-env-same [] n ξ i e = none-some e
 at-env-same (x ∷ is) zero ξ i e = ap (λ j. some (with-env j ξ)) (some-is e)
 at-env-same (x ∷ is) (suc n) ξ i e = at-env-same is n ξ i e
 
+-- at another place
 pub at-env-other : (is : List Instance) (n k : ℕ) (ξ : Env) → (k ≡ n → ⊥) → getElem? (update-env is n ξ) k ≡ getElem? is k
 unfolding update-env
 at-env-other [] n k ξ h = refl
@@ -105,9 +41,7 @@ env-set (x ∷ is) (suc n) ξ i = ap (λ js. x ∷ js) (env-set is n ξ i)
 pub record Keeps (is js : List Instance) : Type 0 where
   pub at : (l : ℕ) (i : Instance) → getElem? is l ≡ some i → (j : Instance) × (getElem? js l ≡ some j) × (j .struct ≡ i .struct)
 
-pub keeps-all : (is : List Instance) → Keeps is is
-keeps-all is = record { at = λ l i e. (i, e, refl) }
-
+-- kept in two changes, one behind the other
 pub keeps-then : {is js ks : List Instance} → Keeps is js → Keeps js ks → Keeps is ks
 keeps-then f g = record {
   at = λ l i e.
@@ -116,6 +50,7 @@ keeps-then f g = record {
       (b .0, b .1, b .2 ∙ a .2);
 }
 
+-- an instance put back with its struct
 pub keeps-set : (is : List Instance) (n : ℕ) (i j : Instance) → getElem? is n ≡ some i → j .struct ≡ i .struct → Keeps is (set is n j)
 keeps-set is n i j e s = record { at = λ l k h. go l k h (ℕ-discrete l n) }
   where
@@ -123,6 +58,7 @@ keeps-set is n i j e s = record { at = λ l k h. go l k h (ℕ-discrete l n) }
     go l k h (yes q) = (j, rw q (at-set-same is n j i e), let w : i ≡ k = some-is (sym e ∙ rw q at h) in s ∙ ap (λ x. x .struct) w)
     go l k h (no q) = (k, at-set-other is n l j q ∙ h, refl)
 
+-- an environment changed
 pub keeps-env : (is : List Instance) (n : ℕ) (ξ : Env) → Keeps is (update-env is n ξ)
 keeps-env is n ξ = record { at = λ l k h. go l k h (ℕ-discrete l n) }
   where
@@ -130,10 +66,12 @@ keeps-env is n ξ = record { at = λ l k h. go l k h (ℕ-discrete l n) }
     go l k h (yes q) = (with-env k ξ, rw q (at-env-same is n ξ k (rw q at h)), refl)
     go l k h (no q) = (k, at-env-other is n l ξ q ∙ h, refl)
 
+-- more instances behind
 pub keeps-append : (is js : List Instance) → Keeps is (is ++ js)
 keeps-append is js = record { at = λ l i h. (i, at-append is js l i h, refl) }
 
 module _ {is js : List Instance} (k : Keeps is js) where
+  -- a value stays of its type
   pub of-kept : (t : Ty) (v : Val) → Of is t v → Of js t v
   of-kept int (int-val z) o = o
   of-kept nat (nat-val n) o = o
@@ -152,5 +90,6 @@ module _ {is js : List Instance} (k : Keeps is js) where
   of-kept (ref j) (nat-val n) o = absurd o
   of-kept (ref j) (bool-val b) o = absurd o
 
+  -- in both senses
   pub fits-kept : (t : Ty) (x : Tagged) → Fits is t x → Fits js t x
   fits-kept t x f = (f .0, of-kept t (x .is) (f .1))

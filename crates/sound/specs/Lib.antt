@@ -11,6 +11,7 @@ pub mod SafeLaws
 pub mod Static
 pub mod Steps
 pub mod Heights
+pub mod ElemLaws
 pub mod EachLaws
 pub mod Keeps
 pub mod GoodLaws

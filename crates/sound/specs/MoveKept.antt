@@ -14,7 +14,8 @@ use Rattle.machine.specs.Published.{Sched, Sched.done, Sched.start, Sched.start
 use Rattle.machine.specs.Machine.{Instance, machine, Out.next, Out.refused, nested, given, started, started-in, repeat, move-by}
 use Rattle.sound.specs.Tags.{at-start, Way.start as begins}
 use Rattle.sound.specs.Invariant.{Place.passing, GoodInst, GoodAll, Unbegun, Open, Open.open-start, Open.open-start-in, Open.open-fix, Open.open-active}
-use Rattle.sound.specs.Keeps.{Keeps, at-map, map-at}
+use Rattle.sound.specs.Keeps.{Keeps}
+use Rattle.sound.specs.ElemLaws.{at-map, map-at}
 use Rattle.sound.specs.GoodLaws.{inst-kept}
 use Rattle.sound.specs.Advance.{Kept}
 

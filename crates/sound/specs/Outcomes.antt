@@ -22,20 +22,24 @@ use Rattle.machine.specs.Machine.{Tagged, tagged, Instance, Machine, with-code,
 use Rattle.run.specs.Begin.{resting}
 
 module _ (p : Program) (m : Machine) (l : ℕ) (i : Instance) (c : List Note) {χ ψ : List Tagged} where
+  -- not, with a truth on top
   pub negated : {t : Ty} {b : Bool} → ψ ≡ tagged t (bool-val b) ∷ χ → negate p m l i c ψ ≡ next (put m l (with-code i c (tagged bool (bool-val (not b)) ∷ χ)))
   unfolding negate
   negated s = rw s
 
+  -- if n, with a truth on top
   pub branched : (n : ℕ) {t : Ty} {b : Bool} → ψ ≡ tagged t (bool-val b) ∷ χ
       → branch p m l i n c ψ ≡ next (put m l (with-code i (elim b [ true ↦ c | false ↦ drop n c ]) χ))
   unfolding branch
   branched n s = rw s
 
+  -- an operator, with two values on top
   pub operates : (o : Op) {x y : Tagged} → ψ ≡ y ∷ x ∷ χ
       → operate p m l i o c ψ ≡ operated p m l i c χ (result-type (sort o) (x .by)) (apply o (x .is) (y .is))
   unfolding operate
   operates o s = rw s
 
+  -- rd, with the label of an instance on top whose variable has a value
   pub has-read : (v : ℕ) (t : Ty) {u : Ty} {r : ℕ} {j : Instance} {x : Val} → ψ ≡ tagged u (label r) ∷ χ → getElem? (m .instances) r ≡ some j
       → lookup (j .env) v ≡ some x
       → read p m l i c ψ v t ≡ next (put m l (with-code i c (tagged t x ∷ χ)))
@@ -78,6 +82,7 @@ module _ (p : Program) (m : Machine) (l : ℕ) (i : Instance) (c : List Note) (k
       let t : take (arity p k) ψ ≡ ξ = rw s (take-at ξ χ (arity p k) q) in
       rw (construct, enough, h, d, t)
 
+  -- and none
   pub finds-full : ltb (length (m .instances)) max-instances ≡ false → construct p m l i k c ψ ≡ refused full
   unfolding construct
   finds-full h = rw (construct, enough, h)

@@ -55,12 +55,14 @@ module _ {p : Program} {is : List Instance} {l : ℕ} {i : Instance} (g : Passag
   local-value x h = g .locals x (rw (g .wrote) h)
 
   module _ (firm : Firm p) (n : Note) (c : List Note) (e : i .code ≡ n ∷ c) where
+    -- the way to its next command
     pub way-at : Way ctx (noted ctx (g .body)) at-start (n ∷ c) (g .place)
     way-at = rw e at (g .way)
 
-    -- its next command finds what it asks for, and carries what is in its range
+    -- which finds what it asks for
     pub asks : Asks ctx n (g .place)
     asks = ready (way-safe (firm .safe (i .struct) (g .name) (g .has)) way-at)
 
+    -- and carries what is in its range
     pub next-sized : Sized (structs p) n
     next-sized = sized-first (way-sized (firm .sized (i .struct) (g .name) (g .has)) way-at)

@@ -15,6 +15,7 @@ pub data Lasting (S : ℕ) : Ty → Val → Type 0 where
   a-bool : {t : Bool} → Lasting S bool (bool-val t)
   a-null : {k : ℕ} → k < S → Lasting S (ref k) (label k)
 
+-- a command that carries only what is in its range
 abbrev pub Sized : ℕ → Note → Type 0
 Sized S (n-push t v) = Lasting S t v
 Sized S n-this = Unit {0}

@@ -108,6 +108,7 @@ module _ (ar : List ℕ) (G : Ctx) where
   noted-sized b n = body-small b n none
 
 module _ {S : ℕ} where
+  -- the next command is sized
   pub sized-first : {n : Note} {c : List Note} → SizedAll S (n ∷ c) → Sized S n
   sized-first (more h s) = h
 

@@ -13,13 +13,14 @@ use Rattle.machine.specs.Machine.{Instance}
 use Rattle.sound.specs.Needs.{Of}
 
 module _ (is : List Instance) where
-  -- a value of Bool is a truth, one of a struct is a label
+  -- a value of Bool is a truth
   pub bool-value : (v : Val) → Of is bool v → (b : Bool) × (v ≡ bool-val b)
   bool-value (int-val z) o = absurd o
   bool-value (nat-val n) o = absurd o
   bool-value (bool-val b) o = (b, refl)
   bool-value (label l) o = absurd o
 
+  -- one of a struct is the label of an instance of it
   pub label-value : (k : ℕ) (v : Val) → Of is (ref k) v → (r : ℕ) × (v ≡ label r) × (j : Instance) × (getElem? is r ≡ some j) × (j .struct ≡ k)
   label-value k (int-val z) o = absurd o
   label-value k (nat-val n) o = absurd o

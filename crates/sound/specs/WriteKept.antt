@@ -21,7 +21,8 @@ use Rattle.machine.specs.Rules.{meet}
 use Rattle.sound.specs.Tags.{stack-after, next as leads, at-start, Way}
 use Rattle.sound.specs.Needs.{Of}
 use Rattle.sound.specs.Invariant.{Fits, Fitted, Passage, Place, Place.resting, Place.passing, GoodInst, Good}
-use Rattle.sound.specs.Keeps.{Keeps, keeps-set, of-kept, fits-kept, at-set-same, at-set-other, env-set, some-is}
+use Rattle.sound.specs.Keeps.{Keeps, keeps-set, of-kept, fits-kept, env-set}
+use Rattle.sound.specs.ElemLaws.{at-set-same, at-set-other, some-is}
 use Rattle.sound.specs.EachLaws.{each-map}
 use Rattle.sound.specs.EnvLaws.{other-kept, local-kept, local-holds, local-fitted, param-fitted}
 use Rattle.sound.specs.GoodLaws.{fitted-kept, good-set, good-env, meet-length}
