@@ -1,7 +1,8 @@
 -- What a step is read against: each struct's parameter types, its own struct, the type of each local (01, 'Names, types, commands').
 use Prim.Native.Nat.{ℕ}
 use mathlib.Core.Bool.{true, false}
-use mathlib.Core.List.{List, []}
+use mathlib.Core.Option.{Option, none, some}
+use mathlib.Core.List.{List, [], _∷_}
 use lib.ListN.{getD}
 use lib.Dec.{eqb}
 use Rattle.types.specs.Types.{Ty, Ty.int}
@@ -35,3 +36,11 @@ params-of p k = getD (p .params) k []
 -- a body of struct k
 abbrev pub context : Program → ℕ → Stmts → Ctx
 context p k b = record { params = params-of p; own = k; local = λ x. body-local b x int }
+
+-- 000's S: the statements of the step n of struct k, where it has one
+unfoldable pub find-step : List Step → ℕ → Option Stmts
+find-step [] n = none
+find-step (t ∷ ts) n = elim (eqb (t .name) n) [ true ↦ some (t .body) | false ↦ find-step ts n ]
+
+abbrev pub step-of : Program → ℕ → ℕ → Option Stmts
+step-of p k n = find-step (getD (p .steps) k []) n

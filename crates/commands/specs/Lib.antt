@@ -24,3 +24,11 @@ pub mod BoundsDecideLaws
 pub mod Numbers
 pub mod NumbersLaws
 pub mod NumberRows
+pub mod Tags
+pub mod SafeLaws
+pub mod Locals
+pub mod LocalsLaws
+pub mod Static
+pub mod Steps
+pub mod Heights
+pub mod Exhibits

@@ -35,6 +35,20 @@ erase (n-cons k) = plain (cons k)
 erase (n-op o) = plain (oper o)
 erase (n-if n) = if-n n
 
+-- the locals written once this command is taken
+unfoldable pub now-written : Note → List ℕ → List ℕ
+now-written (n-push t v) w = w
+now-written n-this w = w
+now-written n-not w = w
+now-written (n-rd k x) w = w
+now-written (n-wr k x) w = w
+now-written (n-get t x) w = w
+now-written (n-set true t x) w = x ∷ w
+now-written (n-set false t x) w = w
+now-written (n-cons k) w = w
+now-written (n-op o) w = w
+now-written (n-if n) w = w
+
 -- the struct that a value of a type refers to
 unfoldable pub struct-of : Ty → ℕ
 struct-of int = 0

@@ -15,7 +15,7 @@ use Rattle.types.specs.Values.{Val, Val.bool-val, Val.label}
 use Rattle.program.specs.Tree.{Program}
 use Rattle.commands.specs.Commands.{Com.push, Com.push-this, Com.rd, Com.wr, Com.cons, Com.not, Com.oper, Coms, Coms.nil, then, flatten}
 use Rattle.commands.specs.Typing.{sort}
-use Rattle.commands.specs.Noted.{Note, erase}
+use Rattle.commands.specs.Noted.{Note, erase, now-written}
 use Rattle.commands.specs.CommandLaws.{flatten-then}
 use Rattle.words.specs.Apply.{same-val}
 use Rattle.words.specs.ApplyLaws.{apply-value, apply-outside}
@@ -23,12 +23,13 @@ use Rattle.words.specs.TestLaws.{same-val-exact}
 use Rattle.machine.specs.Published.{Sched, Env, lookup, assign, fresh-env, Inst, Inst.inst, State, State.state, update-env, arity}
 use Rattle.machine.specs.Rules.{Settled, Settled.no-parameter, Settled.same-value, Settled.other-value, meet, Actor.instance, Rule, Rule.ComPush, Rule.ComPushThis, Rule.ComRd, Rule.ComWr, Rule.ComWrNSkip, Rule.ComNot, Rule.ComOp, Rule.ComCons, Rule.ComIfT, Rule.ComIfF}
 use Rattle.machine.specs.Stops.{Full, Full.no-label, Exceeded, Exceeded.no-result}
-use Rattle.machine.specs.Machine.{Tagged, tagged, Instance, Machine, Out, Out.next, Out.refused, Out.stuck, full, exceeded, with-code, with-written, put, result-type, settled, made, now-written, command}
+use Rattle.machine.specs.Machine.{Tagged, tagged, Instance, Machine, Out, Out.next, Out.refused, Out.stuck, full, exceeded, with-code, with-written, put, settled, made, command}
 use Rattle.machine.specs.Represents.{values, Represents-inst, Represents}
 use Rattle.machine.specs.RepresentsLaws.{inst-at, values-length, map-drop, represents-length, represents-set, represents-env, represents-append}
 use Rattle.machine.specs.Performed.{Performed, Performed.pushed, Performed.pushed-this, Performed.negated, Performed.read-one, Performed.skipped, Performed.wrote, Performed.calculated, Performed.exceeding, Performed.constructed, Performed.filled, Performed.branched, Performed.no-way}
 use Rattle.machine.specs.PerformedLaws.{by-ways}
 use Rattle.machine.specs.Heads.{plain-head, if-head, reads-erase, writes-erase}
+use Rattle.commands.specs.Tags.{result-type}
 
 -- what an outcome says of the published state
 abbrev pub Follows : Program → ℕ → State → Out → Type 0

@@ -11,11 +11,12 @@ use Rattle.types.specs.Limits.{max-instances, max-stability, first-local}
 use Rattle.types.specs.Types.{Ty, Ty.int, Ty.bool, Ty.ref}
 use Rattle.types.specs.Values.{Val, Val.int-val, Val.nat-val, Val.bool-val, Val.label}
 use Rattle.program.specs.Tree.{Op, Stmts, Program}
-use Rattle.commands.specs.Context.{params-of, context}
-use Rattle.commands.specs.Typing.{Sort, Sort.equality, Sort.order, Sort.arithmetic, Sort.logic, sort}
-use Rattle.commands.specs.Noted.{Note, Note.n-push, Note.n-this, Note.n-not, Note.n-rd, Note.n-wr, Note.n-get, Note.n-set, Note.n-cons, Note.n-op, Note.n-if, noted}
+use Rattle.commands.specs.Context.{params-of, context, step-of}
+use Rattle.commands.specs.Typing.{sort}
+use Rattle.commands.specs.Tags.{result-type}
+use Rattle.commands.specs.Noted.{Note, Note.n-push, Note.n-this, Note.n-not, Note.n-rd, Note.n-wr, Note.n-get, Note.n-set, Note.n-cons, Note.n-op, Note.n-if, now-written, noted}
 use Rattle.words.specs.Apply.{Answer, Answer.value, Answer.outside, Answer.unfit, apply, same-val}
-use Rattle.machine.specs.Published.{Sched, Sched.done, Sched.start, Sched.start-in, Sched.fixpoint, Sched.active, before, Env, lookup, assign, fresh-env, structs, arity, step-of}
+use Rattle.machine.specs.Published.{Sched, Sched.done, Sched.start, Sched.start-in, Sched.fixpoint, Sched.active, before, Env, lookup, assign, fresh-env, structs, arity}
 use Rattle.machine.specs.Rules.{meet}
 
 -- a stack value: the type that what put it there gives it, and the value (01, 'The words of demand 3')
@@ -82,13 +83,6 @@ abbrev pub with-stability : Machine → List Bool → Machine
 with-stability m b = record { sched = m .sched; instances = m .instances; stability = b }
 
 -- Commands ---------------------------------------------------------------------
-
--- arithmetic gives its operands' type, the other operators Bool
-abbrev pub result-type : Sort → Ty → Ty
-result-type equality t = bool
-result-type order t = bool
-result-type arithmetic t = t
-result-type logic t = bool
 
 -- whether a write leaves stability as it is: variable v is no parameter of struct k, or has the value x already
 unfoldable pub settled : Program → ℕ → ℕ → Val → Option Val → Bool
@@ -217,20 +211,6 @@ module _ (p : Program) (m : Machine) (l : ℕ) (i : Instance) where
   perform (n-cons k) c = construct k c (i .stack)
   perform (n-op o) c = operate o c (i .stack)
   perform (n-if n) c = branch n c (i .stack)
-
--- the locals written once this command is taken
-unfoldable pub now-written : Note → List ℕ → List ℕ
-now-written (n-push t v) w = w
-now-written n-this w = w
-now-written n-not w = w
-now-written (n-rd k x) w = w
-now-written (n-wr k x) w = w
-now-written (n-get t x) w = w
-now-written (n-set true t x) w = x ∷ w
-now-written (n-set false t x) w = w
-now-written (n-cons k) w = w
-now-written (n-op o) w = w
-now-written (n-if n) w = w
 
 -- instance l takes its next command
 unfoldable pub command-of : Program → Machine → ℕ → Instance → List Note → Out

@@ -9,8 +9,9 @@ use lib.ListN.{length}
 use lib.Dec.{eqb}
 use Rattle.program.specs.Tree.{Stmts, Program}
 use Rattle.commands.specs.Commands.{commands}
-use Rattle.machine.specs.Published.{Sched, Sched.done, Sched.start, Sched.start-in, Sched.fixpoint, Sched.active, step-of}
+use Rattle.machine.specs.Published.{Sched, Sched.done, Sched.start, Sched.start-in, Sched.fixpoint, Sched.active}
 use Rattle.machine.specs.Machine.{Instance, Machine, Out.next, command, move}
+use Rattle.commands.specs.Context.{step-of}
 
 -- the moves that a schedule takes where each fixpoint goes through its body once
 unfoldable pub weight : Sched → ℕ

@@ -11,11 +11,11 @@ use Rattle.types.specs.Limits.{max-stability}
 use Rattle.types.specs.Types.{Ty.ref}
 use Rattle.types.specs.Values.{Val.label}
 use Rattle.program.specs.Tree.{Stmts, Program}
-use Rattle.commands.specs.Context.{context}
-use Rattle.commands.specs.Noted.{Note, erase, noted}
+use Rattle.commands.specs.Context.{context, step-of}
+use Rattle.commands.specs.Noted.{Note, erase, noted, now-written}
 use Rattle.commands.specs.NotedLaws.{erased}
-use Rattle.machine.specs.Published.{Sched, Sched.done, Sched.start, Sched.start-in, Sched.fixpoint, Sched.active, before, Env, arity, step-of}
-use Rattle.machine.specs.Machine.{Tagged, tagged, Instance, Machine, Out, Out.next, Out.refused, Out.stuck, with-code, with-written, update-env, made, now-written, command, given, started, started-in, machine, repeat, move-by, move}
+use Rattle.machine.specs.Published.{Sched, Sched.done, Sched.start, Sched.start-in, Sched.fixpoint, Sched.active, before, Env, arity}
+use Rattle.machine.specs.Machine.{Tagged, tagged, Instance, Machine, Out, Out.next, Out.refused, Out.stuck, with-code, with-written, update-env, made, command, given, started, started-in, machine, repeat, move-by, move}
 use Rattle.machine.specs.RepresentsLaws.{Still}
 use Rattle.machine.specs.Performed.{Performed, Performed.pushed, Performed.pushed-this, Performed.negated, Performed.read-one, Performed.skipped, Performed.wrote, Performed.calculated, Performed.exceeding, Performed.constructed, Performed.filled, Performed.branched, Performed.no-way}
 use Rattle.machine.specs.PerformedLaws.{by-ways}

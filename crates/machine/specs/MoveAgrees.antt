@@ -12,9 +12,9 @@ use borrow.Author.Tests.{ltb-true, ltb-false, lt-ltb, le-ltb}
 use Rattle.types.specs.Limits.{max-stability}
 use Rattle.program.specs.Tree.{Stmts, Program}
 use Rattle.commands.specs.Commands.{commands}
-use Rattle.commands.specs.Context.{context}
+use Rattle.commands.specs.Context.{context, step-of}
 use Rattle.commands.specs.NotedLaws.{erased}
-use Rattle.machine.specs.Published.{Sched, Sched.done, Sched.start, Sched.start-in, Sched.fixpoint, Sched.active, before, Inst, Inst.inst, State, State.state, step-of}
+use Rattle.machine.specs.Published.{Sched, Sched.done, Sched.start, Sched.start-in, Sched.fixpoint, Sched.active, before, Inst, Inst.inst, State, State.state}
 use Rattle.machine.specs.Rules.{Done, given, started, started-in, Actor.schedule, Rule, Rule.InitG, Rule.InitL, Rule.FixInit, Rule.FixIter, Rule.FixTerm}
 use Rattle.machine.specs.Stops.{Nested, Nested.no-entry}
 use Rattle.machine.specs.Machine.{Instance, Machine, Out, Out.next, Out.refused, Out.stuck, nested, given as equip, started as begin, started-in as begin-in, repeat, move-by, move}

@@ -5,11 +5,11 @@ use mathlib.Core.Bool.{Bool, true, false}
 use mathlib.Core.Option.{Option, none, some}
 use mathlib.Core.List.{List, [], _∷_}
 use lib.ListN.{length, getD, getElem?, set, replicate}
-use lib.Dec.{ltb, eqb}
+use lib.Dec.{ltb}
 use Rattle.types.specs.Limits.{first-local}
 use Rattle.types.specs.Types.{Ty}
 use Rattle.types.specs.Values.{Val}
-use Rattle.program.specs.Tree.{Item, Item.call, Item.call-in, Item.fix, Items, Items.stop, Items.item, Stmts, Step, Program}
+use Rattle.program.specs.Tree.{Item, Item.call, Item.call-in, Item.fix, Items, Items.stop, Items.item, Program}
 use Rattle.commands.specs.Commands.{Coms, Coms.nil}
 use Rattle.commands.specs.Context.{params-of}
 
@@ -79,14 +79,6 @@ structs p = length (p .params)
 -- how many parameters a struct has; whether a variable is one of them
 abbrev pub arity : Program → ℕ → ℕ
 arity p k = length (params-of p k)
-
--- the statements of the step n of struct k
-unfoldable pub find-step : List Step → ℕ → Option Stmts
-find-step [] n = none
-find-step (t ∷ ts) n = elim (eqb (t .name) n) [ true ↦ some (t .body) | false ↦ find-step ts n ]
-
-abbrev pub step-of : Program → ℕ → ℕ → Option Stmts
-step-of p k n = find-step (getD (p .steps) k []) n
 
 -- Done(σ): no instance holds commands
 abbrev pub Idle : Inst → Type 0

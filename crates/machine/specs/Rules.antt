@@ -15,7 +15,8 @@ use Rattle.program.specs.Tree.{Op, Stmts, Program}
 use Rattle.program.specs.Counts.{All}
 use Rattle.commands.specs.Commands.{Com.push, Com.push-this, Com.rd, Com.wr, Com.cons, Com.not, Com.oper, Coms, Coms.nil, Coms.act, Coms.if-then, then, body-coms}
 use Rattle.words.specs.Operators.{Applies}
-use Rattle.machine.specs.Published.{Sched, Sched.start, Sched.start-in, Sched.fixpoint, Sched.active, before, Env, lookup, assign, fresh-env, Inst, Inst.inst, State, State.state, update-env, structs, arity, step-of, Idle}
+use Rattle.machine.specs.Published.{Sched, Sched.start, Sched.start-in, Sched.fixpoint, Sched.active, before, Env, lookup, assign, fresh-env, Inst, Inst.inst, State, State.state, update-env, structs, arity, Idle}
+use Rattle.commands.specs.Context.{step-of}
 
 -- Done(σ)
 abbrev pub Done : List Inst → Type 0

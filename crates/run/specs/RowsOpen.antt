@@ -10,7 +10,7 @@ use Rattle.program.specs.Reader.{read}
 use Rattle.program.specs.Rows.{reading}
 use Rattle.commands.specs.Commands.{then, reads, front, last, expr-coms, args-coms, update-coms, stmt-coms, body-coms, flatten, commands}
 use Rattle.commands.specs.Coding.{coded, com-word, command-word, words}
-use Rattle.commands.specs.Context.{stmt-local, body-local}
+use Rattle.commands.specs.Context.{stmt-local, body-local, find-step}
 use Rattle.commands.specs.Names.{declares, declared, step-names}
 use Rattle.commands.specs.Depth.{depth}
 use Rattle.commands.specs.Bounds.{item-count, items-count, total, greatest, program-size, program-depth}
@@ -19,15 +19,15 @@ use Rattle.commands.specs.NamesDecide.{start-named, expr-named, args-named, stm
 use Rattle.commands.specs.TypingDecide.{is-of, agree, given as given-type, result, operate as operate-types, lead, path-type, expr-type, args-typed, stmt-typed, body-typed, steps-typed, types-right}
 use Rattle.commands.specs.BoundsDecide.{within}
 use Rattle.commands.specs.Numbers.{breach, first, order, program-number}
-use Rattle.commands.specs.Noted.{struct-of, walk, store, read-path, write-path, note-expr, note-exprs, note-stmt, note-body, noted}
+use Rattle.commands.specs.Noted.{struct-of, walk, store, read-path, write-path, note-expr, note-exprs, note-stmt, note-body, noted, now-written}
 use Rattle.words.specs.Operators.{quotient, remainder}
 use Rattle.words.specs.Apply.{same-int, same-bool, same-val, int-answer, nat-answer, by-nonzero, compute, answer, on-truths, on-labels, apply}
 use Rattle.table.specs.Table.{struct-at, enc-value, enc-record, enc-table}
 use Rattle.table.specs.TableReader.{read-value, read-values, read-record, read-count, read-table, is-struct, refers, refers-each, references, table-number, table-answer, table-of-stream}
-use Rattle.machine.specs.Published.{before, of-item, of-items, lookup, assign, find-step}
+use Rattle.machine.specs.Published.{before, of-item, of-items, lookup, assign}
 use Rattle.machine.specs.Rules.{meet}
 use Rattle.machine.specs.Measure.{weight, bound}
-use Rattle.machine.specs.Machine.{update-env, settled, read-from, read-at, read as read-variable, write-to, write-parameter, write-at, write, negate, branch, operated, operate, construct, perform, now-written, command-of, command-at, command, given, started, started-in, repeat, move-by}
+use Rattle.machine.specs.Machine.{update-env, settled, read-from, read-at, read as read-variable, write-to, write-parameter, write-at, write, negate, branch, operated, operate, construct, perform, command-of, command-at, command, given, started, started-in, repeat, move-by}
 use Rattle.run.specs.Turns.{labels-from, chosen, holds-code, holders}
 use Rattle.run.specs.Run.{later, is-done, moved, settle-by, settle, fuel, taken, turn, at-last, run}
 use Rattle.run.specs.Begin.{nulls, first-instances, begin, record-of, table-of}

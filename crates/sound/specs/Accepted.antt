@@ -7,13 +7,13 @@ use lib.ListN.{length}
 use Rattle.types.specs.Limits.{first-local}
 use Rattle.program.specs.Tree.{Stmts, Program}
 use Rattle.program.specs.Counts.{Counts}
-use Rattle.commands.specs.Context.{params-of, context}
+use Rattle.commands.specs.Context.{params-of, context, step-of}
 use Rattle.commands.specs.Names.{NamesRight}
 use Rattle.commands.specs.Typing.{TypesRight}
 use Rattle.commands.specs.Noted.{Note, noted}
 use Rattle.commands.specs.Bounds.{Within, program-depth}
-use Rattle.machine.specs.Published.{structs, step-of}
-use Rattle.sound.specs.Tags.{Tags, at-start, Way, Safe}
+use Rattle.machine.specs.Published.{structs}
+use Rattle.commands.specs.Tags.{Tags, at-start, Way, Safe}
 use Rattle.sound.specs.Sized.{SizedAll}
 
 -- within the counts and the limits, with right names and right types

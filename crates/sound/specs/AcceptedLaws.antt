@@ -10,12 +10,12 @@ use Rattle.types.specs.Limits.{first-local}
 use Rattle.types.specs.Types.{IsType}
 use Rattle.program.specs.Tree.{Stmts, Program}
 use Rattle.program.specs.Counts.{All, Few, CountsStmts, CountsStep, Counts}
-use Rattle.commands.specs.Context.{params-of, context}
+use Rattle.commands.specs.Context.{params-of, context, step-of}
 use Rattle.commands.specs.Numbers.{accepted, program-number}
 use Rattle.commands.specs.NumbersLaws.{number-accepted}
-use Rattle.machine.specs.Published.{structs, step-of}
-use Rattle.sound.specs.Steps.{of-each, found, step-safe}
-use Rattle.sound.specs.Heights.{program-height}
+use Rattle.machine.specs.Published.{structs}
+use Rattle.commands.specs.Steps.{of-each, found, step-safe}
+use Rattle.commands.specs.Heights.{program-height}
 use Rattle.sound.specs.SizedLaws.{noted-sized}
 use Rattle.sound.specs.Accepted.{Accepted, Firm}
 

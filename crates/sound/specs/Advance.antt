@@ -10,11 +10,11 @@ use Rattle.types.specs.Types.{Ty, Ty.int}
 use Rattle.types.specs.Values.{Val, Val.label}
 use Rattle.program.specs.Tree.{Program}
 use Rattle.commands.specs.Context.{body-local, params-of}
-use Rattle.commands.specs.Noted.{Note, noted}
+use Rattle.commands.specs.Noted.{Note, noted, now-written}
 use Rattle.table.specs.Table.{Each}
 use Rattle.machine.specs.Published.{Env, lookup}
-use Rattle.machine.specs.Machine.{Tagged, Instance, Machine, put, now-written, Out, Out.next, Out.refused, Out.stuck}
-use Rattle.sound.specs.Tags.{stack-after, is-this, next as leads, at-start, Way}
+use Rattle.machine.specs.Machine.{Tagged, Instance, Machine, put, Out, Out.next, Out.refused, Out.stuck}
+use Rattle.commands.specs.Tags.{stack-after, is-this, next as leads, at-start, Way}
 use Rattle.sound.specs.Needs.{Of}
 use Rattle.sound.specs.Invariant.{Fits, Passage, Place.passing, Good}
 use Rattle.sound.specs.Keeps.{Keeps, keeps-set, of-kept, fits-kept}

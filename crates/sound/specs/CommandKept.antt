@@ -15,22 +15,22 @@ use Rattle.types.specs.Values.{Val, Val.bool-val, Val.label}
 use Rattle.program.specs.Tree.{Op, Program}
 use Rattle.commands.specs.Context.{Ctx, params-of, typ}
 use Rattle.commands.specs.Typing.{sort, Takes}
-use Rattle.commands.specs.Noted.{Note, Note.n-push, Note.n-this, Note.n-not, Note.n-rd, Note.n-wr, Note.n-get, Note.n-set, Note.n-cons, Note.n-op, Note.n-if, noted}
+use Rattle.commands.specs.Noted.{Note, Note.n-push, Note.n-this, Note.n-not, Note.n-rd, Note.n-wr, Note.n-get, Note.n-set, Note.n-cons, Note.n-op, Note.n-if, noted, now-written}
 use Rattle.table.specs.Table.{Each}
 use Rattle.words.specs.Apply.{Answer, Answer.value, Answer.outside, Answer.unfit, apply}
 use Rattle.words.specs.ApplyLaws.{apply-outside}
 use Rattle.words.specs.Ranges.{Fits as Answers}
 use Rattle.words.specs.RangesLaws.{apply-fits}
 use Rattle.machine.specs.Published.{structs, arity}
-use Rattle.machine.specs.Machine.{Tagged, tagged, Instance, Machine, with-written, put, now-written, result-type, write-to, operated, perform, command-of, command-at, command}
+use Rattle.machine.specs.Machine.{Tagged, tagged, Instance, Machine, with-written, put, write-to, operated, perform, command-of, command-at, command}
 use Rattle.run.specs.Begin.{resting}
-use Rattle.sound.specs.Tags.{Tags, Top, Asks, stack-after, next as leads, at-start, Way, Way.on, Way.over}
+use Rattle.commands.specs.Tags.{Tags, Top, Asks, stack-after, next as leads, at-start, Way, Way.on, Way.over}
 use Rattle.sound.specs.Needs.{Of}
 use Rattle.sound.specs.Invariant.{Fits, Passage, Place, Place.resting as rests, Place.passing, Good}
 use Rattle.sound.specs.Keeps.{of-kept, fits-kept}
 use Rattle.sound.specs.EachLaws.{each-length, each-map, each-of-map, each-reverse}
 use Rattle.sound.specs.EnvLaws.{param-holds}
-use Rattle.sound.specs.Static.{result-of}
+use Rattle.commands.specs.Static.{result-of}
 use Rattle.sound.specs.SizedLaws.{lasting-of}
 use Rattle.sound.specs.ValueLaws.{bool-value, label-value, ranges, result-of-type}
 use Rattle.sound.specs.Accepted.{Firm}
@@ -40,6 +40,7 @@ use Rattle.sound.specs.Outcomes.{negated, branched, operates, has-read, 
 use Rattle.sound.specs.Advance.{Kept, after, advance, locals-kept, good-put, goes-on}
 use Rattle.sound.specs.WriteKept.{param-kept, local-kept-good}
 use Rattle.sound.specs.ConsKept.{cons-keeps, new-label, cons-kept}
+use Rattle.commands.specs.Tags.{result-type}
 
 -- whichever a test says
 either : {A : Type 0} (t : Bool) {u : Bool} → u ≡ t → (u ≡ true → A) → (u ≡ false → A) → A

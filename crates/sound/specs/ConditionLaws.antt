@@ -10,16 +10,17 @@ use lib.Dec.{ltb, leb}
 use borrow.Author.Tests.{le-ltb}
 use Rattle.types.specs.Limits.{max-instances, max-stability}
 use Rattle.program.specs.Tree.{Program}
-use Rattle.commands.specs.Noted.{Note.n-cons, Note.n-op}
+use Rattle.commands.specs.Noted.{Note.n-cons, Note.n-op, now-written}
 use Rattle.commands.specs.Typing.{sort}
 use Rattle.words.specs.ApplyLaws.{apply-outside}
 use Rattle.machine.specs.Published.{Sched, Sched.done, Sched.fixpoint, arity}
-use Rattle.machine.specs.Machine.{Instance, Machine, Out, Out.next, Out.refused, Out.stuck, full, exceeded, nested, result-type, construct, operated, perform, move-by, move, command, with-written, now-written}
+use Rattle.machine.specs.Machine.{Instance, Machine, Out, Out.next, Out.refused, Out.stuck, full, exceeded, nested, construct, operated, perform, move-by, move, command, with-written}
 use Rattle.run.specs.Turns.{chosen}
 use Rattle.run.specs.Visits.{Visits, Visits.here, Visits.moves, Visits.takes}
 use Rattle.sound.specs.Conditions.{Meets, Meets.no-label, Meets.no-result, Condition, Condition.at-end, Condition.at-33, Condition.at-command, Condition.at-36}
 use Rattle.sound.specs.CommandKept.{commanded}
 use Rattle.sound.specs.Outcomes.{operates}
+use Rattle.commands.specs.Tags.{result-type}
 
 meets-one : {m : Machine} {i j : Instance} {n k : ℕ} → i ≡ j → Meets m i n → Meets m j k → n ≡ k
 meets-one q (no-label e h) (no-label e′ h′) = refl

@@ -10,12 +10,12 @@ use Rattle.types.specs.Limits.{first-local}
 use Rattle.types.specs.Types.{Ty, Ty.int}
 use Rattle.types.specs.Values.{Val, Val.label}
 use Rattle.program.specs.Tree.{Stmts, Program}
-use Rattle.commands.specs.Context.{params-of, body-local, context}
+use Rattle.commands.specs.Context.{params-of, body-local, context, step-of}
 use Rattle.commands.specs.Noted.{noted}
 use Rattle.table.specs.Table.{Each}
-use Rattle.machine.specs.Published.{Sched, Sched.done, Sched.start, Sched.start-in, Sched.fixpoint, Sched.active, Env, Env.env, lookup, structs, step-of}
+use Rattle.machine.specs.Published.{Sched, Sched.done, Sched.start, Sched.start-in, Sched.fixpoint, Sched.active, Env, Env.env, lookup, structs}
 use Rattle.machine.specs.Machine.{Tagged, Instance, Machine}
-use Rattle.sound.specs.Tags.{Tags, Way, at-start}
+use Rattle.commands.specs.Tags.{Tags, Way, at-start}
 use Rattle.sound.specs.Needs.{Of}
 
 -- of a type in both senses

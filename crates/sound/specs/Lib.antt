@@ -1,16 +1,9 @@
-pub mod Tags
 pub mod Needs
-pub mod Locals
 pub mod Sized
 pub mod Accepted
 pub mod Invariant
 pub mod Conditions
 pub mod NeverStuck
-pub mod LocalsLaws
-pub mod SafeLaws
-pub mod Static
-pub mod Steps
-pub mod Heights
 pub mod ElemLaws
 pub mod EachLaws
 pub mod Keeps
@@ -33,5 +26,4 @@ pub mod HolderLaws
 pub mod ConditionLaws
 pub mod SettleLaws
 pub mod NeverStuckLaws
-pub mod Exhibits
 pub mod Statements

@@ -10,14 +10,15 @@ use lib.Dec.{ltb, eqb}
 use borrow.Author.Tests.{ltb-false}
 use Rattle.types.specs.Limits.{max-stability}
 use Rattle.program.specs.Tree.{Stmts, Program}
-use Rattle.machine.specs.Published.{Sched, Sched.done, Sched.start, Sched.start-in, Sched.fixpoint, Sched.active, before, step-of}
+use Rattle.machine.specs.Published.{Sched, Sched.done, Sched.start, Sched.start-in, Sched.fixpoint, Sched.active, before}
 use Rattle.machine.specs.Machine.{Instance, machine, Out.next, Out.refused, nested, given, started, started-in, repeat, move-by}
-use Rattle.sound.specs.Tags.{at-start, Way.start as begins}
+use Rattle.commands.specs.Tags.{at-start, Way.start as begins}
 use Rattle.sound.specs.Invariant.{Place.passing, GoodInst, GoodAll, Unbegun, Open, Open.open-start, Open.open-start-in, Open.open-fix, Open.open-active}
 use Rattle.sound.specs.Keeps.{Keeps}
 use Rattle.sound.specs.ElemLaws.{at-map, map-at}
 use Rattle.sound.specs.GoodLaws.{inst-kept}
 use Rattle.sound.specs.Advance.{Kept}
+use Rattle.commands.specs.Context.{step-of}
 
 -- 36: the schedule's next item is a Fix, met with 8 stability entries
 pub data Blocked : Sched → List Bool → ℕ → Type 0 where

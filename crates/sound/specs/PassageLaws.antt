@@ -13,10 +13,10 @@ use Rattle.commands.specs.Noted.{Note, noted}
 use Rattle.table.specs.Table.{Each}
 use Rattle.machine.specs.Published.{structs, lookup}
 use Rattle.machine.specs.Machine.{Tagged, Instance}
-use Rattle.sound.specs.Tags.{Top, Asks, Way, at-start}
+use Rattle.commands.specs.Tags.{Top, Asks, Way, at-start}
 use Rattle.sound.specs.Needs.{Of}
 use Rattle.sound.specs.Invariant.{Fits, Passage}
-use Rattle.sound.specs.SafeLaws.{ready, way-safe}
+use Rattle.commands.specs.SafeLaws.{ready, way-safe}
 use Rattle.sound.specs.EachLaws.{each-uncons, each-split}
 use Rattle.sound.specs.Sized.{Sized}
 use Rattle.sound.specs.SizedLaws.{sized-first, way-sized}

@@ -12,7 +12,7 @@ use Rattle.commands.specs.Noted.{Note, Note.n-push, Note.n-this, Note.n-not, No
 use Rattle.commands.specs.Bounds.{program-depth}
 use Rattle.machine.specs.Published.{Env, Env.env}
 use Rattle.machine.specs.Machine.{Instance, Machine}
-use Rattle.sound.specs.Tags.{Asks}
+use Rattle.commands.specs.Tags.{Asks}
 use Rattle.sound.specs.Needs.{Needs, Ready, Typed-params, Right}
 use Rattle.sound.specs.Invariant.{Fits, Fitted, Passage, Place, Place.resting, Place.passing, Good}
 use Rattle.sound.specs.EachLaws.{each-length, each-reverse}

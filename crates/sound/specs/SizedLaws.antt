@@ -17,7 +17,7 @@ use Rattle.commands.specs.Context.{Ctx, typ}
 use Rattle.commands.specs.Noted.{Note, struct-of, walk, store, read-path, write-path, note-expr, note-exprs, note-stmt, note-body, noted}
 use Rattle.machine.specs.Published.{structs}
 use Rattle.machine.specs.Machine.{Instance}
-use Rattle.sound.specs.Tags.{Tags, jump, Way, Way.start, Way.on, Way.over}
+use Rattle.commands.specs.Tags.{Tags, jump, Way, Way.start, Way.on, Way.over}
 use Rattle.sound.specs.Needs.{Of}
 use Rattle.sound.specs.Invariant.{Nulls}
 use Rattle.sound.specs.Sized.{Lasting, Lasting.an-int, Lasting.a-nat, Lasting.a-bool, Lasting.a-null, SizedAll, SizedAll.none, SizedAll.more, Sized}

@@ -13,12 +13,12 @@ use Rattle.types.specs.Types.{Ty, Ty.int}
 use Rattle.types.specs.Values.{Val}
 use Rattle.program.specs.Tree.{Program}
 use Rattle.commands.specs.Context.{body-local, params-of}
-use Rattle.commands.specs.Noted.{Note, Note.n-set, noted}
+use Rattle.commands.specs.Noted.{Note, Note.n-set, noted, now-written}
 use Rattle.table.specs.Table.{Each}
 use Rattle.machine.specs.Published.{Env, lookup, assign}
-use Rattle.machine.specs.Machine.{Tagged, Instance, Machine, with-env, with-instances, with-stability, put, update-env, now-written}
+use Rattle.machine.specs.Machine.{Tagged, Instance, Machine, with-env, with-instances, with-stability, put, update-env}
 use Rattle.machine.specs.Rules.{meet}
-use Rattle.sound.specs.Tags.{stack-after, next as leads, at-start, Way}
+use Rattle.commands.specs.Tags.{stack-after, next as leads, at-start, Way}
 use Rattle.sound.specs.Needs.{Of}
 use Rattle.sound.specs.Invariant.{Fits, Fitted, Passage, Place, Place.resting, Place.passing, GoodInst, Good}
 use Rattle.sound.specs.Keeps.{Keeps, keeps-set, of-kept, fits-kept, env-set}

@@ -1,9 +1,9 @@
 -- Laws of safe commands (01, 'The words of demand 3'): what is safe at the start stays so on every way.
 use mathlib.Core.List.{List, _∷_}
 use lib.ListN.{drop}
 use Rattle.commands.specs.Context.{Ctx}
 use Rattle.commands.specs.Noted.{Note}
-use Rattle.sound.specs.Tags.{Tags, next, Asks, jump, Way, Way.start, Way.on, Way.over, Safe, Safe.act}
+use Rattle.commands.specs.Tags.{Tags, next, Asks, jump, Way, Way.start, Way.on, Way.over, Safe, Safe.act}
 
 module _ {G : Ctx} {n : Note} {c : List Note} {x : Tags} where
   -- the next command of safe ones finds what it asks for

@@ -10,13 +10,12 @@ use lib.ListN.{length, getD}
 use lib.Dec.{eqb}
 use Rattle.program.specs.Tree.{Stmts, Step, Program}
 use Rattle.program.specs.Counts.{All}
-use Rattle.commands.specs.Context.{params-of, context}
+use Rattle.commands.specs.Context.{params-of, context, find-step, step-of}
 use Rattle.commands.specs.Names.{Named, NamedSteps, NamesRight}
 use Rattle.commands.specs.Typing.{Typed, TypedSteps, TypesRight}
 use Rattle.commands.specs.Noted.{noted}
-use Rattle.machine.specs.Published.{find-step, step-of}
-use Rattle.sound.specs.Tags.{at-start, Safe}
-use Rattle.sound.specs.Static.{static-step}
+use Rattle.commands.specs.Tags.{at-start, Safe}
+use Rattle.commands.specs.Static.{static-step}
 
 -- what holds of all holds of each
 pub of-each : {A : Type 0} (C : A → Type 0) {a : A} {l : List A} → All C l → List·Memᴰ a l → C a

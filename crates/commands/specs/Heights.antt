@@ -6,15 +6,14 @@ use mathlib.Core.Option.{some}
 use mathlib.Core.List.{List, [], _∷_, map, List·Memᴰ, List·Memᴰ·head, List·Memᴰ·tail}
 use lib.ListN.{length, getD, drop, length-drop, List·getD-map}
 use Rattle.program.specs.Tree.{Stmts, Step, Program}
 use Rattle.commands.specs.Commands.{Flat, Flat.plain, Flat.if-n, commands}
-use Rattle.commands.specs.Context.{Ctx, context}
+use Rattle.commands.specs.Context.{Ctx, context, step-of}
 use Rattle.commands.specs.Noted.{Note, Note.n-push, Note.n-this, Note.n-not, Note.n-rd, Note.n-wr, Note.n-get, Note.n-set, Note.n-cons, Note.n-op, Note.n-if, erase, noted}
 use Rattle.commands.specs.Depth.{after, depth}
 use Rattle.commands.specs.Bounds.{greatest, arities, step-depth, program-depth}
-use Rattle.machine.specs.Published.{step-of}
-use Rattle.sound.specs.Tags.{Tags, at-start, next, jump, Way, Way.start, Way.on, Way.over}
+use Rattle.commands.specs.Tags.{Tags, at-start, next, jump, Way, Way.start, Way.on, Way.over}
 use Rattle.commands.specs.NotedLaws.{erased}
-use Rattle.sound.specs.Steps.{found}
+use Rattle.commands.specs.Steps.{found}
 
 -- the height after a command of the list, and how many commands the other way leaves out
 abbrev left : List ℕ → Flat → ℕ → ℕ

@@ -8,15 +8,15 @@ use lib.Seq.{drop-at}
 use Rattle.types.specs.Types.{Ty, Ty.int, Ty.nat, Ty.bool, Ty.ref}
 use Rattle.types.specs.Values.{value-of, default}
 use Rattle.program.specs.Tree.{Var, Var.par, Var.loc, Expr, Expr.inv, Expr.make, Expr.path, Expr.int-lit, Expr.nat-lit, Expr.bool-lit, Expr.null, Expr.self, Expr.op, Exprs, Exprs.none, Exprs.more, Stmt, Stmt.when, Stmt.declare, Stmt.update, Stmt.create, Stmts, Program}
 use Rattle.commands.specs.Context.{Ctx, params-of, context}
 use Rattle.commands.specs.Names.{Starts, Names, Names-all, declares, live-after, Named-stmt, Named}
 use Rattle.commands.specs.Typing.{Sort, sort, Takes, Takes.any-equal, Takes.order-int, Takes.order-nat, Takes.arith-int, Takes.arith-nat, Takes.logic-bool, Leads, Leads.arrived, Leads.onward, Reaches, Reaches.from-own, Reaches.from-local, Types, Types.t-not, Types.t-make, Types.t-path, Types.t-int, Types.t-nat, Types.t-bool, Types.t-null, Types.t-this, Types.t-op, Types-all, Types-all.t-none, Types-all.t-more, Typed-stmt, Typed-stmt.t-when, Typed-stmt.t-declare, Typed-stmt.t-update, Typed-stmt.t-create, Typed, Typed.t-end, Typed.t-next}
-use Rattle.commands.specs.Noted.{Note, Note.n-push, Note.n-this, Note.n-not, Note.n-rd, Note.n-wr, Note.n-get, Note.n-set, Note.n-cons, Note.n-op, Note.n-if, struct-of, walk, store, read-path, write-path, note-expr, note-exprs, note-stmt, note-body, noted}
-use Rattle.machine.specs.Machine.{result-type, now-written}
-use Rattle.sound.specs.Tags.{Tags, tags, at-start, next, Asks, jump, Safe, Safe.stop, Safe.act}
-use Rattle.sound.specs.Locals.{Declaration, Declaration.itself, Declaration.inside, Declaration-in.first, Declaration-in.later, Locals-right}
-use Rattle.sound.specs.LocalsLaws.{declared-type}
+use Rattle.commands.specs.Noted.{Note, Note.n-push, Note.n-this, Note.n-not, Note.n-rd, Note.n-wr, Note.n-get, Note.n-set, Note.n-cons, Note.n-op, Note.n-if, struct-of, walk, store, read-path, write-path, note-expr, note-exprs, note-stmt, note-body, noted, now-written}
+use Rattle.commands.specs.Tags.{Tags, tags, at-start, next, Asks, jump, Safe, Safe.stop, Safe.act}
+use Rattle.commands.specs.Locals.{Declaration, Declaration.itself, Declaration.inside, Declaration-in.first, Declaration-in.later, Locals-right}
+use Rattle.commands.specs.LocalsLaws.{declared-type}
 use Rattle.commands.specs.NotedLaws.{left-out}
+use Rattle.commands.specs.Tags.{result-type}
 
 -- the first locals are among the second
 abbrev Among : List ℕ → List ℕ → Type 0

@@ -6,10 +6,16 @@ use mathlib.Core.List.{List, [], _∷_, _++_, reverse, List·Memᴰ}
 use mathlib.Core.Bool.{Bool, true, false}
 use lib.ListN.{length, getD, drop}
 use Rattle.types.specs.Types.{Ty, Ty.int, Ty.bool, Ty.ref}
 use Rattle.commands.specs.Context.{Ctx, typ}
-use Rattle.commands.specs.Typing.{Takes, sort}
-use Rattle.commands.specs.Noted.{Note, Note.n-push, Note.n-this, Note.n-not, Note.n-rd, Note.n-wr, Note.n-get, Note.n-set, Note.n-cons, Note.n-op, Note.n-if}
-use Rattle.machine.specs.Machine.{result-type, now-written}
+use Rattle.commands.specs.Typing.{Sort, Sort.equality, Sort.order, Sort.arithmetic, Sort.logic, Takes, sort}
+use Rattle.commands.specs.Noted.{Note, Note.n-push, Note.n-this, Note.n-not, Note.n-rd, Note.n-wr, Note.n-get, Note.n-set, Note.n-cons, Note.n-op, Note.n-if, now-written}
+
+-- arithmetic gives its operands' type, the other operators Bool
+abbrev pub result-type : Sort → Ty → Ty
+result-type equality t = bool
+result-type order t = bool
+result-type arithmetic t = t
+result-type logic t = bool
 
 -- what put each value on the stack, top first; the locals written in this passage; whether the last command was push this
 pub record Tags : Type 0 where

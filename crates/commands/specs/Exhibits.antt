@@ -12,18 +12,16 @@ use Rattle.types.specs.Types.{Ty, Ty.int, Ty.bool, Ty.ref}
 use Rattle.types.specs.Values.{value-of}
 use Rattle.program.specs.Tree.{Var.par, Var.loc, Op.op-add, Expr.inv, Expr.path, Expr.int-lit, Expr.bool-lit, Expr.self, Expr.op, Exprs.none, Exprs.more, Stmt.when, Stmt.declare, Stmt.update, Stmt.create, Stmts, Stmts.end, Stmts.next, Item.call, Items.stop, Items.item, Program, args, size, items}
 use Rattle.program.specs.Counts.{Counts, CountsExpr, CountsStmts, CountsItems, CountsStep, CountsSchedule, IsPath, IsVar, height, nests, fixes-in}
 use Rattle.commands.specs.Commands.{commands, flatten, body-coms, expr-coms, update-coms, reads, front, last, then}
-use Rattle.commands.specs.Context.{Ctx, context, body-local}
+use Rattle.commands.specs.Context.{Ctx, context, body-local, find-step, step-of}
 use Rattle.commands.specs.Names.{Names, declared, Named, step-names, Scheduled, NamesRight}
 use Rattle.commands.specs.Typing.{Takes.arith-int, Leads.arrived, Leads.onward, Reaches, Reaches.from-own, Reaches.from-local, Types, Types.t-not, Types.t-path, Types.t-int, Types.t-bool, Types.t-this, Types.t-op, Types-all.t-none, Types-all.t-more, Typed-stmt.t-when, Typed-stmt.t-declare, Typed-stmt.t-update, Typed-stmt.t-create, Typed, Typed.t-end, Typed.t-next, TypesRight}
-use Rattle.commands.specs.Noted.{Note, Note.n-push, Note.n-this, Note.n-not, Note.n-wr, Note.n-get, struct-of, walk, store, read-path, write-path, note-expr, note-body, noted}
+use Rattle.commands.specs.Noted.{Note, Note.n-push, Note.n-this, Note.n-not, Note.n-wr, Note.n-get, struct-of, walk, store, read-path, write-path, note-expr, note-body, noted, now-written}
 use Rattle.commands.specs.Depth.{depth}
 use Rattle.commands.specs.Bounds.{Within, program-size, total, items-count}
-use Rattle.machine.specs.Published.{find-step, step-of}
-use Rattle.machine.specs.Machine.{now-written}
-use Rattle.sound.specs.Tags.{Tags, tags, at-start, Asks, Way, Way.start, Way.on, Way.over}
-use Rattle.sound.specs.SafeLaws.{ready, way-safe}
-use Rattle.sound.specs.Steps.{step-safe}
+use Rattle.commands.specs.Tags.{Tags, tags, at-start, Asks, Way, Way.start, Way.on, Way.over}
+use Rattle.commands.specs.SafeLaws.{ready, way-safe}
+use Rattle.commands.specs.Steps.{step-safe}
 
 -- a program has a step that leads to a command which lacks what it asks for
 pub record Lacking (p : Program) : Type 0 where
