@@ -1,22 +1,19 @@
 -- On the images of streams the entries come to what the streams say (01, 'Blocks').
 use Prim.Native.Nat.{ℕ, _*_, _≤_}
 use native.Mathlib.Omega.{arith}
-use mathlib.Core.Path.{_≡_, refl, sym, ap, _∙_}
-use mathlib.Core.Bool.{Bool, true, false, _||_}
-use mathlib.Core.List.{List, [], _∷_, _++_}
+use mathlib.Core.Path.{_≡_, refl}
+use mathlib.Core.List.{List, _++_}
 use lib.ListN.{length, drop}
-use lib.Dec.{ltb}
 use borrow.Author.Tests.{le-ltb}
-use Rattle.types.specs.Limits.{program-blocks, table-blocks, max-commands, max-turns}
+use Rattle.types.specs.Limits.{program-blocks, table-blocks, max-commands}
 use Rattle.blocks.specs.Blocks.{block-size, payload-size}
-use Rattle.blocks.specs.Images.{fault, stream, image, image-of, pieces}
+use Rattle.blocks.specs.Images.{image, image-of, pieces}
 use Rattle.blocks.specs.ImageRoundTrip.{image-accepted, image-stream}
-use Rattle.program.specs.Tree.{Program}
 use Rattle.program.specs.Reader.{read}
 use Rattle.run.specs.Run.{Outcome, Outcome.stopped, Outcome.jammed, run}
 use Rattle.run.specs.Begin.{begin}
-use Rattle.run.specs.Entry.{Checked, Checked.accepted, Checked.refused, of-read, of-image, checked, Begun, Begun.begun, Begun.not-begun, of-table, of-table-image, of-checked, with-room, begins, report-of, output-of, run-report-by, run-output-by, run-report, run-output, last-stream}
-use Rattle.run.specs.EntryStreams.{Summary, of-outcome, summed, reported, table-read, begins-streams}
+use Rattle.run.specs.Entry.{Checked, Checked.accepted, Checked.refused, of-read, of-image, checked, Begun, Begun.begun, Begun.not-begun, of-table-image, of-checked, begins, report-of, output-of, run-report-by, run-output-by}
+use Rattle.run.specs.EntryStreams.{of-outcome, summed, reported, table-read, begins-streams}
 
 -- the report and the output of a run, from number, turns, depth and stream
 pub report-summed : (b : Begun) (es : List ℕ) → run-report-by b es ≡ reported (summed b es)

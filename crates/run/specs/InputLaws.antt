@@ -2,10 +2,10 @@
 -- condition is foremost, and begins exactly where none holds.
 use Prim.Native.Nat.{ℕ, _*_, _<_, _≤_}
 use native.Mathlib.Omega.{arith}
-use mathlib.Core.Path.{_≡_, refl, sym, ap, subst, _∙_}
+use mathlib.Core.Path.{_≡_, refl, sym, ap, subst}
 use mathlib.Core.Logic.{_↔_, _⊎_, inl, inr}
-use mathlib.Core.Bool.{Bool, true, false, _||_}
-use mathlib.Core.List.{List, [], _∷_, _++_}
+use mathlib.Core.Bool.{Bool, _||_}
+use mathlib.Core.List.{List, [], _∷_}
 use lib.ListN.{length}
 use lib.Dec.{ltb}
 use Rattle.types.specs.Limits.{table-blocks, max-commands, max-turns}
@@ -25,7 +25,7 @@ use Rattle.table.specs.TableReader.{TableAnswer, TableAnswer.table, TableAnswer
 use Rattle.table.specs.TableLaws.{table-answer-exact, table-numbers}
 use Rattle.run.specs.Run.{run}
 use Rattle.run.specs.Begin.{begin}
-use Rattle.run.specs.Entry.{Checked, Checked.accepted, Checked.refused, checked, Begun, Begun.begun, Begun.not-begun, of-table, of-table-image, of-checked, with-room, begins, report, report-of, output-of, listed, run-report-by, run-output-by, run-list-by, run-report, run-output, run-list}
+use Rattle.run.specs.Entry.{Checked, Checked.refused, checked, Begun, Begun.begun, Begun.not-begun, of-table, of-table-image, of-checked, with-room, begins, report, report-of, output-of, listed, run-report-by, run-output-by, run-list-by, run-report, run-output, run-list}
 use Rattle.run.specs.Input.{ImageRight, Reads, Accepted, TableAccepted, Ready, ProgramRefuses, Refuses, Refuses.of-program, Refuses.table-length, Refuses.table-block, Refuses.table-ends, Refuses.table-values, Refuses.output-short, Refuses.list-short, Refuses.turns-many, program-order, order}
 use Rattle.run.specs.InputOrder.{NoneOf, Alike, foremost-alike, none-alike, alike-where, Tells, Tells.refuses, Tells.passes, here, past, past-all, tells-number, tells-none}
 use Rattle.run.specs.InputProgram.{one-program, no-fault, Passed, tell-checked, accepted-none, low, program-low}
@@ -210,11 +210,10 @@ module _ (x y es out list : List ℕ) where
       → (run-report x y es out list ≡ report n 0 0 0) × (run-output x y es out list ≡ out) × (run-list x y es out list ≡ list)
   unfolding run-report run-output run-list run-report-by run-output-by run-list-by
   refusal-untouched n q =
-      let e = begins-number n .1 q in
-      (
+      let e = begins-number n .1 q in (
         ap (λ (b : Begun). run-report-by b es) e,
         ap (λ (b : Begun). run-output-by b es out) e,
-        ap (λ (b : Begun). run-list-by b list) e
+        ap (λ (b : Begun). run-list-by b list) e,
       )
 
   -- a ready run answers what `run` comes to
@@ -224,9 +223,8 @@ module _ (x y es out list : List ℕ) where
       × (run-list x y es out list ≡ listed p list)
   unfolding run-report run-output run-list run-report-by run-output-by run-list-by
   ready-runs p rs r =
-      let e = begins-ready p rs .1 r in
-      (
+      let e = begins-ready p rs .1 r in (
         ap (λ (b : Begun). run-report-by b es) e,
         ap (λ (b : Begun). run-output-by b es out) e,
-        ap (λ (b : Begun). run-list-by b list) e
+        ap (λ (b : Begun). run-list-by b list) e,
       )

@@ -5,7 +5,7 @@ use native.Mathlib.Omega.{arith}
 use mathlib.Core.Path.{_≡_, refl, sym, ap, subst, _∙_}
 use mathlib.Core.Logic.{_↔_}
 use mathlib.Core.Bool.{Bool, true, false}
-use mathlib.Core.List.{List, [], _∷_, _++_}
+use mathlib.Core.List.{List, [], _∷_}
 use lib.ListN.{length}
 use borrow.Author.Tests.{le-ltb}
 use Rattle.types.specs.Limits.{program-blocks, max-commands}
@@ -270,8 +270,7 @@ module _ (x list : List ℕ) where
       → (check-verdict x list ≡ approval p) × (check-list x list ≡ listed p list)
   unfolding check-verdict verdict-of check-list list-of
   check-approved p a h =
-      let e = checked-accepted x p .1 a in
-      (
+      let e = checked-accepted x p .1 a in (
         ap (λ (c : Checked). verdict-of c list) e ∙ rw (le-ltb (length list) max-commands h, verdict-of),
-        ap (λ (c : Checked). list-of c list) e ∙ rw (le-ltb (length list) max-commands h, list-of)
+        ap (λ (c : Checked). list-of c list) e ∙ rw (le-ltb (length list) max-commands h, list-of),
       )

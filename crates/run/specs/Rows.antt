@@ -3,7 +3,7 @@
 use Prim.Native.Nat.{ℕ, _*_, _≤_}
 use native.Mathlib.Omega.{arith}
 use mathlib.Core.Path.{_≡_, refl, ap, _∙_}
-use mathlib.Core.Bool.{Bool, true, false, _&&_}
+use mathlib.Core.Bool.{Bool, true, _&&_}
 use mathlib.Core.List.{List, [], _∷_, _++_, map}
 use lib.ListN.{length, drop, replicate}
 use lib.Dec.{leb}
@@ -18,7 +18,7 @@ use Rattle.program.specs.Rows.{program, adding, addings}
 use Rattle.run.specs.Entry.{Checked, Checked.accepted, Checked.refused, Verdict, refusal, approval, verdict-of, check-verdict, program-words, listed, list-of, check-list, of-read, Begun, run-report-by, run-output-by, run-report, run-output}
 use Rattle.run.specs.EntryStreams.{Summary, summary, summed, reported, begins-streams}
 use Rattle.run.specs.EntryStreamLaws.{report-summed, output-summed, checked-image, begins-image}
-use Rattle.run.specs.RowsOpen.{checking, running}
+use Rattle.run.specs.RowsOpen.{running}
 use Rattle.run.specs.RowPrograms.{P, P-with, once, twice, in-fix, P-65, nots, constructs, labels, labels-in-if, one-in-fix, local-7, both-sides, constructing, inner-fix, itself, nothing, chosen-by, along-path, no-such-step, truth-as-int, cell, single, empty, cells, plain}
 
 -- streams and turn bytes; the verdict on the program; number, turns, depth and the last table's stream
@@ -40,7 +40,7 @@ pub record RowRight (r : Row) : Type 0 where
       → run-report (image (r .program)) (image (r .table)) (r .turns) out list ≡ reported (r .comes-to)
   pub output : (out list : List ℕ) → block-size * table-blocks ≤ length out → max-commands ≤ length list
       → run-output (image (r .program)) (image (r .table)) (r .turns) out list
-        ≡ left-in (r .comes-to) out
+      ≡ left-in (r .comes-to) out
 
 -- The rows -----------------------------------------------------------------------------
 
@@ -89,7 +89,7 @@ rows =
     -- the table as it stands, not as given, at 33 and at 35; 33 comes before what the next command would meet
     ∷ row (P-with 1 twice) (cells 2 (cell 5 0 ++ cell 7 1)) (zeros 25) (ok 1 1 8 2) (summary 33 25 2 (cells 2 (cell 5 0 ++ cell 12 1)))
     ∷ row (P-with 1 twice) (cells 2 (cell 1 0 ++ cell 2147483646 1)) (zeros 48) (ok 1 1 8 2)
-      (summary 35 45 2 (cells 2 (cell 1 0 ++ cell 2147483647 1)))
+    (summary 35 45 2 (cells 2 (cell 1 0 ++ cell 2147483647 1)))
     ∷ of-P (cells 2 (cell 1 0 ++ cell 2147483647 1)) (zeros 21) 33 21 (cells 2 (cell 1 0 ++ cell 2147483647 1))
     -- the schedule moves on behind the last byte
     ∷ row (P-with 1 twice) (cells 2 (cell 5 0 ++ cell 7 1)) (zeros 24) (ok 1 1 8 2) (summary 33 24 2 (cells 2 (cell 5 0 ++ cell 12 1)))
@@ -118,7 +118,7 @@ rows =
     ∷ row (chosen-by (1 ∷ 2 ∷ 0 ∷ 0 ∷ [])) empty (zeros 9) (ok 3 2 4 1) (summary 0 1 1 (plain 1 2))
     ∷ row (chosen-by (1 ∷ 2 ∷ 1 ∷ 0 ∷ [])) empty (zeros 9) (ok 3 2 4 1) (summary 0 2 1 empty)
     ∷ row along-path (cells 3 (cell 5 2 ++ cell 6 3 ++ cell 7 0)) (zeros 24) (ok 1 1 6 2)
-      (summary 0 24 2 (cells 3 (cell 5 2 ++ cell 6 3 ++ cell 5 0)))
+    (summary 0 24 2 (cells 3 (cell 5 2 ++ cell 6 3 ++ cell 5 0)))
     -- the other numbers from the input, and which comes first
     ∷ no-program (P ++ 0 ∷ []) 4
     ∷ no-program no-such-step 7
