@@ -1,2 +1,4 @@
 pub mod Facts
+pub mod CodeOps
+pub mod CodeDigits
 pub mod ProgramFacts

@@ -1,0 +1,19 @@
+-- `expression::negated` meets its contract.
+use native.Mathlib.Numerals.{add-one}
+use Rattle.facts.specs.Facts.{negated}
+use borrow.Author.Needs.{needs}
+use Rattle.facts.proofs.expression.negated.Statement.{statement}
+use Rattle.facts.proofs.expression.negated.Tie as tie
+
+add-t2 : tie.Need-add-t2
+add-t2 c = search needs
+
+demand-requires : tie.Need-demand-requires
+demand-requires c κs = search needs
+
+returns : tie.Need-returns
+unfolding negated
+returns c = simp (negated, c .demand .ensures, add-one)
+
+pub negated-spec : {M : Type 1} → statement M
+negated-spec = tie.close (tie.spec add-t2 demand-requires returns)
