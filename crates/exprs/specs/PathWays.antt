@@ -1,0 +1,92 @@
+-- Each way through the reader of paths (01, 'Program stream' and 'Names, types, commands').
+use Prim.Native.Nat.{ℕ, zero, suc, _+_, _-_, _<_, _≤_}
+use native.Mathlib.Omega.{arith}
+use native.Mathlib.Numerals.{sub-one, one-add}
+use native.Mathlib.Nat.{add-zero}
+use mathlib.Core.Path.{_≡_, refl, sym, _∙_}
+use mathlib.Core.List.{List, [], _∷_}
+use lib.ListN.{length, getD}
+use Rattle.program.specs.Tree.{Var}
+use Rattle.program.specs.Reader.{Result, Result.ok, Result.bad, then, pair, made, many, var-of, ranged, counted, read-var, read-path}
+use Rattle.facts.specs.declared.Judged.{Judged}
+use Rattle.facts.specs.declared.Facts.{Facts}
+use Rattle.facts.specs.Facts.{lead-by, lead, start-of, path-of, travelled}
+use Rattle.exprs.specs.declared.read.ByteRead.{ByteRead}
+use Rattle.exprs.specs.declared.read.ByteRead.the-variants.{Byte, NoByte}
+use Rattle.exprs.specs.declared.read.PathRead.{PathRead}
+use Rattle.exprs.specs.declared.read.PathRead.the-variants.{Path, NoPath}
+use Rattle.exprs.specs.declared.read.ExprRead.the-variants.{Value, Refused}
+use Rattle.exprs.specs.Told.{told, byte-told, path-told, row-told, read-vars, PathSpan}
+use Rattle.exprs.specs.ByteWays.{byte-is, byte-stops}
+
+module _ (s ar types : List ℕ) where
+  -- the parameters behind a value: none, one that is not read, one and the others
+  module _ (j : Judged) (n c at : ℕ) where
+    pub row-none : n ≡ 0 → row-told (lead ar types j) c (many [] _∷_ (ranged s 0 8) n at) ≡ Path at c j
+    unfolding many lead
+    row-none e = rw e (rw add-zero)
+
+    pub row-stop : (n ≡ 0 → ⊥) → (k : ℕ) → byte-told (ranged s 0 8 at) ≡ NoByte k → row-told (lead ar types j) c (many [] _∷_ (ranged s 0 8) n at) ≡ NoPath k
+    unfolding many then
+    row-stop z k e = go n z
+      where
+        go : (n : ℕ) → (n ≡ 0 → ⊥) → row-told (lead ar types j) c (many [] _∷_ (ranged s 0 8) n at) ≡ NoPath k
+        go zero z = absurd (z refl)
+        go (suc n) z = rw (byte-stops (ranged s 0 8 at) k e .1)
+
+    pub row-more : (n ≡ 0 → ⊥) → (x m : ℕ) → byte-told (ranged s 0 8 at) ≡ Byte x m
+        → row-told (lead ar types j) c (many [] _∷_ (ranged s 0 8) n at) ≡ row-told (lead ar types (lead-by ar types j x)) (c + 1) (many [] _∷_ (ranged s 0 8) (n - 1) m)
+    unfolding many then lead
+    row-more z x m e = go n z
+      where
+        one : (r : Result (List ℕ)) → row-told (lead ar types j) c (then r λ xs k. ok (x ∷ xs) k) ≡ row-told (lead ar types (lead-by ar types j x)) (c + 1) r
+        one (ok xs k) = let h : c + suc (length xs) ≡ c + 1 + length xs = omega arith in rw h
+        one (bad p k) = refl
+
+        go : (n : ℕ) → (n ≡ 0 → ⊥) → row-told (lead ar types j) c (many [] _∷_ (ranged s 0 8) n at) ≡ row-told (lead ar types (lead-by ar types j x)) (c + 1) (many [] _∷_ (ranged s 0 8) (n - 1) m)
+        go zero z = absurd (z refl)
+        go (suc n) z = rw (byte-is (ranged s 0 8 at) x m e, sub-one) (one (many [] _∷_ (ranged s 0 8) n m))
+
+  module _ (own w n at : ℕ) where
+    -- the first variable, which is not read, or is, with the others behind it
+    pub vars-stop : (k : ℕ) → byte-told (ranged s 0 16 at) ≡ NoByte k → path-told (path-of ar types own w) (read-vars s n at) ≡ NoPath k
+    unfolding read-vars pair read-var made then
+    vars-stop k e = rw (byte-stops (ranged s 0 16 at) k e .1)
+
+    pub vars-more : (b m : ℕ) → byte-told (ranged s 0 16 at) ≡ Byte b m
+        → path-told (path-of ar types own w) (read-vars s n at) ≡ row-told (lead ar types (start-of ar types own w (var-of b))) 1 (many [] _∷_ (ranged s 0 8) (n - 1) m)
+    unfolding read-vars pair read-var made then path-of
+    vars-more b m e = rw (byte-is (ranged s 0 16 at) b m e) (one (many [] _∷_ (ranged s 0 8) (n - 1) m))
+      where
+        one : (r : Result (List ℕ)) → path-told (path-of ar types own w) (then r λ xs k. ok (var-of b, xs) k) ≡ row-told (lead ar types (start-of ar types own w (var-of b))) 1 r
+        one (ok xs k) = rw one-add
+        one (bad p k) = refl
+
+    -- the count of the variables, which is not read, or is, with them behind it
+    pub path-stop : (k : ℕ) → byte-told (ranged s 1 5 at) ≡ NoByte k → path-told (path-of ar types own w) (read-path s at) ≡ NoPath k
+    unfolding read-path counted then
+    path-stop k e = rw (byte-stops (ranged s 1 5 at) k e .1)
+
+    pub path-more : (m : ℕ) → byte-told (ranged s 1 5 at) ≡ Byte n m → path-told (path-of ar types own w) (read-path s at) ≡ path-told (path-of ar types own w) (read-vars s n m)
+    unfolding read-path counted then read-vars
+    path-more m e = rw (byte-is (ranged s 1 5 at) n m e)
+
+-- a path as an expression
+pub path-is : (f : Var → List ℕ → Judged) (q : Result (Var × List ℕ)) (m n : ℕ) (j : Judged) → path-told f q ≡ Path m n j
+    → told (λ p. travelled (suc (length (p .1))) (f (p .0) (p .1))) q ≡ Value m (travelled n j)
+path-is f (ok p k) m n j e = let h : suc (length (p .1)) ≡ n = cc in let i : f (p .0) (p .1) ≡ j = cc in let l : k ≡ m = cc in rw (h, i, l)
+path-is f (bad p k) m n j e = let z : _≡_ {A = ℕ} 0 1 = cc in absurd (omega arith)
+
+pub path-not : (f : Var → List ℕ → Judged) (q : Result (Var × List ℕ)) (n : ℕ) → path-told f q ≡ NoPath n
+    → told (λ p. travelled (suc (length (p .1))) (f (p .0) (p .1))) q ≡ Refused n
+path-not f (ok p k) n e = let z : _≡_ {A = ℕ} 0 1 = cc in absurd (omega arith)
+path-not f (bad p k) n e = cc
+
+-- the bytes of one variable more
+pub span-row : (s : List ℕ) (n c at m : ℕ) (r : PathRead) → (n ≡ 0 → ⊥) → m ≡ at + 1 → PathSpan s (c + 1) (n - 1 + (c + 1)) m r → PathSpan s c (n + c) at r
+span-row s n c at m (Path k i j) z e h = omega arith
+span-row s n c at m (NoPath k) z e h = tt
+
+pub span-first : (s : List ℕ) (n at m : ℕ) (r : PathRead) → 1 ≤ n → n < 5 → m ≡ at + 1 → PathSpan s 1 (n - 1 + 1) m r → PathSpan s 0 4 at r
+span-first s n at m (Path k i j) p q e h = omega arith
+span-first s n at m (NoPath k) p q e h = tt

@@ -1,0 +1,55 @@
+// Paths, read and followed variable by variable.
+use crate::read;
+use crate::read::ByteRead;
+use crate::read::PathRead;
+use facts::Judged;
+ghost use mathlib.Core.Path.{_≡_};
+ghost use mathlib.Core.List.{[], _∷_};
+ghost use Prim.Native.Nat.{_+_, _<_, _≤_};
+ghost use lib.ListN.{length};
+ghost use Rattle.program.specs.Reader.{many, ranged, read-path};
+ghost use Rattle.facts.specs.Facts.{lead, path-of};
+ghost use Rattle.exprs.specs.Told.{path-told, row-told, read-vars, PathSpan};
+
+// From a value, n parameters on, c variables in.
+fn follow(s: &[u8], ar: &[u8], types: &[u8], j: Judged, n: u8, c: u8, at: usize) -> PathRead
+    requires { ⌜ (at ≤ length (now s)) × (n + c < 256) ⌝ }
+    ensures { λ r. ⌜ r ≡ row-told (lead (now (ar .entry)) (now (types .entry)) j) c (many [] _∷_ (ranged (now (s .entry)) 0 8) n at) ⌝ }
+    ensures { λ r. ⌜ PathSpan (now (s .entry)) c (n + c) at r ⌝ }
+{
+    if n == 0 {
+        return PathRead::Path(at, c, j);
+    }
+    match read::ranged(s, 0, 8, at) {
+        ByteRead::NoByte(k) => PathRead::NoPath(k),
+        ByteRead::Byte(x, m) => {
+            let next = facts::path::lead_by(ar, types, j, x);
+            follow(s, ar, types, next, n - 1, c + 1, m)
+        }
+    }
+}
+
+// The first variable of a path and n - 1 parameters behind it.
+fn first(s: &[u8], ar: &[u8], types: &[u8], own: u8, live: u64, n: u8, at: usize) -> PathRead
+    requires { ⌜ (1 ≤ n) × (n < 5) ⌝ }
+    ensures { λ r. ⌜ r ≡ path-told (path-of (now (ar .entry)) (now (types .entry)) own live) (read-vars (now (s .entry)) n at) ⌝ }
+    ensures { λ r. ⌜ PathSpan (now (s .entry)) 0 4 at r ⌝ }
+{
+    match read::ranged(s, 0, 16, at) {
+        ByteRead::NoByte(k) => PathRead::NoPath(k),
+        ByteRead::Byte(b, m) => {
+            let j = facts::path::start(ar, types, own, live, b);
+            follow(s, ar, types, j, n - 1, 1, m)
+        }
+    }
+}
+
+pub fn path(s: &[u8], ar: &[u8], types: &[u8], own: u8, live: u64, at: usize) -> PathRead
+    ensures { λ r. ⌜ r ≡ path-told (path-of (now (ar .entry)) (now (types .entry)) own live) (read-path (now (s .entry)) at) ⌝ }
+    ensures { λ r. ⌜ PathSpan (now (s .entry)) 0 4 (at + 1) r ⌝ }
+{
+    match read::ranged(s, 1, 5, at) {
+        ByteRead::NoByte(k) => PathRead::NoPath(k),
+        ByteRead::Byte(n, m) => first(s, ar, types, own, live, n, m),
+    }
+}
