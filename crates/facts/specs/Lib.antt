@@ -16,3 +16,4 @@ pub mod FactRows
 pub mod ByteBoundLaws
 pub mod CodeOps
 pub mod CodeDigits
+pub mod ProgramFacts
