@@ -1,0 +1,34 @@
+use borrow.Author.Needs.{needs}
+use Rattle.emit.proofs.words.null_word.Statement.{statement}
+use borrow.Author.Tests.{lt-ltb, le-ltb}
+use mathlib.Core.Path.{_∙_}
+use Rattle.emit.specs.Leaf.{null-low, null-high}
+use Rattle.emit.proofs.words.null_word.Tie as tie
+use Rattle.emit.proofs.words.null_word.Reads as reads
+use Rattle.emit.proofs.words.null_word.Lts as lts
+use Rattle.emit.proofs.words.coded.Reads as coded-reads
+use Rattle.emit.proofs.words.wide.Reads as wide-reads
+
+-- src/words.rt:66:9
+wide-requires : tie.Need-wide-requires
+wide-requires c κs = search needs
+
+-- src/words.rt:68:9
+coded-requires : tie.Need-coded-requires
+coded-requires c κs = search needs
+
+-- src/words.rt:68:9
+returns : tie.Need-returns
+returns c = null-low _ _ _ ((c .before .before .wide) .ensures .0) ((c .before .if1) .taken) ((c .coded) .ensures)
+
+-- src/words.rt:70:5
+coded-requires-2 : tie.Need-coded-requires-2
+coded-requires-2 c κs = search needs
+
+-- src/words.rt:63:1
+returns-2 : tie.Need-returns-2
+returns-2 c = null-high _ _ _ ((c .before .before .wide) .ensures .0) ((c .before .if1) .left) ((c .coded2) .ensures)
+
+pub null-word-spec : {M : Type 1} → statement M
+null-word-spec =
+    tie.close (tie.spec wide-requires coded-requires returns coded-requires-2 returns-2)

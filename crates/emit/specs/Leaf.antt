@@ -1,0 +1,49 @@
+-- The words of literals, of null and of this, and of the variables of a path, off the bytes of the stream.
+use Prim.Native.Nat.{ℕ, zero, suc, _+_, _-_, _*_, _<_, _≤_}
+use native.Mathlib.Omega.{arith}
+use mathlib.Core.Path.{_≡_, refl, _∙_}
+use borrow.Author.Tests.{lt-ltb, le-ltb}
+use mathlib.Core.List.{List, [], _∷_}
+use mathlib.Core.Bool.{true, false}
+use lib.ListN.{getD}
+use lib.Dec.{ltb}
+use Rattle.commands.specs.Coding.{coded}
+
+-- the number of four bytes, the lowest first
+unfoldable pub word-at : List ℕ → ℕ → ℕ
+word-at s at = getD s at 0 + 256 * getD s (at + 1) 0 + 65536 * getD s (at + 2) 0 + 16777216 * getD s (at + 3) 0
+
+-- the push of a type's default, by the type's byte
+unfoldable pub null-word : ℕ → ℕ
+null-word b = elim (ltb b 16) [ true ↦ coded 1 b 0 | false ↦ coded 1 b (b - 16) ]
+
+-- how many bytes the form of a byte has
+unfoldable pub leaf-size : ℕ → ℕ
+leaf-size b = elim (ltb b 21) [ true ↦ 5 | false ↦ elim (ltb b 23) [ true ↦ 2 | false ↦ 1 ] ]
+
+-- the word of the form that a byte opens, with the number behind it
+unfoldable pub byte-word : ℕ → ℕ → ℕ
+byte-word b v = elim (ltb b 22) [ true ↦ coded 1 2 v | false ↦ null-word v ]
+
+unfoldable pub leaf-of : List ℕ → ℕ → ℕ → ℕ
+leaf-of s at b =
+    elim (ltb b 21) [
+      | true ↦ coded 1 (b - 19) (word-at s (at + 1))
+      | false ↦ elim (ltb b 23) [ true ↦ byte-word b (getD s (at + 1) 0) | false ↦ coded 2 0 0 ]
+    ]
+
+unfoldable pub leaf-word : List ℕ → ℕ → ℕ
+leaf-word s at = leaf-of s at (getD s at 0)
+
+-- an rd of each of n bytes
+unfoldable pub rd-words : List ℕ → ℕ → ℕ → List ℕ
+rd-words s at zero = []
+rd-words s at (suc n) = coded 3 0 (getD s at 0) ∷ rd-words s (at + 1) n
+
+pub null-low : (b t r : ℕ) → t ≡ b → t < 16 → r ≡ coded 1 t 0 → r ≡ null-word b
+unfolding null-word
+null-low b t r e h p = let l : b < 16 = omega arith in p ∙ rw (e, null-word, lt-ltb b 16 l)
+
+pub null-high : (b t r : ℕ) → t ≡ b → 16 ≤ t → r ≡ coded 1 t (t - 16) → r ≡ null-word b
+unfolding null-word
+null-high b t r e h p = let l : 16 ≤ b = omega arith in p ∙ rw (e, null-word, le-ltb b 16 l)

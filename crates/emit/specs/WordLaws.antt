@@ -1,0 +1,123 @@
+-- The words of each form of tree (000, definition 2).
+use Prim.Native.Nat.{ℕ, zero, suc, _+_}
+use native.Mathlib.Omega.{arith}
+use native.Mathlib.Nat.{add-zero}
+use mathlib.Core.Path.{_≡_, refl, sym, ap, _∙_}
+use mathlib.Core.List.{List, [], _∷_, _++_, map, append-assoc, append-nil}
+use lib.ListN.{length, getD}
+use Rattle.types.specs.Limits.{first-local}
+use Rattle.program.specs.Tree.{Var, Var.loc, Op, Expr, Expr.inv, Expr.make, Expr.path, Expr.op, Exprs, Exprs.none, Exprs.more, Stmt, Stmt.when, Stmt.declare, Stmt.update, Stmt.create, Stmts, Stmts.end, Stmts.next}
+use Rattle.program.specs.Encoding.{op-code, var-code}
+use Rattle.program.specs.Exact.{Stands, Stands.done, Stands.letter}
+use Rattle.commands.specs.Commands.{Com.push-this, Com.wr, Com.cons, one, Coms, Coms.nil, Coms.act, then, reads, variables, front, last, expr-coms, args-coms, update-coms, stmt-coms, body-coms, Flat, Flat.plain, Flat.if-n, flatten, commands}
+use Rattle.commands.specs.CommandLaws.{flatten-then}
+use Rattle.commands.specs.Coding.{coded, com-word, command-word, words}
+use Rattle.emit.specs.Written.{coms-words, expr-words, args-words, make-words, path-words, target-words, stmt-words, body-words}
+use Rattle.emit.specs.Leaf.{rd-words}
+
+-- commands in a row
+pub words-append : (c d : List Flat) → words (c ++ d) ≡ words c ++ words d
+unfolding words
+words-append [] d = refl
+words-append (x ∷ c) d = ap (λ l. command-word x ∷ l) (words-append c d)
+
+pub words-then : (c d : Coms) → coms-words (then c d) ≡ coms-words c ++ coms-words d
+words-then c d = rw flatten-then (words-append (flatten c) (flatten d))
+
+pub words-length : (c : List Flat) → length (words c) ≡ length c
+unfolding words
+words-length [] = refl
+words-length (x ∷ c) = ap suc (words-length c)
+
+pub inv-words : (e : Expr) → expr-words (inv e) ≡ expr-words e ++ (coded 7 0 0 ∷ [])
+unfolding expr-words expr-coms flatten words command-word com-word
+inv-words e = words-then (expr-coms e) _
+
+pub make-is : (k : ℕ) (es : Exprs) → expr-words (make k es) ≡ make-words (k, es)
+unfolding expr-words expr-coms make-words
+make-is k es = refl
+
+pub cons-words : (k : ℕ) (es : Exprs) → make-words (k, es) ≡ args-words es ++ (coded 5 0 k ∷ [])
+unfolding make-words args-words flatten words command-word com-word
+cons-words k es = words-then (args-coms es) _
+
+pub path-is : (v : Var) (vs : List ℕ) → expr-words (path v vs) ≡ path-words (v, vs)
+unfolding expr-words expr-coms path-words
+path-is v vs = refl
+
+pub op-words : (o : Op) (a b : Expr) → expr-words (op o a b) ≡ expr-words a ++ (expr-words b ++ (coded 8 0 (op-code o) ∷ []))
+unfolding expr-words expr-coms flatten words command-word com-word
+op-words o a b = words-then (expr-coms a) _ ∙ ap (λ l. coms-words (expr-coms a) ++ l) (words-then (expr-coms b) _)
+
+pub no-args : args-words none ≡ []
+unfolding args-words args-coms flatten words
+no-args = refl
+
+pub more-args : (e : Expr) (es : Exprs) → args-words (more e es) ≡ expr-words e ++ args-words es
+unfolding args-words expr-words args-coms
+more-args e es = words-then (expr-coms e) (args-coms es)
+
+pub when-words : (e : Expr) (b : Stmts) → stmt-words (when e b) ≡ expr-words e ++ (coded 6 0 (length (body-words b)) ∷ body-words b)
+unfolding stmt-words expr-words body-words stmt-coms flatten commands words command-word
+when-words e b =
+    words-then (expr-coms e) _
+    ∙ rw (append-nil (flatten (body-coms b)), ← words-length (flatten (body-coms b)))
+
+pub update-words : (v : Var) (vs : List ℕ) (e : Expr) → stmt-words (update v vs e) ≡ expr-words e ++ target-words (v, vs)
+unfolding stmt-words expr-words target-words stmt-coms update-coms
+update-words v vs e = words-then (expr-coms e) _
+
+pub declare-words : (v : ℕ) (e : Expr) (t : _) → stmt-words (declare t v e) ≡ expr-words e ++ (coded 2 0 0 ∷ coded 4 0 (first-local + v) ∷ [])
+unfolding stmt-words expr-words stmt-coms update-coms front last reads then flatten words command-word com-word var-code
+declare-words v e t = words-then (expr-coms e) _
+
+pub create-is : (k : ℕ) (es : Exprs) → stmt-words (create k es) ≡ make-words (k, es)
+unfolding stmt-words stmt-coms make-words
+create-is k es = refl
+
+pub no-stmts : body-words end ≡ []
+unfolding body-words commands body-coms flatten words
+no-stmts = refl
+
+pub more-stmts : (t : Stmt) (b : Stmts) → body-words (next t b) ≡ stmt-words t ++ body-words b
+unfolding body-words stmt-words commands body-coms
+more-stmts t b = words-then (stmt-coms t) (body-coms b)
+
+-- an rd of each variable
+abbrev rds : List ℕ → List ℕ
+rds xs = map (coded 3 0) xs
+
+reads-words : (xs : List ℕ) → coms-words (reads xs) ≡ rds xs
+unfolding reads flatten words command-word com-word
+reads-words [] = refl
+reads-words (x ∷ xs) = ap (λ l. coded 3 0 x ∷ l) (reads-words xs)
+
+pub rds-of : {s xs : List ℕ} {n m : ℕ} → Stands s n xs m → rd-words s n (length xs) ≡ rds xs
+unfolding rd-words
+rds-of done = refl
+rds-of (letter h e p) = rw (e, rds-of p)
+
+front-of : (x : ℕ) (xs : List ℕ) {s : List ℕ} {n m : ℕ} → Stands s n (x ∷ xs) m
+    → (rd-words s n (length xs) ≡ rds (front x xs)) × (getD s (n + length xs) 0 ≡ last x xs)
+unfolding rd-words front last
+front-of x [] (letter h e p) = (refl, rw add-zero e)
+front-of x (y ∷ ys) (letter {n = n} h e p) =
+    let q = front-of y ys p in
+    let i : n + suc (length ys) ≡ n + 1 + length ys = omega arith in
+    (rw (e, q .0), rw i (q .1))
+
+-- a path that is read, off its bytes
+pub path-off : (v : Var) (vs : List ℕ) {s : List ℕ} {n m : ℕ} → Stands s n (var-code v ∷ vs) m
+    → path-words (v, vs) ≡ coded 2 0 0 ∷ rd-words s n (suc (length vs))
+unfolding path-words flatten words command-word com-word
+path-off v vs w = ap (λ l. coded 2 0 0 ∷ l) (reads-words (var-code v ∷ vs) ∙ sym (rds-of w))
+
+target-split : (v : Var) (vs : List ℕ)
+    → target-words (v, vs) ≡ coded 2 0 0 ∷ (rds (front (var-code v) vs) ++ (coded 4 0 (last (var-code v) vs) ∷ []))
+unfolding target-words then flatten words command-word com-word
+target-split v vs = ap (λ l. coded 2 0 0 ∷ l) (words-then (reads (front (var-code v) vs)) _ ∙ rw (reads-words (front (var-code v) vs)))
+
+-- a path that is written, off its bytes
+pub target-off : (v : Var) (vs : List ℕ) {s : List ℕ} {n m : ℕ} → Stands s n (var-code v ∷ vs) m
+    → target-words (v, vs) ≡ coded 2 0 0 ∷ (rd-words s n (length vs) ++ (coded 4 0 (getD s (n + length vs) 0) ∷ []))
+target-off v vs w = let q = front-of (var-code v) vs w in target-split v vs ∙ rw (q .0, q .1)
