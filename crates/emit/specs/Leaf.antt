@@ -32,7 +32,7 @@ leaf-of s at b =
       | false ↦ elim (ltb b 23) [ true ↦ byte-word b (getD s (at + 1) 0) | false ↦ coded 2 0 0 ]
     ]
 
-unfoldable pub leaf-word : List ℕ → ℕ → ℕ
+abbrev pub leaf-word : List ℕ → ℕ → ℕ
 leaf-word s at = leaf-of s at (getD s at 0)
 
 -- an rd of each of n bytes

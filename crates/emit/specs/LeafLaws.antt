@@ -45,22 +45,22 @@ module _ (s : List ℕ) (at : ℕ) where
 
   -- an Int or a Nat
   pub leaf-word-is : getD s at 0 < 21 → {v t r : ℕ} → v ≡ word-at s (at + 1) → t ≡ getD s at 0 - 19 → r ≡ coded 1 t v → r ≡ leaf-word s at
-  unfolding leaf-word leaf-of
+  unfolding leaf-of
   leaf-word-is h p q e = e ∙ rw (leaf-of, lt-ltb (getD s at 0) 21 h, p, q)
 
   -- a Bool
   pub leaf-bool-is : 21 ≤ getD s at 0 → getD s at 0 < 23 → getD s at 0 < 22 → {v r : ℕ} → v ≡ getD s (at + 1) 0 → r ≡ coded 1 2 v → r ≡ leaf-word s at
-  unfolding leaf-word leaf-of byte-word
+  unfolding leaf-of byte-word
   leaf-bool-is h k l p e = e ∙ rw (leaf-of, le-ltb (getD s at 0) 21 h, lt-ltb (getD s at 0) 23 k, byte-word, lt-ltb (getD s at 0) 22 l, p)
 
   -- a null
   pub leaf-null-is : 21 ≤ getD s at 0 → getD s at 0 < 23 → 22 ≤ getD s at 0 → {r : ℕ} → r ≡ null-word (getD s (at + 1) 0) → r ≡ leaf-word s at
-  unfolding leaf-word leaf-of byte-word
+  unfolding leaf-of byte-word
   leaf-null-is h k l e = e ∙ rw (leaf-of, le-ltb (getD s at 0) 21 h, lt-ltb (getD s at 0) 23 k, byte-word, le-ltb (getD s at 0) 22 l)
 
   -- this
   pub leaf-this-is : 21 ≤ getD s at 0 → 23 ≤ getD s at 0 → {r : ℕ} → r ≡ coded 2 0 0 → r ≡ leaf-word s at
-  unfolding leaf-word leaf-of
+  unfolding leaf-of
   leaf-this-is h k e = e ∙ rw (leaf-of, le-ltb (getD s at 0) 21 h, le-ltb (getD s at 0) 23 k)
 
 -- n reads stand from k on, and reading goes on behind n bytes

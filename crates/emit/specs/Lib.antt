@@ -5,3 +5,6 @@ pub mod LeafLaws
 pub mod WordLaws
 pub mod ReadLaws
 pub mod PathLaws
+pub mod Parts
+pub mod ExprLaws
+pub mod LiteralLaws

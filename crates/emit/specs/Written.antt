@@ -5,9 +5,9 @@ use mathlib.Core.Path.{_≡_}
 use mathlib.Core.List.{List, [], _∷_, _++_}
 use lib.ListN.{length}
 use lib.Seq.{sets}
-use Rattle.program.specs.Tree.{Var, Expr, Exprs, Stmt, Stmts, Step, Program}
+use Rattle.program.specs.Tree.{Var, Expr, Exprs, Exprs.none, Exprs.more, Stmt, Stmts, Step, Program}
 use Rattle.program.specs.Encoding.{var-code}
-use Rattle.program.specs.Reader.{Result, Result.ok, Result.bad}
+use Rattle.program.specs.Reader.{Result, Result.ok, Result.bad, many, read-expr, read-make}
 use Rattle.commands.specs.Commands.{Com.push-this, Com.wr, Com.cons, one, then, variables, front, last, expr-coms, args-coms, stmt-coms, body-coms, flatten, Coms, commands}
 use Rattle.commands.specs.Coding.{words}
 use Rattle.emit.specs.declared.Put.{Put}
@@ -66,3 +66,10 @@ stmt-words t = coms-words (stmt-coms t)
 
 unfoldable pub body-words : Stmts → List ℕ
 body-words b = words (commands b)
+
+-- n expressions in a row, and a struct with its arguments, each of at most d levels
+abbrev pub args-at : List ℕ → List ℕ → ℕ → ℕ → ℕ → Result Exprs
+args-at ar s d n at = many none more (λ m. read-expr ar s d m) n at
+
+abbrev pub make-at : List ℕ → List ℕ → ℕ → ℕ → Result (ℕ × Exprs)
+make-at ar s d at = read-make ar s (λ m. read-expr ar s d m) at

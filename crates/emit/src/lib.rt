@@ -1,4 +1,5 @@
 // The second pass of the checker: the commands of an accepted program, written into a list that the caller lends (01, 'Names, types, commands').
+mod exprs;
 mod words;
 
 // Where reading goes on, and where writing goes on.
