@@ -7,26 +7,22 @@ use mathlib.Core.List.{List, [], _∷_, _++_, append-nil}
 use lib.ListN.{length, getD}
 use Rattle.program.specs.Tree.{Op, Expr, Expr.inv, Expr.make, Expr.path, Expr.op, Exprs, Exprs.none, Exprs.more}
 use Rattle.program.specs.Encoding.{op-code}
-use Rattle.program.specs.Reader.{Result, Result.ok, Result.bad, wrong-byte, pair, made, many, byte, ranged, opened, lookup, Form, Form.form-inv, Form.form-make, Form.form-path, Form.form-int, Form.form-nat, Form.form-bool, Form.form-null, Form.form-self, Form.form-op, Form.form-none, form, read-path, read-make, rule-expr, read-expr}
+use Rattle.program.specs.Reader.{Result, Result.ok, Result.bad, wrong-byte, pair, made, many, byte, ranged, lookup, Form, Form.form-inv, Form.form-make, Form.form-path, Form.form-int, Form.form-nat, Form.form-bool, Form.form-null, Form.form-self, Form.form-op, Form.form-none, form, read-path, read-make, rule-expr, read-expr}
 use Rattle.program.specs.ExprLaws.{Opens, opens}
 use Rattle.commands.specs.Coding.{coded}
 use Rattle.emit.specs.Written.{Good, next-of, code-of, Wrote, expr-words, args-words, make-words, path-words, args-at, make-at}
 use Rattle.emit.specs.WordLaws.{inv-words, make-is, cons-words, path-is, op-words, no-args, more-args}
-use Rattle.emit.specs.ReadLaws.{then-value, pair-value, byte-value, ranged-value}
+use Rattle.emit.specs.ReadLaws.{then-value, pair-value, ranged-value, opened-value}
 use Rattle.emit.specs.Parts.{Part, part-of, made-part, Parts, pair-parts, row-none, row-more}
 
 -- an expression stands in the stream, and has a level
 pub expr-step : (ar s : List ℕ) (d at : ℕ) → Good (read-expr ar s d at)
     → (at < length s) × (0 < d) × (read-expr ar s d at ≡ rule-expr ar s (λ n. read-expr ar s (d - 1) n) at (at + 1) (form (getD s at 0)))
-unfolding read-expr opened
+unfolding read-expr
 expr-step ar s zero at g = absurd (then-value (byte s at) _ g .4)
 expr-step ar s (suc d) at g =
-    let p = then-value (byte s at) _ g in
-    let b = byte-value s at (rw (p .2) tt) in
-    let e : ok (p .0) (p .1) ≡ ok (getD s at 0) (at + 1) = sym (p .2) ∙ b .1 in
-    let e0 : p .0 ≡ getD s at 0 = cc in
-    let e1 : p .1 ≡ at + 1 = cc in
-    (b .0, omega arith, p .3 ∙ rw (e0, e1, sub-one))
+    let p = opened-value s form (λ at k f. rule-expr ar s (λ n. read-expr ar s d n) at k f) at g in
+    (p .0, omega arith, rw sub-one (p .1))
 
 module _ (ar s : List ℕ) (d at : ℕ) (g : Good (read-expr ar s d at)) where
   abbrev deeper : ℕ → Result Expr

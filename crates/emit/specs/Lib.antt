@@ -8,3 +8,4 @@ pub mod PathLaws
 pub mod Parts
 pub mod ExprLaws
 pub mod LiteralLaws
+pub mod StmtLaws

@@ -36,6 +36,9 @@ pub parts-of : {A B C : Type 0} (F : A → List ℕ) (f : B → List ℕ) (g : C
 unfolding code-of next-of
 parts-of F f g q p h i e = record { first = rw h tt; second = rw (h, i) tt; code = rw (p, h, i) e; next = rw (p, h, i) }
 
+pub same-part : {A : Type 0} (F : A → List ℕ) {R r : Result A} → R ≡ r → Good R → Part F R F r []
+same-part F p g = record { good = rw p at g; code = ap (code-of F) p ∙ sym (append-nil _); next = ap next-of p }
+
 pub made-part : {A B : Type 0} (F : A → List ℕ) (f : B → List ℕ) (h : B → A) (r : Result B) {R : Result A} {ws : List ℕ} → R ≡ made h r → Good R
     → ((b : B) → F (h b) ≡ f b ++ ws) → Part F R f r ws
 made-part F f h r p g e = let v = made-value h r (rw p at g) in part-of F f (p ∙ v .3) (v .2) (e (v .0))
@@ -49,7 +52,12 @@ pair-parts F f g h r q p k e =
 
 module _ {A B : Type 0} {F : A → List ℕ} {R : Result A} {f : B → List ℕ} {r : Result B} {ws : List ℕ} (h : Part F R f r ws) where
   pub part-ready : {out : List ℕ} {k : ℕ} → Ready F R out k → Ready f r out k
-  part-ready w = record { good = h .good; room = omega (arith, simp (h .code, length-append) at (w .room)) }
+  part-ready w =
+      record {
+        good = h .good;
+        room = omega (arith, simp (h .code, length-append) at (w .room));
+        few = omega (arith, simp (h .code, length-append) at (w .few));
+      }
 
   -- room behind the part
   pub part-room : {out : List ℕ} {k : ℕ} → Ready F R out k → {p : Put} {out1 : List ℕ} → Wrote f r out k p out1 → p .at + length ws ≤ length out1
@@ -59,6 +67,13 @@ module _ {A B : Type 0} {F : A → List ℕ} {R : Result A} {f : B → List ℕ}
   pub part-wrote : {out : List ℕ} {k : ℕ} {p q : Put} {out1 out2 : List ℕ} → Wrote f r out k p out1 → Placed ws (p .next) out1 (p .at) q out2
       → Wrote F R out k q out2
   part-wrote g i = placed-as (placed-on g i) (h .code) (h .next ∙ sym (g .next))
+
+-- what is read elsewhere and stands behind the part
+pub part-rest : {A B C : Type 0} {F : A → List ℕ} {R : Result A} {f : B → List ℕ} {r : Result B} (t : C → List ℕ) (u : Result C)
+    → Part F R f r (code-of t u) → Good u → {out : List ℕ} {k : ℕ} → Ready F R out k → {p : Put} {out1 : List ℕ} → Wrote f r out k p out1
+    → Ready t u out1 (p .at)
+part-rest t u h v w g =
+    record { good = v; room = part-room h w g; few = omega (arith, simp (h .code, length-append) at (w .few)) }
 
 module _ {A B : Type 0} {F : A → List ℕ} {R : Result A} {f : B → List ℕ} {r : Result B} where
   pub part-same : Part F R f r [] → {out : List ℕ} {k : ℕ} {p : Put} {out1 : List ℕ} → Wrote f r out k p out1 → Wrote F R out k p out1
@@ -71,7 +86,12 @@ module _ {A B : Type 0} {F : A → List ℕ} {R : Result A} {f : B → List ℕ}
 module _ {A B C : Type 0} {F : A → List ℕ} {R : Result A} {f : B → List ℕ} {r : Result B} {g : C → List ℕ} {q : ℕ → Result C} where
   module _ {ws : List ℕ} (h : Parts F R f r g q ws) {out : List ℕ} {k : ℕ} (w : Ready F R out k) where
     pub parts-ready : Ready f r out k
-    parts-ready = record { good = h .first; room = omega (arith, simp (h .code, length-append) at (w .room)) }
+    parts-ready =
+        record {
+          good = h .first;
+          room = omega (arith, simp (h .code, length-append) at (w .room));
+          few = omega (arith, simp (h .code, length-append) at (w .few));
+        }
 
     module _ {p : Put} {out1 : List ℕ} (d : Wrote f r out k p out1) where
       pub parts-next : Ready g (q (p .next)) out1 (p .at)
@@ -79,6 +99,7 @@ module _ {A B C : Type 0} {F : A → List ℕ} {R : Result A} {f : B → List �
           rw (d .next) (record {
             good = h .second;
             room = omega (arith, simp (h .code, length-append) at (w .room), d .at, placed-kept d);
+            few = omega (arith, simp (h .code, length-append) at (w .few));
           })
 
       pub parts-room : {u : Put} {out2 : List ℕ} → Wrote g (q (p .next)) out1 (p .at) u out2 → u .at + length ws ≤ length out2

@@ -5,9 +5,9 @@ use native.Mathlib.Numerals.{sub-one}
 use mathlib.Core.Path.{_≡_, refl, sym, ap, _∙_}
 use mathlib.Core.List.{List, [], _∷_, _++_}
 use lib.ListN.{length, getD}
-use Rattle.program.specs.Reader.{Result, Result.ok, Result.bad, then, pair, made, many, byte, ranged}
+use Rattle.program.specs.Reader.{Result, Result.ok, Result.bad, then, pair, made, many, byte, ranged, counted, opened}
 use Rattle.program.specs.Exact.{Stands, Stands.done, Stands.letter, Exact}
-use Rattle.program.specs.PartLaws.{told-is, byte-exact}
+use Rattle.program.specs.PartLaws.{told-is, then-ok, byte-exact}
 use Rattle.program.specs.JoinLaws.{Within, ranged-exact}
 use Rattle.emit.specs.Written.{Good, next-of, code-of}
 
@@ -37,6 +37,10 @@ pair-value r q g =
     let p = then-value r _ g in
     let u = then-value (q (p .0) (p .1)) _ (p .4) in
     (p .0, p .1, u .0, u .1, p .2, u .2, p .3 ∙ u .3)
+
+pub pair-ok : {A B : Type 0} {r : Result A} (q : A → ℕ → Result B) {a : A} {b : B} {k m : ℕ} → r ≡ ok a k → q a k ≡ ok b m → pair r q ≡ ok (a, b) m
+unfolding pair
+pair-ok q e f = then-ok _ e (then-ok _ f refl)
 
 -- of n things in a row
 pub many-value : {A B : Type 0} (z : B) (c : A → B → B) (r : ℕ → Result A) (n at : ℕ) → (n ≡ 0 → ⊥) → Good (many z c r n at)
@@ -72,3 +76,25 @@ ranged-value s lo hi at g =
     go : (b m : ℕ) → ranged s lo hi at ≡ ok b m → Within lo hi b → Stands s at (b ∷ []) m
         → (at < length s) × (Within lo hi (getD s at 0)) × (ranged s lo hi at ≡ ok (getD s at 0) (at + 1))
     go b m e w (letter h f done) = (h, rw f w, e ∙ rw f)
+
+-- a byte that stands at a place
+pub one-stands : {s : List ℕ} {n b m : ℕ} → Stands s n (b ∷ []) m → (n < length s) × (getD s n 0 ≡ b) × (m ≡ n + 1)
+one-stands (letter h e done) = (h, e, refl)
+
+-- of a count and what it counts
+pub counted-value : {B : Type 0} (s : List ℕ) (lo hi : ℕ) (q : ℕ → ℕ → Result B) (at : ℕ) → Good (counted s lo hi q at)
+    → (at < length s) × (counted s lo hi q at ≡ q (getD s at 0) (at + 1))
+unfolding counted
+counted-value s lo hi q at g =
+    let p = then-value (ranged s lo (suc hi) at) q g in
+    let b = ranged-value s lo (suc hi) at (rw (p .2) tt) in
+    (b .0, then-ok q (b .2) refl)
+
+-- of what a byte opens
+pub opened-value : {I A : Type 0} (s : List ℕ) (key : ℕ → I) (rule : ℕ → ℕ → I → Result A) (at : ℕ) → Good (opened s key rule at)
+    → (at < length s) × (opened s key rule at ≡ rule at (at + 1) (key (getD s at 0)))
+unfolding opened
+opened-value s key rule at g =
+    let p = then-value (byte s at) (λ b k. rule at k (key b)) g in
+    let b = byte-value s at (rw (p .2) tt) in
+    (b .0, then-ok (λ b k. rule at k (key b)) (b .1) refl)

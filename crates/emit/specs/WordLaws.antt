@@ -6,13 +6,14 @@ use mathlib.Core.Path.{_≡_, refl, sym, ap, _∙_}
 use mathlib.Core.List.{List, [], _∷_, _++_, map, append-assoc, append-nil}
 use lib.ListN.{length, getD}
 use Rattle.types.specs.Limits.{first-local}
+use Rattle.types.specs.Types.{Ty}
 use Rattle.program.specs.Tree.{Var, Var.loc, Op, Expr, Expr.inv, Expr.make, Expr.path, Expr.op, Exprs, Exprs.none, Exprs.more, Stmt, Stmt.when, Stmt.declare, Stmt.update, Stmt.create, Stmts, Stmts.end, Stmts.next}
 use Rattle.program.specs.Encoding.{op-code, var-code}
 use Rattle.program.specs.Exact.{Stands, Stands.done, Stands.letter}
 use Rattle.commands.specs.Commands.{Com.push-this, Com.wr, Com.cons, one, Coms, Coms.nil, Coms.act, then, reads, variables, front, last, expr-coms, args-coms, update-coms, stmt-coms, body-coms, Flat, Flat.plain, Flat.if-n, flatten, commands}
 use Rattle.commands.specs.CommandLaws.{flatten-then}
 use Rattle.commands.specs.Coding.{coded, com-word, command-word, words}
-use Rattle.emit.specs.Written.{coms-words, expr-words, args-words, make-words, path-words, target-words, stmt-words, body-words}
+use Rattle.emit.specs.Written.{coms-words, expr-words, args-words, make-words, path-words, target-words, stmt-words, body-words, when-words, block-words, declare-words, update-words}
 use Rattle.emit.specs.Leaf.{rd-words}
 
 -- commands in a row
@@ -57,23 +58,35 @@ pub more-args : (e : Expr) (es : Exprs) → args-words (more e es) ≡ expr-word
 unfolding args-words expr-words args-coms
 more-args e es = words-then (expr-coms e) (args-coms es)
 
-pub when-words : (e : Expr) (b : Stmts) → stmt-words (when e b) ≡ expr-words e ++ (coded 6 0 (length (body-words b)) ∷ body-words b)
-unfolding stmt-words expr-words body-words stmt-coms flatten commands words command-word
-when-words e b =
+pub if-words : (e : Expr) (b : Stmts) → when-words (e, b) ≡ expr-words e ++ block-words b
+unfolding when-words block-words stmt-words expr-words body-words stmt-coms flatten commands words command-word
+if-words e b =
     words-then (expr-coms e) _
     ∙ rw (append-nil (flatten (body-coms b)), ← words-length (flatten (body-coms b)))
 
-pub update-words : (v : Var) (vs : List ℕ) (e : Expr) → stmt-words (update v vs e) ≡ expr-words e ++ target-words (v, vs)
-unfolding stmt-words expr-words target-words stmt-coms update-coms
-update-words v vs e = words-then (expr-coms e) _
+pub updating-words : (v : Var) (vs : List ℕ) (e : Expr) → update-words ((v, vs), e) ≡ expr-words e ++ target-words (v, vs)
+unfolding update-words stmt-words expr-words target-words stmt-coms update-coms
+updating-words v vs e = words-then (expr-coms e) _
 
-pub declare-words : (v : ℕ) (e : Expr) (t : _) → stmt-words (declare t v e) ≡ expr-words e ++ (coded 2 0 0 ∷ coded 4 0 (first-local + v) ∷ [])
-unfolding stmt-words expr-words stmt-coms update-coms front last reads then flatten words command-word com-word var-code
-declare-words v e t = words-then (expr-coms e) _
+pub declaring-words : (t : Ty) (x : ℕ) (e : Expr) → declare-words (t, (x, e)) ≡ expr-words e ++ (coded 2 0 0 ∷ coded 4 0 (first-local + x) ∷ [])
+unfolding declare-words stmt-words expr-words stmt-coms update-coms front last reads then flatten words command-word com-word var-code
+declaring-words t x e = words-then (expr-coms e) _
 
-pub create-is : (k : ℕ) (es : Exprs) → stmt-words (create k es) ≡ make-words (k, es)
+pub when-is : (p : Expr × Stmts) → stmt-words (when (p .0) (p .1)) ≡ when-words p
+unfolding when-words
+when-is p = refl
+
+pub declare-is : (p : Ty × (ℕ × Expr)) → stmt-words (declare (p .0) (p .1 .0) (p .1 .1)) ≡ declare-words p
+unfolding declare-words
+declare-is p = refl
+
+pub update-is : (p : (Var × List ℕ) × Expr) → stmt-words (update (p .0 .0) (p .0 .1) (p .1)) ≡ update-words p
+unfolding update-words
+update-is p = refl
+
+pub create-is : (p : ℕ × Exprs) → stmt-words (create (p .0) (p .1)) ≡ make-words p
 unfolding stmt-words stmt-coms make-words
-create-is k es = refl
+create-is p = refl
 
 pub no-stmts : body-words end ≡ []
 unfolding body-words commands body-coms flatten words

@@ -1,0 +1,80 @@
+use borrow.Author.Needs.{needs}
+use Rattle.emit.proofs.stmts.declare.Statement.{statement}
+use native.Mathlib.Omega.{arith}
+use mathlib.Core.Path.{refl, _∙_}
+use Rattle.emit.specs.WrittenLaws.{placed-kept}
+use Rattle.emit.specs.Parts.{part-ready, part-room}
+use Rattle.emit.specs.StmtLaws.{declare-facts, declare-wrote}
+use Rattle.emit.proofs.stmts.declare.Tie as tie
+use Rattle.emit.proofs.stmts.declare.Reads as reads
+use Rattle.emit.proofs.stmts.declare.Lts as lts
+use Rattle.emit.proofs.exprs.expr.Reads as expr-reads
+use Rattle.emit.proofs.words.add.Reads as add-reads
+use Rattle.emit.proofs.words.coded.Reads as coded-reads
+use Rattle.emit.proofs.words.wide.Reads as wide-reads
+
+-- src/stmts.rt:14:25
+add-expr : tie.Need-add-expr
+add-expr c = let a = (c .before .before .before .args) in let f = declare-facts (a .ar .now) (a .s .now) (a .at) ((c .before .before .before .pre) .good) in omega arith
+
+-- src/stmts.rt:14:9
+expr-requires : tie.Need-expr-requires
+expr-requires c κs = let a = (c .before .before .before .before .args) in let f = declare-facts (a .ar .now) (a .s .now) (a .at) ((c .before .before .before .before .pre) .good) in part-ready (f .part) ((c .before .before .before .before .pre))
+
+-- src/stmts.rt:15:9
+coded-requires : tie.Need-coded-requires
+coded-requires c κs = search needs
+
+-- src/stmts.rt:16:9
+add-requires : tie.Need-add-requires
+add-requires c κs = let a = (c .before .before .before .before .before .before .before .before .before .args) in
+    let f = declare-facts (a .ar .now) (a .s .now) (a .at) ((c .before .before .before .before .before .before .before .before .before .pre) .good) in
+    omega (arith, part-room (f .part) ((c .before .before .before .before .before .before .before .before .before .pre)) ((c .before .before .before .before .expr) .ensures))
+
+-- src/stmts.rt:17:32
+add-wide : tie.Need-add-wide
+add-wide c = let a = (c .before .before .before .before .before .before .before .before .before .before .before .before .args) in let f = declare-facts (a .ar .now) (a .s .now) (a .at) ((c .before .before .before .before .before .before .before .before .before .before .before .before .pre) .good) in omega arith
+
+-- src/stmts.rt:17:30
+shared-slice-read-wide : tie.Need-shared-slice-read-wide
+shared-slice-read-wide c = let a = (c .before .before .before .before .before .before .before .before .before .before .before .before .before .args) in let f = declare-facts (a .ar .now) (a .s .now) (a .at) ((c .before .before .before .before .before .before .before .before .before .before .before .before .before .pre) .good) in omega arith
+
+-- src/stmts.rt:17:25
+wide-requires : tie.Need-wide-requires
+wide-requires c κs = search needs
+
+-- src/stmts.rt:17:9
+coded-requires-2 : tie.Need-coded-requires-2
+coded-requires-2 c κs = search needs
+
+-- src/stmts.rt:18:5
+add-requires-2 : tie.Need-add-requires-2
+add-requires-2 c κs = let a = (c .before .before .before .before .before .before .before .before .before .before .before .before .before .before .before .before .args) in
+    let f = declare-facts (a .ar .now) (a .s .now) (a .at) ((c .before .before .before .before .before .before .before .before .before .before .before .before .before .before .before .before .pre) .good) in
+    omega (arith, part-room (f .part) ((c .before .before .before .before .before .before .before .before .before .before .before .before .before .before .before .before .pre)) ((c .before .before .before .before .before .before .before .before .before .before .before .expr) .ensures), (c .before .before .before .before .before .before .add) .ensures .1, (c .before .before .before .before .before .before .add) .kept .0)
+
+-- src/stmts.rt:10:1
+same-length : tie.Need-same-length
+same-length c = search needs
+
+-- src/stmts.rt:10:1
+returns : tie.Need-returns
+returns c = let a = (c .before .before .before .before .before .before .before .before .before .before .before .before .before .before .before .before .before .before .before .args) in
+    let f = declare-facts (a .ar .now) (a .s .now) (a .at) ((c .before .before .before .before .before .before .before .before .before .before .before .before .before .before .before .before .before .before .before .pre) .good) in
+    declare-wrote (f .part) ((c .before .before .before .before .before .before .before .before .before .before .before .before .before .before .expr) .ensures) ((c .before .before .before .before .before .before .before .before .before .before .before .coded) .ensures) ((c .before .before .before .before .before .before .before .before .before .add) .ensures) ((c .before .before .before .before .coded2) .ensures ∙ rw ((c .before .before .before .before .before .wide) .ensures .0) refl) ((c .before .before .add2) .ensures)
+
+pub declare-spec : {M : Type 1} → statement M
+declare-spec =
+    tie.close
+    (tie.spec
+    add-expr
+    expr-requires
+    coded-requires
+    add-requires
+    add-wide
+    shared-slice-read-wide
+    wide-requires
+    coded-requires-2
+    add-requires-2
+    same-length
+    returns)

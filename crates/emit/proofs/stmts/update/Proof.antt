@@ -1,0 +1,73 @@
+use borrow.Author.Needs.{needs}
+use Rattle.emit.proofs.stmts.update.Statement.{statement}
+use native.Mathlib.Omega.{arith}
+use mathlib.Core.Path.{refl, _∙_}
+use Rattle.emit.specs.WrittenLaws.{placed-kept}
+use Rattle.emit.specs.Parts.{part-ready, part-rest}
+use Rattle.emit.specs.Written.{target-words}
+use Rattle.emit.specs.PathLaws.{path-facts}
+use Rattle.emit.specs.StmtLaws.{update-part, update-wrote}
+use Rattle.program.specs.Reader.{read-path}
+use Rattle.emit.proofs.stmts.update.Tie as tie
+use Rattle.emit.proofs.stmts.update.Reads as reads
+use Rattle.emit.proofs.stmts.update.Lts as lts
+use Rattle.emit.proofs.exprs.expr.Reads as expr-reads
+use Rattle.emit.proofs.words.index.Reads as index-reads
+use Rattle.emit.proofs.words.target.Reads as target-reads
+
+-- src/stmts.rt:26:19
+shared-slice-read-index : tie.Need-shared-slice-read-index
+shared-slice-read-index c = let a = (c .before .before .before .before .args) in
+    let u = update-part (a .ar .now) (a .s .now) (a .at) ((c .before .before .before .before .pre) .good) in
+    let f = path-facts (a .s .now) (a .at) (u .0) in omega arith
+
+-- src/stmts.rt:26:9
+index-requires : tie.Need-index-requires
+index-requires c κs = search needs
+
+-- src/stmts.rt:27:25
+add-expr : tie.Need-add-expr
+add-expr c = let a = (c .before .before .before .before .before .args) in
+    let u = update-part (a .ar .now) (a .s .now) (a .at) ((c .before .before .before .before .before .pre) .good) in
+    let f = path-facts (a .s .now) (a .at) (u .0) in omega (arith, (c .index) .ensures .0)
+
+-- src/stmts.rt:27:25
+add-expr-2 : tie.Need-add-expr-2
+add-expr-2 c = let a = (c .before .before .before .before .before .args) in
+    let u = update-part (a .ar .now) (a .s .now) (a .at) ((c .before .before .before .before .before .pre) .good) in
+    let f = path-facts (a .s .now) (a .at) (u .0) in omega (arith, (c .index) .ensures .0)
+
+-- src/stmts.rt:27:9
+expr-requires : tie.Need-expr-requires
+expr-requires c κs = let a = (c .before .before .before .before .before .before .args) in
+    let u = update-part (a .ar .now) (a .s .now) (a .at) ((c .before .before .before .before .before .before .pre) .good) in
+    rw ((c .before .index) .ensures .0) (part-ready (u .1) ((c .before .before .before .before .before .before .pre)))
+
+-- src/stmts.rt:29:9
+target-requires : tie.Need-target-requires
+target-requires c κs = let a = (c .before .before .before .before .before .before .before .before .before .before .args) in
+    let u = update-part (a .ar .now) (a .s .now) (a .at) ((c .before .before .before .before .before .before .before .before .before .before .pre) .good) in
+    part-rest target-words (read-path (a .s .now) (a .at)) (u .1) (u .0) ((c .before .before .before .before .before .before .before .before .before .before .pre)) (rw ((c .before .before .before .before .before .index) .ensures .0) at ((c .before .before .before .expr) .ensures))
+
+-- src/stmts.rt:22:1
+same-length : tie.Need-same-length
+same-length c = search needs
+
+-- src/stmts.rt:22:1
+returns : tie.Need-returns
+returns c = let a = (c .before .before .before .before .before .before .before .before .before .before .before .before .before .args) in
+    let u = update-part (a .ar .now) (a .s .now) (a .at) ((c .before .before .before .before .before .before .before .before .before .before .before .before .before .pre) .good) in
+    update-wrote (a .ar .now) (a .s .now) (a .at) (u .1) (rw ((c .before .before .before .before .before .before .before .before .index) .ensures .0) at ((c .before .before .before .before .before .before .expr) .ensures)) ((c .before .before .target) .ensures)
+
+pub update-spec : {M : Type 1} → statement M
+update-spec =
+    tie.close
+    (tie.spec
+    shared-slice-read-index
+    index-requires
+    add-expr
+    add-expr-2
+    expr-requires
+    target-requires
+    same-length
+    returns)
