@@ -9,3 +9,6 @@ pub mod Parts
 pub mod ExprLaws
 pub mod LiteralLaws
 pub mod StmtLaws
+pub mod ProgramWords
+pub mod StepLaws
+pub mod ProgramLaws

@@ -1,0 +1,28 @@
+use borrow.Author.Needs.{needs}
+use Rattle.emit.proofs.steps.step.Statement.{statement}
+use native.Mathlib.Omega.{arith}
+use Rattle.emit.specs.Parts.{part-ready, part-same}
+use Rattle.emit.specs.StepLaws.{step-part}
+use Rattle.emit.proofs.steps.step.Tie as tie
+use Rattle.emit.proofs.steps.step.Reads as reads
+use Rattle.emit.proofs.steps.step.Lts as lts
+use Rattle.emit.proofs.stmts.body.Reads as body-reads
+
+-- src/steps.rt:15:17
+add-body : tie.Need-add-body
+add-body c = let a = (c .before .before .before .args) in let f = step-part (a .ar .now) (a .s .now) (a .at) ((c .before .before .before .pre) .good) in omega arith
+
+-- src/steps.rt:15:5
+body-requires : tie.Need-body-requires
+body-requires c κs = let a = (c .before .before .before .before .args) in part-ready (step-part (a .ar .now) (a .s .now) (a .at) ((c .before .before .before .before .pre) .good) .1) ((c .before .before .before .before .pre))
+
+-- src/steps.rt:11:1
+same-length : tie.Need-same-length
+same-length c = search needs
+
+-- src/steps.rt:11:1
+returns : tie.Need-returns
+returns c = let a = (c .before .before .before .before .before .before .before .args) in part-same (step-part (a .ar .now) (a .s .now) (a .at) ((c .before .before .before .before .before .before .before .pre) .good) .1) ((c .before .before .body) .ensures)
+
+pub step-spec : {M : Type 1} → statement M
+step-spec = tie.close (tie.spec add-body body-requires same-length returns)

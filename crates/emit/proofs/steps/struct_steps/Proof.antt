@@ -1,0 +1,33 @@
+use borrow.Author.Needs.{needs}
+use Rattle.emit.proofs.steps.struct_steps.Statement.{statement}
+use native.Mathlib.Omega.{arith}
+use Rattle.emit.specs.Parts.{part-ready, part-same}
+use Rattle.emit.specs.StepLaws.{steps-part}
+use Rattle.emit.proofs.steps.struct_steps.Tie as tie
+use Rattle.emit.proofs.steps.struct_steps.Reads as reads
+use Rattle.emit.proofs.steps.struct_steps.Lts as lts
+use Rattle.emit.proofs.steps.steps.Reads as steps-reads
+
+-- src/steps.rt:37:18
+add-steps : tie.Need-add-steps
+add-steps c = let a = (c .before .before .before .args) in let f = steps-part (a .ar .now) (a .s .now) (a .at) ((c .before .before .before .pre) .good) in omega arith
+
+-- src/steps.rt:37:26
+shared-slice-read-steps : tie.Need-shared-slice-read-steps
+shared-slice-read-steps c = let a = (c .before .before .before .before .args) in let f = steps-part (a .ar .now) (a .s .now) (a .at) ((c .before .before .before .before .pre) .good) in omega arith
+
+-- src/steps.rt:37:5
+steps-requires : tie.Need-steps-requires
+steps-requires c κs = let a = (c .before .before .before .before .before .args) in part-ready (steps-part (a .ar .now) (a .s .now) (a .at) ((c .before .before .before .before .before .pre) .good) .1) ((c .before .before .before .before .before .pre))
+
+-- src/steps.rt:33:1
+same-length : tie.Need-same-length
+same-length c = search needs
+
+-- src/steps.rt:33:1
+returns : tie.Need-returns
+returns c = let a = (c .before .before .before .before .before .before .before .before .args) in part-same (steps-part (a .ar .now) (a .s .now) (a .at) ((c .before .before .before .before .before .before .before .before .pre) .good) .1) ((c .before .before .steps) .ensures)
+
+pub struct-steps-spec : {M : Type 1} → statement M
+struct-steps-spec =
+    tie.close (tie.spec add-steps shared-slice-read-steps steps-requires same-length returns)
