@@ -2,18 +2,18 @@
 use Prim.Native.Nat.{ℕ, zero, suc, _+_, _-_, _<_, _≤_}
 use native.Mathlib.Omega.{arith}
 use native.Mathlib.Numerals.{sub-one}
-use mathlib.Core.Path.{_≡_, refl, sym, ap, _∙_}
-use mathlib.Core.List.{List, [], _∷_, _++_, append-nil}
+use mathlib.Core.Path.{_≡_, refl, sym, _∙_}
+use mathlib.Core.List.{List, [], _∷_, append-nil}
 use lib.ListN.{length, getD}
-use Rattle.program.specs.Tree.{Op, Expr, Expr.inv, Expr.make, Expr.path, Expr.op, Exprs, Exprs.none, Exprs.more}
-use Rattle.program.specs.Encoding.{op-code}
-use Rattle.program.specs.Reader.{Result, Result.ok, Result.bad, wrong-byte, pair, made, many, byte, ranged, lookup, Form, Form.form-inv, Form.form-make, Form.form-path, Form.form-int, Form.form-nat, Form.form-bool, Form.form-null, Form.form-self, Form.form-op, Form.form-none, form, read-path, read-make, rule-expr, read-expr}
+use Rattle.program.specs.Tree.{Expr, Expr.inv, Expr.make, Expr.path, Expr.op, Exprs.none, Exprs.more}
+use Rattle.program.specs.Reader.{Result, Result.ok, Result.bad, wrong-byte, byte, ranged, lookup, Form, Form.form-inv, Form.form-make, Form.form-path, Form.form-int, Form.form-nat, Form.form-bool, Form.form-null, Form.form-self, Form.form-op, Form.form-none, form, read-path, read-make, rule-expr, read-expr}
 use Rattle.program.specs.ExprLaws.{Opens, opens}
 use Rattle.commands.specs.Coding.{coded}
-use Rattle.emit.specs.Written.{Good, next-of, code-of, Wrote, expr-words, args-words, make-words, path-words, args-at, make-at}
+use Rattle.emit.specs.Written.{Good, Wrote, expr-words, args-words, make-words, path-words, args-at, make-at}
 use Rattle.emit.specs.WordLaws.{inv-words, make-is, cons-words, path-is, op-words, no-args, more-args}
 use Rattle.emit.specs.ReadLaws.{then-value, pair-value, ranged-value, opened-value}
-use Rattle.emit.specs.Parts.{Part, part-of, made-part, Parts, pair-parts, row-none, row-more}
+use Rattle.emit.specs.Parts.{Part, Parts}
+use Rattle.emit.specs.PartsLaws.{part-of, made-part, pair-parts, row-none, row-more}
 
 -- an expression stands in the stream, and has a level
 pub expr-step : (ar s : List ℕ) (d at : ℕ) → Good (read-expr ar s d at)

@@ -1,8 +1,5 @@
 -- The words of literals, of null and of this, and of the variables of a path, off the bytes of the stream.
-use Prim.Native.Nat.{ℕ, zero, suc, _+_, _-_, _*_, _<_, _≤_}
-use native.Mathlib.Omega.{arith}
-use mathlib.Core.Path.{_≡_, refl, _∙_}
-use borrow.Author.Tests.{lt-ltb, le-ltb}
+use Prim.Native.Nat.{ℕ, zero, suc, _+_, _-_, _*_}
 use mathlib.Core.List.{List, [], _∷_}
 use mathlib.Core.Bool.{true, false}
 use lib.ListN.{getD}
@@ -39,11 +36,3 @@ leaf-word s at = leaf-of s at (getD s at 0)
 unfoldable pub rd-words : List ℕ → ℕ → ℕ → List ℕ
 rd-words s at zero = []
 rd-words s at (suc n) = coded 3 0 (getD s at 0) ∷ rd-words s (at + 1) n
-
-pub null-low : (b t r : ℕ) → t ≡ b → t < 16 → r ≡ coded 1 t 0 → r ≡ null-word b
-unfolding null-word
-null-low b t r e h p = let l : b < 16 = omega arith in p ∙ rw (e, null-word, lt-ltb b 16 l)
-
-pub null-high : (b t r : ℕ) → t ≡ b → 16 ≤ t → r ≡ coded 1 t (t - 16) → r ≡ null-word b
-unfolding null-word
-null-high b t r e h p = let l : 16 ≤ b = omega arith in p ∙ rw (e, null-word, le-ltb b 16 l)

@@ -6,6 +6,7 @@ pub mod WordLaws
 pub mod ReadLaws
 pub mod PathLaws
 pub mod Parts
+pub mod PartsLaws
 pub mod ExprLaws
 pub mod LiteralLaws
 pub mod StmtLaws

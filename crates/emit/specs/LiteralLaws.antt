@@ -2,8 +2,8 @@
 use Prim.Native.Nat.{ℕ, zero, suc, _+_, _-_, _*_, _/_, _%_, _^_, _<_, _≤_}
 use native.Mathlib.Omega.{arith}
 use native.Mathlib.Decide.{decLt}
-use mathlib.Core.Path.{_≡_, refl, sym, ap, _∙_}
-use mathlib.Core.List.{List, [], _∷_, _++_}
+use mathlib.Core.Path.{_≡_, refl, _∙_}
+use mathlib.Core.List.{List, [], _∷_}
 use lib.ListN.{length, getD}
 use borrow.Author.Tests.{lt-ltb, le-ltb}
 use Rattle.types.specs.Limits.{nat-end, int-half}
@@ -11,15 +11,15 @@ use Rattle.types.specs.Types.{Ty, Ty.int, Ty.nat, Ty.bool, Ty.ref, code}
 use Rattle.types.specs.Values.{default, int-word, word-int, word, value-of}
 use Rattle.program.specs.Tree.{Op, Op.op-eq, Op.op-ne, Op.op-le, Op.op-ge, Op.op-lt, Op.op-gt, Op.op-mul, Op.op-div, Op.op-rem, Op.op-add, Op.op-sub, Op.op-and, Op.op-or, Expr, Expr.int-lit, Expr.nat-lit, Expr.bool-lit, Expr.null, Expr.self}
 use Rattle.program.specs.Encoding.{op-code, enc-word}
-use Rattle.program.specs.Reader.{Result, Result.ok, Result.bad, wrong-byte, made, lookup, Form, Form.form-inv, Form.form-make, Form.form-path, Form.form-int, Form.form-nat, Form.form-bool, Form.form-null, Form.form-self, Form.form-op, Form.form-none, form, bool-end, word-bytes, ranged, read-word, read-type, rule-expr, read-expr}
+use Rattle.program.specs.Reader.{Result.ok, Result.bad, wrong-byte, made, Form, Form.form-inv, Form.form-make, Form.form-path, Form.form-int, Form.form-nat, Form.form-bool, Form.form-null, Form.form-self, Form.form-op, Form.form-none, form, bool-end, word-bytes, ranged, read-word, read-type, rule-expr, read-expr}
 use Rattle.program.specs.Exact.{Stands, Stands.done, Stands.letter}
 use Rattle.program.specs.PartLaws.{told-is, made-ok}
 use Rattle.program.specs.ExprLaws.{Opens, opens}
 use Rattle.program.specs.WordLaws.{word-exact, type-exact}
-use Rattle.commands.specs.Commands.{one, expr-coms, flatten}
+use Rattle.commands.specs.Commands.{expr-coms, flatten}
 use Rattle.commands.specs.Coding.{coded, com-word, command-word, words}
 use Rattle.emit.specs.Written.{Good, next-of, code-of, expr-words}
-use Rattle.emit.specs.Leaf.{word-at, null-word, leaf-size, leaf-of, leaf-word, byte-word}
+use Rattle.emit.specs.Leaf.{word-at, null-word, leaf-size, leaf-of, byte-word}
 use Rattle.emit.specs.ReadLaws.{made-value, ranged-value}
 use Rattle.emit.specs.ExprLaws.{expr-step, expr-in}
 

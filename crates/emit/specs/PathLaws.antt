@@ -1,14 +1,13 @@
 -- What the code has of a path that was read (01, 'Program stream'; 000, definition 2).
 use Prim.Native.Nat.{ℕ, zero, suc, _+_, _-_, _<_, _≤_}
 use native.Mathlib.Omega.{arith}
-use mathlib.Core.Path.{_≡_, refl, sym, ap, _∙_}
+use mathlib.Core.Path.{_≡_, refl, ap, _∙_}
 use mathlib.Core.List.{List, [], _∷_, _++_}
 use lib.ListN.{length, getD, set, length-append}
-use lib.Seq.{sets}
 use Rattle.program.specs.Tree.{Var}
-use Rattle.program.specs.Encoding.{var-code, enc-path}
+use Rattle.program.specs.Encoding.{enc-path}
 use Rattle.program.specs.Reader.{Result.ok, read-path}
-use Rattle.program.specs.Exact.{Stands, Stands.done, Stands.letter}
+use Rattle.program.specs.Exact.{Stands, Stands.letter}
 use Rattle.program.specs.StandsLaws.{stands-length, stands-in}
 use Rattle.program.specs.PartLaws.{told-is}
 use Rattle.program.specs.WordLaws.{path-exact}

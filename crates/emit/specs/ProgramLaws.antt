@@ -1,8 +1,8 @@
 -- The words of an accepted program (01, 'Names, types, commands'): a caller has what the second pass requires, and gets the program's words.
-use Prim.Native.Nat.{ℕ, suc, _+_, _≤_}
+use Prim.Native.Nat.{ℕ, _≤_}
 use native.Mathlib.Omega.{arith}
-use mathlib.Core.Path.{_≡_, refl, sym, ap, _∙_}
-use mathlib.Core.List.{List, [], _∷_, _++_, map}
+use mathlib.Core.Path.{_≡_, refl, sym, _∙_}
+use mathlib.Core.List.{List, [], _∷_, map}
 use mathlib.Core.Bool.{Bool, true, false}
 use lib.ListN.{length, length-append, length-map}
 use lib.Seq.{sets}
@@ -11,12 +11,12 @@ use Rattle.types.specs.Limits.{max-commands, fix-levels}
 use Rattle.types.specs.Types.{Ty}
 use Rattle.program.specs.Tree.{Items, Step, Program}
 use Rattle.program.specs.Encoding.{flat}
-use Rattle.program.specs.Reader.{Result, Result.ok, Result.bad, wrong-end, then, pair, made, many, ended, whole, read-params, read-steps, read-items, read-item, read-program, read}
+use Rattle.program.specs.Reader.{Result, Result.ok, Result.bad, wrong-end, pair, many, ended, whole, read-params, read-steps, read-items, read-item, read-program, read}
 use Rattle.program.specs.PartLaws.{made-ok}
 use Rattle.commands.specs.Commands.{commands}
 use Rattle.commands.specs.Bounds.{total, arities, program-size, step-size}
 use Rattle.emit.specs.declared.Put.{Put}
-use Rattle.emit.specs.Written.{Good, next-of, code-of, Ready, Wrote}
+use Rattle.emit.specs.Written.{code-of, Ready, Wrote}
 use Rattle.emit.specs.ProgramWords.{step-words, steps-words, structs-words, program-words, structs-at}
 use Rattle.emit.specs.WordLaws.{words-length}
 use Rattle.emit.specs.ReadLaws.{then-value, made-value, pair-value, pair-ok}

@@ -1,15 +1,14 @@
 -- What a reader that gave a value has read (01, 'Program stream').
-use Prim.Native.Nat.{ℕ, zero, suc, _+_, _-_, _<_, _≤_}
-use native.Mathlib.Omega.{arith}
+use Prim.Native.Nat.{ℕ, zero, suc, _+_, _-_, _<_}
 use native.Mathlib.Numerals.{sub-one}
-use mathlib.Core.Path.{_≡_, refl, sym, ap, _∙_}
-use mathlib.Core.List.{List, [], _∷_, _++_}
+use mathlib.Core.Path.{_≡_, refl, _∙_}
+use mathlib.Core.List.{List, [], _∷_}
 use lib.ListN.{length, getD}
 use Rattle.program.specs.Reader.{Result, Result.ok, Result.bad, then, pair, made, many, byte, ranged, counted, opened}
-use Rattle.program.specs.Exact.{Stands, Stands.done, Stands.letter, Exact}
+use Rattle.program.specs.Exact.{Stands, Stands.done, Stands.letter}
 use Rattle.program.specs.PartLaws.{told-is, then-ok, byte-exact}
 use Rattle.program.specs.JoinLaws.{Within, ranged-exact}
-use Rattle.emit.specs.Written.{Good, next-of, code-of}
+use Rattle.emit.specs.Written.{Good}
 
 -- the value
 pub value : {A : Type 0} (r : Result A) → Good r → (a : A) × (n : ℕ) × (r ≡ ok a n)

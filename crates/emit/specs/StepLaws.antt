@@ -1,17 +1,18 @@
 -- What the code has of steps that were read (01, 'Program stream').
-use Prim.Native.Nat.{ℕ, _+_, _-_, _<_, _≤_}
+use Prim.Native.Nat.{ℕ, _+_, _-_, _<_}
 use mathlib.Core.Path.{_≡_, refl, sym, _∙_}
-use mathlib.Core.List.{List, [], _∷_, _++_, append-nil}
+use mathlib.Core.List.{List, [], _∷_, append-nil}
 use lib.ListN.{length, getD}
 use Rattle.types.specs.Limits.{step-names, max-steps, if-levels}
-use Rattle.program.specs.Tree.{Step, Stmts}
+use Rattle.program.specs.Tree.{Stmts}
 use Rattle.program.specs.Encoding.{flat}
-use Rattle.program.specs.Reader.{Result, Result.ok, made, pair, ranged, read-body, read-stmt, read-step, read-steps}
+use Rattle.program.specs.Reader.{Result.ok, pair, ranged, read-body, read-stmt, read-step, read-steps}
 use Rattle.program.specs.PartLaws.{made-ok}
 use Rattle.emit.specs.Written.{Good, Wrote, body-words, body-at}
 use Rattle.emit.specs.ProgramWords.{step-words, steps-words, structs-words, steps-at, structs-at}
 use Rattle.emit.specs.ReadLaws.{made-value, pair-value, pair-ok, ranged-value, counted-value}
-use Rattle.emit.specs.Parts.{Part, part-of, same-part, Parts, row-none, row-more}
+use Rattle.emit.specs.Parts.{Part, Parts}
+use Rattle.emit.specs.PartsLaws.{part-of, same-part, row-none, row-more}
 
 -- a step is its name and its body
 pub step-part : (ar s : List ℕ) (at : ℕ) → Good (read-step ar s at)

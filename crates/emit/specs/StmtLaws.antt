@@ -1,15 +1,15 @@
 -- What the code has of a statement that was read, one law for each kind (01, 'Program stream'; 000, definition 2).
-use Prim.Native.Nat.{ℕ, zero, suc, _+_, _-_, _<_, _≤_}
+use Prim.Native.Nat.{ℕ, zero, suc, _+_, _-_, _<_}
 use native.Mathlib.Omega.{arith}
 use native.Mathlib.Numerals.{sub-one, add-one}
 use mathlib.Core.Path.{_≡_, refl, sym, ap, _∙_}
-use mathlib.Core.List.{List, [], _∷_, _++_, append-nil}
+use mathlib.Core.List.{List, [], _∷_, append-nil}
 use lib.ListN.{length, getD, set}
 use lib.Seq.{sets}
 use Rattle.types.specs.Limits.{max-statements, expr-levels}
 use Rattle.types.specs.Types.{Ty}
 use Rattle.program.specs.Tree.{Expr, Stmt, Stmt.when, Stmt.declare, Stmt.update, Stmt.create, Stmts, Stmts.end, Stmts.next}
-use Rattle.program.specs.Reader.{Result, Result.ok, Result.bad, wrong-byte, then, pair, made, many, lookup, Kind, Kind.kind-when, Kind.kind-declare, Kind.kind-update, Kind.kind-create, Kind.kind-none, kind, read-type, read-local, read-path, read-make, read-expr, read-body, read-when, read-declare, read-update, rule-stmt, read-stmt}
+use Rattle.program.specs.Reader.{Result, Result.ok, Result.bad, wrong-byte, then, pair, made, lookup, Kind, Kind.kind-when, Kind.kind-declare, Kind.kind-update, Kind.kind-create, Kind.kind-none, kind, read-type, read-local, read-path, read-expr, read-body, read-when, read-declare, read-update, rule-stmt, read-stmt}
 use Rattle.program.specs.PartLaws.{told-is}
 use Rattle.program.specs.WordLaws.{type-exact, local-exact}
 use Rattle.program.specs.StmtLaws.{OpensStmt, opens-stmt}
@@ -20,7 +20,8 @@ use Rattle.emit.specs.WrittenLaws.{set-sets, placed-one, placed-first, p
 use Rattle.emit.specs.WordLaws.{if-words, updating-words, declaring-words, when-is, declare-is, update-is, create-is, no-stmts, more-stmts}
 use Rattle.emit.specs.ReadLaws.{value, pair-value, pair-ok, one-stands, counted-value, opened-value}
 use Rattle.emit.specs.PathLaws.{path-facts}
-use Rattle.emit.specs.Parts.{Part, part-of, part-wrote, same-part, made-part, Parts, parts-of, row-none, row-more}
+use Rattle.emit.specs.Parts.{Part, Parts}
+use Rattle.emit.specs.PartsLaws.{part-of, part-wrote, same-part, made-part, parts-of, row-none, row-more}
 
 -- a declaration: its type's byte and its local stand before the expression
 pub record DeclareFacts (ar s : List ℕ) (at : ℕ) : Type 0 where

@@ -1,16 +1,16 @@
 -- The words of each form of tree (000, definition 2).
-use Prim.Native.Nat.{ℕ, zero, suc, _+_}
+use Prim.Native.Nat.{ℕ, suc, _+_}
 use native.Mathlib.Omega.{arith}
 use native.Mathlib.Nat.{add-zero}
 use mathlib.Core.Path.{_≡_, refl, sym, ap, _∙_}
-use mathlib.Core.List.{List, [], _∷_, _++_, map, append-assoc, append-nil}
+use mathlib.Core.List.{List, [], _∷_, _++_, map, append-nil}
 use lib.ListN.{length, getD}
 use Rattle.types.specs.Limits.{first-local}
 use Rattle.types.specs.Types.{Ty}
-use Rattle.program.specs.Tree.{Var, Var.loc, Op, Expr, Expr.inv, Expr.make, Expr.path, Expr.op, Exprs, Exprs.none, Exprs.more, Stmt, Stmt.when, Stmt.declare, Stmt.update, Stmt.create, Stmts, Stmts.end, Stmts.next}
+use Rattle.program.specs.Tree.{Var, Op, Expr, Expr.inv, Expr.make, Expr.path, Expr.op, Exprs, Exprs.none, Exprs.more, Stmt, Stmt.when, Stmt.declare, Stmt.update, Stmt.create, Stmts, Stmts.end, Stmts.next}
 use Rattle.program.specs.Encoding.{op-code, var-code}
 use Rattle.program.specs.Exact.{Stands, Stands.done, Stands.letter}
-use Rattle.commands.specs.Commands.{Com.push-this, Com.wr, Com.cons, one, Coms, Coms.nil, Coms.act, then, reads, variables, front, last, expr-coms, args-coms, update-coms, stmt-coms, body-coms, Flat, Flat.plain, Flat.if-n, flatten, commands}
+use Rattle.commands.specs.Commands.{Coms, then, reads, front, last, expr-coms, args-coms, update-coms, stmt-coms, body-coms, Flat, flatten, commands}
 use Rattle.commands.specs.CommandLaws.{flatten-then}
 use Rattle.commands.specs.Coding.{coded, com-word, command-word, words}
 use Rattle.emit.specs.Written.{coms-words, expr-words, args-words, make-words, path-words, target-words, stmt-words, body-words, when-words, block-words, declare-words, update-words}

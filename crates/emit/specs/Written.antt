@@ -2,15 +2,15 @@
 -- commands').
 use Prim.Native.Nat.{ℕ, _+_, _≤_}
 use mathlib.Core.Path.{_≡_}
-use mathlib.Core.List.{List, [], _∷_, _++_}
+use mathlib.Core.List.{List, [], _∷_}
 use lib.ListN.{length}
 use lib.Seq.{sets}
 use Rattle.types.specs.Limits.{max-commands}
 use Rattle.types.specs.Types.{Ty}
-use Rattle.program.specs.Tree.{Var, Expr, Exprs, Exprs.none, Exprs.more, Stmt, Stmt.when, Stmt.declare, Stmt.update, Stmts, Stmts.end, Stmts.next, Step, Program}
+use Rattle.program.specs.Tree.{Var, Expr, Exprs, Exprs.none, Exprs.more, Stmt, Stmt.when, Stmt.declare, Stmt.update, Stmts, Stmts.end, Stmts.next}
 use Rattle.program.specs.Encoding.{var-code}
 use Rattle.program.specs.Reader.{Result, Result.ok, Result.bad, many, read-expr, read-make, read-stmt, read-body, read-when}
-use Rattle.commands.specs.Commands.{Com.push-this, Com.wr, Com.cons, one, then, variables, front, last, expr-coms, args-coms, stmt-coms, body-coms, flatten, Coms, commands}
+use Rattle.commands.specs.Commands.{Com.wr, Com.cons, one, then, variables, front, last, expr-coms, args-coms, stmt-coms, flatten, Coms, commands}
 use Rattle.commands.specs.Coding.{coded, words}
 use Rattle.emit.specs.declared.Put.{Put}
 

@@ -1,15 +1,14 @@
 -- Words placed in a row: what a call wrote, what stands behind it, and room for both.
-use Prim.Native.Nat.{ℕ, suc, _+_, _<_, _≤_}
+use Prim.Native.Nat.{ℕ, suc, _+_, _<_}
 use native.Mathlib.Omega.{arith}
 use native.Mathlib.Nat.{add-zero, add-suc, suc-add}
 use native.Mathlib.Numerals.{add-one}
 use mathlib.Core.Path.{_≡_, refl, sym, ap, _∙_}
-use mathlib.Core.List.{List, [], _∷_, _++_, append-nil}
+use mathlib.Core.List.{List, [], _∷_, _++_}
 use lib.ListN.{length, set, length-append}
 use lib.Seq.{sets, length-sets, set-comm}
-use Rattle.program.specs.Reader.{Result, Result.ok, Result.bad}
 use Rattle.emit.specs.declared.Put.{Put}
-use Rattle.emit.specs.Written.{Good, next-of, code-of, Ready, Placed, Wrote}
+use Rattle.emit.specs.Written.{Placed}
 
 -- words behind words
 pub sets-append : (l : List ℕ) (i : ℕ) (xs ys : List ℕ) → sets l i (xs ++ ys) ≡ sets (sets l i xs) (i + length xs) ys

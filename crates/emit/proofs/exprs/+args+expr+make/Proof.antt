@@ -1,13 +1,12 @@
-use Prim.Native.Nat.{ℕ, _<_, _+_, _-_, _*_, _≤_}
+use Prim.Native.Nat.{ℕ, _<_, _+_, _*_}
 use borrow.Fn.Kinds.{In}
 use borrow.Fn.PlainCycle.{Measures, is, falls, and}
 use Rattle.emit.proofs.exprs.+args+expr+make.{statement}
 use Rattle.emit.proofs.exprs.+args+expr+make.Tie.{close}
-use borrow.Author.Needs.{needs}
 use native.Mathlib.Omega.{arith}
-use mathlib.Core.Path.{_≡_, refl, sym, ap, _∙_}
+use mathlib.Core.Path.{refl, ap, _∙_}
 use Rattle.emit.specs.WrittenLaws.{placed-kept, placed-one, placed-as}
-use Rattle.emit.specs.Parts.{part-ready, part-room, part-same, part-last, parts-ready, parts-next, parts-room, parts-same, parts-last}
+use Rattle.emit.specs.PartsLaws.{part-ready, part-room, part-same, part-last, parts-ready, parts-next, parts-room, parts-same, parts-last}
 use Rattle.emit.specs.ExprLaws.{args-none, args-more, make-facts, expr-in, inv-part, make-part, path-part, op-parts}
 use Rattle.emit.specs.LiteralLaws.{leaf-facts}
 use Rattle.emit.proofs.exprs.args.Reads as args

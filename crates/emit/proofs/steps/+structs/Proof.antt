@@ -1,12 +1,12 @@
-use Prim.Native.Nat.{ℕ, _<_, _+_, _-_, _≤_}
+use Prim.Native.Nat.{ℕ, _<_}
 use borrow.Fn.Kinds.{In}
 use borrow.Fn.PlainCycle.{Measures, is, falls, and}
 use Rattle.emit.proofs.steps.+structs.{statement}
 use Rattle.emit.proofs.steps.+structs.Tie.{close}
 use native.Mathlib.Omega.{arith}
-use mathlib.Core.Path.{_≡_, _∙_}
+use mathlib.Core.Path.{_∙_}
 use Rattle.emit.specs.WrittenLaws.{placed-kept}
-use Rattle.emit.specs.Parts.{parts-ready, parts-next, parts-same}
+use Rattle.emit.specs.PartsLaws.{parts-ready, parts-next, parts-same}
 use Rattle.emit.specs.StepLaws.{structs-none, structs-more}
 use Rattle.emit.proofs.steps.structs.Reads as structs
 use Rattle.emit.proofs.steps.structs.Kinds as structs-kinds

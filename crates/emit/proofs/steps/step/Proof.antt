@@ -1,12 +1,9 @@
 use borrow.Author.Needs.{needs}
 use Rattle.emit.proofs.steps.step.Statement.{statement}
 use native.Mathlib.Omega.{arith}
-use Rattle.emit.specs.Parts.{part-ready, part-same}
+use Rattle.emit.specs.PartsLaws.{part-ready, part-same}
 use Rattle.emit.specs.StepLaws.{step-part}
 use Rattle.emit.proofs.steps.step.Tie as tie
-use Rattle.emit.proofs.steps.step.Reads as reads
-use Rattle.emit.proofs.steps.step.Lts as lts
-use Rattle.emit.proofs.stmts.body.Reads as body-reads
 
 -- src/steps.rt:15:17
 add-body : tie.Need-add-body

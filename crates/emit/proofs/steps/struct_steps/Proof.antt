@@ -1,12 +1,9 @@
 use borrow.Author.Needs.{needs}
 use Rattle.emit.proofs.steps.struct_steps.Statement.{statement}
 use native.Mathlib.Omega.{arith}
-use Rattle.emit.specs.Parts.{part-ready, part-same}
+use Rattle.emit.specs.PartsLaws.{part-ready, part-same}
 use Rattle.emit.specs.StepLaws.{steps-part}
 use Rattle.emit.proofs.steps.struct_steps.Tie as tie
-use Rattle.emit.proofs.steps.struct_steps.Reads as reads
-use Rattle.emit.proofs.steps.struct_steps.Lts as lts
-use Rattle.emit.proofs.steps.steps.Reads as steps-reads
 
 -- src/steps.rt:37:18
 add-steps : tie.Need-add-steps

@@ -1,12 +1,12 @@
-use Prim.Native.Nat.{ℕ, _<_, _+_, _-_, _*_, _≤_}
+use Prim.Native.Nat.{ℕ, _<_, _+_, _*_}
 use borrow.Fn.Kinds.{In}
 use borrow.Fn.PlainCycle.{Measures, is, falls, and}
 use Rattle.emit.proofs.stmts.+block+body+stmt+stmts+when.{statement}
 use Rattle.emit.proofs.stmts.+block+body+stmt+stmts+when.Tie.{close}
 use native.Mathlib.Omega.{arith}
-use mathlib.Core.Path.{_≡_, refl, sym, ap, _∙_}
+use mathlib.Core.Path.{_∙_}
 use Rattle.emit.specs.WrittenLaws.{placed-kept}
-use Rattle.emit.specs.Parts.{part-ready, part-same, parts-ready, parts-next, parts-same}
+use Rattle.emit.specs.PartsLaws.{part-ready, part-same, parts-ready, parts-next, parts-same}
 use Rattle.emit.specs.StmtLaws.{block-ready, block-wrote, body-facts, when-parts, stmts-none, stmts-more, stmt-in, when-part, declare-part, updated-part, create-part}
 use Rattle.emit.proofs.stmts.block.Reads as block
 use Rattle.emit.proofs.stmts.block.Kinds as block-kinds

@@ -2,16 +2,9 @@ use borrow.Author.Needs.{needs}
 use Rattle.emit.proofs.stmts.declare.Statement.{statement}
 use native.Mathlib.Omega.{arith}
 use mathlib.Core.Path.{refl, _∙_}
-use Rattle.emit.specs.WrittenLaws.{placed-kept}
-use Rattle.emit.specs.Parts.{part-ready, part-room}
+use Rattle.emit.specs.PartsLaws.{part-ready, part-room}
 use Rattle.emit.specs.StmtLaws.{declare-facts, declare-wrote}
 use Rattle.emit.proofs.stmts.declare.Tie as tie
-use Rattle.emit.proofs.stmts.declare.Reads as reads
-use Rattle.emit.proofs.stmts.declare.Lts as lts
-use Rattle.emit.proofs.exprs.expr.Reads as expr-reads
-use Rattle.emit.proofs.words.add.Reads as add-reads
-use Rattle.emit.proofs.words.coded.Reads as coded-reads
-use Rattle.emit.proofs.words.wide.Reads as wide-reads
 
 -- src/stmts.rt:14:25
 add-expr : tie.Need-add-expr

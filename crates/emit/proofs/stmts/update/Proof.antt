@@ -1,19 +1,12 @@
 use borrow.Author.Needs.{needs}
 use Rattle.emit.proofs.stmts.update.Statement.{statement}
 use native.Mathlib.Omega.{arith}
-use mathlib.Core.Path.{refl, _∙_}
-use Rattle.emit.specs.WrittenLaws.{placed-kept}
-use Rattle.emit.specs.Parts.{part-ready, part-rest}
+use Rattle.emit.specs.PartsLaws.{part-ready, part-rest}
 use Rattle.emit.specs.Written.{target-words}
 use Rattle.emit.specs.PathLaws.{path-facts}
 use Rattle.emit.specs.StmtLaws.{update-part, update-wrote}
 use Rattle.program.specs.Reader.{read-path}
 use Rattle.emit.proofs.stmts.update.Tie as tie
-use Rattle.emit.proofs.stmts.update.Reads as reads
-use Rattle.emit.proofs.stmts.update.Lts as lts
-use Rattle.emit.proofs.exprs.expr.Reads as expr-reads
-use Rattle.emit.proofs.words.index.Reads as index-reads
-use Rattle.emit.proofs.words.target.Reads as target-reads
 
 -- src/stmts.rt:26:19
 shared-slice-read-index : tie.Need-shared-slice-read-index

@@ -1,12 +1,10 @@
-use Prim.Native.Nat.{ℕ, _<_, _+_, _-_, _≤_}
+use Prim.Native.Nat.{ℕ, _<_}
 use borrow.Fn.Kinds.{In}
 use borrow.Fn.PlainCycle.{Measures, is, falls, and}
 use Rattle.emit.proofs.words.+reads.{statement}
 use Rattle.emit.proofs.words.+reads.Tie.{close}
-use borrow.Author.Needs.{needs}
 use native.Mathlib.Omega.{arith}
-use mathlib.Core.Path.{_≡_, refl, sym, ap, _∙_}
-use lib.ListN.{length, getD, set, length-set}
+use mathlib.Core.Path.{_∙_}
 use Rattle.emit.specs.LeafLaws.{reads-none, reads-more}
 use Rattle.emit.proofs.words.reads.Reads as reads′
 use Rattle.emit.proofs.words.reads.Kinds as reads-kinds

@@ -3,8 +3,6 @@ use Rattle.emit.proofs.words.coded.Statement.{statement}
 use Rattle.commands.specs.Coding.{coded}
 use mathlib.Core.Path.{refl}
 use Rattle.emit.proofs.words.coded.Tie as tie
-use Rattle.emit.proofs.words.coded.Reads as reads
-use Rattle.emit.proofs.words.coded.Lts as lts
 
 -- src/words.rt:31:12
 mul-result : tie.Need-mul-result

@@ -2,12 +2,6 @@ use borrow.Author.Needs.{needs}
 use Rattle.emit.proofs.words.leaf.Statement.{statement}
 use Rattle.emit.specs.LeafLaws.{leaf-in, leaf-word-in, leaf-byte-in, leaf-word-is, leaf-bool-is, leaf-null-is, leaf-this-is}
 use Rattle.emit.proofs.words.leaf.Tie as tie
-use Rattle.emit.proofs.words.leaf.Reads as reads
-use Rattle.emit.proofs.words.leaf.Lts as lts
-use Rattle.emit.proofs.words.coded.Reads as coded-reads
-use Rattle.emit.proofs.words.null_word.Reads as null-word-reads
-use Rattle.emit.proofs.words.wide.Reads as wide-reads
-use Rattle.emit.proofs.words.word.Reads as word-reads
 
 -- src/words.rt:90:15
 shared-slice-read-tag : tie.Need-shared-slice-read-tag

@@ -2,8 +2,6 @@ use Rattle.emit.proofs.words.leaf_size.Statement.{statement}
 use borrow.Author.Tests.{lt-ltb, le-ltb}
 use Rattle.emit.specs.Leaf.{leaf-size}
 use Rattle.emit.proofs.words.leaf_size.Tie as tie
-use Rattle.emit.proofs.words.leaf_size.Reads as reads
-use Rattle.emit.proofs.words.leaf_size.Lts as lts
 
 -- src/words.rt:77:9
 returns : tie.Need-returns

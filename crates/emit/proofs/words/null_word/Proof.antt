@@ -1,13 +1,7 @@
 use borrow.Author.Needs.{needs}
 use Rattle.emit.proofs.words.null_word.Statement.{statement}
-use borrow.Author.Tests.{lt-ltb, le-ltb}
-use mathlib.Core.Path.{_∙_}
-use Rattle.emit.specs.Leaf.{null-low, null-high}
+use Rattle.emit.specs.LeafLaws.{null-low, null-high}
 use Rattle.emit.proofs.words.null_word.Tie as tie
-use Rattle.emit.proofs.words.null_word.Reads as reads
-use Rattle.emit.proofs.words.null_word.Lts as lts
-use Rattle.emit.proofs.words.coded.Reads as coded-reads
-use Rattle.emit.proofs.words.wide.Reads as wide-reads
 
 -- src/words.rt:66:9
 wide-requires : tie.Need-wide-requires

@@ -3,11 +3,6 @@ use Rattle.emit.proofs.words.path.Statement.{statement}
 use native.Mathlib.Omega.{arith}
 use Rattle.emit.specs.PathLaws.{path-facts, path-room, path-wrote}
 use Rattle.emit.proofs.words.path.Tie as tie
-use Rattle.emit.proofs.words.path.Reads as reads
-use Rattle.emit.proofs.words.path.Lts as lts
-use Rattle.emit.proofs.words.coded.Reads as coded-reads
-use Rattle.emit.proofs.words.reads.Reads as reads-reads
-use Rattle.emit.proofs.words.store.Reads as store-reads
 
 -- src/words.rt:123:13
 shared-slice-read-n : tie.Need-shared-slice-read-n

@@ -3,9 +3,6 @@ use Rattle.emit.proofs.words.word.Statement.{statement}
 use native.Mathlib.Omega.{arith}
 use Rattle.emit.specs.Leaf.{word-at}
 use Rattle.emit.proofs.words.word.Tie as tie
-use Rattle.emit.proofs.words.word.Reads as reads
-use Rattle.emit.proofs.words.word.Lts as lts
-use Rattle.emit.proofs.words.wide.Reads as wide-reads
 
 -- src/words.rt:59:10
 shared-slice-read-wide : tie.Need-shared-slice-read-wide
