@@ -13,3 +13,4 @@ pub mod StmtLaws
 pub mod ProgramWords
 pub mod StepLaws
 pub mod ProgramLaws
+pub mod Rows

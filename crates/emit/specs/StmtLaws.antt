@@ -89,7 +89,7 @@ module _ (r : Result Stmts) (g : Good r) where
       let n : p .at - k - 1 ≡ length (code-of body-words r) = omega (arith, w .at) in
       let e' : v ≡ coded 6 0 (length (code-of body-words r)) = e ∙ rw n in
       let l : out2 ≡ sets (set out k v) (k + 1) (code-of body-words r) =
-          h ∙ rw (w .list) (set-sets out k (k + 1) v (code-of body-words r) (omega arith)) in
+      h ∙ rw (w .list) (set-sets out k (k + 1) v (code-of body-words r) (omega arith)) in
       placed-as {ws = v ∷ code-of body-words r} (record { next = w .next; at = omega (arith, w .at); list = rw (add-one k) at l })
       (block-code ∙ rw e') refl
 

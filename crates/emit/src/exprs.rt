@@ -1,7 +1,13 @@
 // The commands of expressions (000, definition 2).
 use crate::Put;
-use crate::words::{add, coded, index, leaf, leaf_size, path, store, wide};
-
+use crate::words::add;
+use crate::words::coded;
+use crate::words::index;
+use crate::words::leaf;
+use crate::words::leaf_size;
+use crate::words::path;
+use crate::words::store;
+use crate::words::wide;
 ghost use Rattle.program.specs.Reader.{read-expr};
 ghost use Rattle.emit.specs.Written.{Ready, Wrote, expr-words, args-words, make-words, args-at, make-at};
 

@@ -1,7 +1,6 @@
 // The commands of steps, one step after the other (01, 'Names, types, commands').
 use crate::Put;
 use crate::stmts::body;
-
 ghost use lib.ListN.{length};
 ghost use Rattle.program.specs.Reader.{read-step, read-steps};
 ghost use Rattle.emit.specs.Written.{Ready, Wrote};

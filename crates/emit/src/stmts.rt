@@ -1,8 +1,13 @@
 // The commands of statements (000, definition 2).
 use crate::Put;
-use crate::exprs::{expr, make};
-use crate::words::{add, coded, index, store, target, wide};
-
+use crate::exprs::expr;
+use crate::exprs::make;
+use crate::words::add;
+use crate::words::coded;
+use crate::words::index;
+use crate::words::store;
+use crate::words::target;
+use crate::words::wide;
 ghost use Rattle.program.specs.Reader.{read-stmt, read-declare, read-update};
 ghost use Rattle.emit.specs.Written.{Ready, Wrote, stmt-words, body-words, when-words, block-words, declare-words, update-words, stmts-at, body-at, when-at};
 

@@ -1,6 +1,5 @@
 // A command's word, and the words of the forms that hold no other expression.
 use crate::Put;
-
 ghost use mathlib.Core.Path.{_≡_};
 ghost use Prim.Native.Nat.{ℕ, _+_, _<_, _≤_};
 ghost use lib.ListN.{length, getD, set};

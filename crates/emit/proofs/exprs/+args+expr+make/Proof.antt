@@ -1,3 +1,5 @@
+-- `emit::exprs` meets its contracts, a law for each form. The measure goes by the depth, and within one depth by the arguments that are left
+-- (at most 255), with a construct above them.
 use Prim.Native.Nat.{ℕ, _<_, _+_, _*_}
 use borrow.Fn.Kinds.{In}
 use borrow.Fn.PlainCycle.{Measures, is, falls, and}
@@ -54,1037 +56,208 @@ make-at t = and 3 make-kinds.ps (is 3 make-kinds.ps μ-make t) make.Pre
 abbrev make-below : ℕ → In 3 make-kinds.ps
 make-below t = and 3 make-kinds.ps (falls 3 make-kinds.ps _<_ μ-make t) make.Pre
 
--- src/exprs.rt:59:9
-args-returns :
-    (t : ℕ) →
-    args-lts.Need-returns (expr-below t, expr.Post, args-below t, args.Post) (args-at t) args.Post
+-- what the functions that each calls ask and give
+abbrev args-claims : ℕ → args-lts.Claims
+args-claims t = (expr-below t, expr.Post, args-below t, args.Post)
+
+abbrev expr-claims : ℕ → expr-lts.Claims
+expr-claims t = (expr-below t, expr.Post, coded-reads.Asked, coded-reads.Learnt, add-reads.Asked, add-reads.Learnt, make-below t, make.Post, path-reads.Asked, path-reads.Learnt, leaf-reads.Asked, leaf-reads.Learnt, store-reads.Asked, store-reads.Learnt, leaf-size-reads.Asked, leaf-size-reads.Learnt, wide-reads.Asked, wide-reads.Learnt)
+
+abbrev make-claims : ℕ → make-lts.Claims
+make-claims t = (index-reads.Asked, index-reads.Learnt, args-below t, args.Post, wide-reads.Asked, wide-reads.Learnt, coded-reads.Asked, coded-reads.Learnt, add-reads.Asked, add-reads.Learnt)
+
+args-returns : (t : ℕ) → args-lts.Need-returns (args-claims t) (args-at t) args.Post
 args-returns t c = let a = (c .before .before .before .before .args) in args-none (a .ar .now) (a .s .now) (a .depth) (a .n) (a .at) ((c .if1) .taken) (a .out .now) (a .k)
 
--- src/exprs.rt:61:9
-args-expr-requires : (t : ℕ) → args-lts.Need-expr-requires (
-  expr-below t,
-  expr.Post,
-  args-below t,
-  args.Post,
-) (args-at t) args.Post
+args-expr-requires : (t : ℕ) → args-lts.Need-expr-requires (args-claims t) (args-at t) args.Post
 args-expr-requires t c κs = let a = (c .before .before .before .before .before .args) in
     let f = args-more (a .ar .now) (a .s .now) (a .depth) (a .n) (a .at) ((c .before .if1) .left) ((c .before .before .before .before .before .pre) .1 .good) in
     (omega (arith, (c .before .before .before .before .before .pre) .0), parts-ready f ((c .before .before .before .before .before .pre) .1))
 
--- src/exprs.rt:64:30
-args-sub-args : (t : ℕ) → args-lts.Need-sub-args (
-  expr-below t,
-  expr.Post,
-  args-below t,
-  args.Post,
-) (args-at t) args.Post
+args-sub-args : (t : ℕ) → args-lts.Need-sub-args (args-claims t) (args-at t) args.Post
 args-sub-args t c = omega (arith, (c .before .before .before .before .if1) .left)
 
--- src/exprs.rt:64:5
-args-args-requires : (t : ℕ) → args-lts.Need-args-requires (
-  expr-below t,
-  expr.Post,
-  args-below t,
-  args.Post,
-) (args-at t) args.Post
+args-args-requires : (t : ℕ) → args-lts.Need-args-requires (args-claims t) (args-at t) args.Post
 args-args-requires t c κs = let a = (c .before .before .before .before .before .before .before .before .before .args) in
     let f = args-more (a .ar .now) (a .s .now) (a .depth) (a .n) (a .at) ((c .before .before .before .before .before .if1) .left) ((c .before .before .before .before .before .before .before .before .before .pre) .1 .good) in
     (omega (arith, (c .before .before .before .before .before .before .before .before .before .pre) .0, (c .before .before .before .before .before .if1) .left), parts-next f ((c .before .before .before .before .before .before .before .before .before .pre) .1) ((c .before .before .before .expr) .ensures))
 
--- src/exprs.rt:54:1
-args-same-length : (t : ℕ) → args-lts.Need-same-length (
-  expr-below t,
-  expr.Post,
-  args-below t,
-  args.Post,
-) (args-at t) args.Post
+args-same-length : (t : ℕ) → args-lts.Need-same-length (args-claims t) (args-at t) args.Post
 args-same-length t c = placed-kept ((c .before .before .args2) .ensures) ∙ placed-kept ((c .before .before .before .before .before .before .expr) .ensures)
 
--- src/exprs.rt:54:1
-args-returns-2 : (t : ℕ) → args-lts.Need-returns-2 (
-  expr-below t,
-  expr.Post,
-  args-below t,
-  args.Post,
-) (args-at t) args.Post
+args-returns-2 : (t : ℕ) → args-lts.Need-returns-2 (args-claims t) (args-at t) args.Post
 args-returns-2 t c = let a = (c .before .before .before .before .before .before .before .before .before .before .before .before .args) in
     let f = args-more (a .ar .now) (a .s .now) (a .depth) (a .n) (a .at) ((c .before .before .before .before .before .before .before .before .if1) .left) ((c .before .before .before .before .before .before .before .before .before .before .before .before .pre) .1 .good) in
     parts-same ((c .before .before .before .before .before .before .expr) .ensures) ((c .before .before .args2) .ensures) f
 
--- src/exprs.rt:13:15
-expr-shared-slice-read-tag : (t : ℕ) → expr-lts.Need-shared-slice-read-tag (
-  expr-below t,
-  expr.Post,
-  coded-reads.Asked,
-  coded-reads.Learnt,
-  add-reads.Asked,
-  add-reads.Learnt,
-  make-below t,
-  make.Post,
-  path-reads.Asked,
-  path-reads.Learnt,
-  leaf-reads.Asked,
-  leaf-reads.Learnt,
-  store-reads.Asked,
-  store-reads.Learnt,
-  leaf-size-reads.Asked,
-  leaf-size-reads.Learnt,
-  wide-reads.Asked,
-  wide-reads.Learnt,
-) (expr-at t) expr.Post
+expr-shared-slice-read-tag : (t : ℕ) → expr-lts.Need-shared-slice-read-tag (expr-claims t) (expr-at t) expr.Post
 expr-shared-slice-read-tag t c = let a = (c .before .before .before .before .args) in let i = expr-in (a .ar .now) (a .s .now) (a .depth) (a .at) ((c .before .before .before .before .pre) .1 .good) in omega arith
 
--- src/exprs.rt:15:29
-expr-add-expr : (t : ℕ) → expr-lts.Need-add-expr (
-  expr-below t,
-  expr.Post,
-  coded-reads.Asked,
-  coded-reads.Learnt,
-  add-reads.Asked,
-  add-reads.Learnt,
-  make-below t,
-  make.Post,
-  path-reads.Asked,
-  path-reads.Learnt,
-  leaf-reads.Asked,
-  leaf-reads.Learnt,
-  store-reads.Asked,
-  store-reads.Learnt,
-  leaf-size-reads.Asked,
-  leaf-size-reads.Learnt,
-  wide-reads.Asked,
-  wide-reads.Learnt,
-) (expr-at t) expr.Post
+expr-add-expr : (t : ℕ) → expr-lts.Need-add-expr (expr-claims t) (expr-at t) expr.Post
 expr-add-expr t c = let a = (c .before .before .before .before .before .args) in let i = expr-in (a .ar .now) (a .s .now) (a .depth) (a .at) ((c .before .before .before .before .before .pre) .1 .good) in omega arith
 
--- src/exprs.rt:15:37
-expr-sub-expr : (t : ℕ) → expr-lts.Need-sub-expr (
-  expr-below t,
-  expr.Post,
-  coded-reads.Asked,
-  coded-reads.Learnt,
-  add-reads.Asked,
-  add-reads.Learnt,
-  make-below t,
-  make.Post,
-  path-reads.Asked,
-  path-reads.Learnt,
-  leaf-reads.Asked,
-  leaf-reads.Learnt,
-  store-reads.Asked,
-  store-reads.Learnt,
-  leaf-size-reads.Asked,
-  leaf-size-reads.Learnt,
-  wide-reads.Asked,
-  wide-reads.Learnt,
-) (expr-at t) expr.Post
+expr-sub-expr : (t : ℕ) → expr-lts.Need-sub-expr (expr-claims t) (expr-at t) expr.Post
 expr-sub-expr t c = let a = (c .before .before .before .before .before .args) in let i = expr-in (a .ar .now) (a .s .now) (a .depth) (a .at) ((c .before .before .before .before .before .pre) .1 .good) in omega arith
 
--- src/exprs.rt:15:13
-expr-expr-requires : (t : ℕ) → expr-lts.Need-expr-requires (
-  expr-below t,
-  expr.Post,
-  coded-reads.Asked,
-  coded-reads.Learnt,
-  add-reads.Asked,
-  add-reads.Learnt,
-  make-below t,
-  make.Post,
-  path-reads.Asked,
-  path-reads.Learnt,
-  leaf-reads.Asked,
-  leaf-reads.Learnt,
-  store-reads.Asked,
-  store-reads.Learnt,
-  leaf-size-reads.Asked,
-  leaf-size-reads.Learnt,
-  wide-reads.Asked,
-  wide-reads.Learnt,
-) (expr-at t) expr.Post
+expr-expr-requires : (t : ℕ) → expr-lts.Need-expr-requires (expr-claims t) (expr-at t) expr.Post
 expr-expr-requires t c κs = let a = (c .before .before .before .before .before .before .args) in
     let i = expr-in (a .ar .now) (a .s .now) (a .depth) (a .at) ((c .before .before .before .before .before .before .pre) .1 .good) in
     (omega (arith, (c .before .before .before .before .before .before .pre) .0), part-ready (inv-part (a .ar .now) (a .s .now) (a .depth) (a .at) ((c .before .before .before .before .before .before .pre) .1 .good) ((c .before .if1) .taken)) ((c .before .before .before .before .before .before .pre) .1))
 
--- src/exprs.rt:16:13
-expr-coded-requires : (t : ℕ) → expr-lts.Need-coded-requires (
-  expr-below t,
-  expr.Post,
-  coded-reads.Asked,
-  coded-reads.Learnt,
-  add-reads.Asked,
-  add-reads.Learnt,
-  make-below t,
-  make.Post,
-  path-reads.Asked,
-  path-reads.Learnt,
-  leaf-reads.Asked,
-  leaf-reads.Learnt,
-  store-reads.Asked,
-  store-reads.Learnt,
-  leaf-size-reads.Asked,
-  leaf-size-reads.Learnt,
-  wide-reads.Asked,
-  wide-reads.Learnt,
-) (expr-at t) expr.Post
+expr-coded-requires : (t : ℕ) → expr-lts.Need-coded-requires (expr-claims t) (expr-at t) expr.Post
 expr-coded-requires t c κs = omega arith
 
--- src/exprs.rt:17:9
-expr-add-requires : (t : ℕ) → expr-lts.Need-add-requires (
-  expr-below t,
-  expr.Post,
-  coded-reads.Asked,
-  coded-reads.Learnt,
-  add-reads.Asked,
-  add-reads.Learnt,
-  make-below t,
-  make.Post,
-  path-reads.Asked,
-  path-reads.Learnt,
-  leaf-reads.Asked,
-  leaf-reads.Learnt,
-  store-reads.Asked,
-  store-reads.Learnt,
-  leaf-size-reads.Asked,
-  leaf-size-reads.Learnt,
-  wide-reads.Asked,
-  wide-reads.Learnt,
-) (expr-at t) expr.Post
+expr-add-requires : (t : ℕ) → expr-lts.Need-add-requires (expr-claims t) (expr-at t) expr.Post
 expr-add-requires t c κs = let a = (c .before .before .before .before .before .before .before .before .before .before .before .args) in
     let f = inv-part (a .ar .now) (a .s .now) (a .depth) (a .at) ((c .before .before .before .before .before .before .before .before .before .before .before .pre) .1 .good) ((c .before .before .before .before .before .before .if1) .taken) in
     omega (arith, part-room f ((c .before .before .before .before .before .before .before .before .before .before .before .pre) .1) ((c .before .before .before .before .expr) .ensures))
 
--- src/exprs.rt:17:9
-expr-same-length : (t : ℕ) → expr-lts.Need-same-length (
-  expr-below t,
-  expr.Post,
-  coded-reads.Asked,
-  coded-reads.Learnt,
-  add-reads.Asked,
-  add-reads.Learnt,
-  make-below t,
-  make.Post,
-  path-reads.Asked,
-  path-reads.Learnt,
-  leaf-reads.Asked,
-  leaf-reads.Learnt,
-  store-reads.Asked,
-  store-reads.Learnt,
-  leaf-size-reads.Asked,
-  leaf-size-reads.Learnt,
-  wide-reads.Asked,
-  wide-reads.Learnt,
-) (expr-at t) expr.Post
+expr-same-length : (t : ℕ) → expr-lts.Need-same-length (expr-claims t) (expr-at t) expr.Post
 expr-same-length t c = (c .before .before .add) .kept .0 ∙ placed-kept ((c .before .before .before .before .before .before .before .expr) .ensures)
 
--- src/exprs.rt:17:9
-expr-returns : (t : ℕ) → expr-lts.Need-returns (
-  expr-below t,
-  expr.Post,
-  coded-reads.Asked,
-  coded-reads.Learnt,
-  add-reads.Asked,
-  add-reads.Learnt,
-  make-below t,
-  make.Post,
-  path-reads.Asked,
-  path-reads.Learnt,
-  leaf-reads.Asked,
-  leaf-reads.Learnt,
-  store-reads.Asked,
-  store-reads.Learnt,
-  leaf-size-reads.Asked,
-  leaf-size-reads.Learnt,
-  wide-reads.Asked,
-  wide-reads.Learnt,
-) (expr-at t) expr.Post
+expr-returns : (t : ℕ) → expr-lts.Need-returns (expr-claims t) (expr-at t) expr.Post
 expr-returns t c = let a = (c .before .before .before .before .before .before .before .before .before .before .before .before .before .before .args) in
     let f = inv-part (a .ar .now) (a .s .now) (a .depth) (a .at) ((c .before .before .before .before .before .before .before .before .before .before .before .before .before .before .pre) .1 .good) ((c .before .before .before .before .before .before .before .before .before .if1) .taken) in
     part-last _ f ((c .before .before .before .before .before .before .before .expr) .ensures) ((c .before .before .add) .ensures .0) ((c .before .before .add) .ensures .1) ((c .before .before .add) .ensures .2 ∙ rw ((c .before .before .before .before .coded) .ensures) refl)
 
--- src/exprs.rt:20:28
-expr-add-make : (t : ℕ) → expr-lts.Need-add-make (
-  expr-below t,
-  expr.Post,
-  coded-reads.Asked,
-  coded-reads.Learnt,
-  add-reads.Asked,
-  add-reads.Learnt,
-  make-below t,
-  make.Post,
-  path-reads.Asked,
-  path-reads.Learnt,
-  leaf-reads.Asked,
-  leaf-reads.Learnt,
-  store-reads.Asked,
-  store-reads.Learnt,
-  leaf-size-reads.Asked,
-  leaf-size-reads.Learnt,
-  wide-reads.Asked,
-  wide-reads.Learnt,
-) (expr-at t) expr.Post
+expr-add-make : (t : ℕ) → expr-lts.Need-add-make (expr-claims t) (expr-at t) expr.Post
 expr-add-make t c = let a = (c .before .before .before .before .before .before .args) in let i = expr-in (a .ar .now) (a .s .now) (a .depth) (a .at) ((c .before .before .before .before .before .before .pre) .1 .good) in omega arith
 
--- src/exprs.rt:20:36
-expr-sub-make : (t : ℕ) → expr-lts.Need-sub-make (
-  expr-below t,
-  expr.Post,
-  coded-reads.Asked,
-  coded-reads.Learnt,
-  add-reads.Asked,
-  add-reads.Learnt,
-  make-below t,
-  make.Post,
-  path-reads.Asked,
-  path-reads.Learnt,
-  leaf-reads.Asked,
-  leaf-reads.Learnt,
-  store-reads.Asked,
-  store-reads.Learnt,
-  leaf-size-reads.Asked,
-  leaf-size-reads.Learnt,
-  wide-reads.Asked,
-  wide-reads.Learnt,
-) (expr-at t) expr.Post
+expr-sub-make : (t : ℕ) → expr-lts.Need-sub-make (expr-claims t) (expr-at t) expr.Post
 expr-sub-make t c = let a = (c .before .before .before .before .before .before .args) in let i = expr-in (a .ar .now) (a .s .now) (a .depth) (a .at) ((c .before .before .before .before .before .before .pre) .1 .good) in omega arith
 
--- src/exprs.rt:20:9
-expr-make-requires : (t : ℕ) → expr-lts.Need-make-requires (
-  expr-below t,
-  expr.Post,
-  coded-reads.Asked,
-  coded-reads.Learnt,
-  add-reads.Asked,
-  add-reads.Learnt,
-  make-below t,
-  make.Post,
-  path-reads.Asked,
-  path-reads.Learnt,
-  leaf-reads.Asked,
-  leaf-reads.Learnt,
-  store-reads.Asked,
-  store-reads.Learnt,
-  leaf-size-reads.Asked,
-  leaf-size-reads.Learnt,
-  wide-reads.Asked,
-  wide-reads.Learnt,
-) (expr-at t) expr.Post
+expr-make-requires : (t : ℕ) → expr-lts.Need-make-requires (expr-claims t) (expr-at t) expr.Post
 expr-make-requires t c κs = let a = (c .before .before .before .before .before .before .before .args) in
     let i = expr-in (a .ar .now) (a .s .now) (a .depth) (a .at) ((c .before .before .before .before .before .before .before .pre) .1 .good) in
     (omega (arith, (c .before .before .before .before .before .before .before .pre) .0), part-ready (make-part (a .ar .now) (a .s .now) (a .depth) (a .at) ((c .before .before .before .before .before .before .before .pre) .1 .good) ((c .before .if2) .taken)) ((c .before .before .before .before .before .before .before .pre) .1))
 
--- src/exprs.rt:20:9
-expr-same-length-2 : (t : ℕ) → expr-lts.Need-same-length-2 (
-  expr-below t,
-  expr.Post,
-  coded-reads.Asked,
-  coded-reads.Learnt,
-  add-reads.Asked,
-  add-reads.Learnt,
-  make-below t,
-  make.Post,
-  path-reads.Asked,
-  path-reads.Learnt,
-  leaf-reads.Asked,
-  leaf-reads.Learnt,
-  store-reads.Asked,
-  store-reads.Learnt,
-  leaf-size-reads.Asked,
-  leaf-size-reads.Learnt,
-  wide-reads.Asked,
-  wide-reads.Learnt,
-) (expr-at t) expr.Post
+expr-same-length-2 : (t : ℕ) → expr-lts.Need-same-length-2 (expr-claims t) (expr-at t) expr.Post
 expr-same-length-2 t c = placed-kept ((c .before .before .make) .ensures)
 
--- src/exprs.rt:20:9
-expr-returns-2 : (t : ℕ) → expr-lts.Need-returns-2 (
-  expr-below t,
-  expr.Post,
-  coded-reads.Asked,
-  coded-reads.Learnt,
-  add-reads.Asked,
-  add-reads.Learnt,
-  make-below t,
-  make.Post,
-  path-reads.Asked,
-  path-reads.Learnt,
-  leaf-reads.Asked,
-  leaf-reads.Learnt,
-  store-reads.Asked,
-  store-reads.Learnt,
-  leaf-size-reads.Asked,
-  leaf-size-reads.Learnt,
-  wide-reads.Asked,
-  wide-reads.Learnt,
-) (expr-at t) expr.Post
+expr-returns-2 : (t : ℕ) → expr-lts.Need-returns-2 (expr-claims t) (expr-at t) expr.Post
 expr-returns-2 t c = let a = (c .before .before .before .before .before .before .before .before .before .before .args) in part-same (make-part (a .ar .now) (a .s .now) (a .depth) (a .at) ((c .before .before .before .before .before .before .before .before .before .before .pre) .1 .good) ((c .before .before .before .before .if2) .taken)) ((c .before .before .make) .ensures)
 
--- src/exprs.rt:23:24
-expr-add-path : (t : ℕ) → expr-lts.Need-add-path (
-  expr-below t,
-  expr.Post,
-  coded-reads.Asked,
-  coded-reads.Learnt,
-  add-reads.Asked,
-  add-reads.Learnt,
-  make-below t,
-  make.Post,
-  path-reads.Asked,
-  path-reads.Learnt,
-  leaf-reads.Asked,
-  leaf-reads.Learnt,
-  store-reads.Asked,
-  store-reads.Learnt,
-  leaf-size-reads.Asked,
-  leaf-size-reads.Learnt,
-  wide-reads.Asked,
-  wide-reads.Learnt,
-) (expr-at t) expr.Post
+expr-add-path : (t : ℕ) → expr-lts.Need-add-path (expr-claims t) (expr-at t) expr.Post
 expr-add-path t c = let a = (c .before .before .before .before .before .before .before .args) in let i = expr-in (a .ar .now) (a .s .now) (a .depth) (a .at) ((c .before .before .before .before .before .before .before .pre) .1 .good) in omega arith
 
--- src/exprs.rt:23:9
-expr-path-requires : (t : ℕ) → expr-lts.Need-path-requires (
-  expr-below t,
-  expr.Post,
-  coded-reads.Asked,
-  coded-reads.Learnt,
-  add-reads.Asked,
-  add-reads.Learnt,
-  make-below t,
-  make.Post,
-  path-reads.Asked,
-  path-reads.Learnt,
-  leaf-reads.Asked,
-  leaf-reads.Learnt,
-  store-reads.Asked,
-  store-reads.Learnt,
-  leaf-size-reads.Asked,
-  leaf-size-reads.Learnt,
-  wide-reads.Asked,
-  wide-reads.Learnt,
-) (expr-at t) expr.Post
+expr-path-requires : (t : ℕ) → expr-lts.Need-path-requires (expr-claims t) (expr-at t) expr.Post
 expr-path-requires t c κs = let a = (c .before .before .before .before .before .before .before .before .args) in part-ready (path-part (a .ar .now) (a .s .now) (a .depth) (a .at) ((c .before .before .before .before .before .before .before .before .pre) .1 .good) ((c .before .if3) .taken)) ((c .before .before .before .before .before .before .before .before .pre) .1)
 
--- src/exprs.rt:23:9
-expr-same-length-3 : (t : ℕ) → expr-lts.Need-same-length-3 (
-  expr-below t,
-  expr.Post,
-  coded-reads.Asked,
-  coded-reads.Learnt,
-  add-reads.Asked,
-  add-reads.Learnt,
-  make-below t,
-  make.Post,
-  path-reads.Asked,
-  path-reads.Learnt,
-  leaf-reads.Asked,
-  leaf-reads.Learnt,
-  store-reads.Asked,
-  store-reads.Learnt,
-  leaf-size-reads.Asked,
-  leaf-size-reads.Learnt,
-  wide-reads.Asked,
-  wide-reads.Learnt,
-) (expr-at t) expr.Post
+expr-same-length-3 : (t : ℕ) → expr-lts.Need-same-length-3 (expr-claims t) (expr-at t) expr.Post
 expr-same-length-3 t c = placed-kept ((c .before .before .path) .ensures)
 
--- src/exprs.rt:23:9
-expr-returns-3 : (t : ℕ) → expr-lts.Need-returns-3 (
-  expr-below t,
-  expr.Post,
-  coded-reads.Asked,
-  coded-reads.Learnt,
-  add-reads.Asked,
-  add-reads.Learnt,
-  make-below t,
-  make.Post,
-  path-reads.Asked,
-  path-reads.Learnt,
-  leaf-reads.Asked,
-  leaf-reads.Learnt,
-  store-reads.Asked,
-  store-reads.Learnt,
-  leaf-size-reads.Asked,
-  leaf-size-reads.Learnt,
-  wide-reads.Asked,
-  wide-reads.Learnt,
-) (expr-at t) expr.Post
+expr-returns-3 : (t : ℕ) → expr-lts.Need-returns-3 (expr-claims t) (expr-at t) expr.Post
 expr-returns-3 t c = let a = (c .before .before .before .before .before .before .before .before .before .before .before .args) in part-same (path-part (a .ar .now) (a .s .now) (a .depth) (a .at) ((c .before .before .before .before .before .before .before .before .before .before .before .pre) .1 .good) ((c .before .before .before .before .if3) .taken)) ((c .before .before .path) .ensures)
 
--- src/exprs.rt:26:13
-expr-leaf-requires : (t : ℕ) → expr-lts.Need-leaf-requires (
-  expr-below t,
-  expr.Post,
-  coded-reads.Asked,
-  coded-reads.Learnt,
-  add-reads.Asked,
-  add-reads.Learnt,
-  make-below t,
-  make.Post,
-  path-reads.Asked,
-  path-reads.Learnt,
-  leaf-reads.Asked,
-  leaf-reads.Learnt,
-  store-reads.Asked,
-  store-reads.Learnt,
-  leaf-size-reads.Asked,
-  leaf-size-reads.Learnt,
-  wide-reads.Asked,
-  wide-reads.Learnt,
-) (expr-at t) expr.Post
+expr-leaf-requires : (t : ℕ) → expr-lts.Need-leaf-requires (expr-claims t) (expr-at t) expr.Post
 expr-leaf-requires t c κs = let a = (c .before .before .before .before .before .before .before .before .args) in
     let f = leaf-facts (a .ar .now) (a .s .now) (a .depth) (a .at) ((c .before .before .before .before .before .before .before .before .pre) .1 .good) ((c .before .before .before .if1) .left) ((c .before .before .if2) .left) ((c .before .if3) .left) ((c .if4) .taken) in
     (f .low, f .fits)
 
--- src/exprs.rt:27:9
-expr-store-requires : (t : ℕ) → expr-lts.Need-store-requires (
-  expr-below t,
-  expr.Post,
-  coded-reads.Asked,
-  coded-reads.Learnt,
-  add-reads.Asked,
-  add-reads.Learnt,
-  make-below t,
-  make.Post,
-  path-reads.Asked,
-  path-reads.Learnt,
-  leaf-reads.Asked,
-  leaf-reads.Learnt,
-  store-reads.Asked,
-  store-reads.Learnt,
-  leaf-size-reads.Asked,
-  leaf-size-reads.Learnt,
-  wide-reads.Asked,
-  wide-reads.Learnt,
-) (expr-at t) expr.Post
+expr-store-requires : (t : ℕ) → expr-lts.Need-store-requires (expr-claims t) (expr-at t) expr.Post
 expr-store-requires t c κs = let a = (c .before .before .before .before .before .before .before .before .before .before .args) in
     let f = leaf-facts (a .ar .now) (a .s .now) (a .depth) (a .at) ((c .before .before .before .before .before .before .before .before .before .before .pre) .1 .good) ((c .before .before .before .before .before .if1) .left) ((c .before .before .before .before .if2) .left) ((c .before .before .before .if3) .left) ((c .before .before .if4) .taken) in
     omega (arith, rw (f .code) at ((c .before .before .before .before .before .before .before .before .before .before .pre) .1 .room))
 
--- src/exprs.rt:29:24
-expr-leaf-size-requires : (t : ℕ) → expr-lts.Need-leaf-size-requires (
-  expr-below t,
-  expr.Post,
-  coded-reads.Asked,
-  coded-reads.Learnt,
-  add-reads.Asked,
-  add-reads.Learnt,
-  make-below t,
-  make.Post,
-  path-reads.Asked,
-  path-reads.Learnt,
-  leaf-reads.Asked,
-  leaf-reads.Learnt,
-  store-reads.Asked,
-  store-reads.Learnt,
-  leaf-size-reads.Asked,
-  leaf-size-reads.Learnt,
-  wide-reads.Asked,
-  wide-reads.Learnt,
-) (expr-at t) expr.Post
+expr-leaf-size-requires : (t : ℕ) → expr-lts.Need-leaf-size-requires (expr-claims t) (expr-at t) expr.Post
 expr-leaf-size-requires t c κs = tt
 
--- src/exprs.rt:29:19
-expr-add-t36 : (t : ℕ) → expr-lts.Need-add-t36 (
-  expr-below t,
-  expr.Post,
-  coded-reads.Asked,
-  coded-reads.Learnt,
-  add-reads.Asked,
-  add-reads.Learnt,
-  make-below t,
-  make.Post,
-  path-reads.Asked,
-  path-reads.Learnt,
-  leaf-reads.Asked,
-  leaf-reads.Learnt,
-  store-reads.Asked,
-  store-reads.Learnt,
-  leaf-size-reads.Asked,
-  leaf-size-reads.Learnt,
-  wide-reads.Asked,
-  wide-reads.Learnt,
-) (expr-at t) expr.Post
+expr-add-t36 : (t : ℕ) → expr-lts.Need-add-t36 (expr-claims t) (expr-at t) expr.Post
 expr-add-t36 t c = let a = (c .before .before .before .before .before .before .before .before .before .before .before .before .before .before .args) in
     let f = leaf-facts (a .ar .now) (a .s .now) (a .depth) (a .at) ((c .before .before .before .before .before .before .before .before .before .before .before .before .before .before .pre) .1 .good) ((c .before .before .before .before .before .before .before .before .before .if1) .left) ((c .before .before .before .before .before .before .before .before .if2) .left) ((c .before .before .before .before .before .before .before .if3) .left) ((c .before .before .before .before .before .before .if4) .taken) in
     omega (arith, rw (f .code) at ((c .before .before .before .before .before .before .before .before .before .before .before .before .before .before .pre) .1 .room))
 
--- src/exprs.rt:30:17
-expr-add-t37 : (t : ℕ) → expr-lts.Need-add-t37 (
-  expr-below t,
-  expr.Post,
-  coded-reads.Asked,
-  coded-reads.Learnt,
-  add-reads.Asked,
-  add-reads.Learnt,
-  make-below t,
-  make.Post,
-  path-reads.Asked,
-  path-reads.Learnt,
-  leaf-reads.Asked,
-  leaf-reads.Learnt,
-  store-reads.Asked,
-  store-reads.Learnt,
-  leaf-size-reads.Asked,
-  leaf-size-reads.Learnt,
-  wide-reads.Asked,
-  wide-reads.Learnt,
-) (expr-at t) expr.Post
+expr-add-t37 : (t : ℕ) → expr-lts.Need-add-t37 (expr-claims t) (expr-at t) expr.Post
 expr-add-t37 t c = let a = (c .before .before .before .before .before .before .before .before .before .before .before .before .before .before .args) in
     let f = leaf-facts (a .ar .now) (a .s .now) (a .depth) (a .at) ((c .before .before .before .before .before .before .before .before .before .before .before .before .before .before .pre) .1 .good) ((c .before .before .before .before .before .before .before .before .before .if1) .left) ((c .before .before .before .before .before .before .before .before .if2) .left) ((c .before .before .before .before .before .before .before .if3) .left) ((c .before .before .before .before .before .before .if4) .taken) in
     omega (arith, rw (f .code) at ((c .before .before .before .before .before .before .before .before .before .before .before .before .before .before .pre) .1 .room))
 
--- src/exprs.rt:28:9
-expr-same-length-4 : (t : ℕ) → expr-lts.Need-same-length-4 (
-  expr-below t,
-  expr.Post,
-  coded-reads.Asked,
-  coded-reads.Learnt,
-  add-reads.Asked,
-  add-reads.Learnt,
-  make-below t,
-  make.Post,
-  path-reads.Asked,
-  path-reads.Learnt,
-  leaf-reads.Asked,
-  leaf-reads.Learnt,
-  store-reads.Asked,
-  store-reads.Learnt,
-  leaf-size-reads.Asked,
-  leaf-size-reads.Learnt,
-  wide-reads.Asked,
-  wide-reads.Learnt,
-) (expr-at t) expr.Post
+expr-same-length-4 : (t : ℕ) → expr-lts.Need-same-length-4 (expr-claims t) (expr-at t) expr.Post
 expr-same-length-4 t c = (c .before .before .before .store) .kept .0
 
--- src/exprs.rt:28:9
-expr-returns-4 : (t : ℕ) → expr-lts.Need-returns-4 (
-  expr-below t,
-  expr.Post,
-  coded-reads.Asked,
-  coded-reads.Learnt,
-  add-reads.Asked,
-  add-reads.Learnt,
-  make-below t,
-  make.Post,
-  path-reads.Asked,
-  path-reads.Learnt,
-  leaf-reads.Asked,
-  leaf-reads.Learnt,
-  store-reads.Asked,
-  store-reads.Learnt,
-  leaf-size-reads.Asked,
-  leaf-size-reads.Learnt,
-  wide-reads.Asked,
-  wide-reads.Learnt,
-) (expr-at t) expr.Post
+expr-returns-4 : (t : ℕ) → expr-lts.Need-returns-4 (expr-claims t) (expr-at t) expr.Post
 expr-returns-4 t c = let a = (c .before .before .before .before .before .before .before .before .before .before .before .before .before .before .args) in
     let f = leaf-facts (a .ar .now) (a .s .now) (a .depth) (a .at) ((c .before .before .before .before .before .before .before .before .before .before .before .before .before .before .pre) .1 .good) ((c .before .before .before .before .before .before .before .before .before .if1) .left) ((c .before .before .before .before .before .before .before .before .if2) .left) ((c .before .before .before .before .before .before .before .if3) .left) ((c .before .before .before .before .before .before .if4) .taken) in
     placed-as (placed-one (ap (λ n. a .at + n) ((c .leaf-size) .ensures)) refl ((c .before .before .before .store) .ensures ∙ rw ((c .before .before .before .before .before .leaf) .ensures) refl)) (f .code) (f .next)
 
--- src/exprs.rt:33:25
-expr-add-expr-2 : (t : ℕ) → expr-lts.Need-add-expr-2 (
-  expr-below t,
-  expr.Post,
-  coded-reads.Asked,
-  coded-reads.Learnt,
-  add-reads.Asked,
-  add-reads.Learnt,
-  make-below t,
-  make.Post,
-  path-reads.Asked,
-  path-reads.Learnt,
-  leaf-reads.Asked,
-  leaf-reads.Learnt,
-  store-reads.Asked,
-  store-reads.Learnt,
-  leaf-size-reads.Asked,
-  leaf-size-reads.Learnt,
-  wide-reads.Asked,
-  wide-reads.Learnt,
-) (expr-at t) expr.Post
+expr-add-expr-2 : (t : ℕ) → expr-lts.Need-add-expr-2 (expr-claims t) (expr-at t) expr.Post
 expr-add-expr-2 t c = let a = (c .before .before .before .before .before .before .before .before .args) in let i = expr-in (a .ar .now) (a .s .now) (a .depth) (a .at) ((c .before .before .before .before .before .before .before .before .pre) .1 .good) in omega arith
 
--- src/exprs.rt:33:33
-expr-sub-expr-2 : (t : ℕ) → expr-lts.Need-sub-expr-2 (
-  expr-below t,
-  expr.Post,
-  coded-reads.Asked,
-  coded-reads.Learnt,
-  add-reads.Asked,
-  add-reads.Learnt,
-  make-below t,
-  make.Post,
-  path-reads.Asked,
-  path-reads.Learnt,
-  leaf-reads.Asked,
-  leaf-reads.Learnt,
-  store-reads.Asked,
-  store-reads.Learnt,
-  leaf-size-reads.Asked,
-  leaf-size-reads.Learnt,
-  wide-reads.Asked,
-  wide-reads.Learnt,
-) (expr-at t) expr.Post
+expr-sub-expr-2 : (t : ℕ) → expr-lts.Need-sub-expr-2 (expr-claims t) (expr-at t) expr.Post
 expr-sub-expr-2 t c = let a = (c .before .before .before .before .before .before .before .before .args) in let i = expr-in (a .ar .now) (a .s .now) (a .depth) (a .at) ((c .before .before .before .before .before .before .before .before .pre) .1 .good) in omega arith
 
--- src/exprs.rt:33:9
-expr-expr-requires-2 : (t : ℕ) → expr-lts.Need-expr-requires-2 (
-  expr-below t,
-  expr.Post,
-  coded-reads.Asked,
-  coded-reads.Learnt,
-  add-reads.Asked,
-  add-reads.Learnt,
-  make-below t,
-  make.Post,
-  path-reads.Asked,
-  path-reads.Learnt,
-  leaf-reads.Asked,
-  leaf-reads.Learnt,
-  store-reads.Asked,
-  store-reads.Learnt,
-  leaf-size-reads.Asked,
-  leaf-size-reads.Learnt,
-  wide-reads.Asked,
-  wide-reads.Learnt,
-) (expr-at t) expr.Post
+expr-expr-requires-2 : (t : ℕ) → expr-lts.Need-expr-requires-2 (expr-claims t) (expr-at t) expr.Post
 expr-expr-requires-2 t c κs = let a = (c .before .before .before .before .before .before .before .before .before .args) in
     let i = expr-in (a .ar .now) (a .s .now) (a .depth) (a .at) ((c .before .before .before .before .before .before .before .before .before .pre) .1 .good) in
     (omega (arith, (c .before .before .before .before .before .before .before .before .before .pre) .0), parts-ready (op-parts (a .ar .now) (a .s .now) (a .depth) (a .at) ((c .before .before .before .before .before .before .before .before .before .pre) .1 .good) ((c .before .if4) .left)) ((c .before .before .before .before .before .before .before .before .before .pre) .1))
 
--- src/exprs.rt:36:31
-expr-sub-expr-3 : (t : ℕ) → expr-lts.Need-sub-expr-3 (
-  expr-below t,
-  expr.Post,
-  coded-reads.Asked,
-  coded-reads.Learnt,
-  add-reads.Asked,
-  add-reads.Learnt,
-  make-below t,
-  make.Post,
-  path-reads.Asked,
-  path-reads.Learnt,
-  leaf-reads.Asked,
-  leaf-reads.Learnt,
-  store-reads.Asked,
-  store-reads.Learnt,
-  leaf-size-reads.Asked,
-  leaf-size-reads.Learnt,
-  wide-reads.Asked,
-  wide-reads.Learnt,
-) (expr-at t) expr.Post
+expr-sub-expr-3 : (t : ℕ) → expr-lts.Need-sub-expr-3 (expr-claims t) (expr-at t) expr.Post
 expr-sub-expr-3 t c = let a = (c .before .before .before .before .before .before .before .before .before .before .before .before .args) in let i = expr-in (a .ar .now) (a .s .now) (a .depth) (a .at) ((c .before .before .before .before .before .before .before .before .before .before .before .before .pre) .1 .good) in omega arith
 
--- src/exprs.rt:36:9
-expr-expr-requires-3 : (t : ℕ) → expr-lts.Need-expr-requires-3 (
-  expr-below t,
-  expr.Post,
-  coded-reads.Asked,
-  coded-reads.Learnt,
-  add-reads.Asked,
-  add-reads.Learnt,
-  make-below t,
-  make.Post,
-  path-reads.Asked,
-  path-reads.Learnt,
-  leaf-reads.Asked,
-  leaf-reads.Learnt,
-  store-reads.Asked,
-  store-reads.Learnt,
-  leaf-size-reads.Asked,
-  leaf-size-reads.Learnt,
-  wide-reads.Asked,
-  wide-reads.Learnt,
-) (expr-at t) expr.Post
+expr-expr-requires-3 : (t : ℕ) → expr-lts.Need-expr-requires-3 (expr-claims t) (expr-at t) expr.Post
 expr-expr-requires-3 t c κs = let a = (c .before .before .before .before .before .before .before .before .before .before .before .before .before .args) in
     let i = expr-in (a .ar .now) (a .s .now) (a .depth) (a .at) ((c .before .before .before .before .before .before .before .before .before .before .before .before .before .pre) .1 .good) in
     (omega (arith, (c .before .before .before .before .before .before .before .before .before .before .before .before .before .pre) .0), parts-next (op-parts (a .ar .now) (a .s .now) (a .depth) (a .at) ((c .before .before .before .before .before .before .before .before .before .before .before .before .before .pre) .1 .good) ((c .before .before .before .before .before .if4) .left)) ((c .before .before .before .before .before .before .before .before .before .before .before .before .before .pre) .1) ((c .before .before .before .expr2) .ensures))
 
--- src/exprs.rt:37:25
-expr-wide-requires : (t : ℕ) → expr-lts.Need-wide-requires (
-  expr-below t,
-  expr.Post,
-  coded-reads.Asked,
-  coded-reads.Learnt,
-  add-reads.Asked,
-  add-reads.Learnt,
-  make-below t,
-  make.Post,
-  path-reads.Asked,
-  path-reads.Learnt,
-  leaf-reads.Asked,
-  leaf-reads.Learnt,
-  store-reads.Asked,
-  store-reads.Learnt,
-  leaf-size-reads.Asked,
-  leaf-size-reads.Learnt,
-  wide-reads.Asked,
-  wide-reads.Learnt,
-) (expr-at t) expr.Post
+expr-wide-requires : (t : ℕ) → expr-lts.Need-wide-requires (expr-claims t) (expr-at t) expr.Post
 expr-wide-requires t c κs = tt
 
--- src/exprs.rt:37:9
-expr-coded-requires-2 : (t : ℕ) → expr-lts.Need-coded-requires-2 (
-  expr-below t,
-  expr.Post,
-  coded-reads.Asked,
-  coded-reads.Learnt,
-  add-reads.Asked,
-  add-reads.Learnt,
-  make-below t,
-  make.Post,
-  path-reads.Asked,
-  path-reads.Learnt,
-  leaf-reads.Asked,
-  leaf-reads.Learnt,
-  store-reads.Asked,
-  store-reads.Learnt,
-  leaf-size-reads.Asked,
-  leaf-size-reads.Learnt,
-  wide-reads.Asked,
-  wide-reads.Learnt,
-) (expr-at t) expr.Post
+expr-coded-requires-2 : (t : ℕ) → expr-lts.Need-coded-requires-2 (expr-claims t) (expr-at t) expr.Post
 expr-coded-requires-2 t c κs = omega (arith, (c .wide) .ensures .1)
 
--- src/exprs.rt:38:5
-expr-add-requires-2 : (t : ℕ) → expr-lts.Need-add-requires-2 (
-  expr-below t,
-  expr.Post,
-  coded-reads.Asked,
-  coded-reads.Learnt,
-  add-reads.Asked,
-  add-reads.Learnt,
-  make-below t,
-  make.Post,
-  path-reads.Asked,
-  path-reads.Learnt,
-  leaf-reads.Asked,
-  leaf-reads.Learnt,
-  store-reads.Asked,
-  store-reads.Learnt,
-  leaf-size-reads.Asked,
-  leaf-size-reads.Learnt,
-  wide-reads.Asked,
-  wide-reads.Learnt,
-) (expr-at t) expr.Post
+expr-add-requires-2 : (t : ℕ) → expr-lts.Need-add-requires-2 (expr-claims t) (expr-at t) expr.Post
 expr-add-requires-2 t c κs = let a = (c .before .before .before .before .before .before .before .before .before .before .before .before .before .before .before .before .before .before .before .args) in
     let f = op-parts (a .ar .now) (a .s .now) (a .depth) (a .at) ((c .before .before .before .before .before .before .before .before .before .before .before .before .before .before .before .before .before .before .before .pre) .1 .good) ((c .before .before .before .before .before .before .before .before .before .before .before .if4) .left) in
     omega (arith, parts-room f ((c .before .before .before .before .before .before .before .before .before .before .before .before .before .before .before .before .before .before .before .pre) .1) ((c .before .before .before .before .before .before .before .before .before .expr2) .ensures) ((c .before .before .before .before .before .expr3) .ensures))
 
--- src/exprs.rt:9:1
-expr-same-length-5 : (t : ℕ) → expr-lts.Need-same-length-5 (
-  expr-below t,
-  expr.Post,
-  coded-reads.Asked,
-  coded-reads.Learnt,
-  add-reads.Asked,
-  add-reads.Learnt,
-  make-below t,
-  make.Post,
-  path-reads.Asked,
-  path-reads.Learnt,
-  leaf-reads.Asked,
-  leaf-reads.Learnt,
-  store-reads.Asked,
-  store-reads.Learnt,
-  leaf-size-reads.Asked,
-  leaf-size-reads.Learnt,
-  wide-reads.Asked,
-  wide-reads.Learnt,
-) (expr-at t) expr.Post
+expr-same-length-5 : (t : ℕ) → expr-lts.Need-same-length-5 (expr-claims t) (expr-at t) expr.Post
 expr-same-length-5 t c = (c .before .before .add2) .kept .0 ∙ placed-kept ((c .before .before .before .before .before .before .before .before .expr3) .ensures) ∙ placed-kept ((c .before .before .before .before .before .before .before .before .before .before .before .before .expr2) .ensures)
 
--- src/exprs.rt:9:1
-expr-returns-5 : (t : ℕ) → expr-lts.Need-returns-5 (
-  expr-below t,
-  expr.Post,
-  coded-reads.Asked,
-  coded-reads.Learnt,
-  add-reads.Asked,
-  add-reads.Learnt,
-  make-below t,
-  make.Post,
-  path-reads.Asked,
-  path-reads.Learnt,
-  leaf-reads.Asked,
-  leaf-reads.Learnt,
-  store-reads.Asked,
-  store-reads.Learnt,
-  leaf-size-reads.Asked,
-  leaf-size-reads.Learnt,
-  wide-reads.Asked,
-  wide-reads.Learnt,
-) (expr-at t) expr.Post
+expr-returns-5 : (t : ℕ) → expr-lts.Need-returns-5 (expr-claims t) (expr-at t) expr.Post
 expr-returns-5 t c = let a = (c .before .before .before .before .before .before .before .before .before .before .before .before .before .before .before .before .before .before .before .before .before .before .args) in
     let f = op-parts (a .ar .now) (a .s .now) (a .depth) (a .at) ((c .before .before .before .before .before .before .before .before .before .before .before .before .before .before .before .before .before .before .before .before .before .before .pre) .1 .good) ((c .before .before .before .before .before .before .before .before .before .before .before .before .before .before .if4) .left) in
     parts-last ((c .before .before .before .before .before .before .before .before .before .before .before .before .expr2) .ensures) ((c .before .before .before .before .before .before .before .before .expr3) .ensures) _ f ((c .before .before .add2) .ensures .0) ((c .before .before .add2) .ensures .1) ((c .before .before .add2) .ensures .2 ∙ rw ((c .before .before .before .before .coded2) .ensures, (c .before .before .before .before .before .wide) .ensures .0) refl)
 
--- src/exprs.rt:46:13
-make-shared-slice-read-b : (t : ℕ) → make-lts.Need-shared-slice-read-b (
-  index-reads.Asked,
-  index-reads.Learnt,
-  args-below t,
-  args.Post,
-  wide-reads.Asked,
-  wide-reads.Learnt,
-  coded-reads.Asked,
-  coded-reads.Learnt,
-  add-reads.Asked,
-  add-reads.Learnt,
-) (make-at t) make.Post
+make-shared-slice-read-b : (t : ℕ) → make-lts.Need-shared-slice-read-b (make-claims t) (make-at t) make.Post
 make-shared-slice-read-b t c = let a = (c .before .before .before .before .args) in let f = make-facts (a .ar .now) (a .s .now) (a .depth) (a .at) ((c .before .before .before .before .pre) .1 .good) in omega arith
 
--- src/exprs.rt:47:9
-make-index-requires : (t : ℕ) → make-lts.Need-index-requires (
-  index-reads.Asked,
-  index-reads.Learnt,
-  args-below t,
-  args.Post,
-  wide-reads.Asked,
-  wide-reads.Learnt,
-  coded-reads.Asked,
-  coded-reads.Learnt,
-  add-reads.Asked,
-  add-reads.Learnt,
-) (make-at t) make.Post
+make-index-requires : (t : ℕ) → make-lts.Need-index-requires (make-claims t) (make-at t) make.Post
 make-index-requires t c κs = let a = (c .before .before .before .before .args) in let f = make-facts (a .ar .now) (a .s .now) (a .depth) (a .at) ((c .before .before .before .before .pre) .1 .good) in omega arith
 
--- src/exprs.rt:48:25
-make-add-args : (t : ℕ) → make-lts.Need-add-args (
-  index-reads.Asked,
-  index-reads.Learnt,
-  args-below t,
-  args.Post,
-  wide-reads.Asked,
-  wide-reads.Learnt,
-  coded-reads.Asked,
-  coded-reads.Learnt,
-  add-reads.Asked,
-  add-reads.Learnt,
-) (make-at t) make.Post
+make-add-args : (t : ℕ) → make-lts.Need-add-args (make-claims t) (make-at t) make.Post
 make-add-args t c = let a = (c .before .before .before .before .before .args) in let f = make-facts (a .ar .now) (a .s .now) (a .depth) (a .at) ((c .before .before .before .before .before .pre) .1 .good) in omega arith
 
--- src/exprs.rt:48:40
-make-shared-slice-read-args : (t : ℕ) → make-lts.Need-shared-slice-read-args (
-  index-reads.Asked,
-  index-reads.Learnt,
-  args-below t,
-  args.Post,
-  wide-reads.Asked,
-  wide-reads.Learnt,
-  coded-reads.Asked,
-  coded-reads.Learnt,
-  add-reads.Asked,
-  add-reads.Learnt,
-) (make-at t) make.Post
+make-shared-slice-read-args : (t : ℕ) → make-lts.Need-shared-slice-read-args (make-claims t) (make-at t) make.Post
 make-shared-slice-read-args t c = let a = (c .before .before .before .before .before .before .args) in let f = make-facts (a .ar .now) (a .s .now) (a .depth) (a .at) ((c .before .before .before .before .before .before .pre) .1 .good) in omega (arith, (c .before .index) .ensures .0)
 
--- src/exprs.rt:48:9
-make-args-requires : (t : ℕ) → make-lts.Need-args-requires (
-  index-reads.Asked,
-  index-reads.Learnt,
-  args-below t,
-  args.Post,
-  wide-reads.Asked,
-  wide-reads.Learnt,
-  coded-reads.Asked,
-  coded-reads.Learnt,
-  add-reads.Asked,
-  add-reads.Learnt,
-) (make-at t) make.Post
+make-args-requires : (t : ℕ) → make-lts.Need-args-requires (make-claims t) (make-at t) make.Post
 make-args-requires t c κs = let a = (c .before .before .before .before .before .before .before .args) in
     let f = make-facts (a .ar .now) (a .s .now) (a .depth) (a .at) ((c .before .before .before .before .before .before .before .pre) .1 .good) in
     (omega (arith, (c .before .before .before .before .before .before .before .pre) .0, (c .before .shared-slice-known4) .given ((c .before .before .index) .result)), rw ((c .before .before .index) .ensures .0) (part-ready (f .part) ((c .before .before .before .before .before .before .before .pre) .1)))
 
--- src/exprs.rt:49:25
-make-wide-requires : (t : ℕ) → make-lts.Need-wide-requires (
-  index-reads.Asked,
-  index-reads.Learnt,
-  args-below t,
-  args.Post,
-  wide-reads.Asked,
-  wide-reads.Learnt,
-  coded-reads.Asked,
-  coded-reads.Learnt,
-  add-reads.Asked,
-  add-reads.Learnt,
-) (make-at t) make.Post
+make-wide-requires : (t : ℕ) → make-lts.Need-wide-requires (make-claims t) (make-at t) make.Post
 make-wide-requires t c κs = tt
 
--- src/exprs.rt:49:9
-make-coded-requires : (t : ℕ) → make-lts.Need-coded-requires (
-  index-reads.Asked,
-  index-reads.Learnt,
-  args-below t,
-  args.Post,
-  wide-reads.Asked,
-  wide-reads.Learnt,
-  coded-reads.Asked,
-  coded-reads.Learnt,
-  add-reads.Asked,
-  add-reads.Learnt,
-) (make-at t) make.Post
+make-coded-requires : (t : ℕ) → make-lts.Need-coded-requires (make-claims t) (make-at t) make.Post
 make-coded-requires t c κs = omega (arith, (c .wide) .ensures .1)
 
--- src/exprs.rt:50:5
-make-add-requires : (t : ℕ) → make-lts.Need-add-requires (
-  index-reads.Asked,
-  index-reads.Learnt,
-  args-below t,
-  args.Post,
-  wide-reads.Asked,
-  wide-reads.Learnt,
-  coded-reads.Asked,
-  coded-reads.Learnt,
-  add-reads.Asked,
-  add-reads.Learnt,
-) (make-at t) make.Post
+make-add-requires : (t : ℕ) → make-lts.Need-add-requires (make-claims t) (make-at t) make.Post
 make-add-requires t c κs = let a = (c .before .before .before .before .before .before .before .before .before .before .before .before .before .args) in
     let f = make-facts (a .ar .now) (a .s .now) (a .depth) (a .at) ((c .before .before .before .before .before .before .before .before .before .before .before .before .before .pre) .1 .good) in
     let e = rw ((c .before .before .before .before .before .before .before .before .index) .ensures .0) at ((c .before .before .before .before .before .args2) .ensures) in
     omega (arith, part-room (f .part) ((c .before .before .before .before .before .before .before .before .before .before .before .before .before .pre) .1) e)
 
--- src/exprs.rt:42:1
-make-same-length : (t : ℕ) → make-lts.Need-same-length (
-  index-reads.Asked,
-  index-reads.Learnt,
-  args-below t,
-  args.Post,
-  wide-reads.Asked,
-  wide-reads.Learnt,
-  coded-reads.Asked,
-  coded-reads.Learnt,
-  add-reads.Asked,
-  add-reads.Learnt,
-) (make-at t) make.Post
+make-same-length : (t : ℕ) → make-lts.Need-same-length (make-claims t) (make-at t) make.Post
 make-same-length t c = (c .before .before .add) .kept .0 ∙ placed-kept ((c .before .before .before .before .before .before .before .before .args2) .ensures)
 
--- src/exprs.rt:42:1
-make-returns : (t : ℕ) → make-lts.Need-returns (
-  index-reads.Asked,
-  index-reads.Learnt,
-  args-below t,
-  args.Post,
-  wide-reads.Asked,
-  wide-reads.Learnt,
-  coded-reads.Asked,
-  coded-reads.Learnt,
-  add-reads.Asked,
-  add-reads.Learnt,
-) (make-at t) make.Post
+make-returns : (t : ℕ) → make-lts.Need-returns (make-claims t) (make-at t) make.Post
 make-returns t c = let a = (c .before .before .before .before .before .before .before .before .before .before .before .before .before .before .before .before .args) in
     let f = make-facts (a .ar .now) (a .s .now) (a .depth) (a .at) ((c .before .before .before .before .before .before .before .before .before .before .before .before .before .before .before .before .pre) .1 .good) in
     let e = rw ((c .before .before .before .before .before .before .before .before .before .before .before .index) .ensures .0) at ((c .before .before .before .before .before .before .before .before .args2) .ensures) in
     part-last _ (f .part) e ((c .before .before .add) .ensures .0) ((c .before .before .add) .ensures .1) ((c .before .before .add) .ensures .2 ∙ rw ((c .before .before .before .before .coded) .ensures, (c .before .before .before .before .before .wide) .ensures .0) refl)
 
 pub +args+expr+make-spec : {M : Type 1} → statement M
-+args+expr+make-spec = close μ-args μ-expr μ-make (λ t. args-lts.spec (
-  expr-below t,
-  expr.Post,
-  args-below t,
-  args.Post,
-)
-    (args-at t)
++args+expr+make-spec = close μ-args μ-expr μ-make (λ t. args-lts.spec (args-claims t) (args-at t)
     args.Post
     (args-returns t)
     (args-expr-requires t)
@@ -1092,27 +265,7 @@ pub +args+expr+make-spec : {M : Type 1} → statement M
     (args-args-requires t)
     (args-same-length t)
     (args-returns-2 t))
-    (λ t. expr-lts.spec (
-      expr-below t,
-      expr.Post,
-      coded-reads.Asked,
-      coded-reads.Learnt,
-      add-reads.Asked,
-      add-reads.Learnt,
-      make-below t,
-      make.Post,
-      path-reads.Asked,
-      path-reads.Learnt,
-      leaf-reads.Asked,
-      leaf-reads.Learnt,
-      store-reads.Asked,
-      store-reads.Learnt,
-      leaf-size-reads.Asked,
-      leaf-size-reads.Learnt,
-      wide-reads.Asked,
-      wide-reads.Learnt,
-    )
-    (expr-at t)
+    (λ t. expr-lts.spec (expr-claims t) (expr-at t)
     expr.Post
     (expr-shared-slice-read-tag t)
     (expr-add-expr t)
@@ -1148,19 +301,7 @@ pub +args+expr+make-spec : {M : Type 1} → statement M
     (expr-add-requires-2 t)
     (expr-same-length-5 t)
     (expr-returns-5 t))
-    λ t. make-lts.spec (
-      index-reads.Asked,
-      index-reads.Learnt,
-      args-below t,
-      args.Post,
-      wide-reads.Asked,
-      wide-reads.Learnt,
-      coded-reads.Asked,
-      coded-reads.Learnt,
-      add-reads.Asked,
-      add-reads.Learnt,
-    )
-    (make-at t)
+    λ t. make-lts.spec (make-claims t) (make-at t)
     make.Post
     (make-shared-slice-read-b t)
     (make-index-requires t)

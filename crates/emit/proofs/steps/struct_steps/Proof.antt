@@ -1,3 +1,4 @@
+-- `emit::steps::struct_steps` meets its contract: a count before the steps.
 use borrow.Author.Needs.{needs}
 use Rattle.emit.proofs.steps.struct_steps.Statement.{statement}
 use native.Mathlib.Omega.{arith}
@@ -5,23 +6,18 @@ use Rattle.emit.specs.PartsLaws.{part-ready, part-same}
 use Rattle.emit.specs.StepLaws.{steps-part}
 use Rattle.emit.proofs.steps.struct_steps.Tie as tie
 
--- src/steps.rt:37:18
 add-steps : tie.Need-add-steps
 add-steps c = let a = (c .before .before .before .args) in let f = steps-part (a .ar .now) (a .s .now) (a .at) ((c .before .before .before .pre) .good) in omega arith
 
--- src/steps.rt:37:26
 shared-slice-read-steps : tie.Need-shared-slice-read-steps
 shared-slice-read-steps c = let a = (c .before .before .before .before .args) in let f = steps-part (a .ar .now) (a .s .now) (a .at) ((c .before .before .before .before .pre) .good) in omega arith
 
--- src/steps.rt:37:5
 steps-requires : tie.Need-steps-requires
 steps-requires c κs = let a = (c .before .before .before .before .before .args) in part-ready (steps-part (a .ar .now) (a .s .now) (a .at) ((c .before .before .before .before .before .pre) .good) .1) ((c .before .before .before .before .before .pre))
 
--- src/steps.rt:33:1
 same-length : tie.Need-same-length
 same-length c = search needs
 
--- src/steps.rt:33:1
 returns : tie.Need-returns
 returns c = let a = (c .before .before .before .before .before .before .before .before .args) in part-same (steps-part (a .ar .now) (a .s .now) (a .at) ((c .before .before .before .before .before .before .before .before .pre) .good) .1) ((c .before .before .steps) .ensures)
 

@@ -1,3 +1,5 @@
+-- `emit::stmts` meets its contracts, a law for each kind. The measure goes by the levels of if, and within one level by the statements that
+-- are left (at most 255), with a body, a block and an if above them.
 use Prim.Native.Nat.{ℕ, _<_, _+_, _*_}
 use borrow.Fn.Kinds.{In}
 use borrow.Fn.PlainCycle.{Measures, is, falls, and}
@@ -75,470 +77,163 @@ when-at t = and 3 when-kinds.ps (is 3 when-kinds.ps μ-when t) when.Pre
 abbrev when-below : ℕ → In 3 when-kinds.ps
 when-below t = and 3 when-kinds.ps (falls 3 when-kinds.ps _<_ μ-when t) when.Pre
 
--- src/stmts.rt:70:41
-block-add-body : (t : ℕ) → block-lts.Need-add-body (
-  body-below t,
-  body.Post,
-  coded-reads.Asked,
-  coded-reads.Learnt,
-  store-reads.Asked,
-  store-reads.Learnt,
-) (block-at t) block.Post
+-- what the functions that each calls ask and give
+abbrev block-claims : ℕ → block-lts.Claims
+block-claims t = (body-below t, body.Post, coded-reads.Asked, coded-reads.Learnt, store-reads.Asked, store-reads.Learnt)
+
+abbrev body-claims : ℕ → body-lts.Claims
+body-claims t = (stmts-below t, stmts.Post)
+
+abbrev stmt-claims : ℕ → stmt-lts.Claims
+stmt-claims t = (when-below t, when.Post, declare-reads.Asked, declare-reads.Learnt, update-reads.Asked, update-reads.Learnt, make-reads.Asked, make-reads.Learnt)
+
+abbrev stmts-claims : ℕ → stmts-lts.Claims
+stmts-claims t = (stmt-below t, stmt.Post, stmts-below t, stmts.Post)
+
+abbrev when-claims : ℕ → when-lts.Claims
+when-claims t = (expr-reads.Asked, expr-reads.Learnt, block-below t, block.Post)
+
+block-add-body : (t : ℕ) → block-lts.Need-add-body (block-claims t) (block-at t) block.Post
 block-add-body t c = let b = block-ready _ ((c .before .before .before .before .pre) .1 .good) ((c .before .before .before .before .pre) .1) in omega arith
 
--- src/stmts.rt:70:9
-block-body-requires : (t : ℕ) → block-lts.Need-body-requires (
-  body-below t,
-  body.Post,
-  coded-reads.Asked,
-  coded-reads.Learnt,
-  store-reads.Asked,
-  store-reads.Learnt,
-) (block-at t) block.Post
+block-body-requires : (t : ℕ) → block-lts.Need-body-requires (block-claims t) (block-at t) block.Post
 block-body-requires t c κs = (omega (arith, (c .before .before .before .before .pre) .0), block-ready _ ((c .before .before .before .before .pre) .1 .good) ((c .before .before .before .before .pre) .1) .1)
 
--- src/stmts.rt:72:13
-block-sub-n : (t : ℕ) → block-lts.Need-sub-n (
-  body-below t,
-  body.Post,
-  coded-reads.Asked,
-  coded-reads.Learnt,
-  store-reads.Asked,
-  store-reads.Learnt,
-) (block-at t) block.Post
+block-sub-n : (t : ℕ) → block-lts.Need-sub-n (block-claims t) (block-at t) block.Post
 block-sub-n t c = let b = block-ready _ ((c .before .before .before .before .before .before .before .pre) .1 .good) ((c .before .before .before .before .before .before .before .pre) .1) in
     omega (arith, (c .before .before .body) .ensures .at, placed-kept ((c .before .before .body) .ensures))
 
--- src/stmts.rt:72:13
-block-sub-n-2 : (t : ℕ) → block-lts.Need-sub-n-2 (
-  body-below t,
-  body.Post,
-  coded-reads.Asked,
-  coded-reads.Learnt,
-  store-reads.Asked,
-  store-reads.Learnt,
-) (block-at t) block.Post
+block-sub-n-2 : (t : ℕ) → block-lts.Need-sub-n-2 (block-claims t) (block-at t) block.Post
 block-sub-n-2 t c = let b = block-ready _ ((c .before .before .before .before .before .before .before .pre) .1 .good) ((c .before .before .before .before .before .before .before .pre) .1) in
     omega (arith, (c .before .before .body) .ensures .at, placed-kept ((c .before .before .body) .ensures))
 
--- src/stmts.rt:73:9
-block-coded-requires : (t : ℕ) → block-lts.Need-coded-requires (
-  body-below t,
-  body.Post,
-  coded-reads.Asked,
-  coded-reads.Learnt,
-  store-reads.Asked,
-  store-reads.Learnt,
-) (block-at t) block.Post
+block-coded-requires : (t : ℕ) → block-lts.Need-coded-requires (block-claims t) (block-at t) block.Post
 block-coded-requires t c κs = let b = block-ready _ ((c .before .before .before .before .before .before .before .pre) .1 .good) ((c .before .before .before .before .before .before .before .pre) .1) in
     (omega arith, omega arith, omega (arith, (c .before .before .body) .ensures .at, b .1 .few))
 
--- src/stmts.rt:74:5
-block-store-requires : (t : ℕ) → block-lts.Need-store-requires (
-  body-below t,
-  body.Post,
-  coded-reads.Asked,
-  coded-reads.Learnt,
-  store-reads.Asked,
-  store-reads.Learnt,
-) (block-at t) block.Post
+block-store-requires : (t : ℕ) → block-lts.Need-store-requires (block-claims t) (block-at t) block.Post
 block-store-requires t c κs = let b = block-ready _ ((c .before .before .before .before .before .before .before .before .before .pre) .1 .good) ((c .before .before .before .before .before .before .before .before .before .pre) .1) in
     omega (arith, (c .before .before .before .before .body) .ensures .at, placed-kept ((c .before .before .before .before .body) .ensures))
 
--- src/stmts.rt:66:1
-block-same-length : (t : ℕ) → block-lts.Need-same-length (
-  body-below t,
-  body.Post,
-  coded-reads.Asked,
-  coded-reads.Learnt,
-  store-reads.Asked,
-  store-reads.Learnt,
-) (block-at t) block.Post
+block-same-length : (t : ℕ) → block-lts.Need-same-length (block-claims t) (block-at t) block.Post
 block-same-length t c = (c .before .before .store) .kept .0 ∙ placed-kept ((c .before .before .before .before .before .before .before .body) .ensures)
 
--- src/stmts.rt:66:1
-block-returns : (t : ℕ) → block-lts.Need-returns (
-  body-below t,
-  body.Post,
-  coded-reads.Asked,
-  coded-reads.Learnt,
-  store-reads.Asked,
-  store-reads.Learnt,
-) (block-at t) block.Post
+block-returns : (t : ℕ) → block-lts.Need-returns (block-claims t) (block-at t) block.Post
 block-returns t c = block-wrote _ ((c .before .before .before .before .before .before .before .before .before .before .before .before .pre) .1 .good) ((c .before .before .before .before .before .before .before .body) .ensures) ((c .before .before .before .before .coded) .ensures) ((c .before .before .store) .ensures)
 
--- src/stmts.rt:83:18
-body-add-stmts :
-    (t : ℕ) → body-lts.Need-add-stmts (stmts-below t, stmts.Post) (body-at t) body.Post
+body-add-stmts : (t : ℕ) → body-lts.Need-add-stmts (body-claims t) (body-at t) body.Post
 body-add-stmts t c = let a = (c .before .before .before .args) in let f = body-facts (a .ar .now) (a .s .now) (a .depth) (a .at) ((c .before .before .before .pre) .1 .good) in omega arith
 
--- src/stmts.rt:83:33
-body-shared-slice-read-stmts : (t : ℕ) → body-lts.Need-shared-slice-read-stmts (
-  stmts-below t,
-  stmts.Post,
-) (body-at t) body.Post
+body-shared-slice-read-stmts : (t : ℕ) → body-lts.Need-shared-slice-read-stmts (body-claims t) (body-at t) body.Post
 body-shared-slice-read-stmts t c = let a = (c .before .before .before .before .args) in let f = body-facts (a .ar .now) (a .s .now) (a .depth) (a .at) ((c .before .before .before .before .pre) .1 .good) in omega arith
 
--- src/stmts.rt:83:5
-body-stmts-requires :
-    (t : ℕ) → body-lts.Need-stmts-requires (stmts-below t, stmts.Post) (body-at t) body.Post
+body-stmts-requires : (t : ℕ) → body-lts.Need-stmts-requires (body-claims t) (body-at t) body.Post
 body-stmts-requires t c κs = let a = (c .before .before .before .before .before .args) in
     let f = body-facts (a .ar .now) (a .s .now) (a .depth) (a .at) ((c .before .before .before .before .before .pre) .1 .good) in
     (omega (arith, (c .before .before .before .before .before .pre) .0, (c .before .shared-slice-known3) .given (a .at)), part-ready (f .part) ((c .before .before .before .before .before .pre) .1))
 
--- src/stmts.rt:79:1
-body-same-length :
-    (t : ℕ) → body-lts.Need-same-length (stmts-below t, stmts.Post) (body-at t) body.Post
+body-same-length : (t : ℕ) → body-lts.Need-same-length (body-claims t) (body-at t) body.Post
 body-same-length t c = placed-kept ((c .before .before .stmts) .ensures)
 
--- src/stmts.rt:79:1
-body-returns : (t : ℕ) → body-lts.Need-returns (stmts-below t, stmts.Post) (body-at t) body.Post
+body-returns : (t : ℕ) → body-lts.Need-returns (body-claims t) (body-at t) body.Post
 body-returns t c = let a = (c .before .before .before .before .before .before .before .before .args) in part-same (body-facts (a .ar .now) (a .s .now) (a .depth) (a .at) ((c .before .before .before .before .before .before .before .before .pre) .1 .good) .part) ((c .before .before .stmts) .ensures)
 
--- src/stmts.rt:41:15
-stmt-shared-slice-read-tag : (t : ℕ) → stmt-lts.Need-shared-slice-read-tag (
-  when-below t,
-  when.Post,
-  declare-reads.Asked,
-  declare-reads.Learnt,
-  update-reads.Asked,
-  update-reads.Learnt,
-  make-reads.Asked,
-  make-reads.Learnt,
-) (stmt-at t) stmt.Post
+stmt-shared-slice-read-tag : (t : ℕ) → stmt-lts.Need-shared-slice-read-tag (stmt-claims t) (stmt-at t) stmt.Post
 stmt-shared-slice-read-tag t c = let a = (c .before .before .before .before .args) in let i = stmt-in (a .ar .now) (a .s .now) (a .depth) (a .at) ((c .before .before .before .before .pre) .1 .good) in omega arith
 
--- src/stmts.rt:43:28
-stmt-add-when : (t : ℕ) → stmt-lts.Need-add-when (
-  when-below t,
-  when.Post,
-  declare-reads.Asked,
-  declare-reads.Learnt,
-  update-reads.Asked,
-  update-reads.Learnt,
-  make-reads.Asked,
-  make-reads.Learnt,
-) (stmt-at t) stmt.Post
+stmt-add-when : (t : ℕ) → stmt-lts.Need-add-when (stmt-claims t) (stmt-at t) stmt.Post
 stmt-add-when t c = let a = (c .before .before .before .before .before .args) in let i = stmt-in (a .ar .now) (a .s .now) (a .depth) (a .at) ((c .before .before .before .before .before .pre) .1 .good) in omega arith
 
--- src/stmts.rt:43:36
-stmt-sub-when : (t : ℕ) → stmt-lts.Need-sub-when (
-  when-below t,
-  when.Post,
-  declare-reads.Asked,
-  declare-reads.Learnt,
-  update-reads.Asked,
-  update-reads.Learnt,
-  make-reads.Asked,
-  make-reads.Learnt,
-) (stmt-at t) stmt.Post
+stmt-sub-when : (t : ℕ) → stmt-lts.Need-sub-when (stmt-claims t) (stmt-at t) stmt.Post
 stmt-sub-when t c = let a = (c .before .before .before .before .before .args) in let w = when-part (a .ar .now) (a .s .now) (a .depth) (a .at) ((c .before .before .before .before .before .pre) .1 .good) ((c .if1) .taken) in omega (arith, w .0)
 
--- src/stmts.rt:43:9
-stmt-when-requires : (t : ℕ) → stmt-lts.Need-when-requires (
-  when-below t,
-  when.Post,
-  declare-reads.Asked,
-  declare-reads.Learnt,
-  update-reads.Asked,
-  update-reads.Learnt,
-  make-reads.Asked,
-  make-reads.Learnt,
-) (stmt-at t) stmt.Post
+stmt-when-requires : (t : ℕ) → stmt-lts.Need-when-requires (stmt-claims t) (stmt-at t) stmt.Post
 stmt-when-requires t c κs = let a = (c .before .before .before .before .before .before .args) in
     let w = when-part (a .ar .now) (a .s .now) (a .depth) (a .at) ((c .before .before .before .before .before .before .pre) .1 .good) ((c .before .if1) .taken) in
     (omega (arith, (c .before .before .before .before .before .before .pre) .0, w .0), part-ready (w .1) ((c .before .before .before .before .before .before .pre) .1))
 
--- src/stmts.rt:43:9
-stmt-same-length : (t : ℕ) → stmt-lts.Need-same-length (
-  when-below t,
-  when.Post,
-  declare-reads.Asked,
-  declare-reads.Learnt,
-  update-reads.Asked,
-  update-reads.Learnt,
-  make-reads.Asked,
-  make-reads.Learnt,
-) (stmt-at t) stmt.Post
+stmt-same-length : (t : ℕ) → stmt-lts.Need-same-length (stmt-claims t) (stmt-at t) stmt.Post
 stmt-same-length t c = placed-kept ((c .before .before .when) .ensures)
 
--- src/stmts.rt:43:9
-stmt-returns : (t : ℕ) → stmt-lts.Need-returns (
-  when-below t,
-  when.Post,
-  declare-reads.Asked,
-  declare-reads.Learnt,
-  update-reads.Asked,
-  update-reads.Learnt,
-  make-reads.Asked,
-  make-reads.Learnt,
-) (stmt-at t) stmt.Post
+stmt-returns : (t : ℕ) → stmt-lts.Need-returns (stmt-claims t) (stmt-at t) stmt.Post
 stmt-returns t c = let a = (c .before .before .before .before .before .before .before .before .before .args) in part-same (when-part (a .ar .now) (a .s .now) (a .depth) (a .at) ((c .before .before .before .before .before .before .before .before .before .pre) .1 .good) ((c .before .before .before .before .if1) .taken) .1) ((c .before .before .when) .ensures)
 
--- src/stmts.rt:46:31
-stmt-add-declare : (t : ℕ) → stmt-lts.Need-add-declare (
-  when-below t,
-  when.Post,
-  declare-reads.Asked,
-  declare-reads.Learnt,
-  update-reads.Asked,
-  update-reads.Learnt,
-  make-reads.Asked,
-  make-reads.Learnt,
-) (stmt-at t) stmt.Post
+stmt-add-declare : (t : ℕ) → stmt-lts.Need-add-declare (stmt-claims t) (stmt-at t) stmt.Post
 stmt-add-declare t c = let a = (c .before .before .before .before .before .before .args) in let i = stmt-in (a .ar .now) (a .s .now) (a .depth) (a .at) ((c .before .before .before .before .before .before .pre) .1 .good) in omega arith
 
--- src/stmts.rt:46:9
-stmt-declare-requires : (t : ℕ) → stmt-lts.Need-declare-requires (
-  when-below t,
-  when.Post,
-  declare-reads.Asked,
-  declare-reads.Learnt,
-  update-reads.Asked,
-  update-reads.Learnt,
-  make-reads.Asked,
-  make-reads.Learnt,
-) (stmt-at t) stmt.Post
+stmt-declare-requires : (t : ℕ) → stmt-lts.Need-declare-requires (stmt-claims t) (stmt-at t) stmt.Post
 stmt-declare-requires t c κs = let a = (c .before .before .before .before .before .before .before .args) in part-ready (declare-part (a .ar .now) (a .s .now) (a .depth) (a .at) ((c .before .before .before .before .before .before .before .pre) .1 .good) ((c .before .if2) .taken)) ((c .before .before .before .before .before .before .before .pre) .1)
 
--- src/stmts.rt:46:9
-stmt-same-length-2 : (t : ℕ) → stmt-lts.Need-same-length-2 (
-  when-below t,
-  when.Post,
-  declare-reads.Asked,
-  declare-reads.Learnt,
-  update-reads.Asked,
-  update-reads.Learnt,
-  make-reads.Asked,
-  make-reads.Learnt,
-) (stmt-at t) stmt.Post
+stmt-same-length-2 : (t : ℕ) → stmt-lts.Need-same-length-2 (stmt-claims t) (stmt-at t) stmt.Post
 stmt-same-length-2 t c = placed-kept ((c .before .before .declare) .ensures)
 
--- src/stmts.rt:46:9
-stmt-returns-2 : (t : ℕ) → stmt-lts.Need-returns-2 (
-  when-below t,
-  when.Post,
-  declare-reads.Asked,
-  declare-reads.Learnt,
-  update-reads.Asked,
-  update-reads.Learnt,
-  make-reads.Asked,
-  make-reads.Learnt,
-) (stmt-at t) stmt.Post
+stmt-returns-2 : (t : ℕ) → stmt-lts.Need-returns-2 (stmt-claims t) (stmt-at t) stmt.Post
 stmt-returns-2 t c = let a = (c .before .before .before .before .before .before .before .before .before .before .args) in part-same (declare-part (a .ar .now) (a .s .now) (a .depth) (a .at) ((c .before .before .before .before .before .before .before .before .before .before .pre) .1 .good) ((c .before .before .before .before .if2) .taken)) ((c .before .before .declare) .ensures)
 
--- src/stmts.rt:49:30
-stmt-add-update : (t : ℕ) → stmt-lts.Need-add-update (
-  when-below t,
-  when.Post,
-  declare-reads.Asked,
-  declare-reads.Learnt,
-  update-reads.Asked,
-  update-reads.Learnt,
-  make-reads.Asked,
-  make-reads.Learnt,
-) (stmt-at t) stmt.Post
+stmt-add-update : (t : ℕ) → stmt-lts.Need-add-update (stmt-claims t) (stmt-at t) stmt.Post
 stmt-add-update t c = let a = (c .before .before .before .before .before .before .before .args) in let i = stmt-in (a .ar .now) (a .s .now) (a .depth) (a .at) ((c .before .before .before .before .before .before .before .pre) .1 .good) in omega arith
 
--- src/stmts.rt:49:9
-stmt-update-requires : (t : ℕ) → stmt-lts.Need-update-requires (
-  when-below t,
-  when.Post,
-  declare-reads.Asked,
-  declare-reads.Learnt,
-  update-reads.Asked,
-  update-reads.Learnt,
-  make-reads.Asked,
-  make-reads.Learnt,
-) (stmt-at t) stmt.Post
+stmt-update-requires : (t : ℕ) → stmt-lts.Need-update-requires (stmt-claims t) (stmt-at t) stmt.Post
 stmt-update-requires t c κs = let a = (c .before .before .before .before .before .before .before .before .args) in part-ready (updated-part (a .ar .now) (a .s .now) (a .depth) (a .at) ((c .before .before .before .before .before .before .before .before .pre) .1 .good) ((c .before .if3) .taken)) ((c .before .before .before .before .before .before .before .before .pre) .1)
 
--- src/stmts.rt:49:9
-stmt-same-length-3 : (t : ℕ) → stmt-lts.Need-same-length-3 (
-  when-below t,
-  when.Post,
-  declare-reads.Asked,
-  declare-reads.Learnt,
-  update-reads.Asked,
-  update-reads.Learnt,
-  make-reads.Asked,
-  make-reads.Learnt,
-) (stmt-at t) stmt.Post
+stmt-same-length-3 : (t : ℕ) → stmt-lts.Need-same-length-3 (stmt-claims t) (stmt-at t) stmt.Post
 stmt-same-length-3 t c = placed-kept ((c .before .before .update) .ensures)
 
--- src/stmts.rt:49:9
-stmt-returns-3 : (t : ℕ) → stmt-lts.Need-returns-3 (
-  when-below t,
-  when.Post,
-  declare-reads.Asked,
-  declare-reads.Learnt,
-  update-reads.Asked,
-  update-reads.Learnt,
-  make-reads.Asked,
-  make-reads.Learnt,
-) (stmt-at t) stmt.Post
+stmt-returns-3 : (t : ℕ) → stmt-lts.Need-returns-3 (stmt-claims t) (stmt-at t) stmt.Post
 stmt-returns-3 t c = let a = (c .before .before .before .before .before .before .before .before .before .before .before .args) in part-same (updated-part (a .ar .now) (a .s .now) (a .depth) (a .at) ((c .before .before .before .before .before .before .before .before .before .before .before .pre) .1 .good) ((c .before .before .before .before .if3) .taken)) ((c .before .before .update) .ensures)
 
--- src/stmts.rt:51:17
-stmt-add-make : (t : ℕ) → stmt-lts.Need-add-make (
-  when-below t,
-  when.Post,
-  declare-reads.Asked,
-  declare-reads.Learnt,
-  update-reads.Asked,
-  update-reads.Learnt,
-  make-reads.Asked,
-  make-reads.Learnt,
-) (stmt-at t) stmt.Post
+stmt-add-make : (t : ℕ) → stmt-lts.Need-add-make (stmt-claims t) (stmt-at t) stmt.Post
 stmt-add-make t c = let a = (c .before .before .before .before .before .before .before .args) in let i = stmt-in (a .ar .now) (a .s .now) (a .depth) (a .at) ((c .before .before .before .before .before .before .before .pre) .1 .good) in omega arith
 
--- src/stmts.rt:51:5
-stmt-make-requires : (t : ℕ) → stmt-lts.Need-make-requires (
-  when-below t,
-  when.Post,
-  declare-reads.Asked,
-  declare-reads.Learnt,
-  update-reads.Asked,
-  update-reads.Learnt,
-  make-reads.Asked,
-  make-reads.Learnt,
-) (stmt-at t) stmt.Post
+stmt-make-requires : (t : ℕ) → stmt-lts.Need-make-requires (stmt-claims t) (stmt-at t) stmt.Post
 stmt-make-requires t c κs = let a = (c .before .before .before .before .before .before .before .before .args) in part-ready (create-part (a .ar .now) (a .s .now) (a .depth) (a .at) ((c .before .before .before .before .before .before .before .before .pre) .1 .good) ((c .before .before .before .if1) .left) ((c .before .before .if2) .left) ((c .before .if3) .left)) ((c .before .before .before .before .before .before .before .before .pre) .1)
 
--- src/stmts.rt:37:1
-stmt-same-length-4 : (t : ℕ) → stmt-lts.Need-same-length-4 (
-  when-below t,
-  when.Post,
-  declare-reads.Asked,
-  declare-reads.Learnt,
-  update-reads.Asked,
-  update-reads.Learnt,
-  make-reads.Asked,
-  make-reads.Learnt,
-) (stmt-at t) stmt.Post
+stmt-same-length-4 : (t : ℕ) → stmt-lts.Need-same-length-4 (stmt-claims t) (stmt-at t) stmt.Post
 stmt-same-length-4 t c = placed-kept ((c .before .before .make) .ensures)
 
--- src/stmts.rt:37:1
-stmt-returns-4 : (t : ℕ) → stmt-lts.Need-returns-4 (
-  when-below t,
-  when.Post,
-  declare-reads.Asked,
-  declare-reads.Learnt,
-  update-reads.Asked,
-  update-reads.Learnt,
-  make-reads.Asked,
-  make-reads.Learnt,
-) (stmt-at t) stmt.Post
+stmt-returns-4 : (t : ℕ) → stmt-lts.Need-returns-4 (stmt-claims t) (stmt-at t) stmt.Post
 stmt-returns-4 t c = let a = (c .before .before .before .before .before .before .before .before .before .before .before .args) in
     part-same (create-part (a .ar .now) (a .s .now) (a .depth) (a .at) ((c .before .before .before .before .before .before .before .before .before .before .before .pre) .1 .good) ((c .before .before .before .before .before .before .if1) .left) ((c .before .before .before .before .before .if2) .left) ((c .before .before .before .before .if3) .left)) ((c .before .before .make) .ensures)
 
--- src/stmts.rt:92:9
-stmts-returns : (t : ℕ) → stmts-lts.Need-returns (
-  stmt-below t,
-  stmt.Post,
-  stmts-below t,
-  stmts.Post,
-) (stmts-at t) stmts.Post
+stmts-returns : (t : ℕ) → stmts-lts.Need-returns (stmts-claims t) (stmts-at t) stmts.Post
 stmts-returns t c = let a = (c .before .before .before .before .args) in stmts-none (a .ar .now) (a .s .now) (a .depth) (a .n) (a .at) ((c .if1) .taken) (a .out .now) (a .k)
 
--- src/stmts.rt:94:9
-stmts-stmt-requires : (t : ℕ) → stmts-lts.Need-stmt-requires (
-  stmt-below t,
-  stmt.Post,
-  stmts-below t,
-  stmts.Post,
-) (stmts-at t) stmts.Post
+stmts-stmt-requires : (t : ℕ) → stmts-lts.Need-stmt-requires (stmts-claims t) (stmts-at t) stmts.Post
 stmts-stmt-requires t c κs = let a = (c .before .before .before .before .before .args) in
     let f = stmts-more (a .ar .now) (a .s .now) (a .depth) (a .n) (a .at) ((c .before .if1) .left) ((c .before .before .before .before .before .pre) .1 .good) in
     (omega (arith, (c .before .before .before .before .before .pre) .0), parts-ready f ((c .before .before .before .before .before .pre) .1))
 
--- src/stmts.rt:97:31
-stmts-sub-stmts : (t : ℕ) → stmts-lts.Need-sub-stmts (
-  stmt-below t,
-  stmt.Post,
-  stmts-below t,
-  stmts.Post,
-) (stmts-at t) stmts.Post
+stmts-sub-stmts : (t : ℕ) → stmts-lts.Need-sub-stmts (stmts-claims t) (stmts-at t) stmts.Post
 stmts-sub-stmts t c = omega (arith, (c .before .before .before .before .if1) .left)
 
--- src/stmts.rt:97:5
-stmts-stmts-requires : (t : ℕ) → stmts-lts.Need-stmts-requires (
-  stmt-below t,
-  stmt.Post,
-  stmts-below t,
-  stmts.Post,
-) (stmts-at t) stmts.Post
+stmts-stmts-requires : (t : ℕ) → stmts-lts.Need-stmts-requires (stmts-claims t) (stmts-at t) stmts.Post
 stmts-stmts-requires t c κs = let a = (c .before .before .before .before .before .before .before .before .before .args) in
     let f = stmts-more (a .ar .now) (a .s .now) (a .depth) (a .n) (a .at) ((c .before .before .before .before .before .if1) .left) ((c .before .before .before .before .before .before .before .before .before .pre) .1 .good) in
     (omega (arith, (c .before .before .before .before .before .before .before .before .before .pre) .0, (c .before .before .before .before .before .if1) .left), parts-next f ((c .before .before .before .before .before .before .before .before .before .pre) .1) ((c .before .before .before .stmt) .ensures))
 
--- src/stmts.rt:87:1
-stmts-same-length : (t : ℕ) → stmts-lts.Need-same-length (
-  stmt-below t,
-  stmt.Post,
-  stmts-below t,
-  stmts.Post,
-) (stmts-at t) stmts.Post
+stmts-same-length : (t : ℕ) → stmts-lts.Need-same-length (stmts-claims t) (stmts-at t) stmts.Post
 stmts-same-length t c = placed-kept ((c .before .before .stmts) .ensures) ∙ placed-kept ((c .before .before .before .before .before .before .stmt) .ensures)
 
--- src/stmts.rt:87:1
-stmts-returns-2 : (t : ℕ) → stmts-lts.Need-returns-2 (
-  stmt-below t,
-  stmt.Post,
-  stmts-below t,
-  stmts.Post,
-) (stmts-at t) stmts.Post
+stmts-returns-2 : (t : ℕ) → stmts-lts.Need-returns-2 (stmts-claims t) (stmts-at t) stmts.Post
 stmts-returns-2 t c = let a = (c .before .before .before .before .before .before .before .before .before .before .before .before .args) in
     let f = stmts-more (a .ar .now) (a .s .now) (a .depth) (a .n) (a .at) ((c .before .before .before .before .before .before .before .before .if1) .left) ((c .before .before .before .before .before .before .before .before .before .before .before .before .pre) .1 .good) in
     parts-same ((c .before .before .before .before .before .before .stmt) .ensures) ((c .before .before .stmts) .ensures) f
 
--- src/stmts.rt:59:9
-when-expr-requires : (t : ℕ) → when-lts.Need-expr-requires (
-  expr-reads.Asked,
-  expr-reads.Learnt,
-  block-below t,
-  block.Post,
-) (when-at t) when.Post
+when-expr-requires : (t : ℕ) → when-lts.Need-expr-requires (when-claims t) (when-at t) when.Post
 when-expr-requires t c κs = let a = (c .before .before .before .before .args) in parts-ready (when-parts (a .ar .now) (a .s .now) (a .depth) (a .at) ((c .before .before .before .before .pre) .1 .good)) ((c .before .before .before .before .pre) .1)
 
--- src/stmts.rt:62:5
-when-block-requires : (t : ℕ) → when-lts.Need-block-requires (
-  expr-reads.Asked,
-  expr-reads.Learnt,
-  block-below t,
-  block.Post,
-) (when-at t) when.Post
+when-block-requires : (t : ℕ) → when-lts.Need-block-requires (when-claims t) (when-at t) when.Post
 when-block-requires t c κs = let a = (c .before .before .before .before .before .before .before .before .args) in
     (omega (arith, (c .before .before .before .before .before .before .before .before .pre) .0), parts-next (when-parts (a .ar .now) (a .s .now) (a .depth) (a .at) ((c .before .before .before .before .before .before .before .before .pre) .1 .good)) ((c .before .before .before .before .before .before .before .before .pre) .1) ((c .before .before .before .expr) .ensures))
 
--- src/stmts.rt:55:1
-when-same-length : (t : ℕ) → when-lts.Need-same-length (
-  expr-reads.Asked,
-  expr-reads.Learnt,
-  block-below t,
-  block.Post,
-) (when-at t) when.Post
+when-same-length : (t : ℕ) → when-lts.Need-same-length (when-claims t) (when-at t) when.Post
 when-same-length t c = placed-kept ((c .before .before .block) .ensures) ∙ placed-kept ((c .before .before .before .before .before .before .expr) .ensures)
 
--- src/stmts.rt:55:1
-when-returns : (t : ℕ) → when-lts.Need-returns (
-  expr-reads.Asked,
-  expr-reads.Learnt,
-  block-below t,
-  block.Post,
-) (when-at t) when.Post
+when-returns : (t : ℕ) → when-lts.Need-returns (when-claims t) (when-at t) when.Post
 when-returns t c = let a = (c .before .before .before .before .before .before .before .before .before .before .before .args) in parts-same ((c .before .before .before .before .before .before .expr) .ensures) ((c .before .before .block) .ensures) (when-parts (a .ar .now) (a .s .now) (a .depth) (a .at) ((c .before .before .before .before .before .before .before .before .before .before .before .pre) .1 .good))
 
 pub +block+body+stmt+stmts+when-spec : {M : Type 1} → statement M
-+block+body+stmt+stmts+when-spec = close μ-block μ-body μ-stmt μ-stmts μ-when (λ t. block-lts.spec (
-  body-below t,
-  body.Post,
-  coded-reads.Asked,
-  coded-reads.Learnt,
-  store-reads.Asked,
-  store-reads.Learnt,
-)
-    (block-at t)
++block+body+stmt+stmts+when-spec = close μ-block μ-body μ-stmt μ-stmts μ-when (λ t. block-lts.spec (block-claims t) (block-at t)
     block.Post
     (block-add-body t)
     (block-body-requires t)
@@ -548,26 +243,14 @@ pub +block+body+stmt+stmts+when-spec : {M : Type 1} → statement M
     (block-store-requires t)
     (block-same-length t)
     (block-returns t))
-    (λ t. body-lts.spec
-    (stmts-below t, stmts.Post)
-    (body-at t)
+    (λ t. body-lts.spec (body-claims t) (body-at t)
     body.Post
     (body-add-stmts t)
     (body-shared-slice-read-stmts t)
     (body-stmts-requires t)
     (body-same-length t)
     (body-returns t))
-    (λ t. stmt-lts.spec (
-      when-below t,
-      when.Post,
-      declare-reads.Asked,
-      declare-reads.Learnt,
-      update-reads.Asked,
-      update-reads.Learnt,
-      make-reads.Asked,
-      make-reads.Learnt,
-    )
-    (stmt-at t)
+    (λ t. stmt-lts.spec (stmt-claims t) (stmt-at t)
     stmt.Post
     (stmt-shared-slice-read-tag t)
     (stmt-add-when t)
@@ -587,9 +270,7 @@ pub +block+body+stmt+stmts+when-spec : {M : Type 1} → statement M
     (stmt-make-requires t)
     (stmt-same-length-4 t)
     (stmt-returns-4 t))
-    (λ t. stmts-lts.spec
-    (stmt-below t, stmt.Post, stmts-below t, stmts.Post)
-    (stmts-at t)
+    (λ t. stmts-lts.spec (stmts-claims t) (stmts-at t)
     stmts.Post
     (stmts-returns t)
     (stmts-stmt-requires t)
@@ -597,9 +278,7 @@ pub +block+body+stmt+stmts+when-spec : {M : Type 1} → statement M
     (stmts-stmts-requires t)
     (stmts-same-length t)
     (stmts-returns-2 t))
-    λ t. when-lts.spec
-    (expr-reads.Asked, expr-reads.Learnt, block-below t, block.Post)
-    (when-at t)
+    λ t. when-lts.spec (when-claims t) (when-at t)
     when.Post
     (when-expr-requires t)
     (when-block-requires t)

@@ -1,3 +1,4 @@
+-- `emit::stmts::declare` meets its contract: push this and a write behind the expression.
 use borrow.Author.Needs.{needs}
 use Rattle.emit.proofs.stmts.declare.Statement.{statement}
 use native.Mathlib.Omega.{arith}
@@ -6,51 +7,40 @@ use Rattle.emit.specs.PartsLaws.{part-ready, part-room}
 use Rattle.emit.specs.StmtLaws.{declare-facts, declare-wrote}
 use Rattle.emit.proofs.stmts.declare.Tie as tie
 
--- src/stmts.rt:14:25
 add-expr : tie.Need-add-expr
 add-expr c = let a = (c .before .before .before .args) in let f = declare-facts (a .ar .now) (a .s .now) (a .at) ((c .before .before .before .pre) .good) in omega arith
 
--- src/stmts.rt:14:9
 expr-requires : tie.Need-expr-requires
 expr-requires c κs = let a = (c .before .before .before .before .args) in let f = declare-facts (a .ar .now) (a .s .now) (a .at) ((c .before .before .before .before .pre) .good) in part-ready (f .part) ((c .before .before .before .before .pre))
 
--- src/stmts.rt:15:9
 coded-requires : tie.Need-coded-requires
 coded-requires c κs = search needs
 
--- src/stmts.rt:16:9
 add-requires : tie.Need-add-requires
 add-requires c κs = let a = (c .before .before .before .before .before .before .before .before .before .args) in
     let f = declare-facts (a .ar .now) (a .s .now) (a .at) ((c .before .before .before .before .before .before .before .before .before .pre) .good) in
     omega (arith, part-room (f .part) ((c .before .before .before .before .before .before .before .before .before .pre)) ((c .before .before .before .before .expr) .ensures))
 
--- src/stmts.rt:17:32
 add-wide : tie.Need-add-wide
 add-wide c = let a = (c .before .before .before .before .before .before .before .before .before .before .before .before .args) in let f = declare-facts (a .ar .now) (a .s .now) (a .at) ((c .before .before .before .before .before .before .before .before .before .before .before .before .pre) .good) in omega arith
 
--- src/stmts.rt:17:30
 shared-slice-read-wide : tie.Need-shared-slice-read-wide
 shared-slice-read-wide c = let a = (c .before .before .before .before .before .before .before .before .before .before .before .before .before .args) in let f = declare-facts (a .ar .now) (a .s .now) (a .at) ((c .before .before .before .before .before .before .before .before .before .before .before .before .before .pre) .good) in omega arith
 
--- src/stmts.rt:17:25
 wide-requires : tie.Need-wide-requires
 wide-requires c κs = search needs
 
--- src/stmts.rt:17:9
 coded-requires-2 : tie.Need-coded-requires-2
 coded-requires-2 c κs = search needs
 
--- src/stmts.rt:18:5
 add-requires-2 : tie.Need-add-requires-2
 add-requires-2 c κs = let a = (c .before .before .before .before .before .before .before .before .before .before .before .before .before .before .before .before .args) in
     let f = declare-facts (a .ar .now) (a .s .now) (a .at) ((c .before .before .before .before .before .before .before .before .before .before .before .before .before .before .before .before .pre) .good) in
     omega (arith, part-room (f .part) ((c .before .before .before .before .before .before .before .before .before .before .before .before .before .before .before .before .pre)) ((c .before .before .before .before .before .before .before .before .before .before .before .expr) .ensures), (c .before .before .before .before .before .before .add) .ensures .1, (c .before .before .before .before .before .before .add) .kept .0)
 
--- src/stmts.rt:10:1
 same-length : tie.Need-same-length
 same-length c = search needs
 
--- src/stmts.rt:10:1
 returns : tie.Need-returns
 returns c = let a = (c .before .before .before .before .before .before .before .before .before .before .before .before .before .before .before .before .before .before .before .args) in
     let f = declare-facts (a .ar .now) (a .s .now) (a .at) ((c .before .before .before .before .before .before .before .before .before .before .before .before .before .before .before .before .before .before .before .pre) .good) in

@@ -1,3 +1,4 @@
+-- `emit::words::reads` meets its contract. The measure is the variables that are left.
 use Prim.Native.Nat.{ℕ, _<_}
 use borrow.Fn.Kinds.{In}
 use borrow.Fn.PlainCycle.{Measures, is, falls, and}
@@ -22,162 +23,46 @@ reads-at t = and 2 reads-kinds.ps (is 2 reads-kinds.ps μ-reads t) reads′.Pre
 abbrev reads-below : ℕ → In 2 reads-kinds.ps
 reads-below t = and 2 reads-kinds.ps (falls 2 reads-kinds.ps _<_ μ-reads t) reads′.Pre
 
--- src/words.rt:111:9
-reads-returns : (t : ℕ) → reads-lts.Need-returns (
-  wide-reads.Asked,
-  wide-reads.Learnt,
-  coded-reads.Asked,
-  coded-reads.Learnt,
-  store-reads.Asked,
-  store-reads.Learnt,
-  reads-below t,
-  reads′.Post,
-) (reads-at t) reads′.Post
+-- what the functions that each calls ask and give
+abbrev reads-claims : ℕ → reads-lts.Claims
+reads-claims t = (wide-reads.Asked, wide-reads.Learnt, coded-reads.Asked, coded-reads.Learnt, store-reads.Asked, store-reads.Learnt, reads-below t, reads′.Post)
+
+reads-returns : (t : ℕ) → reads-lts.Need-returns (reads-claims t) (reads-at t) reads′.Post
 reads-returns t c = let a = (c .before .before .before .args) in reads-none (a .s .now) (a .at) (a .k) (a .n) (a .out .now) ((c .if1) .taken)
 
--- src/words.rt:113:30
-reads-shared-slice-read-wide : (t : ℕ) → reads-lts.Need-shared-slice-read-wide (
-  wide-reads.Asked,
-  wide-reads.Learnt,
-  coded-reads.Asked,
-  coded-reads.Learnt,
-  store-reads.Asked,
-  store-reads.Learnt,
-  reads-below t,
-  reads′.Post,
-) (reads-at t) reads′.Post
+reads-shared-slice-read-wide : (t : ℕ) → reads-lts.Need-shared-slice-read-wide (reads-claims t) (reads-at t) reads′.Post
 reads-shared-slice-read-wide t c = omega (arith, (c .before .before .before .before .pre))
 
--- src/words.rt:113:25
-reads-wide-requires : (t : ℕ) → reads-lts.Need-wide-requires (
-  wide-reads.Asked,
-  wide-reads.Learnt,
-  coded-reads.Asked,
-  coded-reads.Learnt,
-  store-reads.Asked,
-  store-reads.Learnt,
-  reads-below t,
-  reads′.Post,
-) (reads-at t) reads′.Post
+reads-wide-requires : (t : ℕ) → reads-lts.Need-wide-requires (reads-claims t) (reads-at t) reads′.Post
 reads-wide-requires t c κs = omega (arith, (c .before .before .before .before .pre))
 
--- src/words.rt:113:9
-reads-coded-requires : (t : ℕ) → reads-lts.Need-coded-requires (
-  wide-reads.Asked,
-  wide-reads.Learnt,
-  coded-reads.Asked,
-  coded-reads.Learnt,
-  store-reads.Asked,
-  store-reads.Learnt,
-  reads-below t,
-  reads′.Post,
-) (reads-at t) reads′.Post
+reads-coded-requires : (t : ℕ) → reads-lts.Need-coded-requires (reads-claims t) (reads-at t) reads′.Post
 reads-coded-requires t c κs = omega (arith, (c .before .before .before .before .before .pre))
 
--- src/words.rt:114:5
-reads-store-requires : (t : ℕ) → reads-lts.Need-store-requires (
-  wide-reads.Asked,
-  wide-reads.Learnt,
-  coded-reads.Asked,
-  coded-reads.Learnt,
-  store-reads.Asked,
-  store-reads.Learnt,
-  reads-below t,
-  reads′.Post,
-) (reads-at t) reads′.Post
+reads-store-requires : (t : ℕ) → reads-lts.Need-store-requires (reads-claims t) (reads-at t) reads′.Post
 reads-store-requires t c κs = omega (arith, (c .before .before .before .before .before .before .before .pre))
 
--- src/words.rt:115:14
-reads-add-reads : (t : ℕ) → reads-lts.Need-add-reads (
-  wide-reads.Asked,
-  wide-reads.Learnt,
-  coded-reads.Asked,
-  coded-reads.Learnt,
-  store-reads.Asked,
-  store-reads.Learnt,
-  reads-below t,
-  reads′.Post,
-) (reads-at t) reads′.Post
+reads-add-reads : (t : ℕ) → reads-lts.Need-add-reads (reads-claims t) (reads-at t) reads′.Post
 reads-add-reads t c = omega (arith, (c .before .before .before .before .before .before .before .before .before .before .pre))
 
--- src/words.rt:115:22
-reads-sub-reads : (t : ℕ) → reads-lts.Need-sub-reads (
-  wide-reads.Asked,
-  wide-reads.Learnt,
-  coded-reads.Asked,
-  coded-reads.Learnt,
-  store-reads.Asked,
-  store-reads.Learnt,
-  reads-below t,
-  reads′.Post,
-) (reads-at t) reads′.Post
+reads-sub-reads : (t : ℕ) → reads-lts.Need-sub-reads (reads-claims t) (reads-at t) reads′.Post
 reads-sub-reads t c = omega (arith, (c .before .before .before .before .before .before .before .before .before .before .pre))
 
--- src/words.rt:115:34
-reads-add-reads-2 : (t : ℕ) → reads-lts.Need-add-reads-2 (
-  wide-reads.Asked,
-  wide-reads.Learnt,
-  coded-reads.Asked,
-  coded-reads.Learnt,
-  store-reads.Asked,
-  store-reads.Learnt,
-  reads-below t,
-  reads′.Post,
-) (reads-at t) reads′.Post
+reads-add-reads-2 : (t : ℕ) → reads-lts.Need-add-reads-2 (reads-claims t) (reads-at t) reads′.Post
 reads-add-reads-2 t c = omega (arith, (c .before .before .before .before .before .before .before .before .before .before .before .pre))
 
--- src/words.rt:115:5
-reads-reads-requires : (t : ℕ) → reads-lts.Need-reads-requires (
-  wide-reads.Asked,
-  wide-reads.Learnt,
-  coded-reads.Asked,
-  coded-reads.Learnt,
-  store-reads.Asked,
-  store-reads.Learnt,
-  reads-below t,
-  reads′.Post,
-) (reads-at t) reads′.Post
+reads-reads-requires : (t : ℕ) → reads-lts.Need-reads-requires (reads-claims t) (reads-at t) reads′.Post
 reads-reads-requires t c κs = (omega (arith, (c .before .before .before .before .before .before .before .before .before .before .before .pre)), omega (arith, (c .before .before .before .before .before .before .before .before .before .before .before .pre), (c .before .before .before .store) .kept .0))
 
--- src/words.rt:106:1
-reads-same-length : (t : ℕ) → reads-lts.Need-same-length (
-  wide-reads.Asked,
-  wide-reads.Learnt,
-  coded-reads.Asked,
-  coded-reads.Learnt,
-  store-reads.Asked,
-  store-reads.Learnt,
-  reads-below t,
-  reads′.Post,
-) (reads-at t) reads′.Post
+reads-same-length : (t : ℕ) → reads-lts.Need-same-length (reads-claims t) (reads-at t) reads′.Post
 reads-same-length t c = (c .before .before .reads) .kept .1 .1 .1 .0 ∙ (c .before .before .before .before .before .before .store) .kept .0
 
--- src/words.rt:106:1
-reads-returns-2 : (t : ℕ) → reads-lts.Need-returns-2 (
-  wide-reads.Asked,
-  wide-reads.Learnt,
-  coded-reads.Asked,
-  coded-reads.Learnt,
-  store-reads.Asked,
-  store-reads.Learnt,
-  reads-below t,
-  reads′.Post,
-) (reads-at t) reads′.Post
+reads-returns-2 : (t : ℕ) → reads-lts.Need-returns-2 (reads-claims t) (reads-at t) reads′.Post
 reads-returns-2 t c = let a = (c .before .before .before .before .before .before .before .before .before .before .before .before .before .before .args) in
     reads-more (a .s .now) (a .at) (a .k) (a .n) (a .out .now) ((c .before .before .before .before .before .before .before .before .before .before .before .if1) .left) _ _ _ _ _ ((c .before .before .before .before .before .before .before .before .before .wide) .ensures .0) ((c .before .before .before .before .before .before .before .before .coded) .ensures) ((c .before .before .before .before .before .before .store) .ensures) ((c .before .before .reads) .ensures)
 
 pub +reads-spec : {M : Type 1} → statement M
-+reads-spec = close μ-reads λ t. reads-lts.spec (
-  wide-reads.Asked,
-  wide-reads.Learnt,
-  coded-reads.Asked,
-  coded-reads.Learnt,
-  store-reads.Asked,
-  store-reads.Learnt,
-  reads-below t,
-  reads′.Post,
-)
-    (reads-at t)
++reads-spec = close μ-reads λ t. reads-lts.spec (reads-claims t) (reads-at t)
     reads′.Post
     (reads-returns t)
     (reads-shared-slice-read-wide t)

@@ -1,26 +1,22 @@
+-- `emit::words::coded` meets its contract: the sum is the coding's.
 use borrow.Author.Needs.{needs}
 use Rattle.emit.proofs.words.coded.Statement.{statement}
 use Rattle.commands.specs.Coding.{coded}
 use mathlib.Core.Path.{refl}
 use Rattle.emit.proofs.words.coded.Tie as tie
 
--- src/words.rt:31:12
 mul-result : tie.Need-mul-result
 mul-result c = search needs
 
--- src/words.rt:31:5
 add-result : tie.Need-add-result
 add-result c = search needs
 
--- src/words.rt:31:24
 mul-result-2 : tie.Need-mul-result-2
 mul-result-2 c = search needs
 
--- src/words.rt:31:5
 add-result-2 : tie.Need-add-result-2
 add-result-2 c = search needs
 
--- src/words.rt:27:1
 returns : tie.Need-returns
 unfolding coded
 returns c = refl

@@ -1,69 +1,54 @@
+-- `emit::words::leaf` meets its contract: a law for each test's way.
 use borrow.Author.Needs.{needs}
 use Rattle.emit.proofs.words.leaf.Statement.{statement}
 use Rattle.emit.specs.LeafLaws.{leaf-in, leaf-word-in, leaf-byte-in, leaf-word-is, leaf-bool-is, leaf-null-is, leaf-this-is}
 use Rattle.emit.proofs.words.leaf.Tie as tie
 
--- src/words.rt:90:15
 shared-slice-read-tag : tie.Need-shared-slice-read-tag
 shared-slice-read-tag c = leaf-in ((c .before .before .args) .s .now) ((c .before .before .args) .at) ((c .before .before .pre) .1)
 
--- src/words.rt:92:25
 add-word : tie.Need-add-word
 add-word c = search needs
 
--- src/words.rt:92:13
 word-requires : tie.Need-word-requires
 word-requires c κs = leaf-word-in ((c .before .before .before .args) .s .now) ((c .before .before .before .args) .at) ((c .before .before .before .pre) .1) ((c .if1) .taken)
 
--- src/words.rt:93:30
 sub-wide : tie.Need-sub-wide
 sub-wide c = search needs
 
--- src/words.rt:93:25
 wide-requires : tie.Need-wide-requires
 wide-requires c κs = search needs
 
--- src/words.rt:93:9
 coded-requires : tie.Need-coded-requires
 coded-requires c κs = search needs
 
--- src/words.rt:93:9
 returns : tie.Need-returns
 returns c = leaf-word-is ((c .before .before .before .before .before .before .args) .s .now) ((c .before .before .before .before .before .before .args) .at) ((c .before .before .before .if1) .taken) ((c .before .before .word) .ensures .0) ((c .before .wide) .ensures .0) ((c .coded) .ensures)
 
--- src/words.rt:96:19
 add-b : tie.Need-add-b
 add-b c = search needs
 
--- src/words.rt:96:17
 shared-slice-read-b : tie.Need-shared-slice-read-b
 shared-slice-read-b c = leaf-byte-in ((c .before .before .before .before .before .args) .s .now) ((c .before .before .before .before .before .args) .at) ((c .before .before .before .before .before .pre) .1) ((c .before .before .if1) .left) ((c .before .if2) .taken)
 
--- src/words.rt:98:32
 wide-requires-2 : tie.Need-wide-requires-2
 wide-requires-2 c κs = search needs
 
--- src/words.rt:98:13
 coded-requires-2 : tie.Need-coded-requires-2
 coded-requires-2 c κs = search needs
 
--- src/words.rt:98:13
 returns-2 : tie.Need-returns-2
 returns-2 c = leaf-bool-is ((c .before .before .before .before .before .before .before .before .args) .s .now) ((c .before .before .before .before .before .before .before .before .args) .at) ((c .before .before .before .before .before .if1) .left) ((c .before .before .before .before .if2) .taken) ((c .before .before .if3) .taken) ((c .before .wide2) .ensures .0) ((c .coded2) .ensures)
 
--- src/words.rt:100:9
 null-word-requires : tie.Need-null-word-requires
 null-word-requires c κs = search needs
 
--- src/words.rt:100:9
 returns-3 : tie.Need-returns-3
 returns-3 c = leaf-null-is ((c .before .before .before .before .before .before .before .args) .s .now) ((c .before .before .before .before .before .before .before .args) .at) ((c .before .before .before .before .if1) .left) ((c .before .before .before .if2) .taken) ((c .before .if3) .left) ((c .null-word) .ensures)
 
--- src/words.rt:102:5
 coded-requires-3 : tie.Need-coded-requires-3
 coded-requires-3 c κs = search needs
 
--- src/words.rt:86:1
 returns-4 : tie.Need-returns-4
 returns-4 c = leaf-this-is ((c .before .before .before .before .before .args) .s .now) ((c .before .before .before .before .before .args) .at) ((c .before .before .if1) .left) ((c .before .if2) .left) ((c .coded3) .ensures)
 

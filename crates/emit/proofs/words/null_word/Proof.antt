@@ -1,25 +1,21 @@
+-- `emit::words::null_word` meets its contract: below 16 there is no struct.
 use borrow.Author.Needs.{needs}
 use Rattle.emit.proofs.words.null_word.Statement.{statement}
 use Rattle.emit.specs.LeafLaws.{null-low, null-high}
 use Rattle.emit.proofs.words.null_word.Tie as tie
 
--- src/words.rt:66:9
 wide-requires : tie.Need-wide-requires
 wide-requires c κs = search needs
 
--- src/words.rt:68:9
 coded-requires : tie.Need-coded-requires
 coded-requires c κs = search needs
 
--- src/words.rt:68:9
 returns : tie.Need-returns
 returns c = null-low _ _ _ ((c .before .before .wide) .ensures .0) ((c .before .if1) .taken) ((c .coded) .ensures)
 
--- src/words.rt:70:5
 coded-requires-2 : tie.Need-coded-requires-2
 coded-requires-2 c κs = search needs
 
--- src/words.rt:63:1
 returns-2 : tie.Need-returns-2
 returns-2 c = null-high _ _ _ ((c .before .before .wide) .ensures .0) ((c .before .if1) .left) ((c .coded2) .ensures)
 

@@ -1,45 +1,38 @@
+-- `emit::words::path` meets its contract: push this before the reads.
 use borrow.Author.Needs.{needs}
 use Rattle.emit.proofs.words.path.Statement.{statement}
 use native.Mathlib.Omega.{arith}
 use Rattle.emit.specs.PathLaws.{path-facts, path-room, path-wrote}
 use Rattle.emit.proofs.words.path.Tie as tie
 
--- src/words.rt:123:13
 shared-slice-read-n : tie.Need-shared-slice-read-n
 shared-slice-read-n c = let a = (c .before .before .before .args) in let f = path-facts (a .s .now) (a .at) ((c .before .before .before .pre) .good) in omega arith
 
--- src/words.rt:124:9
 coded-requires : tie.Need-coded-requires
 coded-requires c κs = search needs
 
--- src/words.rt:125:5
 store-requires : tie.Need-store-requires
 store-requires c κs = let a = (c .before .before .before .before .before .args) in
     let f = path-facts (a .s .now) (a .at) ((c .before .before .before .before .before .pre) .good) in
     let h = path-room (a .s .now) (a .at) (a .k) (a .out .now) ((c .before .before .before .before .before .pre)) in omega arith
 
--- src/words.rt:126:14
 add-reads : tie.Need-add-reads
 add-reads c = let a = (c .before .before .before .before .before .before .before .before .args) in
     let f = path-facts (a .s .now) (a .at) ((c .before .before .before .before .before .before .before .before .pre) .good) in
     let h = path-room (a .s .now) (a .at) (a .k) (a .out .now) ((c .before .before .before .before .before .before .before .before .pre)) in omega arith
 
--- src/words.rt:126:30
 add-reads-2 : tie.Need-add-reads-2
 add-reads-2 c = search needs
 
--- src/words.rt:126:5
 reads-requires : tie.Need-reads-requires
 reads-requires c κs = let a = (c .before .before .before .before .before .before .before .before .before .args) in
     let f = path-facts (a .s .now) (a .at) ((c .before .before .before .before .before .before .before .before .before .pre) .good) in
     let h = path-room (a .s .now) (a .at) (a .k) (a .out .now) ((c .before .before .before .before .before .before .before .before .before .pre)) in
     (omega arith, omega (arith, (c .before .before .before .store) .kept .0))
 
--- src/words.rt:119:1
 same-length : tie.Need-same-length
 same-length c = search needs
 
--- src/words.rt:119:1
 returns : tie.Need-returns
 returns c = let a = (c .before .before .before .before .before .before .before .before .before .before .before .before .args) in
     path-wrote (a .s .now) (a .at) (a .k) (a .out .now) ((c .before .before .before .before .before .before .before .before .before .before .before .before .pre) .good) ((c .before .before .before .before .before .before .before .before .coded) .ensures) ((c .before .before .before .before .before .before .store) .ensures) ((c .before .before .reads) .ensures)

@@ -1,78 +1,61 @@
+-- `emit::words::word` meets its contract: the four bytes' sum.
 use borrow.Author.Needs.{needs}
 use Rattle.emit.proofs.words.word.Statement.{statement}
 use native.Mathlib.Omega.{arith}
 use Rattle.emit.specs.Leaf.{word-at}
 use Rattle.emit.proofs.words.word.Tie as tie
 
--- src/words.rt:59:10
 shared-slice-read-wide : tie.Need-shared-slice-read-wide
 shared-slice-read-wide c = search needs
 
--- src/words.rt:59:5
 wide-requires : tie.Need-wide-requires
 wide-requires c κs = search needs
 
--- src/words.rt:59:32
 add-wide : tie.Need-add-wide
 add-wide c = search needs
 
--- src/words.rt:59:30
 shared-slice-read-wide-2 : tie.Need-shared-slice-read-wide-2
 shared-slice-read-wide-2 c = search needs
 
--- src/words.rt:59:25
 wide-requires-2 : tie.Need-wide-requires-2
 wide-requires-2 c κs = search needs
 
--- src/words.rt:59:19
 mul-result : tie.Need-mul-result
 mul-result c = search needs
 
--- src/words.rt:59:5
 add-result : tie.Need-add-result
 add-result c = search needs
 
--- src/words.rt:59:58
 add-wide-2 : tie.Need-add-wide-2
 add-wide-2 c = search needs
 
--- src/words.rt:59:56
 shared-slice-read-wide-3 : tie.Need-shared-slice-read-wide-3
 shared-slice-read-wide-3 c = search needs
 
--- src/words.rt:59:51
 wide-requires-3 : tie.Need-wide-requires-3
 wide-requires-3 c κs = search needs
 
--- src/words.rt:59:43
 mul-result-2 : tie.Need-mul-result-2
 mul-result-2 c = search needs
 
--- src/words.rt:59:5
 add-result-2 : tie.Need-add-result-2
 add-result-2 c = search needs
 
--- src/words.rt:59:87
 add-wide-3 : tie.Need-add-wide-3
 add-wide-3 c = search needs
 
--- src/words.rt:59:85
 shared-slice-read-wide-4 : tie.Need-shared-slice-read-wide-4
 shared-slice-read-wide-4 c = search needs
 
--- src/words.rt:59:80
 wide-requires-4 : tie.Need-wide-requires-4
 wide-requires-4 c κs = search needs
 
--- src/words.rt:59:69
 mul-result-3 : tie.Need-mul-result-3
 mul-result-3 c = search needs
 
--- src/words.rt:59:5
 add-result-3 : tie.Need-add-result-3
 add-result-3 c = search needs
 
--- src/words.rt:55:1
 returns : tie.Need-returns
 unfolding word-at
 returns c = omega arith
