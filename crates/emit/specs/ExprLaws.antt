@@ -15,7 +15,7 @@ use Rattle.emit.specs.ReadLaws.{then-value, pair-value, ranged-value, op
 use Rattle.emit.specs.Parts.{Part, Parts}
 use Rattle.emit.specs.PartsLaws.{part-of, made-part, pair-parts, row-none, row-more}
 
--- an expression stands in the stream, and has a level
+-- an expression has a byte and a level, and its byte's form says what is read
 pub expr-step : (ar s : List ℕ) (d at : ℕ) → Good (read-expr ar s d at)
     → (at < length s) × (0 < d) × (read-expr ar s d at ≡ rule-expr ar s (λ n. read-expr ar s (d - 1) n) at (at + 1) (form (getD s at 0)))
 unfolding read-expr
@@ -28,6 +28,7 @@ module _ (ar s : List ℕ) (d at : ℕ) (g : Good (read-expr ar s d at)) where
   abbrev deeper : ℕ → Result Expr
   deeper n = read-expr ar s (d - 1) n
 
+  -- an expression stands in the stream, and has a level
   pub expr-in : (at < length s) × (0 < d)
   expr-in = let p = expr-step ar s d at g in (p .0, p .1)
 
@@ -74,12 +75,13 @@ module _ (ar s : List ℕ) (d at : ℕ) (g : Good (read-expr ar s d at)) where
           let p : read-expr ar s d at ≡ bad at wrong-byte = expr-step ar s d at g .2 ∙ rw e refl in
           absurd (rw p at g)
 
--- a struct's arguments
+-- what the code has of a struct's arguments
 pub record MakeFacts (ar s : List ℕ) (d at : ℕ) : Type 0 where
   pub inside : at < length s
   pub struct : getD s at 0 < length ar
   pub part : Part make-words (make-at ar s d at) args-words (args-at ar s d (getD ar (getD s at 0) 0) (at + 1)) (coded 5 0 (getD s at 0) ∷ [])
 
+-- arguments that were read have it
 pub make-facts : (ar s : List ℕ) (d at : ℕ) → Good (make-at ar s d at) → MakeFacts ar s d at
 unfolding read-make
 make-facts ar s d at g =
@@ -95,9 +97,11 @@ make-facts ar s d at g =
     }
 
 module _ (ar s : List ℕ) (d n at : ℕ) where
+  -- no argument, nothing written
   pub args-none : n ≡ 0 → (out : List ℕ) (k : ℕ) → Wrote args-words (args-at ar s d n at) out k (record { next = at; at = k }) out
   args-none = row-none args-words expr-words none more (λ m. read-expr ar s d m) n at no-args
 
+  -- an argument, and the others behind it
   pub args-more : (n ≡ 0 → ⊥) → Good (args-at ar s d n at)
       → Parts args-words (args-at ar s d n at) expr-words (read-expr ar s d at) args-words (λ m. args-at ar s d (n - 1) m) []
   args-more = row-more args-words expr-words none more (λ m. read-expr ar s d m) n at more-args

@@ -12,11 +12,12 @@ use Rattle.commands.specs.Coding.{coded}
 use Rattle.emit.specs.declared.Put.{Put}
 use Rattle.emit.specs.Leaf.{word-at, leaf-size, byte-word, leaf-of, leaf-word, null-word, rd-words}
 
--- the push of a default, by the code's test
+-- a type without a struct pushes 0
 pub null-low : (b t r : ℕ) → t ≡ b → t < 16 → r ≡ coded 1 t 0 → r ≡ null-word b
 unfolding null-word
 null-low b t r e h p = let l : b < 16 = omega arith in p ∙ rw (e, null-word, lt-ltb b 16 l)
 
+-- a struct's type pushes its number
 pub null-high : (b t r : ℕ) → t ≡ b → 16 ≤ t → r ≡ coded 1 t (t - 16) → r ≡ null-word b
 unfolding null-word
 null-high b t r e h p = let l : 16 ≤ b = omega arith in p ∙ rw (e, null-word, le-ltb b 16 l)
@@ -43,6 +44,7 @@ size-pos b = go (decLt b 21) (decLt b 23)
     go (no h) (yes k) = omega (arith, size-mid b (omega arith) k)
     go (no h) (no k) = omega (arith, size-high b (omega arith) (omega arith))
 
+-- a form that ends in the stream has its bytes there
 module _ (s : List ℕ) (at : ℕ) where
   pub leaf-in : at + leaf-size (getD s at 0) ≤ length s → at < length s
   leaf-in h = omega (arith, size-pos (getD s at 0))
@@ -78,10 +80,12 @@ abbrev pub Reads : List ℕ → ℕ → ℕ → List ℕ → ℕ → Put → Lis
 Reads s at n out k r out' = (r .next ≡ at + n) × (r .at ≡ k + n) × (out' ≡ sets out k (rd-words s at n))
 
 module _ (s : List ℕ) (at k n : ℕ) (out : List ℕ) where
+  -- no variable, no rd
   pub reads-none : n ≡ 0 → Reads s at n out k (record { next = at; at = k }) out
   unfolding rd-words
   reads-none e = (omega arith, omega arith, rw e refl)
 
+  -- an rd, and those of the other variables behind it
   pub reads-more : (n ≡ 0 → ⊥) → (b v : ℕ) (out1 : List ℕ) (p : Put) (out2 : List ℕ) → b ≡ getD s at 0 → v ≡ coded 3 0 b → out1 ≡ set out k v
       → Reads s (at + 1) (n - 1) out1 (k + 1) p out2 → Reads s at n out k p out2
   unfolding rd-words

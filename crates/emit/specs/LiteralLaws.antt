@@ -34,7 +34,7 @@ word-off s n v m h (letter h0 e0 (letter h1 e1 (letter h2 e2 (letter h3 e3 done)
     digits : (v : ℕ) → v < 256 ^ 4 → v % 256 + 256 * (v / 256 % 256) + 65536 * (v / 256 / 256 % 256) + 16777216 * (v / 256 / 256 / 256 % 256) ≡ v
     digits v h = omega arith
 
--- an Int's word
+-- an Int goes to its word and back
 int-back : (w : ℕ) → w < nat-end → int-word (word-int w) ≡ w
 unfolding int-word word-int
 int-back w h = go (decLt w int-half)
@@ -43,6 +43,7 @@ int-back w h = go (decLt w int-half)
     go (yes l) = rw (word-int, lt-ltb w int-half l)
     go (no l) = rw (word-int, le-ltb w int-half (omega arith)) (omega arith)
 
+-- the words of each literal, of null and of this
 int-words : (w : ℕ) → w < nat-end → expr-words (int-lit w) ≡ coded 1 0 w ∷ []
 unfolding expr-words expr-coms flatten words command-word com-word code word value-of
 int-words w h = rw (int-back w h)
@@ -85,6 +86,7 @@ op-high op-sub = omega arith
 op-high op-and = omega arith
 op-high op-or = omega arith
 
+-- what the code has of the form that the byte b opens
 pub record LeafFacts (ar s : List ℕ) (d at b : ℕ) : Type 0 where
   pub low : 19 ≤ b
   pub fits : at + leaf-size b ≤ length s
@@ -127,10 +129,12 @@ module _ (ar s : List ℕ) (d at : ℕ) (g : Good (read-expr ar s d at)) where
       go : (t : Ty) (m : ℕ) → read-expr ar s d at ≡ ok (null t) m → Stands s (at + 1) (code t ∷ []) m → LeafFacts ar s d at 22
       go t m q (letter h e done) = leaf-by 22 m (null t) q (omega arith) (omega arith) (omega arith) (rw e (null-words t))
 
+  -- this
   this : read-expr ar s d at ≡ ok self (at + 1) → LeafFacts ar s d at 23
   unfolding leaf-size leaf-of
   this p = leaf-by 23 (at + 1) self p (omega arith) (omega arith) (omega (arith, expr-in ar s d at g)) this-words
 
+  -- below 24 there is no operator
   pub leaf-facts : (getD s at 0 ≡ 16 → ⊥) → (getD s at 0 ≡ 17 → ⊥) → (getD s at 0 ≡ 18 → ⊥) → getD s at 0 < 24 → LeafFacts ar s d at (getD s at 0)
   unfolding rule-expr leaf-size leaf-of
   leaf-facts n16 n17 n18 h = go (form (getD s at 0)) refl (opens (getD s at 0))

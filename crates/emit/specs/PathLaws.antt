@@ -20,7 +20,7 @@ use Rattle.emit.specs.Leaf.{rd-words}
 use Rattle.emit.specs.LeafLaws.{Reads}
 use Rattle.emit.specs.ReadLaws.{value}
 
--- n is the path's length
+-- what the code has of a path of n variables
 pub record PathFacts (s : List ℕ) (at n : ℕ) : Type 0 where
   pub inside : at < length s
   pub some : 0 < n
@@ -29,6 +29,7 @@ pub record PathFacts (s : List ℕ) (at n : ℕ) : Type 0 where
   pub target : code-of target-words (read-path s at) ≡ coded 2 0 0 ∷ (rd-words s (at + 1) (n - 1) ++ (coded 4 0 (getD s (at + 1 + (n - 1)) 0) ∷ []))
   pub next : next-of (read-path s at) ≡ at + 1 + n
 
+-- a path that was read has them
 pub path-facts : (s : List ℕ) (at : ℕ) → Good (read-path s at) → PathFacts s at (getD s at 0)
 unfolding enc-path next-of code-of
 path-facts s at g =
@@ -53,11 +54,13 @@ unfolding rd-words
 rd-length s at zero = refl
 rd-length s at (suc n) = ap suc (rd-length s (at + 1) n)
 
+-- reads are placed words
 reads-placed : (s : List ℕ) (at n : ℕ) {k : ℕ} {p : Put} {out out1 : List ℕ} → Reads s at n out k p out1
     → Placed (rd-words s at n) (at + n) out k p out1
 reads-placed s at n r = record { next = r .0; at = omega (arith, r .1, rd-length s at n); list = r .2 }
 
 module _ (s : List ℕ) (at k : ℕ) (out : List ℕ) where
+  -- there is room for a command more than variables
   pub path-room : Ready path-words (read-path s at) out k → k + 1 + getD s at 0 ≤ length out
   path-room p =
       let f = path-facts s at (p .good) in
@@ -68,12 +71,14 @@ module _ (s : List ℕ) (at k : ℕ) (out : List ℕ) where
       let f = path-facts s at (p .good) in
       omega (arith, rd-length s (at + 1) (getD s at 0 - 1), rw (f .target, length-append) at (p .room))
 
+  -- push this and the reads are the path that is read
   pub path-wrote : Good (read-path s at) → {v : ℕ} {p : Put} {out1 out2 : List ℕ} → v ≡ coded 2 0 0 → out1 ≡ set out k v
       → Reads s (at + 1) (getD s at 0) out1 (k + 1) p out2 → Wrote path-words (read-path s at) out k p out2
   path-wrote g e h r =
       let f = path-facts s at g in
       placed-as (placed-first h (reads-placed s (at + 1) (getD s at 0) r)) (f .code ∙ rw e) (f .next)
 
+  -- push this, the reads of all but the last and the write of the last are the path that is written
   pub target-wrote : Good (read-path s at) → {v w b : ℕ} {p q : Put} {out1 out2 out3 : List ℕ} → v ≡ coded 2 0 0 → out1 ≡ set out k v
       → Reads s (at + 1) (getD s at 0 - 1) out1 (k + 1) p out2 → b ≡ getD s (p .next) 0 → w ≡ coded 4 0 b → out3 ≡ set out2 (p .at) w
       → q .next ≡ p .next + 1 → q .at ≡ p .at + 1 → Wrote target-words (read-path s at) out k q out3

@@ -21,12 +21,13 @@ use Rattle.emit.specs.ProgramWords.{step-words, steps-words, structs-wor
 use Rattle.emit.specs.WordLaws.{words-length}
 use Rattle.emit.specs.ReadLaws.{then-value, made-value, pair-value, pair-ok}
 
--- there are as many words as commands
+-- the words in a row are as many as those of all
 flat-length : {A : Type 0} (f : A → List ℕ) (g : A → ℕ) → ((a : A) → length (f a) ≡ g a) → (l : List A) → length (flat f l) ≡ total g l
 unfolding flat total
 flat-length f g h [] = refl
 flat-length f g h (a ∷ l) = rw (length-append, h a, flat-length f g h l)
 
+-- there are as many words as commands
 pub program-length : (p : Program) → length (program-words p) ≡ program-size p
 unfolding program-words program-size step-words
 program-length p =
@@ -39,6 +40,7 @@ pub record Standing (s : List ℕ) (at : ℕ) (p : Program) : Type 0 where
   pub last : ℕ
   pub steps : structs-at (arities p) s (length (arities p)) behind ≡ ok (p .steps) last
 
+-- they stand where a program was read
 pub program-steps : (s : List ℕ) (at : ℕ) (p : Program) (m : ℕ) → read-program s at ≡ ok p m → Standing s at p
 unfolding read-program
 program-steps s at p m e =
@@ -64,6 +66,7 @@ program-steps s at p m e =
         let x : p ≡ program-of (ts, (ss, is)) = cc in
         rw x (record { behind = k; params = a; last = i; steps = rw (length-map ts length) b })
 
+-- a program that ends before its stream is refused, any other not
 short : (s : List ℕ) (a : Program) (k : ℕ) → ltb k (length s) ≡ true → ended s a k ≡ bad k wrong-end
 unfolding ended
 short s a k h = rw (ended, h)

@@ -10,7 +10,7 @@ use Rattle.program.specs.PartLaws.{told-is, then-ok, byte-exact}
 use Rattle.program.specs.JoinLaws.{Within, ranged-exact}
 use Rattle.emit.specs.Written.{Good}
 
--- the value
+-- the value that a reader gave
 pub value : {A : Type 0} (r : Result A) → Good r → (a : A) × (n : ℕ) × (r ≡ ok a n)
 value (ok a n) g = (a, n, refl)
 value (bad p k) g = absurd g
@@ -37,6 +37,7 @@ pair-value r q g =
     let u = then-value (q (p .0) (p .1)) _ (p .4) in
     (p .0, p .1, u .0, u .1, p .2, u .2, p .3 ∙ u .3)
 
+-- two things that are read are read as a pair
 pub pair-ok : {A B : Type 0} {r : Result A} (q : A → ℕ → Result B) {a : A} {b : B} {k m : ℕ} → r ≡ ok a k → q a k ≡ ok b m → pair r q ≡ ok (a, b) m
 unfolding pair
 pair-ok q e f = then-ok _ e (then-ok _ f refl)
@@ -51,6 +52,7 @@ many-value z c r (suc n) at h g =
     let q = then-value (many z c r n (p .1)) _ (p .4) in
     (p .0, p .1, q .0, q .1, p .2, rw sub-one (q .2), p .3 ∙ q .3)
 
+-- of no things
 pub many-none : {A B : Type 0} (z : B) (c : A → B → B) (r : ℕ → Result A) (n at : ℕ) → n ≡ 0 → many z c r n at ≡ ok z at
 unfolding many
 many-none z c r n at e = rw e

@@ -40,19 +40,23 @@ steps-part ar s at g =
     (v .0, same-part steps-words (v .1) g)
 
 module _ (ar s : List ℕ) (n at : ℕ) where
+  -- no step, nothing written
   pub steps-none : n ≡ 0 → (out : List ℕ) (k : ℕ) → Wrote steps-words (steps-at ar s n at) out k (record { next = at; at = k }) out
   unfolding flat
   steps-none = row-none steps-words step-words [] _∷_ (read-step ar s) n at refl
 
+  -- a step, and the others behind it
   pub steps-more : (n ≡ 0 → ⊥) → Good (steps-at ar s n at)
       → Parts steps-words (steps-at ar s n at) step-words (read-step ar s at) steps-words (λ m. steps-at ar s (n - 1) m) []
   unfolding flat
   steps-more = row-more steps-words step-words [] _∷_ (read-step ar s) n at (λ t ts. refl)
 
+  -- no struct, nothing written
   pub structs-none : n ≡ 0 → (out : List ℕ) (k : ℕ) → Wrote structs-words (structs-at ar s n at) out k (record { next = at; at = k }) out
   unfolding flat
   structs-none = row-none structs-words steps-words [] _∷_ (read-steps ar s) n at refl
 
+  -- a struct's steps, and those of the others behind them
   pub structs-more : (n ≡ 0 → ⊥) → Good (structs-at ar s n at)
       → Parts structs-words (structs-at ar s n at) steps-words (read-steps ar s at) structs-words (λ m. structs-at ar s (n - 1) m) []
   unfolding flat

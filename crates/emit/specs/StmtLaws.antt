@@ -28,6 +28,7 @@ pub record DeclareFacts (ar s : List ℕ) (at : ℕ) : Type 0 where
   pub inside : at + 1 < length s
   pub part : Part declare-words (read-declare ar s at) expr-words (read-expr ar s 16 (at + 2)) (coded 2 0 0 ∷ coded 4 0 (getD s (at + 1) 0) ∷ [])
 
+-- a declaration that was read has them
 pub declare-facts : (ar s : List ℕ) (at : ℕ) → Good (read-declare ar s at) → DeclareFacts ar s at
 unfolding read-declare
 declare-facts ar s at g =
@@ -71,6 +72,7 @@ when-parts ar s d at g =
     parts-of when-words expr-words block-words (λ m. body-at ar s d m) (v .6) (v .4) (v .5) (if-words (v .0) (v .2) ∙ rw append-nil)
 
 module _ (r : Result Stmts) (g : Good r) where
+  -- the words of a block
   block-code : code-of block-words r ≡ coded 6 0 (length (code-of body-words r)) ∷ code-of body-words r
   unfolding code-of block-words
   block-code = let v = value r g in rw (v .2)
@@ -93,11 +95,12 @@ module _ (r : Result Stmts) (g : Good r) where
       placed-as {ws = v ∷ code-of body-words r} (record { next = w .next; at = omega (arith, w .at); list = rw (add-one k) at l })
       (block-code ∙ rw e') refl
 
--- a count and statements
+-- what the code has of a body: a count and statements
 pub record BodyFacts (ar s : List ℕ) (d at : ℕ) : Type 0 where
   pub inside : at < length s
   pub part : Part body-words (body-at ar s d at) body-words (stmts-at ar s d (getD s at 0) (at + 1)) []
 
+-- a body that was read has them
 pub body-facts : (ar s : List ℕ) (d at : ℕ) → Good (body-at ar s d at) → BodyFacts ar s d at
 unfolding read-body
 body-facts ar s d at g =
@@ -105,9 +108,11 @@ body-facts ar s d at g =
     record { inside = v .0; part = same-part body-words (v .1) g }
 
 module _ (ar s : List ℕ) (d n at : ℕ) where
+  -- no statement, nothing written
   pub stmts-none : n ≡ 0 → (out : List ℕ) (k : ℕ) → Wrote body-words (stmts-at ar s d n at) out k (record { next = at; at = k }) out
   stmts-none = row-none body-words stmt-words end next (λ m. read-stmt ar s d m) n at no-stmts
 
+  -- a statement, and the others behind it
   pub stmts-more : (n ≡ 0 → ⊥) → Good (stmts-at ar s d n at)
       → Parts body-words (stmts-at ar s d n at) stmt-words (read-stmt ar s d at) body-words (λ m. stmts-at ar s d (n - 1) m) []
   stmts-more = row-more body-words stmt-words end next (λ m. read-stmt ar s d m) n at more-stmts
@@ -118,6 +123,7 @@ module _ (ar s : List ℕ) where
   inner zero at k = bad at wrong-byte
   inner (suc d) at k = when-at ar s d k
 
+  -- a statement has a byte, whose kind says what is read
   stmt-step : (d at : ℕ) → Good (read-stmt ar s d at)
       → (at < length s) × (read-stmt ar s d at ≡ rule-stmt ar s (inner d) at (at + 1) (kind (getD s at 0)))
   unfolding read-stmt inner
@@ -134,6 +140,7 @@ module _ (ar s : List ℕ) where
   level h d at k p = p
 
 module _ (ar s : List ℕ) (d at : ℕ) (g : Good (read-stmt ar s d at)) where
+  -- a statement stands in the stream
   pub stmt-in : at < length s
   stmt-in = stmt-step ar s d at g .0
 
@@ -148,18 +155,21 @@ module _ (ar s : List ℕ) (d at : ℕ) (g : Good (read-stmt ar s d at)) where
       go (suc d) p g =
           (omega arith, rw sub-one (made-part stmt-words when-words (λ p. when (p .0) (p .1)) (when-at ar s d (at + 1)) (level ar s (λ p. when (p .0) (p .1)) d at (at + 1) p) g (λ p. when-is p ∙ sym (append-nil _))))
 
+  -- a declaration
   pub declare-part : getD s at 0 ≡ 2 → Part stmt-words (read-stmt ar s d at) declare-words (read-declare ar s (at + 1)) []
   unfolding rule-stmt kind lookup
   declare-part e =
       made-part stmt-words declare-words (λ p. declare (p .0) (p .1 .0) (p .1 .1)) (read-declare ar s (at + 1))
       (stmt-step ar s d at g .1 ∙ rw e refl) g (λ p. declare-is p ∙ sym (append-nil _))
 
+  -- an update
   pub updated-part : getD s at 0 ≡ 3 → Part stmt-words (read-stmt ar s d at) update-words (read-update ar s (at + 1)) []
   unfolding rule-stmt kind lookup
   updated-part e =
       made-part stmt-words update-words (λ p. update (p .0 .0) (p .0 .1) (p .1)) (read-update ar s (at + 1))
       (stmt-step ar s d at g .1 ∙ rw e refl) g (λ p. update-is p ∙ sym (append-nil _))
 
+  -- a construct, where it is nothing else
   pub create-part : (getD s at 0 ≡ 1 → ⊥) → (getD s at 0 ≡ 2 → ⊥) → (getD s at 0 ≡ 3 → ⊥)
       → Part stmt-words (read-stmt ar s d at) make-words (make-at ar s 16 (at + 1)) []
   unfolding rule-stmt
