@@ -16,4 +16,3 @@ pub mod FactRows
 pub mod ByteBoundLaws
 pub mod CodeOps
 pub mod CodeDigits
-pub mod ProgramFacts
