@@ -1,9 +1,9 @@
 -- A run begins at the published initial state, and its number, turns and last table are those of the one run by the published
 -- rules from there (000, definition 6; 01, 'Table and turns', 'Numbers from the state').
-use Prim.Native.Nat.{ℕ, zero, suc, _+_, _<_, _≤_}
+use Prim.Native.Nat.{ℕ, zero, suc, _+_, _<_}
 use mathlib.Core.Path.{_≡_, refl, ap, sym, _∙_}
 use mathlib.Core.Logic.{_↔_}
-use mathlib.Core.Option.{Option, none, some}
+use mathlib.Core.Option.{some}
 use mathlib.Core.List.{List, [], _∷_, _++_, map}
 use native.Mathlib.Omega.{arith}
 use lib.ListN.{length, getD, getElem?, drop, length-append, length-map}
@@ -12,11 +12,11 @@ use Rattle.types.specs.Values.{Val, default}
 use Rattle.program.specs.Tree.{Program}
 use Rattle.commands.specs.Commands.{flatten}
 use Rattle.table.specs.Table.{Record}
-use Rattle.machine.specs.Published.{Env, Env.env, structs, Inst, Inst.inst, State, State.state}
+use Rattle.machine.specs.Published.{Env.env, structs, Inst, Inst.inst, State, State.state}
 use Rattle.machine.specs.Machine.{Instance, Machine}
 use Rattle.machine.specs.Represents.{values, Represents-inst, Represents-all, Represents}
 use Rattle.run.specs.Runs.{Runs}
-use Rattle.run.specs.Run.{Outcome, Outcome.stopped, Outcome.jammed, run}
+use Rattle.run.specs.Run.{Outcome.stopped, Outcome.jammed, run}
 use Rattle.run.specs.Begin.{nulls, resting, first-instances, begin, record-of, table-of}
 use Rattle.run.specs.Initial.{idle, null-insts, of-record, first-insts, initial, to-record, table-in, Comes, Comes.comes}
 use Rattle.run.specs.TurnLaws.{map-at}

@@ -1,6 +1,6 @@
 -- The fuel of the executable run is enough (01, 'Table and turns'): more of it changes nothing, and none is the reason of `jammed`.
 -- So a run does what `Ran` says, which no fuel is in.
-use Prim.Native.Nat.{ℕ, zero, suc, _+_, _*_, _<_, _≤_}
+use Prim.Native.Nat.{ℕ, zero, suc, _*_, _<_, _≤_}
 use mathlib.Core.Path.{_≡_, refl, ap, sym, _∙_}
 use mathlib.Core.Logic.{_↔_}
 use mathlib.Core.Bool.{Bool, true, false}
@@ -129,7 +129,7 @@ module _ (p : Program) where
       → (n : ℕ) × (m′ : Machine) × (Moved p n m m′) × (holders m′ ≡ []) × (m′ .sched ≡ done → ⊥) × (move p m′ ≡ stuck)
   settle-jammed m e = jams-stuck (fuel-settles m) e
 
--- The whole run --------------------------------------------------------------------
+  -- The whole run --------------------------------------------------------------------
 
   -- a way F to go on from where the moves lead
   settles-ran : {m : Machine} {x : Settled} → Settles p m x → (es : List ℕ) (F : Settled → Outcome) → ((o : Outcome) → F (stop o) ≡ o)

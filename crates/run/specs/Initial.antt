@@ -9,7 +9,7 @@ use Rattle.types.specs.Values.{Val, default}
 use Rattle.program.specs.Tree.{Program}
 use Rattle.commands.specs.Commands.{Coms.nil}
 use Rattle.table.specs.Table.{Record}
-use Rattle.machine.specs.Published.{Env, Env.env, fresh-env, of-items, structs, Inst, Inst.inst, State, State.state}
+use Rattle.machine.specs.Published.{Env.env, fresh-env, of-items, structs, Inst, Inst.inst, State, State.state}
 use Rattle.run.specs.Runs.{Runs}
 
 -- ⟨k, ε, ε, ξ⟩ with parameters of these values

@@ -1,6 +1,6 @@
 -- The machines that the executable run visits stand for the states that the run by the published rules passes through, and the
 -- last one is among them; the turns counted are the commands taken (01, 'Table and turns', 'The words of demand 3').
-use Prim.Native.Nat.{ℕ, zero, suc, _≤_}
+use Prim.Native.Nat.{ℕ, suc, _≤_}
 use mathlib.Core.Path.{_≡_, refl, ap, sym, _∙_}
 use mathlib.Core.Bool.{Bool}
 use mathlib.Core.List.{List, [], _∷_}
@@ -22,7 +22,7 @@ use Rattle.run.specs.Visits.{Visits, Visits.here as stays, Visits.moves 
 use Rattle.run.specs.PublishedVisits.{turns-of, Passes, Passes.here, Passes.moves, Passes.takes}
 use Rattle.run.specs.TurnLaws.{holders-still}
 use Rattle.run.specs.FuelLaws.{run-ran}
-use Rattle.run.specs.RunAgrees.{none-hold, machine-picks, state-picks, run-follows}
+use Rattle.run.specs.RunAgrees.{none-hold, machine-picks, state-picks}
 
 module _ (p : Program) where
   -- every machine that the executable run visits stands for a state that the published run passes through, after so many commands

@@ -4,12 +4,11 @@ use mathlib.Core.Path.{_≡_, sym, _∙_, subst}
 use mathlib.Core.List.{List}
 use Rattle.program.specs.Tree.{Program}
 use Rattle.machine.specs.Published.{State}
-use Rattle.machine.specs.Machine.{Machine}
 use Rattle.machine.specs.Represents.{Represents}
 use Rattle.machine.specs.RepresentsLaws.{represents-unique}
 use Rattle.machine.specs.RuleUnique.{represented}
 use Rattle.run.specs.Runs.{Runs}
-use Rattle.run.specs.Run.{Outcome, Outcome.stopped}
+use Rattle.run.specs.Run.{Outcome.stopped}
 use Rattle.run.specs.RunAgrees.{run-complete}
 
 -- two derivations from one state with one list of bytes agree on number, turns and last state

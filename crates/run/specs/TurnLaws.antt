@@ -1,7 +1,7 @@
 -- Laws of turns (01, 'Table and turns'): the labels of holders are all of them, in label order; a byte picks one of them, and
 -- each is picked by some byte; a machine has the holders of the state that it stands for.
 use Prim.Native.Nat.{ℕ, zero, suc, _+_, _%_, _<_}
-use mathlib.Core.Path.{_≡_, refl, ap, sym, _∙_}
+use mathlib.Core.Path.{_≡_, refl, ap, _∙_}
 use mathlib.Core.Logic.{_↔_}
 use mathlib.Core.Bool.{Bool, true, false}
 use mathlib.Core.Option.{some}
@@ -13,7 +13,7 @@ use Rattle.program.specs.Counts.{All}
 use Rattle.commands.specs.Commands.{Coms, Coms.nil, Coms.act, Coms.if-then, flatten}
 use Rattle.commands.specs.Noted.{Note, erase}
 use Rattle.types.specs.Values.{Val}
-use Rattle.machine.specs.Published.{Sched, Env, Inst, Inst.inst, State, State.state, Idle}
+use Rattle.machine.specs.Published.{Sched, Env, Inst, Inst.inst, State.state, Idle}
 use Rattle.machine.specs.Rules.{Done}
 use Rattle.machine.specs.Machine.{Instance, Machine}
 use Rattle.machine.specs.Represents.{Represents-all, Represents}
@@ -133,16 +133,26 @@ below [] k g = let z : _≡_ {A = ℕ} 0 1 = cc in absurd (omega arith)
 below (y ∷ xs) zero g = omega arith
 below (y ∷ xs) (suc k) g = omega (arith, below xs k g)
 
+-- a byte below the number of holders picks the one at its place, from 0, in label order
+pub chosen-place : (hs : List ℕ) (e : ℕ) → e < length hs → chosen hs e ≡ getD hs e 0
+unfolding chosen
+chosen-place hs e h = ap (λ i. getD hs i 0) (mod-eq-of-lt h)
+
+-- every byte picks one of the holders
+pub chosen-among : (h : ℕ) (hs : List ℕ) (e : ℕ) → (i : ℕ) × (i < length (h ∷ hs)) × (chosen (h ∷ hs) e ≡ getD (h ∷ hs) i 0)
+unfolding chosen
+chosen-among h hs e = (e % length (h ∷ hs), mod-lt e (omega arith), refl)
+
 -- a byte picks an existing instance that holds commands
 pub chosen-holds : (m : Machine) (e : ℕ) {h : ℕ} {hs : List ℕ} → holders m ≡ h ∷ hs
     → (i : Instance) × (getElem? (m .instances) (chosen (h ∷ hs) e) ≡ some i) × (i .code ≡ [] → ⊥)
-unfolding chosen holders
+unfolding holders
 chosen-holds m e {h} {hs} g =
     let f : Instance → Bool = λ i. holds-code (i .code) in
-    let c = mod-lt e {m = suc (length hs)} (omega arith) in
-    let (k, a, b) = labels-at 0 (map f (m .instances)) (e % suc (length hs)) (rw g c) in
+    let (j, c, d) = chosen-among h hs e in
+    let (k, a, b) = labels-at 0 (map f (m .instances)) j (rw g c) in
     let (i, u, v) = at-map f (m .instances) k b in
-    let w : getD (h ∷ hs) (e % suc (length hs)) 0 ≡ k = (rw g at a) ∙ omega arith in
+    let w : chosen (h ∷ hs) e ≡ k = d ∙ (rw g at a) ∙ omega arith in
     (i, rw w u, λ n. let z = code-none (i .code) .1 n in let y : true ≡ false = cc in let x : _≡_ {A = ℕ} 0 1 = cc in omega arith)
 
 -- its label is below the number of instances
@@ -152,8 +162,8 @@ chosen-below m e g = let (i, a, b) = chosen-holds m e g in below (m .instances) 
 -- each instance that holds commands is picked by some byte, of those below the number of holders
 pub holder-chosen : (m : Machine) (l : ℕ) {i : Instance} → getElem? (m .instances) l ≡ some i → (i .code ≡ [] → ⊥)
     → (e : ℕ) × (e < length (holders m)) × (chosen (holders m) e ≡ l)
-unfolding chosen holders
+unfolding holders
 holder-chosen m l {i} g n =
     let f : Instance → Bool = λ i. holds-code (i .code) in
     let (e, a, b) = labels-all 0 (map f (m .instances)) l (map-at f (m .instances) l g ∙ ap some (held (i .code) n)) in
-    (e, a, rw (mod-eq-of-lt a) (b ∙ omega arith))
+    (e, a, chosen-place (holders m) e a ∙ b ∙ omega arith)
