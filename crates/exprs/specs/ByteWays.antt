@@ -7,16 +7,14 @@ use mathlib.Core.Path.{_≡_, refl, ap, _∙_}
 use mathlib.Core.Bool.{Bool, true, false}
 use mathlib.Core.List.{List}
 use lib.ListN.{length, getD}
-use lib.Dec.{T, ltb, leb}
+use lib.Dec.{T}
 use borrow.Author.Tests.{lt-ltb, le-ltb, le-leb, lt-leb}
 use Rattle.types.specs.Types.{Ty, code, type-of}
 use Rattle.program.specs.CodeLaws.{code-type}
 use Rattle.program.specs.Reader.{Result, Result.ok, Result.bad, then, made, many, guard, between, type-byte, byte-end, byte, tested, ranged, read-word, read-type}
 use Rattle.facts.specs.declared.Facts.{Facts}
 use Rattle.facts.specs.Facts.{pushed}
-use Rattle.exprs.specs.declared.read.ByteRead.{ByteRead}
 use Rattle.exprs.specs.declared.read.ByteRead.the-variants.{Byte, NoByte}
-use Rattle.exprs.specs.declared.read.ExprRead.{ExprRead}
 use Rattle.exprs.specs.declared.read.ExprRead.the-variants.{Value, Refused}
 use Rattle.exprs.specs.Told.{told, byte-told}
 

@@ -2,21 +2,20 @@
 use Prim.Native.Nat.{ℕ, zero, suc, _+_, _-_, _*_, _<_, _≤_}
 use native.Mathlib.Omega.{arith}
 use native.Mathlib.Numerals.{add-one, sub-one}
-use mathlib.Core.Path.{_≡_, refl, sym, ap, _∙_}
+use mathlib.Core.Path.{_≡_, refl, _∙_}
 use mathlib.Core.List.{List}
 use lib.ListN.{length, getD}
 use Rattle.types.specs.Types.{struct-code, code}
-use Rattle.program.specs.Tree.{Op, Expr, Expr.inv, Expr.make, Expr.path, Expr.op, Exprs, Exprs.none, Exprs.more}
-use Rattle.program.specs.Reader.{Result, Result.ok, Result.bad, then, pair, made, many, lookup, Form, Form.form-inv, Form.form-make, Form.form-op, Form.form-none, form, byte, opened, ranged, read-word, read-type, read-path, read-make, rule-expr, read-expr}
+use Rattle.program.specs.Tree.{Op, Expr, Expr.inv, Expr.make, Expr.op, Exprs, Exprs.none, Exprs.more}
+use Rattle.program.specs.Reader.{Result, Result.ok, Result.bad, then, pair, made, many, lookup, Form.form-op, form, byte, opened, ranged, read-word, read-type, read-path, read-make, rule-expr, read-expr}
 use Rattle.facts.specs.declared.Facts.{Facts}
 use Rattle.facts.specs.Facts.{pushed, negated, combined, travelled, path-of, argued, constructed, no-args, expr-facts, args-facts}
-use Rattle.exprs.specs.declared.read.ByteRead.{ByteRead}
 use Rattle.exprs.specs.declared.read.ByteRead.the-variants.{Byte, NoByte}
 use Rattle.exprs.specs.declared.read.ExprRead.{ExprRead}
 use Rattle.exprs.specs.declared.read.ExprRead.the-variants.{Value, Refused}
 use Rattle.exprs.specs.Told.{told, byte-told, made-facts, after}
 use Rattle.exprs.specs.ByteWays.{byte-out, byte-in, byte-is, byte-stops}
-use Rattle.exprs.specs.FormWays.{op-form, Opened, no-form}
+use Rattle.exprs.specs.FormWays.{op-form, Apart, no-form}
 
 -- what is made of what was read is computed of it
 pub told-made : {A B : Type 0} (f : B → Facts) (g : A → B) (r : Result A) → told f (made g r) ≡ told (λ a. f (g a)) r
@@ -81,7 +80,7 @@ module _ (ar types s : List ℕ) (own w : ℕ) where
     unfolding form lookup rule-expr expr-facts
     rule-self b e = rw e
 
-    pub rule-none : (b : ℕ) → Opened b → ((32 ≤ b) × (b ≤ 44) → ⊥) → told E (R b) ≡ Refused 5
+    pub rule-none : (b : ℕ) → Apart b → ((32 ≤ b) × (b ≤ 44) → ⊥) → told E (R b) ≡ Refused 5
     unfolding rule-expr
     rule-none b n k = rw (no-form b n k)
 
@@ -173,7 +172,7 @@ module _ (ar types s : List ℕ) (own w : ℕ) where
 
       pub is-none : 44 < getD s at 0 → told E (read-expr ar s d at) ≡ Refused 5
       is-none l =
-          let n : Opened (getD s at 0) = (λ e. omega arith, λ e. omega arith, λ e. omega arith, λ e. omega arith, λ e. omega arith, λ e. omega arith, λ e. omega arith, λ e. omega arith) in
+          let n : Apart (getD s at 0) = (λ e. omega arith, λ e. omega arith, λ e. omega arith, λ e. omega arith, λ e. omega arith, λ e. omega arith, λ e. omega arith, λ e. omega arith) in
           rw (expr-in z h) (rule-none (read-expr ar s (d - 1)) at (at + 1) _ n (λ k. omega arith))
 
       pub is-stop : 32 ≤ getD s at 0 → getD s at 0 ≤ 44 → (n : ℕ) → told E (read-expr ar s (d - 1) (at + 1)) ≡ Refused n → told E (read-expr ar s d at) ≡ Refused n

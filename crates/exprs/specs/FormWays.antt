@@ -2,7 +2,6 @@
 use Prim.Native.Nat.{ℕ, zero, suc, _+_, _-_, _<_, _≤_}
 use native.Mathlib.Omega.{arith}
 use mathlib.Core.Path.{_≡_, refl}
-use mathlib.Core.Logic.{⊎-elim}
 use Rattle.program.specs.Tree.{Op, Op.op-eq, Op.op-ne, Op.op-le, Op.op-ge, Op.op-lt, Op.op-gt, Op.op-mul, Op.op-div, Op.op-rem, Op.op-add, Op.op-sub, Op.op-and, Op.op-or}
 use Rattle.program.specs.Encoding.{op-code}
 use Rattle.program.specs.Reader.{lookup, Form, Form.form-inv, Form.form-make, Form.form-path, Form.form-int, Form.form-nat, Form.form-bool, Form.form-null, Form.form-self, Form.form-op, Form.form-none, form}
@@ -45,11 +44,11 @@ op-form b l h = let e : b ≡ 32 + (b - 32) = omega arith in rw e (go (b - 32) (
     go (suc (suc (suc (suc (suc (suc (suc (suc (suc (suc (suc (suc zero)))))))))))) h = (op-or, refl)
     go (suc (suc (suc (suc (suc (suc (suc (suc (suc (suc (suc (suc (suc i))))))))))))) h = absurd (omega (arith, h))
 
--- a byte that is none of those that open a form
-abbrev pub Opened : ℕ → Type 0
-Opened b = (b ≡ 16 → ⊥) × (b ≡ 17 → ⊥) × (b ≡ 18 → ⊥) × (b ≡ 19 → ⊥) × (b ≡ 20 → ⊥) × (b ≡ 21 → ⊥) × (b ≡ 22 → ⊥) × (b ≡ 23 → ⊥)
+-- a byte that opens no form but an operator
+abbrev pub Apart : ℕ → Type 0
+Apart b = (b ≡ 16 → ⊥) × (b ≡ 17 → ⊥) × (b ≡ 18 → ⊥) × (b ≡ 19 → ⊥) × (b ≡ 20 → ⊥) × (b ≡ 21 → ⊥) × (b ≡ 22 → ⊥) × (b ≡ 23 → ⊥)
 
-pub no-form : (b : ℕ) → Opened b → ((32 ≤ b) × (b ≤ 44) → ⊥) → form b ≡ form-none
+pub no-form : (b : ℕ) → Apart b → ((32 ≤ b) × (b ≤ 44) → ⊥) → form b ≡ form-none
 no-form b n k = go (form b) (opens b)
   where
     go : (f : Form) → Opens b f → f ≡ form-none

@@ -3,15 +3,13 @@ use Prim.Native.Nat.{ℕ, zero, suc, _+_, _-_, _<_, _≤_}
 use native.Mathlib.Omega.{arith}
 use native.Mathlib.Numerals.{sub-one, one-add}
 use native.Mathlib.Nat.{add-zero}
-use mathlib.Core.Path.{_≡_, refl, sym, _∙_}
+use mathlib.Core.Path.{_≡_, refl}
 use mathlib.Core.List.{List, [], _∷_}
-use lib.ListN.{length, getD}
+use lib.ListN.{length}
 use Rattle.program.specs.Tree.{Var}
 use Rattle.program.specs.Reader.{Result, Result.ok, Result.bad, then, pair, made, many, var-of, ranged, counted, read-var, read-path}
 use Rattle.facts.specs.declared.Judged.{Judged}
-use Rattle.facts.specs.declared.Facts.{Facts}
 use Rattle.facts.specs.Facts.{lead-by, lead, start-of, path-of, travelled}
-use Rattle.exprs.specs.declared.read.ByteRead.{ByteRead}
 use Rattle.exprs.specs.declared.read.ByteRead.the-variants.{Byte, NoByte}
 use Rattle.exprs.specs.declared.read.PathRead.{PathRead}
 use Rattle.exprs.specs.declared.read.PathRead.the-variants.{Path, NoPath}

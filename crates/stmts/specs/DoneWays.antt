@@ -1,5 +1,5 @@
 -- How far what is read reaches, and how much is computed of it, statement by statement (01, numbers 4 to 6).
-use Prim.Native.Nat.{ℕ, suc, _+_, _<_, _≤_, _^_, max}
+use Prim.Native.Nat.{ℕ, _+_, _<_, _^_}
 use native.Mathlib.Omega.{arith}
 use mathlib.Core.Path.{_≡_}
 use mathlib.Core.List.{List}

@@ -2,23 +2,20 @@
 use Prim.Native.Nat.{ℕ, zero, suc, _+_, _-_, _<_, _≤_}
 use native.Mathlib.Omega.{arith}
 use native.Mathlib.Numerals.{sub-one}
-use mathlib.Core.Path.{_≡_, refl, _∙_}
+use mathlib.Core.Path.{_≡_, refl}
 use mathlib.Core.List.{List}
 use lib.ListN.{length, getD}
 use Rattle.types.specs.Types.{Ty, code}
-use Rattle.program.specs.Tree.{Var, Expr, Exprs, Stmt, Stmt.when, Stmt.declare, Stmt.update, Stmt.create, Stmts, Stmts.end, Stmts.next}
-use Rattle.program.specs.Reader.{Result, Result.ok, Result.bad, then, pair, made, many, lookup, Kind, Kind.kind-when, Kind.kind-declare, Kind.kind-update, Kind.kind-create, Kind.kind-none, kind, type-byte, byte, tested, opened, ranged, counted, read-type, read-local, read-path, read-make, read-expr, read-body, read-when, read-declare, read-update, rule-stmt, read-stmt}
+use Rattle.program.specs.Tree.{Var, Expr, Exprs, Stmt, Stmts, Stmts.end, Stmts.next}
+use Rattle.program.specs.Reader.{Result, Result.ok, Result.bad, then, pair, made, many, lookup, Kind, Kind.kind-when, Kind.kind-declare, Kind.kind-update, Kind.kind-create, Kind.kind-none, kind, type-byte, byte, tested, opened, ranged, counted, read-local, read-path, read-make, read-expr, read-body, read-when, read-declare, read-update, rule-stmt, read-stmt}
 use Rattle.program.specs.StmtLaws.{OpensStmt, opens-stmt}
 use Rattle.facts.specs.declared.Judged.{Judged}
 use Rattle.facts.specs.declared.Facts.{Facts}
 use Rattle.facts.specs.declared.Scope.{Scope}
 use Rattle.facts.specs.declared.Done.{Done}
 use Rattle.facts.specs.Facts.{path-of, expr-facts, constructed, nothing, branched, declared, updated, created, followed, stmt-facts, body-facts}
-use Rattle.exprs.specs.declared.read.ByteRead.{ByteRead}
 use Rattle.exprs.specs.declared.read.ByteRead.the-variants.{Byte, NoByte}
-use Rattle.exprs.specs.declared.read.PathRead.{PathRead}
 use Rattle.exprs.specs.declared.read.PathRead.the-variants.{Path, NoPath}
-use Rattle.exprs.specs.declared.read.ExprRead.{ExprRead}
 use Rattle.exprs.specs.declared.read.ExprRead.the-variants.{Value as ExprValue, Refused as ExprRefused}
 use Rattle.exprs.specs.Told.{told, byte-told, path-told, made-facts}
 use Rattle.exprs.specs.ByteWays.{byte-out, byte-in, byte-is, byte-stops, type-read, type-stops}

@@ -1,7 +1,7 @@
 -- `leaf::leaf` meets its contract, by a law for each form.
 use native.Mathlib.Omega.{arith}
 use mathlib.Core.Path.{sym, _∙_}
-use Rattle.exprs.specs.FormWays.{Opened}
+use Rattle.exprs.specs.FormWays.{Apart}
 use Rattle.exprs.specs.ExprWays.{rule-path, rule-int, rule-nat, rule-bool, rule-null, rule-self, rule-none}
 use borrow.Author.Needs.{needs}
 use Rattle.exprs.proofs.leaf.leaf.Statement.{statement}
@@ -48,7 +48,7 @@ returns-6 c = let a = c .before .before .before .before .before .before .before 
 
 returns-7 : tie.Need-returns-7
 returns-7 c = let a = c .before .before .before .before .before .before .before .before .before .args in
-    let n : Opened (a .b) = (c .before .before .before .before .before .before .before .before .before .pre .1 .0 .0, c .before .before .before .before .before .before .before .before .before .pre .1 .0 .1, c .before .before .before .before .before .if1 .left, c .before .before .before .before .if2 .left, c .before .before .before .if3 .left, c .before .before .if4 .left, c .before .if5 .left, c .if6 .left) in
+    let n : Apart (a .b) = (c .before .before .before .before .before .before .before .before .before .pre .1 .0 .0, c .before .before .before .before .before .before .before .before .before .pre .1 .0 .1, c .before .before .before .before .before .if1 .left, c .before .before .before .before .if2 .left, c .before .before .before .if3 .left, c .before .before .if4 .left, c .before .if5 .left, c .if6 .left) in
     (λ rec p. sym (rule-none (a .ar .now) (a .types .now) (a .s .now) (a .own) (a .live) rec p (a .at) (a .b) n (λ q. omega (arith, q .0, c .before .before .before .before .before .before .before .before .before .pre .1 .1))), tt)
 
 pub leaf-spec : {M : Type 1} → statement M

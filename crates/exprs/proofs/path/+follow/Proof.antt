@@ -1,5 +1,4 @@
 -- `path::follow` meets its contract, by a law for each way through it. The measure is how many parameters are left.
-use Prim.Native.Nat.{_+_}
 use native.Mathlib.Omega.{arith}
 use mathlib.Core.Path.{sym, _∙_}
 use Rattle.exprs.specs.PathWays.{row-none, row-stop, row-more, span-row}
@@ -24,106 +23,39 @@ follow-at t = and 3 follow-kinds.ps (is 3 follow-kinds.ps μ-follow t) follow.Pr
 abbrev follow-below : ℕ → In 3 follow-kinds.ps
 follow-below t = and 3 follow-kinds.ps (falls 3 follow-kinds.ps _<_ μ-follow t) follow.Pre
 
-follow-returns : (t : ℕ) → follow-lts.Need-returns (
-  ranged-reads.Asked,
-  ranged-reads.Learnt,
-  lead-by-reads.Asked,
-  lead-by-reads.Learnt,
-  follow-below t,
-  follow.Post,
-) (follow-at t) follow.Post
+abbrev follow-claims : ℕ → follow-lts.Claims
+follow-claims t = (ranged-reads.Asked, ranged-reads.Learnt, lead-by-reads.Asked, lead-by-reads.Learnt, follow-below t, follow.Post)
+
+follow-returns : (t : ℕ) → follow-lts.Need-returns (follow-claims t) (follow-at t) follow.Post
 follow-returns t c = let a = c .before .before .before .before .args in (sym (row-none (a .s .now) (a .ar .now) (a .types .now) (a .j) (a .n) (a .c) (a .at) (c .if1 .taken)), omega (arith, c .before .before .before .before .pre))
 
-follow-ranged-requires : (t : ℕ) → follow-lts.Need-ranged-requires (
-  ranged-reads.Asked,
-  ranged-reads.Learnt,
-  lead-by-reads.Asked,
-  lead-by-reads.Learnt,
-  follow-below t,
-  follow.Post,
-) (follow-at t) follow.Post
+follow-ranged-requires : (t : ℕ) → follow-lts.Need-ranged-requires (follow-claims t) (follow-at t) follow.Post
 follow-ranged-requires t c κs = search needs
 
-follow-enum-known-k : (t : ℕ) → follow-lts.Need-enum-known-k (
-  ranged-reads.Asked,
-  ranged-reads.Learnt,
-  lead-by-reads.Asked,
-  lead-by-reads.Learnt,
-  follow-below t,
-  follow.Post,
-) (follow-at t) follow.Post
+follow-enum-known-k : (t : ℕ) → follow-lts.Need-enum-known-k (follow-claims t) (follow-at t) follow.Post
 follow-enum-known-k t c = search needs
 
-follow-enum-known-x : (t : ℕ) → follow-lts.Need-enum-known-x (
-  ranged-reads.Asked,
-  ranged-reads.Learnt,
-  lead-by-reads.Asked,
-  lead-by-reads.Learnt,
-  follow-below t,
-  follow.Post,
-) (follow-at t) follow.Post
+follow-enum-known-x : (t : ℕ) → follow-lts.Need-enum-known-x (follow-claims t) (follow-at t) follow.Post
 follow-enum-known-x t c = search needs
 
-follow-lead-by-requires : (t : ℕ) → follow-lts.Need-lead-by-requires (
-  ranged-reads.Asked,
-  ranged-reads.Learnt,
-  lead-by-reads.Asked,
-  lead-by-reads.Learnt,
-  follow-below t,
-  follow.Post,
-) (follow-at t) follow.Post
+follow-lead-by-requires : (t : ℕ) → follow-lts.Need-lead-by-requires (follow-claims t) (follow-at t) follow.Post
 follow-lead-by-requires t c κs = search needs
 
-follow-sub-follow : (t : ℕ) → follow-lts.Need-sub-follow (
-  ranged-reads.Asked,
-  ranged-reads.Learnt,
-  lead-by-reads.Asked,
-  lead-by-reads.Learnt,
-  follow-below t,
-  follow.Post,
-) (follow-at t) follow.Post
+follow-sub-follow : (t : ℕ) → follow-lts.Need-sub-follow (follow-claims t) (follow-at t) follow.Post
 follow-sub-follow t c = search needs
 
-follow-add-follow : (t : ℕ) → follow-lts.Need-add-follow (
-  ranged-reads.Asked,
-  ranged-reads.Learnt,
-  lead-by-reads.Asked,
-  lead-by-reads.Learnt,
-  follow-below t,
-  follow.Post,
-) (follow-at t) follow.Post
+follow-add-follow : (t : ℕ) → follow-lts.Need-add-follow (follow-claims t) (follow-at t) follow.Post
 follow-add-follow t c = search needs
 
-follow-follow-requires : (t : ℕ) → follow-lts.Need-follow-requires (
-  ranged-reads.Asked,
-  ranged-reads.Learnt,
-  lead-by-reads.Asked,
-  lead-by-reads.Learnt,
-  follow-below t,
-  follow.Post,
-) (follow-at t) follow.Post
+follow-follow-requires : (t : ℕ) → follow-lts.Need-follow-requires (follow-claims t) (follow-at t) follow.Post
 follow-follow-requires t c κs = let span = rw (c .before .before .x .given .1) at (c .before .before .before .before .ranged .ensures .1) in (omega (arith, c .before .before .before .before .before .before .before .before .before .pre), omega (arith, c .before .before .before .before .before .before .before .before .before .pre))
 
-follow-returns-2 : (t : ℕ) → follow-lts.Need-returns-2 (
-  ranged-reads.Asked,
-  ranged-reads.Learnt,
-  lead-by-reads.Asked,
-  lead-by-reads.Learnt,
-  follow-below t,
-  follow.Post,
-) (follow-at t) follow.Post
+follow-returns-2 : (t : ℕ) → follow-lts.Need-returns-2 (follow-claims t) (follow-at t) follow.Post
 follow-returns-2 t c = let a = c .before .before .before .before .before .before .before .before .args in
     let e = sym (c .before .before .before .ranged .ensures .0) ∙ c .before .k .given .1 in
     (sym (row-stop (a .s .now) (a .ar .now) (a .types .now) (a .j) (a .n) (a .c) (a .at) (c .before .before .before .before .if1 .left) _ e), tt)
 
-follow-returns-3 : (t : ℕ) → follow-lts.Need-returns-3 (
-  ranged-reads.Asked,
-  ranged-reads.Learnt,
-  lead-by-reads.Asked,
-  lead-by-reads.Learnt,
-  follow-below t,
-  follow.Post,
-) (follow-at t) follow.Post
+follow-returns-3 : (t : ℕ) → follow-lts.Need-returns-3 (follow-claims t) (follow-at t) follow.Post
 follow-returns-3 t c = let a = c .before .before .before .before .before .before .before .before .before .before .args in
     let e = sym (c .before .before .before .before .before .ranged .ensures .0) ∙ c .before .before .before .x .given .1 in
     let span = rw (c .before .before .before .x .given .1) at (c .before .before .before .before .before .ranged .ensures .1) in
@@ -131,15 +63,7 @@ follow-returns-3 t c = let a = c .before .before .before .before .before .before
     (rest ∙ sym (row-more (a .s .now) (a .ar .now) (a .types .now) (a .j) (a .n) (a .c) (a .at) (c .before .before .before .before .before .before .if1 .left) _ _ e), span-row (a .s .now) (a .n) (a .c) (a .at) _ (c .follow .result) (c .before .before .before .before .before .before .if1 .left) (span .0) (c .follow .ensures .1))
 
 pub +follow-spec : {M : Type 1} → statement M
-+follow-spec = close μ-follow λ t. follow-lts.spec (
-  ranged-reads.Asked,
-  ranged-reads.Learnt,
-  lead-by-reads.Asked,
-  lead-by-reads.Learnt,
-  follow-below t,
-  follow.Post,
-)
-    (follow-at t)
++follow-spec = close μ-follow λ t. follow-lts.spec (follow-claims t) (follow-at t)
     follow.Post
     (follow-returns t)
     (follow-ranged-requires t)

@@ -1,5 +1,5 @@
 -- `expression::gives` meets its contract.
-use mathlib.Core.Path.{_≡_, sym}
+use mathlib.Core.Path.{sym}
 use Rattle.facts.specs.CodeOps.{gives-low, gives-middle, gives-high}
 use Rattle.facts.proofs.expression.gives.Statement.{statement}
 use Rattle.facts.proofs.expression.gives.Tie as tie

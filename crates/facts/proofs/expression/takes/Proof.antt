@@ -1,5 +1,4 @@
 -- `expression::takes` meets its contract.
-use mathlib.Core.Path.{_≡_, sym}
 use borrow.Author.Tests.{eq-eqb, ne-eqb}
 use Rattle.facts.specs.CodeOps.{takes-low, takes-middle, takes-high}
 use Rattle.facts.proofs.expression.takes.Statement.{statement}

@@ -1,5 +1,5 @@
 -- `path::look` meets its contract.
-use mathlib.Core.Path.{_≡_, sym}
+use mathlib.Core.Path.{sym}
 use lib.ListN.{List·getD-eq-default}
 use borrow.Author.Needs.{needs}
 use Rattle.facts.proofs.path.look.Statement.{statement}

@@ -1,5 +1,4 @@
 -- `path::param` meets its contract.
-use mathlib.Core.Path.{_≡_, sym}
 use borrow.Author.Tests.{lt-ltb, le-ltb}
 use Rattle.facts.specs.Facts.{param}
 use borrow.Author.Needs.{needs}
