@@ -1,5 +1,5 @@
 -- What the readers of the parameter lists answer for what is read (01, 'Program stream'), and what they leave in the two tables.
-use Prim.Native.Nat.{ℕ, _*_, _<_, _≤_}
+use Prim.Native.Nat.{ℕ, _*_, _≤_}
 use mathlib.Core.Path.{_≡_}
 use mathlib.Core.List.{List, [], _∷_, _++_, map}
 use lib.ListN.{length, drop, set}

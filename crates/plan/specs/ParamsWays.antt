@@ -3,7 +3,7 @@ use Prim.Native.Nat.{ℕ, zero, suc, _+_, _-_, _*_, _≤_}
 use native.Mathlib.Omega.{arith}
 use native.Mathlib.Nat.{add-zero, add-suc, suc-add, zero-add}
 use native.Mathlib.Numerals.{sub-one, add-one}
-use mathlib.Core.Path.{_≡_, refl, ap, sym, _∙_}
+use mathlib.Core.Path.{_≡_, refl, ap, _∙_}
 use mathlib.Core.List.{List, [], _∷_, _++_, map}
 use lib.ListN.{length, drop, set, length-append, length-map}
 use lib.Seq.{sets, sets-eq}
@@ -15,7 +15,7 @@ use Rattle.facts.specs.ProgramFacts.{row, types-table}
 use Rattle.exprs.specs.declared.read.ByteRead.the-variants.{Byte, NoByte}
 use Rattle.plan.specs.declared.params.PlaceRead.{PlaceRead}
 use Rattle.plan.specs.declared.params.PlaceRead.the-variants.{Place, NoPlace}
-use Rattle.plan.specs.declared.params.ParamsRead.the-variants.{Value, Refused}
+use Rattle.plan.specs.declared.params.ParamsRead.the-variants.{Value}
 use Rattle.exprs.specs.declared.read.ExprRead.the-variants.{Value as Read}
 use Rattle.exprs.specs.Told.{told, byte-told}
 use Rattle.exprs.specs.ByteWays.{byte-is, type-is}
@@ -99,10 +99,6 @@ module _ (s : List ℕ) (S at : ℕ) where
 
 -- what one place more holds: a zero behind the types, or the byte of the first
 module _ (room place : ℕ) (ts ts′ : List ℕ) where
-  pub kept-none : RowKept 0 place ts ts (ok [] place)
-  unfolding row
-  kept-none = refl
-
   pub kept-zero : (m : ℕ) → (room ≡ 0 → ⊥) → RowKept (room - 1) (place + 1) (set ts place 0) ts′ (ok [] m) → RowKept room place ts ts′ (ok [] m)
   unfolding row
   kept-zero m z h = go room z h

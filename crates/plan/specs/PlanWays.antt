@@ -2,14 +2,14 @@
 use Prim.Native.Nat.{ℕ, zero, suc, _+_, _-_, _<_, _≤_, _^_}
 use native.Mathlib.Omega.{arith}
 use native.Mathlib.Numerals.{sub-one, add-one}
-use mathlib.Core.Path.{_≡_, refl, sym, _∙_}
-use mathlib.Core.Bool.{Bool, true, false, not}
+use mathlib.Core.Path.{_≡_, refl, sym}
+use mathlib.Core.Bool.{true, false, not}
 use mathlib.Core.List.{List}
 use lib.ListN.{length, getD}
 use lib.Dec.{eqb}
 use borrow.Author.Tests.{eq-eqb, ne-eqb}
-use Rattle.program.specs.Tree.{Item, Item.call, Item.call-in, Item.fix, Items, Items.stop, Items.item}
-use Rattle.program.specs.Reader.{Result, Result.ok, Result.bad, then, pair, made, many, opened, counted, lookup, sort, Sort, Sort.sort-call, Sort.sort-call-in, Sort.sort-fix, Sort.sort-none, byte, ranged, rule-item, read-item, read-items}
+use Rattle.program.specs.Tree.{Item, Item.call, Item.fix, Items, Items.stop, Items.item}
+use Rattle.program.specs.Reader.{Result, Result.ok, Result.bad, then, pair, made, many, opened, counted, lookup, sort, Sort, Sort.sort-call, Sort.sort-call-in, Sort.sort-fix, Sort.sort-none, ranged, rule-item, read-item, read-items}
 use Rattle.program.specs.ItemLaws.{OpensItem, opens-item}
 use Rattle.facts.specs.Facts.{named}
 use Rattle.facts.specs.ProgramFacts.{Planned as Plan, plan, place, had, joined, item-plan, items-plan}
@@ -43,9 +43,9 @@ module _ (hs : List ℕ) (n k c : ℕ) where
       go zero z = absurd (z refl)
       go (suc c) z = rw (sub-one, add-one) (simp (had, eq-eqb _ _ h))
 
-module _ (hs : List ℕ) (S : ℕ) (s : List ℕ) where
+module _ (hs : List ℕ) (S : ℕ) where
   -- a step of every struct: its name is not read, or is
-  module _ (at : ℕ) where
+  module _ (s : List ℕ) (at : ℕ) where
     pub call-stop : (e : ℕ) → byte-told (ranged s 0 32 at) ≡ NoByte e → told (item-plan hs S) (made call (ranged s 0 32 at)) ≡ Refused e
     unfolding made then
     call-stop e p = rw (byte-stops (ranged s 0 32 at) e p .1)
@@ -70,7 +70,7 @@ module _ (hs : List ℕ) (S : ℕ) (s : List ℕ) where
     unfolding read-call-in made pair then item-plan
     call-in-read k m n i p q = rw (byte-is (ranged s 0 S at) k m p, byte-is (ranged s 0 32 m) n i q)
 
-  -- a Fix is planned as what is around its items
+  -- what is planned of a Fix, from what is planned of its items
   pub fix-around : (r : Result Items) → told (item-plan hs S) (made fix r) ≡ after fixed (told (items-plan hs S) r)
   unfolding made then item-plan fixed
   fix-around (ok is m) = refl
@@ -110,15 +110,20 @@ module _ (hs : List ℕ) (S : ℕ) (s : List ℕ) where
             rw (h, o, sub-one) (one i (many stop item r n m) f)
         go (suc n) z (bad a k) h e = let o : _≡_ {A = ℕ} 0 1 = cc in absurd (omega arith)
 
-  -- the count of the items, which is not read, or is, with them behind it
-  module _ (ar : List ℕ) (r : ℕ → Result Item) (at : ℕ) where
-    pub items-stop : (e : ℕ) → byte-told (ranged s 1 33 at) ≡ NoByte e → told (items-plan hs S) (read-items ar s r at) ≡ Refused e
-    unfolding read-items counted then
-    items-stop e p = rw (byte-stops (ranged s 1 33 at) e p .1)
+-- an item more than those inside
+pub fix-value : (n : ℕ) (p : Planned) → _≡_ {A = PlanRead} (Value n (record { count = p .count + 1; fault = p .fault })) (after fixed (Value n p))
+unfolding fixed
+fix-value n p = rw add-one
 
-    pub items-more : (n m : ℕ) → byte-told (ranged s 1 33 at) ≡ Byte n m → read-items ar s r at ≡ many stop item r n m
-    unfolding read-items counted then
-    items-more n m p = rw (byte-is (ranged s 1 33 at) n m p)
+-- the count of the items, which is not read, or is, with them behind it
+module _ (ar s : List ℕ) (r : ℕ → Result Item) (at : ℕ) where
+  pub items-stop : (f : Items → Plan) (e : ℕ) → byte-told (ranged s 1 33 at) ≡ NoByte e → told f (read-items ar s r at) ≡ Refused e
+  unfolding read-items counted then
+  items-stop f e p = rw (byte-stops (ranged s 1 33 at) e p .1)
+
+  pub items-more : (n m : ℕ) → byte-told (ranged s 1 33 at) ≡ Byte n m → read-items ar s r at ≡ many stop item r n m
+  unfolding read-items counted then
+  items-more n m p = rw (byte-is (ranged s 1 33 at) n m p)
 
 -- an item: no byte, a step, a step of a struct, no item, one Fix too many, a Fix
 module _ (ar s : List ℕ) (d at : ℕ) where

@@ -1,7 +1,6 @@
 // The parameter lists of the structs, read into two tables (01, 'Program stream').
 use exprs::read;
 use exprs::read::ByteRead;
-
 ghost use mathlib.Core.Path.{_≡_};
 ghost use mathlib.Core.List.{[], _∷_};
 ghost use Prim.Native.Nat.{_+_, _*_, _≤_};
@@ -22,7 +21,15 @@ pub enum ParamsRead {
 }
 
 // n types of a program with that many structs: their bytes, and zeros for the rest of the room.
-fn row(s: &[u8], types: &mut [u8], structs: u8, n: u8, room: u8, place: usize, at: usize) -> PlaceRead
+fn row(
+    s: &[u8],
+    types: &mut [u8],
+    structs: u8,
+    n: u8,
+    room: u8,
+    place: usize,
+    at: usize,
+) -> PlaceRead
     requires { ⌜ (at ≤ length (now s)) × (n ≤ room) × (place + room ≤ length (now types)) ⌝ }
     ensures { λ r. ⌜ r ≡ place-told (many [] _∷_ (read-type (now (s .entry)) structs) n at) ⌝ }
     ensures { λ r. ⌜ PlaceSpan (now (s .entry)) at r ⌝ }
@@ -61,7 +68,15 @@ fn list(s: &[u8], counts: &mut [u8], types: &mut [u8], structs: u8, k: u8, at: u
 }
 
 // The parameters of n structs, from struct k on.
-fn lists(s: &[u8], counts: &mut [u8], types: &mut [u8], structs: u8, n: u8, k: u8, at: usize) -> PlaceRead
+fn lists(
+    s: &[u8],
+    counts: &mut [u8],
+    types: &mut [u8],
+    structs: u8,
+    n: u8,
+    k: u8,
+    at: usize,
+) -> PlaceRead
     requires { ⌜ (at ≤ length (now s)) × (n + k ≤ length (now counts)) × (8 * (n + k) ≤ length (now types)) × (n + k ≤ 16) ⌝ }
     ensures { λ r. ⌜ r ≡ place-told (many [] _∷_ (read-list (now (s .entry)) structs) n at) ⌝ }
     ensures { λ r. ⌜ PlaceSpan (now (s .entry)) at r ⌝ }

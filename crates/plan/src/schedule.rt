@@ -2,10 +2,9 @@
 use exprs::read;
 use exprs::read::ByteRead;
 use facts::fault;
-
 ghost use mathlib.Core.Path.{_≡_};
 ghost use mathlib.Core.List.{List};
-ghost use Prim.Native.Nat.{ℕ, _+_, _<_, _≤_, _^_};
+ghost use Prim.Native.Nat.{ℕ, _+_, _<_, _≤_};
 ghost use lib.ListN.{length};
 ghost use Rattle.program.specs.Tree.{Item.call, Items.stop, Items.item};
 ghost use Rattle.program.specs.Reader.{made, many, ranged, read-items, read-item};

@@ -1,12 +1,11 @@
 -- `params::lists` meets its contract: the structs that are left fall.
 use borrow.Author.Needs.{needs}
 use native.Mathlib.Omega.{arith}
-use mathlib.Core.Path.{_≡_, refl, ap, sym, _∙_}
+use mathlib.Core.Path.{refl, ap, sym, _∙_}
 use mathlib.Core.List.{[], _∷_}
-use lib.ListN.{length}
 use Rattle.program.specs.Reader.{many}
 use Rattle.facts.specs.ProgramFacts.{types-table}
-use Rattle.plan.specs.ParamsTold.{read-list, place-told, PlaceSpan, ListKept, ListsKept}
+use Rattle.plan.specs.ParamsTold.{read-list, place-told}
 use Rattle.plan.specs.ParamsWays.{place-is, place-stops, onto-place, many-none, many-stop, many-more, kept-lists, span-from}
 use Prim.Native.Nat.{ℕ, _<_, _-_}
 use borrow.Fn.Kinds.{In}
@@ -34,9 +33,9 @@ lists-returns : (t : ℕ) → lists-lts.Need-returns (
   lists.Post,
 ) (lists-at t) lists.Post
 unfolding types-table
-lists-returns t c = let a = (c .before .before .before .before .args) in
-    let q = many-none (read-list (a .s .now) (a .structs)) (a .n) (a .at) ((c .if1) .taken) in
-    (sym (ap place-told q), (omega (arith, (c .before .before .before .before .pre)), rw q (refl, refl)))
+lists-returns t c = let a = c .before .before .before .before .args in
+    let q = many-none (read-list (a .s .now) (a .structs)) (a .n) (a .at) (c .if1 .taken) in
+    (sym (ap place-told q), (omega (arith, c .before .before .before .before .pre), rw q (refl, refl)))
 
 lists-list-requires : (t : ℕ) → lists-lts.Need-list-requires (
   list-reads.Asked,
@@ -44,7 +43,7 @@ lists-list-requires : (t : ℕ) → lists-lts.Need-list-requires (
   lists-below t,
   lists.Post,
 ) (lists-at t) lists.Post
-lists-list-requires t c κs = omega (arith, (c .before .before .before .before .before .before .pre))
+lists-list-requires t c κs = omega (arith, c .before .before .before .before .before .before .pre)
 
 lists-enum-known-first : (t : ℕ) → lists-lts.Need-enum-known-first (
   list-reads.Asked,
@@ -68,7 +67,7 @@ lists-same-length : (t : ℕ) → lists-lts.Need-same-length (
   lists-below t,
   lists.Post,
 ) (lists-at t) lists.Post
-lists-same-length t c = (c .before .before .before .before .before .before .list) .kept .1 .0
+lists-same-length t c = c .before .before .before .before .before .before .list .kept .1 .0
 
 lists-same-length-2 : (t : ℕ) → lists-lts.Need-same-length-2 (
   list-reads.Asked,
@@ -76,7 +75,7 @@ lists-same-length-2 : (t : ℕ) → lists-lts.Need-same-length-2 (
   lists-below t,
   lists.Post,
 ) (lists-at t) lists.Post
-lists-same-length-2 t c = (c .before .before .before .before .before .before .list) .kept .1 .1 .0
+lists-same-length-2 t c = c .before .before .before .before .before .before .list .kept .1 .1 .0
 
 lists-returns-2 : (t : ℕ) → lists-lts.Need-returns-2 (
   list-reads.Asked,
@@ -84,11 +83,11 @@ lists-returns-2 : (t : ℕ) → lists-lts.Need-returns-2 (
   lists-below t,
   lists.Post,
 ) (lists-at t) lists.Post
-lists-returns-2 t c = let a = (c .before .before .before .before .before .before .before .before .before .before .before .before .before .args) in
-    let told = (c .enum-told) .given in
-    let q = place-stops (read-list (a .s .now) (a .structs) (a .at)) _ (sym ((c .before .before .before .before .before .before .list) .ensures .0) ∙ told .1) in
-    let h = many-stop (read-list (a .s .now) (a .structs)) (a .n) (a .at) _ _ ((c .before .before .before .before .before .before .before .before .before .if1) .left) (q .1) in
-    (told .1 ∙ sym (ap place-told h), ((c .before .before .before .before .before .before .list) .ensures .1 .0, rw h tt))
+lists-returns-2 t c = let a = c .before .before .before .before .before .before .before .before .before .before .before .before .before .args in
+    let told = c .enum-told .given in
+    let q = place-stops (read-list (a .s .now) (a .structs) (a .at)) _ (sym (c .before .before .before .before .before .before .list .ensures .0) ∙ told .1) in
+    let h = many-stop (read-list (a .s .now) (a .structs)) (a .n) (a .at) _ _ (c .before .before .before .before .before .before .before .before .before .if1 .left) (q .1) in
+    (told .1 ∙ sym (ap place-told h), (c .before .before .before .before .before .before .list .ensures .1 .0, rw h tt))
 
 lists-sub-lists : (t : ℕ) → lists-lts.Need-sub-lists (
   list-reads.Asked,
@@ -112,8 +111,8 @@ lists-lists-requires : (t : ℕ) → lists-lts.Need-lists-requires (
   lists-below t,
   lists.Post,
 ) (lists-at t) lists.Post
-lists-lists-requires t c κs = let span = rw ((c .before .before .before .first) .given .1) at ((c .before .before .before .before .before .before .before .before .before .list) .ensures .1 .0) in
-    (omega (arith, (c .before .before .before .before .before .before .before .before .before .before .before .before .before .before .before .before .pre)), omega (arith, (c .before .before .before .before .before .before .before .before .before .before .before .before .before .before .before .before .pre), (c .before .before .before .before .before .before .before .before .before .list) .kept .1 .0, (c .before .before .before .before .before .before .before .before .before .list) .kept .1 .1 .0))
+lists-lists-requires t c κs = let span = rw (c .before .before .before .first .given .1) at (c .before .before .before .before .before .before .before .before .before .list .ensures .1 .0) in
+    (omega (arith, c .before .before .before .before .before .before .before .before .before .before .before .before .before .before .before .before .pre), omega (arith, c .before .before .before .before .before .before .before .before .before .before .before .before .before .before .before .before .pre, c .before .before .before .before .before .before .before .before .before .list .kept .1 .0, c .before .before .before .before .before .before .before .before .before .list .kept .1 .1 .0))
 
 lists-same-length-3 : (t : ℕ) → lists-lts.Need-same-length-3 (
   list-reads.Asked,
@@ -121,7 +120,7 @@ lists-same-length-3 : (t : ℕ) → lists-lts.Need-same-length-3 (
   lists-below t,
   lists.Post,
 ) (lists-at t) lists.Post
-lists-same-length-3 t c = (c .before .before .before .before .lists) .kept .1 .0 ∙ (c .before .before .before .before .before .before .before .before .before .before .before .before .before .before .list) .kept .1 .0
+lists-same-length-3 t c = c .before .before .before .before .lists .kept .1 .0 ∙ c .before .before .before .before .before .before .before .before .before .before .before .before .before .before .list .kept .1 .0
 
 lists-same-length-4 : (t : ℕ) → lists-lts.Need-same-length-4 (
   list-reads.Asked,
@@ -129,7 +128,7 @@ lists-same-length-4 : (t : ℕ) → lists-lts.Need-same-length-4 (
   lists-below t,
   lists.Post,
 ) (lists-at t) lists.Post
-lists-same-length-4 t c = (c .before .before .before .before .lists) .kept .1 .1 .0 ∙ (c .before .before .before .before .before .before .before .before .before .before .before .before .before .before .list) .kept .1 .1 .0
+lists-same-length-4 t c = c .before .before .before .before .lists .kept .1 .1 .0 ∙ c .before .before .before .before .before .before .before .before .before .before .before .before .before .before .list .kept .1 .1 .0
 
 lists-returns-3 : (t : ℕ) → lists-lts.Need-returns-3 (
   list-reads.Asked,
@@ -137,15 +136,16 @@ lists-returns-3 : (t : ℕ) → lists-lts.Need-returns-3 (
   lists-below t,
   lists.Post,
 ) (lists-at t) lists.Post
-lists-returns-3 t c = let a = (c .before .before .before .before .before .before .before .before .before .before .before .before .before .before .before .before .before .before .before .before .before .args) in
-    let first = (c .before .before .before .before .before .before .before .before .first) .given in
-    let span = rw (first .1) at ((c .before .before .before .before .before .before .before .before .before .before .before .before .before .before .list) .ensures .1 .0) in
-    let q = place-is (read-list (a .s .now) (a .structs) (a .at)) _ (sym ((c .before .before .before .before .before .before .before .before .before .before .before .before .before .before .list) .ensures .0) ∙ first .1) in
-    let h = many-more (read-list (a .s .now) (a .structs)) (a .n) (a .at) _ _ ((c .before .before .before .before .before .before .before .before .before .before .before .before .before .before .before .before .before .if1) .left) (q .1) in
+lists-returns-3 t c = let a = c .before .before .before .before .before .before .before .before .before .before .before .before .before .before .before .before .before .before .before .before .before .args in
+    let first = c .before .before .before .before .before .before .before .before .first .given in
+    let span = rw (first .1) at (c .before .before .before .before .before .before .before .before .before .before .before .before .before .before .list .ensures .1 .0) in
+    let q = place-is (read-list (a .s .now) (a .structs) (a .at)) _ (sym (c .before .before .before .before .before .before .before .before .before .before .before .before .before .before .list .ensures .0) ∙ first .1) in
+    let h = many-more (read-list (a .s .now) (a .structs)) (a .n) (a .at) _ _ (c .before .before .before .before .before .before .before .before .before .before .before .before .before .before .before .before .before .if1 .left) (q .1) in
     let rest = many [] _∷_ (read-list (a .s .now) (a .structs)) (a .n - 1) (first .0 .0) in (
-      (c .before .before .before .before .lists) .ensures .0 ∙ sym (ap place-told h ∙ onto-place (q .0) rest), (
-        span-from (a .s .now) _ _ ((c .before .before .before .before .lists) .result) (omega arith) ((c .before .before .before .before .lists) .ensures .1 .0),
-        rw h (kept-lists (a .k) (a .counts .now) ((c .before .before .before .before .before .before .before .before .before .before .before .before .before .before .list) .last .1 .0) ((c .before .before .before .before .lists) .last .1 .0) (a .types .now) ((c .before .before .before .before .before .before .before .before .before .before .before .before .before .before .list) .last .1 .1 .0) ((c .before .before .before .before .lists) .last .1 .1 .0) (q .0) (first .0 .0) rest (rw (q .1) at ((c .before .before .before .before .before .before .before .before .before .before .before .before .before .before .list) .ensures .1 .1)) ((c .before .before .before .before .lists) .ensures .1 .1)),
+      c .before .before .before .before .lists .ensures .0 ∙ sym (ap place-told h ∙ onto-place (q .0) rest),
+      (
+        span-from (a .s .now) _ _ (c .before .before .before .before .lists .result) (omega arith) (c .before .before .before .before .lists .ensures .1 .0),
+        rw h (kept-lists (a .k) (a .counts .now) (c .before .before .before .before .before .before .before .before .before .before .before .before .before .before .list .last .1 .0) (c .before .before .before .before .lists .last .1 .0) (a .types .now) (c .before .before .before .before .before .before .before .before .before .before .before .before .before .before .list .last .1 .1 .0) (c .before .before .before .before .lists .last .1 .1 .0) (q .0) (first .0 .0) rest (rw (q .1) at (c .before .before .before .before .before .before .before .before .before .before .before .before .before .before .list .ensures .1 .1)) (c .before .before .before .before .lists .ensures .1 .1)),
       ),
     )
 

@@ -3,10 +3,10 @@ use borrow.Author.Needs.{needs}
 use native.Mathlib.Omega.{arith}
 use mathlib.Core.Path.{_≡_, refl, ap, sym, _∙_}
 use mathlib.Core.List.{[], _∷_}
-use lib.ListN.{length, length-set}
+use lib.ListN.{length-set}
 use Rattle.program.specs.Reader.{many, read-type}
 use Rattle.facts.specs.ProgramFacts.{row as row-of}
-use Rattle.plan.specs.ParamsTold.{place-told, PlaceSpan, RowKept}
+use Rattle.plan.specs.ParamsTold.{place-told}
 use Rattle.plan.specs.ParamsWays.{onto-place, many-none, many-stop, many-more, type-read, type-stop, kept-zero, kept-type, span-from}
 use Prim.Native.Nat.{ℕ, _<_, _-_}
 use borrow.Fn.Kinds.{In}
@@ -34,10 +34,10 @@ row-returns : (t : ℕ) → row-lts.Need-returns (
   type-byte-reads.Learnt,
 ) (row-at t) row.Post
 unfolding row-of
-row-returns t c = let a = (c .before .before .before .args) in
-    let z : a .n ≡ 0 = omega (arith, (c .before .before .before .pre)) in
+row-returns t c = let a = c .before .before .before .args in
+    let z : a .n ≡ 0 = omega (arith, c .before .before .before .pre) in
     let q = many-none (read-type (a .s .now) (a .structs)) (a .n) (a .at) z in
-    (sym (ap place-told q), (omega (arith, (c .before .before .before .pre)), rw (q, (c .if1) .taken) refl))
+    (sym (ap place-told q), (omega (arith, c .before .before .before .pre), rw (q, c .if1 .taken) refl))
 
 row-slice-write-types : (t : ℕ) → row-lts.Need-slice-write-types (
   row-below t,
@@ -45,7 +45,7 @@ row-slice-write-types : (t : ℕ) → row-lts.Need-slice-write-types (
   type-byte-reads.Asked,
   type-byte-reads.Learnt,
 ) (row-at t) row.Post
-row-slice-write-types t c = omega (arith, (c .before .before .before .before .pre))
+row-slice-write-types t c = omega (arith, c .before .before .before .before .pre)
 
 row-sub-row : (t : ℕ) → row-lts.Need-sub-row (
   row-below t,
@@ -69,7 +69,7 @@ row-row-requires : (t : ℕ) → row-lts.Need-row-requires (
   type-byte-reads.Asked,
   type-byte-reads.Learnt,
 ) (row-at t) row.Post
-row-row-requires t c κs = (omega (arith, (c .before .before .before .before .before .pre)), simp length-set (omega (arith, (c .before .before .before .before .before .pre))))
+row-row-requires t c κs = (omega (arith, c .before .before .before .before .before .pre), simp length-set (omega (arith, c .before .before .before .before .before .pre)))
 
 row-same-length : (t : ℕ) → row-lts.Need-same-length (
   row-below t,
@@ -77,7 +77,7 @@ row-same-length : (t : ℕ) → row-lts.Need-same-length (
   type-byte-reads.Asked,
   type-byte-reads.Learnt,
 ) (row-at t) row.Post
-row-same-length t c = (c .before .before .row) .kept .1 .0 ∙ simp length-set
+row-same-length t c = c .before .before .row .kept .1 .0 ∙ simp length-set
 
 row-returns-2 : (t : ℕ) → row-lts.Need-returns-2 (
   row-below t,
@@ -86,10 +86,10 @@ row-returns-2 : (t : ℕ) → row-lts.Need-returns-2 (
   type-byte-reads.Learnt,
 ) (row-at t) row.Post
 unfolding many
-row-returns-2 t c = let a = (c .before .before .before .before .before .before .before .before .args) in
-    let q = many-none (read-type (a .s .now) (a .structs)) (a .n) (a .at) ((c .before .before .before .before .if2) .taken) in (
-      rw ((c .before .before .before .before .if2) .taken) ((c .before .before .row) .ensures .0),
-      ((c .before .before .row) .ensures .1 .0, rw q (kept-zero (a .room) (a .place) (a .types .now) ((c .before .before .row) .last .1 .0) (a .at) ((c .before .before .before .before .before .if1) .left) ((c .before .before .row) .ensures .1 .1))),
+row-returns-2 t c = let a = c .before .before .before .before .before .before .before .before .args in
+    let q = many-none (read-type (a .s .now) (a .structs)) (a .n) (a .at) (c .before .before .before .before .if2 .taken) in (
+      rw (c .before .before .before .before .if2 .taken) (c .before .before .row .ensures .0),
+      (c .before .before .row .ensures .1 .0, rw q (kept-zero (a .room) (a .place) (a .types .now) (c .before .before .row .last .1 .0) (a .at) (c .before .before .before .before .before .if1 .left) (c .before .before .row .ensures .1 .1))),
     )
 
 row-type-byte-requires : (t : ℕ) → row-lts.Need-type-byte-requires (
@@ -122,7 +122,7 @@ row-slice-write-types-2 : (t : ℕ) → row-lts.Need-slice-write-types-2 (
   type-byte-reads.Asked,
   type-byte-reads.Learnt,
 ) (row-at t) row.Post
-row-slice-write-types-2 t c = omega (arith, (c .before .before .before .before .before .before .before .before .pre))
+row-slice-write-types-2 t c = omega (arith, c .before .before .before .before .before .before .before .before .pre)
 
 row-sub-row-2 : (t : ℕ) → row-lts.Need-sub-row-2 (
   row-below t,
@@ -154,7 +154,7 @@ row-row-requires-2 : (t : ℕ) → row-lts.Need-row-requires-2 (
   type-byte-reads.Asked,
   type-byte-reads.Learnt,
 ) (row-at t) row.Post
-row-row-requires-2 t c κs = let span = rw ((c .before .before .b) .given .1) at ((c .before .before .before .before .type-byte) .ensures .1) in (omega (arith, (c .before .before .before .before .before .before .before .before .before .pre)), simp length-set (omega (arith, (c .before .before .before .before .before .before .before .before .before .pre))))
+row-row-requires-2 t c κs = let span = rw (c .before .before .b .given .1) at (c .before .before .before .before .type-byte .ensures .1) in (omega (arith, c .before .before .before .before .before .before .before .before .before .pre), simp length-set (omega (arith, c .before .before .before .before .before .before .before .before .before .pre)))
 
 row-returns-3 : (t : ℕ) → row-lts.Need-returns-3 (
   row-below t,
@@ -162,9 +162,9 @@ row-returns-3 : (t : ℕ) → row-lts.Need-returns-3 (
   type-byte-reads.Asked,
   type-byte-reads.Learnt,
 ) (row-at t) row.Post
-row-returns-3 t c = let a = (c .before .before .before .before .before .before .before .before .args) in
-    let q = type-stop (a .s .now) (a .structs) (a .at) _ (sym ((c .before .before .before .type-byte) .ensures .0) ∙ (c .before .e) .given .1) in
-    let h = many-stop (read-type (a .s .now) (a .structs)) (a .n) (a .at) _ _ ((c .before .before .before .before .if2) .left) (q .1) in
+row-returns-3 t c = let a = c .before .before .before .before .before .before .before .before .args in
+    let q = type-stop (a .s .now) (a .structs) (a .at) _ (sym (c .before .before .before .type-byte .ensures .0) ∙ c .before .e .given .1) in
+    let h = many-stop (read-type (a .s .now) (a .structs)) (a .n) (a .at) _ _ (c .before .before .before .before .if2 .left) (q .1) in
     (sym (ap place-told h), (tt, rw h tt))
 
 row-same-length-2 : (t : ℕ) → row-lts.Need-same-length-2 (
@@ -173,7 +173,7 @@ row-same-length-2 : (t : ℕ) → row-lts.Need-same-length-2 (
   type-byte-reads.Asked,
   type-byte-reads.Learnt,
 ) (row-at t) row.Post
-row-same-length-2 t c = (c .before .before .row2) .kept .1 .0 ∙ simp length-set
+row-same-length-2 t c = c .before .before .row2 .kept .1 .0 ∙ simp length-set
 
 row-returns-4 : (t : ℕ) → row-lts.Need-returns-4 (
   row-below t,
@@ -181,15 +181,16 @@ row-returns-4 : (t : ℕ) → row-lts.Need-returns-4 (
   type-byte-reads.Asked,
   type-byte-reads.Learnt,
 ) (row-at t) row.Post
-row-returns-4 t c = let a = (c .before .before .before .before .before .before .before .before .before .before .before .before .args) in
-    let b = (c .before .before .before .before .before .b) .given in
-    let span = rw (b .1) at ((c .before .before .before .before .before .before .before .type-byte) .ensures .1) in
-    let q = type-read (a .s .now) (a .structs) (a .at) _ _ (sym ((c .before .before .before .before .before .before .before .type-byte) .ensures .0) ∙ b .1) in
-    let h = many-more (read-type (a .s .now) (a .structs)) (a .n) (a .at) _ _ ((c .before .before .before .before .before .before .before .before .if2) .left) (q .1 .0) in
+row-returns-4 t c = let a = c .before .before .before .before .before .before .before .before .before .before .before .before .args in
+    let b = c .before .before .before .before .before .b .given in
+    let span = rw (b .1) at (c .before .before .before .before .before .before .before .type-byte .ensures .1) in
+    let q = type-read (a .s .now) (a .structs) (a .at) _ _ (sym (c .before .before .before .before .before .before .before .type-byte .ensures .0) ∙ b .1) in
+    let h = many-more (read-type (a .s .now) (a .structs)) (a .n) (a .at) _ _ (c .before .before .before .before .before .before .before .before .if2 .left) (q .1 .0) in
     let rest = many [] _∷_ (read-type (a .s .now) (a .structs)) (a .n - 1) (b .0 .1 .0) in (
-      (c .before .before .row2) .ensures .0 ∙ sym (ap place-told h ∙ onto-place (q .0) rest), (
-        span-from (a .s .now) _ _ ((c .before .before .row2) .result) (omega arith) ((c .before .before .row2) .ensures .1 .0),
-        rw h (kept-type (a .room) (a .place) (a .types .now) ((c .before .before .row2) .last .1 .0) (q .0) (b .0 .0) rest ((c .before .before .before .before .before .before .before .before .before .if1) .left) (q .1 .1) ((c .before .before .row2) .ensures .1 .1)),
+      c .before .before .row2 .ensures .0 ∙ sym (ap place-told h ∙ onto-place (q .0) rest),
+      (
+        span-from (a .s .now) _ _ (c .before .before .row2 .result) (omega arith) (c .before .before .row2 .ensures .1 .0),
+        rw h (kept-type (a .room) (a .place) (a .types .now) (c .before .before .row2 .last .1 .0) (q .0) (b .0 .0) rest (c .before .before .before .before .before .before .before .before .before .if1 .left) (q .1 .1) (c .before .before .row2 .ensures .1 .1)),
       ),
     )
 

@@ -1,13 +1,12 @@
 -- `schedule::item`, `schedule::following` and `schedule::items` meet their contracts: the unread bytes fall.
 use borrow.Author.Needs.{needs}
-use Prim.Native.Nat.{_+_, _-_, _*_, _≤_, _^_, ℕ, _<_}
+use Prim.Native.Nat.{_+_, _-_, _*_, ℕ, _<_}
 use native.Mathlib.Omega.{arith}
-use mathlib.Core.Path.{_≡_, ap, sym, _∙_}
+use mathlib.Core.Path.{ap, sym, _∙_}
 use lib.ListN.{length}
 use Rattle.program.specs.Reader.{read-item, read-items}
 use Rattle.facts.specs.ProgramFacts.{item-plan, items-plan}
-use Rattle.plan.specs.declared.schedule.PlanRead.the-variants.{Value}
-use Rattle.plan.specs.PlanTold.{told, after, fixed, Span}
+use Rattle.plan.specs.PlanTold.{told}
 use Rattle.plan.specs.PlanWays.{fix-around, row-none, row-stop, row-more, items-stop, items-more, item-out, item-call, item-call-in, item-none, item-deep, item-fix, span-less, span-fixed, span-joined, room}
 use borrow.Fn.Kinds.{In}
 use borrow.Fn.PlainCycle.{Measures, is, falls, and}
@@ -64,7 +63,7 @@ following-returns : (t : ℕ) → following-lts.Need-returns (
   joined-reads.Asked,
   joined-reads.Learnt,
 ) (following-at t) following.Post
-following-returns t c = let a = (c .before .before .before .args) in (λ ar l. sym (row-none (a .has .now) (a .structs) (a .s .now) (read-item ar (a .s .now) (a .depth)) (a .n) (a .at) ((c .if1) .taken)), omega (arith, (c .before .before .before .pre)))
+following-returns t c = let a = c .before .before .before .args in (λ ar l. sym (row-none (a .has .now) (a .structs) (read-item ar (a .s .now) (a .depth)) (a .n) (a .at) (c .if1 .taken)), omega (arith, c .before .before .before .pre))
 
 following-item-requires : (t : ℕ) → following-lts.Need-item-requires (
   item-below t,
@@ -74,7 +73,7 @@ following-item-requires : (t : ℕ) → following-lts.Need-item-requires (
   joined-reads.Asked,
   joined-reads.Learnt,
 ) (following-at t) following.Post
-following-item-requires t c κs = (omega (arith, (c .before .before .before .pre)), tt)
+following-item-requires t c κs = (omega (arith, c .before .before .before .pre), tt)
 
 following-enum-known-first : (t : ℕ) → following-lts.Need-enum-known-first (
   item-below t,
@@ -104,10 +103,10 @@ following-returns-2 : (t : ℕ) → following-lts.Need-returns-2 (
   joined-reads.Asked,
   joined-reads.Learnt,
 ) (following-at t) following.Post
-following-returns-2 t c = let a = (c .before .before .before .before .before .before .args) in
-    let told = (c .enum-told) .given in (
-      λ ar l. told .1 ∙ sym (row-stop (a .has .now) (a .structs) (a .s .now) (read-item ar (a .s .now) (a .depth)) (a .n) (a .at) ((c .before .before .before .if1) .left) _ (sym ((c .before .before .item) .ensures .0 ar l) ∙ told .1)),
-      span-less (a .s .now) _ _ _ _ ((c .before .before .item) .result) (omega arith) (omega arith) ((c .before .before .item) .ensures .1),
+following-returns-2 t c = let a = c .before .before .before .before .before .before .args in
+    let told = c .enum-told .given in (
+      λ ar l. told .1 ∙ sym (row-stop (a .has .now) (a .structs) (read-item ar (a .s .now) (a .depth)) (a .n) (a .at) (c .before .before .before .if1 .left) _ (sym (c .before .before .item .ensures .0 ar l) ∙ told .1)),
+      span-less (a .s .now) _ _ _ _ (c .before .before .item .result) (omega arith) (omega arith) (c .before .before .item .ensures .1),
     )
 
 following-sub-following : (t : ℕ) → following-lts.Need-sub-following (
@@ -128,7 +127,7 @@ following-following-requires : (t : ℕ) → following-lts.Need-following-requir
   joined-reads.Asked,
   joined-reads.Learnt,
 ) (following-at t) following.Post
-following-following-requires t c κs = let span = rw ((c .before .first) .given .1) at ((c .before .before .before .item) .ensures .1) in (omega (arith, (c .before .before .before .before .before .before .before .pre)), omega arith)
+following-following-requires t c κs = let span = rw (c .before .first .given .1) at (c .before .before .before .item .ensures .1) in (omega (arith, c .before .before .before .before .before .before .before .pre), omega arith)
 
 following-joined-requires : (t : ℕ) → following-lts.Need-joined-requires (
   item-below t,
@@ -138,9 +137,9 @@ following-joined-requires : (t : ℕ) → following-lts.Need-joined-requires (
   joined-reads.Asked,
   joined-reads.Learnt,
 ) (following-at t) following.Post
-following-joined-requires t c κs = let a = (c .before .before .before .before .before .before .before .before .args) in
-    let span = rw ((c .before .before .first) .given .1) at ((c .before .before .before .before .item) .ensures .1) in
-    room (a .s .now) _ _ _ ((c .following) .result) (omega (arith, (c .before .before .before .before .before .before .before .before))) (omega arith) ((c .following) .ensures .1)
+following-joined-requires t c κs = let a = c .before .before .before .before .before .before .before .before .args in
+    let span = rw (c .before .before .first .given .1) at (c .before .before .before .before .item .ensures .1) in
+    room (a .s .now) _ _ _ (c .following .result) (omega (arith, c .before .before .before .before .before .before .before .before)) (omega arith) (c .following .ensures .1)
 
 following-returns-3 : (t : ℕ) → following-lts.Need-returns-3 (
   item-below t,
@@ -150,12 +149,12 @@ following-returns-3 : (t : ℕ) → following-lts.Need-returns-3 (
   joined-reads.Asked,
   joined-reads.Learnt,
 ) (following-at t) following.Post
-following-returns-3 t c = let a = (c .before .before .before .before .before .before .before .before .before .args) in
-    let e = (c .before .before .before .first) .given .1 in
-    let span = rw e at ((c .before .before .before .before .before .item) .ensures .1) in
-    rw ((c .joined) .ensures) (
-      λ ar l. rw ((c .before .following) .ensures .0 ar l) (sym (row-more (a .has .now) (a .structs) (a .s .now) (read-item ar (a .s .now) (a .depth)) (a .n) (a .at) ((c .before .before .before .before .before .before .if1) .left) _ _ (sym ((c .before .before .before .before .before .item) .ensures .0 ar l) ∙ e))),
-      span-joined (a .s .now) (a .at) _ _ ((c .before .following) .result) (omega arith) (omega arith) ((c .before .following) .ensures .1),
+following-returns-3 t c = let a = c .before .before .before .before .before .before .before .before .before .args in
+    let e = c .before .before .before .first .given .1 in
+    let span = rw e at (c .before .before .before .before .before .item .ensures .1) in
+    rw (c .joined .ensures) (
+      λ ar l. rw (c .before .following .ensures .0 ar l) (sym (row-more (a .has .now) (a .structs) (read-item ar (a .s .now) (a .depth)) (a .n) (a .at) (c .before .before .before .before .before .before .if1 .left) _ _ (sym (c .before .before .before .before .before .item .ensures .0 ar l) ∙ e))),
+      span-joined (a .s .now) (a .at) _ _ (c .before .following .result) (omega arith) (omega arith) (c .before .following .ensures .1),
     )
 
 item-returns : (t : ℕ) → item-lts.Need-returns (
@@ -168,7 +167,7 @@ item-returns : (t : ℕ) → item-lts.Need-returns (
   around-reads.Asked,
   around-reads.Learnt,
 ) (item-at t) item.Post
-item-returns t c = let a = (c .before .before .before .args) in (λ ar l. ap (told (item-plan (a .has .now) (a .structs))) (sym (item-out ar (a .s .now) (a .depth) (a .at) ((c .if1) .taken))), tt)
+item-returns t c = let a = c .before .before .before .args in (λ ar l. ap (told (item-plan (a .has .now) (a .structs))) (sym (item-out ar (a .s .now) (a .depth) (a .at) (c .if1 .taken))), tt)
 
 item-shared-slice-read-b : (t : ℕ) → item-lts.Need-shared-slice-read-b (
   call-reads.Asked,
@@ -216,10 +215,10 @@ item-returns-2 : (t : ℕ) → item-lts.Need-returns-2 (
   around-reads.Asked,
   around-reads.Learnt,
 ) (item-at t) item.Post
-item-returns-2 t c = let a = (c .before .before .before .before .before .before .args) in (
-      λ ar l. rw (item-call ar (a .s .now) (a .depth) (a .at) ((c .before .before .before .if1) .left) ((c .before .if2) .taken)) ((c .call) .ensures .0),
-      span-less (a .s .now) _ _ _ _ ((c .call) .result) (omega arith) (omega arith) ((c .call) .ensures .1),
-    )
+item-returns-2 t c = let a = c .before .before .before .before .before .before .args in (
+  λ ar l. rw (item-call ar (a .s .now) (a .depth) (a .at) (c .before .before .before .if1 .left) (c .before .if2 .taken)) (c .call .ensures .0),
+  span-less (a .s .now) _ _ _ _ (c .call .result) (omega arith) (omega arith) (c .call .ensures .1),
+)
 
 item-call-in-requires : (t : ℕ) → item-lts.Need-call-in-requires (
   call-reads.Asked,
@@ -243,10 +242,10 @@ item-returns-3 : (t : ℕ) → item-lts.Need-returns-3 (
   around-reads.Asked,
   around-reads.Learnt,
 ) (item-at t) item.Post
-item-returns-3 t c = let a = (c .before .before .before .before .before .before .before .args) in (
-      λ ar l. rw (item-call-in ar (a .s .now) (a .depth) (a .at) ((c .before .before .before .before .if1) .left) ((c .before .if3) .taken) (a .structs) l) ((c .call-in) .ensures .0),
-      span-less (a .s .now) _ _ _ _ ((c .call-in) .result) (omega arith) (omega arith) ((c .call-in) .ensures .1),
-    )
+item-returns-3 t c = let a = c .before .before .before .before .before .before .before .args in (
+  λ ar l. rw (item-call-in ar (a .s .now) (a .depth) (a .at) (c .before .before .before .before .if1 .left) (c .before .if3 .taken) (a .structs) l) (c .call-in .ensures .0),
+  span-less (a .s .now) _ _ _ _ (c .call-in .result) (omega arith) (omega arith) (c .call-in .ensures .1),
+)
 
 item-returns-4 : (t : ℕ) → item-lts.Need-returns-4 (
   call-reads.Asked,
@@ -258,7 +257,7 @@ item-returns-4 : (t : ℕ) → item-lts.Need-returns-4 (
   around-reads.Asked,
   around-reads.Learnt,
 ) (item-at t) item.Post
-item-returns-4 t c = let a = (c .before .before .before .before .before .before .before .args) in (λ ar l. ap (told (item-plan (a .has .now) (a .structs))) (sym (item-none ar (a .s .now) (a .depth) (a .at) ((c .before .before .before .before .if1) .left) ((c .before .before .if2) .left) ((c .before .if3) .left) ((c .if4) .taken))), tt)
+item-returns-4 t c = let a = c .before .before .before .before .before .before .before .args in (λ ar l. ap (told (item-plan (a .has .now) (a .structs))) (sym (item-none ar (a .s .now) (a .depth) (a .at) (c .before .before .before .before .if1 .left) (c .before .before .if2 .left) (c .before .if3 .left) (c .if4 .taken))), tt)
 
 item-returns-5 : (t : ℕ) → item-lts.Need-returns-5 (
   call-reads.Asked,
@@ -270,7 +269,7 @@ item-returns-5 : (t : ℕ) → item-lts.Need-returns-5 (
   around-reads.Asked,
   around-reads.Learnt,
 ) (item-at t) item.Post
-item-returns-5 t c = let a = (c .before .before .before .before .before .before .before .before .args) in (λ ar l. ap (told (item-plan (a .has .now) (a .structs))) (sym (item-deep ar (a .s .now) (a .depth) (a .at) ((c .before .before .before .before .before .if1) .left) ((c .before .if4) .left) ((c .if5) .taken))), tt)
+item-returns-5 t c = let a = c .before .before .before .before .before .before .before .before .args in (λ ar l. ap (told (item-plan (a .has .now) (a .structs))) (sym (item-deep ar (a .s .now) (a .depth) (a .at) (c .before .before .before .before .before .if1 .left) (c .before .if4 .left) (c .if5 .taken))), tt)
 
 item-sub-items : (t : ℕ) → item-lts.Need-sub-items (
   call-reads.Asked,
@@ -294,7 +293,7 @@ item-items-requires : (t : ℕ) → item-lts.Need-items-requires (
   around-reads.Asked,
   around-reads.Learnt,
 ) (item-at t) item.Post
-item-items-requires t c κs = (omega (arith, (c .before .before .before .before .before .before .before .before .pre)), tt)
+item-items-requires t c κs = (omega (arith, c .before .before .before .before .before .before .before .before .pre), tt)
 
 item-around-requires : (t : ℕ) → item-lts.Need-around-requires (
   call-reads.Asked,
@@ -306,7 +305,7 @@ item-around-requires : (t : ℕ) → item-lts.Need-around-requires (
   around-reads.Asked,
   around-reads.Learnt,
 ) (item-at t) item.Post
-item-around-requires t c κs = let a = (c .before .before .before .before .before .before .before .before .before .args) in room (a .s .now) _ _ _ ((c .items) .result) (omega (arith, (c .before .before .before .before .before .before .before .before .before))) (omega arith) ((c .items) .ensures .1)
+item-around-requires t c κs = let a = c .before .before .before .before .before .before .before .before .before .args in room (a .s .now) _ _ _ (c .items .result) (omega (arith, c .before .before .before .before .before .before .before .before .before)) (omega arith) (c .items .ensures .1)
 
 item-returns-6 : (t : ℕ) → item-lts.Need-returns-6 (
   call-reads.Asked,
@@ -318,10 +317,10 @@ item-returns-6 : (t : ℕ) → item-lts.Need-returns-6 (
   around-reads.Asked,
   around-reads.Learnt,
 ) (item-at t) item.Post
-item-returns-6 t c = let a = (c .before .before .before .before .before .before .before .before .before .before .args) in
-    rw ((c .around) .ensures) (
-      λ ar l. rw ((c .before .items) .ensures .0 ar l, item-fix ar (a .s .now) (a .depth) (a .at) ((c .before .before .before .before .before .before .before .if1) .left) ((c .before .before .before .if4) .left) ((c .before .before .if5) .left)) (sym (fix-around (a .has .now) (a .structs) (a .s .now) (read-items ar (a .s .now) (read-item ar (a .s .now) (a .depth - 1)) (a .at + 1)))),
-      span-fixed (a .s .now) (a .at) ((c .before .items) .result) ((c .before .items) .ensures .1),
+item-returns-6 t c = let a = c .before .before .before .before .before .before .before .before .before .before .args in
+    rw (c .around .ensures) (
+      λ ar l. rw (c .before .items .ensures .0 ar l, item-fix ar (a .s .now) (a .depth) (a .at) (c .before .before .before .before .before .before .before .if1 .left) (c .before .before .before .if4 .left) (c .before .before .if5 .left)) (sym (fix-around (a .has .now) (a .structs) (read-items ar (a .s .now) (read-item ar (a .s .now) (a .depth - 1)) (a .at + 1)))),
+      span-fixed (a .s .now) (a .at) (c .before .items .result) (c .before .items .ensures .1),
     )
 
 items-ranged-requires : (t : ℕ) → items-lts.Need-ranged-requires (
@@ -354,7 +353,7 @@ items-following-requires : (t : ℕ) → items-lts.Need-following-requires (
   following-below t,
   following.Post,
 ) (items-at t) items.Post
-items-following-requires t c κs = let span = rw ((c .before .n) .given .1) at ((c .before .before .before .ranged) .ensures .1) in (omega (arith, (c .before .before .before .before .before .before .pre)), omega arith)
+items-following-requires t c κs = let span = rw (c .before .n .given .1) at (c .before .before .before .ranged .ensures .1) in (omega (arith, c .before .before .before .before .before .before .pre), omega arith)
 
 items-returns : (t : ℕ) → items-lts.Need-returns (
   ranged-reads.Asked,
@@ -362,7 +361,7 @@ items-returns : (t : ℕ) → items-lts.Need-returns (
   following-below t,
   following.Post,
 ) (items-at t) items.Post
-items-returns t c = let a = (c .before .before .before .before .before .before .args) in (λ ar l. sym (items-stop (a .has .now) (a .structs) (a .s .now) ar (read-item ar (a .s .now) (a .depth)) (a .at) _ (sym ((c .before .before .before .ranged) .ensures .0) ∙ (c .before .e) .given .1)), tt)
+items-returns t c = let a = c .before .before .before .before .before .before .args in (λ ar l. sym (items-stop ar (a .s .now) (read-item ar (a .s .now) (a .depth)) (a .at) (items-plan (a .has .now) (a .structs)) _ (sym (c .before .before .before .ranged .ensures .0) ∙ c .before .e .given .1)), tt)
 
 items-returns-2 : (t : ℕ) → items-lts.Need-returns-2 (
   ranged-reads.Asked,
@@ -370,11 +369,11 @@ items-returns-2 : (t : ℕ) → items-lts.Need-returns-2 (
   following-below t,
   following.Post,
 ) (items-at t) items.Post
-items-returns-2 t c = let a = (c .before .before .before .before .before .before .before .args) in
-    let e = (c .before .before .n) .given .1 in
-    let span = rw e at ((c .before .before .before .before .ranged) .ensures .1) in (
-      λ ar l. (c .following) .ensures .0 ar l ∙ ap (told (items-plan (a .has .now) (a .structs))) (sym (items-more (a .has .now) (a .structs) (a .s .now) ar (read-item ar (a .s .now) (a .depth)) (a .at) _ _ (sym ((c .before .before .before .before .ranged) .ensures .0) ∙ e))),
-      span-less (a .s .now) _ _ _ _ ((c .following) .result) (omega arith) (omega arith) ((c .following) .ensures .1),
+items-returns-2 t c = let a = c .before .before .before .before .before .before .before .args in
+    let e = c .before .before .n .given .1 in
+    let span = rw e at (c .before .before .before .before .ranged .ensures .1) in (
+      λ ar l. c .following .ensures .0 ar l ∙ ap (told (items-plan (a .has .now) (a .structs))) (sym (items-more ar (a .s .now) (read-item ar (a .s .now) (a .depth)) (a .at) _ _ (sym (c .before .before .before .before .ranged .ensures .0) ∙ e))),
+      span-less (a .s .now) _ _ _ _ (c .following .result) (omega arith) (omega arith) (c .following .ensures .1),
     )
 
 pub +following+item+items-spec : {M : Type 1} → statement M

@@ -28,7 +28,7 @@ had-returns : (t : ℕ) → had-lts.Need-returns (
   had-below t,
   had.Post,
 ) (had-at t) had.Post
-had-returns t c = let a = (c .before .before .args) in sym (had-none (a .has .now) (a .n) (a .k) (a .c) ((c .if1) .taken))
+had-returns t c = let a = c .before .before .args in sym (had-none (a .has .now) (a .n) (a .k) (a .c) (c .if1 .taken))
 
 had-mul-look : (t : ℕ) → had-lts.Need-mul-look (
   look-reads.Asked,
@@ -60,7 +60,7 @@ had-returns-2 : (t : ℕ) → had-lts.Need-returns-2 (
   had-below t,
   had.Post,
 ) (had-at t) had.Post
-had-returns-2 t c = let a = (c .before .before .before .before .args) in sym (had-here (a .has .now) (a .n) (a .k) (a .c) ((c .before .before .if1) .left) (rw ((c .before .look) .ensures) at ((c .if2) .taken)))
+had-returns-2 t c = let a = c .before .before .before .before .args in sym (had-here (a .has .now) (a .n) (a .k) (a .c) (c .before .before .if1 .left) (rw (c .before .look .ensures) at (c .if2 .taken)))
 
 had-add-had : (t : ℕ) → had-lts.Need-add-had (
   look-reads.Asked,
@@ -84,7 +84,7 @@ had-had-requires : (t : ℕ) → had-lts.Need-had-requires (
   had-below t,
   had.Post,
 ) (had-at t) had.Post
-had-had-requires t c κs = (omega (arith, (c .before .before .before .before .pre)), omega (arith, (c .before .before .before .before .pre)))
+had-had-requires t c κs = (omega (arith, c .before .before .before .before .pre), omega (arith, c .before .before .before .before .pre))
 
 had-returns-3 : (t : ℕ) → had-lts.Need-returns-3 (
   look-reads.Asked,
@@ -92,7 +92,7 @@ had-returns-3 : (t : ℕ) → had-lts.Need-returns-3 (
   had-below t,
   had.Post,
 ) (had-at t) had.Post
-had-returns-3 t c = let a = (c .before .before .before .before .before .args) in (c .had) .ensures ∙ sym (had-on (a .has .now) (a .n) (a .k) (a .c) ((c .before .before .before .if1) .left) (rw ((c .before .before .look) .ensures) at ((c .before .if2) .left)))
+had-returns-3 t c = let a = c .before .before .before .before .before .args in c .had .ensures ∙ sym (had-on (a .has .now) (a .n) (a .k) (a .c) (c .before .before .before .if1 .left) (rw (c .before .before .look .ensures) at (c .before .if2 .left)))
 
 pub +had-spec : {M : Type 1} → statement M
 +had-spec = close μ-had λ t. had-lts.spec (

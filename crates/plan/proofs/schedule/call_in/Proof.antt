@@ -43,16 +43,16 @@ one-requires : tie.Need-one-requires
 one-requires c κs = search needs
 
 returns : tie.Need-returns
-returns c = let a = (c .before .before .before .before .before .before .args) in (sym (call-in-stop (a .has .now) (a .structs) (a .s .now) (a .at) _ (sym ((c .before .before .before .ranged) .ensures .0) ∙ (c .before .e) .given .1)), tt)
+returns c = let a = c .before .before .before .before .before .before .args in (sym (call-in-stop (a .has .now) (a .structs) (a .s .now) (a .at) _ (sym (c .before .before .before .ranged .ensures .0) ∙ c .before .e .given .1)), tt)
 
 returns-2 : tie.Need-returns-2
-returns-2 c = let a = (c .before .before .before .before .before .before .before .before .before .before .args) in (sym (call-in-cut (a .has .now) (a .structs) (a .s .now) (a .at) _ _ _ (sym ((c .before .before .before .before .before .before .before .ranged) .ensures .0) ∙ (c .before .before .before .before .before .k) .given .1) (sym ((c .before .before .before .ranged2) .ensures .0) ∙ (c .before .e2) .given .1)), tt)
+returns-2 c = let a = c .before .before .before .before .before .before .before .before .before .before .args in (sym (call-in-cut (a .has .now) (a .structs) (a .s .now) (a .at) _ _ _ (sym (c .before .before .before .before .before .before .before .ranged .ensures .0) ∙ c .before .before .before .before .before .k .given .1) (sym (c .before .before .before .ranged2 .ensures .0) ∙ c .before .e2 .given .1)), tt)
 
 returns-3 : tie.Need-returns-3
-returns-3 c = let a = (c .before .before .before .before .before .before .before .before .before .before .before .before .args) in
-    let first = rw ((c .before .before .before .before .before .before .before .k) .given .1) at ((c .before .before .before .before .before .before .before .before .before .ranged) .ensures .1) in
-    let second = rw ((c .before .before .before .n) .given .1) at ((c .before .before .before .before .before .ranged2) .ensures .1) in
-    rw ((c .one) .ensures, (c .before .look) .ensures) (sym (call-in-read (a .has .now) (a .structs) (a .s .now) (a .at) _ _ _ _ (sym ((c .before .before .before .before .before .before .before .before .before .ranged) .ensures .0) ∙ (c .before .before .before .before .before .before .before .k) .given .1) (sym ((c .before .before .before .before .before .ranged2) .ensures .0) ∙ (c .before .before .before .n) .given .1)), omega arith)
+returns-3 c = let a = c .before .before .before .before .before .before .before .before .before .before .before .before .args in
+    let first = rw (c .before .before .before .before .before .before .before .k .given .1) at (c .before .before .before .before .before .before .before .before .before .ranged .ensures .1) in
+    let second = rw (c .before .before .before .n .given .1) at (c .before .before .before .before .before .ranged2 .ensures .1) in
+    rw (c .one .ensures, c .before .look .ensures) (sym (call-in-read (a .has .now) (a .structs) (a .s .now) (a .at) _ _ _ _ (sym (c .before .before .before .before .before .before .before .before .before .ranged .ensures .0) ∙ c .before .before .before .before .before .before .before .k .given .1) (sym (c .before .before .before .before .before .ranged2 .ensures .0) ∙ c .before .before .before .n .given .1)), omega arith)
 
 pub call-in-spec : {M : Type 1} → statement M
 call-in-spec =

@@ -1,9 +1,7 @@
 -- `schedule::joined` meets its contract.
 use borrow.Author.Needs.{needs}
 use native.Mathlib.Omega.{arith}
-use mathlib.Core.Path.{_≡_}
 use Rattle.facts.specs.ProgramFacts.{joined}
-use Rattle.plan.specs.PlanTold.{Room}
 use Rattle.plan.proofs.schedule.joined.Statement.{statement}
 use Rattle.plan.proofs.schedule.joined.Tie as tie
 
@@ -17,14 +15,14 @@ returns : tie.Need-returns
 returns c = search needs
 
 add-t5 : tie.Need-add-t5
-add-t5 c = let h = rw ((c .before .before .before .r) .given .1) at (c .before .before .before .before .before .pre) in omega arith
+add-t5 c = let h = rw (c .before .before .before .r .given .1) at (c .before .before .before .before .before .pre) in omega arith
 
 worst-requires : tie.Need-worst-requires
 worst-requires c κs = search needs
 
 returns-2 : tie.Need-returns-2
 unfolding joined
-returns-2 c = rw ((c .before .before .before .before .r) .given .1, (c .worst) .ensures)
+returns-2 c = rw (c .before .before .before .before .r .given .1, c .worst .ensures)
 
 pub joined-spec : {M : Type 1} → statement M
 joined-spec = tie.close (tie.spec enum-known-r enum-told returns add-t5 worst-requires returns-2)
