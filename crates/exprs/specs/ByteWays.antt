@@ -3,13 +3,13 @@ use Prim.Native.Nat.{ℕ, zero, suc, _+_, _-_, _*_, _<_, _≤_}
 use native.Mathlib.Omega.{arith}
 use native.Mathlib.Decide.{decLt}
 use native.Mathlib.Nat.{add-zero}
-use mathlib.Core.Path.{_≡_, refl, sym, _∙_}
+use mathlib.Core.Path.{_≡_, refl, ap, _∙_}
 use mathlib.Core.Bool.{Bool, true, false}
 use mathlib.Core.List.{List}
 use lib.ListN.{length, getD}
 use lib.Dec.{T, ltb, leb}
 use borrow.Author.Tests.{lt-ltb, le-ltb, le-leb, lt-leb}
-use Rattle.types.specs.Types.{code, type-of}
+use Rattle.types.specs.Types.{Ty, code, type-of}
 use Rattle.program.specs.CodeLaws.{code-type}
 use Rattle.program.specs.Reader.{Result, Result.ok, Result.bad, then, made, many, guard, between, type-byte, byte-end, byte, tested, ranged, read-word, read-type}
 use Rattle.facts.specs.declared.Facts.{Facts}
@@ -135,13 +135,19 @@ module _ (s : List ℕ) (S at : ℕ) where
       go false h e = let z : _≡_ {A = ℕ} 0 1 = cc in absurd (omega arith)
   passes t (bad p n) b m e = let z : _≡_ {A = ℕ} 0 1 = cc in absurd (omega arith)
 
-  pub type-is : (b m : ℕ) → byte-told (tested s (type-byte S) at) ≡ Byte b m → told (λ t. pushed (code t)) (read-type s S at) ≡ Value m (pushed b)
+  pub type-read : (b m : ℕ) → byte-told (tested s (type-byte S) at) ≡ Byte b m → (t : Ty) × (read-type s S at ≡ ok t m) × (code t ≡ b)
   unfolding read-type made then tested
-  type-is b m e =
-      let q = byte-is _ b m e in
+  type-read b m e =
+      let q = byte-is (tested s (type-byte S) at) b m e in
       let h : T (type-byte S b) = rw (passes (type-byte S) (byte s at) b m q) tt in
-      rw (read-type, q, code-type S b h .1)
+      (type-of b, rw (read-type, q), code-type S b h .1)
+
+  pub type-stops : (n : ℕ) → byte-told (tested s (type-byte S) at) ≡ NoByte n → (p : ℕ) × (read-type s S at ≡ bad p n)
+  unfolding read-type made then
+  type-stops n e = let q = byte-stops (tested s (type-byte S) at) n e in (q .0, ap (made type-of) (q .1))
+
+  pub type-is : (b m : ℕ) → byte-told (tested s (type-byte S) at) ≡ Byte b m → told (λ t. pushed (code t)) (read-type s S at) ≡ Value m (pushed b)
+  type-is b m e = let q = type-read b m e in rw (q .1, q .2)
 
   pub type-not : (n : ℕ) → byte-told (tested s (type-byte S) at) ≡ NoByte n → told (λ t. pushed (code t)) (read-type s S at) ≡ Refused n
-  unfolding read-type made then
-  type-not n e = rw (byte-stops (tested s (type-byte S) at) n e .1)
+  type-not n e = rw (type-stops n e .1)

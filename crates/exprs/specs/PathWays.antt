@@ -71,16 +71,24 @@ module _ (s ar types : List ℕ) where
     unfolding read-path counted then read-vars
     path-more m e = rw (byte-is (ranged s 1 5 at) n m e)
 
--- a path as an expression
-pub path-is : (f : Var → List ℕ → Judged) (q : Result (Var × List ℕ)) (m n : ℕ) (j : Judged) → path-told f q ≡ Path m n j
-    → told (λ p. travelled (suc (length (p .1))) (f (p .0) (p .1))) q ≡ Value m (travelled n j)
-path-is f (ok p k) m n j e = let h : suc (length (p .1)) ≡ n = cc in let i : f (p .0) (p .1) ≡ j = cc in let l : k ≡ m = cc in rw (h, i, l)
-path-is f (bad p k) m n j e = let z : _≡_ {A = ℕ} 0 1 = cc in absurd (omega arith)
+-- what was read, from what was answered
+module _ (f : Var → List ℕ → Judged) where
+  pub path-read : (q : Result (Var × List ℕ)) (m n : ℕ) (j : Judged) → path-told f q ≡ Path m n j
+      → (p : Var × List ℕ) × (q ≡ ok p m) × (suc (length (p .1)) ≡ n) × (f (p .0) (p .1) ≡ j)
+  path-read (ok p k) m n j e = let h : k ≡ m = cc in (p, rw h refl, cc, cc)
+  path-read (bad p k) m n j e = let z : _≡_ {A = ℕ} 0 1 = cc in absurd (omega arith)
 
-pub path-not : (f : Var → List ℕ → Judged) (q : Result (Var × List ℕ)) (n : ℕ) → path-told f q ≡ NoPath n
-    → told (λ p. travelled (suc (length (p .1))) (f (p .0) (p .1))) q ≡ Refused n
-path-not f (ok p k) n e = let z : _≡_ {A = ℕ} 0 1 = cc in absurd (omega arith)
-path-not f (bad p k) n e = cc
+  pub path-stops : (q : Result (Var × List ℕ)) (n : ℕ) → path-told f q ≡ NoPath n → (p : ℕ) × (q ≡ bad p n)
+  path-stops (ok p k) n e = let z : _≡_ {A = ℕ} 0 1 = cc in absurd (omega arith)
+  path-stops (bad p k) n e = (p, cc)
+
+  -- a path as an expression
+  pub path-is : (q : Result (Var × List ℕ)) (m n : ℕ) (j : Judged) → path-told f q ≡ Path m n j
+      → told (λ p. travelled (suc (length (p .1))) (f (p .0) (p .1))) q ≡ Value m (travelled n j)
+  path-is q m n j e = let h = path-read q m n j e in rw (h .1, h .2, h .3)
+
+  pub path-not : (q : Result (Var × List ℕ)) (n : ℕ) → path-told f q ≡ NoPath n → told (λ p. travelled (suc (length (p .1))) (f (p .0) (p .1))) q ≡ Refused n
+  path-not q n e = rw (path-stops q n e .1)
 
 -- the bytes of one variable more
 pub span-row : (s : List ℕ) (n c at m : ℕ) (r : PathRead) → (n ≡ 0 → ⊥) → m ≡ at + 1 → PathSpan s (c + 1) (n - 1 + (c + 1)) m r → PathSpan s c (n + c) at r

@@ -2,6 +2,7 @@
 use facts::Facts;
 use facts::Judged;
 ghost use mathlib.Core.Path.{_≡_};
+ghost use Prim.Native.Nat.{_+_};
 ghost use Rattle.program.specs.Reader.{ranged, tested, type-byte};
 ghost use Rattle.exprs.specs.Told.{byte-told, ByteSpan};
 
@@ -42,7 +43,7 @@ pub fn ranged(s: &[u8], lo: usize, hi: usize, at: usize) -> ByteRead
 // The byte of a type, where there are n structs.
 pub fn type_byte(s: &[u8], n: usize, at: usize) -> ByteRead
     ensures { λ r. ⌜ r ≡ byte-told (tested (now (s .entry)) (type-byte n) at) ⌝ }
-    ensures { λ r. ⌜ ByteSpan (now (s .entry)) 0 256 at r ⌝ }
+    ensures { λ r. ⌜ ByteSpan (now (s .entry)) 0 (16 + n) at r ⌝ }
 {
     if s.len() <= at {
         return ByteRead::NoByte(4);

@@ -1,0 +1,23 @@
+-- `simple::create` meets its contract.
+use mathlib.Core.Path.{sym, _∙_}
+use Rattle.program.specs.Reader.{read-make, read-expr}
+use Rattle.stmts.specs.StmtWays.{create-is}
+use Rattle.stmts.specs.DoneWays.{span-labelled}
+use borrow.Author.Needs.{needs}
+use Rattle.stmts.proofs.simple.create.Statement.{statement}
+use Rattle.stmts.proofs.simple.create.Tie as tie
+
+construct-requires : tie.Need-construct-requires
+construct-requires c κs = search needs
+
+labelled-requires : tie.Need-labelled-requires
+labelled-requires c κs = search needs
+
+returns : tie.Need-returns
+returns c = let a = c .before .before .before .before .before .args in
+    let s = a .s .now in
+    let law = create-is (a .ar .now) (a .types .now) s (a .own) (a .c) (a .at) (read-make (a .ar .now) s (read-expr (a .ar .now) s 16) (a .at)) in
+    ((rw (c .before .construct .ensures .0) at (c .labelled .ensures)) ∙ sym law, rw (c .labelled .ensures) (span-labelled s (a .at) (a .c) (c .before .construct .result) (c .before .construct .ensures .1)))
+
+pub create-spec : {M : Type 1} → statement M
+create-spec = tie.close (tie.spec construct-requires labelled-requires returns)

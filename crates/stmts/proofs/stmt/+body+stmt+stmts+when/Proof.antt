@@ -1,0 +1,484 @@
+-- `stmt::bodystmtstmtswhen` meet their contracts, by a law for each way through them. The unread bytes fall, twice each, and one more counts for statements in a row.
+use Prim.Native.Nat.{_+_, _-_, _*_, _^_}
+use native.Mathlib.Omega.{arith}
+use mathlib.Core.Path.{sym, _∙_}
+use lib.ListN.{length}
+use Rattle.program.specs.Reader.{read-stmt}
+use Rattle.stmts.specs.StmtWays.{when-stop, when-is, body-stop, body-is, row-none, row-stop, row-more, stmt-out, stmt-simple, stmt-deep, stmt-when}
+use Rattle.stmts.specs.DoneWays.{done-room, ahead-within, behind-ahead, span-branched, span-followed}
+use borrow.Author.Needs.{needs}
+use Prim.Native.Nat.{ℕ, _<_}
+use borrow.Fn.Kinds.{In}
+use borrow.Fn.PlainCycle.{Measures, is, falls, and}
+use Rattle.stmts.proofs.stmt.body.Reads as body
+use Rattle.stmts.proofs.stmt.body.Kinds as body-kinds
+use Rattle.stmts.proofs.stmt.+body+stmt+stmts+when.Lts-body as body-lts
+use Rattle.stmts.proofs.stmt.stmt.Reads as stmt
+use Rattle.stmts.proofs.stmt.stmt.Kinds as stmt-kinds
+use Rattle.stmts.proofs.stmt.+body+stmt+stmts+when.Lts-stmt as stmt-lts
+use Rattle.stmts.proofs.stmt.stmts.Reads as stmts
+use Rattle.stmts.proofs.stmt.stmts.Kinds as stmts-kinds
+use Rattle.stmts.proofs.stmt.+body+stmt+stmts+when.Lts-stmts as stmts-lts
+use Rattle.stmts.proofs.stmt.when.Reads as when
+use Rattle.stmts.proofs.stmt.when.Kinds as when-kinds
+use Rattle.stmts.proofs.stmt.+body+stmt+stmts+when.Lts-when as when-lts
+use Rattle.exprs.proofs.expr.expr.Reads as expr-reads
+use Rattle.exprs.proofs.read.ranged.Reads as ranged-reads
+use Rattle.facts.proofs.statement.nothing.Reads as nothing-reads
+use Rattle.stmts.proofs.made.branched.Reads as branched-reads
+use Rattle.stmts.proofs.made.followed.Reads as followed-reads
+use Rattle.stmts.proofs.simple.simple.Reads as simple-reads
+use Rattle.stmts.proofs.stmt.+body+stmt+stmts+when.{statement}
+use Rattle.stmts.proofs.stmt.+body+stmt+stmts+when.Tie.{close}
+
+abbrev μ-body : Measures 3 body-kinds.ps ℕ
+μ-body κs a = 2 * (length (a .0 .now) - a .1 .1 .1 .1 .1 .0)
+
+abbrev μ-stmt : Measures 3 stmt-kinds.ps ℕ
+μ-stmt κs a = 2 * (length (a .0 .now) - a .1 .1 .1 .1 .1 .0)
+
+abbrev μ-stmts : Measures 3 stmts-kinds.ps ℕ
+μ-stmts κs a = 2 * (length (a .0 .now) - a .1 .1 .1 .1 .1 .1 .0) + 1
+
+abbrev μ-when : Measures 3 when-kinds.ps ℕ
+μ-when κs a = 2 * (length (a .0 .now) - a .1 .1 .1 .1 .1 .0)
+
+abbrev body-at : ℕ → In 3 body-kinds.ps
+body-at t = and 3 body-kinds.ps (is 3 body-kinds.ps μ-body t) body.Pre
+
+abbrev body-below : ℕ → In 3 body-kinds.ps
+body-below t = and 3 body-kinds.ps (falls 3 body-kinds.ps _<_ μ-body t) body.Pre
+
+abbrev stmt-at : ℕ → In 3 stmt-kinds.ps
+stmt-at t = and 3 stmt-kinds.ps (is 3 stmt-kinds.ps μ-stmt t) stmt.Pre
+
+abbrev stmt-below : ℕ → In 3 stmt-kinds.ps
+stmt-below t = and 3 stmt-kinds.ps (falls 3 stmt-kinds.ps _<_ μ-stmt t) stmt.Pre
+
+abbrev stmts-at : ℕ → In 3 stmts-kinds.ps
+stmts-at t = and 3 stmts-kinds.ps (is 3 stmts-kinds.ps μ-stmts t) stmts.Pre
+
+abbrev stmts-below : ℕ → In 3 stmts-kinds.ps
+stmts-below t = and 3 stmts-kinds.ps (falls 3 stmts-kinds.ps _<_ μ-stmts t) stmts.Pre
+
+abbrev when-at : ℕ → In 3 when-kinds.ps
+when-at t = and 3 when-kinds.ps (is 3 when-kinds.ps μ-when t) when.Pre
+
+abbrev when-below : ℕ → In 3 when-kinds.ps
+when-below t = and 3 when-kinds.ps (falls 3 when-kinds.ps _<_ μ-when t) when.Pre
+
+body-ranged-requires : (t : ℕ) → body-lts.Need-ranged-requires (
+  ranged-reads.Asked,
+  ranged-reads.Learnt,
+  stmts-below t,
+  stmts.Post,
+) (body-at t) body.Post
+body-ranged-requires t c κs = search needs
+
+body-enum-known-n : (t : ℕ) → body-lts.Need-enum-known-n (
+  ranged-reads.Asked,
+  ranged-reads.Learnt,
+  stmts-below t,
+  stmts.Post,
+) (body-at t) body.Post
+body-enum-known-n t c = search needs
+
+body-enum-known-n-2 : (t : ℕ) → body-lts.Need-enum-known-n-2 (
+  ranged-reads.Asked,
+  ranged-reads.Learnt,
+  stmts-below t,
+  stmts.Post,
+) (body-at t) body.Post
+body-enum-known-n-2 t c = search needs
+
+body-stmts-requires : (t : ℕ) → body-lts.Need-stmts-requires (
+  ranged-reads.Asked,
+  ranged-reads.Learnt,
+  stmts-below t,
+  stmts.Post,
+) (body-at t) body.Post
+body-stmts-requires t c κs = let span = rw (c .before .n2 .given .1) at (c .before .before .before .ranged .ensures .1) in
+    (omega (arith, c .before .before .before .before .before .before .before .pre), (c .before .before .before .before .before .before .before .pre .1, omega arith))
+
+body-returns : (t : ℕ) → body-lts.Need-returns (
+  ranged-reads.Asked,
+  ranged-reads.Learnt,
+  stmts-below t,
+  stmts.Post,
+) (body-at t) body.Post
+body-returns t c = let a = c .before .before .before .before .before .before .before .args in
+    let s = a .s .now in
+    let e = sym (c .before .before .before .ranged .ensures .0) ∙ c .before .n .given .1 in
+    (sym (body-stop (a .ar .now) (a .types .now) s (a .own) (a .c) (read-stmt (a .ar .now) s (a .depth)) (a .at) _ e), tt)
+
+body-returns-2 : (t : ℕ) → body-lts.Need-returns-2 (
+  ranged-reads.Asked,
+  ranged-reads.Learnt,
+  stmts-below t,
+  stmts.Post,
+) (body-at t) body.Post
+body-returns-2 t c = let a = c .before .before .before .before .before .before .before .before .args in
+    let s = a .s .now in
+    let e = sym (c .before .before .before .before .ranged .ensures .0) ∙ c .before .before .n2 .given .1 in
+    let span = rw (c .before .before .n2 .given .1) at (c .before .before .before .before .ranged .ensures .1) in
+    (c .stmts .ensures .0 ∙ sym (body-is (a .ar .now) (a .types .now) s (a .own) (a .c) (read-stmt (a .ar .now) s (a .depth)) (a .at) _ _ e), rw (span .0) at (c .stmts .ensures .1))
+
+stmt-returns : (t : ℕ) → stmt-lts.Need-returns (
+  simple-reads.Asked,
+  simple-reads.Learnt,
+  when-below t,
+  when.Post,
+) (stmt-at t) stmt.Post
+stmt-returns t c = let a = c .before .before .before .before .args in (sym (stmt-out (a .ar .now) (a .types .now) (a .s .now) (a .own) (a .c) (a .depth) (a .at) (c .if1 .taken)), tt)
+
+stmt-shared-slice-read-b : (t : ℕ) → stmt-lts.Need-shared-slice-read-b (
+  simple-reads.Asked,
+  simple-reads.Learnt,
+  when-below t,
+  when.Post,
+) (stmt-at t) stmt.Post
+stmt-shared-slice-read-b t c = search needs
+
+stmt-add-k : (t : ℕ) → stmt-lts.Need-add-k (
+  simple-reads.Asked,
+  simple-reads.Learnt,
+  when-below t,
+  when.Post,
+) (stmt-at t) stmt.Post
+stmt-add-k t c = search needs
+
+stmt-simple-requires : (t : ℕ) → stmt-lts.Need-simple-requires (
+  simple-reads.Asked,
+  simple-reads.Learnt,
+  when-below t,
+  when.Post,
+) (stmt-at t) stmt.Post
+stmt-simple-requires t c κs = (c .before .before .before .before .before .before .pre .1, c .if2 .taken)
+
+stmt-returns-2 : (t : ℕ) → stmt-lts.Need-returns-2 (
+  simple-reads.Asked,
+  simple-reads.Learnt,
+  when-below t,
+  when.Post,
+) (stmt-at t) stmt.Post
+stmt-returns-2 t c = let a = c .before .before .before .before .before .before .before .args in
+    let s = a .s .now in
+    (stmt-simple (a .ar .now) (a .types .now) s (a .own) (a .c) (a .depth) (a .at) (c .before .before .before .if1 .left) (c .simple .result) (c .simple .ensures .0), behind-ahead s (a .at) (c .simple .result) (c .simple .ensures .1))
+
+stmt-returns-3 : (t : ℕ) → stmt-lts.Need-returns-3 (
+  simple-reads.Asked,
+  simple-reads.Learnt,
+  when-below t,
+  when.Post,
+) (stmt-at t) stmt.Post
+stmt-returns-3 t c = let a = c .before .before .before .before .before .before .before .args in (sym (stmt-deep (a .ar .now) (a .types .now) (a .s .now) (a .own) (a .c) (a .depth) (a .at) (c .before .before .before .if1 .left) (c .before .if2 .left) (c .if3 .taken)), tt)
+
+stmt-sub-when : (t : ℕ) → stmt-lts.Need-sub-when (
+  simple-reads.Asked,
+  simple-reads.Learnt,
+  when-below t,
+  when.Post,
+) (stmt-at t) stmt.Post
+stmt-sub-when t c = search needs
+
+stmt-when-requires : (t : ℕ) → stmt-lts.Need-when-requires (
+  simple-reads.Asked,
+  simple-reads.Learnt,
+  when-below t,
+  when.Post,
+) (stmt-at t) stmt.Post
+stmt-when-requires t c κs = (omega (arith, c .before .before .before .before .before .before .before .pre), c .before .before .before .before .before .before .before .pre .1)
+
+stmt-returns-4 : (t : ℕ) → stmt-lts.Need-returns-4 (
+  simple-reads.Asked,
+  simple-reads.Learnt,
+  when-below t,
+  when.Post,
+) (stmt-at t) stmt.Post
+stmt-returns-4 t c = let a = c .before .before .before .before .before .before .before .before .args in
+    let s = a .s .now in
+    let law = stmt-when (a .ar .now) (a .types .now) s (a .own) (a .c) (a .depth) (a .at) (c .before .before .before .before .if1 .left) (c .before .before .if2 .left) (c .before .if3 .left) in
+    (c .when .ensures .0 ∙ sym law, behind-ahead s (a .at) (c .when .result) (c .when .ensures .1))
+
+stmts-nothing-requires : (t : ℕ) → stmts-lts.Need-nothing-requires (
+  nothing-reads.Asked,
+  nothing-reads.Learnt,
+  stmt-below t,
+  stmt.Post,
+  stmts-below t,
+  stmts.Post,
+  followed-reads.Asked,
+  followed-reads.Learnt,
+) (stmts-at t) stmts.Post
+stmts-nothing-requires t c κs = search needs
+
+stmts-returns : (t : ℕ) → stmts-lts.Need-returns (
+  nothing-reads.Asked,
+  nothing-reads.Learnt,
+  stmt-below t,
+  stmt.Post,
+  stmts-below t,
+  stmts.Post,
+  followed-reads.Asked,
+  followed-reads.Learnt,
+) (stmts-at t) stmts.Post
+stmts-returns t c = let a = c .before .before .before .before .before .args in
+    let s = a .s .now in
+    rw (c .nothing .ensures) (sym (row-none (a .ar .now) (a .types .now) s (a .own) (a .c) (read-stmt (a .ar .now) s (a .depth)) (a .at) (a .n) (c .before .if1 .taken)), omega (arith, c .before .before .before .before .before .pre))
+
+stmts-stmt-requires : (t : ℕ) → stmts-lts.Need-stmt-requires (
+  nothing-reads.Asked,
+  nothing-reads.Learnt,
+  stmt-below t,
+  stmt.Post,
+  stmts-below t,
+  stmts.Post,
+  followed-reads.Asked,
+  followed-reads.Learnt,
+) (stmts-at t) stmts.Post
+stmts-stmt-requires t c κs = (omega (arith, c .before .before .before .before .pre), c .before .before .before .before .pre .1 .0)
+
+stmts-enum-known-first : (t : ℕ) → stmts-lts.Need-enum-known-first (
+  nothing-reads.Asked,
+  nothing-reads.Learnt,
+  stmt-below t,
+  stmt.Post,
+  stmts-below t,
+  stmts.Post,
+  followed-reads.Asked,
+  followed-reads.Learnt,
+) (stmts-at t) stmts.Post
+stmts-enum-known-first t c = search needs
+
+stmts-enum-told : (t : ℕ) → stmts-lts.Need-enum-told (
+  nothing-reads.Asked,
+  nothing-reads.Learnt,
+  stmt-below t,
+  stmt.Post,
+  stmts-below t,
+  stmts.Post,
+  followed-reads.Asked,
+  followed-reads.Learnt,
+) (stmts-at t) stmts.Post
+stmts-enum-told t c = search needs
+
+stmts-returns-2 : (t : ℕ) → stmts-lts.Need-returns-2 (
+  nothing-reads.Asked,
+  nothing-reads.Learnt,
+  stmt-below t,
+  stmt.Post,
+  stmts-below t,
+  stmts.Post,
+  followed-reads.Asked,
+  followed-reads.Learnt,
+) (stmts-at t) stmts.Post
+stmts-returns-2 t c = let a = c .before .before .before .before .before .before .before .args in
+    let s = a .s .now in
+    let told = c .enum-told .given in
+    (told .1 ∙ sym (row-stop (a .ar .now) (a .types .now) s (a .own) (a .c) (read-stmt (a .ar .now) s (a .depth)) (a .at) (a .n) (c .before .before .before .if1 .left) _ (sym (c .before .before .stmt .ensures .0) ∙ told .1)), ahead-within s (a .at) (c .before .before .stmt .result) (c .before .before .stmt .ensures .1))
+
+stmts-sub-stmts : (t : ℕ) → stmts-lts.Need-sub-stmts (
+  nothing-reads.Asked,
+  nothing-reads.Learnt,
+  stmt-below t,
+  stmt.Post,
+  stmts-below t,
+  stmts.Post,
+  followed-reads.Asked,
+  followed-reads.Learnt,
+) (stmts-at t) stmts.Post
+stmts-sub-stmts t c = search needs
+
+stmts-stmts-requires : (t : ℕ) → stmts-lts.Need-stmts-requires (
+  nothing-reads.Asked,
+  nothing-reads.Learnt,
+  stmt-below t,
+  stmt.Post,
+  stmts-below t,
+  stmts.Post,
+  followed-reads.Asked,
+  followed-reads.Learnt,
+) (stmts-at t) stmts.Post
+stmts-stmts-requires t c κs = let ahead = rw (c .before .before .first .given .1) at (c .before .before .before .before .stmt .ensures .1) in
+    (omega (arith, c .before .before .before .before .before .before .before .before .before .pre), (c .before .before .before .before .before .before .before .before .before .pre .1 .0, omega arith))
+
+stmts-followed-requires : (t : ℕ) → stmts-lts.Need-followed-requires (
+  nothing-reads.Asked,
+  nothing-reads.Learnt,
+  stmt-below t,
+  stmt.Post,
+  stmts-below t,
+  stmts.Post,
+  followed-reads.Asked,
+  followed-reads.Learnt,
+) (stmts-at t) stmts.Post
+stmts-followed-requires t c κs = let a = c .before .before .before .before .before .before .before .before .before .before .args in
+    let small : length (a .s .now) < 2 ^ 63 = omega (arith, c .before .before .before .before .before .before .before .before .before .before .good .0) in
+    let ahead = rw (c .before .before .before .first .given .1) at (c .before .before .before .before .before .stmt .ensures .1) in
+    (omega arith, done-room (a .s .now) _ _ (c .stmts .result) small (c .stmts .ensures .1))
+
+stmts-returns-3 : (t : ℕ) → stmts-lts.Need-returns-3 (
+  nothing-reads.Asked,
+  nothing-reads.Learnt,
+  stmt-below t,
+  stmt.Post,
+  stmts-below t,
+  stmts.Post,
+  followed-reads.Asked,
+  followed-reads.Learnt,
+) (stmts-at t) stmts.Post
+stmts-returns-3 t c = let a = c .before .before .before .before .before .before .before .before .before .before .before .args in
+    let s = a .s .now in
+    let told = c .before .before .before .before .first .given in
+    let ahead = rw (told .1) at (c .before .before .before .before .before .before .stmt .ensures .1) in
+    let law = row-more (a .ar .now) (a .types .now) s (a .own) (a .c) (read-stmt (a .ar .now) s (a .depth)) (a .at) (a .n) (c .before .before .before .before .before .before .before .if1 .left) _ _ (sym (c .before .before .before .before .before .before .stmt .ensures .0) ∙ told .1) in
+    ((rw (c .before .stmts .ensures .0) at (c .followed .ensures)) ∙ sym law, rw (c .followed .ensures) (span-followed s (a .at) _ _ (c .before .stmts .result) ahead (c .before .stmts .ensures .1)))
+
+when-expr-requires : (t : ℕ) → when-lts.Need-expr-requires (
+  expr-reads.Asked,
+  expr-reads.Learnt,
+  body-below t,
+  body.Post,
+  branched-reads.Asked,
+  branched-reads.Learnt,
+) (when-at t) when.Post
+when-expr-requires t c κs = c .before .before .before .pre .1
+
+when-enum-known-n : (t : ℕ) → when-lts.Need-enum-known-n (
+  expr-reads.Asked,
+  expr-reads.Learnt,
+  body-below t,
+  body.Post,
+  branched-reads.Asked,
+  branched-reads.Learnt,
+) (when-at t) when.Post
+when-enum-known-n t c = search needs
+
+when-enum-known-m : (t : ℕ) → when-lts.Need-enum-known-m (
+  expr-reads.Asked,
+  expr-reads.Learnt,
+  body-below t,
+  body.Post,
+  branched-reads.Asked,
+  branched-reads.Learnt,
+) (when-at t) when.Post
+when-enum-known-m t c = search needs
+
+when-body-requires : (t : ℕ) → when-lts.Need-body-requires (
+  expr-reads.Asked,
+  expr-reads.Learnt,
+  body-below t,
+  body.Post,
+  branched-reads.Asked,
+  branched-reads.Learnt,
+) (when-at t) when.Post
+when-body-requires t c κs = let ahead = rw (c .before .m .given .1) at (c .before .before .before .expr .ensures .1) in (omega (arith, c .before .before .before .before .before .before .before .pre), c .before .before .before .before .before .before .before .pre .1)
+
+when-branched-requires : (t : ℕ) → when-lts.Need-branched-requires (
+  expr-reads.Asked,
+  expr-reads.Learnt,
+  body-below t,
+  body.Post,
+  branched-reads.Asked,
+  branched-reads.Learnt,
+) (when-at t) when.Post
+when-branched-requires t c κs = let a = c .before .before .before .before .before .before .before .before .args in
+    let small : length (a .s .now) < 2 ^ 63 = omega (arith, c .before .before .before .before .before .before .before .before .good .0) in
+    let ahead = rw (c .before .before .m .given .1) at (c .before .before .before .before .expr .ensures .1) in
+    (omega arith, done-room (a .s .now) _ _ (c .body .result) small (c .body .ensures .1))
+
+when-returns : (t : ℕ) → when-lts.Need-returns (
+  expr-reads.Asked,
+  expr-reads.Learnt,
+  body-below t,
+  body.Post,
+  branched-reads.Asked,
+  branched-reads.Learnt,
+) (when-at t) when.Post
+when-returns t c = let a = c .before .before .before .before .before .before .before .args in
+    let s = a .s .now in
+    let e = sym (c .before .before .before .expr .ensures .0) ∙ c .before .n .given .1 in
+    (sym (when-stop (a .ar .now) (a .types .now) s (a .own) (a .c) (read-stmt (a .ar .now) s (a .depth)) (a .at) _ e), tt)
+
+when-returns-2 : (t : ℕ) → when-lts.Need-returns-2 (
+  expr-reads.Asked,
+  expr-reads.Learnt,
+  body-below t,
+  body.Post,
+  branched-reads.Asked,
+  branched-reads.Learnt,
+) (when-at t) when.Post
+when-returns-2 t c = let a = c .before .before .before .before .before .before .before .before .before .args in
+    let s = a .s .now in
+    let told = c .before .before .before .m .given in
+    let ahead = rw (told .1) at (c .before .before .before .before .before .expr .ensures .1) in
+    let law = when-is (a .ar .now) (a .types .now) s (a .own) (a .c) (read-stmt (a .ar .now) s (a .depth)) (a .at) _ _ (sym (c .before .before .before .before .before .expr .ensures .0) ∙ told .1) in
+    ((rw (c .before .body .ensures .0) at (c .branched .ensures)) ∙ sym law, rw (c .branched .ensures) (span-branched s (a .at) _ (a .c) _ (c .before .body .result) ahead (c .before .body .ensures .1)))
+
+pub +body+stmt+stmts+when-spec : {M : Type 1} → statement M
++body+stmt+stmts+when-spec = close μ-body μ-stmt μ-stmts μ-when (λ t. body-lts.spec (
+  ranged-reads.Asked,
+  ranged-reads.Learnt,
+  stmts-below t,
+  stmts.Post,
+)
+    (body-at t)
+    body.Post
+    (body-ranged-requires t)
+    (body-enum-known-n t)
+    (body-enum-known-n-2 t)
+    (body-stmts-requires t)
+    (body-returns t)
+    (body-returns-2 t))
+    (λ t. stmt-lts.spec
+    (simple-reads.Asked, simple-reads.Learnt, when-below t, when.Post)
+    (stmt-at t)
+    stmt.Post
+    (stmt-returns t)
+    (stmt-shared-slice-read-b t)
+    (stmt-add-k t)
+    (stmt-simple-requires t)
+    (stmt-returns-2 t)
+    (stmt-returns-3 t)
+    (stmt-sub-when t)
+    (stmt-when-requires t)
+    (stmt-returns-4 t))
+    (λ t. stmts-lts.spec (
+      nothing-reads.Asked,
+      nothing-reads.Learnt,
+      stmt-below t,
+      stmt.Post,
+      stmts-below t,
+      stmts.Post,
+      followed-reads.Asked,
+      followed-reads.Learnt,
+    )
+    (stmts-at t)
+    stmts.Post
+    (stmts-nothing-requires t)
+    (stmts-returns t)
+    (stmts-stmt-requires t)
+    (stmts-enum-known-first t)
+    (stmts-enum-told t)
+    (stmts-returns-2 t)
+    (stmts-sub-stmts t)
+    (stmts-stmts-requires t)
+    (stmts-followed-requires t)
+    (stmts-returns-3 t))
+    λ t. when-lts.spec (
+      expr-reads.Asked,
+      expr-reads.Learnt,
+      body-below t,
+      body.Post,
+      branched-reads.Asked,
+      branched-reads.Learnt,
+    )
+    (when-at t)
+    when.Post
+    (when-expr-requires t)
+    (when-enum-known-n t)
+    (when-enum-known-m t)
+    (when-body-requires t)
+    (when-branched-requires t)
+    (when-returns t)
+    (when-returns-2 t)

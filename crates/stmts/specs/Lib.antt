@@ -1,0 +1,3 @@
+pub mod Done
+pub mod StmtWays
+pub mod DoneWays
