@@ -1,0 +1,38 @@
+-- The words of literals, of null and of this, and of the variables of a path, off the bytes of the stream.
+use Prim.Native.Nat.{ℕ, zero, suc, _+_, _-_, _*_}
+use mathlib.Core.List.{List, [], _∷_}
+use mathlib.Core.Bool.{true, false}
+use lib.ListN.{getD}
+use lib.Dec.{ltb}
+use Rattle.commands.specs.Coding.{coded}
+
+-- the number of four bytes, the lowest first
+unfoldable pub word-at : List ℕ → ℕ → ℕ
+word-at s at = getD s at 0 + 256 * getD s (at + 1) 0 + 65536 * getD s (at + 2) 0 + 16777216 * getD s (at + 3) 0
+
+-- the push of a type's default, by the type's byte
+unfoldable pub null-word : ℕ → ℕ
+null-word b = elim (ltb b 16) [ true ↦ coded 1 b 0 | false ↦ coded 1 b (b - 16) ]
+
+-- how many bytes the form of a byte has
+unfoldable pub leaf-size : ℕ → ℕ
+leaf-size b = elim (ltb b 21) [ true ↦ 5 | false ↦ elim (ltb b 23) [ true ↦ 2 | false ↦ 1 ] ]
+
+-- the word of the form that a byte opens, with the number behind it
+unfoldable pub byte-word : ℕ → ℕ → ℕ
+byte-word b v = elim (ltb b 22) [ true ↦ coded 1 2 v | false ↦ null-word v ]
+
+unfoldable pub leaf-of : List ℕ → ℕ → ℕ → ℕ
+leaf-of s at b =
+    elim (ltb b 21) [
+      | true ↦ coded 1 (b - 19) (word-at s (at + 1))
+      | false ↦ elim (ltb b 23) [ true ↦ byte-word b (getD s (at + 1) 0) | false ↦ coded 2 0 0 ]
+    ]
+
+abbrev pub leaf-word : List ℕ → ℕ → ℕ
+leaf-word s at = leaf-of s at (getD s at 0)
+
+-- an rd of each of n bytes
+unfoldable pub rd-words : List ℕ → ℕ → ℕ → List ℕ
+rd-words s at zero = []
+rd-words s at (suc n) = coded 3 0 (getD s at 0) ∷ rd-words s (at + 1) n

@@ -1,0 +1,96 @@
+-- The words off the bytes of the stream, one law for each way through the code.
+use Prim.Native.Nat.{ℕ, zero, suc, _+_, _-_, _<_, _≤_}
+use native.Mathlib.Omega.{arith}
+use native.Mathlib.Numerals.{sub-one, add-one}
+use native.Mathlib.Decide.{decLt}
+use mathlib.Core.Path.{_≡_, refl, _∙_}
+use mathlib.Core.List.{List}
+use lib.ListN.{length, getD, set}
+use lib.Seq.{sets}
+use borrow.Author.Tests.{lt-ltb, le-ltb}
+use Rattle.commands.specs.Coding.{coded}
+use Rattle.emit.specs.declared.Put.{Put}
+use Rattle.emit.specs.Leaf.{word-at, leaf-size, byte-word, leaf-of, leaf-word, null-word, rd-words}
+
+-- a type without a struct pushes 0
+pub null-low : (b t r : ℕ) → t ≡ b → t < 16 → r ≡ coded 1 t 0 → r ≡ null-word b
+unfolding null-word
+null-low b t r e h p = let l : b < 16 = omega arith in p ∙ rw (e, null-word, lt-ltb b 16 l)
+
+-- a struct's type pushes its number
+pub null-high : (b t r : ℕ) → t ≡ b → 16 ≤ t → r ≡ coded 1 t (t - 16) → r ≡ null-word b
+unfolding null-word
+null-high b t r e h p = let l : 16 ≤ b = omega arith in p ∙ rw (e, null-word, le-ltb b 16 l)
+
+-- how many bytes a form has, by its byte
+size-low : (b : ℕ) → b < 21 → leaf-size b ≡ 5
+unfolding leaf-size
+size-low b h = rw (leaf-size, lt-ltb b 21 h)
+
+size-mid : (b : ℕ) → 21 ≤ b → b < 23 → leaf-size b ≡ 2
+unfolding leaf-size
+size-mid b h k = rw (leaf-size, le-ltb b 21 h, lt-ltb b 23 k)
+
+size-high : (b : ℕ) → 21 ≤ b → 23 ≤ b → leaf-size b ≡ 1
+unfolding leaf-size
+size-high b h k = rw (leaf-size, le-ltb b 21 h, le-ltb b 23 k)
+
+-- a form has a byte
+pub size-pos : (b : ℕ) → 0 < leaf-size b
+size-pos b = go (decLt b 21) (decLt b 23)
+  where
+    go : Dec (b < 21) → Dec (b < 23) → 0 < leaf-size b
+    go (yes h) k = omega (arith, size-low b h)
+    go (no h) (yes k) = omega (arith, size-mid b (omega arith) k)
+    go (no h) (no k) = omega (arith, size-high b (omega arith) (omega arith))
+
+-- a form that ends in the stream has its bytes there
+module _ (s : List ℕ) (at : ℕ) where
+  pub leaf-in : at + leaf-size (getD s at 0) ≤ length s → at < length s
+  leaf-in h = omega (arith, size-pos (getD s at 0))
+
+  pub leaf-word-in : at + leaf-size (getD s at 0) ≤ length s → getD s at 0 < 21 → at + 1 + 4 ≤ length s
+  leaf-word-in h l = omega (arith, size-low (getD s at 0) l)
+
+  pub leaf-byte-in : at + leaf-size (getD s at 0) ≤ length s → 21 ≤ getD s at 0 → getD s at 0 < 23 → at + 1 < length s
+  leaf-byte-in h k l = omega (arith, size-mid (getD s at 0) k l)
+
+  -- an Int or a Nat
+  pub leaf-word-is : getD s at 0 < 21 → {v t r : ℕ} → v ≡ word-at s (at + 1) → t ≡ getD s at 0 - 19 → r ≡ coded 1 t v → r ≡ leaf-word s at
+  unfolding leaf-of
+  leaf-word-is h p q e = e ∙ rw (leaf-of, lt-ltb (getD s at 0) 21 h, p, q)
+
+  -- a Bool
+  pub leaf-bool-is : 21 ≤ getD s at 0 → getD s at 0 < 23 → getD s at 0 < 22 → {v r : ℕ} → v ≡ getD s (at + 1) 0 → r ≡ coded 1 2 v → r ≡ leaf-word s at
+  unfolding leaf-of byte-word
+  leaf-bool-is h k l p e = e ∙ rw (leaf-of, le-ltb (getD s at 0) 21 h, lt-ltb (getD s at 0) 23 k, byte-word, lt-ltb (getD s at 0) 22 l, p)
+
+  -- a null
+  pub leaf-null-is : 21 ≤ getD s at 0 → getD s at 0 < 23 → 22 ≤ getD s at 0 → {r : ℕ} → r ≡ null-word (getD s (at + 1) 0) → r ≡ leaf-word s at
+  unfolding leaf-of byte-word
+  leaf-null-is h k l e = e ∙ rw (leaf-of, le-ltb (getD s at 0) 21 h, lt-ltb (getD s at 0) 23 k, byte-word, le-ltb (getD s at 0) 22 l)
+
+  -- this
+  pub leaf-this-is : 21 ≤ getD s at 0 → 23 ≤ getD s at 0 → {r : ℕ} → r ≡ coded 2 0 0 → r ≡ leaf-word s at
+  unfolding leaf-of
+  leaf-this-is h k e = e ∙ rw (leaf-of, le-ltb (getD s at 0) 21 h, le-ltb (getD s at 0) 23 k)
+
+-- n reads stand from k on, and reading goes on behind n bytes
+abbrev pub Reads : List ℕ → ℕ → ℕ → List ℕ → ℕ → Put → List ℕ → Type 0
+Reads s at n out k r out' = (r .next ≡ at + n) × (r .at ≡ k + n) × (out' ≡ sets out k (rd-words s at n))
+
+module _ (s : List ℕ) (at k n : ℕ) (out : List ℕ) where
+  -- no variable, no rd
+  pub reads-none : n ≡ 0 → Reads s at n out k (record { next = at; at = k }) out
+  unfolding rd-words
+  reads-none e = (omega arith, omega arith, rw e refl)
+
+  -- an rd, and those of the other variables behind it
+  pub reads-more : (n ≡ 0 → ⊥) → (b v : ℕ) (out1 : List ℕ) (p : Put) (out2 : List ℕ) → b ≡ getD s at 0 → v ≡ coded 3 0 b → out1 ≡ set out k v
+      → Reads s (at + 1) (n - 1) out1 (k + 1) p out2 → Reads s at n out k p out2
+  unfolding rd-words
+  reads-more z b v out1 p out2 e f g h = (omega (arith, h .0), omega (arith, h .1), go n z (h .2))
+    where
+      go : (n : ℕ) → (n ≡ 0 → ⊥) → out2 ≡ sets out1 (k + 1) (rd-words s (at + 1) (n - 1)) → out2 ≡ sets out k (rd-words s at n)
+      go zero z q = absurd (z refl)
+      go (suc n) z q = let k1 : k + 1 ≡ suc k = add-one k in rw (sub-one, k1, g, f, e) at q

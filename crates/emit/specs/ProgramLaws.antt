@@ -1,0 +1,112 @@
+-- The words of an accepted program (01, 'Names, types, commands'): a caller has what the second pass requires, and gets the program's words.
+use Prim.Native.Nat.{ℕ, _≤_}
+use native.Mathlib.Omega.{arith}
+use mathlib.Core.Path.{_≡_, refl, sym, _∙_}
+use mathlib.Core.List.{List, [], _∷_, map}
+use mathlib.Core.Bool.{Bool, true, false}
+use lib.ListN.{length, length-append, length-map}
+use lib.Seq.{sets}
+use lib.Dec.{ltb}
+use Rattle.types.specs.Limits.{max-commands, fix-levels}
+use Rattle.types.specs.Types.{Ty}
+use Rattle.program.specs.Tree.{Items, Step, Program}
+use Rattle.program.specs.Encoding.{flat}
+use Rattle.program.specs.Reader.{Result, Result.ok, Result.bad, wrong-end, pair, many, ended, whole, read-params, read-steps, read-items, read-item, read-program, read}
+use Rattle.program.specs.PartLaws.{made-ok}
+use Rattle.commands.specs.Commands.{commands}
+use Rattle.commands.specs.Bounds.{total, arities, program-size, step-size}
+use Rattle.emit.specs.declared.Put.{Put}
+use Rattle.emit.specs.Written.{code-of, Ready, Wrote}
+use Rattle.emit.specs.ProgramWords.{step-words, steps-words, structs-words, program-words, structs-at}
+use Rattle.emit.specs.WordLaws.{words-length}
+use Rattle.emit.specs.ReadLaws.{then-value, made-value, pair-value, pair-ok}
+
+-- the words in a row are as many as those of all
+flat-length : {A : Type 0} (f : A → List ℕ) (g : A → ℕ) → ((a : A) → length (f a) ≡ g a) → (l : List A) → length (flat f l) ≡ total g l
+unfolding flat total
+flat-length f g h [] = refl
+flat-length f g h (a ∷ l) = rw (length-append, h a, flat-length f g h l)
+
+-- there are as many words as commands
+pub program-length : (p : Program) → length (program-words p) ≡ program-size p
+unfolding program-words program-size step-words
+program-length p =
+    flat-length steps-words (total step-size) (λ ts. flat-length step-words step-size (λ t. words-length (commands (t .body))) ts) (p .steps)
+
+-- behind the parameter lists of a program stand the steps of its structs
+pub record Standing (s : List ℕ) (at : ℕ) (p : Program) : Type 0 where
+  pub behind : ℕ
+  pub params : read-params s at ≡ ok (p .params) behind
+  pub last : ℕ
+  pub steps : structs-at (arities p) s (length (arities p)) behind ≡ ok (p .steps) last
+
+-- they stand where a program was read
+pub program-steps : (s : List ℕ) (at : ℕ) (p : Program) (m : ℕ) → read-program s at ≡ ok p m → Standing s at p
+unfolding read-program
+program-steps s at p m e =
+    let v = made-value program-of (pair (read-params s at) behind) (rw e tt) in
+    let w = pair-value (read-params s at) behind (rw (v .2) tt) in
+    let u = pair-value (many [] _∷_ (read-steps (map length (w .0)) s) (length (w .0)) (w .1)) (λ ss. schedule (w .0)) (rw (w .5) tt) in
+    go (w .0) (w .1) (u .0) (u .1) (u .2) (u .3) (w .4) (u .4) (u .5)
+  where
+    program-of : List (List Ty) × (List (List Step) × Items) → Program
+    program-of p = record { params = p .0; steps = p .1 .0; schedule = p .1 .1 }
+
+    schedule : List (List Ty) → ℕ → Result Items
+    schedule ts m = read-items (map length ts) s (read-item (map length ts) s fix-levels) m
+
+    behind : List (List Ty) → ℕ → Result (List (List Step) × Items)
+    behind ts k = pair (many [] _∷_ (read-steps (map length ts) s) (length ts) k) λ ss. schedule ts
+
+    go : (ts : List (List Ty)) (k : ℕ) (ss : List (List Step)) (i : ℕ) (is : Items) (n : ℕ) → read-params s at ≡ ok ts k
+        → many [] _∷_ (read-steps (map length ts) s) (length ts) k ≡ ok ss i → schedule ts i ≡ ok is n → Standing s at p
+    go ts k ss i is n a b c =
+        let q : read-program s at ≡ ok (program-of (ts, (ss, is))) n = made-ok program-of (pair-ok behind a (pair-ok (λ ss. schedule ts) b c)) in
+        let r : ok p m ≡ ok (program-of (ts, (ss, is))) n = sym e ∙ q in
+        let x : p ≡ program-of (ts, (ss, is)) = cc in
+        rw x (record { behind = k; params = a; last = i; steps = rw (length-map ts length) b })
+
+-- a program that ends before its stream is refused, any other not
+short : (s : List ℕ) (a : Program) (k : ℕ) → ltb k (length s) ≡ true → ended s a k ≡ bad k wrong-end
+unfolding ended
+short s a k h = rw (ended, h)
+
+long : (s : List ℕ) (a : Program) (k : ℕ) → ltb k (length s) ≡ false → ended s a k ≡ ok a k
+unfolding ended
+long s a k h = rw (ended, h)
+
+-- a whole stream is a program from its beginning
+whole-program : (s : List ℕ) (p : Program) (m : ℕ) → read s ≡ ok p m → read-program s 0 ≡ ok p m
+unfolding read whole
+whole-program s p m e =
+    let v = then-value (read-program s 0) (ended s) (rw e tt) in
+    let f : ended s (v .0) (v .1) ≡ ok p m = sym (v .3) ∙ e in
+    v .2 ∙ at-end (v .0) (v .1) f
+  where
+    at-end : (a : Program) (k : ℕ) → ended s a k ≡ ok p m → ok a k ≡ ok p m
+    at-end a k = go (ltb k (length s)) refl
+      where
+        go : (t : Bool) → ltb k (length s) ≡ t → ended s a k ≡ ok p m → ok a k ≡ ok p m
+        go true h f = let z : _≡_ {A = ℕ} 0 1 = cc (short s a k h) in absurd (omega arith)
+        go false h f = sym (long s a k h) ∙ f
+
+-- an accepted program's steps may be written, where there is room for its commands
+pub program-ready : (s : List ℕ) (p : Program) (m : ℕ) → read s ≡ ok p m → program-size p ≤ max-commands → (out : List ℕ) → program-size p ≤ length out
+    → (at : ℕ) × (read-params s 0 ≡ ok (p .params) at) × (Ready structs-words (structs-at (arities p) s (length (arities p)) at) out 0)
+unfolding code-of program-words
+program-ready s p m e h out l =
+    let t = program-steps s 0 p m (whole-program s p m e) in
+    let n = program-length p in
+    (t .behind, t .params, rw (t .steps) (record { good = tt; room = omega arith; few = omega arith }))
+
+-- and what is written is the program's words
+pub program-wrote : (s : List ℕ) (p : Program) (m at : ℕ) → read s ≡ ok p m → read-params s 0 ≡ ok (p .params) at → (out : List ℕ) (r : Put) (out' : List ℕ)
+    → Wrote structs-words (structs-at (arities p) s (length (arities p)) at) out 0 r out'
+    → (out' ≡ sets out 0 (program-words p)) × (r .at ≡ program-size p)
+unfolding code-of program-words
+program-wrote s p m at e f out r out' w =
+    let t = program-steps s 0 p m (whole-program s p m e) in
+    let x : ok (p .params) at ≡ ok (p .params) (t .behind) = sym f ∙ t .params in
+    let y : at ≡ t .behind = cc in
+    let z = rw (y, t .steps) at w in
+    (z .list, omega (arith, z .at, program-length p))

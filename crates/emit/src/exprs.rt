@@ -1,0 +1,71 @@
+// The commands of expressions (000, definition 2).
+use crate::Put;
+use crate::words::add;
+use crate::words::coded;
+use crate::words::index;
+use crate::words::leaf;
+use crate::words::leaf_size;
+use crate::words::path;
+use crate::words::store;
+use crate::words::wide;
+ghost use Rattle.program.specs.Reader.{read-expr};
+ghost use Rattle.emit.specs.Written.{Ready, Wrote, expr-words, args-words, make-words, args-at, make-at};
+
+// The commands of the expression at a place, from k on.
+pub(crate) fn expr(s: &[u8], ar: &[u8], at: usize, depth: usize, out: &mut [u64], k: usize) -> Put
+    requires { ⌜ Ready expr-words (read-expr (now ar) (now s) depth at) (now out) k ⌝ }
+    ensures { λ r. ⌜ Wrote expr-words (read-expr (now (ar .entry)) (now (s .entry)) depth at) (now (out .entry)) k r (now (out .exit)) ⌝ }
+{
+    let tag = s[at];
+    if tag == 16 {
+        let p = expr(s, ar, at + 1, depth - 1, out, k);
+        let v = coded(7, 0, 0);
+        return add(out, p, v);
+    }
+    if tag == 17 {
+        return make(s, ar, at + 1, depth - 1, out, k);
+    }
+    if tag == 18 {
+        return path(s, at + 1, out, k);
+    }
+    if tag < 24 {
+        let v = leaf(s, at);
+        store(out, k, v);
+        return Put {
+            next: at + leaf_size(tag),
+            at: k + 1,
+        };
+    }
+    let p = expr(s, ar, at + 1, depth - 1, out, k);
+    let next = p.next;
+    let i = p.at;
+    let q = expr(s, ar, next, depth - 1, out, i);
+    let v = coded(8, 0, wide(tag));
+    add(out, q, v)
+}
+
+// The commands of a struct's arguments, and cons.
+pub(crate) fn make(s: &[u8], ar: &[u8], at: usize, depth: usize, out: &mut [u64], k: usize) -> Put
+    requires { ⌜ Ready make-words (make-at (now ar) (now s) depth at) (now out) k ⌝ }
+    ensures { λ r. ⌜ Wrote make-words (make-at (now (ar .entry)) (now (s .entry)) depth at) (now (out .entry)) k r (now (out .exit)) ⌝ }
+{
+    let b = s[at];
+    let i = index(b);
+    let p = args(s, ar, at + 1, depth, ar[i], out, k);
+    let v = coded(5, 0, wide(b));
+    add(out, p, v)
+}
+
+// The commands of n expressions in a row.
+fn args(s: &[u8], ar: &[u8], at: usize, depth: usize, n: u8, out: &mut [u64], k: usize) -> Put
+    requires { ⌜ Ready args-words (args-at (now ar) (now s) depth n at) (now out) k ⌝ }
+    ensures { λ r. ⌜ Wrote args-words (args-at (now (ar .entry)) (now (s .entry)) depth n at) (now (out .entry)) k r (now (out .exit)) ⌝ }
+{
+    if n == 0 {
+        return Put { next: at, at: k };
+    }
+    let p = expr(s, ar, at, depth, out, k);
+    let next = p.next;
+    let i = p.at;
+    args(s, ar, next, depth, n - 1, out, i)
+}
