@@ -1,0 +1,4 @@
+pub mod ParamsTold
+pub mod PlanTold
+pub mod PlanWays
+pub mod ParamsWays
