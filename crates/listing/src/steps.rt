@@ -1,10 +1,14 @@
 // The lines of a program's steps: the stream gives each step's struct, name and size, the list its commands (01, 'Bench rows').
 use crate::lines::line;
+use crate::lines::row;
 use exprs::read;
 use exprs::read::ByteRead;
 use facts::Scope;
+use plan::params;
+use plan::params::ParamsRead;
 use stmts::StmtRead;
 use stmts::stmt;
+ghost use mathlib.Core.Path.{_≡_};
 ghost use Prim.Native.Nat.{_+_, _*_, _<_, _≤_, _^_};
 ghost use lib.ListN.{length};
 ghost use Rattle.listing.specs.Walk.{Span};
@@ -158,5 +162,44 @@ pub fn structs(
     match of_struct(s, ar, types, of, at, list, place, out, k) {
         Listed::Stopped => Listed::Stopped,
         Listed::Value(m, p, i) => structs(s, ar, types, of + 1, n - 1, m, list, p, out, i),
+    }
+}
+
+// The lines of all steps; 0 where the stream, the list and the text do not go together.
+fn all(
+    s: &[u8],
+    counts: &[u8],
+    types: &[u8],
+    n: u8,
+    at: usize,
+    list: &[u64],
+    out: &mut [u8],
+    k: usize,
+) -> usize
+    requires { ⌜ (length (now counts) ≡ 16) × (length (now types) ≡ 128) × (n ≤ 16) ⌝ }
+    requires { ⌜ k ≤ length (now out) ⌝ }
+    ensures { λ r. ⌜ r ≤ length (now (out .exit)) ⌝ }
+{
+    let count = n as usize;
+    let end = 8 * count;
+    match structs(s, &counts[..count], &types[..end], 0, n, at, list, 0, out, k) {
+        Listed::Stopped => 0,
+        Listed::Value(_, _, i) => i,
+    }
+}
+
+// The listing of a program stream, whose commands the list holds: a line of the four numbers of its head, and a line for each command.
+pub fn program(s: &[u8], list: &[u64], head: &[u64; 4], out: &mut [u8]) -> usize
+    requires { ⌜ 128 ≤ length (now out) ⌝ }
+    ensures { λ r. ⌜ r ≤ length (now (out .exit)) ⌝ }
+{
+    let mut counts = [0u8; 16];
+    let mut types = [0u8; 128];
+    match params::params(s, &mut counts, &mut types) {
+        ParamsRead::Refused(_) => 0,
+        ParamsRead::Value(at, n) => {
+            let k = row(out, 0, b"audala", head);
+            all(s, &counts, &types, n, at, list, out, k)
+        }
     }
 }
