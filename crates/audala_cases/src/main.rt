@@ -18,7 +18,7 @@ fn fetch(buffer: &mut [u8], n: usize) -> bool {
 }
 
 // A number of four bytes, at most so large.
-fn size(most: usize) -> Size {
+fn number(most: usize) -> Size {
     let mut b = [0u8; 4];
     if !fetch(&mut b, 4) {
         return Size::Nothing;
@@ -33,7 +33,7 @@ fn size(most: usize) -> Size {
 // A length and so many bytes, into the front of a buffer.
 fn part(buffer: &mut [u8]) -> Size {
     let most = buffer.len();
-    let read = size(most);
+    let read = number(most);
     let Size::Of(n) = read else {
         return Size::Nothing;
     };
@@ -60,7 +60,7 @@ fn answer(image: &[u8], list: &mut [u64]) {
 
 // A case of kind 1; whether it is whole.
 fn check_case() -> bool {
-    let Size::Of(places) = size(1100) else {
+    let Size::Of(places) = number(1100) else {
         return false;
     };
     let mut image = [0u8; 33792];
@@ -74,10 +74,10 @@ fn check_case() -> bool {
 
 // A case of kind 2, which is passed over; whether it is whole.
 fn run_case() -> bool {
-    let Size::Of(_) = size(1100) else {
+    let Size::Of(_) = number(1100) else {
         return false;
     };
-    let Size::Of(_) = size(9216) else {
+    let Size::Of(_) = number(9216) else {
         return false;
     };
     let mut image = [0u8; 33792];
