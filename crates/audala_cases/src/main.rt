@@ -2,6 +2,8 @@
 use libc::STDIN_FILENO;
 use libc::STDOUT_FILENO;
 use listing::lines;
+ghost use lib.ListN.{length};
+ghost use Rattle.audala_cases.specs.Within.{Within};
 
 // A number that was read and is within its bound.
 enum Size {
@@ -18,7 +20,9 @@ fn fetch(buffer: &mut [u8], n: usize) -> bool {
 }
 
 // A number of four bytes, at most so large.
-fn number(most: usize) -> Size {
+fn number(most: usize) -> Size
+    ensures { λ r. ⌜ Within most r ⌝ }
+{
     let mut b = [0u8; 4];
     if !fetch(&mut b, 4) {
         return Size::Nothing;
@@ -31,7 +35,9 @@ fn number(most: usize) -> Size {
 }
 
 // A length and so many bytes, into the front of a buffer.
-fn part(buffer: &mut [u8]) -> Size {
+fn part(buffer: &mut [u8]) -> Size
+    ensures { λ r. ⌜ Within (length (now (buffer .exit))) r ⌝ }
+{
     let most = buffer.len();
     let read = number(most);
     let Size::Of(n) = read else {

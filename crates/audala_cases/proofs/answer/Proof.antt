@@ -1,3 +1,5 @@
+use mathlib.Core.Path.{sym}
+use lib.Seq.{length-take-le}
 use borrow.Author.Needs.{needs}
 use Rattle.audala_cases.proofs.answer.Statement.{statement}
 use Rattle.audala_cases.proofs.answer.Tie as tie
@@ -58,7 +60,7 @@ array-share-prefix-text c = search needs
 
 -- src/main.rt:58:34
 slice-aggregate-write-all : tie.Need-slice-aggregate-write-all
-slice-aggregate-write-all c = ?
+slice-aggregate-write-all c = sym (length-take-le _ _ (array-share-prefix-text (c .before)))
 
 -- src/main.rt:58:5
 write-all-requires : tie.Need-write-all-requires

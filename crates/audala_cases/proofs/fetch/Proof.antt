@@ -1,3 +1,5 @@
+use mathlib.Core.Path.{sym}
+use lib.Seq.{length-take-le}
 use borrow.Author.Needs.{needs}
 use Rattle.audala_cases.proofs.fetch.Statement.{statement}
 use Rattle.audala_cases.proofs.fetch.Tie as tie
@@ -15,7 +17,7 @@ slice-relend-prefix-read-full c = search needs
 
 -- src/main.rt:17:33
 slice-aggregate-read-full : tie.Need-slice-aggregate-read-full
-slice-aggregate-read-full c = ?
+slice-aggregate-read-full c = sym (length-take-le _ _ (slice-relend-prefix-read-full (c .before)))
 
 -- src/main.rt:17:5
 read-full-requires : tie.Need-read-full-requires
