@@ -29,7 +29,12 @@ fn answer(image: &[u8]) {
     let mut list = [0u64; 1024];
     let v = checker::check(image, &mut list);
     if v.number == 0 {
-        let head = [v.structs as u64, v.steps as u64, v.commands as u64, v.depth as u64];
+        let head = [
+            v.structs as u64,
+            v.steps as u64,
+            v.commands as u64,
+            v.depth as u64,
+        ];
         accepted(image, &list, &head);
     } else {
         refused(v.number);

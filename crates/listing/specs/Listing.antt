@@ -39,19 +39,33 @@ keyed key v = key ++ decimal v
 -- `rd x`, `wr x`, `cons k`, `if n`, `op o`
 unfoldable pub other-text : ℕ → ℕ → List ℕ
 other-text k v =
-    elim (eqb k 3) [ true ↦ keyed (114 ∷ 100 ∷ 32 ∷ []) v
-    | false ↦ elim (eqb k 4) [ true ↦ keyed (119 ∷ 114 ∷ 32 ∷ []) v
-    | false ↦ elim (eqb k 5) [ true ↦ keyed (99 ∷ 111 ∷ 110 ∷ 115 ∷ 32 ∷ []) v
-    | false ↦ elim (eqb k 6) [ true ↦ keyed (105 ∷ 102 ∷ 32 ∷ []) v
-    | false ↦ keyed (111 ∷ 112 ∷ 32 ∷ []) v ] ] ] ]
+    elim (eqb k 3) [
+      | true ↦ keyed (114 ∷ 100 ∷ 32 ∷ []) v
+      | false ↦ elim (eqb k 4) [
+        | true ↦ keyed (119 ∷ 114 ∷ 32 ∷ []) v
+        | false ↦ elim (eqb k 5) [
+          | true ↦ keyed (99 ∷ 111 ∷ 110 ∷ 115 ∷ 32 ∷ []) v
+          | false ↦ elim (eqb k 6) [
+            | true ↦ keyed (105 ∷ 102 ∷ 32 ∷ []) v
+            | false ↦ keyed (111 ∷ 112 ∷ 32 ∷ []) v
+          ]
+        ]
+      ]
+    ]
 
 -- a command by its kind, type byte and operand: besides these `push this` and `not`
 unfoldable pub parts-text : ℕ → ℕ → ℕ → List ℕ
 parts-text k t v =
-    elim (eqb k 1) [ true ↦ push-text t v
-    | false ↦ elim (eqb k 2) [ true ↦ 112 ∷ 117 ∷ 115 ∷ 104 ∷ 32 ∷ 116 ∷ 104 ∷ 105 ∷ 115 ∷ []
-    | false ↦ elim (eqb k 7) [ true ↦ 110 ∷ 111 ∷ 116 ∷ []
-    | false ↦ other-text k v ] ] ]
+    elim (eqb k 1) [
+      | true ↦ push-text t v
+      | false ↦ elim (eqb k 2) [
+        | true ↦ 112 ∷ 117 ∷ 115 ∷ 104 ∷ 32 ∷ 116 ∷ 104 ∷ 105 ∷ 115 ∷ []
+        | false ↦ elim (eqb k 7) [
+          | true ↦ 110 ∷ 111 ∷ 116 ∷ []
+          | false ↦ other-text k v
+        ]
+      ]
+    ]
 
 -- and by its word
 unfoldable pub text : ℕ → List ℕ

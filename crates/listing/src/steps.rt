@@ -182,7 +182,18 @@ fn all(
 {
     let count = n as usize;
     let end = 8 * count;
-    match structs(s, &counts[..count], &types[..end], 0, n, at, list, 0, out, k) {
+    match structs(
+        s,
+        &counts[..count],
+        &types[..end],
+        0,
+        n,
+        at,
+        list,
+        0,
+        out,
+        k,
+    ) {
         Listed::Stopped => 0,
         Listed::Value(_, _, i) => i,
     }

@@ -1,4 +1,5 @@
-use Prim.Native.Nat.{ℕ, _<_}
+-- `places` meets its contract. The measure is the places that are left.
+use Prim.Native.Nat.{ℕ, _<_, _-_}
 use borrow.Fn.Kinds.{In}
 use borrow.Fn.PlainCycle.{Measures, is, falls, and}
 use Rattle.cases.proofs.places.Reads as places
@@ -7,9 +8,7 @@ use Rattle.cases.proofs.+places.Lts-places as places-lts
 use Rattle.cases.proofs.word.Reads as word-reads
 use Rattle.cases.proofs.+places.{statement}
 use Rattle.cases.proofs.+places.Tie.{close}
-
 use borrow.Author.Needs.{needs}
-use Prim.Native.Nat.{_-_}
 use lib.ListN.{length}
 use native.Mathlib.Omega.{arith}
 use mathlib.Core.Path.{_∙_, sym}
@@ -24,7 +23,6 @@ places-at t = and 1 places-kinds.ps (is 1 places-kinds.ps μ-places t) places.Pr
 abbrev places-below : ℕ → In 1 places-kinds.ps
 places-below t = and 1 places-kinds.ps (falls 1 places-kinds.ps _<_ μ-places t) places.Pre
 
--- src/lib.rt:46:9
 places-returns : (t : ℕ) → places-lts.Need-returns (
   word-reads.Asked,
   word-reads.Learnt,
@@ -33,7 +31,6 @@ places-returns : (t : ℕ) → places-lts.Need-returns (
 ) (places-at t) places.Post
 places-returns t c = let a = (c .before .before .args) in sym (list-none (a .list .now) (a .i) (a .h) ((c .if1) .taken))
 
--- src/lib.rt:48:24
 places-mul-word : (t : ℕ) → places-lts.Need-mul-word (
   word-reads.Asked,
   word-reads.Learnt,
@@ -42,7 +39,6 @@ places-mul-word : (t : ℕ) → places-lts.Need-mul-word (
 ) (places-at t) places.Post
 places-mul-word t c = search needs
 
--- src/lib.rt:48:24
 places-shared-slice-read-word : (t : ℕ) → places-lts.Need-shared-slice-read-word (
   word-reads.Asked,
   word-reads.Learnt,
@@ -51,7 +47,6 @@ places-shared-slice-read-word : (t : ℕ) → places-lts.Need-shared-slice-read-
 ) (places-at t) places.Post
 places-shared-slice-read-word t c = omega (arith, (c .before .if1) .left)
 
--- src/lib.rt:48:9
 places-word-requires : (t : ℕ) → places-lts.Need-word-requires (
   word-reads.Asked,
   word-reads.Learnt,
@@ -60,7 +55,6 @@ places-word-requires : (t : ℕ) → places-lts.Need-word-requires (
 ) (places-at t) places.Post
 places-word-requires t c κs = (c .before .before .before .pre) .1
 
--- src/lib.rt:49:24
 places-add-places : (t : ℕ) → places-lts.Need-add-places (
   word-reads.Asked,
   word-reads.Learnt,
@@ -69,7 +63,6 @@ places-add-places : (t : ℕ) → places-lts.Need-add-places (
 ) (places-at t) places.Post
 places-add-places t c = omega (arith, (c .before .before .if1) .left)
 
--- src/lib.rt:49:5
 places-places-requires : (t : ℕ) → places-lts.Need-places-requires (
   word-reads.Asked,
   word-reads.Learnt,
@@ -78,7 +71,6 @@ places-places-requires : (t : ℕ) → places-lts.Need-places-requires (
 ) (places-at t) places.Post
 places-places-requires t c κs = (omega (arith, (c .before .before .before .before .pre), (c .before .before .if1) .left), (c .word) .ensures .1)
 
--- src/lib.rt:41:1
 places-returns-2 : (t : ℕ) → places-lts.Need-returns-2 (
   word-reads.Asked,
   word-reads.Learnt,

@@ -1,3 +1,4 @@
+-- `word` meets its contract. The measure is the bytes that are left.
 use Prim.Native.Nat.{ℕ, _<_}
 use borrow.Fn.Kinds.{In}
 use borrow.Fn.PlainCycle.{Measures, is, falls, and}
@@ -7,7 +8,6 @@ use Rattle.cases.proofs.+word.Lts-word as word-lts
 use Rattle.cases.proofs.digested.Reads as digested-reads
 use Rattle.cases.proofs.+word.{statement}
 use Rattle.cases.proofs.+word.Tie.{close}
-
 use native.Mathlib.Omega.{arith}
 use mathlib.Core.Path.{_∙_, sym}
 use Rattle.cases.specs.CasesLaws.{word-none, word-more}
@@ -21,7 +21,6 @@ word-at t = and 0 word-kinds.ps (is 0 word-kinds.ps μ-word t) word.Pre
 abbrev word-below : ℕ → In 0 word-kinds.ps
 word-below t = and 0 word-kinds.ps (falls 0 word-kinds.ps _<_ μ-word t) word.Pre
 
--- src/lib.rt:34:9
 word-returns : (t : ℕ) → word-lts.Need-returns (
   digested-reads.Asked,
   digested-reads.Learnt,
@@ -30,7 +29,6 @@ word-returns : (t : ℕ) → word-lts.Need-returns (
 ) (word-at t) word.Post
 word-returns t c = (sym (word-none _ _ _ ((c .if1) .taken)), (c .before .pre) .1)
 
--- src/lib.rt:36:9
 word-digested-requires : (t : ℕ) → word-lts.Need-digested-requires (
   digested-reads.Asked,
   digested-reads.Learnt,
@@ -39,7 +37,6 @@ word-digested-requires : (t : ℕ) → word-lts.Need-digested-requires (
 ) (word-at t) word.Post
 word-digested-requires t c κs = ((c .before .pre) .1, omega arith)
 
--- src/lib.rt:37:25
 word-sub-word : (t : ℕ) → word-lts.Need-sub-word (
   digested-reads.Asked,
   digested-reads.Learnt,
@@ -48,7 +45,6 @@ word-sub-word : (t : ℕ) → word-lts.Need-sub-word (
 ) (word-at t) word.Post
 word-sub-word t c = omega (arith, (c .before .if1) .left)
 
--- src/lib.rt:37:5
 word-word-requires : (t : ℕ) → word-lts.Need-word-requires (
   digested-reads.Asked,
   digested-reads.Learnt,
@@ -57,7 +53,6 @@ word-word-requires : (t : ℕ) → word-lts.Need-word-requires (
 ) (word-at t) word.Post
 word-word-requires t c κs = (omega (arith, (c .before .before .pre), (c .before .if1) .left), (c .digested) .ensures .1)
 
--- src/lib.rt:29:1
 word-returns-2 : (t : ℕ) → word-lts.Need-returns-2 (
   digested-reads.Asked,
   digested-reads.Learnt,

@@ -1,4 +1,5 @@
-use Prim.Native.Nat.{ℕ, _<_}
+-- `lines::tail` meets its contract. The measure is the numbers that are left.
+use Prim.Native.Nat.{ℕ, _<_, _-_}
 use borrow.Fn.Kinds.{In}
 use borrow.Fn.PlainCycle.{Measures, is, falls, and}
 use Rattle.listing.proofs.lines.tail.Reads as tail
@@ -8,13 +9,11 @@ use Rattle.listing.proofs.text.byte.Reads as byte-reads
 use Rattle.listing.proofs.text.decimal.Reads as decimal-reads
 use Rattle.listing.proofs.lines.+tail.{statement}
 use Rattle.listing.proofs.lines.+tail.Tie.{close}
-
 use borrow.Author.Needs.{needs}
-use Prim.Native.Nat.{_+_, _*_, _-_, _≤_}
 use native.Mathlib.Omega.{arith}
 use mathlib.Core.Path.{_∙_, ap}
 use lib.ListN.{length}
-use Rattle.listing.specs.ListingLaws.{drop-next, drop-end, tail-end, tail-next, placed-as, placed-on}
+use Rattle.listing.specs.ListingLaws.{drop-next, tail-end, tail-next, placed-as, placed-on}
 
 abbrev μ-tail : Measures 2 tail-kinds.ps ℕ
 μ-tail κs a = length (a .1 .1 .0 .now) - a .1 .1 .1 .0
@@ -25,7 +24,6 @@ tail-at t = and 2 tail-kinds.ps (is 2 tail-kinds.ps μ-tail t) tail.Pre
 abbrev tail-below : ℕ → In 2 tail-kinds.ps
 tail-below t = and 2 tail-kinds.ps (falls 2 tail-kinds.ps _<_ μ-tail t) tail.Pre
 
--- src/lines.rt:41:9
 tail-byte-requires : (t : ℕ) → tail-lts.Need-byte-requires (
   byte-reads.Asked,
   byte-reads.Learnt,
@@ -36,7 +34,6 @@ tail-byte-requires : (t : ℕ) → tail-lts.Need-byte-requires (
 ) (tail-at t) tail.Post
 tail-byte-requires t c κs = omega (arith, (c .before .before .before .before .pre))
 
--- src/lines.rt:41:9
 tail-same-length : (t : ℕ) → tail-lts.Need-same-length (
   byte-reads.Asked,
   byte-reads.Learnt,
@@ -47,7 +44,6 @@ tail-same-length : (t : ℕ) → tail-lts.Need-same-length (
 ) (tail-at t) tail.Post
 tail-same-length t c = (c .before .before .byte) .kept .0
 
--- src/lines.rt:41:9
 tail-returns : (t : ℕ) → tail-lts.Need-returns (
   byte-reads.Asked,
   byte-reads.Learnt,
@@ -58,7 +54,6 @@ tail-returns : (t : ℕ) → tail-lts.Need-returns (
 ) (tail-at t) tail.Post
 tail-returns t c = (placed-as (tail-end _ _ ((c .before .before .before .before .if1) .taken)) ((c .before .before .byte) .ensures), omega (arith, (c .before .before .byte) .ensures .end))
 
--- src/lines.rt:43:9
 tail-byte-requires-2 : (t : ℕ) → tail-lts.Need-byte-requires-2 (
   byte-reads.Asked,
   byte-reads.Learnt,
@@ -69,7 +64,6 @@ tail-byte-requires-2 : (t : ℕ) → tail-lts.Need-byte-requires-2 (
 ) (tail-at t) tail.Post
 tail-byte-requires-2 t c κs = omega (arith, (c .before .before .before .before .pre))
 
--- src/lines.rt:44:29
 tail-mul-decimal : (t : ℕ) → tail-lts.Need-mul-decimal (
   byte-reads.Asked,
   byte-reads.Learnt,
@@ -80,7 +74,6 @@ tail-mul-decimal : (t : ℕ) → tail-lts.Need-mul-decimal (
 ) (tail-at t) tail.Post
 tail-mul-decimal t c = search needs
 
--- src/lines.rt:44:29
 tail-shared-slice-read-decimal : (t : ℕ) → tail-lts.Need-shared-slice-read-decimal (
   byte-reads.Asked,
   byte-reads.Learnt,
@@ -91,7 +84,6 @@ tail-shared-slice-read-decimal : (t : ℕ) → tail-lts.Need-shared-slice-read-d
 ) (tail-at t) tail.Post
 tail-shared-slice-read-decimal t c = omega (arith, (c .before .before .before .before .before .before .if1) .left)
 
--- src/lines.rt:44:9
 tail-decimal-requires : (t : ℕ) → tail-lts.Need-decimal-requires (
   byte-reads.Asked,
   byte-reads.Learnt,
@@ -102,7 +94,6 @@ tail-decimal-requires : (t : ℕ) → tail-lts.Need-decimal-requires (
 ) (tail-at t) tail.Post
 tail-decimal-requires t c κs = omega (arith, (c .before .before .before .before .before .before .before .before .before .pre), (c .before .before .before .before .byte2) .ensures .end, (c .before .before .before .before .byte2) .kept .0, ap length (drop-next ((c .before .before .before .before .before .before .before .before .before .args) .ns .now) ((c .before .before .before .before .before .before .before .before .before .args) .i) ((c .before .before .before .before .before .before .if1) .left)))
 
--- src/lines.rt:45:22
 tail-add-tail : (t : ℕ) → tail-lts.Need-add-tail (
   byte-reads.Asked,
   byte-reads.Learnt,
@@ -113,7 +104,6 @@ tail-add-tail : (t : ℕ) → tail-lts.Need-add-tail (
 ) (tail-at t) tail.Post
 tail-add-tail t c = omega (arith, (c .before .before .before .before .before .before .before .before .before .before .if1) .left)
 
--- src/lines.rt:45:5
 tail-tail-requires : (t : ℕ) → tail-lts.Need-tail-requires (
   byte-reads.Asked,
   byte-reads.Learnt,
@@ -124,7 +114,6 @@ tail-tail-requires : (t : ℕ) → tail-lts.Need-tail-requires (
 ) (tail-at t) tail.Post
 tail-tail-requires t c κs = (omega (arith, (c .before .before .before .before .before .before .before .before .before .before .before .before .before .pre), (c .before .before .before .before .before .before .before .before .before .before .if1) .left), omega (arith, (c .before .before .before .before .before .before .before .before .before .before .before .before .before .pre), (c .before .before .before .before .before .before .before .before .byte2) .ensures .end, (c .before .before .before .decimal) .ensures .1, (c .before .before .before .before .before .before .before .before .byte2) .kept .0, (c .before .before .before .decimal) .kept .0, ap length (drop-next ((c .before .before .before .before .before .before .before .before .before .before .before .before .before .args) .ns .now) ((c .before .before .before .before .before .before .before .before .before .before .before .before .before .args) .i) ((c .before .before .before .before .before .before .before .before .before .before .if1) .left))))
 
--- src/lines.rt:35:1
 tail-same-length-2 : (t : ℕ) → tail-lts.Need-same-length-2 (
   byte-reads.Asked,
   byte-reads.Learnt,
@@ -135,7 +124,6 @@ tail-same-length-2 : (t : ℕ) → tail-lts.Need-same-length-2 (
 ) (tail-at t) tail.Post
 tail-same-length-2 t c = (c .before .before .tail) .kept .0 ∙ ((c .before .before .before .before .before .before .decimal) .kept .0 ∙ (c .before .before .before .before .before .before .before .before .before .before .before .byte2) .kept .0)
 
--- src/lines.rt:35:1
 tail-returns-2 : (t : ℕ) → tail-lts.Need-returns-2 (
   byte-reads.Asked,
   byte-reads.Learnt,

@@ -1,3 +1,4 @@
+-- `steps::commands` is safe: each line takes at most 111 bytes. The measure is the commands that are left.
 use Prim.Native.Nat.{ℕ, _<_}
 use borrow.Fn.Kinds.{In}
 use borrow.Fn.PlainCycle.{Measures, is, falls, and}
@@ -7,11 +8,9 @@ use Rattle.listing.proofs.steps.+commands.Lts-commands as commands-lts
 use Rattle.listing.proofs.lines.line.Reads as line-reads
 use Rattle.listing.proofs.steps.+commands.{statement}
 use Rattle.listing.proofs.steps.+commands.Tie.{close}
-
 use borrow.Author.Needs.{needs}
-use Prim.Native.Nat.{_+_, _*_, _-_, _≤_}
 use native.Mathlib.Omega.{arith}
-use mathlib.Core.Path.{_∙_, ap}
+use mathlib.Core.Path.{_∙_}
 
 abbrev μ-commands : Measures 2 commands-kinds.ps ℕ
 μ-commands κs a = a .1 .1 .0
@@ -23,7 +22,6 @@ abbrev commands-below : ℕ → In 2 commands-kinds.ps
 commands-below t =
     and 2 commands-kinds.ps (falls 2 commands-kinds.ps _<_ μ-commands t) commands.Pre
 
--- src/steps.rt:33:9
 commands-returns : (t : ℕ) → commands-lts.Need-returns (
   line-reads.Asked,
   line-reads.Learnt,
@@ -32,7 +30,6 @@ commands-returns : (t : ℕ) → commands-lts.Need-returns (
 ) (commands-at t) commands.Post
 commands-returns t c = omega arith
 
--- src/steps.rt:35:46
 commands-mul-line : (t : ℕ) → commands-lts.Need-mul-line (
   line-reads.Asked,
   line-reads.Learnt,
@@ -41,7 +38,6 @@ commands-mul-line : (t : ℕ) → commands-lts.Need-mul-line (
 ) (commands-at t) commands.Post
 commands-mul-line t c = search needs
 
--- src/steps.rt:35:46
 commands-shared-slice-read-line : (t : ℕ) → commands-lts.Need-shared-slice-read-line (
   line-reads.Asked,
   line-reads.Learnt,
@@ -50,7 +46,6 @@ commands-shared-slice-read-line : (t : ℕ) → commands-lts.Need-shared-slice-r
 ) (commands-at t) commands.Post
 commands-shared-slice-read-line t c = omega (arith, (c .before .before .before .before .before .pre), (c .before .before .if1) .left)
 
--- src/steps.rt:35:9
 commands-line-requires : (t : ℕ) → commands-lts.Need-line-requires (
   line-reads.Asked,
   line-reads.Learnt,
@@ -59,7 +54,6 @@ commands-line-requires : (t : ℕ) → commands-lts.Need-line-requires (
 ) (commands-at t) commands.Post
 commands-line-requires t c κs = omega (arith, (c .before .before .before .before .before .pre), (c .before .before .if1) .left)
 
--- src/steps.rt:36:20
 commands-add-commands : (t : ℕ) → commands-lts.Need-add-commands (
   line-reads.Asked,
   line-reads.Learnt,
@@ -68,7 +62,6 @@ commands-add-commands : (t : ℕ) → commands-lts.Need-add-commands (
 ) (commands-at t) commands.Post
 commands-add-commands t c = omega (arith, (c .before .before .before .before .before .before .before .before .pre), (c .before .before .before .before .before .if1) .left)
 
--- src/steps.rt:36:31
 commands-sub-commands : (t : ℕ) → commands-lts.Need-sub-commands (
   line-reads.Asked,
   line-reads.Learnt,
@@ -77,7 +70,6 @@ commands-sub-commands : (t : ℕ) → commands-lts.Need-sub-commands (
 ) (commands-at t) commands.Post
 commands-sub-commands t c = omega (arith, (c .before .before .before .before .before .before .before .before .pre), (c .before .before .before .before .before .if1) .left)
 
--- src/steps.rt:36:48
 commands-add-commands-2 : (t : ℕ) → commands-lts.Need-add-commands-2 (
   line-reads.Asked,
   line-reads.Learnt,
@@ -86,7 +78,6 @@ commands-add-commands-2 : (t : ℕ) → commands-lts.Need-add-commands-2 (
 ) (commands-at t) commands.Post
 commands-add-commands-2 t c = omega (arith, (c .before .before .before .before .before .before .before .before .pre), (c .before .before .before .before .before .if1) .left)
 
--- src/steps.rt:36:5
 commands-commands-requires : (t : ℕ) → commands-lts.Need-commands-requires (
   line-reads.Asked,
   line-reads.Learnt,
@@ -95,7 +86,6 @@ commands-commands-requires : (t : ℕ) → commands-lts.Need-commands-requires (
 ) (commands-at t) commands.Post
 commands-commands-requires t c κs = (omega (arith, (c .before .before .before .before .before .before .before .before .before .pre), (c .before .before .before .before .before .before .if1) .left), (omega (arith, (c .before .before .before .before .before .before .before .before .before .pre), (c .before .before .before .before .before .before .if1) .left), omega (arith, (c .before .before .before .before .before .before .before .before .before .pre), (c .before .before .before .before .before .before .if1) .left, (c .before .before .before .line) .ensures .1, (c .before .before .before .line) .kept .0), omega (arith, (c .before .before .before .before .before .before .before .before .before .pre), (c .before .before .before .before .before .before .if1) .left)))
 
--- src/steps.rt:19:1
 commands-same-length : (t : ℕ) → commands-lts.Need-same-length (
   line-reads.Asked,
   line-reads.Learnt,
@@ -104,7 +94,6 @@ commands-same-length : (t : ℕ) → commands-lts.Need-same-length (
 ) (commands-at t) commands.Post
 commands-same-length t c = (c .before .before .commands) .kept .1 .1 .1 .1 .1 .1 .0 ∙ (c .before .before .before .before .before .before .line) .kept .0
 
--- src/steps.rt:19:1
 commands-returns-2 : (t : ℕ) → commands-lts.Need-returns-2 (
   line-reads.Asked,
   line-reads.Learnt,

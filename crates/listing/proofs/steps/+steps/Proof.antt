@@ -1,3 +1,4 @@
+-- `steps::steps` is safe: what is written stays within the list and the text. The measure is the steps that are left.
 use Prim.Native.Nat.{ℕ, _<_}
 use borrow.Fn.Kinds.{In}
 use borrow.Fn.PlainCycle.{Measures, is, falls, and}
@@ -7,10 +8,9 @@ use Rattle.listing.proofs.steps.+steps.Lts-steps as steps-lts
 use Rattle.listing.proofs.steps.step.Reads as step-reads
 use Rattle.listing.proofs.steps.+steps.{statement}
 use Rattle.listing.proofs.steps.+steps.Tie.{close}
-
 use borrow.Author.Needs.{needs}
 use native.Mathlib.Omega.{arith}
-use mathlib.Core.Path.{_∙_, subst}
+use mathlib.Core.Path.{subst}
 use Rattle.listing.specs.Walk.{Span, span-as}
 
 abbrev μ-steps : Measures 5 steps-kinds.ps ℕ
@@ -22,7 +22,6 @@ steps-at t = and 5 steps-kinds.ps (is 5 steps-kinds.ps μ-steps t) steps.Pre
 abbrev steps-below : ℕ → In 5 steps-kinds.ps
 steps-below t = and 5 steps-kinds.ps (falls 5 steps-kinds.ps _<_ μ-steps t) steps.Pre
 
--- src/steps.rt:108:9
 steps-returns : (t : ℕ) → steps-lts.Need-returns (
   step-reads.Asked,
   step-reads.Learnt,
@@ -31,7 +30,6 @@ steps-returns : (t : ℕ) → steps-lts.Need-returns (
 ) (steps-at t) steps.Post
 steps-returns t c = search needs
 
--- src/steps.rt:110:11
 steps-step-requires : (t : ℕ) → steps-lts.Need-step-requires (
   step-reads.Asked,
   step-reads.Learnt,
@@ -40,7 +38,6 @@ steps-step-requires : (t : ℕ) → steps-lts.Need-step-requires (
 ) (steps-at t) steps.Post
 steps-step-requires t c κs = ((c .before .before .before .before .before .before .before .pre) .1 .0, (c .before .before .before .before .before .before .before .pre) .1 .1)
 
--- src/steps.rt:111:28
 steps-enum-told : (t : ℕ) → steps-lts.Need-enum-told (
   step-reads.Asked,
   step-reads.Learnt,
@@ -49,7 +46,6 @@ steps-enum-told : (t : ℕ) → steps-lts.Need-enum-told (
 ) (steps-at t) steps.Post
 steps-enum-told t c = search needs
 
--- src/steps.rt:112:23
 steps-enum-known-m : (t : ℕ) → steps-lts.Need-enum-known-m (
   step-reads.Asked,
   step-reads.Learnt,
@@ -58,7 +54,6 @@ steps-enum-known-m : (t : ℕ) → steps-lts.Need-enum-known-m (
 ) (steps-at t) steps.Post
 steps-enum-known-m t c = search needs
 
--- src/steps.rt:112:59
 steps-sub-steps : (t : ℕ) → steps-lts.Need-sub-steps (
   step-reads.Asked,
   step-reads.Learnt,
@@ -67,7 +62,6 @@ steps-sub-steps : (t : ℕ) → steps-lts.Need-sub-steps (
 ) (steps-at t) steps.Post
 steps-sub-steps t c = omega (arith, (c .before .before .before .before .before .before .before .if1) .left)
 
--- src/steps.rt:112:35
 steps-steps-requires : (t : ℕ) → steps-lts.Need-steps-requires (
   step-reads.Asked,
   step-reads.Learnt,
@@ -76,7 +70,6 @@ steps-steps-requires : (t : ℕ) → steps-lts.Need-steps-requires (
 ) (steps-at t) steps.Post
 steps-steps-requires t c κs = let h = subst (Span _ _) ((c .before .before .m) .given .1) ((c .before .before .before .before .before .before .step) .ensures) in (omega (arith, (c .before .before .before .before .before .before .before .before .if1) .left, (c .before .before .before .before .before .before .before .before .before .before .before .before .before .before .pre)), ((c .before .before .before .before .before .before .before .before .before .before .before .before .before .before .pre) .1 .0, (h .0, omega (arith, h .1, (c .before .before .before .before .before .before .step) .kept .1 .1 .1 .1 .1 .1 .1 .0))))
 
--- src/steps.rt:91:1
 steps-same-length : (t : ℕ) → steps-lts.Need-same-length (
   step-reads.Asked,
   step-reads.Learnt,
@@ -85,7 +78,6 @@ steps-same-length : (t : ℕ) → steps-lts.Need-same-length (
 ) (steps-at t) steps.Post
 steps-same-length t c = search needs
 
--- src/steps.rt:91:1
 steps-returns-2 : (t : ℕ) → steps-lts.Need-returns-2 (
   step-reads.Asked,
   step-reads.Learnt,
@@ -94,7 +86,6 @@ steps-returns-2 : (t : ℕ) → steps-lts.Need-returns-2 (
 ) (steps-at t) steps.Post
 steps-returns-2 t c = search needs
 
--- src/steps.rt:91:1
 steps-same-length-2 : (t : ℕ) → steps-lts.Need-same-length-2 (
   step-reads.Asked,
   step-reads.Learnt,
@@ -103,7 +94,6 @@ steps-same-length-2 : (t : ℕ) → steps-lts.Need-same-length-2 (
 ) (steps-at t) steps.Post
 steps-same-length-2 t c = search needs
 
--- src/steps.rt:91:1
 steps-returns-3 : (t : ℕ) → steps-lts.Need-returns-3 (
   step-reads.Asked,
   step-reads.Learnt,

@@ -1,3 +1,4 @@
+-- `steps::structs` is safe: what is written stays within the list and the text. The measure is the structs that are left.
 use Prim.Native.Nat.{ℕ, _<_}
 use borrow.Fn.Kinds.{In}
 use borrow.Fn.PlainCycle.{Measures, is, falls, and}
@@ -7,10 +8,9 @@ use Rattle.listing.proofs.steps.+structs.Lts-structs as structs-lts
 use Rattle.listing.proofs.steps.of_struct.Reads as of-struct-reads
 use Rattle.listing.proofs.steps.+structs.{statement}
 use Rattle.listing.proofs.steps.+structs.Tie.{close}
-
 use borrow.Author.Needs.{needs}
 use native.Mathlib.Omega.{arith}
-use mathlib.Core.Path.{_∙_, subst}
+use mathlib.Core.Path.{subst}
 use Rattle.listing.specs.Walk.{Span, span-as}
 
 abbrev μ-structs : Measures 5 structs-kinds.ps ℕ
@@ -22,7 +22,6 @@ structs-at t = and 5 structs-kinds.ps (is 5 structs-kinds.ps μ-structs t) struc
 abbrev structs-below : ℕ → In 5 structs-kinds.ps
 structs-below t = and 5 structs-kinds.ps (falls 5 structs-kinds.ps _<_ μ-structs t) structs.Pre
 
--- src/steps.rt:156:9
 structs-returns : (t : ℕ) → structs-lts.Need-returns (
   of-struct-reads.Asked,
   of-struct-reads.Learnt,
@@ -31,7 +30,6 @@ structs-returns : (t : ℕ) → structs-lts.Need-returns (
 ) (structs-at t) structs.Post
 structs-returns t c = search needs
 
--- src/steps.rt:158:11
 structs-of-struct-requires : (t : ℕ) → structs-lts.Need-of-struct-requires (
   of-struct-reads.Asked,
   of-struct-reads.Learnt,
@@ -40,7 +38,6 @@ structs-of-struct-requires : (t : ℕ) → structs-lts.Need-of-struct-requires (
 ) (structs-at t) structs.Post
 structs-of-struct-requires t c κs = (((c .before .before .before .before .before .before .before .pre) .1 .0 .0, omega (arith, (c .before .if1) .left, (c .before .before .before .before .before .before .before .pre))), (c .before .before .before .before .before .before .before .pre) .1 .1)
 
--- src/steps.rt:159:28
 structs-enum-told : (t : ℕ) → structs-lts.Need-enum-told (
   of-struct-reads.Asked,
   of-struct-reads.Learnt,
@@ -49,7 +46,6 @@ structs-enum-told : (t : ℕ) → structs-lts.Need-enum-told (
 ) (structs-at t) structs.Post
 structs-enum-told t c = search needs
 
--- src/steps.rt:160:23
 structs-enum-known-m : (t : ℕ) → structs-lts.Need-enum-known-m (
   of-struct-reads.Asked,
   of-struct-reads.Learnt,
@@ -58,7 +54,6 @@ structs-enum-known-m : (t : ℕ) → structs-lts.Need-enum-known-m (
 ) (structs-at t) structs.Post
 structs-enum-known-m t c = search needs
 
--- src/steps.rt:160:57
 structs-add-structs : (t : ℕ) → structs-lts.Need-add-structs (
   of-struct-reads.Asked,
   of-struct-reads.Learnt,
@@ -67,7 +62,6 @@ structs-add-structs : (t : ℕ) → structs-lts.Need-add-structs (
 ) (structs-at t) structs.Post
 structs-add-structs t c = omega (arith, (c .before .before .before .before .before .before .before .if1) .left, (c .before .before .before .before .before .before .before .before .before .before .before .before .before .pre))
 
--- src/steps.rt:160:65
 structs-sub-structs : (t : ℕ) → structs-lts.Need-sub-structs (
   of-struct-reads.Asked,
   of-struct-reads.Learnt,
@@ -76,7 +70,6 @@ structs-sub-structs : (t : ℕ) → structs-lts.Need-sub-structs (
 ) (structs-at t) structs.Post
 structs-sub-structs t c = omega (arith, (c .before .before .before .before .before .before .before .if1) .left, (c .before .before .before .before .before .before .before .before .before .before .before .before .before .pre))
 
--- src/steps.rt:160:35
 structs-structs-requires : (t : ℕ) → structs-lts.Need-structs-requires (
   of-struct-reads.Asked,
   of-struct-reads.Learnt,
@@ -85,7 +78,6 @@ structs-structs-requires : (t : ℕ) → structs-lts.Need-structs-requires (
 ) (structs-at t) structs.Post
 structs-structs-requires t c κs = let h = subst (Span _ _) ((c .before .before .m) .given .1) ((c .before .before .before .before .before .before .of-struct) .ensures) in (omega (arith, (c .before .before .before .before .before .before .before .before .if1) .left, (c .before .before .before .before .before .before .before .before .before .before .before .before .before .before .pre)), (((c .before .before .before .before .before .before .before .before .before .before .before .before .before .before .pre) .1 .0 .0, omega (arith, (c .before .before .before .before .before .before .before .before .if1) .left, (c .before .before .before .before .before .before .before .before .before .before .before .before .before .before .pre))), (h .0, omega (arith, h .1, (c .before .before .before .before .before .before .of-struct) .kept .1 .1 .1 .1 .1 .1 .1 .0))))
 
--- src/steps.rt:139:1
 structs-same-length : (t : ℕ) → structs-lts.Need-same-length (
   of-struct-reads.Asked,
   of-struct-reads.Learnt,
@@ -94,7 +86,6 @@ structs-same-length : (t : ℕ) → structs-lts.Need-same-length (
 ) (structs-at t) structs.Post
 structs-same-length t c = search needs
 
--- src/steps.rt:139:1
 structs-returns-2 : (t : ℕ) → structs-lts.Need-returns-2 (
   of-struct-reads.Asked,
   of-struct-reads.Learnt,
@@ -103,7 +94,6 @@ structs-returns-2 : (t : ℕ) → structs-lts.Need-returns-2 (
 ) (structs-at t) structs.Post
 structs-returns-2 t c = search needs
 
--- src/steps.rt:139:1
 structs-same-length-2 : (t : ℕ) → structs-lts.Need-same-length-2 (
   of-struct-reads.Asked,
   of-struct-reads.Learnt,
@@ -112,7 +102,6 @@ structs-same-length-2 : (t : ℕ) → structs-lts.Need-same-length-2 (
 ) (structs-at t) structs.Post
 structs-same-length-2 t c = search needs
 
--- src/steps.rt:139:1
 structs-returns-3 : (t : ℕ) → structs-lts.Need-returns-3 (
   of-struct-reads.Asked,
   of-struct-reads.Learnt,
