@@ -21,7 +21,6 @@ pub mod ConsKept
 pub mod CommandKept
 pub mod MoveKept
 pub mod BeginGood
-pub mod FuelLaws
 pub mod HolderLaws
 pub mod ConditionLaws
 pub mod SettleLaws
