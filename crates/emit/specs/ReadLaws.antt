@@ -2,11 +2,14 @@
 use Prim.Native.Nat.{ℕ, zero, suc, _+_, _-_, _<_}
 use native.Mathlib.Numerals.{sub-one}
 use mathlib.Core.Path.{_≡_, refl, _∙_}
+use mathlib.Core.Bool.{Bool, true, false}
 use mathlib.Core.List.{List, [], _∷_}
 use lib.ListN.{length, getD}
-use Rattle.program.specs.Reader.{Result, Result.ok, Result.bad, then, pair, made, many, byte, ranged, counted, opened}
+use lib.Dec.{ltb}
+use borrow.Author.Tests.{ltb-true}
+use Rattle.program.specs.Reader.{Result, Result.ok, Result.bad, wrong-end, then, pair, made, many, byte, ranged, counted, opened}
 use Rattle.program.specs.Exact.{Stands, Stands.done, Stands.letter}
-use Rattle.program.specs.PartLaws.{told-is, then-ok, byte-exact}
+use Rattle.program.specs.PartLaws.{told-is, then-ok}
 use Rattle.program.specs.JoinLaws.{Within, ranged-exact}
 use Rattle.emit.specs.Written.{Good}
 
@@ -59,12 +62,13 @@ many-none z c r n at e = rw e
 
 -- of a byte
 pub byte-value : (s : List ℕ) (at : ℕ) → Good (byte s at) → (at < length s) × (byte s at ≡ ok (getD s at 0) (at + 1))
-byte-value s at g =
-    let v = value (byte s at) g in
-    go (v .0) (v .1) (v .2) (told-is (byte-exact .sound s at) (v .2) .1)
+unfolding byte
+byte-value s at g = go (ltb at (length s)) refl g
   where
-    go : (b m : ℕ) → byte s at ≡ ok b m → Stands s at (b ∷ []) m → (at < length s) × (byte s at ≡ ok (getD s at 0) (at + 1))
-    go b m e (letter h f done) = (h, e ∙ rw f)
+    go : (t : Bool) → ltb at (length s) ≡ t → Good {A = ℕ} (elim t [ true ↦ ok (getD s at 0) (at + 1) | false ↦ bad at wrong-end ])
+        → (at < length s) × (_≡_ {A = Result ℕ} (elim t [ true ↦ ok (getD s at 0) (at + 1) | false ↦ bad at wrong-end ]) (ok (getD s at 0) (at + 1)))
+    go true h g = (ltb-true at (length s) h, refl)
+    go false h g = absurd g
 
 -- of a byte of a range
 pub ranged-value : (s : List ℕ) (lo hi at : ℕ) → Good (ranged s lo hi at)
