@@ -4,6 +4,8 @@ pub mod Accepted
 pub mod Invariant
 pub mod Conditions
 pub mod NeverStuck
+pub mod After
+pub mod Exhibits
 pub mod ElemLaws
 pub mod EachLaws
 pub mod Keeps
@@ -25,4 +27,5 @@ pub mod HolderLaws
 pub mod ConditionLaws
 pub mod SettleLaws
 pub mod NeverStuckLaws
+pub mod ExhibitAccepted
 pub mod Statements
