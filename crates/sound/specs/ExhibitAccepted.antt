@@ -10,12 +10,11 @@ use lib.ListN.{length, drop, getElem?, replicate}
 use lib.IntN.{pos}
 use Rattle.types.specs.Types.{Ty.int, Ty.bool, Ty.ref}
 use Rattle.types.specs.Values.{Val, Val.int-val, Val.bool-val, Val.label}
-use Rattle.program.specs.Tree.{Var.par, Expr.path, Expr.int-lit, Expr.bool-lit, Expr.self, Exprs.none, Exprs.more, Stmt.when, Stmt.update, Stmt.create, Stmts, Stmts.end, Stmts.next, Item.call, Item.fix, Items.stop, Items.item, Program}
+use Rattle.program.specs.Tree.{Var.par, Expr.path, Expr.int-lit, Expr.bool-lit, Expr.self, Exprs.none, Exprs.more, Stmt.when, Stmt.update, Stmt.create, Stmts, Stmts.end, Stmts.next, Item.call, Item.fix, Items.stop, Items.item, Program, args, size, items}
 use Rattle.program.specs.Encoding.{enc-path, enc-expr, enc-exprs, enc-stmt, enc-stmts, enc-item, enc-items, enc-step, enc-program}
 use Rattle.program.specs.Reader.{Result.ok, read}
 use Rattle.program.specs.ProgramLaws.{program-law}
-use Rattle.program.specs.Tree.{args, size, items}
-use Rattle.commands.specs.Noted.{Note, Note.n-this, Note.n-wr, Note.n-cons, Note.n-if}
+use Rattle.commands.specs.Noted.{Note, Note.n-wr, Note.n-cons, Note.n-if}
 use Rattle.commands.specs.Numbers.{accepted, program-number}
 use Rattle.commands.specs.NumbersLaws.{number-accepted}
 use Rattle.table.specs.Table.{Record, struct-at, HeldTable, References, TableRight}
@@ -72,6 +71,7 @@ settling-accepted =
     let a = number-accepted settling .0 n in
     (program-law (enc-program settling) settling (length (enc-program settling)) .0 r .0, a .0, a .1, a .2)
 
+-- the table is right for it
 pub table-right : TableRight (settling .params) table
 unfolding HeldTable References struct-at TableRight
 table-right = ((omega arith, ((omega arith, (omega arith, (tt, tt))), tt)), ((tt, (tt, tt)), tt))
@@ -180,3 +180,7 @@ pub ends : (z : Machine) × Visits settling start-machine turns z
     ∷ [])
 unfolding running onward act-on after
 ends = (at-act 35, after-visited settling 35 start-machine turns, refl, refl)
+
+-- so these are the number and the turns that demand 3 speaks of
+pub ends-never-stuck : (accepted-never-stuck .number ≡ ended) × (accepted-never-stuck .turns ≡ 30) × (accepted-never-stuck .last ≡ ends .0)
+ends-never-stuck = let r = accepted-never-stuck .returns in let e = ends .2 in (cc, cc, cc)

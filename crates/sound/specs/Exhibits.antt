@@ -10,11 +10,12 @@ use lib.ListN.{getElem?}
 use lib.IntN.{pos}
 use Rattle.types.specs.Types.{Ty, Ty.int, Ty.bool, Ty.ref}
 use Rattle.types.specs.Values.{Val.int-val, Val.bool-val, Val.label}
-use Rattle.program.specs.Tree.{Program}
+use Rattle.program.specs.Tree.{Stmts, Program}
+use Rattle.program.specs.Counts.{Counts}
 use Rattle.commands.specs.Noted.{Note, Note.n-this, Note.n-not, Note.n-wr, Note.n-get}
 use Rattle.commands.specs.Numbers.{wrong-names, wrong-types, program-number}
-use Rattle.commands.specs.Exhibits.{program, negated, outlived}
-use Rattle.table.specs.Table.{Record}
+use Rattle.commands.specs.Exhibits.{program, negated, outlived, refused-8, refused-7}
+use Rattle.table.specs.Table.{Record, HeldTable, References, TableRight}
 use Rattle.machine.specs.Published.{fresh-env}
 use Rattle.machine.specs.Machine.{Tagged, tagged, Instance, Machine}
 use Rattle.run.specs.Run.{Outcome.jammed, run}
@@ -44,6 +45,15 @@ stuck-refutes {p} s d =
     s .lacks
     (subst (Ready p (s .place) (s .holder) (s .instance)) (s .holds)
     (d .right (s .place) (s .visited) .ready (s .holder) (s .instance) (s .there)))
+
+-- the table without a record is right
+no-record : (b : Stmts) → TableRight (program b .params) []
+unfolding HeldTable References TableRight
+no-record b = ((omega arith, tt), tt)
+
+-- a program with right counts is refused with n; demand 3 fails of a run of it on a right table
+abbrev pub Fails : ℕ → Program → List Record → List ℕ → Type 0
+Fails n p rs es = Counts p × (program-number p ≡ n) × TableRight (p .params) rs × (Demand3 p rs es → ⊥)
 
 -- Refused with 8 -----------------------------------------------------------------
 
@@ -76,9 +86,10 @@ stuck-8 = record {
     apart : (x : Tagged) (χ : List Tagged) → tagged int (int-val (pos 1)) ∷ [] ≡ x ∷ χ → x .by ≡ bool → ⊥
     apart x χ e f = let q : int ≡ x .by = ap top e in let z : _≡_ {A = ℕ} 0 1 = cc in omega arith
 
-pub run-of-8 : (program-number (program negated) ≡ wrong-types) × (Demand3 (program negated) [] (0 ∷ 0 ∷ []) → ⊥)
+-- it is refused with 8, and demand 3 fails of that run
+pub fails-8 : Fails wrong-types (program negated) [] (0 ∷ 0 ∷ [])
 unfolding running
-run-of-8 = (refl, stuck-refutes stuck-8)
+fails-8 = (refused-8 .0 .0, refl, no-record negated, stuck-refutes stuck-8)
 
 -- Refused with 7 -----------------------------------------------------------------
 
@@ -104,6 +115,7 @@ stuck-7 = record {
   jams = refl;
 }
 
-pub run-of-7 : (program-number (program outlived) ≡ wrong-names) × (Demand3 (program outlived) [] (0 ∷ 0 ∷ 0 ∷ 0 ∷ []) → ⊥)
+-- it is refused with 7, and demand 3 fails of that run
+pub fails-7 : Fails wrong-names (program outlived) [] (0 ∷ 0 ∷ 0 ∷ 0 ∷ [])
 unfolding running
-run-of-7 = (refl, stuck-refutes stuck-7)
+fails-7 = (refused-7 .0 .0, refl, no-record outlived, stuck-refutes stuck-7)
