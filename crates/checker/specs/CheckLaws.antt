@@ -1,0 +1,231 @@
+-- What the reader of a program answers gives the verdict and the list (01, 1 to 8 and 13 of 'Numbers from the input').
+use Prim.Native.Nat.{ℕ, zero, suc, _+_, _*_, _<_, _≤_}
+use native.Mathlib.Omega.{arith}
+use native.Mathlib.Nat.{zero-add}
+use mathlib.Core.Path.{_≡_, refl, ap, sym, _∙_}
+use mathlib.Core.List.{List, [], _∷_, _++_, map}
+use lib.ListN.{length, take, drop, length-append, length-map}
+use lib.Seq.{sets, sets-eq, take-at}
+use borrow.Author.Tests.{lt-ltb, le-ltb}
+use Rattle.types.specs.Limits.{max-commands, max-depth, max-steps, program-blocks}
+use Rattle.types.specs.Types.{Ty}
+use Rattle.blocks.specs.Images.{fault, stream, read as image-read, read-into, program-number as block-number}
+use Rattle.blocks.specs.AnswerLaws.{read-says, stream-most}
+use Rattle.blocks.specs.declared.Fault.{Fault}
+use Rattle.blocks.specs.declared.Found.{Found}
+use Rattle.blocks.specs.declared.Found.the-variants.{Right, Wrong}
+use Rattle.blocks.specs.declared.Read.the-variants.{Stream, Refused as ImageRefused, Short as ImageShort}
+use Rattle.program.specs.Tree.{Step, Program}
+use Rattle.program.specs.Encoding.{flat}
+use Rattle.program.specs.Counts.{All, Few, CountsStep, Counts}
+use Rattle.program.specs.Reader.{Result, Result.ok, Result.bad, read-params, read}
+use Rattle.program.specs.ProgramLaws.{program-law}
+use Rattle.commands.specs.Commands.{Flat, commands}
+use Rattle.commands.specs.Coding.{words}
+use Rattle.commands.specs.Bounds.{total, greatest, step-list, step-depth, arities, program-size, program-depth, Within}
+use Rattle.commands.specs.Numbers.{program-number}
+use Rattle.commands.specs.NumbersLaws.{number-accepted}
+use Rattle.facts.specs.ProgramFacts.{program-totals, program-plan, checked-number}
+use Rattle.facts.specs.ProgramFactsLaws.{checked-law, checked-commands, checked-depth, checked-steps}
+use Rattle.plan.specs.ParamsTold.{ParamsKept}
+use Rattle.emit.specs.declared.Put.{Put}
+use Rattle.emit.specs.Written.{Ready, Wrote}
+use Rattle.emit.specs.ProgramWords.{step-words, steps-words, structs-words, structs-at, program-words as emitted-words}
+use Rattle.emit.specs.WordLaws.{words-append}
+use Rattle.emit.specs.ProgramLaws.{program-length, program-steps, program-ready, program-wrote}
+use Rattle.run.specs.Entry.{Checked, Checked.accepted, Checked.refused, judge, of-read, of-image, checked, of-steps, of-structs, program-words, listed, Verdict as Judgement, refusal, approval, no-room, verdict-of, list-of}
+use Rattle.checker.specs.declared.whole.Summary.{Summary}
+use Rattle.checker.specs.declared.whole.ProgramRead.the-variants.{Value, Refused}
+use Rattle.checker.specs.Whole.{summary, place-of, program-told}
+use Rattle.checker.specs.Answer.{answer, counts-verdict, approved}
+
+-- Refusals -----------------------------------------------------------------------------
+
+-- a verdict with its list
+abbrev pub Answers : Checked → List ℕ → Judgement → List ℕ → Type 0
+Answers c list v after = (v ≡ verdict-of c list) × (after ≡ list-of c list)
+
+pub refused-answers : (c : Checked) (n : ℕ) (list : List ℕ) → c ≡ refused n → Answers c list (refusal n) list
+unfolding verdict-of list-of
+refused-answers c n list e = rw e (refl, refl)
+
+pub short-answers : (c : Checked) (p : Program) (list : List ℕ) → c ≡ accepted p → length list < max-commands → Answers c list (refusal 13) list
+unfolding verdict-of list-of
+short-answers c p list e l = rw e (rw (verdict-of, list-of, lt-ltb (length list) max-commands l) (refl, refl))
+
+pub room-answers : (c : Checked) (p : Program) (list : List ℕ) → c ≡ accepted p → max-commands ≤ length list → Answers c list (approval p) (listed p list)
+unfolding verdict-of list-of
+room-answers c p list e l = rw e (rw (verdict-of, list-of, le-ltb (length list) max-commands l) (refl, refl))
+
+-- Counts and words ---------------------------------------------------------------------
+
+total-few : {A : Type 0} (C : A → Type 0) (l : List (List A)) → All (Few 0 max-steps C) l → total length l ≤ max-steps * length l
+unfolding total
+total-few C [] h = omega arith
+total-few C (a ∷ l) h = omega (arith, h .0 .1, total-few C l (h .1))
+
+greatest-most : {A : Type 0} (f : A → ℕ) (l : List A) → All (λ a. f a ≤ max-depth) l → greatest f l ≤ max-depth
+unfolding greatest
+greatest-most f [] h = omega arith
+greatest-most f (a ∷ l) h = omega (arith, h .0, greatest-most f l (h .1))
+
+steps-same : (ts : List Step) → flat step-words ts ≡ words (of-steps ts)
+unfolding flat step-words of-steps words
+steps-same [] = refl
+steps-same (t ∷ ts) = ap (λ (l : List ℕ). words (step-list t) ++ l) (steps-same ts) ∙ sym (words-append (step-list t) (of-steps ts))
+
+structs-same : (tss : List (List Step)) → flat steps-words tss ≡ words (of-structs tss)
+unfolding flat of-structs words
+structs-same [] = refl
+structs-same (ts ∷ tss) = rw (steps-same ts, structs-same tss) (sym (words-append (of-steps ts) (of-structs tss)))
+
+-- the words that are written are those of the list
+same-words : (p : Program) → emitted-words p ≡ program-words p
+unfolding emitted-words program-words
+same-words p = structs-same (p .steps)
+
+from-start : (l vs : List ℕ) → length vs ≤ length l → sets l 0 vs ≡ vs ++ drop (length vs) l
+from-start l vs h = rw zero-add at (sets-eq vs l 0 (rw zero-add h))
+
+-- a verdict of 0 by its counts
+same-verdict : (a b c d a′ b′ c′ d′ : ℕ) → a ≡ a′ → b ≡ b′ → c ≡ c′ → d ≡ d′ → counts-verdict a b c d ≡ counts-verdict a′ b′ c′ d′
+same-verdict a b c d a′ b′ c′ d′ e f g h = rw (e, f, g, h)
+
+-- What was read, from what was answered ------------------------------------------------
+
+module _ (s : List ℕ) where
+  pub stream-stops : (e : ℕ) → program-told (read-params s 0) (read s) ≡ Refused e → of-read (read s) ≡ refused e
+  unfolding of-read
+  stream-stops e i = go (read s) i
+    where
+      go : (q : Result Program) → program-told (read-params s 0) q ≡ Refused e → of-read q ≡ refused e
+      go (ok p m) i = let z : _≡_ {A = ℕ} 0 1 = cc in absurd (omega arith)
+      go (bad p n) i = let j : n ≡ e = cc in ap refused j
+
+  -- the program behind an answer
+  pub record Behind (k : ℕ) (z : Summary) : Type 0 where
+    pub program : Program
+    pub end : ℕ
+    pub reads : read s ≡ ok program end
+    pub counts : Counts program
+    pub place : place-of (read-params s 0) ≡ k
+    pub summed : z ≡ summary (length (program .params)) (program-totals program) (program-plan program)
+
+  pub stream-value : (k : ℕ) (z : Summary) → program-told (read-params s 0) (read s) ≡ Value k z → Behind k z
+  stream-value k z i = go (read s) refl i
+    where
+      go : (q : Result Program) → read s ≡ q → program-told (read-params s 0) q ≡ Value k z → Behind k z
+      go (ok p m) e i = record { program = p; end = m; reads = e; counts = program-law s p m .0 e .0; place = cc; summed = cc }
+      go (bad p n) e i = let x : _≡_ {A = ℕ} 0 1 = cc in absurd (omega arith)
+
+  module _ (k : ℕ) (z : Summary) (b : Behind k z) where
+    abbrev p : Program
+    p = b .program
+
+    number-is : z .number ≡ program-number p
+    unfolding checked-number
+    number-is = ap (λ (x : Summary). x .number) (b .summed) ∙ checked-law p (b .counts)
+
+    judged : of-read (read s) ≡ judge p (z .number)
+    unfolding of-read
+    judged = rw (b .reads, ← number-is)
+
+    -- a number other than 0 refuses, and 0 accepts
+    pub numbered : (z .number ≡ 0 → ⊥) → of-read (read s) ≡ refused (z .number)
+    unfolding judge
+    numbered h = judged ∙ go (z .number) h
+      where
+        go : (n : ℕ) → (n ≡ 0 → ⊥) → judge p n ≡ refused n
+        go zero h = absurd (h refl)
+        go (suc n) h = refl
+
+    pub passed : z .number ≡ 0 → of-read (read s) ≡ accepted p
+    unfolding judge
+    passed e = judged ∙ ap (judge p) e
+
+    pub within : z .number ≡ 0 → Within p
+    within e = number-accepted p .0 (sym number-is ∙ e) .0
+
+    -- what is reported is what 01 counts
+    counted : (z .steps ≡ total length (p .steps)) × (z .commands ≡ program-size p) × (z .depth ≡ program-depth p) × (z .structs ≡ length (p .params))
+    counted =
+        let e = b .summed in (
+          ap (λ (x : Summary). x .steps) e ∙ checked-steps p (b .counts),
+          ap (λ (x : Summary). x .commands) e ∙ checked-commands p (b .counts),
+          ap (λ (x : Summary). x .depth) e ∙ checked-depth p (b .counts),
+          ap (λ (x : Summary). x .structs) e,
+        )
+
+    pub approved-is : approved z ≡ answer (approval p)
+    approved-is = same-verdict (z .structs) (z .steps) (z .commands) (z .depth) _ _ _ _ (counted .3) (counted .0) (counted .1) (counted .2)
+
+    -- and it is small
+    pub few : z .structs ≤ 16
+    unfolding Counts
+    few = omega (arith, counted .3, b .counts .0 .1)
+
+    pub small : z .number ≡ 0 → (z .steps < 256) × (z .commands < 65536) × (z .depth < 256)
+    unfolding Counts Within program-depth
+    small e =
+        let w = within e in (
+          omega (arith, counted .0, total-few (CountsStep (arities p)) (p .steps) (b .counts .2), b .counts .1, b .counts .0 .1),
+          omega (arith, counted .1, w .1),
+          omega (arith, counted .2, greatest-most (greatest (step-depth p)) (p .steps) (depths (p .steps) (w .2))),
+        )
+      where
+        depths : (tss : List (List Step)) → All (All (λ t. step-depth p t ≤ max-depth)) tss → All (λ ts. greatest (step-depth p) ts ≤ max-depth) tss
+        depths [] h = tt
+        depths (ts ∷ tss) h = (greatest-most (step-depth p) ts (h .0), depths tss (h .1))
+
+    -- Commands ---------------------------------------------------------------------------
+
+    module _ (e : z .number ≡ 0) (cs cs′ ts ts′ : List ℕ) (kept : ParamsKept cs cs′ ts ts′ (read-params s 0)) (list : List ℕ) (room : max-commands ≤ length list) where
+      enough : program-size p ≤ max-commands
+      unfolding Within
+      enough = within e .1
+
+      standing : (at : ℕ) × (read-params s 0 ≡ ok (p .params) at) × (Ready structs-words (structs-at (arities p) s (length (arities p)) at) list 0)
+      standing = program-ready s p (b .end) (b .reads) enough list (omega (arith, enough))
+
+      here : read-params s 0 ≡ ok (p .params) k
+      here = let d = standing in d .1 ∙ ap (λ (i : ℕ). ok (p .params) i) (sym (ap place-of (d .1)) ∙ b .place)
+
+      table : take (z .structs) cs′ ≡ arities p
+      table =
+          let w : cs′ ≡ map length (p .params) ++ drop (length (p .params)) cs = (rw here at kept) .0 in
+          rw w (take-at (arities p) _ (z .structs) (length-map (p .params) length ∙ sym (counted .3)))
+
+      pub ready : Ready structs-words (structs-at (take (z .structs) cs′) s (length (take (z .structs) cs′)) k) list 0
+      ready =
+          let d = standing in
+          let i : d .0 ≡ k = sym (ap place-of (d .1)) ∙ b .place in
+          rw table (rw i at (d .2))
+
+      pub wrote : (r : Put) (list′ : List ℕ) → Wrote structs-words (structs-at (take (z .structs) cs′) s (length (take (z .structs) cs′)) k) list 0 r list′
+          → list′ ≡ listed p list
+      unfolding listed
+      wrote r list′ w =
+          let q = program-wrote s p (b .end) k (b .reads) here list r list′ (rw table at w) .0 in
+          q ∙ from-start list (emitted-words p) (omega (arith, program-length p, enough)) ∙ rw (same-words p)
+
+-- Images -------------------------------------------------------------------------------
+
+module _ (x : List ℕ) where
+  pub image-refused : (f : Fault) (room : ℕ) → image-read program-blocks x room ≡ ImageRefused f → checked x ≡ refused (block-number f)
+  unfolding checked of-image
+  image-refused f room e = let h : fault program-blocks x ≡ Wrong f = rw e at (read-says program-blocks x room) in ap (λ (g : Found). of-image g x) h
+
+  -- a buffer for as many blocks as are allowed is never too short
+  pub image-short : (room : ℕ) → 32256 ≤ room → image-read program-blocks x room ≡ ImageShort → ⊥
+  image-short room l e = let h = rw e at (read-says program-blocks x room) in omega (arith, stream-most program-blocks x (h .0), h .1)
+
+  pub image-stream : (n room : ℕ) → image-read program-blocks x room ≡ Stream n → (checked x ≡ of-read (read (stream x))) × (n ≡ length (stream x)) × (n ≤ room)
+  unfolding checked of-image
+  image-stream n room e =
+      let h = rw e at (read-says program-blocks x room) in
+      (ap (λ (f : Found). of-image f x) (h .0), h .1, h .2)
+
+  -- the front of the buffer is the stream
+  pub image-front : (n : ℕ) (buffer : List ℕ) → n ≡ length (stream x) → take n (read-into (Stream n) (stream x) buffer) ≡ stream x
+  unfolding read-into
+  image-front n buffer e = take-at (stream x) _ n (sym e)

@@ -1,0 +1,6 @@
+pub mod Total
+pub mod TotalWays
+pub mod Whole
+pub mod WholeWays
+pub mod Answer
+pub mod CheckLaws

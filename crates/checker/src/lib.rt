@@ -1,0 +1,83 @@
+// The checker: a program image to a number, counts and depth, and its commands to a lent list (01, numbers 1 to 8 and 13).
+pub mod totals;
+pub mod whole;
+
+use blocks::Read;
+use whole::ProgramRead;
+use whole::Summary;
+ghost use mathlib.Core.Path.{_≡_};
+ghost use Prim.Native.Nat.{_<_};
+ghost use Rattle.program.specs.Reader.{read};
+ghost use Rattle.run.specs.Entry.{of-read, refusal, verdict-of, list-of, check-verdict, check-list};
+ghost use Rattle.checker.specs.Answer.{answer, approved};
+
+// What checking answers: the number, and of an accepted program how many structs, steps and commands it has, and its depth.
+pub struct Verdict {
+    pub number: u8,
+    pub structs: u8,
+    pub steps: u8,
+    pub commands: u16,
+    pub depth: u8,
+}
+
+// A refusal reports no counts and no depth.
+fn refused(number: u8) -> Verdict
+    ensures { λ r. ⌜ r ≡ answer (refusal number) ⌝ }
+{
+    Verdict {
+        number,
+        structs: 0,
+        steps: 0,
+        commands: 0,
+        depth: 0,
+    }
+}
+
+fn accepted(p: Summary) -> Verdict
+    requires { ⌜ (p .steps < 256) × (p .commands < 65536) × (p .depth < 256) ⌝ }
+    ensures { λ r. ⌜ r ≡ approved p ⌝ }
+{
+    Verdict {
+        number: 0,
+        structs: p.structs,
+        steps: p.steps as u8,
+        commands: p.commands as u16,
+        depth: p.depth as u8,
+    }
+}
+
+// A program stream: 4 to 8, then 13; and the commands of an accepted program.
+fn stream(s: &[u8], list: &mut [u64]) -> Verdict
+    ensures { λ r. ⌜ r ≡ answer (verdict-of (of-read (read (now (s .entry)))) (now (list .entry))) ⌝ }
+    ensures { λ _. ⌜ now (list .exit) ≡ list-of (of-read (read (now (s .entry)))) (now (list .entry)) ⌝ }
+{
+    let mut counts = [0u8; 16];
+    let mut types = [0u8; 128];
+    match whole::program(s, &mut counts, &mut types) {
+        ProgramRead::Refused(e) => refused(e),
+        ProgramRead::Value(at, p) => {
+            if p.number != 0 {
+                return refused(p.number);
+            }
+            if list.len() < 1024 {
+                return refused(13);
+            }
+            let n = p.structs as usize;
+            emit::steps::program(s, &counts[..n], at, list);
+            accepted(p)
+        }
+    }
+}
+
+// A program image: 1 to 8, then 13; and its commands in the list, from the first place on, where it is accepted.
+pub fn check(image: &[u8], list: &mut [u64]) -> Verdict
+    ensures { λ r. ⌜ r ≡ answer (check-verdict (now (image .entry)) (now (list .entry))) ⌝ }
+    ensures { λ _. ⌜ now (list .exit) ≡ check-list (now (image .entry)) (now (list .entry)) ⌝ }
+{
+    let mut buffer = [0u8; 32256];
+    match blocks::read_image(image, 64, &mut buffer) {
+        Read::Refused(f) => refused(blocks::program_number(f)),
+        Read::Short => refused(1),
+        Read::Stream(n) => stream(&buffer[..n], list),
+    }
+}
