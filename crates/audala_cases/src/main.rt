@@ -1,0 +1,127 @@
+// Reads cases on standard input and answers those of a check, a line for each (docs/CASES.md). A malformed case ends the program.
+use libc::STDIN_FILENO;
+use libc::STDOUT_FILENO;
+use listing::lines;
+ghost use lib.ListN.{length};
+ghost use Rattle.audala_cases.specs.Within.{Within};
+
+// A number that was read and is within its bound.
+enum Size {
+    Of(usize),
+    Nothing,
+}
+
+// Fills the front of a buffer with n bytes; whether there are so many.
+fn fetch(buffer: &mut [u8], n: usize) -> bool {
+    if buffer.len() < n {
+        return false;
+    }
+    io::read_full(STDIN_FILENO, &mut buffer[..n]) == n
+}
+
+// A number of four bytes, at most so large.
+fn number(most: usize) -> Size
+    ensures { λ r. ⌜ Within most r ⌝ }
+{
+    let mut b = [0u8; 4];
+    if !fetch(&mut b, 4) {
+        return Size::Nothing;
+    }
+    let n = cases::number(&b) as usize;
+    if most < n {
+        return Size::Nothing;
+    }
+    Size::Of(n)
+}
+
+// A length and so many bytes, into the front of a buffer.
+fn part(buffer: &mut [u8]) -> Size
+    ensures { λ r. ⌜ Within (length (now (buffer .exit))) r ⌝ }
+{
+    let most = buffer.len();
+    let read = number(most);
+    let Size::Of(n) = read else {
+        return Size::Nothing;
+    };
+    if !fetch(buffer, n) {
+        return Size::Nothing;
+    }
+    Size::Of(n)
+}
+
+fn answer(image: &[u8], list: &mut [u64]) {
+    let v = checker::check(image, list);
+    let ns = [
+        v.number as u64,
+        v.structs as u64,
+        v.steps as u64,
+        v.commands as u64,
+        v.depth as u64,
+        cases::digest(list),
+    ];
+    let mut text = [0u8; 256];
+    let n = lines::row(&mut text, 0, b"check", &ns);
+    io::write_all(STDOUT_FILENO, &text[..n]);
+}
+
+// A case of kind 1; whether it is whole.
+fn check_case() -> bool {
+    let Size::Of(places) = number(1100) else {
+        return false;
+    };
+    let mut image = [0u8; 33792];
+    let Size::Of(n) = part(&mut image) else {
+        return false;
+    };
+    let mut list = [11936128518282651045u64; 1100];
+    answer(&image[..n], &mut list[..places]);
+    true
+}
+
+// A case of kind 2, which is passed over; whether it is whole.
+fn run_case() -> bool {
+    let Size::Of(_) = number(1100) else {
+        return false;
+    };
+    let Size::Of(_) = number(9216) else {
+        return false;
+    };
+    let mut image = [0u8; 33792];
+    let Size::Of(_) = part(&mut image) else {
+        return false;
+    };
+    let mut table = [0u8; 9728];
+    let Size::Of(_) = part(&mut table) else {
+        return false;
+    };
+    let mut turns = [0u8; 65600];
+    let Size::Of(_) = part(&mut turns) else {
+        return false;
+    };
+    true
+}
+
+// The next case; whether there is one.
+fn next() -> bool {
+    let mut kind = [0u8; 1];
+    if !fetch(&mut kind, 1) {
+        return false;
+    }
+    if kind[0] == 1 {
+        return check_case();
+    }
+    if kind[0] == 2 {
+        return run_case();
+    }
+    false
+}
+
+fn main() {
+    let mut left: u64 = 4294967296;
+    while 0 < left {
+        if !next() {
+            return;
+        }
+        left -= 1;
+    }
+}

@@ -1,0 +1,115 @@
+use borrow.Author.Needs.{needs}
+use Rattle.listing.proofs.text.other.Statement.{statement}
+use Rattle.listing.proofs.text.other.Tie as tie
+use Rattle.listing.proofs.text.other.Reads as reads
+use Rattle.listing.proofs.text.other.Lts as lts
+use Rattle.listing.proofs.text.keyed.Reads as keyed-reads
+use native.Mathlib.Omega.{arith}
+use Rattle.listing.specs.ListingLaws.{placed-as}
+use Rattle.listing.specs.TextLaws.{other-rd, other-wr, other-cons, other-if, other-op}
+
+
+-- src/text.rt:113:30
+slice-aggregate-keyed : tie.Need-slice-aggregate-keyed
+slice-aggregate-keyed c = search needs
+
+-- src/text.rt:113:9
+keyed-requires : tie.Need-keyed-requires
+keyed-requires c κs = search needs
+
+-- src/text.rt:113:9
+same-length : tie.Need-same-length
+same-length c = search needs
+
+-- src/text.rt:113:9
+returns : tie.Need-returns
+returns c = (placed-as (other-rd _ _ ((c .before .before .before .before .before .if1) .taken)) ((c .before .before .keyed) .ensures .0), (c .before .before .keyed) .ensures .1)
+
+-- src/text.rt:116:30
+slice-aggregate-keyed-2 : tie.Need-slice-aggregate-keyed-2
+slice-aggregate-keyed-2 c = search needs
+
+-- src/text.rt:116:9
+keyed-requires-2 : tie.Need-keyed-requires-2
+keyed-requires-2 c κs = search needs
+
+-- src/text.rt:116:9
+same-length-2 : tie.Need-same-length-2
+same-length-2 c = search needs
+
+-- src/text.rt:116:9
+returns-2 : tie.Need-returns-2
+returns-2 c = (placed-as (other-wr _ _ ((c .before .before .before .before .before .before .if1) .left) ((c .before .before .before .before .before .if2) .taken)) ((c .before .before .keyed2) .ensures .0), (c .before .before .keyed2) .ensures .1)
+
+-- src/text.rt:119:30
+slice-aggregate-keyed-3 : tie.Need-slice-aggregate-keyed-3
+slice-aggregate-keyed-3 c = search needs
+
+-- src/text.rt:119:9
+keyed-requires-3 : tie.Need-keyed-requires-3
+keyed-requires-3 c κs = search needs
+
+-- src/text.rt:119:9
+same-length-3 : tie.Need-same-length-3
+same-length-3 c = search needs
+
+-- src/text.rt:119:9
+returns-3 : tie.Need-returns-3
+returns-3 c = (placed-as (other-cons _ _ ((c .before .before .before .before .before .before .before .if1) .left) ((c .before .before .before .before .before .before .if2) .left) ((c .before .before .before .before .before .if3) .taken)) ((c .before .before .keyed3) .ensures .0), (c .before .before .keyed3) .ensures .1)
+
+-- src/text.rt:122:30
+slice-aggregate-keyed-4 : tie.Need-slice-aggregate-keyed-4
+slice-aggregate-keyed-4 c = search needs
+
+-- src/text.rt:122:9
+keyed-requires-4 : tie.Need-keyed-requires-4
+keyed-requires-4 c κs = search needs
+
+-- src/text.rt:122:9
+same-length-4 : tie.Need-same-length-4
+same-length-4 c = search needs
+
+-- src/text.rt:122:9
+returns-4 : tie.Need-returns-4
+returns-4 c = (placed-as (other-if _ _ ((c .before .before .before .before .before .before .before .before .if1) .left) ((c .before .before .before .before .before .before .before .if2) .left) ((c .before .before .before .before .before .before .if3) .left) ((c .before .before .before .before .before .if4) .taken)) ((c .before .before .keyed4) .ensures .0), (c .before .before .keyed4) .ensures .1)
+
+-- src/text.rt:124:19
+slice-aggregate-keyed-5 : tie.Need-slice-aggregate-keyed-5
+slice-aggregate-keyed-5 c = search needs
+
+-- src/text.rt:124:5
+keyed-requires-5 : tie.Need-keyed-requires-5
+keyed-requires-5 c κs = search needs
+
+-- src/text.rt:107:1
+same-length-5 : tie.Need-same-length-5
+same-length-5 c = search needs
+
+-- src/text.rt:107:1
+returns-5 : tie.Need-returns-5
+returns-5 c = (placed-as (other-op _ _ ((c .before .before .before .before .before .before .before .before .if1) .left) ((c .before .before .before .before .before .before .before .if2) .left) ((c .before .before .before .before .before .before .if3) .left) ((c .before .before .before .before .before .if4) .left)) ((c .before .before .keyed5) .ensures .0), (c .before .before .keyed5) .ensures .1)
+
+pub other-spec : {M : Type 1} → statement M
+other-spec =
+    tie.close
+    (tie.spec
+    slice-aggregate-keyed
+    keyed-requires
+    same-length
+    returns
+    slice-aggregate-keyed-2
+    keyed-requires-2
+    same-length-2
+    returns-2
+    slice-aggregate-keyed-3
+    keyed-requires-3
+    same-length-3
+    returns-3
+    slice-aggregate-keyed-4
+    keyed-requires-4
+    same-length-4
+    returns-4
+    slice-aggregate-keyed-5
+    keyed-requires-5
+    same-length-5
+    returns-5)

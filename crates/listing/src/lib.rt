@@ -1,0 +1,4 @@
+// The listing of a program (01, 'Bench rows') and other lines of numbers, as text in memory that the caller lends.
+pub mod lines;
+pub mod steps;
+pub mod text;
