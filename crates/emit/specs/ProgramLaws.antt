@@ -17,7 +17,7 @@ use Rattle.commands.specs.Commands.{commands}
 use Rattle.commands.specs.Bounds.{total, arities, program-size, step-size}
 use Rattle.emit.specs.declared.Put.{Put}
 use Rattle.emit.specs.Written.{code-of, Ready, Wrote}
-use Rattle.emit.specs.ProgramWords.{step-words, steps-words, structs-words, program-words, structs-at}
+use Rattle.emit.specs.ProgramWords.{step-words, steps-words, structs-words, program-words, structs-at, WroteProgram}
 use Rattle.emit.specs.WordLaws.{words-length}
 use Rattle.emit.specs.ReadLaws.{then-value, made-value, pair-value, pair-ok}
 
@@ -91,22 +91,22 @@ whole-program s p m e =
         go false h f = sym (long s a k h) ∙ f
 
 -- an accepted program's steps may be written, where there is room for its commands
-pub program-ready : (s : List ℕ) (p : Program) (m : ℕ) → read s ≡ ok p m → program-size p ≤ max-commands → (out : List ℕ) → program-size p ≤ length out
-    → (at : ℕ) × (read-params s 0 ≡ ok (p .params) at) × (Ready structs-words (structs-at (arities p) s (length (arities p)) at) out 0)
+pub program-ready : (s : List ℕ) (p : Program) (m : ℕ) → read s ≡ ok p m → program-size p ≤ max-commands → (ar : List ℕ) → ar ≡ arities p
+    → (out : List ℕ) → program-size p ≤ length out
+    → (at : ℕ) × (read-params s 0 ≡ ok (p .params) at) × (Ready structs-words (structs-at ar s (length ar) at) out 0)
 unfolding code-of program-words
-program-ready s p m e h out l =
+program-ready s p m e h ar a out l =
     let t = program-steps s 0 p m (whole-program s p m e) in
     let n = program-length p in
-    (t .behind, t .params, rw (t .steps) (record { good = tt; room = omega arith; few = omega arith }))
+    (t .behind, t .params, rw (a, t .steps) (record { good = tt; room = omega arith; few = omega arith }))
 
 -- and what is written is the program's words
-pub program-wrote : (s : List ℕ) (p : Program) (m at : ℕ) → read s ≡ ok p m → read-params s 0 ≡ ok (p .params) at → (out : List ℕ) (r : Put) (out' : List ℕ)
-    → Wrote structs-words (structs-at (arities p) s (length (arities p)) at) out 0 r out'
-    → (out' ≡ sets out 0 (program-words p)) × (r .at ≡ program-size p)
+pub program-wrote : (ar s : List ℕ) (at : ℕ) (out : List ℕ) (r : Put) (out' : List ℕ)
+    → Wrote structs-words (structs-at ar s (length ar) at) out 0 r out' → WroteProgram ar s at out r out'
 unfolding code-of program-words
-program-wrote s p m at e f out r out' w =
+program-wrote ar s at out r out' w p m e a f =
     let t = program-steps s 0 p m (whole-program s p m e) in
     let x : ok (p .params) at ≡ ok (p .params) (t .behind) = sym f ∙ t .params in
     let y : at ≡ t .behind = cc in
-    let z = rw (y, t .steps) at w in
+    let z = rw (a, y, t .steps) at w in
     (z .list, omega (arith, z .at, program-length p))

@@ -4,7 +4,7 @@ use crate::stmts::body;
 ghost use lib.ListN.{length};
 ghost use Rattle.program.specs.Reader.{read-step, read-steps};
 ghost use Rattle.emit.specs.Written.{Ready, Wrote};
-ghost use Rattle.emit.specs.ProgramWords.{step-words, steps-words, structs-words, steps-at, structs-at};
+ghost use Rattle.emit.specs.ProgramWords.{step-words, steps-words, structs-words, steps-at, structs-at, WroteProgram};
 
 // The commands of the step at a place, from k on.
 pub fn step(s: &[u8], ar: &[u8], at: usize, out: &mut [u64], k: usize) -> Put
@@ -54,6 +54,7 @@ fn structs(s: &[u8], ar: &[u8], at: usize, n: usize, out: &mut [u64], k: usize) 
 pub fn program(s: &[u8], ar: &[u8], at: usize, out: &mut [u64]) -> Put
     requires { ⌜ Ready structs-words (structs-at (now ar) (now s) (length (now ar)) at) (now out) 0 ⌝ }
     ensures { λ r. ⌜ Wrote structs-words (structs-at (now (ar .entry)) (now (s .entry)) (length (now (ar .entry))) at) (now (out .entry)) 0 r (now (out .exit)) ⌝ }
+    ensures { λ r. ⌜ WroteProgram (now (ar .entry)) (now (s .entry)) at (now (out .entry)) r (now (out .exit)) ⌝ }
 {
     structs(s, ar, at, ar.len(), out, 0)
 }
