@@ -182,7 +182,7 @@ module _ (s : List ℕ) where
       enough = within e .1
 
       standing : (at : ℕ) × (read-params s 0 ≡ ok (p .params) at) × (Ready structs-words (structs-at (arities p) s (length (arities p)) at) list 0)
-      standing = program-ready s p (b .end) (b .reads) enough list (omega (arith, enough))
+      standing = program-ready s p (b .end) (b .reads) enough (arities p) refl list (omega (arith, enough))
 
       here : read-params s 0 ≡ ok (p .params) k
       here = let d = standing in d .1 ∙ ap (λ (i : ℕ). ok (p .params) i) (sym (ap place-of (d .1)) ∙ b .place)
@@ -202,7 +202,7 @@ module _ (s : List ℕ) where
           → list′ ≡ listed p list
       unfolding listed
       wrote r list′ w =
-          let q = program-wrote s p (b .end) k (b .reads) here list r list′ (rw table at w) .0 in
+          let q = program-wrote (arities p) s k list r list′ (rw table at w) p (b .end) (b .reads) refl here .0 in
           q ∙ from-start list (emitted-words p) (omega (arith, program-length p, enough)) ∙ rw (same-words p)
 
 -- Images -------------------------------------------------------------------------------

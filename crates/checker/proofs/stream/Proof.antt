@@ -81,7 +81,7 @@ returns-4 c = let a = (c .before .before .before .before .before .before .before
     let b = stream-value s _ _ (sym ((c .before .before .before .before .before .before .before .before .before .before .before .before .before .before .before .program) .ensures .0) ∙ (c .before .before .before .before .before .before .before .before .before .before .before .at) .given .1) in
     let w = room-answers (of-read (read s)) (b .program) (a .list .now) (passed s _ _ b ((c .before .before .before .before .before .before .before .before .if1) .left)) ((c .before .before .before .before .before .before .before .if2) .left) in (
       (c .accepted) .ensures ∙ approved-is s _ _ b ∙ ap answer (w .0),
-      wrote s _ _ b ((c .before .before .before .before .before .before .before .before .if1) .left) _ _ _ _ ((c .before .before .before .before .before .before .before .before .before .before .before .before .before .before .before .program) .ensures .1) (a .list .now) ((c .before .before .before .before .before .before .before .if2) .left) _ _ ((c .before .before .before .program2) .ensures) ∙ w .1,
+      wrote s _ _ b ((c .before .before .before .before .before .before .before .before .if1) .left) _ _ _ _ ((c .before .before .before .before .before .before .before .before .before .before .before .before .before .before .before .program) .ensures .1) (a .list .now) ((c .before .before .before .before .before .before .before .if2) .left) _ _ ((c .before .before .before .program2) .ensures .0) ∙ w .1,
     )
 
 pub stream-spec : {M : Type 1} → statement M
