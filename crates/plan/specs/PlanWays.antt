@@ -70,7 +70,7 @@ module _ (hs : List ℕ) (S : ℕ) where
     unfolding read-call-in made pair then item-plan
     call-in-read k m n i p q = rw (byte-is (ranged s 0 S at) k m p, byte-is (ranged s 0 32 m) n i q)
 
-  -- a Fix is planned as what is around its items
+  -- what is planned of a Fix, from what is planned of its items
   pub fix-around : (r : Result Items) → told (item-plan hs S) (made fix r) ≡ after fixed (told (items-plan hs S) r)
   unfolding made then item-plan fixed
   fix-around (ok is m) = refl
@@ -109,6 +109,11 @@ module _ (hs : List ℕ) (S : ℕ) where
             let f : planned (item-plan hs S i) ≡ p = cc in
             rw (h, o, sub-one) (one i (many stop item r n m) f)
         go (suc n) z (bad a k) h e = let o : _≡_ {A = ℕ} 0 1 = cc in absurd (omega arith)
+
+-- an item more than those inside
+pub fix-value : (n : ℕ) (p : Planned) → _≡_ {A = PlanRead} (Value n (record { count = p .count + 1; fault = p .fault })) (after fixed (Value n p))
+unfolding fixed
+fix-value n p = rw add-one
 
 -- the count of the items, which is not read, or is, with them behind it
 module _ (ar s : List ℕ) (r : ℕ → Result Item) (at : ℕ) where

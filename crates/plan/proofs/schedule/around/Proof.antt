@@ -1,8 +1,7 @@
 -- `schedule::around` meets its contract.
 use borrow.Author.Needs.{needs}
 use native.Mathlib.Omega.{arith}
-use native.Mathlib.Numerals.{add-one}
-use Rattle.plan.specs.PlanTold.{fixed}
+use Rattle.plan.specs.PlanWays.{fix-value}
 use Rattle.plan.proofs.schedule.around.Statement.{statement}
 use Rattle.plan.proofs.schedule.around.Tie as tie
 
@@ -19,8 +18,7 @@ add-t4 : tie.Need-add-t4
 add-t4 c = let h = rw (c .before .before .r .given .1) at (c .before .before .before .before .pre) in omega arith
 
 returns-2 : tie.Need-returns-2
-unfolding fixed
-returns-2 c = rw (c .before .before .r .given .1, add-one)
+returns-2 c = rw (c .before .before .r .given .1) (fix-value _ _)
 
 pub around-spec : {M : Type 1} → statement M
 around-spec = tie.close (tie.spec enum-known-r enum-told returns add-t4 returns-2)
