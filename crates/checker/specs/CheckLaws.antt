@@ -1,11 +1,10 @@
 -- What the reader of a program answers gives the verdict and the list (01, 1 to 8 and 13 of 'Numbers from the input').
 use Prim.Native.Nat.{ℕ, zero, suc, _+_, _*_, _<_, _≤_}
 use native.Mathlib.Omega.{arith}
-use native.Mathlib.Nat.{zero-add}
 use mathlib.Core.Path.{_≡_, refl, ap, sym, _∙_}
 use mathlib.Core.List.{List, [], _∷_, _++_, map}
-use lib.ListN.{length, take, drop, length-append, length-map}
-use lib.Seq.{sets, sets-eq, take-at}
+use lib.ListN.{length, take, drop, length-map}
+use lib.Seq.{take-at}
 use borrow.Author.Tests.{lt-ltb, le-ltb}
 use Rattle.types.specs.Limits.{max-commands, max-depth, max-steps, program-blocks}
 use Rattle.types.specs.Types.{Ty}
@@ -28,6 +27,7 @@ use Rattle.commands.specs.NumbersLaws.{number-accepted}
 use Rattle.facts.specs.ProgramFacts.{program-totals, program-plan, checked-number}
 use Rattle.facts.specs.ProgramFactsLaws.{checked-law, checked-commands, checked-depth, checked-steps}
 use Rattle.plan.specs.ParamsTold.{ParamsKept}
+use Rattle.plan.specs.ParamsWays.{from-start}
 use Rattle.emit.specs.declared.Put.{Put}
 use Rattle.emit.specs.Written.{Ready, Wrote}
 use Rattle.emit.specs.ProgramWords.{step-words, steps-words, structs-words, structs-at, program-words as emitted-words}
@@ -83,9 +83,6 @@ structs-same (ts ∷ tss) = rw (steps-same ts, structs-same tss) (sym (words-app
 same-words : (p : Program) → emitted-words p ≡ program-words p
 unfolding emitted-words program-words
 same-words p = structs-same (p .steps)
-
-from-start : (l vs : List ℕ) → length vs ≤ length l → sets l 0 vs ≡ vs ++ drop (length vs) l
-from-start l vs h = rw zero-add at (sets-eq vs l 0 (rw zero-add h))
 
 -- a verdict of 0 by its counts
 same-verdict : (a b c d a′ b′ c′ d′ : ℕ) → a ≡ a′ → b ≡ b′ → c ≡ c′ → d ≡ d′ → counts-verdict a b c d ≡ counts-verdict a′ b′ c′ d′

@@ -1,21 +1,21 @@
 -- Each way through the reader of a whole program (01, 'Program stream', and numbers 4 to 8).
-use Prim.Native.Nat.{ℕ, zero, suc, _≤_, _<_, _*_}
+use Prim.Native.Nat.{ℕ, _*_}
 use native.Mathlib.Omega.{arith}
 use mathlib.Core.Path.{_≡_, refl, ap, sym, _∙_}
 use mathlib.Core.Bool.{Bool, true, false}
 use mathlib.Core.List.{List, [], _∷_, _++_, map}
-use lib.ListN.{length, take, drop, length-map, length-append}
+use lib.ListN.{length, take, drop, length-map}
 use lib.Seq.{take-at}
 use lib.Dec.{ltb}
 use Rattle.types.specs.Types.{Ty}
 use Rattle.program.specs.Tree.{Items, Step, Program}
 use Rattle.program.specs.Reader.{Result, Result.ok, Result.bad, wrong-end, then, pair, made, many, ended, whole, read-params, read-steps, read-items, read-item, read-program, read}
-use Rattle.facts.specs.ProgramFacts.{Totals as Sum, Planned as Plan, plan, no-steps, no-totals, row, types-table, step-totals, items-plan, exceeded, totals-number, program-totals, program-plan}
+use Rattle.facts.specs.ProgramFacts.{Totals as Sum, Planned as Plan, plan, no-steps, no-totals, types-table, step-totals, items-plan, exceeded, totals-number, program-totals, program-plan}
 use Rattle.plan.specs.declared.params.ParamsRead.the-variants.{Value as ParamsValue, Refused as ParamsRefused}
 use Rattle.plan.specs.declared.schedule.PlanRead.the-variants.{Value as PlanValue, Refused as PlanRefused}
 use Rattle.plan.specs.declared.schedule.Planned.{Planned}
 use Rattle.plan.specs.ParamsTold.{params-told, ParamsKept}
-use Rattle.plan.specs.ParamsWays.{many-length}
+use Rattle.plan.specs.ParamsWays.{many-length, table-length}
 use Rattle.plan.specs.PlanTold.{planned, told as plan-told}
 use Rattle.checker.specs.declared.totals.Totals.{Totals}
 use Rattle.checker.specs.declared.totals.TotalsRead.{TotalsRead}
@@ -103,19 +103,6 @@ module _ (at : ℕ) (ar types s : List ℕ) where
           let kept : h ≡ totals-of ss .has = rw e at (w .1) in
           let same : with t h ≡ totals-of ss = rw (sym i, kept) in
           on ss m e ∙ ap (λ (T : Sum). end-told at (length ar) T s (read-items ar s (read-item ar s 8) m)) (sym same)
-
--- Tables -------------------------------------------------------------------------------
-
-row-length : (n : ℕ) (t : List Ty) → length (row n t) ≡ n
-unfolding row
-row-length zero t = refl
-row-length (suc n) [] = ap suc (row-length n [])
-row-length (suc n) (t ∷ ts) = ap suc (row-length n ts)
-
-table-length : (tss : List (List Ty)) → length (types-table tss) ≡ 8 * length tss
-unfolding types-table
-table-length [] = refl
-table-length (t ∷ tss) = rw length-append (omega (arith, row-length 8 t, table-length tss))
 
 -- Programs -----------------------------------------------------------------------------
 

@@ -126,9 +126,9 @@ refused-8 =
 
 -- Refused with 7 -----------------------------------------------------------------
 
--- if true { Int l := 1 }; p0 := l
+-- if false { Int l := 1 }; p0 := l
 abbrev pub outlived : Stmts
-outlived = next (when (bool-lit 1) (next (declare int 0 (int-lit 1)) end)) (next (update (par 0) [] (path (loc 0) [])) end)
+outlived = next (when (bool-lit 0) (next (declare int 0 (int-lit 1)) end)) (next (update (par 0) [] (path (loc 0) [])) end)
 
 outlived-formed : Formed outlived
 unfolding CountsStep CountsStmts CountsExpr IsPath IsVar height nests size commands flatten body-coms expr-coms update-coms reads front last then depth

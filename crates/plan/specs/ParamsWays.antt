@@ -153,7 +153,7 @@ row-length zero t = refl
 row-length (suc n) [] = ap suc (row-length n [])
 row-length (suc n) (t ∷ ts) = ap suc (row-length n ts)
 
-table-length : (tss : List (List Ty)) → length (types-table tss) ≡ 8 * length tss
+pub table-length : (tss : List (List Ty)) → length (types-table tss) ≡ 8 * length tss
 unfolding types-table
 table-length [] = refl
 table-length (t ∷ tss) = rw (length-append) (omega (arith, row-length 8 t, table-length tss))
@@ -175,7 +175,7 @@ kept-lists k cs cs′ cs″ ts ts′ ts″ t m (ok tss i) h g = (
     step = omega arith
 kept-lists k cs cs′ cs″ ts ts′ ts″ t m (bad p n) h g = tt
 
-from-start : (l vs : List ℕ) → length vs ≤ length l → sets l 0 vs ≡ vs ++ drop (length vs) l
+pub from-start : (l vs : List ℕ) → length vs ≤ length l → sets l 0 vs ≡ vs ++ drop (length vs) l
 from-start l vs h = rw zero-add at (sets-eq vs l 0 (rw zero-add h))
 
 -- all of them, from the start of the tables

@@ -31,6 +31,9 @@ no-room = 13
 abbrev pub many-turns : ℕ
 many-turns = 14
 
+abbrev pub no-number : ℕ
+no-number = 255
+
 -- A program image ------------------------------------------------------------------
 
 pub data Checked : Type 0 where
@@ -154,8 +157,8 @@ last-stream p m = enc-table (table-of p m)
 
 unfoldable pub report-of : Program → Outcome → Report
 report-of p (stopped n t m) = report n t (pieces (length (last-stream p m))) (program-depth p)
--- no run of an accepted program comes to it
-report-of p jammed = report 0 0 0 0
+-- no run of an accepted program comes to it (demand 3): a number that 01 does not use
+report-of p jammed = report no-number 0 0 0
 
 unfoldable pub output-of : Program → Outcome → List ℕ → List ℕ
 output-of p (stopped n t m) out = image (last-stream p m) ++ drop (block-size * pieces (length (last-stream p m))) out

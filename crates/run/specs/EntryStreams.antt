@@ -12,7 +12,7 @@ use Rattle.commands.specs.Bounds.{program-depth}
 use Rattle.table.specs.TableReader.{table-of-stream}
 use Rattle.run.specs.Run.{Outcome, Outcome.stopped, Outcome.jammed, run}
 use Rattle.run.specs.Begin.{begin}
-use Rattle.run.specs.Entry.{Checked, Checked.accepted, Checked.refused, of-read, Begun, Begun.begun, Begun.not-begun, of-table, with-room, Report, report, last-stream}
+use Rattle.run.specs.Entry.{Checked, Checked.accepted, Checked.refused, of-read, Begun, Begun.begun, Begun.not-begun, of-table, with-room, no-number, Report, report, last-stream}
 
 -- number, turns, depth, and the stream of the table as it stands, which is empty where nothing is written
 pub record Summary : Type 0 where
@@ -26,7 +26,7 @@ summary n t d s = record { number = n; turns = t; depth = d; left = s }
 
 unfoldable pub of-outcome : Program → Outcome → Summary
 of-outcome p (stopped n t m) = summary n t (program-depth p) (last-stream p m)
-of-outcome p jammed = summary 0 0 0 []
+of-outcome p jammed = summary no-number 0 0 []
 
 unfoldable pub summed : Begun → List ℕ → Summary
 summed (not-begun n) es = summary n 0 0 []

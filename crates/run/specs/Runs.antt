@@ -8,6 +8,7 @@ use Rattle.program.specs.Tree.{Program}
 use Rattle.machine.specs.Published.{Sched, Sched.done, Inst, State, State.state}
 use Rattle.machine.specs.Rules.{Done, Actor.instance, Actor.schedule, Rule}
 use Rattle.machine.specs.Stops.{Full, Exceeded, Nested}
+use Rattle.machine.specs.Machine.{full, exceeded, nested}
 use Rattle.run.specs.Turns.{holders-of, chosen}
 
 -- 0 is the ended run; 33: commands remain, no turn byte does; 34, 35 and 36 are the conditions of Stops
@@ -17,21 +18,12 @@ ended = 0
 abbrev pub out-of-turns : ℕ
 out-of-turns = 33
 
-abbrev pub full : ℕ
-full = 34
-
-abbrev pub exceeded : ℕ
-exceeded = 35
-
-abbrev pub nested : ℕ
-nested = 36
-
 -- the instance that a byte picks in a state: some instance holds commands
 pub data Picks (e l : ℕ) : State → Type 0 where
   picks : {s : Sched} {σ : List Inst} {b : List Bool} {h : ℕ} {hs : List ℕ} → holders-of σ ≡ h ∷ hs → l ≡ chosen (h ∷ hs) e
       → Picks e l (state s σ b)
 
--- no instance holds commands; some instance does
+-- no instance holds commands
 abbrev pub AllDone : State → Type 0
 AllDone (state s σ b) = Done σ
 

@@ -4,6 +4,8 @@ pub mod Accepted
 pub mod Invariant
 pub mod Conditions
 pub mod NeverStuck
+pub mod After
+pub mod Exhibits
 pub mod ElemLaws
 pub mod EachLaws
 pub mod Keeps
@@ -21,9 +23,9 @@ pub mod ConsKept
 pub mod CommandKept
 pub mod MoveKept
 pub mod BeginGood
-pub mod FuelLaws
 pub mod HolderLaws
 pub mod ConditionLaws
 pub mod SettleLaws
 pub mod NeverStuckLaws
+pub mod ExhibitAccepted
 pub mod Statements

@@ -28,7 +28,7 @@ use Rattle.sound.specs.CommandKept.{command-kept}
 use Rattle.sound.specs.MoveKept.{Blocked, move-kept}
 use Rattle.sound.specs.BeginGood.{begin-good}
 use Rattle.sound.specs.HolderLaws.{chosen-holds}
-use Rattle.sound.specs.FuelLaws.{fuel-enough}
+use Rattle.run.specs.FuelLaws.{fuel-suffices}
 use Rattle.sound.specs.SettleLaws.{Through, Settles, settles}
 use Rattle.sound.specs.NeverStuck.{NeverStuck, Demand3}
 
@@ -122,10 +122,10 @@ module _ {p : Program} (firm : Firm p) where
 
   run-ends : (es : List ℕ) (m : Machine) → Good p m → Ends m es (run p m es)
   unfolding run
-  run-ends [] m g = last-ends m (settle p (fuel m) m) (settles p (bound (m .sched)) (fuel m) m g (omega arith) (fuel-enough m))
+  run-ends [] m g = last-ends m (settle p (fuel m) m) (settles p (bound (m .sched)) (fuel m) m g (omega arith) (fuel-suffices m .1))
   run-ends (e ∷ es) m g =
       turn-ends e es (λ z. run p z es) (λ z g′. run-ends es z g′) m (settle p (fuel m) m)
-      (settles p (bound (m .sched)) (fuel m) m g (omega arith) (fuel-enough m))
+      (settles p (bound (m .sched)) (fuel m) m g (omega arith) (fuel-suffices m .1))
 
   -- a run of a program with firm ground under it, from any machine with the invariant, is never stuck
   firm-never-stuck : {m : Machine} → Good p m → (es : List ℕ) → NeverStuck p m es

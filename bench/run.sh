@@ -1,0 +1,6 @@
+#!/usr/bin/env bash
+# Builds the static library and times the proved checker against the second engine's. Not part of the gate.
+set -euo pipefail
+here=$(cd "$(dirname "$0")" && pwd)
+(cd "$here/.." && rt staticlib audala >/dev/null)
+cargo run --quiet --offline --release --jobs 1 --manifest-path "$here/Cargo.toml"

@@ -1,0 +1,30 @@
+// The checker as a static library for C and Rust (01, 'Numbers from the input'); include/audala.h declares it.
+ghost use mathlib.Core.Path.{_≡_};
+ghost use Rattle.run.specs.Entry.{check-verdict, check-list};
+ghost use Rattle.audala.specs.Exported.{exported};
+
+// What a check answers; after a refusal all but the number are 0.
+#[repr(C)]
+pub struct Answer {
+    pub number: u32,
+    pub structs: u32,
+    pub steps: u32,
+    pub commands: u32,
+    pub depth: u32,
+}
+
+// A program image to a verdict, and its commands to the list.
+#[no_mangle]
+pub extern "C" fn audala_check(image: &[u8], list: &mut [u64]) -> Answer
+    ensures { λ r. ⌜ r ≡ exported (check-verdict (now (image .entry)) (now (list .entry))) ⌝ }
+    ensures { λ _. ⌜ now (list .exit) ≡ check-list (now (image .entry)) (now (list .entry)) ⌝ }
+{
+    let v = checker::check(image, list);
+    Answer {
+        number: v.number as u32,
+        structs: v.structs as u32,
+        steps: v.steps as u32,
+        commands: v.commands as u32,
+        depth: v.depth as u32,
+    }
+}

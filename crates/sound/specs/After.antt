@@ -1,0 +1,52 @@
+-- The machine that a run has come to after so many acts, commands and schedule moves (01, 'The words of demand 3').
+use Prim.Native.Nat.{ℕ, zero, suc}
+use mathlib.Core.Path.{_≡_, refl}
+use mathlib.Core.List.{List, [], _∷_}
+use Rattle.program.specs.Tree.{Program}
+use Rattle.machine.specs.Machine.{Machine, Out, Out.next, Out.refused, Out.stuck, command, move}
+use Rattle.run.specs.Turns.{holders, chosen}
+use Rattle.run.specs.Visits.{Visits, Visits.here, Visits.moves, Visits.takes}
+
+-- on from where an act leads; where it leads nowhere, the run stays
+unfoldable pub onward : (Machine → Machine) → Machine → Out → Machine
+onward k m (next z) = k z
+onward k m (refused n) = m
+onward k m stuck = m
+
+-- an act of a machine with these holders
+unfoldable pub act-on : Program → (Machine → List ℕ → Machine) → Machine → List ℕ → List ℕ → Machine
+act-on p k m [] es = onward (λ z. k z es) m (move p m)
+act-on p k m (h ∷ hs) [] = m
+act-on p k m (h ∷ hs) (e ∷ es) = onward (λ z. k z es) m (command p (chosen (h ∷ hs) e) m)
+
+unfoldable pub after : Program → ℕ → Machine → List ℕ → Machine
+after p zero m es = m
+after p (suc k) m es = act-on p (λ z fs. after p k z fs) m (holders m) es
+
+module _ (p : Program) where
+  -- an act, and on by k
+  module _ (k : Machine → List ℕ → Machine) (on : (z : Machine) (es : List ℕ) → Visits p z es (k z es)) (m : Machine) where
+    moved : (es : List ℕ) → holders m ≡ [] → (o : Out) → move p m ≡ o → Visits p m es (onward (λ z. k z es) m o)
+    unfolding onward
+    moved es q (next z) c = moves q c (on z es)
+    moved es q (refused n) c = here
+    moved es q stuck c = here
+
+    taken : (e h : ℕ) (hs es : List ℕ) → holders m ≡ h ∷ hs → (o : Out) → command p (chosen (h ∷ hs) e) m ≡ o
+        → Visits p m (e ∷ es) (onward (λ z. k z es) m o)
+    unfolding onward
+    taken e h hs es q (next z) c = takes q c (on z es)
+    taken e h hs es q (refused n) c = here
+    taken e h hs es q stuck c = here
+
+    acted : (hs es : List ℕ) → holders m ≡ hs → Visits p m es (act-on p k m hs es)
+    unfolding act-on
+    acted [] es q = moved es q (move p m) refl
+    acted (h ∷ hs) [] q = here
+    acted (h ∷ hs) (e ∷ es) q = taken e h hs es q (command p (chosen (h ∷ hs) e) m) refl
+
+  -- it is one that the run passes through
+  pub after-visited : (k : ℕ) (m : Machine) (es : List ℕ) → Visits p m es (after p k m es)
+  unfolding after
+  after-visited zero m es = here
+  after-visited (suc k) m es = acted (λ z fs. after p k z fs) (λ z fs. after-visited k z fs) m (holders m) es refl

@@ -1,0 +1,15 @@
+#!/usr/bin/env bash
+# Builds the static library and the C and Rust examples over it, and runs both on P's image: their output must be the same.
+set -euo pipefail
+here=$(cd "$(dirname "$0")" && pwd)
+top=$(cd "$here/.." && pwd)
+work=$(mktemp -d)
+trap 'rm -rf "$work"' EXIT
+(cd "$top" && rt staticlib audala >/dev/null)
+lib=$top/target/staticlib
+gcc -std=c11 -Wall -Wextra -Werror -O2 -I"$top/include" "$here/check.c" -L"$lib" -laudala -o "$work/check_c"
+rustc --edition 2024 -O "$here/check.rs" -L"native=$lib" -l static=audala -o "$work/check_rs"
+"$work/check_c" <"$top/crates/blocks_main/stdin" | tee "$work/c.txt"
+"$work/check_rs" <"$top/crates/blocks_main/stdin" >"$work/rs.txt"
+cmp "$work/c.txt" "$work/rs.txt"
+echo "examples: both agree"

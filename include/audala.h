@@ -1,0 +1,36 @@
+/* The AuDaLa checker for C. Link with libaudala.a (rt staticlib audala).
+ *
+ * Numbers are those of the scope paper, 01. Nothing here is promised that the contract of the function does not fix. */
+#ifndef AUDALA_H
+#define AUDALA_H
+
+#include <stddef.h>
+#include <stdint.h>
+
+#ifdef __cplusplus
+extern "C" {
+#endif
+
+/* Places of the command list that a check asks for, else 13. */
+#define AUDALA_LIST_PLACES 1024
+
+/* What a check answers. After a refusal all but the number are 0. */
+typedef struct {
+    uint32_t number;   /* 0: accepted; 1 to 8, 13: 01's number of the refusal */
+    uint32_t structs;  /* structs of the program */
+    uint32_t steps;    /* steps of all structs */
+    uint32_t commands; /* commands of all steps */
+    uint32_t depth;    /* the greatest stack height over all steps */
+} audala_verdict;
+
+/* Checks a program image of `length` bytes. Where it is accepted, its commands stand in the list from the first place on:
+ * structs in order, each struct's steps in stream order; further places are untouched. A refusal leaves the whole list as it
+ * was. A command's place holds kind + 256 * type byte + 2^32 * operand; the kinds are
+ *   1 push T V   2 push this   3 rd x   4 wr x   5 cons k   6 if n   7 not   8 op o */
+audala_verdict audala_check(const uint8_t *image, size_t length, uint64_t *list, size_t places);
+
+#ifdef __cplusplus
+}
+#endif
+
+#endif
