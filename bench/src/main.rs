@@ -1,5 +1,5 @@
 //! Times both checkers on the same images, one after the other in one process, and holds their answers together: P, the
-//! program with the most commands, and an image of 64 blocks that is refused at its last byte.
+//! program with the most commands, the longest that is accepted, and an image of 64 blocks that is refused at its last byte.
 use std::hint::black_box;
 use std::time::Instant;
 
@@ -47,6 +47,28 @@ fn most_commands() -> Vec<u8> {
     s
 }
 
+/// The longest stream that is accepted, to within a few bytes: a construct statement with eight Int literals takes the most bytes
+/// for its commands, seven of them and one without parameters are 64 commands; then steps without statements and 64 items.
+fn longest_accepted() -> Vec<u8> {
+    let mut s = vec![16];
+    (0..15).for_each(|_| s.extend([8, 0, 0, 0, 0, 0, 0, 0, 0]));
+    s.push(0);
+    for k in 0..16 {
+        s.extend([8, 0, 8]);
+        for _ in 0..7 {
+            s.extend([4, k % 15]);
+            (0..8).for_each(|n| s.extend([19, n, k, 0, 0]));
+        }
+        s.extend([4, 15]);
+        (1..8).for_each(|name| s.extend([name, 0]));
+    }
+    s.push(32);
+    (0..31).for_each(|i| s.extend([2, i % 16, i % 8]));
+    s.extend([3, 32]);
+    (0..32).for_each(|i| s.extend([2, i % 16, i % 8]));
+    s
+}
+
 /// As many updates as 64 blocks hold, a schedule, and one byte too many at the very end.
 fn one_byte_too_many() -> Vec<u8> {
     let mut s = vec![16];
@@ -83,5 +105,6 @@ fn main() {
     let p = [1, 2, 0, 16, 1, 0, 1, 3, 1, 0, 41, 18, 1, 0, 18, 2, 1, 0, 1, 1, 0];
     compare("P", &p, 2000);
     compare("most commands", &most_commands(), 300);
+    compare("longest accepted", &longest_accepted(), 200);
     compare("refused at its end", &one_byte_too_many(), 60);
 }
