@@ -1,0 +1,27 @@
+//! An AuDaLa engine after 01 (all of it) and 000, sections 3 and 4.
+#![forbid(unsafe_code)]
+
+mod blocks;
+mod command;
+mod compile;
+mod cursor;
+mod engine;
+mod instance;
+mod limits;
+mod listing;
+mod machine;
+mod operators;
+mod program;
+mod reader;
+mod refusal;
+mod schedule;
+mod syntax;
+mod table;
+mod types;
+mod typing;
+
+pub use command::Command;
+pub use engine::{CheckAnswer, RunAnswer, check, run};
+pub use listing::listing;
+pub use operators::Operator;
+pub use types::Type;

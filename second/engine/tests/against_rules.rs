@@ -1,0 +1,111 @@
+//! Random programs, run by the engine and by the rules of 000 one by one.
+mod common;
+mod generator;
+mod rules;
+use common::{OUTPUT, image, list};
+use engine::{check, listing, run};
+use generator::{Random, Source, encode, source};
+use rules::listed::listed;
+use rules::{State, Value};
+
+fn number(value: &Value) -> i64 {
+    match *value {
+        Value::Int(number) | Value::Nat(number) => number,
+        Value::Bool(value) => i64::from(value),
+        Value::Label(label) => label as i64,
+    }
+}
+
+fn stream(records: &[(u8, Vec<Value>)]) -> Vec<u8> {
+    let numbers: Vec<(u8, Vec<i64>)> =
+        records.iter().map(|(k, values)| (*k, values.iter().map(number).collect())).collect();
+    let records: Vec<(u8, &[i64])> = numbers.iter().map(|(k, values)| (*k, &values[..])).collect();
+    common::table(&records)
+}
+
+/// Some records whose references are right.
+fn records(random: &mut Random, source: &Source) -> Vec<(u8, Vec<Value>)> {
+    let nulls = source.structs.len();
+    let kinds: Vec<usize> = (0..random.below(12)).map(|_| random.below(nulls)).collect();
+    let labels: Vec<usize> = (0..nulls).chain(kinds.iter().copied()).collect();
+    let mut some = |of: u8| {
+        if of < 16 {
+            let number = random.below(if of == 2 { 2 } else { 9 }) as i64;
+            return rules::value(of, if of == 0 { number - 4 } else { number });
+        }
+        let fit: Vec<usize> =
+            (0..labels.len()).filter(|&label| labels[label] == usize::from(of - 16)).collect();
+        Value::Label(fit[random.below(fit.len())])
+    };
+    kinds
+        .iter()
+        .map(|&kind| (kind as u8, source.structs[kind].iter().map(|&of| some(of)).collect()))
+        .collect()
+}
+
+/// The records a state of the rules would write.
+fn written(state: &State, source: &Source) -> Vec<u8> {
+    let record = |inst: &rules::Inst| {
+        let count = source.structs[usize::from(inst.structure)].len();
+        (inst.structure, inst.xi[..count].to_vec())
+    };
+    let records: Vec<_> = state.sigma[source.structs.len()..].iter().map(record).collect();
+    stream(&records)
+}
+
+/// Whether the program is accepted, with the commands and depth that the
+/// rules give; it is 6 only when it should be.
+fn checks(program: &[u8], source: &Source) -> bool {
+    let (lines, depth) = listed(source);
+    let in_step = |line: &str| line.split(' ').nth(2).map_or(0, |at| at.parse().unwrap()) + 1;
+    let longest = lines.iter().map(|line| in_step(line)).max().unwrap_or(0);
+    let answer = check(program, &mut list());
+    if longest > 64 || lines.len() > 1_024 || depth > 16 {
+        assert_eq!(answer.number, 6);
+        return false;
+    }
+    assert_eq!((answer.number, answer.commands, answer.depth), (0, lines.len(), depth));
+    let steps = source.steps.iter().map(Vec::len).sum::<usize>();
+    assert_eq!((answer.structs, answer.steps), (source.structs.len(), steps));
+    let header = format!("audala {} {steps} {} {depth}", answer.structs, lines.len());
+    let expected = [vec![header], lines, vec![String::new()]].concat().join("\n");
+    assert_eq!(String::from_utf8(listing(program)).unwrap(), expected);
+    true
+}
+
+/// One random case; the run's number, none for a program too large.
+fn case(random: &mut Random) -> Option<u8> {
+    let source = source(random);
+    let program = image(&encode::stream(&source));
+    if !checks(&program, &source) {
+        return None;
+    }
+    let records = records(random, &source);
+    let count = random.below(600);
+    let turns: Vec<u8> = (0..count).map(|_| random.below(256) as u8).collect();
+    let mut state = State::new(&source, &records);
+    let (number, taken) = state.run(&turns);
+    let mut output = vec![0xA5; OUTPUT];
+    let answer = run(&program, &image(&stream(&records)), &turns, &mut output, &mut list());
+    let expected = image(&written(&state, &source));
+    assert_eq!((answer.number, answer.turns), (number, taken));
+    assert_eq!(answer.blocks, expected.len() / 512);
+    assert_eq!(output[..expected.len()], expected);
+    assert!(output[expected.len()..].iter().all(|&byte| byte == 0xA5));
+    Some(number)
+}
+
+#[test]
+fn the_engine_follows_the_rules() {
+    let mut random = Random(0x9E37_79B9_7F4A_7C15);
+    let mut seen = [0usize; 256];
+    let mut large = 0;
+    for _ in 0..250 {
+        match case(&mut random) {
+            Some(number) => seen[usize::from(number)] += 1,
+            None => large += 1,
+        }
+    }
+    println!("ended {} 33: {} 34: {} 35: {} large {large}", seen[0], seen[33], seen[34], seen[35]);
+    assert!(seen[0] > 50 && seen[33] > 20 && seen[35] > 20);
+}
