@@ -1,9 +1,9 @@
 //! Nanoseconds a command takes, with 2 and with 256 instances.
 
-use crate::cases::{LIST_FILL, OUTPUT_FILL};
-use crate::engine::run;
+use crate::cases::OUTPUT_FILL;
 use crate::generate::encode::{Record, image, table_stream};
 use crate::generate::random::Random;
+use engine::run;
 use std::fmt::Write;
 use std::time::Instant;
 
@@ -41,7 +41,7 @@ fn nanoseconds(program: &[u8], instances: u32, turns: &[u8]) -> f64 {
         (1..instances).map(|label| Record { of: 0, values: vec![1, label - 1] }).collect();
     let table = image(&table_stream(&records));
     let mut output = vec![OUTPUT_FILL; 8_704];
-    let mut list = vec![LIST_FILL; 1_024];
+    let mut list = vec![None; 1_024];
     let mut best = f64::INFINITY;
     for _ in 0..GROUPS {
         let start = Instant::now();

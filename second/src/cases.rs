@@ -1,10 +1,10 @@
 //! Cases to compare engines by: their format, and the line that answers one.
 //! The format stands in docs/CASES.md.
 
-use crate::engine::{check, run};
+use crate::coding::coded;
+use engine::{Command, check, run};
 use std::io::{self, Read};
 
-pub const LIST_FILL: u64 = 0xA5A5_A5A5_A5A5_A5A5;
 pub const OUTPUT_FILL: u8 = 0xA5;
 
 pub const MOST_PLACES: usize = 1_100;
@@ -63,7 +63,7 @@ impl Case {
     pub fn answer(&self) -> String {
         match self {
             Case::Check { places, program } => {
-                let mut list = vec![LIST_FILL; *places];
+                let mut list = vec![None; *places];
                 let answer = check(program, &mut list);
                 format!(
                     "check {} {} {} {} {} {}",
@@ -76,7 +76,7 @@ impl Case {
                 )
             }
             Case::Run { places, output, program, table, turns } => {
-                let mut list = vec![LIST_FILL; *places];
+                let mut list = vec![None; *places];
                 let mut output = vec![OUTPUT_FILL; *output];
                 let answer = run(program, table, turns, &mut output, &mut list);
                 format!(
@@ -93,8 +93,8 @@ impl Case {
     }
 }
 
-fn list_digest(list: &[u64]) -> u64 {
-    digest(list.iter().flat_map(|place| place.to_le_bytes()))
+fn list_digest(list: &[Option<Command>]) -> u64 {
+    digest(list.iter().flat_map(|place| coded(*place).to_le_bytes()))
 }
 
 /// h := (h × 65599 + byte + 1) mod 4294967291, from 0.

@@ -47,7 +47,7 @@ fn answer_cases() -> io::Result<()> {
 fn list_image() -> io::Result<()> {
     let mut image = Vec::new();
     io::stdin().lock().read_to_end(&mut image)?;
-    io::stdout().write_all(listing(&image).as_bytes())
+    io::stdout().write_all(&listing(&image))
 }
 
 fn generate(seed: u64, count: usize) -> io::Result<()> {

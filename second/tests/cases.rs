@@ -1,12 +1,14 @@
-//! The case format, the generator and the committed cases.
+//! The case format, the coding of the list, the generator and the committed
+//! cases.
 
 use second::cases::{Case, digest};
-use second::generate::encode::program_stream;
+use second::check;
+use second::coding::{LIST_FILL, coded};
+use second::generate::edges::{P, edges};
+use second::generate::encode::{image, program_stream};
 use second::generate::programs::random_program;
 use second::generate::random::Random;
-use second::generate::{Generator, edges::edges};
-use second::operator::OPERATORS;
-use second::reader::read_program;
+use second::generate::{Generator, syntax::Operator};
 use std::collections::BTreeSet;
 
 fn file_of(cases: &[Case]) -> Vec<u8> {
@@ -19,6 +21,22 @@ fn cases_of(file: &[u8]) -> Vec<Case> {
     let mut rest = file;
     std::iter::from_fn(|| Case::read(&mut rest).expect("whole cases")).collect()
 }
+
+const OPERATORS: [Operator; 13] = [
+    Operator::Equal,
+    Operator::NotEqual,
+    Operator::LessEqual,
+    Operator::GreaterEqual,
+    Operator::Less,
+    Operator::Greater,
+    Operator::Times,
+    Operator::Divide,
+    Operator::Remainder,
+    Operator::Plus,
+    Operator::Minus,
+    Operator::And,
+    Operator::Or,
+];
 
 fn numbers(cases: &[Case]) -> BTreeSet<u8> {
     let number = |line: String| line.split(' ').nth(1).unwrap().parse().unwrap();
@@ -52,12 +70,48 @@ fn the_same_seed_gives_the_same_cases() {
     assert!((0..40).all(|_| one.next_case() == other.next_case()));
 }
 
+/// The list that a check of a stream leaves, as numbers.
+fn coded_list(stream: &[u8]) -> Vec<u64> {
+    let mut list = [None; 1_024];
+    assert_eq!(check(&image(stream), &mut list).number, 0);
+    list.map(coded).to_vec()
+}
+
 #[test]
-fn streams_read_as_the_programs_they_were_made_of() {
+fn a_command_is_coded_as_the_format_says() {
+    let at = |value: u64| value << 32;
+    let (list, untouched) = (coded_list(&P), [LIST_FILL; 1_024]);
+    assert_eq!(list[..8], [2, 3, 2, 3 + at(1), 3, 8 + at(41), 2, 4]);
+    assert_eq!(list[8..], untouched[8..]);
+    // struct 0 (Int, Nat, struct 1), construct 0 (-5, 7, null); if not true:
+    // construct 1, and a local
+    let stream = [
+        2, 3, 0, 1, 17, 0, 1, 5, 2, 4, 0, 19, 251, 255, 255, 255, 20, 7, 0, 0, 0, 22, 17, 1, 16,
+        21, 1, 2, 4, 1, 2, 17, 15, 22, 17, 0, 1, 1, 5,
+    ];
+    let wanted = [
+        1 + at(0xFFFF_FFFB),
+        1 + 256 + at(7),
+        1 + 256 * 17 + at(1),
+        5,
+        1 + 512 + at(1),
+        7,
+        6 + at(4),
+        5 + at(1),
+        1 + 256 * 17 + at(1),
+        2,
+        4 + at(15),
+    ];
+    assert_eq!(coded_list(&stream)[..12], [&wanted[..], &[LIST_FILL]].concat());
+}
+
+/// Undamaged programs are whole: nothing but their size is ever refused.
+#[test]
+fn seeded_programs_are_accepted_or_too_large() {
     let mut random = Random::new(11);
-    for _ in 0..200 {
-        let program = random_program(&mut random);
-        assert_eq!(read_program(&program_stream(&program)), Ok(program));
+    for _ in 0..400 {
+        let program = image(&program_stream(&random_program(&mut random)));
+        assert!(matches!(check(&program, &mut [None; 1_024]).number, 0 | 6));
     }
 }
 
@@ -66,8 +120,6 @@ fn seeded_programs_use_the_whole_language() {
     let mut random = Random::new(2);
     let programs: Vec<_> = (0..600).map(|_| random_program(&mut random)).collect();
     let text = format!("{programs:?}");
-    let mut wanted: Vec<String> =
-        OPERATORS.iter().map(|one| format!("operator: {one:?},")).collect();
     let parts = [
         "If {",
         "Declare {",
@@ -89,8 +141,9 @@ fn seeded_programs_use_the_whole_language() {
         "Fix([Step",
         "path: Path([8",
     ];
-    wanted.extend(parts.map(String::from));
-    wanted.iter().for_each(|part| assert!(text.contains(part), "{part}"));
+    let operators = OPERATORS.map(|one| format!("operator: {one:?},"));
+    let wanted = operators.into_iter().chain(parts.map(String::from));
+    wanted.for_each(|part| assert!(text.contains(&part), "{part}"));
     assert!(
         text.split("Path([").any(|path| path.split(']').next().unwrap().split(',').count() == 4)
     );

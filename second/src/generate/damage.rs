@@ -1,11 +1,10 @@
 //! Damage: to single bytes, to streams whose blocks are made right again, to
 //! the parts of a program, and to the blocks themselves.
 
-use super::encode::{image, seal};
+use super::encode::{BLOCK_BYTES, image, seal};
+use super::expressions::any_type;
 use super::random::Random;
-use crate::limits::BLOCK_BYTES;
-use crate::syntax::{Program, Statement, Step};
-use crate::types::Type;
+use super::syntax::{Expression, Program, Statement, Step, Type};
 
 /// Bytes that mean something somewhere.
 const TELLING: [u8; 20] = [0, 1, 2, 3, 4, 5, 7, 8, 15, 16, 17, 18, 21, 22, 23, 31, 32, 33, 44, 45];
@@ -44,7 +43,7 @@ pub fn structure(random: &mut Random, program: &mut Program) {
     let structs = program.structs.len();
     let definition = &mut program.structs[random.below(structs)];
     if definition.steps.is_empty() || random.chance(15) {
-        let of = super::expressions::any_type(random, structs);
+        let of = any_type(random, structs);
         match definition.parameters.len() {
             0 => definition.steps.push(Step { name: random.below(32) as u8, body: Vec::new() }),
             count => definition.parameters[random.below(count)] = of,
@@ -79,8 +78,7 @@ fn statement(random: &mut Random, given: &mut Statement, structs: usize) {
     match given {
         Statement::If { body: inside, .. } if random.chance(70) => body(random, inside, structs),
         Statement::If { condition, .. } => {
-            *condition =
-                crate::syntax::Expression::Null(super::expressions::any_type(random, structs));
+            *condition = Expression::Null(any_type(random, structs));
         }
         Statement::Declare { of, .. } if random.chance(50) => {
             *of = *random.pick(&[Type::Int, Type::Nat, Type::Bool]);

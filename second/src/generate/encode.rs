@@ -2,9 +2,10 @@
 //! "Blocks", "Program stream" and "Table and turns". Counts are written as
 //! they come, so that a stream may break every limit.
 
-use crate::limits::{BLOCK_BYTES, PAYLOAD_BYTES};
-use crate::syntax::{Expression, Item, Path, Program, Statement};
-use crate::types::Type;
+use super::syntax::{Expression, Item, Path, Program, Statement, Type};
+
+pub const BLOCK_BYTES: usize = 512;
+const PAYLOAD_BYTES: usize = 504;
 
 /// A record of a table: a struct byte and its values.
 #[derive(Clone, Debug, PartialEq, Eq)]

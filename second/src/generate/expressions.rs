@@ -1,10 +1,7 @@
 //! Random well-typed expressions and paths.
 
 use super::random::Random;
-use crate::limits::FIRST_LOCAL;
-use crate::operator::Operator;
-use crate::syntax::{Expression, Path};
-use crate::types::Type;
+use super::syntax::{Expression, FIRST_LOCAL, Operator, Path, Type};
 
 const ORDERS: [Operator; 4] =
     [Operator::LessEqual, Operator::GreaterEqual, Operator::Less, Operator::Greater];

@@ -7,16 +7,16 @@ pub mod encode;
 pub mod expressions;
 pub mod programs;
 pub mod random;
+pub mod syntax;
 pub mod tables;
 
 use crate::cases::{
-    Case, LIST_FILL, MOST_OUTPUT, MOST_PLACES, MOST_PROGRAM, MOST_TABLE, MOST_TURNS, OUTPUT_FILL,
+    Case, MOST_OUTPUT, MOST_PLACES, MOST_PROGRAM, MOST_TABLE, MOST_TURNS, OUTPUT_FILL,
 };
-use crate::engine::run;
-use crate::syntax::Program;
-use crate::types::Type;
 use encode::{image, program_stream, table_stream};
+use engine::run;
 use random::Random;
+use syntax::{Program, Type};
 
 /// The seeded cases, one after another.
 pub struct Generator {
@@ -75,7 +75,7 @@ fn whole_run(random: &mut Random, most: usize) -> Case {
 /// Turns cut about where the run stops: on the byte, one short of it, or more.
 fn fitting_turns(random: &mut Random, program: &[u8], table: &[u8], most: usize) -> Vec<u8> {
     let mut turns = tables::turn_bytes(random, most);
-    let (mut output, mut list) = (vec![OUTPUT_FILL; 8_704], vec![LIST_FILL; 1_024]);
+    let (mut output, mut list) = (vec![OUTPUT_FILL; 8_704], vec![None; 1_024]);
     let answer = run(program, table, &turns, &mut output, &mut list);
     let refused = matches!(answer.number, 34 | 35);
     let needed = answer.turns + usize::from(refused);

@@ -1,14 +1,13 @@
 //! Random well-typed programs. A step is calm when what it changes comes to
 //! rest, so that a Fix round it mostly ends; other steps hold any statement.
 
+use super::encode::{image, program_stream};
 use super::expressions::{Scope, any_type, binary};
 use super::random::Random;
-use crate::compile::compile;
-use crate::limits::FIRST_LOCAL;
-use crate::number::Number;
-use crate::operator::Operator;
-use crate::syntax::{Expression, Item, Path, Program, Statement, Step, StructDef};
-use crate::types::Type;
+use super::syntax::{
+    Expression, FIRST_LOCAL, Item, Operator, Path, Program, Statement, Step, StructDef, Type,
+};
+use engine::check;
 
 /// A program inside every limit, save now and then over one of number 6.
 pub fn random_program(random: &mut Random) -> Program {
@@ -16,7 +15,7 @@ pub fn random_program(random: &mut Random) -> Program {
     if random.chance(3) {
         return program;
     }
-    while compile(&program).is_err_and(|number| number == Number::ProgramLimit) {
+    while check(&image(&program_stream(&program)), &mut [None; 1_024]).number == 6 {
         shorten(random, &mut program);
     }
     program

@@ -3,7 +3,7 @@
 use super::encode::Record;
 use super::expressions::number;
 use super::random::Random;
-use crate::types::Type;
+use super::syntax::Type;
 
 /// Records for the given structs, all values allowed. References go mostly to
 /// lower labels, so that following them comes to an end.

@@ -1,7 +1,51 @@
-//! The parts of a program as its stream gives them: 01, "Program stream".
+//! The programs that the generator makes, after 01, "Program stream", with the
+//! bytes of their types and operators. It knows no limit and checks nothing.
 
-use crate::operator::Operator;
-use crate::types::Type;
+#[derive(Clone, Copy, Debug, PartialEq, Eq)]
+pub enum Type {
+    Int,
+    Nat,
+    Bool,
+    Struct(u8),
+}
+
+impl Type {
+    pub fn byte(self) -> u8 {
+        match self {
+            Type::Int => 0,
+            Type::Nat => 1,
+            Type::Bool => 2,
+            Type::Struct(k) => 16 + k,
+        }
+    }
+}
+
+#[derive(Clone, Copy, Debug, PartialEq, Eq)]
+#[repr(u8)]
+pub enum Operator {
+    Equal = 32,
+    NotEqual,
+    LessEqual,
+    GreaterEqual,
+    Less,
+    Greater,
+    Times,
+    Divide,
+    Remainder,
+    Plus,
+    Minus,
+    And,
+    Or,
+}
+
+impl Operator {
+    pub fn byte(self) -> u8 {
+        self as u8
+    }
+}
+
+/// The first of the eight locals.
+pub const FIRST_LOCAL: u8 = 8;
 
 #[derive(Clone, Debug, PartialEq, Eq)]
 pub struct Program {
