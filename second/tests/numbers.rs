@@ -1,18 +1,25 @@
-//! 7 before 8 over the whole program: the breach of types first in the stream,
-//! that of names in a later step of the same struct, of another, and the
-//! reverse of each.
+//! Numbers of a check in places that the engine's own tests leave out.
 
 use second::check;
 use second::generate::encode::image;
-
-/// `load := null Nat`, which breaks a type, and `x8 := null Int`, a name.
-const TYPE: [u8; 6] = [1, 3, 1, 0, 22, 1];
-const NAME: [u8; 6] = [1, 3, 1, 8, 22, 0];
 
 fn number(stream: &[u8]) -> u8 {
     check(&image(stream), &mut [None; 1_024]).number
 }
 
+/// The count itself is not allowed, whatever stands behind it.
+#[test]
+fn no_struct_is_5() {
+    for rest in [&[][..], &[1, 1, 0], &[1, 3, 1, 1, 0], &[0]] {
+        assert_eq!(number(&[&[0], rest].concat()), 5);
+    }
+}
+
+/// `load := null Nat`, which breaks a type, and `x8 := null Int`, a name.
+const TYPE: [u8; 6] = [1, 3, 1, 0, 22, 1];
+const NAME: [u8; 6] = [1, 3, 1, 8, 22, 0];
+
+/// Over the whole program, in two steps of one struct and of two.
 #[test]
 fn a_name_in_one_step_comes_before_a_type_in_another() {
     for (first, other, wanted) in
