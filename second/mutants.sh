@@ -1,5 +1,5 @@
 #!/usr/bin/env bash
-# Plants faults in copies of the second engine, one at a time. The committed
+# Plants faults in a copy of the second engine, one at a time. The committed
 # cases or the tests have to catch each; fails if one survives, did not apply
 # or did not build. With words, only the mutants whose name holds one of them.
 set -euo pipefail
@@ -8,10 +8,11 @@ here=$(cd "$(dirname "$0")" && pwd)
 work=$(mktemp -d)
 trap 'rm -rf "$work"' EXIT
 copy=$work/second
-export CARGO_TARGET_DIR=$work/target
+export CARGO_TARGET_DIR=$work/target CARGO_PROFILE_DEV_DEBUG=0 RUST_BACKTRACE=0
 only=("$@")
 planted=0
 failed=0
+by_cases=0
 
 chosen() {
     local word
@@ -22,26 +23,24 @@ chosen() {
     return 1
 }
 
-fresh_copy() {
-    rm -rf "$copy"
-    mkdir "$copy"
-    cp -r "$here/Cargo.toml" "$here/Cargo.lock" "$here/src" "$here/tests" "$here/cases" "$copy/"
+build() {
+    (cd "$copy" && cargo build --quiet --offline --jobs 1 --package second) >"$work/build.txt" 2>&1
 }
 
+# Up to the first line that differs; one that is missing does.
 answers_differ() {
-    ! timeout 120 "$CARGO_TARGET_DIR/debug/second" <"$copy/cases/cases.bin" \
-        >"$work/answers.txt" 2>/dev/null ||
-        ! cmp -s "$work/answers.txt" "$copy/cases/expected.txt"
+    ! (timeout 60 "$CARGO_TARGET_DIR/debug/second" <"$copy/cases/cases.bin" 2>/dev/null || true) |
+        cmp -s - "$copy/cases/expected.txt"
 }
 
 tests_fail() {
-    ! (cd "$copy" && timeout 300 cargo test --quiet --offline --jobs 1) >/dev/null 2>&1
+    ! (cd "$copy" && timeout 300 cargo test --quiet --offline --jobs 1) >"$work/tests.txt" 2>&1
 }
 
 verdict() {
-    if cmp -s "$here/src/$1" "$copy/src/$1"; then
+    if cmp -s "$here/engine/src/$1" "$copy/engine/src/$1"; then
         echo "NOT APPLIED"
-    elif ! (cd "$copy" && cargo build --quiet --offline --jobs 1) >"$work/build.txt" 2>&1; then
+    elif ! build; then
         echo "NOT BUILT"
     elif answers_differ; then
         echo "caught by the cases"
@@ -56,151 +55,221 @@ verdict() {
 mutant() {
     local said
     chosen "$1" || return 0
-    fresh_copy
-    sed -i -E "$3" "$copy/src/$2"
+    sed -i -E "$3" "$copy/engine/src/$2"
     said=$(verdict "$2")
+    cp "$here/engine/src/$2" "$copy/engine/src/$2"
     planted=$((planted + 1))
     echo "$1: $said"
-    [[ $said == caught* ]] || failed=$((failed + 1))
+    case $said in
+    "caught by the cases") by_cases=$((by_cases + 1)) ;;
+    caught*) ;;
+    *) failed=$((failed + 1)) ;;
+    esac
 }
 
-# A limit put to another value.
+# A limit put one, or so many, to each side.
 limit() {
-    mutant "$1 is $2" limits.rs "s/^(pub const $1: [a-z0-9]+ =) .*;/\\1 $2;/"
+    local name=$1 value=$2 by=${3:-1} other
+    for other in $((value - by)) $((value + by)); do
+        mutant "$name is $other" limits.rs "s/^(pub const $name: [a-z0-9]+ =) .*;/\\1 $other;/"
+    done
 }
 
-both_sides() {
-    local name=$1 value=$2 by=${3:-1}
-    limit "$name" $((value - by))
-    limit "$name" $((value + by))
-}
+mkdir "$copy"
+(cd "$here" && cp -r Cargo.toml Cargo.lock src tests cases engine "$copy/")
+if ! build || answers_differ; then
+    echo "mutants: the engine as it is does not give the committed answers" >&2
+    exit 1
+fi
 
 # The slips seen before.
 mutant "null instances skipped" machine.rs \
-    's/iter_mut\(\)\.enumerate\(\) \{/iter_mut().enumerate().skip(self.program.parameters.len()) {/'
-mutant "null parameters written" machine.rs 's/ else if to >= self.program.parameters.len\(\) \{/ else {/'
-mutant "null writes unsettle" machine.rs \
-    's/ else if to >= self.program.parameters.len\(\) \{/ else if { self.stable = 0; to >= self.program.parameters.len() } {/'
-mutant "first record taken for null" machine.rs 's/to >= self.program/to > self.program/'
-mutant "and cut short" step.rs \
-    's/( +)Expression::Binary \{ operator, left, right \} => \{/&\nif *operator == crate::operator::Operator::And \&\& **left == (Expression::Literal { of: Type::Bool, value: 0 }) { return self.push(Type::Bool, 0); }/'
-mutant "constructor leaves stability" machine.rs '/fn construct/,/^    }/ s/self\.stable = 0;//'
-mutant "inner Fix clears its own entry" machine.rs \
-    '/fn write/,/^    }/ s/self\.stable = 0;/self.stable \&= !(1 << self.entries.saturating_sub(1));/'
+    's/in instances\.iter\(\)\.enumerate\(\) \{/in instances.iter().enumerate().skip(program.structs.len()) {/'
+mutant "null parameters written" machine.rs 's/if is_parameter && target < self\.structs\.len\(\) \{/if false {/'
+mutant "null writes unsettle" machine.rs '/fn write/,/^    }/ s/return;/self.schedule.stability.disturb(); return;/'
+mutant "first record taken for null" machine.rs 's/target < self\.structs\.len\(\)/target <= self.structs.len()/'
+mutant "and cut short" reader.rs \
+    '/let operator = Operator::from_byte/{n;s/$/ let cut = self.tree.nodes.len();/;n;s/$/ if operator == Operator::And \&\& matches!(self.tree.nodes[cut - 1], Node::Value(_, 0)) { self.tree.nodes.truncate(cut); return Ok(()); }/}'
+mutant "or cut short" reader.rs \
+    '/let operator = Operator::from_byte/{n;s/$/ let cut = self.tree.nodes.len();/;n;s/$/ if operator == Operator::Or \&\& matches!(self.tree.nodes[cut - 1], Node::Value(_, 1)) { self.tree.nodes.truncate(cut); return Ok(()); }/}'
+mutant "constructor leaves stability" machine.rs '/fn construct/,/^    }/ s/self\.schedule\.stability\.disturb\(\);//'
+mutant "inner Fix clears its own entry" schedule.rs \
+    's/self\.entries = 0;/self.entries \&= !((1 << self.count) >> 1);/'
+mutant "all entries cleared but the first" schedule.rs 's/self\.entries = 0;/self.entries \&= 1;/'
 
 # The rules of a run.
-mutant "unchanged write unsettles" machine.rs 's/if \*place != value \{/if true {/'
-mutant "null locals dropped" machine.rs \
-    's/if let Some\(local\) = variable.checked_sub\(FIRST_LOCAL\) \{/if to < self.program.parameters.len() \&\& variable >= FIRST_LOCAL {} else &/'
-mutant "refused byte counted" machine.rs \
-    '/self\.turn\(byte\)/,/}/ s/return \(number, taken\)/return (number, taken + 1)/'
+mutant "unchanged write unsettles" machine.rs 's/if is_parameter && \*kept != value \{/if is_parameter {/'
+mutant "local write unsettles" machine.rs 's/if is_parameter && \*kept != value \{/if *kept != value {/'
+mutant "null locals dropped" machine.rs 's/if is_parameter && target < /if target < /'
+mutant "refused byte counted" machine.rs '/self\.turn\(choice\)/{n;s/break/taken += 1; break/}'
 mutant "no moves behind the last byte" machine.rs \
-    's/if let Err\(number\) = self\.moves\(\) \{/if (taken == 0 || taken < turns.len()) \&\& let Err(number) = self.moves() {/'
+    's/match self\.settle\(\) \{/match if taken > 0 \&\& taken == turns.len() { Ok(true) } else { self.settle() } {/'
 mutant "no moves before the first byte" machine.rs \
-    's/let mut taken = 0;/let mut taken = 0; if turns.is_empty() { return (Number::TurnsUsedUp, 0); }/'
-mutant "stack kept at a start" machine.rs '/fn start\(&mut self, part/,/}/ s/self\.height = 0;//'
-mutant "typed item starts all" machine.rs 's/of != instance\.of/of > 99/'
-mutant "arguments turned round" machine.rs 's/\.iter_mut\(\)\.rev\(\)/.iter_mut()/'
-mutant "operands turned round" machine.rs 's/operator\.apply\(of, left, right\)/operator.apply(of, right, left)/'
-mutant "true if skips" machine.rs 's/if instance\.pop\(\) == 0 \{/if instance.pop() == 1 {/'
-mutant "if skips one less" machine.rs 's/return Ok\(count as u16\)/return Ok((count as u16).saturating_sub(1))/'
-mutant "Fix not made stable again" machine.rs '/Move::FixEnd/,/return/ s/self\.stable \|= top;//'
-mutant "Fix made unstable" machine.rs 's/self\.stable \|= 1 << self\.entries;//'
-mutant "Fix ends after one round" machine.rs 's/if self\.stable & top == 0 \{/if false {/'
-mutant "byte bounded, not modulo" holders.rs 's/usize::from\(byte\) % self\.count/usize::from(byte).min(self.count - 1)/'
-mutant "holders not in label order" holders.rs \
-    's/self\.labels\.copy_within\(.*/self.labels[place] = self.labels[self.count - 1];/'
-mutant "34 one instance early" machine.rs \
-    's/( +)if self\.instances\.len\(\) == INSTANCES \{/\1if self.instances.len() == INSTANCES - 1 {/'
+    's/let mut taken = 0;/& if turns.is_empty() { return Ending { number: 33, turns: 0 }; }/'
+mutant "stack kept at a start" instance.rs 's/self\.stack\.height = 0;//'
+mutant "typed item starts all" program.rs 's/step\.structure == structure && step\.name == name/step.name == name/'
+mutant "plain item starts the first struct" program.rs \
+    's/\(parts\(steps, \|step\| step\.name == name\)\)/(parts(steps, |step| step.structure == 0 \&\& step.name == name))/'
+mutant "new instances never start" machine.rs 's/self\.members\[usize::from\(structure\)\]\.push\(new_label as u8\);//'
+mutant "cons leaves the own label" machine.rs 's/stack\.push\(new_label as u32\)/stack.push(u32::from(label))/'
+mutant "this is the struct" machine.rs 's/acting\.stack\.push\(u32::from\(label\)\)/acting.stack.push(u32::from(acting.structure))/'
+mutant "every read is of the own" machine.rs 's/let target = \*self\.instances\[usize::from\(label\)\]\.stack\.top\(\);/let target = u32::from(label);/'
+mutant "arguments turned round" machine.rs \
+    's/instance\.variables\[\.\.count\]\.copy_from_slice.*;/& instance.variables[..count].reverse();/'
+mutant "operands turned round" machine.rs 's/operator\.apply\(signed, a, b\)/operator.apply(signed, b, a)/'
+mutant "true if skips" machine.rs 's/if acting\.stack\.pop\(\) == 0 \{/if acting.stack.pop() != 0 {/'
+mutant "if skips one less" machine.rs 's/next \+= u16::from\(count\);/next += u16::from(count).saturating_sub(1);/'
+mutant "not keeps its value" machine.rs 's/\*acting\.stack\.top\(\) \^= 1/*acting.stack.top() ^= 0/'
+mutant "Fix not made stable again" schedule.rs 's/self\.entries \|= top;//'
+mutant "Fix met unstable" schedule.rs 's/self\.entries \|= 1 << self\.count;//'
+mutant "Fix ends after one round" schedule.rs 's/let stable = .*;/let stable = true;/'
+mutant "Fix leaves its entry" schedule.rs 's/self\.count -= 1;//'
+mutant "Fix goes back to the first item" schedule.rs 's/self\.position = \*body;/self.position = 0;/'
+mutant "byte bounded, not modulo" machine.rs 's/let place = .*;/let place = usize::from(choice).min(self.holders.len() - 1);/'
+mutant "holders not in label order" machine.rs 's/self\.holders\.remove\(place\)/self.holders.swap_remove(place)/'
+mutant "holders by struct" machine.rs 's/self\.holders\.sort_unstable\(\);//'
+mutant "34 one instance early" machine.rs 's/if new_label == INSTANCES \{/if new_label == INSTANCES - 1 {/'
+mutant "36 one entry early" schedule.rs 's/if self\.count == NESTING \{/if self.count == NESTING - 1 {/'
+mutant "36 one entry late" schedule.rs 's/if self\.count == NESTING \{/if self.count == NESTING + 1 {/; s/1 << self\.count/1u8.wrapping_shl(self.count as u32)/'
 
 # Arithmetic.
-mutant "Int division rounds down" operator.rs '0,/left\.checked_div\(right\)/ s//left.checked_div_euclid(right)/'
-mutant "Int remainder never below 0" operator.rs 's/left\.wrapping_rem\(right\)/left.wrapping_rem_euclid(right)/'
-mutant "least Int % -1 refused" operator.rs 's/\(right != 0\)\.then\(\|\| left\.wrapping_rem\(right\)\)/left.checked_rem(right)/'
-mutant "least Int / -1 wraps" operator.rs '0,/left\.checked_div\(right\)/ s//(right != 0).then(|| left.wrapping_div(right))/'
-mutant "Int sum wraps" operator.rs '0,/left\.checked_add\(right\)/ s//Some(left.wrapping_add(right))/'
-mutant "Nat minus wraps" operator.rs '/fn on_nat/,$ s/left\.checked_sub\(right\)/Some(left.wrapping_sub(right))/'
-mutant "Nat minus stops at 0" operator.rs '/fn on_nat/,$ s/left\.checked_sub\(right\)/Some(left.saturating_sub(right))/'
-mutant "Nat compared as Int" operator.rs 's/_ => self\.on_nat\(left, right\)/_ if (self as u8) < 38 => self.on_int(left.cast_signed(), right.cast_signed()), &/'
-mutant "or taken for and" operator.rs 's/Or => Some\(left \| right\)/Or => Some(left \& right)/'
+mutant "Int division rounds down" operators.rs 's/a\.checked_div\(b\)\?/a.checked_div_euclid(b)?/'
+mutant "Int remainder never below 0" operators.rs 's/a\.wrapping_rem\(b\)/a.wrapping_rem_euclid(b)/'
+mutant "least Int % -1 refused" operators.rs 's/a\.wrapping_rem\(b\)/a.checked_rem(b)?/'
+mutant "least Int / -1 wraps" operators.rs 's/a\.checked_div\(b\)\?/(b != 0).then(|| a.wrapping_div(b))?/'
+mutant "Int % 0 is 0" operators.rs 's/Remainder if b == 0 => return None/Remainder if b == 0 => 0/'
+mutant "Nat / 0 is 0" operators.rs 's/a\.checked_div\(b\),/Some(a.checked_div(b).unwrap_or(0)),/'
+mutant "Int sum wraps" operators.rs 's/a\.checked_add\(b\)\?/a.wrapping_add(b)/'
+mutant "Int minus wraps" operators.rs 's/a\.checked_sub\(b\)\?/a.wrapping_sub(b)/'
+mutant "Int product wraps" operators.rs 's/a\.checked_mul\(b\)\?/a.wrapping_mul(b)/'
+mutant "Nat sum wraps" operators.rs 's/a\.checked_add\(b\),/Some(a.wrapping_add(b)),/'
+mutant "Nat minus wraps" operators.rs 's/a\.checked_sub\(b\),/Some(a.wrapping_sub(b)),/'
+mutant "Nat minus stops at 0" operators.rs 's/a\.checked_sub\(b\),/Some(a.saturating_sub(b)),/'
+mutant "Nat product wraps" operators.rs 's/a\.checked_mul\(b\),/Some(a.wrapping_mul(b)),/'
+mutant "Nat compared as Int" operators.rs 's/_ if signed =>/_ if signed || (self as u8) < 38 =>/'
+mutant "all operands taken for Nat" typing.rs 's/\*signed = operands == Type::Int;//'
+mutant "or taken for and" operators.rs 's/Or => Some\(a \| b\)/Or => Some(a \& b)/'
+mutant "or taken for one alone" operators.rs 's/Or => Some\(a \| b\)/Or => Some(a ^ b)/'
+mutant "at most taken for less" operators.rs 's/AtMost => a <= b/AtMost => a < b/'
+mutant "at least taken for greater" operators.rs 's/AtLeast => a >= b/AtLeast => a > b/'
 
 # The order of the numbers.
 mutant "3 before 2" blocks.rs \
     's/if sums\(block\) != /if usize::from(pair(block, 0)) != index { return Err(BlockFault::Form); } &/'
 mutant "2 over all blocks before 3" blocks.rs \
-    's/( +)let mut stream = Vec::with_capacity.*/&\nif image.chunks_exact(BLOCK_BYTES).any(|block| sums(block) != (pair(block, 508), pair(block, 510))) { return Err(BlockFault::Sums); }/'
+    's/let mut stream = Vec::with_capacity.*/& if image.chunks_exact(BLOCK).any(|block| sums(block) != (pair(block, 508), pair(block, 510))) { return Err(BlockFault::Sums); }/'
 mutant "5 before 4 at level 17" reader.rs \
-    '/fn expression/,/^    }/ s/let byte = self\.byte\(\)\?;/if level > EXPRESSION_NESTING { return Err(Number::ProgramByte); } &/'
-mutant "level 17 judged by its byte" reader.rs 's/if level > EXPRESSION_NESTING \{/if level > EXPRESSION_NESTING \&\& byte < 24 \&\& byte > 15 {/'
-mutant "7 before 6" compile.rs 's/\(self\.limit, Number::ProgramLimit\)/(self.limit \&\& !self.name, Number::ProgramLimit)/'
-mutant "8 before 6" compile.rs 's/\(self\.limit, Number::ProgramLimit\)/(self.limit \&\& !self.types, Number::ProgramLimit)/'
-mutant "8 before 7" compile.rs 's/\(self\.name, Number::ProgramName\)/(self.name \&\& !self.types, Number::ProgramName)/'
+    '/fn expression/,/^    }/ s/let byte = self\.byte\(\)\?;/if level > EXPRESSION_LEVELS { return Err(Refusal::ProgramByte); } &/'
+mutant "level 17 judged by its byte" reader.rs 's/if level > EXPRESSION_LEVELS \{/if level > EXPRESSION_LEVELS \&\& !(18..24).contains(\&byte) {/'
+mutant "7 and 8 before 6" program.rs 's/let code = compile\(&tree\)\?;/typed?; &/'
+mutant "8 before 6" program.rs 's/let code = compile\(&tree\)\?;/if typed == Err(Refusal::Typing) { return Err(Refusal::Typing); } &/'
+mutant "8 before 7 in a step" typing.rs 's/typing\.node\(node\)\?;/& if typing.breach { return Err(Refusal::Typing); }/'
+mutant "8 of a step before 7 of the next" typing.rs 's/breach \|= typing\.breach;/if typing.breach { return Err(Refusal::Typing); }/'
+mutant "8 before 7 of the schedule" typing.rs \
+    's/scheduled\(&tree\.schedule, &names\)\?;/let late = scheduled(\&tree.schedule, \&names);/; s/if breach \{ Err\(Refusal::Typing\) \} else \{ Ok\(\(\)\) \}/if breach { Err(Refusal::Typing) } else { late }/'
+mutant "9 before 8" engine.rs 's/let program = Program::accept\(program\)\?;/if table.is_empty() { return Err(Refusal::TableLength); } &/'
 mutant "references before the end" table.rs \
-    's/if !reader\.bytes\.is_empty\(\) \{/if references_allowed(\&instances, parameters) \&\& !reader.bytes.is_empty() {/'
-mutant "14 before 13" engine.rs 's/if output\.len\(\) < OUTPUT_BYTES/if turns.len() <= TURNS \&\& output.len() < OUTPUT_BYTES/; s/\|\| list\.len\(\) < LIST_PLACES \{/|| turns.len() <= TURNS \&\& list.len() < LIST_PLACES {/'
-mutant "13 before 12" engine.rs \
-    's/let instances = instances_of/if list.len() < LIST_PLACES { return Err(Number::LentRoom); } &/'
-mutant "13 only for a full list" engine.rs 's/if list\.len\(\) < LIST_PLACES \{ Err/if list.len() < program.code.len() { Err/'
+    's/if !cursor\.at_end\(\) \{/if references_hold(\&instances, structs) \&\& !cursor.at_end() {/'
+mutant "13 before 12" engine.rs 's/let instances = table::read/if !has_places(list) { return Err(Refusal::Room); } &/'
+mutant "14 before 13" engine.rs 's/if output\.len\(\) < TABLE_BYTES/if turns.len() > TURNS { return Err(Refusal::TurnCount); } &/'
+mutant "13 before 7 in a check" engine.rs 's/let program = Program::accept\(image\)\?;/if !has_places(list) { return Err(Refusal::Room); } &/'
+mutant "13 in a check for its own commands" engine.rs '/^fn accept/,/^}/ s/if !has_places\(list\) \{/if list.len() < program.commands.len() {/'
 
-# Reading and checking.
-mutant "no struct" reader.rs 's/self\.between\(1, STRUCTS\)/self.between(0, STRUCTS)/'
-mutant "no item" reader.rs 's/self\.between\(1, ITEMS_IN_LIST\)/self.between(0, ITEMS_IN_LIST)/'
-mutant "path without a variable" reader.rs 's/self\.between\(1, PATH_LENGTH\)/self.between(0, PATH_LENGTH)/'
-mutant "later variable may be a local" reader.rs 's/self\.between\(0, LAST_PARAMETER\)/self.between(0, LAST_LOCAL)/'
-mutant "declaration of a parameter" reader.rs 's/self\.between\(FIRST_LOCAL, LAST_LOCAL\)/self.between(FIRST_LOCAL - 1, LAST_LOCAL)/; s/Ok\(Statement::Declare \{ of, local, value/Ok(Statement::Declare { of, local: local.max(FIRST_LOCAL), value/'
-mutant "Bool literal 2" reader.rs 's/self\.between\(0, 1\)/self.between(0, 2)/'
-mutant "program may go on" reader.rs 's/if reader\.at < stream\.len\(\) \{/if false {/'
-mutant "table may go on" table.rs 's/if !reader\.bytes\.is_empty\(\) \{/if false {/'
-mutant "Bool by its low byte" table.rs 's/\*value > 1/*value \& 255 > 1/'
-mutant "reference by its low byte" table.rs 's/usize::try_from\(\*value\)/usize::try_from(*value \& 255)/'
-mutant "reference of any struct" table.rs 's/named\.of == \*wanted/named.of <= *wanted || true/'
-mutant "used count of an inner block" blocks.rs 's/used == PAYLOAD_BYTES$/used <= PAYLOAD_BYTES/'
-mutant "used count 0" blocks.rs 's/\(1\.\.=PAYLOAD_BYTES\)/(0..=PAYLOAD_BYTES)/'
-mutant "unused bytes free" blocks.rs 's/\.all\(\|&byte\| byte == 0\)/.all(|\&byte| byte < 255)/'
-mutant "sum B off" blocks.rs 's/b = b\.wrapping_add\(a\);/b = b.wrapping_add(a).wrapping_add(1);/'
-mutant "unused output bytes kept" blocks.rs 's/block\.fill\(0\);//'
+# What is handed out and told.
+mutant "list written before 13" engine.rs '/^fn accept/,/^}/ s/if !has_places\(list\) \{/program.hand_out(list); &/'
+mutant "list written before 14" engine.rs 's/if turns\.len\(\) > TURNS \{/program.hand_out(list); &/'
+mutant "list of a run not written" engine.rs '/^fn run_accepted/,/^}/ s/program\.hand_out\(list\);//'
+mutant "depth of a run not told" engine.rs 's/blocks, depth: program\.depth/blocks, depth: 0/'
+mutant "one block more told" engine.rs 's/turns: ending\.turns, blocks,/turns: ending.turns, blocks: blocks + 1,/'
+mutant "structs told as steps" engine.rs 's/steps: program\.steps\.len\(\)/steps: program.structs.len()/'
+mutant "negative Int listed as Nat" command.rs 's/value\.cast_signed\(\)/value/'
+mutant "step listed before its struct" listing.rs 's/step\.structure, step\.name\)/step.name, step.structure)/'
+
+# Blocks.
+mutant "used count of an inner block" blocks.rs 's/used == PAYLOAD \}/used <= PAYLOAD }/'
+mutant "used count 0" blocks.rs 's/\(1\.\.=PAYLOAD\)/(0..=PAYLOAD)/'
+mutant "unused bytes free" blocks.rs 's/\|&byte\| byte != 0/|\&byte| byte > 1/'
+mutant "index of one byte" blocks.rs 's/usize::from\(pair\(block, 0\)\) != index/usize::from(block[0]) != index/'
+mutant "sum B off by one" blocks.rs 's/let mut weight = PAYLOAD_END as u16;/let mut weight = PAYLOAD_END as u16 - 1;/'
+mutant "sum A stops at its top" blocks.rs 's/a = a\.wrapping_add/a = a.saturating_add/'
+mutant "sums without byte 507" blocks.rs 's/&block\[\.\.PAYLOAD_END\] \{/\&block[..PAYLOAD_END - 1] {/'
+mutant "unused output bytes kept" blocks.rs 's/unused\.fill\(0\);//'
+mutant "output blocks all 0" blocks.rs 's/\(written as u16\)/0u16/'
+
+# Reading.
+mutant "no struct" reader.rs 's/self\.byte_in\(1\.\.=STRUCTS as u8\)/self.byte_in(0..=STRUCTS as u8)/'
+mutant "no item" reader.rs 's/self\.byte_in\(1\.\.=ITEMS_TOGETHER\)/self.byte_in(0..=ITEMS_TOGETHER)/'
+mutant "path without a variable" reader.rs 's/self\.byte_in\(1\.\.=PATH as u8\)/self.byte_in(0..=PATH as u8)/'
+mutant "later variable may be a local" reader.rs 's/self\.byte_in\(0\.\.=FIRST_LOCAL - 1\)/self.byte_in(0..=VARIABLES as u8 - 1)/'
+mutant "Bool literal 2" reader.rs 's/self\.byte_in\(0\.\.=1\)/self.byte_in(0..=2)/'
+mutant "struct byte S" reader.rs 's/usize::from\(byte\) < self\.struct_count/usize::from(byte) <= self.struct_count/'
+mutant "type byte 16 + S" types.rs 's/usize::from\(index\) < structs/usize::from(index) <= structs/'
+mutant "type byte 3" types.rs 's/byte\.checked_sub\(FIRST_STRUCT\)\?/byte.saturating_sub(FIRST_STRUCT)/'
+mutant "null struct is label 0" types.rs 's/Type::Struct\(index\) => u32::from\(index\)/Type::Struct(index) => u32::from(index) * 0/'
+mutant "arguments of a statement one level deeper" reader.rs 's/self\.construct\(1\)\?/self.construct(2)?/'
+mutant "arguments on their construct's level" reader.rs 's/self\.construct\(level \+ 1\)\?/self.construct(level)?/'
+mutant "right operands on their operator's level" reader.rs \
+    '/let operator = Operator::from_byte/{n;n;s/level \+ 1/level/}'
+mutant "program may go on" reader.rs 's/if !reader\.cursor\.at_end\(\) \{/if false {/'
+mutant "nine ifs" reader.rs 's/1 if ifs < NESTING/1 if ifs <= NESTING/'
+mutant "nine Fixes" reader.rs 's/3 if fixes < NESTING/3 if fixes <= NESTING/'
+
+# Names, types, sizes.
+mutant "locals outlive the if" typing.rs 's/self\.living = self\.outer\[self\.ifs\];//'
+mutant "locals declared again in another if" typing.rs 's/self\.living = self\.outer\[self\.ifs\];/& self.declared = self.living;/'
+mutant "locals need no declaration" typing.rs 's/\(self\.living & \(1 << index\) != 0\)\.then/(index < 8).then/'
+mutant "operands of two types" typing.rs '/fn operands/,/^    }/ s/self\.expect\(of\);/self.types.pop();/'
+mutant "order of Bool" operators.rs 's/Type::Int \| Type::Nat\)/Type::Int | Type::Nat | Type::Bool)/'
+mutant "and of anything" operators.rs 's/And \| Or => operands == Type::Bool/And | Or => true/'
+mutant "order gives its operands' type" operators.rs 's/_ => Type::Bool,/_ => operands,/'
+mutant "later variable as a name" typing.rs 's/self\.breach = true;/return Err(Refusal::Name);/'
+mutant "first variable as a type" typing.rs 's/found\.ok_or\(Refusal::Name\)/found.ok_or(Refusal::Typing)/'
+mutant "step name twice" typing.rs 's/if \*own & name != 0 \{/if false {/'
+mutant "step name once a program" typing.rs 's/let own = &mut names\[usize::from\(step\.structure\)\];/let own = \&mut names[0];/'
+mutant "typed item on any struct" typing.rs 's/\(names\[usize::from\(structure\)\], name\)/(anywhere, name)/'
+mutant "Fix itself not counted" compile.rs 's/Item::FixClose \{ \.\. \}\)/Item::FixClose { .. } | Item::FixOpen)/'
+mutant "push this adds no depth" compile.rs \
+    's/self\.depth = self\.depth\.max\(self\.height\);/if command != Command::PushThis { & }/'
+mutant "construct statement leaves nothing" compile.rs \
+    's/self\.emit\(Command::Cons\(structure\), arguments, 1\)/self.emit(Command::Cons(structure), arguments, usize::from(matches!(node, Node::Construct(_))))/'
+mutant "ways of an if apart" compile.rs \
+    's/self\.open\[self\.ifs\] = self\.commands\.len\(\);/self.open[self.ifs] = self.commands.len() | (self.height - 1) << 16;/; s/let at = self\.open\[self\.ifs\];/let at = self.open[self.ifs] \& 0xFFFF; self.height = self.open[self.ifs] >> 16;/'
+mutant "height kept for the next step" compile.rs 's/emitter\.height = 0;//'
+mutant "if counts itself" compile.rs 's/self\.commands\.len\(\) - at - 1/self.commands.len() - at/'
+mutant "update reads its last variable" compile.rs 's/self\.read\(before\);/self.read(path.as_slice());/'
+
+# Tables.
+mutant "table may go on" table.rs 's/if !cursor\.at_end\(\) \{/if false {/'
+mutant "Bool by its low byte" table.rs 's/\*variable > 1/*variable \& 255 > 1/'
+mutant "reference by its low byte" table.rs 's/label as usize/label as u8 as usize/'
+mutant "reference of any struct" table.rs 's/named\.structure == structure/named.structure == structure || named.structure != structure/'
 mutant "N counts null instances" table.rs 's/\(records\.len\(\) as u16\)/(instances.len() as u16)/'
-mutant "locals outlive the if" step.rs 's/self\.living = living;//'
-mutant "locals redeclared in another if" step.rs 's/self\.living = living;/& self.declared = self.living.map(|of| of.is_some());/'
-mutant "local lives in its own value" step.rs \
-    's/Statement::Declare \{ of, local, value \} => \{/& self.living[usize::from(local - FIRST_LOCAL)] = Some(*of);/'
-mutant "null struct is label 0" types.rs 's/Type::Struct\(k\) => u32::from\(k\)/Type::Struct(k) => u32::from(k) * 0/'
-mutant "struct byte S allowed" types.rs 's/byte - 16 < structs/byte - 16 <= structs/'
-mutant "equality of any types" operator.rs 's/if left != right \{/if left != right \&\& self != Equal {/'
-mutant "order of Bool" operator.rs 's/LessEqual \| GreaterEqual \| Less \| Greater => left\.is_number\(\)/LessEqual | GreaterEqual | Less | Greater => (left.is_number() || left == Type::Bool)/'
-mutant "later variable as a name" step.rs 's/self\.breaches\.types \|= next\.is_none\(\);/self.breaches.name |= next.is_none();/'
-mutant "Fix itself not counted" compile.rs 's/1 \+ inside\(item\)/1.max(inside(item))/'
-mutant "step name once a program" compile.rs \
-    's/let names = &mut compiled\.parts\[usize::from\(owner\)\];/breaches.name |= compiled.parts.iter().any(|names| names[usize::from(step.name)].is_some()); &/'
-mutant "typed item on any struct" compile.rs 's/Item::StepOf \{ of, name \} => has\(usize::from\(\*of\), \*name\)/Item::StepOf { name, .. } => (0..compiled.parts.len()).any(|of| has(of, *name))/'
-mutant "push this adds no depth" step.rs 's/self\.depth = self\.depth\.max\(self\.height\);/if command != Command::This { & }/'
-mutant "ways of an if apart" step.rs \
-    's/let living = self\.living;/let height = self.height; &/; s/self\.living = living;/& self.height = height;/'
+mutant "null instances hold 0" table.rs 's/\*variable = of\.default_value\(\);/*variable = of.default_value() * 0;/'
 
 # Every limit, one to each side.
-both_sides PROGRAM_BYTES 32768 512
-both_sides TABLE_BYTES 8704 512
-both_sides STRUCTS 16
-both_sides PARAMETERS 8
-both_sides STEPS 8
-both_sides LAST_STEP_NAME 31
-both_sides STATEMENTS 32
-both_sides ITEMS_IN_LIST 32
-both_sides LAST_LOCAL 15
-both_sides LAST_PARAMETER 7
-both_sides PATH_LENGTH 4
-both_sides IF_NESTING 8
-both_sides FIX_NESTING 8
-both_sides EXPRESSION_NESTING 16
-both_sides STEP_COMMANDS 64
-both_sides ALL_COMMANDS 1024
-both_sides STACK_DEPTH 16
-both_sides ALL_ITEMS 64
-both_sides INSTANCES 256
-both_sides TURNS 65536
-both_sides OUTPUT_BYTES 8704
-both_sides LIST_PLACES 1024
-both_sides STABILITY_ENTRIES 8
+limit PROGRAM_BYTES 32768 512
+limit TABLE_BYTES 8704 512
+limit STRUCTS 16
+limit PARAMETERS 8
+limit STEPS 8
+limit LAST_NAME 31
+limit STATEMENTS 32
+limit ITEMS_TOGETHER 32
+limit FIRST_LOCAL 8
+limit VARIABLES 16
+limit PATH 4
+limit NESTING 8
+limit EXPRESSION_LEVELS 16
+limit STEP_COMMANDS 64
+limit COMMANDS 1024
+limit DEPTH 16
+limit ITEMS 64
+limit INSTANCES 256
+limit TURNS 65536
+mutant "1,023 places lent" program.rs 's/list\.len\(\) >= COMMANDS/list.len() >= COMMANDS - 1/'
+mutant "1,025 places asked for" program.rs 's/list\.len\(\) >= COMMANDS/list.len() > COMMANDS/'
+mutant "8,703 output bytes lent" engine.rs 's/output\.len\(\) < TABLE_BYTES/output.len() < TABLE_BYTES - 1/'
+mutant "8,705 output bytes asked for" engine.rs 's/output\.len\(\) < TABLE_BYTES/output.len() <= TABLE_BYTES/'
 
-echo "mutants: $planted planted, $failed not caught"
+echo "mutants: $planted planted, $by_cases caught by the cases, $failed not caught"
 [ "$failed" -eq 0 ]
