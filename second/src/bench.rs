@@ -7,8 +7,7 @@ use engine::run;
 use std::fmt::Write;
 use std::time::Instant;
 
-const GROUPS: usize = 20;
-const RUNS: usize = 10;
+const RUNS: usize = 200;
 
 /// Fix(0) with step 0 of struct 0 (Int, struct 0):
 /// `if prev = prev.prev or true then load := 1 − load`. It never comes to rest.
@@ -34,8 +33,8 @@ pub fn bench() -> String {
     text
 }
 
-/// The best of several groups of runs over the whole list of turns, the checks
-/// of both images included.
+/// The best of the runs over the whole list of turns, the checks of both images
+/// included.
 fn nanoseconds(program: &[u8], instances: u32, turns: &[u8]) -> f64 {
     let records: Vec<Record> =
         (1..instances).map(|label| Record { of: 0, values: vec![1, label - 1] }).collect();
@@ -43,12 +42,9 @@ fn nanoseconds(program: &[u8], instances: u32, turns: &[u8]) -> f64 {
     let mut output = vec![OUTPUT_FILL; 8_704];
     let mut list = vec![None; 1_024];
     let mut best = f64::INFINITY;
-    for _ in 0..GROUPS {
+    for _ in 0..RUNS {
         let start = Instant::now();
-        let mut commands = 0;
-        for _ in 0..RUNS {
-            commands += run(program, &table, turns, &mut output, &mut list).turns;
-        }
+        let commands = run(program, &table, turns, &mut output, &mut list).turns;
         best = best.min(start.elapsed().as_secs_f64() * 1e9 / commands as f64);
     }
     best
