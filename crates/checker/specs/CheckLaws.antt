@@ -200,11 +200,14 @@ module _ (s : List ℕ) where
           let w : cs′ ≡ map length (p .params) ++ drop (length (p .params)) cs = (rw here at kept) .0 in
           rw w (take-at (arities p) _ (z .structs) (length-map (p .params) length ∙ sym (counted .3)))
 
+      pub table-few : length (take (z .structs) cs′) ≤ 16
+      table-few = rw table (omega (arith, length-map (p .params) length, counted .3, few))
+
       -- behind the parameters stand the steps of all structs
       pub steps-stand : (m : ℕ) × (structs-at (take (z .structs) cs′) s (length (p .steps)) k ≡ ok (p .steps) m)
       steps-stand =
           let l : length (arities p) ≡ length (p .steps) = length-map (p .params) length ∙ sym (counted .3) ∙ structs-are in
-          (standing .last, rw (table, ← l, ← behind-is) (standing .steps))
+          (standing .last, rw (table, ← l) (ap (λ (i : ℕ). structs-at (arities p) s (length (arities p)) i) (sym behind-is) ∙ standing .steps))
 
       -- Commands -------------------------------------------------------------------------
 

@@ -179,7 +179,8 @@ fn locate(image: &[u8], k: u8, name: u8) -> Spot
     }
 }
 
-// Where the commands of a step begin in the list, and how many it has: 0 and 0 where the image is not accepted, the list is too short or the step is not there.
+// Where the commands of a step begin in the list, and how many it has: 0 and 0 where the image is not accepted, the list is too short
+// or the step is not there.
 pub fn step_place(image: &[u8], list: &[u64], structure: u8, name: u8) -> Spot
     ensures { λ r. ⌜ r ≡ step-place (now (image .entry)) (now (list .entry)) structure name ⌝ }
 {
