@@ -8,7 +8,7 @@ use mathlib.Core.List.{List, [], _∷_, _++_, append-assoc, List·Memᴰ, List·
 use lib.ListN.{length, getD, take, drop, length-append, length-drop, List·getD-eq-default}
 use lib.Seq.{take-at, drop-at, drop-drop}
 use lib.Dec.{ltb, eqb}
-use borrow.Author.Tests.{lt-ltb, le-ltb, ltb-true, ltb-false, eq-eqb, ne-eqb}
+use borrow.Author.Tests.{ltb-true, ltb-false, eq-eqb, ne-eqb}
 use Rattle.types.specs.Limits.{max-commands}
 use Rattle.blocks.specs.Images.{image}
 use Rattle.program.specs.Tree.{Step, Program}
@@ -25,6 +25,7 @@ use Rattle.run.specs.Rows.{listed-P}
 use Rattle.run.specs.RowsOpen.{checking}
 use Rattle.checker.specs.declared.part.Spot.{Spot}
 use Rattle.checker.specs.StepPart.{spot, past, seek, spot-in, spot-by, step-part}
+use Rattle.checker.specs.StepPartLaws.{place-short, place-room, place-part, spot-refused, spot-outside, spot-inside}
 
 -- Words --------------------------------------------------------------------------------
 
@@ -125,35 +126,48 @@ once-in p j k [] h = tt
 once-in p j zero (ts ∷ tss) h = h .0
 once-in p j (suc k) (ts ∷ tss) h = once-in p (suc j) k tss (h .2)
 
-spot-marks : (p : Program) (k : ℕ) (t : Step) (l : List ℕ) → NamesRight p → List·Memᴰ t (getD (p .steps) k [])
-    → marked (spot-by (accepted p) k (t .name)) (program-words p ++ l) ≡ words (step-list t)
-unfolding spot-by spot-in NamesRight program-words
-spot-marks p k t l r m =
+-- where a step stands, the program's words are those of its commands
+spot-marks : (c : Checked) (p : Program) (k : ℕ) (t : Step) (l : List ℕ) → c ≡ accepted p → NamesRight p → List·Memᴰ t (getD (p .steps) k [])
+    → marked (spot-by c k (t .name)) (program-words p ++ l) ≡ words (step-list t)
+unfolding spot-in NamesRight program-words
+spot-marks c p k t l e r m =
     let h = has-struct (p .steps) k m in
     let w = struct-words k (p .steps) l h in
-    rw (spot-by, lt-ltb k (length (p .steps)) h) (seek-marks m (once-in p 0 k (p .steps) (r .0)) _ (program-words p ++ l) (w .0) (w .1))
+    rw (← spot-inside c k (t .name) p e h) (seek-marks m (once-in p 0 k (p .steps) (r .0)) _ (program-words p ++ l) (w .0) (w .1))
 
-spot-none : (p : Program) (k n : ℕ) → (List·Memᴰ n (step-names (getD (p .steps) k [])) → ⊥) → spot-by (accepted p) k n .len ≡ 0
-unfolding spot-by spot-in
-spot-none p k n h = go (ltb k (length (p .steps))) refl
+-- a step that is not there has no places
+spot-none : (c : Checked) (p : Program) (k n : ℕ) → c ≡ accepted p → (List·Memᴰ n (step-names (getD (p .steps) k [])) → ⊥) → spot-by c k n .len ≡ 0
+unfolding spot-in
+spot-none c p k n e h = go (ltb k (length (p .steps))) refl
   where
-    go : (b : Bool) → ltb k (length (p .steps)) ≡ b → spot-by (accepted p) k n .len ≡ 0
-    go true e = rw (spot-by, e) (seek-other n (getD (p .steps) k []) _ h .1)
-    go false e = rw (spot-by, e)
+    go : (b : Bool) → ltb k (length (p .steps)) ≡ b → spot-by c k n .len ≡ 0
+    go true i = rw (← spot-inside c k n p e (ltb-true _ _ i)) (seek-other n (getD (p .steps) k []) _ h .1)
+    go false i = rw (← spot-outside c k n p e (ltb-false _ _ i))
 
 -- The part of a step -------------------------------------------------------------------
 
-part-none : (x list : List ℕ) (k n : ℕ) → spot-by (checked x) k n .len ≡ 0 → step-part x list k n ≡ []
-unfolding step-part
-part-none x list k n h = go (ltb (length list) max-commands) refl
-  where
-    go : (b : Bool) → ltb (length list) max-commands ≡ b → step-part x list k n ≡ []
-    go true e = rw (step-part, e)
-    go false e = rw (step-part, e, h)
+module _ (x list : List ℕ) (k n : ℕ) where
+  part-marked : max-commands ≤ length list → step-part x list k n ≡ marked (spot-by (checked x) k n) list
+  part-marked h = sym (place-part x list k n) ∙ ap (λ (z : Spot). marked z list) (place-room x list k n h)
 
-part-marked : (x list : List ℕ) (c : Checked) (k n : ℕ) → checked x ≡ c → max-commands ≤ length list → step-part x list k n ≡ marked (spot-by c k n) list
-unfolding step-part
-part-marked x list c k n e h = rw (step-part, le-ltb (length list) max-commands h, e)
+  -- a list with places for fewer than 1,024 commands gives an empty part
+  pub step-short : length list < max-commands → step-part x list k n ≡ []
+  step-short h = sym (place-part x list k n) ∙ ap (λ (z : Spot). marked z list) (place-short x list k n h)
+
+  part-none : spot-by (checked x) k n .len ≡ 0 → step-part x list k n ≡ []
+  part-none h = go (ltb (length list) max-commands) refl
+    where
+      go : (b : Bool) → ltb (length list) max-commands ≡ b → step-part x list k n ≡ []
+      go true e = step-short (ltb-true _ _ e)
+      go false e = part-marked (ltb-false _ _ e) ∙ ap (λ (i : ℕ). take i (drop (spot-by (checked x) k n .start) list)) h
+
+  -- so does an image that is refused
+  pub step-refused : (m : ℕ) → checked x ≡ refused m → step-part x list k n ≡ []
+  step-refused m e = part-none (ap (λ (z : Spot). z .len) (sym (spot-refused (checked x) k n m e)))
+
+  -- and a step that is not there, for want of the struct or of the name
+  pub step-absent : (p : Program) → checked x ≡ accepted p → (List·Memᴰ n (step-names (getD (p .steps) k [])) → ⊥) → step-part x list k n ≡ []
+  step-absent p e h = part-none (spot-none (checked x) p k n e h)
 
 -- of the list that the checker hands out, the part of a step that a struct has is the words of that step's commands
 pub step-words : (x list : List ℕ) (p : Program) (k : ℕ) (t : Step) → checked x ≡ accepted p → max-commands ≤ length list
@@ -164,23 +178,8 @@ step-words x list p k t e h m =
     let l = drop (length (program-words p)) list in
     let room : max-commands ≤ length (program-words p ++ l) = simp (length-append, length-drop) (omega arith) in
     ap (λ (s : List ℕ). step-part x s k (t .name)) (check-approved x list p a h .1)
-    ∙ part-marked x (program-words p ++ l) (accepted p) k (t .name) e room
-    ∙ spot-marks p k t l (a .names) m
-
--- a step that is not there, for want of the struct or of the name, gives an empty part
-pub step-absent : (x list : List ℕ) (p : Program) (k n : ℕ) → checked x ≡ accepted p
-    → (List·Memᴰ n (step-names (getD (p .steps) k [])) → ⊥) → step-part x list k n ≡ []
-step-absent x list p k n e h = part-none x list k n (ap (λ (c : Checked). spot-by c k n .len) e ∙ spot-none p k n h)
-
--- so does an image that is refused
-pub step-refused : (x list : List ℕ) (k n m : ℕ) → checked x ≡ refused m → step-part x list k n ≡ []
-unfolding spot-by
-step-refused x list k n m e = part-none x list k n (ap (λ (c : Checked). spot-by c k n .len) e)
-
--- and a list with places for fewer than 1,024 commands
-pub step-short : (x list : List ℕ) (k n : ℕ) → length list < max-commands → step-part x list k n ≡ []
-unfolding step-part
-step-short x list k n h = rw (step-part, lt-ltb (length list) max-commands h)
+    ∙ part-marked x (program-words p ++ l) k (t .name) room
+    ∙ spot-marks (checked x) p k t l e (a .names) m
 
 -- P's step 0 ---------------------------------------------------------------------------
 
@@ -203,8 +202,8 @@ step-of-P list h =
     let after : List ℕ = 2 ∷ 3 ∷ 2 ∷ 4294967299 ∷ 3 ∷ 176093659144 ∷ 2 ∷ 4 ∷ drop 8 list in
     let room : max-commands ≤ length after = omega (arith, length-drop 8 list) in
     ap (λ (s : List ℕ). step-part (image P) s 0 0) (listed-P list h)
-    ∙ part-marked (image P) after (of-read (read P)) 0 0 checked-P room
-    ∙ ap (λ (z : Spot). marked z after) spot-P
+    ∙ part-marked (image P) after 0 0 room
+    ∙ ap (λ (z : Spot). marked z after) (ap (λ (c : Checked). spot-by c 0 0) checked-P ∙ spot-P)
 
 pub no-step-of-P : (list : List ℕ) → step-part (image P) list 0 1 ≡ []
 no-step-of-P list = part-none (image P) list 0 1 (ap (λ (c : Checked). spot-by c 0 1 .len) checked-P ∙ spot-P-1)
