@@ -8,3 +8,4 @@ pub mod StepPart
 pub mod Sought
 pub mod SoughtWays
 pub mod StepPartLaws
+pub mod StepPartWords
