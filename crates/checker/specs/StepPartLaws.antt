@@ -23,7 +23,7 @@ use Rattle.checker.specs.declared.part.Spot.{Spot}
 use Rattle.checker.specs.declared.part.SpotRead.the-variants.{Value, Refused}
 use Rattle.checker.specs.Total.{less, told}
 use Rattle.checker.specs.StepPart.{spot, nowhere, past, seek, spot-in, spot-by, step-place, step-part}
-use Rattle.checker.specs.Sought.{sought}
+use Rattle.checker.specs.Sought.{sought, Walked}
 
 -- Rows ---------------------------------------------------------------------------------
 
@@ -74,9 +74,8 @@ module _ (ar types s : List ℕ) (k name at : ℕ) (T : Sum) (none : T .commands
   before-k = many [] _∷_ (read-steps ar s) k at
 
   -- there is no refusal where all steps are read
-  pub walk-on : (e : ℕ) → told (λ tss. step-totals ar types 0 tss T) before-k ≡ TotalsRefused e
-      → (ss : List (List Step)) (n : ℕ) → k < length ss → many [] _∷_ (read-steps ar s) (length ss) at ≡ ok ss n → (z : Spot) → z ≡ spot-in ss k name
-  walk-on e i ss n l h z =
+  pub walk-on : (e : ℕ) → told (λ tss. step-totals ar types 0 tss T) before-k ≡ TotalsRefused e → (z : Spot) → Walked ar s k name at z
+  walk-on e i z ss n l h =
       let w = split (read-steps ar s) [] k ss at n l h in
       let x = sym (ap (told (λ tss. step-totals ar types 0 tss T)) (w .2)) ∙ i in
       let y : _≡_ {A = ℕ} 0 1 = cc in absurd (omega arith)
@@ -94,15 +93,13 @@ module _ (ar types s : List ℕ) (k name at : ℕ) (T : Sum) (none : T .commands
         let z : less (step-totals ar types 0 (take k ss) T) ≡ t = cc in
         (w .1, ap (read-steps ar s) (sym y) ∙ w .3, ap (λ (u : Totals). u .commands) (sym z) ∙ commands-are ar types (take k ss) T none)
 
-    pub walk-through : (e : ℕ) → sought seeking (read-steps ar s m) ≡ Refused e
-        → (ss : List (List Step)) (n : ℕ) → k < length ss → many [] _∷_ (read-steps ar s) (length ss) at ≡ ok ss n → (z : Spot) → z ≡ spot-in ss k name
-    walk-through e i ss n l h z =
+    pub walk-through : (e : ℕ) → sought seeking (read-steps ar s m) ≡ Refused e → (z : Spot) → Walked ar s k name at z
+    walk-through e i z ss n l h =
         let w = found ss n l h in
         let x = sym (ap (sought seeking) (w .1)) ∙ i in
         let y : _≡_ {A = ℕ} 0 1 = cc in absurd (omega arith)
 
-    pub walk-found : (i : ℕ) (y : Spot) → sought seeking (read-steps ar s m) ≡ Value i y
-        → (ss : List (List Step)) (n : ℕ) → k < length ss → many [] _∷_ (read-steps ar s) (length ss) at ≡ ok ss n → y ≡ spot-in ss k name
+    pub walk-found : (i : ℕ) (y : Spot) → sought seeking (read-steps ar s m) ≡ Value i y → Walked ar s k name at y
     unfolding spot-in
     walk-found i y e ss n l h =
         let w = found ss n l h in

@@ -10,14 +10,13 @@ use facts::Scope;
 use stmts::StmtRead;
 use stmts::stmt;
 ghost use mathlib.Core.Path.{_≡_};
-ghost use mathlib.Core.List.{List, [], _∷_};
-ghost use Prim.Native.Nat.{ℕ, _+_, _≤_, _<_, _^_};
+ghost use mathlib.Core.List.{[], _∷_};
+ghost use Prim.Native.Nat.{_+_, _≤_, _<_, _^_};
 ghost use lib.ListN.{length};
-ghost use Rattle.program.specs.Tree.{Step};
-ghost use Rattle.program.specs.Reader.{Result.ok, many, read-step, read-steps, read};
+ghost use Rattle.program.specs.Reader.{many, read-step, read-steps, read};
 ghost use Rattle.run.specs.Entry.{of-read, checked};
-ghost use Rattle.checker.specs.StepPart.{nowhere, past, seek, spot-in, spot-by, step-place, step-part};
-ghost use Rattle.checker.specs.Sought.{sought, Passing};
+ghost use Rattle.checker.specs.StepPart.{nowhere, past, seek, spot-by, step-place, step-part};
+ghost use Rattle.checker.specs.Sought.{sought, Passing, Walked};
 
 // Commands so far; the place of a step's first command, and how many it has.
 pub struct Spot {
@@ -69,16 +68,7 @@ fn step(s: &[u8], ar: &[u8], types: &[u8], k: u8, name: u8, z: Spot, at: usize) 
 }
 
 // n steps of the struct k.
-fn steps(
-    s: &[u8],
-    ar: &[u8],
-    types: &[u8],
-    k: u8,
-    name: u8,
-    n: u8,
-    z: Spot,
-    at: usize,
-) -> SpotRead
+fn steps(s: &[u8], ar: &[u8], types: &[u8], k: u8, name: u8, n: u8, z: Spot, at: usize) -> SpotRead
     requires { ⌜ (length (now ar) ≤ 16) × (k < 16) × (z .passed ≤ at) × (at ≤ length (now s)) ⌝ }
     ensures { λ r. ⌜ r ≡ sought (λ ts. seek name ts z) (many [] _∷_ (read-step (now (ar .entry)) (now (s .entry))) n at) ⌝ }
     ensures { λ r. ⌜ Passing (now (s .entry)) r ⌝ }
@@ -94,15 +84,7 @@ fn steps(
 }
 
 // The steps of the struct k.
-fn of_struct(
-    s: &[u8],
-    ar: &[u8],
-    types: &[u8],
-    k: u8,
-    name: u8,
-    z: Spot,
-    at: usize,
-) -> SpotRead
+fn of_struct(s: &[u8], ar: &[u8], types: &[u8], k: u8, name: u8, z: Spot, at: usize) -> SpotRead
     requires { ⌜ (length (now ar) ≤ 16) × (k < 16) × (z .passed ≤ at) ⌝ }
     ensures { λ r. ⌜ r ≡ sought (λ ts. seek name ts z) (read-steps (now (ar .entry)) (now (s .entry)) at) ⌝ }
 {
@@ -126,7 +108,7 @@ fn nowhere() -> Spot
 // Behind the steps of the structs before k, the step of that name.
 fn walk(s: &[u8], ar: &[u8], types: &[u8], k: u8, name: u8, at: usize) -> Spot
     requires { ⌜ (length (now ar) ≤ 16) × (k < 16) × (at ≤ length (now s)) ⌝ }
-    ensures { λ r. ⌜ ((ss : List (List Step)) (m : ℕ) → k < length ss → many [] _∷_ (read-steps (now (ar .entry)) (now (s .entry))) (length ss) at ≡ ok ss m → r ≡ spot-in ss k name) ⌝ }
+    ensures { λ r. ⌜ Walked (now (ar .entry)) (now (s .entry)) k name at r ⌝ }
 {
     let mut has = [0u8; 512];
     match totals::structs(s, ar, types, &mut has, 0, k, totals::none(), at) {

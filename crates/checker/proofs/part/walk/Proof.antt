@@ -44,19 +44,19 @@ returns : tie.Need-returns
 unfolding no-totals
 returns c = let a = (c .before .before .before .before .before .before .before .before .before .before .args) in
     let none = ap (λ (t : Totals). t .commands) ((c .before .before .before .before .before .none) .ensures) in
-    λ ss n l h. walk-on (a .ar .now) (a .types .now) (a .s .now) (a .k) (a .name) (a .at) _ none _ (sym ((c .before .before .before .before .structs) .ensures .0 .0) ∙ (c .before .enum-told) .given .1) ss n l h _
+    walk-on (a .ar .now) (a .types .now) (a .s .now) (a .k) (a .name) (a .at) _ none _ (sym ((c .before .before .before .before .structs) .ensures .0 .0) ∙ (c .before .enum-told) .given .1) _
 
 returns-2 : tie.Need-returns-2
 unfolding no-totals
 returns-2 c = let a = (c .before .before .before .before .before .before .before .before .before .before .before .before .before .before .args) in
     let none = ap (λ (t : Totals). t .commands) ((c .before .before .before .before .before .before .before .before .before .none) .ensures) in
-    λ ss n l h. walk-through (a .ar .now) (a .types .now) (a .s .now) (a .k) (a .name) (a .at) _ none _ _ (sym ((c .before .before .before .before .before .before .before .before .structs) .ensures .0 .0) ∙ (c .before .before .before .before .before .m) .given .1) _ (sym ((c .before .before .before .of-struct) .ensures) ∙ (c .before .enum-told2) .given .1) ss n l h _
+    walk-through (a .ar .now) (a .types .now) (a .s .now) (a .k) (a .name) (a .at) _ none _ _ (sym ((c .before .before .before .before .before .before .before .before .structs) .ensures .0 .0) ∙ (c .before .before .before .before .before .m) .given .1) _ (sym ((c .before .before .before .of-struct) .ensures) ∙ (c .before .enum-told2) .given .1) _
 
 returns-3 : tie.Need-returns-3
 unfolding no-totals
 returns-3 c = let a = (c .before .before .before .before .before .before .before .before .before .before .before .before .before .before .args) in
     let none = ap (λ (t : Totals). t .commands) ((c .before .before .before .before .before .before .before .before .before .none) .ensures) in
-    λ ss n l h. walk-found (a .ar .now) (a .types .now) (a .s .now) (a .k) (a .name) (a .at) _ none _ _ (sym ((c .before .before .before .before .before .before .before .before .structs) .ensures .0 .0) ∙ (c .before .before .before .before .before .m) .given .1) _ _ (sym ((c .before .before .before .of-struct) .ensures) ∙ (c .before .y) .given .1) ss n l h
+    walk-found (a .ar .now) (a .types .now) (a .s .now) (a .k) (a .name) (a .at) _ none _ _ (sym ((c .before .before .before .before .before .before .before .before .structs) .ensures .0 .0) ∙ (c .before .before .before .before .before .m) .given .1) _ _ (sym ((c .before .before .before .of-struct) .ensures) ∙ (c .before .y) .given .1)
 
 pub walk-spec : {M : Type 1} → statement M
 walk-spec =
