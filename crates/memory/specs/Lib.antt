@@ -1,3 +1,13 @@
 pub mod Layout
 pub mod Act
 pub mod Stands
+pub mod Frame
+pub mod CellLaws
+pub mod RowLaws
+pub mod VarLaws
+pub mod HeldLaws
+pub mod StandsLaws
+pub mod MadeLaws
+pub mod ActorLaws
+pub mod StackActs
+pub mod VarActs
