@@ -11,3 +11,5 @@ pub mod MadeLaws
 pub mod ActorLaws
 pub mod StackActs
 pub mod VarActs
+pub mod ConsActs
+pub mod Acts
