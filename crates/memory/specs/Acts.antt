@@ -19,10 +19,10 @@ use Rattle.sound.specs.Invariant.{Good}
 use Rattle.sound.specs.Accepted.{Firm}
 use Rattle.sound.specs.CommandKept.{commanded}
 use Rattle.sound.specs.Sized.{Sized, Lasting, Lasting.an-int, Lasting.a-nat, Lasting.a-bool, Lasting.a-null}
-use Rattle.memory.specs.Layout.{State}
+use Rattle.memory.specs.Layout.{State, operand}
 use Rattle.memory.specs.Act.{next-word, perform, act}
 use Rattle.memory.specs.Stands.{Stands}
-use Rattle.memory.specs.Frame.{Bounded, does, After, Goes}
+use Rattle.memory.specs.Frame.{Bounded, does, kind-of, operand-of, After, Goes}
 use Rattle.memory.specs.CellLaws.{kind-part, operand-part, code-byte}
 use Rattle.memory.specs.HeldLaws.{holds-word}
 use Rattle.memory.specs.ActorLaws.{actor-sized}
@@ -30,32 +30,72 @@ use Rattle.memory.specs.StackActs.{pushes, pushes-this, negates, branche
 use Rattle.memory.specs.VarActs.{reads-param, reads-local, writes, writes-own}
 use Rattle.memory.specs.ConsActs.{constructs-one}
 
+-- A command's word ------------------------------------------------------------------
+
 -- the byte of a push's type
-pub lasting-byte : {S : ℕ} → S ≤ max-structs → {t : Ty} {v : Val} → Lasting S t v → code t < 256
+lasting-byte : {S : ℕ} → S ≤ max-structs → {t : Ty} {v : Val} → Lasting S t v → code t < 256
 lasting-byte h (an-int r) = code-byte int tt
 lasting-byte h (a-nat r) = code-byte nat tt
 lasting-byte h a-bool = code-byte bool tt
 lasting-byte h (a-null {k = k} r) = code-byte (ref k) (omega arith)
 
-module _ (list counts : List ℕ) (l : ℕ) (z : State) where
-  -- a command by the parts of its word
-  by-parts : (k t v : ℕ) → k < 256 → t < 256 → next-word list z l ≡ coded k t v → act list counts l z ≡ perform counts l z k (coded k t v) v
-  unfolding act
-  by-parts k t v hk ht w = rw (w, kind-part k t v hk ht, operand-part k t v hk ht)
+-- kind and operand, with a type byte between them
+word-parts : {S : ℕ} → S ≤ max-structs → (n : Note) → Sized S n → (t : ℕ) × (t < 256) × (command-word (erase n) ≡ coded (kind-of n) t (operand-of n))
+unfolding command-word com-word erase
+word-parts h (n-push t v) s = (code t, lasting-byte h s, refl)
+word-parts h n-this s = (0, omega arith, refl)
+word-parts h n-not s = (0, omega arith, refl)
+word-parts h (n-rd k x) s = (0, omega arith, refl)
+word-parts h (n-wr k x) s = (0, omega arith, refl)
+word-parts h (n-get t x) s = (0, omega arith, refl)
+word-parts h (n-set d t x) s = (0, omega arith, refl)
+word-parts h (n-cons k) s = (0, omega arith, refl)
+word-parts h (n-op o) s = (0, omega arith, refl)
+word-parts h (n-if n) s = (0, omega arith, refl)
 
-  -- and by its note
-  act-does : {S : ℕ} → S ≤ max-structs → (n : Note) → Sized S n → next-word list z l ≡ command-word (erase n) → act list counts l z ≡ does counts l z n
+pub kind-bounds : (n : Note) → (1 ≤ kind-of n) × (kind-of n ≤ 8)
+kind-bounds (n-push t v) = omega arith
+kind-bounds n-this = omega arith
+kind-bounds n-not = omega arith
+kind-bounds (n-rd k x) = omega arith
+kind-bounds (n-wr k x) = omega arith
+kind-bounds (n-get t x) = omega arith
+kind-bounds (n-set d t x) = omega arith
+kind-bounds (n-cons k) = omega arith
+kind-bounds (n-op o) = omega arith
+kind-bounds (n-if n) = omega arith
+
+-- the word of a command says its kind and its operand
+pub word-says : {S : ℕ} → S ≤ max-structs → (n : Note) → Sized S n → (w : ℕ) → w ≡ command-word (erase n)
+    → (w % 256 ≡ kind-of n) × (operand w ≡ operand-of n)
+word-says h n s w e =
+    let (t, b, q) = word-parts h n s in
+    let k : kind-of n ≤ 8 = kind-bounds n .1 in
+    let r : w ≡ coded (kind-of n) t (operand-of n) = e ∙ q in
+    let a : kind-of n < 256 = omega arith in
+    (ap (λ (x : ℕ). x % 256) r ∙ kind-part (kind-of n) t (operand-of n) a b, ap (λ (x : ℕ). operand x) r ∙ operand-part (kind-of n) t (operand-of n) a b)
+
+module _ (list counts : List ℕ) (l : ℕ) (z : State) where
+  performs : (n : Note) → perform counts l z (kind-of n) (command-word (erase n)) (operand-of n) ≡ does counts l z n
   unfolding perform command-word com-word erase
-  act-does h (n-push t v) s w = by-parts 1 (code t) (word v) (omega arith) (lasting-byte h s) w
-  act-does h n-this s w = by-parts 2 0 0 (omega arith) (omega arith) w
-  act-does h (n-rd k x) s w = by-parts 3 0 x (omega arith) (omega arith) w
-  act-does h (n-wr k x) s w = by-parts 4 0 x (omega arith) (omega arith) w
-  act-does h (n-get t x) s w = by-parts 3 0 (first-local + x) (omega arith) (omega arith) w
-  act-does h (n-set d t x) s w = by-parts 4 0 (first-local + x) (omega arith) (omega arith) w
-  act-does h (n-cons k) s w = by-parts 5 0 k (omega arith) (omega arith) w
-  act-does h (n-if n) s w = by-parts 6 0 n (omega arith) (omega arith) w
-  act-does h n-not s w = by-parts 7 0 0 (omega arith) (omega arith) w
-  act-does h (n-op o) s w = by-parts 8 0 (op-code o) (omega arith) (omega arith) w
+  performs (n-push t v) = refl
+  performs n-this = refl
+  performs n-not = refl
+  performs (n-rd k x) = refl
+  performs (n-wr k x) = refl
+  performs (n-get t x) = refl
+  performs (n-set d t x) = refl
+  performs (n-cons k) = refl
+  performs (n-op o) = refl
+  performs (n-if n) = refl
+
+  act-does : {S : ℕ} → S ≤ max-structs → (n : Note) → Sized S n → next-word list z l ≡ command-word (erase n) → act list counts l z ≡ does counts l z n
+  unfolding act
+  act-does h n s w =
+      let (a, b) = word-says h n s (next-word list z l) w in
+      rw (a, b, w) (performs n)
+
+-- The command ------------------------------------------------------------------------
 
 module _ {p : Program} {counts : List ℕ} (firm : Firm p) (bound : Bounded p counts) {m : Machine} (good : Good p m)
     (list : List ℕ) (P : ℕ → Sched → Type 0) (z : State) (st : Stands list P m z)

@@ -55,6 +55,31 @@ does counts l z (n-cons k) = do-cons counts l z k
 does counts l z (n-op o) = do-op counts l z (op-code o)
 does counts l z (n-if n) = do-if counts l z n
 
+-- the kind of a command, and its operand (of a push, its value's word)
+abbrev pub kind-of : Note → ℕ
+kind-of (n-push t v) = 1
+kind-of n-this = 2
+kind-of n-not = 7
+kind-of (n-rd k x) = 3
+kind-of (n-wr k x) = 4
+kind-of (n-get t x) = 3
+kind-of (n-set d t x) = 4
+kind-of (n-cons k) = 5
+kind-of (n-op o) = 8
+kind-of (n-if n) = 6
+
+abbrev pub operand-of : Note → ℕ
+operand-of (n-push t v) = word v
+operand-of n-this = 0
+operand-of n-not = 0
+operand-of (n-rd k x) = x
+operand-of (n-wr k x) = x
+operand-of (n-get t x) = first-local + x
+operand-of (n-set d t x) = first-local + x
+operand-of (n-cons k) = k
+operand-of (n-op o) = op-code o
+operand-of (n-if n) = n
+
 -- the memory z′ after an act from z that comes to an outcome: it holds the next machine, or only the number is new
 abbrev pub After : List ℕ → (ℕ → Sched → Type 0) → State → State → Out → Type 0
 After list P z z′ (next m) = Stands list P m z′

@@ -6,15 +6,16 @@ use mathlib.Core.List.{List, [], _∷_, _++_}
 use mathlib.Core.Option.{some}
 use lib.ListN.{length, getD, take, drop}
 use Rattle.types.specs.Limits.{max-instances, max-depth, variables}
-use Rattle.types.specs.Values.{Val}
+use Rattle.types.specs.Values.{Val, Val.label, word}
 use Rattle.commands.specs.Noted.{Note, erase}
 use Rattle.commands.specs.Coding.{command-word}
 use Rattle.machine.specs.Published.{Env, lookup}
 use Rattle.machine.specs.Machine.{Tagged, Instance}
-use Rattle.memory.specs.Layout.{State, head, head-size, struct-of, height-of, next-of, end-of, row-size, variable, stacked, of-head, of-cell}
+use Rattle.memory.specs.Layout.{State, head, head-size, struct-of, height-of, next-of, end-of, row-size, variable, stacked, of-head, of-cell, operand}
 use Rattle.memory.specs.Act.{height, top, beneath, after, next-word}
 use Rattle.memory.specs.Stands.{Shows, Stack, note-words, Held}
 use Rattle.memory.specs.Frame.{Same, Slim, moved}
+use Rattle.memory.specs.CellLaws.{shown-operand}
 use Rattle.memory.specs.RowLaws.{code-below, code-word, code-after, code-over, going-other, going-height, going-next}
 
 -- a stack of at most k values, where its cells are the same
@@ -96,6 +97,11 @@ module _ (list : List ℕ) (z : State) (l : ℕ) (i : Instance) (held : Held lis
       let k : length χ ≡ of-head z l height-of - 1 = omega arith in
       let v : Stack (z .cells) l (y ∷ χ) = rw s at (held .stack) in
       subst (λ (h : ℕ). Shows (of-cell z (stacked l h)) (y .is)) k (v .0)
+
+  -- a label on top
+  pub holds-label : (counts : List ℕ) (y : Tagged) (χ : List Tagged) → i .stack ≡ y ∷ χ → (r : ℕ) → y .is ≡ label r → operand (top counts l z) ≡ r
+  unfolding word
+  holds-label counts y χ s r q = shown-operand (top counts l z) (y .is) (holds-top counts y χ s) ∙ ap word q
 
   pub holds-beneath : (counts : List ℕ) (y x : Tagged) (χ : List Tagged) → i .stack ≡ y ∷ x ∷ χ → Shows (beneath counts l z) (x .is)
   holds-beneath counts y x χ s =

@@ -2,6 +2,7 @@ pub mod Layout
 pub mod Act
 pub mod Stands
 pub mod Frame
+pub mod Fit
 pub mod CellLaws
 pub mod RowLaws
 pub mod VarLaws
@@ -13,3 +14,4 @@ pub mod StackActs
 pub mod VarActs
 pub mod ConsActs
 pub mod Acts
+pub mod FitLaws

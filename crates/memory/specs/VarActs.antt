@@ -32,7 +32,7 @@ use Rattle.memory.specs.Act.{gone, height, after, top, beneath, do-rd, d
 use Rattle.memory.specs.Stands.{Shows, Stack, Stands}
 use Rattle.memory.specs.Frame.{Slim, AllSlim, Bounded, After, Goes}
 use Rattle.memory.specs.CellLaws.{shown-operand, same-words}
-use Rattle.memory.specs.HeldLaws.{holds-after, holds-top, holds-beneath}
+use Rattle.memory.specs.HeldLaws.{holds-after, holds-label, holds-beneath}
 use Rattle.memory.specs.StandsLaws.{settles, gone-stands, pushed-stands, stored-stands}
 use Rattle.memory.specs.ActorLaws.{counts-length, count-of, good-slim, actor-needs, actor-sized}
 
@@ -79,11 +79,6 @@ module _ {p : Program} {counts : List ℕ} (firm : Firm p) (bound : Bounded p co
   abbrev acting : Note → Instance
   acting n = with-written i (now-written n (i .written))
 
-  -- the label on top
-  top-label : (y : Tagged) (χ : List Tagged) → i .stack ≡ y ∷ χ → (r : ℕ) → y .is ≡ label r → operand (top counts l z) ≡ r
-  unfolding word
-  top-label y χ s r q = shown-operand (top counts l z) (y .is) (holds-top list z l i (st .each l i at) counts y χ s) ∙ ap word q
-
   -- rd of a variable that has a value
   reads : (n : Note) → i .code ≡ n ∷ c → (v : ℕ) (t : Ty) (x : Tagged) (χ : List Tagged) → i .stack ≡ x ∷ χ → (r : ℕ) → x .is ≡ label r
       → (j : Instance) → getElem? (m .instances) r ≡ some j → (y : Val) → lookup (j .env) v ≡ some y
@@ -101,7 +96,7 @@ module _ {p : Program} {counts : List ℕ} (firm : Firm p) (bound : Bounded p co
       (tagged t y)
       (of-cell z (variable (operand (top counts l z)) v))
       (omega arith)
-      (subst (λ (a : ℕ). Shows (of-cell z (variable a v)) y) (sym (top-label x χ s r q)) (st .each r j at′ .vars v y b)))
+      (subst (λ (a : ℕ). Shows (of-cell z (variable a v)) y) (sym (holds-label list z l i held counts x χ s r q)) (st .each r j at′ .vars v y b)))
 
   pub reads-param : (k v : ℕ) → Goes p counts m list P z l i c (n-rd k v)
   unfolding perform
@@ -158,7 +153,7 @@ module _ {p : Program} {counts : List ℕ} (firm : Firm p) (bound : Bounded p co
     -- wr of memory goes to the instance on top
     goes-to : do-wr counts l z v ≡ written-to counts l z r v (beneath counts l z)
     unfolding do-wr
-    goes-to = ap (λ (a : ℕ). written-to counts l z a v (beneath counts l z)) (top-label y (x ∷ χ) s r q)
+    goes-to = ap (λ (a : ℕ). written-to counts l z a v (beneath counts l z)) (holds-label list z l i (st .each l i at) counts y (x ∷ χ) s r q)
 
     writes-null : ltb v (arity p (j .struct)) ≡ true → ltb r (structs p) ≡ true
         → After list P z (do-wr counts l z v) (write p m l (acting n) c (i .stack) v)
@@ -221,7 +216,7 @@ module _ {p : Program} {counts : List ℕ} (firm : Firm p) (bound : Bounded p co
       go x y χ s r q j at′ small h u d t o o′ false k′ = writes-other (n-wr k v) e v small y x χ s r q j at′ h k′ u d t o o′
 
   -- a local of the actor, its declaration's or another
-  own-local : (d : Bool) (t : Ty) (v : ℕ) → Needs p m l i (n-set d t v)
+  pub own-local : (d : Bool) (t : Ty) (v : ℕ) → Needs p m l i (n-set d t v)
       → (x : Tagged) × (y : Tagged) × (χ : List Tagged) × (i .stack ≡ y ∷ x ∷ χ) × (y .is ≡ label l)
   own-local true t v a = let (x, y, (χ, s), (f, q), o) = a in (x, y, χ, s, q)
   own-local false t v a = let (x, y, (χ, s), (f, q), o, w) = a in (x, y, χ, s, q)
