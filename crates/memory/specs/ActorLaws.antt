@@ -1,25 +1,25 @@
 -- What an instance with a next command brings to it (01, 'The words of demand 3'), from the invariant and the limits of the program:
 -- operands, a struct of the program, room on its stack; every instance has room in a row.
-use Prim.Native.Nat.{ℕ, suc, _+_, _-_, _<_, _≤_}
+use Prim.Native.Nat.{ℕ, _-_, _<_, _≤_}
 use native.Mathlib.Omega.{arith}
-use mathlib.Core.Path.{_≡_, refl, ap, sym, _∙_}
+use mathlib.Core.Path.{_≡_, refl, ap, _∙_}
 use mathlib.Core.Bool.{Bool, true, false}
-use mathlib.Core.Option.{Option, none, some}
-use mathlib.Core.List.{List, [], _∷_, map}
-use lib.ListN.{length, getD, getElem?, set, drop, length-map, length-drop, List·getD-map, List·getD-eq-default}
+use mathlib.Core.Option.{some}
+use mathlib.Core.List.{List, [], _∷_}
+use lib.ListN.{length, getD, getElem?, drop, length-map, length-drop, List·getD-map, List·getD-eq-default}
 use lib.Dec.{ltb}
 use borrow.Author.Tests.{ltb-true, ltb-false}
-use Rattle.types.specs.Limits.{max-structs, max-depth, first-local, variables}
+use Rattle.types.specs.Limits.{max-depth, variables}
 use Rattle.types.specs.Types.{Ty}
 use Rattle.types.specs.Values.{Val}
 use Rattle.program.specs.Tree.{Stmts, Step, Program}
-use Rattle.commands.specs.Context.{params-of, find-step, step-of}
+use Rattle.commands.specs.Context.{params-of, find-step}
 use Rattle.commands.specs.Bounds.{program-depth}
-use Rattle.commands.specs.Noted.{Note, Note.n-push, Note.n-this, Note.n-cons, now-written}
+use Rattle.commands.specs.Noted.{Note, Note.n-push, Note.n-this, Note.n-cons}
 use Rattle.commands.specs.Tags.{stack-after, Way.on}
 use Rattle.machine.specs.Published.{Env, Env.env, lookup, structs, arity}
-use Rattle.machine.specs.Machine.{Tagged, Instance, Machine}
-use Rattle.sound.specs.Needs.{Needs, Ready}
+use Rattle.machine.specs.Machine.{Instance, Machine}
+use Rattle.sound.specs.Needs.{Needs}
 use Rattle.sound.specs.Invariant.{Fits, Fitted, Passage, Place, Place.resting, Place.passing, Good}
 use Rattle.sound.specs.Accepted.{Firm}
 use Rattle.sound.specs.ReadyLaws.{good-right}
@@ -27,7 +27,7 @@ use Rattle.sound.specs.PassageLaws.{ctx, way-at, next-sized}
 use Rattle.sound.specs.EachLaws.{each-length}
 use Rattle.sound.specs.ElemLaws.{none-some}
 use Rattle.sound.specs.Sized.{Sized}
-use Rattle.memory.specs.Frame.{Slim, AllSlim, Bounded}
+use Rattle.memory.specs.Frame.{AllSlim, Bounded}
 use Rattle.memory.specs.VarLaws.{near-env}
 
 -- a struct that has a step is one of the program's

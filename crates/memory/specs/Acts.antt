@@ -1,19 +1,18 @@
 -- One command on memory is the machine's command (01, 'Table and turns'): where memory holds a machine with the invariant, memory
 -- after the command holds the next machine, or the command meets number 34 or 35 and the rest of memory is as it was.
-use Prim.Native.Nat.{ℕ, _%_, _+_, _<_, _≤_}
+use Prim.Native.Nat.{ℕ, _%_, _<_, _≤_}
 use native.Mathlib.Omega.{arith}
 use mathlib.Core.Path.{_≡_, refl, ap, sym, _∙_, subst}
 use mathlib.Core.Option.{some}
 use mathlib.Core.List.{List, _∷_}
-use lib.ListN.{length, getElem?}
-use Rattle.types.specs.Limits.{max-structs, first-local}
+use lib.ListN.{getElem?}
+use Rattle.types.specs.Limits.{max-structs}
 use Rattle.types.specs.Types.{Ty, Ty.int, Ty.nat, Ty.bool, Ty.ref, code}
-use Rattle.types.specs.Values.{Val, word}
+use Rattle.types.specs.Values.{Val}
 use Rattle.program.specs.Tree.{Program}
-use Rattle.program.specs.Encoding.{op-code}
 use Rattle.commands.specs.Coding.{coded, com-word, command-word}
 use Rattle.commands.specs.Noted.{Note, Note.n-push, Note.n-this, Note.n-not, Note.n-rd, Note.n-wr, Note.n-get, Note.n-set, Note.n-cons, Note.n-op, Note.n-if, erase, now-written}
-use Rattle.machine.specs.Published.{Sched, structs}
+use Rattle.machine.specs.Published.{Sched}
 use Rattle.machine.specs.Machine.{Instance, Machine, with-written, command, perform as machine-perform}
 use Rattle.sound.specs.Invariant.{Good}
 use Rattle.sound.specs.Accepted.{Firm}

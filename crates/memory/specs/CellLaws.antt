@@ -1,14 +1,13 @@
 -- Laws of cells (01, 'Table and turns'): the parts of a word, and what a cell that shows a value says of it.
-use Prim.Native.Nat.{ℕ, suc, _+_, _-_, _*_, _/_, _%_, _<_, _≤_}
+use Prim.Native.Nat.{ℕ, _+_, _-_, _*_, _/_, _%_, _<_, _≤_}
 use native.Mathlib.Omega.{arith}
 use mathlib.Core.Path.{_≡_, refl, ap, sym, _∙_}
 use mathlib.Core.Bool.{Bool, true, false, not}
-use mathlib.Core.List.{List}
 use lib.Dec.{eqb}
 use lib.IntN.{pos, negsuc}
-use borrow.Author.Tests.{eqb-true, eqb-false, eq-eqb}
+use borrow.Author.Tests.{eqb-true, eqb-false}
 use Rattle.types.specs.Limits.{nat-end, max-structs}
-use Rattle.types.specs.Types.{Ty, Ty.int, Ty.nat, Ty.bool, Ty.ref, IsType, code, type-of}
+use Rattle.types.specs.Types.{Ty, Ty.int, Ty.nat, Ty.bool, Ty.ref, IsType, code}
 use Rattle.types.specs.TypeLaws.{type-of-code}
 use Rattle.types.specs.TypeBytes.{ValueOf}
 use Rattle.types.specs.Values.{Val, Val.int-val, Val.nat-val, Val.bool-val, Val.label, int-word, word, value-of}
@@ -18,9 +17,9 @@ use Rattle.commands.specs.Typing.{sort, Takes, Takes.any-equal, Takes.order-int
 use Rattle.commands.specs.Coding.{coded}
 use Rattle.words.specs.Ranges.{Of as Range, Of.of-int, Of.of-nat, Of.of-bool, Of.of-ref}
 use Rattle.words.specs.ValueLaws.{value-word}
-use Rattle.words.specs.Apply.{Answer, apply, same-val}
+use Rattle.words.specs.Apply.{apply, same-val}
 use Rattle.words.specs.TestLaws.{same-val-exact, same-val-false}
-use Rattle.words.specs.Words.{op-of, answered, apply-word}
+use Rattle.words.specs.Words.{answered, apply-word}
 use Rattle.words.specs.WordLaws.{op-of-code}
 use Rattle.sound.specs.Sized.{Lasting, Lasting.an-int, Lasting.a-nat, Lasting.a-bool, Lasting.a-null}
 use Rattle.memory.specs.Layout.{cell, type-byte, operand, label-cell}

@@ -9,7 +9,7 @@ use lib.ListN.{length, getD, getElem?, set, take, drop, length-append, length-ma
 use lib.Seq.{set-append-left}
 use lib.Dec.{ltb}
 use borrow.Author.Tests.{ltb-true}
-use Rattle.types.specs.Limits.{nat-end, max-structs, max-instances, max-depth, first-local, variables}
+use Rattle.types.specs.Limits.{max-structs, max-instances, max-depth, first-local}
 use Rattle.types.specs.Types.{Ty.ref}
 use Rattle.types.specs.Values.{Val, Val.label}
 use Rattle.program.specs.Tree.{Program}
@@ -26,7 +26,7 @@ use Rattle.sound.specs.BeginGood.{elem-below}
 use Rattle.sound.specs.ElemLaws.{at-append}
 use Rattle.sound.specs.EachLaws.{each-length}
 use Rattle.sound.specs.Outcomes.{constructs, finds-full}
-use Rattle.memory.specs.Layout.{State, head, head-size, next-of, end-of, row-size, stacked, of-head, label-cell, unstable, refused}
+use Rattle.memory.specs.Layout.{State, head, head-size, next-of, end-of, row-size, stacked, of-head, label-cell, refused}
 use Rattle.memory.specs.Act.{full, pushed, height, after, do-cons, made}
 use Rattle.memory.specs.Stands.{Shows, Stack, note-words, Stands}
 use Rattle.memory.specs.Frame.{AllSlim, Bounded, After, Goes}

@@ -1,12 +1,12 @@
 -- The next command of an instance fits memory that holds a machine with the invariant (01, 'The words of demand 3').
-use Prim.Native.Nat.{ℕ, suc, _+_, _-_, _*_, _%_, _<_, _≤_}
+use Prim.Native.Nat.{ℕ, suc, _+_, _-_, _%_, _<_, _≤_}
 use native.Mathlib.Omega.{arith}
-use mathlib.Core.Path.{_≡_, refl, ap, sym, _∙_, subst}
+use mathlib.Core.Path.{_≡_, ap, sym, _∙_, subst}
 use mathlib.Core.Bool.{Bool, true, false}
 use mathlib.Core.Option.{some}
-use mathlib.Core.List.{List, [], _∷_, _++_, reverse}
+use mathlib.Core.List.{List, _∷_, _++_, reverse}
 use lib.ListN.{length, getD, getElem?, length-append, length-reverse}
-use Rattle.types.specs.Limits.{nat-end, max-structs, max-params, max-depth, first-local, variables}
+use Rattle.types.specs.Limits.{nat-end, max-structs, max-depth, first-local, variables}
 use Rattle.types.specs.Types.{Ty, Ty.int, Ty.nat, Ty.bool}
 use Rattle.types.specs.Values.{Val, Val.int-val, Val.nat-val, Val.bool-val, Val.label, word}
 use Rattle.program.specs.Tree.{Op, Op.op-eq, Op.op-ne, Op.op-le, Op.op-ge, Op.op-lt, Op.op-gt, Op.op-mul, Op.op-div, Op.op-rem, Op.op-add, Op.op-sub, Op.op-and, Op.op-or, Program}
@@ -17,7 +17,7 @@ use Rattle.commands.specs.Noted.{Note, Note.n-push, Note.n-this, Note.n-not, No
 use Rattle.words.specs.Apply.{Answer, Answer.value, Answer.outside, Answer.unfit, apply}
 use Rattle.words.specs.Ranges.{Of as Range, Of.of-int, Of.of-nat, Of.of-bool, Fits as Answers}
 use Rattle.words.specs.RangesLaws.{apply-fits}
-use Rattle.words.specs.declared.Answered.the-variants.{Value, Outside}
+use Rattle.words.specs.declared.Answered.the-variants.{Value}
 use Rattle.words.specs.Words.{apply-word, answered}
 use Rattle.machine.specs.Published.{Sched, structs, arity}
 use Rattle.machine.specs.Machine.{Tagged, Instance, Machine}
@@ -29,7 +29,7 @@ use Rattle.sound.specs.ValueLaws.{bool-value, label-value, ranges}
 use Rattle.memory.specs.Layout.{State, struct-of, of-head, type-byte, operand}
 use Rattle.memory.specs.Act.{height, top, beneath, next-word}
 use Rattle.memory.specs.Stands.{Stands}
-use Rattle.memory.specs.Frame.{AllSlim, Bounded, kind-of, operand-of}
+use Rattle.memory.specs.Frame.{Bounded, kind-of, operand-of}
 use Rattle.memory.specs.Fit.{PushFit, ThisFit, RdFit, WrFit, ConsFit, TruthFit, OpFit, Needed, Fit}
 use Rattle.memory.specs.CellLaws.{word-below, shown-type, shown-operand, shown-below, apply-shown}
 use Rattle.memory.specs.HeldLaws.{holds-next, holds-word, holds-top, holds-label, holds-beneath}

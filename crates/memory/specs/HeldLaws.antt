@@ -1,17 +1,15 @@
 -- Laws of an instance that memory holds (01, 'Table and turns'): it rests on its row alone, and goes on by its numbers and stack.
-use Prim.Native.Nat.{ℕ, zero, suc, _+_, _-_, _*_, _<_, _≤_}
+use Prim.Native.Nat.{ℕ, suc, _+_, _-_, _*_, _<_, _≤_}
 use native.Mathlib.Omega.{arith}
-use mathlib.Core.Path.{_≡_, refl, ap, sym, _∙_, subst}
+use mathlib.Core.Path.{_≡_, ap, _∙_, subst}
 use mathlib.Core.List.{List, [], _∷_, _++_}
-use mathlib.Core.Option.{some}
 use lib.ListN.{length, getD, take, drop}
 use Rattle.types.specs.Limits.{max-instances, max-depth, variables}
-use Rattle.types.specs.Values.{Val, Val.label, word}
+use Rattle.types.specs.Values.{Val.label, word}
 use Rattle.commands.specs.Noted.{Note, erase}
 use Rattle.commands.specs.Coding.{command-word}
-use Rattle.machine.specs.Published.{Env, lookup}
 use Rattle.machine.specs.Machine.{Tagged, Instance}
-use Rattle.memory.specs.Layout.{State, head, head-size, struct-of, height-of, next-of, end-of, row-size, variable, stacked, of-head, of-cell, operand}
+use Rattle.memory.specs.Layout.{State, head, head-size, struct-of, height-of, next-of, end-of, variable, stacked, of-head, of-cell, operand}
 use Rattle.memory.specs.Act.{height, top, beneath, after, next-word}
 use Rattle.memory.specs.Stands.{Shows, Stack, note-words, Held}
 use Rattle.memory.specs.Frame.{Same, Slim, moved}

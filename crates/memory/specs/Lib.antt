@@ -9,6 +9,7 @@ pub mod VarLaws
 pub mod HeldLaws
 pub mod StandsLaws
 pub mod MadeLaws
+pub mod BoundedLaws
 pub mod ActorLaws
 pub mod StackActs
 pub mod VarActs

@@ -1,22 +1,22 @@
 -- Memory that holds a machine holds it with one instance more (01, 'Table and turns'; 000, rule ComCons): its row is the first that
 -- was free, and the values on the actor's stack are its parameters.
-use Prim.Native.Nat.{ℕ, zero, suc, _+_, _-_, _*_, _<_, _≤_}
+use Prim.Native.Nat.{ℕ, zero, suc, _+_, _*_, _<_, _≤_}
 use native.Mathlib.Omega.{arith}
-use mathlib.Core.Path.{_≡_, refl, ap, sym, _∙_, subst}
+use mathlib.Core.Path.{_≡_, sym, _∙_, subst}
 use mathlib.Core.Logic.{_⊎_, inl, inr}
 use mathlib.Core.Option.{some}
 use mathlib.Core.List.{List, [], _∷_, _++_, map, reverse, reverseAux}
-use lib.ListN.{length, getD, getElem?, take, drop, length-append, length-map, length-reverse, length-take, length-drop}
+use lib.ListN.{length, getD, getElem?, take, drop, length-append, length-map, length-reverse}
 use lib.Seq.{sets, length-sets, getD-take, getD-drop}
-use Rattle.types.specs.Limits.{max-instances, max-depth, first-local, variables}
+use Rattle.types.specs.Limits.{max-instances, first-local, variables}
 use Rattle.types.specs.Values.{Val}
 use Rattle.commands.specs.Coding.{words}
-use Rattle.machine.specs.Published.{Sched, lookup, fresh-env}
+use Rattle.machine.specs.Published.{Sched}
 use Rattle.machine.specs.Machine.{Tagged, Instance, Machine, with-instances}
 use Rattle.run.specs.Begin.{resting}
 use Rattle.sound.specs.BeginGood.{elem-below}
 use Rattle.sound.specs.ElemLaws.{none-some, some-is, at-snoc}
-use Rattle.memory.specs.Layout.{State, head, head-size, struct-of, height-of, next-of, end-of, row-size, variable, stacked, of-head, of-cell, with-heads, with-cells, with-count}
+use Rattle.memory.specs.Layout.{State, head-size, struct-of, height-of, next-of, end-of, row-size, stacked, of-head, with-heads, with-cells, with-count}
 use Rattle.memory.specs.Stands.{Shows, Stack, Held, Stands}
 use Rattle.memory.specs.Frame.{Slim, AllSlim}
 use Rattle.memory.specs.RowLaws.{sets-other, sets-at}

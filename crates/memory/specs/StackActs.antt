@@ -4,10 +4,10 @@ use native.Mathlib.Omega.{arith}
 use mathlib.Core.Path.{_≡_, refl, ap, sym, _∙_, subst}
 use mathlib.Core.Bool.{Bool, true, false, not}
 use mathlib.Core.Option.{some}
-use mathlib.Core.List.{List, [], _∷_}
+use mathlib.Core.List.{List, _∷_}
 use lib.ListN.{length, getElem?, drop}
 use lib.Dec.{eqb}
-use Rattle.types.specs.Limits.{nat-end, max-structs, max-instances, max-depth}
+use Rattle.types.specs.Limits.{max-structs, max-instances, max-depth}
 use Rattle.types.specs.Types.{Ty, Ty.bool, Ty.ref, code}
 use Rattle.types.specs.Values.{Val, Val.bool-val, Val.label, word}
 use Rattle.program.specs.Tree.{Op, Program}
@@ -25,7 +25,7 @@ use Rattle.sound.specs.Invariant.{Good}
 use Rattle.sound.specs.Accepted.{Firm}
 use Rattle.sound.specs.ValueLaws.{bool-value, ranges}
 use Rattle.sound.specs.Outcomes.{negated, branched, operates}
-use Rattle.memory.specs.Layout.{State, struct-of, height-of, of-head, cell, type-byte, operand, label-cell}
+use Rattle.memory.specs.Layout.{State, struct-of, of-head, cell, type-byte, operand, label-cell}
 use Rattle.memory.specs.Act.{height, after, top, beneath, bool-byte, result-byte, do-push, do-this, do-not, do-if, do-op, answered}
 use Rattle.memory.specs.Stands.{Shows, Stack, Stands}
 use Rattle.memory.specs.Frame.{AllSlim, Bounded, After, Goes}

@@ -1,33 +1,30 @@
 -- Laws of memory that holds a machine (01, 'Table and turns'): the actor goes on, with or without a new value on its stack; a
 -- variable of an instance is written; the stability entries become false.
-use Prim.Native.Nat.{ℕ, zero, suc, _+_, _-_, _*_, _<_, _≤_}
+use Prim.Native.Nat.{ℕ, suc, _+_, _-_, _*_, _<_, _≤_}
 use native.Mathlib.Omega.{arith}
 use native.Mathlib.Decide.{ℕ-discrete}
 use mathlib.Core.Path.{_≡_, refl, ap, sym, _∙_, subst}
 use mathlib.Core.Bool.{Bool, true, false}
-use mathlib.Core.Logic.{_⊎_, inl, inr}
 use mathlib.Core.Option.{some}
-use mathlib.Core.List.{List, [], _∷_, _++_, map}
-use lib.ListN.{length, getD, getElem?, set, take, drop, length-set, length-append}
-use lib.Seq.{sets, length-sets, getD-set-same, getD-set-other}
-use Rattle.types.specs.Limits.{max-instances, max-depth, first-local, variables}
+use mathlib.Core.List.{List, [], _∷_, map}
+use lib.ListN.{length, getD, getElem?, set, take, drop, length-set}
+use lib.Seq.{getD-set-same, getD-set-other}
+use Rattle.types.specs.Limits.{max-instances, max-depth, variables}
 use Rattle.types.specs.Values.{Val}
 use Rattle.commands.specs.Noted.{Note}
-use Rattle.commands.specs.Coding.{words}
-use Rattle.machine.specs.Published.{Sched, Env, lookup, assign, fresh-env}
+use Rattle.machine.specs.Published.{Sched, lookup, assign}
 use Rattle.machine.specs.Rules.{meet}
 use Rattle.machine.specs.Machine.{Tagged, Instance, Machine, with-env, update-env, with-instances, with-stability, put}
-use Rattle.run.specs.Begin.{resting}
 use Rattle.sound.specs.BeginGood.{elem-below}
-use Rattle.sound.specs.ElemLaws.{some-is, at-set-same, at-set-other, at-snoc}
+use Rattle.sound.specs.ElemLaws.{some-is, at-set-same, at-set-other}
 use Rattle.sound.specs.Keeps.{at-env-same, at-env-other}
 use Rattle.sound.specs.GoodLaws.{meet-length}
-use Rattle.memory.specs.Layout.{State, head, head-size, struct-of, height-of, next-of, end-of, row-size, variable, stacked, of-head, of-cell, with-heads, with-cells, with-count, unstable}
+use Rattle.memory.specs.Layout.{State, end-of, row-size, variable, stacked, of-head, of-cell, with-cells, unstable}
 use Rattle.memory.specs.Act.{gone, pushed}
 use Rattle.memory.specs.Stands.{Shows, Stack, note-words, Held, bits, Stands}
-use Rattle.memory.specs.Frame.{Same, Slim, AllSlim, moved}
-use Rattle.memory.specs.RowLaws.{sets-other, sets-at, going-other, going-length}
-use Rattle.memory.specs.VarLaws.{assigned-same, assigned-other, fresh-var, env-length}
+use Rattle.memory.specs.Frame.{AllSlim, moved}
+use Rattle.memory.specs.RowLaws.{going-other, going-length}
+use Rattle.memory.specs.VarLaws.{assigned-same, assigned-other, env-length}
 use Rattle.memory.specs.HeldLaws.{stack-kept, held-same, held-on}
 
 -- all entries false as bits

@@ -5,12 +5,12 @@ use native.Mathlib.Decide.{ℕ-discrete}
 use mathlib.Core.Path.{_≡_, refl, ap, sym, _∙_, subst}
 use mathlib.Core.Bool.{Bool, true, false}
 use mathlib.Core.Option.{Option, none, some}
-use mathlib.Core.List.{List, [], _∷_}
+use mathlib.Core.List.{List, _∷_}
 use lib.ListN.{length, getD, getElem?, set}
 use lib.Dec.{eqb, ltb}
 use borrow.Author.Tests.{lt-ltb, le-ltb}
 use Rattle.types.specs.Limits.{max-depth, first-local, variables}
-use Rattle.types.specs.Types.{Ty, Ty.int, Ty.ref}
+use Rattle.types.specs.Types.{Ty, Ty.int}
 use Rattle.types.specs.Values.{Val, Val.label, word}
 use Rattle.program.specs.Tree.{Program}
 use Rattle.commands.specs.Context.{params-of}
@@ -19,7 +19,7 @@ use Rattle.words.specs.Apply.{same-val}
 use Rattle.machine.specs.Published.{Sched, Env, lookup, assign, structs, arity}
 use Rattle.machine.specs.Rules.{meet}
 use Rattle.machine.specs.Machine.{Tagged, tagged, Instance, Machine, with-code, with-written, with-instances, with-stability, put, update-env, settled, read, write-to, write, perform}
-use Rattle.sound.specs.Needs.{Of, Needs, Operand, Own}
+use Rattle.sound.specs.Needs.{Of, Needs}
 use Rattle.sound.specs.Invariant.{Good}
 use Rattle.sound.specs.Accepted.{Firm}
 use Rattle.sound.specs.ElemLaws.{some-is, at-set-same, at-set-other}
@@ -27,7 +27,7 @@ use Rattle.sound.specs.EnvLaws.{param-holds}
 use Rattle.sound.specs.ValueLaws.{label-value, ranges}
 use Rattle.sound.specs.Outcomes.{has-read, leaves-null, writes-param, writes-local}
 use Rattle.sound.specs.WriteKept.{same-env}
-use Rattle.memory.specs.Layout.{State, struct-of, of-head, of-cell, variable, operand, unstable}
+use Rattle.memory.specs.Layout.{State, struct-of, of-head, of-cell, variable, operand}
 use Rattle.memory.specs.Act.{gone, height, after, top, beneath, do-rd, do-wr, stored, written, written-to}
 use Rattle.memory.specs.Stands.{Shows, Stack, Stands}
 use Rattle.memory.specs.Frame.{Slim, AllSlim, Bounded, After, Goes}
