@@ -1,6 +1,12 @@
-/* Reads a program image on standard input and prints the verdict and the first commands. */
+/* Reads a program image on standard input and prints the verdict, the commands, and those of the step 0 of struct 0. */
 #include "audala.h"
 #include <stdio.h>
+
+static void print(const uint64_t *list, uint32_t count) {
+    for (uint32_t i = 0; i < count; i++) {
+        printf("kind %u operand %u\n", (unsigned)(list[i] & 255), (unsigned)(list[i] >> 32));
+    }
+}
 
 int main(void) {
     static uint8_t image[32769];
@@ -12,8 +18,9 @@ int main(void) {
         return 0;
     }
     printf("%u structs, %u steps, %u commands, depth %u\n", v.structs, v.steps, v.commands, v.depth);
-    for (uint32_t i = 0; i < v.commands; i++) {
-        printf("kind %u operand %u\n", (unsigned)(list[i] & 255), (unsigned)(list[i] >> 32));
-    }
+    print(list, v.commands);
+    audala_part p = audala_step(image, length, list, AUDALA_LIST_PLACES, 0, 0);
+    printf("struct 0, step 0: from place %u, %u commands\n", p.start, p.length);
+    print(list + p.start, p.length);
     return 0;
 }

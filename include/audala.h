@@ -29,6 +29,19 @@ typedef struct {
  *   1 push T V   2 push this   3 rd x   4 wr x   5 cons k   6 if n   7 not   8 op o */
 audala_verdict audala_check(const uint8_t *image, size_t length, uint64_t *list, size_t places);
 
+/* Where the commands of one step stand in the list. */
+typedef struct {
+    uint32_t start;  /* the place of the first, counted from 0 */
+    uint32_t length; /* how many there are */
+} audala_part;
+
+/* The part of the list for the step `name` of the struct `structure`, both as a program stream has them: a struct by its number,
+ * counted from 0, and a step by its name's byte. The image, of `length` bytes, is checked anew, and the list is only measured:
+ * where a check of this image was lent it, the part holds the step's commands. start + length is at most `places`. Both are 0
+ * where the image is refused, the list has under AUDALA_LIST_PLACES places, or the step is not there. */
+audala_part audala_step(const uint8_t *image, size_t length, const uint64_t *list, size_t places, uint8_t structure,
+                        uint8_t name);
+
 #ifdef __cplusplus
 }
 #endif

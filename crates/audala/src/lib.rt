@@ -1,7 +1,8 @@
 // The checker as a static library for C and Rust (01, 'Numbers from the input'); include/audala.h declares it.
 ghost use mathlib.Core.Path.{_≡_};
 ghost use Rattle.run.specs.Entry.{check-verdict, check-list};
-ghost use Rattle.audala.specs.Exported.{exported};
+ghost use Rattle.checker.specs.StepPart.{step-place};
+ghost use Rattle.audala.specs.Exported.{exported, exported-part};
 
 // What a check answers; after a refusal all but the number are 0.
 #[repr(C)]
@@ -26,5 +27,24 @@ pub extern "C" fn audala_check(image: &[u8], list: &mut [u64]) -> Answer
         steps: v.steps as u32,
         commands: v.commands as u32,
         depth: v.depth as u32,
+    }
+}
+
+// Where a part of the list begins, and how many places it has.
+#[repr(C)]
+pub struct Part {
+    pub start: u32,
+    pub length: u32,
+}
+
+// The part of the list for a step; 0 and 0 where there is none.
+#[no_mangle]
+pub extern "C" fn audala_step(image: &[u8], list: &[u64], structure: u8, name: u8) -> Part
+    ensures { λ r. ⌜ r ≡ exported-part (step-place (now (image .entry)) (now (list .entry)) structure name) ⌝ }
+{
+    let p = checker::part::step_place(image, list, structure, name);
+    Part {
+        start: p.start as u32,
+        length: p.len as u32,
     }
 }

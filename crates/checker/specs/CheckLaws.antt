@@ -18,7 +18,8 @@ use Rattle.program.specs.Tree.{Step, Program}
 use Rattle.program.specs.Encoding.{flat}
 use Rattle.program.specs.Counts.{All, Few, CountsStep, Counts}
 use Rattle.program.specs.Reader.{Result, Result.ok, Result.bad, read-params, read}
-use Rattle.program.specs.ProgramLaws.{program-law}
+use Rattle.program.specs.ProgramLaws.{params-exact, program-law}
+use Rattle.program.specs.StreamLaws.{next-place}
 use Rattle.commands.specs.Commands.{Flat, commands}
 use Rattle.commands.specs.Coding.{words}
 use Rattle.commands.specs.Bounds.{total, greatest, step-list, step-depth, arities, program-size, program-depth, Within}
@@ -32,7 +33,7 @@ use Rattle.emit.specs.declared.Put.{Put}
 use Rattle.emit.specs.Written.{Ready, Wrote}
 use Rattle.emit.specs.ProgramWords.{step-words, steps-words, structs-words, structs-at, program-words as emitted-words}
 use Rattle.emit.specs.WordLaws.{words-append}
-use Rattle.emit.specs.ProgramLaws.{program-length, program-steps, program-ready, program-wrote}
+use Rattle.emit.specs.ProgramLaws.{Standing, program-length, program-steps, whole-program, program-ready, program-wrote}
 use Rattle.run.specs.Entry.{Checked, Checked.accepted, Checked.refused, judge, of-read, of-image, checked, of-steps, of-structs, program-words, listed, Verdict as Judgement, refusal, approval, no-room, verdict-of, list-of}
 use Rattle.checker.specs.declared.whole.Summary.{Summary}
 use Rattle.checker.specs.declared.whole.ProgramRead.the-variants.{Value, Refused}
@@ -174,36 +175,59 @@ module _ (s : List ℕ) where
         depths [] h = tt
         depths (ts ∷ tss) h = (greatest-most (step-depth p) ts (h .0), depths tss (h .1))
 
-    -- Commands ---------------------------------------------------------------------------
+    pub structs-are : z .structs ≡ length (p .steps)
+    unfolding Counts
+    structs-are = counted .3 ∙ sym (b .counts .1)
 
-    module _ (e : z .number ≡ 0) (cs cs′ ts ts′ : List ℕ) (kept : ParamsKept cs cs′ ts ts′ (read-params s 0)) (list : List ℕ) (room : max-commands ≤ length list) where
-      enough : program-size p ≤ max-commands
-      unfolding Within
-      enough = within e .1
+    -- Tables and places ------------------------------------------------------------------
 
-      standing : (at : ℕ) × (read-params s 0 ≡ ok (p .params) at) × (Ready structs-words (structs-at (arities p) s (length (arities p)) at) list 0)
-      standing = program-ready s p (b .end) (b .reads) enough (arities p) refl list (omega (arith, enough))
+    standing : Standing s 0 p
+    standing = program-steps s 0 p (b .end) (whole-program s p (b .end) (b .reads))
 
-      here : read-params s 0 ≡ ok (p .params) k
-      here = let d = standing in d .1 ∙ ap (λ (i : ℕ). ok (p .params) i) (sym (ap place-of (d .1)) ∙ b .place)
+    behind-is : standing .behind ≡ k
+    behind-is = sym (ap place-of (standing .params)) ∙ b .place
 
+    here : read-params s 0 ≡ ok (p .params) k
+    here = standing .params ∙ ap (λ (i : ℕ). ok (p .params) i) behind-is
+
+    -- the place behind the parameters lies in the stream
+    pub place-in : k ≤ length s
+    place-in = next-place params-exact s (p .params) 0 k (omega arith) here .1
+
+    module _ (cs cs′ ts ts′ : List ℕ) (kept : ParamsKept cs cs′ ts ts′ (read-params s 0)) where
       table : take (z .structs) cs′ ≡ arities p
       table =
           let w : cs′ ≡ map length (p .params) ++ drop (length (p .params)) cs = (rw here at kept) .0 in
           rw w (take-at (arities p) _ (z .structs) (length-map (p .params) length ∙ sym (counted .3)))
 
-      pub ready : Ready structs-words (structs-at (take (z .structs) cs′) s (length (take (z .structs) cs′)) k) list 0
-      ready =
-          let d = standing in
-          let i : d .0 ≡ k = sym (ap place-of (d .1)) ∙ b .place in
-          rw table (rw i at (d .2))
+      pub table-few : length (take (z .structs) cs′) ≤ 16
+      table-few = rw table (omega (arith, length-map (p .params) length, counted .3, few))
 
-      pub wrote : (r : Put) (list′ : List ℕ) → Wrote structs-words (structs-at (take (z .structs) cs′) s (length (take (z .structs) cs′)) k) list 0 r list′
-          → list′ ≡ listed p list
-      unfolding listed
-      wrote r list′ w =
-          let q = program-wrote (arities p) s k list r list′ (rw table at w) p (b .end) (b .reads) refl here .0 in
-          q ∙ from-start list (emitted-words p) (omega (arith, program-length p, enough)) ∙ rw (same-words p)
+      -- behind the parameters stand the steps of all structs
+      pub steps-stand : (m : ℕ) × (structs-at (take (z .structs) cs′) s (length (p .steps)) k ≡ ok (p .steps) m)
+      steps-stand =
+          let l : length (arities p) ≡ length (p .steps) = length-map (p .params) length ∙ sym (counted .3) ∙ structs-are in
+          (standing .last, rw (table, ← l) (ap (λ (i : ℕ). structs-at (arities p) s (length (arities p)) i) (sym behind-is) ∙ standing .steps))
+
+      -- Commands -------------------------------------------------------------------------
+
+      module _ (e : z .number ≡ 0) (list : List ℕ) (room : max-commands ≤ length list) where
+        enough : program-size p ≤ max-commands
+        unfolding Within
+        enough = within e .1
+
+        pub ready : Ready structs-words (structs-at (take (z .structs) cs′) s (length (take (z .structs) cs′)) k) list 0
+        ready =
+            let d = program-ready s p (b .end) (b .reads) enough (arities p) refl list (omega (arith, enough)) in
+            let i : d .0 ≡ k = sym (ap place-of (d .1)) ∙ b .place in
+            rw table (rw i at (d .2))
+
+        pub wrote : (r : Put) (list′ : List ℕ) → Wrote structs-words (structs-at (take (z .structs) cs′) s (length (take (z .structs) cs′)) k) list 0 r list′
+            → list′ ≡ listed p list
+        unfolding listed
+        wrote r list′ w =
+            let q = program-wrote (arities p) s k list r list′ (rw table at w) p (b .end) (b .reads) refl here .0 in
+            q ∙ from-start list (emitted-words p) (omega (arith, program-length p, enough)) ∙ rw (same-words p)
 
 -- Images -------------------------------------------------------------------------------
 

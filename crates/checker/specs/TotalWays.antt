@@ -49,41 +49,43 @@ told-bad f q p n h e = rw e (refl, tt)
 
 -- A step -------------------------------------------------------------------------------
 
-module _ (ar types s : List ℕ) (k at : ℕ) (T : Sum) where
+module _ (ar s : List ℕ) (at : ℕ) where
   abbrev body-of : ℕ → Result Stmts
   body-of m = read-body ar s (read-stmt ar s 8) m
 
-  abbrev named-body : Result Step
-  named-body = read-step ar s at
-
-  unread : (p e : ℕ) → ranged s 0 32 at ≡ bad p e → named-body ≡ bad p e
+  pub step-unread : (p e : ℕ) → ranged s 0 32 at ≡ bad p e → read-step ar s at ≡ bad p e
   unfolding read-step made pair then
-  unread p e i = rw i
+  step-unread p e i = rw i
 
-  bodiless : (n m p e : ℕ) → ranged s 0 32 at ≡ ok n m → body-of m ≡ bad p e → named-body ≡ bad p e
+  pub step-bodiless : (n m p e : ℕ) → ranged s 0 32 at ≡ ok n m → body-of m ≡ bad p e → read-step ar s at ≡ bad p e
   unfolding read-step made pair then
-  bodiless n m p e i j = rw (i, j)
+  step-bodiless n m p e i j = rw (i, j)
 
-  whole : (n m i : ℕ) (b : Stmts) → ranged s 0 32 at ≡ ok n m → body-of m ≡ ok b i → named-body ≡ ok (record { name = n; body = b }) i
+  pub step-whole : (n m i : ℕ) (b : Stmts) → ranged s 0 32 at ≡ ok n m → body-of m ≡ ok b i → read-step ar s at ≡ ok (record { name = n; body = b }) i
   unfolding read-step made pair then
-  whole n m i b e j = rw (e, j)
+  step-whole n m i b e j = rw (e, j)
 
+  pub steps-uncounted : (p e : ℕ) → ranged s 0 9 at ≡ bad p e → read-steps ar s at ≡ bad p e
+  unfolding read-steps counted then
+  steps-uncounted p e i = rw i
+
+module _ (ar types s : List ℕ) (k at : ℕ) (T : Sum) where
   -- the name is not read; it is, and the body is not; both are
-  pub step-stop : (e : ℕ) (h : List ℕ) → byte-told (ranged s 0 32 at) ≡ NoByte e → Told (step-total ar types k T) named-body (Refused e) h
-  step-stop e h i = let q = byte-stops (ranged s 0 32 at) e i in told-bad (step-total ar types k T) named-body (q .0) e h (unread _ _ (q .1))
+  pub step-stop : (e : ℕ) (h : List ℕ) → byte-told (ranged s 0 32 at) ≡ NoByte e → Told (step-total ar types k T) (read-step ar s at) (Refused e) h
+  step-stop e h i = let q = byte-stops (ranged s 0 32 at) e i in told-bad (step-total ar types k T) (read-step ar s at) (q .0) e h (step-unread ar s at _ _ (q .1))
 
-  pub step-cut : (n m e : ℕ) (h : List ℕ) → byte-told (ranged s 0 32 at) ≡ Byte n m → done (λ b. body-facts ar types k b no-locals) (body-of m) ≡ StmtRefused e
-      → Told (step-total ar types k T) named-body (Refused e) h
+  pub step-cut : (n m e : ℕ) (h : List ℕ) → byte-told (ranged s 0 32 at) ≡ Byte n m → done (λ b. body-facts ar types k b no-locals) (body-of ar s at m) ≡ StmtRefused e
+      → Told (step-total ar types k T) (read-step ar s at) (Refused e) h
   step-cut n m e h i j =
-      let q = done-stops (λ b. body-facts ar types k b no-locals) (body-of m) e j in
-      told-bad (step-total ar types k T) named-body (q .0) e h (bodiless n m _ e (byte-is (ranged s 0 32 at) n m i) (q .1))
+      let q = done-stops (λ b. body-facts ar types k b no-locals) (body-of ar s at m) e j in
+      told-bad (step-total ar types k T) (read-step ar s at) (q .0) e h (step-bodiless ar s at n m _ e (byte-is (ranged s 0 32 at) n m i) (q .1))
 
-  pub step-read : (n m i : ℕ) (d : Done) → byte-told (ranged s 0 32 at) ≡ Byte n m → done (λ b. body-facts ar types k b no-locals) (body-of m) ≡ StmtValue i d
-      → Told (step-total ar types k T) named-body (Value i (plus (less T) d (eqb (getD (T .has) (place k n) 0) 0))) (set (T .has) (place k n) 1)
+  pub step-read : (n m i : ℕ) (d : Done) → byte-told (ranged s 0 32 at) ≡ Byte n m → done (λ b. body-facts ar types k b no-locals) (body-of ar s at m) ≡ StmtValue i d
+      → Told (step-total ar types k T) (read-step ar s at) (Value i (plus (less T) d (eqb (getD (T .has) (place k n) 0) 0))) (set (T .has) (place k n) 1)
   unfolding added plus over-by
   step-read n m i d e j =
-      let q = done-is (λ b. body-facts ar types k b no-locals) (body-of m) i d j in
-      told-ok (step-total ar types k T) named-body (record { name = n; body = q .0 }) i _ _ (whole n m i (q .0) (byte-is (ranged s 0 32 at) n m e) (q .1))
+      let q = done-is (λ b. body-facts ar types k b no-locals) (body-of ar s at m) i d j in
+      told-ok (step-total ar types k T) (read-step ar s at) (record { name = n; body = q .0 }) i _ _ (step-whole ar s at n m i (q .0) (byte-is (ranged s 0 32 at) n m e) (q .1))
       (ap (λ (x : Done). plus (less T) x (eqb (getD (T .has) (place k n) 0) 0)) (sym (q .2))) refl
 
 -- a step has a byte of its own, and its commands one each
@@ -140,13 +142,9 @@ module _ {A : Type 0} (r : ℕ → Result A) (f f' : List A → Sum → Sum) (g 
 -- The steps of a struct ----------------------------------------------------------------
 
 module _ (ar types s : List ℕ) (k at : ℕ) (T : Sum) where
-  uncounted : (p e : ℕ) → ranged s 0 9 at ≡ bad p e → read-steps ar s at ≡ bad p e
-  unfolding read-steps counted then
-  uncounted p e i = rw i
-
   -- how many steps, which is not read, or is, with them behind it
   pub steps-stop : (e : ℕ) (h : List ℕ) → byte-told (ranged s 0 9 at) ≡ NoByte e → Told (λ ts. struct-totals ar types k ts T) (read-steps ar s at) (Refused e) h
-  steps-stop e h i = let q = byte-stops (ranged s 0 9 at) e i in told-bad (λ ts. struct-totals ar types k ts T) (read-steps ar s at) (q .0) e h (uncounted _ _ (q .1))
+  steps-stop e h i = let q = byte-stops (ranged s 0 9 at) e i in told-bad (λ ts. struct-totals ar types k ts T) (read-steps ar s at) (q .0) e h (steps-uncounted ar s at _ _ (q .1))
 
   pub steps-read : (n m : ℕ) → byte-told (ranged s 0 9 at) ≡ Byte n m → read-steps ar s at ≡ many [] _∷_ (read-step ar s) n m
   unfolding read-steps counted then

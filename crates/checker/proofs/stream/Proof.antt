@@ -60,7 +60,7 @@ slice-aggregate-program-3 c = let l = few ((c .before .before .before .before .b
 program-requires-2 : tie.Need-program-requires-2
 program-requires-2 c κs = let s = (c .before .before .before .before .before .before .before .before .before .before .before .before .before .before .before .before .args) .s .now in
     let b = stream-value s _ _ (sym ((c .before .before .before .before .before .before .before .before .before .before .before .program) .ensures .0) ∙ (c .before .before .before .before .before .before .before .at) .given .1) in
-    ready s _ _ b ((c .before .before .before .before .if1) .left) _ _ _ _ ((c .before .before .before .before .before .before .before .before .before .before .before .program) .ensures .1) ((c .before .before .before .before .before .before .before .before .before .before .before .before .before .before .before .before .args) .list .now) ((c .before .before .before .if2) .left)
+    ready s _ _ b _ _ _ _ ((c .before .before .before .before .before .before .before .before .before .before .before .program) .ensures .1) ((c .before .before .before .before .if1) .left) ((c .before .before .before .before .before .before .before .before .before .before .before .before .before .before .before .before .args) .list .now) ((c .before .before .before .if2) .left)
 
 accepted-requires : tie.Need-accepted-requires
 accepted-requires c κs = let s = (c .before .before .before .before .before .before .before .before .before .before .before .before .before .before .before .before .before .before .before .args) .s .now in
@@ -81,7 +81,7 @@ returns-4 c = let a = (c .before .before .before .before .before .before .before
     let b = stream-value s _ _ (sym ((c .before .before .before .before .before .before .before .before .before .before .before .before .before .before .before .program) .ensures .0) ∙ (c .before .before .before .before .before .before .before .before .before .before .before .at) .given .1) in
     let w = room-answers (of-read (read s)) (b .program) (a .list .now) (passed s _ _ b ((c .before .before .before .before .before .before .before .before .if1) .left)) ((c .before .before .before .before .before .before .before .if2) .left) in (
       (c .accepted) .ensures ∙ approved-is s _ _ b ∙ ap answer (w .0),
-      wrote s _ _ b ((c .before .before .before .before .before .before .before .before .if1) .left) _ _ _ _ ((c .before .before .before .before .before .before .before .before .before .before .before .before .before .before .before .program) .ensures .1) (a .list .now) ((c .before .before .before .before .before .before .before .if2) .left) _ _ ((c .before .before .before .program2) .ensures .0) ∙ w .1,
+      wrote s _ _ b _ _ _ _ ((c .before .before .before .before .before .before .before .before .before .before .before .before .before .before .before .program) .ensures .1) ((c .before .before .before .before .before .before .before .before .if1) .left) (a .list .now) ((c .before .before .before .before .before .before .before .if2) .left) _ _ ((c .before .before .before .program2) .ensures .0) ∙ w .1,
     )
 
 pub stream-spec : {M : Type 1} → statement M

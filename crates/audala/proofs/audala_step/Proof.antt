@@ -1,0 +1,27 @@
+-- What `step_place` answers, in 32 bits: the part lies in the list's first 1,024 places.
+use native.Mathlib.Omega.{arith}
+use mathlib.Core.Path.{ap}
+use Rattle.checker.specs.StepPartLaws.{place-fits}
+use Rattle.audala.specs.Exported.{exported-part}
+use borrow.Author.Needs.{needs}
+use Rattle.audala.proofs.audala_step.Statement.{statement}
+use Rattle.audala.proofs.audala_step.Tie as tie
+
+step-place-requires : tie.Need-step-place-requires
+step-place-requires c κs = search needs
+
+cast-t6 : tie.Need-cast-t6
+cast-t6 c = let a = (c .before .before .before .before .args) in
+    let f = rw (← (c .before .step-place) .ensures) at (place-fits (a .image .now) (a .list .now) (a .structure) (a .name)) in
+    omega (arith, f)
+
+cast-t7 : tie.Need-cast-t7
+cast-t7 c = let a = (c .before .before .before .before .before .args) in
+    let f = rw (← (c .before .before .step-place) .ensures) at (place-fits (a .image .now) (a .list .now) (a .structure) (a .name)) in
+    omega (arith, f)
+
+returns : tie.Need-returns
+returns c = ap exported-part ((c .before .before .step-place) .ensures)
+
+pub audala-step-spec : {M : Type 1} → statement M
+audala-step-spec = tie.close (tie.spec step-place-requires cast-t6 cast-t7 returns)
