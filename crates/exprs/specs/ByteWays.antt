@@ -10,6 +10,7 @@ use lib.ListN.{length, getD}
 use lib.Dec.{T}
 use borrow.Author.Tests.{lt-ltb, le-ltb, le-leb, lt-leb}
 use Rattle.types.specs.Types.{Ty, code, type-of}
+use Rattle.types.specs.TypeBytes.{is-type}
 use Rattle.program.specs.CodeLaws.{code-type}
 use Rattle.program.specs.Reader.{Result, Result.ok, Result.bad, then, made, many, guard, between, type-byte, byte-end, byte, tested, ranged, read-word, read-type}
 use Rattle.facts.specs.declared.Facts.{Facts}
@@ -68,23 +69,34 @@ module _ (s : List ℕ) (lo hi at : ℕ) where
   unfolding ranged between
   ranged-above h p q = tested-wrong s at (between lo hi) h (simp (between, le-leb lo _ p, le-ltb _ hi q))
 
--- which bytes are types where there are S structs
+-- which bytes are types where there are S structs: the reader's test is that of the types, and no type lies past the last struct
 module _ (S b : ℕ) where
-  pub type-plain : b < 3 → type-byte S b ≡ true
-  unfolding type-byte
-  type-plain h = simp (type-byte, lt-ltb b 3 h)
+  pub type-tested : is-type S b ≡ type-byte S b
+  unfolding is-type type-byte between
+  type-tested = go (decLt b 3) (decLt b 16) (decLt (b - 16) S)
+    where
+      go : Dec (b < 3) → Dec (b < 16) → Dec (b - 16 < S) → is-type S b ≡ type-byte S b
+      go (yes h) j k = simp (is-type, type-byte, le-leb b 2 (omega arith), lt-ltb b 3 h)
+      go (no h) (yes j) k = simp (is-type, type-byte, between, lt-leb b 2 (omega arith), le-ltb b 3 (omega arith), lt-leb 16 b j)
+      go (no h) (no j) (yes k) =
+          simp (is-type, type-byte, between, lt-leb b 2 (omega arith), le-ltb b 3 (omega arith), le-leb 16 b (omega arith), lt-ltb (b - 16) S k, lt-ltb b (16 + S) (omega arith))
+      go (no h) (no j) (no k) =
+          simp (is-type, type-byte, between, lt-leb b 2 (omega arith), le-ltb b 3 (omega arith), le-leb 16 b (omega arith), le-ltb (b - 16) S (omega arith), le-ltb b (16 + S) (omega arith))
 
-  pub type-struct : 16 ≤ b → b - 16 < S → type-byte S b ≡ true
+  pub type-below : type-byte S b ≡ true → b < 16 + S
   unfolding type-byte between
-  type-struct h k = simp (type-byte, between, le-ltb b 3 (omega arith), le-leb 16 b h, lt-ltb b (16 + S) (omega arith))
+  type-below e = go (decLt b (16 + S))
+    where
+      go : Dec (b < 16 + S) → b < 16 + S
+      go (yes h) = h
+      go (no h) =
+          let f : type-byte S b ≡ false = simp (type-byte, between, le-ltb b 3 (omega arith), le-leb 16 b (omega arith), le-ltb b (16 + S) (omega arith)) in
+          let z : _≡_ {A = ℕ} 0 1 = cc in absurd (omega arith)
 
-  pub type-gap : 3 ≤ b → b < 16 → type-byte S b ≡ false
-  unfolding type-byte between
-  type-gap h k = simp (type-byte, between, le-ltb b 3 h, lt-leb 16 b k)
-
-  pub type-past : 16 ≤ b → S ≤ b - 16 → type-byte S b ≡ false
-  unfolding type-byte between
-  type-past h k = simp (type-byte, between, le-ltb b 3 (omega arith), le-leb 16 b h, le-ltb b (16 + S) (omega arith))
+-- where a byte lies past no struct of either number, it makes no difference which of the two there are
+pub type-many : (S T b : ℕ) → b < 16 + S → b < 16 + T → type-byte S b ≡ type-byte T b
+unfolding type-byte between
+type-many S T b h k = simp (type-byte, between, lt-ltb b (16 + S) h, lt-ltb b (16 + T) k)
 
 -- Literals --------------------------------------------------------------------------
 

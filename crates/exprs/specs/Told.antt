@@ -47,6 +47,19 @@ abbrev pub after : (Facts → Facts) → ExprRead → ExprRead
 after h (Value n f) = Value n (h f)
 after h (Refused k) = Refused k
 
+-- the number of a refusal; of a value, 0
+abbrev pub byte-refusal : ByteRead → ℕ
+byte-refusal (Byte b m) = 0
+byte-refusal (NoByte n) = n
+
+abbrev pub path-refusal : PathRead → ℕ
+path-refusal (Path m n j) = 0
+path-refusal (NoPath n) = n
+
+abbrev pub expr-refusal : ExprRead → ℕ
+expr-refusal (Value m f) = 0
+expr-refusal (Refused n) = n
+
 -- one byte from lo up to below hi was read at its place
 abbrev pub ByteSpan : List ℕ → ℕ → ℕ → ℕ → ByteRead → Type 0
 ByteSpan s lo hi at (Byte b m) = (m ≡ at + 1) × (m ≤ length s) × (lo ≤ b) × (b < hi)

@@ -113,13 +113,12 @@ pub fn construct(
     ensures { λ r. ⌜ r ≡ told (made-facts (now (ar .entry)) (now (types .entry)) own live) (read-make (now (ar .entry)) (now (s .entry)) (read-expr (now (ar .entry)) (now (s .entry)) depth) at) ⌝ }
     ensures { λ r. ⌜ Behind (now (s .entry)) at r ⌝ }
 {
-    match read::ranged(s, 0, ar.len(), at) {
-        ByteRead::NoByte(n) => ExprRead::Refused(n),
-        ByteRead::Byte(k, m) => {
-            let n = facts::path::look(ar, k as usize);
-            over(k, args(s, ar, types, own, live, k, 0, n, m, depth))
-        }
-    }
+    let r = read::ranged(s, 0, ar.len(), at);
+    let ByteRead::Byte(k, m) = r else {
+        return ExprRead::Refused(read::byte_refusal(r));
+    };
+    let n = facts::path::look(ar, k as usize);
+    over(k, args(s, ar, types, own, live, k, 0, n, m, depth))
 }
 
 // Expressions for n parameters of the struct k, from x on.

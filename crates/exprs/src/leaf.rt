@@ -32,10 +32,11 @@ fn bool_byte(s: &[u8], at: usize) -> ExprRead
     ensures { λ r. ⌜ r ≡ told (λ (n : ℕ). pushed 2) (ranged (now (s .entry)) 0 2 at) ⌝ }
     ensures { λ r. ⌜ Behind (now (s .entry)) at r ⌝ }
 {
-    match read::ranged(s, 0, 2, at) {
-        ByteRead::NoByte(k) => ExprRead::Refused(k),
-        ByteRead::Byte(_, m) => ExprRead::Value(m, expression::pushed(2)),
-    }
+    let r = read::ranged(s, 0, 2, at);
+    let ByteRead::Byte(_, m) = r else {
+        return ExprRead::Refused(read::byte_refusal(r));
+    };
+    ExprRead::Value(m, expression::pushed(types::BOOL))
 }
 
 // The type of a null, where there are n structs.
@@ -43,10 +44,11 @@ fn null(s: &[u8], n: usize, at: usize) -> ExprRead
     ensures { λ r. ⌜ r ≡ told (λ t. pushed (code t)) (read-type (now (s .entry)) n at) ⌝ }
     ensures { λ r. ⌜ Behind (now (s .entry)) at r ⌝ }
 {
-    match read::type_byte(s, n, at) {
-        ByteRead::NoByte(k) => ExprRead::Refused(k),
-        ByteRead::Byte(b, m) => ExprRead::Value(m, expression::pushed(b)),
-    }
+    let r = read::type_byte(s, n, at);
+    let ByteRead::Byte(b, m) = r else {
+        return ExprRead::Refused(read::byte_refusal(r));
+    };
+    ExprRead::Value(m, expression::pushed(b))
 }
 
 // A path as an expression.
@@ -54,10 +56,11 @@ fn travel(s: &[u8], ar: &[u8], types: &[u8], own: u8, live: u64, at: usize) -> E
     ensures { λ r. ⌜ r ≡ told (λ p. travelled (suc (length (p .1))) (path-of (now (ar .entry)) (now (types .entry)) own live (p .0) (p .1))) (read-path (now (s .entry)) at) ⌝ }
     ensures { λ r. ⌜ Behind (now (s .entry)) at r ⌝ }
 {
-    match path::path(s, ar, types, own, live, at) {
-        PathRead::NoPath(k) => ExprRead::Refused(k),
-        PathRead::Path(m, n, j) => ExprRead::Value(m, expression::travelled(n, j)),
-    }
+    let r = path::path(s, ar, types, own, live, at);
+    let PathRead::Path(m, n, j) = r else {
+        return ExprRead::Refused(read::path_refusal(r));
+    };
+    ExprRead::Value(m, expression::travelled(n, j))
 }
 
 // What stands behind a byte that opens no form with an expression inside.
@@ -71,10 +74,10 @@ pub fn leaf(s: &[u8], ar: &[u8], types: &[u8], own: u8, live: u64, b: u8, at: us
         return travel(s, ar, types, own, live, at);
     }
     if b == 19 {
-        return word(s, 0, at);
+        return word(s, types::INT, at);
     }
     if b == 20 {
-        return word(s, 1, at);
+        return word(s, types::NAT, at);
     }
     if b == 21 {
         return bool_byte(s, at);
@@ -83,7 +86,7 @@ pub fn leaf(s: &[u8], ar: &[u8], types: &[u8], own: u8, live: u64, b: u8, at: us
         return null(s, ar.len(), at);
     }
     if b == 23 {
-        return ExprRead::Value(at, expression::pushed(16 + own));
+        return ExprRead::Value(at, expression::pushed(types::STRUCT + own));
     }
     ExprRead::Refused(5)
 }

@@ -20,13 +20,12 @@ fn follow(s: &[u8], ar: &[u8], types: &[u8], j: Judged, n: u8, c: u8, at: usize)
     if n == 0 {
         return PathRead::Path(at, c, j);
     }
-    match read::ranged(s, 0, 8, at) {
-        ByteRead::NoByte(k) => PathRead::NoPath(k),
-        ByteRead::Byte(x, m) => {
-            let next = facts::path::lead_by(ar, types, j, x);
-            follow(s, ar, types, next, n - 1, c + 1, m)
-        }
-    }
+    let r = read::ranged(s, 0, types::FIRST_LOCAL, at);
+    let ByteRead::Byte(x, m) = r else {
+        return PathRead::NoPath(read::byte_refusal(r));
+    };
+    let next = facts::path::lead_by(ar, types, j, x);
+    follow(s, ar, types, next, n - 1, c + 1, m)
 }
 
 // The first variable of a path and n - 1 parameters behind it.
@@ -35,21 +34,21 @@ fn first(s: &[u8], ar: &[u8], types: &[u8], own: u8, live: u64, n: u8, at: usize
     ensures { λ r. ⌜ r ≡ path-told (path-of (now (ar .entry)) (now (types .entry)) own live) (read-vars (now (s .entry)) n at) ⌝ }
     ensures { λ r. ⌜ PathSpan (now (s .entry)) 0 4 at r ⌝ }
 {
-    match read::ranged(s, 0, 16, at) {
-        ByteRead::NoByte(k) => PathRead::NoPath(k),
-        ByteRead::Byte(b, m) => {
-            let j = facts::path::start(ar, types, own, live, b);
-            follow(s, ar, types, j, n - 1, 1, m)
-        }
-    }
+    let r = read::ranged(s, 0, types::VARIABLES, at);
+    let ByteRead::Byte(b, m) = r else {
+        return PathRead::NoPath(read::byte_refusal(r));
+    };
+    let j = facts::path::start(ar, types, own, live, b);
+    follow(s, ar, types, j, n - 1, 1, m)
 }
 
 pub fn path(s: &[u8], ar: &[u8], types: &[u8], own: u8, live: u64, at: usize) -> PathRead
     ensures { λ r. ⌜ r ≡ path-told (path-of (now (ar .entry)) (now (types .entry)) own live) (read-path (now (s .entry)) at) ⌝ }
     ensures { λ r. ⌜ PathSpan (now (s .entry)) 0 4 (at + 1) r ⌝ }
 {
-    match read::ranged(s, 1, 5, at) {
-        ByteRead::NoByte(k) => PathRead::NoPath(k),
-        ByteRead::Byte(n, m) => first(s, ar, types, own, live, n, m),
-    }
+    let r = read::ranged(s, 1, types::MAX_PATH + 1, at);
+    let ByteRead::Byte(n, m) = r else {
+        return PathRead::NoPath(read::byte_refusal(r));
+    };
+    first(s, ar, types, own, live, n, m)
 }

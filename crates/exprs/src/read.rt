@@ -4,7 +4,7 @@ use facts::Judged;
 ghost use mathlib.Core.Path.{_≡_};
 ghost use Prim.Native.Nat.{_+_};
 ghost use Rattle.program.specs.Reader.{ranged, tested, type-byte};
-ghost use Rattle.exprs.specs.Told.{byte-told, ByteSpan};
+ghost use Rattle.exprs.specs.Told.{byte-told, byte-refusal, path-refusal, expr-refusal, ByteSpan};
 
 pub enum ByteRead {
     Byte(u8, usize),
@@ -20,6 +20,34 @@ pub enum PathRead {
 pub enum ExprRead {
     Value(usize, Facts),
     Refused(u8),
+}
+
+// The number of a refusal, for a reader whose own answer is of another type; 0 where a value was read.
+pub fn byte_refusal(r: ByteRead) -> u8
+    ensures { λ n. ⌜ n ≡ byte-refusal r ⌝ }
+{
+    let ByteRead::NoByte(n) = r else {
+        return 0;
+    };
+    n
+}
+
+pub fn path_refusal(r: PathRead) -> u8
+    ensures { λ n. ⌜ n ≡ path-refusal r ⌝ }
+{
+    let PathRead::NoPath(n) = r else {
+        return 0;
+    };
+    n
+}
+
+pub fn expr_refusal(r: ExprRead) -> u8
+    ensures { λ n. ⌜ n ≡ expr-refusal r ⌝ }
+{
+    let ExprRead::Refused(n) = r else {
+        return 0;
+    };
+    n
 }
 
 // A byte from lo up to below hi.
@@ -40,6 +68,16 @@ pub fn ranged(s: &[u8], lo: usize, hi: usize, at: usize) -> ByteRead
     ByteRead::Byte(b, at + 1)
 }
 
+// Whether a byte is a type, where there are n structs. No byte names a struct past 239, so 255 of them stand for more.
+fn is_type(n: usize, b: u8) -> bool
+    ensures { λ r. ⌜ r ≡ type-byte n b ⌝ }
+{
+    if n < 255 {
+        return types::is_type(n as u8, b);
+    }
+    types::is_type(255, b)
+}
+
 // The byte of a type, where there are n structs.
 pub fn type_byte(s: &[u8], n: usize, at: usize) -> ByteRead
     ensures { λ r. ⌜ r ≡ byte-told (tested (now (s .entry)) (type-byte n) at) ⌝ }
@@ -49,13 +87,7 @@ pub fn type_byte(s: &[u8], n: usize, at: usize) -> ByteRead
         return ByteRead::NoByte(4);
     }
     let b = s[at];
-    if b < 3 {
-        return ByteRead::Byte(b, at + 1);
-    }
-    if b < 16 {
-        return ByteRead::NoByte(5);
-    }
-    if n <= (b - 16) as usize {
+    if !is_type(n, b) {
         return ByteRead::NoByte(5);
     }
     ByteRead::Byte(b, at + 1)

@@ -40,8 +40,8 @@ pub fn negated(f: Facts) -> Facts
     Facts {
         size: f.size + 1,
         peak: f.peak,
-        fault: fault::demand(f.fault, f.typ == 2),
-        typ: 2,
+        fault: fault::demand(f.fault, f.typ == types::BOOL),
+        typ: types::BOOL,
     }
 }
 
@@ -56,9 +56,9 @@ fn takes(b: u8, t: u8, u: u8) -> bool
         return true;
     }
     if b < 43 {
-        return t < 2;
+        return t < types::BOOL;
     }
-    t == 2
+    t == types::BOOL
 }
 
 // The type of what the operator of a byte gives.
@@ -66,12 +66,12 @@ fn gives(b: u8, t: u8) -> u8
     ensures { λ r. ⌜ r ≡ gives (sort-by b) t ⌝ }
 {
     if b < 38 {
-        return 2;
+        return types::BOOL;
     }
     if b < 43 {
         return t;
     }
-    2
+    types::BOOL
 }
 
 // The operator of a byte, between two expressions: the second stands one above the first.
@@ -135,6 +135,6 @@ pub fn constructed(k: u8, f: Facts) -> Facts
         size: f.size + 1,
         peak: higher(1, f.peak),
         fault: f.fault,
-        typ: 16 + k,
+        typ: types::STRUCT + k,
     }
 }

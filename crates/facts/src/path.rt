@@ -9,6 +9,9 @@ ghost use Rattle.program.specs.Tree.{Var.loc};
 ghost use Rattle.program.specs.Reader.{var-of};
 ghost use Rattle.facts.specs.Facts.{param, lead-by, start-of};
 
+// The byte of the first local.
+pub const FIRST_LOCAL: u8 = types::FIRST_LOCAL as u8;
+
 // What stands at a place, 0 past the end.
 pub fn look(table: &[u8], i: usize) -> u8
     ensures { λ r. ⌜ r ≡ getD (now (table .entry)) i 0 ⌝ }
@@ -23,7 +26,7 @@ pub fn look(table: &[u8], i: usize) -> u8
 pub fn type_at(types: &[u8], k: u8, x: u8) -> u8
     ensures { λ r. ⌜ r ≡ getD (now (types .entry)) (8 * k + x) 0 ⌝ }
 {
-    look(types, 8 * k as usize + x as usize)
+    look(types, types::MAX_PARAMS * k as usize + x as usize)
 }
 
 // A parameter of the struct k.
@@ -46,10 +49,10 @@ pub fn lead_by(ar: &[u8], types: &[u8], j: Judged, x: u8) -> Judged
     if j.fault != 0 {
         return j;
     }
-    if j.typ < 16 {
+    if j.typ < types::STRUCT {
         return Judged { fault: 8, typ: 0 };
     }
-    param(ar, types, 8, j.typ - 16, x)
+    param(ar, types, 8, j.typ - types::STRUCT, x)
 }
 
 // The local x: its digit is 1 more than its type while it lives.
@@ -72,8 +75,8 @@ pub fn start(ar: &[u8], types: &[u8], own: u8, live: u64, b: u8) -> Judged
     requires { ⌜ b < 16 ⌝ }
     ensures { λ r. ⌜ r ≡ start-of (now (ar .entry)) (now (types .entry)) own live (var-of b) ⌝ }
 {
-    if b < 8 {
+    if b < FIRST_LOCAL {
         return param(ar, types, 7, own, b);
     }
-    local(live, b - 8)
+    local(live, b - FIRST_LOCAL)
 }

@@ -28,7 +28,7 @@ pub fn branched(c: Scope, f: Facts, b: Done) -> Done
     requires { ⌜ f .size + b .size + 1 < 2 ^ 64 ⌝ }
     ensures { λ r. ⌜ r ≡ branched c f b ⌝ }
 {
-    let first = fault::demand(f.fault, f.typ == 2);
+    let first = fault::demand(f.fault, f.typ == types::BOOL);
     let inner = b.after;
     let after = Scope {
         live: c.live,

@@ -1,5 +1,6 @@
 // What is made of an expression or a body that was read; a refusal is handed on.
 use crate::StmtRead;
+use exprs::read;
 use exprs::read::ExprRead;
 use facts::Done;
 use facts::Facts;
@@ -17,10 +18,10 @@ pub(crate) fn declared(c: Scope, t: u8, x: u8, r: ExprRead) -> StmtRead
     requires { ⌜ (x < 8) × (t < 255) × Room r ⌝ }
     ensures { λ q. ⌜ q ≡ turn (declared c t x) r ⌝ }
 {
-    match r {
-        ExprRead::Refused(n) => StmtRead::Refused(n),
-        ExprRead::Value(m, f) => StmtRead::Value(m, statement::declared(c, t, x, f)),
-    }
+    let ExprRead::Value(m, f) = r else {
+        return StmtRead::Refused(read::expr_refusal(r));
+    };
+    StmtRead::Value(m, statement::declared(c, t, x, f))
 }
 
 // An update of a path of n variables.
@@ -28,29 +29,29 @@ pub(crate) fn updated(c: Scope, n: u8, j: Judged, r: ExprRead) -> StmtRead
     requires { ⌜ Room r ⌝ }
     ensures { λ q. ⌜ q ≡ turn (updated c n j) r ⌝ }
 {
-    match r {
-        ExprRead::Refused(n) => StmtRead::Refused(n),
-        ExprRead::Value(m, f) => StmtRead::Value(m, statement::updated(c, n, j, f)),
-    }
+    let ExprRead::Value(m, f) = r else {
+        return StmtRead::Refused(read::expr_refusal(r));
+    };
+    StmtRead::Value(m, statement::updated(c, n, j, f))
 }
 
 // A construct whose label stays.
 pub(crate) fn labelled(c: Scope, r: ExprRead) -> StmtRead
     ensures { λ q. ⌜ q ≡ turn (labelled c) r ⌝ }
 {
-    match r {
-        ExprRead::Refused(n) => StmtRead::Refused(n),
-        ExprRead::Value(m, f) => StmtRead::Value(
-            m,
-            Done {
-                size: f.size,
-                height: f.peak,
-                growth: 1,
-                fault: f.fault,
-                after: c,
-            },
-        ),
-    }
+    let ExprRead::Value(m, f) = r else {
+        return StmtRead::Refused(read::expr_refusal(r));
+    };
+    StmtRead::Value(
+        m,
+        Done {
+            size: f.size,
+            height: f.peak,
+            growth: 1,
+            fault: f.fault,
+            after: c,
+        },
+    )
 }
 
 // An if around a body.

@@ -22,12 +22,16 @@ fn local(s: &[u8], ar: &[u8], types: &[u8], own: u8, c: Scope, t: u8, at: usize)
     ensures { λ r. ⌜ DoneBehind (now (s .entry)) at r ⌝ }
 {
     let live = c.live;
-    match read::ranged(s, 8, 16, at) {
-        ByteRead::NoByte(n) => StmtRead::Refused(n),
-        ByteRead::Byte(x, m) => {
-            made::declared(c, t, x - 8, expr::expr(s, ar, types, own, live, m, 16))
-        }
-    }
+    let r = read::ranged(s, types::FIRST_LOCAL, types::VARIABLES, at);
+    let ByteRead::Byte(x, m) = r else {
+        return StmtRead::Refused(read::byte_refusal(r));
+    };
+    made::declared(
+        c,
+        t,
+        x - facts::path::FIRST_LOCAL,
+        expr::expr(s, ar, types, own, live, m, types::EXPR_LEVELS),
+    )
 }
 
 fn declare(s: &[u8], ar: &[u8], types: &[u8], own: u8, c: Scope, at: usize) -> StmtRead
@@ -35,10 +39,11 @@ fn declare(s: &[u8], ar: &[u8], types: &[u8], own: u8, c: Scope, at: usize) -> S
     ensures { λ r. ⌜ r ≡ done (declare-facts (now (ar .entry)) (now (types .entry)) own c) (read-declare (now (ar .entry)) (now (s .entry)) at) ⌝ }
     ensures { λ r. ⌜ DoneBehind (now (s .entry)) at r ⌝ }
 {
-    match read::type_byte(s, ar.len(), at) {
-        ByteRead::NoByte(n) => StmtRead::Refused(n),
-        ByteRead::Byte(t, m) => local(s, ar, types, own, c, t, m),
-    }
+    let r = read::type_byte(s, ar.len(), at);
+    let ByteRead::Byte(t, m) = r else {
+        return StmtRead::Refused(read::byte_refusal(r));
+    };
+    local(s, ar, types, own, c, t, m)
 }
 
 fn update(s: &[u8], ar: &[u8], types: &[u8], own: u8, c: Scope, at: usize) -> StmtRead
@@ -47,12 +52,16 @@ fn update(s: &[u8], ar: &[u8], types: &[u8], own: u8, c: Scope, at: usize) -> St
     ensures { λ r. ⌜ DoneBehind (now (s .entry)) at r ⌝ }
 {
     let live = c.live;
-    match path::path(s, ar, types, own, live, at) {
-        PathRead::NoPath(n) => StmtRead::Refused(n),
-        PathRead::Path(m, n, j) => {
-            made::updated(c, n, j, expr::expr(s, ar, types, own, live, m, 16))
-        }
-    }
+    let r = path::path(s, ar, types, own, live, at);
+    let PathRead::Path(m, n, j) = r else {
+        return StmtRead::Refused(read::path_refusal(r));
+    };
+    made::updated(
+        c,
+        n,
+        j,
+        expr::expr(s, ar, types, own, live, m, types::EXPR_LEVELS),
+    )
 }
 
 fn create(s: &[u8], ar: &[u8], types: &[u8], own: u8, c: Scope, at: usize) -> StmtRead
@@ -61,7 +70,10 @@ fn create(s: &[u8], ar: &[u8], types: &[u8], own: u8, c: Scope, at: usize) -> St
     ensures { λ r. ⌜ DoneBehind (now (s .entry)) at r ⌝ }
 {
     let live = c.live;
-    made::labelled(c, expr::construct(s, ar, types, own, live, at, 16))
+    made::labelled(
+        c,
+        expr::construct(s, ar, types, own, live, at, types::EXPR_LEVELS),
+    )
 }
 
 // What stands behind a byte that opens no if.

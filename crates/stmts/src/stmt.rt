@@ -59,10 +59,11 @@ pub fn when(
     ensures { λ r. ⌜ DoneBehind (now (s .entry)) at r ⌝ }
 {
     let live = c.live;
-    match expr::expr(s, ar, types, own, live, at, 16) {
-        ExprRead::Refused(n) => StmtRead::Refused(n),
-        ExprRead::Value(m, f) => made::branched(c, f, body(s, ar, types, own, c, m, depth)),
-    }
+    let r = expr::expr(s, ar, types, own, live, at, types::EXPR_LEVELS);
+    let ExprRead::Value(m, f) = r else {
+        return StmtRead::Refused(read::expr_refusal(r));
+    };
+    made::branched(c, f, body(s, ar, types, own, c, m, depth))
 }
 
 // A count, and so many statements with at most depth levels of if.
@@ -79,10 +80,11 @@ pub fn body(
     ensures { λ r. ⌜ r ≡ done (λ b. body-facts (now (ar .entry)) (now (types .entry)) own b c) (read-body (now (ar .entry)) (now (s .entry)) (read-stmt (now (ar .entry)) (now (s .entry)) depth) at) ⌝ }
     ensures { λ r. ⌜ DoneBody (now (s .entry)) at r ⌝ }
 {
-    match read::ranged(s, 0, 33, at) {
-        ByteRead::NoByte(n) => StmtRead::Refused(n),
-        ByteRead::Byte(n, m) => stmts(s, ar, types, own, c, n, m, depth),
-    }
+    let r = read::ranged(s, 0, types::MAX_STATEMENTS + 1, at);
+    let ByteRead::Byte(n, m) = r else {
+        return StmtRead::Refused(read::byte_refusal(r));
+    };
+    stmts(s, ar, types, own, c, n, m, depth)
 }
 
 // That many statements.

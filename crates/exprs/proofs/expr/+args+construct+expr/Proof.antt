@@ -24,6 +24,7 @@ use Rattle.exprs.proofs.expr.beside.Reads as beside-reads
 use Rattle.exprs.proofs.expr.joined.Reads as joined-reads
 use Rattle.exprs.proofs.expr.over.Reads as over-reads
 use Rattle.exprs.proofs.leaf.leaf.Reads as leaf-reads
+use Rattle.exprs.proofs.read.byte_refusal.Reads as byte-refusal-reads
 use Rattle.exprs.proofs.read.ranged.Reads as ranged-reads
 use Rattle.facts.proofs.expression.no_args.Reads as no-args-reads
 use Rattle.facts.proofs.path.look.Reads as look-reads
@@ -63,7 +64,7 @@ abbrev args-claims : ℕ → args-lts.Claims
 args-claims t = (no-args-reads.Asked, no-args-reads.Learnt, expr-below t, expr.Post, type-at-reads.Asked, type-at-reads.Learnt, args-below t, args.Post, joined-reads.Asked, joined-reads.Learnt)
 
 abbrev construct-claims : ℕ → construct-lts.Claims
-construct-claims t = (ranged-reads.Asked, ranged-reads.Learnt, look-reads.Asked, look-reads.Learnt, args-below t, args.Post, over-reads.Asked, over-reads.Learnt)
+construct-claims t = (ranged-reads.Asked, ranged-reads.Learnt, byte-refusal-reads.Asked, byte-refusal-reads.Learnt, look-reads.Asked, look-reads.Learnt, args-below t, args.Post, over-reads.Asked, over-reads.Learnt)
 
 abbrev expr-claims : ℕ → expr-lts.Claims
 expr-claims t = (expr-below t, expr.Post, around-reads.Asked, around-reads.Learnt, construct-below t, construct.Post, leaf-reads.Asked, leaf-reads.Learnt, beside-reads.Asked, beside-reads.Learnt)
@@ -121,39 +122,42 @@ args-returns-3 t c = let a = c .before .before .before .before .before .before .
 construct-ranged-requires : (t : ℕ) → construct-lts.Need-ranged-requires (construct-claims t) (construct-at t) construct.Post
 construct-ranged-requires t c κs = search needs
 
-construct-enum-known-n : (t : ℕ) → construct-lts.Need-enum-known-n (construct-claims t) (construct-at t) construct.Post
-construct-enum-known-n t c = search needs
+construct-enum-known-r : (t : ℕ) → construct-lts.Need-enum-known-r (construct-claims t) (construct-at t) construct.Post
+construct-enum-known-r t c = search needs
 
-construct-enum-known-k : (t : ℕ) → construct-lts.Need-enum-known-k (construct-claims t) (construct-at t) construct.Post
-construct-enum-known-k t c = search needs
+construct-enum-told : (t : ℕ) → construct-lts.Need-enum-told (construct-claims t) (construct-at t) construct.Post
+construct-enum-told t c = search needs
+
+construct-byte-refusal-requires : (t : ℕ) → construct-lts.Need-byte-refusal-requires (construct-claims t) (construct-at t) construct.Post
+construct-byte-refusal-requires t c κs = search needs
+
+construct-returns : (t : ℕ) → construct-lts.Need-returns (construct-claims t) (construct-at t) construct.Post
+construct-returns t c = let a = c .before .before .before .before .before .before .before .args in
+    let s = a .s .now in
+    let e = sym (c .before .before .before .ranged .ensures .0) ∙ c .before .enum-told .given .1 in
+    rw (c .byte-refusal .ensures, c .before .enum-told .given .1) (sym (make-stop (a .ar .now) (a .types .now) s (a .own) (a .live) (read-expr (a .ar .now) s (a .depth)) 0 (a .at) _ e), tt)
 
 construct-cast-look : (t : ℕ) → construct-lts.Need-cast-look (construct-claims t) (construct-at t) construct.Post
-construct-cast-look t c = omega (arith, c .known-told2)
+construct-cast-look t c = omega (arith, c .known-told)
 
 construct-look-requires : (t : ℕ) → construct-lts.Need-look-requires (construct-claims t) (construct-at t) construct.Post
 construct-look-requires t c κs = search needs
 
 construct-args-requires : (t : ℕ) → construct-lts.Need-args-requires (construct-claims t) (construct-at t) construct.Post
-construct-args-requires t c κs = let span = rw (c .before .before .k .given .1) at (c .before .before .before .before .ranged .ensures .1) in
+construct-args-requires t c κs = let span = rw (c .before .before .r .given .1) at (c .before .before .before .before .ranged .ensures .1) in
     (omega (arith, c .before .before .before .before .before .before .before .before .pre), (c .before .before .before .before .before .before .before .before .pre .1, omega arith))
 
 construct-over-requires : (t : ℕ) → construct-lts.Need-over-requires (construct-claims t) (construct-at t) construct.Post
 construct-over-requires t c κs = let a = c .before .before .before .before .before .before .before .before .before .args in
     let small : length (a .s .now) < 2 ^ 63 = omega (arith, c .before .before .before .before .before .before .before .before .before .good .0) in
-    let span = rw (c .before .before .before .k .given .1) at (c .before .before .before .before .before .ranged .ensures .1) in
+    let span = rw (c .before .before .before .r .given .1) at (c .before .before .before .before .before .ranged .ensures .1) in
     (omega (arith, c .before .before .before .before .before .before .before .before .before .pre .1), span-room (a .s .now) _ _ (c .args2 .result) small (c .args2 .ensures .1))
-
-construct-returns : (t : ℕ) → construct-lts.Need-returns (construct-claims t) (construct-at t) construct.Post
-construct-returns t c = let a = c .before .before .before .before .before .before .before .args in
-    let s = a .s .now in
-    let e = sym (c .before .before .before .ranged .ensures .0) ∙ c .before .n .given .1 in
-    (sym (make-stop (a .ar .now) (a .types .now) s (a .own) (a .live) (read-expr (a .ar .now) s (a .depth)) 0 (a .at) _ e), tt)
 
 construct-returns-2 : (t : ℕ) → construct-lts.Need-returns-2 (construct-claims t) (construct-at t) construct.Post
 construct-returns-2 t c = let a = c .before .before .before .before .before .before .before .before .before .before .args in
     let s = a .s .now in
-    let e = sym (c .before .before .before .before .before .before .ranged .ensures .0) ∙ c .before .before .before .before .k .given .1 in
-    let span = rw (c .before .before .before .before .k .given .1) at (c .before .before .before .before .before .before .ranged .ensures .1) in
+    let e = sym (c .before .before .before .before .before .before .ranged .ensures .0) ∙ c .before .before .before .before .r .given .1 in
+    let span = rw (c .before .before .before .before .r .given .1) at (c .before .before .before .before .before .before .ranged .ensures .1) in
     let rest = rw (c .before .before .look .ensures) at (c .before .args2 .ensures .0) in
     let law = make-is (a .ar .now) (a .types .now) s (a .own) (a .live) (read-expr (a .ar .now) s (a .depth)) 0 (a .at) _ _ e in
     ((rw rest at (c .over .ensures)) ∙ sym law, rw (c .over .ensures) (span-make s (a .at) _ _ (c .before .args2 .result) (span .0) (span .1) (c .before .args2 .ensures .1)))
@@ -260,13 +264,14 @@ pub +args+construct+expr-spec : {M : Type 1} → statement M
     (λ t. construct-lts.spec (construct-claims t) (construct-at t)
     construct.Post
     (construct-ranged-requires t)
-    (construct-enum-known-n t)
-    (construct-enum-known-k t)
+    (construct-enum-known-r t)
+    (construct-enum-told t)
+    (construct-byte-refusal-requires t)
+    (construct-returns t)
     (construct-cast-look t)
     (construct-look-requires t)
     (construct-args-requires t)
     (construct-over-requires t)
-    (construct-returns t)
     (construct-returns-2 t))
     λ t. expr-lts.spec (expr-claims t) (expr-at t)
     expr.Post

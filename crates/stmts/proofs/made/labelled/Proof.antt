@@ -6,14 +6,17 @@ use Rattle.stmts.proofs.made.labelled.Tie as tie
 enum-known-r : tie.Need-enum-known-r
 enum-known-r c = search needs
 
-enum-known-r-2 : tie.Need-enum-known-r-2
-enum-known-r-2 c = search needs
+enum-told : tie.Need-enum-told
+enum-told c = search needs
+
+expr-refusal-requires : tie.Need-expr-refusal-requires
+expr-refusal-requires c κs = search needs
 
 returns : tie.Need-returns
-returns c = rw (c .before .r .given .1)
+returns c = rw (c .expr-refusal .ensures, c .before .enum-told .given .1)
 
 returns-2 : tie.Need-returns-2
-returns-2 c = rw (c .before .r2 .given .1)
+returns-2 c = rw (c .before .r .given .1)
 
 pub labelled-spec : {M : Type 1} → statement M
-labelled-spec = tie.close (tie.spec enum-known-r enum-known-r-2 returns returns-2)
+labelled-spec = tie.close (tie.spec enum-known-r enum-told expr-refusal-requires returns returns-2)

@@ -10,28 +10,38 @@ use Rattle.stmts.proofs.simple.declare.Tie as tie
 type-byte-requires : tie.Need-type-byte-requires
 type-byte-requires c κs = search needs
 
-enum-known-n : tie.Need-enum-known-n
-enum-known-n c = search needs
+enum-known-r : tie.Need-enum-known-r
+enum-known-r c = search needs
 
-enum-known-t : tie.Need-enum-known-t
-enum-known-t c = search needs
+enum-told : tie.Need-enum-told
+enum-told c = search needs
 
-local-requires : tie.Need-local-requires
-local-requires c κs = let span = rw (c .before .t .given .1) at (c .before .before .before .type-byte .ensures .1) in (c .before .before .before .before .before .before .before .pre, omega (arith, c .before .before .before .before .before .before .before .pre))
+byte-refusal-requires : tie.Need-byte-refusal-requires
+byte-refusal-requires c κs = search needs
 
 returns : tie.Need-returns
 returns c = let a = c .before .before .before .before .before .before .before .args in
-    let e = sym (c .before .before .before .type-byte .ensures .0) ∙ c .before .n .given .1 in
-    (sym (declare-stop (a .ar .now) (a .types .now) (a .s .now) (a .own) (a .c) (a .at) _ e), tt)
+    let e = sym (c .before .before .before .type-byte .ensures .0) ∙ c .before .enum-told .given .1 in
+    rw (c .byte-refusal .ensures, c .before .enum-told .given .1) (sym (declare-stop (a .ar .now) (a .types .now) (a .s .now) (a .own) (a .c) (a .at) _ e), tt)
+
+local-requires : tie.Need-local-requires
+local-requires c κs = let span = rw (c .before .r .given .1) at (c .before .before .before .type-byte .ensures .1) in (c .before .before .before .before .before .before .before .pre, omega (arith, c .before .before .before .before .before .before .before .pre))
 
 returns-2 : tie.Need-returns-2
 returns-2 c = let a = c .before .before .before .before .before .before .before .before .args in
     let s = a .s .now in
-    let e = sym (c .before .before .before .before .type-byte .ensures .0) ∙ c .before .before .t .given .1 in
-    let span = rw (c .before .before .t .given .1) at (c .before .before .before .before .type-byte .ensures .1) in
+    let e = sym (c .before .before .before .before .type-byte .ensures .0) ∙ c .before .before .r .given .1 in
+    let span = rw (c .before .before .r .given .1) at (c .before .before .before .before .type-byte .ensures .1) in
     (c .local .ensures .0 ∙ sym (declare-is (a .ar .now) (a .types .now) s (a .own) (a .c) (a .at) _ _ e), behind-behind s (a .at) _ (c .local .result) (span .0) (c .local .ensures .1))
 
 pub declare-spec : {M : Type 1} → statement M
 declare-spec =
     tie.close
-    (tie.spec type-byte-requires enum-known-n enum-known-t local-requires returns returns-2)
+    (tie.spec
+    type-byte-requires
+    enum-known-r
+    enum-told
+    byte-refusal-requires
+    returns
+    local-requires
+    returns-2)

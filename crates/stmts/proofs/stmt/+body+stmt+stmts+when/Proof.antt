@@ -22,6 +22,8 @@ use Rattle.stmts.proofs.stmt.when.Reads as when
 use Rattle.stmts.proofs.stmt.when.Kinds as when-kinds
 use Rattle.stmts.proofs.stmt.+body+stmt+stmts+when.Lts-when as when-lts
 use Rattle.exprs.proofs.expr.expr.Reads as expr-reads
+use Rattle.exprs.proofs.read.byte_refusal.Reads as byte-refusal-reads
+use Rattle.exprs.proofs.read.expr_refusal.Reads as expr-refusal-reads
 use Rattle.exprs.proofs.read.ranged.Reads as ranged-reads
 use Rattle.facts.proofs.statement.nothing.Reads as nothing-reads
 use Rattle.stmts.proofs.made.branched.Reads as branched-reads
@@ -67,7 +69,7 @@ abbrev when-below : ℕ → In 3 when-kinds.ps
 when-below t = and 3 when-kinds.ps (falls 3 when-kinds.ps _<_ μ-when t) when.Pre
 
 abbrev body-claims : ℕ → body-lts.Claims
-body-claims t = (ranged-reads.Asked, ranged-reads.Learnt, stmts-below t, stmts.Post)
+body-claims t = (ranged-reads.Asked, ranged-reads.Learnt, byte-refusal-reads.Asked, byte-refusal-reads.Learnt, stmts-below t, stmts.Post)
 
 abbrev stmt-claims : ℕ → stmt-lts.Claims
 stmt-claims t = (simple-reads.Asked, simple-reads.Learnt, when-below t, when.Post)
@@ -76,32 +78,38 @@ abbrev stmts-claims : ℕ → stmts-lts.Claims
 stmts-claims t = (nothing-reads.Asked, nothing-reads.Learnt, stmt-below t, stmt.Post, stmts-below t, stmts.Post, followed-reads.Asked, followed-reads.Learnt)
 
 abbrev when-claims : ℕ → when-lts.Claims
-when-claims t = (expr-reads.Asked, expr-reads.Learnt, body-below t, body.Post, branched-reads.Asked, branched-reads.Learnt)
+when-claims t = (expr-reads.Asked, expr-reads.Learnt, expr-refusal-reads.Asked, expr-refusal-reads.Learnt, body-below t, body.Post, branched-reads.Asked, branched-reads.Learnt)
+
+body-add-ranged : (t : ℕ) → body-lts.Need-add-ranged (body-claims t) (body-at t) body.Post
+body-add-ranged t c = search needs
 
 body-ranged-requires : (t : ℕ) → body-lts.Need-ranged-requires (body-claims t) (body-at t) body.Post
 body-ranged-requires t c κs = search needs
 
-body-enum-known-n : (t : ℕ) → body-lts.Need-enum-known-n (body-claims t) (body-at t) body.Post
-body-enum-known-n t c = search needs
+body-enum-known-r : (t : ℕ) → body-lts.Need-enum-known-r (body-claims t) (body-at t) body.Post
+body-enum-known-r t c = search needs
 
-body-enum-known-n-2 : (t : ℕ) → body-lts.Need-enum-known-n-2 (body-claims t) (body-at t) body.Post
-body-enum-known-n-2 t c = search needs
+body-enum-told : (t : ℕ) → body-lts.Need-enum-told (body-claims t) (body-at t) body.Post
+body-enum-told t c = search needs
 
-body-stmts-requires : (t : ℕ) → body-lts.Need-stmts-requires (body-claims t) (body-at t) body.Post
-body-stmts-requires t c κs = let span = rw (c .before .n2 .given .1) at (c .before .before .before .ranged .ensures .1) in
-    (omega (arith, c .before .before .before .before .before .before .before .pre), (c .before .before .before .before .before .before .before .pre .1, omega arith))
+body-byte-refusal-requires : (t : ℕ) → body-lts.Need-byte-refusal-requires (body-claims t) (body-at t) body.Post
+body-byte-refusal-requires t c κs = search needs
 
 body-returns : (t : ℕ) → body-lts.Need-returns (body-claims t) (body-at t) body.Post
 body-returns t c = let a = c .before .before .before .before .before .before .before .args in
     let s = a .s .now in
-    let e = sym (c .before .before .before .ranged .ensures .0) ∙ c .before .n .given .1 in
-    (sym (body-stop (a .ar .now) (a .types .now) s (a .own) (a .c) (read-stmt (a .ar .now) s (a .depth)) (a .at) _ e), tt)
+    let e = sym (c .before .before .before .ranged .ensures .0) ∙ c .before .enum-told .given .1 in
+    rw (c .byte-refusal .ensures, c .before .enum-told .given .1) (sym (body-stop (a .ar .now) (a .types .now) s (a .own) (a .c) (read-stmt (a .ar .now) s (a .depth)) (a .at) _ e), tt)
+
+body-stmts-requires : (t : ℕ) → body-lts.Need-stmts-requires (body-claims t) (body-at t) body.Post
+body-stmts-requires t c κs = let span = rw (c .before .r .given .1) at (c .before .before .before .ranged .ensures .1) in
+    (omega (arith, c .before .before .before .before .before .before .before .pre), (c .before .before .before .before .before .before .before .pre .1, omega arith))
 
 body-returns-2 : (t : ℕ) → body-lts.Need-returns-2 (body-claims t) (body-at t) body.Post
 body-returns-2 t c = let a = c .before .before .before .before .before .before .before .before .args in
     let s = a .s .now in
-    let e = sym (c .before .before .before .before .ranged .ensures .0) ∙ c .before .before .n2 .given .1 in
-    let span = rw (c .before .before .n2 .given .1) at (c .before .before .before .before .ranged .ensures .1) in
+    let e = sym (c .before .before .before .before .ranged .ensures .0) ∙ c .before .before .r .given .1 in
+    let span = rw (c .before .before .r .given .1) at (c .before .before .before .before .ranged .ensures .1) in
     (c .stmts .ensures .0 ∙ sym (body-is (a .ar .now) (a .types .now) s (a .own) (a .c) (read-stmt (a .ar .now) s (a .depth)) (a .at) _ _ e), rw (span .0) at (c .stmts .ensures .1))
 
 stmt-returns : (t : ℕ) → stmt-lts.Need-returns (stmt-claims t) (stmt-at t) stmt.Post
@@ -183,31 +191,34 @@ stmts-returns-3 t c = let a = c .before .before .before .before .before .before 
 when-expr-requires : (t : ℕ) → when-lts.Need-expr-requires (when-claims t) (when-at t) when.Post
 when-expr-requires t c κs = c .before .before .before .pre .1
 
-when-enum-known-n : (t : ℕ) → when-lts.Need-enum-known-n (when-claims t) (when-at t) when.Post
-when-enum-known-n t c = search needs
+when-enum-known-r : (t : ℕ) → when-lts.Need-enum-known-r (when-claims t) (when-at t) when.Post
+when-enum-known-r t c = search needs
 
-when-enum-known-m : (t : ℕ) → when-lts.Need-enum-known-m (when-claims t) (when-at t) when.Post
-when-enum-known-m t c = search needs
+when-enum-told : (t : ℕ) → when-lts.Need-enum-told (when-claims t) (when-at t) when.Post
+when-enum-told t c = search needs
 
-when-body-requires : (t : ℕ) → when-lts.Need-body-requires (when-claims t) (when-at t) when.Post
-when-body-requires t c κs = let ahead = rw (c .before .m .given .1) at (c .before .before .before .expr .ensures .1) in (omega (arith, c .before .before .before .before .before .before .before .pre), c .before .before .before .before .before .before .before .pre .1)
-
-when-branched-requires : (t : ℕ) → when-lts.Need-branched-requires (when-claims t) (when-at t) when.Post
-when-branched-requires t c κs = let a = c .before .before .before .before .before .before .before .before .args in
-    let small : length (a .s .now) < 2 ^ 63 = omega (arith, c .before .before .before .before .before .before .before .before .good .0) in
-    let ahead = rw (c .before .before .m .given .1) at (c .before .before .before .before .expr .ensures .1) in
-    (omega arith, done-room (a .s .now) _ _ (c .body .result) small (c .body .ensures .1))
+when-expr-refusal-requires : (t : ℕ) → when-lts.Need-expr-refusal-requires (when-claims t) (when-at t) when.Post
+when-expr-refusal-requires t c κs = search needs
 
 when-returns : (t : ℕ) → when-lts.Need-returns (when-claims t) (when-at t) when.Post
 when-returns t c = let a = c .before .before .before .before .before .before .before .args in
     let s = a .s .now in
-    let e = sym (c .before .before .before .expr .ensures .0) ∙ c .before .n .given .1 in
-    (sym (when-stop (a .ar .now) (a .types .now) s (a .own) (a .c) (read-stmt (a .ar .now) s (a .depth)) (a .at) _ e), tt)
+    let e = sym (c .before .before .before .expr .ensures .0) ∙ c .before .enum-told .given .1 in
+    rw (c .expr-refusal .ensures, c .before .enum-told .given .1) (sym (when-stop (a .ar .now) (a .types .now) s (a .own) (a .c) (read-stmt (a .ar .now) s (a .depth)) (a .at) _ e), tt)
+
+when-body-requires : (t : ℕ) → when-lts.Need-body-requires (when-claims t) (when-at t) when.Post
+when-body-requires t c κs = let ahead = rw (c .before .r .given .1) at (c .before .before .before .expr .ensures .1) in (omega (arith, c .before .before .before .before .before .before .before .pre), c .before .before .before .before .before .before .before .pre .1)
+
+when-branched-requires : (t : ℕ) → when-lts.Need-branched-requires (when-claims t) (when-at t) when.Post
+when-branched-requires t c κs = let a = c .before .before .before .before .before .before .before .before .args in
+    let small : length (a .s .now) < 2 ^ 63 = omega (arith, c .before .before .before .before .before .before .before .before .good .0) in
+    let ahead = rw (c .before .before .r .given .1) at (c .before .before .before .before .expr .ensures .1) in
+    (omega arith, done-room (a .s .now) _ _ (c .body .result) small (c .body .ensures .1))
 
 when-returns-2 : (t : ℕ) → when-lts.Need-returns-2 (when-claims t) (when-at t) when.Post
 when-returns-2 t c = let a = c .before .before .before .before .before .before .before .before .before .args in
     let s = a .s .now in
-    let told = c .before .before .before .m .given in
+    let told = c .before .before .before .r .given in
     let ahead = rw (told .1) at (c .before .before .before .before .before .expr .ensures .1) in
     let law = when-is (a .ar .now) (a .types .now) s (a .own) (a .c) (read-stmt (a .ar .now) s (a .depth)) (a .at) _ _ (sym (c .before .before .before .before .before .expr .ensures .0) ∙ told .1) in
     ((rw (c .before .body .ensures .0) at (c .branched .ensures)) ∙ sym law, rw (c .branched .ensures) (span-branched s (a .at) _ (a .c) _ (c .before .body .result) ahead (c .before .body .ensures .1)))
@@ -215,11 +226,13 @@ when-returns-2 t c = let a = c .before .before .before .before .before .before .
 pub +body+stmt+stmts+when-spec : {M : Type 1} → statement M
 +body+stmt+stmts+when-spec = close μ-body μ-stmt μ-stmts μ-when (λ t. body-lts.spec (body-claims t) (body-at t)
     body.Post
+    (body-add-ranged t)
     (body-ranged-requires t)
-    (body-enum-known-n t)
-    (body-enum-known-n-2 t)
-    (body-stmts-requires t)
+    (body-enum-known-r t)
+    (body-enum-told t)
+    (body-byte-refusal-requires t)
     (body-returns t)
+    (body-stmts-requires t)
     (body-returns-2 t))
     (λ t. stmt-lts.spec (stmt-claims t) (stmt-at t)
     stmt.Post
@@ -247,9 +260,10 @@ pub +body+stmt+stmts+when-spec : {M : Type 1} → statement M
     λ t. when-lts.spec (when-claims t) (when-at t)
     when.Post
     (when-expr-requires t)
-    (when-enum-known-n t)
-    (when-enum-known-m t)
+    (when-enum-known-r t)
+    (when-enum-told t)
+    (when-expr-refusal-requires t)
+    (when-returns t)
     (when-body-requires t)
     (when-branched-requires t)
-    (when-returns t)
     (when-returns-2 t)
