@@ -76,7 +76,7 @@ unfolding ended
 long s a k h = rw (ended, h)
 
 -- a whole stream is a program from its beginning
-whole-program : (s : List ℕ) (p : Program) (m : ℕ) → read s ≡ ok p m → read-program s 0 ≡ ok p m
+pub whole-program : (s : List ℕ) (p : Program) (m : ℕ) → read s ≡ ok p m → read-program s 0 ≡ ok p m
 unfolding read whole
 whole-program s p m e =
     let v = then-value (read-program s 0) (ended s) (rw e tt) in

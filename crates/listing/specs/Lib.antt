@@ -5,5 +5,11 @@ pub mod CommandText
 pub mod CommandTextLaws
 pub mod Decimals
 pub mod DecimalLaws
-pub mod Rows
+pub mod Listings
 pub mod Walk
+pub mod WalkLaws
+pub mod StepTextLaws
+pub mod StepWalkLaws
+pub mod ProgramTextLaws
+pub mod ImageLaws
+pub mod Rows
