@@ -1,3 +1,6 @@
 pub mod Layout
 pub mod Act
+pub mod Plan
+pub mod Move
+pub mod Choose
 pub mod Stands
