@@ -4,3 +4,4 @@ pub mod Plan
 pub mod Move
 pub mod Choose
 pub mod Stands
+pub mod PlanLaws

@@ -5,7 +5,7 @@ use mathlib.Core.Path.{_≡_}
 use mathlib.Core.Option.{Option, none, some}
 use mathlib.Core.List.{List, [], _∷_, _++_}
 use lib.ListN.{length, getD, take, drop}
-use Rattle.types.specs.Limits.{step-names}
+use Rattle.types.specs.Limits.{max-structs, step-names}
 use Rattle.program.specs.Tree.{Stmts, Program}
 use Rattle.commands.specs.Commands.{commands}
 use Rattle.commands.specs.Coding.{words}
@@ -44,8 +44,17 @@ laid (active f s) at = []
 unfoldable pub laid-out : Sched → List ℕ
 laid-out s = laid s 0 ++ end-code ∷ []
 
+-- no Fix has begun, and names and structs are in range, so that no code of a start is that of another item
+unfoldable pub Ranged : Sched → Type 0
+Ranged done = Unit {0}
+Ranged (start n s) = (n < step-names) × (Ranged s)
+Ranged (start-in k n s) = (k < max-structs) × (n < step-names) × (Ranged s)
+Ranged (fixpoint f s) = (Ranged f) × (Ranged s)
+Ranged (active f s) = ⊥
+
 -- the codes of f stand from t on, and end before j
 pub record Body (items : List ℕ) (t : ℕ) (f : Sched) (j : ℕ) : Type 0 where
+  pub ranged : Ranged f
   pub ends : j ≡ t + length (laid f t)
   pub stands : take (length (laid f t)) (drop t items) ≡ laid f t
 
@@ -53,7 +62,7 @@ pub record Body (items : List ℕ) (t : ℕ) (f : Sched) (j : ℕ) : Type 0 wher
 pub data At (items : List ℕ) : ℕ → Sched → Type 0 where
   at-end : {a : ℕ} → getD items a 0 ≡ end-code → At items a done
   at-start : {a n : ℕ} {s : Sched} → n < step-names → getD items a 0 ≡ start-code n → At items (suc a) s → At items a (start n s)
-  at-start-in : {a k n : ℕ} {s : Sched} → n < step-names → k < 16 → getD items a 0 ≡ start-in-code k n → At items (suc a) s → At items a (start-in k n s)
+  at-start-in : {a k n : ℕ} {s : Sched} → n < step-names → k < max-structs → getD items a 0 ≡ start-in-code k n → At items (suc a) s → At items a (start-in k n s)
   at-fix : {a j : ℕ} {f s : Sched} → getD items a 0 ≡ fix-code → Body items (suc a) f j → getD items j 0 ≡ round-code (suc a) → At items (suc j) s
       → At items a (fixpoint f s)
   at-round : {j t : ℕ} {f s : Sched} → Body items t f j → getD items j 0 ≡ round-code t → At items (suc j) s → At items j (active f s)
