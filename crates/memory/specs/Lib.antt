@@ -5,3 +5,7 @@ pub mod Move
 pub mod Choose
 pub mod Stands
 pub mod PlanLaws
+pub mod BeginLaws
+pub mod MoveLaws
+pub mod MoveStands
+pub mod ChooseStands

@@ -5,14 +5,14 @@ use mathlib.Core.Path.{_≡_, refl, ap, sym, subst, _∙_}
 use mathlib.Core.Logic.{_↔_}
 use mathlib.Core.List.{List, [], _∷_, _++_, map}
 use native.Mathlib.Omega.{arith}
-use native.Mathlib.Nat.{zero-add, add-zero}
-use lib.ListN.{length, getD, take, drop, length-append, length-map}
+use native.Mathlib.Nat.{zero-add, lt-of-not-le}
+use lib.ListN.{length, getD, take, drop, length-append, length-map, List·getD-eq-default}
 use lib.Seq.{take-append-seam, drop-append-seam, getD-append-seam, getD-drop, take-take, take-add, drop-drop}
 use Rattle.types.specs.Limits.{max-structs, step-names}
 use Rattle.program.specs.Tree.{Item, Item.call, Item.call-in, Item.fix, Items, Items.stop, Items.item, Program}
 use Rattle.program.specs.Counts.{CountsItem, CountsItems, CountsSchedule, Counts}
 use Rattle.machine.specs.Published.{Sched, Sched.done, Sched.start, Sched.start-in, Sched.fixpoint, Sched.active, before, of-item, of-items}
-use Rattle.memory.specs.Plan.{start-code, start-in-code, fix-code, end-code, round-code, laid, laid-out, Ranged, Body, At, At.at-end, At.at-start, At.at-start-in, At.at-fix, At.at-round}
+use Rattle.memory.specs.Plan.{start-code, start-in-code, fix-code, end-code, round-code, laid, laid-out, Ranged, At, At.at-end, At.at-start, At.at-start-in, At.at-fix, At.at-round}
 
 -- Parts of the codes -------------------------------------------------------------
 
@@ -97,6 +97,15 @@ module _ (items : List ℕ) where
   at-end-done (at-start-in h k e r) = (λ q. absurd (omega arith), λ q. let z : _≡_ {A = ℕ} 0 1 = cc in absurd (omega arith))
   at-end-done (at-fix e b q r) = (λ q. absurd (omega arith), λ q. let z : _≡_ {A = ℕ} 0 1 = cc in absurd (omega arith))
   at-end-done (at-round b e r) = (λ q. absurd (omega arith), λ q. let z : _≡_ {A = ℕ} 0 1 = cc in absurd (omega arith))
+
+  -- a place of the schedule is one of its codes
+  pub at-within : {a : ℕ} {s : Sched} → At items a s → a < length items
+  at-within (at-end {a = a} e) =
+      lt-of-not-le (λ h. let d : getD items a 0 ≡ 0 = List·getD-eq-default items 0 h in omega arith)
+  at-within (at-start h e r) = let w = at-within r in omega arith
+  at-within (at-start-in h k e r) = let w = at-within r in omega arith
+  at-within (at-fix e b q r) = let w = at-within r in let k = b .ends in omega arith
+  at-within (at-round b e r) = let w = at-within r in omega arith
 
 -- The whole schedule -------------------------------------------------------------
 
