@@ -5,6 +5,7 @@ pub mod Move
 pub mod Choose
 pub mod Stands
 pub mod PlanLaws
+pub mod PlanUnique
 pub mod BeginLaws
 pub mod MoveLaws
 pub mod MoveStands
