@@ -1,5 +1,8 @@
 pub mod Layout
 pub mod Act
+pub mod Plan
+pub mod Move
+pub mod Choose
 pub mod Stands
 pub mod Frame
 pub mod Fit
@@ -16,3 +19,9 @@ pub mod VarActs
 pub mod ConsActs
 pub mod Acts
 pub mod FitLaws
+pub mod PlanLaws
+pub mod PlanUnique
+pub mod BeginLaws
+pub mod MoveLaws
+pub mod MoveStands
+pub mod ChooseStands

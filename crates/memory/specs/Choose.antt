@@ -1,0 +1,29 @@
+-- Which instances hold commands, and which of them a turn byte picks, on memory (01, 'Table and turns').
+use Prim.Native.Nat.{ℕ, zero, suc, _-_, _%_}
+use mathlib.Core.Bool.{Bool, true, false}
+use mathlib.Core.List.{List}
+use lib.ListN.{getD}
+use lib.Dec.{ltb, eqb}
+use Rattle.memory.specs.Layout.{head, next-of, end-of}
+
+-- instance l holds commands
+abbrev pub holds : List ℕ → ℕ → Bool
+holds heads l = ltb (getD heads (head l next-of) 0) (getD heads (head l end-of) 0)
+
+-- how many of the n instances from l on hold commands
+unfoldable pub holding : List ℕ → ℕ → ℕ → ℕ
+holding heads l zero = 0
+holding heads l (suc n) = elim (holds heads l) [ true ↦ suc (holding heads (suc l) n) | false ↦ holding heads (suc l) n ]
+
+-- the label of the r-th of them
+unfoldable pub holder : List ℕ → ℕ → ℕ → ℕ → ℕ
+holder heads l zero r = 0
+holder heads l (suc n) r =
+    elim (holds heads l) [
+      | true ↦ elim (eqb r 0) [ true ↦ l | false ↦ holder heads (suc l) n (r - 1) ]
+      | false ↦ holder heads (suc l) n r
+    ]
+
+-- the holder that the byte e picks among those of n instances
+unfoldable pub picked : List ℕ → ℕ → ℕ → ℕ
+picked heads n e = holder heads 0 n (e % holding heads 0 n)
