@@ -3,6 +3,7 @@ pub mod Sized
 pub mod Accepted
 pub mod Invariant
 pub mod Conditions
+pub mod Tabled
 pub mod NeverStuck
 pub mod After
 pub mod Exhibits
@@ -27,5 +28,7 @@ pub mod HolderLaws
 pub mod ConditionLaws
 pub mod SettleLaws
 pub mod NeverStuckLaws
+pub mod TabledLaws
+pub mod TableKept
 pub mod ExhibitAccepted
 pub mod Statements

@@ -1,31 +1,38 @@
 -- The claims of the definitions, each in one place with the law that proves it. docs/THEOREMS.md points here.
-use Prim.Native.Nat.{ℕ}
+use Prim.Native.Nat.{ℕ, _<_, _≤_}
 use mathlib.Core.Path.{_≡_}
 use mathlib.Core.Logic.{_↔_}
+use mathlib.Core.Option.{some}
 use mathlib.Core.List.{List, map}
+use lib.ListN.{length, getElem?}
+use Rattle.types.specs.Limits.{table-blocks}
+use Rattle.types.specs.Values.{default}
+use Rattle.blocks.specs.Images.{image, pieces}
 use Rattle.program.specs.Tree.{Stmts, Program}
 use Rattle.commands.specs.Commands.{commands}
-use Rattle.commands.specs.Context.{Ctx}
+use Rattle.commands.specs.Context.{Ctx, params-of}
 use Rattle.commands.specs.Noted.{erase, noted}
 use Rattle.commands.specs.NotedLaws.{erased}
 use Rattle.commands.specs.Numbers.{Foremost}
-use Rattle.table.specs.Table.{Record}
-use Rattle.machine.specs.Published.{State}
-use Rattle.machine.specs.Machine.{Machine}
+use Rattle.table.specs.Table.{Record, enc-table, TableRight}
+use Rattle.machine.specs.Published.{State, structs}
+use Rattle.machine.specs.Machine.{Instance, Machine}
 use Rattle.machine.specs.Represents.{Represents}
 use Rattle.run.specs.Run.{Outcome.stopped, run}
 use Rattle.run.specs.Visits.{Visits}
-use Rattle.run.specs.Begin.{begin, table-of}
+use Rattle.run.specs.Begin.{params-in, begin, table-of}
 use Rattle.run.specs.Initial.{initial, Comes}
 use Rattle.run.specs.PublishedVisits.{Passes, turns-of}
 use Rattle.run.specs.Entry.{Checked.accepted, checked, Begun.not-begun, Begun.begun, begins, report, run-report, run-output, run-list}
-use Rattle.run.specs.Input.{Accepted as AcceptedImage, Refuses, Ready, order}
+use Rattle.run.specs.Input.{Accepted as AcceptedImage, TableAccepted, Refuses, Ready, order}
 use Rattle.run.specs.InputProgram.{checked-accepted}
 use Rattle.run.specs.InputLaws.{begins-number, begins-ready, refusal-untouched}
 use Rattle.run.specs.RunAgreesVisits.{visits-passes}
 use Rattle.run.specs.BeginLaws.{begin-represents, outcome-exact, comes-unique}
+use Rattle.sound.specs.Accepted.{Accepted}
 use Rattle.sound.specs.NeverStuck.{Demand3}
 use Rattle.sound.specs.NeverStuckLaws.{demand3}
+use Rattle.sound.specs.TableKept.{table-kept, table-written, nulls-kept, output-length}
 
 module _ (x y es out list : List ℕ) where
   -- Demand 1, of the answers: a refusal from the input is that of the foremost condition; it returns its number, no turns and no
@@ -43,6 +50,10 @@ module _ (x y es out list : List ℕ) where
 
   pub begun-exactly : (p : Program) (rs : List Record) → (begins x y es out list ≡ begun p rs) ↔ Ready x y es out list p rs
   begun-exactly p rs = begins-ready x y es out list p rs
+
+  -- Demand 2: a run leaves as many bytes in the output as it was lent, whatever it is given
+  pub output-as-long : length (run-output x y es out list) ≡ length out
+  output-as-long = output-length x y es out list
 
   -- Demand 3, of every call that is not refused: one statement about the whole run
   pub never-stuck-run : (p : Program) (rs : List Record) → Ready x y es out list p rs → Demand3 p rs es
@@ -67,3 +78,19 @@ module _ (p : Program) (rs : List Record) (es : List ℕ) where
   pub outcome-one : {n n′ t t′ : ℕ} {rs′ rs″ : List Record} → Comes p rs es n t rs′ → Comes p rs es n′ t′ rs″
       → (n ≡ n′) × (t ≡ t′) × (rs′ ≡ rs″)
   outcome-one = comes-unique p rs es
+
+module _ {p : Program} (a : Accepted p) (rs : List Record) (right : TableRight (p .params) rs) {es : List ℕ} {z : Machine}
+    (v : Visits p (begin p rs) es z) where
+  -- Demand 2: every machine of a run stands at a table that a run may begin with; written, it fits its blocks and is accepted as
+  -- that table
+  pub tables-right : TableRight (p .params) (table-of p z)
+  tables-right = table-kept a rs right v
+
+  pub tables-written : (pieces (length (enc-table (table-of p z))) ≤ table-blocks)
+      × (TableAccepted p (image (enc-table (table-of p z))) (table-of p z))
+  tables-written = table-written a rs right v
+
+  -- and its null instances hold their defaults
+  pub nulls-default : (k : ℕ) → k < structs p
+      → (i : Instance) × (getElem? (z .instances) k ≡ some i) × (i .struct ≡ k) × (params-in (i .env) ≡ map default (params-of p k))
+  nulls-default = nulls-kept a rs right v
