@@ -24,3 +24,5 @@ pub mod PublishedVisits
 pub mod RunAgreesVisits
 pub mod Initial
 pub mod BeginLaws
+pub mod Answered
+pub mod AnsweredLaws

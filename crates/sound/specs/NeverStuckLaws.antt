@@ -16,6 +16,9 @@ use Rattle.run.specs.Turns.{holders, chosen}
 use Rattle.run.specs.Runs.{out-of-turns}
 use Rattle.run.specs.Run.{Outcome, Outcome.stopped, Outcome.jammed, later, Settled, Settled.hold, Settled.stop, settle, fuel, taken, turn, at-last, run}
 use Rattle.run.specs.Visits.{Visits, Visits.here, Visits.moves, Visits.takes}
+use Rattle.run.specs.Begin.{table-of}
+use Rattle.run.specs.Initial.{Comes}
+use Rattle.run.specs.BeginLaws.{outcome-exact}
 use Rattle.sound.specs.Needs.{Right}
 use Rattle.sound.specs.Invariant.{Good}
 use Rattle.sound.specs.Accepted.{Accepted, Firm}
@@ -153,3 +156,7 @@ never-stuck a g es = firm-never-stuck (accepted-firm a) g es
 -- Demand 3: so is one on a right table, whatever the turn bytes
 pub demand3 : {p : Program} → Accepted p → (rs : List Record) → TableRight (p .params) rs → (es : List ℕ) → Demand3 p rs es
 demand3 {p} a rs t es = never-stuck a (begin-good p (a .0) rs t) es
+
+-- so the published rules come to a number, turns and a last table
+pub demand3-comes : (p : Program) (rs : List Record) (es : List ℕ) → Demand3 p rs es → (n : ℕ) × (t : ℕ) × (rs′ : List Record) × Comes p rs es n t rs′
+demand3-comes p rs es d = (d .number, d .turns, table-of p (d .last), outcome-exact p rs es (d .returns))

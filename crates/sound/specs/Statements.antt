@@ -29,9 +29,11 @@ use Rattle.run.specs.InputProgram.{checked-accepted}
 use Rattle.run.specs.InputLaws.{begins-number, begins-ready, refusal-untouched}
 use Rattle.run.specs.RunAgreesVisits.{visits-passes}
 use Rattle.run.specs.BeginLaws.{begin-represents, outcome-exact, comes-unique}
+use Rattle.run.specs.Answered.{Answered}
+use Rattle.run.specs.AnsweredLaws.{comes-answered}
 use Rattle.sound.specs.Accepted.{Accepted}
 use Rattle.sound.specs.NeverStuck.{Demand3}
-use Rattle.sound.specs.NeverStuckLaws.{demand3}
+use Rattle.sound.specs.NeverStuckLaws.{demand3, demand3-comes}
 use Rattle.sound.specs.TableKept.{table-kept, table-written, nulls-kept, output-length}
 
 module _ (x y es out list : List ℕ) where
@@ -51,15 +53,26 @@ module _ (x y es out list : List ℕ) where
   pub begun-exactly : (p : Program) (rs : List Record) → (begins x y es out list ≡ begun p rs) ↔ Ready x y es out list p rs
   begun-exactly p rs = begins-ready x y es out list p rs
 
-  -- Demand 2: a run leaves as many bytes in the output as it was lent, whatever it is given
-  pub output-as-long : length (run-output x y es out list) ≡ length out
-  output-as-long = output-length x y es out list
-
   -- Demand 3, of every call that is not refused: one statement about the whole run
   pub never-stuck-run : (p : Program) (rs : List Record) → Ready x y es out list p rs → Demand3 p rs es
   never-stuck-run p rs r =
       let a = r .program in
       demand3 (a .reads .counts, a .within, a .names, a .types) rs (r .table .right) es
+
+  -- Demand 2, on images: where a run begins, number, turns, blocks, depth, every output byte and the list are those that the
+  -- published rules come to
+  pub run-published : (p : Program) (rs : List Record) → begins x y es out list ≡ begun p rs
+      → {n t : ℕ} {rs′ : List Record} → Comes p rs es n t rs′ → Answered x y es out list p n t rs′
+  run-published p rs e c = comes-answered x y es out list p rs e c
+
+  -- and they come to a number
+  pub run-comes : (p : Program) (rs : List Record) → begins x y es out list ≡ begun p rs
+      → (n : ℕ) × (t : ℕ) × (rs′ : List Record) × Comes p rs es n t rs′
+  run-comes p rs e = demand3-comes p rs es (never-stuck-run p rs (begun-exactly p rs .0 e))
+
+  -- Demand 2: a run leaves as many bytes in the output as it was lent, whatever it is given
+  pub output-as-long : length (run-output x y es out list) ≡ length out
+  output-as-long = output-length x y es out list
 
 -- Demand 2: a step's commands are those of the published interpretation function, whatever notes they carry
 pub commands-published : (G : Ctx) (b : Stmts) → map erase (noted G b) ≡ commands b
