@@ -91,8 +91,8 @@ pub record Turn (l : ℕ) (n : Note) : Type 0 where
   pub there : getElem? (before .instances) l ≡ some holder
   pub holds : holder .code ≡ n ∷ rest
   pub act : command settling l before ≡ next behind
-  pub visited-before : Visits settling start-machine turns before
-  pub visited-behind : Visits settling start-machine turns behind
+  pub visited-before : (fs : List ℕ) × Visits settling start-machine turns before fs
+  pub visited-behind : (fs : List ℕ) × Visits settling start-machine turns behind fs
 
 abbrev at-act : ℕ → Machine
 at-act k = after settling k start-machine turns
@@ -149,8 +149,8 @@ write-dropped = (turn-at 7 0 refl refl refl, refl, refl, refl, refl, refl)
 
 -- the Fix is met with a false entry, and begins again
 pub goes-round : (m : Machine) × (z : Machine)
-    × Visits settling start-machine turns m
-    × Visits settling start-machine turns z
+    × ((fs : List ℕ) × Visits settling start-machine turns m fs)
+    × ((fs : List ℕ) × Visits settling start-machine turns z fs)
     × (holders m ≡ [])
     × (m .sched ≡ active (start 0 done) done)
     × (m .stability ≡ false ∷ [])
@@ -172,7 +172,7 @@ goes-round = (
 )
 
 -- the run ends with 0 after 30 turns; what it leaves is the record, settled, and the instance that it constructed
-pub ends : (z : Machine) × Visits settling start-machine turns z
+pub ends : (z : Machine) × ((fs : List ℕ) × Visits settling start-machine turns z fs)
     × (run settling start-machine turns ≡ stopped ended 30 z)
     × (table-of settling z
     ≡ record { struct = 0; values = int-val (pos 2) ∷ bool-val false ∷ [] }

@@ -26,7 +26,6 @@ pub mod MoveKept
 pub mod BeginGood
 pub mod HolderLaws
 pub mod ConditionLaws
-pub mod SettleLaws
 pub mod NeverStuckLaws
 pub mod TabledLaws
 pub mod TableKept

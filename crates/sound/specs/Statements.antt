@@ -1,4 +1,5 @@
--- The claims of the definitions, each in one place with the law that proves it. docs/THEOREMS.md points here.
+-- The claims of the definitions, each in one place with the law that proves it (01, 'Numbers from the input', 'Numbers from the
+-- state', 'The words of demand 3', 'What contracts here say'; 000, section 4). docs/THEOREMS.md points here.
 use Prim.Native.Nat.{ℕ, _<_, _≤_}
 use mathlib.Core.Path.{_≡_}
 use mathlib.Core.Logic.{_↔_}
@@ -80,7 +81,7 @@ commands-published = erased
 
 module _ (p : Program) (rs : List Record) (es : List ℕ) where
   -- Demand 2: a run passes through the states that the published rules give for those turns,
-  pub states-published : {z : Machine} (v : Visits p (begin p rs) es z)
+  pub states-published : {z : Machine} {fs : List ℕ} (v : Visits p (begin p rs) es z fs)
       → (st : State) × (Passes p (initial p rs) es (turns-of p v) st) × (Represents z st)
   states-published v = visits-passes p (initial p rs) (begin-represents p rs) v
 
@@ -92,8 +93,8 @@ module _ (p : Program) (rs : List Record) (es : List ℕ) where
       → (n ≡ n′) × (t ≡ t′) × (rs′ ≡ rs″)
   outcome-one = comes-unique p rs es
 
-module _ {p : Program} (a : Accepted p) (rs : List Record) (right : TableRight (p .params) rs) {es : List ℕ} {z : Machine}
-    (v : Visits p (begin p rs) es z) where
+module _ {p : Program} (a : Accepted p) (rs : List Record) (right : TableRight (p .params) rs) {es fs : List ℕ} {z : Machine}
+    (v : Visits p (begin p rs) es z fs) where
   -- Demand 2: every machine of a run stands at a table that a run may begin with; written, it fits its blocks and is accepted as
   -- that table
   pub tables-right : TableRight (p .params) (table-of p z)

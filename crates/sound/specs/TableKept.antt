@@ -5,11 +5,11 @@ use native.Mathlib.Omega.{arith}
 use mathlib.Core.Path.{_≡_, refl, ap, sym, _∙_, subst}
 use mathlib.Core.Bool.{Bool, true, false}
 use mathlib.Core.Option.{none, some}
-use mathlib.Core.List.{List, [], map, _++_}
-use lib.ListN.{length, getD, getElem?, drop, length-map, length-drop, length-append}
+use mathlib.Core.List.{List, map}
+use lib.ListN.{length, getElem?, drop, length-map, length-drop, length-append}
 use lib.Dec.{ltb}
 use borrow.Author.Tests.{ltb-true, ltb-false}
-use Rattle.types.specs.Limits.{max-instances, table-blocks}
+use Rattle.types.specs.Limits.{table-blocks}
 use Rattle.types.specs.Types.{Ty, Ty.int, Ty.nat, Ty.bool, Ty.ref}
 use Rattle.types.specs.Values.{Val, Val.int-val, Val.nat-val, Val.bool-val, Val.label, default}
 use Rattle.blocks.specs.Blocks.{block-size, payload-size}
@@ -25,8 +25,7 @@ use Rattle.table.specs.Sizes.{table-size}
 use Rattle.table.specs.SizeLaws.{table-length, program-table-fits}
 use Rattle.machine.specs.Published.{Env, Env.env, structs}
 use Rattle.machine.specs.Machine.{Instance, Machine}
-use Rattle.run.specs.Run.{Outcome, Outcome.stopped, Outcome.jammed, run}
-use Rattle.run.specs.Visits.{Visits, Visits.here}
+use Rattle.run.specs.Visits.{Visits}
 use Rattle.run.specs.Begin.{params-in, begin, record-of, table-of}
 use Rattle.run.specs.Entry.{Begun, Begun.begun, Begun.not-begun, begins, output-of, run-output-by, run-output}
 use Rattle.run.specs.Input.{TableAccepted}
@@ -138,8 +137,8 @@ image-table p a rs right =
 
 -- Runs -----------------------------------------------------------------------------
 
-module _ {p : Program} (a : Accepted p) (rs : List Record) (right : TableRight (p .params) rs) {es : List ℕ} {z : Machine}
-    (v : Visits p (begin p rs) es z) where
+module _ {p : Program} (a : Accepted p) (rs : List Record) (right : TableRight (p .params) rs) {es fs : List ℕ} {z : Machine}
+    (v : Visits p (begin p rs) es z fs) where
   all-good : GoodAll p (z .instances)
   all-good = visits-good (accepted-firm a) (begin-good p (a .0) rs right) v .all
 
@@ -177,7 +176,7 @@ output-length x y es out list = go (begins x y es out list) refl
         let ok : Accepted p = (a .reads .counts, a .within, a .names, a .types) in
         let d = demand3 ok rs (r .table .right) es in
         let s = enc-table (table-of p (d .last)) in
-        let few = table-written ok rs (r .table .right) (d .visited (d .last) here) .0 in
+        let few = table-written ok rs (r .table .right) (d .visited) .0 in
         let room = r .output-room in
         rw (d .returns)
         (omega

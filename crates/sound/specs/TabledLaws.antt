@@ -25,7 +25,7 @@ use Rattle.machine.specs.PerformedLaws.{by-ways}
 use Rattle.run.specs.Turns.{chosen}
 use Rattle.run.specs.Visits.{Visits, Visits.here, Visits.moves, Visits.takes}
 use Rattle.run.specs.Begin.{params-in, resting, nulls, first-instances, begin}
-use Rattle.sound.specs.Invariant.{Passage, Place, Place.resting as rests, Place.passing, Good}
+use Rattle.sound.specs.Invariant.{Place, Place.resting as rests, Place.passing, Good}
 use Rattle.sound.specs.Accepted.{Firm}
 use Rattle.sound.specs.Tabled.{TabledInst, Tabled}
 use Rattle.sound.specs.ElemLaws.{some-is, at-set-same, at-set-other, at-snoc, at-joined, at-below, map-at, all-elem}
@@ -185,7 +185,7 @@ module _ {p : Program} (firm : Firm p) {m : Machine} (good : Good p m) (t : Tabl
 -- Runs -----------------------------------------------------------------------------
 
 -- so it is in every machine that a run passes through
-pub visits-tabled : {p : Program} → Firm p → {m z : Machine} {es : List ℕ} → Good p m → Tabled p (m .instances) → Visits p m es z → Tabled p (z .instances)
+pub visits-tabled : {p : Program} → Firm p → {m z : Machine} {es fs : List ℕ} → Good p m → Tabled p (m .instances) → Visits p m es z fs → Tabled p (z .instances)
 visits-tabled firm g t here = t
 visits-tabled {p} firm g t (moves {m = m} h e v) =
     visits-tabled firm (visits-good firm g (moves h e (here {es = []}))) (subst (Comes-to p) e (move-tabled p (m .sched) (m .stability) t)) v
