@@ -29,5 +29,7 @@ pub mod ConditionLaws
 pub mod NeverStuckLaws
 pub mod TabledLaws
 pub mod TableKept
+pub mod ExhibitTurns
 pub mod ExhibitAccepted
+pub mod ExhibitLocals
 pub mod Statements
