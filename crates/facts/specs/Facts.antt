@@ -1,7 +1,7 @@
 -- What a checker computes of a program in one walk over its stream (01, numbers 6 to 8): how many commands, how high the stack,
 -- and whether names and types are right, as numbers: 0, or the lower of 7 and 8. Types stand as their bytes. The locals of a
 -- step are two numbers whose digits to the base 256 are, for each local, 1 more than its type while it lives, and 1 once it was
--- declared. Laws (FactsLaws) tie these to the conditions of 01.
+-- declared. SizeFactsLaws (6), ExprFactsLaws and BodyFactsLaws (7 and 8) tie these to the conditions of 01.
 use Prim.Native.Nat.{ℕ, zero, suc, _+_, _*_, _-_, _/_, _%_, _^_, max}
 use mathlib.Core.Bool.{Bool, true, false, _&&_}
 use mathlib.Core.List.{List, [], _∷_}

@@ -1,5 +1,5 @@
--- The ways through one command of the machine, with what each finds on the stack and in the table. Law `performed` of
--- PerformedLaws says that there are no others, so that a law of commands is proved by these cases.
+-- The ways through one command of the machine (000, section 4; 01, 'Numbers from the state'), with what each finds on the stack
+-- and in the table. Law `performed` of PerformedLaws says that there are no others, so that a law of commands is proved by these cases.
 use Prim.Native.Nat.{ℕ, _+_, _<_, _≤_}
 use mathlib.Core.Path.{_≡_}
 use mathlib.Core.Bool.{Bool, true, false, not}

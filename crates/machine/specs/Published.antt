@@ -76,7 +76,7 @@ update-env (i ∷ σ) (ℕ.suc l) ξ = i ∷ update-env σ l ξ
 abbrev pub structs : Program → ℕ
 structs p = length (p .params)
 
--- how many parameters a struct has; whether a variable is one of them
+-- how many parameters a struct has: its variables below that number
 abbrev pub arity : Program → ℕ → ℕ
 arity p k = length (params-of p k)
 

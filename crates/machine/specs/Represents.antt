@@ -1,4 +1,4 @@
--- Which published state a machine stands for: notes and tags left out, commands nested again.
+-- Which published state (000, definition 4) a machine stands for: notes and tags left out, commands nested again.
 -- `flatten` is injective (law `flatten-injective` of the commands), so a machine stands for one state at most.
 use mathlib.Core.Path.{_≡_}
 use mathlib.Core.List.{List, [], _∷_, map}

@@ -1,6 +1,7 @@
 -- The fifteen rules of 000, section 4, each under its published name, with 01's arithmetic, labels and limits.
--- Computed parts are premises. 01 departs from 000 in two places: a new instance takes the next label, and starting a step
--- empties the stacks of the instances that have it and of no others ('Table and turns').
+-- Computed parts are premises. 01 departs from 000 in four places: starting a step empties the stacks of the instances that have
+-- it and of no others; a new instance takes the next label, where one is free ('Table and turns'); a result is in the range of its
+-- type; Fix has a free stability entry ('Numbers from the state', 34 to 36).
 use Prim.Native.Nat.{ℕ, _<_, _≤_}
 use mathlib.Core.Path.{_≡_}
 use mathlib.Core.Bool.{Bool, true, false, not as negation}

@@ -22,7 +22,7 @@ use Rattle.run.specs.Begin.{resting}
 use Rattle.sound.specs.Needs.{Operand}
 use Rattle.sound.specs.Invariant.{Good}
 use Rattle.sound.specs.Accepted.{Firm}
-use Rattle.sound.specs.BeginGood.{elem-below}
+use Rattle.sound.specs.ElemLaws.{at-below}
 use Rattle.sound.specs.ElemLaws.{at-append}
 use Rattle.sound.specs.EachLaws.{each-length}
 use Rattle.sound.specs.Outcomes.{constructs, finds-full}
@@ -155,7 +155,7 @@ module _ {p : Program} {counts : List ℕ} (firm : Firm p) (bound : Bounded p co
         (made counts l z k (length ξ))
     unfolding made
     makes =
-        let b : l < length (m .instances) = elem-below (m .instances) l i at in
+        let b : l < length (m .instances) = at-below (m .instances) l i at in
         subst
         (λ (js : List Instance). Stands list P (with-stability (with-instances m js) (meet false (m .stability))) (made counts l z k (length ξ)))
         (set-append-left (m .instances) (resting k vs ∷ []) l actor b)

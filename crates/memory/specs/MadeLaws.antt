@@ -14,7 +14,7 @@ use Rattle.commands.specs.Coding.{words}
 use Rattle.machine.specs.Published.{Sched}
 use Rattle.machine.specs.Machine.{Tagged, Instance, Machine, with-instances}
 use Rattle.run.specs.Begin.{resting}
-use Rattle.sound.specs.BeginGood.{elem-below}
+use Rattle.sound.specs.ElemLaws.{at-below}
 use Rattle.sound.specs.ElemLaws.{none-some, some-is, at-snoc}
 use Rattle.memory.specs.Layout.{State, head-size, struct-of, height-of, next-of, end-of, row-size, stacked, of-head, with-heads, with-cells, with-count}
 use Rattle.memory.specs.Stands.{Shows, Stack, Held, Stands}
@@ -136,7 +136,7 @@ pub row-shows : (cs : List ℕ) (l n : ℕ) (ξ χ : List Tagged) → n ≡ leng
     → Shows (getD (take (length ξ) (drop (stacked l n) cs)) v 0) x
 row-shows cs l n ξ χ q s v x e =
     let vs = reverse (map (λ x. x .is) ξ) in
-    let a : v < length vs = elem-below vs v x e in
+    let a : v < length vs = at-below vs v x e in
     let b : length vs ≡ length ξ = length-reverse (map (λ x. x .is) ξ) ∙ length-map ξ (λ x. x .is) in
     let h : v < length ξ = omega arith in
     rw (getD-take (length ξ) (drop (stacked l n) cs) v 0 h, getD-drop (stacked l n) cs v 0)

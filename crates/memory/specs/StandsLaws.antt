@@ -15,7 +15,7 @@ use Rattle.commands.specs.Noted.{Note}
 use Rattle.machine.specs.Published.{Sched, lookup, assign}
 use Rattle.machine.specs.Rules.{meet}
 use Rattle.machine.specs.Machine.{Tagged, Instance, Machine, with-env, update-env, with-instances, with-stability, put}
-use Rattle.sound.specs.BeginGood.{elem-below}
+use Rattle.sound.specs.ElemLaws.{at-below}
 use Rattle.sound.specs.ElemLaws.{some-is, at-set-same, at-set-other}
 use Rattle.sound.specs.Keeps.{at-env-same, at-env-other}
 use Rattle.sound.specs.GoodLaws.{meet-length}
@@ -36,7 +36,7 @@ bits-false (t ∷ b) = rw (bits-false b)
 module _ (list : List ℕ) (P : ℕ → Sched → Type 0) (m : Machine) (z : State) (st : Stands list P m z) where
   -- an instance has a row
   pub has-row : (l : ℕ) (i : Instance) → getElem? (m .instances) l ≡ some i → l < z .count
-  has-row l i at = rw (st .counted) (elem-below (m .instances) l i at)
+  has-row l i at = rw (st .counted) (at-below (m .instances) l i at)
 
   -- the stability entries once an act has left them so, or not
   pub settles : (t : Bool) → Stands list P (with-stability m (meet t (m .stability))) (elim t [ true ↦ z | false ↦ unstable z ])

@@ -13,7 +13,7 @@ use Rattle.types.specs.Limits.{first-local, variables}
 use Rattle.types.specs.Values.{Val}
 use Rattle.machine.specs.Published.{Env, Env.env, lookup, assign, fresh-env}
 use Rattle.machine.specs.Machine.{Instance, update-env}
-use Rattle.sound.specs.BeginGood.{elem-below}
+use Rattle.sound.specs.ElemLaws.{at-below}
 use Rattle.sound.specs.ElemLaws.{none-some, some-is, at-set-other}
 use Rattle.sound.specs.EnvLaws.{param-at, local-at, param-set, local-set, other-kept, local-kept}
 
@@ -89,7 +89,7 @@ pub fresh-var : (vs : List Val) (v : ℕ) (x : Val) → lookup (fresh-env vs) v 
 fresh-var vs v x e = go (side v) e
   where
     go : Side v → lookup (fresh-env vs) v ≡ some x → (getElem? vs v ≡ some x) × (v < length vs)
-    go (inl h) e = let q = sym (param-at vs (replicate first-local none) v h) ∙ e in (q, elem-below vs v x q)
+    go (inl h) e = let q = sym (param-at vs (replicate first-local none) v h) ∙ e in (q, at-below vs v x q)
     go (inr h) e =
         let (w, q) = h in
         none-some (sym (none-there first-local w) ∙ sym (local-at vs (replicate first-local none) w) ∙ rw q at e)

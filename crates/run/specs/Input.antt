@@ -1,4 +1,6 @@
--- The conditions of the numbers from the input, in 01's words ('Numbers from the input'), and their order.
+-- The conditions of the numbers from the input (01, 'Numbers from the input'), and their order. Those of 4, 5, 11 and 12 are what the
+-- readers of the streams answer: which of the two is the first offending place is told by reading. The readers are exact for the
+-- encodings (laws `program-law`, `table-answer-exact`). The others are in 01's words.
 use Prim.Native.Nat.{ℕ, _*_, _<_, _≤_}
 use mathlib.Core.Path.{_≡_}
 use mathlib.Core.List.{List, [], _∷_, _++_}
@@ -18,6 +20,7 @@ use Rattle.commands.specs.Names.{NamesRight}
 use Rattle.commands.specs.Typing.{TypesRight}
 use Rattle.table.specs.Table.{Record, TableRight, enc-table}
 use Rattle.table.specs.TableReader.{TableAnswer.no-table, table-of-stream, table-end, table-value}
+use Rattle.run.specs.Entry.{Verdict, approval, Begun, Begun.begun}
 
 -- an image of at most max blocks, its length and every block right
 pub record ImageRight (max : ℕ) (x : List ℕ) : Type 0 where
@@ -91,3 +94,11 @@ pub record Ready (x y es out list : List ℕ) (p : Program) (rs : List Record) :
   pub output-room : block-size * table-blocks ≤ length out
   pub list-room : max-commands ≤ length list
   pub turns-few : length es ≤ max-turns
+
+-- the verdict on an accepted program, where the list has room
+abbrev pub Approved : List ℕ → List ℕ → Verdict → Type 0
+Approved x list v = (p : Program) × (v ≡ approval p) × (Accepted x p) × (max-commands ≤ length list)
+
+-- the program and the table of an answer, ready to run
+abbrev pub Began : List ℕ → List ℕ → List ℕ → List ℕ → List ℕ → Begun → Type 0
+Began x y es out list b = (p : Program) × (rs : List Record) × (b ≡ begun p rs) × (Ready x y es out list p rs)

@@ -26,7 +26,7 @@ use Rattle.table.specs.TableLaws.{table-answer-exact, table-numbers}
 use Rattle.run.specs.Run.{run}
 use Rattle.run.specs.Begin.{begin}
 use Rattle.run.specs.Entry.{Checked, Checked.refused, checked, Begun, Begun.begun, Begun.not-begun, of-table, of-table-image, of-checked, with-room, begins, report, report-of, output-of, listed, run-report-by, run-output-by, run-list-by, run-report, run-output, run-list}
-use Rattle.run.specs.Input.{ImageRight, Reads, Accepted, TableAccepted, Ready, ProgramRefuses, Refuses, Refuses.of-program, Refuses.table-length, Refuses.table-block, Refuses.table-ends, Refuses.table-values, Refuses.output-short, Refuses.list-short, Refuses.turns-many, program-order, order}
+use Rattle.run.specs.Input.{ImageRight, Reads, Accepted, TableAccepted, Ready, Began, ProgramRefuses, Refuses, Refuses.of-program, Refuses.table-length, Refuses.table-block, Refuses.table-ends, Refuses.table-values, Refuses.output-short, Refuses.list-short, Refuses.turns-many, program-order, order}
 use Rattle.run.specs.InputOrder.{NoneOf, Alike, foremost-alike, none-alike, alike-where, Tells, Tells.refuses, Tells.passes, here, past, past-all, tells-number, tells-none}
 use Rattle.run.specs.InputProgram.{one-program, no-fault, Passed, tell-checked, accepted-none, low, program-low}
 
@@ -34,12 +34,8 @@ module _ (x y es out list : List ℕ) where
   abbrev C : ℕ → Type 0
   C = Refuses x y es out list
 
-  -- the program and the table of an answer, ready to run
-  abbrev pub Began : Begun → Type 0
-  Began b = (p : Program) × (rs : List Record) × (b ≡ begun p rs) × (Ready x y es out list p rs)
-
   abbrev Tell : List ℕ → Begun → Type 0
-  Tell = Tells C not-begun Began
+  Tell = Tells C not-begun (Began x y es out list)
 
   -- with what room there is
   abbrev roomed : Begun → Begun
@@ -157,7 +153,7 @@ module _ (x y es out list : List ℕ) where
   not-begun-same : (n m : ℕ) → not-begun n ≡ not-begun m → n ≡ m
   not-begun-same n m e = cc
 
-  not-begun-apart : (n : ℕ) → Began (not-begun n) → ⊥
+  not-begun-apart : (n : ℕ) → Began x y es out list (not-begun n) → ⊥
   not-begun-apart n d = let e = d .2 in let z : _≡_ {A = ℕ} 0 1 = cc in omega arith
 
   -- a run is refused with a number exactly where that number is foremost of those whose condition holds
@@ -200,7 +196,7 @@ module _ (x y es out list : List ℕ) where
           let h = d .2 in cc
 
   -- it begins exactly where no condition holds
-  pub begins-none : Began (begins x y es out list) ↔ NoneOf (Refuses x y es out list) order
+  pub begins-none : Began x y es out list (begins x y es out list) ↔ NoneOf (Refuses x y es out list) order
   begins-none = tells-none not-begun-same not-begun-apart tell
 
   -- Where it is refused ----------------------------------------------------------------------

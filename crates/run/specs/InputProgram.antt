@@ -33,7 +33,7 @@ use Rattle.commands.specs.TypingDecideLaws.{types-reflects}
 use Rattle.commands.specs.Numbers.{Foremost, program-number}
 use Rattle.commands.specs.NumbersLaws.{number-accepted, number-limits, number-names, number-types}
 use Rattle.run.specs.Entry.{Checked, Checked.accepted, Checked.refused, judge, of-read, of-image, checked, Verdict, refusal, approval, verdict-of, check-verdict, list-of, listed, check-list, no-room}
-use Rattle.run.specs.Input.{ImageRight, Reads, Accepted, ProgramRefuses, ProgramRefuses.program-length, ProgramRefuses.program-sums, ProgramRefuses.program-layout, ProgramRefuses.program-end, ProgramRefuses.program-byte, ProgramRefuses.program-limits, ProgramRefuses.program-names, ProgramRefuses.program-types, CheckRefuses, CheckRefuses.of-program, CheckRefuses.list-short, program-order, check-order}
+use Rattle.run.specs.Input.{ImageRight, Reads, Accepted, Approved, ProgramRefuses, ProgramRefuses.program-length, ProgramRefuses.program-sums, ProgramRefuses.program-layout, ProgramRefuses.program-end, ProgramRefuses.program-byte, ProgramRefuses.program-limits, ProgramRefuses.program-names, ProgramRefuses.program-types, CheckRefuses, CheckRefuses.of-program, CheckRefuses.list-short, program-order, check-order}
 use Rattle.run.specs.InputOrder.{NoneOf, Alike, foremost-alike, none-alike, alike-where, Tells, Tells.refuses, Tells.passes, here, past, past-all, tells-number, tells-none}
 
 -- one program is read from an image
@@ -198,10 +198,6 @@ program-low = omega arith
 -- Checking, with a list ------------------------------------------------------------------
 
 module _ (x list : List ℕ) where
-  -- the verdict on an accepted program, where the list has room
-  abbrev pub Approved : Verdict → Type 0
-  Approved v = (p : Program) × (v ≡ approval p) × (Accepted x p) × (max-commands ≤ length list)
-
   check-alike : (m : ℕ) → m ≤ 8 → (ProgramRefuses x m) ↔ (CheckRefuses x list m)
   check-alike m l = (of-program, back l)
     where
@@ -213,7 +209,7 @@ module _ (x list : List ℕ) where
   no-13 f (of-program r) = absurd (omega (arith, low x r))
   no-13 f (list-short h) = f h
 
-  tell-verdict : Tells (CheckRefuses x list) refusal Approved check-order (check-verdict x list)
+  tell-verdict : Tells (CheckRefuses x list) refusal (Approved x list) check-order (check-verdict x list)
   unfolding check-verdict verdict-of check-order
   tell-verdict = go (tell-checked x)
     where
@@ -221,23 +217,23 @@ module _ (x list : List ℕ) where
       alike = alike-where check-alike program-order program-low
 
       room : (p : Program) → Accepted x p → {t : Bool} → Reflects (length list < max-commands) t
-          → Tells (CheckRefuses x list) refusal Approved (13 ∷ []) (elim t [ true ↦ refusal no-room | false ↦ approval p ])
+          → Tells (CheckRefuses x list) refusal (Approved x list) (13 ∷ []) (elim t [ true ↦ refusal no-room | false ↦ approval p ])
       room p a (holds h) = here refl (list-short h)
       room p a (fails f) = passes (no-13 f, tt) (p, refl, a, omega arith)
 
       go : Tells (ProgramRefuses x) refused (Passed x) program-order (checked x)
-          → Tells (CheckRefuses x list) refusal Approved check-order (verdict-of (checked x) list)
+          → Tells (CheckRefuses x list) refusal (Approved x list) check-order (verdict-of (checked x) list)
       go (refuses e q) = refuses (ap (λ (c : Checked). verdict-of c list) e) (foremost-alike (ProgramRefuses x) (CheckRefuses x list) (13 ∷ []) alike q)
       go (passes f d) =
           past-all program-order (none-alike (ProgramRefuses x) (CheckRefuses x list) program-order alike f)
-          (subst (Tells (CheckRefuses x list) refusal Approved (13 ∷ [])) (sym (ap (λ (c : Checked). verdict-of c list) (d .1)))
+          (subst (Tells (CheckRefuses x list) refusal (Approved x list) (13 ∷ [])) (sym (ap (λ (c : Checked). verdict-of c list) (d .1)))
           (room (d .0) (d .2) (lt-reflects (length list) max-commands)))
 
   refusal-same : (n m : ℕ) → refusal n ≡ refusal m → n ≡ m
   refusal-same n m e = ap (λ (v : Verdict). v .number) e
 
   -- a program has a struct, and a refusal counts none
-  refusal-apart : (n : ℕ) → Approved (refusal n) → ⊥
+  refusal-apart : (n : ℕ) → Approved x list (refusal n) → ⊥
   unfolding Counts
   refusal-apart n d = omega (arith, d .2 .reads .counts .0 .0, ap (λ (v : Verdict). v .structs) (d .1))
 
@@ -246,7 +242,7 @@ module _ (x list : List ℕ) where
   verdict-number = tells-number refusal-same refusal-apart tell-verdict
 
   -- it approves exactly where no condition holds
-  pub verdict-approved : Approved (check-verdict x list) ↔ NoneOf (CheckRefuses x list) check-order
+  pub verdict-approved : Approved x list (check-verdict x list) ↔ NoneOf (CheckRefuses x list) check-order
   verdict-approved = tells-none refusal-same refusal-apart tell-verdict
 
   -- an input refusal reports its number alone and leaves the list as it was

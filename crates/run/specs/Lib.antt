@@ -2,6 +2,7 @@ pub mod Turns
 pub mod Runs
 pub mod Run
 pub mod Visits
+pub mod VisitLaws
 pub mod Begin
 pub mod Entry
 pub mod EntryStreams
@@ -24,3 +25,5 @@ pub mod PublishedVisits
 pub mod RunAgreesVisits
 pub mod Initial
 pub mod BeginLaws
+pub mod Answered
+pub mod AnsweredLaws

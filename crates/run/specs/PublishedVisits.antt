@@ -17,7 +17,7 @@ pub data Passes (p : Program) : State → List ℕ → ℕ → State → Type 0 
       → Passes p st (e ∷ es) (suc t) z
 
 -- the commands taken on the way to a visited machine
-unfoldable pub turns-of : (p : Program) {m z : Machine} {es : List ℕ} → Visits p m es z → ℕ
+unfoldable pub turns-of : (p : Program) {m z : Machine} {es fs : List ℕ} → Visits p m es z fs → ℕ
 turns-of p stays = 0
 turns-of p (visits-moves g e v) = turns-of p v
 turns-of p (visits-takes g c v) = suc (turns-of p v)

@@ -5,7 +5,7 @@ use mathlib.Core.Path.{_≡_, refl, ap, sym, _∙_}
 use mathlib.Core.Bool.{Bool}
 use mathlib.Core.List.{List, [], _∷_}
 use native.Mathlib.Omega.{arith}
-use lib.ListN.{length}
+use lib.ListN.{length, drop}
 use Rattle.program.specs.Tree.{Program}
 use Rattle.machine.specs.Published.{Sched, Sched.start, Sched.start-in, State}
 use Rattle.machine.specs.Machine.{Instance, Machine, machine, Out.next, command, move}
@@ -26,7 +26,7 @@ use Rattle.run.specs.RunAgrees.{none-hold, machine-picks, state-picks}
 
 module _ (p : Program) where
   -- every machine that the executable run visits stands for a state that the published run passes through, after so many commands
-  pub visits-passes : {m z : Machine} {es : List ℕ} (st : State) → Represents m st → (v : Visits p m es z)
+  pub visits-passes : {m z : Machine} {es fs : List ℕ} (st : State) → Represents m st → (v : Visits p m es z fs)
       → (st′ : State) × (Passes p st es (turns-of p v) st′) × (Represents z st′)
   unfolding turns-of
   visits-passes st R stays = (st, here, R)
@@ -41,18 +41,18 @@ module _ (p : Program) where
 
   -- every state that the published run passes through, a machine that the executable run visits stands for
   pub passes-visits : (m : Machine) {st st′ : State} {es : List ℕ} {t : ℕ} → Represents m st → Passes p st es t st′
-      → (z : Machine) × (v : Visits p m es z) × (turns-of p v ≡ t) × (Represents z st′)
+      → (z : Machine) × (fs : List ℕ) × (v : Visits p m es z fs) × (turns-of p v ≡ t) × (Represents z st′)
   unfolding turns-of
-  passes-visits m R here = (m, stays, refl, R)
+  passes-visits m {es = es} R here = (m, es, stays, refl, R)
   passes-visits m {st} R (moves d k w) =
       let (m′, e, Q) = move-complete p m R k in
-      let (z, v, a, S) = passes-visits m′ Q w in
-      (z, visits-moves (none-hold m st R .1 d) e v, a, S)
+      let (z, fs, v, a, S) = passes-visits m′ Q w in
+      (z, fs, visits-moves (none-hold m st R .1 d) e v, a, S)
   passes-visits m R (takes {l = l} k c w) =
       let (h, hs, g, q) = state-picks m R k in
       let (m′, e, Q) = command-complete p l m R c in
-      let (z, v, a, S) = passes-visits m′ Q w in
-      (z, visits-takes g (ap (λ x. command p x m) (sym q) ∙ e) v, ap suc a, S)
+      let (z, fs, v, a, S) = passes-visits m′ Q w in
+      (z, fs, visits-takes g (ap (λ x. command p x m) (sym q) ∙ e) v, ap suc a, S)
 
   -- a derivation passes through its last state, after the turns that it counts
   pub runs-passes : {st st′ : State} {es : List ℕ} {n t : ℕ} → Runs p st es n t st′ → Passes p st es t st′
@@ -80,9 +80,9 @@ module _ (p : Program) where
   all-taken (at-35 k f) e = absurd (omega arith)
   all-taken (runs-takes k c r) e = ap suc (all-taken r e)
 
-  -- the last machine is visited, after the turns counted
+  -- the last machine is visited, after the turns counted, with the bytes behind them left
   abbrev Visited : Machine → List ℕ → Outcome → Type 0
-  Visited m es (stopped n t z) = (v : Visits p m es z) × (turns-of p v ≡ t)
+  Visited m es (stopped n t z) = (v : Visits p m es z (drop t es)) × (turns-of p v ≡ t)
   Visited m es jammed = Unit {0}
 
   moves-visited : (m : Machine) {m′ : Machine} (es : List ℕ) (o : Outcome) → holders m ≡ [] → move p m ≡ next m′ → Visited m′ es o → Visited m es o
@@ -107,12 +107,13 @@ module _ (p : Program) where
   ran-visited (jams g c) = tt
   ran-visited {m} (ran-takes {e = e} {es = es} {o = o} g c r q) = rw q (takes-visited m e es o g c (ran-visited r))
 
-  -- the last machine of a run is visited, and the turns counted are the commands taken on the way
-  pub run-visits : (m : Machine) (es : List ℕ) {n t : ℕ} {z : Machine} → run p m es ≡ stopped n t z → (v : Visits p m es z) × (turns-of p v ≡ t)
+  -- the last machine of a run is visited, the turns counted are the commands taken on the way, and the other bytes are left
+  pub run-visits : (m : Machine) (es : List ℕ) {n t : ℕ} {z : Machine} → run p m es ≡ stopped n t z
+      → (v : Visits p m es z (drop t es)) × (turns-of p v ≡ t)
   run-visits m es e = rw e at (ran-visited (run-ran p es m))
 
   -- no more commands are taken than there are bytes
-  pub turns-bounded : {m z : Machine} {es : List ℕ} (v : Visits p m es z) → turns-of p v ≤ length es
+  pub turns-bounded : {m z : Machine} {es fs : List ℕ} (v : Visits p m es z fs) → turns-of p v ≤ length es
   unfolding turns-of
   turns-bounded stays = omega arith
   turns-bounded (visits-moves g e v) = turns-bounded v

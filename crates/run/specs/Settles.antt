@@ -1,5 +1,5 @@
--- What the executable run does, without its fuel: where the schedule's moves lead a machine, what its whole run comes to, and
--- turns in a row.
+-- What the executable run does (01, 'Table and turns'), without its fuel: where the schedule's moves lead a machine, what its whole
+-- run comes to, and turns in a row.
 use Prim.Native.Nat.{ℕ}
 use mathlib.Core.Path.{_≡_}
 use mathlib.Core.List.{List, [], _∷_}

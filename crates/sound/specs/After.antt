@@ -24,29 +24,32 @@ after p zero m es = m
 after p (suc k) m es = act-on p (λ z fs. after p k z fs) m (holders m) es
 
 module _ (p : Program) where
+  -- it is one that the run passes through, with some bytes left
+  abbrev Visited : Machine → List ℕ → Machine → Type 0
+  Visited m es z = (fs : List ℕ) × Visits p m es z fs
+
   -- an act, and on by k
-  module _ (k : Machine → List ℕ → Machine) (on : (z : Machine) (es : List ℕ) → Visits p z es (k z es)) (m : Machine) where
-    moved : (es : List ℕ) → holders m ≡ [] → (o : Out) → move p m ≡ o → Visits p m es (onward (λ z. k z es) m o)
+  module _ (k : Machine → List ℕ → Machine) (on : (z : Machine) (es : List ℕ) → Visited z es (k z es)) (m : Machine) where
+    moved : (es : List ℕ) → holders m ≡ [] → (o : Out) → move p m ≡ o → Visited m es (onward (λ z. k z es) m o)
     unfolding onward
-    moved es q (next z) c = moves q c (on z es)
-    moved es q (refused n) c = here
-    moved es q stuck c = here
+    moved es q (next z) c = let (fs, v) = on z es in (fs, moves q c v)
+    moved es q (refused n) c = (es, here)
+    moved es q stuck c = (es, here)
 
     taken : (e h : ℕ) (hs es : List ℕ) → holders m ≡ h ∷ hs → (o : Out) → command p (chosen (h ∷ hs) e) m ≡ o
-        → Visits p m (e ∷ es) (onward (λ z. k z es) m o)
+        → Visited m (e ∷ es) (onward (λ z. k z es) m o)
     unfolding onward
-    taken e h hs es q (next z) c = takes q c (on z es)
-    taken e h hs es q (refused n) c = here
-    taken e h hs es q stuck c = here
+    taken e h hs es q (next z) c = let (fs, v) = on z es in (fs, takes q c v)
+    taken e h hs es q (refused n) c = (e ∷ es, here)
+    taken e h hs es q stuck c = (e ∷ es, here)
 
-    acted : (hs es : List ℕ) → holders m ≡ hs → Visits p m es (act-on p k m hs es)
+    acted : (hs es : List ℕ) → holders m ≡ hs → Visited m es (act-on p k m hs es)
     unfolding act-on
     acted [] es q = moved es q (move p m) refl
-    acted (h ∷ hs) [] q = here
+    acted (h ∷ hs) [] q = ([], here)
     acted (h ∷ hs) (e ∷ es) q = taken e h hs es q (command p (chosen (h ∷ hs) e) m) refl
 
-  -- it is one that the run passes through
-  pub after-visited : (k : ℕ) (m : Machine) (es : List ℕ) → Visits p m es (after p k m es)
+  pub after-visited : (k : ℕ) (m : Machine) (es : List ℕ) → (fs : List ℕ) × Visits p m es (after p k m es) fs
   unfolding after
-  after-visited zero m es = here
+  after-visited zero m es = (es, here)
   after-visited (suc k) m es = acted (λ z fs. after p k z fs) (λ z fs. after-visited k z fs) m (holders m) es refl

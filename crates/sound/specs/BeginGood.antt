@@ -21,7 +21,7 @@ use Rattle.machine.specs.Machine.{Instance}
 use Rattle.run.specs.Begin.{resting, nulls, first-instances, begin}
 use Rattle.sound.specs.Needs.{Of}
 use Rattle.sound.specs.Invariant.{GoodInst, Unbegun, Open, Open.open-done, Open.open-start, Open.open-start-in, Open.open-fix, Good, Nulls}
-use Rattle.sound.specs.ElemLaws.{none-some, some-is, at-append, at-joined, at-behind, at-map, map-at}
+use Rattle.sound.specs.ElemLaws.{none-some, some-is, at-append, at-joined, at-behind, at-below, at-map, map-at, all-elem}
 use Rattle.sound.specs.SizedLaws.{lasting-of, default-lasts}
 use Rattle.sound.specs.AcceptedLaws.{params-counted}
 use Rattle.sound.specs.ConsKept.{rests}
@@ -53,26 +53,18 @@ open-items (item i is) = open-item i (open-items is)
 
 -- The null instances ---------------------------------------------------------------
 
-nulls-length : (k : ℕ) (tss : List (List Ty)) → length (nulls k tss) ≡ length tss
+-- one for each struct
+pub nulls-length : (k : ℕ) (tss : List (List Ty)) → length (nulls k tss) ≡ length tss
 unfolding nulls
 nulls-length k [] = refl
 nulls-length k (ts ∷ tss) = ap suc (nulls-length (suc k) tss)
 
-null-at : (k : ℕ) (tss : List (List Ty)) (j : ℕ) → j < length tss → getElem? (nulls k tss) j ≡ some (resting (k + j) (map default (getD tss j [])))
+-- the one of each struct holds its defaults
+pub null-at : (k : ℕ) (tss : List (List Ty)) (j : ℕ) → j < length tss → getElem? (nulls k tss) j ≡ some (resting (k + j) (map default (getD tss j [])))
 unfolding nulls
 null-at k [] j h = absurd (omega arith)
 null-at k (ts ∷ tss) zero h = rw add-zero
 null-at k (ts ∷ tss) (suc j) h = rw (add-suc, ← suc-add) (null-at (suc k) tss j (omega arith))
-
-pub elem-below : {A : Type 0} (l : List A) (n : ℕ) (a : A) → getElem? l n ≡ some a → n < length l
-elem-below [] n a e = none-some e
-elem-below (x ∷ l) zero a e = omega arith
-elem-below (x ∷ l) (suc n) a e = omega (arith, elem-below l n a e)
-
-all-elem : {A : Type 0} (C : A → Type 0) (l : List A) (n : ℕ) (a : A) → All C l → getElem? l n ≡ some a → C a
-all-elem C [] n a c e = none-some e
-all-elem C (x ∷ l) zero a c e = rw (← some-is e) (c .0)
-all-elem C (x ∷ l) (suc n) a c e = all-elem C l n a (c .1) e
 
 -- The whole table ----------------------------------------------------------------
 
@@ -146,7 +138,7 @@ module _ (p : Program) (counts : Counts p) (rs : List Record) where
         → GoodInst p at-first l i
     unfolding TableRight HeldTable References
     first-good l i (inl e) =
-        let h : l < length (p .params) = omega (arith, elem-below (nulls 0 (p .params)) l i e, nulls-length 0 (p .params)) in
+        let h : l < length (p .params) = omega (arith, at-below (nulls 0 (p .params)) l i e, nulls-length 0 (p .params)) in
         let q : resting l (map default (params-of p l)) ≡ i =
         some-is (sym (ap (λ n. some (resting n (map default (params-of p l)))) (zero-add l)) ∙ sym (null-at 0 (p .params) l h) ∙ e) in
         rw (← q) (rests p at-first l l (map default (params-of p l)) (defaults (params-of p l) (params-counted p counts l .1)))

@@ -69,12 +69,12 @@ meets-stops p {m} {i = i} l at (no-result {o = o} {c = c} {x = x} {y = y} {χ = 
     ∙ ap (operated p m l j c χ (result-type (sort o) (x .by))) (apply-outside o (x .is) (y .is) .1 h))
 
 -- no move leads on from an empty schedule, nor from a Fix met with 8 stability entries
-pub done-stops : (p : Program) (m : Machine) {z : Machine} → m .sched ≡ done → move p m ≡ next z → ⊥
+pub done-stuck : (p : Program) (m : Machine) → m .sched ≡ done → move p m ≡ stuck
 unfolding move-by
-done-stops p m s e =
-    let q : move p m ≡ stuck = ap (λ s. move-by p s (m .instances) (m .stability)) s in
-    let z : _≡_ {A = ℕ} 0 1 = cc in
-    omega arith
+done-stuck p m s = ap (λ s. move-by p s (m .instances) (m .stability)) s
+
+pub done-stops : (p : Program) (m : Machine) {z : Machine} → m .sched ≡ done → move p m ≡ next z → ⊥
+done-stops p m s e = let q = done-stuck p m s in let z : _≡_ {A = ℕ} 0 1 = cc in omega arith
 
 nested-stops : (p : Program) (m : Machine) {f s : Sched} {z : Machine} → m .sched ≡ fixpoint f s → max-stability ≤ length (m .stability) → move p m ≡ next z → ⊥
 unfolding move-by
@@ -87,8 +87,8 @@ nested-stops p m {f} {s} {z} q b e =
     go false o e q = clash (sym q)
 
 -- no machine is visited behind one at which a condition holds
-pub condition-last : {p : Program} {m z : Machine} {es : List ℕ} {n : ℕ} → Condition m es n → Visits p m es z → z ≡ m
-condition-last c here = refl
+pub condition-last : {p : Program} {m z : Machine} {es fs : List ℕ} {n : ℕ} → Condition m es n → Visits p m es z fs → (z ≡ m) × (fs ≡ es)
+condition-last c here = (refl, refl)
 condition-last {p} (at-end h s) (moves {m = m} h′ e v) = absurd (done-stops p m s e)
 condition-last (at-33 h b) (moves h′ e v) = let z : _≡_ {A = ℕ} 0 1 = cc in absurd (omega arith)
 condition-last (at-command h b a c) (moves h′ e v) = let z : _≡_ {A = ℕ} 0 1 = cc in absurd (omega arith)

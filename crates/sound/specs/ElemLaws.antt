@@ -1,12 +1,13 @@
 -- Laws of the element at a place of a list, which getElem? gives.
-use Prim.Native.Nat.{ℕ, zero, suc, _-_, _≤_}
+use Prim.Native.Nat.{ℕ, zero, suc, _+_, _-_, _<_, _≤_}
 use native.Mathlib.Omega.{arith}
-use native.Mathlib.Nat.{sub-zero, suc-sub-suc}
-use mathlib.Core.Path.{_≡_, refl, ap}
+use native.Mathlib.Nat.{sub-zero, suc-sub-suc, zero-add, suc-add}
+use mathlib.Core.Path.{_≡_, refl, ap, sym}
 use mathlib.Core.Option.{none, some}
 use mathlib.Core.Logic.{_⊎_, inl, inr, ⊎-elim}
 use mathlib.Core.List.{List, [], _∷_, _++_, map}
-use lib.ListN.{length, getElem?, set}
+use lib.ListN.{length, getElem?, set, drop}
+use Rattle.program.specs.Counts.{All}
 
 -- nothing is no element
 pub none-some {ℓ} : {A : Type 0} {X : Type ℓ} {a : A} → none ≡ some a → X
@@ -62,6 +63,30 @@ module _ {A : Type 0} where
   pub at-last : (l : List A) (b : A) → getElem? (l ++ b ∷ []) (length l) ≡ some b
   at-last [] b = refl
   at-last (x ∷ l) b = at-last l b
+
+  -- where there is an element, the list reaches
+  pub at-below : (l : List A) (n : ℕ) (a : A) → getElem? l n ≡ some a → n < length l
+  at-below [] n a e = none-some e
+  at-below (x ∷ l) zero a e = omega arith
+  at-below (x ∷ l) (suc n) a e = omega (arith, at-below l n a e)
+
+  -- behind the first n
+  pub at-drop : (n : ℕ) (l : List A) (k : ℕ) → getElem? (drop n l) k ≡ getElem? l (n + k)
+  at-drop zero l k = ap (getElem? l) (sym (zero-add k))
+  at-drop (suc n) [] k = refl
+  at-drop (suc n) (x ∷ l) k = rw (suc-add n k) (at-drop n l k)
+
+  module _ (C : A → Type 0) where
+    -- what holds of all elements holds of the one at a place
+    pub all-elem : (l : List A) (n : ℕ) (a : A) → All C l → getElem? l n ≡ some a → C a
+    all-elem [] n a c e = none-some e
+    all-elem (x ∷ l) zero a c e = rw (← some-is e) (c .0)
+    all-elem (x ∷ l) (suc n) a c e = all-elem l n a (c .1) e
+
+    -- and what holds of the one at each place holds of all
+    pub elem-all : (l : List A) → ((n : ℕ) (a : A) → getElem? l n ≡ some a → C a) → All C l
+    elem-all [] f = tt
+    elem-all (x ∷ l) f = (f 0 x refl, elem-all l (λ n a e. f (suc n) a e))
 
 module _ {A B : Type 0} (f : A → B) where
   -- the element at a place of a mapped list

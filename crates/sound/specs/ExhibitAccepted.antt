@@ -4,12 +4,12 @@ use Prim.Native.Nat.{ℕ, suc}
 use native.Mathlib.Omega.{arith}
 use mathlib.Core.Path.{_≡_, refl}
 use mathlib.Core.Bool.{true, false}
-use mathlib.Core.Option.{Option, some}
-use mathlib.Core.List.{List, [], _∷_, map}
-use lib.ListN.{length, drop, getElem?, replicate}
+use mathlib.Core.Option.{some}
+use mathlib.Core.List.{List, [], _∷_}
+use lib.ListN.{length, drop, replicate}
 use lib.IntN.{pos}
 use Rattle.types.specs.Types.{Ty.int, Ty.bool, Ty.ref}
-use Rattle.types.specs.Values.{Val, Val.int-val, Val.bool-val, Val.label}
+use Rattle.types.specs.Values.{Val.int-val, Val.bool-val, Val.label}
 use Rattle.program.specs.Tree.{Var.par, Expr.path, Expr.int-lit, Expr.bool-lit, Expr.self, Exprs.none, Exprs.more, Stmt.when, Stmt.update, Stmt.create, Stmts, Stmts.end, Stmts.next, Item.call, Item.fix, Items.stop, Items.item, Program, args, size, items}
 use Rattle.program.specs.Encoding.{enc-path, enc-expr, enc-exprs, enc-stmt, enc-stmts, enc-item, enc-items, enc-step, enc-program}
 use Rattle.program.specs.Reader.{Result.ok, read}
@@ -18,8 +18,8 @@ use Rattle.commands.specs.Noted.{Note, Note.n-wr, Note.n-cons, Note.n-if}
 use Rattle.commands.specs.Numbers.{accepted, program-number}
 use Rattle.commands.specs.NumbersLaws.{number-accepted}
 use Rattle.table.specs.Table.{Record, struct-at, HeldTable, References, TableRight}
-use Rattle.machine.specs.Published.{Sched.done, Sched.start, Sched.active, lookup}
-use Rattle.machine.specs.Machine.{Tagged, tagged, Instance, Machine, Out.next, command, move}
+use Rattle.machine.specs.Published.{Sched.done, Sched.start, Sched.active}
+use Rattle.machine.specs.Machine.{tagged, Machine, Out.next, move}
 use Rattle.run.specs.Turns.{holders}
 use Rattle.run.specs.Runs.{ended}
 use Rattle.run.specs.Run.{Outcome.stopped, run}
@@ -30,6 +30,7 @@ use Rattle.sound.specs.Accepted.{Accepted}
 use Rattle.sound.specs.NeverStuck.{Demand3}
 use Rattle.sound.specs.NeverStuckLaws.{demand3}
 use Rattle.sound.specs.After.{onward, act-on, after, after-visited}
+use Rattle.sound.specs.ExhibitTurns.{code-at, stack-at, value-at, Turn, at-act, turn-at}
 
 -- The run --------------------------------------------------------------------------
 
@@ -82,75 +83,41 @@ accepted-never-stuck = demand3 settling-accepted table table-right turns
 
 -- Its machines ---------------------------------------------------------------------
 
--- a run passes through a machine where the instance l holds the command n, and through the one that this command leads to
-pub record Turn (l : ℕ) (n : Note) : Type 0 where
-  pub before : Machine
-  pub behind : Machine
-  pub holder : Instance
-  pub rest : List Note
-  pub there : getElem? (before .instances) l ≡ some holder
-  pub holds : holder .code ≡ n ∷ rest
-  pub act : command settling l before ≡ next behind
-  pub visited-before : Visits settling start-machine turns before
-  pub visited-behind : Visits settling start-machine turns behind
+abbrev Taken : ℕ → Note → Type 0
+Taken l n = Turn settling start-machine turns l n
 
-abbrev at-act : ℕ → Machine
-at-act k = after settling k start-machine turns
-
-abbrev turn-at : (k l : ℕ) {i : Instance} {n : Note} {c : List Note} → getElem? (at-act k .instances) l ≡ some i → i .code ≡ n ∷ c
-    → command settling l (at-act k) ≡ next (at-act (suc k))
-    → Turn l n
-turn-at k l {i} {n} {c} t h a = record {
-  before = at-act k;
-  behind = at-act (suc k);
-  holder = i;
-  rest = c;
-  there = t;
-  holds = h;
-  act = a;
-  visited-before = after-visited settling k start-machine turns;
-  visited-behind = after-visited settling (suc k) start-machine turns;
-}
-
--- what stands at an instance of a machine
-abbrev code-at : Machine → ℕ → Option (List Note)
-code-at m l = getElem? (map (λ (i : Instance). i .code) (m .instances)) l
-
-abbrev stack-at : Machine → ℕ → Option (List Tagged)
-stack-at m l = getElem? (map (λ (i : Instance). i .stack) (m .instances)) l
-
-abbrev value-at : Machine → ℕ → ℕ → Option (Option Val)
-value-at m l v = getElem? (map (λ (i : Instance). lookup (i .env) v) (m .instances)) l
+abbrev after-acts : ℕ → Machine
+after-acts k = at-act settling start-machine turns k
 
 -- a construct: there is one instance more
-pub constructs : (t : Turn 2 (n-cons 1)) × (length (t .behind .instances) ≡ suc (length (t .before .instances)))
+pub constructs : (t : Taken 2 (n-cons 1)) × (length (t .behind .instances) ≡ suc (length (t .before .instances)))
 unfolding running onward act-on after
-constructs = (turn-at 13 2 refl refl refl, refl)
+constructs = (turn-at settling start-machine turns 13 2 refl refl refl, refl)
 
 -- the record goes into the if's body
-pub goes-in : (t : Turn 2 (n-if 6)) × (stack-at (t .before) 2 ≡ some (tagged bool (bool-val true) ∷ [])) × (code-at (t .behind) 2 ≡ some (t .rest))
+pub goes-in : (t : Taken 2 (n-if 6)) × (stack-at (t .before) 2 ≡ some (tagged bool (bool-val true) ∷ [])) × (code-at (t .behind) 2 ≡ some (t .rest))
 unfolding running onward act-on after
-goes-in = (turn-at 10 2 refl refl refl, refl, refl)
+goes-in = (turn-at settling start-machine turns 10 2 refl refl refl, refl, refl)
 
 -- the null instance leaves it out
-pub leaves-out : (t : Turn 0 (n-if 6)) × (stack-at (t .before) 0 ≡ some (tagged bool (bool-val false) ∷ [])) × (code-at (t .behind) 0 ≡ some (drop 6 (t .rest)))
+pub leaves-out : (t : Taken 0 (n-if 6)) × (stack-at (t .before) 0 ≡ some (tagged bool (bool-val false) ∷ [])) × (code-at (t .behind) 0 ≡ some (drop 6 (t .rest)))
 unfolding running onward act-on after
-leaves-out = (turn-at 4 0 refl refl refl, refl, refl)
+leaves-out = (turn-at settling start-machine turns 4 0 refl refl refl, refl, refl)
 
 -- the null instance's write of 2 to its own p0 is dropped: p0 is 0 still, and stability is what it was
-pub write-dropped : (t : Turn 0 (n-wr 0 0))
+pub write-dropped : (t : Taken 0 (n-wr 0 0))
     × (stack-at (t .before) 0 ≡ some (tagged (ref 0) (label 0) ∷ tagged int (int-val (pos 2)) ∷ []))
     × (value-at (t .before) 0 0 ≡ some (some (int-val (pos 0))))
     × (value-at (t .behind) 0 0 ≡ some (some (int-val (pos 0))))
     × (t .before .stability ≡ true ∷ [])
     × (t .behind .stability ≡ true ∷ [])
 unfolding running onward act-on after
-write-dropped = (turn-at 7 0 refl refl refl, refl, refl, refl, refl, refl)
+write-dropped = (turn-at settling start-machine turns 7 0 refl refl refl, refl, refl, refl, refl, refl)
 
 -- the Fix is met with a false entry, and begins again
 pub goes-round : (m : Machine) × (z : Machine)
-    × Visits settling start-machine turns m
-    × Visits settling start-machine turns z
+    × ((fs : List ℕ) × Visits settling start-machine turns m fs)
+    × ((fs : List ℕ) × Visits settling start-machine turns z fs)
     × (holders m ≡ [])
     × (m .sched ≡ active (start 0 done) done)
     × (m .stability ≡ false ∷ [])
@@ -159,8 +126,8 @@ pub goes-round : (m : Machine) × (z : Machine)
     × (z .stability ≡ true ∷ [])
 unfolding running onward act-on after
 goes-round = (
-  at-act 20,
-  at-act 21,
+  after-acts 20,
+  after-acts 21,
   after-visited settling 20 start-machine turns,
   after-visited settling 21 start-machine turns,
   refl,
@@ -172,14 +139,14 @@ goes-round = (
 )
 
 -- the run ends with 0 after 30 turns; what it leaves is the record, settled, and the instance that it constructed
-pub ends : (z : Machine) × Visits settling start-machine turns z
+pub ends : (z : Machine) × ((fs : List ℕ) × Visits settling start-machine turns z fs)
     × (run settling start-machine turns ≡ stopped ended 30 z)
     × (table-of settling z
     ≡ record { struct = 0; values = int-val (pos 2) ∷ bool-val false ∷ [] }
     ∷ record { struct = 1; values = int-val (pos 7) ∷ label 2 ∷ [] }
     ∷ [])
 unfolding running onward act-on after
-ends = (at-act 35, after-visited settling 35 start-machine turns, refl, refl)
+ends = (after-acts 35, after-visited settling 35 start-machine turns, refl, refl)
 
 -- so these are the number and the turns that demand 3 speaks of
 pub ends-never-stuck : (accepted-never-stuck .number ≡ ended) × (accepted-never-stuck .turns ≡ 30) × (accepted-never-stuck .last ≡ ends .0)

@@ -29,7 +29,8 @@ use Rattle.sound.specs.After.{onward, act-on, after, after-visited}
 -- a run passes through a machine where the next command of an instance lacks what it needs, and comes to no number
 pub record Stuck (p : Program) (rs : List Record) (es : List ℕ) : Type 0 where
   pub place : Machine
-  pub visited : Visits p (begin p rs) es place
+  pub left : List ℕ
+  pub visited : Visits p (begin p rs) es place left
   pub holder : ℕ
   pub instance : Instance
   pub there : getElem? (place .instances) holder ≡ some instance
@@ -44,7 +45,7 @@ pub stuck-refutes : {p : Program} {rs : List Record} {es : List ℕ} → Stuck p
 stuck-refutes {p} s d =
     s .lacks
     (subst (Ready p (s .place) (s .holder) (s .instance)) (s .holds)
-    (d .right (s .place) (s .visited) .ready (s .holder) (s .instance) (s .there)))
+    (d .right (s .place) (s .left) (s .visited) .ready (s .holder) (s .instance) (s .there)))
 
 -- the table without a record is right
 no-record : (b : Stmts) → TableRight (program b .params) []
@@ -62,7 +63,8 @@ pub stuck-8 : Stuck (program negated) [] (0 ∷ 0 ∷ [])
 unfolding running onward act-on after
 stuck-8 = record {
   place = after (program negated) 2 (begin (program negated) []) (0 ∷ 0 ∷ []);
-  visited = after-visited (program negated) 2 (begin (program negated) []) (0 ∷ 0 ∷ []);
+  left = after-visited (program negated) 2 (begin (program negated) []) (0 ∷ 0 ∷ []) .0;
+  visited = after-visited (program negated) 2 (begin (program negated) []) (0 ∷ 0 ∷ []) .1;
   holder = 0;
   instance = record {
     struct = 0;
@@ -98,7 +100,8 @@ pub stuck-7 : Stuck (program outlived) [] (0 ∷ 0 ∷ 0 ∷ 0 ∷ [])
 unfolding running onward act-on after
 stuck-7 = record {
   place = after (program outlived) 4 (begin (program outlived) []) (0 ∷ 0 ∷ 0 ∷ 0 ∷ []);
-  visited = after-visited (program outlived) 4 (begin (program outlived) []) (0 ∷ 0 ∷ 0 ∷ 0 ∷ []);
+  left = after-visited (program outlived) 4 (begin (program outlived) []) (0 ∷ 0 ∷ 0 ∷ 0 ∷ []) .0;
+  visited = after-visited (program outlived) 4 (begin (program outlived) []) (0 ∷ 0 ∷ 0 ∷ 0 ∷ []) .1;
   holder = 0;
   instance = record {
     struct = 0;

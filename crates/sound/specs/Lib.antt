@@ -3,6 +3,7 @@ pub mod Sized
 pub mod Accepted
 pub mod Invariant
 pub mod Conditions
+pub mod Tabled
 pub mod NeverStuck
 pub mod After
 pub mod Exhibits
@@ -25,7 +26,10 @@ pub mod MoveKept
 pub mod BeginGood
 pub mod HolderLaws
 pub mod ConditionLaws
-pub mod SettleLaws
 pub mod NeverStuckLaws
+pub mod TabledLaws
+pub mod TableKept
+pub mod ExhibitTurns
 pub mod ExhibitAccepted
+pub mod ExhibitLocals
 pub mod Statements

@@ -1,149 +1,132 @@
 -- Every run of an accepted program is never stuck: from any machine with the invariant, and so from a right table
 -- (01, 'The words of demand 3').
-use Prim.Native.Nat.{ℕ, _≤_}
+use Prim.Native.Nat.{ℕ}
 use native.Mathlib.Omega.{arith}
 use mathlib.Core.Path.{_≡_, refl, sym, subst}
-use mathlib.Core.Logic.{⊎-elim}
+use mathlib.Core.Bool.{Bool}
+use mathlib.Core.Logic.{_↔_, _⊎_, inl, inr}
 use mathlib.Core.Option.{some}
 use mathlib.Core.List.{List, [], _∷_}
-use lib.ListN.{length, drop, getElem?}
+use lib.ListN.{drop, getElem?}
 use Rattle.program.specs.Tree.{Program}
 use Rattle.commands.specs.Bounds.{program-depth}
 use Rattle.table.specs.Table.{Record, TableRight}
-use Rattle.machine.specs.Machine.{Instance, Machine, Out, Out.next, Out.refused, Out.stuck, command}
-use Rattle.machine.specs.Measure.{bound}
+use Rattle.machine.specs.Published.{Sched, Sched.done}
+use Rattle.machine.specs.Machine.{Instance, Machine, command, move}
 use Rattle.run.specs.Turns.{holders, chosen}
-use Rattle.run.specs.Runs.{out-of-turns}
-use Rattle.run.specs.Run.{Outcome, Outcome.stopped, Outcome.jammed, later, Settled, Settled.hold, Settled.stop, settle, fuel, taken, turn, at-last, run}
+use Rattle.run.specs.Run.{Outcome, Outcome.stopped, Outcome.jammed, later, run}
+use Rattle.run.specs.Settles.{Ran, Ran.ends, Ran.refuses, Ran.sticks, Ran.moves as moved, Ran.lasts, Ran.fails, Ran.jams, Ran.takes as took}
+use Rattle.run.specs.FuelLaws.{run-ran}
 use Rattle.run.specs.Visits.{Visits, Visits.here, Visits.moves, Visits.takes}
+use Rattle.run.specs.VisitLaws.{one-way}
+use Rattle.run.specs.RunAgreesVisits.{run-visits, run-turns}
+use Rattle.run.specs.Begin.{table-of}
+use Rattle.run.specs.Initial.{Comes}
+use Rattle.run.specs.BeginLaws.{outcome-exact}
 use Rattle.sound.specs.Needs.{Right}
 use Rattle.sound.specs.Invariant.{Good}
 use Rattle.sound.specs.Accepted.{Accepted, Firm}
 use Rattle.sound.specs.AcceptedLaws.{accepted-firm}
 use Rattle.sound.specs.ReadyLaws.{good-right}
-use Rattle.sound.specs.Conditions.{Meets, Condition, Condition.at-33, Condition.at-command}
-use Rattle.sound.specs.ConditionLaws.{condition-one, condition-last, done-stops}
+use Rattle.sound.specs.Conditions.{Meets, Condition, Condition.at-end, Condition.at-33, Condition.at-command, Condition.at-36}
+use Rattle.sound.specs.ConditionLaws.{condition-one, condition-last, done-stuck, done-stops}
 use Rattle.sound.specs.Advance.{Kept}
 use Rattle.sound.specs.CommandKept.{command-kept}
-use Rattle.sound.specs.MoveKept.{Blocked, move-kept}
+use Rattle.sound.specs.MoveKept.{Blocked, Blocked.blocked, move-kept}
 use Rattle.sound.specs.BeginGood.{begin-good}
 use Rattle.sound.specs.HolderLaws.{chosen-holds}
-use Rattle.run.specs.FuelLaws.{fuel-suffices}
-use Rattle.sound.specs.SettleLaws.{Through, Settles, settles}
 use Rattle.sound.specs.NeverStuck.{NeverStuck, Demand3}
 
 -- The machines of a run --------------------------------------------------------------
 
 module _ {p : Program} (firm : Firm p) where
-  -- what a holder's command leads to keeps the invariant
-  command-good : {m z : Machine} {h : ℕ} {hs : List ℕ} (e : ℕ) → Good p m → holders m ≡ h ∷ hs → command p (chosen (h ∷ hs) e) m ≡ next z → Good p z
-  command-good {m} {h = h} {hs = hs} e g q w =
+  -- a schedule move keeps the invariant, or meets the condition of 36
+  moved-kept : {m : Machine} → Good p m → (m .sched ≡ done → ⊥) → Kept p (Blocked (m .sched) (m .stability)) (move p m)
+  moved-kept {m} g d = move-kept p (m .sched) (m .instances) (m .stability) (g .all) (g .opened) d
+
+  -- the command of the instance that a byte picks keeps it, or meets the condition of 34 or 35
+  taken-kept : {m : Machine} {h : ℕ} {hs : List ℕ} (e : ℕ) → Good p m → holders m ≡ h ∷ hs
+      → (i : Instance) × (getElem? (m .instances) (chosen (h ∷ hs) e) ≡ some i) × (Kept p (Meets m i) (command p (chosen (h ∷ hs) e) m))
+  taken-kept {m} {h} {hs} e g q =
       let (i, n, c, a, d) = chosen-holds m h hs e q in
-      subst (Kept p (Meets m i)) w (command-kept firm g (chosen (h ∷ hs) e) i a n c d)
+      (i, a, command-kept firm g (chosen (h ∷ hs) e) i a n c d)
 
   -- every machine that a run from one with the invariant passes through has it
-  pub visits-good : {m z : Machine} {es : List ℕ} → Good p m → Visits p m es z → Good p z
+  pub visits-good : {m z : Machine} {es fs : List ℕ} → Good p m → Visits p m es z fs → Good p z
   visits-good g here = g
   visits-good g (moves {m = m} h e v) =
-      visits-good (subst (Kept p (Blocked (m .sched) (m .stability))) e (move-kept p (m .sched) (m .instances) (m .stability) (g .all) (g .opened) (λ s. done-stops p m s e))) v
-  visits-good g (takes {e = e} h q v) = visits-good (command-good e g h q) v
+      visits-good (subst (Kept p (Blocked (m .sched) (m .stability))) e (moved-kept g (λ s. done-stops p m s e))) v
+  visits-good g (takes {m = m} {e = e} h q v) = let (i, a, k) = taken-kept e g h in visits-good (subst (Kept p (Meets m i)) q k) v
 
   -- and is right
-  pub visits-right : {m z : Machine} {es : List ℕ} → Good p m → Visits p m es z → Right p (program-depth p) z
+  pub visits-right : {m z : Machine} {es fs : List ℕ} → Good p m → Visits p m es z fs → Right p (program-depth p) z
   visits-right g v = good-right firm (visits-good g v)
 
 -- The whole run ---------------------------------------------------------------------
 
+blocked-at : {m : Machine} {s : Sched} {b : List Bool} {n : ℕ} → Blocked s b n → m .sched ≡ s → m .stability ≡ b → holders m ≡ [] → (es : List ℕ) → Condition m es n
+blocked-at (blocked h) s b q es = at-36 q s (rw b h)
+
+-- an outcome is a number at its condition
+abbrev Ends : List ℕ → Outcome → Type 0
+Ends es (stopped n t z) = Condition z (drop t es) n
+Ends es jammed = ⊥
+
+ends-later : (e : ℕ) (es : List ℕ) (o : Outcome) → Ends es o → Ends (e ∷ es) (later o)
+unfolding later
+ends-later e es (stopped n t z) c = c
+ends-later e es jammed c = c
+
 module _ {p : Program} (firm : Firm p) where
-  -- the run comes to a number at its condition
-  abbrev Ends : Machine → List ℕ → Outcome → Type 0
-  Ends m es (stopped n t z) =
-      ((w : Machine) → Visits p z (drop t es) w → Visits p m es w)
-      × ((w : Machine) → Visits p m es w → (fs : List ℕ) × Visits p w fs z)
-      × (Condition z (drop t es) n)
-      × (t ≤ length es)
-  Ends m es jammed = ⊥
+  -- so is that of every run from a machine with the invariant
+  ran-ends : {m : Machine} {es : List ℕ} {o : Outcome} → Good p m → Ran p m es o → Ends es o
+  ran-ends g (ends h d) = at-end h d
+  ran-ends {m} {es} g (refuses h q) =
+      let open-move = moved-kept firm g (λ s. let w = done-stuck p m s in let z : _≡_ {A = ℕ} 0 1 = cc in omega arith) in
+      blocked-at (subst (Kept p (Blocked (m .sched) (m .stability))) q open-move) refl refl h es
+  ran-ends {m} g (sticks h d q) = absurd (subst (Kept p (Blocked (m .sched) (m .stability))) q (moved-kept firm g d))
+  ran-ends g (moved h q r) = ran-ends (visits-good firm g (moves h q (here {es = []}))) r
+  ran-ends g (lasts h) = at-33 h refl
+  ran-ends {m} g (fails {e = e} h q) = let (i, a, k) = taken-kept firm e g h in at-command h refl a (subst (Kept p (Meets m i)) q k)
+  ran-ends {m} g (jams {e = e} h q) = let (i, a, k) = taken-kept firm e g h in absurd (subst (Kept p (Meets m i)) q k)
+  ran-ends g (took {e = e} {es = es} {o = o} h q r w) =
+      rw w (ends-later e es o (ran-ends (visits-good firm g (takes {e = e} h q (here {es = []}))) r))
 
-  -- at once, behind moves
-  ends-now : {m z : Machine} (es : List ℕ) (n t : ℕ) → t ≡ 0 → Through p m z → Condition z es n → Ends m es (stopped n t z)
-  ends-now {m} {z} es n t q f c =
-      rw q (
-        f .onward es,
-        λ w v. ⊎-elim (λ a. (es, a es z here)) (λ x. (es, subst (λ y. Visits p y es z) (sym (condition-last c x)) here)) (f .before es w v),
-        c,
-        omega arith,
-      )
-
-  -- behind moves and a turn
-  ends-later : (e : ℕ) (es : List ℕ) {m y z : Machine} {h : ℕ} {hs : List ℕ} → Through p m y → holders y ≡ h ∷ hs → command p (chosen (h ∷ hs) e) y ≡ next z
-      → (o : Outcome) → Ends z es o → Ends m (e ∷ es) (later o)
-  unfolding later
-  ends-later e es {y = y} {z = z} f q c (stopped n t x) s =
-      let to : Visits p y (e ∷ es) x = takes q c (s .0 x here) in
-      let k = s .3 in (
-        λ w v. f .onward (e ∷ es) w (takes q c (s .0 w v)),
-        λ w v. ⊎-elim (λ a. (e ∷ es, a (e ∷ es) x to)) (go q c to (s .1)) (f .before (e ∷ es) w v),
-        s .2,
-        omega arith,
-      )
+-- where a condition holds at a machine of a run, every machine of it leads there, and no condition holds at another
+module _ {p : Program} {m z : Machine} {es gs : List ℕ} {n : ℕ} (at : Visits p m es z gs) (c : Condition z gs n) where
+  leads-last : (w : Machine) (fs : List ℕ) → Visits p m es w fs → Visits p w fs z gs
+  leads-last w fs v = go (one-way p at w fs v)
     where
-      go : {y : Machine} {e h : ℕ} {hs es : List ℕ} {w : Machine} → holders y ≡ h ∷ hs → command p (chosen (h ∷ hs) e) y ≡ next z → Visits p y (e ∷ es) x
-          → ((w : Machine) → Visits p z es w → (fs : List ℕ) × Visits p w fs x)
-          → Visits p y (e ∷ es) w
-          → (fs : List ℕ) × Visits p w fs x
-      go {e = e} {es = es} q c to s here = (e ∷ es, to)
-      go q c to s (moves h′ e′ v) = let z : _≡_ {A = ℕ} 0 1 = cc in absurd (omega arith)
-      go {es = es} q c to s (takes {m′ = y′} {z = w} q′ c′ v) = let d : y′ ≡ z = cc in s w (subst (λ y. Visits p y es w) d v)
-  ends-later e es f q c jammed s = s
+      go : (Visits p z gs w fs) ⊎ (Visits p w fs z gs) → Visits p w fs z gs
+      go (inl u) = let (a, b) = condition-last c u in rw (a, b) here
+      go (inr u) = u
 
-  -- without a byte
-  last-ends : (m : Machine) (o : Settled) → Settles p m o → Ends m [] (at-last o)
-  unfolding at-last
-  last-ends m (hold z h hs) s = ends-now [] out-of-turns 0 refl (s .0) (at-33 (s .2) refl)
-  last-ends m (stop (stopped n t z)) s = ends-now [] n t (s .1) (s .0) (s .2 [])
-  last-ends m (stop jammed) s = s
+  only-last : (w : Machine) (fs : List ℕ) → Visits p m es w fs → (k : ℕ) → Condition w fs k ↔ ((w ≡ z) × (fs ≡ gs) × (k ≡ n))
+  only-last w fs v k = (
+    λ d. let (a, b) = condition-last d (leads-last w fs v) in (sym a, sym b, condition-one (rw (← a, ← b) at d) c),
+    λ (a, b, q). rw (a, b, q) c,
+  )
 
-  module _ (e : ℕ) (es : List ℕ) (k : Machine → Outcome) (rest : (z : Machine) → Good p z → Ends z es (k z)) (m : Machine) where
-    taken-ends : {z : Machine} {h : ℕ} {hs : List ℕ} {i : Instance} → Through p m z → holders z ≡ h ∷ hs → getElem? (z .instances) (chosen (h ∷ hs) e) ≡ some i
-        → (o : Out) → command p (chosen (h ∷ hs) e) z ≡ o → Kept p (Meets z i) o → Ends m (e ∷ es) (taken k z o)
-    unfolding taken
-    taken-ends f q a (next y) c g = ends-later e es f q c (k y) (rest y g)
-    taken-ends f q a (refused n) c r = ends-now (e ∷ es) n 0 refl f (at-command q refl a r)
-    taken-ends f q a stuck c r = r
-
-    -- with one
-    turn-ends : (o : Settled) → Settles p m o → Ends m (e ∷ es) (turn k p e o)
-    unfolding turn
-    turn-ends (hold z h hs) s =
-        let (i, n, c, a, d) = chosen-holds z h hs e (s .2) in
-        taken-ends (s .0) (s .2) a (command p (chosen (h ∷ hs) e) z) refl (command-kept firm (s .1) (chosen (h ∷ hs) e) i a n c d)
-    turn-ends (stop (stopped n t z)) s = ends-now (e ∷ es) n t (s .1) (s .0) (s .2 (e ∷ es))
-    turn-ends (stop jammed) s = s
-
-  run-ends : (es : List ℕ) (m : Machine) → Good p m → Ends m es (run p m es)
-  unfolding run
-  run-ends [] m g = last-ends m (settle p (fuel m) m) (settles p (bound (m .sched)) (fuel m) m g (omega arith) (fuel-suffices m .1))
-  run-ends (e ∷ es) m g =
-      turn-ends e es (λ z. run p z es) (λ z g′. run-ends es z g′) m (settle p (fuel m) m)
-      (settles p (bound (m .sched)) (fuel m) m g (omega arith) (fuel-suffices m .1))
-
+module _ {p : Program} (firm : Firm p) where
   -- a run of a program with firm ground under it, from any machine with the invariant, is never stuck
   firm-never-stuck : {m : Machine} → Good p m → (es : List ℕ) → NeverStuck p m es
-  firm-never-stuck {m} g es = go (run p m es) refl (run-ends es m g)
+  firm-never-stuck {m} g es = go (run p m es) refl (ran-ends firm g (run-ran p es m))
     where
-      go : (o : Outcome) → run p m es ≡ o → Ends m es o → NeverStuck p m es
-      go (stopped n t z) e s = record {
-        right = λ w v. visits-right firm g v;
-        number = n;
-        turns = t;
-        last = z;
-        returns = e;
-        counted = s .3;
-        visited = s .0;
-        exactly = λ k. (λ c. condition-one c (s .2), λ q. subst (Condition z (drop t es)) (sym q) (s .2));
-        leads = s .1;
-        final = λ w v. condition-last (s .2) v;
-      }
+      go : (o : Outcome) → run p m es ≡ o → Ends es o → NeverStuck p m es
+      go (stopped n t z) e c =
+          let at = run-visits p m es e .0 in
+          record {
+            number = n;
+            turns = t;
+            last = z;
+            returns = e;
+            counted = run-turns p m es e;
+            visited = at;
+            right = λ w fs v. visits-right firm g v;
+            leads = λ w fs v. leads-last at c w fs v;
+            exactly = λ w fs v k. only-last at c w fs v k;
+            final = λ w fs v. condition-last c v;
+          }
       go jammed e s = absurd s
 
 -- a run of an accepted program from any machine with the invariant is never stuck
@@ -153,3 +136,7 @@ never-stuck a g es = firm-never-stuck (accepted-firm a) g es
 -- Demand 3: so is one on a right table, whatever the turn bytes
 pub demand3 : {p : Program} → Accepted p → (rs : List Record) → TableRight (p .params) rs → (es : List ℕ) → Demand3 p rs es
 demand3 {p} a rs t es = never-stuck a (begin-good p (a .0) rs t) es
+
+-- so the published rules come to a number, turns and a last table
+pub demand3-comes : (p : Program) (rs : List Record) (es : List ℕ) → Demand3 p rs es → (n : ℕ) × (t : ℕ) × (rs′ : List Record) × Comes p rs es n t rs′
+demand3-comes p rs es d = (d .number, d .turns, table-of p (d .last), outcome-exact p rs es (d .returns))

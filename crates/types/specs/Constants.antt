@@ -1,4 +1,5 @@
--- Every limit and every byte of a type, as the code hands them out: each field is the definition of its name.
+-- Every limit and every byte of a type (01, 'Program stream', 'Table and turns', 'Numbers from the input', 'Numbers from the state'),
+-- as the code hands them out: each field is the definition of its name.
 use Rattle.types.specs.Limits.{max-structs, max-params, max-steps, step-names, max-statements, max-items, int-half, nat-end}
 use Rattle.types.specs.Limits.{first-local, variables, max-path, fix-levels, if-levels, expr-levels, max-instances, program-blocks}
 use Rattle.types.specs.Limits.{table-blocks, step-commands, max-commands, max-depth, schedule-items, max-turns, max-stability}

@@ -1,4 +1,5 @@
--- The operators as a function: a value, number 35, or no operands that the operator takes.
+-- The operators as a function (01, 'Program stream', 'Table and turns'; 35 of 'Numbers from the state'): a value, number 35, or no
+-- operands that the operator takes.
 use Prim.Native.Nat.{ℕ, zero, suc}
 use mathlib.Core.Bool.{Bool, true, false, not}
 use mathlib.Core.Option.{Option, none, some}

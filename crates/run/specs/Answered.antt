@@ -1,0 +1,19 @@
+-- What the run entry answers (01, 'Numbers from the state', 'What contracts here say'), said of a number, turns and a last table
+-- without the machine that comes to them.
+use Prim.Native.Nat.{ℕ, _*_}
+use mathlib.Core.Path.{_≡_}
+use mathlib.Core.List.{List, _++_}
+use lib.ListN.{length, drop}
+use Rattle.blocks.specs.Blocks.{block-size}
+use Rattle.blocks.specs.Images.{image, pieces}
+use Rattle.program.specs.Tree.{Program}
+use Rattle.commands.specs.Bounds.{program-depth}
+use Rattle.table.specs.Table.{Record, enc-table}
+use Rattle.run.specs.Entry.{report, listed as listed-commands, run-report, run-output, run-list}
+
+-- number, turns, blocks and depth; the table's image and behind it the bytes that were there; the commands and behind them the
+-- places that were there
+pub record Answered (x y es out list : List ℕ) (p : Program) (n t : ℕ) (rs : List Record) : Type 0 where
+  pub reported : run-report x y es out list ≡ report n t (pieces (length (enc-table rs))) (program-depth p)
+  pub written : run-output x y es out list ≡ image (enc-table rs) ++ drop (block-size * pieces (length (enc-table rs))) out
+  pub listed : run-list x y es out list ≡ listed-commands p list
