@@ -22,8 +22,7 @@ use Rattle.run.specs.Begin.{resting}
 use Rattle.sound.specs.Needs.{Operand}
 use Rattle.sound.specs.Invariant.{Good}
 use Rattle.sound.specs.Accepted.{Firm}
-use Rattle.sound.specs.ElemLaws.{at-below}
-use Rattle.sound.specs.ElemLaws.{at-append}
+use Rattle.sound.specs.ElemLaws.{at-append, at-below}
 use Rattle.sound.specs.EachLaws.{each-length}
 use Rattle.sound.specs.Outcomes.{constructs, finds-full}
 use Rattle.memory.specs.Layout.{State, head, head-size, next-of, end-of, row-size, stacked, of-head, label-cell, refused}

@@ -14,8 +14,7 @@ use Rattle.commands.specs.Coding.{words}
 use Rattle.machine.specs.Published.{Sched}
 use Rattle.machine.specs.Machine.{Tagged, Instance, Machine, with-instances}
 use Rattle.run.specs.Begin.{resting}
-use Rattle.sound.specs.ElemLaws.{at-below}
-use Rattle.sound.specs.ElemLaws.{none-some, some-is, at-snoc}
+use Rattle.sound.specs.ElemLaws.{none-some, some-is, at-snoc, at-below}
 use Rattle.memory.specs.Layout.{State, head-size, struct-of, height-of, next-of, end-of, row-size, stacked, of-head, with-heads, with-cells, with-count}
 use Rattle.memory.specs.Stands.{Shows, Stack, Held, Stands}
 use Rattle.memory.specs.Frame.{Slim, AllSlim}

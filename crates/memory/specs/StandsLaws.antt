@@ -15,8 +15,7 @@ use Rattle.commands.specs.Noted.{Note}
 use Rattle.machine.specs.Published.{Sched, lookup, assign}
 use Rattle.machine.specs.Rules.{meet}
 use Rattle.machine.specs.Machine.{Tagged, Instance, Machine, with-env, update-env, with-instances, with-stability, put}
-use Rattle.sound.specs.ElemLaws.{at-below}
-use Rattle.sound.specs.ElemLaws.{some-is, at-set-same, at-set-other}
+use Rattle.sound.specs.ElemLaws.{some-is, at-set-same, at-set-other, at-below}
 use Rattle.sound.specs.Keeps.{at-env-same, at-env-other}
 use Rattle.sound.specs.GoodLaws.{meet-length}
 use Rattle.memory.specs.Layout.{State, end-of, row-size, variable, stacked, of-head, of-cell, with-cells, unstable}

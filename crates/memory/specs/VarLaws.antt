@@ -13,8 +13,7 @@ use Rattle.types.specs.Limits.{first-local, variables}
 use Rattle.types.specs.Values.{Val}
 use Rattle.machine.specs.Published.{Env, Env.env, lookup, assign, fresh-env}
 use Rattle.machine.specs.Machine.{Instance, update-env}
-use Rattle.sound.specs.ElemLaws.{at-below}
-use Rattle.sound.specs.ElemLaws.{none-some, some-is, at-set-other}
+use Rattle.sound.specs.ElemLaws.{none-some, some-is, at-set-other, at-below}
 use Rattle.sound.specs.EnvLaws.{param-at, local-at, param-set, local-set, other-kept, local-kept}
 
 -- a parameter, or a local
