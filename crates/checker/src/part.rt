@@ -56,15 +56,23 @@ fn step(s: &[u8], ar: &[u8], types: &[u8], k: u8, name: u8, z: Spot, at: usize) 
     ensures { λ r. ⌜ r ≡ sought (λ t. seek name (t ∷ []) z) (read-step (now (ar .entry)) (now (s .entry)) at) ⌝ }
     ensures { λ r. ⌜ Passing (now (s .entry)) r ⌝ }
 {
-    match read::ranged(s, 0, 32, at) {
-        ByteRead::NoByte(e) => SpotRead::Refused(e),
-        ByteRead::Byte(n, m) => {
-            match stmt::body(s, ar, types, k, Scope { live: 0, seen: 0 }, m, 8) {
-                StmtRead::Refused(e) => SpotRead::Refused(e),
-                StmtRead::Value(next, d) => SpotRead::Value(next, past(name, n, d.size, z)),
-            }
-        }
-    }
+    let r = read::ranged(s, 0, types::STEP_NAMES, at);
+    let ByteRead::Byte(n, m) = r else {
+        return SpotRead::Refused(read::byte_refusal(r));
+    };
+    let q = stmt::body(
+        s,
+        ar,
+        types,
+        k,
+        Scope { live: 0, seen: 0 },
+        m,
+        types::IF_LEVELS,
+    );
+    let StmtRead::Value(next, d) = q else {
+        return SpotRead::Refused(totals::stmt_refusal(q));
+    };
+    SpotRead::Value(next, past(name, n, d.size, z))
 }
 
 // n steps of the struct k.
@@ -88,10 +96,11 @@ fn of_struct(s: &[u8], ar: &[u8], types: &[u8], k: u8, name: u8, z: Spot, at: us
     requires { ⌜ (length (now ar) ≤ 16) × (k < 16) × (z .passed ≤ at) ⌝ }
     ensures { λ r. ⌜ r ≡ sought (λ ts. seek name ts z) (read-steps (now (ar .entry)) (now (s .entry)) at) ⌝ }
 {
-    match read::ranged(s, 0, 9, at) {
-        ByteRead::NoByte(e) => SpotRead::Refused(e),
-        ByteRead::Byte(n, m) => steps(s, ar, types, k, name, n, z, m),
-    }
+    let r = read::ranged(s, 0, types::MAX_STEPS + 1, at);
+    let ByteRead::Byte(n, m) = r else {
+        return SpotRead::Refused(read::byte_refusal(r));
+    };
+    steps(s, ar, types, k, name, n, z, m)
 }
 
 // Where no step is.
@@ -110,51 +119,50 @@ fn walk(s: &[u8], ar: &[u8], types: &[u8], k: u8, name: u8, at: usize) -> Spot
     requires { ⌜ (length (now ar) ≤ 16) × (k < 16) × (at ≤ length (now s)) ⌝ }
     ensures { λ r. ⌜ Walked (now (ar .entry)) (now (s .entry)) k name at r ⌝ }
 {
-    let mut has = [0u8; 512];
-    match totals::structs(s, ar, types, &mut has, 0, k, totals::none(), at) {
-        TotalsRead::Refused(_) => nowhere(),
-        TotalsRead::Value(m, t) => {
-            let z = Spot {
-                passed: t.commands,
-                start: 0,
-                len: 0,
-            };
-            match of_struct(s, ar, types, k, name, z, m) {
-                SpotRead::Refused(_) => nowhere(),
-                SpotRead::Value(_, y) => y,
-            }
-        }
-    }
+    let mut has = [0u8; types::MAX_STRUCTS * types::STEP_NAMES];
+    let r = totals::structs(s, ar, types, &mut has, 0, k, totals::none(), at);
+    let TotalsRead::Value(m, t) = r else {
+        return nowhere();
+    };
+    let z = Spot {
+        passed: t.commands,
+        start: 0,
+        len: 0,
+    };
+    let q = of_struct(s, ar, types, k, name, z, m);
+    let SpotRead::Value(_, y) = q else {
+        return nowhere();
+    };
+    y
 }
 
 // The step k, name of a program stream.
 fn find(s: &[u8], k: u8, name: u8) -> Spot
     ensures { λ r. ⌜ r ≡ spot-by (of-read (read (now (s .entry)))) k name ⌝ }
 {
-    let mut counts = [0u8; 16];
-    let mut types = [0u8; 128];
-    match whole::program(s, &mut counts, &mut types) {
-        ProgramRead::Refused(_) => nowhere(),
-        ProgramRead::Value(at, p) => {
-            if p.number != 0 {
-                return nowhere();
-            }
-            if p.structs <= k {
-                return nowhere();
-            }
-            let n = p.structs as usize;
-            let end = 8 * n;
-            walk(s, &counts[..n], &types[..end], k, name, at)
-        }
+    let mut counts = [0u8; types::MAX_STRUCTS];
+    let mut types = [0u8; types::MAX_STRUCTS * types::MAX_PARAMS];
+    let r = whole::program(s, &mut counts, &mut types);
+    let ProgramRead::Value(at, p) = r else {
+        return nowhere();
+    };
+    if p.number != 0 {
+        return nowhere();
     }
+    if p.structs <= k {
+        return nowhere();
+    }
+    let n = p.structs as usize;
+    let end = types::MAX_PARAMS * n;
+    walk(s, &counts[..n], &types[..end], k, name, at)
 }
 
 // The step k, name of a program image.
 fn locate(image: &[u8], k: u8, name: u8) -> Spot
     ensures { λ r. ⌜ r ≡ spot-by (checked (now (image .entry))) k name ⌝ }
 {
-    let mut buffer = [0u8; 32256];
-    match blocks::read_image(image, 64, &mut buffer) {
+    let mut buffer = [0u8; types::PROGRAM_BLOCKS * blocks::PAYLOAD_SIZE];
+    match blocks::read_image(image, types::PROGRAM_BLOCKS, &mut buffer) {
         Read::Refused(_) => nowhere(),
         Read::Short => nowhere(),
         Read::Stream(n) => find(&buffer[..n], k, name),
@@ -166,7 +174,7 @@ fn locate(image: &[u8], k: u8, name: u8) -> Spot
 pub fn step_place(image: &[u8], list: &[u64], structure: u8, name: u8) -> Spot
     ensures { λ r. ⌜ r ≡ step-place (now (image .entry)) (now (list .entry)) structure name ⌝ }
 {
-    if list.len() < 1024 {
+    if list.len() < types::MAX_COMMANDS {
         return nowhere();
     }
     locate(image, structure, name)
