@@ -81,7 +81,7 @@ structs-same [] = refl
 structs-same (ts ∷ tss) = rw (steps-same ts, structs-same tss) (sym (words-append (of-steps ts) (of-structs tss)))
 
 -- the words that are written are those of the list
-same-words : (p : Program) → emitted-words p ≡ program-words p
+pub same-words : (p : Program) → emitted-words p ≡ program-words p
 unfolding emitted-words program-words
 same-words p = structs-same (p .steps)
 

@@ -12,6 +12,8 @@ use Rattle.program.specs.Reader.{Result, Result.ok, Result.bad}
 use Rattle.facts.specs.declared.Done.{Done}
 use Rattle.facts.specs.Facts.{worst, named, no-locals, body-facts}
 use Rattle.facts.specs.ProgramFacts.{Totals as Sum, added}
+use Rattle.stmts.specs.declared.StmtRead.{StmtRead}
+use Rattle.stmts.specs.declared.StmtRead.the-variants.{Value as StmtValue, Refused as StmtRefused}
 use Rattle.checker.specs.declared.totals.Totals.{Totals}
 use Rattle.checker.specs.declared.totals.TotalsRead.{TotalsRead}
 use Rattle.checker.specs.declared.totals.TotalsRead.the-variants.{Value, Refused}
@@ -44,6 +46,15 @@ step-total ar types k T t = added k (t .name) (body-facts ar types k (t .body) n
 abbrev pub told : {A : Type 0} → (A → Sum) → Result A → TotalsRead
 told f (ok a m) = Value m (less (f a))
 told f (bad p n) = Refused n
+
+-- the number of a refusal; of a value, 0
+abbrev pub stmt-refusal : StmtRead → ℕ
+stmt-refusal (StmtValue m d) = 0
+stmt-refusal (StmtRefused n) = n
+
+abbrev pub totals-refusal : TotalsRead → ℕ
+totals-refusal (Value m t) = 0
+totals-refusal (Refused n) = n
 
 -- the table of names after it
 abbrev pub Kept : {A : Type 0} → (A → Sum) → Result A → List ℕ → Type 0

@@ -44,3 +44,8 @@ place-of (bad p n) = 0
 abbrev pub program-told : Result (List (List Ty)) → Result Program → ProgramRead
 program-told q (ok p m) = Value (place-of q) (summary (length (p .params)) (program-totals p) (program-plan p))
 program-told q (bad p n) = Refused n
+
+-- the number of a refusal; of a value, 0
+abbrev pub program-refusal : ProgramRead → ℕ
+program-refusal (Value at z) = 0
+program-refusal (Refused n) = n

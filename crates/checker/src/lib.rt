@@ -12,6 +12,9 @@ ghost use Rattle.program.specs.Reader.{read};
 ghost use Rattle.run.specs.Entry.{of-read, refusal, verdict-of, list-of, check-verdict, check-list};
 ghost use Rattle.checker.specs.Answer.{answer, approved};
 
+// 01's number of a lent list with too few places.
+const SHORT_LIST: u8 = 13;
+
 // What checking answers: the number, and of an accepted program how many structs, steps and commands it has, and its depth.
 pub struct Verdict {
     pub number: u8,
@@ -52,22 +55,21 @@ fn stream(s: &[u8], list: &mut [u64]) -> Verdict
     ensures { λ r. ⌜ r ≡ answer (verdict-of (of-read (read (now (s .entry)))) (now (list .entry))) ⌝ }
     ensures { λ _. ⌜ now (list .exit) ≡ list-of (of-read (read (now (s .entry)))) (now (list .entry)) ⌝ }
 {
-    let mut counts = [0u8; 16];
-    let mut types = [0u8; 128];
-    match whole::program(s, &mut counts, &mut types) {
-        ProgramRead::Refused(e) => refused(e),
-        ProgramRead::Value(at, p) => {
-            if p.number != 0 {
-                return refused(p.number);
-            }
-            if list.len() < 1024 {
-                return refused(13);
-            }
-            let n = p.structs as usize;
-            emit::steps::program(s, &counts[..n], at, list);
-            accepted(p)
-        }
+    let mut counts = [0u8; types::MAX_STRUCTS];
+    let mut types = [0u8; types::MAX_STRUCTS * types::MAX_PARAMS];
+    let r = whole::program(s, &mut counts, &mut types);
+    let ProgramRead::Value(at, p) = r else {
+        return refused(whole::program_refusal(r));
+    };
+    if p.number != 0 {
+        return refused(p.number);
     }
+    if list.len() < types::MAX_COMMANDS {
+        return refused(SHORT_LIST);
+    }
+    let n = p.structs as usize;
+    emit::steps::program(s, &counts[..n], at, list);
+    accepted(p)
 }
 
 // A program image: 1 to 8, then 13; and its commands in the list, from the first place on, where it is accepted.
@@ -75,8 +77,8 @@ pub fn check(image: &[u8], list: &mut [u64]) -> Verdict
     ensures { λ r. ⌜ r ≡ answer (check-verdict (now (image .entry)) (now (list .entry))) ⌝ }
     ensures { λ _. ⌜ now (list .exit) ≡ check-list (now (image .entry)) (now (list .entry)) ⌝ }
 {
-    let mut buffer = [0u8; 32256];
-    match blocks::read_image(image, 64, &mut buffer) {
+    let mut buffer = [0u8; types::PROGRAM_BLOCKS * blocks::PAYLOAD_SIZE];
+    match blocks::read_image(image, types::PROGRAM_BLOCKS, &mut buffer) {
         Read::Refused(f) => refused(blocks::program_number(f)),
         Read::Short => refused(1),
         Read::Stream(n) => stream(&buffer[..n], list),

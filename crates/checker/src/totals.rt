@@ -14,7 +14,7 @@ ghost use lib.ListN.{length, getD, set};
 ghost use lib.Dec.{eqb};
 ghost use Rattle.program.specs.Reader.{many, read-step, read-steps};
 ghost use Rattle.facts.specs.ProgramFacts.{place, no-totals, struct-totals, step-totals};
-ghost use Rattle.checker.specs.Total.{with, less, over-by, plus, step-total, Told, Low, Bounded};
+ghost use Rattle.checker.specs.Total.{with, less, over-by, plus, step-total, stmt-refusal, totals-refusal, Told, Low, Bounded};
 
 // Of the steps so far: how many, their commands, the greatest depth, 1 once a limit of a step is passed, and a fault.
 pub struct Totals {
@@ -29,6 +29,25 @@ pub struct Totals {
 pub enum TotalsRead {
     Value(usize, Totals),
     Refused(u8),
+}
+
+// The number of a refusal, for a reader whose own answer is of another type; 0 where a value was read.
+pub(crate) fn stmt_refusal(r: StmtRead) -> u8
+    ensures { λ n. ⌜ n ≡ stmt-refusal r ⌝ }
+{
+    let StmtRead::Refused(n) = r else {
+        return 0;
+    };
+    n
+}
+
+pub(crate) fn totals_refusal(r: TotalsRead) -> u8
+    ensures { λ n. ⌜ n ≡ totals-refusal r ⌝ }
+{
+    let TotalsRead::Refused(n) = r else {
+        return 0;
+    };
+    n
 }
 
 // Of no steps.
@@ -50,7 +69,7 @@ fn noted(has: &mut [u8], k: u8, n: u8) -> bool
     ensures { λ r. ⌜ r ≡ eqb (getD (now (has .entry)) (place k n) 0) 0 ⌝ }
     ensures { λ _. ⌜ now (has .exit) ≡ set (now (has .entry)) (place k n) 1 ⌝ }
 {
-    let i = 32 * k as usize + n as usize;
+    let i = types::STEP_NAMES * k as usize + n as usize;
     let new = has[i] == 0;
     has[i] = 1;
     new
@@ -60,10 +79,10 @@ fn noted(has: &mut [u8], k: u8, n: u8) -> bool
 fn over(before: u8, d: Done) -> u8
     ensures { λ r. ⌜ r ≡ over-by before d ⌝ }
 {
-    if 64 < d.size {
+    if types::STEP_COMMANDS < d.size {
         return 1;
     }
-    if 16 < d.height {
+    if types::MAX_DEPTH < d.height {
         return 1;
     }
     before
@@ -99,18 +118,24 @@ fn step(
     ensures { λ r. ⌜ Told (step-total (now (ar .entry)) (now (types .entry)) k (with t (now (has .entry)))) (read-step (now (ar .entry)) (now (s .entry)) at) r (now (has .exit)) ⌝ }
     ensures { λ r. ⌜ Bounded (now (s .entry)) r ⌝ }
 {
-    match read::ranged(s, 0, 32, at) {
-        ByteRead::NoByte(e) => TotalsRead::Refused(e),
-        ByteRead::Byte(n, m) => {
-            match stmt::body(s, ar, types, k, Scope { live: 0, seen: 0 }, m, 8) {
-                StmtRead::Refused(e) => TotalsRead::Refused(e),
-                StmtRead::Value(next, d) => {
-                    let new = noted(has, k, n);
-                    TotalsRead::Value(next, plus(t, d, new))
-                }
-            }
-        }
-    }
+    let r = read::ranged(s, 0, types::STEP_NAMES, at);
+    let ByteRead::Byte(n, m) = r else {
+        return TotalsRead::Refused(read::byte_refusal(r));
+    };
+    let q = stmt::body(
+        s,
+        ar,
+        types,
+        k,
+        Scope { live: 0, seen: 0 },
+        m,
+        types::IF_LEVELS,
+    );
+    let StmtRead::Value(next, d) = q else {
+        return TotalsRead::Refused(stmt_refusal(q));
+    };
+    let new = noted(has, k, n);
+    TotalsRead::Value(next, plus(t, d, new))
 }
 
 // n steps of the struct k.
@@ -154,10 +179,11 @@ fn of_struct(
     ensures { λ r. ⌜ Told (λ ts. struct-totals (now (ar .entry)) (now (types .entry)) k ts (with t (now (has .entry)))) (read-steps (now (ar .entry)) (now (s .entry)) at) r (now (has .exit)) ⌝ }
     ensures { λ r. ⌜ Bounded (now (s .entry)) r ⌝ }
 {
-    match read::ranged(s, 0, 9, at) {
-        ByteRead::NoByte(e) => TotalsRead::Refused(e),
-        ByteRead::Byte(n, m) => steps(s, ar, types, has, k, n, t, m),
-    }
+    let r = read::ranged(s, 0, types::MAX_STEPS + 1, at);
+    let ByteRead::Byte(n, m) = r else {
+        return TotalsRead::Refused(read::byte_refusal(r));
+    };
+    steps(s, ar, types, has, k, n, t, m)
 }
 
 // The steps of n structs, from the struct k on.

@@ -16,7 +16,7 @@ ghost use Rattle.program.specs.Reader.{read-params, read-items, read-item, read
 ghost use Rattle.facts.specs.ProgramFacts.{plan, totals-number};
 ghost use Rattle.plan.specs.ParamsTold.{ParamsKept};
 ghost use Rattle.checker.specs.Total.{with};
-ghost use Rattle.checker.specs.Whole.{summary, read-rest, end-told, rest-told, program-told};
+ghost use Rattle.checker.specs.Whole.{summary, read-rest, end-told, rest-told, program-told, program-refusal};
 
 // What comes of a program: its number, and how many structs, steps and commands it has, and its depth.
 pub struct Summary {
@@ -33,6 +33,16 @@ pub enum ProgramRead {
     Refused(u8),
 }
 
+// The number of a refusal, for a caller whose own answer is of another type; 0 where a value was read.
+pub(crate) fn program_refusal(r: ProgramRead) -> u8
+    ensures { λ n. ⌜ n ≡ program-refusal r ⌝ }
+{
+    let ProgramRead::Refused(n) = r else {
+        return 0;
+    };
+    n
+}
+
 // 6 where a limit is passed; else the worse fault.
 fn number(t: Totals, p: Planned) -> u8
     ensures { λ r. ⌜ r ≡ totals-number (with t []) (plan (p .count) (p .fault)) ⌝ }
@@ -40,10 +50,10 @@ fn number(t: Totals, p: Planned) -> u8
     if t.over != 0 {
         return 6;
     }
-    if 1024 < t.commands {
+    if types::MAX_COMMANDS < t.commands {
         return 6;
     }
-    if 64 < p.count {
+    if types::SCHEDULE_ITEMS < p.count {
         return 6;
     }
     fault::worst(t.fault, p.fault)
@@ -65,15 +75,14 @@ fn summed(structs: u8, t: Totals, p: Planned) -> Summary
 fn end(s: &[u8], has: &[u8], structs: u8, behind: usize, t: Totals, at: usize) -> ProgramRead
     ensures { λ r. ⌜ ((ar : List ℕ) → length ar ≡ structs → r ≡ end-told behind structs (with t (now (has .entry))) (now (s .entry)) (read-items ar (now (s .entry)) (read-item ar (now (s .entry)) 8) at)) ⌝ }
 {
-    match schedule::items(s, has, structs, at, 8) {
-        PlanRead::Refused(e) => ProgramRead::Refused(e),
-        PlanRead::Value(m, p) => {
-            if m < s.len() {
-                return ProgramRead::Refused(4);
-            }
-            ProgramRead::Value(behind, summed(structs, t, p))
-        }
+    let r = schedule::items(s, has, structs, at, types::FIX_LEVELS);
+    let PlanRead::Value(m, p) = r else {
+        return ProgramRead::Refused(schedule::plan_refusal(r));
+    };
+    if m < s.len() {
+        return ProgramRead::Refused(4);
     }
+    ProgramRead::Value(behind, summed(structs, t, p))
 }
 
 // The steps of all structs, and the schedule.
@@ -81,11 +90,12 @@ fn rest(s: &[u8], ar: &[u8], types: &[u8], structs: u8, at: usize) -> ProgramRea
     requires { ⌜ (length (now ar) ≡ structs) × (structs ≤ 16) × (at ≤ length (now s)) ⌝ }
     ensures { λ r. ⌜ r ≡ rest-told at (now (ar .entry)) (now (types .entry)) (now (s .entry)) (read-rest (now (ar .entry)) (now (s .entry)) at) ⌝ }
 {
-    let mut has = [0u8; 512];
-    match totals::structs(s, ar, types, &mut has, 0, structs, totals::none(), at) {
-        TotalsRead::Refused(e) => ProgramRead::Refused(e),
-        TotalsRead::Value(m, t) => end(s, &has, structs, at, t, m),
-    }
+    let mut has = [0u8; types::MAX_STRUCTS * types::STEP_NAMES];
+    let r = totals::structs(s, ar, types, &mut has, 0, structs, totals::none(), at);
+    let TotalsRead::Value(m, t) = r else {
+        return ProgramRead::Refused(totals::totals_refusal(r));
+    };
+    end(s, &has, structs, at, t, m)
 }
 
 // A program stream. The table has, for each struct, how many parameters it has; and 8 places with their types.
@@ -94,12 +104,11 @@ pub fn program(s: &[u8], counts: &mut [u8], types: &mut [u8]) -> ProgramRead
     ensures { λ r. ⌜ r ≡ program-told (read-params (now (s .entry)) 0) (read (now (s .entry))) ⌝ }
     ensures { λ _. ⌜ ParamsKept (now (counts .entry)) (now (counts .exit)) (now (types .entry)) (now (types .exit)) (read-params (now (s .entry)) 0) ⌝ }
 {
-    match params::params(s, counts, types) {
-        ParamsRead::Refused(e) => ProgramRead::Refused(e),
-        ParamsRead::Value(at, structs) => {
-            let n = structs as usize;
-            let end = 8 * n;
-            rest(s, &counts[..n], &types[..end], structs, at)
-        }
-    }
+    let r = params::params(s, counts, types);
+    let ParamsRead::Value(at, structs) = r else {
+        return ProgramRead::Refused(params::params_refusal(r));
+    };
+    let n = structs as usize;
+    let end = types::MAX_PARAMS * n;
+    rest(s, &counts[..n], &types[..end], structs, at)
 }

@@ -4,6 +4,8 @@ use mathlib.Core.List.{List, [], _∷_}
 use mathlib.Core.Bool.{true, false}
 use lib.ListN.{getD}
 use lib.Dec.{ltb}
+use Rattle.types.specs.Types.{type-of}
+use Rattle.types.specs.Values.{default, word}
 use Rattle.commands.specs.Coding.{coded}
 
 -- the number of four bytes, the lowest first
@@ -12,7 +14,7 @@ word-at s at = getD s at 0 + 256 * getD s (at + 1) 0 + 65536 * getD s (at + 2) 0
 
 -- the push of a type's default, by the type's byte
 unfoldable pub null-word : ℕ → ℕ
-null-word b = elim (ltb b 16) [ true ↦ coded 1 b 0 | false ↦ coded 1 b (b - 16) ]
+null-word b = coded 1 b (word (default (type-of b)))
 
 -- how many bytes the form of a byte has
 unfoldable pub leaf-size : ℕ → ℕ

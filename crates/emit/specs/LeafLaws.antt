@@ -8,19 +8,16 @@ use mathlib.Core.List.{List}
 use lib.ListN.{length, getD, set}
 use lib.Seq.{sets}
 use borrow.Author.Tests.{lt-ltb, le-ltb}
+use Rattle.types.specs.Types.{type-of}
+use Rattle.types.specs.Values.{default, word}
 use Rattle.commands.specs.Coding.{coded}
 use Rattle.emit.specs.declared.Put.{Put}
 use Rattle.emit.specs.Leaf.{word-at, leaf-size, byte-word, leaf-of, leaf-word, null-word, rd-words}
 
--- a type without a struct pushes 0
-pub null-low : (b t r : ℕ) → t ≡ b → t < 16 → r ≡ coded 1 t 0 → r ≡ null-word b
+-- a null pushes the default of its type
+pub null-is : (b t v r : ℕ) → t ≡ b → v ≡ word (default (type-of b)) → r ≡ coded 1 t v → r ≡ null-word b
 unfolding null-word
-null-low b t r e h p = let l : b < 16 = omega arith in p ∙ rw (e, null-word, lt-ltb b 16 l)
-
--- a struct's type pushes its number
-pub null-high : (b t r : ℕ) → t ≡ b → 16 ≤ t → r ≡ coded 1 t (t - 16) → r ≡ null-word b
-unfolding null-word
-null-high b t r e h p = let l : 16 ≤ b = omega arith in p ∙ rw (e, null-word, le-ltb b 16 l)
+null-is b t v r e d p = p ∙ rw (e, d)
 
 -- how many bytes a form has, by its byte
 size-low : (b : ℕ) → b < 21 → leaf-size b ≡ 5

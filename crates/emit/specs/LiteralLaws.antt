@@ -7,8 +7,9 @@ use mathlib.Core.List.{List, [], _∷_}
 use lib.ListN.{length, getD}
 use borrow.Author.Tests.{lt-ltb, le-ltb}
 use Rattle.types.specs.Limits.{nat-end, int-half}
-use Rattle.types.specs.Types.{Ty, Ty.int, Ty.nat, Ty.bool, Ty.ref, code}
-use Rattle.types.specs.Values.{default, int-word, word-int, word, value-of}
+use Rattle.types.specs.Types.{Ty, code}
+use Rattle.types.specs.TypeLaws.{type-of-code}
+use Rattle.types.specs.Values.{int-word, word-int, word, value-of}
 use Rattle.program.specs.Tree.{Op, Op.op-eq, Op.op-ne, Op.op-le, Op.op-ge, Op.op-lt, Op.op-gt, Op.op-mul, Op.op-div, Op.op-rem, Op.op-add, Op.op-sub, Op.op-and, Op.op-or, Expr, Expr.int-lit, Expr.nat-lit, Expr.bool-lit, Expr.null, Expr.self}
 use Rattle.program.specs.Encoding.{op-code, enc-word}
 use Rattle.program.specs.Reader.{Result.ok, Result.bad, wrong-byte, made, Form, Form.form-inv, Form.form-make, Form.form-path, Form.form-int, Form.form-nat, Form.form-bool, Form.form-null, Form.form-self, Form.form-op, Form.form-none, form, bool-end, word-bytes, ranged, read-word, read-type, rule-expr, read-expr}
@@ -59,11 +60,8 @@ bool-words (suc zero) h = refl
 bool-words (suc (suc w)) h = absurd (omega arith)
 
 null-words : (t : Ty) → expr-words (null t) ≡ null-word (code t) ∷ []
-unfolding expr-words expr-coms flatten words command-word com-word code word default null-word int-word
-null-words int = refl
-null-words nat = refl
-null-words bool = refl
-null-words (ref k) = let e : 16 + k - 16 ≡ k = omega arith in rw (null-word, le-ltb (16 + k) 16 (omega arith), e)
+unfolding expr-words expr-coms flatten words command-word com-word null-word
+null-words t = rw (type-of-code t)
 
 this-words : expr-words self ≡ coded 2 0 0 ∷ []
 unfolding expr-words expr-coms flatten words command-word com-word

@@ -11,7 +11,7 @@ pub fn step(s: &[u8], ar: &[u8], at: usize, out: &mut [u64], k: usize) -> Put
     requires { ⌜ Ready step-words (read-step (now ar) (now s) at) (now out) k ⌝ }
     ensures { λ r. ⌜ Wrote step-words (read-step (now (ar .entry)) (now (s .entry)) at) (now (out .entry)) k r (now (out .exit)) ⌝ }
 {
-    body(s, ar, at + 1, 8, out, k)
+    body(s, ar, at + 1, types::IF_LEVELS, out, k)
 }
 
 // The commands of n steps in a row.

@@ -16,7 +16,7 @@ fn declare(s: &[u8], ar: &[u8], at: usize, out: &mut [u64], k: usize) -> Put
     requires { ⌜ Ready declare-words (read-declare (now ar) (now s) at) (now out) k ⌝ }
     ensures { λ r. ⌜ Wrote declare-words (read-declare (now (ar .entry)) (now (s .entry)) at) (now (out .entry)) k r (now (out .exit)) ⌝ }
 {
-    let p = expr(s, ar, at + 2, 16, out, k);
+    let p = expr(s, ar, at + 2, types::EXPR_LEVELS, out, k);
     let v = coded(2, 0, 0);
     let q = add(out, p, v);
     let w = coded(4, 0, wide(s[at + 1]));
@@ -29,7 +29,7 @@ fn update(s: &[u8], ar: &[u8], at: usize, out: &mut [u64], k: usize) -> Put
     ensures { λ r. ⌜ Wrote update-words (read-update (now (ar .entry)) (now (s .entry)) at) (now (out .entry)) k r (now (out .exit)) ⌝ }
 {
     let n = index(s[at]);
-    let p = expr(s, ar, at + 1 + n, 16, out, k);
+    let p = expr(s, ar, at + 1 + n, types::EXPR_LEVELS, out, k);
     let i = p.at;
     let q = target(s, at, out, i);
     Put {
@@ -53,7 +53,7 @@ fn stmt(s: &[u8], ar: &[u8], at: usize, depth: usize, out: &mut [u64], k: usize)
     if tag == 3 {
         return update(s, ar, at + 1, out, k);
     }
-    make(s, ar, at + 1, 16, out, k)
+    make(s, ar, at + 1, types::EXPR_LEVELS, out, k)
 }
 
 // An if: its condition and its block.
@@ -61,7 +61,7 @@ fn when(s: &[u8], ar: &[u8], at: usize, depth: usize, out: &mut [u64], k: usize)
     requires { ⌜ Ready when-words (when-at (now ar) (now s) depth at) (now out) k ⌝ }
     ensures { λ r. ⌜ Wrote when-words (when-at (now (ar .entry)) (now (s .entry)) depth at) (now (out .entry)) k r (now (out .exit)) ⌝ }
 {
-    let p = expr(s, ar, at, 16, out, k);
+    let p = expr(s, ar, at, types::EXPR_LEVELS, out, k);
     let next = p.next;
     let i = p.at;
     block(s, ar, next, depth, out, i)

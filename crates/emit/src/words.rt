@@ -27,7 +27,7 @@ pub(crate) fn coded(kind: u64, typ: u64, operand: u64) -> u64
     requires { ⌜ (kind < 256) × (typ < 256) × (operand < nat-end) ⌝ }
     ensures { λ r. ⌜ r ≡ coded kind typ operand ⌝ }
 {
-    kind + 256 * typ + 4294967296 * operand
+    kind + 256 * typ + types::NAT_END * operand
 }
 
 pub(crate) fn store(out: &mut [u64], k: usize, v: u64)
@@ -58,15 +58,12 @@ fn word(s: &[u8], at: usize) -> u64
     wide(s[at]) + 256 * wide(s[at + 1]) + 65536 * wide(s[at + 2]) + 16777216 * wide(s[at + 3])
 }
 
-// The push of a type's default: 0, or the label of the struct's null instance.
+// The push of a type's default.
 fn null_word(b: u8) -> u64
     ensures { λ r. ⌜ r ≡ null-word b ⌝ }
 {
-    let t = wide(b);
-    if t < 16 {
-        return coded(1, t, 0);
-    }
-    coded(1, t, t - 16)
+    let v = types::default_word(b);
+    coded(1, wide(b), v as u64)
 }
 
 pub(crate) fn leaf_size(tag: u8) -> usize
@@ -94,7 +91,7 @@ pub(crate) fn leaf(s: &[u8], at: usize) -> u64
     if tag < 23 {
         let b = s[at + 1];
         if tag < 22 {
-            return coded(1, 2, wide(b));
+            return coded(1, types::BOOL as u64, wide(b));
         }
         return null_word(b);
     }

@@ -3,5 +3,13 @@ pub mod ListingLaws
 pub mod TextLaws
 pub mod CommandText
 pub mod CommandTextLaws
-pub mod Rows
+pub mod Decimals
+pub mod DecimalLaws
+pub mod Listings
 pub mod Walk
+pub mod WalkLaws
+pub mod StepTextLaws
+pub mod StepWalkLaws
+pub mod ProgramTextLaws
+pub mod ImageLaws
+pub mod Rows

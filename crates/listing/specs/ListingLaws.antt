@@ -59,6 +59,10 @@ placed-one e f = record { end = e; list = f }
 pub placed-as : {t u out out1 : List ℕ} {k r : ℕ} → u ≡ t → Placed t out k r out1 → Placed u out k r out1
 placed-as e p = record { end = rw e (p .end); list = rw e (p .list) }
 
+-- as many bytes as before
+pub placed-kept : {t out out1 : List ℕ} {k r : ℕ} → Placed t out k r out1 → length out1 ≡ length out
+placed-kept {t} {out} {k = k} p = ap length (p .list) ∙ length-sets out k t
+
 -- a text behind another
 pub placed-on : {t u out out1 out2 : List ℕ} {k i r : ℕ} → Placed t out k i out1 → Placed u out1 i r out2 → Placed (t ++ u) out k r out2
 placed-on {t} {u} {out} {k = k} p q = record {

@@ -1,17 +1,40 @@
--- What the walk over a program's steps keeps: its places in the list and in the text lie within them.
-use Prim.Native.Nat.{ℕ, _≤_}
-use native.Mathlib.Omega.{arith}
+-- What the walk over a program's steps has and gives (01, 'Bench rows'): the list holds the words of what is read, its lines have
+-- room, and after it the lines stand in the text.
+use Prim.Native.Nat.{ℕ, suc, _+_, _*_, _≤_}
 use mathlib.Core.Path.{_≡_}
-use mathlib.Core.List.{List}
+use mathlib.Core.List.{List, [], _∷_, _++_}
 use lib.ListN.{length}
-use Rattle.listing.specs.declared.steps.Listed.{Listed}
-use Rattle.listing.specs.declared.steps.Listed.the-variants.{Value, Stopped}
+use Rattle.program.specs.Reader.{Result}
+use Rattle.emit.specs.Written.{Good, next-of, code-of}
+use Rattle.listing.specs.declared.steps.Places.{Places}
+use Rattle.listing.specs.Listing.{Placed, line}
 
-abbrev pub Span : List ℕ → List ℕ → Listed → Type 0
-Span list out (Value m p k) = (p ≤ length list) × (k ≤ length out)
-Span list out Stopped = Unit {0}
+-- a line has at most that many bytes
+abbrev pub line-most : ℕ
+line-most = 111
 
--- a buffer of the same length
-pub span-as : (list out1 out : List ℕ) (r : Listed) → length out1 ≡ length out → Span list out1 r → Span list out r
-span-as list out1 out (Value m p k) e h = (h .0, omega (arith, h .1))
-span-as list out1 out Stopped e h = tt
+-- the lines of commands by their words
+unfoldable pub word-lines : ℕ → ℕ → ℕ → List ℕ → List ℕ
+word-lines k n i [] = []
+word-lines k n i (w ∷ ws) = line k n i w ++ word-lines k n (suc i) ws
+
+-- the words ws stand in the list from a place on
+pub record Holds (list : List ℕ) (place : ℕ) (ws : List ℕ) : Type 0 where
+  pub front : List ℕ
+  pub rest : List ℕ
+  pub parts : list ≡ front ++ (ws ++ rest)
+  pub before : place ≡ length front
+
+-- there is a value, the list holds its words from a place on, and there is room for their lines from k on
+pub record Walkable {A : Type 0} (f : A → List ℕ) (r : Result A) (list : List ℕ) (place : ℕ) (out : List ℕ) (k : ℕ) : Type 0 where
+  pub good : Good r
+  pub words : Holds list place (code-of f r)
+  pub room : k + line-most * length (code-of f r) ≤ length out
+
+-- the lines g of a value with the words f were written from k on; reading goes on behind the value, and the list behind its words
+pub record Walked {A : Type 0} (f g : A → List ℕ) (r : Result A) (place : ℕ) (out : List ℕ) (k : ℕ) (p : Places) (out' : List ℕ)
+    : Type 0 where
+  pub stream : p .stream ≡ next-of r
+  pub list : p .list ≡ place + length (code-of f r)
+  pub most : p .text ≤ k + line-most * length (code-of f r)
+  pub text : Placed (code-of g r) out k (p .text) out'

@@ -1,8 +1,6 @@
 // The lines of a program's steps: the stream gives each step's struct, name and size, the list its commands (01, 'Bench rows').
+// The stream was read before, so that its readers find a value.
 use crate::lines::line;
-use crate::lines::row;
-use exprs::read;
-use exprs::read::ByteRead;
 use facts::Scope;
 use plan::params;
 use plan::params::ParamsRead;
@@ -10,16 +8,22 @@ use stmts::StmtRead;
 use stmts::stmt;
 ghost use mathlib.Core.Path.{_≡_};
 ghost use Prim.Native.Nat.{_+_, _*_, _<_, _≤_, _^_};
-ghost use lib.ListN.{length};
-ghost use Rattle.listing.specs.Walk.{Span};
+ghost use lib.ListN.{length, take, drop};
+ghost use Rattle.program.specs.Reader.{read-step, read-steps, read};
+ghost use Rattle.emit.specs.Written.{code-of};
+ghost use Rattle.emit.specs.ProgramWords.{step-words, steps-words, structs-words, program-words, steps-at, structs-at};
+ghost use Rattle.listing.specs.Listing.{Placed};
+ghost use Rattle.listing.specs.Listings.{step-lines, steps-lines, structs-lines, program-lines};
+ghost use Rattle.listing.specs.Walk.{word-lines, Walkable, Walked};
 
-// The next place of the stream, of the list and of the text.
-pub enum Listed {
-    Value(usize, usize, usize),
-    Stopped,
+// Where the stream, the list and the text go on.
+pub struct Places {
+    pub stream: usize,
+    pub list: usize,
+    pub text: usize,
 }
 
-// The lines of n commands of a step.
+// The lines of n commands of a step, from a position on.
 fn commands(
     list: &[u64],
     place: usize,
@@ -31,6 +35,7 @@ fn commands(
     k: usize,
 ) -> usize
     requires { ⌜ (place + n ≤ length (now list)) × (k + 111 * n ≤ length (now out)) × (position + n < 2 ^ 64) ⌝ }
+    ensures { λ r. ⌜ Placed (word-lines of name position (take n (drop place (now (list .entry))))) (now (out .entry)) k r (now (out .exit)) ⌝ }
     ensures { λ r. ⌜ r ≤ k + 111 * n ⌝ }
 {
     if n == 0 {
@@ -38,30 +43,6 @@ fn commands(
     }
     let i = line(out, k, of, name, position, list[place]);
     commands(list, place + 1, n - 1, of, name, position + 1, out, i)
-}
-
-// The lines of a step with so many commands, where they fit.
-fn sized(
-    list: &[u64],
-    place: usize,
-    n: usize,
-    of: u8,
-    name: u8,
-    out: &mut [u8],
-    k: usize,
-    next: usize,
-) -> Listed
-    requires { ⌜ (place ≤ length (now list)) × (k ≤ length (now out)) ⌝ }
-    ensures { λ r. ⌜ Span (now (list .entry)) (now (out .entry)) r ⌝ }
-{
-    if list.len() - place < n {
-        return Listed::Stopped;
-    }
-    if (out.len() - k) / 111 < n {
-        return Listed::Stopped;
-    }
-    let i = commands(list, place, n, of, name, 0, out, k);
-    Listed::Value(next, place + n, i)
 }
 
 // The lines of the step at a place.
@@ -75,19 +56,33 @@ fn step(
     place: usize,
     out: &mut [u8],
     k: usize,
-) -> Listed
+) -> Places
     requires { ⌜ (length (now ar) ≤ 16) × (of < 16) ⌝ }
-    requires { ⌜ (place ≤ length (now list)) × (k ≤ length (now out)) ⌝ }
-    ensures { λ r. ⌜ Span (now (list .entry)) (now (out .entry)) r ⌝ }
+    requires { ⌜ Walkable step-words (read-step (now ar) (now s) at) (now list) place (now out) k ⌝ }
+    ensures { λ r. ⌜ Walked step-words (step-lines of) (read-step (now (ar .entry)) (now (s .entry)) at) place (now (out .entry)) k r (now (out .exit)) ⌝ }
 {
-    match read::ranged(s, 0, 32, at) {
-        ByteRead::NoByte(_) => Listed::Stopped,
-        ByteRead::Byte(name, m) => {
-            match stmt::body(s, ar, types, of, Scope { live: 0, seen: 0 }, m, 8) {
-                StmtRead::Refused(_) => Listed::Stopped,
-                StmtRead::Value(next, d) => sized(list, place, d.size, of, name, out, k, next),
-            }
-        }
+    let name = s[at];
+    let StmtRead::Value(next, d) = stmt::body(
+        s,
+        ar,
+        types,
+        of,
+        Scope { live: 0, seen: 0 },
+        at + 1,
+        8,
+    ) else {
+        return Places {
+            stream: at,
+            list: place,
+            text: k,
+        };
+    };
+    let n = d.size;
+    let i = commands(list, place, n, of, name, 0, out, k);
+    Places {
+        stream: next,
+        list: place + n,
+        text: i,
     }
 }
 
@@ -103,18 +98,23 @@ fn steps(
     place: usize,
     out: &mut [u8],
     k: usize,
-) -> Listed
+) -> Places
     requires { ⌜ (length (now ar) ≤ 16) × (of < 16) ⌝ }
-    requires { ⌜ (place ≤ length (now list)) × (k ≤ length (now out)) ⌝ }
-    ensures { λ r. ⌜ Span (now (list .entry)) (now (out .entry)) r ⌝ }
+    requires { ⌜ Walkable steps-words (steps-at (now ar) (now s) n at) (now list) place (now out) k ⌝ }
+    ensures { λ r. ⌜ Walked steps-words (steps-lines of) (steps-at (now (ar .entry)) (now (s .entry)) n at) place (now (out .entry)) k r (now (out .exit)) ⌝ }
 {
     if n == 0 {
-        return Listed::Value(at, place, k);
+        return Places {
+            stream: at,
+            list: place,
+            text: k,
+        };
     }
-    match step(s, ar, types, of, at, list, place, out, k) {
-        Listed::Stopped => Listed::Stopped,
-        Listed::Value(m, p, i) => steps(s, ar, types, of, n - 1, m, list, p, out, i),
-    }
+    let p = step(s, ar, types, of, at, list, place, out, k);
+    let next = p.stream;
+    let behind = p.list;
+    let i = p.text;
+    steps(s, ar, types, of, n - 1, next, list, behind, out, i)
 }
 
 // The lines of a struct's steps.
@@ -128,19 +128,16 @@ fn of_struct(
     place: usize,
     out: &mut [u8],
     k: usize,
-) -> Listed
+) -> Places
     requires { ⌜ (length (now ar) ≤ 16) × (of < 16) ⌝ }
-    requires { ⌜ (place ≤ length (now list)) × (k ≤ length (now out)) ⌝ }
-    ensures { λ r. ⌜ Span (now (list .entry)) (now (out .entry)) r ⌝ }
+    requires { ⌜ Walkable steps-words (read-steps (now ar) (now s) at) (now list) place (now out) k ⌝ }
+    ensures { λ r. ⌜ Walked steps-words (steps-lines of) (read-steps (now (ar .entry)) (now (s .entry)) at) place (now (out .entry)) k r (now (out .exit)) ⌝ }
 {
-    match read::ranged(s, 0, 9, at) {
-        ByteRead::NoByte(_) => Listed::Stopped,
-        ByteRead::Byte(n, m) => steps(s, ar, types, of, n, m, list, place, out, k),
-    }
+    steps(s, ar, types, of, s[at], at + 1, list, place, out, k)
 }
 
-// The lines of the steps of n structs, from the struct k on.
-pub fn structs(
+// The lines of the steps of n structs, from a struct on.
+fn structs(
     s: &[u8],
     ar: &[u8],
     types: &[u8],
@@ -151,66 +148,37 @@ pub fn structs(
     place: usize,
     out: &mut [u8],
     k: usize,
-) -> Listed
+) -> Places
     requires { ⌜ (length (now ar) ≤ 16) × (of + n ≤ 16) ⌝ }
-    requires { ⌜ (place ≤ length (now list)) × (k ≤ length (now out)) ⌝ }
-    ensures { λ r. ⌜ Span (now (list .entry)) (now (out .entry)) r ⌝ }
+    requires { ⌜ Walkable structs-words (structs-at (now ar) (now s) n at) (now list) place (now out) k ⌝ }
+    ensures { λ r. ⌜ Walked structs-words (structs-lines of) (structs-at (now (ar .entry)) (now (s .entry)) n at) place (now (out .entry)) k r (now (out .exit)) ⌝ }
 {
     if n == 0 {
-        return Listed::Value(at, place, k);
+        return Places {
+            stream: at,
+            list: place,
+            text: k,
+        };
     }
-    match of_struct(s, ar, types, of, at, list, place, out, k) {
-        Listed::Stopped => Listed::Stopped,
-        Listed::Value(m, p, i) => structs(s, ar, types, of + 1, n - 1, m, list, p, out, i),
-    }
+    let p = of_struct(s, ar, types, of, at, list, place, out, k);
+    let next = p.stream;
+    let behind = p.list;
+    let i = p.text;
+    structs(s, ar, types, of + 1, n - 1, next, list, behind, out, i)
 }
 
-// The lines of all steps; 0 where the stream, the list and the text do not go together.
-fn all(
-    s: &[u8],
-    counts: &[u8],
-    types: &[u8],
-    n: u8,
-    at: usize,
-    list: &[u64],
-    out: &mut [u8],
-    k: usize,
-) -> usize
-    requires { ⌜ (length (now counts) ≡ 16) × (length (now types) ≡ 128) × (n ≤ 16) ⌝ }
-    requires { ⌜ k ≤ length (now out) ⌝ }
-    ensures { λ r. ⌜ r ≤ length (now (out .exit)) ⌝ }
-{
-    let count = n as usize;
-    let end = 8 * count;
-    match structs(
-        s,
-        &counts[..count],
-        &types[..end],
-        0,
-        n,
-        at,
-        list,
-        0,
-        out,
-        k,
-    ) {
-        Listed::Stopped => 0,
-        Listed::Value(_, _, i) => i,
-    }
-}
-
-// The listing of a program stream, whose commands the list holds: a line of the four numbers of its head, and a line for each command.
-pub fn program(s: &[u8], list: &[u64], head: &[u64; 4], out: &mut [u8]) -> usize
-    requires { ⌜ 128 ≤ length (now out) ⌝ }
-    ensures { λ r. ⌜ r ≤ length (now (out .exit)) ⌝ }
+// The lines of all steps of a program stream, whose commands the list holds from its first place on.
+pub fn program(s: &[u8], list: &[u64], out: &mut [u8], k: usize) -> usize
+    requires { ⌜ Walkable program-words (read (now s)) (now list) 0 (now out) k ⌝ }
+    ensures { λ r. ⌜ Placed (code-of program-lines (read (now (s .entry)))) (now (out .entry)) k r (now (out .exit)) ⌝ }
+    ensures { λ r. ⌜ r ≤ length (now (out .entry)) ⌝ }
 {
     let mut counts = [0u8; 16];
     let mut types = [0u8; 128];
-    match params::params(s, &mut counts, &mut types) {
-        ParamsRead::Refused(_) => 0,
-        ParamsRead::Value(at, n) => {
-            let k = row(out, 0, b"audala", head);
-            all(s, &counts, &types, n, at, list, out, k)
-        }
-    }
+    let ParamsRead::Value(at, n) = params::params(s, &mut counts, &mut types) else {
+        return k;
+    };
+    let count = n as usize;
+    let p = structs(s, &counts[..count], &types, 0, n, at, list, 0, out, k);
+    p.text
 }

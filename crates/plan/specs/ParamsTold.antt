@@ -25,6 +25,15 @@ abbrev pub params-told : Result (List (List Ty)) → ParamsRead
 params-told (ok tss m) = Value m (length tss)
 params-told (bad p n) = Refused n
 
+-- the number of a refusal; of a value, 0
+abbrev pub place-refusal : PlaceRead → ℕ
+place-refusal (Place m) = 0
+place-refusal (NoPlace n) = n
+
+abbrev pub params-refusal : ParamsRead → ℕ
+params-refusal (Value m k) = 0
+params-refusal (Refused n) = n
+
 -- the next place lies from there on
 abbrev pub PlaceSpan : List ℕ → ℕ → PlaceRead → Type 0
 PlaceSpan s at (Place m) = (at ≤ m) × (m ≤ length s)

@@ -24,6 +24,11 @@ abbrev pub after : (Plan → Plan) → PlanRead → PlanRead
 after h (Value n p) = Value n (planned (h (plan (p .count) (p .fault))))
 after h (Refused k) = Refused k
 
+-- the number of a refusal; of a value, 0
+abbrev pub plan-refusal : PlanRead → ℕ
+plan-refusal (Value m p) = 0
+plan-refusal (Refused n) = n
+
 -- a Fix is one item more than those inside
 unfoldable pub fixed : Plan → Plan
 fixed p = plan (suc (p .count)) (p .fault)

@@ -6,7 +6,7 @@ ghost use mathlib.Core.List.{[], _∷_};
 ghost use Prim.Native.Nat.{_+_, _*_, _≤_};
 ghost use lib.ListN.{length};
 ghost use Rattle.program.specs.Reader.{many, read-type, read-params};
-ghost use Rattle.plan.specs.ParamsTold.{read-list, place-told, params-told, RowKept, ListKept, ListsKept, ParamsKept, PlaceSpan, ParamsSpan};
+ghost use Rattle.plan.specs.ParamsTold.{read-list, place-told, params-told, place-refusal, params-refusal, RowKept, ListKept, ListsKept, ParamsKept, PlaceSpan, ParamsSpan};
 
 // The next place.
 pub enum PlaceRead {
@@ -18,6 +18,28 @@ pub enum PlaceRead {
 pub enum ParamsRead {
     Value(usize, u8),
     Refused(u8),
+}
+
+// The places of one struct's types.
+const ROOM: u8 = types::MAX_PARAMS as u8;
+
+// The number of a refusal, for a reader whose own answer is of another type; 0 where a value was read.
+fn place_refusal(r: PlaceRead) -> u8
+    ensures { λ n. ⌜ n ≡ place-refusal r ⌝ }
+{
+    let PlaceRead::NoPlace(n) = r else {
+        return 0;
+    };
+    n
+}
+
+pub fn params_refusal(r: ParamsRead) -> u8
+    ensures { λ n. ⌜ n ≡ params-refusal r ⌝ }
+{
+    let ParamsRead::Refused(n) = r else {
+        return 0;
+    };
+    n
 }
 
 // n types of a program with that many structs: their bytes, and zeros for the rest of the room.
@@ -42,13 +64,12 @@ fn row(
         types[place] = 0;
         return row(s, types, structs, 0, room - 1, place + 1, at);
     }
-    match read::type_byte(s, structs as usize, at) {
-        ByteRead::NoByte(e) => PlaceRead::NoPlace(e),
-        ByteRead::Byte(b, m) => {
-            types[place] = b;
-            row(s, types, structs, n - 1, room - 1, place + 1, m)
-        }
-    }
+    let r = read::type_byte(s, structs as usize, at);
+    let ByteRead::Byte(b, m) = r else {
+        return PlaceRead::NoPlace(read::byte_refusal(r));
+    };
+    types[place] = b;
+    row(s, types, structs, n - 1, room - 1, place + 1, m)
 }
 
 // The parameters of struct k.
@@ -58,13 +79,20 @@ fn list(s: &[u8], counts: &mut [u8], types: &mut [u8], structs: u8, k: u8, at: u
     ensures { λ r. ⌜ PlaceSpan (now (s .entry)) at r ⌝ }
     ensures { λ _. ⌜ ListKept k (now (counts .entry)) (now (counts .exit)) (now (types .entry)) (now (types .exit)) (read-list (now (s .entry)) structs at) ⌝ }
 {
-    match read::ranged(s, 0, 9, at) {
-        ByteRead::NoByte(e) => PlaceRead::NoPlace(e),
-        ByteRead::Byte(n, m) => {
-            counts[k as usize] = n;
-            row(s, types, structs, n, 8, 8 * k as usize, m)
-        }
-    }
+    let r = read::ranged(s, 0, types::MAX_PARAMS + 1, at);
+    let ByteRead::Byte(n, m) = r else {
+        return PlaceRead::NoPlace(read::byte_refusal(r));
+    };
+    counts[k as usize] = n;
+    row(
+        s,
+        types,
+        structs,
+        n,
+        ROOM,
+        types::MAX_PARAMS * k as usize,
+        m,
+    )
 }
 
 // The parameters of n structs, from struct k on.
@@ -99,11 +127,13 @@ pub fn params(s: &[u8], counts: &mut [u8], types: &mut [u8]) -> ParamsRead
     ensures { λ r. ⌜ ParamsSpan (now (s .entry)) r ⌝ }
     ensures { λ _. ⌜ ParamsKept (now (counts .entry)) (now (counts .exit)) (now (types .entry)) (now (types .exit)) (read-params (now (s .entry)) 0) ⌝ }
 {
-    match read::ranged(s, 1, 17, 0) {
-        ByteRead::NoByte(e) => ParamsRead::Refused(e),
-        ByteRead::Byte(n, m) => match lists(s, counts, types, n, n, 0, m) {
-            PlaceRead::NoPlace(e) => ParamsRead::Refused(e),
-            PlaceRead::Place(next) => ParamsRead::Value(next, n),
-        },
-    }
+    let r = read::ranged(s, 1, types::MAX_STRUCTS + 1, 0);
+    let ByteRead::Byte(n, m) = r else {
+        return ParamsRead::Refused(read::byte_refusal(r));
+    };
+    let q = lists(s, counts, types, n, n, 0, m);
+    let PlaceRead::Place(next) = q else {
+        return ParamsRead::Refused(place_refusal(q));
+    };
+    ParamsRead::Value(next, n)
 }

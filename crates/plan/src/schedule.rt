@@ -10,7 +10,7 @@ ghost use Rattle.program.specs.Tree.{Item.call, Items.stop, Items.item};
 ghost use Rattle.program.specs.Reader.{made, many, ranged, read-items, read-item};
 ghost use Rattle.facts.specs.Facts.{named};
 ghost use Rattle.facts.specs.ProgramFacts.{plan, joined, had, item-plan, items-plan};
-ghost use Rattle.plan.specs.PlanTold.{planned, told, fixed, read-call-in, after, Ahead, Within, Room};
+ghost use Rattle.plan.specs.PlanTold.{planned, told, plan-refusal, fixed, read-call-in, after, Ahead, Within, Room};
 
 // How many items, those inside a Fix among them, and a fault, 0 or 7.
 pub struct Planned {
@@ -24,6 +24,16 @@ pub enum PlanRead {
     Refused(u8),
 }
 
+// The number of a refusal, for a reader whose own answer is of another type; 0 where a value was read.
+pub fn plan_refusal(r: PlanRead) -> u8
+    ensures { λ n. ⌜ n ≡ plan-refusal r ⌝ }
+{
+    let PlanRead::Refused(n) = r else {
+        return 0;
+    };
+    n
+}
+
 // Whether some of the c structs from struct k on has the step n.
 fn had(has: &[u8], n: u8, k: u8, c: u8) -> bool
     requires { ⌜ k + c < 256 ⌝ }
@@ -32,7 +42,7 @@ fn had(has: &[u8], n: u8, k: u8, c: u8) -> bool
     if c == 0 {
         return false;
     }
-    if facts::path::look(has, 32 * k as usize + n as usize) != 0 {
+    if facts::path::look(has, types::STEP_NAMES * k as usize + n as usize) != 0 {
         return true;
     }
     had(has, n, k + 1, c - 1)
@@ -53,10 +63,11 @@ fn call(s: &[u8], has: &[u8], structs: u8, at: usize) -> PlanRead
     ensures { λ r. ⌜ r ≡ told (item-plan (now (has .entry)) structs) (made call (ranged (now (s .entry)) 0 32 at)) ⌝ }
     ensures { λ r. ⌜ Ahead (now (s .entry)) at r ⌝ }
 {
-    match read::ranged(s, 0, 32, at) {
-        ByteRead::NoByte(e) => PlanRead::Refused(e),
-        ByteRead::Byte(n, m) => PlanRead::Value(m, one(had(has, n, 0, structs))),
-    }
+    let r = read::ranged(s, 0, types::STEP_NAMES, at);
+    let ByteRead::Byte(n, m) = r else {
+        return PlanRead::Refused(read::byte_refusal(r));
+    };
+    PlanRead::Value(m, one(had(has, n, 0, structs)))
 }
 
 // A step of one struct.
@@ -64,16 +75,16 @@ fn call_in(s: &[u8], has: &[u8], structs: u8, at: usize) -> PlanRead
     ensures { λ r. ⌜ r ≡ told (item-plan (now (has .entry)) structs) (read-call-in (now (s .entry)) structs at) ⌝ }
     ensures { λ r. ⌜ Ahead (now (s .entry)) at r ⌝ }
 {
-    match read::ranged(s, 0, structs as usize, at) {
-        ByteRead::NoByte(e) => PlanRead::Refused(e),
-        ByteRead::Byte(k, m) => match read::ranged(s, 0, 32, m) {
-            ByteRead::NoByte(e) => PlanRead::Refused(e),
-            ByteRead::Byte(n, next) => {
-                let there = facts::path::look(has, 32 * k as usize + n as usize);
-                PlanRead::Value(next, one(there != 0))
-            }
-        },
-    }
+    let r = read::ranged(s, 0, structs as usize, at);
+    let ByteRead::Byte(k, m) = r else {
+        return PlanRead::Refused(read::byte_refusal(r));
+    };
+    let q = read::ranged(s, 0, types::STEP_NAMES, m);
+    let ByteRead::Byte(n, next) = q else {
+        return PlanRead::Refused(read::byte_refusal(q));
+    };
+    let there = facts::path::look(has, types::STEP_NAMES * k as usize + n as usize);
+    PlanRead::Value(next, one(there != 0))
 }
 
 // A Fix around what was read.
@@ -156,8 +167,9 @@ pub fn items(s: &[u8], has: &[u8], structs: u8, at: usize, depth: usize) -> Plan
     ensures { λ r. ⌜ ((ar : List ℕ) → length ar ≡ structs → r ≡ told (items-plan (now (has .entry)) structs) (read-items ar (now (s .entry)) (read-item ar (now (s .entry)) depth) at)) ⌝ }
     ensures { λ r. ⌜ Ahead (now (s .entry)) at r ⌝ }
 {
-    match read::ranged(s, 1, 33, at) {
-        ByteRead::NoByte(e) => PlanRead::Refused(e),
-        ByteRead::Byte(n, m) => following(s, has, structs, n, m, depth),
-    }
+    let r = read::ranged(s, 1, types::MAX_ITEMS + 1, at);
+    let ByteRead::Byte(n, m) = r else {
+        return PlanRead::Refused(read::byte_refusal(r));
+    };
+    following(s, has, structs, n, m, depth)
 }

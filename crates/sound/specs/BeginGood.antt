@@ -64,7 +64,7 @@ null-at k [] j h = absurd (omega arith)
 null-at k (ts ∷ tss) zero h = rw add-zero
 null-at k (ts ∷ tss) (suc j) h = rw (add-suc, ← suc-add) (null-at (suc k) tss j (omega arith))
 
-elem-below : {A : Type 0} (l : List A) (n : ℕ) (a : A) → getElem? l n ≡ some a → n < length l
+pub elem-below : {A : Type 0} (l : List A) (n : ℕ) (a : A) → getElem? l n ≡ some a → n < length l
 elem-below [] n a e = none-some e
 elem-below (x ∷ l) zero a e = omega arith
 elem-below (x ∷ l) (suc n) a e = omega (arith, elem-below l n a e)

@@ -20,19 +20,20 @@ is-local : (y : ℕ) → first-local + y - first-local ≡ y
 is-local y = omega arith
 
 module _ (ps : List Val) (ls : List (Option Val)) where
-  param-at : (v : ℕ) → v < first-local → lookup (env ps ls) v ≡ getElem? ps v
+  -- a parameter and a local, where they stand
+  pub param-at : (v : ℕ) → v < first-local → lookup (env ps ls) v ≡ getElem? ps v
   unfolding lookup
   param-at v h = rw (lookup, lt-ltb v first-local h)
 
-  local-at : (y : ℕ) → lookup (env ps ls) (first-local + y) ≡ getD ls y none
+  pub local-at : (y : ℕ) → lookup (env ps ls) (first-local + y) ≡ getD ls y none
   unfolding lookup
   local-at y = rw (lookup, le-ltb (first-local + y) first-local (omega arith), is-local y)
 
-  param-set : (v : ℕ) (x : Val) → v < first-local → assign (env ps ls) v x ≡ env (set ps v x) ls
+  pub param-set : (v : ℕ) (x : Val) → v < first-local → assign (env ps ls) v x ≡ env (set ps v x) ls
   unfolding assign
   param-set v x h = rw (assign, lt-ltb v first-local h)
 
-  local-set : (y : ℕ) (x : Val) → assign (env ps ls) (first-local + y) x ≡ env ps (set ls y (some x))
+  pub local-set : (y : ℕ) (x : Val) → assign (env ps ls) (first-local + y) x ≡ env ps (set ls y (some x))
   unfolding assign
   local-set y x = rw (assign, le-ltb (first-local + y) first-local (omega arith), is-local y)
 

@@ -1,4 +1,4 @@
--- What commands carry beside types (01, 'Program stream'): literals in their range, null labels, the numbers of locals.
+-- What commands carry beside types (01, 'Program stream'): literals in their range, null labels, the numbers of locals and structs.
 use Prim.Native.Nat.{ℕ, _<_}
 use mathlib.Core.Bool.{Bool}
 use mathlib.Core.List.{List, [], _∷_}
@@ -24,7 +24,7 @@ Sized S (n-rd k x) = Unit {0}
 Sized S (n-wr k x) = Unit {0}
 Sized S (n-get t x) = Unit {0}
 Sized S (n-set d t x) = x < first-local
-Sized S (n-cons k) = Unit {0}
+Sized S (n-cons k) = k < S
 Sized S (n-op o) = Unit {0}
 Sized S (n-if n) = Unit {0}
 

@@ -76,7 +76,7 @@ module _ (ar : List ℕ) (G : Ctx) where
 
     expr-small : (e : Expr) {c : List Note} → CountsExpr ar e → Small c → Small (note-expr e G c)
     expr-small (inv e) n s = expr-small e n (more tt s)
-    expr-small (make k es) n s = exprs-small es (n .2) (more tt s)
+    expr-small (make k es) n s = exprs-small es (n .2) (more (n .0) s)
     expr-small (path v vs) n s = read-small v vs s
     expr-small (int-lit w) n s = more (an-int (word-range w n)) s
     expr-small (nat-lit w) n s = more (a-nat n) s
@@ -96,7 +96,7 @@ module _ (ar : List ℕ) (G : Ctx) where
     stmt-small (when e b) n s = expr-small e (n .0) (more tt (body-small b (n .3) s))
     stmt-small (declare t x e) n s = expr-small e (n .2) (more tt (more (n .1) s))
     stmt-small (update v vs e) n s = expr-small e (n .1) (write-small v vs (n .0) s)
-    stmt-small (create k es) n s = exprs-small es (n .2) (more tt s)
+    stmt-small (create k es) n s = exprs-small es (n .2) (more (n .0) s)
 
     body-small : (b : Stmts) {c : List Note} → CountsStmts ar b → Small c → Small (note-body b G c)
     body-small end n s = s

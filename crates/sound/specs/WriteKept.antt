@@ -60,7 +60,7 @@ param-written p firm is r j k ξ s e v x h o g =
         })
 
 -- the instance at a place, after another was put back with its struct and environment
-same-env : (is : List Instance) (l r : ℕ) (i j a : Instance) → getElem? is l ≡ some i → getElem? is r ≡ some j → a .struct ≡ i .struct → a .env ≡ i .env
+pub same-env : (is : List Instance) (l r : ℕ) (i j a : Instance) → getElem? is l ≡ some i → getElem? is r ≡ some j → a .struct ≡ i .struct → a .env ≡ i .env
     → (j′ : Instance) × (getElem? (set is l a) r ≡ some j′) × (j′ .struct ≡ j .struct) × (j′ .env ≡ j .env)
 same-env is l r i j a at at′ s e = go (ℕ-discrete r l)
   where

@@ -19,32 +19,41 @@ slice-aggregate-program-2 c = search needs
 program-requires : tie.Need-program-requires
 program-requires c κs = search needs
 
-enum-known-e : tie.Need-enum-known-e
-enum-known-e c = search needs
+enum-known-r : tie.Need-enum-known-r
+enum-known-r c = search needs
+
+enum-told : tie.Need-enum-told
+enum-told c = search needs
+
+program-refusal-requires : tie.Need-program-refusal-requires
+program-refusal-requires c κs = search needs
 
 refused-requires : tie.Need-refused-requires
 refused-requires c κs = search needs
 
-enum-known-at : tie.Need-enum-known-at
-enum-known-at c = search needs
+returns : tie.Need-returns
+returns c = let a = (c .before .before .before .before .before .before .before .before .before .before .before .args) in
+    let s = a .s .now in
+    let w = refused-answers (of-read (read s)) _ (a .list .now) (stream-stops s _ (sym ((c .before .before .before .before .before .before .program) .ensures .0) ∙ (c .before .before .enum-told) .given .1)) in
+    ((rw ((c .before .program-refusal) .ensures, (c .before .before .enum-told) .given .1) at ((c .refused) .ensures)) ∙ ap answer (w .0), w .1)
 
 refused-requires-2 : tie.Need-refused-requires-2
 refused-requires-2 c κs = search needs
 
-returns : tie.Need-returns
-returns c = let a = (c .before .before .before .before .before .before .before .before .before .before .before .before .before .args) in
+returns-2 : tie.Need-returns-2
+returns-2 c = let a = (c .before .before .before .before .before .before .before .before .before .before .before .before .before .args) in
     let s = a .s .now in
-    let b = stream-value s _ _ (sym ((c .before .before .before .before .before .before .before .before .program) .ensures .0) ∙ (c .before .before .before .before .at) .given .1) in
+    let b = stream-value s _ _ (sym ((c .before .before .before .before .before .before .before .before .program) .ensures .0) ∙ (c .before .before .before .before .r) .given .1) in
     let w = refused-answers (of-read (read s)) _ (a .list .now) (numbered s _ _ b ((c .before .if1) .taken)) in
     ((c .refused2) .ensures ∙ ap answer (w .0), w .1)
 
 refused-requires-3 : tie.Need-refused-requires-3
 refused-requires-3 c κs = search needs
 
-returns-2 : tie.Need-returns-2
-returns-2 c = let a = (c .before .before .before .before .before .before .before .before .before .before .before .before .before .before .args) in
+returns-3 : tie.Need-returns-3
+returns-3 c = let a = (c .before .before .before .before .before .before .before .before .before .before .before .before .before .before .args) in
     let s = a .s .now in
-    let b = stream-value s _ _ (sym ((c .before .before .before .before .before .before .before .before .before .program) .ensures .0) ∙ (c .before .before .before .before .before .at) .given .1) in
+    let b = stream-value s _ _ (sym ((c .before .before .before .before .before .before .before .before .before .program) .ensures .0) ∙ (c .before .before .before .before .before .r) .given .1) in
     let w = short-answers (of-read (read s)) (b .program) (a .list .now) (passed s _ _ b ((c .before .before .if1) .left)) ((c .before .if2) .taken) in
     ((c .refused3) .ensures ∙ ap answer (w .0), w .1)
 
@@ -52,25 +61,19 @@ cast-n : tie.Need-cast-n
 cast-n c = search needs
 
 array-share-prefix-counts : tie.Need-array-share-prefix-counts
-array-share-prefix-counts c = let l = few ((c .before .before .before .before .before .before .before .before .before .before .before .before .before .before .args) .s .now) _ _ (stream-value ((c .before .before .before .before .before .before .before .before .before .before .before .before .before .before .args) .s .now) _ _ (sym ((c .before .before .before .before .before .before .before .before .before .program) .ensures .0) ∙ (c .before .before .before .before .before .at) .given .1)) in omega (arith, (c .before .before .before .before .before .before .before .before .before .program) .kept .1 .0)
+array-share-prefix-counts c = let l = few ((c .before .before .before .before .before .before .before .before .before .before .before .before .before .before .args) .s .now) _ _ (stream-value ((c .before .before .before .before .before .before .before .before .before .before .before .before .before .before .args) .s .now) _ _ (sym ((c .before .before .before .before .before .before .before .before .before .program) .ensures .0) ∙ (c .before .before .before .before .before .r) .given .1)) in omega (arith, (c .before .before .before .before .before .before .before .before .before .program) .kept .1 .0)
 
 slice-aggregate-program-3 : tie.Need-slice-aggregate-program-3
-slice-aggregate-program-3 c = let l = few ((c .before .before .before .before .before .before .before .before .before .before .before .before .before .before .before .args) .s .now) _ _ (stream-value ((c .before .before .before .before .before .before .before .before .before .before .before .before .before .before .before .args) .s .now) _ _ (sym ((c .before .before .before .before .before .before .before .before .before .before .program) .ensures .0) ∙ (c .before .before .before .before .before .before .at) .given .1)) in sym (length-take-le _ _ (omega (arith, (c .before .before .before .before .before .before .before .before .before .before .program) .kept .1 .0)))
+slice-aggregate-program-3 c = let l = few ((c .before .before .before .before .before .before .before .before .before .before .before .before .before .before .before .args) .s .now) _ _ (stream-value ((c .before .before .before .before .before .before .before .before .before .before .before .before .before .before .before .args) .s .now) _ _ (sym ((c .before .before .before .before .before .before .before .before .before .before .program) .ensures .0) ∙ (c .before .before .before .before .before .before .r) .given .1)) in sym (length-take-le _ _ (omega (arith, (c .before .before .before .before .before .before .before .before .before .before .program) .kept .1 .0)))
 
 program-requires-2 : tie.Need-program-requires-2
 program-requires-2 c κs = let s = (c .before .before .before .before .before .before .before .before .before .before .before .before .before .before .before .before .args) .s .now in
-    let b = stream-value s _ _ (sym ((c .before .before .before .before .before .before .before .before .before .before .before .program) .ensures .0) ∙ (c .before .before .before .before .before .before .before .at) .given .1) in
+    let b = stream-value s _ _ (sym ((c .before .before .before .before .before .before .before .before .before .before .before .program) .ensures .0) ∙ (c .before .before .before .before .before .before .before .r) .given .1) in
     ready s _ _ b _ _ _ _ ((c .before .before .before .before .before .before .before .before .before .before .before .program) .ensures .1) ((c .before .before .before .before .if1) .left) ((c .before .before .before .before .before .before .before .before .before .before .before .before .before .before .before .before .args) .list .now) ((c .before .before .before .if2) .left)
 
 accepted-requires : tie.Need-accepted-requires
 accepted-requires c κs = let s = (c .before .before .before .before .before .before .before .before .before .before .before .before .before .before .before .before .before .before .before .args) .s .now in
-    small s _ _ (stream-value s _ _ (sym ((c .before .before .before .before .before .before .before .before .before .before .before .before .before .before .program) .ensures .0) ∙ (c .before .before .before .before .before .before .before .before .before .before .at) .given .1)) ((c .before .before .before .before .before .before .before .if1) .left)
-
-returns-3 : tie.Need-returns-3
-returns-3 c = let a = (c .before .before .before .before .before .before .before .before .before .before .before .args) in
-    let s = a .s .now in
-    let w = refused-answers (of-read (read s)) _ (a .list .now) (stream-stops s _ (sym ((c .before .before .before .before .before .before .program) .ensures .0) ∙ (c .before .before .e) .given .1)) in
-    ((c .refused) .ensures ∙ ap answer (w .0), w .1)
+    small s _ _ (stream-value s _ _ (sym ((c .before .before .before .before .before .before .before .before .before .before .before .before .before .before .program) .ensures .0) ∙ (c .before .before .before .before .before .before .before .before .before .before .r) .given .1)) ((c .before .before .before .before .before .before .before .if1) .left)
 
 same-length : tie.Need-same-length
 same-length c = search needs
@@ -78,7 +81,7 @@ same-length c = search needs
 returns-4 : tie.Need-returns-4
 returns-4 c = let a = (c .before .before .before .before .before .before .before .before .before .before .before .before .before .before .before .before .before .before .before .before .args) in
     let s = a .s .now in
-    let b = stream-value s _ _ (sym ((c .before .before .before .before .before .before .before .before .before .before .before .before .before .before .before .program) .ensures .0) ∙ (c .before .before .before .before .before .before .before .before .before .before .before .at) .given .1) in
+    let b = stream-value s _ _ (sym ((c .before .before .before .before .before .before .before .before .before .before .before .before .before .before .before .program) .ensures .0) ∙ (c .before .before .before .before .before .before .before .before .before .before .before .r) .given .1) in
     let w = room-answers (of-read (read s)) (b .program) (a .list .now) (passed s _ _ b ((c .before .before .before .before .before .before .before .before .if1) .left)) ((c .before .before .before .before .before .before .before .if2) .left) in (
       (c .accepted) .ensures ∙ approved-is s _ _ b ∙ ap answer (w .0),
       wrote s _ _ b _ _ _ _ ((c .before .before .before .before .before .before .before .before .before .before .before .before .before .before .before .program) .ensures .1) ((c .before .before .before .before .before .before .before .before .if1) .left) (a .list .now) ((c .before .before .before .before .before .before .before .if2) .left) _ _ ((c .before .before .before .program2) .ensures .0) ∙ w .1,
@@ -91,18 +94,19 @@ stream-spec =
     slice-aggregate-program
     slice-aggregate-program-2
     program-requires
-    enum-known-e
+    enum-known-r
+    enum-told
+    program-refusal-requires
     refused-requires
-    enum-known-at
-    refused-requires-2
     returns
-    refused-requires-3
+    refused-requires-2
     returns-2
+    refused-requires-3
+    returns-3
     cast-n
     array-share-prefix-counts
     slice-aggregate-program-3
     program-requires-2
     accepted-requires
-    returns-3
     same-length
     returns-4)

@@ -10,33 +10,14 @@ use Rattle.checker.proofs.whole.program.Tie as tie
 params-requires : tie.Need-params-requires
 params-requires c κs = search needs
 
-enum-known-e : tie.Need-enum-known-e
-enum-known-e c = search needs
+enum-known-r : tie.Need-enum-known-r
+enum-known-r c = search needs
 
-enum-known-at : tie.Need-enum-known-at
-enum-known-at c = search needs
+enum-told : tie.Need-enum-told
+enum-told c = search needs
 
-cast-n : tie.Need-cast-n
-cast-n c = search needs
-
-mul-end : tie.Need-mul-end
-mul-end c = search needs
-
-slice-reshare-prefix-rest : tie.Need-slice-reshare-prefix-rest
-slice-reshare-prefix-rest c = let span = rw ((c .before .at) .given .1) at ((c .before .before .before .before .before .before .before .params) .ensures .1 .0) in omega (arith, (c .before .before .before .before .before .before .before .params) .kept .1 .0, (c .before .before .before .before .before .before .before .before .before .before .before .before .before .pre))
-
-slice-aggregate-rest : tie.Need-slice-aggregate-rest
-slice-aggregate-rest c = let span = rw ((c .before .before .at) .given .1) at ((c .before .before .before .before .before .before .before .before .params) .ensures .1 .0) in sym (length-take-le _ _ (omega (arith, (c .before .before .before .before .before .before .before .before .params) .kept .1 .0, (c .before .before .before .before .before .before .before .before .before .before .before .before .before .before .pre))))
-
-slice-reshare-prefix-rest-2 : tie.Need-slice-reshare-prefix-rest-2
-slice-reshare-prefix-rest-2 c = let span = rw ((c .before .before .at) .given .1) at ((c .before .before .before .before .before .before .before .before .params) .ensures .1 .0) in omega (arith, (c .before .before .before .before .before .before .before .before .params) .kept .1 .1 .0, (c .before .before .before .before .before .before .before .before .before .before .before .before .before .before .pre))
-
-slice-aggregate-rest-2 : tie.Need-slice-aggregate-rest-2
-slice-aggregate-rest-2 c = let span = rw ((c .before .before .before .at) .given .1) at ((c .before .before .before .before .before .before .before .before .before .params) .ensures .1 .0) in sym (length-take-le _ _ (omega (arith, (c .before .before .before .before .before .before .before .before .before .params) .kept .1 .1 .0, (c .before .before .before .before .before .before .before .before .before .before .before .before .before .before .before .pre))))
-
-rest-requires : tie.Need-rest-requires
-rest-requires c κs = let span = rw ((c .before .before .before .at) .given .1) at ((c .before .before .before .before .before .before .before .before .before .params) .ensures .1 .0) in
-    (length-take-le _ _ (omega (arith, (c .before .before .before .before .before .before .before .before .before .params) .kept .1 .0, (c .before .before .before .before .before .before .before .before .before .before .before .before .before .before .before .pre))), span .1, span .2)
+params-refusal-requires : tie.Need-params-refusal-requires
+params-refusal-requires c κs = search needs
 
 same-length : tie.Need-same-length
 same-length c = search needs
@@ -46,7 +27,30 @@ same-length-2 c = search needs
 
 returns : tie.Need-returns
 returns c = let a = (c .before .before .before .before .before .before .before .before .before .before .before .before .before .args) in
-    (sym (program-stop (a .s .now) _ (sym ((c .before .before .before .before .before .before .before .params) .ensures .0) ∙ (c .before .e) .given .1)), (c .before .before .before .before .before .before .before .params) .ensures .1 .1)
+    let e = sym ((c .before .before .before .before .before .before .before .params) .ensures .0) ∙ (c .before .enum-told) .given .1 in
+    rw ((c .params-refusal) .ensures, (c .before .enum-told) .given .1) (sym (program-stop (a .s .now) _ e), (c .before .before .before .before .before .before .before .params) .ensures .1 .1)
+
+cast-n : tie.Need-cast-n
+cast-n c = search needs
+
+mul-end : tie.Need-mul-end
+mul-end c = search needs
+
+slice-reshare-prefix-rest : tie.Need-slice-reshare-prefix-rest
+slice-reshare-prefix-rest c = let span = rw ((c .before .r) .given .1) at ((c .before .before .before .before .before .before .before .params) .ensures .1 .0) in omega (arith, (c .before .before .before .before .before .before .before .params) .kept .1 .0, (c .before .before .before .before .before .before .before .before .before .before .before .before .before .pre))
+
+slice-aggregate-rest : tie.Need-slice-aggregate-rest
+slice-aggregate-rest c = let span = rw ((c .before .before .r) .given .1) at ((c .before .before .before .before .before .before .before .before .params) .ensures .1 .0) in sym (length-take-le _ _ (omega (arith, (c .before .before .before .before .before .before .before .before .params) .kept .1 .0, (c .before .before .before .before .before .before .before .before .before .before .before .before .before .before .pre))))
+
+slice-reshare-prefix-rest-2 : tie.Need-slice-reshare-prefix-rest-2
+slice-reshare-prefix-rest-2 c = let span = rw ((c .before .before .r) .given .1) at ((c .before .before .before .before .before .before .before .before .params) .ensures .1 .0) in omega (arith, (c .before .before .before .before .before .before .before .before .params) .kept .1 .1 .0, (c .before .before .before .before .before .before .before .before .before .before .before .before .before .before .pre))
+
+slice-aggregate-rest-2 : tie.Need-slice-aggregate-rest-2
+slice-aggregate-rest-2 c = let span = rw ((c .before .before .before .r) .given .1) at ((c .before .before .before .before .before .before .before .before .before .params) .ensures .1 .0) in sym (length-take-le _ _ (omega (arith, (c .before .before .before .before .before .before .before .before .before .params) .kept .1 .1 .0, (c .before .before .before .before .before .before .before .before .before .before .before .before .before .before .before .pre))))
+
+rest-requires : tie.Need-rest-requires
+rest-requires c κs = let span = rw ((c .before .before .before .r) .given .1) at ((c .before .before .before .before .before .before .before .before .before .params) .ensures .1 .0) in
+    (length-take-le _ _ (omega (arith, (c .before .before .before .before .before .before .before .before .before .params) .kept .1 .0, (c .before .before .before .before .before .before .before .before .before .before .before .before .before .before .before .pre))), span .1, span .2)
 
 same-length-3 : tie.Need-same-length-3
 same-length-3 c = search needs
@@ -56,15 +60,19 @@ same-length-4 c = search needs
 
 returns-2 : tie.Need-returns-2
 returns-2 c = let a = (c .before .before .before .before .before .before .before .before .before .before .before .before .before .before .before .before .args) in
-    ((c .rest) .ensures ∙ program-read (a .s .now) _ _ _ _ _ _ (sym ((c .before .before .before .before .before .before .before .before .before .before .params) .ensures .0) ∙ (c .before .before .before .before .at) .given .1) ((c .before .before .before .before .before .before .before .before .before .before .params) .ensures .1 .1), (c .before .before .before .before .before .before .before .before .before .before .params) .ensures .1 .1)
+    ((c .rest) .ensures ∙ program-read (a .s .now) _ _ _ _ _ _ (sym ((c .before .before .before .before .before .before .before .before .before .before .params) .ensures .0) ∙ (c .before .before .before .before .r) .given .1) ((c .before .before .before .before .before .before .before .before .before .before .params) .ensures .1 .1), (c .before .before .before .before .before .before .before .before .before .before .params) .ensures .1 .1)
 
 pub program-spec : {M : Type 1} → statement M
 program-spec =
     tie.close
     (tie.spec
     params-requires
-    enum-known-e
-    enum-known-at
+    enum-known-r
+    enum-told
+    params-refusal-requires
+    same-length
+    same-length-2
+    returns
     cast-n
     mul-end
     slice-reshare-prefix-rest
@@ -72,9 +80,6 @@ program-spec =
     slice-reshare-prefix-rest-2
     slice-aggregate-rest-2
     rest-requires
-    same-length
-    same-length-2
-    returns
     same-length-3
     same-length-4
     returns-2)

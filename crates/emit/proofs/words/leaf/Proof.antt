@@ -31,6 +31,9 @@ add-b c = search needs
 shared-slice-read-b : tie.Need-shared-slice-read-b
 shared-slice-read-b c = leaf-byte-in ((c .before .before .before .before .before .args) .s .now) ((c .before .before .before .before .before .args) .at) ((c .before .before .before .before .before .pre) .1) ((c .before .before .if1) .left) ((c .before .if2) .taken)
 
+cast-coded : tie.Need-cast-coded
+cast-coded c = search needs
+
 wide-requires-2 : tie.Need-wide-requires-2
 wide-requires-2 c κs = search needs
 
@@ -65,6 +68,7 @@ leaf-spec =
     returns
     add-b
     shared-slice-read-b
+    cast-coded
     wide-requires-2
     coded-requires-2
     returns-2

@@ -1,4 +1,4 @@
--- `steps::steps` is safe: what is written stays within the list and the text. The measure is the steps that are left.
+-- `steps::steps` meets its contract. The measure is the steps that are left.
 use Prim.Native.Nat.{ℕ, _<_}
 use borrow.Fn.Kinds.{In}
 use borrow.Fn.PlainCycle.{Measures, is, falls, and}
@@ -8,10 +8,11 @@ use Rattle.listing.proofs.steps.+steps.Lts-steps as steps-lts
 use Rattle.listing.proofs.steps.step.Reads as step-reads
 use Rattle.listing.proofs.steps.+steps.{statement}
 use Rattle.listing.proofs.steps.+steps.Tie.{close}
-use borrow.Author.Needs.{needs}
 use native.Mathlib.Omega.{arith}
-use mathlib.Core.Path.{subst}
-use Rattle.listing.specs.Walk.{Span, span-as}
+use mathlib.Core.Path.{_∙_}
+use Rattle.emit.specs.StepLaws.{steps-more}
+use Rattle.listing.specs.ListingLaws.{placed-kept}
+use Rattle.listing.specs.WalkLaws.{first-walkable, next-walkable, both-walked, steps-end, steps-text}
 
 abbrev μ-steps : Measures 5 steps-kinds.ps ℕ
 μ-steps κs a = a .1 .1 .1 .1 .0
@@ -22,102 +23,39 @@ steps-at t = and 5 steps-kinds.ps (is 5 steps-kinds.ps μ-steps t) steps.Pre
 abbrev steps-below : ℕ → In 5 steps-kinds.ps
 steps-below t = and 5 steps-kinds.ps (falls 5 steps-kinds.ps _<_ μ-steps t) steps.Pre
 
-steps-returns : (t : ℕ) → steps-lts.Need-returns (
-  step-reads.Asked,
-  step-reads.Learnt,
-  steps-below t,
-  steps.Post,
-) (steps-at t) steps.Post
-steps-returns t c = search needs
+-- what the functions that it calls ask and give
+abbrev steps-claims : ℕ → steps-lts.Claims
+steps-claims t = (step-reads.Asked, step-reads.Learnt, steps-below t, steps.Post)
 
-steps-step-requires : (t : ℕ) → steps-lts.Need-step-requires (
-  step-reads.Asked,
-  step-reads.Learnt,
-  steps-below t,
-  steps.Post,
-) (steps-at t) steps.Post
-steps-step-requires t c κs = ((c .before .before .before .before .before .before .before .pre) .1 .0, (c .before .before .before .before .before .before .before .pre) .1 .1)
+steps-returns : (t : ℕ) → steps-lts.Need-returns (steps-claims t) (steps-at t) steps.Post
+steps-returns t c = let a = (c .before .before .before .before .before .before .args) in steps-end (a .ar .now) (a .s .now) (a .n) (a .at) (a .of) ((c .if1) .taken) (a .place) (a .out .now) (a .k)
 
-steps-enum-told : (t : ℕ) → steps-lts.Need-enum-told (
-  step-reads.Asked,
-  step-reads.Learnt,
-  steps-below t,
-  steps.Post,
-) (steps-at t) steps.Post
-steps-enum-told t c = search needs
+steps-step-requires : (t : ℕ) → steps-lts.Need-step-requires (steps-claims t) (steps-at t) steps.Post
+steps-step-requires t c κs = let a = (c .before .before .before .before .before .before .before .args) in
+    ((c .before .before .before .before .before .before .before .pre) .1 .0, first-walkable (steps-more (a .ar .now) (a .s .now) (a .n) (a .at) ((c .before .if1) .left) ((c .before .before .before .before .before .before .before .pre) .1 .1 .good)) ((c .before .before .before .before .before .before .before .pre) .1 .1))
 
-steps-enum-known-m : (t : ℕ) → steps-lts.Need-enum-known-m (
-  step-reads.Asked,
-  step-reads.Learnt,
-  steps-below t,
-  steps.Post,
-) (steps-at t) steps.Post
-steps-enum-known-m t c = search needs
+steps-sub-steps : (t : ℕ) → steps-lts.Need-sub-steps (steps-claims t) (steps-at t) steps.Post
+steps-sub-steps t c = omega (arith, (c .before .before .before .before .if1) .left)
 
-steps-sub-steps : (t : ℕ) → steps-lts.Need-sub-steps (
-  step-reads.Asked,
-  step-reads.Learnt,
-  steps-below t,
-  steps.Post,
-) (steps-at t) steps.Post
-steps-sub-steps t c = omega (arith, (c .before .before .before .before .before .before .before .if1) .left)
+steps-steps-requires : (t : ℕ) → steps-lts.Need-steps-requires (steps-claims t) (steps-at t) steps.Post
+steps-steps-requires t c κs = let a = (c .before .before .before .before .before .before .before .before .before .before .before .args) in
+    (omega (arith, (c .before .before .before .before .before .before .before .before .before .before .before .pre) .0, (c .before .before .before .before .before .if1) .left), ((c .before .before .before .before .before .before .before .before .before .before .before .pre) .1 .0, next-walkable (steps-more (a .ar .now) (a .s .now) (a .n) (a .at) ((c .before .before .before .before .before .if1) .left) ((c .before .before .before .before .before .before .before .before .before .before .before .pre) .1 .1 .good)) ((c .before .before .before .before .before .before .before .before .before .before .before .pre) .1 .1) ((c .before .before .before .step) .ensures)))
 
-steps-steps-requires : (t : ℕ) → steps-lts.Need-steps-requires (
-  step-reads.Asked,
-  step-reads.Learnt,
-  steps-below t,
-  steps.Post,
-) (steps-at t) steps.Post
-steps-steps-requires t c κs = let h = subst (Span _ _) ((c .before .before .m) .given .1) ((c .before .before .before .before .before .before .step) .ensures) in (omega (arith, (c .before .before .before .before .before .before .before .before .if1) .left, (c .before .before .before .before .before .before .before .before .before .before .before .before .before .before .pre)), ((c .before .before .before .before .before .before .before .before .before .before .before .before .before .before .pre) .1 .0, (h .0, omega (arith, h .1, (c .before .before .before .before .before .before .step) .kept .1 .1 .1 .1 .1 .1 .1 .0))))
+steps-same-length : (t : ℕ) → steps-lts.Need-same-length (steps-claims t) (steps-at t) steps.Post
+steps-same-length t c = placed-kept ((c .before .before .steps) .ensures .text) ∙ placed-kept ((c .before .before .before .before .before .before .step) .ensures .text)
 
-steps-same-length : (t : ℕ) → steps-lts.Need-same-length (
-  step-reads.Asked,
-  step-reads.Learnt,
-  steps-below t,
-  steps.Post,
-) (steps-at t) steps.Post
-steps-same-length t c = search needs
-
-steps-returns-2 : (t : ℕ) → steps-lts.Need-returns-2 (
-  step-reads.Asked,
-  step-reads.Learnt,
-  steps-below t,
-  steps.Post,
-) (steps-at t) steps.Post
-steps-returns-2 t c = search needs
-
-steps-same-length-2 : (t : ℕ) → steps-lts.Need-same-length-2 (
-  step-reads.Asked,
-  step-reads.Learnt,
-  steps-below t,
-  steps.Post,
-) (steps-at t) steps.Post
-steps-same-length-2 t c = search needs
-
-steps-returns-3 : (t : ℕ) → steps-lts.Need-returns-3 (
-  step-reads.Asked,
-  step-reads.Learnt,
-  steps-below t,
-  steps.Post,
-) (steps-at t) steps.Post
-steps-returns-3 t c = span-as ((c .before .before .before .before .before .before .before .before .before .before .before .before .before .before .before .before .before .args) .list .now) ((c .before .before .before .before .before .before .before .before .before .step) .last .1 .1 .1 .1 .1 .1 .1 .0) ((c .before .before .before .before .before .before .before .before .before .before .before .before .before .before .before .before .before .args) .out .now) ((c .before .before .steps) .result) ((c .before .before .before .before .before .before .before .before .before .step) .kept .1 .1 .1 .1 .1 .1 .1 .0) ((c .before .before .steps) .ensures)
+steps-returns-2 : (t : ℕ) → steps-lts.Need-returns-2 (steps-claims t) (steps-at t) steps.Post
+steps-returns-2 t c = let a = (c .before .before .before .before .before .before .before .before .before .before .before .before .before .before .args) in
+    let g = (c .before .before .before .before .before .before .before .before .before .before .before .before .before .before .pre) .1 .1 .good in
+    both-walked (steps-more (a .ar .now) (a .s .now) (a .n) (a .at) ((c .before .before .before .before .before .before .before .before .if1) .left) g) (steps-text (a .ar .now) (a .s .now) (a .n) (a .at) (a .of) ((c .before .before .before .before .before .before .before .before .if1) .left) g) ((c .before .before .before .before .before .before .step) .ensures) ((c .before .before .steps) .ensures)
 
 pub +steps-spec : {M : Type 1} → statement M
-+steps-spec = close μ-steps λ t. steps-lts.spec (
-  step-reads.Asked,
-  step-reads.Learnt,
-  steps-below t,
-  steps.Post,
-)
++steps-spec = close μ-steps λ t. steps-lts.spec (steps-claims t)
     (steps-at t)
     steps.Post
     (steps-returns t)
     (steps-step-requires t)
-    (steps-enum-told t)
-    (steps-enum-known-m t)
     (steps-sub-steps t)
     (steps-steps-requires t)
     (steps-same-length t)
     (steps-returns-2 t)
-    (steps-same-length-2 t)
-    (steps-returns-3 t)

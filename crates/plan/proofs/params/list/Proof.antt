@@ -9,14 +9,26 @@ use Rattle.plan.specs.ParamsWays.{list-stop, list-more, kept-list, span-
 use Rattle.plan.proofs.params.list.Statement.{statement}
 use Rattle.plan.proofs.params.list.Tie as tie
 
+add-ranged : tie.Need-add-ranged
+add-ranged c = search needs
+
 ranged-requires : tie.Need-ranged-requires
 ranged-requires c κs = search needs
 
-enum-known-e : tie.Need-enum-known-e
-enum-known-e c = search needs
+enum-known-r : tie.Need-enum-known-r
+enum-known-r c = search needs
 
-enum-known-n : tie.Need-enum-known-n
-enum-known-n c = search needs
+enum-told : tie.Need-enum-told
+enum-told c = search needs
+
+byte-refusal-requires : tie.Need-byte-refusal-requires
+byte-refusal-requires c κs = search needs
+
+returns : tie.Need-returns
+returns c = let a = c .before .before .before .before .before .before .before .args in
+    let e = sym (c .before .before .before .ranged .ensures .0) ∙ c .before .enum-told .given .1 in
+    let q = list-stop (a .s .now) (a .structs) (a .at) _ e in
+    rw (c .byte-refusal .ensures, c .before .enum-told .given .1) (sym (ap place-told (q .1)), (tt, rw (q .1) tt))
 
 slice-write-counts : tie.Need-slice-write-counts
 slice-write-counts c = omega (arith, c .before .before .before .before .before .before .before .pre)
@@ -25,12 +37,7 @@ mul-row : tie.Need-mul-row
 mul-row c = search needs
 
 row-requires : tie.Need-row-requires
-row-requires c κs = let span = rw (c .before .before .n .given .1) at (c .before .before .before .before .ranged .ensures .1) in omega (arith, c .before .before .before .before .before .before .before .before .pre)
-
-returns : tie.Need-returns
-returns c = let a = c .before .before .before .before .before .before .before .args in
-    let q = list-stop (a .s .now) (a .structs) (a .at) _ (sym (c .before .before .before .ranged .ensures .0) ∙ c .before .e .given .1) in
-    (sym (ap place-told (q .1)), (tt, rw (q .1) tt))
+row-requires c κs = let span = rw (c .before .before .r .given .1) at (c .before .before .before .before .ranged .ensures .1) in omega (arith, c .before .before .before .before .before .before .before .before .pre)
 
 same-length : tie.Need-same-length
 same-length c = simp length-set
@@ -40,7 +47,7 @@ same-length-2 c = c .before .before .row .kept .1 .0
 
 returns-2 : tie.Need-returns-2
 returns-2 c = let a = c .before .before .before .before .before .before .before .before .before .before .before .args in
-    let n = c .before .before .before .before .before .n .given in
+    let n = c .before .before .before .before .before .r .given in
     let span = rw (n .1) at (c .before .before .before .before .before .before .before .ranged .ensures .1) in
     let h = list-more (a .s .now) (a .structs) (a .at) _ _ (sym (c .before .before .before .before .before .before .before .ranged .ensures .0) ∙ n .1) in (
       c .before .before .row .ensures .0 ∙ sym (ap place-told h),
@@ -54,13 +61,15 @@ pub list-spec : {M : Type 1} → statement M
 list-spec =
     tie.close
     (tie.spec
+    add-ranged
     ranged-requires
-    enum-known-e
-    enum-known-n
+    enum-known-r
+    enum-told
+    byte-refusal-requires
+    returns
     slice-write-counts
     mul-row
     row-requires
-    returns
     same-length
     same-length-2
     returns-2)

@@ -1,0 +1,34 @@
+// What the listing program prints of an input: the listing of a program image, or its refusal (01, 'Bench rows').
+use crate::lines::row;
+use crate::steps::program;
+use blocks::Read;
+ghost use Prim.Native.Nat.{_≤_};
+ghost use Rattle.listing.specs.Listing.{Placed};
+ghost use Rattle.listing.specs.Listings.{listing-of};
+
+// The listing of an image, in the front of the text. 131,072 bytes hold a head and a line for each of 1,024 commands.
+pub fn listing(image: &[u8], text: &mut [u8; 131072]) -> usize
+    ensures { λ r. ⌜ Placed (listing-of (now (image .entry))) (now (text .entry)) 0 r (now (text .exit)) ⌝ }
+    ensures { λ r. ⌜ r ≤ 131072 ⌝ }
+{
+    let mut list = [0u64; 1024];
+    let v = checker::check(image, &mut list);
+    if v.number != 0 {
+        return row(text, 0, b"refused", &[v.number as u64]);
+    }
+    let mut stream = [0u8; 32256];
+    match blocks::read_image(image, types::PROGRAM_BLOCKS, &mut stream) {
+        Read::Refused(_) => 0,
+        Read::Short => 0,
+        Read::Stream(n) => {
+            let head = [
+                v.structs as u64,
+                v.steps as u64,
+                v.commands as u64,
+                v.depth as u64,
+            ];
+            let k = row(text, 0, b"audala", &head);
+            program(&stream[..n], &list, text, k)
+        }
+    }
+}

@@ -1,0 +1,1 @@
+// How a machine stands in lent memory: definitions alone (01, 'Table and turns').
