@@ -39,6 +39,9 @@ fn first(s: &[u8], ar: &[u8], types: &[u8], own: u8, live: u64, n: u8, at: usize
         return PathRead::NoPath(read::byte_refusal(r));
     };
     let j = facts::path::start(ar, types, own, live, b);
+    if n == 1 {
+        return PathRead::Path(m, 1, j);
+    }
     follow(s, ar, types, j, n - 1, 1, m)
 }
 
