@@ -1,6 +1,6 @@
--- The conditions of the numbers from the input (01, 'Numbers from the input'), and their order. Those of 4, 5, 11 and 12 are what the
--- readers of the streams answer: which of the two is the first offending place is told by reading. The readers are exact for the
--- encodings (laws `program-law`, `table-answer-exact`). The others are in 01's words.
+-- The conditions of the numbers from the input (01, 'Numbers from the input'), and their order. Those of 4, 5, 11 and 12 are
+-- equations with the readers of the streams, which tell the first offending place; the laws `program-exact` and
+-- `table-answer-exact` say that the readers accept exactly the encodings. The others are in 01's words.
 use Prim.Native.Nat.{ℕ, _*_, _<_, _≤_}
 use mathlib.Core.Path.{_≡_}
 use mathlib.Core.List.{List, [], _∷_, _++_}

@@ -33,9 +33,10 @@ use Rattle.run.specs.BeginLaws.{begin-represents, outcome-exact, comes-unique}
 use Rattle.run.specs.Answered.{Answered}
 use Rattle.run.specs.AnsweredLaws.{comes-answered}
 use Rattle.sound.specs.Accepted.{Accepted}
+use Rattle.sound.specs.AcceptedLaws.{ready-accepted}
 use Rattle.sound.specs.NeverStuck.{Demand3}
 use Rattle.sound.specs.NeverStuckLaws.{demand3, demand3-comes}
-use Rattle.sound.specs.TableKept.{table-kept, table-written, nulls-kept, output-length}
+use Rattle.sound.specs.TableKept.{table-kept, table-written, nulls-kept, comes-written, output-length}
 
 module _ (x y es out list : List ℕ) where
   -- Demand 1, of the answers: a refusal from the input is that of the foremost condition; it returns its number, no turns and no
@@ -56,9 +57,7 @@ module _ (x y es out list : List ℕ) where
 
   -- Demand 3, of every call that is not refused: one statement about the whole run
   pub never-stuck-run : (p : Program) (rs : List Record) → Ready x y es out list p rs → Demand3 p rs es
-  never-stuck-run p rs r =
-      let a = r .program in
-      demand3 (a .reads .counts, a .within, a .names, a .types) rs (r .table .right) es
+  never-stuck-run p rs r = demand3 (ready-accepted r) rs (r .table .right) es
 
   -- Demand 2, on images: where a run begins, number, turns, blocks, depth, every output byte and the list are those that the
   -- published rules come to
@@ -70,6 +69,11 @@ module _ (x y es out list : List ℕ) where
   pub run-comes : (p : Program) (rs : List Record) → begins x y es out list ≡ begun p rs
       → (n : ℕ) × (t : ℕ) × (rs′ : List Record) × Comes p rs es n t rs′
   run-comes p rs e = demand3-comes p rs es (never-stuck-run p rs (begun-exactly p rs .0 e))
+
+  -- the table written is one that a run may begin with: its image fits its blocks and is accepted as that table
+  pub written-accepted : (p : Program) (rs : List Record) → Ready x y es out list p rs → {n t : ℕ} {rs′ : List Record} → Comes p rs es n t rs′
+      → (pieces (length (enc-table rs′)) ≤ table-blocks) × (TableAccepted p (image (enc-table rs′)) rs′)
+  written-accepted p rs r c = comes-written (ready-accepted r) rs (r .table .right) c
 
   -- Demand 2: a run leaves as many bytes in the output as it was lent, whatever it is given
   pub output-as-long : length (run-output x y es out list) ≡ length out

@@ -27,13 +27,16 @@ use Rattle.machine.specs.Published.{Env, Env.env, structs}
 use Rattle.machine.specs.Machine.{Instance, Machine}
 use Rattle.run.specs.Visits.{Visits}
 use Rattle.run.specs.Begin.{params-in, begin, record-of, table-of}
+use Rattle.run.specs.Initial.{Comes}
+use Rattle.run.specs.BeginLaws.{outcome-complete}
+use Rattle.run.specs.RunAgreesVisits.{run-visits}
 use Rattle.run.specs.Entry.{Begun, Begun.begun, Begun.not-begun, begins, output-of, run-output-by, run-output}
 use Rattle.run.specs.Input.{TableAccepted}
 use Rattle.run.specs.InputLaws.{begins-ready}
 use Rattle.sound.specs.Needs.{Of}
 use Rattle.sound.specs.Invariant.{Fitted, GoodAll}
 use Rattle.sound.specs.Accepted.{Accepted}
-use Rattle.sound.specs.AcceptedLaws.{accepted-firm}
+use Rattle.sound.specs.AcceptedLaws.{ready-accepted, accepted-firm}
 use Rattle.sound.specs.Tabled.{Tabled}
 use Rattle.sound.specs.ElemLaws.{some-is, at-below, at-drop, at-map, map-at, elem-all}
 use Rattle.sound.specs.EachLaws.{each-map}
@@ -161,6 +164,14 @@ module _ {p : Program} (a : Accepted p) (rs : List Record) (right : TableRight (
       let (i, e, s) = all-good .nulls k h in
       (i, e, s, all-tabled .each k i e .1 h ∙ ap (λ j. map default (params-of p j)) s)
 
+-- so is the image of the table that the published rules come to
+pub comes-written : {p : Program} → Accepted p → (rs : List Record) → TableRight (p .params) rs → {es : List ℕ} {n t : ℕ} {rs′ : List Record}
+    → Comes p rs es n t rs′
+    → (pieces (length (enc-table rs′)) ≤ table-blocks) × (TableAccepted p (image (enc-table rs′)) rs′)
+comes-written {p} a rs right {es} c =
+    let (z, q, w) = outcome-complete p rs es c in
+    rw w at (table-written a rs right (run-visits p (begin p rs) es q .0))
+
 -- Output -----------------------------------------------------------------------------
 
 -- a run leaves as many bytes in the output as it was lent
@@ -172,8 +183,7 @@ output-length x y es out list = go (begins x y es out list) refl
     go (not-begun n) e = refl
     go (begun p rs) e =
         let r = begins-ready x y es out list p rs .0 e in
-        let a = r .program in
-        let ok : Accepted p = (a .reads .counts, a .within, a .names, a .types) in
+        let ok = ready-accepted r in
         let d = demand3 ok rs (r .table .right) es in
         let s = enc-table (table-of p (d .last)) in
         let few = table-written ok rs (r .table .right) (d .visited) .0 in
