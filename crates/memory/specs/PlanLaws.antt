@@ -38,12 +38,14 @@ module _ (items : List ℕ) where
       let n : length (l ++ m) ≡ length l + length m = length-append l m in
       let h : length l ≤ length (l ++ m) = omega arith in
       let a : take (length l) (drop t items) ≡ l =
-          sym (take-take (length l) (length (l ++ m)) (drop t items) h) ∙ ap (take (length l)) e ∙ take-append-seam l m in
+      sym (take-take (length l) (length (l ++ m)) (drop t items) h) ∙ ap (take (length l)) e ∙ take-append-seam l m in
       let b : l ++ take (length m) (drop (length l) (drop t items)) ≡ l ++ m =
-          ap (λ s. s ++ take (length m) (drop (length l) (drop t items))) (sym a)
-          ∙ sym (take-add (length l) (length m) (drop t items)) ∙ ap (λ k. take k (drop t items)) (sym n) ∙ e in
-      (a, rw (← drop-drop (length l) t items)
-      (sym (drop-append-seam l (take (length m) (drop (length l) (drop t items)))) ∙ ap (drop (length l)) b ∙ drop-append-seam l m))
+      ap (λ s. s ++ take (length m) (drop (length l) (drop t items))) (sym a)
+      ∙ sym (take-add (length l) (length m) (drop t items)) ∙ ap (λ k. take k (drop t items)) (sym n) ∙ e in (
+        a,
+        rw (← drop-drop (length l) t items)
+            (sym (drop-append-seam l (take (length m) (drop (length l) (drop t items)))) ∙ ap (drop (length l)) b ∙ drop-append-seam l m),
+      )
 
   -- a place by an equal number
   there : {a b : ℕ} {s : Sched} → At items a s → a ≡ b → At items b s
