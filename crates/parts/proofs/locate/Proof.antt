@@ -1,15 +1,15 @@
--- `part::locate` meets its contract: the image is refused, or its stream is searched. The buffer is never too short.
+-- `parts::locate` meets its contract: the image is refused, or its stream is searched. The buffer is never too short.
 use native.Mathlib.Omega.{arith}
 use mathlib.Core.Path.{_≡_, sym, _∙_}
 use lib.ListN.{take, length-replicate}
 use lib.Seq.{length-take-le}
 use Rattle.blocks.specs.Images.{stream}
 use Rattle.run.specs.Entry.{checked}
 use Rattle.checker.specs.CheckLaws.{image-refused, image-short, image-stream, image-front}
-use Rattle.checker.specs.StepPartLaws.{spot-refused}
+use Rattle.parts.specs.StepPartLaws.{spot-refused}
 use borrow.Author.Needs.{needs}
-use Rattle.checker.proofs.part.locate.Statement.{statement}
-use Rattle.checker.proofs.part.locate.Tie as tie
+use Rattle.parts.proofs.locate.Statement.{statement}
+use Rattle.parts.proofs.locate.Tie as tie
 
 slice-aggregate-read-image : tie.Need-slice-aggregate-read-image
 slice-aggregate-read-image c = search needs

@@ -1,12 +1,12 @@
--- `part::step_commands` meets its contract: the part lies in the list.
+-- `parts::step_commands` meets its contract: the part lies in the list.
 use Prim.Native.Nat.{ℕ, _+_, _-_}
 use native.Mathlib.Omega.{arith}
 use mathlib.Core.Path.{_≡_, ap, _∙_}
 use lib.ListN.{take, drop}
-use Rattle.checker.specs.StepPartLaws.{place-fits, place-part}
+use Rattle.parts.specs.StepPartLaws.{place-fits, place-part}
 use borrow.Author.Needs.{needs}
-use Rattle.checker.proofs.part.step_commands.Statement.{statement}
-use Rattle.checker.proofs.part.step_commands.Tie as tie
+use Rattle.parts.proofs.step_commands.Statement.{statement}
+use Rattle.parts.proofs.step_commands.Tie as tie
 
 step-place-requires : tie.Need-step-place-requires
 step-place-requires c κs = search needs

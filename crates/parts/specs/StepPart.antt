@@ -9,7 +9,7 @@ use Rattle.types.specs.Limits.{max-commands}
 use Rattle.program.specs.Tree.{Step, Program}
 use Rattle.commands.specs.Bounds.{total, step-size}
 use Rattle.run.specs.Entry.{Checked, Checked.accepted, Checked.refused, checked}
-use Rattle.checker.specs.declared.part.Spot.{Spot}
+use Rattle.parts.specs.declared.Spot.{Spot}
 
 -- commands so far; the place of the first command, and how many
 abbrev pub spot : ℕ → ℕ → ℕ → Spot

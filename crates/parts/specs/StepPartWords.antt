@@ -23,9 +23,9 @@ use Rattle.run.specs.InputProgram.{checked-accepted, check-approved}
 use Rattle.run.specs.RowPrograms.{P}
 use Rattle.run.specs.Rows.{listed-P}
 use Rattle.run.specs.RowsOpen.{checking}
-use Rattle.checker.specs.declared.part.Spot.{Spot}
-use Rattle.checker.specs.StepPart.{spot, past, seek, spot-in, spot-by, step-part}
-use Rattle.checker.specs.StepPartLaws.{place-short, place-room, place-part, spot-refused, spot-outside, spot-inside}
+use Rattle.parts.specs.declared.Spot.{Spot}
+use Rattle.parts.specs.StepPart.{spot, past, seek, spot-in, spot-by, step-part}
+use Rattle.parts.specs.StepPartLaws.{place-short, place-room, place-part, spot-refused, spot-outside, spot-inside}
 
 -- Words --------------------------------------------------------------------------------
 

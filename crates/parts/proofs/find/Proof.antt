@@ -1,4 +1,4 @@
--- `part::find` meets its contract: the stream is refused, its number is not 0, the struct is not there, or its steps are walked.
+-- `parts::find` meets its contract: the stream is refused, its number is not 0, the struct is not there, or its steps are walked.
 use Prim.Native.Nat.{_<_}
 use native.Mathlib.Omega.{arith}
 use mathlib.Core.Path.{sym, _∙_}
@@ -6,11 +6,11 @@ use lib.ListN.{length}
 use lib.Seq.{length-take-le}
 use Rattle.program.specs.Reader.{read}
 use Rattle.run.specs.Entry.{of-read}
 use Rattle.checker.specs.CheckLaws.{stream-stops, stream-value, numbered, passed, few, structs-are, place-in, table-few, steps-stand}
-use Rattle.checker.specs.StepPartLaws.{spot-refused, spot-outside, spot-inside}
+use Rattle.parts.specs.StepPartLaws.{spot-refused, spot-outside, spot-inside}
 use borrow.Author.Needs.{needs}
-use Rattle.checker.proofs.part.find.Statement.{statement}
-use Rattle.checker.proofs.part.find.Tie as tie
+use Rattle.parts.proofs.find.Statement.{statement}
+use Rattle.parts.proofs.find.Tie as tie
 
 slice-aggregate-program : tie.Need-slice-aggregate-program
 slice-aggregate-program c = search needs

@@ -1,17 +1,17 @@
--- `part::steps` meets its contract. The measure is the steps that are left.
+-- `parts::steps` meets its contract. The measure is the steps that are left.
 use native.Mathlib.Omega.{arith}
 use mathlib.Core.Path.{sym, _∙_}
-use Rattle.checker.specs.SoughtWays.{seeks-none, seeks-stop, seeks-more}
+use Rattle.parts.specs.SoughtWays.{seeks-none, seeks-stop, seeks-more}
 use borrow.Author.Needs.{needs}
 use Prim.Native.Nat.{ℕ, _<_}
 use borrow.Fn.Kinds.{In}
 use borrow.Fn.PlainCycle.{Measures, is, falls, and}
-use Rattle.checker.proofs.part.steps.Reads as steps
-use Rattle.checker.proofs.part.steps.Kinds as steps-kinds
-use Rattle.checker.proofs.part.+steps.Lts-steps as steps-lts
-use Rattle.checker.proofs.part.step.Reads as step-reads
-use Rattle.checker.proofs.part.+steps.{statement}
-use Rattle.checker.proofs.part.+steps.Tie.{close}
+use Rattle.parts.proofs.steps.Reads as steps
+use Rattle.parts.proofs.steps.Kinds as steps-kinds
+use Rattle.parts.proofs.+steps.Lts-steps as steps-lts
+use Rattle.parts.proofs.step.Reads as step-reads
+use Rattle.parts.proofs.+steps.{statement}
+use Rattle.parts.proofs.+steps.Tie.{close}
 
 abbrev μ-steps : Measures 3 steps-kinds.ps ℕ
 μ-steps κs a = a .1 .1 .1 .1 .1 .0

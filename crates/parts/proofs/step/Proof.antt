@@ -1,10 +1,10 @@
--- `part::step` meets its contract: its name is not read, its body is not, or both are.
+-- `parts::step` meets its contract: its name is not read, its body is not, or both are.
 use native.Mathlib.Omega.{arith}
 use mathlib.Core.Path.{sym, _∙_}
-use Rattle.checker.specs.SoughtWays.{seek-stop, seek-cut, seek-read, seek-low}
+use Rattle.parts.specs.SoughtWays.{seek-stop, seek-cut, seek-read, seek-low}
 use borrow.Author.Needs.{needs}
-use Rattle.checker.proofs.part.step.Statement.{statement}
-use Rattle.checker.proofs.part.step.Tie as tie
+use Rattle.parts.proofs.step.Statement.{statement}
+use Rattle.parts.proofs.step.Tie as tie
 
 ranged-requires : tie.Need-ranged-requires
 ranged-requires c κs = search needs

@@ -1,9 +1,9 @@
--- `part::step_place` meets its contract: the list is too short, or the step is looked for.
+-- `parts::step_place` meets its contract: the list is too short, or the step is looked for.
 use mathlib.Core.Path.{sym, _∙_}
-use Rattle.checker.specs.StepPartLaws.{place-short, place-room}
+use Rattle.parts.specs.StepPartLaws.{place-short, place-room}
 use borrow.Author.Needs.{needs}
-use Rattle.checker.proofs.part.step_place.Statement.{statement}
-use Rattle.checker.proofs.part.step_place.Tie as tie
+use Rattle.parts.proofs.step_place.Statement.{statement}
+use Rattle.parts.proofs.step_place.Tie as tie
 
 nowhere-requires : tie.Need-nowhere-requires
 nowhere-requires c κs = search needs

@@ -1,9 +1,9 @@
 // The commands of one step, as that part of the lent list (01, 'Names, types, commands').
-use crate::totals;
-use crate::totals::TotalsRead;
-use crate::whole;
-use crate::whole::ProgramRead;
 use blocks::Read;
+use checker::totals;
+use checker::totals::TotalsRead;
+use checker::whole;
+use checker::whole::ProgramRead;
 use exprs::read;
 use exprs::read::ByteRead;
 use facts::Scope;
@@ -15,8 +15,8 @@ ghost use Prim.Native.Nat.{_+_, _≤_, _<_, _^_};
 ghost use lib.ListN.{length};
 ghost use Rattle.program.specs.Reader.{many, read-step, read-steps, read};
 ghost use Rattle.run.specs.Entry.{of-read, checked};
-ghost use Rattle.checker.specs.StepPart.{nowhere, past, seek, spot-by, step-place, step-part};
-ghost use Rattle.checker.specs.Sought.{sought, Passing, Walked};
+ghost use Rattle.parts.specs.StepPart.{nowhere, past, seek, spot-by, step-place, step-part};
+ghost use Rattle.parts.specs.Sought.{sought, Passing, Walked};
 
 // Commands so far; the place of a step's first command, and how many it has.
 pub struct Spot {

@@ -5,10 +5,10 @@ use mathlib.Core.List.{List, [], _∷_}
 use lib.ListN.{length}
 use Rattle.program.specs.Tree.{Step}
 use Rattle.program.specs.Reader.{Result, Result.ok, Result.bad, many, read-steps}
-use Rattle.checker.specs.declared.part.Spot.{Spot}
-use Rattle.checker.specs.declared.part.SpotRead.{SpotRead}
-use Rattle.checker.specs.declared.part.SpotRead.the-variants.{Value, Refused}
-use Rattle.checker.specs.StepPart.{spot-in}
+use Rattle.parts.specs.declared.Spot.{Spot}
+use Rattle.parts.specs.declared.SpotRead.{SpotRead}
+use Rattle.parts.specs.declared.SpotRead.the-variants.{Value, Refused}
+use Rattle.parts.specs.StepPart.{spot-in}
 
 abbrev pub sought : {A : Type 0} → (A → Spot) → Result A → SpotRead
 sought f (ok a m) = Value m (f a)

@@ -19,12 +19,12 @@ use Rattle.exprs.specs.Told.{byte-told}
 use Rattle.exprs.specs.ByteWays.{byte-is, byte-stops}
 use Rattle.stmts.specs.declared.StmtRead.the-variants.{Value as StmtValue, Refused as StmtRefused}
 use Rattle.stmts.specs.Done.{done, DoneBody}
-use Rattle.checker.specs.declared.part.Spot.{Spot}
-use Rattle.checker.specs.declared.part.SpotRead.{SpotRead}
-use Rattle.checker.specs.declared.part.SpotRead.the-variants.{Value, Refused}
+use Rattle.parts.specs.declared.Spot.{Spot}
+use Rattle.parts.specs.declared.SpotRead.{SpotRead}
+use Rattle.parts.specs.declared.SpotRead.the-variants.{Value, Refused}
 use Rattle.checker.specs.TotalWays.{done-is, done-stops, step-unread, step-bodiless, step-whole, steps-uncounted}
-use Rattle.checker.specs.StepPart.{past, seek}
-use Rattle.checker.specs.Sought.{sought, Passing}
+use Rattle.parts.specs.StepPart.{past, seek}
+use Rattle.parts.specs.Sought.{sought, Passing}
 
 -- what was read, from what was answered
 module _ {A : Type 0} (f : A → Spot) where

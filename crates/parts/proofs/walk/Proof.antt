@@ -1,12 +1,12 @@
--- `part::walk` meets its contract: a struct before it is not read, its own steps are not, or all are, and the step is found.
+-- `parts::walk` meets its contract: a struct before it is not read, its own steps are not, or all are, and the step is found.
 use native.Mathlib.Omega.{arith}
 use mathlib.Core.Path.{_≡_, refl, sym, ap, _∙_}
 use Rattle.facts.specs.ProgramFacts.{no-totals}
 use Rattle.checker.specs.declared.totals.Totals.{Totals}
-use Rattle.checker.specs.StepPartLaws.{walk-on, walk-through, walk-found}
+use Rattle.parts.specs.StepPartLaws.{walk-on, walk-through, walk-found}
 use borrow.Author.Needs.{needs}
-use Rattle.checker.proofs.part.walk.Statement.{statement}
-use Rattle.checker.proofs.part.walk.Tie as tie
+use Rattle.parts.proofs.walk.Statement.{statement}
+use Rattle.parts.proofs.walk.Tie as tie
 
 slice-aggregate-structs : tie.Need-slice-aggregate-structs
 slice-aggregate-structs c = search needs

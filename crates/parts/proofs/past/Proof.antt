@@ -1,9 +1,9 @@
--- `part::past` meets its contract.
+-- `parts::past` meets its contract.
 use borrow.Author.Tests.{eq-eqb, ne-eqb}
-use Rattle.checker.specs.StepPart.{past}
+use Rattle.parts.specs.StepPart.{past}
 use borrow.Author.Needs.{needs}
-use Rattle.checker.proofs.part.past.Statement.{statement}
-use Rattle.checker.proofs.part.past.Tie as tie
+use Rattle.parts.proofs.past.Statement.{statement}
+use Rattle.parts.proofs.past.Tie as tie
 
 add-t6 : tie.Need-add-t6
 add-t6 c = search needs

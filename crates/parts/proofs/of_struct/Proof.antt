@@ -1,10 +1,10 @@
--- `part::of_struct` meets its contract: how many steps is not read, or is, with them behind it.
+-- `parts::of_struct` meets its contract: how many steps is not read, or is, with them behind it.
 use native.Mathlib.Omega.{arith}
 use mathlib.Core.Path.{sym, ap, _∙_}
-use Rattle.checker.specs.SoughtWays.{seeks-uncounted, seeks-counted}
+use Rattle.parts.specs.SoughtWays.{seeks-uncounted, seeks-counted}
 use borrow.Author.Needs.{needs}
-use Rattle.checker.proofs.part.of_struct.Statement.{statement}
-use Rattle.checker.proofs.part.of_struct.Tie as tie
+use Rattle.parts.proofs.of_struct.Statement.{statement}
+use Rattle.parts.proofs.of_struct.Tie as tie
 
 add-ranged : tie.Need-add-ranged
 add-ranged c = search needs
