@@ -1,6 +1,6 @@
 -- A verdict and a part of the list as the library hands them over.
 use Rattle.run.specs.Entry.{Verdict}
-use Rattle.checker.specs.declared.part.Spot.{Spot}
+use Rattle.parts.specs.declared.Spot.{Spot}
 use Rattle.audala.specs.declared.Answer.{Answer}
 use Rattle.audala.specs.declared.Part.{Part}
 

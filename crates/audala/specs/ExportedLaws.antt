@@ -4,8 +4,8 @@ use mathlib.Core.Path.{_≡_}
 use mathlib.Core.List.{List}
 use lib.ListN.{length, take, drop}
 use Rattle.types.specs.Limits.{max-commands}
-use Rattle.checker.specs.StepPart.{step-place, step-part}
-use Rattle.checker.specs.StepPartLaws.{place-fits, place-part}
+use Rattle.parts.specs.StepPart.{step-place, step-part}
+use Rattle.parts.specs.StepPartLaws.{place-fits, place-part}
 use Rattle.audala.specs.declared.Part.{Part}
 use Rattle.audala.specs.Exported.{exported-part}
 

@@ -1,7 +1,7 @@
 // The checker as a static library for C and Rust (01, 'Numbers from the input'); include/audala.h declares it.
 ghost use mathlib.Core.Path.{_≡_};
 ghost use Rattle.run.specs.Entry.{check-verdict, check-list};
-ghost use Rattle.checker.specs.StepPart.{step-place};
+ghost use Rattle.parts.specs.StepPart.{step-place};
 ghost use Rattle.audala.specs.Exported.{exported, exported-part};
 
 // What a check answers; after a refusal all but the number are 0.
@@ -42,7 +42,7 @@ pub struct Part {
 pub extern "C" fn audala_step(image: &[u8], list: &[u64], structure: u8, name: u8) -> Part
     ensures { λ r. ⌜ r ≡ exported-part (step-place (now (image .entry)) (now (list .entry)) structure name) ⌝ }
 {
-    let p = checker::part::step_place(image, list, structure, name);
+    let p = parts::step_place(image, list, structure, name);
     Part {
         start: p.start as u32,
         length: p.len as u32,

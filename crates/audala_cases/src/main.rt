@@ -1,7 +1,7 @@
 // Reads cases on standard input and answers those of a check, a line for each (docs/CASES.md). A malformed case ends the program.
 use libc::STDIN_FILENO;
 use libc::STDOUT_FILENO;
-use listing::lines;
+use text::lines;
 ghost use lib.ListN.{length};
 ghost use Rattle.audala_cases.specs.Within.{Within};
 

@@ -4,8 +4,3 @@ pub mod Whole
 pub mod WholeWays
 pub mod Answer
 pub mod CheckLaws
-pub mod StepPart
-pub mod Sought
-pub mod SoughtWays
-pub mod StepPartLaws
-pub mod StepPartWords

@@ -32,7 +32,7 @@ pub enum TotalsRead {
 }
 
 // The number of a refusal, for a reader whose own answer is of another type; 0 where a value was read.
-pub(crate) fn stmt_refusal(r: StmtRead) -> u8
+pub fn stmt_refusal(r: StmtRead) -> u8
     ensures { λ n. ⌜ n ≡ stmt-refusal r ⌝ }
 {
     let StmtRead::Refused(n) = r else {
@@ -51,7 +51,7 @@ pub(crate) fn totals_refusal(r: TotalsRead) -> u8
 }
 
 // Of no steps.
-pub(crate) fn none() -> Totals
+pub fn none() -> Totals
     ensures { λ r. ⌜ r ≡ less no-totals ⌝ }
 {
     Totals {
@@ -187,7 +187,7 @@ fn of_struct(
 }
 
 // The steps of n structs, from the struct k on.
-pub(crate) fn structs(
+pub fn structs(
     s: &[u8],
     ar: &[u8],
     types: &[u8],

@@ -22,9 +22,10 @@ use Rattle.run.specs.InputProgram.{Passed, tell-checked}
 use Rattle.checker.specs.declared.Verdict.{Verdict}
 use Rattle.checker.specs.Answer.{answer}
 use Rattle.checker.specs.CheckLaws.{refused-answers, room-answers, same-words, image-refused}
-use Rattle.listing.specs.Listing.{row}
-use Rattle.listing.specs.Listings.{audala, refused-word, head, program-lines, listing, listing-of}
-use Rattle.listing.specs.Walk.{line-most, Walkable}
+use Rattle.text.specs.Listing.{row}
+use Rattle.step_lines.specs.Lines.{program-lines}
+use Rattle.step_lines.specs.Walk.{line-most, Walkable}
+use Rattle.listing.specs.Listings.{audala, refused-word, head, listing, listing-of}
 
 -- a refusal's number is not 0
 some : {x : List ℕ} {n : ℕ} → ProgramRefuses x n → 1 ≤ n

@@ -1,15 +1,3 @@
-pub mod Listing
-pub mod ListingLaws
-pub mod TextLaws
-pub mod CommandText
-pub mod CommandTextLaws
-pub mod Decimals
-pub mod DecimalLaws
 pub mod Listings
-pub mod Walk
-pub mod WalkLaws
-pub mod StepTextLaws
-pub mod StepWalkLaws
-pub mod ProgramTextLaws
 pub mod ImageLaws
 pub mod Rows

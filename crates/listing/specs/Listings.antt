@@ -1,16 +1,14 @@
 -- The listing of a program and of an image (01, 'Bench rows'). A head: structs, steps, commands, greatest depth. Then a line for each
--- command, in the order of the command list: struct, step name, position from 0 in its step, command. A refused image: `refused n`.
-use Prim.Native.Nat.{ℕ, suc}
+-- command. A refused image: `refused n`.
+use Prim.Native.Nat.{ℕ}
 use mathlib.Core.List.{List, [], _∷_, _++_}
 use lib.ListN.{length}
-use Rattle.program.specs.Tree.{Step, Program}
-use Rattle.program.specs.Encoding.{flat}
-use Rattle.commands.specs.Commands.{Flat}
-use Rattle.commands.specs.Bounds.{total, step-list, program-size, program-depth}
+use Rattle.program.specs.Tree.{Program}
+use Rattle.commands.specs.Bounds.{total, program-size, program-depth}
 use Rattle.machine.specs.Published.{structs}
 use Rattle.run.specs.Entry.{Checked, Checked.accepted, Checked.refused, checked}
-use Rattle.listing.specs.Listing.{column, row}
-use Rattle.listing.specs.CommandText.{command-text}
+use Rattle.text.specs.Listing.{row}
+use Rattle.step_lines.specs.Lines.{program-lines}
 
 -- `audala` and `refused`
 abbrev pub audala : List ℕ
@@ -18,29 +16,6 @@ audala = 97 ∷ 117 ∷ 100 ∷ 97 ∷ 108 ∷ 97 ∷ []
 
 abbrev pub refused-word : List ℕ
 refused-word = 114 ∷ 101 ∷ 102 ∷ 117 ∷ 115 ∷ 101 ∷ 100 ∷ []
-
--- the line of a command
-unfoldable pub command-line : ℕ → ℕ → ℕ → Flat → List ℕ
-command-line k n i c = column k ++ (column n ++ (column i ++ (command-text c ++ 10 ∷ [])))
-
--- the lines of commands from position i on, in step n of struct k
-unfoldable pub command-lines : ℕ → ℕ → ℕ → List Flat → List ℕ
-command-lines k n i [] = []
-command-lines k n i (c ∷ cs) = command-line k n i c ++ command-lines k n (suc i) cs
-
--- of a step, of a struct's steps, and of those of all structs from struct k on
-unfoldable pub step-lines : ℕ → Step → List ℕ
-step-lines k t = command-lines k (t .name) 0 (step-list t)
-
-abbrev pub steps-lines : ℕ → List Step → List ℕ
-steps-lines k ts = flat (step-lines k) ts
-
-unfoldable pub structs-lines : ℕ → List (List Step) → List ℕ
-structs-lines k [] = []
-structs-lines k (ts ∷ tss) = steps-lines k ts ++ structs-lines (suc k) tss
-
-unfoldable pub program-lines : Program → List ℕ
-program-lines p = structs-lines 0 (p .steps)
 
 unfoldable pub head : Program → List ℕ
 head p = row audala (structs p ∷ total length (p .steps) ∷ program-size p ∷ program-depth p ∷ [])

@@ -1,9 +1,9 @@
 // What the listing program prints of an input: the listing of a program image, or its refusal (01, 'Bench rows').
-use crate::lines::row;
-use crate::steps::program;
 use blocks::Read;
+use step_lines::program;
+use text::lines::row;
 ghost use Prim.Native.Nat.{_≤_};
-ghost use Rattle.listing.specs.Listing.{Placed};
+ghost use Rattle.text.specs.Listing.{Placed};
 ghost use Rattle.listing.specs.Listings.{listing-of};
 
 // The listing of an image, in the front of the text. 131,072 bytes hold a head and a line for each of 1,024 commands.

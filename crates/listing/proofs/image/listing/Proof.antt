@@ -8,7 +8,7 @@ use lib.ListN.{take, length-replicate}
 use lib.Seq.{length-take-le}
 use Rattle.blocks.specs.Images.{stream}
 use Rattle.checker.specs.CheckLaws.{image-short, image-stream, image-front}
-use Rattle.listing.specs.ListingLaws.{placed-as, placed-on}
+use Rattle.text.specs.ListingLaws.{placed-as, placed-on}
 use Rattle.listing.specs.ImageLaws.{refused-listing, approved, no-fault, accepted-listing, accepted-walkable}
 
 slice-aggregate-check : tie.Need-slice-aggregate-check

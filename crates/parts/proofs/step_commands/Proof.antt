@@ -1,0 +1,52 @@
+-- `parts::step_commands` meets its contract: the part lies in the list.
+use Prim.Native.Nat.{ℕ, _+_, _-_}
+use native.Mathlib.Omega.{arith}
+use mathlib.Core.Path.{_≡_, ap, _∙_}
+use lib.ListN.{take, drop}
+use Rattle.parts.specs.StepPartLaws.{place-fits, place-part}
+use borrow.Author.Needs.{needs}
+use Rattle.parts.proofs.step_commands.Statement.{statement}
+use Rattle.parts.proofs.step_commands.Tie as tie
+
+step-place-requires : tie.Need-step-place-requires
+step-place-requires c κs = search needs
+
+add-end : tie.Need-add-end
+add-end c = let a = (c .before .before .before .before .args) in
+    let f = rw (← (c .before .step-place) .ensures) at (place-fits (a .image .now) (a .list .now) (a .structure) (a .name)) in
+    omega (arith, f)
+
+mul-result : tie.Need-mul-result
+mul-result c = let a = (c .before .before .before .before .args) in
+    let f = rw (← (c .before .step-place) .ensures) at (place-fits (a .image .now) (a .list .now) (a .structure) (a .name)) in
+    omega (arith, f)
+
+sub-result : tie.Need-sub-result
+sub-result c = search needs
+
+part-result-start : tie.Need-part-result-start
+part-result-start c = search needs
+
+part-result-end : tie.Need-part-result-end
+part-result-end c = let a = (c .before .before .before .before .args) in
+    let f = rw (← (c .before .step-place) .ensures) at (place-fits (a .image .now) (a .list .now) (a .structure) (a .name)) in
+    omega (arith, f)
+
+returns : tie.Need-returns
+returns c = let a = (c .before .before .before .before .before .args) in
+    let z = (c .before .before .step-place) .result in
+    let f = rw (← (c .before .before .step-place) .ensures) at (place-part (a .image .now) (a .list .now) (a .structure) (a .name)) in
+    let d : z .start + z .len - z .start ≡ z .len = omega arith in
+    ap (λ (j : ℕ). take j (drop (z .start) (a .list .now))) d ∙ f
+
+pub step-commands-spec : {M : Type 1} → statement M
+step-commands-spec =
+    tie.close
+    (tie.spec
+    step-place-requires
+    add-end
+    mul-result
+    sub-result
+    part-result-start
+    part-result-end
+    returns)

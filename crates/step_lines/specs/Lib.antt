@@ -1,0 +1,6 @@
+pub mod Lines
+pub mod Walk
+pub mod WalkLaws
+pub mod StepTextLaws
+pub mod StepWalkLaws
+pub mod ProgramTextLaws
