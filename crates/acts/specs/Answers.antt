@@ -1,0 +1,36 @@
+-- What the code of a command is handed, and what its answer says (01, 'Table and turns'): the code holds heads and cells alone, and
+-- tells by its answer what becomes of the rest of the state.
+use Prim.Native.Nat.{ℕ, suc, _*_, _<_}
+use mathlib.Core.Path.{_≡_}
+use mathlib.Core.List.{List}
+use lib.ListN.{length, getD}
+use Rattle.types.specs.Limits.{max-instances}
+use Rattle.memory.specs.Layout.{State, head, head-size, row-size, next-of, end-of, with-heads, with-cells, unstable, refused, with-count}
+use Rattle.acts.specs.declared.Acted.{Acted}
+use Rattle.acts.specs.declared.Acted.the-variants.{Kept, Changed, Made, Refused}
+
+-- what `Fit` says of every command: the actor, the size of memory, and a next command
+pub record Room (h c : List ℕ) (l : ℕ) : Type 0 where
+  pub chosen : l < max-instances
+  pub heads-long : length h ≡ head-size * max-instances
+  pub cells-long : length c ≡ row-size * max-instances
+  pub next : getD h (head l next-of) 0 < getD h (head l end-of) 0
+
+-- heads and cells alone, as a state with every instance there: what a command needs is read off it
+abbrev pub memory : List ℕ → List ℕ → State
+memory h c = record { count = max-instances; place = 0; fixes = 0; stable = 0; number = 0; heads = h; cells = c }
+
+-- a state with these heads and cells
+abbrev pub on : State → List ℕ → List ℕ → State
+on z h c = with-cells (with-heads z h) c
+
+-- what an answer makes of the rest of the state
+unfoldable pub answering : Acted → State → State
+answering Kept z = z
+answering Changed z = unstable z
+answering Made z = unstable (with-count z (suc (z .count)))
+answering (Refused n) z = refused n z
+
+-- with the answer r, the heads h and the cells c become h′ and c′ as f has it, whatever the rest of the state is
+abbrev pub Does : (State → State) → Acted → List ℕ → List ℕ → List ℕ → List ℕ → Type 0
+Does f r h c h′ c′ = (z : State) → answering r (on z h′ c′) ≡ f (on z h c)

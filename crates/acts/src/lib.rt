@@ -1,0 +1,22 @@
+// The commands on lent memory (01, 'Table and turns'; 000's rules for commands): one function for each kind, over the numbers and
+// the cells of the instances. The contracts are equations with `memory/specs/Act.antt`.
+mod place;
+pub mod stack;
+
+// The numbers of an instance in `heads`, and its cells.
+pub const HEAD_SIZE: usize = 4;
+
+pub const HEIGHT: usize = 1;
+
+pub const NEXT: usize = 2;
+
+pub const ROW_SIZE: usize = 32;
+
+// What a command did beside its writes to memory: nothing; it made all stability entries false; it made an instance, which does that
+// too; or it was refused with a number, and wrote nothing.
+pub enum Acted {
+    Kept,
+    Changed,
+    Made,
+    Refused(u8),
+}
