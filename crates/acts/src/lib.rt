@@ -3,8 +3,10 @@
 mod place;
 pub mod stack;
 
-// The numbers of an instance in `heads`, and its cells.
+// The numbers of an instance in `heads`, and the cells of one.
 pub const HEAD_SIZE: usize = 4;
+
+pub const STRUCT: usize = 0;
 
 pub const HEIGHT: usize = 1;
 

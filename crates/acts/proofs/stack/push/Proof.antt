@@ -1,8 +1,11 @@
 -- `acts::stack::push` meets its contract: the word is put on top.
 use borrow.Author.Needs.{needs}
 use native.Mathlib.Omega.{arith}
-use Rattle.memory.specs.Layout.{head, end-of}
-use Rattle.acts.specs.StackWays.{push-way}
+use Rattle.memory.specs.Layout.{head, height-of, end-of}
+use Rattle.memory.specs.Act.{do-push}
+use mathlib.Core.Path.{refl}
+use lib.ListN.{getD}
+use Rattle.acts.specs.StackWays.{put-way}
 use Rattle.acts.proofs.stack.push.Statement.{statement}
 use Rattle.acts.proofs.stack.push.Tie as tie
 
@@ -43,8 +46,9 @@ same-length-2 : tie.Need-same-length-2
 same-length-2 c = search needs
 
 returns : tie.Need-returns
+unfolding do-push
 returns c = let a = (c .before .before .before .before .before .before .before .before .before .before .before .args) in
-    push-way (a .heads .now) (a .cells .now) _ _ (a .l) (a .w) ((c .before .before .before .before .put) .ensures .0) ((c .before .before .before .before .put) .ensures .1)
+    put-way (a .heads .now) (a .cells .now) _ (a .l) _ (getD (a .heads .now) (head (a .l) height-of) 0) (a .w) (a .w) refl ((c .before .before .before .before .put) .ensures .0) ((c .before .before .before .before .put) .ensures .1)
 
 pub push-spec : {M : Type 1} → statement M
 push-spec =
