@@ -2,10 +2,12 @@
 -- tells by its answer what becomes of the rest of the state.
 use Prim.Native.Nat.{ℕ, suc, _*_, _<_}
 use mathlib.Core.Path.{_≡_}
+use mathlib.Core.Bool.{true, false}
 use mathlib.Core.List.{List}
 use lib.ListN.{length, getD}
+use lib.Dec.{eqb}
 use Rattle.types.specs.Limits.{max-instances}
-use Rattle.memory.specs.Layout.{State, head, head-size, row-size, next-of, end-of, with-heads, with-cells, unstable, refused, with-count}
+use Rattle.memory.specs.Layout.{State, head, head-size, row-size, next-of, end-of, operand, with-heads, with-cells, unstable, refused, with-count}
 use Rattle.acts.specs.declared.Acted.{Acted}
 use Rattle.acts.specs.declared.Acted.the-variants.{Kept, Changed, Made, Refused}
 
@@ -34,3 +36,7 @@ answering (Refused n) z = refused n z
 -- with the answer r, the heads h and the cells c become h′ and c′ as f has it, whatever the rest of the state is
 abbrev pub Does : (State → State) → Acted → List ℕ → List ℕ → List ℕ → List ℕ → Type 0
 Does f r h c h′ c′ = (z : State) → answering r (on z h′ c′) ≡ f (on z h c)
+
+-- the answer of a parameter's write, which goes by whether the cell's word changes
+unfoldable pub change : ℕ → ℕ → Acted
+change old c = elim (eqb (operand old) (operand c)) [ true ↦ Kept | false ↦ Changed ]

@@ -1,2 +1,4 @@
 pub mod Answers
 pub mod StackWays
+pub mod OperWays
+pub mod VarWays
