@@ -37,6 +37,10 @@ answering (Refused n) z = refused n z
 abbrev pub Does : (State → State) → Acted → List ℕ → List ℕ → List ℕ → List ℕ → Type 0
 Does f r h c h′ c′ = (z : State) → answering r (on z h′ c′) ≡ f (on z h c)
 
+-- the same of a state with n instances
+abbrev pub DoesWith : ℕ → (State → State) → Acted → List ℕ → List ℕ → List ℕ → List ℕ → Type 0
+DoesWith n f r h c h′ c′ = (z : State) → z .count ≡ n → answering r (on z h′ c′) ≡ f (on z h c)
+
 -- the answer of a parameter's write, which goes by whether the cell's word changes
 unfoldable pub change : ℕ → ℕ → Acted
 change old c = elim (eqb (operand old) (operand c)) [ true ↦ Kept | false ↦ Changed ]

@@ -2,3 +2,4 @@ pub mod Answers
 pub mod StackWays
 pub mod OperWays
 pub mod VarWays
+pub mod ConsWays
