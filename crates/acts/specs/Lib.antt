@@ -3,3 +3,4 @@ pub mod StackWays
 pub mod OperWays
 pub mod VarWays
 pub mod ConsWays
+pub mod PerformWays

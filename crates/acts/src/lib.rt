@@ -2,6 +2,7 @@
 // the cells of the instances. The contracts are equations with `memory/specs/Act.antt`.
 pub mod cons;
 pub mod oper;
+pub mod perform;
 mod place;
 pub mod stack;
 pub mod vars;
