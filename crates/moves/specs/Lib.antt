@@ -1,0 +1,4 @@
+pub mod Ready
+pub mod BeginWays
+pub mod ChooseLaws
+pub mod ChooseWays
