@@ -21,8 +21,8 @@ use Rattle.moves.specs.Ready.{Row, Rows}
 pub means-any : (c k : ℕ) → c / step-names ≡ 0 → means c k ≡ true
 means-any c k h = rw (eq-eqb (c / step-names) 0 h)
 
-pub means-named : (c k : ℕ) → (c / step-names ≡ 0 → ⊥) → means c k ≡ eqb (c / step-names) (suc k)
-means-named c k h = rw (ne-eqb (c / step-names) 0 h)
+pub means-named : (c k : ℕ) → (c / step-names ≡ 0 → ⊥) → eqb (c / step-names) (k + 1) ≡ means c k
+means-named c k h = rw (add-one k, ne-eqb (c / step-names) 0 h)
 
 module _ (spans : List ℕ) (c : ℕ) (heads : List ℕ) (l : ℕ) where
   abbrev k₀ : ℕ

@@ -1,5 +1,4 @@
 -- `begin::means` meets its contract.
-use native.Mathlib.Numerals.{add-one}
 use mathlib.Core.Path.{sym}
 use Rattle.moves.specs.BeginWays.{means-any, means-named}
 use borrow.Author.Needs.{needs}
@@ -13,7 +12,7 @@ add-result : tie.Need-add-result
 add-result c = search needs
 
 returns-2 : tie.Need-returns-2
-returns-2 c = rw add-one (sym (means-named (c .before .args .c) (c .before .args .k) (c .if1 .left)))
+returns-2 c = means-named (c .before .args .c) (c .before .args .k) (c .if1 .left)
 
 pub means-spec : {M : Type 1} → statement M
 means-spec = tie.close (tie.spec returns add-result returns-2)
