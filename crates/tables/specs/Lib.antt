@@ -1,0 +1,6 @@
+pub mod Params
+pub mod Laid
+pub mod Told
+pub mod ToldLaws
+pub mod ValueWays
+pub mod RecordWays
