@@ -1,13 +1,14 @@
 // The records of a table stream, read into memory one behind the other (01, 'Table and turns', and numbers 11 and 12).
 use crate::store;
 ghost use mathlib.Core.Path.{_≡_};
-ghost use Prim.Native.Nat.{_+_, _≤_, _<_};
+ghost use Prim.Native.Nat.{_+_, _*_, _≤_, _<_};
 ghost use lib.ListN.{length};
 ghost use Rattle.types.specs.Limits.{nat-end};
 ghost use Rattle.types.specs.Types.{type-of};
 ghost use Rattle.table.specs.TableReader.{allowed};
-ghost use Rattle.tables.specs.Told.{word-of, Within};
-ghost use Rattle.tables.specs.RecordWays.{ValueLaid, ValuesLaid};
+ghost use Rattle.memory.specs.Layout.{head-size, row-size};
+ghost use Rattle.tables.specs.Params.{Tables};
+ghost use Rattle.tables.specs.Told.{word-of, Within, ValueLaid, ValuesLaid, RecordLaid, RecordsLaid};
 
 // The next place.
 pub enum PlaceRead {
@@ -82,6 +83,69 @@ fn values(
         };
         next = m;
         x += 1;
+    }
+    PlaceRead::Place(next)
+}
+
+// The record at a place, as the instance l.
+fn one_record(
+    s: &[u8],
+    counts: &[u8],
+    types: &[u8],
+    at: usize,
+    heads: &mut [usize],
+    cells: &mut [u64],
+    l: usize,
+) -> PlaceRead
+    requires { ⌜ Tables (now counts) (now types) ⌝ }
+    requires { ⌜ (head-size * l + head-size ≤ length (now heads)) × (row-size * l + row-size ≤ length (now cells)) ⌝ }
+    ensures { λ r. ⌜ RecordLaid (now (counts .entry)) (now (types .entry)) (now (s .entry)) at (now (heads .entry)) (now (cells .entry)) l r (now (heads .exit)) (now (cells .exit)) ⌝ }
+    ensures { λ r. ⌜ Within (now (s .entry)) at r ⌝ }
+{
+    if s.len() <= at {
+        return PlaceRead::NoPlace(WRONG_END);
+    }
+    let k = store::index(s[at]);
+    if counts.len() <= k {
+        return PlaceRead::NoPlace(WRONG_VALUE);
+    }
+    store::head(heads, l, k);
+    values(
+        s,
+        types,
+        types::MAX_PARAMS * k,
+        store::index(counts[k]),
+        at + 1,
+        cells,
+        store::ROW * l,
+    )
+}
+
+// n records from a place on, as the instances from l on.
+fn records(
+    s: &[u8],
+    counts: &[u8],
+    types: &[u8],
+    n: usize,
+    at: usize,
+    heads: &mut [usize],
+    cells: &mut [u64],
+    l: usize,
+) -> PlaceRead
+    requires { ⌜ Tables (now counts) (now types) ⌝ }
+    requires { ⌜ (at ≤ length (now s)) × (head-size * (l + n) ≤ length (now heads)) × (row-size * (l + n) ≤ length (now cells)) ⌝ }
+    ensures { λ r. ⌜ RecordsLaid (now (counts .entry)) (now (types .entry)) (now (s .entry)) n at (now (heads .entry)) (now (cells .entry)) l r (now (heads .exit)) (now (cells .exit)) ⌝ }
+    ensures { λ r. ⌜ Within (now (s .entry)) at r ⌝ }
+{
+    let mut next = at;
+    let mut i = 0;
+    while i < n {
+        let r = one_record(s, counts, types, next, heads, cells, l + i);
+        let PlaceRead::Place(m) = r else {
+            return r;
+        };
+        next = m;
+        i += 1;
     }
     PlaceRead::Place(next)
 }
