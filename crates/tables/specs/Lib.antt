@@ -6,3 +6,4 @@ pub mod ToldLaws
 pub mod ValueWays
 pub mod ValuesWays
 pub mod RecordWays
+pub mod NullWays
