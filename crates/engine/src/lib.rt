@@ -2,7 +2,7 @@
 use acts::Acted;
 use acts::HEAD_SIZE;
 use acts::NEXT;
-use acts::perform::perform;
+use acts::perform;
 ghost use mathlib.Core.Path.{_≡_};
 ghost use Rattle.memory.specs.Act.{act};
 ghost use Rattle.memory.specs.Fit.{Fit};
