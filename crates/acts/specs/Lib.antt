@@ -4,3 +4,4 @@ pub mod OperWays
 pub mod VarWays
 pub mod ConsWays
 pub mod PerformWays
+pub mod ReadyLaws

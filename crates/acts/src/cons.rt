@@ -43,7 +43,7 @@ fn found(heads: &mut [usize], l: usize, k: usize)
 }
 
 // cons k: the values on top become the parameters of the new instance, whose label takes their place.
-pub fn construct(
+pub(crate) fn construct(
     counts: &[u8],
     heads: &mut [usize],
     cells: &mut [u64],

@@ -34,7 +34,7 @@ fn result_byte(o: u8, t: u8) -> u8
 }
 
 // op o: the value beneath is the left operand.
-pub fn operate(heads: &mut [usize], cells: &mut [u64], l: usize, o: u8) -> Acted
+pub(crate) fn operate(heads: &mut [usize], cells: &mut [u64], l: usize, o: u8) -> Acted
     requires { ⌜ Room (now heads) (now cells) l ⌝ }
     requires { ⌜ OpFit [] l (memory (now heads) (now cells)) o ⌝ }
     ensures { λ r. ⌜ Does (λ z. do-op [] l z o) r (now (heads .entry)) (now (cells .entry)) (now (heads .exit)) (now (cells .exit)) ⌝ }

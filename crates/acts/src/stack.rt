@@ -17,7 +17,7 @@ ghost use Rattle.memory.specs.Fit.{PushFit, ThisFit, TruthFit};
 ghost use Rattle.acts.specs.Answers.{Room, memory, Does};
 
 // push T V: the command's word is the cell.
-pub fn push(heads: &mut [usize], cells: &mut [u64], l: usize, w: u64) -> Acted
+pub(crate) fn push(heads: &mut [usize], cells: &mut [u64], l: usize, w: u64) -> Acted
     requires { ⌜ Room (now heads) (now cells) l ⌝ }
     requires { ⌜ PushFit [] l (memory (now heads) (now cells)) ⌝ }
     ensures { λ r. ⌜ Does (λ z. do-push [] l z w) r (now (heads .entry)) (now (cells .entry)) (now (heads .exit)) (now (cells .exit)) ⌝ }
@@ -29,7 +29,7 @@ pub fn push(heads: &mut [usize], cells: &mut [u64], l: usize, w: u64) -> Acted
 }
 
 // push this: the actor's label, of its struct.
-pub fn push_this(heads: &mut [usize], cells: &mut [u64], l: usize) -> Acted
+pub(crate) fn push_this(heads: &mut [usize], cells: &mut [u64], l: usize) -> Acted
     requires { ⌜ Room (now heads) (now cells) l ⌝ }
     requires { ⌜ ThisFit [] l (memory (now heads) (now cells)) ⌝ }
     ensures { λ r. ⌜ Does (λ z. do-this [] l z) r (now (heads .entry)) (now (cells .entry)) (now (heads .exit)) (now (cells .exit)) ⌝ }
@@ -43,7 +43,7 @@ pub fn push_this(heads: &mut [usize], cells: &mut [u64], l: usize) -> Acted
 }
 
 // not: a truth's word is 0 or 1.
-pub fn negate(heads: &mut [usize], cells: &mut [u64], l: usize) -> Acted
+pub(crate) fn negate(heads: &mut [usize], cells: &mut [u64], l: usize) -> Acted
     requires { ⌜ Room (now heads) (now cells) l ⌝ }
     requires { ⌜ TruthFit [] l (memory (now heads) (now cells)) ⌝ }
     ensures { λ r. ⌜ Does (λ z. do-not [] l z) r (now (heads .entry)) (now (cells .entry)) (now (heads .exit)) (now (cells .exit)) ⌝ }
@@ -57,7 +57,7 @@ pub fn negate(heads: &mut [usize], cells: &mut [u64], l: usize) -> Acted
 }
 
 // if n: a false condition leaves the n commands of the body out.
-pub fn branch(heads: &mut [usize], cells: &[u64], l: usize, n: usize) -> Acted
+pub(crate) fn branch(heads: &mut [usize], cells: &[u64], l: usize, n: usize) -> Acted
     requires { ⌜ Room (now heads) (now cells) l ⌝ }
     requires { ⌜ TruthFit [] l (memory (now heads) (now cells)) ⌝ }
     requires { ⌜ getD (now heads) (head l next-of) 0 + 1 + n < 2 ^ 64 ⌝ }

@@ -16,7 +16,7 @@ ghost use Rattle.memory.specs.Fit.{RdFit, WrFit};
 ghost use Rattle.acts.specs.Answers.{Room, memory, change, Does};
 
 // rd x: the variable of the instance whose label is on top.
-pub fn read(heads: &mut [usize], cells: &mut [u64], l: usize, x: usize) -> Acted
+pub(crate) fn read(heads: &mut [usize], cells: &mut [u64], l: usize, x: usize) -> Acted
     requires { ⌜ Room (now heads) (now cells) l ⌝ }
     requires { ⌜ RdFit [] l (memory (now heads) (now cells)) x ⌝ }
     ensures { λ r. ⌜ Does (λ z. do-rd [] l z x) r (now (heads .entry)) (now (cells .entry)) (now (heads .exit)) (now (cells .exit)) ⌝ }
@@ -45,7 +45,13 @@ fn replace(cells: &mut [u64], at: usize, c: u64) -> Acted
 }
 
 // wr x: the value beneath the label on top. A parameter of a null instance stays as it is.
-pub fn write(counts: &[u8], heads: &mut [usize], cells: &mut [u64], l: usize, x: usize) -> Acted
+pub(crate) fn write(
+    counts: &[u8],
+    heads: &mut [usize],
+    cells: &mut [u64],
+    l: usize,
+    x: usize,
+) -> Acted
     requires { ⌜ Room (now heads) (now cells) l ⌝ }
     requires { ⌜ WrFit (now counts) l (memory (now heads) (now cells)) x ⌝ }
     ensures { λ r. ⌜ Does (λ z. do-wr (now (counts .entry)) l z x) r (now (heads .entry)) (now (cells .entry)) (now (heads .exit)) (now (cells .exit)) ⌝ }

@@ -98,7 +98,10 @@ sub-put : tie.Need-sub-put
 sub-put c = search needs
 
 add-put : tie.Need-add-put
-add-put c = omega (arith, (c .before .before .before .before .before .before .before .before .before .before .before .before .before .slice-known) .given (head ((c .before .before .before .before .before .before .before .before .before .before .before .before .before .before .args) .l) end-of))
+add-put c =
+    let slice-known = c .before .before .before .before .before .before .before .before .before .before .before .before .before .slice-known in
+    let args = c .before .before .before .before .before .before .before .before .before .before .before .before .before .before .args in
+    omega (arith, slice-known .given (head (args .l) end-of))
 
 put-requires : tie.Need-put-requires
 put-requires c κs = search needs
@@ -116,16 +119,30 @@ same-length-2 : tie.Need-same-length-2
 same-length-2 c = search needs
 
 returns : tie.Need-returns
-returns c = let a = (c .before .before .before .before .before .before .before .before .before .before .before .before .before .before .before .before .before .before .before .args) in
-    let v = (c .before .before .before .before .before .before .before .before .before .before .answer) .given .0 .0 in
-    value-way (a .heads .now) (a .cells .now) (a .l) (a .o) _ _ _ v (sym ((c .before .before .before .before .before .before .before .before .before .before .before .before .apply-word) .ensures) ∙ (c .before .before .before .before .before .before .before .before .before .before .answer) .given .1)
-    ((c .before .before .before .before .before .before .before .cell) .ensures ∙ ap (λ b. cell b v) ((c .before .before .before .before .before .before .before .before .result-byte) .ensures)) ((c .before .before .before .before .put) .ensures .0) ((c .before .before .before .before .put) .ensures .1)
+returns c =
+    let answer = c .before .before .before .before .before .before .before .before .before .before .answer in
+    let args = c .before .before .before .before .before .before .before .before .before .before .before .before .before .before .before .before .before .before .before .args in
+    let apply-word = c .before .before .before .before .before .before .before .before .before .before .before .before .apply-word in
+    let made = c .before .before .before .before .before .before .before .cell in
+    let result-byte = c .before .before .before .before .before .before .before .before .result-byte in
+    let put = c .before .before .before .before .put in
+    let v = answer .given .0 .0 in
+    value-way (args .heads .now) (args .cells .now) (args .l) (args .o) _ _ _ v (sym (apply-word .ensures) ∙ answer .given .1)
+    (made .ensures ∙ ap (λ b. cell b v) (result-byte .ensures)) (put .ensures .0) (put .ensures .1)
 
 returns-2 : tie.Need-returns-2
-returns-2 c = let a = (c .before .before .before .before .before .before .before .before .before .args) in outside-way (a .heads .now) (a .cells .now) (a .l) (a .o) (sym ((c .before .before .apply-word) .ensures) ∙ (c .enum-told) .given .1)
+returns-2 c =
+    let args = c .before .before .before .before .before .before .before .before .before .args in
+    let apply-word = c .before .before .apply-word in
+    let told = c .enum-told in
+    outside-way (args .heads .now) (args .cells .now) (args .l) (args .o) (sym (apply-word .ensures) ∙ told .given .1)
 
 returns-3 : tie.Need-returns-3
-returns-3 c = let a = (c .before .before .before .before .before .before .before .before .before .args) in unfit-way (a .heads .now) (a .cells .now) (a .l) (a .o) (sym ((c .before .before .apply-word) .ensures) ∙ (c .enum-told2) .given .1)
+returns-3 c =
+    let args = c .before .before .before .before .before .before .before .before .before .args in
+    let apply-word = c .before .before .apply-word in
+    let told = c .enum-told2 in
+    unfit-way (args .heads .now) (args .cells .now) (args .l) (args .o) (sym (apply-word .ensures) ∙ told .given .1)
 
 pub operate-spec : {M : Type 1} → statement M
 operate-spec =

@@ -62,8 +62,11 @@ same-length : tie.Need-same-length
 same-length c = search needs
 
 returns : tie.Need-returns
-returns c = let a = (c .before .before .before .before .before .before .before .before .before .before .args) in
-    false-way (a .heads .now) (a .cells .now) _ (a .l) (a .n) ((c .before .before .before .before .if1) .taken) ((c .before .before .go) .ensures)
+returns c =
+    let args = c .before .before .before .before .before .before .before .before .before .before .args in
+    let if1 = c .before .before .before .before .if1 in
+    let go = c .before .before .go in
+    false-way (args .heads .now) (args .cells .now) _ (args .l) (args .n) (if1 .taken) (go .ensures)
 
 sub-go-2 : tie.Need-sub-go-2
 sub-go-2 c = search needs
@@ -78,8 +81,11 @@ same-length-2 : tie.Need-same-length-2
 same-length-2 c = search needs
 
 returns-2 : tie.Need-returns-2
-returns-2 c = let a = (c .before .before .before .before .before .before .before .before .before .before .args) in
-    true-way (a .heads .now) (a .cells .now) _ (a .l) (a .n) ((c .before .before .before .before .if1) .left) ((c .before .before .go2) .ensures)
+returns-2 c =
+    let args = c .before .before .before .before .before .before .before .before .before .before .args in
+    let if1 = c .before .before .before .before .if1 in
+    let go2 = c .before .before .go2 in
+    true-way (args .heads .now) (args .cells .now) _ (args .l) (args .n) (if1 .left) (go2 .ensures)
 
 pub branch-spec : {M : Type 1} → statement M
 branch-spec =

@@ -66,7 +66,10 @@ sub-put : tie.Need-sub-put
 sub-put c = search needs
 
 add-put : tie.Need-add-put
-add-put c = omega (arith, (c .before .before .before .before .before .before .before .slice-known) .given (head ((c .before .before .before .before .before .before .before .before .args) .l) end-of))
+add-put c =
+    let slice-known = c .before .before .before .before .before .before .before .slice-known in
+    let args = c .before .before .before .before .before .before .before .before .args in
+    omega (arith, slice-known .given (head (args .l) end-of))
 
 put-requires : tie.Need-put-requires
 put-requires c κs = search needs
@@ -79,11 +82,15 @@ same-length-2 c = search needs
 
 returns : tie.Need-returns
 unfolding do-not
-returns c = let a = (c .before .before .before .before .before .before .before .before .before .before .before .before .before .args) in
-    let h = a .heads .now in
-    let d = a .cells .now in
-    put-way h d _ (a .l) _ (getD h (head (a .l) height-of) 0 - 1) _ (cell bool-byte (1 - operand (top [] (a .l) (memory h d))))
-    ((c .before .before .before .before .before .before .before .cell) .ensures) ((c .before .before .before .before .put) .ensures .0) ((c .before .before .before .before .put) .ensures .1)
+returns c =
+    let args = c .before .before .before .before .before .before .before .before .before .before .before .before .before .args in
+    let made = c .before .before .before .before .before .before .before .cell in
+    let put = c .before .before .before .before .put in
+    let h = args .heads .now in
+    let d = args .cells .now in
+    let other = cell bool-byte (1 - operand (top [] (args .l) (memory h d))) in
+    put-way h d _ (args .l) _ (getD h (head (args .l) height-of) 0 - 1) _ other
+    (made .ensures) (put .ensures .0) (put .ensures .1)
 
 pub negate-spec : {M : Type 1} → statement M
 negate-spec =

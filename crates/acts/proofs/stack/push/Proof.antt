@@ -1,10 +1,10 @@
 -- `acts::stack::push` meets its contract: the word is put on top.
 use borrow.Author.Needs.{needs}
 use native.Mathlib.Omega.{arith}
-use Rattle.memory.specs.Layout.{head, height-of, end-of}
-use Rattle.memory.specs.Act.{do-push}
 use mathlib.Core.Path.{refl}
 use lib.ListN.{getD}
+use Rattle.memory.specs.Layout.{head, height-of, end-of}
+use Rattle.memory.specs.Act.{do-push}
 use Rattle.acts.specs.StackWays.{put-way}
 use Rattle.acts.proofs.stack.push.Statement.{statement}
 use Rattle.acts.proofs.stack.push.Tie as tie
@@ -34,7 +34,10 @@ slice-read-n : tie.Need-slice-read-n
 slice-read-n c = search needs
 
 add-put : tie.Need-add-put
-add-put c = omega (arith, (c .before .before .before .before .before .slice-known) .given (head ((c .before .before .before .before .before .before .args) .l) end-of))
+add-put c =
+    let slice-known = c .before .before .before .before .before .slice-known in
+    let args = c .before .before .before .before .before .before .args in
+    omega (arith, slice-known .given (head (args .l) end-of))
 
 put-requires : tie.Need-put-requires
 put-requires c κs = search needs
@@ -47,8 +50,12 @@ same-length-2 c = search needs
 
 returns : tie.Need-returns
 unfolding do-push
-returns c = let a = (c .before .before .before .before .before .before .before .before .before .before .before .args) in
-    put-way (a .heads .now) (a .cells .now) _ (a .l) _ (getD (a .heads .now) (head (a .l) height-of) 0) (a .w) (a .w) refl ((c .before .before .before .before .put) .ensures .0) ((c .before .before .before .before .put) .ensures .1)
+returns c =
+    let args = c .before .before .before .before .before .before .before .before .before .before .before .args in
+    let put = c .before .before .before .before .put in
+    let h = args .heads .now in
+    put-way h (args .cells .now) _ (args .l) _ (getD h (head (args .l) height-of) 0) (args .w) (args .w) refl
+    (put .ensures .0) (put .ensures .1)
 
 pub push-spec : {M : Type 1} → statement M
 push-spec =

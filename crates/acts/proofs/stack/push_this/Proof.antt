@@ -54,7 +54,10 @@ cell-requires : tie.Need-cell-requires
 cell-requires c κs = search needs
 
 add-put : tie.Need-add-put
-add-put c = omega (arith, (c .before .before .before .before .before .before .before .slice-known) .given (head ((c .before .before .before .before .before .before .before .before .args) .l) end-of))
+add-put c =
+    let slice-known = c .before .before .before .before .before .before .before .slice-known in
+    let args = c .before .before .before .before .before .before .before .before .args in
+    omega (arith, slice-known .given (head (args .l) end-of))
 
 put-requires : tie.Need-put-requires
 put-requires c κs = search needs
@@ -67,10 +70,14 @@ same-length-2 c = search needs
 
 returns : tie.Need-returns
 unfolding do-this
-returns c = let a = (c .before .before .before .before .before .before .before .before .before .before .before .before .before .args) in
-    let h = a .heads .now in
-    put-way h (a .cells .now) _ (a .l) _ (getD h (head (a .l) height-of) 0) _ (label-cell (getD h (head (a .l) struct-of) 0) (a .l))
-    ((c .before .before .before .before .before .before .before .cell) .ensures) ((c .before .before .before .before .put) .ensures .0) ((c .before .before .before .before .put) .ensures .1)
+returns c =
+    let args = c .before .before .before .before .before .before .before .before .before .before .before .before .before .args in
+    let cell = c .before .before .before .before .before .before .before .cell in
+    let put = c .before .before .before .before .put in
+    let h = args .heads .now in
+    let this = label-cell (getD h (head (args .l) struct-of) 0) (args .l) in
+    put-way h (args .cells .now) _ (args .l) _ (getD h (head (args .l) height-of) 0) _ this
+    (cell .ensures) (put .ensures .0) (put .ensures .1)
 
 pub push-this-spec : {M : Type 1} → statement M
 push-this-spec =

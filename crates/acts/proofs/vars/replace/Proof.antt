@@ -22,13 +22,19 @@ same-length : tie.Need-same-length
 same-length c = search needs
 
 returns : tie.Need-returns
-returns c = let a = (c .before .before .args) in (change-none (getD (a .cells .now) (a .at) 0) (a .c) ((c .if1) .taken), refl)
+returns c =
+    let args = c .before .before .args in
+    let if1 = c .if1 in
+    (change-none (getD (args .cells .now) (args .at) 0) (args .c) (if1 .taken), refl)
 
 same-length-2 : tie.Need-same-length-2
 same-length-2 c = search needs
 
 returns-2 : tie.Need-returns-2
-returns-2 c = let a = (c .before .before .args) in (change-some (getD (a .cells .now) (a .at) 0) (a .c) ((c .if1) .left), refl)
+returns-2 c =
+    let args = c .before .before .args in
+    let if1 = c .if1 in
+    (change-some (getD (args .cells .now) (args .at) 0) (args .c) (if1 .left), refl)
 
 pub replace-spec : {M : Type 1} → statement M
 replace-spec =

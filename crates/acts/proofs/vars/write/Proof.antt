@@ -87,7 +87,10 @@ sub-go : tie.Need-sub-go
 sub-go c = search needs
 
 add-go : tie.Need-add-go
-add-go c = omega (arith, (c .before .before .before .before .before .before .before .slice-known) .given (head ((c .before .before .before .before .before .before .before .before .before .args) .l) end-of))
+add-go c =
+    let slice-known = c .before .before .before .before .before .before .before .slice-known in
+    let args = c .before .before .before .before .before .before .before .before .before .args in
+    omega (arith, slice-known .given (head (args .l) end-of))
 
 go-requires : tie.Need-go-requires
 go-requires c κs = search needs
@@ -96,15 +99,23 @@ shared-slice-read-if1 : tie.Need-shared-slice-read-if1
 shared-slice-read-if1 c = search needs
 
 cast-if1 : tie.Need-cast-if1
-cast-if1 c = let a = (c .before .before .before .before .before .before .before .before .before .before .before .before .before .args) in
-    omega (arith, (c .before .before .before .before .before .before .before .before .before .before .before .before .shared-slice-known) .given (getD (a .heads .now) (head (operand (top [] (a .l) (memory (a .heads .now) (a .cells .now)))) struct-of) 0))
+cast-if1 c =
+    let args = c .before .before .before .before .before .before .before .before .before .before .before .before .before .args in
+    let shared-slice-known = c .before .before .before .before .before .before .before .before .before .before .before .before .shared-slice-known in
+    let h = args .heads .now in
+    let r = operand (top [] (args .l) (memory h (args .cells .now))) in
+    omega (arith, shared-slice-known .given (getD h (head r struct-of) 0))
 
 same-length : tie.Need-same-length
 same-length c = search needs
 
 returns : tie.Need-returns
-returns c = let a = (c .before .before .before .before .before .before .before .before .before .before .before .before .before .before .before .args) in
-    null-way (a .counts .now) (a .heads .now) (a .cells .now) _ (a .l) (a .x) ((c .before .before .before .before .before .go) .ensures) ((c .before .if1) .taken) ((c .if2) .taken)
+returns c =
+    let args = c .before .before .before .before .before .before .before .before .before .before .before .before .before .before .before .args in
+    let go = c .before .before .before .before .before .go in
+    let if1 = c .before .if1 in
+    let if2 = c .if2 in
+    null-way (args .counts .now) (args .heads .now) (args .cells .now) _ (args .l) (args .x) (go .ensures) (if1 .taken) (if2 .taken)
 
 mul-replace : tie.Need-mul-replace
 mul-replace c = search needs
@@ -122,9 +133,14 @@ same-length-3 : tie.Need-same-length-3
 same-length-3 c = search needs
 
 returns-2 : tie.Need-returns-2
-returns-2 c = let a = (c .before .before .before .before .before .before .before .before .before .before .before .before .before .before .before .before .before .before .before .args) in
-    param-way (a .counts .now) (a .heads .now) (a .cells .now) _ (a .l) (a .x) _ ((c .before .before .replace) .ensures .1) _ ((c .before .before .replace) .ensures .0)
-    ((c .before .before .before .before .before .before .before .before .before .go) .ensures) ((c .before .before .before .before .before .if1) .taken) ((c .before .before .before .before .if2) .left)
+returns-2 c =
+    let args = c .before .before .before .before .before .before .before .before .before .before .before .before .before .before .before .before .before .before .before .args in
+    let replace = c .before .before .replace in
+    let go = c .before .before .before .before .before .before .before .before .before .go in
+    let if1 = c .before .before .before .before .before .if1 in
+    let if2 = c .before .before .before .before .if2 in
+    param-way (args .counts .now) (args .heads .now) (args .cells .now) _ (args .l) (args .x) _ (replace .ensures .1) _ (replace .ensures .0)
+    (go .ensures) (if1 .taken) (if2 .left)
 
 mul-cells : tie.Need-mul-cells
 mul-cells c = search needs
@@ -145,8 +161,11 @@ same-length-5 : tie.Need-same-length-5
 same-length-5 c = search needs
 
 returns-3 : tie.Need-returns-3
-returns-3 c = let a = (c .before .before .before .before .before .before .before .before .before .before .before .before .before .before .args) in
-    local-way (a .counts .now) (a .heads .now) (a .cells .now) _ (a .l) (a .x) _ refl ((c .before .before .before .before .go) .ensures) ((c .if1) .left)
+returns-3 c =
+    let args = c .before .before .before .before .before .before .before .before .before .before .before .before .before .before .args in
+    let go = c .before .before .before .before .go in
+    let if1 = c .if1 in
+    local-way (args .counts .now) (args .heads .now) (args .cells .now) _ (args .l) (args .x) _ refl (go .ensures) (if1 .left)
 
 pub write-spec : {M : Type 1} → statement M
 write-spec =

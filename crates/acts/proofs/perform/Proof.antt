@@ -1,4 +1,4 @@
--- `acts::perform::perform` meets its contract, one return for each kind.
+-- `acts::perform` meets its contract, one return for each kind.
 use borrow.Author.Needs.{needs}
 use Prim.Native.Nat.{_%_}
 use native.Mathlib.Omega.{arith}
@@ -6,8 +6,8 @@ use mathlib.Core.Path.{_≡_, refl}
 use Rattle.memory.specs.Layout.{operand}
 use Rattle.memory.specs.Act.{perform, do-push, do-this, do-rd, do-wr, do-cons, do-if, do-not, answered, do-op}
 use Rattle.acts.specs.PerformWays.{needed-by, performs, last-kind}
-use Rattle.acts.proofs.perform.perform.Statement.{statement}
-use Rattle.acts.proofs.perform.perform.Tie as tie
+use Rattle.acts.proofs.perform.Statement.{statement}
+use Rattle.acts.proofs.perform.Tie as tie
 
 push-requires : tie.Need-push-requires
 push-requires c κs =
