@@ -1,16 +1,13 @@
 -- The ways through the code of a move (000's rules for the schedule; 01, 'Table and turns').
 use Prim.Native.Nat.{ℕ, zero, suc, _+_, _-_, _*_, _/_, _%_, _^_, _<_, _≤_}
 use mathlib.Core.Path.{_≡_, refl, ap, sym, _∙_}
-use mathlib.Core.Bool.{true, false}
 use mathlib.Core.List.{List}
 use native.Mathlib.Omega.{arith}
 use native.Mathlib.Numerals.{add-one}
 use lib.ListN.{getD}
-use lib.Dec.{ltb, eqb}
 use lib.Pow.{pow-mono}
 use borrow.Author.Tests.{lt-ltb, le-ltb, eq-eqb, ne-eqb}
 use Rattle.types.specs.Limits.{max-stability}
-use Rattle.memory.specs.Layout.{State}
 use Rattle.memory.specs.Plan.{fix-code, round-code}
 use Rattle.memory.specs.Move.{begin-all, do-start, do-fix, do-round, move-by, move}
 use Rattle.memory.specs.MoveLaws.{move-start}
