@@ -1,14 +1,14 @@
 -- The ways through the code by which a step begins (000's rules InitG and InitL).
-use Prim.Native.Nat.{ℕ, zero, suc, _+_, _-_, _/_, _%_, _<_, _≤_}
+use Prim.Native.Nat.{ℕ, suc, _+_, _-_, _/_, _%_, _<_, _≤_}
 use mathlib.Core.Path.{_≡_, refl, ap, sym, _∙_}
 use mathlib.Core.Bool.{Bool, true, false}
 use mathlib.Core.List.{List}
 use native.Mathlib.Omega.{arith}
 use native.Mathlib.Numerals.{add-one}
-use lib.ListN.{length, getD}
+use lib.ListN.{getD}
 use lib.Dec.{eqb}
 use borrow.Author.Tests.{eq-eqb, ne-eqb, eqb-true, eqb-false, le-leb, lt-leb}
-use Rattle.types.specs.Limits.{max-structs, step-names}
+use Rattle.types.specs.Limits.{step-names}
 use Rattle.memory.specs.Layout.{head, struct-of}
 use Rattle.memory.specs.Plan.{span-of, from, to}
 use Rattle.memory.specs.Move.{means, begun, begin-one, begin-all}

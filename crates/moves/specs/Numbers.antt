@@ -3,7 +3,7 @@ use Prim.Native.Nat.{ℕ}
 use mathlib.Core.Path.{_≡_}
 use mathlib.Core.List.{List}
 use Rattle.memory.specs.Layout.{State, with-heads, refused}
-use Rattle.memory.specs.Move.{nested, moved}
+use Rattle.memory.specs.Move.{nested, moved, move}
 use Rattle.moves.specs.declared.Moved.{Moved}
 use Rattle.moves.specs.declared.Moved.the-variants.{To, Nested}
 
@@ -18,3 +18,7 @@ after z Nested h = with-heads (refused nested z) h
 -- an answer that makes of every machine with these numbers what f does, its heads as they were
 abbrev pub Makes : (State → State) → ℕ → ℕ → ℕ → Moved → Type 0
 Makes f a e s r = (c n : ℕ) (h x : List ℕ) → after (state c a e s n h x) r h ≡ f (state c a e s n h x)
+
+-- an answer, and the heads then, that a move makes of every machine with these numbers and heads
+abbrev pub Moves : List ℕ → List ℕ → List ℕ → ℕ → ℕ → ℕ → ℕ → Moved → List ℕ → Type 0
+Moves items spans heads c a e s r h = (n : ℕ) (x : List ℕ) → after (state c a e s n heads x) r h ≡ move items spans (state c a e s n heads x)

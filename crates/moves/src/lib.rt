@@ -4,15 +4,15 @@ pub mod choose;
 pub mod schedule;
 
 // The numbers of an instance, as memory/specs/Layout.antt lays them out.
-pub(crate) const HEAD_SIZE: usize = 4;
+pub const HEAD_SIZE: usize = 4;
 
-pub(crate) const STRUCT_OF: usize = 0;
+pub const STRUCT_OF: usize = 0;
 
-pub(crate) const HEIGHT_OF: usize = 1;
+pub const HEIGHT_OF: usize = 1;
 
-pub(crate) const NEXT_OF: usize = 2;
+pub const NEXT_OF: usize = 2;
 
-pub(crate) const END_OF: usize = 3;
+pub const END_OF: usize = 3;
 
 // What a move answers: where the machine stands then, or that it met a Fix with all stability entries taken (36).
 pub enum Moved {

@@ -2,16 +2,28 @@
 use crate::Moved;
 use crate::begin::begin_all;
 ghost use mathlib.Core.Path.{_≡_};
-ghost use mathlib.Core.List.{List};
-ghost use Prim.Native.Nat.{ℕ, _<_, _^_};
-ghost use Rattle.memory.specs.Move.{do-fix, do-round, move};
-ghost use Rattle.moves.specs.Numbers.{state, after, Makes};
+ghost use Prim.Native.Nat.{_<_, _^_};
+ghost use lib.ListN.{length, getD};
+ghost use lib.Dec.{eqb};
+ghost use Rattle.memory.specs.Plan.{end-code};
+ghost use Rattle.memory.specs.Move.{do-fix, do-round};
+ghost use Rattle.moves.specs.Numbers.{Makes, Moves};
 ghost use Rattle.moves.specs.Ready.{Movable};
 
 // The codes of memory/specs/Plan.antt: those of starts lie below FIX, those of a Fix that goes round from ROUND on.
 const FIX: usize = 1024;
 
+const END: usize = 1025;
+
 const ROUND: usize = 2048;
+
+// Whether the schedule is at its end.
+pub fn ended(items: &[usize], place: usize) -> bool
+    requires { ⌜ place < length (now items) ⌝ }
+    ensures { λ r. ⌜ r ≡ eqb (getD (now (items .entry)) place 0) end-code ⌝ }
+{
+    items[place] == END
+}
 
 // A Fix begins, or is one too many.
 fn fix(place: usize, fixes: usize, stable: usize) -> Moved
@@ -58,7 +70,7 @@ pub fn advance(
     stable: usize,
 ) -> Moved
     requires { ⌜ Movable (now items) (now spans) (now heads) count place fixes stable ⌝ }
-    ensures { λ r. ⌜ ((number : ℕ) (cells : List ℕ) → after (state count place fixes stable number (now (heads .entry)) cells) r (now (heads .exit)) ≡ move (now (items .entry)) (now (spans .entry)) (state count place fixes stable number (now (heads .entry)) cells)) ⌝ }
+    ensures { λ r. ⌜ Moves (now (items .entry)) (now (spans .entry)) (now (heads .entry)) count place fixes stable r (now (heads .exit)) ⌝ }
 {
     let c = items[place];
     if c < FIX {

@@ -1,7 +1,7 @@
 -- `choose::holder` meets its contract. The loop's invariant: the one looked for is the left-th of those who are still to be passed. The
 -- measure is how many instances are left.
 use Prim.Native.Nat.{_≤_, _+_, _-_}
-use mathlib.Core.Path.{_≡_, refl, sym, ap, _∙_}
+use mathlib.Core.Path.{_≡_, sym, ap, _∙_}
 use mathlib.Core.Logic.{⊎-elim}
 use native.Mathlib.Omega.{arith}
 use Rattle.memory.specs.Choose.{holds, holder}

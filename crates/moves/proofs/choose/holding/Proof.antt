@@ -1,7 +1,7 @@
 -- `choose::holding` meets its contract. The loop's invariant: those counted and those still to be counted are all. The measure is how
 -- many instances are left.
 use Prim.Native.Nat.{_≤_, _+_, _-_}
-use mathlib.Core.Path.{_≡_, refl, sym, ap, _∙_}
+use mathlib.Core.Path.{_≡_, sym, ap, _∙_}
 use mathlib.Core.Logic.{⊎-elim}
 use native.Mathlib.Omega.{arith}
 use Rattle.memory.specs.Choose.{holds, holding}
