@@ -3,3 +3,9 @@ pub mod CodesLaws
 pub mod WalkLaws
 pub mod Laid
 pub mod LaidLaws
+pub mod Spans
+pub mod SpansLaws
+pub mod NoteLaws
+pub mod Prepared
+pub mod PreparedLaws
+pub mod Rows

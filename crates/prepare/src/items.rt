@@ -9,6 +9,9 @@ ghost use Rattle.emit.specs.Written.{Ready, Wrote};
 ghost use Rattle.prepare.specs.Laid.{LaidProgram};
 ghost use Rattle.prepare.specs.Codes.{item-codes, items-codes, schedule-codes, item-at, row-at, items-at, schedule-at};
 
+// The codes of a schedule are at most two for each item, and the end.
+pub const CODES: usize = 2 * types::SCHEDULE_ITEMS + 1;
+
 // A Fix begins; the schedule ends; a Fix goes round to the place that is added to this number.
 const FIX: usize = 1024;
 

@@ -1,0 +1,76 @@
+-- `spans::structs` meets its contract. The measure is the structs that are left.
+use Prim.Native.Nat.{ℕ, _<_}
+use borrow.Fn.Kinds.{In}
+use borrow.Fn.PlainCycle.{Measures, is, falls, and}
+use Rattle.prepare.proofs.spans.structs.Reads as structs
+use Rattle.prepare.proofs.spans.structs.Kinds as structs-kinds
+use Rattle.prepare.proofs.spans.+structs.Lts-structs as structs-lts
+use Rattle.prepare.proofs.spans.of_struct.Reads as of-struct-reads
+use Rattle.prepare.proofs.spans.+structs.{statement}
+use Rattle.prepare.proofs.spans.+structs.Tie.{close}
+use native.Mathlib.Omega.{arith}
+use mathlib.Core.Path.{_∙_}
+use Rattle.emit.specs.WrittenLaws.{placed-kept}
+use Rattle.emit.specs.PartsLaws.{parts-ready, parts-next, parts-same}
+use Rattle.emit.specs.StepLaws.{structs-none, structs-more}
+use Rattle.prepare.specs.NoteLaws.{no-structs-noted, structs-noted}
+
+abbrev μ-structs : Measures 4 structs-kinds.ps ℕ
+μ-structs κs a = a .1 .1 .1 .0
+
+abbrev structs-at : ℕ → In 4 structs-kinds.ps
+structs-at t = and 4 structs-kinds.ps (is 4 structs-kinds.ps μ-structs t) structs.Pre
+
+abbrev structs-below : ℕ → In 4 structs-kinds.ps
+structs-below t = and 4 structs-kinds.ps (falls 4 structs-kinds.ps _<_ μ-structs t) structs.Pre
+
+-- what the functions that each calls ask and give
+abbrev structs-claims : ℕ → structs-lts.Claims
+structs-claims t = (of-struct-reads.Asked, of-struct-reads.Learnt, structs-below t, structs.Post)
+
+structs-returns : (t : ℕ) → structs-lts.Need-returns (structs-claims t) (structs-at t) structs.Post
+structs-returns t c = let a = (c .before .before .before .before .before .args) in (
+  structs-none (a .ar .now) (a .s .now) (a .n) (a .at) ((c .if1) .taken) (a .list .now) (a .k),
+  no-structs-noted (a .ar .now) (a .s .now) (a .n) (a .at) (a .structure) (a .k) ((c .if1) .taken) (a .spans .now),
+)
+
+structs-of-struct-requires : (t : ℕ) → structs-lts.Need-of-struct-requires (structs-claims t) (structs-at t) structs.Post
+structs-of-struct-requires t c κs = let a = (c .before .before .before .before .before .before .before .args) in
+    (parts-ready (structs-more (a .ar .now) (a .s .now) (a .n) (a .at) ((c .before .before .if1) .left) ((c .before .before .before .before .before .before .before .pre) .1 .0 .good)) ((c .before .before .before .before .before .before .before .pre) .1 .0), ((c .before .before .before .before .before .before .before .pre) .1 .1 .0, omega (arith, (c .before .before .before .before .before .before .before .pre) .1 .1 .1, (c .before .before .if1) .left)))
+
+structs-sub-structs : (t : ℕ) → structs-lts.Need-sub-structs (structs-claims t) (structs-at t) structs.Post
+structs-sub-structs t c = omega (arith, (c .before .before .before .before .before .before .before .if1) .left)
+
+structs-add-structs : (t : ℕ) → structs-lts.Need-add-structs (structs-claims t) (structs-at t) structs.Post
+structs-add-structs t c = omega (arith, (c .before .before .before .before .before .before .before .before .before .before .before .before .before .before .pre) .1 .1 .1, (c .before .before .before .before .before .before .before .before .before .if1) .left)
+
+structs-structs-requires : (t : ℕ) → structs-lts.Need-structs-requires (structs-claims t) (structs-at t) structs.Post
+structs-structs-requires t c κs = let a = (c .before .before .before .before .before .before .before .before .before .before .before .before .before .before .args) in
+    let f = structs-more (a .ar .now) (a .s .now) (a .n) (a .at) ((c .before .before .before .before .before .before .before .before .before .if1) .left) ((c .before .before .before .before .before .before .before .before .before .before .before .before .before .before .pre) .1 .0 .good) in
+    (omega (arith, (c .before .before .before .before .before .before .before .before .before .before .before .before .before .before .pre) .0, (c .before .before .before .before .before .before .before .before .before .if1) .left), (parts-next f ((c .before .before .before .before .before .before .before .before .before .before .before .before .before .before .pre) .1 .0) ((c .before .before .before .before .before .before .of-struct) .ensures .0), ((c .before .before .before .before .before .before .of-struct) .kept .1 .1 .1 .1 .1 .0 ∙ (c .before .before .before .before .before .before .before .before .before .before .before .before .before .before .pre) .1 .1 .0, omega (arith, (c .before .before .before .before .before .before .before .before .before .before .before .before .before .before .pre) .1 .1 .1, (c .before .before .before .before .before .before .before .before .before .if1) .left))))
+
+structs-same-length : (t : ℕ) → structs-lts.Need-same-length (structs-claims t) (structs-at t) structs.Post
+structs-same-length t c = placed-kept ((c .before .before .before .before .structs) .ensures .0) ∙ placed-kept ((c .before .before .before .before .before .before .before .before .before .before .before .of-struct) .ensures .0)
+
+structs-same-length-2 : (t : ℕ) → structs-lts.Need-same-length-2 (structs-claims t) (structs-at t) structs.Post
+structs-same-length-2 t c = (c .before .before .before .before .structs) .kept .1 .1 .1 .1 .1 .1 .0 ∙ (c .before .before .before .before .before .before .before .before .before .before .before .of-struct) .kept .1 .1 .1 .1 .1 .0
+
+structs-returns-2 : (t : ℕ) → structs-lts.Need-returns-2 (structs-claims t) (structs-at t) structs.Post
+structs-returns-2 t c = let a = (c .before .before .before .before .before .before .before .before .before .before .before .before .before .before .before .before .before .before .before .args) in
+    let f = structs-more (a .ar .now) (a .s .now) (a .n) (a .at) ((c .before .before .before .before .before .before .before .before .before .before .before .before .before .before .if1) .left) ((c .before .before .before .before .before .before .before .before .before .before .before .before .before .before .before .before .before .before .before .pre) .1 .0 .good) in (
+      parts-same ((c .before .before .before .before .before .before .before .before .before .before .before .of-struct) .ensures .0) ((c .before .before .before .before .structs) .ensures .0) f,
+      structs-noted (a .ar .now) (a .s .now) (a .n) (a .at) (a .structure) (a .k) ((c .before .before .before .before .before .before .before .before .before .before .before .before .before .before .if1) .left) ((c .before .before .before .before .before .before .before .before .before .before .before .before .before .before .before .before .before .before .before .pre) .1 .0 .good) (a .spans .now) _ _ ((c .before .before .before .before .before .before .before .before .before .before .before .of-struct) .ensures .0) ((c .before .before .before .before .before .before .before .before .before .before .before .of-struct) .ensures .1) ((c .before .before .before .before .structs) .ensures .1),
+    )
+
+pub +structs-spec : {M : Type 1} → statement M
++structs-spec = close μ-structs λ t. structs-lts.spec (structs-claims t)
+    (structs-at t)
+    structs.Post
+    (structs-returns t)
+    (structs-of-struct-requires t)
+    (structs-sub-structs t)
+    (structs-add-structs t)
+    (structs-structs-requires t)
+    (structs-same-length t)
+    (structs-same-length-2 t)
+    (structs-returns-2 t)
