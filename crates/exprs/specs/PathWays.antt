@@ -88,11 +88,7 @@ module _ (f : Var → List ℕ → Judged) where
   pub path-not : (q : Result (Var × List ℕ)) (n : ℕ) → path-told f q ≡ NoPath n → told (λ p. travelled (suc (length (p .1))) (f (p .0) (p .1))) q ≡ Refused n
   path-not q n e = rw (path-stops q n e .1)
 
--- the bytes of one variable more
-pub span-row : (s : List ℕ) (n c at m : ℕ) (r : PathRead) → (n ≡ 0 → ⊥) → m ≡ at + 1 → PathSpan s (c + 1) (n - 1 + (c + 1)) m r → PathSpan s c (n + c) at r
-span-row s n c at m (Path k i j) z e h = omega arith
-span-row s n c at m (NoPath k) z e h = tt
-
+-- the bytes of the first variable and the others
 pub span-first : (s : List ℕ) (n at m : ℕ) (r : PathRead) → 1 ≤ n → n < 5 → m ≡ at + 1 → PathSpan s 1 (n - 1 + 1) m r → PathSpan s 0 4 at r
 span-first s n at m (Path k i j) p q e h = omega arith
 span-first s n at m (NoPath k) p q e h = tt

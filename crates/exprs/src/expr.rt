@@ -13,6 +13,16 @@ ghost use Rattle.program.specs.Reader.{form, Form.form-op, many, read-make, rea
 ghost use Rattle.facts.specs.Facts.{negated, combined, argued, constructed, expr-facts, args-facts};
 ghost use Rattle.exprs.specs.Told.{told, made-facts, after, Room, Ahead, Within, Behind};
 
+// The same answer, made anew of its parts: one that another function answers is then not copied through memory.
+fn anew(r: ExprRead) -> ExprRead
+    ensures { λ q. ⌜ q ≡ r ⌝ }
+{
+    let ExprRead::Value(n, f) = r else {
+        return ExprRead::Refused(read::expr_refusal(r));
+    };
+    ExprRead::Value(n, f)
+}
+
 // A not around what was read.
 fn around(r: ExprRead) -> ExprRead
     requires { ⌜ Room r ⌝ }
@@ -78,25 +88,27 @@ pub fn expr(
         return ExprRead::Refused(5);
     }
     let b = s[at];
+    // Of two copies of the reference only the one that is handed on has to stand in memory.
+    let rest = s;
     let k = at + 1;
     let d = depth - 1;
     if b == 16 {
-        return around(expr(s, ar, types, own, live, k, d));
+        return around(expr(rest, ar, types, own, live, k, d));
     }
     if b == 17 {
-        return construct(s, ar, types, own, live, k, d);
+        return anew(construct(rest, ar, types, own, live, k, d));
     }
     if b < 32 {
-        return leaf::leaf(s, ar, types, own, live, b, k);
+        return leaf::leaf(rest, ar, types, own, live, b, k);
     }
     if 44 < b {
         return ExprRead::Refused(5);
     }
-    let first = expr(s, ar, types, own, live, k, d);
+    let first = expr(rest, ar, types, own, live, k, d);
     let ExprRead::Value(m, f) = first else {
         return first;
     };
-    beside(b, f, expr(s, ar, types, own, live, m, d))
+    anew(beside(b, f, expr(rest, ar, types, own, live, m, d)))
 }
 
 // A struct and an expression of at most depth levels for each of its parameters.

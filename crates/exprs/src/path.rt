@@ -17,15 +17,19 @@ fn follow(s: &[u8], ar: &[u8], types: &[u8], j: Judged, n: u8, c: u8, at: usize)
     ensures { λ r. ⌜ r ≡ row-told (lead (now (ar .entry)) (now (types .entry)) j) c (many [] _∷_ (ranged (now (s .entry)) 0 8) n at) ⌝ }
     ensures { λ r. ⌜ PathSpan (now (s .entry)) c (n + c) at r ⌝ }
 {
-    if n == 0 {
-        return PathRead::Path(at, c, j);
+    let mut value = j;
+    let mut next = at;
+    let mut left = n;
+    while 0 < left {
+        let r = read::ranged(s, 0, types::FIRST_LOCAL, next);
+        let ByteRead::Byte(x, m) = r else {
+            return PathRead::NoPath(read::byte_refusal(r));
+        };
+        value = facts::path::lead_by(ar, types, value, x);
+        next = m;
+        left = left - 1;
     }
-    let r = read::ranged(s, 0, types::FIRST_LOCAL, at);
-    let ByteRead::Byte(x, m) = r else {
-        return PathRead::NoPath(read::byte_refusal(r));
-    };
-    let next = facts::path::lead_by(ar, types, j, x);
-    follow(s, ar, types, next, n - 1, c + 1, m)
+    PathRead::Path(next, n + c, value)
 }
 
 // The first variable of a path and n - 1 parameters behind it.
@@ -39,9 +43,6 @@ fn first(s: &[u8], ar: &[u8], types: &[u8], own: u8, live: u64, n: u8, at: usize
         return PathRead::NoPath(read::byte_refusal(r));
     };
     let j = facts::path::start(ar, types, own, live, b);
-    if n == 1 {
-        return PathRead::Path(m, 1, j);
-    }
     follow(s, ar, types, j, n - 1, 1, m)
 }
 

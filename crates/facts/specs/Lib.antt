@@ -2,6 +2,7 @@ pub mod Facts
 pub mod DigitLaws
 pub mod Verdicts
 pub mod FaultLaws
+pub mod FollowLaws
 pub mod SizeFactsLaws
 pub mod ExprFactsLaws
 pub mod LocalLaws

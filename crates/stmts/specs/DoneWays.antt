@@ -8,24 +8,20 @@ use Rattle.facts.specs.declared.Judged.{Judged}
 use Rattle.facts.specs.declared.Facts.{Facts}
 use Rattle.facts.specs.declared.Scope.{Scope}
 use Rattle.facts.specs.declared.Done.{Done}
-use Rattle.facts.specs.Facts.{branched, declared, updated, followed}
+use Rattle.facts.specs.Facts.{branched, declared, updated}
 use Rattle.exprs.specs.declared.read.PathRead.the-variants.{Path}
 use Rattle.exprs.specs.declared.read.ExprRead.{ExprRead}
 use Rattle.exprs.specs.declared.read.ExprRead.the-variants.{Value as ExprValue, Refused as ExprRefused}
 use Rattle.exprs.specs.Told.{PathSpan, Ahead, Behind}
 use Rattle.stmts.specs.declared.StmtRead.{StmtRead}
 use Rattle.stmts.specs.declared.StmtRead.the-variants.{Value, Refused}
-use Rattle.stmts.specs.Done.{turn, after, labelled, DoneSpan, DoneAhead, DoneWithin, DoneBody, DoneBehind, RoomDone}
+use Rattle.stmts.specs.Done.{turn, after, labelled, DoneSpan, DoneAhead, DoneBody, DoneBehind, RoomDone}
 
 module _ (s : List ℕ) where
   -- what lies within a slice leaves room
   pub done-room : (lo from : ℕ) (r : StmtRead) → length s < 2 ^ 63 → DoneSpan s lo from 0 r → RoomDone r
   done-room lo from (Value n d) l h = omega arith
   done-room lo from (Refused k) l h = tt
-
-  pub ahead-within : (at : ℕ) (r : StmtRead) → DoneAhead s at r → DoneWithin s at r
-  ahead-within at (Value n d) h = omega arith
-  ahead-within at (Refused k) h = tt
 
   -- behind its byte, a statement lies ahead; behind one byte more, it lies behind
   pub behind-ahead : (at : ℕ) (r : StmtRead) → DoneBehind s (at + 1) r → DoneAhead s at r
@@ -54,8 +50,3 @@ module _ (s : List ℕ) where
   unfolding branched
   span-branched at m c f (Value n d) p h = omega arith
   span-branched at m c f (Refused k) p h = tt
-
-  pub span-followed : (at m : ℕ) (a : Done) (r : StmtRead) → DoneAhead s at (Value m a) → DoneWithin s m r → DoneWithin s at (after (followed a) r)
-  unfolding followed
-  span-followed at m a (Value n d) p h = omega arith
-  span-followed at m a (Refused k) p h = tt

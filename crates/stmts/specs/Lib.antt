@@ -1,3 +1,4 @@
 pub mod Done
 pub mod StmtWays
+pub mod RowWays
 pub mod DoneWays

@@ -9,7 +9,7 @@ use facts::Scope;
 use facts::statement;
 ghost use mathlib.Core.Path.{_≡_};
 ghost use Prim.Native.Nat.{_<_, _^_};
-ghost use Rattle.facts.specs.Facts.{declared, updated, branched, followed};
+ghost use Rattle.facts.specs.Facts.{declared, updated, branched};
 ghost use Rattle.exprs.specs.Told.{Room};
 ghost use Rattle.stmts.specs.Done.{turn, after, labelled, RoomDone};
 
@@ -63,15 +63,4 @@ pub(crate) fn branched(c: Scope, f: Facts, r: StmtRead) -> StmtRead
         return r;
     };
     StmtRead::Value(m, statement::branched(c, f, b))
-}
-
-// A statement before others.
-pub(crate) fn followed(a: Done, r: StmtRead) -> StmtRead
-    requires { ⌜ ((a .size < 2 ^ 63) × (a .growth < 2 ^ 63)) × RoomDone r ⌝ }
-    ensures { λ q. ⌜ q ≡ after (followed a) r ⌝ }
-{
-    let StmtRead::Value(m, b) = r else {
-        return r;
-    };
-    StmtRead::Value(m, statement::followed(a, b))
 }

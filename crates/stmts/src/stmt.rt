@@ -103,13 +103,18 @@ pub fn stmts(
     ensures { λ r. ⌜ r ≡ done (λ b. body-facts (now (ar .entry)) (now (types .entry)) own b c) (many end next (read-stmt (now (ar .entry)) (now (s .entry)) depth) n at) ⌝ }
     ensures { λ r. ⌜ DoneWithin (now (s .entry)) at r ⌝ }
 {
-    if n == 0 {
-        return StmtRead::Value(at, statement::nothing(c));
+    let mut done = statement::nothing(c);
+    let mut next = at;
+    let mut left = n;
+    while 0 < left {
+        let scope = done.after;
+        let r = stmt(s, ar, types, own, scope, next, depth);
+        let StmtRead::Value(m, a) = r else {
+            return r;
+        };
+        done = statement::followed(done, a);
+        next = m;
+        left = left - 1;
     }
-    let first = stmt(s, ar, types, own, c, at, depth);
-    let StmtRead::Value(m, a) = first else {
-        return first;
-    };
-    let after = a.after;
-    made::followed(a, stmts(s, ar, types, own, after, n - 1, m, depth))
+    StmtRead::Value(next, done)
 }

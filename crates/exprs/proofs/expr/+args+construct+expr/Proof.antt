@@ -19,6 +19,7 @@ use Rattle.exprs.proofs.expr.+args+construct+expr.Lts-construct as cons
 use Rattle.exprs.proofs.expr.expr.Reads as expr
 use Rattle.exprs.proofs.expr.expr.Kinds as expr-kinds
 use Rattle.exprs.proofs.expr.+args+construct+expr.Lts-expr as expr-lts
+use Rattle.exprs.proofs.expr.anew.Reads as anew-reads
 use Rattle.exprs.proofs.expr.around.Reads as around-reads
 use Rattle.exprs.proofs.expr.beside.Reads as beside-reads
 use Rattle.exprs.proofs.expr.joined.Reads as joined-reads
@@ -67,7 +68,7 @@ abbrev construct-claims : ℕ → construct-lts.Claims
 construct-claims t = (ranged-reads.Asked, ranged-reads.Learnt, byte-refusal-reads.Asked, byte-refusal-reads.Learnt, look-reads.Asked, look-reads.Learnt, args-below t, args.Post, over-reads.Asked, over-reads.Learnt)
 
 abbrev expr-claims : ℕ → expr-lts.Claims
-expr-claims t = (expr-below t, expr.Post, around-reads.Asked, around-reads.Learnt, construct-below t, construct.Post, leaf-reads.Asked, leaf-reads.Learnt, beside-reads.Asked, beside-reads.Learnt)
+expr-claims t = (expr-below t, expr.Post, around-reads.Asked, around-reads.Learnt, construct-below t, construct.Post, anew-reads.Asked, anew-reads.Learnt, leaf-reads.Asked, leaf-reads.Learnt, beside-reads.Asked, beside-reads.Learnt)
 
 args-no-args-requires : (t : ℕ) → args-lts.Need-no-args-requires (args-claims t) (args-at t) args.Post
 args-no-args-requires t c κs = search needs
@@ -194,11 +195,14 @@ expr-returns-3 t c = let a = c .before .before .before .before .before .before .
 expr-construct-requires : (t : ℕ) → expr-lts.Need-construct-requires (expr-claims t) (expr-at t) expr.Post
 expr-construct-requires t c κs = (omega (arith, c .before .before .before .before .before .before .before .before .pre), c .before .before .before .before .before .before .before .before .pre .1)
 
+expr-anew-requires : (t : ℕ) → expr-lts.Need-anew-requires (expr-claims t) (expr-at t) expr.Post
+expr-anew-requires t c κs = search needs
+
 expr-returns-4 : (t : ℕ) → expr-lts.Need-returns-4 (expr-claims t) (expr-at t) expr.Post
-expr-returns-4 t c = let a = c .before .before .before .before .before .before .before .before .before .args in
+expr-returns-4 t c = let a = c .before .before .before .before .before .before .before .before .before .before .args in
     let s = a .s .now in
-    let law = is-make (a .ar .now) (a .types .now) s (a .own) (a .live) (a .depth) (a .at) (c .before .before .before .before .if2 .left) (c .before .before .before .before .before .if1 .left) (c .before .if4 .taken) in
-    (c .construct .ensures .0 ∙ sym law, behind-ahead s (a .at) (c .construct .result) (c .construct .ensures .1))
+    let law = is-make (a .ar .now) (a .types .now) s (a .own) (a .live) (a .depth) (a .at) (c .before .before .before .before .before .if2 .left) (c .before .before .before .before .before .before .if1 .left) (c .before .before .if4 .taken) in
+    (c .anew .ensures ∙ c .before .construct .ensures .0 ∙ sym law, rw (c .anew .ensures) (behind-ahead s (a .at) (c .before .construct .result) (c .before .construct .ensures .1)))
 
 expr-leaf-requires : (t : ℕ) → expr-lts.Need-leaf-requires (expr-claims t) (expr-at t) expr.Post
 expr-leaf-requires t c κs = ((omega arith, c .before .before .before .before .before .before .before .before .before .pre .1 .1), ((c .before .before .if3 .left, c .before .if4 .left), c .if5 .taken))
@@ -236,15 +240,18 @@ expr-beside-requires t c κs = let a = c .before .before .before .before .before
     let ahead = rw (c .before .before .first .given .1) at (c .before .before .before .before .expr2 .ensures .1) in
     (omega arith, span-room (a .s .now) _ _ (c .expr3 .result) small (c .expr3 .ensures .1))
 
+expr-anew-requires-2 : (t : ℕ) → expr-lts.Need-anew-requires-2 (expr-claims t) (expr-at t) expr.Post
+expr-anew-requires-2 t c κs = search needs
+
 expr-returns-8 : (t : ℕ) → expr-lts.Need-returns-8 (expr-claims t) (expr-at t) expr.Post
-expr-returns-8 t c = let a = c .before .before .before .before .before .before .before .before .before .before .before .before .before .before .before .before .args in
+expr-returns-8 t c = let a = c .before .before .before .before .before .before .before .before .before .before .before .before .before .before .before .before .before .args in
     let s = a .s .now in
-    let told = c .before .before .before .first .given in
-    let ahead = rw (told .1) at (c .before .before .before .before .before .expr2 .ensures .1) in
-    let o = op-form _ (c .before .before .before .before .before .before .before .if5 .left) (c .before .before .before .before .before .before .if6 .left) in
-    let beside = c .beside .ensures (o .0) (o .1) in
-    let law = is-op (a .ar .now) (a .types .now) s (a .own) (a .live) (a .depth) (a .at) (c .before .before .before .before .before .before .before .before .before .before .before .if2 .left) (c .before .before .before .before .before .before .before .before .before .before .before .before .if1 .left) (o .0) (o .1) _ _ (sym (c .before .before .before .before .before .expr2 .ensures .0) ∙ told .1) in
-    ((rw (c .before .expr3 .ensures .0) at beside) ∙ sym law, rw beside (span-op s (a .at) _ (o .0) _ (c .before .expr3 .result) ahead (c .before .expr3 .ensures .1)))
+    let told = c .before .before .before .before .first .given in
+    let ahead = rw (told .1) at (c .before .before .before .before .before .before .expr2 .ensures .1) in
+    let o = op-form _ (c .before .before .before .before .before .before .before .before .if5 .left) (c .before .before .before .before .before .before .before .if6 .left) in
+    let beside = c .anew2 .ensures ∙ c .before .beside .ensures (o .0) (o .1) in
+    let law = is-op (a .ar .now) (a .types .now) s (a .own) (a .live) (a .depth) (a .at) (c .before .before .before .before .before .before .before .before .before .before .before .before .if2 .left) (c .before .before .before .before .before .before .before .before .before .before .before .before .before .if1 .left) (o .0) (o .1) _ _ (sym (c .before .before .before .before .before .before .expr2 .ensures .0) ∙ told .1) in
+    ((rw (c .before .before .expr3 .ensures .0) at beside) ∙ sym law, rw beside (span-op s (a .at) _ (o .0) _ (c .before .before .expr3 .result) ahead (c .before .before .expr3 .ensures .1)))
 
 pub +args+construct+expr-spec : {M : Type 1} → statement M
 +args+construct+expr-spec = close μ-args μ-construct μ-expr (λ t. args-lts.spec (args-claims t) (args-at t)
@@ -284,6 +291,7 @@ pub +args+construct+expr-spec : {M : Type 1} → statement M
     (expr-around-requires t)
     (expr-returns-3 t)
     (expr-construct-requires t)
+    (expr-anew-requires t)
     (expr-returns-4 t)
     (expr-leaf-requires t)
     (expr-returns-5 t)
@@ -294,4 +302,5 @@ pub +args+construct+expr-spec : {M : Type 1} → statement M
     (expr-returns-7 t)
     (expr-expr-requires-3 t)
     (expr-beside-requires t)
+    (expr-anew-requires-2 t)
     (expr-returns-8 t)

@@ -27,25 +27,18 @@ returns c = let a = c .before .before .before .before .before .before .before .a
 start-requires : tie.Need-start-requires
 start-requires c κs = let span = rw (c .before .r .given .1) at (c .before .before .before .ranged .ensures .1) in omega arith
 
-returns-2 : tie.Need-returns-2
-returns-2 c = let a = c .before .before .before .before .before .before .before .before .before .args in
-    let e = sym (c .before .before .before .before .before .ranged .ensures .0) ∙ c .before .before .before .r .given .1 in
-    let span = rw (c .before .before .before .r .given .1) at (c .before .before .before .before .before .ranged .ensures .1) in
-    let alone = row-none (a .s .now) (a .ar .now) (a .types .now) (c .before .start .result) (a .n - 1) 1 _ (omega (arith, c .if1 .taken)) in
-    (sym alone ∙ rw (c .before .start .ensures) (sym (vars-more (a .s .now) (a .ar .now) (a .types .now) (a .own) (a .live) (a .n) (a .at) _ _ e)), omega (arith, span))
-
 sub-follow : tie.Need-sub-follow
 sub-follow c = search needs
 
 follow-requires : tie.Need-follow-requires
-follow-requires c κs = let span = rw (c .before .before .before .r .given .1) at (c .before .before .before .before .before .ranged .ensures .1) in omega (arith, c .before .before .before .before .before .before .before .before .before .pre)
+follow-requires c κs = let span = rw (c .before .before .r .given .1) at (c .before .before .before .before .ranged .ensures .1) in omega (arith, c .before .before .before .before .before .before .before .before .pre)
 
-returns-3 : tie.Need-returns-3
-returns-3 c = let a = c .before .before .before .before .before .before .before .before .before .before .args in
-    let e = sym (c .before .before .before .before .before .before .ranged .ensures .0) ∙ c .before .before .before .before .r .given .1 in
-    let span = rw (c .before .before .before .before .r .given .1) at (c .before .before .before .before .before .before .ranged .ensures .1) in
-    let rest = rw (c .before .before .start .ensures) at (c .follow .ensures .0) in
-    (rest ∙ sym (vars-more (a .s .now) (a .ar .now) (a .types .now) (a .own) (a .live) (a .n) (a .at) _ _ e), span-first (a .s .now) (a .n) (a .at) _ (c .follow .result) (c .before .before .before .before .before .before .before .before .before .before .pre .0) (c .before .before .before .before .before .before .before .before .before .before .pre .1) (span .0) (c .follow .ensures .1))
+returns-2 : tie.Need-returns-2
+returns-2 c = let a = c .before .before .before .before .before .before .before .before .before .args in
+    let e = sym (c .before .before .before .before .before .ranged .ensures .0) ∙ c .before .before .before .r .given .1 in
+    let span = rw (c .before .before .before .r .given .1) at (c .before .before .before .before .before .ranged .ensures .1) in
+    let rest = rw (c .before .start .ensures) at (c .follow .ensures .0) in
+    (rest ∙ sym (vars-more (a .s .now) (a .ar .now) (a .types .now) (a .own) (a .live) (a .n) (a .at) _ _ e), span-first (a .s .now) (a .n) (a .at) _ (c .follow .result) (c .before .before .before .before .before .before .before .before .before .pre .0) (c .before .before .before .before .before .before .before .before .before .pre .1) (span .0) (c .follow .ensures .1))
 
 pub first-spec : {M : Type 1} → statement M
 first-spec =
@@ -57,7 +50,6 @@ first-spec =
     byte-refusal-requires
     returns
     start-requires
-    returns-2
     sub-follow
     follow-requires
-    returns-3)
+    returns-2)

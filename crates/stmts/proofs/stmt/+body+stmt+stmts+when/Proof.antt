@@ -1,11 +1,13 @@
--- `stmt::body`, `stmt::stmt`, `stmt::stmts` and `stmt::when` meet their contracts, by a law for each way through them. The unread bytes fall, twice each, and one more counts for statements in a row.
+-- `stmt::body`, `stmt::stmt`, `stmt::stmts` and `stmt::when` meet their contracts, by a law for each way through them. The unread bytes fall, twice each, and one more counts for
+-- statements in a row, whose loop keeps what is left behind what is totalled up.
 use Prim.Native.Nat.{ℕ, _+_, _-_, _*_, _^_, _<_}
 use native.Mathlib.Omega.{arith}
-use mathlib.Core.Path.{sym, _∙_}
+use mathlib.Core.Path.{_≡_, refl, sym, _∙_}
 use lib.ListN.{length}
 use Rattle.program.specs.Reader.{read-stmt}
-use Rattle.stmts.specs.StmtWays.{when-stop, when-is, body-stop, body-is, row-none, row-stop, row-more, stmt-out, stmt-simple, stmt-deep, stmt-when}
-use Rattle.stmts.specs.DoneWays.{done-room, ahead-within, behind-ahead, span-branched, span-followed}
+use Rattle.stmts.specs.StmtWays.{when-stop, when-is, body-stop, body-is, stmt-out, stmt-simple, stmt-deep, stmt-when}
+use Rattle.stmts.specs.RowWays.{Read, row, row-begins, row-ends, row-refused, row-goes, nothing-read, more-read}
+use Rattle.stmts.specs.DoneWays.{done-room, behind-ahead, span-branched}
 use borrow.Author.Needs.{needs}
 use borrow.Fn.Kinds.{In}
 use borrow.Fn.PlainCycle.{Measures, is, falls, and}
@@ -26,8 +28,8 @@ use Rattle.exprs.proofs.read.byte_refusal.Reads as byte-refusal-reads
 use Rattle.exprs.proofs.read.expr_refusal.Reads as expr-refusal-reads
 use Rattle.exprs.proofs.read.ranged.Reads as ranged-reads
 use Rattle.facts.proofs.statement.nothing.Reads as nothing-reads
+use Rattle.facts.proofs.statement.followed.Reads as followed-reads
 use Rattle.stmts.proofs.made.branched.Reads as branched-reads
-use Rattle.stmts.proofs.made.followed.Reads as followed-reads
 use Rattle.stmts.proofs.simple.simple.Reads as simple-reads
 use Rattle.stmts.proofs.stmt.+body+stmt+stmts+when.{statement}
 use Rattle.stmts.proofs.stmt.+body+stmt+stmts+when.Tie.{close}
@@ -75,7 +77,7 @@ abbrev stmt-claims : ℕ → stmt-lts.Claims
 stmt-claims t = (simple-reads.Asked, simple-reads.Learnt, when-below t, when.Post)
 
 abbrev stmts-claims : ℕ → stmts-lts.Claims
-stmts-claims t = (nothing-reads.Asked, nothing-reads.Learnt, stmt-below t, stmt.Post, stmts-below t, stmts.Post, followed-reads.Asked, followed-reads.Learnt)
+stmts-claims t = (nothing-reads.Asked, nothing-reads.Learnt, stmt-below t, stmt.Post, followed-reads.Asked, followed-reads.Learnt)
 
 abbrev when-claims : ℕ → when-lts.Claims
 when-claims t = (expr-reads.Asked, expr-reads.Learnt, expr-refusal-reads.Asked, expr-refusal-reads.Learnt, body-below t, body.Post, branched-reads.Asked, branched-reads.Learnt)
@@ -144,49 +146,81 @@ stmt-returns-4 t c = let a = c .before .before .before .before .before .before .
     let law = stmt-when (a .ar .now) (a .types .now) s (a .own) (a .c) (a .depth) (a .at) (c .before .before .before .before .if1 .left) (c .before .before .if2 .left) (c .before .if3 .left) in
     (c .when .ensures .0 ∙ sym law, behind-ahead s (a .at) (c .when .result) (c .when .ensures .1))
 
-stmts-nothing-requires : (t : ℕ) → stmts-lts.Need-nothing-requires (stmts-claims t) (stmts-at t) stmts.Post
+abbrev stmts-Inv-loop : stmts-lts.InvT-loop
+stmts-Inv-loop s ar types own n at depth done₀ next₀ left₀ done next left =
+    (Read s at next done) × (row ar types s own (read-stmt ar s depth) done₀ left₀ next₀ ≡ row ar types s own (read-stmt ar s depth) done left next)
+
+abbrev stmts-μ-loop : stmts-lts.MeasureT-loop
+stmts-μ-loop s ar types own n at depth done₀ next₀ left₀ done next left = left
+
+stmts-nothing-requires : (t : ℕ) → stmts-lts.Need-nothing-requires (stmts-claims t) (stmts-at t) stmts.Post stmts-Inv-loop stmts-μ-loop
 stmts-nothing-requires t c κs = search needs
 
-stmts-returns : (t : ℕ) → stmts-lts.Need-returns (stmts-claims t) (stmts-at t) stmts.Post
-stmts-returns t c = let a = c .before .before .before .before .before .args in
-    let s = a .s .now in
-    rw (c .nothing .ensures) (sym (row-none (a .ar .now) (a .types .now) s (a .own) (a .c) (read-stmt (a .ar .now) s (a .depth)) (a .at) (a .n) (c .before .if1 .taken)), omega (arith, c .before .before .before .before .before .pre))
+stmts-loop-holds : (t : ℕ) → stmts-lts.Need-loop-holds (stmts-claims t) (stmts-at t) stmts.Post stmts-Inv-loop stmts-μ-loop
+stmts-loop-holds t c =
+    let a = c .before .before .before .before .args in
+    (rw (c .nothing .ensures) (nothing-read (a .s .now) (a .c) (a .at) (c .before .before .before .before .pre .1 .1)), refl)
 
-stmts-stmt-requires : (t : ℕ) → stmts-lts.Need-stmt-requires (stmts-claims t) (stmts-at t) stmts.Post
-stmts-stmt-requires t c κs = (omega (arith, c .before .before .before .before .pre), c .before .before .before .before .pre .1 .0)
+stmts-stmt-requires : (t : ℕ) → stmts-lts.Need-stmt-requires (stmts-claims t) (stmts-at t) stmts.Post stmts-Inv-loop stmts-μ-loop
+stmts-stmt-requires t c κs =
+    let within = c .before .before .loop .inv .0 .within in
+    (omega (arith, c .before .before .before .before .before .before .before .pre, within), c .before .before .before .before .before .before .before .pre .1 .0)
 
-stmts-enum-known-first : (t : ℕ) → stmts-lts.Need-enum-known-first (stmts-claims t) (stmts-at t) stmts.Post
-stmts-enum-known-first t c = search needs
+stmts-enum-known-r : (t : ℕ) → stmts-lts.Need-enum-known-r (stmts-claims t) (stmts-at t) stmts.Post stmts-Inv-loop stmts-μ-loop
+stmts-enum-known-r t c = search needs
 
-stmts-enum-told : (t : ℕ) → stmts-lts.Need-enum-told (stmts-claims t) (stmts-at t) stmts.Post
+stmts-enum-told : (t : ℕ) → stmts-lts.Need-enum-told (stmts-claims t) (stmts-at t) stmts.Post stmts-Inv-loop stmts-μ-loop
 stmts-enum-told t c = search needs
 
-stmts-returns-2 : (t : ℕ) → stmts-lts.Need-returns-2 (stmts-claims t) (stmts-at t) stmts.Post
-stmts-returns-2 t c = let a = c .before .before .before .before .before .before .before .args in
+stmts-returns : (t : ℕ) → stmts-lts.Need-returns (stmts-claims t) (stmts-at t) stmts.Post stmts-Inv-loop stmts-μ-loop
+stmts-returns t c =
+    let a = c .before .before .before .before .before .before .before .before .before .before .args in
     let s = a .s .now in
+    let loop = c .before .before .before .before .before .loop in
+    let read = read-stmt (a .ar .now) s (a .depth) in
     let told = c .enum-told .given in
-    (told .1 ∙ sym (row-stop (a .ar .now) (a .types .now) s (a .own) (a .c) (read-stmt (a .ar .now) s (a .depth)) (a .at) (a .n) (c .before .before .before .if1 .left) _ (sym (c .before .before .stmt .ensures .0) ∙ told .1)), ahead-within s (a .at) (c .before .before .stmt .result) (c .before .before .stmt .ensures .1))
+    let more : loop .left ≡ 0 → ⊥ = λ z. omega arith in
+    let begins = row-begins (a .ar .now) (a .types .now) s (a .own) read (a .c) (c .before .before .before .before .before .before .nothing .result) (a .n) (a .at) (c .before .before .before .before .before .before .nothing .ensures) in
+    let law = row-refused (a .ar .now) (a .types .now) s (a .own) read (loop .done) (loop .left) (loop .next) more _ (sym (c .before .before .stmt .ensures .0) ∙ told .1) in
+    (told .1 ∙ sym law ∙ sym (loop .inv .1) ∙ begins, rw (told .1) tt)
 
-stmts-sub-stmts : (t : ℕ) → stmts-lts.Need-sub-stmts (stmts-claims t) (stmts-at t) stmts.Post
-stmts-sub-stmts t c = search needs
+stmts-followed-requires : (t : ℕ) → stmts-lts.Need-followed-requires (stmts-claims t) (stmts-at t) stmts.Post stmts-Inv-loop stmts-μ-loop
+stmts-followed-requires t c κs =
+    let a = c .before .before .before .before .before .before .before .before .before .before .before .args in
+    let small : length (a .s .now) < 2 ^ 63 = omega (arith, c .before .before .before .before .before .before .before .before .before .before .before .good .0) in
+    let within = c .before .before .before .before .before .before .loop .inv .0 .within in
+    let ahead = rw (c .before .r .given .1) at (c .before .before .before .stmt .ensures .1) in
+    omega arith
 
-stmts-stmts-requires : (t : ℕ) → stmts-lts.Need-stmts-requires (stmts-claims t) (stmts-at t) stmts.Post
-stmts-stmts-requires t c κs = let ahead = rw (c .before .before .first .given .1) at (c .before .before .before .before .stmt .ensures .1) in
-    (omega (arith, c .before .before .before .before .before .before .before .before .before .pre), (c .before .before .before .before .before .before .before .before .before .pre .1 .0, omega arith))
+stmts-sub-left : (t : ℕ) → stmts-lts.Need-sub-left (stmts-claims t) (stmts-at t) stmts.Post stmts-Inv-loop stmts-μ-loop
+stmts-sub-left t c = search needs
 
-stmts-followed-requires : (t : ℕ) → stmts-lts.Need-followed-requires (stmts-claims t) (stmts-at t) stmts.Post
-stmts-followed-requires t c κs = let a = c .before .before .before .before .before .before .before .before .before .before .args in
-    let small : length (a .s .now) < 2 ^ 63 = omega (arith, c .before .before .before .before .before .before .before .before .before .before .good .0) in
-    let ahead = rw (c .before .before .before .first .given .1) at (c .before .before .before .before .before .stmt .ensures .1) in
-    (omega arith, done-room (a .s .now) _ _ (c .stmts .result) small (c .stmts .ensures .1))
+stmts-loop-less : (t : ℕ) → stmts-lts.Need-loop-less (stmts-claims t) (stmts-at t) stmts.Post stmts-Inv-loop stmts-μ-loop
+stmts-loop-less t c = search needs
 
-stmts-returns-3 : (t : ℕ) → stmts-lts.Need-returns-3 (stmts-claims t) (stmts-at t) stmts.Post
-stmts-returns-3 t c = let a = c .before .before .before .before .before .before .before .before .before .before .before .args in
+stmts-loop-again : (t : ℕ) → stmts-lts.Need-loop-again (stmts-claims t) (stmts-at t) stmts.Post stmts-Inv-loop stmts-μ-loop
+stmts-loop-again t c =
+    let a = c .before .before .before .before .before .before .before .before .before .before .before .before .args in
     let s = a .s .now in
-    let told = c .before .before .before .before .first .given in
-    let ahead = rw (told .1) at (c .before .before .before .before .before .before .stmt .ensures .1) in
-    let law = row-more (a .ar .now) (a .types .now) s (a .own) (a .c) (read-stmt (a .ar .now) s (a .depth)) (a .at) (a .n) (c .before .before .before .before .before .before .before .if1 .left) _ _ (sym (c .before .before .before .before .before .before .stmt .ensures .0) ∙ told .1) in
-    ((rw (c .before .stmts .ensures .0) at (c .followed .ensures)) ∙ sym law, rw (c .followed .ensures) (span-followed s (a .at) _ _ (c .before .stmts .result) ahead (c .before .stmts .ensures .1)))
+    let loop = c .before .before .before .before .before .before .before .loop in
+    let read = read-stmt (a .ar .now) s (a .depth) in
+    let told = c .before .before .r .given in
+    let ahead = rw (told .1) at (c .before .before .before .before .stmt .ensures .1) in
+    let e = sym (c .before .before .before .before .stmt .ensures .0) ∙ told .1 in
+    let more : loop .left ≡ 0 → ⊥ = λ z. omega arith in (
+      rw (c .followed .ensures) (more-read (a .ar .now) (a .types .now) s (a .own) read (loop .done) (loop .left) (loop .next) (a .at) _ _ e ahead (loop .inv .0)),
+      rw (c .followed .ensures) (loop .inv .1 ∙ row-goes (a .ar .now) (a .types .now) s (a .own) read (loop .done) (loop .left) (loop .next) more _ _ e),
+    )
+
+stmts-returns-2 : (t : ℕ) → stmts-lts.Need-returns-2 (stmts-claims t) (stmts-at t) stmts.Post stmts-Inv-loop stmts-μ-loop
+stmts-returns-2 t c =
+    let a = c .before .before .before .before .before .before .args in
+    let s = a .s .now in
+    let loop = c .before .loop in
+    let read = read-stmt (a .ar .now) s (a .depth) in
+    let none : loop .left ≡ 0 = omega arith in
+    let begins = row-begins (a .ar .now) (a .types .now) s (a .own) read (a .c) (c .before .before .nothing .result) (a .n) (a .at) (c .before .before .nothing .ensures) in
+    (sym (row-ends (a .ar .now) (a .types .now) s (a .own) read (loop .done) (loop .left) (loop .next) none (loop .inv .0 .low)) ∙ sym (loop .inv .1) ∙ begins, loop .inv .0 .within)
 
 when-expr-requires : (t : ℕ) → when-lts.Need-expr-requires (when-claims t) (when-at t) when.Post
 when-expr-requires t c κs = c .before .before .before .pre .1
@@ -247,16 +281,19 @@ pub +body+stmt+stmts+when-spec : {M : Type 1} → statement M
     (stmt-returns-4 t))
     (λ t. stmts-lts.spec (stmts-claims t) (stmts-at t)
     stmts.Post
+    stmts-Inv-loop
+    stmts-μ-loop
     (stmts-nothing-requires t)
-    (stmts-returns t)
+    (stmts-loop-holds t)
     (stmts-stmt-requires t)
-    (stmts-enum-known-first t)
+    (stmts-enum-known-r t)
     (stmts-enum-told t)
-    (stmts-returns-2 t)
-    (stmts-sub-stmts t)
-    (stmts-stmts-requires t)
+    (stmts-returns t)
     (stmts-followed-requires t)
-    (stmts-returns-3 t))
+    (stmts-sub-left t)
+    (stmts-loop-less t)
+    (stmts-loop-again t)
+    (stmts-returns-2 t))
     λ t. when-lts.spec (when-claims t) (when-at t)
     when.Post
     (when-expr-requires t)

@@ -1,0 +1,16 @@
+-- `acts::oper::result_byte` meets its contract, one return for each side of the arithmetic operators and one for them.
+use Rattle.acts.specs.OperWays.{byte-below, byte-above, byte-between}
+use Rattle.acts.proofs.oper.result_byte.Statement.{statement}
+use Rattle.acts.proofs.oper.result_byte.Tie as tie
+
+returns : tie.Need-returns
+returns c = byte-below ((c .before .args) .o) ((c .before .args) .t) ((c .if1) .taken)
+
+returns-2 : tie.Need-returns-2
+returns-2 c = byte-above ((c .before .before .args) .o) ((c .before .before .args) .t) ((c .before .if1) .left) ((c .if2) .taken)
+
+returns-3 : tie.Need-returns-3
+returns-3 c = byte-between ((c .before .before .args) .o) ((c .before .before .args) .t) ((c .before .if1) .left) ((c .if2) .left)
+
+pub result-byte-spec : {M : Type 1} → statement M
+result-byte-spec = tie.close (tie.spec returns returns-2 returns-3)

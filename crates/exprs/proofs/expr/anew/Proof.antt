@@ -1,0 +1,23 @@
+-- `expr::anew` meets its contract.
+use mathlib.Core.Path.{sym}
+use borrow.Author.Needs.{needs}
+use Rattle.exprs.proofs.expr.anew.Statement.{statement}
+use Rattle.exprs.proofs.expr.anew.Tie as tie
+
+enum-known-r : tie.Need-enum-known-r
+enum-known-r c = search needs
+
+enum-told : tie.Need-enum-told
+enum-told c = search needs
+
+expr-refusal-requires : tie.Need-expr-refusal-requires
+expr-refusal-requires c κs = search needs
+
+returns : tie.Need-returns
+returns c = rw (c .expr-refusal .ensures, c .before .enum-told .given .1)
+
+returns-2 : tie.Need-returns-2
+returns-2 c = sym (c .before .r .given .1)
+
+pub anew-spec : {M : Type 1} → statement M
+anew-spec = tie.close (tie.spec enum-known-r enum-told expr-refusal-requires returns returns-2)

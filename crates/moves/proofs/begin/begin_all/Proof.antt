@@ -1,0 +1,66 @@
+-- `begin::begin_all` meets its contract. The loop's invariant: what is left to do with the heads as they are comes to what there was to do
+-- at first. The measure is how many instances are left.
+use Prim.Native.Nat.{_≤_, _-_}
+use mathlib.Core.Path.{_≡_, refl, sym, ap, _∙_}
+use native.Mathlib.Omega.{arith}
+use lib.ListN.{length}
+use Rattle.memory.specs.Move.{begin-all}
+use Rattle.memory.specs.BeginLaws.{one-length}
+use Rattle.moves.specs.Ready.{Rows}
+use Rattle.moves.specs.BeginWays.{row-of, one-rows, all-done, all-next}
+use Rattle.moves.proofs.begin.begin_all.Statement.{statement}
+use Rattle.moves.proofs.begin.begin_all.Tie as tie
+
+abbrev Inv-loop : tie.InvT-loop
+Inv-loop spans heads₀ c n l₀ heads l = (l ≤ n) × (length heads ≡ length heads₀) × (Rows heads n) × (begin-all spans c heads l (n - l) ≡ begin-all spans c heads₀ 0 n)
+
+abbrev μ-loop : tie.MeasureT-loop
+μ-loop spans heads₀ c n l₀ heads l = n - l
+
+loop-holds : tie.Need-loop-holds Inv-loop μ-loop
+loop-holds c =
+    let args = c .before .before .args in
+    let z : args .n - 0 ≡ args .n = omega arith in
+    (omega arith, refl, c .before .before .pre .1, ap (begin-all (args .spans .now) (args .c) (args .heads .now) 0) z)
+
+begin-one-requires : tie.Need-begin-one-requires Inv-loop μ-loop
+begin-one-requires c κs = (c .before .before .before .before .before .pre .0, row-of (c .before .before .loop .inv .2) (c .before .loop-test .taken))
+
+add-l : tie.Need-add-l Inv-loop μ-loop
+add-l c = omega arith
+
+loop-less : tie.Need-loop-less Inv-loop μ-loop
+loop-less c = omega arith
+
+loop-again : tie.Need-loop-again Inv-loop μ-loop
+loop-again c =
+    let args = c .before .before .before .before .before .before .before .before .args in
+    let inv = c .before .before .before .before .before .loop .inv in
+    let l = c .before .before .before .before .before .loop .l in
+    let heads = c .before .before .before .before .before .loop .heads in
+    let one = c .before .before .begin-one .ensures in
+    let s = args .spans .now in
+    (omega arith, rw one (one-length s (args .c) heads l ∙ inv .1), rw one (one-rows s (args .c) heads l (inv .2)), rw one (sym (all-next s (args .c) heads (args .n) l (c .before .before .before .before .loop-test .taken)) ∙ inv .3))
+
+same-length : tie.Need-same-length Inv-loop μ-loop
+same-length c = c .before .loop .inv .1
+
+returns : tie.Need-returns Inv-loop μ-loop
+returns c =
+    let args = c .before .before .before .before .args in
+    let loop = c .before .loop in
+    sym (all-done (args .spans .now) (args .c) (loop .heads) (args .n) (loop .l) (c .loop-test .left)) ∙ loop .inv .3
+
+pub begin-all-spec : {M : Type 1} → statement M
+begin-all-spec =
+    tie.close
+    (tie.spec
+    Inv-loop
+    μ-loop
+    loop-holds
+    begin-one-requires
+    add-l
+    loop-less
+    loop-again
+    same-length
+    returns)

@@ -1,0 +1,68 @@
+-- `choose::holding` meets its contract. The loop's invariant: those counted and those still to be counted are all. The measure is how
+-- many instances are left.
+use Prim.Native.Nat.{_≤_, _+_, _-_}
+use mathlib.Core.Path.{_≡_, refl, sym, ap, _∙_}
+use mathlib.Core.Logic.{⊎-elim}
+use native.Mathlib.Omega.{arith}
+use Rattle.memory.specs.Choose.{holds, holding}
+use Rattle.moves.specs.ChooseWays.{count-done, count-here, count-past}
+use Rattle.moves.proofs.choose.holding.Statement.{statement}
+use Rattle.moves.proofs.choose.holding.Tie as tie
+
+abbrev Inv-loop : tie.InvT-loop
+Inv-loop heads n count₀ l₀ count l = (l ≤ n) × (count ≤ l) × (count + holding heads l (n - l) ≡ holding heads 0 n)
+
+abbrev μ-loop : tie.MeasureT-loop
+μ-loop heads n count₀ l₀ count l = n - l
+
+loop-holds : tie.Need-loop-holds Inv-loop μ-loop
+loop-holds c =
+    let args = c .before .args in
+    let z : args .n - 0 ≡ args .n = omega arith in
+    let e = ap (holding (args .heads .now) 0) z in
+    (omega arith, omega arith, omega arith)
+
+holds-requires : tie.Need-holds-requires Inv-loop μ-loop
+holds-requires c κs = omega arith
+
+add-count : tie.Need-add-count Inv-loop μ-loop
+add-count c = omega arith
+
+add-l : tie.Need-add-l Inv-loop μ-loop
+add-l c = omega arith
+
+loop-less : tie.Need-loop-less Inv-loop μ-loop
+loop-less c = omega arith
+
+loop-again : tie.Need-loop-again Inv-loop μ-loop
+loop-again c =
+    let args = c .before .before .before .before .before .args in
+    let loop = c .before .before .before .loop in
+    let h = args .heads .now in
+    let less = c .before .before .loop-test .taken in
+    let flag = sym (c .before .holds .ensures) in
+    ⊎-elim
+    (λ w. let e = count-here h (args .n) (loop .l) less (flag ∙ w .0 .taken) in (omega arith, omega arith, omega arith))
+    (λ w. let e = count-past h (args .n) (loop .l) less (flag ∙ w .0 .left) in (omega arith, omega arith, omega arith))
+    (c .if1 .came)
+
+returns : tie.Need-returns Inv-loop μ-loop
+returns c =
+    let args = c .before .before .before .args in
+    let loop = c .before .loop in
+    let e = count-done (args .heads .now) (args .n) (loop .l) (c .loop-test .left) in
+    omega arith
+
+pub holding-spec : {M : Type 1} → statement M
+holding-spec =
+    tie.close
+    (tie.spec
+    Inv-loop
+    μ-loop
+    loop-holds
+    holds-requires
+    add-count
+    add-l
+    loop-less
+    loop-again
+    returns)

@@ -1,0 +1,22 @@
+-- `choose::picked_of` meets its contract.
+use Prim.Native.Nat.{_%_}
+use mathlib.Core.Path.{_∙_, ap}
+use Rattle.memory.specs.Choose.{holder, picked}
+use borrow.Author.Needs.{needs}
+use Rattle.moves.proofs.choose.picked_of.Statement.{statement}
+use Rattle.moves.proofs.choose.picked_of.Tie as tie
+
+rem-holder : tie.Need-rem-holder
+rem-holder c = search needs
+
+holder-requires : tie.Need-holder-requires
+holder-requires c κs = search needs
+
+returns : tie.Need-returns
+unfolding picked
+returns c =
+    let args = c .before .before .args in
+    c .holder .ensures ∙ ap (λ m. holder (args .heads .now) 0 (args .n) (args .turn % m)) (c .before .before .pre .1)
+
+pub picked-of-spec : {M : Type 1} → statement M
+picked-of-spec = tie.close (tie.spec rem-holder holder-requires returns)

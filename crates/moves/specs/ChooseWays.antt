@@ -1,0 +1,44 @@
+-- The ways through the code that counts and finds those who hold commands, l of n instances passed (01, 'Table and turns').
+use Prim.Native.Nat.{ℕ, zero, suc, _+_, _-_, _<_, _≤_}
+use mathlib.Core.Path.{_≡_, refl, ap, _∙_}
+use mathlib.Core.Bool.{true, false}
+use mathlib.Core.List.{List}
+use native.Mathlib.Omega.{arith}
+use native.Mathlib.Numerals.{add-one}
+use lib.Dec.{eqb}
+use borrow.Author.Tests.{eq-eqb, ne-eqb}
+use Rattle.memory.specs.Choose.{holds, holding, holder}
+
+module _ (heads : List ℕ) (n l : ℕ) where
+  -- nobody is left
+  pub count-done : n ≤ l → holding heads l (n - l) ≡ 0
+  unfolding holding
+  count-done h = let z : n - l ≡ 0 = omega arith in rw z
+
+  pub find-done : (r : ℕ) → n ≤ l → holder heads l (n - l) r ≡ 0
+  unfolding holder
+  find-done r h = let z : n - l ≡ 0 = omega arith in rw z
+
+  module _ (h : l < n) where
+    one-more : n - l ≡ suc (n - (l + 1))
+    one-more = omega arith
+
+    pub count-here : holds heads l ≡ true → holding heads l (n - l) ≡ suc (holding heads (l + 1) (n - (l + 1)))
+    unfolding holding
+    count-here t = rw (one-more, t, holding, add-one l)
+
+    pub count-past : holds heads l ≡ false → holding heads l (n - l) ≡ holding heads (l + 1) (n - (l + 1))
+    unfolding holding
+    count-past t = rw (one-more, t, holding, add-one l)
+
+    pub find-here : (r : ℕ) → holds heads l ≡ true → r ≡ 0 → holder heads l (n - l) r ≡ l
+    unfolding holder
+    find-here r t z = rw (one-more, t, holder, eq-eqb r 0 z)
+
+    pub find-next : (r : ℕ) → holds heads l ≡ true → (r ≡ 0 → ⊥) → holder heads l (n - l) r ≡ holder heads (l + 1) (n - (l + 1)) (r - 1)
+    unfolding holder
+    find-next r t z = rw (one-more, t, holder, ne-eqb r 0 z, add-one l)
+
+    pub find-past : (r : ℕ) → holds heads l ≡ false → holder heads l (n - l) r ≡ holder heads (l + 1) (n - (l + 1)) r
+    unfolding holder
+    find-past r t = rw (one-more, t, holder, add-one l)

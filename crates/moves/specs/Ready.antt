@@ -1,0 +1,29 @@
+-- What the code of a move may rely on, as plain bounds (01, 'Table and turns'): its places lie in the lists, and it stands at an item.
+use Prim.Native.Nat.{ℕ, _*_, _^_, _<_, _≤_}
+use mathlib.Core.List.{List}
+use lib.ListN.{length, getD}
+use Rattle.types.specs.Limits.{max-structs, step-names}
+use Rattle.memory.specs.Layout.{head, head-size, struct-of, end-of}
+use Rattle.memory.specs.Plan.{fix-code, round-code}
+
+-- two numbers for each struct and name
+abbrev pub spans-size : ℕ
+spans-size = 2 * (step-names * max-structs)
+
+-- instance l stands in heads, of a struct that a program may have
+pub record Row (heads : List ℕ) (l : ℕ) : Type 0 where
+  pub long : head l end-of < length heads
+  pub known : getD heads (head l struct-of) 0 < max-structs
+
+-- n of them
+pub record Rows (heads : List ℕ) (n : ℕ) : Type 0 where
+  pub long : head-size * n ≤ length heads
+  pub known : (l : ℕ) → l < n → getD heads (head l struct-of) 0 < max-structs
+
+-- a machine by its numbers, with an entry for each open Fix, stands at an item that is not the end
+pub record Movable (items spans heads : List ℕ) (count place fixes stable : ℕ) : Type 0 where
+  pub spanned : spans-size ≤ length spans
+  pub rows : Rows heads count
+  pub within : place < length items
+  pub item : fix-code < getD items place 0 → round-code 0 ≤ getD items place 0
+  pub entries : stable < 2 ^ fixes
