@@ -10,6 +10,7 @@ pub mod EntryStreamLaws
 pub mod RowsOpen
 pub mod RowPrograms
 pub mod Rows
+pub mod Swept
 pub mod RowsOfImages
 pub mod RowsKept
 pub mod Input
