@@ -7,3 +7,5 @@ pub mod ValueWays
 pub mod ValuesWays
 pub mod RecordWays
 pub mod NullWays
+pub mod Refer
+pub mod ReferWays

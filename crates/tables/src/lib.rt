@@ -2,4 +2,5 @@
 // out: four numbers for each instance in `heads`, thirty-two cells for each in `cells`.
 mod nulls;
 pub mod reading;
+mod refer;
 mod store;
