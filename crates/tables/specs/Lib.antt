@@ -16,3 +16,5 @@ pub mod TableWays
 pub mod ProgramTables
 pub mod BeginStands
 pub mod ReadStands
+pub mod Written
+pub mod WrittenWays

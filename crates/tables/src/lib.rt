@@ -5,6 +5,7 @@ mod nulls;
 pub mod reading;
 mod refer;
 mod store;
+mod writing;
 
 use reading::CountRead;
 use reading::PlaceRead;
