@@ -1,0 +1,1 @@
+// The run of the engine (01, 'Table and turns').
