@@ -12,7 +12,7 @@ use Rattle.program.specs.Tree.{Program}
 use Rattle.commands.specs.Noted.{Note}
 use Rattle.machine.specs.Published.{Sched, Sched.done, structs}
 use Rattle.machine.specs.Machine.{Instance, Machine, Out, Out.next, Out.refused, Out.stuck, command, move}
-use Rattle.run.specs.Turns.{holders, chosen}
+use Rattle.run.specs.Turns.{holders, holds-code, chosen}
 use Rattle.run.specs.Runs.{ended, out-of-turns}
 use Rattle.run.specs.Run.{Outcome.stopped, run}
 use Rattle.run.specs.Settles.{Ran.ends as ran-ends, Ran.refuses as ran-refuses, Ran.lasts as ran-lasts, Ran.fails as ran-fails, Ran.takes as ran-takes}
@@ -34,14 +34,16 @@ use Rattle.memory.specs.Fit.{Fit}
 use Rattle.memory.specs.FitLaws.{fits}
 use Rattle.memory.specs.Act.{act}
 use Rattle.memory.specs.Acts.{acts}
-use Rattle.memory.specs.Choose.{picked}
-use Rattle.memory.specs.ChooseStands.{holding-same, picks}
+use Rattle.memory.specs.Choose.{holds, picked}
+use Rattle.memory.specs.ChooseStands.{holds-same, holding-same, picks}
 use Rattle.memory.specs.Move.{nested, move as move-on}
 use Rattle.memory.specs.MoveStands.{Follows, moves}
 use Rattle.moves.specs.Ready.{Movable}
 use Rattle.moves.specs.ReadyLaws.{stands-movable}
 use Rattle.runner.specs.Ready.{Ready}
 use Rattle.runner.specs.MovingLaws.{left, move-less}
+use Rattle.runner.specs.Counting.{fewer}
+use Rattle.runner.specs.CountLaws.{holders-behind}
 use Rattle.runner.specs.Running.{busy, cleared, Moving, Moving.moving, Moving.nesting, Turned, Turned.turned, Turned.failed}
 
 none-left : (l : List ℕ) → length l ≡ 0 → l ≡ []
@@ -97,7 +99,7 @@ module _ {p : Program} {counts list items spans : List ℕ} {m : Machine} {z : S
         not-done
 
     -- fewer moves are left behind one
-    pub less : move-on items spans z .number ≡ 0 → left items (move-on items spans z) < left items z
+    pub less : left items (move-on items spans z) < left items z
     less = move-less items spans z m (r .stands) (r .good .opened) not-done
 
     module _ (h : busy z ≡ 0) where
@@ -153,6 +155,7 @@ module _ {p : Program} {counts list items spans : List ℕ} {m : Machine} {z : S
             tabled = visits-tabled (r .prepared .firm) (r .good) (r .tabled) v;
             stands = S;
           })
+          (ap (λ (l : List ℕ). command p (chosen l e) m) q ∙ c)
           (λ es. ran-run p (ran-takes q c (run-ran p es m′) refl))
       takes h hs q i k y (refused n) c S =
           let f : n ≡ y .number = ap (λ (x : State). x .number) (sym S) in
@@ -172,3 +175,12 @@ module _ {p : Program} {counts list items spans : List ℕ} {m : Machine} {z : S
           (command p (chosen (h ∷ hs) e) m)
           refl
           (acts (r .prepared .firm) (r .prepared .bounded) (r .good) list (At items) z (r .stands) (chosen (h ∷ hs) e) i a c n d))
+
+      -- and as many hold commands behind it, or one fewer
+      pub counted : {m′ : Machine} {y : State} → Ready p counts list items spans m′ y → command p (chosen (holders m) e) m ≡ next m′
+          → busy y ≡ fewer (holds (y .heads) (picked (z .heads) (z .count) e)) (busy z)
+      counted {m′} {y} r′ c =
+          let (i, at, q) = holders-behind p (chosen (holders m) e) m c in
+          let w : holds (y .heads) (picked (z .heads) (z .count) e) ≡ holds-code (i .code) =
+          ap (holds (y .heads)) (picks m (r .stands) e) ∙ holds-same (r′ .stands .each (chosen (holders m) e) i at) in
+          holding-same m′ (r′ .stands) ∙ q ∙ (rw (w, holding-same m (r .stands)))
