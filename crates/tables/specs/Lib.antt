@@ -18,3 +18,4 @@ pub mod BeginStands
 pub mod ReadStands
 pub mod Written
 pub mod WrittenWays
+pub mod WriteStands

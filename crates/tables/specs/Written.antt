@@ -2,8 +2,10 @@
 -- bytes for each parameter.
 use Prim.Native.Nat.{ℕ, zero, suc, _-_, _*_, _≤_}
 use mathlib.Core.List.{List, [], _∷_, _++_}
-use lib.ListN.{length, getD}
+use lib.ListN.{length, getD, drop}
 use Rattle.types.specs.Limits.{max-structs, max-params, max-instances}
+use Rattle.blocks.specs.Blocks.{block-size}
+use Rattle.blocks.specs.Images.{image, pieces}
 use Rattle.program.specs.Encoding.{enc-word}
 use Rattle.table.specs.Table.{value-bytes, count-bytes}
 use Rattle.memory.specs.Layout.{head-size, row-size, operand}
@@ -26,6 +28,13 @@ rows-bytes cs h c l (suc m) = row-bytes cs h c l ++ rows-bytes cs h c (suc l) m
 -- the table of n instances; the null ones are as many as structs
 unfoldable pub memory-stream : List ℕ → List ℕ → List ℕ → ℕ → List ℕ
 memory-stream cs h c n = enc-word count-bytes (n - length cs) ++ rows-bytes cs h c (length cs) (n - length cs)
+
+-- how many blocks it takes, and the output with them in front, later bytes untouched
+abbrev pub memory-blocks : List ℕ → List ℕ → List ℕ → ℕ → ℕ
+memory-blocks cs h c n = pieces (length (memory-stream cs h c n))
+
+abbrev pub memory-image : List ℕ → List ℕ → List ℕ → ℕ → List ℕ → List ℕ
+memory-image cs h c n out = image (memory-stream cs h c n) ++ drop (block-size * memory-blocks cs h c n) out
 
 -- n instances of structs with at most 8 parameters stand in memory
 pub record Filled (cs h c : List ℕ) (n : ℕ) : Type 0 where

@@ -4,16 +4,23 @@ use native.Mathlib.Omega.{arith}
 use native.Mathlib.Nat.{add-zero, sub-zero, mul-zero}
 use native.Mathlib.Numerals.{add-one, add-two, add-three}
 use mathlib.Core.Path.{_≡_, refl, ap, sym, _∙_}
+use mathlib.Core.Bool.{true}
 use mathlib.Core.List.{List, [], _∷_, _++_}
-use lib.ListN.{length, getD, set, length-append}
-use lib.Seq.{sets}
+use lib.ListN.{length, getD, set, take, drop, length-append}
+use lib.Seq.{sets, take-append-seam}
+use borrow.Author.Tests.{le-leb}
 use Rattle.types.specs.Limits.{max-params}
+use Rattle.blocks.specs.Images.{pieces, stream-right, write, written-into}
+use Rattle.blocks.specs.WriteWays.{write-done}
+use Rattle.blocks.specs.declared.Written.{Written as Answer}
+use Rattle.blocks.specs.declared.Written.the-variants.{Blocks}
 use Rattle.program.specs.Encoding.{enc-word}
+use Rattle.plan.specs.ParamsWays.{from-start}
 use Rattle.emit.specs.WrittenLaws.{sets-append}
 use Rattle.table.specs.Table.{value-bytes, count-bytes}
 use Rattle.memory.specs.Layout.{row-size, operand}
 use Rattle.tables.specs.Refer.{struct-in}
-use Rattle.tables.specs.Written.{cells-bytes, row-bytes, rows-bytes, memory-stream}
+use Rattle.tables.specs.Written.{cells-bytes, row-bytes, rows-bytes, memory-stream, memory-blocks, memory-image, Filled}
 
 -- A number ---------------------------------------------------------------------------
 
@@ -99,3 +106,43 @@ stream-written cs h c n o o′ m e f = f ∙ rw e
 pub stream-length : (cs h c : List ℕ) (n r : ℕ) → r ≡ 2 + length (rows-bytes cs h c (length cs) (n - length cs)) → r ≡ length (memory-stream cs h c n)
 unfolding memory-stream enc-word
 stream-length cs h c n r e = omega arith
+
+-- Blocks -----------------------------------------------------------------------------
+
+module _ (cs h c : List ℕ) (n : ℕ) (f : Filled cs h c n) where
+  rows-bound : (l m : ℕ) → length (rows-bytes cs h c l m) ≤ 33 * m
+  unfolding rows-bytes
+  rows-bound l zero = omega arith
+  rows-bound l (suc m) =
+      simp length-append
+      (omega (arith, bytes-length c (row-size * l) (getD cs (struct-in h l) 0), f .each (struct-in h l), rows-bound (suc l) m))
+
+  -- a stream has its N, and fits 17 blocks
+  pub stream-fits : (2 ≤ length (memory-stream cs h c n)) × (length (memory-stream cs h c n) ≤ 8450)
+  stream-fits =
+      let e = stream-length cs h c n (2 + length (rows-bytes cs h c (length cs) (n - length cs))) refl in
+      omega (arith, rows-bound (length cs) (n - length cs), f .most)
+
+  blocks-written : (room : ℕ) → 8704 ≤ room → write 17 (length (memory-stream cs h c n)) room ≡ Blocks (memory-blocks cs h c n)
+  unfolding stream-right
+  blocks-written room b =
+      let s = stream-fits in
+      let len = length (memory-stream cs h c n) in
+      sym (write-done 17 len room true (rw (le-leb 1 len (omega arith), le-leb len (504 * 17) (omega arith))) refl (omega arith))
+
+  -- a buffer b with the stream, and the output with its blocks
+  module _ (b b′ : List ℕ) (len : ℕ) (r : Answer) (o o′ : List ℕ) (roomy : 8568 ≤ length b) (e : len ≡ length (memory-stream cs h c n))
+      (w : b′ ≡ sets b 0 (memory-stream cs h c n)) (room : 8704 ≤ length o) (a : r ≡ write 17 (length (take len b′)) (length o))
+      (out : o′ ≡ written-into r (take len b′) o) where
+    part : take len b′ ≡ memory-stream cs h c n
+    part =
+        let s = stream-fits in
+        rw (e, w, from-start b (memory-stream cs h c n) (omega arith))
+        (take-append-seam (memory-stream cs h c n) (drop (length (memory-stream cs h c n)) b))
+
+    pub blocks-are : r ≡ Blocks (memory-blocks cs h c n)
+    blocks-are = a ∙ ap (λ (s : List ℕ). write 17 (length s) (length o)) part ∙ blocks-written (length o) room
+
+    pub image-is : o′ ≡ memory-image cs h c n o
+    unfolding written-into
+    image-is = out ∙ ap (λ (s : List ℕ). written-into r s o) part ∙ rw blocks-are
