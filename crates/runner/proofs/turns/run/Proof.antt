@@ -43,7 +43,7 @@ returns c =
     let s = c .before .before .before .before .before .before .before .before .before .before .before .before .before .before .before .before .before in
     let settled = c .before .before .before .before .before .before .settle .ensures (s .args .cells .now) in
     let inv = c .before .before .loop .inv in
-    gone-lasting (s .pre) settled (inv .3) (c .before .loop-test .taken) (c .if1 .taken)
+    gone-lasting (s .pre) settled (inv .3) (omega (arith, c .before .loop-test .taken)) (c .if1 .taken)
 
 shared-slice-read-picked-of : tie.Need-shared-slice-read-picked-of Inv-loop μ-loop
 shared-slice-read-picked-of c = omega (arith, c .before .before .before .before .loop .inv .2, c .before .before .if1 .left)
@@ -53,14 +53,14 @@ picked-of-requires c κs =
     let s = c .before .before .before .before .before .before .before .before .before .before .before .before .before .before .before .before .before .before .before in
     let settled = c .before .before .before .before .before .before .before .before .settle .ensures (s .args .cells .now) in
     let inv = c .before .before .before .before .loop .inv in
-    gone-rows (s .pre) settled (inv .3) (c .before .before .before .loop-test .taken)
+    gone-rows (s .pre) settled (inv .3) (omega (arith, c .before .before .before .loop-test .taken))
 
 command-requires : tie.Need-command-requires Inv-loop μ-loop
 command-requires c κs =
     let s = c .before .before .before .before .before .before .before .before .before .before .before .before .before .before .before .before .before .before .before .before .before .before in
     let settled = c .before .before .before .before .before .before .before .before .before .before .before .settle .ensures (s .args .cells .now) in
     let inv = c .before .before .before .before .before .before .before .loop .inv in
-    gone-fits (s .pre) settled (inv .3) (c .before .before .before .before .before .before .loop-test .taken) (c .before .before .picked-of .ensures)
+    gone-fits (s .pre) settled (inv .3) (omega (arith, c .before .before .before .before .before .before .loop-test .taken)) (c .before .before .picked-of .ensures)
 
 same-length-3 : tie.Need-same-length-3 Inv-loop μ-loop
 same-length-3 c = search needs
@@ -75,7 +75,7 @@ returns-2 c =
     let inv = c .before .before .before .before .before .before .before .before .before .before .before .before .before .loop .inv in
     let l = c .before .before .before .before .before .before .before .before .picked-of .ensures in
     let acted = c .before .before .before .before .before .command .ensures in
-    gone-failed (s .pre) settled (inv .3) (c .before .before .before .before .before .before .before .before .before .before .before .before .loop-test .taken)
+    gone-failed (s .pre) settled (inv .3) (omega (arith, c .before .before .before .before .before .before .before .before .before .before .before .before .loop-test .taken))
     l (omega (arith, inv .2, c .before .before .before .before .before .before .before .before .before .before .before .if1 .left)) acted (c .if2 .taken)
 
 add-taken : tie.Need-add-taken Inv-loop μ-loop
@@ -88,9 +88,9 @@ left-holding-requires c κs =
     let inv = c .before .before .before .before .before .before .before .before .before .before .before .before .before .before .loop .inv in
     let l = c .before .before .before .before .before .before .before .before .before .picked-of .ensures in
     let acted = c .before .before .before .before .before .before .command .ensures in (
-      gone-row (s .pre) settled (inv .3) (c .before .before .before .before .before .before .before .before .before .before .before .before .before .loop-test .taken)
+      gone-row (s .pre) settled (inv .3) (omega (arith, c .before .before .before .before .before .before .before .before .before .before .before .before .before .loop-test .taken))
           l (omega (arith, inv .2, c .before .before .before .before .before .before .before .before .before .before .before .before .if1 .left)) acted (c .before .if2 .left),
-      c .before .before .before .before .before .before .before .before .before .before .before .before .before .loop-test .taken,
+      omega (arith, c .before .before .before .before .before .before .before .before .before .before .before .before .before .loop-test .taken),
     )
 
 settle-requires-2 : tie.Need-settle-requires-2 Inv-loop μ-loop
@@ -101,9 +101,9 @@ settle-requires-2 c κs =
     let l = c .before .before .before .before .before .before .before .before .before .before .before .picked-of .ensures in
     let acted = c .before .before .before .before .before .before .before .before .command .ensures in
     let taken = c .before .before .before .if2 .left in (
-      begun-standing (gone-begun (s .pre) settled (inv .3) (c .before .before .before .before .before .before .before .before .before .before .before .before .before .before .before .loop-test .taken)
+      begun-standing (gone-begun (s .pre) settled (inv .3) (omega (arith, c .before .before .before .before .before .before .before .before .before .before .before .before .before .before .before .loop-test .taken))
           l (omega (arith, inv .2, c .before .before .before .before .before .before .before .before .before .before .before .before .before .before .if1 .left)) acted taken),
-      c .before .left-holding .ensures ∙ gone-count (s .pre) settled (inv .3) (c .before .before .before .before .before .before .before .before .before .before .before .before .before .before .before .loop-test .taken)
+      c .before .left-holding .ensures ∙ gone-count (s .pre) settled (inv .3) (omega (arith, c .before .before .before .before .before .before .before .before .before .before .before .before .before .before .before .loop-test .taken))
           l (omega (arith, inv .2, c .before .before .before .before .before .before .before .before .before .before .before .before .before .before .if1 .left)) acted taken,
     )
 
@@ -120,7 +120,7 @@ loop-again c =
       c .before .before .before .settle2 .kept .1 .1 .1 .1 .0 ∙ c .before .before .before .before .before .before .before .before .before .before .before .before .command .kept .1 .1 .1 .0 ∙ inv .0,
       c .before .before .before .before .before .before .before .before .before .before .before .before .command .kept .1 .1 .1 .1 .0 ∙ inv .1,
       omega (arith, inv .2, c .before .before .before .before .before .before .before .before .before .before .before .before .before .before .before .before .before .before .if1 .left),
-      gone-more (s .pre) settled (inv .3) (c .before .before .before .before .before .before .before .before .before .before .before .before .before .before .before .before .before .before .before .loop-test .taken)
+      gone-more (s .pre) settled (inv .3) (omega (arith, c .before .before .before .before .before .before .before .before .before .before .before .before .before .before .before .before .before .before .before .loop-test .taken))
           l (omega (arith, inv .2, c .before .before .before .before .before .before .before .before .before .before .before .before .before .before .before .before .before .before .if1 .left)) acted (c .before .before .before .before .before .before .before .if2 .left) (c .before .before .before .settle2 .ensures _),
     )
 
