@@ -2,11 +2,11 @@
 use native.Mathlib.Omega.{arith}
 use mathlib.Core.Path.{_∙_}
 use borrow.Author.Needs.{needs}
 use Rattle.words.specs.Apply.{on-labels, apply}
 use Rattle.words.specs.Words.{op-of}
 use Rattle.words.specs.WordLaws.{op-first, labels-unfit}
-use Rattle.words.proofs.apply_label.Statement.{statement}
-use Rattle.words.proofs.apply_label.Tie as tie
+use Rattle.apply.proofs.apply_label.Statement.{statement}
+use Rattle.apply.proofs.apply_label.Tie as tie
 
 truth-requires : tie.Need-truth-requires
 truth-requires c κs = search needs

@@ -1,7 +1,7 @@
 -- `quotient_of` meets its contract: the machine's quotient is the definition's.
 use Rattle.words.specs.SignedLaws.{divides, quotient-said}
-use Rattle.words.proofs.quotient_of.Statement.{statement}
-use Rattle.words.proofs.quotient_of.Tie as tie
+use Rattle.apply.proofs.quotient_of.Statement.{statement}
+use Rattle.apply.proofs.quotient_of.Tie as tie
 
 div-result : tie.Need-div-result
 div-result c = divides (c .fits .x) (c .fits .y) (c .pre .0) (c .pre .1)

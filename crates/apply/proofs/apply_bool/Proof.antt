@@ -3,11 +3,11 @@ use native.Mathlib.Omega.{arith}
 use mathlib.Core.Path.{_≡_, _∙_}
 use borrow.Author.Needs.{needs}
 use Rattle.program.specs.Tree.{Op.op-or}
 use Rattle.words.specs.Apply.{on-truths, apply}
 use Rattle.words.specs.Words.{op-of}
 use Rattle.words.specs.WordLaws.{op-first, op-last, truths-unfit, truths-equal, truths-and, truths-or}
-use Rattle.words.proofs.apply_bool.Statement.{statement}
-use Rattle.words.proofs.apply_bool.Tie as tie
+use Rattle.apply.proofs.apply_bool.Statement.{statement}
+use Rattle.apply.proofs.apply_bool.Tie as tie
 
 truth-requires : tie.Need-truth-requires
 truth-requires c κs = search needs

@@ -1,10 +1,10 @@
 -- `apply_int` meets its contract: the Ints of the two words come back from their 64 bits.
 use mathlib.Core.Path.{_∙_}
 use borrow.Author.Needs.{needs}
 use Rattle.words.specs.Apply.{apply}
 use Rattle.words.specs.IntLaws.{int-of-back}
-use Rattle.words.proofs.apply_int.Statement.{statement}
-use Rattle.words.proofs.apply_int.Tie as tie
+use Rattle.apply.proofs.apply_int.Statement.{statement}
+use Rattle.apply.proofs.apply_int.Tie as tie
 
 int-of-requires : tie.Need-int-of-requires
 int-of-requires c κs = search needs

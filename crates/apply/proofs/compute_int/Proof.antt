@@ -4,13 +4,13 @@ use mir.Syntax.{w64}
 use mir.Val.{ofZ}
 use mir.ValLaws.{toZ-ofZ}
 use borrow.Author.Needs.{needs}
 use Rattle.words.specs.Apply.{int-answer, answer, compute, by-nonzero}
 use Rattle.words.specs.Words.{op-of, answered}
 use Rattle.words.specs.WordLaws.{op-first, past-numbers, numbers-unfit}
 use Rattle.words.specs.SignedLaws.{bits-same, zero-bits, operands, sum-carries, difference-carries, product-carries, quotient-carries, remainder-carries}
 use Rattle.words.specs.ApplyLaws.{nonzero}
-use Rattle.words.proofs.compute_int.Statement.{statement}
-use Rattle.words.proofs.compute_int.Tie as tie
+use Rattle.apply.proofs.compute_int.Statement.{statement}
+use Rattle.apply.proofs.compute_int.Tie as tie
 
 truth-requires : tie.Need-truth-requires
 truth-requires c κs = search needs

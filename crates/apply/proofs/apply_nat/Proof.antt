@@ -1,12 +1,12 @@
 -- `apply_nat` meets its contract, one return for each byte and each side of a range; `s` is the entry.
 use mathlib.Core.Path.{_∙_}
 use borrow.Author.Needs.{needs}
 use Rattle.words.specs.Apply.{same-int, nat-answer, by-nonzero, answer, compute, apply}
 use Rattle.words.specs.Words.{op-of, answered}
 use Rattle.words.specs.WordLaws.{op-first, past-numbers, numbers-unfit}
 use Rattle.words.specs.NatLaws.{nat-in, nat-out, nat-less, nat-more, nat-product, nat-quotient, nat-remainder}
-use Rattle.words.proofs.apply_nat.Statement.{statement}
-use Rattle.words.proofs.apply_nat.Tie as tie
+use Rattle.apply.proofs.apply_nat.Statement.{statement}
+use Rattle.apply.proofs.apply_nat.Tie as tie
 
 truth-requires : tie.Need-truth-requires
 truth-requires c κs = search needs

@@ -1,8 +1,8 @@
 -- `int_of` meets its contract: a word from 2147483648 on is 4294967296 less.
 use borrow.Author.Needs.{needs}
 use Rattle.words.specs.IntLaws.{int-of-low, int-of-fits, int-of-high}
-use Rattle.words.proofs.int_of.Statement.{statement}
-use Rattle.words.proofs.int_of.Tie as tie
+use Rattle.apply.proofs.int_of.Statement.{statement}
+use Rattle.apply.proofs.int_of.Tie as tie
 
 cast-result : tie.Need-cast-result
 cast-result c = search needs

@@ -1,7 +1,7 @@
 -- `int_answer` meets its contract, by the four stretches that its tests tell apart.
 use Rattle.words.specs.IntLaws.{int-too-low, int-low, int-high, int-too-high}
-use Rattle.words.proofs.int_answer.Statement.{statement}
-use Rattle.words.proofs.int_answer.Tie as tie
+use Rattle.apply.proofs.int_answer.Statement.{statement}
+use Rattle.apply.proofs.int_answer.Tie as tie
 
 returns : tie.Need-returns
 returns c = int-too-low (c .before .before .fits .z) (c .if2 .taken)

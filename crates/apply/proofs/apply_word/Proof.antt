@@ -3,10 +3,10 @@ use mathlib.Core.Path.{_∙_}
 use borrow.Author.Needs.{needs}
 use Rattle.types.specs.Types.{type-of}
 use Rattle.types.specs.Values.{value-of}
 use Rattle.words.specs.Words.{apply-word}
 use Rattle.words.specs.WordLaws.{type-struct}
-use Rattle.words.proofs.apply_word.Statement.{statement}
-use Rattle.words.proofs.apply_word.Tie as tie
+use Rattle.apply.proofs.apply_word.Statement.{statement}
+use Rattle.apply.proofs.apply_word.Tie as tie
 
 apply-int-requires : tie.Need-apply-int-requires
 apply-int-requires c κs = search needs

@@ -1,7 +1,7 @@
 -- `remainder_of` meets its contract: the machine's remainder is the definition's.
 use Rattle.words.specs.SignedLaws.{divides, remainder-said}
-use Rattle.words.proofs.remainder_of.Statement.{statement}
-use Rattle.words.proofs.remainder_of.Tie as tie
+use Rattle.apply.proofs.remainder_of.Statement.{statement}
+use Rattle.apply.proofs.remainder_of.Tie as tie
 
 rem-result : tie.Need-rem-result
 rem-result c = divides (c .fits .x) (c .fits .y) (c .pre .0) (c .pre .1)

@@ -1,8 +1,8 @@
 -- `truth` meets its contract: a truth's word is 1 or 0.
 use Rattle.types.specs.Values.{word}
 use Rattle.words.specs.Words.{answered}
-use Rattle.words.proofs.truth.Statement.{statement}
-use Rattle.words.proofs.truth.Tie as tie
+use Rattle.apply.proofs.truth.Statement.{statement}
+use Rattle.apply.proofs.truth.Tie as tie
 
 returns : tie.Need-returns
 unfolding answered word
