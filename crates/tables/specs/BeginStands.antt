@@ -1,13 +1,13 @@
 -- A table laid in memory stands for the machine that a run begins with (01, 'Table and turns').
 use Prim.Native.Nat.{ℕ, zero, suc, _+_, _*_, _<_, _≤_}
 use native.Mathlib.Omega.{arith}
-use native.Mathlib.Nat.{add-zero, add-suc, suc-add}
-use mathlib.Core.Path.{_≡_, refl, ap, sym, _∙_, subst}
+use native.Mathlib.Nat.{add-zero}
+use mathlib.Core.Path.{_≡_, refl, ap, sym, _∙_}
 use mathlib.Core.Option.{some}
 use mathlib.Core.List.{List, [], _∷_, _++_, map, append-nil, append-assoc, map-append}
 use lib.ListN.{length, getD, getElem?, length-append}
-use Rattle.types.specs.Limits.{max-structs, max-params, max-instances, first-local, nat-end}
-use Rattle.types.specs.Types.{Ty, Ty.int, Ty.nat, Ty.bool, Ty.ref, IsType, code}
+use Rattle.types.specs.Limits.{max-structs, max-params, max-instances}
+use Rattle.types.specs.Types.{Ty, Ty.int, Ty.nat, Ty.bool, Ty.ref, IsType}
 use Rattle.types.specs.TypeBytes.{ValueOf}
 use Rattle.types.specs.Values.{Val, default, word}
 use Rattle.program.specs.Tree.{Program}

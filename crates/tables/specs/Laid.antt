@@ -1,8 +1,8 @@
 -- How a table lies in memory (01, 'Table and turns'): the null instances and behind them the records, each with its four numbers, and
 -- the cells of its parameters. Whatever else stands there, stays.
-use Prim.Native.Nat.{ℕ, suc, _+_, _*_}
+use Prim.Native.Nat.{ℕ, suc, _*_}
 use mathlib.Core.List.{List, [], _∷_, _++_, map}
-use lib.ListN.{length, getD, set}
+use lib.ListN.{getD, set}
 use lib.Seq.{sets}
 use Rattle.types.specs.Limits.{max-params}
 use Rattle.types.specs.Types.{Ty}

@@ -4,9 +4,9 @@ use native.Mathlib.Omega.{arith}
 use native.Mathlib.Nat.{add-zero, add-suc, suc-add}
 use mathlib.Core.Path.{_≡_, refl, ap, sym, _∙_}
 use mathlib.Core.Option.{none, some}
-use mathlib.Core.List.{List, [], _∷_, _++_, map}
+use mathlib.Core.List.{List, [], _∷_, _++_}
 use lib.ListN.{length, getD, getElem?}
-use lib.Seq.{sets, length-sets}
+use lib.Seq.{length-sets}
 use Rattle.types.specs.Limits.{max-params}
 use Rattle.types.specs.Types.{Ty}
 use Rattle.types.specs.Values.{Val}
@@ -15,7 +15,7 @@ use Rattle.sound.specs.ElemLaws.{none-some, some-is}
 use Rattle.memory.specs.Layout.{head-size, row-size}
 use Rattle.memory.specs.MadeLaws.{new-head}
 use Rattle.memory.specs.RowLaws.{sets-other, sets-at}
-use Rattle.tables.specs.Laid.{cells-of, values-laid, head-laid, row-laid, heads-laid, rows-laid, null-records}
+use Rattle.tables.specs.Laid.{cells-of, head-laid, row-laid, heads-laid, rows-laid, null-records}
 use Rattle.tables.specs.Refer.{struct-in}
 
 -- Structs --------------------------------------------------------------------------

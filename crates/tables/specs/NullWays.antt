@@ -1,19 +1,19 @@
 -- Each turn of the loops that lay the null instances (01, 'Table and turns').
-use Prim.Native.Nat.{ℕ, zero, suc, _+_, _-_, _*_, _<_, _≤_}
+use Prim.Native.Nat.{ℕ, suc, _+_, _-_, _*_, _<_, _≤_}
 use native.Mathlib.Omega.{arith}
 use native.Mathlib.Nat.{add-zero, sub-zero}
 use native.Mathlib.Numerals.{add-one}
-use mathlib.Core.Path.{_≡_, refl, ap, sym, _∙_}
+use mathlib.Core.Path.{_≡_, sym, _∙_}
 use mathlib.Core.List.{List, [], _∷_, map}
 use lib.ListN.{length, getD, set, drop}
 use lib.Seq.{sets, drop-cons, drop-length}
 use Rattle.types.specs.Limits.{max-params}
-use Rattle.types.specs.Types.{Ty, type-of}
+use Rattle.types.specs.Types.{type-of}
 use Rattle.types.specs.Values.{default, word}
 use Rattle.table.specs.Table.{Record}
 use Rattle.memory.specs.Layout.{head-size, row-size, cell}
 use Rattle.memory.specs.MadeLaws.{new-head}
-use Rattle.tables.specs.Params.{types-from, lists-from, lists-of}
+use Rattle.tables.specs.Params.{types-from, lists-of}
 use Rattle.tables.specs.ParamsLaws.{lists-length, list-is}
 use Rattle.tables.specs.Laid.{cells-of, values-laid, null-records, heads-laid, rows-laid}
 

@@ -1,11 +1,10 @@
 -- Laws of the tables of parameters (01, 'Program stream').
-use Prim.Native.Nat.{ℕ, zero, suc, _+_, _*_, _<_}
+use Prim.Native.Nat.{ℕ, zero, suc, _+_, _*_}
 use native.Mathlib.Omega.{arith}
 use mathlib.Core.Path.{_≡_, refl, ap, _∙_}
 use mathlib.Core.List.{List, [], _∷_}
 use lib.ListN.{length, getD}
 use Rattle.types.specs.Limits.{max-params}
-use Rattle.types.specs.Types.{Ty}
 use Rattle.tables.specs.Params.{types-from, lists-from, lists-of}
 
 -- a list for each struct

@@ -1,14 +1,14 @@
 -- The tables of a program's parameters, as the reader of its parameter lists leaves them, hold its parameters (01, 'Program stream').
-use Prim.Native.Nat.{ℕ, zero, suc, _+_, _*_, _<_, _≤_}
+use Prim.Native.Nat.{ℕ, suc, _+_, _*_, _<_, _≤_}
 use native.Mathlib.Omega.{arith}
 use mathlib.Core.Path.{_≡_, refl, ap, _∙_}
 use mathlib.Core.List.{List, [], _∷_, map}
 use lib.ListN.{length, getD, length-map, List·getD-map}
 use lib.Seq.{ext-getD}
 use Rattle.types.specs.Limits.{max-structs, max-params}
-use Rattle.types.specs.Types.{Ty, Ty.int, IsType, code, type-of}
+use Rattle.types.specs.Types.{Ty, Ty.int, code}
 use Rattle.types.specs.TypeLaws.{type-of-code}
-use Rattle.program.specs.Counts.{All, Few}
+use Rattle.program.specs.Counts.{All}
 use Rattle.table.specs.SizeLaws.{few-params}
 use Rattle.facts.specs.ProgramFacts.{types-table}
 use Rattle.facts.specs.ProgramTableLaws.{types-at}

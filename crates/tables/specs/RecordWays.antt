@@ -1,13 +1,12 @@
 -- Each way through the readers of a record and of records in a row (01, 'Table and turns').
-use Prim.Native.Nat.{ℕ, zero, suc, _+_, _-_, _*_, _<_, _≤_}
+use Prim.Native.Nat.{ℕ, suc, _+_, _-_, _*_, _<_, _≤_}
 use native.Mathlib.Omega.{arith}
 use native.Mathlib.Nat.{add-zero, sub-zero}
-use mathlib.Core.Path.{_≡_, refl, ap, sym, _∙_}
+use mathlib.Core.Path.{_≡_, refl, ap, _∙_}
 use mathlib.Core.List.{List, [], _∷_}
 use lib.ListN.{length, getD}
 use lib.Seq.{sets}
 use Rattle.types.specs.Limits.{max-params}
-use Rattle.types.specs.Types.{Ty}
 use Rattle.types.specs.Values.{Val}
 use Rattle.program.specs.Reader.{Result, Result.ok, Result.bad, then, pair, made, many, ranged}
 use Rattle.exprs.specs.ByteWays.{byte-is, byte-stops, ranged-in, ranged-out, ranged-above}
@@ -17,7 +16,7 @@ use Rattle.memory.specs.Layout.{head-size, row-size}
 use Rattle.memory.specs.MadeLaws.{new-head}
 use Rattle.tables.specs.declared.reading.PlaceRead.{PlaceRead}
 use Rattle.tables.specs.declared.reading.PlaceRead.the-variants.{Place, NoPlace}
-use Rattle.tables.specs.Params.{types-from, lists-from, lists-of}
+use Rattle.tables.specs.Params.{lists-of}
 use Rattle.tables.specs.ParamsLaws.{lists-length, list-is}
 use Rattle.tables.specs.Laid.{values-laid, record-laid, records-laid, heads-laid, rows-laid}
 use Rattle.tables.specs.Told.{Laid, ValuesLaid, RecordLaid, RecordsLaid}

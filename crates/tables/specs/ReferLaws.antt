@@ -3,11 +3,11 @@ use Prim.Native.Nat.{ℕ, zero, suc, _+_, _-_, _*_, _<_, _≤_}
 use native.Mathlib.Omega.{arith}
 use mathlib.Core.Path.{_≡_, refl, ap, sym, _∙_}
 use mathlib.Core.Bool.{Bool, true, false, _&&_}
-use mathlib.Core.Option.{Option, none, some}
-use mathlib.Core.List.{List, [], _∷_, _++_}
+use mathlib.Core.Option.{none, some}
+use mathlib.Core.List.{List, [], _∷_}
 use lib.ListN.{length, getD, getElem?, length-append}
 use lib.Dec.{ltb, eqb}
-use borrow.Author.Tests.{ltb-true, ltb-false, lt-ltb, le-ltb}
+use borrow.Author.Tests.{ltb-true, ltb-false, le-ltb}
 use Rattle.types.specs.Limits.{max-params}
 use Rattle.types.specs.Types.{Ty, Ty.int, Ty.nat, Ty.bool, Ty.ref, type-of}
 use Rattle.types.specs.TypeBytes.{is-ref, struct-of as type-struct, ValueOf}
@@ -17,9 +17,9 @@ use Rattle.table.specs.Table.{Record, struct-at, Each, Held, HeldRecord}
 use Rattle.table.specs.SizeLaws.{each-length}
 use Rattle.table.specs.TableReader.{is-struct, refers, refers-each, references}
 use Rattle.sound.specs.ElemLaws.{at-append, at-behind, all-elem}
-use Rattle.memory.specs.Layout.{head-size, row-size, cell, operand}
+use Rattle.memory.specs.Layout.{head-size, row-size, cell}
 use Rattle.memory.specs.CellLaws.{operand-part}
-use Rattle.tables.specs.Params.{types-from, lists-from, lists-of}
+use Rattle.tables.specs.Params.{types-from, lists-of}
 use Rattle.tables.specs.ParamsLaws.{list-is, types-length, lists-length}
 use Rattle.tables.specs.Laid.{cells-of, heads-laid, rows-laid, null-records, all-records}
 use Rattle.tables.specs.LaidLaws.{struct-laid, row-laid-at, nulls-length, null-struct, at-place, at-none}

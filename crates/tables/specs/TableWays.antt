@@ -1,22 +1,26 @@
 -- Each way through the reader of a table (01, 'Table and turns', and numbers 11 and 12).
-use Prim.Native.Nat.{ℕ, zero, suc, _+_, _-_, _*_, _<_, _≤_}
+use Prim.Native.Nat.{ℕ, _+_, _-_, _*_, _<_, _≤_}
 use native.Mathlib.Omega.{arith}
-use native.Mathlib.Nat.{add-comm}
 use mathlib.Core.Path.{_≡_, refl, ap, sym, _∙_}
 use mathlib.Core.Bool.{Bool, true, false}
-use mathlib.Core.List.{List, [], _∷_, _++_}
-use lib.ListN.{length, getD}
-use lib.Dec.{ltb, leb}
+use mathlib.Core.List.{List, [], _∷_}
+use lib.ListN.{length, getD, take, drop}
+use lib.Seq.{take-at}
+use lib.Dec.{leb}
 use borrow.Author.Tests.{lt-ltb, le-ltb, le-leb, lt-leb}
-use Rattle.types.specs.Limits.{max-instances, max-params}
+use Rattle.types.specs.Limits.{max-instances, max-params, table-blocks}
 use Rattle.types.specs.Types.{Ty}
+use Rattle.blocks.specs.Images.{fault, stream, read as image-read, read-into, table-number as block-number}
+use Rattle.blocks.specs.AnswerLaws.{read-says, stream-most}
+use Rattle.blocks.specs.declared.Fault.{Fault}
+use Rattle.blocks.specs.declared.Found.the-variants.{Wrong}
+use Rattle.blocks.specs.declared.Read.the-variants.{Stream, Refused as ImageRefused, Short as ImageShort}
 use Rattle.program.specs.Counts.{All}
-use Rattle.program.specs.Reader.{Result, Result.ok, Result.bad, then, many, guard, ended, whole, read-word}
-use Rattle.program.specs.Encoding.{flat}
+use Rattle.program.specs.Reader.{Result, Result.ok, Result.bad, then, many, guard, ended, whole}
 use Rattle.program.specs.PartLaws.{told-is}
 use Rattle.program.specs.JoinLaws.{row-exact, flat-row}
 use Rattle.table.specs.Table.{Record, count-bytes, enc-record, HeldRecord}
-use Rattle.table.specs.TableReader.{read-record, read-count, read-table, references, TableAnswer, TableAnswer.table, TableAnswer.no-table, table-number, table-answer, table-of-stream}
+use Rattle.table.specs.TableReader.{read-record, read-count, read-table, references, TableAnswer.table, TableAnswer.no-table, table-number, table-answer, table-of-stream}
 use Rattle.table.specs.TableExact.{record-exact}
 use Rattle.memory.specs.Layout.{head-size, row-size}
 use Rattle.tables.specs.declared.reading.PlaceRead.the-variants.{Place, NoPlace}
@@ -29,7 +33,7 @@ use Rattle.tables.specs.LaidLaws.{heads-append, rows-append, nulls-lengt
 use Rattle.tables.specs.Refer.{Structs, rows-refer}
 use Rattle.tables.specs.ReferLaws.{laid-refers, laid-structs}
 use Rattle.tables.specs.Told.{word-of, count-told, RecordsLaid}
-use Rattle.tables.specs.TableTold.{behind-count, table-told, TableLaid}
+use Rattle.tables.specs.TableTold.{behind-count, table-told, answer-of, image-answer, TableLaid}
 use Rattle.tables.specs.ToldLaws.{laid-is, laid-stops}
 use Rattle.tables.specs.ValueWays.{word-in, word-out}
 
@@ -170,3 +174,24 @@ module _ (s : List ℕ) (pss : List (List Ty)) where
           → table-answer pss (then (then (guard t 1 (word-of 2 s 0) 2) λ n k. many [] _∷_ (read-record pss s) n k) (ended s)) ≡ behind-count pss s n
       go true w = let z : word-of 2 s 0 ≡ n = cc in rw z
       go false w = let z : _≡_ {A = ℕ} 0 1 = cc in absurd (omega arith)
+
+-- An image -------------------------------------------------------------------------
+
+module _ (y : List ℕ) (pss : List (List Ty)) (room : ℕ) where
+  pub image-refused : (f : Fault) → image-read table-blocks y room ≡ ImageRefused f → image-answer pss y ≡ no-table (block-number f)
+  unfolding answer-of
+  image-refused f e = let h : fault table-blocks y ≡ Wrong f = rw e at (read-says table-blocks y room) in rw h
+
+  -- a buffer for as many blocks as are allowed is never too short
+  pub image-short : 8568 ≤ room → image-read table-blocks y room ≡ ImageShort → ⊥
+  image-short l e = let h = rw e at (read-says table-blocks y room) in omega (arith, stream-most table-blocks y (h .0), h .1)
+
+  pub image-stream : (n : ℕ) → image-read table-blocks y room ≡ Stream n
+      → (image-answer pss y ≡ table-of-stream pss (stream y)) × (n ≡ length (stream y)) × (n ≤ room)
+  unfolding answer-of
+  image-stream n e = let h = rw e at (read-says table-blocks y room) in (rw (h .0), h .1, h .2)
+
+-- the front of the buffer is the stream
+pub image-front : (y b : List ℕ) (n : ℕ) → n ≡ length (stream y) → take n (read-into (Stream n) (stream y) b) ≡ stream y
+unfolding read-into
+image-front y b n e = take-at (stream y) (drop n b) n (sym e)

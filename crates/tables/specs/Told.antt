@@ -6,7 +6,7 @@ use lib.ListN.{length, getD}
 use Rattle.program.specs.Reader.{Result, Result.ok, Result.bad, many, byte-end}
 use Rattle.types.specs.Limits.{max-instances}
 use Rattle.types.specs.Types.{type-of}
-use Rattle.table.specs.Table.{Record, count-bytes}
+use Rattle.table.specs.Table.{count-bytes}
 use Rattle.table.specs.TableReader.{read-value, read-values, read-record, table-number}
 use Rattle.tables.specs.Params.{types-from, lists-of}
 use Rattle.tables.specs.Laid.{value-laid, values-laid, record-laid, records-laid}

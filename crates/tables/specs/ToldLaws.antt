@@ -3,7 +3,7 @@ use Prim.Native.Nat.{ℕ, _≤_}
 use native.Mathlib.Omega.{arith}
 use mathlib.Core.Path.{_≡_, refl}
 use mathlib.Core.List.{List}
-use Rattle.program.specs.Reader.{Result, Result.ok, Result.bad, then, made}
+use Rattle.program.specs.Reader.{Result, Result.ok, Result.bad}
 use Rattle.table.specs.TableReader.{table-number}
 use Rattle.tables.specs.declared.reading.PlaceRead.{PlaceRead}
 use Rattle.tables.specs.declared.reading.PlaceRead.the-variants.{Place, NoPlace}
@@ -17,12 +17,6 @@ module _ {A M : Type 0} (f : A → M) where
   pub laid-stops : (q : Result A) (e : ℕ) (x : M) → Laid f q (NoPlace e) x → (p : ℕ) × (n : ℕ) × (q ≡ bad p n) × (e ≡ table-number n)
   laid-stops (ok a k) e x h = let z : _≡_ {A = ℕ} 0 1 = cc in absurd (omega arith)
   laid-stops (bad p n) e x h = let i : e ≡ table-number n = cc in (p, n, refl, i)
-
--- what is made of what was read
-pub laid-made : {A B M : Type 0} (f : B → M) (g : A → B) (q : Result A) (r : PlaceRead) (x : M) → Laid (λ a. f (g a)) q r x → Laid f (made g q) r x
-unfolding made then
-laid-made f g (ok a m) r x h = h
-laid-made f g (bad p n) r x h = h
 
 -- from an earlier place
 pub within-from : (s : List ℕ) (at from : ℕ) (r : PlaceRead) → at ≤ from → Within s from r → Within s at r

@@ -3,13 +3,13 @@ use Prim.Native.Nat.{ℕ, zero, suc, _+_, _-_, _*_, _<_, _≤_}
 use native.Mathlib.Omega.{arith}
 use native.Mathlib.Decide.{decLt}
 use native.Mathlib.Nat.{add-zero}
-use mathlib.Core.Path.{_≡_, refl, ap, sym, _∙_}
-use mathlib.Core.Bool.{Bool, true, false}
+use mathlib.Core.Path.{_≡_, refl}
+use mathlib.Core.Bool.{true, false}
 use mathlib.Core.List.{List}
-use lib.ListN.{length, getD, set}
+use lib.ListN.{length, getD}
 use borrow.Author.Tests.{ltb-true, lt-ltb}
 use Rattle.types.specs.Limits.{nat-end}
-use Rattle.types.specs.Types.{Ty, Ty.int, Ty.nat, Ty.bool, Ty.ref, type-of}
+use Rattle.types.specs.Types.{Ty, type-of}
 use Rattle.types.specs.TypeLaws.{type-of-struct}
 use Rattle.types.specs.TypeBytes.{word-end}
 use Rattle.types.specs.Values.{Val, word, value-of}
@@ -17,9 +17,7 @@ use Rattle.types.specs.ValueLaws.{word-of-value}
 use Rattle.program.specs.Reader.{Result, Result.ok, Result.bad, byte-end, then, made, many, guard, ranged, read-word}
 use Rattle.exprs.specs.ByteWays.{byte-is, byte-stops, ranged-in, ranged-out}
 use Rattle.table.specs.TableReader.{allowed, read-value, table-number}
-use Rattle.memory.specs.Layout.{cell}
 use Rattle.tables.specs.declared.reading.PlaceRead.the-variants.{Place, NoPlace}
-use Rattle.tables.specs.Laid.{value-laid}
 use Rattle.tables.specs.Told.{word-of, Laid}
 
 -- bytes in a row: all of them, or the stream ends among them

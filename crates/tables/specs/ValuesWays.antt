@@ -1,20 +1,20 @@
 -- Each way through the reader of a record's values (01, 'Table and turns').
-use Prim.Native.Nat.{ℕ, zero, suc, _+_, _-_, _*_, _<_, _≤_}
+use Prim.Native.Nat.{ℕ, suc, _+_, _-_, _<_, _≤_}
 use native.Mathlib.Omega.{arith}
 use native.Mathlib.Nat.{add-zero, sub-zero}
-use mathlib.Core.Path.{_≡_, refl, ap, sym, _∙_}
-use mathlib.Core.List.{List, [], _∷_}
-use lib.ListN.{length, getD}
-use Rattle.types.specs.Types.{Ty, type-of}
+use mathlib.Core.Path.{_≡_, refl, ap, _∙_}
+use mathlib.Core.List.{List, _∷_}
+use lib.ListN.{getD}
+use Rattle.types.specs.Types.{type-of}
 use Rattle.types.specs.Values.{Val}
 use Rattle.program.specs.Reader.{Result, Result.ok, Result.bad, then, pair, made}
-use Rattle.table.specs.TableReader.{read-value, read-values, table-number}
+use Rattle.table.specs.TableReader.{read-value, read-values}
 use Rattle.tables.specs.declared.reading.PlaceRead.{PlaceRead}
 use Rattle.tables.specs.declared.reading.PlaceRead.the-variants.{Place, NoPlace}
 use Rattle.tables.specs.Params.{types-from}
 use Rattle.tables.specs.Laid.{value-laid, cells-of, values-laid}
 use Rattle.tables.specs.Told.{Laid, ValueLaid, ValuesLaid}
-use Rattle.tables.specs.ToldLaws.{laid-is, laid-stops, laid-made}
+use Rattle.tables.specs.ToldLaws.{laid-is, laid-stops}
 
 module _ (s ts : List ℕ) (i n at : ℕ) (c : List ℕ) (a : ℕ) where
   -- the first was read, and the others behind it

@@ -1,6 +1,6 @@
 -- What the writer of a table writes of memory that stands for a machine (01, 'Table and turns', 'Numbers from the state'): the stream
 -- of the machine's table, in the blocks that a run is to leave in its output.
-use Prim.Native.Nat.{ℕ, zero, suc, _+_, _-_, _*_, _<_, _≤_}
+use Prim.Native.Nat.{ℕ, suc, _+_, _-_, _*_, _<_, _≤_}
 use native.Mathlib.Omega.{arith}
 use native.Mathlib.Nat.{add-zero}
 use mathlib.Core.Path.{_≡_, refl, ap, sym, _∙_}
@@ -8,13 +8,13 @@ use mathlib.Core.Option.{some}
 use mathlib.Core.List.{List, [], _∷_, _++_, map}
 use lib.ListN.{length, getD, getElem?, drop, length-map, length-drop, List·getD-map}
 use Rattle.types.specs.Limits.{max-params}
-use Rattle.types.specs.Types.{Ty, code}
+use Rattle.types.specs.Types.{code}
 use Rattle.types.specs.Values.{Val, word}
 use Rattle.program.specs.Tree.{Program}
 use Rattle.program.specs.Encoding.{enc-word, flat}
 use Rattle.program.specs.Counts.{Counts}
 use Rattle.commands.specs.Context.{params-of}
-use Rattle.table.specs.Table.{Record, value-bytes, count-bytes, enc-value, enc-record, enc-table}
+use Rattle.table.specs.Table.{value-bytes, count-bytes, enc-value, enc-record, enc-table}
 use Rattle.table.specs.SizeLaws.{each-length, few-params}
 use Rattle.machine.specs.Published.{Sched, Env, Env.env, lookup, structs}
 use Rattle.machine.specs.Machine.{Instance, Machine}
@@ -26,13 +26,13 @@ use Rattle.sound.specs.Invariant.{Fitted, GoodAll}
 use Rattle.sound.specs.Tabled.{Tabled}
 use Rattle.sound.specs.ElemLaws.{at-below, at-drop}
 use Rattle.sound.specs.EnvLaws.{param-at}
-use Rattle.memory.specs.Layout.{State, row-size, cell, operand, of-cell, variable}
+use Rattle.memory.specs.Layout.{State, row-size, operand, of-cell, variable}
 use Rattle.memory.specs.CellLaws.{operand-part, code-byte}
 use Rattle.memory.specs.Stands.{Shows, Stands}
-use Rattle.tables.specs.Refer.{struct-in, Structs}
+use Rattle.tables.specs.Refer.{struct-in}
 use Rattle.tables.specs.LaidLaws.{at-place}
 use Rattle.tables.specs.BeginStands.{few-all}
-use Rattle.tables.specs.Written.{cells-bytes, row-bytes, rows-bytes, memory-stream, memory-blocks, memory-image, Filled}
+use Rattle.tables.specs.Written.{cells-bytes, rows-bytes, memory-stream, memory-blocks, memory-image, Filled}
 
 -- the number in a cell that shows a value
 shown-word : (c : ℕ) (x : Val) → Shows c x → operand c ≡ word x
@@ -128,6 +128,6 @@ module _ (p : Program) (counts : Counts p) (list : List ℕ) (P : ℕ → Sched 
   unfolding report-of
   blocks-stand n t = rw stream-stands
 
-  pub image-stands : (n t : ℕ) (out : List ℕ) → memory-image cs (z .heads) (z .cells) (z .count) out ≡ output-of p (stopped n t m) out
+  pub output-stands : (n t : ℕ) (out : List ℕ) → memory-image cs (z .heads) (z .cells) (z .count) out ≡ output-of p (stopped n t m) out
   unfolding output-of
-  image-stands n t out = rw stream-stands
+  output-stands n t out = rw stream-stands

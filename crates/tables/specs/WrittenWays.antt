@@ -5,19 +5,17 @@ use native.Mathlib.Nat.{add-zero, sub-zero, mul-zero}
 use native.Mathlib.Numerals.{add-one, add-two, add-three}
 use mathlib.Core.Path.{_≡_, refl, ap, sym, _∙_}
 use mathlib.Core.Bool.{true}
-use mathlib.Core.List.{List, [], _∷_, _++_}
+use mathlib.Core.List.{List, _++_}
 use lib.ListN.{length, getD, set, take, drop, length-append}
 use lib.Seq.{sets, take-append-seam}
 use borrow.Author.Tests.{le-leb}
-use Rattle.types.specs.Limits.{max-params}
-use Rattle.blocks.specs.Images.{pieces, stream-right, write, written-into}
+use Rattle.blocks.specs.Images.{stream-right, write, written-into}
 use Rattle.blocks.specs.WriteWays.{write-done}
 use Rattle.blocks.specs.declared.Written.{Written as Answer}
 use Rattle.blocks.specs.declared.Written.the-variants.{Blocks}
 use Rattle.program.specs.Encoding.{enc-word}
 use Rattle.plan.specs.ParamsWays.{from-start}
 use Rattle.emit.specs.WrittenLaws.{sets-append}
-use Rattle.table.specs.Table.{value-bytes, count-bytes}
 use Rattle.memory.specs.Layout.{row-size, operand}
 use Rattle.tables.specs.Refer.{struct-in}
 use Rattle.tables.specs.Written.{cells-bytes, row-bytes, rows-bytes, memory-stream, memory-blocks, memory-image, Filled}

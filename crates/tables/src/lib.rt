@@ -2,11 +2,12 @@
 // out: four numbers for each instance in `heads`, thirty-two cells for each in `cells`. Of a program's parameters `counts` has for each
 // struct how many there are, and `types` eight places with the bytes of their types.
 mod nulls;
-pub mod reading;
+mod reading;
 mod refer;
 mod store;
 mod writing;
 
+use blocks::Read;
 use blocks::Written;
 use reading::CountRead;
 use reading::PlaceRead;
@@ -18,7 +19,7 @@ ghost use Rattle.blocks.specs.Blocks.{block-size};
 ghost use Rattle.table.specs.TableReader.{table-of-stream};
 ghost use Rattle.memory.specs.Layout.{head-size, row-size};
 ghost use Rattle.tables.specs.Params.{Tables, lists-of};
-ghost use Rattle.tables.specs.TableTold.{behind-count, table-told, TableLaid};
+ghost use Rattle.tables.specs.TableTold.{behind-count, table-told, image-answer, TableLaid};
 ghost use Rattle.tables.specs.Written.{Filled, memory-blocks, memory-image};
 
 // How many instances a table has, the null ones among them, with all of them in memory; or the number of a refusal, and memory anyhow.
@@ -76,6 +77,27 @@ pub fn read(
         return TableRead::Refused(reading::count_refusal(q));
     };
     behind(s, counts, types, n, heads, cells)
+}
+
+// A table image: 9 and 10, then what its stream comes to. The buffer has room for every block that is allowed.
+pub fn read_image(
+    image: &[u8],
+    counts: &[u8],
+    types: &[u8],
+    heads: &mut [usize],
+    cells: &mut [u64],
+) -> TableRead
+    requires { ⌜ Tables (now counts) (now types) ⌝ }
+    requires { ⌜ (length (now heads) ≡ head-size * max-instances) × (length (now cells) ≡ row-size * max-instances) ⌝ }
+    ensures { λ r. ⌜ r ≡ table-told (length (now (counts .entry))) (image-answer (lists-of (now (counts .entry)) (now (types .entry))) (now (image .entry))) ⌝ }
+    ensures { λ _. ⌜ TableLaid (now (counts .entry)) (now (types .entry)) (now (heads .entry)) (now (cells .entry)) (image-answer (lists-of (now (counts .entry)) (now (types .entry))) (now (image .entry))) (now (heads .exit)) (now (cells .exit)) ⌝ }
+{
+    let mut buffer = [0u8; types::TABLE_BLOCKS * blocks::PAYLOAD_SIZE];
+    match blocks::read_image(image, types::TABLE_BLOCKS, &mut buffer) {
+        Read::Refused(f) => TableRead::Refused(blocks::table_number(f)),
+        Read::Short => TableRead::Refused(reading::WRONG_END),
+        Read::Stream(n) => read(&buffer[..n], counts, types, heads, cells),
+    }
 }
 
 // The table of the n instances in memory, in blocks from the start of the output. How many blocks.

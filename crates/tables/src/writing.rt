@@ -7,7 +7,7 @@ ghost use lib.Seq.{sets};
 ghost use Rattle.program.specs.Encoding.{enc-word};
 ghost use Rattle.tables.specs.Written.{Filled, cells-bytes, rows-bytes, memory-stream};
 
-// The bytes of a value, and the most of a record.
+// The bytes of a value.
 const VALUE: usize = 4;
 
 // A number of four bytes, the lowest first.

@@ -1,11 +1,9 @@
 -- `behind` meets its contract: a record is refused, the stream goes on, a reference is wrong, the table is right.
-use Prim.Native.Nat.{_+_}
-use mathlib.Core.Path.{_≡_, _∙_, ap, sym, refl}
+use mathlib.Core.Path.{_∙_, ap, refl}
 use native.Mathlib.Omega.{arith}
 use borrow.Author.Tests.{not-true, not-false}
-use lib.ListN.{length}
 use Rattle.tables.specs.Told.{place-refusal}
-use Rattle.tables.specs.TableWays.{Got, got, behind-refused, behind-more, behind-structs, behind-wrong, behind-right}
+use Rattle.tables.specs.TableWays.{got, behind-refused, behind-more, behind-structs, behind-wrong, behind-right}
 use borrow.Author.Needs.{needs}
 use Rattle.tables.proofs.behind.Statement.{statement}
 use Rattle.tables.proofs.behind.Tie as tie

@@ -1,6 +1,5 @@
 -- `read` meets its contract: N is refused, or what stands behind it decides.
-use mathlib.Core.Path.{_≡_, _∙_, ap, sym, refl}
-use native.Mathlib.Omega.{arith}
+use mathlib.Core.Path.{_∙_, ap, sym, refl}
 use Rattle.tables.specs.Params.{lists-of}
 use Rattle.tables.specs.ParamsLaws.{lists-length}
 use Rattle.tables.specs.Told.{count-refusal}

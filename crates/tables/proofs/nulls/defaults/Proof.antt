@@ -1,7 +1,7 @@
 -- `nulls::defaults` meets its contract. The loop's invariant: what is left to lay makes of the cells what laying all does. The measure is how many are
 -- left.
 use Prim.Native.Nat.{_≤_, _+_, _-_}
-use mathlib.Core.Path.{_≡_, _∙_, refl, sym}
+use mathlib.Core.Path.{_≡_, _∙_, refl}
 use native.Mathlib.Omega.{arith}
 use lib.ListN.{length, length-set}
 use Rattle.tables.specs.NullWays.{defaults-laid, defaults-begin, defaults-turn, defaults-end}

@@ -1,8 +1,7 @@
 -- `reading::count` meets its contract: no two bytes, too many records, N.
 use Prim.Native.Nat.{_+_, _*_, _<_, _≤_}
-use mathlib.Core.Path.{_≡_, _∙_, sym}
+use mathlib.Core.Path.{_≡_}
 use native.Mathlib.Omega.{arith}
-use lib.ListN.{length}
 use Rattle.types.specs.Limits.{max-instances}
 use Rattle.tables.specs.Told.{word-of}
 use Rattle.tables.specs.TableWays.{count-cut, count-wrong, count-right, word-two}

@@ -1,10 +1,6 @@
 -- `reading::one_record` meets its contract: no struct byte, one that is not allowed, the values behind one.
-use mathlib.Core.Path.{_≡_, sym, _∙_}
 use native.Mathlib.Omega.{arith}
-use Prim.Native.Nat.{_≤_}
-use lib.ListN.{getD}
 use Rattle.tables.specs.ToldLaws.{within-from}
-use Rattle.tables.specs.Told.{ValuesLaid}
 use Rattle.tables.specs.RecordWays.{record-cut, record-wrong, record-right}
 use borrow.Author.Needs.{needs}
 use Rattle.tables.proofs.reading.one_record.Statement.{statement}

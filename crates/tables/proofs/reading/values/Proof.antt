@@ -3,7 +3,6 @@ use Prim.Native.Nat.{_≤_, _-_}
 use mathlib.Core.Path.{_≡_, _∙_, refl}
 use native.Mathlib.Omega.{arith}
 use lib.ListN.{length}
-use Rattle.tables.specs.Told.{Within}
 use Rattle.tables.specs.ValuesWays.{ValuesGo, values-begin, values-turn, values-refused, values-end}
 use borrow.Author.Needs.{needs}
 use Rattle.tables.proofs.reading.values.Statement.{statement}

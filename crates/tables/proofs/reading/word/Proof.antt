@@ -1,6 +1,5 @@
 -- `reading::word` meets its contract: the four bytes' sum.
 use native.Mathlib.Omega.{arith}
-use Rattle.tables.specs.Told.{word-of}
 use Rattle.tables.specs.ValueWays.{word-four}
 use borrow.Author.Needs.{needs}
 use Rattle.tables.proofs.reading.word.Statement.{statement}

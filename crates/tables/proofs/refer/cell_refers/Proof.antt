@@ -1,6 +1,5 @@
 -- `refer::cell_refers` meets its contract: no reference, a label that no instance has, the struct of an instance.
-use mathlib.Core.Path.{_≡_, _∙_, sym}
-use native.Mathlib.Omega.{arith}
+use mathlib.Core.Path.{_∙_, sym}
 use borrow.Author.Tests.{not-true, not-false}
 use Rattle.tables.specs.ReferWays.{cell-plain, cell-absent, cell-struct}
 use borrow.Author.Needs.{needs}

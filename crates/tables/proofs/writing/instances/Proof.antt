@@ -1,7 +1,7 @@
 -- `writing::instances` meets its contract. The loop's invariant: the instances that are left make of the output, and of the place, what all of them do.
 -- The measure is how many are left.
 use Prim.Native.Nat.{_≤_, _+_, _-_, _*_}
-use mathlib.Core.Path.{_≡_, _∙_, refl, ap, sym}
+use mathlib.Core.Path.{_≡_, _∙_, refl}
 use native.Mathlib.Omega.{arith}
 use lib.ListN.{length, getD, length-set}
 use lib.Seq.{sets}

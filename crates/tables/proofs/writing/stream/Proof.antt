@@ -1,5 +1,5 @@
 -- `writing::stream` meets its contract: N, and the instances behind it.
-use mathlib.Core.Path.{_≡_, _∙_, refl}
+use mathlib.Core.Path.{_∙_, refl}
 use native.Mathlib.Omega.{arith}
 use lib.ListN.{length-set}
 use Rattle.tables.specs.WrittenWays.{stream-written, stream-length}
