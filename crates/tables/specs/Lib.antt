@@ -1,9 +1,15 @@
 pub mod Params
 pub mod ParamsLaws
 pub mod Laid
+pub mod LaidLaws
 pub mod Told
 pub mod ToldLaws
+pub mod TableTold
 pub mod ValueWays
 pub mod ValuesWays
 pub mod RecordWays
 pub mod NullWays
+pub mod Refer
+pub mod ReferWays
+pub mod ReferLaws
+pub mod TableWays

@@ -4,11 +4,14 @@ use mathlib.Core.Path.{_≡_}
 use mathlib.Core.List.{List, [], _∷_}
 use lib.ListN.{length, getD}
 use Rattle.program.specs.Reader.{Result, Result.ok, Result.bad, many, byte-end}
+use Rattle.types.specs.Limits.{max-instances}
 use Rattle.types.specs.Types.{type-of}
-use Rattle.table.specs.Table.{Record}
+use Rattle.table.specs.Table.{Record, count-bytes}
 use Rattle.table.specs.TableReader.{read-value, read-values, read-record, table-number}
 use Rattle.tables.specs.Params.{types-from, lists-of}
 use Rattle.tables.specs.Laid.{value-laid, values-laid, record-laid, records-laid}
+use Rattle.tables.specs.declared.reading.CountRead.{CountRead}
+use Rattle.tables.specs.declared.reading.CountRead.the-variants.{Count, NoCount}
 use Rattle.tables.specs.declared.reading.PlaceRead.{PlaceRead}
 use Rattle.tables.specs.declared.reading.PlaceRead.the-variants.{Place, NoPlace}
 
@@ -16,6 +19,25 @@ use Rattle.tables.specs.declared.reading.PlaceRead.the-variants.{Place, 
 unfoldable pub word-of : ℕ → List ℕ → ℕ → ℕ
 word-of zero s at = 0
 word-of (suc i) s at = getD s at 0 + byte-end * word-of i s (at + 1)
+
+-- N, or the number of a refusal
+abbrev pub count-told : Result ℕ → CountRead
+count-told (ok n m) = Count n
+count-told (bad p n) = NoCount (table-number n)
+
+-- the number of a refusal; of a value, 0
+abbrev pub count-refusal : CountRead → ℕ
+count-refusal (Count n) = 0
+count-refusal (NoCount n) = n
+
+abbrev pub place-refusal : PlaceRead → ℕ
+place-refusal (Place m) = 0
+place-refusal (NoPlace n) = n
+
+-- N has its two bytes, and there is room for so many instances
+abbrev pub Counted : List ℕ → ℕ → CountRead → Type 0
+Counted s S (Count n) = (count-bytes ≤ length s) × (n + S ≤ max-instances)
+Counted s S (NoCount n) = Unit {0}
 
 -- the next place, with memory x as f makes it of what was read; or the number of a refusal, and memory anyhow
 abbrev pub Laid : {A M : Type 0} → (A → M) → Result A → PlaceRead → M → Type 0

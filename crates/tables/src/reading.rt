@@ -1,14 +1,15 @@
 // The records of a table stream, read into memory one behind the other (01, 'Table and turns', and numbers 11 and 12).
 use crate::store;
 ghost use mathlib.Core.Path.{_≡_};
+ghost use mathlib.Core.List.{List};
 ghost use Prim.Native.Nat.{_+_, _*_, _≤_, _<_};
 ghost use lib.ListN.{length};
 ghost use Rattle.types.specs.Limits.{nat-end};
-ghost use Rattle.types.specs.Types.{type-of};
-ghost use Rattle.table.specs.TableReader.{allowed};
+ghost use Rattle.types.specs.Types.{Ty, type-of};
+ghost use Rattle.table.specs.TableReader.{allowed, read-count};
 ghost use Rattle.memory.specs.Layout.{head-size, row-size};
 ghost use Rattle.tables.specs.Params.{Tables};
-ghost use Rattle.tables.specs.Told.{word-of, Within, ValueLaid, ValuesLaid, RecordLaid, RecordsLaid};
+ghost use Rattle.tables.specs.Told.{word-of, count-told, place-refusal, count-refusal, Counted, Within, ValueLaid, ValuesLaid, RecordLaid, RecordsLaid};
 
 // The next place.
 pub enum PlaceRead {
@@ -16,10 +17,51 @@ pub enum PlaceRead {
     NoPlace(u8),
 }
 
-// 01's numbers of a stream that ends early or goes on after its end, and of a number, struct byte or value that is not allowed.
-const WRONG_END: u8 = 11;
+// N, or the number of a refusal.
+pub enum CountRead {
+    Count(usize),
+    NoCount(u8),
+}
 
-const WRONG_VALUE: u8 = 12;
+// 01's numbers of a stream that ends early or goes on after its end, and of a number, struct byte or value that is not allowed.
+pub(crate) const WRONG_END: u8 = 11;
+
+pub(crate) const WRONG_VALUE: u8 = 12;
+
+// The number of a refusal, for a reader whose own answer is of another type; 0 where a value was read.
+pub(crate) fn place_refusal(r: PlaceRead) -> u8
+    ensures { λ n. ⌜ n ≡ place-refusal r ⌝ }
+{
+    let PlaceRead::NoPlace(n) = r else {
+        return 0;
+    };
+    n
+}
+
+pub(crate) fn count_refusal(r: CountRead) -> u8
+    ensures { λ n. ⌜ n ≡ count-refusal r ⌝ }
+{
+    let CountRead::NoCount(n) = r else {
+        return 0;
+    };
+    n
+}
+
+// N, where a program has that many structs: with the null instances there are at most 256.
+pub(crate) fn count(s: &[u8], structs: usize) -> CountRead
+    requires { ⌜ structs ≤ 16 ⌝ }
+    ensures { λ r. ⌜ ((pss : List (List Ty)) → length pss ≡ structs → r ≡ count-told (read-count pss (now (s .entry)) 0)) ⌝ }
+    ensures { λ r. ⌜ Counted (now (s .entry)) structs r ⌝ }
+{
+    if s.len() < 2 {
+        return CountRead::NoCount(WRONG_END);
+    }
+    let n = store::index(s[0]) + 256 * store::index(s[1]);
+    if types::MAX_INSTANCES - structs < n {
+        return CountRead::NoCount(WRONG_VALUE);
+    }
+    CountRead::Count(n)
+}
 
 // The number of four bytes, the lowest first.
 fn word(s: &[u8], at: usize) -> u64
@@ -122,7 +164,7 @@ fn one_record(
 }
 
 // n records from a place on, as the instances from l on.
-fn records(
+pub(crate) fn records(
     s: &[u8],
     counts: &[u8],
     types: &[u8],
