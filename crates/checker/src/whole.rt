@@ -34,7 +34,7 @@ pub enum ProgramRead {
 }
 
 // The number of a refusal, for a caller whose own answer is of another type; 0 where a value was read.
-pub(crate) fn program_refusal(r: ProgramRead) -> u8
+pub fn program_refusal(r: ProgramRead) -> u8
     ensures { λ n. ⌜ n ≡ program-refusal r ⌝ }
 {
     let ProgramRead::Refused(n) = r else {
