@@ -13,3 +13,6 @@ pub mod Refer
 pub mod ReferWays
 pub mod ReferLaws
 pub mod TableWays
+pub mod ProgramTables
+pub mod BeginStands
+pub mod ReadStands
