@@ -18,7 +18,7 @@ use Rattle.checker.specs.CheckLaws.{Behind, number-is, counted, here, table}
 use Rattle.entry.specs.Stages.{Admitted}
 
 -- an admitted program is accepted
-pub admitted-accepted : {s counts types : List ℕ} {at depth : ℕ} {p : Program} → Admitted s counts types at depth p → of-read (read s) ≡ accepted p
+pub admitted-accepted : {s counts : List ℕ} {at depth : ℕ} {p : Program} → Admitted s counts at depth p → of-read (read s) ≡ accepted p
 unfolding of-read judge
 admitted-accepted a = rw (a .reads, of-read, a .numbered)
 
@@ -29,20 +29,19 @@ module _ (s : List ℕ) (k : ℕ) (z : Summary) (b : Behind s k z) (cs cs′ ts 
   abbrev structs : ℕ
   structs = z .structs
 
-  types : take (max-params * structs) ts′ ≡ types-table (p .params)
-  types =
+  -- the program that a checker accepts is admitted, and the types of its parameters stand in their table
+  pub admits-types : take (max-params * structs) ts′ ≡ types-table (p .params)
+  admits-types =
       let w : ts′ ≡ types-table (p .params) ++ drop (max-params * length (p .params)) ts = (rw (here s k z b) at kept) .1 in
       let n : structs ≡ length (p .params) = counted s k z b .3 in
       rw w (take-at (types-table (p .params)) _ (max-params * structs) (omega (arith, table-length (p .params))))
 
-  -- the program that a checker accepts is admitted
-  pub admits : z .number ≡ 0 → Admitted s (take structs cs′) (take (max-params * structs) ts′) k (z .depth) p
+  pub admits : z .number ≡ 0 → Admitted s (take structs cs′) k (z .depth) p
   admits e = record {
     end = b .end;
     reads = b .reads;
     numbered = sym (number-is s k z b) ∙ e;
     counted = table s k z b cs cs′ ts ts′ kept;
-    typed = types;
     place = here s k z b;
     deep = counted s k z b .2;
   }

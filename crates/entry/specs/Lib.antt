@@ -2,3 +2,4 @@ pub mod Answer
 pub mod Stages
 pub mod StageLaws
 pub mod AdmitLaws
+pub mod SeatLaws
