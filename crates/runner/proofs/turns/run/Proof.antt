@@ -1,0 +1,165 @@
+-- `runner::turns::run` meets its contract. The loop's invariant: memory is where the turns taken have led, whichever machine it held.
+-- The measure is the bytes that are left.
+use Prim.Native.Nat.{_-_, _≤_}
+use mathlib.Core.Path.{_≡_, refl, _∙_}
+use lib.ListN.{length}
+use borrow.Author.Needs.{needs}
+use native.Mathlib.Omega.{arith}
+use Rattle.engine.specs.States.{state-of}
+use Rattle.runner.specs.Running.{Gone}
+use Rattle.runner.specs.RunWays.{begun-rows, begun-standing, gone-none, gone-over, gone-lasting, gone-rows, gone-fits, gone-failed, gone-begun, gone-count, gone-row, gone-more}
+use Rattle.runner.proofs.turns.run.Statement.{statement}
+use Rattle.runner.proofs.turns.run.Tie as tie
+
+abbrev Inv-loop : tie.InvT-loop
+Inv-loop list counts items spans heads₀ cells₀ turns count first next₀ left₀ taken₀ heads cells next left taken =
+    (length heads ≡ length heads₀)
+    × (length cells ≡ length cells₀)
+    × (taken ≤ length turns)
+    × Gone counts list items spans turns (state-of next₀ heads₀ cells₀) left₀ taken (state-of next heads cells) left
+
+abbrev μ-loop : tie.MeasureT-loop
+μ-loop list counts items spans heads₀ cells₀ turns count first next₀ left₀ taken₀ heads cells next left taken = length turns - taken
+
+holding-requires : tie.Need-holding-requires Inv-loop μ-loop
+holding-requires c κs = begun-rows (c .before .before .before .before .before .before .before .before .pre)
+
+settle-requires : tie.Need-settle-requires Inv-loop μ-loop
+settle-requires c κs = (begun-standing (c .before .before .before .before .before .before .before .before .before .before .pre), c .before .holding .ensures)
+
+loop-holds : tie.Need-loop-holds Inv-loop μ-loop
+loop-holds c =
+    let s = c .before .before .before .before .before .before .before .before .before .before .before .before .before .before in
+    (refl, refl, omega arith, gone-none (s .pre) (c .before .before .before .settle .ensures (s .args .cells .now)))
+
+same-length : tie.Need-same-length Inv-loop μ-loop
+same-length c = search needs
+
+same-length-2 : tie.Need-same-length-2 Inv-loop μ-loop
+same-length-2 c = search needs
+
+returns : tie.Need-returns Inv-loop μ-loop
+returns c =
+    let s = c .before .before .before .before .before .before .before .before .before .before .before .before .before .before .before .before .before in
+    let settled = c .before .before .before .before .before .before .settle .ensures (s .args .cells .now) in
+    let inv = c .before .before .loop .inv in
+    gone-lasting (s .pre) settled (inv .3) (c .before .loop-test .taken) (c .if1 .taken)
+
+shared-slice-read-picked-of : tie.Need-shared-slice-read-picked-of Inv-loop μ-loop
+shared-slice-read-picked-of c = omega (arith, c .before .before .before .before .loop .inv .2, c .before .before .if1 .left)
+
+picked-of-requires : tie.Need-picked-of-requires Inv-loop μ-loop
+picked-of-requires c κs =
+    let s = c .before .before .before .before .before .before .before .before .before .before .before .before .before .before .before .before .before .before .before in
+    let settled = c .before .before .before .before .before .before .before .before .settle .ensures (s .args .cells .now) in
+    let inv = c .before .before .before .before .loop .inv in
+    gone-rows (s .pre) settled (inv .3) (c .before .before .before .loop-test .taken)
+
+command-requires : tie.Need-command-requires Inv-loop μ-loop
+command-requires c κs =
+    let s = c .before .before .before .before .before .before .before .before .before .before .before .before .before .before .before .before .before .before .before .before .before .before in
+    let settled = c .before .before .before .before .before .before .before .before .before .before .before .settle .ensures (s .args .cells .now) in
+    let inv = c .before .before .before .before .before .before .before .loop .inv in
+    gone-fits (s .pre) settled (inv .3) (c .before .before .before .before .before .before .loop-test .taken) (c .before .before .picked-of .ensures)
+
+same-length-3 : tie.Need-same-length-3 Inv-loop μ-loop
+same-length-3 c = search needs
+
+same-length-4 : tie.Need-same-length-4 Inv-loop μ-loop
+same-length-4 c = search needs
+
+returns-2 : tie.Need-returns-2 Inv-loop μ-loop
+returns-2 c =
+    let s = c .before .before .before .before .before .before .before .before .before .before .before .before .before .before .before .before .before .before .before .before .before .before .before .before .before .before .before .before in
+    let settled = c .before .before .before .before .before .before .before .before .before .before .before .before .before .before .before .before .before .settle .ensures (s .args .cells .now) in
+    let inv = c .before .before .before .before .before .before .before .before .before .before .before .before .before .loop .inv in
+    let l = c .before .before .before .before .before .before .before .before .picked-of .ensures in
+    let acted = c .before .before .before .before .before .command .ensures in
+    gone-failed (s .pre) settled (inv .3) (c .before .before .before .before .before .before .before .before .before .before .before .before .loop-test .taken)
+    l (omega (arith, inv .2, c .before .before .before .before .before .before .before .before .before .before .before .if1 .left)) acted (c .if2 .taken)
+
+add-taken : tie.Need-add-taken Inv-loop μ-loop
+add-taken c = omega (arith, c .before .before .before .before .before .before .before .before .before .before .before .before .before .loop .inv .2, c .before .before .before .before .before .before .before .before .before .before .before .if1 .left, c .before .before .before .before .before .before .before .before .before .before .before .before .before .before .before .before .before .before .before .before .before .before .before .before .before .before .before .before .good .1 .1 .1 .1 .1 .1 .1 .0 .1)
+
+left-holding-requires : tie.Need-left-holding-requires Inv-loop μ-loop
+left-holding-requires c κs =
+    let s = c .before .before .before .before .before .before .before .before .before .before .before .before .before .before .before .before .before .before .before .before .before .before .before .before .before .before .before .before .before in
+    let settled = c .before .before .before .before .before .before .before .before .before .before .before .before .before .before .before .before .before .before .settle .ensures (s .args .cells .now) in
+    let inv = c .before .before .before .before .before .before .before .before .before .before .before .before .before .before .loop .inv in
+    let l = c .before .before .before .before .before .before .before .before .before .picked-of .ensures in
+    let acted = c .before .before .before .before .before .before .command .ensures in (
+      gone-row (s .pre) settled (inv .3) (c .before .before .before .before .before .before .before .before .before .before .before .before .before .loop-test .taken)
+          l (omega (arith, inv .2, c .before .before .before .before .before .before .before .before .before .before .before .before .if1 .left)) acted (c .before .if2 .left),
+      c .before .before .before .before .before .before .before .before .before .before .before .before .before .loop-test .taken,
+    )
+
+settle-requires-2 : tie.Need-settle-requires-2 Inv-loop μ-loop
+settle-requires-2 c κs =
+    let s = c .before .before .before .before .before .before .before .before .before .before .before .before .before .before .before .before .before .before .before .before .before .before .before .before .before .before .before .before .before .before .before in
+    let settled = c .before .before .before .before .before .before .before .before .before .before .before .before .before .before .before .before .before .before .before .before .settle .ensures (s .args .cells .now) in
+    let inv = c .before .before .before .before .before .before .before .before .before .before .before .before .before .before .before .before .loop .inv in
+    let l = c .before .before .before .before .before .before .before .before .before .before .before .picked-of .ensures in
+    let acted = c .before .before .before .before .before .before .before .before .command .ensures in
+    let taken = c .before .before .before .if2 .left in (
+      begun-standing (gone-begun (s .pre) settled (inv .3) (c .before .before .before .before .before .before .before .before .before .before .before .before .before .before .before .loop-test .taken)
+          l (omega (arith, inv .2, c .before .before .before .before .before .before .before .before .before .before .before .before .before .before .if1 .left)) acted taken),
+      c .before .left-holding .ensures ∙ gone-count (s .pre) settled (inv .3) (c .before .before .before .before .before .before .before .before .before .before .before .before .before .before .before .loop-test .taken)
+          l (omega (arith, inv .2, c .before .before .before .before .before .before .before .before .before .before .before .before .before .before .if1 .left)) acted taken,
+    )
+
+loop-less : tie.Need-loop-less Inv-loop μ-loop
+loop-less c = omega (arith, c .before .before .before .before .before .before .before .before .before .before .before .before .before .before .before .before .before .before .before .before .loop .inv .2, c .before .before .before .before .before .before .before .before .before .before .before .before .before .before .before .before .before .before .if1 .left)
+
+loop-again : tie.Need-loop-again Inv-loop μ-loop
+loop-again c =
+    let s = c .before .before .before .before .before .before .before .before .before .before .before .before .before .before .before .before .before .before .before .before .before .before .before .before .before .before .before .before .before .before .before .before .before .before .before in
+    let settled = c .before .before .before .before .before .before .before .before .before .before .before .before .before .before .before .before .before .before .before .before .before .before .before .before .settle .ensures (s .args .cells .now) in
+    let inv = c .before .before .before .before .before .before .before .before .before .before .before .before .before .before .before .before .before .before .before .before .loop .inv in
+    let l = c .before .before .before .before .before .before .before .before .before .before .before .before .before .before .before .picked-of .ensures in
+    let acted = c .before .before .before .before .before .before .before .before .before .before .before .before .command .ensures in (
+      c .before .before .before .settle2 .kept .1 .1 .1 .1 .0 ∙ c .before .before .before .before .before .before .before .before .before .before .before .before .command .kept .1 .1 .1 .0 ∙ inv .0,
+      c .before .before .before .before .before .before .before .before .before .before .before .before .command .kept .1 .1 .1 .1 .0 ∙ inv .1,
+      omega (arith, inv .2, c .before .before .before .before .before .before .before .before .before .before .before .before .before .before .before .before .before .before .if1 .left),
+      gone-more (s .pre) settled (inv .3) (c .before .before .before .before .before .before .before .before .before .before .before .before .before .before .before .before .before .before .before .loop-test .taken)
+          l (omega (arith, inv .2, c .before .before .before .before .before .before .before .before .before .before .before .before .before .before .before .before .before .before .if1 .left)) acted (c .before .before .before .before .before .before .before .if2 .left) (c .before .before .before .settle2 .ensures _),
+    )
+
+same-length-5 : tie.Need-same-length-5 Inv-loop μ-loop
+same-length-5 c = search needs
+
+same-length-6 : tie.Need-same-length-6 Inv-loop μ-loop
+same-length-6 c = search needs
+
+returns-3 : tie.Need-returns-3 Inv-loop μ-loop
+returns-3 c =
+    let s = c .before .before .before .before .before .before .before .before .before .before .before .before .before .before .before .before in
+    let settled = c .before .before .before .before .before .settle .ensures (s .args .cells .now) in
+    let inv = c .before .loop .inv in
+    gone-over (s .pre) settled (inv .3) (omega (arith, c .loop-test .left))
+
+pub run-spec : {M : Type 1} → statement M
+run-spec =
+    tie.close
+    (tie.spec
+    Inv-loop
+    μ-loop
+    holding-requires
+    settle-requires
+    loop-holds
+    same-length
+    same-length-2
+    returns
+    shared-slice-read-picked-of
+    picked-of-requires
+    command-requires
+    same-length-3
+    same-length-4
+    returns-2
+    add-taken
+    left-holding-requires
+    settle-requires-2
+    loop-less
+    loop-again
+    same-length-5
+    same-length-6
+    returns-3)

@@ -1,0 +1,11 @@
+pub mod Ready
+pub mod ReadyLaws
+pub mod Moving
+pub mod MovingLaws
+pub mod Counting
+pub mod CountLaws
+pub mod Running
+pub mod TurnLaws
+pub mod RunningLaws
+pub mod SettleWays
+pub mod RunWays
