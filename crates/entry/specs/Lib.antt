@@ -3,3 +3,4 @@ pub mod Stages
 pub mod StageLaws
 pub mod AdmitLaws
 pub mod SeatLaws
+pub mod RunLaws
