@@ -5,17 +5,21 @@ mod nulls;
 pub mod reading;
 mod refer;
 mod store;
+mod writing;
 
+use blocks::Written;
 use reading::CountRead;
 use reading::PlaceRead;
 ghost use mathlib.Core.Path.{_≡_};
 ghost use Prim.Native.Nat.{_+_, _*_, _≤_};
 ghost use lib.ListN.{length};
-ghost use Rattle.types.specs.Limits.{max-instances};
+ghost use Rattle.types.specs.Limits.{max-instances, table-blocks};
+ghost use Rattle.blocks.specs.Blocks.{block-size};
 ghost use Rattle.table.specs.TableReader.{table-of-stream};
 ghost use Rattle.memory.specs.Layout.{head-size, row-size};
 ghost use Rattle.tables.specs.Params.{Tables, lists-of};
 ghost use Rattle.tables.specs.TableTold.{behind-count, table-told, TableLaid};
+ghost use Rattle.tables.specs.Written.{Filled, memory-blocks, memory-image};
 
 // How many instances a table has, the null ones among them, with all of them in memory; or the number of a refusal, and memory anyhow.
 pub enum TableRead {
@@ -72,4 +76,20 @@ pub fn read(
         return TableRead::Refused(reading::count_refusal(q));
     };
     behind(s, counts, types, n, heads, cells)
+}
+
+// The table of the n instances in memory, in blocks from the start of the output. How many blocks.
+pub fn write(counts: &[u8], heads: &[usize], cells: &[u64], n: usize, out: &mut [u8]) -> usize
+    requires { ⌜ Filled (now counts) (now heads) (now cells) n ⌝ }
+    requires { ⌜ (length (now counts) ≤ n) × (block-size * table-blocks ≤ length (now out)) ⌝ }
+    ensures { λ r. ⌜ r ≡ memory-blocks (now (counts .entry)) (now (heads .entry)) (now (cells .entry)) n ⌝ }
+    ensures { λ _. ⌜ now (out .exit) ≡ memory-image (now (counts .entry)) (now (heads .entry)) (now (cells .entry)) n (now (out .entry)) ⌝ }
+{
+    let mut buffer = [0u8; types::TABLE_BLOCKS * blocks::PAYLOAD_SIZE];
+    let len = writing::stream(counts, heads, cells, n, &mut buffer);
+    let w = blocks::write_image(&buffer[..len], types::TABLE_BLOCKS, out);
+    let Written::Blocks(k) = w else {
+        return 0;
+    };
+    k
 }
