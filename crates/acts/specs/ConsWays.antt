@@ -1,19 +1,19 @@
 -- Each way through the command that makes an instance, over plain values (01, 'Table and turns', number 34).
-use Prim.Native.Nat.{ℕ, zero, suc, _+_, _-_, _*_, _<_, _≤_}
+use Prim.Native.Nat.{ℕ, suc, _+_, _-_, _*_, _<_, _≤_}
 use native.Mathlib.Numerals.{add-one, add-two, add-three}
 use native.Mathlib.Omega.{arith}
-use mathlib.Core.Path.{_≡_, refl, sym, ap, _∙_}
-use mathlib.Core.List.{List, []}
+use mathlib.Core.Path.{_≡_, sym, ap, _∙_}
+use mathlib.Core.List.{List}
 use lib.ListN.{length, getD, set, take, drop, length-drop}
 use lib.Seq.{sets, length-sets, paste, sets-eq, length-take-le, paste-suc, getD-drop}
 use borrow.Author.Tests.{lt-ltb, le-ltb}
 use Rattle.types.specs.Limits.{max-instances}
-use Rattle.memory.specs.Layout.{State, head, head-size, row-size, height-of, next-of, stacked, label-cell}
+use Rattle.memory.specs.Layout.{head, head-size, row-size, height-of, next-of, stacked, label-cell}
 use Rattle.memory.specs.Act.{full, made, do-cons}
 use Rattle.memory.specs.RowLaws.{going, sets-other}
 use Rattle.memory.specs.MadeLaws.{new-head}
 use Rattle.acts.specs.declared.Acted.the-variants.{Made, Refused}
-use Rattle.acts.specs.Answers.{on, answering, DoesWith}
+use Rattle.acts.specs.Answers.{answering, DoesWith}
 
 -- The copy of n cells, which lie before the place they go to -----------------------
 

@@ -1,17 +1,17 @@
 -- Each way through an operator, by what it answers (01, 'Table and turns', number 35).
-use Prim.Native.Nat.{ℕ, suc, _+_, _-_, _<_, _≤_}
-use mathlib.Core.Path.{_≡_, refl, _∙_}
+use Prim.Native.Nat.{ℕ, _+_, _-_, _<_, _≤_}
+use mathlib.Core.Path.{_≡_, _∙_}
 use mathlib.Core.List.{List, []}
-use lib.ListN.{length, getD, set}
+use lib.ListN.{getD, set}
 use borrow.Author.Tests.{le-leb, lt-leb}
 use Rattle.words.specs.declared.Answered.{Answered}
 use Rattle.words.specs.declared.Answered.the-variants.{Value, Outside, Unfit}
 use Rattle.words.specs.Words.{apply-word}
-use Rattle.memory.specs.Layout.{State, head, height-of, next-of, stacked, cell, type-byte, operand}
+use Rattle.memory.specs.Layout.{head, height-of, next-of, stacked, cell, type-byte, operand}
 use Rattle.memory.specs.Act.{exceeded, bool-byte, top, beneath, result-byte, answered, do-op}
 use Rattle.memory.specs.RowLaws.{going}
 use Rattle.acts.specs.declared.Acted.the-variants.{Kept, Refused}
-use Rattle.acts.specs.Answers.{memory, on, answering, Does}
+use Rattle.acts.specs.Answers.{memory, answering, Does}
 use Rattle.acts.specs.StackWays.{put-way}
 
 -- the type byte of a result

@@ -29,5 +29,8 @@ only : (a k : ℕ) → a ≤ k → k ≤ a → k ≡ a
 only a k p q = omega arith
 
 -- a kind that is none of the first seven is the eighth
-pub last-kind : (k : ℕ) → 1 ≤ k → k ≤ 8 → (k ≡ 1 → ⊥) → (k ≡ 2 → ⊥) → (k ≡ 3 → ⊥) → (k ≡ 4 → ⊥) → (k ≡ 5 → ⊥) → (k ≡ 6 → ⊥) → (k ≡ 7 → ⊥) → k ≡ 8
-last-kind k p q a b c d e f g = only 8 k (above 7 k (above 6 k (above 5 k (above 4 k (above 3 k (above 2 k (above 1 k p a) b) c) d) e) f) g) q
+pub last-kind : (k : ℕ) → 1 ≤ k → k ≤ 8 → (k ≡ 1 → ⊥) → (k ≡ 2 → ⊥) → (k ≡ 3 → ⊥) → (k ≡ 4 → ⊥) → (k ≡ 5 → ⊥) → (k ≡ 6 → ⊥)
+    → (k ≡ 7 → ⊥)
+    → k ≡ 8
+last-kind k p q a b c d e f g =
+    only 8 k (above 7 k (above 6 k (above 5 k (above 4 k (above 3 k (above 2 k (above 1 k p a) b) c) d) e) f) g) q

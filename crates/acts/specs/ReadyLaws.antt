@@ -1,5 +1,5 @@
 -- What the next command of an instance needs is at hand where `Fit` holds (01, 'The words of demand 3').
-use Prim.Native.Nat.{ℕ, _+_, _*_, _%_, _^_, _<_, _≤_}
+use Prim.Native.Nat.{ℕ, _*_, _%_, _^_, _<_, _≤_}
 use native.Mathlib.Omega.{arith}
 use mathlib.Core.Bool.{Bool, true, false}
 use mathlib.Core.List.{List}
@@ -7,7 +7,7 @@ use lib.ListN.{length}
 use lib.Dec.{eqb}
 use Rattle.types.specs.Limits.{nat-end, max-instances}
 use Rattle.memory.specs.Layout.{State, operand, of-head, next-of, end-of}
-use Rattle.memory.specs.Act.{height, top, next-word}
+use Rattle.memory.specs.Act.{top, next-word}
 use Rattle.memory.specs.Fit.{Needed, Fit}
 use Rattle.acts.specs.Answers.{memory, Ready}
 

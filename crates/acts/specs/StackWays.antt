@@ -1,11 +1,11 @@
 -- Each way through the commands on the actor's stack, over plain values (01, 'Table and turns').
 use Prim.Native.Nat.{ℕ, suc, _+_, _-_}
 use native.Mathlib.Numerals.{add-one}
-use mathlib.Core.Path.{_≡_, refl, _∙_}
+use mathlib.Core.Path.{_≡_, _∙_}
 use mathlib.Core.List.{List, []}
 use lib.ListN.{getD, set}
 use borrow.Author.Tests.{eq-eqb, ne-eqb}
-use Rattle.memory.specs.Layout.{State, head, height-of, next-of, stacked, operand}
+use Rattle.memory.specs.Layout.{head, height-of, next-of, stacked, operand}
 use Rattle.memory.specs.Act.{gone, pushed, do-if}
 use Rattle.memory.specs.RowLaws.{going}
 use Rattle.acts.specs.declared.Acted.the-variants.{Kept}

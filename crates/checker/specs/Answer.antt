@@ -1,7 +1,7 @@
 -- What checking answers, as the code has it (01, 'Numbers from the input').
 use Prim.Native.Nat.{ℕ}
 use Rattle.run.specs.Entry.{Verdict as Judgement}
-use Rattle.checker.specs.declared.whole.Summary.{Summary}
+use Rattle.whole.specs.declared.Summary.{Summary}
 use Rattle.checker.specs.declared.Verdict.{Verdict}
 
 abbrev pub answer : Judgement → Verdict

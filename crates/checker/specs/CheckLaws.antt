@@ -35,9 +35,9 @@ use Rattle.emit.specs.ProgramWords.{step-words, steps-words, structs-words, str
 use Rattle.emit.specs.WordLaws.{words-append}
 use Rattle.emit.specs.ProgramLaws.{Standing, program-length, program-steps, whole-program, program-ready, program-wrote}
 use Rattle.run.specs.Entry.{Checked, Checked.accepted, Checked.refused, judge, of-read, of-image, checked, of-steps, of-structs, program-words, listed, Verdict as Judgement, refusal, approval, no-room, verdict-of, list-of}
-use Rattle.checker.specs.declared.whole.Summary.{Summary}
-use Rattle.checker.specs.declared.whole.ProgramRead.the-variants.{Value, Refused}
-use Rattle.checker.specs.Whole.{summary, place-of, program-told}
+use Rattle.whole.specs.declared.Summary.{Summary}
+use Rattle.whole.specs.declared.ProgramRead.the-variants.{Value, Refused}
+use Rattle.whole.specs.Whole.{summary, place-of, program-told}
 use Rattle.checker.specs.Answer.{answer, counts-verdict, approved}
 
 -- Refusals -----------------------------------------------------------------------------

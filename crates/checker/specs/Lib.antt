@@ -1,6 +1,2 @@
-pub mod Total
-pub mod TotalWays
-pub mod Whole
-pub mod WholeWays
 pub mod Answer
 pub mod CheckLaws

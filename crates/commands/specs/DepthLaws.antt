@@ -124,6 +124,28 @@ unfolding growth height
 growth-height end = omega arith
 growth-height (next s b) = omega (arith, growth-height b)
 
+-- from h on: over one value; over arguments n of peak p; over two values; over one and more
+over-one : (h p d : ℕ) → suc h ≤ d → max (h + p) (max (suc h) d) ≡ max (h + p) d
+over-one h p d l = omega arith
+
+over-made : (h n p d : ℕ) → n ≤ p → suc h ≤ d → max (h + p) (max (h + n) d) ≡ max (h + max 1 p) d
+over-made h n p d i l = omega arith
+
+over-first : (h p q d : ℕ) → max (h + p) (max (suc h + q) d) ≡ max (h + max p (suc q)) d
+over-first h p q d = omega arith
+
+over-when : (h p q d : ℕ) → 1 ≤ p → max (h + p) (max (suc h) (max (h + q) d)) ≡ max (h + max p q) d
+over-when h p q d i = omega arith
+
+under-inside : (d i m x : ℕ) → d ≤ i → x ≡ max m i → d ≤ x
+under-inside d i m x l e = omega arith
+
+over-next : (h p g q d : ℕ) → max (h + p) (max (h + g + q) d) ≡ max (h + max p (g + q)) d
+over-next h p g q d = omega arith
+
+over-two : (h p q d : ℕ) → 1 ≤ q → max (h + p) (max (suc h + q) (max (suc (suc h)) d)) ≡ max (h + max p (suc q)) d
+over-two h p q d i = omega arith
+
 module _ (ar : List ℕ) {D : List Flat → ℕ → ℕ} (w : Walks ar D) where
   -- a command after which the height is k
   to : (m : Com) (c : List Flat) (h k : ℕ) → after ar m h ≡ k → D (plain m ∷ c) h ≡ max h (D c k)
@@ -155,11 +177,11 @@ module _ (ar : List ℕ) {D : List Flat → ℕ → ℕ} (w : Walks ar D) where
     expr-depth : (e : Expr) → CountsExpr ar e → (c : List Flat) (h : ℕ)
         → D (flatten (expr-coms e) ++ c) h ≡ max (h + peak e) (D c (suc h))
     expr-depth (inv e) d c h =
-        rw (flatten-app, expr-depth e d (plain not ∷ c) h, to not c (suc h) (suc h) (omega arith)) (omega (arith, w .high c (suc h)))
+        rw (flatten-app, expr-depth e d (plain not ∷ c) h, to not c (suc h) (suc h) (omega arith)) (over-one h (peak e) _ (w .high c (suc h)))
     expr-depth (make k es) d c h =
         let n : args es ≡ getD ar k 0 = d .1 in
         rw (flatten-app, args-depth es (d .2) (plain (cons k) ∷ c) h, to (cons k) c (h + args es) (suc h) (omega arith))
-        (omega (arith, args-peaks es, w .high c (suc h)))
+        (over-made h (args es) (peaks es) _ (args-peaks es) (w .high c (suc h)))
     expr-depth (path v vs) d c h =
         rw (pushed push-this (flatten (reads (var-code v ∷ vs)) ++ c) h refl, reads-depth (var-code v ∷ vs) c h)
     expr-depth (int-lit x) d c h = pushed _ c h refl
@@ -175,7 +197,7 @@ module _ (ar : List ℕ) {D : List Flat → ℕ → ℕ} (w : Walks ar D) where
           expr-depth b (d .1) (plain (oper o) ∷ c) (suc h),
           to (oper o) c (suc (suc h)) (suc h) (omega arith),
         )
-        (omega (arith, peak-pos b, w .high c (suc h)))
+        (over-two h (peak a) (peak b) _ (peak-pos b))
 
     args-depth : (es : Exprs) → CountsExprs ar es → (c : List Flat) (h : ℕ)
         → D (flatten (args-coms es) ++ c) h ≡ max (h + peaks es) (D c (h + args es))
@@ -183,7 +205,7 @@ module _ (ar : List ℕ) {D : List Flat → ℕ → ℕ} (w : Walks ar D) where
     args-depth (more e es) d c h =
         rw
         (flatten-app, expr-depth e (d .0) (flatten (args-coms es) ++ c) h, args-depth es (d .1) c (suc h), add-suc, suc-add h (args es))
-        (omega arith)
+        (over-first h (peak e) (peaks es) _)
 
   -- an `if n` before its n commands b, which leave no less than there was
   if-depth : (b c : List Flat) (h : ℕ) → D c h ≤ D (b ++ c) h → D (if-n (length b) ∷ (b ++ c)) (suc h) ≡ max (suc h) (D (b ++ c) h)
@@ -205,8 +227,8 @@ module _ (ar : List ℕ) {D : List Flat → ℕ → ℕ} (w : Walks ar D) where
         let f = flatten (body-coms b) in
         let inside = body-depth b (d .3) c h in
         let low = w .mono c {h = h} {h' = h + growth b} (omega arith) in
-        rw (when-flat, expr-depth e (d .0) (if-n (length f) ∷ (f ++ c)) h, if-depth f c h (omega arith), inside)
-        (omega (arith, peak-pos e))
+        rw (when-flat, expr-depth e (d .0) (if-n (length f) ∷ (f ++ c)) h, if-depth f c h (under-inside _ _ _ _ low inside), inside)
+        (over-when h (peak e) (height b) _ (peak-pos e))
     stmt-depth (declare t x e) d c h = update-depth (loc x) [] e (d .2) c h
     stmt-depth (update v vs e) d c h = update-depth v vs e (d .1) c h
     stmt-depth (create k es) d c h = rw (← add-one h) at (expr-depth (make k es) (d .0, d .1, d .2) c h)
@@ -221,7 +243,7 @@ module _ (ar : List ℕ) {D : List Flat → ℕ → ℕ} (w : Walks ar D) where
           body-depth b (d .1) c (h + stmt-growth s),
           ← add-assoc h (stmt-growth s) (growth b),
         )
-        (omega arith)
+        (over-next h (stmt-height s) (stmt-growth s) (height b) _)
 
   walk-is : (b : Stmts) → CountsStmts ar b → D (commands b) 0 ≡ height b
   unfolding commands

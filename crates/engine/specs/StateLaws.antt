@@ -1,8 +1,8 @@
 -- The answer of a command, and that of a move, makes the machine's next state (01, 'Table and turns').
 use Prim.Native.Nat.{ℕ, _%_}
-use mathlib.Core.Path.{_≡_, refl, sym, subst}
+use mathlib.Core.Path.{_≡_, refl, subst}
 use mathlib.Core.List.{List}
-use Rattle.memory.specs.Layout.{State, operand}
+use Rattle.memory.specs.Layout.{operand}
 use Rattle.memory.specs.Act.{next-word, perform, act}
 use Rattle.acts.specs.declared.Acted.{Acted}
 use Rattle.acts.specs.Answers.{answering, DoesWith}

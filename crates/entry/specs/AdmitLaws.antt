@@ -13,7 +13,7 @@ use Rattle.facts.specs.ProgramFacts.{types-table}
 use Rattle.plan.specs.ParamsTold.{ParamsKept}
 use Rattle.plan.specs.ParamsWays.{table-length}
 use Rattle.run.specs.Entry.{Checked.accepted, judge, of-read}
-use Rattle.checker.specs.declared.whole.Summary.{Summary}
+use Rattle.whole.specs.declared.Summary.{Summary}
 use Rattle.checker.specs.CheckLaws.{Behind, number-is, counted, here, table}
 use Rattle.entry.specs.Stages.{Admitted}
 

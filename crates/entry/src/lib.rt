@@ -1,12 +1,11 @@
 // A run on images (01, 'Numbers from the input' and 'Numbers from the state'): a program image, a table image and turn bytes to a
 // number, the commands taken, the blocks written and the depth; the commands to the lent list, the last table to the output.
 use blocks::Read;
-use checker::whole;
-use checker::whole::ProgramRead;
 use engine::Machine;
 use prepare::items::CODES;
 use prepare::spans::SPANS;
 use tables::TableRead;
+use whole::ProgramRead;
 ghost use mathlib.Core.Path.{_≡_};
 ghost use Prim.Native.Nat.{_*_, _≤_};
 ghost use lib.ListN.{length};

@@ -22,7 +22,7 @@ use Rattle.stmts.specs.Done.{done, DoneBody}
 use Rattle.parts.specs.declared.Spot.{Spot}
 use Rattle.parts.specs.declared.SpotRead.{SpotRead}
 use Rattle.parts.specs.declared.SpotRead.the-variants.{Value, Refused}
-use Rattle.checker.specs.TotalWays.{done-is, done-stops, step-unread, step-bodiless, step-whole, steps-uncounted}
+use Rattle.whole.specs.TotalWays.{done-is, done-stops, step-unread, step-bodiless, step-whole, steps-uncounted}
 use Rattle.parts.specs.StepPart.{past, seek}
 use Rattle.parts.specs.Sought.{sought, Passing}
 

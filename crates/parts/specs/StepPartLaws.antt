@@ -17,11 +17,11 @@ use Rattle.facts.specs.ProgramFacts.{Totals as Sum, step-totals}
 use Rattle.facts.specs.TotalLaws.{steps-grown}
 use Rattle.run.specs.Entry.{Checked, Checked.accepted, Checked.refused, checked}
 use Rattle.run.specs.InputProgram.{checked-accepted}
-use Rattle.checker.specs.declared.totals.Totals.{Totals}
-use Rattle.checker.specs.declared.totals.TotalsRead.the-variants.{Value as TotalsValue, Refused as TotalsRefused}
+use Rattle.whole.specs.declared.totals.Totals.{Totals}
+use Rattle.whole.specs.declared.totals.TotalsRead.the-variants.{Value as TotalsValue, Refused as TotalsRefused}
 use Rattle.parts.specs.declared.Spot.{Spot}
 use Rattle.parts.specs.declared.SpotRead.the-variants.{Value, Refused}
-use Rattle.checker.specs.Total.{less, told}
+use Rattle.whole.specs.Total.{less, told}
 use Rattle.parts.specs.StepPart.{spot, nowhere, past, seek, spot-in, spot-by, step-place, step-part}
 use Rattle.parts.specs.Sought.{sought, Walked}
 

@@ -1,14 +1,13 @@
 // The commands of one step, as that part of the lent list (01, 'Names, types, commands').
 use blocks::Read;
-use checker::totals;
-use checker::totals::TotalsRead;
-use checker::whole;
-use checker::whole::ProgramRead;
 use exprs::read;
 use exprs::read::ByteRead;
 use facts::Scope;
 use stmts::StmtRead;
 use stmts::stmt;
+use whole::ProgramRead;
+use whole::totals;
+use whole::totals::TotalsRead;
 ghost use mathlib.Core.Path.{_≡_};
 ghost use mathlib.Core.List.{[], _∷_};
 ghost use Prim.Native.Nat.{_+_, _≤_, _<_, _^_};

@@ -17,10 +17,11 @@ pub record Behind (s : List ℕ) (p : Program) (at : ℕ) : Type 0 where
   pub params : read-params s 0 ≡ ok (p .params) first
   pub steps : structs-at (arities p) s (length (arities p)) first ≡ ok (p .steps) at
 
--- where the stream is a program whose schedule begins at `at`, its codes stand from place 0 on, and place 0 stands for the whole schedule
+-- the codes of its schedule stand from place 0 on, nothing else changed, and place 0 stands for the whole schedule
 pub record Laid (p : Program) (out out' : List ℕ) : Type 0 where
   pub codes : out' ≡ sets out 0 (laid-out (of-items (p .schedule)))
   pub start : At out' 0 (of-items (p .schedule))
 
+-- where the stream is a program whose schedule begins at `at`
 abbrev pub LaidProgram : List ℕ → ℕ → List ℕ → List ℕ → Type 0
 LaidProgram s at out out' = (p : Program) (m : ℕ) → read s ≡ ok p m → Behind s p at → Laid p out out'

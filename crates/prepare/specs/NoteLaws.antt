@@ -24,6 +24,7 @@ use Rattle.prepare.specs.SpansLaws.{Holds, structs-told}
 
 -- Pairs ----------------------------------------------------------------------------
 
+-- one number and the next
 pub paired-is : (i a e : ℕ) (l r q : List ℕ) → r ≡ set l i a → q ≡ set r (i + 1) e → q ≡ paired i a e l
 unfolding paired
 paired-is i a e l r q f g = g ∙ rw (f, add-one)
@@ -69,11 +70,13 @@ module _ (ar s : List ℕ) where
           (r .0, r .1 .1, ap (λ x. x .name) z ∙ o)
 
   module _ (n at j k : ℕ) where
+    -- no step, nothing noted
     pub no-steps-noted : n ≡ 0 → (l : List ℕ) → l ≡ after (steps-spans j k) (steps-at ar s n at) l
     unfolding after steps-spans
     no-steps-noted e l = rw (many-none [] _∷_ (read-step ar s) n at e)
 
     module _ (z : n ≡ 0 → ⊥) (g : Good (steps-at ar s n at)) where
+      -- the first of them stands in the stream, and its name is in range
       pub first-named : (at < length s) × (getD s at 0 < step-names)
       first-named =
           let v = many-value [] _∷_ (read-step ar s) n at z g in
@@ -101,10 +104,12 @@ module _ (ar s : List ℕ) where
 
     -- Structs ------------------------------------------------------------------------
 
+    -- no struct, nothing noted
     pub no-structs-noted : n ≡ 0 → (l : List ℕ) → l ≡ after (structs-spans j k) (structs-at ar s n at) l
     unfolding after structs-spans
     no-structs-noted e l = rw (many-none [] _∷_ (read-steps ar s) n at e)
 
+    -- the steps of a struct are noted, then those of the others
     pub structs-noted : (n ≡ 0 → ⊥) → Good (structs-at ar s n at) → {list list1 : List ℕ} {p : Put} (l r q : List ℕ)
         → Wrote steps-words (read-steps ar s at) list k p list1
         → r ≡ after (struct-spans j k) (read-steps ar s at) l
@@ -136,6 +141,7 @@ module _ (ar s : List ℕ) where
 
 -- A program ------------------------------------------------------------------------
 
+-- the steps of a program are located in its list
 pub program-located : (ar s : List ℕ) (at : ℕ) (list list' l r : List ℕ) (q : Put) → length l ≡ span-places
     → Ready structs-words (structs-at ar s (length ar) at) list 0
     → Wrote structs-words (structs-at ar s (length ar) at) list 0 q list'

@@ -1,7 +1,7 @@
 -- Behind a command as many instances hold commands as before it, or one fewer where the actor has none left (01, 'Table and turns'): a
 -- command leaves the commands of all others as they are, and a new instance holds none.
-use Prim.Native.Nat.{ℕ, zero, suc, _+_, _-_, _<_}
-use mathlib.Core.Path.{_≡_, refl, ap, sym, _∙_, subst}
+use Prim.Native.Nat.{ℕ, zero, suc, _+_}
+use mathlib.Core.Path.{_≡_, refl, ap, sym, subst}
 use mathlib.Core.Bool.{Bool, true, false}
 use mathlib.Core.Option.{some}
 use mathlib.Core.List.{List, [], _∷_, _++_, map}
@@ -12,7 +12,7 @@ use Rattle.types.specs.Values.{Val.label}
 use Rattle.program.specs.Tree.{Program}
 use Rattle.commands.specs.Noted.{Note, now-written}
 use Rattle.machine.specs.Published.{Env, arity}
-use Rattle.machine.specs.Machine.{Tagged, tagged, Instance, Machine, Out, Out.next, Out.refused, Out.stuck, with-code, with-env, with-written, update-env, made, command}
+use Rattle.machine.specs.Machine.{tagged, Instance, Machine, Out, Out.next, Out.refused, Out.stuck, with-code, with-env, with-written, update-env, made, command}
 use Rattle.machine.specs.Measure.{total}
 use Rattle.machine.specs.Performed.{Performed, Performed.pushed, Performed.pushed-this, Performed.negated, Performed.read-one, Performed.skipped, Performed.wrote, Performed.calculated, Performed.exceeding, Performed.constructed, Performed.filled, Performed.branched, Performed.no-way}
 use Rattle.machine.specs.PerformedLaws.{by-ways}

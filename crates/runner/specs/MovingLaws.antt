@@ -1,6 +1,6 @@
 -- Every move of the schedule leaves fewer to be made without a turn (01, 'Table and turns').
-use Prim.Native.Nat.{ℕ, suc, _+_, _-_, _*_, _/_, _%_, _<_}
-use mathlib.Core.Path.{_≡_, refl, ap}
+use Prim.Native.Nat.{ℕ, suc, _-_, _*_, _/_, _%_, _<_}
+use mathlib.Core.Path.{_≡_, refl}
 use mathlib.Core.Bool.{Bool, true, false}
 use mathlib.Core.List.{List, [], _∷_}
 use native.Mathlib.Omega.{arith}
@@ -14,7 +14,7 @@ use Rattle.memory.specs.Layout.{State}
 use Rattle.memory.specs.Stands.{bits, Stands}
 use Rattle.memory.specs.Plan.{start-code, start-in-code, At}
 use Rattle.memory.specs.PlanLaws.{past-start, past-start-in, past-fix, past-round, at-within}
-use Rattle.memory.specs.Move.{nested, do-start, move}
+use Rattle.memory.specs.Move.{do-start, move}
 use Rattle.memory.specs.MoveLaws.{move-start, fix-begins, fix-refused, round-ends, round-again}
 use Rattle.runner.specs.Moving.{zeros, moves-left}
 

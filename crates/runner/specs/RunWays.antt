@@ -1,7 +1,7 @@
 -- The ways through the loop of turns (01, 'Table and turns'): memory z₀ where the run begins, z₁ with b₁ instances that hold commands
 -- where the loop does, and z with n of them behind i turns.
 use Prim.Native.Nat.{ℕ, _+_, _-_, _*_, _<_, _≤_}
-use mathlib.Core.Path.{_≡_, refl, ap, sym, _∙_, subst}
+use mathlib.Core.Path.{_≡_, ap, sym, _∙_}
 use mathlib.Core.List.{List}
 use native.Mathlib.Omega.{arith}
 use lib.ListN.{length, getD}

@@ -1,8 +1,9 @@
--- What the code of a run promises (01, 'Table and turns'), of every program and machine that memory is ready for: where the moves of
--- the schedule lead, what a turn comes to, and the whole run. A machine that memory comes to is the run's, so that what a run of it
+-- What the code of a run promises (01, 'Table and turns'), of every program and machine that memory is ready for: what a move and a
+-- turn come to, where the schedule's moves lead, and the whole run. A machine that memory comes to is the run's, so that what a run of it
 -- comes to is known of the machine that the run began with.
-use Prim.Native.Nat.{ℕ, suc, _+_, _<_}
+use Prim.Native.Nat.{ℕ, _+_, _<_}
 use mathlib.Core.Path.{_≡_}
+use mathlib.Core.Logic.{_⊎_}
 use mathlib.Core.List.{List, _∷_}
 use lib.ListN.{drop}
 use Rattle.program.specs.Tree.{Program}
@@ -10,6 +11,7 @@ use Rattle.machine.specs.Machine.{Machine, Out.next, command}
 use Rattle.run.specs.Turns.{holders, chosen}
 use Rattle.run.specs.Run.{Outcome.stopped, later, run}
 use Rattle.memory.specs.Layout.{State, refused}
+use Rattle.memory.specs.Act.{full, exceeded}
 use Rattle.memory.specs.Move.{nested}
 use Rattle.memory.specs.Choose.{holding}
 use Rattle.engine.specs.declared.Machine.{Machine as Numbers}
@@ -25,6 +27,18 @@ abbrev pub cleared : State → State
 cleared z = refused 0 z
 
 module _ (p : Program) (counts list items spans : List ℕ) (m : Machine) where
+  -- memory y after one move of m on z: it holds the next machine, or only the number is new
+  pub data Advanced (z y : State) : Type 0 where
+    advanced : {m′ : Machine} → Ready p counts list items spans m′ y → ((es : List ℕ) → run p m es ≡ run p m′ es) → Advanced z y
+    blocked : y ≡ refused nested z → ((es : List ℕ) → run p m es ≡ stopped nested 0 m) → Advanced z y
+
+  -- memory y after a turn of m with the byte e on z: it holds the next machine, or only the number is new
+  pub data Turned (e : ℕ) (z y : State) : Type 0 where
+    turned : {m′ : Machine} → Ready p counts list items spans m′ y → command p (chosen (holders m) e) m ≡ next m′
+        → ((es : List ℕ) → run p m (e ∷ es) ≡ later (run p m′ es))
+        → Turned e z y
+    failed : {n : ℕ} → y ≡ refused n z → (n ≡ full) ⊎ (n ≡ exceeded) → ((es : List ℕ) → run p m (e ∷ es) ≡ stopped n 0 m) → Turned e z y
+
   -- memory after moves of m: it holds the machine then, or a Fix was refused
   pub data Moving (z : State) : Type 0 where
     moving : {m′ : Machine} → Ready p counts list items spans m′ z → ((es : List ℕ) → run p m es ≡ run p m′ es) → Moving z
@@ -37,15 +51,6 @@ module _ (p : Program) (counts list items spans : List ℕ) (m : Machine) where
     held : {m′ : Machine} → Ready p counts list items spans m′ z → n ≡ busy z → 0 < n → ((es : List ℕ) → run p m es ≡ run p m′ es) → Settles z n
     still : {m′ : Machine} → Ready p counts list items spans m′ (cleared z) → n ≡ 0 → ((es : List ℕ) → run p m es ≡ stopped (z .number) 0 m′)
         → Settles z n
-
-  -- memory after a turn with the byte e: it holds the next machine, or the command was refused
-  pub data Turned (e : ℕ) (z : State) : Type 0 where
-    turned : {m′ : Machine} → Ready p counts list items spans m′ z → command p (chosen (holders m) e) m ≡ next m′
-        → ((es : List ℕ) → run p m (e ∷ es) ≡ later (run p m′ es))
-        → Turned e z
-    failed : Ready p counts list items spans m (cleared z) → 0 < z .number
-        → ((es : List ℕ) → run p m (e ∷ es) ≡ stopped (z .number) 0 m)
-        → Turned e z
 
   -- a run of m with the bytes es is one of m′ behind i turns
   abbrev pub Behind : List ℕ → ℕ → Machine → Type 0

@@ -1,32 +1,42 @@
 -- The ways through the loops of a run (01, 'Table and turns'): what memory is while the schedule moves, and turn after turn.
 use Prim.Native.Nat.{ℕ, suc, _+_, _*_, _<_, _≤_}
 use mathlib.Core.Path.{_≡_, refl, ap, sym, _∙_, subst}
-use mathlib.Core.List.{List, [], _∷_}
+use mathlib.Core.Logic.{_⊎_, inl, inr}
+use mathlib.Core.List.{List}
 use native.Mathlib.Omega.{arith}
 use native.Mathlib.Numerals.{add-one}
 use lib.ListN.{length, getD, drop}
 use lib.Seq.{drop-cons, drop-length}
 use Rattle.program.specs.Tree.{Program}
 use Rattle.machine.specs.Machine.{Machine}
-use Rattle.run.specs.Runs.{ended, out-of-turns}
+use Rattle.run.specs.Runs.{out-of-turns}
 use Rattle.run.specs.Run.{Outcome.stopped, later, run}
-use Rattle.memory.specs.Layout.{State, head-size}
+use Rattle.memory.specs.Layout.{State, head-size, refused}
 use Rattle.memory.specs.Plan.{end-code}
-use Rattle.memory.specs.Fit.{Fit}
-use Rattle.memory.specs.Act.{act}
+use Rattle.memory.specs.Act.{full, exceeded, act}
 use Rattle.memory.specs.Choose.{holds, picked}
 use Rattle.memory.specs.Move.{nested, move}
-use Rattle.moves.specs.Ready.{Movable}
 use Rattle.runner.specs.Ready.{Ready}
-use Rattle.runner.specs.MovingLaws.{left}
 use Rattle.runner.specs.Counting.{fewer}
-use Rattle.runner.specs.Running.{busy, cleared, Moving, Moving.moving, Moving.nesting, Settles, Settles.held, Settles.still, Turned, Turned.turned, Turned.failed, Behind, Running, Running.going, Running.over, Ended, Begun}
-use Rattle.runner.specs.TurnLaws.{ready-cleared, ends, movable, less, moved-on, lasts, turned-by, counted}
+use Rattle.runner.specs.Running.{busy, cleared, Advanced, Advanced.advanced, Advanced.blocked, Moving, Moving.moving, Moving.nesting, Settles, Settles.held, Settles.still, Turned, Turned.turned, Turned.failed, Behind, Running, Running.going, Running.over, Ended}
+use Rattle.runner.specs.TurnLaws.{ends, moved-on, lasts, turned-by, counted}
+
+-- a refused command's number is not 0
+number-some : {n : ℕ} → (n ≡ full) ⊎ (n ≡ exceeded) → n ≡ 0 → ⊥
+number-some (inl e) c = omega arith
+number-some (inr e) c = omega arith
 
 module _ {p : Program} {counts list items spans : List ℕ} where
-  -- memory without a number is itself when that is taken out
+  -- with its number taken out, memory is as it was before it was refused
+  ready-cleared : (n : ℕ) {m : Machine} {z y : State} → Ready p counts list items spans m z → y ≡ refused n z → Ready p counts list items spans m (cleared y)
+  ready-cleared n {m} {z} r e =
+      let c : z .number ≡ 0 = r .stands .clear in
+      let q = ap cleared e ∙ ap (λ (x : ℕ). refused x z) (sym c) in
+      subst (Ready p counts list items spans m) (sym q) r
+
+  -- and as it is where it has none
   ready-clear : {m : Machine} {z : State} → Ready p counts list items spans m z → Ready p counts list items spans m (cleared z)
-  ready-clear {m} {z} r = ready-cleared r (z .number) refl
+  ready-clear {z = z} r = ready-cleared (z .number) r refl
 
   -- as many rows as there are instances
   pub ready-rows : {m : Machine} {z : State} → Ready p counts list items spans m z → head-size * z .count ≤ length (z .heads)
@@ -48,11 +58,13 @@ module _ {p : Program} {counts list items spans : List ℕ} where
       -- a move more
       pub moves-more : Moving p counts list items spans m z → z .number ≡ 0 → busy z ≡ 0 → (getD items (z .place) 0 ≡ end-code → ⊥)
           → Moving p counts list items spans m (move items spans z)
-      moves-more g c h e = let (m′, r, q) = still-moving g c in go q (moved-on r e h)
+      moves-more g c h e = let (m′, r, q) = still-moving g c in go r q (moved-on r e h)
         where
-          go : {m′ : Machine} → ((es : List ℕ) → run p m es ≡ run p m′ es) → {y : State} → Moving p counts list items spans m′ y → Moving p counts list items spans m y
-          go q (moving r s) = moving r (λ es. q es ∙ s es)
-          go q (nesting r f b s) = nesting r f b (λ es. q es ∙ s es)
+          go : {m′ : Machine} → Ready p counts list items spans m′ z → ((es : List ℕ) → run p m es ≡ run p m′ es)
+              → {y : State} → Advanced p counts list items spans m′ z y
+              → Moving p counts list items spans m y
+          go r q (advanced r′ s) = moving r′ (λ es. q es ∙ s es)
+          go r q (blocked a s) = nesting (ready-cleared nested r a) (ap (λ (x : State). x .number) a) (ap busy a ∙ h) (λ es. q es ∙ s es)
 
       -- as many rows as there are instances
       pub moving-rows : Moving p counts list items spans m z → head-size * z .count ≤ length (z .heads)
@@ -119,22 +131,24 @@ module _ {p : Program} {counts list items spans : List ℕ} where
 
           module _ {y : State} (a : y ≡ act list counts (picked (z .heads) (z .count) byte) z) where
             next-turn : (m′ : Machine) × (Ready p counts list items spans m′ z) × (n ≡ busy z) × (Behind p counts list items spans m es i m′)
-                × Turned p counts list items spans m′ byte y
+                × Turned p counts list items spans m′ byte z y
             next-turn =
                 let (m′, r, b, q) = still-running in
-                (m′, r, b, q, subst (Turned p counts list items spans m′ byte) (sym a) (turned-by r (omega arith) byte))
+                (m′, r, b, q, subst (Turned p counts list items spans m′ byte z) (sym a) (turned-by r (omega arith) byte))
 
             -- it was refused
             pub ends-failed : (y .number ≡ 0 → ⊥) → Ended p counts list items spans m es (y .number) i y
-            ends-failed c = let (m′, r, b, q, t) = next-turn in go q t
+            ends-failed c = let (m′, r, b, q, t) = next-turn in go r q t
               where
-                go : {m′ : Machine} → Behind p counts list items spans m es i m′ → Turned p counts list items spans m′ byte y
+                go : {m′ : Machine} → Ready p counts list items spans m′ z → Behind p counts list items spans m es i m′
+                    → Turned p counts list items spans m′ byte z y
                     → Ended p counts list items spans m es (y .number) i y
-                go q (turned r u s) = absurd (c (r .stands .clear))
-                go {m′} q (failed r d s) =
+                go r q (turned r′ u s) = absurd (c (r′ .stands .clear))
+                go {m′} r q (failed {n = n} e d s) =
                     let t : i + 0 ≡ i = omega arith in
-                    let u = ap (run p m′) (drop-cons es i 0 k) ∙ s (drop (suc i) es) in
-                    record { last = m′; returns = rw t at (q (y .number) 0 m′ u); ready = r }
+                    let f : n ≡ y .number = ap (λ (x : State). x .number) (sym e) in
+                    let u = ap (run p m′) (drop-cons es i 0 k) ∙ s (drop (suc i) es) ∙ ap (λ (x : ℕ). stopped x 0 m′) f in
+                    record { last = m′; returns = rw t at (q (y .number) 0 m′ u); ready = ready-cleared n r e }
 
             -- or taken, so that the machine then stands behind a turn more
             module _ (c : y .number ≡ 0) where
@@ -144,7 +158,7 @@ module _ {p : Program} {counts list items spans : List ℕ} where
               taken-turn = let (m′, r, b, q, t) = next-turn in go r b q t
                 where
                   go : {m′ : Machine} → Ready p counts list items spans m′ z → n ≡ busy z → Behind p counts list items spans m es i m′
-                      → Turned p counts list items spans m′ byte y
+                      → Turned p counts list items spans m′ byte z y
                       → (m″ : Machine) × (Ready p counts list items spans m″ y) × (Behind p counts list items spans m es (i + 1) m″)
                       × (busy y ≡ fewer (holds (y .heads) (picked (z .heads) (z .count) byte)) n)
                   go {m′} r b q (turned {m′ = m″} r′ u s) = (
@@ -158,7 +172,7 @@ module _ {p : Program} {counts list items spans : List ℕ} where
                         rw t at (q n (suc j) w v),
                     counted r (omega arith) byte r′ u ∙ ap (fewer (holds (y .heads) (picked (z .heads) (z .count) byte))) (sym b),
                   )
-                  go r b q (failed r′ d s) = absurd (omega arith)
+                  go r b q (failed e d s) = absurd (number-some d (sym (ap (λ (x : State). x .number) e) ∙ c))
 
               -- and the schedule moves on
               pub runs-more : {x : State} {j : ℕ} → ((m″ : Machine) → Ready p counts list items spans m″ y → Settles p counts list items spans m″ x j)

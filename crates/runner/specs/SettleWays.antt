@@ -1,7 +1,7 @@
 -- The ways through the loop of moves (01, 'Table and turns'): the machine's numbers n₀ and its heads h₀ where the loop begins, n and h
 -- where it stands.
 use Prim.Native.Nat.{ℕ, _*_, _<_, _≤_}
-use mathlib.Core.Path.{_≡_, refl, ap, sym, _∙_, subst}
+use mathlib.Core.Path.{_≡_, refl, sym}
 use mathlib.Core.List.{List}
 use lib.ListN.{length, getD}
 use Rattle.machine.specs.Machine.{Machine}

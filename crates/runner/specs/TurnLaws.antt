@@ -1,15 +1,14 @@
 -- Memory that is ready makes the run's moves and takes its turns (01, 'Table and turns'): it is ready again, or holds the number at
 -- which the run stops; there is no third case.
-use Prim.Native.Nat.{ℕ, suc, _<_, _≤_}
+use Prim.Native.Nat.{ℕ, _<_, _≤_}
 use mathlib.Core.Path.{_≡_, refl, ap, sym, _∙_, subst}
 use mathlib.Core.Bool.{Bool}
-use mathlib.Core.Option.{some}
+use mathlib.Core.Logic.{_⊎_, inl, inr}
 use mathlib.Core.List.{List, [], _∷_}
 use native.Mathlib.Omega.{arith}
-use lib.ListN.{length, getD, getElem?}
+use lib.ListN.{length, getD}
 use Rattle.types.specs.Limits.{max-structs}
 use Rattle.program.specs.Tree.{Program}
-use Rattle.commands.specs.Noted.{Note}
 use Rattle.machine.specs.Published.{Sched, Sched.done, structs}
 use Rattle.machine.specs.Machine.{Instance, Machine, Out, Out.next, Out.refused, Out.stuck, command, move}
 use Rattle.run.specs.Turns.{holders, holds-code, chosen}
@@ -21,18 +20,17 @@ use Rattle.run.specs.Visits.{Visits.here, Visits.moves as visits-move, Visits.t
 use Rattle.sound.specs.Conditions.{Meets, Meets.no-label, Meets.no-result}
 use Rattle.sound.specs.Advance.{Kept}
 use Rattle.sound.specs.CommandKept.{command-kept}
-use Rattle.sound.specs.MoveKept.{Blocked, Blocked.blocked, move-kept}
+use Rattle.sound.specs.MoveKept.{Blocked, Blocked.blocked as is-blocked, move-kept}
 use Rattle.sound.specs.HolderLaws.{chosen-holds}
 use Rattle.sound.specs.NeverStuckLaws.{visits-good}
 use Rattle.sound.specs.TabledLaws.{visits-tabled}
 use Rattle.memory.specs.Layout.{State, refused as refusing}
 use Rattle.memory.specs.Plan.{end-code, At}
 use Rattle.memory.specs.PlanLaws.{at-end-done}
-use Rattle.memory.specs.Stands.{Stands}
 use Rattle.memory.specs.Frame.{After}
 use Rattle.memory.specs.Fit.{Fit}
 use Rattle.memory.specs.FitLaws.{fits}
-use Rattle.memory.specs.Act.{act}
+use Rattle.memory.specs.Act.{full, exceeded, act}
 use Rattle.memory.specs.Acts.{acts}
 use Rattle.memory.specs.Choose.{holds, picked}
 use Rattle.memory.specs.ChooseStands.{holds-same, holding-same, picks}
@@ -44,7 +42,7 @@ use Rattle.runner.specs.Ready.{Ready}
 use Rattle.runner.specs.MovingLaws.{left, move-less}
 use Rattle.runner.specs.Counting.{fewer}
 use Rattle.runner.specs.CountLaws.{holders-behind}
-use Rattle.runner.specs.Running.{busy, cleared, Moving, Moving.moving, Moving.nesting, Turned, Turned.turned, Turned.failed}
+use Rattle.runner.specs.Running.{busy, Advanced, Advanced.advanced, Advanced.blocked, Turned, Turned.turned, Turned.failed}
 
 none-left : (l : List ℕ) → length l ≡ 0 → l ≡ []
 none-left [] e = refl
@@ -54,14 +52,14 @@ some-left : (l : List ℕ) → 0 < length l → (h : ℕ) × (hs : List ℕ) × 
 some-left [] e = absurd (omega arith)
 some-left (h ∷ hs) e = (h, hs, refl)
 
--- the number of a command that meets a condition
-meets-number : {m : Machine} {i : Instance} {n : ℕ} → Meets m i n → 0 < n
-meets-number (no-label e h) = omega arith
-meets-number (no-result e s x) = omega arith
+-- the numbers of a command
+meets-number : {m : Machine} {i : Instance} {n : ℕ} → Meets m i n → (n ≡ full) ⊎ (n ≡ exceeded)
+meets-number (no-label e h) = inl refl
+meets-number (no-result e s x) = inr refl
 
 -- 36 is the only number of a move
 blocked-number : {s : Sched} {b : List Bool} {n : ℕ} → Blocked s b n → n ≡ nested
-blocked-number (blocked h) = refl
+blocked-number (is-blocked h) = refl
 
 module _ {p : Program} {counts list items spans : List ℕ} {m : Machine} {z : State} (r : Ready p counts list items spans m z) where
   -- memory says whether anyone holds commands
@@ -70,15 +68,6 @@ module _ {p : Program} {counts list items spans : List ℕ} {m : Machine} {z : S
 
   some-hold : 0 < busy z → (h : ℕ) × (hs : List ℕ) × (holders m ≡ h ∷ hs)
   some-hold b = some-left (holders m) (rw (holding-same m (r .stands)) at b)
-
-  -- with the number taken out, memory is as it was before it was refused
-  same-cleared : (n : ℕ) {y : State} → y ≡ refusing n z → cleared y ≡ z
-  same-cleared n e =
-      let c : z .number ≡ 0 = r .stands .clear in
-      ap cleared e ∙ ap (λ (x : ℕ). refusing x z) (sym c)
-
-  pub ready-cleared : (n : ℕ) {y : State} → y ≡ refusing n z → Ready p counts list items spans m (cleared y)
-  ready-cleared n e = subst (Ready p counts list items spans m) (sym (same-cleared n e)) r
 
   -- The schedule ------------------------------------------------------------------
 
@@ -103,10 +92,10 @@ module _ {p : Program} {counts list items spans : List ℕ} {m : Machine} {z : S
     less = move-less items spans z m (r .stands) (r .good .opened) not-done
 
     module _ (h : busy z ≡ 0) where
-      comes : (o : Out) → move p m ≡ o → Follows list items z (move-on items spans z) o → Moving p counts list items spans m (move-on items spans z)
+      comes : (o : Out) → move p m ≡ o → Follows list items z (move-on items spans z) o → Advanced p counts list items spans m z (move-on items spans z)
       comes (next m′) q S =
           let v = visits-move (none-hold h) q (here {es = []}) in
-          moving
+          advanced
           (record {
             prepared = r .prepared;
             good = visits-good (r .prepared .firm) (r .good) v;
@@ -117,12 +106,12 @@ module _ {p : Program} {counts list items spans : List ℕ} {m : Machine} {z : S
       comes (refused n) q S =
           let k = move-kept p (m .sched) (m .instances) (m .stability) (r .good .all) (r .good .opened) not-done in
           let w : n ≡ nested = blocked-number (subst (Kept p (Blocked (m .sched) (m .stability))) q k) in
-          nesting (ready-cleared n S) (ap (λ (y : State). y .number) S ∙ w) (ap busy S ∙ h)
+          blocked (S ∙ ap (λ (x : ℕ). refusing x z) w)
           (λ es. ran-run p (ran-refuses (none-hold h) (q ∙ ap refused w)))
       comes stuck q S = absurd S
 
       -- a move
-      pub moved-on : Moving p counts list items spans m (move-on items spans z)
+      pub moved-on : Advanced p counts list items spans m z (move-on items spans z)
       moved-on =
           comes (move p m) refl
           (moves p list items spans (r .prepared .located) z m (λ l i g. r .tabled .each l i g .0) (r .stands) (r .good .opened) not-done)
@@ -145,7 +134,7 @@ module _ {p : Program} {counts list items spans : List ℕ} {m : Machine} {z : S
 
       takes : (h : ℕ) (hs : List ℕ) → holders m ≡ h ∷ hs → (i : Instance) → Kept p (Meets m i) (command p (chosen (h ∷ hs) e) m)
           → (y : State) (o : Out) → command p (chosen (h ∷ hs) e) m ≡ o → After list (At items) z y o
-          → Turned p counts list items spans m e y
+          → Turned p counts list items spans m e z y
       takes h hs q i k y (next m′) c S =
           let v = visits-take {e = e} q c (here {es = []}) in
           turned
@@ -158,13 +147,11 @@ module _ {p : Program} {counts list items spans : List ℕ} {m : Machine} {z : S
           (ap (λ (l : List ℕ). command p (chosen l e) m) q ∙ c)
           (λ es. ran-run p (ran-takes q c (run-ran p es m′) refl))
       takes h hs q i k y (refused n) c S =
-          let f : n ≡ y .number = ap (λ (x : State). x .number) (sym S) in
-          let g : 0 < n = meets-number (subst (Kept p (Meets m i)) c k) in
-          failed (ready-cleared n S) (omega arith) (λ es. ran-run p (ran-fails q (c ∙ ap refused f)))
+          failed S (meets-number (subst (Kept p (Meets m i)) c k)) (λ es. ran-run p (ran-fails q c))
       takes h hs q i k y stuck c S = absurd S
 
       -- a turn
-      pub turned-by : Turned p counts list items spans m e (act list counts (picked (z .heads) (z .count) e) z)
+      pub turned-by : Turned p counts list items spans m e z (act list counts (picked (z .heads) (z .count) e) z)
       turned-by =
           let (h, hs, q) = some-hold b in
           let (i, n, c, a, d) = chosen-holds m h hs e q in

@@ -2,8 +2,7 @@
 use borrow.Author.Needs.{needs}
 use Prim.Native.Nat.{_%_}
 use native.Mathlib.Omega.{arith}
-use mathlib.Core.Path.{_≡_, refl}
-use Rattle.memory.specs.Layout.{operand}
+use mathlib.Core.Path.{refl}
 use Rattle.memory.specs.Act.{perform, do-push, do-this, do-rd, do-wr, do-cons, do-if, do-not, answered, do-op}
 use Rattle.acts.specs.PerformWays.{needed-by, performs, last-kind}
 use Rattle.acts.proofs.perform.Statement.{statement}

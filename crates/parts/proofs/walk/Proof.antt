@@ -2,7 +2,7 @@
 use native.Mathlib.Omega.{arith}
 use mathlib.Core.Path.{_≡_, refl, sym, ap, _∙_}
 use Rattle.facts.specs.ProgramFacts.{no-totals}
-use Rattle.checker.specs.declared.totals.Totals.{Totals}
+use Rattle.whole.specs.declared.totals.Totals.{Totals}
 use Rattle.parts.specs.StepPartLaws.{walk-on, walk-through, walk-found}
 use borrow.Author.Needs.{needs}
 use Rattle.parts.proofs.walk.Statement.{statement}

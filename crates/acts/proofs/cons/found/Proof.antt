@@ -3,7 +3,6 @@ use borrow.Author.Needs.{needs}
 use native.Mathlib.Omega.{arith}
 use lib.ListN.{length-set}
 use Rattle.acts.specs.ConsWays.{found-way}
-use Rattle.types.specs.Limits.{max-instances}
 use Rattle.memory.specs.Layout.{head-size}
 use Prim.Native.Nat.{_*_}
 use Rattle.acts.proofs.cons.found.Statement.{statement}

@@ -1,8 +1,6 @@
 -- `engine::Machine::command` meets its contract, one return for each answer.
 use borrow.Author.Needs.{needs}
 use native.Mathlib.Numerals.{add-one}
-use mathlib.Core.Path.{refl}
-use Rattle.memory.specs.Act.{next-word}
 use Rattle.memory.specs.Layout.{head, next-of}
 use lib.ListN.{getD}
 use Rattle.acts.specs.declared.Acted.the-variants.{Kept, Changed, Made, Refused}

@@ -40,27 +40,35 @@ same-length-2 c = search needs
 
 returns : tie.Need-returns Inv-loop μ-loop
 returns c =
-    let s = c .before .before .before .before .before .before .before .before .before .before .before .before .before .before .before .before .before in
-    let settled = c .before .before .before .before .before .before .settle .ensures (s .args .cells .now) in
-    let inv = c .before .before .loop .inv in
-    gone-lasting (s .pre) settled (inv .3) (c .before .loop-test .taken) (c .if1 .taken)
+    let t = c .before in
+    let w = t .before in
+    let b = w .before .before .before .before in
+    let s = b .before .before .before .before .before .before .before .before .before .before .before in
+    let settled = b .settle .ensures (s .args .cells .now) in
+    gone-lasting (s .pre) settled (w .loop .inv .3) (omega (arith, t .loop-test .taken)) (c .if1 .taken)
 
 shared-slice-read-picked-of : tie.Need-shared-slice-read-picked-of Inv-loop μ-loop
 shared-slice-read-picked-of c = omega (arith, c .before .before .before .before .loop .inv .2, c .before .before .if1 .left)
 
 picked-of-requires : tie.Need-picked-of-requires Inv-loop μ-loop
 picked-of-requires c κs =
-    let s = c .before .before .before .before .before .before .before .before .before .before .before .before .before .before .before .before .before .before .before in
-    let settled = c .before .before .before .before .before .before .before .before .settle .ensures (s .args .cells .now) in
-    let inv = c .before .before .before .before .loop .inv in
-    gone-rows (s .pre) settled (inv .3) (c .before .before .before .loop-test .taken)
+    let t = c .before .before .before in
+    let w = t .before in
+    let b = w .before .before .before .before in
+    let s = b .before .before .before .before .before .before .before .before .before .before .before in
+    let settled = b .settle .ensures (s .args .cells .now) in
+    gone-rows (s .pre) settled (w .loop .inv .3) (omega (arith, t .loop-test .taken))
 
 command-requires : tie.Need-command-requires Inv-loop μ-loop
 command-requires c κs =
-    let s = c .before .before .before .before .before .before .before .before .before .before .before .before .before .before .before .before .before .before .before .before .before .before in
-    let settled = c .before .before .before .before .before .before .before .before .before .before .before .settle .ensures (s .args .cells .now) in
-    let inv = c .before .before .before .before .before .before .before .loop .inv in
-    gone-fits (s .pre) settled (inv .3) (c .before .before .before .before .before .before .loop-test .taken) (c .before .before .picked-of .ensures)
+    let q = c .before .before in
+    let e = q .before .before .before in
+    let t = e .before in
+    let w = t .before in
+    let b = w .before .before .before .before in
+    let s = b .before .before .before .before .before .before .before .before .before .before .before in
+    let settled = b .settle .ensures (s .args .cells .now) in
+    gone-fits (s .pre) settled (w .loop .inv .3) (omega (arith, t .loop-test .taken)) (q .picked-of .ensures)
 
 same-length-3 : tie.Need-same-length-3 Inv-loop μ-loop
 same-length-3 c = search needs
@@ -70,58 +78,68 @@ same-length-4 c = search needs
 
 returns-2 : tie.Need-returns-2 Inv-loop μ-loop
 returns-2 c =
-    let s = c .before .before .before .before .before .before .before .before .before .before .before .before .before .before .before .before .before .before .before .before .before .before .before .before .before .before .before .before in
-    let settled = c .before .before .before .before .before .before .before .before .before .before .before .before .before .before .before .before .before .settle .ensures (s .args .cells .now) in
-    let inv = c .before .before .before .before .before .before .before .before .before .before .before .before .before .loop .inv in
-    let l = c .before .before .before .before .before .before .before .before .picked-of .ensures in
-    let acted = c .before .before .before .before .before .command .ensures in
-    gone-failed (s .pre) settled (inv .3) (c .before .before .before .before .before .before .before .before .before .before .before .before .loop-test .taken)
-    l (omega (arith, inv .2, c .before .before .before .before .before .before .before .before .before .before .before .if1 .left)) acted (c .if2 .taken)
+    let k = c .before .before .before .before .before in
+    let q = k .before .before .before in
+    let e = q .before .before .before in
+    let t = e .before in
+    let w = t .before in
+    let b = w .before .before .before .before in
+    let s = b .before .before .before .before .before .before .before .before .before .before .before in
+    let settled = b .settle .ensures (s .args .cells .now) in
+    gone-failed (s .pre) settled (w .loop .inv .3) (omega (arith, t .loop-test .taken)) (q .picked-of .ensures) (omega (arith, w .loop .inv .2, e .if1 .left)) (k .command .ensures) (c .if2 .taken)
 
 add-taken : tie.Need-add-taken Inv-loop μ-loop
-add-taken c = omega (arith, c .before .before .before .before .before .before .before .before .before .before .before .before .before .loop .inv .2, c .before .before .before .before .before .before .before .before .before .before .before .if1 .left, c .before .before .before .before .before .before .before .before .before .before .before .before .before .before .before .before .before .before .before .before .before .before .before .before .before .before .before .before .good .1 .1 .1 .1 .1 .1 .1 .0 .1)
+add-taken c =
+    let e = c .before .before .before .before .before .before .before .before .before .before .before in
+    let w = e .before .before in
+    let s = w .before .before .before .before .before .before .before .before .before .before .before .before .before .before .before in
+    omega (arith, w .loop .inv .2, e .if1 .left, s .good .1 .1 .1 .1 .1 .1 .1 .0 .1)
 
 left-holding-requires : tie.Need-left-holding-requires Inv-loop μ-loop
 left-holding-requires c κs =
-    let s = c .before .before .before .before .before .before .before .before .before .before .before .before .before .before .before .before .before .before .before .before .before .before .before .before .before .before .before .before .before in
-    let settled = c .before .before .before .before .before .before .before .before .before .before .before .before .before .before .before .before .before .before .settle .ensures (s .args .cells .now) in
-    let inv = c .before .before .before .before .before .before .before .before .before .before .before .before .before .before .loop .inv in
-    let l = c .before .before .before .before .before .before .before .before .before .picked-of .ensures in
-    let acted = c .before .before .before .before .before .before .command .ensures in (
-      gone-row (s .pre) settled (inv .3) (c .before .before .before .before .before .before .before .before .before .before .before .before .before .loop-test .taken)
-          l (omega (arith, inv .2, c .before .before .before .before .before .before .before .before .before .before .before .before .if1 .left)) acted (c .before .if2 .left),
-      c .before .before .before .before .before .before .before .before .before .before .before .before .before .loop-test .taken,
-    )
+    let k = c .before .before .before .before .before .before in
+    let q = k .before .before .before in
+    let e = q .before .before .before in
+    let t = e .before in
+    let w = t .before in
+    let b = w .before .before .before .before in
+    let s = b .before .before .before .before .before .before .before .before .before .before .before in
+    let settled = b .settle .ensures (s .args .cells .now) in
+    (gone-row (s .pre) settled (w .loop .inv .3) (omega (arith, t .loop-test .taken)) (q .picked-of .ensures) (omega (arith, w .loop .inv .2, e .if1 .left)) (k .command .ensures) (c .before .if2 .left), omega (arith, t .loop-test .taken))
 
 settle-requires-2 : tie.Need-settle-requires-2 Inv-loop μ-loop
 settle-requires-2 c κs =
-    let s = c .before .before .before .before .before .before .before .before .before .before .before .before .before .before .before .before .before .before .before .before .before .before .before .before .before .before .before .before .before .before .before in
-    let settled = c .before .before .before .before .before .before .before .before .before .before .before .before .before .before .before .before .before .before .before .before .settle .ensures (s .args .cells .now) in
-    let inv = c .before .before .before .before .before .before .before .before .before .before .before .before .before .before .before .before .loop .inv in
-    let l = c .before .before .before .before .before .before .before .before .before .before .before .picked-of .ensures in
-    let acted = c .before .before .before .before .before .before .before .before .command .ensures in
-    let taken = c .before .before .before .if2 .left in (
-      begun-standing (gone-begun (s .pre) settled (inv .3) (c .before .before .before .before .before .before .before .before .before .before .before .before .before .before .before .loop-test .taken)
-          l (omega (arith, inv .2, c .before .before .before .before .before .before .before .before .before .before .before .before .before .before .if1 .left)) acted taken),
-      c .before .left-holding .ensures ∙ gone-count (s .pre) settled (inv .3) (c .before .before .before .before .before .before .before .before .before .before .before .before .before .before .before .loop-test .taken)
-          l (omega (arith, inv .2, c .before .before .before .before .before .before .before .before .before .before .before .before .before .before .if1 .left)) acted taken,
-    )
+    let k = c .before .before .before .before .before .before .before .before in
+    let q = k .before .before .before in
+    let e = q .before .before .before in
+    let t = e .before in
+    let w = t .before in
+    let b = w .before .before .before .before in
+    let s = b .before .before .before .before .before .before .before .before .before .before .before in
+    let settled = b .settle .ensures (s .args .cells .now) in
+    let taken = c .before .before .before .if2 .left in
+    (begun-standing (gone-begun (s .pre) settled (w .loop .inv .3) (omega (arith, t .loop-test .taken)) (q .picked-of .ensures) (omega (arith, w .loop .inv .2, e .if1 .left)) (k .command .ensures) taken), c .before .left-holding .ensures ∙ gone-count (s .pre) settled (w .loop .inv .3) (omega (arith, t .loop-test .taken)) (q .picked-of .ensures) (omega (arith, w .loop .inv .2, e .if1 .left)) (k .command .ensures) taken)
 
 loop-less : tie.Need-loop-less Inv-loop μ-loop
-loop-less c = omega (arith, c .before .before .before .before .before .before .before .before .before .before .before .before .before .before .before .before .before .before .before .before .loop .inv .2, c .before .before .before .before .before .before .before .before .before .before .before .before .before .before .before .before .before .before .if1 .left)
+loop-less c =
+    let e = c .before .before .before .before .before .before .before .before .before .before .before .before .before .before .before .before .before .before in
+    omega (arith, e .before .before .loop .inv .2, e .if1 .left)
 
 loop-again : tie.Need-loop-again Inv-loop μ-loop
 loop-again c =
-    let s = c .before .before .before .before .before .before .before .before .before .before .before .before .before .before .before .before .before .before .before .before .before .before .before .before .before .before .before .before .before .before .before .before .before .before .before in
-    let settled = c .before .before .before .before .before .before .before .before .before .before .before .before .before .before .before .before .before .before .before .before .before .before .before .before .settle .ensures (s .args .cells .now) in
-    let inv = c .before .before .before .before .before .before .before .before .before .before .before .before .before .before .before .before .before .before .before .before .loop .inv in
-    let l = c .before .before .before .before .before .before .before .before .before .before .before .before .before .before .before .picked-of .ensures in
-    let acted = c .before .before .before .before .before .before .before .before .before .before .before .before .command .ensures in (
-      c .before .before .before .settle2 .kept .1 .1 .1 .1 .0 ∙ c .before .before .before .before .before .before .before .before .before .before .before .before .command .kept .1 .1 .1 .0 ∙ inv .0,
-      c .before .before .before .before .before .before .before .before .before .before .before .before .command .kept .1 .1 .1 .1 .0 ∙ inv .1,
-      omega (arith, inv .2, c .before .before .before .before .before .before .before .before .before .before .before .before .before .before .before .before .before .before .if1 .left),
-      gone-more (s .pre) settled (inv .3) (c .before .before .before .before .before .before .before .before .before .before .before .before .before .before .before .before .before .before .before .loop-test .taken)
-          l (omega (arith, inv .2, c .before .before .before .before .before .before .before .before .before .before .before .before .before .before .before .before .before .before .if1 .left)) acted (c .before .before .before .before .before .before .before .if2 .left) (c .before .before .before .settle2 .ensures _),
+    let k = c .before .before .before .before .before .before .before .before .before .before .before .before in
+    let q = k .before .before .before in
+    let e = q .before .before .before in
+    let t = e .before in
+    let w = t .before in
+    let b = w .before .before .before .before in
+    let s = b .before .before .before .before .before .before .before .before .before .before .before in
+    let settled = b .settle .ensures (s .args .cells .now) in
+    let moved = c .before .before .before .settle2 in (
+      moved .kept .1 .1 .1 .1 .0 ∙ k .command .kept .1 .1 .1 .0 ∙ w .loop .inv .0,
+      k .command .kept .1 .1 .1 .1 .0 ∙ w .loop .inv .1,
+      omega (arith, w .loop .inv .2, e .if1 .left),
+      gone-more (s .pre) settled (w .loop .inv .3) (omega (arith, t .loop-test .taken)) (q .picked-of .ensures) (omega (arith, w .loop .inv .2, e .if1 .left)) (k .command .ensures) (c .before .before .before .before .before .before .before .if2 .left) (moved .ensures _),
     )
 
 same-length-5 : tie.Need-same-length-5 Inv-loop μ-loop
@@ -132,10 +150,11 @@ same-length-6 c = search needs
 
 returns-3 : tie.Need-returns-3 Inv-loop μ-loop
 returns-3 c =
-    let s = c .before .before .before .before .before .before .before .before .before .before .before .before .before .before .before .before in
-    let settled = c .before .before .before .before .before .settle .ensures (s .args .cells .now) in
-    let inv = c .before .loop .inv in
-    gone-over (s .pre) settled (inv .3) (omega (arith, c .loop-test .left))
+    let w = c .before in
+    let b = w .before .before .before .before in
+    let s = b .before .before .before .before .before .before .before .before .before .before .before in
+    let settled = b .settle .ensures (s .args .cells .now) in
+    gone-over (s .pre) settled (w .loop .inv .3) (omega (arith, c .loop-test .left))
 
 pub run-spec : {M : Type 1} → statement M
 run-spec =

@@ -1,0 +1,20 @@
+-- `truth` meets its contract: a truth's word is 1 or 0.
+use Rattle.types.specs.Values.{word}
+use Rattle.words.specs.Words.{answered}
+use Rattle.apply.proofs.truth.Statement.{statement}
+use Rattle.apply.proofs.truth.Tie as tie
+
+returns : tie.Need-returns
+unfolding answered word
+returns c =
+    let h = c .if1 .taken in
+    rw h
+
+returns-2 : tie.Need-returns-2
+unfolding answered word
+returns-2 c =
+    let h = c .if1 .left in
+    rw h
+
+pub truth-spec : {M : Type 1} → statement M
+truth-spec = tie.close (tie.spec returns returns-2)

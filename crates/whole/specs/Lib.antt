@@ -1,0 +1,4 @@
+pub mod Total
+pub mod TotalWays
+pub mod Whole
+pub mod WholeWays
