@@ -1,4 +1,4 @@
--- The digest of a list and the numbers of a case (docs/CASES.md).
+-- The digests of a list and of bytes, and the numbers of a case (docs/CASES.md).
 use Prim.Native.Nat.{ℕ, zero, suc, _+_, _*_, _/_, _%_}
 use mathlib.Core.List.{List, [], _∷_}
 use lib.ListN.{getD}
@@ -19,6 +19,11 @@ word-digested (suc n) h w = word-digested n (digested h (w % 256)) (w / 256)
 unfoldable pub list-digest : ℕ → List ℕ → ℕ
 list-digest h [] = h
 list-digest h (w ∷ ws) = list-digest (word-digested 8 h w) ws
+
+-- every byte more
+unfoldable pub bytes-digest : ℕ → List ℕ → ℕ
+bytes-digest h [] = h
+bytes-digest h (b ∷ bs) = bytes-digest (digested h b) bs
 
 -- four bytes, the lowest first
 abbrev pub number : List ℕ → ℕ

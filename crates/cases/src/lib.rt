@@ -1,8 +1,9 @@
-// Parts of the cases by which two engines are compared (docs/CASES.md): numbers of four bytes, and the digest of a list.
+// Parts of the cases by which two engines are compared (docs/CASES.md): numbers of four bytes, and the digests of a list and
+// of bytes.
 ghost use mathlib.Core.Path.{_≡_};
 ghost use Prim.Native.Nat.{_<_, _≤_};
 ghost use lib.ListN.{length, drop};
-ghost use Rattle.cases.specs.Cases.{modulus, digested, word-digested, list-digest, number};
+ghost use Rattle.cases.specs.Cases.{modulus, digested, word-digested, list-digest, bytes-digest, number};
 
 fn wide(b: u8) -> u64
     ensures { λ r. ⌜ (r ≡ b) × (r < 256) ⌝ }
@@ -54,4 +55,17 @@ pub fn digest(list: &[u64]) -> u64
     ensures { λ r. ⌜ r ≡ list-digest 0 (now (list .entry)) ⌝ }
 {
     places(0, list, 0)
+}
+
+// The digest of bytes.
+pub fn bytes(s: &[u8]) -> u64
+    ensures { λ r. ⌜ r ≡ bytes-digest 0 (now (s .entry)) ⌝ }
+{
+    let mut h: u64 = 0;
+    let mut i = 0;
+    while i < s.len() {
+        h = digested(h, wide(s[i]));
+        i += 1;
+    }
+    h
 }

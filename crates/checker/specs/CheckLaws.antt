@@ -120,7 +120,7 @@ module _ (s : List ℕ) where
     abbrev p : Program
     p = b .program
 
-    number-is : z .number ≡ program-number p
+    pub number-is : z .number ≡ program-number p
     unfolding checked-number
     number-is = ap (λ (x : Summary). x .number) (b .summed) ∙ checked-law p (b .counts)
 
@@ -145,7 +145,7 @@ module _ (s : List ℕ) where
     within e = number-accepted p .0 (sym number-is ∙ e) .0
 
     -- what is reported is what 01 counts
-    counted : (z .steps ≡ total length (p .steps)) × (z .commands ≡ program-size p) × (z .depth ≡ program-depth p) × (z .structs ≡ length (p .params))
+    pub counted : (z .steps ≡ total length (p .steps)) × (z .commands ≡ program-size p) × (z .depth ≡ program-depth p) × (z .structs ≡ length (p .params))
     counted =
         let e = b .summed in (
           ap (λ (x : Summary). x .steps) e ∙ checked-steps p (b .counts),
@@ -187,7 +187,8 @@ module _ (s : List ℕ) where
     behind-is : standing .behind ≡ k
     behind-is = sym (ap place-of (standing .params)) ∙ b .place
 
-    here : read-params s 0 ≡ ok (p .params) k
+    -- which is the one behind the parameters
+    pub here : read-params s 0 ≡ ok (p .params) k
     here = standing .params ∙ ap (λ (i : ℕ). ok (p .params) i) behind-is
 
     -- the place behind the parameters lies in the stream
@@ -195,7 +196,7 @@ module _ (s : List ℕ) where
     place-in = next-place params-exact s (p .params) 0 k (omega arith) here .1
 
     module _ (cs cs′ ts ts′ : List ℕ) (kept : ParamsKept cs cs′ ts ts′ (read-params s 0)) where
-      table : take (z .structs) cs′ ≡ arities p
+      pub table : take (z .structs) cs′ ≡ arities p
       table =
           let w : cs′ ≡ map length (p .params) ++ drop (length (p .params)) cs = (rw here at kept) .0 in
           rw w (take-at (arities p) _ (z .structs) (length-map (p .params) length ∙ sym (counted .3)))
