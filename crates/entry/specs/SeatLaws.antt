@@ -70,7 +70,7 @@ module _ {s counts types : List ℕ} {at depth : ℕ} {p : Program} (a : Admitte
                 record {
                   admitted = a;
                   right = table-answer-exact (p .params) t rs .0 q .0;
-                  stands = λ list items b o. rw k (read-stands p (admitted-counts a) t rs q h c h′ c′ long wide w list (At items) b o);
+                  stands = λ list items b o. rw k (read-stands p (admitted-counts a) rs h c h′ c′ long wide list (At items) b o t q w);
                 },
               )
           go (no-table k) q =
