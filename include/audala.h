@@ -1,4 +1,4 @@
-/* The AuDaLa checker for C. Link with libaudala.a (rt staticlib audala).
+/* The AuDaLa checker and engine for C. Link with libaudala.a (rt staticlib audala).
  *
  * Numbers are those of the scope paper, 01. Nothing here is promised that the contract of the function does not fix. */
 #ifndef AUDALA_H
@@ -11,8 +11,12 @@
 extern "C" {
 #endif
 
-/* Places of the command list that a check asks for, else 13. */
+/* Places of the command list that a check or a run asks for, else 13. */
 #define AUDALA_LIST_PLACES 1024
+
+/* Bytes of the output that a run asks for, else 13; turn bytes that it takes at most, else 14. */
+#define AUDALA_OUTPUT_BYTES 8704
+#define AUDALA_MOST_TURNS 65536
 
 /* What a check answers. After a refusal all but the number are 0. */
 typedef struct {
@@ -41,6 +45,21 @@ typedef struct {
  * where the image is refused, the list has under AUDALA_LIST_PLACES places, or the step is not there. */
 audala_part audala_step(const uint8_t *image, size_t length, const uint64_t *list, size_t places, uint8_t structure,
                         uint8_t name);
+
+/* What a run answers. After a number from the input, 1 to 14, all but the number are 0. */
+typedef struct {
+    uint32_t number; /* 0: the run has ended; 1 to 14: 01's number from the input; 33 to 36: its number from the state */
+    uint32_t turns;  /* commands taken; the byte that chose a refused command is not counted */
+    uint32_t blocks; /* blocks of 512 bytes written */
+    uint32_t depth;  /* the greatest stack height over all steps of the program */
+} audala_report;
+
+/* Runs a program image on a table image with these turn bytes. A number from the input leaves output and list as they were.
+ * Otherwise the output begins with the blocks of the last table, after 34 to 36 the one before the refused act, and later bytes
+ * are untouched; and the list holds the commands as after a check. */
+audala_report audala_run(const uint8_t *program, size_t program_length, const uint8_t *table, size_t table_length,
+                         const uint8_t *turns, size_t turn_count, uint8_t *output, size_t output_length, uint64_t *list,
+                         size_t places);
 
 #ifdef __cplusplus
 }

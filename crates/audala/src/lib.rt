@@ -1,8 +1,9 @@
-// The checker as a static library for C and Rust (01, 'Numbers from the input'); include/audala.h declares it.
+// The checker and the run as a static library for C and Rust (01, 'Numbers from the input', 'Numbers from the state'); include/audala.h
+// declares it.
 ghost use mathlib.Core.Path.{_≡_};
-ghost use Rattle.run.specs.Entry.{check-verdict, check-list};
+ghost use Rattle.run.specs.Entry.{check-verdict, check-list, run-report, run-output, run-list};
 ghost use Rattle.parts.specs.StepPart.{step-place};
-ghost use Rattle.audala.specs.Exported.{exported, exported-part};
+ghost use Rattle.audala.specs.Exported.{exported, exported-part, exported-report};
 
 // What a check answers; after a refusal all but the number are 0.
 #[repr(C)]
@@ -46,5 +47,36 @@ pub extern "C" fn audala_step(image: &[u8], list: &[u64], structure: u8, name: u
     Part {
         start: p.start as u32,
         length: p.len as u32,
+    }
+}
+
+// What a run answers; after a number from the input all but the number are 0.
+#[repr(C)]
+pub struct Report {
+    pub number: u32,
+    pub turns: u32,
+    pub blocks: u32,
+    pub depth: u32,
+}
+
+// A program image, a table image and turn bytes to a report, the last table to the output and the commands to the list.
+#[no_mangle]
+pub extern "C" fn audala_run(
+    program: &[u8],
+    table: &[u8],
+    turns: &[u8],
+    output: &mut [u8],
+    list: &mut [u64],
+) -> Report
+    ensures { λ r. ⌜ r ≡ exported-report (run-report (now (program .entry)) (now (table .entry)) (now (turns .entry)) (now (output .entry)) (now (list .entry))) ⌝ }
+    ensures { λ _. ⌜ now (output .exit) ≡ run-output (now (program .entry)) (now (table .entry)) (now (turns .entry)) (now (output .entry)) (now (list .entry)) ⌝ }
+    ensures { λ _. ⌜ now (list .exit) ≡ run-list (now (program .entry)) (now (table .entry)) (now (turns .entry)) (now (output .entry)) (now (list .entry)) ⌝ }
+{
+    let r = entry::run(program, table, turns, output, list);
+    Report {
+        number: r.number as u32,
+        turns: r.turns,
+        blocks: r.blocks as u32,
+        depth: r.depth as u32,
     }
 }
