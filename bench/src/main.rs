@@ -1,29 +1,20 @@
-//! Times both checkers on the same images, one after the other in one process, and holds their answers together: P, the
-//! program with the most commands, the longest that is accepted, and an image of 64 blocks that is refused at its last byte.
+//! Times both engines on the same images, one after the other in one process, and holds their answers together. Checks: P, the
+//! program with the most commands, the longest that is accepted, and an image of 64 blocks that is refused at its last byte. Runs:
+//! 65,536 turns with 2 and with 256 instances. With a number as its argument it compares the answers to so many generated cases.
+mod agree;
+mod proved;
+
+use proved::{check as proved, run as proved_run};
+use second::cases::OUTPUT_FILL;
 use second::coding::{LIST_FILL, coded};
+use second::generate::encode::{Record, table_stream};
+use second::generate::random::Random;
 use std::hint::black_box;
 use std::time::Instant;
 
 const LIST_PLACES: usize = 1024;
 
-#[repr(C)]
-#[derive(Clone, Copy)]
-struct Verdict {
-    number: u32,
-    structs: u32,
-    steps: u32,
-    commands: u32,
-    depth: u32,
-}
-
-unsafe extern "C" {
-    fn audala_check(image: *const u8, length: usize, list: *mut u64, places: usize) -> Verdict;
-}
-
-fn proved(image: &[u8], list: &mut [u64]) -> Verdict {
-    // SAFETY: it reads the image and writes the list within the lengths that it is handed.
-    unsafe { audala_check(image.as_ptr(), image.len(), list.as_mut_ptr(), list.len()) }
-}
+const OUTPUT_BYTES: usize = 8704;
 
 /// The best time of one call in nanoseconds, over groups of calls.
 fn best(calls: u32, mut call: impl FnMut()) -> f64 {
@@ -102,10 +93,44 @@ fn compare(name: &str, stream: &[u8], calls: u32) {
     println!("{name}: {} blocks, number {}: proved {first:.0} ns, second {other:.0} ns, ratio {:.2}", image.len() / 512, a.number, first / other);
 }
 
+/// The second engine's own benchmark: `if prev = prev.prev or true then load := 1 - load` in a Fix that never comes to rest.
+const RUNNING: [u8; 37] = [
+    1, 2, 0, 16, 1, 0, 1, 1, 44, 32, 18, 1, 1, 18, 2, 1, 1, 21, 1, 1, 3, 1, 0, 42, 19, 1, 0, 0, 0, 18, 1, 0, 1, 3, 1, 1, 0,
+];
+
+fn compare_runs(instances: u32, kind: &str, turns: &[u8]) {
+    let program = second::generate::encode::image(&RUNNING);
+    let records: Vec<Record> = (1..instances).map(|label| Record { of: 0, values: vec![1, label - 1] }).collect();
+    let table = second::generate::encode::image(&table_stream(&records));
+    let (mut mine, mut theirs) = (vec![OUTPUT_FILL; OUTPUT_BYTES], vec![OUTPUT_FILL; OUTPUT_BYTES]);
+    let (mut list, mut other_list) = (vec![LIST_FILL; LIST_PLACES], vec![None; LIST_PLACES]);
+    let a = proved_run(&program, &table, turns, &mut mine, &mut list);
+    let b = second::run(&program, &table, turns, &mut theirs, &mut other_list);
+    assert_eq!((a.number, a.turns, a.blocks, a.depth), (u32::from(b.number), b.turns as u32, b.blocks as u32, b.depth as u32));
+    assert!(mine == theirs, "the tables differ");
+    let first = best(1, || {
+        black_box(proved_run(black_box(&program), &table, turns, &mut mine, &mut list));
+    });
+    let other = best(1, || {
+        black_box(second::run(black_box(&program), &table, turns, &mut theirs, &mut other_list));
+    });
+    let each = f64::from(a.turns);
+    println!("{instances} instances, {kind} turn bytes: proved {:.1} ns, second {:.1} ns for a command, ratio {:.2}", first / each, other / each, first / other);
+}
+
 fn main() {
+    if let Some(count) = std::env::args().nth(1) {
+        return agree::compare(count.parse().expect("a number of cases"));
+    }
     let p = [1, 2, 0, 16, 1, 0, 1, 3, 1, 0, 41, 18, 1, 0, 18, 2, 1, 0, 1, 1, 0];
     compare("P", &p, 2000);
     compare("most commands", &most_commands(), 300);
     compare("longest accepted", &longest_accepted(), 200);
     compare("refused at its end", &one_byte_too_many(), 60);
+    let mut random = Random::new(1);
+    let mixed: Vec<u8> = (0..65_536).map(|_| random.byte()).collect();
+    for instances in [2, 256] {
+        compare_runs(instances, "zero", &vec![0; 65_536]);
+        compare_runs(instances, "random", &mixed);
+    }
 }
