@@ -1,5 +1,5 @@
 #!/usr/bin/env bash
-# Compares the proved engine with the second by their lines on checks
+# Compares the proved engine with the second by their lines on cases
 # (docs/CASES.md).
 #
 #   agree.sh             the committed cases
@@ -29,11 +29,10 @@ total=0
 # Answers $work/cases.bin by the engine and compares with the lines of
 # $work/expected.txt; $1 says where the cases come from.
 agree() {
-    grep '^check ' "$work/expected.txt" >"$work/second.txt" || true
     "$engine" <"$work/cases.bin" >"$work/engine.txt"
-    if ! cmp -s "$work/second.txt" "$work/engine.txt"; then
+    if ! cmp -s "$work/expected.txt" "$work/engine.txt"; then
         echo "agree: the answers to $1 differ (line: second | engine)" >&2
-        paste -d '|' "$work/second.txt" "$work/engine.txt" |
+        paste -d '|' "$work/expected.txt" "$work/engine.txt" |
             awk -F '|' '$1 != $2 { print NR ": " $1 " | " $2 }' | head -n 10 >&2
         exit 1
     fi
@@ -52,4 +51,4 @@ while [ "$left" -gt 0 ]; do
     left=$((left - count))
     seed=$((seed + 1))
 done
-echo "agree: $total checks agree"
+echo "agree: $total cases agree"

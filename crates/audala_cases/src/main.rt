@@ -1,7 +1,8 @@
-// Reads cases on standard input and answers those of a check, a line for each (docs/CASES.md). A malformed case ends the program.
+// Reads cases on standard input and answers each by a line (docs/CASES.md). A malformed case ends the program.
 use libc::STDIN_FILENO;
 use libc::STDOUT_FILENO;
 use text::lines;
+ghost use Prim.Native.Nat.{_≤_};
 ghost use lib.ListN.{length};
 ghost use Rattle.audala_cases.specs.Within.{Within};
 
@@ -78,27 +79,59 @@ fn check_case() -> bool {
     true
 }
 
-// A case of kind 2, which is passed over; whether it is whole.
-fn run_case() -> bool {
-    let Size::Of(_) = number(1100) else {
-        return false;
-    };
-    let Size::Of(_) = number(9216) else {
-        return false;
-    };
+// What a run answers, as a line.
+fn answer_run(image: &[u8], table: &[u8], turns: &[u8], output: &mut [u8], list: &mut [u64]) {
+    let r = entry::run(image, table, turns, output, list);
+    let ns = [
+        r.number as u64,
+        r.turns as u64,
+        r.blocks as u64,
+        r.depth as u64,
+        cases::bytes(output),
+        cases::digest(list),
+    ];
+    let mut text = [0u8; 256];
+    let n = lines::row(&mut text, 0, b"run", &ns);
+    io::write_all(STDOUT_FILENO, &text[..n]);
+}
+
+// The images and turns of a case of kind 2, with so many list places and output bytes; whether it is whole.
+fn run_parts(places: usize, room: usize) -> bool
+    requires { ⌜ (places ≤ 1100) × (room ≤ 9216) ⌝ }
+{
     let mut image = [0u8; 33792];
-    let Size::Of(_) = part(&mut image) else {
+    let Size::Of(n) = part(&mut image) else {
         return false;
     };
     let mut table = [0u8; 9728];
-    let Size::Of(_) = part(&mut table) else {
+    let Size::Of(m) = part(&mut table) else {
         return false;
     };
     let mut turns = [0u8; 65600];
-    let Size::Of(_) = part(&mut turns) else {
+    let Size::Of(t) = part(&mut turns) else {
         return false;
     };
+    let mut output = [165u8; 9216];
+    let mut list = [11936128518282651045u64; 1100];
+    answer_run(
+        &image[..n],
+        &table[..m],
+        &turns[..t],
+        &mut output[..room],
+        &mut list[..places],
+    );
     true
+}
+
+// A case of kind 2; whether it is whole.
+fn run_case() -> bool {
+    let Size::Of(places) = number(1100) else {
+        return false;
+    };
+    let Size::Of(room) = number(9216) else {
+        return false;
+    };
+    run_parts(places, room)
 }
 
 // The next case; whether there is one.
