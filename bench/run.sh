@@ -1,6 +1,7 @@
 #!/usr/bin/env bash
-# Builds the static library and times the proved checker against the second engine's. Not part of the gate.
+# Builds the static library and times the proved engine against the second; with a number, compares their answers to so many
+# generated cases. Not part of the gate.
 set -euo pipefail
 here=$(cd "$(dirname "$0")" && pwd)
 (cd "$here/.." && rt staticlib audala >/dev/null)
-cargo run --quiet --offline --release --jobs 1 --manifest-path "$here/Cargo.toml"
+cargo run --quiet --offline --release --jobs 1 --manifest-path "$here/Cargo.toml" -- "$@"
