@@ -10,6 +10,8 @@
 set -euo pipefail
 
 here=$(cd "$(dirname "$0")" && pwd)
+# the proved engine's program, which rt hands the same cases
+program=$here/../crates/audala_cases
 chunk=2000
 
 usage() {
@@ -41,6 +43,10 @@ same_as_committed() {
     if ! diff "$here/cases/expected.txt" "$work/expected.txt" >"$work/difference"; then
         head -n 10 "$work/difference" >&2
         echo "compare: the committed answers are not those given now" >&2
+        exit 1
+    fi
+    if ! { cmp "$here/cases/cases.bin" "$program/stdin" && cmp "$here/cases/expected.txt" "$program/stdout"; }; then
+        echo "compare: audala_cases is handed other cases" >&2
         exit 1
     fi
     echo "compare: $(wc -l <"$work/expected.txt") committed cases agree"
@@ -89,6 +95,8 @@ write)
     build
     make_committed
     cp "$work/cases.bin" "$work/expected.txt" "$here/cases/"
+    cp "$work/cases.bin" "$program/stdin"
+    cp "$work/expected.txt" "$program/stdout"
     ;;
 many)
     [ $# -ge 4 ] || usage
