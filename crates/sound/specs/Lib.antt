@@ -32,4 +32,3 @@ pub mod TableKept
 pub mod ExhibitTurns
 pub mod ExhibitAccepted
 pub mod ExhibitLocals
-pub mod Statements

@@ -1,0 +1,5 @@
+pub mod Call
+pub mod JoinLaws
+pub mod Demand1
+pub mod Demand2
+pub mod Demand3
