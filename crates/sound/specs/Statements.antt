@@ -25,7 +25,7 @@ use Rattle.run.specs.Begin.{params-in, begin, table-of}
 use Rattle.run.specs.Initial.{initial, Comes}
 use Rattle.run.specs.PublishedVisits.{Passes, turns-of}
 use Rattle.run.specs.Entry.{Checked.accepted, checked, Begun.not-begun, Begun.begun, begins, report, run-report, run-output, run-list}
-use Rattle.run.specs.Input.{Accepted as AcceptedImage, TableAccepted, Refuses, Ready, order}
+use Rattle.run.specs.Input.{Accepted as AcceptedImage, TableAccepted, Ready, order}
 use Rattle.run.specs.InputProgram.{checked-accepted}
 use Rattle.run.specs.InputLaws.{begins-number, begins-ready, refusal-untouched}
 use Rattle.run.specs.RunAgreesVisits.{visits-passes}
@@ -41,10 +41,10 @@ use Rattle.sound.specs.TableKept.{table-kept, table-written, nulls-kept,
 module _ (x y es out list : List ℕ) where
   -- Demand 1, of the answers: a refusal from the input is that of the foremost condition; it returns its number, no turns and no
   -- blocks, and leaves output and list as they were
-  pub refused-exactly : (n : ℕ) → (begins x y es out list ≡ not-begun n) ↔ Foremost (Refuses x y es out list) order n
+  pub refused-exactly : (n : ℕ) → (begins x y es out list ≡ not-begun n) ↔ Foremost (order x y es out list) n
   refused-exactly n = begins-number x y es out list n
 
-  pub refused-untouched : (n : ℕ) → Foremost (Refuses x y es out list) order n
+  pub refused-untouched : (n : ℕ) → Foremost (order x y es out list) n
       → (run-report x y es out list ≡ report n 0 0 0) × (run-output x y es out list ≡ out) × (run-list x y es out list ≡ list)
   refused-untouched n q = refusal-untouched x y es out list n q
 
