@@ -15,7 +15,7 @@ use Rattle.commands.specs.DecideLaws.{reflects-iff, every-reflects, eq-r
 use Rattle.commands.specs.NamesDecide.{start-named, expr-named, args-named, stmt-named, body-named, steps-named, stepped, item-stepped, items-stepped, names-right}
 use Rattle.commands.specs.TypingDecide.{is-of, agree, given, result, operate, lead, path-type, expr-type, args-typed, stmt-typed, body-typed, steps-typed, types-right}
 use Rattle.commands.specs.BoundsDecide.{within}
-use Rattle.commands.specs.Numbers.{breach, first, order, program-number}
+use Rattle.commands.specs.Numbers.{first, breach-tests, program-number}
 
 -- Parts ---------------------------------------------------------------------------
 
@@ -171,5 +171,5 @@ rows =
 
 -- every row's tree has its number
 rows-hold : All (λ r. program-number (r .tree) ≡ r .number) rows
-unfolding rows statements in-a-row named-to same-type then reads front last expr-coms args-coms update-coms stmt-coms body-coms flatten commands stmt-local body-local declares declared step-names depth item-count items-count total program-size every member distinct start-named expr-named args-named stmt-named body-named steps-named stepped item-stepped items-stepped names-right is-of agree given result operate lead path-type expr-type args-typed stmt-typed body-typed steps-typed types-right within breach first order program-number
+unfolding rows statements in-a-row named-to same-type then reads front last expr-coms args-coms update-coms stmt-coms body-coms flatten commands stmt-local body-local declares declared step-names depth item-count items-count total program-size every member distinct start-named expr-named args-named stmt-named body-named steps-named stepped item-stepped items-stepped names-right is-of agree given result operate lead path-type expr-type args-typed stmt-typed body-typed steps-typed types-right within first breach-tests program-number
 rows-hold = reflects-iff (every-reflects (λ (r : Row). eq-reflects (program-number (r .tree)) (r .number)) rows) .0 refl

@@ -18,7 +18,7 @@ use Rattle.commands.specs.Decide.{every, member, distinct}
 use Rattle.commands.specs.NamesDecide.{start-named, expr-named, args-named, stmt-named, body-named, steps-named, stepped, item-stepped, items-stepped, names-right}
 use Rattle.commands.specs.TypingDecide.{is-of, agree, given as given-type, result, operate as operate-types, lead, path-type, expr-type, args-typed, stmt-typed, body-typed, steps-typed, types-right}
 use Rattle.commands.specs.BoundsDecide.{within}
-use Rattle.commands.specs.Numbers.{breach, first, order, program-number}
+use Rattle.commands.specs.Numbers.{first, breach-tests, program-number}
 use Rattle.commands.specs.Noted.{struct-of, walk, store, read-path, write-path, note-expr, note-exprs, note-stmt, note-body, noted, now-written}
 use Rattle.words.specs.Operators.{quotient, remainder}
 use Rattle.words.specs.Apply.{same-int, same-bool, same-val, int-answer, nat-answer, by-nonzero, compute, answer, on-truths, on-labels, apply}
@@ -36,7 +36,7 @@ use Rattle.run.specs.EntryStreams.{Summary, of-outcome, summed, table-re
 
 -- what a program stream comes to
 unfoldable pub checking : List ℕ → Checked
-unfolding reading same-type then reads front last expr-coms args-coms update-coms stmt-coms body-coms flatten commands stmt-local body-local declares declared step-names depth item-count items-count total greatest program-size program-depth every member distinct start-named expr-named args-named stmt-named body-named steps-named stepped item-stepped items-stepped names-right is-of agree given-type result operate-types lead path-type expr-type args-typed stmt-typed body-typed steps-typed types-right within breach first order program-number judge of-read
+unfolding reading same-type then reads front last expr-coms args-coms update-coms stmt-coms body-coms flatten commands stmt-local body-local declares declared step-names depth item-count items-count total greatest program-size program-depth every member distinct start-named expr-named args-named stmt-named body-named steps-named stepped item-stepped items-stepped names-right is-of agree given-type result operate-types lead path-type expr-type args-typed stmt-typed body-typed steps-typed types-right within first breach-tests program-number judge of-read
 checking s = of-read (read s)
 
 -- what a run of program stream, table stream and turn bytes comes to, where output and list have room
