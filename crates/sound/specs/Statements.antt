@@ -20,10 +20,10 @@ use Rattle.machine.specs.Published.{State, structs}
 use Rattle.machine.specs.Machine.{Instance, Machine}
 use Rattle.machine.specs.Represents.{Represents}
 use Rattle.run.specs.Run.{Outcome.stopped, run}
-use Rattle.run.specs.Visits.{Visits}
+use Rattle.run.specs.Visits.{Visits, turns-of}
 use Rattle.run.specs.Begin.{params-in, begin, table-of}
 use Rattle.run.specs.Initial.{initial, Comes}
-use Rattle.run.specs.PublishedVisits.{Passes, turns-of}
+use Rattle.run.specs.PublishedVisits.{Passes}
 use Rattle.run.specs.Entry.{Checked.accepted, checked, Begun.not-begun, Begun.begun, begins, report, run-report, run-output, run-list}
 use Rattle.run.specs.Input.{Accepted as AcceptedImage, TableAccepted, Refuses, Ready, order}
 use Rattle.run.specs.InputProgram.{checked-accepted}
