@@ -6,8 +6,8 @@ use native.Mathlib.Omega.{arith}
 use Rattle.program.specs.Tree.{Program}
 use Rattle.machine.specs.Published.{State, State.state}
 use Rattle.machine.specs.Rules.{Actor.instance, Rule}
-use Rattle.machine.specs.Stops.{Full, Exceeded}
-use Rattle.machine.specs.Machine.{Machine, Out, Out.next, Out.refused, Out.stuck, full, exceeded, command}
+use Rattle.machine.specs.Stops.{Full, Exceeded, full, exceeded}
+use Rattle.machine.specs.Machine.{Machine, Out, Out.next, Out.refused, Out.stuck, command}
 use Rattle.machine.specs.Represents.{Represents}
 use Rattle.machine.specs.CommandFollows.{Follows, command-outcome}
 use Rattle.machine.specs.CommandComplete.{Leads, rule-leads, full-refused, exceeded-refused}

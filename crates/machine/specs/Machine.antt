@@ -18,6 +18,7 @@ use Rattle.commands.specs.Noted.{Note, Note.n-push, Note.n-this, Note.n-not, No
 use Rattle.words.specs.Apply.{Answer, Answer.value, Answer.outside, Answer.unfit, apply, same-val}
 use Rattle.machine.specs.Published.{Sched, Sched.done, Sched.start, Sched.start-in, Sched.fixpoint, Sched.active, before, Env, lookup, assign, fresh-env, structs, arity}
 use Rattle.machine.specs.Rules.{meet}
+use Rattle.machine.specs.Stops.{full, exceeded, nested}
 
 -- a stack value: the type that what put it there gives it, and the value (01, 'The words of demand 3')
 pub record Tagged : Type 0 where
@@ -45,16 +46,6 @@ pub data Out : Type 0 where
   next : Machine → Out
   refused : ℕ → Out
   stuck : Out
-
--- the numbers from the state
-abbrev pub full : ℕ
-full = 34
-
-abbrev pub exceeded : ℕ
-exceeded = 35
-
-abbrev pub nested : ℕ
-nested = 36
 
 -- Few setters ------------------------------------------------------------------
 

@@ -16,7 +16,8 @@ use Rattle.commands.specs.Noted.{Note, Note.n-push, Note.n-this, Note.n-not, No
 use Rattle.words.specs.Apply.{Answer.value, Answer.outside, apply}
 use Rattle.machine.specs.Published.{lookup, assign, structs, arity}
 use Rattle.machine.specs.Rules.{meet}
-use Rattle.machine.specs.Machine.{Tagged, tagged, Instance, Machine, Out, Out.next, Out.refused, Out.stuck, full, exceeded, with-code, update-env, with-instances, put, with-stability, settled, made}
+use Rattle.machine.specs.Machine.{Tagged, tagged, Instance, Machine, Out, Out.next, Out.refused, Out.stuck, with-code, update-env, with-instances, put, with-stability, settled, made}
+use Rattle.machine.specs.Stops.{full, exceeded}
 use Rattle.commands.specs.Tags.{result-type}
 
 -- rd of the variable v, which gives the type t; wr of it

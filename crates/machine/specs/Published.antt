@@ -43,7 +43,7 @@ unfoldable mutual
 pub data Env : Type 0 where
   env : List Val → List (Option Val) → Env
 
--- ξ(v) and ξ[v ↦ x]: variables from first-local on are locals
+-- ξ(v) and ξ[v ↦ x]: variables from first-local on are locals; a number that is neither a parameter nor a local has no place
 unfoldable pub lookup : Env → ℕ → Option Val
 lookup (env ps ls) v = elim (ltb v first-local) [ true ↦ getElem? ps v | false ↦ getD ls (v - first-local) none ]
 

@@ -10,8 +10,8 @@ use Rattle.commands.specs.Commands.{Com.push, Com.push-this, Com.rd, Com.wr, Co
 use Rattle.commands.specs.Noted.{Note, Note.n-push, Note.n-this, Note.n-not, Note.n-rd, Note.n-wr, Note.n-cons, Note.n-op, Note.n-if, erase}
 use Rattle.machine.specs.Published.{Inst, Inst.inst, State, State.state}
 use Rattle.machine.specs.Rules.{Actor, Actor.instance, Actor.schedule, Rule}
-use Rattle.machine.specs.Stops.{Full, Exceeded, Nested}
-use Rattle.machine.specs.Machine.{Tagged, tagged, Instance, Machine, machine, Out, Out.next, full, exceeded}
+use Rattle.machine.specs.Stops.{Full, Exceeded, Nested, full, exceeded}
+use Rattle.machine.specs.Machine.{Tagged, tagged, Instance, Machine, machine, Out, Out.next}
 use Rattle.machine.specs.Represents.{values, Represents-all, Represents}
 use Rattle.machine.specs.RepresentsLaws.{represents-unique}
 use Rattle.machine.specs.CommandAgrees.{command-complete, command-full, command-exceeded}

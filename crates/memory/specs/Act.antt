@@ -11,14 +11,8 @@ use Rattle.types.specs.Limits.{max-instances, max-depth, variables}
 use Rattle.words.specs.declared.Answered.{Answered}
 use Rattle.words.specs.declared.Answered.the-variants.{Value, Outside, Unfit}
 use Rattle.words.specs.Words.{apply-word}
+pub use Rattle.machine.specs.Stops.{full, exceeded}
 use Rattle.memory.specs.Layout.{State, head, head-size, struct-of, height-of, next-of, end-of, row-size, variable, stacked, cell, type-byte, operand, label-cell, with-heads, with-cells, unstable, refused, with-count, of-head, of-cell}
-
--- the numbers from the state that a command can meet
-abbrev pub full : ℕ
-full = 34
-
-abbrev pub exceeded : ℕ
-exceeded = 35
 
 -- the types of truths
 abbrev pub bool-byte : ℕ

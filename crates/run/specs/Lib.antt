@@ -1,4 +1,5 @@
 pub mod Turns
+pub mod Holders
 pub mod Runs
 pub mod Run
 pub mod Visits

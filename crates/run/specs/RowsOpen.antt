@@ -28,7 +28,8 @@ use Rattle.machine.specs.Published.{before, of-item, of-items, lookup, assign}
 use Rattle.machine.specs.Rules.{meet}
 use Rattle.machine.specs.Measure.{weight, bound}
 use Rattle.machine.specs.Machine.{update-env, settled, read-from, read-at, read as read-variable, write-to, write-parameter, write-at, write, negate, branch, operated, operate, construct, perform, command-of, command-at, command, given, started, started-in, repeat, move-by}
-use Rattle.run.specs.Turns.{labels-from, chosen, holds-code, holders}
+use Rattle.run.specs.Turns.{labels-from, chosen}
+use Rattle.run.specs.Holders.{holds-code, holders}
 use Rattle.run.specs.Run.{later, is-done, moved, settle-by, settle, fuel, taken, turn, at-last, run}
 use Rattle.run.specs.Begin.{nulls, first-instances, begin, record-of, table-of}
 use Rattle.run.specs.Entry.{Checked, judge, of-read, of-steps, of-structs, program-words, of-table, with-room}

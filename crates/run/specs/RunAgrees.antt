@@ -7,12 +7,14 @@ use native.Mathlib.Omega.{arith}
 use Rattle.program.specs.Tree.{Program}
 use Rattle.machine.specs.Published.{Sched.done, State, State.state}
 use Rattle.machine.specs.Rules.{Actor.instance, Actor.schedule, Rule}
-use Rattle.machine.specs.Machine.{Machine, Out.refused, command, full, exceeded}
+use Rattle.machine.specs.Machine.{Machine, Out.refused, command}
+use Rattle.machine.specs.Stops.{full, exceeded, ended, out-of-turns}
 use Rattle.machine.specs.Represents.{Represents}
 use Rattle.machine.specs.CommandAgrees.{command-follows, command-complete, command-full, command-exceeded, command-numbers}
 use Rattle.machine.specs.MoveAgrees.{move-follows, move-complete, move-nested, move-numbers}
-use Rattle.run.specs.Turns.{holders, chosen}
-use Rattle.run.specs.Runs.{ended, out-of-turns, Picks, Picks.picks, AllDone, Runs, Runs.at-end, Runs.at-36, Runs.moves, Runs.at-33, Runs.at-34, Runs.at-35, Runs.takes}
+use Rattle.run.specs.Turns.{chosen}
+use Rattle.run.specs.Holders.{holders}
+use Rattle.run.specs.Runs.{Picks, Picks.picks, AllDone, Runs, Runs.at-end, Runs.at-36, Runs.moves, Runs.at-33, Runs.at-34, Runs.at-35, Runs.takes}
 use Rattle.run.specs.Run.{Outcome, Outcome.stopped, Outcome.jammed, later, run}
 use Rattle.run.specs.Settles.{Ran, Ran.ends, Ran.refuses, Ran.sticks, Ran.moves as moved, Ran.lasts, Ran.fails, Ran.jams, Ran.takes as took}
 use Rattle.run.specs.TurnLaws.{holders-still, holders-done, holders-represent}

@@ -14,12 +14,14 @@ use Rattle.machine.specs.MeasureLaws.{started-turns, started-in-turns}
 use Rattle.machine.specs.Represents.{Represents}
 use Rattle.machine.specs.CommandAgrees.{command-follows, command-complete}
 use Rattle.machine.specs.MoveAgrees.{move-follows, move-complete}
-use Rattle.run.specs.Turns.{holders, chosen}
-use Rattle.run.specs.Runs.{out-of-turns, Runs, Runs.at-end, Runs.at-36, Runs.moves as runs-moves, Runs.at-33, Runs.at-34, Runs.at-35, Runs.takes as runs-takes}
+use Rattle.run.specs.Turns.{chosen}
+use Rattle.run.specs.Holders.{holders}
+use Rattle.run.specs.Runs.{Runs, Runs.at-end, Runs.at-36, Runs.moves as runs-moves, Runs.at-33, Runs.at-34, Runs.at-35, Runs.takes as runs-takes}
+use Rattle.machine.specs.Stops.{out-of-turns}
 use Rattle.run.specs.Run.{Outcome, Outcome.stopped, Outcome.jammed, later, run}
 use Rattle.run.specs.Settles.{Ran, Ran.ends, Ran.refuses, Ran.sticks, Ran.moves as ran-moves, Ran.lasts, Ran.fails, Ran.jams, Ran.takes as ran-takes, Turned, Turned.no-turn, Turned.a-turn}
-use Rattle.run.specs.Visits.{Visits, Visits.here as stays, Visits.moves as visits-moves, Visits.takes as visits-takes}
-use Rattle.run.specs.PublishedVisits.{turns-of, Passes, Passes.here, Passes.moves, Passes.takes}
+use Rattle.run.specs.Visits.{Visits, Visits.here as stays, Visits.moves as visits-moves, Visits.takes as visits-takes, turns-of}
+use Rattle.run.specs.PublishedVisits.{Passes, Passes.here, Passes.moves, Passes.takes}
 use Rattle.run.specs.TurnLaws.{holders-still}
 use Rattle.run.specs.FuelLaws.{run-ran}
 use Rattle.run.specs.RunAgrees.{none-hold, machine-picks, state-picks}

@@ -7,16 +7,8 @@ use mathlib.Core.List.{List, [], _∷_}
 use Rattle.program.specs.Tree.{Program}
 use Rattle.machine.specs.Published.{Sched, Sched.done, Inst, State, State.state}
 use Rattle.machine.specs.Rules.{Done, Actor.instance, Actor.schedule, Rule}
-use Rattle.machine.specs.Stops.{Full, Exceeded, Nested}
-use Rattle.machine.specs.Machine.{full, exceeded, nested}
+use Rattle.machine.specs.Stops.{Full, Exceeded, Nested, ended, out-of-turns, full, exceeded, nested}
 use Rattle.run.specs.Turns.{holders-of, chosen}
-
--- 0 is the ended run; 33: commands remain, no turn byte does; 34, 35 and 36 are the conditions of Stops
-abbrev pub ended : ℕ
-ended = 0
-
-abbrev pub out-of-turns : ℕ
-out-of-turns = 33
 
 -- the instance that a byte picks in a state: some instance holds commands
 pub data Picks (e l : ℕ) : State → Type 0 where

@@ -16,7 +16,8 @@ use Rattle.machine.specs.Machine.{tagged, Instance, Machine, Out, Out.next, Out
 use Rattle.machine.specs.Measure.{total}
 use Rattle.machine.specs.Performed.{Performed, Performed.pushed, Performed.pushed-this, Performed.negated, Performed.read-one, Performed.skipped, Performed.wrote, Performed.calculated, Performed.exceeding, Performed.constructed, Performed.filled, Performed.branched, Performed.no-way}
 use Rattle.machine.specs.PerformedLaws.{by-ways}
-use Rattle.run.specs.Turns.{labels-from, holders, holds-code}
+use Rattle.run.specs.Turns.{labels-from}
+use Rattle.run.specs.Holders.{holders, holds-code}
 use Rattle.sound.specs.ElemLaws.{none-some, at-set-same, at-append}
 use Rattle.runner.specs.Counting.{fewer}
 

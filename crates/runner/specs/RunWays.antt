@@ -7,7 +7,7 @@ use native.Mathlib.Omega.{arith}
 use lib.ListN.{length, getD}
 use borrow.Author.Tests.{lt-ltb, le-ltb}
 use Rattle.machine.specs.Machine.{Machine}
-use Rattle.run.specs.Runs.{out-of-turns}
+use Rattle.machine.specs.Stops.{out-of-turns}
 use Rattle.memory.specs.Layout.{State, head, head-size, next-of, end-of}
 use Rattle.memory.specs.Fit.{Fit}
 use Rattle.memory.specs.Act.{act}

@@ -8,7 +8,8 @@ use mathlib.Core.List.{List, _∷_}
 use lib.ListN.{drop}
 use Rattle.program.specs.Tree.{Program}
 use Rattle.machine.specs.Machine.{Machine, Out.next, command}
-use Rattle.run.specs.Turns.{holders, chosen}
+use Rattle.run.specs.Turns.{chosen}
+use Rattle.run.specs.Holders.{holders}
 use Rattle.run.specs.Run.{Outcome.stopped, later, run}
 use Rattle.memory.specs.Layout.{State, refused}
 use Rattle.memory.specs.Act.{full, exceeded}

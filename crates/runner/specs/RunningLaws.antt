@@ -9,7 +9,7 @@ use lib.ListN.{length, getD, drop}
 use lib.Seq.{drop-cons, drop-length}
 use Rattle.program.specs.Tree.{Program}
 use Rattle.machine.specs.Machine.{Machine}
-use Rattle.run.specs.Runs.{out-of-turns}
+use Rattle.machine.specs.Stops.{out-of-turns}
 use Rattle.run.specs.Run.{Outcome.stopped, later, run}
 use Rattle.memory.specs.Layout.{State, head-size, refused}
 use Rattle.memory.specs.Plan.{end-code}

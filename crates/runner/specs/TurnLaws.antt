@@ -11,8 +11,9 @@ use Rattle.types.specs.Limits.{max-structs}
 use Rattle.program.specs.Tree.{Program}
 use Rattle.machine.specs.Published.{Sched, Sched.done, structs}
 use Rattle.machine.specs.Machine.{Instance, Machine, Out, Out.next, Out.refused, Out.stuck, command, move}
-use Rattle.run.specs.Turns.{holders, holds-code, chosen}
-use Rattle.run.specs.Runs.{ended, out-of-turns}
+use Rattle.run.specs.Turns.{chosen}
+use Rattle.run.specs.Holders.{holders, holds-code}
+use Rattle.machine.specs.Stops.{ended, out-of-turns}
 use Rattle.run.specs.Run.{Outcome.stopped, run}
 use Rattle.run.specs.Settles.{Ran.ends as ran-ends, Ran.refuses as ran-refuses, Ran.lasts as ran-lasts, Ran.fails as ran-fails, Ran.takes as ran-takes}
 use Rattle.run.specs.FuelLaws.{run-moves, run-ran, ran-run}

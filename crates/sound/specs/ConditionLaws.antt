@@ -14,7 +14,8 @@ use Rattle.commands.specs.Noted.{Note.n-cons, Note.n-op, now-written}
 use Rattle.commands.specs.Typing.{sort}
 use Rattle.words.specs.ApplyLaws.{apply-outside}
 use Rattle.machine.specs.Published.{Sched, Sched.done, Sched.fixpoint, arity}
-use Rattle.machine.specs.Machine.{Instance, Machine, Out, Out.next, Out.refused, Out.stuck, full, exceeded, nested, construct, operated, perform, move-by, move, command, with-written}
+use Rattle.machine.specs.Machine.{Instance, Machine, Out, Out.next, Out.refused, Out.stuck, construct, operated, perform, move-by, move, command, with-written}
+use Rattle.machine.specs.Stops.{full, exceeded, nested}
 use Rattle.run.specs.Turns.{chosen}
 use Rattle.run.specs.Visits.{Visits, Visits.here, Visits.moves, Visits.takes}
 use Rattle.sound.specs.Conditions.{Meets, Meets.no-label, Meets.no-result, Condition, Condition.at-end, Condition.at-33, Condition.at-command, Condition.at-36}

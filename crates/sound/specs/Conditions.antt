@@ -10,9 +10,10 @@ use Rattle.program.specs.Tree.{Op}
 use Rattle.commands.specs.Noted.{Note, Note.n-cons, Note.n-op}
 use Rattle.words.specs.Operators.{Exceeds}
 use Rattle.machine.specs.Published.{Sched, Sched.done, Sched.fixpoint}
-use Rattle.machine.specs.Machine.{Tagged, Instance, Machine, full, exceeded, nested}
-use Rattle.run.specs.Turns.{holders, chosen}
-use Rattle.run.specs.Runs.{ended, out-of-turns}
+use Rattle.machine.specs.Machine.{Tagged, Instance, Machine}
+use Rattle.machine.specs.Stops.{full, exceeded, nested, ended, out-of-turns}
+use Rattle.run.specs.Turns.{chosen}
+use Rattle.run.specs.Holders.{holders}
 
 -- the next command of an instance meets the condition of a number
 pub data Meets (m : Machine) (i : Instance) : ℕ → Type 0 where

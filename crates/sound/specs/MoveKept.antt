@@ -11,7 +11,8 @@ use borrow.Author.Tests.{ltb-false}
 use Rattle.types.specs.Limits.{max-stability}
 use Rattle.program.specs.Tree.{Stmts, Program}
 use Rattle.machine.specs.Published.{Sched, Sched.done, Sched.start, Sched.start-in, Sched.fixpoint, Sched.active, before}
-use Rattle.machine.specs.Machine.{Instance, machine, Out.next, Out.refused, nested, given, started, started-in, repeat, move-by}
+use Rattle.machine.specs.Machine.{Instance, machine, Out.next, Out.refused, given, started, started-in, repeat, move-by}
+use Rattle.machine.specs.Stops.{nested}
 use Rattle.commands.specs.Tags.{at-start, Way.start as begins}
 use Rattle.sound.specs.Invariant.{Place.passing, GoodInst, GoodAll, Unbegun, Open, Open.open-start, Open.open-start-in, Open.open-fix, Open.open-active}
 use Rattle.sound.specs.Keeps.{Keeps}

@@ -13,7 +13,8 @@ use Rattle.commands.specs.Bounds.{program-depth}
 use Rattle.table.specs.Table.{Record, TableRight}
 use Rattle.machine.specs.Published.{Sched, Sched.done}
 use Rattle.machine.specs.Machine.{Instance, Machine, command, move}
-use Rattle.run.specs.Turns.{holders, chosen}
+use Rattle.run.specs.Turns.{chosen}
+use Rattle.run.specs.Holders.{holders}
 use Rattle.run.specs.Run.{Outcome, Outcome.stopped, Outcome.jammed, later, run}
 use Rattle.run.specs.Settles.{Ran, Ran.ends, Ran.refuses, Ran.sticks, Ran.moves as moved, Ran.lasts, Ran.fails, Ran.jams, Ran.takes as took}
 use Rattle.run.specs.FuelLaws.{run-ran}

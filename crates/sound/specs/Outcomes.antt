@@ -18,7 +18,8 @@ use Rattle.commands.specs.Typing.{sort}
 use Rattle.words.specs.Apply.{apply}
 use Rattle.machine.specs.Rules.{meet}
 use Rattle.machine.specs.Published.{lookup, structs, arity}
-use Rattle.machine.specs.Machine.{Tagged, tagged, Instance, Machine, with-code, with-instances, with-stability, put, Out.next, Out.refused, full, read-from, read-at, read, write-to, write-parameter, write-at, write, negate, branch, operated, operate, construct}
+use Rattle.machine.specs.Machine.{Tagged, tagged, Instance, Machine, with-code, with-instances, with-stability, put, Out.next, Out.refused, read-from, read-at, read, write-to, write-parameter, write-at, write, negate, branch, operated, operate, construct}
+use Rattle.machine.specs.Stops.{full}
 use Rattle.run.specs.Begin.{resting}
 use Rattle.commands.specs.Tags.{result-type}
 
