@@ -7,7 +7,7 @@ use mathlib.Core.Logic.{_↔_}
 use mathlib.Core.List.{List, [], _∷_}
 use Rattle.commands.specs.Numbers.{Foremost}
 use Rattle.run.specs.Entry.{Checked.refused, checked, refusal, check-verdict, check-list, Begun.not-begun, begins, report, run-report, run-output, run-list}
-use Rattle.run.specs.Input.{ProgramRefuses, CheckRefuses, Refuses, program-order, check-order, order}
+use Rattle.run.specs.Input.{program-order, check-order, order}
 use Rattle.run.specs.InputProgram.{verdict-number, check-untouched}
 use Rattle.run.specs.InputLaws.{begins-number, refusal-untouched}
 use Rattle.parts.specs.StepPart.{step-part}
@@ -18,11 +18,11 @@ use Rattle.claims.specs.JoinLaws.{listing-numbered}
 
 module _ (x list : List ℕ) where
   -- The checker: "Lowest number first, save within 2/3, 4/5, 11/12"
-  pub check-refused-exactly : (n : ℕ) → (check-verdict x list ≡ refusal n) ↔ Foremost (CheckRefuses x list) check-order n
+  pub check-refused-exactly : (n : ℕ) → (check-verdict x list ≡ refusal n) ↔ Foremost (check-order x list) n
   check-refused-exactly n = verdict-number x list n
 
   -- "an input refusal leaves the whole list untouched"
-  pub check-refused-untouched : (n : ℕ) → Foremost (CheckRefuses x list) check-order n
+  pub check-refused-untouched : (n : ℕ) → Foremost (check-order x list) n
       → (check-verdict x list ≡ refusal n) × (check-list x list ≡ list)
   check-refused-untouched n q = check-untouched x list n q
 
@@ -31,15 +31,15 @@ module _ (x list : List ℕ) where
   step-refused-empty k s n e = step-refused x list k s n e
 
 -- The listing: "Refused: `refused n`"
-pub listing-refused : (x : List ℕ) (n : ℕ) → Foremost (ProgramRefuses x) program-order n → listing-of x ≡ row refused-word (n ∷ [])
+pub listing-refused : (x : List ℕ) (n : ℕ) → Foremost (program-order x) n → listing-of x ≡ row refused-word (n ∷ [])
 listing-refused x n q = listing-numbered x n q
 
 module _ (x y es out list : List ℕ) where
   -- The run: "Lowest number first, save within 2/3, 4/5, 11/12"
-  pub refused-exactly : (n : ℕ) → (begins x y es out list ≡ not-begun n) ↔ Foremost (Refuses x y es out list) order n
+  pub refused-exactly : (n : ℕ) → (begins x y es out list ≡ not-begun n) ↔ Foremost (order x y es out list) n
   refused-exactly n = begins-number x y es out list n
 
   -- "Each returns the number, 0 turns, 0 blocks, with the output untouched"
-  pub refused-untouched : (n : ℕ) → Foremost (Refuses x y es out list) order n
+  pub refused-untouched : (n : ℕ) → Foremost (order x y es out list) n
       → (run-report x y es out list ≡ report n 0 0 0) × (run-output x y es out list ≡ out) × (run-list x y es out list ≡ list)
   refused-untouched n q = refusal-untouched x y es out list n q

@@ -15,22 +15,23 @@ use Rattle.commands.specs.Commands.{commands}
 use Rattle.commands.specs.Context.{Ctx, context, params-of, step-of}
 use Rattle.commands.specs.Noted.{erase, noted}
 use Rattle.commands.specs.NotedLaws.{erased}
+use Rattle.commands.specs.Numbers.{NoneOf}
 use Rattle.table.specs.Table.{Record, enc-table, TableRight}
 use Rattle.machine.specs.Published.{Sched, Sched.start, Sched.start-in, State, structs}
 use Rattle.machine.specs.Machine.{Instance, Machine, machine, Out.next, move}
 use Rattle.machine.specs.Measure.{total, share, share-in}
 use Rattle.machine.specs.Represents.{Represents}
-use Rattle.run.specs.Turns.{holders}
+use Rattle.run.specs.Holders.{holders}
 use Rattle.run.specs.Run.{Outcome.stopped, run}
 use Rattle.run.specs.Settles.{Turned}
-use Rattle.run.specs.Visits.{Visits}
+use Rattle.run.specs.Visits.{Visits, turns-of}
 use Rattle.run.specs.Begin.{params-in, begin, table-of}
 use Rattle.run.specs.Initial.{initial, Comes}
-use Rattle.run.specs.PublishedVisits.{Passes, turns-of}
+use Rattle.run.specs.PublishedVisits.{Passes}
 use Rattle.run.specs.Entry.{Checked.accepted, checked, listed, approval, check-verdict, check-list, Begun.begun, begins, run-output}
-use Rattle.run.specs.Input.{Accepted as AcceptedImage, TableAccepted, CheckRefuses, Refuses, Approved, Ready, Began}
-use Rattle.run.specs.InputProgram.{checked-accepted, check-approved}
-use Rattle.run.specs.InputLaws.{begins-ready}
+use Rattle.run.specs.Input.{check-order, order, Accepted as AcceptedImage, TableAccepted, Approved, Ready, Began}
+use Rattle.run.specs.InputProgram.{checked-accepted, verdict-approved, check-approved}
+use Rattle.run.specs.InputLaws.{begins-ready, begins-none}
 use Rattle.run.specs.RunAgreesVisits.{visits-passes, passes-visits, step-turns as start-turns, step-in-turns as start-in-turns}
 use Rattle.run.specs.BeginLaws.{begin-represents, outcome-exact, comes-unique}
 use Rattle.run.specs.Answered.{Answered}
@@ -42,7 +43,7 @@ use Rattle.sound.specs.TableKept.{table-kept, table-written, nulls-kept, comes-
 use Rattle.parts.specs.StepPart.{step-part}
 use Rattle.step_lines.specs.Lines.{program-lines}
 use Rattle.listing.specs.Listings.{head, listing-of}
-use Rattle.claims.specs.JoinLaws.{approved-free, begun-free, step-handed, step-not-there, listing-accepted}
+use Rattle.claims.specs.JoinLaws.{step-handed, step-not-there, listing-accepted}
 
 -- The checker ----------------------------------------------------------------------------
 
@@ -53,8 +54,8 @@ module _ (x : List ℕ) where
 
   module _ (list : List ℕ) where
     -- the checker approves exactly where no condition of a number from the input holds,
-    pub check-approved-exactly : Approved x list (check-verdict x list) ↔ ((n : ℕ) → CheckRefuses x list n → ⊥)
-    check-approved-exactly = approved-free x list
+    pub check-approved-exactly : Approved x list (check-verdict x list) ↔ NoneOf (check-order x list)
+    check-approved-exactly = verdict-approved x list
 
     -- and then reports the program's structs, steps, commands and greatest depth; "The list holds the steps from its first place,
     -- structs in order, each struct's steps in stream order, and further places are untouched"
@@ -93,8 +94,8 @@ module _ (x y es out list : List ℕ) where
   begun-exactly p rs = begins-ready x y es out list p rs
 
   -- "where no condition of a number from the input holds"
-  pub begun-none : Began x y es out list (begins x y es out list) ↔ ((n : ℕ) → Refuses x y es out list n → ⊥)
-  begun-none = begun-free x y es out list
+  pub begun-none : Began x y es out list (begins x y es out list) ↔ NoneOf (order x y es out list)
+  begun-none = begins-none x y es out list
 
   -- where a run begins, number, turns, blocks, depth, every output byte and the list are those that the published rules come to
   pub run-published : (p : Program) (rs : List Record) → begins x y es out list ≡ begun p rs

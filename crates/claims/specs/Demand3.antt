@@ -4,17 +4,19 @@ use Prim.Native.Nat.{ℕ}
 use mathlib.Core.List.{List}
 use Rattle.program.specs.Tree.{Program}
 use Rattle.commands.specs.Bounds.{program-depth}
+use Rattle.commands.specs.Numbers.{NoneOf}
 use Rattle.table.specs.Table.{Record}
 use Rattle.machine.specs.Published.{State}
 use Rattle.machine.specs.Machine.{Machine}
 use Rattle.machine.specs.Represents.{Represents}
 use Rattle.run.specs.Initial.{initial}
 use Rattle.run.specs.PublishedVisits.{Passes}
-use Rattle.run.specs.Input.{Refuses, Ready}
+use Rattle.run.specs.Input.{order, Ready}
+use Rattle.run.specs.InputLaws.{begins-none}
 use Rattle.sound.specs.Needs.{Right}
 use Rattle.sound.specs.NeverStuck.{Demand3}
 use Rattle.claims.specs.Call.{Call}
-use Rattle.claims.specs.JoinLaws.{begun-free, ready-call, passes-right}
+use Rattle.claims.specs.JoinLaws.{ready-call, passes-right}
 
 module _ (x y es out list : List ℕ) where
   module _ (p : Program) (rs : List Record) (r : Ready x y es out list p rs) where
@@ -34,6 +36,6 @@ module _ (x y es out list : List ℕ) where
     states-right w = passes-right x y es out list p rs r w
 
   -- "A run is a call to run a program on a table and a list of turns, where no condition of a number from the input holds"
-  pub call-none : ((n : ℕ) → Refuses x y es out list n → ⊥)
+  pub call-none : NoneOf (order x y es out list)
       → (p : Program) × (rs : List Record) × Ready x y es out list p rs × Call x y es out list p rs
-  call-none f = let (p, rs, e, r) = begun-free x y es out list .1 f in (p, rs, r, ready-call x y es out list p rs r)
+  call-none f = let (p, rs, e, r) = begins-none x y es out list .1 f in (p, rs, r, ready-call x y es out list p rs r)

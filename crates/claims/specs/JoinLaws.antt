@@ -1,9 +1,7 @@
--- What the claims say in one line and the crates below in two: a condition for every number, a step by its name, a call with the run
--- that it makes.
+-- What the claims say in one line and the crates below in two: a step by its name, a call with the run that it makes.
 use Prim.Native.Nat.{ℕ, _≤_}
 use native.Mathlib.Omega.{arith}
 use mathlib.Core.Path.{_≡_, refl, sym, ap, _∙_}
-use mathlib.Core.Logic.{_↔_}
 use mathlib.Core.Bool.{Bool, true, false}
 use mathlib.Core.Option.{Option, none, some}
 use mathlib.Core.List.{List, [], _∷_, _++_, map, List·Memᴰ, List·Memᴰ·head, List·Memᴰ·tail, List·Memᴰ·not-nil}
@@ -12,7 +10,6 @@ use lib.Dec.{eqb}
 use borrow.Author.Tests.{eqb-true, eqb-false}
 use Rattle.types.specs.Limits.{max-commands}
 use Rattle.program.specs.Tree.{Stmts, Step, Program}
-use Rattle.program.specs.Counts.{All}
 use Rattle.commands.specs.Bounds.{program-depth}
 use Rattle.commands.specs.Coding.{words}
 use Rattle.commands.specs.Commands.{commands}
@@ -30,10 +27,10 @@ use Rattle.run.specs.Initial.{initial}
 use Rattle.run.specs.BeginLaws.{begin-represents, outcome-exact}
 use Rattle.run.specs.PublishedVisits.{Passes}
 use Rattle.run.specs.RunAgreesVisits.{passes-visits}
-use Rattle.run.specs.Entry.{Checked, Checked.accepted, Checked.refused, checked, begins, check-verdict, check-list}
-use Rattle.run.specs.Input.{Accepted, ProgramRefuses, CheckRefuses, CheckRefuses.of-program, CheckRefuses.list-short, Approved, Refuses, Ready, Began, program-order, check-order, order}
-use Rattle.run.specs.InputProgram.{accepted-none, checked-accepted, checked-number, verdict-approved}
-use Rattle.run.specs.InputLaws.{begins-ready, begins-none, ready-none}
+use Rattle.run.specs.Entry.{check-list}
+use Rattle.run.specs.Input.{Accepted, Ready, program-order}
+use Rattle.run.specs.InputProgram.{checked-accepted, checked-number}
+use Rattle.run.specs.InputLaws.{begins-ready}
 use Rattle.run.specs.AnsweredLaws.{comes-answered}
 use Rattle.sound.specs.Needs.{Right}
 use Rattle.sound.specs.AcceptedLaws.{ready-accepted}
@@ -44,26 +41,6 @@ use Rattle.text.specs.Listing.{row}
 use Rattle.step_lines.specs.Lines.{program-lines}
 use Rattle.listing.specs.Listings.{refused-word, head, listing, listing-of}
 use Rattle.claims.specs.Call.{Call}
-
--- No condition -------------------------------------------------------------------------
-
--- what holds of every number holds of each of a list
-any-all : {P : ℕ → Type 0} → ((m : ℕ) → P m) → (l : List ℕ) → All P l
-any-all f [] = tt
-any-all f (m ∷ l) = (f m, any-all f l)
-
--- checking approves exactly where no condition holds
-pub approved-free : (x list : List ℕ) → Approved x list (check-verdict x list) ↔ ((n : ℕ) → CheckRefuses x list n → ⊥)
-approved-free x list = (λ (p, e, a, h) n. free a h, λ f. verdict-approved x list .1 (any-all f check-order))
-  where
-    free : {p : Program} {n : ℕ} → Accepted x p → max-commands ≤ length list → CheckRefuses x list n → ⊥
-    free a h (of-program r) = accepted-none x a r
-    free a h (list-short l) = omega arith
-
--- a run begins exactly where none does
-pub begun-free : (x y es out list : List ℕ) → Began x y es out list (begins x y es out list) ↔ ((n : ℕ) → Refuses x y es out list n → ⊥)
-begun-free x y es out list =
-    (λ (p, rs, e, r) n q. ready-none x y es out list r q, λ f. begins-none x y es out list .1 (any-all f order))
 
 -- Steps --------------------------------------------------------------------------------
 
@@ -110,7 +87,7 @@ pub listing-accepted : (x : List ℕ) (p : Program) → Accepted x p → listing
 unfolding listing-of listing
 listing-accepted x p a = ap listing (checked-accepted x p .1 a)
 
-pub listing-numbered : (x : List ℕ) (n : ℕ) → Foremost (ProgramRefuses x) program-order n → listing-of x ≡ row refused-word (n ∷ [])
+pub listing-numbered : (x : List ℕ) (n : ℕ) → Foremost (program-order x) n → listing-of x ≡ row refused-word (n ∷ [])
 unfolding listing-of listing
 listing-numbered x n q = ap listing (checked-number x n .1 q)
 
