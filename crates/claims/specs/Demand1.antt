@@ -8,7 +8,7 @@ use mathlib.Core.List.{List, [], _∷_}
 use Rattle.commands.specs.Numbers.{Foremost}
 use Rattle.run.specs.Entry.{Checked.refused, checked, refusal, check-verdict, check-list, Begun.not-begun, begins, report, run-report, run-output, run-list}
 use Rattle.run.specs.Input.{program-order, check-order, order}
-use Rattle.run.specs.InputProgram.{verdict-number, check-untouched}
+use Rattle.run.specs.InputProgram.{checked-number, verdict-number, check-untouched}
 use Rattle.run.specs.InputLaws.{begins-number, refusal-untouched}
 use Rattle.parts.specs.StepPart.{step-part}
 use Rattle.parts.specs.StepPartWords.{step-refused}
@@ -30,7 +30,11 @@ module _ (x list : List ℕ) where
   pub step-refused-empty : (k s n : ℕ) → checked x ≡ refused n → step-part x list k s ≡ []
   step-refused-empty k s n e = step-refused x list k s n e
 
--- The listing: "Refused: `refused n`"
+-- The listing: an image is refused with the foremost number of 1 to 8,
+pub image-refused-exactly : (x : List ℕ) (n : ℕ) → (checked x ≡ refused n) ↔ Foremost (program-order x) n
+image-refused-exactly x n = checked-number x n
+
+-- "Refused: `refused n`"
 pub listing-refused : (x : List ℕ) (n : ℕ) → Foremost (program-order x) n → listing-of x ≡ row refused-word (n ∷ [])
 listing-refused x n q = listing-numbered x n q
 

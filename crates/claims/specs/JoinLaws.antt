@@ -1,7 +1,7 @@
 -- What the claims say in one line and the crates below in two: a step by its name, a call with the run that it makes.
 use Prim.Native.Nat.{ℕ, _≤_}
 use native.Mathlib.Omega.{arith}
-use mathlib.Core.Path.{_≡_, refl, sym, ap, _∙_}
+use mathlib.Core.Path.{_≡_, refl, sym, ap}
 use mathlib.Core.Bool.{Bool, true, false}
 use mathlib.Core.Option.{Option, none, some}
 use mathlib.Core.List.{List, [], _∷_, _++_, map, List·Memᴰ, List·Memᴰ·head, List·Memᴰ·tail, List·Memᴰ·not-nil}
@@ -22,7 +22,7 @@ use Rattle.table.specs.Table.{Record}
 use Rattle.machine.specs.Published.{State}
 use Rattle.machine.specs.Machine.{Machine}
 use Rattle.machine.specs.Represents.{Represents}
-use Rattle.run.specs.Begin.{begin, table-of}
+use Rattle.run.specs.Begin.{begin}
 use Rattle.run.specs.Initial.{initial}
 use Rattle.run.specs.BeginLaws.{begin-represents, outcome-exact}
 use Rattle.run.specs.PublishedVisits.{Passes}
