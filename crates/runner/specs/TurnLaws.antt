@@ -15,8 +15,8 @@ use Rattle.run.specs.Turns.{chosen}
 use Rattle.run.specs.Holders.{holders, holds-code}
 use Rattle.machine.specs.Stops.{ended, out-of-turns}
 use Rattle.run.specs.Run.{Outcome.stopped, run}
-use Rattle.run.specs.Settles.{Ran.ends as ran-ends, Ran.refuses as ran-refuses, Ran.lasts as ran-lasts, Ran.fails as ran-fails, Ran.takes as ran-takes}
-use Rattle.run.specs.FuelLaws.{run-moves, run-ran, ran-run}
+use Rattle.run.specs.Settles.{Ran.ends as ran-ends, Ran.refuses as ran-refuses, Ran.lasts as ran-lasts, Ran.fails as ran-fails}
+use Rattle.run.specs.FuelLaws.{ran-run}
 use Rattle.run.specs.Visits.{Visits.here, Visits.moves as visits-move, Visits.takes as visits-take}
 use Rattle.sound.specs.Conditions.{Meets, Meets.no-label, Meets.no-result}
 use Rattle.sound.specs.Advance.{Kept}
@@ -103,7 +103,7 @@ module _ {p : Program} {counts list items spans : List ℕ} {m : Machine} {z : S
             tabled = visits-tabled (r .prepared .firm) (r .good) (r .tabled) v;
             stands = S;
           })
-          (λ es. run-moves p es m (none-hold h) q)
+          (λ es. visits-move (none-hold h) q here)
       comes (refused n) q S =
           let k = move-kept p (m .sched) (m .instances) (m .stability) (r .good .all) (r .good .opened) not-done in
           let w : n ≡ nested = blocked-number (subst (Kept p (Blocked (m .sched) (m .stability))) q k) in
@@ -146,7 +146,7 @@ module _ {p : Program} {counts list items spans : List ℕ} {m : Machine} {z : S
             stands = S;
           })
           (ap (λ (l : List ℕ). command p (chosen l e) m) q ∙ c)
-          (λ es. ran-run p (ran-takes q c (run-ran p es m′) refl))
+          (λ es. visits-take q c here)
       takes h hs q i k y (refused n) c S =
           failed S (meets-number (subst (Kept p (Meets m i)) c k)) (λ es. ran-run p (ran-fails q c))
       takes h hs q i k y stuck c S = absurd S
