@@ -195,7 +195,7 @@ module _ (p : Program) (m : Machine) (l : ℕ) (s : Sched) (σ : List Inst) (b :
         let i′ : Instance = with-code i r (tagged (ref j) (label (length (m .instances))) ∷ drop (arity p j) (i .stack)) in
         let v : values (drop (arity p j) (i .stack)) ≡ χ = rw (map-drop (λ (x : Tagged). x .is), e) (drop-at (reverse xs) χ (arity p j) a) in
         let w : reverse (values (take (arity p j) (i .stack))) ≡ xs = rw (map-take (λ (x : Tagged). x .is), e, take-at (reverse xs) χ (arity p j) a) (reverse-reverse xs) in
-        rw (le-leb (arity p j) (length (i .stack)) d, lt-ltb (length (m .instances)) max-instances t, construct) (
+        rw (lt-ltb (length (m .instances)) max-instances t, le-leb (arity p j) (length (i .stack)) d, construct) (
           R .0,
           represents-append (set (m .instances) l i′) (set σ l (inst k c (label (length σ) ∷ χ) ξ)) (made p m l i j (arity p j) (i .stack)) (inst j nil [] (fresh-env xs))
               (represents-set (m .instances) σ l i′ (inst k c (label (length σ) ∷ χ) ξ) (R .1) (ek, ec, rw (q, v), eξ))
@@ -204,12 +204,11 @@ module _ (p : Program) (m : Machine) (l : ℕ) (s : Sched) (σ : List Inst) (b :
         )
 
     -- 34 and 35
-    full-is : {j : ℕ} {n : Note} {χ : List Val} → values (i .stack) ≡ χ → arity p j ≤ length χ → max-instances ≤ length σ → Means (plain (cons j)) n → perform p m l i n r ≡ refused full
+    full-is : {j : ℕ} {n : Note} → max-instances ≤ length σ → Means (plain (cons j)) n → perform p m l i n r ≡ refused full
     unfolding perform construct
-    full-is e a h (m-cons {k = j}) =
-        let d : arity p j ≤ length (i .stack) = omega (arith, ap length e, values-length (i .stack)) in
+    full-is h m-cons =
         let t : max-instances ≤ length (m .instances) = omega (arith, represents-length (m .instances) σ (R .1)) in
-        rw (le-leb (arity p j) (length (i .stack)) d, le-ltb (length (m .instances)) max-instances t, construct)
+        rw (le-ltb (length (m .instances)) max-instances t, construct)
 
     exceeded-is : {o : Op} {x y : Val} {n : Note} {χ : List Val} → values (i .stack) ≡ y ∷ x ∷ χ → Exceeds o x y → Means (plain (oper o)) n → perform p m l i n r ≡ refused exceeded
     unfolding operated
@@ -249,9 +248,9 @@ module _ (p : Program) (m : Machine) (l : ℕ) (s : Sched) (σ : List Inst) (b :
   rule-leads (ComIfF {c = c} {d = d} g e) = rw e (leads _ g refl (λ i n r ek ec ex eξ h. branch-leads i r d c false ek ec ex eξ h))
 
   -- cons with 256 instances is refused with 34
-  pub full-refused : Full p l (state s σ b) → command p l m ≡ refused full
+  pub full-refused : Full l (state s σ b) → command p l m ≡ refused full
   unfolding flatten
-  full-refused (no-label {c = c} g a f) = taken (λ o. o ≡ refused full) g refl (λ i n r ek ec ex eξ h. full-is i r c ek ec eξ ex a f h)
+  full-refused (no-label {c = c} g f) = taken (λ o. o ≡ refused full) g refl (λ i n r ek ec ex eξ h. full-is i r c ek ec eξ f h)
 
   -- a zero divisor, or a result outside its type, is refused with 35
   pub exceeded-refused : Exceeded l (state s σ b) → command p l m ≡ refused exceeded

@@ -34,7 +34,7 @@ use Rattle.commands.specs.Tags.{result-type}
 -- what an outcome says of the published state
 abbrev pub Follows : Program → ℕ → State → Out → Type 0
 Follows p l st (next m) = (st′ : State) × (Rule p (instance l) st st′) × (Represents m st′)
-Follows p l st (refused n) = ((n ≡ full) × (Full p l st)) ⊎ ((n ≡ exceeded) × (Exceeded l st))
+Follows p l st (refused n) = ((n ≡ full) × (Full l st)) ⊎ ((n ≡ exceeded) × (Exceeded l st))
 Follows p l st stuck = Unit {0}
 
 module _ (p : Program) where
@@ -128,9 +128,9 @@ module _ (p : Program) (m : Machine) (l : ℕ) (s : Sched) (σ : List Inst) (b :
           ap (meet false) (R .2),
         ),
       )
-  way-follows i r d (filled {k = k} a u) e g =
+  way-follows i r d (filled {k = k} u) e g =
       let (c, f, h) = plain-head d (cons k) (map erase r) e in
-      inl (refl, no-label (rw f at g) (rw values-length a) (rw (represents-length (m .instances) σ (R .1)) at u))
+      inl (refl, no-label (rw f at g) (rw (represents-length (m .instances) σ (R .1)) at u))
   way-follows i r d (branched {n = n} {b = true} {χ = χ} x) e g =
       let (a, c, f, h, k) = if-head d n (map erase r) e in
       put-follows (with-code i r χ) (inst (i .struct) (then a c) (values χ) (i .env)) (ComIfT (rw (f, x) at g) refl) (refl, k ∙ sym (flatten-then a c), refl, refl)

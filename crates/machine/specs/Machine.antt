@@ -173,11 +173,12 @@ module _ (p : Program) (m : Machine) (l : ℕ) (i : Instance) where
     written = [];
   }
 
+  -- whether a label is free is asked first
   unfoldable pub construct : ℕ → List Note → List Tagged → Out
   construct k c χ =
-      elim (leb (arity p k) (length χ)) [
+      elim (ltb (length (m .instances)) max-instances) [
         | true ↦
-            elim (ltb (length (m .instances)) max-instances) [
+            elim (leb (arity p k) (length χ)) [
               | true ↦
                   next
                   (with-stability
@@ -185,9 +186,9 @@ module _ (p : Program) (m : Machine) (l : ℕ) (i : Instance) where
                   (set (m .instances) l (with-code i c (tagged (ref k) (label (length (m .instances))) ∷ drop (arity p k) χ))
                   ++ made k (arity p k) χ ∷ []))
                   (meet false (m .stability)))
-              | false ↦ refused full
+              | false ↦ stuck
             ]
-        | false ↦ stuck
+        | false ↦ refused full
       ]
 
   -- one command, the rest of the code behind it

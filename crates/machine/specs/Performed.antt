@@ -78,10 +78,7 @@ pub data Performed (p : Program) (m : Machine) (l : ℕ) (i : Instance) (r : Lis
       (set (m .instances) l (with-code i r (tagged (ref k) (label (length (m .instances))) ∷ drop (arity p k) (i .stack)))
       ++ made p m l i k (arity p k) (i .stack) ∷ []))
       (meet false (m .stability))))
-  filled : {k : ℕ}
-      → arity p k ≤ length (i .stack)
-      → max-instances ≤ length (m .instances)
-      → Performed p m l i r (n-cons k) (refused full)
+  filled : {k : ℕ} → max-instances ≤ length (m .instances) → Performed p m l i r (n-cons k) (refused full)
   branched : {n : ℕ} {t : Ty} {b : Bool} {χ : List Tagged}
       → i .stack ≡ tagged t (bool-val b) ∷ χ
       → Performed p m l i r (n-if n) (next (put m l (with-code i (elim b [ true ↦ r | false ↦ drop n r ]) χ)))

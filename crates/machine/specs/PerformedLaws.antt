@@ -117,9 +117,9 @@ module _ (p : Program) (m : Machine) (l : ℕ) (i : Instance) (r : List Note) wh
     where
       go : (t : Bool) → leb (arity p k) (length (i .stack)) ≡ t → (u : Bool) → ltb (length (m .instances)) max-instances ≡ u
           → Performed p m l i r (n-cons k) (construct p m l i k r (i .stack))
-      go true a true b = rw (a, b, construct) (constructed (leb-true (arity p k) (length (i .stack)) a) (ltb-true (length (m .instances)) max-instances b))
-      go true a false b = rw (a, b, construct) (filled (leb-true (arity p k) (length (i .stack)) a) (ltb-false (length (m .instances)) max-instances b))
-      go false a u b = rw (a, construct) no-way
+      go true a true b = rw (b, a, construct) (constructed (leb-true (arity p k) (length (i .stack)) a) (ltb-true (length (m .instances)) max-instances b))
+      go false a true b = rw (b, a, construct) no-way
+      go t a false b = rw (b, construct) (filled (ltb-false (length (m .instances)) max-instances b))
 
   -- a command goes one of the ways
   pub performed : (n : Note) → Performed p m l i r n (perform p m l i n r)

@@ -82,9 +82,11 @@ module _ (p : Program) (m : Machine) (l : ℕ) (i : Instance) (c : List Note) (k
   constructs h =
       let d : drop (arity p k) ψ ≡ χ = rw s (drop-at ξ χ (arity p k) q) in
       let t : take (arity p k) ψ ≡ ξ = rw s (take-at ξ χ (arity p k) q) in
-      rw (construct, enough, h, d, t)
+      rw (construct, h, enough, d, t)
 
-  -- and none
-  pub finds-full : ltb (length (m .instances)) max-instances ≡ false → construct p m l i k c ψ ≡ refused full
-  unfolding construct
-  finds-full h = rw (construct, enough, h)
+-- cons where no label is free
+pub finds-full : (p : Program) (m : Machine) (l : ℕ) (i : Instance) (c : List Note) (k : ℕ) (χ : List Tagged)
+    → ltb (length (m .instances)) max-instances ≡ false
+    → construct p m l i k c χ ≡ refused full
+unfolding construct
+finds-full p m l i c k χ h = rw (construct, h)
