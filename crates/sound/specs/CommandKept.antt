@@ -22,7 +22,7 @@ use Rattle.words.specs.Apply.{Answer, Answer.value, Answer.outside, Answer.unfi
 use Rattle.words.specs.Ranges.{Fits as Answers}
 use Rattle.words.specs.RangesLaws.{apply-fits}
 use Rattle.machine.specs.Published.{structs, arity}
-use Rattle.machine.specs.Machine.{Tagged, tagged, Instance, Machine, with-written, put, write-to, operated, perform, command-of, command-at, command}
+use Rattle.machine.specs.Machine.{Tagged, tagged, Source.variable, Source.local, Source.result, given-by, Instance, Machine, with-written, put, write-to, operated, perform, command-of, command-at, command}
 use Rattle.machine.specs.Stops.{full, exceeded}
 use Rattle.run.specs.Begin.{resting}
 use Rattle.commands.specs.Tags.{Tags, Top, Asks, stack-after, next as leads, at-start, Way, Way.on, Way.over}
@@ -123,10 +123,11 @@ module _ {p : Program} (firm : Firm p) {m : Machine} (good : Good p m) (l : ℕ)
       let (y, z, o) =
       param-holds (m .instances) (params-of p (j .struct)) (firm .few (j .struct)) v b′ (j .env) (good .all .each t j at′ .fitted) in
       subst (Kept p Refused)
-      (sym (has-read p m l (acting (n-rd k v)) c v (typ (ctx g) k v) (s ∙ ap (λ u. tagged (x .by) u ∷ χ) q) at′ z))
-      (goes-on good l i at (n-rd k v) c (tagged (typ (ctx g) k v) y ∷ χ) g (on (way-at g firm (n-rd k v) c e)) refl refl (typ (ctx g) k v ∷ h)
+      (sym (has-read p m l (acting (n-rd k v)) c v (λ d. variable d v) (s ∙ ap (λ u. tagged (x .by) u ∷ χ) q) at′ z))
+      (goes-on good l i at (n-rd k v) c (tagged (given-by p (variable (j .struct) v)) y ∷ χ) g (on (way-at g firm (n-rd k v) c e)) refl refl
+      (typ (ctx g) k v ∷ h)
       (ap (stack-after (ctx g) (n-rd k v)) a)
-      ((refl, subst (λ d. Of (m .instances) (getD (params-of p d) v int) y) w o), r))
+      ((ap (λ d. getD (params-of p d) v int) w, subst (λ d. Of (m .instances) (getD (params-of p d) v int) y) w o), r))
 
   reads-local : (t : Ty) (v : ℕ) → Goes (n-get t v)
   unfolding perform now-written
@@ -136,7 +137,7 @@ module _ {p : Program} (firm : Firm p) {m : Machine} (good : Good p m) (l : ℕ)
       let q = own-top g u x χ s in
       let (y, z, o) = local-value g v d in
       subst (Kept p Refused)
-      (sym (has-read p m l (acting (n-get t v)) c (first-local + v) t (s ∙ ap (λ u. tagged (x .by) u ∷ χ) q) at z))
+      (sym (has-read p m l (acting (n-get t v)) c (first-local + v) (λ d. local t) (s ∙ ap (λ u. tagged (x .by) u ∷ χ) q) at z))
       (goes-on good l i at (n-get t v) c (tagged t y ∷ χ) g (on (way-at g firm (n-get t v) c e)) refl refl (t ∷ h)
       (ap (stack-after (ctx g) (n-get t v)) a)
       ((refl, subst (λ d. Of (m .instances) d y) (sym b) o), r))
@@ -216,7 +217,7 @@ module _ {p : Program} (firm : Firm p) {m : Machine} (good : Good p m) (l : ℕ)
           → x .by ≡ t
           → Each (Fits (m .instances)) h χ
           → (w : Answer) → apply o (x .is) (y .is) ≡ w → Answers u w
-          → Kept p Refused (operated p m l (acting (n-op o)) c χ (result-type (sort o) (x .by)) w)
+          → Kept p Refused (operated p m l (acting (n-op o)) c χ (result o (x .by)) w)
       go t u k h a y x χ s b r (value v) q z =
           goes-on good l i at (n-op o) c (tagged (result-type (sort o) (x .by)) v ∷ χ) g (on (way-at g firm (n-op o) c e)) refl refl
           (result-type (sort o) t ∷ h)
