@@ -115,7 +115,7 @@ module _ (p : Program) (m : Machine) (l : ℕ) {i₀ : Instance} (g : getElem? (
   fewer (constructed {k = k} a u) =
       let χ : List Tagged = tagged (ref k) (label (length (m .instances))) ∷ drop (arity p k) (i .stack) in
       omega (arith, all χ, codes-append (set (m .instances) l (with-code i r χ)) (made p m l i k (arity p k) (i .stack)))
-  fewer (filled a u) = tt
+  fewer (filled u) = tt
   fewer (branched {b = true} x) = all _
   fewer (branched {n = n} {b = false} {χ = χ} x) = kept (drop n r) χ (rw length-drop (omega arith))
   fewer no-way = tt

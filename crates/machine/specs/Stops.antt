@@ -8,10 +8,10 @@ use mathlib.Core.List.{List, _∷_}
 use lib.ListN.{length, getElem?}
 use Rattle.types.specs.Limits.{max-instances, max-stability}
 use Rattle.types.specs.Values.{Val}
-use Rattle.program.specs.Tree.{Op, Program}
+use Rattle.program.specs.Tree.{Op}
 use Rattle.commands.specs.Commands.{Com.cons, Com.oper, Coms, Coms.act}
 use Rattle.words.specs.Operators.{Exceeds}
-use Rattle.machine.specs.Published.{Sched, Sched.fixpoint, Env, Inst, Inst.inst, State, State.state, arity}
+use Rattle.machine.specs.Published.{Sched, Sched.fixpoint, Env, Inst, Inst.inst, State, State.state}
 
 -- 0 is the ended run
 abbrev pub ended : ℕ
@@ -33,13 +33,12 @@ exceeded = 35
 abbrev pub nested : ℕ
 nested = 36
 
--- 34: cons with 256 instances
-pub data Full (p : Program) (l : ℕ) : State → Type 0 where
+-- 34: cons with 256 instances, whatever operands it has
+pub data Full (l : ℕ) : State → Type 0 where
   no-label : {s : Sched} {σ : List Inst} {b : List Bool} {k j : ℕ} {c : Coms} {χ : List Val} {ξ : Env}
       → getElem? σ l ≡ some (inst k (act (cons j) c) χ ξ)
-      → arity p j ≤ length χ
       → max-instances ≤ length σ
-      → Full p l (state s σ b)
+      → Full l (state s σ b)
 
 -- 35: zero divisor, or result outside its type
 pub data Exceeded (l : ℕ) : State → Type 0 where

@@ -1,8 +1,7 @@
 -- One command of an instance, on memory (01, 'Table and turns'; 000's rules for commands). What a command needs is `Fit`: demand 3
 -- says that it is met, so nothing is tested here.
-use Prim.Native.Nat.{ℕ, zero, suc, _+_, _-_, _*_, _<_, _≤_, _%_}
-use mathlib.Core.Path.{_≡_}
-use mathlib.Core.Bool.{Bool, true, false}
+use Prim.Native.Nat.{ℕ, suc, _+_, _-_, _*_, _%_}
+use mathlib.Core.Bool.{true, false}
 use mathlib.Core.List.{List, [], _∷_}
 use lib.ListN.{length, getD, set, take, drop}
 use lib.Dec.{eqb, ltb, leb}

@@ -3,7 +3,7 @@ use Prim.Native.Nat.{ℕ}
 use mathlib.Core.Bool.{Bool, true, false}
 use mathlib.Core.List.{List, [], _∷_, map}
 use Rattle.commands.specs.Noted.{Note}
-use Rattle.machine.specs.Machine.{Instance, Machine}
+use Rattle.machine.specs.Machine.{Machine}
 use Rattle.run.specs.Turns.{labels-from}
 
 -- whether code is left

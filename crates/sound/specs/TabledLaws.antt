@@ -176,7 +176,7 @@ module _ {p : Program} (firm : Firm p) {m : Machine} (good : Good p m) (t : Tabl
       go (exceeding s a) e = tt
       go (constructed {k = k} s room) e =
           tabled-more p (own _ refl refl) _ (rw length-set room) (cons-below i e (good .all .each l i at .place))
-      go (filled s h) e = tt
+      go (filled h) e = tt
       go (branched s) e = own _ refl refl
       go no-way e = tt
 
