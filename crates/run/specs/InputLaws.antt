@@ -1,6 +1,6 @@
 -- The numbers from the input are exact (01, 'Numbers from the input'): a run is refused with a number exactly where that number's
 -- condition is foremost, and begins exactly where none holds.
-use Prim.Native.Nat.{ℕ, _*_, _<_, _≤_}
+use Prim.Native.Nat.{ℕ, _*_}
 use native.Mathlib.Omega.{arith}
 use mathlib.Core.Path.{_≡_, refl, sym, ap, subst}
 use mathlib.Core.Logic.{_↔_, _⊎_, inl, inr}
