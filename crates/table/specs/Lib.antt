@@ -1,4 +1,5 @@
 pub mod Table
+pub mod TableFaults
 pub mod TableReader
 pub mod Sizes
 pub mod ValueLaws
