@@ -1,6 +1,6 @@
--- The conditions of the numbers from the input (01, 'Numbers from the input'), and their order. Those of 4, 5, 11 and 12 are
--- equations with the readers of the streams, which tell the first offending place; the laws `program-exact` and
--- `table-answer-exact` say that the readers accept exactly the encodings. The others are in 01's words.
+-- The conditions of the numbers from the input (01, 'Numbers from the input'), and their order. Those of 4 and 5 are
+-- equations with the reader of the stream, which tells the first offending place; the law `program-exact` says that
+-- it accepts exactly the encodings. The others are in 01's words.
 use Prim.Native.Nat.{ℕ, _*_, _<_, _≤_}
 use mathlib.Core.Path.{_≡_}
 use mathlib.Core.List.{List, [], _∷_, _++_}
@@ -19,7 +19,7 @@ use Rattle.commands.specs.Bounds.{Within}
 use Rattle.commands.specs.Names.{NamesRight}
 use Rattle.commands.specs.Typing.{TypesRight}
 use Rattle.table.specs.Table.{Record, TableRight, enc-table}
-use Rattle.table.specs.TableReader.{TableAnswer.no-table, table-of-stream, table-end, table-value}
+use Rattle.table.specs.TableFaults.{TableEnds, TableOffends}
 use Rattle.run.specs.Entry.{Verdict, approval, Begun, Begun.begun}
 
 -- an image of at most max blocks, its length and every block right
@@ -55,8 +55,8 @@ pub data Refuses (x y es out list : List ℕ) : ℕ → Type 0 where
   of-program : {n : ℕ} → ProgramRefuses x n → Refuses x y es out list n
   table-length : (LengthRight table-blocks (length y) → ⊥) → Refuses x y es out list 9
   table-block : {f : Fault} → FirstFault (count y) y (count y) f → Refuses x y es out list 10
-  table-ends : {p : Program} → Reads x p → table-of-stream (p .params) (stream y) ≡ no-table table-end → Refuses x y es out list 11
-  table-values : {p : Program} → Reads x p → table-of-stream (p .params) (stream y) ≡ no-table table-value → Refuses x y es out list 12
+  table-ends : {p : Program} → Reads x p → TableEnds (p .params) (stream y) → Refuses x y es out list 11
+  table-values : {p : Program} → Reads x p → TableOffends (p .params) (stream y) → Refuses x y es out list 12
   output-short : length out < block-size * table-blocks → Refuses x y es out list 13
   list-short : length list < max-commands → Refuses x y es out list 13
   turns-many : max-turns < length es → Refuses x y es out list 14

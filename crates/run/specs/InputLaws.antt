@@ -23,6 +23,7 @@ use Rattle.commands.specs.Numbers.{Foremost}
 use Rattle.table.specs.Table.{Record}
 use Rattle.table.specs.TableReader.{TableAnswer, TableAnswer.table, TableAnswer.no-table, table-of-stream, table-end, table-value}
 use Rattle.table.specs.TableLaws.{table-answer-exact, table-numbers}
+use Rattle.table.specs.TableFaultLaws.{table-ends-exactly, table-offends-exactly}
 use Rattle.run.specs.Run.{run}
 use Rattle.run.specs.Begin.{begin}
 use Rattle.run.specs.Entry.{Checked, Checked.refused, checked, Begun, Begun.begun, Begun.not-begun, of-table, of-table-image, of-checked, with-room, begins, report, report-of, output-of, listed, run-report-by, run-output-by, run-list-by, run-report, run-output, run-list}
@@ -72,11 +73,11 @@ module _ (x y es out list : List ℕ) where
 
   ends-answer : {p : Program} → Reads x p → C 11 → table-of-stream (p .params) (stream y) ≡ no-table table-end
   ends-answer r (of-program s) = absurd (omega (arith, low x s))
-  ends-answer r (table-ends s e) = answer-of r s e
+  ends-answer r (table-ends {p = q} s e) = answer-of r s (table-ends-exactly (q .params) (stream y) .1 e)
 
   values-answer : {p : Program} → Reads x p → C 12 → table-of-stream (p .params) (stream y) ≡ no-table table-value
   values-answer r (of-program s) = absurd (omega (arith, low x s))
-  values-answer r (table-values s e) = answer-of r s e
+  values-answer r (table-values {p = q} s e) = answer-of r s (table-offends-exactly (q .params) (stream y) .1 e)
 
   abbrev from-11 : List ℕ
   from-11 = 11 ∷ 12 ∷ 13 ∷ 14 ∷ []
@@ -86,11 +87,11 @@ module _ (x y es out list : List ℕ) where
   tell-table p a i = go (table-of-stream (p .params) (stream y)) refl
     where
       numbered : (n : ℕ) → table-of-stream (p .params) (stream y) ≡ no-table n → (n ≡ table-end) ⊎ (n ≡ table-value) → Tell from-11 (not-begun n)
-      numbered n e (inl q) = rw q (here refl (table-ends (a .reads) (rw q at e)))
+      numbered n e (inl q) = rw q (here refl (table-ends (a .reads) (table-ends-exactly (p .params) (stream y) .0 (rw q at e))))
       numbered n e (inr q) =
           rw q
           (past (λ c. let d = ends-answer (a .reads) c in let z : _≡_ {A = ℕ} 11 12 = cc in omega arith)
-          (here refl (table-values (a .reads) (rw q at e))))
+          (here refl (table-values (a .reads) (table-offends-exactly (p .params) (stream y) .0 (rw q at e)))))
 
       go : (t : TableAnswer) → table-of-stream (p .params) (stream y) ≡ t → Tell from-11 (roomed (of-table p t))
       go (table rs) e =
@@ -166,11 +167,11 @@ module _ (x y es out list : List ℕ) where
   ready-none r (table-length f) = f (r .table .image .length-right)
   ready-none r (table-block {f = f} b) = no-fault y f (r .table .image .blocks-right) b
   ready-none {p} {rs} r (table-ends q e) =
-      let d = answer-of (r .program .reads) q e in
+      let d = ends-answer (r .program .reads) (table-ends q e) in
       let t = table-answer-exact (p .params) (stream y) rs .1 (r .table .right, r .table .bytes) in
       let z : _≡_ {A = ℕ} 0 1 = cc in omega arith
   ready-none {p} {rs} r (table-values q e) =
-      let d = answer-of (r .program .reads) q e in
+      let d = values-answer (r .program .reads) (table-values q e) in
       let t = table-answer-exact (p .params) (stream y) rs .1 (r .table .right, r .table .bytes) in
       let z : _≡_ {A = ℕ} 0 1 = cc in omega arith
   ready-none r (output-short h) = omega (arith, r .output-room)
