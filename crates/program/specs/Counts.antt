@@ -3,7 +3,7 @@ use Prim.Native.Nat.{ℕ, suc, max, _<_, _≤_}
 use mathlib.Core.Path.{_≡_}
 use mathlib.Core.List.{List, [], _∷_, map}
 use lib.ListN.{length, getD}
-use Rattle.types.specs.Limits.{max-structs, max-params, max-steps, step-names, max-statements, max-items, nat-end, first-local, variables, max-path, fix-levels, if-levels, expr-levels}
+use Rattle.types.specs.Limits.{max-structs, max-params, max-steps, step-names, max-statements, max-items, nat-end, first-local, max-locals, max-path, fix-levels, if-levels, expr-levels}
 use Rattle.types.specs.Types.{Ty, IsType}
 use Rattle.program.specs.Tree.{Var, Var.par, Var.loc, Expr, Expr.inv, Expr.make, Expr.path, Expr.int-lit, Expr.nat-lit, Expr.bool-lit, Expr.null, Expr.self, Expr.op, Exprs, Exprs.none, Exprs.more, Stmt, Stmt.when, Stmt.declare, Stmt.update, Stmt.create, Stmts, Stmts.end, Stmts.next, Item, Item.call, Item.call-in, Item.fix, Items, Items.stop, Items.item, Step, Program, args, size, items}
 
@@ -53,7 +53,7 @@ unfoldable mutual
 -- 0-7 a parameter by position, 8-15 a local
 unfoldable pub IsVar : Var → Type 0
 IsVar (par x) = x < first-local
-IsVar (loc x) = x < first-local
+IsVar (loc x) = x < max-locals
 
 -- 1 to 4 variables, of which only the first may be a local
 unfoldable pub IsPath : Var → List ℕ → Type 0
@@ -95,7 +95,7 @@ module _ (levels : ℕ) (ar : List ℕ) where
   unfoldable mutual
     pub CountsStmtTo : Stmt → Type 0
     CountsStmtTo (when e b) = (CountsExpr ar e) × (height e ≤ levels) × (size b ≤ max-statements) × (CountsStmtsTo b)
-    CountsStmtTo (declare t x e) = (IsType (length ar) t) × (x < first-local) × (CountsExpr ar e) × (height e ≤ levels)
+    CountsStmtTo (declare t x e) = (IsType (length ar) t) × (x < max-locals) × (CountsExpr ar e) × (height e ≤ levels)
     CountsStmtTo (update v vs e) = (IsPath v vs) × (CountsExpr ar e) × (height e ≤ levels)
     CountsStmtTo (create k es) = (k < length ar) × (args es ≡ getD ar k 0) × (CountsExprs ar es) × (heights es ≤ levels)
 
