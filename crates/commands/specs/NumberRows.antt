@@ -1,4 +1,4 @@
--- Programs and their numbers, by computation (01, 'Bench rows'; numbers 6, 7 and 8).
+-- Rows that pin what no law does: programs and their numbers, by computation (01, numbers 6, 7 and 8, 'Names, types, commands').
 use Prim.Native.Nat.{ℕ, zero, suc}
 use mathlib.Core.Path.{_≡_, refl}
 use mathlib.Core.List.{List, [], _∷_}
@@ -100,12 +100,8 @@ row p n = record { tree = p; number = n }
 
 unfoldable rows : List Row
 rows =
-    -- P; its update eight times, 64 commands; a construct statement behind, 65
-    row (program (load-prev ∷ []) ((step 0 (only P-update) ∷ []) ∷ []) once) 0
-    ∷ row (benched (statements 8 P-update end)) 0
-    ∷ row (benched (statements 8 P-update (only (create 1 none)))) 6
     -- 14 and 15 labels below a literal update, depth 16 and 17; the same where an if leaves them
-    ∷ row (benched (statements 14 (create 1 none) (only literal))) 0
+    row (benched (statements 14 (create 1 none) (only literal))) 0
     ∷ row (benched (statements 15 (create 1 none) (only literal))) 6
     ∷ row (benched (next (when yes-bool (statements 14 (create 1 none) end)) (only literal))) 0
     ∷ row (benched (next (when yes-bool (statements 15 (create 1 none) end)) (only literal))) 6

@@ -6,7 +6,7 @@ use mathlib.Core.Option.{Option, none, some}
 use mathlib.Core.List.{List, [], _∷_}
 use lib.ListN.{length, getD, getElem?, set, replicate}
 use lib.Dec.{ltb}
-use Rattle.types.specs.Limits.{first-local}
+use Rattle.types.specs.Limits.{first-local, max-locals}
 use Rattle.types.specs.Types.{Ty}
 use Rattle.types.specs.Values.{Val}
 use Rattle.program.specs.Tree.{Item, Item.call, Item.call-in, Item.fix, Items, Items.stop, Items.item, Program}
@@ -53,7 +53,7 @@ assign (env ps ls) v x =
 
 -- parameters of these values, and no local written
 abbrev pub fresh-env : List Val → Env
-fresh-env vs = env vs (replicate first-local none)
+fresh-env vs = env vs (replicate max-locals none)
 
 -- 000, definition 3: struct, commands left, stack with its top first, environment
 pub data Inst : Type 0 where

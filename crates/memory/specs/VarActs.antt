@@ -9,7 +9,7 @@ use mathlib.Core.List.{List, _∷_}
 use lib.ListN.{length, getD, getElem?, set}
 use lib.Dec.{eqb, ltb}
 use borrow.Author.Tests.{lt-ltb, le-ltb}
-use Rattle.types.specs.Limits.{max-depth, first-local, variables}
+use Rattle.types.specs.Limits.{max-depth, first-local, max-locals, variables}
 use Rattle.types.specs.Types.{Ty, Ty.int}
 use Rattle.types.specs.Values.{Val, Val.label, word}
 use Rattle.program.specs.Tree.{Program}
@@ -225,6 +225,6 @@ module _ {p : Program} {counts : List ℕ} (firm : Firm p) (bound : Bounded p co
   unfolding perform
   writes-own d t v e =
       let (x, y, χ, s, q) = own-local d t v (actor-needs firm bound good l i at (n-set d t v) c e) in
-      let b : v < first-local = actor-sized firm bound good l i at (n-set d t v) c e in
+      let b : v < max-locals = actor-sized firm bound good l i at (n-set d t v) c e in
       let few : length (params-of p (i .struct)) ≤ first-local = firm .few (i .struct) in
       writes-var (n-set d t v) e (first-local + v) (omega arith) y x χ s l q i at (le-ltb (first-local + v) (arity p (i .struct)) (omega arith))

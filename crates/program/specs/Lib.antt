@@ -1,6 +1,8 @@
 pub mod Tree
 pub mod Encoding
 pub mod Counts
+pub mod Levels
+pub mod Fronts
 pub mod Reader
 pub mod Exact
 pub mod StandsLaws

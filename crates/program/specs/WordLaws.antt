@@ -5,7 +5,7 @@ use native.Mathlib.Nat.{pow-suc}
 use mathlib.Core.Path.{_≡_, refl}
 use mathlib.Core.List.{[], _∷_}
 use lib.ListN.{length}
-use Rattle.types.specs.Limits.{first-local, variables, max-path}
+use Rattle.types.specs.Limits.{first-local, max-locals, variables, max-path}
 use Rattle.types.specs.Types.{code, IsType, type-of}
 use Rattle.program.specs.Encoding.{enc-word, var-code, enc-path}
 use Rattle.program.specs.Counts.{IsVar, IsPath}
@@ -58,7 +58,7 @@ var-exact =
     (λ v h. var-code-of v h)
 
 -- a declared local
-pub local-exact : Exact (λ x. x < first-local) (λ x. (first-local + x) ∷ []) read-local
+pub local-exact : Exact (λ x. x < max-locals) (λ x. (first-local + x) ∷ []) read-local
 unfolding read-local
 local-exact =
     made-exact (ranged-exact first-local variables) (λ b. b - first-local) (λ x. first-local + x)

@@ -1,6 +1,6 @@
--- The conditions of the numbers from the input, and their order (01, 'Numbers from the input'). Those of 4, 5, 11 and 12 are
--- equations with the readers of the streams, which tell the first offending place; the laws `program-exact` and
--- `table-answer-exact` say that the readers accept exactly the encodings. The others are in 01's words.
+-- The conditions of the numbers from the input, and their order (01, 'Numbers from the input'). Those of 4 and 5 are
+-- equations with the reader of the stream, which tells the first offending place; the law `program-exact` says that it accepts
+-- exactly the encodings. The others are in 01's words.
 use Prim.Native.Nat.{ℕ, _*_, _<_, _≤_}
 use mathlib.Core.Path.{_≡_}
 use mathlib.Core.List.{List, [], _∷_, _++_}
@@ -20,7 +20,7 @@ use Rattle.commands.specs.Names.{NamesRight}
 use Rattle.commands.specs.Typing.{TypesRight}
 use Rattle.commands.specs.Numbers.{Order}
 use Rattle.table.specs.Table.{Record, TableRight, enc-table}
-use Rattle.table.specs.TableReader.{TableAnswer.no-table, table-of-stream, table-end, table-value}
+use Rattle.table.specs.TableFaults.{TableEnds, TableOffends}
 use Rattle.run.specs.Entry.{Verdict, approval, Begun, Begun.begun}
 
 -- an image of at most max blocks, its length and every block right
@@ -68,10 +68,10 @@ WrongTypes x = (p : Program) × (Reads x p) × (TypesRight p → ⊥)
 
 -- the stream of a table, under that program, ends early or goes on after its end; has an N, a struct byte or a value not allowed
 abbrev pub TableWrongEnd : List ℕ → List ℕ → Type 0
-TableWrongEnd x y = (p : Program) × (Reads x p) × (table-of-stream (p .params) (stream y) ≡ no-table table-end)
+TableWrongEnd x y = (p : Program) × (Reads x p) × (TableEnds (p .params) (stream y))
 
 abbrev pub TableWrongValue : List ℕ → List ℕ → Type 0
-TableWrongValue x y = (p : Program) × (Reads x p) × (table-of-stream (p .params) (stream y) ≡ no-table table-value)
+TableWrongValue x y = (p : Program) × (Reads x p) × (TableOffends (p .params) (stream y))
 
 -- the output is under 8,704 bytes; the list has places for fewer than 1,024 commands; over 65,536 turns are given
 abbrev pub ShortOutput : List ℕ → Type 0

@@ -1,6 +1,6 @@
 -- The numbers from the input are exact (01, 'Numbers from the input'): a run is refused with a number exactly where that number's
 -- condition is foremost, and begins exactly where none holds.
-use Prim.Native.Nat.{ℕ, _*_, _<_, _≤_}
+use Prim.Native.Nat.{ℕ, _*_}
 use native.Mathlib.Omega.{arith}
 use mathlib.Core.Path.{_≡_, refl, sym, ap, subst}
 use mathlib.Core.Logic.{_↔_, _⊎_, inl, inr}
@@ -24,6 +24,7 @@ use Rattle.commands.specs.NumbersLaws.{foremost-some}
 use Rattle.table.specs.Table.{Record}
 use Rattle.table.specs.TableReader.{TableAnswer, TableAnswer.table, TableAnswer.no-table, table-of-stream, table-end, table-value}
 use Rattle.table.specs.TableLaws.{table-answer-exact, table-numbers}
+use Rattle.table.specs.TableFaultLaws.{table-ends-exactly, table-offends-exactly, ends-or-offends, right-not-ends, right-not-offends}
 use Rattle.run.specs.Run.{run}
 use Rattle.run.specs.Begin.{begin}
 use Rattle.run.specs.Entry.{Checked, Checked.refused, checked, Begun, Begun.begun, Begun.not-begun, of-table, of-table-image, of-checked, with-room, begins, report, report-of, output-of, listed, run-report-by, run-output-by, run-list-by, run-report, run-output, run-list}
@@ -58,17 +59,11 @@ module _ (x y es out list : List ℕ) where
           (p, rs, refl, record { program = a; table = t; output-room = omega arith; list-room = omega arith; turns-few = omega arith })
 
   -- 11 and 12
-  ends-answer : {p : Program} → Reads x p → TableWrongEnd x y → table-of-stream (p .params) (stream y) ≡ no-table table-end
-  ends-answer r c = rw (one-program r (c .1)) (c .2)
+  no-11 : {p : Program} {rs : List Record} → Reads x p → TableAccepted p y rs → TableWrongEnd x y → ⊥
+  no-11 {p} {rs} r t c = right-not-ends (p .params) (stream y) rs (t .right) (t .bytes) (rw (one-program r (c .1)) (c .2))
 
-  values-answer : {p : Program} → Reads x p → TableWrongValue x y → table-of-stream (p .params) (stream y) ≡ no-table table-value
-  values-answer r c = rw (one-program r (c .1)) (c .2)
-
-  no-11 : {p : Program} {rs : List Record} → Reads x p → table-of-stream (p .params) (stream y) ≡ table rs → TableWrongEnd x y → ⊥
-  no-11 r e c = let d = ends-answer r c in let z : _≡_ {A = ℕ} 0 1 = cc in omega arith
-
-  no-12 : {p : Program} {rs : List Record} → Reads x p → table-of-stream (p .params) (stream y) ≡ table rs → TableWrongValue x y → ⊥
-  no-12 r e c = let d = values-answer r c in let z : _≡_ {A = ℕ} 0 1 = cc in omega arith
+  no-12 : {p : Program} {rs : List Record} → Reads x p → TableAccepted p y rs → TableWrongValue x y → ⊥
+  no-12 {p} {rs} r t c = right-not-offends (p .params) (stream y) rs (t .right) (t .bytes) (rw (one-program r (c .1)) (c .2))
 
   abbrev from-11 : Order
   from-11 = (11, TableWrongEnd x y) ∷ (12, TableWrongValue x y) ∷ from-13
@@ -78,16 +73,18 @@ module _ (x y es out list : List ℕ) where
   tell-table p a i = go (table-of-stream (p .params) (stream y)) refl
     where
       numbered : (n : ℕ) → table-of-stream (p .params) (stream y) ≡ no-table n → (n ≡ table-end) ⊎ (n ≡ table-value) → Tell from-11 (not-begun n)
-      numbered n e (inl q) = rw q (here refl (p, a .reads, rw q at e))
+      numbered n e (inl q) = rw q (here refl (p, a .reads, table-ends-exactly (p .params) (stream y) .0 (rw q at e)))
       numbered n e (inr q) =
+          let offends = table-offends-exactly (p .params) (stream y) .0 (rw q at e) in
           rw q
-          (past (λ c. let d = ends-answer (a .reads) c in let z : _≡_ {A = ℕ} 11 12 = cc in omega arith)
-          (here refl (p, a .reads, rw q at e)))
+          (past (λ c. ends-or-offends (p .params) (stream y) (rw (one-program (a .reads) (c .1)) (c .2)) offends)
+          (here refl (p, a .reads, offends)))
 
       go : (t : TableAnswer) → table-of-stream (p .params) (stream y) ≡ t → Tell from-11 (roomed (of-table p t))
       go (table rs) e =
           let q = table-answer-exact (p .params) (stream y) rs .0 e in
-          past (no-11 (a .reads) e) (past (no-12 (a .reads) e) (tell-room p rs a (record { image = i; right = q .0; bytes = q .1 })))
+          let t : TableAccepted p y rs = record { image = i; right = q .0; bytes = q .1 } in
+          past (no-11 (a .reads) t) (past (no-12 (a .reads) t) (tell-room p rs a t))
       go (no-table n) e = numbered n e (table-numbers (p .params) (stream y) n e)
 
   -- 9 and 10
@@ -129,16 +126,15 @@ module _ (x y es out list : List ℕ) where
 
   -- what is ready meets no condition
   pub ready-none : {p : Program} {rs : List Record} → Ready x y es out list p rs → NoneOf (order x y es out list)
-  ready-none {p} {rs} r =
-      let t = table-answer-exact (p .params) (stream y) rs .1 (r .table .right, r .table .bytes) in
+  ready-none r =
       none-behind (program-order x) from-9 (accepted-none x (r .program)) (
         λ f. f (r .table .image .length-right),
         (
           λ b. no-fault y (b .0) (r .table .image .blocks-right) (b .1),
           (
-            no-11 (r .program .reads) t,
+            no-11 (r .program .reads) (r .table),
             (
-              no-12 (r .program .reads) t,
+              no-12 (r .program .reads) (r .table),
               (λ h. omega (arith, r .output-room), (λ h. omega (arith, r .list-room), (λ h. omega (arith, r .turns-few), tt)))
             )
           )

@@ -2,7 +2,7 @@
 use Prim.Native.Nat.{ℕ}
 use mathlib.Core.Path.{_≡_, refl, sym, ap, subst, _∙_}
 use mathlib.Core.Logic.{_↔_}
-use mathlib.Core.List.{List, [], _∷_, _++_}
+use mathlib.Core.List.{[], _∷_, _++_}
 use Rattle.commands.specs.Numbers.{Order, NoneOf, Foremost}
 use Rattle.commands.specs.NumbersLaws.{at-first, behind-first, foremost-unique, foremost-some}
 

@@ -1,6 +1,6 @@
 -- Checking a program image is exact (01, 1 to 8 and 13 of 'Numbers from the input'): it is refused with a number exactly where
 -- that number's condition is foremost, and accepted exactly where it meets 01's conditions.
-use Prim.Native.Nat.{ℕ, _≤_, _<_}
+use Prim.Native.Nat.{ℕ, _≤_}
 use native.Mathlib.Omega.{arith}
 use mathlib.Core.Path.{_≡_, refl, sym, ap, subst, _∙_}
 use mathlib.Core.Logic.{_↔_}
@@ -9,7 +9,7 @@ use mathlib.Core.List.{List, [], _∷_}
 use lib.ListN.{length}
 use borrow.Author.Tests.{le-ltb}
 use Rattle.types.specs.Limits.{program-blocks, max-commands}
-use Rattle.blocks.specs.Images.{LengthRight, count, stream, fault}
+use Rattle.blocks.specs.Images.{count, stream, fault}
 use Rattle.blocks.specs.Faults.{AllRight, FirstFault, Says}
 use Rattle.blocks.specs.FaultLaws.{first-exact, fault-says}
 use Rattle.blocks.specs.declared.Fault.{Fault}
@@ -18,9 +18,9 @@ use Rattle.blocks.specs.declared.Found.{Found}
 use Rattle.blocks.specs.declared.Found.the-variants.{Right, Wrong}
 use Rattle.program.specs.Tree.{Program}
 use Rattle.program.specs.Encoding.{enc-program}
-use Rattle.program.specs.Counts.{All, Counts}
+use Rattle.program.specs.Counts.{Counts}
 use Rattle.program.specs.Exact.{Refused, Refused.not-allowed, Refused.ends-early, Refused.goes-on}
-use Rattle.program.specs.Reader.{Result, Result.ok, Result.bad, read, wrong-end, wrong-byte}
+use Rattle.program.specs.Reader.{Result, Result.ok, Result.bad, read}
 use Rattle.program.specs.ProgramLaws.{program-law, enc-injective, program-refused}
 use Rattle.commands.specs.Bounds.{Within}
 use Rattle.commands.specs.Names.{NamesRight}
@@ -33,7 +33,7 @@ use Rattle.commands.specs.TypingDecideLaws.{types-reflects}
 use Rattle.commands.specs.Numbers.{Order, NoneOf, Foremost, program-number}
 use Rattle.commands.specs.NumbersLaws.{number-accepted, number-limits, number-names, number-types, foremost-some}
 use Rattle.run.specs.Entry.{Checked, Checked.accepted, Checked.refused, judge, of-read, of-image, checked, Verdict, refusal, approval, verdict-of, check-verdict, list-of, listed, check-list, no-room}
-use Rattle.run.specs.Input.{ImageRight, Reads, Accepted, Approved, WrongSums, WrongEnd, WrongByte, OverLimits, WrongNames, WrongTypes, ShortList, program-order, check-order}
+use Rattle.run.specs.Input.{ImageRight, Reads, Accepted, Approved, WrongEnd, WrongByte, OverLimits, WrongNames, WrongTypes, ShortList, program-order, check-order}
 use Rattle.run.specs.InputOrder.{none-behind, foremost-front, Tells, Tells.refuses, Tells.passes, here, past, past-all, tells-number, tells-none}
 
 -- one program is read from an image

@@ -10,10 +10,10 @@ pub mod EntryStreams
 pub mod EntryStreamLaws
 pub mod RowsOpen
 pub mod RowPrograms
-pub mod Rows
 pub mod Swept
-pub mod RowsOfImages
-pub mod RowsKept
+pub mod RowLaws
+pub mod Bench
+pub mod Rows
 pub mod Input
 pub mod InputOrder
 pub mod InputProgram

@@ -6,7 +6,7 @@ use mathlib.Core.Bool.{true}
 use mathlib.Core.Option.{some}
 use mathlib.Core.List.{List, [], _∷_, List·Memᴰ}
 use lib.ListN.{length, getElem?}
-use Rattle.types.specs.Limits.{first-local}
+use Rattle.types.specs.Limits.{first-local, max-locals}
 use Rattle.types.specs.Types.{Ty, Ty.int}
 use Rattle.types.specs.Values.{Val, Val.label}
 use Rattle.program.specs.Tree.{Stmts, Program}
@@ -24,7 +24,7 @@ Fits is t x = (x .by ≡ t) × (Of is t (x .is))
 
 -- an environment with these parameter types and a slot for each local
 abbrev pub Fitted : List Instance → List Ty → Env → Type 0
-Fitted is ts (env ps ls) = (Each (Of is) ts ps) × (length ls ≡ first-local)
+Fitted is ts (env ps ls) = (Each (Of is) ts ps) × (length ls ≡ max-locals)
 
 -- instance l stands at a place that its step's commands lead to; after a push this its own label is on top; each local written
 -- in this passage holds a value of its type

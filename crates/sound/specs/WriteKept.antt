@@ -8,7 +8,7 @@ use mathlib.Core.Option.{some}
 use mathlib.Core.Logic.{_⊎_, inl, inr}
 use mathlib.Core.List.{List, List·Memᴰ, List·Memᴰ·cases-cons}
 use lib.ListN.{length, getD, getElem?, set}
-use Rattle.types.specs.Limits.{first-local}
+use Rattle.types.specs.Limits.{first-local, max-locals}
 use Rattle.types.specs.Types.{Ty, Ty.int}
 use Rattle.types.specs.Values.{Val}
 use Rattle.program.specs.Tree.{Program}
@@ -107,7 +107,7 @@ module _ {p : Program} (firm : Firm p) (m : Machine) (l : ℕ) (i : Instance) (a
         opened = rw (meet-length t (m .stability)) (good .opened);
       }
 
-  module _ (good : Good p m) (g : Passage p (m .instances) l i) (d : Bool) (t : Ty) (y : ℕ) (small : y < first-local) (same : t ≡ body-local (g .body) y int) where
+  module _ (good : Good p m) (g : Passage p (m .instances) l i) (d : Bool) (t : Ty) (y : ℕ) (small : y < max-locals) (same : t ≡ body-local (g .body) y int) where
     -- a local of the actor
     pub local-kept-good : (c : List Note) → Way (ctx g) (noted (ctx g) (g .body)) at-start c (leads (ctx g) (n-set d t y) (g .place))
         → (ts : List Ty) → stack-after (ctx g) (n-set d t y) (g .place .stack) ≡ ts
