@@ -10,11 +10,10 @@ use Rattle.run.specs.Entry.{Checked.refused, checked, refusal, check-verdict, c
 use Rattle.run.specs.Input.{program-order, check-order, order}
 use Rattle.run.specs.InputProgram.{checked-number, verdict-number, check-untouched}
 use Rattle.run.specs.InputLaws.{begins-number, refusal-untouched}
-use Rattle.parts.specs.StepPart.{step-part}
-use Rattle.parts.specs.StepPartWords.{step-refused}
+use Rattle.parts.specs.StepPart.{step-place, step-part}
 use Rattle.text.specs.Listing.{row}
 use Rattle.listing.specs.Listings.{refused-word, listing-of}
-use Rattle.claims.specs.JoinLaws.{listing-numbered}
+use Rattle.claims.specs.JoinLaws.{step-numbered, listing-numbered}
 
 module _ (x list : List ℕ) where
   -- The checker: "Lowest number first, save within 2/3, 4/5, 11/12"
@@ -26,9 +25,10 @@ module _ (x list : List ℕ) where
       → (check-verdict x list ≡ refusal n) × (check-list x list ≡ list)
   check-refused-untouched n q = check-untouched x list n q
 
-  -- The step entry: of a refused image no commands are handed out
-  pub step-refused-empty : (k s n : ℕ) → checked x ≡ refused n → step-part x list k s ≡ []
-  step-refused-empty k s n e = step-refused x list k s n e
+  -- The step entry: the number is the checker's, and no commands are handed out
+  pub step-refused-empty : (k s n : ℕ) → Foremost (check-order x list) n
+      → (step-place x list k s .number ≡ n) × (step-part x list k s ≡ [])
+  step-refused-empty k s n q = step-numbered x list k s n q
 
 -- The listing: an image is refused with the foremost number of 1 to 8,
 pub image-refused-exactly : (x : List ℕ) (n : ℕ) → (checked x ≡ refused n) ↔ Foremost (program-order x) n

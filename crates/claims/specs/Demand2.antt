@@ -40,7 +40,7 @@ use Rattle.sound.specs.Accepted.{Accepted}
 use Rattle.sound.specs.AcceptedLaws.{ready-accepted}
 use Rattle.sound.specs.NeverStuckLaws.{demand3, demand3-comes}
 use Rattle.sound.specs.TableKept.{table-kept, table-written, nulls-kept, comes-written, output-length}
-use Rattle.parts.specs.StepPart.{step-part}
+use Rattle.parts.specs.StepPart.{step-place, step-part}
 use Rattle.step_lines.specs.Lines.{program-lines}
 use Rattle.listing.specs.Listings.{head, listing-of}
 use Rattle.claims.specs.JoinLaws.{step-handed, step-not-there, listing-accepted}
@@ -69,16 +69,18 @@ module _ (x : List ℕ) where
 pub commands-published : (G : Ctx) (b : Stmts) → map erase (noted G b) ≡ commands b
 commands-published = erased
 
-module _ (x list : List ℕ) (p : Program) (a : AcceptedImage x p) (k n : ℕ) where
+module _ (x list : List ℕ) (p : Program) (a : AcceptedImage x p) (h : max-commands ≤ length list) (k n : ℕ) where
   -- "The commands of one step are handed out as that part of the lent command list": of the list that a check of the image filled, the
   -- part for step n of struct k is the words of 000's definition 2, which are the commands that a run takes
-  pub step-published : max-commands ≤ length list → {b : Stmts} → step-of p k n ≡ some b
-      → (step-part x (check-list x list) k n ≡ words (commands b)) × (map erase (noted (context p k b) b) ≡ commands b)
-  step-published h e = step-handed x list p a k n h e
+  pub step-published : {b : Stmts} → step-of p k n ≡ some b
+      → (step-place x (check-list x list) k n .number ≡ 0)
+      × (step-part x (check-list x list) k n ≡ words (commands b))
+      × (map erase (noted (context p k b) b) ≡ commands b)
+  step-published e = step-handed x list p a h k n e
 
   -- "a step that isn't there gives an empty part"
-  pub step-absent-empty : step-of p k n ≡ none → step-part x list k n ≡ []
-  step-absent-empty e = step-not-there x list p a k n e
+  pub step-absent-empty : step-of p k n ≡ none → (step-place x list k n .number ≡ 0) × (step-part x list k n ≡ [])
+  step-absent-empty e = step-not-there x list p a h k n e
 
 -- The listing ------------------------------------------------------------------------------
 

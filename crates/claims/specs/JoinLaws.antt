@@ -1,13 +1,13 @@
 -- What the claims say in one line and the crates below in two: a step by its name, a call with the run that it makes.
 use Prim.Native.Nat.{ℕ, _≤_}
 use native.Mathlib.Omega.{arith}
-use mathlib.Core.Path.{_≡_, refl, sym, ap}
+use mathlib.Core.Path.{_≡_, refl, sym, ap, _∙_}
 use mathlib.Core.Bool.{Bool, true, false}
 use mathlib.Core.Option.{Option, none, some}
 use mathlib.Core.List.{List, [], _∷_, _++_, map, List·Memᴰ, List·Memᴰ·head, List·Memᴰ·tail, List·Memᴰ·not-nil}
 use lib.ListN.{length, getD}
-use lib.Dec.{eqb}
-use borrow.Author.Tests.{eqb-true, eqb-false}
+use lib.Dec.{eqb, ltb}
+use borrow.Author.Tests.{eqb-true, eqb-false, ltb-true, ltb-false}
 use Rattle.types.specs.Limits.{max-commands}
 use Rattle.program.specs.Tree.{Stmts, Step, Program}
 use Rattle.commands.specs.Bounds.{program-depth}
@@ -18,6 +18,7 @@ use Rattle.commands.specs.Names.{step-names}
 use Rattle.commands.specs.Noted.{erase, noted}
 use Rattle.commands.specs.NotedLaws.{erased}
 use Rattle.commands.specs.Numbers.{Foremost}
+use Rattle.commands.specs.NumbersLaws.{foremost-some}
 use Rattle.table.specs.Table.{Record}
 use Rattle.machine.specs.Published.{State}
 use Rattle.machine.specs.Machine.{Machine}
@@ -27,16 +28,16 @@ use Rattle.run.specs.Initial.{initial}
 use Rattle.run.specs.BeginLaws.{begin-represents, outcome-exact}
 use Rattle.run.specs.PublishedVisits.{Passes}
 use Rattle.run.specs.RunAgreesVisits.{passes-visits}
-use Rattle.run.specs.Entry.{check-list}
-use Rattle.run.specs.Input.{Accepted, Ready, program-order}
-use Rattle.run.specs.InputProgram.{checked-accepted, checked-number}
+use Rattle.run.specs.Entry.{Checked, Checked.accepted, Checked.refused, checked, no-room, Verdict, refusal, verdict-of, check-verdict, check-list}
+use Rattle.run.specs.Input.{Accepted, Ready, program-order, check-order}
+use Rattle.run.specs.InputProgram.{checked-accepted, checked-number, verdict-number, verdict-approved, check-approved}
 use Rattle.run.specs.InputLaws.{begins-ready}
 use Rattle.run.specs.AnsweredLaws.{comes-answered}
 use Rattle.sound.specs.Needs.{Right}
 use Rattle.sound.specs.AcceptedLaws.{ready-accepted}
 use Rattle.sound.specs.NeverStuckLaws.{demand3}
-use Rattle.parts.specs.StepPart.{step-part}
-use Rattle.parts.specs.StepPartWords.{step-words, step-absent}
+use Rattle.parts.specs.StepPart.{step-place, step-part}
+use Rattle.parts.specs.StepPartWords.{step-words, step-absent, step-refused, step-short}
 use Rattle.text.specs.Listing.{row}
 use Rattle.step_lines.specs.Lines.{program-lines}
 use Rattle.listing.specs.Listings.{refused-word, head, listing, listing-of}
@@ -68,17 +69,42 @@ step-unnamed (t ∷ ts) n e m = go (eqb (t .name) n) refl e m (λ e. step-unname
     go false i e (List·Memᴰ·head a) k = eqb-false (t .name) n i (sym a)
     go false i e (List·Memᴰ·tail m) k = k e m
 
-module _ (x list : List ℕ) (p : Program) (a : Accepted x p) (k n : ℕ) where
+module _ (x list : List ℕ) (p : Program) (a : Accepted x p) (h : max-commands ≤ length list) (k n : ℕ) where
   -- of the list that a check filled, the part of a step is the words of its commands, and these are the ones that a run takes
-  pub step-handed : max-commands ≤ length list → {b : Stmts} → step-of p k n ≡ some b
-      → (step-part x (check-list x list) k n ≡ words (commands b)) × (map erase (noted (context p k b) b) ≡ commands b)
-  step-handed h {b} e =
+  pub step-handed : {b : Stmts} → step-of p k n ≡ some b
+      → (step-place x (check-list x list) k n .number ≡ 0)
+      × (step-part x (check-list x list) k n ≡ words (commands b))
+      × (map erase (noted (context p k b) b) ≡ commands b)
+  step-handed {b} e =
       let (t, m, q, w) = step-named (getD (p .steps) k []) n e in
-      (rw (q, w) at (step-words x list p k t (checked-accepted x p .1 a) h m), erased (context p k b) b)
+      let (c, d) = rw (q, w) at (step-words x list p k t (checked-accepted x p .1 a) h m) in
+      (c, d, erased (context p k b) b)
 
   -- a step that is not there has an empty part
-  pub step-not-there : step-of p k n ≡ none → step-part x list k n ≡ []
-  step-not-there e = step-absent x list k n p (checked-accepted x p .1 a) (step-unnamed (getD (p .steps) k []) n e)
+  pub step-not-there : step-of p k n ≡ none → (step-place x list k n .number ≡ 0) × (step-part x list k n ≡ [])
+  step-not-there e = step-absent x list k n p (checked-accepted x p .1 a) h (step-unnamed (getD (p .steps) k []) n e)
+
+-- where the check refuses, so does the step entry: the same number, and an empty part
+pub step-numbered : (x list : List ℕ) (k s n : ℕ) → Foremost (check-order x list) n
+    → (step-place x list k s .number ≡ n) × (step-part x list k s ≡ [])
+unfolding check-verdict verdict-of
+step-numbered x list k s n q = go (checked x) refl (ltb (length list) max-commands) refl
+  where
+    -- the verdict has the number
+    says : (m : ℕ) → check-verdict x list ≡ refusal m → m ≡ n
+    says m e = ap (λ (v : Verdict). v .number) (sym e ∙ verdict-number x list n .1 q)
+
+    go : (c : Checked) → checked x ≡ c → (t : Bool) → ltb (length list) max-commands ≡ t
+        → (step-place x list k s .number ≡ n) × (step-part x list k s ≡ [])
+    go (refused m) e t l = rw (says m (ap (λ (c : Checked). verdict-of c list) e)) at (step-refused x list k s m e)
+    go (accepted p) e true l =
+        let h = ltb-true _ _ l in
+        let v = ap (λ (c : Checked). verdict-of c list) e ∙ rw (l, verdict-of) in
+        rw (says no-room v) at (step-short x list k s p e h)
+    go (accepted p) e false l =
+        let a = checked-accepted x p .0 e in
+        let h = ltb-false _ _ l in
+        absurd (foremost-some q (verdict-approved x list .0 (p, check-approved x list p a h .0, a, h)))
 
 -- Listings -----------------------------------------------------------------------------
 
