@@ -8,8 +8,11 @@ pub mod Exact
 pub mod StandsLaws
 pub mod PartLaws
 pub mod JoinLaws
+pub mod Follows
+pub mod FollowsLaws
 pub mod CodeLaws
 pub mod WordLaws
+pub mod WordFollows
 pub mod ExprLaws
 pub mod StmtLaws
 pub mod ItemLaws
