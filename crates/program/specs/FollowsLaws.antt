@@ -5,116 +5,23 @@ use native.Mathlib.Omega.{arith}
 use native.Mathlib.Decide.{decLt}
 use native.Mathlib.Numerals.{add-one}
 use mathlib.Core.Path.{_≡_, refl, sym, ap, _∙_}
-use mathlib.Core.List.{List, [], _∷_, _++_, map}
+use mathlib.Core.List.{List, [], _∷_, _++_}
 use mathlib.Core.Bool.{Bool, true, false}
 use lib.ListN.{length, getD, drop, drop-of-length-le}
 use lib.Seq.{drop-cons}
 use lib.Dec.{T}
-use Rattle.program.specs.Fronts.{Front, Front.front-none, Front.front-byte}
+use Rattle.program.specs.Encoding.{flat, enc-list}
+use Rattle.program.specs.Counts.{Few}
 use Rattle.program.specs.Levels.{at}
+use Rattle.program.specs.Fronts.{Front.front-none, Front.front-byte}
 use Rattle.program.specs.Reader.{Result, Result.ok, Result.bad, wrong-end, wrong-byte, then, pair, made, many, guard, between, byte, tested, ranged, counted, opened}
-use Rattle.program.specs.Exact.{Stands, Stands.letter, Exact, Rowed}
+use Rattle.program.specs.Exact.{Stands, Exact, Rowed}
 use Rattle.program.specs.StandsLaws.{split, stands-none, stands-drop, stands-length, stands-in}
-use Rattle.program.specs.PartLaws.{told-is, then-ok, byte-ok, byte-none}
-use Rattle.program.specs.JoinLaws.{Within, between-iff, tested-exact, ranged-exact}
-use Rattle.program.specs.Follows.{Covers, Covers.covers-none, Covers.covers-byte, Deep, Deep.deep-here, Deep.deep-later, Met, Met.met-whole, Met.met-deep, GoesOn, Follows, FollowsBehind, FormEnds, Opened}
-
--- Fronts -------------------------------------------------------------------------------
-
--- a front stays one where more bytes stand behind, and behind bytes that are there whole
-pub front-more : {d : ℕ} {xs es ls : List ℕ} (fs ms : List ℕ) → Front d xs es ls → Front d xs (es ++ fs) (ls ++ ms)
-front-more fs ms front-none = front-none
-front-more fs ms (front-byte h f) = front-byte h (front-more fs ms f)
-
-pub front-after : {d : ℕ} {xs es ls fs ms : List ℕ} → Covers d es ls → Front d xs fs ms → Front d (es ++ xs) (es ++ fs) (ls ++ ms)
-front-after covers-none f = f
-front-after (covers-byte h c) f = front-byte h (front-after c f)
-
--- bytes that are there whole are a front of themselves
-pub front-whole : {d : ℕ} {es ls : List ℕ} → Covers d es ls → Front d es es ls
-front-whole covers-none = front-none
-front-whole (covers-byte h c) = front-byte h (front-whole c)
-
--- a front's own front
-pub front-front : {d : ℕ} {es ls : List ℕ} (xs ys : List ℕ) → Front d (xs ++ ys) es ls → Front d xs es ls
-front-front [] ys f = front-none
-front-front (x ∷ xs) ys (front-byte h f) = front-byte h (front-front xs ys f)
-
--- a front goes on to the whole
-pub front-rest : {d : ℕ} {xs es ls : List ℕ} → Front d xs es ls → (t : List ℕ) × (xs ++ t ≡ es)
-front-rest {es = es} front-none = (es, refl)
-front-rest (front-byte h f) = let r = front-rest f in (r .0, rw (r .1))
-
--- what is too deep lies behind every front
-pub front-deep : {d j : ℕ} {xs es ls : List ℕ} → Front d xs es ls → Deep d j ls → length xs ≤ j
-front-deep front-none p = omega arith
-front-deep (front-byte h f) (deep-here l) = absurd (omega arith)
-front-deep (front-byte h f) (deep-later p) = omega (arith, front-deep f p)
-
-covers-both : {d : ℕ} {es ls fs ms : List ℕ} → Covers d es ls → Covers d fs ms → Covers d (es ++ fs) (ls ++ ms)
-covers-both covers-none c = c
-covers-both (covers-byte h b) c = covers-byte h (covers-both b c)
-
-deep-left : {d j : ℕ} {ls : List ℕ} (ms : List ℕ) → Deep d j ls → Deep d j (ls ++ ms)
-deep-left ms (deep-here l) = deep-here l
-deep-left ms (deep-later p) = deep-later (deep-left ms p)
-
-deep-right : {d j : ℕ} {es ls ms : List ℕ} → Covers d es ls → Deep d j ms → (i : ℕ) × (i ≡ length es + j) × (Deep d i (ls ++ ms))
-deep-right {j = j} covers-none p = (j, omega arith, p)
-deep-right (covers-byte h c) p = let q = deep-right c p in (suc (q .0), omega (arith, q .1), deep-later (q .2))
-
--- bytes at one level
-pub covers-at : {d l : ℕ} → l ≤ d → (es : List ℕ) → Covers d es (at l es)
-covers-at h [] = covers-none
-covers-at h (e ∷ es) = covers-byte h (covers-at h es)
-
-pub at-both : (l : ℕ) (es fs : List ℕ) → at l (es ++ fs) ≡ at l es ++ at l fs
-at-both l [] fs = refl
-at-both l (e ∷ es) fs = rw (at-both l es fs)
-
--- Answers --------------------------------------------------------------------------------
-
--- where a refusal comes from: from a reader, or from what is read behind its value
-data Whence {A B : Type 0} (r : Result A) (f : A → ℕ → Result B) (p k : ℕ) : Type 0 where
-  here : r ≡ bad p k → Whence r f p k
-  later : (a : A) (m : ℕ) → r ≡ ok a m → f a m ≡ bad p k → Whence r f p k
-
-then-bad : {A B : Type 0} (r : Result A) (f : A → ℕ → Result B) (p k : ℕ) → then r f ≡ bad p k → Whence r f p k
-unfolding then
-then-bad (ok a m) f p k e = later a m refl e
-then-bad (bad q j) f p k e = let x : q ≡ p = cc in let y : j ≡ k = cc in here (rw (x, y))
-
-made-bad : {A B : Type 0} (f : A → B) (r : Result A) (p k : ℕ) → made f r ≡ bad p k → r ≡ bad p k
-unfolding made
-made-bad f r p k e = go (then-bad r _ p k e)
-  where
-    go : Whence r (λ a m. ok (f a) m) p k → r ≡ bad p k
-    go (here q) = q
-    go (later a m q e) = let z : _≡_ {A = ℕ} 0 1 = cc in absurd (omega arith)
-
-met-made : {A B : Type 0} {d n m : ℕ} {es ls : List ℕ} {a : A} {r : Result A} (f : A → B) → Met d n es ls a m r → Met d n es ls (f a) m (made f r)
-unfolding made then
-met-made f (met-whole c) = met-whole c
-met-made f (met-deep e p) = met-deep e p
-
--- behind bytes that are there whole
-met-after : {A : Type 0} {d n k m : ℕ} {es ls fs ms : List ℕ} {a : A} {r : Result A} → Covers d es ls → k ≡ n + length es
-    → Met d k fs ms a m r → Met d n (es ++ fs) (ls ++ ms) a m r
-met-after c e (met-whole b) = met-whole (covers-both c b)
-met-after c e (met-deep {p = o} q p) = let i = deep-right c p in met-deep {p = o} {j = i .0} (omega (arith, i .1)) (i .2)
-
-met-then : {A B : Type 0} {d n k m : ℕ} {es ls fs ms : List ℕ} {a : A} {b : B} {r : Result A} (f : A → ℕ → Result B) → k ≡ n + length es
-    → Met d n es ls a k r → Met d k fs ms b m (f a k) → Met d n (es ++ fs) (ls ++ ms) b m (then r f)
-unfolding then
-met-then f e (met-whole c) w = met-after c e w
-met-then {ms = ms} f e (met-deep q p) w = met-deep q (deep-left ms p)
-
--- what was read is covered
-met-covers : {A : Type 0} {d n m : ℕ} {es ls : List ℕ} {a b : A} {k : ℕ} {r : Result A} → Met d n es ls a m r → r ≡ ok b k → Covers d es ls
-met-covers (met-whole c) e = c
-met-covers (met-deep q p) e = let z : _≡_ {A = ℕ} 0 1 = cc in absurd (omega arith)
-
--- Readers --------------------------------------------------------------------------------
+use Rattle.program.specs.PartLaws.{told-is, then-ok, byte-ok}
+use Rattle.program.specs.JoinLaws.{Within, between-iff, tested-exact, ranged-exact, flat-row}
+use Rattle.program.specs.Follows.{Covers, Covers.covers-none, Covers.covers-byte, Met, Met.met-whole, GoesOn, Follows, FollowsBehind, FormEnds, Opened}
+use Rattle.program.specs.FrontListLaws.{front-more, front-after, at-both, at-flat}
+use Rattle.program.specs.MetLaws.{Whence, Whence.here, Whence.later, then-bad, made-bad, met-made, met-after, met-then, met-covers}
 
 module _ (d : ℕ) where
   -- the same condition and levels in other words
@@ -249,6 +156,27 @@ module _ (d : ℕ) where
     meets = λ s a n m c w. absurd (h a c);
   }
 
+  -- what a byte opens, where each form follows and each tree is met
+  pub opened-follows : {I A : Type 0} {C : A → Type 0} {E L : A → List ℕ} {key : ℕ → I} (rule : List ℕ → ℕ → ℕ → I → Result A)
+      (Opens : ℕ → I → Type 0) → ((b : ℕ) → Opens b (key b)) → (fill : A) → C fill
+      → ((f : I) → FormEnds d C E L (λ b. Opens b f) (λ s n. rule s n (n + 1) f))
+      → ((s : List ℕ) (a : A) (n m : ℕ) → C a → Stands s n (E a) m → Opened d s (λ b. rule s n (n + 1) (key b)) E L a n m)
+      → Follows d C E L (λ s. opened s key (rule s))
+  unfolding opened
+  opened-follows {C = C} {E = E} {L = L} {key = key} rule Opens o a c x y = record {
+    fill = a;
+    fills = c;
+    ends = λ s n k e. ends s n (decLt n (length s)) k e;
+    meets = λ s b n m h w. let p = y s b n m h w in rw (then-ok (λ b k. rule s n k (key b)) (byte-ok s (p .1) (p .2)) refl) (p .3);
+  }
+    where
+      ends : (s : List ℕ) (n : ℕ) → Dec (n < length s) → n ≤ length s
+          → then (byte s n) (λ b k. rule s n k (key b)) ≡ bad (length s) wrong-end → GoesOn d C E L (drop n s)
+      ends s n (yes j) k e =
+          let q = sym (then-ok (λ b k. rule s n k (key b)) (byte-ok s j refl) refl) ∙ e in
+          rw (drop-cons s n 0 j, ← add-one n) (x (key (getD s n 0)) .ends s n (getD s n 0) j (o _) q)
+      ends s n (no j) k e = (a, c, rw (drop-of-length-le s {i = n} (omega arith)) front-none)
+
   -- a byte, where l is a level within d
   module _ {l : ℕ} (i : l ≤ d) where
     -- one that passes a test, of which b is one
@@ -311,6 +239,24 @@ module _ (d : ℕ) where
             let c = h j (u .0) (p .0 .0) (u .1) in
             (u .0, counts j (p .0) (u .0) (u .1), rw (p .1, c) (front-after (p .3) (u .2)))
 
+    -- a count and so many values, whose condition may know the count
+    pub list-follows : {A : Type 0} {C D : ℕ → A → Type 0} {E L : A → List ℕ} {r : ℕ → List ℕ → ℕ → Result A} (lo hi : ℕ) → lo ≤ hi
+        → ((i : ℕ) → Exact (C i) E (r i)) → ((i : ℕ) (a : A) → C i a → D i a) → ((i : ℕ) → Follows d (D i) E L (r i))
+        → Follows d (λ xs. Few lo hi (D (length xs)) xs) (enc-list E) (λ xs. l ∷ flat L xs) (λ s. counted s lo hi (λ i. many [] _∷_ (r i s) i))
+    unfolding flat
+    list-follows {D = D} {E = E} {L = L} lo hi o x h y =
+        follows-as
+        (counted-follows lo hi length o (λ i xs u c. c .0)
+        λ i u. row-follows (x i) (h i) (y i) (flat-row (D i) E) (λ i. flat L) refl (λ i a xs c. refl) i)
+        (λ xs c. (c .0, c .1, c .2 .1)) (λ xs c. (c .0, c .1, (refl, c .2))) (λ xs. refl)
+
+    -- the same at one level
+    pub list-at : {A : Type 0} {C : ℕ → A → Type 0} {E : A → List ℕ} {r : ℕ → List ℕ → ℕ → Result A} (lo hi : ℕ) → lo ≤ hi
+        → ((i : ℕ) → Exact (C i) E (r i)) → ((i : ℕ) → Follows d (C i) E (λ a. at l (E a)) (r i))
+        → Follows d (λ xs. Few lo hi (C (length xs)) xs) (enc-list E) (λ xs. at l (enc-list E xs)) (λ s. counted s lo hi (λ i. many [] _∷_ (r i s) i))
+    list-at {E = E} lo hi o x y =
+        follows-as (list-follows lo hi o x (λ i a c. c) y) (λ xs c. c) (λ xs c. c) (λ xs. ap (λ ls. l ∷ ls) (sym (at-flat l E xs)))
+
     -- what f makes of a value read behind a byte
     pub formed-ends : {A P : Type 0} {C : A → Type 0} {E L : A → List ℕ} {B : ℕ → Type 0} {D : P → Type 0} {F M : P → List ℕ}
         {r : List ℕ → ℕ → Result P} → FollowsBehind d D F M r → (f : P → A) → ((p : P) → D p → C (f p))
@@ -325,27 +271,6 @@ module _ (d : ℕ) where
     -- what is read behind a byte of a value
     pub met-byte : {A : Type 0} {n m x : ℕ} {es ls : List ℕ} {a : A} {r : Result A} → Met d (n + 1) es ls a m r → Met d n (x ∷ es) (l ∷ ls) a m r
     met-byte {x = x} w = met-after {es = x ∷ []} (covers-byte i covers-none) refl w
-
-    -- what a byte opens, where each form follows and each tree is met
-    pub opened-follows : {I A : Type 0} {C : A → Type 0} {E L : A → List ℕ} {key : ℕ → I} (rule : List ℕ → ℕ → ℕ → I → Result A)
-        (Opens : ℕ → I → Type 0) → ((b : ℕ) → Opens b (key b)) → (fill : A) → C fill
-        → ((f : I) → FormEnds d C E L (λ b. Opens b f) (λ s n. rule s n (n + 1) f))
-        → ((s : List ℕ) (a : A) (n m : ℕ) → C a → Stands s n (E a) m → Opened d s (λ b. rule s n (n + 1) (key b)) E L a n m)
-        → Follows d C E L (λ s. opened s key (rule s))
-    unfolding opened
-    opened-follows {C = C} {E = E} {L = L} {key = key} rule Opens o a c x y = record {
-      fill = a;
-      fills = c;
-      ends = λ s n k e. ends s n (decLt n (length s)) k e;
-      meets = λ s b n m h w. let p = y s b n m h w in rw (then-ok (λ b k. rule s n k (key b)) (byte-ok s (p .1) (p .2)) refl) (p .3);
-    }
-      where
-        ends : (s : List ℕ) (n : ℕ) → Dec (n < length s) → n ≤ length s
-            → then (byte s n) (λ b k. rule s n k (key b)) ≡ bad (length s) wrong-end → GoesOn d C E L (drop n s)
-        ends s n (yes j) k e =
-            let q = sym (then-ok (λ b k. rule s n k (key b)) (byte-ok s j refl) refl) ∙ e in
-            rw (drop-cons s n 0 j, ← add-one n) (x (key (getD s n 0)) .ends s n (getD s n 0) j (o _) q)
-        ends s n (no j) k e = (a, c, rw (drop-of-length-le s {i = n} (omega arith)) front-none)
 
 -- a byte that opens no form is never asked to go on
 pub no-form-ends : {A : Type 0} {d : ℕ} {C : A → Type 0} {E L : A → List ℕ} {B : ℕ → Type 0} → FormEnds d C E L B (λ s n. bad n wrong-byte)

@@ -1,6 +1,6 @@
--- The conditions of the numbers from the input (01, 'Numbers from the input'), and their order. Those of 4, 5, 11 and 12 are
--- equations with the readers of the streams, which tell the first offending place; the laws `program-exact` and
--- `table-answer-exact` say that the readers accept exactly the encodings. The others are in 01's words.
+-- The conditions of the numbers from the input (01, 'Numbers from the input'), and their order. Those of 4 and 5 speak of the fronts of
+-- programs' encodings. Those of 11 and 12 are equations with the reader of tables, which tells the first offending place; the law
+-- `table-answer-exact` says that it accepts exactly the encodings. The others are in 01's words.
 use Prim.Native.Nat.{ℕ, _*_, _<_, _≤_}
 use mathlib.Core.Path.{_≡_}
 use mathlib.Core.List.{List, [], _∷_, _++_}
@@ -14,7 +14,7 @@ use Rattle.blocks.specs.declared.Fault.the-variants.{Sum, Layout}
 use Rattle.program.specs.Tree.{Program}
 use Rattle.program.specs.Encoding.{enc-program}
 use Rattle.program.specs.Counts.{Counts}
-use Rattle.program.specs.Reader.{Result.bad, read, wrong-end, wrong-byte}
+use Rattle.program.specs.Fronts.{EndsAt, OffendsAt}
 use Rattle.commands.specs.Bounds.{Within}
 use Rattle.commands.specs.Names.{NamesRight}
 use Rattle.commands.specs.Typing.{TypesRight}
@@ -39,8 +39,8 @@ pub data ProgramRefuses (x : List ℕ) : ℕ → Type 0 where
   program-length : (LengthRight program-blocks (length x) → ⊥) → ProgramRefuses x 1
   program-sums : FirstFault (count x) x (count x) Sum → ProgramRefuses x 2
   program-layout : FirstFault (count x) x (count x) Layout → ProgramRefuses x 3
-  program-end : {at : ℕ} → read (stream x) ≡ bad at wrong-end → ProgramRefuses x 4
-  program-byte : {at : ℕ} → read (stream x) ≡ bad at wrong-byte → ProgramRefuses x 5
+  program-end : {at : ℕ} → EndsAt (stream x) at → ProgramRefuses x 4
+  program-byte : {at : ℕ} → OffendsAt (stream x) at → ProgramRefuses x 5
   program-limits : {p : Program} → Reads x p → (Within p → ⊥) → ProgramRefuses x 6
   program-names : {p : Program} → Reads x p → (NamesRight p → ⊥) → ProgramRefuses x 7
   program-types : {p : Program} → Reads x p → (TypesRight p → ⊥) → ProgramRefuses x 8

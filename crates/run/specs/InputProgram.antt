@@ -22,6 +22,7 @@ use Rattle.program.specs.Counts.{All, Counts}
 use Rattle.program.specs.Exact.{Refused, Refused.not-allowed, Refused.ends-early, Refused.goes-on}
 use Rattle.program.specs.Reader.{Result, Result.ok, Result.bad, read, wrong-end, wrong-byte}
 use Rattle.program.specs.ProgramLaws.{program-law, enc-injective, program-refused}
+use Rattle.program.specs.FrontLaws.{ends-exactly, offends-exactly}
 use Rattle.commands.specs.Bounds.{Within}
 use Rattle.commands.specs.Names.{NamesRight}
 use Rattle.commands.specs.Typing.{TypesRight}
@@ -90,10 +91,10 @@ module _ (x : List ℕ) where
 
   -- 4 and 5
   end-at : C 4 → (n : ℕ) × (read (stream x) ≡ bad n wrong-end)
-  end-at (program-end {at = n} e) = (n, e)
+  end-at (program-end {at = n} e) = (n, ends-exactly (stream x) n .1 e)
 
   byte-at : C 5 → (n : ℕ) × (read (stream x) ≡ bad n wrong-byte)
-  byte-at (program-byte {at = n} e) = (n, e)
+  byte-at (program-byte {at = n} e) = (n, offends-exactly (stream x) n .1 e)
 
   abbrev from-4 : List ℕ
   from-4 = 4 ∷ 5 ∷ 6 ∷ 7 ∷ 8 ∷ []
@@ -104,9 +105,9 @@ module _ (x : List ℕ) where
     where
       numbered : {at k : ℕ} → read (stream x) ≡ bad at k → Refused Counts enc-program (stream x) at k → Tell from-4 (refused k)
       numbered e (not-allowed l) =
-          past (λ c. let d = end-at c in let z : _≡_ {A = ℕ} 4 5 = cc (d .1) in omega arith) (here refl (program-byte e))
-      numbered e ends-early = here refl (program-end e)
-      numbered e (goes-on a b bs c q) = here refl (program-end e)
+          past (λ c. let d = end-at c in let z : _≡_ {A = ℕ} 4 5 = cc (d .1) in omega arith) (here refl (program-byte (offends-exactly (stream x) _ .0 e)))
+      numbered e ends-early = here refl (program-end (ends-exactly (stream x) _ .0 e))
+      numbered e (goes-on a b bs c q) = here refl (program-end (ends-exactly (stream x) _ .0 e))
 
       go : (r : Result Program) → read (stream x) ≡ r → Tell from-4 (of-read r)
       go (ok p m) e =
@@ -158,10 +159,12 @@ module _ (x : List ℕ) where
   accepted-none a (program-length f) = f (a .image .length-right)
   accepted-none a (program-sums b) = no-fault x Sum (a .image .blocks-right) b
   accepted-none a (program-layout b) = no-fault x Layout (a .image .blocks-right) b
-  accepted-none {p} a (program-end e) =
+  accepted-none {p} a (program-end {at = n} e) =
+      let r = ends-exactly (stream x) n .1 e in
       let q = program-law (stream x) p (length (stream x)) .1 (a .reads .counts, a .reads .bytes, refl) in
       let z : _≡_ {A = ℕ} 0 1 = cc in omega arith
-  accepted-none {p} a (program-byte e) =
+  accepted-none {p} a (program-byte {at = n} e) =
+      let r = offends-exactly (stream x) n .1 e in
       let q = program-law (stream x) p (length (stream x)) .1 (a .reads .counts, a .reads .bytes, refl) in
       let z : _≡_ {A = ℕ} 0 1 = cc in omega arith
   accepted-none a (program-limits r f) = f (rw (one-program r (a .reads)) (a .within))
