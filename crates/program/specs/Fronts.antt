@@ -29,8 +29,8 @@ Whole s = (p : Program) × (Counts p) × (s ≡ enc-program p)
 
 -- 4: the stream s ends early, or goes on at place n after its end
 pub data EndsAt (s : List ℕ) : ℕ → Type 0 where
-  ends-early : Allowed s → (Whole s → ⊥) → EndsAt s (length s)
-  goes-on : (p : Program) (b : ℕ) (bs : List ℕ) → Counts p → s ≡ enc-program p ++ b ∷ bs → EndsAt s (length (enc-program p))
+  stops-short : Allowed s → (Whole s → ⊥) → EndsAt s (length s)
+  runs-on : (p : Program) (b : ℕ) (bs : List ℕ) → Counts p → s ≡ enc-program p ++ b ∷ bs → EndsAt s (length (enc-program p))
 
 -- 5: the byte at place n of s is not allowed, and those before it are, which are no program yet
 pub record OffendsAt (s : List ℕ) (n : ℕ) : Type 0 where

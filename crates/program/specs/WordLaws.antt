@@ -19,7 +19,7 @@ pub below-exact : (hi : ℕ) → Exact (λ b. b < hi) (λ b. b ∷ []) (λ s. ra
 below-exact hi = exact-iff (ranged-exact 0 hi) λ b. (λ h. h .1, λ h. (omega arith, h))
 
 -- a number of i bytes is a row of bytes
-word-row : Rowed 0 (λ b v. b + byte-end * v) (λ b. b < byte-end) (λ b. b ∷ []) (λ i v. v < 256 ^ i) enc-word
+pub word-row : Rowed 0 (λ b v. b + byte-end * v) (λ b. b < byte-end) (λ b. b ∷ []) (λ i v. v < 256 ^ i) enc-word
 unfolding enc-word
 word-row = record {
   nil = omega arith;

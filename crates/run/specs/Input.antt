@@ -1,6 +1,5 @@
--- The conditions of the numbers from the input, and their order (01, 'Numbers from the input'). Those of 4 and 5 are
--- equations with the reader of the stream, which tells the first offending place; the law `program-exact` says that it accepts
--- exactly the encodings. The others are in 01's words.
+-- The conditions of the numbers from the input, and their order (01, 'Numbers from the input'). Those of 4 and 5 speak of the fronts of
+-- programs' encodings, those of 11 and 12 of the fields of a table's stream: nothing here speaks of reading.
 use Prim.Native.Nat.{ℕ, _*_, _<_, _≤_}
 use mathlib.Core.Path.{_≡_}
 use mathlib.Core.List.{List, [], _∷_, _++_}
@@ -14,7 +13,7 @@ use Rattle.blocks.specs.declared.Fault.the-variants.{Sum, Layout}
 use Rattle.program.specs.Tree.{Program}
 use Rattle.program.specs.Encoding.{enc-program}
 use Rattle.program.specs.Counts.{Counts}
-use Rattle.program.specs.Reader.{Result.bad, read, wrong-end, wrong-byte}
+use Rattle.program.specs.Fronts.{EndsAt, OffendsAt}
 use Rattle.commands.specs.Bounds.{Within}
 use Rattle.commands.specs.Names.{NamesRight}
 use Rattle.commands.specs.Typing.{TypesRight}
@@ -51,10 +50,10 @@ WrongBlock x = (f : Fault) × FirstFault (count x) x (count x) f
 
 -- the stream of a program ends early or goes on after its end; has a byte that is not allowed at its place
 abbrev pub WrongEnd : List ℕ → Type 0
-WrongEnd x = (at : ℕ) × (read (stream x) ≡ bad at wrong-end)
+WrongEnd x = (at : ℕ) × EndsAt (stream x) at
 
 abbrev pub WrongByte : List ℕ → Type 0
-WrongByte x = (at : ℕ) × (read (stream x) ≡ bad at wrong-byte)
+WrongByte x = (at : ℕ) × OffendsAt (stream x) at
 
 -- the program that is read is over a limit; breaks a rule of names; of types
 abbrev pub OverLimits : List ℕ → Type 0

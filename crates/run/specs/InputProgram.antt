@@ -22,6 +22,7 @@ use Rattle.program.specs.Counts.{Counts}
 use Rattle.program.specs.Exact.{Refused, Refused.not-allowed, Refused.ends-early, Refused.goes-on}
 use Rattle.program.specs.Reader.{Result, Result.ok, Result.bad, read}
 use Rattle.program.specs.ProgramLaws.{program-law, enc-injective, program-refused}
+use Rattle.program.specs.FrontLaws.{ends-exactly, offends-exactly, ends-or-offends}
 use Rattle.commands.specs.Bounds.{Within}
 use Rattle.commands.specs.Names.{NamesRight}
 use Rattle.commands.specs.Typing.{TypesRight}
@@ -90,13 +91,10 @@ module _ (x : List ℕ) where
 
   -- 4 and 5
   no-4 : (p : Program) (m : ℕ) → read (stream x) ≡ ok p m → WrongEnd x → ⊥
-  no-4 p m e c = let d = c .1 in let z : _≡_ {A = ℕ} 0 1 = cc in omega arith
+  no-4 p m e c = let d = ends-exactly (stream x) (c .0) .1 (c .1) in let z : _≡_ {A = ℕ} 0 1 = cc in omega arith
 
   no-5 : (p : Program) (m : ℕ) → read (stream x) ≡ ok p m → WrongByte x → ⊥
-  no-5 p m e c = let d = c .1 in let z : _≡_ {A = ℕ} 0 1 = cc in omega arith
-
-  not-both : WrongEnd x → WrongByte x → ⊥
-  not-both c d = let e = c .1 in let h = d .1 in let z : _≡_ {A = ℕ} 4 5 = cc in omega arith
+  no-5 p m e c = let d = offends-exactly (stream x) (c .0) .1 (c .1) in let z : _≡_ {A = ℕ} 0 1 = cc in omega arith
 
   abbrev from-4 : Order
   from-4 = (4, WrongEnd x) ∷ (5, WrongByte x) ∷ from-6
@@ -106,9 +104,11 @@ module _ (x : List ℕ) where
   tell-read i = go (read (stream x)) refl
     where
       numbered : {at k : ℕ} → read (stream x) ≡ bad at k → Refused Counts enc-program (stream x) at k → Tell from-4 (refused k)
-      numbered {at} e (not-allowed l) = past (λ c. not-both c (at, e)) (here refl (at, e))
-      numbered {at} e ends-early = here refl (at, e)
-      numbered {at} e (goes-on a b bs c q) = here refl (at, e)
+      numbered {at} e (not-allowed l) =
+          let offends = offends-exactly (stream x) at .0 e in
+          past (λ c. ends-or-offends (stream x) (c .0) at (c .1) offends) (here refl (at, offends))
+      numbered {at} e ends-early = here refl (at, ends-exactly (stream x) at .0 e)
+      numbered {at} e (goes-on a b bs c q) = here refl (at, ends-exactly (stream x) at .0 e)
 
       go : (r : Result Program) → read (stream x) ≡ r → Tell from-4 (of-read r)
       go (ok p m) e =
