@@ -15,7 +15,7 @@ use Rattle.program.specs.Counts.{Counts}
 use Rattle.program.specs.Encoding.{enc-path, enc-expr, enc-exprs, enc-stmt, enc-stmts, enc-item, enc-items, enc-step, enc-program}
 use Rattle.program.specs.Reader.{Result.ok, read}
 use Rattle.program.specs.ProgramLaws.{program-law}
-use Rattle.commands.specs.Noted.{Note, Note.n-this, Note.n-not, Note.n-rd, Note.n-wr, Note.n-get, Note.n-op}
+use Rattle.commands.specs.Noted.{Note.n-this, Note.n-not, Note.n-rd, Note.n-wr, Note.n-get, Note.n-op}
 use Rattle.commands.specs.Numbers.{accepted, wrong-names, wrong-types, program-number}
 use Rattle.commands.specs.NumbersLaws.{number-accepted}
 use Rattle.commands.specs.Exhibits.{program, negated, refused-8}
