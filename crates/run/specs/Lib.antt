@@ -27,6 +27,8 @@ pub mod RunsUnique
 pub mod HaltLaws
 pub mod PublishedVisits
 pub mod RunAgreesVisits
+pub mod StepTurns
+pub mod StepTurnsLaws
 pub mod Initial
 pub mod BeginLaws
 pub mod Answered

@@ -1,5 +1,5 @@
--- What the executable run does (01, 'Table and turns'), without its fuel: where the schedule's moves lead a machine, what its whole
--- run comes to, and turns in a row.
+-- What the executable run does (01, 'Table and turns'), without its fuel: where the schedule's moves lead a machine, and what its
+-- whole run comes to.
 use Prim.Native.Nat.{ℕ}
 use mathlib.Core.Path.{_≡_}
 use mathlib.Core.List.{List, [], _∷_}
@@ -30,9 +30,3 @@ pub data Ran (p : Program) : Machine → List ℕ → Outcome → Type 0 where
   jams : {m : Machine} {e h : ℕ} {hs es : List ℕ} → holders m ≡ h ∷ hs → command p (chosen (h ∷ hs) e) m ≡ stuck → Ran p m (e ∷ es) jammed
   takes : {m m′ : Machine} {e h : ℕ} {hs es : List ℕ} {o o′ : Outcome} → holders m ≡ h ∷ hs → command p (chosen (h ∷ hs) e) m ≡ next m′
       → Ran p m′ es o → o′ ≡ later o → Ran p m (e ∷ es) o′
-
--- a turn for each byte, and no schedule move between
-pub data Turned (p : Program) : Machine → List ℕ → Machine → Type 0 where
-  no-turn : {m : Machine} → Turned p m [] m
-  a-turn : {m m′ z : Machine} {e h : ℕ} {hs es : List ℕ} → holders m ≡ h ∷ hs → command p (chosen (h ∷ hs) e) m ≡ next m′
-      → Turned p m′ es z → Turned p m (e ∷ es) z
