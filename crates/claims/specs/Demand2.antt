@@ -2,7 +2,6 @@
 use Prim.Native.Nat.{ℕ, _<_, _≤_}
 use mathlib.Core.Path.{_≡_}
 use mathlib.Core.Logic.{_↔_}
-use mathlib.Core.Bool.{Bool}
 use mathlib.Core.Option.{none, some}
 use mathlib.Core.List.{List, [], _++_, map}
 use lib.ListN.{length, getElem?}
@@ -17,14 +16,15 @@ use Rattle.commands.specs.Noted.{erase, noted}
 use Rattle.commands.specs.NotedLaws.{erased}
 use Rattle.commands.specs.Numbers.{NoneOf}
 use Rattle.table.specs.Table.{Record, enc-table, TableRight}
-use Rattle.machine.specs.Published.{Sched, Sched.start, Sched.start-in, State, structs}
-use Rattle.machine.specs.Machine.{Instance, Machine, machine, Out.next, move}
-use Rattle.machine.specs.Measure.{total, share, share-in}
+use Rattle.machine.specs.Published.{State, structs}
+use Rattle.machine.specs.Machine.{Instance, Machine, Out.next, move}
+use Rattle.machine.specs.Measure.{total, share-of}
 use Rattle.machine.specs.Represents.{Represents}
 use Rattle.run.specs.Holders.{holders}
 use Rattle.run.specs.Run.{Outcome.stopped, run}
-use Rattle.run.specs.Settles.{Turned}
 use Rattle.run.specs.Visits.{Visits, turns-of}
+use Rattle.run.specs.StepTurns.{Spends}
+use Rattle.run.specs.StepTurnsLaws.{step-turns as start-turns}
 use Rattle.run.specs.Begin.{params-in, begin, table-of}
 use Rattle.run.specs.Initial.{initial, Comes}
 use Rattle.run.specs.PublishedVisits.{Passes}
@@ -32,7 +32,7 @@ use Rattle.run.specs.Entry.{Checked.accepted, checked, listed, approval, check-
 use Rattle.run.specs.Input.{check-order, order, Accepted as AcceptedImage, TableAccepted, Approved, Ready, Began}
 use Rattle.run.specs.InputProgram.{checked-accepted, verdict-approved, check-approved}
 use Rattle.run.specs.InputLaws.{begins-ready, begins-none}
-use Rattle.run.specs.RunAgreesVisits.{visits-passes, passes-visits, step-turns as start-turns, step-in-turns as start-in-turns}
+use Rattle.run.specs.RunAgreesVisits.{visits-passes, passes-visits}
 use Rattle.run.specs.BeginLaws.{begin-represents, outcome-exact, comes-unique}
 use Rattle.run.specs.Answered.{Answered}
 use Rattle.run.specs.AnsweredLaws.{comes-answered}
@@ -140,17 +140,11 @@ module _ (p : Program) (rs : List Record) (es : List ℕ) where
   outcome-one = comes-unique p rs es
 
 module _ (p : Program) where
-  -- "A started step takes at most the sum of its command counts, each over its instances, in turns"
-  pub step-turns : (n : ℕ) (s : Sched) (is : List Instance) (b : List Bool) {m z : Machine} {es : List ℕ}
-      → holders (machine (start n s) is b) ≡ [] → move p (machine (start n s) is b) ≡ next m → Turned p m es z
-      → length es ≤ total (share p n) is
-  step-turns n s is b g e r = start-turns p n s is b g e r
-
-  -- and so for a step of one struct
-  pub step-in-turns : (k n : ℕ) (s : Sched) (is : List Instance) (b : List Bool) {m z : Machine} {es : List ℕ}
-      → holders (machine (start-in k n s) is b) ≡ [] → move p (machine (start-in k n s) is b) ≡ next m → Turned p m es z
-      → length es ≤ total (share-in p k n) is
-  step-in-turns k n s is b g e r = start-in-turns p k n s is b g e r
+  -- "A started step takes at most the sum of its command counts, each over its instances, in turns": wherever a run goes behind a move of
+  -- the schedule, it takes no more turns than that before nobody holds commands
+  pub step-turns : (m : Machine) {m′ z : Machine} {es fs : List ℕ} → holders m ≡ [] → move p m ≡ next m′ → Visits p m′ es z fs
+      → Spends p (total (share-of p (m .sched)) (m .instances)) m′ es z fs
+  step-turns m g e v = start-turns p m g e v
 
 -- Its tables -------------------------------------------------------------------------------
 
