@@ -29,6 +29,11 @@ pub mod SafeLaws
 pub mod Locals
 pub mod LocalsLaws
 pub mod Static
+pub mod Living
+pub mod LivingLaws
+pub mod Secure
+pub mod SecureLaws
+pub mod SecureWays
 pub mod Steps
 pub mod Heights
 pub mod Exhibits

@@ -19,21 +19,21 @@ use Rattle.commands.specs.NotedLaws.{left-out}
 use Rattle.commands.specs.Tags.{result-type}
 
 -- the first locals are among the second
-abbrev Among : List ℕ → List ℕ → Type 0
+abbrev pub Among : List ℕ → List ℕ → Type 0
 Among l w = (x : ℕ) → List·Memᴰ x l → List·Memᴰ x w
 
-widen : {l w : List ℕ} (x : ℕ) → Among l w → Among (x ∷ l) (x ∷ w)
+pub widen : {l w : List ℕ} (x : ℕ) → Among l w → Among (x ∷ l) (x ∷ w)
 widen x i y (List·Memᴰ·head e) = List·Memᴰ·head e
 widen x i y (List·Memᴰ·tail m) = List·Memᴰ·tail (i y m)
 
 -- what lives before a statement lives behind it
-live-on : (s : Stmt) (l : List ℕ) → Among l (live-after s l)
+pub live-on : (s : Stmt) (l : List ℕ) → Among l (live-after s l)
 live-on (when e b) l x m = m
 live-on (declare t y e) l x m = List·Memᴰ·tail m
 live-on (update v vs e) l x m = m
 live-on (create k es) l x m = m
 
-stays : {G : Ctx} {t u : Ty} → Leads G t [] u → u ≡ t
+pub stays : {G : Ctx} {t u : Ty} → Leads G t [] u → u ≡ t
 stays arrived = refl
 
 pub result-of : {s : Sort} {t u : Ty} → Takes s t u → u ≡ result-type s t
@@ -58,7 +58,7 @@ module _ (G : Ctx) where
   Ok c l = (χ : List Ty) (w : List ℕ) → Among l w → From c χ w
 
   -- what the type of an expression says of its parts
-  abbrev Parts : Expr → Ty → Type 0
+  abbrev pub Parts : Expr → Ty → Type 0
   Parts (inv e) t = (t ≡ bool) × Types G e bool
   Parts (make k es) t = (t ≡ ref k) × Types-all G es (G .params k)
   Parts (path v vs) t = Reaches G v vs t
@@ -69,7 +69,7 @@ module _ (G : Ctx) where
   Parts self t = t ≡ ref (G .own)
   Parts (op o a b) u = (t : Ty) × Takes (sort o) t u × Types G a t × Types G b t
 
-  parts : {e : Expr} {t : Ty} → Types G e t → Parts e t
+  pub parts : {e : Expr} {t : Ty} → Types G e t → Parts e t
   parts (t-not d) = (refl, d)
   parts (t-make d) = (refl, d)
   parts (t-path r) = r

@@ -104,7 +104,7 @@ module _ {p : Program} {counts list items spans : List ℕ} {m : Machine} {z : S
           })
           (λ es. run-moves p es m (none-hold h) q)
       comes (refused n) q S =
-          let k = move-kept p (m .sched) (m .instances) (m .stability) (r .good .all) (r .good .opened) not-done in
+          let k = move-kept (r .prepared .firm) (m .sched) (m .instances) (m .stability) (r .good .all) (r .good .opened) not-done in
           let w : n ≡ nested = blocked-number (subst (Kept p (Blocked (m .sched) (m .stability))) q k) in
           blocked (S ∙ ap (λ (x : ℕ). refusing x z) w)
           (λ es. ran-run p (ran-refuses (none-hold h) (q ∙ ap refused w)))
