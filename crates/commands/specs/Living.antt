@@ -1,7 +1,7 @@
 -- The locals alive before each command of a step (01, 'Names, types, commands': a local lives from the end of its declaration to the
 -- end of the innermost if body or step holding it), as a list beside `noted`; each compiles in front of what follows.
 use Prim.Native.Nat.{ℕ, _-_}
-use mathlib.Core.List.{List, [], _∷_}
+use mathlib.Core.List.{List, [], _∷_, List·Memᴰ}
 use lib.ListN.{length, drop}
 use Rattle.program.specs.Tree.{Expr, Expr.inv, Expr.make, Expr.path, Expr.int-lit, Expr.nat-lit, Expr.bool-lit, Expr.null, Expr.self, Expr.op, Exprs, Exprs.none, Exprs.more, Stmt, Stmt.when, Stmt.declare, Stmt.update, Stmt.create, Stmts, Stmts.end, Stmts.next}
 use Rattle.commands.specs.Names.{live-after}
@@ -55,3 +55,7 @@ lives-at G b c = beside (noted G b) (lives b) c
 abbrev pub alive : List (List ℕ) → List ℕ
 alive [] = []
 alive (l ∷ ls) = l
+
+-- the first locals are among the second
+abbrev pub Among : List ℕ → List ℕ → Type 0
+Among l w = (x : ℕ) → List·Memᴰ x l → List·Memᴰ x w

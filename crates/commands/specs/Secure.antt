@@ -8,8 +8,7 @@ use Rattle.types.specs.Types.{Ty}
 use Rattle.commands.specs.Context.{Ctx}
 use Rattle.commands.specs.Noted.{Note, now-written}
 use Rattle.commands.specs.Tags.{tags, stack-after, is-this, Asks, jump}
-use Rattle.commands.specs.Living.{alive}
-use Rattle.commands.specs.Static.{Among}
+use Rattle.commands.specs.Living.{alive, Among}
 
 -- every command on every way from here finds what it asks for, and no more lives behind it than was written
 pub data Secure (G : Ctx) : List Note → List (List ℕ) → List Ty → Bool → Type 0 where

@@ -10,8 +10,7 @@ use Rattle.types.specs.Types.{Ty}
 use Rattle.commands.specs.Context.{Ctx}
 use Rattle.commands.specs.Noted.{Note, now-written}
 use Rattle.commands.specs.Tags.{Tags, stack-after, is-this, jump, Way, Way.start, Way.on, Way.over}
-use Rattle.commands.specs.Living.{alive, beside}
-use Rattle.commands.specs.Static.{Among}
+use Rattle.commands.specs.Living.{alive, beside, Among}
 use Rattle.commands.specs.Secure.{Secure, Secure.stop, Secure.act}
 
 -- what a secure command leaves behind it, on either way

@@ -15,8 +15,7 @@ use Rattle.commands.specs.Bounds.{Within, program-depth}
 use Rattle.machine.specs.Published.{structs}
 use mathlib.Core.Bool.{false}
 use Rattle.commands.specs.Tags.{Tags, at-start, Way}
-use Rattle.commands.specs.Static.{Among}
-use Rattle.commands.specs.Living.{lives, alive}
+use Rattle.commands.specs.Living.{lives, alive, Among}
 use Rattle.commands.specs.Secure.{Secure}
 use Rattle.sound.specs.Sized.{SizedAll}
 

@@ -30,7 +30,7 @@ use Rattle.sound.specs.Invariant.{Fits, Passage, Place, Place.resting as
 use Rattle.sound.specs.Keeps.{of-kept, fits-kept}
 use Rattle.sound.specs.EachLaws.{each-length, each-map, each-of-map, each-reverse}
 use Rattle.sound.specs.EnvLaws.{param-holds}
-use Rattle.commands.specs.Static.{result-of}
+use Rattle.commands.specs.StaticParts.{result-of}
 use Rattle.sound.specs.SizedLaws.{lasting-of}
 use Rattle.sound.specs.ValueLaws.{bool-value, label-value, ranges, result-of-type}
 use Rattle.sound.specs.Accepted.{Firm}

@@ -16,8 +16,7 @@ use Rattle.table.specs.Table.{Each}
 use Rattle.machine.specs.Published.{Sched, Sched.done, Sched.start, Sched.start-in, Sched.fixpoint, Sched.active, Env, Env.env, lookup, structs}
 use Rattle.machine.specs.Machine.{Tagged, Instance, Machine}
 use Rattle.commands.specs.Tags.{Tags, Way, at-start}
-use Rattle.commands.specs.Static.{Among}
-use Rattle.commands.specs.Living.{alive, lives-at}
+use Rattle.commands.specs.Living.{alive, lives-at, Among}
 use Rattle.sound.specs.Needs.{Of}
 
 -- of a type in both senses

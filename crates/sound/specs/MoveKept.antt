@@ -21,8 +21,7 @@ use Rattle.sound.specs.Advance.{Kept}
 use Rattle.sound.specs.Accepted.{Firm}
 use Rattle.commands.specs.Context.{context, step-of}
 use Rattle.commands.specs.Noted.{noted}
-use Rattle.commands.specs.Living.{alive, lives-at}
-use Rattle.commands.specs.Static.{Among}
+use Rattle.commands.specs.Living.{alive, lives-at, Among}
 
 -- 36: the schedule's next item is a Fix, met with 8 stability entries
 pub data Blocked : Sched → List Bool → ℕ → Type 0 where

@@ -17,8 +17,7 @@ use Rattle.commands.specs.Tags.{Tags, tags, Top, Asks, jump, Way, at-start}
 use Rattle.sound.specs.Needs.{Of}
 use Rattle.sound.specs.Invariant.{Fits, Passage}
 use lib.ListN.{drop}
-use Rattle.commands.specs.Living.{alive, lives, lives-at, beside}
-use Rattle.commands.specs.Static.{Among}
+use Rattle.commands.specs.Living.{alive, lives, lives-at, beside, Among}
 use Rattle.commands.specs.SecureLaws.{secure-safe, now-more}
 use Rattle.commands.specs.SecureWays.{Behind, behind, beside-on, beside-over, way-short, way-secure}
 use Rattle.commands.specs.SafeLaws.{ready}
