@@ -31,6 +31,12 @@ pub mod Tags
 pub mod SafeLaws
 pub mod Locals
 pub mod LocalsLaws
+pub mod Living
+pub mod LivingLaws
+pub mod Secure
+pub mod StaticParts
+pub mod SecureLaws
+pub mod SecureWays
 pub mod Static
 pub mod Steps
 pub mod Heights

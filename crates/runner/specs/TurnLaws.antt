@@ -93,7 +93,7 @@ module _ {p : Program} {counts list items spans : List ℕ} {m : Machine} {z : S
           })
           (λ es. visits-move (none-hold h) q here)
       comes (refused n) q S =
-          let k = move-kept p (m .sched) (m .instances) (m .stability) (r .good .all) (r .good .opened) not-done in
+          let k = move-kept (r .prepared .firm) (m .sched) (m .instances) (m .stability) (r .good .all) (r .good .opened) not-done in
           let w : n ≡ nested = subst (Kept p Blocked) q k in
           blocked (S ∙ ap (λ (x : ℕ). refusing x z) w)
           (λ es. ran-run p (ran-refuses (none-hold h) (q ∙ ap refused w)))

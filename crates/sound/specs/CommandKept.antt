@@ -31,11 +31,11 @@ use Rattle.sound.specs.Invariant.{Fits, Passage, Place, Place.resting as
 use Rattle.sound.specs.Keeps.{of-kept, fits-kept}
 use Rattle.sound.specs.EachLaws.{each-length, each-map, each-of-map, each-reverse}
 use Rattle.sound.specs.EnvLaws.{param-holds}
-use Rattle.commands.specs.Static.{result-of}
+use Rattle.commands.specs.StaticParts.{result-of}
 use Rattle.sound.specs.SizedLaws.{lasting-of}
 use Rattle.sound.specs.ValueLaws.{bool-value, label-value, ranges, result-of-type}
 use Rattle.sound.specs.Accepted.{Firm}
-use Rattle.sound.specs.PassageLaws.{ctx, tops, top-one, top-two, own-top, local-value, asks, next-sized, way-at}
+use Rattle.sound.specs.PassageLaws.{ctx, here, tops, top-one, top-two, own-top, local-value, asks, kept-next, kept-past, Living-on, next-sized, way-at}
 use Rattle.sound.specs.Outcomes.{negated, branched, operates, has-read, leaves-null, writes-param, writes-local, constructs, finds-full}
 use Rattle.sound.specs.Advance.{Kept, after, advance, locals-kept, good-put, goes-on}
 use Rattle.sound.specs.WriteKept.{param-kept, local-kept-good}
@@ -69,7 +69,7 @@ module _ {p : Program} (firm : Firm p) {m : Machine} (good : Good p m) (l : ℕ)
   pushes : (t : Ty) (v : Val) → Goes (n-push t v)
   unfolding perform now-written
   pushes t v e =
-      goes-on good l i at (n-push t v) c (tagged t v ∷ i .stack) g (on (way-at g firm (n-push t v) c e)) refl refl (t ∷ g .place .stack) refl
+      goes-on good l i at (n-push t v) c (tagged t v ∷ i .stack) g (on (way-at g firm (n-push t v) c e)) (kept-next g firm (n-push t v) c e) refl refl (t ∷ g .place .stack) refl
       ((refl, lasting-of p (m .instances) (good .all .nulls) (next-sized g firm (n-push t v) c e)), g .stacked)
 
   pushes-this : Goes n-this
@@ -77,7 +77,7 @@ module _ {p : Program} (firm : Firm p) {m : Machine} (good : Good p m) (l : ℕ)
   pushes-this e =
       let x = tagged (ref (i .struct)) (label l) in
       good-put good l i at n-this c (x ∷ i .stack) (λ k.
-      advance g n-this (on (way-at g firm n-this c e)) (set (m .instances) l (after i n-this c (x ∷ i .stack) (i .env))) (ref (i .struct) ∷ g .place .stack) refl (x ∷ i .stack) (
+      advance g n-this (on (way-at g firm n-this c e)) (kept-next g firm n-this c e) (set (m .instances) l (after i n-this c (x ∷ i .stack) (i .env))) (ref (i .struct) ∷ g .place .stack) refl (x ∷ i .stack) (
         (refl, of-kept k (ref (i .struct)) (label l) (i, at, refl)),
         each-map (fits-kept k) (g .place .stack) (i .stack) (g .stacked),
       )
@@ -92,7 +92,7 @@ module _ {p : Program} (firm : Firm p) {m : Machine} (good : Good p m) (l : ℕ)
       let (x, χ, s, f, r) = top-one g bool (h, a) in
       let (b, q) = bool-value (m .instances) (x .is) (f .1) in
       subst (Kept p Refused) (sym (negated p m l (acting n-not) c (s ∙ ap (λ v. tagged (x .by) v ∷ χ) q)))
-      (goes-on good l i at n-not c (tagged bool (bool-val (not b)) ∷ χ) g (on (way-at g firm n-not c e)) refl refl (bool ∷ h)
+      (goes-on good l i at n-not c (tagged bool (bool-val (not b)) ∷ χ) g (on (way-at g firm n-not c e)) (kept-next g firm n-not c e) refl refl (bool ∷ h)
       (ap (stack-after (ctx g) n-not) a)
       ((refl, tt), r))
 
@@ -103,7 +103,7 @@ module _ {p : Program} (firm : Firm p) {m : Machine} (good : Good p m) (l : ℕ)
       let (x, χ, s, f, r) = top-one g bool (h, a) in
       let (b, q) = bool-value (m .instances) (x .is) (f .1) in
       subst (Kept p Refused) (sym (branched p m l (acting (n-if n)) c n (s ∙ ap (λ v. tagged (x .by) v ∷ χ) q)))
-      (goes-on good l i at (n-if n) (elim b [ true ↦ c | false ↦ drop n c ]) χ g (way b (way-at g firm (n-if n) c e)) refl refl h
+      (goes-on good l i at (n-if n) (elim b [ true ↦ c | false ↦ drop n c ]) χ g (way b (way-at g firm (n-if n) c e)) (living b) refl refl h
       (ap (stack-after (ctx g) (n-if n)) a)
       r)
     where
@@ -112,6 +112,10 @@ module _ {p : Program} (firm : Firm p) {m : Machine} (good : Good p m) (l : ℕ)
           → Way (ctx g) (noted (ctx g) (g .body)) at-start (elim b [ true ↦ c | false ↦ drop n c ]) (leads (ctx g) (n-if n) (g .place))
       way true w = on w
       way false w = over w
+
+      living : (b : Bool) → Living-on g (n-if n) (elim b [ true ↦ c | false ↦ drop n c ])
+      living true = kept-next g firm (n-if n) c e
+      living false = kept-past g firm (n-if n) c e
 
   reads-param : (k v : ℕ) → Goes (n-rd k v)
   unfolding perform now-written
@@ -124,7 +128,7 @@ module _ {p : Program} (firm : Firm p) {m : Machine} (good : Good p m) (l : ℕ)
       param-holds (m .instances) (params-of p (j .struct)) (firm .few (j .struct)) v b′ (j .env) (good .all .each t j at′ .fitted) in
       subst (Kept p Refused)
       (sym (has-read p m l (acting (n-rd k v)) c v (λ d. variable d v) (s ∙ ap (λ u. tagged (x .by) u ∷ χ) q) at′ z))
-      (goes-on good l i at (n-rd k v) c (tagged (given-by p (variable (j .struct) v)) y ∷ χ) g (on (way-at g firm (n-rd k v) c e)) refl refl
+      (goes-on good l i at (n-rd k v) c (tagged (given-by p (variable (j .struct) v)) y ∷ χ) g (on (way-at g firm (n-rd k v) c e)) (kept-next g firm (n-rd k v) c e) refl refl
       (typ (ctx g) k v ∷ h)
       (ap (stack-after (ctx g) (n-rd k v)) a)
       ((ap (λ d. getD (params-of p d) v int) w, subst (λ d. Of (m .instances) (getD (params-of p d) v int) y) w o), r))
@@ -138,7 +142,7 @@ module _ {p : Program} (firm : Firm p) {m : Machine} (good : Good p m) (l : ℕ)
       let (y, z, o) = local-value g v d in
       subst (Kept p Refused)
       (sym (has-read p m l (acting (n-get t v)) c (first-local + v) (λ d. local t) (s ∙ ap (λ u. tagged (x .by) u ∷ χ) q) at z))
-      (goes-on good l i at (n-get t v) c (tagged t y ∷ χ) g (on (way-at g firm (n-get t v) c e)) refl refl (t ∷ h)
+      (goes-on good l i at (n-get t v) c (tagged t y ∷ χ) g (on (way-at g firm (n-get t v) c e)) (kept-next g firm (n-get t v) c e) refl refl (t ∷ h)
       (ap (stack-after (ctx g) (n-get t v)) a)
       ((refl, subst (λ d. Of (m .instances) d y) (sym b) o), r))
 
@@ -152,7 +156,7 @@ module _ {p : Program} (firm : Firm p) {m : Machine} (good : Good p m) (l : ℕ)
       let s′ = s ∙ ap (λ u. tagged (y .by) u ∷ x ∷ χ) q in
       let b′ : v < arity p (j .struct) = rw w b in
       let own : Good p (put m l (after i n c χ (i .env))) =
-      goes-on good l i at n c χ g (on (way-at g firm n c e)) refl refl h (ap (stack-after (ctx g) n) a) r in
+      goes-on good l i at n c χ g (on (way-at g firm n c e)) (kept-next g firm n c e) refl refl h (ap (stack-after (ctx g) n) a) r in
       let (z, z′, o) =
       param-holds (m .instances) (params-of p (j .struct)) (firm .few (j .struct)) v b′ (j .env) (good .all .each t j at′ .fitted) in
       let below = lt-ltb v (arity p (j .struct)) b′ in
@@ -167,13 +171,13 @@ module _ {p : Program} (firm : Firm p) {m : Machine} (good : Good p m) (l : ℕ)
   unfolding perform write-to
   writes-own d t v e =
       let n = n-set d t v in
-      let (u, b, (h, a)) = set-asks (ctx g) d t v (g .place) (asks g firm n c e) in
+      let (u, b, (h, a)) = set-asks (ctx g) d t v (here g) (asks g firm n c e) in
       let (y, x, χ, s, f, f′, r) = top-two g (ref (i .struct)) t (h, a) in
       let s′ = s ∙ ap (λ u. tagged (y .by) u ∷ x ∷ χ) (own-top g u y (x ∷ χ) s) in
       let few = firm .few (i .struct) in
       let beyond = le-ltb (first-local + v) (arity p (i .struct)) (omega arith) in
       subst (Kept p Refused) (sym (writes-local p m l (acting n) c (first-local + v) s′ at beyond))
-      (local-kept-good firm m l i at good g d t v (next-sized g firm n c e) b c (on (way-at g firm n c e)) h (ap (stack-after (ctx g) n) a) χ r (x .is) _
+      (local-kept-good firm m l i at good g d t v (next-sized g firm n c e) b c (on (way-at g firm n c e)) (kept-next g firm n c e) h (ap (stack-after (ctx g) n) a) χ r (x .is) _
       (f′ .1))
 
   constructs-one : (k : ℕ) → Goes (n-cons k)
@@ -194,7 +198,7 @@ module _ {p : Program} (firm : Firm p) {m : Machine} (good : Good p m) (l : ℕ)
       (cons-kept good l i at n c ψ k vs
       (each-reverse (Of js) ps (map (λ x. x .is) ξ)
       (each-of-map (Of js) (λ x. x .is) (reverse ps) ξ (each-map (λ t x z. of-kept keeps t (x .is) (z .1)) (reverse ps) ξ f)))
-      (advance g n (on (way-at g firm n c e)) js (ref k ∷ h)
+      (advance g n (on (way-at g firm n c e)) (kept-next g firm n c e) js (ref k ∷ h)
       (ap (stack-after (ctx g) n) a ∙ ap (λ r. ref k ∷ r) (drop-at (reverse ps) h (length ps) (length-reverse ps)))
       ψ
       ((refl, new-label good l i at n c ψ k vs), each-map (fits-kept keeps) h χ r)
@@ -219,7 +223,7 @@ module _ {p : Program} (firm : Firm p) {m : Machine} (good : Good p m) (l : ℕ)
           → (w : Answer) → apply o (x .is) (y .is) ≡ w → Answers u w
           → Kept p Refused (operated p m l (acting (n-op o)) c χ (result o (x .by)) w)
       go t u k h a y x χ s b r (value v) q z =
-          goes-on good l i at (n-op o) c (tagged (result-type (sort o) (x .by)) v ∷ χ) g (on (way-at g firm (n-op o) c e)) refl refl
+          goes-on good l i at (n-op o) c (tagged (result-type (sort o) (x .by)) v ∷ χ) g (on (way-at g firm (n-op o) c e)) (kept-next g firm (n-op o) c e) refl refl
           (result-type (sort o) t ∷ h)
           (ap (stack-after (ctx g) (n-op o)) a)
           ((ap (result-type (sort o)) b, subst (λ d. Of (m .instances) d v) (result-of k) (result-of-type (m .instances) k z)), r)

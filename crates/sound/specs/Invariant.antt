@@ -16,6 +16,7 @@ use Rattle.table.specs.Table.{Each}
 use Rattle.machine.specs.Published.{Sched, Sched.done, Sched.start, Sched.start-in, Sched.fixpoint, Sched.active, Env, Env.env, lookup, structs}
 use Rattle.machine.specs.Machine.{Tagged, Instance, Machine}
 use Rattle.commands.specs.Tags.{Tags, Way, at-start}
+use Rattle.commands.specs.Living.{alive, lives-at, Among}
 use Rattle.sound.specs.Needs.{Of}
 
 -- of a type in both senses
@@ -34,7 +35,8 @@ pub record Passage (p : Program) (is : List Instance) (l : ℕ) (i : Instance) :
   pub has : step-of p (i .struct) name ≡ some body
   pub place : Tags
   pub way : Way (context p (i .struct) body) (noted (context p (i .struct) body) body) at-start (i .code) place
-  pub wrote : i .written ≡ place .written
+  -- the living locals are written
+  pub kept : Among (alive (lives-at (context p (i .struct) body) body (i .code))) (i .written)
   pub stacked : Each (Fits is) (place .stack) (i .stack)
   pub own : place .fresh ≡ true → (x : Tagged) × (χ : List Tagged) × (i .stack ≡ x ∷ χ) × (x .is ≡ label l)
   pub locals : (x : ℕ) → List·Memᴰ x (i .written)
