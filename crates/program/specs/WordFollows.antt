@@ -4,7 +4,7 @@ use native.Mathlib.Omega.{arith}
 use mathlib.Core.Path.{_≡_, refl}
 use mathlib.Core.List.{[], _∷_}
 use lib.ListN.{length}
-use Rattle.types.specs.Limits.{first-local, variables, max-path}
+use Rattle.types.specs.Limits.{first-local, max-locals, variables, max-path}
 use Rattle.types.specs.Types.{code, IsType, type-of}
 use Rattle.program.specs.Encoding.{enc-word, var-code, enc-path}
 use Rattle.program.specs.Levels.{at}
@@ -44,7 +44,7 @@ module _ (d l : ℕ) (h : l ≤ d) where
       (λ v c. var-code-of v c)
 
   -- a declared local
-  pub local-follows : Follows d (λ x. x < first-local) (λ x. (first-local + x) ∷ []) (λ x. l ∷ []) read-local
+  pub local-follows : Follows d (λ x. x < max-locals) (λ x. (first-local + x) ∷ []) (λ x. l ∷ []) read-local
   unfolding read-local
   local-follows =
       made-follows d (ranged-follows d h first-local variables (omega arith)) (λ b. b - first-local) (λ x. first-local + x)
