@@ -3,12 +3,15 @@ pub mod Context
 pub mod Names
 pub mod Typing
 pub mod Coding
+pub mod Decoding
+pub mod CodingLaws
 pub mod Depth
 pub mod Bounds
 pub mod Noted
 pub mod Ways
 pub mod CommandLaws
 pub mod NotedLaws
+pub mod RangeLaws
 pub mod Sizes
 pub mod SizeLaws
 pub mod DepthLaws

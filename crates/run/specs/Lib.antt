@@ -5,6 +5,7 @@ pub mod Visits
 pub mod VisitLaws
 pub mod Begin
 pub mod Entry
+pub mod ListLaws
 pub mod EntryStreams
 pub mod EntryStreamLaws
 pub mod RowsOpen
