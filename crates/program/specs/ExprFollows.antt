@@ -6,7 +6,7 @@ use native.Mathlib.Decide.{decLt}
 use mathlib.Core.Path.{_≡_, refl, sym, _∙_}
 use mathlib.Core.List.{List, _∷_}
 use lib.ListN.{length, getD, drop, drop-of-length-le}
-use Rattle.program.specs.Tree.{Expr, Expr.inv, Expr.make, Expr.path, Expr.int-lit, Expr.nat-lit, Expr.bool-lit, Expr.null, Expr.self, Expr.op, Exprs}
+use Rattle.program.specs.Tree.{Expr, Expr.inv, Expr.make, Expr.path, Expr.int-lit, Expr.nat-lit, Expr.bool-lit, Expr.null, Expr.self, Expr.op}
 use Rattle.program.specs.Encoding.{op-code, enc-expr, enc-exprs}
 use Rattle.program.specs.Levels.{levels-expr, levels-exprs}
 use Rattle.program.specs.Counts.{height, CountsExpr}
@@ -16,7 +16,7 @@ use Rattle.program.specs.Exact.{Stands, Stands.letter, Stands.done, Exac
 use Rattle.program.specs.PartLaws.{then-ok, byte-ok}
 use Rattle.program.specs.WordLaws.{below-exact}
 use Rattle.program.specs.ExprLaws.{Opens, opens, form-code, InExpr, InExprs, exprs-row, expr-exact}
-use Rattle.program.specs.Follows.{Covers.covers-none, Covers.covers-byte, Deep, Deep.deep-here, Met, Met.met-whole, Met.met-deep, GoesOn, Follows, FormEnds, Opened}
+use Rattle.program.specs.Follows.{Covers.covers-none, Covers.covers-byte, Deep, Deep.deep-here, Met.met-whole, Met.met-deep, GoesOn, Follows, FormEnds, Opened}
 use Rattle.program.specs.MetLaws.{met-made}
 use Rattle.program.specs.FollowsLaws.{pair-follows, row-follows, follows-behind, formed-ends, met-byte, opened-follows, no-form-ends}
 use Rattle.program.specs.WordFollows.{below-follows, word-follows, type-follows, path-follows}

@@ -1,11 +1,11 @@
 -- The reader answers 4 and 5 exactly where 01 says (4 and 5 of 'Numbers from the input'), by the relations on fronts of encodings, which know
 -- no reader: a stream that ends early can be completed, and the byte that is refused is the first with which no program goes on.
-use Prim.Native.Nat.{ℕ, zero, suc, _+_, _-_, _<_, _≤_}
+use Prim.Native.Nat.{ℕ, zero, suc, _+_, _-_, _<_}
 use native.Mathlib.Omega.{arith}
 use native.Mathlib.Decide.{decLt}
 use mathlib.Core.Path.{_≡_, refl, sym, ap, _∙_}
 use mathlib.Core.Logic.{_↔_}
-use mathlib.Core.List.{List, [], _∷_, _++_, append-assoc, append-nil}
+use mathlib.Core.List.{List, _∷_, _++_, append-assoc, append-nil}
 use lib.ListN.{length, getD, take, drop, length-append, take-append-drop}
 use lib.Seq.{length-take-le, take-suc, drop-cons, take-take, take-append-le, take-append-add}
 use Rattle.types.specs.Limits.{expr-levels}

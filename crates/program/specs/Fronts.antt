@@ -16,8 +16,8 @@ pub data Front (d : ℕ) : List ℕ → List ℕ → List ℕ → Type 0 where
   front-none : {es ls : List ℕ} → Front d [] es ls
   front-byte : {x l : ℕ} {xs es ls : List ℕ} → l ≤ d → Front d xs es ls → Front d (x ∷ xs) (x ∷ es) (l ∷ ls)
 
--- each byte of s stands where it is allowed: some program goes on with s. A byte that opens a level more is not allowed, and the byte in
--- front of it is: so the program may have one level more than 01's, behind s.
+-- each byte of s stands where it is allowed: some program goes on with s, and no byte of s stands deeper than 01's levels. Behind s the
+-- program may go one level deeper: the byte that opens a level more offends, and not the operator in front of it.
 pub record Allowed (s : List ℕ) : Type 0 where
   pub program : Program
   pub counts : CountsTo (suc expr-levels) program

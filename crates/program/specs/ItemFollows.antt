@@ -1,18 +1,18 @@
 -- Items and the schedule follow the fronts of their encodings (01, 4 and 5 of 'Numbers from the input').
 use Prim.Native.Nat.{ℕ, zero, suc, _+_, _<_, _≤_}
 use native.Mathlib.Omega.{arith}
-use mathlib.Core.Path.{_≡_, refl}
+use mathlib.Core.Path.{refl}
 use mathlib.Core.List.{List, [], _∷_}
 use lib.ListN.{length}
 use Rattle.types.specs.Limits.{step-names, max-items, fix-levels}
 use Rattle.program.specs.Tree.{Item, Item.call, Item.call-in, Item.fix, Items, items}
-use Rattle.program.specs.Encoding.{enc-item, enc-items}
+use Rattle.program.specs.Encoding.{enc-item}
 use Rattle.program.specs.Levels.{all-at}
 use Rattle.program.specs.Counts.{fixes, fixes-in, CountsItem, CountsItems, CountsSchedule}
 use Rattle.program.specs.Reader.{Result, ranged, opened, pair, lookup, Sort, Sort.sort-call, Sort.sort-call-in, Sort.sort-fix, Sort.sort-none, sort, read-items, rule-item, read-item}
 use Rattle.program.specs.Exact.{Stands, Stands.letter, Exact}
 use Rattle.program.specs.WordLaws.{below-exact}
-use Rattle.program.specs.ItemLaws.{OpensItem, opens-item, InItem, InItems, InFix, enc-schedule, items-row, item-exact}
+use Rattle.program.specs.ItemLaws.{OpensItem, opens-item, InItem, InFix, enc-schedule, items-row, item-exact}
 use Rattle.program.specs.Follows.{Follows, FollowsBehind, FormEnds, Opened}
 use Rattle.program.specs.MetLaws.{met-made}
 use Rattle.program.specs.FollowsLaws.{follows-as, pair-follows, row-at, follows-behind, shut-follows, counted-follows, formed-ends, met-byte, opened-follows, no-form-ends}

@@ -1,8 +1,8 @@
 -- Programs follow the fronts of their encodings (01, 4 and 5 of 'Numbers from the input').
 use Prim.Native.Nat.{ℕ, _<_, _≤_}
 use native.Mathlib.Omega.{arith}
-use mathlib.Core.Path.{_≡_, refl}
-use mathlib.Core.List.{List, [], _∷_, _++_, map, append-assoc}
+use mathlib.Core.Path.{refl}
+use mathlib.Core.List.{List, [], _∷_, map, append-assoc}
 use lib.ListN.{length, length-map}
 use Rattle.types.specs.Limits.{max-structs, max-params, max-steps, expr-levels}
 use Rattle.types.specs.Types.{Ty, code, IsType}
