@@ -73,14 +73,18 @@ module _ (ar : List ℕ) (structs : 0 < length ar) (top : ℕ) where
     form-ends form-make =
         formed-ends top o (follows-behind top make-follows) _ (λ p h. ((h .0, h .1 .0, h .1 .1), omega arith)) (λ b p q. rw q) λ p. refl
     form-ends form-path = formed-ends top o (follows-behind top (path-follows top l o)) _ (λ p h. (h, omega arith)) (λ b p q. rw q) λ p. refl
-    form-ends form-int = formed-ends top o (follows-behind top (word-follows top l o word-bytes)) _ (λ v h. (h, omega arith)) (λ b v q. rw q) λ v. refl
-    form-ends form-nat = formed-ends top o (follows-behind top (word-follows top l o word-bytes)) _ (λ v h. (h, omega arith)) (λ b v q. rw q) λ v. refl
+    form-ends form-int =
+        formed-ends top o (follows-behind top (word-follows top l o word-bytes)) _ (λ v h. (h, omega arith)) (λ b v q. rw q) λ v. refl
+    form-ends form-nat =
+        formed-ends top o (follows-behind top (word-follows top l o word-bytes)) _ (λ v h. (h, omega arith)) (λ b v q. rw q) λ v. refl
     form-ends form-bool =
         formed-ends top o (follows-behind top (below-follows top l o bool-end (omega arith))) _ (λ v h. (h, omega arith)) (λ b v q. rw q) λ v. refl
-    form-ends form-null = formed-ends top o (follows-behind top (type-follows top l o (length ar))) _ (λ t h. (h, omega arith)) (λ b t q. rw q) λ t. refl
+    form-ends form-null =
+        formed-ends top o (follows-behind top (type-follows top l o (length ar))) _ (λ t h. (h, omega arith)) (λ b t q. rw q) λ t. refl
     form-ends form-self = record { ends = λ s n b h q e. let z : _≡_ {A = ℕ} 0 1 = cc in absurd (omega arith) }
     form-ends (form-op c) =
-        formed-ends top o (follows-behind top (pair-follows top x (wider d) y λ e c. y)) _ (λ p h. ((h .0 .0, h .1 .0), omega arith)) (λ b p q. rw q) λ p. refl
+        let y2 = pair-follows top x (wider d) y (λ e c. y) in
+        formed-ends top o (follows-behind top y2) _ (λ p h. ((h .0 .0, h .1 .0), omega arith)) (λ b p q. rw q) λ p. refl
     form-ends form-none = no-form-ends
 
     -- each tree, at the byte that opens it

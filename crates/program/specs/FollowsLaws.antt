@@ -12,7 +12,7 @@ use lib.Seq.{drop-cons}
 use lib.Dec.{T}
 use Rattle.program.specs.Encoding.{flat, enc-list}
 use Rattle.program.specs.Counts.{Few}
-use Rattle.program.specs.Levels.{at}
+use Rattle.program.specs.Levels.{all-at}
 use Rattle.program.specs.Fronts.{Front.front-none, Front.front-byte}
 use Rattle.program.specs.Reader.{Result, Result.ok, Result.bad, wrong-end, wrong-byte, then, pair, made, many, guard, between, byte, tested, ranged, counted, opened}
 use Rattle.program.specs.Exact.{Stands, Exact, Rowed}
@@ -88,8 +88,8 @@ module _ (d : ℕ) where
             ((a, u .0), (p .0, u .1), rw (p .1) (front-after (p .3) (u .2)))
 
     -- a row of i values, whose levels M come element by element
-    pub row-follows : {B : Type 0} {z : B} {c : A → B → B} {G : ℕ → B → Type 0} {F : ℕ → B → List ℕ} → Rowed z c D E G F → (M : ℕ → B → List ℕ) → M 0 z ≡ []
-        → ((i : ℕ) (a : A) (b : B) → D a → M (suc i) (c a b) ≡ L a ++ M i b) → (i : ℕ)
+    pub row-follows : {B : Type 0} {z : B} {c : A → B → B} {G : ℕ → B → Type 0} {F : ℕ → B → List ℕ} → Rowed z c D E G F
+        → (M : ℕ → B → List ℕ) → M 0 z ≡ [] → ((i : ℕ) (a : A) (b : B) → D a → M (suc i) (c a b) ≡ L a ++ M i b) → (i : ℕ)
         → Follows d (G i) (F i) (M i) (λ s. many z c (r s) i)
     unfolding many made
     row-follows {B = B} {z = z} {c = c} {G = G} {F = F} w M none more i = record {
@@ -112,13 +112,18 @@ module _ (d : ℕ) where
             → Whence (r s n) (λ a k. made (c a) (many z c (r s) i k)) (length s) wrong-end
             → GoesOn d (G (suc i)) (F (suc i)) (M (suc i)) (drop n s)
         after s i n l h (here e) =
-            let p = y .ends s n l e in
-            (c (p .0) (fill i), w .cons i _ _ (p .1) (fills i), rw (w .cons-bytes i (p .0) (fill i) (p .1), more i (p .0) (fill i) (p .1)) (front-more _ _ (p .2)))
+            let p = y .ends s n l e in (
+              c (p .0) (fill i),
+              w .cons i _ _ (p .1) (fills i),
+              rw (w .cons-bytes i (p .0) (fill i) (p .1), more i (p .0) (fill i) (p .1)) (front-more _ _ (p .2)),
+            )
         after s i n l h (later a k e o) =
             let p = was-read s a n k l e in
-            let u = h k (p .2) (made-bad _ (many z c (r s) i k) _ _ o) in
-            (c a (u .0), w .cons i _ _ (p .0) (u .1),
-              rw (p .1, w .cons-bytes i a (u .0) (p .0), more i a (u .0) (p .0)) (front-after (p .3) (u .2)))
+            let u = h k (p .2) (made-bad _ (many z c (r s) i k) _ _ o) in (
+              c a (u .0),
+              w .cons i _ _ (p .0) (u .1),
+              rw (p .1, w .cons-bytes i a (u .0) (p .0), more i a (u .0) (p .0)) (front-after (p .3) (u .2)),
+            )
 
         ends : (s : List ℕ) (i n : ℕ) → n ≤ length s → many z c (r s) i n ≡ bad (length s) wrong-end → GoesOn d (G i) (F i) (M i) (drop n s)
         ends s zero n l e = let u : _≡_ {A = ℕ} 0 1 = cc in absurd (omega arith)
@@ -138,11 +143,11 @@ module _ (d : ℕ) where
 
   -- a row of values that all stand at level l
   pub row-at : {A B : Type 0} {C : A → Type 0} {E : A → List ℕ} {r : List ℕ → ℕ → Result A} {z : B} {c : A → B → B} {G : ℕ → B → Type 0}
-      {F : ℕ → B → List ℕ} (l : ℕ) → Exact C E r → Follows d C E (λ a. at l (E a)) r → Rowed z c C E G F → (i : ℕ)
-      → Follows d (G i) (F i) (λ b. at l (F i b)) (λ s. many z c (r s) i)
+      {F : ℕ → B → List ℕ} (l : ℕ) → Exact C E r → Follows d C E (λ a. all-at l (E a)) r → Rowed z c C E G F → (i : ℕ)
+      → Follows d (G i) (F i) (λ b. all-at l (F i b)) (λ s. many z c (r s) i)
   row-at {E = E} {F = F} l x y w i =
-      row-follows x (λ a c. c) y w (λ i b. at l (F i b)) (ap (at l) (w .nil-bytes))
-      (λ i a b c. ap (at l) (w .cons-bytes i a b c) ∙ at-both l (E a) (F i b)) i
+      row-follows x (λ a c. c) y w (λ i b. all-at l (F i b)) (ap (all-at l) (w .nil-bytes))
+      (λ i a b c. ap (all-at l) (w .cons-bytes i a b c) ∙ at-both l (E a) (F i b)) i
 
   -- behind a byte
   pub follows-behind : {A : Type 0} {C : A → Type 0} {E L : A → List ℕ} {r : List ℕ → ℕ → Result A} → Follows d C E L r
@@ -195,7 +200,9 @@ module _ (d : ℕ) where
 
         ends : (s : List ℕ) (n : ℕ) → n ≤ length s → Dec (n < length s) → tested s t n ≡ bad (length s) wrong-end
             → GoesOn d (λ b. T (t b)) (λ b. b ∷ []) (λ b. l ∷ []) (drop n s)
-        ends s n k (yes j) e = absurd (refused n (getD s n 0) (n + 1) (length s) (t (getD s n 0)) (sym (then-ok (λ b k. guard (t b) n b k) (byte-ok s j refl) refl) ∙ e))
+        ends s n k (yes j) e =
+            let q = sym (then-ok (λ b k. guard (t b) n b k) (byte-ok s j refl) refl) ∙ e in
+            absurd (refused n (getD s n 0) (n + 1) (length s) (t (getD s n 0)) q)
         ends s n k (no j) e = (b, h, rw (drop-of-length-le s {i = n} (omega arith)) front-none)
 
     -- one of a range
@@ -252,8 +259,8 @@ module _ (d : ℕ) where
 
     -- the same at one level
     pub list-at : {A : Type 0} {C : ℕ → A → Type 0} {E : A → List ℕ} {r : ℕ → List ℕ → ℕ → Result A} (lo hi : ℕ) → lo ≤ hi
-        → ((i : ℕ) → Exact (C i) E (r i)) → ((i : ℕ) → Follows d (C i) E (λ a. at l (E a)) (r i))
-        → Follows d (λ xs. Few lo hi (C (length xs)) xs) (enc-list E) (λ xs. at l (enc-list E xs)) (λ s. counted s lo hi (λ i. many [] _∷_ (r i s) i))
+        → ((i : ℕ) → Exact (C i) E (r i)) → ((i : ℕ) → Follows d (C i) E (λ a. all-at l (E a)) (r i))
+        → Follows d (λ xs. Few lo hi (C (length xs)) xs) (enc-list E) (λ xs. all-at l (enc-list E xs)) (λ s. counted s lo hi (λ i. many [] _∷_ (r i s) i))
     list-at {E = E} lo hi o x y =
         follows-as (list-follows lo hi o x (λ i a c. c) y) (λ xs c. c) (λ xs c. c) (λ xs. ap (λ ls. l ∷ ls) (sym (at-flat l E xs)))
 

@@ -5,7 +5,7 @@ use mathlib.Core.Path.{_≡_, refl, _∙_}
 use mathlib.Core.List.{List, [], _∷_, _++_}
 use lib.ListN.{length}
 use Rattle.program.specs.Encoding.{flat}
-use Rattle.program.specs.Levels.{at}
+use Rattle.program.specs.Levels.{all-at}
 use Rattle.program.specs.Fronts.{Front, Front.front-none, Front.front-byte}
 use Rattle.program.specs.Follows.{Covers, Covers.covers-none, Covers.covers-byte, Deep, Deep.deep-here, Deep.deep-later}
 
@@ -52,15 +52,11 @@ deep-right {j = j} covers-none p = (j, omega arith, p)
 deep-right (covers-byte h c) p = let q = deep-right c p in (suc (q .0), omega (arith, q .1), deep-later (q .2))
 
 -- bytes at one level
-pub covers-at : {d l : ℕ} → l ≤ d → (es : List ℕ) → Covers d es (at l es)
-covers-at h [] = covers-none
-covers-at h (e ∷ es) = covers-byte h (covers-at h es)
-
-pub at-both : (l : ℕ) (es fs : List ℕ) → at l (es ++ fs) ≡ at l es ++ at l fs
+pub at-both : (l : ℕ) (es fs : List ℕ) → all-at l (es ++ fs) ≡ all-at l es ++ all-at l fs
 at-both l [] fs = refl
 at-both l (e ∷ es) fs = rw (at-both l es fs)
 
-pub at-flat : {A : Type 0} (l : ℕ) (E : A → List ℕ) (xs : List A) → at l (flat E xs) ≡ flat (λ a. at l (E a)) xs
+pub at-flat : {A : Type 0} (l : ℕ) (E : A → List ℕ) (xs : List A) → all-at l (flat E xs) ≡ flat (λ a. all-at l (E a)) xs
 unfolding flat
 at-flat l E [] = refl
 at-flat l E (a ∷ xs) = at-both l (E a) (flat E xs) ∙ rw (at-flat l E xs)

@@ -7,7 +7,7 @@ use lib.ListN.{length}
 use Rattle.types.specs.Limits.{step-names, max-items, fix-levels}
 use Rattle.program.specs.Tree.{Item, Item.call, Item.call-in, Item.fix, Items, items}
 use Rattle.program.specs.Encoding.{enc-item, enc-items}
-use Rattle.program.specs.Levels.{at}
+use Rattle.program.specs.Levels.{all-at}
 use Rattle.program.specs.Counts.{fixes, fixes-in, CountsItem, CountsItems, CountsSchedule}
 use Rattle.program.specs.Reader.{Result, ranged, opened, pair, lookup, Sort, Sort.sort-call, Sort.sort-call-in, Sort.sort-fix, Sort.sort-none, sort, read-items, rule-item, read-item}
 use Rattle.program.specs.Exact.{Stands, Stands.letter, Exact}
@@ -24,10 +24,10 @@ module _ (ar : List ℕ) (structs : 0 < length ar) (top : ℕ) where
   outside = omega arith
 
   abbrev levels-item : Item → List ℕ
-  levels-item t = at 0 (enc-item t)
+  levels-item t = all-at 0 (enc-item t)
 
   abbrev levels-schedule : Items → List ℕ
-  levels-schedule is = at 0 (enc-schedule ar is)
+  levels-schedule is = all-at 0 (enc-schedule ar is)
 
   -- a count and so many items
   pub items-follows : (d : ℕ) {r : List ℕ → ℕ → Result Item} → Exact (InItem ar d) enc-item r → Follows top (InItem ar d) enc-item levels-item r
@@ -52,7 +52,8 @@ module _ (ar : List ℕ) (structs : 0 < length ar) (top : ℕ) where
       below-follows top 0 outside step-names (omega arith)
 
   -- where w reads what stands behind the byte of a Fix, with at most d levels in all
-  module _ (d : ℕ) (w : List ℕ → ℕ → ℕ → Result Items) (x : FollowsBehind top (InFix ar d) (enc-schedule ar) levels-schedule (λ s n. w s n (n + 1))) where
+  module _ (d : ℕ) (w : List ℕ → ℕ → ℕ → Result Items)
+      (x : FollowsBehind top (InFix ar d) (enc-schedule ar) levels-schedule (λ s n. w s n (n + 1))) where
     -- each sort, behind the byte that opens it
     sort-ends : (f : Sort) → FormEnds top (InItem ar d) enc-item levels-item (λ b. OpensItem b f) (λ s n. rule-item ar s (w s) n (n + 1) f)
     unfolding rule-item fixes enc-item

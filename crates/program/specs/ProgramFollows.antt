@@ -8,7 +8,7 @@ use Rattle.types.specs.Limits.{max-structs, max-params, max-steps, expr-levels}
 use Rattle.types.specs.Types.{Ty, code, IsType}
 use Rattle.program.specs.Tree.{Step, Program}
 use Rattle.program.specs.Encoding.{flat, enc-list, enc-step, enc-program}
-use Rattle.program.specs.Levels.{at, levels-step, levels-program}
+use Rattle.program.specs.Levels.{all-at, levels-step, levels-program}
 use Rattle.program.specs.Counts.{All, Few, CountsStep, CountsStepTo, CountsTo, Counts}
 use Rattle.program.specs.Reader.{many, read-params, read-steps, read-program}
 use Rattle.program.specs.JoinLaws.{AllOf, row-exact, flat-row, list-exact}
@@ -29,14 +29,15 @@ enc-types ts = enc-list (λ t. code t ∷ []) ts
 
 -- for each struct its parameters' types
 params-follows : Follows expr-levels (λ ts. Few 1 max-structs (Few 0 max-params (IsType (length ts))) ts) (enc-list enc-types)
-    (λ ts. at 0 (enc-list enc-types ts)) read-params
+    (λ ts. all-at 0 (enc-list enc-types ts)) read-params
 unfolding read-params
 params-follows =
     list-at expr-levels outside 1 max-structs (omega arith) (λ S. list-exact 0 max-params λ i. type-exact S) λ S.
     list-at expr-levels outside 0 max-params (omega arith) (λ i. type-exact S) λ i. type-follows expr-levels 0 outside S
 
 -- the steps of i structs
-structs-wider : (ar : List ℕ) (i : ℕ) (l : List (List Step)) → AllOf (Few 0 max-steps (CountsStep ar)) i l → AllOf (Few 0 max-steps (CountsStepTo one-more ar)) i l
+structs-wider : (ar : List ℕ) (i : ℕ) (l : List (List Step)) → AllOf (Few 0 max-steps (CountsStep ar)) i l
+    → AllOf (Few 0 max-steps (CountsStepTo one-more ar)) i l
 structs-wider ar i l c = (c .0, go l (c .1))
   where
     go : (l : List (List Step)) → All (Few 0 max-steps (CountsStep ar)) l → All (Few 0 max-steps (CountsStepTo one-more ar)) l

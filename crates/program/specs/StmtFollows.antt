@@ -9,7 +9,7 @@ use Rattle.types.specs.Limits.{step-names, max-steps, max-statements, if-levels
 use Rattle.types.specs.Types.{code}
 use Rattle.program.specs.Tree.{Var.par, Expr, Expr.self, Stmt, Stmt.when, Stmt.declare, Stmt.update, Stmt.create, Stmts, Stmts.end, Stmts.next, Step, size}
 use Rattle.program.specs.Encoding.{flat, enc-path, enc-expr, enc-exprs, enc-stmt, enc-stmts, enc-list, enc-step}
-use Rattle.program.specs.Levels.{at, levels-expr, levels-exprs, levels-stmt, levels-stmts, levels-step}
+use Rattle.program.specs.Levels.{all-at, levels-expr, levels-exprs, levels-stmt, levels-stmts, levels-step}
 use Rattle.program.specs.Counts.{All, IsVar, IsPath, height, heights, nest, nests, CountsExpr, CountsStmtTo, CountsStmtsTo, CountsStepTo, CountsStep, Few}
 use Rattle.program.specs.Reader.{Result, lookup, Kind, Kind.kind-when, Kind.kind-declare, Kind.kind-update, Kind.kind-create, Kind.kind-none, kind, opened, read-make, read-expr, read-body, read-when, read-declare, read-update, rule-stmt, read-stmt, read-step, read-steps}
 use Rattle.program.specs.Exact.{Stands, Stands.letter, Exact}
@@ -109,7 +109,7 @@ module _ (ar : List ℕ) (structs : 0 < length ar) where
       (λ p h. (h .0, h .1 .0, h .1 .1 .0, h .1 .1 .1)) (λ p h. (h .0, (h .1, (h .2, h .3)))) (λ p. refl)
 
   update-follows : Follows top (λ p. CountsStmtTo one-more ar (update (p .0 .0) (p .0 .1) (p .1)))
-      (λ p. enc-path (p .0 .0) (p .0 .1) ++ enc-expr (p .1)) (λ p. at 0 (enc-path (p .0 .0) (p .0 .1)) ++ levels-expr (p .1) 1) (read-update ar)
+      (λ p. enc-path (p .0 .0) (p .0 .1) ++ enc-expr (p .1)) (λ p. all-at 0 (enc-path (p .0 .0) (p .0 .1)) ++ levels-expr (p .1) 1) (read-update ar)
   unfolding read-update CountsStmtTo
   update-follows =
       follows-as top (pair-follows top path-exact (λ p c. c) (path-follows top 0 outside) λ p c. outer)
@@ -123,7 +123,8 @@ module _ (ar : List ℕ) (structs : 0 < length ar) where
       (λ p h. (h .0, h .1 .0, h .1 .1, h .1 .2)) (λ p h. (h .0, (h .1, h .2, h .3))) (λ p. refl)
 
   -- where w reads what stands behind the byte of an if, with at most d levels in all
-  module _ (d : ℕ) (w : List ℕ → ℕ → ℕ → Result (Expr × Stmts)) (x : FollowsBehind top (InWhenTo d) (enc-when ar) levels-when (λ s n. w s n (n + 1))) where
+  module _ (d : ℕ) (w : List ℕ → ℕ → ℕ → Result (Expr × Stmts))
+      (x : FollowsBehind top (InWhenTo d) (enc-when ar) levels-when (λ s n. w s n (n + 1))) where
     -- each kind, behind the byte that opens it
     kind-ends : (f : Kind)
         → FormEnds top (InStmtTo ar one-more d) enc-stmt levels-stmt (λ b. OpensStmt b f) (λ s n. rule-stmt ar s (w s) n (n + 1) f)

@@ -4,10 +4,10 @@ use native.Mathlib.Omega.{arith}
 use mathlib.Core.Path.{_≡_, refl}
 use mathlib.Core.List.{[], _∷_}
 use lib.ListN.{length}
-use Rattle.types.specs.Limits.{first-local, variables, max-path}
+use Rattle.types.specs.Limits.{first-local, max-locals, variables, max-path}
 use Rattle.types.specs.Types.{code, IsType, type-of}
 use Rattle.program.specs.Encoding.{enc-word, var-code, enc-path}
-use Rattle.program.specs.Levels.{at}
+use Rattle.program.specs.Levels.{all-at}
 use Rattle.program.specs.Counts.{IsVar, IsPath}
 use Rattle.program.specs.Reader.{byte-end, ranged, type-byte, var-of, read-word, read-type, read-var, read-local, read-path}
 use Rattle.program.specs.Exact.{Rowed}
@@ -23,7 +23,7 @@ module _ (d l : ℕ) (h : l ≤ d) where
   below-follows hi o = follows-as d (ranged-follows d h 0 hi o) (λ b c. c .1) (λ b c. (omega arith, c)) (λ b. refl)
 
   -- a number of i bytes
-  pub word-follows : (i : ℕ) → Follows d (λ v. v < 256 ^ i) (enc-word i) (λ v. at l (enc-word i v)) (λ s. read-word s i)
+  pub word-follows : (i : ℕ) → Follows d (λ v. v < 256 ^ i) (enc-word i) (λ v. all-at l (enc-word i v)) (λ s. read-word s i)
   unfolding read-word
   word-follows i = row-at d l (below-exact byte-end) (below-follows byte-end (omega arith)) word-row i
 
@@ -44,7 +44,7 @@ module _ (d l : ℕ) (h : l ≤ d) where
       (λ v c. var-code-of v c)
 
   -- a declared local
-  pub local-follows : Follows d (λ x. x < first-local) (λ x. (first-local + x) ∷ []) (λ x. l ∷ []) read-local
+  pub local-follows : Follows d (λ x. x < max-locals) (λ x. (first-local + x) ∷ []) (λ x. l ∷ []) read-local
   unfolding read-local
   local-follows =
       made-follows d (ranged-follows d h first-local variables (omega arith)) (λ b. b - first-local) (λ x. first-local + x)
@@ -52,12 +52,13 @@ module _ (d l : ℕ) (h : l ≤ d) where
       (λ x c. (omega arith, omega arith))
 
   -- a length and that many variables
-  pub path-follows : Follows d (λ p. IsPath (p .0) (p .1)) (λ p. enc-path (p .0) (p .1)) (λ p. at l (enc-path (p .0) (p .1))) read-path
+  pub path-follows : Follows d (λ p. IsPath (p .0) (p .1)) (λ p. enc-path (p .0) (p .1)) (λ p. all-at l (enc-path (p .0) (p .1))) read-path
   unfolding read-path IsPath enc-path
   path-follows =
       follows-as d
       (counted-follows d h 1 max-path (λ p. suc (length (p .1))) (omega arith) (λ i p o c. omega arith)
-      λ i o. pair-follows d var-exact (λ v c. c) var-follows λ v c. row-at d l (below-exact first-local) (below-follows first-local (omega arith)) later (i - 1))
+      λ i o. pair-follows d var-exact (λ v c. c) var-follows λ v c.
+      row-at d l (below-exact first-local) (below-follows first-local (omega arith)) later (i - 1))
       (λ p c. (c .2 .0, omega arith, c .2 .1 .1))
       (λ p c. (omega arith, omega arith, (c .0, (omega arith, c .2))))
       (λ p. refl)

@@ -127,18 +127,11 @@ module _ (x y es out list : List ℕ) where
   -- what is ready meets no condition
   pub ready-none : {p : Program} {rs : List Record} → Ready x y es out list p rs → NoneOf (order x y es out list)
   ready-none r =
+      let room : NoneOf from-13 = (λ h. omega (arith, r .output-room), (λ h. omega (arith, r .list-room), (λ h. omega (arith, r .turns-few), tt))) in
+      let table : NoneOf from-11 = (no-11 (r .program .reads) (r .table), (no-12 (r .program .reads) (r .table), room)) in
       none-behind (program-order x) from-9 (accepted-none x (r .program)) (
         λ f. f (r .table .image .length-right),
-        (
-          λ b. no-fault y (b .0) (r .table .image .blocks-right) (b .1),
-          (
-            no-11 (r .program .reads) (r .table),
-            (
-              no-12 (r .program .reads) (r .table),
-              (λ h. omega (arith, r .output-room), (λ h. omega (arith, r .list-room), (λ h. omega (arith, r .turns-few), tt)))
-            )
-          )
-        )
+        (λ b. no-fault y (b .0) (r .table .image .blocks-right) (b .1), table),
       )
 
   -- a run begins with a program and a table exactly where both are accepted and there is room

@@ -146,21 +146,11 @@ module _ (x : List ℕ) where
   -- what is accepted meets no condition
   pub accepted-none : {p : Program} → Accepted x p → NoneOf (program-order x)
   accepted-none {p} a =
-      let reads = program-law (stream x) p (length (stream x)) .1 (a .reads .counts, a .reads .bytes, refl) in (
+      let reads = program-law (stream x) p (length (stream x)) .1 (a .reads .counts, a .reads .bytes, refl) in
+      let judged : NoneOf from-6 = (no-6 (a .reads) (a .within), (no-7 (a .reads) (a .names), (no-8 (a .reads) (a .types), tt))) in
+      let whole : NoneOf from-4 = (no-4 p (length (stream x)) reads, (no-5 p (length (stream x)) reads, judged)) in (
         λ f. f (a .image .length-right),
-        (
-          no-fault x Sum (a .image .blocks-right),
-          (
-            no-fault x Layout (a .image .blocks-right),
-            (
-              no-4 p (length (stream x)) reads,
-              (
-                no-5 p (length (stream x)) reads,
-                (no-6 (a .reads) (a .within), (no-7 (a .reads) (a .names), (no-8 (a .reads) (a .types), tt)))
-              )
-            )
-          )
-        )
+        (no-fault x Sum (a .image .blocks-right), (no-fault x Layout (a .image .blocks-right), whole)),
       )
 
   -- it is accepted as a program exactly where it meets the conditions of 01: right blocks, the program's stream, within counts and

@@ -160,13 +160,16 @@ number-is r =
     (tabled-is (checked (r .program)) (r .table)
     ∙ ap (λ (f : Found). tabled (of-image f (r .program)) (swept table-blocks (r .table)) (r .table)) (fault-is program-blocks (r .program)))
 
--- rows over the images of two streams and a second block hold where they do over blocks whose sums are swept up
+-- rows over the images of two streams and a second block, whose sums are swept up
+abbrev pub swept-over : (List ℕ → List ℕ → List ℕ → List ImageRow) → List ℕ → List ℕ → List ImageRow
+swept-over rows-of s t = rows-of (swept-block 0 s) (swept-block 0 t) (swept-block 1 s)
+
+-- they hold of the images where they do so
 pub images-follow : (s t : List ℕ) → image s ≡ swept-block 0 s → image t ≡ swept-block 0 t → (rows-of : List ℕ → List ℕ → List ℕ → List ImageRow)
-    → map swept-number (rows-of (swept-block 0 s) (swept-block 0 t) (swept-block 1 s)) ≡ map (λ r. r .number) (rows-of (swept-block 0 s) (swept-block 0 t) (swept-block 1 s))
+    → map swept-number (swept-over rows-of s t) ≡ map (λ r. r .number) (swept-over rows-of s t)
     → All (λ r. reports r .number ≡ r .number) (rows-of (image s) (image t) (block-of 1 s))
 images-follow s t one-s one-t rows-of e =
-    rw (one-s, one-t, block-is 1 s)
-    (each swept-number (λ r. r .number) (λ r q. number-is r ∙ q) (rows-of (swept-block 0 s) (swept-block 0 t) (swept-block 1 s)) e)
+    rw (one-s, one-t, block-is 1 s) (each swept-number (λ r. r .number) (λ r q. number-is r ∙ q) (swept-over rows-of s t) e)
 
 -- What a run leaves in memory --------------------------------------------------------------
 

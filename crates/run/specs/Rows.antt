@@ -21,7 +21,7 @@ use Rattle.run.specs.EntryStreamLaws.{checked-image}
 use Rattle.run.specs.RowsOpen.{running}
 use Rattle.run.specs.RowPrograms.{P, P-with, once, twice, one-in-fix, local-7, both-sides, constructing, inner-fix, itself, nothing, chosen-by, along-path, leaving, cell, single, empty, cells, plain}
 use Rattle.run.specs.Swept.{plain-sum, falling-sum, swept-right, swept-fault, swept-block, block-is, first-swept, swept}
-use Rattle.run.specs.RowLaws.{each, Row, RowRight, computed, said, rows-follow, ImageRow, reports, swept-number, images-follow, Kept, at-last, kept}
+use Rattle.run.specs.RowLaws.{each, Row, RowRight, computed, said, rows-follow, ImageRow, reports, swept-number, swept-over, images-follow, Kept, at-last, kept}
 use Rattle.run.specs.Bench.{row, ok, zeros, of-P, two}
 
 -- Runs ---------------------------------------------------------------------------------
@@ -124,8 +124,7 @@ one-cell = cells 1 (cell 5 0)
 unfoldable pub image-rows : List ImageRow
 image-rows = rows-of (image P) (image one-cell) (block-of 1 P)
 
-images-computed : map swept-number (rows-of (swept-block 0 P) (swept-block 0 one-cell) (swept-block 1 P))
-    ≡ map (λ r. r .number) (rows-of (swept-block 0 P) (swept-block 0 one-cell) (swept-block 1 P))
+images-computed : map swept-number (swept-over rows-of P one-cell) ≡ map (λ r. r .number) (swept-over rows-of P one-cell)
 unfolding swept-number running plain-sum falling-sum swept-right swept-fault swept-block first-swept swept pair-at pair index used used-part unused-part used-right zero-bytes laid-out front length-right block is-last joined stream of-image of-table-image report-of run-report-by P cell cells
 images-computed = refl
 
