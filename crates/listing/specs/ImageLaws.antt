@@ -4,10 +4,8 @@ use native.Mathlib.Omega.{arith}
 use mathlib.Core.Path.{_≡_, refl, sym, ap, _∙_}
 use mathlib.Core.List.{List, [], _∷_, _++_}
 use lib.ListN.{length, drop}
-use Rattle.types.specs.Limits.{program-blocks, max-commands}
-use Rattle.blocks.specs.Images.{stream, read as image-read}
-use Rattle.blocks.specs.declared.Fault.{Fault}
-use Rattle.blocks.specs.declared.Read.the-variants.{Refused as ImageRefused}
+use Rattle.types.specs.Limits.{max-commands}
+use Rattle.blocks.specs.Images.{stream}
 use Rattle.program.specs.Tree.{Program}
 use Rattle.program.specs.Reader.{Result.ok, read}
 use Rattle.program.specs.ProgramLaws.{program-law}
@@ -21,7 +19,7 @@ use Rattle.run.specs.InputOrder.{Numbered, foremost-numbered, Tells, Tells.refu
 use Rattle.run.specs.InputProgram.{Passed, tell-checked}
 use Rattle.checker.specs.declared.Verdict.{Verdict}
 use Rattle.checker.specs.Answer.{answer}
-use Rattle.checker.specs.CheckLaws.{refused-answers, room-answers, same-words, image-refused}
+use Rattle.checker.specs.CheckLaws.{refused-answers, room-answers, same-words}
 use Rattle.text.specs.Listing.{row}
 use Rattle.step_lines.specs.Lines.{program-lines}
 use Rattle.step_lines.specs.Walk.{line-most, Walkable}
@@ -30,6 +28,11 @@ use Rattle.listing.specs.Listings.{audala, refused-word, head, listing, 
 -- a refusal's number is not 0
 some : (x : List ℕ) → Numbered (λ n. 1 ≤ n) (program-order x)
 some x = omega arith
+
+-- an image that is refused is listed with its number
+pub image-listing : (x : List ℕ) (m n : ℕ) → m ≡ n → checked x ≡ refused n → listing-of x ≡ row refused-word (m ∷ [])
+unfolding listing listing-of
+image-listing x m n e h = rw (h, e)
 
 module _ (x list : List ℕ) (v : Verdict) (says : v ≡ answer (check-verdict x list)) (room : max-commands ≤ length list) where
   -- the image is refused with that number
@@ -65,14 +68,6 @@ module _ (x list : List ℕ) (v : Verdict) (says : v ≡ answer (check-verdict x
 
     pub reads : read (stream x) ≡ ok p (length (stream x))
     reads = program-law (stream x) p (length (stream x)) .1 (a .meets .reads .counts, a .meets .reads .bytes, refl)
-
-    -- its blocks are right
-    pub no-fault : (f : Fault) (n : ℕ) → image-read program-blocks x n ≡ ImageRefused f → ⊥
-    no-fault f n e =
-        let h = image-refused x f n e in
-        let q = a .accepts in
-        let z : _≡_ {A = ℕ} 0 1 = cc in
-        omega arith
 
     -- its head, and then its lines
     pub accepted-listing : listing-of x ≡ row audala (v .structs ∷ v .steps ∷ v .commands ∷ v .depth ∷ []) ++ code-of program-lines (read (stream x))

@@ -20,7 +20,7 @@ use Rattle.runner.specs.Ready.{Ready}
 use Rattle.runner.specs.Counting.{fewer}
 use Rattle.runner.specs.Running.{busy, cleared, Begun, Standing, Settling, Ending, Gone}
 use Rattle.runner.specs.TurnLaws.{picked-fits}
-use Rattle.runner.specs.RunningLaws.{ready-rows, runs-none, running-visits, still-running, ends-over, ends-lasting, ends-failed, taken-turn, runs-more}
+use Rattle.runner.specs.RunningLaws.{ready-rows, moves-none, settles-held, runs-none, running-visits, still-running, ends-over, ends-lasting, ends-failed, taken-turn, runs-more}
 
 -- The count behind a command of instance l ------------------------------------------
 
@@ -115,3 +115,7 @@ module _ {counts list items spans es : List ℕ} {z₀ z₁ : State} {b₁ : ℕ
             -- a turn more, and the moves behind it
             pub gone-more : {x : State} {j : ℕ} → Settling items spans y x j → Gone counts list items spans es z₁ b₁ (i + 1) x j
             gone-more s p m t = runs-more (g p m t) h k acted c (λ w r. s p counts list w r)
+
+            -- a turn more, where someone still holds commands: the schedule does not move
+            pub gone-on : {n′ : ℕ} → n′ ≡ fewer (holds (y .heads) l) n → 0 < n′ → Gone counts list items spans es z₁ b₁ (i + 1) y n′
+            gone-on e s p m t = runs-more (g p m t) h k acted c (λ w r. settles-held (moves-none r) (e ∙ gone-count) s)

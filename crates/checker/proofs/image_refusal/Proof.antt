@@ -3,17 +3,20 @@ use native.Mathlib.Omega.{arith}
 use mathlib.Core.Path.{_≡_, refl}
 use mathlib.Core.Logic.{⊎-elim}
 use mathlib.Core.List.{[], _∷_}
+use types.Run.{OneOf}
+use denote.Enum.Declared.{tagOf}
 use Rattle.blocks.specs.declared.Read.{Read}
 use Rattle.blocks.specs.declared.Read.the-variants.{Stream, Refused, Short}
+use Rattle.blocks.proofs.Read.{the-type}
 use Rattle.checker.specs.Answer.{image-refusal}
 use borrow.Author.Needs.{needs}
 use Rattle.checker.proofs.image_refusal.Statement.{statement}
 use Rattle.checker.proofs.image_refusal.Tie as tie
 
 -- an answer that is no refusal
-none : (r : Read) → types.Run.OneOf (0 ∷ 2 ∷ []) (denote.Enum.Declared.tagOf Rattle.blocks.proofs.Read.the-type r) → 0 ≡ image-refusal r
+none : (r : Read) → OneOf (0 ∷ 2 ∷ []) (tagOf the-type r) → 0 ≡ image-refusal r
 none (Stream n) k = refl
-none (Refused f) k = ⊎-elim (λ e. absurd (omega arith)) (λ e. absurd (omega arith)) k
+none (Refused f) k = absurd (⊎-elim (λ e. omega arith) (λ e. omega arith) k)
 none Short k = refl
 
 enum-known-r : tie.Need-enum-known-r
