@@ -28,7 +28,7 @@ use Rattle.run.specs.Initial.{initial}
 use Rattle.run.specs.BeginLaws.{begin-represents, outcome-exact}
 use Rattle.run.specs.PublishedVisits.{Passes}
 use Rattle.run.specs.RunAgreesVisits.{passes-visits}
-use Rattle.run.specs.Entry.{Checked, Checked.accepted, Checked.refused, checked, no-room, Verdict, refusal, verdict-of, check-verdict, check-list}
+use Rattle.run.specs.Entry.{Checked, Checked.accepted, Checked.refused, checked, Verdict, check-list}
 use Rattle.run.specs.Input.{Accepted, Ready, program-order, check-order}
 use Rattle.run.specs.InputProgram.{checked-accepted, checked-number, verdict-number, verdict-approved, check-approved}
 use Rattle.run.specs.InputLaws.{begins-ready}
@@ -37,6 +37,7 @@ use Rattle.sound.specs.Needs.{Right}
 use Rattle.sound.specs.AcceptedLaws.{ready-accepted}
 use Rattle.sound.specs.NeverStuckLaws.{demand3}
 use Rattle.parts.specs.StepPart.{step-place, step-part}
+use Rattle.parts.specs.StepPartLaws.{place-number}
 use Rattle.parts.specs.StepPartWords.{step-words, step-absent, step-refused, step-short}
 use Rattle.text.specs.Listing.{row}
 use Rattle.step_lines.specs.Lines.{program-lines}
@@ -87,20 +88,12 @@ module _ (x list : List ℕ) (p : Program) (a : Accepted x p) (h : max-commands 
 -- where the check refuses, so does the step entry: the same number, and an empty part
 pub step-numbered : (x list : List ℕ) (k s n : ℕ) → Foremost (check-order x list) n
     → (step-place x list k s .number ≡ n) × (step-part x list k s ≡ [])
-unfolding check-verdict verdict-of
-step-numbered x list k s n q = go (checked x) refl (ltb (length list) max-commands) refl
+step-numbered x list k s n q =
+    (place-number x list k s ∙ ap (λ (v : Verdict). v .number) (verdict-number x list n .1 q), go (checked x) refl (ltb (length list) max-commands) refl)
   where
-    -- the verdict has the number
-    says : (m : ℕ) → check-verdict x list ≡ refusal m → m ≡ n
-    says m e = ap (λ (v : Verdict). v .number) (sym e ∙ verdict-number x list n .1 q)
-
-    go : (c : Checked) → checked x ≡ c → (t : Bool) → ltb (length list) max-commands ≡ t
-        → (step-place x list k s .number ≡ n) × (step-part x list k s ≡ [])
-    go (refused m) e t l = rw (says m (ap (λ (c : Checked). verdict-of c list) e)) at (step-refused x list k s m e)
-    go (accepted p) e true l =
-        let h = ltb-true _ _ l in
-        let v = ap (λ (c : Checked). verdict-of c list) e ∙ rw (l, verdict-of) in
-        rw (says no-room v) at (step-short x list k s p e h)
+    go : (c : Checked) → checked x ≡ c → (t : Bool) → ltb (length list) max-commands ≡ t → step-part x list k s ≡ []
+    go (refused m) e t l = step-refused x list k s m e .1
+    go (accepted p) e true l = step-short x list k s p e (ltb-true _ _ l) .1
     go (accepted p) e false l =
         let a = checked-accepted x p .0 e in
         let h = ltb-false _ _ l in

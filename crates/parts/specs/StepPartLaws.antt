@@ -2,15 +2,14 @@
 use Prim.Native.Nat.{ℕ, zero, suc, _+_, _<_, _≤_}
 use native.Mathlib.Omega.{arith}
 use native.Mathlib.Nat.{zero-add}
-use mathlib.Core.Path.{_≡_, refl, ap, sym, subst, _∙_}
+use mathlib.Core.Path.{_≡_, refl, ap, sym, _∙_}
 use mathlib.Core.Bool.{Bool, true, false}
-use mathlib.Core.List.{List, [], _∷_, _++_}
+use mathlib.Core.List.{List, [], _∷_}
 use lib.ListN.{length, getD, take, drop}
 use lib.Dec.{ltb, eqb}
 use borrow.Author.Tests.{lt-ltb, le-ltb, ltb-true, ltb-false}
 use Rattle.types.specs.Limits.{max-commands}
 use Rattle.program.specs.Tree.{Items.stop, Step, Program}
-use Rattle.program.specs.Counts.{All}
 use Rattle.program.specs.Reader.{Result, Result.ok, Result.bad, then, many, read-steps}
 use Rattle.commands.specs.Bounds.{total, step-size, program-size, Within}
 use Rattle.commands.specs.SizeLaws.{program-size-is}
@@ -18,6 +17,7 @@ use Rattle.facts.specs.ProgramFacts.{Totals as Sum, step-totals}
 use Rattle.facts.specs.TotalLaws.{steps-grown}
 use Rattle.run.specs.Entry.{Checked, Checked.accepted, Checked.refused, checked, no-room, verdict-of, check-verdict}
 use Rattle.run.specs.Input.{program-order}
+use Rattle.run.specs.InputOrder.{Numbered, foremost-numbered}
 use Rattle.run.specs.InputProgram.{checked-number, checked-accepted}
 use Rattle.whole.specs.declared.totals.Totals.{Totals}
 use Rattle.whole.specs.declared.totals.TotalsRead.the-variants.{Value as TotalsValue, Refused as TotalsRefused}
@@ -207,17 +207,12 @@ module _ (c : Checked) (list : List ℕ) (k n : ℕ) where
       go (refused m) e = ap (λ (y : Spot). y .number) (by-refused m e)
       go (accepted p) e = room p e (ltb (length list) max-commands) refl
 
--- an element of a list is as all of them are
-stands : (C : ℕ → Type 0) (before behind : List ℕ) (n : ℕ) → All C (before ++ n ∷ behind) → C n
-stands C [] behind n h = h .0
-stands C (a ∷ l) behind n h = stands C l behind n (h .1)
-
 -- no refusal has the number 0
+some : (x : List ℕ) → Numbered (λ n. 1 ≤ n) (program-order x)
+some x = omega arith
+
 refused-number : (x : List ℕ) (m : ℕ) → checked x ≡ refused m → m ≡ 0 → ⊥
-refused-number x m e =
-    let f = checked-number x m .0 e in
-    let every : All (λ (i : ℕ). i ≡ 0 → ⊥) program-order = omega arith in
-    stands (λ (i : ℕ). i ≡ 0 → ⊥) (f .0) (f .1) m (subst (All λ (i : ℕ). i ≡ 0 → ⊥) (f .2) every)
+refused-number x m e z = omega (arith, foremost-numbered (λ n. 1 ≤ n) (some x) (checked-number x m .0 e))
 
 module _ (x list : List ℕ) (k n : ℕ) where
   abbrev z : Spot
