@@ -6,9 +6,6 @@ use borrow.Author.Needs.{needs}
 use Rattle.blocks.proofs.image_fault.Statement.{statement}
 use Rattle.blocks.proofs.image_fault.Tie as tie
 
-length-right-requires : tie.Need-length-right-requires
-length-right-requires c κs = search needs
-
 returns : tie.Need-returns
 returns c =
     let args = c .before .before .before .args in
@@ -29,5 +26,4 @@ returns-2 c =
     c .first-fault .ensures ∙ length-agrees _ (args .image .now) _ (length-right .ensures) (not-false _ (if1 .left))
 
 pub image-fault-spec : {M : Type 1} → statement M
-image-fault-spec =
-    tie.close (tie.spec length-right-requires returns first-fault-requires returns-2)
+image-fault-spec = tie.close (tie.spec (λ c κs. search needs) returns first-fault-requires returns-2)

@@ -8,72 +8,26 @@ use Rattle.acts.specs.StackWays.{put-way}
 use Rattle.acts.proofs.stack.push_this.Statement.{statement}
 use Rattle.acts.proofs.stack.push_this.Tie as tie
 
-mul-k : tie.Need-mul-k
-mul-k c = search needs
+-- the places that proofs look back to
+abbrev at-slice-known : tie.After-slice-known5 → tie.After-slice-known
+at-slice-known c = c .before .before .before .before
 
-add-k : tie.Need-add-k
-add-k c = search needs
-
-mul-k-2 : tie.Need-mul-k-2
-mul-k-2 c = search needs
-
-slice-read-k : tie.Need-slice-read-k
-slice-read-k c = search needs
-
-mul-h : tie.Need-mul-h
-mul-h c = search needs
-
-add-h : tie.Need-add-h
-add-h c = search needs
-
-mul-h-2 : tie.Need-mul-h-2
-mul-h-2 c = search needs
-
-slice-read-h : tie.Need-slice-read-h
-slice-read-h c = search needs
-
-mul-n : tie.Need-mul-n
-mul-n c = search needs
-
-add-n : tie.Need-add-n
-add-n c = search needs
-
-mul-n-2 : tie.Need-mul-n-2
-mul-n-2 c = search needs
-
-slice-read-n : tie.Need-slice-read-n
-slice-read-n c = search needs
-
-cast-cell : tie.Need-cast-cell
-cast-cell c = search needs
-
-add-cell : tie.Need-add-cell
-add-cell c = search needs
-
-cell-requires : tie.Need-cell-requires
-cell-requires c κs = search needs
+abbrev at-slice-known₂ : tie.After-put-arg2 → tie.After-slice-known
+at-slice-known₂ c = at-slice-known (c .before .before .before)
 
 add-put : tie.Need-add-put
 add-put c =
-    let slice-known = c .before .before .before .before .before .before .before .slice-known in
-    let args = c .before .before .before .before .before .before .before .before .args in
+    let slice-known = at-slice-known₂ c .slice-known in
+    let args = at-slice-known₂ c .before .args in
     omega (arith, slice-known .given (head (args .l) end-of))
-
-put-requires : tie.Need-put-requires
-put-requires c κs = search needs
-
-same-length : tie.Need-same-length
-same-length c = search needs
-
-same-length-2 : tie.Need-same-length-2
-same-length-2 c = search needs
 
 returns : tie.Need-returns
 unfolding do-this
 returns c =
-    let args = c .before .before .before .before .before .before .before .before .before .before .before .before .before .args in
-    let cell = c .before .before .before .before .before .before .before .cell in
-    let put = c .before .before .before .before .put in
+    let at-put = c .before .before .before .before in let at-cell = at-put .before .before .before in
+    let args = at-slice-known₂ (at-put .before) .before .args in
+    let cell = at-cell .cell in
+    let put = at-put .put in
     let h = args .heads .now in
     let this = label-cell (getD h (head (args .l) struct-of) 0) (args .l) in
     put-way h (args .cells .now) _ (args .l) _ (getD h (head (args .l) height-of) 0) _ this
@@ -82,24 +36,7 @@ returns c =
 pub push-this-spec : {M : Type 1} → statement M
 push-this-spec =
     tie.close
-    (tie.spec
-    mul-k
-    add-k
-    mul-k-2
-    slice-read-k
-    mul-h
-    add-h
-    mul-h-2
-    slice-read-h
-    mul-n
-    add-n
-    mul-n-2
-    slice-read-n
-    cast-cell
-    add-cell
-    cell-requires
-    add-put
-    put-requires
-    same-length
-    same-length-2
+    (tie.spec (λ c. search needs) (λ c. search needs) (λ c. search needs) (λ c. search needs) (λ c. search needs) (λ c. search needs)
+    (λ c. search needs) (λ c. search needs) (λ c. search needs) (λ c. search needs) (λ c. search needs) (λ c. search needs)
+    (λ c. search needs) (λ c. search needs) (λ c κs. search needs) add-put (λ c κs. search needs) (λ c. search needs) (λ c. search needs)
     returns)

@@ -18,27 +18,13 @@ Inv-loop image n k₀ k = (k ≤ n) × (first-fault n image k ≡ Right)
 abbrev μ-loop : tie.MeasureT-loop
 μ-loop image n k₀ k = n - k
 
+-- the places that proofs look back to
+abbrev at-loop : tie.After-fault Inv-loop μ-loop → tie.At-loop Inv-loop μ-loop
+at-loop c = c .before .before .before
+
 loop-holds : tie.Need-loop-holds Inv-loop μ-loop
 unfolding first-fault
 loop-holds c = (search needs, refl)
-
-mul-start : tie.Need-mul-start Inv-loop μ-loop
-mul-start c = omega arith
-
-add-end : tie.Need-add-end Inv-loop μ-loop
-add-end c = omega arith
-
-add-last : tie.Need-add-last Inv-loop μ-loop
-add-last c = omega arith
-
-sub-fault : tie.Need-sub-fault Inv-loop μ-loop
-sub-fault c = omega arith
-
-part-fault-start : tie.Need-part-fault-start Inv-loop μ-loop
-part-fault-start c = omega arith
-
-part-fault-end : tie.Need-part-fault-end Inv-loop μ-loop
-part-fault-end c = omega arith
 
 fault-requires : tie.Need-fault-requires Inv-loop μ-loop
 fault-requires c κs =
@@ -46,34 +32,23 @@ fault-requires c κs =
     let k = c .before .before .loop .k in
     ap length (block-at x k) ∙ block-whole _ x (c .before .before .before .before .pre) k (c .before .loop-test .taken)
 
-enum-known-f : tie.Need-enum-known-f Inv-loop μ-loop
-enum-known-f c = search needs
-
 returns : tie.Need-returns Inv-loop μ-loop
 returns c =
-    let args = c .before .before .before .before .before .before .before .before .args in
-    let loop = c .before .before .before .before .before .before .loop in
-    let loop-test = c .before .before .before .before .before .loop-test in
-    let fault = c .before .before .before .fault in
+    let at-fault = c .before .before .before in let in-loop = at-fault .before .before in
+    let args = in-loop .before .before .before .args in
+    let loop = in-loop .before .loop in
+    let loop-test = in-loop .loop-test in
+    let fault = at-fault .fault in
     let f = c .before .f in
     let x = args .image .now in
     let k = loop .k in
     let here = ap (block-fault k _) (sym (block-at x k)) ∙ sym (fault .ensures) ∙ f .given .1 in
     sym (first-stop _ x k _ (loop-test .taken) (loop .inv .1) here)
 
-enum-told : tie.Need-enum-told Inv-loop μ-loop
-enum-told c = search needs
-
-add-k : tie.Need-add-k Inv-loop μ-loop
-add-k c = omega arith
-
-loop-less : tie.Need-loop-less Inv-loop μ-loop
-loop-less c = omega arith
-
 loop-again : tie.Need-loop-again Inv-loop μ-loop
 loop-again c =
-    let args = c .before .before .before .before .before .before .before .args in
-    let loop = c .before .before .before .before .before .loop in
+    let args = at-loop (c .before .before) .before .before .args in
+    let loop = at-loop (c .before .before) .loop in
     let fault = c .before .before .fault in
     let x = args .image .now in
     let k = loop .k in
@@ -89,21 +64,6 @@ returns-2 c =
 pub first-fault-spec : {M : Type 1} → statement M
 first-fault-spec =
     tie.close
-    (tie.spec
-    Inv-loop
-    μ-loop
-    loop-holds
-    mul-start
-    add-end
-    add-last
-    sub-fault
-    part-fault-start
-    part-fault-end
-    fault-requires
-    enum-known-f
-    returns
-    enum-told
-    add-k
-    loop-less
-    loop-again
+    (tie.spec Inv-loop μ-loop loop-holds (λ c. omega arith) (λ c. omega arith) (λ c. omega arith) (λ c. omega arith) (λ c. omega arith)
+    (λ c. omega arith) fault-requires (λ c. search needs) returns (λ c. search needs) (λ c. omega arith) (λ c. omega arith) loop-again
     returns-2)

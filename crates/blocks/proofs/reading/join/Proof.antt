@@ -18,44 +18,43 @@ Inv-loop image n buffer₀ k₀ buffer k = (k ≤ n) × ((length buffer ≡ leng
 abbrev μ-loop : tie.MeasureT-loop
 μ-loop image n buffer₀ k₀ buffer k = n - k
 
+-- the places that proofs look back to
+abbrev start : tie.In-loop Inv-loop μ-loop → tie.Start Inv-loop μ-loop
+start c = c .before .before .before .before
+
+abbrev at-loop : tie.After-copy-arg Inv-loop μ-loop → tie.At-loop Inv-loop μ-loop
+at-loop c = c .before .before .before .before
+
+abbrev in-loop : tie.After-payload Inv-loop μ-loop → tie.In-loop Inv-loop μ-loop
+in-loop c = c .before .before .before .before
+
+abbrev at-pair-at : tie.After-copy Inv-loop μ-loop → tie.After-pair-at Inv-loop μ-loop
+at-pair-at c = c .before .before .before
+
+abbrev at-pair-at₂ : tie.After-slice-known2 Inv-loop μ-loop → tie.After-pair-at Inv-loop μ-loop
+at-pair-at₂ c = at-pair-at (c .before .before)
+
 loop-holds : tie.Need-loop-holds Inv-loop μ-loop
 unfolding joined
 loop-holds c = (omega arith, (refl, sym (put-nil _ _)))
 
-mul-start : tie.Need-mul-start Inv-loop μ-loop
-mul-start c = omega arith
-
-add-end : tie.Need-add-end Inv-loop μ-loop
-add-end c = omega arith
-
-sub-block : tie.Need-sub-block Inv-loop μ-loop
-sub-block c = omega arith
-
-part-block-start : tie.Need-part-block-start Inv-loop μ-loop
-part-block-start c = omega arith
-
-part-block-end : tie.Need-part-block-end Inv-loop μ-loop
-part-block-end c = omega arith
-
 pair-at-requires : tie.Need-pair-at-requires Inv-loop μ-loop
 pair-at-requires c κs =
-    let args = c .before .before .before .before .before .args in
-    let pre = c .before .before .before .before .before .pre in
+    let args = start (c .before) .args in
+    let pre = start (c .before) .pre in
     let loop = c .before .before .loop in
     let loop-test = c .before .loop-test in
     let x = args .image .now in
     let full = ap length (block-at x (loop .k)) ∙ block-whole _ x (pre .0) (loop .k) (loop-test .taken) in
     omega arith
 
-mul-copy : tie.Need-mul-copy Inv-loop μ-loop
-mul-copy c = omega arith
-
 payload-requires : tie.Need-payload-requires Inv-loop μ-loop
 payload-requires c κs =
-    let args = c .before .before .before .before .before .before .before .args in
-    let pre = c .before .before .before .before .before .before .before .pre in
-    let loop = c .before .before .before .before .loop in
-    let loop-test = c .before .before .before .loop-test in
+    let in-loop′ = c .before .before .before in
+    let args = start in-loop′ .args in
+    let pre = start in-loop′ .pre in
+    let loop = in-loop′ .before .loop in
+    let loop-test = in-loop′ .loop-test in
     let pair-at = c .before .pair-at in
     let x = args .image .now in
     let full = ap length (block-at x (loop .k)) ∙ block-whole _ x (pre .0) (loop .k) (loop-test .taken) in
@@ -63,40 +62,36 @@ payload-requires c κs =
 
 copy-requires : tie.Need-copy-requires Inv-loop μ-loop
 copy-requires c κs =
-    let args = c .before .before .before .before .before .before .before .before .args in
-    let pre = c .before .before .before .before .before .before .before .before .pre in
-    let loop = c .before .before .before .before .before .loop in
-    let loop-test = c .before .before .before .before .loop-test in
+    let args = start (in-loop c) .args in
+    let pre = start (in-loop c) .pre in
+    let loop = at-loop (c .before) .loop in
+    let loop-test = in-loop c .loop-test in
     let pair-at = c .before .before .pair-at in
     let x = args .image .now in
     let k = loop .k in
     let part = part-at x k _ _ (pair-at .ensures .0) (c .payload .ensures) in
     omega (arith, ap length part, joined-fits _ x (pre .0) (pre .1 .0) k (loop-test .taken))
 
-add-k : tie.Need-add-k Inv-loop μ-loop
-add-k c = omega arith
-
-loop-less : tie.Need-loop-less Inv-loop μ-loop
-loop-less c = omega arith
-
 loop-again : tie.Need-loop-again Inv-loop μ-loop
 loop-again c =
-    let args = c .before .before .before .before .before .before .before .before .before .before .before .args in
-    let pre = c .before .before .before .before .before .before .before .before .before .before .before .pre in
-    let loop = c .before .before .before .before .before .before .before .before .loop in
-    let loop-test = c .before .before .before .before .before .before .before .loop-test in
-    let pair-at = c .before .before .before .before .before .pair-at in
+    let args = start (at-pair-at₂ c .before .before) .args in
+    let pre = start (at-pair-at₂ c .before .before) .pre in
+    let loop = at-pair-at₂ c .before .before .before .loop in
+    let loop-test = at-pair-at₂ c .before .before .loop-test in
+    let pair-at = at-pair-at₂ c .pair-at in
     let payload = c .before .before .before .payload in
     let copy = c .before .before .copy in
     let x = args .image .now in
     let k = loop .k in
     let d = args .buffer .now in
     let inv = loop .inv in
-    let part = part-at x k _ _ (pair-at .ensures .0) (payload .ensures) in
-    (omega arith, (copy .kept .0 ∙ inv .1 .0, join-turn _ x (pre .0) (pre .1 .0) k (loop-test .taken) d _ _ _ (pre .1 .1) (inv .1 .1) part (copy .ensures)))
-
-same-length : tie.Need-same-length Inv-loop μ-loop
-same-length c = c .before .loop .inv .1 .0
+    let part = part-at x k _ _ (pair-at .ensures .0) (payload .ensures) in (
+      omega arith,
+      (
+        copy .kept .0 ∙ inv .1 .0,
+        join-turn _ x (pre .0) (pre .1 .0) k (loop-test .taken) d _ _ _ (pre .1 .1) (inv .1 .1) part (copy .ensures),
+      ),
+    )
 
 returns : tie.Need-returns Inv-loop μ-loop
 returns c =
@@ -108,21 +103,6 @@ returns c =
 pub join-spec : {M : Type 1} → statement M
 join-spec =
     tie.close
-    (tie.spec
-    Inv-loop
-    μ-loop
-    loop-holds
-    mul-start
-    add-end
-    sub-block
-    part-block-start
-    part-block-end
-    pair-at-requires
-    mul-copy
-    payload-requires
-    copy-requires
-    add-k
-    loop-less
-    loop-again
-    same-length
-    returns)
+    (tie.spec Inv-loop μ-loop loop-holds (λ c. omega arith) (λ c. omega arith) (λ c. omega arith) (λ c. omega arith) (λ c. omega arith)
+    pair-at-requires (λ c. omega arith) payload-requires copy-requires (λ c. omega arith) (λ c. omega arith) loop-again
+    (λ c. c .before .loop .inv .1 .0) returns)

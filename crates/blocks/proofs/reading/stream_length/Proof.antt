@@ -8,24 +8,6 @@ use native.Mathlib.Omega.{arith}
 use Rattle.blocks.proofs.reading.stream_length.Statement.{statement}
 use Rattle.blocks.proofs.reading.stream_length.Tie as tie
 
-sub-k : tie.Need-sub-k
-sub-k c = search needs
-
-mul-result : tie.Need-mul-result
-mul-result c = search needs
-
-mul-pair-at : tie.Need-mul-pair-at
-mul-pair-at c = search needs
-
-add-pair-at : tie.Need-add-pair-at
-add-pair-at c = search needs
-
-pair-at-requires : tie.Need-pair-at-requires
-pair-at-requires c κs = search needs
-
-add-result : tie.Need-add-result
-add-result c = search needs
-
 returns : tie.Need-returns
 returns c =
     let args = c .before .before .args in
@@ -38,4 +20,5 @@ returns c =
 pub stream-length-spec : {M : Type 1} → statement M
 stream-length-spec =
     tie.close
-    (tie.spec sub-k mul-result mul-pair-at add-pair-at pair-at-requires add-result returns)
+    (tie.spec (λ c. search needs) (λ c. search needs) (λ c. search needs) (λ c. search needs) (λ c κs. search needs) (λ c. search needs)
+    returns)

@@ -17,34 +17,35 @@ Inv-loop stream n out₀ k₀ out k = (k ≤ n) × ((length out ≡ length out�
 abbrev μ-loop : tie.MeasureT-loop
 μ-loop stream n out₀ k₀ out k = n - k
 
+-- the places that proofs look back to
+abbrev start : tie.In-loop Inv-loop μ-loop → tie.Start Inv-loop μ-loop
+start c = c .before .before .before .before
+
+abbrev start₂ : tie.After-piece Inv-loop μ-loop → tie.Start Inv-loop μ-loop
+start₂ c = start (c .before .before)
+
+abbrev in-loop : tie.After-put-block Inv-loop μ-loop → tie.In-loop Inv-loop μ-loop
+in-loop c = c .before .before .before
+
+abbrev in-loop₂ : tie.After-slice-known2 Inv-loop μ-loop → tie.In-loop Inv-loop μ-loop
+in-loop₂ c = in-loop (c .before .before)
+
 loop-holds : tie.Need-loop-holds Inv-loop μ-loop
 unfolding image-of
 loop-holds c = (omega arith, (refl, sym (put-nil _ _)))
 
-mul-put-block : tie.Need-mul-put-block Inv-loop μ-loop
-mul-put-block c = omega arith
-
-piece-requires : tie.Need-piece-requires Inv-loop μ-loop
-piece-requires c κs = omega arith
-
 put-block-requires : tie.Need-put-block-requires Inv-loop μ-loop
 put-block-requires c κs =
-    let args = c .before .before .before .before .before .before .args in
+    let args = start₂ c .args in
     let loop = c .before .before .before .loop in
     omega (arith, ap length (c .piece .ensures), piece-fits (args .stream .now) (loop .k))
 
-add-k : tie.Need-add-k Inv-loop μ-loop
-add-k c = omega arith
-
-loop-less : tie.Need-loop-less Inv-loop μ-loop
-loop-less c = omega arith
-
 loop-again : tie.Need-loop-again Inv-loop μ-loop
 loop-again c =
-    let args = c .before .before .before .before .before .before .before .before .before .args in
-    let pre = c .before .before .before .before .before .before .before .before .before .pre in
-    let loop = c .before .before .before .before .before .before .loop in
-    let loop-test = c .before .before .before .before .before .loop-test in
+    let args = start (in-loop₂ c) .args in
+    let pre = start (in-loop₂ c) .pre in
+    let loop = in-loop₂ c .before .loop in
+    let loop-test = in-loop₂ c .loop-test in
     let piece = c .before .before .before .piece in
     let put-block = c .before .before .put-block in
     let s = args .stream .now in
@@ -57,9 +58,6 @@ loop-again c =
       ),
     )
 
-same-length : tie.Need-same-length Inv-loop μ-loop
-same-length c = c .before .loop .inv .1 .0
-
 returns : tie.Need-returns Inv-loop μ-loop
 returns c =
     let args = c .before .before .before .before .args in
@@ -70,15 +68,5 @@ returns c =
 pub put-blocks-spec : {M : Type 1} → statement M
 put-blocks-spec =
     tie.close
-    (tie.spec
-    Inv-loop
-    μ-loop
-    loop-holds
-    mul-put-block
-    piece-requires
-    put-block-requires
-    add-k
-    loop-less
-    loop-again
-    same-length
-    returns)
+    (tie.spec Inv-loop μ-loop loop-holds (λ c. omega arith) (λ c κs. omega arith) put-block-requires (λ c. omega arith) (λ c. omega arith)
+    loop-again (λ c. c .before .loop .inv .1 .0) returns)

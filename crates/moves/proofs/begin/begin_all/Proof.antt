@@ -18,13 +18,6 @@ Inv-loop spans heads₀ c n l₀ heads l =
 abbrev μ-loop : tie.MeasureT-loop
 μ-loop spans heads₀ c n l₀ heads l = n - l
 
--- the places that proofs look back to
-abbrev start : tie.In-loop Inv-loop μ-loop → tie.Start Inv-loop μ-loop
-start c = c .before .before .before .before
-
-abbrev in-loop : tie.After-slice-known2 Inv-loop μ-loop → tie.In-loop Inv-loop μ-loop
-in-loop c = c .before .before .before .before
-
 loop-holds : tie.Need-loop-holds Inv-loop μ-loop
 loop-holds c =
     let args = c .before .before .args in
@@ -34,24 +27,22 @@ loop-holds c =
 begin-one-requires : tie.Need-begin-one-requires Inv-loop μ-loop
 begin-one-requires c κs =
     let at-loop = c .before .before in
-    (start (c .before) .pre .0, row-of (at-loop .loop .inv .2) (c .before .loop-test .taken))
+    (at-loop .before .before .before .pre .0, row-of (at-loop .loop .inv .2) (c .before .loop-test .taken))
 
 loop-again : tie.Need-loop-again Inv-loop μ-loop
 loop-again c =
-    let args = start (in-loop c) .args in
-    let inv = in-loop c .before .loop .inv in
-    let l = in-loop c .before .loop .l in
-    let heads = in-loop c .before .loop .heads in
-    let one = c .before .before .begin-one .ensures in
+    let at-begin-one = c .before .before in let in-loop = at-begin-one .before .before in
+    let args = in-loop .before .before .before .before .args in
+    let inv = in-loop .before .loop .inv in
+    let l = in-loop .before .loop .l in
+    let heads = in-loop .before .loop .heads in
+    let one = at-begin-one .begin-one .ensures in
     let s = args .spans .now in (
       omega arith,
       rw one (one-length s (args .c) heads l ∙ inv .1),
       rw one (one-rows s (args .c) heads l (inv .2)),
-      rw one (sym (all-next s (args .c) heads (args .n) l (in-loop c .loop-test .taken)) ∙ inv .3),
+      rw one (sym (all-next s (args .c) heads (args .n) l (in-loop .loop-test .taken)) ∙ inv .3),
     )
-
-same-length : tie.Need-same-length Inv-loop μ-loop
-same-length c = c .before .loop .inv .1
 
 returns : tie.Need-returns Inv-loop μ-loop
 returns c =
@@ -62,4 +53,5 @@ returns c =
 pub begin-all-spec : {M : Type 1} → statement M
 begin-all-spec =
     tie.close
-    (tie.spec Inv-loop μ-loop loop-holds begin-one-requires (λ c. omega arith) (λ c. omega arith) loop-again same-length returns)
+    (tie.spec Inv-loop μ-loop loop-holds begin-one-requires (λ c. omega arith) (λ c. omega arith) loop-again (λ c. c .before .loop .inv .1)
+    returns)

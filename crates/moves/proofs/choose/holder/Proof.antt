@@ -27,8 +27,7 @@ loop-holds c =
 
 returns : tie.Need-returns Inv-loop μ-loop
 returns c =
-    let at-holds = c .before .before in
-    let at-loop = at-holds .before .before in
+    let at-holds = c .before .before in let at-loop = at-holds .before .before in
     let args = start at-holds .args in
     let loop = at-loop .loop in
     let flag = sym (at-holds .holds .ensures) ∙ c .before .if1 .taken in
