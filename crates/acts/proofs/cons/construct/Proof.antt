@@ -22,14 +22,12 @@ at-slice-known₄ c = at-slice-known₃ (c .before .before .before .before)
 returns : tie.Need-returns
 returns c =
     let args = c .before .before .before .before .args in
-    let if1 = c .if1 in
-    full-way (args .counts .now) (args .heads .now) (args .cells .now) (args .l) (args .count) (args .k) (if1 .taken)
+    full-way (args .counts .now) (args .heads .now) (args .cells .now) (args .l) (args .count) (args .k) (c .if1 .taken)
 
 add-put : tie.Need-add-put
 add-put c =
-    let slice-known = at-slice-known₄ c .slice-known in
     let args = at-slice-known₄ c .before .before .args in
-    omega (arith, slice-known .given (head (args .l) end-of))
+    omega (arith, at-slice-known₄ c .slice-known .given (head (args .l) end-of))
 
 returns-2 : tie.Need-returns-2
 returns-2 c =
@@ -37,18 +35,13 @@ returns-2 c =
     let at-found = at-cell .before .before .before in let at-copy = at-found .before .before .before .before in
     let at-shared-slice-known2 = at-copy .before .before .before .before in
     let args = at-slice-known₄ (at-put .before) .before .before .args in
-    let if1 = at-shared-slice-known2 .before .if1 in
-    let copy = at-copy .copy in
-    let found = at-found .found in
-    let cell = at-cell .cell in
-    let put = at-put .put in
-    made-way (args .counts .now) (args .heads .now) (args .cells .now) (args .l) (args .count) (args .k) (if1 .left) _ _ _ _ _
-    (copy .ensures) (found .ensures) (cell .ensures) (put .ensures .0) (put .ensures .1)
+    made-way (args .counts .now) (args .heads .now) (args .cells .now) (args .l) (args .count) (args .k) (at-shared-slice-known2 .before .if1 .left) _ _ _ _ _
+    (at-copy .copy .ensures) (at-found .found .ensures) (at-cell .cell .ensures) (at-put .put .ensures .0) (at-put .put .ensures .1)
 
 pub construct-spec : {M : Type 1} → statement M
 construct-spec =
     tie.close
     (tie.spec returns (λ c. search needs) (λ c. search needs) (λ c. search needs) (λ c. search needs) (λ c. search needs) (λ c. search needs)
-    (λ c. search needs) (λ c. search needs) (λ c. search needs) (λ c. search needs) (λ c. search needs) (λ c. search needs)
-    (λ c. search needs) (λ c. search needs) (λ c. search needs) (λ c κs. search needs) (λ c κs. search needs) (λ c. search needs)
-    (λ c. search needs) (λ c κs. search needs) add-put (λ c κs. search needs) (λ c. search needs) (λ c. search needs) returns-2)
+    (λ c. search needs) (λ c. search needs) (λ c. search needs) (λ c. search needs) (λ c. search needs) (λ c. search needs) (λ c. search needs)
+    (λ c. search needs) (λ c. search needs) (λ c κs. search needs) (λ c κs. search needs) (λ c. search needs) (λ c. search needs)
+    (λ c κs. search needs) add-put (λ c κs. search needs) (λ c. search needs) (λ c. search needs) returns-2)

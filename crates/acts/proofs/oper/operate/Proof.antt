@@ -22,46 +22,36 @@ at-slice-known₄ c = at-slice-known₃ (c .before .before .before .before)
 
 add-put : tie.Need-add-put
 add-put c =
-    let slice-known = at-slice-known₄ c .slice-known in
     let args = at-slice-known₄ c .before .args in
-    omega (arith, slice-known .given (head (args .l) end-of))
+    omega (arith, at-slice-known₄ c .slice-known .given (head (args .l) end-of))
 
 returns : tie.Need-returns
 returns c =
     let at-put = c .before .before .before .before in let at-cell = at-put .before .before .before in
     let at-answer = at-cell .before .before .before in let at-apply-word = at-answer .before .before in
-    let answer = at-answer .answer in
     let args = at-slice-known₄ (at-put .before) .before .args in
-    let apply-word = at-apply-word .apply-word in
-    let made = at-cell .cell in
-    let result-byte = at-cell .before .result-byte in
-    let put = at-put .put in
-    let v = answer .given .0 .0 in
-    value-way (args .heads .now) (args .cells .now) (args .l) (args .o) _ _ _ v (sym (apply-word .ensures) ∙ answer .given .1)
-    (made .ensures ∙ ap (λ b. cell b v) (result-byte .ensures)) (put .ensures .0) (put .ensures .1)
+    let v = at-answer .answer .given .0 .0 in
+    value-way (args .heads .now) (args .cells .now) (args .l) (args .o) _ _ _ v (sym (at-apply-word .apply-word .ensures) ∙ at-answer .answer .given .1)
+    (at-cell .cell .ensures ∙ ap (λ b. cell b v) (at-cell .before .result-byte .ensures)) (at-put .put .ensures .0) (at-put .put .ensures .1)
 
 returns-2 : tie.Need-returns-2
 returns-2 c =
     let at-apply-word = c .before .before in
     let args = at-slice-known₂ (at-apply-word .before) .before .args in
-    let apply-word = at-apply-word .apply-word in
-    let told = c .enum-told in
-    outside-way (args .heads .now) (args .cells .now) (args .l) (args .o) (sym (apply-word .ensures) ∙ told .given .1)
+    outside-way (args .heads .now) (args .cells .now) (args .l) (args .o) (sym (at-apply-word .apply-word .ensures) ∙ c .enum-told .given .1)
 
 returns-3 : tie.Need-returns-3
 returns-3 c =
     let at-apply-word = c .before .before in
     let args = at-slice-known₂ (at-apply-word .before) .before .args in
-    let apply-word = at-apply-word .apply-word in
-    let told = c .enum-told2 in
-    unfit-way (args .heads .now) (args .cells .now) (args .l) (args .o) (sym (apply-word .ensures) ∙ told .given .1)
+    unfit-way (args .heads .now) (args .cells .now) (args .l) (args .o) (sym (at-apply-word .apply-word .ensures) ∙ c .enum-told2 .given .1)
 
 pub operate-spec : {M : Type 1} → statement M
 operate-spec =
     tie.close
     (tie.spec (λ c. search needs) (λ c. search needs) (λ c. search needs) (λ c. search needs) (λ c. search needs) (λ c. search needs)
-    (λ c. search needs) (λ c. search needs) (λ c. search needs) (λ c. search needs) (λ c. search needs) (λ c. search needs)
-    (λ c. search needs) (λ c. search needs) (λ c. search needs) (λ c. search needs) (λ c. search needs) (λ c. search needs)
-    (λ c. search needs) (λ c. search needs) (λ c. search needs) (λ c. search needs) (λ c. search needs) (λ c κs. search needs)
-    (λ c. search needs) (λ c κs. search needs) (λ c. search needs) (λ c. search needs) (λ c κs. search needs) (λ c. search needs) add-put
-    (λ c κs. search needs) (λ c. search needs) (λ c. search needs) (λ c. search needs) (λ c. search needs) returns returns-2 returns-3)
+    (λ c. search needs) (λ c. search needs) (λ c. search needs) (λ c. search needs) (λ c. search needs) (λ c. search needs) (λ c. search needs)
+    (λ c. search needs) (λ c. search needs) (λ c. search needs) (λ c. search needs) (λ c. search needs) (λ c. search needs) (λ c. search needs)
+    (λ c. search needs) (λ c. search needs) (λ c. search needs) (λ c κs. search needs) (λ c. search needs) (λ c κs. search needs)
+    (λ c. search needs) (λ c. search needs) (λ c κs. search needs) (λ c. search needs) add-put (λ c κs. search needs) (λ c. search needs)
+    (λ c. search needs) (λ c. search needs) (λ c. search needs) returns returns-2 returns-3)

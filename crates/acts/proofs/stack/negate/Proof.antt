@@ -20,27 +20,23 @@ at-slice-known₂ c = at-slice-known (c .before .before .before)
 
 add-put : tie.Need-add-put
 add-put c =
-    let slice-known = at-slice-known₂ c .slice-known in
     let args = at-slice-known₂ c .before .args in
-    omega (arith, slice-known .given (head (args .l) end-of))
+    omega (arith, at-slice-known₂ c .slice-known .given (head (args .l) end-of))
 
 returns : tie.Need-returns
 unfolding do-not
 returns c =
     let at-put = c .before .before .before .before in let at-cell = at-put .before .before .before in
-    let args = at-slice-known₂ (at-put .before) .before .args in
-    let made = at-cell .cell in
-    let put = at-put .put in
-    let h = args .heads .now in
+    let args = at-slice-known₂ (at-put .before) .before .args in let h = args .heads .now in
     let d = args .cells .now in
     let other = cell bool-byte (1 - operand (top [] (args .l) (memory h d))) in
     put-way h d _ (args .l) _ (getD h (head (args .l) height-of) 0 - 1) _ other
-    (made .ensures) (put .ensures .0) (put .ensures .1)
+    (at-cell .cell .ensures) (at-put .put .ensures .0) (at-put .put .ensures .1)
 
 pub negate-spec : {M : Type 1} → statement M
 negate-spec =
     tie.close
     (tie.spec (λ c. search needs) (λ c. search needs) (λ c. search needs) (λ c. search needs) (λ c. search needs) (λ c. search needs)
-    (λ c. search needs) (λ c. search needs) (λ c. search needs) (λ c. search needs) (λ c. search needs) (λ c. search needs)
-    (λ c. search needs) (λ c. search needs) (λ c. search needs) (λ c. search needs) (λ c κs. search needs) (λ c. search needs) add-put
-    (λ c κs. search needs) (λ c. search needs) (λ c. search needs) returns)
+    (λ c. search needs) (λ c. search needs) (λ c. search needs) (λ c. search needs) (λ c. search needs) (λ c. search needs) (λ c. search needs)
+    (λ c. search needs) (λ c. search needs) (λ c. search needs) (λ c κs. search needs) (λ c. search needs) add-put (λ c κs. search needs)
+    (λ c. search needs) (λ c. search needs) returns)

@@ -19,24 +19,21 @@ at-slice-known₂ c = at-slice-known (c .before .before .before)
 
 add-put : tie.Need-add-put
 add-put c =
-    let slice-known = at-slice-known₂ c .slice-known in
     let args = at-slice-known₂ c .before .args in
-    omega (arith, slice-known .given (head (args .l) end-of))
+    omega (arith, at-slice-known₂ c .slice-known .given (head (args .l) end-of))
 
 returns : tie.Need-returns
 unfolding do-rd
 returns c =
     let at-put = c .before .before .before .before in
-    let args = at-slice-known₂ (at-put .before) .before .args in
-    let put = at-put .put in
-    let h = args .heads .now in
+    let args = at-slice-known₂ (at-put .before) .before .args in let h = args .heads .now in
     put-way h (args .cells .now) _ (args .l) _ (getD h (head (args .l) height-of) 0 - 1) _ _ refl
-    (put .ensures .0) (put .ensures .1)
+    (at-put .put .ensures .0) (at-put .put .ensures .1)
 
 pub read-spec : {M : Type 1} → statement M
 read-spec =
     tie.close
     (tie.spec (λ c. search needs) (λ c. search needs) (λ c. search needs) (λ c. search needs) (λ c. search needs) (λ c. search needs)
-    (λ c. search needs) (λ c. search needs) (λ c. search needs) (λ c. search needs) (λ c. search needs) (λ c. search needs)
-    (λ c. search needs) (λ c. search needs) (λ c. search needs) (λ c. search needs) (λ c. search needs) (λ c. search needs)
-    (λ c. search needs) add-put (λ c κs. search needs) (λ c. search needs) (λ c. search needs) returns)
+    (λ c. search needs) (λ c. search needs) (λ c. search needs) (λ c. search needs) (λ c. search needs) (λ c. search needs) (λ c. search needs)
+    (λ c. search needs) (λ c. search needs) (λ c. search needs) (λ c. search needs) (λ c. search needs) (λ c. search needs) add-put
+    (λ c κs. search needs) (λ c. search needs) (λ c. search needs) returns)

@@ -9,14 +9,12 @@ use Rattle.acts.proofs.vars.replace.Tie as tie
 returns : tie.Need-returns
 returns c =
     let args = c .before .before .args in
-    let if1 = c .if1 in
-    (change-none (getD (args .cells .now) (args .at) 0) (args .c) (if1 .taken), refl)
+    (change-none (getD (args .cells .now) (args .at) 0) (args .c) (c .if1 .taken), refl)
 
 returns-2 : tie.Need-returns-2
 returns-2 c =
     let args = c .before .before .args in
-    let if1 = c .if1 in
-    (change-some (getD (args .cells .now) (args .at) 0) (args .c) (if1 .left), refl)
+    (change-some (getD (args .cells .now) (args .at) 0) (args .c) (c .if1 .left), refl)
 
 pub replace-spec : {M : Type 1} → statement M
 replace-spec =

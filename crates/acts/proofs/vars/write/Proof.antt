@@ -23,54 +23,42 @@ at-go c = c .before .before .before
 
 add-go : tie.Need-add-go
 add-go c =
-    let slice-known = at-slice-known₂ c .slice-known in
     let args = at-slice-known₂ c .before .before .args in
-    omega (arith, slice-known .given (head (args .l) end-of))
+    omega (arith, at-slice-known₂ c .slice-known .given (head (args .l) end-of))
 
 cast-if1 : tie.Need-cast-if1
 cast-if1 c =
-    let args = at-slice-known₂ (at-go c .before) .before .before .args in
-    let shared-slice-known = at-slice-known₂ (at-go c .before) .before .shared-slice-known in
-    let h = args .heads .now in
+    let args = at-slice-known₂ (at-go c .before) .before .before .args in let h = args .heads .now in
     let r = operand (top [] (args .l) (memory h (args .cells .now))) in
-    omega (arith, shared-slice-known .given (getD h (head r struct-of) 0))
+    omega (arith, at-slice-known₂ (at-go c .before) .before .shared-slice-known .given (getD h (head r struct-of) 0))
 
 returns : tie.Need-returns
 returns c =
     let at-go′ = at-go (c .before .before) in
     let args = at-slice-known₂ (at-go′ .before) .before .before .args in
-    let go = at-go′ .go in
-    let if1 = c .before .if1 in
-    let if2 = c .if2 in
-    null-way (args .counts .now) (args .heads .now) (args .cells .now) _ (args .l) (args .x) (go .ensures) (if1 .taken) (if2 .taken)
+    null-way (args .counts .now) (args .heads .now) (args .cells .now) _ (args .l) (args .x) (at-go′ .go .ensures) (c .before .if1 .taken) (c .if2 .taken)
 
 returns-2 : tie.Need-returns-2
 returns-2 c =
     let at-replace = c .before .before in let at-if2 = at-replace .before .before in
     let at-go′ = at-go (at-if2 .before .before) in
     let args = at-slice-known₂ (at-go′ .before) .before .before .args in
-    let replace = at-replace .replace in
-    let go = at-go′ .go in
-    let if1 = at-if2 .before .if1 in
-    let if2 = at-if2 .if2 in
-    param-way (args .counts .now) (args .heads .now) (args .cells .now) _ (args .l) (args .x) _ (replace .ensures .1) _ (replace .ensures .0)
-    (go .ensures) (if1 .taken) (if2 .left)
+    param-way (args .counts .now) (args .heads .now) (args .cells .now) _ (args .l) (args .x) _ (at-replace .replace .ensures .1) _
+    (at-replace .replace .ensures .0) (at-go′ .go .ensures) (at-if2 .before .if1 .taken) (at-if2 .if2 .left)
 
 returns-3 : tie.Need-returns-3
 returns-3 c =
     let at-go′ = at-go (c .before) in
     let args = at-slice-known₂ (at-go′ .before) .before .before .args in
-    let go = at-go′ .go in
-    let if1 = c .if1 in
-    local-way (args .counts .now) (args .heads .now) (args .cells .now) _ (args .l) (args .x) _ refl (go .ensures) (if1 .left)
+    local-way (args .counts .now) (args .heads .now) (args .cells .now) _ (args .l) (args .x) _ refl (at-go′ .go .ensures) (c .if1 .left)
 
 pub write-spec : {M : Type 1} → statement M
 write-spec =
     tie.close
     (tie.spec (λ c. search needs) (λ c. search needs) (λ c. search needs) (λ c. search needs) (λ c. search needs) (λ c. search needs)
-    (λ c. search needs) (λ c. search needs) (λ c. search needs) (λ c. search needs) (λ c. search needs) (λ c. search needs)
-    (λ c. search needs) (λ c. search needs) (λ c. search needs) (λ c. search needs) (λ c. search needs) (λ c. search needs)
-    (λ c. search needs) (λ c. search needs) (λ c. search needs) (λ c. search needs) (λ c. search needs) (λ c. search needs)
-    (λ c. search needs) add-go (λ c κs. search needs) (λ c. search needs) cast-if1 (λ c. search needs) returns (λ c. search needs)
-    (λ c. search needs) (λ c κs. search needs) (λ c. search needs) (λ c. search needs) returns-2 (λ c. search needs) (λ c. search needs)
-    (λ c. search needs) (λ c. search needs) (λ c. search needs) (λ c. search needs) returns-3)
+    (λ c. search needs) (λ c. search needs) (λ c. search needs) (λ c. search needs) (λ c. search needs) (λ c. search needs) (λ c. search needs)
+    (λ c. search needs) (λ c. search needs) (λ c. search needs) (λ c. search needs) (λ c. search needs) (λ c. search needs) (λ c. search needs)
+    (λ c. search needs) (λ c. search needs) (λ c. search needs) (λ c. search needs) (λ c. search needs) add-go (λ c κs. search needs)
+    (λ c. search needs) cast-if1 (λ c. search needs) returns (λ c. search needs) (λ c. search needs) (λ c κs. search needs) (λ c. search needs)
+    (λ c. search needs) returns-2 (λ c. search needs) (λ c. search needs) (λ c. search needs) (λ c. search needs) (λ c. search needs)
+    (λ c. search needs) returns-3)

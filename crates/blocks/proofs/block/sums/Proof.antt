@@ -25,23 +25,17 @@ loop-holds c = omega arith
 
 loop-again : tie.Need-loop-again Inv-loop μ-loop
 loop-again c =
-    let args = at-loop c .before .before .args in
-    let loop = at-loop c .loop in
-    let shared-slice-known2 = c .before .before .shared-slice-known2 in
-    let wrapping-add-u16 = c .before .wrapping-add-u16 in
-    let s = args .block .now in
-    let i = loop .i in
-    let inv = loop .inv in (
+    let args = at-loop c .before .before .args in let s = args .block .now in
+    let i = at-loop c .loop .i in let inv = at-loop c .loop .inv in (
       omega arith,
-      sums-turn s i _ _ _ _ _ (inv .1 .0) (inv .1 .1) refl (omega (arith, shared-slice-known2 .given i)) (wrapping-add-u16 .ensures)
-          (c .wrapping-add-u162 .ensures),
+      sums-turn s i _ _ _ _ _ (inv .1 .0) (inv .1 .1) refl (omega (arith, c .before .before .shared-slice-known2 .given i))
+          (c .before .wrapping-add-u16 .ensures) (c .wrapping-add-u162 .ensures),
     )
 
 returns : tie.Need-returns Inv-loop μ-loop
 unfolding sum-a sum-b
 returns c =
-    let args = c .before .before .before .args in
-    let loop = c .before .loop in
+    let args = c .before .before .before .args in let loop = c .before .loop in
     let s = args .block .now in
     let e : loop .i ≡ 508 = omega arith in
     subst (λ (n : ℕ). (loop .a ≡ sum n (λ j. byte s j) % 65536) × (loop .b ≡ sum n (λ j. (n - j) * byte s j) % 65536)) e (loop .inv .1)

@@ -5,19 +5,13 @@ use Rattle.blocks.proofs.block.sums_right.Statement.{statement}
 use Rattle.blocks.proofs.block.sums_right.Tie as tie
 
 returns : tie.Need-returns
-returns c =
-    let sums = c .before .before .before .sums in
-    let pair-at = c .before .before .pair-at in
-    a-differs _ _ _ (pair-at .ensures .0) (sums .ensures .0) (c .if1 .taken)
+returns c = a-differs _ _ _ (c .before .before .pair-at .ensures .0) (c .before .before .before .sums .ensures .0) (c .if1 .taken)
 
 returns-2 : tie.Need-returns-2
 returns-2 c =
     let at-if1 = c .before .before in let at-pair-at = at-if1 .before .before in
-    let sums = at-pair-at .before .sums in
-    let pair-at = at-pair-at .pair-at in
-    let if1 = at-if1 .if1 in
-    let pair-at2 = c .before .pair-at2 in
-    a-agrees _ _ _ _ _ (pair-at .ensures .0) (sums .ensures .0) (if1 .left) (pair-at2 .ensures .0) (sums .ensures .1)
+    a-agrees _ _ _ _ _ (at-pair-at .pair-at .ensures .0) (at-pair-at .before .sums .ensures .0) (at-if1 .if1 .left) (c .before .pair-at2 .ensures .0)
+    (at-pair-at .before .sums .ensures .1)
 
 pub sums-right-spec : {M : Type 1} → statement M
 sums-right-spec =

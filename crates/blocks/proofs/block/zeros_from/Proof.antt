@@ -18,18 +18,14 @@ abbrev μ-loop : tie.MeasureT-loop
 returns : tie.Need-returns Inv-loop μ-loop
 returns c =
     let args = c .before .before .before .before .args in
-    let pre = c .before .before .before .before .pre in
-    let loop = c .before .before .before .loop in
-    let loop-test = c .before .before .loop-test in
-    sym (loop .inv ∙ zeros-stop (args .block .now) _ pre (loop-test .taken) (c .if1 .taken))
+    sym (c .before .before .before .loop .inv
+    ∙ zeros-stop (args .block .now) _ (c .before .before .before .before .pre) (c .before .before .loop-test .taken) (c .if1 .taken))
 
 loop-again : tie.Need-loop-again Inv-loop μ-loop
 loop-again c =
     let args = c .before .before .before .before .args in
-    let pre = c .before .before .before .before .pre in
-    let loop = c .before .before .before .loop in
-    let loop-test = c .before .before .loop-test in
-    loop .inv ∙ zeros-more (args .block .now) _ pre (loop-test .taken) (c .if1 .left)
+    c .before .before .before .loop .inv
+    ∙ zeros-more (args .block .now) _ (c .before .before .before .before .pre) (c .before .before .loop-test .taken) (c .if1 .left)
 
 returns-2 : tie.Need-returns-2 Inv-loop μ-loop
 returns-2 c = sym (c .before .loop .inv ∙ zeros-end (c .before .before .args .block .now) _ (c .loop-test .left))

@@ -21,17 +21,13 @@ loop-holds c = (search needs, (search needs, sym (put-nil _ _)))
 
 loop-again : tie.Need-loop-again Inv-loop μ-loop
 loop-again c =
-    let args = c .before .before .before .args in
-    let pre = c .before .before .before .pre in
-    let loop = c .before .before .loop in
-    let loop-test = c .before .loop-test in
-    let s = args .src .now in
-    let i = loop .i in
-    let inv = loop .inv in (
+    let args = c .before .before .before .args in let s = args .src .now in
+    let i = c .before .before .loop .i in
+    let inv = c .before .before .loop .inv in (
       omega arith,
       (
         simp length-set (inv .1 .0),
-        ap (λ d. set d (args .at + i) (getD s i 0)) (inv .1 .1) ∙ put-turn _ _ s i pre (loop-test .taken),
+        ap (λ d. set d (args .at + i) (getD s i 0)) (inv .1 .1) ∙ put-turn _ _ s i (c .before .before .before .pre) (c .before .loop-test .taken),
       ),
     )
 

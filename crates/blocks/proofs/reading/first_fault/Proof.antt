@@ -29,31 +29,23 @@ loop-holds c = (search needs, refl)
 fault-requires : tie.Need-fault-requires Inv-loop μ-loop
 fault-requires c κs =
     let x = c .before .before .before .before .args .image .now in
-    let k = c .before .before .loop .k in
-    ap length (block-at x k) ∙ block-whole _ x (c .before .before .before .before .pre) k (c .before .loop-test .taken)
+    ap length (block-at x (c .before .before .loop .k))
+    ∙ block-whole _ x (c .before .before .before .before .pre) (c .before .before .loop .k) (c .before .loop-test .taken)
 
 returns : tie.Need-returns Inv-loop μ-loop
 returns c =
     let at-fault = c .before .before .before in let in-loop = at-fault .before .before in
-    let args = in-loop .before .before .before .args in
-    let loop = in-loop .before .loop in
-    let loop-test = in-loop .loop-test in
-    let fault = at-fault .fault in
-    let f = c .before .f in
-    let x = args .image .now in
-    let k = loop .k in
-    let here = ap (block-fault k _) (sym (block-at x k)) ∙ sym (fault .ensures) ∙ f .given .1 in
-    sym (first-stop _ x k _ (loop-test .taken) (loop .inv .1) here)
+    let args = in-loop .before .before .before .args in let x = args .image .now in
+    let k = in-loop .before .loop .k in
+    let here = ap (block-fault k _) (sym (block-at x k)) ∙ sym (at-fault .fault .ensures) ∙ c .before .f .given .1 in
+    sym (first-stop _ x k _ (in-loop .loop-test .taken) (in-loop .before .loop .inv .1) here)
 
 loop-again : tie.Need-loop-again Inv-loop μ-loop
 loop-again c =
-    let args = at-loop (c .before .before) .before .before .args in
-    let loop = at-loop (c .before .before) .loop in
-    let fault = c .before .before .fault in
-    let x = args .image .now in
-    let k = loop .k in
-    let here = ap (block-fault k _) (sym (block-at x k)) ∙ sym (fault .ensures) ∙ c .enum-told .given .1 in
-    (omega arith, first-more _ x k (loop .inv .1) here)
+    let args = at-loop (c .before .before) .before .before .args in let x = args .image .now in
+    let k = at-loop (c .before .before) .loop .k in
+    let here = ap (block-fault k _) (sym (block-at x k)) ∙ sym (c .before .before .fault .ensures) ∙ c .enum-told .given .1 in
+    (omega arith, first-more _ x k (at-loop (c .before .before) .loop .inv .1) here)
 
 returns-2 : tie.Need-returns-2 Inv-loop μ-loop
 returns-2 c =
@@ -65,5 +57,4 @@ pub first-fault-spec : {M : Type 1} → statement M
 first-fault-spec =
     tie.close
     (tie.spec Inv-loop μ-loop loop-holds (λ c. omega arith) (λ c. omega arith) (λ c. omega arith) (λ c. omega arith) (λ c. omega arith)
-    (λ c. omega arith) fault-requires (λ c. search needs) returns (λ c. search needs) (λ c. omega arith) (λ c. omega arith) loop-again
-    returns-2)
+    (λ c. omega arith) fault-requires (λ c. search needs) returns (λ c. search needs) (λ c. omega arith) (λ c. omega arith) loop-again returns-2)

@@ -22,9 +22,6 @@ abbrev μ-loop : tie.MeasureT-loop
 abbrev start : tie.In-loop Inv-loop μ-loop → tie.Start Inv-loop μ-loop
 start c = c .before .before .before .before
 
-abbrev at-loop : tie.After-copy-arg Inv-loop μ-loop → tie.At-loop Inv-loop μ-loop
-at-loop c = c .before .before .before .before
-
 abbrev in-loop : tie.After-payload Inv-loop μ-loop → tie.In-loop Inv-loop μ-loop
 in-loop c = c .before .before .before .before
 
@@ -40,65 +37,51 @@ loop-holds c = (omega arith, (refl, sym (put-nil _ _)))
 
 pair-at-requires : tie.Need-pair-at-requires Inv-loop μ-loop
 pair-at-requires c κs =
-    let args = start (c .before) .args in
-    let pre = start (c .before) .pre in
-    let loop = c .before .before .loop in
-    let loop-test = c .before .loop-test in
-    let x = args .image .now in
-    let full = ap length (block-at x (loop .k)) ∙ block-whole _ x (pre .0) (loop .k) (loop-test .taken) in
-    omega arith
+    let args = start (c .before) .args in let x = args .image .now in
+    omega (
+      arith,
+      ap length (block-at x (c .before .before .loop .k))
+          ∙ block-whole _ x (start (c .before) .pre .0) (c .before .before .loop .k) (c .before .loop-test .taken),
+    )
 
 payload-requires : tie.Need-payload-requires Inv-loop μ-loop
 payload-requires c κs =
-    let in-loop′ = c .before .before .before in
-    let args = start in-loop′ .args in
-    let pre = start in-loop′ .pre in
-    let loop = in-loop′ .before .loop in
-    let loop-test = in-loop′ .loop-test in
-    let pair-at = c .before .pair-at in
+    let in-loop′ = c .before .before .before in let args = start in-loop′ .args in
     let x = args .image .now in
-    let full = ap length (block-at x (loop .k)) ∙ block-whole _ x (pre .0) (loop .k) (loop-test .taken) in
-    (used-fits _ x (pre .0) (pre .1 .0) (loop .k) (loop-test .taken) _ (pair-at .ensures .0), full)
+    let full = ap length (block-at x (in-loop′ .before .loop .k))
+    ∙ block-whole _ x (start in-loop′ .pre .0) (in-loop′ .before .loop .k) (in-loop′ .loop-test .taken) in (
+      used-fits _ x (start in-loop′ .pre .0) (start in-loop′ .pre .1 .0) (in-loop′ .before .loop .k) (in-loop′ .loop-test .taken) _
+          (c .before .pair-at .ensures .0),
+      full,
+    )
 
 copy-requires : tie.Need-copy-requires Inv-loop μ-loop
 copy-requires c κs =
-    let args = start (in-loop c) .args in
-    let pre = start (in-loop c) .pre in
-    let loop = at-loop (c .before) .loop in
-    let loop-test = in-loop c .loop-test in
-    let pair-at = c .before .before .pair-at in
-    let x = args .image .now in
-    let k = loop .k in
-    let part = part-at x k _ _ (pair-at .ensures .0) (c .payload .ensures) in
-    omega (arith, ap length part, joined-fits _ x (pre .0) (pre .1 .0) k (loop-test .taken))
+    let args = start (in-loop c) .args in let x = args .image .now in
+    let k = in-loop c .before .loop .k in
+    let part = part-at x k _ _ (c .before .before .pair-at .ensures .0) (c .payload .ensures) in
+    omega (arith, ap length part, joined-fits _ x (start (in-loop c) .pre .0) (start (in-loop c) .pre .1 .0) k (in-loop c .loop-test .taken))
 
 loop-again : tie.Need-loop-again Inv-loop μ-loop
 loop-again c =
-    let args = start (at-pair-at₂ c .before .before) .args in
-    let pre = start (at-pair-at₂ c .before .before) .pre in
-    let loop = at-pair-at₂ c .before .before .before .loop in
-    let loop-test = at-pair-at₂ c .before .before .loop-test in
-    let pair-at = at-pair-at₂ c .pair-at in
-    let payload = c .before .before .before .payload in
-    let copy = c .before .before .copy in
-    let x = args .image .now in
-    let k = loop .k in
-    let d = args .buffer .now in
-    let inv = loop .inv in
-    let part = part-at x k _ _ (pair-at .ensures .0) (payload .ensures) in (
+    let args = start (at-pair-at₂ c .before .before) .args in let x = args .image .now in
+    let k = at-pair-at₂ c .before .before .before .loop .k in let d = args .buffer .now in
+    let inv = at-pair-at₂ c .before .before .before .loop .inv in
+    let part = part-at x k _ _ (at-pair-at₂ c .pair-at .ensures .0) (c .before .before .before .payload .ensures) in (
       omega arith,
       (
-        copy .kept .0 ∙ inv .1 .0,
-        join-turn _ x (pre .0) (pre .1 .0) k (loop-test .taken) d _ _ _ (pre .1 .1) (inv .1 .1) part (copy .ensures),
+        c .before .before .copy .kept .0 ∙ inv .1 .0,
+        join-turn _ x (start (at-pair-at₂ c .before .before) .pre .0) (start (at-pair-at₂ c .before .before) .pre .1 .0) k
+            (at-pair-at₂ c .before .before .loop-test .taken) d _ _ _ (start (at-pair-at₂ c .before .before) .pre .1 .1) (inv .1 .1) part
+            (c .before .before .copy .ensures),
       ),
     )
 
 returns : tie.Need-returns Inv-loop μ-loop
 returns c =
     let args = c .before .before .before .before .args in
-    let loop = c .before .loop in
-    let e : loop .k ≡ args .n = omega arith in
-    loop .inv .1 .1 ∙ ap (λ k. put (args .buffer .now) 0 (joined (args .image .now) k)) e
+    let e : c .before .loop .k ≡ args .n = omega arith in
+    c .before .loop .inv .1 .1 ∙ ap (λ k. put (args .buffer .now) 0 (joined (args .image .now) k)) e
 
 pub join-spec : {M : Type 1} → statement M
 join-spec =

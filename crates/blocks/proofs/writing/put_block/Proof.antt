@@ -8,13 +8,9 @@ returns : tie.Need-returns
 returns c =
     let at-pair2 = c .before .before in let at-out3 = at-pair2 .before .before .before .before in
     let at-sums = at-out3 .before .before .before .before in let at-out = at-sums .before .before .before .before in
-    let at-put-front = at-out .before in
-    let pre = at-put-front .before .before .before .before .pre in
-    let put-front = at-put-front .put-front in
-    let sums = at-sums .sums in
-    let pair = at-out3 .before .pair in
-    let pair2 = at-pair2 .pair2 in
-    block-put _ _ _ _ (pre .1) _ _ _ _ _ (pre .0 .0) (put-front .ensures) (sums .ensures .0) (sums .ensures .1) (pair .ensures) (pair2 .ensures)
+    let at-put-front = at-out .before in let start = at-put-front .before .before .before .before in
+    block-put _ _ _ _ (start .pre .1) _ _ _ _ _ (start .pre .0 .0) (at-put-front .put-front .ensures) (at-sums .sums .ensures .0)
+    (at-sums .sums .ensures .1) (at-out3 .before .pair .ensures) (at-pair2 .pair2 .ensures)
 
 pub put-block-spec : {M : Type 1} → statement M
 put-block-spec =

@@ -37,36 +37,28 @@ loop-holds c = (omega arith, (refl, sym (put-nil _ _)))
 put-block-requires : tie.Need-put-block-requires Inv-loop μ-loop
 put-block-requires c κs =
     let args = start₂ c .args in
-    let loop = c .before .before .before .loop in
-    omega (arith, ap length (c .piece .ensures), piece-fits (args .stream .now) (loop .k))
+    omega (arith, ap length (c .piece .ensures), piece-fits (args .stream .now) (c .before .before .before .loop .k))
 
 loop-again : tie.Need-loop-again Inv-loop μ-loop
 loop-again c =
-    let args = start (in-loop₂ c) .args in
-    let pre = start (in-loop₂ c) .pre in
-    let loop = in-loop₂ c .before .loop in
-    let loop-test = in-loop₂ c .loop-test in
-    let piece = c .before .before .before .piece in
-    let put-block = c .before .before .put-block in
-    let s = args .stream .now in
-    let k = loop .k in
-    let inv = loop .inv in (
+    let args = start (in-loop₂ c) .args in let s = args .stream .now in
+    let k = in-loop₂ c .before .loop .k in let inv = in-loop₂ c .before .loop .inv in (
       omega arith,
       (
-        put-block .kept .0 ∙ inv .1 .0,
-        blocks-turn s (args .out .now) _ _ _ k _ (pre .0 .0) (loop-test .taken) (inv .1 .1) (piece .ensures) (put-block .ensures),
+        c .before .before .put-block .kept .0 ∙ inv .1 .0,
+        blocks-turn s (args .out .now) _ _ _ k _ (start (in-loop₂ c) .pre .0 .0) (in-loop₂ c .loop-test .taken) (inv .1 .1)
+            (c .before .before .before .piece .ensures) (c .before .before .put-block .ensures),
       ),
     )
 
 returns : tie.Need-returns Inv-loop μ-loop
 returns c =
     let args = c .before .before .before .before .args in
-    let loop = c .before .loop in
-    let e : loop .k ≡ args .n = omega arith in
-    loop .inv .1 .1 ∙ ap (λ k. put (args .out .now) 0 (image-of (args .stream .now) k)) e
+    let e : c .before .loop .k ≡ args .n = omega arith in
+    c .before .loop .inv .1 .1 ∙ ap (λ k. put (args .out .now) 0 (image-of (args .stream .now) k)) e
 
 pub put-blocks-spec : {M : Type 1} → statement M
 put-blocks-spec =
     tie.close
-    (tie.spec Inv-loop μ-loop loop-holds (λ c. omega arith) (λ c κs. omega arith) put-block-requires (λ c. omega arith) (λ c. omega arith)
-    loop-again (λ c. c .before .loop .inv .1 .0) returns)
+    (tie.spec Inv-loop μ-loop loop-holds (λ c. omega arith) (λ c κs. omega arith) put-block-requires (λ c. omega arith) (λ c. omega arith) loop-again
+    (λ c. c .before .loop .inv .1 .0) returns)

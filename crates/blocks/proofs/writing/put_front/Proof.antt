@@ -8,16 +8,12 @@ returns : tie.Need-returns
 returns c =
     let at-zeros = c .before .before in let at-copy = at-zeros .before .before .before .before in
     let at-pair2 = at-copy .before .before .before .before in
-    let at-pair = at-pair2 .before .before .before .before in
-    let pre = at-pair .before .before .before .before .pre in
-    let pair = at-pair .pair in
-    let pair2 = at-pair2 .pair2 in
-    let copy = at-copy .copy in
-    let zeros = at-zeros .zeros in
-    front-put _ _ _ _ (pre .1) _ _ _ _ (pre .0 .0) (pair .ensures) (pair2 .ensures) (copy .ensures) (zeros .ensures)
+    let at-pair = at-pair2 .before .before .before .before in let start = at-pair .before .before .before .before in
+    front-put _ _ _ _ (start .pre .1) _ _ _ _ (start .pre .0 .0) (at-pair .pair .ensures) (at-pair2 .pair2 .ensures) (at-copy .copy .ensures)
+    (at-zeros .zeros .ensures)
 
 pub put-front-spec : {M : Type 1} → statement M
 put-front-spec =
     tie.close
-    (tie.spec (λ c κs. search needs) (λ c. search needs) (λ c κs. search needs) (λ c. search needs) (λ c κs. search needs)
-    (λ c. search needs) (λ c. search needs) (λ c. search needs) (λ c κs. search needs) (λ c. search needs) returns)
+    (tie.spec (λ c κs. search needs) (λ c. search needs) (λ c κs. search needs) (λ c. search needs) (λ c κs. search needs) (λ c. search needs)
+    (λ c. search needs) (λ c. search needs) (λ c κs. search needs) (λ c. search needs) returns)

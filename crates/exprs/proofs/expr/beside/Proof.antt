@@ -8,9 +8,7 @@ returns : tie.Need-returns
 returns c = λ o e. rw (c .enum-told .given .1)
 
 combined-requires : tie.Need-combined-requires
-combined-requires c κs =
-    let room = rw (c .before .r .given .1) at (c .before .before .before .pre .1) in
-    omega (arith, c .before .before .before .pre .0)
+combined-requires c κs = omega (arith, rw (c .before .r .given .1) at (c .before .before .before .pre .1), c .before .before .before .pre .0)
 
 returns-2 : tie.Need-returns-2
 returns-2 c = λ o e. rw (c .before .before .r .given .1, c .combined .ensures o e)

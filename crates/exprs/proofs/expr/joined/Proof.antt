@@ -5,9 +5,7 @@ use Rattle.exprs.proofs.expr.joined.Statement.{statement}
 use Rattle.exprs.proofs.expr.joined.Tie as tie
 
 argued-requires : tie.Need-argued-requires
-argued-requires c κs =
-    let room = rw (c .before .r .given .1) at (c .before .before .before .pre .1) in
-    omega (arith, c .before .before .before .pre .0)
+argued-requires c κs = omega (arith, rw (c .before .r .given .1) at (c .before .before .before .pre .1), c .before .before .before .pre .0)
 
 returns-2 : tie.Need-returns-2
 returns-2 c = rw (c .before .before .r .given .1, c .argued .ensures)

@@ -11,48 +11,39 @@ use Rattle.exprs.proofs.leaf.leaf.Tie as tie
 abbrev start : tie.Else1 → tie.Start
 start c = c .before .before .before .before
 
-abbrev start₂ : tie.Then1 → tie.Start
-start₂ c = c .before .before .before .before
-
-abbrev start₃ : tie.Else2 → tie.Start
-start₃ c = start (c .before)
-
-abbrev start₄ : tie.After-travel → tie.Start
-start₄ c = start₂ (c .before)
+abbrev start₂ : tie.Else2 → tie.Start
+start₂ c = start (c .before)
 
 abbrev at-if2 : tie.Else6 → tie.Else2
 at-if2 c = c .before .before .before .before
 
-abbrev start₅ : tie.After-null → tie.Start
-start₅ c = start₃ (c .before .before .before .before)
-
 returns : tie.Need-returns
 returns c =
-    let a = start₄ c .args in (
-      λ rec p. c .travel .ensures .0
-          ∙ sym (rule-path (a .ar .now) (a .types .now) (a .s .now) (a .own) (a .live) rec p (a .at) (a .b) (c .before .if1 .taken)),
+    let at-if1 = c .before in let a = at-if1 .before .before .before .before .args in (
+      λ rec p.
+          c .travel .ensures .0 ∙ sym (rule-path (a .ar .now) (a .types .now) (a .s .now) (a .own) (a .live) rec p (a .at) (a .b) (at-if1 .if1 .taken)),
       c .travel .ensures .1,
     )
 
 returns-2 : tie.Need-returns-2
 returns-2 c =
     let a = start (c .before .before) .args in (
-      λ rec p. c .word .ensures .0
-          ∙ sym (rule-int (a .ar .now) (a .types .now) (a .s .now) (a .own) (a .live) rec p (a .at) (a .b) (c .before .if2 .taken)),
+      λ rec p.
+          c .word .ensures .0 ∙ sym (rule-int (a .ar .now) (a .types .now) (a .s .now) (a .own) (a .live) rec p (a .at) (a .b) (c .before .if2 .taken)),
       c .word .ensures .1,
     )
 
 returns-3 : tie.Need-returns-3
 returns-3 c =
-    let a = start₃ (c .before .before) .args in (
-      λ rec p. c .word2 .ensures .0
-          ∙ sym (rule-nat (a .ar .now) (a .types .now) (a .s .now) (a .own) (a .live) rec p (a .at) (a .b) (c .before .if3 .taken)),
+    let a = start₂ (c .before .before) .args in (
+      λ rec p.
+          c .word2 .ensures .0 ∙ sym (rule-nat (a .ar .now) (a .types .now) (a .s .now) (a .own) (a .live) rec p (a .at) (a .b) (c .before .if3 .taken)),
       c .word2 .ensures .1,
     )
 
 returns-4 : tie.Need-returns-4
 returns-4 c =
-    let a = start₃ (c .before .before .before) .args in (
+    let a = start₂ (c .before .before .before) .args in (
       λ rec p. c .bool-byte .ensures .0
           ∙ sym (rule-bool (a .ar .now) (a .types .now) (a .s .now) (a .own) (a .live) rec p (a .at) (a .b) (c .before .if4 .taken)),
       c .bool-byte .ensures .1,
@@ -60,29 +51,28 @@ returns-4 c =
 
 returns-5 : tie.Need-returns-5
 returns-5 c =
-    let a = start₅ c .args in (
-      λ rec p. c .null .ensures .0
-          ∙ sym (rule-null (a .ar .now) (a .types .now) (a .s .now) (a .own) (a .live) rec p (a .at) (a .b) (c .before .if5 .taken)),
+    let a = start₂ (c .before .before .before .before) .args in (
+      λ rec p.
+          c .null .ensures .0 ∙ sym (rule-null (a .ar .now) (a .types .now) (a .s .now) (a .own) (a .live) rec p (a .at) (a .b) (c .before .if5 .taken)),
       c .null .ensures .1,
     )
 
 returns-6 : tie.Need-returns-6
 returns-6 c =
-    let at-if3 = c .before .before .before .before in let at-if1 = at-if3 .before .before in
-    let start′ = at-if1 .before .before .before .before in
+    let at-if3 = c .before .before .before .before in let start′ = start₂ (at-if3 .before) in
     let a = start′ .args in
     rw (c .pushed .ensures) (
-      λ rec p. sym (rule-self (a .ar .now) (a .types .now) (a .s .now) (a .own) (a .live) rec p (a .at) (a .b)
-          (c .before .if6 .taken)),
+      λ rec p.
+          sym (rule-self (a .ar .now) (a .types .now) (a .s .now) (a .own) (a .live) rec p (a .at) (a .b) (c .before .if6 .taken)),
       omega (arith, start′ .pre .0),
     )
 
 returns-7 : tie.Need-returns-7
 returns-7 c =
-    let a = start₃ (at-if2 c) .args in
+    let a = start₂ (at-if2 c) .args in
     let n : Apart (a .b) = (
-      start₃ (at-if2 c) .pre .1 .0 .0,
-      start₃ (at-if2 c) .pre .1 .0 .1,
+      start₂ (at-if2 c) .pre .1 .0 .0,
+      start₂ (at-if2 c) .pre .1 .0 .1,
       at-if2 c .before .if1 .left,
       at-if2 c .if2 .left,
       c .before .before .before .if3 .left,
@@ -91,12 +81,12 @@ returns-7 c =
       c .if6 .left,
     ) in (
       λ rec p. sym (rule-none (a .ar .now) (a .types .now) (a .s .now) (a .own) (a .live) rec p (a .at) (a .b) n
-          (λ q. omega (arith, q .0, start₃ (at-if2 c) .pre .1 .1))),
+          (λ q. omega (arith, q .0, start₂ (at-if2 c) .pre .1 .1))),
       tt,
     )
 
 pub leaf-spec : {M : Type 1} → statement M
 leaf-spec =
     tie.close
-    (tie.spec (λ c κs. search needs) returns (λ c κs. search needs) returns-2 (λ c κs. search needs) returns-3 (λ c κs. search needs)
-    returns-4 (λ c κs. search needs) returns-5 (λ c. search needs) (λ c κs. search needs) returns-6 returns-7)
+    (tie.spec (λ c κs. search needs) returns (λ c κs. search needs) returns-2 (λ c κs. search needs) returns-3 (λ c κs. search needs) returns-4
+    (λ c κs. search needs) returns-5 (λ c. search needs) (λ c κs. search needs) returns-6 returns-7)

@@ -8,8 +8,7 @@ use Rattle.exprs.proofs.leaf.null.Tie as tie
 
 returns : tie.Need-returns
 returns c =
-    let at-type-byte = c .before .before .before in
-    let a = at-type-byte .before .before .args in
+    let at-type-byte = c .before .before .before in let a = at-type-byte .before .before .args in
     let e = sym (at-type-byte .type-byte .ensures .0) ∙ c .before .enum-told .given .1 in
     rw (c .byte-refusal .ensures, c .before .enum-told .given .1) (sym (type-not (a .s .now) (a .n) (a .at) _ e), tt)
 
@@ -17,9 +16,8 @@ returns-2 : tie.Need-returns-2
 returns-2 c =
     let at-r = c .before .before in let at-type-byte = at-r .before .before in
     let a = at-type-byte .before .before .args in
-    let e = at-r .r .given .1 in
-    let span = rw e at (at-type-byte .type-byte .ensures .1) in
-    rw (c .pushed .ensures) (sym (type-is (a .s .now) (a .n) (a .at) _ _ (sym (at-type-byte .type-byte .ensures .0) ∙ e)), omega arith)
+    let span = rw (at-r .r .given .1) at (at-type-byte .type-byte .ensures .1) in
+    rw (c .pushed .ensures) (sym (type-is (a .s .now) (a .n) (a .at) _ _ (sym (at-type-byte .type-byte .ensures .0) ∙ at-r .r .given .1)), omega arith)
 
 pub null-spec : {M : Type 1} → statement M
 null-spec =

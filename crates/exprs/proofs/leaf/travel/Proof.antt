@@ -10,8 +10,7 @@ use Rattle.exprs.proofs.leaf.travel.Tie as tie
 
 returns : tie.Need-returns
 returns c =
-    let at-path = c .before .before .before in
-    let a = at-path .before .before .before .before .args in
+    let at-path = c .before .before .before in let a = at-path .before .before .before .before .args in
     let e = sym (at-path .path .ensures .0) ∙ c .before .enum-told .given .1 in
     rw (c .path-refusal .ensures, c .before .enum-told .given .1)
     (sym (path-not (path-of (a .ar .now) (a .types .now) (a .own) (a .live)) (read-path (a .s .now) (a .at)) _ e), tt)
@@ -23,8 +22,7 @@ returns-2 c =
     let a = at-path .before .before .before .before .args in
     let e = sym (at-path .path .ensures .0) ∙ at-r .r .given .1 in
     let span = rw (at-r .r .given .1) at (at-path .path .ensures .1) in
-    rw (c .travelled .ensures)
-    (sym (path-is (path-of (a .ar .now) (a .types .now) (a .own) (a .live)) (read-path (a .s .now) (a .at)) _ _ _ e), omega arith)
+    rw (c .travelled .ensures) (sym (path-is (path-of (a .ar .now) (a .types .now) (a .own) (a .live)) (read-path (a .s .now) (a .at)) _ _ _ e), omega arith)
 
 pub travel-spec : {M : Type 1} → statement M
 travel-spec =

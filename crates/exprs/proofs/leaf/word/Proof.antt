@@ -19,8 +19,8 @@ returns-2 : tie.Need-returns-2
 returns-2 c =
     let a = c .before .before .before .args in
     rw (c .before .pushed .ensures) (
-      sym (word-in (a .s .now) (λ i. omega (arith, c .before .before .shared-slice-known .given i))
-          (pushed (a .t)) 4 (a .at) (omega arith)),
+      sym (word-in (a .s .now) (λ i. omega (arith, c .before .before .shared-slice-known .given i)) (pushed (a .t)) 4
+          (a .at) (omega arith)),
       omega arith,
     )
 

@@ -7,6 +7,13 @@ use borrow.Author.Needs.{needs}
 use Rattle.exprs.proofs.path.first.Statement.{statement}
 use Rattle.exprs.proofs.path.first.Tie as tie
 
+-- the places that proofs look back to
+abbrev start′ : tie.After-ranged → tie.Start
+start′ c = c .before .before .before .before
+
+abbrev start′₂ : tie.After-start → tie.Start
+start′₂ c = start′ (c .before .before .before .before)
+
 returns : tie.Need-returns
 returns c =
     let at-ranged = c .before .before .before in
@@ -15,29 +22,23 @@ returns c =
     rw (c .byte-refusal .ensures, c .before .enum-told .given .1)
     (sym (vars-stop (a .s .now) (a .ar .now) (a .types .now) (a .own) (a .live) (a .n) (a .at) _ e), tt)
 
-start-requires : tie.Need-start-requires
-start-requires c κs = omega (arith, rw (c .before .r .given .1) at (c .before .before .before .ranged .ensures .1))
-
 follow-requires : tie.Need-follow-requires
-follow-requires c κs =
-    let at-r = c .before .before in let at-ranged = at-r .before .before in
-    let span = rw (at-r .r .given .1) at (at-ranged .ranged .ensures .1) in
-    omega (arith, at-ranged .before .before .before .before .pre)
+follow-requires c κs = omega (arith, rw (c .before .before .r .given .1) at (c .before .before .before .before .ranged .ensures .1), start′₂ c .pre)
 
 returns-2 : tie.Need-returns-2
 returns-2 c =
     let at-r = c .before .before .before in let at-ranged = at-r .before .before in
-    let start′ = at-ranged .before .before .before .before in
-    let a = start′ .args in
+    let start′′ = at-ranged .before .before .before .before in let a = start′′ .args in
     let e = sym (at-ranged .ranged .ensures .0) ∙ at-r .r .given .1 in
     let span = rw (at-r .r .given .1) at (at-ranged .ranged .ensures .1) in
     let rest = rw (c .before .start .ensures) at (c .follow .ensures .0) in (
       rest ∙ sym (vars-more (a .s .now) (a .ar .now) (a .types .now) (a .own) (a .live) (a .n) (a .at) _ _ e),
-      span-first (a .s .now) (a .n) (a .at) _ (c .follow .result) (start′ .pre .0) (start′ .pre .1) (span .0) (c .follow .ensures .1),
+      span-first (a .s .now) (a .n) (a .at) _ (c .follow .result) (start′′ .pre .0) (start′′ .pre .1) (span .0) (c .follow .ensures .1),
     )
 
 pub first-spec : {M : Type 1} → statement M
 first-spec =
     tie.close
-    (tie.spec (λ c κs. search needs) (λ c. search needs) (λ c. search needs) (λ c κs. search needs) returns start-requires
-    (λ c. search needs) follow-requires returns-2)
+    (tie.spec (λ c κs. search needs) (λ c. search needs) (λ c. search needs) (λ c κs. search needs) returns
+    (λ c κs. omega (arith, rw (c .before .r .given .1) at (c .before .before .before .ranged .ensures .1))) (λ c. search needs) follow-requires
+    returns-2)

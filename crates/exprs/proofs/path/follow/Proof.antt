@@ -39,41 +39,32 @@ loop-holds c =
 returns : tie.Need-returns Inv-loop μ-loop
 returns c =
     let at-ranged = c .before .before .before in let at-loop = at-ranged .before .before in
-    let a = at-loop .before .before .before .before .args in
-    let loop = at-loop .loop in
+    let a = at-loop .before .before .before .before .args in let loop = at-loop .loop in
     let more : loop .left ≡ 0 → ⊥ = λ z. omega arith in
     let e = sym (at-ranged .ranged .ensures .0) ∙ c .before .enum-told .given .1 in
-    rw (c .byte-refusal .ensures, c .before .enum-told .given .1) (
-      sym (loop .inv .1
-          ∙ row-stop (a .s .now) (a .ar .now) (a .types .now) (loop .value) (loop .left) (a .n + a .c - loop .left) (loop .next) more _ e),
-      tt,
-    )
+    rw (c .byte-refusal .ensures, c .before .enum-told .given .1)
+    (sym (loop .inv .1 ∙ row-stop (a .s .now) (a .ar .now) (a .types .now) (loop .value) (loop .left) (a .n + a .c - loop .left) (loop .next) more _ e), tt)
 
 loop-again : tie.Need-loop-again Inv-loop μ-loop
 loop-again c =
     let at-r = c .before .before in let at-ranged = at-r .before .before in
-    let at-loop = at-ranged .before .before in
-    let a = at-loop .before .before .before .before .args in
+    let at-loop = at-ranged .before .before in let a = at-loop .before .before .before .before .args in
     let loop = at-loop .loop in
-    let told = at-r .r .given in
-    let ranged = at-ranged .ranged in
     let more : loop .left ≡ 0 → ⊥ = λ z. omega arith in
-    let e = sym (ranged .ensures .0) ∙ told .1 in
-    let span = rw (told .1) at (ranged .ensures .1) in
+    let e = sym (at-ranged .ranged .ensures .0) ∙ at-r .r .given .1 in
+    let span = rw (at-r .r .given .1) at (at-ranged .ranged .ensures .1) in
     let one : a .n + a .c - (loop .left - 1) ≡ a .n + a .c - loop .left + 1 = omega (arith, loop .inv .0) in (
       omega (arith, loop .inv .0, span),
-      rw (c .lead-by .ensures, one) (loop .inv .1
-          ∙ row-more (a .s .now) (a .ar .now) (a .types .now) (loop .value) (loop .left) (a .n + a .c - loop .left) (loop .next) more _ _ e),
+      rw (c .lead-by .ensures, one)
+          (loop .inv .1 ∙ row-more (a .s .now) (a .ar .now) (a .types .now) (loop .value) (loop .left) (a .n + a .c - loop .left) (loop .next) more _ _ e),
     )
 
 returns-2 : tie.Need-returns-2 Inv-loop μ-loop
 returns-2 c =
-    let a = start₂ c .args in
-    let loop = c .before .loop in
+    let a = start₂ c .args in let loop = c .before .loop in
     let none : loop .left ≡ 0 = omega arith in
     let all : a .n + a .c - loop .left ≡ a .n + a .c = omega arith in (
-      sym (loop .inv .1
-          ∙ row-none (a .s .now) (a .ar .now) (a .types .now) (loop .value) (loop .left) (a .n + a .c - loop .left) (loop .next) none
+      sym (loop .inv .1 ∙ row-none (a .s .now) (a .ar .now) (a .types .now) (loop .value) (loop .left) (a .n + a .c - loop .left) (loop .next) none
           ∙ ap (λ i. Path (loop .next) i (loop .value)) all),
       omega (arith, loop .inv .0),
     )

@@ -23,10 +23,8 @@ returns-3 c =
 
 returns-4 : tie.Need-returns-4
 returns-4 c =
-    let a = c .before .before .before .before .args in (
-      sym (ranged-in (a .s .now) (a .lo) (a .hi) (a .at) (c .before .before .before .if1 .left) (c .before .if2 .left) (c .if3 .left)),
-      omega arith,
-    )
+    let a = c .before .before .before .before .args in
+    (sym (ranged-in (a .s .now) (a .lo) (a .hi) (a .at) (c .before .before .before .if1 .left) (c .before .if2 .left) (c .if3 .left)), omega arith)
 
 pub ranged-spec : {M : Type 1} → statement M
 ranged-spec =

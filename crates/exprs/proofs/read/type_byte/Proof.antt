@@ -19,8 +19,7 @@ returns c =
 
 returns-2 : tie.Need-returns-2
 returns-2 c =
-    let at-if1 = c .before .before .before in
-    let a = at-if1 .before .before .args in
+    let at-if1 = c .before .before .before in let a = at-if1 .before .before .args in
     let f = sym (c .before .is-type .ensures) ∙ not-true _ (c .if2 .taken) in
     (sym (tested-wrong (a .s .now) (a .at) (type-byte (a .n)) (at-if1 .if1 .left) f), tt)
 

@@ -28,8 +28,8 @@ returns-7 c = (rw (c .match .keys7), omega arith)
 returns-8 : tie.Need-returns-8
 returns-8 c =
     let n = c .match .rest in
-    let e = is-last (c .before .args .x) (c .before .pre) (n .0 .0 .0 .0 .0 .0 .1) (n .0 .0 .0 .0 .0 .1) (n .0 .0 .0 .0 .1) (n .0 .0 .0 .1)
-    (n .0 .0 .1) (n .0 .1) (n .1) in
+    let e = is-last (c .before .args .x) (c .before .pre) (n .0 .0 .0 .0 .0 .0 .1) (n .0 .0 .0 .0 .0 .1) (n .0 .0 .0 .0 .1) (n .0 .0 .0 .1) (n .0 .0 .1)
+    (n .0 .1) (n .1) in
     (rw e, omega arith)
 
 pub power-spec : {M : Type 1} → statement M

@@ -32,26 +32,22 @@ begin-one-requires c κs =
 loop-again : tie.Need-loop-again Inv-loop μ-loop
 loop-again c =
     let at-begin-one = c .before .before in let in-loop = at-begin-one .before .before in
-    let args = in-loop .before .before .before .before .args in
-    let inv = in-loop .before .loop .inv in
-    let l = in-loop .before .loop .l in
-    let heads = in-loop .before .loop .heads in
-    let one = at-begin-one .begin-one .ensures in
-    let s = args .spans .now in (
+    let args = in-loop .before .before .before .before .args in let s = args .spans .now in (
       omega arith,
-      rw one (one-length s (args .c) heads l ∙ inv .1),
-      rw one (one-rows s (args .c) heads l (inv .2)),
-      rw one (sym (all-next s (args .c) heads (args .n) l (in-loop .loop-test .taken)) ∙ inv .3),
+      rw (at-begin-one .begin-one .ensures)
+          (one-length s (args .c) (in-loop .before .loop .heads) (in-loop .before .loop .l) ∙ in-loop .before .loop .inv .1),
+      rw (at-begin-one .begin-one .ensures)
+          (one-rows s (args .c) (in-loop .before .loop .heads) (in-loop .before .loop .l) (in-loop .before .loop .inv .2)),
+      rw (at-begin-one .begin-one .ensures) (sym (all-next s (args .c) (in-loop .before .loop .heads) (args .n) (in-loop .before .loop .l)
+          (in-loop .loop-test .taken)) ∙ in-loop .before .loop .inv .3),
     )
 
 returns : tie.Need-returns Inv-loop μ-loop
 returns c =
     let args = c .before .before .before .before .args in
-    let loop = c .before .loop in
-    sym (all-done (args .spans .now) (args .c) (loop .heads) (args .n) (loop .l) (c .loop-test .left)) ∙ loop .inv .3
+    sym (all-done (args .spans .now) (args .c) (c .before .loop .heads) (args .n) (c .before .loop .l) (c .loop-test .left)) ∙ c .before .loop .inv .3
 
 pub begin-all-spec : {M : Type 1} → statement M
 begin-all-spec =
     tie.close
-    (tie.spec Inv-loop μ-loop loop-holds begin-one-requires (λ c. omega arith) (λ c. omega arith) loop-again (λ c. c .before .loop .inv .1)
-    returns)
+    (tie.spec Inv-loop μ-loop loop-holds begin-one-requires (λ c. omega arith) (λ c. omega arith) loop-again (λ c. c .before .loop .inv .1) returns)

@@ -31,22 +31,18 @@ loop-holds c =
 
 loop-again : tie.Need-loop-again Inv-loop μ-loop
 loop-again c =
-    let args = start₂ c .args in
-    let loop = c .before .before .before .loop in
-    let h = args .heads .now in
-    let less = c .before .before .loop-test .taken in
+    let args = start₂ c .args in let h = args .heads .now in
     let flag = sym (c .before .holds .ensures) in
-    ⊎-elim
-    (λ w. let e = count-here h (args .n) (loop .l) less (flag ∙ w .0 .taken) in (omega arith, omega arith, omega arith))
-    (λ w. let e = count-past h (args .n) (loop .l) less (flag ∙ w .0 .left) in (omega arith, omega arith, omega arith))
-    (c .if1 .came)
+    ⊎-elim (λ w. let e = count-here h (args .n) (c .before .before .before .loop .l) (c .before .before .loop-test .taken) (flag ∙ w .0 .taken) in
+    (omega arith, omega arith, omega arith)) (λ w.
+    let e = count-past h (args .n) (c .before .before .before .loop .l) (c .before .before .loop-test .taken)
+    (flag ∙ w .0 .left) in
+    (omega arith, omega arith, omega arith)) (c .if1 .came)
 
 returns : tie.Need-returns Inv-loop μ-loop
 returns c =
     let args = c .before .before .before .args in
-    let loop = c .before .loop in
-    let e = count-done (args .heads .now) (args .n) (loop .l) (c .loop-test .left) in
-    omega arith
+    omega (arith, count-done (args .heads .now) (args .n) (c .before .loop .l) (c .loop-test .left))
 
 pub holding-spec : {M : Type 1} → statement M
 holding-spec =

@@ -15,26 +15,24 @@ start₂ c = start (c .before)
 returns : tie.Need-returns
 returns c =
     let at-begin-all = c .before .before in let at-if1 = at-begin-all .before .before in
-    let at-shared-slice-known = at-if1 .before .before .before .before in
-    let a = at-shared-slice-known .before .args in
+    let a = start (at-if1 .before) .args in
     let i = item-starts (a .items .now) (a .spans .now) (a .heads .now) (a .count) (a .place) (a .fixes) (a .stable) (at-if1 .if1 .taken) in
     λ n x. rw (at-begin-all .begin-all .ensures) (i n x)
 
 returns-2 : tie.Need-returns-2
 returns-2 c =
     let a = start₂ (c .before .before) .args in
-    item-fixes (a .items .now) (a .spans .now) (a .heads .now) (a .count) (a .place) (a .fixes) (a .stable) (c .fix .result)
-    (c .before .if2 .taken) (c .fix .ensures)
+    item-fixes (a .items .now) (a .spans .now) (a .heads .now) (a .count) (a .place) (a .fixes) (a .stable) (c .fix .result) (c .before .if2 .taken)
+    (c .fix .ensures)
 
 returns-3 : tie.Need-returns-3
 returns-3 c =
-    let at-if1 = c .before .before in
-    let a = start₂ at-if1 .args in
-    item-rounds (a .items .now) (a .spans .now) (a .heads .now) (a .count) (a .place) (a .fixes) (a .stable) (c .round .result)
-    (at-if1 .if1 .left) (c .before .if2 .left) (c .round .ensures)
+    let at-if1 = c .before .before in let a = start₂ at-if1 .args in
+    item-rounds (a .items .now) (a .spans .now) (a .heads .now) (a .count) (a .place) (a .fixes) (a .stable) (c .round .result) (at-if1 .if1 .left)
+    (c .before .if2 .left) (c .round .ensures)
 
 pub advance-spec : {M : Type 1} → statement M
 advance-spec =
     tie.close
-    (tie.spec (λ c. search needs) (λ c. search needs) (λ c κs. search needs) (λ c. search needs) (λ c. search needs) returns
-    (λ c κs. search needs) returns-2 (λ c. start₂ (c .before) .pre .item (omega arith)) (λ c κs. search needs) returns-3)
+    (tie.spec (λ c. search needs) (λ c. search needs) (λ c κs. search needs) (λ c. search needs) (λ c. search needs) returns (λ c κs. search needs)
+    returns-2 (λ c. start₂ (c .before) .pre .item (omega arith)) (λ c κs. search needs) returns-3)

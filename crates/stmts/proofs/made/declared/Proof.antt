@@ -9,8 +9,8 @@ returns c = rw (c .expr-refusal .ensures, c .before .enum-told .given .1)
 
 declared-requires : tie.Need-declared-requires
 declared-requires c κs =
-    let room = rw (c .before .r .given .1) at (c .before .before .before .pre .2) in
-    omega (arith, c .before .before .before .pre .0, c .before .before .before .pre .1)
+    omega
+    (arith, rw (c .before .r .given .1) at (c .before .before .before .pre .2), c .before .before .before .pre .0, c .before .before .before .pre .1)
 
 returns-2 : tie.Need-returns-2
 returns-2 c = rw (c .before .before .r .given .1, c .declared .ensures)

@@ -8,9 +8,7 @@ returns : tie.Need-returns
 returns c = rw (c .expr-refusal .ensures, c .before .enum-told .given .1)
 
 updated-requires : tie.Need-updated-requires
-updated-requires c κs =
-    let room = rw (c .before .r .given .1) at (c .before .before .before .pre) in
-    omega (arith, c .before .before .before .fits .n)
+updated-requires c κs = omega (arith, rw (c .before .r .given .1) at (c .before .before .before .pre), c .before .before .before .fits .n)
 
 returns-2 : tie.Need-returns-2
 returns-2 c = rw (c .before .before .r .given .1, c .updated .ensures)

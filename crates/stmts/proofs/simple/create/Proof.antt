@@ -9,8 +9,7 @@ use Rattle.stmts.proofs.simple.create.Tie as tie
 
 returns : tie.Need-returns
 returns c =
-    let at-construct = c .before in
-    let a = at-construct .before .before .before .before .args in
+    let at-construct = c .before in let a = at-construct .before .before .before .before .args in
     let s = a .s .now in
     let law = create-is (a .ar .now) (a .types .now) s (a .own) (a .c) (a .at) (read-make (a .ar .now) s (read-expr (a .ar .now) s 16) (a .at)) in (
       (rw (at-construct .construct .ensures .0) at (c .labelled .ensures)) ∙ sym law,

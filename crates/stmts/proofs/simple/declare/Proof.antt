@@ -7,6 +7,13 @@ use borrow.Author.Needs.{needs}
 use Rattle.stmts.proofs.simple.declare.Statement.{statement}
 use Rattle.stmts.proofs.simple.declare.Tie as tie
 
+-- the places that proofs look back to
+abbrev start : tie.After-type-byte → tie.Start
+start c = c .before .before .before .before
+
+abbrev start₂ : tie.After-known-told → tie.Start
+start₂ c = start (c .before .before .before)
+
 returns : tie.Need-returns
 returns c =
     let at-type-byte = c .before .before .before in
@@ -17,15 +24,13 @@ returns c =
 
 local-requires : tie.Need-local-requires
 local-requires c κs =
-    let at-type-byte = c .before .before .before in let start = at-type-byte .before .before .before .before in
-    let span = rw (c .before .r .given .1) at (at-type-byte .type-byte .ensures .1) in
-    (start .pre, omega (arith, start .pre))
+    let span = rw (c .before .r .given .1) at (c .before .before .before .type-byte .ensures .1) in
+    (start₂ c .pre, omega (arith, start₂ c .pre))
 
 returns-2 : tie.Need-returns-2
 returns-2 c =
     let at-r = c .before .before in let at-type-byte = at-r .before .before in
-    let a = at-type-byte .before .before .before .before .args in
-    let s = a .s .now in
+    let a = at-type-byte .before .before .before .before .args in let s = a .s .now in
     let e = sym (at-type-byte .type-byte .ensures .0) ∙ at-r .r .given .1 in
     let span = rw (at-r .r .given .1) at (at-type-byte .type-byte .ensures .1) in (
       c .local .ensures .0 ∙ sym (declare-is (a .ar .now) (a .types .now) s (a .own) (a .c) (a .at) _ _ e),

@@ -10,6 +10,13 @@ use borrow.Author.Needs.{needs}
 use Rattle.stmts.proofs.simple.local.Statement.{statement}
 use Rattle.stmts.proofs.simple.local.Tie as tie
 
+-- the places that proofs look back to
+abbrev start : tie.After-ranged → tie.Start
+start c = c .before .before .before .before
+
+abbrev start₂ : tie.After-expr → tie.Start
+start₂ c = start (c .before .before .before .before)
+
 returns : tie.Need-returns
 returns c =
     let at-ranged = c .before .before .before in
@@ -18,23 +25,17 @@ returns c =
     rw (c .byte-refusal .ensures, c .before .enum-told .given .1)
     (sym (local-stop (a .ar .now) (a .types .now) (a .s .now) (a .own) (a .c) (a .at) (a .t) _ e), tt)
 
-sub-declared : tie.Need-sub-declared
-sub-declared c = omega (arith, rw (c .before .r .given .1) at (c .before .before .before .ranged .ensures .1))
-
 declared-requires : tie.Need-declared-requires
 declared-requires c κs =
-    let at-r = c .before .before in let at-ranged = at-r .before .before in
-    let start = at-ranged .before .before .before .before in
-    let a = start .args in
-    let small : length (a .s .now) < 2 ^ 63 = omega (arith, start .good .0) in
-    let span = rw (at-r .r .given .1) at (at-ranged .ranged .ensures .1) in
-    (omega arith, omega (arith, start .pre .1), span-room (a .s .now) _ _ (c .expr .result) small (c .expr .ensures .1))
+    let a = start₂ c .args in
+    let small : length (a .s .now) < 2 ^ 63 = omega (arith, start₂ c .good .0) in
+    let span = rw (c .before .before .r .given .1) at (c .before .before .before .before .ranged .ensures .1) in
+    (omega arith, omega (arith, start₂ c .pre .1), span-room (a .s .now) _ _ (c .expr .result) small (c .expr .ensures .1))
 
 returns-2 : tie.Need-returns-2
 returns-2 c =
     let at-r = c .before .before .before in let at-ranged = at-r .before .before in
-    let a = at-ranged .before .before .before .before .args in
-    let s = a .s .now in
+    let a = at-ranged .before .before .before .before .args in let s = a .s .now in
     let e = sym (at-ranged .ranged .ensures .0) ∙ at-r .r .given .1 in
     let span = rw (at-r .r .given .1) at (at-ranged .ranged .ensures .1) in
     let law = local-is (a .ar .now) (a .types .now) s (a .own) (a .c) (a .at) (a .t) _ _ e in (
@@ -45,5 +46,6 @@ returns-2 c =
 pub local-spec : {M : Type 1} → statement M
 local-spec =
     tie.close
-    (tie.spec (λ c κs. search needs) (λ c. search needs) (λ c. search needs) (λ c κs. search needs) returns sub-declared
-    (λ c κs. search needs) declared-requires returns-2)
+    (tie.spec (λ c κs. search needs) (λ c. search needs) (λ c. search needs) (λ c κs. search needs) returns
+    (λ c. omega (arith, rw (c .before .r .given .1) at (c .before .before .before .ranged .ensures .1))) (λ c κs. search needs) declared-requires
+    returns-2)

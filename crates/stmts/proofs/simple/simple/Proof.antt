@@ -9,47 +9,37 @@ use Rattle.stmts.proofs.simple.simple.Tie as tie
 abbrev start : tie.Else1 → tie.Start
 start c = c .before .before .before .before
 
-abbrev start₂ : tie.Then1 → tie.Start
-start₂ c = c .before .before .before .before
-
-abbrev start₃ : tie.After-declare → tie.Start
-start₃ c = start₂ (c .before)
-
 returns : tie.Need-returns
 returns c =
-    let a = start₃ c .args in (
-      λ w p. c .declare .ensures .0
-          ∙ sym (rule-declare (a .ar .now) (a .types .now) (a .s .now) (a .own) (a .c) w p (a .at) (a .b) (c .before .if1 .taken)),
+    let at-if1 = c .before in let a = at-if1 .before .before .before .before .args in (
+      λ w p.
+          c .declare .ensures .0 ∙ sym (rule-declare (a .ar .now) (a .types .now) (a .s .now) (a .own) (a .c) w p (a .at) (a .b) (at-if1 .if1 .taken)),
       c .declare .ensures .1,
     )
 
 returns-2 : tie.Need-returns-2
 returns-2 c =
     let a = start (c .before .before) .args in (
-      λ w p. c .update .ensures .0
-          ∙ sym (rule-update (a .ar .now) (a .types .now) (a .s .now) (a .own) (a .c) w p (a .at) (a .b) (c .before .if2 .taken)),
+      λ w p.
+          c .update .ensures .0 ∙ sym (rule-update (a .ar .now) (a .types .now) (a .s .now) (a .own) (a .c) w p (a .at) (a .b) (c .before .if2 .taken)),
       c .update .ensures .1,
     )
 
 returns-3 : tie.Need-returns-3
 returns-3 c =
     let a = start (c .before .before .before) .args in (
-      λ w p. c .create .ensures .0
-          ∙ sym (rule-create (a .ar .now) (a .types .now) (a .s .now) (a .own) (a .c) w p (a .at) (a .b) (c .before .if3 .taken)),
+      λ w p.
+          c .create .ensures .0 ∙ sym (rule-create (a .ar .now) (a .types .now) (a .s .now) (a .own) (a .c) w p (a .at) (a .b) (c .before .if3 .taken)),
       c .create .ensures .1,
     )
 
 returns-4 : tie.Need-returns-4
 returns-4 c =
-    let at-if1 = c .before .before in
-    let a = start at-if1 .args in (
-      λ w p.
-          sym (rule-none (a .ar .now) (a .types .now) (a .s .now) (a .own) (a .c) w p (a .at) (a .b) (start at-if1 .pre .1) (at-if1 .if1 .left)
+    let at-if1 = c .before .before in let a = start at-if1 .args in (
+      λ w p. sym (rule-none (a .ar .now) (a .types .now) (a .s .now) (a .own) (a .c) w p (a .at) (a .b) (start at-if1 .pre .1) (at-if1 .if1 .left)
           (c .before .if2 .left) (c .if3 .left)),
       tt,
     )
 
 pub simple-spec : {M : Type 1} → statement M
-simple-spec =
-    tie.close
-    (tie.spec (λ c κs. search needs) returns (λ c κs. search needs) returns-2 (λ c κs. search needs) returns-3 returns-4)
+simple-spec = tie.close (tie.spec (λ c κs. search needs) returns (λ c κs. search needs) returns-2 (λ c κs. search needs) returns-3 returns-4)

@@ -19,11 +19,9 @@ start₂ c = start (c .before .before .before .before)
 
 returns : tie.Need-returns
 returns c =
-    let at-path = c .before .before .before in
-    let a = at-path .before .before .before .before .args in
+    let at-path = c .before .before .before in let a = at-path .before .before .before .before .args in
     let e = sym (at-path .path .ensures .0) ∙ c .before .enum-told .given .1 in
-    rw (c .path-refusal .ensures, c .before .enum-told .given .1)
-    (sym (update-stop (a .ar .now) (a .types .now) (a .s .now) (a .own) (a .c) (a .at) _ e), tt)
+    rw (c .path-refusal .ensures, c .before .enum-told .given .1) (sym (update-stop (a .ar .now) (a .types .now) (a .s .now) (a .own) (a .c) (a .at) _ e), tt)
 
 updated-requires : tie.Need-updated-requires
 updated-requires c κs =
@@ -34,8 +32,7 @@ updated-requires c κs =
 returns-2 : tie.Need-returns-2
 returns-2 c =
     let at-r = c .before .before .before in let at-path = at-r .before .before in
-    let a = at-path .before .before .before .before .args in
-    let s = a .s .now in
+    let a = at-path .before .before .before .before .args in let s = a .s .now in
     let e = sym (at-path .path .ensures .0) ∙ at-r .r .given .1 in
     let span = rw (at-r .r .given .1) at (at-path .path .ensures .1) in
     let law = update-is (a .ar .now) (a .types .now) s (a .own) (a .c) (a .at) _ _ _ e in (
@@ -46,5 +43,5 @@ returns-2 c =
 pub update-spec : {M : Type 1} → statement M
 update-spec =
     tie.close
-    (tie.spec (λ c κs. search needs) (λ c. search needs) (λ c. search needs) (λ c κs. search needs) returns (λ c κs. search needs)
-    updated-requires returns-2)
+    (tie.spec (λ c κs. search needs) (λ c. search needs) (λ c. search needs) (λ c κs. search needs) returns (λ c κs. search needs) updated-requires
+    returns-2)

@@ -83,26 +83,30 @@ stmts-claims t = (nothing.Asked, nothing.Learnt, stmt-below t, stmt.Post, follow
 abbrev when-claims : ℕ → when-lts.Claims
 when-claims t = (expr.Asked, expr.Learnt, expr-refusal.Asked, expr-refusal.Learnt, body-below t, body.Post, branched.Asked, branched.Learnt)
 
+-- the places of `body` that proofs look back to
+abbrev body-start : (t : ℕ) → body-lts.After-ranged (body-claims t) (body-at t) body.Post → body-lts.Start (body-claims t) (body-at t) body.Post
+body-start t c = c .before .before .before .before
+
+abbrev body-start₂ : (t : ℕ) → body-lts.After-known-told (body-claims t) (body-at t) body.Post → body-lts.Start (body-claims t) (body-at t) body.Post
+body-start₂ t c = body-start t (c .before .before .before)
+
 body-returns : (t : ℕ) → body-lts.Need-returns (body-claims t) (body-at t) body.Post
 body-returns t c =
     let at-ranged = c .before .before .before in
-    let a = at-ranged .before .before .before .before .args in
-    let s = a .s .now in
+    let a = at-ranged .before .before .before .before .args in let s = a .s .now in
     let e = sym (at-ranged .ranged .ensures .0) ∙ c .before .enum-told .given .1 in
     rw (c .byte-refusal .ensures, c .before .enum-told .given .1)
     (sym (body-stop (a .ar .now) (a .types .now) s (a .own) (a .c) (read-stmt (a .ar .now) s (a .depth)) (a .at) _ e), tt)
 
 body-stmts-requires : (t : ℕ) → body-lts.Need-stmts-requires (body-claims t) (body-at t) body.Post
 body-stmts-requires t c κs =
-    let at-ranged = c .before .before .before in let start = at-ranged .before .before .before .before in
-    let span = rw (c .before .r .given .1) at (at-ranged .ranged .ensures .1) in
-    (omega (arith, start .pre), (start .pre .1, omega arith))
+    let span = rw (c .before .r .given .1) at (c .before .before .before .ranged .ensures .1) in
+    (omega (arith, body-start₂ t c .pre), (body-start₂ t c .pre .1, omega arith))
 
 body-returns-2 : (t : ℕ) → body-lts.Need-returns-2 (body-claims t) (body-at t) body.Post
 body-returns-2 t c =
     let at-r = c .before .before in let at-ranged = at-r .before .before in
-    let a = at-ranged .before .before .before .before .args in
-    let s = a .s .now in
+    let a = at-ranged .before .before .before .before .args in let s = a .s .now in
     let e = sym (at-ranged .ranged .ensures .0) ∙ at-r .r .given .1 in
     let span = rw (at-r .r .given .1) at (at-ranged .ranged .ensures .1) in (
       c .stmts .ensures .0 ∙ sym (body-is (a .ar .now) (a .types .now) s (a .own) (a .c) (read-stmt (a .ar .now) s (a .depth)) (a .at) _ _ e),
@@ -123,33 +127,25 @@ stmt-returns t c =
 
 stmt-returns-2 : (t : ℕ) → stmt-lts.Need-returns-2 (stmt-claims t) (stmt-at t) stmt.Post
 stmt-returns-2 t c =
-    let at-if1 = c .before .before .before in
-    let a = stmt-start t at-if1 .args in
+    let at-if1 = c .before .before .before in let a = stmt-start t at-if1 .args in
     let s = a .s .now in (
-      stmt-simple (a .ar .now) (a .types .now) s (a .own) (a .c) (a .depth) (a .at) (at-if1 .if1 .left) (c .simple .result)
-          (c .simple .ensures .0),
+      stmt-simple (a .ar .now) (a .types .now) s (a .own) (a .c) (a .depth) (a .at) (at-if1 .if1 .left) (c .simple .result) (c .simple .ensures .0),
       behind-ahead s (a .at) (c .simple .result) (c .simple .ensures .1),
     )
 
 stmt-returns-3 : (t : ℕ) → stmt-lts.Need-returns-3 (stmt-claims t) (stmt-at t) stmt.Post
 stmt-returns-3 t c =
-    let at-if1 = c .before .before .before in
-    let a = stmt-start t at-if1 .args in (
+    let at-if1 = c .before .before .before in let a = stmt-start t at-if1 .args in (
       sym (stmt-deep (a .ar .now) (a .types .now) (a .s .now) (a .own) (a .c) (a .depth) (a .at) (at-if1 .if1 .left) (c .before .if2 .left)
           (c .if3 .taken)),
       tt,
     )
 
-stmt-when-requires : (t : ℕ) → stmt-lts.Need-when-requires (stmt-claims t) (stmt-at t) stmt.Post
-stmt-when-requires t c κs = (omega (arith, stmt-start₂ t (c .before .before) .pre), stmt-start₂ t (c .before .before) .pre .1)
-
 stmt-returns-4 : (t : ℕ) → stmt-lts.Need-returns-4 (stmt-claims t) (stmt-at t) stmt.Post
 stmt-returns-4 t c =
     let at-if2 = c .before .before in let at-if1 = at-if2 .before .before in
-    let a = stmt-start t at-if1 .args in
-    let s = a .s .now in
-    let law = stmt-when (a .ar .now) (a .types .now) s (a .own) (a .c) (a .depth) (a .at) (at-if1 .if1 .left) (at-if2 .if2 .left)
-    (c .before .if3 .left) in
+    let a = stmt-start t at-if1 .args in let s = a .s .now in
+    let law = stmt-when (a .ar .now) (a .types .now) s (a .own) (a .c) (a .depth) (a .at) (at-if1 .if1 .left) (at-if2 .if2 .left) (c .before .if3 .left) in
     (c .when .ensures .0 ∙ sym law, behind-ahead s (a .at) (c .when .result) (c .when .ensures .1))
 
 abbrev stmts-Inv-loop : stmts-lts.InvT-loop
@@ -170,6 +166,16 @@ abbrev stmts-start₂ :
     → stmts-lts.Start (stmts-claims t) (stmts-at t) stmts.Post stmts-Inv-loop stmts-μ-loop
 stmts-start₂ t c = stmts-start t (c .before)
 
+abbrev stmts-at-loop :
+    (t : ℕ) → stmts-lts.After-stmt (stmts-claims t) (stmts-at t) stmts.Post stmts-Inv-loop stmts-μ-loop
+    → stmts-lts.At-loop (stmts-claims t) (stmts-at t) stmts.Post stmts-Inv-loop stmts-μ-loop
+stmts-at-loop t c = c .before .before .before
+
+abbrev stmts-at-loop₂ :
+    (t : ℕ) → stmts-lts.After-known-told (stmts-claims t) (stmts-at t) stmts.Post stmts-Inv-loop stmts-μ-loop
+    → stmts-lts.At-loop (stmts-claims t) (stmts-at t) stmts.Post stmts-Inv-loop stmts-μ-loop
+stmts-at-loop₂ t c = stmts-at-loop t (c .before .before .before)
+
 stmts-loop-holds : (t : ℕ) → stmts-lts.Need-loop-holds (stmts-claims t) (stmts-at t) stmts.Post stmts-Inv-loop stmts-μ-loop
 stmts-loop-holds t c =
     let a = c .before .before .before .before .args in
@@ -177,46 +183,32 @@ stmts-loop-holds t c =
 
 stmts-stmt-requires : (t : ℕ) → stmts-lts.Need-stmt-requires (stmts-claims t) (stmts-at t) stmts.Post stmts-Inv-loop stmts-μ-loop
 stmts-stmt-requires t c κs =
-    let within = c .before .before .loop .inv .0 .within in
-    (omega (arith, stmts-start₂ t (c .before .before) .pre, within), stmts-start₂ t (c .before .before) .pre .1 .0)
+    (omega (arith, stmts-start₂ t (c .before .before) .pre, c .before .before .loop .inv .0 .within), stmts-start₂ t (c .before .before) .pre .1 .0)
 
 stmts-returns : (t : ℕ) → stmts-lts.Need-returns (stmts-claims t) (stmts-at t) stmts.Post stmts-Inv-loop stmts-μ-loop
 stmts-returns t c =
     let at-stmt = c .before .before in let at-loop = at-stmt .before .before .before in
-    let at-nothing = at-loop .before in
-    let a = at-nothing .before .before .before .before .args in
-    let s = a .s .now in
-    let loop = at-loop .loop in
-    let read = read-stmt (a .ar .now) s (a .depth) in
-    let told = c .enum-told .given in
+    let at-nothing = at-loop .before in let a = at-nothing .before .before .before .before .args in
+    let s = a .s .now in let loop = at-loop .loop in let read = read-stmt (a .ar .now) s (a .depth) in
     let more : loop .left ≡ 0 → ⊥ = λ z. omega arith in
-    let begins = row-begins (a .ar .now) (a .types .now) s (a .own) read (a .c) (at-nothing .nothing .result) (a .n) (a .at)
-    (at-nothing .nothing .ensures) in
+    let begins = row-begins (a .ar .now) (a .types .now) s (a .own) read (a .c) (at-nothing .nothing .result) (a .n) (a .at) (at-nothing .nothing .ensures) in
     let law = row-refused (a .ar .now) (a .types .now) s (a .own) read (loop .done) (loop .left) (loop .next) more _
-    (sym (at-stmt .stmt .ensures .0) ∙ told .1) in
-    (told .1 ∙ sym law ∙ sym (loop .inv .1) ∙ begins, rw (told .1) tt)
+    (sym (at-stmt .stmt .ensures .0) ∙ c .enum-told .given .1) in
+    (c .enum-told .given .1 ∙ sym law ∙ sym (loop .inv .1) ∙ begins, rw (c .enum-told .given .1) tt)
 
 stmts-followed-requires : (t : ℕ) → stmts-lts.Need-followed-requires (stmts-claims t) (stmts-at t) stmts.Post stmts-Inv-loop stmts-μ-loop
 stmts-followed-requires t c κs =
-    let at-stmt = c .before .before .before in let at-loop = at-stmt .before .before .before in
-    let at-nothing = at-loop .before in let start = at-nothing .before .before .before .before in
-    let a = start .args in
-    let small : length (a .s .now) < 2 ^ 63 = omega (arith, start .good .0) in
-    let within = at-loop .loop .inv .0 .within in
-    let ahead = rw (c .before .r .given .1) at (at-stmt .stmt .ensures .1) in
-    omega arith
+    let a = stmts-start₂ t (stmts-at-loop₂ t c) .args in
+    let small : length (a .s .now) < 2 ^ 63 = omega (arith, stmts-start₂ t (stmts-at-loop₂ t c) .good .0) in
+    omega (arith, stmts-at-loop₂ t c .loop .inv .0 .within, rw (c .before .r .given .1) at (c .before .before .before .stmt .ensures .1))
 
 stmts-loop-again : (t : ℕ) → stmts-lts.Need-loop-again (stmts-claims t) (stmts-at t) stmts.Post stmts-Inv-loop stmts-μ-loop
 stmts-loop-again t c =
     let at-r = c .before .before in let at-stmt = at-r .before .before in
-    let at-loop = at-stmt .before .before .before in let at-nothing = at-loop .before in
-    let a = at-nothing .before .before .before .before .args in
-    let s = a .s .now in
-    let loop = at-loop .loop in
-    let read = read-stmt (a .ar .now) s (a .depth) in
-    let told = at-r .r .given in
-    let ahead = rw (told .1) at (at-stmt .stmt .ensures .1) in
-    let e = sym (at-stmt .stmt .ensures .0) ∙ told .1 in
+    let at-loop = at-stmt .before .before .before in let a = stmts-start t (at-loop .before) .args in
+    let s = a .s .now in let loop = at-loop .loop in let read = read-stmt (a .ar .now) s (a .depth) in
+    let ahead = rw (at-r .r .given .1) at (at-stmt .stmt .ensures .1) in
+    let e = sym (at-stmt .stmt .ensures .0) ∙ at-r .r .given .1 in
     let more : loop .left ≡ 0 → ⊥ = λ z. omega arith in (
       rw (c .followed .ensures)
           (more-read (a .ar .now) (a .types .now) s (a .own) read (loop .done) (loop .left) (loop .next) (a .at) _ _ e ahead (loop .inv .0)),
@@ -226,22 +218,26 @@ stmts-loop-again t c =
 
 stmts-returns-2 : (t : ℕ) → stmts-lts.Need-returns-2 (stmts-claims t) (stmts-at t) stmts.Post stmts-Inv-loop stmts-μ-loop
 stmts-returns-2 t c =
-    let a = stmts-start₂ t (c .before) .args in
-    let s = a .s .now in
-    let loop = c .before .loop in
+    let a = stmts-start₂ t (c .before) .args in let s = a .s .now in let loop = c .before .loop in
     let read = read-stmt (a .ar .now) s (a .depth) in
     let none : loop .left ≡ 0 = omega arith in
     let begins = row-begins (a .ar .now) (a .types .now) s (a .own) read (a .c) (c .before .before .nothing .result) (a .n) (a .at)
     (c .before .before .nothing .ensures) in (
-      sym (row-ends (a .ar .now) (a .types .now) s (a .own) read (loop .done) (loop .left) (loop .next) none (loop .inv .0 .low))
-          ∙ sym (loop .inv .1) ∙ begins,
+      sym (row-ends (a .ar .now) (a .types .now) s (a .own) read (loop .done) (loop .left) (loop .next) none (loop .inv .0 .low)) ∙ sym (loop .inv .1)
+          ∙ begins,
       loop .inv .0 .within,
     )
 
+-- the places of `when` that proofs look back to
+abbrev when-start : (t : ℕ) → when-lts.After-expr (when-claims t) (when-at t) when.Post → when-lts.Start (when-claims t) (when-at t) when.Post
+when-start t c = c .before .before .before .before
+
+abbrev when-start₂ : (t : ℕ) → when-lts.After-known-told (when-claims t) (when-at t) when.Post → when-lts.Start (when-claims t) (when-at t) when.Post
+when-start₂ t c = when-start t (c .before .before .before)
+
 when-returns : (t : ℕ) → when-lts.Need-returns (when-claims t) (when-at t) when.Post
 when-returns t c =
-    let at-expr = c .before .before .before in
-    let a = at-expr .before .before .before .before .args in
+    let at-expr = c .before .before .before in let a = at-expr .before .before .before .before .args in
     let s = a .s .now in
     let e = sym (at-expr .expr .ensures .0) ∙ c .before .enum-told .given .1 in
     rw (c .expr-refusal .ensures, c .before .enum-told .given .1)
@@ -249,28 +245,23 @@ when-returns t c =
 
 when-body-requires : (t : ℕ) → when-lts.Need-body-requires (when-claims t) (when-at t) when.Post
 when-body-requires t c κs =
-    let at-expr = c .before .before .before in let start = at-expr .before .before .before .before in
-    let ahead = rw (c .before .r .given .1) at (at-expr .expr .ensures .1) in
-    (omega (arith, start .pre), start .pre .1)
+    let ahead = rw (c .before .r .given .1) at (c .before .before .before .expr .ensures .1) in
+    (omega (arith, when-start₂ t c .pre), when-start₂ t c .pre .1)
 
 when-branched-requires : (t : ℕ) → when-lts.Need-branched-requires (when-claims t) (when-at t) when.Post
 when-branched-requires t c κs =
-    let at-r = c .before .before in let at-expr = at-r .before .before in
-    let start = at-expr .before .before .before .before in
-    let a = start .args in
-    let small : length (a .s .now) < 2 ^ 63 = omega (arith, start .good .0) in
-    let ahead = rw (at-r .r .given .1) at (at-expr .expr .ensures .1) in
+    let a = when-start₂ t (c .before) .args in
+    let small : length (a .s .now) < 2 ^ 63 = omega (arith, when-start₂ t (c .before) .good .0) in
+    let ahead = rw (c .before .before .r .given .1) at (c .before .before .before .before .expr .ensures .1) in
     (omega arith, done-room (a .s .now) _ _ (c .body .result) small (c .body .ensures .1))
 
 when-returns-2 : (t : ℕ) → when-lts.Need-returns-2 (when-claims t) (when-at t) when.Post
 when-returns-2 t c =
     let at-r = c .before .before .before in let at-expr = at-r .before .before in
-    let a = at-expr .before .before .before .before .args in
-    let s = a .s .now in
-    let told = at-r .r .given in
-    let ahead = rw (told .1) at (at-expr .expr .ensures .1) in
+    let a = at-expr .before .before .before .before .args in let s = a .s .now in
+    let ahead = rw (at-r .r .given .1) at (at-expr .expr .ensures .1) in
     let law = when-is (a .ar .now) (a .types .now) s (a .own) (a .c) (read-stmt (a .ar .now) s (a .depth)) (a .at) _ _
-    (sym (at-expr .expr .ensures .0) ∙ told .1) in (
+    (sym (at-expr .expr .ensures .0) ∙ at-r .r .given .1) in (
       (rw (c .before .body .ensures .0) at (c .branched .ensures)) ∙ sym law,
       rw (c .branched .ensures) (span-branched s (a .at) _ (a .c) _ (c .before .body .result) ahead (c .before .body .ensures .1)),
     )
@@ -278,13 +269,13 @@ when-returns-2 t c =
 pub +body+stmt+stmts+when-spec : {M : Type 1} → statement M
 +body+stmt+stmts+when-spec =
     close μ-body μ-stmt μ-stmts μ-when
-    (λ t. body-lts.spec (body-claims t) (body-at t) body.Post (λ c. search needs) (λ c κs. search needs) (λ c. search needs)
-    (λ c. search needs) (λ c κs. search needs) (body-returns t) (body-stmts-requires t) (body-returns-2 t))
+    (λ t. body-lts.spec (body-claims t) (body-at t) body.Post (λ c. search needs) (λ c κs. search needs) (λ c. search needs) (λ c. search needs)
+    (λ c κs. search needs) (body-returns t) (body-stmts-requires t) (body-returns-2 t))
     (λ t. stmt-lts.spec (stmt-claims t) (stmt-at t) stmt.Post (stmt-returns t) (λ c. search needs) (λ c. search needs)
     (λ c κs. (stmt-start₂ t (c .before) .pre .1, c .if2 .taken)) (stmt-returns-2 t) (stmt-returns-3 t) (λ c. search needs)
-    (stmt-when-requires t) (stmt-returns-4 t))
+    (λ c κs. (omega (arith, stmt-start₂ t (c .before .before) .pre), stmt-start₂ t (c .before .before) .pre .1)) (stmt-returns-4 t))
     (λ t. stmts-lts.spec (stmts-claims t) (stmts-at t) stmts.Post stmts-Inv-loop stmts-μ-loop (λ c κs. search needs) (stmts-loop-holds t)
     (stmts-stmt-requires t) (λ c. search needs) (λ c. search needs) (stmts-returns t) (stmts-followed-requires t) (λ c. search needs)
     (λ c. search needs) (stmts-loop-again t) (stmts-returns-2 t))
-    λ t. when-lts.spec (when-claims t) (when-at t) when.Post (λ c κs. c .before .before .before .pre .1) (λ c. search needs)
-    (λ c. search needs) (λ c κs. search needs) (when-returns t) (when-body-requires t) (when-branched-requires t) (when-returns-2 t)
+    λ t. when-lts.spec (when-claims t) (when-at t) when.Post (λ c κs. c .before .before .before .pre .1) (λ c. search needs) (λ c. search needs)
+    (λ c κs. search needs) (when-returns t) (when-body-requires t) (when-branched-requires t) (when-returns-2 t)
