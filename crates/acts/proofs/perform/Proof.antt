@@ -63,11 +63,11 @@ negate-requires c κs =
 
 cast-operate : tie.Need-cast-operate
 cast-operate c =
-    let args = start (c .before .before .before) .args in let rest = c .before .before .match .rest in
-    let eight = last-kind (args .w % 256) (start (c .before .before .before) .pre .least) (start (c .before .before .before) .pre .greatest)
-    (rest .0 .0 .0 .0 .0 .0 .1) (rest .0 .0 .0 .0 .0 .1) (rest .0 .0 .0 .0 .1) (rest .0 .0 .0 .1) (rest .0 .0 .1) (rest .0 .1) (rest .1) in
-    let q = needed-by (args .counts .now) (args .heads .now) (args .cells .now) (args .l) (args .count) (args .w) 8 eight
-    (start (c .before .before .before) .pre) in
+    let at-match = c .before .before in let start′ = start (at-match .before) in
+    let args = start′ .args in let rest = at-match .match .rest in
+    let eight = last-kind (args .w % 256) (start′ .pre .least) (start′ .pre .greatest) (rest .0 .0 .0 .0 .0 .0 .1) (rest .0 .0 .0 .0 .0 .1)
+    (rest .0 .0 .0 .0 .1) (rest .0 .0 .0 .1) (rest .0 .0 .1) (rest .0 .1) (rest .1) in
+    let q = needed-by (args .counts .now) (args .heads .now) (args .cells .now) (args .l) (args .count) (args .w) 8 eight (start′ .pre) in
     omega (arith, q .byte)
 
 operate-requires : tie.Need-operate-requires

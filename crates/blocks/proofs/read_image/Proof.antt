@@ -44,9 +44,9 @@ returns-2 c =
 
 join-requires : tie.Need-join-requires
 join-requires c κs =
-    let args = start (at-image-fault₂ c) .args in
-    let ok = accepted (args .max) (args .image .now) (sym (at-image-fault₂ c .image-fault .ensures) ∙ c .before .before .before .enum-told .given .1) in
-    (ok .0, (ok .2, omega (arith, c .before .before .stream-length .ensures)))
+    let at-stream-length = c .before .before in let args = start₂ (at-stream-length .before) .args in
+    let ok = accepted (args .max) (args .image .now) (sym (at-image-fault₂ c .image-fault .ensures) ∙ at-stream-length .before .enum-told .given .1) in
+    (ok .0, (ok .2, omega (arith, at-stream-length .stream-length .ensures)))
 
 returns-3 : tie.Need-returns-3
 unfolding stream

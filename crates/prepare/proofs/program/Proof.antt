@@ -31,5 +31,5 @@ returns c =
 pub program-spec : {M : Type 1} → statement M
 program-spec =
     tie.close
-    (tie.spec program-requires (λ c κs. codes-ready (start₂ c .pre) (at-program₂ c .program .ensures .0)) (λ c. search needs)
-    (λ c. search needs) (λ c. search needs) returns)
+    (tie.spec program-requires (λ c κs. codes-ready (start₂ c .pre) (at-program₂ c .program .ensures .0)) (λ c. search needs) (λ c. search needs)
+    (λ c. search needs) returns)

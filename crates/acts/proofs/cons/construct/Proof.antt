@@ -6,19 +6,6 @@ use Rattle.acts.specs.ConsWays.{full-way, made-way}
 use Rattle.acts.proofs.cons.construct.Statement.{statement}
 use Rattle.acts.proofs.cons.construct.Tie as tie
 
--- the places that proofs look back to
-abbrev at-slice-known : tie.After-slice-known3 → tie.After-slice-known
-at-slice-known c = c .before .before .before .before
-
-abbrev at-slice-known₂ : tie.After-cells → tie.After-slice-known
-at-slice-known₂ c = at-slice-known (c .before .before .before .before)
-
-abbrev at-slice-known₃ : tie.After-heads → tie.After-slice-known
-at-slice-known₃ c = at-slice-known₂ (c .before .before .before .before)
-
-abbrev at-slice-known₄ : tie.After-put-arg2 → tie.After-slice-known
-at-slice-known₄ c = at-slice-known₃ (c .before .before .before .before)
-
 returns : tie.Need-returns
 returns c =
     let args = c .before .before .before .before .args in
@@ -26,15 +13,20 @@ returns c =
 
 add-put : tie.Need-add-put
 add-put c =
-    let args = at-slice-known₄ c .before .before .args in
-    omega (arith, at-slice-known₄ c .slice-known .given (head (args .l) end-of))
+    let at-cell = c .before .before in let at-found = at-cell .before .before .before in
+    let at-copy = at-found .before .before .before .before in
+    let at-shared-slice-known2 = at-copy .before .before .before .before in
+    let at-slice-known = at-shared-slice-known2 .before .before .before in
+    let args = at-slice-known .before .before .args in
+    omega (arith, at-slice-known .slice-known .given (head (args .l) end-of))
 
 returns-2 : tie.Need-returns-2
 returns-2 c =
     let at-put = c .before .before .before .before in let at-cell = at-put .before .before .before in
     let at-found = at-cell .before .before .before in let at-copy = at-found .before .before .before .before in
     let at-shared-slice-known2 = at-copy .before .before .before .before in
-    let args = at-slice-known₄ (at-put .before) .before .before .args in
+    let at-slice-known = at-shared-slice-known2 .before .before .before in
+    let args = at-slice-known .before .before .args in
     made-way (args .counts .now) (args .heads .now) (args .cells .now) (args .l) (args .count) (args .k) (at-shared-slice-known2 .before .if1 .left) _ _ _ _ _
     (at-copy .copy .ensures) (at-found .found .ensures) (at-cell .cell .ensures) (at-put .put .ensures .0) (at-put .put .ensures .1)
 

@@ -8,42 +8,36 @@ use Rattle.acts.proofs.oper.operate.Statement.{statement}
 use Rattle.acts.proofs.oper.operate.Tie as tie
 
 -- the places that proofs look back to
-abbrev at-slice-known : tie.After-slice-known5 → tie.After-slice-known
-at-slice-known c = c .before .before .before .before
+abbrev start : tie.After-slice-known4 → tie.Start
+start c = c .before .before .before .before
 
-abbrev at-slice-known₂ : tie.After-slice-known6 → tie.After-slice-known
-at-slice-known₂ c = at-slice-known (c .before)
-
-abbrev at-slice-known₃ : tie.After-known-told → tie.After-slice-known
-at-slice-known₃ c = at-slice-known₂ (c .before .before .before .before)
-
-abbrev at-slice-known₄ : tie.After-put-arg2 → tie.After-slice-known
-at-slice-known₄ c = at-slice-known₃ (c .before .before .before .before)
+abbrev start₂ : tie.After-apply-word → tie.Start
+start₂ c = start (c .before .before .before)
 
 add-put : tie.Need-add-put
 add-put c =
-    let args = at-slice-known₄ c .before .args in
-    omega (arith, at-slice-known₄ c .slice-known .given (head (args .l) end-of))
+    let at-result-byte = c .before .before .before in
+    let at-apply-word = at-result-byte .before .before .before .before in
+    let at-slice-known3 = at-apply-word .before .before .before .before in
+    let at-slice-known = at-slice-known3 .before .before in let args = at-slice-known .before .args in
+    omega (arith, at-slice-known .slice-known .given (head (args .l) end-of))
 
 returns : tie.Need-returns
 returns c =
     let at-put = c .before .before .before .before in let at-cell = at-put .before .before .before in
     let at-answer = at-cell .before .before .before in let at-apply-word = at-answer .before .before in
-    let args = at-slice-known₄ (at-put .before) .before .args in
-    let v = at-answer .answer .given .0 .0 in
+    let args = start₂ at-apply-word .args in let v = at-answer .answer .given .0 .0 in
     value-way (args .heads .now) (args .cells .now) (args .l) (args .o) _ _ _ v (sym (at-apply-word .apply-word .ensures) ∙ at-answer .answer .given .1)
     (at-cell .cell .ensures ∙ ap (λ b. cell b v) (at-cell .before .result-byte .ensures)) (at-put .put .ensures .0) (at-put .put .ensures .1)
 
 returns-2 : tie.Need-returns-2
 returns-2 c =
-    let at-apply-word = c .before .before in
-    let args = at-slice-known₂ (at-apply-word .before) .before .args in
+    let at-apply-word = c .before .before in let args = start₂ at-apply-word .args in
     outside-way (args .heads .now) (args .cells .now) (args .l) (args .o) (sym (at-apply-word .apply-word .ensures) ∙ c .enum-told .given .1)
 
 returns-3 : tie.Need-returns-3
 returns-3 c =
-    let at-apply-word = c .before .before in
-    let args = at-slice-known₂ (at-apply-word .before) .before .args in
+    let at-apply-word = c .before .before in let args = start₂ at-apply-word .args in
     unfit-way (args .heads .now) (args .cells .now) (args .l) (args .o) (sym (at-apply-word .apply-word .ensures) ∙ c .enum-told2 .given .1)
 
 pub operate-spec : {M : Type 1} → statement M

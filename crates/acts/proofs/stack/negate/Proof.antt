@@ -11,23 +11,18 @@ use Rattle.acts.specs.StackWays.{put-way}
 use Rattle.acts.proofs.stack.negate.Statement.{statement}
 use Rattle.acts.proofs.stack.negate.Tie as tie
 
--- the places that proofs look back to
-abbrev at-slice-known : tie.After-slice-known5 → tie.After-slice-known
-at-slice-known c = c .before .before .before .before
-
-abbrev at-slice-known₂ : tie.After-put-arg2 → tie.After-slice-known
-at-slice-known₂ c = at-slice-known (c .before .before .before)
-
 add-put : tie.Need-add-put
 add-put c =
-    let args = at-slice-known₂ c .before .args in
-    omega (arith, at-slice-known₂ c .slice-known .given (head (args .l) end-of))
+    let at-cell = c .before .before in let at-slice-known2 = at-cell .before .before .before .before in
+    let args = at-slice-known2 .before .before .args in
+    omega (arith, at-slice-known2 .before .slice-known .given (head (args .l) end-of))
 
 returns : tie.Need-returns
 unfolding do-not
 returns c =
     let at-put = c .before .before .before .before in let at-cell = at-put .before .before .before in
-    let args = at-slice-known₂ (at-put .before) .before .args in let h = args .heads .now in
+    let at-slice-known2 = at-cell .before .before .before .before in
+    let args = at-slice-known2 .before .before .args in let h = args .heads .now in
     let d = args .cells .now in
     let other = cell bool-byte (1 - operand (top [] (args .l) (memory h d))) in
     put-way h d _ (args .l) _ (getD h (head (args .l) height-of) 0 - 1) _ other

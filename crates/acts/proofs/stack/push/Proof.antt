@@ -9,23 +9,18 @@ use Rattle.acts.specs.StackWays.{put-way}
 use Rattle.acts.proofs.stack.push.Statement.{statement}
 use Rattle.acts.proofs.stack.push.Tie as tie
 
--- the places that proofs look back to
-abbrev at-slice-known : tie.After-put-arg → tie.After-slice-known
-at-slice-known c = c .before .before .before .before
-
-abbrev at-slice-known₂ : tie.After-put-arg2 → tie.After-slice-known
-at-slice-known₂ c = at-slice-known (c .before)
-
 add-put : tie.Need-add-put
 add-put c =
-    let args = at-slice-known₂ c .before .args in
-    omega (arith, at-slice-known₂ c .slice-known .given (head (args .l) end-of))
+    let at-slice-known2 = c .before .before .before .before in
+    let args = at-slice-known2 .before .before .args in
+    omega (arith, at-slice-known2 .before .slice-known .given (head (args .l) end-of))
 
 returns : tie.Need-returns
 unfolding do-push
 returns c =
     let at-put = c .before .before .before .before in
-    let args = at-slice-known₂ (at-put .before) .before .args in let h = args .heads .now in
+    let at-slice-known3 = at-put .before .before .before .before in
+    let args = at-slice-known3 .before .before .before .args in let h = args .heads .now in
     put-way h (args .cells .now) _ (args .l) _ (getD h (head (args .l) height-of) 0) (args .w) (args .w) refl
     (at-put .put .ensures .0) (at-put .put .ensures .1)
 

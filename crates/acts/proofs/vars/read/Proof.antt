@@ -10,23 +10,20 @@ use Rattle.acts.specs.StackWays.{put-way}
 use Rattle.acts.proofs.vars.read.Statement.{statement}
 use Rattle.acts.proofs.vars.read.Tie as tie
 
--- the places that proofs look back to
-abbrev at-slice-known : tie.After-slice-known5 → tie.After-slice-known
-at-slice-known c = c .before .before .before .before
-
-abbrev at-slice-known₂ : tie.After-put-arg2 → tie.After-slice-known
-at-slice-known₂ c = at-slice-known (c .before .before .before)
-
 add-put : tie.Need-add-put
 add-put c =
-    let args = at-slice-known₂ c .before .args in
-    omega (arith, at-slice-known₂ c .slice-known .given (head (args .l) end-of))
+    let at-slice-known4 = c .before .before .before .before in
+    let at-slice-known = at-slice-known4 .before .before .before in
+    let args = at-slice-known .before .args in
+    omega (arith, at-slice-known .slice-known .given (head (args .l) end-of))
 
 returns : tie.Need-returns
 unfolding do-rd
 returns c =
     let at-put = c .before .before .before .before in
-    let args = at-slice-known₂ (at-put .before) .before .args in let h = args .heads .now in
+    let at-slice-known5 = at-put .before .before .before .before in
+    let at-slice-known = at-slice-known5 .before .before .before .before in
+    let args = at-slice-known .before .args in let h = args .heads .now in
     put-way h (args .cells .now) _ (args .l) _ (getD h (head (args .l) height-of) 0 - 1) _ _ refl
     (at-put .put .ensures .0) (at-put .put .ensures .1)
 

@@ -12,44 +12,49 @@ use Rattle.acts.proofs.vars.write.Statement.{statement}
 use Rattle.acts.proofs.vars.write.Tie as tie
 
 -- the places that proofs look back to
-abbrev at-slice-known : tie.After-slice-known5 → tie.After-slice-known
-at-slice-known c = c .before .before .before .before
+abbrev start : tie.After-slice-known3 → tie.Start
+start c = c .before .before .before .before
 
-abbrev at-slice-known₂ : tie.After-go-arg → tie.After-slice-known
-at-slice-known₂ c = at-slice-known (c .before .before .before)
+abbrev start₂ : tie.After-slice-known4 → tie.Start
+start₂ c = start (c .before)
+
+abbrev start₃ : tie.After-go-arg → tie.Start
+start₃ c = start₂ (c .before .before .before .before)
 
 abbrev at-go : tie.After-shared-slice-known2 → tie.After-go
 at-go c = c .before .before .before
 
+abbrev start₄ : tie.After-shared-slice-known2 → tie.Start
+start₄ c = start₃ (at-go c .before)
+
 add-go : tie.Need-add-go
 add-go c =
-    let args = at-slice-known₂ c .before .before .args in
-    omega (arith, at-slice-known₂ c .slice-known .given (head (args .l) end-of))
+    let at-slice-known4 = c .before .before .before .before in
+    let at-slice-known = at-slice-known4 .before .before .before in let args = start₃ c .args in
+    omega (arith, at-slice-known .slice-known .given (head (args .l) end-of))
 
 cast-if1 : tie.Need-cast-if1
 cast-if1 c =
-    let args = at-slice-known₂ (at-go c .before) .before .before .args in let h = args .heads .now in
-    let r = operand (top [] (args .l) (memory h (args .cells .now))) in
-    omega (arith, at-slice-known₂ (at-go c .before) .before .shared-slice-known .given (getD h (head r struct-of) 0))
+    let at-go′ = at-go c in let at-slice-known5 = at-go′ .before .before .before .before in
+    let at-slice-known = at-slice-known5 .before .before .before .before in let args = start₄ c .args in
+    let h = args .heads .now in let r = operand (top [] (args .l) (memory h (args .cells .now))) in
+    omega (arith, at-slice-known .before .shared-slice-known .given (getD h (head r struct-of) 0))
 
 returns : tie.Need-returns
 returns c =
-    let at-go′ = at-go (c .before .before) in
-    let args = at-slice-known₂ (at-go′ .before) .before .before .args in
+    let at-go′ = at-go (c .before .before) in let args = start₃ (at-go′ .before) .args in
     null-way (args .counts .now) (args .heads .now) (args .cells .now) _ (args .l) (args .x) (at-go′ .go .ensures) (c .before .if1 .taken) (c .if2 .taken)
 
 returns-2 : tie.Need-returns-2
 returns-2 c =
     let at-replace = c .before .before in let at-if2 = at-replace .before .before in
-    let at-go′ = at-go (at-if2 .before .before) in
-    let args = at-slice-known₂ (at-go′ .before) .before .before .args in
+    let at-go′ = at-go (at-if2 .before .before) in let args = start₃ (at-go′ .before) .args in
     param-way (args .counts .now) (args .heads .now) (args .cells .now) _ (args .l) (args .x) _ (at-replace .replace .ensures .1) _
     (at-replace .replace .ensures .0) (at-go′ .go .ensures) (at-if2 .before .if1 .taken) (at-if2 .if2 .left)
 
 returns-3 : tie.Need-returns-3
 returns-3 c =
-    let at-go′ = at-go (c .before) in
-    let args = at-slice-known₂ (at-go′ .before) .before .before .args in
+    let at-go′ = at-go (c .before) in let args = start₄ (c .before) .args in
     local-way (args .counts .now) (args .heads .now) (args .cells .now) _ (args .l) (args .x) _ refl (at-go′ .go .ensures) (c .if1 .left)
 
 pub write-spec : {M : Type 1} → statement M

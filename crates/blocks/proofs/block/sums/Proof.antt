@@ -15,20 +15,17 @@ Inv-loop block a₀ b₀ i₀ a b i = (i ≤ 508) × ((a ≡ sum i (λ j. byte b
 abbrev μ-loop : tie.MeasureT-loop
 μ-loop block a₀ b₀ i₀ a b i = 508 - i
 
--- the places that proofs look back to
-abbrev at-loop : tie.After-wrapping-add-u162 Inv-loop μ-loop → tie.At-loop Inv-loop μ-loop
-at-loop c = c .before .before .before .before
-
 loop-holds : tie.Need-loop-holds Inv-loop μ-loop
 unfolding sum
 loop-holds c = omega arith
 
 loop-again : tie.Need-loop-again Inv-loop μ-loop
 loop-again c =
-    let args = at-loop c .before .before .args in let s = args .block .now in
-    let i = at-loop c .loop .i in let inv = at-loop c .loop .inv in (
+    let at-shared-slice-known2 = c .before .before in let at-loop = at-shared-slice-known2 .before .before in
+    let args = at-loop .before .before .args in let s = args .block .now in let i = at-loop .loop .i in
+    let inv = at-loop .loop .inv in (
       omega arith,
-      sums-turn s i _ _ _ _ _ (inv .1 .0) (inv .1 .1) refl (omega (arith, c .before .before .shared-slice-known2 .given i))
+      sums-turn s i _ _ _ _ _ (inv .1 .0) (inv .1 .1) refl (omega (arith, at-shared-slice-known2 .shared-slice-known2 .given i))
           (c .before .wrapping-add-u16 .ensures) (c .wrapping-add-u162 .ensures),
     )
 

@@ -42,10 +42,10 @@ returns c =
 
 loop-again : tie.Need-loop-again Inv-loop μ-loop
 loop-again c =
-    let args = at-loop (c .before .before) .before .before .args in let x = args .image .now in
-    let k = at-loop (c .before .before) .loop .k in
-    let here = ap (block-fault k _) (sym (block-at x k)) ∙ sym (c .before .before .fault .ensures) ∙ c .enum-told .given .1 in
-    (omega arith, first-more _ x k (at-loop (c .before .before) .loop .inv .1) here)
+    let at-fault = c .before .before in let args = at-loop at-fault .before .before .args in
+    let x = args .image .now in let k = at-loop at-fault .loop .k in
+    let here = ap (block-fault k _) (sym (block-at x k)) ∙ sym (at-fault .fault .ensures) ∙ c .enum-told .given .1 in
+    (omega arith, first-more _ x k (at-loop at-fault .loop .inv .1) here)
 
 returns-2 : tie.Need-returns-2 Inv-loop μ-loop
 returns-2 c =

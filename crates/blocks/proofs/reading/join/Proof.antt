@@ -25,24 +25,15 @@ start c = c .before .before .before .before
 abbrev in-loop : tie.After-payload Inv-loop μ-loop → tie.In-loop Inv-loop μ-loop
 in-loop c = c .before .before .before .before
 
-abbrev at-pair-at : tie.After-copy Inv-loop μ-loop → tie.After-pair-at Inv-loop μ-loop
-at-pair-at c = c .before .before .before
-
-abbrev at-pair-at₂ : tie.After-slice-known2 Inv-loop μ-loop → tie.After-pair-at Inv-loop μ-loop
-at-pair-at₂ c = at-pair-at (c .before .before)
-
 loop-holds : tie.Need-loop-holds Inv-loop μ-loop
 unfolding joined
 loop-holds c = (omega arith, (refl, sym (put-nil _ _)))
 
 pair-at-requires : tie.Need-pair-at-requires Inv-loop μ-loop
 pair-at-requires c κs =
-    let args = start (c .before) .args in let x = args .image .now in
-    omega (
-      arith,
-      ap length (block-at x (c .before .before .loop .k))
-          ∙ block-whole _ x (start (c .before) .pre .0) (c .before .before .loop .k) (c .before .loop-test .taken),
-    )
+    let at-loop = c .before .before in let start′ = start (c .before) in let args = start′ .args in
+    let x = args .image .now in
+    omega (arith, ap length (block-at x (at-loop .loop .k)) ∙ block-whole _ x (start′ .pre .0) (at-loop .loop .k) (c .before .loop-test .taken))
 
 payload-requires : tie.Need-payload-requires Inv-loop μ-loop
 payload-requires c κs =
@@ -57,23 +48,24 @@ payload-requires c κs =
 
 copy-requires : tie.Need-copy-requires Inv-loop μ-loop
 copy-requires c κs =
-    let args = start (in-loop c) .args in let x = args .image .now in
-    let k = in-loop c .before .loop .k in
-    let part = part-at x k _ _ (c .before .before .pair-at .ensures .0) (c .payload .ensures) in
-    omega (arith, ap length part, joined-fits _ x (start (in-loop c) .pre .0) (start (in-loop c) .pre .1 .0) k (in-loop c .loop-test .taken))
+    let at-pair-at = c .before .before in let at-loop = in-loop c .before in
+    let start′ = at-loop .before .before .before in let args = start′ .args in
+    let x = args .image .now in let k = at-loop .loop .k in
+    let part = part-at x k _ _ (at-pair-at .pair-at .ensures .0) (c .payload .ensures) in
+    omega (arith, ap length part, joined-fits _ x (start′ .pre .0) (start′ .pre .1 .0) k (in-loop c .loop-test .taken))
 
 loop-again : tie.Need-loop-again Inv-loop μ-loop
 loop-again c =
-    let args = start (at-pair-at₂ c .before .before) .args in let x = args .image .now in
-    let k = at-pair-at₂ c .before .before .before .loop .k in let d = args .buffer .now in
-    let inv = at-pair-at₂ c .before .before .before .loop .inv in
-    let part = part-at x k _ _ (at-pair-at₂ c .pair-at .ensures .0) (c .before .before .before .payload .ensures) in (
+    let at-copy = c .before .before in let at-pair-at = at-copy .before .before .before in
+    let in-loop′ = at-pair-at .before .before in let args = start in-loop′ .args in
+    let x = args .image .now in let k = in-loop′ .before .loop .k in let d = args .buffer .now in
+    let inv = in-loop′ .before .loop .inv in
+    let part = part-at x k _ _ (at-pair-at .pair-at .ensures .0) (at-copy .before .payload .ensures) in (
       omega arith,
       (
-        c .before .before .copy .kept .0 ∙ inv .1 .0,
-        join-turn _ x (start (at-pair-at₂ c .before .before) .pre .0) (start (at-pair-at₂ c .before .before) .pre .1 .0) k
-            (at-pair-at₂ c .before .before .loop-test .taken) d _ _ _ (start (at-pair-at₂ c .before .before) .pre .1 .1) (inv .1 .1) part
-            (c .before .before .copy .ensures),
+        at-copy .copy .kept .0 ∙ inv .1 .0,
+        join-turn _ x (start in-loop′ .pre .0) (start in-loop′ .pre .1 .0) k (in-loop′ .loop-test .taken) d _ _ _ (start in-loop′ .pre .1 .1)
+            (inv .1 .1) part (at-copy .copy .ensures),
       ),
     )
 

@@ -24,30 +24,25 @@ start c = c .before .before .before .before
 abbrev start₂ : tie.After-piece Inv-loop μ-loop → tie.Start Inv-loop μ-loop
 start₂ c = start (c .before .before)
 
-abbrev in-loop : tie.After-put-block Inv-loop μ-loop → tie.In-loop Inv-loop μ-loop
-in-loop c = c .before .before .before
-
-abbrev in-loop₂ : tie.After-slice-known2 Inv-loop μ-loop → tie.In-loop Inv-loop μ-loop
-in-loop₂ c = in-loop (c .before .before)
-
 loop-holds : tie.Need-loop-holds Inv-loop μ-loop
 unfolding image-of
 loop-holds c = (omega arith, (refl, sym (put-nil _ _)))
 
 put-block-requires : tie.Need-put-block-requires Inv-loop μ-loop
 put-block-requires c κs =
-    let args = start₂ c .args in
-    omega (arith, ap length (c .piece .ensures), piece-fits (args .stream .now) (c .before .before .before .loop .k))
+    let at-loop = c .before .before .before in let args = start₂ c .args in
+    omega (arith, ap length (c .piece .ensures), piece-fits (args .stream .now) (at-loop .loop .k))
 
 loop-again : tie.Need-loop-again Inv-loop μ-loop
 loop-again c =
-    let args = start (in-loop₂ c) .args in let s = args .stream .now in
-    let k = in-loop₂ c .before .loop .k in let inv = in-loop₂ c .before .loop .inv in (
+    let at-put-block = c .before .before in let in-loop = at-put-block .before .before .before in
+    let args = start in-loop .args in let s = args .stream .now in let k = in-loop .before .loop .k in
+    let inv = in-loop .before .loop .inv in (
       omega arith,
       (
-        c .before .before .put-block .kept .0 ∙ inv .1 .0,
-        blocks-turn s (args .out .now) _ _ _ k _ (start (in-loop₂ c) .pre .0 .0) (in-loop₂ c .loop-test .taken) (inv .1 .1)
-            (c .before .before .before .piece .ensures) (c .before .before .put-block .ensures),
+        at-put-block .put-block .kept .0 ∙ inv .1 .0,
+        blocks-turn s (args .out .now) _ _ _ k _ (start in-loop .pre .0 .0) (in-loop .loop-test .taken) (inv .1 .1)
+            (at-put-block .before .piece .ensures) (at-put-block .put-block .ensures),
       ),
     )
 

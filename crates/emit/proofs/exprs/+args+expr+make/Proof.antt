@@ -137,29 +137,29 @@ expr-start t c = c .before .before .before .before
 abbrev expr-start₂ : (t : ℕ) → expr-lts.Else1 (expr-claims t) (expr-at t) expr.Post → expr-lts.Start (expr-claims t) (expr-at t) expr.Post
 expr-start₂ t c = expr-start t (c .before)
 
-abbrev expr-start₃ : (t : ℕ) → expr-lts.Then2 (expr-claims t) (expr-at t) expr.Post → expr-lts.Start (expr-claims t) (expr-at t) expr.Post
+abbrev expr-start₃ : (t : ℕ) → expr-lts.Else2 (expr-claims t) (expr-at t) expr.Post → expr-lts.Start (expr-claims t) (expr-at t) expr.Post
 expr-start₃ t c = expr-start₂ t (c .before)
 
-abbrev expr-start₄ : (t : ℕ) → expr-lts.Then3 (expr-claims t) (expr-at t) expr.Post → expr-lts.Start (expr-claims t) (expr-at t) expr.Post
-expr-start₄ t c = expr-start₂ t (c .before .before)
+abbrev expr-start₄ : (t : ℕ) → expr-lts.Else4 (expr-claims t) (expr-at t) expr.Post → expr-lts.Start (expr-claims t) (expr-at t) expr.Post
+expr-start₄ t c = expr-start₃ t (c .before .before)
 
-abbrev expr-start₅ : (t : ℕ) → expr-lts.Else4 (expr-claims t) (expr-at t) expr.Post → expr-lts.Start (expr-claims t) (expr-at t) expr.Post
-expr-start₅ t c = expr-start₂ t (c .before .before .before)
+abbrev expr-at-else4 : (t : ℕ) → expr-lts.After-expr2 (expr-claims t) (expr-at t) expr.Post → expr-lts.Else4 (expr-claims t) (expr-at t) expr.Post
+expr-at-else4 t c = c .before .before
 
-abbrev expr-at-if4 : (t : ℕ) → expr-lts.After-expr2 (expr-claims t) (expr-at t) expr.Post → expr-lts.Else4 (expr-claims t) (expr-at t) expr.Post
-expr-at-if4 t c = c .before .before
+abbrev expr-start₅ : (t : ℕ) → expr-lts.After-store-arg (expr-claims t) (expr-at t) expr.Post → expr-lts.Start (expr-claims t) (expr-at t) expr.Post
+expr-start₅ t c = expr-start₃ t (c .before .before .before .before)
 
-abbrev expr-start₆ : (t : ℕ) → expr-lts.After-slice-known4 (expr-claims t) (expr-at t) expr.Post → expr-lts.Start (expr-claims t) (expr-at t) expr.Post
-expr-start₆ t c = expr-start₃ t (c .before .before .before .before)
+abbrev expr-at-then4 : (t : ℕ) → expr-lts.After-store (expr-claims t) (expr-at t) expr.Post → expr-lts.Then4 (expr-claims t) (expr-at t) expr.Post
+expr-at-then4 t c = c .before .before .before
 
 abbrev expr-at-expr : (t : ℕ) → expr-lts.After-add-arg (expr-claims t) (expr-at t) expr.Post → expr-lts.After-expr (expr-claims t) (expr-at t) expr.Post
 expr-at-expr t c = c .before .before .before .before
 
-abbrev expr-start₇ : (t : ℕ) → expr-lts.After-slice-known5 (expr-claims t) (expr-at t) expr.Post → expr-lts.Start (expr-claims t) (expr-at t) expr.Post
-expr-start₇ t c = expr-start₄ t (c .before .before .before .before)
+abbrev expr-at-else4₂ : (t : ℕ) → expr-lts.After-expr-arg3 (expr-claims t) (expr-at t) expr.Post → expr-lts.Else4 (expr-claims t) (expr-at t) expr.Post
+expr-at-else4₂ t c = expr-at-else4 t (c .before .before .before)
 
-abbrev expr-at-if4₂ : (t : ℕ) → expr-lts.After-expr-arg3 (expr-claims t) (expr-at t) expr.Post → expr-lts.Else4 (expr-claims t) (expr-at t) expr.Post
-expr-at-if4₂ t c = expr-at-if4 t (c .before .before .before)
+abbrev expr-at-then4₂ : (t : ℕ) → expr-lts.After-leaf-size (expr-claims t) (expr-at t) expr.Post → expr-lts.Then4 (expr-claims t) (expr-at t) expr.Post
+expr-at-then4₂ t c = expr-at-then4 t (c .before .before .before)
 
 abbrev expr-at-expr3 : (t : ℕ) → expr-lts.After-coded2 (expr-claims t) (expr-at t) expr.Post → expr-lts.After-expr3 (expr-claims t) (expr-at t) expr.Post
 expr-at-expr3 t c = c .before .before .before .before
@@ -176,12 +176,12 @@ expr-known t c = expr-in _ _ _ _ (c .pre .1 .good)
 
 -- past four tests it is a leaf
 expr-leaf : (t : ℕ) (c : expr-lts.Then4 (expr-claims t) (expr-at t) expr.Post)
-    → LeafFacts (expr-start₂ t (c .before .before .before) .args .ar .now) (expr-start₂ t (c .before .before .before) .args .s .now)
-    (expr-start₂ t (c .before .before .before) .args .depth) (expr-start₂ t (c .before .before .before) .args .at)
-    (getD (expr-start₂ t (c .before .before .before) .args .s .now) (expr-start₂ t (c .before .before .before) .args .at) 0)
+    → LeafFacts (expr-start₃ t (c .before .before) .args .ar .now) (expr-start₃ t (c .before .before) .args .s .now)
+    (expr-start₃ t (c .before .before) .args .depth) (expr-start₃ t (c .before .before) .args .at)
+    (getD (expr-start₃ t (c .before .before) .args .s .now) (expr-start₃ t (c .before .before) .args .at) 0)
 expr-leaf t c =
-    leaf-facts _ _ _ _ (expr-start₂ t (c .before .before .before) .pre .1 .good) (c .before .before .before .if1 .left)
-    (c .before .before .if2 .left) (c .before .if3 .left) (c .if4 .taken)
+    leaf-facts _ _ _ _ (expr-start₃ t (c .before .before) .pre .1 .good) (c .before .before .before .if1 .left) (c .before .before .if2 .left)
+    (c .before .if3 .left) (c .if4 .taken)
 
 expr-expr-requires : (t : ℕ) → expr-lts.Need-expr-requires (expr-claims t) (expr-at t) expr.Post
 expr-expr-requires t c κs =
@@ -193,8 +193,7 @@ expr-expr-requires t c κs =
 
 expr-add-requires : (t : ℕ) → expr-lts.Need-add-requires (expr-claims t) (expr-at t) expr.Post
 expr-add-requires t c κs =
-    let f = inv-part _ _ _ _ (expr-start t (expr-at-expr t c .before .before .before) .pre .1 .good)
-    (expr-at-expr t c .before .before .if1 .taken) in
+    let f = inv-part _ _ _ _ (expr-start t (expr-at-expr t c .before .before .before) .pre .1 .good) (expr-at-expr t c .before .before .if1 .taken) in
     omega (arith, part-room f (expr-start t (expr-at-expr t c .before .before .before) .pre .1) (expr-at-expr t c .expr .ensures))
 
 expr-same-length : (t : ℕ) → expr-lts.Need-same-length (expr-claims t) (expr-at t) expr.Post
@@ -206,89 +205,78 @@ expr-returns : (t : ℕ) → expr-lts.Need-returns (expr-claims t) (expr-at t) e
 expr-returns t c =
     let at-add = c .before .before in let at-coded = at-add .before .before in
     let at-expr = at-coded .before .before .before in let at-if1 = at-expr .before .before in
-    let at-shared-slice-known = at-if1 .before .before .before .before in
-    let f = inv-part _ _ _ _ (at-shared-slice-known .before .pre .1 .good) (at-if1 .if1 .taken) in
-    part-last _ f (at-expr .expr .ensures) (at-add .add .ensures .0) (at-add .add .ensures .1)
-    (at-add .add .ensures .2 ∙ rw (at-coded .coded .ensures) refl)
+    let f = inv-part _ _ _ _ (expr-start t (at-if1 .before) .pre .1 .good) (at-if1 .if1 .taken) in
+    part-last _ f (at-expr .expr .ensures) (at-add .add .ensures .0) (at-add .add .ensures .1) (at-add .add .ensures .2 ∙ rw (at-coded .coded .ensures) refl)
 
 expr-make-requires : (t : ℕ) → expr-lts.Need-make-requires (expr-claims t) (expr-at t) expr.Post
 expr-make-requires t c κs =
-    let i = expr-known t (expr-start₃ t (c .before)) in (
-      omega (arith, expr-start₃ t (c .before) .pre .0),
-      part-ready (make-part _ _ _ _ (expr-start₃ t (c .before) .pre .1 .good) (c .before .if2 .taken)) (expr-start₃ t (c .before) .pre .1),
+    let i = expr-known t (expr-start₂ t (c .before .before)) in (
+      omega (arith, expr-start₂ t (c .before .before) .pre .0),
+      part-ready (make-part _ _ _ _ (expr-start₂ t (c .before .before) .pre .1 .good) (c .before .if2 .taken))
+          (expr-start₂ t (c .before .before) .pre .1),
     )
 
 expr-returns-2 : (t : ℕ) → expr-lts.Need-returns-2 (expr-claims t) (expr-at t) expr.Post
 expr-returns-2 t c =
     let at-make = c .before .before in let at-if2 = at-make .before .before in
-    part-same (make-part _ _ _ _ (expr-start₆ t c .pre .1 .good) (at-if2 .if2 .taken)) (at-make .make .ensures)
+    part-same (make-part _ _ _ _ (expr-start₂ t (at-if2 .before) .pre .1 .good) (at-if2 .if2 .taken)) (at-make .make .ensures)
 
 expr-path-requires : (t : ℕ) → expr-lts.Need-path-requires (expr-claims t) (expr-at t) expr.Post
 expr-path-requires t c κs =
-    let start = expr-start₄ t (c .before) in
+    let start = expr-start₃ t (c .before .before) in
     part-ready (path-part _ _ _ _ (start .pre .1 .good) (c .before .if3 .taken)) (start .pre .1)
 
 expr-returns-3 : (t : ℕ) → expr-lts.Need-returns-3 (expr-claims t) (expr-at t) expr.Post
 expr-returns-3 t c =
     let at-path = c .before .before in let at-if3 = at-path .before .before in
-    part-same (path-part _ _ _ _ (expr-start₇ t c .pre .1 .good) (at-if3 .if3 .taken)) (at-path .path .ensures)
+    part-same (path-part _ _ _ _ (expr-start₃ t (at-if3 .before) .pre .1 .good) (at-if3 .if3 .taken)) (at-path .path .ensures)
 
 expr-leaf-requires : (t : ℕ) → expr-lts.Need-leaf-requires (expr-claims t) (expr-at t) expr.Post
 expr-leaf-requires t c κs = let f = expr-leaf t c in (f .low, f .fits)
 
 expr-store-requires : (t : ℕ) → expr-lts.Need-store-requires (expr-claims t) (expr-at t) expr.Post
 expr-store-requires t c κs =
-    let at-if4 = c .before .before in let at-if1 = at-if4 .before .before .before in
-    let at-shared-slice-known = at-if1 .before .before .before .before in
-    let f = expr-leaf t at-if4 in
-    omega (arith, rw (f .code) at (at-shared-slice-known .before .pre .1 .room))
+    let f = expr-leaf t (c .before .before) in
+    omega (arith, rw (f .code) at (expr-start₅ t c .pre .1 .room))
 
 expr-add-t36 : (t : ℕ) → expr-lts.Need-add-t36 (expr-claims t) (expr-at t) expr.Post
 expr-add-t36 t c =
-    let at-store = c .before .before .before in let at-if4 = at-store .before .before .before in
-    let at-if1 = at-if4 .before .before .before in
-    let at-shared-slice-known = at-if1 .before .before .before .before in
-    let f = expr-leaf t at-if4 in
-    omega (arith, rw (f .code) at (at-shared-slice-known .before .pre .1 .room))
+    let f = expr-leaf t (expr-at-then4₂ t c) in
+    omega (arith, rw (f .code) at (expr-start₃ t (expr-at-then4₂ t c .before .before) .pre .1 .room))
 
 expr-add-t37 : (t : ℕ) → expr-lts.Need-add-t37 (expr-claims t) (expr-at t) expr.Post
 expr-add-t37 t c =
-    let at-store = c .before .before .before in let at-if4 = at-store .before .before .before in
-    let at-if1 = at-if4 .before .before .before in
-    let at-shared-slice-known = at-if1 .before .before .before .before in
-    let f = expr-leaf t at-if4 in
-    omega (arith, rw (f .code) at (at-shared-slice-known .before .pre .1 .room))
+    let f = expr-leaf t (expr-at-then4₂ t c) in
+    omega (arith, rw (f .code) at (expr-start₃ t (expr-at-then4₂ t c .before .before) .pre .1 .room))
 
 expr-returns-4 : (t : ℕ) → expr-lts.Need-returns-4 (expr-claims t) (expr-at t) expr.Post
 expr-returns-4 t c =
     let at-store = c .before .before .before in let at-leaf = at-store .before .before in
-    let at-if1 = at-leaf .before .before .before .before in
-    let at-shared-slice-known = at-if1 .before .before .before .before in
     let f = expr-leaf t (at-leaf .before) in
-    placed-as (placed-one (ap (λ n. at-shared-slice-known .before .args .at + n) (c .leaf-size .ensures)) refl
+    placed-as (placed-one (ap (λ n. expr-start₃ t (at-leaf .before .before .before) .args .at + n) (c .leaf-size .ensures)) refl
     (at-store .store .ensures ∙ rw (at-leaf .leaf .ensures) refl)) (f .code) (f .next)
 
 expr-expr-requires-2 : (t : ℕ) → expr-lts.Need-expr-requires-2 (expr-claims t) (expr-at t) expr.Post
 expr-expr-requires-2 t c κs =
-    let i = expr-known t (expr-start₅ t (c .before)) in (
-      omega (arith, expr-start₅ t (c .before) .pre .0),
-      parts-ready (op-parts _ _ _ _ (expr-start₅ t (c .before) .pre .1 .good) (c .before .if4 .left)) (expr-start₅ t (c .before) .pre .1),
+    let i = expr-known t (expr-start₄ t (c .before)) in (
+      omega (arith, expr-start₄ t (c .before) .pre .0),
+      parts-ready (op-parts _ _ _ _ (expr-start₄ t (c .before) .pre .1 .good) (c .before .if4 .left)) (expr-start₄ t (c .before) .pre .1),
     )
 
 expr-expr-requires-3 : (t : ℕ) → expr-lts.Need-expr-requires-3 (expr-claims t) (expr-at t) expr.Post
 expr-expr-requires-3 t c κs =
-    let i = expr-known t (expr-start₅ t (expr-at-if4₂ t c)) in (
-      omega (arith, expr-start₅ t (expr-at-if4₂ t c) .pre .0),
-      parts-next (op-parts _ _ _ _ (expr-start₅ t (expr-at-if4₂ t c) .pre .1 .good) (expr-at-if4₂ t c .if4 .left))
-          (expr-start₅ t (expr-at-if4₂ t c) .pre .1) (c .before .before .before .expr2 .ensures),
+    let i = expr-known t (expr-start₄ t (expr-at-else4₂ t c)) in (
+      omega (arith, expr-start₄ t (expr-at-else4₂ t c) .pre .0),
+      parts-next (op-parts _ _ _ _ (expr-start₄ t (expr-at-else4₂ t c) .pre .1 .good) (expr-at-else4₂ t c .if4 .left))
+          (expr-start₄ t (expr-at-else4₂ t c) .pre .1) (c .before .before .before .expr2 .ensures),
     )
 
 expr-add-requires-2 : (t : ℕ) → expr-lts.Need-add-requires-2 (expr-claims t) (expr-at t) expr.Post
 expr-add-requires-2 t c κs =
-    let f = op-parts _ _ _ _ (expr-start₅ t (expr-at-if4 t (expr-at-expr2 t c)) .pre .1 .good) (expr-at-if4 t (expr-at-expr2 t c) .if4 .left) in
+    let f = op-parts _ _ _ _ (expr-start₄ t (expr-at-else4 t (expr-at-expr2 t c)) .pre .1 .good) (expr-at-else4 t (expr-at-expr2 t c) .if4 .left) in
     omega (
       arith,
-      parts-room f (expr-start₅ t (expr-at-if4 t (expr-at-expr2 t c)) .pre .1) (expr-at-expr2 t c .expr2 .ensures)
+      parts-room f (expr-start₄ t (expr-at-else4 t (expr-at-expr2 t c)) .pre .1) (expr-at-expr2 t c .expr2 .ensures)
           (expr-at-expr3₂ t c .expr3 .ensures),
     )
 
@@ -302,9 +290,7 @@ expr-returns-5 t c =
     let at-add2 = c .before .before in let at-coded2 = at-add2 .before .before in
     let at-expr3 = at-coded2 .before .before .before .before in
     let at-expr2 = at-expr3 .before .before .before .before in let at-if4 = at-expr2 .before .before in
-    let at-if1 = at-if4 .before .before .before in
-    let at-shared-slice-known = at-if1 .before .before .before .before in
-    let f = op-parts _ _ _ _ (at-shared-slice-known .before .pre .1 .good) (at-if4 .if4 .left) in
+    let f = op-parts _ _ _ _ (expr-start₃ t (at-if4 .before .before) .pre .1 .good) (at-if4 .if4 .left) in
     parts-last (at-expr2 .expr2 .ensures) (at-expr3 .expr3 .ensures) _ f (at-add2 .add2 .ensures .0) (at-add2 .add2 .ensures .1)
     (at-add2 .add2 .ensures .2 ∙ rw (at-coded2 .coded2 .ensures, at-coded2 .before .wide .ensures .0) refl)
 
@@ -320,27 +306,21 @@ make-known : (t : ℕ) (c : make-lts.Start (make-claims t) (make-at t) make.Post
     → MakeFacts (c .args .ar .now) (c .args .s .now) (c .args .depth) (c .args .at)
 make-known t c = make-facts _ _ _ _ (c .pre .1 .good)
 
-make-shared-slice-read-args : (t : ℕ) → make-lts.Need-shared-slice-read-args (make-claims t) (make-at t) make.Post
-make-shared-slice-read-args t c =
-    let f = make-known t (make-start₂ t (c .before)) in
-    omega (arith, c .before .index .ensures .0)
-
 make-args-requires : (t : ℕ) → make-lts.Need-args-requires (make-claims t) (make-at t) make.Post
 make-args-requires t c κs =
-    let at-index = c .before .before in let at-shared-slice-known = at-index .before .before .before .before in
-    let f = make-known t (at-shared-slice-known .before) in (
-      omega (arith, at-shared-slice-known .before .pre .0, c .before .shared-slice-known4 .given (at-index .index .result)),
-      rw (at-index .index .ensures .0) (part-ready (f .part) (at-shared-slice-known .before .pre .1)),
+    let at-index = c .before .before in let start = make-start t (at-index .before) in
+    let f = make-known t start in (
+      omega (arith, start .pre .0, c .before .shared-slice-known4 .given (at-index .index .result)),
+      rw (at-index .index .ensures .0) (part-ready (f .part) (start .pre .1)),
     )
 
 make-add-requires : (t : ℕ) → make-lts.Need-add-requires (make-claims t) (make-at t) make.Post
 make-add-requires t c κs =
     let at-wide = c .before .before in let at-args2 = at-wide .before .before .before in
-    let at-index = at-args2 .before .before .before in
-    let at-shared-slice-known = at-index .before .before .before .before in
-    let f = make-known t (at-shared-slice-known .before) in
+    let at-index = at-args2 .before .before .before in let start = make-start t (at-index .before) in
+    let f = make-known t start in
     let e = rw (at-index .index .ensures .0) at (at-args2 .args2 .ensures) in
-    omega (arith, part-room (f .part) (at-shared-slice-known .before .pre .1) e)
+    omega (arith, part-room (f .part) (start .pre .1) e)
 
 make-same-length : (t : ℕ) → make-lts.Need-same-length (make-claims t) (make-at t) make.Post
 make-same-length t c =
@@ -351,8 +331,7 @@ make-returns : (t : ℕ) → make-lts.Need-returns (make-claims t) (make-at t) m
 make-returns t c =
     let at-add = c .before .before in let at-coded = at-add .before .before in
     let at-args2 = at-coded .before .before .before .before in let at-index = at-args2 .before .before .before in
-    let at-shared-slice-known = at-index .before .before .before .before in
-    let f = make-known t (at-shared-slice-known .before) in
+    let f = make-known t (make-start t (at-index .before)) in
     let e = rw (at-index .index .ensures .0) at (at-args2 .args2 .ensures) in
     part-last _ (f .part) e (at-add .add .ensures .0) (at-add .add .ensures .1)
     (at-add .add .ensures .2 ∙ rw (at-coded .coded .ensures, at-coded .before .wide .ensures .0) refl)
@@ -365,14 +344,15 @@ pub +args+expr+make-spec : {M : Type 1} → statement M
     (λ t. expr-lts.spec (expr-claims t) (expr-at t) expr.Post (λ c. omega (arith, expr-known t (c .before .before .before .before)))
     (λ c. omega (arith, expr-known t (expr-start t (c .before)))) (λ c. omega (arith, expr-known t (expr-start t (c .before))))
     (expr-expr-requires t) (λ c κs. omega arith) (expr-add-requires t) (expr-same-length t) (expr-returns t)
-    (λ c. omega (arith, expr-known t (expr-start₃ t c))) (λ c. omega (arith, expr-known t (expr-start₃ t c))) (expr-make-requires t)
-    (λ c. placed-kept (c .before .before .make .ensures)) (expr-returns-2 t) (λ c. omega (arith, expr-known t (expr-start₄ t c)))
-    (expr-path-requires t) (λ c. placed-kept (c .before .before .path .ensures)) (expr-returns-3 t) (expr-leaf-requires t)
-    (expr-store-requires t) (λ c κs. tt) (expr-add-t36 t) (expr-add-t37 t) (λ c. c .before .before .before .store .kept .0)
-    (expr-returns-4 t) (λ c. omega (arith, expr-known t (expr-start₅ t c))) (λ c. omega (arith, expr-known t (expr-start₅ t c)))
-    (expr-expr-requires-2 t) (λ c. omega (arith, expr-known t (expr-start₅ t (expr-at-if4 t (c .before .before))))) (expr-expr-requires-3 t)
-    (λ c κs. tt) (λ c κs. omega (arith, c .wide .ensures .1)) (expr-add-requires-2 t) (expr-same-length-5 t) (expr-returns-5 t))
+    (λ c. omega (arith, expr-known t (expr-start₂ t (c .before)))) (λ c. omega (arith, expr-known t (expr-start₂ t (c .before))))
+    (expr-make-requires t) (λ c. placed-kept (c .before .before .make .ensures)) (expr-returns-2 t)
+    (λ c. omega (arith, expr-known t (expr-start₃ t (c .before)))) (expr-path-requires t) (λ c. placed-kept (c .before .before .path .ensures))
+    (expr-returns-3 t) (expr-leaf-requires t) (expr-store-requires t) (λ c κs. tt) (expr-add-t36 t) (expr-add-t37 t)
+    (λ c. c .before .before .before .store .kept .0) (expr-returns-4 t) (λ c. omega (arith, expr-known t (expr-start₄ t c)))
+    (λ c. omega (arith, expr-known t (expr-start₄ t c))) (expr-expr-requires-2 t)
+    (λ c. omega (arith, expr-known t (expr-start₄ t (expr-at-else4 t (c .before .before))))) (expr-expr-requires-3 t) (λ c κs. tt)
+    (λ c κs. omega (arith, c .wide .ensures .1)) (expr-add-requires-2 t) (expr-same-length-5 t) (expr-returns-5 t))
     λ t. make-lts.spec (make-claims t) (make-at t) make.Post (λ c. omega (arith, make-known t (c .before .before .before .before)))
     (λ c κs. omega (arith, make-known t (c .before .before .before .before))) (λ c. omega (arith, make-known t (make-start₂ t c)))
-    (make-shared-slice-read-args t) (make-args-requires t) (λ c κs. tt) (λ c κs. omega (arith, c .wide .ensures .1)) (make-add-requires t)
-    (make-same-length t) (make-returns t)
+    (λ c. omega (arith, make-known t (make-start₂ t (c .before)), c .before .index .ensures .0)) (make-args-requires t) (λ c κs. tt)
+    (λ c κs. omega (arith, c .wide .ensures .1)) (make-add-requires t) (make-same-length t) (make-returns t)

@@ -28,20 +28,23 @@ abbrev steps-claims : ℕ → steps-lts.Claims
 steps-claims t = (step-reads.Asked, step-reads.Learnt, steps-below t, steps.Post)
 
 -- the places that proofs look back to
+abbrev start : (t : ℕ) → steps-lts.Else1 (steps-claims t) (steps-at t) steps.Post → steps-lts.Start (steps-claims t) (steps-at t) steps.Post
+start t c = c .before .before .before .before
+
 abbrev at-if1 : (t : ℕ) → steps-lts.After-step (steps-claims t) (steps-at t) steps.Post → steps-lts.Else1 (steps-claims t) (steps-at t) steps.Post
 at-if1 t c = c .before .before
 
 abbrev at-if1₂ : (t : ℕ) → steps-lts.After-steps-arg (steps-claims t) (steps-at t) steps.Post → steps-lts.Else1 (steps-claims t) (steps-at t) steps.Post
 at-if1₂ t c = at-if1 t (c .before .before .before)
 
-abbrev start : (t : ℕ) → steps-lts.After-steps-arg (steps-claims t) (steps-at t) steps.Post → steps-lts.Start (steps-claims t) (steps-at t) steps.Post
-start t c = at-if1₂ t c .before .before .before .before
+abbrev start₂ : (t : ℕ) → steps-lts.After-steps-arg (steps-claims t) (steps-at t) steps.Post → steps-lts.Start (steps-claims t) (steps-at t) steps.Post
+start₂ t c = start t (at-if1₂ t c)
 
 abbrev at-step : (t : ℕ) → steps-lts.After-steps (steps-claims t) (steps-at t) steps.Post → steps-lts.After-step (steps-claims t) (steps-at t) steps.Post
 at-step t c = c .before .before .before .before
 
-abbrev at-step₂ :
-    (t : ℕ) → steps-lts.After-slice-known3 (steps-claims t) (steps-at t) steps.Post → steps-lts.After-step (steps-claims t) (steps-at t) steps.Post
+abbrev at-step₂ : (t : ℕ) → steps-lts.After-slice-known3 (steps-claims t) (steps-at t) steps.Post → steps-lts.After-step (steps-claims t) (steps-at t)
+    steps.Post
 at-step₂ t c = at-step t (c .before .before)
 
 steps-returns : (t : ℕ) → steps-lts.Need-returns (steps-claims t) (steps-at t) steps.Post
@@ -51,13 +54,13 @@ steps-returns t c =
 
 steps-step-requires : (t : ℕ) → steps-lts.Need-step-requires (steps-claims t) (steps-at t) steps.Post
 steps-step-requires t c κs =
-    let at-if1′ = c .before in let start′ = at-if1′ .before .before .before .before in
-    parts-ready (steps-more _ _ _ _ (at-if1′ .if1 .left) (start′ .pre .1 .good)) (start′ .pre .1)
+    let start′ = start t (c .before) in
+    parts-ready (steps-more _ _ _ _ (c .before .if1 .left) (start′ .pre .1 .good)) (start′ .pre .1)
 
 steps-steps-requires : (t : ℕ) → steps-lts.Need-steps-requires (steps-claims t) (steps-at t) steps.Post
 steps-steps-requires t c κs =
-    let f = steps-more _ _ _ _ (at-if1₂ t c .if1 .left) (start t c .pre .1 .good) in
-    (omega (arith, start t c .pre .0, at-if1₂ t c .if1 .left), parts-next f (start t c .pre .1) (c .before .before .before .step .ensures))
+    let f = steps-more _ _ _ _ (at-if1₂ t c .if1 .left) (start₂ t c .pre .1 .good) in
+    (omega (arith, start₂ t c .pre .0, at-if1₂ t c .if1 .left), parts-next f (start₂ t c .pre .1) (c .before .before .before .step .ensures))
 
 steps-same-length : (t : ℕ) → steps-lts.Need-same-length (steps-claims t) (steps-at t) steps.Post
 steps-same-length t c =
@@ -67,8 +70,7 @@ steps-same-length t c =
 steps-returns-2 : (t : ℕ) → steps-lts.Need-returns-2 (steps-claims t) (steps-at t) steps.Post
 steps-returns-2 t c =
     let at-steps = c .before .before in let at-if1′ = at-if1₂ t (at-steps .before) in
-    parts-same (at-step₂ t c .step .ensures) (at-steps .steps .ensures)
-    (steps-more _ _ _ _ (at-if1′ .if1 .left) (start t (at-steps .before) .pre .1 .good))
+    parts-same (at-step₂ t c .step .ensures) (at-steps .steps .ensures) (steps-more _ _ _ _ (at-if1′ .if1 .left) (start t at-if1′ .pre .1 .good))
 
 pub +steps-spec : {M : Type 1} → statement M
 +steps-spec =

@@ -28,6 +28,9 @@ abbrev structs-claims : ℕ → structs-lts.Claims
 structs-claims t = (struct-steps-reads.Asked, struct-steps-reads.Learnt, structs-below t, structs.Post)
 
 -- the places that proofs look back to
+abbrev start : (t : ℕ) → structs-lts.Else1 (structs-claims t) (structs-at t) structs.Post → structs-lts.Start (structs-claims t) (structs-at t) structs.Post
+start t c = c .before .before .before .before
+
 abbrev at-if1 :
     (t : ℕ) → structs-lts.After-struct-steps (structs-claims t) (structs-at t) structs.Post → structs-lts.Else1 (structs-claims t) (structs-at t) structs.Post
 at-if1 t c = c .before .before
@@ -36,9 +39,9 @@ abbrev at-if1₂ :
     (t : ℕ) → structs-lts.After-structs-arg (structs-claims t) (structs-at t) structs.Post → structs-lts.Else1 (structs-claims t) (structs-at t) structs.Post
 at-if1₂ t c = at-if1 t (c .before .before .before)
 
-abbrev start :
+abbrev start₂ :
     (t : ℕ) → structs-lts.After-structs-arg (structs-claims t) (structs-at t) structs.Post → structs-lts.Start (structs-claims t) (structs-at t) structs.Post
-start t c = at-if1₂ t c .before .before .before .before
+start₂ t c = start t (at-if1₂ t c)
 
 abbrev at-struct-steps :
     (t : ℕ) → structs-lts.After-structs (structs-claims t) (structs-at t) structs.Post
@@ -57,13 +60,13 @@ structs-returns t c =
 
 structs-struct-steps-requires : (t : ℕ) → structs-lts.Need-struct-steps-requires (structs-claims t) (structs-at t) structs.Post
 structs-struct-steps-requires t c κs =
-    let at-if1′ = c .before in let start′ = at-if1′ .before .before .before .before in
-    parts-ready (structs-more _ _ _ _ (at-if1′ .if1 .left) (start′ .pre .1 .good)) (start′ .pre .1)
+    let start′ = start t (c .before) in
+    parts-ready (structs-more _ _ _ _ (c .before .if1 .left) (start′ .pre .1 .good)) (start′ .pre .1)
 
 structs-structs-requires : (t : ℕ) → structs-lts.Need-structs-requires (structs-claims t) (structs-at t) structs.Post
 structs-structs-requires t c κs =
-    let f = structs-more _ _ _ _ (at-if1₂ t c .if1 .left) (start t c .pre .1 .good) in
-    (omega (arith, start t c .pre .0, at-if1₂ t c .if1 .left), parts-next f (start t c .pre .1) (c .before .before .before .struct-steps .ensures))
+    let f = structs-more _ _ _ _ (at-if1₂ t c .if1 .left) (start₂ t c .pre .1 .good) in
+    (omega (arith, start₂ t c .pre .0, at-if1₂ t c .if1 .left), parts-next f (start₂ t c .pre .1) (c .before .before .before .struct-steps .ensures))
 
 structs-same-length : (t : ℕ) → structs-lts.Need-same-length (structs-claims t) (structs-at t) structs.Post
 structs-same-length t c =
@@ -74,11 +77,10 @@ structs-returns-2 : (t : ℕ) → structs-lts.Need-returns-2 (structs-claims t) 
 structs-returns-2 t c =
     let at-structs = c .before .before in let at-if1′ = at-if1₂ t (at-structs .before) in
     parts-same (at-struct-steps₂ t c .struct-steps .ensures) (at-structs .structs .ensures)
-    (structs-more _ _ _ _ (at-if1′ .if1 .left) (start t (at-structs .before) .pre .1 .good))
+    (structs-more _ _ _ _ (at-if1′ .if1 .left) (start t at-if1′ .pre .1 .good))
 
 pub +structs-spec : {M : Type 1} → statement M
 +structs-spec =
     close μ-structs
     λ t. structs-lts.spec (structs-claims t) (structs-at t) structs.Post (structs-returns t) (structs-struct-steps-requires t)
-    (λ c. omega (arith, c .before .before .before .before .if1 .left)) (structs-structs-requires t) (structs-same-length t)
-    (structs-returns-2 t)
+    (λ c. omega (arith, c .before .before .before .before .if1 .left)) (structs-structs-requires t) (structs-same-length t) (structs-returns-2 t)

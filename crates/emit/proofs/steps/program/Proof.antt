@@ -7,8 +7,7 @@ use Rattle.emit.proofs.steps.program.Tie as tie
 returns : tie.Need-returns
 returns c =
     let at-structs = c .before .before in let at-shared-slice-known = at-structs .before .before .before .before in
-    let a = at-shared-slice-known .before .args in
-    let w = at-structs .structs .ensures in
+    let a = at-shared-slice-known .before .args in let w = at-structs .structs .ensures in
     (w, program-wrote (a .ar .now) (a .s .now) (a .at) _ _ _ w)
 
 pub program-spec : {M : Type 1} → statement M

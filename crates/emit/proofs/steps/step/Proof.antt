@@ -7,8 +7,7 @@ use Rattle.emit.specs.StepLaws.{step-part}
 use Rattle.emit.proofs.steps.step.Tie as tie
 
 body-requires : tie.Need-body-requires
-body-requires c κs =
-    part-ready (step-part _ _ _ (c .before .before .before .before .pre .good) .1) ((c .before .before .before .before .pre))
+body-requires c κs = part-ready (step-part _ _ _ (c .before .before .before .before .pre .good) .1) (c .before .before .before .before .pre)
 
 returns : tie.Need-returns
 returns c =

@@ -23,4 +23,4 @@ struct-steps-spec =
     tie.close
     (tie.spec (λ c. omega (arith, steps-part _ _ _ (c .before .before .before .pre .good)))
     (λ c. omega (arith, steps-part _ _ _ (c .before .before .before .before .pre .good)))
-    (λ c κs. part-ready (steps-part _ _ _ (start₂ c .pre .good) .1) ((start₂ c .pre))) (λ c. search needs) returns)
+    (λ c κs. part-ready (steps-part _ _ _ (start₂ c .pre .good) .1) (start₂ c .pre)) (λ c. search needs) returns)

@@ -1,4 +1,6 @@
 -- `emit::stmts` meets its contracts, a law for each kind. The measure goes by the levels of if, and within one level by the statements that
+use Rattle.emit.specs.Written.{Ready, body-words, body-at as body-from}
+use lib.ListN.{length}
 -- are left (at most 255), with a body, a block and an if above them.
 use Prim.Native.Nat.{ℕ, _<_, _+_, _*_}
 use borrow.Fn.Kinds.{In}
@@ -26,12 +28,12 @@ use Rattle.emit.proofs.stmts.+block+body+stmt+stmts+when.Lts-stmts as s
 use Rattle.emit.proofs.stmts.when.Reads as when
 use Rattle.emit.proofs.stmts.when.Kinds as when-kinds
 use Rattle.emit.proofs.stmts.+block+body+stmt+stmts+when.Lts-when as when-lts
-use Rattle.emit.proofs.exprs.expr.Reads as expr
-use Rattle.emit.proofs.exprs.make.Reads as make
-use Rattle.emit.proofs.stmts.declare.Reads as declare
-use Rattle.emit.proofs.stmts.update.Reads as update
-use Rattle.emit.proofs.words.coded.Reads as coded
-use Rattle.emit.proofs.words.store.Reads as store
+use Rattle.emit.proofs.exprs.expr.Reads as expr-reads
+use Rattle.emit.proofs.exprs.make.Reads as make-reads
+use Rattle.emit.proofs.stmts.declare.Reads as declare-reads
+use Rattle.emit.proofs.stmts.update.Reads as update-reads
+use Rattle.emit.proofs.words.coded.Reads as coded-reads
+use Rattle.emit.proofs.words.store.Reads as store-reads
 
 abbrev μ-block : Measures 3 block-kinds.ps ℕ
 μ-block κs a = 300 * a .1 .1 .1 .0 + 258
@@ -80,19 +82,28 @@ when-below t = and 3 when-kinds.ps (falls 3 when-kinds.ps _<_ μ-when t) when.Pr
 
 -- what the functions that each calls ask and give
 abbrev block-claims : ℕ → block-lts.Claims
-block-claims t = (body-below t, body.Post, coded.Asked, coded.Learnt, store.Asked, store.Learnt)
+block-claims t = (body-below t, body.Post, coded-reads.Asked, coded-reads.Learnt, store-reads.Asked, store-reads.Learnt)
 
 abbrev body-claims : ℕ → body-lts.Claims
 body-claims t = (stmts-below t, stmts.Post)
 
 abbrev stmt-claims : ℕ → stmt-lts.Claims
-stmt-claims t = (when-below t, when.Post, declare.Asked, declare.Learnt, update.Asked, update.Learnt, make.Asked, make.Learnt)
+stmt-claims t = (
+  when-below t,
+  when.Post,
+  declare-reads.Asked,
+  declare-reads.Learnt,
+  update-reads.Asked,
+  update-reads.Learnt,
+  make-reads.Asked,
+  make-reads.Learnt,
+)
 
 abbrev stmts-claims : ℕ → stmts-lts.Claims
 stmts-claims t = (stmt-below t, stmt.Post, stmts-below t, stmts.Post)
 
 abbrev when-claims : ℕ → when-lts.Claims
-when-claims t = (expr.Asked, expr.Learnt, block-below t, block.Post)
+when-claims t = (expr-reads.Asked, expr-reads.Learnt, block-below t, block.Post)
 
 -- the places of `block` that proofs look back to
 abbrev block-start : (t : ℕ) → block-lts.After-body-arg (block-claims t) (block-at t) block.Post → block-lts.Start (block-claims t) (block-at t) block.Post
@@ -101,39 +112,38 @@ block-start t c = c .before .before .before .before
 abbrev block-start₂ : (t : ℕ) → block-lts.After-body (block-claims t) (block-at t) block.Post → block-lts.Start (block-claims t) (block-at t) block.Post
 block-start₂ t c = block-start t (c .before)
 
-abbrev block-at-body :
-    (t : ℕ) → block-lts.After-store-arg (block-claims t) (block-at t) block.Post → block-lts.After-body (block-claims t) (block-at t) block.Post
+abbrev block-at-body : (t : ℕ) → block-lts.After-store-arg (block-claims t) (block-at t) block.Post → block-lts.After-body (block-claims t)
+    (block-at t) block.Post
 block-at-body t c = c .before .before .before .before
 
-block-add-body : (t : ℕ) → block-lts.Need-add-body (block-claims t) (block-at t) block.Post
-block-add-body t c =
-    omega (arith, block-ready _ (c .before .before .before .before .pre .1 .good) (c .before .before .before .before .pre .1))
+-- a block has room for its `if`, and its body stands one place on
+block-known : (t : ℕ) (c : block-lts.Start (block-claims t) (block-at t) block.Post)
+    → (c .args .k < length (c .args .out .now)) ×
+    (Ready body-words (body-from (c .args .ar .now) (c .args .s .now) (c .args .depth) (c .args .at)) (c .args .out .now) (c .args .k + 1))
+block-known t c = block-ready _ (c .pre .1 .good) (c .pre .1)
 
 block-body-requires : (t : ℕ) → block-lts.Need-body-requires (block-claims t) (block-at t) block.Post
-block-body-requires t c κs = (
-  omega (arith, c .before .before .before .before .pre .0),
-  block-ready _ (c .before .before .before .before .pre .1 .good) (c .before .before .before .before .pre .1) .1,
-)
+block-body-requires t c κs = (omega (arith, c .before .before .before .before .pre .0), block-known t (c .before .before .before .before) .1)
 
 block-sub-n : (t : ℕ) → block-lts.Need-sub-n (block-claims t) (block-at t) block.Post
 block-sub-n t c =
-    let b = block-ready _ (block-start₂ t (c .before .before) .pre .1 .good) (block-start₂ t (c .before .before) .pre .1) in
-    omega (arith, c .before .before .body .ensures .at, placed-kept (c .before .before .body .ensures))
+    omega
+    (arith, block-known t (block-start₂ t (c .before .before)), c .before .before .body .ensures .at, placed-kept (c .before .before .body .ensures))
 
 block-sub-n-2 : (t : ℕ) → block-lts.Need-sub-n-2 (block-claims t) (block-at t) block.Post
 block-sub-n-2 t c =
-    let b = block-ready _ (block-start₂ t (c .before .before) .pre .1 .good) (block-start₂ t (c .before .before) .pre .1) in
-    omega (arith, c .before .before .body .ensures .at, placed-kept (c .before .before .body .ensures))
+    omega
+    (arith, block-known t (block-start₂ t (c .before .before)), c .before .before .body .ensures .at, placed-kept (c .before .before .body .ensures))
 
 block-coded-requires : (t : ℕ) → block-lts.Need-coded-requires (block-claims t) (block-at t) block.Post
 block-coded-requires t c κs =
-    let b = block-ready _ (block-start₂ t (c .before .before) .pre .1 .good) (block-start₂ t (c .before .before) .pre .1) in
+    let b = block-known t (block-start₂ t (c .before .before)) in
     (omega arith, omega arith, omega (arith, c .before .before .body .ensures .at, b .1 .few))
 
 block-store-requires : (t : ℕ) → block-lts.Need-store-requires (block-claims t) (block-at t) block.Post
 block-store-requires t c κs =
-    let b = block-ready _ (block-start₂ t (block-at-body t c) .pre .1 .good) (block-start₂ t (block-at-body t c) .pre .1) in
-    omega (arith, block-at-body t c .body .ensures .at, placed-kept (block-at-body t c .body .ensures))
+    omega
+    (arith, block-known t (block-start₂ t (block-at-body t c)), block-at-body t c .body .ensures .at, placed-kept (block-at-body t c .body .ensures))
 
 block-same-length : (t : ℕ) → block-lts.Need-same-length (block-claims t) (block-at t) block.Post
 block-same-length t c =
@@ -155,8 +165,7 @@ body-start₂ t c = body-start t (c .before)
 
 body-stmts-requires : (t : ℕ) → body-lts.Need-stmts-requires (body-claims t) (body-at t) body.Post
 body-stmts-requires t c κs =
-    let a = body-start₂ t c .args in
-    let f = body-facts _ _ _ _ (body-start₂ t c .pre .1 .good) in
+    let a = body-start₂ t c .args in let f = body-facts _ _ _ _ (body-start₂ t c .pre .1 .good) in
     (omega (arith, body-start₂ t c .pre .0, c .before .shared-slice-known3 .given (a .at)), part-ready (f .part) (body-start₂ t c .pre .1))
 
 body-returns : (t : ℕ) → body-lts.Need-returns (body-claims t) (body-at t) body.Post
@@ -168,83 +177,57 @@ body-returns t c =
 abbrev stmt-start : (t : ℕ) → stmt-lts.After-shared-slice-known3 (stmt-claims t) (stmt-at t) stmt.Post → stmt-lts.Start (stmt-claims t) (stmt-at t) stmt.Post
 stmt-start t c = c .before .before .before .before
 
-abbrev stmt-start₂ : (t : ℕ) → stmt-lts.Then1 (stmt-claims t) (stmt-at t) stmt.Post → stmt-lts.Start (stmt-claims t) (stmt-at t) stmt.Post
-stmt-start₂ t c = stmt-start t (c .before)
+abbrev stmt-start₂ : (t : ℕ) → stmt-lts.After-update-arg (stmt-claims t) (stmt-at t) stmt.Post → stmt-lts.Start (stmt-claims t) (stmt-at t) stmt.Post
+stmt-start₂ t c = stmt-start t (c .before .before .before .before)
 
-abbrev stmt-start₃ : (t : ℕ) → stmt-lts.Then2 (stmt-claims t) (stmt-at t) stmt.Post → stmt-lts.Start (stmt-claims t) (stmt-at t) stmt.Post
-stmt-start₃ t c = stmt-start t (c .before .before)
-
-abbrev stmt-start₄ : (t : ℕ) → stmt-lts.After-update-arg (stmt-claims t) (stmt-at t) stmt.Post → stmt-lts.Start (stmt-claims t) (stmt-at t) stmt.Post
-stmt-start₄ t c = stmt-start t (c .before .before .before .before)
-
-abbrev stmt-start₅ : (t : ℕ) → stmt-lts.After-make-arg (stmt-claims t) (stmt-at t) stmt.Post → stmt-lts.Start (stmt-claims t) (stmt-at t) stmt.Post
-stmt-start₅ t c = stmt-start t (c .before .before .before .before)
-
-abbrev stmt-start₆ : (t : ℕ) → stmt-lts.After-slice-known2 (stmt-claims t) (stmt-at t) stmt.Post → stmt-lts.Start (stmt-claims t) (stmt-at t) stmt.Post
-stmt-start₆ t c = stmt-start₂ t (c .before .before .before .before)
-
-abbrev stmt-start₇ : (t : ℕ) → stmt-lts.After-slice-known3 (stmt-claims t) (stmt-at t) stmt.Post → stmt-lts.Start (stmt-claims t) (stmt-at t) stmt.Post
-stmt-start₇ t c = stmt-start₃ t (c .before .before .before .before)
+abbrev stmt-start₃ : (t : ℕ) → stmt-lts.After-make-arg (stmt-claims t) (stmt-at t) stmt.Post → stmt-lts.Start (stmt-claims t) (stmt-at t) stmt.Post
+stmt-start₃ t c = stmt-start t (c .before .before .before .before)
 
 stmt-sub-when : (t : ℕ) → stmt-lts.Need-sub-when (stmt-claims t) (stmt-at t) stmt.Post
 stmt-sub-when t c =
-    let a = stmt-start₂ t c .args in
-    let w = when-part (a .ar .now) (a .s .now) (a .depth) (a .at) (stmt-start₂ t c .pre .1 .good) (c .if1 .taken) in
+    let w = when-part _ _ _ _ (stmt-start t (c .before) .pre .1 .good) (c .if1 .taken) in
     omega (arith, w .0)
 
 stmt-when-requires : (t : ℕ) → stmt-lts.Need-when-requires (stmt-claims t) (stmt-at t) stmt.Post
 stmt-when-requires t c κs =
-    let a = stmt-start₂ t (c .before) .args in
-    let w = when-part (a .ar .now) (a .s .now) (a .depth) (a .at) (stmt-start₂ t (c .before) .pre .1 .good) (c .before .if1 .taken) in
-    (omega (arith, stmt-start₂ t (c .before) .pre .0, w .0), part-ready (w .1) (stmt-start₂ t (c .before) .pre .1))
+    let w = when-part _ _ _ _ (stmt-start t (c .before .before) .pre .1 .good) (c .before .if1 .taken) in
+    (omega (arith, stmt-start t (c .before .before) .pre .0, w .0), part-ready (w .1) (stmt-start t (c .before .before) .pre .1))
 
 stmt-returns : (t : ℕ) → stmt-lts.Need-returns (stmt-claims t) (stmt-at t) stmt.Post
 stmt-returns t c =
     let at-when = c .before .before in let at-if1 = at-when .before .before in
-    let a = stmt-start₆ t c .args in
-    part-same (when-part (a .ar .now) (a .s .now) (a .depth) (a .at) (stmt-start₆ t c .pre .1 .good) (at-if1 .if1 .taken) .1)
-    (at-when .when .ensures)
+    part-same (when-part _ _ _ _ (stmt-start t (at-if1 .before) .pre .1 .good) (at-if1 .if1 .taken) .1) (at-when .when .ensures)
 
 stmt-declare-requires : (t : ℕ) → stmt-lts.Need-declare-requires (stmt-claims t) (stmt-at t) stmt.Post
 stmt-declare-requires t c κs =
-    let start = stmt-start₃ t (c .before) in
-    let a = start .args in
-    part-ready (declare-part (a .ar .now) (a .s .now) (a .depth) (a .at) (start .pre .1 .good) (c .before .if2 .taken)) (start .pre .1)
+    let start = stmt-start t (c .before .before .before) in
+    part-ready (declare-part _ _ _ _ (start .pre .1 .good) (c .before .if2 .taken)) (start .pre .1)
 
 stmt-returns-2 : (t : ℕ) → stmt-lts.Need-returns-2 (stmt-claims t) (stmt-at t) stmt.Post
 stmt-returns-2 t c =
     let at-declare = c .before .before in let at-if2 = at-declare .before .before in
-    let a = stmt-start₇ t c .args in
-    part-same (declare-part (a .ar .now) (a .s .now) (a .depth) (a .at) (stmt-start₇ t c .pre .1 .good) (at-if2 .if2 .taken))
-    (at-declare .declare .ensures)
+    part-same (declare-part _ _ _ _ (stmt-start t (at-if2 .before .before) .pre .1 .good) (at-if2 .if2 .taken)) (at-declare .declare .ensures)
 
 stmt-update-requires : (t : ℕ) → stmt-lts.Need-update-requires (stmt-claims t) (stmt-at t) stmt.Post
-stmt-update-requires t c κs =
-    let a = stmt-start₄ t c .args in
-    part-ready (updated-part (a .ar .now) (a .s .now) (a .depth) (a .at) (stmt-start₄ t c .pre .1 .good) (c .before .if3 .taken))
-    (stmt-start₄ t c .pre .1)
+stmt-update-requires t c κs = part-ready (updated-part _ _ _ _ (stmt-start₂ t c .pre .1 .good) (c .before .if3 .taken)) (stmt-start₂ t c .pre .1)
 
 stmt-returns-3 : (t : ℕ) → stmt-lts.Need-returns-3 (stmt-claims t) (stmt-at t) stmt.Post
 stmt-returns-3 t c =
     let at-update = c .before .before in let at-if3 = at-update .before .before in
-    let start = stmt-start₄ t (at-update .before) in
-    let a = start .args in
-    part-same (updated-part (a .ar .now) (a .s .now) (a .depth) (a .at) (start .pre .1 .good) (at-if3 .if3 .taken)) (at-update .update .ensures)
+    part-same (updated-part _ _ _ _ (stmt-start₂ t (at-update .before) .pre .1 .good) (at-if3 .if3 .taken)) (at-update .update .ensures)
 
 stmt-make-requires : (t : ℕ) → stmt-lts.Need-make-requires (stmt-claims t) (stmt-at t) stmt.Post
 stmt-make-requires t c κs =
     let at-if2 = c .before .before in
-    let a = stmt-start₅ t c .args in
-    part-ready (create-part (a .ar .now) (a .s .now) (a .depth) (a .at) (stmt-start₅ t c .pre .1 .good) (at-if2 .before .if1 .left)
-    (at-if2 .if2 .left) (c .before .if3 .left)) (stmt-start₅ t c .pre .1)
+    part-ready (create-part _ _ _ _ (stmt-start₃ t c .pre .1 .good) (at-if2 .before .if1 .left) (at-if2 .if2 .left) (c .before .if3 .left))
+    (stmt-start₃ t c .pre .1)
 
 stmt-returns-4 : (t : ℕ) → stmt-lts.Need-returns-4 (stmt-claims t) (stmt-at t) stmt.Post
 stmt-returns-4 t c =
     let at-make = c .before .before in let at-if3 = at-make .before .before in
-    let at-if1 = at-if3 .before .before in let start = stmt-start₅ t (at-make .before) in
-    let a = start .args in
-    part-same (create-part (a .ar .now) (a .s .now) (a .depth) (a .at) (start .pre .1 .good) (at-if1 .if1 .left) (at-if3 .before .if2 .left)
-    (at-if3 .if3 .left)) (at-make .make .ensures)
+    let at-if1 = at-if3 .before .before in
+    part-same (create-part _ _ _ _ (stmt-start₃ t (at-make .before) .pre .1 .good) (at-if1 .if1 .left) (at-if3 .before .if2 .left) (at-if3 .if3 .left))
+    (at-make .make .ensures)
 
 -- the places of `stmts` that proofs look back to
 abbrev stmts-start : (t : ℕ) → stmts-lts.Else1 (stmts-claims t) (stmts-at t) stmts.Post → stmts-lts.Start (stmts-claims t) (stmts-at t) stmts.Post
@@ -256,8 +239,7 @@ stmts-at-if1 t c = c .before .before
 abbrev stmts-at-if1₂ : (t : ℕ) → stmts-lts.After-stmts-arg (stmts-claims t) (stmts-at t) stmts.Post → stmts-lts.Else1 (stmts-claims t) (stmts-at t) stmts.Post
 stmts-at-if1₂ t c = stmts-at-if1 t (c .before .before .before)
 
-abbrev stmts-at-stmt :
-    (t : ℕ) → stmts-lts.After-stmts (stmts-claims t) (stmts-at t) stmts.Post → stmts-lts.After-stmt (stmts-claims t) (stmts-at t) stmts.Post
+abbrev stmts-at-stmt : (t : ℕ) → stmts-lts.After-stmts (stmts-claims t) (stmts-at t) stmts.Post → stmts-lts.After-stmt (stmts-claims t) (stmts-at t) stmts.Post
 stmts-at-stmt t c = c .before .before .before .before
 
 abbrev stmts-at-stmt₂ :
@@ -323,23 +305,21 @@ when-same-length t c =
 when-returns : (t : ℕ) → when-lts.Need-returns (when-claims t) (when-at t) when.Post
 when-returns t c =
     let at-block = c .before .before in
-    parts-same (when-at-expr₂ t c .expr .ensures) (at-block .block .ensures)
-    (when-parts _ _ _ _ (when-start₂ t (at-block .before) .pre .1 .good))
+    parts-same (when-at-expr₂ t c .expr .ensures) (at-block .block .ensures) (when-parts _ _ _ _ (when-start₂ t (at-block .before) .pre .1 .good))
 
 pub +block+body+stmt+stmts+when-spec : {M : Type 1} → statement M
 +block+body+stmt+stmts+when-spec =
     close μ-block μ-body μ-stmt μ-stmts μ-when
-    (λ t. block-lts.spec (block-claims t) (block-at t) block.Post (block-add-body t) (block-body-requires t) (block-sub-n t)
-    (block-sub-n-2 t) (block-coded-requires t) (block-store-requires t) (block-same-length t) (block-returns t))
-    (λ t. body-lts.spec (body-claims t) (body-at t) body.Post
-    (λ c. omega (arith, body-facts _ _ _ _ (c .before .before .before .pre .1 .good)))
+    (λ t. block-lts.spec (block-claims t) (block-at t) block.Post (λ c. omega (arith, block-known t (c .before .before .before .before)))
+    (block-body-requires t) (block-sub-n t) (block-sub-n-2 t) (block-coded-requires t) (block-store-requires t) (block-same-length t)
+    (block-returns t))
+    (λ t. body-lts.spec (body-claims t) (body-at t) body.Post (λ c. omega (arith, body-facts _ _ _ _ (c .before .before .before .pre .1 .good)))
     (λ c. omega (arith, body-facts _ _ _ _ (c .before .before .before .before .pre .1 .good))) (body-stmts-requires t)
     (λ c. placed-kept (c .before .before .stmts .ensures)) (body-returns t))
-    (λ t. stmt-lts.spec (stmt-claims t) (stmt-at t) stmt.Post
-    (λ c. omega (arith, stmt-in _ _ _ _ (c .before .before .before .before .pre .1 .good)))
-    (λ c. omega (arith, stmt-in _ _ _ _ (stmt-start₂ t c .pre .1 .good))) (stmt-sub-when t) (stmt-when-requires t)
+    (λ t. stmt-lts.spec (stmt-claims t) (stmt-at t) stmt.Post (λ c. omega (arith, stmt-in _ _ _ _ (c .before .before .before .before .pre .1 .good)))
+    (λ c. omega (arith, stmt-in _ _ _ _ (stmt-start t (c .before) .pre .1 .good))) (stmt-sub-when t) (stmt-when-requires t)
     (λ c. placed-kept (c .before .before .when .ensures)) (stmt-returns t)
-    (λ c. omega (arith, stmt-in _ _ _ _ (stmt-start₃ t c .pre .1 .good))) (stmt-declare-requires t)
+    (λ c. omega (arith, stmt-in _ _ _ _ (stmt-start t (c .before .before) .pre .1 .good))) (stmt-declare-requires t)
     (λ c. placed-kept (c .before .before .declare .ensures)) (stmt-returns-2 t)
     (λ c. omega (arith, stmt-in _ _ _ _ (stmt-start t (c .before .before .before) .pre .1 .good))) (stmt-update-requires t)
     (λ c. placed-kept (c .before .before .update .ensures)) (stmt-returns-3 t)
@@ -347,5 +327,4 @@ pub +block+body+stmt+stmts+when-spec : {M : Type 1} → statement M
     (λ c. placed-kept (c .before .before .make .ensures)) (stmt-returns-4 t))
     (λ t. stmts-lts.spec (stmts-claims t) (stmts-at t) stmts.Post (stmts-returns t) (stmts-stmt-requires t)
     (λ c. omega (arith, c .before .before .before .before .if1 .left)) (stmts-stmts-requires t) (stmts-same-length t) (stmts-returns-2 t))
-    λ t. when-lts.spec (when-claims t) (when-at t) when.Post (when-expr-requires t) (when-block-requires t) (when-same-length t)
-    (when-returns t)
+    λ t. when-lts.spec (when-claims t) (when-at t) when.Post (when-expr-requires t) (when-block-requires t) (when-same-length t) (when-returns t)

@@ -19,40 +19,35 @@ start₂ c = start (c .before)
 shared-slice-read-index : tie.Need-shared-slice-read-index
 shared-slice-read-index c =
     let u = update-part _ _ _ (c .before .before .before .before .pre .good) in
-    let f = path-facts _ _ (u .0) in omega arith
+    omega (arith, path-facts _ _ (u .0))
 
 add-expr : tie.Need-add-expr
 add-expr c =
     let u = update-part _ _ _ (start₂ c .pre .good) in
-    let f = path-facts _ _ (u .0) in omega (arith, c .index .ensures .0)
+    omega (arith, path-facts _ _ (u .0), c .index .ensures .0)
 
 add-expr-2 : tie.Need-add-expr-2
 add-expr-2 c =
     let u = update-part _ _ _ (start₂ c .pre .good) in
-    let f = path-facts _ _ (u .0) in omega (arith, c .index .ensures .0)
+    omega (arith, path-facts _ _ (u .0), c .index .ensures .0)
 
 expr-requires : tie.Need-expr-requires
 expr-requires c κs =
-    let at-index = c .before in let at-shared-slice-known = at-index .before .before .before .before in
-    let u = update-part _ _ _ (at-shared-slice-known .before .pre .good) in
-    rw (at-index .index .ensures .0) (part-ready (u .1) ((at-shared-slice-known .before .pre)))
+    let start′ = start (c .before .before) in let u = update-part _ _ _ (start′ .pre .good) in
+    rw (c .before .index .ensures .0) (part-ready (u .1) (start′ .pre))
 
 target-requires : tie.Need-target-requires
 target-requires c κs =
     let at-expr = c .before .before .before in let at-index = at-expr .before .before in
-    let at-shared-slice-known = at-index .before .before .before .before in
-    let a = at-shared-slice-known .before .args in
-    let u = update-part _ _ _ (at-shared-slice-known .before .pre .good) in
-    part-rest target-words (read-path (a .s .now) (a .at)) (u .1) (u .0) ((at-shared-slice-known .before .pre))
-    (rw (at-index .index .ensures .0) at (at-expr .expr .ensures))
+    let start′ = start (at-index .before) in let a = start′ .args in
+    let u = update-part _ _ _ (start′ .pre .good) in
+    part-rest target-words (read-path (a .s .now) (a .at)) (u .1) (u .0) (start′ .pre) (rw (at-index .index .ensures .0) at (at-expr .expr .ensures))
 
 returns : tie.Need-returns
 returns c =
     let at-target = c .before .before in let at-expr = at-target .before .before .before .before in
-    let at-index = at-expr .before .before in
-    let at-shared-slice-known = at-index .before .before .before .before in
-    let a = at-shared-slice-known .before .args in
-    let u = update-part _ _ _ (at-shared-slice-known .before .pre .good) in
+    let at-index = at-expr .before .before in let start′ = start (at-index .before) in
+    let a = start′ .args in let u = update-part _ _ _ (start′ .pre .good) in
     update-wrote (a .ar .now) (a .s .now) (a .at) (u .1) (rw (at-index .index .ensures .0) at (at-expr .expr .ensures)) (at-target .target .ensures)
 
 pub update-spec : {M : Type 1} → statement M

@@ -11,15 +11,13 @@ returns c = let h = c .if1 .taken in rw (leaf-size, lt-ltb _ _ h)
 returns-2 : tie.Need-returns-2
 unfolding leaf-size
 returns-2 c =
-    let h = c .before .if1 .left in
-    let k = c .if2 .taken in
+    let h = c .before .if1 .left in let k = c .if2 .taken in
     rw (leaf-size, le-ltb _ _ h, lt-ltb _ _ k)
 
 returns-3 : tie.Need-returns-3
 unfolding leaf-size
 returns-3 c =
-    let h = c .before .if1 .left in
-    let k = c .if2 .left in
+    let h = c .before .if1 .left in let k = c .if2 .left in
     rw (leaf-size, le-ltb _ _ h, le-ltb _ _ k)
 
 pub leaf-size-spec : {M : Type 1} → statement M

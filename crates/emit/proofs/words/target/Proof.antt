@@ -34,36 +34,17 @@ known c = path-facts _ _ (c .pre .good)
 room : (c : tie.Start) → c .args .k + 1 + getD (c .args .s .now) (c .args .at) 0 ≤ length (c .args .out .now)
 room c = target-room _ _ _ _ (c .pre)
 
-store-requires : tie.Need-store-requires
-store-requires c κs =
-    let f = known (start (c .before)) in
-    let h = target-room _ _ _ _ ((start (c .before) .pre)) in
-    omega arith
-
-add-reads : tie.Need-add-reads
-add-reads c =
-    let f = known (start₂ c) in
-    let h = target-room _ _ _ _ ((start₂ c .pre)) in
-    omega arith
-
-sub-reads : tie.Need-sub-reads
-sub-reads c =
-    let f = known (start₂ c) in
-    let h = target-room _ _ _ _ ((start₂ c .pre)) in
-    omega arith
-
 reads-requires : tie.Need-reads-requires
 reads-requires c κs =
-    let f = known (start₂ (c .before)) in
-    let h = target-room _ _ _ _ ((start₂ (c .before) .pre)) in
+    let f = known (start₂ (c .before)) in let h = room (start₂ (c .before)) in
     (omega arith, omega (arith, c .before .before .before .store .kept .0))
 
 shared-slice-read-wide : tie.Need-shared-slice-read-wide
 shared-slice-read-wide c =
-    let f = known (start₃ (c .before .before .before)) in
-    let h = target-room _ _ _ _ ((start₃ (c .before .before .before) .pre)) in
     omega (
       arith,
+      known (start₃ (c .before .before .before)),
+      room (start₃ (c .before .before .before)),
       at-store (c .before .before .before) .store .kept .0,
       c .before .before .before .reads .ensures .0,
       c .before .before .before .reads .ensures .1,
@@ -72,10 +53,10 @@ shared-slice-read-wide c =
 
 store-requires-2 : tie.Need-store-requires-2
 store-requires-2 c κs =
-    let f = known (start₃ (at-reads₂ c)) in
-    let h = target-room _ _ _ _ ((start₃ (at-reads₂ c) .pre)) in
     omega (
       arith,
+      known (start₃ (at-reads₂ c)),
+      room (start₃ (at-reads₂ c)),
       at-store (at-reads₂ c) .store .kept .0,
       at-reads₂ c .reads .ensures .0,
       at-reads₂ c .reads .ensures .1,
@@ -84,10 +65,10 @@ store-requires-2 c κs =
 
 add-t16 : tie.Need-add-t16
 add-t16 c =
-    let f = known (start₃ (at-reads₂ (c .before .before .before))) in
-    let h = target-room _ _ _ _ ((start₃ (at-reads₂ (c .before .before .before)) .pre)) in
     omega (
       arith,
+      known (start₃ (at-reads₂ (c .before .before .before))),
+      room (start₃ (at-reads₂ (c .before .before .before))),
       at-store (at-reads₂ (c .before .before .before)) .store .kept .0,
       at-reads₂ (c .before .before .before) .reads .ensures .0,
       at-reads₂ (c .before .before .before) .reads .ensures .1,
@@ -96,10 +77,10 @@ add-t16 c =
 
 add-t19 : tie.Need-add-t19
 add-t19 c =
-    let f = known (start₃ (at-reads₂ (c .before .before .before))) in
-    let h = target-room _ _ _ _ ((start₃ (at-reads₂ (c .before .before .before)) .pre)) in
     omega (
       arith,
+      known (start₃ (at-reads₂ (c .before .before .before))),
+      room (start₃ (at-reads₂ (c .before .before .before))),
       at-store (at-reads₂ (c .before .before .before)) .store .kept .0,
       at-reads₂ (c .before .before .before) .reads .ensures .0,
       at-reads₂ (c .before .before .before) .reads .ensures .1,
@@ -111,13 +92,13 @@ returns c =
     let at-store2 = c .before .before in let at-coded2 = at-store2 .before .before in
     let at-reads′ = at-reads₂ (at-store2 .before) in let at-coded = at-store at-reads′ .before .before in
     let a = start₃ at-reads′ .args in
-    target-wrote (a .s .now) (a .at) (a .k) (a .out .now) (start₃ at-reads′ .pre .good) (at-coded .coded .ensures)
-    (at-store at-reads′ .store .ensures) (at-reads′ .reads .ensures) (at-coded2 .before .wide .ensures .0) (at-coded2 .coded2 .ensures)
-    (at-store2 .store2 .ensures) refl refl
+    target-wrote (a .s .now) (a .at) (a .k) (a .out .now) (start₃ at-reads′ .pre .good) (at-coded .coded .ensures) (at-store at-reads′ .store .ensures)
+    (at-reads′ .reads .ensures) (at-coded2 .before .wide .ensures .0) (at-coded2 .coded2 .ensures) (at-store2 .store2 .ensures) refl refl
 
 pub target-spec : {M : Type 1} → statement M
 target-spec =
     tie.close
-    (tie.spec (λ c. omega (arith, known (c .before .before .before))) (λ c κs. search needs) store-requires add-reads sub-reads
-    (λ c. search needs) reads-requires shared-slice-read-wide (λ c κs. search needs) (λ c κs. search needs) store-requires-2 add-t16 add-t19
-    (λ c. search needs) returns)
+    (tie.spec (λ c. omega (arith, known (c .before .before .before))) (λ c κs. search needs)
+    (λ c κs. omega (arith, known (start (c .before)), room (start (c .before)))) (λ c. omega (arith, known (start₂ c), room (start₂ c)))
+    (λ c. omega (arith, known (start₂ c), room (start₂ c))) (λ c. search needs) reads-requires shared-slice-read-wide (λ c κs. search needs)
+    (λ c κs. search needs) store-requires-2 add-t16 add-t19 (λ c. search needs) returns)

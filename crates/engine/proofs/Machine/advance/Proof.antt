@@ -12,9 +12,6 @@ start c = c .before .before .before .before
 abbrev at-advance : tie.After-slice-known2 → tie.After-advance
 at-advance c = c .before .before
 
-abbrev start₂ : tie.After-slice-known2 → tie.Start
-start₂ c = start (at-advance c .before)
-
 returns : tie.Need-returns
 returns c =
     let at-advance′ = at-advance (c .before .before .before) in

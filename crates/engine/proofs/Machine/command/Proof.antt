@@ -24,9 +24,6 @@ start₃ c = start₂ (c .before .before .before .before)
 abbrev at-perform : tie.After-slice-known5 → tie.After-perform
 at-perform c = c .before .before .before .before
 
-abbrev start₄ : tie.After-slice-known5 → tie.Start
-start₄ c = start₃ (at-perform c)
-
 perform-requires : tie.Need-perform-requires
 perform-requires c κs =
     let at-slice-known2 = c .before .before .before .before in

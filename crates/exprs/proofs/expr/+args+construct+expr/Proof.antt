@@ -140,17 +140,6 @@ args-returns-3 t c =
       rw (c .joined .ensures) (span-arg s (a .at) _ _ _ (c .before .args2 .result) ahead (c .before .args2 .ensures .1)),
     )
 
--- the places of `construct` that proofs look back to
-abbrev construct-start :
-    (t : ℕ) → construct-lts.After-ranged (construct-claims t) (construct-at t) construct.Post
-    → construct-lts.Start (construct-claims t) (construct-at t) construct.Post
-construct-start t c = c .before .before .before .before
-
-abbrev construct-start₂ :
-    (t : ℕ) → construct-lts.After-look (construct-claims t) (construct-at t) construct.Post
-    → construct-lts.Start (construct-claims t) (construct-at t) construct.Post
-construct-start₂ t c = construct-start t (c .before .before .before .before)
-
 construct-returns : (t : ℕ) → construct-lts.Need-returns (construct-claims t) (construct-at t) construct.Post
 construct-returns t c =
     let at-ranged = c .before .before .before in
@@ -161,8 +150,9 @@ construct-returns t c =
 
 construct-args-requires : (t : ℕ) → construct-lts.Need-args-requires (construct-claims t) (construct-at t) construct.Post
 construct-args-requires t c κs =
+    let at-ranged = c .before .before .before .before in let start = at-ranged .before .before .before .before in
     let span = rw (c .before .before .r .given .1) at (c .before .before .before .before .ranged .ensures .1) in
-    (omega (arith, construct-start₂ t c .pre), (construct-start₂ t c .pre .1, omega arith))
+    (omega (arith, start .pre), (start .pre .1, omega arith))
 
 construct-over-requires : (t : ℕ) → construct-lts.Need-over-requires (construct-claims t) (construct-at t) construct.Post
 construct-over-requires t c κs =
@@ -210,10 +200,15 @@ expr-returns-2 t c =
     let a = expr-start t (c .before) .args in
     (sym (expr-deep (a .ar .now) (a .types .now) (a .s .now) (a .own) (a .live) (a .depth) (a .at) (c .if2 .taken) (c .before .if1 .left)), tt)
 
+expr-expr-requires : (t : ℕ) → expr-lts.Need-expr-requires (expr-claims t) (expr-at t) expr.Post
+expr-expr-requires t c κs =
+    let start = expr-start₂ t (c .before .before) in
+    (omega (arith, start .pre), start .pre .1)
+
 expr-around-requires : (t : ℕ) → expr-lts.Need-around-requires (expr-claims t) (expr-at t) expr.Post
 expr-around-requires t c κs =
-    let a = expr-start₂ t (c .before .before .before) .args in
-    let small : length (a .s .now) < 2 ^ 63 = omega (arith, expr-start₂ t (c .before .before .before) .good .0) in
+    let start = expr-start₂ t (c .before .before .before) in let a = start .args in
+    let small : length (a .s .now) < 2 ^ 63 = omega (arith, start .good .0) in
     span-room (a .s .now) _ _ (c .expr .result) small (c .expr .ensures .1)
 
 expr-returns-3 : (t : ℕ) → expr-lts.Need-returns-3 (expr-claims t) (expr-at t) expr.Post
@@ -226,7 +221,9 @@ expr-returns-3 t c =
     )
 
 expr-construct-requires : (t : ℕ) → expr-lts.Need-construct-requires (expr-claims t) (expr-at t) expr.Post
-expr-construct-requires t c κs = (omega (arith, expr-start₂ t (c .before .before .before) .pre), expr-start₂ t (c .before .before .before) .pre .1)
+expr-construct-requires t c κs =
+    let start = expr-start₂ t (c .before .before .before) in
+    (omega (arith, start .pre), start .pre .1)
 
 expr-returns-4 : (t : ℕ) → expr-lts.Need-returns-4 (expr-claims t) (expr-at t) expr.Post
 expr-returns-4 t c =
@@ -239,7 +236,8 @@ expr-returns-4 t c =
 
 expr-leaf-requires : (t : ℕ) → expr-lts.Need-leaf-requires (expr-claims t) (expr-at t) expr.Post
 expr-leaf-requires t c κs =
-    ((omega arith, expr-start₂ t (expr-at-if2 t (c .before)) .pre .1 .1), ((c .before .before .if3 .left, c .before .if4 .left), c .if5 .taken))
+    let at-if3 = c .before .before in
+    ((omega arith, expr-start₂ t (at-if3 .before .before) .pre .1 .1), ((at-if3 .if3 .left, c .before .if4 .left), c .if5 .taken))
 
 expr-returns-5 : (t : ℕ) → expr-lts.Need-returns-5 (expr-claims t) (expr-at t) expr.Post
 expr-returns-5 t c =
@@ -274,8 +272,8 @@ expr-expr-requires-3 t c κs =
 
 expr-beside-requires : (t : ℕ) → expr-lts.Need-beside-requires (expr-claims t) (expr-at t) expr.Post
 expr-beside-requires t c κs =
-    let a = expr-start₄ t (c .before) .args in
-    let small : length (a .s .now) < 2 ^ 63 = omega (arith, expr-start₄ t (c .before) .good .0) in
+    let start = expr-start₄ t (c .before) in let a = start .args in
+    let small : length (a .s .now) < 2 ^ 63 = omega (arith, start .good .0) in
     let ahead = rw (c .before .before .first .given .1) at (c .before .before .before .before .expr2 .ensures .1) in
     (omega arith, span-room (a .s .now) _ _ (c .expr3 .result) small (c .expr3 .ensures .1))
 
@@ -305,7 +303,7 @@ pub +args+construct+expr-spec : {M : Type 1} → statement M
     (λ c κs. search needs) (construct-returns t) (λ c. omega (arith, c .known-told)) (λ c κs. search needs) (construct-args-requires t)
     (construct-over-requires t) (construct-returns-2 t))
     λ t. expr-lts.spec (expr-claims t) (expr-at t) expr.Post (expr-returns t) (expr-returns-2 t) (λ c. search needs) (λ c. search needs)
-    (λ c. search needs) (λ c κs. (omega (arith, expr-start₂ t (c .before .before) .pre), expr-start₂ t (c .before .before) .pre .1))
-    (expr-around-requires t) (expr-returns-3 t) (expr-construct-requires t) (λ c κs. search needs) (expr-returns-4 t) (expr-leaf-requires t)
-    (expr-returns-5 t) (expr-returns-6 t) (λ c κs. (omega (arith, expr-start₃ t c .pre), expr-start₃ t c .pre .1)) (λ c. search needs)
-    (λ c. search needs) (expr-returns-7 t) (expr-expr-requires-3 t) (expr-beside-requires t) (λ c κs. search needs) (expr-returns-8 t)
+    (λ c. search needs) (expr-expr-requires t) (expr-around-requires t) (expr-returns-3 t) (expr-construct-requires t) (λ c κs. search needs)
+    (expr-returns-4 t) (expr-leaf-requires t) (expr-returns-5 t) (expr-returns-6 t)
+    (λ c κs. (omega (arith, expr-start₃ t c .pre), expr-start₃ t c .pre .1)) (λ c. search needs) (λ c. search needs) (expr-returns-7 t)
+    (expr-expr-requires-3 t) (expr-beside-requires t) (λ c κs. search needs) (expr-returns-8 t)

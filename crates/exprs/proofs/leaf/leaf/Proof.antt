@@ -11,11 +11,8 @@ use Rattle.exprs.proofs.leaf.leaf.Tie as tie
 abbrev start : tie.Else1 → tie.Start
 start c = c .before .before .before .before
 
-abbrev start₂ : tie.Else2 → tie.Start
-start₂ c = start (c .before)
-
-abbrev at-if2 : tie.Else6 → tie.Else2
-at-if2 c = c .before .before .before .before
+abbrev start₂ : tie.Else3 → tie.Start
+start₂ c = start (c .before .before)
 
 returns : tie.Need-returns
 returns c =
@@ -35,7 +32,7 @@ returns-2 c =
 
 returns-3 : tie.Need-returns-3
 returns-3 c =
-    let a = start₂ (c .before .before) .args in (
+    let a = start (c .before .before .before) .args in (
       λ rec p.
           c .word2 .ensures .0 ∙ sym (rule-nat (a .ar .now) (a .types .now) (a .s .now) (a .own) (a .live) rec p (a .at) (a .b) (c .before .if3 .taken)),
       c .word2 .ensures .1,
@@ -43,7 +40,7 @@ returns-3 c =
 
 returns-4 : tie.Need-returns-4
 returns-4 c =
-    let a = start₂ (c .before .before .before) .args in (
+    let a = start₂ (c .before .before) .args in (
       λ rec p. c .bool-byte .ensures .0
           ∙ sym (rule-bool (a .ar .now) (a .types .now) (a .s .now) (a .own) (a .live) rec p (a .at) (a .b) (c .before .if4 .taken)),
       c .bool-byte .ensures .1,
@@ -51,7 +48,7 @@ returns-4 c =
 
 returns-5 : tie.Need-returns-5
 returns-5 c =
-    let a = start₂ (c .before .before .before .before) .args in (
+    let a = start₂ (c .before .before .before) .args in (
       λ rec p.
           c .null .ensures .0 ∙ sym (rule-null (a .ar .now) (a .types .now) (a .s .now) (a .own) (a .live) rec p (a .at) (a .b) (c .before .if5 .taken)),
       c .null .ensures .1,
@@ -59,8 +56,7 @@ returns-5 c =
 
 returns-6 : tie.Need-returns-6
 returns-6 c =
-    let at-if3 = c .before .before .before .before in let start′ = start₂ (at-if3 .before) in
-    let a = start′ .args in
+    let start′ = start₂ (c .before .before .before .before) in let a = start′ .args in
     rw (c .pushed .ensures) (
       λ rec p.
           sym (rule-self (a .ar .now) (a .types .now) (a .s .now) (a .own) (a .live) rec p (a .at) (a .b) (c .before .if6 .taken)),
@@ -69,19 +65,20 @@ returns-6 c =
 
 returns-7 : tie.Need-returns-7
 returns-7 c =
-    let a = start₂ (at-if2 c) .args in
+    let at-if4 = c .before .before in let at-if2 = at-if4 .before .before in let start′ = start₂ (at-if4 .before) in
+    let a = start′ .args in
     let n : Apart (a .b) = (
-      start₂ (at-if2 c) .pre .1 .0 .0,
-      start₂ (at-if2 c) .pre .1 .0 .1,
-      at-if2 c .before .if1 .left,
-      at-if2 c .if2 .left,
-      c .before .before .before .if3 .left,
-      c .before .before .if4 .left,
+      start′ .pre .1 .0 .0,
+      start′ .pre .1 .0 .1,
+      at-if2 .before .if1 .left,
+      at-if2 .if2 .left,
+      at-if4 .before .if3 .left,
+      at-if4 .if4 .left,
       c .before .if5 .left,
       c .if6 .left,
     ) in (
-      λ rec p. sym (rule-none (a .ar .now) (a .types .now) (a .s .now) (a .own) (a .live) rec p (a .at) (a .b) n
-          (λ q. omega (arith, q .0, start₂ (at-if2 c) .pre .1 .1))),
+      λ rec p.
+          sym (rule-none (a .ar .now) (a .types .now) (a .s .now) (a .own) (a .live) rec p (a .at) (a .b) n (λ q. omega (arith, q .0, start′ .pre .1 .1))),
       tt,
     )
 

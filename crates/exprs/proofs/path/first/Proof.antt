@@ -7,13 +7,6 @@ use borrow.Author.Needs.{needs}
 use Rattle.exprs.proofs.path.first.Statement.{statement}
 use Rattle.exprs.proofs.path.first.Tie as tie
 
--- the places that proofs look back to
-abbrev start′ : tie.After-ranged → tie.Start
-start′ c = c .before .before .before .before
-
-abbrev start′₂ : tie.After-start → tie.Start
-start′₂ c = start′ (c .before .before .before .before)
-
 returns : tie.Need-returns
 returns c =
     let at-ranged = c .before .before .before in
@@ -23,17 +16,23 @@ returns c =
     (sym (vars-stop (a .s .now) (a .ar .now) (a .types .now) (a .own) (a .live) (a .n) (a .at) _ e), tt)
 
 follow-requires : tie.Need-follow-requires
-follow-requires c κs = omega (arith, rw (c .before .before .r .given .1) at (c .before .before .before .before .ranged .ensures .1), start′₂ c .pre)
+follow-requires c κs =
+    let at-ranged = c .before .before .before .before in
+    omega (
+      arith,
+      rw (c .before .before .r .given .1) at (c .before .before .before .before .ranged .ensures .1),
+      at-ranged .before .before .before .before .pre,
+    )
 
 returns-2 : tie.Need-returns-2
 returns-2 c =
     let at-r = c .before .before .before in let at-ranged = at-r .before .before in
-    let start′′ = at-ranged .before .before .before .before in let a = start′′ .args in
+    let start′ = at-ranged .before .before .before .before in let a = start′ .args in
     let e = sym (at-ranged .ranged .ensures .0) ∙ at-r .r .given .1 in
     let span = rw (at-r .r .given .1) at (at-ranged .ranged .ensures .1) in
     let rest = rw (c .before .start .ensures) at (c .follow .ensures .0) in (
       rest ∙ sym (vars-more (a .s .now) (a .ar .now) (a .types .now) (a .own) (a .live) (a .n) (a .at) _ _ e),
-      span-first (a .s .now) (a .n) (a .at) _ (c .follow .result) (start′′ .pre .0) (start′′ .pre .1) (span .0) (c .follow .ensures .1),
+      span-first (a .s .now) (a .n) (a .at) _ (c .follow .result) (start′ .pre .0) (start′ .pre .1) (span .0) (c .follow .ensures .1),
     )
 
 pub first-spec : {M : Type 1} → statement M

@@ -8,10 +8,6 @@ use borrow.Author.Needs.{needs}
 use Rattle.exprs.proofs.read.type_byte.Statement.{statement}
 use Rattle.exprs.proofs.read.type_byte.Tie as tie
 
--- the places that proofs look back to
-abbrev start : tie.After-is-type → tie.Start
-start c = c .before .before .before .before
-
 returns : tie.Need-returns
 returns c =
     let a = c .before .before .args in
@@ -25,10 +21,10 @@ returns-2 c =
 
 returns-3 : tie.Need-returns-3
 returns-3 c =
-    let a = start (c .before) .args in
+    let at-if1 = c .before .before .before in let a = at-if1 .before .before .args in
     let f = sym (c .before .is-type .ensures) ∙ not-false _ (c .if2 .left) in
     let below = type-below (a .n) _ f in
-    (sym (tested-in (a .s .now) (a .at) (type-byte (a .n)) (c .before .before .before .if1 .left) f), omega arith)
+    (sym (tested-in (a .s .now) (a .at) (type-byte (a .n)) (at-if1 .if1 .left) f), omega arith)
 
 pub type-byte-spec : {M : Type 1} → statement M
 type-byte-spec = tie.close (tie.spec returns (λ c. search needs) (λ c κs. search needs) returns-2 (λ c. search needs) returns-3)

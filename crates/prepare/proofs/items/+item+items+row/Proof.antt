@@ -88,8 +88,8 @@ item-at-then2₂ t c = item-at-then2 t (c .before)
 abbrev item-at-else2₂ : (t : ℕ) → item-lts.After-items-arg (item-claims t) (item-at t) item.Post → item-lts.Else2 (item-claims t) (item-at t) item.Post
 item-at-else2₂ t c = item-at-else2 t (c .before)
 
-abbrev item-at-index3 :
-    (t : ℕ) → item-lts.After-slice-known3 (item-claims t) (item-at t) item.Post → item-lts.After-index3 (item-claims t) (item-at t) item.Post
+abbrev item-at-index3 : (t : ℕ) → item-lts.After-slice-known3 (item-claims t) (item-at t) item.Post → item-lts.After-index3 (item-claims t)
+    (item-at t) item.Post
 item-at-index3 t c = c .before .before .before .before
 
 abbrev item-at-else2₃ : (t : ℕ) → item-lts.After-add-arg3 (item-claims t) (item-at t) item.Post → item-lts.Else2 (item-claims t) (item-at t) item.Post
@@ -105,31 +105,16 @@ item-fix-room : (t : ℕ) (c : item-lts.Else2 (item-claims t) (item-at t) item.P
     → item-start t (c .before) .args .k < length (item-start t (c .before) .args .codes .now)
 item-fix-room t c = fix-room (item-start t (c .before) .args .s .now) (item-fix t c) (item-start t (c .before) .pre .1)
 
-item-add-index : (t : ℕ) → item-lts.Need-add-index (item-claims t) (item-at t) item.Post
-item-add-index t c = omega (arith, call-one _ _ _ (c .before .before .before .before .pre .1 .good) (c .if1 .taken) .0)
-
-item-shared-slice-read-index : (t : ℕ) → item-lts.Need-shared-slice-read-index (item-claims t) (item-at t) item.Post
-item-shared-slice-read-index t c = omega (arith, call-one _ _ _ (item-start₂ t (c .before) .pre .1 .good) (c .before .if1 .taken) .0)
-
-item-add-t14 : (t : ℕ) → item-lts.Need-add-t14 (item-claims t) (item-at t) item.Post
-item-add-t14 t c = omega (arith, call-one _ _ _ (item-start₄ t c .pre .1 .good) (c .before .before .before .if1 .taken) .0)
-
 item-add-requires : (t : ℕ) → item-lts.Need-add-requires (item-claims t) (item-at t) item.Post
 item-add-requires t c κs =
-    let at-if1 = c .before .before .before in
-    let a = item-start₄ t c .args in
+    let at-if1 = c .before .before .before in let a = item-start₄ t c .args in
     one-room (call-one _ _ _ (item-start₄ t c .pre .1 .good) (at-if1 .if1 .taken) .1 (a .k)) (item-start₄ t c .pre .1)
 
 item-returns : (t : ℕ) → item-lts.Need-returns (item-claims t) (item-at t) item.Post
 item-returns t c =
     let at-add = c .before .before in let at-index = at-add .before .before in
-    let at-if1 = at-index .before .before in
-    let a = item-start₂ t at-if1 .args in
-    one-wrote (call-one _ _ _ (item-start₂ t at-if1 .pre .1 .good) (at-if1 .if1 .taken) .1 (a .k)) (at-index .index .ensures .0)
-    (at-add .add .ensures)
-
-item-shared-slice-read-index-2 : (t : ℕ) → item-lts.Need-shared-slice-read-index-2 (item-claims t) (item-at t) item.Post
-item-shared-slice-read-index-2 t c = omega (arith, call-in-one _ _ _ (item-start₃ t (c .before) .pre .1 .good) (c .before .if2 .taken) .0)
+    let at-if1 = at-index .before .before in let a = item-start₂ t at-if1 .args in
+    one-wrote (call-one _ _ _ (item-start₂ t at-if1 .pre .1 .good) (at-if1 .if1 .taken) .1 (a .k)) (at-index .index .ensures .0) (at-add .add .ensures)
 
 item-add-index-3 : (t : ℕ) → item-lts.Need-add-index-3 (item-claims t) (item-at t) item.Post
 item-add-index-3 t c = omega (arith, call-in-one _ _ _ (item-start₃ t (c .before .before) .pre .1 .good) (c .before .before .if2 .taken) .0)
@@ -152,21 +137,18 @@ item-returns-2 t c =
     let a = item-start₃ t (item-at-then2 t (item-at-index3 t c)) .args in
     one-wrote (call-in-one _ _ _ (item-start₃ t (item-at-then2 t (item-at-index3 t c)) .pre .1 .good)
     (item-at-then2 t (item-at-index3 t c) .if2 .taken) .1 (a .k))
-    (omega (arith, item-at-index3 t c .before .before .index2 .ensures .0, item-at-index3 t c .index3 .ensures .0))
-    (c .before .before .add2 .ensures)
+    (omega (arith, item-at-index3 t c .before .before .index2 .ensures .0, item-at-index3 t c .index3 .ensures .0)) (c .before .before .add2 .ensures)
 
 item-items-requires : (t : ℕ) → item-lts.Need-items-requires (item-claims t) (item-at t) item.Post
 item-items-requires t c κs =
     let at-store = c .before .before .before in let at-if2 = at-store .before .before in
-    let at-if1 = at-if2 .before in let start = at-if1 .before .before .before .before in
-    let f = item-fix t at-if2 in
+    let start = item-start t (at-if2 .before) in let f = item-fix t at-if2 in
     (omega (arith, start .pre .0, f .deep), rw (at-store .store .ensures) (fix-ready (start .args .s .now) f (start .pre .1)))
 
 item-add-requires-3 : (t : ℕ) → item-lts.Need-add-requires-3 (item-claims t) (item-at t) item.Post
 item-add-requires-3 t c κs =
     let at-items = c .before .before .before in let at-store = at-items .before .before .before .before in
-    let at-if2 = at-store .before .before in let at-if1 = at-if2 .before in
-    let start = at-if1 .before .before .before .before in
+    let at-if2 = at-store .before .before in let start = item-start t (at-if2 .before) in
     let f = item-fix t at-if2 in
     fix-end (start .args .s .now) f (rw (at-store .store .ensures) at (at-items .items .ensures)) (start .pre .1)
 
@@ -179,10 +161,9 @@ item-returns-3 : (t : ℕ) → item-lts.Need-returns-3 (item-claims t) (item-at 
 item-returns-3 t c =
     let at-add3 = c .before .before in let at-items = at-add3 .before .before .before .before in
     let at-store = at-items .before .before .before .before in let at-if2 = at-store .before .before in
-    let at-if1 = at-if2 .before in
     let f = item-fix t at-if2 in
-    fix-wrote (at-if1 .before .before .before .before .args .s .now) f (rw (at-store .store .ensures) at (at-items .items .ensures))
-    (omega arith) (at-add3 .add3 .ensures)
+    fix-wrote (item-start t (at-if2 .before) .args .s .now) f (rw (at-store .store .ensures) at (at-items .items .ensures)) (omega arith)
+    (at-add3 .add3 .ensures)
 
 items-row-requires : (t : ℕ) → items-lts.Need-row-requires (items-claims t) (items-at t) items.Post
 items-row-requires t c κs =
@@ -194,8 +175,7 @@ items-row-requires t c κs =
 items-returns : (t : ℕ) → items-lts.Need-returns (items-claims t) (items-at t) items.Post
 items-returns t c =
     let at-row = c .before .before in let at-shared-slice-known2 = at-row .before .before in
-    let start = at-shared-slice-known2 .before .before .before in
-    let a = start .args in
+    let start = at-shared-slice-known2 .before .before .before in let a = start .args in
     part-same (items-part _ _ _ (start .pre .1 .good) .1 (a .k)) (at-row .row .ensures)
 
 -- the places of `row` that proofs look back to
@@ -239,24 +219,24 @@ row-same-length t c =
 row-returns-2 : (t : ℕ) → row-lts.Need-returns-2 (row-claims t) (row-at t) row.Post
 row-returns-2 t c =
     let at-row = c .before .before in let at-if1 = row-at-if1₂ t (at-row .before) in
-    let start = at-if1 .before .before .before in
-    let a = start .args in
-    row-wrote (a .s .now) (a .depth) (a .n) (a .at) (a .k) (at-if1 .if1 .left) (start .pre .1) (row-at-item₂ t c .item .ensures)
-    (at-row .row .ensures)
+    let start = at-if1 .before .before .before in let a = start .args in
+    row-wrote (a .s .now) (a .depth) (a .n) (a .at) (a .k) (at-if1 .if1 .left) (start .pre .1) (row-at-item₂ t c .item .ensures) (at-row .row .ensures)
 
 pub +item+items+row-spec : {M : Type 1} → statement M
 +item+items+row-spec =
     close μ-item μ-items μ-row
     (λ t. item-lts.spec (item-claims t) (item-at t) item.Post (λ c. item-in _ _ _ (c .before .before .before .pre .1 .good))
-    (item-add-index t) (item-shared-slice-read-index t) (λ c κs. search needs) (item-add-t14 t) (item-add-requires t) (λ c. search needs)
-    (item-returns t) (λ c. omega (arith, call-in-one _ _ _ (item-start₃ t c .pre .1 .good) (c .if2 .taken) .0))
-    (item-shared-slice-read-index-2 t) (λ c κs. search needs) (item-add-index-3 t) (item-shared-slice-read-index-3 t) (λ c κs. search needs)
-    (item-add-t20 t) (λ c. search needs) (λ c. search needs) (λ c. search needs) (item-add-requires-2 t) (λ c. search needs)
-    (item-returns-2 t) (λ c κs. item-fix-room t (c .before))
+    (λ c. omega (arith, call-one _ _ _ (c .before .before .before .before .pre .1 .good) (c .if1 .taken) .0))
+    (λ c. omega (arith, call-one _ _ _ (item-start₂ t (c .before) .pre .1 .good) (c .before .if1 .taken) .0)) (λ c κs. search needs)
+    (λ c. omega (arith, call-one _ _ _ (item-start₄ t c .pre .1 .good) (c .before .before .before .if1 .taken) .0)) (item-add-requires t)
+    (λ c. search needs) (item-returns t) (λ c. omega (arith, call-in-one _ _ _ (item-start₃ t c .pre .1 .good) (c .if2 .taken) .0))
+    (λ c. omega (arith, call-in-one _ _ _ (item-start₃ t (c .before) .pre .1 .good) (c .before .if2 .taken) .0)) (λ c κs. search needs)
+    (item-add-index-3 t) (item-shared-slice-read-index-3 t) (λ c κs. search needs) (item-add-t20 t) (λ c. search needs) (λ c. search needs)
+    (λ c. search needs) (item-add-requires-2 t) (λ c. search needs) (item-returns-2 t) (λ c κs. item-fix-room t (c .before))
     (λ c. omega (arith, item-in _ _ _ (item-start t (item-at-else2 t c .before) .pre .1 .good)))
-    (λ c. item-fix t (c .before .before .before .before) .deep) (λ c. omega (arith, item-fix-room t (item-at-else2₂ t c)))
-    (item-items-requires t) (λ c. omega (arith, item-fix-room t (item-at-else2₃ t c)))
-    (λ c. omega (arith, item-fix-room t (item-at-else2₃ t c))) (item-add-requires-3 t) (item-same-length-3 t) (item-returns-3 t))
+    (λ c. item-fix t (c .before .before .before .before) .deep) (λ c. omega (arith, item-fix-room t (item-at-else2₂ t c))) (item-items-requires t)
+    (λ c. omega (arith, item-fix-room t (item-at-else2₃ t c))) (λ c. omega (arith, item-fix-room t (item-at-else2₃ t c))) (item-add-requires-3 t)
+    (item-same-length-3 t) (item-returns-3 t))
     (λ t. items-lts.spec (items-claims t) (items-at t) items.Post (λ c. omega (arith, items-part _ _ _ (c .before .before .pre .1 .good) .0))
     (λ c. omega (arith, items-part _ _ _ (c .before .before .before .pre .1 .good) .0)) (items-row-requires t)
     (λ c. placed-kept (c .before .before .row .ensures)) (items-returns t))

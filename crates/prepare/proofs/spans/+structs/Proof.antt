@@ -69,9 +69,6 @@ structs-of-struct-requires t c κs = (
   ),
 )
 
-structs-add-structs : (t : ℕ) → structs-lts.Need-add-structs (structs-claims t) (structs-at t) structs.Post
-structs-add-structs t c = omega (arith, start₂ t c .pre .1 .1 .1, at-of-struct t (c .before .before) .before .before .before .if1 .left)
-
 structs-structs-requires : (t : ℕ) → structs-lts.Need-structs-requires (structs-claims t) (structs-at t) structs.Post
 structs-structs-requires t c κs =
     let f = structs-more _ _ _ _ (at-of-struct t (c .before .before) .before .before .before .if1 .left) (start₂ t c .pre .1 .0 .good) in (
@@ -85,26 +82,21 @@ structs-structs-requires t c κs =
       ),
     )
 
-structs-same-length : (t : ℕ) → structs-lts.Need-same-length (structs-claims t) (structs-at t) structs.Post
-structs-same-length t c = placed-kept (at-structs t c .structs .ensures .0) ∙ placed-kept (at-of-struct₂ t c .of-struct .ensures .0)
-
-structs-same-length-2 : (t : ℕ) → structs-lts.Need-same-length-2 (structs-claims t) (structs-at t) structs.Post
-structs-same-length-2 t c = at-structs t c .structs .kept .1 .1 .1 .1 .1 .1 .0 ∙ at-of-struct₂ t c .of-struct .kept .1 .1 .1 .1 .1 .0
-
 structs-returns-2 : (t : ℕ) → structs-lts.Need-returns-2 (structs-claims t) (structs-at t) structs.Post
 structs-returns-2 t c =
     let at-if1 = at-of-struct₂ t c .before .before .before in let start′ = start t (at-if1 .before) in
     let a = start′ .args in
     let f = structs-more _ _ _ _ (at-if1 .if1 .left) (start′ .pre .1 .0 .good) in (
       parts-same (at-of-struct₂ t c .of-struct .ensures .0) (at-structs t c .structs .ensures .0) f,
-      structs-noted (a .ar .now) (a .s .now) (a .n) (a .at) (a .structure) (a .k) (at-if1 .if1 .left) (start′ .pre .1 .0 .good)
-          (a .spans .now) _ _ (at-of-struct₂ t c .of-struct .ensures .0) (at-of-struct₂ t c .of-struct .ensures .1)
-          (at-structs t c .structs .ensures .1),
+      structs-noted (a .ar .now) (a .s .now) (a .n) (a .at) (a .structure) (a .k) (at-if1 .if1 .left) (start′ .pre .1 .0 .good) (a .spans .now) _ _
+          (at-of-struct₂ t c .of-struct .ensures .0) (at-of-struct₂ t c .of-struct .ensures .1) (at-structs t c .structs .ensures .1),
     )
 
 pub +structs-spec : {M : Type 1} → statement M
 +structs-spec =
     close μ-structs
     λ t. structs-lts.spec (structs-claims t) (structs-at t) structs.Post (structs-returns t) (structs-of-struct-requires t)
-    (λ c. omega (arith, at-of-struct t c .before .before .before .if1 .left)) (structs-add-structs t) (structs-structs-requires t)
-    (structs-same-length t) (structs-same-length-2 t) (structs-returns-2 t)
+    (λ c. omega (arith, at-of-struct t c .before .before .before .if1 .left))
+    (λ c. omega (arith, start₂ t c .pre .1 .1 .1, at-of-struct t (c .before .before) .before .before .before .if1 .left))
+    (structs-structs-requires t) (λ c. placed-kept (at-structs t c .structs .ensures .0) ∙ placed-kept (at-of-struct₂ t c .of-struct .ensures .0))
+    (λ c. at-structs t c .structs .kept .1 .1 .1 .1 .1 .1 .0 ∙ at-of-struct₂ t c .of-struct .kept .1 .1 .1 .1 .1 .0) (structs-returns-2 t)

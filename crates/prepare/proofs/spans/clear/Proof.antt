@@ -29,8 +29,8 @@ loop-again c =
       omega arith,
       omega arith,
       at-pair .pair .kept .0 ∙ h .2,
-      rw (at-pair .pair .ensures) (sym (cleared-one (in-loop .before .loop .left) (in-loop .before .loop .i) (in-loop .before .loop .spans)
-          (in-loop .loop-test .taken)) ∙ h .3),
+      rw (at-pair .pair .ensures)
+          (sym (cleared-one (in-loop .before .loop .left) (in-loop .before .loop .i) (in-loop .before .loop .spans) (in-loop .loop-test .taken)) ∙ h .3),
     )
 
 returns : tie.Need-returns Inv-loop μ-loop
@@ -41,5 +41,5 @@ returns c =
 pub clear-spec : {M : Type 1} → statement M
 clear-spec =
     tie.close
-    (tie.spec Inv-loop μ-loop (λ c. search needs) (λ c. search needs) loop-holds (λ c κs. search needs) (λ c. search needs)
-    (λ c. search needs) (λ c. search needs) loop-again (λ c. search needs) returns)
+    (tie.spec Inv-loop μ-loop (λ c. search needs) (λ c. search needs) loop-holds (λ c κs. search needs) (λ c. search needs) (λ c. search needs)
+    (λ c. search needs) loop-again (λ c. search needs) returns)

@@ -26,8 +26,7 @@ returns : tie.Need-returns
 returns c =
     let at-steps = c .before .before .before .before in
     let at-slice-known3 = at-steps .before .before .before .before in
-    let at-clear = at-slice-known3 .before .before in
-    let a = start₂ at-slice-known3 .args in (
+    let at-clear = at-slice-known3 .before .before in let a = start₂ at-slice-known3 .args in (
       part-same (steps-part _ _ _ (start₂ at-slice-known3 .pre .0 .good) .1) (at-steps .steps .ensures .0),
       struct-noted (a .ar .now) (a .s .now) (a .at) (a .structure) (a .k) (start₂ at-slice-known3 .pre .0 .good) (a .spans .now) _ _
           (at-clear .clear .ensures) (at-steps .steps .ensures .1),

@@ -9,8 +9,7 @@ returns : tie.Need-returns
 returns c =
     let at-structs = c .before .before .before .before in
     let at-slice-known = at-structs .before .before .before .before in
-    let start = at-slice-known .before .before .before in
-    let a = start .args in
+    let start = at-slice-known .before .before .before in let a = start .args in
     let w = at-structs .structs .ensures .0 in (
       w,
       (

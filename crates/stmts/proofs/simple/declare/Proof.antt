@@ -7,13 +7,6 @@ use borrow.Author.Needs.{needs}
 use Rattle.stmts.proofs.simple.declare.Statement.{statement}
 use Rattle.stmts.proofs.simple.declare.Tie as tie
 
--- the places that proofs look back to
-abbrev start : tie.After-type-byte → tie.Start
-start c = c .before .before .before .before
-
-abbrev start₂ : tie.After-known-told → tie.Start
-start₂ c = start (c .before .before .before)
-
 returns : tie.Need-returns
 returns c =
     let at-type-byte = c .before .before .before in
@@ -24,8 +17,9 @@ returns c =
 
 local-requires : tie.Need-local-requires
 local-requires c κs =
+    let at-type-byte = c .before .before .before in let start = at-type-byte .before .before .before .before in
     let span = rw (c .before .r .given .1) at (c .before .before .before .type-byte .ensures .1) in
-    (start₂ c .pre, omega (arith, start₂ c .pre))
+    (start .pre, omega (arith, start .pre))
 
 returns-2 : tie.Need-returns-2
 returns-2 c =

@@ -10,13 +10,6 @@ use borrow.Author.Needs.{needs}
 use Rattle.stmts.proofs.simple.local.Statement.{statement}
 use Rattle.stmts.proofs.simple.local.Tie as tie
 
--- the places that proofs look back to
-abbrev start : tie.After-ranged → tie.Start
-start c = c .before .before .before .before
-
-abbrev start₂ : tie.After-expr → tie.Start
-start₂ c = start (c .before .before .before .before)
-
 returns : tie.Need-returns
 returns c =
     let at-ranged = c .before .before .before in
@@ -27,10 +20,11 @@ returns c =
 
 declared-requires : tie.Need-declared-requires
 declared-requires c κs =
-    let a = start₂ c .args in
-    let small : length (a .s .now) < 2 ^ 63 = omega (arith, start₂ c .good .0) in
+    let at-ranged = c .before .before .before .before in let start = at-ranged .before .before .before .before in
+    let a = start .args in
+    let small : length (a .s .now) < 2 ^ 63 = omega (arith, start .good .0) in
     let span = rw (c .before .before .r .given .1) at (c .before .before .before .before .ranged .ensures .1) in
-    (omega arith, omega (arith, start₂ c .pre .1), span-room (a .s .now) _ _ (c .expr .result) small (c .expr .ensures .1))
+    (omega arith, omega (arith, start .pre .1), span-room (a .s .now) _ _ (c .expr .result) small (c .expr .ensures .1))
 
 returns-2 : tie.Need-returns-2
 returns-2 c =

@@ -10,13 +10,6 @@ use borrow.Author.Needs.{needs}
 use Rattle.stmts.proofs.simple.update.Statement.{statement}
 use Rattle.stmts.proofs.simple.update.Tie as tie
 
--- the places that proofs look back to
-abbrev start : tie.After-path → tie.Start
-start c = c .before .before .before .before
-
-abbrev start₂ : tie.After-expr → tie.Start
-start₂ c = start (c .before .before .before .before)
-
 returns : tie.Need-returns
 returns c =
     let at-path = c .before .before .before in let a = at-path .before .before .before .before .args in
@@ -25,8 +18,9 @@ returns c =
 
 updated-requires : tie.Need-updated-requires
 updated-requires c κs =
-    let a = start₂ c .args in
-    let small : length (a .s .now) < 2 ^ 63 = omega (arith, start₂ c .good .0) in
+    let at-path = c .before .before .before .before in let start = at-path .before .before .before .before in
+    let a = start .args in
+    let small : length (a .s .now) < 2 ^ 63 = omega (arith, start .good .0) in
     span-room (a .s .now) _ _ (c .expr .result) small (c .expr .ensures .1)
 
 returns-2 : tie.Need-returns-2

@@ -83,13 +83,6 @@ stmts-claims t = (nothing.Asked, nothing.Learnt, stmt-below t, stmt.Post, follow
 abbrev when-claims : ℕ → when-lts.Claims
 when-claims t = (expr.Asked, expr.Learnt, expr-refusal.Asked, expr-refusal.Learnt, body-below t, body.Post, branched.Asked, branched.Learnt)
 
--- the places of `body` that proofs look back to
-abbrev body-start : (t : ℕ) → body-lts.After-ranged (body-claims t) (body-at t) body.Post → body-lts.Start (body-claims t) (body-at t) body.Post
-body-start t c = c .before .before .before .before
-
-abbrev body-start₂ : (t : ℕ) → body-lts.After-known-told (body-claims t) (body-at t) body.Post → body-lts.Start (body-claims t) (body-at t) body.Post
-body-start₂ t c = body-start t (c .before .before .before)
-
 body-returns : (t : ℕ) → body-lts.Need-returns (body-claims t) (body-at t) body.Post
 body-returns t c =
     let at-ranged = c .before .before .before in
@@ -100,8 +93,9 @@ body-returns t c =
 
 body-stmts-requires : (t : ℕ) → body-lts.Need-stmts-requires (body-claims t) (body-at t) body.Post
 body-stmts-requires t c κs =
+    let at-ranged = c .before .before .before in let start = at-ranged .before .before .before .before in
     let span = rw (c .before .r .given .1) at (c .before .before .before .ranged .ensures .1) in
-    (omega (arith, body-start₂ t c .pre), (body-start₂ t c .pre .1, omega arith))
+    (omega (arith, start .pre), (start .pre .1, omega arith))
 
 body-returns-2 : (t : ℕ) → body-lts.Need-returns-2 (body-claims t) (body-at t) body.Post
 body-returns-2 t c =
@@ -141,6 +135,11 @@ stmt-returns-3 t c =
       tt,
     )
 
+stmt-when-requires : (t : ℕ) → stmt-lts.Need-when-requires (stmt-claims t) (stmt-at t) stmt.Post
+stmt-when-requires t c κs =
+    let start = stmt-start₂ t (c .before .before) in
+    (omega (arith, start .pre), start .pre .1)
+
 stmt-returns-4 : (t : ℕ) → stmt-lts.Need-returns-4 (stmt-claims t) (stmt-at t) stmt.Post
 stmt-returns-4 t c =
     let at-if2 = c .before .before in let at-if1 = at-if2 .before .before in
@@ -166,16 +165,6 @@ abbrev stmts-start₂ :
     → stmts-lts.Start (stmts-claims t) (stmts-at t) stmts.Post stmts-Inv-loop stmts-μ-loop
 stmts-start₂ t c = stmts-start t (c .before)
 
-abbrev stmts-at-loop :
-    (t : ℕ) → stmts-lts.After-stmt (stmts-claims t) (stmts-at t) stmts.Post stmts-Inv-loop stmts-μ-loop
-    → stmts-lts.At-loop (stmts-claims t) (stmts-at t) stmts.Post stmts-Inv-loop stmts-μ-loop
-stmts-at-loop t c = c .before .before .before
-
-abbrev stmts-at-loop₂ :
-    (t : ℕ) → stmts-lts.After-known-told (stmts-claims t) (stmts-at t) stmts.Post stmts-Inv-loop stmts-μ-loop
-    → stmts-lts.At-loop (stmts-claims t) (stmts-at t) stmts.Post stmts-Inv-loop stmts-μ-loop
-stmts-at-loop₂ t c = stmts-at-loop t (c .before .before .before)
-
 stmts-loop-holds : (t : ℕ) → stmts-lts.Need-loop-holds (stmts-claims t) (stmts-at t) stmts.Post stmts-Inv-loop stmts-μ-loop
 stmts-loop-holds t c =
     let a = c .before .before .before .before .args in
@@ -183,7 +172,8 @@ stmts-loop-holds t c =
 
 stmts-stmt-requires : (t : ℕ) → stmts-lts.Need-stmt-requires (stmts-claims t) (stmts-at t) stmts.Post stmts-Inv-loop stmts-μ-loop
 stmts-stmt-requires t c κs =
-    (omega (arith, stmts-start₂ t (c .before .before) .pre, c .before .before .loop .inv .0 .within), stmts-start₂ t (c .before .before) .pre .1 .0)
+    let at-loop = c .before .before in
+    (omega (arith, stmts-start₂ t at-loop .pre, at-loop .loop .inv .0 .within), stmts-start₂ t at-loop .pre .1 .0)
 
 stmts-returns : (t : ℕ) → stmts-lts.Need-returns (stmts-claims t) (stmts-at t) stmts.Post stmts-Inv-loop stmts-μ-loop
 stmts-returns t c =
@@ -198,9 +188,10 @@ stmts-returns t c =
 
 stmts-followed-requires : (t : ℕ) → stmts-lts.Need-followed-requires (stmts-claims t) (stmts-at t) stmts.Post stmts-Inv-loop stmts-μ-loop
 stmts-followed-requires t c κs =
-    let a = stmts-start₂ t (stmts-at-loop₂ t c) .args in
-    let small : length (a .s .now) < 2 ^ 63 = omega (arith, stmts-start₂ t (stmts-at-loop₂ t c) .good .0) in
-    omega (arith, stmts-at-loop₂ t c .loop .inv .0 .within, rw (c .before .r .given .1) at (c .before .before .before .stmt .ensures .1))
+    let at-stmt = c .before .before .before in let at-loop = at-stmt .before .before .before in
+    let a = stmts-start₂ t at-loop .args in
+    let small : length (a .s .now) < 2 ^ 63 = omega (arith, stmts-start₂ t at-loop .good .0) in
+    omega (arith, at-loop .loop .inv .0 .within, rw (c .before .r .given .1) at (c .before .before .before .stmt .ensures .1))
 
 stmts-loop-again : (t : ℕ) → stmts-lts.Need-loop-again (stmts-claims t) (stmts-at t) stmts.Post stmts-Inv-loop stmts-μ-loop
 stmts-loop-again t c =
@@ -218,11 +209,10 @@ stmts-loop-again t c =
 
 stmts-returns-2 : (t : ℕ) → stmts-lts.Need-returns-2 (stmts-claims t) (stmts-at t) stmts.Post stmts-Inv-loop stmts-μ-loop
 stmts-returns-2 t c =
-    let a = stmts-start₂ t (c .before) .args in let s = a .s .now in let loop = c .before .loop in
-    let read = read-stmt (a .ar .now) s (a .depth) in
+    let at-nothing = c .before .before in let a = stmts-start t at-nothing .args in let s = a .s .now in
+    let loop = c .before .loop in let read = read-stmt (a .ar .now) s (a .depth) in
     let none : loop .left ≡ 0 = omega arith in
-    let begins = row-begins (a .ar .now) (a .types .now) s (a .own) read (a .c) (c .before .before .nothing .result) (a .n) (a .at)
-    (c .before .before .nothing .ensures) in (
+    let begins = row-begins (a .ar .now) (a .types .now) s (a .own) read (a .c) (at-nothing .nothing .result) (a .n) (a .at) (at-nothing .nothing .ensures) in (
       sym (row-ends (a .ar .now) (a .types .now) s (a .own) read (loop .done) (loop .left) (loop .next) none (loop .inv .0 .low)) ∙ sym (loop .inv .1)
           ∙ begins,
       loop .inv .0 .within,
@@ -250,8 +240,8 @@ when-body-requires t c κs =
 
 when-branched-requires : (t : ℕ) → when-lts.Need-branched-requires (when-claims t) (when-at t) when.Post
 when-branched-requires t c κs =
-    let a = when-start₂ t (c .before) .args in
-    let small : length (a .s .now) < 2 ^ 63 = omega (arith, when-start₂ t (c .before) .good .0) in
+    let start = when-start₂ t (c .before) in let a = start .args in
+    let small : length (a .s .now) < 2 ^ 63 = omega (arith, start .good .0) in
     let ahead = rw (c .before .before .r .given .1) at (c .before .before .before .before .expr .ensures .1) in
     (omega arith, done-room (a .s .now) _ _ (c .body .result) small (c .body .ensures .1))
 
@@ -272,8 +262,8 @@ pub +body+stmt+stmts+when-spec : {M : Type 1} → statement M
     (λ t. body-lts.spec (body-claims t) (body-at t) body.Post (λ c. search needs) (λ c κs. search needs) (λ c. search needs) (λ c. search needs)
     (λ c κs. search needs) (body-returns t) (body-stmts-requires t) (body-returns-2 t))
     (λ t. stmt-lts.spec (stmt-claims t) (stmt-at t) stmt.Post (stmt-returns t) (λ c. search needs) (λ c. search needs)
-    (λ c κs. (stmt-start₂ t (c .before) .pre .1, c .if2 .taken)) (stmt-returns-2 t) (stmt-returns-3 t) (λ c. search needs)
-    (λ c κs. (omega (arith, stmt-start₂ t (c .before .before) .pre), stmt-start₂ t (c .before .before) .pre .1)) (stmt-returns-4 t))
+    (λ c κs. (stmt-start₂ t (c .before) .pre .1, c .if2 .taken)) (stmt-returns-2 t) (stmt-returns-3 t) (λ c. search needs) (stmt-when-requires t)
+    (stmt-returns-4 t))
     (λ t. stmts-lts.spec (stmts-claims t) (stmts-at t) stmts.Post stmts-Inv-loop stmts-μ-loop (λ c κs. search needs) (stmts-loop-holds t)
     (stmts-stmt-requires t) (λ c. search needs) (λ c. search needs) (stmts-returns t) (stmts-followed-requires t) (λ c. search needs)
     (λ c. search needs) (stmts-loop-again t) (stmts-returns-2 t))
