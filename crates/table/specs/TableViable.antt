@@ -12,7 +12,7 @@ use Rattle.types.specs.Values.{Val, value-of}
 use Rattle.types.specs.ValueLaws.{value-in-range}
 use Rattle.program.specs.Encoding.{enc-word, flat}
 use Rattle.program.specs.Counts.{All}
-use Rattle.program.specs.Reader.{Result.ok, Result.bad, wrong-byte}
+use Rattle.program.specs.Reader.{wrong-byte}
 use Rattle.program.specs.StandsLaws.{stands-self}
 use Rattle.table.specs.Table.{Record, count-bytes, enc-value, enc-record, enc-table, Each, Held, HeldRecord, HeldTable}
 use Rattle.table.specs.TableFaults.{Field, field-bytes, byte-values, Allowed, Front, Front.at-count, Front.at-struct, Front.at-value}
@@ -87,7 +87,8 @@ module _ (pss : List (List Ty)) where
       let i = n - suc (length rs) in
       let qs = replicate i blank in
       let p = completed n rs (r ∷ qs) c (omega (arith, length-replicate i blank)) a (b, blanks-held s i) in
-      (flat enc-value (zeros (t ∷ us)) ++ flat enc-record qs, rs ++ r ∷ qs, p .0, rw (o, e) (regroup k vs (zeros (t ∷ us)) qs (enc-word count-bytes n ++ flat enc-record rs) ∙ p .1))
+      let q = regroup k vs (zeros (t ∷ us)) qs (enc-word count-bytes n ++ flat enc-record rs) in
+      (flat enc-value (zeros (t ∷ us)) ++ flat enc-record qs, rs ++ r ∷ qs, p .0, rw (o, e) (q ∙ p .1))
     where
       regroup : (k : ℕ) (vs ws : List Val) (qs : List Record) (x : List ℕ)
           → x ++ k ∷ flat enc-value vs ++ (flat enc-value ws ++ flat enc-record qs)
