@@ -1,17 +1,16 @@
 -- The word of a command determines it, for every command whose operands lie in their ranges, and so for every command of an accepted
 -- program.
-use Prim.Native.Nat.{ℕ, suc, _+_, _*_, _/_, _%_, _<_, _≤_}
+use Prim.Native.Nat.{ℕ, _+_, _*_, _/_, _%_, _<_}
 use native.Mathlib.Omega.{arith}
-use mathlib.Core.Path.{_≡_, refl, sym, ap, _∙_}
-use mathlib.Core.Option.{Option, none, some}
-use mathlib.Core.List.{List, [], _∷_, _++_, map}
-use lib.ListN.{length, length-append}
-use Rattle.types.specs.Limits.{max-structs, nat-end, variables, step-commands}
-use Rattle.types.specs.Types.{Ty, Ty.int, Ty.nat, Ty.bool, Ty.ref, code, IsType, type-of}
-use Rattle.types.specs.Values.{word, value-of}
-use Rattle.types.specs.ValueLaws.{value-of-word, value-in-range}
+use mathlib.Core.Path.{_≡_, refl, sym, _∙_}
+use mathlib.Core.Option.{some}
+use mathlib.Core.List.{List, [], _∷_, map}
+use Rattle.types.specs.Limits.{max-structs, nat-end}
+use Rattle.types.specs.Types.{Ty, Ty.int, Ty.nat, Ty.bool, Ty.ref, code, IsType}
+use Rattle.types.specs.Values.{word}
+use Rattle.types.specs.ValueLaws.{value-of-word}
 use Rattle.program.specs.Counts.{All}
-use Rattle.program.specs.Reader.{lookup, form}
+use Rattle.program.specs.Reader.{lookup}
 use Rattle.program.specs.CodeLaws.{type-code}
 use Rattle.program.specs.ExprLaws.{form-code}
 use Rattle.commands.specs.Commands.{Com.push, Com.push-this, Com.rd, Com.wr, Com.cons, Com.not, Com.oper, Flat, Flat.plain, Flat.if-n}

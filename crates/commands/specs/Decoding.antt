@@ -27,15 +27,15 @@ operator form-none = none
 unfoldable pub command-of : ℕ → ℕ → ℕ → Option Flat
 command-of k t v =
     lookup (
-      row 8 (operator (form v))
-      ∷ row 7 (some (plain not))
-      ∷ row 6 (some (if-n v))
-      ∷ row 5 (some (plain (cons v)))
-      ∷ row 4 (some (plain (wr v)))
-      ∷ row 3 (some (plain (rd v)))
-      ∷ row 2 (some (plain push-this))
-      ∷ row 1 (some (plain (push (type-of t) (value-of (type-of t) v))))
-      ∷ []
+    row 8 (operator (form v))
+    ∷ row 7 (some (plain not))
+    ∷ row 6 (some (if-n v))
+    ∷ row 5 (some (plain (cons v)))
+    ∷ row 4 (some (plain (wr v)))
+    ∷ row 3 (some (plain (rd v)))
+    ∷ row 2 (some (plain push-this))
+    ∷ row 1 (some (plain (push (type-of t) (value-of (type-of t) v))))
+    ∷ []
     ) none k
 
 unfoldable pub decode : ℕ → Option Flat

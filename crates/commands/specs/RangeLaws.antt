@@ -1,21 +1,21 @@
 -- The operands of an accepted program's commands lie in their ranges (01, 'Program stream' and number 6), so that the words of its
 -- steps determine its commands.
-use Prim.Native.Nat.{ℕ, suc, _+_, _<_, _≤_}
+use Prim.Native.Nat.{ℕ, _<_, _≤_}
 use native.Mathlib.Omega.{arith}
-use mathlib.Core.Path.{_≡_, refl, ap}
+use mathlib.Core.Path.{_≡_, ap}
 use mathlib.Core.Option.{some}
 use mathlib.Core.List.{List, [], _∷_, _++_, map}
 use lib.ListN.{length, length-append, length-map}
 use Rattle.types.specs.Limits.{max-structs, max-steps, first-local, variables, step-commands}
 use Rattle.types.specs.Types.{Ty, Ty.int, Ty.nat, Ty.bool, Ty.ref, IsType}
 use Rattle.types.specs.TypeBytes.{ValueOf, word-end}
-use Rattle.types.specs.Values.{default, value-of}
+use Rattle.types.specs.Values.{default}
 use Rattle.types.specs.ValueLaws.{value-in-range}
-use Rattle.program.specs.Tree.{Var, Var.par, Var.loc, Expr, Expr.inv, Expr.make, Expr.path, Expr.int-lit, Expr.nat-lit, Expr.bool-lit, Expr.null, Expr.self, Expr.op, Exprs, Exprs.none, Exprs.more, Stmt, Stmt.when, Stmt.declare, Stmt.update, Stmt.create, Stmts, Stmts.end, Stmts.next, Step, Program}
+use Rattle.program.specs.Tree.{Var, Var.loc, Expr, Expr.inv, Expr.make, Expr.path, Expr.int-lit, Expr.nat-lit, Expr.bool-lit, Expr.null, Expr.self, Expr.op, Exprs, Exprs.none, Exprs.more, Stmt, Stmt.when, Stmt.declare, Stmt.update, Stmt.create, Stmts, Stmts.end, Stmts.next, Step, Program}
 use Rattle.program.specs.Encoding.{var-code}
 use Rattle.program.specs.Counts.{All, IsVar, IsPath, CountsExpr, CountsExprs, CountsStmt, CountsStmts, CountsStep, Few, Counts}
 use Rattle.program.specs.CodeLaws.{var-code-of}
-use Rattle.commands.specs.Commands.{Com, Com.push-this, Com.wr, Coms, Coms.nil, Coms.act, Coms.if-then, then, one, reads, front, last, expr-coms, args-coms, update-coms, stmt-coms, body-coms, Flat, Flat.plain, Flat.if-n, flatten, commands}
+use Rattle.commands.specs.Commands.{Coms, Coms.nil, Coms.if-then, then, reads, front, last, expr-coms, args-coms, update-coms, stmt-coms, body-coms, flatten, commands}
 use Rattle.commands.specs.CommandLaws.{flatten-then}
 use Rattle.commands.specs.Bounds.{step-list, step-size, Within}
 use Rattle.commands.specs.Coding.{words}

@@ -9,11 +9,9 @@ use mathlib.Core.List.{List, [], _∷_, _++_, append-nil}
 use lib.ListN.{length, getD, drop, length-drop, drop-of-length-le}
 use lib.Seq.{drop-cons}
 use lib.Dec.{T}
-use Rattle.types.specs.Types.{Ty}
-use Rattle.types.specs.Values.{word, value-of}
 use Rattle.program.specs.Encoding.{enc-word, flat}
 use Rattle.program.specs.Counts.{All}
-use Rattle.program.specs.Reader.{Result, Result.ok, Result.bad, wrong-end, wrong-byte, then, guard, between, tested, ranged, read-word}
+use Rattle.program.specs.Reader.{Result.bad, wrong-end, wrong-byte, then, guard, between, tested, ranged, read-word}
 use Rattle.program.specs.PartLaws.{then-ok, byte-ok, byte-none}
 use Rattle.program.specs.JoinLaws.{between-iff}
 use Rattle.program.specs.WordLaws.{below-exact, word-exact}

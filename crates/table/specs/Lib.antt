@@ -11,5 +11,6 @@ pub mod ReferenceLaws
 pub mod TableLaws
 pub mod TableRefusing
 pub mod TableFaultLaws
+pub mod TableViable
 pub mod SizeLaws
 pub mod Rows

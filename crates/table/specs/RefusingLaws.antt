@@ -1,21 +1,17 @@
 -- Readers that are put together refuse what their parts refuse (01, 11 and 12 of 'Numbers from the input').
-use Prim.Native.Nat.{ℕ, zero, suc, _+_, _-_, _<_, _≤_}
+use Prim.Native.Nat.{ℕ, zero, suc, _+_, _-_}
 use native.Mathlib.Omega.{arith}
-use native.Mathlib.Decide.{decLt}
-use mathlib.Core.Path.{_≡_, refl, sym, ap, _∙_}
+use mathlib.Core.Path.{_≡_, refl, sym, _∙_}
 use mathlib.Core.Logic.{_↔_}
 use mathlib.Core.Bool.{Bool, true, false}
 use mathlib.Core.List.{List, [], _∷_, _++_, append-assoc, append-cancel-left}
-use lib.ListN.{length, getD, drop, drop-of-length-le}
-use lib.Seq.{drop-cons}
-use lib.Dec.{T}
+use lib.ListN.{length, drop}
 use Rattle.program.specs.Encoding.{flat}
-use Rattle.program.specs.Counts.{All}
-use Rattle.program.specs.Reader.{Result, Result.ok, Result.bad, wrong-end, wrong-byte, then, pair, made, many, guard, tested}
+use Rattle.program.specs.Reader.{Result, Result.ok, Result.bad, wrong-byte, then, pair, made, many, guard}
 use Rattle.program.specs.Exact.{Exact}
 use Rattle.program.specs.StandsLaws.{stands-drop, stands-of}
-use Rattle.program.specs.PartLaws.{told-is, then-ok, byte-ok, byte-none}
-use Rattle.table.specs.Refusing.{Blames, Blames.unblamed, Blames.blamed, Refusing, Joined, Joined.in-first, Joined.in-second, InRow, InRow.in-row}
+use Rattle.program.specs.PartLaws.{told-is, then-ok}
+use Rattle.table.specs.Refusing.{Faults, Blames, Blames.unblamed, Blames.blamed, Refusing, Joined, Joined.in-first, Joined.in-second, InRow, InRow.in-row}
 
 -- what is said of a refusal gets weaker
 blames-weak : {A : Type 0} {P Q : ℕ → Type 0} {r : Result A} → Blames P r → ((k : ℕ) → P k → Q k) → Blames Q r
@@ -29,9 +25,9 @@ blames-is {A = A} {P = P} {p = p} {k = k} h e = go (rw e at h)
     go : Blames {A = A} P (bad p k) → P k
     go (blamed q) = q
 
-module _ {A : Type 0} {r : List ℕ → ℕ → Result A} {P : ℕ → List ℕ → Type 0} (x : Refusing r P) where
+module _ {A : Type 0} {r : List ℕ → ℕ → Result A} {P : Faults} (x : Refusing r P) where
   -- the same in other words
-  pub refusing-iff : {Q : ℕ → List ℕ → Type 0} → ((k : ℕ) (t : List ℕ) → P k t ↔ Q k t) → Refusing r Q
+  pub refusing-iff : {Q : Faults} → ((k : ℕ) (t : List ℕ) → P k t ↔ Q k t) → Refusing r Q
   refusing-iff h = record {
     sound = λ s n. blames-weak (x .sound s n) λ k. h k (drop n s) .0;
     complete = λ s n k q. x .complete s n k (h k (drop n s) .1 q);
@@ -65,9 +61,9 @@ guard-refusing false a = record {
   complete = λ s n k p. (n - 1, rw (p .0));
 }
 
-module _ {A : Type 0} {C : A → Type 0} {E : A → List ℕ} {r : List ℕ → ℕ → Result A} {P : ℕ → List ℕ → Type 0} (x : Exact C E r) (y : Refusing r P) where
+module _ {A : Type 0} {C : A → Type 0} {E : A → List ℕ} {r : List ℕ → ℕ → Result A} {P : Faults} (x : Exact C E r) (y : Refusing r P) where
   -- one thing and another behind it
-  pub then-refusing : {B : Type 0} {q : A → List ℕ → ℕ → Result B} {R : A → ℕ → List ℕ → Type 0} → ((a : A) → C a → Refusing (q a) (R a))
+  pub then-refusing : {B : Type 0} {q : A → List ℕ → ℕ → Result B} {R : A → Faults} → ((a : A) → C a → Refusing (q a) (R a))
       → Refusing (λ s n. then (r s n) λ a. q a s) (Joined C E P R)
   unfolding then
   then-refusing {B = B} {q = q} {R = R} z = record {
@@ -91,7 +87,7 @@ module _ {A : Type 0} {C : A → Type 0} {E : A → List ℕ} {r : List ℕ → 
           let f = z a c .complete s m k (rw d at h) in
           (f .0, then-ok _ (x .complete s a n m c w) (f .1))
 
-  pub pair-refusing : {B : Type 0} {q : A → List ℕ → ℕ → Result B} {R : A → ℕ → List ℕ → Type 0} → ((a : A) → C a → Refusing (q a) (R a))
+  pub pair-refusing : {B : Type 0} {q : A → List ℕ → ℕ → Result B} {R : A → Faults} → ((a : A) → C a → Refusing (q a) (R a))
       → Refusing (λ s n. pair (r s n) λ a. q a s) (Joined C E P R)
   unfolding pair made
   pair-refusing z = then-refusing λ a c. made-refusing (z a c) λ b. (a, b)

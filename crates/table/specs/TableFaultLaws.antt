@@ -17,7 +17,7 @@ use Rattle.program.specs.StandsLaws.{stands-drop, stands-whole}
 use Rattle.program.specs.StreamLaws.{exact-at}
 use Rattle.table.specs.Table.{Record, enc-table, HeldTable, TableRight}
 use Rattle.table.specs.TableFaults.{field-bytes, TableEnds, TableEnds.ends-early, TableEnds.goes-on, TableOffends, TableOffends.not-allowed, TableOffends.no-byte, TableOffends.wrong-reference}
-use Rattle.table.specs.TableReader.{read-table, references, TableAnswer.table, TableAnswer.no-table, table-end, table-value, table-number, table-of-stream}
+use Rattle.table.specs.TableReader.{read-table, references, TableAnswer.no-table, table-end, table-value, table-number, table-of-stream}
 use Rattle.table.specs.FieldLaws.{NumberFault.cut, NumberFault.strange, NumberFault.unfit}
 use Rattle.table.specs.RefusingLaws.{blames-is}
 use Rattle.table.specs.TableExact.{table-exact}
@@ -39,7 +39,8 @@ module _ (pss : List (List Ty)) where
   offends-number : (s : List ℕ) → TableOffends pss s → table-of-stream pss s ≡ no-table table-value
   unfolding table-number
   offends-number s (not-allowed {u = u} {f = f} w ys h l n e) =
-      faulty s wrong-byte (at-fault f u (enc-word (field-bytes f) w ++ ys) h (unfit w ys l n refl) (e ∙ append-assoc u (enc-word (field-bytes f) w) ys))
+      let xs = enc-word (field-bytes f) w in
+      faulty s wrong-byte (at-fault f u (xs ++ ys) h (unfit w ys l n refl) (e ∙ append-assoc u xs ys))
   offends-number s (no-byte {u = u} {f = f} xs b ys h c l e) =
       faulty s wrong-byte (at-fault f u (xs ++ b ∷ ys) h (strange xs b ys c l refl) (e ∙ append-assoc u xs (b ∷ ys)))
   offends-number s (wrong-reference rs h w e) = rw e (table-wrong-reference pss rs h w)

@@ -57,5 +57,6 @@ module _ (pss : List (List Ty)) where
   pub data TableOffends (s : List ℕ) : Type 0 where
     not-allowed : {u : List ℕ} {f : Field} (w : ℕ) (ys : List ℕ) → Front u f → w < byte-values ^ field-bytes f → (Allowed f w → ⊥)
         → s ≡ u ++ enc-word (field-bytes f) w ++ ys → TableOffends s
-    no-byte : {u : List ℕ} {f : Field} (xs : List ℕ) (b : ℕ) (ys : List ℕ) → Front u f → Cut f xs → byte-values ≤ b → s ≡ u ++ xs ++ b ∷ ys → TableOffends s
+    no-byte : {u : List ℕ} {f : Field} (xs : List ℕ) (b : ℕ) (ys : List ℕ) → Front u f → Cut f xs → byte-values ≤ b
+        → s ≡ u ++ xs ++ b ∷ ys → TableOffends s
     wrong-reference : (rs : List Record) → HeldTable pss rs → (References pss rs → ⊥) → s ≡ enc-table rs → TableOffends s

@@ -1,29 +1,24 @@
 -- The readers of a table refuse what its fields are at fault with, the first of them that is (01, 'Table and turns'; 11 and 12 of
 -- 'Numbers from the input').
-use Prim.Native.Nat.{ℕ, suc, _+_, _-_, _^_, _<_, _≤_}
+use Prim.Native.Nat.{ℕ, _+_, _<_, _≤_}
 use native.Mathlib.Omega.{arith}
-use native.Mathlib.Decide.{decLt}
-use mathlib.Core.Path.{_≡_, refl, sym, ap, _∙_}
-use mathlib.Core.Logic.{_↔_, _⊎_, inl, inr}
-use mathlib.Core.Bool.{Bool, true, false}
-use mathlib.Core.List.{List, [], _∷_, _++_, append-assoc, append-nil}
-use lib.ListN.{length, getD, drop}
-use lib.Dec.{T, leb, leb→le, le→leb}
+use mathlib.Core.Path.{_≡_, refl, sym, _∙_}
+use mathlib.Core.List.{List, [], _∷_, _++_, append-assoc}
+use lib.ListN.{length, getD}
+use lib.Dec.{leb, leb→le, le→leb}
 use Rattle.types.specs.Limits.{max-instances}
 use Rattle.types.specs.Types.{Ty}
-use Rattle.types.specs.Values.{Val, word, value-of}
+use Rattle.types.specs.Values.{Val, value-of}
 use Rattle.program.specs.Encoding.{enc-word, flat}
-use Rattle.program.specs.Counts.{All}
-use Rattle.program.specs.Reader.{Result, Result.ok, Result.bad, wrong-end, wrong-byte}
 use Rattle.program.specs.WordLaws.{below-exact}
-use Rattle.table.specs.Table.{Record, value-bytes, count-bytes, enc-value, enc-record, enc-table, Each, Held, HeldRecord, HeldTable, References, TableRight}
-use Rattle.table.specs.TableFaults.{Field, Field.count, Field.struct-byte, Field.value, field-bytes, Allowed, Front, Front.at-count, Front.at-struct, Front.at-value, TableEnds, TableEnds.ends-early, TableEnds.goes-on, TableOffends, TableOffends.not-allowed, TableOffends.no-byte, TableOffends.wrong-reference}
-use Rattle.table.specs.TableReader.{allowed, read-value, read-values, read-record, read-count, read-table, TableAnswer, TableAnswer.table, TableAnswer.no-table, table-end, table-value, table-of-stream}
+use Rattle.table.specs.Table.{Record, value-bytes, count-bytes, enc-value, enc-record, Each, Held, HeldRecord}
+use Rattle.table.specs.TableFaults.{Field, Field.count, Field.struct-byte, Field.value, field-bytes, Allowed, Front, Front.at-count, Front.at-struct, Front.at-value}
+use Rattle.table.specs.TableReader.{allowed, read-value, read-values, read-record, read-count, read-table}
 use Rattle.table.specs.ValueLaws.{value-of-word, word-of-value}
 use Rattle.table.specs.Refusing.{Refusing, Joined, Joined.in-first, Joined.in-second, InRow, InRow.in-row}
 use Rattle.table.specs.RefusingLaws.{refusing-iff, made-refusing, ok-refusing, then-refusing, pair-refusing, row-refusing}
-use Rattle.table.specs.FieldLaws.{NumberFault, NumberFault.cut, NumberFault.strange, NumberFault.unfit, number-refusing, byte-refusing}
-use Rattle.table.specs.TableExact.{value-exact, values-exact, record-exact, count-exact}
+use Rattle.table.specs.FieldLaws.{NumberFault, number-refusing, byte-refusing}
+use Rattle.table.specs.TableExact.{value-exact, record-exact, count-exact}
 
 module _ (pss : List (List Ty)) where
   -- a field is cut, or not allowed
@@ -67,7 +62,8 @@ module _ (pss : List (List Ty)) where
       back k x (in-values (c ∷ bs) b us (v ∷ vs) u d g i f) =
           let e : t ≡ c = cc in
           let h : ts ≡ bs ++ b ∷ us = cc in
-          in-second v (flat enc-value vs ++ u) (rw e (g .0)) (rw i (append-assoc (enc-value v) (flat enc-value vs) u)) (in-values bs b us vs u h (g .1) refl f)
+          let q = append-assoc (enc-value v) (flat enc-value vs) u in
+          in-second v (flat enc-value vs ++ u) (rw e (g .0)) (rw i q) (in-values bs b us vs u h (g .1) refl f)
 
   -- a record: its struct byte, or a value behind it
   abbrev RecordFault : ℕ → List ℕ → Type 0
@@ -94,25 +90,35 @@ module _ (pss : List (List Ty)) where
   TableFault =
       Joined (λ n. n + length pss ≤ max-instances) (enc-word count-bytes) (Fault count) (λ n. InRow (HeldRecord pss) enc-record RecordFault n)
 
+  -- N and records in front of what follows, regrouped
+  in-front : (n : ℕ) (rs : List Record) (t : List ℕ)
+      → enc-word count-bytes n ++ flat enc-record rs ++ t ≡ enc-word count-bytes n ++ (flat enc-record rs ++ t)
+  in-front n rs t = append-assoc (enc-word count-bytes n) (flat enc-record rs) t
+
+  -- and so with a struct byte and values
+  in-record : (n : ℕ) (rs : List Record) (k : ℕ) (vs : List Val) (t : List ℕ)
+      → (enc-word count-bytes n ++ flat enc-record rs) ++ k ∷ flat enc-value vs ++ t
+      ≡ enc-word count-bytes n ++ (flat enc-record rs ++ k ∷ (flat enc-value vs ++ t))
+  in-record n rs k vs t =
+      append-assoc (enc-word count-bytes n ++ flat enc-record rs) (k ∷ flat enc-value vs) t
+      ∙ in-front n rs (k ∷ (flat enc-value vs ++ t))
+
   behind-front : (k : ℕ) (s : List ℕ) → TableFault k s → FieldAtFault k s
   behind-front k s (in-first p) = at-fault count [] s at-count p refl
   behind-front k s (in-second n u c e (in-row rs v h a g (in-first p))) =
-      at-fault struct-byte (enc-word count-bytes n ++ flat enc-record rs) v (at-struct n rs c a h refl) p
-      (e ∙ rw (g, append-assoc (enc-word count-bytes n) (flat enc-record rs) v))
+      at-fault struct-byte (enc-word count-bytes n ++ flat enc-record rs) v (at-struct n rs c a h refl) p (e ∙ rw (g, in-front n rs v))
   behind-front k s (in-second n u c e (in-row rs v h a g (in-second j w d i (in-values ts t us vs x l m o p)))) =
       let y = enc-word count-bytes n ++ flat enc-record rs in
       at-fault (value t) (y ++ j ∷ flat enc-value vs) x (at-value j ts us vs (at-struct n rs c a h refl) d l m refl) p
-      (e ∙ rw (g, i, o, append-assoc y (j ∷ flat enc-value vs) x, append-assoc (enc-word count-bytes n) (flat enc-record rs) (j ∷ (flat enc-value vs ++ x))))
+      (e ∙ rw (g, i, o, in-record n rs j vs x))
 
   of-front : (k : ℕ) (s : List ℕ) → FieldAtFault k s → TableFault k s
   of-front k s (at-fault f u t at-count p e) = in-first (rw e p)
   of-front k s (at-fault f u t (at-struct n rs c a h i) p e) =
-      in-second n (flat enc-record rs ++ t) c
-      (e ∙ rw (i, append-assoc (enc-word count-bytes n) (flat enc-record rs) t))
-      (in-row rs t h a refl (in-first p))
+      in-second n (flat enc-record rs ++ t) c (e ∙ rw i (in-front n rs t)) (in-row rs t h a refl (in-first p))
   of-front k s (at-fault f u t (at-value j ts us vs (at-struct n rs c a h i) d l m o) p e) =
       in-second n (flat enc-record rs ++ j ∷ (flat enc-value vs ++ t)) c
-      (e ∙ rw (o, i, append-assoc (enc-word count-bytes n ++ flat enc-record rs) (j ∷ flat enc-value vs) t, append-assoc (enc-word count-bytes n) (flat enc-record rs) (j ∷ (flat enc-value vs ++ t))))
+      (e ∙ rw (o, i) (in-record n rs j vs t))
       (in-row rs (j ∷ (flat enc-value vs ++ t)) h a refl (in-second j (flat enc-value vs ++ t) d refl (in-values ts _ us vs t l m refl p)))
 
   pub table-refusing : Refusing (λ s. read-table pss s) FieldAtFault

@@ -86,7 +86,7 @@ toward-zero-unique a b q r h k = go (h .sign) (k .sign)
     size = omega (
       arith,
       at-most-the-greatest (natAbs q) (natAbs r) (natAbs a) (natAbs b) (h .at-most) (k .greatest),
-      at-most-the-greatest (natAbs r) (natAbs q) (natAbs a) (natAbs b) (k .at-most) (h .greatest)
+      at-most-the-greatest (natAbs r) (natAbs q) (natAbs a) (natAbs b) (k .at-most) (h .greatest),
     )
 
     go : (q ≡ pos 0) ⊎ (nonNeg q ≡ nonNeg (a *ℤ b)) → (r ≡ pos 0) ⊎ (nonNeg r ≡ nonNeg (a *ℤ b)) → q ≡ r
