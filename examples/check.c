@@ -20,6 +20,10 @@ int main(void) {
     printf("%u structs, %u steps, %u commands, depth %u\n", v.structs, v.steps, v.commands, v.depth);
     print(list, v.commands);
     audala_part p = audala_step(image, length, list, AUDALA_LIST_PLACES, 0, 0);
+    if (p.number != 0) {
+        printf("refused %u\n", p.number);
+        return 0;
+    }
     printf("struct 0, step 0: from place %u, %u commands\n", p.start, p.length);
     print(list + p.start, p.length);
     return 0;

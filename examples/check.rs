@@ -15,6 +15,7 @@ struct Verdict {
 
 #[repr(C)]
 struct Part {
+    number: u32,
     start: u32,
     length: u32,
 }
@@ -37,7 +38,7 @@ fn check(image: &[u8], list: &mut [u64]) -> Verdict {
     unsafe { audala_check(image.as_ptr(), image.len(), list.as_mut_ptr(), list.len()) }
 }
 
-/// Where the commands of a step stand in the list.
+/// Where the commands of a step stand in the list, or the number of a refusal.
 fn step(image: &[u8], list: &[u64], structure: u8, name: u8) -> Part {
     // SAFETY: the function reads the image within the length that it is handed, for any contents.
     unsafe {
@@ -70,6 +71,10 @@ fn main() -> std::io::Result<()> {
     println!("{} structs, {} steps, {} commands, depth {}", v.structs, v.steps, v.commands, v.depth);
     print(&list[..v.commands as usize]);
     let p = step(&image, &list, 0, 0);
+    if p.number != 0 {
+        println!("refused {}", p.number);
+        return Ok(());
+    }
     println!("struct 0, step 0: from place {}, {} commands", p.start, p.length);
     print(&list[p.start as usize..][..p.length as usize]);
     Ok(())

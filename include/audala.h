@@ -35,6 +35,7 @@ audala_verdict audala_check(const uint8_t *image, size_t length, uint64_t *list,
 
 /* Where the commands of one step stand in the list. */
 typedef struct {
+    uint32_t number; /* 0: the image is accepted and the list has room; 1 to 8, 13: the number of the refusal, as a check has it */
     uint32_t start;  /* the place of the first, counted from 0 */
     uint32_t length; /* how many there are */
 } audala_part;
@@ -42,7 +43,7 @@ typedef struct {
 /* The part of the list for the step `name` of the struct `structure`, both as a program stream has them: a struct by its number,
  * counted from 0, and a step by its name's byte. The image, of `length` bytes, is checked anew, and the list is only measured:
  * where a check of this image was lent it, the part holds the step's commands. start + length is at most `places`. Both are 0
- * where the image is refused, the list has under AUDALA_LIST_PLACES places, or the step is not there. */
+ * where the number is not, and where the step is not there. */
 audala_part audala_step(const uint8_t *image, size_t length, const uint64_t *list, size_t places, uint8_t structure,
                         uint8_t name);
 

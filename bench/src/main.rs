@@ -1,6 +1,7 @@
-//! Times both engines on the same images, one after the other in one process, and holds their answers together. Checks: P, the
-//! program with the most commands, the longest that is accepted, and an image of 64 blocks that is refused at its last byte. Runs:
-//! 65,536 turns with 2 and with 256 instances. With a number as its argument it compares the answers to so many generated cases.
+//! Times both engines on the same images in one process, by groups of calls in which they take turns, and holds their answers
+//! together. Checks: P, the program with the most commands, the longest that is accepted, and an image of 64 blocks that is refused
+//! at its last byte. Runs: 65,536 turns with 2 to 256 instances. With a number as its argument it compares the answers to so many
+//! generated cases.
 mod agree;
 mod proved;
 
@@ -16,15 +17,16 @@ const LIST_PLACES: usize = 1024;
 
 const OUTPUT_BYTES: usize = 8704;
 
-/// The best time of one call in nanoseconds, over groups of calls.
-fn best(calls: u32, mut call: impl FnMut()) -> f64 {
-    (0..15)
-        .map(|_| {
-            let start = Instant::now();
-            (0..calls).for_each(|_| call());
-            start.elapsed().as_nanos() as f64 / f64::from(calls)
-        })
-        .fold(f64::INFINITY, f64::min)
+/// The time of one call in nanoseconds, over a group of calls.
+fn group(calls: u32, call: &mut impl FnMut()) -> f64 {
+    let start = Instant::now();
+    (0..calls).for_each(|_| call());
+    start.elapsed().as_nanos() as f64 / f64::from(calls)
+}
+
+/// The best times of one call of each engine. Their groups alternate, so that a change of the clock meets both.
+fn best(calls: u32, mut proved: impl FnMut(), mut second: impl FnMut()) -> (f64, f64) {
+    (0..15).fold((f64::INFINITY, f64::INFINITY), |(a, b), _| (a.min(group(calls, &mut proved)), b.min(group(calls, &mut second))))
 }
 
 /// 16 structs with one step of 64 commands each: sixteen updates `p0 := p0`, of four commands.
@@ -84,12 +86,15 @@ fn compare(name: &str, stream: &[u8], calls: u32) {
     let b = second::check(&image, &mut theirs);
     assert_eq!((a.number, a.structs, a.steps, a.commands, a.depth), (u32::from(b.number), b.structs as u32, b.steps as u32, b.commands as u32, b.depth as u32));
     assert!(mine.iter().copied().eq(theirs.iter().map(|place| coded(*place))), "the lists differ");
-    let first = best(calls, || {
-        black_box(proved(black_box(&image), &mut mine));
-    });
-    let other = best(calls, || {
-        black_box(second::check(black_box(&image), &mut theirs));
-    });
+    let (first, other) = best(
+        calls,
+        || {
+            black_box(proved(black_box(&image), &mut mine));
+        },
+        || {
+            black_box(second::check(black_box(&image), &mut theirs));
+        },
+    );
     println!("{name}: {} blocks, number {}: proved {first:.0} ns, second {other:.0} ns, ratio {:.2}", image.len() / 512, a.number, first / other);
 }
 
@@ -108,12 +113,15 @@ fn compare_runs(instances: u32, kind: &str, turns: &[u8]) {
     let b = second::run(&program, &table, turns, &mut theirs, &mut other_list);
     assert_eq!((a.number, a.turns, a.blocks, a.depth), (u32::from(b.number), b.turns as u32, b.blocks as u32, b.depth as u32));
     assert!(mine == theirs, "the tables differ");
-    let first = best(1, || {
-        black_box(proved_run(black_box(&program), &table, turns, &mut mine, &mut list));
-    });
-    let other = best(1, || {
-        black_box(second::run(black_box(&program), &table, turns, &mut theirs, &mut other_list));
-    });
+    let (first, other) = best(
+        1,
+        || {
+            black_box(proved_run(black_box(&program), &table, turns, &mut mine, &mut list));
+        },
+        || {
+            black_box(second::run(black_box(&program), &table, turns, &mut theirs, &mut other_list));
+        },
+    );
     let each = f64::from(a.turns);
     println!("{instances} instances, {kind} turn bytes: proved {:.1} ns, second {:.1} ns for a command, ratio {:.2}", first / each, other / each, first / other);
 }
@@ -129,7 +137,7 @@ fn main() {
     compare("refused at its end", &one_byte_too_many(), 60);
     let mut random = Random::new(1);
     let mixed: Vec<u8> = (0..65_536).map(|_| random.byte()).collect();
-    for instances in [2, 256] {
+    for instances in [2, 4, 16, 64, 256] {
         compare_runs(instances, "zero", &vec![0; 65_536]);
         compare_runs(instances, "random", &mixed);
     }

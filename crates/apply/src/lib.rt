@@ -37,12 +37,14 @@ const SUB: u8 = 42;
 
 const AND: u8 = 43;
 
-// The bytes of the types; a struct's come later.
-const INT: u8 = 0;
+// The bounds of the types, as numbers with a sign, and the first word of a negative Int.
+const INT_END: i64 = types::INT_HALF as i64;
 
-const NAT: u8 = 1;
+const INT_LEAST: i64 = -INT_END;
 
-const BOOL: u8 = 2;
+const NAT_END: i64 = types::NAT_END as i64;
+
+const FIRST_NEGATIVE: u32 = types::INT_HALF as u32;
 
 // The word of a truth.
 fn truth(t: bool) -> Answered
@@ -58,10 +60,10 @@ fn truth(t: bool) -> Answered
 fn int_of(a: u32) -> i64
     ensures { λ r. ⌜ IntOf a r ⌝ }
 {
-    if a < 0x8000_0000 {
+    if a < FIRST_NEGATIVE {
         return a as i64;
     }
-    (a as i64) - 0x1_0000_0000
+    (a as i64) - NAT_END
 }
 
 // The word of a whole number, where it is an Int.
@@ -69,12 +71,12 @@ fn int_answer(z: i64) -> Answered
     ensures { λ r. ⌜ r ≡ answered (int-answer (some z)) ⌝ }
 {
     if z < 0 {
-        if z < -0x8000_0000 {
+        if z < INT_LEAST {
             return Answered::Outside;
         }
-        return Answered::Value((z + 0x1_0000_0000) as u32);
+        return Answered::Value((z + NAT_END) as u32);
     }
-    if z < 0x8000_0000 {
+    if z < INT_END {
         return Answered::Value(z as u32);
     }
     Answered::Outside
@@ -173,7 +175,7 @@ fn apply_nat(op: u8, a: u32, b: u32) -> Answered
     }
     if op == MUL {
         let n = (a as u64) * (b as u64);
-        if n < 0x1_0000_0000 {
+        if n < types::NAT_END {
             return Answered::Value(n as u32);
         }
         return Answered::Outside;
@@ -192,7 +194,7 @@ fn apply_nat(op: u8, a: u32, b: u32) -> Answered
     }
     if op == ADD {
         let n = (a as u64) + (b as u64);
-        if n < 0x1_0000_0000 {
+        if n < types::NAT_END {
             return Answered::Value(n as u32);
         }
         return Answered::Outside;
@@ -240,13 +242,13 @@ fn apply_label(op: u8, a: u32, b: u32) -> Answered
 pub fn apply_word(op: u8, kind: u8, a: u32, b: u32) -> Answered
     ensures { λ r. ⌜ r ≡ apply-word op kind a b ⌝ }
 {
-    if kind == INT {
+    if kind == types::INT {
         return apply_int(op, a, b);
     }
-    if kind == NAT {
+    if kind == types::NAT {
         return apply_nat(op, a, b);
     }
-    if kind == BOOL {
+    if kind == types::BOOL {
         return apply_bool(op, a == 1, b == 1);
     }
     apply_label(op, a, b)

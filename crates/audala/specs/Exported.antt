@@ -9,7 +9,7 @@ abbrev pub exported : Verdict → Answer
 exported v = record { number = v .number; structs = v .structs; steps = v .steps; commands = v .commands; depth = v .depth }
 
 abbrev pub exported-part : Spot → Part
-exported-part z = record { start = z .start; length = z .len }
+exported-part z = record { number = z .number; start = z .start; length = z .len }
 
 abbrev pub exported-report : Reported → Report
 exported-report r = record { number = r .number; turns = r .turns; blocks = r .blocks; depth = r .depth }

@@ -1,11 +1,12 @@
--- The part that the library hands over holds a step's commands (01, 'Names, types, commands').
+-- The part that the library hands over holds a step's commands, and its number is that of a check (01, 'Names, types, commands').
 use Prim.Native.Nat.{ℕ, _+_, _≤_}
 use mathlib.Core.Path.{_≡_}
 use mathlib.Core.List.{List}
 use lib.ListN.{length, take, drop}
 use Rattle.types.specs.Limits.{max-commands}
+use Rattle.run.specs.Entry.{check-verdict}
 use Rattle.parts.specs.StepPart.{step-place, step-part}
-use Rattle.parts.specs.StepPartLaws.{place-fits, place-part}
+use Rattle.parts.specs.StepPartLaws.{place-number, place-fits, place-part}
 use Rattle.audala.specs.declared.Part.{Part}
 use Rattle.audala.specs.Exported.{exported-part}
 
@@ -16,6 +17,9 @@ module _ (x list : List ℕ) (k n : ℕ) where
 
   pub part-holds : take (handed .length) (drop (handed .start) list) ≡ step-part x list k n
   part-holds = place-part x list k n
+
+  pub part-number : handed .number ≡ check-verdict x list .number
+  part-number = place-number x list k n
 
   pub part-in : (handed .start + handed .length ≤ max-commands) × (handed .start + handed .length ≤ length list)
   part-in = place-fits x list k n

@@ -31,20 +31,22 @@ pub extern "C" fn audala_check(image: &[u8], list: &mut [u64]) -> Answer
     }
 }
 
-// Where a part of the list begins, and how many places it has.
+// The number of a refusal, else 0; where a part of the list begins, and how many places it has.
 #[repr(C)]
 pub struct Part {
+    pub number: u32,
     pub start: u32,
     pub length: u32,
 }
 
-// The part of the list for a step; 0 and 0 where there is none.
+// The part of the list for a step; it begins at 0 and has 0 places where the image or the list is refused or the step is not there.
 #[no_mangle]
 pub extern "C" fn audala_step(image: &[u8], list: &[u64], structure: u8, name: u8) -> Part
     ensures { λ r. ⌜ r ≡ exported-part (step-place (now (image .entry)) (now (list .entry)) structure name) ⌝ }
 {
     let p = parts::step_place(image, list, structure, name);
     Part {
+        number: p.number as u32,
         start: p.start as u32,
         length: p.len as u32,
     }

@@ -2,7 +2,10 @@
 use Prim.Native.Nat.{ℕ, zero, suc, _+_, _*_, _<_, _≤_}
 use native.Mathlib.Omega.{arith}
 use mathlib.Core.Path.{_≡_, refl, ap, sym, _∙_}
+use mathlib.Core.Logic.{⊎-elim}
 use mathlib.Core.List.{List, [], _∷_, _++_, map}
+use types.Run.{OneOf}
+use denote.Enum.Declared.{tagOf}
 use lib.ListN.{length, take, drop, length-map}
 use lib.Seq.{take-at}
 use borrow.Author.Tests.{lt-ltb, le-ltb}
@@ -13,7 +16,9 @@ use Rattle.blocks.specs.AnswerLaws.{read-says, stream-most}
 use Rattle.blocks.specs.declared.Fault.{Fault}
 use Rattle.blocks.specs.declared.Found.{Found}
 use Rattle.blocks.specs.declared.Found.the-variants.{Right, Wrong}
+use Rattle.blocks.specs.declared.Read.{Read}
 use Rattle.blocks.specs.declared.Read.the-variants.{Stream, Refused as ImageRefused, Short as ImageShort}
+use Rattle.blocks.proofs.Read.{the-type}
 use Rattle.program.specs.Tree.{Step, Program}
 use Rattle.program.specs.Encoding.{flat}
 use Rattle.program.specs.Counts.{All, Few, CountsStep, Counts}
@@ -38,7 +43,7 @@ use Rattle.run.specs.Entry.{Checked, Checked.accepted, Checked.refused, judge, 
 use Rattle.whole.specs.declared.Summary.{Summary}
 use Rattle.whole.specs.declared.ProgramRead.the-variants.{Value, Refused}
 use Rattle.whole.specs.Whole.{summary, place-of, program-told}
-use Rattle.checker.specs.Answer.{answer, counts-verdict, approved}
+use Rattle.checker.specs.Answer.{answer, counts-verdict, approved, image-refusal}
 
 -- Refusals -----------------------------------------------------------------------------
 
@@ -240,6 +245,13 @@ module _ (x : List ℕ) where
   -- a buffer for as many blocks as are allowed is never too short
   pub image-short : (room : ℕ) → 32256 ≤ room → image-read program-blocks x room ≡ ImageShort → ⊥
   image-short room l e = let h = rw e at (read-says program-blocks x room) in omega (arith, stream-most program-blocks x (h .0), h .1)
+
+  -- so an answer that is no stream refuses the image
+  pub image-unread : (q : Read) (room : ℕ) → 32256 ≤ room → image-read program-blocks x room ≡ q → OneOf (1 ∷ 2 ∷ []) (tagOf the-type q)
+      → checked x ≡ refused (image-refusal q)
+  image-unread (Stream n) room l e k = absurd (⊎-elim (λ i. omega arith) (λ i. omega arith) k)
+  image-unread (ImageRefused f) room l e k = image-refused f room e
+  image-unread ImageShort room l e k = absurd (image-short room l e)
 
   pub image-stream : (n room : ℕ) → image-read program-blocks x room ≡ Stream n → (checked x ≡ of-read (read (stream x))) × (n ≡ length (stream x)) × (n ≤ room)
   unfolding checked of-image

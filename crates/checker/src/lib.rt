@@ -7,10 +7,10 @@ ghost use mathlib.Core.Path.{_≡_};
 ghost use Prim.Native.Nat.{_<_};
 ghost use Rattle.program.specs.Reader.{read};
 ghost use Rattle.run.specs.Entry.{of-read, refusal, verdict-of, list-of, check-verdict, check-list};
-ghost use Rattle.checker.specs.Answer.{answer, approved};
+ghost use Rattle.checker.specs.Answer.{answer, approved, image-refusal};
 
 // 01's number of a lent list with too few places.
-const SHORT_LIST: u8 = 13;
+pub const SHORT_LIST: u8 = 13;
 
 // What checking answers: the number, and of an accepted program how many structs, steps and commands it has, and its depth.
 pub struct Verdict {
@@ -19,6 +19,16 @@ pub struct Verdict {
     pub steps: u8,
     pub commands: u16,
     pub depth: u8,
+}
+
+// The number of a program image that is refused; 0 where it is not.
+pub fn image_refusal(r: Read) -> u8
+    ensures { λ n. ⌜ n ≡ image-refusal r ⌝ }
+{
+    let Read::Refused(f) = r else {
+        return 0;
+    };
+    blocks::program_number(f)
 }
 
 // A refusal reports no counts and no depth.
@@ -75,9 +85,9 @@ pub fn check(image: &[u8], list: &mut [u64]) -> Verdict
     ensures { λ _. ⌜ now (list .exit) ≡ check-list (now (image .entry)) (now (list .entry)) ⌝ }
 {
     let mut buffer = [0u8; types::PROGRAM_BLOCKS * blocks::PAYLOAD_SIZE];
-    match blocks::read_image(image, types::PROGRAM_BLOCKS, &mut buffer) {
-        Read::Refused(f) => refused(blocks::program_number(f)),
-        Read::Short => refused(1),
-        Read::Stream(n) => stream(&buffer[..n], list),
-    }
+    let r = blocks::read_image(image, types::PROGRAM_BLOCKS, &mut buffer);
+    let Read::Stream(n) = r else {
+        return refused(image_refusal(r));
+    };
+    stream(&buffer[..n], list)
 }

@@ -1,4 +1,4 @@
--- Programs and their numbers, by computation (01, 'Bench rows'; numbers 6, 7 and 8).
+-- Rows that pin what no law does: programs and their numbers, by computation (01, numbers 6, 7 and 8, 'Names, types, commands').
 use Prim.Native.Nat.{ℕ, zero, suc}
 use mathlib.Core.Path.{_≡_, refl}
 use mathlib.Core.List.{List, [], _∷_}
@@ -15,7 +15,7 @@ use Rattle.commands.specs.DecideLaws.{reflects-iff, every-reflects, eq-r
 use Rattle.commands.specs.NamesDecide.{start-named, expr-named, args-named, stmt-named, body-named, steps-named, stepped, item-stepped, items-stepped, names-right}
 use Rattle.commands.specs.TypingDecide.{is-of, agree, given, result, operate, lead, path-type, expr-type, args-typed, stmt-typed, body-typed, steps-typed, types-right}
 use Rattle.commands.specs.BoundsDecide.{within}
-use Rattle.commands.specs.Numbers.{breach, first, order, program-number}
+use Rattle.commands.specs.Numbers.{first, breach-tests, program-number}
 
 -- Parts ---------------------------------------------------------------------------
 
@@ -100,12 +100,8 @@ row p n = record { tree = p; number = n }
 
 unfoldable rows : List Row
 rows =
-    -- P; its update eight times, 64 commands; a construct statement behind, 65
-    row (program (load-prev ∷ []) ((step 0 (only P-update) ∷ []) ∷ []) once) 0
-    ∷ row (benched (statements 8 P-update end)) 0
-    ∷ row (benched (statements 8 P-update (only (create 1 none)))) 6
     -- 14 and 15 labels below a literal update, depth 16 and 17; the same where an if leaves them
-    ∷ row (benched (statements 14 (create 1 none) (only literal))) 0
+    row (benched (statements 14 (create 1 none) (only literal))) 0
     ∷ row (benched (statements 15 (create 1 none) (only literal))) 6
     ∷ row (benched (next (when yes-bool (statements 14 (create 1 none) end)) (only literal))) 0
     ∷ row (benched (next (when yes-bool (statements 15 (create 1 none) end)) (only literal))) 6
@@ -171,5 +167,5 @@ rows =
 
 -- every row's tree has its number
 rows-hold : All (λ r. program-number (r .tree) ≡ r .number) rows
-unfolding rows statements in-a-row named-to same-type then reads front last expr-coms args-coms update-coms stmt-coms body-coms flatten commands stmt-local body-local declares declared step-names depth item-count items-count total program-size every member distinct start-named expr-named args-named stmt-named body-named steps-named stepped item-stepped items-stepped names-right is-of agree given result operate lead path-type expr-type args-typed stmt-typed body-typed steps-typed types-right within breach first order program-number
+unfolding rows statements in-a-row named-to same-type then reads front last expr-coms args-coms update-coms stmt-coms body-coms flatten commands stmt-local body-local declares declared step-names depth item-count items-count total program-size every member distinct start-named expr-named args-named stmt-named body-named steps-named stepped item-stepped items-stepped names-right is-of agree given result operate lead path-type expr-type args-typed stmt-typed body-typed steps-typed types-right within first breach-tests program-number
 rows-hold = reflects-iff (every-reflects (λ (r : Row). eq-reflects (program-number (r .tree)) (r .number)) rows) .0 refl

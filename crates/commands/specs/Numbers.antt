@@ -1,20 +1,48 @@
--- The order of the numbers from the input (01, 'Numbers from the input'), and the numbers of a program that is read: 6, 7 and 8.
+-- An order of refusals, and the first of them (01, 'Numbers from the input'); the order of a program that is read: 6, 7 and 8.
 use Prim.Native.Nat.{ℕ}
 use mathlib.Core.Bool.{Bool, true, false, not}
 use mathlib.Core.List.{List, [], _∷_, _++_}
 use mathlib.Core.Path.{_≡_}
-use lib.Dec.{eqb}
 use Rattle.program.specs.Tree.{Program}
-use Rattle.program.specs.Counts.{All}
 use Rattle.commands.specs.Bounds.{Within}
 use Rattle.commands.specs.Names.{NamesRight}
 use Rattle.commands.specs.Typing.{TypesRight}
+use Rattle.commands.specs.Decide.{Reflects}
 use Rattle.commands.specs.BoundsDecide.{within}
 use Rattle.commands.specs.NamesDecide.{names-right}
 use Rattle.commands.specs.TypingDecide.{types-right}
 
 abbrev pub accepted : ℕ
 accepted = 0
+
+-- The first of several --------------------------------------------------------------
+
+-- an order of refusals: conditions, each with its number, in the order in which they are asked. A number may stand at several places
+abbrev pub Order : Type 1
+Order = List (ℕ × Type 0)
+
+-- none of the conditions holds
+abbrev pub NoneOf : Order → Type 0
+NoneOf [] = Unit {0}
+NoneOf (r ∷ l) = (r .1 → ⊥) × NoneOf l
+
+-- n stands at a place of the order whose condition holds, and none before that place does
+abbrev pub Foremost : Order → ℕ → Type 1
+Foremost l n = (before behind : Order) × (C : Type 0) × (l ≡ before ++ (n, C) ∷ behind) × C × NoneOf before
+
+-- the number of the first test that is true, or 0
+unfoldable pub first : List (ℕ × Bool) → ℕ
+first [] = accepted
+first (t ∷ ts) = elim (t .1) [ true ↦ t .0 | false ↦ first ts ]
+
+-- the tests of an order: place by place the number is the same, and the test decides the condition
+abbrev pub Tested : Order → List (ℕ × Bool) → Type 0
+Tested [] [] = Unit {0}
+Tested [] (t ∷ ts) = ⊥
+Tested (r ∷ l) [] = ⊥
+Tested (r ∷ l) (t ∷ ts) = (r .0 ≡ t .0) × (Reflects (r .1) (t .1)) × Tested l ts
+
+-- Programs --------------------------------------------------------------------------
 
 abbrev pub over-limits : ℕ
 over-limits = 6
@@ -25,38 +53,12 @@ wrong-names = 7
 abbrev pub wrong-types : ℕ
 wrong-types = 8
 
--- the condition of a number on a program
-pub data Breach (n : ℕ) (p : Program) : Type 0 where
-  limits-broken : n ≡ over-limits → (Within p → ⊥) → Breach n p
-  names-broken : n ≡ wrong-names → (NamesRight p → ⊥) → Breach n p
-  types-broken : n ≡ wrong-types → (TypesRight p → ⊥) → Breach n p
+-- of a program that is read, lowest number first
+abbrev pub breaches : Program → Order
+breaches p = (over-limits, (Within p → ⊥)) ∷ (wrong-names, (NamesRight p → ⊥)) ∷ (wrong-types, (TypesRight p → ⊥)) ∷ []
 
--- whether it holds
-unfoldable pub breach : ℕ → Program → Bool
-breach n p = elim (eqb n over-limits) [
-  | true ↦ not (within p)
-  | false ↦ elim (eqb n wrong-names) [
-    | true ↦ not (names-right p)
-    | false ↦ elim (eqb n wrong-types) [ true ↦ not (types-right p) | false ↦ false ]
-  ]
-]
-
--- The first of several --------------------------------------------------------------
-
--- the first number of a list whose test is true, or 0
-unfoldable pub first : (ℕ → Bool) → List ℕ → ℕ
-first f [] = accepted
-first f (n ∷ l) = elim (f n) [ true ↦ n | false ↦ first f l ]
-
--- n stands at a place of the list, its condition holds, and none before that place does
-abbrev pub Foremost : (ℕ → Type 0) → List ℕ → ℕ → Type 0
-Foremost C l n = (before behind : List ℕ) × (l ≡ before ++ n ∷ behind) × C n × (All (λ m. C m → ⊥) before)
-
--- Programs --------------------------------------------------------------------------
-
--- the numbers of a program that is read, lowest first
-unfoldable pub order : List ℕ
-order = over-limits ∷ wrong-names ∷ wrong-types ∷ []
+unfoldable pub breach-tests : Program → List (ℕ × Bool)
+breach-tests p = (over-limits, not (within p)) ∷ (wrong-names, not (names-right p)) ∷ (wrong-types, not (types-right p)) ∷ []
 
 unfoldable pub program-number : Program → ℕ
-program-number p = first (λ n. breach n p) order
+program-number p = first (breach-tests p)

@@ -1,9 +1,9 @@
--- The number that comes out is the first whose condition holds (01, 'Numbers from the input'), and so for programs.
+-- The number that comes out is that of the first condition that holds (01, 'Numbers from the input'), and so for programs.
 use Prim.Native.Nat.{ℕ}
 use mathlib.Core.Bool.{Bool, true, false, not}
-use mathlib.Core.List.{List, [], _∷_, _++_, List·Memᴰ, List·Memᴰ·head, List·Memᴰ·tail, List·Memᴰ·cases-cons}
+use mathlib.Core.List.{List, [], _∷_, _++_, map, List·Memᴰ, List·Memᴰ·head, List·Memᴰ·tail, List·Memᴰ·cases-cons}
 use mathlib.Core.Logic.{_↔_, inl, inr}
-use mathlib.Core.Path.{_≡_, refl, sym, ap, subst}
+use mathlib.Core.Path.{_≡_, refl, sym, ap, subst, _∙_}
 use native.Mathlib.Omega.{arith}
 use Rattle.program.specs.Tree.{Program}
 use Rattle.program.specs.Counts.{All}
@@ -11,94 +11,106 @@ use Rattle.commands.specs.Bounds.{Within}
 use Rattle.commands.specs.Names.{NamesRight}
 use Rattle.commands.specs.Typing.{TypesRight}
 use Rattle.commands.specs.Decide.{Reflects, Reflects.holds, Reflects.fails}
-use Rattle.commands.specs.DecideLaws.{reflects-iff, reflects-not, reflects-map, reflects-negation, eq-reflects}
-use Rattle.commands.specs.BoundsDecide.{within}
-use Rattle.commands.specs.NamesDecide.{names-right}
-use Rattle.commands.specs.TypingDecide.{types-right}
+use Rattle.commands.specs.DecideLaws.{reflects-negation}
 use Rattle.commands.specs.BoundsDecideLaws.{within-reflects}
 use Rattle.commands.specs.NamesDecideLaws.{names-reflects}
 use Rattle.commands.specs.TypingDecideLaws.{types-reflects}
-use Rattle.commands.specs.Numbers.{accepted, over-limits, wrong-names, wrong-types, Breach, Breach.limits-broken, Breach.names-broken, Breach.types-broken, breach, first, Foremost, order, program-number}
+use Rattle.commands.specs.Numbers.{accepted, Order, NoneOf, Foremost, first, Tested, over-limits, wrong-names, wrong-types, breaches, breach-tests, program-number}
+
+-- The foremost of an order ----------------------------------------------------------
+
+-- the first, if its condition holds; else one of those behind it
+pub at-first : {n : ℕ} {C : Type 0} {l : Order} → C → Foremost ((n, C) ∷ l) n
+at-first {C} {l} c = ([], l, C, refl, c, tt)
+
+pub behind-first : {r : ℕ × Type 0} {l : Order} {n : ℕ} → (r .1 → ⊥) → Foremost l n → Foremost (r ∷ l) n
+behind-first {r} f q = (r ∷ q .0, q .1, q .2, ap (λ (k : Order). r ∷ k) (q .3), q .4, (f, q .5))
+
+one-of : (a b r s : Order) (n m : ℕ) (C D : Type 0) → a ++ (n, C) ∷ r ≡ b ++ (m, D) ∷ s → C → D → NoneOf a → NoneOf b → n ≡ m
+one-of [] [] r s n m C D e c d f g = let q : _≡_ {A = ℕ × Type 0} (n, C) (m, D) = cc in ap (λ (z : ℕ × Type 0). z .0) q
+one-of [] (k ∷ b) r s n m C D e c d f g =
+    let q : _≡_ {A = ℕ × Type 0} (n, C) k = cc in absurd (g .0 (subst (λ (z : ℕ × Type 0). z .1) q c))
+one-of (k ∷ a) [] r s n m C D e c d f g =
+    let q : _≡_ {A = ℕ × Type 0} (m, D) k = cc in absurd (f .0 (subst (λ (z : ℕ × Type 0). z .1) q d))
+one-of (k ∷ a) (j ∷ b) r s n m C D e c d f g =
+    let q : a ++ (n, C) ∷ r ≡ b ++ (m, D) ∷ s = cc in one-of a b r s n m C D q c d (f .1) (g .1)
+
+-- only one is foremost
+pub foremost-unique : {l : Order} {n m : ℕ} → Foremost l n → Foremost l m → n ≡ m
+foremost-unique {n} {m} p q = one-of (p .0) (q .0) (p .1) (q .1) n m (p .2) (q .2) (sym (p .3) ∙ q .3) (p .4) (q .4) (p .5) (q .5)
+
+none-there : (a r : Order) (n : ℕ) (C : Type 0) → NoneOf (a ++ (n, C) ∷ r) → C → ⊥
+none-there [] r n C f c = f .0 c
+none-there (k ∷ a) r n C f c = none-there a r n C (f .1) c
+
+-- none is where no condition holds
+pub foremost-some : {l : Order} {n : ℕ} → Foremost l n → NoneOf l → ⊥
+foremost-some {n} q f = none-there (q .0) (q .1) n (q .2) (subst NoneOf (q .3) f) (q .4)
 
 -- The first of several --------------------------------------------------------------
 
--- nothing comes out but 0 and the numbers of the list
-pub first-among : (f : ℕ → Bool) (l : List ℕ) → List·Memᴰ (first f l) (accepted ∷ l)
+-- nothing comes out but 0 and the numbers of the tests
+pub first-among : (ts : List (ℕ × Bool)) → List·Memᴰ (first ts) (accepted ∷ map (λ t. t .0) ts)
 unfolding first
-first-among f [] = List·Memᴰ·head refl
-first-among f (m ∷ l) = go (f m) (first-among f l)
+first-among [] = List·Memᴰ·head refl
+first-among (t ∷ ts) = go (t .1) (first-among ts)
   where
-    go : (t : Bool) → List·Memᴰ (first f l) (accepted ∷ l) → List·Memᴰ (elim t [ true ↦ m | false ↦ first f l ]) (accepted ∷ m ∷ l)
+    go : (b : Bool) → List·Memᴰ (first ts) (accepted ∷ map (λ u. u .0) ts)
+        → List·Memᴰ (elim b [ true ↦ t .0 | false ↦ first ts ]) (accepted ∷ t .0 ∷ map (λ u. u .0) ts)
     go true r = List·Memᴰ·tail (List·Memᴰ·head refl)
     go false r = elim (List·Memᴰ·cases-cons r) [ inl e ↦ List·Memᴰ·head e | inr k ↦ List·Memᴰ·tail (List·Memᴰ·tail k) ]
 
--- each number's test decides its condition
-module _ (C : ℕ → Type 0) (f : ℕ → Bool) (decides : (n : ℕ) → Reflects (C n) (f n)) where
-  found : (l : List ℕ) (n : ℕ) → (n ≡ accepted → ⊥) → first f l ≡ n → Foremost C l n
-  unfolding first
-  found [] n h e = absurd (h (sym e))
-  found (m ∷ l) n h e = go (decides m) e (λ r. found l n h r)
-    where
-      go : {t : Bool} → Reflects (C m) t → (elim t [ true ↦ m | false ↦ first f l ]) ≡ n → (first f l ≡ n → Foremost C l n) → Foremost C (m ∷ l) n
-      go (holds c) e below = ([], l, rw e, subst C e c, tt)
-      go (fails x) e below = let q = below e in (m ∷ q .0, q .1, ap (λ (k : List ℕ). m ∷ k) (q .2), q .3, (x, q .4))
+found : (l : Order) (ts : List (ℕ × Bool)) (n : ℕ) → Tested l ts → (n ≡ accepted → ⊥) → first ts ≡ n → Foremost l n
+unfolding first
+found [] [] n d h e = absurd (h (sym e))
+found [] (t ∷ ts) n d h e = absurd d
+found (r ∷ l) [] n d h e = absurd d
+found (r ∷ l) (t ∷ ts) n d h e = go (d .1) e (λ q. found l ts n (d .2) h q)
+  where
+    go : {b : Bool} → Reflects (r .1) b → (elim b [ true ↦ t .0 | false ↦ first ts ]) ≡ n → (first ts ≡ n → Foremost l n) → Foremost (r ∷ l) n
+    go (holds c) e below = subst (Foremost (r ∷ l)) (d .0 ∙ e) (at-first c)
+    go (fails x) e below = behind-first x (below e)
 
-  comes : (before behind : List ℕ) (n : ℕ) → C n → All (λ m. C m → ⊥) before → first f (before ++ n ∷ behind) ≡ n
-  unfolding first
-  comes [] behind n c h = rw (reflects-iff (decides n) .1 c)
-  comes (m ∷ before) behind n c h = rw (reflects-not (decides m) .1 (h .0)) (comes before behind n c (h .1))
+comes : (before behind : Order) (n : ℕ) (C : Type 0) (ts : List (ℕ × Bool)) → Tested (before ++ (n, C) ∷ behind) ts → C → NoneOf before → first ts ≡ n
+unfolding first
+comes [] behind n C [] d c f = absurd d
+comes [] behind n C (t ∷ ts) d c f = go (d .1)
+  where
+    go : {b : Bool} → Reflects C b → (elim b [ true ↦ t .0 | false ↦ first ts ]) ≡ n
+    go (holds x) = sym (d .0)
+    go (fails x) = absurd (x c)
+comes (r ∷ before) behind n C [] d c f = absurd d
+comes (r ∷ before) behind n C (t ∷ ts) d c f = go (d .1) (comes before behind n C ts (d .2) c (f .1))
+  where
+    go : {b : Bool} → Reflects (r .1) b → first ts ≡ n → (elim b [ true ↦ t .0 | false ↦ first ts ]) ≡ n
+    go (holds x) e = absurd (f .0 x)
+    go (fails x) e = e
 
-  -- a number comes out exactly where it stands foremost of those whose condition holds
-  pub first-exact : (l : List ℕ) (n : ℕ) → (n ≡ accepted → ⊥) → (first f l ≡ n) ↔ Foremost C l n
-  first-exact l n h = (found l n h, λ q. rw (q .2) (comes (q .0) (q .1) n (q .3) (q .4)))
+-- a number comes out exactly where it stands foremost of those whose condition holds
+pub first-exact : (l : Order) (ts : List (ℕ × Bool)) → Tested l ts → (n : ℕ) → (n ≡ accepted → ⊥) → (first ts ≡ n) ↔ Foremost l n
+first-exact l ts d n h =
+    (found l ts n d h, λ q. comes (q .0) (q .1) n (q .2) ts (subst (λ (k : Order). Tested k ts) (q .3) d) (q .4) (q .5))
 
-  -- 0 comes out exactly where no condition holds
-  pub first-none : (l : List ℕ) → All (λ m. m ≡ accepted → ⊥) l → (first f l ≡ accepted) ↔ All (λ m. C m → ⊥) l
-  unfolding first
-  first-none [] h = (λ e. tt, λ q. refl)
-  first-none (m ∷ l) h = go (decides m) (first-none l (h .1))
-    where
-      go : {t : Bool} → Reflects (C m) t → (first f l ≡ accepted) ↔ All (λ k. C k → ⊥) l
-          → ((elim t [ true ↦ m | false ↦ first f l ]) ≡ accepted) ↔ ((C m → ⊥) × All (λ k. C k → ⊥) l)
-      go (holds c) r = (λ q. absurd (h .0 q), λ q. absurd (q .0 c))
-      go (fails x) r = (λ q. (x, r .0 q), λ q. r .1 (q .1))
+-- 0 comes out exactly where no condition holds
+pub first-none : (l : Order) (ts : List (ℕ × Bool)) → Tested l ts → All (λ t. t .0 ≡ accepted → ⊥) ts → (first ts ≡ accepted) ↔ NoneOf l
+unfolding first
+first-none [] [] d h = (λ e. tt, λ q. refl)
+first-none [] (t ∷ ts) d h = absurd d
+first-none (r ∷ l) [] d h = absurd d
+first-none (r ∷ l) (t ∷ ts) d h = go (d .1) (first-none l ts (d .2) (h .1))
+  where
+    go : {b : Bool} → Reflects (r .1) b → (first ts ≡ accepted) ↔ NoneOf l
+        → ((elim b [ true ↦ t .0 | false ↦ first ts ]) ≡ accepted) ↔ ((r .1 → ⊥) × NoneOf l)
+    go (holds c) q = (λ e. absurd (h .0 e), λ f. absurd (f .0 c))
+    go (fails x) q = (λ e. (x, q .0 e), λ f. q .1 (f .1))
 
 -- Programs --------------------------------------------------------------------------
 
-limits-back : {n : ℕ} {p : Program} → n ≡ over-limits → Breach n p → Within p → ⊥
-limits-back e (limits-broken q f) = f
-limits-back e (names-broken q f) = absurd (omega arith)
-limits-back e (types-broken q f) = absurd (omega arith)
-
-names-back : {n : ℕ} {p : Program} → n ≡ wrong-names → Breach n p → NamesRight p → ⊥
-names-back e (limits-broken q f) = absurd (omega arith)
-names-back e (names-broken q f) = f
-names-back e (types-broken q f) = absurd (omega arith)
-
-types-back : {n : ℕ} {p : Program} → n ≡ wrong-types → Breach n p → TypesRight p → ⊥
-types-back e (limits-broken q f) = absurd (omega arith)
-types-back e (names-broken q f) = absurd (omega arith)
-types-back e (types-broken q f) = f
-
--- the test of a number decides its condition
-pub breach-reflects : (n : ℕ) (p : Program) → Reflects (Breach n p) (breach n p)
-unfolding breach
-breach-reflects n p = go (eq-reflects n over-limits) (eq-reflects n wrong-names) (eq-reflects n wrong-types)
-  where
-    none : (n ≡ over-limits → ⊥) → (n ≡ wrong-names → ⊥) → (n ≡ wrong-types → ⊥) → Breach n p → ⊥
-    none a b c (limits-broken q f) = a q
-    none a b c (names-broken q f) = b q
-    none a b c (types-broken q f) = c q
-
-    go : {a b c : Bool} → Reflects (n ≡ over-limits) a → Reflects (n ≡ wrong-names) b → Reflects (n ≡ wrong-types) c
-        → Reflects (Breach n p) (elim a [
-          | true ↦ not (within p)
-          | false ↦ elim b [ true ↦ not (names-right p) | false ↦ elim c [ true ↦ not (types-right p) | false ↦ false ] ]
-        ])
-    go (holds e) s t = reflects-map (λ f. limits-broken e f) (limits-back e) (reflects-negation (within-reflects p))
-    go (fails x) (holds e) t = reflects-map (λ f. names-broken e f) (names-back e) (reflects-negation (names-reflects p))
-    go (fails x) (fails y) (holds e) = reflects-map (λ f. types-broken e f) (types-back e) (reflects-negation (types-reflects p))
-    go (fails x) (fails y) (fails z) = fails (none x y z)
+-- the tests of a program decide its order's conditions
+pub breaches-tested : (p : Program) → Tested (breaches p) (breach-tests p)
+unfolding breach-tests
+breaches-tested p =
+    (refl, reflects-negation (within-reflects p), (refl, reflects-negation (names-reflects p), (refl, reflects-negation (types-reflects p), tt)))
 
 -- the number by the three tests
 abbrev outcome : Bool → Bool → Bool → ℕ
@@ -117,7 +129,7 @@ no-no f g = (λ x. absurd (f x), λ y. absurd (g y))
 module _ (p : Program) where
   -- 0 comes out exactly where a program keeps to the limits and its names and types are right
   pub number-accepted : (program-number p ≡ accepted) ↔ (Within p × NamesRight p × TypesRight p)
-  unfolding program-number first order breach
+  unfolding program-number first breach-tests
   number-accepted = go (within-reflects p) (names-reflects p) (types-reflects p)
     where
       go : {a b c : Bool} → Reflects (Within p) a → Reflects (NamesRight p) b → Reflects (TypesRight p) c
@@ -129,7 +141,7 @@ module _ (p : Program) where
 
   -- 6 exactly where it breaks a limit
   pub number-limits : (program-number p ≡ over-limits) ↔ (Within p → ⊥)
-  unfolding program-number first order breach
+  unfolding program-number first breach-tests
   number-limits = go (within-reflects p) (names-reflects p) (types-reflects p)
     where
       go : {a b c : Bool} → Reflects (Within p) a → Reflects (NamesRight p) b → Reflects (TypesRight p) c
@@ -141,7 +153,7 @@ module _ (p : Program) where
 
   -- 7 exactly where it keeps to them and a name is wrong
   pub number-names : (program-number p ≡ wrong-names) ↔ (Within p × (NamesRight p → ⊥))
-  unfolding program-number first order breach
+  unfolding program-number first breach-tests
   number-names = go (within-reflects p) (names-reflects p) (types-reflects p)
     where
       go : {a b c : Bool} → Reflects (Within p) a → Reflects (NamesRight p) b → Reflects (TypesRight p) c
@@ -153,7 +165,7 @@ module _ (p : Program) where
 
   -- 8 exactly where limits and names are right and a type is wrong
   pub number-types : (program-number p ≡ wrong-types) ↔ (Within p × NamesRight p × (TypesRight p → ⊥))
-  unfolding program-number first order breach
+  unfolding program-number first breach-tests
   number-types = go (within-reflects p) (names-reflects p) (types-reflects p)
     where
       go : {a b c : Bool} → Reflects (Within p) a → Reflects (NamesRight p) b → Reflects (TypesRight p) c
@@ -164,11 +176,11 @@ module _ (p : Program) where
       go (fails f) s t = no-no (λ e. omega arith) (λ q. f (q .0))
 
   -- no other number comes out
-  pub number-among : List·Memᴰ (program-number p) (accepted ∷ order)
-  unfolding program-number
-  number-among = first-among (λ n. breach n p) order
+  pub number-among : List·Memᴰ (program-number p) (accepted ∷ over-limits ∷ wrong-names ∷ wrong-types ∷ [])
+  unfolding program-number breach-tests
+  number-among = first-among (breach-tests p)
 
   -- a number comes out exactly where its condition holds and that of none before it in the order
-  pub number-first : (n : ℕ) → (n ≡ accepted → ⊥) → (program-number p ≡ n) ↔ Foremost (λ m. Breach m p) order n
+  pub number-first : (n : ℕ) → (n ≡ accepted → ⊥) → (program-number p ≡ n) ↔ Foremost (breaches p) n
   unfolding program-number
-  number-first n h = first-exact (λ m. Breach m p) (λ m. breach m p) (λ m. breach-reflects m p) order n h
+  number-first = first-exact (breaches p) (breach-tests p) (breaches-tested p)

@@ -1,4 +1,4 @@
--- Steps, their commands and their depth, by computation (01, 'Names, types, commands' and its listing).
+-- Rows that pin what no law does: steps, their commands and their depth, by computation (01, 'Names, types, commands' and its listing).
 use Prim.Native.Nat.{ℕ, zero, suc}
 use mathlib.Core.List.{List, [], _∷_, _++_}
 use mathlib.Core.Bool.{Bool, true, false}
@@ -76,19 +76,12 @@ rows =
       gives = plain push-this ∷ plain (rd 0) ∷ plain push-this ∷ plain (rd 1) ∷ plain (rd 0) ∷ plain (oper op-add) ∷ plain push-this ∷ plain (wr 0) ∷ [];
       deep = 2;
     }
-    -- labels that construct statements leave
+    -- labels that construct statements leave, and leave in an if
     ∷ record { step = labels 14 set-2; gives = replicate 14 (plain (cons 1)) ++ set-2-list; deep = 16 }
-    ∷ record { step = labels 15 set-2; gives = replicate 15 (plain (cons 1)) ++ set-2-list; deep = 17 }
-    -- in an if
     ∷ record {
       step = next (when (bool-lit 1) (labels 14 end)) set-2;
       gives = plain (push bool (bool-val true)) ∷ if-n 14 ∷ replicate 14 (plain (cons 1)) ++ set-2-list;
       deep = 16;
-    }
-    ∷ record {
-      step = next (when (bool-lit 1) (labels 15 end)) set-2;
-      gives = plain (push bool (bool-val true)) ∷ if-n 15 ∷ replicate 15 (plain (cons 1)) ++ set-2-list;
-      deep = 17;
     }
     -- a path of three variables, written and read
     ∷ record {

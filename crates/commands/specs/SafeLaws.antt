@@ -10,10 +10,10 @@ module _ {G : Ctx} {n : Note} {c : List Note} {x : Tags} where
   pub ready : Safe G (n ∷ c) x → Asks G n x
   ready (act n a k k') = a
 
-  safe-on : Safe G (n ∷ c) x → Safe G c (next G n x)
+  pub safe-on : Safe G (n ∷ c) x → Safe G c (next G n x)
   safe-on (act n a k k') = k
 
-  safe-over : Safe G (n ∷ c) x → Safe G (drop (jump n) c) (next G n x)
+  pub safe-over : Safe G (n ∷ c) x → Safe G (drop (jump n) c) (next G n x)
   safe-over (act n a k k') = k'
 
 -- a safe start is safe wherever it leads

@@ -15,7 +15,10 @@ use Rattle.commands.specs.Names.{Named, NamedSteps, NamesRight}
 use Rattle.commands.specs.Typing.{Typed, TypedSteps, TypesRight}
 use Rattle.commands.specs.Noted.{noted}
 use Rattle.commands.specs.Tags.{at-start, Safe}
-use Rattle.commands.specs.Static.{static-step}
+use Rattle.commands.specs.Static.{secure-step}
+use Rattle.commands.specs.Living.{lives, alive, Among}
+use Rattle.commands.specs.Secure.{Secure}
+use Rattle.commands.specs.SecureLaws.{secure-safe}
 
 -- what holds of all holds of each
 pub of-each : {A : Type 0} (C : A → Type 0) {a : A} {l : List A} → All C l → List·Memᴰ a l → C a
@@ -44,16 +47,25 @@ found (t ∷ ts) n {b = b} e = go (eqb (t .name) n) e (λ e. found ts n e)
     go false e k = let (u, m, q) = k e in (u, List·Memᴰ·tail m, q)
 
 module _ (p : Program) (names : NamesRight p) (types : TypesRight p) (k : ℕ) where
-  -- every step of a program with right names and types is safe on every way
-  pub program-safe : (t : Step) → List·Memᴰ t (getD (p .steps) k [])
-      → Safe (context p k (t .body)) (noted (context p k (t .body)) (t .body)) at-start
+  -- every step of a program with right names and types is secure, with nothing alive at its start,
+  pub program-secure : (t : Step) → List·Memᴰ t (getD (p .steps) k [])
+      → (Among (alive (lives (t .body))) []) × (Secure (context p k (t .body)) (noted (context p k (t .body)) (t .body)) (lives (t .body)) [] false)
   unfolding NamesRight TypesRight
-  program-safe t m =
+  program-secure t m =
       let d = each-step (λ j t. Typed (context p j (t .body)) (t .body)) (TypedSteps p) (λ j ts tss q. q) 0 (p .steps) k types m in
       let n =
       each-step (λ j t. Named (t .body) (length (params-of p j)) [] []) (NamedSteps p) (λ j ts tss q. (q .1, q .2)) 0 (p .steps) k (names .0) m in
-      static-step p k (t .body) (rw zero-add at d) (rw zero-add at n)
+      secure-step p k (t .body) (rw zero-add at d) (rw zero-add at n)
 
-  -- so are the commands that the step n of struct k gives its instances
+  -- as are the commands that the step n of struct k gives its instances
+  pub step-secure : (n : ℕ) {b : Stmts} → step-of p k n ≡ some b
+      → (Among (alive (lives b)) []) × (Secure (context p k b) (noted (context p k b) b) (lives b) [] false)
+  step-secure n e = let (t, m, q) = found (getD (p .steps) k []) n e in rw q at (program-secure t m)
+
+  -- and so safe on every way
+  pub program-safe : (t : Step) → List·Memᴰ t (getD (p .steps) k [])
+      → Safe (context p k (t .body)) (noted (context p k (t .body)) (t .body)) at-start
+  program-safe t m = let (alive, secure) = program-secure t m in secure-safe secure alive
+
   pub step-safe : (n : ℕ) {b : Stmts} → step-of p k n ≡ some b → Safe (context p k b) (noted (context p k b) b) at-start
-  step-safe n e = let (t, m, q) = found (getD (p .steps) k []) n e in rw q at (program-safe t m)
+  step-safe n e = let (alive, secure) = step-secure n e in secure-safe secure alive

@@ -17,6 +17,7 @@ use Rattle.table.specs.Table.{Record}
 use Rattle.machine.specs.Machine.{Machine}
 use Rattle.run.specs.Run.{Outcome, Outcome.stopped, run}
 use Rattle.run.specs.Begin.{begin}
+use Rattle.run.specs.Visits.{Visits}
 use Rattle.run.specs.RunAgreesVisits.{run-turns}
 use Rattle.run.specs.Entry.{Begun.begun, listed, report, report-of, output-of, last-stream, run-report-by, run-output-by, run-list-by}
 use Rattle.sound.specs.Accepted.{Accepted}
@@ -34,7 +35,8 @@ use Rattle.tables.specs.Written.{memory-stream, memory-blocks, memory-image, Fi
 use Rattle.tables.specs.WrittenWays.{stream-fits}
 use Rattle.tables.specs.WriteStands.{null-ones, filled, stream-stands}
 use Rattle.runner.specs.Ready.{Ready}
-use Rattle.runner.specs.Running.{cleared, Ended}
+use Rattle.runner.specs.Running.{cleared, Ended, Settling, Gone}
+use Rattle.runner.specs.RunWays.{gone-visits}
 use Rattle.entry.specs.declared.Report.{Report}
 use Rattle.entry.specs.Answer.{answer}
 use Rattle.entry.specs.Stages.{roomed, Answers, Admitted, Seated}
@@ -86,6 +88,14 @@ module _ {s counts : List ℕ} {at depth n : ℕ} {heads cells : List ℕ} {p : 
       tabled = begin-tabled p rs (w .right);
       stands = w .stands list′ codes′ 0 (prepared .laid .start);
     }
+
+    -- and behind i turns it stands for a machine that this run passes through, with the bytes that are left
+    pub seated-visits : length spans′ ≡ span-places → {es : List ℕ} {z₁ z : State} {b₁ i b : ℕ} → Settling codes′ spans′ (beginning n 0 heads cells) z₁ b₁
+        → Gone counts list′ codes′ spans′ es z₁ b₁ i z b
+        → (m : Machine) × (Visits p (begin p rs) es m (drop i es)) × (Ready p counts list′ codes′ spans′ m (cleared z))
+    seated-visits e settled g =
+        let r = seated-ready e in
+        gone-visits (record { program = p; machine = begin p rs; ready = r }) settled g p (begin p rs) r
 
   -- The answer ---------------------------------------------------------------------------
 

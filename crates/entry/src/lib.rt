@@ -179,21 +179,21 @@ fn of_table(
     ensures { λ r. ⌜ Answers (of-checked (of-read (read (now (s .entry)))) (now (table .entry))) (now (turns .entry)) (now (output .entry)) (now (list .entry)) r (now (output .exit)) (now (list .exit)) ⌝ }
 {
     let mut buffer = [0u8; types::TABLE_BLOCKS * blocks::PAYLOAD_SIZE];
-    match blocks::read_image(table, types::TABLE_BLOCKS, &mut buffer) {
-        Read::Refused(f) => refused(blocks::table_number(f)),
-        Read::Short => refused(9),
-        Read::Stream(n) => of_records(
-            s,
-            counts,
-            types,
-            at,
-            depth,
-            &buffer[..n],
-            turns,
-            output,
-            list,
-        ),
-    }
+    let r = blocks::read_image(table, types::TABLE_BLOCKS, &mut buffer);
+    let Read::Stream(n) = r else {
+        return refused(tables::image_refusal(r));
+    };
+    of_records(
+        s,
+        counts,
+        types,
+        at,
+        depth,
+        &buffer[..n],
+        turns,
+        output,
+        list,
+    )
 }
 
 // A program stream: 4 to 8, and the table of an accepted program.
@@ -239,9 +239,9 @@ pub fn run(
     ensures { λ _. ⌜ now (list .exit) ≡ run-list (now (program .entry)) (now (table .entry)) (now (turns .entry)) (now (output .entry)) (now (list .entry)) ⌝ }
 {
     let mut buffer = [0u8; types::PROGRAM_BLOCKS * blocks::PAYLOAD_SIZE];
-    match blocks::read_image(program, types::PROGRAM_BLOCKS, &mut buffer) {
-        Read::Refused(f) => refused(blocks::program_number(f)),
-        Read::Short => refused(1),
-        Read::Stream(n) => of_stream(&buffer[..n], table, turns, output, list),
-    }
+    let r = blocks::read_image(program, types::PROGRAM_BLOCKS, &mut buffer);
+    let Read::Stream(n) = r else {
+        return refused(checker::image_refusal(r));
+    };
+    of_stream(&buffer[..n], table, turns, output, list)
 }

@@ -8,7 +8,7 @@ use mathlib.Core.Path.{_≡_, refl, ap, _∙_, sym}
 use lib.ListN.{length, getD}
 use lib.Dec.{eqb}
 use borrow.Author.Tests.{eqb-true}
-use Rattle.types.specs.Limits.{max-structs, first-local}
+use Rattle.types.specs.Limits.{max-structs, max-locals}
 use Rattle.types.specs.Types.{Ty, Ty.int, Ty.bool, code}
 use Rattle.program.specs.Tree.{Stmt, Stmt.when, Stmt.declare, Stmt.update, Stmt.create, Stmts, Stmts.end, Stmts.next, Program}
 use Rattle.program.specs.Counts.{IsPath, CountsStmt, CountsStmts}
@@ -83,7 +83,7 @@ module _ {cs ar types : List ℕ} {G : Ctx} (T : Tables cs ar types G) (few : le
   same L = record { counts = T .counts; arities = T .arities; codes = T .codes }
 
   -- a declared local is fresh
-  fresh : {c : Scope} {live seen : List ℕ} {L : ℕ → Ty} (x : ℕ) → x < first-local → Fits c live seen L
+  fresh : {c : Scope} {live seen : List ℕ} {L : ℕ → Ty} (x : ℕ) → x < max-locals → Fits c live seen L
       → Says (named (eqb (digit (c .seen) x) 0)) (not (member x seen)) true
   fresh {c} {live} {seen} x h f = rw (f .marked x h) (go (member x seen))
     where

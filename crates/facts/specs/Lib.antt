@@ -13,7 +13,6 @@ pub mod ProgramTableLaws
 pub mod TotalLaws
 pub mod NameTotalLaws
 pub mod ProgramFactsLaws
-pub mod FactRows
 pub mod ByteBoundLaws
 pub mod CodeOps
 pub mod CodeDigits

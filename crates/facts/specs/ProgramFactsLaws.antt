@@ -22,7 +22,7 @@ use Rattle.commands.specs.Decide.{every, member}
 use Rattle.commands.specs.BoundsDecide.{within}
 use Rattle.commands.specs.NamesDecide.{stepped, item-stepped, items-stepped, names-right}
 use Rattle.commands.specs.TypingDecide.{types-right}
-use Rattle.commands.specs.Numbers.{breach, first, order, program-number}
+use Rattle.commands.specs.Numbers.{first, breach-tests, program-number}
 use Rattle.facts.specs.Facts.{worst, named}
 use Rattle.facts.specs.Verdicts.{Says, Says.right, Tables, flag}
 use Rattle.facts.specs.FaultLaws.{says-as, says-both, says-named, says-number}
@@ -172,7 +172,7 @@ module _ (p : Program) (c : Counts p) where
 
     -- the number is the program's
     pub totals-law : totals-number totals planned ≡ program-number p
-    unfolding totals-number program-number first order breach names-right types-right no-totals
+    unfolding totals-number program-number first breach-tests names-right types-right no-totals
     totals-law =
         ap {B = ℕ} (λ q. elim q [ true ↦ 6 | false ↦ worst (totals .fault) (planned .fault) ]) exceeded-is
         ∙ ap {B = ℕ} (λ n. elim (not (within p)) [ true ↦ 6 | false ↦ n ]) (says-number said)

@@ -4,7 +4,7 @@ use mathlib.Core.Bool.{Bool, true, false}
 use mathlib.Core.List.{List}
 use mathlib.Core.Path.{_≡_}
 use lib.ListN.{length, getD}
-use Rattle.types.specs.Limits.{max-params, first-local}
+use Rattle.types.specs.Limits.{max-params, max-locals}
 use Rattle.types.specs.Types.{Ty, code}
 use Rattle.program.specs.Tree.{Stmt, Stmt.when, Stmt.declare, Stmt.update, Stmt.create, Stmts, Stmts.end, Stmts.next}
 use Rattle.commands.specs.Context.{Ctx, typ}
@@ -38,14 +38,14 @@ tagged false t = 0
 
 -- a number whose digits are these living locals with their types; these locals
 abbrev pub Living : ℕ → List ℕ → (ℕ → Ty) → Type 0
-Living w live L = (x : ℕ) → x < first-local → digit w x ≡ tagged (member x live) (L x)
+Living w live L = (x : ℕ) → x < max-locals → digit w x ≡ tagged (member x live) (L x)
 
 abbrev pub flag : Bool → ℕ
 flag true = 1
 flag false = 0
 
 abbrev pub Marked : ℕ → List ℕ → Type 0
-Marked w seen = (x : ℕ) → x < first-local → digit w x ≡ flag (member x seen)
+Marked w seen = (x : ℕ) → x < max-locals → digit w x ≡ flag (member x seen)
 
 -- the scope has these living locals, with these types, and these declared ones
 pub record Fits (c : Scope) (live seen : List ℕ) (L : ℕ → Ty) : Type 0 where

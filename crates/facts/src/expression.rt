@@ -74,7 +74,8 @@ fn gives(b: u8, t: u8) -> u8
     types::BOOL
 }
 
-// The operator of a byte, between two expressions: the second stands one above the first.
+// The operator of a byte, between two expressions: the second stands one above the first. Of a byte that is no operator's the facts are free:
+// one under 32 is taken as =, one over 44 as or. No reader hands one over.
 pub fn combined(b: u8, f: Facts, g: Facts) -> Facts
     requires { ⌜ (f .size + g .size + 1 < 2 ^ 64) × (g .peak + 1 < 2 ^ 64) ⌝ }
     ensures { λ r. ⌜ ((o : Op) → form b ≡ form-op o → r ≡ combined o f g) ⌝ }

@@ -4,10 +4,8 @@ use native.Mathlib.Omega.{arith}
 use mathlib.Core.Path.{_≡_, refl, sym, ap, _∙_}
 use mathlib.Core.List.{List, [], _∷_, _++_}
 use lib.ListN.{length, drop}
-use Rattle.types.specs.Limits.{program-blocks, max-commands}
-use Rattle.blocks.specs.Images.{stream, read as image-read}
-use Rattle.blocks.specs.declared.Fault.{Fault}
-use Rattle.blocks.specs.declared.Read.the-variants.{Refused as ImageRefused}
+use Rattle.types.specs.Limits.{max-commands}
+use Rattle.blocks.specs.Images.{stream}
 use Rattle.program.specs.Tree.{Program}
 use Rattle.program.specs.Reader.{Result.ok, read}
 use Rattle.program.specs.ProgramLaws.{program-law}
@@ -16,27 +14,25 @@ use Rattle.emit.specs.Written.{code-of}
 use Rattle.emit.specs.ProgramWords.{program-words}
 use Rattle.emit.specs.ProgramLaws.{program-length as words-length}
 use Rattle.run.specs.Entry.{Checked.accepted, Checked.refused, checked, approval, listed, check-verdict, check-list}
-use Rattle.run.specs.Input.{Accepted, ProgramRefuses, ProgramRefuses.program-length, ProgramRefuses.program-sums, ProgramRefuses.program-layout, ProgramRefuses.program-end, ProgramRefuses.program-byte, ProgramRefuses.program-limits, ProgramRefuses.program-names, ProgramRefuses.program-types, program-order}
-use Rattle.run.specs.InputOrder.{Tells, Tells.refuses, Tells.passes}
+use Rattle.run.specs.Input.{Accepted, program-order}
+use Rattle.run.specs.InputOrder.{Numbered, foremost-numbered, Tells, Tells.refuses, Tells.passes}
 use Rattle.run.specs.InputProgram.{Passed, tell-checked}
 use Rattle.checker.specs.declared.Verdict.{Verdict}
 use Rattle.checker.specs.Answer.{answer}
-use Rattle.checker.specs.CheckLaws.{refused-answers, room-answers, same-words, image-refused}
+use Rattle.checker.specs.CheckLaws.{refused-answers, room-answers, same-words}
 use Rattle.text.specs.Listing.{row}
 use Rattle.step_lines.specs.Lines.{program-lines}
 use Rattle.step_lines.specs.Walk.{line-most, Walkable}
 use Rattle.listing.specs.Listings.{audala, refused-word, head, listing, listing-of}
 
 -- a refusal's number is not 0
-some : {x : List ℕ} {n : ℕ} → ProgramRefuses x n → 1 ≤ n
-some (program-length f) = omega arith
-some (program-sums b) = omega arith
-some (program-layout b) = omega arith
-some (program-end e) = omega arith
-some (program-byte e) = omega arith
-some (program-limits r f) = omega arith
-some (program-names r f) = omega arith
-some (program-types r f) = omega arith
+some : (x : List ℕ) → Numbered (λ n. 1 ≤ n) (program-order x)
+some x = omega arith
+
+-- an image that is refused is listed with its number
+pub image-listing : (x : List ℕ) (m n : ℕ) → m ≡ n → checked x ≡ refused n → listing-of x ≡ row refused-word (m ∷ [])
+unfolding listing listing-of
+image-listing x m n e h = rw (h, e)
 
 module _ (x list : List ℕ) (v : Verdict) (says : v ≡ answer (check-verdict x list)) (room : max-commands ≤ length list) where
   -- the image is refused with that number
@@ -44,7 +40,7 @@ module _ (x list : List ℕ) (v : Verdict) (says : v ≡ answer (check-verdict x
   unfolding listing listing-of check-verdict
   refused-listing h = go (tell-checked x)
     where
-      go : Tells (ProgramRefuses x) refused (Passed x) program-order (checked x) → listing (checked x) ≡ row refused-word (v .number ∷ [])
+      go : Tells refused (Passed x) (program-order x) (checked x) → listing (checked x) ≡ row refused-word (v .number ∷ [])
       go (refuses {n} e q) =
           let w : v .number ≡ n = ap (λ (z : Verdict). z .number) (says ∙ ap answer (sym (refused-answers (checked x) n list e .0))) in
           rw (e, w)
@@ -60,10 +56,10 @@ module _ (x list : List ℕ) (v : Verdict) (says : v ≡ answer (check-verdict x
   unfolding check-verdict
   approved h = go (tell-checked x)
     where
-      go : Tells (ProgramRefuses x) refused (Passed x) program-order (checked x) → Approved
+      go : Tells refused (Passed x) (program-order x) (checked x) → Approved
       go (refuses {n} e q) =
           let w : v .number ≡ n = ap (λ (z : Verdict). z .number) (says ∙ ap answer (sym (refused-answers (checked x) n list e .0))) in
-          absurd (omega (arith, some (q .3)))
+          absurd (omega (arith, foremost-numbered (λ m. 1 ≤ m) (some x) q))
       go (passes f d) = record { program = d .0; accepts = d .1; meets = d .2 }
 
   module _ (a : Approved) where
@@ -72,14 +68,6 @@ module _ (x list : List ℕ) (v : Verdict) (says : v ≡ answer (check-verdict x
 
     pub reads : read (stream x) ≡ ok p (length (stream x))
     reads = program-law (stream x) p (length (stream x)) .1 (a .meets .reads .counts, a .meets .reads .bytes, refl)
-
-    -- its blocks are right
-    pub no-fault : (f : Fault) (n : ℕ) → image-read program-blocks x n ≡ ImageRefused f → ⊥
-    no-fault f n e =
-        let h = image-refused x f n e in
-        let q = a .accepts in
-        let z : _≡_ {A = ℕ} 0 1 = cc in
-        omega arith
 
     -- its head, and then its lines
     pub accepted-listing : listing-of x ≡ row audala (v .structs ∷ v .steps ∷ v .commands ∷ v .depth ∷ []) ++ code-of program-lines (read (stream x))

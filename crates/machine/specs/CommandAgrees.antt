@@ -6,8 +6,8 @@ use native.Mathlib.Omega.{arith}
 use Rattle.program.specs.Tree.{Program}
 use Rattle.machine.specs.Published.{State, State.state}
 use Rattle.machine.specs.Rules.{Actor.instance, Rule}
-use Rattle.machine.specs.Stops.{Full, Exceeded}
-use Rattle.machine.specs.Machine.{Machine, Out, Out.next, Out.refused, Out.stuck, full, exceeded, command}
+use Rattle.machine.specs.Stops.{Full, Exceeded, full, exceeded}
+use Rattle.machine.specs.Machine.{Machine, Out, Out.next, Out.refused, Out.stuck, command}
 use Rattle.machine.specs.Represents.{Represents}
 use Rattle.machine.specs.CommandFollows.{Follows, command-outcome}
 use Rattle.machine.specs.CommandComplete.{Leads, rule-leads, full-refused, exceeded-refused}
@@ -31,10 +31,10 @@ module _ (p : Program) (l : ℕ) (m : Machine) where
   command-complete {st = state s σ b} {st′} R r = led st′ (command p l m) (rule-leads p m l s σ b R r)
 
   -- a command is refused with 34 exactly where it is cons with 256 instances
-  pub command-full : (st : State) → Represents m st → (command p l m ≡ refused full) ↔ (Full p l st)
+  pub command-full : (st : State) → Represents m st → (command p l m ≡ refused full) ↔ (Full l st)
   command-full (state s σ b) R = (λ e. go (rw e at (outcome (state s σ b) R)), full-refused p m l s σ b R)
     where
-      go : Follows p l (state s σ b) (refused full) → Full p l (state s σ b)
+      go : Follows p l (state s σ b) (refused full) → Full l (state s σ b)
       go (inl h) = h .1
       go (inr h) = absurd (omega arith)
 
@@ -56,7 +56,7 @@ module _ (p : Program) (l : ℕ) (m : Machine) where
 
   -- no command comes of it exactly where no rule and no condition of a number fits
   pub command-stuck : (st : State) → Represents m st
-      → (command p l m ≡ stuck) ↔ (((st′ : State) → Rule p (instance l) st st′ → ⊥) × (Full p l st → ⊥) × (Exceeded l st → ⊥))
+      → (command p l m ≡ stuck) ↔ (((st′ : State) → Rule p (instance l) st st′ → ⊥) × (Full l st → ⊥) × (Exceeded l st → ⊥))
   command-stuck st R = (
     λ e. (
       λ st′ r. let (m′, f, h) = command-complete R r in let z : _≡_ {A = ℕ} 0 1 = cc in omega arith,
@@ -66,7 +66,7 @@ module _ (p : Program) (l : ℕ) (m : Machine) where
     λ h. go (command p l m) (outcome st R) h,
   )
     where
-      go : (o : Out) → Follows p l st o → ((st′ : State) → Rule p (instance l) st st′ → ⊥) × (Full p l st → ⊥) × (Exceeded l st → ⊥) → o ≡ stuck
+      go : (o : Out) → Follows p l st o → ((st′ : State) → Rule p (instance l) st st′ → ⊥) × (Full l st → ⊥) × (Exceeded l st → ⊥) → o ≡ stuck
       go (next m′) (st′, r, q) h = absurd (h .0 st′ r)
       go (refused n) (inl f) h = absurd (h .1 (f .1))
       go (refused n) (inr f) h = absurd (h .2 (f .1))

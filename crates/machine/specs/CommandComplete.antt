@@ -5,17 +5,15 @@ use mathlib.Core.Bool.{Bool, true, false, not as negation}
 use mathlib.Core.Option.{Option, none, some}
 use mathlib.Core.List.{List, [], _∷_, _++_, map, reverse, reverse-reverse}
 use native.Mathlib.Omega.{arith}
-use lib.ListN.{length, getD, getElem?, set, take, drop, length-append, length-reverse}
+use lib.ListN.{length, getElem?, set, take, drop, length-append, length-reverse}
 use lib.Seq.{take-at, drop-at, drop-append-seam}
 use lib.Dec.{ltb}
 use borrow.Author.Tests.{ltb-true, lt-ltb, le-ltb, le-leb}
 use Rattle.types.specs.Limits.{max-instances}
-use Rattle.types.specs.Types.{Ty, Ty.int, Ty.bool, Ty.ref}
+use Rattle.types.specs.Types.{Ty, Ty.bool, Ty.ref}
 use Rattle.types.specs.Values.{Val, Val.bool-val, Val.label}
 use Rattle.program.specs.Tree.{Op, Program}
 use Rattle.commands.specs.Commands.{Com.push, Com.push-this, Com.rd, Com.wr, Com.cons, Com.not, Com.oper, Coms, Coms.nil, then, Flat, Flat.plain, Flat.if-n, flatten}
-use Rattle.commands.specs.Context.{params-of}
-use Rattle.commands.specs.Typing.{sort}
 use Rattle.commands.specs.Noted.{Note, erase, now-written}
 use Rattle.commands.specs.CommandLaws.{flatten-then}
 use Rattle.words.specs.Operators.{Applies, Exceeds}
@@ -24,13 +22,12 @@ use Rattle.words.specs.ApplyLaws.{apply-value, apply-outside}
 use Rattle.words.specs.TestLaws.{same-val-exact}
 use Rattle.machine.specs.Published.{Sched, Env, lookup, assign, fresh-env, Inst, Inst.inst, State, State.state, update-env, structs, arity}
 use Rattle.machine.specs.Rules.{Settled, Settled.no-parameter, Settled.same-value, Settled.other-value, meet, Actor.instance, Rule, Rule.ComPush, Rule.ComPushThis, Rule.ComRd, Rule.ComWr, Rule.ComWrNSkip, Rule.ComNot, Rule.ComOp, Rule.ComCons, Rule.ComIfT, Rule.ComIfF}
-use Rattle.machine.specs.Stops.{Full, Full.no-label, Exceeded, Exceeded.no-result}
-use Rattle.machine.specs.Machine.{Tagged, tagged, Instance, Machine, Out, Out.next, Out.refused, Out.stuck, full, exceeded, with-code, with-written, put, settled, read-from, read-at, read, write-to, write-parameter, write-at, write, negate, branch, operated, operate, made, construct, perform, command}
+use Rattle.machine.specs.Stops.{Full, Full.no-label, Exceeded, Exceeded.no-result, full, exceeded}
+use Rattle.machine.specs.Machine.{Tagged, tagged, Source, Source.variable, Source.local, Source.result, given-by, Instance, Machine, Out, Out.next, Out.refused, Out.stuck, with-code, with-written, put, settled, read-from, read-at, read, write-to, write-parameter, write-at, write, negate, branch, operated, operate, made, construct, perform, command}
 use Rattle.machine.specs.Represents.{values, Represents-inst, Represents}
 use Rattle.machine.specs.RepresentsLaws.{instance-at, values-length, map-drop, map-take, top, represents-length, represents-set, represents-env, represents-append}
 use Rattle.machine.specs.PerformedLaws.{performs}
 use Rattle.machine.specs.Heads.{Means, Means.m-push, Means.m-this, Means.m-not, Means.m-rd, Means.m-get, Means.m-wr, Means.m-set, Means.m-cons, Means.m-op, Means.m-if, next-note}
-use Rattle.commands.specs.Tags.{result-type}
 
 -- a machine comes to be that stands for this state
 abbrev pub Leads : State → Out → Type 0
@@ -95,19 +92,19 @@ module _ (p : Program) (m : Machine) (l : ℕ) (s : Sched) (σ : List Inst) (b :
 
     -- rd
     module _ (v : ℕ) {q j : ℕ} {d : Coms} {ψ χ : List Val} {η : Env} {y : Val} (e : values (i .stack) ≡ label q ∷ χ) (g : getElem? σ q ≡ some (inst j d ψ η)) (h : lookup η v ≡ some y) where
-      read-leads : (t : Ty) → Leads (state s (set σ l (inst k c (y ∷ χ) ξ)) b) (read p m l i r (i .stack) v t)
+      read-leads : (f : ℕ → Source) → Leads (state s (set σ l (inst k c (y ∷ χ) ξ)) b) (read p m l i r (i .stack) v f)
       unfolding read read-at read-from values
       read-leads t =
           let (a, f, (ea, ed, ex, eη)) = instance-at (m .instances) σ q (R .1) g in
           top (λ ψ. Leads (state s (set σ l (inst k c (y ∷ χ) ξ)) b) (read p m l i r ψ v t)) (i .stack) e
           λ u χ′ f′. subst (λ o. Leads (state s (set σ l (inst k c (y ∷ χ) ξ)) b) (read-at p m l i r χ′ v t o)) (sym f)
-          (subst (λ o. Leads (state s (set σ l (inst k c (y ∷ χ) ξ)) b) (read-from p m l i r χ′ v t o)) (sym (ap (λ z. lookup z v) eη ∙ h))
-          (put-leads (with-code i r (tagged t y ∷ χ′)) (inst k c (y ∷ χ) ξ) (ek, ec, cc, eξ)))
+          (subst (λ o. Leads (state s (set σ l (inst k c (y ∷ χ) ξ)) b) (read-from p m l i r χ′ (t (a .struct)) o)) (sym (ap (λ z. lookup z v) eη ∙ h))
+          (put-leads (with-code i r (tagged (given-by p (t (a .struct))) y ∷ χ′)) (inst k c (y ∷ χ) ξ) (ek, ec, cc, eξ)))
 
       rd-leads : {n : Note} → Means (plain (rd v)) n → Leads (state s (set σ l (inst k c (y ∷ χ) ξ)) b) (perform p m l i n r)
       unfolding perform
-      rd-leads (m-rd {k = a}) = read-leads (getD (params-of p a) v int)
-      rd-leads (m-get {t = t} f) = rw f (read-leads t)
+      rd-leads m-rd = read-leads (λ j. variable j v)
+      rd-leads (m-get {t = t} f) = rw f (read-leads (λ j. local t))
 
     -- wr
     module _ (v : ℕ) {q j : ℕ} {d : Coms} {ψ χ : List Val} {η : Env} {y : Val} (e : values (i .stack) ≡ label q ∷ y ∷ χ) (g : getElem? σ q ≡ some (inst j d ψ η)) where
@@ -170,19 +167,19 @@ module _ (p : Program) (m : Machine) (l : ℕ) (s : Sched) (σ : List Inst) (b :
 
     -- op: what holds of the answer holds of the command
     answered : (P : Out → Type 0) {o : Op} {x y : Val} {n : Note} {χ : List Val} {a : Answer} → values (i .stack) ≡ y ∷ x ∷ χ → apply o x y ≡ a → Means (plain (oper o)) n
-        → ((t : Ty) (χ′ : List Tagged) → values χ′ ≡ χ → P (operated p m l i r χ′ t a)) → P (perform p m l i n r)
+        → ((s : Source) (χ′ : List Tagged) → values χ′ ≡ χ → P (operated p m l i r χ′ s a)) → P (perform p m l i n r)
     unfolding perform operate
     answered P {x = x} {y = y} e h (m-op {o = o}) t =
         top (λ ψ. P (operate p m l i o r ψ)) (i .stack) e
         λ u χ′ f′. top (λ ψ. P (operate p m l i o r (tagged u y ∷ ψ))) χ′ f′
-        λ w χ″ f″. subst (λ z. P (operated p m l i r χ″ (result-type (sort o) w) z)) (sym h) (t (result-type (sort o) w) χ″ f″)
+        λ w χ″ f″. subst (λ z. P (operated p m l i r χ″ (result o w) z)) (sym h) (t (result o w) χ″ f″)
 
     op-leads : {o : Op} {x y z : Val} {n : Note} {χ : List Val} → values (i .stack) ≡ y ∷ x ∷ χ → Applies o x y z → Means (plain (oper o)) n
         → Leads (state s (set σ l (inst k c (z ∷ χ) ξ)) b) (perform p m l i n r)
     unfolding operated values
     op-leads {o} {x} {y} {z} {χ = χ} e h t =
         answered (Leads (state s (set σ l (inst k c (z ∷ χ) ξ)) b)) e (apply-value o x y z .1 h) t
-        λ u χ′ f. put-leads (with-code i r (tagged u z ∷ χ′)) (inst k c (z ∷ χ) ξ) (ek, ec, cc, eξ)
+        λ u χ′ f. put-leads (with-code i r (tagged (given-by p u) z ∷ χ′)) (inst k c (z ∷ χ) ξ) (ek, ec, cc, eξ)
 
     cons-leads : {j : ℕ} {n : Note} (xs χ : List Val) → values (i .stack) ≡ reverse xs ++ χ → length xs ≡ arity p j → length σ < max-instances → Means (plain (cons j)) n
         → Leads (state s (set σ l (inst k c (label (length σ) ∷ χ) ξ) ++ inst j nil [] (fresh-env xs) ∷ []) (meet false b)) (perform p m l i n r)
@@ -195,7 +192,7 @@ module _ (p : Program) (m : Machine) (l : ℕ) (s : Sched) (σ : List Inst) (b :
         let i′ : Instance = with-code i r (tagged (ref j) (label (length (m .instances))) ∷ drop (arity p j) (i .stack)) in
         let v : values (drop (arity p j) (i .stack)) ≡ χ = rw (map-drop (λ (x : Tagged). x .is), e) (drop-at (reverse xs) χ (arity p j) a) in
         let w : reverse (values (take (arity p j) (i .stack))) ≡ xs = rw (map-take (λ (x : Tagged). x .is), e, take-at (reverse xs) χ (arity p j) a) (reverse-reverse xs) in
-        rw (le-leb (arity p j) (length (i .stack)) d, lt-ltb (length (m .instances)) max-instances t, construct) (
+        rw (lt-ltb (length (m .instances)) max-instances t, le-leb (arity p j) (length (i .stack)) d, construct) (
           R .0,
           represents-append (set (m .instances) l i′) (set σ l (inst k c (label (length σ) ∷ χ) ξ)) (made p m l i j (arity p j) (i .stack)) (inst j nil [] (fresh-env xs))
               (represents-set (m .instances) σ l i′ (inst k c (label (length σ) ∷ χ) ξ) (R .1) (ek, ec, rw (q, v), eξ))
@@ -204,12 +201,11 @@ module _ (p : Program) (m : Machine) (l : ℕ) (s : Sched) (σ : List Inst) (b :
         )
 
     -- 34 and 35
-    full-is : {j : ℕ} {n : Note} {χ : List Val} → values (i .stack) ≡ χ → arity p j ≤ length χ → max-instances ≤ length σ → Means (plain (cons j)) n → perform p m l i n r ≡ refused full
+    full-is : {j : ℕ} {n : Note} → max-instances ≤ length σ → Means (plain (cons j)) n → perform p m l i n r ≡ refused full
     unfolding perform construct
-    full-is e a h (m-cons {k = j}) =
-        let d : arity p j ≤ length (i .stack) = omega (arith, ap length e, values-length (i .stack)) in
+    full-is h m-cons =
         let t : max-instances ≤ length (m .instances) = omega (arith, represents-length (m .instances) σ (R .1)) in
-        rw (le-leb (arity p j) (length (i .stack)) d, le-ltb (length (m .instances)) max-instances t, construct)
+        rw (le-ltb (length (m .instances)) max-instances t, construct)
 
     exceeded-is : {o : Op} {x y : Val} {n : Note} {χ : List Val} → values (i .stack) ≡ y ∷ x ∷ χ → Exceeds o x y → Means (plain (oper o)) n → perform p m l i n r ≡ refused exceeded
     unfolding operated
@@ -249,9 +245,9 @@ module _ (p : Program) (m : Machine) (l : ℕ) (s : Sched) (σ : List Inst) (b :
   rule-leads (ComIfF {c = c} {d = d} g e) = rw e (leads _ g refl (λ i n r ek ec ex eξ h. branch-leads i r d c false ek ec ex eξ h))
 
   -- cons with 256 instances is refused with 34
-  pub full-refused : Full p l (state s σ b) → command p l m ≡ refused full
+  pub full-refused : Full l (state s σ b) → command p l m ≡ refused full
   unfolding flatten
-  full-refused (no-label {c = c} g a f) = taken (λ o. o ≡ refused full) g refl (λ i n r ek ec ex eξ h. full-is i r c ek ec eξ ex a f h)
+  full-refused (no-label {c = c} g f) = taken (λ o. o ≡ refused full) g refl (λ i n r ek ec ex eξ h. full-is i r c ek ec eξ f h)
 
   -- a zero divisor, or a result outside its type, is refused with 35
   pub exceeded-refused : Exceeded l (state s σ b) → command p l m ≡ refused exceeded

@@ -22,8 +22,8 @@ use Rattle.words.specs.ApplyLaws.{apply-value, apply-outside}
 use Rattle.words.specs.TestLaws.{same-val-exact}
 use Rattle.machine.specs.Published.{Sched, Env, lookup, assign, fresh-env, Inst, Inst.inst, State, State.state, update-env, arity}
 use Rattle.machine.specs.Rules.{Settled, Settled.no-parameter, Settled.same-value, Settled.other-value, meet, Actor.instance, Rule, Rule.ComPush, Rule.ComPushThis, Rule.ComRd, Rule.ComWr, Rule.ComWrNSkip, Rule.ComNot, Rule.ComOp, Rule.ComCons, Rule.ComIfT, Rule.ComIfF}
-use Rattle.machine.specs.Stops.{Full, Full.no-label, Exceeded, Exceeded.no-result}
-use Rattle.machine.specs.Machine.{Tagged, tagged, Instance, Machine, Out, Out.next, Out.refused, Out.stuck, full, exceeded, with-code, with-written, put, settled, made, command}
+use Rattle.machine.specs.Stops.{Full, Full.no-label, Exceeded, Exceeded.no-result, full, exceeded}
+use Rattle.machine.specs.Machine.{Tagged, tagged, given-by, Instance, Machine, Out, Out.next, Out.refused, Out.stuck, with-code, with-written, put, settled, made, command}
 use Rattle.machine.specs.Represents.{values, Represents-inst, Represents}
 use Rattle.machine.specs.RepresentsLaws.{inst-at, values-length, map-drop, represents-length, represents-set, represents-env, represents-append}
 use Rattle.machine.specs.Performed.{Performed, Performed.pushed, Performed.pushed-this, Performed.negated, Performed.read-one, Performed.skipped, Performed.wrote, Performed.calculated, Performed.exceeding, Performed.constructed, Performed.filled, Performed.branched, Performed.no-way}
@@ -34,7 +34,7 @@ use Rattle.commands.specs.Tags.{result-type}
 -- what an outcome says of the published state
 abbrev pub Follows : Program → ℕ → State → Out → Type 0
 Follows p l st (next m) = (st′ : State) × (Rule p (instance l) st st′) × (Represents m st′)
-Follows p l st (refused n) = ((n ≡ full) × (Full p l st)) ⊎ ((n ≡ exceeded) × (Exceeded l st))
+Follows p l st (refused n) = ((n ≡ full) × (Full l st)) ⊎ ((n ≡ exceeded) × (Exceeded l st))
 Follows p l st stuck = Unit {0}
 
 module _ (p : Program) where
@@ -83,9 +83,9 @@ module _ (p : Program) (m : Machine) (l : ℕ) (s : Sched) (σ : List Inst) (b :
       put-follows (with-code i r (tagged bool (bool-val (negation u)) ∷ χ)) (inst (i .struct) c (bool-val (negation u) ∷ values χ) (i .env))
       (ComNot (rw (f, x) at g) refl)
       (refl, h, refl, refl)
-  way-follows i r d (read-one {v = v} {q = q} {t = t} {χ = χ} {x = y} k x j a) e g =
+  way-follows i r d (read-one {v = v} {q = q} {s = t} {χ = χ} {j = o} {x = y} k x j a) e g =
       let (c, f, h) = plain-head d (rd v) (map erase r) (rw (reads-erase k) at e) in
-      put-follows (with-code i r (tagged t y ∷ χ)) (inst (i .struct) c (y ∷ values χ) (i .env))
+      put-follows (with-code i r (tagged (given-by p (t (o .struct))) y ∷ χ)) (inst (i .struct) c (y ∷ values χ) (i .env))
       (ComRd (rw (f, x) at g) (inst-at (m .instances) σ q (R .1) j .1) a refl)
       (refl, h, refl, refl)
   way-follows i r d (skipped {v = v} {q = q} {χ = χ} k x j u a) e g =
@@ -128,9 +128,9 @@ module _ (p : Program) (m : Machine) (l : ℕ) (s : Sched) (σ : List Inst) (b :
           ap (meet false) (R .2),
         ),
       )
-  way-follows i r d (filled {k = k} a u) e g =
+  way-follows i r d (filled {k = k} u) e g =
       let (c, f, h) = plain-head d (cons k) (map erase r) e in
-      inl (refl, no-label (rw f at g) (rw values-length a) (rw (represents-length (m .instances) σ (R .1)) at u))
+      inl (refl, no-label (rw f at g) (rw (represents-length (m .instances) σ (R .1)) at u))
   way-follows i r d (branched {n = n} {b = true} {χ = χ} x) e g =
       let (a, c, f, h, k) = if-head d n (map erase r) e in
       put-follows (with-code i r χ) (inst (i .struct) (then a c) (values χ) (i .env)) (ComIfT (rw (f, x) at g) refl) (refl, k ∙ sym (flatten-then a c), refl, refl)

@@ -8,10 +8,11 @@ use lib.ListN.{length}
 use Rattle.types.specs.Limits.{first-local}
 use Rattle.types.specs.Types.{Ty}
 use Rattle.types.specs.Values.{Val}
-use Rattle.program.specs.Tree.{Op, Program}
+use Rattle.program.specs.Tree.{Op}
 use Rattle.commands.specs.Commands.{Com, Com.push, Com.push-this, Com.rd, Com.wr, Com.cons, Com.not, Com.oper, Coms, Coms.nil, Coms.act, Coms.if-then, Flat, Flat.plain, Flat.if-n, flatten}
 use Rattle.commands.specs.Noted.{Note, Note.n-push, Note.n-this, Note.n-not, Note.n-rd, Note.n-wr, Note.n-get, Note.n-set, Note.n-cons, Note.n-op, Note.n-if, erase}
-use Rattle.machine.specs.Performed.{Reads, Reads.parameter, Reads.local, Writes, Writes.to-parameter, Writes.to-local}
+use Rattle.machine.specs.Machine.{Source}
+use Rattle.machine.specs.Performed.{Reads, Reads.parameter, Reads.of-local, Writes, Writes.to-parameter, Writes.to-local}
 
 -- a plain command in front of a flat list is that in front of the nested one
 pub plain-head : (d : Coms) (f : Com) (r : List Flat) → plain f ∷ r ≡ flatten d → (c : Coms) × (d ≡ act f c) × (r ≡ flatten c)
@@ -61,10 +62,10 @@ next-note [] e = let z : _≡_ {A = ℕ} 0 1 = cc in absurd (omega arith)
 next-note (a ∷ r) {f} e = (a, r, refl, (let h : erase a ≡ f = cc in subst (λ g. Means g a) h (means a)), cc)
 
 -- a note of rd, or of wr, is one of the published command
-pub reads-erase : {p : Program} {n : Note} {v : ℕ} {t : Ty} → Reads p n v t → erase n ≡ plain (rd v)
+pub reads-erase : {n : Note} {v : ℕ} {s : ℕ → Source} → Reads n v s → erase n ≡ plain (rd v)
 unfolding erase
 reads-erase parameter = refl
-reads-erase local = refl
+reads-erase of-local = refl
 
 pub writes-erase : {n : Note} {v : ℕ} → Writes n v → erase n ≡ plain (wr v)
 unfolding erase

@@ -15,3 +15,4 @@ pub mod RuleUnique
 pub mod Measure
 pub mod MeasureLaws
 pub mod RulesLaws
+pub mod Rows

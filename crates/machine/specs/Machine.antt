@@ -1,6 +1,7 @@
 -- The executable machine: one command of an instance, and one schedule move (01, 'Table and turns').
--- An instance holds a suffix of its step's list, so that `if n` goes on or leaves n commands out; commands carry their notes,
--- and stack values what put them there, which no outcome depends on. Where no rule fits, the outcome is `stuck`.
+-- An instance holds a suffix of its step's list, so that `if n` goes on or leaves n commands out; commands carry their notes, and
+-- stack values the type by what put them there, which no outcome depends on. That type comes from the machine, and not from a
+-- note, but for a local's, which no machine keeps. Where no rule fits, the outcome is `stuck`.
 use Prim.Native.Nat.{ℕ, zero, suc, _+_}
 use mathlib.Core.Bool.{Bool, true, false, not}
 use mathlib.Core.Option.{Option, none, some}
@@ -18,6 +19,7 @@ use Rattle.commands.specs.Noted.{Note, Note.n-push, Note.n-this, Note.n-not, No
 use Rattle.words.specs.Apply.{Answer, Answer.value, Answer.outside, Answer.unfit, apply, same-val}
 use Rattle.machine.specs.Published.{Sched, Sched.done, Sched.start, Sched.start-in, Sched.fixpoint, Sched.active, before, Env, lookup, assign, fresh-env, structs, arity}
 use Rattle.machine.specs.Rules.{meet}
+use Rattle.machine.specs.Stops.{full, exceeded, nested}
 
 -- a stack value: the type that what put it there gives it, and the value (01, 'The words of demand 3')
 pub record Tagged : Type 0 where
@@ -26,6 +28,29 @@ pub record Tagged : Type 0 where
 
 abbrev pub tagged : Ty → Val → Tagged
 tagged t v = record { by = t; is = v }
+
+-- what puts a value on a stack
+pub data Source : Type 0 where
+  -- push T V; push this, by an instance of a struct
+  literal : Ty → Source
+  this : ℕ → Source
+  -- rd, of a variable of an instance of a struct; of a local, declared with a type
+  variable : ℕ → ℕ → Source
+  local : Ty → Source
+  -- cons k; an operator, with operands of a type; not
+  new : ℕ → Source
+  result : Op → Ty → Source
+  inverse : Source
+
+-- the type that it gives the value, in 01's order
+abbrev pub given-by : Program → Source → Ty
+given-by p (literal t) = t
+given-by p (this k) = ref k
+given-by p (variable k x) = getD (params-of p k) x int
+given-by p (local t) = t
+given-by p (new k) = ref k
+given-by p (result o t) = result-type (sort o) t
+given-by p inverse = bool
 
 pub record Instance : Type 0 where
   pub struct : ℕ
@@ -45,16 +70,6 @@ pub data Out : Type 0 where
   next : Machine → Out
   refused : ℕ → Out
   stuck : Out
-
--- the numbers from the state
-abbrev pub full : ℕ
-full = 34
-
-abbrev pub exceeded : ℕ
-exceeded = 35
-
-abbrev pub nested : ℕ
-nested = 36
 
 -- Few setters ------------------------------------------------------------------
 
@@ -90,22 +105,26 @@ settled p k v x none = true
 settled p k v x (some y) = elim (ltb v (arity p k)) [ true ↦ same-val y x | false ↦ true ]
 
 module _ (p : Program) (m : Machine) (l : ℕ) (i : Instance) where
-  -- the value of variable v of the instance on top, under the tag t
-  unfoldable pub read-from : List Note → List Tagged → ℕ → Ty → Option Val → Out
-  read-from c χ v t none = stuck
-  read-from c χ v t (some x) = next (put m l (with-code i c (tagged t x ∷ χ)))
+  -- the code behind, with the value x on the stack χ, which came from s
+  abbrev pub laid : List Note → List Tagged → Source → Val → Out
+  laid c χ s x = next (put m l (with-code i c (tagged (given-by p s) x ∷ χ)))
 
-  unfoldable pub read-at : List Note → List Tagged → ℕ → Ty → Option Instance → Out
-  read-at c χ v t none = stuck
-  read-at c χ v t (some j) = read-from c χ v t (lookup (j .env) v)
+  -- the value of variable v of the instance on top; it comes from that instance, by its struct
+  unfoldable pub read-from : List Note → List Tagged → Source → Option Val → Out
+  read-from c χ s none = stuck
+  read-from c χ s (some x) = laid c χ s x
 
-  unfoldable pub read : List Note → List Tagged → ℕ → Ty → Out
-  read c [] v t = stuck
-  read c (x ∷ χ) v t = elim (x .is) [
+  unfoldable pub read-at : List Note → List Tagged → ℕ → (ℕ → Source) → Option Instance → Out
+  read-at c χ v s none = stuck
+  read-at c χ v s (some j) = read-from c χ (s (j .struct)) (lookup (j .env) v)
+
+  unfoldable pub read : List Note → List Tagged → ℕ → (ℕ → Source) → Out
+  read c [] v s = stuck
+  read c (x ∷ χ) v s = elim (x .is) [
     | int-val z ↦ stuck
     | nat-val n ↦ stuck
     | bool-val b ↦ stuck
-    | label r ↦ read-at c χ v t (getElem? (m .instances) r)
+    | label r ↦ read-at c χ v s (getElem? (m .instances) r)
   ]
 
   -- x written to variable v of the instance r, which is j
@@ -149,7 +168,7 @@ module _ (p : Program) (m : Machine) (l : ℕ) (i : Instance) where
   negate c (x ∷ χ) = elim (x .is) [
     | int-val z ↦ stuck
     | nat-val n ↦ stuck
-    | bool-val b ↦ next (put m l (with-code i c (tagged bool (bool-val (not b)) ∷ χ)))
+    | bool-val b ↦ laid c χ inverse (bool-val (not b))
     | label r ↦ stuck
   ]
 
@@ -162,15 +181,15 @@ module _ (p : Program) (m : Machine) (l : ℕ) (i : Instance) where
     | label r ↦ stuck
   ]
 
-  unfoldable pub operated : List Note → List Tagged → Ty → Answer → Out
-  operated c χ t (value v) = next (put m l (with-code i c (tagged t v ∷ χ)))
-  operated c χ t outside = refused exceeded
-  operated c χ t unfit = stuck
+  unfoldable pub operated : List Note → List Tagged → Source → Answer → Out
+  operated c χ s (value v) = laid c χ s v
+  operated c χ s outside = refused exceeded
+  operated c χ s unfit = stuck
 
   unfoldable pub operate : Op → List Note → List Tagged → Out
   operate o c [] = stuck
   operate o c (y ∷ []) = stuck
-  operate o c (y ∷ x ∷ χ) = operated c χ (result-type (sort o) (x .by)) (apply o (x .is) (y .is))
+  operate o c (y ∷ x ∷ χ) = operated c χ (result o (x .by)) (apply o (x .is) (y .is))
 
   -- an instance of struct k with the n values on top, the last on top; it holds no commands
   abbrev pub made : ℕ → ℕ → List Tagged → Instance
@@ -182,31 +201,32 @@ module _ (p : Program) (m : Machine) (l : ℕ) (i : Instance) where
     written = [];
   }
 
+  -- whether a label is free is asked first
   unfoldable pub construct : ℕ → List Note → List Tagged → Out
   construct k c χ =
-      elim (leb (arity p k) (length χ)) [
+      elim (ltb (length (m .instances)) max-instances) [
         | true ↦
-            elim (ltb (length (m .instances)) max-instances) [
+            elim (leb (arity p k) (length χ)) [
               | true ↦
                   next
                   (with-stability
                   (with-instances m
-                  (set (m .instances) l (with-code i c (tagged (ref k) (label (length (m .instances))) ∷ drop (arity p k) χ))
+                  (set (m .instances) l (with-code i c (tagged (given-by p (new k)) (label (length (m .instances))) ∷ drop (arity p k) χ))
                   ++ made k (arity p k) χ ∷ []))
                   (meet false (m .stability)))
-              | false ↦ refused full
+              | false ↦ stuck
             ]
-        | false ↦ stuck
+        | false ↦ refused full
       ]
 
   -- one command, the rest of the code behind it
   unfoldable pub perform : Note → List Note → Out
-  perform (n-push t v) c = next (put m l (with-code i c (tagged t v ∷ i .stack)))
-  perform n-this c = next (put m l (with-code i c (tagged (ref (i .struct)) (label l) ∷ i .stack)))
+  perform (n-push t v) c = laid c (i .stack) (literal t) v
+  perform n-this c = laid c (i .stack) (this (i .struct)) (label l)
   perform n-not c = negate c (i .stack)
-  perform (n-rd k x) c = read c (i .stack) x (getD (params-of p k) x int)
+  perform (n-rd k x) c = read c (i .stack) x (λ j. variable j x)
   perform (n-wr k x) c = write c (i .stack) x
-  perform (n-get t x) c = read c (i .stack) (first-local + x) t
+  perform (n-get t x) c = read c (i .stack) (first-local + x) (λ j. local t)
   perform (n-set d t x) c = write c (i .stack) (first-local + x)
   perform (n-cons k) c = construct k c (i .stack)
   perform (n-op o) c = operate o c (i .stack)

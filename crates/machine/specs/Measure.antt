@@ -10,7 +10,7 @@ use lib.Dec.{eqb}
 use Rattle.program.specs.Tree.{Stmts, Program}
 use Rattle.commands.specs.Commands.{commands}
 use Rattle.machine.specs.Published.{Sched, Sched.done, Sched.start, Sched.start-in, Sched.fixpoint, Sched.active}
-use Rattle.machine.specs.Machine.{Instance, Machine, Out.next, command, move}
+use Rattle.machine.specs.Machine.{Instance, Machine, Out.next, move}
 use Rattle.commands.specs.Context.{step-of}
 
 -- the moves that a schedule takes where each fixpoint goes through its body once
@@ -59,11 +59,15 @@ share p n i = count (step-of p (i .struct) n)
 unfoldable pub share-in : Program → ℕ → ℕ → Instance → ℕ
 share-in p x n i = elim (eqb (i .struct) x) [ true ↦ share p n i | false ↦ 0 ]
 
--- n moves in a row; n commands in a row, of whichever instances
+-- what a move of the schedule gives an instance to take
+unfoldable pub share-of : Program → Sched → Instance → ℕ
+share-of p done i = 0
+share-of p (start n s) i = share p n i
+share-of p (start-in x n s) i = share-in p x n i
+share-of p (fixpoint f s) i = 0
+share-of p (active f s) i = 0
+
+-- n moves in a row
 pub data Moved (p : Program) : ℕ → Machine → Machine → Type 0 where
   unmoved : {m : Machine} → Moved p 0 m m
   moved : {n : ℕ} {m m′ m″ : Machine} → move p m ≡ next m′ → Moved p n m′ m″ → Moved p (suc n) m m″
-
-pub data Took (p : Program) : ℕ → Machine → Machine → Type 0 where
-  untaken : {m : Machine} → Took p 0 m m
-  took : {n : ℕ} {m m′ m″ : Machine} (l : ℕ) → command p l m ≡ next m′ → Took p n m′ m″ → Took p (suc n) m m″

@@ -17,9 +17,10 @@ use Rattle.commands.specs.NotedLaws.{erased}
 use Rattle.machine.specs.Published.{Sched, Sched.done, Sched.start, Sched.start-in, Sched.fixpoint, Sched.active, before, Env, arity}
 use Rattle.machine.specs.Machine.{Tagged, tagged, Instance, Machine, Out, Out.next, Out.refused, Out.stuck, with-code, with-written, update-env, made, command, given, started, started-in, machine, repeat, move-by, move}
 use Rattle.machine.specs.RepresentsLaws.{Still}
+use Rattle.machine.specs.Stops.{nested}
 use Rattle.machine.specs.Performed.{Performed, Performed.pushed, Performed.pushed-this, Performed.negated, Performed.read-one, Performed.skipped, Performed.wrote, Performed.calculated, Performed.exceeding, Performed.constructed, Performed.filled, Performed.branched, Performed.no-way}
 use Rattle.machine.specs.PerformedLaws.{by-ways}
-use Rattle.machine.specs.Measure.{weight, bound, passages, measure, total, codes, count, share, share-in, Moved, Moved.unmoved, Moved.moved, Took, Took.untaken, Took.took}
+use Rattle.machine.specs.Measure.{weight, bound, passages, measure, total, codes, count, share, share-in, share-of, Moved, Moved.unmoved, Moved.moved}
 
 -- Moves ----------------------------------------------------------------------------
 
@@ -115,7 +116,7 @@ module _ (p : Program) (m : Machine) (l : ℕ) {i₀ : Instance} (g : getElem? (
   fewer (constructed {k = k} a u) =
       let χ : List Tagged = tagged (ref k) (label (length (m .instances))) ∷ drop (arity p k) (i .stack) in
       omega (arith, all χ, codes-append (set (m .instances) l (with-code i r χ)) (made p m l i k (arity p k) (i .stack)))
-  fewer (filled a u) = tt
+  fewer (filled u) = tt
   fewer (branched {b = true} x) = all _
   fewer (branched {n = n} {b = false} {χ = χ} x) = kept (drop n r) χ (rw length-drop (omega arith))
   fewer no-way = tt
@@ -126,17 +127,18 @@ command-shortens p l m e =
     rw e at (by-ways (Fewer (codes (m .instances))) p m l tt
     λ i n r o g f h. fewer p m l g (with-written i (now-written n (i .written))) r (omega (arith, ap length f)) h)
 
--- so many commands in a row take at most those held
-pub commands-bounded : {p : Program} {n : ℕ} {m m′ : Machine} → Took p n m m′ → n + codes (m′ .instances) ≤ codes (m .instances)
-commands-bounded untaken = omega arith
-commands-bounded {p} (took {m = m} l e r) = omega (arith, command-shortens p l m e, commands-bounded r)
-
 -- Starts ---------------------------------------------------------------------------
 
 codes-map : (f : Instance → Instance) (g : Instance → ℕ) → ((i : Instance) → i .code ≡ [] → length (f i .code) ≡ g i) → (is : List Instance) → Still is → codes (map f is) ≡ total g is
 unfolding codes total
 codes-map f g h [] t = refl
 codes-map f g h (i ∷ is) t = rw (h i (t .0), codes-map f g h is (t .1))
+
+-- nothing is held where no instance holds commands
+codes-still : (g : Instance → ℕ) → ((i : Instance) → g i ≡ 0) → (is : List Instance) → Still is → codes is ≡ total g is
+unfolding codes total
+codes-still g h [] t = refl
+codes-still g h (i ∷ is) t = rw (h i, codes-still g h is (t .1), t .0)
 
 module _ (p : Program) where
   given-code : (o : Option Stmts) (i : Instance) → i .code ≡ [] → length (given p o i .code) ≡ count o
@@ -156,28 +158,28 @@ module _ (p : Program) where
       go true h = rw (h, started-in, share-in) (started-code n i e)
       go false h = rw (h, started-in, share-in) (ap length e)
 
-  -- a step started where no instance holds commands leaves the sum of its command counts, each over its instances
-  pub started-codes : (n : ℕ) (is : List Instance) → Still is → codes (map (started p n) is) ≡ total (share p n) is
-  started-codes n = codes-map (started p n) (share p n) (started-code n)
+  -- what a move leaves held in all, where it is made
+  abbrev Holding : ℕ → Out → Type 0
+  Holding k (next m) = codes (m .instances) ≡ k
+  Holding k (refused n) = Unit {0}
+  Holding k stuck = Unit {0}
 
-  -- and so for a step of one struct
-  pub started-in-codes : (x n : ℕ) (is : List Instance) → Still is → codes (map (started-in p x n) is) ≡ total (share-in p x n) is
-  started-in-codes x n = codes-map (started-in p x n) (share-in p x n) (started-in-code x n)
+  moves-codes : (s : Sched) (is : List Instance) (b : List Bool) → Still is → Holding (total (share-of p s) is) (move-by p s is b)
+  unfolding move-by repeat share-of
+  moves-codes done is b t = tt
+  moves-codes (start n s) is b t = codes-map (started p n) (share p n) (started-code n) is t
+  moves-codes (start-in x n s) is b t = codes-map (started-in p x n) (share-in p x n) (started-in-code x n) is t
+  moves-codes (fixpoint f s) is b t = go (ltb (length b) max-stability)
+    where
+      go : (u : Bool)
+          → Holding (total (share-of p (fixpoint f s)) is) (elim u [ true ↦ next (machine (before f (active f s)) is (true ∷ b)) | false ↦ refused nested ])
+      go true = codes-still (share-of p (fixpoint f s)) (λ i. refl) is t
+      go false = tt
+  moves-codes (active f s) is [] t = tt
+  moves-codes (active f s) is (true ∷ b) t = codes-still (share-of p (active f s)) (λ i. refl) is t
+  moves-codes (active f s) is (false ∷ b) t = codes-still (share-of p (active f s)) (λ i. refl) is t
 
-  -- a started step takes at most the sum of its command counts, each over its instances, in turns
-  pub started-turns : (n : ℕ) (s : Sched) (is : List Instance) (b : List Bool) {k : ℕ} {m m′ : Machine}
-      → Still is → move p (machine (start n s) is b) ≡ next m → Took p k m m′ → k ≤ total (share p n) is
-  unfolding move-by
-  started-turns n s is b {m = m} t e r =
-      let h : m ≡ machine s (map (started p n) is) b = cc in
-      let f : codes (m .instances) ≡ total (share p n) is = rw h (started-codes n is t) in
-      omega (arith, commands-bounded r)
-
-  -- and so for a step of one struct
-  pub started-in-turns : (x n : ℕ) (s : Sched) (is : List Instance) (b : List Bool) {k : ℕ} {m m′ : Machine}
-      → Still is → move p (machine (start-in x n s) is b) ≡ next m → Took p k m m′ → k ≤ total (share-in p x n) is
-  unfolding move-by
-  started-in-turns x n s is b {m = m} t e r =
-      let h : m ≡ machine s (map (started-in p x n) is) b = cc in
-      let f : codes (m .instances) ≡ total (share-in p x n) is = rw h (started-in-codes x n is t) in
-      omega (arith, commands-bounded r)
+  -- a move where no instance holds commands leaves the sum of the command counts of the step that it starts, each over its instances
+  pub moved-codes : (m : Machine) {m′ : Machine} → Still (m .instances) → move p m ≡ next m′
+      → codes (m′ .instances) ≡ total (share-of p (m .sched)) (m .instances)
+  moved-codes m t e = rw e at (moves-codes (m .sched) (m .instances) (m .stability) t)

@@ -16,8 +16,8 @@ use Rattle.commands.specs.Context.{context, step-of}
 use Rattle.commands.specs.NotedLaws.{erased}
 use Rattle.machine.specs.Published.{Sched, Sched.done, Sched.start, Sched.start-in, Sched.fixpoint, Sched.active, before, Inst, Inst.inst, State, State.state}
 use Rattle.machine.specs.Rules.{Done, given, started, started-in, Actor.schedule, Rule, Rule.InitG, Rule.InitL, Rule.FixInit, Rule.FixIter, Rule.FixTerm}
-use Rattle.machine.specs.Stops.{Nested, Nested.no-entry}
-use Rattle.machine.specs.Machine.{Instance, Machine, Out, Out.next, Out.refused, Out.stuck, nested, given as equip, started as begin, started-in as begin-in, repeat, move-by, move}
+use Rattle.machine.specs.Stops.{Nested, Nested.no-entry, nested}
+use Rattle.machine.specs.Machine.{Instance, Machine, Out, Out.next, Out.refused, Out.stuck, given as equip, started as begin, started-in as begin-in, repeat, move-by, move}
 use Rattle.machine.specs.Represents.{values, Represents-inst, Represents-all, Represents}
 use Rattle.machine.specs.RepresentsLaws.{Still, still-done, represents-map}
 use Rattle.machine.specs.CommandComplete.{Leads}

@@ -5,24 +5,24 @@ use mathlib.Core.Path.{_≡_}
 use mathlib.Core.Bool.{Bool, true, false, not}
 use mathlib.Core.Option.{none, some}
 use mathlib.Core.List.{List, [], _∷_, _++_}
-use lib.ListN.{length, getD, getElem?, set, drop}
+use lib.ListN.{length, getElem?, set, drop}
 use Rattle.types.specs.Limits.{max-instances, first-local}
-use Rattle.types.specs.Types.{Ty, Ty.int, Ty.bool, Ty.ref}
+use Rattle.types.specs.Types.{Ty, Ty.bool, Ty.ref}
 use Rattle.types.specs.Values.{Val, Val.bool-val, Val.label}
 use Rattle.program.specs.Tree.{Op, Program}
-use Rattle.commands.specs.Context.{params-of}
 use Rattle.commands.specs.Typing.{sort}
 use Rattle.commands.specs.Noted.{Note, Note.n-push, Note.n-this, Note.n-not, Note.n-rd, Note.n-wr, Note.n-get, Note.n-set, Note.n-cons, Note.n-op, Note.n-if}
 use Rattle.words.specs.Apply.{Answer.value, Answer.outside, apply}
 use Rattle.machine.specs.Published.{lookup, assign, structs, arity}
 use Rattle.machine.specs.Rules.{meet}
-use Rattle.machine.specs.Machine.{Tagged, tagged, Instance, Machine, Out, Out.next, Out.refused, Out.stuck, full, exceeded, with-code, update-env, with-instances, put, with-stability, settled, made}
+use Rattle.machine.specs.Machine.{Tagged, tagged, Source, Source.variable, Source.local, given-by, Instance, Machine, Out, Out.next, Out.refused, Out.stuck, with-code, update-env, with-instances, put, with-stability, settled, made}
+use Rattle.machine.specs.Stops.{full, exceeded}
 use Rattle.commands.specs.Tags.{result-type}
 
--- rd of the variable v, which gives the type t; wr of it
-pub data Reads (p : Program) : Note → ℕ → Ty → Type 0 where
-  parameter : {k x : ℕ} → Reads p (n-rd k x) x (getD (params-of p k) x int)
-  local : {t : Ty} {x : ℕ} → Reads p (n-get t x) (first-local + x) t
+-- rd of the variable v of an instance, with where its value comes from by that instance's struct; wr of it
+pub data Reads : Note → ℕ → (ℕ → Source) → Type 0 where
+  parameter : {k x : ℕ} → Reads (n-rd k x) x (λ j. variable j x)
+  of-local : {t : Ty} {x : ℕ} → Reads (n-get t x) (first-local + x) (λ j. local t)
 
 pub data Writes : Note → ℕ → Type 0 where
   to-parameter : {k x : ℕ} → Writes (n-wr k x) x
@@ -35,12 +35,12 @@ pub data Performed (p : Program) (m : Machine) (l : ℕ) (i : Instance) (r : Lis
   negated : {t : Ty} {b : Bool} {χ : List Tagged}
       → i .stack ≡ tagged t (bool-val b) ∷ χ
       → Performed p m l i r n-not (next (put m l (with-code i r (tagged bool (bool-val (not b)) ∷ χ))))
-  read-one : {n : Note} {v q : ℕ} {t u : Ty} {χ : List Tagged} {j : Instance} {x : Val}
-      → Reads p n v t
+  read-one : {n : Note} {v q : ℕ} {s : ℕ → Source} {u : Ty} {χ : List Tagged} {j : Instance} {x : Val}
+      → Reads n v s
       → i .stack ≡ tagged u (label q) ∷ χ
       → getElem? (m .instances) q ≡ some j
       → lookup (j .env) v ≡ some x
-      → Performed p m l i r n (next (put m l (with-code i r (tagged t x ∷ χ))))
+      → Performed p m l i r n (next (put m l (with-code i r (tagged (given-by p (s (j .struct))) x ∷ χ))))
   skipped : {n : Note} {v q : ℕ} {u : Ty} {y : Tagged} {χ : List Tagged} {j : Instance}
       → Writes n v
       → i .stack ≡ tagged u (label q) ∷ y ∷ χ
@@ -77,10 +77,7 @@ pub data Performed (p : Program) (m : Machine) (l : ℕ) (i : Instance) (r : Lis
       (set (m .instances) l (with-code i r (tagged (ref k) (label (length (m .instances))) ∷ drop (arity p k) (i .stack)))
       ++ made p m l i k (arity p k) (i .stack) ∷ []))
       (meet false (m .stability))))
-  filled : {k : ℕ}
-      → arity p k ≤ length (i .stack)
-      → max-instances ≤ length (m .instances)
-      → Performed p m l i r (n-cons k) (refused full)
+  filled : {k : ℕ} → max-instances ≤ length (m .instances) → Performed p m l i r (n-cons k) (refused full)
   branched : {n : ℕ} {t : Ty} {b : Bool} {χ : List Tagged}
       → i .stack ≡ tagged t (bool-val b) ∷ χ
       → Performed p m l i r (n-if n) (next (put m l (with-code i (elim b [ true ↦ r | false ↦ drop n r ]) χ)))

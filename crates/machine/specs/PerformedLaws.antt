@@ -5,21 +5,18 @@ use mathlib.Core.Bool.{Bool, true, false}
 use mathlib.Core.Option.{Option, none, some}
 use mathlib.Core.List.{List, [], _∷_}
 use native.Mathlib.Omega.{arith}
-use lib.ListN.{length, getD, getElem?}
+use lib.ListN.{length, getElem?}
 use lib.Dec.{ltb, leb}
 use borrow.Author.Tests.{ltb-true, ltb-false, leb-true}
 use Rattle.types.specs.Limits.{max-instances, first-local}
-use Rattle.types.specs.Types.{Ty, Ty.int}
+use Rattle.types.specs.Types.{Ty}
 use Rattle.types.specs.Values.{Val, Val.int-val, Val.nat-val, Val.bool-val, Val.label}
 use Rattle.program.specs.Tree.{Op, Program}
-use Rattle.commands.specs.Context.{params-of}
-use Rattle.commands.specs.Typing.{sort}
 use Rattle.commands.specs.Noted.{Note, Note.n-push, Note.n-this, Note.n-not, Note.n-rd, Note.n-wr, Note.n-get, Note.n-set, Note.n-cons, Note.n-op, Note.n-if, now-written}
 use Rattle.words.specs.Apply.{Answer, Answer.value, Answer.outside, Answer.unfit, apply}
 use Rattle.machine.specs.Published.{lookup, structs, arity}
-use Rattle.machine.specs.Machine.{Tagged, tagged, Instance, Machine, Out, Out.stuck, with-written, read-from, read-at, read, write-to, write-parameter, write-at, write, negate, branch, operated, operate, construct, perform, command-of, command-at, command}
-use Rattle.machine.specs.Performed.{Reads, Reads.parameter, Reads.local, Writes, Writes.to-parameter, Writes.to-local, Performed, Performed.pushed, Performed.pushed-this, Performed.negated, Performed.read-one, Performed.skipped, Performed.wrote, Performed.calculated, Performed.exceeding, Performed.constructed, Performed.filled, Performed.branched, Performed.no-way}
-use Rattle.commands.specs.Tags.{result-type}
+use Rattle.machine.specs.Machine.{Tagged, tagged, Source, Source.variable, Source.local, Source.result, Instance, Machine, Out, Out.stuck, with-written, read-from, read-at, read, write-to, write-parameter, write-at, write, negate, branch, operated, operate, construct, perform, command-of, command-at, command}
+use Rattle.machine.specs.Performed.{Reads, Reads.parameter, Reads.of-local, Writes, Writes.to-parameter, Writes.to-local, Performed, Performed.pushed, Performed.pushed-this, Performed.negated, Performed.read-one, Performed.skipped, Performed.wrote, Performed.calculated, Performed.exceeding, Performed.constructed, Performed.filled, Performed.branched, Performed.no-way}
 
 module _ (p : Program) (m : Machine) (l : ℕ) (i : Instance) (r : List Note) where
   negated-top : (t : Ty) (v : Val) (χ : List Tagged) → i .stack ≡ tagged t v ∷ χ → Performed p m l i r n-not (negate p m l i r (tagged t v ∷ χ))
@@ -46,23 +43,23 @@ module _ (p : Program) (m : Machine) (l : ℕ) (i : Instance) (r : List Note) wh
   branches n [] e = no-way
   branches n (x ∷ χ) e = branched-top n (x .by) (x .is) χ e
 
-  module _ (n : Note) (v : ℕ) (t : Ty) (h : Reads p n v t) where
-    read-top : (u : Ty) (x : Val) (χ : List Tagged) → i .stack ≡ tagged u x ∷ χ → Performed p m l i r n (read p m l i r (tagged u x ∷ χ) v t)
+  module _ (n : Note) (v : ℕ) (s : ℕ → Source) (h : Reads n v s) where
+    read-top : (u : Ty) (x : Val) (χ : List Tagged) → i .stack ≡ tagged u x ∷ χ → Performed p m l i r n (read p m l i r (tagged u x ∷ χ) v s)
     unfolding read read-at read-from
     read-top u (int-val z) χ e = no-way
     read-top u (nat-val k) χ e = no-way
     read-top u (bool-val b) χ e = no-way
     read-top u (label q) χ e = at (getElem? (m .instances) q) refl
       where
-        from : (j : Instance) → getElem? (m .instances) q ≡ some j → (o : Option Val) → lookup (j .env) v ≡ o → Performed p m l i r n (read-from p m l i r χ v t o)
+        from : (j : Instance) → getElem? (m .instances) q ≡ some j → (o : Option Val) → lookup (j .env) v ≡ o → Performed p m l i r n (read-from p m l i r χ (s (j .struct)) o)
         from j f none g = no-way
         from j f (some y) g = read-one h e f g
 
-        at : (o : Option Instance) → getElem? (m .instances) q ≡ o → Performed p m l i r n (read-at p m l i r χ v t o)
+        at : (o : Option Instance) → getElem? (m .instances) q ≡ o → Performed p m l i r n (read-at p m l i r χ v s o)
         at none f = no-way
         at (some j) f = from j f (lookup (j .env) v) refl
 
-    reads : (χ : List Tagged) → i .stack ≡ χ → Performed p m l i r n (read p m l i r χ v t)
+    reads : (χ : List Tagged) → i .stack ≡ χ → Performed p m l i r n (read p m l i r χ v s)
     unfolding read
     reads [] e = no-way
     reads (x ∷ χ) e = read-top (x .by) (x .is) χ e
@@ -106,7 +103,7 @@ module _ (p : Program) (m : Machine) (l : ℕ) (i : Instance) (r : List Note) wh
   operates o (y ∷ []) e = no-way
   operates o (y ∷ x ∷ χ) e = go (apply o (x .is) (y .is)) refl
     where
-      go : (a : Answer) → apply o (x .is) (y .is) ≡ a → Performed p m l i r (n-op o) (operated p m l i r χ (result-type (sort o) (x .by)) a)
+      go : (a : Answer) → apply o (x .is) (y .is) ≡ a → Performed p m l i r (n-op o) (operated p m l i r χ (result o (x .by)) a)
       go (value z) f = calculated {x = x} e f
       go outside f = exceeding {x = x} e f
       go unfit f = no-way
@@ -117,9 +114,9 @@ module _ (p : Program) (m : Machine) (l : ℕ) (i : Instance) (r : List Note) wh
     where
       go : (t : Bool) → leb (arity p k) (length (i .stack)) ≡ t → (u : Bool) → ltb (length (m .instances)) max-instances ≡ u
           → Performed p m l i r (n-cons k) (construct p m l i k r (i .stack))
-      go true a true b = rw (a, b, construct) (constructed (leb-true (arity p k) (length (i .stack)) a) (ltb-true (length (m .instances)) max-instances b))
-      go true a false b = rw (a, b, construct) (filled (leb-true (arity p k) (length (i .stack)) a) (ltb-false (length (m .instances)) max-instances b))
-      go false a u b = rw (a, construct) no-way
+      go true a true b = rw (b, a, construct) (constructed (leb-true (arity p k) (length (i .stack)) a) (ltb-true (length (m .instances)) max-instances b))
+      go false a true b = rw (b, a, construct) no-way
+      go t a false b = rw (b, construct) (filled (ltb-false (length (m .instances)) max-instances b))
 
   -- a command goes one of the ways
   pub performed : (n : Note) → Performed p m l i r n (perform p m l i n r)
@@ -127,9 +124,9 @@ module _ (p : Program) (m : Machine) (l : ℕ) (i : Instance) (r : List Note) wh
   performed (n-push t v) = pushed
   performed n-this = pushed-this
   performed n-not = negates (i .stack) refl
-  performed (n-rd k x) = reads (n-rd k x) x (getD (params-of p k) x int) parameter (i .stack) refl
+  performed (n-rd k x) = reads (n-rd k x) x (λ j. variable j x) parameter (i .stack) refl
   performed (n-wr k x) = writes (n-wr k x) x to-parameter (i .stack) refl
-  performed (n-get t x) = reads (n-get t x) (first-local + x) t local (i .stack) refl
+  performed (n-get t x) = reads (n-get t x) (first-local + x) (λ j. local t) of-local (i .stack) refl
   performed (n-set d t x) = writes (n-set d t x) (first-local + x) to-local (i .stack) refl
   performed (n-cons k) = constructs k
   performed (n-op o) = operates o (i .stack) refl

@@ -6,7 +6,7 @@ use mathlib.Core.Option.{Option, none, some}
 use mathlib.Core.List.{List, [], _∷_}
 use lib.ListN.{length, getD, getElem?, set, replicate}
 use lib.Dec.{ltb}
-use Rattle.types.specs.Limits.{first-local}
+use Rattle.types.specs.Limits.{first-local, max-locals}
 use Rattle.types.specs.Types.{Ty}
 use Rattle.types.specs.Values.{Val}
 use Rattle.program.specs.Tree.{Item, Item.call, Item.call-in, Item.fix, Items, Items.stop, Items.item, Program}
@@ -43,7 +43,7 @@ unfoldable mutual
 pub data Env : Type 0 where
   env : List Val → List (Option Val) → Env
 
--- ξ(v) and ξ[v ↦ x]: variables from first-local on are locals
+-- ξ(v) and ξ[v ↦ x]: variables from first-local on are locals; a number that is neither a parameter nor a local has no place
 unfoldable pub lookup : Env → ℕ → Option Val
 lookup (env ps ls) v = elim (ltb v first-local) [ true ↦ getElem? ps v | false ↦ getD ls (v - first-local) none ]
 
@@ -53,7 +53,7 @@ assign (env ps ls) v x =
 
 -- parameters of these values, and no local written
 abbrev pub fresh-env : List Val → Env
-fresh-env vs = env vs (replicate first-local none)
+fresh-env vs = env vs (replicate max-locals none)
 
 -- 000, definition 3: struct, commands left, stack with its top first, environment
 pub data Inst : Type 0 where

@@ -10,8 +10,8 @@ use Rattle.commands.specs.Commands.{Com.push, Com.push-this, Com.rd, Com.wr, Co
 use Rattle.commands.specs.Noted.{Note, Note.n-push, Note.n-this, Note.n-not, Note.n-rd, Note.n-wr, Note.n-cons, Note.n-op, Note.n-if, erase}
 use Rattle.machine.specs.Published.{Inst, Inst.inst, State, State.state}
 use Rattle.machine.specs.Rules.{Actor, Actor.instance, Actor.schedule, Rule}
-use Rattle.machine.specs.Stops.{Full, Exceeded, Nested}
-use Rattle.machine.specs.Machine.{Tagged, tagged, Instance, Machine, machine, Out, Out.next, full, exceeded}
+use Rattle.machine.specs.Stops.{Full, Exceeded, Nested, full, exceeded}
+use Rattle.machine.specs.Machine.{Tagged, tagged, Instance, Machine, machine, Out, Out.next}
 use Rattle.machine.specs.Represents.{values, Represents-all, Represents}
 use Rattle.machine.specs.RepresentsLaws.{represents-unique}
 use Rattle.machine.specs.CommandAgrees.{command-complete, command-full, command-exceeded}
@@ -80,7 +80,7 @@ module _ (p : Program) where
       let (m, R) = represented st in same (move-complete p m R r) (move-complete p m R q)
 
   -- no rule fits where 34 is due
-  pub rule-not-full : {l : ℕ} {st st′ : State} → Rule p (instance l) st st′ → Full p l st → ⊥
+  pub rule-not-full : {l : ℕ} {st st′ : State} → Rule p (instance l) st st′ → Full l st → ⊥
   rule-not-full {l} {st} r h =
       let (m, R) = represented st in
       let (m′, e, Q) = command-complete p l m R r in
@@ -98,7 +98,7 @@ module _ (p : Program) where
       omega arith
 
   -- 34 and 35 are never due together
-  pub full-not-exceeded : {l : ℕ} {st : State} → Full p l st → Exceeded l st → ⊥
+  pub full-not-exceeded : {l : ℕ} {st : State} → Full l st → Exceeded l st → ⊥
   full-not-exceeded {l} {st} g h =
       let (m, R) = represented st in
       let e = command-full p l m st R .1 g in

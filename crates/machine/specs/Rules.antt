@@ -1,7 +1,14 @@
 -- The fifteen rules of 000, section 4, each under its published name, with 01's arithmetic, labels and limits.
--- Computed parts are premises. 01 departs from 000 in four places: starting a step empties the stacks of the instances that have
--- it and of no others; a new instance takes the next label, where one is free ('Table and turns'); a result is in the range of its
--- type; Fix has a free stability entry ('Numbers from the state', 34 to 36).
+-- Computed parts are premises. They depart from 000 in six places:
+-- * starting a step empties the stacks of the instances that have it and of no others (01, 'Table and turns'); 000's InitG empties all;
+-- * a new instance takes the next label (01, the same), 000's any fresh one; where none is free ComCons does not fit, and 34 is due;
+-- * a result is in the range of its type, where 000 computes without bounds; for another, and for a zero divisor, ComOp does not
+--   fit, and 35 is due;
+-- * a Fix begins with a free stability entry; where 8 are taken FixInit does not fit, and 36 is due ('Numbers from the state');
+-- * a variable that was never written has no value, and ComRd does not fit there; 000's definition 6 leaves its value arbitrary. A
+--   run of an accepted program reads none (01, 'The words of demand 3');
+-- * a write to a number between the struct's parameters and 7 stores nothing (`assign` of Published), where 000 stores the value; it
+--   leaves stability as it is in both. Only refused programs come to one.
 use Prim.Native.Nat.{ℕ, _<_, _≤_}
 use mathlib.Core.Path.{_≡_}
 use mathlib.Core.Bool.{Bool, true, false, not as negation}

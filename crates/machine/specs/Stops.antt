@@ -1,4 +1,5 @@
--- The conditions of the numbers from the state (01, 'Numbers from the state'), on published states.
+-- The numbers from the state (01, 'Numbers from the state'), and the conditions of 34 to 36 on published states. The conditions of 0
+-- and 33 speak of holders and turn bytes, and stand in the run.
 use Prim.Native.Nat.{ℕ, _≤_}
 use mathlib.Core.Path.{_≡_}
 use mathlib.Core.Bool.{Bool}
@@ -7,18 +8,37 @@ use mathlib.Core.List.{List, _∷_}
 use lib.ListN.{length, getElem?}
 use Rattle.types.specs.Limits.{max-instances, max-stability}
 use Rattle.types.specs.Values.{Val}
-use Rattle.program.specs.Tree.{Op, Program}
+use Rattle.program.specs.Tree.{Op}
 use Rattle.commands.specs.Commands.{Com.cons, Com.oper, Coms, Coms.act}
 use Rattle.words.specs.Operators.{Exceeds}
-use Rattle.machine.specs.Published.{Sched, Sched.fixpoint, Env, Inst, Inst.inst, State, State.state, arity}
+use Rattle.machine.specs.Published.{Sched, Sched.fixpoint, Env, Inst, Inst.inst, State, State.state}
 
--- 34: cons with 256 instances
-pub data Full (p : Program) (l : ℕ) : State → Type 0 where
+-- 0 is the ended run
+abbrev pub ended : ℕ
+ended = 0
+
+-- commands remain, no turn byte does
+abbrev pub out-of-turns : ℕ
+out-of-turns = 33
+
+-- cons with 256 instances
+abbrev pub full : ℕ
+full = 34
+
+-- zero divisor, or result outside its type
+abbrev pub exceeded : ℕ
+exceeded = 35
+
+-- Fix met with 8 stability entries
+abbrev pub nested : ℕ
+nested = 36
+
+-- 34: cons with 256 instances, whatever operands it has
+pub data Full (l : ℕ) : State → Type 0 where
   no-label : {s : Sched} {σ : List Inst} {b : List Bool} {k j : ℕ} {c : Coms} {χ : List Val} {ξ : Env}
       → getElem? σ l ≡ some (inst k (act (cons j) c) χ ξ)
-      → arity p j ≤ length χ
       → max-instances ≤ length σ
-      → Full p l (state s σ b)
+      → Full l (state s σ b)
 
 -- 35: zero divisor, or result outside its type
 pub data Exceeded (l : ℕ) : State → Type 0 where

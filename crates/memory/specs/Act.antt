@@ -1,8 +1,7 @@
 -- One command of an instance, on memory (01, 'Table and turns'; 000's rules for commands). What a command needs is `Fit`: demand 3
 -- says that it is met, so nothing is tested here.
-use Prim.Native.Nat.{ℕ, zero, suc, _+_, _-_, _*_, _<_, _≤_, _%_}
-use mathlib.Core.Path.{_≡_}
-use mathlib.Core.Bool.{Bool, true, false}
+use Prim.Native.Nat.{ℕ, suc, _+_, _-_, _*_, _%_}
+use mathlib.Core.Bool.{true, false}
 use mathlib.Core.List.{List, [], _∷_}
 use lib.ListN.{length, getD, set, take, drop}
 use lib.Dec.{eqb, ltb, leb}
@@ -11,14 +10,8 @@ use Rattle.types.specs.Limits.{max-instances, max-depth, variables}
 use Rattle.words.specs.declared.Answered.{Answered}
 use Rattle.words.specs.declared.Answered.the-variants.{Value, Outside, Unfit}
 use Rattle.words.specs.Words.{apply-word}
+pub use Rattle.machine.specs.Stops.{full, exceeded}
 use Rattle.memory.specs.Layout.{State, head, head-size, struct-of, height-of, next-of, end-of, row-size, variable, stacked, cell, type-byte, operand, label-cell, with-heads, with-cells, unstable, refused, with-count, of-head, of-cell}
-
--- the numbers from the state that a command can meet
-abbrev pub full : ℕ
-full = 34
-
-abbrev pub exceeded : ℕ
-exceeded = 35
 
 -- the types of truths
 abbrev pub bool-byte : ℕ

@@ -12,7 +12,8 @@ use Rattle.commands.specs.Noted.{Note, erase}
 use Rattle.commands.specs.Coding.{words, command-word}
 use Rattle.machine.specs.Published.{Sched}
 use Rattle.machine.specs.Machine.{Instance, Machine}
-use Rattle.run.specs.Turns.{labels-from, chosen, holds-code, holders}
+use Rattle.run.specs.Turns.{labels-from, chosen}
+use Rattle.run.specs.Holders.{holds-code, holders}
 use Rattle.memory.specs.Layout.{State, next-of, end-of, of-head}
 use Rattle.memory.specs.Stands.{note-words, Held, Stands}
 use Rattle.memory.specs.Choose.{holds, holding, holder, picked}

@@ -177,7 +177,7 @@ module _ {p : Program} {counts : List ℕ} (firm : Firm p) (bound : Bounded p co
       (makes room))
   constructs-to false q =
       let h : ltb (z .count) max-instances ≡ false = rw (st .counted) q in
-      subst (After list P z (do-cons counts l z k)) (sym (finds-full p m l acting c k ξ χ s size q))
+      subst (After list P z (do-cons counts l z k)) (sym (finds-full p m l acting c k (i .stack) q))
       (cons-full counts l z k (arity p k) (count-of bound k) h)
 
 pub constructs-one : {p : Program} {counts : List ℕ} → Firm p → Bounded p counts → {m : Machine} → Good p m

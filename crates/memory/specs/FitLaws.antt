@@ -6,7 +6,7 @@ use mathlib.Core.Bool.{Bool, true, false}
 use mathlib.Core.Option.{some}
 use mathlib.Core.List.{List, _∷_, _++_, reverse}
 use lib.ListN.{length, getD, getElem?, length-append, length-reverse}
-use Rattle.types.specs.Limits.{nat-end, max-structs, max-depth, first-local, variables}
+use Rattle.types.specs.Limits.{nat-end, max-structs, max-depth, first-local, max-locals, variables}
 use Rattle.types.specs.Types.{Ty, Ty.int, Ty.nat, Ty.bool}
 use Rattle.types.specs.Values.{Val, Val.int-val, Val.nat-val, Val.bool-val, Val.label, word}
 use Rattle.program.specs.Tree.{Op, Op.op-eq, Op.op-ne, Op.op-le, Op.op-ge, Op.op-lt, Op.op-gt, Op.op-mul, Op.op-div, Op.op-rem, Op.op-add, Op.op-sub, Op.op-and, Op.op-or, Program}
@@ -224,7 +224,7 @@ module _ {p : Program} {counts : List ℕ} (firm : Firm p) (bound : Bounded p co
       wr-fit v (omega arith) y x χ s r q j at′ (rw w (has-param bound k v b))
   fits-note (n-set d t v) e =
       let (x, y, χ, s, q) = own-local firm bound good list P z st l i at c d t v (actor-needs firm bound good l i at (n-set d t v) c e) in
-      let b : v < first-local = actor-sized firm bound good l i at (n-set d t v) c e in
+      let b : v < max-locals = actor-sized firm bound good l i at (n-set d t v) c e in
       wr-fit (first-local + v) (omega arith) y x χ s l q i at (actor-struct firm bound good l i at (n-set d t v) c e)
   fits-note (n-cons k) e = cons-fit k e
 

@@ -7,10 +7,7 @@ use lib.Dec.{eqb, ltb, leb}
 use Rattle.types.specs.Limits.{step-names, max-stability}
 use Rattle.memory.specs.Layout.{State, head, struct-of, height-of, next-of, end-of, with-heads, refused}
 use Rattle.memory.specs.Plan.{fix-code, round-code, from, to}
-
--- the number from the state that a move can meet
-abbrev pub nested : ℕ
-nested = 36
+pub use Rattle.machine.specs.Stops.{nested}
 
 -- place, open Fixes and their entries
 abbrev pub moved : State → ℕ → ℕ → ℕ → State

@@ -20,7 +20,7 @@ use Rattle.words.specs.Ranges.{Fits as Answers}
 use Rattle.words.specs.RangesLaws.{apply-fits}
 use Rattle.words.specs.Words.{apply-word, answered as as-words}
 use Rattle.machine.specs.Published.{Sched, structs}
-use Rattle.machine.specs.Machine.{Tagged, tagged, Instance, Machine, with-code, with-written, put, operated, perform}
+use Rattle.machine.specs.Machine.{Tagged, tagged, Source.result, Instance, Machine, with-code, with-written, put, operated, perform}
 use Rattle.sound.specs.Invariant.{Good}
 use Rattle.sound.specs.Accepted.{Firm}
 use Rattle.sound.specs.ValueLaws.{bool-value, ranges}
@@ -127,7 +127,7 @@ module _ {p : Program} {counts : List ℕ} (firm : Firm p) (bound : Bounded p co
     operates-to : (b : Shows (beneath counts l z) (x .is)) (w : Answer) → Answers u w
         → ((v : Val) → Answers u (value v) → Shows (cell (result-byte (op-code o) (type-byte (beneath counts l z))) (word v)) v)
         → After list P z (answered counts l z (result-byte (op-code o) (type-byte (beneath counts l z))) (as-words w))
-        (operated p m l (acting (n-op o)) c χ (result-type (sort o) (x .by)) w)
+        (operated p m l (acting (n-op o)) c χ (result o (x .by)) w)
     unfolding answered as-words operated
     operates-to b (value v) a f =
         let held = st .each l i at in
@@ -161,7 +161,7 @@ module _ {p : Program} {counts : List ℕ} (firm : Firm p) (bound : Bounded p co
       subst (After list P z (do-op counts l z (op-code o))) (sym (operates p m l (acting (n-op o)) c o s))
       (subst
       (λ w. After list P z (answered counts l z (result-byte (op-code o) (type-byte (beneath counts l z))) w)
-      (operated p m l (acting (n-op o)) c χ (result-type (sort o) (x .by)) (apply o (x .is) (y .is))))
+      (operated p m l (acting (n-op o)) c χ (result o (x .by)) (apply o (x .is) (y .is))))
       (sym q)
       (operates-to o e t u k y x χ s sx (apply o (x .is) (y .is)) (apply-fits o k rx ry)
       (λ v r. subst (λ (d : ℕ). Shows (cell (result-byte (op-code o) d) (word v)) v) (sym tx) (result-shows o (sx .by) k (sx .held) rx r))))

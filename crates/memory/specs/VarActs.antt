@@ -9,7 +9,7 @@ use mathlib.Core.List.{List, _∷_}
 use lib.ListN.{length, getD, getElem?, set}
 use lib.Dec.{eqb, ltb}
 use borrow.Author.Tests.{lt-ltb, le-ltb}
-use Rattle.types.specs.Limits.{max-depth, first-local, variables}
+use Rattle.types.specs.Limits.{max-depth, first-local, max-locals, variables}
 use Rattle.types.specs.Types.{Ty, Ty.int}
 use Rattle.types.specs.Values.{Val, Val.label, word}
 use Rattle.program.specs.Tree.{Program}
@@ -18,7 +18,7 @@ use Rattle.commands.specs.Noted.{Note, Note.n-rd, Note.n-wr, Note.n-get, Note.n
 use Rattle.words.specs.Apply.{same-val}
 use Rattle.machine.specs.Published.{Sched, Env, lookup, assign, structs, arity}
 use Rattle.machine.specs.Rules.{meet}
-use Rattle.machine.specs.Machine.{Tagged, tagged, Instance, Machine, with-code, with-written, with-instances, with-stability, put, update-env, settled, read, write-to, write, perform}
+use Rattle.machine.specs.Machine.{Tagged, tagged, Source, Source.variable as from-variable, Source.local, given-by, Instance, Machine, with-code, with-written, with-instances, with-stability, put, update-env, settled, read, write-to, write, perform}
 use Rattle.sound.specs.Needs.{Of, Needs}
 use Rattle.sound.specs.Invariant.{Good}
 use Rattle.sound.specs.Accepted.{Firm}
@@ -80,7 +80,7 @@ module _ {p : Program} {counts : List ℕ} (firm : Firm p) (bound : Bounded p co
   acting n = with-written i (now-written n (i .written))
 
   -- rd of a variable that has a value
-  reads : (n : Note) → i .code ≡ n ∷ c → (v : ℕ) (t : Ty) (x : Tagged) (χ : List Tagged) → i .stack ≡ x ∷ χ → (r : ℕ) → x .is ≡ label r
+  reads : (n : Note) → i .code ≡ n ∷ c → (v : ℕ) (t : ℕ → Source) (x : Tagged) (χ : List Tagged) → i .stack ≡ x ∷ χ → (r : ℕ) → x .is ≡ label r
       → (j : Instance) → getElem? (m .instances) r ≡ some j → (y : Val) → lookup (j .env) v ≡ some y
       → After list P z (do-rd counts l z v) (read p m l (acting n) c (i .stack) v t)
   unfolding do-rd
@@ -93,7 +93,7 @@ module _ {p : Program} {counts : List ℕ} (firm : Firm p) (bound : Bounded p co
       subst (After list P z (do-rd counts l z v)) (sym (has-read p m l (acting n) c v t (s ∙ ap (λ u. tagged (x .by) u ∷ χ) q) at′ b))
       (pushed-stands list P m z st slim l i at c χ (now-written n (i .written)) (height counts l z - 1) (after counts l z) (omega arith) (d .1)
       (holds-after list z l i held n c e counts)
-      (tagged t y)
+      (tagged (given-by p (t (j .struct))) y)
       (of-cell z (variable (operand (top counts l z)) v))
       (omega arith)
       (subst (λ (a : ℕ). Shows (of-cell z (variable a v)) y) (sym (holds-label list z l i held counts x χ s r q)) (st .each r j at′ .vars v y b)))
@@ -105,13 +105,13 @@ module _ {p : Program} {counts : List ℕ} (firm : Firm p) (bound : Bounded p co
       let (r, q, j, at′, w) = label-value (m .instances) k (x .is) o in
       let b′ : v < length (params-of p (j .struct)) = rw w b in
       let (y, g, o′) = param-holds (m .instances) (params-of p (j .struct)) (firm .few (j .struct)) v b′ (j .env) (good .all .each r j at′ .fitted) in
-      reads (n-rd k v) e v (getD (params-of p k) v int) x χ s r q j at′ y g
+      reads (n-rd k v) e v (λ d. from-variable d v) x χ s r q j at′ y g
 
   pub reads-local : (t : Ty) (v : ℕ) → Goes p counts m list P z l i c (n-get t v)
   unfolding perform
   reads-local t v e =
       let (x, (χ, s), (f, q), (d, y, g, o)) = actor-needs firm bound good l i at (n-get t v) c e in
-      reads (n-get t v) e (first-local + v) t x χ s l q i at y g
+      reads (n-get t v) e (first-local + v) (λ d. local t) x χ s l q i at y g
 
   module _ (n : Note) (e : i .code ≡ n ∷ c) (v : ℕ) (small : v < variables) (y x : Tagged) (χ : List Tagged) (s : i .stack ≡ y ∷ x ∷ χ)
       (r : ℕ) (q : y .is ≡ label r) (j : Instance) (at′ : getElem? (m .instances) r ≡ some j) where
@@ -225,6 +225,6 @@ module _ {p : Program} {counts : List ℕ} (firm : Firm p) (bound : Bounded p co
   unfolding perform
   writes-own d t v e =
       let (x, y, χ, s, q) = own-local d t v (actor-needs firm bound good l i at (n-set d t v) c e) in
-      let b : v < first-local = actor-sized firm bound good l i at (n-set d t v) c e in
+      let b : v < max-locals = actor-sized firm bound good l i at (n-set d t v) c e in
       let few : length (params-of p (i .struct)) ≤ first-local = firm .few (i .struct) in
       writes-var (n-set d t v) e (first-local + v) (omega arith) y x χ s l q i at (le-ltb (first-local + v) (arity p (i .struct)) (omega arith))

@@ -9,7 +9,7 @@ use mathlib.Core.List.{List, [], _∷_}
 use lib.ListN.{length, getD, getElem?, set, replicate}
 use lib.Dec.{ltb}
 use borrow.Author.Tests.{ltb-true, ltb-false}
-use Rattle.types.specs.Limits.{first-local, variables}
+use Rattle.types.specs.Limits.{first-local, max-locals, variables}
 use Rattle.types.specs.Values.{Val}
 use Rattle.machine.specs.Published.{Env, Env.env, lookup, assign, fresh-env}
 use Rattle.machine.specs.Machine.{Instance, update-env}
@@ -73,7 +73,7 @@ assigned-other (env ps ls) v u x f = go (side v) (side u)
         rw (p, q) (local-kept (env ps ls) y w x (λ e. f (q ∙ ap (λ (n : ℕ). first-local + n) e ∙ sym p)))
 
 -- a variable with a value lies within a row
-pub near-env : (ps : List Val) (ls : List (Option Val)) → length ls ≡ first-local → (v : ℕ) (x : Val) → lookup (env ps ls) v ≡ some x → v < variables
+pub near-env : (ps : List Val) (ls : List (Option Val)) → length ls ≡ max-locals → (v : ℕ) (x : Val) → lookup (env ps ls) v ≡ some x → v < variables
 near-env ps ls n v x e = go (side v) e
   where
     go : Side v → lookup (env ps ls) v ≡ some x → v < variables
@@ -88,10 +88,10 @@ pub fresh-var : (vs : List Val) (v : ℕ) (x : Val) → lookup (fresh-env vs) v 
 fresh-var vs v x e = go (side v) e
   where
     go : Side v → lookup (fresh-env vs) v ≡ some x → (getElem? vs v ≡ some x) × (v < length vs)
-    go (inl h) e = let q = sym (param-at vs (replicate first-local none) v h) ∙ e in (q, at-below vs v x q)
+    go (inl h) e = let q = sym (param-at vs (replicate max-locals none) v h) ∙ e in (q, at-below vs v x q)
     go (inr h) e =
         let (w, q) = h in
-        none-some (sym (none-there first-local w) ∙ sym (local-at vs (replicate first-local none) w) ∙ rw q at e)
+        none-some (sym (none-there max-locals w) ∙ sym (local-at vs (replicate max-locals none) w) ∙ rw q at e)
 
 -- instances stay as many
 pub env-length : (is : List Instance) (r : ℕ) (ξ : Env) → length (update-env is r ξ) ≡ length is

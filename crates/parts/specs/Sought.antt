@@ -5,21 +5,21 @@ use mathlib.Core.List.{List, [], _∷_}
 use lib.ListN.{length}
 use Rattle.program.specs.Tree.{Step}
 use Rattle.program.specs.Reader.{Result, Result.ok, Result.bad, many, read-steps}
-use Rattle.parts.specs.declared.Spot.{Spot}
-use Rattle.parts.specs.declared.SpotRead.{SpotRead}
-use Rattle.parts.specs.declared.SpotRead.the-variants.{Value, Refused}
-use Rattle.parts.specs.StepPart.{spot-in}
+use Rattle.parts.specs.declared.Search.{Search}
+use Rattle.parts.specs.declared.SearchRead.{SearchRead}
+use Rattle.parts.specs.declared.SearchRead.the-variants.{Value, Refused}
+use Rattle.parts.specs.StepPart.{search-in}
 
-abbrev pub sought : {A : Type 0} → (A → Spot) → Result A → SpotRead
+abbrev pub sought : {A : Type 0} → (A → Search) → Result A → SearchRead
 sought f (ok a m) = Value m (f a)
 sought f (bad p n) = Refused n
 
 -- no more commands were passed than bytes were read
-abbrev pub Passing : List ℕ → SpotRead → Type 0
+abbrev pub Passing : List ℕ → SearchRead → Type 0
 Passing s (Value m z) = (z .passed ≤ m) × (m ≤ length s)
 Passing s (Refused k) = Unit {0}
 
 -- where the steps of all structs are read from a place on, the step of that name of the struct k is here
-abbrev pub Walked : List ℕ → List ℕ → ℕ → ℕ → ℕ → Spot → Type 0
+abbrev pub Walked : List ℕ → List ℕ → ℕ → ℕ → ℕ → Search → Type 0
 Walked ar s k name at z =
-    (ss : List (List Step)) (m : ℕ) → k < length ss → many [] _∷_ (read-steps ar s) (length ss) at ≡ ok ss m → z ≡ spot-in ss k name
+    (ss : List (List Step)) (m : ℕ) → k < length ss → many [] _∷_ (read-steps ar s) (length ss) at ≡ ok ss m → z ≡ search-in ss k name

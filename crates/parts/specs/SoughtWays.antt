@@ -19,16 +19,16 @@ use Rattle.exprs.specs.Told.{byte-told}
 use Rattle.exprs.specs.ByteWays.{byte-is, byte-stops}
 use Rattle.stmts.specs.declared.StmtRead.the-variants.{Value as StmtValue, Refused as StmtRefused}
 use Rattle.stmts.specs.Done.{done, DoneBody}
-use Rattle.parts.specs.declared.Spot.{Spot}
-use Rattle.parts.specs.declared.SpotRead.{SpotRead}
-use Rattle.parts.specs.declared.SpotRead.the-variants.{Value, Refused}
+use Rattle.parts.specs.declared.Search.{Search}
+use Rattle.parts.specs.declared.SearchRead.{SearchRead}
+use Rattle.parts.specs.declared.SearchRead.the-variants.{Value, Refused}
 use Rattle.whole.specs.TotalWays.{done-is, done-stops, step-unread, step-bodiless, step-whole, steps-uncounted}
 use Rattle.parts.specs.StepPart.{past, seek}
 use Rattle.parts.specs.Sought.{sought, Passing}
 
 -- what was read, from what was answered
-module _ {A : Type 0} (f : A → Spot) where
-  pub sought-is : (q : Result A) (m : ℕ) (z : Spot) → sought f q ≡ Value m z → (a : A) × (q ≡ ok a m) × (f a ≡ z)
+module _ {A : Type 0} (f : A → Search) where
+  pub sought-is : (q : Result A) (m : ℕ) (z : Search) → sought f q ≡ Value m z → (a : A) × (q ≡ ok a m) × (f a ≡ z)
   sought-is (ok a k) m z e = let h : k ≡ m = cc in (a, rw h refl, cc)
   sought-is (bad p n) m z e = let x : _≡_ {A = ℕ} 0 1 = cc in absurd (omega arith)
 
@@ -36,8 +36,8 @@ module _ {A : Type 0} (f : A → Spot) where
   sought-stops (ok a k) n e = let x : _≡_ {A = ℕ} 0 1 = cc in absurd (omega arith)
   sought-stops (bad p k) n e = (p, cc)
 
-module _ (ar types s : List ℕ) (k name at : ℕ) (z : Spot) where
-  abbrev one : Step → Spot
+module _ (ar types s : List ℕ) (k name at : ℕ) (z : Search) where
+  abbrev one : Step → Search
   one t = seek name (t ∷ []) z
 
   abbrev body-of : ℕ → Result Stmts
@@ -62,7 +62,7 @@ module _ (ar types s : List ℕ) (k name at : ℕ) (z : Spot) where
       ap (sought one) (step-whole ar s at n m i (q .0) (byte-is (ranged s 0 32 at) n m e) (q .1)) ∙ ap (λ (x : ℕ). Value i (past name n x z)) (sym h)
 
 -- no more is passed than is read
-pub seek-low : (s : List ℕ) (name n at m i : ℕ) (z : Spot) (d : Done) → z .passed ≤ at → m ≡ at + 1 → DoneBody s m (StmtValue i d) → Passing s (Value i (past name n (d .size) z))
+pub seek-low : (s : List ℕ) (name n at m i : ℕ) (z : Search) (d : Done) → z .passed ≤ at → m ≡ at + 1 → DoneBody s m (StmtValue i d) → Passing s (Value i (past name n (d .size) z))
 unfolding past
 seek-low s name n at m i z d l e h = go (eqb n name) refl
   where
@@ -71,7 +71,7 @@ seek-low s name n at m i z d l e h = go (eqb n name) refl
     go false j = rw (past, j) (omega (arith, h, e, l))
 
 -- steps in a row
-module _ (ar s : List ℕ) (name n at : ℕ) (z : Spot) where
+module _ (ar s : List ℕ) (name n at : ℕ) (z : Search) where
   abbrev row : Result (List Step)
   row = many [] _∷_ (read-step ar s) n at
 
@@ -87,7 +87,7 @@ module _ (ar s : List ℕ) (name n at : ℕ) (z : Spot) where
       go zero h = absurd (h refl)
       go (suc n) h = let q = sought-stops (λ t. seek name (t ∷ []) z) (read-step ar s at) e i in rw (q .1)
 
-  pub seeks-more : (n ≡ 0 → ⊥) → (m : ℕ) (y : Spot) → sought (λ t. seek name (t ∷ []) z) (read-step ar s at) ≡ Value m y
+  pub seeks-more : (n ≡ 0 → ⊥) → (m : ℕ) (y : Search) → sought (λ t. seek name (t ∷ []) z) (read-step ar s at) ≡ Value m y
       → sought (λ ts. seek name ts z) row ≡ sought (λ ts. seek name ts y) (many [] _∷_ (read-step ar s) (n - 1) m)
   unfolding many then seek
   seeks-more h m y i = go n h
@@ -101,7 +101,7 @@ module _ (ar s : List ℕ) (name n at : ℕ) (z : Spot) where
       go (suc n) h = let q = sought-is (λ t. seek name (t ∷ []) z) (read-step ar s at) m y i in rw (q .1, sub-one) (rest (q .0) (q .2) (many [] _∷_ (read-step ar s) n m))
 
 -- a count and steps
-module _ (ar s : List ℕ) (name at : ℕ) (z : Spot) where
+module _ (ar s : List ℕ) (name at : ℕ) (z : Search) where
   pub seeks-uncounted : (e : ℕ) → byte-told (ranged s 0 9 at) ≡ NoByte e → sought (λ ts. seek name ts z) (read-steps ar s at) ≡ Refused e
   seeks-uncounted e i = let q = byte-stops (ranged s 0 9 at) e i in ap (sought (λ ts. seek name ts z)) (steps-uncounted ar s at _ e (q .1))
 

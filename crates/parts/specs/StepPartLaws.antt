@@ -15,14 +15,17 @@ use Rattle.commands.specs.Bounds.{total, step-size, program-size, Within}
 use Rattle.commands.specs.SizeLaws.{program-size-is}
 use Rattle.facts.specs.ProgramFacts.{Totals as Sum, step-totals}
 use Rattle.facts.specs.TotalLaws.{steps-grown}
-use Rattle.run.specs.Entry.{Checked, Checked.accepted, Checked.refused, checked}
-use Rattle.run.specs.InputProgram.{checked-accepted}
+use Rattle.run.specs.Entry.{Checked, Checked.accepted, Checked.refused, checked, no-room, verdict-of, check-verdict}
+use Rattle.run.specs.Input.{program-order}
+use Rattle.run.specs.InputOrder.{Numbered, foremost-numbered}
+use Rattle.run.specs.InputProgram.{checked-number, checked-accepted}
 use Rattle.whole.specs.declared.totals.Totals.{Totals}
 use Rattle.whole.specs.declared.totals.TotalsRead.the-variants.{Value as TotalsValue, Refused as TotalsRefused}
+use Rattle.parts.specs.declared.Search.{Search}
+use Rattle.parts.specs.declared.SearchRead.the-variants.{Value, Refused}
 use Rattle.parts.specs.declared.Spot.{Spot}
-use Rattle.parts.specs.declared.SpotRead.the-variants.{Value, Refused}
 use Rattle.whole.specs.Total.{less, told}
-use Rattle.parts.specs.StepPart.{spot, nowhere, past, seek, spot-in, spot-by, step-place, step-part}
+use Rattle.parts.specs.StepPart.{search-from, nowhere, past, seek, search-in, found, spot-by, place-by, step-place, step-part}
 use Rattle.parts.specs.Sought.{sought, Walked}
 
 -- Rows ---------------------------------------------------------------------------------
@@ -74,42 +77,42 @@ module _ (ar types s : List ℕ) (k name at : ℕ) (T : Sum) (none : T .commands
   before-k = many [] _∷_ (read-steps ar s) k at
 
   -- there is no refusal where all steps are read
-  pub walk-on : (e : ℕ) → told (λ tss. step-totals ar types 0 tss T) before-k ≡ TotalsRefused e → (z : Spot) → Walked ar s k name at z
+  pub walk-on : (e : ℕ) → told (λ tss. step-totals ar types 0 tss T) before-k ≡ TotalsRefused e → (z : Search) → Walked ar s k name at z
   walk-on e i z ss n l h =
       let w = split (read-steps ar s) [] k ss at n l h in
       let x = sym (ap (told (λ tss. step-totals ar types 0 tss T)) (w .2)) ∙ i in
       let y : _≡_ {A = ℕ} 0 1 = cc in absurd (omega arith)
 
   module _ (m : ℕ) (t : Totals) (told-so : told (λ tss. step-totals ar types 0 tss T) before-k ≡ TotalsValue m t) where
-    abbrev seeking : List Step → Spot
-    seeking ts = seek name ts (spot (t .commands) 0 0)
+    abbrev seeking : List Step → Search
+    seeking ts = seek name ts (search-from (t .commands))
 
-    found : (ss : List (List Step)) (n : ℕ) → k < length ss → many [] _∷_ (read-steps ar s) (length ss) at ≡ ok ss n
+    found-in : (ss : List (List Step)) (n : ℕ) → k < length ss → many [] _∷_ (read-steps ar s) (length ss) at ≡ ok ss n
         → (i : ℕ) × (read-steps ar s m ≡ ok (getD ss k []) i) × (t .commands ≡ total (total step-size) (take k ss))
-    found ss n l h =
+    found-in ss n l h =
         let w = split (read-steps ar s) [] k ss at n l h in
         let x : TotalsValue (w .0) (less (step-totals ar types 0 (take k ss) T)) ≡ TotalsValue m t = sym (ap (told (λ tss. step-totals ar types 0 tss T)) (w .2)) ∙ told-so in
         let y : w .0 ≡ m = cc in
         let z : less (step-totals ar types 0 (take k ss) T) ≡ t = cc in
         (w .1, ap (read-steps ar s) (sym y) ∙ w .3, ap (λ (u : Totals). u .commands) (sym z) ∙ commands-are ar types (take k ss) T none)
 
-    pub walk-through : (e : ℕ) → sought seeking (read-steps ar s m) ≡ Refused e → (z : Spot) → Walked ar s k name at z
+    pub walk-through : (e : ℕ) → sought seeking (read-steps ar s m) ≡ Refused e → (z : Search) → Walked ar s k name at z
     walk-through e i z ss n l h =
-        let w = found ss n l h in
+        let w = found-in ss n l h in
         let x = sym (ap (sought seeking) (w .1)) ∙ i in
         let y : _≡_ {A = ℕ} 0 1 = cc in absurd (omega arith)
 
-    pub walk-found : (i : ℕ) (y : Spot) → sought seeking (read-steps ar s m) ≡ Value i y → Walked ar s k name at y
-    unfolding spot-in
+    pub walk-found : (i : ℕ) (y : Search) → sought seeking (read-steps ar s m) ≡ Value i y → Walked ar s k name at y
+    unfolding search-in
     walk-found i y e ss n l h =
-        let w = found ss n l h in
+        let w = found-in ss n l h in
         let x : Value (w .0) (seeking (getD ss k [])) ≡ Value i y = sym (ap (sought seeking) (w .1)) ∙ e in
         let z : seeking (getD ss k []) ≡ y = cc in
-        sym z ∙ ap (λ (o : ℕ). seek name (getD ss k []) (spot o 0 0)) (w .2)
+        sym z ∙ ap (λ (o : ℕ). seek name (getD ss k []) (search-from o)) (w .2)
 
 -- Bounds -------------------------------------------------------------------------------
 
-past-bound : (n name size : ℕ) (z : Spot) → z .start + z .len ≤ z .passed
+past-bound : (n name size : ℕ) (z : Search) → z .start + z .len ≤ z .passed
     → (past n name size z .start + past n name size z .len ≤ past n name size z .passed) × (past n name size z .passed ≡ z .passed + size)
 unfolding past
 past-bound n name size z h = go (eqb name n) refl
@@ -118,7 +121,7 @@ past-bound n name size z h = go (eqb name n) refl
     go true e = rw (past, e) (omega (arith, h), refl)
     go false e = rw (past, e) (omega (arith, h), refl)
 
-seek-bound : (n : ℕ) (ts : List Step) (z : Spot) → z .start + z .len ≤ z .passed → seek n ts z .start + seek n ts z .len ≤ z .passed + total step-size ts
+seek-bound : (n : ℕ) (ts : List Step) (z : Search) → z .start + z .len ≤ z .passed → seek n ts z .start + seek n ts z .len ≤ z .passed + total step-size ts
 unfolding seek total
 seek-bound n [] z h = omega arith
 seek-bound n (t ∷ ts) z h =
@@ -133,14 +136,14 @@ total-at f (suc k) (a ∷ l) d h = omega (arith, total-at f k l d (omega arith))
 
 -- a step's commands lie within the list's first 1,024 places
 accepted-fits : (p : Program) (k n : ℕ) → Within p → spot-by (accepted p) k n .start + spot-by (accepted p) k n .len ≤ max-commands
-unfolding Within program-size spot-in spot-by
+unfolding Within program-size search-in spot-by
 accepted-fits p k n w = here (ltb k (length (p .steps))) refl
   where
     here : (t : Bool) → ltb k (length (p .steps)) ≡ t → spot-by (accepted p) k n .start + spot-by (accepted p) k n .len ≤ max-commands
     here true e =
         let l = ltb-true k (length (p .steps)) e in
         let before = total (total step-size) (take k (p .steps)) in
-        rw (spot-by, e) (omega (arith, w .1, total-at (total step-size) k (p .steps) [] l, seek-bound n (getD (p .steps) k []) (spot before 0 0) (omega arith)))
+        rw (spot-by, e) (omega (arith, w .1, total-at (total step-size) k (p .steps) [] l, seek-bound n (getD (p .steps) k []) (search-from before) (omega arith)))
     here false e = rw (spot-by, e) (omega arith)
 
 pub spot-fits : (x : List ℕ) (k n : ℕ) → spot-by (checked x) k n .start + spot-by (checked x) k n .len ≤ max-commands
@@ -151,49 +154,118 @@ spot-fits x k n = go (checked x) refl
     go (refused m) e = omega arith
     go (accepted p) e = accepted-fits p k n (checked-accepted x p .0 e .within)
 
--- The part -----------------------------------------------------------------------------
+-- A program ----------------------------------------------------------------------------
+
+module _ (c : Checked) (k n : ℕ) where
+  pub spot-refused : (m : ℕ) → c ≡ refused m → nowhere m ≡ spot-by c k n
+  unfolding spot-by
+  spot-refused m e = rw e
+
+  -- a struct that is not there, and one that is
+  pub spot-outside : (p : Program) → c ≡ accepted p → length (p .steps) ≤ k → nowhere 0 ≡ spot-by c k n
+  unfolding spot-by
+  spot-outside p e l = rw e (rw (spot-by, le-ltb k (length (p .steps)) l))
+
+  pub spot-inside : (p : Program) → c ≡ accepted p → k < length (p .steps) → found (search-in (p .steps) k n) ≡ spot-by c k n
+  unfolding spot-by
+  spot-inside p e l = rw e (rw (spot-by, lt-ltb k (length (p .steps)) l))
+
+  -- no number for a step of an accepted program, whether or not it is there
+  pub spot-number : (p : Program) → c ≡ accepted p → spot-by c k n .number ≡ 0
+  spot-number p e = go (ltb k (length (p .steps))) refl
+    where
+      go : (t : Bool) → ltb k (length (p .steps)) ≡ t → spot-by c k n .number ≡ 0
+      go true i = ap (λ (y : Spot). y .number) (sym (spot-inside p e (ltb-true _ _ i)))
+      go false i = ap (λ (y : Spot). y .number) (sym (spot-outside p e (ltb-false _ _ i)))
+
+-- The place ----------------------------------------------------------------------------
+
+module _ (c : Checked) (list : List ℕ) (k n : ℕ) where
+  -- a program that is refused, and one that is accepted, with a list that is too short or has room
+  pub by-refused : (m : ℕ) → c ≡ refused m → place-by c list k n ≡ nowhere m
+  unfolding place-by
+  by-refused m e = rw e
+
+  pub by-short : (p : Program) → c ≡ accepted p → length list < max-commands → place-by c list k n ≡ nowhere no-room
+  unfolding place-by
+  by-short p e l = rw e (rw (place-by, lt-ltb (length list) max-commands l))
+
+  pub by-room : (p : Program) → c ≡ accepted p → max-commands ≤ length list → place-by c list k n ≡ spot-by c k n
+  unfolding place-by
+  by-room p e l = rw e (rw (place-by, le-ltb (length list) max-commands l))
+
+  -- the number is that of the verdict
+  pub by-number : place-by c list k n .number ≡ verdict-of c list .number
+  unfolding verdict-of
+  by-number = go c refl
+    where
+      room : (p : Program) → c ≡ accepted p → (t : Bool) → ltb (length list) max-commands ≡ t → place-by c list k n .number ≡ verdict-of (accepted p) list .number
+      room p e true i = ap (λ (y : Spot). y .number) (by-short p e (ltb-true _ _ i)) ∙ rw (verdict-of, i)
+      room p e false i = ap (λ (y : Spot). y .number) (by-room p e (ltb-false _ _ i)) ∙ spot-number c k n p e ∙ rw (verdict-of, i)
+
+      go : (d : Checked) → c ≡ d → place-by c list k n .number ≡ verdict-of d list .number
+      go (refused m) e = ap (λ (y : Spot). y .number) (by-refused m e)
+      go (accepted p) e = room p e (ltb (length list) max-commands) refl
+
+-- no refusal has the number 0
+some : (x : List ℕ) → Numbered (λ n. 1 ≤ n) (program-order x)
+some x = omega arith
+
+refused-number : (x : List ℕ) (m : ℕ) → checked x ≡ refused m → m ≡ 0 → ⊥
+refused-number x m e z = omega (arith, foremost-numbered (λ n. 1 ≤ n) (some x) (checked-number x m .0 e))
 
 module _ (x list : List ℕ) (k n : ℕ) where
   abbrev z : Spot
   z = step-place x list k n
 
-  pub place-short : length list < max-commands → z ≡ nowhere
-  unfolding step-place
-  place-short l = rw (step-place, lt-ltb (length list) max-commands l)
+  abbrev y : Spot
+  y = spot-by (checked x) k n
 
-  pub place-room : max-commands ≤ length list → z ≡ spot-by (checked x) k n
+  -- a number that is not 0 is that of the image; behind it the list is asked for
+  pub place-numbered : (y .number ≡ 0 → ⊥) → y ≡ z
   unfolding step-place
-  place-room l = rw (step-place, le-ltb (length list) max-commands l)
-
-  -- it lies in the list's first 1,024 places, and the list has them
-  pub place-fits : (z .start + z .len ≤ max-commands) × (z .start + z .len ≤ length list)
-  place-fits = go (ltb (length list) max-commands) refl
+  place-numbered h = go (checked x) refl
     where
-      go : (t : Bool) → ltb (length list) max-commands ≡ t → (z .start + z .len ≤ max-commands) × (z .start + z .len ≤ length list)
-      go true e = rw (place-short (ltb-true _ _ e)) (omega arith, omega arith)
-      go false e = let l = ltb-false _ _ e in rw (place-room l) (spot-fits x k n, omega (arith, spot-fits x k n, l))
+      go : (c : Checked) → checked x ≡ c → y ≡ place-by (checked x) list k n
+      go (refused m) e = sym (spot-refused (checked x) k n m e) ∙ sym (by-refused (checked x) list k n m e)
+      go (accepted p) e = absurd (h (spot-number (checked x) k n p e))
+
+  module _ (none : y .number ≡ 0) where
+    sound : (p : Program) × (checked x ≡ accepted p)
+    sound = go (checked x) refl
+      where
+        go : (c : Checked) → checked x ≡ c → (p : Program) × (checked x ≡ accepted p)
+        go (refused m) e = absurd (refused-number x m e (ap (λ (y : Spot). y .number) (spot-refused (checked x) k n m e) ∙ none))
+        go (accepted p) e = (p, e)
+
+    pub place-short : length list < max-commands → nowhere no-room ≡ z
+    unfolding step-place
+    place-short l = sym (by-short (checked x) list k n (sound .0) (sound .1) l)
+
+    pub place-room : max-commands ≤ length list → y ≡ z
+    unfolding step-place
+    place-room l = sym (by-room (checked x) list k n (sound .0) (sound .1) l)
+
+  -- the number is that of a check of this image with this list
+  pub place-number : z .number ≡ check-verdict x list .number
+  unfolding step-place check-verdict
+  place-number = by-number (checked x) list k n
+
+  -- the place lies in the list's first 1,024 places, and the list has them
+  pub place-fits : (z .start + z .len ≤ max-commands) × (z .start + z .len ≤ length list)
+  unfolding step-place
+  place-fits = go (checked x) refl
+    where
+      room : (p : Program) → checked x ≡ accepted p → (t : Bool) → ltb (length list) max-commands ≡ t
+          → (z .start + z .len ≤ max-commands) × (z .start + z .len ≤ length list)
+      room p e true i = rw (by-short (checked x) list k n p e (ltb-true _ _ i)) (omega arith, omega arith)
+      room p e false i = let l = ltb-false _ _ i in rw (by-room (checked x) list k n p e l) (spot-fits x k n, omega (arith, spot-fits x k n, l))
+
+      go : (c : Checked) → checked x ≡ c → (z .start + z .len ≤ max-commands) × (z .start + z .len ≤ length list)
+      go (refused m) e = rw (by-refused (checked x) list k n m e) (omega arith, omega arith)
+      go (accepted p) e = room p e (ltb (length list) max-commands) refl
 
   -- and the part is what stands there
   pub place-part : take (z .len) (drop (z .start) list) ≡ step-part x list k n
-  unfolding step-part step-place
-  place-part = go (ltb (length list) max-commands) refl
-    where
-      go : (t : Bool) → ltb (length list) max-commands ≡ t → take (z .len) (drop (z .start) list) ≡ step-part x list k n
-      go true e = rw (step-place, step-part, e)
-      go false e = rw (step-place, step-part, e)
-
--- A program ----------------------------------------------------------------------------
-
-module _ (c : Checked) (k n : ℕ) where
-  pub spot-refused : (m : ℕ) → c ≡ refused m → nowhere ≡ spot-by c k n
-  unfolding spot-by
-  spot-refused m e = rw e
-
-  -- a struct that is not there, and one that is
-  pub spot-outside : (p : Program) → c ≡ accepted p → length (p .steps) ≤ k → nowhere ≡ spot-by c k n
-  unfolding spot-by
-  spot-outside p e l = rw e (rw (spot-by, le-ltb k (length (p .steps)) l))
-
-  pub spot-inside : (p : Program) → c ≡ accepted p → k < length (p .steps) → spot-in (p .steps) k n ≡ spot-by c k n
-  unfolding spot-by
-  spot-inside p e l = rw e (rw (spot-by, lt-ltb k (length (p .steps)) l))
+  unfolding step-part
+  place-part = refl

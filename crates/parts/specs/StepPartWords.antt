@@ -17,15 +17,16 @@ use Rattle.commands.specs.Bounds.{total, step-list, step-size}
 use Rattle.commands.specs.Coding.{words}
 use Rattle.commands.specs.Names.{Once, step-names, NamedSteps, NamesRight}
 use Rattle.emit.specs.WordLaws.{words-append, words-length}
-use Rattle.run.specs.Entry.{Checked, Checked.accepted, Checked.refused, of-read, checked, of-steps, of-structs, program-words, listed, check-list}
+use Rattle.run.specs.Entry.{Checked, Checked.accepted, Checked.refused, of-read, checked, of-steps, of-structs, program-words, listed, check-list, no-room}
 use Rattle.run.specs.EntryStreamLaws.{checked-image}
 use Rattle.run.specs.InputProgram.{checked-accepted, check-approved}
 use Rattle.run.specs.RowPrograms.{P}
 use Rattle.run.specs.Rows.{listed-P}
 use Rattle.run.specs.RowsOpen.{checking}
+use Rattle.parts.specs.declared.Search.{Search}
 use Rattle.parts.specs.declared.Spot.{Spot}
-use Rattle.parts.specs.StepPart.{spot, past, seek, spot-in, spot-by, step-part}
-use Rattle.parts.specs.StepPartLaws.{place-short, place-room, place-part, spot-refused, spot-outside, spot-inside}
+use Rattle.parts.specs.StepPart.{search-at, search-from, past, seek, search-in, nowhere, found, spot-by, place-by, step-place, step-part}
+use Rattle.parts.specs.StepPartLaws.{spot-outside, spot-inside, spot-number, by-refused, by-short, by-room}
 
 -- Words --------------------------------------------------------------------------------
 
@@ -65,15 +66,15 @@ struct-words (suc k) (ts ∷ tss) l h =
 -- Seeking ------------------------------------------------------------------------------
 
 -- past the step that is sought, and past another
-past-sought : (n size : ℕ) (z : Spot) → past n n size z ≡ spot (z .passed + size) (z .passed) size
+past-sought : (n size : ℕ) (z : Search) → past n n size z ≡ search-at (z .passed + size) (z .passed) size
 unfolding past
 past-sought n size z = rw (past, eq-eqb n n refl)
 
-past-other : (n name size : ℕ) (z : Spot) → (name ≡ n → ⊥) → past n name size z ≡ spot (z .passed + size) (z .start) (z .len)
+past-other : (n name size : ℕ) (z : Search) → (name ≡ n → ⊥) → past n name size z ≡ search-at (z .passed + size) (z .start) (z .len)
 unfolding past
 past-other n name size z h = rw (past, ne-eqb name n h)
 
-past-passed : (n name size : ℕ) (z : Spot) → past n name size z .passed ≡ z .passed + size
+past-passed : (n name size : ℕ) (z : Search) → past n name size z .passed ≡ z .passed + size
 unfolding past
 past-passed n name size z = go (eqb name n) refl
   where
@@ -82,21 +83,21 @@ past-passed n name size z = go (eqb name n) refl
     go false e = rw (past, e)
 
 -- what was found stays found where no step has the name
-seek-other : (n : ℕ) (ts : List Step) (z : Spot) → (List·Memᴰ n (step-names ts) → ⊥) → (seek n ts z .start ≡ z .start) × (seek n ts z .len ≡ z .len)
+seek-other : (n : ℕ) (ts : List Step) (z : Search) → (List·Memᴰ n (step-names ts) → ⊥) → (seek n ts z .start ≡ z .start) × (seek n ts z .len ≡ z .len)
 unfolding seek step-names
 seek-other n [] z h = (refl, refl)
 seek-other n (t ∷ ts) z h =
     let q = seek-other n ts (past n (t .name) (step-size t) z) (λ m. h (List·Memᴰ·tail m)) in
     let e = past-other n (t .name) (step-size t) z (λ e. h (List·Memᴰ·head (sym e))) in
-    (q .0 ∙ ap (λ (y : Spot). y .start) e, q .1 ∙ ap (λ (y : Spot). y .len) e)
+    (q .0 ∙ ap (λ (y : Search). y .start) e, q .1 ∙ ap (λ (y : Search). y .len) e)
 
--- the part of a list that a spot marks
+-- the part of a list that a place marks
 abbrev marked : Spot → List ℕ → List ℕ
 marked z l = take (z .len) (drop (z .start) l)
 
 -- names stand once, so the step that is found is the step of the name
-seek-marks : {t : Step} {ts : List Step} → List·Memᴰ t ts → Once (step-names ts) → (z : Spot) (l more : List ℕ)
-    → drop (z .passed) l ≡ words (of-steps ts) ++ more → marked (seek (t .name) ts z) l ≡ words (step-list t)
+seek-marks : {t : Step} {ts : List Step} → List·Memᴰ t ts → Once (step-names ts) → (z : Search) (l more : List ℕ)
+    → drop (z .passed) l ≡ words (of-steps ts) ++ more → marked (found (seek (t .name) ts z)) l ≡ words (step-list t)
 unfolding seek step-names
 seek-marks {t} (List·Memᴰ·head {x = a} {xs = ts} e) o z l more h =
     let q = seek-other (t .name) ts (past (t .name) (a .name) (step-size a) z) (λ m. o .0 (Memᴰ·cast (ap (λ (s : Step). s .name) (sym e)) m)) in
@@ -129,81 +130,92 @@ once-in p j (suc k) (ts ∷ tss) h = once-in p (suc j) k tss (h .2)
 -- where a step stands, the program's words are those of its commands
 spot-marks : (c : Checked) (p : Program) (k : ℕ) (t : Step) (l : List ℕ) → c ≡ accepted p → NamesRight p → List·Memᴰ t (getD (p .steps) k [])
     → marked (spot-by c k (t .name)) (program-words p ++ l) ≡ words (step-list t)
-unfolding spot-in NamesRight program-words
+unfolding search-in NamesRight program-words
 spot-marks c p k t l e r m =
     let h = has-struct (p .steps) k m in
     let w = struct-words k (p .steps) l h in
     rw (← spot-inside c k (t .name) p e h) (seek-marks m (once-in p 0 k (p .steps) (r .0)) _ (program-words p ++ l) (w .0) (w .1))
 
--- a step that is not there has no places
-spot-none : (c : Checked) (p : Program) (k n : ℕ) → c ≡ accepted p → (List·Memᴰ n (step-names (getD (p .steps) k [])) → ⊥) → spot-by c k n .len ≡ 0
-unfolding spot-in
+-- a step that is not there has no place
+spot-none : (c : Checked) (p : Program) (k n : ℕ) → c ≡ accepted p → (List·Memᴰ n (step-names (getD (p .steps) k [])) → ⊥) → spot-by c k n ≡ nowhere 0
+unfolding search-in
 spot-none c p k n e h = go (ltb k (length (p .steps))) refl
   where
-    go : (b : Bool) → ltb k (length (p .steps)) ≡ b → spot-by c k n .len ≡ 0
-    go true i = rw (← spot-inside c k n p e (ltb-true _ _ i)) (seek-other n (getD (p .steps) k []) _ h .1)
-    go false i = rw (← spot-outside c k n p e (ltb-false _ _ i))
+    go : (b : Bool) → ltb k (length (p .steps)) ≡ b → spot-by c k n ≡ nowhere 0
+    go true i = let q = seek-other n (getD (p .steps) k []) (search-from (total (total step-size) (take k (p .steps)))) h in sym (spot-inside c k n p e (ltb-true _ _ i)) ∙ rw (q .0, q .1)
+    go false i = sym (spot-outside c k n p e (ltb-false _ _ i))
 
 -- The part of a step -------------------------------------------------------------------
 
 module _ (x list : List ℕ) (k n : ℕ) where
-  part-marked : max-commands ≤ length list → step-part x list k n ≡ marked (spot-by (checked x) k n) list
-  part-marked h = sym (place-part x list k n) ∙ ap (λ (z : Spot). marked z list) (place-room x list k n h)
+  -- a number and an empty part, or no number and some part
+  abbrev Handed : ℕ → List ℕ → Type 0
+  Handed m l = (step-place x list k n .number ≡ m) × (step-part x list k n ≡ l)
 
-  -- a list with places for fewer than 1,024 commands gives an empty part
-  pub step-short : length list < max-commands → step-part x list k n ≡ []
-  step-short h = sym (place-part x list k n) ∙ ap (λ (z : Spot). marked z list) (place-short x list k n h)
+  handed-none : (m : ℕ) → step-place x list k n ≡ nowhere m → Handed m []
+  unfolding step-part
+  handed-none m e = (ap (λ (z : Spot). z .number) e, ap (λ (z : Spot). marked z list) e)
 
-  part-none : spot-by (checked x) k n .len ≡ 0 → step-part x list k n ≡ []
-  part-none h = go (ltb (length list) max-commands) refl
-    where
-      go : (b : Bool) → ltb (length list) max-commands ≡ b → step-part x list k n ≡ []
-      go true e = step-short (ltb-true _ _ e)
-      go false e = part-marked (ltb-false _ _ e) ∙ ap (λ (i : ℕ). take i (drop (spot-by (checked x) k n .start) list)) h
+  handed-room : (p : Program) → checked x ≡ accepted p → max-commands ≤ length list → Handed 0 (marked (spot-by (checked x) k n) list)
+  unfolding step-place step-part
+  handed-room p e h =
+      let q = by-room (checked x) list k n p e h in
+      (ap (λ (z : Spot). z .number) q ∙ spot-number (checked x) k n p e, ap (λ (z : Spot). marked z list) q)
 
-  -- so does an image that is refused
-  pub step-refused : (m : ℕ) → checked x ≡ refused m → step-part x list k n ≡ []
-  step-refused m e = part-none (ap (λ (z : Spot). z .len) (sym (spot-refused (checked x) k n m e)))
+  -- an image that is refused gives its number and an empty part
+  pub step-refused : (m : ℕ) → checked x ≡ refused m → Handed m []
+  unfolding step-place
+  step-refused m e = handed-none m (by-refused (checked x) list k n m e)
 
-  -- and a step that is not there, for want of the struct or of the name
-  pub step-absent : (p : Program) → checked x ≡ accepted p → (List·Memᴰ n (step-names (getD (p .steps) k [])) → ⊥) → step-part x list k n ≡ []
-  step-absent p e h = part-none (spot-none (checked x) p k n e h)
+  -- a list with places for fewer than 1,024 commands gives 13 where the image is accepted
+  pub step-short : (p : Program) → checked x ≡ accepted p → length list < max-commands → Handed no-room []
+  unfolding step-place
+  step-short p e h = handed-none no-room (by-short (checked x) list k n p e h)
+
+  -- and a step that is not there, for want of the struct or of the name, no number and an empty part
+  pub step-absent : (p : Program) → checked x ≡ accepted p → max-commands ≤ length list → (List·Memᴰ n (step-names (getD (p .steps) k [])) → ⊥) → Handed 0 []
+  unfolding step-place
+  step-absent p e h f = handed-none 0 (by-room (checked x) list k n p e h ∙ spot-none (checked x) p k n e f)
 
 -- of the list that the checker hands out, the part of a step that a struct has is the words of that step's commands
 pub step-words : (x list : List ℕ) (p : Program) (k : ℕ) (t : Step) → checked x ≡ accepted p → max-commands ≤ length list
-    → List·Memᴰ t (getD (p .steps) k []) → step-part x (check-list x list) k (t .name) ≡ words (step-list t)
+    → List·Memᴰ t (getD (p .steps) k []) → Handed x (check-list x list) k (t .name) 0 (words (step-list t))
 unfolding listed
 step-words x list p k t e h m =
     let a = checked-accepted x p .0 e in
     let l = drop (length (program-words p)) list in
     let room : max-commands ≤ length (program-words p ++ l) = simp (length-append, length-drop) (omega arith) in
-    ap (λ (s : List ℕ). step-part x s k (t .name)) (check-approved x list p a h .1)
-    ∙ part-marked x (program-words p ++ l) k (t .name) room
-    ∙ spot-marks (checked x) p k t l e (a .names) m
+    let q = handed-room x (program-words p ++ l) k (t .name) p e room in
+    rw (check-approved x list p a h .1) (q .0, q .1 ∙ spot-marks (checked x) p k t l e (a .names) m)
 
 -- P's step 0 ---------------------------------------------------------------------------
 
--- it has the 8 commands of the list, and there is no step 1
-spot-P : spot-by (of-read (read P)) 0 0 ≡ spot 8 0 8
-unfolding checking P spot-by spot-in seek past
-spot-P = refl
-
-spot-P-1 : spot-by (of-read (read P)) 0 1 .len ≡ 0
-unfolding checking P spot-by spot-in seek past
-spot-P-1 = refl
-
+-- P is accepted; its step 0 has the 8 commands of the list, and there is no step 1
 checked-P : checked (image P) ≡ of-read (read P)
 unfolding P
 checked-P = checked-image P (omega arith) (omega arith)
 
+accepted-P : (p : Program) × (checked (image P) ≡ accepted p)
+unfolding checking P
+accepted-P = (_, checked-P)
+
+spot-P : spot-by (of-read (read P)) 0 0 ≡ record { number = 0; start = 0; len = 8 }
+unfolding checking P spot-by search-in seek past
+spot-P = refl
+
+spot-P-1 : spot-by (of-read (read P)) 0 1 ≡ nowhere 0
+unfolding checking P spot-by search-in seek past
+spot-P-1 = refl
+
 pub step-of-P : (list : List ℕ) → max-commands ≤ length list
-    → step-part (image P) (check-list (image P) list) 0 0 ≡ 2 ∷ 3 ∷ 2 ∷ 4294967299 ∷ 3 ∷ 176093659144 ∷ 2 ∷ 4 ∷ []
+    → Handed (image P) (check-list (image P) list) 0 0 0 (2 ∷ 3 ∷ 2 ∷ 4294967299 ∷ 3 ∷ 176093659144 ∷ 2 ∷ 4 ∷ [])
 step-of-P list h =
     let after : List ℕ = 2 ∷ 3 ∷ 2 ∷ 4294967299 ∷ 3 ∷ 176093659144 ∷ 2 ∷ 4 ∷ drop 8 list in
     let room : max-commands ≤ length after = omega (arith, length-drop 8 list) in
-    ap (λ (s : List ℕ). step-part (image P) s 0 0) (listed-P list h)
-    ∙ part-marked (image P) after 0 0 room
-    ∙ ap (λ (z : Spot). marked z after) (ap (λ (c : Checked). spot-by c 0 0) checked-P ∙ spot-P)
+    let q = handed-room (image P) after 0 0 (accepted-P .0) (accepted-P .1) room in
+    rw (listed-P list h) (q .0, q .1 ∙ ap (λ (z : Spot). marked z after) (ap (λ (c : Checked). spot-by c 0 0) checked-P ∙ spot-P))
 
-pub no-step-of-P : (list : List ℕ) → step-part (image P) list 0 1 ≡ []
-no-step-of-P list = part-none (image P) list 0 1 (ap (λ (c : Checked). spot-by c 0 1 .len) checked-P ∙ spot-P-1)
+pub no-step-of-P : (list : List ℕ) → max-commands ≤ length list → Handed (image P) list 0 1 0 []
+no-step-of-P list h =
+    let q = handed-room (image P) list 0 1 (accepted-P .0) (accepted-P .1) h in
+    (q .0, q .1 ∙ ap (λ (z : Spot). marked z list) (ap (λ (c : Checked). spot-by c 0 1) checked-P ∙ spot-P-1))

@@ -120,7 +120,8 @@ fn lists(
     lists(s, counts, types, structs, n - 1, k + 1, m)
 }
 
-// The parameter lists of a program: of each struct how many, and 8 places with their types.
+// The parameter lists of a program: of each struct how many, and 8 places with their types. After a refusal the tables are free, of the
+// lengths that they had.
 pub fn params(s: &[u8], counts: &mut [u8], types: &mut [u8]) -> ParamsRead
     requires { ⌜ (length (now counts) ≡ 16) × (length (now types) ≡ 128) ⌝ }
     ensures { λ r. ⌜ r ≡ params-told (read-params (now (s .entry)) 0) ⌝ }

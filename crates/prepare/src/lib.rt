@@ -22,6 +22,7 @@ pub(crate) fn store(out: &mut [usize], k: usize, v: usize)
 }
 
 // A program whose parameter lists, of ar parameters each, end at a place: one walk over its steps, and one over its schedule behind them.
+// The span of a step that its struct has not is free, save that its end lies before its beginning.
 pub fn program(
     s: &[u8],
     ar: &[u8],

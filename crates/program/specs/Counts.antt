@@ -3,7 +3,7 @@ use Prim.Native.Nat.{ℕ, suc, max, _<_, _≤_}
 use mathlib.Core.Path.{_≡_}
 use mathlib.Core.List.{List, [], _∷_, map}
 use lib.ListN.{length, getD}
-use Rattle.types.specs.Limits.{max-structs, max-params, max-steps, step-names, max-statements, max-items, nat-end, first-local, variables, max-path, fix-levels, if-levels, expr-levels}
+use Rattle.types.specs.Limits.{max-structs, max-params, max-steps, step-names, max-statements, max-items, nat-end, first-local, max-locals, max-path, fix-levels, if-levels, expr-levels}
 use Rattle.types.specs.Types.{Ty, IsType}
 use Rattle.program.specs.Tree.{Var, Var.par, Var.loc, Expr, Expr.inv, Expr.make, Expr.path, Expr.int-lit, Expr.nat-lit, Expr.bool-lit, Expr.null, Expr.self, Expr.op, Exprs, Exprs.none, Exprs.more, Stmt, Stmt.when, Stmt.declare, Stmt.update, Stmt.create, Stmts, Stmts.end, Stmts.next, Item, Item.call, Item.call-in, Item.fix, Items, Items.stop, Items.item, Step, Program, args, size, items}
 
@@ -53,7 +53,7 @@ unfoldable mutual
 -- 0-7 a parameter by position, 8-15 a local
 unfoldable pub IsVar : Var → Type 0
 IsVar (par x) = x < first-local
-IsVar (loc x) = x < first-local
+IsVar (loc x) = x < max-locals
 
 -- 1 to 4 variables, of which only the first may be a local
 unfoldable pub IsPath : Var → List ℕ → Type 0
@@ -78,17 +78,6 @@ module _ (ar : List ℕ) where
     CountsExprs (more e es) = (CountsExpr e) × (CountsExprs es)
 
   unfoldable mutual
-    pub CountsStmt : Stmt → Type 0
-    CountsStmt (when e b) = (CountsExpr e) × (height e ≤ expr-levels) × (size b ≤ max-statements) × (CountsStmts b)
-    CountsStmt (declare t x e) = (IsType (length ar) t) × (x < first-local) × (CountsExpr e) × (height e ≤ expr-levels)
-    CountsStmt (update v vs e) = (IsPath v vs) × (CountsExpr e) × (height e ≤ expr-levels)
-    CountsStmt (create k es) = (k < length ar) × (args es ≡ getD ar k 0) × (CountsExprs es) × (heights es ≤ expr-levels)
-
-    pub CountsStmts : Stmts → Type 0
-    CountsStmts end = Unit {0}
-    CountsStmts (next t b) = (CountsStmt t) × (CountsStmts b)
-
-  unfoldable mutual
     pub CountsItem : Item → Type 0
     CountsItem (call n) = n < step-names
     CountsItem (call-in k n) = (k < length ar) × (n < step-names)
@@ -98,19 +87,53 @@ module _ (ar : List ℕ) where
     CountsItems stop = Unit {0}
     CountsItems (item i is) = (CountsItem i) × (CountsItems is)
 
-  unfoldable pub CountsStep : Step → Type 0
-  CountsStep t = (t .name < step-names) × (size (t .body) ≤ max-statements) × (CountsStmts (t .body)) × (nests (t .body) ≤ if-levels)
-
   unfoldable pub CountsSchedule : Items → Type 0
   CountsSchedule is = (1 ≤ items is) × (items is ≤ max-items) × (CountsItems is) × (fixes-in is ≤ fix-levels)
+
+-- the same of statements, whose expressions have at most the given levels
+module _ (levels : ℕ) (ar : List ℕ) where
+  unfoldable mutual
+    pub CountsStmtTo : Stmt → Type 0
+    CountsStmtTo (when e b) = (CountsExpr ar e) × (height e ≤ levels) × (size b ≤ max-statements) × (CountsStmtsTo b)
+    CountsStmtTo (declare t x e) = (IsType (length ar) t) × (x < max-locals) × (CountsExpr ar e) × (height e ≤ levels)
+    CountsStmtTo (update v vs e) = (IsPath v vs) × (CountsExpr ar e) × (height e ≤ levels)
+    CountsStmtTo (create k es) = (k < length ar) × (args es ≡ getD ar k 0) × (CountsExprs ar es) × (heights es ≤ levels)
+
+    pub CountsStmtsTo : Stmts → Type 0
+    CountsStmtsTo end = Unit {0}
+    CountsStmtsTo (next t b) = (CountsStmtTo t) × (CountsStmtsTo b)
+
+  unfoldable pub CountsStepTo : Step → Type 0
+  unfolding CountsStmtsTo
+  CountsStepTo t = (t .name < step-names) × (size (t .body) ≤ max-statements) × (CountsStmtsTo (t .body)) × (nests (t .body) ≤ if-levels)
+
+-- within 01's levels
+module _ (ar : List ℕ) where
+  unfoldable abbrev pub CountsStmt : Stmt → Type 0
+  unfolding CountsStmtTo
+  CountsStmt = CountsStmtTo expr-levels ar
+
+  unfoldable abbrev pub CountsStmts : Stmts → Type 0
+  unfolding CountsStmtsTo
+  CountsStmts = CountsStmtsTo expr-levels ar
+
+  unfoldable abbrev pub CountsStep : Step → Type 0
+  unfolding CountsStepTo
+  CountsStep = CountsStepTo expr-levels ar
 
 -- from lo to hi elements, of each of which C holds
 abbrev pub Few : {A : Type 0} → ℕ → ℕ → (A → Type 0) → List A → Type 0
 Few lo hi C l = (lo ≤ length l) × (length l ≤ hi) × (All C l)
 
-unfoldable pub Counts : Program → Type 0
-Counts p =
+-- a program whose expressions have at most the given levels, and one within 01's
+unfoldable pub CountsTo : ℕ → Program → Type 0
+unfolding CountsStepTo
+CountsTo levels p =
     (Few 1 max-structs (Few 0 max-params (IsType (length (p .params)))) (p .params))
     × (length (p .steps) ≡ length (p .params))
-    × (All (Few 0 max-steps (CountsStep (map length (p .params)))) (p .steps))
+    × (All (Few 0 max-steps (CountsStepTo levels (map length (p .params)))) (p .steps))
     × (CountsSchedule (map length (p .params)) (p .schedule))
+
+unfoldable abbrev pub Counts : Program → Type 0
+unfolding CountsTo
+Counts = CountsTo expr-levels

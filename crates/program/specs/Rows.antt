@@ -1,4 +1,4 @@
--- Streams and what reading them answers, by computation (01, 'Bench rows' on reading, and the bounds of 'Program stream').
+-- Rows that pin what no law does: streams and what reading them answers, by computation (the bounds of 01's 'Program stream').
 use Prim.Native.Nat.{ℕ, zero, suc}
 use mathlib.Core.Path.{_≡_, refl}
 use mathlib.Core.List.{List, [], _∷_, _++_}
@@ -77,13 +77,8 @@ load e = step (1 ∷ 3 ∷ 1 ∷ 0 ∷ e)
 
 unfoldable pub rows : List Row
 rows =
-    row stream-P accepted
-    ∷ row (program (2 ∷ 0 ∷ 16 ∷ []) (1 ∷ adding) (fixes 1)) accepted
-    ∷ row (step (8 ∷ addings 8)) accepted
     -- levels
-    ∷ row (step (nots 15 (21 ∷ 1 ∷ 0 ∷ []))) accepted
-    ∷ row (step (nots 16 (21 ∷ 1 ∷ 0 ∷ []))) (refused 24 5)
-    ∷ row (1 ∷ 0 ∷ 1 ∷ 0 ∷ nots 16 []) (refused 22 4)
+    row (1 ∷ 0 ∷ 1 ∷ 0 ∷ nots 16 []) (refused 22 4)
     ∷ row (step (ifs 8)) accepted
     ∷ row (step (ifs 9)) (refused 39 5)
     ∷ row (program (0 ∷ []) (0 ∷ []) (fixes 8)) accepted

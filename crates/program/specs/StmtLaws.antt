@@ -8,7 +8,7 @@ use Rattle.types.specs.Limits.{step-names, max-steps, max-statements, if-levels
 use Rattle.types.specs.Types.{code}
 use Rattle.program.specs.Tree.{Expr, Stmt, Stmt.when, Stmt.declare, Stmt.update, Stmt.create, Stmts, Stmts.end, Stmts.next, size}
 use Rattle.program.specs.Encoding.{enc-path, enc-expr, enc-exprs, enc-stmt, enc-stmts, enc-list, enc-step}
-use Rattle.program.specs.Counts.{nest, nests, CountsStmt, CountsStmts, CountsStep, Few}
+use Rattle.program.specs.Counts.{nest, nests, CountsStmtTo, CountsStmtsTo, CountsStmt, CountsStmts, CountsStep, Few}
 use Rattle.program.specs.Reader.{Result, lookup, Kind, Kind.kind-when, Kind.kind-declare, Kind.kind-update, Kind.kind-create, Kind.kind-none, kinds, kind, opened, read-make, read-expr, read-body, read-when, read-declare, read-update, rule-stmt, read-stmt, read-step, read-steps}
 use Rattle.program.specs.Exact.{Stands, Stands.letter, Exact, Behind, Formed, Rowed}
 use Rattle.program.specs.PartLaws.{made-ok}
@@ -37,6 +37,13 @@ module _ (ar : List ℕ) where
   abbrev pub InStmts : ℕ → ℕ → Stmts → Type 0
   InStmts d i b = (size b ≡ i) × (CountsStmts ar b) × (nests b ≤ d)
 
+  -- the same, where an expression may have the given levels
+  abbrev pub InStmtTo : ℕ → ℕ → Stmt → Type 0
+  InStmtTo levels d t = (CountsStmtTo levels ar t) × (nest t ≤ d)
+
+  abbrev pub InStmtsTo : ℕ → ℕ → ℕ → Stmts → Type 0
+  InStmtsTo levels d i b = (size b ≡ i) × (CountsStmtsTo levels ar b) × (nests b ≤ d)
+
   abbrev pub InWhen : ℕ → Expr × Stmts → Type 0
   InWhen d p = InStmt d (when (p .0) (p .1))
 
@@ -47,9 +54,9 @@ module _ (ar : List ℕ) where
   enc-when p = enc-expr (p .0) ++ enc-body (p .1)
 
   -- a body is a row of statements
-  pub stmts-row : (d : ℕ) → Rowed end next (InStmt d) enc-stmt (InStmts d) (λ i. enc-stmts)
-  unfolding size CountsStmts nests enc-stmts
-  stmts-row d = record {
+  pub stmts-row-to : (levels d : ℕ) → Rowed end next (InStmtTo levels d) enc-stmt (InStmtsTo levels d) (λ i. enc-stmts)
+  unfolding size CountsStmtsTo nests enc-stmts
+  stmts-row-to levels d = record {
     nil = (refl, tt, omega arith);
     cons = λ i t b p q. (ap suc (q .0), (p .0, q .1), omega arith);
     nil-only = nil-only;
@@ -58,13 +65,18 @@ module _ (ar : List ℕ) where
     cons-bytes = λ i t b p. refl;
   }
     where
-      nil-only : (b : Stmts) → InStmts d 0 b → end ≡ b
+      nil-only : (b : Stmts) → InStmtsTo levels d 0 b → end ≡ b
       nil-only end h = refl
       nil-only (next t b) h = absurd (omega arith)
 
-      cons-only : (i : ℕ) (b : Stmts) → InStmts d (suc i) b → (t : Stmt) × (l : Stmts) × (InStmt d t) × (InStmts d i l) × (next t l ≡ b)
+      cons-only : (i : ℕ) (b : Stmts) → InStmtsTo levels d (suc i) b
+          → (t : Stmt) × (l : Stmts) × (InStmtTo levels d t) × (InStmtsTo levels d i l) × (next t l ≡ b)
       cons-only i end h = absurd (omega arith)
       cons-only i (next t b) h = (t, b, (h .1 .0, omega arith), (omega arith, h .1 .1, omega arith), refl)
+
+  pub stmts-row : (d : ℕ) → Rowed end next (InStmt d) enc-stmt (InStmts d) (λ i. enc-stmts)
+  unfolding CountsStmts
+  stmts-row = stmts-row-to expr-levels
 
   -- a count and so many statements, where r reads each of them
   pub body-exact : (d : ℕ) {r : List ℕ → ℕ → Result Stmt} → Exact (InStmt d) enc-stmt r

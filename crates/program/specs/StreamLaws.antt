@@ -103,8 +103,21 @@ module _ {A : Type 0} {C : A → Type 0} {E : A → List ℕ} {r : List ℕ → 
       go q u h (stop {p = o} i l) e = let n : o ≡ p = cc in let v : wrong-byte ≡ k = cc in rw (← v) (not-allowed {p = p} (omega arith))
       go q u h (short b) e = let n : length s ≡ p = cc in let v : wrong-end ≡ k = cc in rw (← n, ← v) ends-early
 
+  -- a whole stream is refused at its end only where the reader asks for more
+  pub asks : (s : List ℕ) → whole r s ≡ bad (length s) wrong-end → r s 0 ≡ bad (length s) wrong-end
+  unfolding whole then
+  asks s e = go (r s 0) e
+    where
+      in-stream : (a : A) (m : ℕ) → ended s a m ≡ bad (length s) wrong-end → Dec (m < length s) → ⊥
+      in-stream a m e (yes l) = let z : m ≡ length s = cc (ended-out s a m l) in omega arith
+      in-stream a m e (no l) = let z : _≡_ {A = ℕ} 0 1 = cc (ended-in s a m (omega arith)) in omega arith
+
+      go : (q : Result A) → then q (ended s) ≡ bad (length s) wrong-end → q ≡ bad (length s) wrong-end
+      go (ok a m) e = absurd (in-stream a m e (decLt m (length s)))
+      go (bad n k) e = e
+
   -- a whole stream is refused with 5 only where the reader itself refuses
-  refuses : (s : List ℕ) (p : ℕ) → whole r s ≡ bad p wrong-byte → r s 0 ≡ bad p wrong-byte
+  pub refuses : (s : List ℕ) (p : ℕ) → whole r s ≡ bad p wrong-byte → r s 0 ≡ bad p wrong-byte
   unfolding whole then
   refuses s p e = go (r s 0) e
     where

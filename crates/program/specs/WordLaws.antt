@@ -5,7 +5,7 @@ use native.Mathlib.Nat.{pow-suc}
 use mathlib.Core.Path.{_≡_, refl}
 use mathlib.Core.List.{[], _∷_}
 use lib.ListN.{length}
-use Rattle.types.specs.Limits.{first-local, variables, max-path}
+use Rattle.types.specs.Limits.{first-local, max-locals, variables, max-path}
 use Rattle.types.specs.Types.{code, IsType, type-of}
 use Rattle.program.specs.Encoding.{enc-word, var-code, enc-path}
 use Rattle.program.specs.Counts.{IsVar, IsPath}
@@ -19,7 +19,7 @@ pub below-exact : (hi : ℕ) → Exact (λ b. b < hi) (λ b. b ∷ []) (λ s. ra
 below-exact hi = exact-iff (ranged-exact 0 hi) λ b. (λ h. h .1, λ h. (omega arith, h))
 
 -- a number of i bytes is a row of bytes
-word-row : Rowed 0 (λ b v. b + byte-end * v) (λ b. b < byte-end) (λ b. b ∷ []) (λ i v. v < 256 ^ i) enc-word
+pub word-row : Rowed 0 (λ b v. b + byte-end * v) (λ b. b < byte-end) (λ b. b ∷ []) (λ i v. v < 256 ^ i) enc-word
 unfolding enc-word
 word-row = record {
   nil = omega arith;
@@ -58,7 +58,7 @@ var-exact =
     (λ v h. var-code-of v h)
 
 -- a declared local
-pub local-exact : Exact (λ x. x < first-local) (λ x. (first-local + x) ∷ []) read-local
+pub local-exact : Exact (λ x. x < max-locals) (λ x. (first-local + x) ∷ []) read-local
 unfolding read-local
 local-exact =
     made-exact (ranged-exact first-local variables) (λ b. b - first-local) (λ x. first-local + x)

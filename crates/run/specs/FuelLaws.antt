@@ -12,8 +12,9 @@ use Rattle.machine.specs.Published.{Sched, Sched.done, Sched.start, Sched.start
 use Rattle.machine.specs.Machine.{Machine, Out, Out.next, Out.refused, Out.stuck, command, move-by, move}
 use Rattle.machine.specs.Measure.{bound, passages, measure, Moved, Moved.unmoved, Moved.moved as moved-on}
 use Rattle.machine.specs.MeasureLaws.{move-falls}
-use Rattle.run.specs.Turns.{holders, chosen}
-use Rattle.run.specs.Runs.{ended}
+use Rattle.run.specs.Turns.{chosen}
+use Rattle.run.specs.Holders.{holders}
+use Rattle.machine.specs.Stops.{ended}
 use Rattle.run.specs.Run.{Outcome, Outcome.stopped, Outcome.jammed, later, Settled, Settled.hold, Settled.stop, is-done, moved, settle-by, settle, fuel, taken, turn, at-last, run}
 use Rattle.run.specs.Settles.{Settles, Settles.holds, Settles.ends, Settles.refuses, Settles.sticks, Settles.moves, Ran, Ran.ends, Ran.refuses, Ran.sticks, Ran.moves, Ran.lasts, Ran.fails, Ran.jams, Ran.takes}
 

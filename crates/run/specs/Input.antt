@@ -1,6 +1,5 @@
--- The conditions of the numbers from the input (01, 'Numbers from the input'), and their order. Those of 4, 5, 11 and 12 are
--- equations with the readers of the streams, which tell the first offending place; the laws `program-exact` and
--- `table-answer-exact` say that the readers accept exactly the encodings. The others are in 01's words.
+-- The conditions of the numbers from the input, and their order (01, 'Numbers from the input'). Those of 4 and 5 speak of the fronts of
+-- programs' encodings, those of 11 and 12 of the fields of a table's stream: nothing here speaks of reading.
 use Prim.Native.Nat.{ℕ, _*_, _<_, _≤_}
 use mathlib.Core.Path.{_≡_}
 use mathlib.Core.List.{List, [], _∷_, _++_}
@@ -14,12 +13,13 @@ use Rattle.blocks.specs.declared.Fault.the-variants.{Sum, Layout}
 use Rattle.program.specs.Tree.{Program}
 use Rattle.program.specs.Encoding.{enc-program}
 use Rattle.program.specs.Counts.{Counts}
-use Rattle.program.specs.Reader.{Result.bad, read, wrong-end, wrong-byte}
+use Rattle.program.specs.Fronts.{EndsAt, OffendsAt}
 use Rattle.commands.specs.Bounds.{Within}
 use Rattle.commands.specs.Names.{NamesRight}
 use Rattle.commands.specs.Typing.{TypesRight}
+use Rattle.commands.specs.Numbers.{Order}
 use Rattle.table.specs.Table.{Record, TableRight, enc-table}
-use Rattle.table.specs.TableReader.{TableAnswer.no-table, table-of-stream, table-end, table-value}
+use Rattle.table.specs.TableFaults.{TableEnds, TableOffends}
 use Rattle.run.specs.Entry.{Verdict, approval, Begun, Begun.begun}
 
 -- an image of at most max blocks, its length and every block right
@@ -34,42 +34,88 @@ pub record Reads (x : List ℕ) (p : Program) : Type 0 where
 
 -- The conditions ---------------------------------------------------------------------
 
--- on a program image: 1 to 8
-pub data ProgramRefuses (x : List ℕ) : ℕ → Type 0 where
-  program-length : (LengthRight program-blocks (length x) → ⊥) → ProgramRefuses x 1
-  program-sums : FirstFault (count x) x (count x) Sum → ProgramRefuses x 2
-  program-layout : FirstFault (count x) x (count x) Layout → ProgramRefuses x 3
-  program-end : {at : ℕ} → read (stream x) ≡ bad at wrong-end → ProgramRefuses x 4
-  program-byte : {at : ℕ} → read (stream x) ≡ bad at wrong-byte → ProgramRefuses x 5
-  program-limits : {p : Program} → Reads x p → (Within p → ⊥) → ProgramRefuses x 6
-  program-names : {p : Program} → Reads x p → (NamesRight p → ⊥) → ProgramRefuses x 7
-  program-types : {p : Program} → Reads x p → (TypesRight p → ⊥) → ProgramRefuses x 8
+-- an image's length is not a multiple of 512 from 512 to that of max blocks
+abbrev pub WrongLength : ℕ → List ℕ → Type 0
+WrongLength max x = LengthRight max (length x) → ⊥
 
--- on what checking is given: a program image and a list
-pub data CheckRefuses (x list : List ℕ) : ℕ → Type 0 where
-  of-program : {n : ℕ} → ProgramRefuses x n → CheckRefuses x list n
-  list-short : length list < max-commands → CheckRefuses x list 13
+-- the first faulty block of an image has wrong sums; wrong index, used count or unused bytes; is faulty
+abbrev pub WrongSums : List ℕ → Type 0
+WrongSums x = FirstFault (count x) x (count x) Sum
 
--- on what a run is given: program image, table image, turn bytes, output, list
-pub data Refuses (x y es out list : List ℕ) : ℕ → Type 0 where
-  of-program : {n : ℕ} → ProgramRefuses x n → Refuses x y es out list n
-  table-length : (LengthRight table-blocks (length y) → ⊥) → Refuses x y es out list 9
-  table-block : {f : Fault} → FirstFault (count y) y (count y) f → Refuses x y es out list 10
-  table-ends : {p : Program} → Reads x p → table-of-stream (p .params) (stream y) ≡ no-table table-end → Refuses x y es out list 11
-  table-values : {p : Program} → Reads x p → table-of-stream (p .params) (stream y) ≡ no-table table-value → Refuses x y es out list 12
-  output-short : length out < block-size * table-blocks → Refuses x y es out list 13
-  list-short : length list < max-commands → Refuses x y es out list 13
-  turns-many : max-turns < length es → Refuses x y es out list 14
+abbrev pub WrongLayout : List ℕ → Type 0
+WrongLayout x = FirstFault (count x) x (count x) Layout
 
--- lowest number first: of a program image, of checking, of a run
-abbrev pub program-order : List ℕ
-program-order = 1 ∷ 2 ∷ 3 ∷ 4 ∷ 5 ∷ 6 ∷ 7 ∷ 8 ∷ []
+abbrev pub WrongBlock : List ℕ → Type 0
+WrongBlock x = (f : Fault) × FirstFault (count x) x (count x) f
 
-unfoldable pub check-order : List ℕ
-check-order = program-order ++ 13 ∷ []
+-- the stream of a program ends early or goes on after its end; has a byte that is not allowed at its place
+abbrev pub WrongEnd : List ℕ → Type 0
+WrongEnd x = (at : ℕ) × EndsAt (stream x) at
 
-unfoldable pub order : List ℕ
-order = program-order ++ 9 ∷ 10 ∷ 11 ∷ 12 ∷ 13 ∷ 14 ∷ []
+abbrev pub WrongByte : List ℕ → Type 0
+WrongByte x = (at : ℕ) × OffendsAt (stream x) at
+
+-- the program that is read is over a limit; breaks a rule of names; of types
+abbrev pub OverLimits : List ℕ → Type 0
+OverLimits x = (p : Program) × (Reads x p) × (Within p → ⊥)
+
+abbrev pub WrongNames : List ℕ → Type 0
+WrongNames x = (p : Program) × (Reads x p) × (NamesRight p → ⊥)
+
+abbrev pub WrongTypes : List ℕ → Type 0
+WrongTypes x = (p : Program) × (Reads x p) × (TypesRight p → ⊥)
+
+-- the stream of a table, under that program, ends early or goes on after its end; has an N, a struct byte or a value not allowed
+abbrev pub TableWrongEnd : List ℕ → List ℕ → Type 0
+TableWrongEnd x y = (p : Program) × (Reads x p) × (TableEnds (p .params) (stream y))
+
+abbrev pub TableWrongValue : List ℕ → List ℕ → Type 0
+TableWrongValue x y = (p : Program) × (Reads x p) × (TableOffends (p .params) (stream y))
+
+-- the output is under 8,704 bytes; the list has places for fewer than 1,024 commands; over 65,536 turns are given
+abbrev pub ShortOutput : List ℕ → Type 0
+ShortOutput out = length out < block-size * table-blocks
+
+abbrev pub ShortList : List ℕ → Type 0
+ShortList list = length list < max-commands
+
+abbrev pub ManyTurns : List ℕ → Type 0
+ManyTurns es = max-turns < length es
+
+-- Their order ------------------------------------------------------------------------
+
+-- Lowest number first. Within 2 and 3, 4 and 5, 11 and 12 the first place decides: there at most one of the two holds, so that which
+-- of them stands before the other says nothing.
+
+-- of a program image
+abbrev pub program-order : List ℕ → Order
+program-order x =
+    (1, WrongLength program-blocks x)
+    ∷ (2, WrongSums x)
+    ∷ (3, WrongLayout x)
+    ∷ (4, WrongEnd x)
+    ∷ (5, WrongByte x)
+    ∷ (6, OverLimits x)
+    ∷ (7, WrongNames x)
+    ∷ (8, WrongTypes x)
+    ∷ []
+
+-- of what checking is given: program image and list
+abbrev pub check-order : List ℕ → List ℕ → Order
+check-order x list = program-order x ++ (13, ShortList list) ∷ []
+
+-- of what a run is given: program image, table image, turn bytes, output and list
+abbrev pub order : List ℕ → List ℕ → List ℕ → List ℕ → List ℕ → Order
+order x y es out list =
+    program-order x
+    ++ (9, WrongLength table-blocks y)
+    ∷ (10, WrongBlock y)
+    ∷ (11, TableWrongEnd x y)
+    ∷ (12, TableWrongValue x y)
+    ∷ (13, ShortOutput out)
+    ∷ (13, ShortList list)
+    ∷ (14, ManyTurns es)
+    ∷ []
 
 -- What is accepted -----------------------------------------------------------------------
 

@@ -1,13 +1,11 @@
 -- The published states of a run (01, 'The words of demand 3'): its beginning, and after each command and each schedule move, by
--- the published rules alone. And how many commands are taken on the way to a machine that the executable run visits.
+-- the published rules alone.
 use Prim.Native.Nat.{ℕ, suc}
 use mathlib.Core.List.{List, _∷_}
 use Rattle.program.specs.Tree.{Program}
 use Rattle.machine.specs.Published.{State}
 use Rattle.machine.specs.Rules.{Actor.instance, Actor.schedule, Rule}
-use Rattle.machine.specs.Machine.{Machine}
 use Rattle.run.specs.Runs.{Picks, AllDone}
-use Rattle.run.specs.Visits.{Visits, Visits.here as stays, Visits.moves as visits-moves, Visits.takes as visits-takes}
 
 -- from a state, with these bytes, a run passes through another, with so many commands taken by then
 pub data Passes (p : Program) : State → List ℕ → ℕ → State → Type 0 where
@@ -15,9 +13,3 @@ pub data Passes (p : Program) : State → List ℕ → ℕ → State → Type 0 
   moves : {st st′ z : State} {es : List ℕ} {t : ℕ} → AllDone st → Rule p schedule st st′ → Passes p st′ es t z → Passes p st es t z
   takes : {st st′ z : State} {e l : ℕ} {es : List ℕ} {t : ℕ} → Picks e l st → Rule p (instance l) st st′ → Passes p st′ es t z
       → Passes p st (e ∷ es) (suc t) z
-
--- the commands taken on the way to a visited machine
-unfoldable pub turns-of : (p : Program) {m z : Machine} {es fs : List ℕ} → Visits p m es z fs → ℕ
-turns-of p stays = 0
-turns-of p (visits-moves g e v) = turns-of p v
-turns-of p (visits-takes g c v) = suc (turns-of p v)

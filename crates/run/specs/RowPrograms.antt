@@ -1,5 +1,5 @@
 -- The programs and tables of the rows, as streams (01, 'Bench rows' and 'Slips seen before').
-use Prim.Native.Nat.{ℕ, zero, suc}
+use Prim.Native.Nat.{ℕ}
 use mathlib.Core.List.{List, [], _∷_, _++_}
 use lib.ListN.{replicate}
 use Rattle.program.specs.Encoding.{enc-word}
@@ -31,20 +31,6 @@ P-65 = 2 ∷ 2 ∷ 0 ∷ 16 ∷ 0 ∷ 1 ∷ 0 ∷ 9 ∷ addings 8 ++ 4 ∷ 1 ∷
 -- one struct with a Bool: n nots over true are written to it
 unfoldable pub nots : ℕ → List ℕ
 nots n = program (1 ∷ 2 ∷ []) (1 ∷ 3 ∷ 1 ∷ 0 ∷ replicate n 16 ++ 21 ∷ 1 ∷ []) once
-
--- n construct statements of the parameterless struct 1 before a literal update: as they are, and inside an if
-unfoldable pub constructs : ℕ → List ℕ
-constructs zero = []
-constructs (suc n) = 4 ∷ 1 ∷ constructs n
-
-abbrev pub seven : List ℕ
-seven = 3 ∷ 1 ∷ 0 ∷ 19 ∷ 7 ∷ 0 ∷ 0 ∷ 0 ∷ []
-
-unfoldable pub labels : ℕ → List ℕ → List ℕ
-labels n schedule = 2 ∷ 1 ∷ 0 ∷ 0 ∷ 1 ∷ 0 ∷ suc n ∷ constructs n ++ seven ++ 0 ∷ schedule
-
-unfoldable pub labels-in-if : ℕ → List ℕ
-labels-in-if n = 2 ∷ 1 ∷ 0 ∷ 0 ∷ 1 ∷ 0 ∷ 2 ∷ 1 ∷ 21 ∷ 1 ∷ n ∷ constructs n ++ seven ++ 0 ∷ once
 
 -- Other programs -----------------------------------------------------------------------
 
@@ -88,13 +74,6 @@ chosen-by schedule = 3 ∷ 0 ∷ 0 ∷ 0 ∷ 1 ∷ 0 ∷ 1 ∷ 4 ∷ 2 ∷ 1 ∷
 -- P's struct: prev.prev.load := load
 unfoldable pub along-path : List ℕ
 along-path = program (2 ∷ 0 ∷ 16 ∷ []) (1 ∷ 3 ∷ 3 ∷ 1 ∷ 1 ∷ 0 ∷ 18 ∷ 1 ∷ 0 ∷ []) once
-
--- a scheduled step that no struct has; an Int that becomes a truth
-unfoldable pub no-such-step : List ℕ
-no-such-step = P-with 1 (1 ∷ 1 ∷ 1 ∷ [])
-
-unfoldable pub truth-as-int : List ℕ
-truth-as-int = program (1 ∷ 0 ∷ []) (1 ∷ 3 ∷ 1 ∷ 0 ∷ 21 ∷ 1 ∷ []) once
 
 -- struct 0: step 0 declares a local as 7 and constructs a struct 1, and has nothing in step 2; struct 1 has nothing in step 1
 unfoldable pub leaving : List ℕ → List ℕ

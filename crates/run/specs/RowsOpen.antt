@@ -18,7 +18,7 @@ use Rattle.commands.specs.Decide.{every, member, distinct}
 use Rattle.commands.specs.NamesDecide.{start-named, expr-named, args-named, stmt-named, body-named, steps-named, stepped, item-stepped, items-stepped, names-right}
 use Rattle.commands.specs.TypingDecide.{is-of, agree, given as given-type, result, operate as operate-types, lead, path-type, expr-type, args-typed, stmt-typed, body-typed, steps-typed, types-right}
 use Rattle.commands.specs.BoundsDecide.{within}
-use Rattle.commands.specs.Numbers.{breach, first, order, program-number}
+use Rattle.commands.specs.Numbers.{first, breach-tests, program-number}
 use Rattle.commands.specs.Noted.{struct-of, walk, store, read-path, write-path, note-expr, note-exprs, note-stmt, note-body, noted, now-written}
 use Rattle.words.specs.Operators.{quotient, remainder}
 use Rattle.words.specs.Apply.{same-int, same-bool, same-val, int-answer, nat-answer, by-nonzero, compute, answer, on-truths, on-labels, apply}
@@ -28,7 +28,8 @@ use Rattle.machine.specs.Published.{before, of-item, of-items, lookup, assign}
 use Rattle.machine.specs.Rules.{meet}
 use Rattle.machine.specs.Measure.{weight, bound}
 use Rattle.machine.specs.Machine.{update-env, settled, read-from, read-at, read as read-variable, write-to, write-parameter, write-at, write, negate, branch, operated, operate, construct, perform, command-of, command-at, command, given, started, started-in, repeat, move-by}
-use Rattle.run.specs.Turns.{labels-from, chosen, holds-code, holders}
+use Rattle.run.specs.Turns.{labels-from, chosen}
+use Rattle.run.specs.Holders.{holds-code, holders}
 use Rattle.run.specs.Run.{later, is-done, moved, settle-by, settle, fuel, taken, turn, at-last, run}
 use Rattle.run.specs.Begin.{nulls, first-instances, begin, record-of, table-of}
 use Rattle.run.specs.Entry.{Checked, judge, of-read, of-steps, of-structs, program-words, of-table, with-room}
@@ -36,7 +37,7 @@ use Rattle.run.specs.EntryStreams.{Summary, of-outcome, summed, table-re
 
 -- what a program stream comes to
 unfoldable pub checking : List ℕ → Checked
-unfolding reading same-type then reads front last expr-coms args-coms update-coms stmt-coms body-coms flatten commands stmt-local body-local declares declared step-names depth item-count items-count total greatest program-size program-depth every member distinct start-named expr-named args-named stmt-named body-named steps-named stepped item-stepped items-stepped names-right is-of agree given-type result operate-types lead path-type expr-type args-typed stmt-typed body-typed steps-typed types-right within breach first order program-number judge of-read
+unfolding reading same-type then reads front last expr-coms args-coms update-coms stmt-coms body-coms flatten commands stmt-local body-local declares declared step-names depth item-count items-count total greatest program-size program-depth every member distinct start-named expr-named args-named stmt-named body-named steps-named stepped item-stepped items-stepped names-right is-of agree given-type result operate-types lead path-type expr-type args-typed stmt-typed body-typed steps-typed types-right within first breach-tests program-number judge of-read
 checking s = of-read (read s)
 
 -- what a run of program stream, table stream and turn bytes comes to, where output and list have room

@@ -8,8 +8,9 @@ use Rattle.program.specs.Tree.{Program}
 use Rattle.machine.specs.Published.{Sched, Sched.done, Sched.start, Sched.start-in, Sched.fixpoint, Sched.active}
 use Rattle.machine.specs.Machine.{Machine, Out, Out.next, Out.refused, Out.stuck, command, move}
 use Rattle.machine.specs.Measure.{weight, bound}
-use Rattle.run.specs.Turns.{holders, chosen}
-use Rattle.run.specs.Runs.{ended, out-of-turns}
+use Rattle.run.specs.Turns.{chosen}
+use Rattle.run.specs.Holders.{holders}
+use Rattle.machine.specs.Stops.{ended, out-of-turns}
 
 pub data Outcome : Type 0 where
   stopped : ℕ → ℕ → Machine → Outcome

@@ -7,12 +7,14 @@ use native.Mathlib.Omega.{arith}
 use Rattle.program.specs.Tree.{Program}
 use Rattle.machine.specs.Published.{Sched.done, State, State.state}
 use Rattle.machine.specs.Rules.{Actor.instance, Actor.schedule, Rule}
-use Rattle.machine.specs.Machine.{Machine, Out.refused, command, full, exceeded}
+use Rattle.machine.specs.Machine.{Machine, Out.refused, command}
+use Rattle.machine.specs.Stops.{full, exceeded, ended, out-of-turns}
 use Rattle.machine.specs.Represents.{Represents}
 use Rattle.machine.specs.CommandAgrees.{command-follows, command-complete, command-full, command-exceeded, command-numbers}
 use Rattle.machine.specs.MoveAgrees.{move-follows, move-complete, move-nested, move-numbers}
-use Rattle.run.specs.Turns.{holders, chosen}
-use Rattle.run.specs.Runs.{ended, out-of-turns, Picks, Picks.picks, AllDone, Runs, Runs.at-end, Runs.at-36, Runs.moves, Runs.at-33, Runs.at-34, Runs.at-35, Runs.takes}
+use Rattle.run.specs.Turns.{chosen}
+use Rattle.run.specs.Holders.{holders}
+use Rattle.run.specs.Runs.{Picks, Picks.picks, AllDone, Halts, Halts.at-end, Halts.at-33, Halts.at-34, Halts.at-35, Halts.at-36, Runs, Runs.halts, Runs.moves, Runs.takes}
 use Rattle.run.specs.Run.{Outcome, Outcome.stopped, Outcome.jammed, later, run}
 use Rattle.run.specs.Settles.{Ran, Ran.ends, Ran.refuses, Ran.sticks, Ran.moves as moved, Ran.lasts, Ran.fails, Ran.jams, Ran.takes as took}
 use Rattle.run.specs.TurnLaws.{holders-still, holders-done, holders-represent}
@@ -56,26 +58,26 @@ module _ (p : Program) where
   refused-answers m st {e} {l} es {n} R k c = go (command-numbers p l m st R c)
     where
       go : (n ≡ full) ⊎ (n ≡ exceeded) → Answers st (e ∷ es) (stopped n 0 m)
-      go (inl q) = (st, rw q (at-34 k (command-full p l m st R .0 (c ∙ ap refused q))), R)
-      go (inr q) = (st, rw q (at-35 k (command-exceeded p l m st R .0 (c ∙ ap refused q))), R)
+      go (inl q) = (st, rw q (halts (at-34 k (command-full p l m st R .0 (c ∙ ap refused q)))), R)
+      go (inr q) = (st, rw q (halts (at-35 k (command-exceeded p l m st R .0 (c ∙ ap refused q)))), R)
 
   ends-answers : (m : Machine) (st : State) (es : List ℕ) → Represents m st → AllDone st → m .sched ≡ done → Answers st es (stopped ended 0 m)
   ends-answers m (state s σ b) es R d e =
       let q : s ≡ done = sym (R .0) ∙ e in
-      (state s σ b, subst (λ x. Runs p (state x σ b) es ended 0 (state x σ b)) (sym q) (at-end d), R)
+      (state s σ b, subst (λ x. Runs p (state x σ b) es ended 0 (state x σ b)) (sym q) (halts (at-end d)), R)
 
   -- what a run does without fuel has a derivation
   ran-answers : {m : Machine} {es : List ℕ} {o : Outcome} (st : State) → Represents m st → Ran p m es o → Answers st es o
   ran-answers {m} {es} st R (ends g e) = ends-answers m st es R (none-hold m st R .0 g) e
   ran-answers {m} {es} st R (refuses {n = n} g e) =
       let q = move-numbers p m st R e in
-      (st, rw q (at-36 (none-hold m st R .0 g) (move-nested p m st R .0 (e ∙ ap refused q))), R)
+      (st, rw q (halts (at-36 (none-hold m st R .0 g) (move-nested p m st R .0 (e ∙ ap refused q)))), R)
   ran-answers st R (sticks g n e) = tt
   ran-answers {m} {es} {o} st R (moved g e r) =
       let (st′, q, Q) = move-follows p m st R (holders-still m .0 g) e in
       moves-answers es o (none-hold m st R .0 g) q (ran-answers st′ Q r)
   ran-answers {m} st R (lasts g) =
-      (st, at-33 (λ d. held-not-done g (none-hold m st R .1 d)), R)
+      (st, halts (at-33 (λ d. held-not-done g (none-hold m st R .1 d))), R)
   ran-answers {m} st R (fails {e = e} {es = es} g c) = refused-answers m st es R (machine-picks m st e R g) c
   ran-answers st R (jams g c) = tt
   ran-answers {m} st R (took {e = e} {h = h} {hs = hs} {es = es} {o = o} g c r q) =
@@ -91,21 +93,25 @@ module _ (p : Program) where
   lasts-by m st R n [] g = absurd (n (none-hold m st R .0 g))
   lasts-by m st R n (h ∷ hs) g = lasts g
 
+  -- a machine stops where the state that it stands for does
+  halts-ran : (m : Machine) {st : State} {es : List ℕ} {n : ℕ} → Represents m st → Halts st es n → Ran p m es (stopped n 0 m)
+  halts-ran m {st} R (at-end d) = ends (none-hold m st R .1 d) (R .0)
+  halts-ran m {st} R (at-33 n) = lasts-by m st R n (holders m) refl
+  halts-ran m {st} R (at-34 {l = l} k f) =
+      let (h, hs, g, q) = state-picks m R k in fails {n = full} g (ap (λ x. command p x m) (sym q) ∙ command-full p l m st R .1 f)
+  halts-ran m {st} R (at-35 {l = l} k f) =
+      let (h, hs, g, q) = state-picks m R k in fails {n = exceeded} g (ap (λ x. command p x m) (sym q) ∙ command-exceeded p l m st R .1 f)
+  halts-ran m {st} R (at-36 d h) = refuses (none-hold m st R .1 d) (move-nested p m st R .1 h)
+
   -- what has a derivation, a run does without fuel
   pub runs-ran : (m : Machine) {st st′ : State} {es : List ℕ} {n t : ℕ} → Represents m st → Runs p st es n t st′
       → (z : Machine) × (Ran p m es (stopped n t z)) × (Represents z st′)
   unfolding later
-  runs-ran m {st} R (at-end d) = (m, ends (none-hold m st R .1 d) (R .0), R)
-  runs-ran m {st} R (at-36 d h) = (m, refuses (none-hold m st R .1 d) (move-nested p m st R .1 h), R)
+  runs-ran m R (halts h) = (m, halts-ran m R h, R)
   runs-ran m {st} R (moves d k r) =
       let (m′, e, Q) = move-complete p m R k in
       let (z, a, S) = runs-ran m′ Q r in
       (z, moved (none-hold m st R .1 d) e a, S)
-  runs-ran m {st} R (at-33 n) = (m, lasts-by m st R n (holders m) refl, R)
-  runs-ran m {st} R (at-34 {l = l} k f) =
-      let (h, hs, g, q) = state-picks m R k in (m, fails {n = full} g (ap (λ x. command p x m) (sym q) ∙ command-full p l m st R .1 f), R)
-  runs-ran m {st} R (at-35 {l = l} k f) =
-      let (h, hs, g, q) = state-picks m R k in (m, fails {n = exceeded} g (ap (λ x. command p x m) (sym q) ∙ command-exceeded p l m st R .1 f), R)
   runs-ran m {st} R (takes {l = l} k c r) =
       let (h, hs, g, q) = state-picks m R k in
       let (m′, e, Q) = command-complete p l m R c in

@@ -2,24 +2,23 @@
 -- last one is among them; the turns counted are the commands taken (01, 'Table and turns', 'The words of demand 3').
 use Prim.Native.Nat.{ℕ, suc, _≤_}
 use mathlib.Core.Path.{_≡_, refl, ap, sym, _∙_}
-use mathlib.Core.Bool.{Bool}
 use mathlib.Core.List.{List, [], _∷_}
 use native.Mathlib.Omega.{arith}
 use lib.ListN.{length, drop}
 use Rattle.program.specs.Tree.{Program}
-use Rattle.machine.specs.Published.{Sched, Sched.start, Sched.start-in, State}
-use Rattle.machine.specs.Machine.{Instance, Machine, machine, Out.next, command, move}
-use Rattle.machine.specs.Measure.{total, share, share-in, Took, Took.untaken, Took.took}
-use Rattle.machine.specs.MeasureLaws.{started-turns, started-in-turns}
+use Rattle.machine.specs.Published.{State}
+use Rattle.machine.specs.Machine.{Machine, Out.next, command, move}
 use Rattle.machine.specs.Represents.{Represents}
 use Rattle.machine.specs.CommandAgrees.{command-follows, command-complete}
 use Rattle.machine.specs.MoveAgrees.{move-follows, move-complete}
-use Rattle.run.specs.Turns.{holders, chosen}
-use Rattle.run.specs.Runs.{out-of-turns, Runs, Runs.at-end, Runs.at-36, Runs.moves as runs-moves, Runs.at-33, Runs.at-34, Runs.at-35, Runs.takes as runs-takes}
+use Rattle.run.specs.Turns.{chosen}
+use Rattle.run.specs.Holders.{holders}
+use Rattle.run.specs.Runs.{Halts, Halts.at-end, Halts.at-33, Halts.at-34, Halts.at-35, Halts.at-36, Runs, Runs.halts, Runs.moves as runs-moves, Runs.takes as runs-takes}
+use Rattle.machine.specs.Stops.{out-of-turns}
 use Rattle.run.specs.Run.{Outcome, Outcome.stopped, Outcome.jammed, later, run}
-use Rattle.run.specs.Settles.{Ran, Ran.ends, Ran.refuses, Ran.sticks, Ran.moves as ran-moves, Ran.lasts, Ran.fails, Ran.jams, Ran.takes as ran-takes, Turned, Turned.no-turn, Turned.a-turn}
-use Rattle.run.specs.Visits.{Visits, Visits.here as stays, Visits.moves as visits-moves, Visits.takes as visits-takes}
-use Rattle.run.specs.PublishedVisits.{turns-of, Passes, Passes.here, Passes.moves, Passes.takes}
+use Rattle.run.specs.Settles.{Ran, Ran.ends, Ran.refuses, Ran.sticks, Ran.moves as ran-moves, Ran.lasts, Ran.fails, Ran.jams, Ran.takes as ran-takes}
+use Rattle.run.specs.Visits.{Visits, Visits.here as stays, Visits.moves as visits-moves, Visits.takes as visits-takes, turns-of}
+use Rattle.run.specs.PublishedVisits.{Passes, Passes.here, Passes.moves, Passes.takes}
 use Rattle.run.specs.TurnLaws.{holders-still}
 use Rattle.run.specs.FuelLaws.{run-ran}
 use Rattle.run.specs.RunAgrees.{none-hold, machine-picks, state-picks}
@@ -56,12 +55,8 @@ module _ (p : Program) where
 
   -- a derivation passes through its last state, after the turns that it counts
   pub runs-passes : {st st′ : State} {es : List ℕ} {n t : ℕ} → Runs p st es n t st′ → Passes p st es t st′
-  runs-passes (at-end d) = here
-  runs-passes (at-36 d h) = here
+  runs-passes (halts h) = here
   runs-passes (runs-moves d k r) = moves d k (runs-passes r)
-  runs-passes (at-33 n) = here
-  runs-passes (at-34 k f) = here
-  runs-passes (at-35 k f) = here
   runs-passes (runs-takes k c r) = takes k c (runs-passes r)
 
   -- a command is taken for each byte at most
@@ -70,14 +65,17 @@ module _ (p : Program) where
   passes-bounded (moves d k w) = passes-bounded w
   passes-bounded (takes k c w) = omega (arith, passes-bounded w)
 
+  none-left : {st : State} {es : List ℕ} {n : ℕ} → Halts st es n → n ≡ out-of-turns → 0 ≡ length es
+  none-left (at-end d) e = absurd (omega arith)
+  none-left (at-33 n) e = refl
+  none-left (at-34 k f) e = absurd (omega arith)
+  none-left (at-35 k f) e = absurd (omega arith)
+  none-left (at-36 d h) e = absurd (omega arith)
+
   -- 33 is the answer only once every byte has taken a command
   pub all-taken : {st st′ : State} {es : List ℕ} {n t : ℕ} → Runs p st es n t st′ → n ≡ out-of-turns → t ≡ length es
-  all-taken (at-end d) e = absurd (omega arith)
-  all-taken (at-36 d h) e = absurd (omega arith)
+  all-taken (halts h) e = none-left h e
   all-taken (runs-moves d k r) e = all-taken r e
-  all-taken (at-33 n) e = refl
-  all-taken (at-34 k f) e = absurd (omega arith)
-  all-taken (at-35 k f) e = absurd (omega arith)
   all-taken (runs-takes k c r) e = ap suc (all-taken r e)
 
   -- the last machine is visited, after the turns counted, with the bytes behind them left
@@ -122,17 +120,3 @@ module _ (p : Program) where
   -- a run counts no more turns than there are bytes
   pub run-turns : (m : Machine) (es : List ℕ) {n t : ℕ} {z : Machine} → run p m es ≡ stopped n t z → t ≤ length es
   run-turns m es e = let (v, a) = run-visits m es e in omega (arith, turns-bounded v)
-
-  turned-took : {m z : Machine} {es : List ℕ} → Turned p m es z → Took p (length es) m z
-  turned-took no-turn = untaken
-  turned-took (a-turn {e = e} {h = h} {hs = hs} g c r) = took (chosen (h ∷ hs) e) c (turned-took r)
-
-  -- a step started where nobody holds commands takes at most the sum of its command counts, each over its instances, in turns
-  pub step-turns : (n : ℕ) (s : Sched) (is : List Instance) (b : List Bool) {m z : Machine} {es : List ℕ}
-      → holders (machine (start n s) is b) ≡ [] → move p (machine (start n s) is b) ≡ next m → Turned p m es z → length es ≤ total (share p n) is
-  step-turns n s is b g e r = started-turns p n s is b (holders-still (machine (start n s) is b) .0 g) e (turned-took r)
-
-  -- and so for a step of one struct
-  pub step-in-turns : (k n : ℕ) (s : Sched) (is : List Instance) (b : List Bool) {m z : Machine} {es : List ℕ}
-      → holders (machine (start-in k n s) is b) ≡ [] → move p (machine (start-in k n s) is b) ≡ next m → Turned p m es z → length es ≤ total (share-in p k n) is
-  step-in-turns k n s is b g e r = started-in-turns p k n s is b (holders-still (machine (start-in k n s) is b) .0 g) e (turned-took r)

@@ -7,16 +7,8 @@ use mathlib.Core.List.{List, [], _∷_}
 use Rattle.program.specs.Tree.{Program}
 use Rattle.machine.specs.Published.{Sched, Sched.done, Inst, State, State.state}
 use Rattle.machine.specs.Rules.{Done, Actor.instance, Actor.schedule, Rule}
-use Rattle.machine.specs.Stops.{Full, Exceeded, Nested}
-use Rattle.machine.specs.Machine.{full, exceeded, nested}
+use Rattle.machine.specs.Stops.{Full, Exceeded, Nested, ended, out-of-turns, full, exceeded, nested}
 use Rattle.run.specs.Turns.{holders-of, chosen}
-
--- 0 is the ended run; 33: commands remain, no turn byte does; 34, 35 and 36 are the conditions of Stops
-abbrev pub ended : ℕ
-ended = 0
-
-abbrev pub out-of-turns : ℕ
-out-of-turns = 33
 
 -- the instance that a byte picks in a state: some instance holds commands
 pub data Picks (e l : ℕ) : State → Type 0 where
@@ -27,13 +19,21 @@ pub data Picks (e l : ℕ) : State → Type 0 where
 abbrev pub AllDone : State → Type 0
 AllDone (state s σ b) = Done σ
 
+-- at a state, with these bytes left, a run has come to a number
+pub data Halts : State → List ℕ → ℕ → Type 0 where
+  -- the schedule is empty and no instance holds commands
+  at-end : {σ : List Inst} {b : List Bool} {es : List ℕ} → Done σ → Halts (state done σ b) es ended
+  -- one does, and the bytes are used up
+  at-33 : {st : State} → (AllDone st → ⊥) → Halts st [] out-of-turns
+  -- the command chosen by the next byte meets that condition
+  at-34 : {st : State} {e l : ℕ} {es : List ℕ} → Picks e l st → Full l st → Halts st (e ∷ es) full
+  at-35 : {st : State} {e l : ℕ} {es : List ℕ} → Picks e l st → Exceeded l st → Halts st (e ∷ es) exceeded
+  -- the next schedule move does
+  at-36 : {st : State} {es : List ℕ} → AllDone st → Nested st → Halts st es nested
+
 -- from a state, with these bytes left, a run comes to a number, after so many turns, in a last state
 pub data Runs (p : Program) : State → List ℕ → ℕ → ℕ → State → Type 0 where
-  at-end : {σ : List Inst} {b : List Bool} {es : List ℕ} → Done σ → Runs p (state done σ b) es ended 0 (state done σ b)
-  at-36 : {st : State} {es : List ℕ} → AllDone st → Nested st → Runs p st es nested 0 st
+  halts : {st : State} {es : List ℕ} {n : ℕ} → Halts st es n → Runs p st es n 0 st
   moves : {st st′ z : State} {es : List ℕ} {n t : ℕ} → AllDone st → Rule p schedule st st′ → Runs p st′ es n t z → Runs p st es n t z
-  at-33 : {st : State} → (AllDone st → ⊥) → Runs p st [] out-of-turns 0 st
-  at-34 : {st : State} {e l : ℕ} {es : List ℕ} → Picks e l st → Full p l st → Runs p st (e ∷ es) full 0 st
-  at-35 : {st : State} {e l : ℕ} {es : List ℕ} → Picks e l st → Exceeded l st → Runs p st (e ∷ es) exceeded 0 st
   takes : {st st′ z : State} {e l : ℕ} {es : List ℕ} {n t : ℕ} → Picks e l st → Rule p (instance l) st st′ → Runs p st′ es n t z
       → Runs p st (e ∷ es) n (suc t) z

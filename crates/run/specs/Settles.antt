@@ -1,13 +1,14 @@
--- What the executable run does (01, 'Table and turns'), without its fuel: where the schedule's moves lead a machine, what its whole
--- run comes to, and turns in a row.
+-- What the executable run does (01, 'Table and turns'), without its fuel: where the schedule's moves lead a machine, and what its
+-- whole run comes to.
 use Prim.Native.Nat.{ℕ}
 use mathlib.Core.Path.{_≡_}
 use mathlib.Core.List.{List, [], _∷_}
 use Rattle.program.specs.Tree.{Program}
 use Rattle.machine.specs.Published.{Sched.done}
 use Rattle.machine.specs.Machine.{Machine, Out.next, Out.refused, Out.stuck, command, move}
-use Rattle.run.specs.Turns.{holders, chosen}
-use Rattle.run.specs.Runs.{ended, out-of-turns}
+use Rattle.run.specs.Turns.{chosen}
+use Rattle.run.specs.Holders.{holders}
+use Rattle.machine.specs.Stops.{ended, out-of-turns}
 use Rattle.run.specs.Run.{Outcome, Outcome.stopped, Outcome.jammed, later, Settled, Settled.hold, Settled.stop}
 
 -- moves until commands exist, the schedule is empty or no move is made
@@ -29,9 +30,3 @@ pub data Ran (p : Program) : Machine → List ℕ → Outcome → Type 0 where
   jams : {m : Machine} {e h : ℕ} {hs es : List ℕ} → holders m ≡ h ∷ hs → command p (chosen (h ∷ hs) e) m ≡ stuck → Ran p m (e ∷ es) jammed
   takes : {m m′ : Machine} {e h : ℕ} {hs es : List ℕ} {o o′ : Outcome} → holders m ≡ h ∷ hs → command p (chosen (h ∷ hs) e) m ≡ next m′
       → Ran p m′ es o → o′ ≡ later o → Ran p m (e ∷ es) o′
-
--- a turn for each byte, and no schedule move between
-pub data Turned (p : Program) : Machine → List ℕ → Machine → Type 0 where
-  no-turn : {m : Machine} → Turned p m [] m
-  a-turn : {m m′ z : Machine} {e h : ℕ} {hs es : List ℕ} → holders m ≡ h ∷ hs → command p (chosen (h ∷ hs) e) m ≡ next m′
-      → Turned p m′ es z → Turned p m (e ∷ es) z

@@ -18,7 +18,8 @@ use Rattle.machine.specs.Rules.{Done}
 use Rattle.machine.specs.Machine.{Instance, Machine}
 use Rattle.machine.specs.Represents.{Represents-all, Represents}
 use Rattle.machine.specs.RepresentsLaws.{Still}
-use Rattle.run.specs.Turns.{labels-from, chosen, holds-coms, holds-code, holders-of, holders}
+use Rattle.run.specs.Turns.{labels-from, chosen, holds-coms, holders-of}
+use Rattle.run.specs.Holders.{holds-code, holders}
 
 -- Labels ---------------------------------------------------------------------------
 

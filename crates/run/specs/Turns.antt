@@ -1,12 +1,10 @@
--- Turns (01, 'Table and turns'): which holder a byte picks. One definition serves published states and machines.
+-- Turns (01, 'Table and turns'): the instances of a published state that hold commands, and which of them a byte picks.
 use Prim.Native.Nat.{ℕ, suc, _%_}
 use mathlib.Core.Bool.{Bool, true, false}
 use mathlib.Core.List.{List, [], _∷_, map}
 use lib.ListN.{length, getD}
-use Rattle.commands.specs.Commands.{Coms, Coms.nil, Coms.act, Coms.if-then}
-use Rattle.commands.specs.Noted.{Note}
+use Rattle.commands.specs.Commands.{Coms.nil, Coms.act, Coms.if-then}
 use Rattle.machine.specs.Published.{Inst, Inst.inst}
-use Rattle.machine.specs.Machine.{Instance, Machine}
 
 -- the labels, from l on, at which true stands
 unfoldable pub labels-from : ℕ → List Bool → List ℕ
@@ -24,13 +22,6 @@ holds-coms (inst k nil χ ξ) = false
 holds-coms (inst k (act m c) χ ξ) = true
 holds-coms (inst k (if-then b c) χ ξ) = true
 
-unfoldable pub holds-code : List Note → Bool
-holds-code [] = false
-holds-code (n ∷ c) = true
-
--- the holders of a published state and of a machine
+-- the holders of a published state
 unfoldable pub holders-of : List Inst → List ℕ
 holders-of σ = labels-from 0 (map holds-coms σ)
-
-unfoldable pub holders : Machine → List ℕ
-holders m = labels-from 0 (map (λ i. holds-code (i .code)) (m .instances))

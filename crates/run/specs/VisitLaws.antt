@@ -6,7 +6,8 @@ use mathlib.Core.Logic.{_⊎_, inl, inr}
 use mathlib.Core.List.{List, [], _∷_}
 use Rattle.program.specs.Tree.{Program}
 use Rattle.machine.specs.Machine.{Machine, Out.next, command, move}
-use Rattle.run.specs.Turns.{holders, chosen}
+use Rattle.run.specs.Turns.{chosen}
+use Rattle.run.specs.Holders.{holders}
 use Rattle.run.specs.Visits.{Visits, Visits.here, Visits.moves, Visits.takes}
 
 module _ (p : Program) where

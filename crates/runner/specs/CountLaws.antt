@@ -16,7 +16,8 @@ use Rattle.machine.specs.Machine.{tagged, Instance, Machine, Out, Out.next, Out
 use Rattle.machine.specs.Measure.{total}
 use Rattle.machine.specs.Performed.{Performed, Performed.pushed, Performed.pushed-this, Performed.negated, Performed.read-one, Performed.skipped, Performed.wrote, Performed.calculated, Performed.exceeding, Performed.constructed, Performed.filled, Performed.branched, Performed.no-way}
 use Rattle.machine.specs.PerformedLaws.{by-ways}
-use Rattle.run.specs.Turns.{labels-from, holders, holds-code}
+use Rattle.run.specs.Turns.{labels-from}
+use Rattle.run.specs.Holders.{holders, holds-code}
 use Rattle.sound.specs.ElemLaws.{none-some, at-set-same, at-append}
 use Rattle.runner.specs.Counting.{fewer}
 
@@ -103,7 +104,7 @@ module _ (p : Program) (m : Machine) (l : ℕ) {i₀ : Instance} (g : getElem? (
       let n = made p m l i k (arity p k) (i .stack) in
       let (w, at, e) = own j in
       (w, at-append (set (m .instances) l j) (n ∷ []) l w at, omega (arith, total-append (set (m .instances) l j) n))
-  leaves (filled a u) = tt
+  leaves (filled u) = tt
   leaves (branched x) = own _
   leaves no-way = tt
 

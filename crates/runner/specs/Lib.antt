@@ -5,6 +5,7 @@ pub mod MovingLaws
 pub mod Counting
 pub mod CountLaws
 pub mod Running
+pub mod VisitWays
 pub mod TurnLaws
 pub mod RunningLaws
 pub mod SettleWays

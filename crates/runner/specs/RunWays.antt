@@ -4,10 +4,12 @@ use Prim.Native.Nat.{ℕ, _+_, _-_, _*_, _<_, _≤_}
 use mathlib.Core.Path.{_≡_, ap, sym, _∙_}
 use mathlib.Core.List.{List}
 use native.Mathlib.Omega.{arith}
-use lib.ListN.{length, getD}
+use lib.ListN.{length, getD, drop}
 use borrow.Author.Tests.{lt-ltb, le-ltb}
+use Rattle.program.specs.Tree.{Program}
 use Rattle.machine.specs.Machine.{Machine}
-use Rattle.run.specs.Runs.{out-of-turns}
+use Rattle.machine.specs.Stops.{out-of-turns}
+use Rattle.run.specs.Visits.{Visits}
 use Rattle.memory.specs.Layout.{State, head, head-size, next-of, end-of}
 use Rattle.memory.specs.Fit.{Fit}
 use Rattle.memory.specs.Act.{act}
@@ -16,9 +18,9 @@ use Rattle.engine.specs.declared.Machine.{Machine as Numbers}
 use Rattle.engine.specs.States.{state-of}
 use Rattle.runner.specs.Ready.{Ready}
 use Rattle.runner.specs.Counting.{fewer}
-use Rattle.runner.specs.Running.{busy, Begun, Standing, Settling, Ending, Gone}
+use Rattle.runner.specs.Running.{busy, cleared, Begun, Standing, Settling, Ending, Gone}
 use Rattle.runner.specs.TurnLaws.{picked-fits}
-use Rattle.runner.specs.RunningLaws.{ready-rows, runs-none, still-running, ends-over, ends-lasting, ends-failed, taken-turn, runs-more}
+use Rattle.runner.specs.RunningLaws.{ready-rows, moves-none, settles-held, runs-none, running-visits, still-running, ends-over, ends-lasting, ends-failed, taken-turn, runs-more}
 
 -- The count behind a command of instance l ------------------------------------------
 
@@ -47,6 +49,12 @@ module _ {counts list items spans es : List ℕ} {z₀ z₁ : State} {b₁ : ℕ
   gone-none p m s = runs-none s
 
   module _ {i : ℕ} {z : State} {n : ℕ} (g : Gone counts list items spans es z₁ b₁ i z n) where
+    -- whichever program and machine memory was ready for, behind i turns it holds a machine that their run passes through, with the bytes
+    -- that are left
+    pub gone-visits : (p : Program) (m : Machine) → Ready p counts list items spans m z₀
+        → (m′ : Machine) × (Visits p m es m′ (drop i es)) × (Ready p counts list items spans m′ (cleared z))
+    gone-visits p m r = running-visits (g p m (settled p counts list m r))
+
     -- The ends of the loop ------------------------------------------------------------
 
     pub gone-over : n ≡ 0 → Ending counts list items spans es z₀ (z .number) i z
@@ -107,3 +115,7 @@ module _ {counts list items spans es : List ℕ} {z₀ z₁ : State} {b₁ : ℕ
             -- a turn more, and the moves behind it
             pub gone-more : {x : State} {j : ℕ} → Settling items spans y x j → Gone counts list items spans es z₁ b₁ (i + 1) x j
             gone-more s p m t = runs-more (g p m t) h k acted c (λ w r. s p counts list w r)
+
+            -- a turn more, where someone still holds commands: the schedule does not move
+            pub gone-on : {n′ : ℕ} → n′ ≡ fewer (holds (y .heads) l) n → 0 < n′ → Gone counts list items spans es z₁ b₁ (i + 1) y n′
+            gone-on e s p m t = runs-more (g p m t) h k acted c (λ w r. settles-held (moves-none r) (e ∙ gone-count) s)

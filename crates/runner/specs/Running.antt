@@ -1,15 +1,17 @@
 -- What the code of a run promises (01, 'Table and turns'), of every program and machine that memory is ready for: what a move and a
--- turn come to, where the schedule's moves lead, and the whole run. A machine that memory comes to is the run's, so that what a run of it
--- comes to is known of the machine that the run began with.
-use Prim.Native.Nat.{ℕ, _+_, _<_}
+-- turn come to, where the schedule's moves lead, and the whole run. A machine that memory comes to is one that the run passes through, with
+-- the bytes that are left then.
+use Prim.Native.Nat.{ℕ, _<_}
 use mathlib.Core.Path.{_≡_}
 use mathlib.Core.Logic.{_⊎_}
 use mathlib.Core.List.{List, _∷_}
 use lib.ListN.{drop}
 use Rattle.program.specs.Tree.{Program}
 use Rattle.machine.specs.Machine.{Machine, Out.next, command}
-use Rattle.run.specs.Turns.{holders, chosen}
-use Rattle.run.specs.Run.{Outcome.stopped, later, run}
+use Rattle.run.specs.Turns.{chosen}
+use Rattle.run.specs.Holders.{holders}
+use Rattle.run.specs.Run.{Outcome.stopped, run}
+use Rattle.run.specs.Visits.{Visits}
 use Rattle.memory.specs.Layout.{State, refused}
 use Rattle.memory.specs.Act.{full, exceeded}
 use Rattle.memory.specs.Move.{nested}
@@ -29,41 +31,40 @@ cleared z = refused 0 z
 module _ (p : Program) (counts list items spans : List ℕ) (m : Machine) where
   -- memory y after one move of m on z: it holds the next machine, or only the number is new
   pub data Advanced (z y : State) : Type 0 where
-    advanced : {m′ : Machine} → Ready p counts list items spans m′ y → ((es : List ℕ) → run p m es ≡ run p m′ es) → Advanced z y
+    advanced : {m′ : Machine} → Ready p counts list items spans m′ y → ((es : List ℕ) → Visits p m es m′ es) → Advanced z y
     blocked : y ≡ refused nested z → ((es : List ℕ) → run p m es ≡ stopped nested 0 m) → Advanced z y
 
   -- memory y after a turn of m with the byte e on z: it holds the next machine, or only the number is new
   pub data Turned (e : ℕ) (z y : State) : Type 0 where
     turned : {m′ : Machine} → Ready p counts list items spans m′ y → command p (chosen (holders m) e) m ≡ next m′
-        → ((es : List ℕ) → run p m (e ∷ es) ≡ later (run p m′ es))
+        → ((es : List ℕ) → Visits p m (e ∷ es) m′ es)
         → Turned e z y
     failed : {n : ℕ} → y ≡ refused n z → (n ≡ full) ⊎ (n ≡ exceeded) → ((es : List ℕ) → run p m (e ∷ es) ≡ stopped n 0 m) → Turned e z y
 
   -- memory after moves of m: it holds the machine then, or a Fix was refused
   pub data Moving (z : State) : Type 0 where
-    moving : {m′ : Machine} → Ready p counts list items spans m′ z → ((es : List ℕ) → run p m es ≡ run p m′ es) → Moving z
-    nesting : {m′ : Machine} → Ready p counts list items spans m′ (cleared z) → z .number ≡ nested → busy z ≡ 0
-        → ((es : List ℕ) → run p m es ≡ stopped nested 0 m′)
+    moving : {m′ : Machine} → Ready p counts list items spans m′ z → ((es : List ℕ) → Visits p m es m′ es) → Moving z
+    nesting : {m′ : Machine} → Ready p counts list items spans m′ (cleared z) → z .number ≡ nested → busy z ≡ 0 → ((es : List ℕ) → Visits p m es m′ es)
+        → ((es : List ℕ) → run p m′ es ≡ stopped nested 0 m′)
         → Moving z
 
   -- memory after all moves of m that need no turn: n instances hold commands, or the run stops
   pub data Settles (z : State) (n : ℕ) : Type 0 where
-    held : {m′ : Machine} → Ready p counts list items spans m′ z → n ≡ busy z → 0 < n → ((es : List ℕ) → run p m es ≡ run p m′ es) → Settles z n
-    still : {m′ : Machine} → Ready p counts list items spans m′ (cleared z) → n ≡ 0 → ((es : List ℕ) → run p m es ≡ stopped (z .number) 0 m′)
+    held : {m′ : Machine} → Ready p counts list items spans m′ z → n ≡ busy z → 0 < n → ((es : List ℕ) → Visits p m es m′ es) → Settles z n
+    still : {m′ : Machine} → Ready p counts list items spans m′ (cleared z) → n ≡ 0 → ((es : List ℕ) → Visits p m es m′ es)
+        → ((es : List ℕ) → run p m′ es ≡ stopped (z .number) 0 m′)
         → Settles z n
 
-  -- a run of m with the bytes es is one of m′ behind i turns
-  abbrev pub Behind : List ℕ → ℕ → Machine → Type 0
-  Behind es i m′ = (n k : ℕ) (w : Machine) → run p m′ (drop i es) ≡ stopped n k w → run p m es ≡ stopped n (i + k) w
-
-  -- memory after i turns and the moves behind them
+  -- memory after i turns and the moves behind them: it holds a machine that the run passes through, at which the run goes on or is over
   pub data Running (es : List ℕ) (i : ℕ) (z : State) (n : ℕ) : Type 0 where
-    going : {m′ : Machine} → Ready p counts list items spans m′ z → n ≡ busy z → 0 < n → Behind es i m′ → Running es i z n
-    over : {m′ : Machine} → Ready p counts list items spans m′ (cleared z) → n ≡ 0 → run p m es ≡ stopped (z .number) i m′ → Running es i z n
+    going : {m′ : Machine} → Ready p counts list items spans m′ z → n ≡ busy z → 0 < n → Visits p m es m′ (drop i es) → Running es i z n
+    over : {m′ : Machine} → Ready p counts list items spans m′ (cleared z) → n ≡ 0 → Visits p m es m′ (drop i es) → run p m es ≡ stopped (z .number) i m′
+        → Running es i z n
 
   -- memory after the whole run
   pub record Ended (es : List ℕ) (number taken : ℕ) (z : State) : Type 0 where
     pub last : Machine
+    pub reached : Visits p m es last (drop taken es)
     pub returns : run p m es ≡ stopped number taken last
     pub ready : Ready p counts list items spans last (cleared z)
 

@@ -2,25 +2,23 @@
 -- which the run stops; there is no third case.
 use Prim.Native.Nat.{ℕ, _<_, _≤_}
 use mathlib.Core.Path.{_≡_, refl, ap, sym, _∙_, subst}
-use mathlib.Core.Bool.{Bool}
-use mathlib.Core.Logic.{_⊎_, inl, inr}
 use mathlib.Core.List.{List, [], _∷_}
 use native.Mathlib.Omega.{arith}
 use lib.ListN.{length, getD}
 use Rattle.types.specs.Limits.{max-structs}
 use Rattle.program.specs.Tree.{Program}
-use Rattle.machine.specs.Published.{Sched, Sched.done, structs}
+use Rattle.machine.specs.Published.{Sched.done, structs}
 use Rattle.machine.specs.Machine.{Instance, Machine, Out, Out.next, Out.refused, Out.stuck, command, move}
-use Rattle.run.specs.Turns.{holders, holds-code, chosen}
-use Rattle.run.specs.Runs.{ended, out-of-turns}
+use Rattle.run.specs.Turns.{chosen}
+use Rattle.run.specs.Holders.{holders, holds-code}
+use Rattle.machine.specs.Stops.{ended, out-of-turns}
 use Rattle.run.specs.Run.{Outcome.stopped, run}
-use Rattle.run.specs.Settles.{Ran.ends as ran-ends, Ran.refuses as ran-refuses, Ran.lasts as ran-lasts, Ran.fails as ran-fails, Ran.takes as ran-takes}
-use Rattle.run.specs.FuelLaws.{run-moves, run-ran, ran-run}
+use Rattle.run.specs.Settles.{Ran.ends as ran-ends, Ran.refuses as ran-refuses, Ran.lasts as ran-lasts, Ran.fails as ran-fails}
+use Rattle.run.specs.FuelLaws.{ran-run}
 use Rattle.run.specs.Visits.{Visits.here, Visits.moves as visits-move, Visits.takes as visits-take}
-use Rattle.sound.specs.Conditions.{Meets, Meets.no-label, Meets.no-result}
 use Rattle.sound.specs.Advance.{Kept}
-use Rattle.sound.specs.CommandKept.{command-kept}
-use Rattle.sound.specs.MoveKept.{Blocked, Blocked.blocked as is-blocked, move-kept}
+use Rattle.sound.specs.CommandKept.{Refused, command-kept}
+use Rattle.sound.specs.MoveKept.{Blocked, move-kept}
 use Rattle.sound.specs.HolderLaws.{chosen-holds}
 use Rattle.sound.specs.NeverStuckLaws.{visits-good}
 use Rattle.sound.specs.TabledLaws.{visits-tabled}
@@ -30,7 +28,7 @@ use Rattle.memory.specs.PlanLaws.{at-end-done}
 use Rattle.memory.specs.Frame.{After}
 use Rattle.memory.specs.Fit.{Fit}
 use Rattle.memory.specs.FitLaws.{fits}
-use Rattle.memory.specs.Act.{full, exceeded, act}
+use Rattle.memory.specs.Act.{act}
 use Rattle.memory.specs.Acts.{acts}
 use Rattle.memory.specs.Choose.{holds, picked}
 use Rattle.memory.specs.ChooseStands.{holds-same, holding-same, picks}
@@ -51,15 +49,6 @@ none-left (x ∷ l) e = absurd (omega arith)
 some-left : (l : List ℕ) → 0 < length l → (h : ℕ) × (hs : List ℕ) × (l ≡ h ∷ hs)
 some-left [] e = absurd (omega arith)
 some-left (h ∷ hs) e = (h, hs, refl)
-
--- the numbers of a command
-meets-number : {m : Machine} {i : Instance} {n : ℕ} → Meets m i n → (n ≡ full) ⊎ (n ≡ exceeded)
-meets-number (no-label e h) = inl refl
-meets-number (no-result e s x) = inr refl
-
--- 36 is the only number of a move
-blocked-number : {s : Sched} {b : List Bool} {n : ℕ} → Blocked s b n → n ≡ nested
-blocked-number (is-blocked h) = refl
 
 module _ {p : Program} {counts list items spans : List ℕ} {m : Machine} {z : State} (r : Ready p counts list items spans m z) where
   -- memory says whether anyone holds commands
@@ -102,10 +91,10 @@ module _ {p : Program} {counts list items spans : List ℕ} {m : Machine} {z : S
             tabled = visits-tabled (r .prepared .firm) (r .good) (r .tabled) v;
             stands = S;
           })
-          (λ es. run-moves p es m (none-hold h) q)
+          (λ es. visits-move (none-hold h) q here)
       comes (refused n) q S =
-          let k = move-kept p (m .sched) (m .instances) (m .stability) (r .good .all) (r .good .opened) not-done in
-          let w : n ≡ nested = blocked-number (subst (Kept p (Blocked (m .sched) (m .stability))) q k) in
+          let k = move-kept (r .prepared .firm) (m .sched) (m .instances) (m .stability) (r .good .all) (r .good .opened) not-done in
+          let w : n ≡ nested = subst (Kept p Blocked) q k in
           blocked (S ∙ ap (λ (x : ℕ). refusing x z) w)
           (λ es. ran-run p (ran-refuses (none-hold h) (q ∙ ap refused w)))
       comes stuck q S = absurd S
@@ -132,7 +121,7 @@ module _ {p : Program} {counts list items spans : List ℕ} {m : Machine} {z : S
           let w : picked (z .heads) (z .count) e ≡ chosen (h ∷ hs) e = picks m (r .stands) e ∙ ap (λ (l : List ℕ). chosen l e) q in
           rw w (fits (r .prepared .firm) (r .prepared .bounded) (r .good) list (At items) z (r .stands) (chosen (h ∷ hs) e) i a c n d)
 
-      takes : (h : ℕ) (hs : List ℕ) → holders m ≡ h ∷ hs → (i : Instance) → Kept p (Meets m i) (command p (chosen (h ∷ hs) e) m)
+      takes : (h : ℕ) (hs : List ℕ) → holders m ≡ h ∷ hs → (i : Instance) → Kept p Refused (command p (chosen (h ∷ hs) e) m)
           → (y : State) (o : Out) → command p (chosen (h ∷ hs) e) m ≡ o → After list (At items) z y o
           → Turned p counts list items spans m e z y
       takes h hs q i k y (next m′) c S =
@@ -145,9 +134,9 @@ module _ {p : Program} {counts list items spans : List ℕ} {m : Machine} {z : S
             stands = S;
           })
           (ap (λ (l : List ℕ). command p (chosen l e) m) q ∙ c)
-          (λ es. ran-run p (ran-takes q c (run-ran p es m′) refl))
+          (λ es. visits-take q c here)
       takes h hs q i k y (refused n) c S =
-          failed S (meets-number (subst (Kept p (Meets m i)) c k)) (λ es. ran-run p (ran-fails q c))
+          failed S (subst (Kept p Refused) c k) (λ es. ran-run p (ran-fails q c))
       takes h hs q i k y stuck c S = absurd S
 
       -- a turn

@@ -18,7 +18,8 @@ pub struct Settled {
     pub holding: usize,
 }
 
-// The moves of a machine of which n instances hold commands.
+// The moves of a machine of which n instances hold commands. Memory is free up to the machine that it stands for: nothing is said of cells above
+// a stack, nor where an instance without commands has its next one. The number is 0 where some hold commands, else what the run stops with.
 pub fn settle(
     machine: Machine,
     n: usize,

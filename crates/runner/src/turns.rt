@@ -41,7 +41,8 @@ fn left_holding(heads: &[usize], l: usize, n: usize) -> usize
     n - 1
 }
 
-// A run of a machine with these turn bytes.
+// A run of a machine with these turn bytes. Memory and the machine's numbers are free up to the machine that they stand for with their number
+// taken out: that is the machine that the run comes to. Number and turns are the run's.
 pub fn run(
     machine: Machine,
     list: &[u64],
@@ -81,10 +82,12 @@ pub fn run(
             };
         }
         taken += 1;
-        let some = left_holding(heads, l, left);
-        let settled = settle(next, some, items, spans, heads);
-        next = settled.machine;
-        left = settled.holding;
+        left = left_holding(heads, l, left);
+        if left == 0 {
+            let settled = settle(next, left, items, spans, heads);
+            next = settled.machine;
+            left = settled.holding;
+        }
     }
     let number = next.number;
     Ran {

@@ -2,7 +2,7 @@
 use Prim.Native.Nat.{ℕ, _≤_}
 use mathlib.Core.Path.{_≡_}
 use mathlib.Core.Option.{some}
-use mathlib.Core.List.{List}
+use mathlib.Core.List.{List, []}
 use lib.ListN.{length}
 use Rattle.types.specs.Limits.{first-local}
 use Rattle.program.specs.Tree.{Stmts, Program}
@@ -13,7 +13,10 @@ use Rattle.commands.specs.Typing.{TypesRight}
 use Rattle.commands.specs.Noted.{Note, noted}
 use Rattle.commands.specs.Bounds.{Within, program-depth}
 use Rattle.machine.specs.Published.{structs}
-use Rattle.commands.specs.Tags.{Tags, at-start, Way, Safe}
+use mathlib.Core.Bool.{false}
+use Rattle.commands.specs.Tags.{Tags, at-start, Way}
+use Rattle.commands.specs.Living.{lives, alive, Among}
+use Rattle.commands.specs.Secure.{Secure}
 use Rattle.sound.specs.Sized.{SizedAll}
 
 -- within the counts and the limits, with right names and right types
@@ -23,7 +26,8 @@ Accepted p = (Counts p) × (Within p) × (NamesRight p) × (TypesRight p)
 -- a step's commands are safe on every way, no way goes higher than the reported depth, and what they carry is in its range;
 -- parameters lie below the locals
 pub record Firm (p : Program) : Type 0 where
-  pub safe : (k n : ℕ) {b : Stmts} → step-of p k n ≡ some b → Safe (context p k b) (noted (context p k b) b) at-start
+  pub secure : (k n : ℕ) {b : Stmts} → step-of p k n ≡ some b
+      → (Among (alive (lives b)) []) × (Secure (context p k b) (noted (context p k b) b) (lives b) [] false)
   pub low : (k n : ℕ) {b : Stmts} → step-of p k n ≡ some b → {c : List Note} {x : Tags}
       → Way (context p k b) (noted (context p k b) b) at-start c x → length (x .stack) ≤ program-depth p
   pub sized : (k n : ℕ) {b : Stmts} → step-of p k n ≡ some b → SizedAll (structs p) (noted (context p k b) b)

@@ -16,7 +16,7 @@ use Rattle.commands.specs.NumbersLaws.{number-accepted}
 use Rattle.table.specs.Table.{Record}
 use Rattle.machine.specs.Published.{structs}
 use Rattle.run.specs.Input.{Ready}
-use Rattle.commands.specs.Steps.{of-each, found, step-safe}
+use Rattle.commands.specs.Steps.{of-each, found, step-secure}
 use Rattle.commands.specs.Heights.{program-height}
 use Rattle.sound.specs.SizedLaws.{noted-sized}
 use Rattle.sound.specs.Accepted.{Accepted, Firm}
@@ -56,7 +56,7 @@ ready-accepted r = let a = r .program in (a .reads .counts, a .within, a .names,
 -- an accepted program is firm
 pub accepted-firm : {p : Program} → Accepted p → Firm p
 accepted-firm {p} a = record {
-  safe = λ k n e. step-safe p (a .2) (a .3) k n e;
+  secure = λ k n e. step-secure p (a .2) (a .3) k n e;
   low = λ k n e w. program-height p k n e w;
   sized = λ k n {b} e.
       rw (length-map (p .params) length) at (noted-sized (map length (p .params)) (context p k b) b (step-counted p (a .0) k n e));

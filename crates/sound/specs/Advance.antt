@@ -20,7 +20,7 @@ use Rattle.sound.specs.Invariant.{Fits, Passage, Place.passing, Good}
 use Rattle.sound.specs.Keeps.{Keeps, keeps-set, of-kept, fits-kept}
 use Rattle.sound.specs.EachLaws.{each-map}
 use Rattle.sound.specs.GoodLaws.{fitted-kept, good-set}
-use Rattle.sound.specs.PassageLaws.{ctx}
+use Rattle.sound.specs.PassageLaws.{ctx, Living-on}
 
 -- what an act comes to keeps the invariant, or is a number for a reason R
 abbrev pub Kept : Program → (ℕ → Type 0) → Out → Type 0
@@ -35,6 +35,7 @@ after i n c χ ξ = record { struct = i .struct; code = c; stack = χ; env = ξ;
 -- the passage behind a command: the way goes on, these types are on the stack, and the locals written hold values
 pub advance : {p : Program} {is : List Instance} {l : ℕ} {i : Instance} (g : Passage p is l i) (n : Note) {c : List Note}
     → Way (ctx g) (noted (ctx g) (g .body)) at-start c (leads (ctx g) n (g .place))
+    → Living-on g n c
     → (js : List Instance) (ts : List Ty)
     → stack-after (ctx g) n (g .place .stack) ≡ ts
     → (χ : List Tagged)
@@ -44,13 +45,13 @@ pub advance : {p : Program} {is : List Instance} {l : ℕ} {i : Instance} (g : P
     → ((x : ℕ) → List·Memᴰ x (now-written n (i .written))
     → (v : Val) × (lookup ξ (first-local + x) ≡ some v) × (Of js (body-local (g .body) x int) v))
     → Passage p js l (after i n c χ ξ)
-advance g n w js ts q χ s o ξ h = record {
+advance g n w sf js ts q χ s o ξ h = record {
   name = g .name;
   body = g .body;
   has = g .has;
   place = leads (ctx g) n (g .place);
   way = w;
-  wrote = ap (now-written n) (g .wrote);
+  kept = sf;
   stacked = rw q s;
   own = o;
   locals = h;
@@ -84,15 +85,16 @@ module _ {p : Program} {m : Machine} (good : Good p m) (l : ℕ) (i : Instance) 
   -- a command that writes no variable, makes no instance and is no push this
   pub goes-on : (g : Passage p (m .instances) l i)
       → Way (ctx g) (noted (ctx g) (g .body)) at-start c (leads (ctx g) n (g .place))
+      → Living-on g n c
       → now-written n (i .written) ≡ i .written
       → is-this n ≡ false
       → (ts : List Ty)
       → stack-after (ctx g) n (g .place .stack) ≡ ts
       → Each (Fits (m .instances)) ts χ
       → Good p (put m l (after i n c χ (i .env)))
-  goes-on g w a b ts q s =
+  goes-on g w sf a b ts q s =
       good-put (λ k.
-      advance g n w (set (m .instances) l (after i n c χ (i .env))) ts q χ (each-map (fits-kept k) ts χ s)
+      advance g n w sf (set (m .instances) l (after i n c χ (i .env))) ts q χ (each-map (fits-kept k) ts χ s)
       (λ h. absurd (false≢true (sym b ∙ h)))
       (i .env)
       (locals-kept g k a))

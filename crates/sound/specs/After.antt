@@ -4,7 +4,8 @@ use mathlib.Core.Path.{_≡_, refl}
 use mathlib.Core.List.{List, [], _∷_}
 use Rattle.program.specs.Tree.{Program}
 use Rattle.machine.specs.Machine.{Machine, Out, Out.next, Out.refused, Out.stuck, command, move}
-use Rattle.run.specs.Turns.{holders, chosen}
+use Rattle.run.specs.Turns.{chosen}
+use Rattle.run.specs.Holders.{holders}
 use Rattle.run.specs.Visits.{Visits, Visits.here, Visits.moves, Visits.takes}
 
 -- on from where an act leads; where it leads nowhere, the run stays

@@ -1,14 +1,15 @@
--- A command of an instance that holds commands keeps the invariant, or meets the condition of 34 or 35; it never lacks a rule.
+-- A command of an instance that holds commands keeps the invariant, or is refused with 34 or 35; it never lacks a rule.
 use Prim.Native.Nat.{ℕ, _+_, _<_}
 use native.Mathlib.Omega.{arith}
 use mathlib.Core.Path.{_≡_, refl, ap, sym, _∙_, subst}
 use mathlib.Core.Bool.{Bool, true, false, not, false≢true}
+use mathlib.Core.Logic.{_⊎_, inl, inr}
 use mathlib.Core.Option.{some}
 use mathlib.Core.List.{List, [], _∷_, _++_, map, reverse}
 use lib.ListN.{length, getD, getElem?, set, drop, length-reverse}
 use lib.Seq.{drop-at}
 use lib.Dec.{ltb}
-use borrow.Author.Tests.{lt-ltb, le-ltb, ltb-false}
+use borrow.Author.Tests.{lt-ltb, le-ltb}
 use Rattle.types.specs.Limits.{max-instances, first-local}
 use Rattle.types.specs.Types.{Ty, Ty.int, Ty.bool, Ty.ref}
 use Rattle.types.specs.Values.{Val, Val.bool-val, Val.label}
@@ -18,11 +19,11 @@ use Rattle.commands.specs.Typing.{sort, Takes}
 use Rattle.commands.specs.Noted.{Note, Note.n-push, Note.n-this, Note.n-not, Note.n-rd, Note.n-wr, Note.n-get, Note.n-set, Note.n-cons, Note.n-op, Note.n-if, noted, now-written}
 use Rattle.table.specs.Table.{Each}
 use Rattle.words.specs.Apply.{Answer, Answer.value, Answer.outside, Answer.unfit, apply}
-use Rattle.words.specs.ApplyLaws.{apply-outside}
 use Rattle.words.specs.Ranges.{Fits as Answers}
 use Rattle.words.specs.RangesLaws.{apply-fits}
 use Rattle.machine.specs.Published.{structs, arity}
-use Rattle.machine.specs.Machine.{Tagged, tagged, Instance, Machine, with-written, put, write-to, operated, perform, command-of, command-at, command}
+use Rattle.machine.specs.Machine.{Tagged, tagged, Source.variable, Source.local, Source.result, given-by, Instance, Machine, with-written, put, write-to, operated, perform, command-of, command-at, command}
+use Rattle.machine.specs.Stops.{full, exceeded}
 use Rattle.run.specs.Begin.{resting}
 use Rattle.commands.specs.Tags.{Tags, Top, Asks, stack-after, next as leads, at-start, Way, Way.on, Way.over}
 use Rattle.sound.specs.Needs.{Of}
@@ -30,17 +31,20 @@ use Rattle.sound.specs.Invariant.{Fits, Passage, Place, Place.resting as
 use Rattle.sound.specs.Keeps.{of-kept, fits-kept}
 use Rattle.sound.specs.EachLaws.{each-length, each-map, each-of-map, each-reverse}
 use Rattle.sound.specs.EnvLaws.{param-holds}
-use Rattle.commands.specs.Static.{result-of}
+use Rattle.commands.specs.StaticParts.{result-of}
 use Rattle.sound.specs.SizedLaws.{lasting-of}
 use Rattle.sound.specs.ValueLaws.{bool-value, label-value, ranges, result-of-type}
 use Rattle.sound.specs.Accepted.{Firm}
-use Rattle.sound.specs.PassageLaws.{ctx, tops, top-one, top-two, own-top, local-value, asks, next-sized, way-at}
-use Rattle.sound.specs.Conditions.{Meets, Meets.no-label, Meets.no-result}
+use Rattle.sound.specs.PassageLaws.{ctx, here, tops, top-one, top-two, own-top, local-value, asks, kept-next, kept-past, Living-on, next-sized, way-at}
 use Rattle.sound.specs.Outcomes.{negated, branched, operates, has-read, leaves-null, writes-param, writes-local, constructs, finds-full}
 use Rattle.sound.specs.Advance.{Kept, after, advance, locals-kept, good-put, goes-on}
 use Rattle.sound.specs.WriteKept.{param-kept, local-kept-good}
 use Rattle.sound.specs.ConsKept.{cons-keeps, new-label, cons-kept}
 use Rattle.commands.specs.Tags.{result-type}
+
+-- the numbers of a command
+abbrev pub Refused : ℕ → Type 0
+Refused n = (n ≡ full) ⊎ (n ≡ exceeded)
 
 -- whichever a test says
 either : {A : Type 0} (t : Bool) {u : Bool} → u ≡ t → (u ≡ true → A) → (u ≡ false → A) → A
@@ -60,12 +64,12 @@ module _ {p : Program} (firm : Firm p) {m : Machine} (good : Good p m) (l : ℕ)
 
   -- what the command n comes to
   abbrev Goes : Note → Type 0
-  Goes n = i .code ≡ n ∷ c → Kept p (Meets m i) (perform p m l (acting n) n c)
+  Goes n = i .code ≡ n ∷ c → Kept p Refused (perform p m l (acting n) n c)
 
   pushes : (t : Ty) (v : Val) → Goes (n-push t v)
   unfolding perform now-written
   pushes t v e =
-      goes-on good l i at (n-push t v) c (tagged t v ∷ i .stack) g (on (way-at g firm (n-push t v) c e)) refl refl (t ∷ g .place .stack) refl
+      goes-on good l i at (n-push t v) c (tagged t v ∷ i .stack) g (on (way-at g firm (n-push t v) c e)) (kept-next g firm (n-push t v) c e) refl refl (t ∷ g .place .stack) refl
       ((refl, lasting-of p (m .instances) (good .all .nulls) (next-sized g firm (n-push t v) c e)), g .stacked)
 
   pushes-this : Goes n-this
@@ -73,7 +77,7 @@ module _ {p : Program} (firm : Firm p) {m : Machine} (good : Good p m) (l : ℕ)
   pushes-this e =
       let x = tagged (ref (i .struct)) (label l) in
       good-put good l i at n-this c (x ∷ i .stack) (λ k.
-      advance g n-this (on (way-at g firm n-this c e)) (set (m .instances) l (after i n-this c (x ∷ i .stack) (i .env))) (ref (i .struct) ∷ g .place .stack) refl (x ∷ i .stack) (
+      advance g n-this (on (way-at g firm n-this c e)) (kept-next g firm n-this c e) (set (m .instances) l (after i n-this c (x ∷ i .stack) (i .env))) (ref (i .struct) ∷ g .place .stack) refl (x ∷ i .stack) (
         (refl, of-kept k (ref (i .struct)) (label l) (i, at, refl)),
         each-map (fits-kept k) (g .place .stack) (i .stack) (g .stacked),
       )
@@ -87,8 +91,8 @@ module _ {p : Program} (firm : Firm p) {m : Machine} (good : Good p m) (l : ℕ)
       let (h, a) = asks g firm n-not c e in
       let (x, χ, s, f, r) = top-one g bool (h, a) in
       let (b, q) = bool-value (m .instances) (x .is) (f .1) in
-      subst (Kept p (Meets m i)) (sym (negated p m l (acting n-not) c (s ∙ ap (λ v. tagged (x .by) v ∷ χ) q)))
-      (goes-on good l i at n-not c (tagged bool (bool-val (not b)) ∷ χ) g (on (way-at g firm n-not c e)) refl refl (bool ∷ h)
+      subst (Kept p Refused) (sym (negated p m l (acting n-not) c (s ∙ ap (λ v. tagged (x .by) v ∷ χ) q)))
+      (goes-on good l i at n-not c (tagged bool (bool-val (not b)) ∷ χ) g (on (way-at g firm n-not c e)) (kept-next g firm n-not c e) refl refl (bool ∷ h)
       (ap (stack-after (ctx g) n-not) a)
       ((refl, tt), r))
 
@@ -98,8 +102,8 @@ module _ {p : Program} (firm : Firm p) {m : Machine} (good : Good p m) (l : ℕ)
       let (h, a) = asks g firm (n-if n) c e in
       let (x, χ, s, f, r) = top-one g bool (h, a) in
       let (b, q) = bool-value (m .instances) (x .is) (f .1) in
-      subst (Kept p (Meets m i)) (sym (branched p m l (acting (n-if n)) c n (s ∙ ap (λ v. tagged (x .by) v ∷ χ) q)))
-      (goes-on good l i at (n-if n) (elim b [ true ↦ c | false ↦ drop n c ]) χ g (way b (way-at g firm (n-if n) c e)) refl refl h
+      subst (Kept p Refused) (sym (branched p m l (acting (n-if n)) c n (s ∙ ap (λ v. tagged (x .by) v ∷ χ) q)))
+      (goes-on good l i at (n-if n) (elim b [ true ↦ c | false ↦ drop n c ]) χ g (way b (way-at g firm (n-if n) c e)) (living b) refl refl h
       (ap (stack-after (ctx g) (n-if n)) a)
       r)
     where
@@ -108,6 +112,10 @@ module _ {p : Program} (firm : Firm p) {m : Machine} (good : Good p m) (l : ℕ)
           → Way (ctx g) (noted (ctx g) (g .body)) at-start (elim b [ true ↦ c | false ↦ drop n c ]) (leads (ctx g) (n-if n) (g .place))
       way true w = on w
       way false w = over w
+
+      living : (b : Bool) → Living-on g (n-if n) (elim b [ true ↦ c | false ↦ drop n c ])
+      living true = kept-next g firm (n-if n) c e
+      living false = kept-past g firm (n-if n) c e
 
   reads-param : (k v : ℕ) → Goes (n-rd k v)
   unfolding perform now-written
@@ -118,11 +126,12 @@ module _ {p : Program} (firm : Firm p) {m : Machine} (good : Good p m) (l : ℕ)
       let b′ : v < length (params-of p (j .struct)) = rw w b in
       let (y, z, o) =
       param-holds (m .instances) (params-of p (j .struct)) (firm .few (j .struct)) v b′ (j .env) (good .all .each t j at′ .fitted) in
-      subst (Kept p (Meets m i))
-      (sym (has-read p m l (acting (n-rd k v)) c v (typ (ctx g) k v) (s ∙ ap (λ u. tagged (x .by) u ∷ χ) q) at′ z))
-      (goes-on good l i at (n-rd k v) c (tagged (typ (ctx g) k v) y ∷ χ) g (on (way-at g firm (n-rd k v) c e)) refl refl (typ (ctx g) k v ∷ h)
+      subst (Kept p Refused)
+      (sym (has-read p m l (acting (n-rd k v)) c v (λ d. variable d v) (s ∙ ap (λ u. tagged (x .by) u ∷ χ) q) at′ z))
+      (goes-on good l i at (n-rd k v) c (tagged (given-by p (variable (j .struct) v)) y ∷ χ) g (on (way-at g firm (n-rd k v) c e)) (kept-next g firm (n-rd k v) c e) refl refl
+      (typ (ctx g) k v ∷ h)
       (ap (stack-after (ctx g) (n-rd k v)) a)
-      ((refl, subst (λ d. Of (m .instances) (getD (params-of p d) v int) y) w o), r))
+      ((ap (λ d. getD (params-of p d) v int) w, subst (λ d. Of (m .instances) (getD (params-of p d) v int) y) w o), r))
 
   reads-local : (t : Ty) (v : ℕ) → Goes (n-get t v)
   unfolding perform now-written
@@ -131,9 +140,9 @@ module _ {p : Program} (firm : Firm p) {m : Machine} (good : Good p m) (l : ℕ)
       let (x, χ, s, f, r) = top-one g (ref (i .struct)) (h, a) in
       let q = own-top g u x χ s in
       let (y, z, o) = local-value g v d in
-      subst (Kept p (Meets m i))
-      (sym (has-read p m l (acting (n-get t v)) c (first-local + v) t (s ∙ ap (λ u. tagged (x .by) u ∷ χ) q) at z))
-      (goes-on good l i at (n-get t v) c (tagged t y ∷ χ) g (on (way-at g firm (n-get t v) c e)) refl refl (t ∷ h)
+      subst (Kept p Refused)
+      (sym (has-read p m l (acting (n-get t v)) c (first-local + v) (λ d. local t) (s ∙ ap (λ u. tagged (x .by) u ∷ χ) q) at z))
+      (goes-on good l i at (n-get t v) c (tagged t y ∷ χ) g (on (way-at g firm (n-get t v) c e)) (kept-next g firm (n-get t v) c e) refl refl (t ∷ h)
       (ap (stack-after (ctx g) (n-get t v)) a)
       ((refl, subst (λ d. Of (m .instances) d y) (sym b) o), r))
 
@@ -147,14 +156,14 @@ module _ {p : Program} (firm : Firm p) {m : Machine} (good : Good p m) (l : ℕ)
       let s′ = s ∙ ap (λ u. tagged (y .by) u ∷ x ∷ χ) q in
       let b′ : v < arity p (j .struct) = rw w b in
       let own : Good p (put m l (after i n c χ (i .env))) =
-      goes-on good l i at n c χ g (on (way-at g firm n c e)) refl refl h (ap (stack-after (ctx g) n) a) r in
+      goes-on good l i at n c χ g (on (way-at g firm n c e)) (kept-next g firm n c e) refl refl h (ap (stack-after (ctx g) n) a) r in
       let (z, z′, o) =
       param-holds (m .instances) (params-of p (j .struct)) (firm .few (j .struct)) v b′ (j .env) (good .all .each t j at′ .fitted) in
       let below = lt-ltb v (arity p (j .struct)) b′ in
       either (ltb t (structs p)) refl
-      (λ null. subst (Kept p (Meets m i)) (sym (leaves-null p m l (acting n) c v s′ at′ below null)) own)
+      (λ null. subst (Kept p Refused) (sym (leaves-null p m l (acting n) c v s′ at′ below null)) own)
       (λ other.
-      subst (Kept p (Meets m i)) (sym (writes-param p m l (acting n) c v s′ at′ below other z′))
+      subst (Kept p Refused) (sym (writes-param p m l (acting n) c v s′ at′ below other z′))
       (param-kept firm m l i at (after i n c χ (i .env)) refl refl own t j at′ v (x .is) _ b′
       (subst (λ d. Of (m .instances) (getD (params-of p d) v int) (x .is)) (sym w) (f′ .1))))
 
@@ -162,13 +171,13 @@ module _ {p : Program} (firm : Firm p) {m : Machine} (good : Good p m) (l : ℕ)
   unfolding perform write-to
   writes-own d t v e =
       let n = n-set d t v in
-      let (u, b, (h, a)) = set-asks (ctx g) d t v (g .place) (asks g firm n c e) in
+      let (u, b, (h, a)) = set-asks (ctx g) d t v (here g) (asks g firm n c e) in
       let (y, x, χ, s, f, f′, r) = top-two g (ref (i .struct)) t (h, a) in
       let s′ = s ∙ ap (λ u. tagged (y .by) u ∷ x ∷ χ) (own-top g u y (x ∷ χ) s) in
       let few = firm .few (i .struct) in
       let beyond = le-ltb (first-local + v) (arity p (i .struct)) (omega arith) in
-      subst (Kept p (Meets m i)) (sym (writes-local p m l (acting n) c (first-local + v) s′ at beyond))
-      (local-kept-good firm m l i at good g d t v (next-sized g firm n c e) b c (on (way-at g firm n c e)) h (ap (stack-after (ctx g) n) a) χ r (x .is) _
+      subst (Kept p Refused) (sym (writes-local p m l (acting n) c (first-local + v) s′ at beyond))
+      (local-kept-good firm m l i at good g d t v (next-sized g firm n c e) b c (on (way-at g firm n c e)) (kept-next g firm n c e) h (ap (stack-after (ctx g) n) a) χ r (x .is) _
       (f′ .1))
 
   constructs-one : (k : ℕ) → Goes (n-cons k)
@@ -185,18 +194,18 @@ module _ {p : Program} (firm : Firm p) {m : Machine} (good : Good p m) (l : ℕ)
       let js = set (m .instances) l (after i n c ψ (i .env)) ++ resting k vs ∷ [] in
       either (ltb (length (m .instances)) max-instances) refl
       (λ q.
-      subst (Kept p (Meets m i)) (sym (constructs p m l (acting n) c k ξ χ s size q))
+      subst (Kept p Refused) (sym (constructs p m l (acting n) c k ξ χ s size q))
       (cons-kept good l i at n c ψ k vs
       (each-reverse (Of js) ps (map (λ x. x .is) ξ)
       (each-of-map (Of js) (λ x. x .is) (reverse ps) ξ (each-map (λ t x z. of-kept keeps t (x .is) (z .1)) (reverse ps) ξ f)))
-      (advance g n (on (way-at g firm n c e)) js (ref k ∷ h)
+      (advance g n (on (way-at g firm n c e)) (kept-next g firm n c e) js (ref k ∷ h)
       (ap (stack-after (ctx g) n) a ∙ ap (λ r. ref k ∷ r) (drop-at (reverse ps) h (length ps) (length-reverse ps)))
       ψ
       ((refl, new-label good l i at n c ψ k vs), each-map (fits-kept keeps) h χ r)
       (λ q. absurd (false≢true q))
       (i .env)
       (locals-kept g keeps refl))))
-      (λ q. subst (Kept p (Meets m i)) (sym (finds-full p m l (acting n) c k ξ χ s size q)) (no-label e (ltb-false (length (m .instances)) max-instances q)))
+      (λ q. subst (Kept p Refused) (sym (finds-full p m l (acting n) c k (i .stack) q)) (inl refl))
 
   operates-on : (o : Op) → Goes (n-op o)
   unfolding perform now-written operated
@@ -204,7 +213,7 @@ module _ {p : Program} (firm : Firm p) {m : Machine} (good : Good p m) (l : ℕ)
       let n = n-op o in
       let (t, u, k, (h, a)) = asks g firm n c e in
       let (y, x, χ, s, f, f′, r) = top-two g t t (h, a) in
-      subst (Kept p (Meets m i)) (sym (operates p m l (acting n) c o s))
+      subst (Kept p Refused) (sym (operates p m l (acting n) c o s))
       (go t u k h a y x χ s (f′ .0) r (apply o (x .is) (y .is)) refl
       (apply-fits o k (ranges (m .instances) t (x .is) (f′ .1)) (ranges (m .instances) t (y .is) (f .1))))
     where
@@ -212,16 +221,16 @@ module _ {p : Program} (firm : Firm p) {m : Machine} (good : Good p m) (l : ℕ)
           → x .by ≡ t
           → Each (Fits (m .instances)) h χ
           → (w : Answer) → apply o (x .is) (y .is) ≡ w → Answers u w
-          → Kept p (Meets m i) (operated p m l (acting (n-op o)) c χ (result-type (sort o) (x .by)) w)
+          → Kept p Refused (operated p m l (acting (n-op o)) c χ (result o (x .by)) w)
       go t u k h a y x χ s b r (value v) q z =
-          goes-on good l i at (n-op o) c (tagged (result-type (sort o) (x .by)) v ∷ χ) g (on (way-at g firm (n-op o) c e)) refl refl
+          goes-on good l i at (n-op o) c (tagged (result-type (sort o) (x .by)) v ∷ χ) g (on (way-at g firm (n-op o) c e)) (kept-next g firm (n-op o) c e) refl refl
           (result-type (sort o) t ∷ h)
           (ap (stack-after (ctx g) (n-op o)) a)
           ((ap (result-type (sort o)) b, subst (λ d. Of (m .instances) d v) (result-of k) (result-of-type (m .instances) k z)), r)
-      go t u k h a y x χ s b r outside q z = no-result e s (apply-outside o (x .is) (y .is) .0 q)
+      go t u k h a y x χ s b r outside q z = inr refl
       go t u k h a y x χ s b r unfit q z = absurd z
 
-  -- each comes to a good machine or meets its condition
+  -- each comes to a good machine or is refused
   takes : (n : Note) → Goes n
   takes (n-push t v) = pushes t v
   takes n-this = pushes-this
@@ -240,12 +249,12 @@ pub commanded : (p : Program) (m : Machine) (l : ℕ) (i : Instance) (n : Note) 
 unfolding command command-at command-of
 commanded p m l i n c at e = ap (command-at p m l) at ∙ ap (command-of p m l i) e
 
--- a command of a holder keeps the invariant, or meets the condition of its number
+-- a command of a holder keeps the invariant, or is refused with one of its numbers
 pub command-kept : {p : Program} → Firm p → {m : Machine} → Good p m → (l : ℕ) (i : Instance) → getElem? (m .instances) l ≡ some i
     → (n : Note) (c : List Note) → i .code ≡ n ∷ c
-    → Kept p (Meets m i) (command p l m)
-command-kept {p} firm {m} good l i at n c e = subst (Kept p (Meets m i)) (sym (commanded p m l i n c at e)) (go (good .all .each l i at .place))
+    → Kept p Refused (command p l m)
+command-kept {p} firm {m} good l i at n c e = subst (Kept p Refused) (sym (commanded p m l i n c at e)) (go (good .all .each l i at .place))
   where
-    go : Place p (m .instances) l i → Kept p (Meets m i) (perform p m l (with-written i (now-written n (i .written))) n c)
+    go : Place p (m .instances) l i → Kept p Refused (perform p m l (with-written i (now-written n (i .written))) n c)
     go (rests q χ) = let z : _≡_ {A = ℕ} 0 1 = cc in absurd (omega arith)
     go (passing g) = takes firm good l i at g c n e

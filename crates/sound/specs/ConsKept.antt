@@ -7,7 +7,7 @@ use mathlib.Core.Option.{Option, none, some}
 use mathlib.Core.Logic.{_⊎_, inl, inr}
 use mathlib.Core.List.{List, [], _∷_, _++_}
 use lib.ListN.{length, getElem?, set, length-set, length-replicate}
-use Rattle.types.specs.Limits.{first-local}
+use Rattle.types.specs.Limits.{max-locals}
 use Rattle.types.specs.Types.{Ty.ref}
 use Rattle.types.specs.Values.{Val, Val.label}
 use Rattle.program.specs.Tree.{Program}
@@ -26,7 +26,7 @@ use Rattle.sound.specs.Advance.{after}
 
 -- an instance at rest with parameters of their types
 pub rests : (p : Program) (is : List Instance) (l k : ℕ) (vs : List Val) → Each (Of is) (params-of p k) vs → GoodInst p is l (at-rest k vs)
-rests p is l k vs f = record { fitted = (f, length-replicate {A = Option Val} first-local none); place = resting refl refl }
+rests p is l k vs f = record { fitted = (f, length-replicate {A = Option Val} max-locals none); place = resting refl refl }
 
 module _ {p : Program} {m : Machine} (good : Good p m) (l : ℕ) (i : Instance) (at : getElem? (m .instances) l ≡ some i)
     (n : Note) (c : List Note) (χ : List Tagged) (k : ℕ) (vs : List Val) where

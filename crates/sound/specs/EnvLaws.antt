@@ -7,7 +7,7 @@ use mathlib.Core.List.{List}
 use lib.ListN.{length, getD, getElem?, set, length-set}
 use lib.Seq.{getD-set-same, getD-set-other}
 use borrow.Author.Tests.{lt-ltb, le-ltb}
-use Rattle.types.specs.Limits.{first-local}
+use Rattle.types.specs.Limits.{first-local, max-locals}
 use Rattle.types.specs.Types.{Ty, Ty.int}
 use Rattle.types.specs.Values.{Val}
 use Rattle.machine.specs.Published.{Env, Env.env, lookup, assign}
@@ -48,7 +48,7 @@ local-kept (env ps ls) y z x h =
 
 module _ (is : List Instance) (ts : List Ty) where
   -- a local holds what was written to it
-  pub local-holds : (ξ : Env) (y : ℕ) (x : Val) → y < first-local → Fitted is ts ξ → lookup (assign ξ (first-local + y) x) (first-local + y) ≡ some x
+  pub local-holds : (ξ : Env) (y : ℕ) (x : Val) → y < max-locals → Fitted is ts ξ → lookup (assign ξ (first-local + y) x) (first-local + y) ≡ some x
   local-holds (env ps ls) y x h f =
       rw (local-set ps ls y x, local-at ps (set ls y (some x)) y) (getD-set-same ls y (some x) none (rw (f .1) h))
 

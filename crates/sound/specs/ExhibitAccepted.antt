@@ -20,8 +20,8 @@ use Rattle.commands.specs.NumbersLaws.{number-accepted}
 use Rattle.table.specs.Table.{Record, struct-at, HeldTable, References, TableRight}
 use Rattle.machine.specs.Published.{Sched.done, Sched.start, Sched.active}
 use Rattle.machine.specs.Machine.{tagged, Machine, Out.next, move}
-use Rattle.run.specs.Turns.{holders}
-use Rattle.run.specs.Runs.{ended}
+use Rattle.run.specs.Holders.{holders}
+use Rattle.machine.specs.Stops.{ended}
 use Rattle.run.specs.Run.{Outcome.stopped, run}
 use Rattle.run.specs.Visits.{Visits}
 use Rattle.run.specs.Begin.{begin, table-of}

@@ -21,7 +21,7 @@ use Rattle.commands.specs.NumbersLaws.{number-accepted}
 use Rattle.table.specs.Table.{Record, struct-at, HeldTable, References, TableRight}
 use Rattle.machine.specs.Published.{Env.env}
 use Rattle.machine.specs.Machine.{Tagged, tagged, Instance, Machine}
-use Rattle.run.specs.Runs.{ended}
+use Rattle.machine.specs.Stops.{ended}
 use Rattle.run.specs.Run.{Outcome.stopped, run}
 use Rattle.run.specs.Visits.{Visits}
 use Rattle.run.specs.Begin.{begin, table-of}

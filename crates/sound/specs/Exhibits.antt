@@ -26,8 +26,8 @@ use Rattle.sound.specs.Needs.{Needs, Ready}
 use Rattle.sound.specs.NeverStuck.{Demand3}
 use Rattle.sound.specs.After.{onward, act-on, after, after-visited}
 
--- a run passes through a machine where the next command of an instance lacks what it needs, and comes to no number
-pub record Stuck (p : Program) (rs : List Record) (es : List ℕ) : Type 0 where
+-- a run passes through a machine where the next command of an instance lacks what it needs
+pub record Lacks (p : Program) (rs : List Record) (es : List ℕ) : Type 0 where
   pub place : Machine
   pub left : List ℕ
   pub visited : Visits p (begin p rs) es place left
@@ -38,17 +38,20 @@ pub record Stuck (p : Program) (rs : List Record) (es : List ℕ) : Type 0 where
   pub rest : List Note
   pub holds : instance .code ≡ command ∷ rest
   pub lacks : Needs p place holder instance command → ⊥
-  pub jams : run p (begin p rs) es ≡ jammed
 
 -- what demand 3 says does not hold of such a run, by what it says of the commands' needs alone
-pub stuck-refutes : {p : Program} {rs : List Record} {es : List ℕ} → Stuck p rs es → Demand3 p rs es → ⊥
-stuck-refutes {p} s d =
+pub lacks-refutes : {p : Program} {rs : List Record} {es : List ℕ} → Lacks p rs es → Demand3 p rs es → ⊥
+lacks-refutes {p} s d =
     s .lacks
     (subst (Ready p (s .place) (s .holder) (s .instance)) (s .holds)
     (d .right (s .place) (s .left) (s .visited) .ready (s .holder) (s .instance) (s .there)))
 
+-- such a run comes to no number
+abbrev pub Jams : Program → List Record → List ℕ → Type 0
+Jams p rs es = run p (begin p rs) es ≡ jammed
+
 -- the table without a record is right
-no-record : (b : Stmts) → TableRight (program b .params) []
+pub no-record : (b : Stmts) → TableRight (program b .params) []
 unfolding HeldTable References TableRight
 no-record b = ((omega arith, tt), tt)
 
@@ -59,7 +62,7 @@ Fails n p rs es = Counts p × (program-number p ≡ n) × TableRight (p .params)
 -- Refused with 8 -----------------------------------------------------------------
 
 -- p1 := not 1: the null instance's not finds the Int that its push put there
-pub stuck-8 : Stuck (program negated) [] (0 ∷ 0 ∷ [])
+pub stuck-8 : Lacks (program negated) [] (0 ∷ 0 ∷ [])
 unfolding running onward act-on after
 stuck-8 = record {
   place = after (program negated) 2 (begin (program negated) []) (0 ∷ 0 ∷ []);
@@ -78,7 +81,6 @@ stuck-8 = record {
   rest = n-this ∷ n-wr 0 1 ∷ [];
   holds = refl;
   lacks = λ (x, (χ, e), f). apart x χ e (f .0);
-  jams = refl;
 }
   where
     top : List Tagged → Ty
@@ -88,15 +90,19 @@ stuck-8 = record {
     apart : (x : Tagged) (χ : List Tagged) → tagged int (int-val (pos 1)) ∷ [] ≡ x ∷ χ → x .by ≡ bool → ⊥
     apart x χ e f = let q : int ≡ x .by = ap top e in let z : _≡_ {A = ℕ} 0 1 = cc in omega arith
 
+pub jams-8 : Jams (program negated) [] (0 ∷ 0 ∷ [])
+unfolding running
+jams-8 = refl
+
 -- it is refused with 8, and demand 3 fails of that run
 pub fails-8 : Fails wrong-types (program negated) [] (0 ∷ 0 ∷ [])
 unfolding running
-fails-8 = (refused-8 .0 .0, refl, no-record negated, stuck-refutes stuck-8)
+fails-8 = (refused-8 .0 .0, refl, no-record negated, lacks-refutes stuck-8)
 
 -- Refused with 7 -----------------------------------------------------------------
 
 -- if false { Int l := 1 }; p0 := l: the null instance's rd of the local finds no value
-pub stuck-7 : Stuck (program outlived) [] (0 ∷ 0 ∷ 0 ∷ 0 ∷ [])
+pub stuck-7 : Lacks (program outlived) [] (0 ∷ 0 ∷ 0 ∷ 0 ∷ [])
 unfolding running onward act-on after
 stuck-7 = record {
   place = after (program outlived) 4 (begin (program outlived) []) (0 ∷ 0 ∷ 0 ∷ 0 ∷ []);
@@ -115,10 +121,13 @@ stuck-7 = record {
   rest = n-this ∷ n-wr 0 0 ∷ [];
   holds = refl;
   lacks = λ n. List·Memᴰ·not-nil (n .3 .0);
-  jams = refl;
 }
+
+pub jams-7 : Jams (program outlived) [] (0 ∷ 0 ∷ 0 ∷ 0 ∷ [])
+unfolding running
+jams-7 = refl
 
 -- it is refused with 7, and demand 3 fails of that run
 pub fails-7 : Fails wrong-names (program outlived) [] (0 ∷ 0 ∷ 0 ∷ 0 ∷ [])
 unfolding running
-fails-7 = (refused-7 .0 .0, refl, no-record outlived, stuck-refutes stuck-7)
+fails-7 = (refused-7 .0 .0, refl, no-record outlived, lacks-refutes stuck-7)

@@ -30,7 +30,7 @@ module _ (p : Program) {is js : List Instance} (k : Keeps is js) where
     has = g .has;
     place = g .place;
     way = g .way;
-    wrote = g .wrote;
+    kept = g .kept;
     stacked = each-map (fits-kept k) (g .place .stack) (i .stack) (g .stacked);
     own = g .own;
     locals = λ x h. let (v, e, o) = g .locals x h in (v, e, of-kept k (body-local (g .body) x int) v o);

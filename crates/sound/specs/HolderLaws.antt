@@ -6,7 +6,8 @@ use mathlib.Core.List.{List, [], _∷_}
 use lib.ListN.{getElem?}
 use Rattle.commands.specs.Noted.{Note}
 use Rattle.machine.specs.Machine.{Instance, Machine}
-use Rattle.run.specs.Turns.{chosen, holders}
+use Rattle.run.specs.Turns.{chosen}
+use Rattle.run.specs.Holders.{holders}
 use Rattle.run.specs.TurnLaws.{chosen-holds as chosen-busy}
 
 holds-some : (c : List Note) → (c ≡ [] → ⊥) → (n : Note) × (d : List Note) × (c ≡ n ∷ d)

@@ -6,7 +6,7 @@ use mathlib.Core.Bool.{true}
 use mathlib.Core.Option.{some}
 use mathlib.Core.List.{List, [], _∷_, List·Memᴰ}
 use lib.ListN.{length, getElem?}
-use Rattle.types.specs.Limits.{first-local}
+use Rattle.types.specs.Limits.{first-local, max-locals}
 use Rattle.types.specs.Types.{Ty, Ty.int}
 use Rattle.types.specs.Values.{Val, Val.label}
 use Rattle.program.specs.Tree.{Stmts, Program}
@@ -16,6 +16,7 @@ use Rattle.table.specs.Table.{Each}
 use Rattle.machine.specs.Published.{Sched, Sched.done, Sched.start, Sched.start-in, Sched.fixpoint, Sched.active, Env, Env.env, lookup, structs}
 use Rattle.machine.specs.Machine.{Tagged, Instance, Machine}
 use Rattle.commands.specs.Tags.{Tags, Way, at-start}
+use Rattle.commands.specs.Living.{alive, lives-at, Among}
 use Rattle.sound.specs.Needs.{Of}
 
 -- of a type in both senses
@@ -24,7 +25,7 @@ Fits is t x = (x .by ≡ t) × (Of is t (x .is))
 
 -- an environment with these parameter types and a slot for each local
 abbrev pub Fitted : List Instance → List Ty → Env → Type 0
-Fitted is ts (env ps ls) = (Each (Of is) ts ps) × (length ls ≡ first-local)
+Fitted is ts (env ps ls) = (Each (Of is) ts ps) × (length ls ≡ max-locals)
 
 -- instance l stands at a place that its step's commands lead to; after a push this its own label is on top; each local written
 -- in this passage holds a value of its type
@@ -34,7 +35,8 @@ pub record Passage (p : Program) (is : List Instance) (l : ℕ) (i : Instance) :
   pub has : step-of p (i .struct) name ≡ some body
   pub place : Tags
   pub way : Way (context p (i .struct) body) (noted (context p (i .struct) body) body) at-start (i .code) place
-  pub wrote : i .written ≡ place .written
+  -- the living locals are written
+  pub kept : Among (alive (lives-at (context p (i .struct) body) body (i .code))) (i .written)
   pub stacked : Each (Fits is) (place .stack) (i .stack)
   pub own : place .fresh ≡ true → (x : Tagged) × (χ : List Tagged) × (i .stack ≡ x ∷ χ) × (x .is ≡ label l)
   pub locals : (x : ℕ) → List·Memᴰ x (i .written)

@@ -30,6 +30,6 @@ pub mod NeverStuckLaws
 pub mod TabledLaws
 pub mod TableKept
 pub mod ExhibitTurns
+pub mod ExhibitLacks
 pub mod ExhibitAccepted
 pub mod ExhibitLocals
-pub mod Statements

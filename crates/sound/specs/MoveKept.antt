@@ -1,28 +1,31 @@
--- A move of a schedule that is not empty keeps the invariant, or meets the condition of 36; it never lacks a rule.
-use Prim.Native.Nat.{ℕ, suc, _≤_}
+-- A move of a schedule that is not empty keeps the invariant, or is refused with 36; it never lacks a rule.
+use Prim.Native.Nat.{ℕ, suc, _-_, _≤_}
 use native.Mathlib.Omega.{arith}
-use mathlib.Core.Path.{_≡_, refl, _∙_}
+use mathlib.Core.Path.{_≡_, refl, ap, _∙_}
 use mathlib.Core.Bool.{Bool, true, false, false≢true}
 use mathlib.Core.Option.{Option, none, some}
 use mathlib.Core.List.{List, [], _∷_, map, List·Memᴰ·not-nil}
 use lib.ListN.{length}
 use lib.Dec.{ltb, eqb}
-use borrow.Author.Tests.{ltb-false}
 use Rattle.types.specs.Limits.{max-stability}
 use Rattle.program.specs.Tree.{Stmts, Program}
 use Rattle.machine.specs.Published.{Sched, Sched.done, Sched.start, Sched.start-in, Sched.fixpoint, Sched.active, before}
-use Rattle.machine.specs.Machine.{Instance, machine, Out.next, Out.refused, nested, given, started, started-in, repeat, move-by}
+use Rattle.machine.specs.Machine.{Instance, Machine, machine, Out.next, Out.refused, Out.stuck, given, started, started-in, repeat, move-by, move}
+use Rattle.machine.specs.Stops.{nested}
 use Rattle.commands.specs.Tags.{at-start, Way.start as begins}
 use Rattle.sound.specs.Invariant.{Place.passing, GoodInst, GoodAll, Unbegun, Open, Open.open-start, Open.open-start-in, Open.open-fix, Open.open-active}
 use Rattle.sound.specs.Keeps.{Keeps}
 use Rattle.sound.specs.ElemLaws.{at-map, map-at}
 use Rattle.sound.specs.GoodLaws.{inst-kept}
 use Rattle.sound.specs.Advance.{Kept}
-use Rattle.commands.specs.Context.{step-of}
+use Rattle.sound.specs.Accepted.{Firm}
+use Rattle.commands.specs.Context.{context, step-of}
+use Rattle.commands.specs.Noted.{noted}
+use Rattle.commands.specs.Living.{alive, lives-at, Among}
 
--- 36: the schedule's next item is a Fix, met with 8 stability entries
-pub data Blocked : Sched → List Bool → ℕ → Type 0 where
-  blocked : {f s : Sched} {b : List Bool} → max-stability ≤ length b → Blocked (fixpoint f s) b nested
+-- the number of a move
+abbrev pub Blocked : ℕ → Type 0
+Blocked n = n ≡ nested
 
 -- Schedules ----------------------------------------------------------------------
 
@@ -70,11 +73,16 @@ good-map p f s h is a = record {
     keeps : Keeps is (map f is)
     keeps = record { at = λ l i e. (f i, at-map f is l i e, s i) }
 
-module _ (p : Program) (n : ℕ) where
+module _ {p : Program} (firm : Firm p) (n : ℕ) where
   given-struct : (o : Option Stmts) (i : Instance) → given p o i .struct ≡ i .struct
   unfolding given
   given-struct none i = refl
   given-struct (some b) i = refl
+
+  begins-kept : (k : ℕ) {b : Stmts} → step-of p k n ≡ some b → Among (alive (lives-at (context p k b) b (noted (context p k b) b))) []
+  begins-kept k {b} e =
+      let q : length (noted (context p k b) b) - length (noted (context p k b) b) ≡ 0 = omega arith in
+      rw q (firm .secure k n e .0)
 
   -- an instance that begins a step stands at its start
   given-good : (is : List Instance) (l : ℕ) (i : Instance) (o : Option Stmts) → step-of p (i .struct) n ≡ o → GoodInst p is l i → GoodInst p is l (given p o i)
@@ -88,7 +96,7 @@ module _ (p : Program) (n : ℕ) where
       has = e;
       place = at-start;
       way = begins;
-      wrote = refl;
+      kept = begins-kept (i .struct) e;
       stacked = tt;
       own = λ q. absurd (false≢true q);
       locals = λ x h. absurd (List·Memᴰ·not-nil h);
@@ -120,20 +128,26 @@ module _ (p : Program) (n : ℕ) where
         go true = started-good is l i g
         go false = g
 
--- a move keeps the invariant, or meets the condition of 36
-pub move-kept : (p : Program) (s : Sched) (is : List Instance) (b : List Bool) → GoodAll p is → Open s (length b) → (s ≡ done → ⊥)
-    → Kept p (Blocked s b) (move-by p s is b)
+-- a move keeps the invariant, or is refused with 36
+pub move-kept : {p : Program} → Firm p → (s : Sched) (is : List Instance) (b : List Bool) → GoodAll p is → Open s (length b) → (s ≡ done → ⊥)
+    → Kept p Blocked (move-by p s is b)
 unfolding move-by repeat
-move-kept p done is b a o h = absurd (h refl)
-move-kept p (start n s) is b a o h = record { all = good-map p (started p n) (started-struct p n) (started-good p n) is a; opened = past-start o }
-move-kept p (start-in k n s) is b a o h =
-    record { all = good-map p (started-in p k n) (started-in-struct p n k) (started-in-good p n k) is a; opened = past-start-in o }
-move-kept p (fixpoint f s) is b a o h = go (ltb (length b) max-stability) refl
+move-kept firm done is b a o h = absurd (h refl)
+move-kept {p} firm (start n s) is b a o h = record { all = good-map p (started p n) (started-struct firm n) (started-good firm n) is a; opened = past-start o }
+move-kept {p} firm (start-in k n s) is b a o h =
+    record { all = good-map p (started-in p k n) (started-in-struct firm n k) (started-in-good firm n k) is a; opened = past-start-in o }
+move-kept {p} firm (fixpoint f s) is b a o h = go (ltb (length b) max-stability) refl
   where
     go : (t : Bool) → ltb (length b) max-stability ≡ t
-        → Kept p (Blocked (fixpoint f s) b) (elim t [ true ↦ next (machine (before f (active f s)) is (true ∷ b)) | false ↦ refused nested ])
+        → Kept p Blocked (elim t [ true ↦ next (machine (before f (active f s)) is (true ∷ b)) | false ↦ refused nested ])
     go true e = let (u, r) = past-fix o in record { all = a; opened = open-before f u (open-active u r) }
-    go false e = blocked (ltb-false (length b) max-stability e)
-move-kept p (active f s) is [] a o h = absurd (active-open o)
-move-kept p (active f s) is (true ∷ b) a o h = record { all = a; opened = past-active o .1 }
-move-kept p (active f s) is (false ∷ b) a o h = let (u, r) = past-active o in record { all = a; opened = open-before f u (open-active u r) }
+    go false e = refl
+move-kept firm (active f s) is [] a o h = absurd (active-open o)
+move-kept firm (active f s) is (true ∷ b) a o h = record { all = a; opened = past-active o .1 }
+move-kept firm (active f s) is (false ∷ b) a o h = let (u, r) = past-active o in record { all = a; opened = open-before f u (open-active u r) }
+
+-- no move leads on from an empty schedule
+pub done-stops : (p : Program) (m : Machine) {z : Machine} → m .sched ≡ done → move p m ≡ next z → ⊥
+unfolding move-by
+done-stops p m s e =
+    let q : move p m ≡ stuck = ap (λ s. move-by p s (m .instances) (m .stability)) s in let z : _≡_ {A = ℕ} 0 1 = cc in omega arith

@@ -1,9 +1,7 @@
 -- Every run of an accepted program is never stuck: from any machine with the invariant, and so from a right table
 -- (01, 'The words of demand 3').
 use Prim.Native.Nat.{ℕ}
-use native.Mathlib.Omega.{arith}
 use mathlib.Core.Path.{_≡_, refl, sym, subst}
-use mathlib.Core.Bool.{Bool}
 use mathlib.Core.Logic.{_↔_, _⊎_, inl, inr}
 use mathlib.Core.Option.{some}
 use mathlib.Core.List.{List, [], _∷_}
@@ -11,28 +9,32 @@ use lib.ListN.{drop, getElem?}
 use Rattle.program.specs.Tree.{Program}
 use Rattle.commands.specs.Bounds.{program-depth}
 use Rattle.table.specs.Table.{Record, TableRight}
-use Rattle.machine.specs.Published.{Sched, Sched.done}
+use Rattle.machine.specs.Published.{Sched.done, State}
+use Rattle.machine.specs.Represents.{Represents}
 use Rattle.machine.specs.Machine.{Instance, Machine, command, move}
-use Rattle.run.specs.Turns.{holders, chosen}
+use Rattle.run.specs.Turns.{chosen}
+use Rattle.run.specs.Holders.{holders}
 use Rattle.run.specs.Run.{Outcome, Outcome.stopped, Outcome.jammed, later, run}
 use Rattle.run.specs.Settles.{Ran, Ran.ends, Ran.refuses, Ran.sticks, Ran.moves as moved, Ran.lasts, Ran.fails, Ran.jams, Ran.takes as took}
 use Rattle.run.specs.FuelLaws.{run-ran}
 use Rattle.run.specs.Visits.{Visits, Visits.here, Visits.moves, Visits.takes}
 use Rattle.run.specs.VisitLaws.{one-way}
+use Rattle.run.specs.RunAgrees.{run-follows}
 use Rattle.run.specs.RunAgreesVisits.{run-visits, run-turns}
+use Rattle.run.specs.HaltLaws.{runs-halts}
 use Rattle.run.specs.Begin.{table-of}
-use Rattle.run.specs.Initial.{Comes}
-use Rattle.run.specs.BeginLaws.{outcome-exact}
+use Rattle.run.specs.Initial.{initial, Comes}
+use Rattle.run.specs.BeginLaws.{begin-represents, outcome-exact}
 use Rattle.sound.specs.Needs.{Right}
 use Rattle.sound.specs.Invariant.{Good}
 use Rattle.sound.specs.Accepted.{Accepted, Firm}
 use Rattle.sound.specs.AcceptedLaws.{accepted-firm}
 use Rattle.sound.specs.ReadyLaws.{good-right}
-use Rattle.sound.specs.Conditions.{Meets, Condition, Condition.at-end, Condition.at-33, Condition.at-command, Condition.at-36}
-use Rattle.sound.specs.ConditionLaws.{condition-one, condition-last, done-stuck, done-stops}
+use Rattle.sound.specs.Conditions.{Condition}
+use Rattle.sound.specs.ConditionLaws.{condition-one, condition-last}
 use Rattle.sound.specs.Advance.{Kept}
-use Rattle.sound.specs.CommandKept.{command-kept}
-use Rattle.sound.specs.MoveKept.{Blocked, Blocked.blocked, move-kept}
+use Rattle.sound.specs.CommandKept.{Refused, command-kept}
+use Rattle.sound.specs.MoveKept.{Blocked, move-kept, done-stops}
 use Rattle.sound.specs.BeginGood.{begin-good}
 use Rattle.sound.specs.HolderLaws.{chosen-holds}
 use Rattle.sound.specs.NeverStuck.{NeverStuck, Demand3}
@@ -40,13 +42,13 @@ use Rattle.sound.specs.NeverStuck.{NeverStuck, Demand3}
 -- The machines of a run --------------------------------------------------------------
 
 module _ {p : Program} (firm : Firm p) where
-  -- a schedule move keeps the invariant, or meets the condition of 36
-  moved-kept : {m : Machine} → Good p m → (m .sched ≡ done → ⊥) → Kept p (Blocked (m .sched) (m .stability)) (move p m)
-  moved-kept {m} g d = move-kept p (m .sched) (m .instances) (m .stability) (g .all) (g .opened) d
+  -- a schedule move keeps the invariant, or is refused with 36
+  moved-kept : {m : Machine} → Good p m → (m .sched ≡ done → ⊥) → Kept p Blocked (move p m)
+  moved-kept {m} g d = move-kept firm (m .sched) (m .instances) (m .stability) (g .all) (g .opened) d
 
-  -- the command of the instance that a byte picks keeps it, or meets the condition of 34 or 35
+  -- the command of the instance that a byte picks keeps it, or is refused with 34 or 35
   taken-kept : {m : Machine} {h : ℕ} {hs : List ℕ} (e : ℕ) → Good p m → holders m ≡ h ∷ hs
-      → (i : Instance) × (getElem? (m .instances) (chosen (h ∷ hs) e) ≡ some i) × (Kept p (Meets m i) (command p (chosen (h ∷ hs) e) m))
+      → (i : Instance) × (getElem? (m .instances) (chosen (h ∷ hs) e) ≡ some i) × (Kept p Refused (command p (chosen (h ∷ hs) e) m))
   taken-kept {m} {h} {hs} e g q =
       let (i, n, c, a, d) = chosen-holds m h hs e q in
       (i, a, command-kept firm g (chosen (h ∷ hs) e) i a n c d)
@@ -55,8 +57,8 @@ module _ {p : Program} (firm : Firm p) where
   pub visits-good : {m z : Machine} {es fs : List ℕ} → Good p m → Visits p m es z fs → Good p z
   visits-good g here = g
   visits-good g (moves {m = m} h e v) =
-      visits-good (subst (Kept p (Blocked (m .sched) (m .stability))) e (moved-kept g (λ s. done-stops p m s e))) v
-  visits-good g (takes {m = m} {e = e} h q v) = let (i, a, k) = taken-kept e g h in visits-good (subst (Kept p (Meets m i)) q k) v
+      visits-good (subst (Kept p Blocked) e (moved-kept g (λ s. done-stops p m s e))) v
+  visits-good g (takes {m = m} {e = e} h q v) = let (i, a, k) = taken-kept e g h in visits-good (subst (Kept p Refused) q k) v
 
   -- and is right
   pub visits-right : {m z : Machine} {es fs : List ℕ} → Good p m → Visits p m es z fs → Right p (program-depth p) z
@@ -64,33 +66,28 @@ module _ {p : Program} (firm : Firm p) where
 
 -- The whole run ---------------------------------------------------------------------
 
-blocked-at : {m : Machine} {s : Sched} {b : List Bool} {n : ℕ} → Blocked s b n → m .sched ≡ s → m .stability ≡ b → holders m ≡ [] → (es : List ℕ) → Condition m es n
-blocked-at (blocked h) s b q es = at-36 q s (rw b h)
+-- an outcome is a number
+abbrev Ends : Outcome → Type 0
+Ends (stopped n t z) = Unit {0}
+Ends jammed = ⊥
 
--- an outcome is a number at its condition
-abbrev Ends : List ℕ → Outcome → Type 0
-Ends es (stopped n t z) = Condition z (drop t es) n
-Ends es jammed = ⊥
-
-ends-later : (e : ℕ) (es : List ℕ) (o : Outcome) → Ends es o → Ends (e ∷ es) (later o)
+ends-later : (o : Outcome) → Ends o → Ends (later o)
 unfolding later
-ends-later e es (stopped n t z) c = c
-ends-later e es jammed c = c
+ends-later (stopped n t z) c = c
+ends-later jammed c = c
 
 module _ {p : Program} (firm : Firm p) where
   -- so is that of every run from a machine with the invariant
-  ran-ends : {m : Machine} {es : List ℕ} {o : Outcome} → Good p m → Ran p m es o → Ends es o
-  ran-ends g (ends h d) = at-end h d
-  ran-ends {m} {es} g (refuses h q) =
-      let open-move = moved-kept firm g (λ s. let w = done-stuck p m s in let z : _≡_ {A = ℕ} 0 1 = cc in omega arith) in
-      blocked-at (subst (Kept p (Blocked (m .sched) (m .stability))) q open-move) refl refl h es
-  ran-ends {m} g (sticks h d q) = absurd (subst (Kept p (Blocked (m .sched) (m .stability))) q (moved-kept firm g d))
+  ran-ends : {m : Machine} {es : List ℕ} {o : Outcome} → Good p m → Ran p m es o → Ends o
+  ran-ends g (ends h d) = tt
+  ran-ends g (refuses h q) = tt
+  ran-ends {m} g (sticks h d q) = absurd (subst (Kept p Blocked) q (moved-kept firm g d))
   ran-ends g (moved h q r) = ran-ends (visits-good firm g (moves h q (here {es = []}))) r
-  ran-ends g (lasts h) = at-33 h refl
-  ran-ends {m} g (fails {e = e} h q) = let (i, a, k) = taken-kept firm e g h in at-command h refl a (subst (Kept p (Meets m i)) q k)
-  ran-ends {m} g (jams {e = e} h q) = let (i, a, k) = taken-kept firm e g h in absurd (subst (Kept p (Meets m i)) q k)
+  ran-ends g (lasts h) = tt
+  ran-ends g (fails h q) = tt
+  ran-ends {m} g (jams {e = e} h q) = let (i, a, k) = taken-kept firm e g h in absurd (subst (Kept p Refused) q k)
   ran-ends g (took {e = e} {es = es} {o = o} h q r w) =
-      rw w (ends-later e es o (ran-ends (visits-good firm g (takes {e = e} h q (here {es = []}))) r))
+      rw w (ends-later o (ran-ends (visits-good firm g (takes {e = e} h q (here {es = []}))) r))
 
 -- where a condition holds at a machine of a run, every machine of it leads there, and no condition holds at another
 module _ {p : Program} {m z : Machine} {es gs : List ℕ} {n : ℕ} (at : Visits p m es z gs) (c : Condition z gs n) where
@@ -103,18 +100,20 @@ module _ {p : Program} {m z : Machine} {es gs : List ℕ} {n : ℕ} (at : Visits
 
   only-last : (w : Machine) (fs : List ℕ) → Visits p m es w fs → (k : ℕ) → Condition w fs k ↔ ((w ≡ z) × (fs ≡ gs) × (k ≡ n))
   only-last w fs v k = (
-    λ d. let (a, b) = condition-last d (leads-last w fs v) in (sym a, sym b, condition-one (rw (← a, ← b) at d) c),
+    λ d. let (a, b) = condition-last d (leads-last w fs v) in (sym a, sym b, condition-one p (rw (← a, ← b) at d) c),
     λ (a, b, q). rw (a, b, q) c,
   )
 
 module _ {p : Program} (firm : Firm p) where
   -- a run of a program with firm ground under it, from any machine with the invariant, is never stuck
-  firm-never-stuck : {m : Machine} → Good p m → (es : List ℕ) → NeverStuck p m es
-  firm-never-stuck {m} g es = go (run p m es) refl (ran-ends firm g (run-ran p es m))
+  firm-never-stuck : {m : Machine} → Good p m → (st : State) → Represents m st → (es : List ℕ) → NeverStuck p m es
+  firm-never-stuck {m} g st R es = go (run p m es) refl (ran-ends firm g (run-ran p es m))
     where
-      go : (o : Outcome) → run p m es ≡ o → Ends es o → NeverStuck p m es
-      go (stopped n t z) e c =
+      go : (o : Outcome) → run p m es ≡ o → Ends o → NeverStuck p m es
+      go (stopped n t z) e s =
           let at = run-visits p m es e .0 in
+          let (st′, r, Q) = run-follows p m st es R e in
+          let c : Condition z (drop t es) n = (st′, Q, runs-halts p r) in
           record {
             number = n;
             turns = t;
@@ -129,13 +128,13 @@ module _ {p : Program} (firm : Firm p) where
           }
       go jammed e s = absurd s
 
--- a run of an accepted program from any machine with the invariant is never stuck
-pub never-stuck : {p : Program} → Accepted p → {m : Machine} → Good p m → (es : List ℕ) → NeverStuck p m es
-never-stuck a g es = firm-never-stuck (accepted-firm a) g es
+-- a run of an accepted program from any machine with the invariant that stands for a state is never stuck
+pub never-stuck : {p : Program} → Accepted p → {m : Machine} → Good p m → (st : State) → Represents m st → (es : List ℕ) → NeverStuck p m es
+never-stuck a g st R es = firm-never-stuck (accepted-firm a) g st R es
 
 -- Demand 3: so is one on a right table, whatever the turn bytes
 pub demand3 : {p : Program} → Accepted p → (rs : List Record) → TableRight (p .params) rs → (es : List ℕ) → Demand3 p rs es
-demand3 {p} a rs t es = never-stuck a (begin-good p (a .0) rs t) es
+demand3 {p} a rs t es = never-stuck a (begin-good p (a .0) rs t) (initial p rs) (begin-represents p rs) es
 
 -- so the published rules come to a number, turns and a last table
 pub demand3-comes : (p : Program) (rs : List Record) (es : List ℕ) → Demand3 p rs es → (n : ℕ) × (t : ℕ) × (rs′ : List Record) × Comes p rs es n t rs′

@@ -14,13 +14,12 @@ use Rattle.types.specs.Types.{Ty, Ty.bool, Ty.ref}
 use Rattle.types.specs.Values.{Val, Val.bool-val, Val.label}
 use Rattle.program.specs.Tree.{Op, Program}
 use Rattle.commands.specs.Noted.{Note}
-use Rattle.commands.specs.Typing.{sort}
 use Rattle.words.specs.Apply.{apply}
 use Rattle.machine.specs.Rules.{meet}
 use Rattle.machine.specs.Published.{lookup, structs, arity}
-use Rattle.machine.specs.Machine.{Tagged, tagged, Instance, Machine, with-code, with-instances, with-stability, put, Out.next, Out.refused, full, read-from, read-at, read, write-to, write-parameter, write-at, write, negate, branch, operated, operate, construct}
+use Rattle.machine.specs.Machine.{Tagged, tagged, Source, Source.result, given-by, Instance, Machine, with-code, with-instances, with-stability, put, Out.next, Out.refused, read-from, read-at, read, write-to, write-parameter, write-at, write, negate, branch, operated, operate, construct}
+use Rattle.machine.specs.Stops.{full}
 use Rattle.run.specs.Begin.{resting}
-use Rattle.commands.specs.Tags.{result-type}
 
 module _ (p : Program) (m : Machine) (l : ℕ) (i : Instance) (c : List Note) {χ ψ : List Tagged} where
   -- not, with a truth on top
@@ -36,16 +35,16 @@ module _ (p : Program) (m : Machine) (l : ℕ) (i : Instance) (c : List Note) {�
 
   -- an operator, with two values on top
   pub operates : (o : Op) {x y : Tagged} → ψ ≡ y ∷ x ∷ χ
-      → operate p m l i o c ψ ≡ operated p m l i c χ (result-type (sort o) (x .by)) (apply o (x .is) (y .is))
+      → operate p m l i o c ψ ≡ operated p m l i c χ (result o (x .by)) (apply o (x .is) (y .is))
   unfolding operate
   operates o s = rw s
 
   -- rd, with the label of an instance on top whose variable has a value
-  pub has-read : (v : ℕ) (t : Ty) {u : Ty} {r : ℕ} {j : Instance} {x : Val} → ψ ≡ tagged u (label r) ∷ χ → getElem? (m .instances) r ≡ some j
+  pub has-read : (v : ℕ) (f : ℕ → Source) {u : Ty} {r : ℕ} {j : Instance} {x : Val} → ψ ≡ tagged u (label r) ∷ χ → getElem? (m .instances) r ≡ some j
       → lookup (j .env) v ≡ some x
-      → read p m l i c ψ v t ≡ next (put m l (with-code i c (tagged t x ∷ χ)))
+      → read p m l i c ψ v f ≡ next (put m l (with-code i c (tagged (given-by p (f (j .struct))) x ∷ χ)))
   unfolding read read-at read-from
-  has-read v t s a b = rw (s, a, b)
+  has-read v f s a b = rw (s, a, b)
 
   module _ (v : ℕ) {u : Ty} {r : ℕ} {x : Tagged} {j : Instance} (s : ψ ≡ tagged u (label r) ∷ x ∷ χ) (a : getElem? (m .instances) r ≡ some j) where
     -- a parameter of a null instance
@@ -81,9 +80,11 @@ module _ (p : Program) (m : Machine) (l : ℕ) (i : Instance) (c : List Note) (k
   constructs h =
       let d : drop (arity p k) ψ ≡ χ = rw s (drop-at ξ χ (arity p k) q) in
       let t : take (arity p k) ψ ≡ ξ = rw s (take-at ξ χ (arity p k) q) in
-      rw (construct, enough, h, d, t)
+      rw (construct, h, enough, d, t)
 
-  -- and none
-  pub finds-full : ltb (length (m .instances)) max-instances ≡ false → construct p m l i k c ψ ≡ refused full
-  unfolding construct
-  finds-full h = rw (construct, enough, h)
+-- cons where no label is free
+pub finds-full : (p : Program) (m : Machine) (l : ℕ) (i : Instance) (c : List Note) (k : ℕ) (χ : List Tagged)
+    → ltb (length (m .instances)) max-instances ≡ false
+    → construct p m l i k c χ ≡ refused full
+unfolding construct
+finds-full p m l i c k χ h = rw (construct, h)

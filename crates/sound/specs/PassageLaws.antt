@@ -9,14 +9,18 @@ use Rattle.types.specs.Types.{Ty, Ty.int}
 use Rattle.types.specs.Values.{Val, Val.label}
 use Rattle.program.specs.Tree.{Program}
 use Rattle.commands.specs.Context.{Ctx, body-local, context}
-use Rattle.commands.specs.Noted.{Note, noted}
+use Rattle.commands.specs.Noted.{Note, noted, now-written}
 use Rattle.table.specs.Table.{Each}
 use Rattle.machine.specs.Published.{structs, lookup}
 use Rattle.machine.specs.Machine.{Tagged, Instance}
-use Rattle.commands.specs.Tags.{Top, Asks, Way, at-start}
+use Rattle.commands.specs.Tags.{Tags, tags, Top, Asks, jump, Way, at-start}
 use Rattle.sound.specs.Needs.{Of}
 use Rattle.sound.specs.Invariant.{Fits, Passage}
-use Rattle.commands.specs.SafeLaws.{ready, way-safe}
+use lib.ListN.{drop}
+use Rattle.commands.specs.Living.{alive, lives, lives-at, beside, Among}
+use Rattle.commands.specs.SecureLaws.{secure-safe, now-more}
+use Rattle.commands.specs.SecureWays.{Behind, behind, beside-on, beside-over, way-short, way-secure}
+use Rattle.commands.specs.SafeLaws.{ready}
 use Rattle.sound.specs.EachLaws.{each-uncons, each-split}
 use Rattle.sound.specs.Sized.{Sized}
 use Rattle.sound.specs.SizedLaws.{sized-first, way-sized}
@@ -26,6 +30,14 @@ module _ {p : Program} {is : List Instance} {l : ℕ} {i : Instance} (g : Passag
   -- its step's context
   abbrev pub ctx : Ctx
   ctx = context p (i .struct) (g .body)
+
+  -- what put each value on its stack, with the locals written
+  abbrev pub here : Tags
+  here = tags (g .place .stack) (i .written) (g .place .fresh)
+
+  -- behind the command n, with the commands c left, the living locals are written
+  abbrev pub Living-on : Note → List Note → Type 0
+  Living-on n c = Among (alive (lives-at ctx (g .body) c)) (now-written n (i .written))
 
   -- these types on top, and those beneath
   pub tops : (ts : List Ty) (h : Top ts (g .place))
@@ -50,9 +62,9 @@ module _ {p : Program} {is : List Instance} {l : ℕ} {i : Instance} (g : Passag
   own-top f x χ e = let (y, ψ, q, h) = g .own f in cc
 
   -- a local that is written holds a value of its type
-  pub local-value : (x : ℕ) → List·Memᴰ x (g .place .written)
+  pub local-value : (x : ℕ) → List·Memᴰ x (i .written)
       → (v : Val) × (lookup (i .env) (first-local + x) ≡ some v) × (Of is (body-local (g .body) x int) v)
-  local-value x h = g .locals x (rw (g .wrote) h)
+  local-value x h = g .locals x h
 
   module _ (firm : Firm p) (n : Note) (c : List Note) (e : i .code ≡ n ∷ c) where
     -- the way to its next command
@@ -60,8 +72,22 @@ module _ {p : Program} {is : List Instance} {l : ℕ} {i : Instance} (g : Passag
     way-at = rw e at (g .way)
 
     -- which finds what it asks for
-    pub asks : Asks ctx n (g .place)
-    asks = ready (way-safe (firm .safe (i .struct) (g .name) (g .has)) way-at)
+    pub asks : Asks ctx n here
+    asks = ready (secure-safe (way-secure (firm .secure (i .struct) (g .name) (g .has) .1) way-at) (rw e at (g .kept)))
+
+    -- on either way behind it the living locals are written
+    left : Behind ctx n c (beside (noted ctx (g .body)) (lives (g .body)) (n ∷ c)) (g .place .stack)
+    left = behind (way-secure (firm .secure (i .struct) (g .name) (g .has) .1) way-at)
+
+    pub kept-next : Living-on n c
+    kept-next x m =
+        now-more n (rw e at (g .kept)) x
+        (left .grown x (rw (beside-on (noted ctx (g .body)) (lives (g .body)) n c (way-short way-at)) m))
+
+    pub kept-past : Living-on n (drop (jump n) c)
+    kept-past x m =
+        now-more n (rw e at (g .kept)) x
+        (left .grown-over x (rw (beside-over (noted ctx (g .body)) (lives (g .body)) n c (way-short way-at) (left .within)) m))
 
     -- and carries what is in its range
     pub next-sized : Sized (structs p) n

@@ -17,11 +17,11 @@ use Rattle.sound.specs.Needs.{Needs, Ready, Typed-params, Right}
 use Rattle.sound.specs.Invariant.{Fits, Fitted, Passage, Place, Place.resting, Place.passing, Good}
 use Rattle.sound.specs.EachLaws.{each-length, each-reverse}
 use Rattle.sound.specs.Accepted.{Firm}
-use Rattle.sound.specs.PassageLaws.{ctx, tops, top-one, top-two, own-top, local-value, asks}
+use Rattle.sound.specs.PassageLaws.{ctx, here, tops, top-one, top-two, own-top, local-value, asks}
 
 module _ {p : Program} (m : Machine) {l : ℕ} {i : Instance} (g : Passage p (m .instances) l i) where
   -- what commands ask is what they need
-  asked : (n : Note) → Asks (ctx g) n (g .place) → Needs p m l i n
+  asked : (n : Note) → Asks (ctx g) n (here g) → Needs p m l i n
   asked (n-push t v) a = tt
   asked n-this a = tt
   asked n-not a = let (x, χ, e, f, r) = top-one g bool a in (x, (χ, e), f)
@@ -38,14 +38,14 @@ module _ {p : Program} (m : Machine) {l : ℕ} {i : Instance} (g : Passage p (m 
   asked (n-get t v) a =
       let (x, χ, e, f, r) = top-one g (ref (i .struct)) (a .3) in
       let (w, q, o) = local-value g v (a .2) in
-      (x, (χ, e), (f .0, own-top g (a .0) x χ e), (rw (g .wrote) (a .2), w, q, rw (a .1) o))
+      (x, (χ, e), (f .0, own-top g (a .0) x χ e), (a .2, w, q, rw (a .1) o))
   asked (n-set true t v) a =
       let (y, x, χ, e, f, f′, r) = top-two g (ref (i .struct)) t (a .2) in
       (x, y, (χ, e), (f .0, own-top g (a .0) y (x ∷ χ) e), f′)
   asked (n-set false t v) a =
       let (y, x, χ, e, f, f′, r) = top-two g (ref (i .struct)) t (a .3) in
       let (w, q, o) = local-value g v (a .2) in
-      (x, y, (χ, e), (f .0, own-top g (a .0) y (x ∷ χ) e), f′, (rw (g .wrote) (a .2), w, q, rw (a .1) o))
+      (x, y, (χ, e), (f .0, own-top g (a .0) y (x ∷ χ) e), f′, (a .2, w, q, rw (a .1) o))
 
 module _ {p : Program} (firm : Firm p) (m : Machine) (l : ℕ) (i : Instance) where
   is-ready : Place p (m .instances) l i → (c : List Note) → i .code ≡ c → Ready p m l i c

@@ -3,7 +3,7 @@ use Prim.Native.Nat.{ℕ, _<_}
 use mathlib.Core.Bool.{Bool}
 use mathlib.Core.List.{List, [], _∷_}
 use lib.IntN.{ℤ}
-use Rattle.types.specs.Limits.{nat-end, first-local}
+use Rattle.types.specs.Limits.{nat-end, max-locals}
 use Rattle.types.specs.Types.{Ty, Ty.int, Ty.nat, Ty.bool, Ty.ref}
 use Rattle.types.specs.Values.{Val, Val.int-val, Val.nat-val, Val.bool-val, Val.label, IntRange}
 use Rattle.commands.specs.Noted.{Note, Note.n-push, Note.n-this, Note.n-not, Note.n-rd, Note.n-wr, Note.n-get, Note.n-set, Note.n-cons, Note.n-op, Note.n-if}
@@ -23,7 +23,7 @@ Sized S n-not = Unit {0}
 Sized S (n-rd k x) = Unit {0}
 Sized S (n-wr k x) = Unit {0}
 Sized S (n-get t x) = Unit {0}
-Sized S (n-set d t x) = x < first-local
+Sized S (n-set d t x) = x < max-locals
 Sized S (n-cons k) = k < S
 Sized S (n-op o) = Unit {0}
 Sized S (n-if n) = Unit {0}

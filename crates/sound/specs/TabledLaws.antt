@@ -19,7 +19,8 @@ use Rattle.commands.specs.Context.{params-of, step-of}
 use Rattle.commands.specs.Noted.{Note, Note.n-cons, now-written}
 use Rattle.table.specs.Table.{Record, HeldRecord, HeldTable, TableRight}
 use Rattle.machine.specs.Published.{Sched, Sched.done, Sched.start, Sched.start-in, Sched.fixpoint, Sched.active, Env, Env.env, assign, structs, before}
-use Rattle.machine.specs.Machine.{Instance, Machine, machine, Out, Out.next, Out.refused, Out.stuck, nested, with-code, with-env, with-written, update-env, given, started, started-in, repeat, move-by, command}
+use Rattle.machine.specs.Machine.{Instance, Machine, machine, Out, Out.next, Out.refused, Out.stuck, with-code, with-env, with-written, update-env, given, started, started-in, repeat, move-by, command}
+use Rattle.machine.specs.Stops.{nested}
 use Rattle.machine.specs.Performed.{Performed, Performed.pushed, Performed.pushed-this, Performed.negated, Performed.read-one, Performed.skipped, Performed.wrote, Performed.calculated, Performed.exceeding, Performed.constructed, Performed.filled, Performed.branched, Performed.no-way}
 use Rattle.machine.specs.PerformedLaws.{by-ways}
 use Rattle.run.specs.Turns.{chosen}
@@ -175,7 +176,7 @@ module _ {p : Program} (firm : Firm p) {m : Machine} (good : Good p m) (t : Tabl
       go (exceeding s a) e = tt
       go (constructed {k = k} s room) e =
           tabled-more p (own _ refl refl) _ (rw length-set room) (cons-below i e (good .all .each l i at .place))
-      go (filled s h) e = tt
+      go (filled h) e = tt
       go (branched s) e = own _ refl refl
       go no-way e = tt
 

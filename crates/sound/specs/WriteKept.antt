@@ -8,7 +8,7 @@ use mathlib.Core.Option.{some}
 use mathlib.Core.Logic.{_⊎_, inl, inr}
 use mathlib.Core.List.{List, List·Memᴰ, List·Memᴰ·cases-cons}
 use lib.ListN.{length, getD, getElem?, set}
-use Rattle.types.specs.Limits.{first-local}
+use Rattle.types.specs.Limits.{first-local, max-locals}
 use Rattle.types.specs.Types.{Ty, Ty.int}
 use Rattle.types.specs.Values.{Val}
 use Rattle.program.specs.Tree.{Program}
@@ -26,7 +26,7 @@ use Rattle.sound.specs.ElemLaws.{at-set-same, at-set-other, some-is}
 use Rattle.sound.specs.EachLaws.{each-map}
 use Rattle.sound.specs.EnvLaws.{other-kept, local-kept, local-holds, local-fitted, param-fitted}
 use Rattle.sound.specs.GoodLaws.{fitted-kept, good-set, good-env, meet-length}
-use Rattle.sound.specs.PassageLaws.{ctx}
+use Rattle.sound.specs.PassageLaws.{ctx, Living-on}
 use Rattle.sound.specs.Accepted.{Firm}
 use Rattle.sound.specs.Advance.{after, advance}
 
@@ -53,7 +53,7 @@ param-written p firm is r j k ξ s e v x h o g =
           has = w .has;
           place = w .place;
           way = w .way;
-          wrote = w .wrote;
+          kept = w .kept;
           stacked = w .stacked;
           own = w .own;
           locals = λ y m. let (u, q, t) = w .locals y m in (u, other-kept ξ v y x b ∙ ap (λ η. lookup η (first-local + y)) (sym e) ∙ q, t);
@@ -107,9 +107,10 @@ module _ {p : Program} (firm : Firm p) (m : Machine) (l : ℕ) (i : Instance) (a
         opened = rw (meet-length t (m .stability)) (good .opened);
       }
 
-  module _ (good : Good p m) (g : Passage p (m .instances) l i) (d : Bool) (t : Ty) (y : ℕ) (small : y < first-local) (same : t ≡ body-local (g .body) y int) where
+  module _ (good : Good p m) (g : Passage p (m .instances) l i) (d : Bool) (t : Ty) (y : ℕ) (small : y < max-locals) (same : t ≡ body-local (g .body) y int) where
     -- a local of the actor
     pub local-kept-good : (c : List Note) → Way (ctx g) (noted (ctx g) (g .body)) at-start c (leads (ctx g) (n-set d t y) (g .place))
+        → Living-on g (n-set d t y) c
         → (ts : List Ty) → stack-after (ctx g) (n-set d t y) (g .place .stack) ≡ ts
         → (χ : List Tagged) → Each (Fits (m .instances)) ts χ
         → (x : Val) (b : Bool) → Of (m .instances) t x
@@ -117,7 +118,7 @@ module _ {p : Program} (firm : Firm p) (m : Machine) (l : ℕ) (i : Instance) (a
         (with-stability
         (with-instances m (update-env (set (m .instances) l (after i (n-set d t y) c χ (i .env))) l (assign (i .env) (first-local + y) x)))
         (meet b (m .stability)))
-    local-kept-good c w ts q χ f x b o =
+    local-kept-good c w sf ts q χ f x b o =
         let ξ = assign (i .env) (first-local + y) x in
         let a = after i (n-set d t y) c χ ξ in
         let js = set (m .instances) l a in
@@ -129,7 +130,7 @@ module _ {p : Program} (firm : Firm p) (m : Machine) (l : ℕ) (i : Instance) (a
               (good-set p (m .instances) l i a at refl (good .all)
               (record {
                 fitted = fitted-kept p k (params-of p (i .struct)) ξ (local-fitted (m .instances) (params-of p (i .struct)) (i .env) y x fits);
-                place = passing (advance g (n-set d t y) w js ts q χ (each-map (fits-kept k) ts χ f) (λ q. absurd (false≢true q)) ξ
+                place = passing (advance g (n-set d t y) w sf js ts q χ (each-map (fits-kept k) ts χ f) (λ q. absurd (false≢true q)) ξ
                     (λ z h.
                     locals-after k (params-of p (i .struct)) (i .env) fits (λ z. body-local (g .body) z int) y small x (rw same at o) (i .written)
                     (g .locals) z (ℕ-discrete z y) (is-written d t y (i .written) z h)));

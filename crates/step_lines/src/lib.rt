@@ -69,7 +69,7 @@ fn step(
         of,
         Scope { live: 0, seen: 0 },
         at + 1,
-        8,
+        types::IF_LEVELS,
     ) else {
         return Places {
             stream: at,
@@ -173,8 +173,8 @@ pub fn program(s: &[u8], list: &[u64], out: &mut [u8], k: usize) -> usize
     ensures { λ r. ⌜ Placed (code-of program-lines (read (now (s .entry)))) (now (out .entry)) k r (now (out .exit)) ⌝ }
     ensures { λ r. ⌜ r ≤ length (now (out .entry)) ⌝ }
 {
-    let mut counts = [0u8; 16];
-    let mut types = [0u8; 128];
+    let mut counts = [0u8; types::MAX_STRUCTS];
+    let mut types = [0u8; types::MAX_STRUCTS * types::MAX_PARAMS];
     let ParamsRead::Value(at, n) = params::params(s, &mut counts, &mut types) else {
         return k;
     };

@@ -1,9 +1,16 @@
 pub mod Table
+pub mod TableFaults
 pub mod TableReader
 pub mod Sizes
 pub mod ValueLaws
+pub mod Refusing
+pub mod RefusingLaws
+pub mod FieldLaws
 pub mod TableExact
 pub mod ReferenceLaws
 pub mod TableLaws
+pub mod TableRefusing
+pub mod TableFaultLaws
+pub mod TableViable
 pub mod SizeLaws
 pub mod Rows

@@ -1,4 +1,5 @@
--- Table streams and what they come to, by computation (01, 'Table and turns'; 11 and 12 of 'Numbers from the input').
+-- Rows that pin what no law does: table streams and what they come to, by computation (01, 'Table and turns'; 11 and 12 of 'Numbers from
+-- the input').
 use Prim.Native.Nat.{ℕ}
 use mathlib.Core.Path.{_≡_, refl}
 use mathlib.Core.Bool.{true, false}
@@ -52,9 +53,8 @@ rec-P n l = rec 0 (int-val (pos n) ∷ label l ∷ [])
 
 unfoldable pub rows : List Row
 rows =
-    row P (2 ∷ 0 ∷ bytes-P 5 0 ++ bytes-P 7 1) (table (rec-P 5 0 ∷ rec-P 7 1 ∷ []))
     -- N
-    ∷ row P (0 ∷ 0 ∷ []) (table [])
+    row P (0 ∷ 0 ∷ []) (table [])
     ∷ row P [] (no-table 11)
     ∷ row P (2 ∷ []) (no-table 11)
     ∷ row bare (255 ∷ 0 ∷ replicate 255 0) (table (replicate 255 (rec 0 [])))

@@ -27,7 +27,7 @@ module _ (pss : List (List Ty)) where
   table-law s rs m = exact (table-exact pss) s rs m
 
   -- what was read, refused or judged by its references
-  of-refused : (s : List ℕ) {p k : ℕ} → whole (read-table pss) s ≡ bad p k → table-of-stream pss s ≡ no-table (table-number k)
+  pub of-refused : (s : List ℕ) {p k : ℕ} → whole (read-table pss) s ≡ bad p k → table-of-stream pss s ≡ no-table (table-number k)
   unfolding table-of-stream table-answer
   of-refused s e = rw e
 

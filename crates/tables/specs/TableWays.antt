@@ -3,7 +3,10 @@ use Prim.Native.Nat.{ℕ, _+_, _-_, _*_, _<_, _≤_}
 use native.Mathlib.Omega.{arith}
 use mathlib.Core.Path.{_≡_, refl, ap, sym, _∙_}
 use mathlib.Core.Bool.{Bool, true, false}
+use mathlib.Core.Logic.{⊎-elim}
 use mathlib.Core.List.{List, [], _∷_}
+use types.Run.{OneOf}
+use denote.Enum.Declared.{tagOf}
 use lib.ListN.{length, getD, take, drop}
 use lib.Seq.{take-at}
 use lib.Dec.{leb}
@@ -14,7 +17,9 @@ use Rattle.blocks.specs.Images.{fault, stream, read as image-read, read-into, t
 use Rattle.blocks.specs.AnswerLaws.{read-says, stream-most}
 use Rattle.blocks.specs.declared.Fault.{Fault}
 use Rattle.blocks.specs.declared.Found.the-variants.{Wrong}
+use Rattle.blocks.specs.declared.Read.{Read}
 use Rattle.blocks.specs.declared.Read.the-variants.{Stream, Refused as ImageRefused, Short as ImageShort}
+use Rattle.blocks.proofs.Read.{the-type}
 use Rattle.program.specs.Counts.{All}
 use Rattle.program.specs.Reader.{Result, Result.ok, Result.bad, then, many, guard, ended, whole}
 use Rattle.program.specs.PartLaws.{told-is}
@@ -33,7 +38,7 @@ use Rattle.tables.specs.LaidLaws.{heads-append, rows-append, nulls-lengt
 use Rattle.tables.specs.Refer.{Structs, rows-refer}
 use Rattle.tables.specs.ReferLaws.{laid-refers, laid-structs}
 use Rattle.tables.specs.Told.{word-of, count-told, RecordsLaid}
-use Rattle.tables.specs.TableTold.{behind-count, table-told, answer-of, image-answer, TableLaid}
+use Rattle.tables.specs.TableTold.{behind-count, table-told, answer-of, image-answer, image-refusal, TableLaid}
 use Rattle.tables.specs.ToldLaws.{laid-is, laid-stops}
 use Rattle.tables.specs.ValueWays.{word-in, word-out}
 
@@ -185,6 +190,13 @@ module _ (y : List ℕ) (pss : List (List Ty)) (room : ℕ) where
   -- a buffer for as many blocks as are allowed is never too short
   pub image-short : 8568 ≤ room → image-read table-blocks y room ≡ ImageShort → ⊥
   image-short l e = let h = rw e at (read-says table-blocks y room) in omega (arith, stream-most table-blocks y (h .0), h .1)
+
+  -- so an answer that is no stream refuses the image
+  pub image-unread : (q : Read) → 8568 ≤ room → image-read table-blocks y room ≡ q → OneOf (1 ∷ 2 ∷ []) (tagOf the-type q)
+      → image-answer pss y ≡ no-table (image-refusal q)
+  image-unread (Stream n) l e k = absurd (⊎-elim (λ i. omega arith) (λ i. omega arith) k)
+  image-unread (ImageRefused f) l e k = image-refused f e
+  image-unread ImageShort l e k = absurd (image-short l e)
 
   pub image-stream : (n : ℕ) → image-read table-blocks y room ≡ Stream n
       → (image-answer pss y ≡ table-of-stream pss (stream y)) × (n ≡ length (stream y)) × (n ≤ room)

@@ -19,13 +19,23 @@ ghost use Rattle.blocks.specs.Blocks.{block-size};
 ghost use Rattle.table.specs.TableReader.{table-of-stream};
 ghost use Rattle.memory.specs.Layout.{head-size, row-size};
 ghost use Rattle.tables.specs.Params.{Tables, lists-of};
-ghost use Rattle.tables.specs.TableTold.{behind-count, table-told, image-answer, TableLaid};
+ghost use Rattle.tables.specs.TableTold.{behind-count, table-told, image-refusal, image-answer, TableLaid};
 ghost use Rattle.tables.specs.Written.{Filled, memory-blocks, memory-image};
 
 // How many instances a table has, the null ones among them, with all of them in memory; or the number of a refusal, and memory anyhow.
 pub enum TableRead {
     Instances(usize),
     Refused(u8),
+}
+
+// The number of a table image that is refused; 0 where it is not.
+pub fn image_refusal(r: Read) -> u8
+    ensures { λ n. ⌜ n ≡ image-refusal r ⌝ }
+{
+    let Read::Refused(f) = r else {
+        return 0;
+    };
+    blocks::table_number(f)
 }
 
 // The n records behind their number, and the end of the stream behind them; references last.
@@ -59,7 +69,7 @@ fn behind(
     TableRead::Instances(all)
 }
 
-// A table stream, whose instances stand in memory where it is accepted.
+// A table stream, whose instances stand in memory where it is accepted. After a refusal memory is free, of the lengths that it had.
 pub fn read(
     s: &[u8],
     counts: &[u8],
@@ -79,7 +89,7 @@ pub fn read(
     behind(s, counts, types, n, heads, cells)
 }
 
-// A table image: 9 and 10, then what its stream comes to. The buffer has room for every block that is allowed.
+// A table image: 9 and 10, then what its stream comes to, memory too. The buffer has room for every block that is allowed.
 pub fn read_image(
     image: &[u8],
     counts: &[u8],
@@ -93,11 +103,11 @@ pub fn read_image(
     ensures { λ _. ⌜ TableLaid (now (counts .entry)) (now (types .entry)) (now (heads .entry)) (now (cells .entry)) (image-answer (lists-of (now (counts .entry)) (now (types .entry))) (now (image .entry))) (now (heads .exit)) (now (cells .exit)) ⌝ }
 {
     let mut buffer = [0u8; types::TABLE_BLOCKS * blocks::PAYLOAD_SIZE];
-    match blocks::read_image(image, types::TABLE_BLOCKS, &mut buffer) {
-        Read::Refused(f) => TableRead::Refused(blocks::table_number(f)),
-        Read::Short => TableRead::Refused(reading::WRONG_END),
-        Read::Stream(n) => read(&buffer[..n], counts, types, heads, cells),
-    }
+    let r = blocks::read_image(image, types::TABLE_BLOCKS, &mut buffer);
+    let Read::Stream(n) = r else {
+        return TableRead::Refused(image_refusal(r));
+    };
+    read(&buffer[..n], counts, types, heads, cells)
 }
 
 // The table of the n instances in memory, in blocks from the start of the output. How many blocks.

@@ -1,39 +1,55 @@
--- Rows of the text, computed: numbers, the forms of a command, a line of each kind.
+-- Rows that pin what no law does: each form of a command as 01 lists it ('Bench rows'). The laws say that the digits mean the numbers, and
+-- that a command's word has the command's text.
+use Prim.Native.Nat.{ℕ}
+use Prim.Native.Char.{code as code-point}
+use Prim.Native.String.{String, [] as none-left, _∷_ as _then_}
 use mathlib.Core.Path.{_≡_, refl}
-use mathlib.Core.List.{[], _∷_}
-use Rattle.commands.specs.Coding.{coded}
-use Rattle.text.specs.Listing.{digits, decimal, int-text, value-text, push-text, keyed, other-text, parts-text, text, column, line, tail, row}
+use mathlib.Core.Bool.{true, false}
+use mathlib.Core.List.{List, [], _∷_, _++_, map}
+use lib.IntN.{pos, negsuc}
+use Rattle.types.specs.Types.{Ty.int, Ty.nat, Ty.bool, Ty.ref, code}
+use Rattle.types.specs.Values.{Val.int-val, Val.nat-val, Val.bool-val, Val.label}
+use Rattle.program.specs.Tree.{Op.op-add}
+use Rattle.program.specs.Encoding.{op-code}
+use Rattle.commands.specs.Commands.{Com.push, Com.push-this, Com.rd, Com.wr, Com.cons, Com.not, Com.oper, Flat, Flat.plain, Flat.if-n}
+use Rattle.text.specs.Listing.{digits, decimal}
+use Rattle.text.specs.CommandText.{shown, command-text}
 
--- 0, 2147483647, 4294967295 and 18446744073709551615
-zero-row : decimal 0 ≡ 48 ∷ []
-unfolding digits decimal
-zero-row = refl
+-- the bytes of a text; of lines, each with its line feed
+unfoldable pub bytes : String → List ℕ
+bytes none-left = []
+bytes (c then s) = code-point c ∷ bytes s
 
-long-row : decimal 18446744073709551615 ≡ 49 ∷ 56 ∷ 52 ∷ 52 ∷ 54 ∷ 55 ∷ 52 ∷ 52 ∷ 48 ∷ 55 ∷ 51 ∷ 55 ∷ 48 ∷ 57 ∷ 53 ∷ 53 ∷ 49 ∷ 54 ∷ 49 ∷ 53 ∷ []
-unfolding digits decimal
-long-row = refl
+unfoldable pub line-bytes : List String → List ℕ
+line-bytes [] = []
+line-bytes (s ∷ ss) = bytes s ++ 10 ∷ line-bytes ss
 
--- `push 0 -2147483648`
-least-row : text (coded 1 0 2147483648) ≡ 112 ∷ 117 ∷ 115 ∷ 104 ∷ 32 ∷ 48 ∷ 32 ∷ 45 ∷ 50 ∷ 49 ∷ 52 ∷ 55 ∷ 52 ∷ 56 ∷ 51 ∷ 54 ∷ 52 ∷ 56 ∷ []
-unfolding coded digits decimal int-text value-text push-text keyed other-text parts-text text
-least-row = refl
+-- a command, and the text that lists it
+pub record Form : Type 0 where
+  pub command : Flat
+  pub text : String
 
--- `push 1 2147483648`
-nat-row : text (coded 1 1 2147483648) ≡ 112 ∷ 117 ∷ 115 ∷ 104 ∷ 32 ∷ 49 ∷ 32 ∷ 50 ∷ 49 ∷ 52 ∷ 55 ∷ 52 ∷ 56 ∷ 51 ∷ 54 ∷ 52 ∷ 56 ∷ []
-unfolding coded digits decimal int-text value-text push-text keyed other-text parts-text text
-nat-row = refl
+abbrev form : Flat → String → Form
+form c t = record { command = c; text = t }
 
--- `push 17 1`
-null-row : text (coded 1 17 1) ≡ 112 ∷ 117 ∷ 115 ∷ 104 ∷ 32 ∷ 49 ∷ 55 ∷ 32 ∷ 49 ∷ []
-unfolding coded digits decimal int-text value-text push-text keyed other-text parts-text text
-null-row = refl
+unfoldable pub forms : List Form
+forms =
+    form (plain push-this) "push this"
+    ∷ form (plain (push int (int-val (pos 2147483647)))) "push 0 2147483647"
+    ∷ form (plain (push int (int-val (negsuc 2147483647)))) "push 0 -2147483648"
+    ∷ form (plain (push nat (nat-val 4294967295))) "push 1 4294967295"
+    ∷ form (plain (push bool (bool-val true))) "push 2 1"
+    ∷ form (plain (push bool (bool-val false))) "push 2 0"
+    ∷ form (plain (push (ref 15) (label 15))) "push 31 15"
+    ∷ form (plain (rd 0)) "rd 0"
+    ∷ form (plain (wr 15)) "wr 15"
+    ∷ form (plain (oper op-add)) "op 41"
+    ∷ form (plain not) "not"
+    ∷ form (if-n 63) "if 63"
+    ∷ form (plain (cons 1)) "cons 1"
+    ∷ []
 
--- `0 0 5 op 41`
-op-row : line 0 0 5 (coded 8 0 41) ≡ 48 ∷ 32 ∷ 48 ∷ 32 ∷ 53 ∷ 32 ∷ 111 ∷ 112 ∷ 32 ∷ 52 ∷ 49 ∷ 10 ∷ []
-unfolding coded digits decimal int-text value-text push-text keyed other-text parts-text text column line
-op-row = refl
-
--- `audala 1 1 8 2`
-head-row : row (97 ∷ 117 ∷ 100 ∷ 97 ∷ 108 ∷ 97 ∷ []) (1 ∷ 1 ∷ 8 ∷ 2 ∷ []) ≡ 97 ∷ 117 ∷ 100 ∷ 97 ∷ 108 ∷ 97 ∷ 32 ∷ 49 ∷ 32 ∷ 49 ∷ 32 ∷ 56 ∷ 32 ∷ 50 ∷ 10 ∷ []
-unfolding digits decimal tail row
-head-row = refl
+-- every command has its text
+pub forms-right : map (λ f. command-text (f .command)) forms ≡ map (λ f. bytes (f .text)) forms
+unfolding forms bytes command-text shown digits decimal code op-code
+forms-right = refl

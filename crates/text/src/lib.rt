@@ -7,6 +7,9 @@ ghost use lib.ListN.{length, drop};
 ghost use Rattle.types.specs.Limits.{nat-end};
 ghost use Rattle.text.specs.Listing.{Placed, digits, decimal, push-text, value-text, keyed, other-text, text};
 
+// The byte of Int, as a word has it.
+const INT: u64 = types::INT as u64;
+
 pub(crate) fn byte(out: &mut [u8], k: usize, b: u8) -> usize
     requires { ⌜ k < length (now out) ⌝ }
     ensures { λ r. ⌜ Placed (b ∷ []) (now (out .entry)) k r (now (out .exit)) ⌝ }
@@ -73,14 +76,14 @@ fn value(out: &mut [u8], k: usize, typ: u64, v: u64) -> usize
     ensures { λ r. ⌜ Placed (value-text typ v) (now (out .entry)) k r (now (out .exit)) ⌝ }
     ensures { λ r. ⌜ r ≤ k + 21 ⌝ }
 {
-    if typ != 0 {
+    if typ != INT {
         return decimal(out, k, v);
     }
-    if v < 2147483648 {
+    if v < types::INT_HALF {
         return decimal(out, k, v);
     }
     let i = byte(out, k, 45);
-    decimal(out, i, 4294967296 - v)
+    decimal(out, i, types::NAT_END - v)
 }
 
 // `push T V`.

@@ -1,5 +1,5 @@
 -- Every number that 01 sets a bound by, once and under a name, in the order of its sections.
-use Prim.Native.Nat.{ℕ}
+use Prim.Native.Nat.{ℕ, _-_}
 
 -- 01, 'Program stream' ---------------------------------------------------------
 
@@ -36,6 +36,9 @@ first-local = 8
 
 abbrev pub variables : ℕ
 variables = 16
+
+abbrev pub max-locals : ℕ
+max-locals = variables - first-local
 
 abbrev pub max-path : ℕ
 max-path = 4

@@ -99,7 +99,8 @@ fn rest(s: &[u8], ar: &[u8], types: &[u8], structs: u8, at: usize) -> ProgramRea
     end(s, &has, structs, at, t, m)
 }
 
-// A program stream. The table has, for each struct, how many parameters it has; and 8 places with their types.
+// A program stream. The tables have, for each struct, how many parameters it has, and 8 places with their types, also where what stands behind
+// them is refused; where they are refused themselves, the tables are free, of the lengths that they had.
 pub fn program(s: &[u8], counts: &mut [u8], types: &mut [u8]) -> ProgramRead
     requires { ⌜ (length (now counts) ≡ 16) × (length (now types) ≡ 128) ⌝ }
     ensures { λ r. ⌜ r ≡ program-told (read-params (now (s .entry)) 0) (read (now (s .entry))) ⌝ }

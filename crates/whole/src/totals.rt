@@ -186,7 +186,7 @@ fn of_struct(
     steps(s, ar, types, has, k, n, t, m)
 }
 
-// The steps of n structs, from the struct k on.
+// The steps of n structs, from the struct k on. After a refusal the table of names is free, of the length that it had.
 pub fn structs(
     s: &[u8],
     ar: &[u8],

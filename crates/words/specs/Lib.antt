@@ -1,4 +1,6 @@
 pub mod Operators
+pub mod Rounding
+pub mod RoundingLaws
 pub mod Apply
 pub mod Ranges
 pub mod TestLaws

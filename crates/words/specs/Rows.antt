@@ -1,4 +1,5 @@
--- The operators at the edges of their types, as rows: both roundings, the ends of the ranges, zero divisors, order across signs (01, 'Table and turns', number 35).
+-- Rows that pin what no law does: the operators at the edges of their types, both roundings, the ends of the ranges, zero divisors, order
+-- across signs (01, 'Table and turns', number 35).
 use Prim.Native.Nat.{ℕ}
 use mathlib.Core.Bool.{Bool, true, false}
 use mathlib.Core.List.{List, [], _∷_}

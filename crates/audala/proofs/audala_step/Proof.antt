@@ -11,17 +11,33 @@ step-place-requires : tie.Need-step-place-requires
 step-place-requires c κs = search needs
 
 cast-t6 : tie.Need-cast-t6
-cast-t6 c = let a = (c .before .before .before .before .args) in
-    let f = rw (← (c .before .step-place) .ensures) at (place-fits (a .image .now) (a .list .now) (a .structure) (a .name)) in
-    omega (arith, f)
+cast-t6 c = search needs
 
 cast-t7 : tie.Need-cast-t7
-cast-t7 c = let a = (c .before .before .before .before .before .args) in
-    let f = rw (← (c .before .before .step-place) .ensures) at (place-fits (a .image .now) (a .list .now) (a .structure) (a .name)) in
+cast-t7 c =
+    let args = c .before .before .before .before .before .args in
+    let step-place = c .before .before .step-place in
+    let f = rw (← step-place .ensures) at (place-fits (args .image .now) (args .list .now) (args .structure) (args .name)) in
+    omega (arith, f)
+
+cast-t8 : tie.Need-cast-t8
+cast-t8 c =
+    let args = c .before .before .before .before .before .before .args in
+    let step-place = c .before .before .before .step-place in
+    let f = rw (← step-place .ensures) at (place-fits (args .image .now) (args .list .now) (args .structure) (args .name)) in
     omega (arith, f)
 
 returns : tie.Need-returns
-returns c = ap exported-part ((c .before .before .step-place) .ensures)
+returns c =
+    let step-place = c .before .before .before .step-place in
+    ap exported-part (step-place .ensures)
 
 pub audala-step-spec : {M : Type 1} → statement M
-audala-step-spec = tie.close (tie.spec step-place-requires cast-t6 cast-t7 returns)
+audala-step-spec =
+    tie.close
+    (tie.spec
+    step-place-requires
+    cast-t6
+    cast-t7
+    cast-t8
+    returns)

@@ -7,76 +7,60 @@ use native.Mathlib.Omega.{arith}
 use Rattle.blocks.proofs.read_image.Statement.{statement}
 use Rattle.blocks.proofs.read_image.Tie as tie
 
-image-fault-requires : tie.Need-image-fault-requires
-image-fault-requires c κs = search needs
+-- the places that proofs look back to
+abbrev start : tie.After-image-fault → tie.Start
+start c = c .before .before .before
 
-enum-known-f : tie.Need-enum-known-f
-enum-known-f c = search needs
+abbrev start₂ : tie.After-enum-told → tie.Start
+start₂ c = start (c .before .before)
+
+abbrev at-image-fault : tie.Else1 → tie.After-image-fault
+at-image-fault c = c .before .before .before .before
+
+abbrev at-image-fault₂ : tie.After-join-arg → tie.After-image-fault
+at-image-fault₂ c = at-image-fault (c .before)
 
 returns : tie.Need-returns
 unfolding read-into
 returns c =
-    let args = c .before .before .before .before .before .before .args in
-    let image-fault = c .before .before .before .image-fault in
-    let f = c .before .f in
-    (read-refused _ (args .image .now) _ _ (sym (image-fault .ensures) ∙ f .given .1), refl)
-
-enum-told : tie.Need-enum-told
-enum-told c = search needs
+    let at-image-fault′ = c .before .before .before in let args = start at-image-fault′ .args in
+    (read-refused _ (args .image .now) _ _ (sym (at-image-fault′ .image-fault .ensures) ∙ c .before .f .given .1), refl)
 
 stream-length-requires : tie.Need-stream-length-requires
 stream-length-requires c κs =
-    let args = c .before .before .before .before .before .args in
-    let image-fault = c .before .before .image-fault in
-    let ok = accepted (args .max) (args .image .now) (sym (image-fault .ensures) ∙ c .enum-told .given .1) in
+    let at-image-fault′ = c .before .before in let args = start₂ c .args in
+    let ok = accepted (args .max) (args .image .now) (sym (at-image-fault′ .image-fault .ensures) ∙ c .enum-told .given .1) in
     ((ok .0, ok .1), ok .2)
 
 returns-2 : tie.Need-returns-2
 unfolding read-into stream
 returns-2 c =
-    let args = c .before .before .before .before .before .before .before .args in
-    let image-fault = c .before .before .before .before .image-fault in
-    let enum-told = c .before .before .enum-told in
-    let stream-length = c .before .stream-length in
-    let x = args .image .now in
-    (read-short (args .max) x _ _ (sym (image-fault .ensures) ∙ enum-told .given .1) (stream-length .ensures) (c .if1 .taken), refl)
+    let at-enum-told = c .before .before in let at-image-fault′ = at-enum-told .before .before in
+    let args = start₂ at-enum-told .args in let x = args .image .now in (
+      read-short (args .max) x _ _ (sym (at-image-fault′ .image-fault .ensures) ∙ at-enum-told .enum-told .given .1)
+          (c .before .stream-length .ensures) (c .if1 .taken),
+      refl,
+    )
 
 join-requires : tie.Need-join-requires
 join-requires c κs =
-    let args = c .before .before .before .before .before .before .before .before .args in
-    let image-fault = c .before .before .before .before .before .image-fault in
-    let enum-told = c .before .before .before .enum-told in
-    let stream-length = c .before .before .stream-length in
-    let ok = accepted (args .max) (args .image .now) (sym (image-fault .ensures) ∙ enum-told .given .1) in
-    (ok .0, (ok .2, omega (arith, stream-length .ensures)))
-
-same-length : tie.Need-same-length
-same-length c = c .before .before .join .kept .1 .1 .0
+    let at-stream-length = c .before .before in let args = start₂ (at-stream-length .before) .args in
+    let ok = accepted (args .max) (args .image .now) (sym (at-image-fault₂ c .image-fault .ensures) ∙ at-stream-length .before .enum-told .given .1) in
+    (ok .0, (ok .2, omega (arith, at-stream-length .stream-length .ensures)))
 
 returns-3 : tie.Need-returns-3
 unfolding stream
 returns-3 c =
-    let args = c .before .before .before .before .before .before .before .before .before .before .before .args in
-    let image-fault = c .before .before .before .before .before .before .before .before .image-fault in
-    let enum-told = c .before .before .before .before .before .before .enum-told in
-    let stream-length = c .before .before .before .before .before .stream-length in
-    let if1 = c .before .before .before .before .if1 in
-    let join = c .before .before .join in
+    let at-join = c .before .before in let at-if1 = at-join .before .before in
+    let at-enum-told = at-if1 .before .before in let args = start₂ at-enum-told .args in
     let x = args .image .now in (
-      read-done (args .max) x _ _ (sym (image-fault .ensures) ∙ enum-told .given .1) (stream-length .ensures) (if1 .left),
-      join .ensures ∙ read-after x (args .buffer .now) _ (stream-length .ensures),
+      read-done (args .max) x _ _ (sym (at-image-fault at-if1 .image-fault .ensures) ∙ at-enum-told .enum-told .given .1)
+          (at-if1 .before .stream-length .ensures) (at-if1 .if1 .left),
+      at-join .join .ensures ∙ read-after x (args .buffer .now) _ (at-if1 .before .stream-length .ensures),
     )
 
 pub read-image-spec : {M : Type 1} → statement M
 read-image-spec =
     tie.close
-    (tie.spec
-    image-fault-requires
-    enum-known-f
-    returns
-    enum-told
-    stream-length-requires
-    returns-2
-    join-requires
-    same-length
-    returns-3)
+    (tie.spec (λ c κs. search needs) (λ c. search needs) returns (λ c. search needs) stream-length-requires returns-2 join-requires
+    (λ c. c .before .before .join .kept .1 .1 .0) returns-3)

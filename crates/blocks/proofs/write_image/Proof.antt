@@ -8,56 +8,31 @@ use native.Mathlib.Omega.{arith}
 use Rattle.blocks.proofs.write_image.Statement.{statement}
 use Rattle.blocks.proofs.write_image.Tie as tie
 
-stream-right-requires : tie.Need-stream-right-requires
-stream-right-requires c κs = search needs
-
 returns : tie.Need-returns
 unfolding written-into
 returns c = (write-refused _ _ _ _ (c .before .stream-right .ensures) (not-true _ (c .if1 .taken)), refl)
 
-add-n : tie.Need-add-n
-add-n c = omega (arith, right-stream _ _ _ (c .before .stream-right .ensures) (not-false _ (c .if1 .left)))
-
-mul-if2 : tie.Need-mul-if2
-mul-if2 c = omega (arith, right-stream _ _ _ (c .before .stream-right .ensures) (not-false _ (c .if1 .left)))
-
 returns-2 : tie.Need-returns-2
 unfolding written-into
-returns-2 c =
-    let stream-right = c .before .before .stream-right in
-    let if1 = c .before .if1 in
-    (write-short _ _ _ _ (stream-right .ensures) (not-false _ (if1 .left)) (c .if2 .taken), refl)
+returns-2 c = (write-short _ _ _ _ (c .before .before .stream-right .ensures) (not-false _ (c .before .if1 .left)) (c .if2 .taken), refl)
 
 put-blocks-requires : tie.Need-put-blocks-requires
 put-blocks-requires c κs =
-    let stream-right = c .before .before .before .stream-right in
-    let if1 = c .before .before .if1 in
-    omega (arith, right-stream _ _ _ (stream-right .ensures) (not-false _ (if1 .left)))
-
-same-length : tie.Need-same-length
-same-length c = c .before .before .put-blocks .kept .1 .1 .0
+    omega (arith, right-stream _ _ _ (c .before .before .before .stream-right .ensures) (not-false _ (c .before .before .if1 .left)))
 
 returns-3 : tie.Need-returns-3
 unfolding image
 returns-3 c =
-    let args = c .before .before .before .before .before .before .before .before .before .args in
-    let stream-right = c .before .before .before .before .before .before .stream-right in
-    let if1 = c .before .before .before .before .before .if1 in
-    let if2 = c .before .before .before .before .if2 in
-    let put-blocks = c .before .before .put-blocks in (
-      write-done _ _ _ _ (stream-right .ensures) (not-false _ (if1 .left)) (if2 .left),
-      put-blocks .ensures ∙ write-after (args .stream .now) (args .out .now),
+    let at-put-blocks = c .before .before in let at-if2 = at-put-blocks .before .before in
+    let at-stream-right = at-if2 .before .before in
+    let args = at-stream-right .before .before .before .args in (
+      write-done _ _ _ _ (at-stream-right .stream-right .ensures) (not-false _ (at-if2 .before .if1 .left)) (at-if2 .if2 .left),
+      at-put-blocks .put-blocks .ensures ∙ write-after (args .stream .now) (args .out .now),
     )
 
 pub write-image-spec : {M : Type 1} → statement M
 write-image-spec =
     tie.close
-    (tie.spec
-    stream-right-requires
-    returns
-    add-n
-    mul-if2
-    returns-2
-    put-blocks-requires
-    same-length
-    returns-3)
+    (tie.spec (λ c κs. search needs) returns (λ c. omega (arith, right-stream _ _ _ (c .before .stream-right .ensures) (not-false _ (c .if1 .left))))
+    (λ c. omega (arith, right-stream _ _ _ (c .before .stream-right .ensures) (not-false _ (c .if1 .left)))) returns-2 put-blocks-requires
+    (λ c. c .before .before .put-blocks .kept .1 .1 .0) returns-3)

@@ -1,4 +1,4 @@
--- `check` meets its contract: the image is refused, or its stream is checked. The buffer is never too short.
+-- `check` meets its contract: the image is refused, or its stream is checked.
 use native.Mathlib.Omega.{arith}
 use mathlib.Core.Path.{_≡_, sym, ap, _∙_}
 use lib.ListN.{take, length-replicate}
@@ -6,7 +6,7 @@ use lib.Seq.{length-take-le}
 use Rattle.blocks.specs.Images.{stream}
 use Rattle.run.specs.Entry.{checked, check-verdict, check-list}
 use Rattle.checker.specs.Answer.{answer}
-use Rattle.checker.specs.CheckLaws.{refused-answers, image-refused, image-short, image-stream, image-front}
+use Rattle.checker.specs.CheckLaws.{refused-answers, image-unread, image-stream, image-front}
 use borrow.Author.Needs.{needs}
 use Rattle.checker.proofs.check.Statement.{statement}
 use Rattle.checker.proofs.check.Tie as tie
@@ -17,55 +17,61 @@ slice-aggregate-read-image c = search needs
 read-image-requires : tie.Need-read-image-requires
 read-image-requires c κs = search needs
 
-enum-known-f : tie.Need-enum-known-f
-enum-known-f c = search needs
+enum-known-r : tie.Need-enum-known-r
+enum-known-r c = search needs
 
-program-number-requires : tie.Need-program-number-requires
-program-number-requires c κs = search needs
+image-refusal-requires : tie.Need-image-refusal-requires
+image-refusal-requires c κs = search needs
 
 refused-requires : tie.Need-refused-requires
 refused-requires c κs = search needs
 
-enum-told : tie.Need-enum-told
-enum-told c = search needs
-
-refused-requires-2 : tie.Need-refused-requires-2
-refused-requires-2 c κs = search needs
-
-enum-known-n : tie.Need-enum-known-n
-enum-known-n c = search needs
+returns : tie.Need-returns
+unfolding check-verdict check-list
+returns c =
+    let args = c .before .before .before .before .before .before .before .before .args in
+    let read-image = c .before .before .before .before .read-image in
+    let match = c .before .before .match in
+    let image-refusal = c .before .image-refusal in
+    let refused = c .refused in
+    let x = args .image .now in
+    let unread = image-unread x (read-image .result) _ (simp length-replicate (omega arith)) (sym (read-image .ensures .0)) (match .keys2) in
+    let w = refused-answers (checked x) _ (args .list .now) unread in
+    ((rw (image-refusal .ensures) at (refused .ensures)) ∙ ap answer (w .0), w .1)
 
 array-share-prefix-buffer : tie.Need-array-share-prefix-buffer
-array-share-prefix-buffer c = let x = (c .before .before .before .before .before .before .before .before .args) .image .now in
-    let h = image-stream x _ _ (sym ((c .before .before .before .before .read-image) .ensures .0) ∙ (c .before .n) .given .1) in omega (arith, h .2, (c .before .before .before .before .read-image) .kept .1 .1 .0)
+array-share-prefix-buffer c =
+    let args = c .before .before .before .before .before .before .before .before .args in
+    let read-image = c .before .before .before .before .read-image in
+    let r = c .before .r in
+    let h = image-stream (args .image .now) _ _ (sym (read-image .ensures .0) ∙ r .given .1) in
+    omega (arith, h .2, read-image .kept .1 .1 .0)
 
 slice-aggregate-stream : tie.Need-slice-aggregate-stream
-slice-aggregate-stream c = let x = (c .before .before .before .before .before .before .before .before .before .args) .image .now in
-    let h = image-stream x _ _ (sym ((c .before .before .before .before .before .read-image) .ensures .0) ∙ (c .before .before .n) .given .1) in sym (length-take-le _ _ (omega (arith, h .2, (c .before .before .before .before .before .read-image) .kept .1 .1 .0)))
+slice-aggregate-stream c =
+    let args = c .before .before .before .before .before .before .before .before .before .args in
+    let read-image = c .before .before .before .before .before .read-image in
+    let r = c .before .before .r in
+    let h = image-stream (args .image .now) _ _ (sym (read-image .ensures .0) ∙ r .given .1) in
+    sym (length-take-le _ _ (omega (arith, h .2, read-image .kept .1 .1 .0)))
 
 stream-requires : tie.Need-stream-requires
 stream-requires c κs = search needs
 
-returns : tie.Need-returns
-unfolding check-verdict check-list
-returns c = let a = (c .before .before .before .before .before .before .before .before .before .before .args) in
-    let x = a .image .now in
-    let w = refused-answers (checked x) _ (a .list .now) (image-refused x _ _ (sym ((c .before .before .before .before .before .before .read-image) .ensures .0) ∙ (c .before .before .before .f) .given .1)) in
-    ((rw ((c .before .program-number) .ensures) at ((c .refused) .ensures)) ∙ ap answer (w .0), w .1)
-
-returns-2 : tie.Need-returns-2
-returns-2 c = absurd (image-short ((c .before .before .before .before .before .before .before .before .args) .image .now) _ (simp length-replicate (omega arith)) (sym ((c .before .before .before .before .read-image) .ensures .0) ∙ (c .before .enum-told) .given .1))
-
 same-length : tie.Need-same-length
 same-length c = search needs
 
-returns-3 : tie.Need-returns-3
+returns-2 : tie.Need-returns-2
 unfolding check-verdict check-list
-returns-3 c = let a = (c .before .before .before .before .before .before .before .before .before .before .before .before .before .args) in
-    let x = a .image .now in
-    let h = image-stream x _ _ (sym ((c .before .before .before .before .before .before .before .before .before .read-image) .ensures .0) ∙ (c .before .before .before .before .before .before .n) .given .1) in
-    let f : take ((c .before .before .before .before .before .before .n) .given .0 .0) ((c .before .before .before .before .before .before .before .before .before .read-image) .last .1 .1 .0) ≡ stream x = rw ((c .before .before .before .before .before .before .before .before .before .read-image) .ensures .1, (c .before .before .before .before .before .before .n) .given .1) (image-front x _ _ (h .1)) in
-    (rw (f, ← h .0) at ((c .before .before .stream) .ensures .0), rw (f, ← h .0) at ((c .before .before .stream) .ensures .1))
+returns-2 c =
+    let args = c .before .before .before .before .before .before .before .before .before .before .before .before .before .args in
+    let read-image = c .before .before .before .before .before .before .before .before .before .read-image in
+    let r = c .before .before .before .before .before .before .r in
+    let told = c .before .before .stream in
+    let x = args .image .now in
+    let h = image-stream x _ _ (sym (read-image .ensures .0) ∙ r .given .1) in
+    let f : take (r .given .0 .0) (read-image .last .1 .1 .0) ≡ stream x = rw (read-image .ensures .1, r .given .1) (image-front x _ _ (h .1)) in
+    (rw (f, ← h .0) at (told .ensures .0), rw (f, ← h .0) at (told .ensures .1))
 
 pub check-spec : {M : Type 1} → statement M
 check-spec =
@@ -73,16 +79,12 @@ check-spec =
     (tie.spec
     slice-aggregate-read-image
     read-image-requires
-    enum-known-f
-    program-number-requires
+    enum-known-r
+    image-refusal-requires
     refused-requires
-    enum-told
-    refused-requires-2
-    enum-known-n
+    returns
     array-share-prefix-buffer
     slice-aggregate-stream
     stream-requires
-    returns
-    returns-2
     same-length
-    returns-3)
+    returns-2)

@@ -16,7 +16,10 @@ none-requires c κs = search needs
 
 structs-requires : tie.Need-structs-requires
 unfolding no-totals
-structs-requires c κs = let p = (c .before .before .before .before .before .pre) in ((p .0, refl, omega (arith, p .1)), (rw ((c .none) .ensures) (omega arith), p .2))
+structs-requires c κs =
+    let pre = c .before .before .before .before .before .pre in
+    let zero = c .none in
+    ((pre .0, refl, omega (arith, pre .1)), (rw (zero .ensures) (omega arith), pre .2))
 
 enum-known-r : tie.Need-enum-known-r
 enum-known-r c = search needs
@@ -24,18 +27,31 @@ enum-known-r c = search needs
 enum-told : tie.Need-enum-told
 enum-told c = search needs
 
-nowhere-requires : tie.Need-nowhere-requires
-nowhere-requires c κs = search needs
+behind-requires : tie.Need-behind-requires
+behind-requires c κs = search needs
 
 returns : tie.Need-returns
 unfolding no-totals
-returns c = let a = (c .before .before .before .before .before .before .before .before .before .before .args) in
-    let none = ap (λ (t : Totals). t .commands) ((c .before .before .before .before .before .none) .ensures) in
-    walk-on (a .ar .now) (a .types .now) (a .s .now) (a .k) (a .name) (a .at) _ none _ (sym ((c .before .before .before .before .structs) .ensures .0 .0) ∙ (c .before .enum-told) .given .1) _
+returns c =
+    let args = c .before .before .before .before .before .before .before .before .before .before .args in
+    let zero = c .before .before .before .before .before .none in
+    let structs = c .before .before .before .before .structs in
+    let stopped = c .before .enum-told in
+    let none = ap (λ (t : Totals). t .commands) (zero .ensures) in
+    walk-on (args .ar .now) (args .types .now) (args .s .now) (args .k) (args .name) (args .at) _ none _
+    (sym (structs .ensures .0 .0) ∙ stopped .given .1) _
+
+behind-requires-2 : tie.Need-behind-requires-2
+behind-requires-2 c κs = search needs
 
 of-struct-requires : tie.Need-of-struct-requires
-of-struct-requires c κs = let p = (c .before .before .before .before .before .before .before .before .before .before .pre) in
-    let b = rw ((c .before .r) .given .1) at ((c .before .before .before .before .structs) .ensures .1) in (p .0, p .1, b .0 .1)
+of-struct-requires c κs =
+    let pre = c .before .before .before .before .before .before .before .before .before .before .before .pre in
+    let structs = c .before .before .before .before .before .structs in
+    let r = c .before .before .r in
+    let start = c .behind2 in
+    let b = rw (r .given .1) at (structs .ensures .1) in
+    (pre .0, pre .1, rw (start .ensures) (b .0 .1))
 
 enum-known-q : tie.Need-enum-known-q
 enum-known-q c = search needs
@@ -43,20 +59,36 @@ enum-known-q c = search needs
 enum-told-2 : tie.Need-enum-told-2
 enum-told-2 c = search needs
 
-nowhere-requires-2 : tie.Need-nowhere-requires-2
-nowhere-requires-2 c κs = search needs
+behind-requires-3 : tie.Need-behind-requires-3
+behind-requires-3 c κs = search needs
 
 returns-2 : tie.Need-returns-2
 unfolding no-totals
-returns-2 c = let a = (c .before .before .before .before .before .before .before .before .before .before .before .before .before .before .args) in
-    let none = ap (λ (t : Totals). t .commands) ((c .before .before .before .before .before .before .before .before .before .none) .ensures) in
-    walk-through (a .ar .now) (a .types .now) (a .s .now) (a .k) (a .name) (a .at) _ none _ _ (sym ((c .before .before .before .before .before .before .before .before .structs) .ensures .0 .0) ∙ (c .before .before .before .before .before .r) .given .1) _ (sym ((c .before .before .before .of-struct) .ensures) ∙ (c .before .enum-told2) .given .1) _
+returns-2 c =
+    let args = c .before .before .before .before .before .before .before .before .before .before .before .before .before .before .before .args in
+    let zero = c .before .before .before .before .before .before .before .before .before .before .none in
+    let structs = c .before .before .before .before .before .before .before .before .before .structs in
+    let r = c .before .before .before .before .before .before .r in
+    let start = c .before .before .before .before .behind2 in
+    let of-struct = c .before .before .before .of-struct in
+    let stopped = c .before .enum-told2 in
+    let none = ap (λ (t : Totals). t .commands) (zero .ensures) in
+    walk-through (args .ar .now) (args .types .now) (args .s .now) (args .k) (args .name) (args .at) _ none _ _
+    (sym (structs .ensures .0 .0) ∙ r .given .1) _ (sym (rw (start .ensures) at (of-struct .ensures)) ∙ stopped .given .1) _
 
 returns-3 : tie.Need-returns-3
 unfolding no-totals
-returns-3 c = let a = (c .before .before .before .before .before .before .before .before .before .before .before .before .before .before .args) in
-    let none = ap (λ (t : Totals). t .commands) ((c .before .before .before .before .before .before .before .before .before .none) .ensures) in
-    walk-found (a .ar .now) (a .types .now) (a .s .now) (a .k) (a .name) (a .at) _ none _ _ (sym ((c .before .before .before .before .before .before .before .before .structs) .ensures .0 .0) ∙ (c .before .before .before .before .before .r) .given .1) _ _ (sym ((c .before .before .before .of-struct) .ensures) ∙ (c .before .q) .given .1)
+returns-3 c =
+    let args = c .before .before .before .before .before .before .before .before .before .before .before .before .before .before .before .args in
+    let zero = c .before .before .before .before .before .before .before .before .before .before .none in
+    let structs = c .before .before .before .before .before .before .before .before .before .structs in
+    let r = c .before .before .before .before .before .before .r in
+    let start = c .before .before .before .before .behind2 in
+    let of-struct = c .before .before .before .of-struct in
+    let q = c .before .q in
+    let none = ap (λ (t : Totals). t .commands) (zero .ensures) in
+    walk-found (args .ar .now) (args .types .now) (args .s .now) (args .k) (args .name) (args .at) _ none _ _
+    (sym (structs .ensures .0 .0) ∙ r .given .1) _ _ (sym (rw (start .ensures) at (of-struct .ensures)) ∙ q .given .1)
 
 pub walk-spec : {M : Type 1} → statement M
 walk-spec =
@@ -67,11 +99,12 @@ walk-spec =
     structs-requires
     enum-known-r
     enum-told
-    nowhere-requires
+    behind-requires
     returns
+    behind-requires-2
     of-struct-requires
     enum-known-q
     enum-told-2
-    nowhere-requires-2
+    behind-requires-3
     returns-2
     returns-3)

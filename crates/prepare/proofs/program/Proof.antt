@@ -4,25 +4,32 @@ use Rattle.prepare.proofs.program.Statement.{statement}
 use Rattle.prepare.proofs.program.Tie as tie
 use Rattle.prepare.specs.PreparedLaws.{structs-few, steps-ready, codes-ready, prepared}
 
+-- the places that proofs look back to
+abbrev start : tie.After-slice-known2 → tie.Start
+start c = c .before .before .before .before
+
+abbrev at-program : tie.After-slice-known5 → tie.After-program
+at-program c = c .before .before .before .before
+
+abbrev at-program₂ : tie.After-schedule-arg → tie.After-program
+at-program₂ c = at-program (c .before)
+
+abbrev start₂ : tie.After-schedule-arg → tie.Start
+start₂ c = start (at-program₂ c .before .before .before .before)
+
 program-requires : tie.Need-program-requires
-program-requires c κs = (steps-ready (c .before .before .before .before .before .before .before .pre), ((c .before .before .before .before .before .before .before .pre) .spans-long, structs-few (c .before .before .before .before .before .before .before .pre)))
-
-schedule-requires : tie.Need-schedule-requires
-schedule-requires c κs = codes-ready (c .before .before .before .before .before .before .before .before .before .before .before .before .before .pre) ((c .before .before .before .before .before .program) .ensures .0)
-
-same-length : tie.Need-same-length
-same-length c = search needs
-
-same-length-2 : tie.Need-same-length-2
-same-length-2 c = search needs
-
-same-length-3 : tie.Need-same-length-3
-same-length-3 c = search needs
+program-requires c κs =
+    let start′ = start (c .before .before .before) in
+    (steps-ready (start′ .pre), (start′ .pre .spans-long, structs-few (start′ .pre)))
 
 returns : tie.Need-returns
-returns c = let w = (c .before .before .before .before .before .before .before .before .program) .ensures in prepared (c .before .before .before .before .before .before .before .before .before .before .before .before .before .before .before .before .pre) (w .0) (w .1 .0) (w .1 .1) ((c .before .before .schedule) .ensures .1)
+returns c =
+    let at-schedule = c .before .before in let at-program′ = at-program₂ (at-schedule .before) in
+    let w = at-program′ .program .ensures in
+    prepared (start₂ (at-schedule .before) .pre) (w .0) (w .1 .0) (w .1 .1) (at-schedule .schedule .ensures .1)
 
 pub program-spec : {M : Type 1} → statement M
 program-spec =
     tie.close
-    (tie.spec program-requires schedule-requires same-length same-length-2 same-length-3 returns)
+    (tie.spec program-requires (λ c κs. codes-ready (start₂ c .pre) (at-program₂ c .program .ensures .0)) (λ c. search needs) (λ c. search needs)
+    (λ c. search needs) returns)

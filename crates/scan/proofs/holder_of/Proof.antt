@@ -16,9 +16,11 @@ use prog.Wp.{Heap, Calls, Loops, WpFn, Tables}
 use ghost.Atoms.{Atoms, sem}
 use contract.Monad.{Fun, fact}
 use contract.Running.{givenOf, tables, tablesOf}
-use types.Kit.{Given, ‵, raw, _⊛_, ⋆, some, later, _$_, _∵_, !, qed, by, move, keep, drop, use1, use2, split, join, pick, rewrite, fsplit, fjoin, fpick, fpack, suffices, frame, await, done}
+use types.Kit.{Given, ‵, raw, _⊛_, ⋆, some, later, _$_, _∵_, !, qed, by, move, keep, drop, use1, use2, split, join, pick, rewrite, fsplit, fjoin}
+use types.Kit.{fpick, fpack, suffices, frame, await, done}
 use types.Part.{agg}
-use types.Run.{look, init, forget, stop, from, load, lit, addr, of-opd, assigns, and-then, no-more, land, returns, enter, alloc1, alloc0, params1, pass1, pass0, free1, free0}
+use types.Run.{look, init, forget, stop, from, load, lit, addr, of-opd, assigns, and-then, no-more, land, returns, enter, alloc1, alloc0, params1}
+use types.Run.{pass1, pass0, free1, free0}
 use types.Tokens.{lft-new, lft-end, lent-back}
 use sound.WpLaws.{FmC, fmOf, WpFn-mono}
 use denote.RattleType.{RattleType, owns}
@@ -80,7 +82,8 @@ module _ {M : Type 1} (𝓤 : URA M) (H : Heap 𝓤) (A : Atoms 𝓤) (mem : Mem
   abbrev Holder : Contract 𝓤
   Holder = tripleOf 𝓤 H A holder.signature (holder.spec 𝓤 H A mem run)
 
-module _ {M : Type 1} (𝓤 : URA M) (H : Heap 𝓤) (A : Atoms 𝓤) (W : Given 𝓤 H A) (mem : Memory → SProp 𝓤) (run : Routine → Fun 𝓤) (rs : List Record) (k : ℕ) (is : Is Arr rs (vals rs)) (gk : k < 2 ^ 64) where
+module _ {M : Type 1} (𝓤 : URA M) (H : Heap 𝓤) (A : Atoms 𝓤) (W : Given 𝓤 H A) (mem : Memory → SProp 𝓤) (run : Routine → Fun 𝓤) (rs : List Record)
+    (k : ℕ) (is : Is Arr rs (vals rs)) (gk : k < 2 ^ 64) where
   -- the array's one machine value
   abbrev va : Val
   va = denote.Array.arrayVal (mathlib.Core.List.map (λ x. LL.tuple-val T.the-type T′.the-laws (T.the-type .to x)) rs)
@@ -97,8 +100,10 @@ module _ {M : Type 1} (𝓤 : URA M) (H : Heap 𝓤) (A : Atoms 𝓤) (W : Given
   exits : (r : ℕ) (u : Val) → r ≡ holder-in rs k → ent 𝓤 (⋆ 𝓤 H A (‵ (usize .own r (u ∷ [])) ∷ [])) (Post u)
   exits r u q =
       qed W (‵ (usize .own r (u ∷ [])) ∷ []) ∵
-      suffices ! _ (ends-at 𝓤 H A of.ended stayed (of.clauses 𝓤 H A mem run) W ((tt, tt, tt, (rs, (k, tt)), (vals rs, (vint w64 k ∷ [], tt))), tt) u r (tt, (tt, tt)) (tt, (tt, tt))) $ says ! q $
-      nothing ! $ owned ! usize (Is usize) (uint-makes 𝓤 H A W w64) k (vint w64 k ∷ []) (refl, gk) $ fjoin ! $ owned ! Arr (Is Arr) (array-makes 𝓤 H A W R (LL.makes T.the-type T′.the-plain 𝓤 H A) 256) rs (vals rs) is $ fjoin ! $ nothing ! $ done !
+      suffices ! _ (ends-at 𝓤 H A of.ended stayed (of.clauses 𝓤 H A mem run) W ((tt, tt, tt, (rs, (k, tt)), (vals rs, (vint w64 k ∷ [], tt))), tt) u r
+      (tt, (tt, tt)) (tt, (tt, tt))) $ says ! q $
+      nothing ! $ owned ! usize (Is usize) (uint-makes 𝓤 H A W w64) k (vint w64 k ∷ []) (refl, gk) $ fjoin ! $
+      owned ! Arr (Is Arr) (array-makes 𝓤 H A W R (LL.makes T.the-type T′.the-plain 𝓤 H A) 256) rs (vals rs) is $ fjoin ! $ nothing ! $ done !
 
   -- the array in memory, with what it owns, and back
   packs : (l : ℕ) → ent 𝓤 (sem 𝓤 H A (fat fullShare arr l 0 va)) (sem 𝓤 H A (partAt Arr fullShare rs l 0))
@@ -113,7 +118,8 @@ module _ {M : Type 1} (𝓤 : URA M) (H : Heap 𝓤) (A : Atoms 𝓤) (W : Given
   unfolding partOf
   unpacks l =
       qed W (‵ (partAt Arr fullShare rs l 0) ∷ []) ∵ fpick ! (λ vs. fsplit ! $ move ! (1 ∷ []) $ peeks ! Arr (Is Arr) (shows 𝓤 H A Arr) rs vs (λ p. drop ! $
-      rewrite ! 0 (λ (us : List Val). ‵ (cellAt fullShare (arr ∷ []) us l 0)) (array-tells R (LL.vals T.the-type T′.the-laws) (LL.tells T.the-type T′.the-laws) 256 rs vs p) refl $
+      rewrite ! 0 (λ (us : List Val). ‵ (cellAt fullShare (arr ∷ []) us l 0)) (array-tells R (LL.vals T.the-type T′.the-laws)
+      (LL.tells T.the-type T′.the-laws) 256 rs vs p) refl $
       use1 W (‵ (fat fullShare arr l 0 va)) (W .laws .raw-at fullShare arr l 0 va) $ done !))
 
   -- the slice that is lent
@@ -126,33 +132,46 @@ module _ {M : Type 1} (𝓤 : URA M) (H : Heap 𝓤) (A : Atoms 𝓤) (W : Given
   abbrev to : ℕ → ℕ → GName → Holder 𝓤 H A mem run .Ghost
   to α l γ = (((α ∷ [], tt), (fullShare, tt), tt, (s l γ, (k, tt)), (v l ∷ [], (vint w64 k ∷ [], tt))), tt)
 
-  goes : (α l : ℕ) (γ : GName) → ent 𝓤 (⋆ 𝓤 H A (‵ (ShrSlice (named 0) (α ∷ []) R .own (s l γ) (v l ∷ [])) ∷ ‵ (flft (α ∷ []) fullShare) ∷ [])) (Holder 𝓤 H A mem run .pre (to α l γ))
+  goes : (α l : ℕ) (γ : GName) → ent 𝓤 (⋆ 𝓤 H A (‵ (ShrSlice (named 0) (α ∷ []) R .own (s l γ) (v l ∷ [])) ∷ ‵ (flft (α ∷ []) fullShare) ∷ []))
+      (Holder 𝓤 H A mem run .pre (to α l γ))
   goes α l γ =
       qed W (‵ (ShrSlice (named 0) (α ∷ []) R .own (s l γ) (v l ∷ [])) ∷ ‵ (flft (α ∷ []) fullShare) ∷ []) ∵
-      nothing ! $ owned ! usize (Is usize) (uint-makes 𝓤 H A W w64) k (vint w64 k ∷ []) (refl, gk) $ fjoin ! $ move ! (1 ∷ 0 ∷ []) $ fjoin ! $ nothing ! $ move ! (2 ∷ 0 ∷ []) $ join ! $ join ! $ frame ! $ done !
+      nothing ! $ owned ! usize (Is usize) (uint-makes 𝓤 H A W w64) k (vint w64 k ∷ []) (refl, gk) $ fjoin ! $ move ! (1 ∷ 0 ∷ []) $ fjoin ! $
+      nothing ! $ move ! (2 ∷ 0 ∷ []) $ join ! $ join ! $ frame ! $ done !
 
-  said : (α l : ℕ) (γ : GName) (r : ℕ) → ent 𝓤 (ensured 𝓤 H A holder.ended (holder.clauses 𝓤 H A mem run) (α ∷ [], tt) (s l γ, (k, tt)) tt r) (fact 𝓤 (r ≡ holder-in rs k))
+  said : (α l : ℕ) (γ : GName) (r : ℕ) → ent 𝓤 (ensured 𝓤 H A holder.ended (holder.clauses 𝓤 H A mem run) (α ∷ [], tt) (s l γ, (k, tt)) tt r)
+      (fact 𝓤 (r ≡ holder-in rs k))
   said α l γ r = exE 𝓤 _ (λ ws. snd∗ 𝓤 (sem 𝓤 H A (lasts holder.ended (α ∷ [], tt) (s l γ, (k, tt)) ws)) (fact 𝓤 (r ≡ holder-in rs k)))
 
   module _ (C : Calls 𝓤 H) (Λ : Loops 𝓤 H) (fm : FmC 𝓤 H (W .laws) C) (known : Triple 𝓤 (C #scan·holder) (Holder 𝓤 H A mem run)) where
     walk : ent 𝓤 (onEntry 𝓤 H A of.signature tt tt (rs, (k, tt)) (vals rs, (vint w64 k ∷ [], tt))) (WpFn 𝓤 H C Λ code.function (va ∷ vint w64 k ∷ []) Post)
     walk =
-        qed W (‵ ftrue ∷ ‵ (owns (Arr ∷ usize ∷ []) (rs, (k, tt)) (vals rs, (vint w64 k ∷ [], tt))) ∷ []) ∵ drop ! $ drop ! $ enter ! C Λ code.function (va ∷ vint w64 k ∷ []) _ $
-        alloc1 ! (λ l₀. alloc1 ! (λ l₁. alloc1 ! (λ l₂. alloc1 ! (λ l₃. alloc1 ! (λ l₄. alloc1 ! (λ l₅. alloc0 ! $ params1 ! $ pass1 ! (init ! 8 refl wt) $ pass1 ! (init ! 6 refl (tt, record { fits = gk })) $ pass0 ! $
+        qed W (‵ ftrue ∷ ‵ (owns (Arr ∷ usize ∷ []) (rs, (k, tt)) (vals rs, (vint w64 k ∷ [], tt))) ∷ []) ∵ drop ! $ drop ! $
+        enter ! C Λ code.function (va ∷ vint w64 k ∷ []) _ $
+        alloc1 ! (λ l₀. alloc1 ! (λ l₁.
+        alloc1 ! (λ l₂. alloc1 ! (λ l₃.
+        alloc1 ! (λ l₄. alloc1 ! (λ l₅. alloc0 ! $ params1 ! $ pass1 ! (init ! 8 refl wt) $ pass1 ! (init ! 6 refl (tt, record { fits = gk }))
+        $ pass0 ! $
         assigns ! (of-opd ! (load ! (from ! (stop !)) (look ! 8 refl))) (from ! (stop !)) (init ! 4 refl wt) $
         assigns ! (addr ! (from ! (stop !))) (from ! (stop !)) (init ! 2 refl (tt, tt)) $
-        assigns ! (agg ! (and-then ! (load ! (from ! (stop !)) (look ! 2 refl)) (and-then ! (lit ! tt) (no-more !)))) (from ! (stop !)) (init ! 0 refl (tt, (tt, (record { fits = lit< tt }, tt)))) $
+        assigns ! (agg ! (and-then ! (load ! (from ! (stop !)) (look ! 2 refl)) (and-then ! (lit ! tt) (no-more !)))) (from ! (stop !))
+        (init ! 0 refl (tt, (tt, (record { fits = lit< tt }, tt)))) $
         rewrite ! 0 (λ (m : ℕ). ‵ (fat fullShare slice l₅ 0 (sliceVal (l₃, 0) m))) (sym e) refl $
         -- the array is lent for a lifetime made for the call
-        move ! (4 ∷ []) $ use1 W (‵ (partAt Arr fullShare rs l₃ 0)) (packs l₃) $ use1 W (‵ (arr-parts (shares R) 256 .part fullShare rs l₃ 0)) (array-apart 𝓤 H A W R fullShare tt 256 rs l₃ 0) $
+        move ! (4 ∷ []) $ use1 W (‵ (partAt Arr fullShare rs l₃ 0)) (packs l₃) $ use1 W (‵ (arr-parts (shares R) 256 .part fullShare rs l₃ 0))
+        (array-apart 𝓤 H A W R fullShare tt 256 rs l₃ 0) $
         rewrite ! 0 (λ (m : ℕ). ‵ (arr-parts (shares R) m .part fullShare rs l₃ 0)) (sym e) refl $
         lft-new ! tt (λ α. move ! (1 ∷ []) $
-        use1 W (later (some (λ (γ : GName). ‵ (ShrSlice (named 0) (α ∷ []) R .own (s l₃ γ) (v l₃ ∷ [])) ⊛ ‵ (flent (α ∷ []) (arr-parts (shares R) (length rs) .part fullShare rs l₃ 0)))))
-        (lends-shr-slice 𝓤 H A W R (named 0) (α ∷ []) fullShare rs l₃ 0 (mathlib.Core.Path.subst (λ (m : ℕ). Room R m) (sym e) room)) $ await ! tt $ pick ! (λ γ. split ! $ move ! (0 ∷ 2 ∷ []) $
+        use1 W (later (some (λ (γ : GName). ‵ (ShrSlice (named 0) (α ∷ []) R .own (s l₃ γ) (v l₃ ∷ [])) ⊛
+        ‵ (flent (α ∷ []) (arr-parts (shares R) (length rs) .part fullShare rs l₃ 0)))))
+        (lends-shr-slice 𝓤 H A W R (named 0) (α ∷ []) fullShare rs l₃ 0 (mathlib.Core.Path.subst (λ (m : ℕ). Room R m) (sym e) room)) $ await ! tt $
+        pick ! (λ γ. split ! $ move ! (0 ∷ 2 ∷ []) $
         use2 W (raw (Holder 𝓤 H A mem run .pre (to α l₃ γ))) (goes α l₃ γ) $
         -- [what the call asks; lent; _5; ..; _4; ..; dies _3; _2; ..; _1; ..; _0; ..]
-        calls-at ! fm (Holder 𝓤 H A mem run) known (to α l₃ γ) (and-then ! (load ! (from ! (stop !)) (look ! 2 refl)) (and-then ! (load ! (from ! (stop !)) (look ! 7 refl)) (no-more !))) (λ u.
-        use1 W (later (some (λ (r : ℕ). ((‵ (flft (α ∷ []) fullShare) ⊛ ‵ ftrue) ⊛ ‵ (usize .own r (u ∷ []))) ⊛ raw (ensured 𝓤 H A holder.ended (holder.clauses 𝓤 H A mem run) (α ∷ [], tt) (s l₃ γ, (k, tt)) tt r)))) (id⊢ 𝓤 _) $ await ! tt $ pick ! (λ r.
+        calls-at ! fm (Holder 𝓤 H A mem run) known (to α l₃ γ) (and-then ! (load ! (from ! (stop !)) (look ! 2 refl))
+        (and-then ! (load ! (from ! (stop !)) (look ! 7 refl)) (no-more !))) (λ u.
+        use1 W (later (some (λ (r : ℕ). ((‵ (flft (α ∷ []) fullShare) ⊛ ‵ ftrue) ⊛ ‵ (usize .own r (u ∷ []))) ⊛ raw
+        (ensured 𝓤 H A holder.ended (holder.clauses 𝓤 H A mem run) (α ∷ [], tt) (s l₃ γ, (k, tt)) tt r)))) (id⊢ 𝓤 _) $ await ! tt $ pick ! (λ r.
         split ! $ move ! (1 ∷ []) $ use1 W (raw (fact 𝓤 (r ≡ holder-in rs k))) (said α l₃ γ r) $ heard ! (r ≡ holder-in rs k) (λ q. split ! $ move ! (1 ∷ []) $
         -- [the result; the token and true; lent; _5; ..; _4; ..; dies _3; _2; ..; _1; ..; _0; ..]
         peeks ! usize (Is usize) (shows 𝓤 H A usize) r (u ∷ []) (λ iu.
@@ -163,19 +182,25 @@ module _ {M : Type 1} (𝓤 : URA M) (H : Heap 𝓤) (A : Atoms 𝓤) (W : Given
         use1 W (‵ (partAt Arr fullShare rs l₃ 0)) (array-whole 𝓤 H A W R fullShare 256 rs l₃ 0) $ use1 W (‵ (fat fullShare arr l₃ 0 va)) (unpacks l₃) $
         -- [_3; true; the result; _5; ..; _4; ..; dies _3; _2; ..; _1; ..; _0; ..]
         returns ! (look ! 12 refl) $ forget ! 0 refl $ forget ! 3 refl $ forget ! 5 refl $ forget ! 8 refl $ forget ! 10 refl $ forget ! 12 refl $
-        move ! (12 ∷ 13 ∷ []) $ free1 ! $ move ! (10 ∷ 11 ∷ []) $ free1 ! $ move ! (8 ∷ 9 ∷ []) $ free1 ! $ move ! (0 ∷ 7 ∷ []) $ free1 ! $ move ! (4 ∷ 5 ∷ []) $ free1 ! $ move ! (2 ∷ 3 ∷ []) $ free1 ! $ free0 ! $
+        move ! (12 ∷ 13 ∷ []) $ free1 ! $ move ! (10 ∷ 11 ∷ []) $ free1 ! $ move ! (8 ∷ 9 ∷ []) $ free1 ! $ move ! (0 ∷ 7 ∷ []) $ free1 ! $
+        move ! (4 ∷ 5 ∷ []) $ free1 ! $ move ! (2 ∷ 3 ∷ []) $ free1 ! $ free0 ! $
         keep ! (1 ∷ []) $ by ! (exits r u q)))))))))))))
 
 module _ {M : Type 1} (𝓤 : URA M) (H : Heap 𝓤) (A : Atoms 𝓤) (W : Given 𝓤 H A) (mem : Memory → SProp 𝓤) (run : Routine → Fun 𝓤) where
   of-walks : (C : Calls 𝓤 H) (Λ : Loops 𝓤 H) → FmC 𝓤 H (W .laws) C → Triple 𝓤 (C #scan·holder) (Holder 𝓤 H A mem run)
       → Walks 𝓤 H A of.ended stayed (WpFn 𝓤 H C Λ code.function) (of.clauses 𝓤 H A mem run)
-  of-walks C Λ fm known = walked 𝓤 H A of.ended stayed (of.clauses 𝓤 H A mem run) (WpFn 𝓤 H C Λ code.function) (λ κs. (vals, (uint-vals w64, tt))) (λ κs. (array-tells R (LL.vals T.the-type T′.the-laws) (LL.tells T.the-type T′.the-laws) 256, (uint-tells w64, tt)))
+  of-walks C Λ fm known = walked 𝓤 H A of.ended stayed (of.clauses 𝓤 H A mem run) (WpFn 𝓤 H C Λ code.function) (λ κs. (vals, (uint-vals w64, tt)))
+      (λ κs. (array-tells R (LL.vals T.the-type T′.the-laws) (LL.tells T.the-type T′.the-laws) 256, (uint-tells w64, tt)))
       (λ κs qs bounds a g are. via 𝓤 _ (fst∗ 𝓤 _ (emp 𝓤)) (walk 𝓤 H A W mem run (a .0) (a .1 .0) (are .0) (are .1 .0 .1) C Λ fm known))
 
 of-meets : {M : Type 1} (𝓤 : URA M) (H : Heap 𝓤) (A : Atoms 𝓤) (W : Given 𝓤 H A) (mem : Memory → SProp 𝓤) (run : Routine → Fun 𝓤) (𝓣 : Tables 𝓤 H)
     → Triple 𝓤 (𝓣 .C #scan·holder) (Holder 𝓤 H A mem run)
     → Meets 𝓤 H A of.signature (WpFn 𝓤 H (𝓣 .C) (𝓣 .Λ) code.function) (of.spec 𝓤 H A mem run)
-of-meets 𝓤 H A W mem run 𝓣 known = walk-meets 𝓤 H A of.ended stayed W (goes-none 𝓤 H A W 0 (λ _. Arr) yes (λ κs x f. refl), (goes-none 𝓤 H A W 0 (λ _. usize) yes (λ κs x f. refl), tt)) (of.clauses 𝓤 H A mem run) (WpFn 𝓤 H (𝓣 .C) (𝓣 .Λ) code.function) (WpFn-mono 𝓤 H (W .laws) 𝓣 code.function)
+of-meets 𝓤 H A W mem run 𝓣 known = walk-meets 𝓤 H A of.ended stayed W (
+  goes-none 𝓤 H A W 0 (λ _. Arr) yes (λ κs x f. refl),
+  (goes-none 𝓤 H A W 0 (λ _. usize) yes (λ κs x f. refl), tt),
+) (of.clauses 𝓤 H A mem run) (WpFn 𝓤 H (𝓣 .C) (𝓣 .Λ) code.function)
+    (WpFn-mono 𝓤 H (W .laws) 𝓣 code.function)
     (of-walks 𝓤 H A W mem run (𝓣 .C) (𝓣 .Λ) (fmOf 𝓤 H (W .laws) 𝓣) known)
 
 pub holder-of-spec : {M : Type 1} → stated.statement M

@@ -7,25 +7,12 @@ use borrow.Author.Needs.{needs}
 use Rattle.scan.proofs.picked.Statement.{statement}
 use Rattle.scan.proofs.picked.Tie as tie
 
-holding-requires : tie.Need-holding-requires
-holding-requires c κs = search needs
-
-records-requires : tie.Need-records-requires
-records-requires c κs = search needs
-
-rem-holder-of : tie.Need-rem-holder-of
-rem-holder-of c = search needs
-
-holder-of-requires : tie.Need-holder-of-requires
-holder-of-requires c κs = search needs
-
 returns : tie.Need-returns
 returns c =
     let args = c .before .before .before .before .args in
-    let rs = c .before .records .result in
-    c .holder-of .ensures ∙ ap (λ m. holder-in rs (args .turn % m)) (c .before .before .holding .ensures)
-    ∙ sym (picked-in (args .heads .now) (args .n) (args .turn) rs (c .before .records .ensures) (c .before .before .before .before .pre .2))
+    c .holder-of .ensures ∙ ap (λ m. holder-in (c .before .records .result) (args .turn % m)) (c .before .before .holding .ensures)
+    ∙ sym (picked-in (args .heads .now) (args .n) (args .turn) (c .before .records .result) (c .before .records .ensures)
+    (c .before .before .before .before .pre .2))
 
 pub picked-spec : {M : Type 1} → statement M
-picked-spec =
-    tie.close (tie.spec holding-requires records-requires rem-holder-of holder-of-requires returns)
+picked-spec = tie.close (tie.spec (λ c κs. search needs) (λ c κs. search needs) (λ c. search needs) (λ c κs. search needs) returns)

@@ -18,46 +18,19 @@ abbrev μ-loop : tie.MeasureT-loop
 loop-holds : tie.Need-loop-holds Inv-loop μ-loop
 loop-holds c = (omega arith, refl, recorded-none (c .before .args .heads .now) _)
 
-record-at-requires : tie.Need-record-at-requires Inv-loop μ-loop
-record-at-requires c κs = omega arith
-
-mul-rs : tie.Need-mul-rs Inv-loop μ-loop
-mul-rs c = omega arith
-
-array-set-from-rs : tie.Need-array-set-from-rs Inv-loop μ-loop
-array-set-from-rs c = omega arith
-
-add-l : tie.Need-add-l Inv-loop μ-loop
-add-l c = omega arith
-
-loop-less : tie.Need-loop-less Inv-loop μ-loop
-loop-less c = omega arith
-
 loop-again : tie.Need-loop-again Inv-loop μ-loop
 loop-again c =
-    let loop = c .before .before .loop in
-    let inv = loop .inv in
-    let e = c .record-at .ensures in
-    let h : loop .l < length (loop .rs) = omega arith in
-    (omega arith, rw length-set (inv .1), rw e (recorded-more (c .before .before .before .before .args .heads .now) (inv .2) h))
+    let inv = c .before .before .loop .inv in
+    let h : c .before .before .loop .l < length (c .before .before .loop .rs) = omega arith in
+    (omega arith, rw length-set (inv .1), rw (c .record-at .ensures) (recorded-more (c .before .before .before .before .args .heads .now) (inv .2) h))
 
 returns : tie.Need-returns Inv-loop μ-loop
 returns c =
-    let loop = c .before .loop in
-    let e : loop .l ≡ c .before .before .before .args .n = omega arith in
-    rw e at (loop .inv .2)
+    let e : c .before .loop .l ≡ c .before .before .before .args .n = omega arith in
+    rw e at (c .before .loop .inv .2)
 
 pub records-spec : {M : Type 1} → statement M
 records-spec =
     tie.close
-    (tie.spec
-    Inv-loop
-    μ-loop
-    loop-holds
-    record-at-requires
-    mul-rs
-    array-set-from-rs
-    add-l
-    loop-less
-    loop-again
+    (tie.spec Inv-loop μ-loop loop-holds (λ c κs. omega arith) (λ c. omega arith) (λ c. omega arith) (λ c. omega arith) (λ c. omega arith) loop-again
     returns)

@@ -7,42 +7,30 @@ use borrow.Author.Needs.{needs}
 use Rattle.whole.proofs.end.Statement.{statement}
 use Rattle.whole.proofs.end.Tie as tie
 
-items-requires : tie.Need-items-requires
-items-requires c κs = search needs
-
-enum-known-r : tie.Need-enum-known-r
-enum-known-r c = search needs
-
-enum-told : tie.Need-enum-told
-enum-told c = search needs
-
-plan-refusal-requires : tie.Need-plan-refusal-requires
-plan-refusal-requires c κs = search needs
-
 returns : tie.Need-returns
-returns c = let a = (c .before .before .before .before .before .before .args) in
-    rw ((c .plan-refusal) .ensures, (c .before .enum-told) .given .1) (λ ar l. sym (end-stop (a .behind) (a .structs) (a .t) (a .has .now) (a .s .now) (read-items ar (a .s .now) (read-item ar (a .s .now) 8) (a .at)) _ (sym ((c .before .before .before .items) .ensures .0 ar l) ∙ (c .before .enum-told) .given .1)))
+returns c =
+    let at-items = c .before .before .before in let a = at-items .before .before .before .args in
+    rw (c .plan-refusal .ensures, c .before .enum-told .given .1) (λ ar l. sym (end-stop (a .behind) (a .structs) (a .t) (a .has .now) (a .s .now)
+    (read-items ar (a .s .now) (read-item ar (a .s .now) 8) (a .at)) _
+    (sym (at-items .items .ensures .0 ar l) ∙ c .before .enum-told .given .1)))
 
 returns-2 : tie.Need-returns-2
-returns-2 c = let a = (c .before .before .before .before .before .before .before .args) in
-    λ ar l. sym (end-on (a .behind) (a .structs) (a .t) (a .has .now) (a .s .now) (read-items ar (a .s .now) (read-item ar (a .s .now) 8) (a .at)) _ _ (sym ((c .before .before .before .before .items) .ensures .0 ar l) ∙ (c .before .before .r) .given .1) (lt-ltb _ _ ((c .if1) .taken)))
-
-summed-requires : tie.Need-summed-requires
-summed-requires c κs = search needs
+returns-2 c =
+    let at-r = c .before .before in let at-items = at-r .before .before in
+    let a = at-items .before .before .before .args in
+    λ ar l. sym (end-on (a .behind) (a .structs) (a .t) (a .has .now) (a .s .now) (read-items ar (a .s .now) (read-item ar (a .s .now) 8) (a .at)) _ _
+    (sym (at-items .items .ensures .0 ar l) ∙ at-r .r .given .1) (lt-ltb _ _ (c .if1 .taken)))
 
 returns-3 : tie.Need-returns-3
-returns-3 c = let a = (c .before .before .before .before .before .before .before .before .args) in
-    λ ar l. rw ((c .summed) .ensures) (sym (end-read (a .behind) (a .structs) (a .t) (a .has .now) (a .s .now) (read-items ar (a .s .now) (read-item ar (a .s .now) 8) (a .at)) _ _ (sym ((c .before .before .before .before .before .items) .ensures .0 ar l) ∙ (c .before .before .before .r) .given .1) (le-ltb _ _ ((c .before .if1) .left))))
+returns-3 c =
+    let at-r = c .before .before .before in let at-items = at-r .before .before in
+    let a = at-items .before .before .before .args in
+    λ ar l. rw (c .summed .ensures) (sym (end-read (a .behind) (a .structs) (a .t) (a .has .now) (a .s .now)
+    (read-items ar (a .s .now) (read-item ar (a .s .now) 8) (a .at)) _ _
+    (sym (at-items .items .ensures .0 ar l) ∙ at-r .r .given .1) (le-ltb _ _ (c .before .if1 .left))))
 
 pub end-spec : {M : Type 1} → statement M
 end-spec =
     tie.close
-    (tie.spec
-    items-requires
-    enum-known-r
-    enum-told
-    plan-refusal-requires
-    returns
-    returns-2
-    summed-requires
+    (tie.spec (λ c κs. search needs) (λ c. search needs) (λ c. search needs) (λ c κs. search needs) returns returns-2 (λ c κs. search needs)
     returns-3)

@@ -1,4 +1,7 @@
 -- `whole::program` meets its contract: the parameters are not read, or are, with the rest behind them.
+use Rattle.types.specs.Limits.{max-structs}
+use lib.ListN.{length}
+use Prim.Native.Nat.{_≤_}
 use native.Mathlib.Omega.{arith}
 use mathlib.Core.Path.{sym, _∙_}
 use lib.Seq.{length-take-le}
@@ -7,79 +10,69 @@ use borrow.Author.Needs.{needs}
 use Rattle.whole.proofs.program.Statement.{statement}
 use Rattle.whole.proofs.program.Tie as tie
 
-params-requires : tie.Need-params-requires
-params-requires c κs = search needs
+-- the places that proofs look back to
+abbrev start : tie.After-params-arg → tie.Start
+start c = c .before .before .before .before
 
-enum-known-r : tie.Need-enum-known-r
-enum-known-r c = search needs
+abbrev start₂ : tie.After-params → tie.Start
+start₂ c = start (c .before .before)
 
-enum-told : tie.Need-enum-told
-enum-told c = search needs
+abbrev at-params : tie.After-slice-known4 → tie.After-params
+at-params c = c .before .before .before .before
 
-params-refusal-requires : tie.Need-params-refusal-requires
-params-refusal-requires c κs = search needs
+abbrev at-params₂ : tie.After-known-told → tie.After-params
+at-params₂ c = at-params (c .before .before .before)
 
-same-length : tie.Need-same-length
-same-length c = search needs
-
-same-length-2 : tie.Need-same-length-2
-same-length-2 c = search needs
+-- the parameters that were read: from 1 to 16 structs, and a place within the stream
+spans : (c : tie.After-r)
+    → (1 ≤ c .r .given .0 .1 .0) × (c .r .given .0 .1 .0 ≤ max-structs) ×
+    (c .r .given .0 .0 ≤ length (start₂ (at-params (c .before .before)) .args .s .now))
+spans c =
+    let at-slice-known3 = c .before .before .before .before in let at-params′ = at-slice-known3 .before .before in
+    rw (c .r .given .1) at (at-params′ .params .ensures .1 .0)
 
 returns : tie.Need-returns
-returns c = let a = (c .before .before .before .before .before .before .before .before .before .before .before .before .before .args) in
-    let e = sym ((c .before .before .before .before .before .before .before .params) .ensures .0) ∙ (c .before .enum-told) .given .1 in
-    rw ((c .params-refusal) .ensures, (c .before .enum-told) .given .1) (sym (program-stop (a .s .now) _ e), (c .before .before .before .before .before .before .before .params) .ensures .1 .1)
-
-cast-n : tie.Need-cast-n
-cast-n c = search needs
-
-mul-end : tie.Need-mul-end
-mul-end c = search needs
-
-slice-reshare-prefix-rest : tie.Need-slice-reshare-prefix-rest
-slice-reshare-prefix-rest c = let span = rw ((c .before .r) .given .1) at ((c .before .before .before .before .before .before .before .params) .ensures .1 .0) in omega (arith, (c .before .before .before .before .before .before .before .params) .kept .1 .0, (c .before .before .before .before .before .before .before .before .before .before .before .before .before .pre))
+returns c =
+    let at-enum-told = c .before in let at-slice-known3 = at-enum-told .before .before .before .before in
+    let at-params′ = at-slice-known3 .before .before in
+    let a = start (at-params′ .before .before) .args in
+    let e = sym (at-params′ .params .ensures .0) ∙ at-enum-told .enum-told .given .1 in
+    rw (c .params-refusal .ensures, at-enum-told .enum-told .given .1) (sym (program-stop (a .s .now) _ e), at-params′ .params .ensures .1 .1)
 
 slice-aggregate-rest : tie.Need-slice-aggregate-rest
-slice-aggregate-rest c = let span = rw ((c .before .before .r) .given .1) at ((c .before .before .before .before .before .before .before .before .params) .ensures .1 .0) in sym (length-take-le _ _ (omega (arith, (c .before .before .before .before .before .before .before .before .params) .kept .1 .0, (c .before .before .before .before .before .before .before .before .before .before .before .before .before .before .pre))))
+slice-aggregate-rest c =
+    let span = spans (c .before .before) in
+    sym (length-take-le _ _ (omega (arith, at-params₂ (c .before) .params .kept .1 .0, start₂ (at-params₂ (c .before)) .pre)))
 
 slice-reshare-prefix-rest-2 : tie.Need-slice-reshare-prefix-rest-2
-slice-reshare-prefix-rest-2 c = let span = rw ((c .before .before .r) .given .1) at ((c .before .before .before .before .before .before .before .before .params) .ensures .1 .0) in omega (arith, (c .before .before .before .before .before .before .before .before .params) .kept .1 .1 .0, (c .before .before .before .before .before .before .before .before .before .before .before .before .before .before .pre))
+slice-reshare-prefix-rest-2 c =
+    omega (arith, spans (c .before .before), at-params₂ (c .before) .params .kept .1 .1 .0, start₂ (at-params₂ (c .before)) .pre)
 
 slice-aggregate-rest-2 : tie.Need-slice-aggregate-rest-2
-slice-aggregate-rest-2 c = let span = rw ((c .before .before .before .r) .given .1) at ((c .before .before .before .before .before .before .before .before .before .params) .ensures .1 .0) in sym (length-take-le _ _ (omega (arith, (c .before .before .before .before .before .before .before .before .before .params) .kept .1 .1 .0, (c .before .before .before .before .before .before .before .before .before .before .before .before .before .before .before .pre))))
+slice-aggregate-rest-2 c =
+    let span = spans (c .before .before .before) in
+    sym (length-take-le _ _ (omega (arith, at-params₂ (c .before .before) .params .kept .1 .1 .0, start₂ (at-params₂ (c .before .before)) .pre)))
 
 rest-requires : tie.Need-rest-requires
-rest-requires c κs = let span = rw ((c .before .before .before .r) .given .1) at ((c .before .before .before .before .before .before .before .before .before .params) .ensures .1 .0) in
-    (length-take-le _ _ (omega (arith, (c .before .before .before .before .before .before .before .before .before .params) .kept .1 .0, (c .before .before .before .before .before .before .before .before .before .before .before .before .before .before .before .pre))), span .1, span .2)
-
-same-length-3 : tie.Need-same-length-3
-same-length-3 c = search needs
-
-same-length-4 : tie.Need-same-length-4
-same-length-4 c = search needs
+rest-requires c κs =
+    let span = spans (c .before .before .before) in (
+      length-take-le _ _ (omega (arith, at-params₂ (c .before .before) .params .kept .1 .0, start₂ (at-params₂ (c .before .before)) .pre)),
+      span .1,
+      span .2,
+    )
 
 returns-2 : tie.Need-returns-2
-returns-2 c = let a = (c .before .before .before .before .before .before .before .before .before .before .before .before .before .before .before .before .args) in
-    ((c .rest) .ensures ∙ program-read (a .s .now) _ _ _ _ _ _ (sym ((c .before .before .before .before .before .before .before .before .before .before .params) .ensures .0) ∙ (c .before .before .before .before .r) .given .1) ((c .before .before .before .before .before .before .before .before .before .before .params) .ensures .1 .1), (c .before .before .before .before .before .before .before .before .before .before .params) .ensures .1 .1)
+returns-2 c =
+    let at-r = c .before .before .before .before in let at-params′ = at-params (at-r .before .before) in
+    let a = start₂ at-params′ .args in (
+      c .rest .ensures
+          ∙ program-read (a .s .now) _ _ _ _ _ _ (sym (at-params′ .params .ensures .0) ∙ at-r .r .given .1) (at-params′ .params .ensures .1 .1),
+      at-params′ .params .ensures .1 .1,
+    )
 
 pub program-spec : {M : Type 1} → statement M
 program-spec =
     tie.close
-    (tie.spec
-    params-requires
-    enum-known-r
-    enum-told
-    params-refusal-requires
-    same-length
-    same-length-2
-    returns
-    cast-n
-    mul-end
-    slice-reshare-prefix-rest
-    slice-aggregate-rest
-    slice-reshare-prefix-rest-2
-    slice-aggregate-rest-2
-    rest-requires
-    same-length-3
-    same-length-4
-    returns-2)
+    (tie.spec (λ c κs. search needs) (λ c. search needs) (λ c. search needs) (λ c κs. search needs) (λ c. search needs) (λ c. search needs) returns
+    (λ c. search needs) (λ c. search needs) (λ c. omega (arith, spans (c .before), at-params₂ c .params .kept .1 .0, start₂ (at-params₂ c) .pre))
+    slice-aggregate-rest slice-reshare-prefix-rest-2 slice-aggregate-rest-2 rest-requires (λ c. search needs) (λ c. search needs) returns-2)

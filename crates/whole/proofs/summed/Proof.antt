@@ -3,11 +3,8 @@ use borrow.Author.Needs.{needs}
 use Rattle.whole.proofs.summed.Statement.{statement}
 use Rattle.whole.proofs.summed.Tie as tie
 
-number-requires : tie.Need-number-requires
-number-requires c κs = search needs
-
 returns : tie.Need-returns
-returns c = simp ((c .number) .ensures)
+returns c = simp (c .number .ensures)
 
 pub summed-spec : {M : Type 1} → statement M
-summed-spec = tie.close (tie.spec number-requires returns)
+summed-spec = tie.close (tie.spec (λ c κs. search needs) returns)

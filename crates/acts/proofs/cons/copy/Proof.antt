@@ -16,72 +16,45 @@ abbrev μ-loop : tie.MeasureT-loop
 loop-holds : tie.Need-loop-holds Inv-loop μ-loop
 loop-holds c = (omega arith, refl)
 
-add-cells : tie.Need-add-cells Inv-loop μ-loop
-add-cells c = omega arith
-
-mul-cells : tie.Need-mul-cells Inv-loop μ-loop
-mul-cells c = omega arith
-
 slice-read-cells : tie.Need-slice-read-cells Inv-loop μ-loop
 slice-read-cells c =
     let args = c .before .before .before .args in
-    let loop = c .before .before .loop in
-    omega (arith, copied-same (args .cells .now) (args .from) (args .to) (loop .cells) (loop .i) (loop .inv .1))
-
-add-cells-2 : tie.Need-add-cells-2 Inv-loop μ-loop
-add-cells-2 c = omega arith
-
-mul-cells-2 : tie.Need-mul-cells-2 Inv-loop μ-loop
-mul-cells-2 c = omega arith
+    omega (
+      arith,
+      copied-same (args .cells .now) (args .from) (args .to) (c .before .before .loop .cells) (c .before .before .loop .i)
+          (c .before .before .loop .inv .1),
+    )
 
 slice-write-cells : tie.Need-slice-write-cells Inv-loop μ-loop
 slice-write-cells c =
     let args = c .before .before .before .args in
-    let loop = c .before .before .loop in
-    omega (arith, copied-same (args .cells .now) (args .from) (args .to) (loop .cells) (loop .i) (loop .inv .1))
-
-add-i : tie.Need-add-i Inv-loop μ-loop
-add-i c = omega arith
-
-loop-less : tie.Need-loop-less Inv-loop μ-loop
-loop-less c = omega arith
+    omega (
+      arith,
+      copied-same (args .cells .now) (args .from) (args .to) (c .before .before .loop .cells) (c .before .before .loop .i)
+          (c .before .before .loop .inv .1),
+    )
 
 loop-again : tie.Need-loop-again Inv-loop μ-loop
 loop-again c =
-    let args = c .before .before .before .args in
-    let loop = c .before .before .loop in
-    let needs = c .before .before .before .pre in
-    let loop-test = c .before .loop-test in
-    (omega arith, copied-more (args .cells .now) (args .from) (args .to) (loop .cells) (args .n) (loop .i) (loop .inv .1) (needs .0) (needs .1) (loop-test .taken))
+    let args = c .before .before .before .args in (
+      omega arith,
+      copied-more (args .cells .now) (args .from) (args .to) (c .before .before .loop .cells) (args .n) (c .before .before .loop .i)
+          (c .before .before .loop .inv .1) (c .before .before .before .pre .0) (c .before .before .before .pre .1) (c .before .loop-test .taken),
+    )
 
 same-length : tie.Need-same-length Inv-loop μ-loop
 same-length c =
     let args = c .before .before .args in
-    let loop = c .before .loop in
-    copied-same (args .cells .now) (args .from) (args .to) (loop .cells) (loop .i) (loop .inv .1)
+    copied-same (args .cells .now) (args .from) (args .to) (c .before .loop .cells) (c .before .loop .i) (c .before .loop .inv .1)
 
 returns : tie.Need-returns Inv-loop μ-loop
 returns c =
-    let loop = c .before .loop in
     let args = c .before .before .args in
-    let e : loop .i ≡ args .n = omega arith in
-    loop .inv .1 ∙ ap (λ (i : ℕ). copied (args .cells .now) (args .from) (args .to) i) e
+    let e : c .before .loop .i ≡ args .n = omega arith in
+    c .before .loop .inv .1 ∙ ap (λ (i : ℕ). copied (args .cells .now) (args .from) (args .to) i) e
 
 pub copy-spec : {M : Type 1} → statement M
 copy-spec =
     tie.close
-    (tie.spec
-    Inv-loop
-    μ-loop
-    loop-holds
-    add-cells
-    mul-cells
-    slice-read-cells
-    add-cells-2
-    mul-cells-2
-    slice-write-cells
-    add-i
-    loop-less
-    loop-again
-    same-length
-    returns)
+    (tie.spec Inv-loop μ-loop loop-holds (λ c. omega arith) (λ c. omega arith) slice-read-cells (λ c. omega arith) (λ c. omega arith)
+    slice-write-cells (λ c. omega arith) (λ c. omega arith) loop-again same-length returns)

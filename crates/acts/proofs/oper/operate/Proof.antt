@@ -7,183 +7,45 @@ use Rattle.acts.specs.OperWays.{value-way, outside-way, unfit-way}
 use Rattle.acts.proofs.oper.operate.Statement.{statement}
 use Rattle.acts.proofs.oper.operate.Tie as tie
 
-mul-h : tie.Need-mul-h
-mul-h c = search needs
+-- the places that proofs look back to
+abbrev start : tie.After-slice-known4 → tie.Start
+start c = c .before .before .before .before
 
-add-h : tie.Need-add-h
-add-h c = search needs
-
-mul-h-2 : tie.Need-mul-h-2
-mul-h-2 c = search needs
-
-slice-read-h : tie.Need-slice-read-h
-slice-read-h c = search needs
-
-mul-n : tie.Need-mul-n
-mul-n c = search needs
-
-add-n : tie.Need-add-n
-add-n c = search needs
-
-mul-n-2 : tie.Need-mul-n-2
-mul-n-2 c = search needs
-
-slice-read-n : tie.Need-slice-read-n
-slice-read-n c = search needs
-
-mul-a : tie.Need-mul-a
-mul-a c = search needs
-
-add-a : tie.Need-add-a
-add-a c = search needs
-
-sub-a : tie.Need-sub-a
-sub-a c = search needs
-
-add-a-2 : tie.Need-add-a-2
-add-a-2 c = search needs
-
-mul-a-2 : tie.Need-mul-a-2
-mul-a-2 c = search needs
-
-slice-read-a : tie.Need-slice-read-a
-slice-read-a c = search needs
-
-mul-b : tie.Need-mul-b
-mul-b c = search needs
-
-add-b : tie.Need-add-b
-add-b c = search needs
-
-sub-b : tie.Need-sub-b
-sub-b c = search needs
-
-add-b-2 : tie.Need-add-b-2
-add-b-2 c = search needs
-
-mul-b-2 : tie.Need-mul-b-2
-mul-b-2 c = search needs
-
-slice-read-b : tie.Need-slice-read-b
-slice-read-b c = search needs
-
-cast-t : tie.Need-cast-t
-cast-t c = search needs
-
-cast-apply-word : tie.Need-cast-apply-word
-cast-apply-word c = search needs
-
-cast-apply-word-2 : tie.Need-cast-apply-word-2
-cast-apply-word-2 c = search needs
-
-apply-word-requires : tie.Need-apply-word-requires
-apply-word-requires c κs = search needs
-
-enum-known-answer : tie.Need-enum-known-answer
-enum-known-answer c = search needs
-
-result-byte-requires : tie.Need-result-byte-requires
-result-byte-requires c κs = search needs
-
-cast-cell : tie.Need-cast-cell
-cast-cell c = search needs
-
-cast-cell-2 : tie.Need-cast-cell-2
-cast-cell-2 c = search needs
-
-cell-requires : tie.Need-cell-requires
-cell-requires c κs = search needs
-
-sub-put : tie.Need-sub-put
-sub-put c = search needs
+abbrev start₂ : tie.After-apply-word → tie.Start
+start₂ c = start (c .before .before .before)
 
 add-put : tie.Need-add-put
 add-put c =
-    let slice-known = c .before .before .before .before .before .before .before .before .before .before .before .before .before .slice-known in
-    let args = c .before .before .before .before .before .before .before .before .before .before .before .before .before .before .args in
-    omega (arith, slice-known .given (head (args .l) end-of))
-
-put-requires : tie.Need-put-requires
-put-requires c κs = search needs
-
-enum-told : tie.Need-enum-told
-enum-told c = search needs
-
-enum-told-2 : tie.Need-enum-told-2
-enum-told-2 c = search needs
-
-same-length : tie.Need-same-length
-same-length c = search needs
-
-same-length-2 : tie.Need-same-length-2
-same-length-2 c = search needs
+    let at-result-byte = c .before .before .before in
+    let at-apply-word = at-result-byte .before .before .before .before in
+    let at-slice-known3 = at-apply-word .before .before .before .before in
+    let at-slice-known = at-slice-known3 .before .before in let args = at-slice-known .before .args in
+    omega (arith, at-slice-known .slice-known .given (head (args .l) end-of))
 
 returns : tie.Need-returns
 returns c =
-    let answer = c .before .before .before .before .before .before .before .before .before .before .answer in
-    let args = c .before .before .before .before .before .before .before .before .before .before .before .before .before .before .before .before .before .before .before .args in
-    let apply-word = c .before .before .before .before .before .before .before .before .before .before .before .before .apply-word in
-    let made = c .before .before .before .before .before .before .before .cell in
-    let result-byte = c .before .before .before .before .before .before .before .before .result-byte in
-    let put = c .before .before .before .before .put in
-    let v = answer .given .0 .0 in
-    value-way (args .heads .now) (args .cells .now) (args .l) (args .o) _ _ _ v (sym (apply-word .ensures) ∙ answer .given .1)
-    (made .ensures ∙ ap (λ b. cell b v) (result-byte .ensures)) (put .ensures .0) (put .ensures .1)
+    let at-put = c .before .before .before .before in let at-cell = at-put .before .before .before in
+    let at-answer = at-cell .before .before .before in let at-apply-word = at-answer .before .before in
+    let args = start₂ at-apply-word .args in let v = at-answer .answer .given .0 .0 in
+    value-way (args .heads .now) (args .cells .now) (args .l) (args .o) _ _ _ v (sym (at-apply-word .apply-word .ensures) ∙ at-answer .answer .given .1)
+    (at-cell .cell .ensures ∙ ap (λ b. cell b v) (at-cell .before .result-byte .ensures)) (at-put .put .ensures .0) (at-put .put .ensures .1)
 
 returns-2 : tie.Need-returns-2
 returns-2 c =
-    let args = c .before .before .before .before .before .before .before .before .before .args in
-    let apply-word = c .before .before .apply-word in
-    let told = c .enum-told in
-    outside-way (args .heads .now) (args .cells .now) (args .l) (args .o) (sym (apply-word .ensures) ∙ told .given .1)
+    let at-apply-word = c .before .before in let args = start₂ at-apply-word .args in
+    outside-way (args .heads .now) (args .cells .now) (args .l) (args .o) (sym (at-apply-word .apply-word .ensures) ∙ c .enum-told .given .1)
 
 returns-3 : tie.Need-returns-3
 returns-3 c =
-    let args = c .before .before .before .before .before .before .before .before .before .args in
-    let apply-word = c .before .before .apply-word in
-    let told = c .enum-told2 in
-    unfit-way (args .heads .now) (args .cells .now) (args .l) (args .o) (sym (apply-word .ensures) ∙ told .given .1)
+    let at-apply-word = c .before .before in let args = start₂ at-apply-word .args in
+    unfit-way (args .heads .now) (args .cells .now) (args .l) (args .o) (sym (at-apply-word .apply-word .ensures) ∙ c .enum-told2 .given .1)
 
 pub operate-spec : {M : Type 1} → statement M
 operate-spec =
     tie.close
-    (tie.spec
-    mul-h
-    add-h
-    mul-h-2
-    slice-read-h
-    mul-n
-    add-n
-    mul-n-2
-    slice-read-n
-    mul-a
-    add-a
-    sub-a
-    add-a-2
-    mul-a-2
-    slice-read-a
-    mul-b
-    add-b
-    sub-b
-    add-b-2
-    mul-b-2
-    slice-read-b
-    cast-t
-    cast-apply-word
-    cast-apply-word-2
-    apply-word-requires
-    enum-known-answer
-    result-byte-requires
-    cast-cell
-    cast-cell-2
-    cell-requires
-    sub-put
-    add-put
-    put-requires
-    enum-told
-    enum-told-2
-    same-length
-    same-length-2
-    returns
-    returns-2
-    returns-3)
+    (tie.spec (λ c. search needs) (λ c. search needs) (λ c. search needs) (λ c. search needs) (λ c. search needs) (λ c. search needs)
+    (λ c. search needs) (λ c. search needs) (λ c. search needs) (λ c. search needs) (λ c. search needs) (λ c. search needs) (λ c. search needs)
+    (λ c. search needs) (λ c. search needs) (λ c. search needs) (λ c. search needs) (λ c. search needs) (λ c. search needs) (λ c. search needs)
+    (λ c. search needs) (λ c. search needs) (λ c. search needs) (λ c κs. search needs) (λ c. search needs) (λ c κs. search needs)
+    (λ c. search needs) (λ c. search needs) (λ c κs. search needs) (λ c. search needs) add-put (λ c κs. search needs) (λ c. search needs)
+    (λ c. search needs) (λ c. search needs) (λ c. search needs) returns returns-2 returns-3)

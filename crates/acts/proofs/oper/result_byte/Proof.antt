@@ -6,22 +6,17 @@ use Rattle.acts.proofs.oper.result_byte.Tie as tie
 returns : tie.Need-returns
 returns c =
     let args = c .before .args in
-    let if1 = c .if1 in
-    byte-below (args .o) (args .t) (if1 .taken)
+    byte-below (args .o) (args .t) (c .if1 .taken)
 
 returns-2 : tie.Need-returns-2
 returns-2 c =
     let args = c .before .before .args in
-    let if1 = c .before .if1 in
-    let if2 = c .if2 in
-    byte-above (args .o) (args .t) (if1 .left) (if2 .taken)
+    byte-above (args .o) (args .t) (c .before .if1 .left) (c .if2 .taken)
 
 returns-3 : tie.Need-returns-3
 returns-3 c =
     let args = c .before .before .args in
-    let if1 = c .before .if1 in
-    let if2 = c .if2 in
-    byte-between (args .o) (args .t) (if1 .left) (if2 .left)
+    byte-between (args .o) (args .t) (c .before .if1 .left) (c .if2 .left)
 
 pub result-byte-spec : {M : Type 1} → statement M
 result-byte-spec = tie.close (tie.spec returns returns-2 returns-3)

@@ -11,111 +11,27 @@ use Rattle.acts.specs.StackWays.{put-way}
 use Rattle.acts.proofs.stack.negate.Statement.{statement}
 use Rattle.acts.proofs.stack.negate.Tie as tie
 
-mul-h : tie.Need-mul-h
-mul-h c = search needs
-
-add-h : tie.Need-add-h
-add-h c = search needs
-
-mul-h-2 : tie.Need-mul-h-2
-mul-h-2 c = search needs
-
-slice-read-h : tie.Need-slice-read-h
-slice-read-h c = search needs
-
-mul-n : tie.Need-mul-n
-mul-n c = search needs
-
-add-n : tie.Need-add-n
-add-n c = search needs
-
-mul-n-2 : tie.Need-mul-n-2
-mul-n-2 c = search needs
-
-slice-read-n : tie.Need-slice-read-n
-slice-read-n c = search needs
-
-mul-t : tie.Need-mul-t
-mul-t c = search needs
-
-add-t : tie.Need-add-t
-add-t c = search needs
-
-sub-t : tie.Need-sub-t
-sub-t c = search needs
-
-add-t-2 : tie.Need-add-t-2
-add-t-2 c = search needs
-
-mul-t-2 : tie.Need-mul-t-2
-mul-t-2 c = search needs
-
-slice-read-t : tie.Need-slice-read-t
-slice-read-t c = search needs
-
-cast-cell : tie.Need-cast-cell
-cast-cell c = search needs
-
-sub-cell : tie.Need-sub-cell
-sub-cell c = search needs
-
-cell-requires : tie.Need-cell-requires
-cell-requires c κs = search needs
-
-sub-put : tie.Need-sub-put
-sub-put c = search needs
-
 add-put : tie.Need-add-put
 add-put c =
-    let slice-known = c .before .before .before .before .before .before .before .slice-known in
-    let args = c .before .before .before .before .before .before .before .before .args in
-    omega (arith, slice-known .given (head (args .l) end-of))
-
-put-requires : tie.Need-put-requires
-put-requires c κs = search needs
-
-same-length : tie.Need-same-length
-same-length c = search needs
-
-same-length-2 : tie.Need-same-length-2
-same-length-2 c = search needs
+    let at-cell = c .before .before in let at-slice-known2 = at-cell .before .before .before .before in
+    let args = at-slice-known2 .before .before .args in
+    omega (arith, at-slice-known2 .before .slice-known .given (head (args .l) end-of))
 
 returns : tie.Need-returns
 unfolding do-not
 returns c =
-    let args = c .before .before .before .before .before .before .before .before .before .before .before .before .before .args in
-    let made = c .before .before .before .before .before .before .before .cell in
-    let put = c .before .before .before .before .put in
-    let h = args .heads .now in
+    let at-put = c .before .before .before .before in let at-cell = at-put .before .before .before in
+    let at-slice-known2 = at-cell .before .before .before .before in
+    let args = at-slice-known2 .before .before .args in let h = args .heads .now in
     let d = args .cells .now in
     let other = cell bool-byte (1 - operand (top [] (args .l) (memory h d))) in
     put-way h d _ (args .l) _ (getD h (head (args .l) height-of) 0 - 1) _ other
-    (made .ensures) (put .ensures .0) (put .ensures .1)
+    (at-cell .cell .ensures) (at-put .put .ensures .0) (at-put .put .ensures .1)
 
 pub negate-spec : {M : Type 1} → statement M
 negate-spec =
     tie.close
-    (tie.spec
-    mul-h
-    add-h
-    mul-h-2
-    slice-read-h
-    mul-n
-    add-n
-    mul-n-2
-    slice-read-n
-    mul-t
-    add-t
-    sub-t
-    add-t-2
-    mul-t-2
-    slice-read-t
-    cast-cell
-    sub-cell
-    cell-requires
-    sub-put
-    add-put
-    put-requires
-    same-length
-    same-length-2
-    returns)
+    (tie.spec (λ c. search needs) (λ c. search needs) (λ c. search needs) (λ c. search needs) (λ c. search needs) (λ c. search needs)
+    (λ c. search needs) (λ c. search needs) (λ c. search needs) (λ c. search needs) (λ c. search needs) (λ c. search needs) (λ c. search needs)
+    (λ c. search needs) (λ c. search needs) (λ c. search needs) (λ c κs. search needs) (λ c. search needs) add-put (λ c κs. search needs)
+    (λ c. search needs) (λ c. search needs) returns)

@@ -8,98 +8,25 @@ use Rattle.acts.specs.StackWays.{put-way}
 use Rattle.acts.proofs.stack.push_this.Statement.{statement}
 use Rattle.acts.proofs.stack.push_this.Tie as tie
 
-mul-k : tie.Need-mul-k
-mul-k c = search needs
-
-add-k : tie.Need-add-k
-add-k c = search needs
-
-mul-k-2 : tie.Need-mul-k-2
-mul-k-2 c = search needs
-
-slice-read-k : tie.Need-slice-read-k
-slice-read-k c = search needs
-
-mul-h : tie.Need-mul-h
-mul-h c = search needs
-
-add-h : tie.Need-add-h
-add-h c = search needs
-
-mul-h-2 : tie.Need-mul-h-2
-mul-h-2 c = search needs
-
-slice-read-h : tie.Need-slice-read-h
-slice-read-h c = search needs
-
-mul-n : tie.Need-mul-n
-mul-n c = search needs
-
-add-n : tie.Need-add-n
-add-n c = search needs
-
-mul-n-2 : tie.Need-mul-n-2
-mul-n-2 c = search needs
-
-slice-read-n : tie.Need-slice-read-n
-slice-read-n c = search needs
-
-cast-cell : tie.Need-cast-cell
-cast-cell c = search needs
-
-add-cell : tie.Need-add-cell
-add-cell c = search needs
-
-cell-requires : tie.Need-cell-requires
-cell-requires c κs = search needs
-
 add-put : tie.Need-add-put
 add-put c =
-    let slice-known = c .before .before .before .before .before .before .before .slice-known in
-    let args = c .before .before .before .before .before .before .before .before .args in
-    omega (arith, slice-known .given (head (args .l) end-of))
-
-put-requires : tie.Need-put-requires
-put-requires c κs = search needs
-
-same-length : tie.Need-same-length
-same-length c = search needs
-
-same-length-2 : tie.Need-same-length-2
-same-length-2 c = search needs
+    let at-cell = c .before .before in let at-slice-known2 = at-cell .before .before .before .before in
+    let args = at-slice-known2 .before .before .args in
+    omega (arith, at-slice-known2 .before .slice-known .given (head (args .l) end-of))
 
 returns : tie.Need-returns
 unfolding do-this
 returns c =
-    let args = c .before .before .before .before .before .before .before .before .before .before .before .before .before .args in
-    let cell = c .before .before .before .before .before .before .before .cell in
-    let put = c .before .before .before .before .put in
-    let h = args .heads .now in
+    let at-put = c .before .before .before .before in let at-cell = at-put .before .before .before in
+    let at-slice-known2 = at-cell .before .before .before .before in
+    let args = at-slice-known2 .before .before .args in let h = args .heads .now in
     let this = label-cell (getD h (head (args .l) struct-of) 0) (args .l) in
     put-way h (args .cells .now) _ (args .l) _ (getD h (head (args .l) height-of) 0) _ this
-    (cell .ensures) (put .ensures .0) (put .ensures .1)
+    (at-cell .cell .ensures) (at-put .put .ensures .0) (at-put .put .ensures .1)
 
 pub push-this-spec : {M : Type 1} → statement M
 push-this-spec =
     tie.close
-    (tie.spec
-    mul-k
-    add-k
-    mul-k-2
-    slice-read-k
-    mul-h
-    add-h
-    mul-h-2
-    slice-read-h
-    mul-n
-    add-n
-    mul-n-2
-    slice-read-n
-    cast-cell
-    add-cell
-    cell-requires
-    add-put
-    put-requires
-    same-length
-    same-length-2
-    returns)
+    (tie.spec (λ c. search needs) (λ c. search needs) (λ c. search needs) (λ c. search needs) (λ c. search needs) (λ c. search needs)
+    (λ c. search needs) (λ c. search needs) (λ c. search needs) (λ c. search needs) (λ c. search needs) (λ c. search needs) (λ c. search needs)
+    (λ c. search needs) (λ c κs. search needs) add-put (λ c κs. search needs) (λ c. search needs) (λ c. search needs) returns)

@@ -10,112 +10,27 @@ use Rattle.acts.specs.StackWays.{put-way}
 use Rattle.acts.proofs.vars.read.Statement.{statement}
 use Rattle.acts.proofs.vars.read.Tie as tie
 
-mul-h : tie.Need-mul-h
-mul-h c = search needs
-
-add-h : tie.Need-add-h
-add-h c = search needs
-
-mul-h-2 : tie.Need-mul-h-2
-mul-h-2 c = search needs
-
-slice-read-h : tie.Need-slice-read-h
-slice-read-h c = search needs
-
-mul-n : tie.Need-mul-n
-mul-n c = search needs
-
-add-n : tie.Need-add-n
-add-n c = search needs
-
-mul-n-2 : tie.Need-mul-n-2
-mul-n-2 c = search needs
-
-slice-read-n : tie.Need-slice-read-n
-slice-read-n c = search needs
-
-mul-t : tie.Need-mul-t
-mul-t c = search needs
-
-add-t : tie.Need-add-t
-add-t c = search needs
-
-sub-t : tie.Need-sub-t
-sub-t c = search needs
-
-add-t-2 : tie.Need-add-t-2
-add-t-2 c = search needs
-
-mul-t-2 : tie.Need-mul-t-2
-mul-t-2 c = search needs
-
-slice-read-t : tie.Need-slice-read-t
-slice-read-t c = search needs
-
-mul-c : tie.Need-mul-c
-mul-c c = search needs
-
-add-c : tie.Need-add-c
-add-c c = search needs
-
-mul-c-2 : tie.Need-mul-c-2
-mul-c-2 c = search needs
-
-slice-read-c : tie.Need-slice-read-c
-slice-read-c c = search needs
-
-sub-put : tie.Need-sub-put
-sub-put c = search needs
-
 add-put : tie.Need-add-put
 add-put c =
-    let slice-known = c .before .before .before .before .before .before .before .slice-known in
-    let args = c .before .before .before .before .before .before .before .before .args in
-    omega (arith, slice-known .given (head (args .l) end-of))
-
-put-requires : tie.Need-put-requires
-put-requires c κs = search needs
-
-same-length : tie.Need-same-length
-same-length c = search needs
-
-same-length-2 : tie.Need-same-length-2
-same-length-2 c = search needs
+    let at-slice-known4 = c .before .before .before .before in
+    let at-slice-known = at-slice-known4 .before .before .before in
+    let args = at-slice-known .before .args in
+    omega (arith, at-slice-known .slice-known .given (head (args .l) end-of))
 
 returns : tie.Need-returns
 unfolding do-rd
 returns c =
-    let args = c .before .before .before .before .before .before .before .before .before .before .before .before .before .args in
-    let put = c .before .before .before .before .put in
-    let h = args .heads .now in
+    let at-put = c .before .before .before .before in
+    let at-slice-known5 = at-put .before .before .before .before in
+    let at-slice-known = at-slice-known5 .before .before .before .before in
+    let args = at-slice-known .before .args in let h = args .heads .now in
     put-way h (args .cells .now) _ (args .l) _ (getD h (head (args .l) height-of) 0 - 1) _ _ refl
-    (put .ensures .0) (put .ensures .1)
+    (at-put .put .ensures .0) (at-put .put .ensures .1)
 
 pub read-spec : {M : Type 1} → statement M
 read-spec =
     tie.close
-    (tie.spec
-    mul-h
-    add-h
-    mul-h-2
-    slice-read-h
-    mul-n
-    add-n
-    mul-n-2
-    slice-read-n
-    mul-t
-    add-t
-    sub-t
-    add-t-2
-    mul-t-2
-    slice-read-t
-    mul-c
-    add-c
-    mul-c-2
-    slice-read-c
-    sub-put
-    add-put
-    put-requires
-    same-length
-    same-length-2
-    returns)
+    (tie.spec (λ c. search needs) (λ c. search needs) (λ c. search needs) (λ c. search needs) (λ c. search needs) (λ c. search needs)
+    (λ c. search needs) (λ c. search needs) (λ c. search needs) (λ c. search needs) (λ c. search needs) (λ c. search needs) (λ c. search needs)
+    (λ c. search needs) (λ c. search needs) (λ c. search needs) (λ c. search needs) (λ c. search needs) (λ c. search needs) add-put
+    (λ c κs. search needs) (λ c. search needs) (λ c. search needs) returns)

@@ -11,207 +11,59 @@ use Rattle.acts.specs.VarWays.{null-way, param-way, local-way}
 use Rattle.acts.proofs.vars.write.Statement.{statement}
 use Rattle.acts.proofs.vars.write.Tie as tie
 
-mul-h : tie.Need-mul-h
-mul-h c = search needs
+-- the places that proofs look back to
+abbrev start : tie.After-slice-known3 → tie.Start
+start c = c .before .before .before .before
 
-add-h : tie.Need-add-h
-add-h c = search needs
+abbrev start₂ : tie.After-slice-known4 → tie.Start
+start₂ c = start (c .before)
 
-mul-h-2 : tie.Need-mul-h-2
-mul-h-2 c = search needs
+abbrev start₃ : tie.After-go-arg → tie.Start
+start₃ c = start₂ (c .before .before .before .before)
 
-slice-read-h : tie.Need-slice-read-h
-slice-read-h c = search needs
+abbrev at-go : tie.After-shared-slice-known2 → tie.After-go
+at-go c = c .before .before .before
 
-mul-n : tie.Need-mul-n
-mul-n c = search needs
-
-add-n : tie.Need-add-n
-add-n c = search needs
-
-mul-n-2 : tie.Need-mul-n-2
-mul-n-2 c = search needs
-
-slice-read-n : tie.Need-slice-read-n
-slice-read-n c = search needs
-
-mul-t : tie.Need-mul-t
-mul-t c = search needs
-
-add-t : tie.Need-add-t
-add-t c = search needs
-
-sub-t : tie.Need-sub-t
-sub-t c = search needs
-
-add-t-2 : tie.Need-add-t-2
-add-t-2 c = search needs
-
-mul-t-2 : tie.Need-mul-t-2
-mul-t-2 c = search needs
-
-slice-read-t : tie.Need-slice-read-t
-slice-read-t c = search needs
-
-mul-c : tie.Need-mul-c
-mul-c c = search needs
-
-add-c : tie.Need-add-c
-add-c c = search needs
-
-sub-c : tie.Need-sub-c
-sub-c c = search needs
-
-add-c-2 : tie.Need-add-c-2
-add-c-2 c = search needs
-
-mul-c-2 : tie.Need-mul-c-2
-mul-c-2 c = search needs
-
-slice-read-c : tie.Need-slice-read-c
-slice-read-c c = search needs
-
-mul-k : tie.Need-mul-k
-mul-k c = search needs
-
-add-k : tie.Need-add-k
-add-k c = search needs
-
-mul-k-2 : tie.Need-mul-k-2
-mul-k-2 c = search needs
-
-slice-read-k : tie.Need-slice-read-k
-slice-read-k c = search needs
-
-sub-go : tie.Need-sub-go
-sub-go c = search needs
+abbrev start₄ : tie.After-shared-slice-known2 → tie.Start
+start₄ c = start₃ (at-go c .before)
 
 add-go : tie.Need-add-go
 add-go c =
-    let slice-known = c .before .before .before .before .before .before .before .slice-known in
-    let args = c .before .before .before .before .before .before .before .before .before .args in
-    omega (arith, slice-known .given (head (args .l) end-of))
-
-go-requires : tie.Need-go-requires
-go-requires c κs = search needs
-
-shared-slice-read-if1 : tie.Need-shared-slice-read-if1
-shared-slice-read-if1 c = search needs
+    let at-slice-known4 = c .before .before .before .before in
+    let at-slice-known = at-slice-known4 .before .before .before in let args = start₃ c .args in
+    omega (arith, at-slice-known .slice-known .given (head (args .l) end-of))
 
 cast-if1 : tie.Need-cast-if1
 cast-if1 c =
-    let args = c .before .before .before .before .before .before .before .before .before .before .before .before .before .args in
-    let shared-slice-known = c .before .before .before .before .before .before .before .before .before .before .before .before .shared-slice-known in
-    let h = args .heads .now in
-    let r = operand (top [] (args .l) (memory h (args .cells .now))) in
-    omega (arith, shared-slice-known .given (getD h (head r struct-of) 0))
-
-same-length : tie.Need-same-length
-same-length c = search needs
+    let at-go′ = at-go c in let at-slice-known5 = at-go′ .before .before .before .before in
+    let at-slice-known = at-slice-known5 .before .before .before .before in let args = start₄ c .args in
+    let h = args .heads .now in let r = operand (top [] (args .l) (memory h (args .cells .now))) in
+    omega (arith, at-slice-known .before .shared-slice-known .given (getD h (head r struct-of) 0))
 
 returns : tie.Need-returns
 returns c =
-    let args = c .before .before .before .before .before .before .before .before .before .before .before .before .before .before .before .args in
-    let go = c .before .before .before .before .before .go in
-    let if1 = c .before .if1 in
-    let if2 = c .if2 in
-    null-way (args .counts .now) (args .heads .now) (args .cells .now) _ (args .l) (args .x) (go .ensures) (if1 .taken) (if2 .taken)
-
-mul-replace : tie.Need-mul-replace
-mul-replace c = search needs
-
-add-replace : tie.Need-add-replace
-add-replace c = search needs
-
-replace-requires : tie.Need-replace-requires
-replace-requires c κs = search needs
-
-same-length-2 : tie.Need-same-length-2
-same-length-2 c = search needs
-
-same-length-3 : tie.Need-same-length-3
-same-length-3 c = search needs
+    let at-go′ = at-go (c .before .before) in let args = start₃ (at-go′ .before) .args in
+    null-way (args .counts .now) (args .heads .now) (args .cells .now) _ (args .l) (args .x) (at-go′ .go .ensures) (c .before .if1 .taken) (c .if2 .taken)
 
 returns-2 : tie.Need-returns-2
 returns-2 c =
-    let args = c .before .before .before .before .before .before .before .before .before .before .before .before .before .before .before .before .before .before .before .args in
-    let replace = c .before .before .replace in
-    let go = c .before .before .before .before .before .before .before .before .before .go in
-    let if1 = c .before .before .before .before .before .if1 in
-    let if2 = c .before .before .before .before .if2 in
-    param-way (args .counts .now) (args .heads .now) (args .cells .now) _ (args .l) (args .x) _ (replace .ensures .1) _ (replace .ensures .0)
-    (go .ensures) (if1 .taken) (if2 .left)
-
-mul-cells : tie.Need-mul-cells
-mul-cells c = search needs
-
-add-cells : tie.Need-add-cells
-add-cells c = search needs
-
-mul-cells-2 : tie.Need-mul-cells-2
-mul-cells-2 c = search needs
-
-slice-write-cells : tie.Need-slice-write-cells
-slice-write-cells c = search needs
-
-same-length-4 : tie.Need-same-length-4
-same-length-4 c = search needs
-
-same-length-5 : tie.Need-same-length-5
-same-length-5 c = search needs
+    let at-replace = c .before .before in let at-if2 = at-replace .before .before in
+    let at-go′ = at-go (at-if2 .before .before) in let args = start₃ (at-go′ .before) .args in
+    param-way (args .counts .now) (args .heads .now) (args .cells .now) _ (args .l) (args .x) _ (at-replace .replace .ensures .1) _
+    (at-replace .replace .ensures .0) (at-go′ .go .ensures) (at-if2 .before .if1 .taken) (at-if2 .if2 .left)
 
 returns-3 : tie.Need-returns-3
 returns-3 c =
-    let args = c .before .before .before .before .before .before .before .before .before .before .before .before .before .before .args in
-    let go = c .before .before .before .before .go in
-    let if1 = c .if1 in
-    local-way (args .counts .now) (args .heads .now) (args .cells .now) _ (args .l) (args .x) _ refl (go .ensures) (if1 .left)
+    let at-go′ = at-go (c .before) in let args = start₄ (c .before) .args in
+    local-way (args .counts .now) (args .heads .now) (args .cells .now) _ (args .l) (args .x) _ refl (at-go′ .go .ensures) (c .if1 .left)
 
 pub write-spec : {M : Type 1} → statement M
 write-spec =
     tie.close
-    (tie.spec
-    mul-h
-    add-h
-    mul-h-2
-    slice-read-h
-    mul-n
-    add-n
-    mul-n-2
-    slice-read-n
-    mul-t
-    add-t
-    sub-t
-    add-t-2
-    mul-t-2
-    slice-read-t
-    mul-c
-    add-c
-    sub-c
-    add-c-2
-    mul-c-2
-    slice-read-c
-    mul-k
-    add-k
-    mul-k-2
-    slice-read-k
-    sub-go
-    add-go
-    go-requires
-    shared-slice-read-if1
-    cast-if1
-    same-length
-    returns
-    mul-replace
-    add-replace
-    replace-requires
-    same-length-2
-    same-length-3
-    returns-2
-    mul-cells
-    add-cells
-    mul-cells-2
-    slice-write-cells
-    same-length-4
-    same-length-5
-    returns-3)
+    (tie.spec (λ c. search needs) (λ c. search needs) (λ c. search needs) (λ c. search needs) (λ c. search needs) (λ c. search needs)
+    (λ c. search needs) (λ c. search needs) (λ c. search needs) (λ c. search needs) (λ c. search needs) (λ c. search needs) (λ c. search needs)
+    (λ c. search needs) (λ c. search needs) (λ c. search needs) (λ c. search needs) (λ c. search needs) (λ c. search needs) (λ c. search needs)
+    (λ c. search needs) (λ c. search needs) (λ c. search needs) (λ c. search needs) (λ c. search needs) add-go (λ c κs. search needs)
+    (λ c. search needs) cast-if1 (λ c. search needs) returns (λ c. search needs) (λ c. search needs) (λ c κs. search needs) (λ c. search needs)
+    (λ c. search needs) returns-2 (λ c. search needs) (λ c. search needs) (λ c. search needs) (λ c. search needs) (λ c. search needs)
+    (λ c. search needs) returns-3)

@@ -5,28 +5,18 @@ use borrow.Author.Needs.{needs}
 use Rattle.blocks.proofs.block.fault.Statement.{statement}
 use Rattle.blocks.proofs.block.fault.Tie as tie
 
-sums-right-requires : tie.Need-sums-right-requires
-sums-right-requires c κs = search needs
-
 returns : tie.Need-returns
 returns c = sums-wrong _ _ _ _ (c .before .sums-right .ensures) (not-true _ (c .if1 .taken))
 
-laid-out-requires : tie.Need-laid-out-requires
-laid-out-requires c κs = search needs
-
 returns-2 : tie.Need-returns-2
 returns-2 c =
-    let sums-right = c .before .before .before .sums-right in
-    let if1 = c .before .before .if1 in
-    let laid-out = c .before .laid-out in
-    layout-wrong _ _ _ _ _ (sums-right .ensures) (not-false _ (if1 .left)) (laid-out .ensures) (not-true _ (c .if2 .taken))
+    layout-wrong _ _ _ _ _ (c .before .before .before .sums-right .ensures) (not-false _ (c .before .before .if1 .left)) (c .before .laid-out .ensures)
+    (not-true _ (c .if2 .taken))
 
 returns-3 : tie.Need-returns-3
 returns-3 c =
-    let sums-right = c .before .before .before .sums-right in
-    let if1 = c .before .before .if1 in
-    let laid-out = c .before .laid-out in
-    block-agrees _ _ _ _ _ (sums-right .ensures) (not-false _ (if1 .left)) (laid-out .ensures) (not-false _ (c .if2 .left))
+    block-agrees _ _ _ _ _ (c .before .before .before .sums-right .ensures) (not-false _ (c .before .before .if1 .left)) (c .before .laid-out .ensures)
+    (not-false _ (c .if2 .left))
 
 pub fault-spec : {M : Type 1} → statement M
-fault-spec = tie.close (tie.spec sums-right-requires returns laid-out-requires returns-2 returns-3)
+fault-spec = tie.close (tie.spec (λ c κs. search needs) returns (λ c κs. search needs) returns-2 returns-3)

@@ -5,50 +5,22 @@ use borrow.Author.Needs.{needs}
 use Rattle.blocks.proofs.block.laid_out.Statement.{statement}
 use Rattle.blocks.proofs.block.laid_out.Tie as tie
 
-pair-at-requires : tie.Need-pair-at-requires
-pair-at-requires c κs = search needs
-
 returns : tie.Need-returns
 returns c = index-differs _ _ _ _ (c .before .pair-at .ensures .0) (c .if1 .taken)
 
-pair-at-requires-2 : tie.Need-pair-at-requires-2
-pair-at-requires-2 c κs = search needs
-
-used-right-requires : tie.Need-used-right-requires
-used-right-requires c κs = search needs
-
 returns-2 : tie.Need-returns-2
 returns-2 c =
-    let pair-at = c .before .before .before .before .pair-at in
-    let if1 = c .before .before .before .if1 in
-    let pair-at2 = c .before .before .pair-at2 in
-    let used-right = c .before .used-right in
-    used-wrong _ _ _ _ _ _ (pair-at .ensures .0) (if1 .left) (pair-at2 .ensures .0) (used-right .ensures) (not-true _ (c .if2 .taken))
-
-add-zeros-from : tie.Need-add-zeros-from
-add-zeros-from c = search needs
-
-zeros-from-requires : tie.Need-zeros-from-requires
-zeros-from-requires c κs = search needs
+    used-wrong _ _ _ _ _ _ (c .before .before .before .before .pair-at .ensures .0) (c .before .before .before .if1 .left)
+    (c .before .before .pair-at2 .ensures .0) (c .before .used-right .ensures) (not-true _ (c .if2 .taken))
 
 returns-3 : tie.Need-returns-3
 returns-3 c =
-    let pair-at = c .before .before .before .before .before .pair-at in
-    let if1 = c .before .before .before .before .if1 in
-    let pair-at2 = c .before .before .before .pair-at2 in
-    let used-right = c .before .before .used-right in
-    let if2 = c .before .if2 in
-    used-agrees _ _ _ _ _ _ _ (pair-at .ensures .0) (if1 .left) (pair-at2 .ensures .0) (used-right .ensures) (not-false _ (if2 .left)) (c .zeros-from .ensures)
+    let at-used-right = c .before .before in let at-if1 = at-used-right .before .before in
+    used-agrees _ _ _ _ _ _ _ (at-if1 .before .pair-at .ensures .0) (at-if1 .if1 .left) (at-used-right .before .pair-at2 .ensures .0)
+    (at-used-right .used-right .ensures) (not-false _ (c .before .if2 .left)) (c .zeros-from .ensures)
 
 pub laid-out-spec : {M : Type 1} → statement M
 laid-out-spec =
     tie.close
-    (tie.spec
-    pair-at-requires
-    returns
-    pair-at-requires-2
-    used-right-requires
-    returns-2
-    add-zeros-from
-    zeros-from-requires
+    (tie.spec (λ c κs. search needs) returns (λ c κs. search needs) (λ c κs. search needs) returns-2 (λ c. search needs) (λ c κs. search needs)
     returns-3)

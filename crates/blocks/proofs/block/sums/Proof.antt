@@ -19,42 +19,20 @@ loop-holds : tie.Need-loop-holds Inv-loop μ-loop
 unfolding sum
 loop-holds c = omega arith
 
-shared-slice-read-wrapping-add-u16 : tie.Need-shared-slice-read-wrapping-add-u16 Inv-loop μ-loop
-shared-slice-read-wrapping-add-u16 c = search needs
-
-cast-wrapping-add-u16 : tie.Need-cast-wrapping-add-u16 Inv-loop μ-loop
-cast-wrapping-add-u16 c = omega (arith, c .shared-slice-known2 .given (c .before .before .loop .i))
-
-wrapping-add-u16-requires : tie.Need-wrapping-add-u16-requires Inv-loop μ-loop
-wrapping-add-u16-requires c κs = search needs
-
-wrapping-add-u16-requires-2 : tie.Need-wrapping-add-u16-requires-2 Inv-loop μ-loop
-wrapping-add-u16-requires-2 c κs = search needs
-
-add-i : tie.Need-add-i Inv-loop μ-loop
-add-i c = search needs
-
-loop-less : tie.Need-loop-less Inv-loop μ-loop
-loop-less c = search needs
-
 loop-again : tie.Need-loop-again Inv-loop μ-loop
 loop-again c =
-    let args = c .before .before .before .before .before .before .args in
-    let loop = c .before .before .before .before .loop in
-    let shared-slice-known2 = c .before .before .shared-slice-known2 in
-    let wrapping-add-u16 = c .before .wrapping-add-u16 in
-    let s = args .block .now in
-    let i = loop .i in
-    let inv = loop .inv in (
+    let at-shared-slice-known2 = c .before .before in let at-loop = at-shared-slice-known2 .before .before in
+    let args = at-loop .before .before .args in let s = args .block .now in let i = at-loop .loop .i in
+    let inv = at-loop .loop .inv in (
       omega arith,
-      sums-turn s i _ _ _ _ _ (inv .1 .0) (inv .1 .1) refl (omega (arith, shared-slice-known2 .given i)) (wrapping-add-u16 .ensures) (c .wrapping-add-u162 .ensures),
+      sums-turn s i _ _ _ _ _ (inv .1 .0) (inv .1 .1) refl (omega (arith, at-shared-slice-known2 .shared-slice-known2 .given i))
+          (c .before .wrapping-add-u16 .ensures) (c .wrapping-add-u162 .ensures),
     )
 
 returns : tie.Need-returns Inv-loop μ-loop
 unfolding sum-a sum-b
 returns c =
-    let args = c .before .before .before .args in
-    let loop = c .before .loop in
+    let args = c .before .before .before .args in let loop = c .before .loop in
     let s = args .block .now in
     let e : loop .i ≡ 508 = omega arith in
     subst (λ (n : ℕ). (loop .a ≡ sum n (λ j. byte s j) % 65536) × (loop .b ≡ sum n (λ j. (n - j) * byte s j) % 65536)) e (loop .inv .1)
@@ -62,15 +40,5 @@ returns c =
 pub sums-spec : {M : Type 1} → statement M
 sums-spec =
     tie.close
-    (tie.spec
-    Inv-loop
-    μ-loop
-    loop-holds
-    shared-slice-read-wrapping-add-u16
-    cast-wrapping-add-u16
-    wrapping-add-u16-requires
-    wrapping-add-u16-requires-2
-    add-i
-    loop-less
-    loop-again
-    returns)
+    (tie.spec Inv-loop μ-loop loop-holds (λ c. search needs) (λ c. omega (arith, c .shared-slice-known2 .given (c .before .before .loop .i)))
+    (λ c κs. search needs) (λ c κs. search needs) (λ c. search needs) (λ c. search needs) loop-again returns)

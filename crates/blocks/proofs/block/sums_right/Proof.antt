@@ -4,43 +4,16 @@ use borrow.Author.Needs.{needs}
 use Rattle.blocks.proofs.block.sums_right.Statement.{statement}
 use Rattle.blocks.proofs.block.sums_right.Tie as tie
 
-sums-requires : tie.Need-sums-requires
-sums-requires c κs = search needs
-
-pair-at-requires : tie.Need-pair-at-requires
-pair-at-requires c κs = search needs
-
-cast-if1 : tie.Need-cast-if1
-cast-if1 c = search needs
-
 returns : tie.Need-returns
-returns c =
-    let sums = c .before .before .before .sums in
-    let pair-at = c .before .before .pair-at in
-    a-differs _ _ _ (pair-at .ensures .0) (sums .ensures .0) (c .if1 .taken)
-
-pair-at-requires-2 : tie.Need-pair-at-requires-2
-pair-at-requires-2 c κs = search needs
-
-cast-result : tie.Need-cast-result
-cast-result c = search needs
+returns c = a-differs _ _ _ (c .before .before .pair-at .ensures .0) (c .before .before .before .sums .ensures .0) (c .if1 .taken)
 
 returns-2 : tie.Need-returns-2
 returns-2 c =
-    let sums = c .before .before .before .before .before .sums in
-    let pair-at = c .before .before .before .before .pair-at in
-    let if1 = c .before .before .if1 in
-    let pair-at2 = c .before .pair-at2 in
-    a-agrees _ _ _ _ _ (pair-at .ensures .0) (sums .ensures .0) (if1 .left) (pair-at2 .ensures .0) (sums .ensures .1)
+    let at-if1 = c .before .before in let at-pair-at = at-if1 .before .before in
+    a-agrees _ _ _ _ _ (at-pair-at .pair-at .ensures .0) (at-pair-at .before .sums .ensures .0) (at-if1 .if1 .left) (c .before .pair-at2 .ensures .0)
+    (at-pair-at .before .sums .ensures .1)
 
 pub sums-right-spec : {M : Type 1} → statement M
 sums-right-spec =
     tie.close
-    (tie.spec
-    sums-requires
-    pair-at-requires
-    cast-if1
-    returns
-    pair-at-requires-2
-    cast-result
-    returns-2)
+    (tie.spec (λ c κs. search needs) (λ c κs. search needs) (λ c. search needs) returns (λ c κs. search needs) (λ c. search needs) returns-2)

@@ -7,18 +7,17 @@ use Rattle.blocks.proofs.block.used_right.Tie as tie
 
 returns : tie.Need-returns
 unfolding used-right
-returns c = let h = c .before .if1 .taken in let l = c .if2 .taken in rw (h, used-right, lt-leb)
+returns c = let l = c .if2 .taken in rw (c .before .if1 .taken, used-right, lt-leb)
 
 returns-2 : tie.Need-returns-2
 unfolding used-right
 returns-2 c =
     let args = c .before .before .args in
-    let if1 = c .before .if1 in
-    let h = if1 .taken in let l : 1 ≤ args .used = c .if2 .left in rw (h, used-right, le-leb 1 (args .used) l)
+    let h = c .before .if1 .taken in let l : 1 ≤ args .used = c .if2 .left in rw (h, used-right, le-leb 1 (args .used) l)
 
 returns-3 : tie.Need-returns-3
 unfolding used-right
-returns-3 c = let h = c .if1 .left in rw (h, used-right)
+returns-3 c = rw (c .if1 .left, used-right)
 
 pub used-right-spec : {M : Type 1} → statement M
 used-right-spec = tie.close (tie.spec returns returns-2 returns-3)

@@ -15,33 +15,17 @@ Inv-loop block from at₀ at = zeros (slice from 508 block) ≡ zeros (slice at 
 abbrev μ-loop : tie.MeasureT-loop
 μ-loop block from at₀ at = 508 - at
 
-loop-holds : tie.Need-loop-holds Inv-loop μ-loop
-loop-holds c = refl
-
-shared-slice-read-if1 : tie.Need-shared-slice-read-if1 Inv-loop μ-loop
-shared-slice-read-if1 c = search needs
-
 returns : tie.Need-returns Inv-loop μ-loop
 returns c =
     let args = c .before .before .before .before .args in
-    let pre = c .before .before .before .before .pre in
-    let loop = c .before .before .before .loop in
-    let loop-test = c .before .before .loop-test in
-    sym (loop .inv ∙ zeros-stop (args .block .now) _ pre (loop-test .taken) (c .if1 .taken))
-
-add-at : tie.Need-add-at Inv-loop μ-loop
-add-at c = search needs
-
-loop-less : tie.Need-loop-less Inv-loop μ-loop
-loop-less c = search needs
+    sym (c .before .before .before .loop .inv
+    ∙ zeros-stop (args .block .now) _ (c .before .before .before .before .pre) (c .before .before .loop-test .taken) (c .if1 .taken))
 
 loop-again : tie.Need-loop-again Inv-loop μ-loop
 loop-again c =
     let args = c .before .before .before .before .args in
-    let pre = c .before .before .before .before .pre in
-    let loop = c .before .before .before .loop in
-    let loop-test = c .before .before .loop-test in
-    loop .inv ∙ zeros-more (args .block .now) _ pre (loop-test .taken) (c .if1 .left)
+    c .before .before .before .loop .inv
+    ∙ zeros-more (args .block .now) _ (c .before .before .before .before .pre) (c .before .before .loop-test .taken) (c .if1 .left)
 
 returns-2 : tie.Need-returns-2 Inv-loop μ-loop
 returns-2 c = sym (c .before .loop .inv ∙ zeros-end (c .before .before .args .block .now) _ (c .loop-test .left))
@@ -49,13 +33,4 @@ returns-2 c = sym (c .before .loop .inv ∙ zeros-end (c .before .before .args .
 pub zeros-from-spec : {M : Type 1} → statement M
 zeros-from-spec =
     tie.close
-    (tie.spec
-    Inv-loop
-    μ-loop
-    loop-holds
-    shared-slice-read-if1
-    returns
-    add-at
-    loop-less
-    loop-again
-    returns-2)
+    (tie.spec Inv-loop μ-loop (λ c. refl) (λ c. search needs) returns (λ c. search needs) (λ c. search needs) loop-again returns-2)

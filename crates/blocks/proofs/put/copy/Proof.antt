@@ -19,39 +19,17 @@ abbrev μ-loop : tie.MeasureT-loop
 loop-holds : tie.Need-loop-holds Inv-loop μ-loop
 loop-holds c = (search needs, (search needs, sym (put-nil _ _)))
 
-shared-slice-read-dst : tie.Need-shared-slice-read-dst Inv-loop μ-loop
-shared-slice-read-dst c = search needs
-
-add-dst : tie.Need-add-dst Inv-loop μ-loop
-add-dst c = search needs
-
-slice-write-dst : tie.Need-slice-write-dst Inv-loop μ-loop
-slice-write-dst c = omega arith
-
-add-i : tie.Need-add-i Inv-loop μ-loop
-add-i c = search needs
-
-loop-less : tie.Need-loop-less Inv-loop μ-loop
-loop-less c = search needs
-
 loop-again : tie.Need-loop-again Inv-loop μ-loop
 loop-again c =
-    let args = c .before .before .before .args in
-    let pre = c .before .before .before .pre in
-    let loop = c .before .before .loop in
-    let loop-test = c .before .loop-test in
-    let s = args .src .now in
-    let i = loop .i in
-    let inv = loop .inv in (
+    let args = c .before .before .before .args in let s = args .src .now in
+    let i = c .before .before .loop .i in
+    let inv = c .before .before .loop .inv in (
       omega arith,
       (
         simp length-set (inv .1 .0),
-        ap (λ d. set d (args .at + i) (getD s i 0)) (inv .1 .1) ∙ put-turn _ _ s i pre (loop-test .taken),
+        ap (λ d. set d (args .at + i) (getD s i 0)) (inv .1 .1) ∙ put-turn _ _ s i (c .before .before .before .pre) (c .before .loop-test .taken),
       ),
     )
-
-same-length : tie.Need-same-length Inv-loop μ-loop
-same-length c = c .before .loop .inv .1 .0
 
 returns : tie.Need-returns Inv-loop μ-loop
 returns c =
@@ -61,15 +39,5 @@ returns c =
 pub copy-spec : {M : Type 1} → statement M
 copy-spec =
     tie.close
-    (tie.spec
-    Inv-loop
-    μ-loop
-    loop-holds
-    shared-slice-read-dst
-    add-dst
-    slice-write-dst
-    add-i
-    loop-less
-    loop-again
-    same-length
-    returns)
+    (tie.spec Inv-loop μ-loop loop-holds (λ c. search needs) (λ c. search needs) (λ c. omega arith) (λ c. search needs) (λ c. search needs)
+    loop-again (λ c. c .before .loop .inv .1 .0) returns)

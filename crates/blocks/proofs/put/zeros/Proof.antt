@@ -18,50 +18,22 @@ abbrev μ-loop : tie.MeasureT-loop
 loop-holds : tie.Need-loop-holds Inv-loop μ-loop
 loop-holds c = (omega arith, (refl, sym (put-nil _ _)))
 
-add-dst : tie.Need-add-dst Inv-loop μ-loop
-add-dst c = omega arith
-
-slice-write-dst : tie.Need-slice-write-dst Inv-loop μ-loop
-slice-write-dst c = omega arith
-
-add-i : tie.Need-add-i Inv-loop μ-loop
-add-i c = omega arith
-
-loop-less : tie.Need-loop-less Inv-loop μ-loop
-loop-less c = omega arith
-
 loop-again : tie.Need-loop-again Inv-loop μ-loop
 loop-again c =
-    let args = c .before .before .args in
-    let pre = c .before .before .pre in
-    let loop = c .before .loop in
-    let i = loop .i in
-    let inv = loop .inv in (
+    let args = c .before .before .args in let i = c .before .loop .i in
+    let inv = c .before .loop .inv in (
       omega arith,
-      (simp length-set (inv .1 .0), ap (λ d. set d (args .at + i) 0) (inv .1 .1) ∙ zeros-turn _ _ _ i pre (c .loop-test .taken)),
+      (simp length-set (inv .1 .0), ap (λ d. set d (args .at + i) 0) (inv .1 .1) ∙ zeros-turn _ _ _ i (c .before .before .pre) (c .loop-test .taken)),
     )
-
-same-length : tie.Need-same-length Inv-loop μ-loop
-same-length c = c .before .loop .inv .1 .0
 
 returns : tie.Need-returns Inv-loop μ-loop
 returns c =
     let args = c .before .before .args in
-    let loop = c .before .loop in
-    let e : loop .i ≡ args .n = omega arith in
-    loop .inv .1 .1 ∙ ap (λ i. put (args .dst .now) (args .at) (replicate i 0)) e
+    let e : c .before .loop .i ≡ args .n = omega arith in
+    c .before .loop .inv .1 .1 ∙ ap (λ i. put (args .dst .now) (args .at) (replicate i 0)) e
 
 pub zeros-spec : {M : Type 1} → statement M
 zeros-spec =
     tie.close
-    (tie.spec
-    Inv-loop
-    μ-loop
-    loop-holds
-    add-dst
-    slice-write-dst
-    add-i
-    loop-less
-    loop-again
-    same-length
-    returns)
+    (tie.spec Inv-loop μ-loop loop-holds (λ c. omega arith) (λ c. omega arith) (λ c. omega arith) (λ c. omega arith) loop-again
+    (λ c. c .before .loop .inv .1 .0) returns)

@@ -18,67 +18,34 @@ Inv-loop image n k₀ k = (k ≤ n) × (first-fault n image k ≡ Right)
 abbrev μ-loop : tie.MeasureT-loop
 μ-loop image n k₀ k = n - k
 
+-- the places that proofs look back to
+abbrev at-loop : tie.After-fault Inv-loop μ-loop → tie.At-loop Inv-loop μ-loop
+at-loop c = c .before .before .before
+
 loop-holds : tie.Need-loop-holds Inv-loop μ-loop
 unfolding first-fault
 loop-holds c = (search needs, refl)
 
-mul-start : tie.Need-mul-start Inv-loop μ-loop
-mul-start c = omega arith
-
-add-end : tie.Need-add-end Inv-loop μ-loop
-add-end c = omega arith
-
-add-last : tie.Need-add-last Inv-loop μ-loop
-add-last c = omega arith
-
-sub-fault : tie.Need-sub-fault Inv-loop μ-loop
-sub-fault c = omega arith
-
-part-fault-start : tie.Need-part-fault-start Inv-loop μ-loop
-part-fault-start c = omega arith
-
-part-fault-end : tie.Need-part-fault-end Inv-loop μ-loop
-part-fault-end c = omega arith
-
 fault-requires : tie.Need-fault-requires Inv-loop μ-loop
 fault-requires c κs =
     let x = c .before .before .before .before .args .image .now in
-    let k = c .before .before .loop .k in
-    ap length (block-at x k) ∙ block-whole _ x (c .before .before .before .before .pre) k (c .before .loop-test .taken)
-
-enum-known-f : tie.Need-enum-known-f Inv-loop μ-loop
-enum-known-f c = search needs
+    ap length (block-at x (c .before .before .loop .k))
+    ∙ block-whole _ x (c .before .before .before .before .pre) (c .before .before .loop .k) (c .before .loop-test .taken)
 
 returns : tie.Need-returns Inv-loop μ-loop
 returns c =
-    let args = c .before .before .before .before .before .before .before .before .args in
-    let loop = c .before .before .before .before .before .before .loop in
-    let loop-test = c .before .before .before .before .before .loop-test in
-    let fault = c .before .before .before .fault in
-    let f = c .before .f in
-    let x = args .image .now in
-    let k = loop .k in
-    let here = ap (block-fault k _) (sym (block-at x k)) ∙ sym (fault .ensures) ∙ f .given .1 in
-    sym (first-stop _ x k _ (loop-test .taken) (loop .inv .1) here)
-
-enum-told : tie.Need-enum-told Inv-loop μ-loop
-enum-told c = search needs
-
-add-k : tie.Need-add-k Inv-loop μ-loop
-add-k c = omega arith
-
-loop-less : tie.Need-loop-less Inv-loop μ-loop
-loop-less c = omega arith
+    let at-fault = c .before .before .before in let in-loop = at-fault .before .before in
+    let args = in-loop .before .before .before .args in let x = args .image .now in
+    let k = in-loop .before .loop .k in
+    let here = ap (block-fault k _) (sym (block-at x k)) ∙ sym (at-fault .fault .ensures) ∙ c .before .f .given .1 in
+    sym (first-stop _ x k _ (in-loop .loop-test .taken) (in-loop .before .loop .inv .1) here)
 
 loop-again : tie.Need-loop-again Inv-loop μ-loop
 loop-again c =
-    let args = c .before .before .before .before .before .before .before .args in
-    let loop = c .before .before .before .before .before .loop in
-    let fault = c .before .before .fault in
-    let x = args .image .now in
-    let k = loop .k in
-    let here = ap (block-fault k _) (sym (block-at x k)) ∙ sym (fault .ensures) ∙ c .enum-told .given .1 in
-    (omega arith, first-more _ x k (loop .inv .1) here)
+    let at-fault = c .before .before in let args = at-loop at-fault .before .before .args in
+    let x = args .image .now in let k = at-loop at-fault .loop .k in
+    let here = ap (block-fault k _) (sym (block-at x k)) ∙ sym (at-fault .fault .ensures) ∙ c .enum-told .given .1 in
+    (omega arith, first-more _ x k (at-loop at-fault .loop .inv .1) here)
 
 returns-2 : tie.Need-returns-2 Inv-loop μ-loop
 returns-2 c =
@@ -89,21 +56,5 @@ returns-2 c =
 pub first-fault-spec : {M : Type 1} → statement M
 first-fault-spec =
     tie.close
-    (tie.spec
-    Inv-loop
-    μ-loop
-    loop-holds
-    mul-start
-    add-end
-    add-last
-    sub-fault
-    part-fault-start
-    part-fault-end
-    fault-requires
-    enum-known-f
-    returns
-    enum-told
-    add-k
-    loop-less
-    loop-again
-    returns-2)
+    (tie.spec Inv-loop μ-loop loop-holds (λ c. omega arith) (λ c. omega arith) (λ c. omega arith) (λ c. omega arith) (λ c. omega arith)
+    (λ c. omega arith) fault-requires (λ c. search needs) returns (λ c. search needs) (λ c. omega arith) (λ c. omega arith) loop-again returns-2)

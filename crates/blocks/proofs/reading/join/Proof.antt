@@ -18,111 +18,66 @@ Inv-loop image n buffer₀ k₀ buffer k = (k ≤ n) × ((length buffer ≡ leng
 abbrev μ-loop : tie.MeasureT-loop
 μ-loop image n buffer₀ k₀ buffer k = n - k
 
+-- the places that proofs look back to
+abbrev start : tie.In-loop Inv-loop μ-loop → tie.Start Inv-loop μ-loop
+start c = c .before .before .before .before
+
+abbrev in-loop : tie.After-payload Inv-loop μ-loop → tie.In-loop Inv-loop μ-loop
+in-loop c = c .before .before .before .before
+
 loop-holds : tie.Need-loop-holds Inv-loop μ-loop
 unfolding joined
 loop-holds c = (omega arith, (refl, sym (put-nil _ _)))
 
-mul-start : tie.Need-mul-start Inv-loop μ-loop
-mul-start c = omega arith
-
-add-end : tie.Need-add-end Inv-loop μ-loop
-add-end c = omega arith
-
-sub-block : tie.Need-sub-block Inv-loop μ-loop
-sub-block c = omega arith
-
-part-block-start : tie.Need-part-block-start Inv-loop μ-loop
-part-block-start c = omega arith
-
-part-block-end : tie.Need-part-block-end Inv-loop μ-loop
-part-block-end c = omega arith
-
 pair-at-requires : tie.Need-pair-at-requires Inv-loop μ-loop
 pair-at-requires c κs =
-    let args = c .before .before .before .before .before .args in
-    let pre = c .before .before .before .before .before .pre in
-    let loop = c .before .before .loop in
-    let loop-test = c .before .loop-test in
+    let at-loop = c .before .before in let start′ = start (c .before) in let args = start′ .args in
     let x = args .image .now in
-    let full = ap length (block-at x (loop .k)) ∙ block-whole _ x (pre .0) (loop .k) (loop-test .taken) in
-    omega arith
-
-mul-copy : tie.Need-mul-copy Inv-loop μ-loop
-mul-copy c = omega arith
+    omega (arith, ap length (block-at x (at-loop .loop .k)) ∙ block-whole _ x (start′ .pre .0) (at-loop .loop .k) (c .before .loop-test .taken))
 
 payload-requires : tie.Need-payload-requires Inv-loop μ-loop
 payload-requires c κs =
-    let args = c .before .before .before .before .before .before .before .args in
-    let pre = c .before .before .before .before .before .before .before .pre in
-    let loop = c .before .before .before .before .loop in
-    let loop-test = c .before .before .before .loop-test in
-    let pair-at = c .before .pair-at in
+    let in-loop′ = c .before .before .before in let args = start in-loop′ .args in
     let x = args .image .now in
-    let full = ap length (block-at x (loop .k)) ∙ block-whole _ x (pre .0) (loop .k) (loop-test .taken) in
-    (used-fits _ x (pre .0) (pre .1 .0) (loop .k) (loop-test .taken) _ (pair-at .ensures .0), full)
+    let full = ap length (block-at x (in-loop′ .before .loop .k))
+    ∙ block-whole _ x (start in-loop′ .pre .0) (in-loop′ .before .loop .k) (in-loop′ .loop-test .taken) in (
+      used-fits _ x (start in-loop′ .pre .0) (start in-loop′ .pre .1 .0) (in-loop′ .before .loop .k) (in-loop′ .loop-test .taken) _
+          (c .before .pair-at .ensures .0),
+      full,
+    )
 
 copy-requires : tie.Need-copy-requires Inv-loop μ-loop
 copy-requires c κs =
-    let args = c .before .before .before .before .before .before .before .before .args in
-    let pre = c .before .before .before .before .before .before .before .before .pre in
-    let loop = c .before .before .before .before .before .loop in
-    let loop-test = c .before .before .before .before .loop-test in
-    let pair-at = c .before .before .pair-at in
-    let x = args .image .now in
-    let k = loop .k in
-    let part = part-at x k _ _ (pair-at .ensures .0) (c .payload .ensures) in
-    omega (arith, ap length part, joined-fits _ x (pre .0) (pre .1 .0) k (loop-test .taken))
-
-add-k : tie.Need-add-k Inv-loop μ-loop
-add-k c = omega arith
-
-loop-less : tie.Need-loop-less Inv-loop μ-loop
-loop-less c = omega arith
+    let at-pair-at = c .before .before in let at-loop = in-loop c .before in
+    let start′ = at-loop .before .before .before in let args = start′ .args in
+    let x = args .image .now in let k = at-loop .loop .k in
+    let part = part-at x k _ _ (at-pair-at .pair-at .ensures .0) (c .payload .ensures) in
+    omega (arith, ap length part, joined-fits _ x (start′ .pre .0) (start′ .pre .1 .0) k (in-loop c .loop-test .taken))
 
 loop-again : tie.Need-loop-again Inv-loop μ-loop
 loop-again c =
-    let args = c .before .before .before .before .before .before .before .before .before .before .before .args in
-    let pre = c .before .before .before .before .before .before .before .before .before .before .before .pre in
-    let loop = c .before .before .before .before .before .before .before .before .loop in
-    let loop-test = c .before .before .before .before .before .before .before .loop-test in
-    let pair-at = c .before .before .before .before .before .pair-at in
-    let payload = c .before .before .before .payload in
-    let copy = c .before .before .copy in
-    let x = args .image .now in
-    let k = loop .k in
-    let d = args .buffer .now in
-    let inv = loop .inv in
-    let part = part-at x k _ _ (pair-at .ensures .0) (payload .ensures) in
-    (omega arith, (copy .kept .0 ∙ inv .1 .0, join-turn _ x (pre .0) (pre .1 .0) k (loop-test .taken) d _ _ _ (pre .1 .1) (inv .1 .1) part (copy .ensures)))
-
-same-length : tie.Need-same-length Inv-loop μ-loop
-same-length c = c .before .loop .inv .1 .0
+    let at-copy = c .before .before in let at-pair-at = at-copy .before .before .before in
+    let in-loop′ = at-pair-at .before .before in let args = start in-loop′ .args in
+    let x = args .image .now in let k = in-loop′ .before .loop .k in let d = args .buffer .now in
+    let inv = in-loop′ .before .loop .inv in
+    let part = part-at x k _ _ (at-pair-at .pair-at .ensures .0) (at-copy .before .payload .ensures) in (
+      omega arith,
+      (
+        at-copy .copy .kept .0 ∙ inv .1 .0,
+        join-turn _ x (start in-loop′ .pre .0) (start in-loop′ .pre .1 .0) k (in-loop′ .loop-test .taken) d _ _ _ (start in-loop′ .pre .1 .1)
+            (inv .1 .1) part (at-copy .copy .ensures),
+      ),
+    )
 
 returns : tie.Need-returns Inv-loop μ-loop
 returns c =
     let args = c .before .before .before .before .args in
-    let loop = c .before .loop in
-    let e : loop .k ≡ args .n = omega arith in
-    loop .inv .1 .1 ∙ ap (λ k. put (args .buffer .now) 0 (joined (args .image .now) k)) e
+    let e : c .before .loop .k ≡ args .n = omega arith in
+    c .before .loop .inv .1 .1 ∙ ap (λ k. put (args .buffer .now) 0 (joined (args .image .now) k)) e
 
 pub join-spec : {M : Type 1} → statement M
 join-spec =
     tie.close
-    (tie.spec
-    Inv-loop
-    μ-loop
-    loop-holds
-    mul-start
-    add-end
-    sub-block
-    part-block-start
-    part-block-end
-    pair-at-requires
-    mul-copy
-    payload-requires
-    copy-requires
-    add-k
-    loop-less
-    loop-again
-    same-length
-    returns)
+    (tie.spec Inv-loop μ-loop loop-holds (λ c. omega arith) (λ c. omega arith) (λ c. omega arith) (λ c. omega arith) (λ c. omega arith)
+    pair-at-requires (λ c. omega arith) payload-requires copy-requires (λ c. omega arith) (λ c. omega arith) loop-again
+    (λ c. c .before .loop .inv .1 .0) returns)

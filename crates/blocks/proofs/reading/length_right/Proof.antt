@@ -10,14 +10,8 @@ returns c = not-whole _ _ (c .if1 .taken)
 returns-2 : tie.Need-returns-2
 returns-2 c = no-block _ _ (c .before .if1 .left) (c .if2 .taken)
 
-most-requires : tie.Need-most-requires
-most-requires c κs = search needs
-
-mul-result : tie.Need-mul-result
-mul-result c = search needs
-
 returns-3 : tie.Need-returns-3
 returns-3 c = some-block _ _ _ (c .most .ensures .0) (c .before .before .if1 .left) (c .before .if2 .left)
 
 pub length-right-spec : {M : Type 1} → statement M
-length-right-spec = tie.close (tie.spec returns returns-2 most-requires mul-result returns-3)
+length-right-spec = tie.close (tie.spec returns returns-2 (λ c κs. search needs) (λ c. search needs) returns-3)

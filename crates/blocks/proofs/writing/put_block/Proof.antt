@@ -4,65 +4,16 @@ use borrow.Author.Needs.{needs}
 use Rattle.blocks.proofs.writing.put_block.Statement.{statement}
 use Rattle.blocks.proofs.writing.put_block.Tie as tie
 
-put-front-requires : tie.Need-put-front-requires
-put-front-requires c κs = search needs
-
-add-end : tie.Need-add-end
-add-end c = search needs
-
-sub-sums : tie.Need-sub-sums
-sub-sums c = search needs
-
-part-sums-start : tie.Need-part-sums-start
-part-sums-start c = search needs
-
-part-sums-end : tie.Need-part-sums-end
-part-sums-end c = search needs
-
-sums-requires : tie.Need-sums-requires
-sums-requires c κs = search needs
-
-cast-pair : tie.Need-cast-pair
-cast-pair c = search needs
-
-pair-requires : tie.Need-pair-requires
-pair-requires c κs = search needs
-
-add-pair : tie.Need-add-pair
-add-pair c = search needs
-
-cast-pair-2 : tie.Need-cast-pair-2
-cast-pair-2 c = search needs
-
-pair-requires-2 : tie.Need-pair-requires-2
-pair-requires-2 c κs = search needs
-
-same-length : tie.Need-same-length
-same-length c = search needs
-
 returns : tie.Need-returns
 returns c =
-    let pre = c .before .before .before .before .before .before .before .before .before .before .before .before .before .before .before .before .before .before .before .pre in
-    let put-front = c .before .before .before .before .before .before .before .before .before .before .before .before .before .before .before .put-front in
-    let sums = c .before .before .before .before .before .before .before .before .before .before .sums in
-    let pair = c .before .before .before .before .before .before .before .pair in
-    let pair2 = c .before .before .pair2 in
-    block-put _ _ _ _ (pre .1) _ _ _ _ _ (pre .0 .0) (put-front .ensures) (sums .ensures .0) (sums .ensures .1) (pair .ensures) (pair2 .ensures)
+    let at-pair2 = c .before .before in let at-out3 = at-pair2 .before .before .before .before in
+    let at-sums = at-out3 .before .before .before .before in let at-out = at-sums .before .before .before .before in
+    let at-put-front = at-out .before in let start = at-put-front .before .before .before .before in
+    block-put _ _ _ _ (start .pre .1) _ _ _ _ _ (start .pre .0 .0) (at-put-front .put-front .ensures) (at-sums .sums .ensures .0)
+    (at-sums .sums .ensures .1) (at-out3 .before .pair .ensures) (at-pair2 .pair2 .ensures)
 
 pub put-block-spec : {M : Type 1} → statement M
 put-block-spec =
     tie.close
-    (tie.spec
-    put-front-requires
-    add-end
-    sub-sums
-    part-sums-start
-    part-sums-end
-    sums-requires
-    cast-pair
-    pair-requires
-    add-pair
-    cast-pair-2
-    pair-requires-2
-    same-length
-    returns)
+    (tie.spec (λ c κs. search needs) (λ c. search needs) (λ c. search needs) (λ c. search needs) (λ c. search needs) (λ c κs. search needs)
+    (λ c. search needs) (λ c κs. search needs) (λ c. search needs) (λ c. search needs) (λ c κs. search needs) (λ c. search needs) returns)

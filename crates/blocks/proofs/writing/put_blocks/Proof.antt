@@ -17,68 +17,43 @@ Inv-loop stream n out₀ k₀ out k = (k ≤ n) × ((length out ≡ length out�
 abbrev μ-loop : tie.MeasureT-loop
 μ-loop stream n out₀ k₀ out k = n - k
 
+-- the places that proofs look back to
+abbrev start : tie.In-loop Inv-loop μ-loop → tie.Start Inv-loop μ-loop
+start c = c .before .before .before .before
+
+abbrev start₂ : tie.After-piece Inv-loop μ-loop → tie.Start Inv-loop μ-loop
+start₂ c = start (c .before .before)
+
 loop-holds : tie.Need-loop-holds Inv-loop μ-loop
 unfolding image-of
 loop-holds c = (omega arith, (refl, sym (put-nil _ _)))
 
-mul-put-block : tie.Need-mul-put-block Inv-loop μ-loop
-mul-put-block c = omega arith
-
-piece-requires : tie.Need-piece-requires Inv-loop μ-loop
-piece-requires c κs = omega arith
-
 put-block-requires : tie.Need-put-block-requires Inv-loop μ-loop
 put-block-requires c κs =
-    let args = c .before .before .before .before .before .before .args in
-    let loop = c .before .before .before .loop in
-    omega (arith, ap length (c .piece .ensures), piece-fits (args .stream .now) (loop .k))
-
-add-k : tie.Need-add-k Inv-loop μ-loop
-add-k c = omega arith
-
-loop-less : tie.Need-loop-less Inv-loop μ-loop
-loop-less c = omega arith
+    let at-loop = c .before .before .before in let args = start₂ c .args in
+    omega (arith, ap length (c .piece .ensures), piece-fits (args .stream .now) (at-loop .loop .k))
 
 loop-again : tie.Need-loop-again Inv-loop μ-loop
 loop-again c =
-    let args = c .before .before .before .before .before .before .before .before .before .args in
-    let pre = c .before .before .before .before .before .before .before .before .before .pre in
-    let loop = c .before .before .before .before .before .before .loop in
-    let loop-test = c .before .before .before .before .before .loop-test in
-    let piece = c .before .before .before .piece in
-    let put-block = c .before .before .put-block in
-    let s = args .stream .now in
-    let k = loop .k in
-    let inv = loop .inv in (
+    let at-put-block = c .before .before in let in-loop = at-put-block .before .before .before in
+    let args = start in-loop .args in let s = args .stream .now in let k = in-loop .before .loop .k in
+    let inv = in-loop .before .loop .inv in (
       omega arith,
       (
-        put-block .kept .0 ∙ inv .1 .0,
-        blocks-turn s (args .out .now) _ _ _ k _ (pre .0 .0) (loop-test .taken) (inv .1 .1) (piece .ensures) (put-block .ensures),
+        at-put-block .put-block .kept .0 ∙ inv .1 .0,
+        blocks-turn s (args .out .now) _ _ _ k _ (start in-loop .pre .0 .0) (in-loop .loop-test .taken) (inv .1 .1)
+            (at-put-block .before .piece .ensures) (at-put-block .put-block .ensures),
       ),
     )
-
-same-length : tie.Need-same-length Inv-loop μ-loop
-same-length c = c .before .loop .inv .1 .0
 
 returns : tie.Need-returns Inv-loop μ-loop
 returns c =
     let args = c .before .before .before .before .args in
-    let loop = c .before .loop in
-    let e : loop .k ≡ args .n = omega arith in
-    loop .inv .1 .1 ∙ ap (λ k. put (args .out .now) 0 (image-of (args .stream .now) k)) e
+    let e : c .before .loop .k ≡ args .n = omega arith in
+    c .before .loop .inv .1 .1 ∙ ap (λ k. put (args .out .now) 0 (image-of (args .stream .now) k)) e
 
 pub put-blocks-spec : {M : Type 1} → statement M
 put-blocks-spec =
     tie.close
-    (tie.spec
-    Inv-loop
-    μ-loop
-    loop-holds
-    mul-put-block
-    piece-requires
-    put-block-requires
-    add-k
-    loop-less
-    loop-again
-    same-length
-    returns)
+    (tie.spec Inv-loop μ-loop loop-holds (λ c. omega arith) (λ c κs. omega arith) put-block-requires (λ c. omega arith) (λ c. omega arith) loop-again
+    (λ c. c .before .loop .inv .1 .0) returns)

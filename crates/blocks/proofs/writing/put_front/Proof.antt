@@ -4,57 +4,16 @@ use borrow.Author.Needs.{needs}
 use Rattle.blocks.proofs.writing.put_front.Statement.{statement}
 use Rattle.blocks.proofs.writing.put_front.Tie as tie
 
-pair-requires : tie.Need-pair-requires
-pair-requires c κs = search needs
-
-add-pair : tie.Need-add-pair
-add-pair c = search needs
-
-pair-requires-2 : tie.Need-pair-requires-2
-pair-requires-2 c κs = search needs
-
-add-copy : tie.Need-add-copy
-add-copy c = search needs
-
-copy-requires : tie.Need-copy-requires
-copy-requires c κs = search needs
-
-add-zeros : tie.Need-add-zeros
-add-zeros c = search needs
-
-add-zeros-2 : tie.Need-add-zeros-2
-add-zeros-2 c = search needs
-
-sub-zeros : tie.Need-sub-zeros
-sub-zeros c = search needs
-
-zeros-requires : tie.Need-zeros-requires
-zeros-requires c κs = search needs
-
-same-length : tie.Need-same-length
-same-length c = search needs
-
 returns : tie.Need-returns
 returns c =
-    let pre = c .before .before .before .before .before .before .before .before .before .before .before .before .before .before .before .before .before .before .pre in
-    let pair = c .before .before .before .before .before .before .before .before .before .before .before .before .before .before .pair in
-    let pair2 = c .before .before .before .before .before .before .before .before .before .before .pair2 in
-    let copy = c .before .before .before .before .before .before .copy in
-    let zeros = c .before .before .zeros in
-    front-put _ _ _ _ (pre .1) _ _ _ _ (pre .0 .0) (pair .ensures) (pair2 .ensures) (copy .ensures) (zeros .ensures)
+    let at-zeros = c .before .before in let at-copy = at-zeros .before .before .before .before in
+    let at-pair2 = at-copy .before .before .before .before in
+    let at-pair = at-pair2 .before .before .before .before in let start = at-pair .before .before .before .before in
+    front-put _ _ _ _ (start .pre .1) _ _ _ _ (start .pre .0 .0) (at-pair .pair .ensures) (at-pair2 .pair2 .ensures) (at-copy .copy .ensures)
+    (at-zeros .zeros .ensures)
 
 pub put-front-spec : {M : Type 1} → statement M
 put-front-spec =
     tie.close
-    (tie.spec
-    pair-requires
-    add-pair
-    pair-requires-2
-    add-copy
-    copy-requires
-    add-zeros
-    add-zeros-2
-    sub-zeros
-    zeros-requires
-    same-length
-    returns)
+    (tie.spec (λ c κs. search needs) (λ c. search needs) (λ c κs. search needs) (λ c. search needs) (λ c κs. search needs) (λ c. search needs)
+    (λ c. search needs) (λ c. search needs) (λ c κs. search needs) (λ c. search needs) returns)

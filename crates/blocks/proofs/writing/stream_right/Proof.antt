@@ -7,14 +7,8 @@ use Rattle.blocks.proofs.writing.stream_right.Tie as tie
 returns : tie.Need-returns
 returns c = no-byte _ _ (c .if1 .taken)
 
-most-requires : tie.Need-most-requires
-most-requires c κs = search needs
-
-mul-result : tie.Need-mul-result
-mul-result c = search needs
-
 returns-2 : tie.Need-returns-2
 returns-2 c = some-byte _ _ _ (c .most .ensures .0) (c .before .if1 .left)
 
 pub stream-right-spec : {M : Type 1} → statement M
-stream-right-spec = tie.close (tie.spec returns most-requires mul-result returns-2)
+stream-right-spec = tie.close (tie.spec returns (λ c κs. search needs) (λ c. search needs) returns-2)

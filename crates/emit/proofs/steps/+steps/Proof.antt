@@ -27,32 +27,53 @@ steps-below t = and 3 steps-kinds.ps (falls 3 steps-kinds.ps _<_ μ-steps t) ste
 abbrev steps-claims : ℕ → steps-lts.Claims
 steps-claims t = (step-reads.Asked, step-reads.Learnt, steps-below t, steps.Post)
 
+-- the places that proofs look back to
+abbrev start : (t : ℕ) → steps-lts.Else1 (steps-claims t) (steps-at t) steps.Post → steps-lts.Start (steps-claims t) (steps-at t) steps.Post
+start t c = c .before .before .before .before
+
+abbrev at-if1 : (t : ℕ) → steps-lts.After-step (steps-claims t) (steps-at t) steps.Post → steps-lts.Else1 (steps-claims t) (steps-at t) steps.Post
+at-if1 t c = c .before .before
+
+abbrev at-if1₂ : (t : ℕ) → steps-lts.After-steps-arg (steps-claims t) (steps-at t) steps.Post → steps-lts.Else1 (steps-claims t) (steps-at t) steps.Post
+at-if1₂ t c = at-if1 t (c .before .before .before)
+
+abbrev start₂ : (t : ℕ) → steps-lts.After-steps-arg (steps-claims t) (steps-at t) steps.Post → steps-lts.Start (steps-claims t) (steps-at t) steps.Post
+start₂ t c = start t (at-if1₂ t c)
+
+abbrev at-step : (t : ℕ) → steps-lts.After-steps (steps-claims t) (steps-at t) steps.Post → steps-lts.After-step (steps-claims t) (steps-at t) steps.Post
+at-step t c = c .before .before .before .before
+
+abbrev at-step₂ : (t : ℕ) → steps-lts.After-slice-known3 (steps-claims t) (steps-at t) steps.Post → steps-lts.After-step (steps-claims t) (steps-at t)
+    steps.Post
+at-step₂ t c = at-step t (c .before .before)
+
 steps-returns : (t : ℕ) → steps-lts.Need-returns (steps-claims t) (steps-at t) steps.Post
-steps-returns t c = let a = (c .before .before .before .before .args) in steps-none (a .ar .now) (a .s .now) (a .n) (a .at) ((c .if1) .taken) (a .out .now) (a .k)
+steps-returns t c =
+    let a = c .before .before .before .before .args in
+    steps-none (a .ar .now) (a .s .now) (a .n) (a .at) (c .if1 .taken) (a .out .now) (a .k)
 
 steps-step-requires : (t : ℕ) → steps-lts.Need-step-requires (steps-claims t) (steps-at t) steps.Post
-steps-step-requires t c κs = let a = (c .before .before .before .before .before .args) in parts-ready (steps-more (a .ar .now) (a .s .now) (a .n) (a .at) ((c .before .if1) .left) ((c .before .before .before .before .before .pre) .1 .good)) ((c .before .before .before .before .before .pre) .1)
-
-steps-sub-steps : (t : ℕ) → steps-lts.Need-sub-steps (steps-claims t) (steps-at t) steps.Post
-steps-sub-steps t c = omega (arith, (c .before .before .before .before .if1) .left)
+steps-step-requires t c κs =
+    let start′ = start t (c .before) in
+    parts-ready (steps-more _ _ _ _ (c .before .if1 .left) (start′ .pre .1 .good)) (start′ .pre .1)
 
 steps-steps-requires : (t : ℕ) → steps-lts.Need-steps-requires (steps-claims t) (steps-at t) steps.Post
-steps-steps-requires t c κs = let a = (c .before .before .before .before .before .before .before .before .before .args) in
-    let f = steps-more (a .ar .now) (a .s .now) (a .n) (a .at) ((c .before .before .before .before .before .if1) .left) ((c .before .before .before .before .before .before .before .before .before .pre) .1 .good) in
-    (omega (arith, (c .before .before .before .before .before .before .before .before .before .pre) .0, (c .before .before .before .before .before .if1) .left), parts-next f ((c .before .before .before .before .before .before .before .before .before .pre) .1) ((c .before .before .before .step) .ensures))
+steps-steps-requires t c κs =
+    let f = steps-more _ _ _ _ (at-if1₂ t c .if1 .left) (start₂ t c .pre .1 .good) in
+    (omega (arith, start₂ t c .pre .0, at-if1₂ t c .if1 .left), parts-next f (start₂ t c .pre .1) (c .before .before .before .step .ensures))
 
 steps-same-length : (t : ℕ) → steps-lts.Need-same-length (steps-claims t) (steps-at t) steps.Post
-steps-same-length t c = placed-kept ((c .before .before .steps) .ensures) ∙ placed-kept ((c .before .before .before .before .before .before .step) .ensures)
+steps-same-length t c =
+    let at-steps = c .before .before in
+    placed-kept (at-steps .steps .ensures) ∙ placed-kept (at-step₂ t c .step .ensures)
 
 steps-returns-2 : (t : ℕ) → steps-lts.Need-returns-2 (steps-claims t) (steps-at t) steps.Post
-steps-returns-2 t c = let a = (c .before .before .before .before .before .before .before .before .before .before .before .before .args) in parts-same ((c .before .before .before .before .before .before .step) .ensures) ((c .before .before .steps) .ensures) (steps-more (a .ar .now) (a .s .now) (a .n) (a .at) ((c .before .before .before .before .before .before .before .before .if1) .left) ((c .before .before .before .before .before .before .before .before .before .before .before .before .pre) .1 .good))
+steps-returns-2 t c =
+    let at-steps = c .before .before in let at-if1′ = at-if1₂ t (at-steps .before) in
+    parts-same (at-step₂ t c .step .ensures) (at-steps .steps .ensures) (steps-more _ _ _ _ (at-if1′ .if1 .left) (start t at-if1′ .pre .1 .good))
 
 pub +steps-spec : {M : Type 1} → statement M
-+steps-spec = close μ-steps λ t. steps-lts.spec (steps-claims t) (steps-at t)
-    steps.Post
-    (steps-returns t)
-    (steps-step-requires t)
-    (steps-sub-steps t)
-    (steps-steps-requires t)
-    (steps-same-length t)
-    (steps-returns-2 t)
++steps-spec =
+    close μ-steps
+    λ t. steps-lts.spec (steps-claims t) (steps-at t) steps.Post (steps-returns t) (steps-step-requires t)
+    (λ c. omega (arith, c .before .before .before .before .if1 .left)) (steps-steps-requires t) (steps-same-length t) (steps-returns-2 t)

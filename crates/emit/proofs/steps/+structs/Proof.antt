@@ -27,32 +27,60 @@ structs-below t = and 3 structs-kinds.ps (falls 3 structs-kinds.ps _<_ μ-struct
 abbrev structs-claims : ℕ → structs-lts.Claims
 structs-claims t = (struct-steps-reads.Asked, struct-steps-reads.Learnt, structs-below t, structs.Post)
 
+-- the places that proofs look back to
+abbrev start : (t : ℕ) → structs-lts.Else1 (structs-claims t) (structs-at t) structs.Post → structs-lts.Start (structs-claims t) (structs-at t) structs.Post
+start t c = c .before .before .before .before
+
+abbrev at-if1 :
+    (t : ℕ) → structs-lts.After-struct-steps (structs-claims t) (structs-at t) structs.Post → structs-lts.Else1 (structs-claims t) (structs-at t) structs.Post
+at-if1 t c = c .before .before
+
+abbrev at-if1₂ :
+    (t : ℕ) → structs-lts.After-structs-arg (structs-claims t) (structs-at t) structs.Post → structs-lts.Else1 (structs-claims t) (structs-at t) structs.Post
+at-if1₂ t c = at-if1 t (c .before .before .before)
+
+abbrev start₂ :
+    (t : ℕ) → structs-lts.After-structs-arg (structs-claims t) (structs-at t) structs.Post → structs-lts.Start (structs-claims t) (structs-at t) structs.Post
+start₂ t c = start t (at-if1₂ t c)
+
+abbrev at-struct-steps :
+    (t : ℕ) → structs-lts.After-structs (structs-claims t) (structs-at t) structs.Post
+    → structs-lts.After-struct-steps (structs-claims t) (structs-at t) structs.Post
+at-struct-steps t c = c .before .before .before .before
+
+abbrev at-struct-steps₂ :
+    (t : ℕ) → structs-lts.After-slice-known3 (structs-claims t) (structs-at t) structs.Post
+    → structs-lts.After-struct-steps (structs-claims t) (structs-at t) structs.Post
+at-struct-steps₂ t c = at-struct-steps t (c .before .before)
+
 structs-returns : (t : ℕ) → structs-lts.Need-returns (structs-claims t) (structs-at t) structs.Post
-structs-returns t c = let a = (c .before .before .before .before .args) in structs-none (a .ar .now) (a .s .now) (a .n) (a .at) ((c .if1) .taken) (a .out .now) (a .k)
+structs-returns t c =
+    let a = c .before .before .before .before .args in
+    structs-none (a .ar .now) (a .s .now) (a .n) (a .at) (c .if1 .taken) (a .out .now) (a .k)
 
 structs-struct-steps-requires : (t : ℕ) → structs-lts.Need-struct-steps-requires (structs-claims t) (structs-at t) structs.Post
-structs-struct-steps-requires t c κs = let a = (c .before .before .before .before .before .args) in parts-ready (structs-more (a .ar .now) (a .s .now) (a .n) (a .at) ((c .before .if1) .left) ((c .before .before .before .before .before .pre) .1 .good)) ((c .before .before .before .before .before .pre) .1)
-
-structs-sub-structs : (t : ℕ) → structs-lts.Need-sub-structs (structs-claims t) (structs-at t) structs.Post
-structs-sub-structs t c = omega (arith, (c .before .before .before .before .if1) .left)
+structs-struct-steps-requires t c κs =
+    let start′ = start t (c .before) in
+    parts-ready (structs-more _ _ _ _ (c .before .if1 .left) (start′ .pre .1 .good)) (start′ .pre .1)
 
 structs-structs-requires : (t : ℕ) → structs-lts.Need-structs-requires (structs-claims t) (structs-at t) structs.Post
-structs-structs-requires t c κs = let a = (c .before .before .before .before .before .before .before .before .before .args) in
-    let f = structs-more (a .ar .now) (a .s .now) (a .n) (a .at) ((c .before .before .before .before .before .if1) .left) ((c .before .before .before .before .before .before .before .before .before .pre) .1 .good) in
-    (omega (arith, (c .before .before .before .before .before .before .before .before .before .pre) .0, (c .before .before .before .before .before .if1) .left), parts-next f ((c .before .before .before .before .before .before .before .before .before .pre) .1) ((c .before .before .before .struct-steps) .ensures))
+structs-structs-requires t c κs =
+    let f = structs-more _ _ _ _ (at-if1₂ t c .if1 .left) (start₂ t c .pre .1 .good) in
+    (omega (arith, start₂ t c .pre .0, at-if1₂ t c .if1 .left), parts-next f (start₂ t c .pre .1) (c .before .before .before .struct-steps .ensures))
 
 structs-same-length : (t : ℕ) → structs-lts.Need-same-length (structs-claims t) (structs-at t) structs.Post
-structs-same-length t c = placed-kept ((c .before .before .structs) .ensures) ∙ placed-kept ((c .before .before .before .before .before .before .struct-steps) .ensures)
+structs-same-length t c =
+    let at-structs = c .before .before in
+    placed-kept (at-structs .structs .ensures) ∙ placed-kept (at-struct-steps₂ t c .struct-steps .ensures)
 
 structs-returns-2 : (t : ℕ) → structs-lts.Need-returns-2 (structs-claims t) (structs-at t) structs.Post
-structs-returns-2 t c = let a = (c .before .before .before .before .before .before .before .before .before .before .before .before .args) in parts-same ((c .before .before .before .before .before .before .struct-steps) .ensures) ((c .before .before .structs) .ensures) (structs-more (a .ar .now) (a .s .now) (a .n) (a .at) ((c .before .before .before .before .before .before .before .before .if1) .left) ((c .before .before .before .before .before .before .before .before .before .before .before .before .pre) .1 .good))
+structs-returns-2 t c =
+    let at-structs = c .before .before in let at-if1′ = at-if1₂ t (at-structs .before) in
+    parts-same (at-struct-steps₂ t c .struct-steps .ensures) (at-structs .structs .ensures)
+    (structs-more _ _ _ _ (at-if1′ .if1 .left) (start t at-if1′ .pre .1 .good))
 
 pub +structs-spec : {M : Type 1} → statement M
-+structs-spec = close μ-structs λ t. structs-lts.spec (structs-claims t) (structs-at t)
-    structs.Post
-    (structs-returns t)
-    (structs-struct-steps-requires t)
-    (structs-sub-structs t)
-    (structs-structs-requires t)
-    (structs-same-length t)
-    (structs-returns-2 t)
++structs-spec =
+    close μ-structs
+    λ t. structs-lts.spec (structs-claims t) (structs-at t) structs.Post (structs-returns t) (structs-struct-steps-requires t)
+    (λ c. omega (arith, c .before .before .before .before .if1 .left)) (structs-structs-requires t) (structs-same-length t) (structs-returns-2 t)

@@ -6,17 +6,15 @@ use Rattle.emit.specs.PartsLaws.{part-ready, part-same}
 use Rattle.emit.specs.StepLaws.{step-part}
 use Rattle.emit.proofs.steps.step.Tie as tie
 
-add-body : tie.Need-add-body
-add-body c = let a = (c .before .before .before .args) in let f = step-part (a .ar .now) (a .s .now) (a .at) ((c .before .before .before .pre) .good) in omega arith
-
 body-requires : tie.Need-body-requires
-body-requires c κs = let a = (c .before .before .before .before .args) in part-ready (step-part (a .ar .now) (a .s .now) (a .at) ((c .before .before .before .before .pre) .good) .1) ((c .before .before .before .before .pre))
-
-same-length : tie.Need-same-length
-same-length c = search needs
+body-requires c κs = part-ready (step-part _ _ _ (c .before .before .before .before .pre .good) .1) (c .before .before .before .before .pre)
 
 returns : tie.Need-returns
-returns c = let a = (c .before .before .before .before .before .before .before .args) in part-same (step-part (a .ar .now) (a .s .now) (a .at) ((c .before .before .before .before .before .before .before .pre) .good) .1) ((c .before .before .body) .ensures)
+returns c =
+    let at-body = c .before .before in let at-shared-slice-known = at-body .before .before .before .before in
+    part-same (step-part _ _ _ (at-shared-slice-known .before .pre .good) .1) (at-body .body .ensures)
 
 pub step-spec : {M : Type 1} → statement M
-step-spec = tie.close (tie.spec add-body body-requires same-length returns)
+step-spec =
+    tie.close
+    (tie.spec (λ c. omega (arith, step-part _ _ _ (c .before .before .before .pre .good))) body-requires (λ c. search needs) returns)

@@ -6,21 +6,21 @@ use Rattle.emit.specs.PartsLaws.{part-ready, part-same}
 use Rattle.emit.specs.StepLaws.{steps-part}
 use Rattle.emit.proofs.steps.struct_steps.Tie as tie
 
-add-steps : tie.Need-add-steps
-add-steps c = let a = (c .before .before .before .args) in let f = steps-part (a .ar .now) (a .s .now) (a .at) ((c .before .before .before .pre) .good) in omega arith
+-- the places that proofs look back to
+abbrev start : tie.After-shared-slice-known3 → tie.Start
+start c = c .before .before .before .before
 
-shared-slice-read-steps : tie.Need-shared-slice-read-steps
-shared-slice-read-steps c = let a = (c .before .before .before .before .args) in let f = steps-part (a .ar .now) (a .s .now) (a .at) ((c .before .before .before .before .pre) .good) in omega arith
-
-steps-requires : tie.Need-steps-requires
-steps-requires c κs = let a = (c .before .before .before .before .before .args) in part-ready (steps-part (a .ar .now) (a .s .now) (a .at) ((c .before .before .before .before .before .pre) .good) .1) ((c .before .before .before .before .before .pre))
-
-same-length : tie.Need-same-length
-same-length c = search needs
+abbrev start₂ : tie.After-steps-arg → tie.Start
+start₂ c = start (c .before)
 
 returns : tie.Need-returns
-returns c = let a = (c .before .before .before .before .before .before .before .before .args) in part-same (steps-part (a .ar .now) (a .s .now) (a .at) ((c .before .before .before .before .before .before .before .before .pre) .good) .1) ((c .before .before .steps) .ensures)
+returns c =
+    let at-steps = c .before .before in
+    part-same (steps-part _ _ _ (start₂ (at-steps .before) .pre .good) .1) (at-steps .steps .ensures)
 
 pub struct-steps-spec : {M : Type 1} → statement M
 struct-steps-spec =
-    tie.close (tie.spec add-steps shared-slice-read-steps steps-requires same-length returns)
+    tie.close
+    (tie.spec (λ c. omega (arith, steps-part _ _ _ (c .before .before .before .pre .good)))
+    (λ c. omega (arith, steps-part _ _ _ (c .before .before .before .before .pre .good)))
+    (λ c κs. part-ready (steps-part _ _ _ (start₂ c .pre .good) .1) (start₂ c .pre)) (λ c. search needs) returns)

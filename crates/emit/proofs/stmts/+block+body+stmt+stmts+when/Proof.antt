@@ -1,4 +1,6 @@
 -- `emit::stmts` meets its contracts, a law for each kind. The measure goes by the levels of if, and within one level by the statements that
+use Rattle.emit.specs.Written.{Ready, body-words, body-at as body-from}
+use lib.ListN.{length}
 -- are left (at most 255), with a body, a block and an if above them.
 use Prim.Native.Nat.{ℕ, _<_, _+_, _*_}
 use borrow.Fn.Kinds.{In}
@@ -9,7 +11,8 @@ use native.Mathlib.Omega.{arith}
 use mathlib.Core.Path.{_∙_}
 use Rattle.emit.specs.WrittenLaws.{placed-kept}
 use Rattle.emit.specs.PartsLaws.{part-ready, part-same, parts-ready, parts-next, parts-same}
-use Rattle.emit.specs.StmtLaws.{block-ready, block-wrote, body-facts, when-parts, stmts-none, stmts-more, stmt-in, when-part, declare-part, updated-part, create-part}
+use Rattle.emit.specs.StmtLaws.{block-ready, block-wrote, body-facts, when-parts, stmts-none, stmts-more, stmt-in, when-part, declare-part}
+use Rattle.emit.specs.StmtLaws.{updated-part, create-part}
 use Rattle.emit.proofs.stmts.block.Reads as block
 use Rattle.emit.proofs.stmts.block.Kinds as block-kinds
 use Rattle.emit.proofs.stmts.+block+body+stmt+stmts+when.Lts-block as block-lts
@@ -85,7 +88,16 @@ abbrev body-claims : ℕ → body-lts.Claims
 body-claims t = (stmts-below t, stmts.Post)
 
 abbrev stmt-claims : ℕ → stmt-lts.Claims
-stmt-claims t = (when-below t, when.Post, declare-reads.Asked, declare-reads.Learnt, update-reads.Asked, update-reads.Learnt, make-reads.Asked, make-reads.Learnt)
+stmt-claims t = (
+  when-below t,
+  when.Post,
+  declare-reads.Asked,
+  declare-reads.Learnt,
+  update-reads.Asked,
+  update-reads.Learnt,
+  make-reads.Asked,
+  make-reads.Learnt,
+)
 
 abbrev stmts-claims : ℕ → stmts-lts.Claims
 stmts-claims t = (stmt-below t, stmt.Post, stmts-below t, stmts.Post)
@@ -93,194 +105,226 @@ stmts-claims t = (stmt-below t, stmt.Post, stmts-below t, stmts.Post)
 abbrev when-claims : ℕ → when-lts.Claims
 when-claims t = (expr-reads.Asked, expr-reads.Learnt, block-below t, block.Post)
 
-block-add-body : (t : ℕ) → block-lts.Need-add-body (block-claims t) (block-at t) block.Post
-block-add-body t c = let b = block-ready _ ((c .before .before .before .before .pre) .1 .good) ((c .before .before .before .before .pre) .1) in omega arith
+-- the places of `block` that proofs look back to
+abbrev block-start : (t : ℕ) → block-lts.After-body-arg (block-claims t) (block-at t) block.Post → block-lts.Start (block-claims t) (block-at t) block.Post
+block-start t c = c .before .before .before .before
+
+abbrev block-start₂ : (t : ℕ) → block-lts.After-body (block-claims t) (block-at t) block.Post → block-lts.Start (block-claims t) (block-at t) block.Post
+block-start₂ t c = block-start t (c .before)
+
+abbrev block-at-body : (t : ℕ) → block-lts.After-store-arg (block-claims t) (block-at t) block.Post → block-lts.After-body (block-claims t)
+    (block-at t) block.Post
+block-at-body t c = c .before .before .before .before
+
+-- a block has room for its `if`, and its body stands one place on
+block-known : (t : ℕ) (c : block-lts.Start (block-claims t) (block-at t) block.Post)
+    → (c .args .k < length (c .args .out .now)) ×
+    (Ready body-words (body-from (c .args .ar .now) (c .args .s .now) (c .args .depth) (c .args .at)) (c .args .out .now) (c .args .k + 1))
+block-known t c = block-ready _ (c .pre .1 .good) (c .pre .1)
 
 block-body-requires : (t : ℕ) → block-lts.Need-body-requires (block-claims t) (block-at t) block.Post
-block-body-requires t c κs = (omega (arith, (c .before .before .before .before .pre) .0), block-ready _ ((c .before .before .before .before .pre) .1 .good) ((c .before .before .before .before .pre) .1) .1)
+block-body-requires t c κs = (omega (arith, c .before .before .before .before .pre .0), block-known t (c .before .before .before .before) .1)
 
 block-sub-n : (t : ℕ) → block-lts.Need-sub-n (block-claims t) (block-at t) block.Post
-block-sub-n t c = let b = block-ready _ ((c .before .before .before .before .before .before .before .pre) .1 .good) ((c .before .before .before .before .before .before .before .pre) .1) in
-    omega (arith, (c .before .before .body) .ensures .at, placed-kept ((c .before .before .body) .ensures))
+block-sub-n t c =
+    omega
+    (arith, block-known t (block-start₂ t (c .before .before)), c .before .before .body .ensures .at, placed-kept (c .before .before .body .ensures))
 
 block-sub-n-2 : (t : ℕ) → block-lts.Need-sub-n-2 (block-claims t) (block-at t) block.Post
-block-sub-n-2 t c = let b = block-ready _ ((c .before .before .before .before .before .before .before .pre) .1 .good) ((c .before .before .before .before .before .before .before .pre) .1) in
-    omega (arith, (c .before .before .body) .ensures .at, placed-kept ((c .before .before .body) .ensures))
+block-sub-n-2 t c =
+    omega
+    (arith, block-known t (block-start₂ t (c .before .before)), c .before .before .body .ensures .at, placed-kept (c .before .before .body .ensures))
 
 block-coded-requires : (t : ℕ) → block-lts.Need-coded-requires (block-claims t) (block-at t) block.Post
-block-coded-requires t c κs = let b = block-ready _ ((c .before .before .before .before .before .before .before .pre) .1 .good) ((c .before .before .before .before .before .before .before .pre) .1) in
-    (omega arith, omega arith, omega (arith, (c .before .before .body) .ensures .at, b .1 .few))
+block-coded-requires t c κs =
+    let b = block-known t (block-start₂ t (c .before .before)) in
+    (omega arith, omega arith, omega (arith, c .before .before .body .ensures .at, b .1 .few))
 
 block-store-requires : (t : ℕ) → block-lts.Need-store-requires (block-claims t) (block-at t) block.Post
-block-store-requires t c κs = let b = block-ready _ ((c .before .before .before .before .before .before .before .before .before .pre) .1 .good) ((c .before .before .before .before .before .before .before .before .before .pre) .1) in
-    omega (arith, (c .before .before .before .before .body) .ensures .at, placed-kept ((c .before .before .before .before .body) .ensures))
+block-store-requires t c κs =
+    omega
+    (arith, block-known t (block-start₂ t (block-at-body t c)), block-at-body t c .body .ensures .at, placed-kept (block-at-body t c .body .ensures))
 
 block-same-length : (t : ℕ) → block-lts.Need-same-length (block-claims t) (block-at t) block.Post
-block-same-length t c = (c .before .before .store) .kept .0 ∙ placed-kept ((c .before .before .before .before .before .before .before .body) .ensures)
+block-same-length t c =
+    let at-store = c .before .before in
+    at-store .store .kept .0 ∙ placed-kept (block-at-body t (at-store .before) .body .ensures)
 
 block-returns : (t : ℕ) → block-lts.Need-returns (block-claims t) (block-at t) block.Post
-block-returns t c = block-wrote _ ((c .before .before .before .before .before .before .before .before .before .before .before .before .pre) .1 .good) ((c .before .before .before .before .before .before .before .body) .ensures) ((c .before .before .before .before .coded) .ensures) ((c .before .before .store) .ensures)
+block-returns t c =
+    let at-store = c .before .before in let at-coded = at-store .before .before in
+    let at-body = block-at-body t (at-store .before) in
+    block-wrote _ (block-start₂ t at-body .pre .1 .good) (at-body .body .ensures) (at-coded .coded .ensures) (at-store .store .ensures)
 
-body-add-stmts : (t : ℕ) → body-lts.Need-add-stmts (body-claims t) (body-at t) body.Post
-body-add-stmts t c = let a = (c .before .before .before .args) in let f = body-facts (a .ar .now) (a .s .now) (a .depth) (a .at) ((c .before .before .before .pre) .1 .good) in omega arith
+-- the places of `body` that proofs look back to
+abbrev body-start : (t : ℕ) → body-lts.After-shared-slice-known3 (body-claims t) (body-at t) body.Post → body-lts.Start (body-claims t) (body-at t) body.Post
+body-start t c = c .before .before .before .before
 
-body-shared-slice-read-stmts : (t : ℕ) → body-lts.Need-shared-slice-read-stmts (body-claims t) (body-at t) body.Post
-body-shared-slice-read-stmts t c = let a = (c .before .before .before .before .args) in let f = body-facts (a .ar .now) (a .s .now) (a .depth) (a .at) ((c .before .before .before .before .pre) .1 .good) in omega arith
+abbrev body-start₂ : (t : ℕ) → body-lts.After-stmts-arg (body-claims t) (body-at t) body.Post → body-lts.Start (body-claims t) (body-at t) body.Post
+body-start₂ t c = body-start t (c .before)
 
 body-stmts-requires : (t : ℕ) → body-lts.Need-stmts-requires (body-claims t) (body-at t) body.Post
-body-stmts-requires t c κs = let a = (c .before .before .before .before .before .args) in
-    let f = body-facts (a .ar .now) (a .s .now) (a .depth) (a .at) ((c .before .before .before .before .before .pre) .1 .good) in
-    (omega (arith, (c .before .before .before .before .before .pre) .0, (c .before .shared-slice-known3) .given (a .at)), part-ready (f .part) ((c .before .before .before .before .before .pre) .1))
-
-body-same-length : (t : ℕ) → body-lts.Need-same-length (body-claims t) (body-at t) body.Post
-body-same-length t c = placed-kept ((c .before .before .stmts) .ensures)
+body-stmts-requires t c κs =
+    let a = body-start₂ t c .args in let f = body-facts _ _ _ _ (body-start₂ t c .pre .1 .good) in
+    (omega (arith, body-start₂ t c .pre .0, c .before .shared-slice-known3 .given (a .at)), part-ready (f .part) (body-start₂ t c .pre .1))
 
 body-returns : (t : ℕ) → body-lts.Need-returns (body-claims t) (body-at t) body.Post
-body-returns t c = let a = (c .before .before .before .before .before .before .before .before .args) in part-same (body-facts (a .ar .now) (a .s .now) (a .depth) (a .at) ((c .before .before .before .before .before .before .before .before .pre) .1 .good) .part) ((c .before .before .stmts) .ensures)
+body-returns t c =
+    let at-stmts = c .before .before in
+    part-same (body-facts _ _ _ _ (body-start₂ t (at-stmts .before) .pre .1 .good) .part) (at-stmts .stmts .ensures)
 
-stmt-shared-slice-read-tag : (t : ℕ) → stmt-lts.Need-shared-slice-read-tag (stmt-claims t) (stmt-at t) stmt.Post
-stmt-shared-slice-read-tag t c = let a = (c .before .before .before .before .args) in let i = stmt-in (a .ar .now) (a .s .now) (a .depth) (a .at) ((c .before .before .before .before .pre) .1 .good) in omega arith
+-- the places of `stmt` that proofs look back to
+abbrev stmt-start : (t : ℕ) → stmt-lts.After-shared-slice-known3 (stmt-claims t) (stmt-at t) stmt.Post → stmt-lts.Start (stmt-claims t) (stmt-at t) stmt.Post
+stmt-start t c = c .before .before .before .before
 
-stmt-add-when : (t : ℕ) → stmt-lts.Need-add-when (stmt-claims t) (stmt-at t) stmt.Post
-stmt-add-when t c = let a = (c .before .before .before .before .before .args) in let i = stmt-in (a .ar .now) (a .s .now) (a .depth) (a .at) ((c .before .before .before .before .before .pre) .1 .good) in omega arith
+abbrev stmt-start₂ : (t : ℕ) → stmt-lts.After-update-arg (stmt-claims t) (stmt-at t) stmt.Post → stmt-lts.Start (stmt-claims t) (stmt-at t) stmt.Post
+stmt-start₂ t c = stmt-start t (c .before .before .before .before)
+
+abbrev stmt-start₃ : (t : ℕ) → stmt-lts.After-make-arg (stmt-claims t) (stmt-at t) stmt.Post → stmt-lts.Start (stmt-claims t) (stmt-at t) stmt.Post
+stmt-start₃ t c = stmt-start t (c .before .before .before .before)
 
 stmt-sub-when : (t : ℕ) → stmt-lts.Need-sub-when (stmt-claims t) (stmt-at t) stmt.Post
-stmt-sub-when t c = let a = (c .before .before .before .before .before .args) in let w = when-part (a .ar .now) (a .s .now) (a .depth) (a .at) ((c .before .before .before .before .before .pre) .1 .good) ((c .if1) .taken) in omega (arith, w .0)
+stmt-sub-when t c =
+    let w = when-part _ _ _ _ (stmt-start t (c .before) .pre .1 .good) (c .if1 .taken) in
+    omega (arith, w .0)
 
 stmt-when-requires : (t : ℕ) → stmt-lts.Need-when-requires (stmt-claims t) (stmt-at t) stmt.Post
-stmt-when-requires t c κs = let a = (c .before .before .before .before .before .before .args) in
-    let w = when-part (a .ar .now) (a .s .now) (a .depth) (a .at) ((c .before .before .before .before .before .before .pre) .1 .good) ((c .before .if1) .taken) in
-    (omega (arith, (c .before .before .before .before .before .before .pre) .0, w .0), part-ready (w .1) ((c .before .before .before .before .before .before .pre) .1))
-
-stmt-same-length : (t : ℕ) → stmt-lts.Need-same-length (stmt-claims t) (stmt-at t) stmt.Post
-stmt-same-length t c = placed-kept ((c .before .before .when) .ensures)
+stmt-when-requires t c κs =
+    let w = when-part _ _ _ _ (stmt-start t (c .before .before) .pre .1 .good) (c .before .if1 .taken) in
+    (omega (arith, stmt-start t (c .before .before) .pre .0, w .0), part-ready (w .1) (stmt-start t (c .before .before) .pre .1))
 
 stmt-returns : (t : ℕ) → stmt-lts.Need-returns (stmt-claims t) (stmt-at t) stmt.Post
-stmt-returns t c = let a = (c .before .before .before .before .before .before .before .before .before .args) in part-same (when-part (a .ar .now) (a .s .now) (a .depth) (a .at) ((c .before .before .before .before .before .before .before .before .before .pre) .1 .good) ((c .before .before .before .before .if1) .taken) .1) ((c .before .before .when) .ensures)
-
-stmt-add-declare : (t : ℕ) → stmt-lts.Need-add-declare (stmt-claims t) (stmt-at t) stmt.Post
-stmt-add-declare t c = let a = (c .before .before .before .before .before .before .args) in let i = stmt-in (a .ar .now) (a .s .now) (a .depth) (a .at) ((c .before .before .before .before .before .before .pre) .1 .good) in omega arith
+stmt-returns t c =
+    let at-when = c .before .before in let at-if1 = at-when .before .before in
+    part-same (when-part _ _ _ _ (stmt-start t (at-if1 .before) .pre .1 .good) (at-if1 .if1 .taken) .1) (at-when .when .ensures)
 
 stmt-declare-requires : (t : ℕ) → stmt-lts.Need-declare-requires (stmt-claims t) (stmt-at t) stmt.Post
-stmt-declare-requires t c κs = let a = (c .before .before .before .before .before .before .before .args) in part-ready (declare-part (a .ar .now) (a .s .now) (a .depth) (a .at) ((c .before .before .before .before .before .before .before .pre) .1 .good) ((c .before .if2) .taken)) ((c .before .before .before .before .before .before .before .pre) .1)
-
-stmt-same-length-2 : (t : ℕ) → stmt-lts.Need-same-length-2 (stmt-claims t) (stmt-at t) stmt.Post
-stmt-same-length-2 t c = placed-kept ((c .before .before .declare) .ensures)
+stmt-declare-requires t c κs =
+    let start = stmt-start t (c .before .before .before) in
+    part-ready (declare-part _ _ _ _ (start .pre .1 .good) (c .before .if2 .taken)) (start .pre .1)
 
 stmt-returns-2 : (t : ℕ) → stmt-lts.Need-returns-2 (stmt-claims t) (stmt-at t) stmt.Post
-stmt-returns-2 t c = let a = (c .before .before .before .before .before .before .before .before .before .before .args) in part-same (declare-part (a .ar .now) (a .s .now) (a .depth) (a .at) ((c .before .before .before .before .before .before .before .before .before .before .pre) .1 .good) ((c .before .before .before .before .if2) .taken)) ((c .before .before .declare) .ensures)
-
-stmt-add-update : (t : ℕ) → stmt-lts.Need-add-update (stmt-claims t) (stmt-at t) stmt.Post
-stmt-add-update t c = let a = (c .before .before .before .before .before .before .before .args) in let i = stmt-in (a .ar .now) (a .s .now) (a .depth) (a .at) ((c .before .before .before .before .before .before .before .pre) .1 .good) in omega arith
+stmt-returns-2 t c =
+    let at-declare = c .before .before in let at-if2 = at-declare .before .before in
+    part-same (declare-part _ _ _ _ (stmt-start t (at-if2 .before .before) .pre .1 .good) (at-if2 .if2 .taken)) (at-declare .declare .ensures)
 
 stmt-update-requires : (t : ℕ) → stmt-lts.Need-update-requires (stmt-claims t) (stmt-at t) stmt.Post
-stmt-update-requires t c κs = let a = (c .before .before .before .before .before .before .before .before .args) in part-ready (updated-part (a .ar .now) (a .s .now) (a .depth) (a .at) ((c .before .before .before .before .before .before .before .before .pre) .1 .good) ((c .before .if3) .taken)) ((c .before .before .before .before .before .before .before .before .pre) .1)
-
-stmt-same-length-3 : (t : ℕ) → stmt-lts.Need-same-length-3 (stmt-claims t) (stmt-at t) stmt.Post
-stmt-same-length-3 t c = placed-kept ((c .before .before .update) .ensures)
+stmt-update-requires t c κs = part-ready (updated-part _ _ _ _ (stmt-start₂ t c .pre .1 .good) (c .before .if3 .taken)) (stmt-start₂ t c .pre .1)
 
 stmt-returns-3 : (t : ℕ) → stmt-lts.Need-returns-3 (stmt-claims t) (stmt-at t) stmt.Post
-stmt-returns-3 t c = let a = (c .before .before .before .before .before .before .before .before .before .before .before .args) in part-same (updated-part (a .ar .now) (a .s .now) (a .depth) (a .at) ((c .before .before .before .before .before .before .before .before .before .before .before .pre) .1 .good) ((c .before .before .before .before .if3) .taken)) ((c .before .before .update) .ensures)
-
-stmt-add-make : (t : ℕ) → stmt-lts.Need-add-make (stmt-claims t) (stmt-at t) stmt.Post
-stmt-add-make t c = let a = (c .before .before .before .before .before .before .before .args) in let i = stmt-in (a .ar .now) (a .s .now) (a .depth) (a .at) ((c .before .before .before .before .before .before .before .pre) .1 .good) in omega arith
+stmt-returns-3 t c =
+    let at-update = c .before .before in let at-if3 = at-update .before .before in
+    part-same (updated-part _ _ _ _ (stmt-start₂ t (at-update .before) .pre .1 .good) (at-if3 .if3 .taken)) (at-update .update .ensures)
 
 stmt-make-requires : (t : ℕ) → stmt-lts.Need-make-requires (stmt-claims t) (stmt-at t) stmt.Post
-stmt-make-requires t c κs = let a = (c .before .before .before .before .before .before .before .before .args) in part-ready (create-part (a .ar .now) (a .s .now) (a .depth) (a .at) ((c .before .before .before .before .before .before .before .before .pre) .1 .good) ((c .before .before .before .if1) .left) ((c .before .before .if2) .left) ((c .before .if3) .left)) ((c .before .before .before .before .before .before .before .before .pre) .1)
-
-stmt-same-length-4 : (t : ℕ) → stmt-lts.Need-same-length-4 (stmt-claims t) (stmt-at t) stmt.Post
-stmt-same-length-4 t c = placed-kept ((c .before .before .make) .ensures)
+stmt-make-requires t c κs =
+    let at-if2 = c .before .before in
+    part-ready (create-part _ _ _ _ (stmt-start₃ t c .pre .1 .good) (at-if2 .before .if1 .left) (at-if2 .if2 .left) (c .before .if3 .left))
+    (stmt-start₃ t c .pre .1)
 
 stmt-returns-4 : (t : ℕ) → stmt-lts.Need-returns-4 (stmt-claims t) (stmt-at t) stmt.Post
-stmt-returns-4 t c = let a = (c .before .before .before .before .before .before .before .before .before .before .before .args) in
-    part-same (create-part (a .ar .now) (a .s .now) (a .depth) (a .at) ((c .before .before .before .before .before .before .before .before .before .before .before .pre) .1 .good) ((c .before .before .before .before .before .before .if1) .left) ((c .before .before .before .before .before .if2) .left) ((c .before .before .before .before .if3) .left)) ((c .before .before .make) .ensures)
+stmt-returns-4 t c =
+    let at-make = c .before .before in let at-if3 = at-make .before .before in
+    let at-if1 = at-if3 .before .before in
+    part-same (create-part _ _ _ _ (stmt-start₃ t (at-make .before) .pre .1 .good) (at-if1 .if1 .left) (at-if3 .before .if2 .left) (at-if3 .if3 .left))
+    (at-make .make .ensures)
+
+-- the places of `stmts` that proofs look back to
+abbrev stmts-start : (t : ℕ) → stmts-lts.Else1 (stmts-claims t) (stmts-at t) stmts.Post → stmts-lts.Start (stmts-claims t) (stmts-at t) stmts.Post
+stmts-start t c = c .before .before .before .before
+
+abbrev stmts-at-if1 : (t : ℕ) → stmts-lts.After-stmt (stmts-claims t) (stmts-at t) stmts.Post → stmts-lts.Else1 (stmts-claims t) (stmts-at t) stmts.Post
+stmts-at-if1 t c = c .before .before
+
+abbrev stmts-at-if1₂ : (t : ℕ) → stmts-lts.After-stmts-arg (stmts-claims t) (stmts-at t) stmts.Post → stmts-lts.Else1 (stmts-claims t) (stmts-at t) stmts.Post
+stmts-at-if1₂ t c = stmts-at-if1 t (c .before .before .before)
+
+abbrev stmts-at-stmt : (t : ℕ) → stmts-lts.After-stmts (stmts-claims t) (stmts-at t) stmts.Post → stmts-lts.After-stmt (stmts-claims t) (stmts-at t) stmts.Post
+stmts-at-stmt t c = c .before .before .before .before
+
+abbrev stmts-at-stmt₂ :
+    (t : ℕ) → stmts-lts.After-slice-known3 (stmts-claims t) (stmts-at t) stmts.Post → stmts-lts.After-stmt (stmts-claims t) (stmts-at t) stmts.Post
+stmts-at-stmt₂ t c = stmts-at-stmt t (c .before .before)
 
 stmts-returns : (t : ℕ) → stmts-lts.Need-returns (stmts-claims t) (stmts-at t) stmts.Post
-stmts-returns t c = let a = (c .before .before .before .before .args) in stmts-none (a .ar .now) (a .s .now) (a .depth) (a .n) (a .at) ((c .if1) .taken) (a .out .now) (a .k)
+stmts-returns t c =
+    let a = c .before .before .before .before .args in
+    stmts-none (a .ar .now) (a .s .now) (a .depth) (a .n) (a .at) (c .if1 .taken) (a .out .now) (a .k)
 
 stmts-stmt-requires : (t : ℕ) → stmts-lts.Need-stmt-requires (stmts-claims t) (stmts-at t) stmts.Post
-stmts-stmt-requires t c κs = let a = (c .before .before .before .before .before .args) in
-    let f = stmts-more (a .ar .now) (a .s .now) (a .depth) (a .n) (a .at) ((c .before .if1) .left) ((c .before .before .before .before .before .pre) .1 .good) in
-    (omega (arith, (c .before .before .before .before .before .pre) .0), parts-ready f ((c .before .before .before .before .before .pre) .1))
-
-stmts-sub-stmts : (t : ℕ) → stmts-lts.Need-sub-stmts (stmts-claims t) (stmts-at t) stmts.Post
-stmts-sub-stmts t c = omega (arith, (c .before .before .before .before .if1) .left)
+stmts-stmt-requires t c κs =
+    let f = stmts-more _ _ _ _ _ (c .before .if1 .left) (stmts-start t (c .before) .pre .1 .good) in
+    (omega (arith, stmts-start t (c .before) .pre .0), parts-ready f (stmts-start t (c .before) .pre .1))
 
 stmts-stmts-requires : (t : ℕ) → stmts-lts.Need-stmts-requires (stmts-claims t) (stmts-at t) stmts.Post
-stmts-stmts-requires t c κs = let a = (c .before .before .before .before .before .before .before .before .before .args) in
-    let f = stmts-more (a .ar .now) (a .s .now) (a .depth) (a .n) (a .at) ((c .before .before .before .before .before .if1) .left) ((c .before .before .before .before .before .before .before .before .before .pre) .1 .good) in
-    (omega (arith, (c .before .before .before .before .before .before .before .before .before .pre) .0, (c .before .before .before .before .before .if1) .left), parts-next f ((c .before .before .before .before .before .before .before .before .before .pre) .1) ((c .before .before .before .stmt) .ensures))
+stmts-stmts-requires t c κs =
+    let f = stmts-more _ _ _ _ _ (stmts-at-if1₂ t c .if1 .left) (stmts-start t (stmts-at-if1₂ t c) .pre .1 .good) in (
+      omega (arith, stmts-start t (stmts-at-if1₂ t c) .pre .0, stmts-at-if1₂ t c .if1 .left),
+      parts-next f (stmts-start t (stmts-at-if1₂ t c) .pre .1) (c .before .before .before .stmt .ensures),
+    )
 
 stmts-same-length : (t : ℕ) → stmts-lts.Need-same-length (stmts-claims t) (stmts-at t) stmts.Post
-stmts-same-length t c = placed-kept ((c .before .before .stmts) .ensures) ∙ placed-kept ((c .before .before .before .before .before .before .stmt) .ensures)
+stmts-same-length t c =
+    let at-stmts = c .before .before in
+    placed-kept (at-stmts .stmts .ensures) ∙ placed-kept (stmts-at-stmt₂ t c .stmt .ensures)
 
 stmts-returns-2 : (t : ℕ) → stmts-lts.Need-returns-2 (stmts-claims t) (stmts-at t) stmts.Post
-stmts-returns-2 t c = let a = (c .before .before .before .before .before .before .before .before .before .before .before .before .args) in
-    let f = stmts-more (a .ar .now) (a .s .now) (a .depth) (a .n) (a .at) ((c .before .before .before .before .before .before .before .before .if1) .left) ((c .before .before .before .before .before .before .before .before .before .before .before .before .pre) .1 .good) in
-    parts-same ((c .before .before .before .before .before .before .stmt) .ensures) ((c .before .before .stmts) .ensures) f
+stmts-returns-2 t c =
+    let at-stmts = c .before .before in let at-if1 = stmts-at-if1₂ t (at-stmts .before) in
+    let f = stmts-more _ _ _ _ _ (at-if1 .if1 .left) (stmts-start t at-if1 .pre .1 .good) in
+    parts-same (stmts-at-stmt₂ t c .stmt .ensures) (at-stmts .stmts .ensures) f
+
+-- the places of `when` that proofs look back to
+abbrev when-start : (t : ℕ) → when-lts.After-expr-arg (when-claims t) (when-at t) when.Post → when-lts.Start (when-claims t) (when-at t) when.Post
+when-start t c = c .before .before .before .before
+
+abbrev when-start₂ : (t : ℕ) → when-lts.After-block-arg (when-claims t) (when-at t) when.Post → when-lts.Start (when-claims t) (when-at t) when.Post
+when-start₂ t c = when-start t (c .before .before .before .before)
+
+abbrev when-at-expr : (t : ℕ) → when-lts.After-block (when-claims t) (when-at t) when.Post → when-lts.After-expr (when-claims t) (when-at t) when.Post
+when-at-expr t c = c .before .before .before .before
+
+abbrev when-at-expr₂ : (t : ℕ) → when-lts.After-slice-known3 (when-claims t) (when-at t) when.Post → when-lts.After-expr (when-claims t) (when-at t) when.Post
+when-at-expr₂ t c = when-at-expr t (c .before .before)
 
 when-expr-requires : (t : ℕ) → when-lts.Need-expr-requires (when-claims t) (when-at t) when.Post
-when-expr-requires t c κs = let a = (c .before .before .before .before .args) in parts-ready (when-parts (a .ar .now) (a .s .now) (a .depth) (a .at) ((c .before .before .before .before .pre) .1 .good)) ((c .before .before .before .before .pre) .1)
+when-expr-requires t c κs =
+    parts-ready (when-parts _ _ _ _ (c .before .before .before .before .pre .1 .good)) (c .before .before .before .before .pre .1)
 
 when-block-requires : (t : ℕ) → when-lts.Need-block-requires (when-claims t) (when-at t) when.Post
-when-block-requires t c κs = let a = (c .before .before .before .before .before .before .before .before .args) in
-    (omega (arith, (c .before .before .before .before .before .before .before .before .pre) .0), parts-next (when-parts (a .ar .now) (a .s .now) (a .depth) (a .at) ((c .before .before .before .before .before .before .before .before .pre) .1 .good)) ((c .before .before .before .before .before .before .before .before .pre) .1) ((c .before .before .before .expr) .ensures))
+when-block-requires t c κs = (
+  omega (arith, when-start₂ t c .pre .0),
+  parts-next (when-parts _ _ _ _ (when-start₂ t c .pre .1 .good)) (when-start₂ t c .pre .1) (c .before .before .before .expr .ensures),
+)
 
 when-same-length : (t : ℕ) → when-lts.Need-same-length (when-claims t) (when-at t) when.Post
-when-same-length t c = placed-kept ((c .before .before .block) .ensures) ∙ placed-kept ((c .before .before .before .before .before .before .expr) .ensures)
+when-same-length t c =
+    let at-block = c .before .before in
+    placed-kept (at-block .block .ensures) ∙ placed-kept (when-at-expr₂ t c .expr .ensures)
 
 when-returns : (t : ℕ) → when-lts.Need-returns (when-claims t) (when-at t) when.Post
-when-returns t c = let a = (c .before .before .before .before .before .before .before .before .before .before .before .args) in parts-same ((c .before .before .before .before .before .before .expr) .ensures) ((c .before .before .block) .ensures) (when-parts (a .ar .now) (a .s .now) (a .depth) (a .at) ((c .before .before .before .before .before .before .before .before .before .before .before .pre) .1 .good))
+when-returns t c =
+    let at-block = c .before .before in
+    parts-same (when-at-expr₂ t c .expr .ensures) (at-block .block .ensures) (when-parts _ _ _ _ (when-start₂ t (at-block .before) .pre .1 .good))
 
 pub +block+body+stmt+stmts+when-spec : {M : Type 1} → statement M
-+block+body+stmt+stmts+when-spec = close μ-block μ-body μ-stmt μ-stmts μ-when (λ t. block-lts.spec (block-claims t) (block-at t)
-    block.Post
-    (block-add-body t)
-    (block-body-requires t)
-    (block-sub-n t)
-    (block-sub-n-2 t)
-    (block-coded-requires t)
-    (block-store-requires t)
-    (block-same-length t)
++block+body+stmt+stmts+when-spec =
+    close μ-block μ-body μ-stmt μ-stmts μ-when
+    (λ t. block-lts.spec (block-claims t) (block-at t) block.Post (λ c. omega (arith, block-known t (c .before .before .before .before)))
+    (block-body-requires t) (block-sub-n t) (block-sub-n-2 t) (block-coded-requires t) (block-store-requires t) (block-same-length t)
     (block-returns t))
-    (λ t. body-lts.spec (body-claims t) (body-at t)
-    body.Post
-    (body-add-stmts t)
-    (body-shared-slice-read-stmts t)
-    (body-stmts-requires t)
-    (body-same-length t)
-    (body-returns t))
-    (λ t. stmt-lts.spec (stmt-claims t) (stmt-at t)
-    stmt.Post
-    (stmt-shared-slice-read-tag t)
-    (stmt-add-when t)
-    (stmt-sub-when t)
-    (stmt-when-requires t)
-    (stmt-same-length t)
-    (stmt-returns t)
-    (stmt-add-declare t)
-    (stmt-declare-requires t)
-    (stmt-same-length-2 t)
-    (stmt-returns-2 t)
-    (stmt-add-update t)
-    (stmt-update-requires t)
-    (stmt-same-length-3 t)
-    (stmt-returns-3 t)
-    (stmt-add-make t)
-    (stmt-make-requires t)
-    (stmt-same-length-4 t)
-    (stmt-returns-4 t))
-    (λ t. stmts-lts.spec (stmts-claims t) (stmts-at t)
-    stmts.Post
-    (stmts-returns t)
-    (stmts-stmt-requires t)
-    (stmts-sub-stmts t)
-    (stmts-stmts-requires t)
-    (stmts-same-length t)
-    (stmts-returns-2 t))
-    λ t. when-lts.spec (when-claims t) (when-at t)
-    when.Post
-    (when-expr-requires t)
-    (when-block-requires t)
-    (when-same-length t)
-    (when-returns t)
+    (λ t. body-lts.spec (body-claims t) (body-at t) body.Post (λ c. omega (arith, body-facts _ _ _ _ (c .before .before .before .pre .1 .good)))
+    (λ c. omega (arith, body-facts _ _ _ _ (c .before .before .before .before .pre .1 .good))) (body-stmts-requires t)
+    (λ c. placed-kept (c .before .before .stmts .ensures)) (body-returns t))
+    (λ t. stmt-lts.spec (stmt-claims t) (stmt-at t) stmt.Post (λ c. omega (arith, stmt-in _ _ _ _ (c .before .before .before .before .pre .1 .good)))
+    (λ c. omega (arith, stmt-in _ _ _ _ (stmt-start t (c .before) .pre .1 .good))) (stmt-sub-when t) (stmt-when-requires t)
+    (λ c. placed-kept (c .before .before .when .ensures)) (stmt-returns t)
+    (λ c. omega (arith, stmt-in _ _ _ _ (stmt-start t (c .before .before) .pre .1 .good))) (stmt-declare-requires t)
+    (λ c. placed-kept (c .before .before .declare .ensures)) (stmt-returns-2 t)
+    (λ c. omega (arith, stmt-in _ _ _ _ (stmt-start t (c .before .before .before) .pre .1 .good))) (stmt-update-requires t)
+    (λ c. placed-kept (c .before .before .update .ensures)) (stmt-returns-3 t)
+    (λ c. omega (arith, stmt-in _ _ _ _ (stmt-start t (c .before .before .before) .pre .1 .good))) (stmt-make-requires t)
+    (λ c. placed-kept (c .before .before .make .ensures)) (stmt-returns-4 t))
+    (λ t. stmts-lts.spec (stmts-claims t) (stmts-at t) stmts.Post (stmts-returns t) (stmts-stmt-requires t)
+    (λ c. omega (arith, c .before .before .before .before .if1 .left)) (stmts-stmts-requires t) (stmts-same-length t) (stmts-returns-2 t))
+    λ t. when-lts.spec (when-claims t) (when-at t) when.Post (when-expr-requires t) (when-block-requires t) (when-same-length t) (when-returns t)

@@ -4,20 +4,8 @@ use Rattle.emit.proofs.words.null_word.Statement.{statement}
 use Rattle.emit.specs.LeafLaws.{null-is}
 use Rattle.emit.proofs.words.null_word.Tie as tie
 
-default-word-requires : tie.Need-default-word-requires
-default-word-requires c κs = search needs
-
-wide-requires : tie.Need-wide-requires
-wide-requires c κs = search needs
-
-cast-coded : tie.Need-cast-coded
-cast-coded c = search needs
-
-coded-requires : tie.Need-coded-requires
-coded-requires c κs = search needs
-
 returns : tie.Need-returns
 returns c = null-is _ _ _ _ (c .before .wide .ensures .0) (c .before .before .default-word .ensures) (c .coded .ensures)
 
 pub null-word-spec : {M : Type 1} → statement M
-null-word-spec = tie.close (tie.spec default-word-requires wide-requires cast-coded coded-requires returns)
+null-word-spec = tie.close (tie.spec (λ c κs. search needs) (λ c κs. search needs) (λ c. search needs) (λ c κs. search needs) returns)

@@ -1,95 +1,104 @@
 -- `emit::words::target` meets its contract: push this, the reads of all but the last, the write of the last.
+use lib.ListN.{length, getD}
+use Prim.Native.Nat.{_+_, _≤_}
 use borrow.Author.Needs.{needs}
 use Rattle.emit.proofs.words.target.Statement.{statement}
 use native.Mathlib.Omega.{arith}
 use mathlib.Core.Path.{refl}
-use Rattle.emit.specs.PathLaws.{path-facts, target-room, target-wrote}
+use Rattle.emit.specs.PathLaws.{path-facts, target-room, target-wrote, PathFacts}
 use Rattle.emit.proofs.words.target.Tie as tie
 
-shared-slice-read-n : tie.Need-shared-slice-read-n
-shared-slice-read-n c = let a = (c .before .before .before .args) in let f = path-facts (a .s .now) (a .at) ((c .before .before .before .pre) .good) in omega arith
+-- the places that proofs look back to
+abbrev start : tie.After-coded → tie.Start
+start c = c .before .before .before .before
 
-coded-requires : tie.Need-coded-requires
-coded-requires c κs = search needs
+abbrev start₂ : tie.After-slice-known2 → tie.Start
+start₂ c = start (c .before .before .before .before)
 
-store-requires : tie.Need-store-requires
-store-requires c κs = let a = (c .before .before .before .before .before .args) in
-    let f = path-facts (a .s .now) (a .at) ((c .before .before .before .before .before .pre) .good) in
-    let h = target-room (a .s .now) (a .at) (a .k) (a .out .now) ((c .before .before .before .before .before .pre)) in omega arith
+abbrev at-store : tie.After-reads → tie.After-store
+at-store c = c .before .before .before .before
 
-add-reads : tie.Need-add-reads
-add-reads c = let a = (c .before .before .before .before .before .before .before .before .args) in
-    let f = path-facts (a .s .now) (a .at) ((c .before .before .before .before .before .before .before .before .pre) .good) in
-    let h = target-room (a .s .now) (a .at) (a .k) (a .out .now) ((c .before .before .before .before .before .before .before .before .pre)) in omega arith
+abbrev start₃ : tie.After-reads → tie.Start
+start₃ c = start₂ (c .before .before)
 
-sub-reads : tie.Need-sub-reads
-sub-reads c = let a = (c .before .before .before .before .before .before .before .before .args) in
-    let f = path-facts (a .s .now) (a .at) ((c .before .before .before .before .before .before .before .before .pre) .good) in
-    let h = target-room (a .s .now) (a .at) (a .k) (a .out .now) ((c .before .before .before .before .before .before .before .before .pre)) in omega arith
+abbrev at-reads : tie.After-wide → tie.After-reads
+at-reads c = c .before .before .before .before
 
-add-reads-2 : tie.Need-add-reads-2
-add-reads-2 c = search needs
+abbrev at-reads₂ : tie.After-store-arg2 → tie.After-reads
+at-reads₂ c = at-reads (c .before .before)
+
+-- what was read of a path, and room for its words
+known : (c : tie.Start) → PathFacts (c .args .s .now) (c .args .at) (getD (c .args .s .now) (c .args .at) 0)
+known c = path-facts _ _ (c .pre .good)
+
+room : (c : tie.Start) → c .args .k + 1 + getD (c .args .s .now) (c .args .at) 0 ≤ length (c .args .out .now)
+room c = target-room _ _ _ _ (c .pre)
 
 reads-requires : tie.Need-reads-requires
-reads-requires c κs = let a = (c .before .before .before .before .before .before .before .before .before .args) in
-    let f = path-facts (a .s .now) (a .at) ((c .before .before .before .before .before .before .before .before .before .pre) .good) in
-    let h = target-room (a .s .now) (a .at) (a .k) (a .out .now) ((c .before .before .before .before .before .before .before .before .before .pre)) in
-    (omega arith, omega (arith, (c .before .before .before .store) .kept .0))
+reads-requires c κs =
+    let f = known (start₂ (c .before)) in let h = room (start₂ (c .before)) in
+    (omega arith, omega (arith, c .before .before .before .store .kept .0))
 
 shared-slice-read-wide : tie.Need-shared-slice-read-wide
-shared-slice-read-wide c = let a = (c .before .before .before .before .before .before .before .before .before .before .before .before .before .args) in
-    let f = path-facts (a .s .now) (a .at) ((c .before .before .before .before .before .before .before .before .before .before .before .before .before .pre) .good) in
-    let h = target-room (a .s .now) (a .at) (a .k) (a .out .now) ((c .before .before .before .before .before .before .before .before .before .before .before .before .before .pre)) in
-    omega (arith, (c .before .before .before .before .before .before .before .store) .kept .0, (c .before .before .before .reads) .ensures .0, (c .before .before .before .reads) .ensures .1, (c .before .before .before .reads) .kept .1 .1 .1 .0)
-
-wide-requires : tie.Need-wide-requires
-wide-requires c κs = search needs
-
-coded-requires-2 : tie.Need-coded-requires-2
-coded-requires-2 c κs = search needs
+shared-slice-read-wide c =
+    omega (
+      arith,
+      known (start₃ (c .before .before .before)),
+      room (start₃ (c .before .before .before)),
+      at-store (c .before .before .before) .store .kept .0,
+      c .before .before .before .reads .ensures .0,
+      c .before .before .before .reads .ensures .1,
+      c .before .before .before .reads .kept .1 .1 .1 .0,
+    )
 
 store-requires-2 : tie.Need-store-requires-2
-store-requires-2 c κs = let a = (c .before .before .before .before .before .before .before .before .before .before .before .before .before .before .before .before .args) in
-    let f = path-facts (a .s .now) (a .at) ((c .before .before .before .before .before .before .before .before .before .before .before .before .before .before .before .before .pre) .good) in
-    let h = target-room (a .s .now) (a .at) (a .k) (a .out .now) ((c .before .before .before .before .before .before .before .before .before .before .before .before .before .before .before .before .pre)) in
-    omega (arith, (c .before .before .before .before .before .before .before .before .before .before .store) .kept .0, (c .before .before .before .before .before .before .reads) .ensures .0, (c .before .before .before .before .before .before .reads) .ensures .1, (c .before .before .before .before .before .before .reads) .kept .1 .1 .1 .0)
+store-requires-2 c κs =
+    omega (
+      arith,
+      known (start₃ (at-reads₂ c)),
+      room (start₃ (at-reads₂ c)),
+      at-store (at-reads₂ c) .store .kept .0,
+      at-reads₂ c .reads .ensures .0,
+      at-reads₂ c .reads .ensures .1,
+      at-reads₂ c .reads .kept .1 .1 .1 .0,
+    )
 
 add-t16 : tie.Need-add-t16
-add-t16 c = let a = (c .before .before .before .before .before .before .before .before .before .before .before .before .before .before .before .before .before .before .before .args) in
-    let f = path-facts (a .s .now) (a .at) ((c .before .before .before .before .before .before .before .before .before .before .before .before .before .before .before .before .before .before .before .pre) .good) in
-    let h = target-room (a .s .now) (a .at) (a .k) (a .out .now) ((c .before .before .before .before .before .before .before .before .before .before .before .before .before .before .before .before .before .before .before .pre)) in
-    omega (arith, (c .before .before .before .before .before .before .before .before .before .before .before .before .before .store) .kept .0, (c .before .before .before .before .before .before .before .before .before .reads) .ensures .0, (c .before .before .before .before .before .before .before .before .before .reads) .ensures .1, (c .before .before .before .before .before .before .before .before .before .reads) .kept .1 .1 .1 .0)
+add-t16 c =
+    omega (
+      arith,
+      known (start₃ (at-reads₂ (c .before .before .before))),
+      room (start₃ (at-reads₂ (c .before .before .before))),
+      at-store (at-reads₂ (c .before .before .before)) .store .kept .0,
+      at-reads₂ (c .before .before .before) .reads .ensures .0,
+      at-reads₂ (c .before .before .before) .reads .ensures .1,
+      at-reads₂ (c .before .before .before) .reads .kept .1 .1 .1 .0,
+    )
 
 add-t19 : tie.Need-add-t19
-add-t19 c = let a = (c .before .before .before .before .before .before .before .before .before .before .before .before .before .before .before .before .before .before .before .args) in
-    let f = path-facts (a .s .now) (a .at) ((c .before .before .before .before .before .before .before .before .before .before .before .before .before .before .before .before .before .before .before .pre) .good) in
-    let h = target-room (a .s .now) (a .at) (a .k) (a .out .now) ((c .before .before .before .before .before .before .before .before .before .before .before .before .before .before .before .before .before .before .before .pre)) in
-    omega (arith, (c .before .before .before .before .before .before .before .before .before .before .before .before .before .store) .kept .0, (c .before .before .before .before .before .before .before .before .before .reads) .ensures .0, (c .before .before .before .before .before .before .before .before .before .reads) .ensures .1, (c .before .before .before .before .before .before .before .before .before .reads) .kept .1 .1 .1 .0)
-
-same-length : tie.Need-same-length
-same-length c = search needs
+add-t19 c =
+    omega (
+      arith,
+      known (start₃ (at-reads₂ (c .before .before .before))),
+      room (start₃ (at-reads₂ (c .before .before .before))),
+      at-store (at-reads₂ (c .before .before .before)) .store .kept .0,
+      at-reads₂ (c .before .before .before) .reads .ensures .0,
+      at-reads₂ (c .before .before .before) .reads .ensures .1,
+      at-reads₂ (c .before .before .before) .reads .kept .1 .1 .1 .0,
+    )
 
 returns : tie.Need-returns
-returns c = let a = (c .before .before .before .before .before .before .before .before .before .before .before .before .before .before .before .before .before .before .before .args) in
-    target-wrote (a .s .now) (a .at) (a .k) (a .out .now) ((c .before .before .before .before .before .before .before .before .before .before .before .before .before .before .before .before .before .before .before .pre) .good) ((c .before .before .before .before .before .before .before .before .before .before .before .before .before .before .before .coded) .ensures) ((c .before .before .before .before .before .before .before .before .before .before .before .before .before .store) .ensures) ((c .before .before .before .before .before .before .before .before .before .reads) .ensures)
-    ((c .before .before .before .before .before .wide) .ensures .0) ((c .before .before .before .before .coded2) .ensures) ((c .before .before .store2) .ensures) refl refl
+returns c =
+    let at-store2 = c .before .before in let at-coded2 = at-store2 .before .before in
+    let at-reads′ = at-reads₂ (at-store2 .before) in let at-coded = at-store at-reads′ .before .before in
+    let a = start₃ at-reads′ .args in
+    target-wrote (a .s .now) (a .at) (a .k) (a .out .now) (start₃ at-reads′ .pre .good) (at-coded .coded .ensures) (at-store at-reads′ .store .ensures)
+    (at-reads′ .reads .ensures) (at-coded2 .before .wide .ensures .0) (at-coded2 .coded2 .ensures) (at-store2 .store2 .ensures) refl refl
 
 pub target-spec : {M : Type 1} → statement M
 target-spec =
     tie.close
-    (tie.spec
-    shared-slice-read-n
-    coded-requires
-    store-requires
-    add-reads
-    sub-reads
-    add-reads-2
-    reads-requires
-    shared-slice-read-wide
-    wide-requires
-    coded-requires-2
-    store-requires-2
-    add-t16
-    add-t19
-    same-length
-    returns)
+    (tie.spec (λ c. omega (arith, known (c .before .before .before))) (λ c κs. search needs)
+    (λ c κs. omega (arith, known (start (c .before)), room (start (c .before)))) (λ c. omega (arith, known (start₂ c), room (start₂ c)))
+    (λ c. omega (arith, known (start₂ c), room (start₂ c))) (λ c. search needs) reads-requires shared-slice-read-wide (λ c κs. search needs)
+    (λ c κs. search needs) store-requires-2 add-t16 add-t19 (λ c. search needs) returns)

@@ -4,15 +4,6 @@ use borrow.Author.Needs.{needs}
 use Rattle.exprs.proofs.expr.anew.Statement.{statement}
 use Rattle.exprs.proofs.expr.anew.Tie as tie
 
-enum-known-r : tie.Need-enum-known-r
-enum-known-r c = search needs
-
-enum-told : tie.Need-enum-told
-enum-told c = search needs
-
-expr-refusal-requires : tie.Need-expr-refusal-requires
-expr-refusal-requires c κs = search needs
-
 returns : tie.Need-returns
 returns c = rw (c .expr-refusal .ensures, c .before .enum-told .given .1)
 
@@ -20,4 +11,4 @@ returns-2 : tie.Need-returns-2
 returns-2 c = sym (c .before .r .given .1)
 
 pub anew-spec : {M : Type 1} → statement M
-anew-spec = tie.close (tie.spec enum-known-r enum-told expr-refusal-requires returns returns-2)
+anew-spec = tie.close (tie.spec (λ c. search needs) (λ c. search needs) (λ c κs. search needs) returns returns-2)

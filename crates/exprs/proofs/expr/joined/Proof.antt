@@ -4,20 +4,11 @@ use borrow.Author.Needs.{needs}
 use Rattle.exprs.proofs.expr.joined.Statement.{statement}
 use Rattle.exprs.proofs.expr.joined.Tie as tie
 
-enum-known-r : tie.Need-enum-known-r
-enum-known-r c = search needs
-
-enum-told : tie.Need-enum-told
-enum-told c = search needs
-
-returns : tie.Need-returns
-returns c = search needs
-
 argued-requires : tie.Need-argued-requires
-argued-requires c κs = let room = rw (c .before .r .given .1) at (c .before .before .before .pre .1) in omega (arith, c .before .before .before .pre .0)
+argued-requires c κs = omega (arith, rw (c .before .r .given .1) at (c .before .before .before .pre .1), c .before .before .before .pre .0)
 
 returns-2 : tie.Need-returns-2
 returns-2 c = rw (c .before .before .r .given .1, c .argued .ensures)
 
 pub joined-spec : {M : Type 1} → statement M
-joined-spec = tie.close (tie.spec enum-known-r enum-told returns argued-requires returns-2)
+joined-spec = tie.close (tie.spec (λ c. search needs) (λ c. search needs) (λ c. search needs) argued-requires returns-2)

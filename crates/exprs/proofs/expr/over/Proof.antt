@@ -4,20 +4,11 @@ use borrow.Author.Needs.{needs}
 use Rattle.exprs.proofs.expr.over.Statement.{statement}
 use Rattle.exprs.proofs.expr.over.Tie as tie
 
-enum-known-r : tie.Need-enum-known-r
-enum-known-r c = search needs
-
-enum-told : tie.Need-enum-told
-enum-told c = search needs
-
-returns : tie.Need-returns
-returns c = search needs
-
 constructed-requires : tie.Need-constructed-requires
-constructed-requires c κs = let room = rw (c .before .r .given .1) at (c .before .before .before .pre .1) in omega (arith, c .before .before .before .pre .0)
+constructed-requires c κs = omega (arith, rw (c .before .r .given .1) at (c .before .before .before .pre .1), c .before .before .before .pre .0)
 
 returns-2 : tie.Need-returns-2
 returns-2 c = rw (c .before .before .r .given .1, c .constructed .ensures)
 
 pub over-spec : {M : Type 1} → statement M
-over-spec = tie.close (tie.spec enum-known-r enum-told returns constructed-requires returns-2)
+over-spec = tie.close (tie.spec (λ c. search needs) (λ c. search needs) (λ c. search needs) constructed-requires returns-2)

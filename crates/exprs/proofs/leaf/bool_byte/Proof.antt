@@ -8,40 +8,21 @@ use borrow.Author.Needs.{needs}
 use Rattle.exprs.proofs.leaf.bool_byte.Statement.{statement}
 use Rattle.exprs.proofs.leaf.bool_byte.Tie as tie
 
-ranged-requires : tie.Need-ranged-requires
-ranged-requires c κs = search needs
-
-enum-known-r : tie.Need-enum-known-r
-enum-known-r c = search needs
-
-enum-told : tie.Need-enum-told
-enum-told c = search needs
-
-byte-refusal-requires : tie.Need-byte-refusal-requires
-byte-refusal-requires c κs = search needs
-
 returns : tie.Need-returns
-returns c = let a = c .before .before .before .before .before .args in
-    let e = sym (c .before .before .before .ranged .ensures .0) ∙ c .before .enum-told .given .1 in
+returns c =
+    let at-ranged = c .before .before .before in let a = at-ranged .before .before .args in
+    let e = sym (at-ranged .ranged .ensures .0) ∙ c .before .enum-told .given .1 in
     rw (c .byte-refusal .ensures, c .before .enum-told .given .1) (sym (byte-not (pushed 2) (ranged (a .s .now) 0 2 (a .at)) _ e), tt)
 
-pushed-requires : tie.Need-pushed-requires
-pushed-requires c κs = search needs
-
 returns-2 : tie.Need-returns-2
-returns-2 c = let a = c .before .before .before .before .before .before .args in
-    let e = c .before .before .r .given .1 in
-    let span = rw e at (c .before .before .before .before .ranged .ensures .1) in
-    rw (c .pushed .ensures) (sym (byte-for (pushed 2) (ranged (a .s .now) 0 2 (a .at)) _ _ (sym (c .before .before .before .before .ranged .ensures .0) ∙ e)), omega arith)
+returns-2 c =
+    let at-r = c .before .before in let at-ranged = at-r .before .before in
+    let a = at-ranged .before .before .args in
+    let span = rw (at-r .r .given .1) at (at-ranged .ranged .ensures .1) in
+    rw (c .pushed .ensures)
+    (sym (byte-for (pushed 2) (ranged (a .s .now) 0 2 (a .at)) _ _ (sym (at-ranged .ranged .ensures .0) ∙ at-r .r .given .1)), omega arith)
 
 pub bool-byte-spec : {M : Type 1} → statement M
 bool-byte-spec =
     tie.close
-    (tie.spec
-    ranged-requires
-    enum-known-r
-    enum-told
-    byte-refusal-requires
-    returns
-    pushed-requires
-    returns-2)
+    (tie.spec (λ c κs. search needs) (λ c. search needs) (λ c. search needs) (λ c κs. search needs) returns (λ c κs. search needs) returns-2)

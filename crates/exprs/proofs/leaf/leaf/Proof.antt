@@ -7,65 +7,83 @@ use borrow.Author.Needs.{needs}
 use Rattle.exprs.proofs.leaf.leaf.Statement.{statement}
 use Rattle.exprs.proofs.leaf.leaf.Tie as tie
 
-travel-requires : tie.Need-travel-requires
-travel-requires c κs = search needs
+-- the places that proofs look back to
+abbrev start : tie.Else1 → tie.Start
+start c = c .before .before .before .before
+
+abbrev start₂ : tie.Else3 → tie.Start
+start₂ c = start (c .before .before)
 
 returns : tie.Need-returns
-returns c = let a = c .before .before .before .before .before .args in (λ rec p. c .travel .ensures .0 ∙ sym (rule-path (a .ar .now) (a .types .now) (a .s .now) (a .own) (a .live) rec p (a .at) (a .b) (c .before .if1 .taken)), c .travel .ensures .1)
-
-word-requires : tie.Need-word-requires
-word-requires c κs = search needs
+returns c =
+    let at-if1 = c .before in let a = at-if1 .before .before .before .before .args in (
+      λ rec p.
+          c .travel .ensures .0 ∙ sym (rule-path (a .ar .now) (a .types .now) (a .s .now) (a .own) (a .live) rec p (a .at) (a .b) (at-if1 .if1 .taken)),
+      c .travel .ensures .1,
+    )
 
 returns-2 : tie.Need-returns-2
-returns-2 c = let a = c .before .before .before .before .before .before .args in (λ rec p. c .word .ensures .0 ∙ sym (rule-int (a .ar .now) (a .types .now) (a .s .now) (a .own) (a .live) rec p (a .at) (a .b) (c .before .if2 .taken)), c .word .ensures .1)
-
-word-requires-2 : tie.Need-word-requires-2
-word-requires-2 c κs = search needs
+returns-2 c =
+    let a = start (c .before .before) .args in (
+      λ rec p.
+          c .word .ensures .0 ∙ sym (rule-int (a .ar .now) (a .types .now) (a .s .now) (a .own) (a .live) rec p (a .at) (a .b) (c .before .if2 .taken)),
+      c .word .ensures .1,
+    )
 
 returns-3 : tie.Need-returns-3
-returns-3 c = let a = c .before .before .before .before .before .before .before .args in (λ rec p. c .word2 .ensures .0 ∙ sym (rule-nat (a .ar .now) (a .types .now) (a .s .now) (a .own) (a .live) rec p (a .at) (a .b) (c .before .if3 .taken)), c .word2 .ensures .1)
-
-bool-byte-requires : tie.Need-bool-byte-requires
-bool-byte-requires c κs = search needs
+returns-3 c =
+    let a = start (c .before .before .before) .args in (
+      λ rec p.
+          c .word2 .ensures .0 ∙ sym (rule-nat (a .ar .now) (a .types .now) (a .s .now) (a .own) (a .live) rec p (a .at) (a .b) (c .before .if3 .taken)),
+      c .word2 .ensures .1,
+    )
 
 returns-4 : tie.Need-returns-4
-returns-4 c = let a = c .before .before .before .before .before .before .before .before .args in (λ rec p. c .bool-byte .ensures .0 ∙ sym (rule-bool (a .ar .now) (a .types .now) (a .s .now) (a .own) (a .live) rec p (a .at) (a .b) (c .before .if4 .taken)), c .bool-byte .ensures .1)
-
-null-requires : tie.Need-null-requires
-null-requires c κs = search needs
+returns-4 c =
+    let a = start₂ (c .before .before) .args in (
+      λ rec p. c .bool-byte .ensures .0
+          ∙ sym (rule-bool (a .ar .now) (a .types .now) (a .s .now) (a .own) (a .live) rec p (a .at) (a .b) (c .before .if4 .taken)),
+      c .bool-byte .ensures .1,
+    )
 
 returns-5 : tie.Need-returns-5
-returns-5 c = let a = c .before .before .before .before .before .before .before .before .before .args in (λ rec p. c .null .ensures .0 ∙ sym (rule-null (a .ar .now) (a .types .now) (a .s .now) (a .own) (a .live) rec p (a .at) (a .b) (c .before .if5 .taken)), c .null .ensures .1)
-
-add-pushed : tie.Need-add-pushed
-add-pushed c = search needs
-
-pushed-requires : tie.Need-pushed-requires
-pushed-requires c κs = search needs
+returns-5 c =
+    let a = start₂ (c .before .before .before) .args in (
+      λ rec p.
+          c .null .ensures .0 ∙ sym (rule-null (a .ar .now) (a .types .now) (a .s .now) (a .own) (a .live) rec p (a .at) (a .b) (c .before .if5 .taken)),
+      c .null .ensures .1,
+    )
 
 returns-6 : tie.Need-returns-6
-returns-6 c = let a = c .before .before .before .before .before .before .before .before .before .before .args in rw (c .pushed .ensures) (λ rec p. sym (rule-self (a .ar .now) (a .types .now) (a .s .now) (a .own) (a .live) rec p (a .at) (a .b) (c .before .if6 .taken)), omega (arith, c .before .before .before .before .before .before .before .before .before .before .pre .0))
+returns-6 c =
+    let start′ = start₂ (c .before .before .before .before) in let a = start′ .args in
+    rw (c .pushed .ensures) (
+      λ rec p.
+          sym (rule-self (a .ar .now) (a .types .now) (a .s .now) (a .own) (a .live) rec p (a .at) (a .b) (c .before .if6 .taken)),
+      omega (arith, start′ .pre .0),
+    )
 
 returns-7 : tie.Need-returns-7
-returns-7 c = let a = c .before .before .before .before .before .before .before .before .before .args in
-    let n : Apart (a .b) = (c .before .before .before .before .before .before .before .before .before .pre .1 .0 .0, c .before .before .before .before .before .before .before .before .before .pre .1 .0 .1, c .before .before .before .before .before .if1 .left, c .before .before .before .before .if2 .left, c .before .before .before .if3 .left, c .before .before .if4 .left, c .before .if5 .left, c .if6 .left) in
-    (λ rec p. sym (rule-none (a .ar .now) (a .types .now) (a .s .now) (a .own) (a .live) rec p (a .at) (a .b) n (λ q. omega (arith, q .0, c .before .before .before .before .before .before .before .before .before .pre .1 .1))), tt)
+returns-7 c =
+    let at-if4 = c .before .before in let at-if2 = at-if4 .before .before in let start′ = start₂ (at-if4 .before) in
+    let a = start′ .args in
+    let n : Apart (a .b) = (
+      start′ .pre .1 .0 .0,
+      start′ .pre .1 .0 .1,
+      at-if2 .before .if1 .left,
+      at-if2 .if2 .left,
+      at-if4 .before .if3 .left,
+      at-if4 .if4 .left,
+      c .before .if5 .left,
+      c .if6 .left,
+    ) in (
+      λ rec p.
+          sym (rule-none (a .ar .now) (a .types .now) (a .s .now) (a .own) (a .live) rec p (a .at) (a .b) n (λ q. omega (arith, q .0, start′ .pre .1 .1))),
+      tt,
+    )
 
 pub leaf-spec : {M : Type 1} → statement M
 leaf-spec =
     tie.close
-    (tie.spec
-    travel-requires
-    returns
-    word-requires
-    returns-2
-    word-requires-2
-    returns-3
-    bool-byte-requires
-    returns-4
-    null-requires
-    returns-5
-    add-pushed
-    pushed-requires
-    returns-6
-    returns-7)
+    (tie.spec (λ c κs. search needs) returns (λ c κs. search needs) returns-2 (λ c κs. search needs) returns-3 (λ c κs. search needs) returns-4
+    (λ c κs. search needs) returns-5 (λ c. search needs) (λ c κs. search needs) returns-6 returns-7)

@@ -7,49 +7,37 @@ use borrow.Author.Needs.{needs}
 use Rattle.exprs.proofs.path.first.Statement.{statement}
 use Rattle.exprs.proofs.path.first.Tie as tie
 
-ranged-requires : tie.Need-ranged-requires
-ranged-requires c κs = search needs
-
-enum-known-r : tie.Need-enum-known-r
-enum-known-r c = search needs
-
-enum-told : tie.Need-enum-told
-enum-told c = search needs
-
-byte-refusal-requires : tie.Need-byte-refusal-requires
-byte-refusal-requires c κs = search needs
-
 returns : tie.Need-returns
-returns c = let a = c .before .before .before .before .before .before .before .args in
-    let e = sym (c .before .before .before .ranged .ensures .0) ∙ c .before .enum-told .given .1 in
-    rw (c .byte-refusal .ensures, c .before .enum-told .given .1) (sym (vars-stop (a .s .now) (a .ar .now) (a .types .now) (a .own) (a .live) (a .n) (a .at) _ e), tt)
-
-start-requires : tie.Need-start-requires
-start-requires c κs = let span = rw (c .before .r .given .1) at (c .before .before .before .ranged .ensures .1) in omega arith
-
-sub-follow : tie.Need-sub-follow
-sub-follow c = search needs
+returns c =
+    let at-ranged = c .before .before .before in
+    let a = at-ranged .before .before .before .before .args in
+    let e = sym (at-ranged .ranged .ensures .0) ∙ c .before .enum-told .given .1 in
+    rw (c .byte-refusal .ensures, c .before .enum-told .given .1)
+    (sym (vars-stop (a .s .now) (a .ar .now) (a .types .now) (a .own) (a .live) (a .n) (a .at) _ e), tt)
 
 follow-requires : tie.Need-follow-requires
-follow-requires c κs = let span = rw (c .before .before .r .given .1) at (c .before .before .before .before .ranged .ensures .1) in omega (arith, c .before .before .before .before .before .before .before .before .pre)
+follow-requires c κs =
+    let at-ranged = c .before .before .before .before in
+    omega (
+      arith,
+      rw (c .before .before .r .given .1) at (c .before .before .before .before .ranged .ensures .1),
+      at-ranged .before .before .before .before .pre,
+    )
 
 returns-2 : tie.Need-returns-2
-returns-2 c = let a = c .before .before .before .before .before .before .before .before .before .args in
-    let e = sym (c .before .before .before .before .before .ranged .ensures .0) ∙ c .before .before .before .r .given .1 in
-    let span = rw (c .before .before .before .r .given .1) at (c .before .before .before .before .before .ranged .ensures .1) in
-    let rest = rw (c .before .start .ensures) at (c .follow .ensures .0) in
-    (rest ∙ sym (vars-more (a .s .now) (a .ar .now) (a .types .now) (a .own) (a .live) (a .n) (a .at) _ _ e), span-first (a .s .now) (a .n) (a .at) _ (c .follow .result) (c .before .before .before .before .before .before .before .before .before .pre .0) (c .before .before .before .before .before .before .before .before .before .pre .1) (span .0) (c .follow .ensures .1))
+returns-2 c =
+    let at-r = c .before .before .before in let at-ranged = at-r .before .before in
+    let start′ = at-ranged .before .before .before .before in let a = start′ .args in
+    let e = sym (at-ranged .ranged .ensures .0) ∙ at-r .r .given .1 in
+    let span = rw (at-r .r .given .1) at (at-ranged .ranged .ensures .1) in
+    let rest = rw (c .before .start .ensures) at (c .follow .ensures .0) in (
+      rest ∙ sym (vars-more (a .s .now) (a .ar .now) (a .types .now) (a .own) (a .live) (a .n) (a .at) _ _ e),
+      span-first (a .s .now) (a .n) (a .at) _ (c .follow .result) (start′ .pre .0) (start′ .pre .1) (span .0) (c .follow .ensures .1),
+    )
 
 pub first-spec : {M : Type 1} → statement M
 first-spec =
     tie.close
-    (tie.spec
-    ranged-requires
-    enum-known-r
-    enum-told
-    byte-refusal-requires
-    returns
-    start-requires
-    sub-follow
-    follow-requires
+    (tie.spec (λ c κs. search needs) (λ c. search needs) (λ c. search needs) (λ c κs. search needs) returns
+    (λ c κs. omega (arith, rw (c .before .r .given .1) at (c .before .before .before .ranged .ensures .1))) (λ c. search needs) follow-requires
     returns-2)

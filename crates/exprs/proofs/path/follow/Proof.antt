@@ -23,85 +23,54 @@ Inv-loop s ar types n c at value₀ next₀ left₀ value next left =
 abbrev μ-loop : tie.MeasureT-loop
 μ-loop s ar types n c at value₀ next₀ left₀ value next left = left
 
+-- the places that proofs look back to
+abbrev start : tie.At-loop Inv-loop μ-loop → tie.Start Inv-loop μ-loop
+start c = c .before .before .before .before
+
+abbrev start₂ : tie.After-loop Inv-loop μ-loop → tie.Start Inv-loop μ-loop
+start₂ c = start (c .before)
+
 loop-holds : tie.Need-loop-holds Inv-loop μ-loop
 loop-holds c =
     let a = c .before .before .before .args in
     let none : a .n + a .c - a .n ≡ a .c = omega arith in
     (omega (arith, c .before .before .before .pre), rw none refl)
 
-ranged-requires : tie.Need-ranged-requires Inv-loop μ-loop
-ranged-requires c κs = search needs
-
-enum-known-r : tie.Need-enum-known-r Inv-loop μ-loop
-enum-known-r c = search needs
-
-enum-told : tie.Need-enum-told Inv-loop μ-loop
-enum-told c = search needs
-
-byte-refusal-requires : tie.Need-byte-refusal-requires Inv-loop μ-loop
-byte-refusal-requires c κs = search needs
-
 returns : tie.Need-returns Inv-loop μ-loop
 returns c =
-    let a = c .before .before .before .before .before .before .before .before .before .args in
-    let loop = c .before .before .before .before .before .loop in
+    let at-ranged = c .before .before .before in let at-loop = at-ranged .before .before in
+    let a = at-loop .before .before .before .before .args in let loop = at-loop .loop in
     let more : loop .left ≡ 0 → ⊥ = λ z. omega arith in
-    let e = sym (c .before .before .before .ranged .ensures .0) ∙ c .before .enum-told .given .1 in
+    let e = sym (at-ranged .ranged .ensures .0) ∙ c .before .enum-told .given .1 in
     rw (c .byte-refusal .ensures, c .before .enum-told .given .1)
     (sym (loop .inv .1 ∙ row-stop (a .s .now) (a .ar .now) (a .types .now) (loop .value) (loop .left) (a .n + a .c - loop .left) (loop .next) more _ e), tt)
 
-lead-by-requires : tie.Need-lead-by-requires Inv-loop μ-loop
-lead-by-requires c κs = search needs
-
-sub-left : tie.Need-sub-left Inv-loop μ-loop
-sub-left c = search needs
-
-loop-less : tie.Need-loop-less Inv-loop μ-loop
-loop-less c = search needs
-
 loop-again : tie.Need-loop-again Inv-loop μ-loop
 loop-again c =
-    let a = c .before .before .before .before .before .before .before .before .before .before .args in
-    let loop = c .before .before .before .before .before .before .loop in
-    let told = c .before .before .r .given in
-    let ranged = c .before .before .before .before .ranged in
+    let at-r = c .before .before in let at-ranged = at-r .before .before in
+    let at-loop = at-ranged .before .before in let a = at-loop .before .before .before .before .args in
+    let loop = at-loop .loop in
     let more : loop .left ≡ 0 → ⊥ = λ z. omega arith in
-    let e = sym (ranged .ensures .0) ∙ told .1 in
-    let span = rw (told .1) at (ranged .ensures .1) in
+    let e = sym (at-ranged .ranged .ensures .0) ∙ at-r .r .given .1 in
+    let span = rw (at-r .r .given .1) at (at-ranged .ranged .ensures .1) in
     let one : a .n + a .c - (loop .left - 1) ≡ a .n + a .c - loop .left + 1 = omega (arith, loop .inv .0) in (
       omega (arith, loop .inv .0, span),
       rw (c .lead-by .ensures, one)
           (loop .inv .1 ∙ row-more (a .s .now) (a .ar .now) (a .types .now) (loop .value) (loop .left) (a .n + a .c - loop .left) (loop .next) more _ _ e),
     )
 
-add-t16 : tie.Need-add-t16 Inv-loop μ-loop
-add-t16 c = omega (arith, c .before .before .before .before .before .pre)
-
 returns-2 : tie.Need-returns-2 Inv-loop μ-loop
 returns-2 c =
-    let a = c .before .before .before .before .before .args in
-    let loop = c .before .loop in
+    let a = start₂ c .args in let loop = c .before .loop in
     let none : loop .left ≡ 0 = omega arith in
     let all : a .n + a .c - loop .left ≡ a .n + a .c = omega arith in (
-      sym (loop .inv .1 ∙ row-none (a .s .now) (a .ar .now) (a .types .now) (loop .value) (loop .left) (a .n + a .c - loop .left) (loop .next) none ∙ ap (λ i. Path (loop .next) i (loop .value)) all),
+      sym (loop .inv .1 ∙ row-none (a .s .now) (a .ar .now) (a .types .now) (loop .value) (loop .left) (a .n + a .c - loop .left) (loop .next) none
+          ∙ ap (λ i. Path (loop .next) i (loop .value)) all),
       omega (arith, loop .inv .0),
     )
 
 pub follow-spec : {M : Type 1} → statement M
 follow-spec =
     tie.close
-    (tie.spec
-    Inv-loop
-    μ-loop
-    loop-holds
-    ranged-requires
-    enum-known-r
-    enum-told
-    byte-refusal-requires
-    returns
-    lead-by-requires
-    sub-left
-    loop-less
-    loop-again
-    add-t16
-    returns-2)
+    (tie.spec Inv-loop μ-loop loop-holds (λ c κs. search needs) (λ c. search needs) (λ c. search needs) (λ c κs. search needs) returns
+    (λ c κs. search needs) (λ c. search needs) (λ c. search needs) loop-again (λ c. omega (arith, start₂ c .pre)) returns-2)

@@ -6,20 +6,14 @@ use borrow.Author.Needs.{needs}
 use Rattle.exprs.proofs.read.is_type.Statement.{statement}
 use Rattle.exprs.proofs.read.is_type.Tie as tie
 
-cast-is-type : tie.Need-cast-is-type
-cast-is-type c = search needs
-
-is-type-requires : tie.Need-is-type-requires
-is-type-requires c κs = search needs
-
 returns : tie.Need-returns
 returns c = c .is-type .ensures ∙ type-tested _ _
 
-is-type-requires-2 : tie.Need-is-type-requires-2
-is-type-requires-2 c κs = search needs
-
 returns-2 : tie.Need-returns-2
-returns-2 c = let a = c .before .before .args in c .is-type2 .ensures ∙ type-tested _ _ ∙ type-many 255 (a .n) (a .b) (omega (arith, c .before .before .good)) (omega (arith, c .before .before .good, c .before .if1 .left))
+returns-2 c =
+    let a = c .before .before .args in
+    c .is-type2 .ensures ∙ type-tested _ _
+    ∙ type-many 255 (a .n) (a .b) (omega (arith, c .before .before .good)) (omega (arith, c .before .before .good, c .before .if1 .left))
 
 pub is-type-spec : {M : Type 1} → statement M
-is-type-spec = tie.close (tie.spec cast-is-type is-type-requires returns is-type-requires-2 returns-2)
+is-type-spec = tie.close (tie.spec (λ c. search needs) (λ c κs. search needs) returns (λ c κs. search needs) returns-2)

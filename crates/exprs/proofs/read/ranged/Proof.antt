@@ -7,30 +7,27 @@ use Rattle.exprs.proofs.read.ranged.Statement.{statement}
 use Rattle.exprs.proofs.read.ranged.Tie as tie
 
 returns : tie.Need-returns
-returns c = let a = c .before .args in (sym (ranged-out (a .s .now) (a .lo) (a .hi) (a .at) (c .if1 .taken)), tt)
-
-shared-slice-read-b : tie.Need-shared-slice-read-b
-shared-slice-read-b c = search needs
-
-cast-if2 : tie.Need-cast-if2
-cast-if2 c = omega (arith, c .shared-slice-known .given (c .before .before .args .at))
+returns c =
+    let a = c .before .args in
+    (sym (ranged-out (a .s .now) (a .lo) (a .hi) (a .at) (c .if1 .taken)), tt)
 
 returns-2 : tie.Need-returns-2
-returns-2 c = let a = c .before .before .before .args in (sym (ranged-below (a .s .now) (a .lo) (a .hi) (a .at) (c .before .before .if1 .left) (c .if2 .taken)), tt)
-
-cast-if3 : tie.Need-cast-if3
-cast-if3 c = omega (arith, c .before .shared-slice-known .given (c .before .before .before .args .at))
+returns-2 c =
+    let a = c .before .before .before .args in
+    (sym (ranged-below (a .s .now) (a .lo) (a .hi) (a .at) (c .before .before .if1 .left) (c .if2 .taken)), tt)
 
 returns-3 : tie.Need-returns-3
-returns-3 c = let a = c .before .before .before .before .args in (sym (ranged-above (a .s .now) (a .lo) (a .hi) (a .at) (c .before .before .before .if1 .left) (c .before .if2 .left) (c .if3 .taken)), tt)
-
-add-t6 : tie.Need-add-t6
-add-t6 c = search needs
+returns-3 c =
+    let a = c .before .before .before .before .args in
+    (sym (ranged-above (a .s .now) (a .lo) (a .hi) (a .at) (c .before .before .before .if1 .left) (c .before .if2 .left) (c .if3 .taken)), tt)
 
 returns-4 : tie.Need-returns-4
-returns-4 c = let a = c .before .before .before .before .args in (sym (ranged-in (a .s .now) (a .lo) (a .hi) (a .at) (c .before .before .before .if1 .left) (c .before .if2 .left) (c .if3 .left)), omega arith)
+returns-4 c =
+    let a = c .before .before .before .before .args in
+    (sym (ranged-in (a .s .now) (a .lo) (a .hi) (a .at) (c .before .before .before .if1 .left) (c .before .if2 .left) (c .if3 .left)), omega arith)
 
 pub ranged-spec : {M : Type 1} → statement M
 ranged-spec =
     tie.close
-    (tie.spec returns shared-slice-read-b cast-if2 returns-2 cast-if3 returns-3 add-t6 returns-4)
+    (tie.spec returns (λ c. search needs) (λ c. omega (arith, c .shared-slice-known .given (c .before .before .args .at))) returns-2
+    (λ c. omega (arith, c .before .shared-slice-known .given (c .before .before .before .args .at))) returns-3 (λ c. search needs) returns-4)

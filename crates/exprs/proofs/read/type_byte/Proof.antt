@@ -9,29 +9,22 @@ use Rattle.exprs.proofs.read.type_byte.Statement.{statement}
 use Rattle.exprs.proofs.read.type_byte.Tie as tie
 
 returns : tie.Need-returns
-returns c = let a = c .before .before .args in (sym (tested-out (a .s .now) (a .at) (type-byte (a .n)) (c .if1 .taken)), tt)
-
-shared-slice-read-b : tie.Need-shared-slice-read-b
-shared-slice-read-b c = search needs
-
-is-type-requires : tie.Need-is-type-requires
-is-type-requires c κs = search needs
+returns c =
+    let a = c .before .before .args in
+    (sym (tested-out (a .s .now) (a .at) (type-byte (a .n)) (c .if1 .taken)), tt)
 
 returns-2 : tie.Need-returns-2
-returns-2 c = let a = c .before .before .before .before .before .args in
+returns-2 c =
+    let at-if1 = c .before .before .before in let a = at-if1 .before .before .args in
     let f = sym (c .before .is-type .ensures) ∙ not-true _ (c .if2 .taken) in
-    (sym (tested-wrong (a .s .now) (a .at) (type-byte (a .n)) (c .before .before .before .if1 .left) f), tt)
-
-add-t5 : tie.Need-add-t5
-add-t5 c = search needs
+    (sym (tested-wrong (a .s .now) (a .at) (type-byte (a .n)) (at-if1 .if1 .left) f), tt)
 
 returns-3 : tie.Need-returns-3
-returns-3 c = let a = c .before .before .before .before .before .args in
+returns-3 c =
+    let at-if1 = c .before .before .before in let a = at-if1 .before .before .args in
     let f = sym (c .before .is-type .ensures) ∙ not-false _ (c .if2 .left) in
     let below = type-below (a .n) _ f in
-    (sym (tested-in (a .s .now) (a .at) (type-byte (a .n)) (c .before .before .before .if1 .left) f), omega arith)
+    (sym (tested-in (a .s .now) (a .at) (type-byte (a .n)) (at-if1 .if1 .left) f), omega arith)
 
 pub type-byte-spec : {M : Type 1} → statement M
-type-byte-spec =
-    tie.close
-    (tie.spec returns shared-slice-read-b is-type-requires returns-2 add-t5 returns-3)
+type-byte-spec = tie.close (tie.spec returns (λ c. search needs) (λ c κs. search needs) returns-2 (λ c. search needs) returns-3)

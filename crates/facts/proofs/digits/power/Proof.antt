@@ -26,11 +26,11 @@ returns-7 : tie.Need-returns-7
 returns-7 c = (rw (c .match .keys7), omega arith)
 
 returns-8 : tie.Need-returns-8
-returns-8 c = let n = c .match .rest in
-    let e = is-last (c .before .args .x) (c .before .pre) (n .0 .0 .0 .0 .0 .0 .1) (n .0 .0 .0 .0 .0 .1) (n .0 .0 .0 .0 .1) (n .0 .0 .0 .1) (n .0 .0 .1) (n .0 .1) (n .1) in
+returns-8 c =
+    let n = c .match .rest in
+    let e = is-last (c .before .args .x) (c .before .pre) (n .0 .0 .0 .0 .0 .0 .1) (n .0 .0 .0 .0 .0 .1) (n .0 .0 .0 .0 .1) (n .0 .0 .0 .1) (n .0 .0 .1)
+    (n .0 .1) (n .1) in
     (rw e, omega arith)
 
 pub power-spec : {M : Type 1} → statement M
-power-spec =
-    tie.close
-    (tie.spec returns returns-2 returns-3 returns-4 returns-5 returns-6 returns-7 returns-8)
+power-spec = tie.close (tie.spec returns returns-2 returns-3 returns-4 returns-5 returns-6 returns-7 returns-8)

@@ -11,7 +11,8 @@ returns-2 : tie.Need-returns-2
 returns-2 c = simp (eq-eqb _ _ (c .before .if1 .left), takes-low _ (c .before .before .args .t) (c .if2 .taken))
 
 returns-3 : tie.Need-returns-3
-returns-3 c = simp (eq-eqb _ _ (c .before .before .if1 .left), takes-middle _ (c .before .before .before .args .t) (c .before .if2 .left) (c .if3 .taken))
+returns-3 c =
+    simp (eq-eqb _ _ (c .before .before .if1 .left), takes-middle _ (c .before .before .before .args .t) (c .before .if2 .left) (c .if3 .taken))
 
 returns-4 : tie.Need-returns-4
 returns-4 c = simp (eq-eqb _ _ (c .before .before .if1 .left), takes-high _ (c .before .before .before .args .t) (c .if3 .left))

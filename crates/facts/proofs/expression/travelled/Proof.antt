@@ -5,12 +5,9 @@ use borrow.Author.Needs.{needs}
 use Rattle.facts.proofs.expression.travelled.Statement.{statement}
 use Rattle.facts.proofs.expression.travelled.Tie as tie
 
-add-t4 : tie.Need-add-t4
-add-t4 c = search needs
-
 returns : tie.Need-returns
 unfolding travelled
 returns c = simp (travelled, add-one)
 
 pub travelled-spec : {M : Type 1} → statement M
-travelled-spec = tie.close (tie.spec add-t4 returns)
+travelled-spec = tie.close (tie.spec (λ c. search needs) returns)

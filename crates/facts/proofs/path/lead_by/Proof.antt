@@ -13,12 +13,10 @@ returns-2 : tie.Need-returns-2
 unfolding lead-by
 returns-2 c = simp (lead-by, eq-eqb _ _ (c .before .before .if1 .left), lt-leb _ _ (c .if2 .taken))
 
-param-requires : tie.Need-param-requires
-param-requires c κs = search needs
-
 returns-3 : tie.Need-returns-3
 unfolding lead-by
-returns-3 c = simp (lead-by, eq-eqb _ _ (c .before .before .before .before .if1 .left), le-leb _ _ (c .before .before .if2 .left), c .param .ensures)
+returns-3 c =
+    simp (lead-by, eq-eqb _ _ (c .before .before .before .before .if1 .left), le-leb _ _ (c .before .before .if2 .left), c .param .ensures)
 
 pub lead-by-spec : {M : Type 1} → statement M
-lead-by-spec = tie.close (tie.spec returns returns-2 param-requires returns-3)
+lead-by-spec = tie.close (tie.spec returns returns-2 (λ c κs. search needs) returns-3)

@@ -6,19 +6,15 @@ use borrow.Author.Needs.{needs}
 use Rattle.facts.proofs.path.start.Statement.{statement}
 use Rattle.facts.proofs.path.start.Tie as tie
 
-param-requires : tie.Need-param-requires
-param-requires c κs = search needs
-
 returns : tie.Need-returns
 unfolding var-of start-of
 returns c = simp (var-of, start-of, lt-ltb _ _ (c .before .if1 .taken), c .param .ensures)
 
-local-requires : tie.Need-local-requires
-local-requires c κs = search needs
-
 returns-2 : tie.Need-returns-2
 unfolding var-of
-returns-2 c = let a = c .before .before .before .before .args in simp (var-of, le-ltb _ _ (c .before .if1 .left), c .local .ensures (a .ar .now) (a .types .now) (a .own))
+returns-2 c =
+    let a = c .before .before .before .before .args in
+    simp (var-of, le-ltb _ _ (c .before .if1 .left), c .local .ensures (a .ar .now) (a .types .now) (a .own))
 
 pub start-spec : {M : Type 1} → statement M
-start-spec = tie.close (tie.spec param-requires returns local-requires returns-2)
+start-spec = tie.close (tie.spec (λ c κs. search needs) returns (λ c κs. search needs) returns-2)

@@ -5,15 +5,9 @@ use borrow.Author.Needs.{needs}
 use Rattle.facts.proofs.statement.created.Statement.{statement}
 use Rattle.facts.proofs.statement.created.Tie as tie
 
-add-t3 : tie.Need-add-t3
-add-t3 c = search needs
-
-higher-requires : tie.Need-higher-requires
-higher-requires c κs = search needs
-
 returns : tie.Need-returns
 unfolding created
 returns c = simp (created, c .higher .ensures, add-one)
 
 pub created-spec : {M : Type 1} → statement M
-created-spec = tie.close (tie.spec add-t3 higher-requires returns)
+created-spec = tie.close (tie.spec (λ c. search needs) (λ c κs. search needs) returns)

@@ -12,7 +12,8 @@ use Rattle.moves.proofs.begin.begin_all.Statement.{statement}
 use Rattle.moves.proofs.begin.begin_all.Tie as tie
 
 abbrev Inv-loop : tie.InvT-loop
-Inv-loop spans heads₀ c n l₀ heads l = (l ≤ n) × (length heads ≡ length heads₀) × (Rows heads n) × (begin-all spans c heads l (n - l) ≡ begin-all spans c heads₀ 0 n)
+Inv-loop spans heads₀ c n l₀ heads l =
+    (l ≤ n) × (length heads ≡ length heads₀) × (Rows heads n) × (begin-all spans c heads l (n - l) ≡ begin-all spans c heads₀ 0 n)
 
 abbrev μ-loop : tie.MeasureT-loop
 μ-loop spans heads₀ c n l₀ heads l = n - l
@@ -24,43 +25,29 @@ loop-holds c =
     (omega arith, refl, c .before .before .pre .1, ap (begin-all (args .spans .now) (args .c) (args .heads .now) 0) z)
 
 begin-one-requires : tie.Need-begin-one-requires Inv-loop μ-loop
-begin-one-requires c κs = (c .before .before .before .before .before .pre .0, row-of (c .before .before .loop .inv .2) (c .before .loop-test .taken))
-
-add-l : tie.Need-add-l Inv-loop μ-loop
-add-l c = omega arith
-
-loop-less : tie.Need-loop-less Inv-loop μ-loop
-loop-less c = omega arith
+begin-one-requires c κs =
+    let at-loop = c .before .before in
+    (at-loop .before .before .before .pre .0, row-of (at-loop .loop .inv .2) (c .before .loop-test .taken))
 
 loop-again : tie.Need-loop-again Inv-loop μ-loop
 loop-again c =
-    let args = c .before .before .before .before .before .before .before .before .args in
-    let inv = c .before .before .before .before .before .loop .inv in
-    let l = c .before .before .before .before .before .loop .l in
-    let heads = c .before .before .before .before .before .loop .heads in
-    let one = c .before .before .begin-one .ensures in
-    let s = args .spans .now in
-    (omega arith, rw one (one-length s (args .c) heads l ∙ inv .1), rw one (one-rows s (args .c) heads l (inv .2)), rw one (sym (all-next s (args .c) heads (args .n) l (c .before .before .before .before .loop-test .taken)) ∙ inv .3))
-
-same-length : tie.Need-same-length Inv-loop μ-loop
-same-length c = c .before .loop .inv .1
+    let at-begin-one = c .before .before in let in-loop = at-begin-one .before .before in
+    let args = in-loop .before .before .before .before .args in let s = args .spans .now in (
+      omega arith,
+      rw (at-begin-one .begin-one .ensures)
+          (one-length s (args .c) (in-loop .before .loop .heads) (in-loop .before .loop .l) ∙ in-loop .before .loop .inv .1),
+      rw (at-begin-one .begin-one .ensures)
+          (one-rows s (args .c) (in-loop .before .loop .heads) (in-loop .before .loop .l) (in-loop .before .loop .inv .2)),
+      rw (at-begin-one .begin-one .ensures) (sym (all-next s (args .c) (in-loop .before .loop .heads) (args .n) (in-loop .before .loop .l)
+          (in-loop .loop-test .taken)) ∙ in-loop .before .loop .inv .3),
+    )
 
 returns : tie.Need-returns Inv-loop μ-loop
 returns c =
     let args = c .before .before .before .before .args in
-    let loop = c .before .loop in
-    sym (all-done (args .spans .now) (args .c) (loop .heads) (args .n) (loop .l) (c .loop-test .left)) ∙ loop .inv .3
+    sym (all-done (args .spans .now) (args .c) (c .before .loop .heads) (args .n) (c .before .loop .l) (c .loop-test .left)) ∙ c .before .loop .inv .3
 
 pub begin-all-spec : {M : Type 1} → statement M
 begin-all-spec =
     tie.close
-    (tie.spec
-    Inv-loop
-    μ-loop
-    loop-holds
-    begin-one-requires
-    add-l
-    loop-less
-    loop-again
-    same-length
-    returns)
+    (tie.spec Inv-loop μ-loop loop-holds begin-one-requires (λ c. omega arith) (λ c. omega arith) loop-again (λ c. c .before .loop .inv .1) returns)

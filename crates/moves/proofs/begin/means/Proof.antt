@@ -8,11 +8,8 @@ use Rattle.moves.proofs.begin.means.Tie as tie
 returns : tie.Need-returns
 returns c = sym (means-any (c .before .args .c) (c .before .args .k) (c .if1 .taken))
 
-add-result : tie.Need-add-result
-add-result c = search needs
-
 returns-2 : tie.Need-returns-2
 returns-2 c = means-named (c .before .args .c) (c .before .args .k) (c .if1 .left)
 
 pub means-spec : {M : Type 1} → statement M
-means-spec = tie.close (tie.spec returns add-result returns-2)
+means-spec = tie.close (tie.spec returns (λ c. search needs) returns-2)

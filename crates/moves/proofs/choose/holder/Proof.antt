@@ -15,62 +15,41 @@ Inv-loop heads n r left₀ l₀ left l = (l ≤ n) × (holder heads l (n - l) le
 abbrev μ-loop : tie.MeasureT-loop
 μ-loop heads n r left₀ l₀ left l = n - l
 
+-- the places that proofs look back to
+abbrev start : tie.After-holds Inv-loop μ-loop → tie.Start Inv-loop μ-loop
+start c = c .before .before .before .before
+
 loop-holds : tie.Need-loop-holds Inv-loop μ-loop
 loop-holds c =
     let args = c .before .args in
     let z : args .n - 0 ≡ args .n = omega arith in
     (omega arith, ap (λ k. holder (args .heads .now) 0 k (args .r)) z)
 
-holds-requires : tie.Need-holds-requires Inv-loop μ-loop
-holds-requires c κs = omega arith
-
 returns : tie.Need-returns Inv-loop μ-loop
 returns c =
-    let args = c .before .before .before .before .before .before .args in
-    let loop = c .before .before .before .before .loop in
-    let flag = sym (c .before .before .holds .ensures) ∙ c .before .if1 .taken in
-    sym (find-here (args .heads .now) (args .n) (loop .l) (c .before .before .before .loop-test .taken) (loop .left) flag (c .if2 .taken)) ∙ loop .inv .1
-
-sub-left : tie.Need-sub-left Inv-loop μ-loop
-sub-left c = omega arith
-
-add-l : tie.Need-add-l Inv-loop μ-loop
-add-l c = omega arith
-
-loop-less : tie.Need-loop-less Inv-loop μ-loop
-loop-less c = omega arith
+    let at-holds = c .before .before in let at-loop = at-holds .before .before in
+    let args = start at-holds .args in
+    let flag = sym (at-holds .holds .ensures) ∙ c .before .if1 .taken in
+    sym (find-here (args .heads .now) (args .n) (at-loop .loop .l) (at-holds .before .loop-test .taken) (at-loop .loop .left) flag (c .if2 .taken))
+    ∙ at-loop .loop .inv .1
 
 loop-again : tie.Need-loop-again Inv-loop μ-loop
 loop-again c =
-    let args = c .before .before .before .before .before .args in
-    let loop = c .before .before .before .loop in
-    let h = args .heads .now in
-    let less = c .before .before .loop-test .taken in
-    let flag = sym (c .before .holds .ensures) in (
+    let args = start (c .before) .args in let loop = c .before .before .before .loop in
+    let h = args .heads .now in let flag = sym (c .before .holds .ensures) in (
       omega arith,
-      ⊎-elim
-          (λ w. ap (holder h (loop .l + 1) (args .n - (loop .l + 1))) (w .2) ∙ sym (find-next h (args .n) (loop .l) less (loop .left) (flag ∙ w .0 .taken) (w .1 .left)) ∙ loop .inv .1)
-          (λ w. ap (holder h (loop .l + 1) (args .n - (loop .l + 1))) (w .1) ∙ sym (find-past h (args .n) (loop .l) less (loop .left) (flag ∙ w .0 .left)) ∙ loop .inv .1)
-          (c .if1 .came),
+      ⊎-elim (λ w. ap (holder h (loop .l + 1) (args .n - (loop .l + 1))) (w .2)
+          ∙ sym (find-next h (args .n) (loop .l) (c .before .before .loop-test .taken) (loop .left) (flag ∙ w .0 .taken) (w .1 .left)) ∙ loop .inv .1)
+          (λ w. ap (holder h (loop .l + 1) (args .n - (loop .l + 1))) (w .1)
+          ∙ sym (find-past h (args .n) (loop .l) (c .before .before .loop-test .taken) (loop .left) (flag ∙ w .0 .left)) ∙ loop .inv .1) (c .if1 .came),
     )
 
 returns-2 : tie.Need-returns-2 Inv-loop μ-loop
 returns-2 c =
     let args = c .before .before .before .args in
-    let loop = c .before .loop in
-    sym (find-done (args .heads .now) (args .n) (loop .l) (loop .left) (c .loop-test .left)) ∙ loop .inv .1
+    sym (find-done (args .heads .now) (args .n) (c .before .loop .l) (c .before .loop .left) (c .loop-test .left)) ∙ c .before .loop .inv .1
 
 pub holder-spec : {M : Type 1} → statement M
 holder-spec =
     tie.close
-    (tie.spec
-    Inv-loop
-    μ-loop
-    loop-holds
-    holds-requires
-    returns
-    sub-left
-    add-l
-    loop-less
-    loop-again
-    returns-2)
+    (tie.spec Inv-loop μ-loop loop-holds (λ c κs. omega arith) returns (λ c. omega arith) (λ c. omega arith) (λ c. omega arith) loop-again returns-2)

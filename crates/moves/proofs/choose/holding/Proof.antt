@@ -15,6 +15,13 @@ Inv-loop heads n count₀ l₀ count l = (l ≤ n) × (count ≤ l) × (count + 
 abbrev μ-loop : tie.MeasureT-loop
 μ-loop heads n count₀ l₀ count l = n - l
 
+-- the places that proofs look back to
+abbrev start : tie.After-holds Inv-loop μ-loop → tie.Start Inv-loop μ-loop
+start c = c .before .before .before .before
+
+abbrev start₂ : tie.Joined1 Inv-loop μ-loop → tie.Start Inv-loop μ-loop
+start₂ c = start (c .before)
+
 loop-holds : tie.Need-loop-holds Inv-loop μ-loop
 loop-holds c =
     let args = c .before .args in
@@ -22,47 +29,22 @@ loop-holds c =
     let e = ap (holding (args .heads .now) 0) z in
     (omega arith, omega arith, omega arith)
 
-holds-requires : tie.Need-holds-requires Inv-loop μ-loop
-holds-requires c κs = omega arith
-
-add-count : tie.Need-add-count Inv-loop μ-loop
-add-count c = omega arith
-
-add-l : tie.Need-add-l Inv-loop μ-loop
-add-l c = omega arith
-
-loop-less : tie.Need-loop-less Inv-loop μ-loop
-loop-less c = omega arith
-
 loop-again : tie.Need-loop-again Inv-loop μ-loop
 loop-again c =
-    let args = c .before .before .before .before .before .args in
-    let loop = c .before .before .before .loop in
-    let h = args .heads .now in
-    let less = c .before .before .loop-test .taken in
+    let args = start₂ c .args in let h = args .heads .now in
     let flag = sym (c .before .holds .ensures) in
-    ⊎-elim
-    (λ w. let e = count-here h (args .n) (loop .l) less (flag ∙ w .0 .taken) in (omega arith, omega arith, omega arith))
-    (λ w. let e = count-past h (args .n) (loop .l) less (flag ∙ w .0 .left) in (omega arith, omega arith, omega arith))
-    (c .if1 .came)
+    ⊎-elim (λ w. let e = count-here h (args .n) (c .before .before .before .loop .l) (c .before .before .loop-test .taken) (flag ∙ w .0 .taken) in
+    (omega arith, omega arith, omega arith)) (λ w.
+    let e = count-past h (args .n) (c .before .before .before .loop .l) (c .before .before .loop-test .taken)
+    (flag ∙ w .0 .left) in
+    (omega arith, omega arith, omega arith)) (c .if1 .came)
 
 returns : tie.Need-returns Inv-loop μ-loop
 returns c =
     let args = c .before .before .before .args in
-    let loop = c .before .loop in
-    let e = count-done (args .heads .now) (args .n) (loop .l) (c .loop-test .left) in
-    omega arith
+    omega (arith, count-done (args .heads .now) (args .n) (c .before .loop .l) (c .loop-test .left))
 
 pub holding-spec : {M : Type 1} → statement M
 holding-spec =
     tie.close
-    (tie.spec
-    Inv-loop
-    μ-loop
-    loop-holds
-    holds-requires
-    add-count
-    add-l
-    loop-less
-    loop-again
-    returns)
+    (tie.spec Inv-loop μ-loop loop-holds (λ c κs. omega arith) (λ c. omega arith) (λ c. omega arith) (λ c. omega arith) loop-again returns)

@@ -6,12 +6,6 @@ use borrow.Author.Needs.{needs}
 use Rattle.moves.proofs.choose.picked_of.Statement.{statement}
 use Rattle.moves.proofs.choose.picked_of.Tie as tie
 
-rem-holder : tie.Need-rem-holder
-rem-holder c = search needs
-
-holder-requires : tie.Need-holder-requires
-holder-requires c κs = search needs
-
 returns : tie.Need-returns
 unfolding picked
 returns c =
@@ -19,4 +13,4 @@ returns c =
     c .holder .ensures ∙ ap (λ m. holder (args .heads .now) 0 (args .n) (args .turn % m)) (c .before .before .pre .1)
 
 pub picked-of-spec : {M : Type 1} → statement M
-picked-of-spec = tie.close (tie.spec rem-holder holder-requires returns)
+picked-of-spec = tie.close (tie.spec (λ c. search needs) (λ c κs. search needs) returns)

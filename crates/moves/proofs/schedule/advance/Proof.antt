@@ -5,58 +5,34 @@ use borrow.Author.Needs.{needs}
 use Rattle.moves.proofs.schedule.advance.Statement.{statement}
 use Rattle.moves.proofs.schedule.advance.Tie as tie
 
-mul-c : tie.Need-mul-c
-mul-c c = search needs
+-- the places that proofs look back to
+abbrev start : tie.After-shared-slice-known3 → tie.Start
+start c = c .before .before .before .before
 
-shared-slice-read-c : tie.Need-shared-slice-read-c
-shared-slice-read-c c = search needs
-
-begin-all-requires : tie.Need-begin-all-requires
-begin-all-requires c κs = search needs
-
-add-t16 : tie.Need-add-t16
-add-t16 c = search needs
-
-same-length : tie.Need-same-length
-same-length c = search needs
+abbrev start₂ : tie.Else1 → tie.Start
+start₂ c = start (c .before)
 
 returns : tie.Need-returns
 returns c =
-    let a = c .before .before .before .before .before .before .before .before .before .args in
-    let i = item-starts (a .items .now) (a .spans .now) (a .heads .now) (a .count) (a .place) (a .fixes) (a .stable) (c .before .before .before .before .if1 .taken) in
-    λ n x. rw (c .before .before .begin-all .ensures) (i n x)
-
-fix-requires : tie.Need-fix-requires
-fix-requires c κs = search needs
+    let at-begin-all = c .before .before in let at-if1 = at-begin-all .before .before in
+    let a = start (at-if1 .before) .args in
+    let i = item-starts (a .items .now) (a .spans .now) (a .heads .now) (a .count) (a .place) (a .fixes) (a .stable) (at-if1 .if1 .taken) in
+    λ n x. rw (at-begin-all .begin-all .ensures) (i n x)
 
 returns-2 : tie.Need-returns-2
 returns-2 c =
-    let a = c .before .before .before .before .before .before .before .args in
-    item-fixes (a .items .now) (a .spans .now) (a .heads .now) (a .count) (a .place) (a .fixes) (a .stable) (c .fix .result) (c .before .if2 .taken) (c .fix .ensures)
-
-sub-round : tie.Need-sub-round
-sub-round c = c .before .before .before .before .before .before .pre .item (omega arith)
-
-round-requires : tie.Need-round-requires
-round-requires c κs = search needs
+    let a = start₂ (c .before .before) .args in
+    item-fixes (a .items .now) (a .spans .now) (a .heads .now) (a .count) (a .place) (a .fixes) (a .stable) (c .fix .result) (c .before .if2 .taken)
+    (c .fix .ensures)
 
 returns-3 : tie.Need-returns-3
 returns-3 c =
-    let a = c .before .before .before .before .before .before .before .args in
-    item-rounds (a .items .now) (a .spans .now) (a .heads .now) (a .count) (a .place) (a .fixes) (a .stable) (c .round .result) (c .before .before .if1 .left) (c .before .if2 .left) (c .round .ensures)
+    let at-if1 = c .before .before in let a = start₂ at-if1 .args in
+    item-rounds (a .items .now) (a .spans .now) (a .heads .now) (a .count) (a .place) (a .fixes) (a .stable) (c .round .result) (at-if1 .if1 .left)
+    (c .before .if2 .left) (c .round .ensures)
 
 pub advance-spec : {M : Type 1} → statement M
 advance-spec =
     tie.close
-    (tie.spec
-    mul-c
-    shared-slice-read-c
-    begin-all-requires
-    add-t16
-    same-length
-    returns
-    fix-requires
-    returns-2
-    sub-round
-    round-requires
-    returns-3)
+    (tie.spec (λ c. search needs) (λ c. search needs) (λ c κs. search needs) (λ c. search needs) (λ c. search needs) returns (λ c κs. search needs)
+    returns-2 (λ c. start₂ (c .before) .pre .item (omega arith)) (λ c κs. search needs) returns-3)

@@ -5,12 +5,6 @@ use borrow.Author.Needs.{needs}
 use Rattle.moves.proofs.schedule.fix.Statement.{statement}
 use Rattle.moves.proofs.schedule.fix.Tie as tie
 
-add-t5 : tie.Need-add-t5
-add-t5 c = search needs
-
-add-t6 : tie.Need-add-t6
-add-t6 c = search needs
-
 mul-t7 : tie.Need-mul-t7
 mul-t7 c = omega (arith, entries-low (c .before .args .fixes) (c .before .args .stable) (c .before .pre .1) (c .if1 .taken))
 
@@ -24,4 +18,4 @@ returns-2 : tie.Need-returns-2
 returns-2 c = fix-nested (c .before .args .place) (c .before .args .fixes) (c .before .args .stable) (c .if1 .left)
 
 pub fix-spec : {M : Type 1} → statement M
-fix-spec = tie.close (tie.spec add-t5 add-t6 mul-t7 add-t8 returns returns-2)
+fix-spec = tie.close (tie.spec (λ c. search needs) (λ c. search needs) mul-t7 add-t8 returns returns-2)

@@ -4,20 +4,14 @@ use borrow.Author.Needs.{needs}
 use Rattle.moves.proofs.schedule.round.Statement.{statement}
 use Rattle.moves.proofs.schedule.round.Tie as tie
 
-add-t7 : tie.Need-add-t7
-add-t7 c = search needs
-
-sub-t8 : tie.Need-sub-t8
-sub-t8 c = entry-open (c .before .args .fixes) (c .before .args .stable) (c .before .pre .1) (c .if1 .taken)
-
 returns : tie.Need-returns
 returns c = round-out (c .before .args .place) (c .before .args .fixes) (c .before .args .stable) (c .before .args .t) (c .if1 .taken)
-
-add-t5 : tie.Need-add-t5
-add-t5 c = search needs
 
 returns-2 : tie.Need-returns-2
 returns-2 c = round-back (c .before .args .place) (c .before .args .fixes) (c .before .args .stable) (c .before .args .t) (c .if1 .left)
 
 pub round-spec : {M : Type 1} → statement M
-round-spec = tie.close (tie.spec add-t7 sub-t8 returns add-t5 returns-2)
+round-spec =
+    tie.close
+    (tie.spec (λ c. search needs) (λ c. entry-open (c .before .args .fixes) (c .before .args .stable) (c .before .pre .1) (c .if1 .taken)) returns
+    (λ c. search needs) returns-2)

@@ -32,106 +32,77 @@ row-below t = and 2 row-kinds.ps (falls 2 row-kinds.ps _<_ μ-row t) row.Pre
 abbrev row-claims : ℕ → row-lts.Claims
 row-claims t = (row-below t, row.Post, type-byte-reads.Asked, type-byte-reads.Learnt, byte-refusal-reads.Asked, byte-refusal-reads.Learnt)
 
+-- the places that proofs look back to
+abbrev start : (t : ℕ) → row-lts.Else2 (row-claims t) (row-at t) row.Post → row-lts.Start (row-claims t) (row-at t) row.Post
+start t c = c .before .before .before .before
+
+abbrev start₂ : (t : ℕ) → row-lts.Then2 (row-claims t) (row-at t) row.Post → row-lts.Start (row-claims t) (row-at t) row.Post
+start₂ t c = c .before .before .before .before
+
+abbrev start₃ : (t : ℕ) → row-lts.After-row-arg (row-claims t) (row-at t) row.Post → row-lts.Start (row-claims t) (row-at t) row.Post
+start₃ t c = start₂ t (c .before)
+
+abbrev start₄ : (t : ℕ) → row-lts.After-known-told (row-claims t) (row-at t) row.Post → row-lts.Start (row-claims t) (row-at t) row.Post
+start₄ t c = start t (c .before .before .before .before)
+
 row-returns : (t : ℕ) → row-lts.Need-returns (row-claims t) (row-at t) row.Post
 unfolding row-of
-row-returns t c = let a = c .before .before .before .args in
+row-returns t c =
+    let a = c .before .before .before .args in
     let z : a .n ≡ 0 = omega (arith, c .before .before .before .pre) in
     let q = many-none (read-type (a .s .now) (a .structs)) (a .n) (a .at) z in
     (sym (ap place-told q), (omega (arith, c .before .before .before .pre), rw (q, c .if1 .taken) refl))
 
-row-slice-write-types : (t : ℕ) → row-lts.Need-slice-write-types (row-claims t) (row-at t) row.Post
-row-slice-write-types t c = omega (arith, c .before .before .before .before .pre)
-
-row-sub-row : (t : ℕ) → row-lts.Need-sub-row (row-claims t) (row-at t) row.Post
-row-sub-row t c = search needs
-
-row-add-row : (t : ℕ) → row-lts.Need-add-row (row-claims t) (row-at t) row.Post
-row-add-row t c = search needs
-
-row-row-requires : (t : ℕ) → row-lts.Need-row-requires (row-claims t) (row-at t) row.Post
-row-row-requires t c κs = (omega (arith, c .before .before .before .before .before .pre), simp length-set (omega (arith, c .before .before .before .before .before .pre)))
-
-row-same-length : (t : ℕ) → row-lts.Need-same-length (row-claims t) (row-at t) row.Post
-row-same-length t c = c .before .before .row .kept .1 .0 ∙ simp length-set
-
 row-returns-2 : (t : ℕ) → row-lts.Need-returns-2 (row-claims t) (row-at t) row.Post
 unfolding many
-row-returns-2 t c = let a = c .before .before .before .before .before .before .before .before .args in
-    let q = many-none (read-type (a .s .now) (a .structs)) (a .n) (a .at) (c .before .before .before .before .if2 .taken) in (
-      rw (c .before .before .before .before .if2 .taken) (c .before .before .row .ensures .0),
-      (c .before .before .row .ensures .1 .0, rw q (kept-zero (a .room) (a .place) (a .types .now) (c .before .before .row .last .1 .0) (a .at) (c .before .before .before .before .before .if1 .left) (c .before .before .row .ensures .1 .1))),
+row-returns-2 t c =
+    let at-row = c .before .before in let at-if2 = at-row .before .before in
+    let a = at-if2 .before .before .before .before .args in
+    let q = many-none (read-type (a .s .now) (a .structs)) (a .n) (a .at) (at-if2 .if2 .taken) in (
+      rw (at-if2 .if2 .taken) (at-row .row .ensures .0),
+      (
+        at-row .row .ensures .1 .0,
+        rw q
+            (kept-zero (a .room) (a .place) (a .types .now) (at-row .row .last .1 .0) (a .at) (at-if2 .before .if1 .left) (at-row .row .ensures .1 .1)),
+      ),
     )
 
-row-type-byte-requires : (t : ℕ) → row-lts.Need-type-byte-requires (row-claims t) (row-at t) row.Post
-row-type-byte-requires t c κs = search needs
-
-row-enum-known-r : (t : ℕ) → row-lts.Need-enum-known-r (row-claims t) (row-at t) row.Post
-row-enum-known-r t c = search needs
-
-row-enum-told : (t : ℕ) → row-lts.Need-enum-told (row-claims t) (row-at t) row.Post
-row-enum-told t c = search needs
-
-row-byte-refusal-requires : (t : ℕ) → row-lts.Need-byte-refusal-requires (row-claims t) (row-at t) row.Post
-row-byte-refusal-requires t c κs = search needs
-
 row-returns-3 : (t : ℕ) → row-lts.Need-returns-3 (row-claims t) (row-at t) row.Post
-row-returns-3 t c = let a = c .before .before .before .before .before .before .before .before .args in
-    let e = sym (c .before .before .before .type-byte .ensures .0) ∙ c .before .enum-told .given .1 in
+row-returns-3 t c =
+    let at-type-byte = c .before .before .before in let at-if1 = at-type-byte .before .before in
+    let a = at-if1 .before .before .before .args in
+    let e = sym (at-type-byte .type-byte .ensures .0) ∙ c .before .enum-told .given .1 in
     let q = type-stop (a .s .now) (a .structs) (a .at) _ e in
-    let h = many-stop (read-type (a .s .now) (a .structs)) (a .n) (a .at) _ _ (c .before .before .before .before .if2 .left) (q .1) in
+    let h = many-stop (read-type (a .s .now) (a .structs)) (a .n) (a .at) _ _ (at-type-byte .before .if2 .left) (q .1) in
     rw (c .byte-refusal .ensures, c .before .enum-told .given .1) (sym (ap place-told h), (tt, rw h tt))
 
-row-slice-write-types-2 : (t : ℕ) → row-lts.Need-slice-write-types-2 (row-claims t) (row-at t) row.Post
-row-slice-write-types-2 t c = omega (arith, c .before .before .before .before .before .before .before .before .pre)
-
-row-sub-row-2 : (t : ℕ) → row-lts.Need-sub-row-2 (row-claims t) (row-at t) row.Post
-row-sub-row-2 t c = search needs
-
-row-sub-row-3 : (t : ℕ) → row-lts.Need-sub-row-3 (row-claims t) (row-at t) row.Post
-row-sub-row-3 t c = search needs
-
-row-add-row-2 : (t : ℕ) → row-lts.Need-add-row-2 (row-claims t) (row-at t) row.Post
-row-add-row-2 t c = search needs
-
 row-row-requires-2 : (t : ℕ) → row-lts.Need-row-requires-2 (row-claims t) (row-at t) row.Post
-row-row-requires-2 t c κs = let span = rw (c .before .before .r .given .1) at (c .before .before .before .before .type-byte .ensures .1) in (omega (arith, c .before .before .before .before .before .before .before .before .before .pre), simp length-set (omega (arith, c .before .before .before .before .before .before .before .before .before .pre)))
-
-row-same-length-2 : (t : ℕ) → row-lts.Need-same-length-2 (row-claims t) (row-at t) row.Post
-row-same-length-2 t c = c .before .before .row2 .kept .1 .0 ∙ simp length-set
+row-row-requires-2 t c κs =
+    let span = rw (c .before .before .r .given .1) at (c .before .before .before .before .type-byte .ensures .1) in
+    (omega (arith, start₄ t (c .before) .pre), simp length-set (omega (arith, start₄ t (c .before) .pre)))
 
 row-returns-4 : (t : ℕ) → row-lts.Need-returns-4 (row-claims t) (row-at t) row.Post
-row-returns-4 t c = let a = c .before .before .before .before .before .before .before .before .before .before .before .before .args in
-    let b = c .before .before .before .before .before .r .given in
-    let span = rw (b .1) at (c .before .before .before .before .before .before .before .type-byte .ensures .1) in
-    let q = type-read (a .s .now) (a .structs) (a .at) _ _ (sym (c .before .before .before .before .before .before .before .type-byte .ensures .0) ∙ b .1) in
-    let h = many-more (read-type (a .s .now) (a .structs)) (a .n) (a .at) _ _ (c .before .before .before .before .before .before .before .before .if2 .left) (q .1 .0) in
+row-returns-4 t c =
+    let at-row2 = c .before .before in let at-r = at-row2 .before .before .before in
+    let at-type-byte = at-r .before .before in let at-if1 = at-type-byte .before .before in
+    let a = at-if1 .before .before .before .args in let b = at-r .r .given in
+    let span = rw (b .1) at (at-type-byte .type-byte .ensures .1) in
+    let q = type-read (a .s .now) (a .structs) (a .at) _ _ (sym (at-type-byte .type-byte .ensures .0) ∙ b .1) in
+    let h = many-more (read-type (a .s .now) (a .structs)) (a .n) (a .at) _ _ (at-type-byte .before .if2 .left) (q .1 .0) in
     let rest = many [] _∷_ (read-type (a .s .now) (a .structs)) (a .n - 1) (b .0 .1 .0) in (
-      c .before .before .row2 .ensures .0 ∙ sym (ap place-told h ∙ onto-place (q .0) rest),
+      at-row2 .row2 .ensures .0 ∙ sym (ap place-told h ∙ onto-place (q .0) rest),
       (
-        span-from (a .s .now) _ _ (c .before .before .row2 .result) (omega arith) (c .before .before .row2 .ensures .1 .0),
-        rw h (kept-type (a .room) (a .place) (a .types .now) (c .before .before .row2 .last .1 .0) (q .0) (b .0 .0) rest (c .before .before .before .before .before .before .before .before .before .if1 .left) (q .1 .1) (c .before .before .row2 .ensures .1 .1)),
+        span-from (a .s .now) _ _ (at-row2 .row2 .result) (omega arith) (at-row2 .row2 .ensures .1 .0),
+        rw h (kept-type (a .room) (a .place) (a .types .now) (at-row2 .row2 .last .1 .0) (q .0) (b .0 .0) rest (at-if1 .if1 .left) (q .1 .1)
+            (at-row2 .row2 .ensures .1 .1)),
       ),
     )
 
 pub +row-spec : {M : Type 1} → statement M
-+row-spec = close μ-row λ t. row-lts.spec (row-claims t) (row-at t)
-    row.Post
-    (row-returns t)
-    (row-slice-write-types t)
-    (row-sub-row t)
-    (row-add-row t)
-    (row-row-requires t)
-    (row-same-length t)
-    (row-returns-2 t)
-    (row-type-byte-requires t)
-    (row-enum-known-r t)
-    (row-enum-told t)
-    (row-byte-refusal-requires t)
-    (row-returns-3 t)
-    (row-slice-write-types-2 t)
-    (row-sub-row-2 t)
-    (row-sub-row-3 t)
-    (row-add-row-2 t)
-    (row-row-requires-2 t)
-    (row-same-length-2 t)
-    (row-returns-4 t)
++row-spec =
+    close μ-row
+    λ t. row-lts.spec (row-claims t) (row-at t) row.Post (row-returns t) (λ c. omega (arith, c .before .before .before .before .pre))
+    (λ c. search needs) (λ c. search needs) (λ c κs. (omega (arith, start₃ t c .pre), simp length-set (omega (arith, start₃ t c .pre))))
+    (λ c. c .before .before .row .kept .1 .0 ∙ simp length-set) (row-returns-2 t) (λ c κs. search needs) (λ c. search needs) (λ c. search needs)
+    (λ c κs. search needs) (row-returns-3 t) (λ c. omega (arith, start₄ t c .pre)) (λ c. search needs) (λ c. search needs) (λ c. search needs)
+    (row-row-requires-2 t) (λ c. c .before .before .row2 .kept .1 .0 ∙ simp length-set) (row-returns-4 t)

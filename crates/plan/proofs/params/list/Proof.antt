@@ -9,67 +9,41 @@ use Rattle.plan.specs.ParamsWays.{list-stop, list-more, kept-list, span-
 use Rattle.plan.proofs.params.list.Statement.{statement}
 use Rattle.plan.proofs.params.list.Tie as tie
 
-add-ranged : tie.Need-add-ranged
-add-ranged c = search needs
+-- the places that proofs look back to
+abbrev start : tie.After-ranged → tie.Start
+start c = c .before .before .before .before
 
-ranged-requires : tie.Need-ranged-requires
-ranged-requires c κs = search needs
-
-enum-known-r : tie.Need-enum-known-r
-enum-known-r c = search needs
-
-enum-told : tie.Need-enum-told
-enum-told c = search needs
-
-byte-refusal-requires : tie.Need-byte-refusal-requires
-byte-refusal-requires c κs = search needs
+abbrev start₂ : tie.After-known-told → tie.Start
+start₂ c = start (c .before .before .before)
 
 returns : tie.Need-returns
-returns c = let a = c .before .before .before .before .before .before .before .args in
-    let e = sym (c .before .before .before .ranged .ensures .0) ∙ c .before .enum-told .given .1 in
+returns c =
+    let at-ranged = c .before .before .before in
+    let a = at-ranged .before .before .before .before .args in
+    let e = sym (at-ranged .ranged .ensures .0) ∙ c .before .enum-told .given .1 in
     let q = list-stop (a .s .now) (a .structs) (a .at) _ e in
     rw (c .byte-refusal .ensures, c .before .enum-told .given .1) (sym (ap place-told (q .1)), (tt, rw (q .1) tt))
 
-slice-write-counts : tie.Need-slice-write-counts
-slice-write-counts c = omega (arith, c .before .before .before .before .before .before .before .pre)
-
-mul-row : tie.Need-mul-row
-mul-row c = search needs
-
 row-requires : tie.Need-row-requires
-row-requires c κs = let span = rw (c .before .before .r .given .1) at (c .before .before .before .before .ranged .ensures .1) in omega (arith, c .before .before .before .before .before .before .before .before .pre)
-
-same-length : tie.Need-same-length
-same-length c = simp length-set
-
-same-length-2 : tie.Need-same-length-2
-same-length-2 c = c .before .before .row .kept .1 .0
+row-requires c κs =
+    omega (arith, rw (c .before .before .r .given .1) at (c .before .before .before .before .ranged .ensures .1), start₂ (c .before) .pre)
 
 returns-2 : tie.Need-returns-2
-returns-2 c = let a = c .before .before .before .before .before .before .before .before .before .before .before .args in
-    let n = c .before .before .before .before .before .r .given in
-    let span = rw (n .1) at (c .before .before .before .before .before .before .before .ranged .ensures .1) in
-    let h = list-more (a .s .now) (a .structs) (a .at) _ _ (sym (c .before .before .before .before .before .before .before .ranged .ensures .0) ∙ n .1) in (
-      c .before .before .row .ensures .0 ∙ sym (ap place-told h),
+returns-2 c =
+    let at-row = c .before .before in let at-r = at-row .before .before .before in
+    let at-ranged = at-r .before .before in let a = at-ranged .before .before .before .before .args in
+    let n = at-r .r .given in let span = rw (n .1) at (at-ranged .ranged .ensures .1) in
+    let h = list-more (a .s .now) (a .structs) (a .at) _ _ (sym (at-ranged .ranged .ensures .0) ∙ n .1) in (
+      at-row .row .ensures .0 ∙ sym (ap place-told h),
       (
-        span-from (a .s .now) _ _ (c .before .before .row .result) (omega arith) (c .before .before .row .ensures .1 .0),
-        rw h (kept-list (read-type (a .s .now) (a .structs)) (n .0 .0) (n .0 .1 .0) (a .k) (a .counts .now) (a .types .now) (c .before .before .row .last .1 .0) (c .before .before .row .ensures .1 .1)),
+        span-from (a .s .now) _ _ (at-row .row .result) (omega arith) (at-row .row .ensures .1 .0),
+        rw h (kept-list (read-type (a .s .now) (a .structs)) (n .0 .0) (n .0 .1 .0) (a .k) (a .counts .now) (a .types .now)
+            (at-row .row .last .1 .0) (at-row .row .ensures .1 .1)),
       ),
     )
 
 pub list-spec : {M : Type 1} → statement M
 list-spec =
     tie.close
-    (tie.spec
-    add-ranged
-    ranged-requires
-    enum-known-r
-    enum-told
-    byte-refusal-requires
-    returns
-    slice-write-counts
-    mul-row
-    row-requires
-    same-length
-    same-length-2
-    returns-2)
+    (tie.spec (λ c. search needs) (λ c κs. search needs) (λ c. search needs) (λ c. search needs) (λ c κs. search needs) returns
+    (λ c. omega (arith, start₂ c .pre)) (λ c. search needs) row-requires (λ c. simp length-set) (λ c. c .before .before .row .kept .1 .0) returns-2)

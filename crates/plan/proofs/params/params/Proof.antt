@@ -9,87 +9,51 @@ use Rattle.plan.specs.ParamsWays.{place-stops, params-stop, params-more,
 use Rattle.plan.proofs.params.params.Statement.{statement}
 use Rattle.plan.proofs.params.params.Tie as tie
 
-add-ranged : tie.Need-add-ranged
-add-ranged c = search needs
-
-ranged-requires : tie.Need-ranged-requires
-ranged-requires c κs = search needs
-
-enum-known-r : tie.Need-enum-known-r
-enum-known-r c = search needs
-
-enum-told : tie.Need-enum-told
-enum-told c = search needs
-
-byte-refusal-requires : tie.Need-byte-refusal-requires
-byte-refusal-requires c κs = search needs
-
 returns : tie.Need-returns
-returns c = let a = c .before .before .before .before .before .before .before .args in
-    let e = sym (c .before .before .before .ranged .ensures .0) ∙ c .before .enum-told .given .1 in
+returns c =
+    let at-ranged = c .before .before .before in
+    let a = at-ranged .before .before .before .before .args in
+    let e = sym (at-ranged .ranged .ensures .0) ∙ c .before .enum-told .given .1 in
     let q = params-stop (a .s .now) 0 0 _ e in
     rw (c .byte-refusal .ensures, c .before .enum-told .given .1) (sym (ap params-told (q .1)), (tt, rw (q .1) tt))
 
 lists-requires : tie.Need-lists-requires
-lists-requires c κs = let span = rw (c .before .before .before .r .given .1) at (c .before .before .before .before .before .ranged .ensures .1) in omega (arith, c .before .before .before .before .before .before .before .before .before .pre)
-
-enum-known-q : tie.Need-enum-known-q
-enum-known-q c = search needs
-
-enum-told-2 : tie.Need-enum-told-2
-enum-told-2 c = search needs
-
-place-refusal-requires : tie.Need-place-refusal-requires
-place-refusal-requires c κs = search needs
-
-same-length : tie.Need-same-length
-same-length c = search needs
-
-same-length-2 : tie.Need-same-length-2
-same-length-2 c = search needs
+lists-requires c κs =
+    let at-r = c .before .before .before in let at-ranged = at-r .before .before in
+    omega (arith, rw (at-r .r .given .1) at (at-ranged .ranged .ensures .1), at-ranged .before .before .before .before .pre)
 
 returns-2 : tie.Need-returns-2
-returns-2 c = let a = c .before .before .before .before .before .before .before .before .before .before .before .before .before .before .before .before .before .args in
-    let n = c .before .before .before .before .before .before .before .before .before .before .before .r .given in
+returns-2 c =
+    let at-enum-told2 = c .before in let at-slice-known3 = at-enum-told2 .before .before .before .before in
+    let at-lists = at-slice-known3 .before .before in let at-r = at-lists .before .before .before .before in
+    let at-ranged = at-r .before .before in let a = at-ranged .before .before .before .before .args in
+    let n = at-r .r .given in
     let lists = many [] _∷_ (read-list (a .s .now) (n .0 .0)) (n .0 .0) (n .0 .1 .0) in
-    let q = place-stops lists _ (sym (c .before .before .before .before .before .before .before .lists .ensures .0) ∙ c .before .enum-told2 .given .1) in
-    let h = params-more (a .s .now) (n .0 .0) 0 _ (sym (c .before .before .before .before .before .before .before .before .before .before .before .before .before .ranged .ensures .0) ∙ n .1) ∙ q .1 in
-    rw (c .place-refusal .ensures, c .before .enum-told2 .given .1) (sym (ap params-told h), (tt, rw h tt))
-
-same-length-3 : tie.Need-same-length-3
-same-length-3 c = search needs
-
-same-length-4 : tie.Need-same-length-4
-same-length-4 c = search needs
+    let q = place-stops lists _ (sym (at-lists .lists .ensures .0) ∙ at-enum-told2 .enum-told2 .given .1) in
+    let h = params-more (a .s .now) (n .0 .0) 0 _ (sym (at-ranged .ranged .ensures .0) ∙ n .1) ∙ q .1 in
+    rw (c .place-refusal .ensures, at-enum-told2 .enum-told2 .given .1) (sym (ap params-told h), (tt, rw h tt))
 
 returns-3 : tie.Need-returns-3
-returns-3 c = let a = c .before .before .before .before .before .before .before .before .before .before .before .before .before .before .before .before .before .args in
-    let n = c .before .before .before .before .before .before .before .before .before .before .before .r .given in
-    let span = rw (n .1) at (c .before .before .before .before .before .before .before .before .before .before .before .before .before .ranged .ensures .1) in
-    let next = rw (c .before .q .given .1) at (c .before .before .before .before .before .before .before .lists .ensures .1 .0) in
-    let h = params-more (a .s .now) (n .0 .0) 0 _ (sym (c .before .before .before .before .before .before .before .before .before .before .before .before .before .ranged .ensures .0) ∙ n .1) in
-    let value = params-value (read-list (a .s .now) (n .0 .0)) (n .0 .0) (n .0 .1 .0) _ (sym (c .before .before .before .before .before .before .before .lists .ensures .0) ∙ c .before .q .given .1) in (
+returns-3 c =
+    let at-q = c .before in let at-slice-known3 = at-q .before .before .before .before in
+    let at-lists = at-slice-known3 .before .before in let at-r = at-lists .before .before .before .before in
+    let at-ranged = at-r .before .before in let start = at-ranged .before .before .before .before in
+    let a = start .args in let n = at-r .r .given in
+    let span = rw (n .1) at (at-ranged .ranged .ensures .1) in
+    let next = rw (at-q .q .given .1) at (at-lists .lists .ensures .1 .0) in
+    let h = params-more (a .s .now) (n .0 .0) 0 _ (sym (at-ranged .ranged .ensures .0) ∙ n .1) in
+    let value = params-value (read-list (a .s .now) (n .0 .0)) (n .0 .0) (n .0 .1 .0) _ (sym (at-lists .lists .ensures .0) ∙ at-q .q .given .1) in (
       sym (ap params-told h ∙ value),
-      (omega arith, rw h (kept-params (read-list (a .s .now) (n .0 .0)) (n .0 .0) (n .0 .1 .0) (a .counts .now) (c .before .before .before .before .before .before .before .lists .last .1 .0) (a .types .now) (c .before .before .before .before .before .before .before .lists .last .1 .1 .0) (omega (arith, c .before .before .before .before .before .before .before .before .before .before .before .before .before .before .before .before .before .pre)) (omega (arith, c .before .before .before .before .before .before .before .before .before .before .before .before .before .before .before .before .before .pre)) (c .before .before .before .before .before .before .before .lists .ensures .1 .1))),
+      (
+        omega arith,
+        rw h (kept-params (read-list (a .s .now) (n .0 .0)) (n .0 .0) (n .0 .1 .0) (a .counts .now) (at-lists .lists .last .1 .0) (a .types .now)
+            (at-lists .lists .last .1 .1 .0) (omega (arith, start .pre)) (omega (arith, start .pre)) (at-lists .lists .ensures .1 .1)),
+      ),
     )
 
 pub params-spec : {M : Type 1} → statement M
 params-spec =
     tie.close
-    (tie.spec
-    add-ranged
-    ranged-requires
-    enum-known-r
-    enum-told
-    byte-refusal-requires
-    returns
-    lists-requires
-    enum-known-q
-    enum-told-2
-    place-refusal-requires
-    same-length
-    same-length-2
-    returns-2
-    same-length-3
-    same-length-4
-    returns-3)
+    (tie.spec (λ c. search needs) (λ c κs. search needs) (λ c. search needs) (λ c. search needs) (λ c κs. search needs) returns lists-requires
+    (λ c. search needs) (λ c. search needs) (λ c κs. search needs) (λ c. search needs) (λ c. search needs) returns-2 (λ c. search needs)
+    (λ c. search needs) returns-3)

@@ -22,93 +22,27 @@ had-at t = and 1 had-kinds.ps (is 1 had-kinds.ps μ-had t) had.Pre
 abbrev had-below : ℕ → In 1 had-kinds.ps
 had-below t = and 1 had-kinds.ps (falls 1 had-kinds.ps _<_ μ-had t) had.Pre
 
-had-returns : (t : ℕ) → had-lts.Need-returns (
-  look-reads.Asked,
-  look-reads.Learnt,
-  had-below t,
-  had.Post,
-) (had-at t) had.Post
-had-returns t c = let a = c .before .before .args in sym (had-none (a .has .now) (a .n) (a .k) (a .c) (c .if1 .taken))
+had-returns : (t : ℕ) → had-lts.Need-returns (look-reads.Asked, look-reads.Learnt, had-below t, had.Post) (had-at t) had.Post
+had-returns t c =
+    let a = c .before .before .args in
+    sym (had-none (a .has .now) (a .n) (a .k) (a .c) (c .if1 .taken))
 
-had-mul-look : (t : ℕ) → had-lts.Need-mul-look (
-  look-reads.Asked,
-  look-reads.Learnt,
-  had-below t,
-  had.Post,
-) (had-at t) had.Post
-had-mul-look t c = search needs
+had-returns-2 : (t : ℕ) → had-lts.Need-returns-2 (look-reads.Asked, look-reads.Learnt, had-below t, had.Post) (had-at t) had.Post
+had-returns-2 t c =
+    let a = c .before .before .before .before .args in
+    sym (had-here (a .has .now) (a .n) (a .k) (a .c) (c .before .before .if1 .left) (rw (c .before .look .ensures) at (c .if2 .taken)))
 
-had-add-look : (t : ℕ) → had-lts.Need-add-look (
-  look-reads.Asked,
-  look-reads.Learnt,
-  had-below t,
-  had.Post,
-) (had-at t) had.Post
-had-add-look t c = search needs
-
-had-look-requires : (t : ℕ) → had-lts.Need-look-requires (
-  look-reads.Asked,
-  look-reads.Learnt,
-  had-below t,
-  had.Post,
-) (had-at t) had.Post
-had-look-requires t c κs = search needs
-
-had-returns-2 : (t : ℕ) → had-lts.Need-returns-2 (
-  look-reads.Asked,
-  look-reads.Learnt,
-  had-below t,
-  had.Post,
-) (had-at t) had.Post
-had-returns-2 t c = let a = c .before .before .before .before .args in sym (had-here (a .has .now) (a .n) (a .k) (a .c) (c .before .before .if1 .left) (rw (c .before .look .ensures) at (c .if2 .taken)))
-
-had-add-had : (t : ℕ) → had-lts.Need-add-had (
-  look-reads.Asked,
-  look-reads.Learnt,
-  had-below t,
-  had.Post,
-) (had-at t) had.Post
-had-add-had t c = search needs
-
-had-sub-had : (t : ℕ) → had-lts.Need-sub-had (
-  look-reads.Asked,
-  look-reads.Learnt,
-  had-below t,
-  had.Post,
-) (had-at t) had.Post
-had-sub-had t c = search needs
-
-had-had-requires : (t : ℕ) → had-lts.Need-had-requires (
-  look-reads.Asked,
-  look-reads.Learnt,
-  had-below t,
-  had.Post,
-) (had-at t) had.Post
+had-had-requires : (t : ℕ) → had-lts.Need-had-requires (look-reads.Asked, look-reads.Learnt, had-below t, had.Post) (had-at t) had.Post
 had-had-requires t c κs = (omega (arith, c .before .before .before .before .pre), omega (arith, c .before .before .before .before .pre))
 
-had-returns-3 : (t : ℕ) → had-lts.Need-returns-3 (
-  look-reads.Asked,
-  look-reads.Learnt,
-  had-below t,
-  had.Post,
-) (had-at t) had.Post
-had-returns-3 t c = let a = c .before .before .before .before .before .args in c .had .ensures ∙ sym (had-on (a .has .now) (a .n) (a .k) (a .c) (c .before .before .before .if1 .left) (rw (c .before .before .look .ensures) at (c .before .if2 .left)))
+had-returns-3 : (t : ℕ) → had-lts.Need-returns-3 (look-reads.Asked, look-reads.Learnt, had-below t, had.Post) (had-at t) had.Post
+had-returns-3 t c =
+    let at-look = c .before .before in let a = at-look .before .before .before .args in
+    c .had .ensures
+    ∙ sym (had-on (a .has .now) (a .n) (a .k) (a .c) (at-look .before .if1 .left) (rw (at-look .look .ensures) at (c .before .if2 .left)))
 
 pub +had-spec : {M : Type 1} → statement M
-+had-spec = close μ-had λ t. had-lts.spec (
-  look-reads.Asked,
-  look-reads.Learnt,
-  had-below t,
-  had.Post,
-)
-    (had-at t)
-    had.Post
-    (had-returns t)
-    (had-mul-look t)
-    (had-add-look t)
-    (had-look-requires t)
-    (had-returns-2 t)
-    (had-add-had t)
-    (had-sub-had t)
-    (had-had-requires t)
-    (had-returns-3 t)
++had-spec =
+    close μ-had
+    λ t. had-lts.spec (look-reads.Asked, look-reads.Learnt, had-below t, had.Post) (had-at t) had.Post (had-returns t) (λ c. search needs)
+    (λ c. search needs) (λ c κs. search needs) (had-returns-2 t) (λ c. search needs) (λ c. search needs) (had-had-requires t) (had-returns-3 t)

@@ -6,44 +6,29 @@ use Rattle.plan.specs.PlanWays.{call-stop, call-read}
 use Rattle.plan.proofs.schedule.call.Statement.{statement}
 use Rattle.plan.proofs.schedule.call.Tie as tie
 
-ranged-requires : tie.Need-ranged-requires
-ranged-requires c κs = search needs
+-- the places that proofs look back to
+abbrev start : tie.After-ranged → tie.Start
+start c = c .before .before .before
 
-enum-known-r : tie.Need-enum-known-r
-enum-known-r c = search needs
-
-enum-told : tie.Need-enum-told
-enum-told c = search needs
-
-byte-refusal-requires : tie.Need-byte-refusal-requires
-byte-refusal-requires c κs = search needs
+abbrev start₂ : tie.After-known-told → tie.Start
+start₂ c = start (c .before .before .before)
 
 returns : tie.Need-returns
-returns c = let a = c .before .before .before .before .before .before .args in
-    let e = sym (c .before .before .before .ranged .ensures .0) ∙ c .before .enum-told .given .1 in
+returns c =
+    let at-ranged = c .before .before .before in let a = at-ranged .before .before .before .args in
+    let e = sym (at-ranged .ranged .ensures .0) ∙ c .before .enum-told .given .1 in
     rw (c .byte-refusal .ensures, c .before .enum-told .given .1) (sym (call-stop (a .has .now) (a .structs) (a .s .now) (a .at) _ e), tt)
 
-had-requires : tie.Need-had-requires
-had-requires c κs = omega (arith, c .before .before .before .before .before .before)
-
-one-requires : tie.Need-one-requires
-one-requires c κs = search needs
-
 returns-2 : tie.Need-returns-2
-returns-2 c = let a = c .before .before .before .before .before .before .before .before .args in
-    let e = c .before .before .before .r .given .1 in
-    let span = rw e at (c .before .before .before .before .before .ranged .ensures .1) in
-    rw (c .one .ensures, c .before .had .ensures) (sym (call-read (a .has .now) (a .structs) (a .s .now) (a .at) _ _ (sym (c .before .before .before .before .before .ranged .ensures .0) ∙ e)), omega arith)
+returns-2 c =
+    let at-r = c .before .before .before in let at-ranged = at-r .before .before in
+    let a = at-ranged .before .before .before .args in
+    let span = rw (at-r .r .given .1) at (at-ranged .ranged .ensures .1) in
+    rw (c .one .ensures, c .before .had .ensures)
+    (sym (call-read (a .has .now) (a .structs) (a .s .now) (a .at) _ _ (sym (at-ranged .ranged .ensures .0) ∙ at-r .r .given .1)), omega arith)
 
 pub call-spec : {M : Type 1} → statement M
 call-spec =
     tie.close
-    (tie.spec
-    ranged-requires
-    enum-known-r
-    enum-told
-    byte-refusal-requires
-    returns
-    had-requires
-    one-requires
-    returns-2)
+    (tie.spec (λ c κs. search needs) (λ c. search needs) (λ c. search needs) (λ c κs. search needs) returns (λ c κs. omega (arith, start₂ c))
+    (λ c κs. search needs) returns-2)

@@ -31,70 +31,96 @@ steps-below t = and 4 steps-kinds.ps (falls 4 steps-kinds.ps _<_ μ-steps t) ste
 abbrev steps-claims : ℕ → steps-lts.Claims
 steps-claims t = (step-reads.Asked, step-reads.Learnt, steps-below t, steps.Post, index-reads.Asked, index-reads.Learnt, pair-reads.Asked, pair-reads.Learnt)
 
+-- the places that proofs look back to
+abbrev start : (t : ℕ) → steps-lts.After-slice-known2 (steps-claims t) (steps-at t) steps.Post → steps-lts.Start (steps-claims t) (steps-at t) steps.Post
+start t c = c .before .before .before .before
+
+abbrev at-step : (t : ℕ) → steps-lts.After-steps-arg2 (steps-claims t) (steps-at t) steps.Post → steps-lts.After-step (steps-claims t) (steps-at t) steps.Post
+at-step t c = c .before .before .before .before
+
+abbrev start₂ : (t : ℕ) → steps-lts.After-list2 (steps-claims t) (steps-at t) steps.Post → steps-lts.Start (steps-claims t) (steps-at t) steps.Post
+start₂ t c = start t (at-step t (c .before .before) .before .before .before)
+
+abbrev at-steps : (t : ℕ) → steps-lts.After-slice-known5 (steps-claims t) (steps-at t) steps.Post → steps-lts.After-steps (steps-claims t)
+    (steps-at t) steps.Post
+at-steps t c = c .before .before .before .before
+
+abbrev start₃ : (t : ℕ) → steps-lts.After-shared-slice-known3 (steps-claims t) (steps-at t) steps.Post → steps-lts.Start (steps-claims t) (steps-at t)
+    steps.Post
+start₃ t c = start₂ t (c .before .before .before .before)
+
+abbrev at-steps₂ : (t : ℕ) → steps-lts.After-pair-arg (steps-claims t) (steps-at t) steps.Post → steps-lts.After-steps (steps-claims t) (steps-at t) steps.Post
+at-steps₂ t c = at-steps t (c .before .before .before)
+
 steps-returns : (t : ℕ) → steps-lts.Need-returns (steps-claims t) (steps-at t) steps.Post
-steps-returns t c = let a = (c .before .before .before .before .before .args) in (
-  steps-none (a .ar .now) (a .s .now) (a .n) (a .at) ((c .if1) .taken) (a .list .now) (a .k),
-  no-steps-noted (a .ar .now) (a .s .now) (a .n) (a .at) (a .structure) (a .k) ((c .if1) .taken) (a .spans .now),
-)
+steps-returns t c =
+    let a = start t (c .before) .args in (
+      steps-none (a .ar .now) (a .s .now) (a .n) (a .at) (c .if1 .taken) (a .list .now) (a .k),
+      no-steps-noted (a .ar .now) (a .s .now) (a .n) (a .at) (a .structure) (a .k) (c .if1 .taken) (a .spans .now),
+    )
 
 steps-step-requires : (t : ℕ) → steps-lts.Need-step-requires (steps-claims t) (steps-at t) steps.Post
-steps-step-requires t c κs = let a = (c .before .before .before .before .before .before .args) in parts-ready (steps-more (a .ar .now) (a .s .now) (a .n) (a .at) ((c .before .if1) .left) ((c .before .before .before .before .before .before .pre) .1 .0 .good)) ((c .before .before .before .before .before .before .pre) .1 .0)
-
-steps-sub-steps : (t : ℕ) → steps-lts.Need-sub-steps (steps-claims t) (steps-at t) steps.Post
-steps-sub-steps t c = omega (arith, (c .before .before .before .before .if1) .left)
+steps-step-requires t c κs =
+    let start′ = start t (c .before .before) in
+    parts-ready (steps-more _ _ _ _ (c .before .if1 .left) (start′ .pre .1 .0 .good)) (start′ .pre .1 .0)
 
 steps-steps-requires : (t : ℕ) → steps-lts.Need-steps-requires (steps-claims t) (steps-at t) steps.Post
-steps-steps-requires t c κs = let a = (c .before .before .before .before .before .before .before .before .before .before .before .args) in
-    let f = steps-more (a .ar .now) (a .s .now) (a .n) (a .at) ((c .before .before .before .before .before .before .if1) .left) ((c .before .before .before .before .before .before .before .before .before .before .before .pre) .1 .0 .good) in
-    (omega (arith, (c .before .before .before .before .before .before .before .before .before .before .before .pre) .0, (c .before .before .before .before .before .before .if1) .left), (parts-next f ((c .before .before .before .before .before .before .before .before .before .before .before .pre) .1 .0) ((c .before .before .before .before .step) .ensures), (c .before .before .before .before .before .before .before .before .before .before .before .pre) .1 .1))
+steps-steps-requires t c κs =
+    let f = steps-more _ _ _ _ (at-step t c .before .before .if1 .left) (start t (at-step t c .before .before .before) .pre .1 .0 .good) in (
+      omega (arith, start t (at-step t c .before .before .before) .pre .0, at-step t c .before .before .if1 .left),
+      (
+        parts-next f (start t (at-step t c .before .before .before) .pre .1 .0) (at-step t c .step .ensures),
+        start t (at-step t c .before .before .before) .pre .1 .1,
+      ),
+    )
 
 steps-shared-slice-read-index : (t : ℕ) → steps-lts.Need-shared-slice-read-index (steps-claims t) (steps-at t) steps.Post
-steps-shared-slice-read-index t c = let a = (c .before .before .before .before .before .before .before .before .before .before .before .before .before .before .before .before .before .args) in first-named (a .ar .now) (a .s .now) (a .n) (a .at) (a .structure) (a .k) ((c .before .before .before .before .before .before .before .before .before .before .before .before .if1) .left) ((c .before .before .before .before .before .before .before .before .before .before .before .before .before .before .before .before .before .pre) .1 .0 .good) .0
-
-steps-index-requires : (t : ℕ) → steps-lts.Need-index-requires (steps-claims t) (steps-at t) steps.Post
-steps-index-requires t c κs = search needs
-
-steps-mul-pair : (t : ℕ) → steps-lts.Need-mul-pair (steps-claims t) (steps-at t) steps.Post
-steps-mul-pair t c = omega (arith, (c .before .index) .ensures .1, (c .before .before .before .before .before .before .before .before .before .before .before .before .before .before .before .before .before .before .before .pre) .1 .1)
-
-steps-add-pair : (t : ℕ) → steps-lts.Need-add-pair (steps-claims t) (steps-at t) steps.Post
-steps-add-pair t c = omega (arith, (c .before .index) .ensures .1, (c .before .before .before .before .before .before .before .before .before .before .before .before .before .before .before .before .before .before .before .pre) .1 .1)
-
-steps-mul-pair-2 : (t : ℕ) → steps-lts.Need-mul-pair-2 (steps-claims t) (steps-at t) steps.Post
-steps-mul-pair-2 t c = omega (arith, (c .before .index) .ensures .1, (c .before .before .before .before .before .before .before .before .before .before .before .before .before .before .before .before .before .before .before .pre) .1 .1)
+steps-shared-slice-read-index t c =
+    let at-list2 = c .before .before .before .before in
+    let at-if1 = at-step t (at-list2 .before .before) .before .before in let a = start₃ t c .args in
+    first-named (a .ar .now) (a .s .now) (a .n) (a .at) (a .structure) (a .k) (at-if1 .if1 .left) (start₃ t c .pre .1 .0 .good) .0
 
 steps-pair-requires : (t : ℕ) → steps-lts.Need-pair-requires (steps-claims t) (steps-at t) steps.Post
-steps-pair-requires t c κs = let a = (c .before .before .before .before .before .before .before .before .before .before .before .before .before .before .before .before .before .before .before .args) in
-    let f = first-named (a .ar .now) (a .s .now) (a .n) (a .at) (a .structure) (a .k) ((c .before .before .before .before .before .before .before .before .before .before .before .before .before .before .if1) .left) ((c .before .before .before .before .before .before .before .before .before .before .before .before .before .before .before .before .before .before .before .pre) .1 .0 .good) in
-    omega (arith, (c .before .index) .ensures .0, (c .before .before .before .before .before .before .before .before .before .before .before .before .before .before .before .before .before .before .before .pre) .1 .1, (c .before .before .before .before .before .before .before .steps) .kept .1 .1 .1 .1 .1 .1 .0)
+steps-pair-requires t c κs =
+    let a = start₃ t (c .before .before) .args in
+    omega (
+      arith,
+      first-named (a .ar .now) (a .s .now) (a .n) (a .at) (a .structure) (a .k) (at-step t (at-steps₂ t c .before) .before .before .if1 .left)
+          (start₃ t (c .before .before) .pre .1 .0 .good),
+      c .before .index .ensures .0,
+      start₃ t (c .before .before) .pre .1 .1,
+      at-steps₂ t c .steps .kept .1 .1 .1 .1 .1 .1 .0,
+    )
 
 steps-same-length : (t : ℕ) → steps-lts.Need-same-length (steps-claims t) (steps-at t) steps.Post
-steps-same-length t c = placed-kept ((c .before .before .before .before .before .before .before .before .before .before .steps) .ensures .0) ∙ placed-kept ((c .before .before .before .before .before .before .before .before .before .before .before .before .before .before .before .step) .ensures)
+steps-same-length t c =
+    let at-steps′ = at-steps₂ t (c .before .before .before) in
+    placed-kept (at-steps′ .steps .ensures .0) ∙ placed-kept (at-step t (at-steps′ .before) .step .ensures)
 
 steps-same-length-2 : (t : ℕ) → steps-lts.Need-same-length-2 (steps-claims t) (steps-at t) steps.Post
-steps-same-length-2 t c = (c .before .before .pair) .kept .0 ∙ (c .before .before .before .before .before .before .before .before .before .before .steps) .kept .1 .1 .1 .1 .1 .1 .0
+steps-same-length-2 t c =
+    let at-pair = c .before .before in
+    at-pair .pair .kept .0 ∙ at-steps₂ t (at-pair .before) .steps .kept .1 .1 .1 .1 .1 .1 .0
 
 steps-returns-2 : (t : ℕ) → steps-lts.Need-returns-2 (steps-claims t) (steps-at t) steps.Post
-steps-returns-2 t c = let a = (c .before .before .before .before .before .before .before .before .before .before .before .before .before .before .before .before .before .before .before .before .before .before .args) in
-    let f = steps-more (a .ar .now) (a .s .now) (a .n) (a .at) ((c .before .before .before .before .before .before .before .before .before .before .before .before .before .before .before .before .before .if1) .left) ((c .before .before .before .before .before .before .before .before .before .before .before .before .before .before .before .before .before .before .before .before .before .before .pre) .1 .0 .good) in (
-      parts-same ((c .before .before .before .before .before .before .before .before .before .before .before .before .before .before .before .step) .ensures) ((c .before .before .before .before .before .before .before .before .before .before .steps) .ensures .0) f,
-      steps-noted (a .ar .now) (a .s .now) (a .n) (a .at) (a .structure) (a .k) ((c .before .before .before .before .before .before .before .before .before .before .before .before .before .before .before .before .before .if1) .left) ((c .before .before .before .before .before .before .before .before .before .before .before .before .before .before .before .before .before .before .before .before .before .before .pre) .1 .0 .good) (a .spans .now) _ _ ((c .before .before .before .before .before .before .before .before .before .before .before .before .before .before .before .step) .ensures) ((c .before .before .before .before .before .before .before .before .before .before .steps) .ensures .1) (rw ((c .before .before .before .before .index) .ensures .0) at ((c .before .before .pair) .ensures)),
+steps-returns-2 t c =
+    let at-pair = c .before .before in let at-index = at-pair .before .before in
+    let at-slice-known4 = at-index .before .before .before .before in
+    let at-steps′ = at-slice-known4 .before .before in let at-list = at-steps′ .before .before .before .before in
+    let at-if1 = at-list .before .before .before in let start′ = start t (at-if1 .before) in
+    let a = start′ .args in
+    let f = steps-more _ _ _ _ (at-if1 .if1 .left) (start′ .pre .1 .0 .good) in (
+      parts-same (at-list .before .step .ensures) (at-steps′ .steps .ensures .0) f,
+      steps-noted (a .ar .now) (a .s .now) (a .n) (a .at) (a .structure) (a .k) (at-if1 .if1 .left) (start′ .pre .1 .0 .good) (a .spans .now) _ _
+          (at-list .before .step .ensures) (at-steps′ .steps .ensures .1) (rw (at-index .index .ensures .0) at (at-pair .pair .ensures)),
     )
 
 pub +steps-spec : {M : Type 1} → statement M
-+steps-spec = close μ-steps λ t. steps-lts.spec (steps-claims t)
-    (steps-at t)
-    steps.Post
-    (steps-returns t)
-    (steps-step-requires t)
-    (steps-sub-steps t)
-    (steps-steps-requires t)
-    (steps-shared-slice-read-index t)
-    (steps-index-requires t)
-    (steps-mul-pair t)
-    (steps-add-pair t)
-    (steps-mul-pair-2 t)
-    (steps-pair-requires t)
-    (steps-same-length t)
-    (steps-same-length-2 t)
-    (steps-returns-2 t)
++steps-spec =
+    close μ-steps
+    λ t. steps-lts.spec (steps-claims t) (steps-at t) steps.Post (steps-returns t) (steps-step-requires t)
+    (λ c. omega (arith, c .before .before .before .before .if1 .left)) (steps-steps-requires t) (steps-shared-slice-read-index t)
+    (λ c κs. search needs) (λ c. omega (arith, c .before .index .ensures .1, start₃ t (c .before .before) .pre .1 .1))
+    (λ c. omega (arith, c .before .index .ensures .1, start₃ t (c .before .before) .pre .1 .1))
+    (λ c. omega (arith, c .before .index .ensures .1, start₃ t (c .before .before) .pre .1 .1)) (steps-pair-requires t) (steps-same-length t)
+    (steps-same-length-2 t) (steps-returns-2 t)

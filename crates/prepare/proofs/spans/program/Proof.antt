@@ -5,24 +5,19 @@ use Rattle.prepare.proofs.spans.program.Tie as tie
 use Rattle.emit.specs.ProgramLaws.{program-wrote}
 use Rattle.prepare.specs.NoteLaws.{program-located}
 
-structs-requires : tie.Need-structs-requires
-structs-requires c κs = search needs
-
-same-length : tie.Need-same-length
-same-length c = search needs
-
-same-length-2 : tie.Need-same-length-2
-same-length-2 c = search needs
-
 returns : tie.Need-returns
-returns c = let a = (c .before .before .before .before .before .before .before .before .before .before .before .args) in
-    let w = (c .before .before .before .before .structs) .ensures .0 in (
+returns c =
+    let at-structs = c .before .before .before .before in
+    let at-slice-known = at-structs .before .before .before .before in
+    let start = at-slice-known .before .before .before in let a = start .args in
+    let w = at-structs .structs .ensures .0 in (
       w,
       (
         program-wrote (a .ar .now) (a .s .now) (a .at) _ _ _ w,
-        program-located (a .ar .now) (a .s .now) (a .at) (a .list .now) _ (a .spans .now) _ _ ((c .before .before .before .before .before .before .before .before .before .before .before .pre) .1 .0) ((c .before .before .before .before .before .before .before .before .before .before .before .pre) .0) w ((c .before .before .before .before .structs) .ensures .1),
+        program-located (a .ar .now) (a .s .now) (a .at) (a .list .now) _ (a .spans .now) _ _ (start .pre .1 .0) (start .pre .0) w
+            (at-structs .structs .ensures .1),
       ),
     )
 
 pub program-spec : {M : Type 1} → statement M
-program-spec = tie.close (tie.spec structs-requires same-length same-length-2 returns)
+program-spec = tie.close (tie.spec (λ c κs. search needs) (λ c. search needs) (λ c. search needs) returns)

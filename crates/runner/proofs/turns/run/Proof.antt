@@ -7,7 +7,7 @@ use borrow.Author.Needs.{needs}
 use native.Mathlib.Omega.{arith}
 use Rattle.engine.specs.States.{state-of}
 use Rattle.runner.specs.Running.{Gone}
-use Rattle.runner.specs.RunWays.{begun-rows, begun-standing, gone-none, gone-over, gone-lasting, gone-rows, gone-fits, gone-failed, gone-begun, gone-count, gone-row, gone-more}
+use Rattle.runner.specs.RunWays.{begun-rows, begun-standing, gone-none, gone-over, gone-lasting, gone-rows, gone-fits, gone-failed, gone-begun, gone-count, gone-row, gone-more, gone-on}
 use Rattle.runner.proofs.turns.run.Statement.{statement}
 use Rattle.runner.proofs.turns.run.Tie as tie
 
@@ -109,7 +109,7 @@ left-holding-requires c κs =
 
 settle-requires-2 : tie.Need-settle-requires-2 Inv-loop μ-loop
 settle-requires-2 c κs =
-    let k = c .before .before .before .before .before .before .before .before in
+    let k = c .before .before .before .before .before .before .before .before .before in
     let q = k .before .before .before in
     let e = q .before .before .before in
     let t = e .before in
@@ -117,17 +117,17 @@ settle-requires-2 c κs =
     let b = w .before .before .before .before in
     let s = b .before .before .before .before .before .before .before .before .before .before .before in
     let settled = b .settle .ensures (s .args .cells .now) in
-    let taken = c .before .before .before .if2 .left in
-    (begun-standing (gone-begun (s .pre) settled (w .loop .inv .3) (omega (arith, t .loop-test .taken)) (q .picked-of .ensures) (omega (arith, w .loop .inv .2, e .if1 .left)) (k .command .ensures) taken), c .before .left-holding .ensures ∙ gone-count (s .pre) settled (w .loop .inv .3) (omega (arith, t .loop-test .taken)) (q .picked-of .ensures) (omega (arith, w .loop .inv .2, e .if1 .left)) (k .command .ensures) taken)
+    let taken = c .before .before .before .before .if2 .left in
+    (begun-standing (gone-begun (s .pre) settled (w .loop .inv .3) (omega (arith, t .loop-test .taken)) (q .picked-of .ensures) (omega (arith, w .loop .inv .2, e .if1 .left)) (k .command .ensures) taken), c .before .before .left-holding .ensures ∙ gone-count (s .pre) settled (w .loop .inv .3) (omega (arith, t .loop-test .taken)) (q .picked-of .ensures) (omega (arith, w .loop .inv .2, e .if1 .left)) (k .command .ensures) taken)
 
 loop-less : tie.Need-loop-less Inv-loop μ-loop
 loop-less c =
-    let e = c .before .before .before .before .before .before .before .before .before .before .before .before .before .before .before .before .before .before in
+    let e = c .before .before .before .before .before .before .before .before .before .before .before .before .before .before .before .before .before .before .before in
     omega (arith, e .before .before .loop .inv .2, e .if1 .left)
 
 loop-again : tie.Need-loop-again Inv-loop μ-loop
 loop-again c =
-    let k = c .before .before .before .before .before .before .before .before .before .before .before .before in
+    let k = c .before .before .before .before .before .before .before .before .before .before .before .before .before in
     let q = k .before .before .before in
     let e = q .before .before .before in
     let t = e .before in
@@ -139,7 +139,29 @@ loop-again c =
       moved .kept .1 .1 .1 .1 .0 ∙ k .command .kept .1 .1 .1 .0 ∙ w .loop .inv .0,
       k .command .kept .1 .1 .1 .1 .0 ∙ w .loop .inv .1,
       omega (arith, w .loop .inv .2, e .if1 .left),
-      gone-more (s .pre) settled (w .loop .inv .3) (omega (arith, t .loop-test .taken)) (q .picked-of .ensures) (omega (arith, w .loop .inv .2, e .if1 .left)) (k .command .ensures) (c .before .before .before .before .before .before .before .if2 .left) (moved .ensures _),
+      gone-more (s .pre) settled (w .loop .inv .3) (omega (arith, t .loop-test .taken)) (q .picked-of .ensures) (omega (arith, w .loop .inv .2, e .if1 .left)) (k .command .ensures) (c .before .before .before .before .before .before .before .before .if2 .left) (moved .ensures _),
+    )
+
+loop-less-2 : tie.Need-loop-less-2 Inv-loop μ-loop
+loop-less-2 c =
+    let e = c .before .before .before .before .before .before .before .before .before .before .before .before .before .before in
+    omega (arith, e .before .before .loop .inv .2, e .if1 .left)
+
+loop-again-2 : tie.Need-loop-again-2 Inv-loop μ-loop
+loop-again-2 c =
+    let k = c .before .before .before .before .before .before .before .before in
+    let q = k .before .before .before in
+    let e = q .before .before .before in
+    let t = e .before in
+    let w = t .before in
+    let b = w .before .before .before .before in
+    let s = b .before .before .before .before .before .before .before .before .before .before .before in
+    let settled = b .settle .ensures (s .args .cells .now) in
+    let h = c .before .left-holding .ensures in (
+      k .command .kept .1 .1 .1 .0 ∙ w .loop .inv .0,
+      k .command .kept .1 .1 .1 .1 .0 ∙ w .loop .inv .1,
+      omega (arith, w .loop .inv .2, e .if1 .left),
+      gone-on (s .pre) settled (w .loop .inv .3) (omega (arith, t .loop-test .taken)) (q .picked-of .ensures) (omega (arith, w .loop .inv .2, e .if1 .left)) (k .command .ensures) (c .before .before .before .if2 .left) h (omega (arith, c .if3 .left)),
     )
 
 same-length-5 : tie.Need-same-length-5 Inv-loop μ-loop
@@ -179,6 +201,8 @@ run-spec =
     settle-requires-2
     loop-less
     loop-again
+    loop-less-2
+    loop-again-2
     same-length-5
     same-length-6
     returns-3)

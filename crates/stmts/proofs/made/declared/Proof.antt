@@ -4,25 +4,16 @@ use borrow.Author.Needs.{needs}
 use Rattle.stmts.proofs.made.declared.Statement.{statement}
 use Rattle.stmts.proofs.made.declared.Tie as tie
 
-enum-known-r : tie.Need-enum-known-r
-enum-known-r c = search needs
-
-enum-told : tie.Need-enum-told
-enum-told c = search needs
-
-expr-refusal-requires : tie.Need-expr-refusal-requires
-expr-refusal-requires c κs = search needs
-
 returns : tie.Need-returns
 returns c = rw (c .expr-refusal .ensures, c .before .enum-told .given .1)
 
 declared-requires : tie.Need-declared-requires
-declared-requires c κs = let room = rw (c .before .r .given .1) at (c .before .before .before .pre .2) in omega (arith, c .before .before .before .pre .0, c .before .before .before .pre .1)
+declared-requires c κs =
+    omega
+    (arith, rw (c .before .r .given .1) at (c .before .before .before .pre .2), c .before .before .before .pre .0, c .before .before .before .pre .1)
 
 returns-2 : tie.Need-returns-2
 returns-2 c = rw (c .before .before .r .given .1, c .declared .ensures)
 
 pub declared-spec : {M : Type 1} → statement M
-declared-spec =
-    tie.close
-    (tie.spec enum-known-r enum-told expr-refusal-requires returns declared-requires returns-2)
+declared-spec = tie.close (tie.spec (λ c. search needs) (λ c. search needs) (λ c κs. search needs) returns declared-requires returns-2)

@@ -3,15 +3,6 @@ use borrow.Author.Needs.{needs}
 use Rattle.stmts.proofs.made.labelled.Statement.{statement}
 use Rattle.stmts.proofs.made.labelled.Tie as tie
 
-enum-known-r : tie.Need-enum-known-r
-enum-known-r c = search needs
-
-enum-told : tie.Need-enum-told
-enum-told c = search needs
-
-expr-refusal-requires : tie.Need-expr-refusal-requires
-expr-refusal-requires c κs = search needs
-
 returns : tie.Need-returns
 returns c = rw (c .expr-refusal .ensures, c .before .enum-told .given .1)
 
@@ -19,4 +10,4 @@ returns-2 : tie.Need-returns-2
 returns-2 c = rw (c .before .r .given .1)
 
 pub labelled-spec : {M : Type 1} → statement M
-labelled-spec = tie.close (tie.spec enum-known-r enum-told expr-refusal-requires returns returns-2)
+labelled-spec = tie.close (tie.spec (λ c. search needs) (λ c. search needs) (λ c κs. search needs) returns returns-2)

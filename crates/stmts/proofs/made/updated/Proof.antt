@@ -4,25 +4,14 @@ use borrow.Author.Needs.{needs}
 use Rattle.stmts.proofs.made.updated.Statement.{statement}
 use Rattle.stmts.proofs.made.updated.Tie as tie
 
-enum-known-r : tie.Need-enum-known-r
-enum-known-r c = search needs
-
-enum-told : tie.Need-enum-told
-enum-told c = search needs
-
-expr-refusal-requires : tie.Need-expr-refusal-requires
-expr-refusal-requires c κs = search needs
-
 returns : tie.Need-returns
 returns c = rw (c .expr-refusal .ensures, c .before .enum-told .given .1)
 
 updated-requires : tie.Need-updated-requires
-updated-requires c κs = let room = rw (c .before .r .given .1) at (c .before .before .before .pre) in omega (arith, c .before .before .before .fits .n)
+updated-requires c κs = omega (arith, rw (c .before .r .given .1) at (c .before .before .before .pre), c .before .before .before .fits .n)
 
 returns-2 : tie.Need-returns-2
 returns-2 c = rw (c .before .before .r .given .1, c .updated .ensures)
 
 pub updated-spec : {M : Type 1} → statement M
-updated-spec =
-    tie.close
-    (tie.spec enum-known-r enum-told expr-refusal-requires returns updated-requires returns-2)
+updated-spec = tie.close (tie.spec (λ c. search needs) (λ c. search needs) (λ c κs. search needs) returns updated-requires returns-2)

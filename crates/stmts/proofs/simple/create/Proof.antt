@@ -7,17 +7,14 @@ use borrow.Author.Needs.{needs}
 use Rattle.stmts.proofs.simple.create.Statement.{statement}
 use Rattle.stmts.proofs.simple.create.Tie as tie
 
-construct-requires : tie.Need-construct-requires
-construct-requires c κs = search needs
-
-labelled-requires : tie.Need-labelled-requires
-labelled-requires c κs = search needs
-
 returns : tie.Need-returns
-returns c = let a = c .before .before .before .before .before .args in
+returns c =
+    let at-construct = c .before in let a = at-construct .before .before .before .before .args in
     let s = a .s .now in
-    let law = create-is (a .ar .now) (a .types .now) s (a .own) (a .c) (a .at) (read-make (a .ar .now) s (read-expr (a .ar .now) s 16) (a .at)) in
-    ((rw (c .before .construct .ensures .0) at (c .labelled .ensures)) ∙ sym law, rw (c .labelled .ensures) (span-labelled s (a .at) (a .c) (c .before .construct .result) (c .before .construct .ensures .1)))
+    let law = create-is (a .ar .now) (a .types .now) s (a .own) (a .c) (a .at) (read-make (a .ar .now) s (read-expr (a .ar .now) s 16) (a .at)) in (
+      (rw (at-construct .construct .ensures .0) at (c .labelled .ensures)) ∙ sym law,
+      rw (c .labelled .ensures) (span-labelled s (a .at) (a .c) (at-construct .construct .result) (at-construct .construct .ensures .1)),
+    )
 
 pub create-spec : {M : Type 1} → statement M
-create-spec = tie.close (tie.spec construct-requires labelled-requires returns)
+create-spec = tie.close (tie.spec (λ c κs. search needs) (λ c κs. search needs) returns)

@@ -1,4 +1,5 @@
--- `stmt::body`, `stmt::stmt`, `stmt::stmts` and `stmt::when` meet their contracts, by a law for each way through them. The unread bytes fall, twice each, and one more counts for
+-- `stmt::body`, `stmt::stmt`, `stmt::stmts` and `stmt::when` meet their contracts, by a law for each way through them. The unread bytes
+-- fall, twice each, and one more counts for
 -- statements in a row, whose loop keeps what is left behind what is totalled up.
 use Prim.Native.Nat.{ℕ, _+_, _-_, _*_, _^_, _<_}
 use native.Mathlib.Omega.{arith}
@@ -23,14 +24,14 @@ use Rattle.stmts.proofs.stmt.+body+stmt+stmts+when.Lts-stmts as stmts-l
 use Rattle.stmts.proofs.stmt.when.Reads as when
 use Rattle.stmts.proofs.stmt.when.Kinds as when-kinds
 use Rattle.stmts.proofs.stmt.+body+stmt+stmts+when.Lts-when as when-lts
-use Rattle.exprs.proofs.expr.expr.Reads as expr-reads
-use Rattle.exprs.proofs.read.byte_refusal.Reads as byte-refusal-reads
-use Rattle.exprs.proofs.read.expr_refusal.Reads as expr-refusal-reads
-use Rattle.exprs.proofs.read.ranged.Reads as ranged-reads
-use Rattle.facts.proofs.statement.nothing.Reads as nothing-reads
-use Rattle.facts.proofs.statement.followed.Reads as followed-reads
-use Rattle.stmts.proofs.made.branched.Reads as branched-reads
-use Rattle.stmts.proofs.simple.simple.Reads as simple-reads
+use Rattle.exprs.proofs.expr.expr.Reads as expr
+use Rattle.exprs.proofs.read.byte_refusal.Reads as byte-refusal
+use Rattle.exprs.proofs.read.expr_refusal.Reads as expr-refusal
+use Rattle.exprs.proofs.read.ranged.Reads as ranged
+use Rattle.facts.proofs.statement.nothing.Reads as nothing
+use Rattle.facts.proofs.statement.followed.Reads as followed
+use Rattle.stmts.proofs.made.branched.Reads as branched
+use Rattle.stmts.proofs.simple.simple.Reads as simple
 use Rattle.stmts.proofs.stmt.+body+stmt+stmts+when.{statement}
 use Rattle.stmts.proofs.stmt.+body+stmt+stmts+when.Tie.{close}
 
@@ -71,79 +72,79 @@ abbrev when-below : ℕ → In 3 when-kinds.ps
 when-below t = and 3 when-kinds.ps (falls 3 when-kinds.ps _<_ μ-when t) when.Pre
 
 abbrev body-claims : ℕ → body-lts.Claims
-body-claims t = (ranged-reads.Asked, ranged-reads.Learnt, byte-refusal-reads.Asked, byte-refusal-reads.Learnt, stmts-below t, stmts.Post)
+body-claims t = (ranged.Asked, ranged.Learnt, byte-refusal.Asked, byte-refusal.Learnt, stmts-below t, stmts.Post)
 
 abbrev stmt-claims : ℕ → stmt-lts.Claims
-stmt-claims t = (simple-reads.Asked, simple-reads.Learnt, when-below t, when.Post)
+stmt-claims t = (simple.Asked, simple.Learnt, when-below t, when.Post)
 
 abbrev stmts-claims : ℕ → stmts-lts.Claims
-stmts-claims t = (nothing-reads.Asked, nothing-reads.Learnt, stmt-below t, stmt.Post, followed-reads.Asked, followed-reads.Learnt)
+stmts-claims t = (nothing.Asked, nothing.Learnt, stmt-below t, stmt.Post, followed.Asked, followed.Learnt)
 
 abbrev when-claims : ℕ → when-lts.Claims
-when-claims t = (expr-reads.Asked, expr-reads.Learnt, expr-refusal-reads.Asked, expr-refusal-reads.Learnt, body-below t, body.Post, branched-reads.Asked, branched-reads.Learnt)
-
-body-add-ranged : (t : ℕ) → body-lts.Need-add-ranged (body-claims t) (body-at t) body.Post
-body-add-ranged t c = search needs
-
-body-ranged-requires : (t : ℕ) → body-lts.Need-ranged-requires (body-claims t) (body-at t) body.Post
-body-ranged-requires t c κs = search needs
-
-body-enum-known-r : (t : ℕ) → body-lts.Need-enum-known-r (body-claims t) (body-at t) body.Post
-body-enum-known-r t c = search needs
-
-body-enum-told : (t : ℕ) → body-lts.Need-enum-told (body-claims t) (body-at t) body.Post
-body-enum-told t c = search needs
-
-body-byte-refusal-requires : (t : ℕ) → body-lts.Need-byte-refusal-requires (body-claims t) (body-at t) body.Post
-body-byte-refusal-requires t c κs = search needs
+when-claims t = (expr.Asked, expr.Learnt, expr-refusal.Asked, expr-refusal.Learnt, body-below t, body.Post, branched.Asked, branched.Learnt)
 
 body-returns : (t : ℕ) → body-lts.Need-returns (body-claims t) (body-at t) body.Post
-body-returns t c = let a = c .before .before .before .before .before .before .before .args in
-    let s = a .s .now in
-    let e = sym (c .before .before .before .ranged .ensures .0) ∙ c .before .enum-told .given .1 in
-    rw (c .byte-refusal .ensures, c .before .enum-told .given .1) (sym (body-stop (a .ar .now) (a .types .now) s (a .own) (a .c) (read-stmt (a .ar .now) s (a .depth)) (a .at) _ e), tt)
+body-returns t c =
+    let at-ranged = c .before .before .before in
+    let a = at-ranged .before .before .before .before .args in let s = a .s .now in
+    let e = sym (at-ranged .ranged .ensures .0) ∙ c .before .enum-told .given .1 in
+    rw (c .byte-refusal .ensures, c .before .enum-told .given .1)
+    (sym (body-stop (a .ar .now) (a .types .now) s (a .own) (a .c) (read-stmt (a .ar .now) s (a .depth)) (a .at) _ e), tt)
 
 body-stmts-requires : (t : ℕ) → body-lts.Need-stmts-requires (body-claims t) (body-at t) body.Post
-body-stmts-requires t c κs = let span = rw (c .before .r .given .1) at (c .before .before .before .ranged .ensures .1) in
-    (omega (arith, c .before .before .before .before .before .before .before .pre), (c .before .before .before .before .before .before .before .pre .1, omega arith))
+body-stmts-requires t c κs =
+    let at-ranged = c .before .before .before in let start = at-ranged .before .before .before .before in
+    let span = rw (c .before .r .given .1) at (c .before .before .before .ranged .ensures .1) in
+    (omega (arith, start .pre), (start .pre .1, omega arith))
 
 body-returns-2 : (t : ℕ) → body-lts.Need-returns-2 (body-claims t) (body-at t) body.Post
-body-returns-2 t c = let a = c .before .before .before .before .before .before .before .before .args in
-    let s = a .s .now in
-    let e = sym (c .before .before .before .before .ranged .ensures .0) ∙ c .before .before .r .given .1 in
-    let span = rw (c .before .before .r .given .1) at (c .before .before .before .before .ranged .ensures .1) in
-    (c .stmts .ensures .0 ∙ sym (body-is (a .ar .now) (a .types .now) s (a .own) (a .c) (read-stmt (a .ar .now) s (a .depth)) (a .at) _ _ e), rw (span .0) at (c .stmts .ensures .1))
+body-returns-2 t c =
+    let at-r = c .before .before in let at-ranged = at-r .before .before in
+    let a = at-ranged .before .before .before .before .args in let s = a .s .now in
+    let e = sym (at-ranged .ranged .ensures .0) ∙ at-r .r .given .1 in
+    let span = rw (at-r .r .given .1) at (at-ranged .ranged .ensures .1) in (
+      c .stmts .ensures .0 ∙ sym (body-is (a .ar .now) (a .types .now) s (a .own) (a .c) (read-stmt (a .ar .now) s (a .depth)) (a .at) _ _ e),
+      rw (span .0) at (c .stmts .ensures .1),
+    )
+
+-- the places of `stmt` that proofs look back to
+abbrev stmt-start : (t : ℕ) → stmt-lts.Else1 (stmt-claims t) (stmt-at t) stmt.Post → stmt-lts.Start (stmt-claims t) (stmt-at t) stmt.Post
+stmt-start t c = c .before .before .before .before
+
+abbrev stmt-start₂ : (t : ℕ) → stmt-lts.After-shared-slice-known4 (stmt-claims t) (stmt-at t) stmt.Post → stmt-lts.Start (stmt-claims t) (stmt-at t) stmt.Post
+stmt-start₂ t c = stmt-start t (c .before)
 
 stmt-returns : (t : ℕ) → stmt-lts.Need-returns (stmt-claims t) (stmt-at t) stmt.Post
-stmt-returns t c = let a = c .before .before .before .before .args in (sym (stmt-out (a .ar .now) (a .types .now) (a .s .now) (a .own) (a .c) (a .depth) (a .at) (c .if1 .taken)), tt)
-
-stmt-shared-slice-read-b : (t : ℕ) → stmt-lts.Need-shared-slice-read-b (stmt-claims t) (stmt-at t) stmt.Post
-stmt-shared-slice-read-b t c = search needs
-
-stmt-add-k : (t : ℕ) → stmt-lts.Need-add-k (stmt-claims t) (stmt-at t) stmt.Post
-stmt-add-k t c = search needs
-
-stmt-simple-requires : (t : ℕ) → stmt-lts.Need-simple-requires (stmt-claims t) (stmt-at t) stmt.Post
-stmt-simple-requires t c κs = (c .before .before .before .before .before .before .pre .1, c .if2 .taken)
+stmt-returns t c =
+    let a = c .before .before .before .before .args in
+    (sym (stmt-out (a .ar .now) (a .types .now) (a .s .now) (a .own) (a .c) (a .depth) (a .at) (c .if1 .taken)), tt)
 
 stmt-returns-2 : (t : ℕ) → stmt-lts.Need-returns-2 (stmt-claims t) (stmt-at t) stmt.Post
-stmt-returns-2 t c = let a = c .before .before .before .before .before .before .before .args in
-    let s = a .s .now in
-    (stmt-simple (a .ar .now) (a .types .now) s (a .own) (a .c) (a .depth) (a .at) (c .before .before .before .if1 .left) (c .simple .result) (c .simple .ensures .0), behind-ahead s (a .at) (c .simple .result) (c .simple .ensures .1))
+stmt-returns-2 t c =
+    let at-if1 = c .before .before .before in let a = stmt-start t at-if1 .args in
+    let s = a .s .now in (
+      stmt-simple (a .ar .now) (a .types .now) s (a .own) (a .c) (a .depth) (a .at) (at-if1 .if1 .left) (c .simple .result) (c .simple .ensures .0),
+      behind-ahead s (a .at) (c .simple .result) (c .simple .ensures .1),
+    )
 
 stmt-returns-3 : (t : ℕ) → stmt-lts.Need-returns-3 (stmt-claims t) (stmt-at t) stmt.Post
-stmt-returns-3 t c = let a = c .before .before .before .before .before .before .before .args in (sym (stmt-deep (a .ar .now) (a .types .now) (a .s .now) (a .own) (a .c) (a .depth) (a .at) (c .before .before .before .if1 .left) (c .before .if2 .left) (c .if3 .taken)), tt)
-
-stmt-sub-when : (t : ℕ) → stmt-lts.Need-sub-when (stmt-claims t) (stmt-at t) stmt.Post
-stmt-sub-when t c = search needs
+stmt-returns-3 t c =
+    let at-if1 = c .before .before .before in let a = stmt-start t at-if1 .args in (
+      sym (stmt-deep (a .ar .now) (a .types .now) (a .s .now) (a .own) (a .c) (a .depth) (a .at) (at-if1 .if1 .left) (c .before .if2 .left)
+          (c .if3 .taken)),
+      tt,
+    )
 
 stmt-when-requires : (t : ℕ) → stmt-lts.Need-when-requires (stmt-claims t) (stmt-at t) stmt.Post
-stmt-when-requires t c κs = (omega (arith, c .before .before .before .before .before .before .before .pre), c .before .before .before .before .before .before .before .pre .1)
+stmt-when-requires t c κs =
+    let start = stmt-start₂ t (c .before .before) in
+    (omega (arith, start .pre), start .pre .1)
 
 stmt-returns-4 : (t : ℕ) → stmt-lts.Need-returns-4 (stmt-claims t) (stmt-at t) stmt.Post
-stmt-returns-4 t c = let a = c .before .before .before .before .before .before .before .before .args in
-    let s = a .s .now in
-    let law = stmt-when (a .ar .now) (a .types .now) s (a .own) (a .c) (a .depth) (a .at) (c .before .before .before .before .if1 .left) (c .before .before .if2 .left) (c .before .if3 .left) in
+stmt-returns-4 t c =
+    let at-if2 = c .before .before in let at-if1 = at-if2 .before .before in
+    let a = stmt-start t at-if1 .args in let s = a .s .now in
+    let law = stmt-when (a .ar .now) (a .types .now) s (a .own) (a .c) (a .depth) (a .at) (at-if1 .if1 .left) (at-if2 .if2 .left) (c .before .if3 .left) in
     (c .when .ensures .0 ∙ sym law, behind-ahead s (a .at) (c .when .result) (c .when .ensures .1))
 
 abbrev stmts-Inv-loop : stmts-lts.InvT-loop
@@ -153,8 +154,16 @@ stmts-Inv-loop s ar types own n at depth done₀ next₀ left₀ done next left 
 abbrev stmts-μ-loop : stmts-lts.MeasureT-loop
 stmts-μ-loop s ar types own n at depth done₀ next₀ left₀ done next left = left
 
-stmts-nothing-requires : (t : ℕ) → stmts-lts.Need-nothing-requires (stmts-claims t) (stmts-at t) stmts.Post stmts-Inv-loop stmts-μ-loop
-stmts-nothing-requires t c κs = search needs
+-- the places of `stmts` that proofs look back to
+abbrev stmts-start :
+    (t : ℕ) → stmts-lts.After-nothing (stmts-claims t) (stmts-at t) stmts.Post stmts-Inv-loop stmts-μ-loop
+    → stmts-lts.Start (stmts-claims t) (stmts-at t) stmts.Post stmts-Inv-loop stmts-μ-loop
+stmts-start t c = c .before .before .before .before
+
+abbrev stmts-start₂ :
+    (t : ℕ) → stmts-lts.At-loop (stmts-claims t) (stmts-at t) stmts.Post stmts-Inv-loop stmts-μ-loop
+    → stmts-lts.Start (stmts-claims t) (stmts-at t) stmts.Post stmts-Inv-loop stmts-μ-loop
+stmts-start₂ t c = stmts-start t (c .before)
 
 stmts-loop-holds : (t : ℕ) → stmts-lts.Need-loop-holds (stmts-claims t) (stmts-at t) stmts.Post stmts-Inv-loop stmts-μ-loop
 stmts-loop-holds t c =
@@ -163,144 +172,100 @@ stmts-loop-holds t c =
 
 stmts-stmt-requires : (t : ℕ) → stmts-lts.Need-stmt-requires (stmts-claims t) (stmts-at t) stmts.Post stmts-Inv-loop stmts-μ-loop
 stmts-stmt-requires t c κs =
-    let within = c .before .before .loop .inv .0 .within in
-    (omega (arith, c .before .before .before .before .before .before .before .pre, within), c .before .before .before .before .before .before .before .pre .1 .0)
-
-stmts-enum-known-r : (t : ℕ) → stmts-lts.Need-enum-known-r (stmts-claims t) (stmts-at t) stmts.Post stmts-Inv-loop stmts-μ-loop
-stmts-enum-known-r t c = search needs
-
-stmts-enum-told : (t : ℕ) → stmts-lts.Need-enum-told (stmts-claims t) (stmts-at t) stmts.Post stmts-Inv-loop stmts-μ-loop
-stmts-enum-told t c = search needs
+    let at-loop = c .before .before in
+    (omega (arith, stmts-start₂ t at-loop .pre, at-loop .loop .inv .0 .within), stmts-start₂ t at-loop .pre .1 .0)
 
 stmts-returns : (t : ℕ) → stmts-lts.Need-returns (stmts-claims t) (stmts-at t) stmts.Post stmts-Inv-loop stmts-μ-loop
 stmts-returns t c =
-    let a = c .before .before .before .before .before .before .before .before .before .before .args in
-    let s = a .s .now in
-    let loop = c .before .before .before .before .before .loop in
-    let read = read-stmt (a .ar .now) s (a .depth) in
-    let told = c .enum-told .given in
+    let at-stmt = c .before .before in let at-loop = at-stmt .before .before .before in
+    let at-nothing = at-loop .before in let a = at-nothing .before .before .before .before .args in
+    let s = a .s .now in let loop = at-loop .loop in let read = read-stmt (a .ar .now) s (a .depth) in
     let more : loop .left ≡ 0 → ⊥ = λ z. omega arith in
-    let begins = row-begins (a .ar .now) (a .types .now) s (a .own) read (a .c) (c .before .before .before .before .before .before .nothing .result) (a .n) (a .at) (c .before .before .before .before .before .before .nothing .ensures) in
-    let law = row-refused (a .ar .now) (a .types .now) s (a .own) read (loop .done) (loop .left) (loop .next) more _ (sym (c .before .before .stmt .ensures .0) ∙ told .1) in
-    (told .1 ∙ sym law ∙ sym (loop .inv .1) ∙ begins, rw (told .1) tt)
+    let begins = row-begins (a .ar .now) (a .types .now) s (a .own) read (a .c) (at-nothing .nothing .result) (a .n) (a .at) (at-nothing .nothing .ensures) in
+    let law = row-refused (a .ar .now) (a .types .now) s (a .own) read (loop .done) (loop .left) (loop .next) more _
+    (sym (at-stmt .stmt .ensures .0) ∙ c .enum-told .given .1) in
+    (c .enum-told .given .1 ∙ sym law ∙ sym (loop .inv .1) ∙ begins, rw (c .enum-told .given .1) tt)
 
 stmts-followed-requires : (t : ℕ) → stmts-lts.Need-followed-requires (stmts-claims t) (stmts-at t) stmts.Post stmts-Inv-loop stmts-μ-loop
 stmts-followed-requires t c κs =
-    let a = c .before .before .before .before .before .before .before .before .before .before .before .args in
-    let small : length (a .s .now) < 2 ^ 63 = omega (arith, c .before .before .before .before .before .before .before .before .before .before .before .good .0) in
-    let within = c .before .before .before .before .before .before .loop .inv .0 .within in
-    let ahead = rw (c .before .r .given .1) at (c .before .before .before .stmt .ensures .1) in
-    omega arith
-
-stmts-sub-left : (t : ℕ) → stmts-lts.Need-sub-left (stmts-claims t) (stmts-at t) stmts.Post stmts-Inv-loop stmts-μ-loop
-stmts-sub-left t c = search needs
-
-stmts-loop-less : (t : ℕ) → stmts-lts.Need-loop-less (stmts-claims t) (stmts-at t) stmts.Post stmts-Inv-loop stmts-μ-loop
-stmts-loop-less t c = search needs
+    let at-stmt = c .before .before .before in let at-loop = at-stmt .before .before .before in
+    let a = stmts-start₂ t at-loop .args in
+    let small : length (a .s .now) < 2 ^ 63 = omega (arith, stmts-start₂ t at-loop .good .0) in
+    omega (arith, at-loop .loop .inv .0 .within, rw (c .before .r .given .1) at (c .before .before .before .stmt .ensures .1))
 
 stmts-loop-again : (t : ℕ) → stmts-lts.Need-loop-again (stmts-claims t) (stmts-at t) stmts.Post stmts-Inv-loop stmts-μ-loop
 stmts-loop-again t c =
-    let a = c .before .before .before .before .before .before .before .before .before .before .before .before .args in
-    let s = a .s .now in
-    let loop = c .before .before .before .before .before .before .before .loop in
-    let read = read-stmt (a .ar .now) s (a .depth) in
-    let told = c .before .before .r .given in
-    let ahead = rw (told .1) at (c .before .before .before .before .stmt .ensures .1) in
-    let e = sym (c .before .before .before .before .stmt .ensures .0) ∙ told .1 in
+    let at-r = c .before .before in let at-stmt = at-r .before .before in
+    let at-loop = at-stmt .before .before .before in let a = stmts-start t (at-loop .before) .args in
+    let s = a .s .now in let loop = at-loop .loop in let read = read-stmt (a .ar .now) s (a .depth) in
+    let ahead = rw (at-r .r .given .1) at (at-stmt .stmt .ensures .1) in
+    let e = sym (at-stmt .stmt .ensures .0) ∙ at-r .r .given .1 in
     let more : loop .left ≡ 0 → ⊥ = λ z. omega arith in (
-      rw (c .followed .ensures) (more-read (a .ar .now) (a .types .now) s (a .own) read (loop .done) (loop .left) (loop .next) (a .at) _ _ e ahead (loop .inv .0)),
-      rw (c .followed .ensures) (loop .inv .1 ∙ row-goes (a .ar .now) (a .types .now) s (a .own) read (loop .done) (loop .left) (loop .next) more _ _ e),
+      rw (c .followed .ensures)
+          (more-read (a .ar .now) (a .types .now) s (a .own) read (loop .done) (loop .left) (loop .next) (a .at) _ _ e ahead (loop .inv .0)),
+      rw (c .followed .ensures)
+          (loop .inv .1 ∙ row-goes (a .ar .now) (a .types .now) s (a .own) read (loop .done) (loop .left) (loop .next) more _ _ e),
     )
 
 stmts-returns-2 : (t : ℕ) → stmts-lts.Need-returns-2 (stmts-claims t) (stmts-at t) stmts.Post stmts-Inv-loop stmts-μ-loop
 stmts-returns-2 t c =
-    let a = c .before .before .before .before .before .before .args in
-    let s = a .s .now in
-    let loop = c .before .loop in
-    let read = read-stmt (a .ar .now) s (a .depth) in
+    let at-nothing = c .before .before in let a = stmts-start t at-nothing .args in let s = a .s .now in
+    let loop = c .before .loop in let read = read-stmt (a .ar .now) s (a .depth) in
     let none : loop .left ≡ 0 = omega arith in
-    let begins = row-begins (a .ar .now) (a .types .now) s (a .own) read (a .c) (c .before .before .nothing .result) (a .n) (a .at) (c .before .before .nothing .ensures) in
-    (sym (row-ends (a .ar .now) (a .types .now) s (a .own) read (loop .done) (loop .left) (loop .next) none (loop .inv .0 .low)) ∙ sym (loop .inv .1) ∙ begins, loop .inv .0 .within)
+    let begins = row-begins (a .ar .now) (a .types .now) s (a .own) read (a .c) (at-nothing .nothing .result) (a .n) (a .at) (at-nothing .nothing .ensures) in (
+      sym (row-ends (a .ar .now) (a .types .now) s (a .own) read (loop .done) (loop .left) (loop .next) none (loop .inv .0 .low)) ∙ sym (loop .inv .1)
+          ∙ begins,
+      loop .inv .0 .within,
+    )
 
-when-expr-requires : (t : ℕ) → when-lts.Need-expr-requires (when-claims t) (when-at t) when.Post
-when-expr-requires t c κs = c .before .before .before .pre .1
+-- the places of `when` that proofs look back to
+abbrev when-start : (t : ℕ) → when-lts.After-expr (when-claims t) (when-at t) when.Post → when-lts.Start (when-claims t) (when-at t) when.Post
+when-start t c = c .before .before .before .before
 
-when-enum-known-r : (t : ℕ) → when-lts.Need-enum-known-r (when-claims t) (when-at t) when.Post
-when-enum-known-r t c = search needs
-
-when-enum-told : (t : ℕ) → when-lts.Need-enum-told (when-claims t) (when-at t) when.Post
-when-enum-told t c = search needs
-
-when-expr-refusal-requires : (t : ℕ) → when-lts.Need-expr-refusal-requires (when-claims t) (when-at t) when.Post
-when-expr-refusal-requires t c κs = search needs
+abbrev when-start₂ : (t : ℕ) → when-lts.After-known-told (when-claims t) (when-at t) when.Post → when-lts.Start (when-claims t) (when-at t) when.Post
+when-start₂ t c = when-start t (c .before .before .before)
 
 when-returns : (t : ℕ) → when-lts.Need-returns (when-claims t) (when-at t) when.Post
-when-returns t c = let a = c .before .before .before .before .before .before .before .args in
+when-returns t c =
+    let at-expr = c .before .before .before in let a = at-expr .before .before .before .before .args in
     let s = a .s .now in
-    let e = sym (c .before .before .before .expr .ensures .0) ∙ c .before .enum-told .given .1 in
-    rw (c .expr-refusal .ensures, c .before .enum-told .given .1) (sym (when-stop (a .ar .now) (a .types .now) s (a .own) (a .c) (read-stmt (a .ar .now) s (a .depth)) (a .at) _ e), tt)
+    let e = sym (at-expr .expr .ensures .0) ∙ c .before .enum-told .given .1 in
+    rw (c .expr-refusal .ensures, c .before .enum-told .given .1)
+    (sym (when-stop (a .ar .now) (a .types .now) s (a .own) (a .c) (read-stmt (a .ar .now) s (a .depth)) (a .at) _ e), tt)
 
 when-body-requires : (t : ℕ) → when-lts.Need-body-requires (when-claims t) (when-at t) when.Post
-when-body-requires t c κs = let ahead = rw (c .before .r .given .1) at (c .before .before .before .expr .ensures .1) in (omega (arith, c .before .before .before .before .before .before .before .pre), c .before .before .before .before .before .before .before .pre .1)
+when-body-requires t c κs =
+    let ahead = rw (c .before .r .given .1) at (c .before .before .before .expr .ensures .1) in
+    (omega (arith, when-start₂ t c .pre), when-start₂ t c .pre .1)
 
 when-branched-requires : (t : ℕ) → when-lts.Need-branched-requires (when-claims t) (when-at t) when.Post
-when-branched-requires t c κs = let a = c .before .before .before .before .before .before .before .before .args in
-    let small : length (a .s .now) < 2 ^ 63 = omega (arith, c .before .before .before .before .before .before .before .before .good .0) in
+when-branched-requires t c κs =
+    let start = when-start₂ t (c .before) in let a = start .args in
+    let small : length (a .s .now) < 2 ^ 63 = omega (arith, start .good .0) in
     let ahead = rw (c .before .before .r .given .1) at (c .before .before .before .before .expr .ensures .1) in
     (omega arith, done-room (a .s .now) _ _ (c .body .result) small (c .body .ensures .1))
 
 when-returns-2 : (t : ℕ) → when-lts.Need-returns-2 (when-claims t) (when-at t) when.Post
-when-returns-2 t c = let a = c .before .before .before .before .before .before .before .before .before .args in
-    let s = a .s .now in
-    let told = c .before .before .before .r .given in
-    let ahead = rw (told .1) at (c .before .before .before .before .before .expr .ensures .1) in
-    let law = when-is (a .ar .now) (a .types .now) s (a .own) (a .c) (read-stmt (a .ar .now) s (a .depth)) (a .at) _ _ (sym (c .before .before .before .before .before .expr .ensures .0) ∙ told .1) in
-    ((rw (c .before .body .ensures .0) at (c .branched .ensures)) ∙ sym law, rw (c .branched .ensures) (span-branched s (a .at) _ (a .c) _ (c .before .body .result) ahead (c .before .body .ensures .1)))
+when-returns-2 t c =
+    let at-r = c .before .before .before in let at-expr = at-r .before .before in
+    let a = at-expr .before .before .before .before .args in let s = a .s .now in
+    let ahead = rw (at-r .r .given .1) at (at-expr .expr .ensures .1) in
+    let law = when-is (a .ar .now) (a .types .now) s (a .own) (a .c) (read-stmt (a .ar .now) s (a .depth)) (a .at) _ _
+    (sym (at-expr .expr .ensures .0) ∙ at-r .r .given .1) in (
+      (rw (c .before .body .ensures .0) at (c .branched .ensures)) ∙ sym law,
+      rw (c .branched .ensures) (span-branched s (a .at) _ (a .c) _ (c .before .body .result) ahead (c .before .body .ensures .1)),
+    )
 
 pub +body+stmt+stmts+when-spec : {M : Type 1} → statement M
-+body+stmt+stmts+when-spec = close μ-body μ-stmt μ-stmts μ-when (λ t. body-lts.spec (body-claims t) (body-at t)
-    body.Post
-    (body-add-ranged t)
-    (body-ranged-requires t)
-    (body-enum-known-r t)
-    (body-enum-told t)
-    (body-byte-refusal-requires t)
-    (body-returns t)
-    (body-stmts-requires t)
-    (body-returns-2 t))
-    (λ t. stmt-lts.spec (stmt-claims t) (stmt-at t)
-    stmt.Post
-    (stmt-returns t)
-    (stmt-shared-slice-read-b t)
-    (stmt-add-k t)
-    (stmt-simple-requires t)
-    (stmt-returns-2 t)
-    (stmt-returns-3 t)
-    (stmt-sub-when t)
-    (stmt-when-requires t)
++body+stmt+stmts+when-spec =
+    close μ-body μ-stmt μ-stmts μ-when
+    (λ t. body-lts.spec (body-claims t) (body-at t) body.Post (λ c. search needs) (λ c κs. search needs) (λ c. search needs) (λ c. search needs)
+    (λ c κs. search needs) (body-returns t) (body-stmts-requires t) (body-returns-2 t))
+    (λ t. stmt-lts.spec (stmt-claims t) (stmt-at t) stmt.Post (stmt-returns t) (λ c. search needs) (λ c. search needs)
+    (λ c κs. (stmt-start₂ t (c .before) .pre .1, c .if2 .taken)) (stmt-returns-2 t) (stmt-returns-3 t) (λ c. search needs) (stmt-when-requires t)
     (stmt-returns-4 t))
-    (λ t. stmts-lts.spec (stmts-claims t) (stmts-at t)
-    stmts.Post
-    stmts-Inv-loop
-    stmts-μ-loop
-    (stmts-nothing-requires t)
-    (stmts-loop-holds t)
-    (stmts-stmt-requires t)
-    (stmts-enum-known-r t)
-    (stmts-enum-told t)
-    (stmts-returns t)
-    (stmts-followed-requires t)
-    (stmts-sub-left t)
-    (stmts-loop-less t)
-    (stmts-loop-again t)
-    (stmts-returns-2 t))
-    λ t. when-lts.spec (when-claims t) (when-at t)
-    when.Post
-    (when-expr-requires t)
-    (when-enum-known-r t)
-    (when-enum-told t)
-    (when-expr-refusal-requires t)
-    (when-returns t)
-    (when-body-requires t)
-    (when-branched-requires t)
-    (when-returns-2 t)
+    (λ t. stmts-lts.spec (stmts-claims t) (stmts-at t) stmts.Post stmts-Inv-loop stmts-μ-loop (λ c κs. search needs) (stmts-loop-holds t)
+    (stmts-stmt-requires t) (λ c. search needs) (λ c. search needs) (stmts-returns t) (stmts-followed-requires t) (λ c. search needs)
+    (λ c. search needs) (stmts-loop-again t) (stmts-returns-2 t))
+    λ t. when-lts.spec (when-claims t) (when-at t) when.Post (λ c κs. c .before .before .before .pre .1) (λ c. search needs) (λ c. search needs)
+    (λ c κs. search needs) (when-returns t) (when-body-requires t) (when-branched-requires t) (when-returns-2 t)

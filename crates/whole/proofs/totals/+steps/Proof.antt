@@ -29,58 +29,67 @@ steps-below t = and 4 steps-kinds.ps (falls 4 steps-kinds.ps _<_ μ-steps t) ste
 abbrev steps-claims : ℕ → steps-lts.Claims
 steps-claims t = (step-reads.Asked, step-reads.Learnt, steps-below t, steps.Post)
 
+-- the places that proofs look back to
+abbrev start : (t : ℕ) → steps-lts.After-slice-known (steps-claims t) (steps-at t) steps.Post → steps-lts.Start (steps-claims t) (steps-at t) steps.Post
+start t c = c .before .before .before .before
+
+abbrev at-if1 : (t : ℕ) → steps-lts.After-slice-known2 (steps-claims t) (steps-at t) steps.Post → steps-lts.Else1 (steps-claims t) (steps-at t) steps.Post
+at-if1 t c = c .before .before .before .before
+
+abbrev at-if1₂ : (t : ℕ) → steps-lts.After-steps-arg (steps-claims t) (steps-at t) steps.Post → steps-lts.Else1 (steps-claims t) (steps-at t) steps.Post
+at-if1₂ t c = at-if1 t (c .before .before .before .before)
+
 steps-returns : (t : ℕ) → steps-lts.Need-returns (steps-claims t) (steps-at t) steps.Post
 unfolding struct-totals
-steps-returns t c = let a = (c .before .before .before .before .before .args) in
-    let f = struct-totals (a .ar .now) (a .types .now) (a .k) in
-    (row-none (read-step (a .ar .now) (a .s .now)) f f (step-total (a .ar .now) (a .types .now) (a .k)) (a .n) (a .at) (a .t) (a .has .now) ((c .if1) .taken) refl, (c .before .before .before .before .before .pre) .1 .1)
+steps-returns t c =
+    let start′ = start t (c .before) in let a = start′ .args in
+    let f = struct-totals (a .ar .now) (a .types .now) (a .k) in (
+      row-none (read-step (a .ar .now) (a .s .now)) f f (step-total (a .ar .now) (a .types .now) (a .k)) (a .n) (a .at) (a .t) (a .has .now)
+          (c .if1 .taken) refl,
+      start′ .pre .1 .1,
+    )
 
 steps-step-requires : (t : ℕ) → steps-lts.Need-step-requires (steps-claims t) (steps-at t) steps.Post
-steps-step-requires t c κs = ((c .before .before .before .before .before .before .pre) .1 .0, (c .before .before .before .before .before .before .pre) .1 .1 .0)
-
-steps-enum-known-first : (t : ℕ) → steps-lts.Need-enum-known-first (steps-claims t) (steps-at t) steps.Post
-steps-enum-known-first t c = search needs
-
-steps-enum-told : (t : ℕ) → steps-lts.Need-enum-told (steps-claims t) (steps-at t) steps.Post
-steps-enum-told t c = search needs
-
-steps-same-length : (t : ℕ) → steps-lts.Need-same-length (steps-claims t) (steps-at t) steps.Post
-steps-same-length t c = search needs
+steps-step-requires t c κs =
+    let start′ = start t (c .before .before) in
+    (start′ .pre .1 .0, start′ .pre .1 .1 .0)
 
 steps-returns-2 : (t : ℕ) → steps-lts.Need-returns-2 (steps-claims t) (steps-at t) steps.Post
-steps-returns-2 t c = let a = (c .before .before .before .before .before .before .before .before .before .before .before .args) in
-    let f = struct-totals (a .ar .now) (a .types .now) (a .k) in
-    let told = (c .enum-told) .given in
-    rw (told .1) (row-stop (read-step (a .ar .now) (a .s .now)) f f (step-total (a .ar .now) (a .types .now) (a .k)) (a .n) (a .at) (a .t) (a .has .now) ((c .before .before .before .before .before .before .if1) .left) _ _ (sym ((c .before .before .before .before .step) .ensures .0 .0) ∙ told .1), tt)
-
-steps-sub-steps : (t : ℕ) → steps-lts.Need-sub-steps (steps-claims t) (steps-at t) steps.Post
-steps-sub-steps t c = omega (arith, (c .before .before .before .before .before .before .before .before .if1) .left)
+steps-returns-2 t c =
+    let at-step = c .before .before .before .before in let at-if1′ = at-step .before .before in
+    let a = start t (at-if1′ .before) .args in
+    let f = struct-totals (a .ar .now) (a .types .now) (a .k) in let told = c .enum-told .given in
+    rw (told .1) (
+      row-stop (read-step (a .ar .now) (a .s .now)) f f (step-total (a .ar .now) (a .types .now) (a .k)) (a .n) (a .at) (a .t) (a .has .now)
+          (at-if1′ .if1 .left) _ _ (sym (at-step .step .ensures .0 .0) ∙ told .1),
+      tt,
+    )
 
 steps-steps-requires : (t : ℕ) → steps-lts.Need-steps-requires (steps-claims t) (steps-at t) steps.Post
-steps-steps-requires t c κs = let ahead = rw ((c .before .before .first) .given .1) at ((c .before .before .before .before .before .before .step) .ensures .1) in
-    (omega (arith, (c .before .before .before .before .before .before .before .before .before .before .before .before .before .pre) .0, (c .before .before .before .before .before .before .before .before .if1) .left), (((c .before .before .before .before .before .before .before .before .before .before .before .before .before .pre) .1 .0 .0, (c .before .before .before .before .before .before .step) .kept .1 .1 .1 .0 ∙ (c .before .before .before .before .before .before .before .before .before .before .before .before .before .pre) .1 .0 .1, (c .before .before .before .before .before .before .before .before .before .before .before .before .before .pre) .1 .0 .2), ahead))
-
-steps-same-length-2 : (t : ℕ) → steps-lts.Need-same-length-2 (steps-claims t) (steps-at t) steps.Post
-steps-same-length-2 t c = search needs
+steps-steps-requires t c κs =
+    let at-first = c .before .before in let at-step = at-first .before .before .before .before in
+    let at-if1′ = at-step .before .before in let start′ = start t (at-if1′ .before) in
+    let ahead = rw (at-first .first .given .1) at (at-step .step .ensures .1) in (
+      omega (arith, start′ .pre .0, at-if1′ .if1 .left),
+      ((start′ .pre .1 .0 .0, at-step .step .kept .1 .1 .1 .0 ∙ start′ .pre .1 .0 .1, start′ .pre .1 .0 .2), ahead),
+    )
 
 steps-returns-3 : (t : ℕ) → steps-lts.Need-returns-3 (steps-claims t) (steps-at t) steps.Post
 unfolding struct-totals
-steps-returns-3 t c = let a = (c .before .before .before .before .before .before .before .before .before .before .before .before .before .before .before .before .args) in
+steps-returns-3 t c =
+    let at-steps = c .before .before in let at-first = at-steps .before .before .before in
+    let at-step = at-first .before .before .before .before in let at-if1′ = at-step .before .before in
+    let a = start t (at-if1′ .before) .args in
     let f = struct-totals (a .ar .now) (a .types .now) (a .k) in
-    let first = rw ((c .before .before .before .before .before .first) .given .1) at ((c .before .before .before .before .before .before .before .before .before .step) .ensures .0) in
-    (row-more (read-step (a .ar .now) (a .s .now)) f f (step-total (a .ar .now) (a .types .now) (a .k)) (a .n) (a .at) (a .t) (a .has .now) ((c .before .before .before .before .before .before .before .before .before .before .before .if1) .left) (λ x l. refl) _ _ _ first _ _ ((c .before .before .steps) .ensures .0), (c .before .before .steps) .ensures .1)
+    let first = rw (at-first .first .given .1) at (at-step .step .ensures .0) in (
+      row-more (read-step (a .ar .now) (a .s .now)) f f (step-total (a .ar .now) (a .types .now) (a .k)) (a .n) (a .at) (a .t) (a .has .now)
+          (at-if1′ .if1 .left) (λ x l. refl) _ _ _ first _ _ (at-steps .steps .ensures .0),
+      at-steps .steps .ensures .1,
+    )
 
 pub +steps-spec : {M : Type 1} → statement M
-+steps-spec = close μ-steps λ t. steps-lts.spec (steps-claims t)
-    (steps-at t)
-    steps.Post
-    (steps-returns t)
-    (steps-step-requires t)
-    (steps-enum-known-first t)
-    (steps-enum-told t)
-    (steps-same-length t)
-    (steps-returns-2 t)
-    (steps-sub-steps t)
-    (steps-steps-requires t)
-    (steps-same-length-2 t)
++steps-spec =
+    close μ-steps
+    λ t. steps-lts.spec (steps-claims t) (steps-at t) steps.Post (steps-returns t) (steps-step-requires t) (λ c. search needs) (λ c. search needs)
+    (λ c. search needs) (steps-returns-2 t) (λ c. omega (arith, at-if1₂ t c .if1 .left)) (steps-steps-requires t) (λ c. search needs)
     (steps-returns-3 t)

@@ -7,47 +7,38 @@ use borrow.Author.Needs.{needs}
 use Rattle.whole.proofs.totals.of_struct.Statement.{statement}
 use Rattle.whole.proofs.totals.of_struct.Tie as tie
 
-add-ranged : tie.Need-add-ranged
-add-ranged c = search needs
+-- the places that proofs look back to
+abbrev start : tie.After-slice-known → tie.Start
+start c = c .before .before .before .before
 
-ranged-requires : tie.Need-ranged-requires
-ranged-requires c κs = search needs
+abbrev start₂ : tie.After-ranged → tie.Start
+start₂ c = start (c .before)
 
-enum-known-r : tie.Need-enum-known-r
-enum-known-r c = search needs
-
-enum-told : tie.Need-enum-told
-enum-told c = search needs
-
-byte-refusal-requires : tie.Need-byte-refusal-requires
-byte-refusal-requires c κs = search needs
+abbrev start₃ : tie.After-steps-arg → tie.Start
+start₃ c = start₂ (c .before .before .before .before)
 
 returns : tie.Need-returns
-returns c = let a = (c .before .before .before .before .before .before .before .before .args) in
-    let e = sym ((c .before .before .before .ranged) .ensures .0) ∙ (c .before .enum-told) .given .1 in
-    rw ((c .byte-refusal) .ensures, (c .before .enum-told) .given .1) (steps-stop (a .ar .now) (a .types .now) (a .s .now) (a .k) (a .at) (with (a .t) (a .has .now)) _ _ e, tt)
+returns c =
+    let at-ranged = c .before .before .before in let a = start (at-ranged .before) .args in
+    let e = sym (at-ranged .ranged .ensures .0) ∙ c .before .enum-told .given .1 in
+    rw (c .byte-refusal .ensures, c .before .enum-told .given .1)
+    (steps-stop (a .ar .now) (a .types .now) (a .s .now) (a .k) (a .at) (with (a .t) (a .has .now)) _ _ e, tt)
 
 steps-requires : tie.Need-steps-requires
-steps-requires c κs = let span = rw ((c .before .before .r) .given .1) at ((c .before .before .before .before .ranged) .ensures .1) in ((c .before .before .before .before .before .before .before .before .before .pre) .0, (omega (arith, (c .before .before .before .before .before .before .before .before .before .pre) .1), span .1))
-
-same-length : tie.Need-same-length
-same-length c = search needs
+steps-requires c κs =
+    let span = rw ((c .before .before .r) .given .1) at ((c .before .before .before .before .ranged) .ensures .1) in
+    (start₃ c .pre .0, (omega (arith, start₃ c .pre .1), span .1))
 
 returns-2 : tie.Need-returns-2
-returns-2 c = let a = (c .before .before .before .before .before .before .before .before .before .before .before .before .args) in
-    let read = steps-read (a .ar .now) (a .types .now) (a .s .now) (a .k) (a .at) (with (a .t) (a .has .now)) _ _ (sym ((c .before .before .before .before .before .before .before .ranged) .ensures .0) ∙ (c .before .before .before .before .before .r) .given .1) in
-    (rw read ((c .before .before .steps) .ensures .0), (c .before .before .steps) .ensures .1)
+returns-2 c =
+    let at-steps = c .before .before in let at-r = at-steps .before .before .before in
+    let at-ranged = at-r .before .before in let a = start (at-ranged .before) .args in
+    let read = steps-read (a .ar .now) (a .types .now) (a .s .now) (a .k) (a .at) (with (a .t) (a .has .now)) _ _
+    (sym (at-ranged .ranged .ensures .0) ∙ at-r .r .given .1) in
+    (rw read (at-steps .steps .ensures .0), at-steps .steps .ensures .1)
 
 pub of-struct-spec : {M : Type 1} → statement M
 of-struct-spec =
     tie.close
-    (tie.spec
-    add-ranged
-    ranged-requires
-    enum-known-r
-    enum-told
-    byte-refusal-requires
-    returns
-    steps-requires
-    same-length
-    returns-2)
+    (tie.spec (λ c. search needs) (λ c κs. search needs) (λ c. search needs) (λ c. search needs) (λ c κs. search needs) returns steps-requires
+    (λ c. search needs) returns-2)

@@ -1,0 +1,78 @@
+// Runs a program image on a table image with turn bytes, all from files, and writes the last table to a file (01, 'Table and turns').
+// On standard output one line: number, turns, blocks, depth.
+mod files;
+
+use libc::STDERR_FILENO;
+use libc::STDOUT_FILENO;
+
+// One byte more than each may have, so that a longer one is told from the longest.
+const PROGRAM: usize = types::PROGRAM_BLOCKS * blocks::BLOCK_SIZE + 1;
+
+const TABLE: usize = types::TABLE_BLOCKS * blocks::BLOCK_SIZE + 1;
+
+const TURNS: usize = types::MAX_TURNS + 1;
+
+const OUTPUT: usize = types::TABLE_BLOCKS * blocks::BLOCK_SIZE;
+
+fn help() {
+    io::write_all(
+        STDERR_FILENO,
+        b"audala_run PROGRAM TABLE TURNS OUTPUT\n\
+        \n\
+        Runs the program image in the file PROGRAM on the table image in TABLE,\n\
+        taking a turn for each byte of TURNS, and writes the last table's image\n\
+        to OUTPUT. Prints one line: number, turns, blocks, depth. A number from 1\n\
+        to 14 is a refusal: nothing is written. 0 is the ended run; 33 to 35 are\n\
+        stops, after which OUTPUT holds the table as it stood then.\n\
+        docs/FORMAT.md says what each number means.\n",
+    );
+}
+
+// A number and the byte behind it.
+fn number(n: u64, behind: u8) {
+    io::print_decimal(STDOUT_FILENO, n);
+    io::write_all(STDOUT_FILENO, &[behind]);
+}
+
+// The run of what was read; its table to the file that argument 4 names.
+fn run(program: &[u8], table: &[u8], turns: &[u8]) {
+    let mut output = [0u8; OUTPUT];
+    let mut list = [0u64; types::MAX_COMMANDS];
+    let r = entry::run(program, table, turns, &mut output, &mut list);
+    let n = 512 * r.blocks as u32;
+    if n > 0 {
+        if !files::store(4, &output, n) {
+            return;
+        }
+    }
+    number(r.number as u64, b' ');
+    number(r.turns as u64, b' ');
+    number(r.blocks as u64, b' ');
+    number(r.depth as u64, b'\n');
+}
+
+fn main() {
+    if os::arg_count() != 5 {
+        help();
+        return;
+    }
+    let mut program = [0u8; PROGRAM];
+    let mut table = [0u8; TABLE];
+    let mut turns = [0u8; TURNS];
+    let p = files::load(1, &mut program);
+    if !p.done {
+        return;
+    }
+    let t = files::load(2, &mut table);
+    if !t.done {
+        return;
+    }
+    let e = files::load(3, &mut turns);
+    if !e.done {
+        return;
+    }
+    let m = p.len;
+    let n = t.len;
+    let k = e.len;
+    run(&program[..m], &table[..n], &turns[..k]);
+}

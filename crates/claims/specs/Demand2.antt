@@ -1,0 +1,164 @@
+-- Demand 2: what is accepted, handed out, listed and run is what the papers say (01; 000, sections 3 and 4).
+use Prim.Native.Nat.{ℕ, _<_, _≤_}
+use mathlib.Core.Path.{_≡_}
+use mathlib.Core.Logic.{_↔_}
+use mathlib.Core.Option.{none, some}
+use mathlib.Core.List.{List, [], _++_, map}
+use lib.ListN.{length, getElem?}
+use Rattle.types.specs.Limits.{table-blocks, max-commands}
+use Rattle.types.specs.Values.{default}
+use Rattle.blocks.specs.Images.{image, pieces}
+use Rattle.program.specs.Tree.{Stmts, Program}
+use Rattle.commands.specs.Coding.{words}
+use Rattle.commands.specs.Commands.{commands}
+use Rattle.commands.specs.Context.{Ctx, context, params-of, step-of}
+use Rattle.commands.specs.Noted.{erase, noted}
+use Rattle.commands.specs.NotedLaws.{erased}
+use Rattle.commands.specs.Numbers.{NoneOf}
+use Rattle.table.specs.Table.{Record, enc-table, TableRight}
+use Rattle.machine.specs.Published.{State, structs}
+use Rattle.machine.specs.Machine.{Instance, Machine, Out.next, move}
+use Rattle.machine.specs.Measure.{total, share-of}
+use Rattle.machine.specs.Represents.{Represents}
+use Rattle.run.specs.Holders.{holders}
+use Rattle.run.specs.Run.{Outcome.stopped, run}
+use Rattle.run.specs.Visits.{Visits, turns-of}
+use Rattle.run.specs.StepTurns.{Spends}
+use Rattle.run.specs.StepTurnsLaws.{step-turns as start-turns}
+use Rattle.run.specs.Begin.{params-in, begin, table-of}
+use Rattle.run.specs.Initial.{initial, Comes}
+use Rattle.run.specs.PublishedVisits.{Passes}
+use Rattle.run.specs.Entry.{Checked.accepted, checked, listed, approval, check-verdict, check-list, Begun.begun, begins, run-output}
+use Rattle.run.specs.Input.{check-order, order, Accepted as AcceptedImage, TableAccepted, Approved, Ready, Began}
+use Rattle.run.specs.InputProgram.{checked-accepted, verdict-approved, check-approved}
+use Rattle.run.specs.InputLaws.{begins-ready, begins-none}
+use Rattle.run.specs.RunAgreesVisits.{visits-passes, passes-visits}
+use Rattle.run.specs.BeginLaws.{begin-represents, outcome-exact, comes-unique}
+use Rattle.run.specs.Answered.{Answered}
+use Rattle.run.specs.AnsweredLaws.{comes-answered}
+use Rattle.sound.specs.Accepted.{Accepted}
+use Rattle.sound.specs.AcceptedLaws.{ready-accepted}
+use Rattle.sound.specs.NeverStuckLaws.{demand3, demand3-comes}
+use Rattle.sound.specs.TableKept.{table-kept, table-written, nulls-kept, comes-written, output-length}
+use Rattle.parts.specs.StepPart.{step-place, step-part}
+use Rattle.step_lines.specs.Lines.{program-lines}
+use Rattle.listing.specs.Listings.{head, listing-of}
+use Rattle.claims.specs.JoinLaws.{step-handed, step-not-there, listing-accepted}
+
+-- The checker ----------------------------------------------------------------------------
+
+module _ (x : List ℕ) where
+  -- a program image is accepted as a program exactly where it meets 01's conditions: blocks, stream, counts, limits, names, types
+  pub accepted-exactly : (p : Program) → (checked x ≡ accepted p) ↔ AcceptedImage x p
+  accepted-exactly p = checked-accepted x p
+
+  module _ (list : List ℕ) where
+    -- the checker approves exactly where no condition of a number from the input holds,
+    pub check-approved-exactly : Approved x list (check-verdict x list) ↔ NoneOf (check-order x list)
+    check-approved-exactly = verdict-approved x list
+
+    -- and then reports the program's structs, steps, commands and greatest depth; "The list holds the steps from its first place,
+    -- structs in order, each struct's steps in stream order, and further places are untouched"
+    pub check-lists : (p : Program) → AcceptedImage x p → max-commands ≤ length list
+        → (check-verdict x list ≡ approval p) × (check-list x list ≡ listed p list)
+    check-lists p a h = check-approved x list p a h
+
+-- The commands of a step -------------------------------------------------------------------
+
+-- "Commands follow 000, definition 2": those that a run takes are the published ones, whatever notes they carry
+pub commands-published : (G : Ctx) (b : Stmts) → map erase (noted G b) ≡ commands b
+commands-published = erased
+
+module _ (x list : List ℕ) (p : Program) (a : AcceptedImage x p) (h : max-commands ≤ length list) (k n : ℕ) where
+  -- "The commands of one step are handed out as that part of the lent command list": of the list that a check of the image filled, the
+  -- part for step n of struct k is the words of 000's definition 2, which are the commands that a run takes
+  pub step-published : {b : Stmts} → step-of p k n ≡ some b
+      → (step-place x (check-list x list) k n .number ≡ 0)
+      × (step-part x (check-list x list) k n ≡ words (commands b))
+      × (map erase (noted (context p k b) b) ≡ commands b)
+  step-published e = step-handed x list p a h k n e
+
+  -- "a step that isn't there gives an empty part"
+  pub step-absent-empty : step-of p k n ≡ none → (step-place x list k n .number ≡ 0) × (step-part x list k n ≡ [])
+  step-absent-empty e = step-not-there x list p a h k n e
+
+-- The listing ------------------------------------------------------------------------------
+
+-- "Header: structs, steps, commands, greatest depth. Line: struct, step name, position, command, operand. Lines follow the command list"
+pub listing-published : (x : List ℕ) (p : Program) → AcceptedImage x p → listing-of x ≡ head p ++ program-lines p
+listing-published x p a = listing-accepted x p a
+
+-- The run ----------------------------------------------------------------------------------
+
+module _ (x y es out list : List ℕ) where
+  -- a run begins with a program and a table exactly where both are accepted, output and list have room and the turns are few enough,
+  pub begun-exactly : (p : Program) (rs : List Record) → (begins x y es out list ≡ begun p rs) ↔ Ready x y es out list p rs
+  begun-exactly p rs = begins-ready x y es out list p rs
+
+  -- "where no condition of a number from the input holds"
+  pub begun-none : Began x y es out list (begins x y es out list) ↔ NoneOf (order x y es out list)
+  begun-none = begins-none x y es out list
+
+  -- where a run begins, number, turns, blocks, depth, every output byte and the list are those that the published rules come to
+  pub run-published : (p : Program) (rs : List Record) → begins x y es out list ≡ begun p rs
+      → {n t : ℕ} {rs′ : List Record} → Comes p rs es n t rs′ → Answered x y es out list p n t rs′
+  run-published p rs e c = comes-answered x y es out list p rs e c
+
+  -- and they come to a number
+  pub run-comes : (p : Program) (rs : List Record) → begins x y es out list ≡ begun p rs
+      → (n : ℕ) × (t : ℕ) × (rs′ : List Record) × Comes p rs es n t rs′
+  run-comes p rs e = let r = begun-exactly p rs .0 e in demand3-comes p rs es (demand3 (ready-accepted r) rs (r .table .right) es)
+
+  -- the table written is one that a run may begin with: its image fits its blocks and is accepted as that table
+  pub written-accepted : (p : Program) (rs : List Record) → Ready x y es out list p rs → {n t : ℕ} {rs′ : List Record} → Comes p rs es n t rs′
+      → (pieces (length (enc-table rs′)) ≤ table-blocks) × (TableAccepted p (image (enc-table rs′)) rs′)
+  written-accepted p rs r c = comes-written (ready-accepted r) rs (r .table .right) c
+
+  -- a run leaves as many bytes in the output as it was lent, whatever it is given
+  pub output-as-long : length (run-output x y es out list) ≡ length out
+  output-as-long = output-length x y es out list
+
+-- Its states -------------------------------------------------------------------------------
+
+module _ (p : Program) (rs : List Record) (es : List ℕ) where
+  -- a run passes through the states that the published rules give for those turns,
+  pub states-published : {z : Machine} {fs : List ℕ} (v : Visits p (begin p rs) es z fs)
+      → (st : State) × (Passes p (initial p rs) es (turns-of p v) st) × (Represents z st)
+  states-published v = visits-passes p (initial p rs) (begin-represents p rs) v
+
+  -- and through each of them
+  pub states-visited : {st : State} {t : ℕ} → Passes p (initial p rs) es t st
+      → (z : Machine) × (fs : List ℕ) × (v : Visits p (begin p rs) es z fs) × (turns-of p v ≡ t) × (Represents z st)
+  states-visited w = passes-visits p (begin p rs) (begin-represents p rs) w
+
+  -- it comes to the one number, turns and last table that they give
+  pub outcome-published : {n t : ℕ} {z : Machine} → run p (begin p rs) es ≡ stopped n t z → Comes p rs es n t (table-of p z)
+  outcome-published = outcome-exact p rs es
+
+  pub outcome-one : {n n′ t t′ : ℕ} {rs′ rs″ : List Record} → Comes p rs es n t rs′ → Comes p rs es n′ t′ rs″
+      → (n ≡ n′) × (t ≡ t′) × (rs′ ≡ rs″)
+  outcome-one = comes-unique p rs es
+
+module _ (p : Program) where
+  -- "A started step takes at most the sum of its command counts, each over its instances, in turns": wherever a run goes behind a move of
+  -- the schedule, it takes no more turns than that before nobody holds commands
+  pub step-turns : (m : Machine) {m′ z : Machine} {es fs : List ℕ} → holders m ≡ [] → move p m ≡ next m′ → Visits p m′ es z fs
+      → Spends p (total (share-of p (m .sched)) (m .instances)) m′ es z fs
+  step-turns m g e v = start-turns p m g e v
+
+-- Its tables -------------------------------------------------------------------------------
+
+module _ {p : Program} (a : Accepted p) (rs : List Record) (right : TableRight (p .params) rs) {es fs : List ℕ} {z : Machine}
+    (v : Visits p (begin p rs) es z fs) where
+  -- every machine of a run stands at a table that a run may begin with; written, it fits its blocks and is accepted as that table
+  pub tables-right : TableRight (p .params) (table-of p z)
+  tables-right = table-kept a rs right v
+
+  pub tables-written : (pieces (length (enc-table (table-of p z))) ≤ table-blocks)
+      × (TableAccepted p (image (enc-table (table-of p z))) (table-of p z))
+  tables-written = table-written a rs right v
+
+  -- "Labels 0 to S − 1 are the null instances, holding defaults"
+  pub nulls-default : (k : ℕ) → k < structs p
+      → (i : Instance) × (getElem? (z .instances) k ≡ some i) × (i .struct ≡ k) × (params-in (i .env) ≡ map default (params-of p k))
+  nulls-default = nulls-kept a rs right v

@@ -1,0 +1,34 @@
+-- What holds of results that the papers leave free, or that the definitions take from the kit's library (01, 'What contracts here
+-- say': "a result that these papers leave free is named, with what holds of it").
+use mathlib.Core.Path.{_≡_}
+use mathlib.Core.Logic.{_↔_}
+use lib.IntN.{ℤ, pos, _+ℤ_, _*ℤ_}
+use Rattle.program.specs.Tree.{Program}
+use Rattle.program.specs.Counts.{Counts}
+use Rattle.commands.specs.Bounds.{Within}
+use Rattle.commands.specs.Commands.{Flat}
+use Rattle.commands.specs.Coding.{command-word}
+use Rattle.commands.specs.Decoding.{InRanges}
+use Rattle.commands.specs.CodingLaws.{word-injective}
+use Rattle.words.specs.Operators.{quotient, remainder}
+use Rattle.words.specs.Rounding.{TowardZero}
+use Rattle.words.specs.RoundingLaws.{quotient-toward-zero, quotient-unique, remainder-completes}
+use Rattle.run.specs.Entry.{of-structs, program-words}
+use Rattle.run.specs.ListLaws.{words-determine}
+
+-- The coding of a command in its place of the list: its word determines it,
+pub word-determines : (c d : Flat) → InRanges c → InRanges d → command-word c ≡ command-word d → c ≡ d
+word-determines c d h k e = word-injective c d h k e
+
+-- and the words of an accepted program its commands
+pub list-determines : (p q : Program) → Counts p → Within p → Counts q → Within q → program-words p ≡ program-words q
+    → of-structs (p .steps) ≡ of-structs (q .steps)
+list-determines p q c w d v e = words-determine p c w q d v e
+
+-- "Int / rounds toward zero": the library's quotient is the one that does
+pub quotient-rounds : (a b q : ℤ) → (b ≡ pos 0 → ⊥) → TowardZero a b q ↔ (q ≡ quotient a b)
+quotient-rounds a b q h = (λ t. quotient-unique a b q h t, λ e. rw e (quotient-toward-zero a b h))
+
+-- "a % b is a − b × quotient"
+pub remainder-rounds : (a b : ℤ) → b *ℤ quotient a b +ℤ remainder a b ≡ a
+remainder-rounds a b = remainder-completes a b

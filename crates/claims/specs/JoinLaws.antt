@@ -1,0 +1,127 @@
+-- What the claims say in one line and the crates below in two: a step by its name, a call with the run that it makes.
+use Prim.Native.Nat.{ℕ, _≤_}
+use native.Mathlib.Omega.{arith}
+use mathlib.Core.Path.{_≡_, refl, sym, ap, _∙_}
+use mathlib.Core.Bool.{Bool, true, false}
+use mathlib.Core.Option.{Option, none, some}
+use mathlib.Core.List.{List, [], _∷_, _++_, map, List·Memᴰ, List·Memᴰ·head, List·Memᴰ·tail, List·Memᴰ·not-nil}
+use lib.ListN.{length, getD}
+use lib.Dec.{eqb, ltb}
+use borrow.Author.Tests.{eqb-true, eqb-false, ltb-true, ltb-false}
+use Rattle.types.specs.Limits.{max-commands}
+use Rattle.program.specs.Tree.{Stmts, Step, Program}
+use Rattle.commands.specs.Bounds.{program-depth}
+use Rattle.commands.specs.Coding.{words}
+use Rattle.commands.specs.Commands.{commands}
+use Rattle.commands.specs.Context.{context, find-step, step-of}
+use Rattle.commands.specs.Names.{step-names}
+use Rattle.commands.specs.Noted.{erase, noted}
+use Rattle.commands.specs.NotedLaws.{erased}
+use Rattle.commands.specs.Numbers.{Foremost}
+use Rattle.commands.specs.NumbersLaws.{foremost-some}
+use Rattle.table.specs.Table.{Record}
+use Rattle.machine.specs.Published.{State}
+use Rattle.machine.specs.Machine.{Machine}
+use Rattle.machine.specs.Represents.{Represents}
+use Rattle.run.specs.Begin.{begin}
+use Rattle.run.specs.Initial.{initial}
+use Rattle.run.specs.BeginLaws.{begin-represents, outcome-exact}
+use Rattle.run.specs.PublishedVisits.{Passes}
+use Rattle.run.specs.RunAgreesVisits.{passes-visits}
+use Rattle.run.specs.Entry.{Checked, Checked.accepted, Checked.refused, checked, Verdict, check-list}
+use Rattle.run.specs.Input.{Accepted, Ready, program-order, check-order}
+use Rattle.run.specs.InputProgram.{checked-accepted, checked-number, verdict-number, verdict-approved, check-approved}
+use Rattle.run.specs.InputLaws.{begins-ready}
+use Rattle.run.specs.AnsweredLaws.{comes-answered}
+use Rattle.sound.specs.Needs.{Right}
+use Rattle.sound.specs.AcceptedLaws.{ready-accepted}
+use Rattle.sound.specs.NeverStuckLaws.{demand3}
+use Rattle.parts.specs.StepPart.{step-place, step-part}
+use Rattle.parts.specs.StepPartLaws.{place-number}
+use Rattle.parts.specs.StepPartWords.{step-words, step-absent, step-refused, step-short}
+use Rattle.text.specs.Listing.{row}
+use Rattle.step_lines.specs.Lines.{program-lines}
+use Rattle.listing.specs.Listings.{refused-word, head, listing, listing-of}
+use Rattle.claims.specs.Call.{Call}
+
+-- Steps --------------------------------------------------------------------------------
+
+-- a step that is found has the name and the body
+step-named : (ts : List Step) (n : ℕ) {b : Stmts} → find-step ts n ≡ some b → (t : Step) × List·Memᴰ t ts × (t .name ≡ n) × (t .body ≡ b)
+unfolding find-step
+step-named [] n e = let z : _≡_ {A = ℕ} 0 1 = cc in absurd (omega arith)
+step-named (t ∷ ts) n {b = b} e = go (eqb (t .name) n) refl e (λ e. step-named ts n e)
+  where
+    go : (q : Bool) → eqb (t .name) n ≡ q → elim q [ true ↦ some (t .body) | false ↦ find-step ts n ] ≡ some b
+        → (find-step ts n ≡ some b → (u : Step) × List·Memᴰ u ts × (u .name ≡ n) × (u .body ≡ b))
+        → (u : Step) × List·Memᴰ u (t ∷ ts) × (u .name ≡ n) × (u .body ≡ b)
+    go true i e k = (t, List·Memᴰ·head refl, eqb-true (t .name) n i, cc)
+    go false i e k = let (u, m, a, q) = k e in (u, List·Memᴰ·tail m, a, q)
+
+-- a name for which none is found names no step
+step-unnamed : (ts : List Step) (n : ℕ) → find-step ts n ≡ none → List·Memᴰ n (step-names ts) → ⊥
+unfolding find-step step-names
+step-unnamed [] n e m = List·Memᴰ·not-nil m
+step-unnamed (t ∷ ts) n e m = go (eqb (t .name) n) refl e m (λ e. step-unnamed ts n e)
+  where
+    go : (q : Bool) → eqb (t .name) n ≡ q → _≡_ {A = Option Stmts} (elim q [ true ↦ some (t .body) | false ↦ find-step ts n ]) none
+        → List·Memᴰ n (t .name ∷ step-names ts) → (find-step ts n ≡ none → List·Memᴰ n (step-names ts) → ⊥) → ⊥
+    go true i e m k = let z : _≡_ {A = ℕ} 0 1 = cc in omega arith
+    go false i e (List·Memᴰ·head a) k = eqb-false (t .name) n i (sym a)
+    go false i e (List·Memᴰ·tail m) k = k e m
+
+module _ (x list : List ℕ) (p : Program) (a : Accepted x p) (h : max-commands ≤ length list) (k n : ℕ) where
+  -- of the list that a check filled, the part of a step is the words of its commands, and these are the ones that a run takes
+  pub step-handed : {b : Stmts} → step-of p k n ≡ some b
+      → (step-place x (check-list x list) k n .number ≡ 0)
+      × (step-part x (check-list x list) k n ≡ words (commands b))
+      × (map erase (noted (context p k b) b) ≡ commands b)
+  step-handed {b} e =
+      let (t, m, q, w) = step-named (getD (p .steps) k []) n e in
+      let (c, d) = rw (q, w) at (step-words x list p k t (checked-accepted x p .1 a) h m) in
+      (c, d, erased (context p k b) b)
+
+  -- a step that is not there has an empty part
+  pub step-not-there : step-of p k n ≡ none → (step-place x list k n .number ≡ 0) × (step-part x list k n ≡ [])
+  step-not-there e = step-absent x list k n p (checked-accepted x p .1 a) h (step-unnamed (getD (p .steps) k []) n e)
+
+-- where the check refuses, so does the step entry: the same number, and an empty part
+pub step-numbered : (x list : List ℕ) (k s n : ℕ) → Foremost (check-order x list) n
+    → (step-place x list k s .number ≡ n) × (step-part x list k s ≡ [])
+step-numbered x list k s n q =
+    (place-number x list k s ∙ ap (λ (v : Verdict). v .number) (verdict-number x list n .1 q), go (checked x) refl (ltb (length list) max-commands) refl)
+  where
+    go : (c : Checked) → checked x ≡ c → (t : Bool) → ltb (length list) max-commands ≡ t → step-part x list k s ≡ []
+    go (refused m) e t l = step-refused x list k s m e .1
+    go (accepted p) e true l = step-short x list k s p e (ltb-true _ _ l) .1
+    go (accepted p) e false l =
+        let a = checked-accepted x p .0 e in
+        let h = ltb-false _ _ l in
+        absurd (foremost-some q (verdict-approved x list .0 (p, check-approved x list p a h .0, a, h)))
+
+-- Listings -----------------------------------------------------------------------------
+
+-- an accepted image is listed as its program's head and lines, a refused one as its number
+pub listing-accepted : (x : List ℕ) (p : Program) → Accepted x p → listing-of x ≡ head p ++ program-lines p
+unfolding listing-of listing
+listing-accepted x p a = ap listing (checked-accepted x p .1 a)
+
+pub listing-numbered : (x : List ℕ) (n : ℕ) → Foremost (program-order x) n → listing-of x ≡ row refused-word (n ∷ [])
+unfolding listing-of listing
+listing-numbered x n q = ap listing (checked-number x n .1 q)
+
+-- Calls --------------------------------------------------------------------------------
+
+module _ (x y es out list : List ℕ) (p : Program) (rs : List Record) (r : Ready x y es out list p rs) where
+  -- a call that begins is one run, which is never stuck, whose outcome the published rules come to and the entry answers
+  pub ready-call : Call x y es out list p rs
+  ready-call =
+      let d = demand3 (ready-accepted r) rs (r .table .right) es in
+      let c = outcome-exact p rs es (d .returns) in
+      record { never-stuck = d; comes = c; answered = comes-answered x y es out list p rs (begins-ready x y es out list p rs .1 r) c }
+
+  -- every state that the published rules pass through is one of a right machine
+  pub passes-right : {st : State} {t : ℕ} → Passes p (initial p rs) es t st → (z : Machine) × (Represents z st) × (Right p (program-depth p) z)
+  passes-right w =
+      let (z, fs, v, e, R) = passes-visits p (begin p rs) (begin-represents p rs) w in
+      (z, R, ready-call .never-stuck .right z fs v)

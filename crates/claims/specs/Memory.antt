@@ -1,0 +1,26 @@
+-- The engine's memory (01, 'Table and turns'; "Commands and schedule moves each get the state that the one before left; nothing else
+-- writes it meanwhile"): between turns and at the end it stands for a machine that the run visits.
+use Prim.Native.Nat.{ℕ}
+use mathlib.Core.Path.{_≡_}
+use mathlib.Core.List.{List}
+use lib.ListN.{drop}
+use Rattle.program.specs.Tree.{Program}
+use Rattle.machine.specs.Machine.{Machine}
+use Rattle.run.specs.Run.{Outcome.stopped, run}
+use Rattle.run.specs.Visits.{Visits}
+use Rattle.memory.specs.Layout.{State}
+use Rattle.memory.specs.Plan.{At}
+use Rattle.memory.specs.Stands.{Stands}
+use Rattle.runner.specs.Running.{cleared, Running, Ended}
+use Rattle.claims.specs.MemoryLaws.{running-visited, ended-visited}
+
+module _ (p : Program) (counts list items spans : List ℕ) (m : Machine) {es : List ℕ} {z : State} where
+  -- after i turns and the schedule moves behind them: `Running` is the invariant of the loop over the turn bytes
+  pub memory-visited : {i n : ℕ} → Running p counts list items spans m es i z n
+      → (m′ : Machine) × (Stands list (At items) m′ (cleared z)) × (Visits p m es m′ (drop i es))
+  memory-visited r = running-visited p counts list items spans m r
+
+  -- after the whole run: `Ended` is the loop's contract
+  pub memory-last : {number taken : ℕ} → Ended p counts list items spans m es number taken z
+      → (m′ : Machine) × (Stands list (At items) m′ (cleared z)) × (Visits p m es m′ (drop taken es)) × (run p m es ≡ stopped number taken m′)
+  memory-last r = ended-visited p counts list items spans m r
