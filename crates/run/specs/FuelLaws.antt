@@ -1,9 +1,10 @@
 -- The fuel of the executable run is enough (01, 'Table and turns'): more of it changes nothing, and none is the reason of `jammed`.
 -- So a run does what `Ran` says, which no fuel is in.
-use Prim.Native.Nat.{ℕ, zero, suc, _*_, _<_, _≤_}
-use mathlib.Core.Path.{_≡_, refl, ap, sym, _∙_}
+use Prim.Native.Nat.{ℕ, zero, suc, _+_, _*_, _<_, _≤_}
+use mathlib.Core.Path.{_≡_, refl, ap, _∙_, subst}
 use mathlib.Core.Logic.{_↔_}
 use mathlib.Core.Bool.{Bool, true, false}
+use mathlib.Core.Option.{none, some}
 use mathlib.Core.List.{List, [], _∷_}
 use native.Mathlib.Omega.{arith}
 use lib.ListN.{length}
@@ -16,7 +17,9 @@ use Rattle.run.specs.Turns.{chosen}
 use Rattle.run.specs.Holders.{holders}
 use Rattle.machine.specs.Stops.{ended}
 use Rattle.run.specs.Run.{Outcome, Outcome.stopped, Outcome.jammed, later, Settled, Settled.hold, Settled.stop, is-done, moved, settle-by, settle, fuel, taken, turn, at-last, run}
-use Rattle.run.specs.Settles.{Settles, Settles.holds, Settles.ends, Settles.refuses, Settles.sticks, Settles.moves, Ran, Ran.ends, Ran.refuses, Ran.sticks, Ran.moves, Ran.lasts, Ran.fails, Ran.jams, Ran.takes}
+use Rattle.run.specs.Settles.{Settles, Settles.holds, Settles.ends, Settles.refuses, Settles.sticks, Settles.moves, Rests, Rests.ends as at-rest, Rests.refuses as refused-at, Rests.lasts, Rests.fails, Jams, Jams.sticks as stuck-at, Jams.jams, Ran, Ran.rests, Ran.stays}
+use Rattle.run.specs.Steps.{Steps, Steps.here, Steps.silent, Steps.reads}
+use Rattle.run.specs.Visits.{Acts, Acts.moves as acts-move, Acts.takes as acts-take}
 
 -- The schedule's moves -------------------------------------------------------------
 
@@ -132,29 +135,46 @@ module _ (p : Program) where
 
   -- The whole run --------------------------------------------------------------------
 
+  ran-silent : {m m′ : Machine} {es : List ℕ} {o : Outcome} → Acts p m none m′ → Ran p m′ es o → Ran p m es o
+  ran-silent s (rests v r) = rests (silent s v) r
+  ran-silent s (stays v j) = stays (silent s v) j
+
+  ran-reads : {m m′ : Machine} {e : ℕ} {es : List ℕ} {o : Outcome} → Acts p m (some e) m′ → Ran p m′ es o → Ran p m (e ∷ es) (later o)
+  unfolding later
+  ran-reads s (rests v r) = rests (reads s v) r
+  ran-reads s (stays v j) = stays (reads s v) j
+
   -- a way F to go on from where the moves lead
   settles-ran : {m : Machine} {x : Settled} → Settles p m x → (es : List ℕ) (F : Settled → Outcome) → ((o : Outcome) → F (stop o) ≡ o)
       → ((z : Machine) (h : ℕ) (hs : List ℕ) → holders z ≡ h ∷ hs → Ran p z es (F (hold z h hs))) → Ran p m es (F x)
   settles-ran (holds {m = m} {h = h} {hs = hs} g) es F s k = k m h hs g
-  settles-ran (ends {m = m} g d) es F s k = rw (s (stopped ended 0 m)) (ends g d)
-  settles-ran (refuses {m = m} {n = n} g r) es F s k = rw (s (stopped n 0 m)) (refuses g r)
-  settles-ran (sticks g n q) es F s k = rw (s jammed) (sticks g n q)
-  settles-ran (moves g q x) es F s k = moves g q (settles-ran x es F s k)
+  settles-ran (ends {m = m} g d) es F s k = rw (s (stopped ended 0 m)) (rests here (at-rest g d))
+  settles-ran (refuses {m = m} {n = n} g r) es F s k = rw (s (stopped n 0 m)) (rests here (refused-at g r))
+  settles-ran (sticks g n q) es F s k = rw (s jammed) (stays here (stuck-at g n q))
+  settles-ran (moves g q x) es F s k = ran-silent (acts-move g q) (settles-ran x es F s k)
 
   by-command : (es : List ℕ) (e : ℕ) (z : Machine) {h : ℕ} {hs : List ℕ} → ((m : Machine) → Ran p m es (run p m es)) → holders z ≡ h ∷ hs
       → (o : Out) → command p (chosen (h ∷ hs) e) z ≡ o → Ran p z (e ∷ es) (taken (λ m. run p m es) z o)
   unfolding taken
-  by-command es e z r g (next m) c = takes g c (r m) refl
-  by-command es e z r g (refused n) c = fails g c
-  by-command es e z r g stuck c = jams g c
+  by-command es e z r g (next m) c = ran-reads (acts-take g c) (r m)
+  by-command es e z r g (refused n) c = rests here (fails g c)
+  by-command es e z r g stuck c = stays here (jams g c)
 
   -- a run does what it does without fuel
   pub run-ran : (es : List ℕ) (m : Machine) → Ran p m es (run p m es)
   unfolding run at-last turn
-  run-ran [] m = settles-ran (fuel-settles m) [] at-last (λ o. refl) (λ z h hs g. lasts g)
+  run-ran [] m = settles-ran (fuel-settles m) [] at-last (λ o. refl) (λ z h hs g. rests here (lasts g))
   run-ran (e ∷ es) m =
       settles-ran (fuel-settles m) (e ∷ es) (turn (λ m′. run p m′ es) p e) (λ o. refl)
       λ z h hs g. by-command es e z (λ m′. run-ran es m′) g (command p (chosen (h ∷ hs) e) z) refl
+
+  -- so it has come to its number where its steps lead
+  pub run-rests : (es : List ℕ) (m : Machine) {z : Machine} {n t : ℕ} → run p m es ≡ stopped n t z
+      → (fs : List ℕ) × (Steps (Acts p) m es t z fs) × (Rests p z fs n)
+  run-rests es m {z} {n} {t} e = go (subst (Ran p m es) e (run-ran es m))
+    where
+      go : Ran p m es (stopped n t z) → (fs : List ℕ) × (Steps (Acts p) m es t z fs) × (Rests p z fs n)
+      go (rests {fs = fs} v r) = (fs, v, r)
 
   -- moves that lead to an outcome are the whole run
   run-stop : (es : List ℕ) {m : Machine} {o : Outcome} → Settles p m (stop o) → run p m es ≡ o
@@ -174,14 +194,46 @@ module _ (p : Program) where
   unfolding run turn
   run-turn e es m g c = ap (turn (λ m′. run p m′ es) p e) (settled (holds g)) ∙ ap (taken (λ m′. run p m′ es) m) c
 
+  -- so many turns later
+  unfoldable later-by : ℕ → Outcome → Outcome
+  later-by zero o = o
+  later-by (suc t) o = later (later-by t o)
+
+  later-stopped : (t n k : ℕ) (z : Machine) → later-by t (stopped n k z) ≡ stopped n (t + k) z
+  unfolding later-by later
+  later-stopped zero n k z = ap (λ x. stopped n x z) (omega arith)
+  later-stopped (suc t) n k z = ap later (later-stopped t n k z) ∙ ap (λ x. stopped n x z) (omega arith)
+
+  later-jammed : (t : ℕ) → later-by t jammed ≡ jammed
+  unfolding later-by later
+  later-jammed zero = refl
+  later-jammed (suc t) = ap later (later-jammed t)
+
+  steps-run : {m z : Machine} {es fs : List ℕ} {t : ℕ} → Steps (Acts p) m es t z fs → run p m es ≡ later-by t (run p z fs)
+  unfolding later-by taken
+  steps-run here = refl
+  steps-run {m} {es = es} (silent (acts-move g q) v) = run-moves es m g q ∙ steps-run v
+  steps-run {m} (reads {es = es} (acts-take {e = e} g c) v) = run-turn e es m g c ∙ ap later (steps-run v)
+
+  -- what a run of a machine on its way comes to, the whole run comes to, behind the turns taken
+  pub steps-stopped : {m z w : Machine} {es fs : List ℕ} {n t k : ℕ} → Steps (Acts p) m es t z fs → run p z fs ≡ stopped n k w
+      → run p m es ≡ stopped n (t + k) w
+  steps-stopped {w = w} {n = n} {t = t} {k} v e = steps-run v ∙ ap (later-by t) e ∙ later-stopped t n k w
+
+  -- where a machine rests, its run stops
+  pub rests-run : {m : Machine} {es : List ℕ} {n : ℕ} → Rests p m es n → run p m es ≡ stopped n 0 m
+  unfolding run at-last taken
+  rests-run {es = es} (at-rest g d) = run-stop es (ends g d)
+  rests-run {es = es} (refused-at g r) = run-stop es (refuses g r)
+  rests-run (lasts g) = ap at-last (settled (holds g))
+  rests-run {m} (fails {e = e} {es = es} g c) = run-turn e es m g c
+
+  jams-run : {m : Machine} {es : List ℕ} → Jams p m es → run p m es ≡ jammed
+  unfolding taken
+  jams-run {es = es} (stuck-at g n q) = run-stop es (sticks g n q)
+  jams-run {m} (jams {e = e} {es = es} g c) = run-turn e es m g c
+
   -- what it does without fuel, a run does
   pub ran-run : {m : Machine} {es : List ℕ} {o : Outcome} → Ran p m es o → run p m es ≡ o
-  unfolding run at-last taken
-  ran-run {es = es} (ends g d) = run-stop es (ends g d)
-  ran-run {es = es} (refuses g r) = run-stop es (refuses g r)
-  ran-run {es = es} (sticks g n q) = run-stop es (sticks g n q)
-  ran-run {m} {es} (moves g q r) = run-moves es m g q ∙ ran-run r
-  ran-run (lasts g) = ap at-last (settled (holds g))
-  ran-run {m} (fails {e = e} {es = es} g c) = run-turn e es m g c
-  ran-run {m} (jams {e = e} {es = es} g c) = run-turn e es m g c
-  ran-run {m} (takes {e = e} {es = es} g c r q) = run-turn e es m g c ∙ ap later (ran-run r) ∙ sym q
+  ran-run (rests {z = z} {n = n} v r) = steps-stopped v (rests-run r) ∙ ap (λ x. stopped n x z) (omega arith)
+  ran-run (stays {t = t} v j) = steps-run v ∙ ap (later-by t) (jams-run j) ∙ later-jammed t

@@ -1,7 +1,7 @@
 -- Where a run by the published rules has come to a number, no rule leads on, and every run that comes to a number ends so (01, 'Numbers
 -- from the state', 'The words of demand 3').
 use Prim.Native.Nat.{ℕ}
-use mathlib.Core.Path.{_≡_, refl, subst}
+use mathlib.Core.Path.{_≡_, refl, sym, subst}
 use mathlib.Core.List.{List, _∷_}
 use native.Mathlib.Omega.{arith}
 use lib.ListN.{drop}
@@ -11,7 +11,9 @@ use Rattle.machine.specs.Rules.{Actor.instance, Actor.schedule, Rule, Rule.Init
 use Rattle.machine.specs.Stops.{Full, Exceeded}
 use Rattle.machine.specs.RuleUnique.{rule-not-full, rule-not-exceeded, rule-not-nested}
 use Rattle.run.specs.TurnLaws.{holders-done}
-use Rattle.run.specs.Runs.{Picks, Picks.picks, AllDone, Halts, Halts.at-end, Halts.at-33, Halts.at-34, Halts.at-35, Halts.at-36, Runs, Runs.halts, Runs.moves, Runs.takes}
+use Rattle.run.specs.Runs.{Picks, Picks.picks, AllDone, Halts, Halts.at-end, Halts.at-33, Halts.at-34, Halts.at-35, Halts.at-36, Runs}
+use Rattle.run.specs.Steps.{Steps.here}
+use Rattle.run.specs.StepsLaws.{steps-left}
 use Rattle.run.specs.RunsUnique.{runs-unique}
 
 -- where a byte picks an instance, some instance holds commands
@@ -52,10 +54,8 @@ module _ (p : Program) where
 
   -- at most one number
   pub halts-one : {st : State} {es : List ℕ} {n k : ℕ} → Halts st es n → Halts st es k → n ≡ k
-  halts-one a b = runs-unique p (halts a) (halts b) .0
+  halts-one {es = es} a b = runs-unique p (es, here, a) (es, here, b) .0
 
   -- a run has come to its number in its last state, with the bytes behind its turns left
   pub runs-halts : {st z : State} {es : List ℕ} {n t : ℕ} → Runs p st es n t z → Halts z (drop t es) n
-  runs-halts (halts h) = h
-  runs-halts (moves d k r) = runs-halts r
-  runs-halts (takes k c r) = runs-halts r
+  runs-halts {z = z} {n = n} (fs, v, h) = subst (λ gs. Halts z gs n) (sym (steps-left v)) h

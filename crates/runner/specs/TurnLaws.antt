@@ -13,15 +13,16 @@ use Rattle.run.specs.Turns.{chosen}
 use Rattle.run.specs.Holders.{holders, holds-code}
 use Rattle.machine.specs.Stops.{ended, out-of-turns}
 use Rattle.run.specs.Run.{Outcome.stopped, run}
-use Rattle.run.specs.Settles.{Ran.ends as ran-ends, Ran.refuses as ran-refuses, Ran.lasts as ran-lasts, Ran.fails as ran-fails}
-use Rattle.run.specs.FuelLaws.{ran-run}
-use Rattle.run.specs.Visits.{Visits.here, Visits.moves as visits-move, Visits.takes as visits-take}
+use Rattle.run.specs.Settles.{Rests.ends as rests-ends, Rests.refuses as rests-refuses, Rests.lasts as rests-lasts, Rests.fails as rests-fails}
+use Rattle.run.specs.FuelLaws.{rests-run}
+use Rattle.run.specs.Steps.{Steps.here, Steps.silent, Steps.reads}
+use Rattle.run.specs.Visits.{Acts.moves as acts-move, Acts.takes as acts-take}
 use Rattle.sound.specs.Advance.{Kept}
 use Rattle.sound.specs.CommandKept.{Refused, command-kept}
 use Rattle.sound.specs.MoveKept.{Blocked, move-kept}
 use Rattle.sound.specs.HolderLaws.{chosen-holds}
-use Rattle.sound.specs.NeverStuckLaws.{visits-good}
-use Rattle.sound.specs.TabledLaws.{visits-tabled}
+use Rattle.sound.specs.NeverStuckLaws.{acts-good}
+use Rattle.sound.specs.TabledLaws.{acts-tabled}
 use Rattle.memory.specs.Layout.{State, refused as refusing}
 use Rattle.memory.specs.Plan.{end-code, At}
 use Rattle.memory.specs.PlanLaws.{at-end-done}
@@ -62,7 +63,7 @@ module _ {p : Program} {counts list items spans : List ℕ} {m : Machine} {z : S
 
   -- its end
   pub ends : busy z ≡ 0 → getD items (z .place) 0 ≡ end-code → (es : List ℕ) → run p m es ≡ stopped ended 0 m
-  ends h e es = ran-run p (ran-ends (none-hold h) (at-end-done items (r .stands .scheduled) .0 e))
+  ends h e es = rests-run p (rests-ends (none-hold h) (at-end-done items (r .stands .scheduled) .0 e))
 
   module _ (e : getD items (z .place) 0 ≡ end-code → ⊥) where
     not-done : m .sched ≡ done → ⊥
@@ -83,20 +84,20 @@ module _ {p : Program} {counts list items spans : List ℕ} {m : Machine} {z : S
     module _ (h : busy z ≡ 0) where
       comes : (o : Out) → move p m ≡ o → Follows list items z (move-on items spans z) o → Advanced p counts list items spans m z (move-on items spans z)
       comes (next m′) q S =
-          let v = visits-move (none-hold h) q (here {es = []}) in
+          let s = acts-move (none-hold h) q in
           advanced
           (record {
             prepared = r .prepared;
-            good = visits-good (r .prepared .firm) (r .good) v;
-            tabled = visits-tabled (r .prepared .firm) (r .good) (r .tabled) v;
+            good = acts-good (r .prepared .firm) s (r .good);
+            tabled = acts-tabled (r .prepared .firm) s (r .good) (r .tabled);
             stands = S;
           })
-          (λ es. visits-move (none-hold h) q here)
+          (λ es. (0, silent (acts-move (none-hold h) q) here))
       comes (refused n) q S =
           let k = move-kept (r .prepared .firm) (m .sched) (m .instances) (m .stability) (r .good .all) (r .good .opened) not-done in
           let w : n ≡ nested = subst (Kept p Blocked) q k in
           blocked (S ∙ ap (λ (x : ℕ). refusing x z) w)
-          (λ es. ran-run p (ran-refuses (none-hold h) (q ∙ ap refused w)))
+          (λ es. rests-run p (rests-refuses (none-hold h) (q ∙ ap refused w)))
       comes stuck q S = absurd S
 
       -- a move
@@ -110,7 +111,7 @@ module _ {p : Program} {counts list items spans : List ℕ} {m : Machine} {z : S
   module _ (b : 0 < busy z) where
     -- no byte is left
     pub lasts : run p m [] ≡ stopped out-of-turns 0 m
-    lasts = let (h, hs, q) = some-hold b in ran-run p (ran-lasts q)
+    lasts = let (h, hs, q) = some-hold b in rests-run p (rests-lasts q)
 
     module _ (e : ℕ) where
       -- the command of the instance that the byte picks finds what it needs
@@ -125,18 +126,18 @@ module _ {p : Program} {counts list items spans : List ℕ} {m : Machine} {z : S
           → (y : State) (o : Out) → command p (chosen (h ∷ hs) e) m ≡ o → After list (At items) z y o
           → Turned p counts list items spans m e z y
       takes h hs q i k y (next m′) c S =
-          let v = visits-take {e = e} q c (here {es = []}) in
+          let s = acts-take {e = e} q c in
           turned
           (record {
             prepared = r .prepared;
-            good = visits-good (r .prepared .firm) (r .good) v;
-            tabled = visits-tabled (r .prepared .firm) (r .good) (r .tabled) v;
+            good = acts-good (r .prepared .firm) s (r .good);
+            tabled = acts-tabled (r .prepared .firm) s (r .good) (r .tabled);
             stands = S;
           })
           (ap (λ (l : List ℕ). command p (chosen l e) m) q ∙ c)
-          (λ es. visits-take q c here)
+          (λ es. (1, reads (acts-take q c) here))
       takes h hs q i k y (refused n) c S =
-          failed S (subst (Kept p Refused) c k) (λ es. ran-run p (ran-fails q c))
+          failed S (subst (Kept p Refused) c k) (λ es. rests-run p (rests-fails q c))
       takes h hs q i k y stuck c S = absurd S
 
       -- a turn
