@@ -1,7 +1,7 @@
 -- The fuel of the executable run is enough (01, 'Table and turns'): more of it changes nothing, and none is the reason of `jammed`.
 -- So a run does what `Ran` says, which no fuel is in.
 use Prim.Native.Nat.{ℕ, zero, suc, _+_, _*_, _<_, _≤_}
-use mathlib.Core.Path.{_≡_, refl, ap, _∙_, subst}
+use mathlib.Core.Path.{_≡_, refl, ap, sym, _∙_, subst}
 use mathlib.Core.Logic.{_↔_}
 use mathlib.Core.Bool.{Bool, true, false}
 use mathlib.Core.Option.{none, some}
@@ -14,7 +14,8 @@ use Rattle.machine.specs.Machine.{Machine, Out, Out.next, Out.refused, Out.stuc
 use Rattle.machine.specs.Measure.{bound, passages, measure, Moved, Moved.unmoved, Moved.moved as moved-on}
 use Rattle.machine.specs.MeasureLaws.{move-falls}
 use Rattle.run.specs.Turns.{chosen}
-use Rattle.run.specs.Holders.{holders}
+use Rattle.run.specs.Holders.{holders, due}
+use Rattle.run.specs.TurnLaws.{due-none, due-some, some-due}
 use Rattle.machine.specs.Stops.{ended}
 use Rattle.run.specs.Run.{Outcome, Outcome.stopped, Outcome.jammed, later, Settled, Settled.hold, Settled.stop, is-done, moved, settle-by, settle, fuel, taken, turn, at-last, run}
 use Rattle.run.specs.Settles.{Settles, Settles.holds, Settles.ends, Settles.refuses, Settles.sticks, Settles.moves, Rests, Rests.ends as at-rest, Rests.refuses as refused-at, Rests.lasts, Rests.fails, Jams, Jams.sticks as stuck-at, Jams.jams, Ran, Ran.rests, Ran.stays}
@@ -49,21 +50,21 @@ module _ (p : Program) (m : Machine) where
   unfolding move-by
   done-stuck e = ap (λ s. move-by p s (m .instances) (m .stability)) e
 
-  -- where nobody holds commands and the schedule is not empty, it moves
-  settle-moves : (k : Machine → Settled) → holders m ≡ [] → (m .sched ≡ done → ⊥) → settle-by k p m (holders m) ≡ moved k m (move p m)
+  -- where a move is due and the schedule is not empty, it is made
+  settle-moves : (k : Machine → Settled) → due m ≡ true → (m .sched ≡ done → ⊥) → settle-by k p m (holders m) ≡ moved k m (move p m)
   unfolding settle-by
-  settle-moves k g n = rw (g, not-done (m .sched) n, settle-by)
+  settle-moves k g n = rw (due-none m .0 g, not-done (m .sched) n, settle-by)
 
 module _ (p : Program) (B : ℕ) where
   -- by the cases of a move, where more than f moves cannot be made, and f are enough for the machine after it
   module _ (f : ℕ) (m : Machine) (h : Enough B (suc f) m) (r : (m′ : Machine) → Enough B f m′ → Settles p m′ (settle p f m′)) where
-    by-move : holders m ≡ [] → (m .sched ≡ done → ⊥) → (o : Out) → move p m ≡ o → Settles p m (moved (λ m′. settle p f m′) m o)
+    by-move : due m ≡ true → (m .sched ≡ done → ⊥) → (o : Out) → move p m ≡ o → Settles p m (moved (λ m′. settle p f m′) m o)
     unfolding moved
     by-move g n (next m′) e = let (a, b) = move-falls p B m (h .0) e in moves g e (r m′ (b, omega arith))
     by-move g n (refused k) e = refuses g e
     by-move g n stuck e = sticks g n e
 
-    by-done : holders m ≡ [] → (t : Bool) → is-done (m .sched) ≡ t
+    by-done : due m ≡ true → (t : Bool) → is-done (m .sched) ≡ t
         → Settles p m (elim t [ true ↦ stop (stopped ended 0 m) | false ↦ moved (λ m′. settle p f m′) m (move p m) ])
     by-done g true e = ends g (is-done-done (m .sched) .0 e)
     by-done g false e =
@@ -71,7 +72,7 @@ module _ (p : Program) (B : ℕ) where
 
     by-holders : (hs : List ℕ) → holders m ≡ hs → Settles p m (settle-by (λ m′. settle p f m′) p m hs)
     unfolding settle-by
-    by-holders [] g = by-done g (is-done (m .sched)) refl
+    by-holders [] g = by-done (due-none m .1 g) (is-done (m .sched)) refl
     by-holders (h ∷ hs) g = holds g
 
   -- with enough fuel, the moves lead where they lead without any
@@ -85,7 +86,7 @@ module _ (p : Program) (B : ℕ) where
   unfolding settle settle-by moved is-done
   settles-settle zero s h = absurd (omega arith)
   settles-settle (suc f) (holds g) h = rw g
-  settles-settle (suc f) (ends g e) h = rw (g, e)
+  settles-settle (suc f) {m} (ends g e) h = rw (due-none m .0 g, e)
   settles-settle (suc f) {m} (refuses g e) h =
       settle-moves p m (λ m′. settle p f m′) g (λ d. let a = done-stuck p m d in let z : _≡_ {A = ℕ} 0 1 = cc in omega arith) ∙ ap (λ o. moved (λ m′. settle p f m′) m o) e
   settles-settle (suc f) {m} (sticks g n e) h = settle-moves p m (λ m′. settle p f m′) g n ∙ ap (λ o. moved (λ m′. settle p f m′) m o) e
@@ -121,16 +122,16 @@ module _ (p : Program) where
       let (a, b) = fuel-suffices m in settles-settle p (bound (m .sched)) f (fuel-settles m) (a, omega arith)
 
   jams-stuck : {m : Machine} {x : Settled} → Settles p m x → x ≡ stop jammed
-      → (n : ℕ) × (m′ : Machine) × (Moved p n m m′) × (holders m′ ≡ []) × (m′ .sched ≡ done → ⊥) × (move p m′ ≡ stuck)
+      → (n : ℕ) × (m′ : Machine) × (Moved p n m m′) × (due m′ ≡ true) × (m′ .sched ≡ done → ⊥) × (move p m′ ≡ stuck)
   jams-stuck (holds g) e = let z : _≡_ {A = ℕ} 0 1 = cc in absurd (omega arith)
   jams-stuck (ends g d) e = let z : _≡_ {A = ℕ} 0 1 = cc in absurd (omega arith)
   jams-stuck (refuses g r) e = let z : _≡_ {A = ℕ} 0 1 = cc in absurd (omega arith)
   jams-stuck {m} (sticks g n q) e = (0, m, unmoved, g, n, q)
   jams-stuck (moves g q s) e = let (n, m′, a, b, c, d) = jams-stuck s e in (suc n, m′, moved-on q a, b, c, d)
 
-  -- fuel is not the reason of `jammed`: after some moves nobody holds commands, the schedule is not empty, and no rule moves it
+  -- fuel is not the reason of `jammed`: after some moves one is due, the schedule is not empty, and no rule moves it
   pub settle-jammed : (m : Machine) → settle p (fuel m) m ≡ stop jammed
-      → (n : ℕ) × (m′ : Machine) × (Moved p n m m′) × (holders m′ ≡ []) × (m′ .sched ≡ done → ⊥) × (move p m′ ≡ stuck)
+      → (n : ℕ) × (m′ : Machine) × (Moved p n m m′) × (due m′ ≡ true) × (m′ .sched ≡ done → ⊥) × (move p m′ ≡ stuck)
   settle-jammed m e = jams-stuck (fuel-settles m) e
 
   -- The whole run --------------------------------------------------------------------
@@ -153,8 +154,8 @@ module _ (p : Program) where
   settles-ran (sticks g n q) es F s k = rw (s jammed) (stays here (stuck-at g n q))
   settles-ran (moves g q x) es F s k = ran-silent (acts-move g q) (settles-ran x es F s k)
 
-  by-command : (es : List ℕ) (e : ℕ) (z : Machine) {h : ℕ} {hs : List ℕ} → ((m : Machine) → Ran p m es (run p m es)) → holders z ≡ h ∷ hs
-      → (o : Out) → command p (chosen (h ∷ hs) e) z ≡ o → Ran p z (e ∷ es) (taken (λ m. run p m es) z o)
+  by-command : (es : List ℕ) (e : ℕ) (z : Machine) → ((m : Machine) → Ran p m es (run p m es)) → due z ≡ false
+      → (o : Out) → command p (chosen (holders z) e) z ≡ o → Ran p z (e ∷ es) (taken (λ m. run p m es) z o)
   unfolding taken
   by-command es e z r g (next m) c = ran-reads (acts-take g c) (r m)
   by-command es e z r g (refused n) c = rests here (fails g c)
@@ -163,10 +164,10 @@ module _ (p : Program) where
   -- a run does what it does without fuel
   pub run-ran : (es : List ℕ) (m : Machine) → Ran p m es (run p m es)
   unfolding run at-last turn
-  run-ran [] m = settles-ran (fuel-settles m) [] at-last (λ o. refl) (λ z h hs g. rests here (lasts g))
+  run-ran [] m = settles-ran (fuel-settles m) [] at-last (λ o. refl) (λ z h hs g. rests here (lasts (some-due z g)))
   run-ran (e ∷ es) m =
       settles-ran (fuel-settles m) (e ∷ es) (turn (λ m′. run p m′ es) p e) (λ o. refl)
-      λ z h hs g. by-command es e z (λ m′. run-ran es m′) g (command p (chosen (h ∷ hs) e) z) refl
+      λ z h hs g. by-command es e z (λ m′. run-ran es m′) (some-due z g) (command p (chosen (h ∷ hs) e) z) (ap (λ l. command p (chosen l e) z) g)
 
   -- so it has come to its number where its steps lead
   pub run-rests : (es : List ℕ) (m : Machine) {z : Machine} {n t : ℕ} → run p m es ≡ stopped n t z
@@ -182,58 +183,33 @@ module _ (p : Program) where
   run-stop [] s = ap at-last (settled s)
   run-stop (e ∷ es) s = ap (turn (λ m′. run p m′ es) p e) (settled s)
 
-  -- a move where nobody holds commands leaves the run to the next machine
-  pub run-moves : (es : List ℕ) (m : Machine) {m′ : Machine} → holders m ≡ [] → move p m ≡ next m′ → run p m es ≡ run p m′ es
+  -- a move that is due leaves the run to the next machine
+  pub run-moves : (es : List ℕ) (m : Machine) {m′ : Machine} → due m ≡ true → move p m ≡ next m′ → run p m es ≡ run p m′ es
   unfolding run
   run-moves [] m {m′} g q = ap at-last (settled (moves g q (fuel-settles m′)))
   run-moves (e ∷ es) m {m′} g q = ap (turn (λ z. run p z es) p e) (settled (moves g q (fuel-settles m′)))
 
   -- a turn
-  run-turn : (e : ℕ) (es : List ℕ) (m : Machine) {h : ℕ} {hs : List ℕ} {o : Out} → holders m ≡ h ∷ hs → command p (chosen (h ∷ hs) e) m ≡ o
+  run-turn : (e : ℕ) (es : List ℕ) (m : Machine) {o : Out} → due m ≡ false → command p (chosen (holders m) e) m ≡ o
       → run p m (e ∷ es) ≡ taken (λ m′. run p m′ es) m o
   unfolding run turn
-  run-turn e es m g c = ap (turn (λ m′. run p m′ es) p e) (settled (holds g)) ∙ ap (taken (λ m′. run p m′ es) m) c
-
-  -- so many turns later
-  unfoldable later-by : ℕ → Outcome → Outcome
-  later-by zero o = o
-  later-by (suc t) o = later (later-by t o)
-
-  later-stopped : (t n k : ℕ) (z : Machine) → later-by t (stopped n k z) ≡ stopped n (t + k) z
-  unfolding later-by later
-  later-stopped zero n k z = ap (λ x. stopped n x z) (omega arith)
-  later-stopped (suc t) n k z = ap later (later-stopped t n k z) ∙ ap (λ x. stopped n x z) (omega arith)
-
-  later-jammed : (t : ℕ) → later-by t jammed ≡ jammed
-  unfolding later-by later
-  later-jammed zero = refl
-  later-jammed (suc t) = ap later (later-jammed t)
-
-  steps-run : {m z : Machine} {es fs : List ℕ} {t : ℕ} → Steps (Acts p) m es t z fs → run p m es ≡ later-by t (run p z fs)
-  unfolding later-by taken
-  steps-run here = refl
-  steps-run {m} {es = es} (silent (acts-move g q) v) = run-moves es m g q ∙ steps-run v
-  steps-run {m} (reads {es = es} (acts-take {e = e} g c) v) = run-turn e es m g c ∙ ap later (steps-run v)
+  run-turn e es m g c =
+      let (h, hs, q) = due-some m g in
+      ap (turn (λ m′. run p m′ es) p e) (settled (holds q)) ∙ ap (taken (λ m′. run p m′ es) m) (ap (λ l. command p (chosen l e) m) (sym q) ∙ c)
 
   -- what a run of a machine on its way comes to, the whole run comes to, behind the turns taken
   pub steps-stopped : {m z w : Machine} {es fs : List ℕ} {n t k : ℕ} → Steps (Acts p) m es t z fs → run p z fs ≡ stopped n k w
       → run p m es ≡ stopped n (t + k) w
-  steps-stopped {w = w} {n = n} {t = t} {k} v e = steps-run v ∙ ap (later-by t) e ∙ later-stopped t n k w
+  unfolding taken later
+  steps-stopped {w = w} {n = n} here r = r ∙ ap (λ x. stopped n x w) (omega arith)
+  steps-stopped {m} {es = es} (silent (acts-move g q) v) r = run-moves es m g q ∙ steps-stopped v r
+  steps-stopped {m} {w = w} {n = n} (reads {es = es} (acts-take {e = e} g c) v) r =
+      run-turn e es m g c ∙ ap later (steps-stopped v r) ∙ ap (λ x. stopped n x w) (omega arith)
 
   -- where a machine rests, its run stops
   pub rests-run : {m : Machine} {es : List ℕ} {n : ℕ} → Rests p m es n → run p m es ≡ stopped n 0 m
   unfolding run at-last taken
   rests-run {es = es} (at-rest g d) = run-stop es (ends g d)
   rests-run {es = es} (refused-at g r) = run-stop es (refuses g r)
-  rests-run (lasts g) = ap at-last (settled (holds g))
+  rests-run {m} (lasts g) = let (h, hs, q) = due-some m g in ap at-last (settled (holds q))
   rests-run {m} (fails {e = e} {es = es} g c) = run-turn e es m g c
-
-  jams-run : {m : Machine} {es : List ℕ} → Jams p m es → run p m es ≡ jammed
-  unfolding taken
-  jams-run {es = es} (stuck-at g n q) = run-stop es (sticks g n q)
-  jams-run {m} (jams {e = e} {es = es} g c) = run-turn e es m g c
-
-  -- what it does without fuel, a run does
-  pub ran-run : {m : Machine} {es : List ℕ} {o : Outcome} → Ran p m es o → run p m es ≡ o
-  ran-run (rests {z = z} {n = n} v r) = steps-stopped v (rests-run r) ∙ ap (λ x. stopped n x z) (omega arith)
-  ran-run (stays {t = t} v j) = steps-run v ∙ ap (later-by t) (jams-run j) ∙ later-jammed t

@@ -10,7 +10,7 @@ use Rattle.machine.specs.Measure.{total, codes, share-of}
 use Rattle.machine.specs.MeasureLaws.{command-shortens, moved-codes}
 use Rattle.run.specs.Turns.{chosen}
 use Rattle.run.specs.Holders.{holders}
-use Rattle.run.specs.TurnLaws.{holders-still}
+use Rattle.run.specs.TurnLaws.{holders-still, due-none}
 use Rattle.run.specs.Steps.{Steps, Steps.here, Steps.silent, Steps.reads}
 use Rattle.run.specs.Visits.{Acts, Acts.moves, Acts.takes, Visits}
 use Rattle.run.specs.StepTurns.{Spends, Spends.all, Spends.then-still}
@@ -23,9 +23,9 @@ module _ (p : Program) where
   -- each turn takes one of the commands held
   spends-held : {m z : Machine} {es fs : List ℕ} {t : ℕ} → Steps (Acts p) m es t z fs → Spends p (codes (m .instances)) m es z fs
   spends-held here = all (0, here) (omega arith)
-  spends-held {t = t} (silent (moves g e) v) = then-still (0, here) (omega arith) g (t, silent (moves g e) v)
-  spends-held {m} (reads (takes {e = e} {h = h} {hs = hs} g c) v) =
-      one-more (takes g c) (command-shortens p (chosen (h ∷ hs) e) m c) (spends-held v)
+  spends-held {t = t} (silent (moves g e) v) = then-still (0, here) (omega arith) (due-none _ .0 g) (t, silent (moves g e) v)
+  spends-held {m} (reads (takes {e = e} g c) v) =
+      one-more (takes g c) (command-shortens p (chosen (holders m) e) m c) (spends-held v)
 
   -- wherever a run goes from a step that a move has started, it takes no more turns than the sum of the step's command counts, each
   -- over its instances, before nobody holds commands

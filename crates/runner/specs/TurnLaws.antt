@@ -2,6 +2,7 @@
 -- which the run stops; there is no third case.
 use Prim.Native.Nat.{ℕ, _<_, _≤_}
 use mathlib.Core.Path.{_≡_, refl, ap, sym, _∙_, subst}
+use mathlib.Core.Bool.{true, false}
 use mathlib.Core.List.{List, [], _∷_}
 use native.Mathlib.Omega.{arith}
 use lib.ListN.{length, getD}
@@ -10,7 +11,7 @@ use Rattle.program.specs.Tree.{Program}
 use Rattle.machine.specs.Published.{Sched.done, structs}
 use Rattle.machine.specs.Machine.{Instance, Machine, Out, Out.next, Out.refused, Out.stuck, command, move}
 use Rattle.run.specs.Turns.{chosen}
-use Rattle.run.specs.Holders.{holders, holds-code}
+use Rattle.run.specs.Holders.{holders, holds-code, none-of, due}
 use Rattle.machine.specs.Stops.{ended, out-of-turns}
 use Rattle.run.specs.Run.{Outcome.stopped, run}
 use Rattle.run.specs.Settles.{Rests.ends as rests-ends, Rests.refuses as rests-refuses, Rests.lasts as rests-lasts, Rests.fails as rests-fails}
@@ -43,20 +44,24 @@ use Rattle.runner.specs.Counting.{fewer}
 use Rattle.runner.specs.CountLaws.{holders-behind}
 use Rattle.runner.specs.Running.{busy, Advanced, Advanced.advanced, Advanced.blocked, Turned, Turned.turned, Turned.failed}
 
-none-left : (l : List ℕ) → length l ≡ 0 → l ≡ []
+none-left : (l : List ℕ) → length l ≡ 0 → none-of l ≡ true
+unfolding none-of
 none-left [] e = refl
 none-left (x ∷ l) e = absurd (omega arith)
 
-some-left : (l : List ℕ) → 0 < length l → (h : ℕ) × (hs : List ℕ) × (l ≡ h ∷ hs)
+some-left : (l : List ℕ) → 0 < length l → none-of l ≡ false
+unfolding none-of
 some-left [] e = absurd (omega arith)
-some-left (h ∷ hs) e = (h, hs, refl)
+some-left (h ∷ hs) e = refl
 
 module _ {p : Program} {counts list items spans : List ℕ} {m : Machine} {z : State} (r : Ready p counts list items spans m z) where
-  -- memory says whether anyone holds commands
-  none-hold : busy z ≡ 0 → holders m ≡ []
+  -- memory says whether a move of the schedule is due
+  none-hold : busy z ≡ 0 → due m ≡ true
+  unfolding due
   none-hold h = none-left (holders m) (sym (holding-same m (r .stands)) ∙ h)
 
-  some-hold : 0 < busy z → (h : ℕ) × (hs : List ℕ) × (holders m ≡ h ∷ hs)
+  some-hold : 0 < busy z → due m ≡ false
+  unfolding due
   some-hold b = some-left (holders m) (rw (holding-same m (r .stands)) at b)
 
   -- The schedule ------------------------------------------------------------------
@@ -111,22 +116,20 @@ module _ {p : Program} {counts list items spans : List ℕ} {m : Machine} {z : S
   module _ (b : 0 < busy z) where
     -- no byte is left
     pub lasts : run p m [] ≡ stopped out-of-turns 0 m
-    lasts = let (h, hs, q) = some-hold b in rests-run p (rests-lasts q)
+    lasts = rests-run p (rests-lasts (some-hold b))
 
     module _ (e : ℕ) where
       -- the command of the instance that the byte picks finds what it needs
       pub picked-fits : Fit list counts (picked (z .heads) (z .count) e) z
       picked-fits =
-          let (h, hs, q) = some-hold b in
-          let (i, n, c, a, d) = chosen-holds m h hs e q in
-          let w : picked (z .heads) (z .count) e ≡ chosen (h ∷ hs) e = picks m (r .stands) e ∙ ap (λ (l : List ℕ). chosen l e) q in
-          rw w (fits (r .prepared .firm) (r .prepared .bounded) (r .good) list (At items) z (r .stands) (chosen (h ∷ hs) e) i a c n d)
+          let (i, n, c, a, d) = chosen-holds m e (some-hold b) in
+          rw (picks m (r .stands) e) (fits (r .prepared .firm) (r .prepared .bounded) (r .good) list (At items) z (r .stands) (chosen (holders m) e) i a c n d)
 
-      takes : (h : ℕ) (hs : List ℕ) → holders m ≡ h ∷ hs → (i : Instance) → Kept p Refused (command p (chosen (h ∷ hs) e) m)
-          → (y : State) (o : Out) → command p (chosen (h ∷ hs) e) m ≡ o → After list (At items) z y o
+      takes : (i : Instance) → Kept p Refused (command p (chosen (holders m) e) m)
+          → (y : State) (o : Out) → command p (chosen (holders m) e) m ≡ o → After list (At items) z y o
           → Turned p counts list items spans m e z y
-      takes h hs q i k y (next m′) c S =
-          let s = acts-take {e = e} q c in
+      takes i k y (next m′) c S =
+          let s = acts-take {e = e} (some-hold b) c in
           turned
           (record {
             prepared = r .prepared;
@@ -134,24 +137,22 @@ module _ {p : Program} {counts list items spans : List ℕ} {m : Machine} {z : S
             tabled = acts-tabled (r .prepared .firm) s (r .good) (r .tabled);
             stands = S;
           })
-          (ap (λ (l : List ℕ). command p (chosen l e) m) q ∙ c)
-          (λ es. (1, reads (acts-take q c) here))
-      takes h hs q i k y (refused n) c S =
-          failed S (subst (Kept p Refused) c k) (λ es. rests-run p (rests-fails q c))
-      takes h hs q i k y stuck c S = absurd S
+          c
+          (λ es. (1, reads (acts-take (some-hold b) c) here))
+      takes i k y (refused n) c S =
+          failed S (subst (Kept p Refused) c k) (λ es. rests-run p (rests-fails (some-hold b) c))
+      takes i k y stuck c S = absurd S
 
       -- a turn
       pub turned-by : Turned p counts list items spans m e z (act list counts (picked (z .heads) (z .count) e) z)
       turned-by =
-          let (h, hs, q) = some-hold b in
-          let (i, n, c, a, d) = chosen-holds m h hs e q in
-          let w : picked (z .heads) (z .count) e ≡ chosen (h ∷ hs) e = picks m (r .stands) e ∙ ap (λ (l : List ℕ). chosen l e) q in
-          rw w
-          (takes h hs q i (command-kept (r .prepared .firm) (r .good) (chosen (h ∷ hs) e) i a n c d)
-          (act list counts (chosen (h ∷ hs) e) z)
-          (command p (chosen (h ∷ hs) e) m)
+          let (i, n, c, a, d) = chosen-holds m e (some-hold b) in
+          rw (picks m (r .stands) e)
+          (takes i (command-kept (r .prepared .firm) (r .good) (chosen (holders m) e) i a n c d)
+          (act list counts (chosen (holders m) e) z)
+          (command p (chosen (holders m) e) m)
           refl
-          (acts (r .prepared .firm) (r .prepared .bounded) (r .good) list (At items) z (r .stands) (chosen (h ∷ hs) e) i a c n d))
+          (acts (r .prepared .firm) (r .prepared .bounded) (r .good) list (At items) z (r .stands) (chosen (holders m) e) i a c n d))
 
       -- and as many hold commands behind it, or one fewer
       pub counted : {m′ : Machine} {y : State} → Ready p counts list items spans m′ y → command p (chosen (holders m) e) m ≡ next m′

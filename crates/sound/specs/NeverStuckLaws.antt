@@ -3,8 +3,9 @@
 use Prim.Native.Nat.{ℕ}
 use mathlib.Core.Path.{_≡_, refl, sym, subst}
 use mathlib.Core.Logic.{_↔_, _⊎_, inl, inr}
+use mathlib.Core.Bool.{false}
 use mathlib.Core.Option.{Option, some}
-use mathlib.Core.List.{List, _∷_}
+use mathlib.Core.List.{List}
 use lib.ListN.{drop, getElem?}
 use Rattle.program.specs.Tree.{Program}
 use Rattle.commands.specs.Bounds.{program-depth}
@@ -13,7 +14,7 @@ use Rattle.machine.specs.Published.{Sched.done, State}
 use Rattle.machine.specs.Represents.{Represents}
 use Rattle.machine.specs.Machine.{Instance, Machine, command, move}
 use Rattle.run.specs.Turns.{chosen}
-use Rattle.run.specs.Holders.{holders}
+use Rattle.run.specs.Holders.{holders, due}
 use Rattle.run.specs.Run.{Outcome, Outcome.stopped, Outcome.jammed, run}
 use Rattle.run.specs.Steps.{Steps.here}
 use Rattle.run.specs.StepsLaws.{steps-keep}
@@ -49,11 +50,11 @@ module _ {p : Program} (firm : Firm p) where
   moved-kept {m} g d = move-kept firm (m .sched) (m .instances) (m .stability) (g .all) (g .opened) d
 
   -- the command of the instance that a byte picks keeps it, or is refused with 34 or 35
-  taken-kept : {m : Machine} {h : ℕ} {hs : List ℕ} (e : ℕ) → Good p m → holders m ≡ h ∷ hs
-      → (i : Instance) × (getElem? (m .instances) (chosen (h ∷ hs) e) ≡ some i) × (Kept p Refused (command p (chosen (h ∷ hs) e) m))
-  taken-kept {m} {h} {hs} e g q =
-      let (i, n, c, a, d) = chosen-holds m h hs e q in
-      (i, a, command-kept firm g (chosen (h ∷ hs) e) i a n c d)
+  taken-kept : {m : Machine} (e : ℕ) → Good p m → due m ≡ false
+      → (i : Instance) × (getElem? (m .instances) (chosen (holders m) e) ≡ some i) × (Kept p Refused (command p (chosen (holders m) e) m))
+  taken-kept {m} e g q =
+      let (i, n, c, a, d) = chosen-holds m e q in
+      (i, a, command-kept firm g (chosen (holders m) e) i a n c d)
 
   -- a step of a run keeps it,
   pub acts-good : {m z : Machine} {a : Option ℕ} → Acts p m a z → Good p m → Good p z

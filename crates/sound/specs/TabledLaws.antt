@@ -24,6 +24,7 @@ use Rattle.machine.specs.Stops.{nested}
 use Rattle.machine.specs.Performed.{Performed, Performed.pushed, Performed.pushed-this, Performed.negated, Performed.read-one, Performed.skipped, Performed.wrote, Performed.calculated, Performed.exceeding, Performed.constructed, Performed.filled, Performed.branched, Performed.no-way}
 use Rattle.machine.specs.PerformedLaws.{by-ways}
 use Rattle.run.specs.Turns.{chosen}
+use Rattle.run.specs.Holders.{holders}
 use Rattle.run.specs.StepsLaws.{steps-keep}
 use Rattle.run.specs.Visits.{Acts, Acts.moves, Acts.takes, Visits}
 use Rattle.run.specs.Begin.{params-in, resting, nulls, first-instances, begin}
@@ -189,7 +190,7 @@ module _ {p : Program} (firm : Firm p) {m : Machine} (good : Good p m) (t : Tabl
 -- a step of a run keeps it,
 pub acts-tabled : {p : Program} → Firm p → {m z : Machine} {a : Option ℕ} → Acts p m a z → Good p m → Tabled p (m .instances) → Tabled p (z .instances)
 acts-tabled {p} firm {m} (moves h e) g t = subst (Comes-to p) e (move-tabled p (m .sched) (m .stability) t)
-acts-tabled {p} firm (takes {e = e} {h = h} {hs = hs} q c) g t = subst (Comes-to p) c (command-tabled firm g t (chosen (h ∷ hs) e))
+acts-tabled {p} firm {m} (takes {e = e} q c) g t = subst (Comes-to p) c (command-tabled firm g t (chosen (holders m) e))
 
 -- so it is in every machine that a run passes through
 pub visits-tabled : {p : Program} → Firm p → {m z : Machine} {es fs : List ℕ} → Good p m → Tabled p (m .instances) → Visits p m es z fs → Tabled p (z .instances)
