@@ -27,68 +27,45 @@ commands-below t = and 2 commands-kinds.ps (falls 2 commands-kinds.ps _<_ μ-com
 abbrev commands-claims : ℕ → commands-lts.Claims
 commands-claims t = (line-reads.Asked, line-reads.Learnt, commands-below t, commands.Post)
 
--- the places that proofs look back to
-abbrev start : (t : ℕ) → commands-lts.Else1 (commands-claims t) (commands-at t) commands.Post → commands-lts.Start (commands-claims t) (commands-at t)
-    commands.Post
-start t c = c .before .before .before
-
-abbrev start₂ :
-    (t : ℕ) → commands-lts.After-shared-slice-known2 (commands-claims t) (commands-at t) commands.Post
-    → commands-lts.Start (commands-claims t) (commands-at t) commands.Post
-start₂ t c = start t (c .before .before)
-
-abbrev at-if1 :
-    (t : ℕ) → commands-lts.After-line (commands-claims t) (commands-at t) commands.Post → commands-lts.Else1 (commands-claims t) (commands-at t) commands.Post
-at-if1 t c = c .before .before .before
-
-abbrev at-if1₂ :
-    (t : ℕ) → commands-lts.After-slice-known2 (commands-claims t) (commands-at t) commands.Post
-    → commands-lts.Else1 (commands-claims t) (commands-at t) commands.Post
-at-if1₂ t c = at-if1 t (c .before .before)
-
-abbrev at-line :
-    (t : ℕ) → commands-lts.After-commands (commands-claims t) (commands-at t) commands.Post
-    → commands-lts.After-line (commands-claims t) (commands-at t) commands.Post
-at-line t c = c .before .before .before .before
-
-abbrev at-line₂ :
-    (t : ℕ) → commands-lts.After-slice-known3 (commands-claims t) (commands-at t) commands.Post
-    → commands-lts.After-line (commands-claims t) (commands-at t) commands.Post
-at-line₂ t c = at-line t (c .before .before)
-
 commands-returns : (t : ℕ) → commands-lts.Need-returns (commands-claims t) (commands-at t) commands.Post
 commands-returns t c =
     let a = c .before .before .before .args in
     (placed-as (lines-none (a .of) (a .name) (a .position) (a .list .now) (a .place) (a .n) (c .if1 .taken)) (placed-none (a .out .now) (a .k)), omega arith)
 
-commands-shared-slice-read-line : (t : ℕ) → commands-lts.Need-shared-slice-read-line (commands-claims t) (commands-at t) commands.Post
-commands-shared-slice-read-line t c =
-    let at-if1′ = c .before .before in
-    omega (arith, start₂ t c .pre, at-if1′ .if1 .left)
+commands-add-commands : (t : ℕ) → commands-lts.Need-add-commands (commands-claims t) (commands-at t) commands.Post
+commands-add-commands t c =
+    let at-line = c .before .before in let at-if1 = at-line .before .before .before in
+    omega (arith, at-if1 .before .before .before .pre, at-if1 .if1 .left)
 
-commands-line-requires : (t : ℕ) → commands-lts.Need-line-requires (commands-claims t) (commands-at t) commands.Post
-commands-line-requires t c κs =
-    let at-if1′ = c .before .before in
-    omega (arith, start₂ t c .pre, at-if1′ .if1 .left)
+commands-sub-commands : (t : ℕ) → commands-lts.Need-sub-commands (commands-claims t) (commands-at t) commands.Post
+commands-sub-commands t c =
+    let at-line = c .before .before in let at-if1 = at-line .before .before .before in
+    omega (arith, at-if1 .before .before .before .pre, at-if1 .if1 .left)
+
+commands-add-commands-2 : (t : ℕ) → commands-lts.Need-add-commands-2 (commands-claims t) (commands-at t) commands.Post
+commands-add-commands-2 t c =
+    let at-line = c .before .before in let at-if1 = at-line .before .before .before in
+    omega (arith, at-if1 .before .before .before .pre, at-if1 .if1 .left)
 
 commands-commands-requires : (t : ℕ) → commands-lts.Need-commands-requires (commands-claims t) (commands-at t) commands.Post
 commands-commands-requires t c κs =
-    let at-line′ = c .before .before .before in let pre = start₂ t (at-line′ .before) .pre in
-    let more = at-if1 t at-line′ .if1 .left in (
+    let at-line = c .before .before .before in let at-if1 = at-line .before .before .before in
+    let pre = at-if1 .before .before .before .pre in let more = at-if1 .if1 .left in (
       omega (arith, pre, more),
-      (omega (arith, pre, more), omega (arith, pre, more, at-line′ .line .ensures .1, at-line′ .line .kept .0), omega (arith, pre, more)),
+      (omega (arith, pre, more), omega (arith, pre, more, at-line .line .ensures .1, at-line .line .kept .0), omega (arith, pre, more)),
     )
 
 commands-same-length : (t : ℕ) → commands-lts.Need-same-length (commands-claims t) (commands-at t) commands.Post
 commands-same-length t c =
     let at-commands = c .before .before in
-    at-commands .commands .kept .1 .1 .1 .1 .1 .1 .0 ∙ at-line₂ t c .line .kept .0
+    at-commands .commands .kept .1 .1 .1 .1 .1 .1 .0 ∙ at-commands .before .before .before .before .line .kept .0
 
 commands-returns-2 : (t : ℕ) → commands-lts.Need-returns-2 (commands-claims t) (commands-at t) commands.Post
 commands-returns-2 t c =
-    let at-commands = c .before .before in let at-if1′ = at-if1₂ t (at-commands .before .before) in
-    let a = start t at-if1′ .args in let first = at-line₂ t c .line .ensures in
-    let rest = at-commands .commands .ensures in let more = at-if1′ .if1 .left in (
+    let at-commands = c .before .before in let at-line = at-commands .before .before .before .before in
+    let at-if1 = at-line .before .before .before in let a = at-if1 .before .before .before .args in
+    let first = at-line .line .ensures in let rest = at-commands .commands .ensures in
+    let more = at-if1 .if1 .left in (
       placed-as (lines-more (a .of) (a .name) (a .position) (a .list .now) (a .place) (a .n) more (omega arith)) (placed-on (first .0) (rest .0)),
       omega (arith, first .1, rest .1, more),
     )
@@ -97,8 +74,6 @@ pub +commands-spec : {M : Type 1} → statement M
 +commands-spec =
     close μ-commands
     λ t. commands-lts.spec (commands-claims t) (commands-at t) commands.Post (commands-returns t) (λ c. search needs)
-    (commands-shared-slice-read-line t) (commands-line-requires t)
-    (λ c. omega (arith, start₂ t (c .before .before .before) .pre, at-if1₂ t c .if1 .left))
-    (λ c. omega (arith, start₂ t (c .before .before .before) .pre, at-if1₂ t c .if1 .left))
-    (λ c. omega (arith, start₂ t (c .before .before .before) .pre, at-if1₂ t c .if1 .left)) (commands-commands-requires t) (commands-same-length t)
-    (commands-returns-2 t)
+    (λ c. let at-if1 = c .before .before in omega (arith, at-if1 .before .before .before .pre, at-if1 .if1 .left))
+    (λ c κs. let at-if1 = c .before .before in omega (arith, at-if1 .before .before .before .pre, at-if1 .if1 .left)) (commands-add-commands t)
+    (commands-sub-commands t) (commands-add-commands-2 t) (commands-commands-requires t) (commands-same-length t) (commands-returns-2 t)

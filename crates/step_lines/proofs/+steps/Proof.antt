@@ -27,54 +27,40 @@ steps-below t = and 5 steps-kinds.ps (falls 5 steps-kinds.ps _<_ μ-steps t) ste
 abbrev steps-claims : ℕ → steps-lts.Claims
 steps-claims t = (step-reads.Asked, step-reads.Learnt, steps-below t, steps.Post)
 
--- the places that proofs look back to
-abbrev start : (t : ℕ) → steps-lts.After-shared-slice-known4 (steps-claims t) (steps-at t) steps.Post → steps-lts.Start (steps-claims t) (steps-at t) steps.Post
-start t c = c .before .before .before .before
-
-abbrev start₂ : (t : ℕ) → steps-lts.After-step-arg (steps-claims t) (steps-at t) steps.Post → steps-lts.Start (steps-claims t) (steps-at t) steps.Post
-start₂ t c = start t (c .before .before .before)
-
-abbrev start₃ : (t : ℕ) → steps-lts.After-steps-arg (steps-claims t) (steps-at t) steps.Post → steps-lts.Start (steps-claims t) (steps-at t) steps.Post
-start₃ t c = start₂ t (c .before .before .before .before)
-
-abbrev at-step : (t : ℕ) → steps-lts.After-steps (steps-claims t) (steps-at t) steps.Post → steps-lts.After-step (steps-claims t) (steps-at t) steps.Post
-at-step t c = c .before .before .before .before
-
-abbrev at-step₂ : (t : ℕ) → steps-lts.After-slice-known3 (steps-claims t) (steps-at t) steps.Post → steps-lts.After-step (steps-claims t) (steps-at t)
-    steps.Post
-at-step₂ t c = at-step t (c .before .before)
-
 steps-returns : (t : ℕ) → steps-lts.Need-returns (steps-claims t) (steps-at t) steps.Post
 steps-returns t c =
-    let a = start t (c .before .before) .args in
+    let at-shared-slice-known2 = c .before .before .before .before in
+    let a = at-shared-slice-known2 .before .before .args in
     steps-end (a .ar .now) (a .s .now) (a .n) (a .at) (a .of) (c .if1 .taken) (a .place) (a .out .now) (a .k)
 
 steps-step-requires : (t : ℕ) → steps-lts.Need-step-requires (steps-claims t) (steps-at t) steps.Post
 steps-step-requires t c κs =
-    (start₂ t c .pre .1 .0, first-walkable (steps-more _ _ _ _ (c .before .if1 .left) (start₂ t c .pre .1 .1 .good)) (start₂ t c .pre .1 .1))
+    let at-if1 = c .before in let at-shared-slice-known2 = at-if1 .before .before .before .before in
+    let start = at-shared-slice-known2 .before .before in
+    (start .pre .1 .0, first-walkable (steps-more _ _ _ _ (at-if1 .if1 .left) (start .pre .1 .1 .good)) (start .pre .1 .1))
 
 steps-steps-requires : (t : ℕ) → steps-lts.Need-steps-requires (steps-claims t) (steps-at t) steps.Post
 steps-steps-requires t c κs =
-    let at-step′ = c .before .before .before in let at-if1 = at-step′ .before .before in (
-      omega (arith, start₃ t c .pre .0, at-if1 .if1 .left),
-      (
-        start₃ t c .pre .1 .0,
-        next-walkable (steps-more _ _ _ _ (at-if1 .if1 .left) (start₃ t c .pre .1 .1 .good)) (start₃ t c .pre .1 .1) (at-step′ .step .ensures),
-      ),
+    let at-step = c .before .before .before in let at-if1 = at-step .before .before in
+    let at-shared-slice-known2 = at-if1 .before .before .before .before in
+    let start = at-shared-slice-known2 .before .before in (
+      omega (arith, start .pre .0, at-if1 .if1 .left),
+      (start .pre .1 .0, next-walkable (steps-more _ _ _ _ (at-if1 .if1 .left) (start .pre .1 .1 .good)) (start .pre .1 .1) (at-step .step .ensures)),
     )
 
 steps-same-length : (t : ℕ) → steps-lts.Need-same-length (steps-claims t) (steps-at t) steps.Post
 steps-same-length t c =
     let at-steps = c .before .before in
-    placed-kept (at-steps .steps .ensures .text) ∙ placed-kept (at-step₂ t c .step .ensures .text)
+    placed-kept (at-steps .steps .ensures .text) ∙ placed-kept (at-steps .before .before .before .before .step .ensures .text)
 
 steps-returns-2 : (t : ℕ) → steps-lts.Need-returns-2 (steps-claims t) (steps-at t) steps.Post
 steps-returns-2 t c =
-    let at-steps = c .before .before in let at-if1 = at-step₂ t c .before .before in
-    let start′ = start₃ t (at-steps .before) in let a = start′ .args in
-    let g = start′ .pre .1 .1 .good in
+    let at-steps = c .before .before in let at-step = at-steps .before .before .before .before in
+    let at-if1 = at-step .before .before in let at-shared-slice-known2 = at-if1 .before .before .before .before in
+    let start = at-shared-slice-known2 .before .before in let a = start .args in
+    let g = start .pre .1 .1 .good in
     both-walked (steps-more _ _ _ _ (at-if1 .if1 .left) g) (steps-text (a .ar .now) (a .s .now) (a .n) (a .at) (a .of) (at-if1 .if1 .left) g)
-    (at-step₂ t c .step .ensures) (at-steps .steps .ensures)
+    (at-step .step .ensures) (at-steps .steps .ensures)
 
 pub +steps-spec : {M : Type 1} → statement M
 +steps-spec =

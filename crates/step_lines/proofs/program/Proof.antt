@@ -8,17 +8,12 @@ use lib.Seq.{length-take-le}
 use Rattle.step_lines.specs.WalkLaws.{walked-in}
 use Rattle.step_lines.specs.ProgramTextLaws.{params-read, program-walkable, program-walked}
 
--- the places that proofs look back to
-abbrev start : tie.After-counts → tie.Start
-start c = c .before .before .before .before
-
-abbrev start₂ : tie.After-params → tie.Start
-start₂ c = start (c .before .before)
-
 returns : tie.Need-returns
 returns c =
     let at-params = c .before .before .before .before in
-    absurd (params-read (start₂ at-params .args .s .now) (start₂ at-params .pre .good) _ (sym (at-params .params .ensures .0) ∙ c .enum-told .given .1))
+    let at-shared-slice-known2 = at-params .before .before .before .before in
+    let start = at-shared-slice-known2 .before .before in
+    absurd (params-read (start .args .s .now) (start .pre .good) _ (sym (at-params .params .ensures .0) ∙ c .enum-told .given .1))
 
 array-share-prefix-counts : tie.Need-array-share-prefix-counts
 array-share-prefix-counts c =
@@ -35,23 +30,24 @@ slice-aggregate-structs c =
 structs-requires : tie.Need-structs-requires
 structs-requires c κs =
     let at-at = c .before .before .before .before in let at-params = at-at .before .before .before .before in
-    let start′ = start (at-params .before .before) in
+    let at-shared-slice-known2 = at-params .before .before .before .before in
+    let start = at-shared-slice-known2 .before .before in
     let span = rw (at-at .at .given .1) at (at-params .params .ensures .1 .0) in
     let l = length-take-le (at-at .at .given .0 .1 .0) (at-params .params .last .1 .0) (omega (arith, span .1, at-params .params .kept .1 .0)) in (
       (omega (arith, l, span .1), omega (arith, span .1)),
-      program-walkable (start′ .args .s .now) (start′ .pre .good) _ _ _ _ _ _ (sym (at-params .params .ensures .0) ∙ at-at .at .given .1)
-          (at-params .params .ensures .1 .1) (start′ .pre),
+      program-walkable (start .args .s .now) (start .pre .good) _ _ _ _ _ _ (sym (at-params .params .ensures .0) ∙ at-at .at .given .1)
+          (at-params .params .ensures .1 .1) (start .pre),
     )
 
 returns-2 : tie.Need-returns-2
 returns-2 c =
     let at-structs = c .before .before in let at-known-told = at-structs .before .before .before .before in
     let at-at = at-known-told .before in let at-params = at-at .before .before .before .before in
+    let at-shared-slice-known2 = at-params .before .before .before .before in
+    let start = at-shared-slice-known2 .before .before in
     let told = sym (at-params .params .ensures .0) ∙ at-at .at .given .1 in
-    let h = program-walkable (start₂ at-params .args .s .now) (start₂ at-params .pre .good) _ _ _ _ _ _ told (at-params .params .ensures .1 .1)
-    (start₂ at-params .pre) in (
-      program-walked (start₂ at-params .args .s .now) (start₂ at-params .pre .good) _ _ _ _ _ _ told (at-params .params .ensures .1 .1)
-          (at-structs .structs .ensures),
+    let h = program-walkable (start .args .s .now) (start .pre .good) _ _ _ _ _ _ told (at-params .params .ensures .1 .1) (start .pre) in (
+      program-walked (start .args .s .now) (start .pre .good) _ _ _ _ _ _ told (at-params .params .ensures .1 .1) (at-structs .structs .ensures),
       walked-in h (at-structs .structs .ensures),
     )
 

@@ -24,142 +24,76 @@ tail-at t = and 2 tail-kinds.ps (is 2 tail-kinds.ps μ-tail t) tail.Pre
 abbrev tail-below : ℕ → In 2 tail-kinds.ps
 tail-below t = and 2 tail-kinds.ps (falls 2 tail-kinds.ps _<_ μ-tail t) tail.Pre
 
--- the places that proofs look back to
-abbrev start :
-    (t : ℕ) → tail-lts.Else1 (byte-reads.Asked, byte-reads.Learnt, decimal-reads.Asked, decimal-reads.Learnt, tail-below t, tail.Post) (tail-at t) tail.Post
-    → tail-lts.Start (byte-reads.Asked, byte-reads.Learnt, decimal-reads.Asked, decimal-reads.Learnt, tail-below t, tail.Post) (tail-at t) tail.Post
-start t c = c .before .before .before
+-- what the functions that it calls ask and give
+abbrev tail-claims : ℕ → tail-lts.Claims
+tail-claims t = (byte-reads.Asked, byte-reads.Learnt, decimal-reads.Asked, decimal-reads.Learnt, tail-below t, tail.Post)
 
-abbrev at-byte2 :
-    (t : ℕ) → tail-lts.After-shared-slice-known2 (
-      byte-reads.Asked,
-      byte-reads.Learnt,
-      decimal-reads.Asked,
-      decimal-reads.Learnt,
-      tail-below t,
-      tail.Post,
-    ) (tail-at t) tail.Post
-    → tail-lts.After-byte2 (byte-reads.Asked, byte-reads.Learnt, decimal-reads.Asked, decimal-reads.Learnt, tail-below t, tail.Post) (tail-at t) tail.Post
-at-byte2 t c = c .before .before .before .before
-
-abbrev at-byte2₂ :
-    (t : ℕ) → tail-lts.After-tail-arg (byte-reads.Asked, byte-reads.Learnt, decimal-reads.Asked, decimal-reads.Learnt, tail-below t, tail.Post)
-    (tail-at t) tail.Post
-    → tail-lts.After-byte2 (byte-reads.Asked, byte-reads.Learnt, decimal-reads.Asked, decimal-reads.Learnt, tail-below t, tail.Post) (tail-at t) tail.Post
-at-byte2₂ t c = at-byte2 t (c .before .before .before .before)
-
-abbrev start₂ :
-    (t : ℕ) → tail-lts.After-tail-arg (byte-reads.Asked, byte-reads.Learnt, decimal-reads.Asked, decimal-reads.Learnt, tail-below t, tail.Post)
-    (tail-at t) tail.Post
-    → tail-lts.Start (byte-reads.Asked, byte-reads.Learnt, decimal-reads.Asked, decimal-reads.Learnt, tail-below t, tail.Post) (tail-at t) tail.Post
-start₂ t c = start t (at-byte2₂ t c .before .before)
-
-abbrev at-decimal :
-    (t : ℕ) → tail-lts.After-tail (byte-reads.Asked, byte-reads.Learnt, decimal-reads.Asked, decimal-reads.Learnt, tail-below t, tail.Post)
-    (tail-at t) tail.Post
-    → tail-lts.After-decimal (byte-reads.Asked, byte-reads.Learnt, decimal-reads.Asked, decimal-reads.Learnt, tail-below t, tail.Post) (tail-at t) tail.Post
-at-decimal t c = c .before .before .before .before
-
-abbrev at-decimal₂ :
-    (t : ℕ) → tail-lts.After-slice-known5 (byte-reads.Asked, byte-reads.Learnt, decimal-reads.Asked, decimal-reads.Learnt, tail-below t, tail.Post)
-    (tail-at t) tail.Post
-    → tail-lts.After-decimal (byte-reads.Asked, byte-reads.Learnt, decimal-reads.Asked, decimal-reads.Learnt, tail-below t, tail.Post) (tail-at t) tail.Post
-at-decimal₂ t c = at-decimal t (c .before .before)
-
-tail-returns : (t : ℕ) → tail-lts.Need-returns (
-  byte-reads.Asked,
-  byte-reads.Learnt,
-  decimal-reads.Asked,
-  decimal-reads.Learnt,
-  tail-below t,
-  tail.Post,
-) (tail-at t) tail.Post
+tail-returns : (t : ℕ) → tail-lts.Need-returns (tail-claims t) (tail-at t) tail.Post
 tail-returns t c = (
   placed-as (tail-end _ _ (c .before .before .before .before .if1 .taken)) (c .before .before .byte .ensures),
   omega (arith, c .before .before .byte .ensures .end),
 )
 
-tail-decimal-requires : (t : ℕ) → tail-lts.Need-decimal-requires (
-  byte-reads.Asked,
-  byte-reads.Learnt,
-  decimal-reads.Asked,
-  decimal-reads.Learnt,
-  tail-below t,
-  tail.Post,
-) (tail-at t) tail.Post
+tail-decimal-requires : (t : ℕ) → tail-lts.Need-decimal-requires (tail-claims t) (tail-at t) tail.Post
 tail-decimal-requires t c κs =
-    let at-if1 = at-byte2 t c .before .before in
+    let at-byte2 = c .before .before .before .before in let at-if1 = at-byte2 .before .before in
+    let start = at-if1 .before .before .before in
     omega (
       arith,
-      start t at-if1 .pre,
-      at-byte2 t c .byte2 .ensures .end,
-      at-byte2 t c .byte2 .kept .0,
-      ap length (drop-next (start t at-if1 .args .ns .now) (start t at-if1 .args .i) (at-if1 .if1 .left)),
+      start .pre,
+      at-byte2 .byte2 .ensures .end,
+      at-byte2 .byte2 .kept .0,
+      ap length (drop-next (start .args .ns .now) (start .args .i) (at-if1 .if1 .left)),
     )
 
-tail-tail-requires : (t : ℕ) → tail-lts.Need-tail-requires (
-  byte-reads.Asked,
-  byte-reads.Learnt,
-  decimal-reads.Asked,
-  decimal-reads.Learnt,
-  tail-below
-      t,
-  tail.Post,
-) (tail-at t) tail.Post
+tail-add-tail : (t : ℕ) → tail-lts.Need-add-tail (tail-claims t) (tail-at t) tail.Post
+tail-add-tail t c =
+    let at-decimal = c .before .before .before in let at-out2 = at-decimal .before .before .before .before in
+    omega (arith, at-out2 .before .before .before .if1 .left)
+
+tail-tail-requires : (t : ℕ) → tail-lts.Need-tail-requires (tail-claims t) (tail-at t) tail.Post
 tail-tail-requires t c κs =
-    let at-decimal′ = c .before .before .before in let at-if1 = at-byte2₂ t c .before .before in (
-      omega (arith, start₂ t c .pre, at-if1 .if1 .left),
+    let at-decimal = c .before .before .before in let at-out2 = at-decimal .before .before .before .before in
+    let at-if1 = at-out2 .before .before .before in let start = at-if1 .before .before .before in (
+      omega (arith, start .pre, at-if1 .if1 .left),
       omega (
         arith,
-        start₂ t c .pre,
-        at-byte2₂ t c .byte2 .ensures .end,
-        at-decimal′ .decimal .ensures .1,
-        at-byte2₂ t c .byte2 .kept .0,
-        at-decimal′ .decimal .kept .0,
-        ap length (drop-next (start₂ t c .args .ns .now) (start₂ t c .args .i) (at-if1 .if1 .left)),
+        start .pre,
+        at-out2 .before .byte2 .ensures .end,
+        at-decimal .decimal .ensures .1,
+        at-out2 .before .byte2 .kept .0,
+        at-decimal .decimal .kept .0,
+        ap length (drop-next (start .args .ns .now) (start .args .i) (at-if1 .if1 .left)),
       ),
     )
 
-tail-same-length-2 : (t : ℕ) → tail-lts.Need-same-length-2 (
-  byte-reads.Asked,
-  byte-reads.Learnt,
-  decimal-reads.Asked,
-  decimal-reads.Learnt,
-  tail-below
-      t,
-  tail.Post,
-) (tail-at t) tail.Post
+tail-same-length-2 : (t : ℕ) → tail-lts.Need-same-length-2 (tail-claims t) (tail-at t) tail.Post
 tail-same-length-2 t c =
-    let at-tail = c .before .before in
-    at-tail .tail .kept .0 ∙ (at-decimal₂ t c .decimal .kept .0 ∙ at-byte2₂ t (at-tail .before) .byte2 .kept .0)
+    let at-tail = c .before .before in let at-decimal = at-tail .before .before .before .before in
+    let at-out2 = at-decimal .before .before .before .before in
+    at-tail .tail .kept .0 ∙ (at-decimal .decimal .kept .0 ∙ at-out2 .before .byte2 .kept .0)
 
-tail-returns-2 : (t : ℕ) → tail-lts.Need-returns-2 (
-  byte-reads.Asked,
-  byte-reads.Learnt,
-  decimal-reads.Asked,
-  decimal-reads.Learnt,
-  tail-below t,
-  tail.Post,
-) (tail-at t) tail.Post
+tail-returns-2 : (t : ℕ) → tail-lts.Need-returns-2 (tail-claims t) (tail-at t) tail.Post
 tail-returns-2 t c =
-    let at-tail = c .before .before in let at-byte2′ = at-byte2₂ t (at-tail .before) in
-    let at-if1 = at-byte2′ .before .before in (
+    let at-tail = c .before .before in let at-decimal = at-tail .before .before .before .before in
+    let at-out2 = at-decimal .before .before .before .before in let at-if1 = at-out2 .before .before .before in
+    let start = at-if1 .before .before .before in (
       placed-as (tail-next _ _ (at-if1 .if1 .left))
-          (placed-on (at-byte2′ .byte2 .ensures) (placed-on (at-decimal₂ t c .decimal .ensures .0) (at-tail .tail .ensures .0))),
+          (placed-on (at-out2 .before .byte2 .ensures) (placed-on (at-decimal .decimal .ensures .0) (at-tail .tail .ensures .0))),
       omega (
         arith,
-        at-byte2′ .byte2 .ensures .end,
-        at-decimal₂ t c .decimal .ensures .1,
+        at-out2 .before .byte2 .ensures .end,
+        at-decimal .decimal .ensures .1,
         at-tail .tail .ensures .1,
-        ap length (drop-next (start t at-if1 .args .ns .now) (start t at-if1 .args .i) (at-if1 .if1 .left)),
+        ap length (drop-next (start .args .ns .now) (start .args .i) (at-if1 .if1 .left)),
       ),
     )
 
 pub +tail-spec : {M : Type 1} → statement M
 +tail-spec =
     close μ-tail
-    λ t. tail-lts.spec (byte-reads.Asked, byte-reads.Learnt, decimal-reads.Asked, decimal-reads.Learnt, tail-below t, tail.Post) (tail-at t)
+    λ t. tail-lts.spec (tail-claims t) (tail-at t)
     tail.Post (λ c κs. omega (arith, c .before .before .before .before .pre)) (λ c. c .before .before .byte .kept .0) (tail-returns t)
     (λ c κs. omega (arith, c .before .before .before .before .pre)) (λ c. search needs)
-    (λ c. omega (arith, at-byte2 t c .before .before .if1 .left)) (tail-decimal-requires t)
-    (λ c. omega (arith, at-byte2₂ t c .before .before .if1 .left)) (tail-tail-requires t) (tail-same-length-2 t) (tail-returns-2 t)
+    (λ c. let at-byte2 = c .before .before .before .before in omega (arith, at-byte2 .before .before .if1 .left)) (tail-decimal-requires t)
+    (tail-add-tail t) (tail-tail-requires t) (tail-same-length-2 t) (tail-returns-2 t)
