@@ -5,7 +5,7 @@ use mathlib.Core.Bool.{Bool}
 use mathlib.Core.Option.{Option, none, some}
 use mathlib.Core.List.{List, [], _∷_}
 use Rattle.program.specs.Tree.{Program}
-use Rattle.machine.specs.Published.{Sched, Sched.done, Inst, State, State.state}
+use Rattle.machine.specs.Published.{Sched.done, Inst, State, State.state}
 use Rattle.machine.specs.Rules.{Done, Actor.instance, Actor.schedule, Rule}
 use Rattle.machine.specs.Stops.{Full, Exceeded, Nested, ended, out-of-turns, full, exceeded, nested}
 use Rattle.run.specs.Turns.{holders-of, chosen}

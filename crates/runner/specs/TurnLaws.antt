@@ -99,7 +99,7 @@ module _ {p : Program} {counts list items spans : List ℕ} {m : Machine} {z : S
           })
           (λ es. (0, silent (acts-move (none-hold h) q) here))
       comes (refused n) q S =
-          let k = move-kept (r .prepared .firm) (m .sched) (m .instances) (m .stability) (r .good .all) (r .good .opened) not-done in
+          let k = move-kept (r .prepared .firm) (m .sched) (m .instances) (m .stability) (r .good .all) (r .good .opened) (r .good .left) not-done in
           let w : n ≡ nested = subst (Kept p Blocked) q k in
           blocked (S ∙ ap (λ (x : ℕ). refusing x z) w)
           (λ es. rests-run p (rests-refuses (none-hold h) (q ∙ ap refused w)))

@@ -47,7 +47,7 @@ use Rattle.sound.specs.NeverStuck.{NeverStuck, Demand3}
 module _ {p : Program} (firm : Firm p) where
   -- a schedule move keeps the invariant, or is refused with 36
   moved-kept : {m : Machine} → Good p m → (m .sched ≡ done → ⊥) → Kept p Blocked (move p m)
-  moved-kept {m} g d = move-kept firm (m .sched) (m .instances) (m .stability) (g .all) (g .opened) d
+  moved-kept {m} g d = move-kept firm (m .sched) (m .instances) (m .stability) (g .all) (g .opened) (g .left) d
 
   -- the command of the instance that a byte picks keeps it, or is refused with 34 or 35
   taken-kept : {m : Machine} (e : ℕ) → Good p m → due m ≡ false
