@@ -27,7 +27,7 @@ use Rattle.run.specs.StepTurns.{Spends}
 use Rattle.run.specs.StepTurnsLaws.{step-turns as start-turns}
 use Rattle.run.specs.Begin.{params-in, begin, table-of}
 use Rattle.run.specs.Initial.{initial, Comes}
-use Rattle.run.specs.PublishedVisits.{Passes}
+use Rattle.run.specs.Runs.{Passes}
 use Rattle.run.specs.Entry.{Checked.accepted, checked, listed, approval, check-verdict, check-list, Begun.begun, begins, run-output}
 use Rattle.run.specs.Input.{check-order, order, Accepted as AcceptedImage, TableAccepted, Approved, Ready, Began}
 use Rattle.run.specs.InputProgram.{checked-accepted, verdict-approved, check-approved}

@@ -10,7 +10,7 @@ use Rattle.machine.specs.Published.{State}
 use Rattle.machine.specs.Machine.{Machine}
 use Rattle.machine.specs.Represents.{Represents}
 use Rattle.run.specs.Initial.{initial}
-use Rattle.run.specs.PublishedVisits.{Passes}
+use Rattle.run.specs.Runs.{Passes}
 use Rattle.run.specs.Input.{order, Ready}
 use Rattle.run.specs.InputLaws.{begins-none}
 use Rattle.sound.specs.Needs.{Right}

@@ -26,7 +26,7 @@ use Rattle.machine.specs.Represents.{Represents}
 use Rattle.run.specs.Begin.{begin}
 use Rattle.run.specs.Initial.{initial}
 use Rattle.run.specs.BeginLaws.{begin-represents, outcome-exact}
-use Rattle.run.specs.PublishedVisits.{Passes}
+use Rattle.run.specs.Runs.{Passes}
 use Rattle.run.specs.RunAgreesVisits.{passes-visits}
 use Rattle.run.specs.Entry.{Checked, Checked.accepted, Checked.refused, checked, Verdict, check-list}
 use Rattle.run.specs.Input.{Accepted, Ready, program-order, check-order}

@@ -1,4 +1,4 @@
--- A table stream under an admitted program (01, 'Table and turns', and numbers 11 and 12): it is refused, or its instances are seated.
+-- A table image under an admitted program (01, 'Table and turns', and numbers 9 to 12): it is refused, or its instances are seated.
 use Prim.Native.Nat.{ℕ, _+_, _*_}
 use native.Mathlib.Omega.{arith}
 use mathlib.Core.Path.{_≡_, refl, ap, sym, _∙_}
@@ -11,18 +11,16 @@ use Rattle.program.specs.Reader.{read}
 use Rattle.program.specs.ProgramLaws.{program-law}
 use Rattle.facts.specs.ProgramFacts.{types-table}
 use Rattle.table.specs.Table.{Record}
-use Rattle.table.specs.TableReader.{TableAnswer, TableAnswer.table, TableAnswer.no-table, table-of-stream}
-use Rattle.table.specs.TableLaws.{table-answer-exact}
+use Rattle.table.specs.TableReader.{TableAnswer, TableAnswer.table, TableAnswer.no-table}
 use Rattle.commands.specs.Bounds.{arities}
 use Rattle.machine.specs.Published.{structs}
-use Rattle.run.specs.Entry.{Begun.begun, Begun.not-begun, of-read, of-table}
-use Rattle.run.specs.EntryStreams.{table-read}
+use Rattle.run.specs.Entry.{Begun, Begun.begun, Begun.not-begun, of-read, of-table, of-checked}
 use Rattle.memory.specs.Layout.{head-size, row-size}
 use Rattle.memory.specs.Plan.{At}
 use Rattle.tables.specs.declared.TableRead.the-variants.{Instances, Refused}
 use Rattle.tables.specs.Params.{lists-of, Tables}
-use Rattle.tables.specs.TableTold.{table-told, TableLaid}
-use Rattle.tables.specs.ReadStands.{program-tables, answer-is, read-stands}
+use Rattle.tables.specs.TableTold.{table-told, image-answer, TableLaid}
+use Rattle.tables.specs.ReadStands.{program-tables, image-answer-is, image-begins, image-right, image-stands}
 use Rattle.entry.specs.Stages.{Admitted, Seated}
 use Rattle.entry.specs.AdmitLaws.{admitted-accepted}
 
@@ -34,17 +32,22 @@ module _ {s counts types : List ℕ} {at depth : ℕ} {p : Program} (a : Admitte
   pub admitted-tables : Tables counts types
   admitted-tables = rw (a .counted, typed) (program-tables p (admitted-counts a))
 
-  module _ (t : List ℕ) where
+  module _ (y : List ℕ) where
     abbrev told : TableAnswer
-    told = table-of-stream (lists-of counts types) t
+    told = image-answer (lists-of counts types) y
 
     -- what was read, from what was answered
-    came : table-told (length counts) told ≡ table-told (structs p) (table-of-stream (p .params) t)
-    came = rw (a .counted, typed) (answer-is p (admitted-counts a) t)
+    came : table-told (length counts) told ≡ table-told (structs p) (image-answer (p .params) y)
+    came = rw (a .counted, typed) (image-answer-is p (admitted-counts a) y)
 
-    pub stream-refused : (n : ℕ) → table-told (length counts) told ≡ Refused n → table-read (of-read (read s)) t ≡ not-begun n
-    unfolding table-read of-table
-    stream-refused n e = rw (admitted-accepted a) (go (table-of-stream (p .params) t) (sym came ∙ e))
+    -- a run begins with what the image comes to
+    goes : {b : Begun} → of-table p (image-answer (p .params) y) ≡ b → of-checked (of-read (read s)) y ≡ b
+    unfolding of-checked
+    goes e = rw (admitted-accepted a) (sym (image-begins p (admitted-counts a) y) ∙ e)
+
+    pub image-refused : (n : ℕ) → table-told (length counts) told ≡ Refused n → of-checked (of-read (read s)) y ≡ not-begun n
+    unfolding of-table
+    image-refused n e = goes (go (image-answer (p .params) y) (sym came ∙ e))
       where
         go : (q : TableAnswer) → table-told (structs p) q ≡ Refused n → of-table p q ≡ not-begun n
         go (table rs) i = let z : _≡_ {A = ℕ} 0 1 = cc in absurd (omega arith)
@@ -53,24 +56,24 @@ module _ {s counts types : List ℕ} {at depth : ℕ} {p : Program} (a : Admitte
     -- the records behind an answer
     module _ {n : ℕ} (h c h′ c′ : List ℕ) (long : length h ≡ head-size * max-instances) (wide : length c ≡ row-size * max-instances)
         (laid : TableLaid counts types h c told h′ c′) where
-      pub stream-seated : table-told (length counts) told ≡ Instances n
-          → (rs : List Record) × (table-read (of-read (read s)) t ≡ begun p rs) × (Seated s counts at depth n h′ c′ p rs)
-      unfolding table-read of-table
-      stream-seated e = go (table-of-stream (p .params) t) refl
+      pub image-seated : table-told (length counts) told ≡ Instances n
+          → (rs : List Record) × (of-checked (of-read (read s)) y ≡ begun p rs) × (Seated s counts at depth n h′ c′ p rs)
+      unfolding of-table
+      image-seated e = go (image-answer (p .params) y) refl
         where
-          go : (q : TableAnswer) → table-of-stream (p .params) t ≡ q
-              → (rs : List Record) × (table-read (of-read (read s)) t ≡ begun p rs) × (Seated s counts at depth n h′ c′ p rs)
+          go : (q : TableAnswer) → image-answer (p .params) y ≡ q
+              → (rs : List Record) × (of-checked (of-read (read s)) y ≡ begun p rs) × (Seated s counts at depth n h′ c′ p rs)
           go (table rs) q =
               let i : table-told (structs p) (table rs) ≡ Instances n = ap (table-told (structs p)) (sym q) ∙ sym came ∙ e in
               let k : n ≡ structs p + length rs = cc in
-              let w : TableLaid (arities p) (types-table (p .params)) h c (table-of-stream (lists-of (arities p) (types-table (p .params))) t) h′ c′ =
+              let w : TableLaid (arities p) (types-table (p .params)) h c (image-answer (lists-of (arities p) (types-table (p .params))) y) h′ c′ =
               rw (a .counted, typed) at laid in (
                 rs,
-                rw (admitted-accepted a, table-read, q),
+                goes (ap (of-table p) q),
                 record {
                   admitted = a;
-                  right = table-answer-exact (p .params) t rs .0 q .0;
-                  stands = λ list items b o. rw k (read-stands p (admitted-counts a) rs h c h′ c′ long wide list (At items) b o t q w);
+                  right = image-right p (admitted-counts a) y rs q;
+                  stands = λ list items b o. rw k (image-stands p (admitted-counts a) rs h c h′ c′ long wide list (At items) b o y q w);
                 },
               )
           go (no-table k) q =

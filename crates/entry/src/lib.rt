@@ -13,7 +13,6 @@ ghost use Rattle.types.specs.Limits.{table-blocks, max-commands, max-turns};
 ghost use Rattle.blocks.specs.Blocks.{block-size};
 ghost use Rattle.program.specs.Reader.{read};
 ghost use Rattle.run.specs.Entry.{of-read, of-checked, report, run-report, run-output, run-list};
-ghost use Rattle.run.specs.EntryStreams.{table-read};
 ghost use Rattle.entry.specs.Answer.{answer, table-refusal};
 ghost use Rattle.entry.specs.Stages.{Answers, Admission, Seating, Runs};
 
@@ -128,42 +127,7 @@ fn with_room(
     begun(s, counts, at, depth, n, heads, cells, turns, output, list)
 }
 
-// A table stream: 11 and 12, its instances in memory, and what stands behind them.
-fn of_records(
-    s: &[u8],
-    counts: &[u8],
-    types: &[u8],
-    at: usize,
-    depth: u8,
-    stream: &[u8],
-    turns: &[u8],
-    output: &mut [u8],
-    list: &mut [u64],
-) -> Report
-    requires { ⌜ Admission (now s) (now counts) (now types) at depth ⌝ }
-    ensures { λ r. ⌜ Answers (table-read (of-read (read (now (s .entry)))) (now (stream .entry))) (now (turns .entry)) (now (output .entry)) (now (list .entry)) r (now (output .exit)) (now (list .exit)) ⌝ }
-{
-    let mut heads = [0usize; HEADS];
-    let mut cells = [0u64; CELLS];
-    let r = tables::read(stream, counts, types, &mut heads, &mut cells);
-    let TableRead::Instances(n) = r else {
-        return refused(table_refusal(r));
-    };
-    with_room(
-        s,
-        counts,
-        at,
-        depth,
-        n,
-        &mut heads,
-        &mut cells,
-        turns,
-        output,
-        list,
-    )
-}
-
-// A table image: 9 and 10, and its stream.
+// A table image: 9 to 12, its instances in memory, and what stands behind them.
 fn of_table(
     s: &[u8],
     counts: &[u8],
@@ -178,18 +142,20 @@ fn of_table(
     requires { ⌜ Admission (now s) (now counts) (now types) at depth ⌝ }
     ensures { λ r. ⌜ Answers (of-checked (of-read (read (now (s .entry)))) (now (table .entry))) (now (turns .entry)) (now (output .entry)) (now (list .entry)) r (now (output .exit)) (now (list .exit)) ⌝ }
 {
-    let mut buffer = [0u8; types::TABLE_BLOCKS * blocks::PAYLOAD_SIZE];
-    let r = blocks::read_image(table, types::TABLE_BLOCKS, &mut buffer);
-    let Read::Stream(n) = r else {
-        return refused(tables::image_refusal(r));
+    let mut heads = [0usize; HEADS];
+    let mut cells = [0u64; CELLS];
+    let r = tables::read_image(table, counts, types, &mut heads, &mut cells);
+    let TableRead::Instances(n) = r else {
+        return refused(table_refusal(r));
     };
-    of_records(
+    with_room(
         s,
         counts,
-        types,
         at,
         depth,
-        &buffer[..n],
+        n,
+        &mut heads,
+        &mut cells,
         turns,
         output,
         list,

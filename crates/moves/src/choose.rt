@@ -59,12 +59,3 @@ pub fn picked_of(heads: &[usize], n: usize, count: usize, turn: u8) -> usize
 {
     holder(heads, n, turn as usize % count)
 }
-
-// The one that a turn byte picks, where some instance holds commands.
-pub fn picked(heads: &[usize], n: usize, turn: u8) -> usize
-    requires { ⌜ (head-size * n ≤ length (now heads)) × (0 < holding (now heads) 0 n) ⌝ }
-    ensures { λ l. ⌜ l ≡ picked (now (heads .entry)) n turn ⌝ }
-{
-    let count = holding(heads, n);
-    picked_of(heads, n, count, turn)
-}

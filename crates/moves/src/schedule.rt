@@ -3,9 +3,6 @@ use crate::Moved;
 use crate::begin::begin_all;
 ghost use mathlib.Core.Path.{_≡_};
 ghost use Prim.Native.Nat.{_<_, _^_};
-ghost use lib.ListN.{length, getD};
-ghost use lib.Dec.{eqb};
-ghost use Rattle.memory.specs.Plan.{end-code};
 ghost use Rattle.memory.specs.Move.{do-fix, do-round};
 ghost use Rattle.moves.specs.Numbers.{Makes, Moves};
 ghost use Rattle.moves.specs.Ready.{Movable};
@@ -13,17 +10,7 @@ ghost use Rattle.moves.specs.Ready.{Movable};
 // The codes of memory/specs/Plan.antt: those of starts lie below FIX, those of a Fix that goes round from ROUND on.
 const FIX: usize = 1024;
 
-const END: usize = 1025;
-
 const ROUND: usize = 2048;
-
-// Whether the schedule is at its end.
-pub fn ended(items: &[usize], place: usize) -> bool
-    requires { ⌜ place < length (now items) ⌝ }
-    ensures { λ r. ⌜ r ≡ eqb (getD (now (items .entry)) place 0) end-code ⌝ }
-{
-    items[place] == END
-}
 
 // A Fix begins, or is one too many.
 fn fix(place: usize, fixes: usize, stable: usize) -> Moved

@@ -1,9 +1,10 @@
 -- The fuel of the executable run is enough (01, 'Table and turns'): more of it changes nothing, and none is the reason of `jammed`.
 -- So a run does what `Ran` says, which no fuel is in.
-use Prim.Native.Nat.{ℕ, zero, suc, _*_, _<_, _≤_}
-use mathlib.Core.Path.{_≡_, refl, ap, sym, _∙_}
+use Prim.Native.Nat.{ℕ, zero, suc, _+_, _*_, _<_, _≤_}
+use mathlib.Core.Path.{_≡_, refl, ap, sym, _∙_, subst}
 use mathlib.Core.Logic.{_↔_}
 use mathlib.Core.Bool.{Bool, true, false}
+use mathlib.Core.Option.{none, some}
 use mathlib.Core.List.{List, [], _∷_}
 use native.Mathlib.Omega.{arith}
 use lib.ListN.{length}
@@ -13,10 +14,13 @@ use Rattle.machine.specs.Machine.{Machine, Out, Out.next, Out.refused, Out.stuc
 use Rattle.machine.specs.Measure.{bound, passages, measure, Moved, Moved.unmoved, Moved.moved as moved-on}
 use Rattle.machine.specs.MeasureLaws.{move-falls}
 use Rattle.run.specs.Turns.{chosen}
-use Rattle.run.specs.Holders.{holders}
+use Rattle.run.specs.Holders.{holders, due}
+use Rattle.run.specs.TurnLaws.{due-none, due-some, some-due}
 use Rattle.machine.specs.Stops.{ended}
 use Rattle.run.specs.Run.{Outcome, Outcome.stopped, Outcome.jammed, later, Settled, Settled.hold, Settled.stop, is-done, moved, settle-by, settle, fuel, taken, turn, at-last, run}
-use Rattle.run.specs.Settles.{Settles, Settles.holds, Settles.ends, Settles.refuses, Settles.sticks, Settles.moves, Ran, Ran.ends, Ran.refuses, Ran.sticks, Ran.moves, Ran.lasts, Ran.fails, Ran.jams, Ran.takes}
+use Rattle.run.specs.Settles.{Settles, Settles.holds, Settles.ends, Settles.refuses, Settles.sticks, Settles.moves, Rests, Rests.ends as at-rest, Rests.refuses as refused-at, Rests.lasts, Rests.fails, Jams.sticks as stuck-at, Jams.jams, Ran, Ran.rests, Ran.stays}
+use Rattle.run.specs.Steps.{Steps, Steps.here, Steps.silent, Steps.reads}
+use Rattle.run.specs.Visits.{Acts, Acts.moves as acts-move, Acts.takes as acts-take}
 
 -- The schedule's moves -------------------------------------------------------------
 
@@ -46,21 +50,21 @@ module _ (p : Program) (m : Machine) where
   unfolding move-by
   done-stuck e = ap (λ s. move-by p s (m .instances) (m .stability)) e
 
-  -- where nobody holds commands and the schedule is not empty, it moves
-  settle-moves : (k : Machine → Settled) → holders m ≡ [] → (m .sched ≡ done → ⊥) → settle-by k p m (holders m) ≡ moved k m (move p m)
+  -- where a move is due and the schedule is not empty, it is made
+  settle-moves : (k : Machine → Settled) → due m ≡ true → (m .sched ≡ done → ⊥) → settle-by k p m (holders m) ≡ moved k m (move p m)
   unfolding settle-by
-  settle-moves k g n = rw (g, not-done (m .sched) n, settle-by)
+  settle-moves k g n = rw (due-none m .0 g, not-done (m .sched) n, settle-by)
 
 module _ (p : Program) (B : ℕ) where
   -- by the cases of a move, where more than f moves cannot be made, and f are enough for the machine after it
   module _ (f : ℕ) (m : Machine) (h : Enough B (suc f) m) (r : (m′ : Machine) → Enough B f m′ → Settles p m′ (settle p f m′)) where
-    by-move : holders m ≡ [] → (m .sched ≡ done → ⊥) → (o : Out) → move p m ≡ o → Settles p m (moved (λ m′. settle p f m′) m o)
+    by-move : due m ≡ true → (m .sched ≡ done → ⊥) → (o : Out) → move p m ≡ o → Settles p m (moved (λ m′. settle p f m′) m o)
     unfolding moved
     by-move g n (next m′) e = let (a, b) = move-falls p B m (h .0) e in moves g e (r m′ (b, omega arith))
     by-move g n (refused k) e = refuses g e
     by-move g n stuck e = sticks g n e
 
-    by-done : holders m ≡ [] → (t : Bool) → is-done (m .sched) ≡ t
+    by-done : due m ≡ true → (t : Bool) → is-done (m .sched) ≡ t
         → Settles p m (elim t [ true ↦ stop (stopped ended 0 m) | false ↦ moved (λ m′. settle p f m′) m (move p m) ])
     by-done g true e = ends g (is-done-done (m .sched) .0 e)
     by-done g false e =
@@ -68,7 +72,7 @@ module _ (p : Program) (B : ℕ) where
 
     by-holders : (hs : List ℕ) → holders m ≡ hs → Settles p m (settle-by (λ m′. settle p f m′) p m hs)
     unfolding settle-by
-    by-holders [] g = by-done g (is-done (m .sched)) refl
+    by-holders [] g = by-done (due-none m .1 g) (is-done (m .sched)) refl
     by-holders (h ∷ hs) g = holds g
 
   -- with enough fuel, the moves lead where they lead without any
@@ -82,7 +86,7 @@ module _ (p : Program) (B : ℕ) where
   unfolding settle settle-by moved is-done
   settles-settle zero s h = absurd (omega arith)
   settles-settle (suc f) (holds g) h = rw g
-  settles-settle (suc f) (ends g e) h = rw (g, e)
+  settles-settle (suc f) {m} (ends g e) h = rw (due-none m .0 g, e)
   settles-settle (suc f) {m} (refuses g e) h =
       settle-moves p m (λ m′. settle p f m′) g (λ d. let a = done-stuck p m d in let z : _≡_ {A = ℕ} 0 1 = cc in omega arith) ∙ ap (λ o. moved (λ m′. settle p f m′) m o) e
   settles-settle (suc f) {m} (sticks g n e) h = settle-moves p m (λ m′. settle p f m′) g n ∙ ap (λ o. moved (λ m′. settle p f m′) m o) e
@@ -118,43 +122,60 @@ module _ (p : Program) where
       let (a, b) = fuel-suffices m in settles-settle p (bound (m .sched)) f (fuel-settles m) (a, omega arith)
 
   jams-stuck : {m : Machine} {x : Settled} → Settles p m x → x ≡ stop jammed
-      → (n : ℕ) × (m′ : Machine) × (Moved p n m m′) × (holders m′ ≡ []) × (m′ .sched ≡ done → ⊥) × (move p m′ ≡ stuck)
+      → (n : ℕ) × (m′ : Machine) × (Moved p n m m′) × (due m′ ≡ true) × (m′ .sched ≡ done → ⊥) × (move p m′ ≡ stuck)
   jams-stuck (holds g) e = let z : _≡_ {A = ℕ} 0 1 = cc in absurd (omega arith)
   jams-stuck (ends g d) e = let z : _≡_ {A = ℕ} 0 1 = cc in absurd (omega arith)
   jams-stuck (refuses g r) e = let z : _≡_ {A = ℕ} 0 1 = cc in absurd (omega arith)
   jams-stuck {m} (sticks g n q) e = (0, m, unmoved, g, n, q)
   jams-stuck (moves g q s) e = let (n, m′, a, b, c, d) = jams-stuck s e in (suc n, m′, moved-on q a, b, c, d)
 
-  -- fuel is not the reason of `jammed`: after some moves nobody holds commands, the schedule is not empty, and no rule moves it
+  -- fuel is not the reason of `jammed`: after some moves one is due, the schedule is not empty, and no rule moves it
   pub settle-jammed : (m : Machine) → settle p (fuel m) m ≡ stop jammed
-      → (n : ℕ) × (m′ : Machine) × (Moved p n m m′) × (holders m′ ≡ []) × (m′ .sched ≡ done → ⊥) × (move p m′ ≡ stuck)
+      → (n : ℕ) × (m′ : Machine) × (Moved p n m m′) × (due m′ ≡ true) × (m′ .sched ≡ done → ⊥) × (move p m′ ≡ stuck)
   settle-jammed m e = jams-stuck (fuel-settles m) e
 
   -- The whole run --------------------------------------------------------------------
+
+  ran-silent : {m m′ : Machine} {es : List ℕ} {o : Outcome} → Acts p m none m′ → Ran p m′ es o → Ran p m es o
+  ran-silent s (rests v r) = rests (silent s v) r
+  ran-silent s (stays v j) = stays (silent s v) j
+
+  ran-reads : {m m′ : Machine} {e : ℕ} {es : List ℕ} {o : Outcome} → Acts p m (some e) m′ → Ran p m′ es o → Ran p m (e ∷ es) (later o)
+  unfolding later
+  ran-reads s (rests v r) = rests (reads s v) r
+  ran-reads s (stays v j) = stays (reads s v) j
 
   -- a way F to go on from where the moves lead
   settles-ran : {m : Machine} {x : Settled} → Settles p m x → (es : List ℕ) (F : Settled → Outcome) → ((o : Outcome) → F (stop o) ≡ o)
       → ((z : Machine) (h : ℕ) (hs : List ℕ) → holders z ≡ h ∷ hs → Ran p z es (F (hold z h hs))) → Ran p m es (F x)
   settles-ran (holds {m = m} {h = h} {hs = hs} g) es F s k = k m h hs g
-  settles-ran (ends {m = m} g d) es F s k = rw (s (stopped ended 0 m)) (ends g d)
-  settles-ran (refuses {m = m} {n = n} g r) es F s k = rw (s (stopped n 0 m)) (refuses g r)
-  settles-ran (sticks g n q) es F s k = rw (s jammed) (sticks g n q)
-  settles-ran (moves g q x) es F s k = moves g q (settles-ran x es F s k)
+  settles-ran (ends {m = m} g d) es F s k = rw (s (stopped ended 0 m)) (rests here (at-rest g d))
+  settles-ran (refuses {m = m} {n = n} g r) es F s k = rw (s (stopped n 0 m)) (rests here (refused-at g r))
+  settles-ran (sticks g n q) es F s k = rw (s jammed) (stays here (stuck-at g n q))
+  settles-ran (moves g q x) es F s k = ran-silent (acts-move g q) (settles-ran x es F s k)
 
-  by-command : (es : List ℕ) (e : ℕ) (z : Machine) {h : ℕ} {hs : List ℕ} → ((m : Machine) → Ran p m es (run p m es)) → holders z ≡ h ∷ hs
-      → (o : Out) → command p (chosen (h ∷ hs) e) z ≡ o → Ran p z (e ∷ es) (taken (λ m. run p m es) z o)
+  by-command : (es : List ℕ) (e : ℕ) (z : Machine) → ((m : Machine) → Ran p m es (run p m es)) → due z ≡ false
+      → (o : Out) → command p (chosen (holders z) e) z ≡ o → Ran p z (e ∷ es) (taken (λ m. run p m es) z o)
   unfolding taken
-  by-command es e z r g (next m) c = takes g c (r m) refl
-  by-command es e z r g (refused n) c = fails g c
-  by-command es e z r g stuck c = jams g c
+  by-command es e z r g (next m) c = ran-reads (acts-take g c) (r m)
+  by-command es e z r g (refused n) c = rests here (fails g c)
+  by-command es e z r g stuck c = stays here (jams g c)
 
   -- a run does what it does without fuel
   pub run-ran : (es : List ℕ) (m : Machine) → Ran p m es (run p m es)
   unfolding run at-last turn
-  run-ran [] m = settles-ran (fuel-settles m) [] at-last (λ o. refl) (λ z h hs g. lasts g)
+  run-ran [] m = settles-ran (fuel-settles m) [] at-last (λ o. refl) (λ z h hs g. rests here (lasts (some-due z g)))
   run-ran (e ∷ es) m =
       settles-ran (fuel-settles m) (e ∷ es) (turn (λ m′. run p m′ es) p e) (λ o. refl)
-      λ z h hs g. by-command es e z (λ m′. run-ran es m′) g (command p (chosen (h ∷ hs) e) z) refl
+      λ z h hs g. by-command es e z (λ m′. run-ran es m′) (some-due z g) (command p (chosen (h ∷ hs) e) z) (ap (λ l. command p (chosen l e) z) g)
+
+  -- so it has come to its number where its steps lead
+  pub run-rests : (es : List ℕ) (m : Machine) {z : Machine} {n t : ℕ} → run p m es ≡ stopped n t z
+      → (fs : List ℕ) × (Steps (Acts p) m es t z fs) × (Rests p z fs n)
+  run-rests es m {z} {n} {t} e = go (subst (Ran p m es) e (run-ran es m))
+    where
+      go : Ran p m es (stopped n t z) → (fs : List ℕ) × (Steps (Acts p) m es t z fs) × (Rests p z fs n)
+      go (rests {fs = fs} v r) = (fs, v, r)
 
   -- moves that lead to an outcome are the whole run
   run-stop : (es : List ℕ) {m : Machine} {o : Outcome} → Settles p m (stop o) → run p m es ≡ o
@@ -162,26 +183,33 @@ module _ (p : Program) where
   run-stop [] s = ap at-last (settled s)
   run-stop (e ∷ es) s = ap (turn (λ m′. run p m′ es) p e) (settled s)
 
-  -- a move where nobody holds commands leaves the run to the next machine
-  pub run-moves : (es : List ℕ) (m : Machine) {m′ : Machine} → holders m ≡ [] → move p m ≡ next m′ → run p m es ≡ run p m′ es
+  -- a move that is due leaves the run to the next machine
+  pub run-moves : (es : List ℕ) (m : Machine) {m′ : Machine} → due m ≡ true → move p m ≡ next m′ → run p m es ≡ run p m′ es
   unfolding run
   run-moves [] m {m′} g q = ap at-last (settled (moves g q (fuel-settles m′)))
   run-moves (e ∷ es) m {m′} g q = ap (turn (λ z. run p z es) p e) (settled (moves g q (fuel-settles m′)))
 
   -- a turn
-  run-turn : (e : ℕ) (es : List ℕ) (m : Machine) {h : ℕ} {hs : List ℕ} {o : Out} → holders m ≡ h ∷ hs → command p (chosen (h ∷ hs) e) m ≡ o
+  run-turn : (e : ℕ) (es : List ℕ) (m : Machine) {o : Out} → due m ≡ false → command p (chosen (holders m) e) m ≡ o
       → run p m (e ∷ es) ≡ taken (λ m′. run p m′ es) m o
   unfolding run turn
-  run-turn e es m g c = ap (turn (λ m′. run p m′ es) p e) (settled (holds g)) ∙ ap (taken (λ m′. run p m′ es) m) c
+  run-turn e es m g c =
+      let (h, hs, q) = due-some m g in
+      ap (turn (λ m′. run p m′ es) p e) (settled (holds q)) ∙ ap (taken (λ m′. run p m′ es) m) (ap (λ l. command p (chosen l e) m) (sym q) ∙ c)
 
-  -- what it does without fuel, a run does
-  pub ran-run : {m : Machine} {es : List ℕ} {o : Outcome} → Ran p m es o → run p m es ≡ o
+  -- what a run of a machine on its way comes to, the whole run comes to, behind the turns taken
+  pub steps-stopped : {m z w : Machine} {es fs : List ℕ} {n t k : ℕ} → Steps (Acts p) m es t z fs → run p z fs ≡ stopped n k w
+      → run p m es ≡ stopped n (t + k) w
+  unfolding taken later
+  steps-stopped {w = w} {n = n} here r = r ∙ ap (λ x. stopped n x w) (omega arith)
+  steps-stopped {m} {es = es} (silent (acts-move g q) v) r = run-moves es m g q ∙ steps-stopped v r
+  steps-stopped {m} {w = w} {n = n} (reads {es = es} (acts-take {e = e} g c) v) r =
+      run-turn e es m g c ∙ ap later (steps-stopped v r) ∙ ap (λ x. stopped n x w) (omega arith)
+
+  -- where a machine rests, its run stops
+  pub rests-run : {m : Machine} {es : List ℕ} {n : ℕ} → Rests p m es n → run p m es ≡ stopped n 0 m
   unfolding run at-last taken
-  ran-run {es = es} (ends g d) = run-stop es (ends g d)
-  ran-run {es = es} (refuses g r) = run-stop es (refuses g r)
-  ran-run {es = es} (sticks g n q) = run-stop es (sticks g n q)
-  ran-run {m} {es} (moves g q r) = run-moves es m g q ∙ ran-run r
-  ran-run (lasts g) = ap at-last (settled (holds g))
-  ran-run {m} (fails {e = e} {es = es} g c) = run-turn e es m g c
-  ran-run {m} (jams {e = e} {es = es} g c) = run-turn e es m g c
-  ran-run {m} (takes {e = e} {es = es} g c r q) = run-turn e es m g c ∙ ap later (ran-run r) ∙ sym q
+  rests-run {es = es} (at-rest g d) = run-stop es (ends g d)
+  rests-run {es = es} (refused-at g r) = run-stop es (refuses g r)
+  rests-run {m} (lasts g) = let (h, hs, q) = due-some m g in ap at-last (settled (holds q))
+  rests-run {m} (fails {e = e} {es = es} g c) = run-turn e es m g c

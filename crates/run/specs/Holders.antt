@@ -1,4 +1,5 @@
--- The instances of a machine that hold commands (01, 'Table and turns'), in label order; a byte picks one as in Turns.
+-- The instances of a machine that hold commands (01, 'Table and turns'), in label order; a byte picks one as in Turns. Where nobody does, a
+-- move of the schedule is due.
 use Prim.Native.Nat.{ℕ}
 use mathlib.Core.Bool.{Bool, true, false}
 use mathlib.Core.List.{List, [], _∷_, map}
@@ -14,3 +15,12 @@ holds-code (n ∷ c) = true
 -- the holders of a machine
 unfoldable pub holders : Machine → List ℕ
 holders m = labels-from 0 (map (λ i. holds-code (i .code)) (m .instances))
+
+-- whether no label is listed
+unfoldable pub none-of : List ℕ → Bool
+none-of [] = true
+none-of (h ∷ hs) = false
+
+-- a move of the schedule is due: nobody holds commands
+unfoldable pub due : Machine → Bool
+due m = none-of (holders m)

@@ -1,5 +1,7 @@
 pub mod Turns
 pub mod Holders
+pub mod Steps
+pub mod StepsLaws
 pub mod Runs
 pub mod Run
 pub mod Visits
@@ -25,7 +27,6 @@ pub mod FuelLaws
 pub mod RunAgrees
 pub mod RunsUnique
 pub mod HaltLaws
-pub mod PublishedVisits
 pub mod RunAgreesVisits
 pub mod StepTurns
 pub mod StepTurnsLaws

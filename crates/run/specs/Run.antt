@@ -40,7 +40,7 @@ moved k m (next m′) = k m′
 moved k m (refused n) = stop (stopped n 0 m)
 moved k m stuck = stop jammed
 
--- no turn is asked for where nobody holds commands
+-- a move that is due (`due` of Holders) is made, and no turn is asked for before it
 unfoldable pub settle-by : (Machine → Settled) → Program → Machine → List ℕ → Settled
 settle-by k p m (h ∷ hs) = hold m h hs
 settle-by k p m [] = elim (is-done (m .sched)) [ true ↦ stop (stopped ended 0 m) | false ↦ moved k m (move p m) ]

@@ -19,7 +19,7 @@ use Rattle.machine.specs.Machine.{Instance, Machine}
 use Rattle.machine.specs.Represents.{Represents-all, Represents}
 use Rattle.machine.specs.RepresentsLaws.{Still}
 use Rattle.run.specs.Turns.{labels-from, chosen, holds-coms, holders-of}
-use Rattle.run.specs.Holders.{holds-code, holders}
+use Rattle.run.specs.Holders.{holds-code, holders, none-of, due}
 
 -- Labels ---------------------------------------------------------------------------
 
@@ -101,6 +101,33 @@ pub holders-still : (m : Machine) → (holders m ≡ []) ↔ (Still (m .instance
 unfolding holders
 holders-still m = none-map (λ i. holds-code (i .code)) (λ i. i .code ≡ []) (λ i. code-none (i .code)) (m .instances)
 
+none-none : (hs : List ℕ) → (none-of hs ≡ true) ↔ (hs ≡ [])
+unfolding none-of
+none-none [] = (λ e. refl, λ e. refl)
+none-none (h ∷ hs) = (λ e. cc, λ e. cc)
+
+-- and there a move of the schedule is due
+pub due-none : (m : Machine) → (due m ≡ true) ↔ (holders m ≡ [])
+unfolding due
+due-none m = none-none (holders m)
+
+pub due-still : (m : Machine) → due m ≡ true → Still (m .instances)
+due-still m d = holders-still m .0 (due-none m .0 d)
+
+some-of : (hs : List ℕ) → none-of hs ≡ false → (l : ℕ) × (ls : List ℕ) × (hs ≡ l ∷ ls)
+unfolding none-of
+some-of [] e = let y : true ≡ false = cc in let z : _≡_ {A = ℕ} 0 1 = cc in absurd (omega arith)
+some-of (h ∷ hs) e = (h, hs, refl)
+
+-- elsewhere someone holds commands
+pub due-some : (m : Machine) → due m ≡ false → (h : ℕ) × (hs : List ℕ) × (holders m ≡ h ∷ hs)
+unfolding due
+due-some m d = some-of (holders m) d
+
+pub some-due : (m : Machine) {h : ℕ} {hs : List ℕ} → holders m ≡ h ∷ hs → due m ≡ false
+unfolding due none-of
+some-due m g = ap none-of g
+
 -- and so in a published state
 pub holders-done : (σ : List Inst) → (holders-of σ ≡ []) ↔ (Done σ)
 unfolding holders-of
@@ -140,24 +167,25 @@ unfolding chosen
 chosen-place hs e h = ap (λ i. getD hs i 0) (mod-eq-of-lt h)
 
 -- every byte picks one of the holders
-pub chosen-among : (h : ℕ) (hs : List ℕ) (e : ℕ) → (i : ℕ) × (i < length (h ∷ hs)) × (chosen (h ∷ hs) e ≡ getD (h ∷ hs) i 0)
+pub chosen-among : (hs : List ℕ) (e : ℕ) → 0 < length hs → (i : ℕ) × (i < length hs) × (chosen hs e ≡ getD hs i 0)
 unfolding chosen
-chosen-among h hs e = (e % length (h ∷ hs), mod-lt e (omega arith), refl)
+chosen-among hs e b = (e % length hs, mod-lt e b, refl)
 
--- a byte picks an existing instance that holds commands
-pub chosen-holds : (m : Machine) (e : ℕ) {h : ℕ} {hs : List ℕ} → holders m ≡ h ∷ hs
-    → (i : Instance) × (getElem? (m .instances) (chosen (h ∷ hs) e) ≡ some i) × (i .code ≡ [] → ⊥)
+-- a byte picks an existing instance that holds commands, where no move is due
+pub chosen-holds : (m : Machine) (e : ℕ) → due m ≡ false
+    → (i : Instance) × (getElem? (m .instances) (chosen (holders m) e) ≡ some i) × (i .code ≡ [] → ⊥)
 unfolding holders
-chosen-holds m e {h} {hs} g =
+chosen-holds m e g =
     let f : Instance → Bool = λ i. holds-code (i .code) in
-    let (j, c, d) = chosen-among h hs e in
-    let (k, a, b) = labels-at 0 (map f (m .instances)) j (rw g c) in
+    let (h, hs, s) = due-some m g in
+    let (j, c, d) = chosen-among (holders m) e (rw s (omega arith)) in
+    let (k, a, b) = labels-at 0 (map f (m .instances)) j c in
     let (i, u, v) = at-map f (m .instances) k b in
-    let w : chosen (h ∷ hs) e ≡ k = d ∙ (rw g at a) ∙ omega arith in
+    let w : chosen (holders m) e ≡ k = d ∙ a ∙ omega arith in
     (i, rw w u, λ n. let z = code-none (i .code) .1 n in let y : true ≡ false = cc in let x : _≡_ {A = ℕ} 0 1 = cc in omega arith)
 
 -- its label is below the number of instances
-pub chosen-below : (m : Machine) (e : ℕ) {h : ℕ} {hs : List ℕ} → holders m ≡ h ∷ hs → chosen (h ∷ hs) e < length (m .instances)
+pub chosen-below : (m : Machine) (e : ℕ) → due m ≡ false → chosen (holders m) e < length (m .instances)
 chosen-below m e g = let (i, a, b) = chosen-holds m e g in below (m .instances) _ a
 
 -- each instance that holds commands is picked by some byte, of those below the number of holders

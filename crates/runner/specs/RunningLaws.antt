@@ -11,7 +11,8 @@ use Rattle.program.specs.Tree.{Program}
 use Rattle.machine.specs.Machine.{Machine}
 use Rattle.machine.specs.Stops.{out-of-turns}
 use Rattle.run.specs.Run.{Outcome.stopped, run}
-use Rattle.run.specs.Visits.{Visits, Visits.here}
+use Rattle.run.specs.Steps.{Steps.here}
+use Rattle.run.specs.Visits.{Visits}
 use Rattle.memory.specs.Layout.{State, head-size, refused}
 use Rattle.memory.specs.Plan.{end-code}
 use Rattle.memory.specs.Act.{full, exceeded, act}
@@ -48,7 +49,7 @@ module _ {p : Program} {counts list items spans : List ℕ} where
 
   module _ {m : Machine} where
     pub moves-none : {z : State} → Ready p counts list items spans m z → Moving p counts list items spans m z
-    moves-none r = moving r (λ es. here)
+    moves-none r = moving r (λ es. (0, here))
 
     module _ {z : State} where
       -- where no Fix was refused, memory is ready

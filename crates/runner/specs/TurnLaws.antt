@@ -2,6 +2,7 @@
 -- which the run stops; there is no third case.
 use Prim.Native.Nat.{ℕ, _<_, _≤_}
 use mathlib.Core.Path.{_≡_, refl, ap, sym, _∙_, subst}
+use mathlib.Core.Bool.{true, false}
 use mathlib.Core.List.{List, [], _∷_}
 use native.Mathlib.Omega.{arith}
 use lib.ListN.{length, getD}
@@ -10,18 +11,19 @@ use Rattle.program.specs.Tree.{Program}
 use Rattle.machine.specs.Published.{Sched.done, structs}
 use Rattle.machine.specs.Machine.{Instance, Machine, Out, Out.next, Out.refused, Out.stuck, command, move}
 use Rattle.run.specs.Turns.{chosen}
-use Rattle.run.specs.Holders.{holders, holds-code}
+use Rattle.run.specs.Holders.{holders, holds-code, none-of, due}
 use Rattle.machine.specs.Stops.{ended, out-of-turns}
 use Rattle.run.specs.Run.{Outcome.stopped, run}
-use Rattle.run.specs.Settles.{Ran.ends as ran-ends, Ran.refuses as ran-refuses, Ran.lasts as ran-lasts, Ran.fails as ran-fails}
-use Rattle.run.specs.FuelLaws.{ran-run}
-use Rattle.run.specs.Visits.{Visits.here, Visits.moves as visits-move, Visits.takes as visits-take}
+use Rattle.run.specs.Settles.{Rests.ends as rests-ends, Rests.refuses as rests-refuses, Rests.lasts as rests-lasts, Rests.fails as rests-fails}
+use Rattle.run.specs.FuelLaws.{rests-run}
+use Rattle.run.specs.Steps.{Steps.here, Steps.silent, Steps.reads}
+use Rattle.run.specs.Visits.{Acts.moves as acts-move, Acts.takes as acts-take}
 use Rattle.sound.specs.Advance.{Kept}
 use Rattle.sound.specs.CommandKept.{Refused, command-kept}
 use Rattle.sound.specs.MoveKept.{Blocked, move-kept}
 use Rattle.sound.specs.HolderLaws.{chosen-holds}
-use Rattle.sound.specs.NeverStuckLaws.{visits-good}
-use Rattle.sound.specs.TabledLaws.{visits-tabled}
+use Rattle.sound.specs.NeverStuckLaws.{acts-good}
+use Rattle.sound.specs.TabledLaws.{acts-tabled}
 use Rattle.memory.specs.Layout.{State, refused as refusing}
 use Rattle.memory.specs.Plan.{end-code, At}
 use Rattle.memory.specs.PlanLaws.{at-end-done}
@@ -42,27 +44,31 @@ use Rattle.runner.specs.Counting.{fewer}
 use Rattle.runner.specs.CountLaws.{holders-behind}
 use Rattle.runner.specs.Running.{busy, Advanced, Advanced.advanced, Advanced.blocked, Turned, Turned.turned, Turned.failed}
 
-none-left : (l : List ℕ) → length l ≡ 0 → l ≡ []
+none-left : (l : List ℕ) → length l ≡ 0 → none-of l ≡ true
+unfolding none-of
 none-left [] e = refl
 none-left (x ∷ l) e = absurd (omega arith)
 
-some-left : (l : List ℕ) → 0 < length l → (h : ℕ) × (hs : List ℕ) × (l ≡ h ∷ hs)
+some-left : (l : List ℕ) → 0 < length l → none-of l ≡ false
+unfolding none-of
 some-left [] e = absurd (omega arith)
-some-left (h ∷ hs) e = (h, hs, refl)
+some-left (h ∷ hs) e = refl
 
 module _ {p : Program} {counts list items spans : List ℕ} {m : Machine} {z : State} (r : Ready p counts list items spans m z) where
-  -- memory says whether anyone holds commands
-  none-hold : busy z ≡ 0 → holders m ≡ []
+  -- memory says whether a move of the schedule is due
+  none-hold : busy z ≡ 0 → due m ≡ true
+  unfolding due
   none-hold h = none-left (holders m) (sym (holding-same m (r .stands)) ∙ h)
 
-  some-hold : 0 < busy z → (h : ℕ) × (hs : List ℕ) × (holders m ≡ h ∷ hs)
+  some-hold : 0 < busy z → due m ≡ false
+  unfolding due
   some-hold b = some-left (holders m) (rw (holding-same m (r .stands)) at b)
 
   -- The schedule ------------------------------------------------------------------
 
   -- its end
   pub ends : busy z ≡ 0 → getD items (z .place) 0 ≡ end-code → (es : List ℕ) → run p m es ≡ stopped ended 0 m
-  ends h e es = ran-run p (ran-ends (none-hold h) (at-end-done items (r .stands .scheduled) .0 e))
+  ends h e es = rests-run p (rests-ends (none-hold h) (at-end-done items (r .stands .scheduled) .0 e))
 
   module _ (e : getD items (z .place) 0 ≡ end-code → ⊥) where
     not-done : m .sched ≡ done → ⊥
@@ -83,20 +89,20 @@ module _ {p : Program} {counts list items spans : List ℕ} {m : Machine} {z : S
     module _ (h : busy z ≡ 0) where
       comes : (o : Out) → move p m ≡ o → Follows list items z (move-on items spans z) o → Advanced p counts list items spans m z (move-on items spans z)
       comes (next m′) q S =
-          let v = visits-move (none-hold h) q (here {es = []}) in
+          let s = acts-move (none-hold h) q in
           advanced
           (record {
             prepared = r .prepared;
-            good = visits-good (r .prepared .firm) (r .good) v;
-            tabled = visits-tabled (r .prepared .firm) (r .good) (r .tabled) v;
+            good = acts-good (r .prepared .firm) s (r .good);
+            tabled = acts-tabled (r .prepared .firm) s (r .good) (r .tabled);
             stands = S;
           })
-          (λ es. visits-move (none-hold h) q here)
+          (λ es. (0, silent (acts-move (none-hold h) q) here))
       comes (refused n) q S =
-          let k = move-kept (r .prepared .firm) (m .sched) (m .instances) (m .stability) (r .good .all) (r .good .opened) not-done in
+          let k = move-kept (r .prepared .firm) (m .sched) (m .instances) (m .stability) (r .good .all) (r .good .opened) (r .good .left) not-done in
           let w : n ≡ nested = subst (Kept p Blocked) q k in
           blocked (S ∙ ap (λ (x : ℕ). refusing x z) w)
-          (λ es. ran-run p (ran-refuses (none-hold h) (q ∙ ap refused w)))
+          (λ es. rests-run p (rests-refuses (none-hold h) (q ∙ ap refused w)))
       comes stuck q S = absurd S
 
       -- a move
@@ -110,47 +116,43 @@ module _ {p : Program} {counts list items spans : List ℕ} {m : Machine} {z : S
   module _ (b : 0 < busy z) where
     -- no byte is left
     pub lasts : run p m [] ≡ stopped out-of-turns 0 m
-    lasts = let (h, hs, q) = some-hold b in ran-run p (ran-lasts q)
+    lasts = rests-run p (rests-lasts (some-hold b))
 
     module _ (e : ℕ) where
       -- the command of the instance that the byte picks finds what it needs
       pub picked-fits : Fit list counts (picked (z .heads) (z .count) e) z
       picked-fits =
-          let (h, hs, q) = some-hold b in
-          let (i, n, c, a, d) = chosen-holds m h hs e q in
-          let w : picked (z .heads) (z .count) e ≡ chosen (h ∷ hs) e = picks m (r .stands) e ∙ ap (λ (l : List ℕ). chosen l e) q in
-          rw w (fits (r .prepared .firm) (r .prepared .bounded) (r .good) list (At items) z (r .stands) (chosen (h ∷ hs) e) i a c n d)
+          let (i, n, c, a, d) = chosen-holds m e (some-hold b) in
+          rw (picks m (r .stands) e) (fits (r .prepared .firm) (r .prepared .bounded) (r .good) list (At items) z (r .stands) (chosen (holders m) e) i a c n d)
 
-      takes : (h : ℕ) (hs : List ℕ) → holders m ≡ h ∷ hs → (i : Instance) → Kept p Refused (command p (chosen (h ∷ hs) e) m)
-          → (y : State) (o : Out) → command p (chosen (h ∷ hs) e) m ≡ o → After list (At items) z y o
+      takes : (i : Instance) → Kept p Refused (command p (chosen (holders m) e) m)
+          → (y : State) (o : Out) → command p (chosen (holders m) e) m ≡ o → After list (At items) z y o
           → Turned p counts list items spans m e z y
-      takes h hs q i k y (next m′) c S =
-          let v = visits-take {e = e} q c (here {es = []}) in
+      takes i k y (next m′) c S =
+          let s = acts-take {e = e} (some-hold b) c in
           turned
           (record {
             prepared = r .prepared;
-            good = visits-good (r .prepared .firm) (r .good) v;
-            tabled = visits-tabled (r .prepared .firm) (r .good) (r .tabled) v;
+            good = acts-good (r .prepared .firm) s (r .good);
+            tabled = acts-tabled (r .prepared .firm) s (r .good) (r .tabled);
             stands = S;
           })
-          (ap (λ (l : List ℕ). command p (chosen l e) m) q ∙ c)
-          (λ es. visits-take q c here)
-      takes h hs q i k y (refused n) c S =
-          failed S (subst (Kept p Refused) c k) (λ es. ran-run p (ran-fails q c))
-      takes h hs q i k y stuck c S = absurd S
+          c
+          (λ es. (1, reads (acts-take (some-hold b) c) here))
+      takes i k y (refused n) c S =
+          failed S (subst (Kept p Refused) c k) (λ es. rests-run p (rests-fails (some-hold b) c))
+      takes i k y stuck c S = absurd S
 
       -- a turn
       pub turned-by : Turned p counts list items spans m e z (act list counts (picked (z .heads) (z .count) e) z)
       turned-by =
-          let (h, hs, q) = some-hold b in
-          let (i, n, c, a, d) = chosen-holds m h hs e q in
-          let w : picked (z .heads) (z .count) e ≡ chosen (h ∷ hs) e = picks m (r .stands) e ∙ ap (λ (l : List ℕ). chosen l e) q in
-          rw w
-          (takes h hs q i (command-kept (r .prepared .firm) (r .good) (chosen (h ∷ hs) e) i a n c d)
-          (act list counts (chosen (h ∷ hs) e) z)
-          (command p (chosen (h ∷ hs) e) m)
+          let (i, n, c, a, d) = chosen-holds m e (some-hold b) in
+          rw (picks m (r .stands) e)
+          (takes i (command-kept (r .prepared .firm) (r .good) (chosen (holders m) e) i a n c d)
+          (act list counts (chosen (holders m) e) z)
+          (command p (chosen (holders m) e) m)
           refl
-          (acts (r .prepared .firm) (r .prepared .bounded) (r .good) list (At items) z (r .stands) (chosen (h ∷ hs) e) i a c n d))
+          (acts (r .prepared .firm) (r .prepared .bounded) (r .good) list (At items) z (r .stands) (chosen (holders m) e) i a c n d))
 
       -- and as many hold commands behind it, or one fewer
       pub counted : {m′ : Machine} {y : State} → Ready p counts list items spans m′ y → command p (chosen (holders m) e) m ≡ next m′

@@ -80,6 +80,7 @@ module _ {p : Program} {m : Machine} (good : Good p m) (l : ℕ) (i : Instance) 
               place = passing (f k);
             });
         opened = good .opened;
+        left = good .left;
       }
 
   -- a command that writes no variable, makes no instance and is no push this

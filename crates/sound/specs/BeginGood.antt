@@ -20,7 +20,7 @@ use Rattle.machine.specs.Published.{Sched, of-item, of-items, structs}
 use Rattle.machine.specs.Machine.{Instance}
 use Rattle.run.specs.Begin.{resting, nulls, first-instances, begin}
 use Rattle.sound.specs.Needs.{Of}
-use Rattle.sound.specs.Invariant.{GoodInst, Unbegun, Open, Open.open-done, Open.open-start, Open.open-start-in, Open.open-fix, Good, Nulls}
+use Rattle.sound.specs.Invariant.{GoodInst, Unbegun, Open, Open.open-done, Open.open-start, Open.open-start-in, Open.open-fix, Good, Nulls, Left.whole}
 use Rattle.sound.specs.ElemLaws.{none-some, some-is, at-append, at-joined, at-behind, at-below, at-map, map-at, all-elem}
 use Rattle.sound.specs.SizedLaws.{lasting-of, default-lasts}
 use Rattle.sound.specs.AcceptedLaws.{params-counted}
@@ -158,4 +158,5 @@ module _ (p : Program) (counts : Counts p) (rs : List Record) where
         each = λ l i e. first-good l i (at-joined (nulls 0 (p .params)) (map (λ r. resting (r .struct) (r .values)) rs) l i e);
       };
       opened = open-items (p .schedule);
+      left = whole;
     }

@@ -50,6 +50,7 @@ module _ {p : Program} {m : Machine} (good : Good p m) (l : ℕ) (i : Instance) 
   cons-kept f g = record {
     all = good-change p cons-keeps (good .all) (λ r x e. split r x (at-snoc (set (m .instances) l actor) (at-rest k vs) r x e));
     opened = rw (meet-length false (m .stability)) (good .opened);
+    left = good .left;
   }
     where
       old : (r : ℕ) (x : Instance) → getElem? (set (m .instances) l actor) r ≡ some x → Dec (r ≡ l)

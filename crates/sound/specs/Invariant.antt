@@ -13,7 +13,7 @@ use Rattle.program.specs.Tree.{Stmts, Program}
 use Rattle.commands.specs.Context.{params-of, body-local, context, step-of}
 use Rattle.commands.specs.Noted.{noted}
 use Rattle.table.specs.Table.{Each}
-use Rattle.machine.specs.Published.{Sched, Sched.done, Sched.start, Sched.start-in, Sched.fixpoint, Sched.active, Env, Env.env, lookup, structs}
+use Rattle.machine.specs.Published.{Sched, Sched.done, Sched.start, Sched.start-in, Sched.fixpoint, Sched.active, before, of-items, Env, Env.env, lookup, structs}
 use Rattle.machine.specs.Machine.{Tagged, Instance, Machine}
 use Rattle.commands.specs.Tags.{Tags, Way, at-start}
 use Rattle.commands.specs.Living.{alive, lives-at, Among}
@@ -68,6 +68,15 @@ pub data Open : Sched → ℕ → Type 0 where
   open-fix : {k : ℕ} {f s : Sched} → Unbegun f → Open s k → Open (fixpoint f s) k
   open-active : {k : ℕ} {f s : Sched} → Unbegun f → Open s k → Open (active f s) (suc k)
 
+-- the schedules that moves leave of one, whatever the stability entries were
+pub data Left (r : Sched) : Sched → Type 0 where
+  whole : Left r r
+  past : {n : ℕ} {s : Sched} → Left r (start n s) → Left r s
+  past-in : {k n : ℕ} {s : Sched} → Left r (start-in k n s) → Left r s
+  into : {f s : Sched} → Left r (fixpoint f s) → Left r (before f (active f s))
+  again : {f s : Sched} → Left r (active f s) → Left r (before f (active f s))
+  out : {f s : Sched} → Left r (active f s) → Left r s
+
 -- the null instance of each struct is there
 abbrev pub Nulls : Program → List Instance → Type 0
 Nulls p is = (k : ℕ) → k < structs p → (i : Instance) × (getElem? is k ≡ some i) × (i .struct ≡ k)
@@ -81,3 +90,5 @@ pub record GoodAll (p : Program) (is : List Instance) : Type 0 where
 pub record Good (p : Program) (m : Machine) : Type 0 where
   pub all : GoodAll p (m .instances)
   pub opened : Open (m .sched) (length (m .stability))
+  -- its schedule is left of the program's
+  pub left : Left (of-items (p .schedule)) (m .sched)

@@ -9,11 +9,11 @@ use lib.ListN.{length}
 use lib.Dec.{ltb, eqb}
 use Rattle.types.specs.Limits.{max-stability}
 use Rattle.program.specs.Tree.{Stmts, Program}
-use Rattle.machine.specs.Published.{Sched, Sched.done, Sched.start, Sched.start-in, Sched.fixpoint, Sched.active, before}
+use Rattle.machine.specs.Published.{Sched, Sched.done, Sched.start, Sched.start-in, Sched.fixpoint, Sched.active, before, of-items}
 use Rattle.machine.specs.Machine.{Instance, Machine, machine, Out.next, Out.refused, Out.stuck, given, started, started-in, repeat, move-by, move}
 use Rattle.machine.specs.Stops.{nested}
 use Rattle.commands.specs.Tags.{at-start, Way.start as begins}
-use Rattle.sound.specs.Invariant.{Place.passing, GoodInst, GoodAll, Unbegun, Open, Open.open-start, Open.open-start-in, Open.open-fix, Open.open-active}
+use Rattle.sound.specs.Invariant.{Place.passing, GoodInst, GoodAll, Unbegun, Open, Open.open-start, Open.open-start-in, Open.open-fix, Open.open-active, Left, Left.past, Left.past-in, Left.into, Left.again, Left.out}
 use Rattle.sound.specs.Keeps.{Keeps}
 use Rattle.sound.specs.ElemLaws.{at-map, map-at}
 use Rattle.sound.specs.GoodLaws.{inst-kept}
@@ -129,22 +129,26 @@ module _ {p : Program} (firm : Firm p) (n : ℕ) where
         go false = g
 
 -- a move keeps the invariant, or is refused with 36
-pub move-kept : {p : Program} → Firm p → (s : Sched) (is : List Instance) (b : List Bool) → GoodAll p is → Open s (length b) → (s ≡ done → ⊥)
+pub move-kept : {p : Program} → Firm p → (s : Sched) (is : List Instance) (b : List Bool) → GoodAll p is → Open s (length b)
+    → Left (of-items (p .schedule)) s
+    → (s ≡ done → ⊥)
     → Kept p Blocked (move-by p s is b)
 unfolding move-by repeat
-move-kept firm done is b a o h = absurd (h refl)
-move-kept {p} firm (start n s) is b a o h = record { all = good-map p (started p n) (started-struct firm n) (started-good firm n) is a; opened = past-start o }
-move-kept {p} firm (start-in k n s) is b a o h =
-    record { all = good-map p (started-in p k n) (started-in-struct firm n k) (started-in-good firm n k) is a; opened = past-start-in o }
-move-kept {p} firm (fixpoint f s) is b a o h = go (ltb (length b) max-stability) refl
+move-kept firm done is b a o l h = absurd (h refl)
+move-kept {p} firm (start n s) is b a o l h =
+    record { all = good-map p (started p n) (started-struct firm n) (started-good firm n) is a; opened = past-start o; left = past l }
+move-kept {p} firm (start-in k n s) is b a o l h =
+    record { all = good-map p (started-in p k n) (started-in-struct firm n k) (started-in-good firm n k) is a; opened = past-start-in o; left = past-in l }
+move-kept {p} firm (fixpoint f s) is b a o l h = go (ltb (length b) max-stability) refl
   where
     go : (t : Bool) → ltb (length b) max-stability ≡ t
         → Kept p Blocked (elim t [ true ↦ next (machine (before f (active f s)) is (true ∷ b)) | false ↦ refused nested ])
-    go true e = let (u, r) = past-fix o in record { all = a; opened = open-before f u (open-active u r) }
+    go true e = let (u, r) = past-fix o in record { all = a; opened = open-before f u (open-active u r); left = into l }
     go false e = refl
-move-kept firm (active f s) is [] a o h = absurd (active-open o)
-move-kept firm (active f s) is (true ∷ b) a o h = record { all = a; opened = past-active o .1 }
-move-kept firm (active f s) is (false ∷ b) a o h = let (u, r) = past-active o in record { all = a; opened = open-before f u (open-active u r) }
+move-kept firm (active f s) is [] a o l h = absurd (active-open o)
+move-kept firm (active f s) is (true ∷ b) a o l h = record { all = a; opened = past-active o .1; left = out l }
+move-kept firm (active f s) is (false ∷ b) a o l h =
+    let (u, r) = past-active o in record { all = a; opened = open-before f u (open-active u r); left = again l }
 
 -- no move leads on from an empty schedule
 pub done-stops : (p : Program) (m : Machine) {z : Machine} → m .sched ≡ done → move p m ≡ next z → ⊥

@@ -3,8 +3,9 @@
 use Prim.Native.Nat.{ℕ}
 use mathlib.Core.Path.{_≡_, refl, sym, subst}
 use mathlib.Core.Logic.{_↔_, _⊎_, inl, inr}
-use mathlib.Core.Option.{some}
-use mathlib.Core.List.{List, [], _∷_}
+use mathlib.Core.Bool.{false}
+use mathlib.Core.Option.{Option, some}
+use mathlib.Core.List.{List}
 use lib.ListN.{drop, getElem?}
 use Rattle.program.specs.Tree.{Program}
 use Rattle.commands.specs.Bounds.{program-depth}
@@ -13,11 +14,13 @@ use Rattle.machine.specs.Published.{Sched.done, State}
 use Rattle.machine.specs.Represents.{Represents}
 use Rattle.machine.specs.Machine.{Instance, Machine, command, move}
 use Rattle.run.specs.Turns.{chosen}
-use Rattle.run.specs.Holders.{holders}
-use Rattle.run.specs.Run.{Outcome, Outcome.stopped, Outcome.jammed, later, run}
-use Rattle.run.specs.Settles.{Ran, Ran.ends, Ran.refuses, Ran.sticks, Ran.moves as moved, Ran.lasts, Ran.fails, Ran.jams, Ran.takes as took}
+use Rattle.run.specs.Holders.{holders, due}
+use Rattle.run.specs.Run.{Outcome, Outcome.stopped, Outcome.jammed, run}
+use Rattle.run.specs.Steps.{Steps.here}
+use Rattle.run.specs.StepsLaws.{steps-keep}
+use Rattle.run.specs.Settles.{Jams, Jams.sticks, Jams.jams, Ran, Ran.rests, Ran.stays}
 use Rattle.run.specs.FuelLaws.{run-ran}
-use Rattle.run.specs.Visits.{Visits, Visits.here, Visits.moves, Visits.takes}
+use Rattle.run.specs.Visits.{Acts, Acts.moves, Acts.takes, Visits}
 use Rattle.run.specs.VisitLaws.{one-way}
 use Rattle.run.specs.RunAgrees.{run-follows}
 use Rattle.run.specs.RunAgreesVisits.{run-visits, run-turns}
@@ -44,21 +47,23 @@ use Rattle.sound.specs.NeverStuck.{NeverStuck, Demand3}
 module _ {p : Program} (firm : Firm p) where
   -- a schedule move keeps the invariant, or is refused with 36
   moved-kept : {m : Machine} → Good p m → (m .sched ≡ done → ⊥) → Kept p Blocked (move p m)
-  moved-kept {m} g d = move-kept firm (m .sched) (m .instances) (m .stability) (g .all) (g .opened) d
+  moved-kept {m} g d = move-kept firm (m .sched) (m .instances) (m .stability) (g .all) (g .opened) (g .left) d
 
   -- the command of the instance that a byte picks keeps it, or is refused with 34 or 35
-  taken-kept : {m : Machine} {h : ℕ} {hs : List ℕ} (e : ℕ) → Good p m → holders m ≡ h ∷ hs
-      → (i : Instance) × (getElem? (m .instances) (chosen (h ∷ hs) e) ≡ some i) × (Kept p Refused (command p (chosen (h ∷ hs) e) m))
-  taken-kept {m} {h} {hs} e g q =
-      let (i, n, c, a, d) = chosen-holds m h hs e q in
-      (i, a, command-kept firm g (chosen (h ∷ hs) e) i a n c d)
+  taken-kept : {m : Machine} (e : ℕ) → Good p m → due m ≡ false
+      → (i : Instance) × (getElem? (m .instances) (chosen (holders m) e) ≡ some i) × (Kept p Refused (command p (chosen (holders m) e) m))
+  taken-kept {m} e g q =
+      let (i, n, c, a, d) = chosen-holds m e q in
+      (i, a, command-kept firm g (chosen (holders m) e) i a n c d)
 
-  -- every machine that a run from one with the invariant passes through has it
+  -- a step of a run keeps it,
+  pub acts-good : {m z : Machine} {a : Option ℕ} → Acts p m a z → Good p m → Good p z
+  acts-good {m} (moves h e) g = subst (Kept p Blocked) e (moved-kept g (λ s. done-stops p m s e))
+  acts-good (takes {e = e} h q) g = let (i, a, k) = taken-kept e g h in subst (Kept p Refused) q k
+
+  -- and so every machine that a run from one with the invariant passes through has it
   pub visits-good : {m z : Machine} {es fs : List ℕ} → Good p m → Visits p m es z fs → Good p z
-  visits-good g here = g
-  visits-good g (moves {m = m} h e v) =
-      visits-good (subst (Kept p Blocked) e (moved-kept g (λ s. done-stops p m s e))) v
-  visits-good g (takes {m = m} {e = e} h q v) = let (i, a, k) = taken-kept e g h in visits-good (subst (Kept p Refused) q k) v
+  visits-good g (t, v) = steps-keep (Good p) (λ m z a s h. acts-good s h) v g
 
   -- and is right
   pub visits-right : {m z : Machine} {es fs : List ℕ} → Good p m → Visits p m es z fs → Right p (program-depth p) z
@@ -71,23 +76,16 @@ abbrev Ends : Outcome → Type 0
 Ends (stopped n t z) = Unit {0}
 Ends jammed = ⊥
 
-ends-later : (o : Outcome) → Ends o → Ends (later o)
-unfolding later
-ends-later (stopped n t z) c = c
-ends-later jammed c = c
-
 module _ {p : Program} (firm : Firm p) where
-  -- so is that of every run from a machine with the invariant
+  -- with the invariant some rule fits,
+  never-jams : {m : Machine} {es : List ℕ} → Good p m → Jams p m es → ⊥
+  never-jams g (sticks h d q) = subst (Kept p Blocked) q (moved-kept firm g d)
+  never-jams g (jams {e = e} h q) = let (i, a, k) = taken-kept firm e g h in subst (Kept p Refused) q k
+
+  -- so the outcome of every run from a machine with the invariant is one
   ran-ends : {m : Machine} {es : List ℕ} {o : Outcome} → Good p m → Ran p m es o → Ends o
-  ran-ends g (ends h d) = tt
-  ran-ends g (refuses h q) = tt
-  ran-ends {m} g (sticks h d q) = absurd (subst (Kept p Blocked) q (moved-kept firm g d))
-  ran-ends g (moved h q r) = ran-ends (visits-good firm g (moves h q (here {es = []}))) r
-  ran-ends g (lasts h) = tt
-  ran-ends g (fails h q) = tt
-  ran-ends {m} g (jams {e = e} h q) = let (i, a, k) = taken-kept firm e g h in absurd (subst (Kept p Refused) q k)
-  ran-ends g (took {e = e} {es = es} {o = o} h q r w) =
-      rw w (ends-later o (ran-ends (visits-good firm g (takes {e = e} h q (here {es = []}))) r))
+  ran-ends g (rests v r) = tt
+  ran-ends g (stays {t = t} v j) = never-jams (visits-good firm g (t, v)) j
 
 -- where a condition holds at a machine of a run, every machine of it leads there, and no condition holds at another
 module _ {p : Program} {m z : Machine} {es gs : List ℕ} {n : ℕ} (at : Visits p m es z gs) (c : Condition z gs n) where
@@ -95,7 +93,7 @@ module _ {p : Program} {m z : Machine} {es gs : List ℕ} {n : ℕ} (at : Visits
   leads-last w fs v = go (one-way p at w fs v)
     where
       go : (Visits p z gs w fs) ⊎ (Visits p w fs z gs) → Visits p w fs z gs
-      go (inl u) = let (a, b) = condition-last c u in rw (a, b) here
+      go (inl u) = let (a, b) = condition-last c u in rw (a, b) (0, here)
       go (inr u) = u
 
   only-last : (w : Machine) (fs : List ℕ) → Visits p m es w fs → (k : ℕ) → Condition w fs k ↔ ((w ≡ z) × (fs ≡ gs) × (k ≡ n))

@@ -24,7 +24,9 @@ use Rattle.machine.specs.Stops.{nested}
 use Rattle.machine.specs.Performed.{Performed, Performed.pushed, Performed.pushed-this, Performed.negated, Performed.read-one, Performed.skipped, Performed.wrote, Performed.calculated, Performed.exceeding, Performed.constructed, Performed.filled, Performed.branched, Performed.no-way}
 use Rattle.machine.specs.PerformedLaws.{by-ways}
 use Rattle.run.specs.Turns.{chosen}
-use Rattle.run.specs.Visits.{Visits, Visits.here, Visits.moves, Visits.takes}
+use Rattle.run.specs.Holders.{holders}
+use Rattle.run.specs.StepsLaws.{steps-keep}
+use Rattle.run.specs.Visits.{Acts, Acts.moves, Acts.takes, Visits}
 use Rattle.run.specs.Begin.{params-in, resting, nulls, first-instances, begin}
 use Rattle.sound.specs.Invariant.{Place, Place.resting as rests, Place.passing, Good}
 use Rattle.sound.specs.Accepted.{Firm}
@@ -34,7 +36,7 @@ use Rattle.sound.specs.Keeps.{at-env-same, at-env-other}
 use Rattle.sound.specs.PassageLaws.{next-sized}
 use Rattle.sound.specs.WriteKept.{same-env}
 use Rattle.sound.specs.BeginGood.{nulls-length, null-at}
-use Rattle.sound.specs.NeverStuckLaws.{visits-good}
+use Rattle.sound.specs.NeverStuckLaws.{acts-good}
 
 -- Changes of the instances ---------------------------------------------------------
 
@@ -185,13 +187,15 @@ module _ {p : Program} (firm : Firm p) {m : Machine} (good : Good p m) (t : Tabl
 
 -- Runs -----------------------------------------------------------------------------
 
+-- a step of a run keeps it,
+pub acts-tabled : {p : Program} → Firm p → {m z : Machine} {a : Option ℕ} → Acts p m a z → Good p m → Tabled p (m .instances) → Tabled p (z .instances)
+acts-tabled {p} firm {m} (moves h e) g t = subst (Comes-to p) e (move-tabled p (m .sched) (m .stability) t)
+acts-tabled {p} firm {m} (takes {e = e} q c) g t = subst (Comes-to p) c (command-tabled firm g t (chosen (holders m) e))
+
 -- so it is in every machine that a run passes through
 pub visits-tabled : {p : Program} → Firm p → {m z : Machine} {es fs : List ℕ} → Good p m → Tabled p (m .instances) → Visits p m es z fs → Tabled p (z .instances)
-visits-tabled firm g t here = t
-visits-tabled {p} firm g t (moves {m = m} h e v) =
-    visits-tabled firm (visits-good firm g (moves h e (here {es = []}))) (subst (Comes-to p) e (move-tabled p (m .sched) (m .stability) t)) v
-visits-tabled {p} firm g t (takes {e = e} {h = h} {hs = hs} q c v) =
-    visits-tabled firm (visits-good firm g (takes {e = e} q c (here {es = []}))) (subst (Comes-to p) c (command-tabled firm g t (chosen (h ∷ hs) e))) v
+visits-tabled {p} firm g t (n, v) =
+    steps-keep (λ x. Good p x × Tabled p (x .instances)) (λ m z a s (h, k). (acts-good firm s h, acts-tabled firm s h k)) v (g, t) .1
 
 module _ (p : Program) (rs : List Record) (right : TableRight (p .params) rs) where
   abbrev front : List Instance

@@ -105,6 +105,7 @@ module _ {p : Program} (firm : Firm p) (m : Machine) (l : ℕ) (i : Instance) (a
             good-env p js r j′ (assign (j .env) v x) q (good .all)
             (param-written p firm js r j′ (j .struct) (j .env) w z v x h (of-kept k (getD (params-of p (j .struct)) v int) x o) (good .all .each r j′ q));
         opened = rw (meet-length t (m .stability)) (good .opened);
+        left = good .left;
       }
 
   module _ (good : Good p m) (g : Passage p (m .instances) l i) (d : Bool) (t : Ty) (y : ℕ) (small : y < max-locals) (same : t ≡ body-local (g .body) y int) where
@@ -136,4 +137,5 @@ module _ {p : Program} (firm : Firm p) (m : Machine) (l : ℕ) (i : Instance) (a
                     (g .locals) z (ℕ-discrete z y) (is-written d t y (i .written) z h)));
               }));
           opened = rw (meet-length b (m .stability)) (good .opened);
+          left = good .left;
         }

@@ -12,7 +12,7 @@ use Rattle.blocks.specs.declared.Found.the-variants.{Right, Wrong}
 use Rattle.program.specs.Tree.{Program}
 use Rattle.program.specs.Counts.{Counts}
 use Rattle.table.specs.Table.{Record, HeldTable, TableRight}
-use Rattle.table.specs.TableReader.{TableAnswer.table, table-of-stream}
+use Rattle.table.specs.TableReader.{TableAnswer.table}
 use Rattle.table.specs.TableLaws.{table-answer-exact}
 use Rattle.facts.specs.ProgramFacts.{types-table}
 use Rattle.machine.specs.Published.{Sched, of-items, structs}
@@ -38,9 +38,6 @@ module _ (p : Program) (counts : Counts p) where
   program-tables = params-tables (p .params) (few-all p counts) (counts .0 .1)
 
   -- the answer is that of the program's parameters
-  pub answer-is : (s : List ℕ) → table-told (length cs) (table-of-stream (lists-of cs ts) s) ≡ table-told (structs p) (table-of-stream (p .params) s)
-  answer-is s = rw (params-back (p .params) (few-all p counts), length-map (p .params) length)
-
   pub image-answer-is : (y : List ℕ)
       → table-told (length cs) (image-answer (lists-of cs ts) y) ≡ table-told (structs p) (image-answer (p .params) y)
   image-answer-is y = rw (params-back (p .params) (few-all p counts), length-map (p .params) length)
@@ -54,18 +51,19 @@ module _ (p : Program) (counts : Counts p) where
       go (Wrong f) = refl
       go Right = refl
 
-  -- an accepted table is held
-  stream-held : (s : List ℕ) (rs : List Record) → table-of-stream (p .params) s ≡ table rs → HeldTable (p .params) rs
-  unfolding TableRight
-  stream-held s rs e = table-answer-exact (p .params) s rs .0 e .0 .0
-
-  image-held : (y : List ℕ) (rs : List Record) → image-answer (p .params) y ≡ table rs → HeldTable (p .params) rs
+  -- an accepted table is right
+  pub image-right : (y : List ℕ) (rs : List Record) → image-answer (p .params) y ≡ table rs → TableRight (p .params) rs
   unfolding answer-of
-  image-held y rs e = go (fault table-blocks y) e
+  image-right y rs e = go (fault table-blocks y) e
     where
-      go : (f : Found) → answer-of (p .params) f y ≡ table rs → HeldTable (p .params) rs
+      go : (f : Found) → answer-of (p .params) f y ≡ table rs → TableRight (p .params) rs
       go (Wrong f) e = let z : _≡_ {A = ℕ} 0 1 = cc in absurd (omega arith)
-      go Right e = stream-held (stream y) rs e
+      go Right e = table-answer-exact (p .params) (stream y) rs .0 e .0
+
+  -- and so held
+  image-held : (y : List ℕ) (rs : List Record) → image-answer (p .params) y ≡ table rs → HeldTable (p .params) rs
+  unfolding TableRight
+  image-held y rs e = image-right y rs e .0
 
   -- where a table is accepted, memory stands for the machine that a run begins with
   module _ (rs : List Record) (h c h′ c′ : List ℕ) (long : length h ≡ head-size * max-instances) (wide : length c ≡ row-size * max-instances)
@@ -75,10 +73,6 @@ module _ (p : Program) (counts : Counts p) where
 
     laid-begins : HeldTable (p .params) rs → TableLaid cs ts h c (table rs) h′ c′ → Stands list P (begin p rs) (beginning (structs p + length rs) a h′ c′)
     laid-begins o w = rw (w .0, w .1, back) (laid-stands p counts h c long wide list P a at rs o)
-
-    pub read-stands : (s : List ℕ) → table-of-stream (p .params) s ≡ table rs → TableLaid cs ts h c (table-of-stream (lists-of cs ts) s) h′ c′
-        → Stands list P (begin p rs) (beginning (structs p + length rs) a h′ c′)
-    read-stands s e w = laid-begins (stream-held s rs e) (rw (ap (λ pss. table-of-stream pss s) back ∙ e) at w)
 
     pub image-stands : (y : List ℕ) → image-answer (p .params) y ≡ table rs → TableLaid cs ts h c (image-answer (lists-of cs ts) y) h′ c′
         → Stands list P (begin p rs) (beginning (structs p + length rs) a h′ c′)

@@ -29,7 +29,7 @@ pub enum TableRead {
 }
 
 // The number of a table image that is refused; 0 where it is not.
-pub fn image_refusal(r: Read) -> u8
+fn image_refusal(r: Read) -> u8
     ensures { λ n. ⌜ n ≡ image-refusal r ⌝ }
 {
     let Read::Refused(f) = r else {
@@ -70,13 +70,7 @@ fn behind(
 }
 
 // A table stream, whose instances stand in memory where it is accepted. After a refusal memory is free, of the lengths that it had.
-pub fn read(
-    s: &[u8],
-    counts: &[u8],
-    types: &[u8],
-    heads: &mut [usize],
-    cells: &mut [u64],
-) -> TableRead
+fn read(s: &[u8], counts: &[u8], types: &[u8], heads: &mut [usize], cells: &mut [u64]) -> TableRead
     requires { ⌜ Tables (now counts) (now types) ⌝ }
     requires { ⌜ (length (now heads) ≡ head-size * max-instances) × (length (now cells) ≡ row-size * max-instances) ⌝ }
     ensures { λ r. ⌜ r ≡ table-told (length (now (counts .entry))) (table-of-stream (lists-of (now (counts .entry)) (now (types .entry))) (now (s .entry))) ⌝ }

@@ -6,19 +6,9 @@ use Rattle.words.specs.IntLaws.{int-of-back}
 use Rattle.apply.proofs.apply_int.Statement.{statement}
 use Rattle.apply.proofs.apply_int.Tie as tie
 
-int-of-requires : tie.Need-int-of-requires
-int-of-requires c κs = search needs
-
-int-of-requires-2 : tie.Need-int-of-requires-2
-int-of-requires-2 c κs = search needs
-
-compute-int-requires : tie.Need-compute-int-requires
-compute-int-requires c κs = search needs
-
 returns : tie.Need-returns
 unfolding apply
 returns c = c .compute-int .ensures ∙ rw (int-of-back (c .before .before .int-of .ensures), int-of-back (c .before .int-of2 .ensures))
 
 pub apply-int-spec : {M : Type 1} → statement M
-apply-int-spec =
-    tie.close (tie.spec int-of-requires int-of-requires-2 compute-int-requires returns)
+apply-int-spec = tie.close (tie.spec (λ c κs. search needs) (λ c κs. search needs) (λ c κs. search needs) returns)

@@ -8,49 +8,24 @@ use Rattle.words.specs.WordLaws.{type-struct}
 use Rattle.apply.proofs.apply_word.Statement.{statement}
 use Rattle.apply.proofs.apply_word.Tie as tie
 
-apply-int-requires : tie.Need-apply-int-requires
-apply-int-requires c κs = search needs
-
 returns : tie.Need-returns
 unfolding apply-word type-of value-of
-returns c =
-    let h = c .before .if1 .taken in
-    c .apply-int .ensures ∙ rw h
-
-apply-nat-requires : tie.Need-apply-nat-requires
-apply-nat-requires c κs = search needs
+returns c = c .apply-int .ensures ∙ rw (c .before .if1 .taken)
 
 returns-2 : tie.Need-returns-2
 unfolding apply-word type-of value-of
-returns-2 c =
-    let h = c .before .if2 .taken in
-    c .apply-nat .ensures ∙ rw h
-
-apply-bool-requires : tie.Need-apply-bool-requires
-apply-bool-requires c κs = search needs
+returns-2 c = c .apply-nat .ensures ∙ rw (c .before .if2 .taken)
 
 returns-3 : tie.Need-returns-3
 unfolding apply-word type-of value-of
-returns-3 c =
-    let h = c .before .if3 .taken in
-    c .apply-bool .ensures ∙ rw h
-
-apply-label-requires : tie.Need-apply-label-requires
-apply-label-requires c κs = search needs
+returns-3 c = c .apply-bool .ensures ∙ rw (c .before .if3 .taken)
 
 returns-4 : tie.Need-returns-4
 unfolding apply-word value-of
-returns-4 c = c .apply-label .ensures ∙ rw (type-struct (c .before .before .before .if1 .left) (c .before .before .if2 .left) (c .before .if3 .left))
+returns-4 c =
+    c .apply-label .ensures ∙ rw (type-struct (c .before .before .before .if1 .left) (c .before .before .if2 .left) (c .before .if3 .left))
 
 pub apply-word-spec : {M : Type 1} → statement M
 apply-word-spec =
     tie.close
-    (tie.spec
-    apply-int-requires
-    returns
-    apply-nat-requires
-    returns-2
-    apply-bool-requires
-    returns-3
-    apply-label-requires
-    returns-4)
+    (tie.spec (λ c κs. search needs) returns (λ c κs. search needs) returns-2 (λ c κs. search needs) returns-3 (λ c κs. search needs) returns-4)

@@ -1,4 +1,4 @@
--- `compute_int` meets its contract, one return for each byte; `s` is the entry, with what is known of x and y there.
+-- `compute_int` meets its contract, one return for each byte; `start` is the entry, with what is known of x and y there.
 use mathlib.Core.Path.{ap, _∙_}
 use mir.Syntax.{w64}
 use mir.Val.{ofZ}
@@ -12,224 +12,139 @@ use Rattle.words.specs.ApplyLaws.{nonzero}
 use Rattle.apply.proofs.compute_int.Statement.{statement}
 use Rattle.apply.proofs.compute_int.Tie as tie
 
-truth-requires : tie.Need-truth-requires
-truth-requires c κs = search needs
+-- the places that proofs look back to
+abbrev start : tie.Else4 → tie.Start
+start c = c .before .before .before .before
+
+abbrev start₂ : tie.Else8 → tie.Start
+start₂ c = start (c .before .before .before .before)
 
 returns : tie.Need-returns
 unfolding op-of compute answer
-returns c =
-    let s = c .before .before in
-    let f = s .fits .x in
-    let g = s .fits .y in
-    c .truth .ensures ∙ rw (op-first (c .before .if1 .taken), bits-same f g)
-
-truth-requires-2 : tie.Need-truth-requires-2
-truth-requires-2 c κs = search needs
+returns c = c .truth .ensures ∙ rw (op-first (c .before .if1 .taken), bits-same (c .before .before .fits .x) (c .before .before .fits .y))
 
 returns-2 : tie.Need-returns-2
 unfolding op-of compute answer
-returns-2 c =
-    let s = c .before .before .before in
-    let f = s .fits .x in
-    let g = s .fits .y in
-    let h = c .before .if2 .taken in
-    c .truth2 .ensures ∙ rw (h, bits-same f g)
-
-truth-requires-3 : tie.Need-truth-requires-3
-truth-requires-3 c κs = search needs
+returns-2 c = c .truth2 .ensures ∙ rw (c .before .if2 .taken, bits-same (c .before .before .before .fits .x) (c .before .before .before .fits .y))
 
 returns-3 : tie.Need-returns-3
 unfolding op-of compute answer
 returns-3 c =
-    let s = c .before .before .before .before in
-    let f = s .fits .x in
-    let g = s .fits .y in
-    let h = c .before .if3 .taken in
-    c .truth3 .ensures ∙ rw (h, toZ-ofZ w64 _ f, toZ-ofZ w64 _ g)
-
-truth-requires-4 : tie.Need-truth-requires-4
-truth-requires-4 c κs = search needs
+    c .truth3 .ensures
+    ∙ rw (c .before .if3 .taken, toZ-ofZ w64 _ (c .before .before .before .before .fits .x), toZ-ofZ w64 _ (c .before .before .before .before .fits .y))
 
 returns-4 : tie.Need-returns-4
 unfolding op-of compute answer
 returns-4 c =
-    let s = c .before .before .before .before .before in
-    let f = s .fits .x in
-    let g = s .fits .y in
-    let h = c .before .if4 .taken in
-    c .truth4 .ensures ∙ rw (h, toZ-ofZ w64 _ f, toZ-ofZ w64 _ g)
-
-truth-requires-5 : tie.Need-truth-requires-5
-truth-requires-5 c κs = search needs
+    let at-if1 = c .before .before .before .before in
+    c .truth4 .ensures ∙ rw (c .before .if4 .taken, toZ-ofZ w64 _ (at-if1 .before .fits .x), toZ-ofZ w64 _ (at-if1 .before .fits .y))
 
 returns-5 : tie.Need-returns-5
 unfolding op-of compute answer
 returns-5 c =
-    let s = c .before .before .before .before .before .before in
-    let f = s .fits .x in
-    let g = s .fits .y in
-    let h = c .before .if5 .taken in
-    c .truth5 .ensures ∙ rw (h, toZ-ofZ w64 _ f, toZ-ofZ w64 _ g)
-
-truth-requires-6 : tie.Need-truth-requires-6
-truth-requires-6 c κs = search needs
+    let at-if2 = c .before .before .before .before in let start′ = at-if2 .before .before in
+    c .truth5 .ensures ∙ rw (c .before .if5 .taken, toZ-ofZ w64 _ (start′ .fits .x), toZ-ofZ w64 _ (start′ .fits .y))
 
 returns-6 : tie.Need-returns-6
 unfolding op-of compute answer
 returns-6 c =
-    let s = c .before .before .before .before .before .before .before in
-    let f = s .fits .x in
-    let g = s .fits .y in
-    let h = c .before .if6 .taken in
-    c .truth6 .ensures ∙ rw (h, toZ-ofZ w64 _ f, toZ-ofZ w64 _ g)
+    let at-if3 = c .before .before .before .before in let start′ = at-if3 .before .before .before in
+    c .truth6 .ensures ∙ rw (c .before .if6 .taken, toZ-ofZ w64 _ (start′ .fits .x), toZ-ofZ w64 _ (start′ .fits .y))
 
 mul-int-answer : tie.Need-mul-int-answer
 mul-int-answer c =
-    let s = c .before .before .before .before .before .before .before in
-    let f = s .fits .x in
-    let g = s .fits .y in
-    product-carries f g (s .pre) .fits
-
-int-answer-requires : tie.Need-int-answer-requires
-int-answer-requires c κs = search needs
+    let start′ = start (c .before .before .before) in
+    product-carries (start′ .fits .x) (start′ .fits .y) (start′ .pre) .fits
 
 returns-7 : tie.Need-returns-7
 unfolding op-of compute answer
 returns-7 c =
-    let s = c .before .before .before .before .before .before .before .before in
-    let f = s .fits .x in
-    let g = s .fits .y in
-    let h = c .before .if7 .taken in
-    c .int-answer .ensures ∙ rw (h, product-carries f g (s .pre) .gives)
+    let at-if4 = c .before .before .before .before in let start′ = at-if4 .before .before .before .before in
+    c .int-answer .ensures ∙ rw (c .before .if7 .taken, product-carries (start′ .fits .x) (start′ .fits .y) (start′ .pre) .gives)
 
 returns-8 : tie.Need-returns-8
 unfolding op-of compute answer by-nonzero int-answer answered
 returns-8 c =
-    let s = c .before .before .before .before .before .before .before .before .before in
-    let g = s .fits .y in
-    let h = c .before .if8 .taken in
-    rw (h, zero-bits g (c .if9 .taken))
+    let at-if5 = c .before .before .before .before in let at-if1 = at-if5 .before .before .before .before in
+    rw (c .before .if8 .taken, zero-bits (at-if1 .before .fits .y) (c .if9 .taken))
 
 quotient-of-requires : tie.Need-quotient-of-requires
 quotient-of-requires c κs =
-    let s = c .before .before .before .before .before .before .before .before .before in
-    let f = s .fits .x in
-    let g = s .fits .y in
-    operands f g (s .pre .0) (c .if9 .left)
-
-int-answer-requires-2 : tie.Need-int-answer-requires-2
-int-answer-requires-2 c κs = search needs
+    let at-if5 = c .before .before .before .before in let start′ = start (at-if5 .before) in
+    operands (start′ .fits .x) (start′ .fits .y) (start′ .pre .0) (c .if9 .left)
 
 returns-9 : tie.Need-returns-9
 unfolding op-of compute answer
 returns-9 c =
-    let s = c .before .before .before .before .before .before .before .before .before .before .before in
-    let f = s .fits .x in
-    let g = s .fits .y in
-    let h = c .before .before .before .if8 .taken in
-    let n = c .before .before .if9 .left in
-    c .int-answer2 .ensures ∙ rw (c .before .quotient-of .ensures, quotient-carries f g (s .pre .0) .gives, h, nonzero (s .args .y) _ (λ e. n (ap (ofZ w64) e)))
+    let at-if9 = c .before .before in let at-if5 = at-if9 .before .before .before .before in
+    let start′ = start (at-if5 .before) in
+    c .int-answer2 .ensures
+    ∙ rw (
+      c .before .quotient-of .ensures,
+      quotient-carries (start′ .fits .x) (start′ .fits .y) (start′ .pre .0) .gives,
+      at-if9 .before .if8 .taken,
+      nonzero (start′ .args .y) _ (λ e. (at-if9 .if9 .left) (ap (ofZ w64) e)),
+    )
 
 returns-10 : tie.Need-returns-10
 unfolding op-of compute answer by-nonzero int-answer answered
 returns-10 c =
-    let s = c .before .before .before .before .before .before .before .before .before .before in
-    let g = s .fits .y in
-    let h = c .before .if10 .taken in
-    rw (h, zero-bits g (c .if11 .taken))
+    let at-if6 = c .before .before .before .before in let at-if2 = at-if6 .before .before .before .before in
+    rw (c .before .if10 .taken, zero-bits (at-if2 .before .before .fits .y) (c .if11 .taken))
 
 remainder-of-requires : tie.Need-remainder-of-requires
 remainder-of-requires c κs =
-    let s = c .before .before .before .before .before .before .before .before .before .before in
-    let f = s .fits .x in
-    let g = s .fits .y in
-    operands f g (s .pre .0) (c .if11 .left)
-
-int-answer-requires-3 : tie.Need-int-answer-requires-3
-int-answer-requires-3 c κs = search needs
+    let start′ = start₂ (c .before .before) in
+    operands (start′ .fits .x) (start′ .fits .y) (start′ .pre .0) (c .if11 .left)
 
 returns-11 : tie.Need-returns-11
 unfolding op-of compute answer
 returns-11 c =
-    let s = c .before .before .before .before .before .before .before .before .before .before .before .before in
-    let f = s .fits .x in
-    let g = s .fits .y in
-    let h = c .before .before .before .if10 .taken in
-    let n = c .before .before .if11 .left in
-    c .int-answer3 .ensures ∙ rw (c .before .remainder-of .ensures, remainder-carries f g .gives, h, nonzero (s .args .y) _ (λ e. n (ap (ofZ w64) e)))
+    let at-if11 = c .before .before in let start′ = start₂ (at-if11 .before .before) in
+    c .int-answer3 .ensures
+    ∙ rw (
+      c .before .remainder-of .ensures,
+      remainder-carries (start′ .fits .x) (start′ .fits .y) .gives,
+      at-if11 .before .if10 .taken,
+      nonzero (start′ .args .y) _ (λ e. (at-if11 .if11 .left) (ap (ofZ w64) e)),
+    )
 
 add-int-answer : tie.Need-add-int-answer
 add-int-answer c =
-    let s = c .before .before .before .before .before .before .before .before .before .before in
-    let f = s .fits .x in
-    let g = s .fits .y in
-    sum-carries f g (s .pre) .fits
-
-int-answer-requires-4 : tie.Need-int-answer-requires-4
-int-answer-requires-4 c κs = search needs
+    let start′ = start₂ (c .before .before) in
+    sum-carries (start′ .fits .x) (start′ .fits .y) (start′ .pre) .fits
 
 returns-12 : tie.Need-returns-12
 unfolding op-of compute answer
 returns-12 c =
-    let s = c .before .before .before .before .before .before .before .before .before .before .before in
-    let f = s .fits .x in
-    let g = s .fits .y in
-    let h = c .before .if12 .taken in
-    c .int-answer4 .ensures ∙ rw (h, sum-carries f g (s .pre) .gives)
+    let at-if7 = c .before .before .before .before in let at-if3 = at-if7 .before .before .before .before in
+    let start′ = at-if3 .before .before .before in
+    c .int-answer4 .ensures ∙ rw (c .before .if12 .taken, sum-carries (start′ .fits .x) (start′ .fits .y) (start′ .pre) .gives)
 
 sub-int-answer : tie.Need-sub-int-answer
 sub-int-answer c =
-    let s = c .before .before .before .before .before .before .before .before .before .before .before in
-    let f = s .fits .x in
-    let g = s .fits .y in
-    difference-carries f g (s .pre) .fits
-
-int-answer-requires-5 : tie.Need-int-answer-requires-5
-int-answer-requires-5 c κs = search needs
+    let start′ = start₂ (c .before .before .before) in
+    difference-carries (start′ .fits .x) (start′ .fits .y) (start′ .pre) .fits
 
 returns-13 : tie.Need-returns-13
 unfolding op-of compute answer
 returns-13 c =
-    let s = c .before .before .before .before .before .before .before .before .before .before .before .before in
-    let f = s .fits .x in
-    let g = s .fits .y in
-    let h = c .before .if13 .taken in
-    c .int-answer5 .ensures ∙ rw (h, difference-carries f g (s .pre) .gives)
+    let at-if8 = c .before .before .before .before in let at-if4 = at-if8 .before .before .before .before in
+    let start′ = at-if4 .before .before .before .before in
+    c .int-answer5 .ensures ∙ rw (c .before .if13 .taken, difference-carries (start′ .fits .x) (start′ .fits .y) (start′ .pre) .gives)
 
 returns-14 : tie.Need-returns-14
-returns-14 c = numbers-unfit int-answer _ _ (past-numbers (c .before .before .before .before .before .before .before .before .before .before .if1 .left) (c .before .before .before .before .before .before .before .before .before .if2 .left) (c .before .before .before .before .before .before .before .before .if3 .left) (c .before .before .before .before .before .before .before .if4 .left) (c .before .before .before .before .before .before .if5 .left) (c .before .before .before .before .before .if6 .left) (c .before .before .before .before .if7 .left) (c .before .before .before .if8 .left) (c .before .before .if10 .left) (c .before .if12 .left) (c .if13 .left))
+returns-14 c =
+    let at-if10 = c .before .before in let at-if7 = at-if10 .before .before in
+    let at-if5 = at-if7 .before .before in let at-if3 = at-if5 .before .before in
+    numbers-unfit int-answer _ _ (past-numbers (at-if3 .before .before .if1 .left) (at-if3 .before .if2 .left) (at-if3 .if3 .left)
+    (at-if5 .before .if4 .left) (at-if5 .if5 .left) (at-if7 .before .if6 .left) (at-if7 .if7 .left)
+    (at-if10 .before .if8 .left) (at-if10 .if10 .left) (c .before .if12 .left) (c .if13 .left))
 
 pub compute-int-spec : {M : Type 1} → statement M
 compute-int-spec =
     tie.close
-    (tie.spec
-    truth-requires
-    returns
-    truth-requires-2
-    returns-2
-    truth-requires-3
-    returns-3
-    truth-requires-4
-    returns-4
-    truth-requires-5
-    returns-5
-    truth-requires-6
-    returns-6
-    mul-int-answer
-    int-answer-requires
-    returns-7
-    returns-8
-    quotient-of-requires
-    int-answer-requires-2
-    returns-9
-    returns-10
-    remainder-of-requires
-    int-answer-requires-3
-    returns-11
-    add-int-answer
-    int-answer-requires-4
-    returns-12
-    sub-int-answer
-    int-answer-requires-5
-    returns-13
-    returns-14)
+    (tie.spec (λ c κs. search needs) returns (λ c κs. search needs) returns-2 (λ c κs. search needs) returns-3 (λ c κs. search needs) returns-4
+    (λ c κs. search needs) returns-5 (λ c κs. search needs) returns-6 mul-int-answer (λ c κs. search needs) returns-7 returns-8 quotient-of-requires
+    (λ c κs. search needs) returns-9 returns-10 remainder-of-requires (λ c κs. search needs) returns-11 add-int-answer (λ c κs. search needs)
+    returns-12 sub-int-answer (λ c κs. search needs) returns-13 returns-14)

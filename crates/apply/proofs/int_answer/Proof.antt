@@ -6,17 +6,8 @@ use Rattle.apply.proofs.int_answer.Tie as tie
 returns : tie.Need-returns
 returns c = int-too-low (c .before .before .fits .z) (c .if2 .taken)
 
-add-t4 : tie.Need-add-t4
-add-t4 c = int-low (c .before .before .fits .z) (c .before .if1 .taken) (c .if2 .left) .fits
-
-cast-t5 : tie.Need-cast-t5
-cast-t5 c = int-low (c .before .before .fits .z) (c .before .if1 .taken) (c .if2 .left) .casts
-
 returns-2 : tie.Need-returns-2
 returns-2 c = int-low (c .before .before .fits .z) (c .before .if1 .taken) (c .if2 .left) .said
-
-cast-t6 : tie.Need-cast-t6
-cast-t6 c = int-high (c .before .before .fits .z) (c .before .if1 .left) (c .if3 .taken) .casts
 
 returns-3 : tie.Need-returns-3
 returns-3 c = int-high (c .before .before .fits .z) (c .before .if1 .left) (c .if3 .taken) .said
@@ -25,4 +16,8 @@ returns-4 : tie.Need-returns-4
 returns-4 c = int-too-high (c .before .before .fits .z) (c .before .if1 .left) (c .if3 .left)
 
 pub int-answer-spec : {M : Type 1} → statement M
-int-answer-spec = tie.close (tie.spec returns add-t4 cast-t5 returns-2 cast-t6 returns-3 returns-4)
+int-answer-spec =
+    tie.close
+    (tie.spec returns (λ c. int-low (c .before .before .fits .z) (c .before .if1 .taken) (c .if2 .left) .fits)
+    (λ c. int-low (c .before .before .fits .z) (c .before .if1 .taken) (c .if2 .left) .casts) returns-2
+    (λ c. int-high (c .before .before .fits .z) (c .before .if1 .left) (c .if3 .taken) .casts) returns-3 returns-4)

@@ -3,11 +3,8 @@ use Rattle.words.specs.SignedLaws.{divides, quotient-said}
 use Rattle.apply.proofs.quotient_of.Statement.{statement}
 use Rattle.apply.proofs.quotient_of.Tie as tie
 
-div-result : tie.Need-div-result
-div-result c = divides (c .fits .x) (c .fits .y) (c .pre .0) (c .pre .1)
-
 returns : tie.Need-returns
 returns c = quotient-said (c .fits .x) (c .fits .y) (c .pre .0)
 
 pub quotient-of-spec : {M : Type 1} → statement M
-quotient-of-spec = tie.close (tie.spec div-result returns)
+quotient-of-spec = tie.close (tie.spec (λ c. divides (c .fits .x) (c .fits .y) (c .pre .0) (c .pre .1)) returns)

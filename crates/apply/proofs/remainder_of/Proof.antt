@@ -3,11 +3,8 @@ use Rattle.words.specs.SignedLaws.{divides, remainder-said}
 use Rattle.apply.proofs.remainder_of.Statement.{statement}
 use Rattle.apply.proofs.remainder_of.Tie as tie
 
-rem-result : tie.Need-rem-result
-rem-result c = divides (c .fits .x) (c .fits .y) (c .pre .0) (c .pre .1)
-
 returns : tie.Need-returns
 returns c = remainder-said (c .fits .x) (c .fits .y)
 
 pub remainder-of-spec : {M : Type 1} → statement M
-remainder-of-spec = tie.close (tie.spec rem-result returns)
+remainder-of-spec = tie.close (tie.spec (λ c. divides (c .fits .x) (c .fits .y) (c .pre .0) (c .pre .1)) returns)

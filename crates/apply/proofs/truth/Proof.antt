@@ -6,15 +6,11 @@ use Rattle.apply.proofs.truth.Tie as tie
 
 returns : tie.Need-returns
 unfolding answered word
-returns c =
-    let h = c .if1 .taken in
-    rw h
+returns c = rw (c .if1 .taken)
 
 returns-2 : tie.Need-returns-2
 unfolding answered word
-returns-2 c =
-    let h = c .if1 .left in
-    rw h
+returns-2 c = rw (c .if1 .left)
 
 pub truth-spec : {M : Type 1} → statement M
 truth-spec = tie.close (tie.spec returns returns-2)

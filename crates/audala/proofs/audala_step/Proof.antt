@@ -7,37 +7,22 @@ use borrow.Author.Needs.{needs}
 use Rattle.audala.proofs.audala_step.Statement.{statement}
 use Rattle.audala.proofs.audala_step.Tie as tie
 
-step-place-requires : tie.Need-step-place-requires
-step-place-requires c κs = search needs
-
-cast-t6 : tie.Need-cast-t6
-cast-t6 c = search needs
-
 cast-t7 : tie.Need-cast-t7
 cast-t7 c =
-    let args = c .before .before .before .before .before .args in
-    let step-place = c .before .before .step-place in
-    let f = rw (← step-place .ensures) at (place-fits (args .image .now) (args .list .now) (args .structure) (args .name)) in
+    let answered = c .before .before in let args = answered .before .before .before .args in
+    let f = rw (← answered .step-place .ensures) at (place-fits (args .image .now) (args .list .now) (args .structure) (args .name)) in
     omega (arith, f)
 
 cast-t8 : tie.Need-cast-t8
 cast-t8 c =
-    let args = c .before .before .before .before .before .before .args in
-    let step-place = c .before .before .before .step-place in
-    let f = rw (← step-place .ensures) at (place-fits (args .image .now) (args .list .now) (args .structure) (args .name)) in
+    let answered = c .before .before .before in let args = answered .before .before .before .args in
+    let f = rw (← answered .step-place .ensures) at (place-fits (args .image .now) (args .list .now) (args .structure) (args .name)) in
     omega (arith, f)
 
 returns : tie.Need-returns
-returns c =
-    let step-place = c .before .before .before .step-place in
-    ap exported-part (step-place .ensures)
+returns c = ap exported-part (c .before .before .before .step-place .ensures)
 
 pub audala-step-spec : {M : Type 1} → statement M
 audala-step-spec =
     tie.close
-    (tie.spec
-    step-place-requires
-    cast-t6
-    cast-t7
-    cast-t8
-    returns)
+    (tie.spec (λ c κs. search needs) (λ c. search needs) cast-t7 cast-t8 returns)

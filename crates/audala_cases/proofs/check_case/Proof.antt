@@ -6,67 +6,19 @@ use mathlib.Core.Path.{subst, sym}
 use lib.Seq.{length-take-le}
 use Rattle.audala_cases.specs.Within.{Within}
 
-number-requires : tie.Need-number-requires
-number-requires c κs = search needs
-
-enum-known-places : tie.Need-enum-known-places
-enum-known-places c = search needs
-
-enum-told : tie.Need-enum-told
-enum-told c = search needs
-
-returns : tie.Need-returns
-returns c = search needs
-
-slice-aggregate-part : tie.Need-slice-aggregate-part
-slice-aggregate-part c = search needs
-
-part-requires : tie.Need-part-requires
-part-requires c κs = search needs
-
-enum-known-n : tie.Need-enum-known-n
-enum-known-n c = search needs
-
-enum-told-2 : tie.Need-enum-told-2
-enum-told-2 c = search needs
-
-returns-2 : tie.Need-returns-2
-returns-2 c = search needs
-
 array-share-prefix-image : tie.Need-array-share-prefix-image
-array-share-prefix-image c = subst (Within _) ((c .before .n) .given .1) ((c .before .before .before .before .part) .ensures)
-
-slice-aggregate-answer : tie.Need-slice-aggregate-answer
-slice-aggregate-answer c = sym (length-take-le _ _ (array-share-prefix-image (c .before)))
+array-share-prefix-image c = subst (Within _) (c .before .n .given .1) (c .before .before .before .before .part .ensures)
 
 array-borrow-prefix-list : tie.Need-array-borrow-prefix-list
-array-borrow-prefix-list c = subst (Within _) ((c .before .before .before .before .before .before .before .before .places) .given .1) ((c .before .before .before .before .before .before .before .before .before .before .number) .ensures)
-
-slice-aggregate-answer-2 : tie.Need-slice-aggregate-answer-2
-slice-aggregate-answer-2 c = sym (length-take-le _ _ (array-borrow-prefix-list (c .before)))
-
-answer-requires : tie.Need-answer-requires
-answer-requires c κs = search needs
-
-returns-3 : tie.Need-returns-3
-returns-3 c = search needs
+array-borrow-prefix-list c =
+    let at-n = c .before .before in let at-part = at-n .before .before .before in
+    let at-places = at-part .before .before .before in
+    subst (Within _) (at-places .places .given .1) (at-places .before .before .number .ensures)
 
 pub check-case-spec : {M : Type 1} → statement M
 check-case-spec =
     tie.close
-    (tie.spec
-    number-requires
-    enum-known-places
-    enum-told
-    returns
-    slice-aggregate-part
-    part-requires
-    enum-known-n
-    enum-told-2
-    returns-2
-    array-share-prefix-image
-    slice-aggregate-answer
-    array-borrow-prefix-list
-    slice-aggregate-answer-2
-    answer-requires
-    returns-3)
+    (tie.spec (λ c κs. search needs) (λ c. search needs) (λ c. search needs) (λ c. search needs) (λ c. search needs) (λ c κs. search needs)
+    (λ c. search needs) (λ c. search needs) (λ c. search needs) array-share-prefix-image
+    (λ c. sym (length-take-le _ _ (array-share-prefix-image (c .before)))) array-borrow-prefix-list
+    (λ c. sym (length-take-le _ _ (array-borrow-prefix-list (c .before)))) (λ c κs. search needs) (λ c. search needs))

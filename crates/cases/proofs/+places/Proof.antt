@@ -23,75 +23,24 @@ places-at t = and 1 places-kinds.ps (is 1 places-kinds.ps μ-places t) places.Pr
 abbrev places-below : ℕ → In 1 places-kinds.ps
 places-below t = and 1 places-kinds.ps (falls 1 places-kinds.ps _<_ μ-places t) places.Pre
 
-places-returns : (t : ℕ) → places-lts.Need-returns (
-  word-reads.Asked,
-  word-reads.Learnt,
-  places-below t,
-  places.Post,
-) (places-at t) places.Post
-places-returns t c = let a = (c .before .before .args) in sym (list-none (a .list .now) (a .i) (a .h) ((c .if1) .taken))
+-- what the functions that it calls ask and give
+abbrev places-claims : ℕ → places-lts.Claims
+places-claims t = (word-reads.Asked, word-reads.Learnt, places-below t, places.Post)
 
-places-mul-word : (t : ℕ) → places-lts.Need-mul-word (
-  word-reads.Asked,
-  word-reads.Learnt,
-  places-below t,
-  places.Post,
-) (places-at t) places.Post
-places-mul-word t c = search needs
+places-returns : (t : ℕ) → places-lts.Need-returns (places-claims t) (places-at t) places.Post
+places-returns t c =
+    let a = c .before .before .args in
+    sym (list-none (a .list .now) (a .i) (a .h) (c .if1 .taken))
 
-places-shared-slice-read-word : (t : ℕ) → places-lts.Need-shared-slice-read-word (
-  word-reads.Asked,
-  word-reads.Learnt,
-  places-below t,
-  places.Post,
-) (places-at t) places.Post
-places-shared-slice-read-word t c = omega (arith, (c .before .if1) .left)
-
-places-word-requires : (t : ℕ) → places-lts.Need-word-requires (
-  word-reads.Asked,
-  word-reads.Learnt,
-  places-below t,
-  places.Post,
-) (places-at t) places.Post
-places-word-requires t c κs = (c .before .before .before .pre) .1
-
-places-add-places : (t : ℕ) → places-lts.Need-add-places (
-  word-reads.Asked,
-  word-reads.Learnt,
-  places-below t,
-  places.Post,
-) (places-at t) places.Post
-places-add-places t c = omega (arith, (c .before .before .if1) .left)
-
-places-places-requires : (t : ℕ) → places-lts.Need-places-requires (
-  word-reads.Asked,
-  word-reads.Learnt,
-  places-below t,
-  places.Post,
-) (places-at t) places.Post
-places-places-requires t c κs = (omega (arith, (c .before .before .before .before .pre), (c .before .before .if1) .left), (c .word) .ensures .1)
-
-places-returns-2 : (t : ℕ) → places-lts.Need-returns-2 (
-  word-reads.Asked,
-  word-reads.Learnt,
-  places-below t,
-  places.Post,
-) (places-at t) places.Post
-places-returns-2 t c = let a = (c .before .before .before .before .before .args) in (c .places) .ensures ∙ list-more (a .list .now) (a .i) (a .h) ((c .before .word) .result) ((c .before .before .before .if1) .left) ((c .before .word) .ensures .0)
+places-returns-2 : (t : ℕ) → places-lts.Need-returns-2 (places-claims t) (places-at t) places.Post
+places-returns-2 t c =
+    let at-if1 = c .before .before .before in let a = at-if1 .before .before .args in
+    c .places .ensures ∙ list-more (a .list .now) (a .i) (a .h) (c .before .word .result) (at-if1 .if1 .left) (c .before .word .ensures .0)
 
 pub +places-spec : {M : Type 1} → statement M
-+places-spec = close μ-places λ t. places-lts.spec (
-  word-reads.Asked,
-  word-reads.Learnt,
-  places-below t,
-  places.Post,
-)
-    (places-at t)
-    places.Post
-    (places-returns t)
-    (places-mul-word t)
-    (places-shared-slice-read-word t)
-    (places-word-requires t)
-    (places-add-places t)
-    (places-places-requires t)
-    (places-returns-2 t)
++places-spec =
+    close μ-places
+    λ t. places-lts.spec (places-claims t) (places-at t) places.Post (places-returns t)
+    (λ c. search needs) (λ c. omega (arith, c .before .if1 .left)) (λ c κs. c .before .before .before .pre .1)
+    (λ c. omega (arith, c .before .before .if1 .left))
+    (λ c κs. (omega (arith, c .before .before .before .before .pre, c .before .before .if1 .left), c .word .ensures .1)) (places-returns-2 t)

@@ -21,57 +21,24 @@ word-at t = and 0 word-kinds.ps (is 0 word-kinds.ps μ-word t) word.Pre
 abbrev word-below : ℕ → In 0 word-kinds.ps
 word-below t = and 0 word-kinds.ps (falls 0 word-kinds.ps _<_ μ-word t) word.Pre
 
-word-returns : (t : ℕ) → word-lts.Need-returns (
-  digested-reads.Asked,
-  digested-reads.Learnt,
-  word-below t,
-  word.Post,
-) (word-at t) word.Post
-word-returns t c = (sym (word-none _ _ _ ((c .if1) .taken)), (c .before .pre) .1)
+-- what the functions that it calls ask and give
+abbrev word-claims : ℕ → word-lts.Claims
+word-claims t = (digested-reads.Asked, digested-reads.Learnt, word-below t, word.Post)
 
-word-digested-requires : (t : ℕ) → word-lts.Need-digested-requires (
-  digested-reads.Asked,
-  digested-reads.Learnt,
-  word-below t,
-  word.Post,
-) (word-at t) word.Post
-word-digested-requires t c κs = ((c .before .pre) .1, omega arith)
+word-returns : (t : ℕ) → word-lts.Need-returns (word-claims t) (word-at t) word.Post
+word-returns t c = (sym (word-none _ _ _ (c .if1 .taken)), c .before .pre .1)
 
-word-sub-word : (t : ℕ) → word-lts.Need-sub-word (
-  digested-reads.Asked,
-  digested-reads.Learnt,
-  word-below t,
-  word.Post,
-) (word-at t) word.Post
-word-sub-word t c = omega (arith, (c .before .if1) .left)
-
-word-word-requires : (t : ℕ) → word-lts.Need-word-requires (
-  digested-reads.Asked,
-  digested-reads.Learnt,
-  word-below t,
-  word.Post,
-) (word-at t) word.Post
-word-word-requires t c κs = (omega (arith, (c .before .before .pre), (c .before .if1) .left), (c .digested) .ensures .1)
-
-word-returns-2 : (t : ℕ) → word-lts.Need-returns-2 (
-  digested-reads.Asked,
-  digested-reads.Learnt,
-  word-below t,
-  word.Post,
-) (word-at t) word.Post
-word-returns-2 t c = let a = (c .before .before .before .args) in ((c .word) .ensures .0 ∙ word-more (a .n) (a .h) (a .w) ((c .before .digested) .result) ((c .before .before .if1) .left) ((c .before .digested) .ensures .0), (c .word) .ensures .1)
+word-returns-2 : (t : ℕ) → word-lts.Need-returns-2 (word-claims t) (word-at t) word.Post
+word-returns-2 t c =
+    let a = c .before .before .before .args in (
+      c .word .ensures .0
+          ∙ word-more (a .n) (a .h) (a .w) (c .before .digested .result) (c .before .before .if1 .left) (c .before .digested .ensures .0),
+      c .word .ensures .1,
+    )
 
 pub +word-spec : {M : Type 1} → statement M
-+word-spec = close μ-word λ t. word-lts.spec (
-  digested-reads.Asked,
-  digested-reads.Learnt,
-  word-below t,
-  word.Post,
-)
-    (word-at t)
-    word.Post
-    (word-returns t)
-    (word-digested-requires t)
-    (word-sub-word t)
-    (word-word-requires t)
-    (word-returns-2 t)
++word-spec =
+    close μ-word
+    λ t. word-lts.spec (word-claims t) (word-at t) word.Post (word-returns t)
+    (λ c κs. (c .before .pre .1, omega arith)) (λ c. omega (arith, c .before .if1 .left))
+    (λ c κs. (omega (arith, c .before .before .pre, c .before .if1 .left), c .digested .ensures .1)) (word-returns-2 t)

@@ -18,38 +18,20 @@ abbrev μ-loop : tie.MeasureT-loop
 loop-holds : tie.Need-loop-holds Inv-loop μ-loop
 loop-holds c = (omega arith, refl)
 
-shared-slice-read-wide : tie.Need-shared-slice-read-wide Inv-loop μ-loop
-shared-slice-read-wide c = omega arith
-
-wide-requires : tie.Need-wide-requires Inv-loop μ-loop
-wide-requires c κs = search needs
-
-digested-requires : tie.Need-digested-requires Inv-loop μ-loop
-digested-requires c κs = ((c .before .before .before .loop) .inv .0, (c .wide) .ensures .1)
-
-add-i : tie.Need-add-i Inv-loop μ-loop
-add-i c = omega arith
-
-loop-less : tie.Need-loop-less Inv-loop μ-loop
-loop-less c = omega arith
-
 loop-again : tie.Need-loop-again Inv-loop μ-loop
-loop-again c = ((c .digested) .ensures .1, bytes-more ((c .before .before .before .before .before .before .args) .s .now) ((c .before .before .before .before .loop) .i) ((c .before .before .before .before .loop) .h) _ ((c .before .before .before .loop-test) .taken) ((c .digested) .ensures .0 ∙ rw ((c .before .wide) .ensures .0)) ∙ (c .before .before .before .before .loop) .inv .1)
+loop-again c =
+    let in-loop = c .before .before .before in (
+      c .digested .ensures .1,
+      bytes-more (in-loop .before .before .before .args .s .now) (in-loop .before .loop .i) (in-loop .before .loop .h) _ (in-loop .loop-test .taken)
+          (c .digested .ensures .0 ∙ rw (c .before .wide .ensures .0)) ∙ in-loop .before .loop .inv .1,
+    )
 
 returns : tie.Need-returns Inv-loop μ-loop
-returns c = sym (bytes-none ((c .before .before .before .args) .s .now) ((c .before .loop) .i) ((c .before .loop) .h) ((c .loop-test) .left)) ∙ (c .before .loop) .inv .1
+returns c =
+    sym (bytes-none (c .before .before .before .args .s .now) (c .before .loop .i) (c .before .loop .h) (c .loop-test .left)) ∙ c .before .loop .inv .1
 
 pub bytes-spec : {M : Type 1} → statement M
 bytes-spec =
     tie.close
-    (tie.spec
-    Inv-loop
-    μ-loop
-    loop-holds
-    shared-slice-read-wide
-    wide-requires
-    digested-requires
-    add-i
-    loop-less
-    loop-again
-    returns)
+    (tie.spec Inv-loop μ-loop loop-holds (λ c. omega arith) (λ c κs. search needs)
+    (λ c κs. (c .before .before .before .loop .inv .0, c .wide .ensures .1)) (λ c. omega arith) (λ c. omega arith) loop-again returns)

@@ -19,17 +19,8 @@ none (Stream n) k = refl
 none (Refused f) k = absurd (⊎-elim (λ e. omega arith) (λ e. omega arith) k)
 none Short k = refl
 
-enum-known-r : tie.Need-enum-known-r
-enum-known-r c = search needs
-
 returns : tie.Need-returns
 returns c = none (c .before .args .r) (c .match .keys2)
 
-program-number-requires : tie.Need-program-number-requires
-program-number-requires c κs = search needs
-
-returns-2 : tie.Need-returns-2
-returns-2 c = search needs
-
 pub image-refusal-spec : {M : Type 1} → statement M
-image-refusal-spec = tie.close (tie.spec enum-known-r returns program-number-requires returns-2)
+image-refusal-spec = tie.close (tie.spec (λ c. search needs) returns (λ c κs. search needs) (λ c. search needs))

@@ -1,96 +1,61 @@
--- `of_table` meets its contract: the table image is refused, or its stream is read.
+-- `of_table` meets its contract: the table image is refused, or its instances are seated.
 use native.Mathlib.Omega.{arith}
-use mathlib.Core.Path.{_≡_, sym, _∙_}
-use lib.ListN.{take, length-replicate}
-use lib.Seq.{length-take-le}
-use Rattle.blocks.specs.Images.{stream}
-use Rattle.entry.specs.AdmitLaws.{admitted-accepted}
-use Rattle.entry.specs.StageLaws.{refused-answers, same-answers, table-unread, table-stream, table-front}
+use mathlib.Core.Path.{sym, _∙_}
+use lib.ListN.{length-replicate}
+use Rattle.entry.specs.SeatLaws.{admitted-tables, image-refused, image-seated}
+use Rattle.entry.specs.StageLaws.{refused-answers, same-answers}
 use borrow.Author.Needs.{needs}
 use Rattle.entry.proofs.of_table.Statement.{statement}
 use Rattle.entry.proofs.of_table.Tie as tie
 
-slice-aggregate-read-image : tie.Need-slice-aggregate-read-image
-slice-aggregate-read-image c = search needs
-
 read-image-requires : tie.Need-read-image-requires
-read-image-requires c κs = search needs
-
-enum-known-r : tie.Need-enum-known-r
-enum-known-r c = search needs
-
-image-refusal-requires : tie.Need-image-refusal-requires
-image-refusal-requires c κs = search needs
-
-refused-requires : tie.Need-refused-requires
-refused-requires c κs = search needs
+read-image-requires c κs =
+    let start-0 = c .before .before .before .before in
+    let start-1 = start-0 .before .before .before .before in
+    let start = start-1 .before in
+    (admitted-tables (start .pre .1) (start .pre .2), (simp length-replicate (omega arith), simp length-replicate (omega arith)))
 
 returns : tie.Need-returns
 returns c =
-    let args = c .before .before .before .before .before .before .before .before .before .before .before .before .before .args in
-    let pre = c .before .before .before .before .before .before .before .before .before .before .before .before .before .pre in
-    let read-image = c .before .before .before .before .read-image in
-    let match = c .before .before .match in
-    let refusal = c .before .image-refusal in
-    let refused = c .refused in
-    let unread =
-    table-unread (args .table .now) _ (read-image .result) (admitted-accepted (pre .1)) (simp length-replicate (omega arith))
-    (sym (read-image .ensures .0))
-    (match .keys2) in
-    refused-answers unread (rw (refusal .ensures) at (refused .ensures))
+    let at-told = c .before .before in
+    let at-read = at-told .before .before .before .before in
+    let start-2 = at-read .before .before .before .before in
+    let start-1 = start-2 .before .before .before .before in
+    let start = start-1 .before .before in
+    let told = at-told .enum-told .given .1 in
+    refused-answers (image-refused (start .pre .1) (start .pre .2) (start .args .table .now) _ (sym (at-read .read-image .ensures .0) ∙ told))
+    (rw (c .before .table-refusal .ensures, told) at (c .refused .ensures))
 
-array-share-prefix-buffer : tie.Need-array-share-prefix-buffer
-array-share-prefix-buffer c =
-    let args = c .before .before .before .before .before .before .before .before .before .before .before .before .before .args in
-    let pre = c .before .before .before .before .before .before .before .before .before .before .before .before .before .pre in
-    let read-image = c .before .before .before .before .read-image in
-    let r = c .before .r in
-    let h = table-stream (args .table .now) _ (admitted-accepted (pre .1)) (sym (read-image .ensures .0) ∙ r .given .1) in
-    omega (arith, h .2, read-image .kept .1 .1 .0)
-
-slice-aggregate-of-records : tie.Need-slice-aggregate-of-records
-slice-aggregate-of-records c =
-    let args = c .before .before .before .before .before .before .before .before .before .before .before .before .before .before .args in
-    let pre = c .before .before .before .before .before .before .before .before .before .before .before .before .before .before .pre in
-    let read-image = c .before .before .before .before .before .read-image in
-    let r = c .before .before .r in
-    let h = table-stream (args .table .now) _ (admitted-accepted (pre .1)) (sym (read-image .ensures .0) ∙ r .given .1) in
-    sym (length-take-le _ _ (omega (arith, h .2, read-image .kept .1 .1 .0)))
-
-of-records-requires : tie.Need-of-records-requires
-of-records-requires c κs = search needs
-
-same-length : tie.Need-same-length
-same-length c = search needs
-
-same-length-2 : tie.Need-same-length-2
-same-length-2 c = search needs
+with-room-requires : tie.Need-with-room-requires
+with-room-requires c κs =
+    let at-r-1 = c .before .before .before .before in
+    let at-r = at-r-1 .before in
+    let at-read = at-r .before .before .before .before in
+    let start-2 = at-read .before .before .before .before in
+    let start-1 = start-2 .before .before .before .before in
+    let start = start-1 .before .before in
+    let w =
+    image-seated (start .pre .1) (start .pre .2) (start .args .table .now) _ _ _ _ (simp length-replicate (omega arith)) (simp length-replicate (omega arith))
+    (at-read .read-image .ensures .1) (sym (at-read .read-image .ensures .0) ∙ at-r .r .given .1) in
+    (start .pre .0, w .0, w .2)
 
 returns-2 : tie.Need-returns-2
 returns-2 c =
-    let args = c .before .before .before .before .before .before .before .before .before .before .before .before .before .before .before .before .before .before .before .before .before .args in
-    let pre = c .before .before .before .before .before .before .before .before .before .before .before .before .before .before .before .before .before .before .before .before .before .pre in
-    let read-image = c .before .before .before .before .before .before .before .before .before .before .before .before .read-image in
-    let r = c .before .before .before .before .before .before .before .before .before .r in
-    let of-records = c .before .before .before .before .of-records in
-    let y = args .table .now in
-    let h = table-stream y _ (admitted-accepted (pre .1)) (sym (read-image .ensures .0) ∙ r .given .1) in
-    let f : take (r .given .0 .0) (read-image .last .1 .1 .0) ≡ stream y = rw (read-image .ensures .1, r .given .1) (table-front y _ (h .1)) in
-    same-answers (h .0) (rw f at (of-records .ensures))
+    let at-room-1 = c .before .before .before .before in
+    let at-room = at-room-1 .before .before in
+    let at-r-1 = at-room .before .before .before .before in
+    let at-r = at-r-1 .before .before in
+    let at-read = at-r .before .before .before .before in
+    let start-2 = at-read .before .before .before .before in
+    let start-1 = start-2 .before .before .before .before in
+    let start = start-1 .before .before in
+    let w =
+    image-seated (start .pre .1) (start .pre .2) (start .args .table .now) _ _ _ _ (simp length-replicate (omega arith)) (simp length-replicate (omega arith))
+    (at-read .read-image .ensures .1) (sym (at-read .read-image .ensures .0) ∙ at-r .r .given .1) in
+    same-answers (w .1) (at-room .with-room .ensures (start .pre .0) (w .0) (w .2))
 
 pub of-table-spec : {M : Type 1} → statement M
 of-table-spec =
     tie.close
-    (tie.spec
-    slice-aggregate-read-image
-    read-image-requires
-    enum-known-r
-    image-refusal-requires
-    refused-requires
-    returns
-    array-share-prefix-buffer
-    slice-aggregate-of-records
-    of-records-requires
-    same-length
-    same-length-2
-    returns-2)
+    (tie.spec (λ c. search needs) (λ c. search needs) read-image-requires (λ c. search needs) (λ c. search needs) (λ c κs. search needs) (λ c κs. search needs) returns
+    (λ c. search needs) (λ c. search needs) with-room-requires (λ c. search needs) (λ c. search needs) returns-2)

@@ -11,73 +11,42 @@ use borrow.Author.Needs.{needs}
 use Rattle.parts.proofs.locate.Statement.{statement}
 use Rattle.parts.proofs.locate.Tie as tie
 
-slice-aggregate-read-image : tie.Need-slice-aggregate-read-image
-slice-aggregate-read-image c = search needs
-
-read-image-requires : tie.Need-read-image-requires
-read-image-requires c κs = search needs
-
-enum-known-r : tie.Need-enum-known-r
-enum-known-r c = search needs
-
-image-refusal-requires : tie.Need-image-refusal-requires
-image-refusal-requires c κs = search needs
-
-nowhere-requires : tie.Need-nowhere-requires
-nowhere-requires c κs = search needs
+-- the places that proofs look back to
+abbrev at-read-image : tie.After-known-told → tie.After-read-image
+at-read-image c = c .before .before .before .before
 
 returns : tie.Need-returns
 returns c =
-    let args = c .before .before .before .before .before .before .before .args in
-    let read-image = c .before .before .before .before .read-image in
-    let match = c .before .before .match in
-    let refusal = c .before .image-refusal in
-    let nowhere = c .nowhere in
-    let x = args .image .now in
-    let unread = image-unread x (read-image .result) _ (simp length-replicate (omega arith)) (sym (read-image .ensures .0)) (match .keys2) in
-    (rw (refusal .ensures) at (nowhere .ensures)) ∙ spot-refused (checked x) _ _ _ unread
+    let at-match = c .before .before in let at-read-image′ = at-match .before .before in
+    let args = at-read-image′ .before .before .before .args in let x = args .image .now in
+    let unread = image-unread x (at-read-image′ .read-image .result) _ (simp length-replicate (omega arith)) (sym (at-read-image′ .read-image .ensures .0))
+    (at-match .match .keys2) in
+    (rw (c .before .image-refusal .ensures) at (c .nowhere .ensures)) ∙ spot-refused (checked x) _ _ _ unread
 
 array-share-prefix-buffer : tie.Need-array-share-prefix-buffer
 array-share-prefix-buffer c =
-    let args = c .before .before .before .before .before .before .before .args in
-    let read-image = c .before .before .before .before .read-image in
-    let r = c .before .r in
-    let h = image-stream (args .image .now) _ _ (sym (read-image .ensures .0) ∙ r .given .1) in
-    omega (arith, h .2, read-image .kept .1 .1 .0)
+    let args = at-read-image c .before .before .before .args in
+    let h = image-stream (args .image .now) _ _ (sym (at-read-image c .read-image .ensures .0) ∙ c .before .r .given .1) in
+    omega (arith, h .2, at-read-image c .read-image .kept .1 .1 .0)
 
 slice-aggregate-find : tie.Need-slice-aggregate-find
 slice-aggregate-find c =
-    let args = c .before .before .before .before .before .before .before .before .args in
-    let read-image = c .before .before .before .before .before .read-image in
-    let r = c .before .before .r in
-    let h = image-stream (args .image .now) _ _ (sym (read-image .ensures .0) ∙ r .given .1) in
-    sym (length-take-le _ _ (omega (arith, h .2, read-image .kept .1 .1 .0)))
-
-find-requires : tie.Need-find-requires
-find-requires c κs = search needs
+    let at-r = c .before .before in let at-read-image′ = at-read-image (c .before) in
+    let args = at-read-image′ .before .before .before .args in
+    let h = image-stream (args .image .now) _ _ (sym (at-read-image′ .read-image .ensures .0) ∙ at-r .r .given .1) in
+    sym (length-take-le _ _ (omega (arith, h .2, at-read-image′ .read-image .kept .1 .1 .0)))
 
 returns-2 : tie.Need-returns-2
 returns-2 c =
-    let args = c .before .before .before .before .before .before .before .before .before .args in
-    let read-image = c .before .before .before .before .before .before .read-image in
-    let r = c .before .before .before .r in
-    let find = c .find in
-    let x = args .image .now in
-    let h = image-stream x _ _ (sym (read-image .ensures .0) ∙ r .given .1) in
-    let f : take (r .given .0 .0) (read-image .last .1 .1 .0) ≡ stream x = rw (read-image .ensures .1, r .given .1) (image-front x _ _ (h .1)) in
-    rw (f, ← h .0) at (find .ensures)
+    let at-r = c .before .before .before in let at-read-image′ = at-r .before .before .before in
+    let args = at-read-image′ .before .before .before .args in let x = args .image .now in
+    let h = image-stream x _ _ (sym (at-read-image′ .read-image .ensures .0) ∙ at-r .r .given .1) in
+    let f : take (at-r .r .given .0 .0) (at-read-image′ .read-image .last .1 .1 .0) ≡ stream x =
+    rw (at-read-image′ .read-image .ensures .1, at-r .r .given .1) (image-front x _ _ (h .1)) in
+    rw (f, ← h .0) at (c .find .ensures)
 
 pub locate-spec : {M : Type 1} → statement M
 locate-spec =
     tie.close
-    (tie.spec
-    slice-aggregate-read-image
-    read-image-requires
-    enum-known-r
-    image-refusal-requires
-    nowhere-requires
-    returns
-    array-share-prefix-buffer
-    slice-aggregate-find
-    find-requires
-    returns-2)
+    (tie.spec (λ c. search needs) (λ c κs. search needs) (λ c. search needs) (λ c κs. search needs) (λ c κs. search needs) returns
+    array-share-prefix-buffer slice-aggregate-find (λ c κs. search needs) returns-2)

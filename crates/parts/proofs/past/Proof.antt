@@ -5,19 +5,13 @@ use borrow.Author.Needs.{needs}
 use Rattle.parts.proofs.past.Statement.{statement}
 use Rattle.parts.proofs.past.Tie as tie
 
-add-t6 : tie.Need-add-t6
-add-t6 c = search needs
-
 returns : tie.Need-returns
 unfolding past
-returns c = simp (past, eq-eqb _ _ ((c .before .if1) .taken))
-
-add-t7 : tie.Need-add-t7
-add-t7 c = search needs
+returns c = simp (past, eq-eqb _ _ (c .before .if1 .taken))
 
 returns-2 : tie.Need-returns-2
 unfolding past
-returns-2 c = simp (past, ne-eqb _ _ ((c .before .if1) .left))
+returns-2 c = simp (past, ne-eqb _ _ (c .before .if1 .left))
 
 pub past-spec : {M : Type 1} → statement M
-past-spec = tie.close (tie.spec add-t6 returns add-t7 returns-2)
+past-spec = tie.close (tie.spec (λ c. search needs) returns (λ c. search needs) returns-2)

@@ -8,103 +8,56 @@ use borrow.Author.Needs.{needs}
 use Rattle.parts.proofs.walk.Statement.{statement}
 use Rattle.parts.proofs.walk.Tie as tie
 
-slice-aggregate-structs : tie.Need-slice-aggregate-structs
-slice-aggregate-structs c = search needs
-
-none-requires : tie.Need-none-requires
-none-requires c κs = search needs
+-- the places that proofs look back to
+abbrev start′ : tie.After-has → tie.Start
+start′ c = c .before .before .before .before
 
 structs-requires : tie.Need-structs-requires
 unfolding no-totals
 structs-requires c κs =
-    let pre = c .before .before .before .before .before .pre in
-    let zero = c .none in
-    ((pre .0, refl, omega (arith, pre .1)), (rw (zero .ensures) (omega arith), pre .2))
-
-enum-known-r : tie.Need-enum-known-r
-enum-known-r c = search needs
-
-enum-told : tie.Need-enum-told
-enum-told c = search needs
-
-behind-requires : tie.Need-behind-requires
-behind-requires c κs = search needs
+    let start′′ = start′ (c .before) in
+    ((start′′ .pre .0, refl, omega (arith, start′′ .pre .1)), (rw (c .none .ensures) (omega arith), start′′ .pre .2))
 
 returns : tie.Need-returns
 unfolding no-totals
 returns c =
-    let args = c .before .before .before .before .before .before .before .before .before .before .args in
-    let zero = c .before .before .before .before .before .none in
-    let structs = c .before .before .before .before .structs in
-    let stopped = c .before .enum-told in
-    let none = ap (λ (t : Totals). t .commands) (zero .ensures) in
+    let at-structs = c .before .before .before .before in
+    let args = start′ (at-structs .before .before) .args in
+    let none = ap (λ (t : Totals). t .commands) (at-structs .before .none .ensures) in
     walk-on (args .ar .now) (args .types .now) (args .s .now) (args .k) (args .name) (args .at) _ none _
-    (sym (structs .ensures .0 .0) ∙ stopped .given .1) _
-
-behind-requires-2 : tie.Need-behind-requires-2
-behind-requires-2 c κs = search needs
+    (sym (at-structs .structs .ensures .0 .0) ∙ c .before .enum-told .given .1) _
 
 of-struct-requires : tie.Need-of-struct-requires
 of-struct-requires c κs =
-    let pre = c .before .before .before .before .before .before .before .before .before .before .before .pre in
-    let structs = c .before .before .before .before .before .structs in
-    let r = c .before .before .r in
-    let start = c .behind2 in
-    let b = rw (r .given .1) at (structs .ensures .1) in
-    (pre .0, pre .1, rw (start .ensures) (b .0 .1))
-
-enum-known-q : tie.Need-enum-known-q
-enum-known-q c = search needs
-
-enum-told-2 : tie.Need-enum-told-2
-enum-told-2 c = search needs
-
-behind-requires-3 : tie.Need-behind-requires-3
-behind-requires-3 c κs = search needs
+    let at-r = c .before .before in let at-structs = at-r .before .before .before in
+    let start′′ = start′ (at-structs .before .before) in
+    let b = rw (at-r .r .given .1) at (at-structs .structs .ensures .1) in
+    (start′′ .pre .0, start′′ .pre .1, rw (c .behind2 .ensures) (b .0 .1))
 
 returns-2 : tie.Need-returns-2
 unfolding no-totals
 returns-2 c =
-    let args = c .before .before .before .before .before .before .before .before .before .before .before .before .before .before .before .args in
-    let zero = c .before .before .before .before .before .before .before .before .before .before .none in
-    let structs = c .before .before .before .before .before .before .before .before .before .structs in
-    let r = c .before .before .before .before .before .before .r in
-    let start = c .before .before .before .before .behind2 in
-    let of-struct = c .before .before .before .of-struct in
-    let stopped = c .before .enum-told2 in
-    let none = ap (λ (t : Totals). t .commands) (zero .ensures) in
+    let at-of-struct = c .before .before .before in let at-r = at-of-struct .before .before .before in
+    let at-structs = at-r .before .before .before in
+    let args = start′ (at-structs .before .before) .args in
+    let none = ap (λ (t : Totals). t .commands) (at-structs .before .none .ensures) in
     walk-through (args .ar .now) (args .types .now) (args .s .now) (args .k) (args .name) (args .at) _ none _ _
-    (sym (structs .ensures .0 .0) ∙ r .given .1) _ (sym (rw (start .ensures) at (of-struct .ensures)) ∙ stopped .given .1) _
+    (sym (at-structs .structs .ensures .0 .0) ∙ at-r .r .given .1) _
+    (sym (rw (at-of-struct .before .behind2 .ensures) at (at-of-struct .of-struct .ensures)) ∙ c .before .enum-told2 .given .1) _
 
 returns-3 : tie.Need-returns-3
 unfolding no-totals
 returns-3 c =
-    let args = c .before .before .before .before .before .before .before .before .before .before .before .before .before .before .before .args in
-    let zero = c .before .before .before .before .before .before .before .before .before .before .none in
-    let structs = c .before .before .before .before .before .before .before .before .before .structs in
-    let r = c .before .before .before .before .before .before .r in
-    let start = c .before .before .before .before .behind2 in
-    let of-struct = c .before .before .before .of-struct in
-    let q = c .before .q in
-    let none = ap (λ (t : Totals). t .commands) (zero .ensures) in
+    let at-of-struct = c .before .before .before in let at-r = at-of-struct .before .before .before in
+    let at-structs = at-r .before .before .before in
+    let args = start′ (at-structs .before .before) .args in
+    let none = ap (λ (t : Totals). t .commands) (at-structs .before .none .ensures) in
     walk-found (args .ar .now) (args .types .now) (args .s .now) (args .k) (args .name) (args .at) _ none _ _
-    (sym (structs .ensures .0 .0) ∙ r .given .1) _ _ (sym (rw (start .ensures) at (of-struct .ensures)) ∙ q .given .1)
+    (sym (at-structs .structs .ensures .0 .0) ∙ at-r .r .given .1) _ _
+    (sym (rw (at-of-struct .before .behind2 .ensures) at (at-of-struct .of-struct .ensures)) ∙ c .before .q .given .1)
 
 pub walk-spec : {M : Type 1} → statement M
 walk-spec =
     tie.close
-    (tie.spec
-    slice-aggregate-structs
-    none-requires
-    structs-requires
-    enum-known-r
-    enum-told
-    behind-requires
-    returns
-    behind-requires-2
-    of-struct-requires
-    enum-known-q
-    enum-told-2
-    behind-requires-3
-    returns-2
-    returns-3)
+    (tie.spec (λ c. search needs) (λ c κs. search needs) structs-requires (λ c. search needs) (λ c. search needs) (λ c κs. search needs) returns
+    (λ c κs. search needs) of-struct-requires (λ c. search needs) (λ c. search needs) (λ c κs. search needs) returns-2 returns-3)

@@ -28,53 +28,52 @@ abbrev commands-claims : ℕ → commands-lts.Claims
 commands-claims t = (line-reads.Asked, line-reads.Learnt, commands-below t, commands.Post)
 
 commands-returns : (t : ℕ) → commands-lts.Need-returns (commands-claims t) (commands-at t) commands.Post
-commands-returns t c = let a = (c .before .before .before .args) in
-    (placed-as (lines-none (a .of) (a .name) (a .position) (a .list .now) (a .place) (a .n) ((c .if1) .taken)) (placed-none (a .out .now) (a .k)), omega arith)
-
-commands-mul-line : (t : ℕ) → commands-lts.Need-mul-line (commands-claims t) (commands-at t) commands.Post
-commands-mul-line t c = search needs
-
-commands-shared-slice-read-line : (t : ℕ) → commands-lts.Need-shared-slice-read-line (commands-claims t) (commands-at t) commands.Post
-commands-shared-slice-read-line t c = omega (arith, (c .before .before .before .before .before .pre), (c .before .before .if1) .left)
-
-commands-line-requires : (t : ℕ) → commands-lts.Need-line-requires (commands-claims t) (commands-at t) commands.Post
-commands-line-requires t c κs = omega (arith, (c .before .before .before .before .before .pre), (c .before .before .if1) .left)
+commands-returns t c =
+    let a = c .before .before .before .args in
+    (placed-as (lines-none (a .of) (a .name) (a .position) (a .list .now) (a .place) (a .n) (c .if1 .taken)) (placed-none (a .out .now) (a .k)), omega arith)
 
 commands-add-commands : (t : ℕ) → commands-lts.Need-add-commands (commands-claims t) (commands-at t) commands.Post
-commands-add-commands t c = omega (arith, (c .before .before .before .before .before .before .before .before .pre), (c .before .before .before .before .before .if1) .left)
+commands-add-commands t c =
+    let at-line = c .before .before in let at-if1 = at-line .before .before .before in
+    omega (arith, at-if1 .before .before .before .pre, at-if1 .if1 .left)
 
 commands-sub-commands : (t : ℕ) → commands-lts.Need-sub-commands (commands-claims t) (commands-at t) commands.Post
-commands-sub-commands t c = omega (arith, (c .before .before .before .before .before .before .before .before .pre), (c .before .before .before .before .before .if1) .left)
+commands-sub-commands t c =
+    let at-line = c .before .before in let at-if1 = at-line .before .before .before in
+    omega (arith, at-if1 .before .before .before .pre, at-if1 .if1 .left)
 
 commands-add-commands-2 : (t : ℕ) → commands-lts.Need-add-commands-2 (commands-claims t) (commands-at t) commands.Post
-commands-add-commands-2 t c = omega (arith, (c .before .before .before .before .before .before .before .before .pre), (c .before .before .before .before .before .if1) .left)
+commands-add-commands-2 t c =
+    let at-line = c .before .before in let at-if1 = at-line .before .before .before in
+    omega (arith, at-if1 .before .before .before .pre, at-if1 .if1 .left)
 
 commands-commands-requires : (t : ℕ) → commands-lts.Need-commands-requires (commands-claims t) (commands-at t) commands.Post
-commands-commands-requires t c κs = let pre = (c .before .before .before .before .before .before .before .before .before .pre) in
-    let more = (c .before .before .before .before .before .before .if1) .left in
-    (omega (arith, pre, more), (omega (arith, pre, more), omega (arith, pre, more, (c .before .before .before .line) .ensures .1, (c .before .before .before .line) .kept .0), omega (arith, pre, more)))
+commands-commands-requires t c κs =
+    let at-line = c .before .before .before in let at-if1 = at-line .before .before .before in
+    let pre = at-if1 .before .before .before .pre in let more = at-if1 .if1 .left in (
+      omega (arith, pre, more),
+      (omega (arith, pre, more), omega (arith, pre, more, at-line .line .ensures .1, at-line .line .kept .0), omega (arith, pre, more)),
+    )
 
 commands-same-length : (t : ℕ) → commands-lts.Need-same-length (commands-claims t) (commands-at t) commands.Post
-commands-same-length t c = (c .before .before .commands) .kept .1 .1 .1 .1 .1 .1 .0 ∙ (c .before .before .before .before .before .before .line) .kept .0
+commands-same-length t c =
+    let at-commands = c .before .before in
+    at-commands .commands .kept .1 .1 .1 .1 .1 .1 .0 ∙ at-commands .before .before .before .before .line .kept .0
 
 commands-returns-2 : (t : ℕ) → commands-lts.Need-returns-2 (commands-claims t) (commands-at t) commands.Post
-commands-returns-2 t c = let a = (c .before .before .before .before .before .before .before .before .before .before .before .before .args) in
-    let first = (c .before .before .before .before .before .before .line) .ensures in
-    let rest = (c .before .before .commands) .ensures in
-    let more = (c .before .before .before .before .before .before .before .before .before .if1) .left in
-    (placed-as (lines-more (a .of) (a .name) (a .position) (a .list .now) (a .place) (a .n) more (omega arith)) (placed-on (first .0) (rest .0)), omega (arith, first .1, rest .1, more))
+commands-returns-2 t c =
+    let at-commands = c .before .before in let at-line = at-commands .before .before .before .before in
+    let at-if1 = at-line .before .before .before in let a = at-if1 .before .before .before .args in
+    let first = at-line .line .ensures in let rest = at-commands .commands .ensures in
+    let more = at-if1 .if1 .left in (
+      placed-as (lines-more (a .of) (a .name) (a .position) (a .list .now) (a .place) (a .n) more (omega arith)) (placed-on (first .0) (rest .0)),
+      omega (arith, first .1, rest .1, more),
+    )
 
 pub +commands-spec : {M : Type 1} → statement M
-+commands-spec = close μ-commands λ t. commands-lts.spec (commands-claims t)
-    (commands-at t)
-    commands.Post
-    (commands-returns t)
-    (commands-mul-line t)
-    (commands-shared-slice-read-line t)
-    (commands-line-requires t)
-    (commands-add-commands t)
-    (commands-sub-commands t)
-    (commands-add-commands-2 t)
-    (commands-commands-requires t)
-    (commands-same-length t)
-    (commands-returns-2 t)
++commands-spec =
+    close μ-commands
+    λ t. commands-lts.spec (commands-claims t) (commands-at t) commands.Post (commands-returns t) (λ c. search needs)
+    (λ c. let at-if1 = c .before .before in omega (arith, at-if1 .before .before .before .pre, at-if1 .if1 .left))
+    (λ c κs. let at-if1 = c .before .before in omega (arith, at-if1 .before .before .before .pre, at-if1 .if1 .left)) (commands-add-commands t)
+    (commands-sub-commands t) (commands-add-commands-2 t) (commands-commands-requires t) (commands-same-length t) (commands-returns-2 t)

@@ -28,34 +28,42 @@ abbrev steps-claims : ℕ → steps-lts.Claims
 steps-claims t = (step-reads.Asked, step-reads.Learnt, steps-below t, steps.Post)
 
 steps-returns : (t : ℕ) → steps-lts.Need-returns (steps-claims t) (steps-at t) steps.Post
-steps-returns t c = let a = (c .before .before .before .before .before .before .args) in steps-end (a .ar .now) (a .s .now) (a .n) (a .at) (a .of) ((c .if1) .taken) (a .place) (a .out .now) (a .k)
+steps-returns t c =
+    let at-shared-slice-known2 = c .before .before .before .before in
+    let a = at-shared-slice-known2 .before .before .args in
+    steps-end (a .ar .now) (a .s .now) (a .n) (a .at) (a .of) (c .if1 .taken) (a .place) (a .out .now) (a .k)
 
 steps-step-requires : (t : ℕ) → steps-lts.Need-step-requires (steps-claims t) (steps-at t) steps.Post
-steps-step-requires t c κs = let a = (c .before .before .before .before .before .before .before .args) in
-    ((c .before .before .before .before .before .before .before .pre) .1 .0, first-walkable (steps-more (a .ar .now) (a .s .now) (a .n) (a .at) ((c .before .if1) .left) ((c .before .before .before .before .before .before .before .pre) .1 .1 .good)) ((c .before .before .before .before .before .before .before .pre) .1 .1))
-
-steps-sub-steps : (t : ℕ) → steps-lts.Need-sub-steps (steps-claims t) (steps-at t) steps.Post
-steps-sub-steps t c = omega (arith, (c .before .before .before .before .if1) .left)
+steps-step-requires t c κs =
+    let at-if1 = c .before in let at-shared-slice-known2 = at-if1 .before .before .before .before in
+    let start = at-shared-slice-known2 .before .before in
+    (start .pre .1 .0, first-walkable (steps-more _ _ _ _ (at-if1 .if1 .left) (start .pre .1 .1 .good)) (start .pre .1 .1))
 
 steps-steps-requires : (t : ℕ) → steps-lts.Need-steps-requires (steps-claims t) (steps-at t) steps.Post
-steps-steps-requires t c κs = let a = (c .before .before .before .before .before .before .before .before .before .before .before .args) in
-    (omega (arith, (c .before .before .before .before .before .before .before .before .before .before .before .pre) .0, (c .before .before .before .before .before .if1) .left), ((c .before .before .before .before .before .before .before .before .before .before .before .pre) .1 .0, next-walkable (steps-more (a .ar .now) (a .s .now) (a .n) (a .at) ((c .before .before .before .before .before .if1) .left) ((c .before .before .before .before .before .before .before .before .before .before .before .pre) .1 .1 .good)) ((c .before .before .before .before .before .before .before .before .before .before .before .pre) .1 .1) ((c .before .before .before .step) .ensures)))
+steps-steps-requires t c κs =
+    let at-step = c .before .before .before in let at-if1 = at-step .before .before in
+    let at-shared-slice-known2 = at-if1 .before .before .before .before in
+    let start = at-shared-slice-known2 .before .before in (
+      omega (arith, start .pre .0, at-if1 .if1 .left),
+      (start .pre .1 .0, next-walkable (steps-more _ _ _ _ (at-if1 .if1 .left) (start .pre .1 .1 .good)) (start .pre .1 .1) (at-step .step .ensures)),
+    )
 
 steps-same-length : (t : ℕ) → steps-lts.Need-same-length (steps-claims t) (steps-at t) steps.Post
-steps-same-length t c = placed-kept ((c .before .before .steps) .ensures .text) ∙ placed-kept ((c .before .before .before .before .before .before .step) .ensures .text)
+steps-same-length t c =
+    let at-steps = c .before .before in
+    placed-kept (at-steps .steps .ensures .text) ∙ placed-kept (at-steps .before .before .before .before .step .ensures .text)
 
 steps-returns-2 : (t : ℕ) → steps-lts.Need-returns-2 (steps-claims t) (steps-at t) steps.Post
-steps-returns-2 t c = let a = (c .before .before .before .before .before .before .before .before .before .before .before .before .before .before .args) in
-    let g = (c .before .before .before .before .before .before .before .before .before .before .before .before .before .before .pre) .1 .1 .good in
-    both-walked (steps-more (a .ar .now) (a .s .now) (a .n) (a .at) ((c .before .before .before .before .before .before .before .before .if1) .left) g) (steps-text (a .ar .now) (a .s .now) (a .n) (a .at) (a .of) ((c .before .before .before .before .before .before .before .before .if1) .left) g) ((c .before .before .before .before .before .before .step) .ensures) ((c .before .before .steps) .ensures)
+steps-returns-2 t c =
+    let at-steps = c .before .before in let at-step = at-steps .before .before .before .before in
+    let at-if1 = at-step .before .before in let at-shared-slice-known2 = at-if1 .before .before .before .before in
+    let start = at-shared-slice-known2 .before .before in let a = start .args in
+    let g = start .pre .1 .1 .good in
+    both-walked (steps-more _ _ _ _ (at-if1 .if1 .left) g) (steps-text (a .ar .now) (a .s .now) (a .n) (a .at) (a .of) (at-if1 .if1 .left) g)
+    (at-step .step .ensures) (at-steps .steps .ensures)
 
 pub +steps-spec : {M : Type 1} → statement M
-+steps-spec = close μ-steps λ t. steps-lts.spec (steps-claims t)
-    (steps-at t)
-    steps.Post
-    (steps-returns t)
-    (steps-step-requires t)
-    (steps-sub-steps t)
-    (steps-steps-requires t)
-    (steps-same-length t)
-    (steps-returns-2 t)
++steps-spec =
+    close μ-steps
+    λ t. steps-lts.spec (steps-claims t) (steps-at t) steps.Post (steps-returns t) (steps-step-requires t)
+    (λ c. omega (arith, c .before .before .before .before .if1 .left)) (steps-steps-requires t) (steps-same-length t) (steps-returns-2 t)

@@ -22,75 +22,41 @@ from-at t = and 2 from-kinds.ps (is 2 from-kinds.ps μ-from t) from.Pre
 abbrev from-below : ℕ → In 2 from-kinds.ps
 from-below t = and 2 from-kinds.ps (falls 2 from-kinds.ps _<_ μ-from t) from.Pre
 
-from-returns : (t : ℕ) → from-lts.Need-returns (
-  byte-reads.Asked,
-  byte-reads.Learnt,
-  from-below t,
-  from.Post,
-) (from-at t) from.Post
-from-returns t c = placed-as (drop-end _ _ ((c .if1) .taken)) (placed-none _ _)
+-- what the functions that it calls ask and give
+abbrev from-claims : ℕ → from-lts.Claims
+from-claims t = (byte-reads.Asked, byte-reads.Learnt, from-below t, from.Post)
 
-from-shared-slice-read-byte : (t : ℕ) → from-lts.Need-shared-slice-read-byte (
-  byte-reads.Asked,
-  byte-reads.Learnt,
-  from-below t,
-  from.Post,
-) (from-at t) from.Post
-from-shared-slice-read-byte t c = omega arith
+from-returns : (t : ℕ) → from-lts.Need-returns (from-claims t) (from-at t) from.Post
+from-returns t c = placed-as (drop-end _ _ (c .if1 .taken)) (placed-none _ _)
 
-from-byte-requires : (t : ℕ) → from-lts.Need-byte-requires (
-  byte-reads.Asked,
-  byte-reads.Learnt,
-  from-below t,
-  from.Post,
-) (from-at t) from.Post
-from-byte-requires t c κs = omega (arith, (c .before .before .before .before .before .pre), ap length (drop-next ((c .before .before .before .before .before .args) .t .now) ((c .before .before .before .before .before .args) .i) ((c .before .before .if1) .left)))
+from-byte-requires : (t : ℕ) → from-lts.Need-byte-requires (from-claims t) (from-at t) from.Post
+from-byte-requires t c κs =
+    let at-if1 = c .before .before in let start = at-if1 .before .before .before in
+    omega (arith, start .pre, ap length (drop-next (start .args .t .now) (start .args .i) (at-if1 .if1 .left)))
 
-from-add-from : (t : ℕ) → from-lts.Need-add-from (
-  byte-reads.Asked,
-  byte-reads.Learnt,
-  from-below t,
-  from.Post,
-) (from-at t) from.Post
-from-add-from t c = omega (arith, (c .before .before .before .before .before .before .if1) .left)
+from-from-requires : (t : ℕ) → from-lts.Need-from-requires (from-claims t) (from-at t) from.Post
+from-from-requires t c κs =
+    let at-byte = c .before .before .before in let at-if1 = at-byte .before .before .before in
+    let start = at-if1 .before .before .before in (
+      omega (arith, start .pre, at-if1 .if1 .left),
+      omega (
+        arith,
+        start .pre,
+        at-byte .byte .kept .0,
+        at-byte .byte .ensures .end,
+        ap length (drop-next (start .args .t .now) (start .args .i) (at-if1 .if1 .left)),
+      ),
+    )
 
-from-from-requires : (t : ℕ) → from-lts.Need-from-requires (
-  byte-reads.Asked,
-  byte-reads.Learnt,
-  from-below t,
-  from.Post,
-) (from-at t) from.Post
-from-from-requires t c κs = (omega (arith, (c .before .before .before .before .before .before .before .before .before .pre), (c .before .before .before .before .before .before .if1) .left), omega (arith, (c .before .before .before .before .before .before .before .before .before .pre), (c .before .before .before .byte) .kept .0, (c .before .before .before .byte) .ensures .end, ap length (drop-next ((c .before .before .before .before .before .before .before .before .before .args) .t .now) ((c .before .before .before .before .before .before .before .before .before .args) .i) ((c .before .before .before .before .before .before .if1) .left))))
-
-from-same-length : (t : ℕ) → from-lts.Need-same-length (
-  byte-reads.Asked,
-  byte-reads.Learnt,
-  from-below t,
-  from.Post,
-) (from-at t) from.Post
-from-same-length t c = (c .before .before .from) .kept .0 ∙ (c .before .before .before .before .before .before .byte) .kept .0
-
-from-returns-2 : (t : ℕ) → from-lts.Need-returns-2 (
-  byte-reads.Asked,
-  byte-reads.Learnt,
-  from-below t,
-  from.Post,
-) (from-at t) from.Post
-from-returns-2 t c = placed-as (drop-next _ _ ((c .before .before .before .before .before .before .before .before .before .if1) .left)) (placed-on ((c .before .before .before .before .before .before .byte) .ensures) ((c .before .before .from) .ensures))
+from-returns-2 : (t : ℕ) → from-lts.Need-returns-2 (from-claims t) (from-at t) from.Post
+from-returns-2 t c =
+    let at-from = c .before .before in let at-byte = at-from .before .before .before .before in
+    placed-as (drop-next _ _ (at-byte .before .before .before .if1 .left)) (placed-on (at-byte .byte .ensures) (at-from .from .ensures))
 
 pub +from-spec : {M : Type 1} → statement M
-+from-spec = close μ-from λ t. from-lts.spec (
-  byte-reads.Asked,
-  byte-reads.Learnt,
-  from-below t,
-  from.Post,
-)
-    (from-at t)
-    from.Post
-    (from-returns t)
-    (from-shared-slice-read-byte t)
-    (from-byte-requires t)
-    (from-add-from t)
-    (from-from-requires t)
-    (from-same-length t)
++from-spec =
+    close μ-from
+    λ t. from-lts.spec (from-claims t) (from-at t) from.Post (from-returns t) (λ c. omega arith)
+    (from-byte-requires t) (λ c. let at-byte = c .before .before .before in omega (arith, at-byte .before .before .before .if1 .left))
+    (from-from-requires t) (λ c. let at-from = c .before .before in at-from .from .kept .0 ∙ at-from .before .before .before .before .byte .kept .0)
     (from-returns-2 t)

@@ -4,15 +4,9 @@ use Rattle.text.proofs.decimal.Statement.{statement}
 use Rattle.text.proofs.decimal.Tie as tie
 use Rattle.text.specs.Listing.{decimal}
 
-digits-requires : tie.Need-digits-requires
-digits-requires c κs = search needs
-
-same-length : tie.Need-same-length
-same-length c = search needs
-
 returns : tie.Need-returns
 unfolding decimal
-returns c = ((c .before .before .digits) .ensures .0, (c .before .before .digits) .ensures .1)
+returns c = (c .before .before .digits .ensures .0, c .before .before .digits .ensures .1)
 
 pub decimal-spec : {M : Type 1} → statement M
-decimal-spec = tie.close (tie.spec digits-requires same-length returns)
+decimal-spec = tie.close (tie.spec (λ c κs. search needs) (λ c. search needs) returns)

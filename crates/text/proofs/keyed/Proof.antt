@@ -6,18 +6,13 @@ use native.Mathlib.Omega.{arith}
 use Rattle.text.specs.Listing.{keyed}
 use Rattle.text.specs.ListingLaws.{placed-on}
 
-put-requires : tie.Need-put-requires
-put-requires c κs = search needs
-
-decimal-requires : tie.Need-decimal-requires
-decimal-requires c κs = search needs
-
-same-length : tie.Need-same-length
-same-length c = search needs
-
 returns : tie.Need-returns
 unfolding keyed
-returns c = (placed-on ((c .before .before .before .before .before .before .put) .ensures) ((c .before .before .decimal) .ensures .0), omega (arith, (c .before .before .before .before .before .before .before .before .before .before .pre), (c .before .before .before .before .before .before .put) .ensures .end, (c .before .before .decimal) .ensures .1))
+returns c =
+    let at-decimal = c .before .before in let at-put = at-decimal .before .before .before .before in (
+      placed-on (at-put .put .ensures) (at-decimal .decimal .ensures .0),
+      omega (arith, at-put .before .before .before .before .pre, at-put .put .ensures .end, at-decimal .decimal .ensures .1),
+    )
 
 pub keyed-spec : {M : Type 1} → statement M
-keyed-spec = tie.close (tie.spec put-requires decimal-requires same-length returns)
+keyed-spec = tie.close (tie.spec (λ c κs. search needs) (λ c κs. search needs) (λ c. search needs) returns)

@@ -26,50 +26,43 @@ lists-at t = and 3 lists-kinds.ps (is 3 lists-kinds.ps μ-lists t) lists.Pre
 abbrev lists-below : ℕ → In 3 lists-kinds.ps
 lists-below t = and 3 lists-kinds.ps (falls 3 lists-kinds.ps _<_ μ-lists t) lists.Pre
 
+-- what the functions that it calls ask and give
+abbrev lists-claims : ℕ → lists-lts.Claims
+lists-claims t = (list-reads.Asked, list-reads.Learnt, lists-below t, lists.Post)
+
 -- the places that proofs look back to
-abbrev start :
-    (t : ℕ) → lists-lts.Else1 (list-reads.Asked, list-reads.Learnt, lists-below t, lists.Post) (lists-at t) lists.Post
-    → lists-lts.Start (list-reads.Asked, list-reads.Learnt, lists-below t, lists.Post) (lists-at t) lists.Post
+abbrev start : (t : ℕ) → lists-lts.Else1 (lists-claims t) (lists-at t) lists.Post → lists-lts.Start (lists-claims t) (lists-at t) lists.Post
 start t c = c .before .before .before .before
 
-abbrev start₂ :
-    (t : ℕ) → lists-lts.After-list-arg2 (list-reads.Asked, list-reads.Learnt, lists-below t, lists.Post) (lists-at t) lists.Post
-    → lists-lts.Start (list-reads.Asked, list-reads.Learnt, lists-below t, lists.Post) (lists-at t) lists.Post
+abbrev start₂ : (t : ℕ) → lists-lts.After-list-arg2 (lists-claims t) (lists-at t) lists.Post → lists-lts.Start (lists-claims t) (lists-at t) lists.Post
 start₂ t c = start t (c .before .before)
 
 abbrev at-list :
-    (t : ℕ) → lists-lts.After-slice-known4 (list-reads.Asked, list-reads.Learnt, lists-below t, lists.Post) (lists-at t) lists.Post
-    → lists-lts.After-list (list-reads.Asked, list-reads.Learnt, lists-below t, lists.Post) (lists-at t) lists.Post
+    (t : ℕ) → lists-lts.After-slice-known4 (lists-claims t) (lists-at t) lists.Post → lists-lts.After-list (lists-claims t) (lists-at t) lists.Post
 at-list t c = c .before .before .before .before
 
-abbrev at-list₂ :
-    (t : ℕ) → lists-lts.After-first (list-reads.Asked, list-reads.Learnt, lists-below t, lists.Post) (lists-at t) lists.Post
-    → lists-lts.After-list (list-reads.Asked, list-reads.Learnt, lists-below t, lists.Post) (lists-at t) lists.Post
+abbrev at-list₂ : (t : ℕ) → lists-lts.After-first (lists-claims t) (lists-at t) lists.Post → lists-lts.After-list (lists-claims t) (lists-at t) lists.Post
 at-list₂ t c = at-list t (c .before .before)
 
-abbrev at-list₃ :
-    (t : ℕ) → lists-lts.After-lists (list-reads.Asked, list-reads.Learnt, lists-below t, lists.Post) (lists-at t) lists.Post
-    → lists-lts.After-list (list-reads.Asked, list-reads.Learnt, lists-below t, lists.Post) (lists-at t) lists.Post
+abbrev at-list₃ : (t : ℕ) → lists-lts.After-lists (lists-claims t) (lists-at t) lists.Post → lists-lts.After-list (lists-claims t) (lists-at t) lists.Post
 at-list₃ t c = at-list₂ t (c .before .before .before .before)
 
 abbrev at-lists :
-    (t : ℕ) → lists-lts.After-slice-known6 (list-reads.Asked, list-reads.Learnt, lists-below t, lists.Post) (lists-at t) lists.Post
-    → lists-lts.After-lists (list-reads.Asked, list-reads.Learnt, lists-below t, lists.Post) (lists-at t) lists.Post
+    (t : ℕ) → lists-lts.After-slice-known6 (lists-claims t) (lists-at t) lists.Post → lists-lts.After-lists (lists-claims t) (lists-at t) lists.Post
 at-lists t c = c .before .before .before .before
 
 abbrev at-list₄ :
-    (t : ℕ) → lists-lts.After-slice-known6 (list-reads.Asked, list-reads.Learnt, lists-below t, lists.Post) (lists-at t) lists.Post
-    → lists-lts.After-list (list-reads.Asked, list-reads.Learnt, lists-below t, lists.Post) (lists-at t) lists.Post
+    (t : ℕ) → lists-lts.After-slice-known6 (lists-claims t) (lists-at t) lists.Post → lists-lts.After-list (lists-claims t) (lists-at t) lists.Post
 at-list₄ t c = at-list₃ t (at-lists t c)
 
-lists-returns : (t : ℕ) → lists-lts.Need-returns (list-reads.Asked, list-reads.Learnt, lists-below t, lists.Post) (lists-at t) lists.Post
+lists-returns : (t : ℕ) → lists-lts.Need-returns (lists-claims t) (lists-at t) lists.Post
 unfolding types-table
 lists-returns t c =
     let a = c .before .before .before .before .args in
     let q = many-none (read-list (a .s .now) (a .structs)) (a .n) (a .at) (c .if1 .taken) in
     (sym (ap place-told q), (omega (arith, c .before .before .before .before .pre), rw q (refl, refl)))
 
-lists-returns-2 : (t : ℕ) → lists-lts.Need-returns-2 (list-reads.Asked, list-reads.Learnt, lists-below t, lists.Post) (lists-at t) lists.Post
+lists-returns-2 : (t : ℕ) → lists-lts.Need-returns-2 (lists-claims t) (lists-at t) lists.Post
 lists-returns-2 t c =
     let at-slice-known3 = c .before .before .before .before in let at-list′ = at-slice-known3 .before .before in
     let at-if1 = at-list′ .before .before .before in
@@ -78,14 +71,14 @@ lists-returns-2 t c =
     let h = many-stop (read-list (a .s .now) (a .structs)) (a .n) (a .at) _ _ (at-if1 .if1 .left) (q .1) in
     (c .enum-told .given .1 ∙ sym (ap place-told h), (at-list′ .list .ensures .1 .0, rw h tt))
 
-lists-lists-requires : (t : ℕ) → lists-lts.Need-lists-requires (list-reads.Asked, list-reads.Learnt, lists-below t, lists.Post) (lists-at t) lists.Post
+lists-lists-requires : (t : ℕ) → lists-lts.Need-lists-requires (lists-claims t) (lists-at t) lists.Post
 lists-lists-requires t c κs =
     let at-first = c .before .before .before in let at-slice-known3 = at-first .before .before .before .before in
     let at-list′ = at-slice-known3 .before .before in let start′ = start₂ t (at-list′ .before) in
     let span = rw (at-first .first .given .1) at (at-list′ .list .ensures .1 .0) in
     (omega (arith, start′ .pre), omega (arith, start′ .pre, at-list′ .list .kept .1 .0, at-list′ .list .kept .1 .1 .0))
 
-lists-returns-3 : (t : ℕ) → lists-lts.Need-returns-3 (list-reads.Asked, list-reads.Learnt, lists-below t, lists.Post) (lists-at t) lists.Post
+lists-returns-3 : (t : ℕ) → lists-lts.Need-returns-3 (lists-claims t) (lists-at t) lists.Post
 lists-returns-3 t c =
     let at-lists′ = c .before .before .before .before in let at-first = at-lists′ .before .before .before .before in
     let at-slice-known3 = at-first .before .before .before .before in
@@ -107,7 +100,7 @@ lists-returns-3 t c =
 pub +lists-spec : {M : Type 1} → statement M
 +lists-spec =
     close μ-lists
-    λ t. lists-lts.spec (list-reads.Asked, list-reads.Learnt, lists-below t, lists.Post) (lists-at t) lists.Post (lists-returns t)
+    λ t. lists-lts.spec (lists-claims t) (lists-at t) lists.Post (lists-returns t)
     (λ c κs. omega (arith, start₂ t c .pre)) (λ c. search needs) (λ c. search needs) (λ c. at-list t (c .before .before) .list .kept .1 .0)
     (λ c. at-list t (c .before .before) .list .kept .1 .1 .0) (lists-returns-2 t) (λ c. search needs) (λ c. search needs) (lists-lists-requires t)
     (λ c. at-lists t c .lists .kept .1 .0 ∙ at-list₄ t c .list .kept .1 .0)

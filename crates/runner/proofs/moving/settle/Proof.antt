@@ -23,76 +23,75 @@ Inv-loop n items spans heads₀ next₀ left₀ heads next left =
 abbrev μ-loop : tie.MeasureT-loop
 μ-loop n items spans heads₀ next₀ left₀ heads next left = moves-left items (next .place) (next .fixes) (next .stable) (next .number)
 
+-- the places that proofs look back to
+abbrev start : tie.At-loop Inv-loop μ-loop → tie.Start Inv-loop μ-loop
+start c = c .before .before .before .before
+
+abbrev start₂ : tie.Else1 Inv-loop μ-loop → tie.Start Inv-loop μ-loop
+start₂ c = start (c .before .before)
+
+abbrev at-if1 : tie.After-advance Inv-loop μ-loop → tie.Else1 Inv-loop μ-loop
+at-if1 c = c .before .before .before .before
+
+abbrev at-if1₂ : tie.After-holding-arg Inv-loop μ-loop → tie.Else1 Inv-loop μ-loop
+at-if1₂ c = at-if1 (c .before .before .before)
+
+abbrev at-advance : tie.After-holding Inv-loop μ-loop → tie.After-advance Inv-loop μ-loop
+at-advance c = c .before .before .before .before
+
 loop-holds : tie.Need-loop-holds Inv-loop μ-loop
 loop-holds c = (refl, c .before .before .before .pre .1, led-none)
-
-same-length : tie.Need-same-length Inv-loop μ-loop
-same-length c = search needs
 
 returns : tie.Need-returns Inv-loop μ-loop
 returns c = led-nested (c .before .before .loop .inv .2) (c .if1 .taken)
 
 mul-if2 : tie.Need-mul-if2 Inv-loop μ-loop
-mul-if2 c = omega (arith, led-within (c .before .before .loop .inv .2) (c .if1 .left) (c .before .before .before .before .before .before .pre .0))
+mul-if2 c =
+    let at-loop = c .before .before in
+    omega (arith, led-within (at-loop .loop .inv .2) (c .if1 .left) (start₂ c .pre .0))
 
 shared-slice-read-if2 : tie.Need-shared-slice-read-if2 Inv-loop μ-loop
-shared-slice-read-if2 c = led-within (c .before .before .before .loop .inv .2) (c .before .if1 .left) (c .before .before .before .before .before .before .before .pre .0)
-
-same-length-2 : tie.Need-same-length-2 Inv-loop μ-loop
-same-length-2 c = search needs
+shared-slice-read-if2 c =
+    let at-loop = c .before .before .before in
+    led-within (at-loop .loop .inv .2) (c .before .if1 .left) (start at-loop .pre .0)
 
 returns-2 : tie.Need-returns-2 Inv-loop μ-loop
 returns-2 c =
-    let inv = c .before .before .before .before .loop .inv in
-    led-ended (inv .2) (c .before .before .if1 .left) (sym (inv .1) ∙ c .before .before .before .loop-test .taken) (c .if2 .taken)
+    led-ended (c .before .before .before .before .loop .inv .2) (c .before .before .if1 .left)
+    (sym (c .before .before .before .before .loop .inv .1) ∙ c .before .before .before .loop-test .taken) (c .if2 .taken)
 
 advance-requires : tie.Need-advance-requires Inv-loop μ-loop
-advance-requires c κs = led-movable (c .before .before .before .before .before .loop .inv .2) (c .before .before .before .if1 .left) (c .before .before .before .before .before .before .before .before .before .pre .0) (c .before .if2 .left)
+advance-requires c κs =
+    let at-if1′ = c .before .before .before in let at-loop = at-if1′ .before .before in
+    led-movable (at-loop .loop .inv .2) (at-if1′ .if1 .left) (start₂ at-if1′ .pre .0) (c .before .if2 .left)
 
 holding-requires : tie.Need-holding-requires Inv-loop μ-loop
 holding-requires c κs =
-    let inv = c .before .before .before .before .before .before .before .before .before .loop .inv in
-    let pre = c .before .before .before .before .before .before .before .before .before .before .before .before .before .pre .0 in
-    let none = sym (inv .1) ∙ c .before .before .before .before .before .before .before .before .loop-test .taken in
-    let led = led-more (inv .2) (c .before .before .before .before .before .before .before .if1 .left) pre (c .before .before .before .before .before .if2 .left) (c .before .before .before .advance .ensures) none in
-    led-rows pre led
+    let at-advance′ = c .before .before .before in let at-if2 = at-advance′ .before .before in
+    let in-loop = at-if1₂ c .before in let start′ = start (in-loop .before) in
+    let none = sym (in-loop .before .loop .inv .1) ∙ in-loop .loop-test .taken in
+    let led = led-more (in-loop .before .loop .inv .2) (at-if1₂ c .if1 .left) (start′ .pre .0) (at-if2 .if2 .left) (at-advance′ .advance .ensures) none in
+    led-rows (start′ .pre .0) led
 
 loop-less : tie.Need-loop-less Inv-loop μ-loop
 loop-less c =
-    let inv = c .before .before .before .before .before .before .before .before .before .before .loop .inv in
-    led-less (inv .2) (c .before .before .before .before .before .before .before .before .if1 .left) (c .before .before .before .before .before .before .before .before .before .before .before .before .before .before .pre .0) (c .before .before .before .before .before .before .if2 .left) (c .before .before .before .before .advance .ensures)
+    let at-if2 = at-advance c .before .before in let at-if1′ = at-if2 .before .before in
+    let at-loop = at-if1′ .before .before in
+    led-less (at-loop .loop .inv .2) (at-if1′ .if1 .left) (start₂ at-if1′ .pre .0) (at-if2 .if2 .left) (at-advance c .advance .ensures)
 
 loop-again : tie.Need-loop-again Inv-loop μ-loop
 loop-again c =
-    let inv = c .before .before .before .before .before .before .before .before .before .before .loop .inv in
-    let pre = c .before .before .before .before .before .before .before .before .before .before .before .before .before .before .pre .0 in
-    let none = sym (inv .1) ∙ c .before .before .before .before .before .before .before .before .before .loop-test .taken in
-    let led = led-more (inv .2) (c .before .before .before .before .before .before .before .before .if1 .left) pre (c .before .before .before .before .before .before .if2 .left) (c .before .before .before .before .advance .ensures) none in
+    let at-if2 = at-advance c .before .before in let at-if1′ = at-if2 .before .before in
+    let at-loop = at-if1′ .before .before in
+    let none = sym (at-loop .loop .inv .1) ∙ at-if1′ .before .loop-test .taken in
+    let led = led-more (at-loop .loop .inv .2) (at-if1′ .if1 .left) (start₂ at-if1′ .pre .0) (at-if2 .if2 .left) (at-advance c .advance .ensures) none in
     (search needs, c .holding .ensures, led)
 
-same-length-3 : tie.Need-same-length-3 Inv-loop μ-loop
-same-length-3 c = search needs
-
 returns-3 : tie.Need-returns-3 Inv-loop μ-loop
-returns-3 c =
-    led-held (c .before .loop .inv .2) (c .before .loop .left) (c .before .loop .inv .1) (omega (arith, c .loop-test .left))
+returns-3 c = led-held (c .before .loop .inv .2) (c .before .loop .left) (c .before .loop .inv .1) (omega (arith, c .loop-test .left))
 
 pub settle-spec : {M : Type 1} → statement M
 settle-spec =
     tie.close
-    (tie.spec
-    Inv-loop
-    μ-loop
-    loop-holds
-    same-length
-    returns
-    mul-if2
-    shared-slice-read-if2
-    same-length-2
-    returns-2
-    advance-requires
-    holding-requires
-    loop-less
-    loop-again
-    same-length-3
-    returns-3)
+    (tie.spec Inv-loop μ-loop loop-holds (λ c. search needs) returns mul-if2 shared-slice-read-if2 (λ c. search needs) returns-2 advance-requires
+    holding-requires loop-less loop-again (λ c. search needs) returns-3)

@@ -21,65 +21,23 @@ loop-holds c =
     let args = c .before .before .args in
     ((omega arith, refl), defaults-begin (args .types .now) (args .from) (args .n) (args .cells .now) (args .place))
 
-add-null-cell : tie.Need-add-null-cell Inv-loop μ-loop
-add-null-cell c = omega arith
-
-shared-slice-read-null-cell : tie.Need-shared-slice-read-null-cell Inv-loop μ-loop
-shared-slice-read-null-cell c = omega arith
-
-null-cell-requires : tie.Need-null-cell-requires Inv-loop μ-loop
-null-cell-requires c κs = search needs
-
-add-cells : tie.Need-add-cells Inv-loop μ-loop
-add-cells c = omega arith
-
-mul-cells : tie.Need-mul-cells Inv-loop μ-loop
-mul-cells c = search needs
-
-slice-write-cells : tie.Need-slice-write-cells Inv-loop μ-loop
-slice-write-cells c = omega arith
-
-add-x : tie.Need-add-x Inv-loop μ-loop
-add-x c = omega arith
-
-loop-less : tie.Need-loop-less Inv-loop μ-loop
-loop-less c = omega arith
-
 loop-again : tie.Need-loop-again Inv-loop μ-loop
 loop-again c =
-    let loop = c .before .before .before .loop in
-    let args = c .before .before .before .before .before .before .args in
-    let long = loop .inv .0 .1 in (
+    let in-loop = c .before .before in let loop = in-loop .before .loop in
+    let args = in-loop .before .before .before .before .args in let long = loop .inv .0 .1 in (
       (omega arith, simp length-set long),
-      defaults-turn (args .types .now) (args .from) (args .n) (loop .cells) (args .place) (loop .x) _ (c .before .before .loop-test .taken) (c .null-cell .ensures) ∙ loop .inv .1,
+      defaults-turn (args .types .now) (args .from) (args .n) (loop .cells) (args .place) (loop .x) _ (in-loop .loop-test .taken)
+          (c .null-cell .ensures) ∙ loop .inv .1,
     )
-
-same-length : tie.Need-same-length Inv-loop μ-loop
-same-length c =
-    let loop = c .before .loop in
-    loop .inv .0 .1
 
 returns : tie.Need-returns Inv-loop μ-loop
 returns c =
     let args = c .before .before .before .before .args in
-    let loop = c .before .loop in
-    defaults-end (args .types .now) (args .from) (args .n) (loop .cells) (args .place) (loop .x) (c .loop-test .left) ∙ loop .inv .1
+    defaults-end (args .types .now) (args .from) (args .n) (c .before .loop .cells) (args .place) (c .before .loop .x) (c .loop-test .left)
+    ∙ c .before .loop .inv .1
 
 pub defaults-spec : {M : Type 1} → statement M
 defaults-spec =
     tie.close
-    (tie.spec
-    Inv-loop
-    μ-loop
-    loop-holds
-    add-null-cell
-    shared-slice-read-null-cell
-    null-cell-requires
-    add-cells
-    mul-cells
-    slice-write-cells
-    add-x
-    loop-less
-    loop-again
-    same-length
-    returns)
+    (tie.spec Inv-loop μ-loop loop-holds (λ c. omega arith) (λ c. omega arith) (λ c κs. search needs) (λ c. omega arith) (λ c. search needs)
+    (λ c. omega arith) (λ c. omega arith) (λ c. omega arith) loop-again (λ c. c .before .loop .inv .0 .1) returns)

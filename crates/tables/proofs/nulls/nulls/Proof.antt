@@ -23,64 +23,34 @@ abbrev μ-loop : tie.MeasureT-loop
 loop-holds : tie.Need-loop-holds Inv-loop μ-loop
 loop-holds c = ((omega arith, refl, refl), (refl, refl))
 
-head-requires : tie.Need-head-requires Inv-loop μ-loop
-head-requires c κs = omega arith
-
-mul-defaults : tie.Need-mul-defaults Inv-loop μ-loop
-mul-defaults c = omega arith
-
-shared-slice-read-index : tie.Need-shared-slice-read-index Inv-loop μ-loop
-shared-slice-read-index c = omega arith
-
-index-requires : tie.Need-index-requires Inv-loop μ-loop
-index-requires c κs = search needs
-
-mul-defaults-2 : tie.Need-mul-defaults-2 Inv-loop μ-loop
-mul-defaults-2 c = omega arith
-
 defaults-requires : tie.Need-defaults-requires Inv-loop μ-loop
 defaults-requires c κs =
-    let pre = c .before .before .before .before .before .before .before .before .before .before .before .before .before .pre in
-    let loop = c .before .before .before .before .before .before .before .before .loop in
-    let few = pre .0 .each (loop .k) in
-    omega (arith, few, pre .0 .long, c .before .index .ensures)
-
-add-k : tie.Need-add-k Inv-loop μ-loop
-add-k c = omega arith
-
-loop-less : tie.Need-loop-less Inv-loop μ-loop
-loop-less c = omega arith
+    let at-index = c .before in let at-head = at-index .before .before .before .before in
+    let at-loop = at-head .before .before .before in
+    let at-shared-slice-known = at-loop .before .before .before .before in
+    let few = at-shared-slice-known .before .pre .0 .each (at-loop .loop .k) in
+    omega (arith, few, at-shared-slice-known .before .pre .0 .long, at-index .index .ensures)
 
 loop-again : tie.Need-loop-again Inv-loop μ-loop
 loop-again c =
-    let loop = c .before .before .before .before .before .before .before .before .before .before .before .loop in
-    let head = c .before .before .before .before .before .before .before .before .head in
-    let defaults = c .before .before .defaults in
-    let args = c .before .before .before .before .before .before .before .before .before .before .before .before .before .before .before .before .args in
-    let index = c .before .before .before .before .index in
-    let l = c .before .before .before .before .before .before .before .before .before .before .loop-test .taken in
+    let at-defaults = c .before .before in let at-index = at-defaults .before .before in
+    let at-head = at-index .before .before .before .before in let in-loop = at-head .before .before in
+    let at-loop = in-loop .before in let at-shared-slice-known = at-loop .before .before .before .before in
+    let loop = at-loop .loop in let args = at-shared-slice-known .before .args in
     let inv = loop .inv in (
-      (omega arith, head .kept .0 ∙ inv .0 .1, defaults .kept .1 .1 .1 .0 ∙ inv .0 .2),
+      (omega arith, at-head .head .kept .0 ∙ inv .0 .1, at-defaults .defaults .kept .1 .1 .1 .0 ∙ inv .0 .2),
       (
-        heads-turn (args .counts .now) (args .types .now) (loop .heads) (head .last .0) (loop .k) l (head .ensures) ∙ inv .1 .0,
-        rows-turn (args .counts .now) (args .types .now) (loop .cells) (defaults .last .1 .1 .1 .0) (loop .k) (index .result) l (index .ensures .0) (defaults .ensures) ∙ inv .1 .1,
+        heads-turn (args .counts .now) (args .types .now) (loop .heads) (at-head .head .last .0) (loop .k) (in-loop .loop-test .taken)
+            (at-head .head .ensures) ∙ inv .1 .0,
+        rows-turn (args .counts .now) (args .types .now) (loop .cells) (at-defaults .defaults .last .1 .1 .1 .0) (loop .k)
+            (at-index .index .result) (in-loop .loop-test .taken) (at-index .index .ensures .0) (at-defaults .defaults .ensures) ∙ inv .1 .1,
       ),
     )
 
-same-length : tie.Need-same-length Inv-loop μ-loop
-same-length c =
-    let loop = c .before .loop in
-    loop .inv .0 .1
-
-same-length-2 : tie.Need-same-length-2 Inv-loop μ-loop
-same-length-2 c =
-    let loop = c .before .loop in
-    loop .inv .0 .2
-
 returns : tie.Need-returns Inv-loop μ-loop
 returns c =
-    let loop = c .before .loop in
-    let args = c .before .before .before .before .before .before .args in
+    let at-loop = c .before in let at-shared-slice-known = at-loop .before .before .before .before in
+    let loop = at-loop .loop in let args = at-shared-slice-known .before .args in
     let e : loop .k ≡ length (args .counts .now) = omega arith in (
       heads-end (args .counts .now) (args .types .now) (loop .heads) (loop .k) e ∙ loop .inv .1 .0,
       rows-end (args .counts .now) (args .types .now) (loop .cells) (loop .k) e ∙ loop .inv .1 .1,
@@ -89,19 +59,5 @@ returns c =
 pub nulls-spec : {M : Type 1} → statement M
 nulls-spec =
     tie.close
-    (tie.spec
-    Inv-loop
-    μ-loop
-    loop-holds
-    head-requires
-    mul-defaults
-    shared-slice-read-index
-    index-requires
-    mul-defaults-2
-    defaults-requires
-    add-k
-    loop-less
-    loop-again
-    same-length
-    same-length-2
-    returns)
+    (tie.spec Inv-loop μ-loop loop-holds (λ c κs. omega arith) (λ c. omega arith) (λ c. omega arith) (λ c κs. search needs) (λ c. omega arith)
+    defaults-requires (λ c. omega arith) (λ c. omega arith) loop-again (λ c. c .before .loop .inv .0 .1) (λ c. c .before .loop .inv .0 .2) returns)

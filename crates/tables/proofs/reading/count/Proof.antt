@@ -14,62 +14,28 @@ returns c =
     let args = c .before .before .args in
     (λ pss e. count-cut (args .s .now) (λ i. c .before .shared-slice-known .given i .fits) pss (c .if1 .taken), tt)
 
-shared-slice-read-index : tie.Need-shared-slice-read-index
-shared-slice-read-index c = search needs
-
-index-requires : tie.Need-index-requires
-index-requires c κs = search needs
-
-shared-slice-read-index-2 : tie.Need-shared-slice-read-index-2
-shared-slice-read-index-2 c = search needs
-
-index-requires-2 : tie.Need-index-requires-2
-index-requires-2 c κs = search needs
-
-mul-n : tie.Need-mul-n
-mul-n c = search needs
-
-add-n : tie.Need-add-n
-add-n c = search needs
-
-sub-if2 : tie.Need-sub-if2
-sub-if2 c = search needs
-
 returns-2 : tie.Need-returns-2
 returns-2 c =
-    let index = c .before .before .before .index in
-    let index2 = c .before .index2 in
-    let args = c .before .before .before .before .before .before .before .args in
-    let n = index .result + 256 * index2 .result in
-    let is : n ≡ word-of 2 (args .s .now) 0 = omega (arith, word-two (args .s .now), index .ensures, index2 .ensures) in
+    let at-index = c .before .before .before in let at-if1 = at-index .before .before in
+    let args = at-if1 .before .before .args in
+    let n = at-index .index .result + 256 * c .before .index2 .result in
+    let is : n ≡ word-of 2 (args .s .now) 0 = omega (arith, word-two (args .s .now), at-index .index .ensures, c .before .index2 .ensures) in
     let over : max-instances < n + args .structs = omega (arith, c .if2 .taken) in
-    (λ pss e. count-wrong (args .s .now) (λ i. c .before .before .before .before .before .before .shared-slice-known .given i .fits) pss (c .before .before .before .before .before .if1 .left) n is (rw e over), tt)
+    (λ pss e. count-wrong (args .s .now) (λ i. at-if1 .before .shared-slice-known .given i .fits) pss (at-if1 .if1 .left) n is (rw e over), tt)
 
 returns-3 : tie.Need-returns-3
 returns-3 c =
-    let index = c .before .before .before .index in
-    let index2 = c .before .index2 in
-    let args = c .before .before .before .before .before .before .before .args in
-    let pre = c .before .before .before .before .before .before .before .pre in
-    let if1 = c .before .before .before .before .before .if1 in
-    let n = index .result + 256 * index2 .result in
-    let is : n ≡ word-of 2 (args .s .now) 0 = omega (arith, word-two (args .s .now), index .ensures, index2 .ensures) in
-    let room : n + args .structs ≤ max-instances = omega (arith, c .if2 .left, pre) in (
-      λ pss e. count-right (args .s .now) (λ i. c .before .before .before .before .before .before .shared-slice-known .given i .fits) pss (if1 .left) n is (rw e room),
-      (if1 .left, room),
+    let at-index = c .before .before .before in let at-if1 = at-index .before .before in
+    let start = at-if1 .before .before in let args = start .args in
+    let n = at-index .index .result + 256 * c .before .index2 .result in
+    let is : n ≡ word-of 2 (args .s .now) 0 = omega (arith, word-two (args .s .now), at-index .index .ensures, c .before .index2 .ensures) in
+    let room : n + args .structs ≤ max-instances = omega (arith, c .if2 .left, start .pre) in (
+      λ pss e. count-right (args .s .now) (λ i. at-if1 .before .shared-slice-known .given i .fits) pss (at-if1 .if1 .left) n is (rw e room),
+      (at-if1 .if1 .left, room),
     )
 
 pub count-spec : {M : Type 1} → statement M
 count-spec =
     tie.close
-    (tie.spec
-    returns
-    shared-slice-read-index
-    index-requires
-    shared-slice-read-index-2
-    index-requires-2
-    mul-n
-    add-n
-    sub-if2
-    returns-2
-    returns-3)
+    (tie.spec returns (λ c. search needs) (λ c κs. search needs) (λ c. search needs) (λ c κs. search needs) (λ c. search needs) (λ c. search needs)
+    (λ c. search needs) returns-2 returns-3)

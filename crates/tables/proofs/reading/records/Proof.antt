@@ -19,93 +19,73 @@ abbrev μ-loop : tie.MeasureT-loop
 
 loop-holds : tie.Need-loop-holds Inv-loop μ-loop
 loop-holds c =
-    let args = c .before .before .before .before .before .args in
-    ((omega arith, omega arith, omega arith, refl, refl), records-begin (args .counts .now) (args .types .now) (args .s .now) (args .n) (args .at) (args .heads .now) (args .cells .now) (args .l))
-
-add-one-record : tie.Need-add-one-record Inv-loop μ-loop
-add-one-record c = omega arith
+    let at-shared-slice-known = c .before .before .before .before in
+    let args = at-shared-slice-known .before .args in (
+      (omega arith, omega arith, omega arith, refl, refl),
+      records-begin (args .counts .now) (args .types .now) (args .s .now) (args .n) (args .at) (args .heads .now) (args .cells .now) (args .l),
+    )
 
 one-record-requires : tie.Need-one-record-requires Inv-loop μ-loop
 one-record-requires c κs =
-    let pre = c .before .before .before .before .before .before .before .before .before .pre in
-    (pre .0, omega arith)
-
-enum-known-r : tie.Need-enum-known-r Inv-loop μ-loop
-enum-known-r c = search needs
-
-enum-told : tie.Need-enum-told Inv-loop μ-loop
-enum-told c = search needs
+    let at-loop = c .before .before .before in
+    let at-shared-slice-known2 = at-loop .before .before .before .before in
+    (at-shared-slice-known2 .before .before .pre .0, omega arith)
 
 same-length : tie.Need-same-length Inv-loop μ-loop
 same-length c =
-    let loop = c .before .before .before .before .before .before .before .before .before .before .loop in
-    c .before .before .before .before .before .before .one-record .kept .1 .1 .1 .1 .0 ∙ loop .inv .0 .3
+    let at-slice-known3 = c .before .before .before .before in
+    let at-one-record = at-slice-known3 .before .before in
+    at-one-record .one-record .kept .1 .1 .1 .1 .0 ∙ at-one-record .before .before .before .before .loop .inv .0 .3
 
 same-length-2 : tie.Need-same-length-2 Inv-loop μ-loop
 same-length-2 c =
-    let loop = c .before .before .before .before .before .before .before .before .before .before .loop in
-    c .before .before .before .before .before .before .one-record .kept .1 .1 .1 .1 .1 .0 ∙ loop .inv .0 .4
+    let at-slice-known3 = c .before .before .before .before in
+    let at-one-record = at-slice-known3 .before .before in
+    at-one-record .one-record .kept .1 .1 .1 .1 .1 .0 ∙ at-one-record .before .before .before .before .loop .inv .0 .4
 
 returns : tie.Need-returns Inv-loop μ-loop
 returns c =
-    let args = c .before .before .before .before .before .before .before .before .before .before .before .before .before .before .before .before .args in
-    let loop = c .before .before .before .before .before .before .before .before .before .before .loop in
-    let one-record = c .before .before .before .before .before .before .one-record in
-    let told = c .enum-told .given in
-    rw (told .1) (records-refused (args .counts .now) (args .types .now) (args .s .now) (args .n) (args .at) (args .heads .now) (args .cells .now) (args .l) (loop .i) (loop .next) (loop .heads) (loop .cells) (loop .inv .1) (c .before .before .before .before .before .before .before .before .before .loop-test .taken) (told .0 .0) (one-record .last .1 .1 .1 .1 .0) (one-record .last .1 .1 .1 .1 .1 .0) (rw (told .1) at (one-record .ensures .0)) (one-record .last .1 .1 .1 .1 .0) (one-record .last .1 .1 .1 .1 .1 .0), tt)
-
-add-i : tie.Need-add-i Inv-loop μ-loop
-add-i c = omega arith
-
-loop-less : tie.Need-loop-less Inv-loop μ-loop
-loop-less c = omega arith
+    let at-slice-known3 = c .before .before .before .before in
+    let at-one-record = at-slice-known3 .before .before in let in-loop = at-one-record .before .before .before in
+    let at-loop = in-loop .before in let at-shared-slice-known2 = at-loop .before .before .before .before in
+    let args = at-shared-slice-known2 .before .before .args in let loop = at-loop .loop in
+    let one-record = at-one-record .one-record in
+    rw (c .enum-told .given .1) (
+      records-refused (args .counts .now) (args .types .now) (args .s .now) (args .n) (args .at) (args .heads .now)
+          (args .cells .now) (args .l) (loop .i) (loop .next) (loop .heads) (loop .cells) (loop .inv .1)
+          (in-loop .loop-test .taken) (c .enum-told .given .0 .0) (one-record .last .1 .1 .1 .1 .0)
+          (one-record .last .1 .1 .1 .1 .1 .0) (rw (c .enum-told .given .1) at (one-record .ensures .0))
+          (one-record .last .1 .1 .1 .1 .0) (one-record .last .1 .1 .1 .1 .1 .0),
+      tt,
+    )
 
 loop-again : tie.Need-loop-again Inv-loop μ-loop
 loop-again c =
-    let one-record = c .before .before .before .before .before .before .before .one-record in
-    let loop = c .before .before .before .before .before .before .before .before .before .before .before .loop in
-    let args = c .before .before .before .before .before .before .before .before .before .before .before .before .before .before .before .before .before .args in
-    let m = c .before .r .given in
-    let w = rw (m .1) at (one-record .ensures .1) in
+    let at-r = c .before in let at-slice-known3 = at-r .before .before .before .before in
+    let at-one-record = at-slice-known3 .before .before in let in-loop = at-one-record .before .before .before in
+    let at-loop = in-loop .before in let at-shared-slice-known2 = at-loop .before .before .before .before in
+    let one-record = at-one-record .one-record in let loop = at-loop .loop in
+    let args = at-shared-slice-known2 .before .before .args in
+    let w = rw (c .before .r .given .1) at (one-record .ensures .1) in
     let long = one-record .kept .1 .1 .1 .1 .0 ∙ loop .inv .0 .3 in
     let wide = one-record .kept .1 .1 .1 .1 .1 .0 ∙ loop .inv .0 .4 in (
       (omega arith, omega arith, omega arith, long, wide),
-      records-turn (args .counts .now) (args .types .now) (args .s .now) (args .n) (args .at) (args .heads .now) (args .cells .now) (args .l) (loop .i) (loop .next) (loop .heads) (loop .cells) (loop .inv .1) (c .before .before .before .before .before .before .before .before .before .before .loop-test .taken) (m .0 .0) (one-record .last .1 .1 .1 .1 .0) (one-record .last .1 .1 .1 .1 .1 .0) (rw (m .1) at (one-record .ensures .0)),
+      records-turn (args .counts .now) (args .types .now) (args .s .now) (args .n) (args .at) (args .heads .now) (args .cells .now) (args .l)
+          (loop .i) (loop .next) (loop .heads) (loop .cells) (loop .inv .1) (in-loop .loop-test .taken) (at-r .r .given .0 .0)
+          (one-record .last .1 .1 .1 .1 .0) (one-record .last .1 .1 .1 .1 .1 .0) (rw (c .before .r .given .1) at (one-record .ensures .0)),
     )
-
-same-length-3 : tie.Need-same-length-3 Inv-loop μ-loop
-same-length-3 c =
-    let loop = c .before .loop in
-    loop .inv .0 .3
-
-same-length-4 : tie.Need-same-length-4 Inv-loop μ-loop
-same-length-4 c =
-    let loop = c .before .loop in
-    loop .inv .0 .4
 
 returns-2 : tie.Need-returns-2 Inv-loop μ-loop
 returns-2 c =
-    let args = c .before .before .before .before .before .before .before .args in
-    let loop = c .before .loop in
-    (records-end (args .counts .now) (args .types .now) (args .s .now) (args .n) (args .at) (args .heads .now) (args .cells .now) (args .l) (loop .i) (loop .next) (loop .heads) (loop .cells) (loop .inv .1) (c .loop-test .left), omega arith)
+    let at-loop = c .before in let at-shared-slice-known2 = at-loop .before .before .before .before in
+    let args = at-shared-slice-known2 .before .before .args in let loop = at-loop .loop in (
+      records-end (args .counts .now) (args .types .now) (args .s .now) (args .n) (args .at) (args .heads .now) (args .cells .now) (args .l) (loop .i)
+          (loop .next) (loop .heads) (loop .cells) (loop .inv .1) (c .loop-test .left),
+      omega arith,
+    )
 
 pub records-spec : {M : Type 1} → statement M
 records-spec =
     tie.close
-    (tie.spec
-    Inv-loop
-    μ-loop
-    loop-holds
-    add-one-record
-    one-record-requires
-    enum-known-r
-    enum-told
-    same-length
-    same-length-2
-    returns
-    add-i
-    loop-less
-    loop-again
-    same-length-3
-    same-length-4
-    returns-2)
+    (tie.spec Inv-loop μ-loop loop-holds (λ c. omega arith) one-record-requires (λ c. search needs) (λ c. search needs) same-length same-length-2
+    returns (λ c. omega arith) (λ c. omega arith) loop-again (λ c. c .before .loop .inv .0 .3) (λ c. c .before .loop .inv .0 .4) returns-2)

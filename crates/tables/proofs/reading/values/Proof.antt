@@ -17,84 +17,54 @@ abbrev μ-loop : tie.MeasureT-loop
 
 loop-holds : tie.Need-loop-holds Inv-loop μ-loop
 loop-holds c =
-    let args = c .before .before .before .args in
-    ((omega arith, omega arith, omega arith, refl), values-begin (args .s .now) (args .types .now) (args .from) (args .n) (args .at) (args .cells .now) (args .place))
-
-add-value : tie.Need-add-value Inv-loop μ-loop
-add-value c = omega arith
-
-shared-slice-read-value : tie.Need-shared-slice-read-value Inv-loop μ-loop
-shared-slice-read-value c = omega arith
-
-add-value-2 : tie.Need-add-value-2 Inv-loop μ-loop
-add-value-2 c = omega arith
-
-value-requires : tie.Need-value-requires Inv-loop μ-loop
-value-requires c κs = omega arith
-
-enum-known-r : tie.Need-enum-known-r Inv-loop μ-loop
-enum-known-r c = search needs
-
-enum-told : tie.Need-enum-told Inv-loop μ-loop
-enum-told c = search needs
+    let args = c .before .before .before .args in (
+      (omega arith, omega arith, omega arith, refl),
+      values-begin (args .s .now) (args .types .now) (args .from) (args .n) (args .at) (args .cells .now) (args .place),
+    )
 
 same-length : tie.Need-same-length Inv-loop μ-loop
 same-length c =
-    let loop = c .before .before .before .before .before .before .before .before .loop in
-    c .before .before .before .before .value .kept .1 .1 .1 .0 ∙ loop .inv .0 .3
+    let at-value = c .before .before .before .before in
+    at-value .value .kept .1 .1 .1 .0 ∙ at-value .before .before .before .before .loop .inv .0 .3
 
 returns : tie.Need-returns Inv-loop μ-loop
 returns c =
-    let args = c .before .before .before .before .before .before .before .before .before .before .before .before .args in
-    let loop = c .before .before .before .before .before .before .before .before .loop in
-    let value = c .before .before .before .before .value in
-    let told = c .enum-told .given in
-    rw (told .1) (values-refused (args .s .now) (args .types .now) (args .from) (args .n) (args .at) (args .cells .now) (args .place) (loop .x) (loop .next) (loop .cells) (c .before .before .before .before .before .before .before .loop-test .taken) (loop .inv .1) (told .0 .0) (value .last .1 .1 .1 .0) (rw (told .1) at (value .ensures .0)) (value .last .1 .1 .1 .0), tt)
-
-add-x : tie.Need-add-x Inv-loop μ-loop
-add-x c = omega arith
-
-loop-less : tie.Need-loop-less Inv-loop μ-loop
-loop-less c = omega arith
+    let at-value = c .before .before .before .before in let in-loop = at-value .before .before .before in
+    let at-loop = in-loop .before in let args = at-loop .before .before .before .before .args in
+    let loop = at-loop .loop in
+    rw (c .enum-told .given .1) (
+      values-refused (args .s .now) (args .types .now) (args .from) (args .n) (args .at) (args .cells .now) (args .place)
+          (loop .x) (loop .next) (loop .cells) (in-loop .loop-test .taken) (loop .inv .1) (c .enum-told .given .0 .0)
+          (at-value .value .last .1 .1 .1 .0) (rw (c .enum-told .given .1) at (at-value .value .ensures .0))
+          (at-value .value .last .1 .1 .1 .0),
+      tt,
+    )
 
 loop-again : tie.Need-loop-again Inv-loop μ-loop
 loop-again c =
-    let value = c .before .before .before .before .before .value in
-    let loop = c .before .before .before .before .before .before .before .before .before .loop in
-    let args = c .before .before .before .before .before .before .before .before .before .before .before .before .before .args in
-    let m = c .before .r .given in
-    let w = rw (m .1) at (value .ensures .1) in
+    let at-r = c .before in let at-value = at-r .before .before .before .before in
+    let in-loop = at-value .before .before .before in let at-loop = in-loop .before in
+    let value = at-value .value in let loop = at-loop .loop in
+    let args = at-loop .before .before .before .before .args in
+    let w = rw (c .before .r .given .1) at (value .ensures .1) in
     let long = value .kept .1 .1 .1 .0 ∙ loop .inv .0 .3 in (
       (omega arith, omega arith, omega arith, long),
-      values-turn (args .s .now) (args .types .now) (args .from) (args .n) (args .at) (args .cells .now) (args .place) (loop .x) (loop .next) (loop .cells) (c .before .before .before .before .before .before .before .before .loop-test .taken) (loop .inv .1) (m .0 .0) (value .last .1 .1 .1 .0) (rw (m .1) at (value .ensures .0)),
+      values-turn (args .s .now) (args .types .now) (args .from) (args .n) (args .at) (args .cells .now) (args .place) (loop .x) (loop .next)
+          (loop .cells) (in-loop .loop-test .taken) (loop .inv .1) (at-r .r .given .0 .0) (value .last .1 .1 .1 .0)
+          (rw (c .before .r .given .1) at (value .ensures .0)),
     )
-
-same-length-2 : tie.Need-same-length-2 Inv-loop μ-loop
-same-length-2 c = omega arith
 
 returns-2 : tie.Need-returns-2 Inv-loop μ-loop
 returns-2 c =
-    let args = c .before .before .before .before .before .args in
-    let loop = c .before .loop in
-    (values-end (args .s .now) (args .types .now) (args .from) (args .n) (args .at) (args .cells .now) (args .place) (loop .x) (loop .next) (loop .cells) (c .loop-test .left) (loop .inv .1), omega arith)
+    let at-loop = c .before in let args = at-loop .before .before .before .before .args in
+    let loop = at-loop .loop in (
+      values-end (args .s .now) (args .types .now) (args .from) (args .n) (args .at) (args .cells .now) (args .place) (loop .x) (loop .next)
+          (loop .cells) (c .loop-test .left) (loop .inv .1),
+      omega arith,
+    )
 
 pub values-spec : {M : Type 1} → statement M
 values-spec =
     tie.close
-    (tie.spec
-    Inv-loop
-    μ-loop
-    loop-holds
-    add-value
-    shared-slice-read-value
-    add-value-2
-    value-requires
-    enum-known-r
-    enum-told
-    same-length
-    returns
-    add-x
-    loop-less
-    loop-again
-    same-length-2
-    returns-2)
+    (tie.spec Inv-loop μ-loop loop-holds (λ c. omega arith) (λ c. omega arith) (λ c. omega arith) (λ c κs. omega arith) (λ c. search needs)
+    (λ c. search needs) same-length returns (λ c. omega arith) (λ c. omega arith) loop-again (λ c. omega arith) returns-2)

@@ -6,9 +6,6 @@ use borrow.Author.Needs.{needs}
 use Rattle.tables.proofs.refer.cell_refers.Statement.{statement}
 use Rattle.tables.proofs.refer.cell_refers.Tie as tie
 
-is-reference-requires : tie.Need-is-reference-requires
-is-reference-requires c κs = search needs
-
 returns : tie.Need-returns
 returns c =
     let args = c .before .before .before .args in
@@ -17,39 +14,19 @@ returns c =
 returns-2 : tie.Need-returns-2
 returns-2 c =
     let args = c .before .before .before .before .args in
-    cell-absent (args .heads .now) (args .n) (args .t) (args .c) (sym (c .before .before .is-reference .ensures) ∙ not-false _ (c .before .if1 .left)) (c .if2 .taken)
-
-mul-result : tie.Need-mul-result
-mul-result c = search needs
-
-mul-result-2 : tie.Need-mul-result-2
-mul-result-2 c = search needs
-
-shared-slice-read-result : tie.Need-shared-slice-read-result
-shared-slice-read-result c = search needs
-
-struct-of-requires : tie.Need-struct-of-requires
-struct-of-requires c κs = search needs
-
-index-requires : tie.Need-index-requires
-index-requires c κs = search needs
+    cell-absent (args .heads .now) (args .n) (args .t) (args .c) (sym (c .before .before .is-reference .ensures) ∙ not-false _ (c .before .if1 .left))
+    (c .if2 .taken)
 
 returns-3 : tie.Need-returns-3
 returns-3 c =
-    let args = c .before .before .before .before .before .before .before .args in
-    let index = c .index in
-    cell-struct (args .heads .now) (args .n) (args .t) (args .c) (sym (c .before .before .before .before .before .is-reference .ensures) ∙ not-false _ (c .before .before .before .before .if1 .left)) (c .before .before .before .if2 .left) (index .result) (index .ensures .0 ∙ c .before .struct-of .ensures)
+    let at-if2 = c .before .before .before in let at-is-reference = at-if2 .before .before in
+    let args = at-is-reference .before .before .args in
+    cell-struct (args .heads .now) (args .n) (args .t) (args .c)
+    (sym (at-is-reference .is-reference .ensures) ∙ not-false _ (at-if2 .before .if1 .left)) (at-if2 .if2 .left) (c .index .result)
+    (c .index .ensures .0 ∙ c .before .struct-of .ensures)
 
 pub cell-refers-spec : {M : Type 1} → statement M
 cell-refers-spec =
     tie.close
-    (tie.spec
-    is-reference-requires
-    returns
-    returns-2
-    mul-result
-    mul-result-2
-    shared-slice-read-result
-    struct-of-requires
-    index-requires
-    returns-3)
+    (tie.spec (λ c κs. search needs) returns returns-2 (λ c. search needs) (λ c. search needs) (λ c. search needs) (λ c κs. search needs)
+    (λ c κs. search needs) returns-3)

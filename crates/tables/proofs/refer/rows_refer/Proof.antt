@@ -20,94 +20,67 @@ abbrev μ-loop : tie.MeasureT-loop
 loop-holds : tie.Need-loop-holds Inv-loop μ-loop
 loop-holds c = (omega arith, omega arith, refl)
 
-mul-k : tie.Need-mul-k Inv-loop μ-loop
-mul-k c = omega arith
-
-mul-k-2 : tie.Need-mul-k-2 Inv-loop μ-loop
-mul-k-2 c = omega arith
-
-shared-slice-read-k : tie.Need-shared-slice-read-k Inv-loop μ-loop
-shared-slice-read-k c = omega arith
-
 shared-slice-read-index : tie.Need-shared-slice-read-index Inv-loop μ-loop
 shared-slice-read-index c =
-    let pre = c .before .before .before .before .before .before .before .before .pre in
-    let loop = c .before .before .before .loop in
-    let known = pre .0 .1 (loop .l) (c .before .before .loop-test .taken) in
-    omega (arith, known, pre .0 .0 .few)
-
-index-requires : tie.Need-index-requires Inv-loop μ-loop
-index-requires c κs = search needs
+    let in-loop = c .before .before in let at-loop = in-loop .before in
+    let at-shared-slice-known = at-loop .before .before .before .before in
+    let known = at-shared-slice-known .before .pre .0 .1 (at-loop .loop .l) (in-loop .loop-test .taken) in
+    omega (arith, known, at-shared-slice-known .before .pre .0 .0 .few)
 
 mul-row-refers : tie.Need-mul-row-refers Inv-loop μ-loop
 mul-row-refers c =
-    let pre = c .before .before .before .before .before .before .before .before .before .pre in
-    let loop = c .before .before .before .before .loop in
-    let known = pre .0 .1 (loop .l) (c .before .before .before .loop-test .taken) in
-    omega (arith, known, pre .0 .0 .few)
+    let in-loop = c .before .before .before in let at-loop = in-loop .before in
+    let at-shared-slice-known = at-loop .before .before .before .before in
+    let known = at-shared-slice-known .before .pre .0 .1 (at-loop .loop .l) (in-loop .loop-test .taken) in
+    omega (arith, known, at-shared-slice-known .before .pre .0 .0 .few)
 
 mul-row-refers-2 : tie.Need-mul-row-refers-2 Inv-loop μ-loop
 mul-row-refers-2 c =
-    let pre = c .before .before .before .before .before .before .before .before .before .pre in
-    let loop = c .before .before .before .before .loop in
-    let known = pre .0 .1 (loop .l) (c .before .before .before .loop-test .taken) in
-    omega (arith, known, pre .0 .0 .few)
+    let in-loop = c .before .before .before in let at-loop = in-loop .before in
+    let at-shared-slice-known = at-loop .before .before .before .before in
+    let known = at-shared-slice-known .before .pre .0 .1 (at-loop .loop .l) (in-loop .loop-test .taken) in
+    omega (arith, known, at-shared-slice-known .before .pre .0 .0 .few)
 
 row-refers-requires : tie.Need-row-refers-requires Inv-loop μ-loop
 row-refers-requires c κs =
-    let args = c .before .before .before .before .before .before .before .before .before .args in
-    let loop = c .before .before .before .before .loop in
-    let pre = c .before .before .before .before .before .before .before .before .before .pre in
-    let k = getD (args .heads .now) (4 * loop .l) 0 in
-    let known = pre .0 .1 (loop .l) (c .before .before .before .loop-test .taken) in
-    let few = pre .0 .0 .each k in
-    omega (arith, known, few, pre .0 .0 .long, c .index .ensures)
+    let in-loop = c .before .before .before in let at-loop = in-loop .before in
+    let at-shared-slice-known = at-loop .before .before .before .before in
+    let args = at-shared-slice-known .before .args in
+    let k = getD (args .heads .now) (4 * at-loop .loop .l) 0 in
+    let known = at-shared-slice-known .before .pre .0 .1 (at-loop .loop .l) (in-loop .loop-test .taken) in
+    let few = at-shared-slice-known .before .pre .0 .0 .each k in
+    omega (arith, known, few, at-shared-slice-known .before .pre .0 .0 .long, c .index .ensures)
 
 returns : tie.Need-returns Inv-loop μ-loop
 returns c =
-    let args = c .before .before .before .before .before .before .before .before .before .before .before .args in
-    let loop = c .before .before .before .before .before .before .loop in
-    let index = c .before .before .index in
-    let row-refers = c .before .row-refers in
-    rows-stop (args .counts .now) (args .types .now) (args .heads .now) (args .cells .now) (args .n) (loop .l) (index .result) (c .before .before .before .before .before .loop-test .taken) (index .ensures .0) (row-refers .result) (row-refers .ensures) (not-true _ (c .if1 .taken)) ∙ loop .inv .2
-
-add-l : tie.Need-add-l Inv-loop μ-loop
-add-l c = omega arith
-
-loop-less : tie.Need-loop-less Inv-loop μ-loop
-loop-less c = omega arith
+    let at-index = c .before .before in let in-loop = at-index .before .before .before in
+    let at-loop = in-loop .before in let at-shared-slice-known = at-loop .before .before .before .before in
+    let args = at-shared-slice-known .before .args in
+    rows-stop (args .counts .now) (args .types .now) (args .heads .now) (args .cells .now) (args .n) (at-loop .loop .l) (at-index .index .result)
+    (in-loop .loop-test .taken) (at-index .index .ensures .0) (c .before .row-refers .result) (c .before .row-refers .ensures)
+    (not-true _ (c .if1 .taken)) ∙ at-loop .loop .inv .2
 
 loop-again : tie.Need-loop-again Inv-loop μ-loop
 loop-again c =
-    let args = c .before .before .before .before .before .before .before .before .before .before .before .args in
-    let loop = c .before .before .before .before .before .before .loop in
-    let index = c .before .before .index in
-    let row-refers = c .before .row-refers in
-    (omega arith, omega arith, rows-turn (args .counts .now) (args .types .now) (args .heads .now) (args .cells .now) (args .n) (loop .l) (index .result) (c .before .before .before .before .before .loop-test .taken) (index .ensures .0) (row-refers .result) (row-refers .ensures) (not-false _ (c .if1 .left)) ∙ loop .inv .2)
+    let at-index = c .before .before in let in-loop = at-index .before .before .before in
+    let at-loop = in-loop .before in let at-shared-slice-known = at-loop .before .before .before .before in
+    let args = at-shared-slice-known .before .args in (
+      omega arith,
+      omega arith,
+      rows-turn (args .counts .now) (args .types .now) (args .heads .now) (args .cells .now) (args .n) (at-loop .loop .l) (at-index .index .result)
+          (in-loop .loop-test .taken) (at-index .index .ensures .0) (c .before .row-refers .result) (c .before .row-refers .ensures)
+          (not-false _ (c .if1 .left)) ∙ at-loop .loop .inv .2,
+    )
 
 returns-2 : tie.Need-returns-2 Inv-loop μ-loop
 returns-2 c =
-    let args = c .before .before .before .before .before .before .args in
-    let loop = c .before .loop in
-    rows-end (args .counts .now) (args .types .now) (args .heads .now) (args .cells .now) (args .n) (loop .l) (c .loop-test .left) ∙ loop .inv .2
+    let at-loop = c .before in let at-shared-slice-known = at-loop .before .before .before .before in
+    let args = at-shared-slice-known .before .args in
+    rows-end (args .counts .now) (args .types .now) (args .heads .now) (args .cells .now) (args .n) (at-loop .loop .l) (c .loop-test .left)
+    ∙ at-loop .loop .inv .2
 
 pub rows-refer-spec : {M : Type 1} → statement M
 rows-refer-spec =
     tie.close
-    (tie.spec
-    Inv-loop
-    μ-loop
-    loop-holds
-    mul-k
-    mul-k-2
-    shared-slice-read-k
-    shared-slice-read-index
-    index-requires
-    mul-row-refers
-    mul-row-refers-2
-    row-refers-requires
-    returns
-    add-l
-    loop-less
-    loop-again
-    returns-2)
+    (tie.spec Inv-loop μ-loop loop-holds (λ c. omega arith) (λ c. omega arith) (λ c. omega arith) shared-slice-read-index (λ c κs. search needs)
+    mul-row-refers mul-row-refers-2 row-refers-requires returns (λ c. omega arith) (λ c. omega arith) loop-again returns-2)

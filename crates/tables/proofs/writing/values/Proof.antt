@@ -22,65 +22,22 @@ loop-holds c =
     let args = c .before .before .args in
     ((omega arith, refl), cells-begin (args .at) (args .cells .now) (args .place) (args .m) (args .out .now))
 
-mul-word : tie.Need-mul-word Inv-loop μ-loop
-mul-word c = omega arith
-
-add-word : tie.Need-add-word Inv-loop μ-loop
-add-word c = omega arith
-
-add-word-2 : tie.Need-add-word-2 Inv-loop μ-loop
-add-word-2 c = omega arith
-
-mul-word-2 : tie.Need-mul-word-2 Inv-loop μ-loop
-mul-word-2 c = omega arith
-
-shared-slice-read-word : tie.Need-shared-slice-read-word Inv-loop μ-loop
-shared-slice-read-word c = omega arith
-
-word-requires : tie.Need-word-requires Inv-loop μ-loop
-word-requires c κs = omega arith
-
-add-x : tie.Need-add-x Inv-loop μ-loop
-add-x c = omega arith
-
-loop-less : tie.Need-loop-less Inv-loop μ-loop
-loop-less c = omega arith
-
 loop-again : tie.Need-loop-again Inv-loop μ-loop
 loop-again c =
-    let word = c .before .before .word in
-    let loop = c .before .before .before .before .before .before .loop in
-    let args = c .before .before .before .before .before .before .before .before .before .args in (
-      (omega arith, word .kept .0 ∙ loop .inv .0 .1),
-      cells-turn (args .at) (args .cells .now) (args .place) (args .m) (loop .out) (word .last .0) (loop .x) (c .before .before .before .before .before .loop-test .taken) (word .ensures) ∙ loop .inv .1,
+    let at-word = c .before .before in let in-loop = at-word .before .before .before in
+    let loop = in-loop .before .loop in let args = in-loop .before .before .before .before .args in (
+      (omega arith, at-word .word .kept .0 ∙ loop .inv .0 .1),
+      cells-turn (args .at) (args .cells .now) (args .place) (args .m) (loop .out) (at-word .word .last .0) (loop .x) (in-loop .loop-test .taken)
+          (at-word .word .ensures) ∙ loop .inv .1,
     )
-
-same-length : tie.Need-same-length Inv-loop μ-loop
-same-length c =
-    let loop = c .before .loop in
-    loop .inv .0 .1
 
 returns : tie.Need-returns Inv-loop μ-loop
 returns c =
     let args = c .before .before .before .before .args in
-    let loop = c .before .loop in
-    cells-end (args .at) (args .cells .now) (args .place) (args .m) (loop .out) (loop .x) (c .loop-test .left) ∙ loop .inv .1
+    cells-end (args .at) (args .cells .now) (args .place) (args .m) (c .before .loop .out) (c .before .loop .x) (c .loop-test .left) ∙ c .before .loop .inv .1
 
 pub values-spec : {M : Type 1} → statement M
 values-spec =
     tie.close
-    (tie.spec
-    Inv-loop
-    μ-loop
-    loop-holds
-    mul-word
-    add-word
-    add-word-2
-    mul-word-2
-    shared-slice-read-word
-    word-requires
-    add-x
-    loop-less
-    loop-again
-    same-length
-    returns)
+    (tie.spec Inv-loop μ-loop loop-holds (λ c. omega arith) (λ c. omega arith) (λ c. omega arith) (λ c. omega arith) (λ c. omega arith)
+    (λ c κs. omega arith) (λ c. omega arith) (λ c. omega arith) loop-again (λ c. c .before .loop .inv .0 .1) returns)

@@ -24,135 +24,76 @@ tail-at t = and 2 tail-kinds.ps (is 2 tail-kinds.ps μ-tail t) tail.Pre
 abbrev tail-below : ℕ → In 2 tail-kinds.ps
 tail-below t = and 2 tail-kinds.ps (falls 2 tail-kinds.ps _<_ μ-tail t) tail.Pre
 
-tail-byte-requires : (t : ℕ) → tail-lts.Need-byte-requires (
-  byte-reads.Asked,
-  byte-reads.Learnt,
-  decimal-reads.Asked,
-  decimal-reads.Learnt,
-  tail-below t,
-  tail.Post,
-) (tail-at t) tail.Post
-tail-byte-requires t c κs = omega (arith, (c .before .before .before .before .pre))
+-- what the functions that it calls ask and give
+abbrev tail-claims : ℕ → tail-lts.Claims
+tail-claims t = (byte-reads.Asked, byte-reads.Learnt, decimal-reads.Asked, decimal-reads.Learnt, tail-below t, tail.Post)
 
-tail-same-length : (t : ℕ) → tail-lts.Need-same-length (
-  byte-reads.Asked,
-  byte-reads.Learnt,
-  decimal-reads.Asked,
-  decimal-reads.Learnt,
-  tail-below t,
-  tail.Post,
-) (tail-at t) tail.Post
-tail-same-length t c = (c .before .before .byte) .kept .0
+tail-returns : (t : ℕ) → tail-lts.Need-returns (tail-claims t) (tail-at t) tail.Post
+tail-returns t c = (
+  placed-as (tail-end _ _ (c .before .before .before .before .if1 .taken)) (c .before .before .byte .ensures),
+  omega (arith, c .before .before .byte .ensures .end),
+)
 
-tail-returns : (t : ℕ) → tail-lts.Need-returns (
-  byte-reads.Asked,
-  byte-reads.Learnt,
-  decimal-reads.Asked,
-  decimal-reads.Learnt,
-  tail-below t,
-  tail.Post,
-) (tail-at t) tail.Post
-tail-returns t c = (placed-as (tail-end _ _ ((c .before .before .before .before .if1) .taken)) ((c .before .before .byte) .ensures), omega (arith, (c .before .before .byte) .ensures .end))
+tail-decimal-requires : (t : ℕ) → tail-lts.Need-decimal-requires (tail-claims t) (tail-at t) tail.Post
+tail-decimal-requires t c κs =
+    let at-byte2 = c .before .before .before .before in let at-if1 = at-byte2 .before .before in
+    let start = at-if1 .before .before .before in
+    omega (
+      arith,
+      start .pre,
+      at-byte2 .byte2 .ensures .end,
+      at-byte2 .byte2 .kept .0,
+      ap length (drop-next (start .args .ns .now) (start .args .i) (at-if1 .if1 .left)),
+    )
 
-tail-byte-requires-2 : (t : ℕ) → tail-lts.Need-byte-requires-2 (
-  byte-reads.Asked,
-  byte-reads.Learnt,
-  decimal-reads.Asked,
-  decimal-reads.Learnt,
-  tail-below t,
-  tail.Post,
-) (tail-at t) tail.Post
-tail-byte-requires-2 t c κs = omega (arith, (c .before .before .before .before .pre))
+tail-add-tail : (t : ℕ) → tail-lts.Need-add-tail (tail-claims t) (tail-at t) tail.Post
+tail-add-tail t c =
+    let at-decimal = c .before .before .before in let at-out2 = at-decimal .before .before .before .before in
+    omega (arith, at-out2 .before .before .before .if1 .left)
 
-tail-mul-decimal : (t : ℕ) → tail-lts.Need-mul-decimal (
-  byte-reads.Asked,
-  byte-reads.Learnt,
-  decimal-reads.Asked,
-  decimal-reads.Learnt,
-  tail-below t,
-  tail.Post,
-) (tail-at t) tail.Post
-tail-mul-decimal t c = search needs
+tail-tail-requires : (t : ℕ) → tail-lts.Need-tail-requires (tail-claims t) (tail-at t) tail.Post
+tail-tail-requires t c κs =
+    let at-decimal = c .before .before .before in let at-out2 = at-decimal .before .before .before .before in
+    let at-if1 = at-out2 .before .before .before in let start = at-if1 .before .before .before in (
+      omega (arith, start .pre, at-if1 .if1 .left),
+      omega (
+        arith,
+        start .pre,
+        at-out2 .before .byte2 .ensures .end,
+        at-decimal .decimal .ensures .1,
+        at-out2 .before .byte2 .kept .0,
+        at-decimal .decimal .kept .0,
+        ap length (drop-next (start .args .ns .now) (start .args .i) (at-if1 .if1 .left)),
+      ),
+    )
 
-tail-shared-slice-read-decimal : (t : ℕ) → tail-lts.Need-shared-slice-read-decimal (
-  byte-reads.Asked,
-  byte-reads.Learnt,
-  decimal-reads.Asked,
-  decimal-reads.Learnt,
-  tail-below t,
-  tail.Post,
-) (tail-at t) tail.Post
-tail-shared-slice-read-decimal t c = omega (arith, (c .before .before .before .before .before .before .if1) .left)
+tail-same-length-2 : (t : ℕ) → tail-lts.Need-same-length-2 (tail-claims t) (tail-at t) tail.Post
+tail-same-length-2 t c =
+    let at-tail = c .before .before in let at-decimal = at-tail .before .before .before .before in
+    let at-out2 = at-decimal .before .before .before .before in
+    at-tail .tail .kept .0 ∙ (at-decimal .decimal .kept .0 ∙ at-out2 .before .byte2 .kept .0)
 
-tail-decimal-requires : (t : ℕ) → tail-lts.Need-decimal-requires (
-  byte-reads.Asked,
-  byte-reads.Learnt,
-  decimal-reads.Asked,
-  decimal-reads.Learnt,
-  tail-below t,
-  tail.Post,
-) (tail-at t) tail.Post
-tail-decimal-requires t c κs = omega (arith, (c .before .before .before .before .before .before .before .before .before .pre), (c .before .before .before .before .byte2) .ensures .end, (c .before .before .before .before .byte2) .kept .0, ap length (drop-next ((c .before .before .before .before .before .before .before .before .before .args) .ns .now) ((c .before .before .before .before .before .before .before .before .before .args) .i) ((c .before .before .before .before .before .before .if1) .left)))
-
-tail-add-tail : (t : ℕ) → tail-lts.Need-add-tail (
-  byte-reads.Asked,
-  byte-reads.Learnt,
-  decimal-reads.Asked,
-  decimal-reads.Learnt,
-  tail-below t,
-  tail.Post,
-) (tail-at t) tail.Post
-tail-add-tail t c = omega (arith, (c .before .before .before .before .before .before .before .before .before .before .if1) .left)
-
-tail-tail-requires : (t : ℕ) → tail-lts.Need-tail-requires (
-  byte-reads.Asked,
-  byte-reads.Learnt,
-  decimal-reads.Asked,
-  decimal-reads.Learnt,
-  tail-below t,
-  tail.Post,
-) (tail-at t) tail.Post
-tail-tail-requires t c κs = (omega (arith, (c .before .before .before .before .before .before .before .before .before .before .before .before .before .pre), (c .before .before .before .before .before .before .before .before .before .before .if1) .left), omega (arith, (c .before .before .before .before .before .before .before .before .before .before .before .before .before .pre), (c .before .before .before .before .before .before .before .before .byte2) .ensures .end, (c .before .before .before .decimal) .ensures .1, (c .before .before .before .before .before .before .before .before .byte2) .kept .0, (c .before .before .before .decimal) .kept .0, ap length (drop-next ((c .before .before .before .before .before .before .before .before .before .before .before .before .before .args) .ns .now) ((c .before .before .before .before .before .before .before .before .before .before .before .before .before .args) .i) ((c .before .before .before .before .before .before .before .before .before .before .if1) .left))))
-
-tail-same-length-2 : (t : ℕ) → tail-lts.Need-same-length-2 (
-  byte-reads.Asked,
-  byte-reads.Learnt,
-  decimal-reads.Asked,
-  decimal-reads.Learnt,
-  tail-below t,
-  tail.Post,
-) (tail-at t) tail.Post
-tail-same-length-2 t c = (c .before .before .tail) .kept .0 ∙ ((c .before .before .before .before .before .before .decimal) .kept .0 ∙ (c .before .before .before .before .before .before .before .before .before .before .before .byte2) .kept .0)
-
-tail-returns-2 : (t : ℕ) → tail-lts.Need-returns-2 (
-  byte-reads.Asked,
-  byte-reads.Learnt,
-  decimal-reads.Asked,
-  decimal-reads.Learnt,
-  tail-below t,
-  tail.Post,
-) (tail-at t) tail.Post
-tail-returns-2 t c = (placed-as (tail-next _ _ ((c .before .before .before .before .before .before .before .before .before .before .before .before .before .if1) .left)) (placed-on ((c .before .before .before .before .before .before .before .before .before .before .before .byte2) .ensures) (placed-on ((c .before .before .before .before .before .before .decimal) .ensures .0) ((c .before .before .tail) .ensures .0))), omega (arith, (c .before .before .before .before .before .before .before .before .before .before .before .byte2) .ensures .end, (c .before .before .before .before .before .before .decimal) .ensures .1, (c .before .before .tail) .ensures .1, ap length (drop-next ((c .before .before .before .before .before .before .before .before .before .before .before .before .before .before .before .before .args) .ns .now) ((c .before .before .before .before .before .before .before .before .before .before .before .before .before .before .before .before .args) .i) ((c .before .before .before .before .before .before .before .before .before .before .before .before .before .if1) .left))))
+tail-returns-2 : (t : ℕ) → tail-lts.Need-returns-2 (tail-claims t) (tail-at t) tail.Post
+tail-returns-2 t c =
+    let at-tail = c .before .before in let at-decimal = at-tail .before .before .before .before in
+    let at-out2 = at-decimal .before .before .before .before in let at-if1 = at-out2 .before .before .before in
+    let start = at-if1 .before .before .before in (
+      placed-as (tail-next _ _ (at-if1 .if1 .left))
+          (placed-on (at-out2 .before .byte2 .ensures) (placed-on (at-decimal .decimal .ensures .0) (at-tail .tail .ensures .0))),
+      omega (
+        arith,
+        at-out2 .before .byte2 .ensures .end,
+        at-decimal .decimal .ensures .1,
+        at-tail .tail .ensures .1,
+        ap length (drop-next (start .args .ns .now) (start .args .i) (at-if1 .if1 .left)),
+      ),
+    )
 
 pub +tail-spec : {M : Type 1} → statement M
-+tail-spec = close μ-tail λ t. tail-lts.spec (
-  byte-reads.Asked,
-  byte-reads.Learnt,
-  decimal-reads.Asked,
-  decimal-reads.Learnt,
-  tail-below t,
-  tail.Post,
-)
-    (tail-at t)
-    tail.Post
-    (tail-byte-requires t)
-    (tail-same-length t)
-    (tail-returns t)
-    (tail-byte-requires-2 t)
-    (tail-mul-decimal t)
-    (tail-shared-slice-read-decimal t)
-    (tail-decimal-requires t)
-    (tail-add-tail t)
-    (tail-tail-requires t)
-    (tail-same-length-2 t)
-    (tail-returns-2 t)
++tail-spec =
+    close μ-tail
+    λ t. tail-lts.spec (tail-claims t) (tail-at t)
+    tail.Post (λ c κs. omega (arith, c .before .before .before .before .pre)) (λ c. c .before .before .byte .kept .0) (tail-returns t)
+    (λ c κs. omega (arith, c .before .before .before .before .pre)) (λ c. search needs)
+    (λ c. let at-byte2 = c .before .before .before .before in omega (arith, at-byte2 .before .before .if1 .left)) (tail-decimal-requires t)
+    (tail-add-tail t) (tail-tail-requires t) (tail-same-length-2 t) (tail-returns-2 t)

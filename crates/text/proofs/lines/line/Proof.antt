@@ -6,36 +6,27 @@ use native.Mathlib.Omega.{arith}
 use Rattle.text.specs.Listing.{line}
 use Rattle.text.specs.ListingLaws.{placed-on}
 
-column-requires : tie.Need-column-requires
-column-requires c κs = search needs
-
-column-requires-2 : tie.Need-column-requires-2
-column-requires-2 c κs = search needs
-
-column-requires-3 : tie.Need-column-requires-3
-column-requires-3 c κs = search needs
-
-command-requires : tie.Need-command-requires
-command-requires c κs = search needs
-
-byte-requires : tie.Need-byte-requires
-byte-requires c κs = search needs
-
-same-length : tie.Need-same-length
-same-length c = search needs
-
 returns : tie.Need-returns
 unfolding line
-returns c = (placed-on ((c .before .before .before .before .before .before .before .before .before .before .before .before .before .before .before .before .before .before .column) .ensures .0) (placed-on ((c .before .before .before .before .before .before .before .before .before .before .before .before .before .before .column2) .ensures .0) (placed-on ((c .before .before .before .before .before .before .before .before .before .before .column3) .ensures .0) (placed-on ((c .before .before .before .before .before .before .command) .ensures .0) ((c .before .before .byte) .ensures)))), omega (arith, (c .before .before .before .before .before .before .before .before .before .before .before .before .before .before .before .before .before .before .column) .ensures .1, (c .before .before .before .before .before .before .before .before .before .before .before .before .before .before .column2) .ensures .1, (c .before .before .before .before .before .before .before .before .before .before .column3) .ensures .1, (c .before .before .before .before .before .before .command) .ensures .1, (c .before .before .byte) .ensures .end))
+returns c =
+    let at-byte = c .before .before in let at-command = at-byte .before .before .before .before in
+    let at-column3 = at-command .before .before .before .before in
+    let at-column2 = at-column3 .before .before .before .before in
+    let at-column = at-column2 .before .before .before .before in (
+      placed-on (at-column .column .ensures .0) (placed-on (at-column2 .column2 .ensures .0)
+          (placed-on (at-column3 .column3 .ensures .0) (placed-on (at-command .command .ensures .0) (at-byte .byte .ensures)))),
+      omega (
+        arith,
+        at-column .column .ensures .1,
+        at-column2 .column2 .ensures .1,
+        at-column3 .column3 .ensures .1,
+        at-command .command .ensures .1,
+        at-byte .byte .ensures .end,
+      ),
+    )
 
 pub line-spec : {M : Type 1} → statement M
 line-spec =
     tie.close
-    (tie.spec
-    column-requires
-    column-requires-2
-    column-requires-3
-    command-requires
-    byte-requires
-    same-length
+    (tie.spec (λ c κs. search needs) (λ c κs. search needs) (λ c κs. search needs) (λ c κs. search needs) (λ c κs. search needs) (λ c. search needs)
     returns)

@@ -6,18 +6,11 @@ use native.Mathlib.Omega.{arith}
 use Rattle.text.specs.Listing.{row}
 use Rattle.text.specs.ListingLaws.{placed-on}
 
-put-requires : tie.Need-put-requires
-put-requires c κs = search needs
-
-tail-requires : tie.Need-tail-requires
-tail-requires c κs = search needs
-
-same-length : tie.Need-same-length
-same-length c = search needs
-
 returns : tie.Need-returns
 unfolding row
-returns c = (placed-on ((c .before .before .before .before .before .before .put) .ensures) ((c .before .before .tail) .ensures .0), omega (arith, (c .before .before .before .before .before .before .put) .ensures .end, (c .before .before .tail) .ensures .1))
+returns c =
+    let at-tail = c .before .before in let at-put = at-tail .before .before .before .before in
+    (placed-on (at-put .put .ensures) (at-tail .tail .ensures .0), omega (arith, at-put .put .ensures .end, at-tail .tail .ensures .1))
 
 pub row-spec : {M : Type 1} → statement M
-row-spec = tie.close (tie.spec put-requires tail-requires same-length returns)
+row-spec = tie.close (tie.spec (λ c κs. search needs) (λ c κs. search needs) (λ c. search needs) returns)
