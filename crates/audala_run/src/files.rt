@@ -8,7 +8,7 @@ pub struct Loaded {
 }
 
 // The bytes of the file that argument i names, as many as the buffer has places for.
-pub fn load(i: usize, buf: &mut [u8]) -> Loaded
+pub(crate) fn load(i: usize, buf: &mut [u8]) -> Loaded
     ensures { λ r. ⌜ Counts (r .len) (now (buf .exit)) ⌝ }
 {
     let mut name = io::buffer();
@@ -47,7 +47,7 @@ pub fn load(i: usize, buf: &mut [u8]) -> Loaded
 }
 
 // The first n bytes, or all where there are fewer, to the file that argument i names; whether that was done.
-pub fn store(i: usize, bytes: &[u8], n: u32) -> bool {
+pub(crate) fn store(i: usize, bytes: &[u8], n: u32) -> bool {
     let mut name = io::buffer();
     let k = os::arg(i, &mut name);
     if os::errno() != 0 {
