@@ -1,6 +1,13 @@
-/* The AuDaLa checker and engine for C. Link with libaudala.a (rt staticlib audala).
+/* The AuDaLa checker and engine for C. Link with libaudala.a (rt staticlib audala), which is built for x86-64 under the System V
+ * calling convention by today's toolchain.
  *
- * Numbers are those of the scope paper, 01. Nothing here is promised that the contract of the function does not fix. */
+ * What the functions answer, and every byte that they write, is fixed by their proved contracts; formats and numbers are set out in
+ * docs/FORMAT.md. What a caller has to keep, and what no contract speaks of:
+ *   overlap    a list or output that is written overlaps nothing else that is handed to the call; read buffers may overlap each other;
+ *   alignment  a list is aligned to 8 bytes, as a uint64_t array is; byte buffers may stand anywhere;
+ *   null       a null pointer may stand for an empty buffer, with length 0;
+ *   threads    the library has no data of its own: calls may go on at the same time, each with buffers of its own;
+ *   stack      what a call uses does not depend on its input's length; README, 'Stack', has the measured figures. */
 #ifndef AUDALA_H
 #define AUDALA_H
 
@@ -11,6 +18,31 @@
 extern "C" {
 #endif
 
+/* The numbers that the functions answer. 1 to 14 are from the input: nothing is written. 33 to 36 are from the state: the run
+ * stopped, and its table up to there is written. Where several hold the lowest is answered; of 2 and 3, of 4 and 5, and of 11 and
+ * 12 the one that is met first in the image. */
+typedef enum {
+    AUDALA_DONE = 0,             /* accepted; of a run: it came to its schedule's end */
+    AUDALA_PROGRAM_SIZE = 1,     /* program image empty, over 32,768 bytes or no multiple of 512: send it again */
+    AUDALA_PROGRAM_SUMS = 2,     /* a sum of a program block is wrong: the image was damaged on its way */
+    AUDALA_PROGRAM_BLOCKS = 3,   /* a program block with another index, used count or unused bytes: it was put together wrongly */
+    AUDALA_PROGRAM_END = 4,      /* the program stream ends too early or too late */
+    AUDALA_PROGRAM_BYTE = 5,     /* a byte of the program stream that nothing allows there, or nesting past its limit */
+    AUDALA_PROGRAM_LIMIT = 6,    /* too many commands, too deep a stack or too many schedule items */
+    AUDALA_PROGRAM_NAME = 7,     /* a name that is not declared, declared twice or not alive; a step that is not there */
+    AUDALA_PROGRAM_TYPE = 8,     /* an expression of another type than its place asks for */
+    AUDALA_TABLE_SIZE = 9,       /* table image empty, over 8,704 bytes or no multiple of 512 */
+    AUDALA_TABLE_BLOCKS = 10,    /* a table block with a wrong sum, index, used count or unused bytes */
+    AUDALA_TABLE_END = 11,       /* the table stream ends too early or too late */
+    AUDALA_TABLE_RECORD = 12,    /* a record with a wrong struct, value or reference, or too many of them */
+    AUDALA_NO_ROOM = 13,         /* the list or the output is too short: see the macros below */
+    AUDALA_TOO_MANY_TURNS = 14,  /* more than 65,536 turn bytes */
+    AUDALA_OUT_OF_TURNS = 33,    /* the turn bytes are used up while commands remain: hand in more */
+    AUDALA_TABLE_FULL = 34,      /* an instance was to be made and there are 256 */
+    AUDALA_ARITHMETIC = 35,      /* a result outside its type, or a division by zero */
+    AUDALA_FIX_FULL = 36         /* a Fix was to begin with eight stability entries there */
+} audala_number;
+
 /* Places of the command list that a check or a run asks for, else 13. */
 #define AUDALA_LIST_PLACES 1024
 
@@ -20,7 +52,7 @@ extern "C" {
 
 /* What a check answers. After a refusal all but the number are 0. */
 typedef struct {
-    uint32_t number;   /* 0: accepted; 1 to 8, 13: 01's number of the refusal */
+    uint32_t number;   /* 0: accepted; 1 to 8, 13: refused (audala_number) */
     uint32_t structs;  /* structs of the program */
     uint32_t steps;    /* steps of all structs */
     uint32_t commands; /* commands of all steps */
@@ -35,7 +67,7 @@ audala_verdict audala_check(const uint8_t *image, size_t length, uint64_t *list,
 
 /* Where the commands of one step stand in the list. */
 typedef struct {
-    uint32_t number; /* 0: the image is accepted and the list has room; 1 to 8, 13: the number of the refusal, as a check has it */
+    uint32_t number; /* 0: the image is accepted and the list has room; 1 to 8, 13: refused, as a check has it */
     uint32_t start;  /* the place of the first, counted from 0 */
     uint32_t length; /* how many there are */
 } audala_part;
@@ -49,7 +81,7 @@ audala_part audala_step(const uint8_t *image, size_t length, const uint64_t *lis
 
 /* What a run answers. After a number from the input, 1 to 14, all but the number are 0. */
 typedef struct {
-    uint32_t number; /* 0: the run has ended; 1 to 14: 01's number from the input; 33 to 36: its number from the state */
+    uint32_t number; /* 0: the run has ended; 1 to 14: refused; 33 to 36: stopped (audala_number) */
     uint32_t turns;  /* commands taken; the byte that chose a refused command is not counted */
     uint32_t blocks; /* blocks of 512 bytes written */
     uint32_t depth;  /* the greatest stack height over all steps of the program */
