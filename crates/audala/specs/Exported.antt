@@ -1,6 +1,6 @@
 -- A verdict, a part of the list and a run's report as the library hands them over.
 use Rattle.run.specs.Entry.{Verdict, Report as Reported}
-use Rattle.parts.specs.declared.Spot.{Spot}
+use Rattle.step_part.specs.declared.Spot.{Spot}
 use Rattle.audala.specs.declared.Answer.{Answer}
 use Rattle.audala.specs.declared.Part.{Part}
 use Rattle.audala.specs.declared.Report.{Report}

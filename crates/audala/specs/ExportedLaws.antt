@@ -5,8 +5,8 @@ use mathlib.Core.List.{List}
 use lib.ListN.{length, take, drop}
 use Rattle.types.specs.Limits.{max-commands}
 use Rattle.run.specs.Entry.{check-verdict}
-use Rattle.parts.specs.StepPart.{step-place, step-part}
-use Rattle.parts.specs.StepPartLaws.{place-number, place-fits, place-part}
+use Rattle.step_part.specs.StepPart.{step-place, step-part}
+use Rattle.step_part.specs.StepPartLaws.{place-number, place-fits, place-part}
 use Rattle.audala.specs.declared.Part.{Part}
 use Rattle.audala.specs.Exported.{exported-part}
 

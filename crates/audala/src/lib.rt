@@ -2,7 +2,7 @@
 // declares it.
 ghost use mathlib.Core.Path.{_≡_};
 ghost use Rattle.run.specs.Entry.{check-verdict, check-list, run-report, run-output, run-list};
-ghost use Rattle.parts.specs.StepPart.{step-place};
+ghost use Rattle.step_part.specs.StepPart.{step-place};
 ghost use Rattle.audala.specs.Exported.{exported, exported-part, exported-report};
 
 // What a check answers; after a refusal all but the number are 0.
@@ -44,7 +44,7 @@ pub struct Part {
 pub extern "C" fn audala_step(image: &[u8], list: &[u64], structure: u8, name: u8) -> Part
     ensures { λ r. ⌜ r ≡ exported-part (step-place (now (image .entry)) (now (list .entry)) structure name) ⌝ }
 {
-    let p = parts::step_place(image, list, structure, name);
+    let p = step_part::step_place(image, list, structure, name);
     Part {
         number: p.number as u32,
         start: p.start as u32,
@@ -74,7 +74,7 @@ pub extern "C" fn audala_run(
     ensures { λ _. ⌜ now (output .exit) ≡ run-output (now (program .entry)) (now (table .entry)) (now (turns .entry)) (now (output .entry)) (now (list .entry)) ⌝ }
     ensures { λ _. ⌜ now (list .exit) ≡ run-list (now (program .entry)) (now (table .entry)) (now (turns .entry)) (now (output .entry)) (now (list .entry)) ⌝ }
 {
-    let r = entry::run(program, table, turns, output, list);
+    let r = run_images::run(program, table, turns, output, list);
     Report {
         number: r.number as u32,
         turns: r.turns,

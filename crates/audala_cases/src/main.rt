@@ -81,7 +81,7 @@ fn check_case() -> bool {
 
 // What a run answers, as a line.
 fn answer_run(image: &[u8], table: &[u8], turns: &[u8], output: &mut [u8], list: &mut [u64]) {
-    let r = entry::run(image, table, turns, output, list);
+    let r = run_images::run(image, table, turns, output, list);
     let ns = [
         r.number as u64,
         r.turns as u64,

@@ -38,7 +38,7 @@ fn number(n: u64, behind: u8) {
 fn run(program: &[u8], table: &[u8], turns: &[u8]) {
     let mut output = [0u8; OUTPUT];
     let mut list = [0u64; types::MAX_COMMANDS];
-    let r = entry::run(program, table, turns, &mut output, &mut list);
+    let r = run_images::run(program, table, turns, &mut output, &mut list);
     let n = 512 * r.blocks as u32;
     if n > 0 {
         if !files::store(4, &output, n) {

@@ -26,7 +26,7 @@ fn step(of: u8, name: u8, commands: &[u64]) {
 fn steps(image: &[u8], list: &[u64], of: u8) {
     let mut name: u8 = 0;
     while name < NAMES {
-        step(of, name, parts::step_commands(image, list, of, name));
+        step(of, name, step_part::step_commands(image, list, of, name));
         name += 1;
     }
 }

@@ -4,7 +4,7 @@ use Rattle.blocks.specs.Images.{program-number}
 use Rattle.blocks.specs.declared.Read.{Read}
 use Rattle.blocks.specs.declared.Read.the-variants.{Stream, Refused, Short}
 use Rattle.run.specs.Entry.{Verdict as Judgement}
-use Rattle.whole.specs.declared.Summary.{Summary}
+use Rattle.read_program.specs.declared.Summary.{Summary}
 use Rattle.checker.specs.declared.Verdict.{Verdict}
 
 abbrev pub answer : Judgement → Verdict

@@ -30,19 +30,19 @@ use Rattle.commands.specs.Coding.{words}
 use Rattle.commands.specs.Bounds.{total, greatest, step-list, step-depth, arities, program-size, program-depth, Within}
 use Rattle.commands.specs.Numbers.{program-number}
 use Rattle.commands.specs.NumbersLaws.{number-accepted}
-use Rattle.facts.specs.ProgramFacts.{program-totals, program-plan, checked-number}
-use Rattle.facts.specs.ProgramFactsLaws.{checked-law, checked-commands, checked-depth, checked-steps}
-use Rattle.plan.specs.ParamsTold.{ParamsKept}
-use Rattle.plan.specs.ParamsWays.{from-start}
+use Rattle.judge.specs.ProgramFacts.{program-totals, program-plan, checked-number}
+use Rattle.judge.specs.ProgramFactsLaws.{checked-law, checked-commands, checked-depth, checked-steps}
+use Rattle.read_schedule.specs.ParamsTold.{ParamsKept}
+use Rattle.read_schedule.specs.ParamsWays.{from-start}
 use Rattle.emit.specs.declared.Put.{Put}
 use Rattle.emit.specs.Written.{Ready, Wrote}
 use Rattle.emit.specs.ProgramWords.{step-words, steps-words, structs-words, structs-at, program-words as emitted-words}
 use Rattle.emit.specs.WordLaws.{words-append}
 use Rattle.emit.specs.ProgramLaws.{Standing, program-length, program-steps, whole-program, program-ready, program-wrote}
 use Rattle.run.specs.Entry.{Checked, Checked.accepted, Checked.refused, judge, of-read, of-image, checked, of-steps, of-structs, program-words, listed, Verdict as Judgement, refusal, approval, no-room, verdict-of, list-of}
-use Rattle.whole.specs.declared.Summary.{Summary}
-use Rattle.whole.specs.declared.ProgramRead.the-variants.{Value, Refused}
-use Rattle.whole.specs.Whole.{summary, place-of, program-told}
+use Rattle.read_program.specs.declared.Summary.{Summary}
+use Rattle.read_program.specs.declared.ProgramRead.the-variants.{Value, Refused}
+use Rattle.read_program.specs.Whole.{summary, place-of, program-told}
 use Rattle.checker.specs.Answer.{answer, counts-verdict, approved, image-refusal}
 
 -- Refusals -----------------------------------------------------------------------------

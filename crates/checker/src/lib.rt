@@ -1,8 +1,8 @@
 // The checker: a program image to a number, counts and depth, and its commands to a lent list (01, numbers 1 to 8 and 13).
 
 use blocks::Read;
-use whole::ProgramRead;
-use whole::Summary;
+use read_program::ProgramRead;
+use read_program::Summary;
 ghost use mathlib.Core.Path.{_≡_};
 ghost use Prim.Native.Nat.{_<_};
 ghost use Rattle.program.specs.Reader.{read};
@@ -64,9 +64,9 @@ fn stream(s: &[u8], list: &mut [u64]) -> Verdict
 {
     let mut counts = [0u8; types::MAX_STRUCTS];
     let mut types = [0u8; types::MAX_STRUCTS * types::MAX_PARAMS];
-    let r = whole::program(s, &mut counts, &mut types);
+    let r = read_program::program(s, &mut counts, &mut types);
     let ProgramRead::Value(at, p) = r else {
-        return refused(whole::program_refusal(r));
+        return refused(read_program::program_refusal(r));
     };
     if p.number != 0 {
         return refused(p.number);

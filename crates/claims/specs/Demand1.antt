@@ -10,7 +10,7 @@ use Rattle.run.specs.Entry.{Checked.refused, checked, refusal, check-verdict, c
 use Rattle.run.specs.Input.{program-order, check-order, order}
 use Rattle.run.specs.InputProgram.{checked-number, verdict-number, check-untouched}
 use Rattle.run.specs.InputLaws.{begins-number, refusal-untouched}
-use Rattle.parts.specs.StepPart.{step-place, step-part}
+use Rattle.step_part.specs.StepPart.{step-place, step-part}
 use Rattle.text.specs.Listing.{row}
 use Rattle.listing.specs.Listings.{refused-word, listing-of}
 use Rattle.claims.specs.JoinLaws.{step-numbered, listing-numbered}

@@ -40,7 +40,7 @@ use Rattle.sound.specs.Accepted.{Accepted}
 use Rattle.sound.specs.AcceptedLaws.{ready-accepted}
 use Rattle.sound.specs.NeverStuckLaws.{demand3, demand3-comes}
 use Rattle.sound.specs.TableKept.{table-kept, table-written, nulls-kept, comes-written, output-length}
-use Rattle.parts.specs.StepPart.{step-place, step-part}
+use Rattle.step_part.specs.StepPart.{step-place, step-part}
 use Rattle.step_lines.specs.Lines.{program-lines}
 use Rattle.listing.specs.Listings.{head, listing-of}
 use Rattle.claims.specs.JoinLaws.{step-handed, step-not-there, listing-accepted}

@@ -10,9 +10,9 @@ use Rattle.commands.specs.Commands.{Flat}
 use Rattle.commands.specs.Coding.{command-word}
 use Rattle.commands.specs.Decoding.{InRanges}
 use Rattle.commands.specs.CodingLaws.{word-injective}
-use Rattle.words.specs.Operators.{quotient, remainder}
-use Rattle.words.specs.Rounding.{TowardZero}
-use Rattle.words.specs.RoundingLaws.{quotient-toward-zero, quotient-unique, remainder-completes}
+use Rattle.operators.specs.Operators.{quotient, remainder}
+use Rattle.operators.specs.Rounding.{TowardZero}
+use Rattle.operators.specs.RoundingLaws.{quotient-toward-zero, quotient-unique, remainder-completes}
 use Rattle.run.specs.Entry.{of-structs, program-words}
 use Rattle.run.specs.ListLaws.{words-determine}
 

@@ -36,9 +36,9 @@ use Rattle.run.specs.AnsweredLaws.{comes-answered}
 use Rattle.sound.specs.Needs.{Right}
 use Rattle.sound.specs.AcceptedLaws.{ready-accepted}
 use Rattle.sound.specs.NeverStuckLaws.{demand3}
-use Rattle.parts.specs.StepPart.{step-place, step-part}
-use Rattle.parts.specs.StepPartLaws.{place-number}
-use Rattle.parts.specs.StepPartWords.{step-words, step-absent, step-refused, step-short}
+use Rattle.step_part.specs.StepPart.{step-place, step-part}
+use Rattle.step_part.specs.StepPartLaws.{place-number}
+use Rattle.step_part.specs.StepPartWords.{step-words, step-absent, step-refused, step-short}
 use Rattle.text.specs.Listing.{row}
 use Rattle.step_lines.specs.Lines.{program-lines}
 use Rattle.listing.specs.Listings.{refused-word, head, listing, listing-of}

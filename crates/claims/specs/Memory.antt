@@ -11,7 +11,7 @@ use Rattle.run.specs.Visits.{Visits}
 use Rattle.memory.specs.Layout.{State}
 use Rattle.memory.specs.Plan.{At}
 use Rattle.memory.specs.Stands.{Stands}
-use Rattle.runner.specs.Running.{cleared, Running, Ended}
+use Rattle.interpreter.specs.Running.{cleared, Running, Ended}
 use Rattle.claims.specs.MemoryLaws.{running-visited, ended-visited}
 
 module _ (p : Program) (counts list items spans : List ℕ) (m : Machine) {es : List ℕ} {z : State} where

@@ -10,7 +10,7 @@ use Rattle.run.specs.Visits.{Visits}
 use Rattle.memory.specs.Layout.{State, refused}
 use Rattle.memory.specs.Plan.{At}
 use Rattle.memory.specs.Stands.{Stands}
-use Rattle.runner.specs.Running.{cleared, Running, Running.going, Running.over, Ended}
+use Rattle.interpreter.specs.Running.{cleared, Running, Running.going, Running.over, Ended}
 
 -- memory without a number is as it was without it
 still-cleared : (z : State) → z .number ≡ 0 → cleared z ≡ z

@@ -4,11 +4,11 @@ use mathlib.Core.Path.{_≡_, refl, subst}
 use mathlib.Core.List.{List}
 use Rattle.memory.specs.Layout.{operand}
 use Rattle.memory.specs.Act.{next-word, perform, act}
-use Rattle.acts.specs.declared.Acted.{Acted}
-use Rattle.acts.specs.Answers.{answering, DoesWith}
+use Rattle.execute.specs.declared.Acted.{Acted}
+use Rattle.execute.specs.Answers.{answering, DoesWith}
 use Rattle.memory.specs.Move.{move}
-use Rattle.moves.specs.declared.Moved.{Moved}
-use Rattle.moves.specs.Numbers.{after}
+use Rattle.scheduler.specs.declared.Moved.{Moved}
+use Rattle.scheduler.specs.Numbers.{after}
 use Rattle.engine.specs.declared.Machine.{Machine}
 use Rattle.engine.specs.States.{state-of}
 

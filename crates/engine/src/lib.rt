@@ -1,17 +1,17 @@
 // The machine of a run (01, 'Table and turns'): a few numbers by value, over the memory that the run is lent.
-use acts::Acted;
-use acts::HEAD_SIZE;
-use acts::NEXT;
-use acts::perform;
-use moves::Moved;
-use moves::schedule::advance;
+use execute::Acted;
+use execute::HEAD_SIZE;
+use execute::NEXT;
+use execute::perform;
+use scheduler::Moved;
+use scheduler::schedule::advance;
 ghost use mathlib.Core.Path.{_≡_};
 ghost use mathlib.Core.List.{List};
 ghost use Prim.Native.Nat.{ℕ};
 ghost use Rattle.memory.specs.Act.{act};
 ghost use Rattle.memory.specs.Fit.{Fit};
 ghost use Rattle.memory.specs.Move.{move};
-ghost use Rattle.moves.specs.Ready.{Movable};
+ghost use Rattle.scheduler.specs.Ready.{Movable};
 ghost use Rattle.engine.specs.States.{state-of};
 
 // 01's number of a Fix met with all stability entries taken.

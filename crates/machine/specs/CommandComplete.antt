@@ -16,10 +16,10 @@ use Rattle.program.specs.Tree.{Op, Program}
 use Rattle.commands.specs.Commands.{Com.push, Com.push-this, Com.rd, Com.wr, Com.cons, Com.not, Com.oper, Coms, Coms.nil, then, Flat, Flat.plain, Flat.if-n, flatten}
 use Rattle.commands.specs.Noted.{Note, erase, now-written}
 use Rattle.commands.specs.CommandLaws.{flatten-then}
-use Rattle.words.specs.Operators.{Applies, Exceeds}
-use Rattle.words.specs.Apply.{Answer, apply, same-val}
-use Rattle.words.specs.ApplyLaws.{apply-value, apply-outside}
-use Rattle.words.specs.TestLaws.{same-val-exact}
+use Rattle.operators.specs.Operators.{Applies, Exceeds}
+use Rattle.operators.specs.Apply.{Answer, apply, same-val}
+use Rattle.operators.specs.ApplyLaws.{apply-value, apply-outside}
+use Rattle.operators.specs.TestLaws.{same-val-exact}
 use Rattle.machine.specs.Published.{Sched, Env, lookup, assign, fresh-env, Inst, Inst.inst, State, State.state, update-env, structs, arity}
 use Rattle.machine.specs.Rules.{Settled, Settled.no-parameter, Settled.same-value, Settled.other-value, meet, Actor.instance, Rule, Rule.ComPush, Rule.ComPushThis, Rule.ComRd, Rule.ComWr, Rule.ComWrNSkip, Rule.ComNot, Rule.ComOp, Rule.ComCons, Rule.ComIfT, Rule.ComIfF}
 use Rattle.machine.specs.Stops.{Full, Full.no-label, Exceeded, Exceeded.no-result, full, exceeded}

@@ -17,9 +17,9 @@ use Rattle.commands.specs.Commands.{Com.push, Com.push-this, Com.rd, Com.wr, Co
 use Rattle.commands.specs.Typing.{sort}
 use Rattle.commands.specs.Noted.{Note, erase, now-written}
 use Rattle.commands.specs.CommandLaws.{flatten-then}
-use Rattle.words.specs.Apply.{same-val}
-use Rattle.words.specs.ApplyLaws.{apply-value, apply-outside}
-use Rattle.words.specs.TestLaws.{same-val-exact}
+use Rattle.operators.specs.Apply.{same-val}
+use Rattle.operators.specs.ApplyLaws.{apply-value, apply-outside}
+use Rattle.operators.specs.TestLaws.{same-val-exact}
 use Rattle.machine.specs.Published.{Sched, Env, lookup, assign, fresh-env, Inst, Inst.inst, State, State.state, update-env, arity}
 use Rattle.machine.specs.Rules.{Settled, Settled.no-parameter, Settled.same-value, Settled.other-value, meet, Actor.instance, Rule, Rule.ComPush, Rule.ComPushThis, Rule.ComRd, Rule.ComWr, Rule.ComWrNSkip, Rule.ComNot, Rule.ComOp, Rule.ComCons, Rule.ComIfT, Rule.ComIfF}
 use Rattle.machine.specs.Stops.{Full, Full.no-label, Exceeded, Exceeded.no-result, full, exceeded}

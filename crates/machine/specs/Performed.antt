@@ -12,7 +12,7 @@ use Rattle.types.specs.Values.{Val, Val.bool-val, Val.label}
 use Rattle.program.specs.Tree.{Op, Program}
 use Rattle.commands.specs.Typing.{sort}
 use Rattle.commands.specs.Noted.{Note, Note.n-push, Note.n-this, Note.n-not, Note.n-rd, Note.n-wr, Note.n-get, Note.n-set, Note.n-cons, Note.n-op, Note.n-if}
-use Rattle.words.specs.Apply.{Answer.value, Answer.outside, apply}
+use Rattle.operators.specs.Apply.{Answer.value, Answer.outside, apply}
 use Rattle.machine.specs.Published.{lookup, assign, structs, arity}
 use Rattle.machine.specs.Rules.{meet}
 use Rattle.machine.specs.Machine.{Tagged, tagged, Source, Source.variable, Source.local, given-by, Instance, Machine, Out, Out.next, Out.refused, Out.stuck, with-code, update-env, with-instances, put, with-stability, settled, made}

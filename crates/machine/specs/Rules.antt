@@ -22,7 +22,7 @@ use Rattle.types.specs.Values.{Val, Val.bool-val, Val.label}
 use Rattle.program.specs.Tree.{Op, Stmts, Program}
 use Rattle.program.specs.Counts.{All}
 use Rattle.commands.specs.Commands.{Com.push, Com.push-this, Com.rd, Com.wr, Com.cons, Com.not, Com.oper, Coms, Coms.nil, Coms.act, Coms.if-then, then, body-coms}
-use Rattle.words.specs.Operators.{Applies}
+use Rattle.operators.specs.Operators.{Applies}
 use Rattle.machine.specs.Published.{Sched, Sched.start, Sched.start-in, Sched.fixpoint, Sched.active, before, Env, lookup, assign, fresh-env, Inst, Inst.inst, State, State.state, update-env, structs, arity, Idle}
 use Rattle.commands.specs.Context.{step-of}
 

@@ -10,7 +10,7 @@ use Rattle.types.specs.Limits.{max-instances, max-stability}
 use Rattle.types.specs.Values.{Val}
 use Rattle.program.specs.Tree.{Op}
 use Rattle.commands.specs.Commands.{Com.cons, Com.oper, Coms, Coms.act}
-use Rattle.words.specs.Operators.{Exceeds}
+use Rattle.operators.specs.Operators.{Exceeds}
 use Rattle.machine.specs.Published.{Sched, Sched.fixpoint, Env, Inst, Inst.inst, State, State.state}
 
 -- 0 is the ended run

@@ -7,9 +7,9 @@ use lib.ListN.{length, getD, set, take, drop}
 use lib.Dec.{eqb, ltb, leb}
 use lib.Seq.{sets}
 use Rattle.types.specs.Limits.{max-instances, max-depth, variables}
-use Rattle.words.specs.declared.Answered.{Answered}
-use Rattle.words.specs.declared.Answered.the-variants.{Value, Outside, Unfit}
-use Rattle.words.specs.Words.{apply-word}
+use Rattle.operators.specs.declared.Answered.{Answered}
+use Rattle.operators.specs.declared.Answered.the-variants.{Value, Outside, Unfit}
+use Rattle.operators.specs.Words.{apply-word}
 pub use Rattle.machine.specs.Stops.{full, exceeded}
 use Rattle.memory.specs.Layout.{State, head, head-size, struct-of, height-of, next-of, end-of, row-size, variable, stacked, cell, type-byte, operand, label-cell, with-heads, with-cells, unstable, refused, with-count, of-head, of-cell}
 

@@ -15,12 +15,12 @@ use Rattle.program.specs.Tree.{Op, Op.op-eq, Op.op-ne, Op.op-le, Op.op-ge, Op.o
 use Rattle.program.specs.Encoding.{op-code}
 use Rattle.commands.specs.Typing.{sort, Takes, Takes.any-equal, Takes.order-int, Takes.order-nat, Takes.arith-int, Takes.arith-nat, Takes.logic-bool}
 use Rattle.commands.specs.Coding.{coded}
-use Rattle.words.specs.Ranges.{Of as Range, Of.of-int, Of.of-nat, Of.of-bool, Of.of-ref}
-use Rattle.words.specs.ValueLaws.{value-word}
-use Rattle.words.specs.Apply.{apply, same-val}
-use Rattle.words.specs.TestLaws.{same-val-exact, same-val-false}
-use Rattle.words.specs.Words.{answered, apply-word}
-use Rattle.words.specs.WordLaws.{op-of-code}
+use Rattle.operators.specs.Ranges.{Of as Range, Of.of-int, Of.of-nat, Of.of-bool, Of.of-ref}
+use Rattle.operators.specs.ValueLaws.{value-word}
+use Rattle.operators.specs.Apply.{apply, same-val}
+use Rattle.operators.specs.TestLaws.{same-val-exact, same-val-false}
+use Rattle.operators.specs.Words.{answered, apply-word}
+use Rattle.operators.specs.WordLaws.{op-of-code}
 use Rattle.sound.specs.Sized.{Lasting, Lasting.an-int, Lasting.a-nat, Lasting.a-bool, Lasting.a-null}
 use Rattle.memory.specs.Layout.{cell, type-byte, operand, label-cell}
 use Rattle.memory.specs.Act.{bool-byte, result-byte}

@@ -7,8 +7,8 @@ use mathlib.Core.List.{List}
 use lib.ListN.{length, getD}
 use lib.Dec.{eqb}
 use Rattle.types.specs.Limits.{nat-end, max-structs, max-params, max-instances, max-depth, variables}
-use Rattle.words.specs.declared.Answered.the-variants.{Value}
-use Rattle.words.specs.Words.{apply-word}
+use Rattle.operators.specs.declared.Answered.the-variants.{Value}
+use Rattle.operators.specs.Words.{apply-word}
 use Rattle.memory.specs.Layout.{State, head-size, row-size, struct-of, next-of, end-of, of-head, type-byte, operand}
 use Rattle.memory.specs.Act.{height, top, beneath, next-word}
 

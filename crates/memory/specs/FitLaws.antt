@@ -14,11 +14,11 @@ use Rattle.program.specs.Encoding.{op-code}
 use Rattle.commands.specs.Context.{params-of}
 use Rattle.commands.specs.Typing.{Sort, sort, Takes, Takes.any-equal, Takes.order-int, Takes.order-nat, Takes.arith-int, Takes.arith-nat, Takes.logic-bool}
 use Rattle.commands.specs.Noted.{Note, Note.n-push, Note.n-this, Note.n-not, Note.n-rd, Note.n-wr, Note.n-get, Note.n-set, Note.n-cons, Note.n-op, Note.n-if}
-use Rattle.words.specs.Apply.{Answer, Answer.value, Answer.outside, Answer.unfit, apply}
-use Rattle.words.specs.Ranges.{Of as Range, Of.of-int, Of.of-nat, Of.of-bool, Fits as Answers}
-use Rattle.words.specs.RangesLaws.{apply-fits}
-use Rattle.words.specs.declared.Answered.the-variants.{Value}
-use Rattle.words.specs.Words.{apply-word, answered}
+use Rattle.operators.specs.Apply.{Answer, Answer.value, Answer.outside, Answer.unfit, apply}
+use Rattle.operators.specs.Ranges.{Of as Range, Of.of-int, Of.of-nat, Of.of-bool, Fits as Answers}
+use Rattle.operators.specs.RangesLaws.{apply-fits}
+use Rattle.operators.specs.declared.Answered.the-variants.{Value}
+use Rattle.operators.specs.Words.{apply-word, answered}
 use Rattle.machine.specs.Published.{Sched, structs, arity}
 use Rattle.machine.specs.Machine.{Tagged, Instance, Machine}
 use Rattle.sound.specs.Needs.{Of, Operand}

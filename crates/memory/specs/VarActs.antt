@@ -15,7 +15,7 @@ use Rattle.types.specs.Values.{Val, Val.label, word}
 use Rattle.program.specs.Tree.{Program}
 use Rattle.commands.specs.Context.{params-of}
 use Rattle.commands.specs.Noted.{Note, Note.n-rd, Note.n-wr, Note.n-get, Note.n-set, now-written}
-use Rattle.words.specs.Apply.{same-val}
+use Rattle.operators.specs.Apply.{same-val}
 use Rattle.machine.specs.Published.{Sched, Env, lookup, assign, structs, arity}
 use Rattle.machine.specs.Rules.{meet}
 use Rattle.machine.specs.Machine.{Tagged, tagged, Source, Source.variable as from-variable, Source.local, given-by, Instance, Machine, with-code, with-written, with-instances, with-stability, put, update-env, settled, read, write-to, write, perform}

@@ -20,8 +20,8 @@ use Rattle.commands.specs.TypingDecide.{is-of, agree, given as given-type, resu
 use Rattle.commands.specs.BoundsDecide.{within}
 use Rattle.commands.specs.Numbers.{first, breach-tests, program-number}
 use Rattle.commands.specs.Noted.{struct-of, walk, store, read-path, write-path, note-expr, note-exprs, note-stmt, note-body, noted, now-written}
-use Rattle.words.specs.Operators.{quotient, remainder}
-use Rattle.words.specs.Apply.{same-int, same-bool, same-val, int-answer, nat-answer, by-nonzero, compute, answer, on-truths, on-labels, apply}
+use Rattle.operators.specs.Operators.{quotient, remainder}
+use Rattle.operators.specs.Apply.{same-int, same-bool, same-val, int-answer, nat-answer, by-nonzero, compute, answer, on-truths, on-labels, apply}
 use Rattle.table.specs.Table.{struct-at, enc-value, enc-record, enc-table}
 use Rattle.table.specs.TableReader.{read-value, read-values, read-record, read-count, read-table, is-struct, refers, refers-each, references, table-number, table-answer, table-of-stream}
 use Rattle.machine.specs.Published.{before, of-item, of-items, lookup, assign}

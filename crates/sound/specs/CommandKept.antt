@@ -18,9 +18,9 @@ use Rattle.commands.specs.Context.{Ctx, params-of, typ}
 use Rattle.commands.specs.Typing.{sort, Takes}
 use Rattle.commands.specs.Noted.{Note, Note.n-push, Note.n-this, Note.n-not, Note.n-rd, Note.n-wr, Note.n-get, Note.n-set, Note.n-cons, Note.n-op, Note.n-if, noted, now-written}
 use Rattle.table.specs.Table.{Each}
-use Rattle.words.specs.Apply.{Answer, Answer.value, Answer.outside, Answer.unfit, apply}
-use Rattle.words.specs.Ranges.{Fits as Answers}
-use Rattle.words.specs.RangesLaws.{apply-fits}
+use Rattle.operators.specs.Apply.{Answer, Answer.value, Answer.outside, Answer.unfit, apply}
+use Rattle.operators.specs.Ranges.{Fits as Answers}
+use Rattle.operators.specs.RangesLaws.{apply-fits}
 use Rattle.machine.specs.Published.{structs, arity}
 use Rattle.machine.specs.Machine.{Tagged, tagged, Source.variable, Source.local, Source.result, given-by, Instance, Machine, with-written, put, write-to, operated, perform, command-of, command-at, command}
 use Rattle.machine.specs.Stops.{full, exceeded}

@@ -14,7 +14,7 @@ use Rattle.types.specs.Types.{Ty, Ty.bool, Ty.ref}
 use Rattle.types.specs.Values.{Val, Val.bool-val, Val.label}
 use Rattle.program.specs.Tree.{Op, Program}
 use Rattle.commands.specs.Noted.{Note}
-use Rattle.words.specs.Apply.{apply}
+use Rattle.operators.specs.Apply.{apply}
 use Rattle.machine.specs.Rules.{meet}
 use Rattle.machine.specs.Published.{lookup, structs, arity}
 use Rattle.machine.specs.Machine.{Tagged, tagged, Source, Source.result, given-by, Instance, Machine, with-code, with-instances, with-stability, put, Out.next, Out.refused, read-from, read-at, read, write-to, write-parameter, write-at, write, negate, branch, operated, operate, construct}

@@ -8,7 +8,7 @@ use lib.ListN.{getElem?}
 use Rattle.types.specs.Types.{Ty, Ty.int, Ty.nat, Ty.bool, Ty.ref}
 use Rattle.types.specs.Values.{Val, Val.int-val, Val.nat-val, Val.bool-val, Val.label}
 use Rattle.commands.specs.Typing.{Sort, Takes, Takes.any-equal, Takes.order-int, Takes.order-nat, Takes.arith-int, Takes.arith-nat, Takes.logic-bool}
-use Rattle.words.specs.Ranges.{Of as Range, Of.of-int, Of.of-nat, Of.of-bool, Of.of-ref}
+use Rattle.operators.specs.Ranges.{Of as Range, Of.of-int, Of.of-nat, Of.of-bool, Of.of-ref}
 use Rattle.machine.specs.Machine.{Instance}
 use Rattle.sound.specs.Needs.{Of}
 

@@ -21,13 +21,13 @@ use Rattle.commands.specs.CommandLaws.{flatten-then}
 use Rattle.commands.specs.Bounds.{step-list}
 use Rattle.commands.specs.Coding.{words}
 use Rattle.commands.specs.SizeLaws.{body-length}
-use Rattle.facts.specs.declared.Scope.{Scope}
-use Rattle.facts.specs.declared.Done.{Done}
-use Rattle.facts.specs.Facts.{body-facts}
-use Rattle.facts.specs.SizeFactsLaws.{body-facts-size}
-use Rattle.stmts.specs.declared.StmtRead.the-variants.{Value, Refused}
-use Rattle.stmts.specs.Done.{done}
-use Rattle.stmts.specs.StmtWays.{done-is, done-stops}
+use Rattle.judge.specs.declared.Scope.{Scope}
+use Rattle.judge.specs.declared.Done.{Done}
+use Rattle.judge.specs.Facts.{body-facts}
+use Rattle.judge.specs.SizeFactsLaws.{body-facts-size}
+use Rattle.read_stmts.specs.declared.StmtRead.the-variants.{Value, Refused}
+use Rattle.read_stmts.specs.Done.{done}
+use Rattle.read_stmts.specs.StmtWays.{done-is, done-stops}
 use Rattle.emit.specs.Written.{Good}
 use Rattle.emit.specs.ProgramWords.{step-words}
 use Rattle.emit.specs.WordLaws.{words-length}

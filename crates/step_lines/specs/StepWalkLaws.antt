@@ -6,11 +6,11 @@ use mathlib.Core.List.{List}
 use lib.ListN.{length, getD, take, drop}
 use Rattle.types.specs.Limits.{max-structs}
 use Rattle.program.specs.Reader.{read-body, read-stmt, read-step}
-use Rattle.facts.specs.declared.Scope.{Scope}
-use Rattle.facts.specs.declared.Done.{Done}
-use Rattle.facts.specs.Facts.{body-facts}
-use Rattle.stmts.specs.declared.StmtRead.the-variants.{Value}
-use Rattle.stmts.specs.Done.{done}
+use Rattle.judge.specs.declared.Scope.{Scope}
+use Rattle.judge.specs.declared.Done.{Done}
+use Rattle.judge.specs.Facts.{body-facts}
+use Rattle.read_stmts.specs.declared.StmtRead.the-variants.{Value}
+use Rattle.read_stmts.specs.Done.{done}
 use Rattle.emit.specs.Written.{code-of, next-of}
 use Rattle.emit.specs.ProgramWords.{step-words}
 use Rattle.text.specs.Listing.{Placed}

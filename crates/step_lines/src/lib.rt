@@ -1,10 +1,10 @@
 // The lines of a program's steps: the stream gives each step's struct, name and size, the list its commands (01, 'Bench rows').
 // The stream was read before, so that its readers find a value.
-use facts::Scope;
-use plan::params;
-use plan::params::ParamsRead;
-use stmts::StmtRead;
-use stmts::stmt;
+use judge::Scope;
+use read_schedule::params;
+use read_schedule::params::ParamsRead;
+use read_stmts::StmtRead;
+use read_stmts::stmt;
 use text::lines::line;
 ghost use mathlib.Core.Path.{_≡_};
 ghost use Prim.Native.Nat.{_+_, _*_, _<_, _≤_, _^_};

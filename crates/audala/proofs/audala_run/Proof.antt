@@ -1,6 +1,6 @@
 -- What `run` answers, field by field, and what it leaves in output and list.
 use mathlib.Core.Path.{ap}
-use Rattle.entry.specs.declared.Report.{Report as Answered}
+use Rattle.run_images.specs.declared.Report.{Report as Answered}
 use Rattle.audala.specs.declared.Report.{Report}
 use borrow.Author.Needs.{needs}
 use Rattle.audala.proofs.audala_run.Statement.{statement}

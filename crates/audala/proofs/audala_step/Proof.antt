@@ -1,7 +1,7 @@
 -- What `step_place` answers, in 32 bits: the part lies in the list's first 1,024 places.
 use native.Mathlib.Omega.{arith}
 use mathlib.Core.Path.{ap}
-use Rattle.parts.specs.StepPartLaws.{place-fits}
+use Rattle.step_part.specs.StepPartLaws.{place-fits}
 use Rattle.audala.specs.Exported.{exported-part}
 use borrow.Author.Needs.{needs}
 use Rattle.audala.proofs.audala_step.Statement.{statement}

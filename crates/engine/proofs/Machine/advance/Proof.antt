@@ -1,6 +1,6 @@
 -- `engine::Machine::advance` meets its contract, one return for each answer.
 use borrow.Author.Needs.{needs}
-use Rattle.moves.specs.declared.Moved.the-variants.{To, Nested}
+use Rattle.scheduler.specs.declared.Moved.the-variants.{To, Nested}
 use Rattle.engine.specs.StateLaws.{went}
 use Rattle.engine.proofs.Machine.advance.Statement.{statement}
 use Rattle.engine.proofs.Machine.advance.Tie as tie

@@ -3,9 +3,9 @@ use borrow.Author.Needs.{needs}
 use native.Mathlib.Numerals.{add-one}
 use Rattle.memory.specs.Layout.{head, next-of}
 use lib.ListN.{getD}
-use Rattle.acts.specs.declared.Acted.the-variants.{Kept, Changed, Made, Refused}
-use Rattle.acts.specs.Answers.{answering}
-use Rattle.acts.specs.ReadyLaws.{ready}
+use Rattle.execute.specs.declared.Acted.the-variants.{Kept, Changed, Made, Refused}
+use Rattle.execute.specs.Answers.{answering}
+use Rattle.execute.specs.ReadyLaws.{ready}
 use Rattle.engine.specs.States.{state-of}
 use Rattle.engine.specs.StateLaws.{acted}
 use Rattle.engine.proofs.Machine.command.Statement.{statement}

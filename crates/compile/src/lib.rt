@@ -1,0 +1,40 @@
+// What a run prepares of an accepted program (01, 'Table and turns'): its commands in the lent list, where each step's commands stand
+// there, and the schedule laid flat.
+pub mod items;
+pub mod spans;
+
+ghost use mathlib.Core.Path.{_≡_};
+ghost use Prim.Native.Nat.{_<_};
+ghost use lib.ListN.{length, set};
+ghost use Rattle.compile.specs.Prepared.{Preparable, PreparedProgram};
+
+pub(crate) fn index(b: u8) -> usize
+    ensures { λ r. ⌜ (r ≡ b) × (r < 256) ⌝ }
+{
+    b as usize
+}
+
+pub(crate) fn store(out: &mut [usize], k: usize, v: usize)
+    requires { ⌜ k < length (now out) ⌝ }
+    ensures { λ _. ⌜ now (out .exit) ≡ set (now (out .entry)) k v ⌝ }
+{
+    out[k] = v;
+}
+
+// A program whose parameter lists, of ar parameters each, end at a place: one walk over its steps, and one over its schedule behind them.
+// The span of a step that its struct has not is free, save that its end lies before its beginning.
+pub fn program(
+    s: &[u8],
+    ar: &[u8],
+    at: usize,
+    list: &mut [u64],
+    spans: &mut [usize],
+    codes: &mut [usize],
+)
+    requires { ⌜ Preparable (now s) (now ar) at (now list) (now spans) (now codes) ⌝ }
+    ensures { λ _. ⌜ PreparedProgram (now (s .entry)) (now (list .entry)) (now (list .exit)) (now (spans .exit)) (now (codes .entry)) (now (codes .exit)) ⌝ }
+{
+    let p = spans::program(s, ar, at, list, spans);
+    let next = p.next;
+    items::schedule(s, next, codes);
+}

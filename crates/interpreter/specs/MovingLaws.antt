@@ -1,0 +1,92 @@
+-- Every move of the schedule leaves fewer to be made without a turn (01, 'Table and turns').
+use Prim.Native.Nat.{ℕ, suc, _-_, _*_, _/_, _%_, _<_}
+use mathlib.Core.Path.{_≡_, refl}
+use mathlib.Core.Bool.{Bool, true, false}
+use mathlib.Core.List.{List, [], _∷_}
+use native.Mathlib.Omega.{arith}
+use lib.ListN.{length}
+use lib.Dec.{ltb}
+use Rattle.types.specs.Limits.{max-stability}
+use Rattle.machine.specs.Published.{Sched, Sched.done, Sched.start, Sched.start-in, Sched.fixpoint, Sched.active}
+use Rattle.machine.specs.Machine.{Instance, Machine, machine}
+use Rattle.sound.specs.Invariant.{Open, Open.open-active}
+use Rattle.memory.specs.Layout.{State}
+use Rattle.memory.specs.Stands.{bits, Stands}
+use Rattle.memory.specs.Plan.{start-code, start-in-code, At}
+use Rattle.memory.specs.PlanLaws.{past-start, past-start-in, past-fix, past-round, at-within}
+use Rattle.memory.specs.Move.{do-start, move}
+use Rattle.memory.specs.MoveLaws.{move-start, fix-begins, fix-refused, round-ends, round-again}
+use Rattle.interpreter.specs.Moving.{zeros, moves-left}
+
+-- an entry more, of either kind
+zeros-true : (n s : ℕ) → zeros (suc n) (suc (2 * s)) ≡ zeros n s
+unfolding zeros
+zeros-true n s =
+    let a : suc (2 * s) % 2 ≡ 1 = omega arith in
+    let b : suc (2 * s) / 2 ≡ s = omega arith in
+    rw (a, b) (omega arith)
+
+zeros-false : (n s : ℕ) → zeros (suc n) (2 * s) ≡ suc (zeros n s)
+unfolding zeros
+zeros-false n s =
+    let a : (2 * s) % 2 ≡ 0 = omega arith in
+    let b : (2 * s) / 2 ≡ s = omega arith in
+    rw (a, b) (omega arith)
+
+active-opened : {f s : Sched} {k : ℕ} → Open (active f s) k → k ≡ 0 → ⊥
+active-opened (open-active u o) e = omega arith
+
+-- what is left to a memory
+abbrev pub left : List ℕ → State → ℕ
+left items z = moves-left items (z .place) (z .fixes) (z .stable) (z .number)
+
+module _ (items spans : List ℕ) (z : State) where
+  -- the next place, with as many false entries
+  on : (y : State) → z .place < length items → move items spans z ≡ y → y .place ≡ suc (z .place) → y .number ≡ z .number
+      → zeros (y .fixes) (y .stable) ≡ zeros (z .fixes) (z .stable)
+      → left items (move items spans z) < left items z
+  unfolding moves-left
+  on y h e a c q = rw (e, a, c, q) (omega arith)
+
+  module _ {list : List ℕ} where
+    falls-by : (s : Sched) (is : List Instance) (b : List Bool) → Stands list (At items) (machine s is b) z → Open s (length b)
+        → (s ≡ done → ⊥) → left items (move items spans z) < left items z
+    unfolding bits do-start moves-left
+    falls-by done is b S o n = absurd (n refl)
+    falls-by (start n s) is b S o d =
+        let (h, e, r) = past-start items (S .scheduled) in
+        on (do-start spans (start-code n) z) (at-within items (S .scheduled)) (move-start items spans z e (omega arith)) refl refl refl
+    falls-by (start-in k n s) is b S o d =
+        let (h, j, e, r) = past-start-in items (S .scheduled) in
+        on (do-start spans (start-in-code k n) z) (at-within items (S .scheduled)) (move-start items spans z e (omega arith)) refl refl refl
+    falls-by (fixpoint f s) is b S o d = go (ltb (z .fixes) max-stability) refl
+      where
+        go : (t : Bool) → ltb (z .fixes) max-stability ≡ t → left items (move items spans z) < left items z
+        go true t =
+            on _ (at-within items (S .scheduled)) (fix-begins items spans z (past-fix items (S .scheduled) .0) t) refl refl
+            (zeros-true (z .fixes) (z .stable))
+        go false t =
+            let c : z .number ≡ 0 = S .clear in
+            rw (fix-refused items spans z (past-fix items (S .scheduled) .0) t) (omega arith)
+    falls-by (active f s) is [] S o d = absurd (active-opened o refl)
+    falls-by (active f s) is (true ∷ b) S o d =
+        let (t, e, r, w) = past-round items (S .scheduled) in
+        let u : z .stable ≡ suc (2 * bits b) = S .entries in
+        let v : z .fixes ≡ suc (length b) = S .opened in
+        let g : z .fixes - 1 ≡ length b = omega arith in
+        let k : z .stable / 2 ≡ bits b = omega arith in
+        on _ (at-within items (S .scheduled)) (round-ends items spans z t e (omega arith)) refl refl
+        (rw (g, k, u, v, zeros-true))
+    falls-by (active f s) is (false ∷ b) S o d =
+        let (t, e, r, w) = past-round items (S .scheduled) in
+        let u : z .stable ≡ 2 * bits b = S .entries in
+        let v : z .fixes ≡ suc (length b) = S .opened in
+        let h = at-within items (S .scheduled) in
+        let a : zeros (z .fixes) (suc (z .stable)) ≡ zeros (length b) (bits b) = rw (u, v) (zeros-true (length b) (bits b)) in
+        let q : zeros (z .fixes) (z .stable) ≡ suc (zeros (length b) (bits b)) = rw (u, v) (zeros-false (length b) (bits b)) in
+        rw (round-again items spans z t e (omega arith), a, q) (omega arith)
+
+    -- a move of a schedule that is not at its end, refused or not
+    pub move-less : (m : Machine) → Stands list (At items) m z → Open (m .sched) (length (m .stability)) → (m .sched ≡ done → ⊥)
+        → left items (move items spans z) < left items z
+    move-less m S o n = falls-by (m .sched) (m .instances) (m .stability) S o n

@@ -1,0 +1,103 @@
+-- What the code of a run promises (01, 'Table and turns'), of every program and machine that memory is ready for: what a move and a
+-- turn come to, where the schedule's moves lead, and the whole run. A machine that memory comes to is one that the run passes through, with
+-- the bytes that are left then.
+use Prim.Native.Nat.{ℕ, _<_}
+use mathlib.Core.Path.{_≡_}
+use mathlib.Core.Logic.{_⊎_}
+use mathlib.Core.List.{List, _∷_}
+use lib.ListN.{drop}
+use Rattle.program.specs.Tree.{Program}
+use Rattle.machine.specs.Machine.{Machine, Out.next, command}
+use Rattle.run.specs.Turns.{chosen}
+use Rattle.run.specs.Holders.{holders}
+use Rattle.run.specs.Run.{Outcome.stopped, run}
+use Rattle.run.specs.Visits.{Visits}
+use Rattle.memory.specs.Layout.{State, refused}
+use Rattle.memory.specs.Act.{full, exceeded}
+use Rattle.memory.specs.Move.{nested}
+use Rattle.memory.specs.Choose.{holding}
+use Rattle.engine.specs.declared.Machine.{Machine as Numbers}
+use Rattle.engine.specs.States.{state-of}
+use Rattle.interpreter.specs.Ready.{Ready}
+
+-- how many hold commands
+abbrev pub busy : State → ℕ
+busy z = holding (z .heads) 0 (z .count)
+
+-- the number taken out again
+abbrev pub cleared : State → State
+cleared z = refused 0 z
+
+module _ (p : Program) (counts list items spans : List ℕ) (m : Machine) where
+  -- memory y after one move of m on z: it holds the next machine, or only the number is new
+  pub data Advanced (z y : State) : Type 0 where
+    advanced : {m′ : Machine} → Ready p counts list items spans m′ y → ((es : List ℕ) → Visits p m es m′ es) → Advanced z y
+    blocked : y ≡ refused nested z → ((es : List ℕ) → run p m es ≡ stopped nested 0 m) → Advanced z y
+
+  -- memory y after a turn of m with the byte e on z: it holds the next machine, or only the number is new
+  pub data Turned (e : ℕ) (z y : State) : Type 0 where
+    turned : {m′ : Machine} → Ready p counts list items spans m′ y → command p (chosen (holders m) e) m ≡ next m′
+        → ((es : List ℕ) → Visits p m (e ∷ es) m′ es)
+        → Turned e z y
+    failed : {n : ℕ} → y ≡ refused n z → (n ≡ full) ⊎ (n ≡ exceeded) → ((es : List ℕ) → run p m (e ∷ es) ≡ stopped n 0 m) → Turned e z y
+
+  -- memory after moves of m: it holds the machine then, or a Fix was refused
+  pub data Moving (z : State) : Type 0 where
+    moving : {m′ : Machine} → Ready p counts list items spans m′ z → ((es : List ℕ) → Visits p m es m′ es) → Moving z
+    nesting : {m′ : Machine} → Ready p counts list items spans m′ (cleared z) → z .number ≡ nested → busy z ≡ 0 → ((es : List ℕ) → Visits p m es m′ es)
+        → ((es : List ℕ) → run p m′ es ≡ stopped nested 0 m′)
+        → Moving z
+
+  -- memory after all moves of m that need no turn: n instances hold commands, or the run stops
+  pub data Settles (z : State) (n : ℕ) : Type 0 where
+    held : {m′ : Machine} → Ready p counts list items spans m′ z → n ≡ busy z → 0 < n → ((es : List ℕ) → Visits p m es m′ es) → Settles z n
+    still : {m′ : Machine} → Ready p counts list items spans m′ (cleared z) → n ≡ 0 → ((es : List ℕ) → Visits p m es m′ es)
+        → ((es : List ℕ) → run p m′ es ≡ stopped (z .number) 0 m′)
+        → Settles z n
+
+  -- memory after i turns and the moves behind them: it holds a machine that the run passes through, at which the run goes on or is over
+  pub data Running (es : List ℕ) (i : ℕ) (z : State) (n : ℕ) : Type 0 where
+    going : {m′ : Machine} → Ready p counts list items spans m′ z → n ≡ busy z → 0 < n → Visits p m es m′ (drop i es) → Running es i z n
+    over : {m′ : Machine} → Ready p counts list items spans m′ (cleared z) → n ≡ 0 → Visits p m es m′ (drop i es) → run p m es ≡ stopped (z .number) i m′
+        → Running es i z n
+
+  -- memory after the whole run
+  pub record Ended (es : List ℕ) (number taken : ℕ) (z : State) : Type 0 where
+    pub last : Machine
+    pub reached : Visits p m es last (drop taken es)
+    pub returns : run p m es ≡ stopped number taken last
+    pub ready : Ready p counts list items spans last (cleared z)
+
+-- there is a program and a machine that memory is ready for
+pub record Begun (counts list items spans : List ℕ) (z : State) : Type 0 where
+  pub program : Program
+  pub machine : Machine
+  pub ready : Ready program counts list items spans machine z
+
+-- the same of a machine's numbers and its heads, whatever its commands and cells are
+pub record Standing (items spans heads : List ℕ) (n : Numbers) : Type 0 where
+  pub counts : List ℕ
+  pub list : List ℕ
+  pub cells : List ℕ
+  pub begun : Begun counts list items spans (state-of n heads cells)
+
+-- what the code of the moves promises, of every program and machine that the first memory is ready for: the second is where moves
+-- have led
+abbrev pub Led : List ℕ → List ℕ → State → State → Type 0
+Led items spans z y =
+    (p : Program) (counts list : List ℕ) (m : Machine) → Ready p counts list items spans m z → Moving p counts list items spans m y
+
+-- and where all of them lead, with n instances that hold commands
+abbrev pub Settling : List ℕ → List ℕ → State → State → ℕ → Type 0
+Settling items spans z y n =
+    (p : Program) (counts list : List ℕ) (m : Machine) → Ready p counts list items spans m z → Settles p counts list items spans m y n
+
+-- what the code of the run promises, of every program and machine that the first memory is ready for: where the run ends
+abbrev pub Ending : List ℕ → List ℕ → List ℕ → List ℕ → List ℕ → State → ℕ → ℕ → State → Type 0
+Ending counts list items spans es z number taken y =
+    (p : Program) (m : Machine) → Ready p counts list items spans m z → Ended p counts list items spans m es number taken y
+
+-- and where i turns have led, from memory z with b instances that hold commands: y, with n of them
+abbrev pub Gone : List ℕ → List ℕ → List ℕ → List ℕ → List ℕ → State → ℕ → ℕ → State → ℕ → Type 0
+Gone counts list items spans es z b i y n =
+    (p : Program) (m : Machine) → Settles p counts list items spans m z b → Running p counts list items spans m es i y n

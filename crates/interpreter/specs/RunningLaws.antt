@@ -1,0 +1,191 @@
+-- The ways through the loops of a run (01, 'Table and turns'): what memory is while the schedule moves, and turn after turn.
+use Prim.Native.Nat.{ℕ, suc, _+_, _*_, _<_, _≤_}
+use mathlib.Core.Path.{_≡_, refl, ap, sym, _∙_, subst}
+use mathlib.Core.Logic.{_⊎_, inl, inr}
+use mathlib.Core.List.{List}
+use native.Mathlib.Omega.{arith}
+use native.Mathlib.Numerals.{add-one}
+use lib.ListN.{length, getD, drop}
+use lib.Seq.{drop-cons, drop-length}
+use Rattle.program.specs.Tree.{Program}
+use Rattle.machine.specs.Machine.{Machine}
+use Rattle.machine.specs.Stops.{out-of-turns}
+use Rattle.run.specs.Run.{Outcome.stopped, run}
+use Rattle.run.specs.Steps.{Steps.here}
+use Rattle.run.specs.Visits.{Visits}
+use Rattle.memory.specs.Layout.{State, head-size, refused}
+use Rattle.memory.specs.Plan.{end-code}
+use Rattle.memory.specs.Act.{full, exceeded, act}
+use Rattle.memory.specs.Choose.{holds, picked}
+use Rattle.memory.specs.Move.{nested, move}
+use Rattle.interpreter.specs.Ready.{Ready}
+use Rattle.interpreter.specs.Counting.{fewer}
+use Rattle.interpreter.specs.Running.{busy, cleared, Advanced, Advanced.advanced, Advanced.blocked, Moving, Moving.moving, Moving.nesting, Settles, Settles.held, Settles.still, Turned, Turned.turned, Turned.failed, Running, Running.going, Running.over, Ended}
+use Rattle.interpreter.specs.VisitWays.{visits-on, visits-outcome}
+use Rattle.interpreter.specs.TurnLaws.{ends, moved-on, lasts, turned-by, counted}
+
+-- a refused command's number is not 0
+number-some : {n : ℕ} → (n ≡ full) ⊎ (n ≡ exceeded) → n ≡ 0 → ⊥
+number-some (inl e) c = omega arith
+number-some (inr e) c = omega arith
+
+module _ {p : Program} {counts list items spans : List ℕ} where
+  -- with its number taken out, memory is as it was before it was refused
+  ready-cleared : (n : ℕ) {m : Machine} {z y : State} → Ready p counts list items spans m z → y ≡ refused n z → Ready p counts list items spans m (cleared y)
+  ready-cleared n {m} {z} r e =
+      let c : z .number ≡ 0 = r .stands .clear in
+      let q = ap cleared e ∙ ap (λ (x : ℕ). refused x z) (sym c) in
+      subst (Ready p counts list items spans m) (sym q) r
+
+  -- and as it is where it has none
+  ready-clear : {m : Machine} {z : State} → Ready p counts list items spans m z → Ready p counts list items spans m (cleared z)
+  ready-clear {z = z} r = ready-cleared (z .number) r refl
+
+  -- as many rows as there are instances
+  pub ready-rows : {m : Machine} {z : State} → Ready p counts list items spans m z → head-size * z .count ≤ length (z .heads)
+  ready-rows r = let a = r .stands .heads-long in let b = r .stands .few in omega arith
+
+  -- Moves --------------------------------------------------------------------------
+
+  module _ {m : Machine} where
+    pub moves-none : {z : State} → Ready p counts list items spans m z → Moving p counts list items spans m z
+    moves-none r = moving r (λ es. (0, here))
+
+    module _ {z : State} where
+      -- where no Fix was refused, memory is ready
+      pub still-moving : Moving p counts list items spans m z → z .number ≡ 0
+          → (m′ : Machine) × (Ready p counts list items spans m′ z) × ((es : List ℕ) → Visits p m es m′ es)
+      still-moving (moving {m′ = m′} r v) c = (m′, r, v)
+      still-moving (nesting r e h v q) c = absurd (omega arith)
+
+      -- a move more
+      pub moves-more : Moving p counts list items spans m z → z .number ≡ 0 → busy z ≡ 0 → (getD items (z .place) 0 ≡ end-code → ⊥)
+          → Moving p counts list items spans m (move items spans z)
+      moves-more g c h e = let (m′, r, v) = still-moving g c in go r v (moved-on r e h)
+        where
+          go : {m′ : Machine} → Ready p counts list items spans m′ z → ((es : List ℕ) → Visits p m es m′ es)
+              → {y : State} → Advanced p counts list items spans m′ z y
+              → Moving p counts list items spans m y
+          go r v (advanced r′ u) = moving r′ (λ es. visits-on (v es) (u es))
+          go r v (blocked a s) = nesting (ready-cleared nested r a) (ap (λ (x : State). x .number) a) (ap busy a ∙ h) v s
+
+      -- as many rows as there are instances
+      pub moving-rows : Moving p counts list items spans m z → head-size * z .count ≤ length (z .heads)
+      moving-rows (moving r v) = ready-rows r
+      moving-rows (nesting r e h v q) = ready-rows r
+
+      -- someone holds commands
+      pub settles-held : {n : ℕ} → Moving p counts list items spans m z → n ≡ busy z → 0 < n → Settles p counts list items spans m z n
+      settles-held (moving r v) b h = held r b h v
+      settles-held (nesting r e k v q) b h = absurd (omega arith)
+
+      -- the schedule is at its end
+      pub settles-ended : {n : ℕ} → Moving p counts list items spans m z → n ≡ busy z → n ≡ 0 → z .number ≡ 0 → getD items (z .place) 0 ≡ end-code
+          → Settles p counts list items spans m z n
+      settles-ended g b h c e =
+          let (m′, r, v) = still-moving g c in
+          still (ready-clear r) h v (λ es. ends r (sym b ∙ h) e es ∙ ap (λ (x : ℕ). stopped x 0 m′) (sym c))
+
+      -- a Fix was refused
+      pub settles-nested : {n : ℕ} → Moving p counts list items spans m z → n ≡ 0 → (z .number ≡ 0 → ⊥) → Settles p counts list items spans m z n
+      settles-nested (moving r v) h c = absurd (c (r .stands .clear))
+      settles-nested (nesting {m′ = m′} r e k v q) h c = still r h v (λ es. q es ∙ ap (λ (x : ℕ). stopped x 0 m′) (sym e))
+
+  -- Turns --------------------------------------------------------------------------
+
+  module _ {m : Machine} {es : List ℕ} where
+    -- before the first turn
+    pub runs-none : {z : State} {n : ℕ} → Settles p counts list items spans m z n → Running p counts list items spans m es 0 z n
+    runs-none (held r b h v) = going r b h (v es)
+    runs-none (still r h v q) = over r h (v es) (visits-outcome 0 (omega arith) (v es) (q es))
+
+    module _ {i : ℕ} {z : State} {n : ℕ} (g : Running p counts list items spans m es i z n) where
+      -- behind every turn and the moves that follow it, memory holds a machine that the run passes through, with the bytes that are left
+      pub running-visits : (m′ : Machine) × (Visits p m es m′ (drop i es)) × (Ready p counts list items spans m′ (cleared z))
+      running-visits = go g
+        where
+          go : Running p counts list items spans m es i z n → (m′ : Machine) × (Visits p m es m′ (drop i es)) × (Ready p counts list items spans m′ (cleared z))
+          go (going {m′ = m′} r b k v) = (m′, v, ready-clear r)
+          go (over {m′ = m′} r k v q) = (m′, v, r)
+
+      -- nobody holds commands
+      pub ends-over : n ≡ 0 → Ended p counts list items spans m es (z .number) i z
+      ends-over h = go g
+        where
+          go : Running p counts list items spans m es i z n → Ended p counts list items spans m es (z .number) i z
+          go (going r b k v) = absurd (omega arith)
+          go (over {m′ = m′} r k v q) = record { last = m′; reached = v; returns = q; ready = r }
+
+      module _ (h : 0 < n) where
+        -- someone does
+        pub still-running : (m′ : Machine) × (Ready p counts list items spans m′ z) × (n ≡ busy z) × (Visits p m es m′ (drop i es))
+        still-running = go g
+          where
+            go : Running p counts list items spans m es i z n → (m′ : Machine) × (Ready p counts list items spans m′ z) × (n ≡ busy z) × (Visits p m es m′ (drop i es))
+            go (going {m′ = m′} r b k v) = (m′, r, b, v)
+            go (over r k v q) = absurd (omega arith)
+
+        -- and no byte is left
+        pub ends-lasting : i ≡ length es → Ended p counts list items spans m es out-of-turns i z
+        ends-lasting k =
+            let (m′, r, b, v) = still-running in
+            let s : run p m′ (drop i es) ≡ stopped out-of-turns 0 m′ =
+            ap (run p m′) (ap (λ (x : ℕ). drop x es) k ∙ drop-length es) ∙ lasts r (omega arith) in
+            let t : i + 0 ≡ i = omega arith in
+            record { last = m′; reached = v; returns = rw t at (visits-outcome i (omega arith) v s); ready = ready-clear r }
+
+        -- the next byte picks an instance, which takes its next command
+        module _ (k : i < length es) where
+          abbrev byte : ℕ
+          byte = getD es i 0
+
+          module _ {y : State} (a : y ≡ act list counts (picked (z .heads) (z .count) byte) z) where
+            next-turn : (m′ : Machine) × (Ready p counts list items spans m′ z) × (n ≡ busy z) × (Visits p m es m′ (drop i es))
+                × Turned p counts list items spans m′ byte z y
+            next-turn =
+                let (m′, r, b, v) = still-running in
+                (m′, r, b, v, subst (Turned p counts list items spans m′ byte z) (sym a) (turned-by r (omega arith) byte))
+
+            -- it was refused
+            pub ends-failed : (y .number ≡ 0 → ⊥) → Ended p counts list items spans m es (y .number) i y
+            ends-failed c = let (m′, r, b, v, t) = next-turn in go r v t
+              where
+                go : {m′ : Machine} → Ready p counts list items spans m′ z → Visits p m es m′ (drop i es) → Turned p counts list items spans m′ byte z y
+                    → Ended p counts list items spans m es (y .number) i y
+                go r v (turned r′ u s) = absurd (c (r′ .stands .clear))
+                go {m′} r v (failed {n = n} e d s) =
+                    let t : i + 0 ≡ i = omega arith in
+                    let f : n ≡ y .number = ap (λ (x : State). x .number) (sym e) in
+                    let u = ap (run p m′) (drop-cons es i 0 k) ∙ s (drop (suc i) es) ∙ ap (λ (x : ℕ). stopped x 0 m′) f in
+                    record { last = m′; reached = v; returns = rw t at (visits-outcome i (omega arith) v u); ready = ready-cleared n r e }
+
+            -- or taken, so that the run passes through the machine then, with a byte fewer
+            module _ (c : y .number ≡ 0) where
+              pub taken-turn : (m″ : Machine) × (Ready p counts list items spans m″ y) × (Visits p m es m″ (drop (i + 1) es))
+                  × (busy y ≡ fewer (holds (y .heads) (picked (z .heads) (z .count) byte)) n)
+              taken-turn = let (m′, r, b, v, t) = next-turn in go r b v t
+                where
+                  go : {m′ : Machine} → Ready p counts list items spans m′ z → n ≡ busy z → Visits p m es m′ (drop i es)
+                      → Turned p counts list items spans m′ byte z y
+                      → (m″ : Machine) × (Ready p counts list items spans m″ y) × (Visits p m es m″ (drop (i + 1) es))
+                      × (busy y ≡ fewer (holds (y .heads) (picked (z .heads) (z .count) byte)) n)
+                  go {m′} r b v (turned {m′ = m″} r′ u s) = (
+                    m″,
+                    r′,
+                    rw add-one (visits-on (rw (drop-cons es i 0 k) at v) (s (drop (suc i) es))),
+                    counted r (omega arith) byte r′ u ∙ ap (fewer (holds (y .heads) (picked (z .heads) (z .count) byte))) (sym b),
+                  )
+                  go r b v (failed e d s) = absurd (number-some d (sym (ap (λ (x : State). x .number) e) ∙ c))
+
+              -- and the schedule moves on
+              pub runs-more : {x : State} {j : ℕ} → ((m″ : Machine) → Ready p counts list items spans m″ y → Settles p counts list items spans m″ x j)
+                  → Running p counts list items spans m es (i + 1) x j
+              runs-more s = let (m″, r, v, b) = taken-turn in go v (s m″ r)
+                where
+                  go : {m″ : Machine} → Visits p m es m″ (drop (i + 1) es) → {x : State} {j : ℕ} → Settles p counts list items spans m″ x j
+                      → Running p counts list items spans m es (i + 1) x j
+                  go v (held r b h u) = going r b h (visits-on v (u (drop (i + 1) es)))
+                  go v (still r h u f) =
+                      let w = visits-on v (u (drop (i + 1) es)) in
+                      let t : i + 1 + 0 ≡ i + 1 = omega arith in
+                      over r h w (rw t at (visits-outcome (i + 1) (omega arith) w (f (drop (i + 1) es))))

@@ -1,0 +1,164 @@
+-- Memory that is ready makes the run's moves and takes its turns (01, 'Table and turns'): it is ready again, or holds the number at
+-- which the run stops; there is no third case.
+use Prim.Native.Nat.{ℕ, _<_, _≤_}
+use mathlib.Core.Path.{_≡_, refl, ap, sym, _∙_, subst}
+use mathlib.Core.Bool.{true, false}
+use mathlib.Core.List.{List, [], _∷_}
+use native.Mathlib.Omega.{arith}
+use lib.ListN.{length, getD}
+use Rattle.types.specs.Limits.{max-structs}
+use Rattle.program.specs.Tree.{Program}
+use Rattle.machine.specs.Published.{Sched.done, structs}
+use Rattle.machine.specs.Machine.{Instance, Machine, Out, Out.next, Out.refused, Out.stuck, command, move}
+use Rattle.run.specs.Turns.{chosen}
+use Rattle.run.specs.Holders.{holders, holds-code, none-of, due}
+use Rattle.machine.specs.Stops.{ended, out-of-turns}
+use Rattle.run.specs.Run.{Outcome.stopped, run}
+use Rattle.run.specs.Settles.{Rests.ends as rests-ends, Rests.refuses as rests-refuses, Rests.lasts as rests-lasts, Rests.fails as rests-fails}
+use Rattle.run.specs.FuelLaws.{rests-run}
+use Rattle.run.specs.Steps.{Steps.here, Steps.silent, Steps.reads}
+use Rattle.run.specs.Visits.{Acts.moves as acts-move, Acts.takes as acts-take}
+use Rattle.sound.specs.Advance.{Kept}
+use Rattle.sound.specs.CommandKept.{Refused, command-kept}
+use Rattle.sound.specs.MoveKept.{Blocked, move-kept}
+use Rattle.sound.specs.HolderLaws.{chosen-holds}
+use Rattle.sound.specs.NeverStuckLaws.{acts-good}
+use Rattle.sound.specs.TabledLaws.{acts-tabled}
+use Rattle.memory.specs.Layout.{State, refused as refusing}
+use Rattle.memory.specs.Plan.{end-code, At}
+use Rattle.memory.specs.PlanLaws.{at-end-done}
+use Rattle.memory.specs.Frame.{After}
+use Rattle.memory.specs.Fit.{Fit}
+use Rattle.memory.specs.FitLaws.{fits}
+use Rattle.memory.specs.Act.{act}
+use Rattle.memory.specs.Acts.{acts}
+use Rattle.memory.specs.Choose.{holds, picked}
+use Rattle.memory.specs.ChooseStands.{holds-same, holding-same, picks}
+use Rattle.memory.specs.Move.{nested, move as move-on}
+use Rattle.memory.specs.MoveStands.{Follows, moves}
+use Rattle.scheduler.specs.Ready.{Movable}
+use Rattle.scheduler.specs.ReadyLaws.{stands-movable}
+use Rattle.interpreter.specs.Ready.{Ready}
+use Rattle.interpreter.specs.MovingLaws.{left, move-less}
+use Rattle.interpreter.specs.Counting.{fewer}
+use Rattle.interpreter.specs.CountLaws.{holders-behind}
+use Rattle.interpreter.specs.Running.{busy, Advanced, Advanced.advanced, Advanced.blocked, Turned, Turned.turned, Turned.failed}
+
+none-left : (l : List ℕ) → length l ≡ 0 → none-of l ≡ true
+unfolding none-of
+none-left [] e = refl
+none-left (x ∷ l) e = absurd (omega arith)
+
+some-left : (l : List ℕ) → 0 < length l → none-of l ≡ false
+unfolding none-of
+some-left [] e = absurd (omega arith)
+some-left (h ∷ hs) e = refl
+
+module _ {p : Program} {counts list items spans : List ℕ} {m : Machine} {z : State} (r : Ready p counts list items spans m z) where
+  -- memory says whether a move of the schedule is due
+  none-hold : busy z ≡ 0 → due m ≡ true
+  unfolding due
+  none-hold h = none-left (holders m) (sym (holding-same m (r .stands)) ∙ h)
+
+  some-hold : 0 < busy z → due m ≡ false
+  unfolding due
+  some-hold b = some-left (holders m) (rw (holding-same m (r .stands)) at b)
+
+  -- The schedule ------------------------------------------------------------------
+
+  -- its end
+  pub ends : busy z ≡ 0 → getD items (z .place) 0 ≡ end-code → (es : List ℕ) → run p m es ≡ stopped ended 0 m
+  ends h e es = rests-run p (rests-ends (none-hold h) (at-end-done items (r .stands .scheduled) .0 e))
+
+  module _ (e : getD items (z .place) 0 ≡ end-code → ⊥) where
+    not-done : m .sched ≡ done → ⊥
+    not-done q = e (at-end-done items (r .stands .scheduled) .1 q)
+
+    -- the code of a move finds what it needs
+    pub movable : Movable items spans (z .heads) (z .count) (z .place) (z .fixes) (z .stable)
+    movable =
+        let few : structs p ≤ max-structs = r .prepared .bounded .few in
+        stands-movable m (r .stands) (λ l i g. let k : i .struct < structs p = r .tabled .each l i g .0 in omega arith) spans
+        (r .prepared .spanned)
+        not-done
+
+    -- fewer moves are left behind one
+    pub less : left items (move-on items spans z) < left items z
+    less = move-less items spans z m (r .stands) (r .good .opened) not-done
+
+    module _ (h : busy z ≡ 0) where
+      comes : (o : Out) → move p m ≡ o → Follows list items z (move-on items spans z) o → Advanced p counts list items spans m z (move-on items spans z)
+      comes (next m′) q S =
+          let s = acts-move (none-hold h) q in
+          advanced
+          (record {
+            prepared = r .prepared;
+            good = acts-good (r .prepared .firm) s (r .good);
+            tabled = acts-tabled (r .prepared .firm) s (r .good) (r .tabled);
+            stands = S;
+          })
+          (λ es. (0, silent (acts-move (none-hold h) q) here))
+      comes (refused n) q S =
+          let k = move-kept (r .prepared .firm) (m .sched) (m .instances) (m .stability) (r .good .all) (r .good .opened) (r .good .left) not-done in
+          let w : n ≡ nested = subst (Kept p Blocked) q k in
+          blocked (S ∙ ap (λ (x : ℕ). refusing x z) w)
+          (λ es. rests-run p (rests-refuses (none-hold h) (q ∙ ap refused w)))
+      comes stuck q S = absurd S
+
+      -- a move
+      pub moved-on : Advanced p counts list items spans m z (move-on items spans z)
+      moved-on =
+          comes (move p m) refl
+          (moves p list items spans (r .prepared .located) z m (λ l i g. r .tabled .each l i g .0) (r .stands) (r .good .opened) not-done)
+
+  -- Turns ---------------------------------------------------------------------------
+
+  module _ (b : 0 < busy z) where
+    -- no byte is left
+    pub lasts : run p m [] ≡ stopped out-of-turns 0 m
+    lasts = rests-run p (rests-lasts (some-hold b))
+
+    module _ (e : ℕ) where
+      -- the command of the instance that the byte picks finds what it needs
+      pub picked-fits : Fit list counts (picked (z .heads) (z .count) e) z
+      picked-fits =
+          let (i, n, c, a, d) = chosen-holds m e (some-hold b) in
+          rw (picks m (r .stands) e) (fits (r .prepared .firm) (r .prepared .bounded) (r .good) list (At items) z (r .stands) (chosen (holders m) e) i a c n d)
+
+      takes : (i : Instance) → Kept p Refused (command p (chosen (holders m) e) m)
+          → (y : State) (o : Out) → command p (chosen (holders m) e) m ≡ o → After list (At items) z y o
+          → Turned p counts list items spans m e z y
+      takes i k y (next m′) c S =
+          let s = acts-take {e = e} (some-hold b) c in
+          turned
+          (record {
+            prepared = r .prepared;
+            good = acts-good (r .prepared .firm) s (r .good);
+            tabled = acts-tabled (r .prepared .firm) s (r .good) (r .tabled);
+            stands = S;
+          })
+          c
+          (λ es. (1, reads (acts-take (some-hold b) c) here))
+      takes i k y (refused n) c S =
+          failed S (subst (Kept p Refused) c k) (λ es. rests-run p (rests-fails (some-hold b) c))
+      takes i k y stuck c S = absurd S
+
+      -- a turn
+      pub turned-by : Turned p counts list items spans m e z (act list counts (picked (z .heads) (z .count) e) z)
+      turned-by =
+          let (i, n, c, a, d) = chosen-holds m e (some-hold b) in
+          rw (picks m (r .stands) e)
+          (takes i (command-kept (r .prepared .firm) (r .good) (chosen (holders m) e) i a n c d)
+          (act list counts (chosen (holders m) e) z)
+          (command p (chosen (holders m) e) m)
+          refl
+          (acts (r .prepared .firm) (r .prepared .bounded) (r .good) list (At items) z (r .stands) (chosen (holders m) e) i a c n d))
+
+      -- and as many hold commands behind it, or one fewer
+      pub counted : {m′ : Machine} {y : State} → Ready p counts list items spans m′ y → command p (chosen (holders m) e) m ≡ next m′
+          → busy y ≡ fewer (holds (y .heads) (picked (z .heads) (z .count) e)) (busy z)
+      counted {m′} {y} r′ c =
+          let (i, at, q) = holders-behind p (chosen (holders m) e) m c in
+          let w : holds (y .heads) (picked (z .heads) (z .count) e) ≡ holds-code (i .code) =
+          ap (holds (y .heads)) (picks m (r .stands) e) ∙ holds-same (r′ .stands .each (chosen (holders m) e) i at) in
+          holding-same m′ (r′ .stands) ∙ q ∙ (rw (w, holding-same m (r .stands)))

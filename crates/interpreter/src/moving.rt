@@ -1,0 +1,59 @@
+// The moves of the schedule, without a turn, until some instance holds commands (01, 'Table and turns').
+use engine::Machine;
+use scheduler::choose::holding;
+ghost use mathlib.Core.Path.{_≡_};
+ghost use mathlib.Core.List.{List};
+ghost use Prim.Native.Nat.{ℕ};
+ghost use Rattle.memory.specs.Choose.{holding};
+ghost use Rattle.engine.specs.States.{state-of};
+ghost use Rattle.interpreter.specs.Running.{Standing, Settling};
+
+// The code of the schedule's end, as memory/specs/Plan.antt has it.
+const END: usize = 1025;
+
+// Where the moves lead: the machine then, and how many instances hold commands. Where none does, the machine's number is 0 at the
+// schedule's end, or that of a refused Fix.
+pub struct Settled {
+    pub machine: Machine,
+    pub holding: usize,
+}
+
+// The moves of a machine of which n instances hold commands. Memory is free up to the machine that it stands for: nothing is said of cells above
+// a stack, nor where an instance without commands has its next one. The number is 0 where some hold commands, else what the run stops with.
+pub fn settle(
+    machine: Machine,
+    n: usize,
+    items: &[usize],
+    spans: &[usize],
+    heads: &mut [usize],
+) -> Settled
+    requires { ⌜ Standing (now items) (now spans) (now heads) machine ⌝ }
+    requires { ⌜ n ≡ holding (now heads) 0 (machine .count) ⌝ }
+    ensures { λ r. ⌜ ((cells : List ℕ) → Settling (now (items .entry)) (now (spans .entry)) (state-of machine (now (heads .entry)) cells) (state-of (r .machine) (now (heads .exit)) cells) (r .holding)) ⌝ }
+{
+    let mut next = machine;
+    let mut left = n;
+    while left == 0 {
+        let number = next.number;
+        if number != 0 {
+            return Settled {
+                machine: next,
+                holding: 0,
+            };
+        }
+        let place = next.place;
+        if items[place] == END {
+            return Settled {
+                machine: next,
+                holding: 0,
+            };
+        }
+        next = next.advance(items, spans, heads);
+        let count = next.count;
+        left = holding(heads, count);
+    }
+    Settled {
+        machine: next,
+        holding: left,
+    }
+}

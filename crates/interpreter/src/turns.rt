@@ -1,0 +1,98 @@
+// The whole list of turn bytes: one command for each, and the schedule's moves between them (01, 'Table and turns').
+use crate::moving::settle;
+use engine::Machine;
+use scheduler::choose::holding;
+use scheduler::choose::picked_of;
+ghost use mathlib.Core.Path.{_≡_};
+ghost use Prim.Native.Nat.{_<_};
+ghost use lib.ListN.{length};
+ghost use Rattle.memory.specs.Layout.{head, end-of};
+ghost use Rattle.memory.specs.Choose.{holds};
+ghost use Rattle.engine.specs.States.{state-of};
+ghost use Rattle.interpreter.specs.Counting.{fewer};
+ghost use Rattle.interpreter.specs.Running.{Begun, Ending};
+
+// The numbers of an instance, as memory/specs/Layout.antt lays them out.
+const HEAD_SIZE: usize = 4;
+
+const NEXT_OF: usize = 2;
+
+const END_OF: usize = 3;
+
+// 01's number of a run whose bytes are used up while commands remain.
+const OUT_OF_TURNS: u8 = 33;
+
+// Where a run ends: the machine, the number (0, or 33 to 36), and the turns taken.
+pub struct Ran {
+    pub machine: Machine,
+    pub number: u8,
+    pub taken: usize,
+}
+
+// How many hold commands behind a command of instance l, where n did before it: the others hold what they held.
+fn left_holding(heads: &[usize], l: usize, n: usize) -> usize
+    requires { ⌜ (head l end-of < length (now heads)) × (0 < n) ⌝ }
+    ensures { λ r. ⌜ r ≡ fewer (holds (now (heads .entry)) l) n ⌝ }
+{
+    let at = HEAD_SIZE * l;
+    if heads[at + NEXT_OF] < heads[at + END_OF] {
+        return n;
+    }
+    n - 1
+}
+
+// A run of a machine with these turn bytes. Memory and the machine's numbers are free up to the machine that they stand for with their number
+// taken out: that is the machine that the run comes to. Number and turns are the run's.
+pub fn run(
+    machine: Machine,
+    list: &[u64],
+    counts: &[u8],
+    items: &[usize],
+    spans: &[usize],
+    heads: &mut [usize],
+    cells: &mut [u64],
+    turns: &[u8],
+) -> Ran
+    requires { ⌜ Begun (now counts) (now list) (now items) (now spans) (state-of machine (now heads) (now cells)) ⌝ }
+    ensures { λ r. ⌜ Ending (now (counts .entry)) (now (list .entry)) (now (items .entry)) (now (spans .entry)) (now (turns .entry)) (state-of machine (now (heads .entry)) (now (cells .entry))) (r .number) (r .taken) (state-of (r .machine) (now (heads .exit)) (now (cells .exit))) ⌝ }
+{
+    let count = machine.count;
+    let first = holding(heads, count);
+    let begun = settle(machine, first, items, spans, heads);
+    let mut next = begun.machine;
+    let mut left = begun.holding;
+    let mut taken = 0;
+    while left > 0 {
+        if taken == turns.len() {
+            return Ran {
+                machine: next,
+                number: OUT_OF_TURNS,
+                taken,
+            };
+        }
+        let count = next.count;
+        let l = picked_of(heads, count, left, turns[taken]);
+        next = next.command(list, counts, heads, cells, l);
+        let number = next.number;
+        if number != 0 {
+            return Ran {
+                machine: next,
+                number,
+                taken,
+            };
+        }
+        taken += 1;
+        left = left_holding(heads, l, left);
+        if left == 0 {
+            let settled = settle(next, left, items, spans, heads);
+            next = settled.machine;
+            left = settled.holding;
+        }
+    }
+    let number = next.number;
+    Ran {
+        machine: next,
+        number,
+        taken,
+    }
+}

@@ -1,0 +1,309 @@
+-- `expr::args`, `expr::construct` and `expr::expr` meet their contracts, by a law for each way through them. The unread bytes fall, twice
+-- each, and one more counts for arguments.
+use Prim.Native.Nat.{ℕ, _+_, _-_, _*_, _^_, _<_}
+use native.Mathlib.Omega.{arith}
+use mathlib.Core.Path.{sym, _∙_}
+use lib.ListN.{length}
+use Rattle.program.specs.Reader.{read-expr}
+use Rattle.read_exprs.specs.FormWays.{op-form}
+use Rattle.read_exprs.specs.ExprWays.{args-none, args-stop, args-more, make-stop, make-is, expr-out, expr-deep, is-not, is-make, is-leaf, is-none}
+use Rattle.read_exprs.specs.ExprWays.{is-stop, is-op}
+use Rattle.read_exprs.specs.SpanWays.{span-room, ahead-within, behind-ahead, span-not, span-make, span-op, span-arg}
+use borrow.Author.Needs.{needs}
+use borrow.Fn.Kinds.{In}
+use borrow.Fn.PlainCycle.{Measures, is, falls, and}
+use Rattle.read_exprs.proofs.expr.args.Reads as args
+use Rattle.read_exprs.proofs.expr.args.Kinds as args-kinds
+use Rattle.read_exprs.proofs.expr.+args+construct+expr.Lts-args as args-lts
+use Rattle.read_exprs.proofs.expr.construct.Reads as construct
+use Rattle.read_exprs.proofs.expr.construct.Kinds as construct-kinds
+use Rattle.read_exprs.proofs.expr.+args+construct+expr.Lts-construct as construct-lts
+use Rattle.read_exprs.proofs.expr.expr.Reads as expr
+use Rattle.read_exprs.proofs.expr.expr.Kinds as expr-kinds
+use Rattle.read_exprs.proofs.expr.+args+construct+expr.Lts-expr as expr-lts
+use Rattle.read_exprs.proofs.expr.anew.Reads as anew
+use Rattle.read_exprs.proofs.expr.around.Reads as around
+use Rattle.read_exprs.proofs.expr.beside.Reads as beside-reads
+use Rattle.read_exprs.proofs.expr.joined.Reads as joined
+use Rattle.read_exprs.proofs.expr.over.Reads as over
+use Rattle.read_exprs.proofs.leaf.leaf.Reads as leaf
+use Rattle.read_exprs.proofs.read.byte_refusal.Reads as byte-refusal
+use Rattle.read_exprs.proofs.read.ranged.Reads as ranged
+use Rattle.judge.proofs.expression.no_args.Reads as no-args
+use Rattle.judge.proofs.path.look.Reads as look
+use Rattle.judge.proofs.path.type_at.Reads as type-at
+use Rattle.read_exprs.proofs.expr.+args+construct+expr.{statement}
+use Rattle.read_exprs.proofs.expr.+args+construct+expr.Tie.{close}
+
+abbrev μ-args : Measures 3 args-kinds.ps ℕ
+μ-args κs a = 2 * (length (a .0 .now) - a .1 .1 .1 .1 .1 .1 .1 .1 .0) + 1
+
+abbrev μ-construct : Measures 3 construct-kinds.ps ℕ
+μ-construct κs a = 2 * (length (a .0 .now) - a .1 .1 .1 .1 .1 .0)
+
+abbrev μ-expr : Measures 3 expr-kinds.ps ℕ
+μ-expr κs a = 2 * (length (a .0 .now) - a .1 .1 .1 .1 .1 .0)
+
+abbrev args-at : ℕ → In 3 args-kinds.ps
+args-at t = and 3 args-kinds.ps (is 3 args-kinds.ps μ-args t) args.Pre
+
+abbrev args-below : ℕ → In 3 args-kinds.ps
+args-below t = and 3 args-kinds.ps (falls 3 args-kinds.ps _<_ μ-args t) args.Pre
+
+abbrev construct-at : ℕ → In 3 construct-kinds.ps
+construct-at t = and 3 construct-kinds.ps (is 3 construct-kinds.ps μ-construct t) construct.Pre
+
+abbrev construct-below : ℕ → In 3 construct-kinds.ps
+construct-below t =
+    and 3 construct-kinds.ps (falls 3 construct-kinds.ps _<_ μ-construct t) construct.Pre
+
+abbrev expr-at : ℕ → In 3 expr-kinds.ps
+expr-at t = and 3 expr-kinds.ps (is 3 expr-kinds.ps μ-expr t) expr.Pre
+
+abbrev expr-below : ℕ → In 3 expr-kinds.ps
+expr-below t = and 3 expr-kinds.ps (falls 3 expr-kinds.ps _<_ μ-expr t) expr.Pre
+
+abbrev args-claims : ℕ → args-lts.Claims
+args-claims t = (no-args.Asked, no-args.Learnt, expr-below t, expr.Post, type-at.Asked, type-at.Learnt, args-below t, args.Post, joined.Asked, joined.Learnt)
+
+abbrev construct-claims : ℕ → construct-lts.Claims
+construct-claims t =
+    (ranged.Asked, ranged.Learnt, byte-refusal.Asked, byte-refusal.Learnt, look.Asked, look.Learnt, args-below t, args.Post, over.Asked, over.Learnt)
+
+abbrev expr-claims : ℕ → expr-lts.Claims
+expr-claims t = (
+  expr-below t,
+  expr.Post,
+  around.Asked,
+  around.Learnt,
+  construct-below t,
+  construct.Post,
+  anew.Asked,
+  anew.Learnt,
+  leaf.Asked,
+  leaf.Learnt,
+  beside-reads.Asked,
+  beside-reads.Learnt,
+)
+
+-- the places of `args` that proofs look back to
+abbrev args-start : (t : ℕ) → args-lts.Else1 (args-claims t) (args-at t) args.Post → args-lts.Start (args-claims t) (args-at t) args.Post
+args-start t c = c .before .before .before .before
+
+abbrev args-start₂ : (t : ℕ) → args-lts.After-expr (args-claims t) (args-at t) args.Post → args-lts.Start (args-claims t) (args-at t) args.Post
+args-start₂ t c = args-start t (c .before)
+
+abbrev args-start₃ : (t : ℕ) → args-lts.After-type-at (args-claims t) (args-at t) args.Post → args-lts.Start (args-claims t) (args-at t) args.Post
+args-start₃ t c = args-start₂ t (c .before .before .before .before)
+
+args-returns : (t : ℕ) → args-lts.Need-returns (args-claims t) (args-at t) args.Post
+args-returns t c =
+    let at-if1 = c .before in let start = at-if1 .before .before .before .before in
+    let a = start .args in let s = a .s .now in
+    rw (c .no-args .ensures) (
+      sym (args-none (a .ar .now) (a .types .now) s (a .own) (a .live) (read-expr (a .ar .now) s (a .depth)) (a .k) (a .x)
+          (a .at) (a .n) (at-if1 .if1 .taken)),
+      omega (arith, start .pre),
+    )
+
+args-returns-2 : (t : ℕ) → args-lts.Need-returns-2 (args-claims t) (args-at t) args.Post
+args-returns-2 t c =
+    let at-expr = c .before .before in let a = args-start₂ t at-expr .args in let s = a .s .now in (
+      c .enum-told .given .1
+          ∙ sym (args-stop (a .ar .now) (a .types .now) s (a .own) (a .live) (read-expr (a .ar .now) s (a .depth)) (a .k) (a .x) (a .at) (a .n)
+          (at-expr .before .if1 .left) _ (sym (at-expr .expr .ensures .0) ∙ c .enum-told .given .1)),
+      ahead-within s (a .at) (at-expr .expr .result) (at-expr .expr .ensures .1),
+    )
+
+args-args-requires : (t : ℕ) → args-lts.Need-args-requires (args-claims t) (args-at t) args.Post
+args-args-requires t c κs =
+    let ahead = rw (c .before .before .first .given .1) at (c .before .before .before .before .expr .ensures .1) in
+    (omega (arith, args-start₃ t c .pre), (args-start₃ t c .pre .1 .0, omega (arith, args-start₃ t c .pre)))
+
+args-joined-requires : (t : ℕ) → args-lts.Need-joined-requires (args-claims t) (args-at t) args.Post
+args-joined-requires t c κs =
+    let at-first = c .before .before .before in let at-expr = at-first .before .before in
+    let start = args-start t (at-expr .before) in let a = start .args in
+    let small : length (a .s .now) < 2 ^ 63 = omega (arith, start .good .0) in
+    let ahead = rw (at-first .first .given .1) at (at-expr .expr .ensures .1) in
+    (omega arith, span-room (a .s .now) _ _ (c .args2 .result) small (c .args2 .ensures .1))
+
+args-returns-3 : (t : ℕ) → args-lts.Need-returns-3 (args-claims t) (args-at t) args.Post
+args-returns-3 t c =
+    let at-type-at = c .before .before in let at-first = at-type-at .before .before in
+    let at-expr = at-first .before .before in let at-if1 = at-expr .before in
+    let a = at-if1 .before .before .before .before .args in let s = a .s .now in
+    let ahead = rw (at-first .first .given .1) at (at-expr .expr .ensures .1) in
+    let law = args-more (a .ar .now) (a .types .now) s (a .own) (a .live) (read-expr (a .ar .now) s (a .depth)) (a .k) (a .x) (a .at) (a .n)
+    (at-if1 .if1 .left) _ _ (sym (at-expr .expr .ensures .0) ∙ at-first .first .given .1) in (
+      (rw (at-type-at .type-at .ensures, c .before .args2 .ensures .0) at (c .joined .ensures)) ∙ sym law,
+      rw (c .joined .ensures) (span-arg s (a .at) _ _ _ (c .before .args2 .result) ahead (c .before .args2 .ensures .1)),
+    )
+
+construct-returns : (t : ℕ) → construct-lts.Need-returns (construct-claims t) (construct-at t) construct.Post
+construct-returns t c =
+    let at-ranged = c .before .before .before in
+    let a = at-ranged .before .before .before .before .args in let s = a .s .now in
+    let e = sym (at-ranged .ranged .ensures .0) ∙ c .before .enum-told .given .1 in
+    rw (c .byte-refusal .ensures, c .before .enum-told .given .1)
+    (sym (make-stop (a .ar .now) (a .types .now) s (a .own) (a .live) (read-expr (a .ar .now) s (a .depth)) 0 (a .at) _ e), tt)
+
+construct-args-requires : (t : ℕ) → construct-lts.Need-args-requires (construct-claims t) (construct-at t) construct.Post
+construct-args-requires t c κs =
+    let at-ranged = c .before .before .before .before in let start = at-ranged .before .before .before .before in
+    let span = rw (c .before .before .r .given .1) at (c .before .before .before .before .ranged .ensures .1) in
+    (omega (arith, start .pre), (start .pre .1, omega arith))
+
+construct-over-requires : (t : ℕ) → construct-lts.Need-over-requires (construct-claims t) (construct-at t) construct.Post
+construct-over-requires t c κs =
+    let at-r = c .before .before .before in let at-ranged = at-r .before .before in
+    let start = at-ranged .before .before .before .before in let a = start .args in
+    let small : length (a .s .now) < 2 ^ 63 = omega (arith, start .good .0) in
+    let span = rw (at-r .r .given .1) at (at-ranged .ranged .ensures .1) in
+    (omega (arith, start .pre .1), span-room (a .s .now) _ _ (c .args2 .result) small (c .args2 .ensures .1))
+
+construct-returns-2 : (t : ℕ) → construct-lts.Need-returns-2 (construct-claims t) (construct-at t) construct.Post
+construct-returns-2 t c =
+    let at-look = c .before .before in let at-r = at-look .before .before in let at-ranged = at-r .before .before in
+    let a = at-ranged .before .before .before .before .args in let s = a .s .now in
+    let e = sym (at-ranged .ranged .ensures .0) ∙ at-r .r .given .1 in
+    let span = rw (at-r .r .given .1) at (at-ranged .ranged .ensures .1) in
+    let rest = rw (at-look .look .ensures) at (c .before .args2 .ensures .0) in
+    let law = make-is (a .ar .now) (a .types .now) s (a .own) (a .live) (read-expr (a .ar .now) s (a .depth)) 0 (a .at) _ _ e in (
+      (rw rest at (c .over .ensures)) ∙ sym law,
+      rw (c .over .ensures) (span-make s (a .at) _ _ (c .before .args2 .result) (span .0) (span .1) (c .before .args2 .ensures .1)),
+    )
+
+-- the places of `expr` that proofs look back to
+abbrev expr-start : (t : ℕ) → expr-lts.Else1 (expr-claims t) (expr-at t) expr.Post → expr-lts.Start (expr-claims t) (expr-at t) expr.Post
+expr-start t c = c .before .before .before .before
+
+abbrev expr-start₂ : (t : ℕ) → expr-lts.Else2 (expr-claims t) (expr-at t) expr.Post → expr-lts.Start (expr-claims t) (expr-at t) expr.Post
+expr-start₂ t c = expr-start t (c .before)
+
+abbrev expr-at-if2 : (t : ℕ) → expr-lts.Else4 (expr-claims t) (expr-at t) expr.Post → expr-lts.Else2 (expr-claims t) (expr-at t) expr.Post
+expr-at-if2 t c = c .before .before .before
+
+abbrev expr-start₃ : (t : ℕ) → expr-lts.Else6 (expr-claims t) (expr-at t) expr.Post → expr-lts.Start (expr-claims t) (expr-at t) expr.Post
+expr-start₃ t c = expr-start₂ t (expr-at-if2 t (c .before .before))
+
+abbrev expr-start₄ : (t : ℕ) → expr-lts.After-known-told (expr-claims t) (expr-at t) expr.Post → expr-lts.Start (expr-claims t) (expr-at t) expr.Post
+expr-start₄ t c = expr-start₃ t (c .before .before .before .before)
+
+expr-returns : (t : ℕ) → expr-lts.Need-returns (expr-claims t) (expr-at t) expr.Post
+expr-returns t c =
+    let a = c .before .before .before .before .args in
+    (sym (expr-out (a .ar .now) (a .types .now) (a .s .now) (a .own) (a .live) (a .depth) (a .at) (c .if1 .taken)), tt)
+
+expr-returns-2 : (t : ℕ) → expr-lts.Need-returns-2 (expr-claims t) (expr-at t) expr.Post
+expr-returns-2 t c =
+    let a = expr-start t (c .before) .args in
+    (sym (expr-deep (a .ar .now) (a .types .now) (a .s .now) (a .own) (a .live) (a .depth) (a .at) (c .if2 .taken) (c .before .if1 .left)), tt)
+
+expr-expr-requires : (t : ℕ) → expr-lts.Need-expr-requires (expr-claims t) (expr-at t) expr.Post
+expr-expr-requires t c κs =
+    let start = expr-start₂ t (c .before .before) in
+    (omega (arith, start .pre), start .pre .1)
+
+expr-around-requires : (t : ℕ) → expr-lts.Need-around-requires (expr-claims t) (expr-at t) expr.Post
+expr-around-requires t c κs =
+    let start = expr-start₂ t (c .before .before .before) in let a = start .args in
+    let small : length (a .s .now) < 2 ^ 63 = omega (arith, start .good .0) in
+    span-room (a .s .now) _ _ (c .expr .result) small (c .expr .ensures .1)
+
+expr-returns-3 : (t : ℕ) → expr-lts.Need-returns-3 (expr-claims t) (expr-at t) expr.Post
+expr-returns-3 t c =
+    let at-if3 = c .before .before in let at-if2 = at-if3 .before .before in let at-if1 = at-if2 .before in
+    let a = at-if1 .before .before .before .before .args in let s = a .s .now in
+    let law = is-not (a .ar .now) (a .types .now) s (a .own) (a .live) (a .depth) (a .at) (at-if2 .if2 .left) (at-if1 .if1 .left) (at-if3 .if3 .taken) in (
+      (rw (c .before .expr .ensures .0) at (c .around .ensures)) ∙ sym law,
+      rw (c .around .ensures) (span-not s (a .at) (c .before .expr .result) (c .before .expr .ensures .1)),
+    )
+
+expr-construct-requires : (t : ℕ) → expr-lts.Need-construct-requires (expr-claims t) (expr-at t) expr.Post
+expr-construct-requires t c κs =
+    let start = expr-start₂ t (c .before .before .before) in
+    (omega (arith, start .pre), start .pre .1)
+
+expr-returns-4 : (t : ℕ) → expr-lts.Need-returns-4 (expr-claims t) (expr-at t) expr.Post
+expr-returns-4 t c =
+    let at-if4 = c .before .before in let at-if2 = at-if4 .before .before .before in let at-if1 = at-if2 .before in
+    let a = at-if1 .before .before .before .before .args in let s = a .s .now in
+    let law = is-make (a .ar .now) (a .types .now) s (a .own) (a .live) (a .depth) (a .at) (at-if2 .if2 .left) (at-if1 .if1 .left) (at-if4 .if4 .taken) in (
+      c .anew .ensures ∙ c .before .construct .ensures .0 ∙ sym law,
+      rw (c .anew .ensures) (behind-ahead s (a .at) (c .before .construct .result) (c .before .construct .ensures .1)),
+    )
+
+expr-leaf-requires : (t : ℕ) → expr-lts.Need-leaf-requires (expr-claims t) (expr-at t) expr.Post
+expr-leaf-requires t c κs =
+    let at-if3 = c .before .before in
+    ((omega arith, expr-start₂ t (at-if3 .before .before) .pre .1 .1), ((at-if3 .if3 .left, c .before .if4 .left), c .if5 .taken))
+
+expr-returns-5 : (t : ℕ) → expr-lts.Need-returns-5 (expr-claims t) (expr-at t) expr.Post
+expr-returns-5 t c =
+    let at-if2 = expr-at-if2 t (c .before .before) in let a = expr-start₂ t at-if2 .args in
+    let s = a .s .now in (
+      is-leaf (a .ar .now) (a .types .now) s (a .own) (a .live) (a .depth) (a .at) (at-if2 .if2 .left) (at-if2 .before .if1 .left) (c .leaf .result)
+          (c .leaf .ensures .0),
+      behind-ahead s (a .at) (c .leaf .result) (c .leaf .ensures .1),
+    )
+
+expr-returns-6 : (t : ℕ) → expr-lts.Need-returns-6 (expr-claims t) (expr-at t) expr.Post
+expr-returns-6 t c =
+    let at-if2 = expr-at-if2 t (c .before .before) in let a = expr-start₂ t at-if2 .args in (
+      sym (is-none (a .ar .now) (a .types .now) (a .s .now) (a .own) (a .live) (a .depth) (a .at) (at-if2 .if2 .left) (at-if2 .before .if1 .left)
+          (c .if6 .taken)),
+      tt,
+    )
+
+expr-returns-7 : (t : ℕ) → expr-lts.Need-returns-7 (expr-claims t) (expr-at t) expr.Post
+expr-returns-7 t c =
+    let at-expr2 = c .before .before in let at-if5 = at-expr2 .before .before in
+    let at-if2 = at-if5 .before .before .before .before in let at-if1 = at-if2 .before in
+    let a = at-if1 .before .before .before .before .args in let s = a .s .now in
+    let law = is-stop (a .ar .now) (a .types .now) s (a .own) (a .live) (a .depth) (a .at) (at-if2 .if2 .left) (at-if1 .if1 .left) (at-if5 .if5 .left)
+    (at-expr2 .before .if6 .left) _ (sym (at-expr2 .expr2 .ensures .0) ∙ c .enum-told .given .1) in
+    (c .enum-told .given .1 ∙ sym law, rw (c .enum-told .given .1) tt)
+
+expr-expr-requires-3 : (t : ℕ) → expr-lts.Need-expr-requires-3 (expr-claims t) (expr-at t) expr.Post
+expr-expr-requires-3 t c κs =
+    let ahead = rw (c .before .first .given .1) at (c .before .before .before .expr2 .ensures .1) in
+    (omega (arith, expr-start₄ t c .pre), expr-start₄ t c .pre .1)
+
+expr-beside-requires : (t : ℕ) → expr-lts.Need-beside-requires (expr-claims t) (expr-at t) expr.Post
+expr-beside-requires t c κs =
+    let start = expr-start₄ t (c .before) in let a = start .args in
+    let small : length (a .s .now) < 2 ^ 63 = omega (arith, start .good .0) in
+    let ahead = rw (c .before .before .first .given .1) at (c .before .before .before .before .expr2 .ensures .1) in
+    (omega arith, span-room (a .s .now) _ _ (c .expr3 .result) small (c .expr3 .ensures .1))
+
+expr-returns-8 : (t : ℕ) → expr-lts.Need-returns-8 (expr-claims t) (expr-at t) expr.Post
+expr-returns-8 t c =
+    let at-expr3 = c .before .before in let at-first = at-expr3 .before .before in
+    let at-expr2 = at-first .before .before in let at-if5 = at-expr2 .before .before in
+    let at-if2 = at-if5 .before .before .before .before in let at-if1 = at-if2 .before in
+    let a = at-if1 .before .before .before .before .args in let s = a .s .now in
+    let ahead = rw (at-first .first .given .1) at (at-expr2 .expr2 .ensures .1) in
+    let o = op-form _ (at-if5 .if5 .left) (at-expr2 .before .if6 .left) in
+    let beside = c .anew2 .ensures ∙ c .before .beside .ensures (o .0) (o .1) in
+    let law = is-op (a .ar .now) (a .types .now) s (a .own) (a .live) (a .depth) (a .at) (at-if2 .if2 .left) (at-if1 .if1 .left) (o .0) (o .1) _ _
+    (sym (at-expr2 .expr2 .ensures .0) ∙ at-first .first .given .1) in (
+      (rw (at-expr3 .expr3 .ensures .0) at beside) ∙ sym law,
+      rw beside (span-op s (a .at) _ (o .0) _ (at-expr3 .expr3 .result) ahead (at-expr3 .expr3 .ensures .1)),
+    )
+
+pub +args+construct+expr-spec : {M : Type 1} → statement M
++args+construct+expr-spec =
+    close μ-args μ-construct μ-expr
+    (λ t. args-lts.spec (args-claims t) (args-at t) args.Post (λ c κs. search needs) (args-returns t)
+    (λ c κs. (omega (arith, c .before .before .before .before .pre), c .before .before .before .before .pre .1 .0)) (λ c. search needs)
+    (λ c. search needs) (args-returns-2 t) (λ c κs. search needs) (λ c. omega (arith, args-start₃ t c .pre))
+    (λ c. omega (arith, args-start₃ t c .pre)) (args-args-requires t) (args-joined-requires t) (args-returns-3 t))
+    (λ t. construct-lts.spec (construct-claims t) (construct-at t) construct.Post (λ c κs. search needs) (λ c. search needs) (λ c. search needs)
+    (λ c κs. search needs) (construct-returns t) (λ c. omega (arith, c .known-told)) (λ c κs. search needs) (construct-args-requires t)
+    (construct-over-requires t) (construct-returns-2 t))
+    λ t. expr-lts.spec (expr-claims t) (expr-at t) expr.Post (expr-returns t) (expr-returns-2 t) (λ c. search needs) (λ c. search needs)
+    (λ c. search needs) (expr-expr-requires t) (expr-around-requires t) (expr-returns-3 t) (expr-construct-requires t) (λ c κs. search needs)
+    (expr-returns-4 t) (expr-leaf-requires t) (expr-returns-5 t) (expr-returns-6 t)
+    (λ c κs. (omega (arith, expr-start₃ t c .pre), expr-start₃ t c .pre .1)) (λ c. search needs) (λ c. search needs) (expr-returns-7 t)
+    (expr-expr-requires-3 t) (expr-beside-requires t) (λ c κs. search needs) (expr-returns-8 t)

@@ -1,0 +1,167 @@
+// Expressions with expressions inside: not, construct and the operators; the unread bytes fall.
+use crate::leaf;
+use crate::read;
+use crate::read::ByteRead;
+use crate::read::ExprRead;
+use judge::Facts;
+use judge::expression;
+ghost use mathlib.Core.Path.{_≡_};
+ghost use Prim.Native.Nat.{_+_, _<_, _≤_, _^_};
+ghost use lib.ListN.{length};
+ghost use Rattle.program.specs.Tree.{Op, Exprs.none, Exprs.more};
+ghost use Rattle.program.specs.Reader.{form, Form.form-op, many, read-make, read-expr};
+ghost use Rattle.judge.specs.Facts.{negated, combined, argued, constructed, expr-facts, args-facts};
+ghost use Rattle.read_exprs.specs.Told.{told, made-facts, after, Room, Ahead, Within, Behind};
+
+// The same answer, made anew of its parts: one that another function answers is then not copied through memory.
+fn anew(r: ExprRead) -> ExprRead
+    ensures { λ q. ⌜ q ≡ r ⌝ }
+{
+    let ExprRead::Value(n, f) = r else {
+        return ExprRead::Refused(read::expr_refusal(r));
+    };
+    ExprRead::Value(n, f)
+}
+
+// A not around what was read.
+fn around(r: ExprRead) -> ExprRead
+    requires { ⌜ Room r ⌝ }
+    ensures { λ q. ⌜ q ≡ after negated r ⌝ }
+{
+    let ExprRead::Value(n, f) = r else {
+        return r;
+    };
+    ExprRead::Value(n, expression::negated(f))
+}
+
+// The operator of a byte between an expression and what was read behind it.
+fn beside(b: u8, f: Facts, r: ExprRead) -> ExprRead
+    requires { ⌜ (f .size < 2 ^ 63) × Room r ⌝ }
+    ensures { λ q. ⌜ ((o : Op) → form b ≡ form-op o → q ≡ after (combined o f) r) ⌝ }
+{
+    let ExprRead::Value(n, g) = r else {
+        return r;
+    };
+    ExprRead::Value(n, expression::combined(b, f, g))
+}
+
+// An argument for a parameter of type t before what was read behind it.
+fn joined(t: u8, f: Facts, r: ExprRead) -> ExprRead
+    requires { ⌜ (f .size < 2 ^ 63) × Room r ⌝ }
+    ensures { λ q. ⌜ q ≡ after (argued t f) r ⌝ }
+{
+    let ExprRead::Value(n, g) = r else {
+        return r;
+    };
+    ExprRead::Value(n, expression::argued(t, f, g))
+}
+
+// A construct of the struct k over the arguments that were read.
+fn over(k: u8, r: ExprRead) -> ExprRead
+    requires { ⌜ (k < 16) × Room r ⌝ }
+    ensures { λ q. ⌜ q ≡ after (constructed k) r ⌝ }
+{
+    let ExprRead::Value(n, f) = r else {
+        return r;
+    };
+    ExprRead::Value(n, expression::constructed(k, f))
+}
+
+// An expression of at most depth levels.
+pub fn expr(
+    s: &[u8],
+    ar: &[u8],
+    types: &[u8],
+    own: u8,
+    live: u64,
+    at: usize,
+    depth: usize,
+) -> ExprRead
+    requires { ⌜ (length (now ar) ≤ 16) × (own < 16) ⌝ }
+    ensures { λ r. ⌜ r ≡ told (expr-facts (now (ar .entry)) (now (types .entry)) own live) (read-expr (now (ar .entry)) (now (s .entry)) depth at) ⌝ }
+    ensures { λ r. ⌜ Ahead (now (s .entry)) at r ⌝ }
+{
+    if s.len() <= at {
+        return ExprRead::Refused(4);
+    }
+    if depth == 0 {
+        return ExprRead::Refused(5);
+    }
+    let b = s[at];
+    // Of two copies of the reference only the one that is handed on has to stand in memory.
+    let rest = s;
+    let k = at + 1;
+    let d = depth - 1;
+    if b == 16 {
+        return around(expr(rest, ar, types, own, live, k, d));
+    }
+    if b == 17 {
+        return anew(construct(rest, ar, types, own, live, k, d));
+    }
+    if b < 32 {
+        return leaf::leaf(rest, ar, types, own, live, b, k);
+    }
+    if 44 < b {
+        return ExprRead::Refused(5);
+    }
+    let first = expr(rest, ar, types, own, live, k, d);
+    let ExprRead::Value(m, f) = first else {
+        return first;
+    };
+    anew(beside(b, f, expr(rest, ar, types, own, live, m, d)))
+}
+
+// A struct and an expression of at most depth levels for each of its parameters.
+pub fn construct(
+    s: &[u8],
+    ar: &[u8],
+    types: &[u8],
+    own: u8,
+    live: u64,
+    at: usize,
+    depth: usize,
+) -> ExprRead
+    requires { ⌜ (length (now ar) ≤ 16) × (own < 16) ⌝ }
+    ensures { λ r. ⌜ r ≡ told (made-facts (now (ar .entry)) (now (types .entry)) own live) (read-make (now (ar .entry)) (now (s .entry)) (read-expr (now (ar .entry)) (now (s .entry)) depth) at) ⌝ }
+    ensures { λ r. ⌜ Behind (now (s .entry)) at r ⌝ }
+{
+    let r = read::ranged(s, 0, ar.len(), at);
+    let ByteRead::Byte(k, m) = r else {
+        return ExprRead::Refused(read::byte_refusal(r));
+    };
+    let n = judge::path::look(ar, k as usize);
+    over(k, args(s, ar, types, own, live, k, 0, n, m, depth))
+}
+
+// Expressions for n parameters of the struct k, from x on.
+pub fn args(
+    s: &[u8],
+    ar: &[u8],
+    types: &[u8],
+    own: u8,
+    live: u64,
+    k: u8,
+    x: u8,
+    n: u8,
+    at: usize,
+    depth: usize,
+) -> ExprRead
+    requires { ⌜ (length (now ar) ≤ 16) × (own < 16) ⌝ }
+    requires { ⌜ (at ≤ length (now s)) × (x + n < 256) ⌝ }
+    ensures { λ r. ⌜ r ≡ told (λ es. args-facts (now (ar .entry)) (now (types .entry)) own live es k x) (many none more (read-expr (now (ar .entry)) (now (s .entry)) depth) n at) ⌝ }
+    ensures { λ r. ⌜ Within (now (s .entry)) at r ⌝ }
+{
+    if n == 0 {
+        return ExprRead::Value(at, expression::no_args());
+    }
+    let first = expr(s, ar, types, own, live, at, depth);
+    let ExprRead::Value(m, f) = first else {
+        return first;
+    };
+    let t = judge::path::type_at(types, k, x);
+    joined(
+        t,
+        f,
+        args(s, ar, types, own, live, k, x + 1, n - 1, m, depth),
+    )
+}

@@ -1,0 +1,74 @@
+-- What the readers of steps answer for what is read (01, 4 to 8 of 'Numbers from the input'): a value goes with the totals over it,
+-- a refusal with its number. The code has the totals apart from the table of names, which it is lent.
+use Prim.Native.Nat.{ℕ, suc, _+_, _≤_, max}
+use mathlib.Core.Path.{_≡_}
+use mathlib.Core.Bool.{Bool, true, false, _||_}
+use mathlib.Core.List.{List}
+use lib.ListN.{length}
+use lib.Dec.{ltb}
+use Rattle.types.specs.Limits.{step-commands, max-depth}
+use Rattle.program.specs.Tree.{Step}
+use Rattle.program.specs.Reader.{Result, Result.ok, Result.bad}
+use Rattle.judge.specs.declared.Done.{Done}
+use Rattle.judge.specs.Facts.{worst, named, no-locals, body-facts}
+use Rattle.judge.specs.ProgramFacts.{Totals as Sum, added}
+use Rattle.read_stmts.specs.declared.StmtRead.{StmtRead}
+use Rattle.read_stmts.specs.declared.StmtRead.the-variants.{Value as StmtValue, Refused as StmtRefused}
+use Rattle.read_program.specs.declared.totals.Totals.{Totals}
+use Rattle.read_program.specs.declared.totals.TotalsRead.{TotalsRead}
+use Rattle.read_program.specs.declared.totals.TotalsRead.the-variants.{Value, Refused}
+
+-- totals with a table of names, and without it
+abbrev pub with : Totals → List ℕ → Sum
+with t h = record { steps = t .steps; commands = t .commands; depth = t .depth; over = t .over; fault = t .fault; has = h }
+
+abbrev pub less : Sum → Totals
+less T = record { steps = T .steps; commands = T .commands; depth = T .depth; over = T .over; fault = T .fault }
+
+-- 1 once a step has too many commands or goes too deep
+unfoldable pub over-by : ℕ → Done → ℕ
+over-by n d = elim (ltb step-commands (d .size) || ltb max-depth (d .height)) [ true ↦ 1 | false ↦ n ]
+
+-- one step more, and whether its name is new
+unfoldable pub plus : Totals → Done → Bool → Totals
+plus t d new = record {
+  steps = suc (t .steps);
+  commands = t .commands + d .size;
+  depth = max (t .depth) (d .height);
+  over = over-by (t .over) d;
+  fault = worst (t .fault) (worst (d .fault) (named new));
+}
+
+-- a step of struct k more
+abbrev pub step-total : List ℕ → List ℕ → ℕ → Sum → Step → Sum
+step-total ar types k T t = added k (t .name) (body-facts ar types k (t .body) no-locals) T
+
+abbrev pub told : {A : Type 0} → (A → Sum) → Result A → TotalsRead
+told f (ok a m) = Value m (less (f a))
+told f (bad p n) = Refused n
+
+-- the number of a refusal; of a value, 0
+abbrev pub stmt-refusal : StmtRead → ℕ
+stmt-refusal (StmtValue m d) = 0
+stmt-refusal (StmtRefused n) = n
+
+abbrev pub totals-refusal : TotalsRead → ℕ
+totals-refusal (Value m t) = 0
+totals-refusal (Refused n) = n
+
+-- the table of names after it
+abbrev pub Kept : {A : Type 0} → (A → Sum) → Result A → List ℕ → Type 0
+Kept f (ok a m) h = h ≡ f a .has
+Kept f (bad p n) h = Unit {0}
+
+-- what a reader answers, and the table after it
+abbrev pub Told : {A : Type 0} → (A → Sum) → Result A → TotalsRead → List ℕ → Type 0
+Told f q r h = (r ≡ told f q) × Kept f q h
+
+-- no more was counted than bytes were read
+abbrev pub Low : Totals → ℕ → Type 0
+Low t at = (t .steps ≤ at) × (t .commands ≤ at)
+
+abbrev pub Bounded : List ℕ → TotalsRead → Type 0
+Bounded s (Value m t) = (Low t m) × (m ≤ length s)
+Bounded s (Refused k) = Unit {0}

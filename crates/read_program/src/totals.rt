@@ -1,0 +1,213 @@
+// The steps of all structs, read and totalled up in one walk (01, 'Program stream', and numbers 4 to 8).
+use judge::Done;
+use judge::Scope;
+use judge::expression;
+use judge::fault;
+use read_exprs::read;
+use read_exprs::read::ByteRead;
+use read_stmts::StmtRead;
+use read_stmts::stmt;
+ghost use mathlib.Core.Path.{_≡_};
+ghost use mathlib.Core.List.{[], _∷_};
+ghost use Prim.Native.Nat.{_+_, _<_, _≤_, _^_};
+ghost use lib.ListN.{length, getD, set};
+ghost use lib.Dec.{eqb};
+ghost use Rattle.program.specs.Reader.{many, read-step, read-steps};
+ghost use Rattle.judge.specs.ProgramFacts.{place, no-totals, struct-totals, step-totals};
+ghost use Rattle.read_program.specs.Total.{with, less, over-by, plus, step-total, stmt-refusal, totals-refusal, Told, Low, Bounded};
+
+// Of the steps so far: how many, their commands, the greatest depth, 1 once a limit of a step is passed, and a fault.
+pub struct Totals {
+    pub steps: usize,
+    pub commands: usize,
+    pub depth: usize,
+    pub over: u8,
+    pub fault: u8,
+}
+
+// The next place, and what is totalled up.
+pub enum TotalsRead {
+    Value(usize, Totals),
+    Refused(u8),
+}
+
+// The number of a refusal, for a reader whose own answer is of another type; 0 where a value was read.
+pub fn stmt_refusal(r: StmtRead) -> u8
+    ensures { λ n. ⌜ n ≡ stmt-refusal r ⌝ }
+{
+    let StmtRead::Refused(n) = r else {
+        return 0;
+    };
+    n
+}
+
+pub(crate) fn totals_refusal(r: TotalsRead) -> u8
+    ensures { λ n. ⌜ n ≡ totals-refusal r ⌝ }
+{
+    let TotalsRead::Refused(n) = r else {
+        return 0;
+    };
+    n
+}
+
+// Of no steps.
+pub fn none() -> Totals
+    ensures { λ r. ⌜ r ≡ less no-totals ⌝ }
+{
+    Totals {
+        steps: 0,
+        commands: 0,
+        depth: 0,
+        over: 0,
+        fault: 0,
+    }
+}
+
+// The step n of the struct k noted; whether it is new.
+fn noted(has: &mut [u8], k: u8, n: u8) -> bool
+    requires { ⌜ (length (now has) ≡ 512) × (k < 16) × (n < 32) ⌝ }
+    ensures { λ r. ⌜ r ≡ eqb (getD (now (has .entry)) (place k n) 0) 0 ⌝ }
+    ensures { λ _. ⌜ now (has .exit) ≡ set (now (has .entry)) (place k n) 1 ⌝ }
+{
+    let i = types::STEP_NAMES * k as usize + n as usize;
+    let new = has[i] == 0;
+    has[i] = 1;
+    new
+}
+
+// 1 where a step has too many commands or goes too deep.
+fn over(before: u8, d: Done) -> u8
+    ensures { λ r. ⌜ r ≡ over-by before d ⌝ }
+{
+    if types::STEP_COMMANDS < d.size {
+        return 1;
+    }
+    if types::MAX_DEPTH < d.height {
+        return 1;
+    }
+    before
+}
+
+// One step more.
+fn plus(t: Totals, d: Done, new: bool) -> Totals
+    requires { ⌜ (t .steps + 1 < 2 ^ 64) × (t .commands + d .size < 2 ^ 64) ⌝ }
+    ensures { λ r. ⌜ r ≡ plus t d new ⌝ }
+{
+    let own = fault::worst(d.fault, fault::named(new));
+    Totals {
+        steps: t.steps + 1,
+        commands: t.commands + d.size,
+        depth: expression::higher(t.depth, d.height),
+        over: over(t.over, d),
+        fault: fault::worst(t.fault, own),
+    }
+}
+
+// A step of the struct k.
+fn step(
+    s: &[u8],
+    ar: &[u8],
+    types: &[u8],
+    has: &mut [u8],
+    k: u8,
+    t: Totals,
+    at: usize,
+) -> TotalsRead
+    requires { ⌜ (length (now ar) ≤ 16) × (length (now has) ≡ 512) × (k < 16) ⌝ }
+    requires { ⌜ Low t at ⌝ }
+    ensures { λ r. ⌜ Told (step-total (now (ar .entry)) (now (types .entry)) k (with t (now (has .entry)))) (read-step (now (ar .entry)) (now (s .entry)) at) r (now (has .exit)) ⌝ }
+    ensures { λ r. ⌜ Bounded (now (s .entry)) r ⌝ }
+{
+    let r = read::ranged(s, 0, types::STEP_NAMES, at);
+    let ByteRead::Byte(n, m) = r else {
+        return TotalsRead::Refused(read::byte_refusal(r));
+    };
+    let q = stmt::body(
+        s,
+        ar,
+        types,
+        k,
+        Scope { live: 0, seen: 0 },
+        m,
+        types::IF_LEVELS,
+    );
+    let StmtRead::Value(next, d) = q else {
+        return TotalsRead::Refused(stmt_refusal(q));
+    };
+    let new = noted(has, k, n);
+    TotalsRead::Value(next, plus(t, d, new))
+}
+
+// n steps of the struct k.
+fn steps(
+    s: &[u8],
+    ar: &[u8],
+    types: &[u8],
+    has: &mut [u8],
+    k: u8,
+    n: u8,
+    t: Totals,
+    at: usize,
+) -> TotalsRead
+    requires { ⌜ (length (now ar) ≤ 16) × (length (now has) ≡ 512) × (k < 16) ⌝ }
+    requires { ⌜ Low t at × (at ≤ length (now s)) ⌝ }
+    ensures { λ r. ⌜ Told (λ ts. struct-totals (now (ar .entry)) (now (types .entry)) k ts (with t (now (has .entry)))) (many [] _∷_ (read-step (now (ar .entry)) (now (s .entry))) n at) r (now (has .exit)) ⌝ }
+    ensures { λ r. ⌜ Bounded (now (s .entry)) r ⌝ }
+{
+    if n == 0 {
+        return TotalsRead::Value(at, t);
+    }
+    let first = step(s, ar, types, has, k, t, at);
+    let TotalsRead::Value(m, u) = first else {
+        return first;
+    };
+    steps(s, ar, types, has, k, n - 1, u, m)
+}
+
+// The steps of the struct k.
+fn of_struct(
+    s: &[u8],
+    ar: &[u8],
+    types: &[u8],
+    has: &mut [u8],
+    k: u8,
+    t: Totals,
+    at: usize,
+) -> TotalsRead
+    requires { ⌜ (length (now ar) ≤ 16) × (length (now has) ≡ 512) × (k < 16) ⌝ }
+    requires { ⌜ Low t at ⌝ }
+    ensures { λ r. ⌜ Told (λ ts. struct-totals (now (ar .entry)) (now (types .entry)) k ts (with t (now (has .entry)))) (read-steps (now (ar .entry)) (now (s .entry)) at) r (now (has .exit)) ⌝ }
+    ensures { λ r. ⌜ Bounded (now (s .entry)) r ⌝ }
+{
+    let r = read::ranged(s, 0, types::MAX_STEPS + 1, at);
+    let ByteRead::Byte(n, m) = r else {
+        return TotalsRead::Refused(read::byte_refusal(r));
+    };
+    steps(s, ar, types, has, k, n, t, m)
+}
+
+// The steps of n structs, from the struct k on. After a refusal the table of names is free, of the length that it had.
+pub fn structs(
+    s: &[u8],
+    ar: &[u8],
+    types: &[u8],
+    has: &mut [u8],
+    k: u8,
+    n: u8,
+    t: Totals,
+    at: usize,
+) -> TotalsRead
+    requires { ⌜ (length (now ar) ≤ 16) × (length (now has) ≡ 512) × (k + n ≤ 16) ⌝ }
+    requires { ⌜ Low t at × (at ≤ length (now s)) ⌝ }
+    ensures { λ r. ⌜ Told (λ tss. step-totals (now (ar .entry)) (now (types .entry)) k tss (with t (now (has .entry)))) (many [] _∷_ (read-steps (now (ar .entry)) (now (s .entry))) n at) r (now (has .exit)) ⌝ }
+    ensures { λ r. ⌜ Bounded (now (s .entry)) r ⌝ }
+{
+    if n == 0 {
+        return TotalsRead::Value(at, t);
+    }
+    let first = of_struct(s, ar, types, has, k, t, at);
+    let TotalsRead::Value(m, u) = first else {
+        return first;
+    };
+    structs(s, ar, types, has, k + 1, n - 1, u, m)
+}

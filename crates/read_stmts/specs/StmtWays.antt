@@ -1,0 +1,221 @@
+-- Each way through the readers of statements (01, 'Program stream'): what the code answers is what is read and computed there.
+use Prim.Native.Nat.{ℕ, zero, suc, _+_, _-_, _<_, _≤_}
+use native.Mathlib.Omega.{arith}
+use native.Mathlib.Numerals.{sub-one}
+use mathlib.Core.Path.{_≡_, refl}
+use mathlib.Core.List.{List}
+use lib.ListN.{length, getD}
+use Rattle.types.specs.Types.{Ty, code}
+use Rattle.program.specs.Tree.{Var, Expr, Exprs, Stmt, Stmts, Stmts.end, Stmts.next}
+use Rattle.program.specs.Reader.{Result, Result.ok, Result.bad, then, pair, made, many, lookup, Kind, Kind.kind-when, Kind.kind-declare, Kind.kind-update, Kind.kind-create, Kind.kind-none, kind, type-byte, byte, tested, opened, ranged, counted, read-local, read-path, read-make, read-expr, read-body, read-when, read-declare, read-update, rule-stmt, read-stmt}
+use Rattle.program.specs.StmtLaws.{OpensStmt, opens-stmt}
+use Rattle.judge.specs.declared.Judged.{Judged}
+use Rattle.judge.specs.declared.Facts.{Facts}
+use Rattle.judge.specs.declared.Scope.{Scope}
+use Rattle.judge.specs.declared.Done.{Done}
+use Rattle.judge.specs.Facts.{path-of, expr-facts, constructed, nothing, branched, declared, updated, created, followed, stmt-facts, body-facts}
+use Rattle.read_exprs.specs.declared.read.ByteRead.the-variants.{Byte, NoByte}
+use Rattle.read_exprs.specs.declared.read.PathRead.the-variants.{Path, NoPath}
+use Rattle.read_exprs.specs.declared.read.ExprRead.the-variants.{Value as ExprValue, Refused as ExprRefused}
+use Rattle.read_exprs.specs.Told.{told, byte-told, path-told, made-facts}
+use Rattle.read_exprs.specs.ByteWays.{byte-out, byte-in, byte-is, byte-stops, type-read, type-stops}
+use Rattle.read_exprs.specs.PathWays.{path-read, path-stops}
+use Rattle.read_exprs.specs.ExprWays.{told-is, told-stops}
+use Rattle.read_stmts.specs.declared.StmtRead.{StmtRead}
+use Rattle.read_stmts.specs.declared.StmtRead.the-variants.{Value, Refused}
+use Rattle.read_stmts.specs.Done.{done, turn, after, labelled, read-named, local-facts, declare-facts, update-facts, create-facts, when-facts}
+
+-- what is made of what was read is computed of it
+pub done-made : {A B : Type 0} (f : B → Done) (g : A → B) (r : Result A) → done f (made g r) ≡ done (λ a. f (g a)) r
+unfolding made then
+done-made f g (ok a m) = refl
+done-made f g (bad p n) = refl
+
+-- what was read, from what was answered
+pub done-is : {A : Type 0} (f : A → Done) (r : Result A) (m : ℕ) (d : Done) → done f r ≡ Value m d → (a : A) × (r ≡ ok a m) × (f a ≡ d)
+done-is f (ok a n) m d e = let h : n ≡ m = cc in (a, rw h refl, cc)
+done-is f (bad p n) m d e = let z : _≡_ {A = ℕ} 0 1 = cc in absurd (omega arith)
+
+pub done-stops : {A : Type 0} (f : A → Done) (r : Result A) (n : ℕ) → done f r ≡ Refused n → (p : ℕ) × (r ≡ bad p n)
+done-stops f (ok a m) n e = let z : _≡_ {A = ℕ} 0 1 = cc in absurd (omega arith)
+done-stops f (bad p k) n e = (p, cc)
+
+-- a byte that opens no statement
+pub no-kind : (b : ℕ) → (b ≡ 1 → ⊥) → (b ≡ 2 → ⊥) → (b ≡ 3 → ⊥) → (b ≡ 4 → ⊥) → kind b ≡ kind-none
+no-kind b p q r t = go (kind b) (opens-stmt b)
+  where
+    go : (k : Kind) → OpensStmt b k → k ≡ kind-none
+    go kind-when o = absurd (p o)
+    go kind-declare o = absurd (q o)
+    go kind-update o = absurd (r o)
+    go kind-create o = absurd (t o)
+    go kind-none o = refl
+
+module _ (ar types s : List ℕ) (own : ℕ) (c : Scope) where
+  abbrev E : Expr → Facts
+  E e = expr-facts ar types own (c .live) e
+
+  abbrev S : Stmt → Done
+  S t = stmt-facts ar types own t c
+
+  abbrev B : Stmts → Done
+  B b = body-facts ar types own b c
+
+  module _ (at : ℕ) where
+    -- a declaration's local, which is not read, or is, with its value behind it
+    pub local-stop : (t n : ℕ) → byte-told (ranged s 8 16 at) ≡ NoByte n → done (local-facts ar types own c t) (read-named ar s at) ≡ Refused n
+    unfolding read-named pair read-local made then
+    local-stop t n e = rw (byte-stops (ranged s 8 16 at) n e .1)
+
+    pub local-is : (t x m : ℕ) → byte-told (ranged s 8 16 at) ≡ Byte x m
+        → done (local-facts ar types own c t) (read-named ar s at) ≡ turn (declared c t (x - 8)) (told E (read-expr ar s 16 m))
+    unfolding read-named pair read-local made then
+    local-is t x m e = rw (byte-is (ranged s 8 16 at) x m e) (go (read-expr ar s 16 m))
+      where
+        go : (r : Result Expr) → done (local-facts ar types own c t) (then r λ e k. ok (x - 8, e) k) ≡ turn (declared c t (x - 8)) (told E r)
+        go (ok e k) = refl
+        go (bad p k) = refl
+
+    -- its type
+    pub declare-stop : (n : ℕ) → byte-told (tested s (type-byte (length ar)) at) ≡ NoByte n → done (declare-facts ar types own c) (read-declare ar s at) ≡ Refused n
+    unfolding read-declare pair then
+    declare-stop n e = rw (type-stops s (length ar) at n e .1)
+
+    pub declare-is : (b m : ℕ) → byte-told (tested s (type-byte (length ar)) at) ≡ Byte b m
+        → done (declare-facts ar types own c) (read-declare ar s at) ≡ done (local-facts ar types own c b) (read-named ar s m)
+    unfolding read-declare read-named pair then
+    declare-is b m e =
+        let q = type-read s (length ar) at b m e in
+        rw (q .1) (go (q .0) (q .2) (read-named ar s m))
+      where
+        go : (t : Ty) → code t ≡ b → (r : Result (ℕ × Expr)) → done (declare-facts ar types own c) (then r λ p k. ok (t, p) k) ≡ done (local-facts ar types own c b) r
+        go t h (ok p k) = rw h
+        go t h (bad p k) = refl
+
+    -- an update's path, which is not read, or is, with the value behind it
+    pub update-stop : (n : ℕ) → path-told (path-of ar types own (c .live)) (read-path s at) ≡ NoPath n → done (update-facts ar types own c) (read-update ar s at) ≡ Refused n
+    unfolding read-update pair then
+    update-stop n e = rw (path-stops (path-of ar types own (c .live)) (read-path s at) n e .1)
+
+    pub update-is : (m n : ℕ) (j : Judged) → path-told (path-of ar types own (c .live)) (read-path s at) ≡ Path m n j
+        → done (update-facts ar types own c) (read-update ar s at) ≡ turn (updated c n j) (told E (read-expr ar s 16 m))
+    unfolding read-update pair then
+    update-is m n j e =
+        let q = path-read (path-of ar types own (c .live)) (read-path s at) m n j e in
+        rw (q .1) (go (q .0) (q .2) (q .3) (read-expr ar s 16 m))
+      where
+        go : (p : Var × List ℕ) → suc (length (p .1)) ≡ n → path-of ar types own (c .live) (p .0) (p .1) ≡ j → (r : Result Expr)
+            → done (update-facts ar types own c) (then r λ e k. ok (p, e) k) ≡ turn (updated c n j) (told E r)
+        go p h i (ok e k) = rw (h, i)
+        go p h i (bad u k) = refl
+
+    -- a construct's label stays
+    pub create-is : (r : Result (ℕ × Exprs)) → done (create-facts ar types own c) r ≡ turn (labelled c) (told (made-facts ar types own (c .live)) r)
+    unfolding created constructed
+    create-is (ok p m) = refl
+    create-is (bad p n) = refl
+
+  -- behind the byte of a statement, where w reads what stands behind that of an if
+  module _ (w : ℕ → ℕ → Result (Expr × Stmts)) (p at : ℕ) where
+    abbrev R : ℕ → Result Stmt
+    R b = rule-stmt ar s w p at (kind b)
+
+    pub rule-when : (b : ℕ) → b ≡ 1 → done S (R b) ≡ done (when-facts ar types own c) (w p at)
+    unfolding kind lookup rule-stmt stmt-facts
+    rule-when b e = rw e (done-made S _ (w p at))
+
+    pub rule-declare : (b : ℕ) → b ≡ 2 → done S (R b) ≡ done (declare-facts ar types own c) (read-declare ar s at)
+    unfolding kind lookup rule-stmt stmt-facts
+    rule-declare b e = rw e (done-made S _ (read-declare ar s at))
+
+    pub rule-update : (b : ℕ) → b ≡ 3 → done S (R b) ≡ done (update-facts ar types own c) (read-update ar s at)
+    unfolding kind lookup rule-stmt stmt-facts
+    rule-update b e = rw e (done-made S _ (read-update ar s at))
+
+    pub rule-create : (b : ℕ) → b ≡ 4 → done S (R b) ≡ done (create-facts ar types own c) (read-make ar s (read-expr ar s 16) at)
+    unfolding kind lookup rule-stmt stmt-facts
+    rule-create b e = rw e (done-made S _ (read-make ar s (read-expr ar s 16) at))
+
+    pub rule-none : (b : ℕ) → (b ≡ 1 → ⊥) → (b ≡ 2 → ⊥) → (b ≡ 3 → ⊥) → (b ≡ 4 → ⊥) → done S (R b) ≡ Refused 5
+    unfolding rule-stmt
+    rule-none b h i j k = rw (no-kind b h i j k)
+
+  -- an if and its body, whose statements r reads
+  module _ (r : ℕ → Result Stmt) (at : ℕ) where
+    pub when-stop : (n : ℕ) → told E (read-expr ar s 16 at) ≡ ExprRefused n → done (when-facts ar types own c) (read-when ar s r at) ≡ Refused n
+    unfolding read-when pair then
+    when-stop n e = rw (told-stops E (read-expr ar s 16 at) n e .1)
+
+    pub when-is : (m : ℕ) (f : Facts) → told E (read-expr ar s 16 at) ≡ ExprValue m f
+        → done (when-facts ar types own c) (read-when ar s r at) ≡ after (branched c f) (done B (read-body ar s r m))
+    unfolding read-when pair then
+    when-is m f e =
+        let q = told-is E (read-expr ar s 16 at) m f e in
+        rw (q .1) (go (q .0) (q .2) (read-body ar s r m))
+      where
+        go : (e : Expr) → E e ≡ f → (q : Result Stmts) → done (when-facts ar types own c) (then q λ b k. ok (e, b) k) ≡ after (branched c f) (done B q)
+        go e h (ok b k) = rw h
+        go e h (bad u k) = refl
+
+    pub body-stop : (n : ℕ) → byte-told (ranged s 0 33 at) ≡ NoByte n → done B (read-body ar s r at) ≡ Refused n
+    unfolding read-body counted then
+    body-stop n e = rw (byte-stops (ranged s 0 33 at) n e .1)
+
+    pub body-is : (n m : ℕ) → byte-told (ranged s 0 33 at) ≡ Byte n m → done B (read-body ar s r at) ≡ done B (many end next r n m)
+    unfolding read-body counted then
+    body-is n m e = rw (byte-is (ranged s 0 33 at) n m e)
+
+    -- statements in a row: none, one that is not read, one and the others in its scope
+    pub row-none : (n : ℕ) → n ≡ 0 → done B (many end next r n at) ≡ Value at (nothing c)
+    unfolding many body-facts
+    row-none n e = rw e
+
+    pub row-stop : (n : ℕ) → (n ≡ 0 → ⊥) → (i : ℕ) → done S (r at) ≡ Refused i → done B (many end next r n at) ≡ Refused i
+    unfolding many then
+    row-stop zero z i e = absurd (z refl)
+    row-stop (suc n) z i e = rw (done-stops S (r at) i e .1)
+
+    pub row-more : (n : ℕ) → (n ≡ 0 → ⊥) → (m : ℕ) (d : Done) → done S (r at) ≡ Value m d
+        → done B (many end next r n at) ≡ after (followed d) (done (λ b. body-facts ar types own b (d .after)) (many end next r (n - 1) m))
+    unfolding many then body-facts
+    row-more zero z m d e = absurd (z refl)
+    row-more (suc n) z m d e =
+        let q = done-is S (r at) m d e in
+        rw (q .1, sub-one) (go (q .0) (q .2) (many end next r n m))
+      where
+        go : (t : Stmt) → S t ≡ d → (q : Result Stmts)
+            → done B (then q λ b k. ok (next t b) k) ≡ after (followed d) (done (λ b. body-facts ar types own b (d .after)) q)
+        go t h (ok b k) = rw h
+        go t h (bad u k) = refl
+
+  -- a statement with at most d levels of if: past the end, with no if, with an if at the level below, with an if
+  module _ (d at : ℕ) where
+    pub stmt-out : length s ≤ at → done S (read-stmt ar s d at) ≡ Refused 4
+    unfolding read-stmt opened then
+    stmt-out h = go d
+      where
+        go : (d : ℕ) → done S (read-stmt ar s d at) ≡ Refused 4
+        go zero = rw (byte-out s at h)
+        go (suc d) = rw (byte-out s at h)
+
+    pub stmt-simple : at < length s → (q : StmtRead) → ((w : ℕ → ℕ → Result (Expr × Stmts)) (p : ℕ) → q ≡ done S (rule-stmt ar s w p (at + 1) (kind (getD s at 0))))
+        → q ≡ done S (read-stmt ar s d at)
+    unfolding read-stmt opened then
+    stmt-simple h q f = go d
+      where
+        go : (d : ℕ) → q ≡ done S (read-stmt ar s d at)
+        go zero = rw (byte-in s at h) (f _ at)
+        go (suc d) = rw (byte-in s at h) (f _ at)
+
+    pub stmt-deep : at < length s → getD s at 0 ≡ 1 → d ≡ 0 → done S (read-stmt ar s d at) ≡ Refused 5
+    unfolding read-stmt opened then
+    stmt-deep h e z = rw (z, byte-in s at h) (rule-when _ at (at + 1) _ e)
+
+    pub stmt-when : at < length s → getD s at 0 ≡ 1 → (d ≡ 0 → ⊥)
+        → done S (read-stmt ar s d at) ≡ done (when-facts ar types own c) (read-when ar s (read-stmt ar s (d - 1)) (at + 1))
+    unfolding read-stmt opened then
+    stmt-when h e z = go d z
+      where
+        go : (d : ℕ) → (d ≡ 0 → ⊥) → done S (read-stmt ar s d at) ≡ done (when-facts ar types own c) (read-when ar s (read-stmt ar s (d - 1)) (at + 1))
+        go zero z = absurd (z refl)
+        go (suc d) z = rw (byte-in s at h, sub-one) (rule-when (λ p k. read-when ar s (read-stmt ar s d) k) at (at + 1) _ e)

@@ -1,0 +1,120 @@
+// Statements and bodies, which hold each other through ifs; the unread bytes fall.
+use crate::StmtRead;
+use crate::made;
+use crate::simple;
+use judge::Scope;
+use judge::statement;
+use read_exprs::expr;
+use read_exprs::read;
+use read_exprs::read::ByteRead;
+use read_exprs::read::ExprRead;
+ghost use mathlib.Core.Path.{_≡_};
+ghost use Prim.Native.Nat.{_<_, _≤_};
+ghost use lib.ListN.{length};
+ghost use Rattle.program.specs.Tree.{Stmts.end, Stmts.next};
+ghost use Rattle.program.specs.Reader.{many, read-when, read-body, read-stmt};
+ghost use Rattle.judge.specs.Facts.{stmt-facts, body-facts};
+ghost use Rattle.read_stmts.specs.Done.{done, when-facts, DoneAhead, DoneWithin, DoneBody, DoneBehind};
+
+// A statement with at most depth levels of if.
+pub fn stmt(
+    s: &[u8],
+    ar: &[u8],
+    types: &[u8],
+    own: u8,
+    c: Scope,
+    at: usize,
+    depth: usize,
+) -> StmtRead
+    requires { ⌜ (length (now ar) ≤ 16) × (own < 16) ⌝ }
+    ensures { λ r. ⌜ r ≡ done (λ t. stmt-facts (now (ar .entry)) (now (types .entry)) own t c) (read-stmt (now (ar .entry)) (now (s .entry)) depth at) ⌝ }
+    ensures { λ r. ⌜ DoneAhead (now (s .entry)) at r ⌝ }
+{
+    if s.len() <= at {
+        return StmtRead::Refused(4);
+    }
+    let b = s[at];
+    let k = at + 1;
+    if b != 1 {
+        return simple::simple(s, ar, types, own, c, b, k);
+    }
+    if depth == 0 {
+        return StmtRead::Refused(5);
+    }
+    when(s, ar, types, own, c, k, depth - 1)
+}
+
+// An if's condition, and its body with at most depth levels of if.
+pub fn when(
+    s: &[u8],
+    ar: &[u8],
+    types: &[u8],
+    own: u8,
+    c: Scope,
+    at: usize,
+    depth: usize,
+) -> StmtRead
+    requires { ⌜ (length (now ar) ≤ 16) × (own < 16) ⌝ }
+    ensures { λ r. ⌜ r ≡ done (when-facts (now (ar .entry)) (now (types .entry)) own c) (read-when (now (ar .entry)) (now (s .entry)) (read-stmt (now (ar .entry)) (now (s .entry)) depth) at) ⌝ }
+    ensures { λ r. ⌜ DoneBehind (now (s .entry)) at r ⌝ }
+{
+    let live = c.live;
+    let r = expr::expr(s, ar, types, own, live, at, types::EXPR_LEVELS);
+    let ExprRead::Value(m, f) = r else {
+        return StmtRead::Refused(read::expr_refusal(r));
+    };
+    made::branched(c, f, body(s, ar, types, own, c, m, depth))
+}
+
+// A count, and so many statements with at most depth levels of if.
+pub fn body(
+    s: &[u8],
+    ar: &[u8],
+    types: &[u8],
+    own: u8,
+    c: Scope,
+    at: usize,
+    depth: usize,
+) -> StmtRead
+    requires { ⌜ (length (now ar) ≤ 16) × (own < 16) ⌝ }
+    ensures { λ r. ⌜ r ≡ done (λ b. body-facts (now (ar .entry)) (now (types .entry)) own b c) (read-body (now (ar .entry)) (now (s .entry)) (read-stmt (now (ar .entry)) (now (s .entry)) depth) at) ⌝ }
+    ensures { λ r. ⌜ DoneBody (now (s .entry)) at r ⌝ }
+{
+    let r = read::ranged(s, 0, types::MAX_STATEMENTS + 1, at);
+    let ByteRead::Byte(n, m) = r else {
+        return StmtRead::Refused(read::byte_refusal(r));
+    };
+    stmts(s, ar, types, own, c, n, m, depth)
+}
+
+// That many statements.
+pub fn stmts(
+    s: &[u8],
+    ar: &[u8],
+    types: &[u8],
+    own: u8,
+    c: Scope,
+    n: u8,
+    at: usize,
+    depth: usize,
+) -> StmtRead
+    requires { ⌜ (length (now ar) ≤ 16) × (own < 16) ⌝ }
+    requires { ⌜ at ≤ length (now s) ⌝ }
+    ensures { λ r. ⌜ r ≡ done (λ b. body-facts (now (ar .entry)) (now (types .entry)) own b c) (many end next (read-stmt (now (ar .entry)) (now (s .entry)) depth) n at) ⌝ }
+    ensures { λ r. ⌜ DoneWithin (now (s .entry)) at r ⌝ }
+{
+    let mut done = statement::nothing(c);
+    let mut next = at;
+    let mut left = n;
+    while 0 < left {
+        let scope = done.after;
+        let r = stmt(s, ar, types, own, scope, next, depth);
+        let StmtRead::Value(m, a) = r else {
+            return r;
+        };
+        done = statement::followed(done, a);
+        next = m;
+        left = left - 1;
+    }
+    StmtRead::Value(next, done)
+}

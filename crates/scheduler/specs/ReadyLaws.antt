@@ -1,0 +1,61 @@
+-- Memory that holds a machine whose schedule is not at its end is ready for a move (01, 'Table and turns').
+use Prim.Native.Nat.{ℕ, zero, suc, _*_, _^_, _<_, _≤_}
+use mathlib.Core.Path.{_≡_, refl}
+use mathlib.Core.Bool.{Bool, true, false}
+use mathlib.Core.Option.{some}
+use mathlib.Core.List.{List, [], _∷_}
+use native.Mathlib.Omega.{arith}
+use lib.ListN.{length, getD, getElem?}
+use Rattle.types.specs.Limits.{max-structs}
+use Rattle.machine.specs.Published.{Sched, Sched.done}
+use Rattle.machine.specs.Machine.{Instance, Machine}
+use Rattle.memory.specs.Layout.{State}
+use Rattle.memory.specs.Plan.{fix-code, round-code, At, At.at-end, At.at-start, At.at-start-in, At.at-fix, At.at-round}
+use Rattle.memory.specs.PlanLaws.{at-within}
+use Rattle.memory.specs.Stands.{bits, Stands}
+use Rattle.scheduler.specs.Ready.{spans-size, Rows, Movable}
+
+-- entries are a digit each
+one-digit : (k x : ℕ) → x < 2 ^ k → suc (2 * x) < 2 ^ suc k
+one-digit k x h = omega arith
+
+bits-below : (b : List Bool) → bits b < 2 ^ length b
+unfolding bits
+bits-below [] = omega arith
+bits-below (true ∷ b) = one-digit (length b) (bits b) (bits-below b)
+bits-below (false ∷ b) = let h = one-digit (length b) (bits b) (bits-below b) in omega arith
+
+-- an item that is not the end, and is behind the codes of starts, is a Fix, beginning or going round
+item-is : {items : List ℕ} {a : ℕ} {s : Sched} → At items a s → (s ≡ done → ⊥) → fix-code < getD items a 0 → round-code 0 ≤ getD items a 0
+item-is (at-end e) n h = absurd (n refl)
+item-is (at-start q e r) n h = absurd (omega arith)
+item-is (at-start-in q k e r) n h = absurd (omega arith)
+item-is (at-fix e b q r) n h = absurd (omega arith)
+item-is (at-round b e r) n h = omega arith
+
+at-place : (is : List Instance) (l : ℕ) → l < length is → (i : Instance) × (getElem? is l ≡ some i)
+at-place [] l h = absurd (omega arith)
+at-place (i ∷ is) zero h = (i, refl)
+at-place (i ∷ is) (suc l) h = at-place is l (omega arith)
+
+module _ {list items : List ℕ} (m : Machine) {z : State} (S : Stands list (At items) m z)
+    (known : (l : ℕ) (i : Instance) → getElem? (m .instances) l ≡ some i → i .struct < max-structs) where
+  pub stands-rows : Rows (z .heads) (z .count)
+  stands-rows =
+      let n = S .counted in
+      let f = S .few in
+      let h = S .heads-long in
+      record {
+        long = omega arith;
+        known = λ l q. let (i, g) = at-place (m .instances) l (omega arith) in omega (arith, S .each l i g .struct, known l i g);
+      }
+
+  pub stands-movable : (spans : List ℕ) → spans-size ≤ length spans → (m .sched ≡ done → ⊥)
+      → Movable items spans (z .heads) (z .count) (z .place) (z .fixes) (z .stable)
+  stands-movable spans h n = record {
+    spanned = h;
+    rows = stands-rows;
+    within = at-within items (S .scheduled);
+    item = item-is (S .scheduled) n;
+    entries = rw (S .opened, S .entries) (bits-below (m .stability));
+  }
