@@ -3,12 +3,13 @@ pub mod totals;
 
 use crate::totals::Totals;
 use crate::totals::TotalsRead;
-use judge::fault;
+use judging::fault;
 use read_schedule::params;
 use read_schedule::params::ParamsRead;
 use read_schedule::schedule;
 use read_schedule::schedule::PlanRead;
 use read_schedule::schedule::Planned;
+use types::number;
 ghost use mathlib.Core.Path.{_≡_};
 ghost use mathlib.Core.List.{List, []};
 ghost use Prim.Native.Nat.{ℕ, _≤_};
@@ -49,13 +50,13 @@ fn number(t: Totals, p: Planned) -> u8
     ensures { λ r. ⌜ r ≡ totals-number (with t []) (plan (p .count) (p .fault)) ⌝ }
 {
     if t.over != 0 {
-        return 6;
+        return number::OVER_LIMITS;
     }
     if types::MAX_COMMANDS < t.commands {
-        return 6;
+        return number::OVER_LIMITS;
     }
     if types::SCHEDULE_ITEMS < p.count {
-        return 6;
+        return number::OVER_LIMITS;
     }
     fault::worst(t.fault, p.fault)
 }
@@ -81,7 +82,7 @@ fn end(s: &[u8], has: &[u8], structs: u8, behind: usize, t: Totals, at: usize) -
         return ProgramRead::Refused(schedule::plan_refusal(r));
     };
     if m < s.len() {
-        return ProgramRead::Refused(4);
+        return ProgramRead::Refused(number::WRONG_END);
     }
     ProgramRead::Value(behind, summed(structs, t, p))
 }

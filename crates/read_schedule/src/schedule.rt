@@ -1,7 +1,8 @@
 // The schedule, read and planned in one walk (01, 'Program stream', and number 7): how many items, and whether each step is there.
-use judge::fault;
+use judging::fault;
 use read_exprs::read;
 use read_exprs::read::ByteRead;
+use types::number;
 ghost use mathlib.Core.Path.{_≡_};
 ghost use mathlib.Core.List.{List};
 ghost use Prim.Native.Nat.{ℕ, _+_, _<_, _≤_};
@@ -42,7 +43,7 @@ fn had(has: &[u8], n: u8, k: u8, c: u8) -> bool
     if c == 0 {
         return false;
     }
-    if judge::path::look(has, types::STEP_NAMES * k as usize + n as usize) != 0 {
+    if judging::path::look(has, types::STEP_NAMES * k as usize + n as usize) != 0 {
         return true;
     }
     had(has, n, k + 1, c - 1)
@@ -83,7 +84,7 @@ fn call_in(s: &[u8], has: &[u8], structs: u8, at: usize) -> PlanRead
     let ByteRead::Byte(n, next) = q else {
         return PlanRead::Refused(read::byte_refusal(q));
     };
-    let there = judge::path::look(has, types::STEP_NAMES * k as usize + n as usize);
+    let there = judging::path::look(has, types::STEP_NAMES * k as usize + n as usize);
     PlanRead::Value(next, one(there != 0))
 }
 
@@ -127,7 +128,7 @@ fn item(s: &[u8], has: &[u8], structs: u8, at: usize, depth: usize) -> PlanRead
     ensures { λ r. ⌜ Ahead (now (s .entry)) at r ⌝ }
 {
     if s.len() <= at {
-        return PlanRead::Refused(4);
+        return PlanRead::Refused(number::WRONG_END);
     }
     let b = s[at];
     let k = at + 1;
@@ -138,10 +139,10 @@ fn item(s: &[u8], has: &[u8], structs: u8, at: usize, depth: usize) -> PlanRead
         return call_in(s, has, structs, k);
     }
     if b != 3 {
-        return PlanRead::Refused(5);
+        return PlanRead::Refused(number::WRONG_BYTE);
     }
     if depth == 0 {
-        return PlanRead::Refused(5);
+        return PlanRead::Refused(number::WRONG_BYTE);
     }
     around(items(s, has, structs, k, depth - 1))
 }

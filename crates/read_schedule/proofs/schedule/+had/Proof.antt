@@ -9,7 +9,7 @@ use borrow.Fn.PlainCycle.{Measures, is, falls, and}
 use Rattle.read_schedule.proofs.schedule.had.Reads as had
 use Rattle.read_schedule.proofs.schedule.had.Kinds as had-kinds
 use Rattle.read_schedule.proofs.schedule.+had.Lts-had as had-lts
-use Rattle.judge.proofs.path.look.Reads as look-reads
+use Rattle.judging.proofs.path.look.Reads as look-reads
 use Rattle.read_schedule.proofs.schedule.+had.{statement}
 use Rattle.read_schedule.proofs.schedule.+had.Tie.{close}
 
