@@ -36,6 +36,17 @@ same-row a b c d a′ b′ c′ d′ e f g h = rw (e, f, g, h)
 abbrev numbers : Row → List ℕ
 numbers r = r .structure ∷ r .name ∷ r .start ∷ r .size ∷ []
 
+-- four stores write a row
+pub put-row-is : (l : List ℕ) (i : ℕ) (r : Row) (a b c d : List ℕ) → a ≡ set l (row-places * i) (r .structure) → b ≡ set a (row-places * i + 1) (r .name)
+    → c ≡ set b (row-places * i + 2) (r .start) → d ≡ set c (row-places * i + 3) (r .size) → d ≡ put-row l i r
+unfolding put-row
+put-row-is l i r a b c d e f g h =
+    let k = row-places * i in
+    let x : k + 1 ≡ suc k = omega arith in
+    let y : k + 2 ≡ suc (suc k) = omega arith in
+    let z : k + 3 ≡ suc (suc (suc k)) = omega arith in
+    h ∙ rw (g, f, e, x, y, z)
+
 pub put-row-length : (l : List ℕ) (i : ℕ) (r : Row) → length (put-row l i r) ≡ length l
 unfolding put-row
 put-row-length l i r = length-sets l (row-places * i) (numbers r)
