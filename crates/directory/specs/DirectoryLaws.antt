@@ -6,7 +6,7 @@ use native.Mathlib.Nat.{zero-add}
 use mathlib.Core.Path.{_≡_, refl, ap, sym, _∙_}
 use mathlib.Core.List.{List, [], _∷_, _++_, map, map-append}
 use lib.ListN.{length, getD, take, length-append}
-use Rattle.types.specs.Limits.{max-structs, max-steps}
+use Rattle.types.specs.Limits.{max-structs, max-steps, step-names}
 use Rattle.program.specs.Tree.{Step, Program}
 use Rattle.program.specs.Encoding.{flat}
 use Rattle.program.specs.Counts.{All, Few, CountsStep, Counts}
@@ -42,6 +42,34 @@ total-few n C (a ∷ l) h = omega (arith, h .0 .1, total-few n C l (h .1))
 pub directory-few : (p : Program) → Counts p → length (directory p) ≤ max-structs * max-steps
 unfolding Counts
 directory-few p c = omega (arith, directory-count p, total-few max-steps (CountsStep (arities p)) (p .steps) (c .2), c .1, c .0 .1)
+
+-- Of which struct and name ------------------------------------------------------------
+
+-- a struct and a name that a program may have
+abbrev pub RowInRange : Row → Type 0
+RowInRange r = (r .structure < max-structs) × (r .name < step-names)
+
+all-append : (xs ys : List Row) → All RowInRange xs → All RowInRange ys → All RowInRange (xs ++ ys)
+all-append [] ys h g = g
+all-append (x ∷ xs) ys h g = (h .0, all-append xs ys (h .1) g)
+
+steps-ranged : (ar : List ℕ) (k a : ℕ) (ts : List Step) → k < max-structs → All (CountsStep ar) ts → All RowInRange (steps-rows k a ts)
+unfolding steps-rows CountsStep
+steps-ranged ar k a [] l h = tt
+steps-ranged ar k a (t ∷ ts) l h = ((l, h .0 .0), steps-ranged ar k (a + step-size t) ts l (h .1))
+
+structs-ranged : (ar : List ℕ) (k a : ℕ) (tss : List (List Step)) → k + length tss ≤ max-structs → All (Few 0 max-steps (CountsStep ar)) tss
+    → All RowInRange (structs-rows k a tss)
+unfolding structs-rows
+structs-ranged ar k a [] l h = tt
+structs-ranged ar k a (ts ∷ tss) l h =
+    all-append (steps-rows k a ts) _ (steps-ranged ar k a ts (omega arith) (h .0 .2))
+    (structs-ranged ar (suc k) (a + total step-size ts) tss (omega arith) (h .1))
+
+-- those of the program
+pub directory-ranged : (p : Program) → Counts p → All RowInRange (directory p)
+unfolding Counts directory
+directory-ranged p c = structs-ranged (arities p) 0 0 (p .steps) (omega (arith, c .1, c .0 .1)) (c .2)
 
 -- Where they begin ---------------------------------------------------------------------
 

@@ -1,12 +1,13 @@
 -- Rows that were written are read: each from its four numbers, and all in a row.
 use Prim.Native.Nat.{ℕ, zero, suc, _+_, _-_, _*_, _<_, _≤_}
 use native.Mathlib.Omega.{arith}
-use native.Mathlib.Nat.{add-zero, add-suc, suc-add}
+use native.Mathlib.Nat.{zero-add, add-zero, add-suc, suc-add}
 use native.Mathlib.Numerals.{add-one, sub-one}
 use mathlib.Core.Path.{_≡_, refl, sym, ap, _∙_}
 use mathlib.Core.List.{List, [], _∷_, _++_}
 use lib.ListN.{length, getD, set, take, drop, length-append, List·getD-append}
 use lib.Seq.{sets, length-sets, sets-eq, getD-set-other, getD-append-add, length-take-le}
+use Rattle.program.specs.Counts.{All}
 use Rattle.directory.specs.declared.Row.{Row}
 use Rattle.directory.specs.Directory.{row}
 use Rattle.directory.specs.Rows.{row-places, put-row, put-rows, row-at, rows-from}
@@ -102,3 +103,13 @@ pub rows-more : (l : List ℕ) (i n : ℕ) → (n ≡ 0 → ⊥) → rows-from l
 unfolding rows-from
 rows-more l i zero h = absurd (h refl)
 rows-more l i (suc n) h = rw (add-one, sub-one)
+
+-- what all rows have, each has
+rows-all : (C : Row → Type 0) (l : List ℕ) (i n : ℕ) → All C (rows-from l i n) → (j : ℕ) → j < n → C (row-at l (i + j))
+unfolding rows-from
+rows-all C l i zero h j k = absurd (omega arith)
+rows-all C l i (suc n) h zero k = rw add-zero (h .0)
+rows-all C l i (suc n) h (suc j) k = rw (add-suc, ← suc-add) (rows-all C l (suc i) n (h .1) j (omega arith))
+
+pub rows-each : (C : Row → Type 0) (l : List ℕ) (n : ℕ) → All C (rows-from l 0 n) → (j : ℕ) → j < n → C (row-at l j)
+rows-each C l n h j k = rw zero-add at (rows-all C l 0 n h j k)
