@@ -21,7 +21,7 @@ use Rattle.machine.specs.Machine.{Instance, Machine}
 use Rattle.run.specs.Begin.{params-in, record-of, table-of}
 use Rattle.run.specs.Run.{Outcome.stopped}
 use Rattle.run.specs.Entry.{report-of, output-of}
-use Rattle.sound.specs.Needs.{Of}
+use Rattle.sound.specs.Needs.{ValueAmong}
 use Rattle.sound.specs.Invariant.{Fitted, GoodAll}
 use Rattle.sound.specs.Tabled.{Tabled}
 use Rattle.sound.specs.ElemLaws.{at-below, at-drop}
@@ -85,7 +85,7 @@ module _ (p : Program) (counts : Counts p) (list : List ℕ) (P : ℕ → Sched 
       go : (ξ : Env) → Fitted (m .instances) (params-of p (i .struct)) ξ → ((v : ℕ) (x : Val) → lookup ξ v ≡ some x → Shows (of-cell z (variable l v)) x)
           → cells-bytes (z .cells) (row-size * l) (getD cs (i .struct) 0) ≡ flat enc-value (params-in ξ)
       go (env ps ls) f s =
-          let n : length ps ≡ length (params-of p (i .struct)) = each-length (Of (m .instances)) (params-of p (i .struct)) ps (f .0) in
+          let n : length ps ≡ length (params-of p (i .struct)) = each-length (ValueAmong (m .instances)) (params-of p (i .struct)) ps (f .0) in
           rw (List·getD-map length (p .params) (i .struct) [], ← n)
           (cells-are (z .cells) (row-size * l) ps λ v x q.
           let b : v < length ps = at-below ps v x q in
