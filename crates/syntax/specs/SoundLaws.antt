@@ -95,7 +95,7 @@ runs-kept u [] s = kept s (λ k. refl)
 runs-kept u (t ∷ ts) s = go (step u t) (steps-kept u t s) (λ h. runs-kept (step u t) ts h)
   where
     with : (v : State) → ((k : List Token) → so-far v k ≡ so-far u (t ∷ k)) → {w : State} → Kept (λ k. so-far v (ts ++ k)) w
-    → Kept (λ k. so-far u (t ∷ (ts ++ k))) w
+        → Kept (λ k. so-far u (t ∷ (ts ++ k))) w
     with v e (kept h f) = kept h (λ k. f k ∙ e (ts ++ k))
     with v e lost = lost
 
