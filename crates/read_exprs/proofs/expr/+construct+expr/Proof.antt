@@ -1,54 +1,45 @@
--- `expr::args`, `expr::construct` and `expr::expr` meet their contracts, by a law for each way through them. The unread bytes fall, twice
--- each, and one more counts for arguments.
-use Prim.Native.Nat.{ℕ, _+_, _-_, _*_, _^_, _<_}
+-- `expr::construct` and `expr::expr` meet their contracts, by a law for each way through them. The unread bytes fall. The invariant of the
+-- arguments' loop: those left, behind what was computed of the others, come to what all of them do.
+use Prim.Native.Nat.{ℕ, _-_, _^_, _<_, _≤_}
 use native.Mathlib.Omega.{arith}
-use mathlib.Core.Path.{sym, _∙_}
+use mathlib.Core.Path.{_≡_, refl, ap, sym, _∙_}
 use lib.ListN.{length}
 use Rattle.program.specs.Reader.{read-expr}
 use Rattle.read_exprs.specs.FormWays.{op-form}
-use Rattle.read_exprs.specs.ExprWays.{args-none, args-stop, args-more, make-stop, make-is, expr-out, expr-deep, is-not, is-make, is-leaf, is-none}
-use Rattle.read_exprs.specs.ExprWays.{is-stop, is-op}
-use Rattle.read_exprs.specs.SpanWays.{span-room, ahead-within, behind-ahead, span-not, span-make, span-op, span-arg}
+use Rattle.judge.specs.Facts.{no-args, constructed}
+use Rattle.answers.specs.Answers.{after as made-of}
+use Rattle.read_exprs.specs.Told.{expr-read, ArgsRead}
+use Rattle.read_exprs.specs.ExprWays.{args-row, args-end, args-stop, args-more, args-read, make-stop, make-row, expr-out, expr-deep, is-not, is-make}
+use Rattle.read_exprs.specs.ExprWays.{is-leaf, is-none, is-stop, is-op}
+use Rattle.read_exprs.specs.SpanWays.{span-room, behind-ahead, span-not, no-args-read, span-make, span-op}
 use borrow.Author.Needs.{needs}
 use borrow.Fn.Kinds.{In}
 use borrow.Fn.PlainCycle.{Measures, is, falls, and}
-use Rattle.read_exprs.proofs.expr.args.Reads as args
-use Rattle.read_exprs.proofs.expr.args.Kinds as args-kinds
-use Rattle.read_exprs.proofs.expr.+args+construct+expr.Lts-args as args-lts
 use Rattle.read_exprs.proofs.expr.construct.Reads as construct
 use Rattle.read_exprs.proofs.expr.construct.Kinds as construct-kinds
-use Rattle.read_exprs.proofs.expr.+args+construct+expr.Lts-construct as construct-lts
+use Rattle.read_exprs.proofs.expr.+construct+expr.Lts-construct as construct-lts
 use Rattle.read_exprs.proofs.expr.expr.Reads as expr
 use Rattle.read_exprs.proofs.expr.expr.Kinds as expr-kinds
-use Rattle.read_exprs.proofs.expr.+args+construct+expr.Lts-expr as expr-lts
+use Rattle.read_exprs.proofs.expr.+construct+expr.Lts-expr as expr-lts
 use Rattle.read_exprs.proofs.expr.anew.Reads as anew
 use Rattle.read_exprs.proofs.expr.around.Reads as around
 use Rattle.read_exprs.proofs.expr.beside.Reads as beside-reads
-use Rattle.read_exprs.proofs.expr.joined.Reads as joined
-use Rattle.read_exprs.proofs.expr.over.Reads as over
 use Rattle.read_exprs.proofs.leaf.leaf.Reads as leaf
 use Rattle.read_exprs.proofs.read.byte_refusal.Reads as byte-refusal
 use Rattle.read_exprs.proofs.read.ranged.Reads as ranged
-use Rattle.judging.proofs.expression.no_args.Reads as no-args
+use Rattle.judging.proofs.expression.no_args.Reads as no-args-reads
+use Rattle.judging.proofs.expression.appended.Reads as appended
+use Rattle.judging.proofs.expression.constructed.Reads as constructed-reads
 use Rattle.judging.proofs.path.look.Reads as look
 use Rattle.judging.proofs.path.type_at.Reads as type-at
-use Rattle.read_exprs.proofs.expr.+args+construct+expr.{statement}
-use Rattle.read_exprs.proofs.expr.+args+construct+expr.Tie.{close}
-
-abbrev μ-args : Measures 3 args-kinds.ps ℕ
-μ-args κs a = 2 * (length (a .0 .now) - a .1 .1 .1 .1 .1 .1 .1 .1 .0) + 1
+use Rattle.read_exprs.proofs.expr.+construct+expr.{statement}
+use Rattle.read_exprs.proofs.expr.+construct+expr.Tie.{close}
 
 abbrev μ-construct : Measures 3 construct-kinds.ps ℕ
-μ-construct κs a = 2 * (length (a .0 .now) - a .1 .1 .1 .1 .1 .0)
+μ-construct κs a = length (a .0 .now) - a .1 .1 .1 .1 .1 .0
 
 abbrev μ-expr : Measures 3 expr-kinds.ps ℕ
-μ-expr κs a = 2 * (length (a .0 .now) - a .1 .1 .1 .1 .1 .0)
-
-abbrev args-at : ℕ → In 3 args-kinds.ps
-args-at t = and 3 args-kinds.ps (is 3 args-kinds.ps μ-args t) args.Pre
-
-abbrev args-below : ℕ → In 3 args-kinds.ps
-args-below t = and 3 args-kinds.ps (falls 3 args-kinds.ps _<_ μ-args t) args.Pre
+μ-expr κs a = length (a .0 .now) - a .1 .1 .1 .1 .1 .0
 
 abbrev construct-at : ℕ → In 3 construct-kinds.ps
 construct-at t = and 3 construct-kinds.ps (is 3 construct-kinds.ps μ-construct t) construct.Pre
@@ -63,12 +54,25 @@ expr-at t = and 3 expr-kinds.ps (is 3 expr-kinds.ps μ-expr t) expr.Pre
 abbrev expr-below : ℕ → In 3 expr-kinds.ps
 expr-below t = and 3 expr-kinds.ps (falls 3 expr-kinds.ps _<_ μ-expr t) expr.Pre
 
-abbrev args-claims : ℕ → args-lts.Claims
-args-claims t = (no-args.Asked, no-args.Learnt, expr-below t, expr.Post, type-at.Asked, type-at.Learnt, args-below t, args.Post, joined.Asked, joined.Learnt)
-
 abbrev construct-claims : ℕ → construct-lts.Claims
-construct-claims t =
-    (ranged.Asked, ranged.Learnt, byte-refusal.Asked, byte-refusal.Learnt, look.Asked, look.Learnt, args-below t, args.Post, over.Asked, over.Learnt)
+construct-claims t = (
+  ranged.Asked,
+  ranged.Learnt,
+  byte-refusal.Asked,
+  byte-refusal.Learnt,
+  look.Asked,
+  look.Learnt,
+  no-args-reads.Asked,
+  no-args-reads.Learnt,
+  expr-below t,
+  expr.Post,
+  type-at.Asked,
+  type-at.Learnt,
+  appended.Asked,
+  appended.Learnt,
+  constructed-reads.Asked,
+  constructed-reads.Learnt,
+)
 
 abbrev expr-claims : ℕ → expr-lts.Claims
 expr-claims t = (
@@ -86,92 +90,115 @@ expr-claims t = (
   beside-reads.Learnt,
 )
 
--- the places of `args` that proofs look back to
-abbrev args-start : (t : ℕ) → args-lts.Else1 (args-claims t) (args-at t) args.Post → args-lts.Start (args-claims t) (args-at t) args.Post
-args-start t c = c .before .before .before .before
+abbrev construct-Inv-loop : construct-lts.InvT-loop
+construct-Inv-loop s ar types own live at depth k m n all₀ next₀ x₀ all next x =
+    ((x ≤ n) × ArgsRead s m next x all)
+    × (args-row ar types s own live (read-expr ar s depth) k 0 no-args n m ≡ args-row ar types s own live (read-expr ar s depth) k x all (n - x) next)
 
-abbrev args-start₂ : (t : ℕ) → args-lts.After-expr (args-claims t) (args-at t) args.Post → args-lts.Start (args-claims t) (args-at t) args.Post
-args-start₂ t c = args-start t (c .before)
+abbrev construct-μ-loop : construct-lts.MeasureT-loop
+construct-μ-loop s ar types own live at depth k m n all₀ next₀ x₀ all next x = n - x
 
-abbrev args-start₃ : (t : ℕ) → args-lts.After-type-at (args-claims t) (args-at t) args.Post → args-lts.Start (args-claims t) (args-at t) args.Post
-args-start₃ t c = args-start₂ t (c .before .before .before .before)
+-- the places of `construct` that proofs look back to
+abbrev construct-start :
+    (t : ℕ) → construct-lts.After-ranged (construct-claims t) (construct-at t) construct.Post construct-Inv-loop construct-μ-loop
+    → construct-lts.Start (construct-claims t) (construct-at t) construct.Post construct-Inv-loop construct-μ-loop
+construct-start t c = c .before .before .before .before
 
-args-returns : (t : ℕ) → args-lts.Need-returns (args-claims t) (args-at t) args.Post
-args-returns t c =
-    let at-if1 = c .before in let start = at-if1 .before .before .before .before in
-    let a = start .args in let s = a .s .now in
-    rw (c .no-args .ensures) (
-      sym (args-none (a .ar .now) (a .types .now) s (a .own) (a .live) (read-expr (a .ar .now) s (a .depth)) (a .k) (a .x)
-          (a .at) (a .n) (at-if1 .if1 .taken)),
-      omega (arith, start .pre),
-    )
+abbrev construct-at-ranged :
+    (t : ℕ) → construct-lts.After-known-told (construct-claims t) (construct-at t) construct.Post construct-Inv-loop construct-μ-loop
+    → construct-lts.After-ranged (construct-claims t) (construct-at t) construct.Post construct-Inv-loop construct-μ-loop
+construct-at-ranged t c = c .before .before .before
 
-args-returns-2 : (t : ℕ) → args-lts.Need-returns-2 (args-claims t) (args-at t) args.Post
-args-returns-2 t c =
-    let at-expr = c .before .before in let a = args-start₂ t at-expr .args in let s = a .s .now in (
-      c .enum-told .given .1
-          ∙ sym (args-stop (a .ar .now) (a .types .now) s (a .own) (a .live) (read-expr (a .ar .now) s (a .depth)) (a .k) (a .x) (a .at) (a .n)
-          (at-expr .before .if1 .left) _ (sym (at-expr .expr .ensures .0) ∙ c .enum-told .given .1)),
-      ahead-within s (a .at) (at-expr .expr .result) (at-expr .expr .ensures .1),
-    )
+abbrev construct-at-struct :
+    (t : ℕ) → construct-lts.At-loop (construct-claims t) (construct-at t) construct.Post construct-Inv-loop construct-μ-loop
+    → construct-lts.After-known-told (construct-claims t) (construct-at t) construct.Post construct-Inv-loop construct-μ-loop
+construct-at-struct t c = c .before .before .before
 
-args-args-requires : (t : ℕ) → args-lts.Need-args-requires (args-claims t) (args-at t) args.Post
-args-args-requires t c κs =
-    let ahead = rw (c .before .before .first .given .1) at (c .before .before .before .before .expr .ensures .1) in
-    (omega (arith, args-start₃ t c .pre), (args-start₃ t c .pre .1 .0, omega (arith, args-start₃ t c .pre)))
+abbrev construct-start₂ :
+    (t : ℕ) → construct-lts.At-loop (construct-claims t) (construct-at t) construct.Post construct-Inv-loop construct-μ-loop
+    → construct-lts.Start (construct-claims t) (construct-at t) construct.Post construct-Inv-loop construct-μ-loop
+construct-start₂ t c = construct-start t (construct-at-ranged t (construct-at-struct t c))
 
-args-joined-requires : (t : ℕ) → args-lts.Need-joined-requires (args-claims t) (args-at t) args.Post
-args-joined-requires t c κs =
-    let at-first = c .before .before .before in let at-expr = at-first .before .before in
-    let start = args-start t (at-expr .before) in let a = start .args in
-    let small : length (a .s .now) < 2 ^ 63 = omega (arith, start .good .0) in
-    let ahead = rw (at-first .first .given .1) at (at-expr .expr .ensures .1) in
-    (omega arith, span-room (a .s .now) _ _ (c .args2 .result) small (c .args2 .ensures .1))
-
-args-returns-3 : (t : ℕ) → args-lts.Need-returns-3 (args-claims t) (args-at t) args.Post
-args-returns-3 t c =
-    let at-type-at = c .before .before in let at-first = at-type-at .before .before in
-    let at-expr = at-first .before .before in let at-if1 = at-expr .before in
-    let a = at-if1 .before .before .before .before .args in let s = a .s .now in
-    let ahead = rw (at-first .first .given .1) at (at-expr .expr .ensures .1) in
-    let law = args-more (a .ar .now) (a .types .now) s (a .own) (a .live) (read-expr (a .ar .now) s (a .depth)) (a .k) (a .x) (a .at) (a .n)
-    (at-if1 .if1 .left) _ _ (sym (at-expr .expr .ensures .0) ∙ at-first .first .given .1) in (
-      (rw (at-type-at .type-at .ensures, c .before .args2 .ensures .0) at (c .joined .ensures)) ∙ sym law,
-      rw (c .joined .ensures) (span-arg s (a .at) _ _ _ (c .before .args2 .result) ahead (c .before .args2 .ensures .1)),
-    )
-
-construct-returns : (t : ℕ) → construct-lts.Need-returns (construct-claims t) (construct-at t) construct.Post
+construct-returns : (t : ℕ) → construct-lts.Need-returns (construct-claims t) (construct-at t) construct.Post construct-Inv-loop construct-μ-loop
 construct-returns t c =
     let at-ranged = c .before .before .before in
-    let a = at-ranged .before .before .before .before .args in let s = a .s .now in
+    let a = construct-start t at-ranged .args in let s = a .s .now in
     let e = sym (at-ranged .ranged .ensures .0) ∙ c .before .enum-told .given .1 in
     rw (c .byte-refusal .ensures, c .before .enum-told .given .1)
     (sym (make-stop (a .ar .now) (a .types .now) s (a .own) (a .live) (read-expr (a .ar .now) s (a .depth)) 0 (a .at) _ e), tt)
 
-construct-args-requires : (t : ℕ) → construct-lts.Need-args-requires (construct-claims t) (construct-at t) construct.Post
-construct-args-requires t c κs =
-    let at-ranged = c .before .before .before .before in let start = at-ranged .before .before .before .before in
-    let span = rw (c .before .before .r .given .1) at (c .before .before .before .before .ranged .ensures .1) in
-    (omega (arith, start .pre), (start .pre .1, omega arith))
-
-construct-over-requires : (t : ℕ) → construct-lts.Need-over-requires (construct-claims t) (construct-at t) construct.Post
-construct-over-requires t c κs =
+construct-loop-holds : (t : ℕ) → construct-lts.Need-loop-holds (construct-claims t) (construct-at t) construct.Post construct-Inv-loop construct-μ-loop
+construct-loop-holds t c =
     let at-r = c .before .before .before in let at-ranged = at-r .before .before in
-    let start = at-ranged .before .before .before .before in let a = start .args in
+    let span = rw (at-r .r .given .1) at (at-ranged .ranged .ensures .1) in
+    let whole : c .before .look .result - 0 ≡ c .before .look .result = omega arith in
+    rw (c .no-args .ensures) ((omega arith, no-args-read (construct-start t at-ranged .args .s .now) _ (span .1)), rw whole refl)
+
+construct-expr-requires : (t : ℕ) → construct-lts.Need-expr-requires (construct-claims t) (construct-at t) construct.Post construct-Inv-loop construct-μ-loop
+construct-expr-requires t c κs =
+    let at-loop = c .before in let start = construct-start₂ t at-loop in
+    let at-r = at-loop .before .before .before .before in let at-ranged = at-r .before .before in
+    let span = rw (at-r .r .given .1) at (at-ranged .ranged .ensures .1) in
+    (omega (arith, start .pre, at-loop .loop .inv .0 .1 .within), start .pre .1)
+
+construct-returns-2 : (t : ℕ) → construct-lts.Need-returns-2 (construct-claims t) (construct-at t) construct.Post construct-Inv-loop construct-μ-loop
+construct-returns-2 t c =
+    let at-expr = c .before .before in let at-loop = at-expr .before .before in let at-r = at-loop .before .before .before .before in
+    let at-ranged = at-r .before .before in let a = construct-start t at-ranged .args in
+    let s = a .s .now in let loop = at-loop .loop in let read = read-expr (a .ar .now) s (a .depth) in
+    let e = c .enum-told2 .given .1 in
+    let opened = sym (at-ranged .ranged .ensures .0) ∙ at-r .r .given .1 in
+    let law = loop .inv .1 ∙ args-stop (a .ar .now) (a .types .now) s (a .own) (a .live) read (at-r .r .given .0 .0) _ (loop .x) (loop .all) (loop .next) (omega arith) _
+    (sym (at-expr .expr .ensures .0) ∙ e) in
+    let all = make-row (a .ar .now) (a .types .now) s (a .own) (a .live) read 0 (a .at) _ _ opened in
+    (e ∙ ap (λ y. expr-read (made-of (constructed (at-r .r .given .0 .0)) y)) (sym (rw (at-loop .before .before .look .ensures) at law)) ∙ all, rw e tt)
+
+construct-appended-requires :
+    (t : ℕ) → construct-lts.Need-appended-requires (construct-claims t) (construct-at t) construct.Post construct-Inv-loop construct-μ-loop
+construct-appended-requires t c κs =
+    let at-q = c .before .before in let at-expr = at-q .before .before in let at-loop = at-expr .before .before in
+    let a = construct-start₂ t at-loop .args in
+    let small : length (a .s .now) < 2 ^ 63 = omega (arith, construct-start₂ t at-loop .good .0) in
+    let ahead = rw (at-q .q .given .1) at (at-expr .expr .ensures .1) in
+    let read = at-loop .loop .inv .0 .1 .within in
+    omega arith
+
+construct-loop-again : (t : ℕ) → construct-lts.Need-loop-again (construct-claims t) (construct-at t) construct.Post construct-Inv-loop construct-μ-loop
+construct-loop-again t c =
+    let at-q = c .before .before .before in let at-expr = at-q .before .before in let at-loop = at-expr .before .before in
+    let at-look = at-loop .before .before in let k = at-look .before .before .r .given .0 .0 in
+    let a = construct-start₂ t at-loop .args in let s = a .s .now in let loop = at-loop .loop in
+    let read = read-expr (a .ar .now) s (a .depth) in
+    let ahead = rw (at-q .q .given .1) at (at-expr .expr .ensures .1) in
+    let e = sym (at-expr .expr .ensures .0) ∙ at-q .q .given .1 in
+    rw (c .appended .ensures, c .before .type-at .ensures) (
+      (omega arith, args-read (a .ar .now) (a .types .now) s (a .own) (a .live) read k (at-look .look .result) (loop .x) (loop .all) (loop .next) _ _ _ e ahead (loop .inv .0 .1)),
+      loop .inv .1 ∙ args-more (a .ar .now) (a .types .now) s (a .own) (a .live) read k (at-look .look .result) (loop .x) (loop .all) (loop .next) (omega arith) _ _ e,
+    )
+
+construct-constructed-requires :
+    (t : ℕ) → construct-lts.Need-constructed-requires (construct-claims t) (construct-at t) construct.Post construct-Inv-loop construct-μ-loop
+construct-constructed-requires t c κs =
+    let at-loop = c .before in let start = construct-start₂ t at-loop in let a = start .args in
+    let at-r = at-loop .before .before .before .before in let at-ranged = at-r .before .before in
     let small : length (a .s .now) < 2 ^ 63 = omega (arith, start .good .0) in
     let span = rw (at-r .r .given .1) at (at-ranged .ranged .ensures .1) in
-    (omega (arith, start .pre .1), span-room (a .s .now) _ _ (c .args2 .result) small (c .args2 .ensures .1))
+    let read = at-loop .loop .inv .0 .1 .within in
+    omega (arith, start .pre .1)
 
-construct-returns-2 : (t : ℕ) → construct-lts.Need-returns-2 (construct-claims t) (construct-at t) construct.Post
-construct-returns-2 t c =
-    let at-look = c .before .before in let at-r = at-look .before .before in let at-ranged = at-r .before .before in
-    let a = at-ranged .before .before .before .before .args in let s = a .s .now in
-    let e = sym (at-ranged .ranged .ensures .0) ∙ at-r .r .given .1 in
+construct-returns-3 : (t : ℕ) → construct-lts.Need-returns-3 (construct-claims t) (construct-at t) construct.Post construct-Inv-loop construct-μ-loop
+construct-returns-3 t c =
+    let at-loop = c .before .before in let at-r = at-loop .before .before .before .before in
+    let at-ranged = at-r .before .before in let a = construct-start t at-ranged .args in
+    let s = a .s .now in let loop = at-loop .loop in let read = read-expr (a .ar .now) s (a .depth) in
     let span = rw (at-r .r .given .1) at (at-ranged .ranged .ensures .1) in
-    let rest = rw (at-look .look .ensures) at (c .before .args2 .ensures .0) in
-    let law = make-is (a .ar .now) (a .types .now) s (a .own) (a .live) (read-expr (a .ar .now) s (a .depth)) 0 (a .at) _ _ e in (
-      (rw rest at (c .over .ensures)) ∙ sym law,
-      rw (c .over .ensures) (span-make s (a .at) _ _ (c .before .args2 .result) (span .0) (span .1) (c .before .args2 .ensures .1)),
+    let opened = sym (at-ranged .ranged .ensures .0) ∙ at-r .r .given .1 in
+    let law = loop .inv .1 ∙ args-end (a .ar .now) (a .types .now) s (a .own) (a .live) read (at-r .r .given .0 .0) _ (loop .x) (loop .all) (loop .next) (omega arith)
+    (loop .inv .0 .1 .high) (loop .inv .0 .1 .untyped) in
+    let all = make-row (a .ar .now) (a .types .now) s (a .own) (a .live) read 0 (a .at) _ _ opened in
+    rw (c .constructed .ensures) (
+      ap (λ y. expr-read (made-of (constructed (at-r .r .given .0 .0)) y)) (sym (rw (at-loop .before .before .look .ensures) at law)) ∙ all,
+      span-make s (a .at) _ _ _ (loop .x) (loop .all) (span .0) (loop .inv .0 .1),
     )
 
 -- the places of `expr` that proofs look back to
@@ -292,16 +319,14 @@ expr-returns-8 t c =
       rw beside (span-op s (a .at) _ (o .0) _ (at-expr3 .expr3 .result) ahead (at-expr3 .expr3 .ensures .1)),
     )
 
-pub +args+construct+expr-spec : {M : Type 1} → statement M
-+args+construct+expr-spec =
-    close μ-args μ-construct μ-expr
-    (λ t. args-lts.spec (args-claims t) (args-at t) args.Post (λ c κs. search needs) (args-returns t)
-    (λ c κs. (omega (arith, c .before .before .before .before .pre), c .before .before .before .before .pre .1 .0)) (λ c. search needs)
-    (λ c. search needs) (args-returns-2 t) (λ c κs. search needs) (λ c. omega (arith, args-start₃ t c .pre))
-    (λ c. omega (arith, args-start₃ t c .pre)) (args-args-requires t) (args-joined-requires t) (args-returns-3 t))
-    (λ t. construct-lts.spec (construct-claims t) (construct-at t) construct.Post (λ c κs. search needs) (λ c. search needs) (λ c. search needs)
-    (λ c κs. search needs) (construct-returns t) (λ c. omega (arith, c .known-told)) (λ c κs. search needs) (construct-args-requires t)
-    (construct-over-requires t) (construct-returns-2 t))
+pub +construct+expr-spec : {M : Type 1} → statement M
++construct+expr-spec =
+    close μ-construct μ-expr
+    (λ t. construct-lts.spec (construct-claims t) (construct-at t) construct.Post construct-Inv-loop construct-μ-loop (λ c κs. search needs)
+    (λ c. search needs) (λ c. search needs) (λ c κs. search needs) (construct-returns t) (λ c. omega (arith, c .known-told)) (λ c κs. search needs)
+    (λ c κs. search needs) (construct-loop-holds t) (construct-expr-requires t) (λ c. search needs) (λ c. search needs) (construct-returns-2 t)
+    (λ c κs. search needs) (construct-appended-requires t) (λ c. search needs) (λ c. search needs) (construct-loop-again t)
+    (construct-constructed-requires t) (construct-returns-3 t))
     λ t. expr-lts.spec (expr-claims t) (expr-at t) expr.Post (expr-returns t) (expr-returns-2 t) (λ c. search needs) (λ c. search needs)
     (λ c. search needs) (expr-expr-requires t) (expr-around-requires t) (expr-returns-3 t) (expr-construct-requires t) (λ c κs. search needs)
     (expr-returns-4 t) (expr-leaf-requires t) (expr-returns-5 t) (expr-returns-6 t)
