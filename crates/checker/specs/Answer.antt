@@ -3,7 +3,7 @@ use Prim.Native.Nat.{ℕ}
 use Rattle.blocks.specs.Images.{program-number}
 use Rattle.blocks.specs.declared.Read.{Read}
 use Rattle.blocks.specs.declared.Read.the-variants.{Stream, Refused, Short}
-use Rattle.run.specs.Entry.{Verdict as Judgement}
+use Rattle.verdict.specs.Verdict.{Verdict as Judgement}
 use Rattle.read_program.specs.declared.Summary.{Summary}
 use Rattle.checker.specs.declared.Verdict.{Verdict}
 

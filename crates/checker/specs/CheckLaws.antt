@@ -13,9 +13,9 @@ use Rattle.types.specs.Limits.{max-commands, max-depth, max-steps, program-bloc
 use Rattle.types.specs.Types.{Ty}
 use Rattle.blocks.specs.Images.{fault, stream, read as image-read, read-into, program-number as block-number}
 use Rattle.blocks.specs.AnswerLaws.{read-says, stream-most}
-use Rattle.blocks.specs.declared.Fault.{Fault}
-use Rattle.blocks.specs.declared.Found.{Found}
-use Rattle.blocks.specs.declared.Found.the-variants.{Right, Wrong}
+use Rattle.block.specs.declared.Fault.{Fault}
+use Rattle.block.specs.declared.Found.{Found}
+use Rattle.block.specs.declared.Found.the-variants.{Right, Wrong}
 use Rattle.blocks.specs.declared.Read.{Read}
 use Rattle.blocks.specs.declared.Read.the-variants.{Stream, Refused as ImageRefused, Short as ImageShort}
 use Rattle.blocks.proofs.Read.{the-type}
@@ -39,7 +39,7 @@ use Rattle.emit.specs.Written.{Ready, Wrote}
 use Rattle.emit.specs.ProgramWords.{step-words, steps-words, structs-words, structs-at, program-words as emitted-words}
 use Rattle.emit.specs.WordLaws.{words-append}
 use Rattle.emit.specs.ProgramLaws.{Standing, program-length, program-steps, whole-program, program-ready, program-wrote}
-use Rattle.run.specs.Entry.{Checked, Checked.accepted, Checked.refused, judge, of-read, of-image, checked, of-steps, of-structs, program-words, listed, Verdict as Judgement, refusal, approval, no-room, verdict-of, list-of}
+use Rattle.verdict.specs.Verdict.{Checked, Checked.accepted, Checked.refused, judge, of-read, of-image, checked, of-steps, of-structs, program-words, listed, Verdict as Judgement, refusal, approval, no-room, verdict-of, list-of}
 use Rattle.read_program.specs.declared.Summary.{Summary}
 use Rattle.read_program.specs.declared.ProgramRead.the-variants.{Value, Refused}
 use Rattle.read_program.specs.Whole.{summary, place-of, program-told}

@@ -6,7 +6,7 @@ use read_program::Summary;
 ghost use mathlib.Core.Path.{_≡_};
 ghost use Prim.Native.Nat.{_<_};
 ghost use Rattle.program.specs.Reader.{read};
-ghost use Rattle.run.specs.Entry.{of-read, refusal, verdict-of, list-of, check-verdict, check-list};
+ghost use Rattle.verdict.specs.Verdict.{of-read, refusal, verdict-of, list-of, check-verdict, check-list};
 ghost use Rattle.checker.specs.Answer.{answer, approved, image-refusal};
 
 // 01's number of a lent list with too few places.

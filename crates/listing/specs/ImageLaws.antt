@@ -13,10 +13,10 @@ use Rattle.commands.specs.Bounds.{Within}
 use Rattle.emit.specs.Written.{code-of}
 use Rattle.emit.specs.ProgramWords.{program-words}
 use Rattle.emit.specs.ProgramLaws.{program-length as words-length}
-use Rattle.run.specs.Entry.{Checked.accepted, Checked.refused, checked, approval, listed, check-verdict, check-list}
-use Rattle.run.specs.Input.{Accepted, program-order}
-use Rattle.run.specs.InputOrder.{Numbered, foremost-numbered, Tells, Tells.refuses, Tells.passes}
-use Rattle.run.specs.InputProgram.{Passed, tell-checked}
+use Rattle.verdict.specs.Verdict.{Checked.accepted, Checked.refused, checked, approval, listed, check-verdict, check-list}
+use Rattle.verdict.specs.ProgramInput.{Accepted, program-order}
+use Rattle.verdict.specs.InputOrder.{Numbered, foremost-numbered, Tells, Tells.refuses, Tells.passes}
+use Rattle.verdict.specs.ProgramInputLaws.{Passed, tell-checked}
 use Rattle.checker.specs.declared.Verdict.{Verdict}
 use Rattle.checker.specs.Answer.{answer}
 use Rattle.checker.specs.CheckLaws.{refused-answers, room-answers, same-words}

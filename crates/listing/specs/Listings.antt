@@ -6,7 +6,7 @@ use lib.ListN.{length}
 use Rattle.program.specs.Tree.{Program}
 use Rattle.commands.specs.Bounds.{total, program-size, program-depth}
 use Rattle.machine.specs.Published.{structs}
-use Rattle.run.specs.Entry.{Checked, Checked.accepted, Checked.refused, checked}
+use Rattle.verdict.specs.Verdict.{Checked, Checked.accepted, Checked.refused, checked}
 use Rattle.text.specs.Listing.{row}
 use Rattle.step_lines.specs.Lines.{program-lines}
 

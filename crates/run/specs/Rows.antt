@@ -10,16 +10,19 @@ use lib.IntN.{pos}
 use borrow.Author.Tests.{le-ltb}
 use Rattle.types.specs.Limits.{max-commands}
 use Rattle.types.specs.Values.{Val, Val.int-val}
-use Rattle.blocks.specs.Blocks.{pair-at, pair, index, used, used-part, unused-part, used-right, zeros as zero-bytes, laid-out, front, block-of}
+use Rattle.numbers.specs.Numbers.{pair-at}
+use Rattle.block.specs.Block.{pair, index, used, used-part, unused-part, used-right, zeros as zero-bytes, laid-out, front, block-of}
 use Rattle.blocks.specs.Images.{length-right, block, is-last, joined, stream, piece, image-of, image}
 use Rattle.program.specs.Counts.{All}
 use Rattle.program.specs.Reader.{read}
 use Rattle.program.specs.Rows.{program, adding, addings}
-use Rattle.run.specs.Entry.{Checked, Checked.accepted, Checked.refused, of-read, of-image, of-table-image, report-of, run-report-by, program-words, listed, list-of, check-list}
+use Rattle.verdict.specs.Verdict.{Checked, Checked.accepted, Checked.refused, of-read, of-image, program-words, listed, list-of, check-list}
+use Rattle.run.specs.Entry.{of-table-image, report-of, run-report-by}
 use Rattle.run.specs.EntryStreams.{summary, begins-streams}
-use Rattle.run.specs.EntryStreamLaws.{checked-image}
+use Rattle.verdict.specs.VerdictLaws.{checked-image}
 use Rattle.run.specs.RowsOpen.{running}
-use Rattle.run.specs.RowPrograms.{P, P-with, once, twice, one-in-fix, local-7, both-sides, constructing, inner-fix, itself, nothing, chosen-by, along-path, leaving, cell, single, empty, cells, plain}
+use Rattle.verdict.specs.Rows.{P}
+use Rattle.run.specs.RowPrograms.{P-with, once, twice, one-in-fix, local-7, both-sides, constructing, inner-fix, itself, nothing, chosen-by, along-path, leaving, cell, single, empty, cells, plain}
 use Rattle.run.specs.Swept.{plain-sum, falling-sum, swept-right, swept-fault, swept-block, block-is, first-swept, swept}
 use Rattle.run.specs.RowLaws.{each, Row, RowRight, computed, said, rows-follow, ImageRow, reports, swept-number, swept-over, images-follow, Kept, at-last, kept}
 use Rattle.run.specs.Bench.{row, ok, zeros, of-P, two}

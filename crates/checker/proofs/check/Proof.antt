@@ -4,7 +4,7 @@ use mathlib.Core.Path.{_≡_, sym, ap, _∙_}
 use lib.ListN.{take, length-replicate}
 use lib.Seq.{length-take-le}
 use Rattle.blocks.specs.Images.{stream}
-use Rattle.run.specs.Entry.{checked, check-verdict, check-list}
+use Rattle.verdict.specs.Verdict.{checked, check-verdict, check-list}
 use Rattle.checker.specs.Answer.{answer}
 use Rattle.checker.specs.CheckLaws.{refused-answers, image-unread, image-stream, image-front}
 use borrow.Author.Needs.{needs}

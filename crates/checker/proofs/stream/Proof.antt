@@ -3,7 +3,7 @@ use native.Mathlib.Omega.{arith}
 use mathlib.Core.Path.{sym, ap, _∙_}
 use lib.Seq.{length-take-le}
 use Rattle.program.specs.Reader.{read}
-use Rattle.run.specs.Entry.{of-read}
+use Rattle.verdict.specs.Verdict.{of-read}
 use Rattle.checker.specs.Answer.{answer}
 use Rattle.checker.specs.CheckLaws.{refused-answers, short-answers, room-answers, stream-stops, stream-value, numbered, passed, approved-is}
 use Rattle.checker.specs.CheckLaws.{few, small, ready, wrote}
