@@ -2,7 +2,7 @@
 -- stream, which stands in front of the buffer.
 use Prim.Native.Nat.{ℕ, _*_, _≤_}
 use native.Mathlib.Omega.{arith}
-use mathlib.Core.Path.{_≡_, refl, ap, sym}
+use mathlib.Core.Path.{_≡_, refl, ap, sym, _∙_}
 use mathlib.Core.List.{List}
 use lib.ListN.{length, take}
 use lib.Seq.{take-at}
@@ -10,11 +10,22 @@ use Rattle.block.specs.Block.{payload-size}
 use Rattle.block.specs.declared.Fault.{Fault}
 use Rattle.block.specs.declared.Found.{Found}
 use Rattle.block.specs.declared.Found.the-variants.{Right, Wrong}
-use Rattle.blocks.specs.Images.{fault, stream, read, opened, opened-into}
+use Rattle.blocks.specs.Images.{fault, stream, read, read-into, opened, opened-into}
 use Rattle.blocks.specs.AnswerLaws.{read-says, stream-most}
+use Rattle.blocks.specs.declared.Read.{Read}
 use Rattle.blocks.specs.declared.Read.the-variants.{Stream, Refused, Short}
 use Rattle.blocks.specs.declared.Opened.{Opened}
 use Rattle.blocks.specs.declared.Opened.the-variants.{Stream as Open, Refused as Shut}
+
+-- the buffer behind an image that was read, and behind one that was not
+module _ (s b b′ : List ℕ) (r : Read) (h : b′ ≡ read-into r s b) where
+  pub into-stream : (n : ℕ) → r ≡ Stream n → b′ ≡ opened-into (Open n) s b
+  unfolding read-into opened-into
+  into-stream n e = h ∙ ap (λ (q : Read). read-into q s b) e
+
+  pub into-refused : (f : Fault) → r ≡ Refused f → b′ ≡ opened-into (Shut f) s b
+  unfolding read-into opened-into
+  into-refused f e = h ∙ ap (λ (q : Read). read-into q s b) e
 
 module _ (max : ℕ) (x : List ℕ) where
   -- One law for each way through the function that opens an image ------------------------

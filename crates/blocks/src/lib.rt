@@ -97,7 +97,7 @@ pub fn read_image(image: &[u8], max: usize, buffer: &mut [u8]) -> Read
 }
 
 // The stream of an image where max blocks are allowed, in a buffer that has room for the payloads of as many.
-pub fn open(image: &[u8], max: usize, buffer: &mut [u8]) -> Opened
+pub fn open_image(image: &[u8], max: usize, buffer: &mut [u8]) -> Opened
     requires { ⌜ payload-size * max ≤ length (now buffer) ⌝ }
     ensures { λ r. ⌜ r ≡ opened (fault max (now (image .entry))) (length (stream (now (image .entry)))) ⌝ }
     ensures { λ r. ⌜ now (buffer .exit) ≡ opened-into r (stream (now (image .entry))) (now (buffer .entry)) ⌝ }

@@ -14,7 +14,7 @@ use Rattle.read_schedule.specs.ParamsTold.{ParamsKept}
 use Rattle.read_schedule.specs.ParamsWays.{table-length}
 use Rattle.verdict.specs.Verdict.{Checked.accepted, judge, of-read}
 use Rattle.read_program.specs.declared.Summary.{Summary}
-use Rattle.checker.specs.CheckLaws.{Behind, number-is, counted, here, table}
+use Rattle.load.specs.StreamLaws.{Behind, number-is, counted, here, table}
 use Rattle.run_images.specs.Stages.{Admitted}
 
 -- an admitted program is accepted

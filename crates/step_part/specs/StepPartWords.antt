@@ -21,7 +21,7 @@ use Rattle.verdict.specs.Verdict.{Checked, Checked.accepted, Checked.refused, o
 use Rattle.verdict.specs.VerdictLaws.{checked-image}
 use Rattle.verdict.specs.ProgramInputLaws.{checked-accepted, check-approved}
 use Rattle.verdict.specs.Rows.{P}
-use Rattle.run.specs.Rows.{listed-P}
+use Rattle.verdict.specs.Rows.{listed-P}
 use Rattle.verdict.specs.Rows.{checking}
 use Rattle.step_part.specs.declared.Search.{Search}
 use Rattle.step_part.specs.declared.Spot.{Spot}
