@@ -24,7 +24,7 @@ use Rattle.program.specs.Reader.{Result.ok, read}
 use Rattle.commands.specs.Coding.{words}
 use Rattle.commands.specs.Bounds.{step-list, arities, program-size, Within}
 use Rattle.commands.specs.NumbersLaws.{number-accepted}
-use Rattle.read_schedule.specs.ParamsWays.{from-start}
+use Rattle.read_params.specs.ParamsWays.{from-start}
 use Rattle.emit.specs.declared.Put.{Put}
 use Rattle.emit.specs.Written.{Ready, Wrote}
 use Rattle.emit.specs.ProgramWords.{step-words, steps-words, structs-words, structs-at, program-words as emitted-words}

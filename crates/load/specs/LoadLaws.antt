@@ -21,8 +21,8 @@ use Rattle.commands.specs.Bounds.{arities, program-depth}
 use Rattle.commands.specs.Numbers.{program-number}
 use Rattle.verdict.specs.Verdict.{Checked, Checked.accepted, Checked.refused, judge, of-read, of-image, checked}
 use Rattle.judge.specs.ProgramFacts.{types-table}
-use Rattle.read_schedule.specs.ParamsTold.{ParamsKept}
-use Rattle.read_schedule.specs.ParamsWays.{table-length}
+use Rattle.read_params.specs.ParamsTold.{ParamsKept}
+use Rattle.read_params.specs.ParamsWays.{table-length}
 use Rattle.emit.specs.ProgramLaws.{program-steps, whole-program}
 use Rattle.read_program.specs.declared.Summary.{Summary}
 use Rattle.read_program.specs.Whole.{place-of}

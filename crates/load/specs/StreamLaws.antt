@@ -18,7 +18,7 @@ use Rattle.commands.specs.NumbersLaws.{number-accepted}
 use Rattle.verdict.specs.Verdict.{Checked.accepted, Checked.refused, judge, of-read}
 use Rattle.judge.specs.ProgramFacts.{program-totals, program-plan, checked-number}
 use Rattle.judge.specs.ProgramFactsLaws.{checked-law, checked-commands, checked-depth, checked-steps}
-use Rattle.read_schedule.specs.ParamsTold.{ParamsKept}
+use Rattle.read_params.specs.ParamsTold.{ParamsKept}
 use Rattle.emit.specs.ProgramWords.{structs-at}
 use Rattle.emit.specs.ProgramLaws.{Standing, program-steps, whole-program}
 use Rattle.read_program.specs.declared.Summary.{Summary}

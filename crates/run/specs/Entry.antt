@@ -6,22 +6,19 @@ use mathlib.Core.List.{List, _++_}
 use lib.ListN.{length, drop}
 use lib.Dec.{ltb}
 use Rattle.types.specs.Limits.{table-blocks, max-commands, max-turns}
+use Rattle.types.specs.Numbers.{no-room, many-turns}
 use Rattle.block.specs.Block.{block-size}
 use Rattle.blocks.specs.Images.{fault, stream, image, pieces, table-number as table-block-number}
 use Rattle.block.specs.declared.Found.{Found}
 use Rattle.block.specs.declared.Found.the-variants.{Right, Wrong}
 use Rattle.program.specs.Tree.{Program}
 use Rattle.commands.specs.Bounds.{program-depth}
-use Rattle.verdict.specs.Verdict.{no-room, Checked, Checked.accepted, Checked.refused, checked, listed}
+use Rattle.verdict.specs.Verdict.{Checked, Checked.accepted, Checked.refused, checked, listed}
 use Rattle.table.specs.Table.{Record, enc-table}
 use Rattle.table.specs.TableReader.{TableAnswer, TableAnswer.table, TableAnswer.no-table, table-of-stream}
 use Rattle.machine.specs.Machine.{Machine}
 use Rattle.run.specs.Run.{Outcome, Outcome.stopped, Outcome.jammed, run}
 use Rattle.run.specs.Begin.{begin, table-of}
-
--- 14: over 65,536 turns given
-abbrev pub many-turns : ℕ
-many-turns = 14
 
 abbrev pub no-number : ℕ
 no-number = 255

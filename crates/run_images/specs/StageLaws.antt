@@ -8,8 +8,10 @@ use Rattle.types.specs.Limits.{table-blocks, max-commands, max-turns}
 use Rattle.block.specs.Block.{block-size}
 use Rattle.program.specs.Tree.{Program}
 use Rattle.table.specs.Table.{Record}
-use Rattle.verdict.specs.Verdict.{Checked, Checked.refused, checked, no-room}
-use Rattle.run.specs.Entry.{Begun, Begun.begun, Begun.not-begun, with-room, of-checked, begins, report, many-turns, run-report-by, run-output-by, run-list-by, run-report, run-output, run-list}
+use Rattle.verdict.specs.Verdict.{Checked, Checked.refused, checked}
+use Rattle.types.specs.Numbers.{no-room}
+use Rattle.run.specs.Entry.{Begun, Begun.begun, Begun.not-begun, with-room, of-checked, begins, report, run-report-by, run-output-by, run-list-by, run-report, run-output, run-list}
+use Rattle.types.specs.Numbers.{many-turns}
 use Rattle.run_images.specs.declared.Report.{Report}
 use Rattle.run_images.specs.Answer.{answer}
 use Rattle.run_images.specs.Stages.{roomed, Answers}

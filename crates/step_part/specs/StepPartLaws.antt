@@ -15,7 +15,8 @@ use Rattle.commands.specs.Bounds.{total, step-size, program-size, Within}
 use Rattle.commands.specs.SizeLaws.{program-size-is}
 use Rattle.judge.specs.ProgramFacts.{Totals as Sum, step-totals}
 use Rattle.judge.specs.TotalLaws.{steps-grown}
-use Rattle.verdict.specs.Verdict.{Checked, Checked.accepted, Checked.refused, checked, no-room, verdict-of, check-verdict}
+use Rattle.verdict.specs.Verdict.{Checked, Checked.accepted, Checked.refused, checked, verdict-of, check-verdict}
+use Rattle.types.specs.Numbers.{no-room}
 use Rattle.verdict.specs.ProgramInput.{program-order}
 use Rattle.verdict.specs.InputOrder.{Numbered, foremost-numbered}
 use Rattle.verdict.specs.ProgramInputLaws.{checked-number, checked-accepted}

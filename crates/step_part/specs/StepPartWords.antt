@@ -17,7 +17,8 @@ use Rattle.commands.specs.Bounds.{total, step-list, step-size}
 use Rattle.commands.specs.Coding.{words}
 use Rattle.commands.specs.Names.{Once, step-names, NamedSteps, NamesRight}
 use Rattle.emit.specs.WordLaws.{words-append, words-length}
-use Rattle.verdict.specs.Verdict.{Checked, Checked.accepted, Checked.refused, of-read, checked, of-steps, of-structs, program-words, listed, check-list, no-room}
+use Rattle.verdict.specs.Verdict.{Checked, Checked.accepted, Checked.refused, of-read, checked, of-steps, of-structs, program-words, listed, check-list}
+use Rattle.types.specs.Numbers.{no-room}
 use Rattle.verdict.specs.VerdictLaws.{checked-image}
 use Rattle.verdict.specs.ProgramInputLaws.{checked-accepted, check-approved}
 use Rattle.verdict.specs.Rows.{P}

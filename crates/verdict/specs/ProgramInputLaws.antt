@@ -33,7 +33,8 @@ use Rattle.commands.specs.NamesDecideLaws.{names-reflects}
 use Rattle.commands.specs.TypingDecideLaws.{types-reflects}
 use Rattle.commands.specs.Numbers.{Order, NoneOf, Foremost, program-number}
 use Rattle.commands.specs.NumbersLaws.{number-accepted, number-limits, number-names, number-types, foremost-some}
-use Rattle.verdict.specs.Verdict.{Checked, Checked.accepted, Checked.refused, judge, of-read, of-image, checked, Verdict, refusal, approval, verdict-of, check-verdict, list-of, listed, check-list, no-room}
+use Rattle.verdict.specs.Verdict.{Checked, Checked.accepted, Checked.refused, judge, of-read, of-image, checked, Verdict, refusal, approval, verdict-of, check-verdict, list-of, listed, check-list}
+use Rattle.types.specs.Numbers.{no-room}
 use Rattle.verdict.specs.ProgramInput.{ImageRight, Reads, Accepted, Approved, WrongEnd, WrongByte, OverLimits, WrongNames, WrongTypes, ShortList, program-order, check-order}
 use Rattle.verdict.specs.InputOrder.{none-behind, foremost-front, Tells, Tells.refuses, Tells.passes, here, past, past-all, tells-number, tells-none}
 

@@ -6,6 +6,7 @@ use mathlib.Core.List.{List, [], _∷_, _++_}
 use lib.ListN.{length, drop}
 use lib.Dec.{ltb}
 use Rattle.types.specs.Limits.{program-blocks, max-commands}
+use Rattle.types.specs.Numbers.{no-room}
 use Rattle.block.specs.declared.Found.{Found}
 use Rattle.block.specs.declared.Found.the-variants.{Right, Wrong}
 use Rattle.blocks.specs.Images.{fault, stream, program-number as block-number}
@@ -15,10 +16,6 @@ use Rattle.commands.specs.Bounds.{total, program-size, program-depth, step-list
 use Rattle.commands.specs.Coding.{words}
 use Rattle.commands.specs.Commands.{Flat}
 use Rattle.commands.specs.Numbers.{program-number}
-
--- 13: a lent command list with places for fewer than 1,024 commands, or an output that is too short
-abbrev pub no-room : ℕ
-no-room = 13
 
 -- A program image --------------------------------------------------------------------
 
