@@ -67,7 +67,11 @@ module _ (max : ℕ) (x : List ℕ) where
       go (Wrong g) q i = let z : _≡_ {A = ℕ} 0 1 = cc in absurd (omega arith)
       go Right q i = let j : length (stream x) ≡ n = cc in (q, sym j, omega (arith, stream-most max x q))
 
--- and the front of the buffer is the stream
-pub opened-front : (x : List ℕ) (n : ℕ) (buffer : List ℕ) → n ≡ length (stream x) → take n (opened-into (Open n) (stream x) buffer) ≡ stream x
-unfolding opened-into
-opened-front x n buffer e = take-at (stream x) _ n (sym e)
+-- and the stream stands in front of the buffer
+module _ (x : List ℕ) {r : Opened} {n : ℕ} (b b′ : List ℕ) (told : r ≡ Open n) (h : b′ ≡ opened-into r (stream x) b) where
+  pub opened-as : b′ ≡ opened-into (Open n) (stream x) b
+  opened-as = h ∙ ap (λ (q : Opened). opened-into q (stream x) b) told
+
+  pub opened-front : n ≡ length (stream x) → take n b′ ≡ stream x
+  unfolding opened-into
+  opened-front e = ap (take n) opened-as ∙ take-at (stream x) _ n (sym e)

@@ -52,9 +52,9 @@ pub fn program_number(fault: Fault) -> u8
     ensures { λ r. ⌜ r ≡ program-number fault ⌝ }
 {
     match fault {
-        Fault::Length => 1,
-        Fault::Sum => 2,
-        Fault::Layout => 3,
+        Fault::Length => types::number::PROGRAM_LENGTH,
+        Fault::Sum => types::number::BLOCK_SUMS,
+        Fault::Layout => types::number::BLOCK_LAYOUT,
     }
 }
 
@@ -63,9 +63,9 @@ pub fn table_number(fault: Fault) -> u8
     ensures { λ r. ⌜ r ≡ table-number fault ⌝ }
 {
     match fault {
-        Fault::Length => 9,
-        Fault::Sum => 10,
-        Fault::Layout => 10,
+        Fault::Length => types::number::TABLE_LENGTH,
+        Fault::Sum => types::number::TABLE_BLOCK,
+        Fault::Layout => types::number::TABLE_BLOCK,
     }
 }
 

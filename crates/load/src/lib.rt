@@ -6,7 +6,7 @@ use read_program::Summary;
 ghost use mathlib.Core.Path.{_≡_};
 ghost use Prim.Native.Nat.{_*_, _≤_, _<_};
 ghost use lib.ListN.{length};
-ghost use Rattle.types.specs.Limits.{program-blocks};
+ghost use Rattle.types.specs.Limits.{program-blocks, max-structs, max-params};
 ghost use Rattle.block.specs.Block.{payload-size};
 ghost use Rattle.blocks.specs.Images.{stream};
 ghost use Rattle.program.specs.Reader.{read};
@@ -53,7 +53,8 @@ fn summed(length: usize, at: usize, p: Summary) -> Loaded
 }
 
 // A program stream: 4 to 8.
-fn of_stream(s: &[u8], counts: &mut [u8; 16], types: &mut [u8; 128]) -> Load
+fn of_stream(s: &[u8], counts: &mut [u8], types: &mut [u8]) -> Load
+    requires { ⌜ (length (now counts) ≡ max-structs) × (length (now types) ≡ max-structs * max-params) ⌝ }
     ensures { λ r. ⌜ r ≡ load-told (of-read (read (now (s .entry)))) (now (s .entry)) ⌝ }
     ensures { λ _. ⌜ TablesHeld (of-read (read (now (s .entry)))) (now (counts .entry)) (now (counts .exit)) (now (types .entry)) (now (types .exit)) ⌝ }
 {
@@ -71,10 +72,11 @@ fn of_stream(s: &[u8], counts: &mut [u8; 16], types: &mut [u8; 128]) -> Load
 pub fn program(
     image: &[u8],
     buffer: &mut [u8],
-    counts: &mut [u8; 16],
-    types: &mut [u8; 128],
+    counts: &mut [u8],
+    types: &mut [u8],
 ) -> Load
     requires { ⌜ payload-size * program-blocks ≤ length (now buffer) ⌝ }
+    requires { ⌜ (length (now counts) ≡ max-structs) × (length (now types) ≡ max-structs * max-params) ⌝ }
     ensures { λ r. ⌜ r ≡ load-told (checked (now (image .entry))) (stream (now (image .entry))) ⌝ }
     ensures { λ _. ⌜ Held (checked (now (image .entry))) (stream (now (image .entry))) (now (buffer .entry)) (now (buffer .exit)) (now (counts .entry)) (now (counts .exit)) (now (types .entry)) (now (types .exit)) ⌝ }
 {
