@@ -6,7 +6,7 @@ use mathlib.Core.List.{List, [], _∷_, _++_}
 use lib.ListN.{length, take, drop, replicate}
 use lib.Seq.{slice}
 use lib.Dec.{eqb, leb}
-use Rattle.numbers.specs.Numbers.{pair-at}
+use Rattle.little_endian.specs.Numbers.{pair-at}
 use Rattle.block.specs.Sums.{byte, sum-a, sum-b}
 use Rattle.block.specs.declared.Fault.the-variants.{Sum, Layout}
 use Rattle.block.specs.declared.Found.{Found}

@@ -10,7 +10,7 @@ use lib.Seq.{slice, slice-cons, getD-take, getD-drop}
 use lib.Dec.{leb}
 use borrow.Author.Tests.{ne-eqb}
 use Rattle.block.specs.Sums.{byte, sum-a, sum-b}
-use Rattle.numbers.specs.Numbers.{pair-at}
+use Rattle.little_endian.specs.Numbers.{pair-at}
 use Rattle.block.specs.Block.{index, used, unused-part, SumsRight, UsedRight, LaidOut, sums-right, used-right, zeros}
 use Rattle.block.specs.Block.{laid-out, payload-size}
 use Rattle.types.specs.Decides.{Decides, decides-eqb, decides-leb, decides-both, decides-as}

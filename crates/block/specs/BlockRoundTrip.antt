@@ -10,7 +10,7 @@ use lib.ListN.{take-append-drop, drop-of-length-le}
 use lib.Seq.{getD-append-add, take-append-seam, drop-cons, drop-drop, length-take-le}
 use Rattle.block.specs.Sums.{byte, Bytes, sum-a, sum-b}
 use Rattle.block.specs.SumLaws.{sums-front}
-use Rattle.numbers.specs.Numbers.{pair-at}
+use Rattle.little_endian.specs.Numbers.{pair-at}
 use Rattle.block.specs.Block.{pair, index, used, used-part, SumsRight, UsedRight, LaidOut, front, block-of, block-size}
 use Rattle.block.specs.Block.{payload-size}
 

@@ -7,7 +7,7 @@ use lib.Seq.{slice}
 use lib.Dec.{eqb}
 use borrow.Author.Tests.{eq-eqb, ne-eqb}
 use Rattle.block.specs.Sums.{sum-a, sum-b}
-use Rattle.numbers.specs.Numbers.{pair-at}
+use Rattle.little_endian.specs.Numbers.{pair-at}
 use Rattle.block.specs.Block.{index, used, unused-part, sums-right, used-right, zeros, laid-out, block-fault}
 use Rattle.block.specs.declared.Fault.the-variants.{Sum, Layout}
 use Rattle.block.specs.declared.Found.the-variants.{Right, Wrong}

@@ -56,10 +56,10 @@ fn sums_right(block: &[u8]) -> bool
     ensures { λ r. ⌜ r ≡ sums-right (now (block .entry)) ⌝ }
 {
     let s = sums(block);
-    if numbers::pair_at(block, 508) != s.a as usize {
+    if little_endian::pair_at(block, 508) != s.a as usize {
         return false;
     }
-    numbers::pair_at(block, 510) == s.b as usize
+    little_endian::pair_at(block, 510) == s.b as usize
 }
 
 // Whether the bytes from there up to 507 are zero.
@@ -93,10 +93,10 @@ fn laid_out(block: &[u8], k: usize, last: bool) -> bool
     requires { ⌜ length (now block) ≡ 512 ⌝ }
     ensures { λ r. ⌜ r ≡ laid-out k last (now (block .entry)) ⌝ }
 {
-    if numbers::pair_at(block, 0) != k {
+    if little_endian::pair_at(block, 0) != k {
         return false;
     }
-    let used = numbers::pair_at(block, 2);
+    let used = little_endian::pair_at(block, 2);
     if !used_right(last, used) {
         return false;
     }

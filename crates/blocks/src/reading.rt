@@ -53,7 +53,7 @@ pub(crate) fn stream_length(image: &[u8], n: usize) -> usize
     ensures { λ r. ⌜ r ≡ length (joined (now (image .entry)) n) ⌝ }
 {
     let k = n - 1;
-    PAYLOAD_SIZE * k + numbers::pair_at(image, BLOCK_SIZE * k + 2)
+    PAYLOAD_SIZE * k + little_endian::pair_at(image, BLOCK_SIZE * k + 2)
 }
 
 // The used payloads of n right blocks, joined from the start of the buffer.
@@ -68,7 +68,7 @@ pub(crate) fn join(image: &[u8], n: usize, buffer: &mut [u8])
         let start = BLOCK_SIZE * k;
         let end = start + BLOCK_SIZE;
         let block = &image[start..end];
-        let used = numbers::pair_at(block, 2);
+        let used = little_endian::pair_at(block, 2);
         block::put::copy(buffer, PAYLOAD_SIZE * k, block::payload(block, used));
         k += 1;
     }

@@ -21,7 +21,7 @@ use Rattle.operators.specs.declared.Answered.the-variants.{Value}
 use Rattle.operators.specs.Words.{apply-word, answered}
 use Rattle.machine.specs.Published.{Sched, structs, arity}
 use Rattle.machine.specs.Machine.{Tagged, Instance, Machine}
-use Rattle.sound.specs.Needs.{Of, Operand}
+use Rattle.sound.specs.Needs.{ValueAmong, Operand}
 use Rattle.sound.specs.Invariant.{Good}
 use Rattle.sound.specs.Accepted.{Firm}
 use Rattle.sound.specs.EachLaws.{each-length}
@@ -116,7 +116,7 @@ module _ {p : Program} {counts : List ℕ} (firm : Firm p) (bound : Bounded p co
   stack-low : height counts l z ≤ max-depth
   stack-low = let a = stack-high in let b = good-slim firm bound good l i at .low in omega arith
 
-  truth-fit : (x : Tagged) (χ : List Tagged) → i .stack ≡ x ∷ χ → Of (m .instances) bool (x .is) → TruthFit counts l z
+  truth-fit : (x : Tagged) (χ : List Tagged) → i .stack ≡ x ∷ χ → ValueAmong (m .instances) bool (x .is) → TruthFit counts l z
   truth-fit x χ s o =
       let (b, q) = bool-value (m .instances) (x .is) o in
       let a = stack-high in
@@ -154,7 +154,7 @@ module _ {p : Program} {counts : List ℕ} (firm : Firm p) (bound : Bounded p co
       }
 
   op-fit : (o : Op) (t u : Ty) → Takes (sort o) t u → (y x : Tagged) (χ : List Tagged) → i .stack ≡ y ∷ x ∷ χ
-      → Of (m .instances) t (x .is) → Of (m .instances) t (y .is) → OpFit counts l z (op-code o)
+      → ValueAmong (m .instances) t (x .is) → ValueAmong (m .instances) t (y .is) → OpFit counts l z (op-code o)
   op-fit o t u k y x χ s f g =
       let a = stack-high in
       let n : length (i .stack) ≡ suc (suc (length χ)) = ap length s in

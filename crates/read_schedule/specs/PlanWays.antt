@@ -9,7 +9,7 @@ use lib.ListN.{length, getD}
 use lib.Dec.{eqb}
 use borrow.Author.Tests.{eq-eqb, ne-eqb}
 use Rattle.program.specs.Tree.{Item, Item.call, Item.fix, Items, Items.stop, Items.item}
-use Rattle.program.specs.Reader.{Result, Result.ok, Result.bad, then, pair, made, many, opened, counted, lookup, sort, Sort, Sort.sort-call, Sort.sort-call-in, Sort.sort-fix, Sort.sort-none, ranged, rule-item, read-item, read-items}
+use Rattle.program.specs.Reader.{Result, Result.ok, Result.bad, then, pair, made, many, opened, counted, lookup, item-sort, ItemSort, ItemSort.sort-call, ItemSort.sort-call-in, ItemSort.sort-fix, ItemSort.sort-none, ranged, rule-item, read-item, read-items}
 use Rattle.program.specs.ItemLaws.{OpensItem, opens-item}
 use Rattle.judge.specs.Facts.{named}
 use Rattle.judge.specs.ProgramFacts.{Planned as Plan, plan, place, had, joined, item-plan, items-plan}
@@ -137,7 +137,7 @@ module _ (ar s : List ℕ) (d at : ℕ) where
 
   module _ (h : at < length s) where
     pub item-call : getD s at 0 ≡ 1 → read-item ar s d at ≡ made call (ranged s 0 32 (at + 1))
-    unfolding read-item opened then sort lookup rule-item
+    unfolding read-item opened then item-sort lookup rule-item
     item-call e = go d
       where
         go : (d : ℕ) → read-item ar s d at ≡ made call (ranged s 0 32 (at + 1))
@@ -145,7 +145,7 @@ module _ (ar s : List ℕ) (d at : ℕ) where
         go (suc d) = rw (byte-in s at h, e)
 
     pub item-call-in : getD s at 0 ≡ 2 → (S : ℕ) → length ar ≡ S → read-item ar s d at ≡ read-call-in s S (at + 1)
-    unfolding read-item opened then sort lookup rule-item read-call-in
+    unfolding read-item opened then item-sort lookup rule-item read-call-in
     item-call-in e S l = go d
       where
         go : (d : ℕ) → read-item ar s d at ≡ read-call-in s S (at + 1)
@@ -156,25 +156,25 @@ module _ (ar s : List ℕ) (d at : ℕ) where
     unfolding read-item opened then rule-item
     item-none a b c = go d
       where
-        is : (k : Sort) → OpensItem (getD s at 0) k → k ≡ sort-none
+        is : (k : ItemSort) → OpensItem (getD s at 0) k → k ≡ sort-none
         is sort-call e = absurd (a e)
         is sort-call-in e = absurd (b e)
         is sort-fix e = absurd (c e)
         is sort-none e = refl
 
-        none : sort (getD s at 0) ≡ sort-none
-        none = is (sort (getD s at 0)) (opens-item (getD s at 0))
+        none : item-sort (getD s at 0) ≡ sort-none
+        none = is (item-sort (getD s at 0)) (opens-item (getD s at 0))
 
         go : (d : ℕ) → read-item ar s d at ≡ bad at 5
         go zero = rw (byte-in s at h, none)
         go (suc d) = rw (byte-in s at h, none)
 
     pub item-deep : getD s at 0 ≡ 3 → d ≡ 0 → read-item ar s d at ≡ bad at 5
-    unfolding read-item opened then sort lookup rule-item made
+    unfolding read-item opened then item-sort lookup rule-item made
     item-deep e z = rw (z, byte-in s at h, e)
 
     pub item-fix : getD s at 0 ≡ 3 → (d ≡ 0 → ⊥) → read-item ar s d at ≡ made fix (read-items ar s (read-item ar s (d - 1)) (at + 1))
-    unfolding read-item opened then sort lookup rule-item
+    unfolding read-item opened then item-sort lookup rule-item
     item-fix e z = go d z
       where
         go : (d : ℕ) → (d ≡ 0 → ⊥) → read-item ar s d at ≡ made fix (read-items ar s (read-item ar s (d - 1)) (at + 1))

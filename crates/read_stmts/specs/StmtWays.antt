@@ -7,7 +7,8 @@ use mathlib.Core.List.{List}
 use lib.ListN.{length, getD}
 use Rattle.types.specs.Types.{Ty, code}
 use Rattle.program.specs.Tree.{Var, Expr, Exprs, Stmt, Stmts, Stmts.end, Stmts.next}
-use Rattle.program.specs.Reader.{Result, Result.ok, Result.bad, then, pair, made, many, lookup, Kind, Kind.kind-when, Kind.kind-declare, Kind.kind-update, Kind.kind-create, Kind.kind-none, kind, type-byte, byte, tested, opened, ranged, counted, read-local, read-path, read-make, read-expr, read-body, read-when, read-declare, read-update, rule-stmt, read-stmt}
+use Rattle.types.specs.TypeBytes.{is-type}
+use Rattle.program.specs.Reader.{Result, Result.ok, Result.bad, then, pair, made, many, lookup, Kind, Kind.kind-when, Kind.kind-declare, Kind.kind-update, Kind.kind-create, Kind.kind-none, kind, byte, tested, opened, ranged, counted, read-local, read-path, read-make, read-expr, read-body, read-when, read-declare, read-update, rule-stmt, read-stmt}
 use Rattle.program.specs.StmtLaws.{OpensStmt, opens-stmt}
 use Rattle.judge.specs.declared.Judged.{Judged}
 use Rattle.judge.specs.declared.Facts.{Facts}
@@ -77,11 +78,11 @@ module _ (ar types s : List ℕ) (own : ℕ) (c : Scope) where
         go (bad p k) = refl
 
     -- its type
-    pub declare-stop : (n : ℕ) → byte-told (tested s (type-byte (length ar)) at) ≡ NoByte n → done (declare-facts ar types own c) (read-declare ar s at) ≡ Refused n
+    pub declare-stop : (n : ℕ) → byte-told (tested s (is-type (length ar)) at) ≡ NoByte n → done (declare-facts ar types own c) (read-declare ar s at) ≡ Refused n
     unfolding read-declare pair then
     declare-stop n e = rw (type-stops s (length ar) at n e .1)
 
-    pub declare-is : (b m : ℕ) → byte-told (tested s (type-byte (length ar)) at) ≡ Byte b m
+    pub declare-is : (b m : ℕ) → byte-told (tested s (is-type (length ar)) at) ≡ Byte b m
         → done (declare-facts ar types own c) (read-declare ar s at) ≡ done (local-facts ar types own c b) (read-named ar s m)
     unfolding read-declare read-named pair then
     declare-is b m e =

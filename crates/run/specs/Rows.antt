@@ -8,7 +8,7 @@ use mathlib.Core.List.{List, [], _∷_, _++_, map}
 use lib.ListN.{take, set, replicate}
 use lib.IntN.{pos}
 use Rattle.types.specs.Values.{Val, Val.int-val}
-use Rattle.numbers.specs.Numbers.{pair-at}
+use Rattle.little_endian.specs.Numbers.{pair-at}
 use Rattle.block.specs.Block.{pair, index, used, used-part, unused-part, used-right, zeros as zero-bytes, laid-out, front, block-of}
 use Rattle.blocks.specs.Images.{length-right, block, is-last, joined, stream, piece, image-of, image}
 use Rattle.program.specs.Counts.{All}

@@ -16,7 +16,7 @@ use Rattle.program.specs.Rows.{reading}
 use Rattle.commands.specs.Commands.{then, reads, front, last, expr-coms, args-coms, update-coms, stmt-coms, body-coms, flatten, commands}
 use Rattle.commands.specs.Coding.{coded, com-word, command-word, words}
 use Rattle.commands.specs.Context.{stmt-local, body-local}
-use Rattle.commands.specs.Names.{declares, declared, step-names}
+use Rattle.commands.specs.Names.{declares, declared, names-of-steps}
 use Rattle.commands.specs.Depth.{depth}
 use Rattle.commands.specs.Bounds.{item-count, items-count, total, greatest, program-size, program-depth}
 use Rattle.commands.specs.Decide.{every, member, distinct}
@@ -33,7 +33,7 @@ P = 1 ∷ 2 ∷ 0 ∷ 16 ∷ 1 ∷ 0 ∷ 1 ∷ 3 ∷ 1 ∷ 0 ∷ 41 ∷ 18 ∷ 1
 
 -- what a program stream comes to
 unfoldable pub checking : List ℕ → Checked
-unfolding reading same-type then reads front last expr-coms args-coms update-coms stmt-coms body-coms flatten commands stmt-local body-local declares declared step-names depth item-count items-count total greatest program-size program-depth every member distinct start-named expr-named args-named stmt-named body-named steps-named stepped item-stepped items-stepped names-right is-of agree given-type result operate-types lead path-type expr-type args-typed stmt-typed body-typed steps-typed types-right within first breach-tests program-number judge of-read
+unfolding reading same-type then reads front last expr-coms args-coms update-coms stmt-coms body-coms flatten commands stmt-local body-local declares declared names-of-steps depth item-count items-count total greatest program-size program-depth every member distinct start-named expr-named args-named stmt-named body-named steps-named stepped item-stepped items-stepped names-right is-of agree given-type result operate-types lead path-type expr-type args-typed stmt-typed body-typed steps-typed types-right within first breach-tests program-number judge of-read
 checking s = of-read (read s)
 
 -- The list -----------------------------------------------------------------------------
