@@ -9,7 +9,7 @@ use Rattle.machine.specs.Published.{Sched}
 use Rattle.machine.specs.Machine.{Machine}
 use Rattle.run.specs.Run.{Outcome.stopped, run}
 use Rattle.run.specs.Visits.{Visits}
-use Rattle.memory.specs.Layout.{State}
+use Rattle.layout.specs.State.{State}
 use Rattle.memory.specs.Plan.{At}
 use Rattle.memory.specs.PlanUnique.{at-unique}
 use Rattle.memory.specs.Stands.{Stands}

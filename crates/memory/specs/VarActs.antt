@@ -27,7 +27,8 @@ use Rattle.sound.specs.EnvLaws.{param-holds}
 use Rattle.sound.specs.ValueLaws.{label-value, ranges}
 use Rattle.sound.specs.Outcomes.{has-read, leaves-null, writes-param, writes-local}
 use Rattle.sound.specs.WriteKept.{same-env}
-use Rattle.memory.specs.Layout.{State, struct-of, of-head, of-cell, variable, operand}
+use Rattle.layout.specs.Layout.{struct-of, variable, operand}
+use Rattle.layout.specs.State.{State, of-head, of-cell}
 use Rattle.memory.specs.Act.{gone, height, after, top, beneath, do-rd, do-wr, stored, written, written-to}
 use Rattle.memory.specs.Stands.{Shows, Stack, Stands}
 use Rattle.memory.specs.Frame.{Slim, AllSlim, Bounded, After, Goes}
