@@ -1,7 +1,7 @@
 // An image of blocks, looked through and joined to its stream (01, 'Blocks').
-use block::Found;
 use crate::BLOCK_SIZE;
 use crate::PAYLOAD_SIZE;
+use block::Found;
 ghost use mathlib.Core.Path.{_≡_};
 ghost use Prim.Native.Nat.{_*_, _≤_};
 ghost use lib.ListN.{length};

@@ -69,12 +69,7 @@ fn of_stream(s: &[u8], counts: &mut [u8], types: &mut [u8]) -> Load
 }
 
 // A program image: 1 to 8. The buffer has room for the payloads of 64 blocks. After a refusal what was lent is free, of the lengths that it had.
-pub fn program(
-    image: &[u8],
-    buffer: &mut [u8],
-    counts: &mut [u8],
-    types: &mut [u8],
-) -> Load
+pub fn program(image: &[u8], buffer: &mut [u8], counts: &mut [u8], types: &mut [u8]) -> Load
     requires { ⌜ payload-size * program-blocks ≤ length (now buffer) ⌝ }
     requires { ⌜ (length (now counts) ≡ max-structs) × (length (now types) ≡ max-structs * max-params) ⌝ }
     ensures { λ r. ⌜ r ≡ load-told (checked (now (image .entry))) (stream (now (image .entry))) ⌝ }
