@@ -1,11 +1,10 @@
--- The commands of a step that was read: their words' lines are those of the listing (01, 'Bench rows'), and as many as the walk over
--- its statements counts.
-use Prim.Native.Nat.{ℕ, suc, _+_, _≤_}
+-- The commands of a step within the limits can be listed: the lines of their words are those of the listing (01, 'Bench rows').
+use Prim.Native.Nat.{ℕ, suc, _≤_}
 use native.Mathlib.Omega.{arith}
-use mathlib.Core.Path.{_≡_, refl, sym, ap, _∙_}
+use mathlib.Core.Path.{_≡_, refl}
 use mathlib.Core.List.{List, [], _∷_, _++_}
-use lib.ListN.{length, getD}
-use Rattle.types.specs.Limits.{max-structs, step-names, if-levels}
+use lib.ListN.{length}
+use Rattle.types.specs.Limits.{max-structs}
 use Rattle.types.specs.Types.{Ty, Ty.int, Ty.nat, Ty.bool, Ty.ref, IsType}
 use Rattle.types.specs.Values.{default}
 use Rattle.types.specs.TypeBytes.{ValueOf, word-end}
@@ -13,31 +12,15 @@ use Rattle.types.specs.ValueLaws.{value-in-range}
 use Rattle.program.specs.Tree.{Var, Var.loc, Expr, Expr.inv, Expr.make, Expr.path, Expr.int-lit, Expr.nat-lit, Expr.bool-lit, Expr.null, Expr.self, Expr.op, Exprs, Exprs.none, Exprs.more, Stmt, Stmt.when, Stmt.declare, Stmt.update, Stmt.create, Stmts, Stmts.end, Stmts.next, Step}
 use Rattle.program.specs.Encoding.{var-code}
 use Rattle.program.specs.Counts.{All, CountsExpr, CountsExprs, CountsStmt, CountsStmts, CountsStep}
-use Rattle.program.specs.Reader.{Result.ok, pair, ranged, read-body, read-stmt, read-step}
-use Rattle.program.specs.PartLaws.{told-is, made-ok}
-use Rattle.program.specs.StmtLaws.{step-exact}
 use Rattle.commands.specs.Commands.{Coms, then, reads, front, expr-coms, args-coms, update-coms, stmt-coms, body-coms, Flat, flatten, commands}
 use Rattle.commands.specs.CommandLaws.{flatten-then}
 use Rattle.commands.specs.Bounds.{step-list}
 use Rattle.commands.specs.Coding.{words}
-use Rattle.commands.specs.SizeLaws.{body-length}
-use Rattle.judge.specs.declared.Scope.{Scope}
-use Rattle.judge.specs.declared.Done.{Done}
-use Rattle.judge.specs.Facts.{body-facts}
-use Rattle.judge.specs.SizeFactsLaws.{body-facts-size}
-use Rattle.read_stmts.specs.declared.StmtRead.the-variants.{Value, Refused}
-use Rattle.read_stmts.specs.Done.{done}
-use Rattle.read_stmts.specs.StmtWays.{done-is, done-stops}
-use Rattle.emit.specs.Written.{Good}
-use Rattle.emit.specs.ProgramWords.{step-words}
-use Rattle.emit.specs.WordLaws.{words-length}
-use Rattle.emit.specs.ReadLaws.{made-value, pair-value, pair-ok, ranged-value}
-use Rattle.emit.specs.StepLaws.{step-part}
 use Rattle.text.specs.Listing.{line}
 use Rattle.text.specs.CommandText.{Listed}
 use Rattle.text.specs.CommandTextLaws.{text-command}
 use Rattle.step_lines.specs.Lines.{command-line, command-lines, step-lines}
-use Rattle.step_lines.specs.Walk.{word-lines}
+use Rattle.step_lines.specs.RowLines.{word-lines}
 
 -- Commands that can be listed --------------------------------------------------------
 
@@ -117,35 +100,7 @@ unfolding word-lines command-lines command-line words line
 words-lines k n i [] h = refl
 words-lines k n i (c ∷ cs) h = rw (text-command c (h .0), words-lines k n (suc i) cs (h .1))
 
--- the lines of a step that was read, by its words
-pub step-text : (ar s : List ℕ) (k at : ℕ) (t : Step) (m : ℕ) → length ar ≤ max-structs → read-step ar s at ≡ ok t m
-    → word-lines k (t .name) 0 (step-words t) ≡ step-lines k t
-unfolding step-words step-lines CountsStep commands
-step-text ar s k at t m l e =
-    let c = told-is (step-exact ar .sound s at) e .0 in
-    words-lines k (t .name) 0 (step-list t) (body-listed ar l (t .body) (c .2))
-
--- What the walk over a step's statements says of it ------------------------------------
-
-module _ (ar types s : List ℕ) (own at : ℕ) (c : Scope) (g : Good (read-step ar s at)) where
-  -- its statements are read
-  pub step-reads : (n : ℕ) → done (λ b. body-facts ar types own b c) (read-body ar s (read-stmt ar s 8) (at + 1)) ≡ Refused n → ⊥
-  step-reads n e =
-      let p = step-part ar s at g .1 .good in
-      let q = done-stops (λ b. body-facts ar types own b c) (read-body ar s (read-stmt ar s 8) (at + 1)) n e in
-      rw (q .1) at p
-
-  -- the step by its name and its statements, with as many words as counted
-  pub step-value : (m : ℕ) (d : Done) → done (λ b. body-facts ar types own b c) (read-body ar s (read-stmt ar s 8) (at + 1)) ≡ Value m d
-      → (t : Step) × (read-step ar s at ≡ ok t m) × (t .name ≡ getD s at 0) × (length (step-words t) ≡ d .size)
-  unfolding read-step step-words
-  step-value m d i =
-      let b = done-is (λ b. body-facts ar types own b c) _ m d i in
-      let q = made-value (λ p. record { name = p .0; body = p .1 }) (pair (ranged s 0 step-names at) λ n. read-body ar s (read-stmt ar s if-levels)) g in
-      let v = pair-value (ranged s 0 step-names at) (λ n. read-body ar s (read-stmt ar s if-levels)) (rw (q .2) tt) in
-      let r = ranged-value s 0 step-names at (rw (v .4) tt) .2 in (
-        record { name = getD s at 0; body = b .0 },
-        made-ok _ (pair-ok (λ n. read-body ar s (read-stmt ar s if-levels)) r (b .1)),
-        refl,
-        words-length (commands (b .0)) ∙ body-length (b .0) ∙ sym (body-facts-size ar types own (b .0) c) ∙ ap (λ (z : Done). z .size) (b .2),
-      )
+-- the lines of a step by its words
+pub step-text : (ar : List ℕ) (k : ℕ) (t : Step) → length ar ≤ max-structs → CountsStep ar t → word-lines k (t .name) 0 (words (step-list t)) ≡ step-lines k t
+unfolding step-lines CountsStep commands
+step-text ar k t l c = words-lines k (t .name) 0 (step-list t) (body-listed ar l (t .body) (c .2))
