@@ -1,6 +1,6 @@
 -- What the definitions compute is what they say (01, 'Program stream', 'Table and turns', 'Numbers from the input' and 'from the state';
 -- 000, section 4): tests decide their conditions, readers read back what is written, and what is spoken of as one is one.
-use Prim.Native.Nat.{ℕ, suc, _+_, _^_, _<_, _≤_}
+use Prim.Native.Nat.{ℕ, suc, _+_, _*_, _^_, _<_, _≤_}
 use mathlib.Core.Path.{_≡_}
 use mathlib.Core.Logic.{_↔_}
 use mathlib.Core.Bool.{Bool, true, _&&_}
@@ -11,6 +11,16 @@ use lib.ListN.{length, getD, getElem?, drop}
 use Rattle.types.specs.Limits.{max-instances, expr-levels}
 use Rattle.types.specs.Reflects.{Reflects}
 use Rattle.types.specs.Types.{Ty}
+use Rattle.block.specs.declared.Found.the-variants.{Right}
+use Rattle.block.specs.Block.{block-size, payload-size}
+use Rattle.block.specs.Sums.{wrap, Bytes as ByteList}
+use Rattle.blocks.specs.declared.Read.the-variants.{Stream}
+use Rattle.blocks.specs.declared.Written.the-variants.{Blocks}
+use Rattle.blocks.specs.Images.{most, fault, stream, image, pieces, read as read-image, read-into, write}
+use Rattle.blocks.specs.Answers.{StreamRight, WriteSays}
+use Rattle.blocks.specs.AnswerLaws.{write-says, read-fits, write-fits, read-written-into}
+use Rattle.blocks.specs.ImageBytes.{image-bytes}
+use Rattle.blocks.specs.ImageRoundTrip.{one-image}
 use Rattle.types.specs.TypeBytes.{TypeByte, is-type}
 use Rattle.types.specs.TypeLaws.{type-exact}
 use Rattle.types.specs.Values.{Val, IntRange, in-int, int-word, default}
@@ -80,6 +90,33 @@ result-one a b = applies-unique a b
 
 pub result-or-exceeded : {o : Op} {x y z : Val} → Applies o x y z → Exceeds o x y → ⊥
 result-or-exceeded a b = applies-not-exceeds a b
+
+-- Blocks ----------------------------------------------------------------------------------
+
+-- "The used payloads, joined, are the stream": what is written of a stream is read back,
+pub image-read-back : (max : ℕ) (s : List ℕ) → StreamRight max (length s) → (room : ℕ) → length s ≤ room → (buffer : List ℕ)
+    → read-into (read-image max (image s) room) (stream (image s)) buffer ≡ s ++ drop (length s) buffer
+image-read-back max s right room fits buffer = read-written-into max s right room fits buffer
+
+-- what writing answers holds: a stream too long or empty, an output too short, or its blocks
+pub write-answered : (max n room : ℕ) → WriteSays max n room (write max n room)
+write-answered = write-says
+
+-- a buffer as long as the payloads and an output as long as the blocks that are allowed are never too short
+pub read-room : (max : ℕ) (x : List ℕ) (room : ℕ) → fault max x ≡ Right → payload-size * most max ≤ room
+    → read-image max x room ≡ Stream (length (stream x))
+read-room = read-fits
+
+pub write-room : (max n room : ℕ) → StreamRight max n → block-size * most max ≤ room → write max n room ≡ Blocks (pieces n)
+write-room = write-fits
+
+-- its bytes are bytes,
+pub image-bytes-small : (s : List ℕ) → ByteList s → length s ≤ payload-size * wrap → ByteList (image s)
+image-bytes-small = image-bytes
+
+-- and a stream has one accepted image
+pub image-one : (max : ℕ) (x y : List ℕ) → ByteList x → ByteList y → fault max x ≡ Right → fault max y ≡ Right → stream x ≡ stream y → x ≡ y
+image-one = one-image
 
 -- Programs --------------------------------------------------------------------------------
 
