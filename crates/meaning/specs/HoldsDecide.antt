@@ -1,5 +1,5 @@
 -- What a stream can hold, decided.
-use Prim.Native.Nat.{ℕ, _<_, _≤_}
+use Prim.Native.Nat.{ℕ, _<_}
 use mathlib.Core.Path.{_≡_}
 use mathlib.Core.Bool.{Bool, true, false, _&&_, false≢true}
 use mathlib.Core.List.{List, [], _∷_, map}
@@ -86,6 +86,7 @@ decides-path v vs =
 module _ (ar : List ℕ) where
   unfoldable mutual
     unfolding a-path a-type
+
     pub holds-expr : Expr → Bool
     holds-expr (inv e) = holds-expr e
     holds-expr (make k es) = ltb k (length ar) && (eqb (args es) (getD ar k 0) && holds-exprs es)
@@ -103,6 +104,7 @@ module _ (ar : List ℕ) where
 
   mutual
     unfolding holds-expr holds-exprs CountsExpr CountsExprs
+
     decides-expr : (e : Expr) → Decides (holds-expr e) (CountsExpr ar e)
     decides-expr (inv e) = decides-expr e
     decides-expr (make k es) =
@@ -121,6 +123,7 @@ module _ (ar : List ℕ) where
 
   unfoldable mutual
     unfolding holds-expr holds-exprs a-path a-type
+
     pub holds-stmt : Stmt → Bool
     holds-stmt (when e b) = holds-expr e && (leb (size b) max-statements && holds-stmts b)
     holds-stmt (declare t x e) = a-type (length ar) t && (ltb x max-locals && holds-expr e)
@@ -133,6 +136,7 @@ module _ (ar : List ℕ) where
 
   mutual
     unfolding holds-stmt holds-stmts HoldsStmt HoldsStmts
+
     decides-stmt : (t : Stmt) → Decides (holds-stmt t) (HoldsStmt ar t)
     decides-stmt (when e b) =
         decides-three (holds-expr e) (leb (size b) max-statements) (holds-stmts b) (decides-expr e) (decides-leb (size b) max-statements) (decides-stmts b)
@@ -168,6 +172,7 @@ module _ (ar : List ℕ) where
 
   mutual
     unfolding holds-item holds-items CountsItem CountsItems
+
     decides-item : (i : Item) → Decides (holds-item i) (CountsItem ar i)
     decides-item (call n) = decides-ltb n step-names
     decides-item (call-in k n) = decides-both (ltb k (length ar)) (ltb n step-names) (decides-ltb k (length ar)) (decides-ltb n step-names)
