@@ -4,7 +4,7 @@ use Prim.Native.Nat.{ℕ, _+_, _-_, _*_, _<_, _≤_}
 use native.Mathlib.Omega.{arith}
 use mathlib.Core.Path.{_≡_, refl, ap, sym, _∙_, subst}
 use mathlib.Core.Bool.{Bool, true, false}
-use mathlib.Core.Option.{none, some}
+use mathlib.Core.Option.{Option, none, some}
 use mathlib.Core.List.{List, map}
 use lib.ListN.{length, getElem?, drop, length-map, length-drop, length-append}
 use lib.Dec.{ltb}
@@ -12,7 +12,8 @@ use borrow.Author.Tests.{ltb-true, ltb-false}
 use Rattle.types.specs.Limits.{table-blocks}
 use Rattle.types.specs.Types.{Ty, Ty.int, Ty.nat, Ty.bool, Ty.ref}
 use Rattle.types.specs.Values.{Val, Val.int-val, Val.nat-val, Val.bool-val, Val.label, default}
-use Rattle.blocks.specs.Blocks.{block-size, payload-size}
+use Rattle.types.specs.ValueLaws.{value-as}
+use Rattle.block.specs.Block.{block-size, payload-size}
 use Rattle.blocks.specs.Images.{image, pieces}
 use Rattle.blocks.specs.Faults.{Says}
 use Rattle.blocks.specs.FaultLaws.{fault-says}
@@ -23,7 +24,7 @@ use Rattle.commands.specs.Context.{params-of}
 use Rattle.table.specs.Table.{Record, enc-table, Each, Held, HeldRecord, HeldTable, struct-at, Refers, RefersRecord, References, TableRight}
 use Rattle.table.specs.Sizes.{table-size}
 use Rattle.table.specs.SizeLaws.{table-length, program-table-fits}
-use Rattle.machine.specs.Published.{Env, Env.env, structs}
+use Rattle.machine.specs.Published.{StepCall, Env, Env.env, structs}
 use Rattle.machine.specs.Machine.{Instance, Machine}
 use Rattle.run.specs.Visits.{Visits}
 use Rattle.run.specs.Begin.{params-in, begin, record-of, table-of}
@@ -33,8 +34,8 @@ use Rattle.run.specs.RunAgreesVisits.{run-visits}
 use Rattle.run.specs.Entry.{Begun, Begun.begun, Begun.not-begun, begins, output-of, run-output-by, run-output}
 use Rattle.run.specs.Input.{TableAccepted}
 use Rattle.run.specs.InputLaws.{begins-ready}
-use Rattle.sound.specs.Needs.{Of}
-use Rattle.sound.specs.Invariant.{Fitted, GoodAll}
+use Rattle.sound.specs.Needs.{ValueAmong}
+use Rattle.sound.specs.Invariant.{Fitted, GoodAll, Good}
 use Rattle.sound.specs.Accepted.{Accepted}
 use Rattle.sound.specs.AcceptedLaws.{ready-accepted, accepted-firm}
 use Rattle.sound.specs.Tabled.{Tabled}
@@ -46,31 +47,16 @@ use Rattle.sound.specs.TabledLaws.{visits-tabled, begin-tabled}
 
 -- The table of a machine -----------------------------------------------------------
 
-fitted-each : (is : List Instance) (ts : List Ty) (ξ : Env) → Fitted is ts ξ → Each (Of is) ts (params-in ξ)
+fitted-each : (is : List Instance) (ts : List Ty) (ξ : Env) → Fitted is ts ξ → Each (ValueAmong is) ts (params-in ξ)
 fitted-each is ts (env ps ls) f = f .0
 
-module _ (p : Program) {is : List Instance} (good : GoodAll p is) (t : Tabled p is) where
+module _ (p : Program) {r : Option StepCall} {is : List Instance} (good : GoodAll p r is) (t : Tabled p is) where
   abbrev rows : List Record
   rows = map record-of (drop (structs p) is)
 
   -- a label is below 256
-  held-value : (u : Ty) (v : Val) → Of is u v → Held u v
-  held-value int (int-val z) o = o
-  held-value int (nat-val n) o = o
-  held-value int (bool-val b) o = o
-  held-value int (label l) o = o
-  held-value nat (int-val z) o = o
-  held-value nat (nat-val n) o = o
-  held-value nat (bool-val b) o = o
-  held-value nat (label l) o = o
-  held-value bool (int-val z) o = o
-  held-value bool (nat-val n) o = o
-  held-value bool (bool-val b) o = o
-  held-value bool (label l) o = o
-  held-value (ref k) (int-val z) o = o
-  held-value (ref k) (nat-val n) o = o
-  held-value (ref k) (bool-val b) o = o
-  held-value (ref k) (label l) (i, e, s) = let few = t .few in omega (arith, at-below is l i e)
+  held-value : (u : Ty) (v : Val) → ValueAmong is u v → Held u v
+  held-value u v o = value-as u v (λ k l _ _ (i, e, s). let few = t .few in omega (arith, at-below is l i e)) o
 
   -- the struct of a label is that of its instance
   struct-found : (l k : ℕ) (i : Instance) → getElem? is l ≡ some i → i .struct ≡ k → struct-at (p .params) rows l ≡ some k
@@ -86,7 +72,7 @@ module _ (p : Program) {is : List Instance} (good : GoodAll p is) (t : Tabled p 
           let d : getElem? (drop (structs p) is) (l - structs p) ≡ some i = at-drop (structs p) is (l - structs p) ∙ ap (getElem? is) w ∙ e in
           rw (at-map record-of (drop (structs p) is) (l - structs p) i d) (ap some s)
 
-  refers-value : (u : Ty) (v : Val) → Of is u v → Refers (p .params) rows u v
+  refers-value : (u : Ty) (v : Val) → ValueAmong is u v → Refers (p .params) rows u v
   refers-value int v o = tt
   refers-value nat v o = tt
   refers-value bool v o = tt
@@ -142,8 +128,8 @@ image-table p a rs right =
 
 module _ {p : Program} (a : Accepted p) (rs : List Record) (right : TableRight (p .params) rs) {es fs : List ℕ} {z : Machine}
     (v : Visits p (begin p rs) es z fs) where
-  all-good : GoodAll p (z .instances)
-  all-good = visits-good (accepted-firm a) (begin-good p (a .0) rs right) v .all
+  last-good : Good p z
+  last-good = visits-good (accepted-firm a) (begin-good p (a .0) rs right) v
 
   all-tabled : Tabled p (z .instances)
   all-tabled = visits-tabled (accepted-firm a) (begin-good p (a .0) rs right) (begin-tabled p rs right) v
@@ -151,7 +137,7 @@ module _ {p : Program} (a : Accepted p) (rs : List Record) (right : TableRight (
   -- every machine of a run on a right table stands at a right table
   pub table-kept : TableRight (p .params) (table-of p z)
   unfolding table-of
-  table-kept = rows-right p all-good all-tabled
+  table-kept = rows-right p (last-good .all) all-tabled
 
   -- whose image fits its blocks and is accepted as that table
   pub table-written : (pieces (length (enc-table (table-of p z))) ≤ table-blocks) × (TableAccepted p (image (enc-table (table-of p z))) (table-of p z))
@@ -161,7 +147,7 @@ module _ {p : Program} (a : Accepted p) (rs : List Record) (right : TableRight (
   pub nulls-kept : (k : ℕ) → k < structs p
       → (i : Instance) × (getElem? (z .instances) k ≡ some i) × (i .struct ≡ k) × (params-in (i .env) ≡ map default (params-of p k))
   nulls-kept k h =
-      let (i, e, s) = all-good .nulls k h in
+      let (i, e, s) = last-good .all .nulls k h in
       (i, e, s, all-tabled .each k i e .1 h ∙ ap (λ j. map default (params-of p j)) s)
 
 -- so is the image of the table that the published rules come to

@@ -7,8 +7,8 @@ use mathlib.Core.List.{List, map}
 use lib.ListN.{length, length-map}
 use Rattle.types.specs.Limits.{max-instances, table-blocks}
 use Rattle.blocks.specs.Images.{fault, stream}
-use Rattle.blocks.specs.declared.Found.{Found}
-use Rattle.blocks.specs.declared.Found.the-variants.{Right, Wrong}
+use Rattle.block.specs.declared.Found.{Found}
+use Rattle.block.specs.declared.Found.the-variants.{Right, Wrong}
 use Rattle.program.specs.Tree.{Program}
 use Rattle.program.specs.Counts.{Counts}
 use Rattle.table.specs.Table.{Record, HeldTable, TableRight}
@@ -18,7 +18,7 @@ use Rattle.judge.specs.ProgramFacts.{types-table}
 use Rattle.machine.specs.Published.{Sched, of-items, structs}
 use Rattle.run.specs.Begin.{begin}
 use Rattle.run.specs.Entry.{of-table, of-table-image}
-use Rattle.memory.specs.Layout.{head-size, row-size}
+use Rattle.layout.specs.Layout.{head-size, row-size}
 use Rattle.memory.specs.Stands.{Stands}
 use Rattle.table_read.specs.Params.{lists-of, Tables}
 use Rattle.table_read.specs.ProgramTables.{params-back, params-tables}

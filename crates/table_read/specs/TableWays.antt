@@ -15,8 +15,8 @@ use Rattle.types.specs.Limits.{max-instances, max-params, table-blocks}
 use Rattle.types.specs.Types.{Ty}
 use Rattle.blocks.specs.Images.{fault, stream, read as image-read, read-into, table-number as block-number}
 use Rattle.blocks.specs.AnswerLaws.{read-says, stream-most}
-use Rattle.blocks.specs.declared.Fault.{Fault}
-use Rattle.blocks.specs.declared.Found.the-variants.{Wrong}
+use Rattle.block.specs.declared.Fault.{Fault}
+use Rattle.block.specs.declared.Found.the-variants.{Wrong}
 use Rattle.blocks.specs.declared.Read.{Read}
 use Rattle.blocks.specs.declared.Read.the-variants.{Stream, Refused as ImageRefused, Short as ImageShort}
 use Rattle.blocks.proofs.Read.{the-type}
@@ -27,7 +27,7 @@ use Rattle.program.specs.JoinLaws.{row-exact, flat-row}
 use Rattle.table.specs.Table.{Record, count-bytes, enc-record, HeldRecord}
 use Rattle.table.specs.TableReader.{read-record, read-count, read-table, references, TableAnswer.table, TableAnswer.no-table, table-number, table-answer, table-of-stream}
 use Rattle.table.specs.TableExact.{record-exact}
-use Rattle.memory.specs.Layout.{head-size, row-size}
+use Rattle.layout.specs.Layout.{head-size, row-size}
 use Rattle.table_read.specs.declared.reading.PlaceRead.the-variants.{Place, NoPlace}
 use Rattle.table_read.specs.declared.reading.CountRead.the-variants.{Count, NoCount}
 use Rattle.table_read.specs.declared.TableRead.the-variants.{Instances}
