@@ -28,9 +28,10 @@ use Rattle.run.specs.Initial.{initial}
 use Rattle.run.specs.BeginLaws.{begin-represents, outcome-exact}
 use Rattle.run.specs.Runs.{Passes}
 use Rattle.run.specs.RunAgreesVisits.{passes-visits}
-use Rattle.run.specs.Entry.{Checked, Checked.accepted, Checked.refused, checked, Verdict, check-list}
-use Rattle.run.specs.Input.{Accepted, Ready, program-order, check-order}
-use Rattle.run.specs.InputProgram.{checked-accepted, checked-number, verdict-number, verdict-approved, check-approved}
+use Rattle.verdict.specs.Verdict.{Checked, Checked.accepted, Checked.refused, checked, Verdict, check-list}
+use Rattle.verdict.specs.ProgramInput.{Accepted, program-order, check-order}
+use Rattle.run.specs.Input.{Ready}
+use Rattle.verdict.specs.ProgramInputLaws.{checked-accepted, checked-number, verdict-number, verdict-approved, check-approved}
 use Rattle.run.specs.InputLaws.{begins-ready}
 use Rattle.run.specs.AnsweredLaws.{comes-answered}
 use Rattle.sound.specs.Needs.{Right}

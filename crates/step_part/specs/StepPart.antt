@@ -8,7 +8,8 @@ use lib.Dec.{ltb, eqb}
 use Rattle.types.specs.Limits.{max-commands}
 use Rattle.program.specs.Tree.{Step, Program}
 use Rattle.commands.specs.Bounds.{total, step-size}
-use Rattle.run.specs.Entry.{Checked, Checked.accepted, Checked.refused, checked, no-room}
+use Rattle.verdict.specs.Verdict.{Checked, Checked.accepted, Checked.refused, checked}
+use Rattle.types.specs.Numbers.{no-room}
 use Rattle.step_part.specs.declared.Search.{Search}
 use Rattle.step_part.specs.declared.Spot.{Spot}
 

@@ -15,10 +15,11 @@ use Rattle.commands.specs.Bounds.{total, step-size, program-size, Within}
 use Rattle.commands.specs.SizeLaws.{program-size-is}
 use Rattle.judge.specs.ProgramFacts.{Totals as Sum, step-totals}
 use Rattle.judge.specs.TotalLaws.{steps-grown}
-use Rattle.run.specs.Entry.{Checked, Checked.accepted, Checked.refused, checked, no-room, verdict-of, check-verdict}
-use Rattle.run.specs.Input.{program-order}
-use Rattle.run.specs.InputOrder.{Numbered, foremost-numbered}
-use Rattle.run.specs.InputProgram.{checked-number, checked-accepted}
+use Rattle.verdict.specs.Verdict.{Checked, Checked.accepted, Checked.refused, checked, verdict-of, check-verdict}
+use Rattle.types.specs.Numbers.{no-room}
+use Rattle.verdict.specs.ProgramInput.{program-order}
+use Rattle.verdict.specs.InputOrder.{Numbered, foremost-numbered}
+use Rattle.verdict.specs.ProgramInputLaws.{checked-number, checked-accepted}
 use Rattle.read_program.specs.declared.totals.Totals.{Totals}
 use Rattle.read_program.specs.declared.totals.TotalsRead.the-variants.{Value as TotalsValue, Refused as TotalsRefused}
 use Rattle.step_part.specs.declared.Search.{Search}

@@ -17,12 +17,13 @@ use Rattle.commands.specs.Bounds.{total, step-list, step-size}
 use Rattle.commands.specs.Coding.{words}
 use Rattle.commands.specs.Names.{Once, names-of-steps, NamedSteps, NamesRight}
 use Rattle.emit.specs.WordLaws.{words-append, words-length}
-use Rattle.run.specs.Entry.{Checked, Checked.accepted, Checked.refused, of-read, checked, of-steps, of-structs, program-words, listed, check-list, no-room}
-use Rattle.run.specs.EntryStreamLaws.{checked-image}
-use Rattle.run.specs.InputProgram.{checked-accepted, check-approved}
-use Rattle.run.specs.RowPrograms.{P}
-use Rattle.run.specs.Rows.{listed-P}
-use Rattle.run.specs.RowsOpen.{checking}
+use Rattle.verdict.specs.Verdict.{Checked, Checked.accepted, Checked.refused, of-read, checked, of-steps, of-structs, program-words, listed, check-list}
+use Rattle.types.specs.Numbers.{no-room}
+use Rattle.verdict.specs.VerdictLaws.{checked-image}
+use Rattle.verdict.specs.ProgramInputLaws.{checked-accepted, check-approved}
+use Rattle.verdict.specs.Rows.{P}
+use Rattle.verdict.specs.Rows.{listed-P}
+use Rattle.verdict.specs.Rows.{checking}
 use Rattle.step_part.specs.declared.Search.{Search}
 use Rattle.step_part.specs.declared.Spot.{Spot}
 use Rattle.step_part.specs.StepPart.{search-at, search-from, past, seek, search-in, nowhere, found, spot-by, step-place, step-part}

@@ -13,7 +13,7 @@ ghost use mathlib.Core.List.{[], _∷_};
 ghost use Prim.Native.Nat.{_+_, _≤_, _<_, _^_};
 ghost use lib.ListN.{length};
 ghost use Rattle.program.specs.Reader.{many, read-step, read-steps, read};
-ghost use Rattle.run.specs.Entry.{of-read, checked};
+ghost use Rattle.verdict.specs.Verdict.{of-read, checked};
 ghost use Rattle.step_part.specs.StepPart.{search-from, nowhere, past, seek, found, spot-by, step-place, step-part};
 ghost use Rattle.step_part.specs.Sought.{sought, Passing, Walked};
 

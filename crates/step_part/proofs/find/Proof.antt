@@ -5,8 +5,8 @@ use mathlib.Core.Path.{_≡_, sym, ap, _∙_}
 use lib.ListN.{length}
 use lib.Seq.{length-take-le}
 use Rattle.program.specs.Reader.{read}
-use Rattle.run.specs.Entry.{of-read}
-use Rattle.checker.specs.CheckLaws.{stream-stops, stream-value, numbered, passed, few, structs-are, place-in, table-few, steps-stand}
+use Rattle.verdict.specs.Verdict.{of-read}
+use Rattle.load.specs.StreamLaws.{stream-stops, stream-value, numbered, passed, few, structs-are, place-in, table-few, steps-stand}
 use Rattle.step_part.specs.StepPart.{found}
 use Rattle.step_part.specs.StepPartLaws.{spot-refused, spot-outside, spot-inside}
 use borrow.Author.Needs.{needs}

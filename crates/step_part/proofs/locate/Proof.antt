@@ -4,7 +4,7 @@ use mathlib.Core.Path.{_≡_, sym, _∙_}
 use lib.ListN.{take, length-replicate}
 use lib.Seq.{length-take-le}
 use Rattle.blocks.specs.Images.{stream}
-use Rattle.run.specs.Entry.{checked}
+use Rattle.verdict.specs.Verdict.{checked}
 use Rattle.checker.specs.CheckLaws.{image-unread, image-stream, image-front}
 use Rattle.step_part.specs.StepPartLaws.{spot-refused}
 use borrow.Author.Needs.{needs}
