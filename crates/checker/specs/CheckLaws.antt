@@ -6,10 +6,10 @@ use mathlib.Core.Logic.{⊎-elim}
 use mathlib.Core.List.{List, [], _∷_, _++_}
 use types.Run.{OneOf}
 use denote.Enum.Declared.{tagOf}
-use lib.ListN.{length, take}
+use lib.ListN.{length, take, length-map}
 use lib.Seq.{take-at}
 use borrow.Author.Tests.{lt-ltb, le-ltb}
-use Rattle.types.specs.Limits.{max-commands, program-blocks}
+use Rattle.types.specs.Limits.{max-structs, max-commands, program-blocks}
 use Rattle.blocks.specs.Images.{fault, stream, read as image-read, read-into, program-number as block-number}
 use Rattle.blocks.specs.AnswerLaws.{read-says, stream-most}
 use Rattle.block.specs.declared.Fault.{Fault}
@@ -25,15 +25,18 @@ use Rattle.commands.specs.Coding.{words}
 use Rattle.commands.specs.Bounds.{step-list, arities, program-size, Within}
 use Rattle.commands.specs.NumbersLaws.{number-accepted}
 use Rattle.read_params.specs.ParamsWays.{from-start}
-use Rattle.emit.specs.declared.Put.{Put}
-use Rattle.emit.specs.Written.{Ready, Wrote}
 use Rattle.emit.specs.ProgramWords.{step-words, steps-words, structs-words, structs-at, program-words as emitted-words}
 use Rattle.emit.specs.WordLaws.{words-append}
-use Rattle.emit.specs.ProgramLaws.{program-length, program-ready, program-wrote}
+use Rattle.emit.specs.ProgramLaws.{program-length}
+use Rattle.emit_steps.specs.declared.Place.{Place}
+use Rattle.emit_steps.specs.Emitted.{from-place, stand, Fits, Emitted, EmittedProgram}
+use Rattle.emit_steps.specs.ProgramLaws.{program-fits}
+use Rattle.directory.specs.Directory.{structs-rows}
+use Rattle.directory.specs.Rows.{directory-places}
 use Rattle.verdict.specs.Verdict.{Checked, Checked.accepted, Checked.refused, of-read, of-image, checked, of-steps, of-structs, program-words, listed, Verdict as Judgement, refusal, approval, verdict-of, list-of}
 use Rattle.load.specs.declared.Loaded.{Loaded}
 use Rattle.load.specs.Load.{Admitted}
-use Rattle.load.specs.LoadLaws.{LoadedAs, accepted-source}
+use Rattle.load.specs.LoadLaws.{LoadedAs, accepted-source, structs-are, structs-few}
 use Rattle.checker.specs.Answer.{answer, counts-verdict, approved, image-refusal}
 
 -- Refusals -----------------------------------------------------------------------------
@@ -87,24 +90,29 @@ module _ (x : List ℕ) (z : Loaded) (l : LoadedAs x z) where
   within : Within p
   within = number-accepted p .0 (accepted-source x p (l .accepts) .numbered) .0
 
-  module _ (s ar : List ℕ) (a : Admitted s ar (z .at) p) (list : List ℕ) (room : max-commands ≤ length list) where
-    enough : program-size p ≤ max-commands
-    unfolding Within
-    enough = within .1
+  module _ (s ar : List ℕ) (a : Admitted s ar (z .at) p) where
+    -- it has few structs
+    pub counts-few : length ar ≤ max-structs
+    counts-few = rw (a .counted) (omega (arith, length-map (p .params) length, structs-are x z l, structs-few x z l))
 
-    -- the list may be written
-    pub ready : Ready structs-words (structs-at ar s (length ar) (z .at)) list 0
-    ready =
-        let d = program-ready s p (a .end) (a .reads) enough (arities p) refl list (omega (arith, enough)) in
-        let i : d .0 ≡ z .at = let e : ok (p .params) (d .0) ≡ ok (p .params) (z .at) = sym (d .1) ∙ a .place in cc in
-        rw (a .counted) (rw i at (d .2))
+    module _ (list : List ℕ) (room : max-commands ≤ length list) where
+      enough : program-size p ≤ max-commands
+      unfolding Within
+      enough = within .1
 
-    -- and what is written is the program's
-    pub wrote : (r : Put) (list′ : List ℕ) → Wrote structs-words (structs-at ar s (length ar) (z .at)) list 0 r list′ → list′ ≡ listed p list
-    unfolding listed
-    wrote r list′ w =
-        let q = program-wrote (arities p) s (z .at) list r list′ (rw (a .counted) at w) p (a .end) (a .reads) refl (a .place) .0 in
-        q ∙ from-start list (emitted-words p) (omega (arith, program-length p, enough)) ∙ rw (same-words p)
+      -- the list and the directory may be written
+      pub fits : (rows : List ℕ) → directory-places ≤ length rows
+          → Fits structs-words (structs-rows 0) (structs-at ar s (length ar) (z .at)) (stand (from-place (z .at)) list rows)
+      fits rows wide = program-fits ar s (z .at) p (a .end) (a .reads) (a .counted) (a .place) list rows enough (omega (arith, enough)) wide
+
+      -- and what is written is the program's
+      module _ (r : Place) (list′ rows′ : List ℕ) (w : EmittedProgram ar s (z .at) list r list′ rows′) where
+        pub emitted : Emitted ar s (z .at) p list r list′ rows′
+        emitted = w p (a .end) (a .reads) (a .counted) (a .place)
+
+        pub wrote : list′ ≡ listed p list
+        unfolding listed
+        wrote = emitted .words ∙ from-start list (emitted-words p) (omega (arith, program-length p, enough)) ∙ rw (same-words p)
 
 -- Images -------------------------------------------------------------------------------
 

@@ -1,5 +1,6 @@
 // The checker: a program image to a number, counts and depth, and its commands to a lent list (01, numbers 1 to 8 and 13).
 use blocks::Read;
+use emit_steps::rows::ROWS;
 use load::Load;
 use load::Loaded;
 ghost use mathlib.Core.Path.{_≡_};
@@ -70,6 +71,7 @@ pub fn check(image: &[u8], list: &mut [u64]) -> Verdict
     }
     let n = p.length;
     let k = p.structs as usize;
-    emit::steps::program(&stream[..n], &counts[..k], p.at, list);
+    let mut rows = [0u16; ROWS];
+    emit_steps::program(&stream[..n], &counts[..k], p.at, list, &mut rows);
     accepted(p)
 }

@@ -3,23 +3,25 @@ use Prim.Native.Nat.{ℕ, _+_, _*_, _≤_}
 use native.Mathlib.Omega.{arith}
 use mathlib.Core.Path.{_≡_, refl, sym, ap, _∙_}
 use mathlib.Core.List.{List, [], _∷_, _++_}
-use lib.ListN.{length, drop}
+use lib.ListN.{length}
+use lib.Seq.{sets-eq, length-sets}
 use Rattle.types.specs.Limits.{max-commands}
-use Rattle.blocks.specs.Images.{stream}
 use Rattle.program.specs.Tree.{Program}
-use Rattle.program.specs.Reader.{Result.ok, read}
 use Rattle.commands.specs.Bounds.{Within}
 use Rattle.commands.specs.NumbersLaws.{number-accepted}
-use Rattle.emit.specs.Written.{code-of}
-use Rattle.emit.specs.ProgramWords.{program-words}
-use Rattle.emit.specs.ProgramLaws.{program-length as words-length}
-use Rattle.verdict.specs.Verdict.{Checked.refused, checked, listed}
+use Rattle.directory.specs.Rows.{directory-places, rows-from}
+use Rattle.directory.specs.DirectoryLaws.{directory-few}
+use Rattle.emit.specs.ProgramWords.{step-words, program-words}
+use Rattle.emit.specs.ProgramLaws.{program-length}
+use Rattle.emit_steps.specs.declared.Place.{Place}
+use Rattle.emit_steps.specs.Emitted.{Emitted}
+use Rattle.verdict.specs.Verdict.{Checked.refused, checked}
 use Rattle.load.specs.declared.Loaded.{Loaded}
-use Rattle.load.specs.LoadLaws.{LoadedAs, Source, accepted-source}
-use Rattle.checker.specs.CheckLaws.{same-words}
+use Rattle.load.specs.LoadLaws.{LoadedAs, Source, accepted-source, loaded-counts}
 use Rattle.text.specs.Listing.{row}
 use Rattle.step_lines.specs.Lines.{program-lines}
-use Rattle.step_lines.specs.Walk.{line-most, Walkable}
+use Rattle.step_lines.specs.RowLines.{line-most, rows-lines, Listable}
+use Rattle.step_lines.specs.DirectoryLinesLaws.{directory-lines, directory-listable}
 use Rattle.listing.specs.Listings.{audala, refused-word, head, listing, listing-of}
 
 -- an image that is refused is listed with its number
@@ -35,21 +37,31 @@ module _ (x : List ℕ) (z : Loaded) (l : LoadedAs x z) where
   source : Source x p
   source = accepted-source x p (l .accepts)
 
+  within : Within p
+  within = number-accepted p .0 (source .numbered) .0
+
   -- its head, and then its lines
-  pub accepted-listing : listing-of x ≡ row audala (z .structs ∷ z .steps ∷ z .commands ∷ z .depth ∷ []) ++ code-of program-lines (read (stream x))
-  unfolding listing listing-of head code-of
+  pub accepted-listing : listing-of x ≡ row audala (z .structs ∷ z .steps ∷ z .commands ∷ z .depth ∷ []) ++ program-lines p
+  unfolding listing listing-of head
   accepted-listing =
       ap listing (l .accepts)
       ∙ ap (λ (y : Loaded). row audala (y .structs ∷ y .steps ∷ y .commands ∷ y .depth ∷ []) ++ program-lines p) (sym (l .is))
-      ∙ rw (source .reads)
 
-  -- the list holds its words, and there is room for its lines
-  pub accepted-walkable : (list list' out : List ℕ) (k : ℕ) → list' ≡ listed p list → k + line-most * max-commands ≤ length out
-      → Walkable program-words (read (stream x)) list' 0 out k
-  unfolding code-of Within listed
-  accepted-walkable list list' out k w h =
-      rw (source .reads) (record {
-        good = tt;
-        words = record { front = []; rest = drop (length (program-words p)) list; parts = w ∙ rw (same-words p); before = refl };
-        room = omega (arith, words-length p, number-accepted p .0 (source .numbered) .0 .1);
-      })
+  -- off what was written of it
+  module _ {s ar : List ℕ} {at : ℕ} {list : List ℕ} (room : max-commands ≤ length list) {r : Place} {list′ rows′ : List ℕ}
+      (w : Emitted ar s at p list r list′ rows′) where
+    pub accepted-lines : rows-lines list′ (rows-from rows′ 0 (r .rows)) ≡ program-lines p
+    unfolding Within program-words step-words
+    accepted-lines =
+        let h : 0 + length (program-words p) ≤ length list = omega (arith, program-length p, within .1) in
+        rw (w .rows) (directory-lines p (loaded-counts x z l) list′ _ (w .words ∙ sets-eq (program-words p) list 0 h))
+
+    -- there is room for its lines
+    pub accepted-listable : (out : List ℕ) (k : ℕ) → length rows′ ≡ directory-places → k + line-most * max-commands ≤ length out
+        → Listable rows′ (r .rows) list′ out k
+    unfolding Within
+    accepted-listable out k wide h =
+        directory-listable p (loaded-counts x z l) rows′ (r .rows) list′ out k (w .rows)
+        (omega (arith, w .count, directory-few p (loaded-counts x z l)))
+        (omega (arith, within .1, ap length (w .words) ∙ length-sets list 0 (program-words p)))
+        (omega (arith, within .1))

@@ -1,4 +1,5 @@
 // What the listing program prints of an input: the listing of a program image, or its refusal (01, 'Bench rows').
+use emit_steps::rows::ROWS;
 use load::Load;
 use step_lines::program;
 use text::lines::row;
@@ -21,7 +22,9 @@ pub fn listing(image: &[u8], text: &mut [u8; 131072]) -> usize
     let n = p.length;
     let structs = p.structs as usize;
     let mut list = [0u64; types::MAX_COMMANDS];
-    emit::steps::program(&stream[..n], &counts[..structs], p.at, &mut list);
+    let mut rows = [0u16; ROWS];
+    let z = emit_steps::program(&stream[..n], &counts[..structs], p.at, &mut list, &mut rows);
+    let steps = z.rows;
     let head = [
         p.structs as u64,
         p.steps as u64,
@@ -29,5 +32,5 @@ pub fn listing(image: &[u8], text: &mut [u8; 131072]) -> usize
         p.depth as u64,
     ];
     let k = row(text, 0, b"audala", &head);
-    program(&stream[..n], &list, text, k)
+    program(&rows, steps, &list, text, k)
 }

@@ -1,12 +1,13 @@
 -- `check` meets its contract: the image is refused, the list is too short, or the commands of its program are written.
 use native.Mathlib.Omega.{arith}
 use mathlib.Core.Path.{_≡_, sym, ap, _∙_}
+use lib.ListN.{length-replicate}
 use lib.Seq.{length-take-le}
 use Rattle.verdict.specs.Verdict.{checked, check-verdict, check-list}
 use Rattle.load.specs.declared.Loaded.{Loaded}
 use Rattle.load.specs.LoadLaws.{LoadedAs, load-refused, load-value, length-fits, structs-few, admitted}
 use Rattle.checker.specs.Answer.{answer}
-use Rattle.checker.specs.CheckLaws.{refused-answers, short-answers, room-answers, approved-is, ready, wrote}
+use Rattle.checker.specs.CheckLaws.{refused-answers, short-answers, room-answers, approved-is, fits, counts-few, wrote}
 use borrow.Author.Needs.{needs}
 use Rattle.checker.proofs.check.Statement.{statement}
 use Rattle.checker.proofs.check.Tie as tie
@@ -17,6 +18,9 @@ at-program c = let at-back = c .before .before in at-back .before .before .befor
 
 abbrev start : tie.After-program → tie.Start
 start c = let at-lent = c .before .before .before in at-lent .before .before .before
+
+abbrev at-else : tie.After-program-arg → tie.Else1
+at-else c = c .before .before .before .before
 
 -- the program that was loaded
 loads : (c : tie.After-r) → LoadedAs (start (at-program c) .args .image .now) (c .r .given .0 .0)
@@ -52,19 +56,19 @@ slice-aggregate-program-5 c = sym (length-take-le _ _ (array-share-prefix-counts
 
 program-requires-2 : tie.Need-program-requires-2
 program-requires-2 c κs =
-    let at-if1 = c .before .before .before .before in let at-r = at-if1 .before .before in let l = loads at-r in
-    let a = admitted _ _ l _ _ _ _ _ _ (at-program at-r .program .ensures .1) in
-    ready _ _ l _ _ a (start (at-program at-r) .args .list .now) (at-if1 .if1 .left)
+    let at-if1 = at-else (c .before) in let at-r = at-if1 .before .before in let l = loads at-r in
+    let a = admitted _ _ l _ _ _ _ _ _ (at-program at-r .program .ensures .1) in let list = start (at-program at-r) .args .list .now in
+    (fits _ _ l _ _ a list (at-if1 .if1 .left) _ (simp length-replicate (omega arith)), counts-few _ _ l _ _ a)
 
 returns-3 : tie.Need-returns-3
 unfolding check-verdict check-list
 returns-3 c =
-    let at-list = c .before .before .before in let at-arg = at-list .before in
-    let at-if1 = at-arg .before .before .before .before in let at-r = at-if1 .before .before in let l = loads at-r in
+    let written = c .before .before .before .before in
+    let at-if1 = at-else (written .before .before) in let at-r = at-if1 .before .before in let l = loads at-r in
     let args = start (at-program at-r) .args in let a = admitted _ _ l _ _ _ _ _ _ (at-program at-r .program .ensures .1) in
     let w = room-answers (checked (args .image .now)) _ (args .list .now) (l .accepts) (at-if1 .if1 .left) in (
       c .accepted .ensures ∙ approved-is _ _ l ∙ ap answer (w .0),
-      wrote _ _ l _ _ a (args .list .now) (at-if1 .if1 .left) _ _ (at-list .program2 .ensures .0) ∙ w .1,
+      wrote _ _ l _ _ a (args .list .now) (at-if1 .if1 .left) _ _ _ (written .program2 .ensures) ∙ w .1,
     )
 
 pub check-spec : {M : Type 1} → statement M
@@ -72,4 +76,4 @@ check-spec =
     tie.close
     (tie.spec (λ c. search needs) (λ c. search needs) (λ c. search needs) (λ c κs. search needs) (λ c. search needs) (λ c. search needs) (λ c κs. search needs) (λ c κs. search needs) returns
     (λ c κs. search needs) returns-2 (λ c. search needs) array-share-prefix-stream slice-aggregate-program-4 array-share-prefix-counts
-    slice-aggregate-program-5 program-requires-2 (λ c κs. search needs) (λ c. search needs) returns-3)
+    slice-aggregate-program-5 (λ c. search needs) program-requires-2 (λ c κs. search needs) (λ c. search needs) returns-3)

@@ -1,14 +1,13 @@
 -- `image::listing` meets its contract: the image is refused, or its head and the lines of its commands are written.
 use native.Mathlib.Omega.{arith}
 use mathlib.Core.Path.{_≡_, sym, ap, _∙_}
-use lib.ListN.{take, length-replicate}
+use lib.ListN.{length-replicate}
 use lib.Seq.{length-take-le}
-use Rattle.blocks.specs.Images.{stream}
 use Rattle.load.specs.Load.{load-refusal}
-use Rattle.load.specs.LoadLaws.{LoadedAs, load-refused, load-value, length-fits, structs-few, front-is, admitted}
-use Rattle.checker.specs.CheckLaws.{ready, wrote}
+use Rattle.load.specs.LoadLaws.{LoadedAs, load-refused, load-value, length-fits, structs-few, admitted}
+use Rattle.checker.specs.CheckLaws.{fits, counts-few, emitted}
 use Rattle.text.specs.ListingLaws.{placed-as, placed-on}
-use Rattle.listing.specs.ImageLaws.{image-listing, accepted-listing, accepted-walkable}
+use Rattle.listing.specs.ImageLaws.{image-listing, accepted-listing, accepted-lines, accepted-listable}
 use borrow.Author.Needs.{needs}
 use Rattle.listing.proofs.image.listing.Statement.{statement}
 use Rattle.listing.proofs.image.listing.Tie as tie
@@ -21,17 +20,14 @@ abbrev at-program : tie.After-r → tie.After-program
 at-program c = let at-back = c .before .before in at-back .before .before .before
 
 abbrev at-emit : tie.After-row2 → tie.After-program2
-at-emit c = let at-head = c .before .before .before .before in let at-cast = at-head .before .before .before .before in at-cast .before
+at-emit c = let at-head = c .before .before .before .before in let at-cast = at-head .before .before .before .before in at-cast .before .before
 
 abbrev at-r : tie.After-list → tie.After-r
 at-r c = let at-stream = c .before .before in at-stream .before .before .before
 
--- the program that was loaded, and its stream
+-- the program that was loaded
 loads : (c : tie.After-r) → LoadedAs (start (at-program c) .args .image .now) (c .r .given .0 .0)
 loads c = load-value _ _ (sym (at-program c .program .ensures .0) ∙ c .r .given .1)
-
-front : (c : tie.After-r) → take (c .r .given .0 .0 .length) (at-program c .program .last .1 .0) ≡ stream (start (at-program c) .args .image .now)
-front c = front-is _ _ (loads c) _ _ _ _ _ _ (at-program c .program .ensures .1)
 
 returns : tie.Need-returns
 returns c =
@@ -57,27 +53,24 @@ slice-aggregate-program-5 c = sym (length-take-le _ _ (array-share-prefix-counts
 
 program-requires-2 : tie.Need-program-requires-2
 program-requires-2 c κs =
-    let l = loads (at-r c) in
-    ready _ _ l _ _ (admitted _ _ l _ _ _ _ _ _ (at-program (at-r c) .program .ensures .1)) _ (simp length-replicate (omega arith))
-
-array-share-prefix-stream-2 : tie.Need-array-share-prefix-stream-2
-array-share-prefix-stream-2 c =
-    let here = at-r (at-emit c .before) in omega (arith, length-fits _ _ (loads here), at-program here .program .kept .1 .0)
-
-slice-aggregate-program-7 : tie.Need-slice-aggregate-program-7
-slice-aggregate-program-7 c = sym (length-take-le _ _ (array-share-prefix-stream-2 (c .before)))
+    let here = at-r (c .before) in let l = loads here in let a = admitted _ _ l _ _ _ _ _ _ (at-program here .program .ensures .1) in
+    (fits _ _ l _ _ a _ (simp length-replicate (omega arith)) _ (simp length-replicate (omega arith)), counts-few _ _ l _ _ a)
 
 program-requires-3 : tie.Need-program-requires-3
 program-requires-3 c κs =
-    let at-row = c .before .before .before in let here = at-r (at-emit at-row .before) in let l = loads here in
-    let a = admitted _ _ l _ _ _ _ _ _ (at-program here .program .ensures .1) in
-    let w = wrote _ _ l _ _ a _ (simp length-replicate (omega arith)) _ _ (at-emit at-row .program2 .ensures .0) in
-    rw (front here) (accepted-walkable _ _ l _ _ _ _ w (omega (arith, at-row .row2 .ensures .1, at-row .row2 .kept .0)))
+    let at-row = c .before .before .before in let written = at-emit at-row in let here = at-r (written .before .before) in
+    let l = loads here in let a = admitted _ _ l _ _ _ _ _ _ (at-program here .program .ensures .1) in
+    let w = emitted _ _ l _ _ a _ (simp length-replicate (omega arith)) _ _ _ (written .program2 .ensures) in
+    accepted-listable _ _ l (simp length-replicate (omega arith)) w _ _ (rw length-replicate at (written .program2 .kept .1 .1 .1 .1 .0))
+    (omega (arith, at-row .row2 .ensures .1, at-row .row2 .kept .0))
 
 returns-2 : tie.Need-returns-2
 returns-2 c =
-    let at-row = c .before .before .before .before in let here = at-r (at-emit at-row .before) in (
-      placed-as (accepted-listing _ _ (loads here)) (placed-on (at-row .row2 .ensures .0) (rw (front here) at (c .program3 .ensures .0))),
+    let at-row = c .before .before .before .before in let written = at-emit at-row in let here = at-r (written .before .before) in
+    let l = loads here in let a = admitted _ _ l _ _ _ _ _ _ (at-program here .program .ensures .1) in
+    let w = emitted _ _ l _ _ a _ (simp length-replicate (omega arith)) _ _ _ (written .program2 .ensures) in
+    let e = accepted-lines _ _ l (simp length-replicate (omega arith)) w in (
+      placed-as (accepted-listing _ _ l) (placed-on (at-row .row2 .ensures .0) (placed-as (sym e) (c .program3 .ensures .0))),
       omega (arith, c .program3 .ensures .1, at-row .row2 .kept .0),
     )
 
@@ -86,6 +79,6 @@ listing-spec =
     tie.close
     (tie.spec (λ c. search needs) (λ c. search needs) (λ c. search needs) (λ c κs. search needs) (λ c. search needs) (λ c. search needs)
     (λ c. search needs) (λ c κs. search needs) (λ c. search needs) (λ c. search needs) (λ c κs. search needs) returns (λ c. search needs)
-    array-share-prefix-stream slice-aggregate-program-4 array-share-prefix-counts slice-aggregate-program-5 (λ c. search needs) program-requires-2
-    (λ c. search needs) (λ c. search needs) (λ c. search needs) (λ c. search needs) (λ c. search needs) (λ c. search needs) (λ c κs. search needs)
-    array-share-prefix-stream-2 slice-aggregate-program-7 (λ c. search needs) program-requires-3 returns-2)
+    array-share-prefix-stream slice-aggregate-program-4 array-share-prefix-counts slice-aggregate-program-5 (λ c. search needs) (λ c. search needs)
+    program-requires-2 (λ c. search needs) (λ c. search needs) (λ c. search needs) (λ c. search needs) (λ c. search needs) (λ c. search needs)
+    (λ c κs. search needs) (λ c. search needs) (λ c. search needs) program-requires-3 returns-2)
