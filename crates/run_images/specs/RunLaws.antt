@@ -31,9 +31,9 @@ use Rattle.memory.specs.BoundedLaws.{accepted-bounded}
 use Rattle.checker.specs.CheckLaws.{same-words}
 use Rattle.compile.specs.Spans.{span-places}
 use Rattle.compile.specs.Prepared.{Preparable, Prepared, PreparedProgram}
-use Rattle.table_read.specs.Written.{memory-stream, memory-blocks, memory-image, Filled}
-use Rattle.table_read.specs.WrittenWays.{stream-fits}
-use Rattle.table_read.specs.WriteStands.{null-ones, filled, stream-stands}
+use Rattle.table_write.specs.Written.{memory-stream, memory-blocks, memory-image, Filled}
+use Rattle.table_write.specs.WrittenWays.{stream-fits}
+use Rattle.table_write.specs.WriteStands.{null-ones, filled, stream-stands}
 use Rattle.interpreter.specs.Ready.{Ready}
 use Rattle.interpreter.specs.Running.{cleared, Ended}
 use Rattle.run_images.specs.declared.Report.{Report}

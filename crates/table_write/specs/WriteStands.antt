@@ -28,10 +28,10 @@ use Rattle.layout.specs.Layout.{row-size, operand, variable}
 use Rattle.layout.specs.State.{State, of-cell}
 use Rattle.memory.specs.CellLaws.{operand-part, code-byte}
 use Rattle.memory.specs.Stands.{Shows, Stands}
 use Rattle.table_read.specs.Refer.{struct-in}
 use Rattle.table_read.specs.LaidLaws.{at-place}
 use Rattle.table_read.specs.BeginStands.{few-all}
-use Rattle.table_read.specs.Written.{cells-bytes, rows-bytes, memory-stream, Filled}
+use Rattle.table_write.specs.Written.{cells-bytes, rows-bytes, memory-stream, Filled}
 
 -- the number in a cell that shows a value
 shown-word : (c : ℕ) (x : Val) → Shows c x → operand c ≡ word x
