@@ -3,6 +3,9 @@ pub mod StepNames
 pub mod Values
 pub mod Means
 pub mod Holds
+pub mod HoldsDecide
+pub mod Nesting
+pub mod NestingLaws
 pub mod Finding
 pub mod Meant
 pub mod MeantComplete
