@@ -8,7 +8,7 @@ use lib.Seq.{take-at}
 use Rattle.types.specs.Limits.{max-params}
 use Rattle.program.specs.Tree.{Program}
 use Rattle.program.specs.Reader.{read-params, read}
-use Rattle.commands.specs.Numbers.{program-number}
+use Rattle.commands.specs.Numbers.{breach-number}
 use Rattle.judge.specs.ProgramFacts.{types-table}
 use Rattle.read_params.specs.ParamsTold.{ParamsKept}
 use Rattle.read_params.specs.ParamsWays.{table-length}

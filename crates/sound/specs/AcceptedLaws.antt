@@ -11,11 +11,11 @@ use Rattle.types.specs.Types.{IsType}
 use Rattle.program.specs.Tree.{Stmts, Program}
 use Rattle.program.specs.Counts.{All, Few, CountsStmts, CountsStep, Counts}
 use Rattle.commands.specs.Context.{params-of, context, step-of}
-use Rattle.commands.specs.Numbers.{accepted, program-number}
+use Rattle.commands.specs.Numbers.{no-breach, breach-number}
 use Rattle.commands.specs.NumbersLaws.{number-accepted}
 use Rattle.table.specs.Table.{Record}
 use Rattle.machine.specs.Published.{structs}
-use Rattle.run.specs.Input.{Ready}
+use Rattle.run.specs.Input.{Runnable}
 use Rattle.commands.specs.Steps.{of-each, found, step-secure}
 use Rattle.commands.specs.Heights.{program-height}
 use Rattle.sound.specs.SizedLaws.{noted-sized}
@@ -45,12 +45,12 @@ module _ (p : Program) (counts : Counts p) where
       rw q at (of-each C (f .2) m .2)
 
 -- a program that keeps to the counts is accepted exactly where its number is 0
-pub number-accepts : (p : Program) → Counts p → (program-number p ≡ accepted) ↔ Accepted p
+pub number-accepts : (p : Program) → Counts p → (breach-number p ≡ no-breach) ↔ Accepted p
 number-accepts p c =
     (λ e. let (w, n, t) = number-accepted p .0 e in (c, w, n, t), λ a. number-accepted p .1 (a .1, a .2, a .3))
 
 -- so is the program of a run that begins
-pub ready-accepted : {x y es out list : List ℕ} {p : Program} {rs : List Record} → Ready x y es out list p rs → Accepted p
+pub ready-accepted : {x y es out list : List ℕ} {p : Program} {rs : List Record} → Runnable x y es out list p rs → Accepted p
 ready-accepted r = let a = r .program in (a .reads .counts, a .within, a .names, a .types)
 
 -- an accepted program is firm

@@ -91,7 +91,7 @@ check-order x list = program-order x ++ (13, ShortList list) ∷ []
 -- What is accepted -----------------------------------------------------------------------
 
 -- a program image that is accepted
-pub record Accepted (x : List ℕ) (p : Program) : Type 0 where
+pub record AcceptedImage (x : List ℕ) (p : Program) : Type 0 where
   pub image : ImageRight program-blocks x
   pub reads : Reads x p
   pub within : Within p
@@ -100,4 +100,4 @@ pub record Accepted (x : List ℕ) (p : Program) : Type 0 where
 
 -- the verdict on an accepted program, where the list has room
 abbrev pub Approved : List ℕ → List ℕ → Verdict → Type 0
-Approved x list v = (p : Program) × (v ≡ approval p) × (Accepted x p) × (max-commands ≤ length list)
+Approved x list v = (p : Program) × (v ≡ approval p) × (AcceptedImage x p) × (max-commands ≤ length list)
