@@ -38,7 +38,7 @@ use Rattle.run.specs.RunAgreesVisits.{visits-passes, passes-visits}
 use Rattle.run.specs.BeginLaws.{begin-represents, outcome-exact, comes-unique}
 use Rattle.run.specs.Answered.{Answered}
 use Rattle.run.specs.AnsweredLaws.{comes-answered}
-use Rattle.sound.specs.Accepted.{Accepted}
+use Rattle.commands.specs.Accepted.{Accepted}
 use Rattle.sound.specs.AcceptedLaws.{accepted-firm, ready-accepted}
 use Rattle.sound.specs.BeginGood.{begin-good}
 use Rattle.sound.specs.NeverStuckLaws.{visits-good, demand3, demand3-comes}

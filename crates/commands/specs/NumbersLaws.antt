@@ -7,6 +7,8 @@ use mathlib.Core.Path.{_≡_, refl, sym, ap, subst, _∙_}
 use native.Mathlib.Omega.{arith}
 use Rattle.program.specs.Tree.{Program}
 use Rattle.types.specs.Reflects.{Reflects, Reflects.holds, Reflects.fails}
+use Rattle.program.specs.Counts.{Counts}
+use Rattle.commands.specs.Accepted.{Accepted}
 use Rattle.commands.specs.Bounds.{Within}
 use Rattle.commands.specs.Names.{NamesRight}
 use Rattle.commands.specs.Typing.{TypesRight}
@@ -75,6 +77,11 @@ module _ (p : Program) where
       go (holds x) (holds y) (fails h) = no-no (λ e. omega arith) (λ q. h (q .2))
       go (holds x) (fails g) t = no-no (λ e. omega arith) (λ q. g (q .1))
       go (fails f) s t = no-no (λ e. omega arith) (λ q. f (q .0))
+
+  -- so one that keeps to the counts is accepted exactly where its number is 0
+  pub number-accepts : Counts p → (breach-number p ≡ no-breach) ↔ Accepted p
+  number-accepts c =
+      (λ e. let (w, n, t) = number-accepted .0 e in (c, w, n, t), λ a. number-accepted .1 (a .1, a .2, a .3))
 
   -- 6 exactly where it breaks a limit
   pub number-limits : (breach-number p ≡ over-limits) ↔ (Within p → ⊥)

@@ -28,7 +28,7 @@ use Rattle.run.specs.Run.{run}
 use Rattle.run.specs.Begin.{begin}
 use Rattle.verdict.specs.Verdict.{Checked, Checked.refused, checked, listed}
 use Rattle.run.specs.Entry.{Begun, Begun.begun, Begun.not-begun, of-table, of-table-image, of-checked, with-room, begins, report, report-of, output-of, run-report-by, run-output-by, run-list-by, run-report, run-output, run-list}
-use Rattle.verdict.specs.ProgramInput.{ImageRight, Reads, AcceptedImage, WrongLength, WrongBlock, ShortList, program-order}
+use Rattle.verdict.specs.ProgramInput.{ImageRight, Reads, AcceptedImage, reads-of, WrongLength, WrongBlock, ShortList, program-order}
 use Rattle.run.specs.Input.{TableAccepted, Runnable, Began, TableWrongEnd, TableWrongValue, ShortOutput, ManyTurns, run-order}
 use Rattle.verdict.specs.InputOrder.{none-behind, foremost-front, Tells, Tells.refuses, Tells.passes, here, past, past-all, tells-number, tells-none}
 use Rattle.verdict.specs.ProgramInputLaws.{one-program, no-fault, Passed, tell-checked, accepted-none}
@@ -74,18 +74,18 @@ module _ (x y es out list : List ℕ) where
   tell-table p a i = go (table-of-stream (p .params) (stream y)) refl
     where
       numbered : (n : ℕ) → table-of-stream (p .params) (stream y) ≡ no-table n → (n ≡ table-end) ⊎ (n ≡ table-value) → Tell from-11 (not-begun n)
-      numbered n e (inl q) = rw q (here refl (p, a .reads, table-ends-exactly (p .params) (stream y) .0 (rw q at e)))
+      numbered n e (inl q) = rw q (here refl (p, reads-of a, table-ends-exactly (p .params) (stream y) .0 (rw q at e)))
       numbered n e (inr q) =
           let offends = table-offends-exactly (p .params) (stream y) .0 (rw q at e) in
           rw q
-          (past (λ c. ends-or-offends (p .params) (stream y) (rw (one-program (a .reads) (c .1)) (c .2)) offends)
-          (here refl (p, a .reads, offends)))
+          (past (λ c. ends-or-offends (p .params) (stream y) (rw (one-program (reads-of a) (c .1)) (c .2)) offends)
+          (here refl (p, reads-of a, offends)))
 
       go : (t : TableAnswer) → table-of-stream (p .params) (stream y) ≡ t → Tell from-11 (roomed (of-table p t))
       go (table rs) e =
           let q = table-answer-exact (p .params) (stream y) rs .0 e in
           let t : TableAccepted p y rs = record { image = i; right = q .0; bytes = q .1 } in
-          past (no-11 (a .reads) t) (past (no-12 (a .reads) t) (tell-room p rs a t))
+          past (no-11 (reads-of a) t) (past (no-12 (reads-of a) t) (tell-room p rs a t))
       go (no-table n) e = numbered n e (table-numbers (p .params) (stream y) n e)
 
   -- 9 and 10
@@ -129,7 +129,7 @@ module _ (x y es out list : List ℕ) where
   pub ready-none : {p : Program} {rs : List Record} → Runnable x y es out list p rs → NoneOf (run-order x y es out list)
   ready-none r =
       let room : NoneOf from-13 = (λ h. omega (arith, r .output-room), (λ h. omega (arith, r .list-room), (λ h. omega (arith, r .turns-few), tt))) in
-      let table : NoneOf from-11 = (no-11 (r .program .reads) (r .table), (no-12 (r .program .reads) (r .table), room)) in
+      let table : NoneOf from-11 = (no-11 (reads-of (r .program)) (r .table), (no-12 (reads-of (r .program)) (r .table), room)) in
       none-behind (program-order x) from-9 (accepted-none x (r .program)) (
         λ f. f (r .table .image .length-right),
         (λ b. no-fault y (b .0) (r .table .image .blocks-right) (b .1), table),
@@ -146,7 +146,7 @@ module _ (x y es out list : List ℕ) where
       back : Tell (run-order x y es out list) (begins x y es out list) → Runnable x y es out list p rs → begins x y es out list ≡ begun p rs
       back (refuses d q) r = absurd (foremost-some q (ready-none r))
       back (passes f d) r =
-          let a : d .0 ≡ p = one-program (d .3 .program .reads) (r .program .reads) in
+          let a : d .0 ≡ p = one-program (reads-of (d .3 .program)) (reads-of (r .program)) in
           let t = table-answer-exact (d .0 .params) (stream y) (d .1) .1 (d .3 .table .right, d .3 .table .bytes) in
           let u = table-answer-exact (p .params) (stream y) rs .1 (r .table .right, r .table .bytes) in
           let v : table-of-stream (d .0 .params) (stream y) ≡ table rs = rw a u in

@@ -27,7 +27,7 @@ use Rattle.run.specs.Run.{Outcome.stopped, run}
 use Rattle.run.specs.Begin.{begin}
 use Rattle.run.specs.RowsOpen.{running}
 use Rattle.sound.specs.Needs.{ValueAmong}
-use Rattle.sound.specs.Accepted.{Accepted}
+use Rattle.commands.specs.Accepted.{Accepted}
 use Rattle.sound.specs.NeverStuck.{Demand3}
 use Rattle.sound.specs.After.{onward, act-on, after, after-visited}
 use Rattle.sound.specs.Exhibits.{Lacks, lacks-refutes, no-record, Fails}

@@ -34,7 +34,7 @@ use Rattle.commands.specs.Numbers.{Order, NoneOf, Foremost, breach-number}
 use Rattle.commands.specs.NumbersLaws.{number-accepted, number-limits, number-names, number-types, foremost-some}
 use Rattle.verdict.specs.Verdict.{Checked, Checked.accepted, Checked.refused, judge, of-read, of-image, checked, Verdict, refusal, approval, verdict-of, check-verdict, list-of, listed, check-list}
 use Rattle.types.specs.Numbers.{no-room}
-use Rattle.verdict.specs.ProgramInput.{ImageRight, Reads, AcceptedImage, Approved, WrongEnd, WrongByte, OverLimits, WrongNames, WrongTypes, ShortList, program-order, check-order}
+use Rattle.verdict.specs.ProgramInput.{ImageRight, Reads, AcceptedImage, reads-of, Approved, WrongEnd, WrongByte, OverLimits, WrongNames, WrongTypes, ShortList, program-order, check-order}
 use Rattle.verdict.specs.InputOrder.{none-behind, foremost-front, Tells, Tells.refuses, Tells.passes, here, past, past-all, tells-number, tells-none}
 
 -- one program is read from an image
@@ -87,7 +87,7 @@ module _ (x : List ℕ) where
           past (no-6 r a) (past (no-7 r b) (here (ap (judge p) (number-types p .1 (a, b, f))) (p, r, f)))
       go (holds a) (holds b) (holds c) =
           passes (no-6 r a, (no-7 r b, (no-8 r c, tt)))
-          (p, ap (judge p) (number-accepted p .1 (a, b, c)), record { image = i; reads = r; within = a; names = b; types = c })
+          (p, ap (judge p) (number-accepted p .1 (a, b, c)), record { image = i; bytes = r .bytes; program = (r .counts, a, b, c) })
 
   -- 4 and 5
   no-4 : (p : Program) (m : ℕ) → read (stream x) ≡ ok p m → WrongEnd x → ⊥
@@ -146,8 +146,8 @@ module _ (x : List ℕ) where
   -- what is accepted meets no condition
   pub accepted-none : {p : Program} → AcceptedImage x p → NoneOf (program-order x)
   accepted-none {p} a =
-      let reads = program-law (stream x) p (length (stream x)) .1 (a .reads .counts, a .reads .bytes, refl) in
-      let judged : NoneOf from-6 = (no-6 (a .reads) (a .within), (no-7 (a .reads) (a .names), (no-8 (a .reads) (a .types), tt))) in
+      let reads = program-law (stream x) p (length (stream x)) .1 (a .program .0, a .bytes, refl) in
+      let judged : NoneOf from-6 = (no-6 (reads-of a) (a .program .1), (no-7 (reads-of a) (a .program .2), (no-8 (reads-of a) (a .program .3), tt))) in
       let whole : NoneOf from-4 = (no-4 p (length (stream x)) reads, (no-5 p (length (stream x)) reads, judged)) in (
         λ f. f (a .image .length-right),
         (no-fault x Sum (a .image .blocks-right), (no-fault x Layout (a .image .blocks-right), whole)),
@@ -164,7 +164,7 @@ module _ (x : List ℕ) where
 
       back : Tell (program-order x) (checked x) → AcceptedImage x p → checked x ≡ accepted p
       back (refuses d q) a = absurd (foremost-some q (accepted-none a))
-      back (passes f d) a = d .1 ∙ ap accepted (one-program (d .2 .reads) (a .reads))
+      back (passes f d) a = d .1 ∙ ap accepted (one-program (reads-of (d .2)) (reads-of a))
 
 -- Checking, with a list ------------------------------------------------------------------
 
@@ -194,7 +194,7 @@ module _ (x list : List ℕ) where
   -- a program has a struct, and a refusal counts none
   refusal-apart : (n : ℕ) → Approved x list (refusal n) → ⊥
   unfolding Counts
-  refusal-apart n d = omega (arith, d .2 .reads .counts .0 .0, ap (λ (v : Verdict). v .structs) (d .1))
+  refusal-apart n d = omega (arith, d .2 .program .0 .0 .0, ap (λ (v : Verdict). v .structs) (d .1))
 
   -- checking refuses with a number exactly where that number is foremost
   pub verdict-number : (n : ℕ) → (check-verdict x list ≡ refusal n) ↔ Foremost (check-order x list) n
