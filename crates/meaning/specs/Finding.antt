@@ -66,13 +66,6 @@ is-not {t} d n = go t refl
     go true e = absurd (n (d .holds e))
     go false e = e
 
-pub is-so : {t : Bool} {P : Type 0} → Decides t P → P → t ≡ true
-is-so {t} d p = go t refl
-  where
-    go : (u : Bool) → t ≡ u → t ≡ true
-    go true e = e
-    go false e = absurd (d .fails e p)
-
 module _ {A : Type 0} (key : A → Id) (x : Id) where
   pub find-sound : (l : List A) (p : Place A) → find key x l ≡ some p → Found key x (p .at) (p .element) l
   unfolding find one-later

@@ -3,6 +3,7 @@ pub mod StepNames
 pub mod Values
 pub mod Means
 pub mod Holds
+pub mod HoldsDecide
 pub mod Finding
 pub mod Meant
 pub mod MeantComplete

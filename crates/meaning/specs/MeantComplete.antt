@@ -5,6 +5,7 @@ use mathlib.Core.List.{List, map}
 use mathlib.Core.Option.{Option, some}
 use Rattle.types.specs.Limits.{nat-end}
 use Rattle.types.specs.Types.{Ty}
+use Rattle.types.specs.Decides.{is-true}
 use Rattle.types.specs.Values.{in-int}
 use Rattle.program.specs.Tree.{Var as Variable, Expr, Exprs}
 use Rattle.program.specs.Tree.{Stmt, Stmts, Item as Call, Items, Step as Named, Program}
@@ -23,7 +24,7 @@ use Rattle.meaning.specs.Means.{LiteralMeans, LiteralMeans.int-means, Li
 use Rattle.meaning.specs.Means.{ExpMeans, ExpMeans.binary-means, ExpMeans.brackets-mean, ExpMeans.negation-means, ExpMeans.constructor-means, ExpMeans.variable-means, ExpMeans.literal-means, ExpMeans.null-means, ExpMeans.this-means, ExpsMean, ExpsMean.no-exps-mean, ExpsMean.exps-mean}
 use Rattle.meaning.specs.Means.{StatMeans, StatMeans.if-means, StatMeans.assignment-means, StatMeans.update-means, StatMeans.construct-means, StatsMean, StatsMean.no-stats-mean, StatsMean.stats-mean, ParMeans, ParMeans.par-means, ParsMean, ParsMean.pars-mean, StepMeans, StepMeans.step-means, StepsMean, StepsMean.steps-mean, ItemMeans, ItemMeans.execution-means, ItemMeans.typed-means, ItemMeans.fix-means, SchedMeans, SchedMeans.last-means, SchedMeans.barrier-means, Means, Means.means}
 use Rattle.meaning.specs.Meant.{then, provided, each, literal-meaning, type-meaning, referred, further, started, start, path-meaning, exp-meaning, exps-meaning, stat-meaning, stats-meaning, pars-meaning, step-meaning, steps-meaning, item-meaning, sched-meaning, text-meaning, meant}
-use Rattle.meaning.specs.Finding.{is-not, is-so, decides-absent, decides-distinct, find-complete, found-there}
+use Rattle.meaning.specs.Finding.{is-not, decides-absent, decides-distinct, find-complete, found-there}
 
 range-test : (z : ℤ) → IntRange z → in-int z ≡ true
 unfolding in-int
@@ -63,7 +64,7 @@ module _ (ds : List Struct) where
     start-complete : {x : Id} {u : Variable} {t : TypeName} → Starts ds own alive x u t → start ds own alive x ≡ some (record { variable-of = u; type-of = t })
     unfolding start started then
     start-complete {x = x} (a-parameter f) = rw (is-not (decides-absent x (map par-id own)) (found-there par-id x f)) (rw (find-complete par-id _ f) refl)
-    start-complete {x = x} (a-local a f) = rw (is-so (decides-absent x (map par-id own)) a) (rw (find-complete local-id _ f) refl)
+    start-complete {x = x} (a-local a f) = rw (is-true (decides-absent x (map par-id own)) a) (rw (find-complete local-id _ f) refl)
 
     path-complete : {v : Var} {u : Variable} {vs : List ℕ} → PathMeans ds own alive v u vs → path-meaning ds own alive v ≡ some (record { first = u; rest = vs })
     unfolding path-meaning then
@@ -95,7 +96,7 @@ module _ (ds : List Struct) where
           → stat-meaning ds own t alive met ≡ some (record { tree = u; alive = after; met = met' })
       stat-complete {alive} (if-means p q) = rw (exp-complete own alive p) (rw (stats-complete q) refl)
       stat-complete {alive} {met} (assignment-means {x = x} p a b n q) =
-          rw (type-complete p, n) (rw (is-so (decides-absent x met) a, is-so (decides-absent x (map par-id own)) b) (rw (exp-complete own alive q) refl))
+          rw (type-complete p, n) (rw (is-true (decides-absent x met) a, is-true (decides-absent x (map par-id own)) b) (rw (exp-complete own alive q) refl))
       stat-complete {alive} (update-means p q) = rw (path-complete own alive p) (rw (exp-complete own alive q) refl)
       stat-complete {alive} (construct-means f p n) = rw (find-complete struct-id _ f) (rw (exps-complete own alive p) (rw (eq-eqb _ _ n) refl))
 
@@ -106,7 +107,7 @@ module _ (ds : List Struct) where
 
   pars-complete : (d : Struct) (us : List Ty) → ParsMean ds d us → pars-meaning ds d ≡ some us
   unfolding pars-meaning provided
-  pars-complete d us (pars-mean n e) = rw (is-so (decides-distinct (map par-id (pars-of d))) n) (each-complete one e)
+  pars-complete d us (pars-mean n e) = rw (is-true (decides-distinct (map par-id (pars-of d))) n) (each-complete one e)
     where
       one : (q : Par) (u : Ty) → ParMeans ds q u → type-meaning ds (par-type q) ≡ some u
       one q u (par-means p) = type-complete p
@@ -135,6 +136,6 @@ module _ (ds : List Struct) where
 pub means-meant : {c : Derivation} {p : Program} → Means c p → meant c ≡ some p
 unfolding meant text-meaning then provided
 means-meant (means {d = d} n us ts is) =
-    rw (is-so (decides-distinct (map struct-id (structs-of d))) n)
+    rw (is-true (decides-distinct (map struct-id (structs-of d))) n)
     (rw (each-complete (pars-complete (structs-of d)) us)
     (rw (each-complete (steps-complete (structs-of d) (step-names (structs-of d))) ts) (rw (sched-complete (structs-of d) (step-names (structs-of d)) is) refl)))
