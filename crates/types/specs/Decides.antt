@@ -1,7 +1,9 @@
 -- What a test reflects, by its two halves: a proof where it is true, a refutation where it is false.
+use Prim.Native.Nat.{ℕ, _≤_}
 use mathlib.Core.Path.{_≡_, refl}
 use mathlib.Core.Bool.{Bool, true, false, _&&_, true≢false, false≢true}
-use Rattle.types.specs.Reflects.{Reflects, Reflects.holds as so, Reflects.fails as not-so, reflects-both}
+use lib.Dec.{eqb, leb}
+use Rattle.types.specs.Reflects.{Reflects, Reflects.holds as so, Reflects.fails as not-so, reflects-iff, reflects-map, reflects-both, le-reflects, eq-reflects}
 
 pub record Decides (t : Bool) (P : Type 0) : Type 0 where
   pub holds : t ≡ true → P
@@ -17,3 +19,15 @@ reflected false d = not-so (d .fails refl)
 
 pub decides-both : (s t : Bool) {P Q : Type 0} → Decides s P → Decides t Q → Decides (s && t) (P × Q)
 decides-both s t p q = decided (reflects-both (reflected s p) (reflected t q))
+
+pub decides-eqb : (a b : ℕ) → Decides (eqb a b) (a ≡ b)
+decides-eqb a b = decided (eq-reflects a b)
+
+pub decides-leb : (a b : ℕ) → Decides (leb a b) (a ≤ b)
+decides-leb a b = decided (le-reflects a b)
+
+pub decides-as : {t : Bool} {P Q : Type 0} → Decides t P → (P → Q) → (Q → P) → Decides t Q
+decides-as {t} d to from = decided (reflects-map to from (reflected t d))
+
+pub is-true : {t : Bool} {P : Type 0} → Decides t P → P → t ≡ true
+is-true {t} d p = reflects-iff (reflected t d) .1 p
