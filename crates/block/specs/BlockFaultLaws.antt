@@ -3,8 +3,8 @@ use Prim.Native.Nat.{ℕ}
 use mathlib.Core.Path.{_≡_, refl}
 use mathlib.Core.Bool.{Bool, true, false}
 use mathlib.Core.List.{List}
-use Rattle.types.specs.Decides.{Decides}
-use Rattle.block.specs.Block.{SumsRight, LaidOut, block-fault, sums-right, laid-out}
+use Rattle.types.specs.Reflects.{Reflects, Reflects.holds, Reflects.fails}
+use Rattle.block.specs.Block.{SumsRight, LaidOut, block-fault}
 use Rattle.block.specs.BlockLaws.{sums-exact, layout-exact}
 use Rattle.block.specs.BlockFaults.{BlockRight, HasFault, BlockSays}
 use Rattle.block.specs.declared.Fault.{Fault}
@@ -13,13 +13,13 @@ use Rattle.block.specs.declared.Found.the-variants.{Right, Wrong}
 
 pub block-says : (k : ℕ) (last : Bool) (b : List ℕ) → BlockSays k last b (block-fault k last b)
 unfolding block-fault
-block-says k last b = go (sums-right b) (sums-exact b) (laid-out k last b) (layout-exact k last b)
+block-says k last b = go (sums-exact b) (layout-exact k last b)
   where
-    go : (s : Bool) → Decides s (SumsRight b) → (l : Bool) → Decides l (LaidOut k last b)
+    go : {s l : Bool} → Reflects (SumsRight b) s → Reflects (LaidOut k last b) l
         → BlockSays k last b (elim s [ false ↦ Wrong Sum | true ↦ elim l [ false ↦ Wrong Layout | true ↦ Right ] ])
-    go false d l e = d .fails refl
-    go true d false e = (d .holds refl, e .fails refl)
-    go true d true e = record { sums = d .holds refl; layout = e .holds refl }
+    go (fails n) r = n
+    go (holds h) (fails n) = (h, n)
+    go (holds h) (holds k) = record { sums = h; layout = k }
 
 -- a faulty block is not right, and has one first fault
 pub not-right : (k : ℕ) (last : Bool) (b : List ℕ) (f : Fault) → HasFault k last b f → BlockRight k last b → ⊥

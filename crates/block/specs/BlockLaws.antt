@@ -7,31 +7,29 @@ use mathlib.Core.Bool.{Bool, true, false}
 use mathlib.Core.List.{List, [], _∷_}
 use lib.ListN.{length, take, length-take, List·getD-eq-default, drop-of-length-le}
 use lib.Seq.{slice, slice-cons, getD-take, getD-drop}
-use lib.Dec.{leb}
 use borrow.Author.Tests.{ne-eqb}
 use Rattle.block.specs.Sums.{byte, sum-a, sum-b}
 use Rattle.little_endian.specs.Numbers.{pair-at}
-use Rattle.block.specs.Block.{index, used, unused-part, SumsRight, UsedRight, LaidOut, sums-right, used-right, zeros}
-use Rattle.block.specs.Block.{laid-out, payload-size}
-use Rattle.types.specs.Decides.{Decides, decides-eqb, decides-leb, decides-both, decides-as}
+use Rattle.block.specs.Block.{index, used, unused-part, SumsRight, UsedRight, LaidOut, sums-right, used-right, zeros, laid-out, payload-size}
+use Rattle.types.specs.Reflects.{Reflects, Reflects.holds, Reflects.fails, reflects-map, reflects-both, le-reflects, eq-reflects}
 
 -- The tests are exact ---------------------------------------------------------
 
-pub sums-exact : (b : List ℕ) → Decides (sums-right b) (SumsRight b)
+pub sums-exact : (b : List ℕ) → Reflects (SumsRight b) (sums-right b)
 unfolding sums-right
 sums-exact b =
-    decides-as (decides-both _ _ (decides-eqb (pair-at b 508) (sum-a b)) (decides-eqb (pair-at b 510) (sum-b b)))
-    (λ p. record { a-right = p .0; b-right = p .1 }) (λ r. (r .a-right, r .b-right))
+    reflects-map (λ p. record { a-right = p .0; b-right = p .1 }) (λ r. (r .a-right, r .b-right))
+    (reflects-both (eq-reflects (pair-at b 508) (sum-a b)) (eq-reflects (pair-at b 510) (sum-b b)))
 
-pub used-exact : (last : Bool) (u : ℕ) → Decides (used-right last u) (UsedRight last u)
+pub used-exact : (last : Bool) (u : ℕ) → Reflects (UsedRight last u) (used-right last u)
 unfolding used-right
-used-exact true u = decides-both _ _ (decides-leb 1 u) (decides-leb u payload-size)
-used-exact false u = decides-eqb u payload-size
+used-exact true u = reflects-both (le-reflects 1 u) (le-reflects u payload-size)
+used-exact false u = eq-reflects u payload-size
 
-zeros-exact : (xs : List ℕ) → Decides (zeros xs) ((i : ℕ) → byte xs i ≡ 0)
+zeros-exact : (xs : List ℕ) → Reflects ((i : ℕ) → byte xs i ≡ 0) (zeros xs)
 unfolding zeros
-zeros-exact [] = record { holds = λ e i. refl; fails = λ e p. let z : _≡_ {A = ℕ} 0 1 = cc in omega arith }
-zeros-exact (x ∷ xs) = decides-as (decides-both _ _ (decides-eqb x 0) (zeros-exact xs)) every (λ p. (p zero, λ i. p (suc i)))
+zeros-exact [] = holds (λ i. refl)
+zeros-exact (x ∷ xs) = reflects-map every (λ p. (p zero, λ i. p (suc i))) (reflects-both (eq-reflects x 0) (zeros-exact xs))
   where
     every : (x ≡ 0) × ((i : ℕ) → byte xs i ≡ 0) → (i : ℕ) → byte (x ∷ xs) i ≡ 0
     every p zero = p .0
@@ -44,9 +42,9 @@ slice-byte f t b i h = getD-drop f (take t b) i 0 ∙ getD-take t b (f + i) 0 h
 slice-past : (f t : ℕ) (b : List ℕ) (i : ℕ) → t ≤ f + i → byte (slice f t b) i ≡ 0
 slice-past f t b i h = getD-drop f (take t b) i 0 ∙ List·getD-eq-default (take t b) 0 (omega (arith, length-take t b))
 
-unused-exact : (b : List ℕ) → Decides (zeros (unused-part b)) ((i : ℕ) → 4 + used b ≤ i → i < 508 → byte b i ≡ 0)
+unused-exact : (b : List ℕ) → Reflects ((i : ℕ) → 4 + used b ≤ i → i < 508 → byte b i ≡ 0) (zeros (unused-part b))
 unfolding unused-part
-unused-exact b = decides-as (zeros-exact (slice f 508 b)) to from
+unused-exact b = reflects-map to from (zeros-exact (slice f 508 b))
   where
     f : ℕ
     f = 4 + used b
@@ -58,20 +56,20 @@ unused-exact b = decides-as (zeros-exact (slice f 508 b)) to from
         ap (λ (n : ℕ). byte b n) (sym e) ∙ sym (slice-byte f 508 b (i - f) q) ∙ p (i - f)
 
     from : ((i : ℕ) → f ≤ i → i < 508 → byte b i ≡ 0) → (i : ℕ) → byte (slice f 508 b) i ≡ 0
-    from p i = go (leb 508 (f + i)) (decides-leb 508 (f + i))
+    from p i = go (le-reflects 508 (f + i))
       where
-        go : (t : Bool) → Decides t (508 ≤ f + i) → byte (slice f 508 b) i ≡ 0
-        go true d = slice-past f 508 b i (d .holds refl)
-        go false d =
-            let h : f + i < 508 = let n = d .fails refl in omega arith in
+        go : {t : Bool} → Reflects (508 ≤ f + i) t → byte (slice f 508 b) i ≡ 0
+        go (holds h) = slice-past f 508 b i h
+        go (fails n) =
+            let h : f + i < 508 = omega arith in
             slice-byte f 508 b i h ∙ p (f + i) (omega arith) h
 
-pub layout-exact : (k : ℕ) (last : Bool) (b : List ℕ) → Decides (laid-out k last b) (LaidOut k last b)
+pub layout-exact : (k : ℕ) (last : Bool) (b : List ℕ) → Reflects (LaidOut k last b) (laid-out k last b)
 unfolding laid-out
 layout-exact k last b =
-    decides-as (decides-both _ _ (decides-eqb (index b) k) (decides-both _ _ (used-exact last (used b)) (unused-exact b)))
-    (λ p. record { index-right = p .0; used-right = p .1 .0; unused-zero = p .1 .1 })
+    reflects-map (λ p. record { index-right = p .0; used-right = p .1 .0; unused-zero = p .1 .1 })
     (λ r. (r .index-right, (r .used-right, r .unused-zero)))
+    (reflects-both (eq-reflects (index b) k) (reflects-both (used-exact last (used b)) (unused-exact b)))
 
 -- A walk over the bytes up to 507 -------------------------------------------------
 

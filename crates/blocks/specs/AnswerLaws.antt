@@ -7,9 +7,9 @@ use mathlib.Core.List.{List, _++_}
 use lib.ListN.{length, drop}
 use lib.Dec.{ltb}
 use borrow.Author.Tests.{ltb-true, ltb-false}
-use Rattle.types.specs.Decides.{Decides, is-true}
+use Rattle.types.specs.Reflects.{Reflects, Reflects.holds, Reflects.fails, reflects-iff}
 use Rattle.block.specs.Block.{block-size, payload-size}
-use Rattle.blocks.specs.Images.{most, count, fault, stream, image, pieces, read-of, read, read-into, stream-right, write}
+use Rattle.blocks.specs.Images.{most, count, fault, stream, image, pieces, read-of, read, read-into, write}
 use Rattle.blocks.specs.ImageLaws.{count-length, stream-length, used-last}
 use Rattle.blocks.specs.ImageRoundTrip.{image-accepted, image-stream}
 use Rattle.blocks.specs.ImageWays.{read-done}
@@ -40,21 +40,21 @@ read-says max x room = go (fault max x) refl
 
 pub write-says : (max n room : ℕ) → WriteSays max n room (write max n room)
 unfolding write
-write-says max n room = go (stream-right max n) (stream-exact max n)
+write-says max n room = go (stream-exact max n)
   where
     fits : StreamRight max n → (t : Bool) → ltb room (block-size * pieces n) ≡ t
         → WriteSays max n room (elim t [ true ↦ Short-output | false ↦ Blocks (pieces n) ])
     fits r true p = (r, ltb-true room (block-size * pieces n) p)
     fits r false p = (r, refl, ltb-false room (block-size * pieces n) p)
 
-    go : (t : Bool) → Decides t (StreamRight max n)
+    go : {t : Bool} → Reflects (StreamRight max n) t
         → WriteSays max n room
         (elim t [
           | false ↦ Wrong-length
           | true ↦ elim (ltb room (block-size * pieces n)) [ true ↦ Short-output | false ↦ Blocks (pieces n) ]
         ])
-    go false d = d .fails refl
-    go true d = fits (d .holds refl) (ltb room (block-size * pieces n)) refl
+    go (fails n) = n
+    go (holds h) = fits h (ltb room (block-size * pieces n)) refl
 
 -- the stream of an accepted image is no longer than the payloads of as many blocks as are allowed
 pub stream-most : (max : ℕ) (x : List ℕ) → fault max x ≡ Right → length (stream x) ≤ payload-size * most max
@@ -74,7 +74,7 @@ read-fits max x room e h = sym (read-done max x room (length (stream x)) e refl 
 
 pub write-fits : (max n room : ℕ) → StreamRight max n → block-size * most max ≤ room → write max n room ≡ Blocks (pieces n)
 write-fits max n room right h =
-    sym (write-done max n room true (sym (is-true (stream-exact max n) right)) refl (omega (arith, right .0, right .1)))
+    sym (write-done max n room true (sym (reflects-iff (stream-exact max n) .1 right)) refl (omega (arith, right .0, right .1)))
 
 -- reading what was written gives the stream back, in front of a buffer that is otherwise as it was
 module _ (max : ℕ) (s : List ℕ) (right : StreamRight max (length s)) (room : ℕ) (fits : length s ≤ room) where

@@ -13,7 +13,7 @@ use borrow.Author.Tests.{ltb-true, ltb-false}
 use Rattle.block.specs.Block.{block-size, block-fault}
 use Rattle.block.specs.BlockFaults.{HasFault, BlockSays}
 use Rattle.block.specs.BlockFaultLaws.{block-says, not-right, one-fault}
-use Rattle.types.specs.Decides.{Decides, decides-eqb, decides-leb, decides-both, decides-as}
+use Rattle.types.specs.Reflects.{Reflects, Reflects.holds, Reflects.fails, reflects-map, reflects-both, le-reflects, eq-reflects}
 use Rattle.blocks.specs.Images.{LengthRight, length-right, most, block, count, is-last, first-fault, fault}
 use Rattle.blocks.specs.Faults.{AllRight, FirstFault, FirstSays, Says}
 use Rattle.block.specs.declared.Fault.{Fault}
@@ -21,13 +21,12 @@ use Rattle.block.specs.declared.Fault.the-variants.{Length, Sum, Layout}
 use Rattle.block.specs.declared.Found.{Found}
 use Rattle.block.specs.declared.Found.the-variants.{Right, Wrong}
 
-pub length-exact : (max n : ℕ) → Decides (length-right max n) (LengthRight max n)
+pub length-exact : (max n : ℕ) → Reflects (LengthRight max n) (length-right max n)
 unfolding length-right
 length-exact max n =
-    decides-as
-    (decides-both _ _ (decides-eqb (n % block-size) 0) (decides-both _ _ (decides-leb block-size n) (decides-leb n (block-size * most max))))
-    (λ p. record { whole = p .0; from-one = p .1 .0; to-most = p .1 .1 })
+    reflects-map (λ p. record { whole = p .0; from-one = p .1 .0; to-most = p .1 .1 })
     (λ r. (r .whole, (r .from-one, r .to-most)))
+    (reflects-both (eq-reflects (n % block-size) 0) (reflects-both (le-reflects block-size n) (le-reflects n (block-size * most max))))
 
 pub first-says : (n : ℕ) (x : List ℕ) (k : ℕ) → FirstSays n x k (first-fault n x k)
 unfolding first-fault
@@ -76,7 +75,7 @@ first-exact n x k r p = first-unique n x k (first-fault n x k) r (first-says n x
 -- what the answer says holds
 pub fault-says : (max : ℕ) (x : List ℕ) → Says max x (fault max x)
 unfolding fault
-fault-says max x = go (length-right max (length x)) (length-exact max (length x))
+fault-says max x = go (length-exact max (length x))
   where
     inside : LengthRight max (length x) → (r : Found) → FirstSays (count x) x (count x) r → Says max x r
     inside l Right p = (l, p)
@@ -84,10 +83,10 @@ fault-says max x = go (length-right max (length x)) (length-exact max (length x)
     inside l (Wrong Sum) p = (l, p)
     inside l (Wrong Layout) p = (l, p)
 
-    go : (t : Bool) → Decides t (LengthRight max (length x))
+    go : {t : Bool} → Reflects (LengthRight max (length x)) t
         → Says max x (elim t [ false ↦ Wrong Length | true ↦ first-fault (count x) x (count x) ])
-    go false d = d .fails refl
-    go true d = inside (d .holds refl) (first-fault (count x) x (count x)) (first-says (count x) x (count x))
+    go (fails n) = n
+    go (holds h) = inside h (first-fault (count x) x (count x)) (first-says (count x) x (count x))
 
 -- under a right length an answer speaks of the blocks, and else it is the length's
 of-blocks : (max : ℕ) (x : List ℕ) (r : Found) → LengthRight max (length x) → Says max x r → FirstSays (count x) x (count x) r
@@ -104,12 +103,10 @@ of-length max x (Wrong Layout) l p = absurd (l (p .0))
 
 -- and no other answer says what holds
 pub fault-exact : (max : ℕ) (x : List ℕ) (r : Found) → Says max x r → fault max x ≡ r
-fault-exact max x r p = go (length-right max (length x)) (length-exact max (length x))
+fault-exact max x r p = go (length-exact max (length x))
   where
-    go : (t : Bool) → Decides t (LengthRight max (length x)) → fault max x ≡ r
-    go true d =
-        let l = d .holds refl in
+    go : {t : Bool} → Reflects (LengthRight max (length x)) t → fault max x ≡ r
+    go (holds l) =
         first-unique _ x _ (fault max x) r (of-blocks max x (fault max x) l (fault-says max x)) (of-blocks max x r l p)
-    go false d =
-        let l = d .fails refl in
+    go (fails l) =
         of-length max x (fault max x) l (fault-says max x) ∙ sym (of-length max x r l p)

@@ -10,6 +10,7 @@ use lib.ListN.{length, take, drop, length-append}
 use lib.Seq.{getD-take, getD-drop}
 use lib.Dec.{eqb, leb}
 use borrow.Author.Tests.{eq-eqb, ne-eqb, le-leb, lt-leb, lt-ltb, le-ltb}
+use Rattle.types.specs.Reflects.{reflects-iff}
 use Rattle.block.specs.Put.{put}
 use Rattle.block.specs.PutLaws.{put-next, put-front}
 use Rattle.block.specs.Sums.{byte}
@@ -50,7 +51,7 @@ module _ (max : ℕ) (x : List ℕ) where
   length-agrees t e f = rw (sym e ∙ f, fault)
 
   pub length-blocks : (t : Bool) → t ≡ length-right max (length x) → t ≡ true → length x ≡ block-size * count x
-  length-blocks t e f = count-length max x (length-exact max (length x) .holds (sym e ∙ f))
+  length-blocks t e f = count-length max x (reflects-iff (length-exact max (length x)) .0 (sym e ∙ f))
 
 -- Blocks in order ------------------------------------------------------------------
 

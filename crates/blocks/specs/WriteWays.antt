@@ -10,7 +10,7 @@ use lib.ListN.{length, take, drop, length-drop}
 use lib.Seq.{take-all}
 use lib.Dec.{leb}
 use borrow.Author.Tests.{le-leb, lt-leb, lt-ltb, le-ltb}
-use Rattle.types.specs.Decides.{Decides, decides-leb, decides-both}
+use Rattle.types.specs.Reflects.{Reflects, reflects-iff, reflects-both, le-reflects}
 use Rattle.block.specs.Put.{put}
 use Rattle.block.specs.PutLaws.{put-next, put-front}
 use Rattle.block.specs.Block.{payload-size, block-of}
@@ -43,9 +43,9 @@ blocks-turn s d d₁ d₂ n k p fits h e₁ ep e₂ =
 
 -- What writing answers -------------------------------------------------------------
 
-pub stream-exact : (max n : ℕ) → Decides (stream-right max n) (StreamRight max n)
+pub stream-exact : (max n : ℕ) → Reflects (StreamRight max n) (stream-right max n)
 unfolding stream-right
-stream-exact max n = decides-both _ _ (decides-leb 1 n) (decides-leb n (payload-size * most max))
+stream-exact max n = reflects-both (le-reflects 1 n) (le-reflects n (payload-size * most max))
 
 module _ (max n : ℕ) where
   pub no-byte : n < 1 → false ≡ stream-right max n
@@ -57,7 +57,7 @@ module _ (max n : ℕ) where
   some-byte m e h = rw (le-leb 1 n h, e)
 
   pub right-stream : (t : Bool) → t ≡ stream-right max n → t ≡ true → (1 ≤ n) × (n ≤ 504 * most max)
-  right-stream t e f = stream-exact max n .holds (sym e ∙ f)
+  right-stream t e f = reflects-iff (stream-exact max n) .0 (sym e ∙ f)
 
   module _ (room : ℕ) (t : Bool) (e : t ≡ stream-right max n) where
     pub write-refused : t ≡ false → Wrong-length ≡ write max n room

@@ -9,7 +9,7 @@ use Rattle.commands.specs.Numbers.{Foremost}
 use Rattle.verdict.specs.Verdict.{Checked.refused, checked, refusal, check-verdict, check-list}
 use Rattle.run.specs.Entry.{Begun.not-begun, begins, report, run-report, run-output, run-list}
 use Rattle.verdict.specs.ProgramInput.{program-order, check-order}
-use Rattle.run.specs.Input.{order}
+use Rattle.run.specs.Input.{run-order}
 use Rattle.verdict.specs.ProgramInputLaws.{checked-number, verdict-number, check-untouched}
 use Rattle.run.specs.InputLaws.{begins-number, refusal-untouched}
 use Rattle.step_part.specs.StepPart.{step-place, step-part}
@@ -42,10 +42,10 @@ listing-refused x n q = listing-numbered x n q
 
 module _ (x y es out list : List ℕ) where
   -- The run: "Lowest number first, save within 2/3, 4/5, 11/12"
-  pub refused-exactly : (n : ℕ) → (begins x y es out list ≡ not-begun n) ↔ Foremost (order x y es out list) n
+  pub refused-exactly : (n : ℕ) → (begins x y es out list ≡ not-begun n) ↔ Foremost (run-order x y es out list) n
   refused-exactly n = begins-number x y es out list n
 
   -- "Each returns the number, 0 turns, 0 blocks, with the output untouched"
-  pub refused-untouched : (n : ℕ) → Foremost (order x y es out list) n
+  pub refused-untouched : (n : ℕ) → Foremost (run-order x y es out list) n
       → (run-report x y es out list ≡ report n 0 0 0) × (run-output x y es out list ≡ out) × (run-list x y es out list ≡ list)
   refused-untouched n q = refusal-untouched x y es out list n q

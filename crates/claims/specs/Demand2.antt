@@ -30,15 +30,15 @@ use Rattle.run.specs.Initial.{initial, Comes}
 use Rattle.run.specs.Runs.{Passes}
 use Rattle.verdict.specs.Verdict.{Checked.accepted, checked, listed, approval, check-verdict, check-list}
 use Rattle.run.specs.Entry.{Begun.begun, begins, run-output}
-use Rattle.verdict.specs.ProgramInput.{check-order, Accepted as AcceptedImage, Approved}
-use Rattle.run.specs.Input.{order, TableAccepted, Ready, Began}
+use Rattle.verdict.specs.ProgramInput.{check-order, AcceptedImage, Approved}
+use Rattle.run.specs.Input.{run-order, TableAccepted, Runnable, Began}
 use Rattle.verdict.specs.ProgramInputLaws.{checked-accepted, verdict-approved, check-approved}
 use Rattle.run.specs.InputLaws.{begins-ready, begins-none}
 use Rattle.run.specs.RunAgreesVisits.{visits-passes, passes-visits}
 use Rattle.run.specs.BeginLaws.{begin-represents, outcome-exact, comes-unique}
 use Rattle.run.specs.Answered.{Answered}
 use Rattle.run.specs.AnsweredLaws.{comes-answered}
-use Rattle.sound.specs.Accepted.{Accepted}
+use Rattle.commands.specs.Accepted.{Accepted}
 use Rattle.sound.specs.AcceptedLaws.{accepted-firm, ready-accepted}
 use Rattle.sound.specs.BeginGood.{begin-good}
 use Rattle.sound.specs.NeverStuckLaws.{visits-good, demand3, demand3-comes}
@@ -99,11 +99,11 @@ listing-published x p a = listing-accepted x p a
 
 module _ (x y es out list : List ℕ) where
   -- a run begins with a program and a table exactly where both are accepted, output and list have room and the turns are few enough,
-  pub begun-exactly : (p : Program) (rs : List Record) → (begins x y es out list ≡ begun p rs) ↔ Ready x y es out list p rs
+  pub begun-exactly : (p : Program) (rs : List Record) → (begins x y es out list ≡ begun p rs) ↔ Runnable x y es out list p rs
   begun-exactly p rs = begins-ready x y es out list p rs
 
   -- "where no condition of a number from the input holds"
-  pub begun-none : Began x y es out list (begins x y es out list) ↔ NoneOf (order x y es out list)
+  pub begun-none : Began x y es out list (begins x y es out list) ↔ NoneOf (run-order x y es out list)
   begun-none = begins-none x y es out list
 
   -- where a run begins, number, turns, blocks, depth, every output byte and the list are those that the published rules come to
@@ -117,7 +117,7 @@ module _ (x y es out list : List ℕ) where
   run-comes p rs e = let r = begun-exactly p rs .0 e in demand3-comes p rs es (demand3 (ready-accepted r) rs (r .table .right) es)
 
   -- the table written is one that a run may begin with: its image fits its blocks and is accepted as that table
-  pub written-accepted : (p : Program) (rs : List Record) → Ready x y es out list p rs → {n t : ℕ} {rs′ : List Record} → Comes p rs es n t rs′
+  pub written-accepted : (p : Program) (rs : List Record) → Runnable x y es out list p rs → {n t : ℕ} {rs′ : List Record} → Comes p rs es n t rs′
       → (pieces (length (enc-table rs′)) ≤ table-blocks) × (TableAccepted p (image (enc-table rs′)) rs′)
   written-accepted p rs r c = comes-written (ready-accepted r) rs (r .table .right) c
 

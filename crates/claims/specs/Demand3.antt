@@ -11,7 +11,7 @@ use Rattle.machine.specs.Machine.{Machine}
 use Rattle.machine.specs.Represents.{Represents}
 use Rattle.run.specs.Initial.{initial}
 use Rattle.run.specs.Runs.{Passes}
-use Rattle.run.specs.Input.{order, Ready}
+use Rattle.run.specs.Input.{run-order, Runnable}
 use Rattle.run.specs.InputLaws.{begins-none}
 use Rattle.sound.specs.Needs.{Right}
 use Rattle.sound.specs.NeverStuck.{Demand3}
@@ -19,7 +19,7 @@ use Rattle.claims.specs.Call.{Call}
 use Rattle.claims.specs.JoinLaws.{ready-call, passes-right}
 
 module _ (x y es out list : List ℕ) where
-  module _ (p : Program) (rs : List Record) (r : Ready x y es out list p rs) where
+  module _ (p : Program) (rs : List Record) (r : Runnable x y es out list p rs) where
     -- every call that is not refused
     pub never-stuck-run : Demand3 p rs es
     never-stuck-run = ready-call x y es out list p rs r .never-stuck
@@ -36,6 +36,6 @@ module _ (x y es out list : List ℕ) where
     states-right w = passes-right x y es out list p rs r w
 
   -- "A run is a call to run a program on a table and a list of turns, where no condition of a number from the input holds"
-  pub call-none : NoneOf (order x y es out list)
-      → (p : Program) × (rs : List Record) × Ready x y es out list p rs × Call x y es out list p rs
+  pub call-none : NoneOf (run-order x y es out list)
+      → (p : Program) × (rs : List Record) × Runnable x y es out list p rs × Call x y es out list p rs
   call-none f = let (p, rs, e, r) = begins-none x y es out list .1 f in (p, rs, r, ready-call x y es out list p rs r)

@@ -29,8 +29,8 @@ use Rattle.run.specs.BeginLaws.{begin-represents, outcome-exact}
 use Rattle.run.specs.Runs.{Passes}
 use Rattle.run.specs.RunAgreesVisits.{passes-visits}
 use Rattle.verdict.specs.Verdict.{Checked, Checked.accepted, Checked.refused, checked, Verdict, check-list}
-use Rattle.verdict.specs.ProgramInput.{Accepted, program-order, check-order}
-use Rattle.run.specs.Input.{Ready}
+use Rattle.verdict.specs.ProgramInput.{AcceptedImage, program-order, check-order}
+use Rattle.run.specs.Input.{Runnable}
 use Rattle.verdict.specs.ProgramInputLaws.{checked-accepted, checked-number, verdict-number, verdict-approved, check-approved}
 use Rattle.run.specs.InputLaws.{begins-ready}
 use Rattle.run.specs.AnsweredLaws.{comes-answered}
@@ -47,7 +47,7 @@ use Rattle.claims.specs.Call.{Call}
 
 -- Steps --------------------------------------------------------------------------------
 
-module _ (x list : List ℕ) (p : Program) (a : Accepted x p) (h : max-commands ≤ length list) (k n : ℕ) where
+module _ (x list : List ℕ) (p : Program) (a : AcceptedImage x p) (h : max-commands ≤ length list) (k n : ℕ) where
   -- of the list that a check filled, the part of a step is the words of its commands, and these are the ones that a run takes
   pub step-handed : {b : Stmts} → step-of p k n ≡ some b
       → (step-place x (check-list x list) k n .number ≡ 0)
@@ -78,7 +78,7 @@ step-numbered x list k s n q =
 -- Listings -----------------------------------------------------------------------------
 
 -- an accepted image is listed as its program's head and lines, a refused one as its number
-pub listing-accepted : (x : List ℕ) (p : Program) → Accepted x p → listing-of x ≡ head p ++ program-lines p
+pub listing-accepted : (x : List ℕ) (p : Program) → AcceptedImage x p → listing-of x ≡ head p ++ program-lines p
 unfolding listing-of listing
 listing-accepted x p a = ap listing (checked-accepted x p .1 a)
 
@@ -88,7 +88,7 @@ listing-numbered x n q = ap listing (checked-number x n .1 q)
 
 -- Calls --------------------------------------------------------------------------------
 
-module _ (x y es out list : List ℕ) (p : Program) (rs : List Record) (r : Ready x y es out list p rs) where
+module _ (x y es out list : List ℕ) (p : Program) (rs : List Record) (r : Runnable x y es out list p rs) where
   -- a call that begins is one run, which is never stuck, whose outcome the published rules come to and the entry answers
   pub ready-call : Call x y es out list p rs
   ready-call =

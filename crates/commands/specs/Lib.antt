@@ -23,6 +23,7 @@ pub mod TypingDecide
 pub mod TypingDecideLaws
 pub mod BoundsDecide
 pub mod BoundsDecideLaws
+pub mod Accepted
 pub mod Numbers
 pub mod NumbersLaws
 pub mod NumberRows

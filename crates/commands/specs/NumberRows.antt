@@ -16,7 +16,7 @@ use Rattle.commands.specs.DecideLaws.{every-reflects}
 use Rattle.commands.specs.NamesDecide.{start-named, expr-named, args-named, stmt-named, body-named, steps-named, stepped, item-stepped, items-stepped, names-right}
 use Rattle.commands.specs.TypingDecide.{is-of, agree, given, result, operate, lead, path-type, expr-type, args-typed, stmt-typed, body-typed, steps-typed, types-right}
 use Rattle.commands.specs.BoundsDecide.{within}
-use Rattle.commands.specs.Numbers.{first, breach-tests, program-number}
+use Rattle.commands.specs.Numbers.{first, breach-tests, breach-number}
 
 -- Parts ---------------------------------------------------------------------------
 
@@ -167,6 +167,6 @@ rows =
     ∷ []
 
 -- every row's tree has its number
-rows-hold : All (λ r. program-number (r .tree) ≡ r .number) rows
-unfolding rows statements in-a-row named-to same-type then reads front last expr-coms args-coms update-coms stmt-coms body-coms flatten commands stmt-local body-local declares declared names-of-steps depth item-count items-count total program-size every member distinct start-named expr-named args-named stmt-named body-named steps-named stepped item-stepped items-stepped names-right is-of agree given result operate lead path-type expr-type args-typed stmt-typed body-typed steps-typed types-right within first breach-tests program-number
-rows-hold = reflects-iff (every-reflects (λ (r : Row). eq-reflects (program-number (r .tree)) (r .number)) rows) .0 refl
+rows-hold : All (λ r. breach-number (r .tree) ≡ r .number) rows
+unfolding rows statements in-a-row named-to same-type then reads front last expr-coms args-coms update-coms stmt-coms body-coms flatten commands stmt-local body-local declares declared names-of-steps depth item-count items-count total program-size every member distinct start-named expr-named args-named stmt-named body-named steps-named stepped item-stepped items-stepped names-right is-of agree given result operate lead path-type expr-type args-typed stmt-typed body-typed steps-typed types-right within first breach-tests breach-number
+rows-hold = reflects-iff (every-reflects (λ (r : Row). eq-reflects (breach-number (r .tree)) (r .number)) rows) .0 refl

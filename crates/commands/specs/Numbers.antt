@@ -9,8 +9,8 @@ use Rattle.commands.specs.BoundsDecide.{within}
 use Rattle.commands.specs.NamesDecide.{names-right}
 use Rattle.commands.specs.TypingDecide.{types-right}
 
-abbrev pub accepted : ℕ
-accepted = 0
+abbrev pub no-breach : ℕ
+no-breach = 0
 
 -- The first of several --------------------------------------------------------------
 
@@ -29,7 +29,7 @@ Foremost l n = (before behind : Order) × (C : Type 0) × (l ≡ before ++ (n, C
 
 -- the number of the first test that is true, or 0
 unfoldable pub first : List (ℕ × Bool) → ℕ
-first [] = accepted
+first [] = no-breach
 first (t ∷ ts) = elim (t .1) [ true ↦ t .0 | false ↦ first ts ]
 
 -- Programs --------------------------------------------------------------------------
@@ -37,5 +37,5 @@ first (t ∷ ts) = elim (t .1) [ true ↦ t .0 | false ↦ first ts ]
 unfoldable pub breach-tests : Program → List (ℕ × Bool)
 breach-tests p = (over-limits, not (within p)) ∷ (wrong-names, not (names-right p)) ∷ (wrong-types, not (types-right p)) ∷ []
 
-unfoldable pub program-number : Program → ℕ
-program-number p = first (breach-tests p)
+unfoldable pub breach-number : Program → ℕ
+breach-number p = first (breach-tests p)

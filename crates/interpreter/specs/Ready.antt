@@ -6,7 +6,7 @@ use lib.ListN.{length}
 use Rattle.program.specs.Tree.{Program}
 use Rattle.machine.specs.Machine.{Machine}
 use Rattle.sound.specs.Invariant.{Good}
-use Rattle.sound.specs.Accepted.{Firm}
+use Rattle.sound.specs.Firm.{Firm}
 use Rattle.sound.specs.Tabled.{Tabled}
 use Rattle.layout.specs.State.{State}
 use Rattle.memory.specs.Frame.{Bounded}

@@ -22,7 +22,7 @@ use Rattle.commands.specs.Decide.{every, member}
 use Rattle.commands.specs.BoundsDecide.{within}
 use Rattle.commands.specs.NamesDecide.{stepped, item-stepped, items-stepped, names-right}
 use Rattle.commands.specs.TypingDecide.{types-right}
-use Rattle.commands.specs.Numbers.{first, breach-tests, program-number}
+use Rattle.commands.specs.Numbers.{first, breach-tests, breach-number}
 use Rattle.judge.specs.Facts.{worst, named}
 use Rattle.judge.specs.Verdicts.{Says, Says.right, Tables, flag}
 use Rattle.judge.specs.FaultLaws.{says-as, says-both, says-named, says-number}
@@ -171,8 +171,8 @@ module _ (p : Program) (c : Counts p) where
         (every (every (λ t. leb (step-depth p t) max-depth)) (p .steps)) (leb (items-count (p .schedule)) schedule-items))
 
     -- the number is the program's
-    pub totals-law : totals-number totals planned ≡ program-number p
-    unfolding totals-number program-number first breach-tests names-right types-right no-totals
+    pub totals-law : totals-number totals planned ≡ breach-number p
+    unfolding totals-number breach-number first breach-tests names-right types-right no-totals
     totals-law =
         ap {B = ℕ} (λ q. elim q [ true ↦ 6 | false ↦ worst (totals .fault) (planned .fault) ]) exceeded-is
         ∙ ap {B = ℕ} (λ n. elim (not (within p)) [ true ↦ 6 | false ↦ n ]) (says-number said)
@@ -194,7 +194,7 @@ module _ (p : Program) (c : Counts p) where
   own-tables k t = tables-of p (all-map (λ ts h. h .1) (p .params) (c .0 .2)) k (t .body)
 
   -- the number that is computed of a program within the counts is its number
-  pub checked-law : checked-number p ≡ program-number p
+  pub checked-law : checked-number p ≡ breach-number p
   unfolding checked-number program-totals program-plan
   checked-law = totals-law own-tables
 

@@ -8,7 +8,7 @@ use Rattle.types.specs.Limits.{max-params}
 use Rattle.program.specs.Tree.{Program}
 use Rattle.program.specs.Reader.{Result.ok, read-params, read}
 use Rattle.commands.specs.Bounds.{total, arities, program-size, program-depth}
-use Rattle.commands.specs.Numbers.{program-number}
+use Rattle.commands.specs.Numbers.{breach-number}
 use Rattle.verdict.specs.Verdict.{Checked, Checked.accepted, Checked.refused}
 use Rattle.judge.specs.ProgramFacts.{types-table}
 use Rattle.read_program.specs.Whole.{place-of}
@@ -57,6 +57,6 @@ Held (refused n) s b b′ cs cs′ ts ts′ = Unit {0}
 pub record Admitted (s counts : List ℕ) (at : ℕ) (p : Program) : Type 0 where
   pub end : ℕ
   pub reads : read s ≡ ok p end
-  pub numbered : program-number p ≡ 0
+  pub numbered : breach-number p ≡ 0
   pub counted : counts ≡ arities p
   pub place : read-params s 0 ≡ ok (p .params) at

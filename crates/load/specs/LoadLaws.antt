@@ -18,7 +18,7 @@ use Rattle.program.specs.Counts.{Counts}
 use Rattle.program.specs.Reader.{Result, Result.ok, Result.bad, read-params, read}
 use Rattle.program.specs.ProgramLaws.{program-law}
 use Rattle.commands.specs.Bounds.{arities, program-depth}
-use Rattle.commands.specs.Numbers.{program-number}
+use Rattle.commands.specs.Numbers.{breach-number}
 use Rattle.verdict.specs.Verdict.{Checked, Checked.accepted, Checked.refused, judge, of-read, of-image, checked}
 use Rattle.judge.specs.ProgramFacts.{types-table}
 use Rattle.read_params.specs.ParamsTold.{ParamsKept}
@@ -110,7 +110,7 @@ pub record Source (x : List ℕ) (p : Program) : Type 0 where
   pub right : fault program-blocks x ≡ Right
   pub end : ℕ
   pub reads : read (stream x) ≡ ok p end
-  pub numbered : program-number p ≡ 0
+  pub numbered : breach-number p ≡ 0
 
 pub accepted-source : (x : List ℕ) (p : Program) → checked x ≡ accepted p → Source x p
 unfolding checked of-image of-read
@@ -118,8 +118,8 @@ accepted-source x p e = go (fault program-blocks x) refl e
   where
     inside : fault program-blocks x ≡ Right → (r : Result Program) → read (stream x) ≡ r → of-read r ≡ accepted p → Source x p
     inside f (ok q m) i h =
-        let j = judge-accepts p q (program-number q) h in
-        record { right = f; end = m; reads = i ∙ ap (λ (a : Program). ok a m) (j .0); numbered = ap program-number (sym (j .0)) ∙ j .1 }
+        let j = judge-accepts p q (breach-number q) h in
+        record { right = f; end = m; reads = i ∙ ap (λ (a : Program). ok a m) (j .0); numbered = ap breach-number (sym (j .0)) ∙ j .1 }
     inside f (bad n k) i h = let z : _≡_ {A = ℕ} 0 1 = cc in absurd (omega arith)
 
     go : (g : Found) → fault program-blocks x ≡ g → of-image g x ≡ accepted p → Source x p

@@ -13,7 +13,7 @@ use Rattle.program.specs.Reader.{Result, Result.ok, Result.bad, read-params, re
 use Rattle.program.specs.ProgramLaws.{params-exact, program-law}
 use Rattle.program.specs.StreamLaws.{next-place}
 use Rattle.commands.specs.Bounds.{total, greatest, step-depth, arities, program-size, program-depth, Within}
-use Rattle.commands.specs.Numbers.{program-number}
+use Rattle.commands.specs.Numbers.{breach-number}
 use Rattle.commands.specs.NumbersLaws.{number-accepted}
 use Rattle.verdict.specs.Verdict.{Checked.accepted, Checked.refused, judge, of-read}
 use Rattle.judge.specs.ProgramFacts.{program-totals, program-plan, checked-number}
@@ -66,7 +66,7 @@ module _ (s : List ℕ) where
     abbrev p : Program
     p = b .program
 
-    pub number-is : z .number ≡ program-number p
+    pub number-is : z .number ≡ breach-number p
     unfolding checked-number
     number-is = ap (λ (x : Summary). x .number) (b .summed) ∙ checked-law p (b .counts)
 

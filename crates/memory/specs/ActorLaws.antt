@@ -22,7 +22,7 @@ use Rattle.machine.specs.Published.{StepCall, Env, Env.env, lookup, structs, ar
 use Rattle.machine.specs.Machine.{Instance, Machine}
 use Rattle.sound.specs.Needs.{Needs}
 use Rattle.sound.specs.Invariant.{Fits, Fitted, Passage, Good}
-use Rattle.sound.specs.Accepted.{Firm}
+use Rattle.sound.specs.Firm.{Firm}
 use Rattle.sound.specs.ReadyLaws.{good-right}
 use Rattle.sound.specs.PassageLaws.{holder-passage, has-step as step-had, ctx, way-at, next-sized}
 use Rattle.sound.specs.EachLaws.{each-length}

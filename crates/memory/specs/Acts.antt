@@ -15,7 +15,7 @@ use Rattle.commands.specs.Noted.{Note, Note.n-push, Note.n-this, Note.n-not, No
 use Rattle.machine.specs.Published.{Sched}
 use Rattle.machine.specs.Machine.{Instance, Machine, with-written, command, perform as machine-perform}
 use Rattle.sound.specs.Invariant.{Good}
-use Rattle.sound.specs.Accepted.{Firm}
+use Rattle.sound.specs.Firm.{Firm}
 use Rattle.sound.specs.CommandKept.{commanded}
 use Rattle.sound.specs.Sized.{Sized, Lasting, Lasting.an-int, Lasting.a-nat, Lasting.a-bool, Lasting.a-null}
 use Rattle.layout.specs.Layout.{operand}

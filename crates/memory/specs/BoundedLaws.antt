@@ -8,7 +8,7 @@ use Rattle.types.specs.Limits.{max-depth}
 use Rattle.program.specs.Tree.{Step, Program}
 use Rattle.program.specs.Counts.{All, Counts}
 use Rattle.commands.specs.Bounds.{greatest, step-depth, program-depth, Within}
-use Rattle.sound.specs.Accepted.{Accepted}
+use Rattle.commands.specs.Accepted.{Accepted}
 use Rattle.memory.specs.Frame.{Bounded}
 
 greatest-most : {A : Type 0} (f : A → ℕ) (l : List A) → All (λ a. f a ≤ max-depth) l → greatest f l ≤ max-depth

@@ -21,7 +21,7 @@ use Rattle.machine.specs.Rules.{meet}
 use Rattle.run.specs.Begin.{resting}
 use Rattle.sound.specs.Needs.{Operand}
 use Rattle.sound.specs.Invariant.{Good}
-use Rattle.sound.specs.Accepted.{Firm}
+use Rattle.sound.specs.Firm.{Firm}
 use Rattle.sound.specs.ElemLaws.{at-append, at-below}
 use Rattle.sound.specs.EachLaws.{each-length}
 use Rattle.sound.specs.Outcomes.{constructs, finds-full}

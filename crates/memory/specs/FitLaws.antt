@@ -23,7 +23,7 @@ use Rattle.machine.specs.Published.{Sched, structs, arity}
 use Rattle.machine.specs.Machine.{Tagged, Instance, Machine}
 use Rattle.sound.specs.Needs.{ValueAmong, Operand}
 use Rattle.sound.specs.Invariant.{Good}
-use Rattle.sound.specs.Accepted.{Firm}
+use Rattle.sound.specs.Firm.{Firm}
 use Rattle.sound.specs.EachLaws.{each-length}
 use Rattle.sound.specs.ValueLaws.{bool-value, label-value, ranges}
 use Rattle.layout.specs.Layout.{struct-of, next-of, end-of, type-byte, operand}

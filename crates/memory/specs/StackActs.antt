@@ -22,7 +22,7 @@ use Rattle.operators.specs.Words.{apply-word, answered as as-words}
 use Rattle.machine.specs.Published.{Sched, structs}
 use Rattle.machine.specs.Machine.{Tagged, tagged, Source.result, Instance, Machine, with-code, with-written, put, operated, perform}
 use Rattle.sound.specs.Invariant.{Good}
-use Rattle.sound.specs.Accepted.{Firm}
+use Rattle.sound.specs.Firm.{Firm}
 use Rattle.sound.specs.ValueLaws.{bool-value, ranges}
 use Rattle.sound.specs.Outcomes.{negated, branched, operates}
 use Rattle.layout.specs.Layout.{struct-of, cell, type-byte, operand, label-cell}

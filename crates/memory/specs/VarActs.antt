@@ -21,7 +21,7 @@ use Rattle.machine.specs.Rules.{meet}
 use Rattle.machine.specs.Machine.{Tagged, tagged, Source, Source.variable as from-variable, Source.local, given-by, Instance, Machine, with-code, with-written, with-instances, with-stability, put, update-env, leaves-stable, read, write-to, write, perform}
 use Rattle.sound.specs.Needs.{ValueAmong, Needs}
 use Rattle.sound.specs.Invariant.{Good}
-use Rattle.sound.specs.Accepted.{Firm}
+use Rattle.sound.specs.Firm.{Firm}
 use Rattle.sound.specs.ElemLaws.{some-is, at-set-same, at-set-other}
 use Rattle.sound.specs.EnvLaws.{param-holds}
 use Rattle.sound.specs.ValueLaws.{label-value, ranges}

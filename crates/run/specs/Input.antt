@@ -9,7 +9,7 @@ use Rattle.block.specs.Block.{block-size}
 use Rattle.blocks.specs.Images.{stream}
 use Rattle.program.specs.Tree.{Program}
 use Rattle.commands.specs.Numbers.{Order}
-use Rattle.verdict.specs.ProgramInput.{ImageRight, Reads, WrongLength, WrongBlock, ShortList, program-order, Accepted}
+use Rattle.verdict.specs.ProgramInput.{ImageRight, Reads, WrongLength, WrongBlock, ShortList, program-order, AcceptedImage}
 use Rattle.table.specs.Table.{Record, TableRight, enc-table}
 use Rattle.table.specs.TableFaults.{TableEnds, TableOffends}
 use Rattle.run.specs.Entry.{Begun, Begun.begun}
@@ -36,8 +36,8 @@ ManyTurns es = max-turns < length es
 -- which of them stands before the other says nothing.
 
 -- of what a run is given: program image, table image, turn bytes, output and list
-abbrev pub order : List ℕ → List ℕ → List ℕ → List ℕ → List ℕ → Order
-order x y es out list =
+abbrev pub run-order : List ℕ → List ℕ → List ℕ → List ℕ → List ℕ → Order
+run-order x y es out list =
     program-order x
     ++ (9, WrongLength table-blocks y)
     ∷ (10, WrongBlock y)
@@ -57,8 +57,8 @@ pub record TableAccepted (p : Program) (y : List ℕ) (rs : List Record) : Type 
   pub bytes : stream y ≡ enc-table rs
 
 -- a run that may begin
-pub record Ready (x y es out list : List ℕ) (p : Program) (rs : List Record) : Type 0 where
-  pub program : Accepted x p
+pub record Runnable (x y es out list : List ℕ) (p : Program) (rs : List Record) : Type 0 where
+  pub program : AcceptedImage x p
   pub table : TableAccepted p y rs
   pub output-room : block-size * table-blocks ≤ length out
   pub list-room : max-commands ≤ length list
@@ -66,4 +66,4 @@ pub record Ready (x y es out list : List ℕ) (p : Program) (rs : List Record) :
 
 -- the program and the table of an answer, ready to run
 abbrev pub Began : List ℕ → List ℕ → List ℕ → List ℕ → List ℕ → Begun → Type 0
-Began x y es out list b = (p : Program) × (rs : List Record) × (b ≡ begun p rs) × (Ready x y es out list p rs)
+Began x y es out list b = (p : Program) × (rs : List Record) × (b ≡ begun p rs) × (Runnable x y es out list p rs)

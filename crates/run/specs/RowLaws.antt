@@ -10,7 +10,7 @@ use lib.Dec.{leb, ltb}
 use borrow.Author.Tests.{le-ltb}
 use Rattle.types.specs.Limits.{program-blocks, table-blocks, max-commands, max-turns, first-local}
 use Rattle.types.specs.Values.{Val}
-use Rattle.types.specs.Decides.{Decides, decides-leb, decides-both}
+use Rattle.types.specs.Reflects.{Reflects, reflects-iff, reflects-both, le-reflects}
 use Rattle.block.specs.Block.{block-size, payload-size, block-of}
 use Rattle.blocks.specs.Images.{image, pieces}
 use Rattle.block.specs.declared.Found.{Found}
@@ -83,8 +83,8 @@ unfolding verdict-of
 verdict-room (refused n) list h = refl
 verdict-room (accepted p) list h = rw (le-ltb (length list) max-commands h, verdict-of)
 
-fits-decides : (blocks : ℕ) (s : List ℕ) → Decides (fits blocks s) ((1 ≤ length s) × (length s ≤ payload-size * blocks))
-fits-decides blocks s = decides-both _ _ (decides-leb 1 (length s)) (decides-leb (length s) (payload-size * blocks))
+fits-reflects : (blocks : ℕ) (s : List ℕ) → Reflects ((1 ≤ length s) × (length s ≤ payload-size * blocks)) (fits blocks s)
+fits-reflects blocks s = reflects-both (le-reflects 1 (length s)) (le-reflects (length s) (payload-size * blocks))
 
 -- what is computed of a row's streams holds of the entries on its images
 row-right : (r : Row) → computed r ≡ said r → RowRight r
@@ -93,7 +93,7 @@ row-right r e =
     let s = r .program in
     let t = r .table in
     let es = r .turns in
-    let fit = decides-both _ _ (fits-decides program-blocks s) (fits-decides table-blocks t) .holds (ap (λ (c : Computed). c .fit) e) in
+    let fit = reflects-iff (reflects-both (fits-reflects program-blocks s) (fits-reflects table-blocks t)) .0 (ap (λ (c : Computed). c .fit) e) in
     let begun = begins-image s t (fit .0 .0) (fit .0 .1) (fit .1 .0) (fit .1 .1) es in
     record {
       checked = λ list h.

@@ -20,8 +20,9 @@ use Rattle.run.specs.Begin.{begin}
 use Rattle.run.specs.RunAgreesVisits.{run-turns}
 use Rattle.run.specs.Entry.{Begun.begun, report, report-of, output-of, last-stream, run-report-by, run-output-by, run-list-by}
 use Rattle.verdict.specs.Verdict.{listed}
-use Rattle.sound.specs.Accepted.{Accepted}
-use Rattle.sound.specs.AcceptedLaws.{number-accepts, accepted-firm}
+use Rattle.commands.specs.Accepted.{Accepted}
+use Rattle.commands.specs.NumbersLaws.{number-accepts}
+use Rattle.sound.specs.AcceptedLaws.{accepted-firm}
 use Rattle.sound.specs.BeginGood.{begin-good}
 use Rattle.sound.specs.TabledLaws.{begin-tabled}
 use Rattle.layout.specs.declared.Numbers.{Numbers}

@@ -11,7 +11,7 @@ use Rattle.block.specs.Block.{block-size}
 use Rattle.program.specs.Tree.{Program}
 use Rattle.program.specs.Reader.{Result.ok, read-params, read}
 use Rattle.commands.specs.Bounds.{arities, program-depth}
-use Rattle.commands.specs.Numbers.{program-number}
+use Rattle.commands.specs.Numbers.{breach-number}
 use Rattle.judge.specs.ProgramFacts.{types-table}
 use Rattle.table.specs.Table.{Record, TableRight}
 use Rattle.machine.specs.Published.{of-items}
@@ -41,7 +41,7 @@ pub record Answers (b : Begun) (es out list : List ℕ) (r : Report) (out′ lis
 pub record Admitted (s counts : List ℕ) (at depth : ℕ) (p : Program) : Type 0 where
   pub end : ℕ
   pub reads : read s ≡ ok p end
-  pub numbered : program-number p ≡ 0
+  pub numbered : breach-number p ≡ 0
   pub counted : counts ≡ arities p
   pub place : read-params s 0 ≡ ok (p .params) at
   pub deep : depth ≡ program-depth p

@@ -2,7 +2,6 @@
 use Prim.Native.Nat.{ℕ, zero, suc, _≤_}
 use native.Mathlib.Omega.{arith}
 use mathlib.Core.Path.{_≡_}
-use mathlib.Core.Logic.{_↔_}
 use mathlib.Core.Option.{some}
 use mathlib.Core.List.{List, [], _∷_, map}
 use lib.ListN.{length, getD, length-map}
@@ -11,15 +10,14 @@ use Rattle.types.specs.Types.{IsType}
 use Rattle.program.specs.Tree.{Stmts, Program}
 use Rattle.program.specs.Counts.{All, Few, CountsStmts, CountsStep, Counts}
 use Rattle.commands.specs.Context.{params-of, context, step-of}
-use Rattle.commands.specs.Numbers.{accepted, program-number}
-use Rattle.commands.specs.NumbersLaws.{number-accepted}
 use Rattle.table.specs.Table.{Record}
 use Rattle.machine.specs.Published.{structs}
-use Rattle.run.specs.Input.{Ready}
+use Rattle.run.specs.Input.{Runnable}
 use Rattle.commands.specs.Steps.{of-each, found, step-secure}
 use Rattle.commands.specs.Heights.{program-height}
 use Rattle.sound.specs.SizedLaws.{noted-sized}
-use Rattle.sound.specs.Accepted.{Accepted, Firm}
+use Rattle.commands.specs.Accepted.{Accepted}
+use Rattle.sound.specs.Firm.{Firm}
 
 -- what holds of each list and of none holds of the list at a place
 pub all-at : {A : Type 0} (C : List A → Type 0) (ls : List (List A)) (k : ℕ) → C [] → All C ls → C (getD ls k [])
@@ -44,14 +42,9 @@ module _ (p : Program) (counts : Counts p) where
       let f = all-at (Few 0 8 C) (p .steps) k (omega arith, omega arith, tt) (counts .2) in
       rw q at (of-each C (f .2) m .2)
 
--- a program that keeps to the counts is accepted exactly where its number is 0
-pub number-accepts : (p : Program) → Counts p → (program-number p ≡ accepted) ↔ Accepted p
-number-accepts p c =
-    (λ e. let (w, n, t) = number-accepted p .0 e in (c, w, n, t), λ a. number-accepted p .1 (a .1, a .2, a .3))
-
--- so is the program of a run that begins
-pub ready-accepted : {x y es out list : List ℕ} {p : Program} {rs : List Record} → Ready x y es out list p rs → Accepted p
-ready-accepted r = let a = r .program in (a .reads .counts, a .within, a .names, a .types)
+-- the program of a run that begins is accepted
+pub ready-accepted : {x y es out list : List ℕ} {p : Program} {rs : List Record} → Runnable x y es out list p rs → Accepted p
+ready-accepted r = r .program .program
 
 -- an accepted program is firm
 pub accepted-firm : {p : Program} → Accepted p → Firm p

@@ -34,7 +34,7 @@ use Rattle.sound.specs.EnvLaws.{param-holds}
 use Rattle.commands.specs.StaticParts.{result-of}
 use Rattle.sound.specs.SizedLaws.{lasting-of}
 use Rattle.sound.specs.ValueLaws.{bool-value, label-value, ranges, result-of-type}
-use Rattle.sound.specs.Accepted.{Firm}
+use Rattle.sound.specs.Firm.{Firm}
 use Rattle.sound.specs.PassageLaws.{holder-passage, ctx, here, tops, top-one, top-two, own-top, local-value, asks, kept-next, kept-past, Living-on, next-sized, way-at}
 use Rattle.sound.specs.Outcomes.{negated, branched, operates, has-read, leaves-null, writes-param, writes-local, constructs, finds-full}
 use Rattle.sound.specs.Advance.{Kept, after, advance, locals-kept, good-put, goes-on}

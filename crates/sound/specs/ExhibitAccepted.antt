@@ -15,7 +15,7 @@ use Rattle.program.specs.Encoding.{enc-path, enc-expr, enc-exprs, enc-stmt, enc
 use Rattle.program.specs.Reader.{Result.ok, read}
 use Rattle.program.specs.ProgramLaws.{program-law}
 use Rattle.commands.specs.Noted.{Note, Note.n-wr, Note.n-cons, Note.n-if}
-use Rattle.commands.specs.Numbers.{accepted, program-number}
+use Rattle.commands.specs.Numbers.{no-breach, breach-number}
 use Rattle.commands.specs.NumbersLaws.{number-accepted}
 use Rattle.table.specs.Table.{Record, struct-at, HeldTable, References, TableRight}
 use Rattle.machine.specs.Published.{StepCall.global, Sched.done, Sched.start, Sched.active}
@@ -26,7 +26,7 @@ use Rattle.run.specs.Run.{Outcome.stopped, run}
 use Rattle.run.specs.Visits.{Visits}
 use Rattle.run.specs.Begin.{begin, table-of}
 use Rattle.run.specs.RowsOpen.{running}
-use Rattle.sound.specs.Accepted.{Accepted}
+use Rattle.commands.specs.Accepted.{Accepted}
 use Rattle.sound.specs.NeverStuck.{Demand3}
 use Rattle.sound.specs.NeverStuckLaws.{demand3}
 use Rattle.sound.specs.After.{onward, act-on, after, after-visited}
@@ -67,7 +67,7 @@ start-machine = begin settling table
 pub settling-accepted : Accepted settling
 unfolding running args size items enc-path enc-expr enc-exprs enc-stmt enc-stmts enc-item enc-items enc-step enc-program
 settling-accepted =
-    let n : program-number settling ≡ accepted = refl in
+    let n : breach-number settling ≡ no-breach = refl in
     let r : read (enc-program settling) ≡ ok settling (length (enc-program settling)) = refl in
     let a = number-accepted settling .0 n in
     (program-law (enc-program settling) settling (length (enc-program settling)) .0 r .0, a .0, a .1, a .2)

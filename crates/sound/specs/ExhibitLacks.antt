@@ -16,7 +16,7 @@ use Rattle.program.specs.Encoding.{enc-path, enc-expr, enc-exprs, enc-stmt, enc
 use Rattle.program.specs.Reader.{Result.ok, read}
 use Rattle.program.specs.ProgramLaws.{program-law}
 use Rattle.commands.specs.Noted.{Note.n-this, Note.n-not, Note.n-rd, Note.n-wr, Note.n-get, Note.n-op}
-use Rattle.commands.specs.Numbers.{accepted, wrong-names, wrong-types, program-number}
+use Rattle.commands.specs.Numbers.{no-breach, wrong-names, wrong-types, breach-number}
 use Rattle.commands.specs.NumbersLaws.{number-accepted}
 use Rattle.commands.specs.Exhibits.{program, negated, refused-8}
 use Rattle.table.specs.Table.{Record, struct-at, HeldTable, References, TableRight}
@@ -27,7 +27,7 @@ use Rattle.run.specs.Run.{Outcome.stopped, run}
 use Rattle.run.specs.Begin.{begin}
 use Rattle.run.specs.RowsOpen.{running}
 use Rattle.sound.specs.Needs.{ValueAmong}
-use Rattle.sound.specs.Accepted.{Accepted}
+use Rattle.commands.specs.Accepted.{Accepted}
 use Rattle.sound.specs.NeverStuck.{Demand3}
 use Rattle.sound.specs.After.{onward, act-on, after, after-visited}
 use Rattle.sound.specs.Exhibits.{Lacks, lacks-refutes, no-record, Fails, negating, not-of-int}
@@ -198,7 +198,7 @@ loose-lacks = record {
 pub chain-accepted : Accepted chain
 unfolding running args size items enc-path enc-expr enc-exprs enc-stmt enc-stmts enc-item enc-items enc-step enc-program
 chain-accepted =
-    let n : program-number chain ≡ accepted = refl in
+    let n : breach-number chain ≡ no-breach = refl in
     let r : read (enc-program chain) ≡ ok chain (length (enc-program chain)) = refl in
     let a = number-accepted chain .0 n in
     (program-law (enc-program chain) chain (length (enc-program chain)) .0 r .0, a .0, a .1, a .2)

@@ -16,7 +16,7 @@ use Rattle.program.specs.Encoding.{enc-path, enc-expr, enc-exprs, enc-stmt, enc
 use Rattle.program.specs.Reader.{Result.ok, read}
 use Rattle.program.specs.ProgramLaws.{program-law}
 use Rattle.commands.specs.Noted.{Note, Note.n-push, Note.n-this, Note.n-rd, Note.n-wr, Note.n-get, Note.n-set, Note.n-op, Note.n-if}
-use Rattle.commands.specs.Numbers.{accepted, program-number}
+use Rattle.commands.specs.Numbers.{no-breach, breach-number}
 use Rattle.commands.specs.NumbersLaws.{number-accepted}
 use Rattle.table.specs.Table.{Record, struct-at, HeldTable, References, TableRight}
 use Rattle.machine.specs.Published.{Env.env}
@@ -26,7 +26,7 @@ use Rattle.run.specs.Run.{Outcome.stopped, run}
 use Rattle.run.specs.Visits.{Visits}
 use Rattle.run.specs.Begin.{begin, table-of}
 use Rattle.run.specs.RowsOpen.{running}
-use Rattle.sound.specs.Accepted.{Accepted}
+use Rattle.commands.specs.Accepted.{Accepted}
 use Rattle.sound.specs.NeverStuck.{Demand3}
 use Rattle.sound.specs.NeverStuckLaws.{demand3}
 use Rattle.sound.specs.After.{onward, act-on, after, after-visited}
@@ -65,7 +65,7 @@ start-machine = begin adding table
 pub adding-accepted : Accepted adding
 unfolding running args size items enc-path enc-expr enc-exprs enc-stmt enc-stmts enc-item enc-items enc-step enc-program
 adding-accepted =
-    let n : program-number adding ≡ accepted = refl in
+    let n : breach-number adding ≡ no-breach = refl in
     let r : read (enc-program adding) ≡ ok adding (length (enc-program adding)) = refl in
     let a = number-accepted adding .0 n in
     (program-law (enc-program adding) adding (length (enc-program adding)) .0 r .0, a .0, a .1, a .2)

@@ -13,7 +13,7 @@ use Rattle.types.specs.Values.{Val.int-val, Val.bool-val, Val.label}
 use Rattle.program.specs.Tree.{Stmts, Program}
 use Rattle.program.specs.Counts.{Counts}
 use Rattle.commands.specs.Noted.{Note, Note.n-this, Note.n-not, Note.n-wr, Note.n-get}
-use Rattle.commands.specs.Numbers.{wrong-names, wrong-types, program-number}
+use Rattle.commands.specs.Numbers.{wrong-names, wrong-types, breach-number}
 use Rattle.commands.specs.Exhibits.{program, negated, outlived, refused-8, refused-7}
 use Rattle.table.specs.Table.{Record, HeldTable, References, TableRight}
 use Rattle.machine.specs.Published.{fresh-env}
@@ -57,7 +57,7 @@ no-record b = ((omega arith, tt), tt)
 
 -- a program with right counts is refused with n; demand 3 fails of a run of it on a right table
 abbrev pub Fails : ℕ → Program → List Record → List ℕ → Type 0
-Fails n p rs es = Counts p × (program-number p ≡ n) × TableRight (p .params) rs × (Demand3 p rs es → ⊥)
+Fails n p rs es = Counts p × (breach-number p ≡ n) × TableRight (p .params) rs × (Demand3 p rs es → ⊥)
 
 -- Refused with 8 -----------------------------------------------------------------
 

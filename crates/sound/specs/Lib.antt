@@ -1,6 +1,6 @@
 pub mod Needs
 pub mod Sized
-pub mod Accepted
+pub mod Firm
 pub mod Started
 pub mod Invariant
 pub mod Conditions

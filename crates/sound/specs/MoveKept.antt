@@ -22,7 +22,7 @@ use Rattle.sound.specs.Keeps.{Keeps}
 use Rattle.sound.specs.ElemLaws.{none-some, at-map, map-at, all-elem}
 use Rattle.sound.specs.GoodLaws.{inst-kept}
 use Rattle.sound.specs.Advance.{Kept}
-use Rattle.sound.specs.Accepted.{Firm}
+use Rattle.sound.specs.Firm.{Firm}
 use Rattle.commands.specs.Context.{context, step-of}
 use Rattle.commands.specs.Noted.{noted}
 use Rattle.commands.specs.Living.{alive, lives-at, Among}

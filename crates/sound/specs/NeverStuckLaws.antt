@@ -31,7 +31,8 @@ use Rattle.run.specs.Initial.{initial, Comes}
 use Rattle.run.specs.BeginLaws.{begin-represents, outcome-exact}
 use Rattle.sound.specs.Needs.{Right}
 use Rattle.sound.specs.Invariant.{Good}
-use Rattle.sound.specs.Accepted.{Accepted, Firm}
+use Rattle.commands.specs.Accepted.{Accepted}
+use Rattle.sound.specs.Firm.{Firm}
 use Rattle.sound.specs.AcceptedLaws.{accepted-firm}
 use Rattle.sound.specs.ReadyLaws.{good-right}
 use Rattle.sound.specs.Conditions.{Condition}

@@ -27,7 +27,7 @@ use Rattle.commands.specs.SafeLaws.{ready}
 use Rattle.sound.specs.EachLaws.{each-uncons, each-split}
 use Rattle.sound.specs.Sized.{Sized}
 use Rattle.sound.specs.SizedLaws.{sized-first, way-sized}
-use Rattle.sound.specs.Accepted.{Firm}
+use Rattle.sound.specs.Firm.{Firm}
 
 -- a holder stands in the step of the call that runs
 pub holder-passage : {p : Program} {r : Option StepCall} {is : List Instance} {l : ℕ} {i : Instance} → Place p r is l i → {n : Note} {c : List Note}

@@ -17,7 +17,7 @@ use Rattle.commands.specs.Tags.{Asks}
 use Rattle.sound.specs.Needs.{Needs, NextReady, Typed-params, Right}
 use Rattle.sound.specs.Invariant.{Fits, Fitted, Passage, Place, Place.resting, Place.passing, Good}
 use Rattle.sound.specs.EachLaws.{each-length, each-reverse}
-use Rattle.sound.specs.Accepted.{Firm}
+use Rattle.sound.specs.Firm.{Firm}
 use Rattle.sound.specs.PassageLaws.{has-step, ctx, here, tops, top-one, top-two, own-top, local-value, asks}
 
 module _ {p : Program} (m : Machine) {a : StepCall} {l : ℕ} {i : Instance} (g : Passage p a (m .instances) l i) where

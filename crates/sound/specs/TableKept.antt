@@ -36,7 +36,7 @@ use Rattle.run.specs.Input.{TableAccepted}
 use Rattle.run.specs.InputLaws.{begins-ready}
 use Rattle.sound.specs.Needs.{ValueAmong}
 use Rattle.sound.specs.Invariant.{Fitted, GoodAll, Good}
-use Rattle.sound.specs.Accepted.{Accepted}
+use Rattle.commands.specs.Accepted.{Accepted}
 use Rattle.sound.specs.AcceptedLaws.{ready-accepted, accepted-firm}
 use Rattle.sound.specs.Tabled.{Tabled}
 use Rattle.sound.specs.ElemLaws.{some-is, at-below, at-drop, at-map, map-at, elem-all}

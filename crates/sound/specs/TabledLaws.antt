@@ -29,7 +29,7 @@ use Rattle.run.specs.StepsLaws.{steps-keep}
 use Rattle.run.specs.Visits.{Acts, Acts.moves, Acts.takes, Visits}
 use Rattle.run.specs.Begin.{params-in, resting, nulls, first-instances, begin}
 use Rattle.sound.specs.Invariant.{Place, Good}
-use Rattle.sound.specs.Accepted.{Firm}
+use Rattle.sound.specs.Firm.{Firm}
 use Rattle.sound.specs.Tabled.{TabledInst, Tabled}
 use Rattle.sound.specs.ElemLaws.{some-is, at-set-same, at-set-other, at-snoc, at-joined, at-below, map-at, all-elem}
 use Rattle.sound.specs.Keeps.{at-env-same, at-env-other}

@@ -27,7 +27,7 @@ use Rattle.sound.specs.EachLaws.{each-map}
 use Rattle.sound.specs.EnvLaws.{other-kept, local-kept, local-holds, local-fitted, param-fitted}
 use Rattle.sound.specs.GoodLaws.{fitted-kept, good-set, good-env, meet-length}
 use Rattle.sound.specs.PassageLaws.{ctx, Living-on}
-use Rattle.sound.specs.Accepted.{Firm}
+use Rattle.sound.specs.Firm.{Firm}
 use Rattle.sound.specs.Advance.{after, advance}
 
 -- an instance of struct k with environment ξ, after a parameter of it is written

@@ -40,7 +40,7 @@ spot-fits x k n = go (checked x) refl
   where
     go : (c : Checked) → checked x ≡ c → spot-by c k n .start + spot-by c k n .len ≤ max-commands
     go (refused m) e = omega arith
-    go (accepted p) e = accepted-fits p k n (checked-accepted x p .0 e .within)
+    go (accepted p) e = accepted-fits p k n (checked-accepted x p .0 e .program .1)
 
 -- A program ----------------------------------------------------------------------------
 

@@ -16,6 +16,7 @@ use Rattle.program.specs.Fronts.{EndsAt, OffendsAt}
 use Rattle.commands.specs.Bounds.{Within}
 use Rattle.commands.specs.Names.{NamesRight}
 use Rattle.commands.specs.Typing.{TypesRight}
+use Rattle.commands.specs.Accepted.{Accepted}
 use Rattle.commands.specs.Numbers.{Order}
 use Rattle.verdict.specs.Verdict.{Verdict, approval}
 
@@ -91,13 +92,15 @@ check-order x list = program-order x ++ (13, ShortList list) ∷ []
 -- What is accepted -----------------------------------------------------------------------
 
 -- a program image that is accepted
-pub record Accepted (x : List ℕ) (p : Program) : Type 0 where
+pub record AcceptedImage (x : List ℕ) (p : Program) : Type 0 where
   pub image : ImageRight program-blocks x
-  pub reads : Reads x p
-  pub within : Within p
-  pub names : NamesRight p
-  pub types : TypesRight p
+  pub bytes : stream x ≡ enc-program p
+  pub program : Accepted p
+
+-- its stream reads as the program
+abbrev pub reads-of : {x : List ℕ} {p : Program} → AcceptedImage x p → Reads x p
+reads-of a = record { counts = a .program .0; bytes = a .bytes }
 
 -- the verdict on an accepted program, where the list has room
 abbrev pub Approved : List ℕ → List ℕ → Verdict → Type 0
-Approved x list v = (p : Program) × (v ≡ approval p) × (Accepted x p) × (max-commands ≤ length list)
+Approved x list v = (p : Program) × (v ≡ approval p) × (AcceptedImage x p) × (max-commands ≤ length list)

@@ -30,11 +30,11 @@ use Rattle.commands.specs.Typing.{TypesRight}
 use Rattle.commands.specs.BoundsDecideLaws.{within-reflects}
 use Rattle.commands.specs.NamesDecideLaws.{names-reflects}
 use Rattle.commands.specs.TypingDecideLaws.{types-reflects}
-use Rattle.commands.specs.Numbers.{Order, NoneOf, Foremost, program-number}
+use Rattle.commands.specs.Numbers.{Order, NoneOf, Foremost, breach-number}
 use Rattle.commands.specs.NumbersLaws.{number-accepted, number-limits, number-names, number-types, foremost-some}
 use Rattle.verdict.specs.Verdict.{Checked, Checked.accepted, Checked.refused, judge, of-read, of-image, checked, Verdict, refusal, approval, verdict-of, check-verdict, list-of, listed, check-list}
 use Rattle.types.specs.Numbers.{no-room}
-use Rattle.verdict.specs.ProgramInput.{ImageRight, Reads, Accepted, Approved, WrongEnd, WrongByte, OverLimits, WrongNames, WrongTypes, ShortList, program-order, check-order}
+use Rattle.verdict.specs.ProgramInput.{ImageRight, Reads, AcceptedImage, reads-of, Approved, WrongEnd, WrongByte, OverLimits, WrongNames, WrongTypes, ShortList, program-order, check-order}
 use Rattle.verdict.specs.InputOrder.{none-behind, foremost-front, Tells, Tells.refuses, Tells.passes, here, past, past-all, tells-number, tells-none}
 
 -- one program is read from an image
@@ -57,7 +57,7 @@ no-fault x f a b =
 module _ (x : List ℕ) where
   -- the program of an answer, accepted
   abbrev pub Passed : Checked → Type 0
-  Passed c = (p : Program) × (c ≡ accepted p) × (Accepted x p)
+  Passed c = (p : Program) × (c ≡ accepted p) × (AcceptedImage x p)
 
   abbrev Tell : Order → Checked → Type 1
   Tell = Tells refused Passed
@@ -75,19 +75,19 @@ module _ (x : List ℕ) where
   abbrev from-6 : Order
   from-6 = (6, OverLimits x) ∷ (7, WrongNames x) ∷ (8, WrongTypes x) ∷ []
 
-  tell-program : (p : Program) → ImageRight program-blocks x → Reads x p → Tell from-6 (judge p (program-number p))
+  tell-program : (p : Program) → ImageRight program-blocks x → Reads x p → Tell from-6 (judge p (breach-number p))
   unfolding judge
   tell-program p i r = go (within-reflects p) (names-reflects p) (types-reflects p)
     where
       go : {u v w : Bool} → Reflects (Within p) u → Reflects (NamesRight p) v → Reflects (TypesRight p) w
-          → Tell from-6 (judge p (program-number p))
+          → Tell from-6 (judge p (breach-number p))
       go (fails f) v w = here (ap (judge p) (number-limits p .1 f)) (p, r, f)
       go (holds a) (fails f) w = past (no-6 r a) (here (ap (judge p) (number-names p .1 (a, f))) (p, r, f))
       go (holds a) (holds b) (fails f) =
           past (no-6 r a) (past (no-7 r b) (here (ap (judge p) (number-types p .1 (a, b, f))) (p, r, f)))
       go (holds a) (holds b) (holds c) =
           passes (no-6 r a, (no-7 r b, (no-8 r c, tt)))
-          (p, ap (judge p) (number-accepted p .1 (a, b, c)), record { image = i; reads = r; within = a; names = b; types = c })
+          (p, ap (judge p) (number-accepted p .1 (a, b, c)), record { image = i; bytes = r .bytes; program = (r .counts, a, b, c) })
 
   -- 4 and 5
   no-4 : (p : Program) (m : ℕ) → read (stream x) ≡ ok p m → WrongEnd x → ⊥
@@ -144,10 +144,10 @@ module _ (x : List ℕ) where
   checked-number = tells-number refused-same refused-apart tell-checked
 
   -- what is accepted meets no condition
-  pub accepted-none : {p : Program} → Accepted x p → NoneOf (program-order x)
+  pub accepted-none : {p : Program} → AcceptedImage x p → NoneOf (program-order x)
   accepted-none {p} a =
-      let reads = program-law (stream x) p (length (stream x)) .1 (a .reads .counts, a .reads .bytes, refl) in
-      let judged : NoneOf from-6 = (no-6 (a .reads) (a .within), (no-7 (a .reads) (a .names), (no-8 (a .reads) (a .types), tt))) in
+      let reads = program-law (stream x) p (length (stream x)) .1 (a .program .0, a .bytes, refl) in
+      let judged : NoneOf from-6 = (no-6 (reads-of a) (a .program .1), (no-7 (reads-of a) (a .program .2), (no-8 (reads-of a) (a .program .3), tt))) in
       let whole : NoneOf from-4 = (no-4 p (length (stream x)) reads, (no-5 p (length (stream x)) reads, judged)) in (
         λ f. f (a .image .length-right),
         (no-fault x Sum (a .image .blocks-right), (no-fault x Layout (a .image .blocks-right), whole)),
@@ -155,16 +155,16 @@ module _ (x : List ℕ) where
 
   -- it is accepted as a program exactly where it meets the conditions of 01: right blocks, the program's stream, within counts and
   -- limits, names and types right
-  pub checked-accepted : (p : Program) → (checked x ≡ accepted p) ↔ Accepted x p
+  pub checked-accepted : (p : Program) → (checked x ≡ accepted p) ↔ AcceptedImage x p
   checked-accepted p = (forth tell-checked, back tell-checked)
     where
-      forth : Tell (program-order x) (checked x) → checked x ≡ accepted p → Accepted x p
+      forth : Tell (program-order x) (checked x) → checked x ≡ accepted p → AcceptedImage x p
       forth (refuses d q) e = let z : _≡_ {A = ℕ} 0 1 = cc in absurd (omega arith)
       forth (passes f d) e = let h = d .1 in let q : d .0 ≡ p = cc in rw q at (d .2)
 
-      back : Tell (program-order x) (checked x) → Accepted x p → checked x ≡ accepted p
+      back : Tell (program-order x) (checked x) → AcceptedImage x p → checked x ≡ accepted p
       back (refuses d q) a = absurd (foremost-some q (accepted-none a))
-      back (passes f d) a = d .1 ∙ ap accepted (one-program (d .2 .reads) (a .reads))
+      back (passes f d) a = d .1 ∙ ap accepted (one-program (reads-of (d .2)) (reads-of a))
 
 -- Checking, with a list ------------------------------------------------------------------
 
@@ -176,7 +176,7 @@ module _ (x list : List ℕ) where
   unfolding check-verdict verdict-of
   tell-verdict = go (tell-checked x)
     where
-      room : (p : Program) → Accepted x p → {t : Bool} → Reflects (ShortList list) t
+      room : (p : Program) → AcceptedImage x p → {t : Bool} → Reflects (ShortList list) t
           → Verdicts ((13, ShortList list) ∷ []) (elim t [ true ↦ refusal no-room | false ↦ approval p ])
       room p a (holds h) = here refl h
       room p a (fails f) = passes (f, tt) (p, refl, a, omega arith)
@@ -194,7 +194,7 @@ module _ (x list : List ℕ) where
   -- a program has a struct, and a refusal counts none
   refusal-apart : (n : ℕ) → Approved x list (refusal n) → ⊥
   unfolding Counts
-  refusal-apart n d = omega (arith, d .2 .reads .counts .0 .0, ap (λ (v : Verdict). v .structs) (d .1))
+  refusal-apart n d = omega (arith, d .2 .program .0 .0 .0, ap (λ (v : Verdict). v .structs) (d .1))
 
   -- checking refuses with a number exactly where that number is foremost
   pub verdict-number : (n : ℕ) → (check-verdict x list ≡ refusal n) ↔ Foremost (check-order x list) n
@@ -219,7 +219,7 @@ module _ (x list : List ℕ) where
       go (passes f d) = ap (λ (c : Checked). list-of c list) (d .1) ∙ room (d .0) f (lt-reflects (length list) max-commands)
 
   -- an accepted program with room is approved, and its commands stand in the list
-  pub check-approved : (p : Program) → Accepted x p → max-commands ≤ length list
+  pub check-approved : (p : Program) → AcceptedImage x p → max-commands ≤ length list
       → (check-verdict x list ≡ approval p) × (check-list x list ≡ listed p list)
   unfolding check-verdict verdict-of check-list list-of
   check-approved p a h =

@@ -15,7 +15,7 @@ use Rattle.program.specs.Reader.{Result, Result.ok, Result.bad, read}
 use Rattle.commands.specs.Bounds.{total, program-size, program-depth, step-list}
 use Rattle.commands.specs.Coding.{words}
 use Rattle.commands.specs.Commands.{Flat}
-use Rattle.commands.specs.Numbers.{program-number}
+use Rattle.commands.specs.Numbers.{breach-number}
 
 -- A program image --------------------------------------------------------------------
 
@@ -28,7 +28,7 @@ judge p zero = accepted p
 judge p (suc n) = refused (suc n)
 
 unfoldable pub of-read : Result Program → Checked
-of-read (ok p at) = judge p (program-number p)
+of-read (ok p at) = judge p (breach-number p)
 of-read (bad at n) = refused n
 
 unfoldable pub of-image : Found → List ℕ → Checked

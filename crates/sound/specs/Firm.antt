@@ -1,4 +1,4 @@
--- An accepted program (01, numbers 6 to 8), and what the runs of one rest on.
+-- What the runs of an accepted program rest on (01, numbers 6 to 8).
 use Prim.Native.Nat.{ℕ, _≤_}
 use mathlib.Core.Path.{_≡_}
 use mathlib.Core.Option.{some}
@@ -6,22 +6,15 @@ use mathlib.Core.List.{List, []}
 use lib.ListN.{length}
 use Rattle.types.specs.Limits.{first-local}
 use Rattle.program.specs.Tree.{Stmts, Program}
-use Rattle.program.specs.Counts.{Counts}
 use Rattle.commands.specs.Context.{params-of, context, step-of}
-use Rattle.commands.specs.Names.{NamesRight}
-use Rattle.commands.specs.Typing.{TypesRight}
 use Rattle.commands.specs.Noted.{Note, noted}
-use Rattle.commands.specs.Bounds.{Within, program-depth}
+use Rattle.commands.specs.Bounds.{program-depth}
 use Rattle.machine.specs.Published.{structs}
 use mathlib.Core.Bool.{false}
 use Rattle.commands.specs.Tags.{Tags, at-start, Way}
 use Rattle.commands.specs.Living.{lives, alive, Among}
 use Rattle.commands.specs.Secure.{Secure}
 use Rattle.sound.specs.Sized.{SizedAll}
-
--- within the counts and the limits, with right names and right types
-abbrev pub Accepted : Program → Type 0
-Accepted p = (Counts p) × (Within p) × (NamesRight p) × (TypesRight p)
 
 -- a step's commands are safe on every way, no way goes higher than the reported depth, and what they carry is in its range;
 -- parameters lie below the locals
