@@ -1,5 +1,5 @@
 // The operators on words of four bytes, as the engine holds values: each contract is an equation with the definitions of the crate
-// `words`.
+// `operators`.
 use operators::Answered;
 ghost use mathlib.Core.Path.{_≡_};
 ghost use mathlib.Core.Option.{some};

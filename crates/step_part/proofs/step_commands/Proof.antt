@@ -1,4 +1,4 @@
--- `parts::step_commands` meets its contract: the part lies in the list.
+-- `step_part::step_commands` meets its contract: the part lies in the list.
 use Prim.Native.Nat.{ℕ, _+_, _-_}
 use native.Mathlib.Omega.{arith}
 use mathlib.Core.Path.{_≡_, ap, _∙_}

@@ -1,4 +1,4 @@
--- `parts::step_place` meets its contract: the image is refused, the list is too short, or the step was looked for.
+-- `step_part::step_place` meets its contract: the image is refused, the list is too short, or the step was looked for.
 use mathlib.Core.Path.{_≡_, sym, ap, _∙_}
 use Rattle.step_part.specs.declared.Spot.{Spot}
 use Rattle.step_part.specs.StepPartLaws.{place-numbered, place-short, place-room}

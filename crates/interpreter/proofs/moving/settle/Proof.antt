@@ -1,4 +1,4 @@
--- `runner::moving::settle` meets its contract. The loop's invariant: memory is where the moves have led, whichever machine it held.
+-- `interpreter::moving::settle` meets its contract. The loop's invariant: memory is where the moves have led, whichever machine it held.
 -- The measure is the moves that are left.
 use Prim.Native.Nat.{ℕ}
 use mathlib.Core.Path.{_≡_, refl, sym, _∙_}

@@ -1,4 +1,4 @@
--- `runner::turns::left_holding` meets its contract, by whether the actor still holds commands.
+-- `interpreter::turns::left_holding` meets its contract, by whether the actor still holds commands.
 use borrow.Author.Needs.{needs}
 use Rattle.interpreter.specs.RunWays.{actor-holds, actor-ended}
 use Rattle.interpreter.proofs.turns.left_holding.Statement.{statement}

@@ -1,4 +1,4 @@
--- `runner::turns::run` meets its contract. The loop's invariant: memory is where the turns taken have led, whichever machine it held.
+-- `interpreter::turns::run` meets its contract. The loop's invariant: memory is where the turns taken have led, whichever machine it held.
 -- The measure is the bytes that are left.
 use Prim.Native.Nat.{_-_, _≤_}
 use mathlib.Core.Path.{_≡_, refl, _∙_}
