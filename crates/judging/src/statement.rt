@@ -8,7 +8,7 @@ use judge::Judged;
 use judge::Scope;
 ghost use mathlib.Core.Path.{_≡_};
 ghost use Prim.Native.Nat.{_+_, _<_, _^_};
-ghost use Rattle.judge.specs.Facts.{nothing, branched, declared, updated, created, followed};
+ghost use Rattle.judge.specs.Facts.{nothing, branched, declared, updated, followed};
 
 // No statement.
 pub fn nothing(c: Scope) -> Done
@@ -74,20 +74,6 @@ pub fn updated(c: Scope, n: u8, j: Judged, f: Facts) -> Done
         height: expression::higher(f.peak, 2),
         growth: 0,
         fault: fault::demand(first, j.typ == f.typ),
-        after: c,
-    }
-}
-
-// A construct of a new instance over its arguments, whose label stays.
-pub fn created(c: Scope, f: Facts) -> Done
-    requires { ⌜ f .size + 1 < 2 ^ 64 ⌝ }
-    ensures { λ r. ⌜ r ≡ created c f ⌝ }
-{
-    Done {
-        size: f.size + 1,
-        height: expression::higher(1, f.peak),
-        growth: 1,
-        fault: f.fault,
         after: c,
     }
 }

@@ -4,7 +4,7 @@ pub mod codes;
 
 ghost use mathlib.Core.Path.{_≡_};
 ghost use Prim.Native.Nat.{_+_, _*_, _<_, _≤_};
-ghost use lib.ListN.{length, getD};
+ghost use lib.ListN.{length};
 ghost use lib.Seq.{sets};
 ghost use Rattle.types.specs.Limits.{nat-end};
 ghost use Rattle.layout.specs.Layout.{head-size, height-of, next-of, end-of, head, cell, holds, new-head, going, begun};
@@ -50,14 +50,6 @@ pub fn fresh(count: usize) -> Numbers
         stable: 0,
         number: 0,
     }
-}
-
-// Number f of instance l.
-pub fn number(heads: &[usize], l: usize, f: usize) -> usize
-    requires { ⌜ head l f < length (now heads) ⌝ }
-    ensures { λ r. ⌜ r ≡ getD (now (heads .entry)) (head l f) 0 ⌝ }
-{
-    heads[HEAD_SIZE * l + f]
 }
 
 // Whether instance l holds commands.
