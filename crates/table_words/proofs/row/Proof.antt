@@ -46,7 +46,7 @@ returns : tie.Need-returns
 returns c =
     let at-values = c .before .before in let at-put2 = at-values .before .before .before .before in
     let at-put = at-put2 .before .before .before .before in let at-byte2 = at-put .before .before in
-    let start = at-byte2 .before .before .before .before .before .before in let args = start .args in (
+    let in-bytes = at-byte2 .before .before .before in let args = in-bytes .before .before .before .args in (
       row-written (args .counts .now) (args .types .now) (args .s .now) (args .out .now) (args .l) (args .at) (args .n)
           (at-byte2 .before .byte .ensures .0) (at-byte2 .byte2 .ensures .0) (at-put .put .ensures) (at-put2 .put2 .ensures) (at-values .values .ensures),
       at-byte2 .byte2 .ensures .1,

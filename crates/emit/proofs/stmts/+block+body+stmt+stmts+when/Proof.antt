@@ -1,8 +1,10 @@
 -- `emit::stmts` meets its contracts, a law for each kind. The measure goes by the levels of if, and within one level by the statements that
+-- are left (at most 255), with a body, a block and an if above them.
 use Rattle.emit.specs.Written.{Ready, body-words, body-at as body-from}
 use lib.ListN.{length}
--- are left (at most 255), with a body, a block and an if above them.
 use Prim.Native.Nat.{ℕ, _<_, _+_, _*_}
+use mathlib.Core.List.{List}
+use borrow.Fn.Kind.{PK}
 use borrow.Fn.Kinds.{In}
 use borrow.Fn.PlainCycle.{Measures, is, falls, and}
 use Rattle.emit.proofs.stmts.+block+body+stmt+stmts+when.{statement}
@@ -53,43 +55,32 @@ abbrev μ-when : Measures 3 when-kinds.ps ℕ
 abbrev block-at : ℕ → In 3 block-kinds.ps
 block-at t = and 3 block-kinds.ps (is 3 block-kinds.ps μ-block t) block.Pre
 
-abbrev block-below : ℕ → In 3 block-kinds.ps
-block-below t = and 3 block-kinds.ps (falls 3 block-kinds.ps _<_ μ-block t) block.Pre
-
 abbrev body-at : ℕ → In 3 body-kinds.ps
 body-at t = and 3 body-kinds.ps (is 3 body-kinds.ps μ-body t) body.Pre
-
-abbrev body-below : ℕ → In 3 body-kinds.ps
-body-below t = and 3 body-kinds.ps (falls 3 body-kinds.ps _<_ μ-body t) body.Pre
 
 abbrev stmt-at : ℕ → In 3 stmt-kinds.ps
 stmt-at t = and 3 stmt-kinds.ps (is 3 stmt-kinds.ps μ-stmt t) stmt.Pre
 
-abbrev stmt-below : ℕ → In 3 stmt-kinds.ps
-stmt-below t = and 3 stmt-kinds.ps (falls 3 stmt-kinds.ps _<_ μ-stmt t) stmt.Pre
-
 abbrev stmts-at : ℕ → In 3 stmts-kinds.ps
 stmts-at t = and 3 stmts-kinds.ps (is 3 stmts-kinds.ps μ-stmts t) stmts.Pre
-
-abbrev stmts-below : ℕ → In 3 stmts-kinds.ps
-stmts-below t = and 3 stmts-kinds.ps (falls 3 stmts-kinds.ps _<_ μ-stmts t) stmts.Pre
 
 abbrev when-at : ℕ → In 3 when-kinds.ps
 when-at t = and 3 when-kinds.ps (is 3 when-kinds.ps μ-when t) when.Pre
 
-abbrev when-below : ℕ → In 3 when-kinds.ps
-when-below t = and 3 when-kinds.ps (falls 3 when-kinds.ps _<_ μ-when t) when.Pre
+-- what a call asks: what its function does, where the measure is below t
+abbrev below : (ps : List (PK 3)) → Measures 3 ps ℕ → In 3 ps → ℕ → In 3 ps
+below ps μ pre t = and 3 ps (falls 3 ps _<_ μ t) pre
 
 -- what the functions that each calls ask and give
 abbrev block-claims : ℕ → block-lts.Claims
-block-claims t = (body-below t, body.Post, coded-reads.Asked, coded-reads.Learnt, store-reads.Asked, store-reads.Learnt)
+block-claims t = (below body-kinds.ps μ-body body.Pre t, body.Post, coded-reads.Asked, coded-reads.Learnt, store-reads.Asked, store-reads.Learnt)
 
 abbrev body-claims : ℕ → body-lts.Claims
-body-claims t = (stmts-below t, stmts.Post)
+body-claims t = (below stmts-kinds.ps μ-stmts stmts.Pre t, stmts.Post)
 
 abbrev stmt-claims : ℕ → stmt-lts.Claims
 stmt-claims t = (
-  when-below t,
+  below when-kinds.ps μ-when when.Pre t,
   when.Post,
   declare-reads.Asked,
   declare-reads.Learnt,
@@ -100,10 +91,10 @@ stmt-claims t = (
 )
 
 abbrev stmts-claims : ℕ → stmts-lts.Claims
-stmts-claims t = (stmt-below t, stmt.Post, stmts-below t, stmts.Post)
+stmts-claims t = (below stmt-kinds.ps μ-stmt stmt.Pre t, stmt.Post, below stmts-kinds.ps μ-stmts stmts.Pre t, stmts.Post)
 
 abbrev when-claims : ℕ → when-lts.Claims
-when-claims t = (expr-reads.Asked, expr-reads.Learnt, block-below t, block.Post)
+when-claims t = (expr-reads.Asked, expr-reads.Learnt, below block-kinds.ps μ-block block.Pre t, block.Post)
 
 -- the places of `block` that proofs look back to
 abbrev block-start : (t : ℕ) → block-lts.After-body-arg (block-claims t) (block-at t) block.Post → block-lts.Start (block-claims t) (block-at t) block.Post
@@ -246,11 +237,6 @@ abbrev stmts-at-stmt₂ :
     (t : ℕ) → stmts-lts.After-slice-known3 (stmts-claims t) (stmts-at t) stmts.Post → stmts-lts.After-stmt (stmts-claims t) (stmts-at t) stmts.Post
 stmts-at-stmt₂ t c = stmts-at-stmt t (c .before .before)
 
-stmts-returns : (t : ℕ) → stmts-lts.Need-returns (stmts-claims t) (stmts-at t) stmts.Post
-stmts-returns t c =
-    let a = c .before .before .before .before .args in
-    stmts-none (a .ar .now) (a .s .now) (a .depth) (a .n) (a .at) (c .if1 .taken) (a .out .now) (a .k)
-
 stmts-stmt-requires : (t : ℕ) → stmts-lts.Need-stmt-requires (stmts-claims t) (stmts-at t) stmts.Post
 stmts-stmt-requires t c κs =
     let f = stmts-more _ _ _ _ _ (c .before .if1 .left) (stmts-start t (c .before) .pre .1 .good) in
@@ -262,11 +248,6 @@ stmts-stmts-requires t c κs =
       omega (arith, stmts-start t (stmts-at-if1₂ t c) .pre .0, stmts-at-if1₂ t c .if1 .left),
       parts-next f (stmts-start t (stmts-at-if1₂ t c) .pre .1) (c .before .before .before .stmt .ensures),
     )
-
-stmts-same-length : (t : ℕ) → stmts-lts.Need-same-length (stmts-claims t) (stmts-at t) stmts.Post
-stmts-same-length t c =
-    let at-stmts = c .before .before in
-    placed-kept (at-stmts .stmts .ensures) ∙ placed-kept (stmts-at-stmt₂ t c .stmt .ensures)
 
 stmts-returns-2 : (t : ℕ) → stmts-lts.Need-returns-2 (stmts-claims t) (stmts-at t) stmts.Post
 stmts-returns-2 t c =
@@ -325,6 +306,9 @@ pub +block+body+stmt+stmts+when-spec : {M : Type 1} → statement M
     (λ c. placed-kept (c .before .before .update .ensures)) (stmt-returns-3 t)
     (λ c. omega (arith, stmt-in _ _ _ _ (stmt-start t (c .before .before .before) .pre .1 .good))) (stmt-make-requires t)
     (λ c. placed-kept (c .before .before .make .ensures)) (stmt-returns-4 t))
-    (λ t. stmts-lts.spec (stmts-claims t) (stmts-at t) stmts.Post (stmts-returns t) (stmts-stmt-requires t)
-    (λ c. omega (arith, c .before .before .before .before .if1 .left)) (stmts-stmts-requires t) (stmts-same-length t) (stmts-returns-2 t))
+    (λ t. stmts-lts.spec (stmts-claims t) (stmts-at t) stmts.Post
+    (λ c. let a = c .before .before .before .before .args in
+    stmts-none (a .ar .now) (a .s .now) (a .depth) (a .n) (a .at) (c .if1 .taken) (a .out .now) (a .k))
+    (stmts-stmt-requires t) (λ c. omega (arith, c .before .before .before .before .if1 .left)) (stmts-stmts-requires t)
+    (λ c. placed-kept (c .before .before .stmts .ensures) ∙ placed-kept (stmts-at-stmt₂ t c .stmt .ensures)) (stmts-returns-2 t))
     λ t. when-lts.spec (when-claims t) (when-at t) when.Post (when-expr-requires t) (when-block-requires t) (when-same-length t) (when-returns t)
