@@ -2,27 +2,14 @@
 use Prim.Native.Nat.{ℕ, _+_, _<_, _≤_}
 use native.Mathlib.Omega.{arith}
 use mathlib.Core.Path.{_≡_, refl, ap, sym, _∙_}
-use mathlib.Core.Logic.{⊎-elim}
 use mathlib.Core.List.{List, [], _∷_, _++_}
-use types.Run.{OneOf}
-use denote.Enum.Declared.{tagOf}
-use lib.ListN.{length, take, length-map}
-use lib.Seq.{take-at}
+use lib.ListN.{length, length-map}
 use borrow.Author.Tests.{lt-ltb, le-ltb}
-use Rattle.types.specs.Limits.{max-structs, max-commands, program-blocks}
-use Rattle.blocks.specs.Images.{fault, stream, read as image-read, read-into, program-number as block-number}
-use Rattle.blocks.specs.AnswerLaws.{read-says, stream-most}
-use Rattle.block.specs.declared.Fault.{Fault}
-use Rattle.block.specs.declared.Found.{Found}
-use Rattle.block.specs.declared.Found.the-variants.{Wrong}
-use Rattle.blocks.specs.declared.Read.{Read}
-use Rattle.blocks.specs.declared.Read.the-variants.{Stream, Refused as ImageRefused, Short as ImageShort}
-use Rattle.blocks.proofs.Read.{the-type}
+use Rattle.types.specs.Limits.{max-structs, max-commands}
 use Rattle.program.specs.Tree.{Step, Program}
 use Rattle.program.specs.Encoding.{flat}
-use Rattle.program.specs.Reader.{Result.ok, read}
 use Rattle.commands.specs.Coding.{words}
-use Rattle.commands.specs.Bounds.{step-list, arities, program-size, Within}
+use Rattle.commands.specs.Bounds.{step-list, program-size, Within}
 use Rattle.commands.specs.NumbersLaws.{number-accepted}
 use Rattle.read_params.specs.ParamsWays.{from-start}
 use Rattle.emit.specs.ProgramWords.{step-words, steps-words, structs-words, structs-at, program-words as emitted-words}
@@ -33,11 +20,11 @@ use Rattle.emit_steps.specs.Emitted.{from-place, stand, Fits, Emitted, EmittedP
 use Rattle.emit_steps.specs.ProgramLaws.{program-fits}
 use Rattle.directory.specs.Directory.{structs-rows}
 use Rattle.directory.specs.Rows.{directory-places}
-use Rattle.verdict.specs.Verdict.{Checked, Checked.accepted, Checked.refused, of-read, of-image, checked, of-steps, of-structs, program-words, listed, Verdict as Judgement, refusal, approval, verdict-of, list-of}
+use Rattle.verdict.specs.Verdict.{Checked, Checked.accepted, Checked.refused, of-steps, of-structs, program-words, listed, Verdict as Judgement, refusal, approval, verdict-of, list-of}
 use Rattle.load.specs.declared.Loaded.{Loaded}
 use Rattle.load.specs.Load.{Admitted}
 use Rattle.load.specs.LoadLaws.{LoadedAs, accepted-source, structs-are, structs-few}
-use Rattle.checker.specs.Answer.{answer, counts-verdict, approved, image-refusal}
+use Rattle.checker.specs.Answer.{answer, counts-verdict, approved}
 
 -- Refusals -----------------------------------------------------------------------------
 
@@ -113,32 +100,3 @@ module _ (x : List ℕ) (z : Loaded) (l : LoadedAs x z) where
         pub wrote : list′ ≡ listed p list
         unfolding listed
         wrote = emitted .words ∙ from-start list (emitted-words p) (omega (arith, program-length p, enough)) ∙ rw (same-words p)
-
--- Images -------------------------------------------------------------------------------
-
-module _ (x : List ℕ) where
-  pub image-refused : (f : Fault) (room : ℕ) → image-read program-blocks x room ≡ ImageRefused f → checked x ≡ refused (block-number f)
-  unfolding checked of-image
-  image-refused f room e = let h : fault program-blocks x ≡ Wrong f = rw e at (read-says program-blocks x room) in ap (λ (g : Found). of-image g x) h
-
-  -- a buffer for as many blocks as are allowed is never too short
-  pub image-short : (room : ℕ) → 32256 ≤ room → image-read program-blocks x room ≡ ImageShort → ⊥
-  image-short room l e = let h = rw e at (read-says program-blocks x room) in omega (arith, stream-most program-blocks x (h .0), h .1)
-
-  -- so an answer that is no stream refuses the image
-  pub image-unread : (q : Read) (room : ℕ) → 32256 ≤ room → image-read program-blocks x room ≡ q → OneOf (1 ∷ 2 ∷ []) (tagOf the-type q)
-      → checked x ≡ refused (image-refusal q)
-  image-unread (Stream n) room l e k = absurd (⊎-elim (λ i. omega arith) (λ i. omega arith) k)
-  image-unread (ImageRefused f) room l e k = image-refused f room e
-  image-unread ImageShort room l e k = absurd (image-short room l e)
-
-  pub image-stream : (n room : ℕ) → image-read program-blocks x room ≡ Stream n → (checked x ≡ of-read (read (stream x))) × (n ≡ length (stream x)) × (n ≤ room)
-  unfolding checked of-image
-  image-stream n room e =
-      let h = rw e at (read-says program-blocks x room) in
-      (ap (λ (f : Found). of-image f x) (h .0), h .1, h .2)
-
-  -- the front of the buffer is the stream
-  pub image-front : (n : ℕ) (buffer : List ℕ) → n ≡ length (stream x) → take n (read-into (Stream n) (stream x) buffer) ≡ stream x
-  unfolding read-into
-  image-front n buffer e = take-at (stream x) _ n (sym e)

@@ -1,14 +1,13 @@
 // The checker: a program image to a number, counts and depth, and its commands to a lent list (01, numbers 1 to 8 and 13).
-use blocks::Read;
 use emit_steps::rows::ROWS;
 use load::Load;
 use load::Loaded;
 ghost use mathlib.Core.Path.{_≡_};
 ghost use Rattle.verdict.specs.Verdict.{refusal, check-verdict, check-list};
-ghost use Rattle.checker.specs.Answer.{answer, approved, image-refusal};
+ghost use Rattle.checker.specs.Answer.{answer, approved};
 
 // 01's number of a lent list with too few places.
-pub const SHORT_LIST: u8 = 13;
+pub const SHORT_LIST: u8 = types::number::NO_ROOM;
 
 // What checking answers: the number, and of an accepted program how many structs, steps and commands it has, and its depth.
 pub struct Verdict {
@@ -17,16 +16,6 @@ pub struct Verdict {
     pub steps: u8,
     pub commands: u16,
     pub depth: u8,
-}
-
-// The number of a program image that is refused; 0 where it is not.
-pub fn image_refusal(r: Read) -> u8
-    ensures { λ n. ⌜ n ≡ image-refusal r ⌝ }
-{
-    let Read::Refused(f) = r else {
-        return 0;
-    };
-    blocks::program_number(f)
 }
 
 // A refusal reports no counts and no depth.

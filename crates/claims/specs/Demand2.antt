@@ -44,7 +44,6 @@ use Rattle.sound.specs.BeginGood.{begin-good}
 use Rattle.sound.specs.NeverStuckLaws.{visits-good, demand3, demand3-comes}
 use Rattle.sound.specs.Started.{OneStep}
 use Rattle.sound.specs.StartedLaws.{good-one-step}
-use Rattle.sound.specs.BeginGood.{begin-good}
 use Rattle.sound.specs.TabledLaws.{begin-tabled}
 use Rattle.sound.specs.TableKept.{table-kept, table-written, nulls-kept, comes-written, output-length}
 use Rattle.step_part.specs.StepPart.{step-place, step-part}

@@ -1,10 +1,9 @@
 // A run on images (01, 'Numbers from the input' and 'Numbers from the state'): a program image, a table image and turn bytes to a
 // number, the commands taken, the blocks written and the depth; the commands to the lent list, the last table to the output.
-use blocks::Read;
 use compile::items::CODES;
 use compile::spans::SPANS;
 use engine::Machine;
-use read_program::ProgramRead;
+use load::Load;
 use table_read::TableRead;
 ghost use mathlib.Core.Path.{_≡_};
 ghost use Prim.Native.Nat.{_*_, _≤_};
@@ -154,35 +153,6 @@ fn of_table(
     )
 }
 
-// A program stream: 4 to 8, and the table of an accepted program.
-fn of_stream(s: &[u8], table: &[u8], turns: &[u8], output: &mut [u8], list: &mut [u64]) -> Report
-    ensures { λ r. ⌜ Answers (of-checked (of-read (read (now (s .entry)))) (now (table .entry))) (now (turns .entry)) (now (output .entry)) (now (list .entry)) r (now (output .exit)) (now (list .exit)) ⌝ }
-{
-    let mut counts = [0u8; types::MAX_STRUCTS];
-    let mut types = [0u8; types::MAX_STRUCTS * types::MAX_PARAMS];
-    let r = read_program::program(s, &mut counts, &mut types);
-    let ProgramRead::Value(at, p) = r else {
-        return refused(read_program::program_refusal(r));
-    };
-    if p.number != 0 {
-        return refused(p.number);
-    }
-    let n = p.structs as usize;
-    let end = types::MAX_PARAMS * n;
-    let depth = p.depth as u8;
-    of_table(
-        s,
-        &counts[..n],
-        &types[..end],
-        at,
-        depth,
-        table,
-        turns,
-        output,
-        list,
-    )
-}
-
 // A program image, a table image and turn bytes: 1 to 14 in order, or a run, which writes the commands into the list and the last table
 // into the output.
 pub fn run(
@@ -196,10 +166,25 @@ pub fn run(
     ensures { λ _. ⌜ now (output .exit) ≡ run-output (now (program .entry)) (now (table .entry)) (now (turns .entry)) (now (output .entry)) (now (list .entry)) ⌝ }
     ensures { λ _. ⌜ now (list .exit) ≡ run-list (now (program .entry)) (now (table .entry)) (now (turns .entry)) (now (output .entry)) (now (list .entry)) ⌝ }
 {
-    let mut buffer = [0u8; types::PROGRAM_BLOCKS * blocks::PAYLOAD_SIZE];
-    let r = blocks::read_image(program, types::PROGRAM_BLOCKS, &mut buffer);
-    let Read::Stream(n) = r else {
-        return refused(checker::image_refusal(r));
+    let mut stream = [0u8; types::PROGRAM_BLOCKS * blocks::PAYLOAD_SIZE];
+    let mut counts = [0u8; types::MAX_STRUCTS];
+    let mut types = [0u8; types::MAX_STRUCTS * types::MAX_PARAMS];
+    let r = load::program(program, &mut stream, &mut counts, &mut types);
+    let Load::Program(p) = r else {
+        return refused(load::refusal(r));
     };
-    of_stream(&buffer[..n], table, turns, output, list)
+    let n = p.length;
+    let k = p.structs as usize;
+    let end = types::MAX_PARAMS * k;
+    of_table(
+        &stream[..n],
+        &counts[..k],
+        &types[..end],
+        p.at,
+        p.depth,
+        table,
+        turns,
+        output,
+        list,
+    )
 }
