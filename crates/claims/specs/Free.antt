@@ -2,7 +2,7 @@
 -- say': "a result that these papers leave free is named, with what holds of it").
 use mathlib.Core.Path.{_≡_}
 use mathlib.Core.Logic.{_↔_}
-use lib.IntN.{ℤ, pos, _+ℤ_, _*ℤ_}
+use lib.IntN.{ℤ, pos}
 use Rattle.program.specs.Tree.{Program}
 use Rattle.program.specs.Counts.{Counts}
 use Rattle.commands.specs.Bounds.{Within}
@@ -11,8 +11,8 @@ use Rattle.commands.specs.Coding.{command-word}
 use Rattle.commands.specs.Decoding.{InRanges}
 use Rattle.commands.specs.CodingLaws.{word-injective}
 use Rattle.operators.specs.Operators.{quotient, remainder}
-use Rattle.operators.specs.Rounding.{TowardZero}
-use Rattle.operators.specs.RoundingLaws.{quotient-toward-zero, quotient-unique, remainder-completes}
+use Rattle.operators.specs.Rounding.{TowardMinusInfinity, DivisorSigned}
+use Rattle.operators.specs.RoundingLaws.{quotient-downward, quotient-unique, remainder-signed, remainder-unique}
 use Rattle.run.specs.Entry.{of-structs, program-words}
 use Rattle.run.specs.ListLaws.{words-determine}
 
@@ -25,10 +25,10 @@ pub list-determines : (p q : Program) → Counts p → Within p → Counts q →
     → of-structs (p .steps) ≡ of-structs (q .steps)
 list-determines p q c w d v e = words-determine p c w q d v e
 
--- "Int / rounds toward zero": the library's quotient is the one that does
-pub quotient-rounds : (a b q : ℤ) → (b ≡ pos 0 → ⊥) → TowardZero a b q ↔ (q ≡ quotient a b)
-quotient-rounds a b q h = (λ t. quotient-unique a b q h t, λ e. rw e (quotient-toward-zero a b h))
+-- "Int division now rounds toward minus infinity" (02, 'Retarders below zero'): the library's quotient is the one that does
+pub quotient-rounds : (a b q : ℤ) → (b ≡ pos 0 → ⊥) → TowardMinusInfinity a b q ↔ (q ≡ quotient a b)
+quotient-rounds a b q h = (λ t. quotient-unique a b q h t, λ e. rw e (quotient-downward a b h))
 
--- "a % b is a − b × quotient"
-pub remainder-rounds : (a b : ℤ) → b *ℤ quotient a b +ℤ remainder a b ≡ a
-remainder-rounds a b = remainder-completes a b
+-- "and the remainder takes the divisor's sign": 0 or of that sign, smaller in amount, and a is b × quotient and the remainder
+pub remainder-rounds : (a b q r : ℤ) → (b ≡ pos 0 → ⊥) → DivisorSigned a b q r ↔ ((q ≡ quotient a b) × (r ≡ remainder a b))
+remainder-rounds a b q r h = (λ t. remainder-unique a b q r t, λ e. rw (e .0, e .1) (remainder-signed a b h))
