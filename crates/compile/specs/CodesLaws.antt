@@ -8,16 +8,16 @@ use lib.ListN.{length, length-append}
 use Rattle.types.specs.Limits.{schedule-items}
 use Rattle.program.specs.Tree.{Item, Item.call, Item.call-in, Item.fix, Items, Items.stop, Items.item}
 use Rattle.commands.specs.Bounds.{item-count, items-count}
-use Rattle.machine.specs.Published.{Sched, of-item, of-items}
-use Rattle.memory.specs.Plan.{start-code, start-in-code, fix-code, end-code, round-code, laid, laid-out}
+use Rattle.machine.specs.Published.{StepCall.global, StepCall.local, Sched, of-item, of-items}
+use Rattle.memory.specs.Plan.{start-code, fix-code, end-code, round-code, laid, laid-out}
 use Rattle.compile.specs.Codes.{item-codes, items-codes, schedule-codes}
 
 module _ (at : ℕ) where
-  pub call-codes : (n : ℕ) → item-codes at (call n) ≡ start-code n ∷ []
+  pub call-codes : (n : ℕ) → item-codes at (call n) ≡ start-code (global n) ∷ []
   unfolding item-codes of-item laid
   call-codes n = refl
 
-  pub call-in-codes : (k n : ℕ) → item-codes at (call-in k n) ≡ start-in-code k n ∷ []
+  pub call-in-codes : (k n : ℕ) → item-codes at (call-in k n) ≡ start-code (local k n) ∷ []
   unfolding item-codes of-item laid
   call-in-codes k n = refl
 

@@ -19,7 +19,7 @@ use Rattle.emit.specs.Written.{code-of, Ready, Wrote}
 use Rattle.emit.specs.ProgramLaws.{whole-program}
 use Rattle.emit.specs.ProgramWords.{structs-at}
 use Rattle.machine.specs.Published.{Sched, of-items}
-use Rattle.memory.specs.Plan.{laid, laid-out, Ranged, Body, At, At.at-end, At.at-start, At.at-start-in, At.at-fix, At.at-round}
+use Rattle.memory.specs.Plan.{laid, laid-out, Ranged, Body, At, At.at-end, At.at-start, At.at-fix, At.at-round}
 use Rattle.memory.specs.PlanLaws.{at-within, laid-whole, schedule-ranged}
 use Rattle.compile.specs.Codes.{schedule-codes, any-structs, schedule-at}
 use Rattle.compile.specs.CodesLaws.{schedule-few}
@@ -46,7 +46,6 @@ module _ (l more : List ℕ) where
   at-more : {a : ℕ} {s : Sched} → At l a s → At (l ++ more) a s
   at-more (at-end {a = a} e) = at-end (kept a e (at-within l (at-end e)))
   at-more (at-start {a = a} h e r) = let w = at-within l r in at-start h (kept a e (omega arith)) (at-more r)
-  at-more (at-start-in {a = a} h k e r) = let w = at-within l r in at-start-in h k (kept a e (omega arith)) (at-more r)
   at-more (at-fix {a = a} {j = j} e b q r) =
       let w = at-within l r in
       let i = b .ends in

@@ -16,7 +16,8 @@ use Rattle.emit.specs.WrittenLaws.{placed-one, placed-as, placed-kept, placed-l
 use Rattle.emit.specs.Parts.{Part, Parts}
 use Rattle.emit.specs.PartsLaws.{part-of, same-part, parts-of, parts-ready, parts-next, parts-same, row-none}
 use Rattle.emit.specs.ReadLaws.{value, made-value, pair-value, pair-ok, many-value, ranged-value, counted-value, opened-value}
-use Rattle.memory.specs.Plan.{start-in-code, fix-code, end-code, round-code}
+use Rattle.machine.specs.Published.{StepCall.local}
+use Rattle.memory.specs.Plan.{start-code, fix-code, end-code, round-code}
 use Rattle.compile.specs.Codes.{item-codes, items-codes, schedule-codes, any-structs, item-at, row-at, items-at, schedule-at}
 use Rattle.compile.specs.CodesLaws.{call-codes, call-in-codes, fix-codes, no-codes, more-codes, whole-codes}
 
@@ -86,7 +87,7 @@ module _ (s : List ℕ) where
 
     -- a step of one struct
     pub call-in-one : getD s at 0 ≡ 2
-        → (at + 2 < length s) × ((k : ℕ) → One (item-codes k) (item-at s d at) (start-in-code (getD s (at + 1) 0) (getD s (at + 2) 0)) (at + 3))
+        → (at + 2 < length s) × ((k : ℕ) → One (item-codes k) (item-at s d at) (start-code (local (getD s (at + 1) 0) (getD s (at + 2) 0))) (at + 3))
     unfolding rule-item sort lookup
     call-in-one e =
         let p : item-at s d at ≡ made in-struct both = item-step d at g .1 ∙ rw e refl in
@@ -101,7 +102,7 @@ module _ (s : List ℕ) where
         both = pair (ranged s 0 (length any-structs) (at + 1)) λ c. ranged s 0 step-names
 
         go : (a i b m : ℕ) → item-at s d at ≡ made in-struct both → ranged s 0 (length any-structs) (at + 1) ≡ ok a i → ranged s 0 step-names i ≡ ok b m
-            → (at + 2 < length s) × ((k : ℕ) → One (item-codes k) (item-at s d at) (start-in-code (getD s (at + 1) 0) (getD s (at + 2) 0)) (at + 3))
+            → (at + 2 < length s) × ((k : ℕ) → One (item-codes k) (item-at s d at) (start-code (local (getD s (at + 1) 0) (getD s (at + 2) 0))) (at + 3))
         go a i b m p x y =
             let u = ranged-value s 0 (length any-structs) (at + 1) (rw x tt) in
             let v = ranged-value s 0 step-names i (rw y tt) in

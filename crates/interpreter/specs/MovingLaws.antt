@@ -7,13 +7,14 @@ use native.Mathlib.Omega.{arith}
 use lib.ListN.{length}
 use lib.Dec.{ltb}
 use Rattle.types.specs.Limits.{max-stability}
-use Rattle.machine.specs.Published.{Sched, Sched.done, Sched.start, Sched.start-in, Sched.fixpoint, Sched.active}
+use Rattle.machine.specs.Published.{Sched, Sched.done, Sched.start, Sched.fixpoint, Sched.active}
 use Rattle.machine.specs.Machine.{Instance, Machine, machine}
-use Rattle.sound.specs.Invariant.{Open, Open.open-active}
+use Rattle.sound.specs.Invariant.{Open}
+use Rattle.sound.specs.MoveKept.{active-open}
 use Rattle.memory.specs.Layout.{State}
 use Rattle.memory.specs.Stands.{bits, Stands}
-use Rattle.memory.specs.Plan.{start-code, start-in-code, At}
-use Rattle.memory.specs.PlanLaws.{past-start, past-start-in, past-fix, past-round, at-within}
+use Rattle.memory.specs.Plan.{start-code, At}
+use Rattle.memory.specs.PlanLaws.{code-below, past-start, past-fix, past-round, at-within}
 use Rattle.memory.specs.Move.{do-start, move}
 use Rattle.memory.specs.MoveLaws.{move-start, fix-begins, fix-refused, round-ends, round-again}
 use Rattle.interpreter.specs.Moving.{zeros, moves-left}
@@ -33,9 +34,6 @@ zeros-false n s =
     let b : (2 * s) / 2 ≡ s = omega arith in
     rw (a, b) (omega arith)
 
-active-opened : {f s : Sched} {k : ℕ} → Open (active f s) k → k ≡ 0 → ⊥
-active-opened (open-active u o) e = omega arith
-
 -- what is left to a memory
 abbrev pub left : List ℕ → State → ℕ
 left items z = moves-left items (z .place) (z .fixes) (z .stable) (z .number)
@@ -53,12 +51,9 @@ module _ (items spans : List ℕ) (z : State) where
         → (s ≡ done → ⊥) → left items (move items spans z) < left items z
     unfolding bits do-start moves-left
     falls-by done is b S o n = absurd (n refl)
-    falls-by (start n s) is b S o d =
+    falls-by (start c s) is b S o d =
         let (h, e, r) = past-start items (S .scheduled) in
-        on (do-start spans (start-code n) z) (at-within items (S .scheduled)) (move-start items spans z e (omega arith)) refl refl refl
-    falls-by (start-in k n s) is b S o d =
-        let (h, j, e, r) = past-start-in items (S .scheduled) in
-        on (do-start spans (start-in-code k n) z) (at-within items (S .scheduled)) (move-start items spans z e (omega arith)) refl refl refl
+        on (do-start spans (start-code c) z) (at-within items (S .scheduled)) (move-start items spans z e (code-below c h)) refl refl refl
     falls-by (fixpoint f s) is b S o d = go (ltb (z .fixes) max-stability) refl
       where
         go : (t : Bool) → ltb (z .fixes) max-stability ≡ t → left items (move items spans z) < left items z
@@ -68,7 +63,7 @@ module _ (items spans : List ℕ) (z : State) where
         go false t =
             let c : z .number ≡ 0 = S .clear in
             rw (fix-refused items spans z (past-fix items (S .scheduled) .0) t) (omega arith)
-    falls-by (active f s) is [] S o d = absurd (active-opened o refl)
+    falls-by (active f s) is [] S o d = absurd (active-open o refl)
     falls-by (active f s) is (true ∷ b) S o d =
         let (t, e, r, w) = past-round items (S .scheduled) in
         let u : z .stable ≡ suc (2 * bits b) = S .entries in

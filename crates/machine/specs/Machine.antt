@@ -7,17 +7,17 @@ use mathlib.Core.Bool.{Bool, true, false, not}
 use mathlib.Core.Option.{Option, none, some}
 use mathlib.Core.List.{List, [], _∷_, _++_, map, reverse}
 use lib.ListN.{length, getD, getElem?, set, take, drop}
-use lib.Dec.{ltb, leb, eqb}
+use lib.Dec.{ltb, leb}
 use Rattle.types.specs.Limits.{max-instances, max-stability, first-local}
 use Rattle.types.specs.Types.{Ty, Ty.int, Ty.bool, Ty.ref}
 use Rattle.types.specs.Values.{Val, Val.int-val, Val.nat-val, Val.bool-val, Val.label}
 use Rattle.program.specs.Tree.{Op, Stmts, Program}
-use Rattle.commands.specs.Context.{params-of, context, step-of}
+use Rattle.commands.specs.Context.{params-of, context}
 use Rattle.commands.specs.Typing.{sort}
 use Rattle.commands.specs.Tags.{result-type}
 use Rattle.commands.specs.Noted.{Note, Note.n-push, Note.n-this, Note.n-not, Note.n-rd, Note.n-wr, Note.n-get, Note.n-set, Note.n-cons, Note.n-op, Note.n-if, now-written, noted}
 use Rattle.operators.specs.Apply.{Answer, Answer.value, Answer.outside, Answer.unfit, apply, same-val}
-use Rattle.machine.specs.Published.{Sched, Sched.done, Sched.start, Sched.start-in, Sched.fixpoint, Sched.active, before, Env, lookup, assign, fresh-env, structs, arity}
+use Rattle.machine.specs.Published.{StepCall, called, Sched, Sched.done, Sched.start, Sched.fixpoint, Sched.active, before, Env, lookup, assign, fresh-env, structs, arity}
 use Rattle.machine.specs.Rules.{meet}
 use Rattle.machine.specs.Stops.{full, exceeded, nested}
 
@@ -246,7 +246,7 @@ command p l m = command-at p m l (getElem? (m .instances) l)
 
 -- Schedule moves ----------------------------------------------------------------
 
--- the commands of the step n, where the instance's struct has it, with its notes; its stack and passage begin anew
+-- the commands of the step that a call starts on the instance, if any, with their notes; its stack and passage begin anew
 unfoldable pub given : Program → Option Stmts → Instance → Instance
 given p none i = i
 given p (some b) i = record {
@@ -257,11 +257,8 @@ given p (some b) i = record {
   written = [];
 }
 
-unfoldable pub started : Program → ℕ → Instance → Instance
-started p n i = given p (step-of p (i .struct) n) i
-
-unfoldable pub started-in : Program → ℕ → ℕ → Instance → Instance
-started-in p k n i = elim (eqb (i .struct) k) [ true ↦ started p n i | false ↦ i ]
+unfoldable pub started : Program → StepCall → Instance → Instance
+started p a i = given p (called p a (i .struct)) i
 
 abbrev pub machine : Sched → List Instance → List Bool → Machine
 machine s is b = record { sched = s; instances = is; stability = b }
@@ -274,8 +271,7 @@ repeat f s is (false ∷ b) = next (machine (before f (active f s)) is (true ∷
 -- one move of the schedule, where no instance holds commands
 unfoldable pub move-by : Program → Sched → List Instance → List Bool → Out
 move-by p done is b = stuck
-move-by p (start n s) is b = next (machine s (map (started p n) is) b)
-move-by p (start-in k n s) is b = next (machine s (map (started-in p k n) is) b)
+move-by p (start a s) is b = next (machine s (map (started p a) is) b)
 move-by p (fixpoint f s) is b = elim (ltb (length b) max-stability) [
   | true ↦ next (machine (before f (active f s)) is (true ∷ b))
   | false ↦ refused nested

@@ -6,26 +6,22 @@ use mathlib.Core.Bool.{Bool, true, false}
 use mathlib.Core.Option.{Option, none, some}
 use mathlib.Core.List.{List, [], _∷_}
 use lib.ListN.{length}
-use lib.Dec.{eqb}
 use Rattle.program.specs.Tree.{Stmts, Program}
 use Rattle.commands.specs.Commands.{commands}
-use Rattle.machine.specs.Published.{Sched, Sched.done, Sched.start, Sched.start-in, Sched.fixpoint, Sched.active}
+use Rattle.machine.specs.Published.{StepCall, called, Sched, Sched.done, Sched.start, Sched.fixpoint, Sched.active}
 use Rattle.machine.specs.Machine.{Instance, Machine, Out.next, move}
-use Rattle.commands.specs.Context.{step-of}
 
 -- the moves that a schedule takes where each fixpoint goes through its body once
 unfoldable pub weight : Sched → ℕ
 weight done = 0
-weight (start n s) = suc (weight s)
-weight (start-in k n s) = suc (weight s)
+weight (start a s) = suc (weight s)
 weight (fixpoint f s) = weight f + 2 + weight s
 weight (active f s) = suc (weight s)
 
 -- the greatest weight of a body of a fixpoint, those inside bodies too
 unfoldable pub bound : Sched → ℕ
 bound done = 0
-bound (start n s) = bound s
-bound (start-in k n s) = bound s
+bound (start a s) = bound s
 bound (fixpoint f s) = max (max (weight f) (bound f)) (bound s)
 bound (active f s) = max (max (weight f) (bound f)) (bound s)
 
@@ -52,18 +48,14 @@ unfoldable pub count : Option Stmts → ℕ
 count none = 0
 count (some b) = length (commands b)
 
--- that of the step n for an instance; of struct x alone
-unfoldable pub share : Program → ℕ → Instance → ℕ
-share p n i = count (step-of p (i .struct) n)
-
-unfoldable pub share-in : Program → ℕ → ℕ → Instance → ℕ
-share-in p x n i = elim (eqb (i .struct) x) [ true ↦ share p n i | false ↦ 0 ]
+-- that of the step that a call starts on an instance
+unfoldable pub share : Program → StepCall → Instance → ℕ
+share p a i = count (called p a (i .struct))
 
 -- what a move of the schedule gives an instance to take
 unfoldable pub share-of : Program → Sched → Instance → ℕ
 share-of p done i = 0
-share-of p (start n s) i = share p n i
-share-of p (start-in x n s) i = share-in p x n i
+share-of p (start a s) i = share p a i
 share-of p (fixpoint f s) i = 0
 share-of p (active f s) i = 0
 

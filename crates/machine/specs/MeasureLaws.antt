@@ -6,37 +6,35 @@ use mathlib.Core.Option.{Option, none, some}
 use mathlib.Core.List.{List, [], _∷_, _++_, map}
 use native.Mathlib.Omega.{arith}
 use lib.ListN.{length, getElem?, set, drop, length-drop, length-map}
-use lib.Dec.{ltb, eqb}
+use lib.Dec.{ltb}
 use Rattle.types.specs.Limits.{max-stability}
 use Rattle.types.specs.Types.{Ty.ref}
 use Rattle.types.specs.Values.{Val.label}
 use Rattle.program.specs.Tree.{Stmts, Program}
-use Rattle.commands.specs.Context.{context, step-of}
+use Rattle.commands.specs.Context.{context}
 use Rattle.commands.specs.Noted.{Note, erase, noted, now-written}
 use Rattle.commands.specs.NotedLaws.{erased}
-use Rattle.machine.specs.Published.{Sched, Sched.done, Sched.start, Sched.start-in, Sched.fixpoint, Sched.active, before, Env, arity}
-use Rattle.machine.specs.Machine.{Tagged, tagged, Instance, Machine, Out, Out.next, Out.refused, Out.stuck, with-code, with-written, update-env, made, command, given, started, started-in, machine, repeat, move-by, move}
+use Rattle.machine.specs.Published.{StepCall, called, Sched, Sched.done, Sched.start, Sched.fixpoint, Sched.active, before, Env, arity}
+use Rattle.machine.specs.Machine.{Tagged, tagged, Instance, Machine, Out, Out.next, Out.refused, Out.stuck, with-code, with-written, update-env, made, command, given, started, machine, repeat, move-by, move}
 use Rattle.machine.specs.RepresentsLaws.{Still}
 use Rattle.machine.specs.Stops.{nested}
 use Rattle.machine.specs.Performed.{Performed, Performed.pushed, Performed.pushed-this, Performed.negated, Performed.read-one, Performed.skipped, Performed.wrote, Performed.calculated, Performed.exceeding, Performed.constructed, Performed.filled, Performed.branched, Performed.no-way}
 use Rattle.machine.specs.PerformedLaws.{by-ways}
-use Rattle.machine.specs.Measure.{weight, bound, passages, measure, total, codes, count, share, share-in, share-of, Moved, Moved.unmoved, Moved.moved}
+use Rattle.machine.specs.Measure.{weight, bound, passages, measure, total, codes, count, share, share-of, Moved, Moved.unmoved, Moved.moved}
 
 -- Moves ----------------------------------------------------------------------------
 
 weight-before : (f s : Sched) → weight (before f s) ≡ weight f + weight s
 unfolding weight before
 weight-before done s = omega arith
-weight-before (start n r) s = omega (arith, weight-before r s)
-weight-before (start-in k n r) s = omega (arith, weight-before r s)
+weight-before (start a r) s = omega (arith, weight-before r s)
 weight-before (fixpoint g r) s = omega (arith, weight-before r s)
 weight-before (active g r) s = omega (arith, weight-before r s)
 
 bound-before : (f s : Sched) → bound (before f s) ≡ max (bound f) (bound s)
 unfolding bound before
 bound-before done s = omega arith
-bound-before (start n r) s = bound-before r s
-bound-before (start-in k n r) s = bound-before r s
+bound-before (start a r) s = bound-before r s
 bound-before (fixpoint g r) s = omega (arith, bound-before r s)
 bound-before (active g r) s = omega (arith, bound-before r s)
 
@@ -49,8 +47,7 @@ Falls B M stuck = Unit {0}
 falls-by : (p : Program) (B : ℕ) (s : Sched) (is : List Instance) (b : List Bool) → bound s ≤ B → Falls B (passages B b + weight s) (move-by p s is b)
 unfolding move-by repeat measure weight bound passages
 falls-by p B done is b h = tt
-falls-by p B (start n s) is b h = (omega arith, h)
-falls-by p B (start-in k n s) is b h = (omega arith, h)
+falls-by p B (start a s) is b h = (omega arith, h)
 falls-by p B (fixpoint f s) is b h = go (ltb (length b) max-stability) refl
   where
     go : (t : Bool) → ltb (length b) max-stability ≡ t → Falls B (passages B b + (weight f + 2 + weight s)) (move-by p (fixpoint f s) is b)
@@ -146,17 +143,9 @@ module _ (p : Program) where
   given-code none i e = ap length e
   given-code (some b) i e = sym (length-map (noted (context p (i .struct) b) b) erase) ∙ ap length (erased (context p (i .struct) b) b)
 
-  started-code : (n : ℕ) (i : Instance) → i .code ≡ [] → length (started p n i .code) ≡ share p n i
+  started-code : (a : StepCall) (i : Instance) → i .code ≡ [] → length (started p a i .code) ≡ share p a i
   unfolding started share
-  started-code n i e = given-code (step-of p (i .struct) n) i e
-
-  started-in-code : (x n : ℕ) (i : Instance) → i .code ≡ [] → length (started-in p x n i .code) ≡ share-in p x n i
-  unfolding started-in share-in
-  started-in-code x n i e = go (eqb (i .struct) x) refl
-    where
-      go : (t : Bool) → eqb (i .struct) x ≡ t → length (started-in p x n i .code) ≡ share-in p x n i
-      go true h = rw (h, started-in, share-in) (started-code n i e)
-      go false h = rw (h, started-in, share-in) (ap length e)
+  started-code a i e = given-code (called p a (i .struct)) i e
 
   -- what a move leaves held in all, where it is made
   abbrev Holding : ℕ → Out → Type 0
@@ -167,8 +156,7 @@ module _ (p : Program) where
   moves-codes : (s : Sched) (is : List Instance) (b : List Bool) → Still is → Holding (total (share-of p s) is) (move-by p s is b)
   unfolding move-by repeat share-of
   moves-codes done is b t = tt
-  moves-codes (start n s) is b t = codes-map (started p n) (share p n) (started-code n) is t
-  moves-codes (start-in x n s) is b t = codes-map (started-in p x n) (share-in p x n) (started-in-code x n) is t
+  moves-codes (start a s) is b t = codes-map (started p a) (share p a) (started-code a) is t
   moves-codes (fixpoint f s) is b t = go (ltb (length b) max-stability)
     where
       go : (u : Bool)

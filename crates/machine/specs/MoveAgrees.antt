@@ -7,17 +7,17 @@ use mathlib.Core.Option.{Option, none, some}
 use mathlib.Core.List.{List, [], _∷_, map}
 use native.Mathlib.Omega.{arith}
 use lib.ListN.{length}
-use lib.Dec.{ltb, eqb}
+use lib.Dec.{ltb}
 use borrow.Author.Tests.{ltb-true, ltb-false, lt-ltb, le-ltb}
 use Rattle.types.specs.Limits.{max-stability}
 use Rattle.program.specs.Tree.{Stmts, Program}
 use Rattle.commands.specs.Commands.{commands}
-use Rattle.commands.specs.Context.{context, step-of}
+use Rattle.commands.specs.Context.{context}
 use Rattle.commands.specs.NotedLaws.{erased}
-use Rattle.machine.specs.Published.{Sched, Sched.done, Sched.start, Sched.start-in, Sched.fixpoint, Sched.active, before, Inst, Inst.inst, State, State.state}
-use Rattle.machine.specs.Rules.{Done, given, started, started-in, Actor.schedule, Rule, Rule.InitG, Rule.InitL, Rule.FixInit, Rule.FixIter, Rule.FixTerm}
+use Rattle.machine.specs.Published.{StepCall, StepCall.global, StepCall.local, called, Sched, Sched.done, Sched.start, Sched.fixpoint, Sched.active, before, Inst, Inst.inst, State, State.state}
+use Rattle.machine.specs.Rules.{Done, given, started, Actor.schedule, Rule, Rule.InitG, Rule.InitL, Rule.FixInit, Rule.FixIter, Rule.FixTerm}
 use Rattle.machine.specs.Stops.{Nested, Nested.no-entry, nested}
-use Rattle.machine.specs.Machine.{Instance, Machine, Out, Out.next, Out.refused, Out.stuck, given as equip, started as begin, started-in as begin-in, repeat, move-by, move}
+use Rattle.machine.specs.Machine.{Instance, Machine, Out, Out.next, Out.refused, Out.stuck, given as equip, started as begin, repeat, move-by, move}
 use Rattle.machine.specs.Represents.{values, Represents-inst, Represents-all, Represents}
 use Rattle.machine.specs.RepresentsLaws.{Still, still-done, represents-map}
 use Rattle.machine.specs.CommandComplete.{Leads}
@@ -37,27 +37,26 @@ module _ (p : Program) where
   given-represents (some b) i (inst k c χ ξ) r = (r .0, erased (context p (i .struct) b) b, refl, r .3)
 
   -- an instance of the machine begins the step where that of the state does
-  pub started-represents : (n : ℕ) (i : Instance) (j : Inst) → Represents-inst i j → Represents-inst (begin p n i) (started p n j)
+  pub started-represents : (a : StepCall) (i : Instance) (j : Inst) → Represents-inst i j → Represents-inst (begin p a i) (started p a j)
   unfolding begin
-  started-represents n i (inst k c χ ξ) r =
-      subst (λ x. Represents-inst (equip p (step-of p x n) i) (started p n (inst k c χ ξ))) (sym (r .0)) (given-represents (step-of p k n) i (inst k c χ ξ) r)
+  started-represents a i (inst k c χ ξ) r =
+      subst (λ x. Represents-inst (equip p (called p a x) i) (started p a (inst k c χ ξ))) (sym (r .0)) (given-represents (called p a k) i (inst k c χ ξ) r)
 
-  pub started-in-represents : (x n : ℕ) (i : Instance) (j : Inst) → Represents-inst i j → Represents-inst (begin-in p x n i) (started-in p x n j)
-  unfolding begin-in started-in
-  started-in-represents x n i (inst k c χ ξ) r = go (eqb k x) refl
-    where
-      go : (t : Bool) → eqb k x ≡ t → Represents-inst (begin-in p x n i) (started-in p x n (inst k c χ ξ))
-      go true e = rw (r .0, e, begin-in, started-in) (started-represents n i (inst k c χ ξ) r)
-      go false e = rw (r .0, e, begin-in, started-in) r
+  -- and all of them do
+  starts-represent : (a : StepCall) (is : List Instance) (σ : List Inst) → Represents-all is σ → Represents-all (map (begin p a) is) (map (started p a) σ)
+  starts-represent a is σ R = represents-map (begin p a) (started p a) (started-represents a) is σ R
+
+  -- each kind of call has its published rule
+  initiated : (a : StepCall) {s : Sched} {σ : List Inst} {b : List Bool} → Done σ
+      → Rule p schedule (state (start a s) σ b) (state s (map (started p a) σ) b)
+  initiated (global n) d = InitG d refl
+  initiated (local k n) d = InitL d refl
 
   -- what a move comes to follows the rules
   moves-by : (s : Sched) (is : List Instance) (σ : List Inst) (b : List Bool) → Represents-all is σ → Moves p s σ b (move-by p s is b)
   unfolding move-by repeat
   moves-by done is σ b R = tt
-  moves-by (start n s) is σ b R =
-      λ d. (state s (map (started p n) σ) b, InitG d refl, (refl, represents-map (begin p n) (started p n) (started-represents n) is σ R, refl))
-  moves-by (start-in k n s) is σ b R =
-      λ d. (state s (map (started-in p k n) σ) b, InitL d refl, (refl, represents-map (begin-in p k n) (started-in p k n) (started-in-represents k n) is σ R, refl))
+  moves-by (start a s) is σ b R = λ d. (state s (map (started p a) σ) b, initiated a d, (refl, starts-represent a is σ R, refl))
   moves-by (fixpoint f s) is σ b R = go (ltb (length b) max-stability) refl
     where
       go : (u : Bool) → ltb (length b) max-stability ≡ u → Moves p (fixpoint f s) σ b (move-by p (fixpoint f s) is b)
@@ -70,8 +69,8 @@ module _ (p : Program) where
   -- a rule for the schedule gives what the move comes to
   leads-by : {s : Sched} (is : List Instance) {σ : List Inst} {b : List Bool} {st : State} → Represents-all is σ → Rule p schedule (state s σ b) st → Leads st (move-by p s is b)
   unfolding move-by repeat
-  leads-by is {σ} R (InitG {n = n} d e) = rw e (refl, represents-map (begin p n) (started p n) (started-represents n) is σ R, refl)
-  leads-by is {σ} R (InitL {k = k} {n = n} d e) = rw e (refl, represents-map (begin-in p k n) (started-in p k n) (started-in-represents k n) is σ R, refl)
+  leads-by is {σ} R (InitG {n = n} d e) = rw e (refl, starts-represent (global n) is σ R, refl)
+  leads-by is {σ} R (InitL {k = k} {n = n} d e) = rw e (refl, starts-represent (local k n) is σ R, refl)
   leads-by is R (FixInit {b = b} d h e) = rw (e, lt-ltb (length b) max-stability h, move-by) (refl, R, refl)
   leads-by is R (FixIter d e) = rw e (refl, R, refl)
   leads-by is R (FixTerm d) = (refl, R, refl)

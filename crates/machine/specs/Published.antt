@@ -5,34 +5,42 @@ use mathlib.Core.Bool.{Bool, true, false}
 use mathlib.Core.Option.{Option, none, some}
 use mathlib.Core.List.{List, [], _∷_}
 use lib.ListN.{length, getD, getElem?, set, replicate}
-use lib.Dec.{ltb}
+use lib.Dec.{ltb, eqb}
 use Rattle.types.specs.Limits.{first-local, max-locals}
 use Rattle.types.specs.Types.{Ty}
 use Rattle.types.specs.Values.{Val}
-use Rattle.program.specs.Tree.{Item, Item.call, Item.call-in, Item.fix, Items, Items.stop, Items.item, Program}
+use Rattle.program.specs.Tree.{Item, Item.call, Item.call-in, Item.fix, Items, Items.stop, Items.item, Stmts, Program}
 use Rattle.commands.specs.Commands.{Coms, Coms.nil}
-use Rattle.commands.specs.Context.{params-of}
+use Rattle.commands.specs.Context.{params-of, step-of}
+
+-- a step call: of the step n on every struct that has it, or on struct k alone (000, 'globally and locally'; 01's items 1 and 2)
+pub data StepCall : Type 0 where
+  global : ℕ → StepCall
+  local : ℕ → ℕ → StepCall
+
+-- the step that a call starts on an instance of struct k, where it starts one
+unfoldable pub called : Program → StepCall → ℕ → Option Stmts
+called p (global n) k = step-of p k n
+called p (local x n) k = elim (eqb k x) [ true ↦ step-of p k n | false ↦ none ]
 
 -- a schedule as a list; `active` is 000's aFix, a fixpoint that has been initiated
 pub data Sched : Type 0 where
   done : Sched
-  start : ℕ → Sched → Sched
-  start-in : ℕ → ℕ → Sched → Sched
+  start : StepCall → Sched → Sched
   fixpoint : Sched → Sched → Sched
   active : Sched → Sched → Sched
 
 -- 000 writes `;`
 unfoldable pub before : Sched → Sched → Sched
 before done s = s
-before (start n r) s = start n (before r s)
-before (start-in k n r) s = start-in k n (before r s)
+before (start a r) s = start a (before r s)
 before (fixpoint f r) s = fixpoint f (before r s)
 before (active f r) s = active f (before r s)
 
 unfoldable mutual
   pub of-item : Item → Sched → Sched
-  of-item (call n) s = start n s
-  of-item (call-in k n) s = start-in k n s
+  of-item (call n) s = start (global n) s
+  of-item (call-in k n) s = start (local k n) s
   of-item (fix is) s = fixpoint (of-items is) s
 
   pub of-items : Items → Sched

@@ -15,7 +15,6 @@ use mathlib.Core.Bool.{Bool, true, false, not as negation}
 use mathlib.Core.Option.{Option, none, some}
 use mathlib.Core.List.{List, [], _∷_, _++_, map, reverse}
 use lib.ListN.{length, getElem?, set}
-use lib.Dec.{eqb}
 use Rattle.types.specs.Limits.{max-instances, max-stability}
 use Rattle.types.specs.Types.{Ty}
 use Rattle.types.specs.Values.{Val, Val.bool-val, Val.label}
@@ -23,8 +22,7 @@ use Rattle.program.specs.Tree.{Op, Stmts, Program}
 use Rattle.program.specs.Counts.{All}
 use Rattle.commands.specs.Commands.{Com.push, Com.push-this, Com.rd, Com.wr, Com.cons, Com.not, Com.oper, Coms, Coms.nil, Coms.act, Coms.if-then, then, body-coms}
 use Rattle.operators.specs.Operators.{Applies}
-use Rattle.machine.specs.Published.{Sched, Sched.start, Sched.start-in, Sched.fixpoint, Sched.active, before, Env, lookup, assign, fresh-env, Inst, Inst.inst, State, State.state, update-env, structs, arity, Idle}
-use Rattle.commands.specs.Context.{step-of}
+use Rattle.machine.specs.Published.{StepCall, StepCall.global, StepCall.local, called, Sched, Sched.start, Sched.fixpoint, Sched.active, before, Env, lookup, assign, fresh-env, Inst, Inst.inst, State, State.state, update-env, structs, arity, Idle}
 
 -- Done(σ)
 abbrev pub Done : List Inst → Type 0
@@ -41,17 +39,13 @@ unfoldable pub meet : Bool → List Bool → List Bool
 meet true sχ = sχ
 meet false sχ = map (λ t. false) sχ
 
--- the instances that have the step n get its commands and an empty stack
+-- the instances that a call starts a step on get its commands and an empty stack
 unfoldable pub given : Option Stmts → Inst → Inst
 given none i = i
 given (some b) (inst k c χ ξ) = inst k (body-coms b) [] ξ
 
-abbrev pub started : Program → ℕ → Inst → Inst
-started p n (inst k c χ ξ) = given (step-of p k n) (inst k c χ ξ)
-
--- the same, of struct x alone
-unfoldable pub started-in : Program → ℕ → ℕ → Inst → Inst
-started-in p x n (inst k c χ ξ) = elim (eqb k x) [ true ↦ started p n (inst k c χ ξ) | false ↦ inst k c χ ξ ]
+abbrev pub started : Program → StepCall → Inst → Inst
+started p a (inst k c χ ξ) = given (called p a k) (inst k c χ ξ)
 
 -- who acts: an instance by a command, or the schedule
 pub data Actor : Type 0 where
@@ -115,12 +109,12 @@ pub data Rule (p : Program) : Actor → State → State → Type 0 where
       → Rule p (instance l) (state s σ b) (state s τ b)
   InitG : {s : Sched} {σ τ : List Inst} {b : List Bool} {n : ℕ}
       → Done σ
-      → τ ≡ map (started p n) σ
-      → Rule p schedule (state (start n s) σ b) (state s τ b)
+      → τ ≡ map (started p (global n)) σ
+      → Rule p schedule (state (start (global n) s) σ b) (state s τ b)
   InitL : {s : Sched} {σ τ : List Inst} {b : List Bool} {k n : ℕ}
       → Done σ
-      → τ ≡ map (started-in p k n) σ
-      → Rule p schedule (state (start-in k n s) σ b) (state s τ b)
+      → τ ≡ map (started p (local k n)) σ
+      → Rule p schedule (state (start (local k n) s) σ b) (state s τ b)
   FixInit : {f s s′ : Sched} {σ : List Inst} {b : List Bool}
       → Done σ
       → length b < max-stability

@@ -14,14 +14,15 @@ use Rattle.program.specs.Tree.{Stmts, Program}
 use Rattle.commands.specs.Coding.{words}
 use Rattle.commands.specs.Context.{context, step-of}
 use Rattle.commands.specs.NotedLaws.{erased}
-use Rattle.machine.specs.Published.{Sched, Sched.done, Sched.start, Sched.start-in, Sched.fixpoint, Sched.active, before, structs}
-use Rattle.machine.specs.Machine.{Instance, Machine, Out, Out.next, Out.refused, Out.stuck, machine, given, started, started-in, repeat, move-by, move}
-use Rattle.sound.specs.Invariant.{Open, Open.open-active}
+use Rattle.machine.specs.Published.{StepCall, StepCall.global, StepCall.local, called, Sched, Sched.done, Sched.start, Sched.fixpoint, Sched.active, before, structs}
+use Rattle.machine.specs.Machine.{Instance, Machine, Out, Out.next, Out.refused, Out.stuck, machine, given, started, repeat, move-by, move}
+use Rattle.sound.specs.Invariant.{Open}
+use Rattle.sound.specs.MoveKept.{active-open}
 use Rattle.sound.specs.ElemLaws.{none-some, map-at}
 use Rattle.memory.specs.Layout.{State, head, head-size, struct-of, height-of, next-of, end-of, with-heads, refused as refused-with}
 use Rattle.memory.specs.Stands.{bits, Held, Stands}
-use Rattle.memory.specs.Plan.{start-code, start-in-code, from, to, Spans, Located, At}
-use Rattle.memory.specs.PlanLaws.{past-start, past-start-in, past-fix, past-round}
+use Rattle.memory.specs.Plan.{start-code, RangedCall, from, to, Spans, Located, At}
+use Rattle.memory.specs.PlanLaws.{code-below, past-start, past-fix, past-round}
 use Rattle.memory.specs.Move.{means, moved, begin-one, begin-all, do-start, move as move-on}
 use Rattle.memory.specs.BeginLaws.{Same, begun-struct, begun-height, begun-next, begun-end, one-begins, one-stays, one-length, one-others, all-length}
 use Rattle.memory.specs.MoveLaws.{move-start, fix-begins, fix-refused, round-ends, round-again}
@@ -122,31 +123,31 @@ module _ (p : Program) (list spans : List ℕ) (located : Located p list spans) 
           subst (λ x. Held list (with-heads z (begin-one spans c (z .heads) l)) x (begin-inst p c i)) (sym w)
           (one-held z l i (known k i g) (omega arith) (subst (λ x. Held list z x i) w (high k i g r)))
 
--- the code of a step on every struct, and on struct k
-start-inst : (p : Program) (n : ℕ) → n < step-names → (i : Instance) → started p n i ≡ begin-inst p (start-code n) i
-unfolding started
-start-inst p n h i =
+-- the code of a step call says what the call starts
+start-inst : (p : Program) (c : StepCall) → RangedCall c → (i : Instance) → started p c i ≡ begin-inst p (start-code c) i
+unfolding started called given
+start-inst p (global n) h i =
     let d : n / step-names ≡ 0 = omega arith in
     let r : n % step-names ≡ n = omega arith in
     rw (d, r)
-
-start-in-inst : (p : Program) (x n : ℕ) → n < step-names → (i : Instance) → started-in p x n i ≡ begin-inst p (start-in-code x n) i
-unfolding started-in started
-start-in-inst p x n h i = go (eqb (i .struct) x) refl
+start-inst p (local x n) h i = go (eqb (i .struct) x) refl
   where
-    d : start-in-code x n / step-names ≡ suc x
-    d = omega arith
+    small : n < step-names
+    small = h .1
 
-    r : start-in-code x n % step-names ≡ n
-    r = omega arith
+    d : start-code (local x n) / step-names ≡ suc x
+    d = omega (arith, small)
 
-    go : (t : Bool) → eqb (i .struct) x ≡ t → started-in p x n i ≡ begin-inst p (start-in-code x n) i
+    r : start-code (local x n) % step-names ≡ n
+    r = omega (arith, small)
+
+    go : (t : Bool) → eqb (i .struct) x ≡ t → started p (local x n) i ≡ begin-inst p (start-code (local x n)) i
     go true t =
         let s = sym (eqb-true (i .struct) x t) in
-        rw (t, started-in, d, eqb·suc-zero x, eqb·suc-suc x (i .struct), eq-eqb x (i .struct) s, r)
+        rw (t, started, called, d, eqb·suc-zero x, eqb·suc-suc x (i .struct), eq-eqb x (i .struct) s, r)
     go false t =
         let s = ne-eqb x (i .struct) (λ q. eqb-false (i .struct) x t (sym q)) in
-        rw (t, started-in, d, eqb·suc-zero x, eqb·suc-suc x (i .struct), s)
+        rw (t, started, called, d, eqb·suc-zero x, eqb·suc-suc x (i .struct), s)
 
 -- Machines -----------------------------------------------------------------------
 
@@ -194,9 +195,6 @@ module _ {list items : List ℕ} {q : Sched} {is : List Instance} {b : List Bool
             all-held p list spans located c is known (moved z (suc (z .place)) (z .fixes) (z .stable)) 0 (z .count) (S .heads-long) (omega arith) (omega arith)
             (λ k i g h. absurd (omega arith)) (λ k i g h. held-moved (S .each k i g) (suc (z .place)) (z .fixes) (z .stable))
 
-active-open : {f s : Sched} {k : ℕ} → Open (active f s) k → k ≡ 0 → ⊥
-active-open (open-active u o) e = omega arith
-
 -- what an outcome of the machine's move says of memory
 abbrev pub Follows : List ℕ → List ℕ → State → State → Out → Type 0
 Follows list items z y (next m) = Stands list (At items) m y
@@ -211,14 +209,10 @@ module _ (p : Program) (list items spans : List ℕ) (located : Located p list s
       → Stands list (At items) (machine s is b) z → Open s (length b) → (s ≡ done → ⊥) → Follows list items z (move-on items spans z) (move-by p s is b)
   unfolding move-by repeat bits
   moves-by done is b known S o n = absurd (n refl)
-  moves-by (start n s) is b known S o _ =
+  moves-by (start c s) is b known S o _ =
       let (h, e, r) = past-start items (S .scheduled) in
-      by (next (machine s (map (started p n) is) b)) (move-start items spans z e (omega arith))
-      (start-stands S p spans located known (start-code n) (started p n) (start-inst p n h) r)
-  moves-by (start-in k n s) is b known S o _ =
-      let (h, j, e, r) = past-start-in items (S .scheduled) in
-      by (next (machine s (map (started-in p k n) is) b)) (move-start items spans z e (omega arith))
-      (start-stands S p spans located known (start-in-code k n) (started-in p k n) (start-in-inst p k n h) r)
+      by (next (machine s (map (started p c) is) b)) (move-start items spans z e (code-below c h))
+      (start-stands S p spans located known (start-code c) (started p c) (start-inst p c h) r)
   moves-by (fixpoint f s) is b known S o _ = go (ltb (length b) max-stability) refl
     where
       go : (t : Bool) → ltb (length b) max-stability ≡ t

@@ -10,16 +10,14 @@ use Rattle.program.specs.Tree.{Stmts, Program}
 use Rattle.commands.specs.Commands.{commands}
 use Rattle.commands.specs.Coding.{words}
 use Rattle.commands.specs.Context.{step-of}
-use Rattle.machine.specs.Published.{Sched, Sched.done, Sched.start, Sched.start-in, Sched.fixpoint, Sched.active, structs}
+use Rattle.machine.specs.Published.{StepCall, StepCall.global, StepCall.local, Sched, Sched.done, Sched.start, Sched.fixpoint, Sched.active, structs}
 
 -- The schedule -----------------------------------------------------------------
 
--- a step name on every struct that has it, or on struct k: the codes below fix-code
-abbrev pub start-code : ℕ → ℕ
-start-code n = n
-
-abbrev pub start-in-code : ℕ → ℕ → ℕ
-start-in-code k n = step-names * suc k + n
+-- a step call: the codes below fix-code
+abbrev pub start-code : StepCall → ℕ
+start-code (global n) = n
+start-code (local k n) = step-names * suc k + n
 
 -- a Fix begins, the schedule ends, a Fix whose items begin at the place t goes round
 abbrev pub fix-code : ℕ
@@ -34,8 +32,7 @@ round-code t = 2048 + t
 -- the codes of a schedule in which no Fix has begun, from the place at on
 unfoldable pub laid : Sched → ℕ → List ℕ
 laid done at = []
-laid (start n s) at = start-code n ∷ laid s (suc at)
-laid (start-in k n s) at = start-in-code k n ∷ laid s (suc at)
+laid (start c s) at = start-code c ∷ laid s (suc at)
 laid (fixpoint f s) at =
     fix-code ∷ laid f (suc at) ++ round-code (suc at) ∷ laid s (suc (suc at) + length (laid f (suc at)))
 laid (active f s) at = []
@@ -44,11 +41,15 @@ laid (active f s) at = []
 unfoldable pub laid-out : Sched → List ℕ
 laid-out s = laid s 0 ++ end-code ∷ []
 
--- no Fix has begun, and names and structs are in range, so that no code of a start is that of another item
+-- its name and struct are in range, so that no code of a start is that of another item
+abbrev pub RangedCall : StepCall → Type 0
+RangedCall (global n) = n < step-names
+RangedCall (local k n) = (k < max-structs) × (n < step-names)
+
+-- no Fix has begun, and step calls are in range
 unfoldable pub Ranged : Sched → Type 0
 Ranged done = Unit {0}
-Ranged (start n s) = (n < step-names) × (Ranged s)
-Ranged (start-in k n s) = (k < max-structs) × (n < step-names) × (Ranged s)
+Ranged (start c s) = (RangedCall c) × (Ranged s)
 Ranged (fixpoint f s) = (Ranged f) × (Ranged s)
 Ranged (active f s) = ⊥
 
@@ -61,8 +62,7 @@ pub record Body (items : List ℕ) (t : ℕ) (f : Sched) (j : ℕ) : Type 0 wher
 -- the place that stands for what is left of a schedule
 pub data At (items : List ℕ) : ℕ → Sched → Type 0 where
   at-end : {a : ℕ} → getD items a 0 ≡ end-code → At items a done
-  at-start : {a n : ℕ} {s : Sched} → n < step-names → getD items a 0 ≡ start-code n → At items (suc a) s → At items a (start n s)
-  at-start-in : {a k n : ℕ} {s : Sched} → n < step-names → k < max-structs → getD items a 0 ≡ start-in-code k n → At items (suc a) s → At items a (start-in k n s)
+  at-start : {a : ℕ} {c : StepCall} {s : Sched} → RangedCall c → getD items a 0 ≡ start-code c → At items (suc a) s → At items a (start c s)
   at-fix : {a j : ℕ} {f s : Sched} → getD items a 0 ≡ fix-code → Body items (suc a) f j → getD items j 0 ≡ round-code (suc a) → At items (suc j) s
       → At items a (fixpoint f s)
   at-round : {j t : ℕ} {f s : Sched} → Body items t f j → getD items j 0 ≡ round-code t → At items (suc j) s → At items j (active f s)

@@ -11,10 +11,15 @@ use lib.Seq.{take-append-seam, drop-append-seam, getD-append-seam, getD-drop, ta
 use Rattle.types.specs.Limits.{max-structs, step-names}
 use Rattle.program.specs.Tree.{Item, Item.call, Item.call-in, Item.fix, Items, Items.stop, Items.item, Program}
 use Rattle.program.specs.Counts.{CountsItem, CountsItems, CountsSchedule, Counts}
-use Rattle.machine.specs.Published.{Sched, Sched.done, Sched.start, Sched.start-in, Sched.fixpoint, Sched.active, before, of-item, of-items}
-use Rattle.memory.specs.Plan.{start-code, start-in-code, fix-code, end-code, round-code, laid, laid-out, Ranged, At, At.at-end, At.at-start, At.at-start-in, At.at-fix, At.at-round}
+use Rattle.machine.specs.Published.{StepCall, StepCall.global, StepCall.local, Sched, Sched.done, Sched.start, Sched.fixpoint, Sched.active, before, of-item, of-items}
+use Rattle.memory.specs.Plan.{start-code, fix-code, end-code, round-code, laid, laid-out, RangedCall, Ranged, At, At.at-end, At.at-start, At.at-fix, At.at-round}
 
 -- Parts of the codes -------------------------------------------------------------
+
+-- the code of a step call is none of another item
+pub code-below : (c : StepCall) → RangedCall c → start-code c < fix-code
+code-below (global n) h = omega arith
+code-below (local k n) h = let q = h .0 in let r = h .1 in omega arith
 
 -- the first of a part of a list, and the part behind it
 first-of : (xs : List ℕ) (c : ℕ) (l : List ℕ) → take (suc (length l)) xs ≡ c ∷ l → (getD xs 0 0 ≡ c) × (take (length l) (drop 1 xs) ≡ l)
@@ -55,12 +60,9 @@ module _ (items : List ℕ) where
   laid-at : (f : Sched) (t : ℕ) {r : Sched} → Ranged f → Codes t (laid f t) → At items (t + length (laid f t)) r → At items t (before f r)
   unfolding laid before Ranged
   laid-at done t h e a = there a (omega arith)
-  laid-at (start n s) t h e a =
-      let (u, v) = first t (start-code n) (laid s (suc t)) e in
+  laid-at (start c s) t h e a =
+      let (u, v) = first t (start-code c) (laid s (suc t)) e in
       at-start (h .0) u (laid-at s (suc t) (h .1) v (there a (omega arith)))
-  laid-at (start-in k n s) t h e a =
-      let (u, v) = first t (start-in-code k n) (laid s (suc t)) e in
-      at-start-in (h .1) (h .0) u (laid-at s (suc t) (h .2) v (there a (omega arith)))
   laid-at (fixpoint f s) t h e a =
       let g = laid f (suc t) in
       let k : suc (suc t) + length g ≡ suc (suc t + length g) = omega arith in
@@ -76,12 +78,8 @@ module _ (items : List ℕ) where
   -- Moves ------------------------------------------------------------------------
 
   module _ {a : ℕ} {s : Sched} where
-    pub past-start : {n : ℕ} → At items a (start n s) → (n < step-names) × (getD items a 0 ≡ start-code n) × (At items (suc a) s)
+    pub past-start : {c : StepCall} → At items a (start c s) → (RangedCall c) × (getD items a 0 ≡ start-code c) × (At items (suc a) s)
     past-start (at-start h e r) = (h, e, r)
-
-    pub past-start-in : {k n : ℕ} → At items a (start-in k n s)
-        → (n < step-names) × (k < max-structs) × (getD items a 0 ≡ start-in-code k n) × (At items (suc a) s)
-    past-start-in (at-start-in h q e r) = (h, q, e, r)
 
     -- a Fix begins with the first of its items
     pub past-fix : {f : Sched} → At items a (fixpoint f s) → (getD items a 0 ≡ fix-code) × (At items (suc a) (before f (active f s)))
@@ -95,8 +93,8 @@ module _ (items : List ℕ) where
   -- the end's code stands exactly where nothing is left
   pub at-end-done : {a : ℕ} {s : Sched} → At items a s → (getD items a 0 ≡ end-code) ↔ (s ≡ done)
   at-end-done (at-end e) = (λ _. refl, λ _. e)
-  at-end-done (at-start h e r) = (λ q. absurd (omega arith), λ q. let z : _≡_ {A = ℕ} 0 1 = cc in absurd (omega arith))
-  at-end-done (at-start-in h k e r) = (λ q. absurd (omega arith), λ q. let z : _≡_ {A = ℕ} 0 1 = cc in absurd (omega arith))
+  at-end-done (at-start {c = c} h e r) =
+      (λ q. let u = code-below c h in absurd (omega arith), λ q. let z : _≡_ {A = ℕ} 0 1 = cc in absurd (omega arith))
   at-end-done (at-fix e b q r) = (λ q. absurd (omega arith), λ q. let z : _≡_ {A = ℕ} 0 1 = cc in absurd (omega arith))
   at-end-done (at-round b e r) = (λ q. absurd (omega arith), λ q. let z : _≡_ {A = ℕ} 0 1 = cc in absurd (omega arith))
 
@@ -105,7 +103,6 @@ module _ (items : List ℕ) where
   at-within (at-end {a = a} e) =
       lt-of-not-le (λ h. let d : getD items a 0 ≡ 0 = List·getD-eq-default items 0 h in omega arith)
   at-within (at-start h e r) = let w = at-within r in omega arith
-  at-within (at-start-in h k e r) = let w = at-within r in omega arith
   at-within (at-fix e b q r) = let w = at-within r in let k = b .ends in omega arith
   at-within (at-round b e r) = let w = at-within r in omega arith
 
@@ -114,8 +111,7 @@ module _ (items : List ℕ) where
 before-done : (s : Sched) → before s done ≡ s
 unfolding before
 before-done done = refl
-before-done (start n s) = rw (before-done s)
-before-done (start-in k n s) = rw (before-done s)
+before-done (start c s) = rw (before-done s)
 before-done (fixpoint f s) = rw (before-done s)
 before-done (active f s) = rw (before-done s)
 
@@ -133,7 +129,7 @@ module _ (ar : List ℕ) (few : length ar ≤ max-structs) where
 
     item-ranged : (i : Item) (s : Sched) → CountsItem ar i → Ranged s → Ranged (of-item i s)
     item-ranged (call n) s c r = (c, r)
-    item-ranged (call-in k n) s c r = let q = c .0 in (omega arith, c .1, r)
+    item-ranged (call-in k n) s c r = let q = c .0 in ((omega arith, c .1), r)
     item-ranged (fix is) s c r = (items-ranged is (c .2), r)
 
     items-ranged : (is : Items) → CountsItems ar is → Ranged (of-items is)

@@ -9,7 +9,7 @@ use mathlib.Core.List.{List, [], _∷_}
 use native.Mathlib.Omega.{arith}
 use lib.ListN.{length}
 use Rattle.program.specs.Tree.{Program}
-use Rattle.machine.specs.Published.{Sched, Sched.done, Sched.start, Sched.start-in, Sched.fixpoint, Sched.active}
+use Rattle.machine.specs.Published.{Sched, Sched.done, Sched.start, Sched.fixpoint, Sched.active}
 use Rattle.machine.specs.Machine.{Machine, Out, Out.next, Out.refused, Out.stuck, command, move-by, move}
 use Rattle.machine.specs.Measure.{bound, passages, measure, Moved, Moved.unmoved, Moved.moved as moved-on}
 use Rattle.machine.specs.MeasureLaws.{move-falls}
@@ -27,8 +27,7 @@ use Rattle.run.specs.Visits.{Acts, Acts.moves as acts-move, Acts.takes a
 is-done-done : (s : Sched) → (is-done s ≡ true) ↔ (s ≡ done)
 unfolding is-done
 is-done-done done = (λ e. refl, λ e. refl)
-is-done-done (start n s) = (λ e. cc, λ e. cc)
-is-done-done (start-in k n s) = (λ e. cc, λ e. cc)
+is-done-done (start a s) = (λ e. cc, λ e. cc)
 is-done-done (fixpoint f s) = (λ e. cc, λ e. cc)
 is-done-done (active f s) = (λ e. cc, λ e. cc)
 
@@ -39,8 +38,7 @@ Enough B f m = (bound (m .sched) ≤ B) × (measure B m < f)
 not-done : (s : Sched) → (s ≡ done → ⊥) → is-done s ≡ false
 unfolding is-done
 not-done done n = absurd (n refl)
-not-done (start k s) n = refl
-not-done (start-in k j s) n = refl
+not-done (start a s) n = refl
 not-done (fixpoint f s) n = refl
 not-done (active f s) n = refl
 

@@ -5,7 +5,7 @@ use mathlib.Core.Bool.{Bool, true, false}
 use mathlib.Core.List.{List, [], _∷_}
 use lib.ListN.{length}
 use Rattle.program.specs.Tree.{Program}
-use Rattle.machine.specs.Published.{Sched, Sched.done, Sched.start, Sched.start-in, Sched.fixpoint, Sched.active}
+use Rattle.machine.specs.Published.{Sched, Sched.done, Sched.start, Sched.fixpoint, Sched.active}
 use Rattle.machine.specs.Machine.{Machine, Out, Out.next, Out.refused, Out.stuck, command, move}
 use Rattle.machine.specs.Measure.{weight, bound}
 use Rattle.run.specs.Turns.{chosen}
@@ -29,8 +29,7 @@ pub data Settled : Type 0 where
 
 unfoldable pub is-done : Sched → Bool
 is-done done = true
-is-done (start n s) = false
-is-done (start-in k n s) = false
+is-done (start a s) = false
 is-done (fixpoint f s) = false
 is-done (active f s) = false
 

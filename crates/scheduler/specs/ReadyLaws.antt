@@ -10,8 +10,8 @@ use Rattle.types.specs.Limits.{max-structs}
 use Rattle.machine.specs.Published.{Sched, Sched.done}
 use Rattle.machine.specs.Machine.{Instance, Machine}
 use Rattle.memory.specs.Layout.{State}
-use Rattle.memory.specs.Plan.{fix-code, round-code, At, At.at-end, At.at-start, At.at-start-in, At.at-fix, At.at-round}
-use Rattle.memory.specs.PlanLaws.{at-within}
+use Rattle.memory.specs.Plan.{fix-code, round-code, At, At.at-end, At.at-start, At.at-fix, At.at-round}
+use Rattle.memory.specs.PlanLaws.{code-below, at-within}
 use Rattle.memory.specs.Stands.{bits, Stands}
 use Rattle.scheduler.specs.Ready.{spans-size, Rows, Movable}
 
@@ -28,8 +28,7 @@ bits-below (false ∷ b) = let h = one-digit (length b) (bits b) (bits-below b) 
 -- an item that is not the end, and is behind the codes of starts, is a Fix, beginning or going round
 item-is : {items : List ℕ} {a : ℕ} {s : Sched} → At items a s → (s ≡ done → ⊥) → fix-code < getD items a 0 → round-code 0 ≤ getD items a 0
 item-is (at-end e) n h = absurd (n refl)
-item-is (at-start q e r) n h = absurd (omega arith)
-item-is (at-start-in q k e r) n h = absurd (omega arith)
+item-is (at-start {c = c} q e r) n h = let u = code-below c q in absurd (omega arith)
 item-is (at-fix e b q r) n h = absurd (omega arith)
 item-is (at-round b e r) n h = omega arith
 

@@ -20,7 +20,7 @@ use Rattle.machine.specs.Published.{Sched, of-item, of-items, structs}
 use Rattle.machine.specs.Machine.{Instance}
 use Rattle.run.specs.Begin.{resting, nulls, first-instances, begin}
 use Rattle.sound.specs.Needs.{Of}
-use Rattle.sound.specs.Invariant.{GoodInst, Unbegun, Open, Open.open-done, Open.open-start, Open.open-start-in, Open.open-fix, Good, Nulls, Left.whole}
+use Rattle.sound.specs.Invariant.{GoodInst, Unbegun, Open, Open.open-done, Open.open-start, Open.open-fix, Good, Nulls, Left.whole}
 use Rattle.sound.specs.ElemLaws.{none-some, some-is, at-append, at-joined, at-behind, at-below, at-map, map-at, all-elem}
 use Rattle.sound.specs.SizedLaws.{lasting-of, default-lasts}
 use Rattle.sound.specs.AcceptedLaws.{params-counted}
@@ -43,7 +43,7 @@ mutual
 open-item : (i : Item) {s : Sched} {k : ℕ} → Open s k → Open (of-item i s) k
 unfolding of-item
 open-item (call n) o = open-start o
-open-item (call-in k n) o = open-start-in o
+open-item (call-in k n) o = open-start o
 open-item (fix is) o = open-fix (unbegun is) o
 
 open-items : (is : Items) → Open (of-items is) 0

@@ -18,7 +18,7 @@ use Rattle.commands.specs.Noted.{Note, Note.n-wr, Note.n-cons, Note.n-if}
 use Rattle.commands.specs.Numbers.{accepted, program-number}
 use Rattle.commands.specs.NumbersLaws.{number-accepted}
 use Rattle.table.specs.Table.{Record, struct-at, HeldTable, References, TableRight}
-use Rattle.machine.specs.Published.{Sched.done, Sched.start, Sched.active}
+use Rattle.machine.specs.Published.{StepCall.global, Sched.done, Sched.start, Sched.active}
 use Rattle.machine.specs.Machine.{tagged, Machine, Out.next, move}
 use Rattle.run.specs.Holders.{holders}
 use Rattle.machine.specs.Stops.{ended}
@@ -119,10 +119,10 @@ pub goes-round : (m : Machine) × (z : Machine)
     × ((fs : List ℕ) × Visits settling start-machine turns m fs)
     × ((fs : List ℕ) × Visits settling start-machine turns z fs)
     × (holders m ≡ [])
-    × (m .sched ≡ active (start 0 done) done)
+    × (m .sched ≡ active (start (global 0) done) done)
     × (m .stability ≡ false ∷ [])
     × (move settling m ≡ next z)
-    × (z .sched ≡ start 0 (active (start 0 done) done))
+    × (z .sched ≡ start (global 0) (active (start (global 0) done) done))
     × (z .stability ≡ true ∷ [])
 unfolding running onward act-on after
 goes-round = (

@@ -13,7 +13,7 @@ use Rattle.program.specs.Tree.{Stmts, Program}
 use Rattle.commands.specs.Context.{params-of, body-local, context, step-of}
 use Rattle.commands.specs.Noted.{noted}
 use Rattle.table.specs.Table.{Each}
-use Rattle.machine.specs.Published.{Sched, Sched.done, Sched.start, Sched.start-in, Sched.fixpoint, Sched.active, before, of-items, Env, Env.env, lookup, structs}
+use Rattle.machine.specs.Published.{StepCall, Sched, Sched.done, Sched.start, Sched.fixpoint, Sched.active, before, of-items, Env, Env.env, lookup, structs}
 use Rattle.machine.specs.Machine.{Tagged, Instance, Machine}
 use Rattle.commands.specs.Tags.{Tags, Way, at-start}
 use Rattle.commands.specs.Living.{alive, lives-at, Among}
@@ -55,24 +55,21 @@ pub record GoodInst (p : Program) (is : List Instance) (l : ℕ) (i : Instance) 
 -- no Fix in a Fix's body has begun
 unfoldable pub Unbegun : Sched → Type 0
 Unbegun done = Unit {0}
-Unbegun (start n s) = Unbegun s
-Unbegun (start-in k n s) = Unbegun s
+Unbegun (start a s) = Unbegun s
 Unbegun (fixpoint f s) = (Unbegun f) × (Unbegun s)
 Unbegun (active f s) = ⊥
 
 -- one stability entry for each Fix that has begun
 pub data Open : Sched → ℕ → Type 0 where
   open-done : Open done 0
-  open-start : {n k : ℕ} {s : Sched} → Open s k → Open (start n s) k
-  open-start-in : {n k j : ℕ} {s : Sched} → Open s k → Open (start-in j n s) k
+  open-start : {a : StepCall} {k : ℕ} {s : Sched} → Open s k → Open (start a s) k
   open-fix : {k : ℕ} {f s : Sched} → Unbegun f → Open s k → Open (fixpoint f s) k
   open-active : {k : ℕ} {f s : Sched} → Unbegun f → Open s k → Open (active f s) (suc k)
 
 -- the schedules that moves leave of one, whatever the stability entries were
 pub data Left (r : Sched) : Sched → Type 0 where
   whole : Left r r
-  past : {n : ℕ} {s : Sched} → Left r (start n s) → Left r s
-  past-in : {k n : ℕ} {s : Sched} → Left r (start-in k n s) → Left r s
+  past : {a : StepCall} {s : Sched} → Left r (start a s) → Left r s
   into : {f s : Sched} → Left r (fixpoint f s) → Left r (before f (active f s))
   again : {f s : Sched} → Left r (active f s) → Left r (before f (active f s))
   out : {f s : Sched} → Left r (active f s) → Left r s

@@ -11,15 +11,15 @@ use mathlib.Core.Logic.{_⊎_, inl, inr}
 use mathlib.Core.List.{List, [], _∷_, _++_, map}
 use lib.ListN.{length, getElem?, set, length-set, length-map, length-append}
 use lib.Seq.{set-out}
-use lib.Dec.{ltb, eqb}
+use lib.Dec.{ltb}
 use Rattle.types.specs.Limits.{first-local, max-instances, max-stability}
 use Rattle.types.specs.Values.{Val, default}
 use Rattle.program.specs.Tree.{Stmts, Program}
-use Rattle.commands.specs.Context.{params-of, step-of}
+use Rattle.commands.specs.Context.{params-of}
 use Rattle.commands.specs.Noted.{Note, Note.n-cons, now-written}
 use Rattle.table.specs.Table.{Record, HeldRecord, HeldTable, TableRight}
-use Rattle.machine.specs.Published.{Sched, Sched.done, Sched.start, Sched.start-in, Sched.fixpoint, Sched.active, Env, Env.env, assign, structs, before}
-use Rattle.machine.specs.Machine.{Instance, Machine, machine, Out, Out.next, Out.refused, Out.stuck, with-code, with-env, with-written, update-env, given, started, started-in, repeat, move-by, command}
+use Rattle.machine.specs.Published.{StepCall, called, Sched, Sched.done, Sched.start, Sched.fixpoint, Sched.active, Env, Env.env, assign, structs, before}
+use Rattle.machine.specs.Machine.{Instance, Machine, machine, Out, Out.next, Out.refused, Out.stuck, with-code, with-env, with-written, update-env, given, started, repeat, move-by, command}
 use Rattle.machine.specs.Stops.{nested}
 use Rattle.machine.specs.Performed.{Performed, Performed.pushed, Performed.pushed-this, Performed.negated, Performed.read-one, Performed.skipped, Performed.wrote, Performed.calculated, Performed.exceeding, Performed.constructed, Performed.filled, Performed.branched, Performed.no-way}
 use Rattle.machine.specs.PerformedLaws.{by-ways}
@@ -106,31 +106,19 @@ module _ (p : Program) where
   Comes-to (refused n) = Unit {0}
   Comes-to stuck = Unit {0}
 
-  module _ (n : ℕ) where
-    given-same : (o : Option Stmts) (i : Instance) → (given p o i .struct ≡ i .struct) × (given p o i .env ≡ i .env)
-    unfolding given
-    given-same none i = (refl, refl)
-    given-same (some b) i = (refl, refl)
+  given-same : (o : Option Stmts) (i : Instance) → (given p o i .struct ≡ i .struct) × (given p o i .env ≡ i .env)
+  unfolding given
+  given-same none i = (refl, refl)
+  given-same (some b) i = (refl, refl)
 
-    started-same : (i : Instance) → (started p n i .struct ≡ i .struct) × (started p n i .env ≡ i .env)
-    unfolding started
-    started-same i = given-same (step-of p (i .struct) n) i
-
-    started-in-same : (k : ℕ) (i : Instance) → (started-in p k n i .struct ≡ i .struct) × (started-in p k n i .env ≡ i .env)
-    unfolding started-in
-    started-in-same k i = go (eqb (i .struct) k)
-      where
-        go : (t : Bool)
-            → ((elim t as (λ x. Instance) [ true ↦ started p n i | false ↦ i ]) .struct ≡ i .struct)
-            × ((elim t as (λ x. Instance) [ true ↦ started p n i | false ↦ i ]) .env ≡ i .env)
-        go true = started-same i
-        go false = (refl, refl)
+  started-same : (a : StepCall) (i : Instance) → (started p a i .struct ≡ i .struct) × (started p a i .env ≡ i .env)
+  unfolding started
+  started-same a i = given-same (called p a (i .struct)) i
 
   move-tabled : (s : Sched) {is : List Instance} (b : List Bool) → Tabled p is → Comes-to (move-by p s is b)
   unfolding move-by repeat
   move-tabled done b t = tt
-  move-tabled (start n s) b t = tabled-map p t (started p n) (started-same n)
-  move-tabled (start-in k n s) b t = tabled-map p t (started-in p k n) (started-in-same n k)
+  move-tabled (start a s) b t = tabled-map p t (started p a) (started-same a)
   move-tabled (fixpoint f s) {is} b t = go (ltb (length b) max-stability)
     where
       go : (u : Bool) → Comes-to (elim u [ true ↦ next (machine (before f (active f s)) is (true ∷ b)) | false ↦ refused nested ])

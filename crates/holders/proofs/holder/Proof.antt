@@ -1,4 +1,4 @@
--- `scan::holder` meets its contract: a walk of its MIR, by hand. The loop's variant is how many records are left; with it go how many
+-- `holders::holder` meets its contract: a walk of its MIR, by hand. The loop's variant is how many records are left; with it go how many
 -- holders are still to be passed, and that what is looked for lies as far ahead.
 use mathlib.Core.Path.{_≡_, refl, sym}
 use Prim.Native.Nat.{ℕ, _<_, _≤_, _^_, _*_, _+_, _-_, zero-le}
@@ -50,7 +50,7 @@ use Rattle.holders.specs.RecordsWays.{search-end, search-here, search-ne
 use Rattle.holders.specs.declared.Record.{Record}
 use Rattle.holders.proofs.Record as T
 use Rattle.holders.proofs.Record.Laws as T′
-use Rattle.holders.proofs.holder.Key.{name as #scan·holder}
+use Rattle.holders.proofs.holder.Key.{name as #holders·holder}
 use Rattle.holders.proofs.holder as holder
 use Rattle.holders.proofs.holder.Statement as stated
 use Rattle.holders.proofs.holder.Code as code
@@ -317,5 +317,5 @@ pub holder-spec : {M : Type 1} → stated.statement M
 unfolding code.routine tablesOf
 holder-spec 𝓤 H 𝓜 𝓖 𝓡 =
     entered 𝓤 H (tripleOf 𝓤 H (𝓖 .A) holder.signature (holder.spec 𝓤 H (𝓖 .A) (𝓜 .mem) (𝓡 .run)))
-    (tables 𝓤 H 𝓜 𝓡 code.env .C) (tables 𝓤 H 𝓜 𝓡 code.env .Λ) #scan·holder code.function (code.unfolded 𝓤 H 𝓜 𝓡)
+    (tables 𝓤 H 𝓜 𝓡 code.env .C) (tables 𝓤 H 𝓜 𝓡 code.env .Λ) #holders·holder code.function (code.unfolded 𝓤 H 𝓜 𝓡)
     (holder-meets 𝓤 H (𝓖 .A) (givenOf 𝓤 H 𝓜 𝓖) (𝓜 .mem) (𝓡 .run) (tablesOf 𝓤 H 𝓜 (tables 𝓤 H 𝓜 𝓡 code.env)))

@@ -1,4 +1,4 @@
--- `scan::holder_of` meets its contract: a walk of its MIR, by hand. The array is lent for a lifetime that is made for the call, and comes back.
+-- `holders::holder_of` meets its contract: a walk of its MIR, by hand. The array is lent for a lifetime that is made for the call, and comes back.
 use mathlib.Core.Path.{_≡_, refl, sym}
 use Prim.Native.Nat.{ℕ, _<_, _^_}
 use mathlib.Core.List.{List, [], _∷_}
@@ -50,9 +50,9 @@ use Rattle.holders.proofs.Record as T
 use Rattle.holders.proofs.Record.Laws as T′
 use Rattle.holders.proofs.holder as holder
 use Rattle.holders.proofs.holder.Symbol as holder-def
-use Rattle.holders.proofs.holder.Symbol.{name as #scan·holder}
+use Rattle.holders.proofs.holder.Symbol.{name as #holders·holder}
 use Rattle.holders.proofs.holder.Met as holder-thm
-use Rattle.holders.proofs.holder_of.Key.{name as #scan·holder-of}
+use Rattle.holders.proofs.holder_of.Key.{name as #holders·holder-of}
 use Rattle.holders.proofs.holder_of as of
 use Rattle.holders.proofs.holder_of.Statement as stated
 use Rattle.holders.proofs.holder_of.Code as code
@@ -143,7 +143,7 @@ module _ {M : Type 1} (𝓤 : URA M) (H : Heap 𝓤) (A : Atoms 𝓤) (W : Given
       (fact 𝓤 (r ≡ holder-in rs k))
   said α l γ r = exE 𝓤 _ (λ ws. snd∗ 𝓤 (sem 𝓤 H A (lasts holder.ended (α ∷ [], tt) (s l γ, (k, tt)) ws)) (fact 𝓤 (r ≡ holder-in rs k)))
 
-  module _ (C : Calls 𝓤 H) (Λ : Loops 𝓤 H) (fm : FmC 𝓤 H (W .laws) C) (known : Triple 𝓤 (C #scan·holder) (Holder 𝓤 H A mem run)) where
+  module _ (C : Calls 𝓤 H) (Λ : Loops 𝓤 H) (fm : FmC 𝓤 H (W .laws) C) (known : Triple 𝓤 (C #holders·holder) (Holder 𝓤 H A mem run)) where
     walk : ent 𝓤 (onEntry 𝓤 H A of.signature tt tt (rs, (k, tt)) (vals rs, (vint w64 k ∷ [], tt))) (WpFn 𝓤 H C Λ code.function (va ∷ vint w64 k ∷ []) Post)
     walk =
         qed W (‵ ftrue ∷ ‵ (owns (Arr ∷ usize ∷ []) (rs, (k, tt)) (vals rs, (vint w64 k ∷ [], tt))) ∷ []) ∵ drop ! $ drop ! $
@@ -187,14 +187,14 @@ module _ {M : Type 1} (𝓤 : URA M) (H : Heap 𝓤) (A : Atoms 𝓤) (W : Given
         keep ! (1 ∷ []) $ by ! (exits r u q)))))))))))))
 
 module _ {M : Type 1} (𝓤 : URA M) (H : Heap 𝓤) (A : Atoms 𝓤) (W : Given 𝓤 H A) (mem : Memory → SProp 𝓤) (run : Routine → Fun 𝓤) where
-  of-walks : (C : Calls 𝓤 H) (Λ : Loops 𝓤 H) → FmC 𝓤 H (W .laws) C → Triple 𝓤 (C #scan·holder) (Holder 𝓤 H A mem run)
+  of-walks : (C : Calls 𝓤 H) (Λ : Loops 𝓤 H) → FmC 𝓤 H (W .laws) C → Triple 𝓤 (C #holders·holder) (Holder 𝓤 H A mem run)
       → Walks 𝓤 H A of.ended stayed (WpFn 𝓤 H C Λ code.function) (of.clauses 𝓤 H A mem run)
   of-walks C Λ fm known = walked 𝓤 H A of.ended stayed (of.clauses 𝓤 H A mem run) (WpFn 𝓤 H C Λ code.function) (λ κs. (vals, (uint-vals w64, tt)))
       (λ κs. (array-tells R (LL.vals T.the-type T′.the-laws) (LL.tells T.the-type T′.the-laws) 256, (uint-tells w64, tt)))
       (λ κs qs bounds a g are. via 𝓤 _ (fst∗ 𝓤 _ (emp 𝓤)) (walk 𝓤 H A W mem run (a .0) (a .1 .0) (are .0) (are .1 .0 .1) C Λ fm known))
 
 of-meets : {M : Type 1} (𝓤 : URA M) (H : Heap 𝓤) (A : Atoms 𝓤) (W : Given 𝓤 H A) (mem : Memory → SProp 𝓤) (run : Routine → Fun 𝓤) (𝓣 : Tables 𝓤 H)
-    → Triple 𝓤 (𝓣 .C #scan·holder) (Holder 𝓤 H A mem run)
+    → Triple 𝓤 (𝓣 .C #holders·holder) (Holder 𝓤 H A mem run)
     → Meets 𝓤 H A of.signature (WpFn 𝓤 H (𝓣 .C) (𝓣 .Λ) code.function) (of.spec 𝓤 H A mem run)
 of-meets 𝓤 H A W mem run 𝓣 known = walk-meets 𝓤 H A of.ended stayed W (
   goes-none 𝓤 H A W 0 (λ _. Arr) yes (λ κs x f. refl),
@@ -207,6 +207,6 @@ pub holder-of-spec : {M : Type 1} → stated.statement M
 unfolding code.routine tablesOf
 holder-of-spec 𝓤 H 𝓜 𝓖 𝓡 =
     entered 𝓤 H (tripleOf 𝓤 H (𝓖 .A) of.signature (of.spec 𝓤 H (𝓖 .A) (𝓜 .mem) (𝓡 .run)))
-    (tables 𝓤 H 𝓜 𝓡 code.env .C) (tables 𝓤 H 𝓜 𝓡 code.env .Λ) #scan·holder-of code.function (code.unfolded 𝓤 H 𝓜 𝓡)
+    (tables 𝓤 H 𝓜 𝓡 code.env .C) (tables 𝓤 H 𝓜 𝓡 code.env .Λ) #holders·holder-of code.function (code.unfolded 𝓤 H 𝓜 𝓡)
     (of-meets 𝓤 H (𝓖 .A) (givenOf 𝓤 H 𝓜 𝓖) (𝓜 .mem) (𝓡 .run) (tablesOf 𝓤 H 𝓜 (tables 𝓤 H 𝓜 𝓡 code.env))
-    (cited 𝓤 H (Holder 𝓤 H (𝓖 .A) (𝓜 .mem) (𝓡 .run)) 𝓜 𝓡 code.env #scan·holder holder-def.routine code.calls-scan·holder (holder-thm.met 𝓤 H 𝓜 𝓖 𝓡)))
+    (cited 𝓤 H (Holder 𝓤 H (𝓖 .A) (𝓜 .mem) (𝓡 .run)) 𝓜 𝓡 code.env #holders·holder holder-def.routine code.calls-holders·holder (holder-thm.met 𝓤 H 𝓜 𝓖 𝓡)))

@@ -1,4 +1,4 @@
--- `scan::picked` meets its contract: what the search finds among the records is the holder.
+-- `holders::picked` meets its contract: what the search finds among the records is the holder.
 use Prim.Native.Nat.{_%_}
 use mathlib.Core.Path.{_∙_, ap, sym}
 use Rattle.holders.specs.Records.{holder-in}

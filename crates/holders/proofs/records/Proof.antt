@@ -1,4 +1,4 @@
--- `scan::records` meets its contract. The loop's invariant: the array begins with the records of the first l instances. The measure is how
+-- `holders::records` meets its contract. The loop's invariant: the array begins with the records of the first l instances. The measure is how
 -- many are left.
 use Prim.Native.Nat.{_<_, _≤_, _-_}
 use mathlib.Core.Path.{_≡_, refl}
