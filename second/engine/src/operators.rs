@@ -1,5 +1,6 @@
 //! The operators 32 to 44: bytes, operand and result types, and results
-//! (01, "Program stream", "Names, types, commands", "Table and turns").
+//! (01, "Program stream", "Names, types, commands", "Table and turns"; 02,
+//! "Retarders below zero").
 
 use crate::types::Type;
 
@@ -69,9 +70,8 @@ impl Operator {
     fn over_int(self, a: i32, b: i32) -> Option<u32> {
         let result = match self {
             Times => a.checked_mul(b)?,
-            Divide => a.checked_div(b)?,
-            Remainder if b == 0 => return None,
-            Remainder => a.wrapping_rem(b),
+            Divide => quotient(a, b)?,
+            Remainder => remainder(a, b)?,
             Plus => a.checked_add(b)?,
             Minus => a.checked_sub(b)?,
             _ => return Some(u32::from(self.holds(&a, &b))),
@@ -99,4 +99,26 @@ impl Operator {
             _ => a > b,
         }
     }
+}
+
+/// Rounded toward minus infinity: one below the quotient rounded toward zero
+/// where that leaves what the divisor's sign forbids.
+fn quotient(a: i32, b: i32) -> Option<i32> {
+    let toward_zero = a.checked_div(b)?;
+    Some(if opposed(a % b, b) { toward_zero - 1 } else { toward_zero })
+}
+
+/// What the quotient leaves, with the divisor's sign; also where the
+/// quotient itself lies outside Int.
+fn remainder(a: i32, b: i32) -> Option<i32> {
+    if b == 0 {
+        return None;
+    }
+    let rest = a.wrapping_rem(b);
+    Some(if opposed(rest, b) { rest + b } else { rest })
+}
+
+/// Whether a remainder lies on the other side of 0 than its divisor.
+fn opposed(rest: i32, divisor: i32) -> bool {
+    rest != 0 && (rest < 0) != (divisor < 0)
 }
