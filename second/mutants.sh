@@ -34,7 +34,7 @@ answers_differ() {
 }
 
 tests_fail() {
-    ! (cd "$copy" && timeout 300 cargo test --quiet --offline --jobs 1) >"$work/tests.txt" 2>&1
+    ! (cd "$copy" && timeout 300 cargo test --quiet --offline --jobs 1 --package second --package engine) >"$work/tests.txt" 2>&1
 }
 
 verdict() {
@@ -76,7 +76,7 @@ limit() {
 }
 
 mkdir "$copy"
-(cd "$here" && cp -r Cargo.toml Cargo.lock src tests cases engine "$copy/")
+(cd "$here" && cp -r Cargo.toml Cargo.lock src tests cases engine text "$copy/")
 if ! build || answers_differ; then
     echo "mutants: the engine as it is does not give the committed answers" >&2
     exit 1
