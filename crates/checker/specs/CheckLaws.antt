@@ -32,8 +32,8 @@ use Rattle.commands.specs.Numbers.{program-number}
 use Rattle.commands.specs.NumbersLaws.{number-accepted}
 use Rattle.judge.specs.ProgramFacts.{program-totals, program-plan, checked-number}
 use Rattle.judge.specs.ProgramFactsLaws.{checked-law, checked-commands, checked-depth, checked-steps}
-use Rattle.read_schedule.specs.ParamsTold.{ParamsKept}
-use Rattle.read_schedule.specs.ParamsWays.{from-start}
+use Rattle.read_params.specs.ParamsTold.{ParamsKept}
+use Rattle.read_params.specs.ParamsWays.{from-start}
 use Rattle.emit.specs.declared.Put.{Put}
 use Rattle.emit.specs.Written.{Ready, Wrote}
 use Rattle.emit.specs.ProgramWords.{step-words, steps-words, structs-words, structs-at, program-words as emitted-words}

@@ -37,8 +37,11 @@ use Rattle.run.specs.BeginLaws.{begin-represents, outcome-exact, comes-unique}
 use Rattle.run.specs.Answered.{Answered}
 use Rattle.run.specs.AnsweredLaws.{comes-answered}
 use Rattle.sound.specs.Accepted.{Accepted}
-use Rattle.sound.specs.AcceptedLaws.{ready-accepted}
-use Rattle.sound.specs.NeverStuckLaws.{demand3, demand3-comes}
+use Rattle.sound.specs.AcceptedLaws.{accepted-firm, ready-accepted}
+use Rattle.sound.specs.BeginGood.{begin-good}
+use Rattle.sound.specs.NeverStuckLaws.{visits-good, demand3, demand3-comes}
+use Rattle.sound.specs.Started.{OneStep}
+use Rattle.sound.specs.StartedLaws.{good-one-step}
 use Rattle.sound.specs.TableKept.{table-kept, table-written, nulls-kept, comes-written, output-length}
 use Rattle.step_part.specs.StepPart.{step-place, step-part}
 use Rattle.step_lines.specs.Lines.{program-lines}
@@ -145,6 +148,12 @@ module _ (p : Program) where
   pub step-turns : (m : Machine) {m′ z : Machine} {es fs : List ℕ} → holders m ≡ [] → move p m ≡ next m′ → Visits p m′ es z fs
       → Spends p (total (share-of p (m .sched)) (m .instances)) m′ es z fs
   step-turns m g e v = start-turns p m g e v
+
+-- "When no instance holds commands the schedule moves": in every machine of a run nobody holds commands, or one step call was started
+-- last, the schedule left is what stands behind it, and each holder holds a rest of the commands that the call gave it
+pub one-step : {p : Program} → Accepted p → (rs : List Record) → TableRight (p .params) rs → {es fs : List ℕ} {z : Machine}
+    → Visits p (begin p rs) es z fs → OneStep p z
+one-step {p} a rs right v = good-one-step (visits-good (accepted-firm a) (begin-good p (a .0) rs right) v)
 
 -- Its tables -------------------------------------------------------------------------------
 

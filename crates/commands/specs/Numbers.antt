@@ -3,6 +3,7 @@ use Prim.Native.Nat.{ℕ}
 use mathlib.Core.Bool.{Bool, true, false, not}
 use mathlib.Core.List.{List, [], _∷_, _++_}
 use mathlib.Core.Path.{_≡_}
+pub use Rattle.types.specs.Numbers.{over-limits, wrong-names, wrong-types}
 use Rattle.program.specs.Tree.{Program}
 use Rattle.commands.specs.Bounds.{Within}
 use Rattle.commands.specs.Names.{NamesRight}
@@ -43,15 +44,6 @@ Tested (r ∷ l) [] = ⊥
 Tested (r ∷ l) (t ∷ ts) = (r .0 ≡ t .0) × (Reflects (r .1) (t .1)) × Tested l ts
 
 -- Programs --------------------------------------------------------------------------
-
-abbrev pub over-limits : ℕ
-over-limits = 6
-
-abbrev pub wrong-names : ℕ
-wrong-names = 7
-
-abbrev pub wrong-types : ℕ
-wrong-types = 8
 
 -- of a program that is read, lowest number first
 abbrev pub breaches : Program → Order

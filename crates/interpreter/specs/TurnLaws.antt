@@ -12,6 +12,7 @@ use Rattle.machine.specs.Published.{Sched.done, structs}
 use Rattle.machine.specs.Machine.{Instance, Machine, Out, Out.next, Out.refused, Out.stuck, command, move}
 use Rattle.run.specs.Turns.{chosen}
 use Rattle.run.specs.Holders.{holders, holds-code, none-of, due}
+use Rattle.run.specs.TurnLaws.{due-still}
 use Rattle.machine.specs.Stops.{ended, out-of-turns}
 use Rattle.run.specs.Run.{Outcome.stopped, run}
 use Rattle.run.specs.Settles.{Rests.ends as rests-ends, Rests.refuses as rests-refuses, Rests.lasts as rests-lasts, Rests.fails as rests-fails}
@@ -20,7 +21,7 @@ use Rattle.run.specs.Steps.{Steps.here, Steps.silent, Steps.reads}
 use Rattle.run.specs.Visits.{Acts.moves as acts-move, Acts.takes as acts-take}
 use Rattle.sound.specs.Advance.{Kept}
 use Rattle.sound.specs.CommandKept.{Refused, command-kept}
-use Rattle.sound.specs.MoveKept.{Blocked, move-kept}
+use Rattle.sound.specs.MoveKept.{Blocked, still-good, move-kept}
 use Rattle.sound.specs.HolderLaws.{chosen-holds}
 use Rattle.sound.specs.NeverStuckLaws.{acts-good}
 use Rattle.sound.specs.TabledLaws.{acts-tabled}
@@ -99,7 +100,8 @@ module _ {p : Program} {counts list items spans : List ℕ} {m : Machine} {z : S
           })
           (λ es. (0, silent (acts-move (none-hold h) q) here))
       comes (refused n) q S =
-          let k = move-kept (r .prepared .firm) (m .sched) (m .instances) (m .stability) (r .good .all) (r .good .opened) (r .good .left) not-done in
+          let still = still-good p (m .instances) (due-still m (none-hold h)) (r .good .all) in
+          let k = move-kept (r .prepared .firm) (m .sched) (m .instances) (m .stability) still (r .good .opened) (r .good .left) not-done in
           let w : n ≡ nested = subst (Kept p Blocked) q k in
           blocked (S ∙ ap (λ (x : ℕ). refusing x z) w)
           (λ es. rests-run p (rests-refuses (none-hold h) (q ∙ ap refused w)))

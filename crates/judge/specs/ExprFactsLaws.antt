@@ -9,6 +9,7 @@ use lib.ListN.{length, getD}
 use lib.Dec.{eqb, ltb}
 use borrow.Author.Tests.{eq-eqb, ne-eqb, le-leb, lt-leb, le-ltb, ltb-true}
 use Rattle.types.specs.Limits.{max-params}
+use Rattle.types.specs.Numbers.{wrong-names, wrong-types}
 use Rattle.types.specs.Types.{Ty, Ty.int, Ty.nat, Ty.bool, Ty.ref, struct-code, code, same-type, type-of}
 use Rattle.program.specs.Tree.{Var, Var.par, Var.loc, Expr, Expr.inv, Expr.make, Expr.path, Expr.int-lit, Expr.nat-lit, Expr.bool-lit, Expr.null, Expr.self, Expr.op, Exprs, Exprs.none, Exprs.more, args}
 use Rattle.program.specs.Counts.{IsVar, IsPath, CountsExpr, CountsExprs}
@@ -19,7 +20,7 @@ use Rattle.commands.specs.Decide.{Reflects, Reflects.holds, Reflects.fails, mem
 use Rattle.commands.specs.NamesDecide.{start-named, expr-named, args-named}
 use Rattle.commands.specs.TypingDecide.{Judgement, Judgement.untypable, is-of, agree, given, result, operate, lead as type-lead, path-type, expr-type, args-typed}
 use Rattle.commands.specs.TypingDecideLaws.{same-reflects}
-use Rattle.judge.specs.Facts.{name-fault, type-fault, worst, demand, judged, param, lead-by, lead, start-of, path-of, takes, gives, negated, combined, travelled, argued, constructed, expr-facts, args-facts}
+use Rattle.judge.specs.Facts.{worst, demand, judged, param, lead-by, lead, start-of, path-of, takes, gives, negated, combined, travelled, argued, constructed, expr-facts, args-facts}
 use Rattle.judge.specs.declared.Judged.{Judged}
 use Rattle.judge.specs.Verdicts.{Says, Says.misnamed, Says.mistyped, Says.right, Shows, Shows.unnamed, Shows.untyped, Shows.typed, Tables, tagged, Living}
 use Rattle.judge.specs.FaultLaws.{says-both, says-demand}
@@ -119,7 +120,7 @@ Judges j = Shows (j .fault) (j .typ)
 
 -- the start of a path at a local, by its digit
 abbrev begun : ℕ → Judged
-begun d = elim (eqb d 0) [ true ↦ judged name-fault 0 | false ↦ judged 0 (d - 1) ]
+begun d = elim (eqb d 0) [ true ↦ judged wrong-names 0 | false ↦ judged 0 (d - 1) ]
 
 begun-alive : (t : Ty) → begun (suc (code t)) ≡ judged 0 (code t)
 begun-alive t =
@@ -132,11 +133,11 @@ module _ (ar types : List ℕ) where
   unfolding lead-by
   by-fault f t x n = rw (ne-eqb f 0 n, lead-by)
 
-  by-plain : (t x : ℕ) → t < struct-code → lead-by ar types (judged 0 t) x ≡ judged type-fault 0
+  by-plain : (t x : ℕ) → t < struct-code → lead-by ar types (judged 0 t) x ≡ judged wrong-types 0
   unfolding lead-by
   by-plain t x h = rw (lt-leb struct-code t h, lead-by)
 
-  by-ref : (k x : ℕ) → lead-by ar types (judged 0 (struct-code + k)) x ≡ param ar types type-fault k x
+  by-ref : (k x : ℕ) → lead-by ar types (judged 0 (struct-code + k)) x ≡ param ar types wrong-types k x
   unfolding lead-by
   by-ref k x =
       let e : struct-code + k - struct-code ≡ k = omega arith in
@@ -151,7 +152,7 @@ module _ (ar types : List ℕ) where
   plain-shows : (t x : ℕ) (xs : List ℕ) → t < struct-code → Judges (lead ar types (judged 0 t) (x ∷ xs)) true untypable
   unfolding lead
   plain-shows t x xs h =
-      subst (λ j. Judges j true untypable) (sym (ap (λ j. lead ar types j xs) (by-plain t x h) ∙ stays type-fault 0 xs (λ e. omega arith)))
+      subst (λ j. Judges j true untypable) (sym (ap (λ j. lead ar types j xs) (by-plain t x h) ∙ stays wrong-types 0 xs (λ e. omega arith)))
       (untyped refl)
 
 module _ {cs ar types : List ℕ} {G : Ctx} (T : Tables cs ar types G) where
@@ -186,11 +187,11 @@ module _ {cs ar types : List ℕ} {G : Ctx} (T : Tables cs ar types G) where
   lead-shows (x ∷ xs) nat = plain-shows ar types 1 x xs (omega arith)
   lead-shows (x ∷ xs) bool = plain-shows ar types 2 x xs (omega arith)
   lead-shows (x ∷ xs) (ref k) =
-      let e = ap (λ j. lead ar types j xs) (by-ref ar types k x) ∙ behind type-fault k x xs (λ e. omega arith) in
+      let e = ap (λ j. lead ar types j xs) (by-ref ar types k x) ∙ behind wrong-types k x xs (λ e. omega arith) in
       subst (λ j. Judges j true (type-lead G (ref k) (x ∷ xs))) (sym e) (go (has k x) (lead-shows xs (typ G k x)))
     where
       go : (b : Bool) {j : Judged} {i : Judgement} → Judges j true i
-          → Judges (elim b [ true ↦ j | false ↦ judged type-fault 0 ]) true (elim b [ true ↦ i | false ↦ untypable ])
+          → Judges (elim b [ true ↦ j | false ↦ judged wrong-types 0 ]) true (elim b [ true ↦ i | false ↦ untypable ])
       go true s = s
       go false s = untyped refl
 
@@ -199,11 +200,11 @@ module _ {cs ar types : List ℕ} {G : Ctx} (T : Tables cs ar types G) where
     pub path-shows : (v : Var) (vs : List ℕ) → IsVar v
         → Judges (path-of ar types (G .own) w v vs) (start-named (length (G .params (G .own))) live v) (path-type G v vs)
     unfolding path-of start-of start-named path-type type-lead IsVar
-    path-shows (par x) vs h = subst (λ j. Judges j (has (G .own) x) (path-type G (par x) vs)) (sym (behind name-fault (G .own) x vs (λ e. omega arith)))
+    path-shows (par x) vs h = subst (λ j. Judges j (has (G .own) x) (path-type G (par x) vs)) (sym (behind wrong-names (G .own) x vs (λ e. omega arith)))
         (go (has (G .own) x) (lead-shows vs (typ G (G .own) x)))
       where
         go : (b : Bool) {j : Judged} {i : Judgement} → Judges j true i
-            → Judges (elim b [ true ↦ j | false ↦ judged name-fault 0 ]) b (elim b [ true ↦ i | false ↦ untypable ])
+            → Judges (elim b [ true ↦ j | false ↦ judged wrong-names 0 ]) b (elim b [ true ↦ i | false ↦ untypable ])
         go true s = s
         go false s = unnamed refl
     path-shows (loc x) vs h =
@@ -213,7 +214,7 @@ module _ {cs ar types : List ℕ} {G : Ctx} (T : Tables cs ar types G) where
         go true =
             subst (λ j. Judges (lead ar types j vs) true (type-lead G (G .local x) vs)) (sym (begun-alive (G .local x))) (lead-shows vs (G .local x))
         go false =
-            subst (λ j. Judges j false (type-lead G (G .local x) vs)) (sym (stays ar types name-fault 0 vs (λ e. omega arith))) (unnamed refl)
+            subst (λ j. Judges j false (type-lead G (G .local x) vs)) (sym (stays ar types wrong-names 0 vs (λ e. omega arith))) (unnamed refl)
 
     -- Expressions ------------------------------------------------------------------
 

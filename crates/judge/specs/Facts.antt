@@ -8,6 +8,7 @@ use mathlib.Core.List.{List, [], _∷_}
 use lib.ListN.{length, getD}
 use lib.Dec.{ltb, leb, eqb}
 use Rattle.types.specs.Limits.{max-params}
+use Rattle.types.specs.Numbers.{wrong-names, wrong-types}
 use Rattle.types.specs.Types.{Ty, struct-code, code}
 use Rattle.program.specs.Tree.{Var, Var.par, Var.loc, Op, Expr, Expr.inv, Expr.make, Expr.path, Expr.int-lit, Expr.nat-lit, Expr.bool-lit, Expr.null, Expr.self, Expr.op, Exprs, Exprs.none, Exprs.more, Stmt, Stmt.when, Stmt.declare, Stmt.update, Stmt.create, Stmts, Stmts.end, Stmts.next}
 use Rattle.judge.specs.declared.Judged.{Judged}
@@ -21,23 +22,17 @@ use Rattle.commands.specs.Typing.{Sort, Sort.equality, Sort.order, Sort.arithme
 abbrev pub no-fault : ℕ
 no-fault = 0
 
-abbrev pub name-fault : ℕ
-name-fault = 7
-
-abbrev pub type-fault : ℕ
-type-fault = 8
-
 -- the lower number of two, where there is one
 unfoldable pub worst : ℕ → ℕ → ℕ
 worst a b = elim (eqb a 0) [ true ↦ b | false ↦ elim (eqb b 0) [ true ↦ a | false ↦ elim (ltb a b) [ true ↦ a | false ↦ b ] ] ]
 
 -- 8 where a test of types fails and nothing was wrong before
 unfoldable pub demand : ℕ → Bool → ℕ
-demand f t = elim (eqb f 0) [ false ↦ f | true ↦ elim t [ true ↦ 0 | false ↦ type-fault ] ]
+demand f t = elim (eqb f 0) [ false ↦ f | true ↦ elim t [ true ↦ 0 | false ↦ wrong-types ] ]
 
 -- 7 where a test of names fails
 unfoldable pub named : Bool → ℕ
-named t = elim t [ true ↦ 0 | false ↦ name-fault ]
+named t = elim t [ true ↦ 0 | false ↦ wrong-names ]
 
 -- Digits to the base 256 -----------------------------------------------------------
 
@@ -65,7 +60,7 @@ module _ (ar types : List ℕ) where
       elim (eqb (j .fault) 0) [
         | false ↦ j
         | true ↦
-            elim (leb struct-code (j .typ)) [ true ↦ param type-fault (j .typ - struct-code) x | false ↦ judged type-fault 0 ]
+            elim (leb struct-code (j .typ)) [ true ↦ param wrong-types (j .typ - struct-code) x | false ↦ judged wrong-types 0 ]
       ]
 
   unfoldable pub lead : Judged → List ℕ → Judged
@@ -74,8 +69,8 @@ module _ (ar types : List ℕ) where
 
   module _ (own w : ℕ) where
     unfoldable pub start-of : Var → Judged
-    start-of (par x) = param name-fault own x
-    start-of (loc x) = elim (eqb (digit w x) 0) [ true ↦ judged name-fault 0 | false ↦ judged 0 (digit w x - 1) ]
+    start-of (par x) = param wrong-names own x
+    start-of (loc x) = elim (eqb (digit w x) 0) [ true ↦ judged wrong-names 0 | false ↦ judged 0 (digit w x - 1) ]
 
     unfoldable pub path-of : Var → List ℕ → Judged
     path-of v vs = lead (start-of v) vs

@@ -14,5 +14,3 @@ pub mod TotalLaws
 pub mod NameTotalLaws
 pub mod ProgramFactsLaws
 pub mod ByteBoundLaws
-pub mod CodeOps
-pub mod CodeDigits

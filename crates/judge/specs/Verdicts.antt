@@ -5,24 +5,25 @@ use mathlib.Core.List.{List}
 use mathlib.Core.Path.{_≡_}
 use lib.ListN.{length, getD}
 use Rattle.types.specs.Limits.{max-params, max-locals}
+use Rattle.types.specs.Numbers.{wrong-names, wrong-types}
 use Rattle.types.specs.Types.{Ty, code}
 use Rattle.program.specs.Tree.{Stmt, Stmt.when, Stmt.declare, Stmt.update, Stmt.create, Stmts, Stmts.end, Stmts.next}
 use Rattle.commands.specs.Context.{Ctx, typ}
 use Rattle.commands.specs.Decide.{member}
 use Rattle.commands.specs.TypingDecide.{Judgement, Judgement.untypable, Judgement.of-type}
-use Rattle.judge.specs.Facts.{no-fault, name-fault, type-fault, digit}
+use Rattle.judge.specs.Facts.{no-fault, digit}
 use Rattle.judge.specs.declared.Scope.{Scope}
 
 -- 7 where names are wrong; else 8 where types are; else 0
 pub data Says (f : ℕ) : Bool → Bool → Type 0 where
-  misnamed : {t : Bool} → f ≡ name-fault → Says f false t
-  mistyped : f ≡ type-fault → Says f true false
+  misnamed : {t : Bool} → f ≡ wrong-names → Says f false t
+  mistyped : f ≡ wrong-types → Says f true false
   right : f ≡ no-fault → Says f true true
 
 -- the same of an expression or a path, and then its type's byte
 pub data Shows (f t : ℕ) : Bool → Judgement → Type 0 where
-  unnamed : {j : Judgement} → f ≡ name-fault → Shows f t false j
-  untyped : f ≡ type-fault → Shows f t true untypable
+  unnamed : {j : Judgement} → f ≡ wrong-names → Shows f t false j
+  untyped : f ≡ wrong-types → Shows f t true untypable
   typed : {u : Ty} → f ≡ no-fault → t ≡ code u → Shows f t true (of-type u)
 
 -- the counts `cs` that a tree is read by, and the tables `ar` and `types`, which may go on behind the structs, are the context's

@@ -1,9 +1,4 @@
-// What a checker computes of expressions and statements, as values (01, numbers 6 to 8).
-pub mod digits;
-pub mod expression;
-pub mod fault;
-pub mod path;
-pub mod statement;
+// What a checker computes of expressions and statements, as values (01, numbers 6 to 8). The crate `judging` computes it.
 
 // A fault, 0 or 7 or 8, and a type's byte where there is none.
 pub struct Judged {

@@ -15,4 +15,5 @@ pub mod RuleUnique
 pub mod Measure
 pub mod MeasureLaws
 pub mod RulesLaws
+pub mod CallLaws
 pub mod Rows

@@ -7,6 +7,7 @@ use mathlib.Core.Option.{some}
 use mathlib.Core.List.{List, _∷_}
 use lib.ListN.{length, getElem?}
 use Rattle.types.specs.Limits.{max-instances, max-stability}
+pub use Rattle.types.specs.Numbers.{out-of-turns, full, exceeded, nested}
 use Rattle.types.specs.Values.{Val}
 use Rattle.program.specs.Tree.{Op}
 use Rattle.commands.specs.Commands.{Com.cons, Com.oper, Coms, Coms.act}
@@ -16,22 +17,6 @@ use Rattle.machine.specs.Published.{Sched, Sched.fixpoint, Env, Inst, In
 -- 0 is the ended run
 abbrev pub ended : ℕ
 ended = 0
-
--- commands remain, no turn byte does
-abbrev pub out-of-turns : ℕ
-out-of-turns = 33
-
--- cons with 256 instances
-abbrev pub full : ℕ
-full = 34
-
--- zero divisor, or result outside its type
-abbrev pub exceeded : ℕ
-exceeded = 35
-
--- Fix met with 8 stability entries
-abbrev pub nested : ℕ
-nested = 36
 
 -- 34: cons with 256 instances, whatever operands it has
 pub data Full (l : ℕ) : State → Type 0 where

@@ -17,13 +17,13 @@ use Rattle.commands.specs.Context.{params-of, find-step}
 use Rattle.commands.specs.Bounds.{program-depth}
 use Rattle.commands.specs.Noted.{Note, Note.n-push, Note.n-this, Note.n-cons}
 use Rattle.commands.specs.Tags.{stack-after, Way.on}
-use Rattle.machine.specs.Published.{Env, Env.env, lookup, structs, arity}
+use Rattle.machine.specs.Published.{StepCall, Env, Env.env, lookup, structs, arity}
 use Rattle.machine.specs.Machine.{Instance, Machine}
 use Rattle.sound.specs.Needs.{Needs}
-use Rattle.sound.specs.Invariant.{Fits, Fitted, Passage, Place, Place.resting, Place.passing, Good}
+use Rattle.sound.specs.Invariant.{Fits, Fitted, Passage, Good}
 use Rattle.sound.specs.Accepted.{Firm}
 use Rattle.sound.specs.ReadyLaws.{good-right}
-use Rattle.sound.specs.PassageLaws.{ctx, way-at, next-sized}
+use Rattle.sound.specs.PassageLaws.{holder-passage, has-step as step-had, ctx, way-at, next-sized}
 use Rattle.sound.specs.EachLaws.{each-length}
 use Rattle.sound.specs.ElemLaws.{none-some}
 use Rattle.sound.specs.Sized.{Sized}
@@ -75,12 +75,12 @@ good-slim {p} firm bound {m} good l i at =
 
 module _ {p : Program} {counts : List ℕ} (firm : Firm p) (bound : Bounded p counts) {m : Machine} (good : Good p m) (l : ℕ) (i : Instance)
     (at : getElem? (m .instances) l ≡ some i) (n : Note) (c : List Note) (e : i .code ≡ n ∷ c) where
-  passage : Passage p (m .instances) l i
-  passage = go (good .all .each l i at .place)
-    where
-      go : Place p (m .instances) l i → Passage p (m .instances) l i
-      go (resting q χ) = let z : _≡_ {A = ℕ} 0 1 = cc in absurd (omega arith)
-      go (passing g) = g
+  runs : StepCall
+  runs = holder-passage (good .all .each l i at .place) e .0
+
+  passage : Passage p runs (m .instances) l i
+  unfolding runs
+  passage = holder-passage (good .all .each l i at .place) e .2
 
   -- the command finds what it needs, and carries what is in its range
   pub actor-needs : Needs p m l i n
@@ -92,7 +92,7 @@ module _ {p : Program} {counts : List ℕ} (firm : Firm p) (bound : Bounded p co
   -- the actor's struct is one of the program's
   pub actor-struct : i .struct < structs p
   actor-struct =
-      let b : i .struct < length (p .steps) = has-step (p .steps) (i .struct) (passage .name) (passage .has) in
+      let b : i .struct < length (p .steps) = has-step (p .steps) (i .struct) (step-had passage .0) (step-had passage .1) in
       let s : length (p .steps) ≡ structs p = bound .steps in
       omega arith
 
@@ -100,7 +100,7 @@ module _ {p : Program} {counts : List ℕ} (firm : Firm p) (bound : Bounded p co
   actor-room : length (stack-after (ctx passage) n (passage .place .stack)) ≤ max-depth
   actor-room =
       let a : length (stack-after (ctx passage) n (passage .place .stack)) ≤ program-depth p =
-      firm .low (i .struct) (passage .name) (passage .has) (on (way-at passage firm n c e)) in
+      firm .low (i .struct) (step-had passage .0) (step-had passage .1) (on (way-at passage firm n c e)) in
       let b : program-depth p ≤ max-depth = bound .deep in
       omega arith
 

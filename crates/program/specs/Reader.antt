@@ -6,15 +6,9 @@ use mathlib.Core.Bool.{Bool, true, false, _&&_, _||_}
 use lib.ListN.{length, getD}
 use lib.Dec.{ltb, leb, eqb}
 use Rattle.types.specs.Limits.{max-structs, max-params, max-steps, step-names, max-statements, max-items, first-local, variables, max-path, fix-levels, if-levels, expr-levels}
+pub use Rattle.types.specs.Numbers.{wrong-end, wrong-byte}
 use Rattle.types.specs.Types.{Ty, struct-code, type-of}
 use Rattle.program.specs.Tree.{Var, Var.par, Var.loc, Op, Op.op-eq, Op.op-ne, Op.op-le, Op.op-ge, Op.op-lt, Op.op-gt, Op.op-mul, Op.op-div, Op.op-rem, Op.op-add, Op.op-sub, Op.op-and, Op.op-or, Expr, Expr.inv, Expr.make, Expr.path, Expr.int-lit, Expr.nat-lit, Expr.bool-lit, Expr.null, Expr.self, Expr.op, Exprs, Exprs.none, Exprs.more, Stmt, Stmt.when, Stmt.declare, Stmt.update, Stmt.create, Stmts, Stmts.end, Stmts.next, Item, Item.call, Item.call-in, Item.fix, Items, Items.stop, Items.item, Step, Program}
-
--- the stream ends early or goes on after its end; a byte not allowed at its place
-abbrev pub wrong-end : ℕ
-wrong-end = 4
-
-abbrev pub wrong-byte : ℕ
-wrong-byte = 5
 
 -- a value with the next place, or a refusal with its place and number
 pub data Result (A : Type 0) : Type 0 where

@@ -4,7 +4,8 @@ use crate::read;
 use crate::read::ByteRead;
 use crate::read::ExprRead;
 use judge::Facts;
-use judge::expression;
+use judging::expression;
+use types::number;
 ghost use mathlib.Core.Path.{_≡_};
 ghost use Prim.Native.Nat.{_+_, _<_, _≤_, _^_};
 ghost use lib.ListN.{length};
@@ -82,10 +83,10 @@ pub fn expr(
     ensures { λ r. ⌜ Ahead (now (s .entry)) at r ⌝ }
 {
     if s.len() <= at {
-        return ExprRead::Refused(4);
+        return ExprRead::Refused(number::WRONG_END);
     }
     if depth == 0 {
-        return ExprRead::Refused(5);
+        return ExprRead::Refused(number::WRONG_BYTE);
     }
     let b = s[at];
     // Of two copies of the reference only the one that is handed on has to stand in memory.
@@ -102,7 +103,7 @@ pub fn expr(
         return leaf::leaf(rest, ar, types, own, live, b, k);
     }
     if 44 < b {
-        return ExprRead::Refused(5);
+        return ExprRead::Refused(number::WRONG_BYTE);
     }
     let first = expr(rest, ar, types, own, live, k, d);
     let ExprRead::Value(m, f) = first else {
@@ -129,7 +130,7 @@ pub fn construct(
     let ByteRead::Byte(k, m) = r else {
         return ExprRead::Refused(read::byte_refusal(r));
     };
-    let n = judge::path::look(ar, k as usize);
+    let n = judging::path::look(ar, k as usize);
     over(k, args(s, ar, types, own, live, k, 0, n, m, depth))
 }
 
@@ -158,7 +159,7 @@ pub fn args(
     let ExprRead::Value(m, f) = first else {
         return first;
     };
-    let t = judge::path::type_at(types, k, x);
+    let t = judging::path::type_at(types, k, x);
     joined(
         t,
         f,

@@ -4,7 +4,8 @@ use crate::read;
 use crate::read::ByteRead;
 use crate::read::ExprRead;
 use crate::read::PathRead;
-use judge::expression;
+use judging::expression;
+use types::number;
 ghost use mathlib.Core.Path.{_≡_};
 ghost use Prim.Native.Nat.{ℕ, suc, _<_, _≤_};
 ghost use lib.ListN.{length};
@@ -22,7 +23,7 @@ fn word(s: &[u8], t: u8, at: usize) -> ExprRead
 {
     let f = expression::pushed(t);
     if s.len() - at < 4 {
-        return ExprRead::Refused(4);
+        return ExprRead::Refused(number::WRONG_END);
     }
     ExprRead::Value(at + 4, f)
 }
@@ -88,5 +89,5 @@ pub fn leaf(s: &[u8], ar: &[u8], types: &[u8], own: u8, live: u64, b: u8, at: us
     if b == 23 {
         return ExprRead::Value(at, expression::pushed(types::STRUCT + own));
     }
-    ExprRead::Refused(5)
+    ExprRead::Refused(number::WRONG_BYTE)
 }

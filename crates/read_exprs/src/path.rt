@@ -25,7 +25,7 @@ fn follow(s: &[u8], ar: &[u8], types: &[u8], j: Judged, n: u8, c: u8, at: usize)
         let ByteRead::Byte(x, m) = r else {
             return PathRead::NoPath(read::byte_refusal(r));
         };
-        value = judge::path::lead_by(ar, types, value, x);
+        value = judging::path::lead_by(ar, types, value, x);
         next = m;
         left = left - 1;
     }
@@ -42,7 +42,7 @@ fn first(s: &[u8], ar: &[u8], types: &[u8], own: u8, live: u64, n: u8, at: usize
     let ByteRead::Byte(b, m) = r else {
         return PathRead::NoPath(read::byte_refusal(r));
     };
-    let j = judge::path::start(ar, types, own, live, b);
+    let j = judging::path::start(ar, types, own, live, b);
     follow(s, ar, types, j, n - 1, 1, m)
 }
 

@@ -1,6 +1,7 @@
 // What reading answers: the next place and what was read there, or the number of a refusal; and the readers of one byte.
 use judge::Facts;
 use judge::Judged;
+use types::number;
 ghost use mathlib.Core.Path.{_≡_};
 ghost use Prim.Native.Nat.{_+_};
 ghost use Rattle.program.specs.Reader.{ranged, tested, type-byte};
@@ -56,14 +57,14 @@ pub fn ranged(s: &[u8], lo: usize, hi: usize, at: usize) -> ByteRead
     ensures { λ r. ⌜ ByteSpan (now (s .entry)) lo hi at r ⌝ }
 {
     if s.len() <= at {
-        return ByteRead::NoByte(4);
+        return ByteRead::NoByte(number::WRONG_END);
     }
     let b = s[at];
     if (b as usize) < lo {
-        return ByteRead::NoByte(5);
+        return ByteRead::NoByte(number::WRONG_BYTE);
     }
     if hi <= b as usize {
-        return ByteRead::NoByte(5);
+        return ByteRead::NoByte(number::WRONG_BYTE);
     }
     ByteRead::Byte(b, at + 1)
 }
@@ -84,11 +85,11 @@ pub fn type_byte(s: &[u8], n: usize, at: usize) -> ByteRead
     ensures { λ r. ⌜ ByteSpan (now (s .entry)) 0 (16 + n) at r ⌝ }
 {
     if s.len() <= at {
-        return ByteRead::NoByte(4);
+        return ByteRead::NoByte(number::WRONG_END);
     }
     let b = s[at];
     if !is_type(n, b) {
-        return ByteRead::NoByte(5);
+        return ByteRead::NoByte(number::WRONG_BYTE);
     }
     ByteRead::Byte(b, at + 1)
 }

@@ -11,11 +11,11 @@ use Rattle.types.specs.Types.{Ty}
 use Rattle.program.specs.Tree.{Items, Step, Program}
 use Rattle.program.specs.Reader.{Result, Result.ok, Result.bad, wrong-end, then, pair, made, many, ended, whole, read-params, read-steps, read-items, read-item, read-program, read}
 use Rattle.judge.specs.ProgramFacts.{Totals as Sum, Planned as Plan, plan, no-steps, no-totals, types-table, step-totals, items-plan, exceeded, totals-number, program-totals, program-plan}
-use Rattle.read_schedule.specs.declared.params.ParamsRead.the-variants.{Value as ParamsValue, Refused as ParamsRefused}
-use Rattle.read_schedule.specs.declared.schedule.PlanRead.the-variants.{Value as PlanValue, Refused as PlanRefused}
-use Rattle.read_schedule.specs.declared.schedule.Planned.{Planned}
-use Rattle.read_schedule.specs.ParamsTold.{params-told, ParamsKept}
-use Rattle.read_schedule.specs.ParamsWays.{many-length, table-length}
+use Rattle.read_params.specs.declared.ParamsRead.the-variants.{Value as ParamsValue, Refused as ParamsRefused}
+use Rattle.read_schedule.specs.declared.PlanRead.the-variants.{Value as PlanValue, Refused as PlanRefused}
+use Rattle.read_schedule.specs.declared.Planned.{Planned}
+use Rattle.read_params.specs.ParamsTold.{params-told, ParamsKept}
+use Rattle.read_params.specs.ParamsWays.{many-length, table-length}
 use Rattle.read_schedule.specs.PlanTold.{planned, told as plan-told}
 use Rattle.read_program.specs.declared.totals.Totals.{Totals}
 use Rattle.read_program.specs.declared.totals.TotalsRead.{TotalsRead}

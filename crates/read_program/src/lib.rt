@@ -3,19 +3,18 @@ pub mod totals;
 
 use crate::totals::Totals;
 use crate::totals::TotalsRead;
-use judge::fault;
-use read_schedule::params;
-use read_schedule::params::ParamsRead;
-use read_schedule::schedule;
-use read_schedule::schedule::PlanRead;
-use read_schedule::schedule::Planned;
+use judging::fault;
+use read_params::ParamsRead;
+use read_schedule::PlanRead;
+use read_schedule::Planned;
+use types::number;
 ghost use mathlib.Core.Path.{_≡_};
 ghost use mathlib.Core.List.{List, []};
 ghost use Prim.Native.Nat.{ℕ, _≤_};
 ghost use lib.ListN.{length};
 ghost use Rattle.program.specs.Reader.{read-params, read-items, read-item, read};
 ghost use Rattle.judge.specs.ProgramFacts.{plan, totals-number};
-ghost use Rattle.read_schedule.specs.ParamsTold.{ParamsKept};
+ghost use Rattle.read_params.specs.ParamsTold.{ParamsKept};
 ghost use Rattle.read_program.specs.Total.{with};
 ghost use Rattle.read_program.specs.Whole.{summary, read-rest, end-told, rest-told, program-told, program-refusal};
 
@@ -49,13 +48,13 @@ fn number(t: Totals, p: Planned) -> u8
     ensures { λ r. ⌜ r ≡ totals-number (with t []) (plan (p .count) (p .fault)) ⌝ }
 {
     if t.over != 0 {
-        return 6;
+        return number::OVER_LIMITS;
     }
     if types::MAX_COMMANDS < t.commands {
-        return 6;
+        return number::OVER_LIMITS;
     }
     if types::SCHEDULE_ITEMS < p.count {
-        return 6;
+        return number::OVER_LIMITS;
     }
     fault::worst(t.fault, p.fault)
 }
@@ -76,12 +75,12 @@ fn summed(structs: u8, t: Totals, p: Planned) -> Summary
 fn end(s: &[u8], has: &[u8], structs: u8, behind: usize, t: Totals, at: usize) -> ProgramRead
     ensures { λ r. ⌜ ((ar : List ℕ) → length ar ≡ structs → r ≡ end-told behind structs (with t (now (has .entry))) (now (s .entry)) (read-items ar (now (s .entry)) (read-item ar (now (s .entry)) 8) at)) ⌝ }
 {
-    let r = schedule::items(s, has, structs, at, types::FIX_LEVELS);
+    let r = read_schedule::items(s, has, structs, at, types::FIX_LEVELS);
     let PlanRead::Value(m, p) = r else {
-        return ProgramRead::Refused(schedule::plan_refusal(r));
+        return ProgramRead::Refused(read_schedule::plan_refusal(r));
     };
     if m < s.len() {
-        return ProgramRead::Refused(4);
+        return ProgramRead::Refused(number::WRONG_END);
     }
     ProgramRead::Value(behind, summed(structs, t, p))
 }
@@ -106,9 +105,9 @@ pub fn program(s: &[u8], counts: &mut [u8], types: &mut [u8]) -> ProgramRead
     ensures { λ r. ⌜ r ≡ program-told (read-params (now (s .entry)) 0) (read (now (s .entry))) ⌝ }
     ensures { λ _. ⌜ ParamsKept (now (counts .entry)) (now (counts .exit)) (now (types .entry)) (now (types .exit)) (read-params (now (s .entry)) 0) ⌝ }
 {
-    let r = params::params(s, counts, types);
+    let r = read_params::params(s, counts, types);
     let ParamsRead::Value(at, structs) = r else {
-        return ProgramRead::Refused(params::params_refusal(r));
+        return ProgramRead::Refused(read_params::params_refusal(r));
     };
     let n = structs as usize;
     let end = types::MAX_PARAMS * n;

@@ -1,8 +1,8 @@
 // The steps of all structs, read and totalled up in one walk (01, 'Program stream', and numbers 4 to 8).
 use judge::Done;
 use judge::Scope;
-use judge::expression;
-use judge::fault;
+use judging::expression;
+use judging::fault;
 use read_exprs::read;
 use read_exprs::read::ByteRead;
 use read_stmts::StmtRead;

@@ -1,4 +1,2 @@
-pub mod ParamsTold
 pub mod PlanTold
 pub mod PlanWays
-pub mod ParamsWays

@@ -7,9 +7,9 @@ use Rattle.types.specs.Limits.{step-names}
 use Rattle.program.specs.Tree.{Item, Item.call-in}
 use Rattle.program.specs.Reader.{Result, Result.ok, Result.bad, pair, made, ranged}
 use Rattle.judge.specs.ProgramFacts.{Planned as Plan, plan}
-use Rattle.read_schedule.specs.declared.schedule.Planned.{Planned}
-use Rattle.read_schedule.specs.declared.schedule.PlanRead.{PlanRead}
-use Rattle.read_schedule.specs.declared.schedule.PlanRead.the-variants.{Value, Refused}
+use Rattle.read_schedule.specs.declared.Planned.{Planned}
+use Rattle.read_schedule.specs.declared.PlanRead.{PlanRead}
+use Rattle.read_schedule.specs.declared.PlanRead.the-variants.{Value, Refused}
 
 -- what is planned, as the code has it
 abbrev pub planned : Plan → Planned

@@ -14,9 +14,9 @@ use Rattle.program.specs.ItemLaws.{OpensItem, opens-item}
 use Rattle.judge.specs.Facts.{named}
 use Rattle.judge.specs.ProgramFacts.{Planned as Plan, plan, place, had, joined, item-plan, items-plan}
 use Rattle.read_exprs.specs.declared.read.ByteRead.the-variants.{Byte, NoByte}
-use Rattle.read_schedule.specs.declared.schedule.Planned.{Planned}
-use Rattle.read_schedule.specs.declared.schedule.PlanRead.{PlanRead}
-use Rattle.read_schedule.specs.declared.schedule.PlanRead.the-variants.{Value, Refused}
+use Rattle.read_schedule.specs.declared.Planned.{Planned}
+use Rattle.read_schedule.specs.declared.PlanRead.{PlanRead}
+use Rattle.read_schedule.specs.declared.PlanRead.the-variants.{Value, Refused}
 use Rattle.read_exprs.specs.Told.{byte-told}
 use Rattle.read_exprs.specs.ByteWays.{byte-is, byte-stops, byte-in, byte-out}
 use Rattle.read_schedule.specs.PlanTold.{planned, told, after, fixed, read-call-in, Span, Room}

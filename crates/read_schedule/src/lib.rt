@@ -1,3 +1,176 @@
-// What a checker reads of a program stream outside of steps: the parameter lists and the schedule (01, numbers 4, 5 and 7).
-pub mod params;
-pub mod schedule;
+// The schedule, read and planned in one walk (01, 'Program stream', and number 7): how many items, and whether each step is there.
+use judging::fault;
+use read_exprs::read;
+use read_exprs::read::ByteRead;
+use types::number;
+ghost use mathlib.Core.Path.{_≡_};
+ghost use mathlib.Core.List.{List};
+ghost use Prim.Native.Nat.{ℕ, _+_, _<_, _≤_};
+ghost use lib.ListN.{length};
+ghost use Rattle.program.specs.Tree.{Item.call, Items.stop, Items.item};
+ghost use Rattle.program.specs.Reader.{made, many, ranged, read-items, read-item};
+ghost use Rattle.judge.specs.Facts.{named};
+ghost use Rattle.judge.specs.ProgramFacts.{plan, joined, had, item-plan, items-plan};
+ghost use Rattle.read_schedule.specs.PlanTold.{planned, told, plan-refusal, fixed, read-call-in, after, Ahead, Within, Room};
+
+// How many items, those inside a Fix among them, and a fault, 0 or 7.
+pub struct Planned {
+    pub count: usize,
+    pub fault: u8,
+}
+
+// The next place, and what is planned.
+pub enum PlanRead {
+    Value(usize, Planned),
+    Refused(u8),
+}
+
+// The number of a refusal, for a reader whose own answer is of another type; 0 where a value was read.
+pub fn plan_refusal(r: PlanRead) -> u8
+    ensures { λ n. ⌜ n ≡ plan-refusal r ⌝ }
+{
+    let PlanRead::Refused(n) = r else {
+        return 0;
+    };
+    n
+}
+
+// Whether some of the c structs from struct k on has the step n.
+fn had(has: &[u8], n: u8, k: u8, c: u8) -> bool
+    requires { ⌜ k + c < 256 ⌝ }
+    ensures { λ r. ⌜ r ≡ had (now (has .entry)) n k c ⌝ }
+{
+    if c == 0 {
+        return false;
+    }
+    if judging::path::look(has, types::STEP_NAMES * k as usize + n as usize) != 0 {
+        return true;
+    }
+    had(has, n, k + 1, c - 1)
+}
+
+// One step, which is there or not.
+fn one(there: bool) -> Planned
+    ensures { λ r. ⌜ r ≡ planned (plan 1 (named there)) ⌝ }
+{
+    Planned {
+        count: 1,
+        fault: fault::named(there),
+    }
+}
+
+// A step of every struct that has it.
+fn call(s: &[u8], has: &[u8], structs: u8, at: usize) -> PlanRead
+    ensures { λ r. ⌜ r ≡ told (item-plan (now (has .entry)) structs) (made call (ranged (now (s .entry)) 0 32 at)) ⌝ }
+    ensures { λ r. ⌜ Ahead (now (s .entry)) at r ⌝ }
+{
+    let r = read::ranged(s, 0, types::STEP_NAMES, at);
+    let ByteRead::Byte(n, m) = r else {
+        return PlanRead::Refused(read::byte_refusal(r));
+    };
+    PlanRead::Value(m, one(had(has, n, 0, structs)))
+}
+
+// A step of one struct.
+fn call_in(s: &[u8], has: &[u8], structs: u8, at: usize) -> PlanRead
+    ensures { λ r. ⌜ r ≡ told (item-plan (now (has .entry)) structs) (read-call-in (now (s .entry)) structs at) ⌝ }
+    ensures { λ r. ⌜ Ahead (now (s .entry)) at r ⌝ }
+{
+    let r = read::ranged(s, 0, structs as usize, at);
+    let ByteRead::Byte(k, m) = r else {
+        return PlanRead::Refused(read::byte_refusal(r));
+    };
+    let q = read::ranged(s, 0, types::STEP_NAMES, m);
+    let ByteRead::Byte(n, next) = q else {
+        return PlanRead::Refused(read::byte_refusal(q));
+    };
+    let there = judging::path::look(has, types::STEP_NAMES * k as usize + n as usize);
+    PlanRead::Value(next, one(there != 0))
+}
+
+// A Fix around what was read.
+fn around(r: PlanRead) -> PlanRead
+    requires { ⌜ Room 1 r ⌝ }
+    ensures { λ q. ⌜ q ≡ after fixed r ⌝ }
+{
+    let PlanRead::Value(n, p) = r else {
+        return r;
+    };
+    PlanRead::Value(
+        n,
+        Planned {
+            count: p.count + 1,
+            fault: p.fault,
+        },
+    )
+}
+
+// An item before what was read behind it.
+fn joined(p: Planned, r: PlanRead) -> PlanRead
+    requires { ⌜ Room (p .count) r ⌝ }
+    ensures { λ q. ⌜ q ≡ after (joined (plan (p .count) (p .fault))) r ⌝ }
+{
+    let PlanRead::Value(n, q) = r else {
+        return r;
+    };
+    PlanRead::Value(
+        n,
+        Planned {
+            count: p.count + q.count,
+            fault: fault::worst(p.fault, q.fault),
+        },
+    )
+}
+
+// An item with at most depth levels of Fix.
+fn item(s: &[u8], has: &[u8], structs: u8, at: usize, depth: usize) -> PlanRead
+    ensures { λ r. ⌜ ((ar : List ℕ) → length ar ≡ structs → r ≡ told (item-plan (now (has .entry)) structs) (read-item ar (now (s .entry)) depth at)) ⌝ }
+    ensures { λ r. ⌜ Ahead (now (s .entry)) at r ⌝ }
+{
+    if s.len() <= at {
+        return PlanRead::Refused(number::WRONG_END);
+    }
+    let b = s[at];
+    let k = at + 1;
+    if b == 1 {
+        return call(s, has, structs, k);
+    }
+    if b == 2 {
+        return call_in(s, has, structs, k);
+    }
+    if b != 3 {
+        return PlanRead::Refused(number::WRONG_BYTE);
+    }
+    if depth == 0 {
+        return PlanRead::Refused(number::WRONG_BYTE);
+    }
+    around(items(s, has, structs, k, depth - 1))
+}
+
+// n items in a row.
+fn following(s: &[u8], has: &[u8], structs: u8, n: u8, at: usize, depth: usize) -> PlanRead
+    requires { ⌜ at ≤ length (now s) ⌝ }
+    ensures { λ r. ⌜ ((ar : List ℕ) → length ar ≡ structs → r ≡ told (items-plan (now (has .entry)) structs) (many stop item (read-item ar (now (s .entry)) depth) n at)) ⌝ }
+    ensures { λ r. ⌜ Within (now (s .entry)) at r ⌝ }
+{
+    if n == 0 {
+        return PlanRead::Value(at, Planned { count: 0, fault: 0 });
+    }
+    let first = item(s, has, structs, at, depth);
+    let PlanRead::Value(m, p) = first else {
+        return first;
+    };
+    joined(p, following(s, has, structs, n - 1, m, depth))
+}
+
+// The items of the schedule or of a Fix, with at most depth levels of Fix inside; has tells which steps the structs have.
+pub fn items(s: &[u8], has: &[u8], structs: u8, at: usize, depth: usize) -> PlanRead
+    ensures { λ r. ⌜ ((ar : List ℕ) → length ar ≡ structs → r ≡ told (items-plan (now (has .entry)) structs) (read-items ar (now (s .entry)) (read-item ar (now (s .entry)) depth) at)) ⌝ }
+    ensures { λ r. ⌜ Ahead (now (s .entry)) at r ⌝ }
+{
+    let r = read::ranged(s, 1, types::MAX_ITEMS + 1, at);
+    let ByteRead::Byte(n, m) = r else {
+        return PlanRead::Refused(read::byte_refusal(r));
+    };
+    following(s, has, structs, n, m, depth)
+}

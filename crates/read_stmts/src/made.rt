@@ -4,7 +4,7 @@ use judge::Done;
 use judge::Facts;
 use judge::Judged;
 use judge::Scope;
-use judge::statement;
+use judging::statement;
 use read_exprs::read;
 use read_exprs::read::ExprRead;
 ghost use mathlib.Core.Path.{_≡_};

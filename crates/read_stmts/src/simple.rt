@@ -7,6 +7,7 @@ use read_exprs::path;
 use read_exprs::read;
 use read_exprs::read::ByteRead;
 use read_exprs::read::PathRead;
+use types::number;
 ghost use mathlib.Core.Path.{_≡_};
 ghost use Prim.Native.Nat.{ℕ, _<_, _≤_};
 ghost use lib.ListN.{length};
@@ -29,7 +30,7 @@ fn local(s: &[u8], ar: &[u8], types: &[u8], own: u8, c: Scope, t: u8, at: usize)
     made::declared(
         c,
         t,
-        x - judge::path::FIRST_LOCAL,
+        x - judging::path::FIRST_LOCAL,
         expr::expr(s, ar, types, own, live, m, types::EXPR_LEVELS),
     )
 }
@@ -92,5 +93,5 @@ pub fn simple(s: &[u8], ar: &[u8], types: &[u8], own: u8, c: Scope, b: u8, at: u
     if b == 4 {
         return create(s, ar, types, own, c, at);
     }
-    StmtRead::Refused(5)
+    StmtRead::Refused(number::WRONG_BYTE)
 }

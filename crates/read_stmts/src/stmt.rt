@@ -3,11 +3,12 @@ use crate::StmtRead;
 use crate::made;
 use crate::simple;
 use judge::Scope;
-use judge::statement;
+use judging::statement;
 use read_exprs::expr;
 use read_exprs::read;
 use read_exprs::read::ByteRead;
 use read_exprs::read::ExprRead;
+use types::number;
 ghost use mathlib.Core.Path.{_≡_};
 ghost use Prim.Native.Nat.{_<_, _≤_};
 ghost use lib.ListN.{length};
@@ -31,7 +32,7 @@ pub fn stmt(
     ensures { λ r. ⌜ DoneAhead (now (s .entry)) at r ⌝ }
 {
     if s.len() <= at {
-        return StmtRead::Refused(4);
+        return StmtRead::Refused(number::WRONG_END);
     }
     let b = s[at];
     let k = at + 1;
@@ -39,7 +40,7 @@ pub fn stmt(
         return simple::simple(s, ar, types, own, c, b, k);
     }
     if depth == 0 {
-        return StmtRead::Refused(5);
+        return StmtRead::Refused(number::WRONG_BYTE);
     }
     when(s, ar, types, own, c, k, depth - 1)
 }

@@ -6,6 +6,7 @@ use mathlib.Core.List.{List, [], _∷_, _++_}
 use lib.ListN.{length, drop}
 use lib.Dec.{ltb}
 use Rattle.types.specs.Limits.{program-blocks, table-blocks, max-commands, max-turns}
+pub use Rattle.types.specs.Numbers.{no-room, many-turns}
 use Rattle.types.specs.Types.{Ty}
 use Rattle.blocks.specs.Blocks.{block-size}
 use Rattle.blocks.specs.Images.{fault, stream, image, pieces, program-number as block-number, table-number as table-block-number}
@@ -23,13 +24,6 @@ use Rattle.machine.specs.Published.{structs}
 use Rattle.machine.specs.Machine.{Machine}
 use Rattle.run.specs.Run.{Outcome, Outcome.stopped, Outcome.jammed, run}
 use Rattle.run.specs.Begin.{begin, table-of}
-
--- 13: output under 8,704 bytes, or a lent command list with places for fewer than 1,024 commands. 14: over 65,536 turns given
-abbrev pub no-room : ℕ
-no-room = 13
-
-abbrev pub many-turns : ℕ
-many-turns = 14
 
 abbrev pub no-number : ℕ
 no-number = 255

@@ -10,8 +10,8 @@ use Rattle.program.specs.Tree.{Program}
 use Rattle.program.specs.Reader.{read-params, read}
 use Rattle.commands.specs.Numbers.{program-number}
 use Rattle.judge.specs.ProgramFacts.{types-table}
-use Rattle.read_schedule.specs.ParamsTold.{ParamsKept}
-use Rattle.read_schedule.specs.ParamsWays.{table-length}
+use Rattle.read_params.specs.ParamsTold.{ParamsKept}
+use Rattle.read_params.specs.ParamsWays.{table-length}
 use Rattle.run.specs.Entry.{Checked.accepted, judge, of-read}
 use Rattle.read_program.specs.declared.Summary.{Summary}
 use Rattle.checker.specs.CheckLaws.{Behind, number-is, counted, here, table}

@@ -10,7 +10,7 @@ use Rattle.blocks.specs.Blocks.{block-size}
 use Rattle.blocks.specs.Images.{image, pieces}
 use Rattle.program.specs.Tree.{Program}
 use Rattle.commands.specs.Bounds.{program-depth, Within}
-use Rattle.read_schedule.specs.ParamsWays.{from-start}
+use Rattle.read_params.specs.ParamsWays.{from-start}
 use Rattle.emit.specs.ProgramWords.{program-words as emitted-words}
 use Rattle.emit.specs.ProgramLaws.{program-length}
 use Rattle.table.specs.Table.{Record}

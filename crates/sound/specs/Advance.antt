@@ -3,6 +3,7 @@ use Prim.Native.Nat.{ℕ, _+_}
 use mathlib.Core.Path.{_≡_, refl, ap, sym, _∙_}
 use mathlib.Core.Bool.{true, false, false≢true}
 use mathlib.Core.Option.{some}
+use mathlib.Core.Logic.{inr}
 use mathlib.Core.List.{List, _∷_, List·Memᴰ}
 use lib.ListN.{getElem?, set}
 use Rattle.types.specs.Limits.{first-local}
@@ -12,7 +13,7 @@ use Rattle.program.specs.Tree.{Program}
 use Rattle.commands.specs.Context.{body-local, params-of}
 use Rattle.commands.specs.Noted.{Note, noted, now-written}
 use Rattle.table.specs.Table.{Each}
-use Rattle.machine.specs.Published.{Env, lookup}
+use Rattle.machine.specs.Published.{StepCall, Env, lookup}
 use Rattle.machine.specs.Machine.{Tagged, Instance, Machine, put, Out, Out.next, Out.refused, Out.stuck}
 use Rattle.commands.specs.Tags.{stack-after, is-this, next as leads, at-start, Way}
 use Rattle.sound.specs.Needs.{Of}
@@ -33,7 +34,7 @@ abbrev pub after : Instance → Note → List Note → List Tagged → Env → I
 after i n c χ ξ = record { struct = i .struct; code = c; stack = χ; env = ξ; written = now-written n (i .written) }
 
 -- the passage behind a command: the way goes on, these types are on the stack, and the locals written hold values
-pub advance : {p : Program} {is : List Instance} {l : ℕ} {i : Instance} (g : Passage p is l i) (n : Note) {c : List Note}
+pub advance : {p : Program} {a : StepCall} {is : List Instance} {l : ℕ} {i : Instance} (g : Passage p a is l i) (n : Note) {c : List Note}
     → Way (ctx g) (noted (ctx g) (g .body)) at-start c (leads (ctx g) n (g .place))
     → Living-on g n c
     → (js : List Instance) (ts : List Ty)
@@ -44,9 +45,8 @@ pub advance : {p : Program} {is : List Instance} {l : ℕ} {i : Instance} (g : P
     → (ξ : Env)
     → ((x : ℕ) → List·Memᴰ x (now-written n (i .written))
     → (v : Val) × (lookup ξ (first-local + x) ≡ some v) × (Of js (body-local (g .body) x int) v))
-    → Passage p js l (after i n c χ ξ)
+    → Passage p a js l (after i n c χ ξ)
 advance g n w sf js ts q χ s o ξ h = record {
-  name = g .name;
   body = g .body;
   has = g .has;
   place = leads (ctx g) n (g .place);
@@ -58,33 +58,35 @@ advance g n w sf js ts q χ s o ξ h = record {
 }
 
 -- the locals of a passage, where there are more instances and none is written
-pub locals-kept : {p : Program} {is : List Instance} {l : ℕ} {i : Instance} (g : Passage p is l i) {js : List Instance} → Keeps is js
+pub locals-kept : {p : Program} {a : StepCall} {is : List Instance} {l : ℕ} {i : Instance} (g : Passage p a is l i) {js : List Instance} → Keeps is js
     → {w : List ℕ} → w ≡ i .written → (x : ℕ) → List·Memᴰ x w
     → (v : Val) × (lookup (i .env) (first-local + x) ≡ some v) × (Of js (body-local (g .body) x int) v)
 locals-kept g k a x h = let (v, e, o) = g .locals x (rw a at h) in (v, e, of-kept k (body-local (g .body) x int) v o)
 
-module _ {p : Program} {m : Machine} (good : Good p m) (l : ℕ) (i : Instance) (at : getElem? (m .instances) l ≡ some i)
-    (n : Note) (c : List Note) (χ : List Tagged) where
+module _ {p : Program} {m : Machine} (good : Good p m) {a : StepCall} (runs : good .runs ≡ some a) (l : ℕ) (i : Instance)
+    (at : getElem? (m .instances) l ≡ some i) (n : Note) (c : List Note) (χ : List Tagged) where
   -- the actor put back, its environment as it was
   pub good-put : (Keeps (m .instances) (set (m .instances) l (after i n c χ (i .env)))
-      → Passage p (set (m .instances) l (after i n c χ (i .env))) l (after i n c χ (i .env)))
+      → Passage p a (set (m .instances) l (after i n c χ (i .env))) l (after i n c χ (i .env)))
       → Good p (put m l (after i n c χ (i .env)))
   good-put f =
       let j = after i n c χ (i .env) in
       let k = keeps-set (m .instances) l i j at refl in
       record {
+        runs = good .runs;
         all =
             good-set p (m .instances) l i j at refl (good .all)
             (record {
               fitted = fitted-kept p k (params-of p (i .struct)) (i .env) (good .all .each l i at .fitted);
-              place = passing (f k);
+              place = passing (f k) (inr runs);
             });
+        running = good .running;
         opened = good .opened;
         left = good .left;
       }
 
   -- a command that writes no variable, makes no instance and is no push this
-  pub goes-on : (g : Passage p (m .instances) l i)
+  pub goes-on : (g : Passage p a (m .instances) l i)
       → Way (ctx g) (noted (ctx g) (g .body)) at-start c (leads (ctx g) n (g .place))
       → Living-on g n c
       → now-written n (i .written) ≡ i .written

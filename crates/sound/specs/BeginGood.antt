@@ -20,7 +20,8 @@ use Rattle.machine.specs.Published.{Sched, of-item, of-items, structs}
 use Rattle.machine.specs.Machine.{Instance}
 use Rattle.run.specs.Begin.{resting, nulls, first-instances, begin}
 use Rattle.sound.specs.Needs.{Of}
-use Rattle.sound.specs.Invariant.{GoodInst, Unbegun, Open, Open.open-done, Open.open-start, Open.open-fix, Good, Nulls, Left.whole}
+use Rattle.sound.specs.Invariant.{GoodInst, Unbegun, Open, Open.open-done, Open.open-start, Open.open-fix, Good, Nulls}
+use Rattle.sound.specs.Started.{Left.whole}
 use Rattle.sound.specs.ElemLaws.{none-some, some-is, at-append, at-joined, at-behind, at-below, at-map, map-at, all-elem}
 use Rattle.sound.specs.SizedLaws.{lasting-of, default-lasts}
 use Rattle.sound.specs.AcceptedLaws.{params-counted}
@@ -135,7 +136,7 @@ module _ (p : Program) (counts : Counts p) (rs : List Record) where
     first-good : (l : ℕ) (i : Instance)
         → (getElem? (nulls 0 (p .params)) l ≡ some i)
         ⊎ ((length (nulls 0 (p .params)) ≤ l) × (getElem? (map (λ r. resting (r .struct) (r .values)) rs) (l - length (nulls 0 (p .params))) ≡ some i))
-        → GoodInst p at-first l i
+        → GoodInst p none at-first l i
     unfolding TableRight HeldTable References
     first-good l i (inl e) =
         let h : l < length (p .params) = omega (arith, at-below (nulls 0 (p .params)) l i e, nulls-length 0 (p .params)) in
@@ -153,10 +154,12 @@ module _ (p : Program) (counts : Counts p) (rs : List Record) where
     pub begin-good : Good p (begin p rs)
     unfolding begin first-instances
     begin-good = record {
+      runs = none;
       all = record {
         nulls = first-nulls;
         each = λ l i e. first-good l i (at-joined (nulls 0 (p .params)) (map (λ r. resting (r .struct) (r .values)) rs) l i e);
       };
+      running = tt;
       opened = open-items (p .schedule);
       left = whole;
     }

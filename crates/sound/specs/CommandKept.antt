@@ -21,13 +21,13 @@ use Rattle.table.specs.Table.{Each}
 use Rattle.operators.specs.Apply.{Answer, Answer.value, Answer.outside, Answer.unfit, apply}
 use Rattle.operators.specs.Ranges.{Fits as Answers}
 use Rattle.operators.specs.RangesLaws.{apply-fits}
-use Rattle.machine.specs.Published.{structs, arity}
+use Rattle.machine.specs.Published.{StepCall, structs, arity}
 use Rattle.machine.specs.Machine.{Tagged, tagged, Source.variable, Source.local, Source.result, given-by, Instance, Machine, with-written, put, write-to, operated, perform, command-of, command-at, command}
 use Rattle.machine.specs.Stops.{full, exceeded}
 use Rattle.run.specs.Begin.{resting}
 use Rattle.commands.specs.Tags.{Tags, Top, Asks, stack-after, next as leads, at-start, Way, Way.on, Way.over}
 use Rattle.sound.specs.Needs.{Of}
-use Rattle.sound.specs.Invariant.{Fits, Passage, Place, Place.resting as rests, Place.passing, Good}
+use Rattle.sound.specs.Invariant.{Fits, Passage, Good}
 use Rattle.sound.specs.Keeps.{of-kept, fits-kept}
 use Rattle.sound.specs.EachLaws.{each-length, each-map, each-of-map, each-reverse}
 use Rattle.sound.specs.EnvLaws.{param-holds}
@@ -35,7 +35,7 @@ use Rattle.commands.specs.StaticParts.{result-of}
 use Rattle.sound.specs.SizedLaws.{lasting-of}
 use Rattle.sound.specs.ValueLaws.{bool-value, label-value, ranges, result-of-type}
 use Rattle.sound.specs.Accepted.{Firm}
-use Rattle.sound.specs.PassageLaws.{ctx, here, tops, top-one, top-two, own-top, local-value, asks, kept-next, kept-past, Living-on, next-sized, way-at}
+use Rattle.sound.specs.PassageLaws.{holder-passage, ctx, here, tops, top-one, top-two, own-top, local-value, asks, kept-next, kept-past, Living-on, next-sized, way-at}
 use Rattle.sound.specs.Outcomes.{negated, branched, operates, has-read, leaves-null, writes-param, writes-local, constructs, finds-full}
 use Rattle.sound.specs.Advance.{Kept, after, advance, locals-kept, good-put, goes-on}
 use Rattle.sound.specs.WriteKept.{param-kept, local-kept-good}
@@ -56,8 +56,8 @@ set-asks : (G : Ctx) (d : Bool) (t : Ty) (v : ℕ) (x : Tags) → Asks G (n-set 
 set-asks G true t v x a = a
 set-asks G false t v x a = (a .0, a .1, a .3)
 
-module _ {p : Program} (firm : Firm p) {m : Machine} (good : Good p m) (l : ℕ) (i : Instance) (at : getElem? (m .instances) l ≡ some i)
-    (g : Passage p (m .instances) l i) (c : List Note) where
+module _ {p : Program} (firm : Firm p) {m : Machine} (good : Good p m) {a : StepCall} (runs : good .runs ≡ some a) (l : ℕ) (i : Instance)
+    (at : getElem? (m .instances) l ≡ some i) (g : Passage p a (m .instances) l i) (c : List Note) where
   -- the actor as the machine has it while it takes the command n
   abbrev acting : Note → Instance
   acting n = with-written i (now-written n (i .written))
@@ -69,14 +69,14 @@ module _ {p : Program} (firm : Firm p) {m : Machine} (good : Good p m) (l : ℕ)
   pushes : (t : Ty) (v : Val) → Goes (n-push t v)
   unfolding perform now-written
   pushes t v e =
-      goes-on good l i at (n-push t v) c (tagged t v ∷ i .stack) g (on (way-at g firm (n-push t v) c e)) (kept-next g firm (n-push t v) c e) refl refl (t ∷ g .place .stack) refl
+      goes-on good runs l i at (n-push t v) c (tagged t v ∷ i .stack) g (on (way-at g firm (n-push t v) c e)) (kept-next g firm (n-push t v) c e) refl refl (t ∷ g .place .stack) refl
       ((refl, lasting-of p (m .instances) (good .all .nulls) (next-sized g firm (n-push t v) c e)), g .stacked)
 
   pushes-this : Goes n-this
   unfolding perform now-written
   pushes-this e =
       let x = tagged (ref (i .struct)) (label l) in
-      good-put good l i at n-this c (x ∷ i .stack) (λ k.
+      good-put good runs l i at n-this c (x ∷ i .stack) (λ k.
       advance g n-this (on (way-at g firm n-this c e)) (kept-next g firm n-this c e) (set (m .instances) l (after i n-this c (x ∷ i .stack) (i .env))) (ref (i .struct) ∷ g .place .stack) refl (x ∷ i .stack) (
         (refl, of-kept k (ref (i .struct)) (label l) (i, at, refl)),
         each-map (fits-kept k) (g .place .stack) (i .stack) (g .stacked),
@@ -92,7 +92,7 @@ module _ {p : Program} (firm : Firm p) {m : Machine} (good : Good p m) (l : ℕ)
       let (x, χ, s, f, r) = top-one g bool (h, a) in
       let (b, q) = bool-value (m .instances) (x .is) (f .1) in
       subst (Kept p Refused) (sym (negated p m l (acting n-not) c (s ∙ ap (λ v. tagged (x .by) v ∷ χ) q)))
-      (goes-on good l i at n-not c (tagged bool (bool-val (not b)) ∷ χ) g (on (way-at g firm n-not c e)) (kept-next g firm n-not c e) refl refl (bool ∷ h)
+      (goes-on good runs l i at n-not c (tagged bool (bool-val (not b)) ∷ χ) g (on (way-at g firm n-not c e)) (kept-next g firm n-not c e) refl refl (bool ∷ h)
       (ap (stack-after (ctx g) n-not) a)
       ((refl, tt), r))
 
@@ -103,7 +103,7 @@ module _ {p : Program} (firm : Firm p) {m : Machine} (good : Good p m) (l : ℕ)
       let (x, χ, s, f, r) = top-one g bool (h, a) in
       let (b, q) = bool-value (m .instances) (x .is) (f .1) in
       subst (Kept p Refused) (sym (branched p m l (acting (n-if n)) c n (s ∙ ap (λ v. tagged (x .by) v ∷ χ) q)))
-      (goes-on good l i at (n-if n) (elim b [ true ↦ c | false ↦ drop n c ]) χ g (way b (way-at g firm (n-if n) c e)) (living b) refl refl h
+      (goes-on good runs l i at (n-if n) (elim b [ true ↦ c | false ↦ drop n c ]) χ g (way b (way-at g firm (n-if n) c e)) (living b) refl refl h
       (ap (stack-after (ctx g) (n-if n)) a)
       r)
     where
@@ -128,7 +128,7 @@ module _ {p : Program} (firm : Firm p) {m : Machine} (good : Good p m) (l : ℕ)
       param-holds (m .instances) (params-of p (j .struct)) (firm .few (j .struct)) v b′ (j .env) (good .all .each t j at′ .fitted) in
       subst (Kept p Refused)
       (sym (has-read p m l (acting (n-rd k v)) c v (λ d. variable d v) (s ∙ ap (λ u. tagged (x .by) u ∷ χ) q) at′ z))
-      (goes-on good l i at (n-rd k v) c (tagged (given-by p (variable (j .struct) v)) y ∷ χ) g (on (way-at g firm (n-rd k v) c e)) (kept-next g firm (n-rd k v) c e) refl refl
+      (goes-on good runs l i at (n-rd k v) c (tagged (given-by p (variable (j .struct) v)) y ∷ χ) g (on (way-at g firm (n-rd k v) c e)) (kept-next g firm (n-rd k v) c e) refl refl
       (typ (ctx g) k v ∷ h)
       (ap (stack-after (ctx g) (n-rd k v)) a)
       ((ap (λ d. getD (params-of p d) v int) w, subst (λ d. Of (m .instances) (getD (params-of p d) v int) y) w o), r))
@@ -142,7 +142,7 @@ module _ {p : Program} (firm : Firm p) {m : Machine} (good : Good p m) (l : ℕ)
       let (y, z, o) = local-value g v d in
       subst (Kept p Refused)
       (sym (has-read p m l (acting (n-get t v)) c (first-local + v) (λ d. local t) (s ∙ ap (λ u. tagged (x .by) u ∷ χ) q) at z))
-      (goes-on good l i at (n-get t v) c (tagged t y ∷ χ) g (on (way-at g firm (n-get t v) c e)) (kept-next g firm (n-get t v) c e) refl refl (t ∷ h)
+      (goes-on good runs l i at (n-get t v) c (tagged t y ∷ χ) g (on (way-at g firm (n-get t v) c e)) (kept-next g firm (n-get t v) c e) refl refl (t ∷ h)
       (ap (stack-after (ctx g) (n-get t v)) a)
       ((refl, subst (λ d. Of (m .instances) d y) (sym b) o), r))
 
@@ -156,7 +156,7 @@ module _ {p : Program} (firm : Firm p) {m : Machine} (good : Good p m) (l : ℕ)
       let s′ = s ∙ ap (λ u. tagged (y .by) u ∷ x ∷ χ) q in
       let b′ : v < arity p (j .struct) = rw w b in
       let own : Good p (put m l (after i n c χ (i .env))) =
-      goes-on good l i at n c χ g (on (way-at g firm n c e)) (kept-next g firm n c e) refl refl h (ap (stack-after (ctx g) n) a) r in
+      goes-on good runs l i at n c χ g (on (way-at g firm n c e)) (kept-next g firm n c e) refl refl h (ap (stack-after (ctx g) n) a) r in
       let (z, z′, o) =
       param-holds (m .instances) (params-of p (j .struct)) (firm .few (j .struct)) v b′ (j .env) (good .all .each t j at′ .fitted) in
       let below = lt-ltb v (arity p (j .struct)) b′ in
@@ -177,7 +177,7 @@ module _ {p : Program} (firm : Firm p) {m : Machine} (good : Good p m) (l : ℕ)
       let few = firm .few (i .struct) in
       let beyond = le-ltb (first-local + v) (arity p (i .struct)) (omega arith) in
       subst (Kept p Refused) (sym (writes-local p m l (acting n) c (first-local + v) s′ at beyond))
-      (local-kept-good firm m l i at good g d t v (next-sized g firm n c e) b c (on (way-at g firm n c e)) (kept-next g firm n c e) h (ap (stack-after (ctx g) n) a) χ r (x .is) _
+      (local-kept-good firm m l i at good runs g d t v (next-sized g firm n c e) b c (on (way-at g firm n c e)) (kept-next g firm n c e) h (ap (stack-after (ctx g) n) a) χ r (x .is) _
       (f′ .1))
 
   constructs-one : (k : ℕ) → Goes (n-cons k)
@@ -198,6 +198,7 @@ module _ {p : Program} (firm : Firm p) {m : Machine} (good : Good p m) (l : ℕ)
       (cons-kept good l i at n c ψ k vs
       (each-reverse (Of js) ps (map (λ x. x .is) ξ)
       (each-of-map (Of js) (λ x. x .is) (reverse ps) ξ (each-map (λ t x z. of-kept keeps t (x .is) (z .1)) (reverse ps) ξ f)))
+      runs
       (advance g n (on (way-at g firm n c e)) (kept-next g firm n c e) js (ref k ∷ h)
       (ap (stack-after (ctx g) n) a ∙ ap (λ r. ref k ∷ r) (drop-at (reverse ps) h (length ps) (length-reverse ps)))
       ψ
@@ -223,7 +224,7 @@ module _ {p : Program} (firm : Firm p) {m : Machine} (good : Good p m) (l : ℕ)
           → (w : Answer) → apply o (x .is) (y .is) ≡ w → Answers u w
           → Kept p Refused (operated p m l (acting (n-op o)) c χ (result o (x .by)) w)
       go t u k h a y x χ s b r (value v) q z =
-          goes-on good l i at (n-op o) c (tagged (result-type (sort o) (x .by)) v ∷ χ) g (on (way-at g firm (n-op o) c e)) (kept-next g firm (n-op o) c e) refl refl
+          goes-on good runs l i at (n-op o) c (tagged (result-type (sort o) (x .by)) v ∷ χ) g (on (way-at g firm (n-op o) c e)) (kept-next g firm (n-op o) c e) refl refl
           (result-type (sort o) t ∷ h)
           (ap (stack-after (ctx g) (n-op o)) a)
           ((ap (result-type (sort o)) b, subst (λ d. Of (m .instances) d v) (result-of k) (result-of-type (m .instances) k z)), r)
@@ -253,8 +254,6 @@ commanded p m l i n c at e = ap (command-at p m l) at ∙ ap (command-of p m l i
 pub command-kept : {p : Program} → Firm p → {m : Machine} → Good p m → (l : ℕ) (i : Instance) → getElem? (m .instances) l ≡ some i
     → (n : Note) (c : List Note) → i .code ≡ n ∷ c
     → Kept p Refused (command p l m)
-command-kept {p} firm {m} good l i at n c e = subst (Kept p Refused) (sym (commanded p m l i n c at e)) (go (good .all .each l i at .place))
-  where
-    go : Place p (m .instances) l i → Kept p Refused (perform p m l (with-written i (now-written n (i .written))) n c)
-    go (rests q χ) = let z : _≡_ {A = ℕ} 0 1 = cc in absurd (omega arith)
-    go (passing g) = takes firm good l i at g c n e
+command-kept {p} firm {m} good l i at n c e =
+    let (a, runs, g) = holder-passage (good .all .each l i at .place) e in
+    subst (Kept p Refused) (sym (commanded p m l i n c at e)) (takes firm good runs l i at g c n e)

@@ -3,21 +3,23 @@
 use Prim.Native.Nat.{ℕ, suc, _+_, _<_}
 use mathlib.Core.Path.{_≡_}
 use mathlib.Core.Bool.{true}
-use mathlib.Core.Option.{some}
+use mathlib.Core.Option.{Option, none, some}
+use mathlib.Core.Logic.{_⊎_}
 use mathlib.Core.List.{List, [], _∷_, List·Memᴰ}
 use lib.ListN.{length, getElem?}
 use Rattle.types.specs.Limits.{first-local, max-locals}
 use Rattle.types.specs.Types.{Ty, Ty.int}
 use Rattle.types.specs.Values.{Val, Val.label}
 use Rattle.program.specs.Tree.{Stmts, Program}
-use Rattle.commands.specs.Context.{params-of, body-local, context, step-of}
+use Rattle.commands.specs.Context.{params-of, body-local, context}
 use Rattle.commands.specs.Noted.{noted}
 use Rattle.table.specs.Table.{Each}
-use Rattle.machine.specs.Published.{StepCall, Sched, Sched.done, Sched.start, Sched.fixpoint, Sched.active, before, of-items, Env, Env.env, lookup, structs}
+use Rattle.machine.specs.Published.{StepCall, called, Sched, Sched.done, Sched.start, Sched.fixpoint, Sched.active, of-items, Env, Env.env, lookup, structs}
 use Rattle.machine.specs.Machine.{Tagged, Instance, Machine}
 use Rattle.commands.specs.Tags.{Tags, Way, at-start}
 use Rattle.commands.specs.Living.{alive, lives-at, Among}
 use Rattle.sound.specs.Needs.{Of}
+use Rattle.sound.specs.Started.{Left, Started}
 
 -- of a type in both senses
 abbrev pub Fits : List Instance → Ty → Tagged → Type 0
@@ -27,12 +29,11 @@ Fits is t x = (x .by ≡ t) × (Of is t (x .is))
 abbrev pub Fitted : List Instance → List Ty → Env → Type 0
 Fitted is ts (env ps ls) = (Each (Of is) ts ps) × (length ls ≡ max-locals)
 
--- instance l stands at a place that its step's commands lead to; after a push this its own label is on top; each local written
--- in this passage holds a value of its type
-pub record Passage (p : Program) (is : List Instance) (l : ℕ) (i : Instance) : Type 0 where
-  pub name : ℕ
+-- instance l stands at a place that the commands of the step lead to which the call a starts on it; after a push this its own label
+-- is on top; each local written in this passage holds a value of its type
+pub record Passage (p : Program) (a : StepCall) (is : List Instance) (l : ℕ) (i : Instance) : Type 0 where
   pub body : Stmts
-  pub has : step-of p (i .struct) name ≡ some body
+  pub has : called p a (i .struct) ≡ some body
   pub place : Tags
   pub way : Way (context p (i .struct) body) (noted (context p (i .struct) body) body) at-start (i .code) place
   -- the living locals are written
@@ -42,15 +43,15 @@ pub record Passage (p : Program) (is : List Instance) (l : ℕ) (i : Instance) :
   pub locals : (x : ℕ) → List·Memᴰ x (i .written)
       → (v : Val) × (lookup (i .env) (first-local + x) ≡ some v) × (Of is (body-local body x int) v)
 
--- an instance that has not begun a step, or stands in one, its end included
-pub data Place (p : Program) (is : List Instance) (l : ℕ) (i : Instance) : Type 0 where
-  resting : i .code ≡ [] → i .stack ≡ [] → Place p is l i
-  passing : Passage p is l i → Place p is l i
+-- an instance that has not begun a step, or stands in one: at its end, or in that of the call that runs
+pub data Place (p : Program) (r : Option StepCall) (is : List Instance) (l : ℕ) (i : Instance) : Type 0 where
+  resting : i .code ≡ [] → i .stack ≡ [] → Place p r is l i
+  passing : {a : StepCall} → Passage p a is l i → (i .code ≡ []) ⊎ (r ≡ some a) → Place p r is l i
 
 -- its parameters and locals fit, and it stands where it may
-pub record GoodInst (p : Program) (is : List Instance) (l : ℕ) (i : Instance) : Type 0 where
+pub record GoodInst (p : Program) (r : Option StepCall) (is : List Instance) (l : ℕ) (i : Instance) : Type 0 where
   pub fitted : Fitted is (params-of p (i .struct)) (i .env)
-  pub place : Place p is l i
+  pub place : Place p r is l i
 
 -- no Fix in a Fix's body has begun
 unfoldable pub Unbegun : Sched → Type 0
@@ -66,26 +67,25 @@ pub data Open : Sched → ℕ → Type 0 where
   open-fix : {k : ℕ} {f s : Sched} → Unbegun f → Open s k → Open (fixpoint f s) k
   open-active : {k : ℕ} {f s : Sched} → Unbegun f → Open s k → Open (active f s) (suc k)
 
--- the schedules that moves leave of one, whatever the stability entries were
-pub data Left (r : Sched) : Sched → Type 0 where
-  whole : Left r r
-  past : {a : StepCall} {s : Sched} → Left r (start a s) → Left r s
-  into : {f s : Sched} → Left r (fixpoint f s) → Left r (before f (active f s))
-  again : {f s : Sched} → Left r (active f s) → Left r (before f (active f s))
-  out : {f s : Sched} → Left r (active f s) → Left r s
+-- a call that runs was started, and the schedule is what stands behind it
+abbrev pub Running : Program → Option StepCall → Sched → Type 0
+Running p none s = Unit {0}
+Running p (some a) s = Started p a s
 
 -- the null instance of each struct is there
 abbrev pub Nulls : Program → List Instance → Type 0
 Nulls p is = (k : ℕ) → k < structs p → (i : Instance) × (getElem? is k ≡ some i) × (i .struct ≡ k)
 
--- of all instances
-pub record GoodAll (p : Program) (is : List Instance) : Type 0 where
+-- of all instances, where the call r runs
+pub record GoodAll (p : Program) (r : Option StepCall) (is : List Instance) : Type 0 where
   pub nulls : Nulls p is
-  pub each : (l : ℕ) (i : Instance) → getElem? is l ≡ some i → GoodInst p is l i
+  pub each : (l : ℕ) (i : Instance) → getElem? is l ≡ some i → GoodInst p r is l i
 
--- of a machine
+-- of a machine; where no call runs, no instance holds commands
 pub record Good (p : Program) (m : Machine) : Type 0 where
-  pub all : GoodAll p (m .instances)
+  pub runs : Option StepCall
+  pub all : GoodAll p runs (m .instances)
+  pub running : Running p runs (m .sched)
   pub opened : Open (m .sched) (length (m .stability))
   -- its schedule is left of the program's
   pub left : Left (of-items (p .schedule)) (m .sched)

@@ -1,6 +1,7 @@
 pub mod Needs
 pub mod Sized
 pub mod Accepted
+pub mod Started
 pub mod Invariant
 pub mod Conditions
 pub mod Tabled
@@ -27,6 +28,7 @@ pub mod BeginGood
 pub mod HolderLaws
 pub mod ConditionLaws
 pub mod NeverStuckLaws
+pub mod StartedLaws
 pub mod TabledLaws
 pub mod TableKept
 pub mod ExhibitTurns

@@ -4,18 +4,22 @@ use native.Mathlib.Omega.{arith}
 use mathlib.Core.Path.{_≡_, refl, ap, _∙_}
 use mathlib.Core.Bool.{Bool, true, false, false≢true}
 use mathlib.Core.Option.{Option, none, some}
+use mathlib.Core.Logic.{_⊎_, inl, inr}
 use mathlib.Core.List.{List, [], _∷_, map, List·Memᴰ·not-nil}
-use lib.ListN.{length}
-use lib.Dec.{ltb, eqb}
+use lib.ListN.{length, getElem?}
+use lib.Dec.{ltb}
 use Rattle.types.specs.Limits.{max-stability}
 use Rattle.program.specs.Tree.{Stmts, Program}
-use Rattle.machine.specs.Published.{StepCall, StepCall.global, StepCall.local, called, Sched, Sched.done, Sched.start, Sched.fixpoint, Sched.active, before, of-items}
+use Rattle.machine.specs.Published.{StepCall, called, Sched, Sched.done, Sched.start, Sched.fixpoint, Sched.active, before, of-items}
 use Rattle.machine.specs.Machine.{Instance, Machine, machine, Out.next, Out.refused, Out.stuck, given, started, repeat, move-by, move}
 use Rattle.machine.specs.Stops.{nested}
+use Rattle.machine.specs.CallLaws.{called-step}
+use Rattle.machine.specs.RepresentsLaws.{Still}
 use Rattle.commands.specs.Tags.{at-start, Way.start as begins}
-use Rattle.sound.specs.Invariant.{Place.passing, GoodInst, GoodAll, Unbegun, Open, Open.open-start, Open.open-fix, Open.open-active, Left, Left.past, Left.into, Left.again, Left.out}
+use Rattle.sound.specs.Invariant.{Place, Place.resting, Place.passing, GoodInst, GoodAll, Unbegun, Open, Open.open-start, Open.open-fix, Open.open-active}
+use Rattle.sound.specs.Started.{Left, Left.past, Left.into, Left.again, Left.out}
 use Rattle.sound.specs.Keeps.{Keeps}
-use Rattle.sound.specs.ElemLaws.{none-some, at-map, map-at}
+use Rattle.sound.specs.ElemLaws.{none-some, at-map, map-at, all-elem}
 use Rattle.sound.specs.GoodLaws.{inst-kept}
 use Rattle.sound.specs.Advance.{Kept}
 use Rattle.sound.specs.Accepted.{Firm}
@@ -53,10 +57,28 @@ open-before (active f r) u o = absurd u
 
 -- Instances ----------------------------------------------------------------------
 
--- each instance changed in a way that keeps its struct and keeps it good
-good-map : (p : Program) (f : Instance → Instance) → ((i : Instance) → f i .struct ≡ i .struct)
-    → ((is : List Instance) (l : ℕ) (i : Instance) → GoodInst p is l i → GoodInst p is l (f i))
-    → (is : List Instance) → GoodAll p is → GoodAll p (map f is)
+module _ (p : Program) (is : List Instance) where
+  -- where no call runs, one may
+  idle-good : {r : Option StepCall} (l : ℕ) (i : Instance) → GoodInst p none is l i → GoodInst p r is l i
+  idle-good {r} l i g = record { fitted = g .fitted; place = go (g .place) }
+    where
+      go : Place p none is l i → Place p r is l i
+      go (resting c χ) = resting c χ
+      go (passing w (inl e)) = passing w (inl e)
+      go (passing w (inr e)) = none-some e
+
+  -- where no instance holds commands, none need run
+  pub still-good : {r : Option StepCall} → Still is → GoodAll p r is → GoodAll p none is
+  still-good {r} t a = record { nulls = a .nulls; each = λ l i e. go l i e (a .each l i e .place) }
+    where
+      go : (l : ℕ) (i : Instance) → getElem? is l ≡ some i → Place p r is l i → GoodInst p none is l i
+      go l i e (resting c χ) = record { fitted = a .each l i e .fitted; place = resting c χ }
+      go l i e (passing w h) = record { fitted = a .each l i e .fitted; place = passing w (inl (all-elem (λ i. i .code ≡ []) is l i t e)) }
+
+-- each instance changed in a way that keeps its struct and keeps it good, under calls that run
+good-map : (p : Program) {r q : Option StepCall} (f : Instance → Instance) → ((i : Instance) → f i .struct ≡ i .struct)
+    → ((is : List Instance) (l : ℕ) (i : Instance) → GoodInst p r is l i → GoodInst p q is l (f i))
+    → (is : List Instance) → GoodAll p r is → GoodAll p q (map f is)
 good-map p f s h is a = record {
   nulls = λ n q. let (i, e, t) = a .nulls n q in (f i, at-map f is n i e, s i ∙ t);
   each = λ l j e.
@@ -66,16 +88,6 @@ good-map p f s h is a = record {
   where
     keeps : Keeps is (map f is)
     keeps = record { at = λ l i e. (f i, at-map f is l i e, s i) }
-
--- what a call starts is a step of the struct
-pub called-step : (p : Program) (a : StepCall) (k : ℕ) {b : Stmts} → called p a k ≡ some b → (n : ℕ) × (step-of p k n ≡ some b)
-unfolding called
-called-step p (global n) k e = (n, e)
-called-step p (local x n) k {b} e = go (eqb k x) e
-  where
-    go : (t : Bool) → elim t [ true ↦ step-of p k n | false ↦ none ] ≡ some b → (n : ℕ) × (step-of p k n ≡ some b)
-    go true e = (n, e)
-    go false e = none-some e
 
 module _ {p : Program} (firm : Firm p) where
   given-struct : (o : Option Stmts) (i : Instance) → given p o i .struct ≡ i .struct
@@ -89,54 +101,60 @@ module _ {p : Program} (firm : Firm p) where
       rw q (firm .secure k n e .0)
 
   -- an instance that begins a step stands at its start
-  given-good : (a : StepCall) (is : List Instance) (l : ℕ) (i : Instance) (o : Option Stmts) → called p a (i .struct) ≡ o → GoodInst p is l i
-      → GoodInst p is l (given p o i)
+  given-good : (a : StepCall) (is : List Instance) (l : ℕ) (i : Instance) (o : Option Stmts) → called p a (i .struct) ≡ o → GoodInst p none is l i
+      → GoodInst p (some a) is l (given p o i)
   unfolding given
-  given-good a is l i none e g = g
+  given-good a is l i none e g = idle-good p is l i g
   given-good a is l i (some b) e g =
       let (n, h) = called-step p a (i .struct) e in
       record {
         fitted = g .fitted;
         place = passing (record {
-          name = n;
           body = b;
-          has = h;
+          has = e;
           place = at-start;
           way = begins;
           kept = begins-kept (i .struct) n h;
           stacked = tt;
           own = λ q. absurd (false≢true q);
           locals = λ x h. absurd (List·Memᴰ·not-nil h);
-        });
+        }) (inr refl);
       }
 
   started-struct : (a : StepCall) (i : Instance) → started p a i .struct ≡ i .struct
   unfolding started
   started-struct a i = given-struct (called p a (i .struct)) i
 
-  started-good : (a : StepCall) (is : List Instance) (l : ℕ) (i : Instance) → GoodInst p is l i → GoodInst p is l (started p a i)
+  started-good : (a : StepCall) (is : List Instance) (l : ℕ) (i : Instance) → GoodInst p none is l i
+      → GoodInst p (some a) is l (started p a i)
   unfolding started
   started-good a is l i g = given-good a is l i (called p a (i .struct)) refl g
 
--- a move keeps the invariant, or is refused with 36
-pub move-kept : {p : Program} → Firm p → (s : Sched) (is : List Instance) (b : List Bool) → GoodAll p is → Open s (length b)
+-- a move where no instance holds commands keeps the invariant, or is refused with 36
+pub move-kept : {p : Program} → Firm p → (s : Sched) (is : List Instance) (b : List Bool) → GoodAll p none is → Open s (length b)
     → Left (of-items (p .schedule)) s
     → (s ≡ done → ⊥)
     → Kept p Blocked (move-by p s is b)
 unfolding move-by repeat
 move-kept firm done is b a o l h = absurd (h refl)
 move-kept {p} firm (start c s) is b a o l h =
-    record { all = good-map p (started p c) (started-struct firm c) (started-good firm c) is a; opened = past-start o; left = past l }
+    record {
+      runs = some c;
+      all = good-map p (started p c) (started-struct firm c) (started-good firm c) is a;
+      running = l;
+      opened = past-start o;
+      left = past l;
+    }
 move-kept {p} firm (fixpoint f s) is b a o l h = go (ltb (length b) max-stability) refl
   where
     go : (t : Bool) → ltb (length b) max-stability ≡ t
         → Kept p Blocked (elim t [ true ↦ next (machine (before f (active f s)) is (true ∷ b)) | false ↦ refused nested ])
-    go true e = let (u, r) = past-fix o in record { all = a; opened = open-before f u (open-active u r); left = into l }
+    go true e = let (u, r) = past-fix o in record { runs = none; all = a; running = tt; opened = open-before f u (open-active u r); left = into l }
     go false e = refl
 move-kept firm (active f s) is [] a o l h = absurd (active-open o refl)
-move-kept firm (active f s) is (true ∷ b) a o l h = record { all = a; opened = past-active o .1; left = out l }
+move-kept firm (active f s) is (true ∷ b) a o l h = record { runs = none; all = a; running = tt; opened = past-active o .1; left = out l }
 move-kept firm (active f s) is (false ∷ b) a o l h =
-    let (u, r) = past-active o in record { all = a; opened = open-before f u (open-active u r); left = again l }
+    let (u, r) = past-active o in record { runs = none; all = a; running = tt; opened = open-before f u (open-active u r); left = again l }
 
 -- no move leads on from an empty schedule
 pub done-stops : (p : Program) (m : Machine) {z : Machine} → m .sched ≡ done → move p m ≡ next z → ⊥

@@ -3,7 +3,7 @@
 use Prim.Native.Nat.{ℕ}
 use mathlib.Core.Path.{_≡_, refl, sym, subst}
 use mathlib.Core.Logic.{_↔_, _⊎_, inl, inr}
-use mathlib.Core.Bool.{false}
+use mathlib.Core.Bool.{true, false}
 use mathlib.Core.Option.{Option, some}
 use mathlib.Core.List.{List}
 use lib.ListN.{drop, getElem?}
@@ -15,6 +15,7 @@ use Rattle.machine.specs.Represents.{Represents}
 use Rattle.machine.specs.Machine.{Instance, Machine, command, move}
 use Rattle.run.specs.Turns.{chosen}
 use Rattle.run.specs.Holders.{holders, due}
+use Rattle.run.specs.TurnLaws.{due-still}
 use Rattle.run.specs.Run.{Outcome, Outcome.stopped, Outcome.jammed, run}
 use Rattle.run.specs.Steps.{Steps.here}
 use Rattle.run.specs.StepsLaws.{steps-keep}
@@ -37,7 +38,7 @@ use Rattle.sound.specs.Conditions.{Condition}
 use Rattle.sound.specs.ConditionLaws.{condition-one, condition-last}
 use Rattle.sound.specs.Advance.{Kept}
 use Rattle.sound.specs.CommandKept.{Refused, command-kept}
-use Rattle.sound.specs.MoveKept.{Blocked, move-kept, done-stops}
+use Rattle.sound.specs.MoveKept.{Blocked, still-good, move-kept, done-stops}
 use Rattle.sound.specs.BeginGood.{begin-good}
 use Rattle.sound.specs.HolderLaws.{chosen-holds}
 use Rattle.sound.specs.NeverStuck.{NeverStuck, Demand3}
@@ -45,9 +46,10 @@ use Rattle.sound.specs.NeverStuck.{NeverStuck, Demand3}
 -- The machines of a run --------------------------------------------------------------
 
 module _ {p : Program} (firm : Firm p) where
-  -- a schedule move keeps the invariant, or is refused with 36
-  moved-kept : {m : Machine} → Good p m → (m .sched ≡ done → ⊥) → Kept p Blocked (move p m)
-  moved-kept {m} g d = move-kept firm (m .sched) (m .instances) (m .stability) (g .all) (g .opened) (g .left) d
+  -- a schedule move that is due keeps the invariant, or is refused with 36
+  moved-kept : {m : Machine} → Good p m → due m ≡ true → (m .sched ≡ done → ⊥) → Kept p Blocked (move p m)
+  moved-kept {m} g h d =
+      move-kept firm (m .sched) (m .instances) (m .stability) (still-good p (m .instances) (due-still m h) (g .all)) (g .opened) (g .left) d
 
   -- the command of the instance that a byte picks keeps it, or is refused with 34 or 35
   taken-kept : {m : Machine} (e : ℕ) → Good p m → due m ≡ false
@@ -58,7 +60,7 @@ module _ {p : Program} (firm : Firm p) where
 
   -- a step of a run keeps it,
   pub acts-good : {m z : Machine} {a : Option ℕ} → Acts p m a z → Good p m → Good p z
-  acts-good {m} (moves h e) g = subst (Kept p Blocked) e (moved-kept g (λ s. done-stops p m s e))
+  acts-good {m} (moves h e) g = subst (Kept p Blocked) e (moved-kept g h (λ s. done-stops p m s e))
   acts-good (takes {e = e} h q) g = let (i, a, k) = taken-kept e g h in subst (Kept p Refused) q k
 
   -- and so every machine that a run from one with the invariant passes through has it
@@ -79,7 +81,7 @@ Ends jammed = ⊥
 module _ {p : Program} (firm : Firm p) where
   -- with the invariant some rule fits,
   never-jams : {m : Machine} {es : List ℕ} → Good p m → Jams p m es → ⊥
-  never-jams g (sticks h d q) = subst (Kept p Blocked) q (moved-kept firm g d)
+  never-jams g (sticks h d q) = subst (Kept p Blocked) q (moved-kept firm g h d)
   never-jams g (jams {e = e} h q) = let (i, a, k) = taken-kept firm e g h in subst (Kept p Refused) q k
 
   -- so the outcome of every run from a machine with the invariant is one

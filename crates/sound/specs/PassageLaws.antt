@@ -1,21 +1,24 @@
 -- What an instance that stands in a step has on its stack, from what its commands ask (01, 'The words of demand 3').
 use Prim.Native.Nat.{ℕ, _+_}
+use native.Mathlib.Omega.{arith}
 use mathlib.Core.Path.{_≡_}
 use mathlib.Core.Bool.{true}
-use mathlib.Core.Option.{some}
+use mathlib.Core.Option.{Option, some}
+use mathlib.Core.Logic.{_⊎_, inl, inr}
 use mathlib.Core.List.{List, [], _∷_, _++_, List·Memᴰ}
 use Rattle.types.specs.Limits.{first-local}
 use Rattle.types.specs.Types.{Ty, Ty.int}
 use Rattle.types.specs.Values.{Val, Val.label}
 use Rattle.program.specs.Tree.{Program}
-use Rattle.commands.specs.Context.{Ctx, body-local, context}
+use Rattle.commands.specs.Context.{Ctx, body-local, context, step-of}
 use Rattle.commands.specs.Noted.{Note, noted, now-written}
 use Rattle.table.specs.Table.{Each}
-use Rattle.machine.specs.Published.{structs, lookup}
+use Rattle.machine.specs.Published.{StepCall, structs, lookup}
+use Rattle.machine.specs.CallLaws.{called-step}
 use Rattle.machine.specs.Machine.{Tagged, Instance}
 use Rattle.commands.specs.Tags.{Tags, tags, Top, Asks, jump, Way, at-start}
 use Rattle.sound.specs.Needs.{Of}
-use Rattle.sound.specs.Invariant.{Fits, Passage}
+use Rattle.sound.specs.Invariant.{Fits, Passage, Place, Place.resting, Place.passing}
 use lib.ListN.{drop}
 use Rattle.commands.specs.Living.{alive, lives, lives-at, beside, Among}
 use Rattle.commands.specs.SecureLaws.{secure-safe, now-more}
@@ -26,7 +29,18 @@ use Rattle.sound.specs.Sized.{Sized}
 use Rattle.sound.specs.SizedLaws.{sized-first, way-sized}
 use Rattle.sound.specs.Accepted.{Firm}
 
-module _ {p : Program} {is : List Instance} {l : ℕ} {i : Instance} (g : Passage p is l i) where
+-- a holder stands in the step of the call that runs
+pub holder-passage : {p : Program} {r : Option StepCall} {is : List Instance} {l : ℕ} {i : Instance} → Place p r is l i → {n : Note} {c : List Note}
+    → i .code ≡ n ∷ c → (a : StepCall) × (r ≡ some a) × (Passage p a is l i)
+holder-passage (resting q χ) e = let z : _≡_ {A = ℕ} 0 1 = cc in absurd (omega arith)
+holder-passage (passing g (inl q)) e = let z : _≡_ {A = ℕ} 0 1 = cc in absurd (omega arith)
+holder-passage (passing {a = a} g (inr q)) e = (a, q, g)
+
+module _ {p : Program} {a : StepCall} {is : List Instance} {l : ℕ} {i : Instance} (g : Passage p a is l i) where
+  -- its step is one of its struct's
+  pub has-step : (n : ℕ) × (step-of p (i .struct) n ≡ some (g .body))
+  has-step = called-step p a (i .struct) (g .has)
+
   -- its step's context
   abbrev pub ctx : Ctx
   ctx = context p (i .struct) (g .body)
@@ -73,11 +87,11 @@ module _ {p : Program} {is : List Instance} {l : ℕ} {i : Instance} (g : Passag
 
     -- which finds what it asks for
     pub asks : Asks ctx n here
-    asks = ready (secure-safe (way-secure (firm .secure (i .struct) (g .name) (g .has) .1) way-at) (rw e at (g .kept)))
+    asks = ready (secure-safe (way-secure (firm .secure (i .struct) (has-step .0) (has-step .1) .1) way-at) (rw e at (g .kept)))
 
     -- on either way behind it the living locals are written
     left : Behind ctx n c (beside (noted ctx (g .body)) (lives (g .body)) (n ∷ c)) (g .place .stack)
-    left = behind (way-secure (firm .secure (i .struct) (g .name) (g .has) .1) way-at)
+    left = behind (way-secure (firm .secure (i .struct) (has-step .0) (has-step .1) .1) way-at)
 
     pub kept-next : Living-on n c
     kept-next x m =
@@ -91,4 +105,4 @@ module _ {p : Program} {is : List Instance} {l : ℕ} {i : Instance} (g : Passag
 
     -- and carries what is in its range
     pub next-sized : Sized (structs p) n
-    next-sized = sized-first (way-sized (firm .sized (i .struct) (g .name) (g .has)) way-at)
+    next-sized = sized-first (way-sized (firm .sized (i .struct) (has-step .0) (has-step .1)) way-at)

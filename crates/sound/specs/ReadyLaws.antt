@@ -3,6 +3,7 @@ use Prim.Native.Nat.{ℕ, _≤_}
 use native.Mathlib.Omega.{arith}
 use mathlib.Core.Path.{_≡_, refl}
 use mathlib.Core.Bool.{true, false}
+use mathlib.Core.Option.{Option}
 use mathlib.Core.List.{List, [], _∷_, reverse, reverse-reverse}
 use lib.ListN.{length}
 use Rattle.types.specs.Types.{Ty.bool, Ty.ref}
@@ -10,16 +11,16 @@ use Rattle.program.specs.Tree.{Program}
 use Rattle.commands.specs.Context.{params-of, typ}
 use Rattle.commands.specs.Noted.{Note, Note.n-push, Note.n-this, Note.n-not, Note.n-rd, Note.n-wr, Note.n-get, Note.n-set, Note.n-cons, Note.n-op, Note.n-if}
 use Rattle.commands.specs.Bounds.{program-depth}
-use Rattle.machine.specs.Published.{Env, Env.env}
+use Rattle.machine.specs.Published.{StepCall, Env, Env.env}
 use Rattle.machine.specs.Machine.{Instance, Machine}
 use Rattle.commands.specs.Tags.{Asks}
 use Rattle.sound.specs.Needs.{Needs, Ready, Typed-params, Right}
 use Rattle.sound.specs.Invariant.{Fits, Fitted, Passage, Place, Place.resting, Place.passing, Good}
 use Rattle.sound.specs.EachLaws.{each-length, each-reverse}
 use Rattle.sound.specs.Accepted.{Firm}
-use Rattle.sound.specs.PassageLaws.{ctx, here, tops, top-one, top-two, own-top, local-value, asks}
+use Rattle.sound.specs.PassageLaws.{has-step, ctx, here, tops, top-one, top-two, own-top, local-value, asks}
 
-module _ {p : Program} (m : Machine) {l : ℕ} {i : Instance} (g : Passage p (m .instances) l i) where
+module _ {p : Program} (m : Machine) {a : StepCall} {l : ℕ} {i : Instance} (g : Passage p a (m .instances) l i) where
   -- what commands ask is what they need
   asked : (n : Note) → Asks (ctx g) n (here g) → Needs p m l i n
   asked (n-push t v) a = tt
@@ -47,26 +48,26 @@ module _ {p : Program} (m : Machine) {l : ℕ} {i : Instance} (g : Passage p (m 
       let (w, q, o) = local-value g v (a .2) in
       (x, y, (χ, e), (f .0, own-top g (a .0) y (x ∷ χ) e), f′, (a .2, w, q, rw (a .1) o))
 
-module _ {p : Program} (firm : Firm p) (m : Machine) (l : ℕ) (i : Instance) where
-  is-ready : Place p (m .instances) l i → (c : List Note) → i .code ≡ c → Ready p m l i c
+module _ {p : Program} (firm : Firm p) (m : Machine) (r : Option StepCall) (l : ℕ) (i : Instance) where
+  is-ready : Place p r (m .instances) l i → (c : List Note) → i .code ≡ c → Ready p m l i c
   is-ready (resting e χ) [] q = tt
   is-ready (resting e χ) (n ∷ c) q = let z : _≡_ {A = ℕ} 0 1 = cc in absurd (omega arith)
-  is-ready (passing g) [] q = tt
-  is-ready (passing g) (n ∷ c) q = asked m g n (asks g firm n c q)
+  is-ready (passing g h) [] q = tt
+  is-ready (passing g h) (n ∷ c) q = asked m g n (asks g firm n c q)
 
   is-typed : (ξ : Env) → Fitted (m .instances) (params-of p (i .struct)) ξ → Typed-params p m l i ξ
   is-typed (env ps ls) f = f .0
 
-  is-low : Place p (m .instances) l i → length (i .stack) ≤ program-depth p
+  is-low : Place p r (m .instances) l i → length (i .stack) ≤ program-depth p
   is-low (resting e χ) = rw χ (omega arith)
-  is-low (passing g) =
+  is-low (passing g h) =
       rw (each-length (Fits (m .instances)) (g .place .stack) (i .stack) (g .stacked))
-      (firm .low (i .struct) (g .name) (g .has) (g .way))
+      (firm .low (i .struct) (has-step g .0) (has-step g .1) (g .way))
 
 -- a machine with the invariant is right, with the depth that the checker reports
 pub good-right : {p : Program} → Firm p → {m : Machine} → Good p m → Right p (program-depth p) m
 good-right firm {m} good = record {
-  ready = λ l i at. is-ready firm m l i (good .all .each l i at .place) (i .code) refl;
-  typed = λ l i at. is-typed firm m l i (i .env) (good .all .each l i at .fitted);
-  low = λ l i at. is-low firm m l i (good .all .each l i at .place);
+  ready = λ l i at. is-ready firm m (good .runs) l i (good .all .each l i at .place) (i .code) refl;
+  typed = λ l i at. is-typed firm m (good .runs) l i (i .env) (good .all .each l i at .fitted);
+  low = λ l i at. is-low firm m (good .runs) l i (good .all .each l i at .place);
 }

@@ -4,7 +4,7 @@ use Prim.Native.Nat.{ℕ, _+_, _-_, _*_, _<_, _≤_}
 use native.Mathlib.Omega.{arith}
 use mathlib.Core.Path.{_≡_, refl, ap, sym, _∙_, subst}
 use mathlib.Core.Bool.{Bool, true, false}
-use mathlib.Core.Option.{none, some}
+use mathlib.Core.Option.{Option, none, some}
 use mathlib.Core.List.{List, map}
 use lib.ListN.{length, getElem?, drop, length-map, length-drop, length-append}
 use lib.Dec.{ltb}
@@ -23,7 +23,7 @@ use Rattle.commands.specs.Context.{params-of}
 use Rattle.table.specs.Table.{Record, enc-table, Each, Held, HeldRecord, HeldTable, struct-at, Refers, RefersRecord, References, TableRight}
 use Rattle.table.specs.Sizes.{table-size}
 use Rattle.table.specs.SizeLaws.{table-length, program-table-fits}
-use Rattle.machine.specs.Published.{Env, Env.env, structs}
+use Rattle.machine.specs.Published.{StepCall, Env, Env.env, structs}
 use Rattle.machine.specs.Machine.{Instance, Machine}
 use Rattle.run.specs.Visits.{Visits}
 use Rattle.run.specs.Begin.{params-in, begin, record-of, table-of}
@@ -34,7 +34,7 @@ use Rattle.run.specs.Entry.{Begun, Begun.begun, Begun.not-begun, begins, output
 use Rattle.run.specs.Input.{TableAccepted}
 use Rattle.run.specs.InputLaws.{begins-ready}
 use Rattle.sound.specs.Needs.{Of}
-use Rattle.sound.specs.Invariant.{Fitted, GoodAll}
+use Rattle.sound.specs.Invariant.{Fitted, GoodAll, Good}
 use Rattle.sound.specs.Accepted.{Accepted}
 use Rattle.sound.specs.AcceptedLaws.{ready-accepted, accepted-firm}
 use Rattle.sound.specs.Tabled.{Tabled}
@@ -49,7 +49,7 @@ use Rattle.sound.specs.TabledLaws.{visits-tabled, begin-tabled}
 fitted-each : (is : List Instance) (ts : List Ty) (ξ : Env) → Fitted is ts ξ → Each (Of is) ts (params-in ξ)
 fitted-each is ts (env ps ls) f = f .0
 
-module _ (p : Program) {is : List Instance} (good : GoodAll p is) (t : Tabled p is) where
+module _ (p : Program) {r : Option StepCall} {is : List Instance} (good : GoodAll p r is) (t : Tabled p is) where
   abbrev rows : List Record
   rows = map record-of (drop (structs p) is)
 
@@ -142,8 +142,8 @@ image-table p a rs right =
 
 module _ {p : Program} (a : Accepted p) (rs : List Record) (right : TableRight (p .params) rs) {es fs : List ℕ} {z : Machine}
     (v : Visits p (begin p rs) es z fs) where
-  all-good : GoodAll p (z .instances)
-  all-good = visits-good (accepted-firm a) (begin-good p (a .0) rs right) v .all
+  last-good : Good p z
+  last-good = visits-good (accepted-firm a) (begin-good p (a .0) rs right) v
 
   all-tabled : Tabled p (z .instances)
   all-tabled = visits-tabled (accepted-firm a) (begin-good p (a .0) rs right) (begin-tabled p rs right) v
@@ -151,7 +151,7 @@ module _ {p : Program} (a : Accepted p) (rs : List Record) (right : TableRight (
   -- every machine of a run on a right table stands at a right table
   pub table-kept : TableRight (p .params) (table-of p z)
   unfolding table-of
-  table-kept = rows-right p all-good all-tabled
+  table-kept = rows-right p (last-good .all) all-tabled
 
   -- whose image fits its blocks and is accepted as that table
   pub table-written : (pieces (length (enc-table (table-of p z))) ≤ table-blocks) × (TableAccepted p (image (enc-table (table-of p z))) (table-of p z))
@@ -161,7 +161,7 @@ module _ {p : Program} (a : Accepted p) (rs : List Record) (right : TableRight (
   pub nulls-kept : (k : ℕ) → k < structs p
       → (i : Instance) × (getElem? (z .instances) k ≡ some i) × (i .struct ≡ k) × (params-in (i .env) ≡ map default (params-of p k))
   nulls-kept k h =
-      let (i, e, s) = all-good .nulls k h in
+      let (i, e, s) = last-good .all .nulls k h in
       (i, e, s, all-tabled .each k i e .1 h ∙ ap (λ j. map default (params-of p j)) s)
 
 -- so is the image of the table that the published rules come to

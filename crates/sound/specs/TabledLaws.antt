@@ -28,12 +28,12 @@ use Rattle.run.specs.Holders.{holders}
 use Rattle.run.specs.StepsLaws.{steps-keep}
 use Rattle.run.specs.Visits.{Acts, Acts.moves, Acts.takes, Visits}
 use Rattle.run.specs.Begin.{params-in, resting, nulls, first-instances, begin}
-use Rattle.sound.specs.Invariant.{Place, Place.resting as rests, Place.passing, Good}
+use Rattle.sound.specs.Invariant.{Place, Good}
 use Rattle.sound.specs.Accepted.{Firm}
 use Rattle.sound.specs.Tabled.{TabledInst, Tabled}
 use Rattle.sound.specs.ElemLaws.{some-is, at-set-same, at-set-other, at-snoc, at-joined, at-below, map-at, all-elem}
 use Rattle.sound.specs.Keeps.{at-env-same, at-env-other}
-use Rattle.sound.specs.PassageLaws.{next-sized}
+use Rattle.sound.specs.PassageLaws.{holder-passage, next-sized}
 use Rattle.sound.specs.WriteKept.{same-env}
 use Rattle.sound.specs.BeginGood.{nulls-length, null-at}
 use Rattle.sound.specs.NeverStuckLaws.{acts-good}
@@ -132,9 +132,8 @@ module _ (p : Program) where
 
 module _ {p : Program} (firm : Firm p) {m : Machine} (good : Good p m) (t : Tabled p (m .instances)) (l : ℕ) where
   -- a holder's cons names a struct of the program
-  cons-below : (i : Instance) {k : ℕ} {r : List Note} → i .code ≡ n-cons k ∷ r → Place p (m .instances) l i → k < structs p
-  cons-below i e (rests q χ) = let z : _≡_ {A = ℕ} 0 1 = cc in absurd (omega arith)
-  cons-below i {k} {r} e (passing g) = next-sized g firm (n-cons k) r e
+  cons-below : (i : Instance) {k : ℕ} {r : List Note} → i .code ≡ n-cons k ∷ r → Place p (good .runs) (m .instances) l i → k < structs p
+  cons-below i {k} {r} e h = let (a, q, g) = holder-passage h e in next-sized g firm (n-cons k) r e
 
   performed-tabled : (i : Instance) (n : Note) (r : List Note) (o : Out) → getElem? (m .instances) l ≡ some i → i .code ≡ n ∷ r
       → Performed p m l (with-written i (now-written n (i .written))) r n o

@@ -4,7 +4,7 @@ use native.Mathlib.Omega.{arith}
 use native.Mathlib.Decide.{ℕ-discrete}
 use mathlib.Core.Path.{_≡_, refl, ap, sym, _∙_}
 use mathlib.Core.Bool.{Bool, true, false, false≢true}
-use mathlib.Core.Option.{some}
+use mathlib.Core.Option.{Option, some}
 use mathlib.Core.Logic.{_⊎_, inl, inr}
 use mathlib.Core.List.{List, List·Memᴰ, List·Memᴰ·cases-cons}
 use lib.ListN.{length, getD, getElem?, set}
@@ -15,7 +15,7 @@ use Rattle.program.specs.Tree.{Program}
 use Rattle.commands.specs.Context.{body-local, params-of}
 use Rattle.commands.specs.Noted.{Note, Note.n-set, noted, now-written}
 use Rattle.table.specs.Table.{Each}
-use Rattle.machine.specs.Published.{Env, lookup, assign}
+use Rattle.machine.specs.Published.{StepCall, Env, lookup, assign}
 use Rattle.machine.specs.Machine.{Tagged, Instance, Machine, with-env, with-instances, with-stability, put, update-env}
 use Rattle.machine.specs.Rules.{meet}
 use Rattle.commands.specs.Tags.{stack-after, next as leads, at-start, Way}
@@ -34,9 +34,10 @@ use Rattle.sound.specs.Advance.{after, advance}
 param-written : (p : Program) → Firm p → (is : List Instance) (r : ℕ) (j : Instance) (k : ℕ) (ξ : Env) → j .struct ≡ k → j .env ≡ ξ
     → (v : ℕ) (x : Val) → v < length (params-of p k)
     → Of is (getD (params-of p k) v int) x
-    → GoodInst p is r j
-    → GoodInst p is r (with-env j (assign ξ v x))
-param-written p firm is r j k ξ s e v x h o g =
+    → {c : Option StepCall}
+    → GoodInst p c is r j
+    → GoodInst p c is r (with-env j (assign ξ v x))
+param-written p firm is r j k ξ s e v x h o {c} g =
     let few = firm .few (j .struct) in
     let h′ : v < length (params-of p (j .struct)) = rw s h in
     record {
@@ -44,11 +45,10 @@ param-written p firm is r j k ξ s e v x h o g =
       place = go (omega arith) (g .place);
     }
   where
-    go : v < first-local → Place p is r j → Place p is r (with-env j (assign ξ v x))
+    go : v < first-local → Place p c is r j → Place p c is r (with-env j (assign ξ v x))
     go b (resting c χ) = resting c χ
-    go b (passing w) =
+    go b (passing w q) =
         passing (record {
-          name = w .name;
           body = w .body;
           has = w .has;
           place = w .place;
@@ -57,7 +57,7 @@ param-written p firm is r j k ξ s e v x h o g =
           stacked = w .stacked;
           own = w .own;
           locals = λ y m. let (u, q, t) = w .locals y m in (u, other-kept ξ v y x b ∙ ap (λ η. lookup η (first-local + y)) (sym e) ∙ q, t);
-        })
+        }) q
 
 -- the instance at a place, after another was put back with its struct and environment
 pub same-env : (is : List Instance) (l r : ℕ) (i j a : Instance) → getElem? is l ≡ some i → getElem? is r ≡ some j → a .struct ≡ i .struct → a .env ≡ i .env
@@ -101,14 +101,16 @@ module _ {p : Program} (firm : Firm p) (m : Machine) (l : ℕ) (i : Instance) (a
       let js = set (m .instances) l a in
       let k = keeps-set (m .instances) l i a at s in
       record {
+        runs = good .runs;
         all =
             good-env p js r j′ (assign (j .env) v x) q (good .all)
             (param-written p firm js r j′ (j .struct) (j .env) w z v x h (of-kept k (getD (params-of p (j .struct)) v int) x o) (good .all .each r j′ q));
+        running = good .running;
         opened = rw (meet-length t (m .stability)) (good .opened);
         left = good .left;
       }
 
-  module _ (good : Good p m) (g : Passage p (m .instances) l i) (d : Bool) (t : Ty) (y : ℕ) (small : y < max-locals) (same : t ≡ body-local (g .body) y int) where
+  module _ (good : Good p m) {a : StepCall} (runs : good .runs ≡ some a) (g : Passage p a (m .instances) l i) (d : Bool) (t : Ty) (y : ℕ) (small : y < max-locals) (same : t ≡ body-local (g .body) y int) where
     -- a local of the actor
     pub local-kept-good : (c : List Note) → Way (ctx g) (noted (ctx g) (g .body)) at-start c (leads (ctx g) (n-set d t y) (g .place))
         → Living-on g (n-set d t y) c
@@ -126,6 +128,7 @@ module _ {p : Program} (firm : Firm p) (m : Machine) (l : ℕ) (i : Instance) (a
         let k = keeps-set (m .instances) l i a at refl in
         let fits = good .all .each l i at .fitted in
         record {
+          runs = good .runs;
           all =
               rw (env-set (m .instances) l ξ (after i (n-set d t y) c χ (i .env)))
               (good-set p (m .instances) l i a at refl (good .all)
@@ -134,8 +137,9 @@ module _ {p : Program} (firm : Firm p) (m : Machine) (l : ℕ) (i : Instance) (a
                 place = passing (advance g (n-set d t y) w sf js ts q χ (each-map (fits-kept k) ts χ f) (λ q. absurd (false≢true q)) ξ
                     (λ z h.
                     locals-after k (params-of p (i .struct)) (i .env) fits (λ z. body-local (g .body) z int) y small x (rw same at o) (i .written)
-                    (g .locals) z (ℕ-discrete z y) (is-written d t y (i .written) z h)));
+                    (g .locals) z (ℕ-discrete z y) (is-written d t y (i .written) z h))) (inr runs);
               }));
+          running = good .running;
           opened = rw (meet-length b (m .stability)) (good .opened);
           left = good .left;
         }

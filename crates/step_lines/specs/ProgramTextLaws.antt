@@ -8,8 +8,8 @@ use lib.Seq.{take-at}
 use Rattle.program.specs.Tree.{Program}
 use Rattle.program.specs.Reader.{Result.ok, read-params, read}
 use Rattle.commands.specs.Bounds.{arities}
-use Rattle.read_schedule.specs.declared.params.ParamsRead.the-variants.{Value, Refused}
-use Rattle.read_schedule.specs.ParamsTold.{params-told, ParamsKept}
+use Rattle.read_params.specs.declared.ParamsRead.the-variants.{Value, Refused}
+use Rattle.read_params.specs.ParamsTold.{params-told, ParamsKept}
 use Rattle.emit.specs.Written.{Good, code-of}
 use Rattle.emit.specs.ProgramWords.{structs-words, program-words, structs-at}
 use Rattle.emit.specs.ReadLaws.{value}

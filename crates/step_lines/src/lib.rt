@@ -1,8 +1,7 @@
 // The lines of a program's steps: the stream gives each step's struct, name and size, the list its commands (01, 'Bench rows').
 // The stream was read before, so that its readers find a value.
 use judge::Scope;
-use read_schedule::params;
-use read_schedule::params::ParamsRead;
+use read_params::ParamsRead;
 use read_stmts::StmtRead;
 use read_stmts::stmt;
 use text::lines::line;
@@ -175,7 +174,7 @@ pub fn program(s: &[u8], list: &[u64], out: &mut [u8], k: usize) -> usize
 {
     let mut counts = [0u8; types::MAX_STRUCTS];
     let mut types = [0u8; types::MAX_STRUCTS * types::MAX_PARAMS];
-    let ParamsRead::Value(at, n) = params::params(s, &mut counts, &mut types) else {
+    let ParamsRead::Value(at, n) = read_params::params(s, &mut counts, &mut types) else {
         return k;
     };
     let count = n as usize;

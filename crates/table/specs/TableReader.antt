@@ -6,6 +6,7 @@ use mathlib.Core.List.{List, [], _∷_}
 use lib.ListN.{length, getD}
 use lib.Dec.{ltb, leb, eqb}
 use Rattle.types.specs.Limits.{max-instances}
+pub use Rattle.types.specs.Numbers.{table-end, table-value}
 use Rattle.types.specs.Types.{Ty, Ty.int, Ty.nat, Ty.bool, Ty.ref}
 use Rattle.types.specs.TypeBytes.{word-end}
 use Rattle.types.specs.Values.{Val, Val.int-val, Val.nat-val, Val.bool-val, Val.label, value-of}
@@ -70,13 +71,6 @@ references pss rs (q ∷ qs) = refers-each pss rs (getD pss (q .struct) []) (q .
 pub data TableAnswer : Type 0 where
   table : List Record → TableAnswer
   no-table : ℕ → TableAnswer
-
--- the stream ends early or goes on after its end; N, struct byte or value not allowed
-abbrev pub table-end : ℕ
-table-end = 11
-
-abbrev pub table-value : ℕ
-table-value = 12
 
 unfoldable pub table-number : ℕ → ℕ
 table-number n = elim (eqb n wrong-end) [ true ↦ table-end | false ↦ table-value ]

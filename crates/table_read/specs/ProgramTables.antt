@@ -12,7 +12,7 @@ use Rattle.program.specs.Counts.{All}
 use Rattle.table.specs.SizeLaws.{few-params}
 use Rattle.judge.specs.ProgramFacts.{types-table}
 use Rattle.judge.specs.ProgramTableLaws.{types-at}
-use Rattle.read_schedule.specs.ParamsWays.{table-length}
+use Rattle.read_params.specs.ParamsWays.{table-length}
 use Rattle.table_read.specs.Params.{types-from, lists-of, Tables}
 use Rattle.table_read.specs.ParamsLaws.{lists-length, list-is}
 

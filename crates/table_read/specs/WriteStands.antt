@@ -4,7 +4,7 @@ use Prim.Native.Nat.{ℕ, suc, _+_, _-_, _*_, _<_, _≤_}
 use native.Mathlib.Omega.{arith}
 use native.Mathlib.Nat.{add-zero}
 use mathlib.Core.Path.{_≡_, refl, ap, sym, _∙_}
-use mathlib.Core.Option.{some}
+use mathlib.Core.Option.{Option, some}
 use mathlib.Core.List.{List, [], _∷_, _++_, map}
 use lib.ListN.{length, getD, getElem?, drop, length-map, length-drop, List·getD-map}
 use Rattle.types.specs.Limits.{max-params}
@@ -16,7 +16,7 @@ use Rattle.program.specs.Counts.{Counts}
 use Rattle.commands.specs.Context.{params-of}
 use Rattle.table.specs.Table.{value-bytes, count-bytes, enc-value, enc-record, enc-table}
 use Rattle.table.specs.SizeLaws.{each-length, few-params}
-use Rattle.machine.specs.Published.{Sched, Env, Env.env, lookup, structs}
+use Rattle.machine.specs.Published.{StepCall, Sched, Env, Env.env, lookup, structs}
 use Rattle.machine.specs.Machine.{Instance, Machine}
 use Rattle.run.specs.Begin.{params-in, record-of, table-of}
 use Rattle.run.specs.Run.{Outcome.stopped}
@@ -67,7 +67,7 @@ module _ (cs h c : List ℕ) where
       (rows-are (suc l) is λ j k e. let w : l + suc j ≡ suc l + j = omega arith in rw w at (f (suc j) k e)))
 
 module _ (p : Program) (counts : Counts p) (list : List ℕ) (P : ℕ → Sched → Type 0) (m : Machine) (z : State) (st : Stands list P m z)
-    (good : GoodAll p (m .instances)) (tabled : Tabled p (m .instances)) where
+    {r : Option StepCall} (good : GoodAll p r (m .instances)) (tabled : Tabled p (m .instances)) where
   abbrev cs : List ℕ
   cs = map length (p .params)
 

@@ -14,7 +14,7 @@ use Rattle.blocks.specs.WriteWays.{write-done}
 use Rattle.blocks.specs.declared.Written.{Written as Answer}
 use Rattle.blocks.specs.declared.Written.the-variants.{Blocks}
 use Rattle.program.specs.Encoding.{enc-word}
-use Rattle.read_schedule.specs.ParamsWays.{from-start}
+use Rattle.read_params.specs.ParamsWays.{from-start}
 use Rattle.emit.specs.WrittenLaws.{sets-append}
 use Rattle.memory.specs.Layout.{row-size, operand}
 use Rattle.table_read.specs.Refer.{struct-in}

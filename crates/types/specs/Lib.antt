@@ -1,5 +1,6 @@
 pub mod Decides
 pub mod Limits
+pub mod Numbers
 pub mod Types
 pub mod TypeBytes
 pub mod TypeLaws

@@ -1,4 +1,6 @@
 // Types and limits (01): every number that 01 sets a bound by as a constant, the bytes of types, and functions of a type, which is named by its byte.
+pub mod number;
+
 ghost use mathlib.Core.Path.{_≡_};
 ghost use Rattle.types.specs.Types.{type-of};
 ghost use Rattle.types.specs.TypeBytes.{is-type, is-ref, struct-of};

@@ -29,9 +29,9 @@ use Rattle.read_exprs.proofs.expr.over.Reads as over
 use Rattle.read_exprs.proofs.leaf.leaf.Reads as leaf
 use Rattle.read_exprs.proofs.read.byte_refusal.Reads as byte-refusal
 use Rattle.read_exprs.proofs.read.ranged.Reads as ranged
-use Rattle.judge.proofs.expression.no_args.Reads as no-args
-use Rattle.judge.proofs.path.look.Reads as look
-use Rattle.judge.proofs.path.type_at.Reads as type-at
+use Rattle.judging.proofs.expression.no_args.Reads as no-args
+use Rattle.judging.proofs.path.look.Reads as look
+use Rattle.judging.proofs.path.type_at.Reads as type-at
 use Rattle.read_exprs.proofs.expr.+args+construct+expr.{statement}
 use Rattle.read_exprs.proofs.expr.+args+construct+expr.Tie.{close}
 

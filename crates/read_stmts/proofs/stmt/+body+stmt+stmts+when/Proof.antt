@@ -28,8 +28,8 @@ use Rattle.read_exprs.proofs.expr.expr.Reads as expr
 use Rattle.read_exprs.proofs.read.byte_refusal.Reads as byte-refusal
 use Rattle.read_exprs.proofs.read.expr_refusal.Reads as expr-refusal
 use Rattle.read_exprs.proofs.read.ranged.Reads as ranged
-use Rattle.judge.proofs.statement.nothing.Reads as nothing
-use Rattle.judge.proofs.statement.followed.Reads as followed
+use Rattle.judging.proofs.statement.nothing.Reads as nothing
+use Rattle.judging.proofs.statement.followed.Reads as followed
 use Rattle.read_stmts.proofs.made.branched.Reads as branched
 use Rattle.read_stmts.proofs.simple.simple.Reads as simple
 use Rattle.read_stmts.proofs.stmt.+body+stmt+stmts+when.{statement}

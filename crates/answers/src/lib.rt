@@ -1,0 +1,1 @@
+// What readers answer, and the laws of things read in a row, stand in specs/.

@@ -1,0 +1,104 @@
+// Files that arguments name and the standard streams, read whole into a buffer and written from one. What cannot be done is told on standard error.
+use libc::STDERR_FILENO;
+use libc::STDIN_FILENO;
+use libc::STDOUT_FILENO;
+ghost use Rattle.io.specs.Counts.{Counts};
+
+// Whether all was read, and how many bytes of it stand in the buffer. Where it was not, why was told.
+pub struct Loaded {
+    pub done: bool,
+    pub len: usize,
+}
+
+// What is left to read of an open file: as many bytes as the buffer has places for. A read that failed is told from the end by asking once more.
+fn read(fd: i32, buf: &mut [u8], what: &[u8]) -> Loaded
+    ensures { λ r. ⌜ Counts (r .len) (now (buf .exit)) ⌝ }
+{
+    let got = io::read_full(fd, buf);
+    let mut more = [0u8; 1];
+    let last = libc::read(fd, &mut more);
+    if last < 0 {
+        os::fail(what);
+        return Loaded {
+            done: false,
+            len: got,
+        };
+    }
+    Loaded {
+        done: true,
+        len: got,
+    }
+}
+
+// Standard input.
+pub fn input(buf: &mut [u8]) -> Loaded
+    ensures { λ r. ⌜ Counts (r .len) (now (buf .exit)) ⌝ }
+{
+    read(STDIN_FILENO, buf, b"standard input")
+}
+
+// The bytes of the file that argument i names.
+pub fn load(i: usize, buf: &mut [u8]) -> Loaded
+    ensures { λ r. ⌜ Counts (r .len) (now (buf .exit)) ⌝ }
+{
+    let mut name = io::buffer();
+    let n = os::arg(i, &mut name);
+    if os::errno() != 0 {
+        os::fail(b"an argument");
+        return Loaded {
+            done: false,
+            len: io::count(0, buf),
+        };
+    }
+    let fd = os::open_read(&name[..n]);
+    if fd < 0 {
+        os::fail(&name[..n]);
+        return Loaded {
+            done: false,
+            len: io::count(0, buf),
+        };
+    }
+    let r = read(fd, buf, &name[..n]);
+    libc::close(fd);
+    r
+}
+
+// All bytes to standard output; whether that was done.
+pub fn output(bytes: &[u8]) -> bool {
+    let done = io::write_all(STDOUT_FILENO, bytes);
+    if !done {
+        os::fail(b"standard output");
+    }
+    done
+}
+
+// A text to standard error.
+pub fn tell(text: &[u8]) {
+    io::write_all(STDERR_FILENO, text);
+}
+
+// A number to standard error.
+pub fn tell_number(n: u64) {
+    io::print_decimal(STDERR_FILENO, n);
+}
+
+// All bytes to the file that argument i names; whether that was done.
+pub fn store(i: usize, bytes: &[u8]) -> bool {
+    let mut name = io::buffer();
+    let k = os::arg(i, &mut name);
+    if os::errno() != 0 {
+        os::fail(b"an argument");
+        return false;
+    }
+    let fd = os::open_overwrite(&name[..k]);
+    if fd < 0 {
+        os::fail(&name[..k]);
+        return false;
+    }
+    let done = io::write_all(fd, bytes);
+    if !done {
+        os::fail(&name[..k]);
+    }
+    libc::close(fd);
+    done
+}

@@ -1,0 +1,2 @@
+pub mod CodeOps
+pub mod CodeDigits

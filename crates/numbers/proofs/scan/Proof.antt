@@ -1,0 +1,128 @@
+-- `numbers::scan` meets its contract. The loop's invariant: the bytes left lead to the answer and the words of the whole. The measure is what is left.
+use Prim.Native.Nat.{ℕ, _+_, _-_}
+use mathlib.Core.Path.{_≡_, _∙_, sym, refl}
+use native.Mathlib.Omega.{arith}
+use borrow.Author.Needs.{needs}
+use lib.ListN.{length}
+use Rattle.numbers.specs.Scan.{go-on}
+use Rattle.numbers.specs.ScanLaws.{Reached, reached-end, reached-next, reached-stop}
+use Rattle.numbers.proofs.scan.Statement.{statement}
+use Rattle.numbers.proofs.scan.Tie as tie
+
+abbrev Inv-loop : tie.InvT-loop
+Inv-loop text out₀ s₀ n₀ i₀ out s n i = Reached text out₀ out s n i
+
+abbrev μ-loop : tie.MeasureT-loop
+μ-loop text out₀ s₀ n₀ i₀ out s n i = length text + 1 - i
+
+-- the places that proofs look back to: the call of `turned`, and the loop's own
+abbrev at-turned : tie.After-slice-known2 Inv-loop μ-loop → tie.After-turned Inv-loop μ-loop
+at-turned c = c .before .before
+
+abbrev at-loop : tie.After-turned Inv-loop μ-loop → tie.At-loop Inv-loop μ-loop
+at-loop c = c .before .before .before .before .before
+
+loop-holds : tie.Need-loop-holds Inv-loop μ-loop
+loop-holds c = record { within = omega arith; kept = refl; answer = refl; written = refl }
+
+byte-at-requires : tie.Need-byte-at-requires Inv-loop μ-loop
+byte-at-requires c κs = search needs
+
+char-of-requires : tie.Need-char-of-requires Inv-loop μ-loop
+char-of-requires c κs = search needs
+
+turned-requires : tie.Need-turned-requires Inv-loop μ-loop
+turned-requires c κs = search needs
+
+enum-known-t : tie.Need-enum-known-t Inv-loop μ-loop
+enum-known-t c = search needs
+
+add-i : tie.Need-add-i Inv-loop μ-loop
+add-i c = omega arith
+
+loop-less : tie.Need-loop-less Inv-loop μ-loop
+loop-less c = omega arith
+
+loop-again : tie.Need-loop-again Inv-loop μ-loop
+loop-again c =
+    let told = c .before in let at = at-turned (told .before .before) in let in-char = at .before .before in
+    reached-next (at-loop at .loop .inv) (in-char .before .before .loop-test .taken)
+    (in-char .before .byte-at .ensures (in-char .before .before .loop-test .taken)) (in-char .char-of .ensures)
+    (sym (told .t .given .1) ∙ at .turned .ensures .0) (at .turned .ensures .1) (at .turned .kept .1 .1 .1 .0)
+
+enum-told : tie.Need-enum-told Inv-loop μ-loop
+enum-told c = search needs
+
+same-length : tie.Need-same-length Inv-loop μ-loop
+same-length c = search needs
+
+returns : tie.Need-returns Inv-loop μ-loop
+unfolding go-on
+returns c =
+    let at = at-turned (c .before .before) in let in-char = at .before .before in
+    let e = sym (c .enum-told .given .1) ∙ at .turned .ensures .0 in
+    reached-stop (at-loop at .loop .inv) (in-char .before .before .loop-test .taken)
+    (in-char .before .byte-at .ensures (in-char .before .before .loop-test .taken)) (in-char .char-of .ensures)
+    (λ u m f. let z : _≡_ {A = ℕ} 0 1 = cc in omega arith) (λ rest. rw (← e)) (at .turned .ensures .1)
+
+enum-told-2 : tie.Need-enum-told-2 Inv-loop μ-loop
+enum-told-2 c = search needs
+
+same-length-2 : tie.Need-same-length-2 Inv-loop μ-loop
+same-length-2 c = search needs
+
+returns-2 : tie.Need-returns-2 Inv-loop μ-loop
+unfolding go-on
+returns-2 c =
+    let at = at-turned (c .before .before) in let in-char = at .before .before in
+    let e = sym (c .enum-told2 .given .1) ∙ at .turned .ensures .0 in
+    reached-stop (at-loop at .loop .inv) (in-char .before .before .loop-test .taken)
+    (in-char .before .byte-at .ensures (in-char .before .before .loop-test .taken)) (in-char .char-of .ensures)
+    (λ u m f. let z : _≡_ {A = ℕ} 0 1 = cc in omega arith) (λ rest. rw (← e)) (at .turned .ensures .1)
+
+enum-told-3 : tie.Need-enum-told-3 Inv-loop μ-loop
+enum-told-3 c = search needs
+
+same-length-3 : tie.Need-same-length-3 Inv-loop μ-loop
+same-length-3 c = search needs
+
+returns-3 : tie.Need-returns-3 Inv-loop μ-loop
+unfolding go-on
+returns-3 c =
+    let at = at-turned (c .before .before) in let in-char = at .before .before in
+    let e = sym (c .enum-told3 .given .1) ∙ at .turned .ensures .0 in
+    reached-stop (at-loop at .loop .inv) (in-char .before .before .loop-test .taken)
+    (in-char .before .byte-at .ensures (in-char .before .before .loop-test .taken)) (in-char .char-of .ensures)
+    (λ u m f. let z : _≡_ {A = ℕ} 0 1 = cc in omega arith) (λ rest. rw (← e)) (at .turned .ensures .1)
+
+same-length-4 : tie.Need-same-length-4 Inv-loop μ-loop
+same-length-4 c = search needs
+
+returns-4 : tie.Need-returns-4 Inv-loop μ-loop
+returns-4 c = reached-end (c .before .loop .inv) (c .loop-test .left)
+
+pub scan-spec : {M : Type 1} → statement M
+scan-spec =
+    tie.close
+    (tie.spec
+    Inv-loop
+    μ-loop
+    loop-holds
+    byte-at-requires
+    char-of-requires
+    turned-requires
+    enum-known-t
+    add-i
+    loop-less
+    loop-again
+    enum-told
+    same-length
+    returns
+    enum-told-2
+    same-length-2
+    returns-2
+    enum-told-3
+    same-length-3
+    returns-3
+    same-length-4
+    returns-4)

@@ -1,0 +1,2 @@
+pub mod ParamsTold
+pub mod ParamsWays

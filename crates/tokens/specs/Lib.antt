@@ -1,0 +1,9 @@
+pub mod Tokens
+pub mod Lexing
+pub mod Scanning
+pub mod ByteLaws
+pub mod NamedLaws
+pub mod FrontLaws
+pub mod CoverLaws
+pub mod LexingLaws
+pub mod Rows

@@ -1,0 +1,1 @@
+// The tokens of program text: definitions and laws stand in specs/.
