@@ -88,7 +88,7 @@ quotient-unique a b q h t =
 -- The remainder ----------------------------------------------------------------------
 
 -- a is b times the quotient and the remainder
-pub remainder-completes : (a b : ℤ) → b *ℤ quotient a b +ℤ remainder a b ≡ a
+remainder-completes : (a b : ℤ) → b *ℤ quotient a b +ℤ remainder a b ≡ a
 unfolding remainder
 remainder-completes a b = +ℤ-comm (b *ℤ quotient a b) (a -ℤ b *ℤ quotient a b) ∙ -ℤ-+ℤ-cancel a (b *ℤ quotient a b)
 
