@@ -5,7 +5,6 @@ pub mod Laid
 pub mod LaidLaws
 pub mod Spans
 pub mod SpansLaws
-pub mod NoteLaws
 pub mod Prepared
 pub mod PreparedLaws
 pub mod Rows

@@ -1,21 +1,30 @@
 -- An accepted program may be prepared (01, 'Table and turns'): each part of the walk has what it needs, and together they prepare a run.
-use Prim.Native.Nat.{ℕ, suc, _*_, _≤_}
+use Prim.Native.Nat.{ℕ, suc, _+_, _*_, _≤_}
 use native.Mathlib.Omega.{arith}
 use mathlib.Core.Path.{_≡_, refl, sym, _∙_}
 use mathlib.Core.List.{List}
 use lib.ListN.{length, length-map}
+use lib.Seq.{sets-eq}
 use Rattle.types.specs.Limits.{max-structs, max-commands, schedule-items}
 use Rattle.program.specs.Tree.{Program}
-use Rattle.program.specs.Counts.{Counts}
+use Rattle.program.specs.Counts.{All, Counts}
 use Rattle.program.specs.Reader.{Result.ok, read}
 use Rattle.program.specs.ProgramLaws.{program-law}
 use Rattle.commands.specs.Bounds.{arities, Within}
-use Rattle.emit.specs.declared.Put.{Put}
-use Rattle.emit.specs.Written.{next-of, Ready, Wrote}
-use Rattle.emit.specs.ProgramWords.{structs-words, structs-at, WroteProgram}
-use Rattle.emit.specs.ProgramLaws.{whole-program, program-steps, program-ready}
+use Rattle.directory.specs.Directory.{structs-rows, directory}
+use Rattle.directory.specs.Rows.{row-places, directory-places, rows-from}
+use Rattle.directory.specs.DirectoryLaws.{directory-few, RowInRange, directory-ranged}
+use Rattle.directory.specs.FindLaws.{directory-marks}
+use Rattle.emit.specs.Written.{Ready}
+use Rattle.emit.specs.ProgramWords.{step-words, structs-words, program-words, structs-at}
+use Rattle.emit.specs.ProgramLaws.{program-length, whole-program, program-steps}
+use Rattle.emit_steps.specs.declared.Place.{Place}
+use Rattle.emit_steps.specs.Emitted.{from-place, stand, Fits, Emitted, EmittedProgram}
+use Rattle.emit_steps.specs.ProgramLaws.{program-fits}
+use Rattle.memory.specs.Plan.{Located}
 use Rattle.compile.specs.Codes.{schedule-codes, schedule-at}
-use Rattle.compile.specs.Spans.{span-places, LocatedProgram}
+use Rattle.compile.specs.Spans.{span-places, spans-of}
+use Rattle.compile.specs.SpansLaws.{spans-located}
 use Rattle.compile.specs.Laid.{Behind, LaidProgram}
 use Rattle.compile.specs.LaidLaws.{schedule-ready}
 use Rattle.compile.specs.Prepared.{Preparable, PreparedProgram}
@@ -29,42 +38,53 @@ module _ {s ar : List ℕ} {at : ℕ} {list spans codes : List ℕ} (h : Prepara
       rw (h .counts, length-map (h .program .params) length) c
 
   -- the steps may be walked
-  pub steps-ready : Ready structs-words (structs-at ar s (length ar) at) list 0
+  pub steps-fit : (rows : List ℕ) → directory-places ≤ length rows
+      → Fits structs-words (structs-rows 0) (structs-at ar s (length ar) at) (stand (from-place at) list rows)
   unfolding Within
-  steps-ready =
-      let w = h .within .1 in
-      let r = h .list-long in
-      let d = program-ready s (h .program) (h .end) (h .reads) w ar (h .counts) list (omega arith) in
-      let z : ok (h .program .params) (d .0) ≡ ok (h .program .params) at = sym (d .1) ∙ h .params in
-      let e : d .0 ≡ at = cc in
-      rw e at (d .2)
+  steps-fit rows wide =
+      program-fits ar s at (h .program) (h .end) (h .reads) (h .counts) (h .params) list rows (h .within .1) (omega (arith, h .within .1, h .list-long)) wide
 
-  module _ {q : Put} {list' : List ℕ} (w : Wrote structs-words (structs-at ar s (length ar) at) list 0 q list') where
+  module _ {q : Place} {list' rows' : List ℕ} (w : EmittedProgram ar s at list q list' rows') where
+    emitted : Emitted ar s at (h .program) list q list' rows'
+    emitted = w (h .program) (h .end) (h .reads) (h .counts) (h .params)
+
+    counts : Counts (h .program)
+    counts = program-law s (h .program) (h .end) .0 (h .reads) .0
+
+    -- their rows are few and in range
+    pub rows-few : row-places * q .rows ≤ directory-places
+    rows-few = omega (arith, emitted .count, directory-few (h .program) counts)
+
+    pub rows-ranged : All RowInRange (rows-from rows' 0 (q .rows))
+    rows-ranged = rw (emitted .rows) (directory-ranged (h .program) counts)
+
     -- behind them stands the schedule
     behind : Behind s (h .program) (q .next)
-    unfolding next-of
-    behind =
-        let t = program-steps s 0 (h .program) (h .end) (whole-program s (h .program) (h .end) (h .reads)) in
-        let z : ok (h .program .params) (t .behind) ≡ ok (h .program .params) at = sym (t .params) ∙ h .params in
-        let e : t .behind ≡ at = cc in
-        let u = rw e at (t .steps) in
-        let n : q .next ≡ t .last = rw (h .counts, u) at (w .next) in
-        record { first = at; params = h .params; steps = rw n u }
+    behind = record { first = at; params = h .params; steps = rw (h .counts) at (emitted .next) }
 
     pub codes-ready : Ready schedule-codes (schedule-at s (q .next)) codes 0
     codes-ready = schedule-ready s (h .program) (h .end) (q .next) (h .reads) behind (h .within) codes (h .codes-long)
 
+    -- and they are located
+    located : {spans' : List ℕ} → spans' ≡ spans-of (rows-from rows' 0 (q .rows)) (length ar) spans → Located (h .program) list' spans'
+    unfolding Within program-words step-words
+    located e k n i j =
+        let p = h .program in
+        let size = program-length p in
+        let room : 0 + length (program-words p) ≤ length list = omega (arith, h .within .1, h .list-long) in
+        let is = emitted .words ∙ sets-eq (program-words p) list 0 room in
+        let few : length ar ≡ length (p .params) = rw (h .counts) (length-map (p .params) length) in
+        rw (e, emitted .rows)
+        (spans-located (directory p) (length ar) list' spans p (directory-ranged p counts) (h .spans-long) structs-few (directory-marks p list' _ is) k n
+        (omega arith) j)
+
     -- all is prepared
-    pub prepared : {spans' codes' : List ℕ} → WroteProgram ar s at list q list' → LocatedProgram ar s at list' spans'
+    pub prepared : {spans' codes' : List ℕ} → spans' ≡ spans-of (rows-from rows' 0 (q .rows)) (length ar) spans
         → LaidProgram s (q .next) codes codes' → PreparedProgram s list list' spans' codes codes'
-    prepared {spans'} {codes'} a b c p m e =
+    prepared b c p m e =
         let z : ok p m ≡ ok (h .program) (h .end) = sym e ∙ h .reads in
         let x : p ≡ h .program = cc in
-        rw x (record {
-          words = a (h .program) (h .end) (h .reads) (h .counts) (h .params) .0;
-          located = b (h .program) (h .end) (h .reads) (h .counts) (h .params);
-          laid = c (h .program) (h .end) (h .reads) behind;
-        })
+        rw x (record { words = emitted .words; located = located b; laid = c (h .program) (h .end) (h .reads) behind })
 
 -- every program within the limits may be prepared, where there is room
 pub preparable : (s : List ℕ) (p : Program) (m : ℕ) → read s ≡ ok p m → Within p → (list spans codes : List ℕ) → max-commands ≤ length list

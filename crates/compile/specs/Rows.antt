@@ -3,17 +3,14 @@
 use Prim.Native.Nat.{ℕ}
 use mathlib.Core.Path.{_≡_, refl}
 use mathlib.Core.List.{List, [], _∷_, _++_}
-use lib.ListN.{length, getD, take, drop, replicate}
-use Rattle.program.specs.Encoding.{var-code, op-code, flat}
-use Rattle.program.specs.Reader.{then, pair, made, many, guard, lookup, form, kind, sort, between, type-byte, var-of, byte, tested, ranged, counted, opened, read-var, read-path, rule-expr, read-expr, read-body, read-update, rule-stmt, read-stmt, read-step, read-steps, read-items, rule-item, read-item}
-use Rattle.commands.specs.Commands.{then as then-coms, reads, front, last, expr-coms, update-coms, stmt-coms, body-coms, flatten, commands}
-use Rattle.commands.specs.Coding.{coded, com-word, command-word, words}
+use lib.ListN.{take, drop, replicate}
+use Rattle.program.specs.Reader.{then, pair, made, many, guard, lookup, sort, between, byte, tested, ranged, counted, opened, read-items, rule-item, read-item}
+use Rattle.directory.specs.Directory.{row}
 use Rattle.emit.specs.Written.{code-of}
-use Rattle.emit.specs.ProgramWords.{step-words, structs-at}
 use Rattle.machine.specs.Published.{of-item, of-items}
 use Rattle.memory.specs.Plan.{laid, laid-out}
 use Rattle.compile.specs.Codes.{schedule-codes, any-structs, schedule-at}
-use Rattle.compile.specs.Spans.{paired, cleared, steps-spans, struct-spans, structs-spans, after}
+use Rattle.compile.specs.Spans.{paired, cleared, noted, spans-of}
 
 abbrev schedule : List ℕ
 schedule = 3 ∷ 1 ∷ 5 ∷ 3 ∷ 2 ∷ 2 ∷ 1 ∷ 0 ∷ 3 ∷ 1 ∷ 1 ∷ 4 ∷ 1 ∷ 7 ∷ []
@@ -22,13 +19,10 @@ row-codes : code-of schedule-codes (schedule-at schedule 0) ≡ 5 ∷ 1024 ∷ 6
 unfolding code-of schedule-codes any-structs then pair made many guard lookup sort between byte tested ranged counted opened read-items rule-item read-item of-item of-items laid laid-out
 row-codes = refl
 
--- in step 2: load := load + load
-abbrev steps : List ℕ
-steps = 2 ∷ 2 ∷ 1 ∷ 3 ∷ 1 ∷ 0 ∷ 41 ∷ 18 ∷ 1 ∷ 0 ∷ 18 ∷ 1 ∷ 0 ∷ 0 ∷ 0 ∷ 0 ∷ []
-
 abbrev spans : List ℕ
-spans = after (structs-spans 0 0) (structs-at (1 ∷ 0 ∷ []) steps 2 0) (replicate 130 9)
+spans = spans-of (row 0 2 0 7 ∷ row 0 0 7 0 ∷ []) 2 (replicate 130 9)
 
-row-spans : take 6 spans ++ take 2 (drop 64 spans) ++ drop 128 spans ≡ 7 ∷ 7 ∷ 1 ∷ 0 ∷ 0 ∷ 7 ∷ 1 ∷ 0 ∷ 9 ∷ 9 ∷ []
-unfolding after structs-spans struct-spans steps-spans cleared paired flat step-words then pair made many guard lookup form kind between type-byte var-of byte tested ranged counted opened read-var read-path rule-expr read-expr read-body read-update rule-stmt read-stmt read-step read-steps then-coms reads front last expr-coms update-coms stmt-coms body-coms flatten commands coded com-word command-word words var-code op-code
+-- two rows of struct 0, behind each other: step 2 with 7 commands, step 0 with none
+row-spans : (take 6 spans ++ take 2 (drop 64 spans)) ++ drop 128 spans ≡ 7 ∷ 7 ∷ 1 ∷ 0 ∷ 0 ∷ 7 ∷ 1 ∷ 0 ∷ 9 ∷ 9 ∷ []
+unfolding spans-of noted cleared paired
 row-spans = refl

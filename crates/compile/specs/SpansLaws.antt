@@ -1,21 +1,28 @@
--- The numbers that are noted locate the steps of a program in its list (01, 'Table and turns').
+-- The numbers that are noted off the step directory locate the steps of a program in its list (01, 'Table and turns').
 use Prim.Native.Nat.{ℕ, zero, suc, _+_, _-_, _*_, _<_, _≤_}
 use native.Mathlib.Omega.{arith}
+use native.Mathlib.Numerals.{add-one, sub-one}
 use mathlib.Core.Path.{_≡_, refl, sym, ap, _∙_}
 use mathlib.Core.Bool.{Bool, true, false}
 use mathlib.Core.Option.{Option, none, some}
-use mathlib.Core.List.{List, [], _∷_, _++_, append-assoc}
-use lib.ListN.{length, getD, set, take, drop, length-set, length-append}
-use lib.Seq.{getD-set-same, getD-set-other, take-at, drop-at}
+use mathlib.Core.List.{List, [], _∷_, _++_}
+use lib.ListN.{length, getD, set, take, drop, length-set}
+use lib.Seq.{getD-set-same, getD-set-other}
 use lib.Dec.{eqb}
-use borrow.Author.Tests.{eq-eqb, ne-eqb, eqb-true, eqb-false}
+use borrow.Author.Tests.{eqb-true, eqb-false}
 use Rattle.types.specs.Limits.{max-structs, step-names}
-use Rattle.program.specs.Tree.{Stmts, Step}
-use Rattle.program.specs.Encoding.{flat}
-use Rattle.commands.specs.Context.{find-step}
-use Rattle.emit.specs.ProgramWords.{step-words, steps-words, structs-words}
+use Rattle.program.specs.Tree.{Stmts, Program}
+use Rattle.program.specs.Counts.{All}
+use Rattle.commands.specs.Context.{step-of}
+use Rattle.directory.specs.declared.Row.{Row}
+use Rattle.directory.specs.Directory.{find-row}
+use Rattle.directory.specs.Rows.{row-at, rows-from}
+use Rattle.directory.specs.RowsLaws.{rows-more}
+use Rattle.directory.specs.Held.{Marks}
+use Rattle.directory.specs.DirectoryLaws.{RowInRange}
+use Rattle.directory.specs.FindLaws.{find-here, find-past, find-other, find-none}
 use Rattle.memory.specs.Plan.{span-of, from, to, Spans}
-use Rattle.compile.specs.Spans.{span-places, paired, cleared, steps-spans, struct-spans, structs-spans}
+use Rattle.compile.specs.Spans.{span-places, paired, cleared, noted, spans-of}
 
 -- Pairs ----------------------------------------------------------------------------
 
@@ -44,39 +51,26 @@ unfolding cleared
 cleared-length zero i l = refl
 cleared-length (suc n) i l = cleared-length n (i + 2) (paired i 1 0 l) ∙ paired-length i 1 0 l
 
-pub steps-length : (j : ℕ) (ts : List Step) (a : ℕ) (l : List ℕ) → length (steps-spans j a ts l) ≡ length l
-unfolding steps-spans
-steps-length j [] a l = refl
-steps-length j (t ∷ ts) a l = paired-length (span-of j (t .name)) a _ _ ∙ steps-length j ts _ l
+-- one number and the next
+pub paired-is : (i a e : ℕ) (l r q : List ℕ) → r ≡ set l i a → q ≡ set r (i + 1) e → q ≡ paired i a e l
+unfolding paired
+paired-is i a e l r q f g = g ∙ rw (f, add-one)
 
-pub struct-length : (j a : ℕ) (ts : List Step) (l : List ℕ) → length (struct-spans j a ts l) ≡ length l
-unfolding struct-spans
-struct-length j a ts l = steps-length j ts a _ ∙ cleared-length step-names (span-of j 0) l
+-- the pair at i is cleared before those behind it
+pub cleared-none : (n i : ℕ) (l : List ℕ) → n ≡ 0 → cleared n i l ≡ l
+unfolding cleared
+cleared-none n i l e = rw e
 
--- The pairs of the structs before j stay -------------------------------------------
+pub cleared-one : (n i : ℕ) (l : List ℕ) → (n ≡ 0 → ⊥) → cleared n i l ≡ cleared (n - 1) (i + 2) (paired i 1 0 l)
+unfolding cleared
+cleared-one zero i l h = absurd (h refl)
+cleared-one (suc n) i l h = rw sub-one
 
 cleared-below : (n i : ℕ) (l : List ℕ) (x : ℕ) → x < i → getD (cleared n i l) x 0 ≡ getD l x 0
 unfolding cleared
 cleared-below zero i l x h = refl
 cleared-below (suc n) i l x h =
     cleared-below n (i + 2) (paired i 1 0 l) x (omega arith) ∙ paired-other i 1 0 l x (λ e. omega arith) (λ e. omega arith)
-
-module _ (j x : ℕ) (h : x < span-of j 0) where
-  steps-below : (ts : List Step) (a : ℕ) (l : List ℕ) → getD (steps-spans j a ts l) x 0 ≡ getD l x 0
-  unfolding steps-spans
-  steps-below [] a l = refl
-  steps-below (t ∷ ts) a l = paired-other (span-of j (t .name)) a _ _ x (λ e. omega arith) (λ e. omega arith) ∙ steps-below ts _ l
-
-  struct-below : (a : ℕ) (ts : List Step) (l : List ℕ) → getD (struct-spans j a ts l) x 0 ≡ getD l x 0
-  unfolding struct-spans
-  struct-below a ts l = steps-below ts a _ ∙ cleared-below step-names (span-of j 0) l x h
-
-structs-below : (j a : ℕ) (tss : List (List Step)) (l : List ℕ) (x : ℕ) → x < span-of j 0 → getD (structs-spans j a tss l) x 0 ≡ getD l x 0
-unfolding structs-spans
-structs-below j a [] l x h = refl
-structs-below j a (ts ∷ tss) l x h = structs-below (j + 1) _ tss _ x (omega arith) ∙ struct-below j x h a ts l
-
--- No step --------------------------------------------------------------------------
 
 cleared-is : (n i : ℕ) (l : List ℕ) (x : ℕ) → x < n → i + 2 * n ≤ length l
     → (getD (cleared n i l) (i + 2 * x) 0 ≡ 1) × (getD (cleared n i l) (suc (i + 2 * x)) 0 ≡ 0)
@@ -93,139 +87,101 @@ cleared-is (suc n) i l (suc x) h k =
     let z : i + 2 * suc x ≡ i + 2 + 2 * x = omega arith in
     rw z (cleared-is n (i + 2) (paired i 1 0 l) x (omega arith) (rw (paired-length i 1 0 l) (omega arith)))
 
--- Words in a list ------------------------------------------------------------------
+-- Rows ---------------------------------------------------------------------------------
 
--- the words ws stand in the list from a on
-pub record Holds (list : List ℕ) (a : ℕ) (ws : List ℕ) : Type 0 where
-  pub front : List ℕ
-  pub back : List ℕ
-  pub is : list ≡ front ++ (ws ++ back)
-  pub place : length front ≡ a
+-- as many numbers as before
+pub noted-length : (rs : List Row) (l : List ℕ) → length (noted rs l) ≡ length l
+unfolding noted
+noted-length [] l = refl
+noted-length (r ∷ rs) l = paired-length (span-of (r .structure) (r .name)) (r .start) _ _ ∙ noted-length rs l
 
-module _ {list : List ℕ} {a : ℕ} where
-  first-holds : (u v : List ℕ) → Holds list a (u ++ v) → Holds list a u
-  first-holds u v h = record { front = h .front; back = v ++ h .back; is = h .is ∙ ap (λ l. h .front ++ l) (append-assoc u v (h .back)); place = h .place }
+-- no row is noted; a row is noted before those behind it
+pub noted-none : (l m : List ℕ) (i n : ℕ) → n ≡ 0 → noted (rows-from l i n) m ≡ m
+unfolding noted rows-from
+noted-none l m i n e = rw e
 
-  next-holds : (u v : List ℕ) → Holds list a (u ++ v) → Holds list (a + length u) v
-  next-holds u v h = record {
-    front = h .front ++ u;
-    back = h .back;
-    is = h .is ∙ ap (λ l. h .front ++ l) (append-assoc u v (h .back)) ∙ sym (append-assoc (h .front) u (v ++ h .back));
-    place = length-append (h .front) u ∙ ap (λ n. n + length u) (h .place);
-  }
+pub noted-all : (l m q : List ℕ) (i n : ℕ) → i ≡ 0 → q ≡ noted (rows-from l i (n - i)) m → q ≡ noted (rows-from l 0 n) m
+noted-all l m q i n e h = let z : n - i ≡ n = omega arith in h ∙ rw (z, e)
 
-  -- as a pair of places says it
-  holds-spans : {ws : List ℕ} → Holds list a ws
-      → (a ≤ a + length ws) × (a + length ws ≤ length list) × (take (a + length ws - a) (drop a list) ≡ ws)
-  holds-spans {ws} h =
-      let e : a + length ws - a ≡ length ws = omega arith in
-      let n = ap length (h .is) ∙ length-append (h .front) (ws ++ h .back) in
-      let m = length-append ws (h .back) in (
-        omega arith,
-        omega (arith, h .place),
-        rw (e, h .is) (ap (take (length ws)) (drop-at (h .front) (ws ++ h .back) a (h .place)) ∙ take-at ws (h .back) (length ws) refl),
-      )
+pub noted-more : (l m q spans : List ℕ) (i n : ℕ) (r : Row) → r ≡ row-at l (i - 1) → (i ≡ 0 → ⊥) → i ≤ n → spans ≡ noted (rows-from l i (n - i)) m
+    → q ≡ paired (span-of (r .structure) (r .name)) (r .start) (r .start + r .size) spans → q ≡ noted (rows-from l (i - 1) (n - (i - 1))) m
+unfolding noted
+noted-more l m q spans i n r e h k s f =
+    let a : i - 1 + 1 ≡ i = omega arith in
+    let b : n - (i - 1) - 1 ≡ n - i = omega arith in
+    let w : rows-from l (i - 1) (n - (i - 1)) ≡ r ∷ rows-from l i (n - i) = rows-more l (i - 1) (n - (i - 1)) (λ z. omega arith) ∙ rw (a, b, e) refl in
+    f ∙ rw (w, s) refl
 
--- The steps of a struct ------------------------------------------------------------
+-- its four numbers as places
+pub row-paired : (r : Row) (l q : List ℕ) (a m k n : ℕ) → a ≡ r .start → m ≡ r .size → k ≡ r .structure → n ≡ r .name
+    → q ≡ paired (span-of k n) a (a + m) l → q ≡ paired (span-of (r .structure) (r .name)) (r .start) (r .start + r .size) l
+row-paired r l q a m k n e f g h i = i ∙ rw (e, f, g, h)
 
-module _ (t : Step) (ts : List Step) (n : ℕ) where
-  find-here : t .name ≡ n → find-step (t ∷ ts) n ≡ some (t .body)
-  unfolding find-step
-  find-here e = rw (eq-eqb (t .name) n e, find-step)
+module _ (k n : ℕ) (named : n < step-names) where
+  -- of a step that has a row the pair says where; of any other it is as before
+  abbrev Told : List ℕ → List ℕ → Option Row → Type 0
+  Told l q none = (from q k n ≡ from l k n) × (to q k n ≡ to l k n)
+  Told l q (some r) = (from q k n ≡ r .start) × (to q k n ≡ r .start + r .size)
 
-  find-on : (t .name ≡ n → ⊥) → find-step (t ∷ ts) n ≡ find-step ts n
-  unfolding find-step
-  find-on h = rw (ne-eqb (t .name) n h, find-step)
+  told-same : (l q w : List ℕ) (o : Option Row) → from w k n ≡ from q k n → to w k n ≡ to q k n → Told l q o → Told l w o
+  told-same l q w none e f h = (e ∙ h .0, f ∙ h .1)
+  told-same l q w (some r) e f h = (e ∙ h .0, f ∙ h .1)
 
-module _ (list : List ℕ) where
-  -- of a step that is there the pair says where; of any other it is as before
-  abbrev Told : List ℕ → List ℕ → ℕ → ℕ → Option Stmts → Type 0
-  Told l r j n none = (from r j n ≡ from l j n) × (to r j n ≡ to l j n)
-  Told l r j n (some b) = Spans list (from r j n) (to r j n) (some b)
+  module _ (r : Row) (rs : List Row) (l : List ℕ) (ranged : RowInRange r) (long : length l ≡ span-places) where
+    abbrev s : ℕ
+    s = span-of (r .structure) (r .name)
 
-  told-same : (l r q : List ℕ) (j n : ℕ) (o : Option Stmts) → from q j n ≡ from r j n → to q j n ≡ to r j n → Told l r j n o → Told l q j n o
-  told-same l r q j n none e f h = (e ∙ h .0, f ∙ h .1)
-  told-same l r q j n (some b) e f h = rw (e, f) h
+    abbrev e : ℕ
+    e = r .start + r .size
 
-  module _ (j n : ℕ) (small : j < max-structs) (named : n < step-names) where
-    module _ (t : Step) (a e : ℕ) (l r : List ℕ) where
-      -- its own pair is set
-      step-here : length r ≡ span-places → e ≡ a + length (step-words t) → t .name ≡ n → Holds list a (step-words t)
-          → Told l (paired (span-of j (t .name)) a e r) j n (some (t .body))
-      unfolding step-words
-      step-here k f i h =
-          let s = span-of j (t .name) in
-          let x : getD (paired s a e r) (span-of j n) 0 ≡ a = rw (← i) (paired-first s a e r (omega arith)) in
-          let y : getD (paired s a e r) (suc (span-of j n)) 0 ≡ e = rw (← i) (paired-second s a e r (omega arith)) in
-          rw (x, y, f) (holds-spans h)
+    abbrev after : List ℕ
+    after = paired s (r .start) e (noted rs l)
 
-      -- those of other names stay
-      step-other : (t .name ≡ n → ⊥) → (o : Option Stmts) → Told l r j n o → Told l (paired (span-of j (t .name)) a e r) j n o
-      step-other i o m =
-          let s = span-of j (t .name) in
-          told-same l r (paired s a e r) j n o
-          (paired-other s a e r (span-of j n) (λ q. i (omega arith)) (λ q. omega arith))
-          (paired-other s a e r (suc (span-of j n)) (λ q. omega arith) (λ q. i (omega arith)))
-          m
+    -- its own pair is set
+    row-here : r .structure ≡ k → r .name ≡ n → Told l after (find-row (r ∷ rs) k n)
+    row-here i j =
+        let h : suc s < length (noted rs l) = rw (noted-length rs l) (omega arith) in
+        let x : getD after (span-of k n) 0 ≡ r .start = rw (← i, ← j) (paired-first s (r .start) e (noted rs l) h) in
+        let y : getD after (suc (span-of k n)) 0 ≡ e = rw (← i, ← j) (paired-second s (r .start) e (noted rs l) h) in
+        rw (find-here r rs k n i j) (x, y)
 
-    steps-told : (ts : List Step) (a : ℕ) (l : List ℕ) → length l ≡ span-places → Holds list a (steps-words ts)
-        → Told l (steps-spans j a ts l) j n (find-step ts n)
-    unfolding steps-spans find-step flat
-    steps-told [] a l k h = (refl, refl)
-    steps-told (t ∷ ts) a l k h = go (eqb (t .name) n) refl (steps-told ts e l k (next-holds (step-words t) (steps-words ts) h))
+    -- those of other steps stay
+    row-other : (span-of k n ≡ s → ⊥) → find-row (r ∷ rs) k n ≡ find-row rs k n → Told l (noted rs l) (find-row rs k n) → Told l after (find-row (r ∷ rs) k n)
+    row-other d i h =
+        rw i (told-same l (noted rs l) after (find-row rs k n) (paired-other s (r .start) e (noted rs l) (span-of k n) d (λ q. omega arith))
+        (paired-other s (r .start) e (noted rs l) (suc (span-of k n)) (λ q. omega arith) (λ q. d (omega arith))) h)
+
+    row-told : Told l (noted rs l) (find-row rs k n) → Told l after (find-row (r ∷ rs) k n)
+    row-told h = go (eqb (r .structure) k) refl (eqb (r .name) n) refl
       where
-        e : ℕ
-        e = a + length (step-words t)
+        go : (a : Bool) → eqb (r .structure) k ≡ a → (b : Bool) → eqb (r .name) n ≡ b → Told l after (find-row (r ∷ rs) k n)
+        go true i true j = row-here (eqb-true (r .structure) k i) (eqb-true (r .name) n j)
+        go true i false j = let d = eqb-false (r .name) n j in row-other (λ q. d (omega (arith, eqb-true (r .structure) k i))) (find-other r rs k n d) h
+        go false i b j = let d = eqb-false (r .structure) k i in row-other (λ q. d (omega arith)) (find-past r rs k n d) h
 
-        r : List ℕ
-        r = steps-spans j e ts l
+  noted-told : (rs : List Row) (l : List ℕ) → All RowInRange rs → length l ≡ span-places → Told l (noted rs l) (find-row rs k n)
+  unfolding noted
+  noted-told [] l h e = rw (find-none k n) (refl, refl)
+  noted-told (r ∷ rs) l h e = row-told r rs l (h .0) e (noted-told rs l (h .1) e)
 
-        go : (b : Bool) → eqb (t .name) n ≡ b → Told l r j n (find-step ts n) → Told l (paired (span-of j (t .name)) a e r) j n (find-step (t ∷ ts) n)
-        go true b m =
-            let i = eqb-true (t .name) n b in
-            rw (find-here t ts n i) (step-here t a e l r (steps-length j ts e l ∙ k) refl i (first-holds (step-words t) (steps-words ts) h))
-        go false b m =
-            let i = eqb-false (t .name) n b in
-            rw (find-on t ts n i) (step-other t a e l r i (find-step ts n) m)
+  -- the pair says where the step stands that the row marks
+  spans-join : (list l q : List ℕ) (o : Option Row) (b : Option Stmts) → from l k n ≡ 1 → to l k n ≡ 0 → Told l q o → Marks list o b
+      → Spans list (from q k n) (to q k n) b
+  spans-join list l q none none x y t m = omega (arith, t .0, t .1)
+  spans-join list l q none (some b) x y t m = absurd m
+  spans-join list l q (some r) none x y t m = absurd m
+  spans-join list l q (some r) (some b) x y t m =
+      let z : r .start + r .size - r .start ≡ r .size = omega arith in
+      rw (t .0, t .1) (omega arith, m .0, rw z (m .1))
 
-    -- where the pairs were cleared, each says whether its step is there, and where
-    struct-told : (ts : List Step) (a : ℕ) (l : List ℕ) → length l ≡ span-places → Holds list a (steps-words ts)
-        → Spans list (from (struct-spans j a ts l) j n) (to (struct-spans j a ts l) j n) (find-step ts n)
-    unfolding struct-spans
-    struct-told ts a l k h =
-        settled (find-step ts n) (steps-told ts a clear (cleared-length step-names (span-of j 0) l ∙ k) h)
-      where
-        clear : List ℕ
-        clear = cleared step-names (span-of j 0) l
-
-        r : List ℕ
-        r = steps-spans j a ts clear
-
-        settled : (o : Option Stmts) → Told clear r j n o → Spans list (from r j n) (to r j n) o
-        settled none m =
-            let z = cleared-is step-names (span-of j 0) l n named (omega arith) in
-            let i : span-of j 0 + 2 * n ≡ span-of j n = omega arith in
-            let x = rw i at (z .0) in
-            let y = rw i at (z .1) in
-            omega (arith, m .0, m .1)
-        settled (some b) m = m
-
-  -- The steps of all structs -------------------------------------------------------
-
-  pub structs-told : (j : ℕ) (tss : List (List Step)) (a : ℕ) (l : List ℕ) → j + length tss ≤ max-structs → length l ≡ span-places
-      → Holds list a (structs-words tss) → (i n : ℕ) → i < length tss → n < step-names
-      → Spans list (from (structs-spans j a tss l) (j + i) n) (to (structs-spans j a tss l) (j + i) n) (find-step (getD tss i []) n)
-  unfolding structs-spans flat
-  structs-told j [] a l few k h i n p q = absurd (omega arith)
-  structs-told j (ts ∷ tss) a l few k h zero n p q =
-      let r = struct-spans j a ts l in
-      let w = structs-spans (j + 1) (a + length (steps-words ts)) tss r in
-      let z : j + 0 ≡ j = omega arith in
-      let x : from w j n ≡ from r j n = structs-below (j + 1) _ tss r (span-of j n) (omega arith) in
-      let y : to w j n ≡ to r j n = structs-below (j + 1) _ tss r (suc (span-of j n)) (omega arith) in
-      rw (z, x, y) (struct-told j n (omega arith) q ts a l k (first-holds (steps-words ts) (structs-words tss) h))
-  structs-told j (ts ∷ tss) a l few k h (suc i) n p q =
-      let z : j + suc i ≡ j + 1 + i = omega arith in
-      rw z
-      (structs-told (j + 1) tss (a + length (steps-words ts)) (struct-spans j a ts l) (omega arith) (struct-length j a ts l ∙ k)
-      (next-holds (steps-words ts) (structs-words tss) h) i n (omega arith) q)
+-- the steps of the structs are located
+pub spans-located : (rs : List Row) (count : ℕ) (list l : List ℕ) (p : Program) → All RowInRange rs → length l ≡ span-places → count ≤ max-structs
+    → ((k n : ℕ) → Marks list (find-row rs k n) (step-of p k n)) → (k n : ℕ) → k < count → n < step-names
+    → Spans list (from (spans-of rs count l) k n) (to (spans-of rs count l) k n) (step-of p k n)
+unfolding spans-of
+spans-located rs count list l p ranged long few marks k n h g =
+    let clear = cleared (step-names * count) 0 l in
+    let z = cleared-is (step-names * count) 0 l (step-names * k + n) (omega arith) (omega arith) in
+    let i : 0 + span-of k n ≡ span-of k n = omega arith in
+    spans-join k n g list clear (noted rs clear) (find-row rs k n) (step-of p k n) (rw i at (z .0)) (rw i at (z .1))
+    (noted-told k n g rs clear ranged (cleared-length (step-names * count) 0 l ∙ long)) (marks k n)

@@ -3,6 +3,7 @@
 pub mod items;
 pub mod spans;
 
+use emit_steps::rows::ROWS;
 ghost use mathlib.Core.Path.{_≡_};
 ghost use Prim.Native.Nat.{_<_};
 ghost use lib.ListN.{length, set};
@@ -21,7 +22,8 @@ pub(crate) fn store(out: &mut [usize], k: usize, v: usize)
     out[k] = v;
 }
 
-// A program whose parameter lists, of ar parameters each, end at a place: one walk over its steps, and one over its schedule behind them.
+// A program whose parameter lists, of ar parameters each, end at a place: one walk over its steps, a loop over
+// their rows, and a walk over the schedule behind them.
 // The span of a step that its struct has not is free, save that its end lies before its beginning.
 pub fn program(
     s: &[u8],
@@ -34,7 +36,10 @@ pub fn program(
     requires { ⌜ Preparable (now s) (now ar) at (now list) (now spans) (now codes) ⌝ }
     ensures { λ _. ⌜ PreparedProgram (now (s .entry)) (now (list .entry)) (now (list .exit)) (now (spans .exit)) (now (codes .entry)) (now (codes .exit)) ⌝ }
 {
-    let p = spans::program(s, ar, at, list, spans);
+    let mut rows = [0u16; ROWS];
+    let p = emit_steps::program(s, ar, at, list, &mut rows);
     let next = p.next;
+    let n = p.rows;
+    spans::of_rows(&rows, n, ar.len(), spans);
     items::schedule(s, next, codes);
 }

@@ -1,17 +1,17 @@
-// The steps of an accepted program in one walk (01, 'Names, types, commands' and 'Table and turns'): their commands in the lent list, and
-// for each struct and name where they stand there.
-use crate::index;
+// Where the commands of each step stand in the list, by struct and name, noted off the step directory (01, 'Table and turns').
 use crate::store;
-use emit::Put;
+use directory::Row;
+use emit_steps::rows::place;
+use emit_steps::rows::row_at;
 ghost use mathlib.Core.Path.{_≡_};
-ghost use Prim.Native.Nat.{_+_, _<_, _≤_};
+ghost use Prim.Native.Nat.{_+_, _*_, _<_, _≤_};
 ghost use lib.ListN.{length};
 ghost use Rattle.types.specs.Limits.{max-structs, step-names};
-ghost use Rattle.program.specs.Reader.{read-steps};
-ghost use Rattle.emit.specs.Written.{Ready, Wrote};
-ghost use Rattle.emit.specs.ProgramWords.{steps-words, structs-words, steps-at, structs-at, WroteProgram};
+ghost use Rattle.program.specs.Counts.{All};
+ghost use Rattle.directory.specs.Rows.{row-places, rows-from};
+ghost use Rattle.directory.specs.DirectoryLaws.{RowInRange};
 ghost use Rattle.memory.specs.Plan.{span-of};
-ghost use Rattle.compile.specs.Spans.{span-places, paired, cleared, steps-spans, struct-spans, structs-spans, after, LocatedProgram};
+ghost use Rattle.compile.specs.Spans.{span-places, paired, cleared, noted, spans-of};
 
 // Two numbers for each name of each struct: the place of a step's first command, and the place behind its last one.
 pub const SPANS: usize = 2 * types::STEP_NAMES * types::MAX_STRUCTS;
@@ -25,13 +25,13 @@ fn pair(spans: &mut [usize], i: usize, from: usize, to: usize)
     store(spans, i + 1, to);
 }
 
-// No step of a struct is there: of each pair the first number is the greater.
-fn clear(spans: &mut [usize], structure: usize)
-    requires { ⌜ (length (now spans) ≡ span-places) × (structure < max-structs) ⌝ }
-    ensures { λ _. ⌜ now (spans .exit) ≡ cleared step-names (span-of structure 0) (now (spans .entry)) ⌝ }
+// No step of the first n structs is there: of each pair the first number is the greater.
+fn clear(spans: &mut [usize], n: usize)
+    requires { ⌜ (length (now spans) ≡ span-places) × (n ≤ max-structs) ⌝ }
+    ensures { λ _. ⌜ now (spans .exit) ≡ cleared (step-names * n) 0 (now (spans .entry)) ⌝ }
 {
-    let mut i = 2 * types::STEP_NAMES * structure;
-    let mut left = types::STEP_NAMES;
+    let mut i = 0;
+    let mut left = types::STEP_NAMES * n;
     while left != 0 {
         pair(spans, i, 1, 0);
         i += 2;
@@ -39,85 +39,34 @@ fn clear(spans: &mut [usize], structure: usize)
     }
 }
 
-// The commands of n steps of a struct in a row, from k on. Each is noted behind the others, so that of two with one name the first is kept.
-fn steps(
-    s: &[u8],
-    ar: &[u8],
-    at: usize,
-    n: u8,
-    list: &mut [u64],
-    k: usize,
-    spans: &mut [usize],
-    structure: usize,
-) -> Put
-    requires { ⌜ Ready steps-words (steps-at (now ar) (now s) n at) (now list) k ⌝ }
-    requires { ⌜ (length (now spans) ≡ span-places) × (structure < max-structs) ⌝ }
-    ensures { λ r. ⌜ Wrote steps-words (steps-at (now (ar .entry)) (now (s .entry)) n at) (now (list .entry)) k r (now (list .exit)) ⌝ }
-    ensures { λ _. ⌜ now (spans .exit) ≡ after (steps-spans structure k) (steps-at (now (ar .entry)) (now (s .entry)) n at) (now (spans .entry)) ⌝ }
+// The step of a row.
+fn note_row(spans: &mut [usize], r: Row)
+    requires { ⌜ (RowInRange r) × (length (now spans) ≡ span-places) ⌝ }
+    ensures { λ _. ⌜ now (spans .exit) ≡ paired (span-of (r .structure) (r .name)) (r .start) (r .start + r .size) (now (spans .entry)) ⌝ }
 {
-    if n == 0 {
-        return Put { next: at, at: k };
+    let start = place(r.start);
+    let end = start + place(r.size);
+    let at = 2 * (types::STEP_NAMES * place(r.structure) + place(r.name));
+    pair(spans, at, start, end);
+}
+
+// The steps of n rows, each noted behind the others, so that of two with one struct and name the first is kept.
+fn note(rows: &[u16], n: usize, spans: &mut [usize])
+    requires { ⌜ (row-places * n ≤ length (now rows)) × (All RowInRange (rows-from (now rows) 0 n)) × (length (now spans) ≡ span-places) ⌝ }
+    ensures { λ _. ⌜ now (spans .exit) ≡ noted (rows-from (now (rows .entry)) 0 n) (now (spans .entry)) ⌝ }
+{
+    let mut i = n;
+    while i != 0 {
+        i -= 1;
+        note_row(spans, row_at(rows, i));
     }
-    let p = emit::steps::step(s, ar, at, list, k);
-    let next = p.next;
-    let i = p.at;
-    let q = steps(s, ar, next, n - 1, list, i, spans, structure);
-    let name = index(s[at]);
-    pair(spans, 2 * (types::STEP_NAMES * structure + name), k, i);
-    q
 }
 
-// A struct's step count and that many steps.
-fn of_struct(
-    s: &[u8],
-    ar: &[u8],
-    at: usize,
-    list: &mut [u64],
-    k: usize,
-    spans: &mut [usize],
-    structure: usize,
-) -> Put
-    requires { ⌜ Ready steps-words (read-steps (now ar) (now s) at) (now list) k ⌝ }
-    requires { ⌜ (length (now spans) ≡ span-places) × (structure < max-structs) ⌝ }
-    ensures { λ r. ⌜ Wrote steps-words (read-steps (now (ar .entry)) (now (s .entry)) at) (now (list .entry)) k r (now (list .exit)) ⌝ }
-    ensures { λ _. ⌜ now (spans .exit) ≡ after (struct-spans structure k) (read-steps (now (ar .entry)) (now (s .entry)) at) (now (spans .entry)) ⌝ }
+// The steps of n rows, and of the other names of the first structs that there is no step.
+pub fn of_rows(rows: &[u16], n: usize, structs: usize, spans: &mut [usize])
+    requires { ⌜ (row-places * n ≤ length (now rows)) × (All RowInRange (rows-from (now rows) 0 n)) × (length (now spans) ≡ span-places) × (structs ≤ max-structs) ⌝ }
+    ensures { λ _. ⌜ now (spans .exit) ≡ spans-of (rows-from (now (rows .entry)) 0 n) structs (now (spans .entry)) ⌝ }
 {
-    clear(spans, structure);
-    steps(s, ar, at + 1, s[at], list, k, spans, structure)
-}
-
-// The steps of n structs in a row.
-fn structs(
-    s: &[u8],
-    ar: &[u8],
-    at: usize,
-    n: usize,
-    list: &mut [u64],
-    k: usize,
-    spans: &mut [usize],
-    structure: usize,
-) -> Put
-    requires { ⌜ Ready structs-words (structs-at (now ar) (now s) n at) (now list) k ⌝ }
-    requires { ⌜ (length (now spans) ≡ span-places) × (structure + n ≤ max-structs) ⌝ }
-    ensures { λ r. ⌜ Wrote structs-words (structs-at (now (ar .entry)) (now (s .entry)) n at) (now (list .entry)) k r (now (list .exit)) ⌝ }
-    ensures { λ _. ⌜ now (spans .exit) ≡ after (structs-spans structure k) (structs-at (now (ar .entry)) (now (s .entry)) n at) (now (spans .entry)) ⌝ }
-{
-    if n == 0 {
-        return Put { next: at, at: k };
-    }
-    let p = of_struct(s, ar, at, list, k, spans, structure);
-    let next = p.next;
-    let i = p.at;
-    structs(s, ar, next, n - 1, list, i, spans, structure + 1)
-}
-
-// All commands of a program, from the place behind its parameter lists, and where those of each step stand.
-pub fn program(s: &[u8], ar: &[u8], at: usize, list: &mut [u64], spans: &mut [usize]) -> Put
-    requires { ⌜ Ready structs-words (structs-at (now ar) (now s) (length (now ar)) at) (now list) 0 ⌝ }
-    requires { ⌜ (length (now spans) ≡ span-places) × (length (now ar) ≤ max-structs) ⌝ }
-    ensures { λ r. ⌜ Wrote structs-words (structs-at (now (ar .entry)) (now (s .entry)) (length (now (ar .entry))) at) (now (list .entry)) 0 r (now (list .exit)) ⌝ }
-    ensures { λ r. ⌜ WroteProgram (now (ar .entry)) (now (s .entry)) at (now (list .entry)) r (now (list .exit)) ⌝ }
-    ensures { λ _. ⌜ LocatedProgram (now (ar .entry)) (now (s .entry)) at (now (list .exit)) (now (spans .exit)) ⌝ }
-{
-    structs(s, ar, at, ar.len(), list, 0, spans, 0)
+    clear(spans, structs);
+    note(rows, n, spans);
 }

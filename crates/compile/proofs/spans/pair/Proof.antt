@@ -2,7 +2,7 @@
 use borrow.Author.Needs.{needs}
 use Rattle.compile.proofs.spans.pair.Statement.{statement}
 use Rattle.compile.proofs.spans.pair.Tie as tie
-use Rattle.compile.specs.NoteLaws.{paired-is}
+use Rattle.compile.specs.SpansLaws.{paired-is}
 
 returns : tie.Need-returns
 returns c =

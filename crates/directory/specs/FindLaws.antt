@@ -1,0 +1,115 @@
+-- The first row of a struct and a name is that of the step which `find-step` gives, and there is none where it gives none (01, 'Names,
+-- types, commands'; 000's S).
+use Prim.Native.Nat.{ℕ, zero, suc, _+_, _<_}
+use native.Mathlib.Omega.{arith}
+use mathlib.Core.Path.{_≡_, refl, ap, sym, _∙_}
+use mathlib.Core.Bool.{Bool, true, false}
+use mathlib.Core.Option.{none, some}
+use mathlib.Core.List.{List, [], _∷_, _++_}
+use lib.ListN.{getD}
+use lib.Dec.{eqb}
+use borrow.Author.Tests.{eq-eqb, ne-eqb, eqb-true, eqb-false}
+use Rattle.program.specs.Tree.{Step, Program}
+use Rattle.program.specs.Encoding.{flat}
+use Rattle.commands.specs.Bounds.{total, step-size}
+use Rattle.commands.specs.Context.{find-step, step-of}
+use Rattle.directory.specs.declared.Row.{Row}
+use Rattle.directory.specs.Directory.{row, steps-rows, structs-rows, directory, is-row, find-row}
+use Rattle.directory.specs.Held.{words-of-step, words-of-steps, words-of-structs, Holds, Marks}
+use Rattle.directory.specs.HeldLaws.{words-of-size, words-of-sizes, holds-front, holds-in, holds-part, holds-first, holds-next}
+
+-- A row --------------------------------------------------------------------------------
+
+module _ (r : Row) (rs : List Row) (k n : ℕ) where
+  -- it is the row, or is of another struct, or of another name
+  pub find-here : r .structure ≡ k → r .name ≡ n → find-row (r ∷ rs) k n ≡ some r
+  unfolding find-row is-row
+  find-here e f = rw (find-row, is-row, eq-eqb (r .structure) k e, eq-eqb (r .name) n f)
+
+  pub find-past : (r .structure ≡ k → ⊥) → find-row (r ∷ rs) k n ≡ find-row rs k n
+  unfolding find-row is-row
+  find-past e = rw (find-row, is-row, ne-eqb (r .structure) k e)
+
+  pub find-other : (r .name ≡ n → ⊥) → find-row (r ∷ rs) k n ≡ find-row rs k n
+  unfolding find-row is-row
+  find-other f = go (eqb (r .structure) k) refl
+    where
+      go : (b : Bool) → eqb (r .structure) k ≡ b → find-row (r ∷ rs) k n ≡ find-row rs k n
+      go true e = rw (find-row, is-row, e, ne-eqb (r .name) n f)
+      go false e = rw (find-row, is-row, e)
+
+pub find-none : (k n : ℕ) → find-row [] k n ≡ none
+unfolding find-row
+find-none k n = refl
+
+module _ (t : Step) (ts : List Step) (n : ℕ) where
+  step-here : t .name ≡ n → find-step (t ∷ ts) n ≡ some (t .body)
+  unfolding find-step
+  step-here e = rw (eq-eqb (t .name) n e, find-step)
+
+  step-other : (t .name ≡ n → ⊥) → find-step (t ∷ ts) n ≡ find-step ts n
+  unfolding find-step
+  step-other h = rw (ne-eqb (t .name) n h, find-step)
+
+-- Structs before and behind ------------------------------------------------------------
+
+module _ (k n : ℕ) where
+  other-steps : (j a : ℕ) (ts : List Step) (rs : List Row) → (j ≡ k → ⊥) → find-row (steps-rows j a ts ++ rs) k n ≡ find-row rs k n
+  unfolding steps-rows
+  other-steps j a [] rs h = refl
+  other-steps j a (t ∷ ts) rs h =
+      find-past (row j (t .name) a (step-size t)) (steps-rows j (a + step-size t) ts ++ rs) k n h ∙ other-steps j (a + step-size t) ts rs h
+
+  later-structs : (j a : ℕ) (tss : List (List Step)) → k < j → find-row (structs-rows j a tss) k n ≡ none
+  unfolding structs-rows
+  later-structs j a [] h = find-none k n
+  later-structs j a (ts ∷ tss) h =
+      other-steps j a ts _ (λ e. omega arith) ∙ later-structs (suc j) (a + total step-size ts) tss (omega arith)
+
+-- The step -----------------------------------------------------------------------------
+
+module _ (list : List ℕ) (n : ℕ) where
+  own-steps : (k a : ℕ) (ts : List Step) (rs : List Row) → find-row rs k n ≡ none → Holds list a (words-of-steps ts)
+      → Marks list (find-row (steps-rows k a ts ++ rs) k n) (find-step ts n)
+  unfolding steps-rows find-step flat
+  own-steps k a [] rs e h = rw e tt
+  own-steps k a (t ∷ ts) rs e h =
+      go (eqb (t .name) n) refl
+      (own-steps k (a + step-size t) ts rs e (holds-next (words-of-step t) (words-of-steps ts) (step-size t) (words-of-size t) h))
+    where
+      first : Holds list a (words-of-step t)
+      first = holds-first (words-of-step t) (words-of-steps ts) h
+
+      later : List Row
+      later = steps-rows k (a + step-size t) ts ++ rs
+
+      go : (b : Bool) → eqb (t .name) n ≡ b → Marks list (find-row later k n) (find-step ts n)
+          → Marks list (find-row (row k (t .name) a (step-size t) ∷ later) k n) (find-step (t ∷ ts) n)
+      go true b m =
+          let i = eqb-true (t .name) n b in
+          rw (find-here (row k (t .name) a (step-size t)) later k n refl i, step-here t ts n i)
+          (omega (arith, holds-in first, words-of-size t), holds-part (step-size t) (words-of-size t) first)
+      go false b m =
+          let i = eqb-false (t .name) n b in
+          rw (find-other (row k (t .name) a (step-size t)) later k n i, step-other t ts n i) m
+
+  structs-marked : (j a : ℕ) (tss : List (List Step)) → Holds list a (words-of-structs tss) → (i : ℕ)
+      → Marks list (find-row (structs-rows j a tss) (j + i) n) (find-step (getD tss i []) n)
+  unfolding structs-rows find-row find-step flat
+  structs-marked j a [] h i = tt
+  structs-marked j a (ts ∷ tss) h zero =
+      let z : j + 0 ≡ j = omega arith in
+      let e = later-structs j n (suc j) (a + total step-size ts) tss (omega arith) in
+      rw z (own-steps j a ts _ e (holds-first (words-of-steps ts) _ h))
+  structs-marked j a (ts ∷ tss) h (suc i) =
+      let z : j + suc i ≡ suc j + i = omega arith in
+      let e = other-steps (suc j + i) n j a ts (structs-rows (suc j) (a + total step-size ts) tss) (λ e. omega arith) in
+      rw (z, e) (structs-marked (suc j) (a + total step-size ts) tss (holds-next (words-of-steps ts) _ (total step-size ts) (words-of-sizes ts) h) i)
+
+-- the first row of (k, n) marks the words of the step n of struct k in a list that begins with the program's words
+pub directory-marks : (p : Program) (list back : List ℕ) → list ≡ words-of-structs (p .steps) ++ back → (k n : ℕ)
+    → Marks list (find-row (directory p) k n) (step-of p k n)
+unfolding directory
+directory-marks p list back e k n =
+    let z : 0 + k ≡ k = omega arith in
+    rw z at (structs-marked list n 0 0 (p .steps) (holds-front list _ back e) k)

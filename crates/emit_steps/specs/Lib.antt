@@ -1,0 +1,4 @@
+pub mod Emitted
+pub mod EmittedLaws
+pub mod StepLaws
+pub mod ProgramLaws
