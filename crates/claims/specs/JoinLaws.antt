@@ -14,7 +14,7 @@ use Rattle.commands.specs.Bounds.{program-depth}
 use Rattle.commands.specs.Coding.{words}
 use Rattle.commands.specs.Commands.{commands}
 use Rattle.commands.specs.Context.{context, find-step, step-of}
-use Rattle.commands.specs.Names.{step-names}
+use Rattle.commands.specs.Names.{names-of-steps}
 use Rattle.commands.specs.Noted.{erase, noted}
 use Rattle.commands.specs.NotedLaws.{erased}
 use Rattle.commands.specs.Numbers.{Foremost}
@@ -59,13 +59,13 @@ step-named (t ∷ ts) n {b = b} e = go (eqb (t .name) n) refl e (λ e. step-name
     go false i e k = let (u, m, a, q) = k e in (u, List·Memᴰ·tail m, a, q)
 
 -- a name for which none is found names no step
-step-unnamed : (ts : List Step) (n : ℕ) → find-step ts n ≡ none → List·Memᴰ n (step-names ts) → ⊥
-unfolding find-step step-names
+step-unnamed : (ts : List Step) (n : ℕ) → find-step ts n ≡ none → List·Memᴰ n (names-of-steps ts) → ⊥
+unfolding find-step names-of-steps
 step-unnamed [] n e m = List·Memᴰ·not-nil m
 step-unnamed (t ∷ ts) n e m = go (eqb (t .name) n) refl e m (λ e. step-unnamed ts n e)
   where
     go : (q : Bool) → eqb (t .name) n ≡ q → _≡_ {A = Option Stmts} (elim q [ true ↦ some (t .body) | false ↦ find-step ts n ]) none
-        → List·Memᴰ n (t .name ∷ step-names ts) → (find-step ts n ≡ none → List·Memᴰ n (step-names ts) → ⊥) → ⊥
+        → List·Memᴰ n (t .name ∷ names-of-steps ts) → (find-step ts n ≡ none → List·Memᴰ n (names-of-steps ts) → ⊥) → ⊥
     go true i e m k = let z : _≡_ {A = ℕ} 0 1 = cc in omega arith
     go false i e (List·Memᴰ·head a) k = eqb-false (t .name) n i (sym a)
     go false i e (List·Memᴰ·tail m) k = k e m

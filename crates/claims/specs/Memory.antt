@@ -5,11 +5,13 @@ use mathlib.Core.Path.{_≡_}
 use mathlib.Core.List.{List}
 use lib.ListN.{drop}
 use Rattle.program.specs.Tree.{Program}
+use Rattle.machine.specs.Published.{Sched}
 use Rattle.machine.specs.Machine.{Machine}
 use Rattle.run.specs.Run.{Outcome.stopped, run}
 use Rattle.run.specs.Visits.{Visits}
-use Rattle.memory.specs.Layout.{State}
+use Rattle.layout.specs.State.{State}
 use Rattle.memory.specs.Plan.{At}
+use Rattle.memory.specs.PlanUnique.{at-unique}
 use Rattle.memory.specs.Stands.{Stands}
 use Rattle.interpreter.specs.Running.{cleared, Running, Ended}
 use Rattle.claims.specs.MemoryLaws.{running-visited, ended-visited}
@@ -24,3 +26,7 @@ module _ (p : Program) (counts list items spans : List ℕ) (m : Machine) {es : 
   pub memory-last : {number taken : ℕ} → Ended p counts list items spans m es number taken z
       → (m′ : Machine) × (Stands list (At items) m′ (cleared z)) × (Visits p m es m′ (drop taken es)) × (run p m es ≡ stopped number taken m′)
   memory-last r = ended-visited p counts list items spans m r
+
+-- a place of the schedule laid flat stands for one schedule left
+pub place-one : (items : List ℕ) {a : ℕ} {r s : Sched} → At items a r → At items a s → r ≡ s
+place-one items h k = at-unique items h k

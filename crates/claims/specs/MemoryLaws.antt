@@ -7,13 +7,13 @@ use Rattle.program.specs.Tree.{Program}
 use Rattle.machine.specs.Machine.{Machine}
 use Rattle.run.specs.Run.{Outcome.stopped, run}
 use Rattle.run.specs.Visits.{Visits}
-use Rattle.memory.specs.Layout.{State, refused}
+use Rattle.layout.specs.State.{State, refused}
 use Rattle.memory.specs.Plan.{At}
 use Rattle.memory.specs.Stands.{Stands}
 use Rattle.interpreter.specs.Running.{cleared, Running, Running.going, Running.over, Ended}
 
 -- memory without a number is as it was without it
-still-cleared : (z : State) → z .number ≡ 0 → cleared z ≡ z
+still-cleared : (z : State) → z .machine .number ≡ 0 → cleared z ≡ z
 still-cleared z e = ap (λ n. refused n z) (sym e)
 
 module _ (p : Program) (counts list items spans : List ℕ) (m : Machine) {es : List ℕ} {z : State} where

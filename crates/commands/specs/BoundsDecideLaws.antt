@@ -4,9 +4,9 @@ use mathlib.Core.Logic.{_↔_}
 use mathlib.Core.Path.{_≡_}
 use Rattle.types.specs.Limits.{step-commands, max-commands, max-depth, schedule-items}
 use Rattle.program.specs.Tree.{Program}
+use Rattle.types.specs.Reflects.{Reflects, reflects-iff, reflects-map, reflects-both, le-reflects}
 use Rattle.commands.specs.Bounds.{items-count, step-size, step-depth, program-size, Within}
-use Rattle.commands.specs.Decide.{Reflects}
-use Rattle.commands.specs.DecideLaws.{reflects-iff, reflects-map, reflects-both, every-reflects, le-reflects}
+use Rattle.commands.specs.DecideLaws.{every-reflects}
 use Rattle.commands.specs.BoundsDecide.{within}
 
 -- the test decides whether a program keeps to the limits

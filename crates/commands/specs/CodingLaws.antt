@@ -11,7 +11,7 @@ use Rattle.types.specs.Values.{word}
 use Rattle.types.specs.ValueLaws.{value-of-word}
 use Rattle.program.specs.Counts.{All}
 use Rattle.program.specs.Reader.{lookup}
-use Rattle.program.specs.CodeLaws.{type-code}
+use Rattle.types.specs.TypeLaws.{type-of-code}
 use Rattle.program.specs.ExprLaws.{form-code}
 use Rattle.commands.specs.Commands.{Com.push, Com.push-this, Com.rd, Com.wr, Com.cons, Com.not, Com.oper, Flat, Flat.plain, Flat.if-n}
 use Rattle.commands.specs.Coding.{coded, com-word, command-word, words}
@@ -46,7 +46,7 @@ code-byte (ref k) h = omega arith
 pub decode-word : (c : Flat) → InRanges c → decode (command-word c) ≡ some c
 unfolding command-word com-word command-of lookup operator
 decode-word (plain (push t v)) h =
-    decode-coded 1 (code t) (word v) (omega arith) (code-byte t (h .0)) ∙ rw (type-code t, value-of-word t v (h .1))
+    decode-coded 1 (code t) (word v) (omega arith) (code-byte t (h .0)) ∙ rw (type-of-code t, value-of-word t v (h .1))
 decode-word (plain push-this) h = decode-coded 2 0 0 (omega arith) (omega arith)
 decode-word (plain (rd x)) h = decode-coded 3 0 x (omega arith) (omega arith)
 decode-word (plain (wr x)) h = decode-coded 4 0 x (omega arith) (omega arith)

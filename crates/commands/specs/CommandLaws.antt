@@ -7,21 +7,6 @@ use lib.Seq.{take-append-seam, drop-append-seam}
 use Rattle.program.specs.Tree.{Var, Expr, Stmt.when, Stmts}
 use Rattle.program.specs.Encoding.{var-code}
 use Rattle.commands.specs.Commands.{Com.push-this, Com.wr, Coms, Coms.nil, Coms.act, Coms.if-then, then, reads, front, last, expr-coms, update-coms, stmt-coms, body-coms, Flat, Flat.plain, Flat.if-n, flatten}
-use Rattle.commands.specs.Ways.{Reached, Reached.start, Reached.on, Reached.over}
-
--- `then` has nil as its unit on the right; on the left it computes
-pub then-nil : (c : Coms) → then c nil ≡ c
-unfolding then
-then-nil nil = refl
-then-nil (act m c) = ap (act m) (then-nil c)
-then-nil (if-then b c) = ap (if-then b) (then-nil c)
-
--- `then` is associative
-pub then-assoc : (c d e : Coms) → then (then c d) e ≡ then c (then d e)
-unfolding then
-then-assoc nil d e = refl
-then-assoc (act m c) d e = ap (act m) (then-assoc c d e)
-then-assoc (if-then b c) d e = ap (if-then b) (then-assoc c d e)
 
 -- one list behind another is flat as the two flat lists in a row
 pub flatten-then : (c d : Coms) → flatten (then c d) ≡ flatten c ++ flatten d
@@ -82,29 +67,3 @@ if-true b c = rw flatten-then
 -- the false way (ComIfF): without the n commands behind the `if n` it is the rest
 pub if-false : (b c : Coms) → drop (length (flatten b)) (flatten (then b c)) ≡ flatten c
 if-false b c = rw flatten-then (drop-append-seam (flatten b) (flatten c))
-
--- Suffixes ---------------------------------------------------------------------
-
--- the flat list of some nested one
-abbrev pub Nested : List Flat → Type 0
-Nested f = (c : Coms) × (flatten c ≡ f)
-
--- behind one command of a nested list stands a nested list
-pub one-on : {m : Flat} {f : List Flat} → Nested (m ∷ f) → Nested f
-unfolding flatten
-one-on (nil, e) = (nil, cc)
-one-on (act m c, e) = (c, cc)
-one-on (if-then b c, e) = (then b c, cc (flatten-then b c))
-
--- and so behind the n commands behind an `if n`
-pub body-over : {n : ℕ} {f : List Flat} → Nested (if-n n ∷ f) → Nested (drop n f)
-unfolding flatten
-body-over (nil, e) = (nil, cc)
-body-over (act m c, e) = (nil, cc)
-body-over (if-then b c, e) = (c, cc (drop-append-seam (flatten b) (flatten c)))
-
--- whatever a run may have before it is the flat list of a nested one
-pub reached-nested : {c f : List Flat} → Reached c f → Nested c → Nested f
-reached-nested start n = n
-reached-nested (on r) n = one-on (reached-nested r n)
-reached-nested (over r) n = body-over (reached-nested r n)

@@ -1,7 +1,7 @@
 -- Commands and the interpretation function (000, definitions 1 and 2; 01, 'Names, types, commands').
 -- 000's `if(C)` holds its commands; the list handed out has `if n` before its n body commands.
 use Prim.Native.Nat.{ℕ}
-use mathlib.Core.List.{List, [], _∷_, _++_, map}
+use mathlib.Core.List.{List, [], _∷_, _++_}
 use lib.ListN.{length}
 use Rattle.types.specs.Types.{Ty, Ty.int, Ty.nat, Ty.bool}
 use Rattle.types.specs.Values.{Val, default, value-of}
@@ -38,8 +38,8 @@ unfoldable pub reads : List ℕ → Coms
 reads [] = nil
 reads (x ∷ xs) = act (rd x) (reads xs)
 
-abbrev pub variables : List ℕ → Coms
-variables xs = act push-this (reads xs)
+abbrev pub path-coms : List ℕ → Coms
+path-coms xs = act push-this (reads xs)
 
 -- all but the last of x, xs; and the last
 unfoldable pub front : ℕ → List ℕ → List ℕ
@@ -55,7 +55,7 @@ unfoldable mutual
   pub expr-coms : Expr → Coms
   expr-coms (inv e) = then (expr-coms e) (one not)
   expr-coms (make k es) = then (args-coms es) (one (cons k))
-  expr-coms (path v vs) = variables (var-code v ∷ vs)
+  expr-coms (path v vs) = path-coms (var-code v ∷ vs)
   expr-coms (int-lit w) = one (push int (value-of int w))
   expr-coms (nat-lit w) = one (push nat (value-of nat w))
   expr-coms (bool-lit w) = one (push bool (value-of bool w))
@@ -70,7 +70,7 @@ unfoldable mutual
 -- ⟦v₁; ..; vₙ; v := a⟧
 unfoldable pub update-coms : Var → List ℕ → Expr → Coms
 update-coms v vs e =
-    then (expr-coms e) (then (variables (front (var-code v) vs)) (one (wr (last (var-code v) vs))))
+    then (expr-coms e) (then (path-coms (front (var-code v) vs)) (one (wr (last (var-code v) vs))))
 
 -- 000, definition 2, of statements
 unfoldable mutual

@@ -1,13 +1,8 @@
--- Tests on lists, and when a test decides a condition (for 01, numbers 6 to 8).
+-- Tests on lists (for 01, numbers 6 to 8).
 use Prim.Native.Nat.{ℕ}
 use mathlib.Core.Bool.{Bool, true, false, not, _&&_, _||_}
 use mathlib.Core.List.{List, [], _∷_}
 use lib.Dec.{eqb}
-
--- the test is true where the condition holds, and false where it fails
-pub data Reflects (A : Type 0) : Bool → Type 0 where
-  holds : A → Reflects A true
-  fails : (A → ⊥) → Reflects A false
 
 -- of every element
 unfoldable pub every : {A : Type 0} → (A → Bool) → List A → Bool

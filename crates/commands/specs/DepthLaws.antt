@@ -4,7 +4,7 @@ use Prim.Native.Nat.{ℕ, zero, suc, _+_, _-_, max, _≤_}
 use native.Mathlib.Omega.{arith}
 use native.Mathlib.Numerals.{add-one}
 use native.Mathlib.Nat.{add-zero, add-suc, suc-add, add-assoc}
-use mathlib.Core.Path.{_≡_, refl, _∙_, ap, sym}
+use mathlib.Core.Path.{_≡_, refl, _∙_, ap}
 use mathlib.Core.List.{List, [], _∷_, _++_, append-nil}
 use lib.ListN.{length, drop, getD}
 use lib.Seq.{drop-append-seam}
@@ -14,7 +14,6 @@ use Rattle.program.specs.Counts.{All, CountsExpr, CountsExprs, CountsStmt, Coun
 use Rattle.commands.specs.Commands.{Com, Com.push, Com.push-this, Com.rd, Com.wr, Com.cons, Com.not, Com.oper, reads, front, last, expr-coms, args-coms, update-coms, stmt-coms, body-coms, Flat, Flat.plain, Flat.if-n, flatten, commands}
 use Rattle.commands.specs.CommandLaws.{flatten-app, stored, update-flat, when-flat}
 use Rattle.commands.specs.Depth.{after, depth, peak, peaks, stmt-growth, growth, stmt-height, height}
-use Rattle.commands.specs.Ways.{depth-taken}
 use Rattle.commands.specs.Bounds.{greatest, arities, step-depth, program-depth}
 
 -- What both depths share ---------------------------------------------------------
@@ -74,30 +73,6 @@ module _ (ar : List ℕ) where
     taken = λ n c h p. rw (less h) (omega (arith, dropped c n h));
     high = λ c h. depth-high c 0 h;
     mono = λ c p. depth-mono c 0 p;
-  }
-
-  taken-high : (c : List Flat) (h : ℕ) → h ≤ depth-taken ar c h
-  unfolding depth-taken
-  taken-high [] h = omega arith
-  taken-high (plain m ∷ c) h = omega arith
-  taken-high (if-n n ∷ c) h = omega arith
-
-  taken-mono : (c : List Flat) {h h' : ℕ} → h ≤ h' → depth-taken ar c h ≤ depth-taken ar c h'
-  unfolding depth-taken
-  taken-mono [] p = p
-  taken-mono (plain m ∷ c) p = omega (arith, taken-mono c (after-mono ar m p))
-  taken-mono (if-n n ∷ c) {h = h} {h' = h'} p =
-      let q : h - 1 ≤ h' - 1 = omega arith in
-      omega (arith, taken-mono c q)
-
-  taken-walks : Walks ar (depth-taken ar)
-  unfolding depth-taken
-  taken-walks = record {
-    nothing = λ h. refl;
-    command = λ m c h. refl;
-    taken = λ n c h p. rw (less h);
-    high = taken-high;
-    mono = λ c p. taken-mono c p;
   }
 
 -- Of trees -----------------------------------------------------------------------
@@ -252,10 +227,6 @@ module _ (ar : List ℕ) {D : List Flat → ℕ → ℕ} (w : Walks ar D) where
 -- the depth over both ways is the height that one walk on the tree gives
 pub depth-is : (ar : List ℕ) (b : Stmts) → CountsStmts ar b → depth ar (commands b) 0 0 ≡ height b
 depth-is ar b d = walk-is ar (depth-walks ar) b d
-
--- the way that takes every body goes as deep as both ways
-pub taken-is : (ar : List ℕ) (b : Stmts) → CountsStmts ar b → depth-taken ar (commands b) 0 ≡ depth ar (commands b) 0 0
-taken-is ar b d = walk-is ar (taken-walks ar) b d ∙ sym (depth-is ar b d)
 
 -- Of programs --------------------------------------------------------------------
 

@@ -8,7 +8,6 @@ pub mod CodingLaws
 pub mod Depth
 pub mod Bounds
 pub mod Noted
-pub mod Ways
 pub mod CommandLaws
 pub mod NotedLaws
 pub mod RangeLaws

@@ -1,10 +1,8 @@
 -- When a program's names are right (01, number 7): a path's first variable is a parameter or a living local; a local is
 -- declared once in a step; a step name stands once in a struct; a scheduled step is there.
 use Prim.Native.Nat.{ℕ, _<_}
-use mathlib.Core.Path.{_≡_}
 use mathlib.Core.List.{List, [], _∷_, _++_, map, List·Memᴰ}
 use lib.ListN.{length, getD}
-use Rattle.types.specs.Types.{Ty}
 use Rattle.program.specs.Tree.{Var, Var.par, Var.loc, Expr, Expr.inv, Expr.make, Expr.path, Expr.int-lit, Expr.nat-lit, Expr.bool-lit, Expr.null, Expr.self, Expr.op, Exprs, Exprs.none, Exprs.more, Stmt, Stmt.when, Stmt.declare, Stmt.update, Stmt.create, Stmts, Stmts.end, Stmts.next, Item, Item.call, Item.call-in, Item.fix, Items, Items.stop, Items.item, Step, Program}
 use Rattle.program.specs.Counts.{All}
 
@@ -66,25 +64,25 @@ Once [] = Unit {0}
 Once (x ∷ xs) = (List·Memᴰ x xs → ⊥) × Once xs
 
 -- the names of a struct's steps
-unfoldable pub step-names : List Step → List ℕ
-step-names ts = map (λ t. t .name) ts
+unfoldable pub names-of-steps : List Step → List ℕ
+names-of-steps ts = map (λ t. t .name) ts
 
 -- the steps of each struct, from struct k on, that are named right
 abbrev pub NamedSteps : Program → ℕ → List (List Step) → Type 0
 NamedSteps p k [] = Unit {0}
 NamedSteps p k (ts ∷ tss) =
-    Once (step-names ts)
+    Once (names-of-steps ts)
     × (All (λ t. Named (t .body) (length (getD (p .params) k [])) [] []) ts)
     × (NamedSteps p (ℕ.suc k) tss)
 
 -- some struct has the step n
 abbrev pub Had : ℕ → List (List Step) → Type 0
-Had n tss = (k : ℕ) × List·Memᴰ n (step-names (getD tss k []))
+Had n tss = (k : ℕ) × List·Memᴰ n (names-of-steps (getD tss k []))
 
 unfoldable mutual
   pub Scheduled-item : Item → List (List Step) → Type 0
   Scheduled-item (call n) tss = Had n tss
-  Scheduled-item (call-in k n) tss = List·Memᴰ n (step-names (getD tss k []))
+  Scheduled-item (call-in k n) tss = List·Memᴰ n (names-of-steps (getD tss k []))
   Scheduled-item (fix is) tss = Scheduled is tss
 
   pub Scheduled : Items → List (List Step) → Type 0

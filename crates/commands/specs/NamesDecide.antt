@@ -5,7 +5,7 @@ use mathlib.Core.List.{List, [], _∷_, _++_}
 use lib.ListN.{length, getD}
 use lib.Dec.{ltb}
 use Rattle.program.specs.Tree.{Var, Var.par, Var.loc, Expr, Expr.inv, Expr.make, Expr.path, Expr.int-lit, Expr.nat-lit, Expr.bool-lit, Expr.null, Expr.self, Expr.op, Exprs, Exprs.none, Exprs.more, Stmt, Stmt.when, Stmt.declare, Stmt.update, Stmt.create, Stmts, Stmts.end, Stmts.next, Item, Item.call, Item.call-in, Item.fix, Items, Items.stop, Items.item, Step, Program}
-use Rattle.commands.specs.Names.{declares, live-after, step-names}
+use Rattle.commands.specs.Names.{declares, live-after, names-of-steps}
 use Rattle.commands.specs.Decide.{every, member, distinct}
 
 unfoldable pub start-named : ℕ → List ℕ → Var → Bool
@@ -44,18 +44,18 @@ unfoldable mutual
 unfoldable pub steps-named : Program → ℕ → List (List Step) → Bool
 steps-named p k [] = true
 steps-named p k (ts ∷ tss) =
-    distinct (step-names ts)
+    distinct (names-of-steps ts)
     && (every (λ t. body-named (t .body) (length (getD (p .params) k [])) [] []) ts && steps-named p (suc k) tss)
 
 -- some struct has the step n
 unfoldable pub stepped : ℕ → List (List Step) → Bool
 stepped n [] = false
-stepped n (ts ∷ tss) = member n (step-names ts) || stepped n tss
+stepped n (ts ∷ tss) = member n (names-of-steps ts) || stepped n tss
 
 unfoldable mutual
   pub item-stepped : Item → List (List Step) → Bool
   item-stepped (call n) tss = stepped n tss
-  item-stepped (call-in k n) tss = member n (step-names (getD tss k []))
+  item-stepped (call-in k n) tss = member n (names-of-steps (getD tss k []))
   item-stepped (fix is) tss = items-stepped is tss
 
   pub items-stepped : Items → List (List Step) → Bool

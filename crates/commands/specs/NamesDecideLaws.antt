@@ -6,9 +6,9 @@ use mathlib.Core.Logic.{_↔_}
 use mathlib.Core.Path.{_≡_}
 use lib.ListN.{length, getD}
 use Rattle.program.specs.Tree.{Var, Var.par, Var.loc, Expr, Expr.inv, Expr.make, Expr.path, Expr.int-lit, Expr.nat-lit, Expr.bool-lit, Expr.null, Expr.self, Expr.op, Exprs, Exprs.none, Exprs.more, Stmt, Stmt.when, Stmt.declare, Stmt.update, Stmt.create, Stmts, Stmts.end, Stmts.next, Item, Item.call, Item.call-in, Item.fix, Items, Items.stop, Items.item, Step, Program}
-use Rattle.commands.specs.Names.{Starts, Names, Names-all, declares, live-after, Named-stmt, Named, step-names, NamedSteps, Had, Scheduled-item, Scheduled, NamesRight}
-use Rattle.commands.specs.Decide.{Reflects, Reflects.holds, Reflects.fails}
-use Rattle.commands.specs.DecideLaws.{reflects-iff, reflects-map, reflects-negation, reflects-both, every-reflects, lt-reflects, member-reflects, once-reflects}
+use Rattle.types.specs.Reflects.{Reflects, Reflects.holds, Reflects.fails, reflects-iff, reflects-map, reflects-negation, reflects-both, lt-reflects}
+use Rattle.commands.specs.Names.{Starts, Names, Names-all, declares, live-after, Named-stmt, Named, names-of-steps, NamedSteps, Had, Scheduled-item, Scheduled, NamesRight}
+use Rattle.commands.specs.DecideLaws.{every-reflects, member-reflects, once-reflects}
 use Rattle.commands.specs.NamesDecide.{start-named, expr-named, args-named, stmt-named, body-named, steps-named, stepped, item-stepped, items-stepped, names-right}
 
 start-reflects : (n : ℕ) (live : List ℕ) (v : Var) → Reflects (Starts n live v) (start-named n live v)
@@ -53,20 +53,20 @@ unfolding steps-named
 steps-reflects p k [] = holds tt
 steps-reflects p k (ts ∷ tss) =
     reflects-map (λ h. (h .0, h .1 .0, h .1 .1)) (λ h. (h .0, (h .1, h .2)))
-    (reflects-both (once-reflects (step-names ts))
+    (reflects-both (once-reflects (names-of-steps ts))
     (reflects-both (every-reflects (λ t. body-reflects (t .body) (length (getD (p .params) k [])) [] []) ts) (steps-reflects p (suc k) tss)))
 
 -- some struct of ts ∷ tss has the step where the first has it or one behind
 had-reflects : (n : ℕ) (tss : List (List Step)) → Reflects (Had n tss) (stepped n tss)
-unfolding stepped step-names
+unfolding stepped names-of-steps
 had-reflects n [] = fails (λ h. List·Memᴰ·not-nil (h .1))
-had-reflects n (ts ∷ tss) = go (member-reflects n (step-names ts)) (had-reflects n tss)
+had-reflects n (ts ∷ tss) = go (member-reflects n (names-of-steps ts)) (had-reflects n tss)
   where
-    behind : (List·Memᴰ n (step-names ts) → ⊥) → (Had n tss → ⊥) → (k : ℕ) → List·Memᴰ n (step-names (getD (ts ∷ tss) k [])) → ⊥
+    behind : (List·Memᴰ n (names-of-steps ts) → ⊥) → (Had n tss → ⊥) → (k : ℕ) → List·Memᴰ n (names-of-steps (getD (ts ∷ tss) k [])) → ⊥
     behind f g zero m = f m
     behind f g (suc k) m = g (k, m)
 
-    go : {a b : Bool} → Reflects (List·Memᴰ n (step-names ts)) a → Reflects (Had n tss) b → Reflects (Had n (ts ∷ tss)) (a || b)
+    go : {a b : Bool} → Reflects (List·Memᴰ n (names-of-steps ts)) a → Reflects (Had n tss) b → Reflects (Had n (ts ∷ tss)) (a || b)
     go (holds m) r = holds (0, m)
     go (fails f) (holds h) = holds (suc (h .0), h .1)
     go (fails f) (fails g) = fails (λ h. behind f g (h .0) (h .1))
@@ -76,7 +76,7 @@ mutual
 
   item-reflects : (i : Item) (tss : List (List Step)) → Reflects (Scheduled-item i tss) (item-stepped i tss)
   item-reflects (call n) tss = had-reflects n tss
-  item-reflects (call-in k n) tss = member-reflects n (step-names (getD tss k []))
+  item-reflects (call-in k n) tss = member-reflects n (names-of-steps (getD tss k []))
   item-reflects (fix is) tss = items-reflects is tss
 
   items-reflects : (is : Items) (tss : List (List Step)) → Reflects (Scheduled is tss) (items-stepped is tss)

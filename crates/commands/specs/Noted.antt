@@ -6,6 +6,7 @@ use mathlib.Core.Bool.{Bool, true, false}
 use lib.ListN.{length}
 use Rattle.types.specs.Limits.{first-local}
 use Rattle.types.specs.Types.{Ty, Ty.int, Ty.nat, Ty.bool, Ty.ref}
+use Rattle.types.specs.TypeBytes.{struct-of}
 use Rattle.types.specs.Values.{Val, default, value-of}
 use Rattle.program.specs.Tree.{Var, Var.par, Var.loc, Op, Expr, Expr.inv, Expr.make, Expr.path, Expr.int-lit, Expr.nat-lit, Expr.bool-lit, Expr.null, Expr.self, Expr.op, Exprs, Exprs.none, Exprs.more, Stmt, Stmt.when, Stmt.declare, Stmt.update, Stmt.create, Stmts, Stmts.end, Stmts.next}
 use Rattle.commands.specs.Commands.{Com.push, Com.push-this, Com.rd, Com.wr, Com.cons, Com.not, Com.oper, Flat, Flat.plain, Flat.if-n}
@@ -48,13 +49,6 @@ now-written (n-set false t x) w = w
 now-written (n-cons k) w = w
 now-written (n-op o) w = w
 now-written (n-if n) w = w
-
--- the struct that a value of a type refers to
-unfoldable pub struct-of : Ty → ℕ
-struct-of int = 0
-struct-of nat = 0
-struct-of bool = 0
-struct-of (ref k) = k
 
 -- Each compiles in front of the commands c behind it ------------------------------
 

@@ -9,10 +9,11 @@ use lib.Seq.{drop-append-seam}
 use Rattle.types.specs.Types.{Ty}
 use Rattle.program.specs.Tree.{Var, Var.par, Var.loc, Expr, Expr.inv, Expr.make, Expr.path, Expr.int-lit, Expr.nat-lit, Expr.bool-lit, Expr.null, Expr.self, Expr.op, Exprs, Exprs.none, Exprs.more, Stmt, Stmt.when, Stmt.declare, Stmt.update, Stmt.create, Stmts, Stmts.end, Stmts.next}
 use Rattle.program.specs.Encoding.{var-code}
-use Rattle.commands.specs.Commands.{Com.push-this, reads, variables, front, last, expr-coms, args-coms, stmt-coms, body-coms, Flat.plain, flatten, commands}
+use Rattle.commands.specs.Commands.{Com.push-this, reads, path-coms, front, last, expr-coms, args-coms, stmt-coms, body-coms, Flat.plain, flatten, commands}
 use Rattle.commands.specs.CommandLaws.{flatten-app, stored, update-flat, when-flat}
 use Rattle.commands.specs.Context.{Ctx, typ}
-use Rattle.commands.specs.Noted.{Note, Note.n-this, Note.n-not, Note.n-set, Note.n-cons, Note.n-op, Note.n-if, erase, struct-of, walk, store, read-path, write-path, note-expr, note-exprs, note-stmt, note-body, noted}
+use Rattle.types.specs.TypeBytes.{struct-of}
+use Rattle.commands.specs.Noted.{Note, Note.n-this, Note.n-not, Note.n-set, Note.n-cons, Note.n-op, Note.n-if, erase, walk, store, read-path, write-path, note-expr, note-exprs, note-stmt, note-body, noted}
 
 module _ (G : Ctx) where
   walk-app : (t : Ty) (xs : List ℕ) (c d : List Note) → walk G t xs (c ++ d) ≡ walk G t xs c ++ d
@@ -90,7 +91,7 @@ module _ (G : Ctx) where
   store-erased t x (y ∷ ys) c = rw (store-erased (typ G (struct-of t) x) y ys c)
 
   read-erased : (v : Var) (vs : List ℕ) (c : List Note)
-      → map erase (read-path G v vs c) ≡ flatten (variables (var-code v ∷ vs)) ++ map erase c
+      → map erase (read-path G v vs c) ≡ flatten (path-coms (var-code v ∷ vs)) ++ map erase c
   unfolding read-path erase var-code flatten reads
   read-erased (par x) xs c = rw walk-erased
   read-erased (loc x) xs c = rw walk-erased

@@ -5,13 +5,14 @@ use mathlib.Core.List.{List, [], _∷_}
 use Rattle.types.specs.Types.{Ty, Ty.int, Ty.nat, Ty.bool, Ty.ref, same-type}
 use Rattle.program.specs.Tree.{Var.par, Var.loc, Op.op-eq, Op.op-le, Op.op-add, Op.op-and, Expr, Expr.inv, Expr.make, Expr.path, Expr.int-lit, Expr.nat-lit, Expr.bool-lit, Expr.null, Expr.self, Expr.op, Exprs.none, Exprs.more, Stmt, Stmt.when, Stmt.declare, Stmt.update, Stmt.create, Stmts, Stmts.end, Stmts.next, Item, Item.call, Item.call-in, Item.fix, Items, Items.stop, Items.item, Step, Program}
 use Rattle.program.specs.Counts.{All}
+use Rattle.types.specs.Reflects.{reflects-iff, eq-reflects}
 use Rattle.commands.specs.Commands.{then, reads, front, last, expr-coms, args-coms, update-coms, stmt-coms, body-coms, flatten, commands}
 use Rattle.commands.specs.Context.{stmt-local, body-local}
-use Rattle.commands.specs.Names.{declares, declared, step-names}
+use Rattle.commands.specs.Names.{declares, declared, names-of-steps}
 use Rattle.commands.specs.Depth.{depth}
 use Rattle.commands.specs.Bounds.{item-count, items-count, total, program-size}
 use Rattle.commands.specs.Decide.{every, member, distinct}
-use Rattle.commands.specs.DecideLaws.{reflects-iff, every-reflects, eq-reflects}
+use Rattle.commands.specs.DecideLaws.{every-reflects}
 use Rattle.commands.specs.NamesDecide.{start-named, expr-named, args-named, stmt-named, body-named, steps-named, stepped, item-stepped, items-stepped, names-right}
 use Rattle.commands.specs.TypingDecide.{is-of, agree, given, result, operate, lead, path-type, expr-type, args-typed, stmt-typed, body-typed, steps-typed, types-right}
 use Rattle.commands.specs.BoundsDecide.{within}
@@ -167,5 +168,5 @@ rows =
 
 -- every row's tree has its number
 rows-hold : All (λ r. program-number (r .tree) ≡ r .number) rows
-unfolding rows statements in-a-row named-to same-type then reads front last expr-coms args-coms update-coms stmt-coms body-coms flatten commands stmt-local body-local declares declared step-names depth item-count items-count total program-size every member distinct start-named expr-named args-named stmt-named body-named steps-named stepped item-stepped items-stepped names-right is-of agree given result operate lead path-type expr-type args-typed stmt-typed body-typed steps-typed types-right within first breach-tests program-number
+unfolding rows statements in-a-row named-to same-type then reads front last expr-coms args-coms update-coms stmt-coms body-coms flatten commands stmt-local body-local declares declared names-of-steps depth item-count items-count total program-size every member distinct start-named expr-named args-named stmt-named body-named steps-named stepped item-stepped items-stepped names-right is-of agree given result operate lead path-type expr-type args-typed stmt-typed body-typed steps-typed types-right within first breach-tests program-number
 rows-hold = reflects-iff (every-reflects (λ (r : Row). eq-reflects (program-number (r .tree)) (r .number)) rows) .0 refl

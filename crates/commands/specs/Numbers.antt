@@ -5,10 +5,6 @@ use mathlib.Core.List.{List, [], _∷_, _++_}
 use mathlib.Core.Path.{_≡_}
 pub use Rattle.types.specs.Numbers.{over-limits, wrong-names, wrong-types}
 use Rattle.program.specs.Tree.{Program}
-use Rattle.commands.specs.Bounds.{Within}
-use Rattle.commands.specs.Names.{NamesRight}
-use Rattle.commands.specs.Typing.{TypesRight}
-use Rattle.commands.specs.Decide.{Reflects}
 use Rattle.commands.specs.BoundsDecide.{within}
 use Rattle.commands.specs.NamesDecide.{names-right}
 use Rattle.commands.specs.TypingDecide.{types-right}
@@ -36,18 +32,7 @@ unfoldable pub first : List (ℕ × Bool) → ℕ
 first [] = accepted
 first (t ∷ ts) = elim (t .1) [ true ↦ t .0 | false ↦ first ts ]
 
--- the tests of an order: place by place the number is the same, and the test decides the condition
-abbrev pub Tested : Order → List (ℕ × Bool) → Type 0
-Tested [] [] = Unit {0}
-Tested [] (t ∷ ts) = ⊥
-Tested (r ∷ l) [] = ⊥
-Tested (r ∷ l) (t ∷ ts) = (r .0 ≡ t .0) × (Reflects (r .1) (t .1)) × Tested l ts
-
 -- Programs --------------------------------------------------------------------------
-
--- of a program that is read, lowest number first
-abbrev pub breaches : Program → Order
-breaches p = (over-limits, (Within p → ⊥)) ∷ (wrong-names, (NamesRight p → ⊥)) ∷ (wrong-types, (TypesRight p → ⊥)) ∷ []
 
 unfoldable pub breach-tests : Program → List (ℕ × Bool)
 breach-tests p = (over-limits, not (within p)) ∷ (wrong-names, not (names-right p)) ∷ (wrong-types, not (types-right p)) ∷ []

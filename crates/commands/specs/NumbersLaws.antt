@@ -1,21 +1,19 @@
 -- The number that comes out is that of the first condition that holds (01, 'Numbers from the input'), and so for programs.
 use Prim.Native.Nat.{ℕ}
 use mathlib.Core.Bool.{Bool, true, false, not}
-use mathlib.Core.List.{List, [], _∷_, _++_, map, List·Memᴰ, List·Memᴰ·head, List·Memᴰ·tail, List·Memᴰ·cases-cons}
-use mathlib.Core.Logic.{_↔_, inl, inr}
+use mathlib.Core.List.{[], _∷_, _++_}
+use mathlib.Core.Logic.{_↔_}
 use mathlib.Core.Path.{_≡_, refl, sym, ap, subst, _∙_}
 use native.Mathlib.Omega.{arith}
 use Rattle.program.specs.Tree.{Program}
-use Rattle.program.specs.Counts.{All}
+use Rattle.types.specs.Reflects.{Reflects, Reflects.holds, Reflects.fails}
 use Rattle.commands.specs.Bounds.{Within}
 use Rattle.commands.specs.Names.{NamesRight}
 use Rattle.commands.specs.Typing.{TypesRight}
-use Rattle.commands.specs.Decide.{Reflects, Reflects.holds, Reflects.fails}
-use Rattle.commands.specs.DecideLaws.{reflects-negation}
 use Rattle.commands.specs.BoundsDecideLaws.{within-reflects}
 use Rattle.commands.specs.NamesDecideLaws.{names-reflects}
 use Rattle.commands.specs.TypingDecideLaws.{types-reflects}
-use Rattle.commands.specs.Numbers.{accepted, Order, NoneOf, Foremost, first, Tested, over-limits, wrong-names, wrong-types, breaches, breach-tests, program-number}
+use Rattle.commands.specs.Numbers.{accepted, Order, NoneOf, Foremost, first, over-limits, wrong-names, wrong-types, breach-tests, program-number}
 
 -- The foremost of an order ----------------------------------------------------------
 
@@ -49,68 +47,7 @@ foremost-some {n} q f = none-there (q .0) (q .1) n (q .2) (subst NoneOf (q .3) f
 
 -- The first of several --------------------------------------------------------------
 
--- nothing comes out but 0 and the numbers of the tests
-pub first-among : (ts : List (ℕ × Bool)) → List·Memᴰ (first ts) (accepted ∷ map (λ t. t .0) ts)
-unfolding first
-first-among [] = List·Memᴰ·head refl
-first-among (t ∷ ts) = go (t .1) (first-among ts)
-  where
-    go : (b : Bool) → List·Memᴰ (first ts) (accepted ∷ map (λ u. u .0) ts)
-        → List·Memᴰ (elim b [ true ↦ t .0 | false ↦ first ts ]) (accepted ∷ t .0 ∷ map (λ u. u .0) ts)
-    go true r = List·Memᴰ·tail (List·Memᴰ·head refl)
-    go false r = elim (List·Memᴰ·cases-cons r) [ inl e ↦ List·Memᴰ·head e | inr k ↦ List·Memᴰ·tail (List·Memᴰ·tail k) ]
-
-found : (l : Order) (ts : List (ℕ × Bool)) (n : ℕ) → Tested l ts → (n ≡ accepted → ⊥) → first ts ≡ n → Foremost l n
-unfolding first
-found [] [] n d h e = absurd (h (sym e))
-found [] (t ∷ ts) n d h e = absurd d
-found (r ∷ l) [] n d h e = absurd d
-found (r ∷ l) (t ∷ ts) n d h e = go (d .1) e (λ q. found l ts n (d .2) h q)
-  where
-    go : {b : Bool} → Reflects (r .1) b → (elim b [ true ↦ t .0 | false ↦ first ts ]) ≡ n → (first ts ≡ n → Foremost l n) → Foremost (r ∷ l) n
-    go (holds c) e below = subst (Foremost (r ∷ l)) (d .0 ∙ e) (at-first c)
-    go (fails x) e below = behind-first x (below e)
-
-comes : (before behind : Order) (n : ℕ) (C : Type 0) (ts : List (ℕ × Bool)) → Tested (before ++ (n, C) ∷ behind) ts → C → NoneOf before → first ts ≡ n
-unfolding first
-comes [] behind n C [] d c f = absurd d
-comes [] behind n C (t ∷ ts) d c f = go (d .1)
-  where
-    go : {b : Bool} → Reflects C b → (elim b [ true ↦ t .0 | false ↦ first ts ]) ≡ n
-    go (holds x) = sym (d .0)
-    go (fails x) = absurd (x c)
-comes (r ∷ before) behind n C [] d c f = absurd d
-comes (r ∷ before) behind n C (t ∷ ts) d c f = go (d .1) (comes before behind n C ts (d .2) c (f .1))
-  where
-    go : {b : Bool} → Reflects (r .1) b → first ts ≡ n → (elim b [ true ↦ t .0 | false ↦ first ts ]) ≡ n
-    go (holds x) e = absurd (f .0 x)
-    go (fails x) e = e
-
--- a number comes out exactly where it stands foremost of those whose condition holds
-pub first-exact : (l : Order) (ts : List (ℕ × Bool)) → Tested l ts → (n : ℕ) → (n ≡ accepted → ⊥) → (first ts ≡ n) ↔ Foremost l n
-first-exact l ts d n h =
-    (found l ts n d h, λ q. comes (q .0) (q .1) n (q .2) ts (subst (λ (k : Order). Tested k ts) (q .3) d) (q .4) (q .5))
-
--- 0 comes out exactly where no condition holds
-pub first-none : (l : Order) (ts : List (ℕ × Bool)) → Tested l ts → All (λ t. t .0 ≡ accepted → ⊥) ts → (first ts ≡ accepted) ↔ NoneOf l
-unfolding first
-first-none [] [] d h = (λ e. tt, λ q. refl)
-first-none [] (t ∷ ts) d h = absurd d
-first-none (r ∷ l) [] d h = absurd d
-first-none (r ∷ l) (t ∷ ts) d h = go (d .1) (first-none l ts (d .2) (h .1))
-  where
-    go : {b : Bool} → Reflects (r .1) b → (first ts ≡ accepted) ↔ NoneOf l
-        → ((elim b [ true ↦ t .0 | false ↦ first ts ]) ≡ accepted) ↔ ((r .1 → ⊥) × NoneOf l)
-    go (holds c) q = (λ e. absurd (h .0 e), λ f. absurd (f .0 c))
-    go (fails x) q = (λ e. (x, q .0 e), λ f. q .1 (f .1))
-
 -- Programs --------------------------------------------------------------------------
-
--- the tests of a program decide its order's conditions
-pub breaches-tested : (p : Program) → Tested (breaches p) (breach-tests p)
-unfolding breach-tests
-breaches-tested p =
-    (refl, reflects-negation (within-reflects p), (refl, reflects-negation (names-reflects p), (refl, reflects-negation (types-reflects p), tt)))
 
 -- the number by the three tests
 abbrev outcome : Bool → Bool → Bool → ℕ
@@ -174,13 +111,3 @@ module _ (p : Program) where
       go (holds x) (holds y) (fails h) = yes-yes refl (x, y, h)
       go (holds x) (fails g) t = no-no (λ e. omega arith) (λ q. g (q .1))
       go (fails f) s t = no-no (λ e. omega arith) (λ q. f (q .0))
-
-  -- no other number comes out
-  pub number-among : List·Memᴰ (program-number p) (accepted ∷ over-limits ∷ wrong-names ∷ wrong-types ∷ [])
-  unfolding program-number breach-tests
-  number-among = first-among (breach-tests p)
-
-  -- a number comes out exactly where its condition holds and that of none before it in the order
-  pub number-first : (n : ℕ) → (n ≡ accepted → ⊥) → (program-number p ≡ n) ↔ Foremost (breaches p) n
-  unfolding program-number
-  number-first = first-exact (breaches p) (breach-tests p) (breaches-tested p)

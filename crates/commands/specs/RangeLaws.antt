@@ -2,8 +2,7 @@
 -- steps determine its commands.
 use Prim.Native.Nat.{ℕ, _<_, _≤_}
 use native.Mathlib.Omega.{arith}
-use mathlib.Core.Path.{_≡_, ap}
-use mathlib.Core.Option.{some}
+use mathlib.Core.Path.{ap}
 use mathlib.Core.List.{List, [], _∷_, _++_, map}
 use lib.ListN.{length, length-append, length-map}
 use Rattle.types.specs.Limits.{max-structs, max-steps, first-local, variables, step-commands}
@@ -18,9 +17,7 @@ use Rattle.program.specs.CodeLaws.{var-code-of}
 use Rattle.commands.specs.Commands.{Coms, Coms.nil, Coms.if-then, then, reads, front, last, expr-coms, args-coms, update-coms, stmt-coms, body-coms, flatten, commands}
 use Rattle.commands.specs.CommandLaws.{flatten-then}
 use Rattle.commands.specs.Bounds.{step-list, step-size, Within}
-use Rattle.commands.specs.Coding.{words}
-use Rattle.commands.specs.Decoding.{decode, InRanges}
-use Rattle.commands.specs.CodingLaws.{decode-words}
+use Rattle.commands.specs.Decoding.{InRanges}
 
 -- what holds of two lists holds of both in a row
 pub all-append : {A : Type 0} (C : A → Type 0) (l m : List A) → All C l → All C m → All C (l ++ m)
@@ -127,9 +124,6 @@ all-both : {A : Type 0} (P Q R : A → Type 0) → ((a : A) → P a → Q a → 
 all-both P Q R f [] h k = tt
 all-both P Q R f (a ∷ l) h k = (f a (h .0) (k .0), all-both P Q R f l (h .1) (k .1))
 
-all-weak : {A : Type 0} (P R : A → Type 0) → ((a : A) → P a → R a) → (l : List A) → All P l → All R l
-all-weak P R f l h = all-both P P R (λ a p q. f a p) l h h
-
 -- the commands of a step
 abbrev pub StepRanged : Step → Type 0
 StepRanged t = All InRanges (step-list t)
@@ -147,13 +141,3 @@ program-ranged p c w =
 
     one-step : (t : Step) → CountsStep ar t → step-size t ≤ step-commands → StepRanged t
     one-step t h l = ranged-body ar (omega (arith, length-map (p .params) length, c .0 .1)) (t .body) (h .2) l
-
--- so that the words of each step say its commands
-abbrev pub StepDecoded : Step → Type 0
-StepDecoded t = map decode (words (step-list t)) ≡ map some (step-list t)
-
-pub program-decoded : (p : Program) → Counts p → Within p → All (All StepDecoded) (p .steps)
-program-decoded p c w =
-    all-weak (All StepRanged) (All StepDecoded)
-    (λ ts h. all-weak StepRanged StepDecoded (λ t k. decode-words (step-list t) k) ts h)
-    (p .steps) (program-ranged p c w)

@@ -62,10 +62,5 @@ module _ (p : Program) (names : NamesRight p) (types : TypesRight p) (k : ℕ) w
       → (Among (alive (lives b)) []) × (Secure (context p k b) (noted (context p k b) b) (lives b) [] false)
   step-secure n e = let (t, m, q) = found (getD (p .steps) k []) n e in rw q at (program-secure t m)
 
-  -- and so safe on every way
-  pub program-safe : (t : Step) → List·Memᴰ t (getD (p .steps) k [])
-      → Safe (context p k (t .body)) (noted (context p k (t .body)) (t .body)) at-start
-  program-safe t m = let (alive, secure) = program-secure t m in secure-safe secure alive
-
   pub step-safe : (n : ℕ) {b : Stmts} → step-of p k n ≡ some b → Safe (context p k b) (noted (context p k b) b) at-start
   step-safe n e = let (alive, secure) = step-secure n e in secure-safe secure alive

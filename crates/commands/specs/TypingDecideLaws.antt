@@ -3,36 +3,17 @@ use Prim.Native.Nat.{ℕ, suc, _<_}
 use mathlib.Core.Bool.{Bool, true, false}
 use mathlib.Core.List.{List, [], _∷_}
 use mathlib.Core.Logic.{_↔_}
-use mathlib.Core.Path.{_≡_, refl, sym, _∙_, ap, subst}
+use mathlib.Core.Path.{_≡_, refl, sym, _∙_, subst}
 use lib.ListN.{length}
 use native.Mathlib.Omega.{arith}
-use Rattle.types.specs.Types.{Ty, Ty.int, Ty.nat, Ty.bool, Ty.ref, code, same-type}
+use Rattle.types.specs.Types.{Ty, Ty.int, Ty.nat, Ty.bool, Ty.ref}
 use Rattle.program.specs.Tree.{Var, Var.par, Var.loc, Op, Expr, Expr.inv, Expr.make, Expr.path, Expr.int-lit, Expr.nat-lit, Expr.bool-lit, Expr.null, Expr.self, Expr.op, Exprs, Exprs.none, Exprs.more, Stmt, Stmt.when, Stmt.declare, Stmt.update, Stmt.create, Stmts, Stmts.end, Stmts.next, Step, Program}
+use Rattle.types.specs.TypeLaws.{same-exact}
+use Rattle.types.specs.Reflects.{Reflects, Reflects.holds, Reflects.fails, reflects-iff, reflects-map, reflects-both, lt-reflects}
 use Rattle.commands.specs.Context.{Ctx, typ, context}
 use Rattle.commands.specs.Typing.{Sort, Sort.equality, Sort.order, Sort.arithmetic, Sort.logic, sort, Takes, Takes.any-equal, Takes.order-int, Takes.order-nat, Takes.arith-int, Takes.arith-nat, Takes.logic-bool, Leads, Leads.arrived, Leads.onward, Reaches, Reaches.from-own, Reaches.from-local, Types, Types.t-not, Types.t-make, Types.t-path, Types.t-int, Types.t-nat, Types.t-bool, Types.t-null, Types.t-this, Types.t-op, Types-all, Types-all.t-none, Types-all.t-more, Typed-stmt, Typed-stmt.t-when, Typed-stmt.t-declare, Typed-stmt.t-update, Typed-stmt.t-create, Typed, Typed.t-end, Typed.t-next, TypedSteps, TypesRight}
-use Rattle.commands.specs.Decide.{Reflects, Reflects.holds, Reflects.fails}
-use Rattle.commands.specs.DecideLaws.{reflects-iff, reflects-map, reflects-both, every-reflects, lt-reflects, eq-reflects}
+use Rattle.commands.specs.DecideLaws.{every-reflects}
 use Rattle.commands.specs.TypingDecide.{Judgement, Judgement.untypable, Judgement.of-type, is-of, agree, given, result, operate, lead, path-type, expr-type, args-typed, stmt-typed, body-typed, steps-typed, types-right}
-
--- whether two types are one, decided
-pub same-reflects : (t u : Ty) → Reflects (t ≡ u) (same-type t u)
-unfolding same-type code
-same-reflects int int = holds refl
-same-reflects int nat = fails (λ e. omega (arith, ap code e))
-same-reflects int bool = fails (λ e. omega (arith, ap code e))
-same-reflects int (ref k) = fails (λ e. omega (arith, ap code e))
-same-reflects nat int = fails (λ e. omega (arith, ap code e))
-same-reflects nat nat = holds refl
-same-reflects nat bool = fails (λ e. omega (arith, ap code e))
-same-reflects nat (ref k) = fails (λ e. omega (arith, ap code e))
-same-reflects bool int = fails (λ e. omega (arith, ap code e))
-same-reflects bool nat = fails (λ e. omega (arith, ap code e))
-same-reflects bool bool = holds refl
-same-reflects bool (ref k) = fails (λ e. omega (arith, ap code e))
-same-reflects (ref j) int = fails (λ e. omega (arith, ap code e))
-same-reflects (ref j) nat = fails (λ e. omega (arith, ap code e))
-same-reflects (ref j) bool = fails (λ e. omega (arith, ap code e))
-same-reflects (ref j) (ref k) = reflects-map (λ e. ap ref e) (λ e. omega (arith, ap code e)) (eq-reflects j k)
 
 -- what a judgement says of a condition on types: it holds of that type alone, or of none
 pub data Judges (T : Ty → Type 0) : Judgement → Type 0 where
@@ -52,7 +33,7 @@ judges-unique {t = t} (no-type n) a b = absurd (n t a)
 -- comparing the judgement with a type decides the condition at that type; comparing two, at some common type
 is-of-reflects : {T : Ty → Type 0} {j : Judgement} → Judges T j → (t : Ty) → Reflects (T t) (is-of t j)
 unfolding is-of
-is-of-reflects {T} (only {t = u} h one) t = reflects-map (λ e. subst T (sym e) h) (λ r. sym (one t r)) (same-reflects t u)
+is-of-reflects {T} (only {t = u} h one) t = reflects-map (λ e. subst T (sym e) h) (λ r. sym (one t r)) (same-exact t u)
 is-of-reflects (no-type n) t = fails (n t)
 
 agree-reflects : {T U : Ty → Type 0} {i j : Judgement} → Judges T i → Judges U j → Reflects ((t : Ty) × T t × U t) (agree i j)

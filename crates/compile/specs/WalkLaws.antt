@@ -1,4 +1,4 @@
--- What the walk has of items that were read, one law for each sort (01, 'Program stream').
+-- What the walk has of items that were read, one law for each sort of item (01, 'Program stream').
 use Prim.Native.Nat.{ℕ, zero, suc, _+_, _-_, _<_}
 use native.Mathlib.Omega.{arith}
 use native.Mathlib.Numerals.{sub-one}
@@ -7,7 +7,7 @@ use mathlib.Core.List.{List, [], _∷_, _++_, append-nil}
 use lib.ListN.{length, getD, set, length-set, length-append}
 use Rattle.types.specs.Limits.{step-names, max-items}
 use Rattle.program.specs.Tree.{Item, Item.call, Item.call-in, Item.fix, Items, Items.stop, Items.item}
-use Rattle.program.specs.Reader.{Result, Result.ok, Result.bad, wrong-byte, then, pair, made, lookup, ranged, Sort, Sort.sort-call, Sort.sort-call-in, Sort.sort-fix, Sort.sort-none, sort, rule-item, read-item, read-items}
+use Rattle.program.specs.Reader.{Result, Result.ok, Result.bad, wrong-byte, then, pair, made, lookup, ranged, ItemSort, ItemSort.sort-call, ItemSort.sort-call-in, ItemSort.sort-fix, ItemSort.sort-none, item-sort, rule-item, read-item, read-items}
 use Rattle.program.specs.PartLaws.{made-ok}
 use Rattle.program.specs.ItemLaws.{OpensItem, opens-item}
 use Rattle.emit.specs.declared.Put.{Put}
@@ -49,10 +49,10 @@ module _ (s : List ℕ) where
 
   -- an item has a byte, whose sort says what is read
   item-step : (d at : ℕ) → Good (item-at s d at)
-      → (at < length s) × (item-at s d at ≡ rule-item any-structs s (inner d) at (at + 1) (sort (getD s at 0)))
+      → (at < length s) × (item-at s d at ≡ rule-item any-structs s (inner d) at (at + 1) (item-sort (getD s at 0)))
   unfolding read-item inner
-  item-step zero at g = opened-value s sort (rule-item any-structs s λ at k. bad at wrong-byte) at g
-  item-step (suc d) at g = opened-value s sort (rule-item any-structs s λ at k. items-at s d k) at g
+  item-step zero at g = opened-value s item-sort (rule-item any-structs s λ at k. bad at wrong-byte) at g
+  item-step (suc d) at g = opened-value s item-sort (rule-item any-structs s λ at k. items-at s d k) at g
 
   -- no level, no Fix; a level less in a Fix
   shut : (at k : ℕ) {r : Result Item} → r ≡ made fix (inner 0 at k) → Good r → ⊥
@@ -77,7 +77,7 @@ module _ (s : List ℕ) where
 
     -- a step of every struct
     pub call-one : getD s at 0 ≡ 1 → (at + 1 < length s) × ((k : ℕ) → One (item-codes k) (item-at s d at) (getD s (at + 1) 0) (at + 2))
-    unfolding rule-item sort lookup
+    unfolding rule-item item-sort lookup
     call-one e =
         let p : item-at s d at ≡ made call (ranged s 0 step-names (at + 1)) = item-step d at g .1 ∙ rw e refl in
         let v = made-value call (ranged s 0 step-names (at + 1)) (rw p at g) in
@@ -88,7 +88,7 @@ module _ (s : List ℕ) where
     -- a step of one struct
     pub call-in-one : getD s at 0 ≡ 2
         → (at + 2 < length s) × ((k : ℕ) → One (item-codes k) (item-at s d at) (start-code (local (getD s (at + 1) 0) (getD s (at + 2) 0))) (at + 3))
-    unfolding rule-item sort lookup
+    unfolding rule-item item-sort lookup
     call-in-one e =
         let p : item-at s d at ≡ made in-struct both = item-step d at g .1 ∙ rw e refl in
         let v = made-value in-struct both (rw p at g) in
@@ -115,7 +115,7 @@ module _ (s : List ℕ) where
     -- a Fix, where it is nothing else
     pub fix-facts : (getD s at 0 ≡ 1 → ⊥) → (getD s at 0 ≡ 2 → ⊥) → FixFacts d at
     unfolding rule-item code-of next-of
-    fix-facts n1 n2 = go (sort (getD s at 0)) refl (opens-item (getD s at 0))
+    fix-facts n1 n2 = go (item-sort (getD s at 0)) refl (opens-item (getD s at 0))
       where
         read-so : (d : ℕ) (is : Items) (m : ℕ) → item-at s (suc d) at ≡ ok (fix is) m → items-at s d (at + 1) ≡ ok is m → FixFacts (suc d) at
         read-so d is m p q =
@@ -129,7 +129,7 @@ module _ (s : List ℕ) where
             let v = made-value fix (items-at s d (at + 1)) (rw q at g) in
             read-so d (v .0) (v .1) (q ∙ v .3) (v .2)
 
-        go : (f : Sort) → sort (getD s at 0) ≡ f → OpensItem (getD s at 0) f → FixFacts d at
+        go : (f : ItemSort) → item-sort (getD s at 0) ≡ f → OpensItem (getD s at 0) f → FixFacts d at
         go sort-call e o = absurd (n1 o)
         go sort-call-in e o = absurd (n2 o)
         go sort-fix e o = inside d (item-step d at g .1 ∙ rw e refl) g

@@ -10,7 +10,7 @@ use Rattle.types.specs.Types.{Ty}
 use Rattle.program.specs.Tree.{Var, Expr, Exprs, Exprs.none, Exprs.more, Stmt, Stmt.when, Stmt.declare, Stmt.update, Stmts, Stmts.end, Stmts.next}
 use Rattle.program.specs.Encoding.{var-code}
 use Rattle.program.specs.Reader.{Result, Result.ok, Result.bad, many, read-expr, read-make, read-stmt, read-body, read-when}
-use Rattle.commands.specs.Commands.{Com.wr, Com.cons, one, then, variables, front, last, expr-coms, args-coms, stmt-coms, flatten, Coms, commands}
+use Rattle.commands.specs.Commands.{Com.wr, Com.cons, one, then, path-coms, front, last, expr-coms, args-coms, stmt-coms, flatten, Coms, commands}
 use Rattle.commands.specs.Coding.{coded, words}
 use Rattle.emit.specs.declared.Put.{Put}
 
@@ -59,10 +59,10 @@ make-words p = coms-words (then (args-coms (p .1)) (one (cons (p .0))))
 
 -- a path that is read, and one that is written
 unfoldable pub path-words : Var × List ℕ → List ℕ
-path-words p = coms-words (variables (var-code (p .0) ∷ p .1))
+path-words p = coms-words (path-coms (var-code (p .0) ∷ p .1))
 
 unfoldable pub target-words : Var × List ℕ → List ℕ
-target-words p = coms-words (then (variables (front (var-code (p .0)) (p .1))) (one (wr (last (var-code (p .0)) (p .1)))))
+target-words p = coms-words (then (path-coms (front (var-code (p .0)) (p .1))) (one (wr (last (var-code (p .0)) (p .1)))))
 
 unfoldable pub stmt-words : Stmt → List ℕ
 stmt-words t = coms-words (stmt-coms t)

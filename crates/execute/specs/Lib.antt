@@ -1,7 +1,3 @@
-pub mod Answers
-pub mod StackWays
-pub mod OperWays
-pub mod VarWays
-pub mod ConsWays
+pub mod Ready
 pub mod PerformWays
 pub mod ReadyLaws

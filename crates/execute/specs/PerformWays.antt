@@ -1,13 +1,22 @@
 -- A command by its kind: what its function needs, and that its answer is the command's (01, 'Table and turns').
-use Prim.Native.Nat.{ℕ, suc, _%_, _≤_}
+use Prim.Native.Nat.{ℕ, suc, _+_, _%_, _^_, _<_, _≤_}
 use native.Mathlib.Omega.{arith}
-use mathlib.Core.Path.{_≡_, subst, _∙_}
+use mathlib.Core.Path.{_≡_, refl, subst, _∙_}
 use mathlib.Core.List.{List}
-use Rattle.memory.specs.Layout.{State, operand}
+use lib.ListN.{getD}
+use Rattle.layout.specs.Layout.{head, next-of, end-of, operand}
+use Rattle.layout.specs.State.{State}
 use Rattle.memory.specs.Act.{perform}
 use Rattle.memory.specs.Fit.{Needed}
-use Rattle.execute.specs.declared.Acted.{Acted}
-use Rattle.execute.specs.Answers.{memory, on, Ready, DoesWith}
+use Rattle.execute_stack.specs.declared.Acted.{Acted}
+use Rattle.execute_stack.specs.Answers.{seen, Acting, on, DoesWith}
+use Rattle.execute.specs.Ready.{Room, memory, Ready}
+
+-- the actor as memory has it may act: behind its command there is a place, where the end of its commands is a number of the machine's
+pub acting : {h c : List ℕ} {l : ℕ} → Room h c l → getD h (head l end-of) 0 < 2 ^ 64 → Acting h c (seen h l)
+acting {h} {c} {l} r f =
+    let q : getD h (head l next-of) 0 < getD h (head l end-of) 0 = r .next in
+    record { chosen = r .chosen; heads-long = r .heads-long; cells-long = r .cells-long; height = refl; next = refl; more = omega arith }
 
 module _ (counts h c : List ℕ) (l n w k : ℕ) (e : w % 256 ≡ k) where
   -- what a command of kind k needs

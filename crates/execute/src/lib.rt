@@ -1,48 +1,20 @@
-// The commands on lent memory (01, 'Table and turns'; 000's rules for commands): one function for each kind, over the numbers and
-// the cells of the instances. The contracts are equations with `memory/specs/Act.antt`.
-mod cons;
-mod oper;
-mod place;
-mod stack;
-mod vars;
-
-use crate::cons::construct;
-use crate::oper::operate;
-use crate::stack::branch;
-use crate::stack::negate;
-use crate::stack::push;
-use crate::stack::push_this;
-use crate::vars::read;
-use crate::vars::write;
+// A command on lent memory, by its kind (01, 'Table and turns'; 000's rules for commands). The height of the actor's stack and the place of
+// its command are read once and handed on. The contract is an equation with `memory/specs/Act.antt`.
+use execute_construct::construct;
+use execute_operator::operate;
+use execute_stack::Acted;
+use execute_stack::Actor;
+use execute_stack::branch;
+use execute_stack::negate;
+use execute_stack::push;
+use execute_stack::push_this;
+use execute_variables::read;
+use execute_variables::write;
 ghost use Prim.Native.Nat.{_%_};
-ghost use Rattle.memory.specs.Layout.{operand};
+ghost use Rattle.layout.specs.Layout.{operand};
 ghost use Rattle.memory.specs.Act.{perform};
-ghost use Rattle.execute.specs.Answers.{Ready, DoesWith};
-
-// The numbers of an instance in `heads`, and the cells of one.
-pub const HEAD_SIZE: usize = 4;
-
-pub const STRUCT: usize = 0;
-
-pub const HEIGHT: usize = 1;
-
-pub const NEXT: usize = 2;
-
-pub const ROW_SIZE: usize = 32;
-
-// The numbers from the state that a command can meet (01).
-pub const FULL: u8 = 34;
-
-pub const EXCEEDED: u8 = 35;
-
-// What a command did beside its writes to memory: nothing; it made all stability entries false; it made an instance, which does that
-// too; or it was refused with a number, and wrote nothing.
-pub enum Acted {
-    Kept,
-    Changed,
-    Made,
-    Refused(u8),
-}
+ghost use Rattle.execute_stack.specs.Answers.{DoesWith};
+ghost use Rattle.execute.specs.Ready.{Ready};
 
 // Instance l, one of count, takes the command w: its kind is the lowest byte, its operand the upper half.
 pub fn perform(
@@ -56,16 +28,21 @@ pub fn perform(
     requires { ⌜ Ready (now counts) (now heads) (now cells) l count w ⌝ }
     ensures { λ r. ⌜ DoesWith count (λ z. perform (now (counts .entry)) l z (w % 256) w (operand w)) r (now (heads .entry)) (now (cells .entry)) (now (heads .exit)) (now (cells .exit)) ⌝ }
 {
+    let a = Actor {
+        label: l,
+        height: heads[layout::HEAD_SIZE * l + layout::HEIGHT],
+        next: heads[layout::HEAD_SIZE * l + layout::NEXT],
+    };
     let kind = w % 256;
     let v = w / types::NAT_END;
     match kind {
-        1 => push(heads, cells, l, w),
-        2 => push_this(heads, cells, l),
-        3 => read(heads, cells, l, v as usize),
-        4 => write(counts, heads, cells, l, v as usize),
-        5 => construct(counts, heads, cells, l, count, v as usize),
-        6 => branch(heads, cells, l, v as usize),
-        7 => negate(heads, cells, l),
-        _ => operate(heads, cells, l, v as u8),
+        1 => push(heads, cells, a, w),
+        2 => push_this(heads, cells, a),
+        3 => read(heads, cells, a, v as usize),
+        4 => write(counts, heads, cells, a, v as usize),
+        5 => construct(counts, heads, cells, a, count, v as usize),
+        6 => branch(heads, cells, a, v as usize),
+        7 => negate(heads, cells, a),
+        _ => operate(heads, cells, a, v as u8),
     }
 }

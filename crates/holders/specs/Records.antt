@@ -5,7 +5,7 @@ use mathlib.Core.Bool.{true, false}
 use mathlib.Core.List.{List, [], _∷_}
 use lib.ListN.{length, getD}
 use lib.Dec.{ltb, eqb}
-use Rattle.memory.specs.Layout.{head, struct-of, height-of, next-of, end-of}
+use Rattle.layout.specs.Layout.{head, struct-of, height-of, next-of, end-of}
 use Rattle.holders.specs.declared.Record.{Record}
 
 -- an instance without commands

@@ -9,7 +9,8 @@ use lib.ListN.{length, getD, set, length-set}
 use lib.Seq.{getD-set-same, getD-set-other}
 use lib.Dec.{ltb, eqb, eqb·suc-zero}
 use borrow.Author.Tests.{eqb-true, eqb-false}
-use Rattle.memory.specs.Choose.{holds, holding, holder, picked}
+use Rattle.layout.specs.Layout.{holds}
+use Rattle.memory.specs.Choose.{holding, holder, picked}
 use Rattle.holders.specs.declared.Record.{Record}
 use Rattle.holders.specs.Records.{idle, record-at, Recorded, holder-in}
 

@@ -3,7 +3,7 @@ ghost use mathlib.Core.Path.{_≡_};
 ghost use Prim.Native.Nat.{_*_, _<_, _≤_};
 ghost use lib.ListN.{length};
 ghost use Rattle.types.specs.Limits.{max-instances};
-ghost use Rattle.memory.specs.Layout.{head, head-size, end-of};
+ghost use Rattle.layout.specs.Layout.{head, head-size, end-of};
 ghost use Rattle.memory.specs.Choose.{holding, picked};
 ghost use Rattle.holders.specs.Records.{record-at, Recorded, holder-in};
 
@@ -45,12 +45,12 @@ fn record_at(heads: &[usize], l: usize) -> Record
     requires { ⌜ head l end-of < length (now heads) ⌝ }
     ensures { λ p. ⌜ p ≡ record-at (now (heads .entry)) l ⌝ }
 {
-    let at = scheduler::HEAD_SIZE * l;
+    let at = layout::HEAD_SIZE * l;
     Record {
-        kind: heads[at + scheduler::STRUCT_OF],
-        height: heads[at + scheduler::HEIGHT_OF],
-        next: heads[at + scheduler::NEXT_OF],
-        end: heads[at + scheduler::END_OF],
+        kind: heads[at + layout::STRUCT],
+        height: heads[at + layout::HEIGHT],
+        next: heads[at + layout::NEXT],
+        end: heads[at + layout::END],
     }
 }
 

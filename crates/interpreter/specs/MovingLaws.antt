@@ -11,7 +11,7 @@ use Rattle.machine.specs.Published.{Sched, Sched.done, Sched.start, Sched.fixpo
 use Rattle.machine.specs.Machine.{Instance, Machine, machine}
 use Rattle.sound.specs.Invariant.{Open}
 use Rattle.sound.specs.MoveKept.{active-open}
-use Rattle.memory.specs.Layout.{State}
+use Rattle.layout.specs.State.{State}
 use Rattle.memory.specs.Stands.{bits, Stands}
 use Rattle.memory.specs.Plan.{start-code, At}
 use Rattle.memory.specs.PlanLaws.{code-below, past-start, past-fix, past-round, at-within}
@@ -36,12 +36,12 @@ zeros-false n s =
 
 -- what is left to a memory
 abbrev pub left : List ℕ → State → ℕ
-left items z = moves-left items (z .place) (z .fixes) (z .stable) (z .number)
+left items z = moves-left items (z .machine .place) (z .machine .fixes) (z .machine .stable) (z .machine .number)
 
 module _ (items spans : List ℕ) (z : State) where
   -- the next place, with as many false entries
-  on : (y : State) → z .place < length items → move items spans z ≡ y → y .place ≡ suc (z .place) → y .number ≡ z .number
-      → zeros (y .fixes) (y .stable) ≡ zeros (z .fixes) (z .stable)
+  on : (y : State) → z .machine .place < length items → move items spans z ≡ y → y .machine .place ≡ suc (z .machine .place) → y .machine .number ≡ z .machine .number
+      → zeros (y .machine .fixes) (y .machine .stable) ≡ zeros (z .machine .fixes) (z .machine .stable)
       → left items (move items spans z) < left items z
   unfolding moves-left
   on y h e a c q = rw (e, a, c, q) (omega arith)
@@ -54,31 +54,31 @@ module _ (items spans : List ℕ) (z : State) where
     falls-by (start c s) is b S o d =
         let (h, e, r) = past-start items (S .scheduled) in
         on (do-start spans (start-code c) z) (at-within items (S .scheduled)) (move-start items spans z e (code-below c h)) refl refl refl
-    falls-by (fixpoint f s) is b S o d = go (ltb (z .fixes) max-stability) refl
+    falls-by (fixpoint f s) is b S o d = go (ltb (z .machine .fixes) max-stability) refl
       where
-        go : (t : Bool) → ltb (z .fixes) max-stability ≡ t → left items (move items spans z) < left items z
+        go : (t : Bool) → ltb (z .machine .fixes) max-stability ≡ t → left items (move items spans z) < left items z
         go true t =
             on _ (at-within items (S .scheduled)) (fix-begins items spans z (past-fix items (S .scheduled) .0) t) refl refl
-            (zeros-true (z .fixes) (z .stable))
+            (zeros-true (z .machine .fixes) (z .machine .stable))
         go false t =
-            let c : z .number ≡ 0 = S .clear in
+            let c : z .machine .number ≡ 0 = S .clear in
             rw (fix-refused items spans z (past-fix items (S .scheduled) .0) t) (omega arith)
     falls-by (active f s) is [] S o d = absurd (active-open o refl)
     falls-by (active f s) is (true ∷ b) S o d =
         let (t, e, r, w) = past-round items (S .scheduled) in
-        let u : z .stable ≡ suc (2 * bits b) = S .entries in
-        let v : z .fixes ≡ suc (length b) = S .opened in
-        let g : z .fixes - 1 ≡ length b = omega arith in
-        let k : z .stable / 2 ≡ bits b = omega arith in
+        let u : z .machine .stable ≡ suc (2 * bits b) = S .entries in
+        let v : z .machine .fixes ≡ suc (length b) = S .opened in
+        let g : z .machine .fixes - 1 ≡ length b = omega arith in
+        let k : z .machine .stable / 2 ≡ bits b = omega arith in
         on _ (at-within items (S .scheduled)) (round-ends items spans z t e (omega arith)) refl refl
         (rw (g, k, u, v, zeros-true))
     falls-by (active f s) is (false ∷ b) S o d =
         let (t, e, r, w) = past-round items (S .scheduled) in
-        let u : z .stable ≡ 2 * bits b = S .entries in
-        let v : z .fixes ≡ suc (length b) = S .opened in
+        let u : z .machine .stable ≡ 2 * bits b = S .entries in
+        let v : z .machine .fixes ≡ suc (length b) = S .opened in
         let h = at-within items (S .scheduled) in
-        let a : zeros (z .fixes) (suc (z .stable)) ≡ zeros (length b) (bits b) = rw (u, v) (zeros-true (length b) (bits b)) in
-        let q : zeros (z .fixes) (z .stable) ≡ suc (zeros (length b) (bits b)) = rw (u, v) (zeros-false (length b) (bits b)) in
+        let a : zeros (z .machine .fixes) (suc (z .machine .stable)) ≡ zeros (length b) (bits b) = rw (u, v) (zeros-true (length b) (bits b)) in
+        let q : zeros (z .machine .fixes) (z .machine .stable) ≡ suc (zeros (length b) (bits b)) = rw (u, v) (zeros-false (length b) (bits b)) in
         rw (round-again items spans z t e (omega arith), a, q) (omega arith)
 
     -- a move of a schedule that is not at its end, refused or not

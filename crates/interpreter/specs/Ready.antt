@@ -8,7 +8,7 @@ use Rattle.machine.specs.Machine.{Machine}
 use Rattle.sound.specs.Invariant.{Good}
 use Rattle.sound.specs.Accepted.{Firm}
 use Rattle.sound.specs.Tabled.{Tabled}
-use Rattle.memory.specs.Layout.{State}
+use Rattle.layout.specs.State.{State}
 use Rattle.memory.specs.Frame.{Bounded}
 use Rattle.memory.specs.Plan.{At, Located}
 use Rattle.memory.specs.Stands.{Stands}

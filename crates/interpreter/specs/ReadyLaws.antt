@@ -9,7 +9,7 @@ use Rattle.sound.specs.Accepted.{Accepted}
 use Rattle.sound.specs.AcceptedLaws.{accepted-firm}
 use Rattle.sound.specs.BeginGood.{begin-good}
 use Rattle.sound.specs.TabledLaws.{begin-tabled}
-use Rattle.memory.specs.Layout.{State}
+use Rattle.layout.specs.State.{State}
 use Rattle.memory.specs.Plan.{At, Located}
 use Rattle.memory.specs.Stands.{Stands}
 use Rattle.memory.specs.BoundedLaws.{accepted-bounded}

@@ -10,12 +10,12 @@ use Rattle.program.specs.Tree.{Program}
 use Rattle.machine.specs.Machine.{Machine}
 use Rattle.machine.specs.Stops.{out-of-turns}
 use Rattle.run.specs.Visits.{Visits}
-use Rattle.memory.specs.Layout.{State, head, head-size, next-of, end-of}
+use Rattle.layout.specs.Layout.{head, head-size, next-of, end-of, holds}
+use Rattle.layout.specs.State.{State, state-of}
 use Rattle.memory.specs.Fit.{Fit}
 use Rattle.memory.specs.Act.{act}
-use Rattle.memory.specs.Choose.{holds, holding, picked}
-use Rattle.engine.specs.declared.Machine.{Machine as Numbers}
-use Rattle.engine.specs.States.{state-of}
+use Rattle.memory.specs.Choose.{holding, picked}
+use Rattle.layout.specs.declared.Numbers.{Numbers}
 use Rattle.interpreter.specs.Ready.{Ready}
 use Rattle.interpreter.specs.Counting.{fewer}
 use Rattle.interpreter.specs.Running.{busy, cleared, Begun, Standing, Settling, Ending, Gone}
@@ -57,7 +57,7 @@ module _ {counts list items spans es : List ℕ} {z₀ z₁ : State} {b₁ : ℕ
 
     -- The ends of the loop ------------------------------------------------------------
 
-    pub gone-over : n ≡ 0 → Ending counts list items spans es z₀ (z .number) i z
+    pub gone-over : n ≡ 0 → Ending counts list items spans es z₀ (z .machine .number) i z
     gone-over h p m r = ends-over (g p m (settled p counts list m r)) h
 
     module _ (h : 0 < n) where
@@ -72,23 +72,23 @@ module _ {counts list items spans es : List ℕ} {z₀ z₁ : State} {b₁ : ℕ
           (m, r, b)
 
       -- what the choice of a holder needs
-      pub gone-rows : (head-size * z .count ≤ length (z .heads)) × (n ≡ holding (z .heads) 0 (z .count)) × (0 < n)
+      pub gone-rows : (head-size * z .machine .count ≤ length (z .heads)) × (n ≡ holding (z .heads) 0 (z .machine .count)) × (0 < n)
       gone-rows = let (m, r, b) = gone-ready in (ready-rows r, b, h)
 
       -- the next byte picks instance l
-      module _ {l : ℕ} (q : l ≡ picked (z .heads) (z .count) (getD es i 0)) where
+      module _ {l : ℕ} (q : l ≡ picked (z .heads) (z .machine .count) (getD es i 0)) where
         -- what its command needs
         pub gone-fits : Fit list counts l z
         gone-fits = let (m, r, b) = gone-ready in rw q (picked-fits r (omega arith) (getD es i 0))
 
         module _ (k : i < length es) {y : State} (a : y ≡ act list counts l z) where
-          acted : y ≡ act list counts (picked (z .heads) (z .count) (getD es i 0)) z
+          acted : y ≡ act list counts (picked (z .heads) (z .machine .count) (getD es i 0)) z
           acted = a ∙ ap (λ (x : ℕ). act list counts x z) q
 
-          pub gone-failed : (y .number ≡ 0 → ⊥) → Ending counts list items spans es z₀ (y .number) i y
+          pub gone-failed : (y .machine .number ≡ 0 → ⊥) → Ending counts list items spans es z₀ (y .machine .number) i y
           gone-failed c p m r = ends-failed (g p m (settled p counts list m r)) h k acted c
 
-          module _ (c : y .number ≡ 0) where
+          module _ (c : y .machine .number ≡ 0) where
             gone-taken : (m : Machine) × (Ready (begun .program) counts list items spans m y) × (busy y ≡ fewer (holds (y .heads) l) n)
             gone-taken =
                 let (m, r, w, b) =
@@ -100,7 +100,7 @@ module _ {counts list items spans es : List ℕ} {z₀ z₁ : State} {b₁ : ℕ
             gone-begun = let (m, r, b) = gone-taken in record { program = begun .program; machine = m; ready = r }
 
             -- as many hold commands, or one fewer
-            pub gone-count : fewer (holds (y .heads) l) n ≡ holding (y .heads) 0 (y .count)
+            pub gone-count : fewer (holds (y .heads) l) n ≡ holding (y .heads) 0 (y .machine .count)
             gone-count = let (m, r, b) = gone-taken in sym b
 
             pub gone-row : head l end-of < length (y .heads)

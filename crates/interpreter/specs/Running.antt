@@ -12,17 +12,16 @@ use Rattle.run.specs.Turns.{chosen}
 use Rattle.run.specs.Holders.{holders}
 use Rattle.run.specs.Run.{Outcome.stopped, run}
 use Rattle.run.specs.Visits.{Visits}
-use Rattle.memory.specs.Layout.{State, refused}
+use Rattle.layout.specs.State.{State, refused, state-of}
 use Rattle.memory.specs.Act.{full, exceeded}
 use Rattle.memory.specs.Move.{nested}
 use Rattle.memory.specs.Choose.{holding}
-use Rattle.engine.specs.declared.Machine.{Machine as Numbers}
-use Rattle.engine.specs.States.{state-of}
+use Rattle.layout.specs.declared.Numbers.{Numbers}
 use Rattle.interpreter.specs.Ready.{Ready}
 
 -- how many hold commands
 abbrev pub busy : State → ℕ
-busy z = holding (z .heads) 0 (z .count)
+busy z = holding (z .heads) 0 (z .machine .count)
 
 -- the number taken out again
 abbrev pub cleared : State → State
@@ -44,7 +43,7 @@ module _ (p : Program) (counts list items spans : List ℕ) (m : Machine) where
   -- memory after moves of m: it holds the machine then, or a Fix was refused
   pub data Moving (z : State) : Type 0 where
     moving : {m′ : Machine} → Ready p counts list items spans m′ z → ((es : List ℕ) → Visits p m es m′ es) → Moving z
-    nesting : {m′ : Machine} → Ready p counts list items spans m′ (cleared z) → z .number ≡ nested → busy z ≡ 0 → ((es : List ℕ) → Visits p m es m′ es)
+    nesting : {m′ : Machine} → Ready p counts list items spans m′ (cleared z) → z .machine .number ≡ nested → busy z ≡ 0 → ((es : List ℕ) → Visits p m es m′ es)
         → ((es : List ℕ) → run p m′ es ≡ stopped nested 0 m′)
         → Moving z
 
@@ -52,13 +51,13 @@ module _ (p : Program) (counts list items spans : List ℕ) (m : Machine) where
   pub data Settles (z : State) (n : ℕ) : Type 0 where
     held : {m′ : Machine} → Ready p counts list items spans m′ z → n ≡ busy z → 0 < n → ((es : List ℕ) → Visits p m es m′ es) → Settles z n
     still : {m′ : Machine} → Ready p counts list items spans m′ (cleared z) → n ≡ 0 → ((es : List ℕ) → Visits p m es m′ es)
-        → ((es : List ℕ) → run p m′ es ≡ stopped (z .number) 0 m′)
+        → ((es : List ℕ) → run p m′ es ≡ stopped (z .machine .number) 0 m′)
         → Settles z n
 
   -- memory after i turns and the moves behind them: it holds a machine that the run passes through, at which the run goes on or is over
   pub data Running (es : List ℕ) (i : ℕ) (z : State) (n : ℕ) : Type 0 where
     going : {m′ : Machine} → Ready p counts list items spans m′ z → n ≡ busy z → 0 < n → Visits p m es m′ (drop i es) → Running es i z n
-    over : {m′ : Machine} → Ready p counts list items spans m′ (cleared z) → n ≡ 0 → Visits p m es m′ (drop i es) → run p m es ≡ stopped (z .number) i m′
+    over : {m′ : Machine} → Ready p counts list items spans m′ (cleared z) → n ≡ 0 → Visits p m es m′ (drop i es) → run p m es ≡ stopped (z .machine .number) i m′
         → Running es i z n
 
   -- memory after the whole run

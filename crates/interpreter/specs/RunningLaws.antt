@@ -13,10 +13,11 @@ use Rattle.machine.specs.Stops.{out-of-turns}
 use Rattle.run.specs.Run.{Outcome.stopped, run}
 use Rattle.run.specs.Steps.{Steps.here}
 use Rattle.run.specs.Visits.{Visits}
-use Rattle.memory.specs.Layout.{State, head-size, refused}
+use Rattle.layout.specs.Layout.{head-size, holds}
+use Rattle.layout.specs.State.{State, refused}
 use Rattle.memory.specs.Plan.{end-code}
 use Rattle.memory.specs.Act.{full, exceeded, act}
-use Rattle.memory.specs.Choose.{holds, picked}
+use Rattle.memory.specs.Choose.{picked}
 use Rattle.memory.specs.Move.{nested, move}
 use Rattle.interpreter.specs.Ready.{Ready}
 use Rattle.interpreter.specs.Counting.{fewer}
@@ -33,16 +34,16 @@ module _ {p : Program} {counts list items spans : List ℕ} where
   -- with its number taken out, memory is as it was before it was refused
   ready-cleared : (n : ℕ) {m : Machine} {z y : State} → Ready p counts list items spans m z → y ≡ refused n z → Ready p counts list items spans m (cleared y)
   ready-cleared n {m} {z} r e =
-      let c : z .number ≡ 0 = r .stands .clear in
+      let c : z .machine .number ≡ 0 = r .stands .clear in
       let q = ap cleared e ∙ ap (λ (x : ℕ). refused x z) (sym c) in
       subst (Ready p counts list items spans m) (sym q) r
 
   -- and as it is where it has none
   ready-clear : {m : Machine} {z : State} → Ready p counts list items spans m z → Ready p counts list items spans m (cleared z)
-  ready-clear {z = z} r = ready-cleared (z .number) r refl
+  ready-clear {z = z} r = ready-cleared (z .machine .number) r refl
 
   -- as many rows as there are instances
-  pub ready-rows : {m : Machine} {z : State} → Ready p counts list items spans m z → head-size * z .count ≤ length (z .heads)
+  pub ready-rows : {m : Machine} {z : State} → Ready p counts list items spans m z → head-size * z .machine .count ≤ length (z .heads)
   ready-rows r = let a = r .stands .heads-long in let b = r .stands .few in omega arith
 
   -- Moves --------------------------------------------------------------------------
@@ -53,13 +54,13 @@ module _ {p : Program} {counts list items spans : List ℕ} where
 
     module _ {z : State} where
       -- where no Fix was refused, memory is ready
-      pub still-moving : Moving p counts list items spans m z → z .number ≡ 0
+      pub still-moving : Moving p counts list items spans m z → z .machine .number ≡ 0
           → (m′ : Machine) × (Ready p counts list items spans m′ z) × ((es : List ℕ) → Visits p m es m′ es)
       still-moving (moving {m′ = m′} r v) c = (m′, r, v)
       still-moving (nesting r e h v q) c = absurd (omega arith)
 
       -- a move more
-      pub moves-more : Moving p counts list items spans m z → z .number ≡ 0 → busy z ≡ 0 → (getD items (z .place) 0 ≡ end-code → ⊥)
+      pub moves-more : Moving p counts list items spans m z → z .machine .number ≡ 0 → busy z ≡ 0 → (getD items (z .machine .place) 0 ≡ end-code → ⊥)
           → Moving p counts list items spans m (move items spans z)
       moves-more g c h e = let (m′, r, v) = still-moving g c in go r v (moved-on r e h)
         where
@@ -67,10 +68,10 @@ module _ {p : Program} {counts list items spans : List ℕ} where
               → {y : State} → Advanced p counts list items spans m′ z y
               → Moving p counts list items spans m y
           go r v (advanced r′ u) = moving r′ (λ es. visits-on (v es) (u es))
-          go r v (blocked a s) = nesting (ready-cleared nested r a) (ap (λ (x : State). x .number) a) (ap busy a ∙ h) v s
+          go r v (blocked a s) = nesting (ready-cleared nested r a) (ap (λ (x : State). x .machine .number) a) (ap busy a ∙ h) v s
 
       -- as many rows as there are instances
-      pub moving-rows : Moving p counts list items spans m z → head-size * z .count ≤ length (z .heads)
+      pub moving-rows : Moving p counts list items spans m z → head-size * z .machine .count ≤ length (z .heads)
       moving-rows (moving r v) = ready-rows r
       moving-rows (nesting r e h v q) = ready-rows r
 
@@ -80,14 +81,14 @@ module _ {p : Program} {counts list items spans : List ℕ} where
       settles-held (nesting r e k v q) b h = absurd (omega arith)
 
       -- the schedule is at its end
-      pub settles-ended : {n : ℕ} → Moving p counts list items spans m z → n ≡ busy z → n ≡ 0 → z .number ≡ 0 → getD items (z .place) 0 ≡ end-code
+      pub settles-ended : {n : ℕ} → Moving p counts list items spans m z → n ≡ busy z → n ≡ 0 → z .machine .number ≡ 0 → getD items (z .machine .place) 0 ≡ end-code
           → Settles p counts list items spans m z n
       settles-ended g b h c e =
           let (m′, r, v) = still-moving g c in
           still (ready-clear r) h v (λ es. ends r (sym b ∙ h) e es ∙ ap (λ (x : ℕ). stopped x 0 m′) (sym c))
 
       -- a Fix was refused
-      pub settles-nested : {n : ℕ} → Moving p counts list items spans m z → n ≡ 0 → (z .number ≡ 0 → ⊥) → Settles p counts list items spans m z n
+      pub settles-nested : {n : ℕ} → Moving p counts list items spans m z → n ≡ 0 → (z .machine .number ≡ 0 → ⊥) → Settles p counts list items spans m z n
       settles-nested (moving r v) h c = absurd (c (r .stands .clear))
       settles-nested (nesting {m′ = m′} r e k v q) h c = still r h v (λ es. q es ∙ ap (λ (x : ℕ). stopped x 0 m′) (sym e))
 
@@ -109,10 +110,10 @@ module _ {p : Program} {counts list items spans : List ℕ} where
           go (over {m′ = m′} r k v q) = (m′, v, r)
 
       -- nobody holds commands
-      pub ends-over : n ≡ 0 → Ended p counts list items spans m es (z .number) i z
+      pub ends-over : n ≡ 0 → Ended p counts list items spans m es (z .machine .number) i z
       ends-over h = go g
         where
-          go : Running p counts list items spans m es i z n → Ended p counts list items spans m es (z .number) i z
+          go : Running p counts list items spans m es i z n → Ended p counts list items spans m es (z .machine .number) i z
           go (going r b k v) = absurd (omega arith)
           go (over {m′ = m′} r k v q) = record { last = m′; reached = v; returns = q; ready = r }
 
@@ -139,7 +140,7 @@ module _ {p : Program} {counts list items spans : List ℕ} where
           abbrev byte : ℕ
           byte = getD es i 0
 
-          module _ {y : State} (a : y ≡ act list counts (picked (z .heads) (z .count) byte) z) where
+          module _ {y : State} (a : y ≡ act list counts (picked (z .heads) (z .machine .count) byte) z) where
             next-turn : (m′ : Machine) × (Ready p counts list items spans m′ z) × (n ≡ busy z) × (Visits p m es m′ (drop i es))
                 × Turned p counts list items spans m′ byte z y
             next-turn =
@@ -147,35 +148,35 @@ module _ {p : Program} {counts list items spans : List ℕ} where
                 (m′, r, b, v, subst (Turned p counts list items spans m′ byte z) (sym a) (turned-by r (omega arith) byte))
 
             -- it was refused
-            pub ends-failed : (y .number ≡ 0 → ⊥) → Ended p counts list items spans m es (y .number) i y
+            pub ends-failed : (y .machine .number ≡ 0 → ⊥) → Ended p counts list items spans m es (y .machine .number) i y
             ends-failed c = let (m′, r, b, v, t) = next-turn in go r v t
               where
                 go : {m′ : Machine} → Ready p counts list items spans m′ z → Visits p m es m′ (drop i es) → Turned p counts list items spans m′ byte z y
-                    → Ended p counts list items spans m es (y .number) i y
+                    → Ended p counts list items spans m es (y .machine .number) i y
                 go r v (turned r′ u s) = absurd (c (r′ .stands .clear))
                 go {m′} r v (failed {n = n} e d s) =
                     let t : i + 0 ≡ i = omega arith in
-                    let f : n ≡ y .number = ap (λ (x : State). x .number) (sym e) in
+                    let f : n ≡ y .machine .number = ap (λ (x : State). x .machine .number) (sym e) in
                     let u = ap (run p m′) (drop-cons es i 0 k) ∙ s (drop (suc i) es) ∙ ap (λ (x : ℕ). stopped x 0 m′) f in
                     record { last = m′; reached = v; returns = rw t at (visits-outcome i (omega arith) v u); ready = ready-cleared n r e }
 
             -- or taken, so that the run passes through the machine then, with a byte fewer
-            module _ (c : y .number ≡ 0) where
+            module _ (c : y .machine .number ≡ 0) where
               pub taken-turn : (m″ : Machine) × (Ready p counts list items spans m″ y) × (Visits p m es m″ (drop (i + 1) es))
-                  × (busy y ≡ fewer (holds (y .heads) (picked (z .heads) (z .count) byte)) n)
+                  × (busy y ≡ fewer (holds (y .heads) (picked (z .heads) (z .machine .count) byte)) n)
               taken-turn = let (m′, r, b, v, t) = next-turn in go r b v t
                 where
                   go : {m′ : Machine} → Ready p counts list items spans m′ z → n ≡ busy z → Visits p m es m′ (drop i es)
                       → Turned p counts list items spans m′ byte z y
                       → (m″ : Machine) × (Ready p counts list items spans m″ y) × (Visits p m es m″ (drop (i + 1) es))
-                      × (busy y ≡ fewer (holds (y .heads) (picked (z .heads) (z .count) byte)) n)
+                      × (busy y ≡ fewer (holds (y .heads) (picked (z .heads) (z .machine .count) byte)) n)
                   go {m′} r b v (turned {m′ = m″} r′ u s) = (
                     m″,
                     r′,
                     rw add-one (visits-on (rw (drop-cons es i 0 k) at v) (s (drop (suc i) es))),
-                    counted r (omega arith) byte r′ u ∙ ap (fewer (holds (y .heads) (picked (z .heads) (z .count) byte))) (sym b),
+                    counted r (omega arith) byte r′ u ∙ ap (fewer (holds (y .heads) (picked (z .heads) (z .machine .count) byte))) (sym b),
                   )
-                  go r b v (failed e d s) = absurd (number-some d (sym (ap (λ (x : State). x .number) e) ∙ c))
+                  go r b v (failed e d s) = absurd (number-some d (sym (ap (λ (x : State). x .machine .number) e) ∙ c))
 
               -- and the schedule moves on
               pub runs-more : {x : State} {j : ℕ} → ((m″ : Machine) → Ready p counts list items spans m″ y → Settles p counts list items spans m″ x j)

@@ -1,18 +1,18 @@
 -- The ways through the loop of moves (01, 'Table and turns'): the machine's numbers n₀ and its heads h₀ where the loop begins, n and h
 -- where it stands.
 use Prim.Native.Nat.{ℕ, _*_, _<_, _≤_}
-use mathlib.Core.Path.{_≡_, refl, sym}
+use mathlib.Core.Path.{_≡_, refl, sym, subst}
 use mathlib.Core.List.{List}
 use lib.ListN.{length, getD}
 use Rattle.machine.specs.Machine.{Machine}
-use Rattle.memory.specs.Layout.{State, head-size}
+use Rattle.layout.specs.Layout.{head-size}
+use Rattle.layout.specs.State.{State, state-of}
 use Rattle.memory.specs.Plan.{end-code}
 use Rattle.memory.specs.PlanLaws.{at-within}
 use Rattle.memory.specs.Choose.{holding}
 use Rattle.memory.specs.Move.{move}
 use Rattle.scheduler.specs.Ready.{Movable}
-use Rattle.engine.specs.declared.Machine.{Machine as Numbers}
-use Rattle.engine.specs.States.{state-of}
+use Rattle.layout.specs.declared.Numbers.{Numbers}
 use Rattle.interpreter.specs.Ready.{Ready}
 use Rattle.interpreter.specs.MovingLaws.{left}
 use Rattle.interpreter.specs.Running.{Standing, Led, Settling}
@@ -54,12 +54,13 @@ module _ {items spans h₀ : List ℕ} {n₀ : Numbers} where
         led-within = at-within items (led-ready .1 .stands .scheduled)
 
         module _ (e : getD items (n .place) 0 ≡ end-code → ⊥) where
-          pub led-movable : Movable items spans h (n .count) (n .place) (n .fixes) (n .stable)
+          pub led-movable : Movable items spans h n
           led-movable = movable (led-ready .1) e
 
           module _ {h′ : List ℕ} {n′ : Numbers} (a : (cells : List ℕ) → state-of n′ h′ cells ≡ move items spans (state-of n h cells)) where
             pub led-less : left items (state-of n′ h′ (s .cells)) < left items (state-of n h (s .cells))
-            led-less = rw (a (s .cells)) (less (led-ready .1) e)
+            led-less =
+                subst (λ (y : State). left items y < left items (state-of n h (s .cells))) (sym (a (s .cells))) (less (led-ready .1) e)
 
             pub led-more : holding h 0 (n .count) ≡ 0 → (cells : List ℕ) → Led items spans (state-of n₀ h₀ cells) (state-of n′ h′ cells)
             led-more b cells p counts list m r = rw (a cells) (moves-more (g cells p counts list m r) c b e)

@@ -25,7 +25,8 @@ use Rattle.sound.specs.MoveKept.{Blocked, still-good, move-kept}
 use Rattle.sound.specs.HolderLaws.{chosen-holds}
 use Rattle.sound.specs.NeverStuckLaws.{acts-good}
 use Rattle.sound.specs.TabledLaws.{acts-tabled}
-use Rattle.memory.specs.Layout.{State, refused as refusing}
+use Rattle.layout.specs.Layout.{holds}
+use Rattle.layout.specs.State.{State, refused as refusing}
 use Rattle.memory.specs.Plan.{end-code, At}
 use Rattle.memory.specs.PlanLaws.{at-end-done}
 use Rattle.memory.specs.Frame.{After}
@@ -33,7 +34,7 @@ use Rattle.memory.specs.Fit.{Fit}
 use Rattle.memory.specs.FitLaws.{fits}
 use Rattle.memory.specs.Act.{act}
 use Rattle.memory.specs.Acts.{acts}
-use Rattle.memory.specs.Choose.{holds, picked}
+use Rattle.memory.specs.Choose.{picked}
 use Rattle.memory.specs.ChooseStands.{holds-same, holding-same, picks}
 use Rattle.memory.specs.Move.{nested, move as move-on}
 use Rattle.memory.specs.MoveStands.{Follows, moves}
@@ -68,15 +69,15 @@ module _ {p : Program} {counts list items spans : List ℕ} {m : Machine} {z : S
   -- The schedule ------------------------------------------------------------------
 
   -- its end
-  pub ends : busy z ≡ 0 → getD items (z .place) 0 ≡ end-code → (es : List ℕ) → run p m es ≡ stopped ended 0 m
+  pub ends : busy z ≡ 0 → getD items (z .machine .place) 0 ≡ end-code → (es : List ℕ) → run p m es ≡ stopped ended 0 m
   ends h e es = rests-run p (rests-ends (none-hold h) (at-end-done items (r .stands .scheduled) .0 e))
 
-  module _ (e : getD items (z .place) 0 ≡ end-code → ⊥) where
+  module _ (e : getD items (z .machine .place) 0 ≡ end-code → ⊥) where
     not-done : m .sched ≡ done → ⊥
     not-done q = e (at-end-done items (r .stands .scheduled) .1 q)
 
     -- the code of a move finds what it needs
-    pub movable : Movable items spans (z .heads) (z .count) (z .place) (z .fixes) (z .stable)
+    pub movable : Movable items spans (z .heads) (z .machine)
     movable =
         let few : structs p ≤ max-structs = r .prepared .bounded .few in
         stands-movable m (r .stands) (λ l i g. let k : i .struct < structs p = r .tabled .each l i g .0 in omega arith) spans
@@ -122,7 +123,7 @@ module _ {p : Program} {counts list items spans : List ℕ} {m : Machine} {z : S
 
     module _ (e : ℕ) where
       -- the command of the instance that the byte picks finds what it needs
-      pub picked-fits : Fit list counts (picked (z .heads) (z .count) e) z
+      pub picked-fits : Fit list counts (picked (z .heads) (z .machine .count) e) z
       picked-fits =
           let (i, n, c, a, d) = chosen-holds m e (some-hold b) in
           rw (picks m (r .stands) e) (fits (r .prepared .firm) (r .prepared .bounded) (r .good) list (At items) z (r .stands) (chosen (holders m) e) i a c n d)
@@ -146,7 +147,7 @@ module _ {p : Program} {counts list items spans : List ℕ} {m : Machine} {z : S
       takes i k y stuck c S = absurd S
 
       -- a turn
-      pub turned-by : Turned p counts list items spans m e z (act list counts (picked (z .heads) (z .count) e) z)
+      pub turned-by : Turned p counts list items spans m e z (act list counts (picked (z .heads) (z .machine .count) e) z)
       turned-by =
           let (i, n, c, a, d) = chosen-holds m e (some-hold b) in
           rw (picks m (r .stands) e)
@@ -158,9 +159,9 @@ module _ {p : Program} {counts list items spans : List ℕ} {m : Machine} {z : S
 
       -- and as many hold commands behind it, or one fewer
       pub counted : {m′ : Machine} {y : State} → Ready p counts list items spans m′ y → command p (chosen (holders m) e) m ≡ next m′
-          → busy y ≡ fewer (holds (y .heads) (picked (z .heads) (z .count) e)) (busy z)
+          → busy y ≡ fewer (holds (y .heads) (picked (z .heads) (z .machine .count) e)) (busy z)
       counted {m′} {y} r′ c =
           let (i, at, q) = holders-behind p (chosen (holders m) e) m c in
-          let w : holds (y .heads) (picked (z .heads) (z .count) e) ≡ holds-code (i .code) =
+          let w : holds (y .heads) (picked (z .heads) (z .machine .count) e) ≡ holds-code (i .code) =
           ap (holds (y .heads)) (picks m (r .stands) e) ∙ holds-same (r′ .stands .each (chosen (holders m) e) i at) in
           holding-same m′ (r′ .stands) ∙ q ∙ (rw (w, holding-same m (r .stands)))

@@ -1,15 +1,13 @@
 // The moves of the schedule, without a turn, until some instance holds commands (01, 'Table and turns').
 use engine::Machine;
+use layout::codes;
 use scheduler::choose::holding;
 ghost use mathlib.Core.Path.{_≡_};
 ghost use mathlib.Core.List.{List};
 ghost use Prim.Native.Nat.{ℕ};
 ghost use Rattle.memory.specs.Choose.{holding};
-ghost use Rattle.engine.specs.States.{state-of};
+ghost use Rattle.layout.specs.State.{state-of};
 ghost use Rattle.interpreter.specs.Running.{Standing, Settling};
-
-// The code of the schedule's end, as memory/specs/Plan.antt has it.
-const END: usize = 1025;
 
 // Where the moves lead: the machine then, and how many instances hold commands. Where none does, the machine's number is 0 at the
 // schedule's end, or that of a refused Fix.
@@ -27,29 +25,29 @@ pub fn settle(
     spans: &[usize],
     heads: &mut [usize],
 ) -> Settled
-    requires { ⌜ Standing (now items) (now spans) (now heads) machine ⌝ }
-    requires { ⌜ n ≡ holding (now heads) 0 (machine .count) ⌝ }
-    ensures { λ r. ⌜ ((cells : List ℕ) → Settling (now (items .entry)) (now (spans .entry)) (state-of machine (now (heads .entry)) cells) (state-of (r .machine) (now (heads .exit)) cells) (r .holding)) ⌝ }
+    requires { ⌜ Standing (now items) (now spans) (now heads) (machine .numbers) ⌝ }
+    requires { ⌜ n ≡ holding (now heads) 0 (machine .numbers .count) ⌝ }
+    ensures { λ r. ⌜ ((cells : List ℕ) → Settling (now (items .entry)) (now (spans .entry)) (state-of (machine .numbers) (now (heads .entry)) cells) (state-of (r .machine .numbers) (now (heads .exit)) cells) (r .holding)) ⌝ }
 {
     let mut next = machine;
     let mut left = n;
     while left == 0 {
-        let number = next.number;
+        let number = next.numbers.number;
         if number != 0 {
             return Settled {
                 machine: next,
                 holding: 0,
             };
         }
-        let place = next.place;
-        if items[place] == END {
+        let place = next.numbers.place;
+        if items[place] == codes::END {
             return Settled {
                 machine: next,
                 holding: 0,
             };
         }
         next = next.advance(items, spans, heads);
-        let count = next.count;
+        let count = next.numbers.count;
         left = holding(heads, count);
     }
     Settled {

@@ -6,18 +6,10 @@ use scheduler::choose::picked_of;
 ghost use mathlib.Core.Path.{_≡_};
 ghost use Prim.Native.Nat.{_<_};
 ghost use lib.ListN.{length};
-ghost use Rattle.memory.specs.Layout.{head, end-of};
-ghost use Rattle.memory.specs.Choose.{holds};
-ghost use Rattle.engine.specs.States.{state-of};
+ghost use Rattle.layout.specs.Layout.{head, end-of, holds};
+ghost use Rattle.layout.specs.State.{state-of};
 ghost use Rattle.interpreter.specs.Counting.{fewer};
 ghost use Rattle.interpreter.specs.Running.{Begun, Ending};
-
-// The numbers of an instance, as memory/specs/Layout.antt lays them out.
-const HEAD_SIZE: usize = 4;
-
-const NEXT_OF: usize = 2;
-
-const END_OF: usize = 3;
 
 // 01's number of a run whose bytes are used up while commands remain.
 const OUT_OF_TURNS: u8 = 33;
@@ -34,8 +26,8 @@ fn left_holding(heads: &[usize], l: usize, n: usize) -> usize
     requires { ⌜ (head l end-of < length (now heads)) × (0 < n) ⌝ }
     ensures { λ r. ⌜ r ≡ fewer (holds (now (heads .entry)) l) n ⌝ }
 {
-    let at = HEAD_SIZE * l;
-    if heads[at + NEXT_OF] < heads[at + END_OF] {
+    let at = layout::HEAD_SIZE * l;
+    if heads[at + layout::NEXT] < heads[at + layout::END] {
         return n;
     }
     n - 1
@@ -53,10 +45,10 @@ pub fn run(
     cells: &mut [u64],
     turns: &[u8],
 ) -> Ran
-    requires { ⌜ Begun (now counts) (now list) (now items) (now spans) (state-of machine (now heads) (now cells)) ⌝ }
-    ensures { λ r. ⌜ Ending (now (counts .entry)) (now (list .entry)) (now (items .entry)) (now (spans .entry)) (now (turns .entry)) (state-of machine (now (heads .entry)) (now (cells .entry))) (r .number) (r .taken) (state-of (r .machine) (now (heads .exit)) (now (cells .exit))) ⌝ }
+    requires { ⌜ Begun (now counts) (now list) (now items) (now spans) (state-of (machine .numbers) (now heads) (now cells)) ⌝ }
+    ensures { λ r. ⌜ Ending (now (counts .entry)) (now (list .entry)) (now (items .entry)) (now (spans .entry)) (now (turns .entry)) (state-of (machine .numbers) (now (heads .entry)) (now (cells .entry))) (r .number) (r .taken) (state-of (r .machine .numbers) (now (heads .exit)) (now (cells .exit))) ⌝ }
 {
-    let count = machine.count;
+    let count = machine.numbers.count;
     let first = holding(heads, count);
     let begun = settle(machine, first, items, spans, heads);
     let mut next = begun.machine;
@@ -70,10 +62,10 @@ pub fn run(
                 taken,
             };
         }
-        let count = next.count;
+        let count = next.numbers.count;
         let l = picked_of(heads, count, left, turns[taken]);
         next = next.command(list, counts, heads, cells, l);
-        let number = next.number;
+        let number = next.numbers.number;
         if number != 0 {
             return Ran {
                 machine: next,
@@ -89,7 +81,7 @@ pub fn run(
             left = settled.holding;
         }
     }
-    let number = next.number;
+    let number = next.numbers.number;
     Ran {
         machine: next,
         number,

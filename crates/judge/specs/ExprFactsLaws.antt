@@ -13,13 +13,13 @@ use Rattle.types.specs.Numbers.{wrong-names, wrong-types}
 use Rattle.types.specs.Types.{Ty, Ty.int, Ty.nat, Ty.bool, Ty.ref, struct-code, code, same-type, type-of}
 use Rattle.program.specs.Tree.{Var, Var.par, Var.loc, Expr, Expr.inv, Expr.make, Expr.path, Expr.int-lit, Expr.nat-lit, Expr.bool-lit, Expr.null, Expr.self, Expr.op, Exprs, Exprs.none, Exprs.more, args}
 use Rattle.program.specs.Counts.{IsVar, IsPath, CountsExpr, CountsExprs}
-use Rattle.program.specs.CodeLaws.{type-code}
+use Rattle.types.specs.TypeLaws.{type-of-code, same-exact}
+use Rattle.types.specs.Reflects.{Reflects, Reflects.holds, Reflects.fails}
 use Rattle.commands.specs.Context.{Ctx, typ}
 use Rattle.commands.specs.Typing.{Sort, Sort.equality, Sort.order, Sort.arithmetic, Sort.logic, sort}
-use Rattle.commands.specs.Decide.{Reflects, Reflects.holds, Reflects.fails, member}
+use Rattle.commands.specs.Decide.{member}
 use Rattle.commands.specs.NamesDecide.{start-named, expr-named, args-named}
 use Rattle.commands.specs.TypingDecide.{Judgement, Judgement.untypable, is-of, agree, given, result, operate, lead as type-lead, path-type, expr-type, args-typed}
-use Rattle.commands.specs.TypingDecideLaws.{same-reflects}
 use Rattle.judge.specs.Facts.{worst, demand, judged, param, lead-by, lead, start-of, path-of, takes, gives, negated, combined, travelled, argued, constructed, expr-facts, args-facts}
 use Rattle.judge.specs.declared.Judged.{Judged}
 use Rattle.judge.specs.Verdicts.{Says, Says.misnamed, Says.mistyped, Says.right, Shows, Shows.unnamed, Shows.untyped, Shows.typed, Tables, tagged, Living}
@@ -29,18 +29,18 @@ use Rattle.judge.specs.FaultLaws.{says-both, says-demand}
 
 -- bytes are equal exactly where types are, either way round
 pub code-same : (t u : Ty) → eqb (code t) (code u) ≡ same-type t u
-code-same t u = go (same-reflects t u)
+code-same t u = go (same-exact t u)
   where
     go : {b : Bool} → Reflects (t ≡ u) b → eqb (code t) (code u) ≡ b
     go (holds e) = eq-eqb (code t) (code u) (ap code e)
-    go (fails n) = ne-eqb (code t) (code u) (λ q. n (sym (type-code t) ∙ ap type-of q ∙ type-code u))
+    go (fails n) = ne-eqb (code t) (code u) (λ q. n (sym (type-of-code t) ∙ ap type-of q ∙ type-of-code u))
 
 pub code-other : (t u : Ty) → eqb (code u) (code t) ≡ same-type t u
-code-other t u = go (same-reflects t u)
+code-other t u = go (same-exact t u)
   where
     go : {b : Bool} → Reflects (t ≡ u) b → eqb (code u) (code t) ≡ b
     go (holds e) = eq-eqb (code u) (code t) (ap code (sym e))
-    go (fails n) = ne-eqb (code u) (code t) (λ q. n (sym (type-code t) ∙ ap type-of (sym q) ∙ type-code u))
+    go (fails n) = ne-eqb (code u) (code t) (λ q. n (sym (type-of-code t) ∙ ap type-of (sym q) ∙ type-of-code u))
 
 -- Names and types, by the parts of an expression -------------------------------------
 

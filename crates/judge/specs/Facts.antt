@@ -124,6 +124,11 @@ unfoldable pub argued : ℕ → Facts → Facts → Facts
 argued t f g =
     facts (f .size + g .size) (max (f .peak) (suc (g .peak))) (worst (demand (f .fault) (eqb (f .typ) t)) (g .fault)) 0
 
+-- an argument for a parameter of type t, behind x others
+unfoldable pub appended : ℕ → ℕ → Facts → Facts → Facts
+appended x t a f =
+    facts (a .size + f .size) (max (a .peak) (x + f .peak)) (worst (a .fault) (demand (f .fault) (eqb (f .typ) t))) 0
+
 unfoldable pub constructed : ℕ → Facts → Facts
 constructed k f = facts (suc (f .size)) (max 1 (f .peak)) (f .fault) (struct-code + k)
 

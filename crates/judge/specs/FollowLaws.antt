@@ -1,15 +1,18 @@
--- Laws of statements in a row (01, numbers 6 to 8): none before others and none behind them changes nothing, and which of them are
--- taken together first does not matter. So they can be totalled up from the first on.
-use Prim.Native.Nat.{ℕ, _+_, _≤_, _<_, max}
+-- Laws of statements, arguments and items in a row (01, numbers 6 to 8): none before others and none behind them changes nothing, and
+-- which of them are taken together first does not matter. So they can be totalled up from the first on.
+use Prim.Native.Nat.{ℕ, suc, _+_, _≤_, _<_, max}
 use native.Mathlib.Omega.{arith}
 use mathlib.Core.Bool.{Bool, true, false}
 use mathlib.Core.Path.{_≡_, refl, sym, _∙_}
 use mathlib.Core.List.{List}
 use lib.Dec.{eqb, ltb}
 use borrow.Author.Tests.{eqb-true, eqb-false, ltb-true, ltb-false}
-use Rattle.program.specs.Tree.{Stmt, Stmt.when, Stmt.declare, Stmt.update, Stmt.create, Stmts, Stmts.end, Stmts.next}
+use Rattle.program.specs.Tree.{Expr, Expr.inv, Expr.make, Expr.path, Expr.int-lit, Expr.nat-lit, Expr.bool-lit, Expr.null, Expr.self, Expr.op, Exprs, Exprs.none, Exprs.more, Stmt, Stmt.when, Stmt.declare, Stmt.update, Stmt.create, Stmts, Stmts.end, Stmts.next}
+use Rattle.judge.specs.declared.Facts.{Facts}
 use Rattle.judge.specs.declared.Scope.{Scope}
 use Rattle.judge.specs.declared.Done.{Done}
+use Rattle.judge.specs.ProgramFacts.{Planned, plan, joined}
+use Rattle.judge.specs.Facts.{facts, demand, negated, combined, travelled, no-args, argued, appended, constructed, expr-facts, args-facts}
 use Rattle.judge.specs.Facts.{worst, result, nothing, branched, declared, updated, created, followed, stmt-facts, body-facts}
 
 -- the worse of two faults, by which of them are there
@@ -30,7 +33,7 @@ module _ (a b : ℕ) where
   unfolding worst
   second p q u = rw (p, q, u, worst)
 
-worst-nothing : (f : ℕ) → worst f 0 ≡ f
+pub worst-nothing : (f : ℕ) → worst f 0 ≡ f
 worst-nothing f = go (eqb f 0) refl
   where
     go : (b : Bool) → eqb f 0 ≡ b → worst f 0 ≡ f
@@ -97,3 +100,66 @@ module _ (ar types : List ℕ) (own : ℕ) where
     pub body-low : (b : Stmts) (c : Scope) → body-facts ar types own b c .growth ≤ body-facts ar types own b c .height
     body-low end c = omega arith
     body-low (next t b) c = let h = body-low b (stmt-facts ar types own t c .after) in omega arith
+
+-- Arguments -------------------------------------------------------------------------
+
+-- x arguments, and others behind them
+abbrev pub behind : ℕ → Facts → Facts → Facts
+behind x a g = facts (a .size + g .size) (max (a .peak) (x + g .peak)) (worst (a .fault) (g .fault)) 0
+
+pub behind-argued : (x t : ℕ) (a f g : Facts) → behind x a (argued t f g) ≡ behind (suc x) (appended x t a f) g
+unfolding argued appended
+behind-argued x t a f g =
+    let s : a .size + (f .size + g .size) ≡ a .size + f .size + g .size = omega arith in
+    let h : max (a .peak) (x + max (f .peak) (suc (g .peak))) ≡ max (max (a .peak) (x + f .peak)) (suc x + g .peak) = omega arith in
+    rw (s, h, worst-assoc (a .fault) (demand (f .fault) (eqb (f .typ) t)) (g .fault))
+
+-- no arguments before others, whose type field is not used
+pub none-behind : (g : Facts) → g .typ ≡ 0 → behind 0 no-args g ≡ g
+unfolding worst
+none-behind g e =
+    let s : 0 + g .size ≡ g .size = omega arith in
+    let h : max 0 (0 + g .peak) ≡ g .peak = omega arith in
+    rw (s, h, e)
+
+-- none behind them, where the stack is as high as there are arguments
+pub behind-none : (x : ℕ) (a : Facts) → x ≤ a .peak → a .typ ≡ 0 → behind x a no-args ≡ a
+behind-none x a l e =
+    let s : a .size + 0 ≡ a .size = omega arith in
+    let h : max (a .peak) (x + 0) ≡ a .peak = omega arith in
+    rw (s, h, worst-nothing (a .fault), e)
+
+module _ (ar types : List ℕ) (own w : ℕ) where
+  -- the type field of arguments; and an expression pushes its value
+  pub args-typ : (es : Exprs) (k x : ℕ) → args-facts ar types own w es k x .typ ≡ 0
+  unfolding args-facts argued
+  args-typ none k x = refl
+  args-typ (more e es) k x = refl
+
+  pub expr-high : (e : Expr) → 1 ≤ expr-facts ar types own w e .peak
+  unfolding expr-facts negated constructed travelled combined
+  expr-high (inv e) = expr-high e
+  expr-high (make k es) = omega arith
+  expr-high (path v vs) = omega arith
+  expr-high (int-lit n) = omega arith
+  expr-high (nat-lit n) = omega arith
+  expr-high (bool-lit n) = omega arith
+  expr-high (null t) = omega arith
+  expr-high self = omega arith
+  expr-high (op o a b) = let h = expr-high a in omega arith
+
+-- Items -----------------------------------------------------------------------------
+
+pub joined-assoc : (a b d : Planned) → joined (joined a b) d ≡ joined a (joined b d)
+unfolding joined
+joined-assoc a b d =
+    let s : a .count + b .count + d .count ≡ a .count + (b .count + d .count) = omega arith in
+    rw (s, worst-assoc (a .fault) (b .fault) (d .fault))
+
+pub none-joined : (b : Planned) → joined (plan 0 0) b ≡ b
+unfolding joined worst
+none-joined b = let s : 0 + b .count ≡ b .count = omega arith in rw s
+
+pub joined-none : (a : Planned) → joined a (plan 0 0) ≡ a
+unfolding joined
+joined-none a = let s : a .count + 0 ≡ a .count = omega arith in rw (s, worst-nothing (a .fault))

@@ -2,13 +2,13 @@ pub mod Facts
 pub mod DigitLaws
 pub mod Verdicts
 pub mod FaultLaws
-pub mod FollowLaws
 pub mod SizeFactsLaws
 pub mod ExprFactsLaws
 pub mod LocalLaws
 pub mod ScopeLaws
 pub mod BodyFactsLaws
 pub mod ProgramFacts
+pub mod FollowLaws
 pub mod ProgramTableLaws
 pub mod TotalLaws
 pub mod NameTotalLaws

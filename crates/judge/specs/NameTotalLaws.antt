@@ -11,7 +11,7 @@ use Rattle.types.specs.Limits.{max-structs}
 use Rattle.program.specs.Tree.{Step, Program}
 use Rattle.program.specs.Counts.{All, CountsStep}
 use Rattle.commands.specs.Context.{context}
-use Rattle.commands.specs.Names.{step-names as names}
+use Rattle.commands.specs.Names.{names-of-steps as names}
 use Rattle.commands.specs.Decide.{every, member, distinct}
 use Rattle.commands.specs.NamesDecide.{body-named, steps-named}
 use Rattle.commands.specs.TypingDecide.{body-typed, steps-typed}

@@ -17,7 +17,7 @@ use Rattle.commands.specs.SizeLaws.{body-length, program-size-is}
 use Rattle.commands.specs.Depth.{height}
 use Rattle.commands.specs.DepthLaws.{step-depth-is, program-depth-is}
 use Rattle.commands.specs.Bounds.{item-count, items-count, total, greatest, step-size, arities, step-depth, program-size, program-depth}
-use Rattle.commands.specs.Names.{step-names as names}
+use Rattle.commands.specs.Names.{names-of-steps as names}
 use Rattle.commands.specs.Decide.{every, member}
 use Rattle.commands.specs.BoundsDecide.{within}
 use Rattle.commands.specs.NamesDecide.{stepped, item-stepped, items-stepped, names-right}

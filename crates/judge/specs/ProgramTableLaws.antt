@@ -14,7 +14,7 @@ use Rattle.program.specs.Tree.{Stmts, Step, Program}
 use Rattle.program.specs.Counts.{All}
 use Rattle.commands.specs.Context.{Ctx, context}
 use Rattle.commands.specs.Bounds.{arities}
-use Rattle.commands.specs.Names.{step-names as names}
+use Rattle.commands.specs.Names.{names-of-steps as names}
 use Rattle.commands.specs.Decide.{member}
 use Rattle.commands.specs.NamesDecide.{stepped}
 use Rattle.judge.specs.Verdicts.{Tables, flag}

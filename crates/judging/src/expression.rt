@@ -8,7 +8,7 @@ ghost use Prim.Native.Nat.{_+_, _<_, _^_, max};
 ghost use lib.Dec.{eqb};
 ghost use Rattle.program.specs.Tree.{Op};
 ghost use Rattle.program.specs.Reader.{form, Form.form-op};
-ghost use Rattle.judge.specs.Facts.{pushed, negated, takes, gives, combined, travelled, no-args, argued, constructed};
+ghost use Rattle.judge.specs.Facts.{pushed, negated, takes, gives, combined, travelled, no-args, appended, constructed};
 ghost use Rattle.judging.specs.CodeOps.{sort-by};
 
 // The larger of two.
@@ -113,16 +113,16 @@ pub fn no_args() -> Facts
     }
 }
 
-// An argument for a parameter of type t, before others.
-pub fn argued(t: u8, f: Facts, g: Facts) -> Facts
-    requires { ⌜ (f .size + g .size < 2 ^ 64) × (g .peak + 1 < 2 ^ 64) ⌝ }
-    ensures { λ r. ⌜ r ≡ argued t f g ⌝ }
+// An argument for a parameter of type t, behind x others.
+pub fn appended(x: u8, t: u8, a: Facts, f: Facts) -> Facts
+    requires { ⌜ (a .size + f .size < 2 ^ 64) × (x + f .peak < 2 ^ 64) ⌝ }
+    ensures { λ r. ⌜ r ≡ appended x t a f ⌝ }
 {
-    let first = fault::demand(f.fault, f.typ == t);
+    let own = fault::demand(f.fault, f.typ == t);
     Facts {
-        size: f.size + g.size,
-        peak: higher(f.peak, g.peak + 1),
-        fault: fault::worst(first, g.fault),
+        size: a.size + f.size,
+        peak: higher(a.peak, x as usize + f.peak),
+        fault: fault::worst(a.fault, own),
         typ: 0,
     }
 }

@@ -21,9 +21,9 @@ use Rattle.operators.specs.Apply.{Answer, apply, same-val}
 use Rattle.operators.specs.ApplyLaws.{apply-value, apply-outside}
 use Rattle.operators.specs.TestLaws.{same-val-exact}
 use Rattle.machine.specs.Published.{Sched, Env, lookup, assign, fresh-env, Inst, Inst.inst, State, State.state, update-env, structs, arity}
-use Rattle.machine.specs.Rules.{Settled, Settled.no-parameter, Settled.same-value, Settled.other-value, meet, Actor.instance, Rule, Rule.ComPush, Rule.ComPushThis, Rule.ComRd, Rule.ComWr, Rule.ComWrNSkip, Rule.ComNot, Rule.ComOp, Rule.ComCons, Rule.ComIfT, Rule.ComIfF}
+use Rattle.machine.specs.Rules.{LeavesStable, LeavesStable.no-parameter, LeavesStable.same-value, LeavesStable.other-value, meet, Actor.instance, Rule, Rule.ComPush, Rule.ComPushThis, Rule.ComRd, Rule.ComWr, Rule.ComWrNSkip, Rule.ComNot, Rule.ComOp, Rule.ComCons, Rule.ComIfT, Rule.ComIfF}
 use Rattle.machine.specs.Stops.{Full, Full.no-label, Exceeded, Exceeded.no-result, full, exceeded}
-use Rattle.machine.specs.Machine.{Tagged, tagged, Source, Source.variable, Source.local, Source.result, given-by, Instance, Machine, Out, Out.next, Out.refused, Out.stuck, with-code, with-written, put, settled, read-from, read-at, read, write-to, write-parameter, write-at, write, negate, branch, operated, operate, made, construct, perform, command}
+use Rattle.machine.specs.Machine.{Tagged, tagged, Source, Source.variable, Source.local, Source.result, given-by, Instance, Machine, Out, Out.next, Out.refused, Out.stuck, with-code, with-written, put, leaves-stable, read-from, read-at, read, write-to, write-parameter, write-at, write, negate, branch, operated, operate, made, construct, perform, command}
 use Rattle.machine.specs.Represents.{values, Represents-inst, Represents}
 use Rattle.machine.specs.RepresentsLaws.{instance-at, values-length, map-drop, map-take, top, represents-length, represents-set, represents-env, represents-append}
 use Rattle.machine.specs.PerformedLaws.{performs}
@@ -37,22 +37,22 @@ Leads st stuck = ⊥
 
 module _ (p : Program) where
   -- the answer of rule ComWr, whether a write leaves stability as it is, is the machine's
-  pub settled-is : {k v : ℕ} {ξ : Env} {x : Val} {u : Bool} → Settled p k v ξ x u → settled p k v x (lookup ξ v) ≡ u
-  unfolding settled
+  pub settled-is : {k v : ℕ} {ξ : Env} {x : Val} {u : Bool} → LeavesStable p k v ξ x u → leaves-stable p k v x (lookup ξ v) ≡ u
+  unfolding leaves-stable
   settled-is {k} {v} {ξ} {x} (no-parameter h) = go (lookup ξ v)
     where
-      go : (o : Option Val) → settled p k v x o ≡ true
+      go : (o : Option Val) → leaves-stable p k v x o ≡ true
       go none = refl
-      go (some y) = rw (le-ltb v (arity p k) h, settled)
-  settled-is {k} {v} {ξ} {x} (same-value h e) = rw (e, settled, lt-ltb v (arity p k) h) (same-val-exact x x .1 refl)
-  settled-is {k} {v} {ξ} {x} (other-value {y = y} h e n) = rw (e, settled, lt-ltb v (arity p k) h) (go (same-val y x) refl)
+      go (some y) = rw (le-ltb v (arity p k) h, leaves-stable)
+  settled-is {k} {v} {ξ} {x} (same-value h e) = rw (e, leaves-stable, lt-ltb v (arity p k) h) (same-val-exact x x .1 refl)
+  settled-is {k} {v} {ξ} {x} (other-value {y = y} h e n) = rw (e, leaves-stable, lt-ltb v (arity p k) h) (go (same-val y x) refl)
     where
       go : (t : Bool) → same-val y x ≡ t → t ≡ false
       go true f = absurd (n (same-val-exact y x .0 f))
       go false f = refl
 
 -- a parameter that a write settles has a value
-has-value : (p : Program) {k v : ℕ} {ξ : Env} {x : Val} {u : Bool} → Settled p k v ξ x u → v < arity p k → (z : Val) × (lookup ξ v ≡ some z)
+has-value : (p : Program) {k v : ℕ} {ξ : Env} {x : Val} {u : Bool} → LeavesStable p k v ξ x u → v < arity p k → (z : Val) × (lookup ξ v ≡ some z)
 has-value p {x = x} (no-parameter h) a = (x, absurd (omega arith))
 has-value p {x = x} (same-value h e) a = (x, e)
 has-value p (other-value {y = y} h e n) a = (y, e)
@@ -133,12 +133,12 @@ module _ (p : Program) (m : Machine) (l : ℕ) (s : Sched) (σ : List Inst) (b :
           (put-leads (with-code i r χ′) (inst k c χ ξ) (ek, ec, ex, eξ))
 
       -- y written to the instance a
-      module _ {su : Bool} (w : q < structs p → v < arity p j → ⊥) (u : Settled p j v η y su) (a : Instance) (χ′ : List Tagged) (ea : a .struct ≡ j) (eη : a .env ≡ η) (ex : values χ′ ≡ χ) where
+      module _ {su : Bool} (w : q < structs p → v < arity p j → ⊥) (u : LeavesStable p j v η y su) (a : Instance) (χ′ : List Tagged) (ea : a .struct ≡ j) (eη : a .env ≡ η) (ex : values χ′ ≡ χ) where
         abbrev Wrote : Out → Type 0
         Wrote o = Leads (state s (update-env (set σ l (inst k c χ ξ)) q (assign η v y)) (meet su b)) o
 
-        settled-there : Settled p (a .struct) v (a .env) y su
-        settled-there = subst₂ (λ k ξ. Settled p k v ξ y su) (sym ea) (sym eη) u
+        settled-there : LeavesStable p (a .struct) v (a .env) y su
+        settled-there = subst₂ (λ k ξ. LeavesStable p k v ξ y su) (sym ea) (sym eη) u
 
         to-leads : Wrote (write-to p m l i r χ′ v y q a)
         unfolding write-to
@@ -161,7 +161,7 @@ module _ (p : Program) (m : Machine) (l : ℕ) (s : Sched) (σ : List Inst) (b :
             go true f false g = rw (f, g, write-at) (parameter-leads (ltb-true v (arity p (a .struct)) f))
             go false f o g = rw (f, write-at) to-leads
 
-      wr-leads : {n : Note} {su : Bool} → (q < structs p → v < arity p j → ⊥) → Settled p j v η y su → Means (plain (wr v)) n
+      wr-leads : {n : Note} {su : Bool} → (q < structs p → v < arity p j → ⊥) → LeavesStable p j v η y su → Means (plain (wr v)) n
           → Leads (state s (update-env (set σ l (inst k c χ ξ)) q (assign η v y)) (meet su b)) (perform p m l i n r)
       wr-leads {su = su} w u h = written-at (Leads (state s (update-env (set σ l (inst k c χ ξ)) q (assign η v y)) (meet su b))) h (at-leads w u)
 

@@ -21,9 +21,9 @@ use Rattle.operators.specs.Apply.{same-val}
 use Rattle.operators.specs.ApplyLaws.{apply-value, apply-outside}
 use Rattle.operators.specs.TestLaws.{same-val-exact}
 use Rattle.machine.specs.Published.{Sched, Env, lookup, assign, fresh-env, Inst, Inst.inst, State, State.state, update-env, arity}
-use Rattle.machine.specs.Rules.{Settled, Settled.no-parameter, Settled.same-value, Settled.other-value, meet, Actor.instance, Rule, Rule.ComPush, Rule.ComPushThis, Rule.ComRd, Rule.ComWr, Rule.ComWrNSkip, Rule.ComNot, Rule.ComOp, Rule.ComCons, Rule.ComIfT, Rule.ComIfF}
+use Rattle.machine.specs.Rules.{LeavesStable, LeavesStable.no-parameter, LeavesStable.same-value, LeavesStable.other-value, meet, Actor.instance, Rule, Rule.ComPush, Rule.ComPushThis, Rule.ComRd, Rule.ComWr, Rule.ComWrNSkip, Rule.ComNot, Rule.ComOp, Rule.ComCons, Rule.ComIfT, Rule.ComIfF}
 use Rattle.machine.specs.Stops.{Full, Full.no-label, Exceeded, Exceeded.no-result, full, exceeded}
-use Rattle.machine.specs.Machine.{Tagged, tagged, given-by, Instance, Machine, Out, Out.next, Out.refused, Out.stuck, with-code, with-written, put, settled, made, command}
+use Rattle.machine.specs.Machine.{Tagged, tagged, given-by, Instance, Machine, Out, Out.next, Out.refused, Out.stuck, with-code, with-written, put, leaves-stable, made, command}
 use Rattle.machine.specs.Represents.{values, Represents-inst, Represents}
 use Rattle.machine.specs.RepresentsLaws.{inst-at, values-length, map-drop, represents-length, represents-set, represents-env, represents-append}
 use Rattle.machine.specs.Performed.{Performed, Performed.pushed, Performed.pushed-this, Performed.negated, Performed.read-one, Performed.skipped, Performed.wrote, Performed.calculated, Performed.exceeding, Performed.constructed, Performed.filled, Performed.branched, Performed.no-way}
@@ -39,8 +39,8 @@ Follows p l st stuck = Unit {0}
 
 module _ (p : Program) where
   -- the machine's answer, whether a write leaves stability as it is, is that of rule ComWr
-  pub settles : (k v : ℕ) (ξ : Env) (x : Val) (o : Option Val) → lookup ξ v ≡ o → (v < arity p k → o ≡ none → ⊥) → Settled p k v ξ x (settled p k v x o)
-  unfolding settled
+  pub settles : (k v : ℕ) (ξ : Env) (x : Val) (o : Option Val) → lookup ξ v ≡ o → (v < arity p k → o ≡ none → ⊥) → LeavesStable p k v ξ x (leaves-stable p k v x o)
+  unfolding leaves-stable
   settles k v ξ x none e h = no-parameter (go (ltb v (arity p k)) refl)
     where
       go : (t : Bool) → ltb v (arity p k) ≡ t → arity p k ≤ v
@@ -48,7 +48,7 @@ module _ (p : Program) where
       go false a = ltb-false v (arity p k) a
   settles k v ξ x (some y) e h = go (ltb v (arity p k)) refl (same-val y x) refl
     where
-      go : (t : Bool) → ltb v (arity p k) ≡ t → (u : Bool) → same-val y x ≡ u → Settled p k v ξ x (elim (ltb v (arity p k)) [ true ↦ same-val y x | false ↦ true ])
+      go : (t : Bool) → ltb v (arity p k) ≡ t → (u : Bool) → same-val y x ≡ u → LeavesStable p k v ξ x (elim (ltb v (arity p k)) [ true ↦ same-val y x | false ↦ true ])
       go true a true b = rw (a, b) (same-value (ltb-true v (arity p k) a) (e ∙ ap {B = Option Val} some (same-val-exact y x .0 b)))
       go true a false b = rw (a, b) (other-value (ltb-true v (arity p k) a) e (λ q. let z : _≡_ {A = ℕ} 0 1 = cc (same-val-exact y x .1 q) in omega arith))
       go false a u b = rw a (no-parameter (ltb-false v (arity p k) a))
@@ -95,7 +95,7 @@ module _ (p : Program) (m : Machine) (l : ℕ) (s : Sched) (σ : List Inst) (b :
       (refl, h, refl, refl)
   way-follows i r d (wrote {v = v} {q = q} {y = y} {χ = χ} {j = a} k x j u w) e g =
       let (c, f, h) = plain-head d (wr v) (map erase r) (rw (writes-erase k) at e) in
-      let z : Bool = settled p (a .struct) v (y .is) (lookup (a .env) v) in (
+      let z : Bool = leaves-stable p (a .struct) v (y .is) (lookup (a .env) v) in (
         state s (update-env (set σ l (inst (i .struct) c (values χ) (i .env))) q (assign (a .env) v (y .is))) (meet z b),
         ComWr (rw (f, x) at g) (inst-at (m .instances) σ q (R .1) j .1) u (settles p (a .struct) v (a .env) (y .is) (lookup (a .env) v) refl w) refl refl,
         (

@@ -100,9 +100,9 @@ with-stability m b = record { sched = m .sched; instances = m .instances; stabil
 -- Commands ---------------------------------------------------------------------
 
 -- whether a write leaves stability as it is: variable v is no parameter of struct k, or has the value x already
-unfoldable pub settled : Program → ℕ → ℕ → Val → Option Val → Bool
-settled p k v x none = true
-settled p k v x (some y) = elim (ltb v (arity p k)) [ true ↦ same-val y x | false ↦ true ]
+unfoldable pub leaves-stable : Program → ℕ → ℕ → Val → Option Val → Bool
+leaves-stable p k v x none = true
+leaves-stable p k v x (some y) = elim (ltb v (arity p k)) [ true ↦ same-val y x | false ↦ true ]
 
 module _ (p : Program) (m : Machine) (l : ℕ) (i : Instance) where
   -- the code behind, with the value x on the stack χ, which came from s
@@ -133,7 +133,7 @@ module _ (p : Program) (m : Machine) (l : ℕ) (i : Instance) where
       next
       (with-stability
       (with-instances m (update-env (set (m .instances) l (with-code i c χ)) r (assign (j .env) v x)))
-      (meet (settled p (j .struct) v x (lookup (j .env) v)) (m .stability)))
+      (meet (leaves-stable p (j .struct) v x (lookup (j .env) v)) (m .stability)))
 
   -- a parameter that has no value has no rule
   unfoldable pub write-parameter : List Note → List Tagged → ℕ → Val → ℕ → Instance → Option Val → Out

@@ -1,7 +1,6 @@
 -- What falls as a machine acts: a measure of the schedule and its stability stack, which falls with every move, and the
 -- commands held, which fall with every command (01, 'Table and turns').
 use Prim.Native.Nat.{ℕ, suc, max, _+_}
-use mathlib.Core.Path.{_≡_}
 use mathlib.Core.Bool.{Bool, true, false}
 use mathlib.Core.Option.{Option, none, some}
 use mathlib.Core.List.{List, [], _∷_}
@@ -9,7 +8,7 @@ use lib.ListN.{length}
 use Rattle.program.specs.Tree.{Stmts, Program}
 use Rattle.commands.specs.Commands.{commands}
 use Rattle.machine.specs.Published.{StepCall, called, Sched, Sched.done, Sched.start, Sched.fixpoint, Sched.active}
-use Rattle.machine.specs.Machine.{Instance, Machine, Out.next, move}
+use Rattle.machine.specs.Machine.{Instance, Machine}
 
 -- the moves that a schedule takes where each fixpoint goes through its body once
 unfoldable pub weight : Sched → ℕ
@@ -58,8 +57,3 @@ share-of p done i = 0
 share-of p (start a s) i = share p a i
 share-of p (fixpoint f s) i = 0
 share-of p (active f s) i = 0
-
--- n moves in a row
-pub data Moved (p : Program) : ℕ → Machine → Machine → Type 0 where
-  unmoved : {m : Machine} → Moved p 0 m m
-  moved : {n : ℕ} {m m′ m″ : Machine} → move p m ≡ next m′ → Moved p n m′ m″ → Moved p (suc n) m m″

@@ -20,7 +20,7 @@ use Rattle.machine.specs.RepresentsLaws.{Still}
 use Rattle.machine.specs.Stops.{nested}
 use Rattle.machine.specs.Performed.{Performed, Performed.pushed, Performed.pushed-this, Performed.negated, Performed.read-one, Performed.skipped, Performed.wrote, Performed.calculated, Performed.exceeding, Performed.constructed, Performed.filled, Performed.branched, Performed.no-way}
 use Rattle.machine.specs.PerformedLaws.{by-ways}
-use Rattle.machine.specs.Measure.{weight, bound, passages, measure, total, codes, count, share, share-of, Moved, Moved.unmoved, Moved.moved}
+use Rattle.machine.specs.Measure.{weight, bound, passages, measure, total, codes, count, share, share-of}
 
 -- Moves ----------------------------------------------------------------------------
 
@@ -61,12 +61,6 @@ falls-by p B (active f s) is (false ∷ b) h = (omega (arith, weight-before f (a
 pub move-falls : (p : Program) (B : ℕ) (m : Machine) {m′ : Machine} → bound (m .sched) ≤ B → move p m ≡ next m′ → (measure B m′ < measure B m) × (bound (m′ .sched) ≤ B)
 unfolding measure
 move-falls p B m h e = rw e at (falls-by p B (m .sched) (m .instances) (m .stability) h)
-
--- so many moves in a row take at most the measure
-pub moves-bounded : (p : Program) (B : ℕ) {n : ℕ} {m m′ : Machine} → bound (m .sched) ≤ B → Moved p n m m′ → n + measure B m′ ≤ measure B m
-moves-bounded p B h unmoved = omega arith
-moves-bounded p B h (moved {m = m} e r) =
-    let (f, k) = move-falls p B m h e in omega (arith, moves-bounded p B k r)
 
 -- Commands -------------------------------------------------------------------------
 

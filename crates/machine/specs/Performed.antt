@@ -15,7 +15,7 @@ use Rattle.commands.specs.Noted.{Note, Note.n-push, Note.n-this, Note.n-not, No
 use Rattle.operators.specs.Apply.{Answer.value, Answer.outside, apply}
 use Rattle.machine.specs.Published.{lookup, assign, structs, arity}
 use Rattle.machine.specs.Rules.{meet}
-use Rattle.machine.specs.Machine.{Tagged, tagged, Source, Source.variable, Source.local, given-by, Instance, Machine, Out, Out.next, Out.refused, Out.stuck, with-code, update-env, with-instances, put, with-stability, settled, made}
+use Rattle.machine.specs.Machine.{Tagged, tagged, Source, Source.variable, Source.local, given-by, Instance, Machine, Out, Out.next, Out.refused, Out.stuck, with-code, update-env, with-instances, put, with-stability, leaves-stable, made}
 use Rattle.machine.specs.Stops.{full, exceeded}
 use Rattle.commands.specs.Tags.{result-type}
 
@@ -58,7 +58,7 @@ pub data Performed (p : Program) (m : Machine) (l : ℕ) (i : Instance) (r : Lis
       (next
       (with-stability
       (with-instances m (update-env (set (m .instances) l (with-code i r χ)) q (assign (j .env) v (y .is))))
-      (meet (settled p (j .struct) v (y .is) (lookup (j .env) v)) (m .stability))))
+      (meet (leaves-stable p (j .struct) v (y .is) (lookup (j .env) v)) (m .stability))))
   calculated : {o : Op} {x y : Tagged} {χ : List Tagged} {z : Val}
       → i .stack ≡ y ∷ x ∷ χ
       → apply o (x .is) (y .is) ≡ value z

@@ -50,14 +50,6 @@ inst-at is σ l {i} R e = go (getElem? σ l) refl (rw e at (represents-at is σ 
     go none g r = absurd r
     go (some (inst k c χ ξ)) g (a, b, x, y) = (c, g ∙ cc, b)
 
--- both or neither is missing
-pub none-at : (is : List Instance) (σ : List Inst) (l : ℕ) → Represents-all is σ → (getElem? is l ≡ none) ↔ (getElem? σ l ≡ none)
-none-at [] [] l R = (λ e. refl, λ e. refl)
-none-at [] (j ∷ σ) l R = absurd R
-none-at (i ∷ is) [] l R = absurd R
-none-at (i ∷ is) (j ∷ σ) zero R = (λ e. cc, λ e. cc)
-none-at (i ∷ is) (j ∷ σ) (suc l) R = none-at is σ l (R .1)
-
 pub represents-length : (is : List Instance) (σ : List Inst) → Represents-all is σ → length is ≡ length σ
 represents-length [] [] R = refl
 represents-length [] (j ∷ σ) R = absurd R

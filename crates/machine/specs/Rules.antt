@@ -29,10 +29,10 @@ abbrev pub Done : List Inst → Type 0
 Done σ = All Idle σ
 
 -- su of rule ComWr: the variable is no parameter, or it has the value already
-pub data Settled (p : Program) (k v : ℕ) (ξ : Env) (x : Val) : Bool → Type 0 where
-  no-parameter : arity p k ≤ v → Settled p k v ξ x true
-  same-value : v < arity p k → lookup ξ v ≡ some x → Settled p k v ξ x true
-  other-value : {y : Val} → v < arity p k → lookup ξ v ≡ some y → (y ≡ x → ⊥) → Settled p k v ξ x false
+pub data LeavesStable (p : Program) (k v : ℕ) (ξ : Env) (x : Val) : Bool → Type 0 where
+  no-parameter : arity p k ≤ v → LeavesStable p k v ξ x true
+  same-value : v < arity p k → lookup ξ v ≡ some x → LeavesStable p k v ξ x true
+  other-value : {y : Val} → v < arity p k → lookup ξ v ≡ some y → (y ≡ x → ⊥) → LeavesStable p k v ξ x false
 
 -- sχ₁ ∧ su; ..; sχₙ ∧ su
 unfoldable pub meet : Bool → List Bool → List Bool
@@ -71,7 +71,7 @@ pub data Rule (p : Program) : Actor → State → State → Type 0 where
       → getElem? σ l ≡ some (inst k (act (wr v) c) (label m ∷ x ∷ χ) ξ)
       → getElem? σ m ≡ some (inst j d ψ η)
       → (m < structs p → v < arity p j → ⊥)
-      → Settled p j v η x su
+      → LeavesStable p j v η x su
       → τ ≡ update-env (set σ l (inst k c χ ξ)) m (assign η v x)
       → b′ ≡ meet su b
       → Rule p (instance l) (state s σ b) (state s τ b′)

@@ -2,7 +2,7 @@
 -- says that it is met, so nothing is tested here.
 use Prim.Native.Nat.{ℕ, suc, _+_, _-_, _*_, _%_}
 use mathlib.Core.Bool.{true, false}
-use mathlib.Core.List.{List, [], _∷_}
+use mathlib.Core.List.{List}
 use lib.ListN.{length, getD, set, take, drop}
 use lib.Dec.{eqb, ltb, leb}
 use lib.Seq.{sets}
@@ -11,7 +11,8 @@ use Rattle.operators.specs.declared.Answered.{Answered}
 use Rattle.operators.specs.declared.Answered.the-variants.{Value, Outside, Unfit}
 use Rattle.operators.specs.Words.{apply-word}
 pub use Rattle.machine.specs.Stops.{full, exceeded}
-use Rattle.memory.specs.Layout.{State, head, head-size, struct-of, height-of, next-of, end-of, row-size, variable, stacked, cell, type-byte, operand, label-cell, with-heads, with-cells, unstable, refused, with-count, of-head, of-cell}
+use Rattle.layout.specs.Layout.{head-size, struct-of, height-of, next-of, row-size, variable, stacked, cell, type-byte, operand, label-cell, new-head, going}
+use Rattle.layout.specs.State.{State, with-heads, with-cells, unstable, refused, with-count, of-head, of-cell}
 
 -- the types of truths
 abbrev pub bool-byte : ℕ
@@ -19,7 +20,7 @@ bool-byte = 2
 
 -- instance l goes on at the command n, with h values on its stack
 abbrev pub gone : State → ℕ → ℕ → ℕ → State
-gone z l h n = with-heads z (set (set (z .heads) (head l height-of) h) (head l next-of) n)
+gone z l h n = with-heads z (going (z .heads) l h n)
 
 -- and with the cell c on top of h values
 abbrev pub pushed : State → ℕ → ℕ → ℕ → ℕ → State
@@ -90,12 +91,12 @@ module _ (counts : List ℕ) (l : ℕ) (z : State) where
   -- the n values on top become the parameters of a new instance of struct k, whose label takes their place
   unfoldable pub made : ℕ → ℕ → State
   made k n =
-      let c = sets (z .cells) (row-size * z .count) (take n (drop (stacked l (height - n)) (z .cells))) in
-      let h = sets (z .heads) (head-size * z .count) (k ∷ 0 ∷ 0 ∷ 0 ∷ []) in
-      unstable (with-count (pushed (with-cells (with-heads z h) c) l (height - n) (label-cell k (z .count)) after) (suc (z .count)))
+      let c = sets (z .cells) (row-size * z .machine .count) (take n (drop (stacked l (height - n)) (z .cells))) in
+      let h = sets (z .heads) (head-size * z .machine .count) (new-head k) in
+      unstable (with-count (pushed (with-cells (with-heads z h) c) l (height - n) (label-cell k (z .machine .count)) after) (suc (z .machine .count)))
 
   unfoldable pub do-cons : ℕ → State
-  do-cons k = elim (ltb (z .count) max-instances) [ true ↦ made k (getD counts k 0) | false ↦ refused full z ]
+  do-cons k = elim (ltb (z .machine .count) max-instances) [ true ↦ made k (getD counts k 0) | false ↦ refused full z ]
 
   -- a command by its kind, its word and its operand
   unfoldable pub perform : ℕ → ℕ → ℕ → State

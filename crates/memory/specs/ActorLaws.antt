@@ -16,7 +16,8 @@ use Rattle.program.specs.Tree.{Stmts, Step, Program}
 use Rattle.commands.specs.Context.{params-of, find-step}
 use Rattle.commands.specs.Bounds.{program-depth}
 use Rattle.commands.specs.Noted.{Note, Note.n-push, Note.n-this, Note.n-cons}
-use Rattle.commands.specs.Tags.{stack-after, Way.on}
+use Rattle.commands.specs.Tags.{stack-after, jump, Way.on}
+use Rattle.commands.specs.SecureWays.{behind, way-secure}
 use Rattle.machine.specs.Published.{StepCall, Env, Env.env, lookup, structs, arity}
 use Rattle.machine.specs.Machine.{Instance, Machine}
 use Rattle.sound.specs.Needs.{Needs}
@@ -88,6 +89,10 @@ module _ {p : Program} {counts : List ℕ} (firm : Firm p) (bound : Bounded p co
 
   pub actor-sized : Sized (structs p) n
   actor-sized = next-sized passage firm n c e
+
+  -- an if's body stands before the end of the actor's commands
+  pub actor-jump : jump n ≤ length c
+  actor-jump = behind (way-secure (firm .secure (i .struct) (step-had passage .0) (step-had passage .1) .1) (way-at passage firm n c e)) .within
 
   -- the actor's struct is one of the program's
   pub actor-struct : i .struct < structs p

@@ -18,7 +18,8 @@ use Rattle.sound.specs.Invariant.{Good}
 use Rattle.sound.specs.Accepted.{Firm}
 use Rattle.sound.specs.CommandKept.{commanded}
 use Rattle.sound.specs.Sized.{Sized, Lasting, Lasting.an-int, Lasting.a-nat, Lasting.a-bool, Lasting.a-null}
-use Rattle.memory.specs.Layout.{State, operand}
+use Rattle.layout.specs.Layout.{operand}
+use Rattle.layout.specs.State.{State}
 use Rattle.memory.specs.Act.{next-word, perform, act}
 use Rattle.memory.specs.Stands.{Stands}
 use Rattle.memory.specs.Frame.{Bounded, does, kind-of, operand-of, After, Goes}

@@ -8,9 +8,9 @@ use lib.ListN.{length, getD, set, length-set}
 use lib.Seq.{getD-set-same, getD-set-other, lt-length-set}
 use lib.Dec.{leb}
 use Rattle.types.specs.Limits.{step-names}
-use Rattle.memory.specs.Layout.{head, head-size, struct-of, height-of, next-of, end-of}
+use Rattle.layout.specs.Layout.{head, head-size, struct-of, height-of, next-of, end-of, begun}
 use Rattle.memory.specs.Plan.{from, to}
-use Rattle.memory.specs.Move.{means, begun, begin-one, begin-all}
+use Rattle.memory.specs.Move.{means, begin-one, begin-all}
 
 -- the numbers of instance k are the same in both
 abbrev pub Same : ℕ → List ℕ → List ℕ → Type 0

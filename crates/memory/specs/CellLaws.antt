@@ -22,7 +22,7 @@ use Rattle.operators.specs.TestLaws.{same-val-exact, same-val-false}
 use Rattle.operators.specs.Words.{answered, apply-word}
 use Rattle.operators.specs.WordLaws.{op-of-code}
 use Rattle.sound.specs.Sized.{Lasting, Lasting.an-int, Lasting.a-nat, Lasting.a-bool, Lasting.a-null}
-use Rattle.memory.specs.Layout.{cell, type-byte, operand, label-cell}
+use Rattle.layout.specs.Layout.{cell, type-byte, operand, label-cell}
 use Rattle.memory.specs.Act.{bool-byte, result-byte}
 use Rattle.memory.specs.Stands.{Shows}
 

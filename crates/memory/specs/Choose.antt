@@ -1,14 +1,9 @@
 -- Which instances hold commands, and which of them a turn byte picks, on memory (01, 'Table and turns').
 use Prim.Native.Nat.{ℕ, zero, suc, _-_, _%_}
-use mathlib.Core.Bool.{Bool, true, false}
+use mathlib.Core.Bool.{true, false}
 use mathlib.Core.List.{List}
-use lib.ListN.{getD}
-use lib.Dec.{ltb, eqb}
-use Rattle.memory.specs.Layout.{head, next-of, end-of}
-
--- instance l holds commands
-abbrev pub holds : List ℕ → ℕ → Bool
-holds heads l = ltb (getD heads (head l next-of) 0) (getD heads (head l end-of) 0)
+use lib.Dec.{eqb}
+use Rattle.layout.specs.Layout.{holds}
 
 -- how many of the n instances from l on hold commands
 unfoldable pub holding : List ℕ → ℕ → ℕ → ℕ

@@ -14,9 +14,10 @@ use Rattle.machine.specs.Published.{Sched}
 use Rattle.machine.specs.Machine.{Instance, Machine}
 use Rattle.run.specs.Turns.{labels-from, chosen}
 use Rattle.run.specs.Holders.{holds-code, holders}
-use Rattle.memory.specs.Layout.{State, next-of, end-of, of-head}
+use Rattle.layout.specs.Layout.{next-of, end-of, holds}
+use Rattle.layout.specs.State.{State, of-head}
 use Rattle.memory.specs.Stands.{note-words, Held, Stands}
-use Rattle.memory.specs.Choose.{holds, holding, holder, picked}
+use Rattle.memory.specs.Choose.{holding, holder, picked}
 
 words-length : (c : List Note) → length (note-words c) ≡ length c
 unfolding words
@@ -69,16 +70,16 @@ module _ {list : List ℕ} {P : ℕ → Sched → Type 0} (m : Machine) {z : Sta
   flags : Flags (z .heads) 0 (map (λ i. holds-code (i .code)) (m .instances))
   flags = flagged (z .heads) (m .instances) 0 λ k i g. let q : 0 + k ≡ k = omega arith in rw q (holds-same (S .each k i g))
 
-  counts : z .count ≡ length (map (λ i. holds-code (i .code)) (m .instances))
+  counts : z .machine .count ≡ length (map (λ i. holds-code (i .code)) (m .instances))
   counts = S .counted ∙ sym (length-map (m .instances) (λ i. holds-code (i .code)))
 
   -- as many hold commands
-  pub holding-same : holding (z .heads) 0 (z .count) ≡ length (holders m)
+  pub holding-same : holding (z .heads) 0 (z .machine .count) ≡ length (holders m)
   unfolding holders
   holding-same = rw counts (holding-labels (z .heads) (map (λ i. holds-code (i .code)) (m .instances)) 0 flags)
 
   -- and the byte e picks the same one
-  pub picks : (e : ℕ) → picked (z .heads) (z .count) e ≡ chosen (holders m) e
+  pub picks : (e : ℕ) → picked (z .heads) (z .machine .count) e ≡ chosen (holders m) e
   unfolding picked chosen holders
   picks e =
       rw (holding-same, counts)

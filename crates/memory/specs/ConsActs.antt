@@ -25,7 +25,8 @@ use Rattle.sound.specs.Accepted.{Firm}
 use Rattle.sound.specs.ElemLaws.{at-append, at-below}
 use Rattle.sound.specs.EachLaws.{each-length}
 use Rattle.sound.specs.Outcomes.{constructs, finds-full}
-use Rattle.memory.specs.Layout.{State, head, head-size, next-of, end-of, row-size, stacked, of-head, label-cell, refused}
+use Rattle.layout.specs.Layout.{head, head-size, next-of, end-of, row-size, stacked, label-cell, new-head}
+use Rattle.layout.specs.State.{State, of-head, refused}
 use Rattle.memory.specs.Act.{full, pushed, height, after, do-cons, made}
 use Rattle.memory.specs.Stands.{Shows, Stack, note-words, Stands}
 use Rattle.memory.specs.Frame.{AllSlim, Bounded, After, Goes}
@@ -33,16 +34,16 @@ use Rattle.memory.specs.CellLaws.{label-shows}
 use Rattle.memory.specs.RowLaws.{sets-other}
 use Rattle.memory.specs.HeldLaws.{stack-under, holds-after}
 use Rattle.memory.specs.StandsLaws.{has-row, settles, pushed-stands}
-use Rattle.memory.specs.MadeLaws.{new-head, with-new, new-stands, new-slim, row-shows}
+use Rattle.memory.specs.MadeLaws.{with-new, new-stands, new-slim, row-shows}
 use Rattle.memory.specs.ActorLaws.{count-of, good-slim, actor-needs, actor-sized, cons-room}
 
 -- a cons on memory, by its test
 module _ (counts : List ℕ) (l : ℕ) (z : State) (k a : ℕ) (count : getD counts k 0 ≡ a) where
-  cons-makes : ltb (z .count) max-instances ≡ true → do-cons counts l z k ≡ made counts l z k a
+  cons-makes : ltb (z .machine .count) max-instances ≡ true → do-cons counts l z k ≡ made counts l z k a
   unfolding do-cons
   cons-makes h = rw (do-cons, h, count)
 
-  cons-full : ltb (z .count) max-instances ≡ false → do-cons counts l z k ≡ refused full z
+  cons-full : ltb (z .machine .count) max-instances ≡ false → do-cons counts l z k ≡ refused full z
   unfolding do-cons
   cons-full h = rw (do-cons, h)
 
@@ -119,24 +120,24 @@ module _ {p : Program} {counts : List ℕ} (firm : Firm p) (bound : Bounded p co
 
     next-same : of-head (with-new z k ws) l next-of ≡ of-head z l next-of
     next-same =
-        let b : l < z .count = has-row list P m z st l i at in
-        sets-other (z .heads) (head-size * z .count) (new-head k) (head l next-of) (λ e f. omega arith)
+        let b : l < z .machine .count = has-row list P m z st l i at in
+        sets-other (z .heads) (head-size * z .machine .count) (new-head k) (head l next-of) (λ e f. omega arith)
 
     abbrev actor : Instance
     actor = with-code acting c (tagged (ref k) (label (length (m .instances))) ∷ χ)
 
     -- and its label on the actor's stack
-    labelled : Stands list P (put m′ l actor) (pushed (with-new z k ws) l base (label-cell k (z .count)) (after counts l z))
+    labelled : Stands list P (put m′ l actor) (pushed (with-new z k ws) l base (label-cell k (z .machine .count)) (after counts l z))
     labelled =
         let held = made-stands .each l i at′ in
         let v : Stack (with-new z k ws .cells) l (ξ ++ χ) = rw s at (held .stack) in
         let d = holds-after list (with-new z k ws) l i held (n-cons k) c e counts in
-        let n : z .count ≡ length (m .instances) = st .counted in
+        let n : z .machine .count ≡ length (m .instances) = st .counted in
         let h : height counts l z ≡ length (i .stack) = st .each l i at .height in
         let g : length (i .stack) - arity p k < max-depth = cons-room firm bound good l i at c k e in
         let b : k < structs p = actor-sized firm bound good l i at (n-cons k) c e in
         let f : structs p ≤ max-structs = bound .few in
-        let x : Shows (label-cell k (z .count)) (label (z .count)) = label-shows k (z .count) (omega arith) (omega arith) in
+        let x : Shows (label-cell k (z .machine .count)) (label (z .machine .count)) = label-shows k (z .machine .count) (omega arith) (omega arith) in
         let a : length vs ≡ length ξ = vs-length in
         let q : length ξ ≤ first-local = few-params in
         pushed-stands list P m′ (with-new z k ws) made-stands (new-slim (m .instances) slim k vs (omega arith)) l i at′ c χ (now-written (n-cons k) (i .written)) base
@@ -145,9 +146,9 @@ module _ {p : Program} {counts : List ℕ} (firm : Firm p) (bound : Bounded p co
         (stack-under (with-new z k ws .cells) l ξ χ v)
         (subst (λ (a : ℕ). take (of-head (with-new z k ws) l end-of - suc a) (drop (suc a) list) ≡ note-words c) next-same d)
         (tagged (ref k) (label (length (m .instances))))
-        (label-cell k (z .count))
+        (label-cell k (z .machine .count))
         (omega arith)
-        (subst (λ (a : ℕ). Shows (label-cell k (z .count)) (label a)) n x)
+        (subst (λ (a : ℕ). Shows (label-cell k (z .machine .count)) (label a)) n x)
 
     makes : Stands list P
         (with-stability (with-instances m (set (m .instances) l actor ++ resting k vs ∷ [])) (meet false (m .stability)))
@@ -158,11 +159,11 @@ module _ {p : Program} {counts : List ℕ} (firm : Firm p) (bound : Bounded p co
         subst
         (λ (js : List Instance). Stands list P (with-stability (with-instances m js) (meet false (m .stability))) (made counts l z k (length ξ)))
         (set-append-left (m .instances) (resting k vs ∷ []) l actor b)
-        (settles list P (put m′ l actor) (pushed (with-new z k ws) l base (label-cell k (z .count)) (after counts l z)) labelled false)
+        (settles list P (put m′ l actor) (pushed (with-new z k ws) l base (label-cell k (z .machine .count)) (after counts l z)) labelled false)
 
   constructs-to : (t : Bool) → ltb (length (m .instances)) max-instances ≡ t → After list P z (do-cons counts l z k) (construct p m l acting k c (i .stack))
   constructs-to true q =
-      let h : ltb (z .count) max-instances ≡ true = rw (st .counted) q in
+      let h : ltb (z .machine .count) max-instances ≡ true = rw (st .counted) q in
       let n : getD counts k 0 ≡ length ξ = count-of bound k ∙ sym size in
       let room : length (m .instances) < max-instances = ltb-true (length (m .instances)) max-instances q in
       subst (After list P z (do-cons counts l z k)) (sym (constructs p m l acting c k ξ χ s size q))
@@ -176,7 +177,7 @@ module _ {p : Program} {counts : List ℕ} (firm : Firm p) (bound : Bounded p co
       (sym (cons-makes counts l z k (length ξ) n h))
       (makes room))
   constructs-to false q =
-      let h : ltb (z .count) max-instances ≡ false = rw (st .counted) q in
+      let h : ltb (z .machine .count) max-instances ≡ false = rw (st .counted) q in
       subst (After list P z (do-cons counts l z k)) (sym (finds-full p m l acting c k (i .stack) q))
       (cons-full counts l z k (arity p k) (count-of bound k) h)
 

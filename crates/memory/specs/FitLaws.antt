@@ -21,52 +21,23 @@ use Rattle.operators.specs.declared.Answered.the-variants.{Value}
 use Rattle.operators.specs.Words.{apply-word, answered}
 use Rattle.machine.specs.Published.{Sched, structs, arity}
 use Rattle.machine.specs.Machine.{Tagged, Instance, Machine}
-use Rattle.sound.specs.Needs.{Of, Operand}
+use Rattle.sound.specs.Needs.{ValueAmong, Operand}
 use Rattle.sound.specs.Invariant.{Good}
 use Rattle.sound.specs.Accepted.{Firm}
 use Rattle.sound.specs.EachLaws.{each-length}
 use Rattle.sound.specs.ValueLaws.{bool-value, label-value, ranges}
-use Rattle.memory.specs.Layout.{State, struct-of, of-head, type-byte, operand}
+use Rattle.layout.specs.Layout.{struct-of, next-of, end-of, type-byte, operand}
+use Rattle.layout.specs.State.{State, of-head}
 use Rattle.memory.specs.Act.{height, top, beneath, next-word}
 use Rattle.memory.specs.Stands.{Stands}
 use Rattle.memory.specs.Frame.{Bounded, kind-of, operand-of}
-use Rattle.memory.specs.Fit.{PushFit, ThisFit, RdFit, WrFit, ConsFit, TruthFit, OpFit, Needed, Fit}
+use Rattle.memory.specs.Fit.{RdFit, WrFit, ConsFit, TruthFit, OpFit, Needed, Fit}
 use Rattle.memory.specs.CellLaws.{word-below, shown-type, shown-operand, shown-below, apply-shown}
-use Rattle.memory.specs.HeldLaws.{holds-next, holds-word, holds-top, holds-label, holds-beneath}
+use Rattle.memory.specs.HeldLaws.{holds-next, holds-within, holds-word, holds-top, holds-label, holds-beneath}
 use Rattle.memory.specs.StandsLaws.{has-row}
-use Rattle.memory.specs.ActorLaws.{counts-length, count-of, has-param, good-slim, actor-needs, actor-sized, actor-struct, push-room, this-room, cons-room}
+use Rattle.memory.specs.ActorLaws.{counts-length, count-of, has-param, good-slim, actor-needs, actor-sized, actor-jump, actor-struct, push-room, this-room, cons-room}
 use Rattle.memory.specs.VarActs.{own-local}
 use Rattle.memory.specs.Acts.{kind-bounds, word-says}
-
--- A command by its kind --------------------------------------------------------------
-
-module _ {list counts : List ℕ} {l : ℕ} {z : State} (fit : Fit list counts l z) where
-  needed-at : (k : ℕ) → next-word list z l % 256 ≡ k → Needed counts l z k (operand (next-word list z l))
-  needed-at k e = subst (λ (a : ℕ). Needed counts l z a (operand (next-word list z l))) e (fit .needed)
-
-  pub fit-push : next-word list z l % 256 ≡ 1 → PushFit counts l z
-  fit-push e = needed-at 1 e
-
-  pub fit-this : next-word list z l % 256 ≡ 2 → ThisFit counts l z
-  fit-this e = needed-at 2 e
-
-  pub fit-rd : next-word list z l % 256 ≡ 3 → RdFit counts l z (operand (next-word list z l))
-  fit-rd e = needed-at 3 e
-
-  pub fit-wr : next-word list z l % 256 ≡ 4 → WrFit counts l z (operand (next-word list z l))
-  fit-wr e = needed-at 4 e
-
-  pub fit-cons : next-word list z l % 256 ≡ 5 → ConsFit counts l z (operand (next-word list z l))
-  fit-cons e = needed-at 5 e
-
-  pub fit-if : next-word list z l % 256 ≡ 6 → TruthFit counts l z
-  fit-if e = needed-at 6 e
-
-  pub fit-not : next-word list z l % 256 ≡ 7 → TruthFit counts l z
-  fit-not e = needed-at 7 e
-
-  pub fit-op : next-word list z l % 256 ≡ 8 → OpFit counts l z (operand (next-word list z l))
-  fit-op e = needed-at 8 e
 
 -- Words of results --------------------------------------------------------------------
 
@@ -116,7 +87,7 @@ module _ {p : Program} {counts : List ℕ} (firm : Firm p) (bound : Bounded p co
   stack-low : height counts l z ≤ max-depth
   stack-low = let a = stack-high in let b = good-slim firm bound good l i at .low in omega arith
 
-  truth-fit : (x : Tagged) (χ : List Tagged) → i .stack ≡ x ∷ χ → Of (m .instances) bool (x .is) → TruthFit counts l z
+  truth-fit : (x : Tagged) (χ : List Tagged) → i .stack ≡ x ∷ χ → ValueAmong (m .instances) bool (x .is) → TruthFit (height counts l z) (top counts l z)
   truth-fit x χ s o =
       let (b, q) = bool-value (m .instances) (x .is) o in
       let a = stack-high in
@@ -126,7 +97,8 @@ module _ {p : Program} {counts : List ℕ} (firm : Firm p) (bound : Bounded p co
       record { one = omega arith; low = stack-low; truth = rw w (truth-word b) }
 
   rd-fit : (v : ℕ) → v < variables → (x : Tagged) (χ : List Tagged) → i .stack ≡ x ∷ χ → (r : ℕ) → x .is ≡ label r
-      → (j : Instance) → getElem? (m .instances) r ≡ some j → RdFit counts l z v
+      → (j : Instance) → getElem? (m .instances) r ≡ some j
+      → RdFit (height counts l z) (top counts l z) (z .machine .count) v
   rd-fit v b x χ s r q j at′ =
       let a = stack-high in
       let k : length (i .stack) ≡ suc (length χ) = ap length s in
@@ -138,7 +110,8 @@ module _ {p : Program} {counts : List ℕ} (firm : Firm p) (bound : Bounded p co
       }
 
   wr-fit : (v : ℕ) → v < variables → (y x : Tagged) (χ : List Tagged) → i .stack ≡ y ∷ x ∷ χ → (r : ℕ) → y .is ≡ label r
-      → (j : Instance) → getElem? (m .instances) r ≡ some j → j .struct < structs p → WrFit counts l z v
+      → (j : Instance) → getElem? (m .instances) r ≡ some j → j .struct < structs p
+      → WrFit (height counts l z) (top counts l z) (z .machine .count) v (of-head z (operand (top counts l z)) struct-of) (length counts)
   wr-fit v b y x χ s r q j at′ f =
       let a = stack-high in
       let k : length (i .stack) ≡ suc (suc (length χ)) = ap length s in
@@ -154,7 +127,8 @@ module _ {p : Program} {counts : List ℕ} (firm : Firm p) (bound : Bounded p co
       }
 
   op-fit : (o : Op) (t u : Ty) → Takes (sort o) t u → (y x : Tagged) (χ : List Tagged) → i .stack ≡ y ∷ x ∷ χ
-      → Of (m .instances) t (x .is) → Of (m .instances) t (y .is) → OpFit counts l z (op-code o)
+      → ValueAmong (m .instances) t (x .is) → ValueAmong (m .instances) t (y .is)
+      → OpFit (height counts l z) (beneath counts l z) (top counts l z) (op-code o)
   op-fit o t u k y x χ s f g =
       let a = stack-high in
       let n : length (i .stack) ≡ suc (suc (length χ)) = ap length s in
@@ -176,7 +150,7 @@ module _ {p : Program} {counts : List ℕ} (firm : Firm p) (bound : Bounded p co
         result = λ v e. answer-below k (apply o (x .is) (y .is)) (apply-fits o k rx ry) v (sym q ∙ e);
       }
 
-  cons-fit : (k : ℕ) → i .code ≡ n-cons k ∷ c → ConsFit counts l z k
+  cons-fit : (k : ℕ) → i .code ≡ n-cons k ∷ c → ConsFit counts (height counts l z) k
   cons-fit k e =
       let (xs, (χ, s), f) = actor-needs firm bound good l i at (n-cons k) c e in
       let a = stack-high in
@@ -205,7 +179,11 @@ module _ {p : Program} {counts : List ℕ} (firm : Firm p) (bound : Bounded p co
       let f : structs p ≤ max-structs = bound .few in
       record { room = omega arith; struct = omega arith }
   fits-note n-not e = let (x, (χ, s), (t, o)) = actor-needs firm bound good l i at n-not c e in truth-fit x χ s o
-  fits-note (n-if n) e = let (x, (χ, s), (t, o)) = actor-needs firm bound good l i at (n-if n) c e in truth-fit x χ s o
+  fits-note (n-if n) e =
+      let (x, (χ, s), (t, o)) = actor-needs firm bound good l i at (n-if n) c e in
+      let b : n ≤ length c = actor-jump firm bound good l i at (n-if n) c e in
+      let w : suc (of-head z l next-of) + n ≤ of-head z l end-of = holds-within list z l i (st .each l i at) (n-if n) c e n b in
+      record { test = truth-fit x χ s o; over = omega arith }
   fits-note (n-op o) e =
       let (x, y, (χ, s), t, u, k, (a, f), (b, g)) = actor-needs firm bound good l i at (n-op o) c e in
       op-fit o t u k y x χ s f g

@@ -14,7 +14,8 @@ use Rattle.commands.specs.Bounds.{program-depth}
 use Rattle.commands.specs.Noted.{Note, Note.n-push, Note.n-this, Note.n-not, Note.n-rd, Note.n-wr, Note.n-get, Note.n-set, Note.n-cons, Note.n-op, Note.n-if, now-written}
 use Rattle.machine.specs.Published.{Sched, lookup, structs}
 use Rattle.machine.specs.Machine.{Instance, Machine, with-written, Out, Out.next, Out.refused, Out.stuck, perform}
-use Rattle.memory.specs.Layout.{State, head-size, row-size, cell, with-cells, refused as refusing}
+use Rattle.layout.specs.Layout.{head-size, row-size, cell}
+use Rattle.layout.specs.State.{State, with-cells, refused as refusing}
 use Rattle.memory.specs.Act.{gone, do-push, do-this, do-not, do-if, do-op, do-rd, do-wr, do-cons}
 use Rattle.memory.specs.Stands.{Stands}
 

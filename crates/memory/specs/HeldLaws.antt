@@ -9,12 +9,13 @@ use Rattle.types.specs.Values.{Val.label, word}
 use Rattle.commands.specs.Noted.{Note, erase}
 use Rattle.commands.specs.Coding.{command-word}
 use Rattle.machine.specs.Machine.{Tagged, Instance}
-use Rattle.memory.specs.Layout.{State, head, head-size, struct-of, height-of, next-of, end-of, variable, stacked, of-head, of-cell, operand}
+use Rattle.layout.specs.Layout.{head, head-size, struct-of, height-of, next-of, end-of, variable, stacked, operand}
+use Rattle.layout.specs.State.{State, of-head, of-cell}
 use Rattle.memory.specs.Act.{height, top, beneath, after, next-word}
 use Rattle.memory.specs.Stands.{Shows, Stack, note-words, Held}
 use Rattle.memory.specs.Frame.{Same, Slim, moved}
 use Rattle.memory.specs.CellLaws.{shown-operand}
-use Rattle.memory.specs.RowLaws.{code-below, code-word, code-after, code-over, going-other, going-height, going-next}
+use Rattle.memory.specs.RowLaws.{code-below, code-within, code-word, code-after, code-over, going-other, going-height, going-next}
 
 -- a stack of at most k values, where its cells are the same
 pub stack-kept : (cs cs′ : List ℕ) (l : ℕ) (χ : List Tagged) (k : ℕ) → length χ ≤ k
@@ -76,6 +77,9 @@ module _ (list : List ℕ) (z : State) (l : ℕ) (i : Instance) (held : Held lis
 
     pub holds-next : of-head z l next-of < of-head z l end-of
     holds-next = code-below list (of-head z l next-of) (of-head z l end-of) (held .within) n c code-is
+
+    pub holds-within : (k : ℕ) → k ≤ length c → suc (of-head z l next-of) + k ≤ of-head z l end-of
+    holds-within k h = code-within list (of-head z l next-of) (of-head z l end-of) (held .within) n c code-is k h
 
     pub holds-word : next-word list z l ≡ command-word (erase n)
     holds-word = code-word list (of-head z l next-of) (of-head z l end-of) (held .within) n c code-is

@@ -1,4 +1,3 @@
-pub mod Layout
 pub mod Act
 pub mod Plan
 pub mod Move

@@ -15,7 +15,8 @@ use Rattle.machine.specs.Published.{Sched}
 use Rattle.machine.specs.Machine.{Tagged, Instance, Machine, with-instances}
 use Rattle.run.specs.Begin.{resting}
 use Rattle.sound.specs.ElemLaws.{none-some, some-is, at-snoc, at-below}
-use Rattle.memory.specs.Layout.{State, head-size, struct-of, height-of, next-of, end-of, row-size, stacked, of-head, with-heads, with-cells, with-count}
+use Rattle.layout.specs.Layout.{head-size, struct-of, height-of, next-of, end-of, row-size, stacked, new-head}
+use Rattle.layout.specs.State.{State, of-head, with-heads, with-cells, with-count}
 use Rattle.memory.specs.Stands.{Shows, Stack, Held, Stands}
 use Rattle.memory.specs.Frame.{Slim, AllSlim}
 use Rattle.memory.specs.RowLaws.{sets-other, sets-at}
@@ -23,25 +24,21 @@ use Rattle.memory.specs.VarLaws.{fresh-var}
 use Rattle.memory.specs.HeldLaws.{held-same}
 use Rattle.memory.specs.StandsLaws.{has-row}
 
--- the numbers of a new instance of struct k
-abbrev pub new-head : ℕ → List ℕ
-new-head k = k ∷ 0 ∷ 0 ∷ 0 ∷ []
-
 -- memory with one instance more, of struct k, with these cells for its first variables
 abbrev pub with-new : State → ℕ → List ℕ → State
 with-new z k ws =
-    with-count (with-cells (with-heads z (sets (z .heads) (head-size * z .count) (new-head k))) (sets (z .cells) (row-size * z .count) ws)) (suc (z .count))
+    with-count (with-cells (with-heads z (sets (z .heads) (head-size * z .machine .count) (new-head k))) (sets (z .cells) (row-size * z .machine .count) ws)) (suc (z .machine .count))
 
 module _ (list : List ℕ) (P : ℕ → Sched → Type 0) (m : Machine) (z : State) (st : Stands list P m z) (slim : AllSlim (m .instances))
-    (room : z .count < max-instances) (k : ℕ) (ws : List ℕ) (vs : List Val) (same : length vs ≡ length ws) (few : length ws ≤ variables)
+    (room : z .machine .count < max-instances) (k : ℕ) (ws : List ℕ) (vs : List Val) (same : length vs ≡ length ws) (few : length ws ≤ variables)
     (shown : (v : ℕ) (x : Val) → getElem? vs v ≡ some x → Shows (getD ws v 0) x) where
   -- number f of the new instance
-  new-number : (f : ℕ) → f < head-size → of-head (with-new z k ws) (z .count) f ≡ getD (new-head k) f 0
+  new-number : (f : ℕ) → f < head-size → of-head (with-new z k ws) (z .machine .count) f ≡ getD (new-head k) f 0
   new-number f b =
       let long : length (z .heads) ≡ head-size * max-instances = st .heads-long in
-      sets-at (z .heads) (head-size * z .count) (new-head k) f b (omega arith)
+      sets-at (z .heads) (head-size * z .machine .count) (new-head k) f b (omega arith)
 
-  new-held : Held list (with-new z k ws) (z .count) (resting k vs)
+  new-held : Held list (with-new z k ws) (z .machine .count) (resting k vs)
   unfolding words
   new-held = record {
     struct = new-number struct-of (omega arith);
@@ -52,16 +49,16 @@ module _ (list : List ℕ) (P : ℕ → Sched → Type 0) (m : Machine) (z : Sta
     vars = λ v x e.
         let (q, b) = fresh-var vs v x e in
         let long : length (z .cells) ≡ row-size * max-instances = st .cells-long in
-        rw (sets-at (z .cells) (row-size * z .count) ws v (omega arith) (omega arith)) (shown v x q);
+        rw (sets-at (z .cells) (row-size * z .machine .count) ws v (omega arith) (omega arith)) (shown v x q);
   }
 
   old-held : (l : ℕ) (i : Instance) → getElem? (m .instances) l ≡ some i → Held list (with-new z k ws) l i
   old-held l i at =
-      let b : l < z .count = has-row list P m z st l i at in
+      let b : l < z .machine .count = has-row list P m z st l i at in
       held-same list z (with-new z k ws) l i
       (record {
-        heads = λ a c d. sets-other (z .heads) (head-size * z .count) (new-head k) a (λ e f. omega arith);
-        cells = λ a c d. sets-other (z .cells) (row-size * z .count) ws a (λ e f. omega arith);
+        heads = λ a c d. sets-other (z .heads) (head-size * z .machine .count) (new-head k) a (λ e f. omega arith);
+        cells = λ a c d. sets-other (z .cells) (row-size * z .machine .count) ws a (λ e f. omega arith);
       })
       (slim l i at)
       (st .each l i at)
@@ -69,11 +66,11 @@ module _ (list : List ℕ) (P : ℕ → Sched → Type 0) (m : Machine) (z : Sta
   -- an instance of struct k with the values vs, which the cells ws show
   pub new-stands : Stands list P (with-instances m (m .instances ++ resting k vs ∷ [])) (with-new z k ws)
   new-stands = record {
-    heads-long = length-sets (z .heads) (head-size * z .count) (new-head k) ∙ st .heads-long;
-    cells-long = length-sets (z .cells) (row-size * z .count) ws ∙ st .cells-long;
+    heads-long = length-sets (z .heads) (head-size * z .machine .count) (new-head k) ∙ st .heads-long;
+    cells-long = length-sets (z .cells) (row-size * z .machine .count) ws ∙ st .cells-long;
     counted =
         let n : length (m .instances ++ resting k vs ∷ []) ≡ length (m .instances) + 1 = length-append (m .instances) (resting k vs ∷ []) in
-        let c : z .count ≡ length (m .instances) = st .counted in
+        let c : z .machine .count ≡ length (m .instances) = st .counted in
         omega arith;
     few = omega arith;
     each = λ l i e. go l i (at-snoc (m .instances) (resting k vs) l i e);
@@ -87,7 +84,7 @@ module _ (list : List ℕ) (P : ℕ → Sched → Type 0) (m : Machine) (z : Sta
           → Held list (with-new z k ws) l i
       go l i (inl at) = old-held l i at
       go l i (inr h) =
-          let q : l ≡ z .count = h .0 ∙ sym (st .counted) in
+          let q : l ≡ z .machine .count = h .0 ∙ sym (st .counted) in
           let w : resting k vs ≡ i = h .1 in
           rw (q, ← w) new-held
 

@@ -2,25 +2,19 @@
 use Prim.Native.Nat.{ℕ, zero, suc, _+_, _-_, _*_, _/_, _%_, _<_, _≤_}
 use mathlib.Core.Bool.{Bool, true, false, _||_, _&&_}
 use mathlib.Core.List.{List}
-use lib.ListN.{getD, set}
+use lib.ListN.{getD}
 use lib.Dec.{eqb, ltb, leb}
 use Rattle.types.specs.Limits.{step-names, max-stability}
-use Rattle.memory.specs.Layout.{State, head, struct-of, height-of, next-of, end-of, with-heads, refused}
+use Rattle.layout.specs.Layout.{head, struct-of, begun}
+use Rattle.layout.specs.State.{State, with-heads, refused, moved}
 use Rattle.memory.specs.Plan.{fix-code, round-code, from, to}
 pub use Rattle.machine.specs.Stops.{nested}
-
--- place, open Fixes and their entries
-abbrev pub moved : State → ℕ → ℕ → ℕ → State
-moved z a f s = record { count = z .count; place = a; fixes = f; stable = s; number = z .number; heads = z .heads; cells = z .cells }
 
 -- whether the code c of a started step means struct k: any, or the one it names
 abbrev pub means : ℕ → ℕ → Bool
 means c k = eqb (c / step-names) 0 || eqb (c / step-names) (suc k)
 
 -- instance l begins the step, where its struct has it: its stack is empty and its commands are the step's
-abbrev pub begun : List ℕ → ℕ → ℕ → ℕ → List ℕ
-begun heads l a e = set (set (set heads (head l height-of) 0) (head l next-of) a) (head l end-of) e
-
 unfoldable pub begin-one : List ℕ → ℕ → List ℕ → ℕ → List ℕ
 begin-one spans c heads l =
     let k = getD heads (head l struct-of) 0 in
@@ -35,19 +29,19 @@ begin-all spans c heads l (suc n) = begin-all spans c (begin-one spans c heads l
 
 -- a Fix begins
 unfoldable pub do-fix : State → State
-do-fix z = elim (ltb (z .fixes) max-stability) [ true ↦ moved z (suc (z .place)) (suc (z .fixes)) (suc (2 * z .stable)) | false ↦ refused nested z ]
+do-fix z = elim (ltb (z .machine .fixes) max-stability) [ true ↦ moved z (suc (z .machine .place)) (suc (z .machine .fixes)) (suc (2 * z .machine .stable)) | false ↦ refused nested z ]
 
 -- it ends where its entry is true, or goes round
 unfoldable pub do-round : ℕ → State → State
 do-round t z =
-    elim (eqb (z .stable % 2) 1) [
-      | true ↦ moved z (suc (z .place)) (z .fixes - 1) (z .stable / 2)
-      | false ↦ moved z t (z .fixes) (suc (z .stable))
+    elim (eqb (z .machine .stable % 2) 1) [
+      | true ↦ moved z (suc (z .machine .place)) (z .machine .fixes - 1) (z .machine .stable / 2)
+      | false ↦ moved z t (z .machine .fixes) (suc (z .machine .stable))
     ]
 
 unfoldable pub do-start : List ℕ → ℕ → State → State
 do-start spans c z =
-    with-heads (moved z (suc (z .place)) (z .fixes) (z .stable)) (begin-all spans c (z .heads) 0 (z .count))
+    with-heads (moved z (suc (z .machine .place)) (z .machine .fixes) (z .machine .stable)) (begin-all spans c (z .heads) 0 (z .machine .count))
 
 unfoldable pub move-by : List ℕ → ℕ → State → State
 move-by spans c z =
@@ -58,4 +52,4 @@ move-by spans c z =
 
 -- the item at the machine's place, where no instance holds commands
 unfoldable pub move : List ℕ → List ℕ → State → State
-move items spans z = move-by spans (getD items (z .place) 0) z
+move items spans z = move-by spans (getD items (z .machine .place) 0) z

@@ -19,11 +19,12 @@ use Rattle.machine.specs.Machine.{Instance, Machine, Out, Out.next, Out.refused
 use Rattle.sound.specs.Invariant.{Open}
 use Rattle.sound.specs.MoveKept.{active-open}
 use Rattle.sound.specs.ElemLaws.{none-some, map-at}
-use Rattle.memory.specs.Layout.{State, head, head-size, struct-of, height-of, next-of, end-of, with-heads, refused as refused-with}
+use Rattle.layout.specs.Layout.{head, head-size, struct-of, height-of, next-of, end-of}
+use Rattle.layout.specs.State.{State, with-heads, refused as refused-with, moved}
 use Rattle.memory.specs.Stands.{bits, Held, Stands}
 use Rattle.memory.specs.Plan.{start-code, RangedCall, from, to, Spans, Located, At}
 use Rattle.memory.specs.PlanLaws.{code-below, past-start, past-fix, past-round}
-use Rattle.memory.specs.Move.{means, moved, begin-one, begin-all, do-start, move as move-on}
+use Rattle.memory.specs.Move.{means, begin-one, begin-all, do-start, move as move-on}
 use Rattle.memory.specs.BeginLaws.{Same, begun-struct, begun-height, begun-next, begun-end, one-begins, one-stays, one-length, one-others, all-length}
 use Rattle.memory.specs.MoveLaws.{move-start, fix-begins, fix-refused, round-ends, round-again}
 
@@ -171,10 +172,10 @@ module _ {list items : List ℕ} {q : Sched} {is : List Instance} {b : List Bool
       (known : (l : ℕ) (i : Instance) → getElem? is l ≡ some i → i .struct < structs p) where
     -- a step begins
     start-stands : {s : Sched} (c : ℕ) (f : Instance → Instance) → ((i : Instance) → f i ≡ begin-inst p c i)
-        → At items (suc (z .place)) s → Stands list (At items) (machine s (map f is) b) (do-start spans c z)
+        → At items (suc (z .machine .place)) s → Stands list (At items) (machine s (map f is) b) (do-start spans c z)
     unfolding do-start
     start-stands {s} c f law r = record {
-      heads-long = all-length spans c (z .heads) 0 (z .count) ∙ S .heads-long;
+      heads-long = all-length spans c (z .heads) 0 (z .machine .count) ∙ S .heads-long;
       cells-long = S .cells-long;
       counted = S .counted ∙ sym (length-map is f);
       few = S .few;
@@ -188,12 +189,12 @@ module _ {list items : List ℕ} {q : Sched} {is : List Instance} {b : List Bool
     }
       where
         held : (l : ℕ) (i : Instance) → getElem? is l ≡ some i
-            → Held list (with-heads (moved z (suc (z .place)) (z .fixes) (z .stable)) (begin-all spans c (z .heads) 0 (z .count))) l (begin-inst p c i)
+            → Held list (with-heads (moved z (suc (z .machine .place)) (z .machine .fixes) (z .machine .stable)) (begin-all spans c (z .heads) 0 (z .machine .count))) l (begin-inst p c i)
         held =
             let n = S .counted in
             let w = S .few in
-            all-held p list spans located c is known (moved z (suc (z .place)) (z .fixes) (z .stable)) 0 (z .count) (S .heads-long) (omega arith) (omega arith)
-            (λ k i g h. absurd (omega arith)) (λ k i g h. held-moved (S .each k i g) (suc (z .place)) (z .fixes) (z .stable))
+            all-held p list spans located c is known (moved z (suc (z .machine .place)) (z .machine .fixes) (z .machine .stable)) 0 (z .machine .count) (S .heads-long) (omega arith) (omega arith)
+            (λ k i g h. absurd (omega arith)) (λ k i g h. held-moved (S .each k i g) (suc (z .machine .place)) (z .machine .fixes) (z .machine .stable))
 
 -- what an outcome of the machine's move says of memory
 abbrev pub Follows : List ℕ → List ℕ → State → State → Out → Type 0
@@ -225,12 +226,12 @@ module _ (p : Program) (list items spans : List ℕ) (located : Located p list s
   moves-by (active f s) is [] known S o _ = active-open o refl
   moves-by (active f s) is (true ∷ b) known S o _ =
       let (t, e, r, w) = past-round items (S .scheduled) in
-      let u : z .stable ≡ suc (2 * bits b) = S .entries in
-      let v : z .fixes ≡ suc (length b) = S .opened in
+      let u : z .machine .stable ≡ suc (2 * bits b) = S .entries in
+      let v : z .machine .fixes ≡ suc (length b) = S .opened in
       by (next (machine s is b)) (round-ends items spans z t e (omega arith)) (moved-stands S b r (omega arith) (omega arith))
   moves-by (active f s) is (false ∷ b) known S o _ =
       let (t, e, r, w) = past-round items (S .scheduled) in
-      let u : z .stable ≡ 2 * bits b = S .entries in
+      let u : z .machine .stable ≡ 2 * bits b = S .entries in
       by (next (machine (before f (active f s)) is (true ∷ b))) (round-again items spans z t e (omega arith))
       (moved-stands S (true ∷ b) w (S .opened) (omega arith))
 

@@ -5,15 +5,15 @@ use native.Mathlib.Omega.{arith}
 use native.Mathlib.Nat.{suc-sub-suc, sub-zero}
 use mathlib.Core.Path.{_≡_, refl, ap, sym, _∙_, subst}
 use mathlib.Core.Bool.{Bool, true, false}
-use mathlib.Core.List.{List, [], _∷_}
-use lib.ListN.{length, getD, set, take, drop, length-set}
-use lib.Seq.{sets, drop-cons, drop-drop, getD-set-same, getD-set-other, lt-length-set}
+use mathlib.Core.List.{List, [], _∷_, map}
+use lib.ListN.{length, getD, set, take, drop, length-set, length-drop, length-map}
+use lib.Seq.{sets, length-take-le, drop-cons, drop-drop, getD-set-same, getD-set-other, lt-length-set}
 use lib.Dec.{ltb}
 use borrow.Author.Tests.{ltb-true, ltb-false}
 use Rattle.types.specs.Limits.{max-instances}
 use Rattle.commands.specs.Noted.{Note, erase}
 use Rattle.commands.specs.Coding.{command-word, words}
-use Rattle.memory.specs.Layout.{head, head-size, height-of, next-of}
+use Rattle.layout.specs.Layout.{head, head-size, height-of, next-of, going}
 use Rattle.memory.specs.Stands.{note-words}
 
 -- a run of stores leaves the places outside it
@@ -87,6 +87,18 @@ module _ (list : List ℕ) (b e : ℕ) (within : e ≤ length list) (n : Note) (
   pub code-after : take (e - suc b) (drop (suc b) list) ≡ note-words c
   code-after = sym (parts .1)
 
+  -- there are as many as commands
+  code-many : e - b ≡ suc (length c)
+  unfolding words
+  code-many =
+      let a : length (take (e - b) (drop b list)) ≡ e - b = length-take-le (e - b) (drop b list) (rw (length-drop b list) (omega arith)) in
+      let m : length (note-words (n ∷ c)) ≡ suc (length c) = rw (length-map (map erase (n ∷ c)) command-word, length-map (n ∷ c) erase) in
+      sym a ∙ ap length code ∙ m
+
+  -- k of those behind it end where all do, or before
+  pub code-within : (k : ℕ) → k ≤ length c → suc b + k ≤ e
+  code-within k h = let a = code-many in let d : b < e = code-below in omega arith
+
   -- those behind k more
   pub code-over : (k : ℕ) → take (e - (suc b + k)) (drop (suc b + k) list) ≡ note-words (drop k c)
   code-over k =
@@ -96,9 +108,6 @@ module _ (list : List ℕ) (b e : ℕ) (within : e ≤ length list) (n : Note) (
       ∙ rw (q, drop-drop k (suc b) list))
 
 -- Numbers of an instance that has gone on -------------------------------------------
-
-abbrev pub going : List ℕ → ℕ → ℕ → ℕ → List ℕ
-going hs l h n = set (set hs (head l height-of) h) (head l next-of) n
 
 module _ (hs : List ℕ) (l h n : ℕ) where
   pub going-other : (a : ℕ) → (a ≡ head l height-of → ⊥) → (a ≡ head l next-of → ⊥) → getD (going hs l h n) a 0 ≡ getD hs a 0

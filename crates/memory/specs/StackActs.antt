@@ -25,7 +25,8 @@ use Rattle.sound.specs.Invariant.{Good}
 use Rattle.sound.specs.Accepted.{Firm}
 use Rattle.sound.specs.ValueLaws.{bool-value, ranges}
 use Rattle.sound.specs.Outcomes.{negated, branched, operates}
-use Rattle.memory.specs.Layout.{State, struct-of, of-head, cell, type-byte, operand, label-cell}
+use Rattle.layout.specs.Layout.{struct-of, cell, type-byte, operand, label-cell}
+use Rattle.layout.specs.State.{State, of-head}
 use Rattle.memory.specs.Act.{height, after, top, beneath, bool-byte, result-byte, do-push, do-this, do-not, do-if, do-op, answered}
 use Rattle.memory.specs.Stands.{Shows, Stack, Stands}
 use Rattle.memory.specs.Frame.{AllSlim, Bounded, After, Goes}
@@ -65,8 +66,8 @@ module _ {p : Program} {counts : List ℕ} (firm : Firm p) (bound : Bounded p co
       let k : of-head z l struct-of ≡ i .struct = held .struct in
       let a : i .struct < structs p = actor-struct firm bound good l i at n-this c e in
       let b : structs p ≤ max-structs = bound .few in
-      let q : l < z .count = has-row list P m z st l i at in
-      let f : z .count ≤ max-instances = st .few in
+      let q : l < z .machine .count = has-row list P m z st l i at in
+      let f : z .machine .count ≤ max-instances = st .few in
       pushed-stands list P m z st slim l i at c (i .stack) (now-written n-this (i .written)) (height counts l z) (after counts l z) h (held .stack)
       (holds-after list z l i held n-this c e counts)
       (tagged (ref (i .struct)) (label l))

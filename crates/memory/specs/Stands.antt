@@ -15,7 +15,8 @@ use Rattle.commands.specs.Noted.{Note, erase}
 use Rattle.commands.specs.Coding.{words}
 use Rattle.machine.specs.Published.{Sched, Env, lookup}
 use Rattle.machine.specs.Machine.{Tagged, Instance, Machine}
-use Rattle.memory.specs.Layout.{State, head, head-size, struct-of, height-of, next-of, end-of, row-size, variable, stacked, cell, of-head, of-cell}
+use Rattle.layout.specs.Layout.{head, head-size, struct-of, height-of, next-of, end-of, row-size, variable, stacked, cell}
+use Rattle.layout.specs.State.{State, of-head, of-cell}
 
 -- a cell shows a value, under a type of its kind
 pub record Shows (c : ℕ) (v : Val) : Type 0 where
@@ -52,10 +53,10 @@ bits (false ∷ b) = 2 * bits b
 pub record Stands (list : List ℕ) (P : ℕ → Sched → Type 0) (m : Machine) (z : State) : Type 0 where
   pub heads-long : length (z .heads) ≡ head-size * max-instances
   pub cells-long : length (z .cells) ≡ row-size * max-instances
-  pub counted : z .count ≡ length (m .instances)
-  pub few : z .count ≤ max-instances
+  pub counted : z .machine .count ≡ length (m .instances)
+  pub few : z .machine .count ≤ max-instances
   pub each : (l : ℕ) (i : Instance) → getElem? (m .instances) l ≡ some i → Held list z l i
-  pub opened : z .fixes ≡ length (m .stability)
-  pub entries : z .stable ≡ bits (m .stability)
-  pub scheduled : P (z .place) (m .sched)
-  pub clear : z .number ≡ 0
+  pub opened : z .machine .fixes ≡ length (m .stability)
+  pub entries : z .machine .stable ≡ bits (m .stability)
+  pub scheduled : P (z .machine .place) (m .sched)
+  pub clear : z .machine .number ≡ 0

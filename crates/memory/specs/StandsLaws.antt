@@ -18,7 +18,8 @@ use Rattle.machine.specs.Machine.{Tagged, Instance, Machine, with-env, update-e
 use Rattle.sound.specs.ElemLaws.{some-is, at-set-same, at-set-other, at-below}
 use Rattle.sound.specs.Keeps.{at-env-same, at-env-other}
 use Rattle.sound.specs.GoodLaws.{meet-length}
-use Rattle.memory.specs.Layout.{State, end-of, row-size, variable, stacked, of-head, of-cell, with-cells, unstable}
+use Rattle.layout.specs.Layout.{end-of, row-size, variable, stacked}
+use Rattle.layout.specs.State.{State, of-head, of-cell, with-cells, unstable}
 use Rattle.memory.specs.Act.{gone, pushed}
 use Rattle.memory.specs.Stands.{Shows, Stack, note-words, Held, bits, Stands}
 use Rattle.memory.specs.Frame.{AllSlim, moved}
@@ -34,7 +35,7 @@ bits-false (t ∷ b) = rw (bits-false b)
 
 module _ (list : List ℕ) (P : ℕ → Sched → Type 0) (m : Machine) (z : State) (st : Stands list P m z) where
   -- an instance has a row
-  pub has-row : (l : ℕ) (i : Instance) → getElem? (m .instances) l ≡ some i → l < z .count
+  pub has-row : (l : ℕ) (i : Instance) → getElem? (m .instances) l ≡ some i → l < z .machine .count
   has-row l i at = rw (st .counted) (at-below (m .instances) l i at)
 
   -- the stability entries once an act has left them so, or not
@@ -138,8 +139,8 @@ module _ (list : List ℕ) (P : ℕ → Sched → Type 0) (m : Machine) (z : Sta
         var : (u : ℕ) (y : Val) → Dec (u ≡ v) → lookup (assign (j .env) v x) u ≡ some y
             → Shows (getD (set (z .cells) (variable r v) d) (variable r u) 0) y
         var u y (yes q) e =
-            let b : r < z .count = has-row r j at in
-            let f : z .count ≤ max-instances = st .few in
+            let b : r < z .machine .count = has-row r j at in
+            let f : z .machine .count ≤ max-instances = st .few in
             let long : length (z .cells) ≡ row-size * max-instances = st .cells-long in
             let here : getD (set (z .cells) (variable r v) d) (variable r v) 0 ≡ d = getD-set-same (z .cells) (variable r v) d 0 (omega arith) in
             let w : x ≡ y = assigned-same (j .env) v x y (rw q at e) in

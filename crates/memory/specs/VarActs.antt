@@ -18,8 +18,8 @@ use Rattle.commands.specs.Noted.{Note, Note.n-rd, Note.n-wr, Note.n-get, Note.n
 use Rattle.operators.specs.Apply.{same-val}
 use Rattle.machine.specs.Published.{Sched, Env, lookup, assign, structs, arity}
 use Rattle.machine.specs.Rules.{meet}
-use Rattle.machine.specs.Machine.{Tagged, tagged, Source, Source.variable as from-variable, Source.local, given-by, Instance, Machine, with-code, with-written, with-instances, with-stability, put, update-env, settled, read, write-to, write, perform}
-use Rattle.sound.specs.Needs.{Of, Needs}
+use Rattle.machine.specs.Machine.{Tagged, tagged, Source, Source.variable as from-variable, Source.local, given-by, Instance, Machine, with-code, with-written, with-instances, with-stability, put, update-env, leaves-stable, read, write-to, write, perform}
+use Rattle.sound.specs.Needs.{ValueAmong, Needs}
 use Rattle.sound.specs.Invariant.{Good}
 use Rattle.sound.specs.Accepted.{Firm}
 use Rattle.sound.specs.ElemLaws.{some-is, at-set-same, at-set-other}
@@ -27,7 +27,8 @@ use Rattle.sound.specs.EnvLaws.{param-holds}
 use Rattle.sound.specs.ValueLaws.{label-value, ranges}
 use Rattle.sound.specs.Outcomes.{has-read, leaves-null, writes-param, writes-local}
 use Rattle.sound.specs.WriteKept.{same-env}
-use Rattle.memory.specs.Layout.{State, struct-of, of-head, of-cell, variable, operand}
+use Rattle.layout.specs.Layout.{struct-of, variable, operand}
+use Rattle.layout.specs.State.{State, of-head, of-cell}
 use Rattle.memory.specs.Act.{gone, height, after, top, beneath, do-rd, do-wr, stored, written, written-to}
 use Rattle.memory.specs.Stands.{Shows, Stack, Stands}
 use Rattle.memory.specs.Frame.{Slim, AllSlim, Bounded, After, Goes}
@@ -51,14 +52,14 @@ module _ (counts : List ℕ) (l : ℕ) (z : State) (r x d a : ℕ) (count : getD
   written-local h = rw (written-to, count, h)
 
 -- whether a write leaves the stability entries
-settled-param : (p : Program) (k v : ℕ) (x y : Val) (o : Option Val) → o ≡ some y → ltb v (arity p k) ≡ true → settled p k v x o ≡ same-val y x
-unfolding settled
-settled-param p k v x y o e h = rw (e, settled, h)
+settled-param : (p : Program) (k v : ℕ) (x y : Val) (o : Option Val) → o ≡ some y → ltb v (arity p k) ≡ true → leaves-stable p k v x o ≡ same-val y x
+unfolding leaves-stable
+settled-param p k v x y o e h = rw (e, leaves-stable, h)
 
-settled-local : (p : Program) (k v : ℕ) (x : Val) (o : Option Val) → ltb v (arity p k) ≡ false → settled p k v x o ≡ true
-unfolding settled
+settled-local : (p : Program) (k v : ℕ) (x : Val) (o : Option Val) → ltb v (arity p k) ≡ false → leaves-stable p k v x o ≡ true
+unfolding leaves-stable
 settled-local p k v x none h = refl
-settled-local p k v x (some y) h = rw (settled, h)
+settled-local p k v x (some y) h = rw (leaves-stable, h)
 
 -- an instance put back in its row
 slim-put : (is : List Instance) (l : ℕ) (i a : Instance) → getElem? is l ≡ some i → AllSlim is → Slim a → AllSlim (set is l a)
@@ -164,7 +165,7 @@ module _ {p : Program} {counts : List ℕ} (firm : Firm p) (bound : Bounded p co
         (sym (goes-to ∙ written-null counts l z r v (beneath counts l z) (arity p (j .struct)) count h k′)) leaves)
 
     writes-other : ltb v (arity p (j .struct)) ≡ true → ltb r (structs p) ≡ false → (w : Val) → lookup (j .env) v ≡ some w
-        → (t : Ty) → Of (m .instances) t w → Of (m .instances) t (x .is)
+        → (t : Ty) → ValueAmong (m .instances) t w → ValueAmong (m .instances) t (x .is)
         → After list P z (do-wr counts l z v) (write p m l (acting n) c (i .stack) v)
     unfolding write-to written
     writes-other h k w b t ow ox =
@@ -172,13 +173,13 @@ module _ {p : Program} {counts : List ℕ} (firm : Firm p) (bound : Bounded p co
         let f : operand (of-cell z (variable r v)) ≡ word w = shown-operand (of-cell z (variable r v)) w (st .each r j at′ .vars v w b) in
         let g : operand (beneath counts l z) ≡ word (x .is) =
         shown-operand (beneath counts l z) (x .is) (holds-beneath list z l i (st .each l i at) counts y x χ s) in
-        let same : settled p (j .struct) v (x .is) (lookup (j .env) v) ≡ eqb (operand (of-cell z (variable r v))) (operand (beneath counts l z)) =
+        let same : leaves-stable p (j .struct) v (x .is) (lookup (j .env) v) ≡ eqb (operand (of-cell z (variable r v))) (operand (beneath counts l z)) =
         settled-param p (j .struct) v (x .is) w (lookup (j .env) v) b h
         ∙ same-words w (x .is) (ranges (m .instances) t w ow) (ranges (m .instances) t (x .is) ox)
         ∙ rw (f, g) in
         let m′ = with-instances m (update-env (set (m .instances) l actor) r (assign (j .env) v (x .is))) in
         subst (After list P z (do-wr counts l z v)) (sym (writes-param p m l (acting n) c v s′ at′ h k b))
-        (subst (λ (u : State). Stands list P (with-stability m′ (meet (settled p (j .struct) v (x .is) (lookup (j .env) v)) (m .stability))) u)
+        (subst (λ (u : State). Stands list P (with-stability m′ (meet (leaves-stable p (j .struct) v (x .is) (lookup (j .env) v)) (m .stability))) u)
         (sym (goes-to ∙ written-param counts l z r v (beneath counts l z) (arity p (j .struct)) count h k′))
         (subst (λ (t : Bool). Stands list P (with-stability m′ (meet t (m .stability))) (written counts l z r v (beneath counts l z))) (sym same)
         (settles list P m′ (stored counts l z r v (beneath counts l z)) stores (eqb (operand (of-cell z (variable r v))) (operand (beneath counts l z))))))
@@ -188,7 +189,7 @@ module _ {p : Program} {counts : List ℕ} (firm : Firm p) (bound : Bounded p co
     writes-var h =
         let m′ = with-instances m (update-env (set (m .instances) l actor) r (assign (j .env) v (x .is))) in
         subst (After list P z (do-wr counts l z v)) (sym (writes-local p m l (acting n) c v s′ at′ h))
-        (subst (λ (u : State). Stands list P (with-stability m′ (meet (settled p (j .struct) v (x .is) (lookup (j .env) v)) (m .stability))) u)
+        (subst (λ (u : State). Stands list P (with-stability m′ (meet (leaves-stable p (j .struct) v (x .is) (lookup (j .env) v)) (m .stability))) u)
         (sym (goes-to ∙ written-local counts l z r v (beneath counts l z) (arity p (j .struct)) count h))
         (subst (λ (t : Bool). Stands list P (with-stability m′ (meet t (m .stability))) (stored counts l z r v (beneath counts l z)))
         (sym (settled-local p (j .struct) v (x .is) (lookup (j .env) v) h))
@@ -203,13 +204,13 @@ module _ {p : Program} {counts : List ℕ} (firm : Firm p) (bound : Bounded p co
       let few : length (params-of p (j .struct)) ≤ first-local = firm .few (j .struct) in
       let (u, d, o′) = param-holds (m .instances) (params-of p (j .struct)) few v b′ (j .env) (good .all .each r j at′ .fitted) in
       let h : ltb v (arity p (j .struct)) ≡ true = lt-ltb v (arity p (j .struct)) b′ in
-      let a′ : Of (m .instances) (getD (params-of p (j .struct)) v int) (x .is) =
-      subst (λ (d : ℕ). Of (m .instances) (getD (params-of p d) v int) (x .is)) (sym w) a in
+      let a′ : ValueAmong (m .instances) (getD (params-of p (j .struct)) v int) (x .is) =
+      subst (λ (d : ℕ). ValueAmong (m .instances) (getD (params-of p d) v int) (x .is)) (sym w) a in
       go x y χ s r q j at′ (omega arith) h u d (getD (params-of p (j .struct)) v int) o′ a′ (ltb r (structs p)) refl
     where
       go : (x y : Tagged) (χ : List Tagged) → i .stack ≡ y ∷ x ∷ χ → (r : ℕ) → y .is ≡ label r → (j : Instance) → getElem? (m .instances) r ≡ some j
           → v < variables → ltb v (arity p (j .struct)) ≡ true
-          → (u : Val) → lookup (j .env) v ≡ some u → (t : Ty) → Of (m .instances) t u → Of (m .instances) t (x .is)
+          → (u : Val) → lookup (j .env) v ≡ some u → (t : Ty) → ValueAmong (m .instances) t u → ValueAmong (m .instances) t (x .is)
           → (b : Bool) → ltb r (structs p) ≡ b
           → After list P z (do-wr counts l z v) (write p m l (acting (n-wr k v)) c (i .stack) v)
       go x y χ s r q j at′ small h u d t o o′ true k′ = writes-null (n-wr k v) e v small y x χ s r q j at′ h k′

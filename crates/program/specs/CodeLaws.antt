@@ -1,54 +1,35 @@
 -- Types and variables and the bytes that name them (01, 'Program stream'): each goes to its byte and back.
-use Prim.Native.Nat.{ℕ, zero, suc, _+_, _-_, _<_}
+use Prim.Native.Nat.{ℕ, _+_, _-_, _<_}
 use native.Mathlib.Omega.{arith}
 use native.Mathlib.Decide.{decLt}
-use mathlib.Core.Path.{_≡_, refl}
+use mathlib.Core.Path.{_≡_, refl, ap, sym, _∙_}
+use mathlib.Core.Bool.{Bool, true, false}
 use lib.Dec.{T}
-use borrow.Author.Tests.{lt-ltb, le-ltb, ne-eqb}
+use borrow.Author.Tests.{lt-ltb, le-ltb}
 use Rattle.types.specs.Limits.{first-local, variables}
-use Rattle.types.specs.Types.{Ty, Ty.int, Ty.nat, Ty.bool, Ty.ref, struct-code, code, IsType, type-of}
+use Rattle.types.specs.Types.{Ty, code, IsType, type-of}
 use Rattle.program.specs.Tree.{Var, Var.par, Var.loc}
 use Rattle.program.specs.Encoding.{var-code}
 use Rattle.program.specs.Counts.{IsVar}
-use Rattle.program.specs.Reader.{plain-types, type-byte, var-of}
-use Rattle.program.specs.JoinLaws.{between-iff}
-
--- a type's byte names it
-pub type-code : (t : Ty) → type-of (code t) ≡ t
-unfolding type-of code
-type-code int = refl
-type-code nat = refl
-type-code bool = refl
-type-code (ref k) =
-    let e : 16 + k - 16 ≡ k = omega arith in
-    rw (ne-eqb (16 + k) 0 (omega arith), ne-eqb (16 + k) 1 (omega arith), ne-eqb (16 + k) 2 (omega arith), e, type-of)
+use Rattle.types.specs.TypeBytes.{is-type}
+use Rattle.types.specs.Reflects.{reflects-iff}
+use Rattle.types.specs.TypeLaws.{type-of-code, code-is-type, type-exact, code-type-of}
+use Rattle.program.specs.Reader.{var-of}
 
 -- the type that an allowed byte names is one of the program's, and has that byte
-pub code-type : (S b : ℕ) → T (type-byte S b) → (IsType S (type-of b)) × (code (type-of b) ≡ b)
-unfolding type-byte type-of code
-code-type S b h = go (decLt b plain-types)
+pub code-type : (S b : ℕ) → T (is-type S b) → (IsType S (type-of b)) × (code (type-of b) ≡ b)
+code-type S b h = go (is-type S b) refl h
   where
-    plain : (b : ℕ) → b < plain-types → (IsType S (type-of b)) × (code (type-of b) ≡ b)
-    plain zero l = (tt, refl)
-    plain (suc zero) l = (tt, refl)
-    plain (suc (suc zero)) l = (tt, refl)
-    plain (suc (suc (suc b))) l = absurd (omega arith)
-
-    go : Dec (b < plain-types) → (IsType S (type-of b)) × (code (type-of b) ≡ b)
-    go (yes l) = plain b l
-    go (no l) =
-        let p = between-iff struct-code (struct-code + S) b .0 (rw (le-ltb b plain-types (omega arith)) at h) in
-        let e : struct-code + (b - struct-code) ≡ b = omega arith in
-        let k : type-of b ≡ ref (b - struct-code) = rw e at (type-code (ref (b - struct-code))) in
-        rw k (omega arith, e)
+    go : (u : Bool) → is-type S b ≡ u → T u → (IsType S (type-of b)) × (code (type-of b) ≡ b)
+    go true e h =
+        let (t, i, c) = reflects-iff (type-exact S b) .0 e in
+        let q : type-of b ≡ t = ap type-of (sym c) ∙ type-of-code t in
+        (rw q i, code-type-of S b e)
+    go false e h = absurd h
 
 -- the byte of a type of the program is allowed
-pub type-allowed : (S : ℕ) (t : Ty) → IsType S t → T (type-byte S (code t))
-unfolding type-byte code
-type-allowed S int h = tt
-type-allowed S nat h = tt
-type-allowed S bool h = tt
-type-allowed S (ref k) h = rw (le-ltb (16 + k) 3 (omega arith)) (between-iff 16 (16 + S) (16 + k) .1 (omega arith))
+pub type-allowed : (S : ℕ) (t : Ty) → IsType S t → T (is-type S (code t))
+type-allowed S t h = rw (code-is-type S t h) tt
 
 -- a variable's byte names it
 pub var-code-of : (v : Var) → IsVar v → (var-code v < variables) × (var-of (var-code v) ≡ v)

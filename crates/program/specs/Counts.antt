@@ -4,7 +4,7 @@ use mathlib.Core.Path.{_≡_}
 use mathlib.Core.List.{List, [], _∷_, map}
 use lib.ListN.{length, getD}
 use Rattle.types.specs.Limits.{max-structs, max-params, max-steps, step-names, max-statements, max-items, nat-end, first-local, max-locals, max-path, fix-levels, if-levels, expr-levels}
-use Rattle.types.specs.Types.{Ty, IsType}
+use Rattle.types.specs.Types.{IsType}
 use Rattle.program.specs.Tree.{Var, Var.par, Var.loc, Expr, Expr.inv, Expr.make, Expr.path, Expr.int-lit, Expr.nat-lit, Expr.bool-lit, Expr.null, Expr.self, Expr.op, Exprs, Exprs.none, Exprs.more, Stmt, Stmt.when, Stmt.declare, Stmt.update, Stmt.create, Stmts, Stmts.end, Stmts.next, Item, Item.call, Item.call-in, Item.fix, Items, Items.stop, Items.item, Step, Program, args, size, items}
 
 -- of every element
@@ -14,20 +14,20 @@ All C (a ∷ l) = (C a) × (All C l)
 
 -- levels of an expression (a literal alone is 1); ifs and Fixes that stand in one another
 unfoldable mutual
-  pub height : Expr → ℕ
-  height (inv e) = suc (height e)
-  height (make k es) = suc (heights es)
-  height (path v vs) = 1
-  height (int-lit w) = 1
-  height (nat-lit w) = 1
-  height (bool-lit w) = 1
-  height (null t) = 1
-  height self = 1
-  height (op o a b) = suc (max (height a) (height b))
+  pub expr-height : Expr → ℕ
+  expr-height (inv e) = suc (expr-height e)
+  expr-height (make k es) = suc (args-height es)
+  expr-height (path v vs) = 1
+  expr-height (int-lit w) = 1
+  expr-height (nat-lit w) = 1
+  expr-height (bool-lit w) = 1
+  expr-height (null t) = 1
+  expr-height self = 1
+  expr-height (op o a b) = suc (max (expr-height a) (expr-height b))
 
-  pub heights : Exprs → ℕ
-  heights none = 0
-  heights (more e es) = max (height e) (heights es)
+  pub args-height : Exprs → ℕ
+  args-height none = 0
+  args-height (more e es) = max (expr-height e) (args-height es)
 
 unfoldable mutual
   pub nest : Stmt → ℕ
@@ -94,10 +94,10 @@ module _ (ar : List ℕ) where
 module _ (levels : ℕ) (ar : List ℕ) where
   unfoldable mutual
     pub CountsStmtTo : Stmt → Type 0
-    CountsStmtTo (when e b) = (CountsExpr ar e) × (height e ≤ levels) × (size b ≤ max-statements) × (CountsStmtsTo b)
-    CountsStmtTo (declare t x e) = (IsType (length ar) t) × (x < max-locals) × (CountsExpr ar e) × (height e ≤ levels)
-    CountsStmtTo (update v vs e) = (IsPath v vs) × (CountsExpr ar e) × (height e ≤ levels)
-    CountsStmtTo (create k es) = (k < length ar) × (args es ≡ getD ar k 0) × (CountsExprs ar es) × (heights es ≤ levels)
+    CountsStmtTo (when e b) = (CountsExpr ar e) × (expr-height e ≤ levels) × (size b ≤ max-statements) × (CountsStmtsTo b)
+    CountsStmtTo (declare t x e) = (IsType (length ar) t) × (x < max-locals) × (CountsExpr ar e) × (expr-height e ≤ levels)
+    CountsStmtTo (update v vs e) = (IsPath v vs) × (CountsExpr ar e) × (expr-height e ≤ levels)
+    CountsStmtTo (create k es) = (k < length ar) × (args es ≡ getD ar k 0) × (CountsExprs ar es) × (args-height es ≤ levels)
 
     pub CountsStmtsTo : Stmts → Type 0
     CountsStmtsTo end = Unit {0}

@@ -9,7 +9,7 @@ use lib.ListN.{length, getD, drop, drop-of-length-le}
 use Rattle.program.specs.Tree.{Expr, Expr.inv, Expr.make, Expr.path, Expr.int-lit, Expr.nat-lit, Expr.bool-lit, Expr.null, Expr.self, Expr.op}
 use Rattle.program.specs.Encoding.{op-code, enc-expr, enc-exprs}
 use Rattle.program.specs.Levels.{levels-expr, levels-exprs}
-use Rattle.program.specs.Counts.{height, CountsExpr}
+use Rattle.program.specs.Counts.{expr-height, CountsExpr}
 use Rattle.program.specs.Fronts.{Front.front-none}
 use Rattle.program.specs.Reader.{Result, Result.bad, wrong-end, wrong-byte, lookup, Form, Form.form-inv, Form.form-make, Form.form-path, Form.form-int, Form.form-nat, Form.form-bool, Form.form-null, Form.form-self, Form.form-op, Form.form-none, form, bool-end, word-bytes, byte, then, read-make, rule-expr, read-expr}
 use Rattle.program.specs.Exact.{Stands, Stands.letter, Stands.done, Exact}
@@ -68,7 +68,7 @@ module _ (ar : List ℕ) (structs : 0 < length ar) (top : ℕ) where
     -- each form, behind a byte that opens it
     form-ends : (f : Form)
         → FormEnds top (InExpr ar (suc (suc d))) enc-expr (At l) (λ b. Opens b f) (λ s n. rule-expr ar s (r s) n (n + 1) f)
-    unfolding rule-expr CountsExpr height enc-expr levels-expr
+    unfolding rule-expr CountsExpr expr-height enc-expr levels-expr
     form-ends form-inv = formed-ends top o (follows-behind top y) _ (λ e h. (h .0, omega arith)) (λ b e q. rw q) λ e. refl
     form-ends form-make =
         formed-ends top o (follows-behind top make-follows) _ (λ p h. ((h .0, h .1 .0, h .1 .1), omega arith)) (λ b p q. rw q) λ p. refl
@@ -90,7 +90,7 @@ module _ (ar : List ℕ) (structs : 0 < length ar) (top : ℕ) where
     -- each tree, at the byte that opens it
     tree-met : (s : List ℕ) (e : Expr) (n m : ℕ) → InExpr ar (suc (suc d)) e → Stands s n (enc-expr e) m
         → Opened top s (λ b. rule-expr ar s (r s) n (n + 1) (form b)) enc-expr (At l) e n m
-    unfolding rule-expr CountsExpr height enc-expr levels-expr form lookup
+    unfolding rule-expr CountsExpr expr-height enc-expr levels-expr form lookup
     tree-met s (inv e) n m c (letter h q w) = (16, h, q, met-byte top o (met-made _ (y .meets s e _ m (c .0, omega arith) w)))
     tree-met s (make k es) n m c (letter h q w) =
         (17, h, q, met-byte top o (met-made _ (make-follows .meets s (k, es) _ m (c .0 .0, (c .0 .1, c .0 .2, omega arith)) w)))
@@ -107,7 +107,7 @@ module _ (ar : List ℕ) (structs : 0 < length ar) (top : ℕ) where
 
   -- below the last level every byte is refused
   none-follows : (l : ℕ) → top < l → Follows top (InExpr ar 1) enc-expr (At l) (λ s. read-expr ar s 0)
-  unfolding read-expr CountsExpr height
+  unfolding read-expr CountsExpr expr-height
   none-follows l o = record {
     fill = self;
     fills = (tt, omega arith);
@@ -125,7 +125,7 @@ module _ (ar : List ℕ) (structs : 0 < length ar) (top : ℕ) where
 
   -- an expression of at most d levels, from level l on
   pub expr-follows : (d l : ℕ) → l + d ≡ suc top → Follows top (InExpr ar (suc d)) enc-expr (At l) (λ s. read-expr ar s d)
-  unfolding read-expr CountsExpr height
+  unfolding read-expr CountsExpr expr-height
   expr-follows zero l e = none-follows l (omega arith)
   expr-follows (suc d) l e =
       let x = expr-exact ar d in

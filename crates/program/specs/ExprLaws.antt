@@ -6,7 +6,7 @@ use mathlib.Core.List.{List, _∷_}
 use lib.ListN.{length, getD}
 use Rattle.program.specs.Tree.{Op, Op.op-eq, Op.op-ne, Op.op-le, Op.op-ge, Op.op-lt, Op.op-gt, Op.op-mul, Op.op-div, Op.op-rem, Op.op-add, Op.op-sub, Op.op-and, Op.op-or, Expr, Expr.inv, Expr.make, Expr.path, Expr.int-lit, Expr.nat-lit, Expr.bool-lit, Expr.null, Expr.self, Expr.op, Exprs, Exprs.none, Exprs.more, args}
 use Rattle.program.specs.Encoding.{op-code, enc-expr, enc-exprs}
-use Rattle.program.specs.Counts.{height, heights, CountsExpr, CountsExprs}
+use Rattle.program.specs.Counts.{expr-height, args-height, CountsExpr, CountsExprs}
 use Rattle.program.specs.Reader.{Result, lookup, Form, Form.form-inv, Form.form-make, Form.form-path, Form.form-int, Form.form-nat, Form.form-bool, Form.form-null, Form.form-self, Form.form-op, Form.form-none, forms, form, bool-end, word-bytes, read-make, rule-expr, read-expr}
 use Rattle.program.specs.Exact.{Stands, Stands.done, Stands.letter, Told.told, Told.silent, Cut.stop, Exact, Formed, Rowed}
 use Rattle.program.specs.PartLaws.{made-ok, told-byte, cuts-byte, cuts-ok}
@@ -50,8 +50,8 @@ form-code op-and = refl
 form-code op-or = refl
 
 -- an expression has a level
-pub height-pos : (e : Expr) → 1 ≤ height e
-unfolding height
+pub height-pos : (e : Expr) → 1 ≤ expr-height e
+unfolding expr-height
 height-pos (inv e) = omega arith
 height-pos (make k es) = omega arith
 height-pos (path v vs) = omega arith
@@ -65,14 +65,14 @@ height-pos (op o a b) = omega arith
 module _ (ar : List ℕ) where
   -- within the counts, of at most d levels; a row of i such expressions
   abbrev pub InExpr : ℕ → Expr → Type 0
-  InExpr d e = (CountsExpr ar e) × (height e ≤ d)
+  InExpr d e = (CountsExpr ar e) × (expr-height e ≤ d)
 
   abbrev pub InExprs : ℕ → ℕ → Exprs → Type 0
-  InExprs d i es = (args es ≡ i) × (CountsExprs ar es) × (heights es ≤ d)
+  InExprs d i es = (args es ≡ i) × (CountsExprs ar es) × (args-height es ≤ d)
 
   -- the arguments of a construct are a row of expressions
   pub exprs-row : (d : ℕ) → Rowed none more (InExpr d) enc-expr (InExprs d) (λ i. enc-exprs)
-  unfolding args CountsExprs heights enc-exprs
+  unfolding args CountsExprs args-height enc-exprs
   exprs-row d = record {
     nil = (refl, tt, omega arith);
     cons = λ i e es p q. (ap suc (q .0), (p .0, q .1), omega arith);
@@ -99,7 +99,7 @@ module _ (ar : List ℕ) where
 
     -- each form, behind a byte that opens it
     form-laws : (f : Form) → Formed (InExpr (suc d)) enc-expr (λ b. Opens b f) (λ s n. rule-expr ar s (r s) n (n + 1) f)
-    unfolding rule-expr CountsExpr height enc-expr
+    unfolding rule-expr CountsExpr expr-height enc-expr
     form-laws form-inv = formed (behind x) _ (λ e h. (h .0, omega arith)) λ b e o. rw o
     form-laws form-make = formed (behind make-exact) _ (λ p h. ((h .0, h .1 .0, h .1 .1), omega arith)) λ b p o. rw o
     form-laws form-path = formed (behind path-exact) _ (λ p h. (h, omega arith)) λ b p o. rw o
@@ -117,7 +117,7 @@ module _ (ar : List ℕ) where
     -- each tree, at the byte that opens it
     complete-rule : (s : List ℕ) (e : Expr) (n m : ℕ) → InExpr (suc d) e → Stands s n (enc-expr e) m
         → Reads s (λ b. rule-expr ar s (r s) n (n + 1) (form b)) e n m
-    unfolding rule-expr CountsExpr height enc-expr form lookup
+    unfolding rule-expr CountsExpr expr-height enc-expr form lookup
     complete-rule s (inv e) n m c (letter h q w) = (16, h, q, made-ok _ (x .complete s e _ m (c .0, omega arith) w))
     complete-rule s (make k es) n m c (letter h q w) =
         (17, h, q, made-ok _ (make-exact .complete s (k, es) _ m (c .0 .0, (c .0 .1, c .0 .2, omega arith)) w))

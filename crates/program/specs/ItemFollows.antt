@@ -9,7 +9,7 @@ use Rattle.program.specs.Tree.{Item, Item.call, Item.call-in, Item.fix, 
 use Rattle.program.specs.Encoding.{enc-item}
 use Rattle.program.specs.Levels.{all-at}
 use Rattle.program.specs.Counts.{fixes, fixes-in, CountsItem, CountsItems, CountsSchedule}
-use Rattle.program.specs.Reader.{Result, ranged, opened, pair, lookup, Sort, Sort.sort-call, Sort.sort-call-in, Sort.sort-fix, Sort.sort-none, sort, read-items, rule-item, read-item}
+use Rattle.program.specs.Reader.{Result, ranged, opened, pair, lookup, ItemSort, ItemSort.sort-call, ItemSort.sort-call-in, ItemSort.sort-fix, ItemSort.sort-none, item-sort, read-items, rule-item, read-item}
 use Rattle.program.specs.Exact.{Stands, Stands.letter, Exact}
 use Rattle.program.specs.WordLaws.{below-exact}
 use Rattle.program.specs.ItemLaws.{OpensItem, opens-item, InItem, InFix, enc-schedule, items-row, item-exact}
@@ -54,8 +54,8 @@ module _ (ar : List ℕ) (structs : 0 < length ar) (top : ℕ) where
   -- where w reads what stands behind the byte of a Fix, with at most d levels in all
   module _ (d : ℕ) (w : List ℕ → ℕ → ℕ → Result Items)
       (x : FollowsBehind top (InFix ar d) (enc-schedule ar) levels-schedule (λ s n. w s n (n + 1))) where
-    -- each sort, behind the byte that opens it
-    sort-ends : (f : Sort) → FormEnds top (InItem ar d) enc-item levels-item (λ b. OpensItem b f) (λ s n. rule-item ar s (w s) n (n + 1) f)
+    -- each sort of item, behind the byte that opens it
+    sort-ends : (f : ItemSort) → FormEnds top (InItem ar d) enc-item levels-item (λ b. OpensItem b f) (λ s n. rule-item ar s (w s) n (n + 1) f)
     unfolding rule-item fixes enc-item
     sort-ends sort-call = formed-ends top outside (follows-behind top call-follows) _ (λ n h. (h, omega arith)) (λ b n o. rw o) λ n. refl
     sort-ends sort-call-in = formed-ends top outside (follows-behind top call-in-follows) _ (λ p h. (h, omega arith)) (λ b p o. rw o) λ p. refl
@@ -64,13 +64,13 @@ module _ (ar : List ℕ) (structs : 0 < length ar) (top : ℕ) where
 
     -- each tree, at the byte that opens it
     tree-met : (s : List ℕ) (t : Item) (n m : ℕ) → InItem ar d t → Stands s n (enc-item t) m
-        → Opened top s (λ b. rule-item ar s (w s) n (n + 1) (sort b)) enc-item levels-item t n m
-    unfolding rule-item enc-item sort lookup
+        → Opened top s (λ b. rule-item ar s (w s) n (n + 1) (item-sort b)) enc-item levels-item t n m
+    unfolding rule-item enc-item item-sort lookup
     tree-met s (call i) n m c (letter h q v) = (1, h, q, met-byte top outside (met-made _ (call-follows .meets s i _ m (c .0) v)))
     tree-met s (call-in k i) n m c (letter h q v) = (2, h, q, met-byte top outside (met-made _ (call-in-follows .meets s (k, i) _ m (c .0) v)))
     tree-met s (fix is) n m c (letter h q v) = (3, h, q, met-byte top outside (met-made _ (x .meets s is n m c v)))
 
-    item-in : Follows top (InItem ar d) enc-item levels-item (λ s. opened s sort (rule-item ar s (w s)))
+    item-in : Follows top (InItem ar d) enc-item levels-item (λ s. opened s item-sort (rule-item ar s (w s)))
     unfolding CountsItem fixes
     item-in = opened-follows top _ OpensItem opens-item (call 0) (omega arith, omega arith) sort-ends tree-met
 

@@ -8,23 +8,23 @@ use Rattle.types.specs.Limits.{step-names, max-items, fix-levels}
 use Rattle.program.specs.Tree.{Item, Item.call, Item.call-in, Item.fix, Items, Items.stop, Items.item, items}
 use Rattle.program.specs.Encoding.{enc-item, enc-items}
 use Rattle.program.specs.Counts.{fixes, fixes-in, CountsItem, CountsItems, CountsSchedule}
-use Rattle.program.specs.Reader.{Result, ranged, opened, pair, lookup, Sort, Sort.sort-call, Sort.sort-call-in, Sort.sort-fix, Sort.sort-none, sorts, sort, read-items, rule-item, read-item}
+use Rattle.program.specs.Reader.{Result, ranged, opened, pair, lookup, ItemSort, ItemSort.sort-call, ItemSort.sort-call-in, ItemSort.sort-fix, ItemSort.sort-none, item-sorts, item-sort, read-items, rule-item, read-item}
 use Rattle.program.specs.Exact.{Stands, Stands.letter, Exact, Behind, Formed, Rowed}
 use Rattle.program.specs.PartLaws.{made-ok}
 use Rattle.program.specs.JoinLaws.{exact-iff, pair-exact, row-exact, behind, shut, formed, no-form, counted-exact, lookup-is, Reads, opened-exact}
 use Rattle.program.specs.WordLaws.{below-exact}
 
 -- the byte that opens an item
-abbrev pub OpensItem : ℕ → Sort → Type 0
+abbrev pub OpensItem : ℕ → ItemSort → Type 0
 OpensItem b sort-call = b ≡ 1
 OpensItem b sort-call-in = b ≡ 2
 OpensItem b sort-fix = b ≡ 3
 OpensItem b sort-none = Unit {0}
 
--- a byte is the one that opens its sort
-pub opens-item : (b : ℕ) → OpensItem b (sort b)
-unfolding sort
-opens-item b = lookup-is OpensItem sorts sort-none b tt (omega arith)
+-- a byte is the one that opens its sort of item
+pub opens-item : (b : ℕ) → OpensItem b (item-sort b)
+unfolding item-sort
+opens-item b = lookup-is OpensItem item-sorts sort-none b tt (omega arith)
 
 module _ (ar : List ℕ) where
   -- within the counts, with at most d levels of Fix; a row of i such items; the items of a Fix
@@ -80,8 +80,8 @@ module _ (ar : List ℕ) where
 
   -- where w reads what stands behind the byte of a Fix, with at most d levels in all
   module _ (d : ℕ) (w : List ℕ → ℕ → ℕ → Result Items) (x : Behind (InFix d) enc-schedule (λ s n. w s n (n + 1))) where
-    -- each sort, behind the byte that opens it
-    sort-laws : (f : Sort) → Formed (InItem d) enc-item (λ b. OpensItem b f) (λ s n. rule-item ar s (w s) n (n + 1) f)
+    -- each sort of item, behind the byte that opens it
+    sort-laws : (f : ItemSort) → Formed (InItem d) enc-item (λ b. OpensItem b f) (λ s n. rule-item ar s (w s) n (n + 1) f)
     unfolding rule-item fixes enc-item
     sort-laws sort-call = formed (behind call-exact) _ (λ n h. (h, omega arith)) λ b n o. rw o
     sort-laws sort-call-in = formed (behind call-in-exact) _ (λ p h. (h, omega arith)) λ b p o. rw o
@@ -90,13 +90,13 @@ module _ (ar : List ℕ) where
 
     -- each tree, at the byte that opens it
     complete-rule : (s : List ℕ) (t : Item) (n m : ℕ) → InItem d t → Stands s n (enc-item t) m
-        → Reads s (λ b. rule-item ar s (w s) n (n + 1) (sort b)) t n m
-    unfolding rule-item enc-item sort lookup
+        → Reads s (λ b. rule-item ar s (w s) n (n + 1) (item-sort b)) t n m
+    unfolding rule-item enc-item item-sort lookup
     complete-rule s (call i) n m c (letter h q v) = (1, h, q, made-ok _ (call-exact .complete s i _ m (c .0) v))
     complete-rule s (call-in k i) n m c (letter h q v) = (2, h, q, made-ok _ (call-in-exact .complete s (k, i) _ m (c .0) v))
     complete-rule s (fix is) n m c (letter h q v) = (3, h, q, made-ok _ (x .complete s is n m c v))
 
-    item-in : Exact (InItem d) enc-item (λ s. opened s sort (rule-item ar s (w s)))
+    item-in : Exact (InItem d) enc-item (λ s. opened s item-sort (rule-item ar s (w s)))
     item-in = opened-exact _ OpensItem opens-item sort-laws complete-rule
 
   -- an item with at most d levels of Fix

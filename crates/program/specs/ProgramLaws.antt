@@ -15,7 +15,7 @@ use Rattle.program.specs.JoinLaws.{made-exact, pair-exact, row-exact, fl
 use Rattle.program.specs.WordLaws.{type-exact}
 use Rattle.program.specs.StmtLaws.{steps-exact}
 use Rattle.program.specs.ItemLaws.{schedule-exact}
-use Rattle.program.specs.StreamLaws.{exact, injective, trailing, early, refused, final, first}
+use Rattle.program.specs.StreamLaws.{exact, injective, trailing, refused, final, first}
 
 -- for each struct its parameters' types, which may name any struct
 pub params-exact : Exact (λ ts. Few 1 max-structs (Few 0 max-params (IsType (length ts))) ts) (enc-list (enc-list (λ t. code t ∷ []))) read-params
@@ -47,12 +47,6 @@ enc-injective = injective program-exact
 pub program-trailing : (p : Program) (b : ℕ) (bs : List ℕ) → Counts p → read (enc-program p ++ b ∷ bs) ≡ bad (length (enc-program p)) wrong-end
 unfolding read
 program-trailing = trailing program-exact
-
--- a stream that ends early is refused at its end with 4
-pub program-early : (pre : List ℕ) (b : ℕ) (bs : List ℕ) (p : Program) → Counts p → enc-program p ≡ pre ++ b ∷ bs
-    → read pre ≡ bad (length pre) wrong-end
-unfolding read
-program-early = early program-exact
 
 -- a byte that is not allowed is final, whatever stands behind it
 pub program-final : (s t : List ℕ) (n : ℕ) → read s ≡ bad n wrong-byte → read (s ++ t) ≡ bad n wrong-byte

@@ -2,12 +2,13 @@
 -- 'Numbers from the input', each with its place.
 use Prim.Native.Nat.{ℕ, zero, suc, _+_, _-_, _*_}
 use mathlib.Core.List.{List, [], _∷_, map}
-use mathlib.Core.Bool.{Bool, true, false, _&&_, _||_}
+use mathlib.Core.Bool.{Bool, true, false, _&&_}
 use lib.ListN.{length, getD}
 use lib.Dec.{ltb, leb, eqb}
 use Rattle.types.specs.Limits.{max-structs, max-params, max-steps, step-names, max-statements, max-items, first-local, variables, max-path, fix-levels, if-levels, expr-levels}
 pub use Rattle.types.specs.Numbers.{wrong-end, wrong-byte}
-use Rattle.types.specs.Types.{Ty, struct-code, type-of}
+use Rattle.types.specs.Types.{Ty, type-of}
+use Rattle.types.specs.TypeBytes.{is-type}
 use Rattle.program.specs.Tree.{Var, Var.par, Var.loc, Op, Op.op-eq, Op.op-ne, Op.op-le, Op.op-ge, Op.op-lt, Op.op-gt, Op.op-mul, Op.op-div, Op.op-rem, Op.op-add, Op.op-sub, Op.op-and, Op.op-or, Expr, Expr.inv, Expr.make, Expr.path, Expr.int-lit, Expr.nat-lit, Expr.bool-lit, Expr.null, Expr.self, Expr.op, Exprs, Exprs.none, Exprs.more, Stmt, Stmt.when, Stmt.declare, Stmt.update, Stmt.create, Stmts, Stmts.end, Stmts.next, Item, Item.call, Item.call-in, Item.fix, Items, Items.stop, Items.item, Step, Program}
 
 -- a value with the next place, or a refusal with its place and number
@@ -93,25 +94,18 @@ kinds = row 4 kind-create ∷ row 3 kind-update ∷ row 2 kind-declare ∷ row 1
 unfoldable pub kind : ℕ → Kind
 kind b = lookup kinds kind-none b
 
-pub data Sort : Type 0 where
-  sort-call sort-call-in sort-fix sort-none : Sort
+pub data ItemSort : Type 0 where
+  sort-call sort-call-in sort-fix sort-none : ItemSort
 
-abbrev pub sorts : List (Row Sort)
-sorts = row 3 sort-fix ∷ row 2 sort-call-in ∷ row 1 sort-call ∷ []
+abbrev pub item-sorts : List (Row ItemSort)
+item-sorts = row 3 sort-fix ∷ row 2 sort-call-in ∷ row 1 sort-call ∷ []
 
-unfoldable pub sort : ℕ → Sort
-sort b = lookup sorts sort-none b
+unfoldable pub item-sort : ℕ → ItemSort
+item-sort b = lookup item-sorts sort-none b
 
 -- from lo up to below hi
 unfoldable pub between : ℕ → ℕ → ℕ → Bool
 between lo hi b = leb lo b && ltb b hi
-
--- types below this have no struct; a type byte, where there are S structs
-abbrev pub plain-types : ℕ
-plain-types = 3
-
-unfoldable pub type-byte : ℕ → ℕ → Bool
-type-byte S b = ltb b plain-types || between struct-code (struct-code + S) b
 
 -- the first variable of a path that a byte names
 unfoldable pub var-of : ℕ → Var
@@ -151,7 +145,7 @@ module _ (s : List ℕ) where
   read-word i at = many 0 (λ b v. b + byte-end * v) (ranged 0 byte-end) i at
 
   unfoldable pub read-type : ℕ → ℕ → Result Ty
-  read-type S at = made type-of (tested (type-byte S) at)
+  read-type S at = made type-of (tested (is-type S) at)
 
   unfoldable pub read-var : ℕ → Result Var
   read-var at = made var-of (ranged 0 variables at)
@@ -229,7 +223,7 @@ module _ (ar s : List ℕ) where
   read-items r at = counted s 1 max-items (many stop item r) at
 
   -- what stands behind the byte of an item; w reads what stands behind that of a Fix
-  unfoldable pub rule-item : (ℕ → ℕ → Result Items) → ℕ → ℕ → Sort → Result Item
+  unfoldable pub rule-item : (ℕ → ℕ → Result Items) → ℕ → ℕ → ItemSort → Result Item
   rule-item w at k sort-call = made call (ranged s 0 step-names k)
   rule-item w at k sort-call-in = made (λ p. call-in (p .0) (p .1)) (pair (ranged s 0 (length ar) k) λ c. ranged s 0 step-names)
   rule-item w at k sort-fix = made fix (w at k)
@@ -237,8 +231,8 @@ module _ (ar s : List ℕ) where
 
   -- an item with at most d levels of Fix
   unfoldable pub read-item : ℕ → ℕ → Result Item
-  read-item zero at = opened s sort (rule-item λ at k. bad at wrong-byte) at
-  read-item (suc d) at = opened s sort (rule-item λ at k. read-items (λ n. read-item d n) k) at
+  read-item zero at = opened s item-sort (rule-item λ at k. bad at wrong-byte) at
+  read-item (suc d) at = opened s item-sort (rule-item λ at k. read-items (λ n. read-item d n) k) at
 
 -- the parameters of all structs, the steps of all structs, the schedule
 unfoldable pub read-program : List ℕ → ℕ → Result Program

@@ -39,10 +39,6 @@ pub stands-in : {s xs : List ℕ} {n m : ℕ} → Stands s n xs m → n ≤ leng
 stands-in done i = i
 stands-in (letter h e p) i = stands-in p (omega arith)
 
--- behind a byte at least, the next place lies ahead
-pub stands-ahead : {s xs : List ℕ} {n x m : ℕ} → Stands s n (x ∷ xs) m → (n < m) × (m ≤ length s)
-stands-ahead (letter h e p) = (omega (arith, stands-length p), stands-in p (omega arith))
-
 -- the front of what is left at a place stands there
 pub stands-of : (s xs post : List ℕ) (n : ℕ) → drop n s ≡ xs ++ post → Stands s n xs (n + length xs)
 stands-of s [] post n q = let z : n + 0 ≡ n = omega arith in rw z done

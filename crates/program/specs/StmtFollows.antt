@@ -10,7 +10,7 @@ use Rattle.types.specs.Types.{code}
 use Rattle.program.specs.Tree.{Var.par, Expr, Expr.self, Stmt, Stmt.when, Stmt.declare, Stmt.update, Stmt.create, Stmts, Stmts.end, Stmts.next, Step, size}
 use Rattle.program.specs.Encoding.{flat, enc-path, enc-expr, enc-exprs, enc-stmt, enc-list, enc-step}
 use Rattle.program.specs.Levels.{all-at, levels-expr, levels-exprs, levels-stmt, levels-stmts, levels-step}
-use Rattle.program.specs.Counts.{All, IsVar, IsPath, height, nest, nests, CountsExpr, CountsStmtTo, CountsStmtsTo, CountsStepTo, CountsStep, Few}
+use Rattle.program.specs.Counts.{All, IsVar, IsPath, expr-height, nest, nests, CountsExpr, CountsStmtTo, CountsStmtsTo, CountsStepTo, CountsStep, Few}
 use Rattle.program.specs.Reader.{Result, lookup, Kind, Kind.kind-when, Kind.kind-declare, Kind.kind-update, Kind.kind-create, Kind.kind-none, kind, opened, read-make, read-expr, read-body, read-when, read-declare, read-update, rule-stmt, read-stmt, read-step, read-steps}
 use Rattle.program.specs.Exact.{Stands, Stands.letter, Exact}
 use Rattle.program.specs.WordLaws.{below-exact, type-exact, local-exact, path-exact}
@@ -147,7 +147,7 @@ module _ (ar : List ℕ) (structs : 0 < length ar) where
     tree-met s (create k es) n m c (letter h q v) = (4, h, q, met-byte top outside (met-made _ (create-follows .meets s (k, es) _ m (c .0) v)))
 
     stmt-in : Follows top (InStmtTo ar one-more d) enc-stmt levels-stmt (λ s. opened s kind (rule-stmt ar s (w s)))
-    unfolding CountsStmtTo CountsExpr IsPath IsVar height nest
+    unfolding CountsStmtTo CountsExpr IsPath IsVar expr-height nest
     stmt-in =
         opened-follows top _ OpensStmt opens-stmt (update (par 0) [] self)
         (((omega arith, omega arith, tt), tt, omega arith), omega arith) kind-ends tree-met

@@ -2,15 +2,15 @@
 use Prim.Native.Nat.{ℕ, suc, _+_, _<_, _≤_}
 use native.Mathlib.Omega.{arith}
 use native.Mathlib.Decide.{decLt}
-use mathlib.Core.Path.{_≡_, refl, sym, ap, _∙_}
+use mathlib.Core.Path.{_≡_, refl, sym, _∙_}
 use mathlib.Core.Logic.{_↔_}
 use mathlib.Core.List.{List, [], _∷_, _++_, append-assoc}
-use lib.ListN.{length, getD, take, drop, length-append, take-append-drop}
-use lib.Seq.{drop-append-seam, drop-cons}
+use lib.ListN.{length, getD, drop, length-append}
+use lib.Seq.{drop-cons}
 use borrow.Author.Tests.{lt-ltb, le-ltb}
 use Rattle.program.specs.Reader.{Result, Result.ok, Result.bad, wrong-end, wrong-byte, then, ended, whole}
 use Rattle.program.specs.Exact.{Stands, Told, Told.told, Told.silent, Beyond.refusal-beyond, Cut, Cut.same, Cut.stop, Cut.short, Exact, Refused, Refused.not-allowed, Refused.ends-early, Refused.goes-on}
-use Rattle.program.specs.StandsLaws.{stands-drop, stands-length, stands-in, stands-of, stands-front, stands-self, stands-whole}
+use Rattle.program.specs.StandsLaws.{stands-drop, stands-length, stands-in, stands-front, stands-self, stands-whole}
 use Rattle.program.specs.PartLaws.{told-then, told-is, then-ok}
 
 ended-in : {A : Type 0} (s : List ℕ) (a : A) (k : ℕ) → length s ≤ k → ended s a k ≡ ok a k
@@ -25,17 +25,6 @@ module _ {A : Type 0} {C : A → Type 0} {E : A → List ℕ} {r : List ℕ → 
   -- a value is read at a place exactly where it keeps to its condition and its bytes stand there
   pub exact-at : (s : List ℕ) (a : A) (n m : ℕ) → (r s n ≡ ok a m) ↔ ((C a) × (Stands s n (E a) m))
   exact-at s a n m = (told-is (x .sound s n), λ h. x .complete s a n m (h .0) (h .1))
-
-  -- the bytes of a value are read, whatever stands before and after them
-  pub complete-at : (pre post : List ℕ) (a : A) → C a → r (pre ++ (E a ++ post)) (length pre) ≡ ok a (length pre + length (E a))
-  complete-at pre post a c = x .complete _ a (length pre) _ c (stands-of _ (E a) post (length pre) (drop-append-seam pre (E a ++ post)))
-
-  -- the bytes from n up to below m are those of the value that was read
-  pub sound-at : (s : List ℕ) (a : A) (n m : ℕ) → r s n ≡ ok a m
-      → (C a) × (s ≡ take n s ++ (E a ++ drop m s)) × (m ≡ n + length (E a))
-  sound-at s a n m e =
-      let h = exact-at s a n m .0 e in
-      (h .0, sym (take-append-drop n s) ∙ rw (stands-drop (h .1)), stands-length (h .1))
 
   -- the next place lies behind the value's bytes, in the stream
   pub next-place : (s : List ℕ) (a : A) (n m : ℕ) → n ≤ length s → r s n ≡ ok a m → (m ≡ n + length (E a)) × (m ≤ length s)
@@ -72,15 +61,6 @@ module _ {A : Type 0} {C : A → Type 0} {E : A → List ℕ} {r : List ℕ → 
   -- how a stream and a longer one are read
   cut-0 : (s t : List ℕ) → Cut 0 (length s) (length (s ++ t)) (r s 0) (r (s ++ t) 0)
   cut-0 s t = x .cut s t 0 (omega arith)
-
-  -- a stream that ends early is refused at its end with 4
-  pub early : (pre : List ℕ) (b : ℕ) (bs : List ℕ) (a : A) → C a → E a ≡ pre ++ b ∷ bs → whole r pre ≡ bad (length pre) wrong-end
-  unfolding whole then
-  early pre b bs a c e = go (r pre 0) (rw (← e, x .complete (E a) a 0 _ c (stands-self (E a))) at (cut-0 pre (b ∷ bs)))
-    where
-      go : (q : Result A) → Cut 0 (length pre) (length (E a)) q (ok a (length (E a))) → then q (ended pre) ≡ bad (length pre) wrong-end
-      go q (short h) = refl
-      go q (same h l) = absurd (omega (arith, simp length-append at (ap length e)))
 
   -- what is refused is refused with 5 in the stream, with 4 at its end, or with 4 behind the bytes of a value
   pub refused : (s : List ℕ) (p k : ℕ) → whole r s ≡ bad p k → Refused C E s p k

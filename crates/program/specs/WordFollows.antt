@@ -9,9 +9,11 @@ use Rattle.types.specs.Types.{code, IsType, type-of}
 use Rattle.program.specs.Encoding.{enc-word, var-code, enc-path}
 use Rattle.program.specs.Levels.{all-at}
 use Rattle.program.specs.Counts.{IsVar, IsPath}
-use Rattle.program.specs.Reader.{byte-end, ranged, type-byte, var-of, read-word, read-type, read-var, read-local, read-path}
+use Rattle.types.specs.TypeBytes.{is-type}
+use Rattle.types.specs.TypeLaws.{type-of-code}
+use Rattle.program.specs.Reader.{byte-end, ranged, var-of, read-word, read-type, read-var, read-local, read-path}
 use Rattle.program.specs.Exact.{Rowed}
-use Rattle.program.specs.CodeLaws.{type-code, code-type, type-allowed, var-code-of, code-var}
+use Rattle.program.specs.CodeLaws.{code-type, type-allowed, var-code-of, code-var}
 use Rattle.program.specs.JoinLaws.{AllOf, list-row}
 use Rattle.program.specs.WordLaws.{below-exact, var-exact, word-row}
 use Rattle.program.specs.Follows.{Follows}
@@ -29,11 +31,11 @@ module _ (d l : ℕ) (h : l ≤ d) where
 
   -- a type, where there are S structs
   pub type-follows : (S : ℕ) → Follows d (IsType S) (λ t. code t ∷ []) (λ t. l ∷ []) (λ s. read-type s S)
-  unfolding read-type type-byte
+  unfolding read-type is-type
   type-follows S =
-      made-follows d (tested-follows d h (type-byte S) 0 tt) type-of code
+      made-follows d (tested-follows d h (is-type S) 0 tt) type-of code
       (λ b c. let p = code-type S b c in (p .0, rw (p .1), refl))
-      (λ t c. (type-allowed S t c, type-code t))
+      (λ t c. (type-allowed S t c, type-of-code t))
 
   -- the first variable of a path
   pub var-follows : Follows d IsVar (λ v. var-code v ∷ []) (λ v. l ∷ []) read-var

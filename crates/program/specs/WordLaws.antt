@@ -9,9 +9,11 @@ use Rattle.types.specs.Limits.{first-local, max-locals, variables, max-path}
 use Rattle.types.specs.Types.{code, IsType, type-of}
 use Rattle.program.specs.Encoding.{enc-word, var-code, enc-path}
 use Rattle.program.specs.Counts.{IsVar, IsPath}
-use Rattle.program.specs.Reader.{byte-end, ranged, type-byte, var-of, read-word, read-type, read-var, read-local, read-path}
+use Rattle.types.specs.TypeBytes.{is-type}
+use Rattle.types.specs.TypeLaws.{type-of-code}
+use Rattle.program.specs.Reader.{byte-end, ranged, var-of, read-word, read-type, read-var, read-local, read-path}
 use Rattle.program.specs.Exact.{Exact, Rowed}
-use Rattle.program.specs.CodeLaws.{type-code, code-type, type-allowed, var-code-of, code-var}
+use Rattle.program.specs.CodeLaws.{code-type, type-allowed, var-code-of, code-var}
 use Rattle.program.specs.JoinLaws.{exact-iff, made-exact, pair-exact, row-exact, tested-exact, ranged-exact, counted-exact, AllOf, list-row}
 
 -- a byte below a bound
@@ -45,9 +47,9 @@ word-exact i = row-exact (below-exact byte-end) word-row i
 pub type-exact : (S : ℕ) → Exact (IsType S) (λ t. code t ∷ []) (λ s. read-type s S)
 unfolding read-type
 type-exact S =
-    made-exact (tested-exact (type-byte S)) type-of code
+    made-exact (tested-exact (is-type S)) type-of code
     (λ b h. let p = code-type S b h in (p .0, rw (p .1)))
-    (λ t h. (type-allowed S t h, type-code t))
+    (λ t h. (type-allowed S t h, type-of-code t))
 
 -- the first variable of a path
 pub var-exact : Exact IsVar (λ v. var-code v ∷ []) read-var

@@ -12,7 +12,7 @@ use borrow.Author.Tests.{lt-ltb, le-ltb, le-leb, lt-leb}
 use Rattle.types.specs.Types.{Ty, code, type-of}
 use Rattle.types.specs.TypeBytes.{is-type}
 use Rattle.program.specs.CodeLaws.{code-type}
-use Rattle.program.specs.Reader.{Result, Result.ok, Result.bad, then, made, many, guard, between, type-byte, byte-end, byte, tested, ranged, read-word, read-type}
+use Rattle.program.specs.Reader.{Result, Result.ok, Result.bad, then, made, many, guard, between, byte-end, byte, tested, ranged, read-word, read-type}
 use Rattle.judge.specs.declared.Facts.{Facts}
 use Rattle.judge.specs.Facts.{pushed}
 use Rattle.read_exprs.specs.declared.read.ByteRead.the-variants.{Byte, NoByte}
@@ -69,34 +69,25 @@ module _ (s : List ℕ) (lo hi at : ℕ) where
   unfolding ranged between
   ranged-above h p q = tested-wrong s at (between lo hi) h (simp (between, le-leb lo _ p, le-ltb _ hi q))
 
--- which bytes are types where there are S structs: the reader's test is that of the types, and no type lies past the last struct
-module _ (S b : ℕ) where
-  pub type-tested : is-type S b ≡ type-byte S b
-  unfolding is-type type-byte between
-  type-tested = go (decLt b 3) (decLt b 16) (decLt (b - 16) S)
-    where
-      go : Dec (b < 3) → Dec (b < 16) → Dec (b - 16 < S) → is-type S b ≡ type-byte S b
-      go (yes h) j k = simp (is-type, type-byte, le-leb b 2 (omega arith), lt-ltb b 3 h)
-      go (no h) (yes j) k = simp (is-type, type-byte, between, lt-leb b 2 (omega arith), le-ltb b 3 (omega arith), lt-leb 16 b j)
-      go (no h) (no j) (yes k) =
-          simp (is-type, type-byte, between, lt-leb b 2 (omega arith), le-ltb b 3 (omega arith), le-leb 16 b (omega arith), lt-ltb (b - 16) S k, lt-ltb b (16 + S) (omega arith))
-      go (no h) (no j) (no k) =
-          simp (is-type, type-byte, between, lt-leb b 2 (omega arith), le-ltb b 3 (omega arith), le-leb 16 b (omega arith), le-ltb (b - 16) S (omega arith), le-ltb b (16 + S) (omega arith))
-
-  pub type-below : type-byte S b ≡ true → b < 16 + S
-  unfolding type-byte between
-  type-below e = go (decLt b (16 + S))
-    where
-      go : Dec (b < 16 + S) → b < 16 + S
-      go (yes h) = h
-      go (no h) =
-          let f : type-byte S b ≡ false = simp (type-byte, between, le-ltb b 3 (omega arith), le-leb 16 b (omega arith), le-ltb b (16 + S) (omega arith)) in
-          let z : _≡_ {A = ℕ} 0 1 = cc in absurd (omega arith)
+-- no type lies past the last struct
+pub type-below : (S b : ℕ) → is-type S b ≡ true → b < 16 + S
+unfolding is-type
+type-below S b e = go (decLt b (16 + S))
+  where
+    go : Dec (b < 16 + S) → b < 16 + S
+    go (yes h) = h
+    go (no h) =
+        let f : is-type S b ≡ false = simp (is-type, lt-leb b 2 (omega arith), le-leb 16 b (omega arith), le-ltb (b - 16) S (omega arith)) in
+        let z : _≡_ {A = ℕ} 0 1 = cc in absurd (omega arith)
 
 -- where a byte lies past no struct of either number, it makes no difference which of the two there are
-pub type-many : (S T b : ℕ) → b < 16 + S → b < 16 + T → type-byte S b ≡ type-byte T b
-unfolding type-byte between
-type-many S T b h k = simp (type-byte, between, lt-ltb b (16 + S) h, lt-ltb b (16 + T) k)
+pub type-many : (S T b : ℕ) → b < 16 + S → b < 16 + T → is-type S b ≡ is-type T b
+unfolding is-type
+type-many S T b h k = go (decLt b 16)
+  where
+    go : Dec (b < 16) → is-type S b ≡ is-type T b
+    go (yes j) = simp (is-type, lt-leb 16 b j)
+    go (no j) = simp (is-type, le-leb 16 b (omega arith), lt-ltb (b - 16) S (omega arith), lt-ltb (b - 16) T (omega arith))
 
 -- Literals --------------------------------------------------------------------------
 
@@ -145,19 +136,19 @@ module _ (s : List ℕ) (S at : ℕ) where
       go false h e = let z : _≡_ {A = ℕ} 0 1 = cc in absurd (omega arith)
   passes t (bad p n) b m e = let z : _≡_ {A = ℕ} 0 1 = cc in absurd (omega arith)
 
-  pub type-read : (b m : ℕ) → byte-told (tested s (type-byte S) at) ≡ Byte b m → (t : Ty) × (read-type s S at ≡ ok t m) × (code t ≡ b)
+  pub type-read : (b m : ℕ) → byte-told (tested s (is-type S) at) ≡ Byte b m → (t : Ty) × (read-type s S at ≡ ok t m) × (code t ≡ b)
   unfolding read-type made then tested
   type-read b m e =
-      let q = byte-is (tested s (type-byte S) at) b m e in
-      let h : T (type-byte S b) = rw (passes (type-byte S) (byte s at) b m q) tt in
+      let q = byte-is (tested s (is-type S) at) b m e in
+      let h : T (is-type S b) = rw (passes (is-type S) (byte s at) b m q) tt in
       (type-of b, rw (read-type, q), code-type S b h .1)
 
-  pub type-stops : (n : ℕ) → byte-told (tested s (type-byte S) at) ≡ NoByte n → (p : ℕ) × (read-type s S at ≡ bad p n)
+  pub type-stops : (n : ℕ) → byte-told (tested s (is-type S) at) ≡ NoByte n → (p : ℕ) × (read-type s S at ≡ bad p n)
   unfolding read-type made then
-  type-stops n e = let q = byte-stops (tested s (type-byte S) at) n e in (q .0, ap (made type-of) (q .1))
+  type-stops n e = let q = byte-stops (tested s (is-type S) at) n e in (q .0, ap (made type-of) (q .1))
 
-  pub type-is : (b m : ℕ) → byte-told (tested s (type-byte S) at) ≡ Byte b m → told (λ t. pushed (code t)) (read-type s S at) ≡ Value m (pushed b)
+  pub type-is : (b m : ℕ) → byte-told (tested s (is-type S) at) ≡ Byte b m → told (λ t. pushed (code t)) (read-type s S at) ≡ Value m (pushed b)
   type-is b m e = let q = type-read b m e in rw (q .1, q .2)
 
-  pub type-not : (n : ℕ) → byte-told (tested s (type-byte S) at) ≡ NoByte n → told (λ t. pushed (code t)) (read-type s S at) ≡ Refused n
+  pub type-not : (n : ℕ) → byte-told (tested s (is-type S) at) ≡ NoByte n → told (λ t. pushed (code t)) (read-type s S at) ≡ Refused n
   type-not n e = rw (type-stops n e .1)

@@ -2,26 +2,37 @@
 use Prim.Native.Nat.{ℕ, zero, suc, _+_, _-_, _*_, _<_, _≤_}
 use native.Mathlib.Omega.{arith}
 use native.Mathlib.Numerals.{add-one, sub-one}
-use mathlib.Core.Path.{_≡_, refl, _∙_}
+use mathlib.Core.Path.{_≡_, refl, ap, _∙_}
 use mathlib.Core.List.{List}
 use lib.ListN.{length, getD}
+use Rattle.types.specs.Limits.{max-params}
 use Rattle.types.specs.Types.{struct-code, code}
 use Rattle.program.specs.Tree.{Op, Expr, Expr.inv, Expr.make, Expr.op, Exprs, Exprs.none, Exprs.more}
 use Rattle.program.specs.Reader.{Result, Result.ok, Result.bad, then, pair, made, many, lookup, Form.form-op, form, byte, opened, ranged, read-word, read-type, read-path, read-make, rule-expr, read-expr}
+use Rattle.answers.specs.Answers.{Answer, Answer.value, Answer.refused, answer, after as made-of}
+use Rattle.answers.specs.AnswerLaws.{answer-is, answer-stops, answer-made, row-none, row-stop, row-more}
 use Rattle.judge.specs.declared.Facts.{Facts}
-use Rattle.judge.specs.Facts.{pushed, negated, combined, travelled, path-of, argued, constructed, no-args, expr-facts, args-facts}
+use Rattle.judge.specs.Facts.{pushed, negated, combined, travelled, path-of, appended, constructed, no-args, expr-facts, args-facts}
+use Rattle.judge.specs.FollowLaws.{behind, behind-argued, none-behind, behind-none, args-typ, expr-high}
 use Rattle.read_exprs.specs.declared.read.ByteRead.the-variants.{Byte, NoByte}
 use Rattle.read_exprs.specs.declared.read.ExprRead.{ExprRead}
 use Rattle.read_exprs.specs.declared.read.ExprRead.the-variants.{Value, Refused}
-use Rattle.read_exprs.specs.Told.{told, byte-told, made-facts, after}
+use Rattle.read_exprs.specs.Told.{expr-read, told, byte-told, made-facts, after, Ahead, ArgsRead}
 use Rattle.read_exprs.specs.ByteWays.{byte-out, byte-in, byte-is, byte-stops}
 use Rattle.read_exprs.specs.FormWays.{op-form, Apart, no-form}
 
+-- what was answered, from the enum that holds it
+expr-value : (x : Answer Facts) (m : ℕ) (g : Facts) → expr-read x ≡ Value m g → x ≡ value m g
+expr-value (value k f) m g e = cc
+expr-value (refused k) m g e = let z : _≡_ {A = ℕ} 0 1 = cc in absurd (omega arith)
+
+expr-refused : (x : Answer Facts) (n : ℕ) → expr-read x ≡ Refused n → x ≡ refused n
+expr-refused (value k f) n e = let z : _≡_ {A = ℕ} 0 1 = cc in absurd (omega arith)
+expr-refused (refused k) n e = cc
+
 -- what is made of what was read is computed of it
 pub told-made : {A B : Type 0} (f : B → Facts) (g : A → B) (r : Result A) → told f (made g r) ≡ told (λ a. f (g a)) r
-unfolding made then
-told-made f g (ok a m) = refl
-told-made f g (bad p n) = refl
+told-made f g r = ap expr-read (answer-made f g r)
 
 pub told-after : {A : Type 0} (h : Facts → Facts) (f : A → Facts) (r : Result A) → told (λ a. h (f a)) r ≡ after h (told f r)
 told-after h f (ok a m) = refl
@@ -29,12 +40,10 @@ told-after h f (bad p n) = refl
 
 -- what was read, from what was answered
 pub told-is : {A : Type 0} (f : A → Facts) (r : Result A) (m : ℕ) (g : Facts) → told f r ≡ Value m g → (a : A) × (r ≡ ok a m) × (f a ≡ g)
-told-is f (ok a n) m g e = let h : n ≡ m = cc in (a, rw h refl, cc)
-told-is f (bad p n) m g e = let z : _≡_ {A = ℕ} 0 1 = cc in absurd (omega arith)
+told-is f r m g e = answer-is f r m g (expr-value (answer f r) m g e)
 
 pub told-stops : {A : Type 0} (f : A → Facts) (r : Result A) (n : ℕ) → told f r ≡ Refused n → (p : ℕ) × (r ≡ bad p n)
-told-stops f (ok a m) n e = let z : _≡_ {A = ℕ} 0 1 = cc in absurd (omega arith)
-told-stops f (bad p k) n e = (p, cc)
+told-stops f r n e = answer-stops f r n (expr-refused (answer f r) n e)
 
 module _ (ar types s : List ℕ) (own w : ℕ) where
   abbrev E : Expr → Facts
@@ -42,6 +51,46 @@ module _ (ar types s : List ℕ) (own w : ℕ) where
 
   abbrev A : ℕ → ℕ → Exprs → Facts
   A k x es = args-facts ar types own w es k x
+
+  -- arguments of struct k, each read by r, behind x others of which a is computed: none left; the next is not read; it is
+  module _ (r : ℕ → Result Expr) (k : ℕ) where
+    abbrev pub args-row : ℕ → Facts → ℕ → ℕ → Answer Facts
+    args-row x a n at = answer (λ es. behind x a (A k x es)) (many none more r n at)
+
+    abbrev step : ℕ × Facts → Facts → ℕ × Facts
+    step p f = (suc (p .0), appended (p .0) (getD types (max-params * k + p .0) 0) (p .1) f)
+
+    abbrev total : ℕ × Facts → Exprs → Facts
+    total p es = behind (p .0) (p .1) (A k (p .0) es)
+
+    goes : (p : ℕ × Facts) (e : Expr) (es : Exprs) → total p (more e es) ≡ total (step p (E e)) es
+    unfolding args-facts
+    goes p e es = behind-argued (p .0) _ (p .1) (E e) (A k (suc (p .0)) es)
+
+    module _ (n x : ℕ) (a : Facts) (at : ℕ) where
+      pub args-end : n ≤ x → x ≤ a .peak → a .typ ≡ 0 → args-row x a (n - x) at ≡ value at a
+      unfolding args-facts
+      args-end h l e = row-none none more r (λ p. E) step total goes (x, a) (n - x) at (omega arith) ∙ ap (value at) (behind-none x a l e)
+
+      pub args-stop : x < n → (i : ℕ) → told E (r at) ≡ Refused i → args-row x a (n - x) at ≡ refused i
+      args-stop h i e = row-stop none more r (λ p. E) step total goes (x, a) (n - x) at (λ z. omega arith) i (expr-refused _ i e)
+
+      pub args-more : x < n → (m : ℕ) (f : Facts) → told E (r at) ≡ Value m f
+          → args-row x a (n - x) at ≡ args-row (x + 1) (appended x (getD types (8 * k + x) 0) a f) (n - (x + 1)) m
+      args-more h m f e =
+          let l : n - (x + 1) ≡ n - x - 1 = omega arith in
+          rw (l, add-one) (row-more none more r (λ p. E) step total goes (x, a) (n - x) at (λ z. omega arith) m f (expr-value _ m f e))
+
+      -- how far they reach: a byte for each, and no more computed than bytes were read
+      pub args-read : (from m : ℕ) (f : Facts) → told E (r at) ≡ Value m f → Ahead s at (Value m f) → ArgsRead s from at x a
+          → ArgsRead s from m (x + 1) (appended x (getD types (8 * k + x) 0) a f)
+      unfolding appended
+      args-read from m f e h q =
+          let (b, _, i) = told-is E (r at) m f e in
+          let l : 1 ≤ f .peak = rw i at (expr-high ar types own w b) in
+          let w = q .within in
+          let v = q .high in
+          record { within = omega arith; high = omega arith; untyped = refl }
 
   -- behind the byte of a form, where r reads an expression one level deeper
   module _ (r : ℕ → Result Expr) (p at : ℕ) where
@@ -105,38 +154,15 @@ module _ (ar types s : List ℕ) (own w : ℕ) where
     unfolding read-make pair then
     make-stop n e = rw (byte-stops (ranged s 0 (length ar) at) n e .1)
 
-    pub make-is : (k m : ℕ) → byte-told (ranged s 0 (length ar) at) ≡ Byte k m
-        → told (made-facts ar types own w) (read-make ar s r at) ≡ after (constructed k) (told (A k 0) (many none more r (getD ar k 0) m))
+    pub make-row : (k m : ℕ) → byte-told (ranged s 0 (length ar) at) ≡ Byte k m
+        → expr-read (made-of (constructed k) (args-row r k 0 no-args (getD ar k 0) m)) ≡ told (made-facts ar types own w) (read-make ar s r at)
     unfolding read-make pair then
-    make-is k m e = rw (byte-is (ranged s 0 (length ar) at) k m e) (go (many none more r (getD ar k 0) m))
+    make-row k m e = rw (byte-is (ranged s 0 (length ar) at) k m e) (go (many none more r (getD ar k 0) m))
       where
-        go : (q : Result Exprs) → told (made-facts ar types own w) (then q λ es i. ok (k, es) i) ≡ after (constructed k) (told (A k 0) q)
-        go (ok es i) = refl
+        go : (q : Result Exprs)
+            → expr-read (made-of (constructed k) (answer (λ es. behind 0 no-args (A k 0 es)) q)) ≡ told (made-facts ar types own w) (then q λ es i. ok (k, es) i)
+        go (ok es i) = ap (λ f. Value i (constructed k f)) (none-behind (A k 0 es) (args-typ ar types own w es k 0))
         go (bad u i) = refl
-
-  -- arguments for n parameters: none, one that is not read, one and the others
-  module _ (r : ℕ → Result Expr) (k x at : ℕ) where
-    pub args-none : (n : ℕ) → n ≡ 0 → told (A k x) (many none more r n at) ≡ Value at no-args
-    unfolding many args-facts
-    args-none n e = rw e
-
-    pub args-stop : (n : ℕ) → (n ≡ 0 → ⊥) → (i : ℕ) → told E (r at) ≡ Refused i → told (A k x) (many none more r n at) ≡ Refused i
-    unfolding many then
-    args-stop zero z i e = absurd (z refl)
-    args-stop (suc n) z i e = rw (told-stops E (r at) i e .1)
-
-    pub args-more : (n : ℕ) → (n ≡ 0 → ⊥) → (m : ℕ) (f : Facts) → told E (r at) ≡ Value m f
-        → told (A k x) (many none more r n at) ≡ after (argued (getD types (8 * k + x) 0) f) (told (A k (x + 1)) (many none more r (n - 1) m))
-    unfolding many then args-facts
-    args-more zero z m f e = absurd (z refl)
-    args-more (suc n) z m f e =
-        let h = told-is E (r at) m f e in
-        rw (h .1, sub-one) (go (h .0) (h .2) (many none more r n m))
-      where
-        go : (a : Expr) → E a ≡ f → (q : Result Exprs)
-            → told (A k x) (then q λ es i. ok (more a es) i) ≡ after (argued (getD types (8 * k + x) 0) f) (told (A k (x + 1)) q)
-        go a h (ok es i) = rw (add-one, h)
-        go a h (bad u i) = refl
 
   -- an expression of at most d levels: past the end, at the level below, and by the form of its byte
   module _ (d at : ℕ) where

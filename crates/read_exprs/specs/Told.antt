@@ -7,6 +7,7 @@ use lib.ListN.{length}
 use Rattle.types.specs.Limits.{first-local}
 use Rattle.program.specs.Tree.{Var, Exprs}
 use Rattle.program.specs.Reader.{Result, Result.ok, Result.bad, pair, many, ranged, read-var}
+use Rattle.answers.specs.Answers.{Answer, Answer.value, Answer.refused, answer}
 use Rattle.judge.specs.declared.Judged.{Judged}
 use Rattle.judge.specs.declared.Facts.{Facts}
 use Rattle.judge.specs.Facts.{constructed, args-facts}
@@ -17,9 +18,12 @@ use Rattle.read_exprs.specs.declared.read.PathRead.the-variants.{Path, N
 use Rattle.read_exprs.specs.declared.read.ExprRead.{ExprRead}
 use Rattle.read_exprs.specs.declared.read.ExprRead.the-variants.{Value, Refused}
 
+abbrev pub expr-read : Answer Facts → ExprRead
+expr-read (value m f) = Value m f
+expr-read (refused n) = Refused n
+
 abbrev pub told : {A : Type 0} → (A → Facts) → Result A → ExprRead
-told f (ok a m) = Value m (f a)
-told f (bad p n) = Refused n
+told f r = expr-read (answer f r)
 
 abbrev pub byte-told : Result ℕ → ByteRead
 byte-told (ok b m) = Byte b m
@@ -75,12 +79,9 @@ abbrev pub Span : List ℕ → ℕ → ℕ → ℕ → ExprRead → Type 0
 Span s lo from more (Value n f) = (lo ≤ n) × (n ≤ length s) × (f .size + from ≤ n + more) × (f .peak + from ≤ n + more)
 Span s lo from more (Refused k) = Unit {0}
 
--- of an expression; of any number of them; of what stands behind the byte of one
+-- of an expression; of what stands behind the byte of one
 abbrev pub Ahead : List ℕ → ℕ → ExprRead → Type 0
 Ahead s at r = Span s (at + 1) at 0 r
-
-abbrev pub Within : List ℕ → ℕ → ExprRead → Type 0
-Within s at r = Span s at at 0 r
 
 abbrev pub Behind : List ℕ → ℕ → ExprRead → Type 0
 Behind s at r = Span s at at 1 r
@@ -89,3 +90,9 @@ Behind s at r = Span s at at 1 r
 abbrev pub Room : ExprRead → Type 0
 Room (Value n f) = (f .size < 2 ^ 63) × (f .peak < 2 ^ 63)
 Room (Refused k) = Unit {0}
+
+-- x arguments from a place on, and what is computed of them
+pub record ArgsRead (s : List ℕ) (from next x : ℕ) (a : Facts) : Type 0 where
+  pub within : (x + from ≤ next) × (next ≤ length s) × (a .size + from ≤ next) × (a .peak + from ≤ next)
+  pub high : x ≤ a .peak
+  pub untyped : a .typ ≡ 0

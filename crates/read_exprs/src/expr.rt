@@ -1,4 +1,4 @@
-// Expressions with expressions inside: not, construct and the operators; the unread bytes fall.
+// Expressions with expressions inside: not, construct and the operators; the unread bytes fall. Arguments are read by a loop.
 use crate::leaf;
 use crate::read;
 use crate::read::ByteRead;
@@ -7,12 +7,12 @@ use judge::Facts;
 use judging::expression;
 use types::number;
 ghost use mathlib.Core.Path.{_≡_};
-ghost use Prim.Native.Nat.{_+_, _<_, _≤_, _^_};
+ghost use Prim.Native.Nat.{_<_, _≤_, _^_};
 ghost use lib.ListN.{length};
-ghost use Rattle.program.specs.Tree.{Op, Exprs.none, Exprs.more};
-ghost use Rattle.program.specs.Reader.{form, Form.form-op, many, read-make, read-expr};
-ghost use Rattle.judge.specs.Facts.{negated, combined, argued, constructed, expr-facts, args-facts};
-ghost use Rattle.read_exprs.specs.Told.{told, made-facts, after, Room, Ahead, Within, Behind};
+ghost use Rattle.program.specs.Tree.{Op};
+ghost use Rattle.program.specs.Reader.{form, Form.form-op, read-make, read-expr};
+ghost use Rattle.judge.specs.Facts.{negated, combined, expr-facts};
+ghost use Rattle.read_exprs.specs.Told.{told, made-facts, after, Room, Ahead, Behind};
 
 // The same answer, made anew of its parts: one that another function answers is then not copied through memory.
 fn anew(r: ExprRead) -> ExprRead
@@ -44,28 +44,6 @@ fn beside(b: u8, f: Facts, r: ExprRead) -> ExprRead
         return r;
     };
     ExprRead::Value(n, expression::combined(b, f, g))
-}
-
-// An argument for a parameter of type t before what was read behind it.
-fn joined(t: u8, f: Facts, r: ExprRead) -> ExprRead
-    requires { ⌜ (f .size < 2 ^ 63) × Room r ⌝ }
-    ensures { λ q. ⌜ q ≡ after (argued t f) r ⌝ }
-{
-    let ExprRead::Value(n, g) = r else {
-        return r;
-    };
-    ExprRead::Value(n, expression::argued(t, f, g))
-}
-
-// A construct of the struct k over the arguments that were read.
-fn over(k: u8, r: ExprRead) -> ExprRead
-    requires { ⌜ (k < 16) × Room r ⌝ }
-    ensures { λ q. ⌜ q ≡ after (constructed k) r ⌝ }
-{
-    let ExprRead::Value(n, f) = r else {
-        return r;
-    };
-    ExprRead::Value(n, expression::constructed(k, f))
 }
 
 // An expression of at most depth levels.
@@ -131,38 +109,18 @@ pub fn construct(
         return ExprRead::Refused(read::byte_refusal(r));
     };
     let n = judging::path::look(ar, k as usize);
-    over(k, args(s, ar, types, own, live, k, 0, n, m, depth))
-}
-
-// Expressions for n parameters of the struct k, from x on.
-pub fn args(
-    s: &[u8],
-    ar: &[u8],
-    types: &[u8],
-    own: u8,
-    live: u64,
-    k: u8,
-    x: u8,
-    n: u8,
-    at: usize,
-    depth: usize,
-) -> ExprRead
-    requires { ⌜ (length (now ar) ≤ 16) × (own < 16) ⌝ }
-    requires { ⌜ (at ≤ length (now s)) × (x + n < 256) ⌝ }
-    ensures { λ r. ⌜ r ≡ told (λ es. args-facts (now (ar .entry)) (now (types .entry)) own live es k x) (many none more (read-expr (now (ar .entry)) (now (s .entry)) depth) n at) ⌝ }
-    ensures { λ r. ⌜ Within (now (s .entry)) at r ⌝ }
-{
-    if n == 0 {
-        return ExprRead::Value(at, expression::no_args());
+    let mut all = expression::no_args();
+    let mut next = m;
+    let mut x = 0;
+    while x < n {
+        let q = expr(s, ar, types, own, live, next, depth);
+        let ExprRead::Value(behind, f) = q else {
+            return q;
+        };
+        let t = judging::path::type_at(types, k, x);
+        all = expression::appended(x, t, all, f);
+        next = behind;
+        x = x + 1;
     }
-    let first = expr(s, ar, types, own, live, at, depth);
-    let ExprRead::Value(m, f) = first else {
-        return first;
-    };
-    let t = judging::path::type_at(types, k, x);
-    joined(
-        t,
-        f,
-        args(s, ar, types, own, live, k, x + 1, n - 1, m, depth),
-    )
+    ExprRead::Value(next, expression::constructed(k, all))
 }

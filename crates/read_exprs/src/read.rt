@@ -4,7 +4,8 @@ use judge::Judged;
 use types::number;
 ghost use mathlib.Core.Path.{_≡_};
 ghost use Prim.Native.Nat.{_+_};
-ghost use Rattle.program.specs.Reader.{ranged, tested, type-byte};
+ghost use Rattle.types.specs.TypeBytes.{is-type};
+ghost use Rattle.program.specs.Reader.{ranged, tested};
 ghost use Rattle.read_exprs.specs.Told.{byte-told, byte-refusal, path-refusal, expr-refusal, ByteSpan};
 
 pub enum ByteRead {
@@ -71,7 +72,7 @@ pub fn ranged(s: &[u8], lo: usize, hi: usize, at: usize) -> ByteRead
 
 // Whether a byte is a type, where there are n structs. No byte names a struct past 239, so 255 of them stand for more.
 fn is_type(n: usize, b: u8) -> bool
-    ensures { λ r. ⌜ r ≡ type-byte n b ⌝ }
+    ensures { λ r. ⌜ r ≡ is-type n b ⌝ }
 {
     if n < 255 {
         return types::is_type(n as u8, b);
@@ -81,7 +82,7 @@ fn is_type(n: usize, b: u8) -> bool
 
 // The byte of a type, where there are n structs.
 pub fn type_byte(s: &[u8], n: usize, at: usize) -> ByteRead
-    ensures { λ r. ⌜ r ≡ byte-told (tested (now (s .entry)) (type-byte n) at) ⌝ }
+    ensures { λ r. ⌜ r ≡ byte-told (tested (now (s .entry)) (is-type n) at) ⌝ }
     ensures { λ r. ⌜ ByteSpan (now (s .entry)) 0 (16 + n) at r ⌝ }
 {
     if s.len() <= at {

@@ -8,7 +8,8 @@ use mathlib.Core.List.{List, [], _∷_, _++_, map}
 use lib.ListN.{length, drop, set, length-append, length-map}
 use lib.Seq.{sets, sets-eq}
 use Rattle.types.specs.Types.{Ty, code}
-use Rattle.program.specs.Reader.{Result, Result.ok, Result.bad, then, made, many, type-byte, tested, ranged, counted, read-type, read-params}
+use Rattle.types.specs.TypeBytes.{is-type}
+use Rattle.program.specs.Reader.{Result, Result.ok, Result.bad, then, made, many, tested, ranged, counted, read-type, read-params}
 use Rattle.judge.specs.declared.Facts.{Facts}
 use Rattle.judge.specs.Facts.{pushed}
 use Rattle.judge.specs.ProgramFacts.{row, types-table}
@@ -82,7 +83,7 @@ stopped (bad p k) f e h = let j : k ≡ e = cc in (p, rw j)
 
 -- a type whose byte was read, or was not
 module _ (s : List ℕ) (S at : ℕ) where
-  pub type-read : (b m : ℕ) → byte-told (tested s (type-byte S) at) ≡ Byte b m → (t : Ty) × ((read-type s S at ≡ ok t m) × (code t ≡ b))
+  pub type-read : (b m : ℕ) → byte-told (tested s (is-type S) at) ≡ Byte b m → (t : Ty) × ((read-type s S at ≡ ok t m) × (code t ≡ b))
   type-read b m e = go (read-type s S at) refl (type-is s S at b m e)
     where
       go : (q : Result Ty) → read-type s S at ≡ q → told (λ t. pushed (code t)) q ≡ Read m (pushed b)
@@ -93,9 +94,9 @@ module _ (s : List ℕ) (S at : ℕ) where
           (t, (h ∙ rw i, ap (λ (f : Facts). f .typ) j))
       go (bad p k) h e = let z : _≡_ {A = ℕ} 0 1 = cc in absurd (omega arith)
 
-  pub type-stop : (e : ℕ) → byte-told (tested s (type-byte S) at) ≡ NoByte e → (p : ℕ) × (read-type s S at ≡ bad p e)
+  pub type-stop : (e : ℕ) → byte-told (tested s (is-type S) at) ≡ NoByte e → (p : ℕ) × (read-type s S at ≡ bad p e)
   unfolding read-type made
-  type-stop e h = stopped (tested s (type-byte S) at) _ e h
+  type-stop e h = stopped (tested s (is-type S) at) _ e h
 
 -- what one place more holds: a zero behind the types, or the byte of the first
 module _ (room place : ℕ) (ts ts′ : List ℕ) where

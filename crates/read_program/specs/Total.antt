@@ -8,7 +8,8 @@ use lib.ListN.{length}
 use lib.Dec.{ltb}
 use Rattle.types.specs.Limits.{step-commands, max-depth}
 use Rattle.program.specs.Tree.{Step}
-use Rattle.program.specs.Reader.{Result, Result.ok, Result.bad}
+use Rattle.program.specs.Reader.{Result}
+use Rattle.answers.specs.Answers.{Answer, Answer.value, Answer.refused, answer}
 use Rattle.judge.specs.declared.Done.{Done}
 use Rattle.judge.specs.Facts.{worst, named, no-locals, body-facts}
 use Rattle.judge.specs.ProgramFacts.{Totals as Sum, added}
@@ -43,9 +44,12 @@ plus t d new = record {
 abbrev pub step-total : List ℕ → List ℕ → ℕ → Sum → Step → Sum
 step-total ar types k T t = added k (t .name) (body-facts ar types k (t .body) no-locals) T
 
+abbrev pub totals-read : Answer Sum → TotalsRead
+totals-read (value m T) = Value m (less T)
+totals-read (refused n) = Refused n
+
 abbrev pub told : {A : Type 0} → (A → Sum) → Result A → TotalsRead
-told f (ok a m) = Value m (less (f a))
-told f (bad p n) = Refused n
+told f r = totals-read (answer f r)
 
 -- the number of a refusal; of a value, 0
 abbrev pub stmt-refusal : StmtRead → ℕ
@@ -57,13 +61,13 @@ totals-refusal (Value m t) = 0
 totals-refusal (Refused n) = n
 
 -- the table of names after it
-abbrev pub Kept : {A : Type 0} → (A → Sum) → Result A → List ℕ → Type 0
-Kept f (ok a m) h = h ≡ f a .has
-Kept f (bad p n) h = Unit {0}
+abbrev pub Kept : Answer Sum → List ℕ → Type 0
+Kept (value m T) h = h ≡ T .has
+Kept (refused n) h = Unit {0}
 
 -- what a reader answers, and the table after it
 abbrev pub Told : {A : Type 0} → (A → Sum) → Result A → TotalsRead → List ℕ → Type 0
-Told f q r h = (r ≡ told f q) × Kept f q h
+Told f q r h = (r ≡ told f q) × Kept (answer f q) h
 
 -- no more was counted than bytes were read
 abbrev pub Low : Totals → ℕ → Type 0

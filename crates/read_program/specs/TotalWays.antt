@@ -1,7 +1,7 @@
 -- Each way through the readers of steps (01, 'Program stream', and numbers 4 to 8).
-use Prim.Native.Nat.{ℕ, zero, suc, _+_, _-_, _<_, _≤_}
+use Prim.Native.Nat.{ℕ, suc, _+_, _-_, _<_, _≤_}
 use native.Mathlib.Omega.{arith}
-use native.Mathlib.Numerals.{sub-one, add-one}
+use native.Mathlib.Numerals.{add-one}
 use mathlib.Core.Path.{_≡_, refl, ap, sym, _∙_}
 use mathlib.Core.Bool.{Bool, true, false}
 use mathlib.Core.List.{List, [], _∷_}
@@ -14,32 +14,44 @@ use Rattle.read_exprs.specs.Told.{byte-told}
 use Rattle.read_exprs.specs.ByteWays.{byte-is, byte-stops}
 use Rattle.read_stmts.specs.declared.StmtRead.the-variants.{Value as StmtValue, Refused as StmtRefused}
 use Rattle.read_stmts.specs.Done.{done, DoneBody}
+pub use Rattle.read_stmts.specs.StmtWays.{done-is, done-stops}
+use Rattle.answers.specs.Answers.{Answer, Answer.value, Answer.refused, answer}
+use Rattle.answers.specs.AnswerLaws.{answer-is, answer-stops, row-none, row-stop, row-more}
 use Rattle.judge.specs.declared.Done.{Done}
 use Rattle.judge.specs.Facts.{no-locals, body-facts}
 use Rattle.judge.specs.ProgramFacts.{Totals as Sum, place, added, struct-totals, step-totals}
 use Rattle.read_program.specs.declared.totals.Totals.{Totals}
 use Rattle.read_program.specs.declared.totals.TotalsRead.{TotalsRead}
 use Rattle.read_program.specs.declared.totals.TotalsRead.the-variants.{Value, Refused}
-use Rattle.read_program.specs.Total.{with, less, over-by, plus, step-total, told, Kept, Told, Low, Bounded}
+use Rattle.read_program.specs.Total.{with, less, over-by, plus, step-total, totals-read, told, Kept, Told, Low, Bounded}
 
 -- What was read, from what was answered ------------------------------------------------
 
-module _ {A : Type 0} (f : A → Sum) where
-  pub told-is : (q : Result A) (m : ℕ) (u : Totals) → told f q ≡ Value m u → (a : A) × (q ≡ ok a m) × (less (f a) ≡ u)
-  told-is (ok a k) m u e = let h : k ≡ m = cc in (a, rw h refl, cc)
-  told-is (bad p n) m u e = let z : _≡_ {A = ℕ} 0 1 = cc in absurd (omega arith)
+-- what was answered, from the enum that holds it and the table
+totals-value : (x : Answer Sum) (m : ℕ) (u : Totals) (h : List ℕ) → totals-read x ≡ Value m u → Kept x h → x ≡ value m (with u h)
+totals-value (value k T) m u h e p = let i : k ≡ m = cc in let j : less T ≡ u = cc in rw (i, p, ← j) refl
+totals-value (refused k) m u h e p = let z : _≡_ {A = ℕ} 0 1 = cc in absurd (omega arith)
 
-  pub told-stops : (q : Result A) (n : ℕ) → told f q ≡ Refused n → (p : ℕ) × (q ≡ bad p n)
-  told-stops (ok a k) n e = let z : _≡_ {A = ℕ} 0 1 = cc in absurd (omega arith)
-  told-stops (bad p k) n e = (p, cc)
+totals-refused : (x : Answer Sum) (n : ℕ) → totals-read x ≡ Refused n → x ≡ refused n
+totals-refused (value k T) n e = let z : _≡_ {A = ℕ} 0 1 = cc in absurd (omega arith)
+totals-refused (refused k) n e = cc
 
-pub done-is : {A : Type 0} (f : A → Done) (q : Result A) (m : ℕ) (d : Done) → done f q ≡ StmtValue m d → (a : A) × (q ≡ ok a m) × (f a ≡ d)
-done-is f (ok a k) m d e = let h : k ≡ m = cc in (a, rw h refl, cc)
-done-is f (bad p n) m d e = let z : _≡_ {A = ℕ} 0 1 = cc in absurd (omega arith)
+module _ {A : Type 0} (f : A → Sum) (q : Result A) where
+  pub told-value : (m : ℕ) (u : Totals) (h : List ℕ) → Told f q (Value m u) h → answer f q ≡ value m (with u h)
+  told-value m u h w = totals-value (answer f q) m u h (sym (w .0)) (w .1)
 
-pub done-stops : {A : Type 0} (f : A → Done) (q : Result A) (n : ℕ) → done f q ≡ StmtRefused n → (p : ℕ) × (q ≡ bad p n)
-done-stops f (ok a k) n e = let z : _≡_ {A = ℕ} 0 1 = cc in absurd (omega arith)
-done-stops f (bad p k) n e = (p, cc)
+  pub told-stops : (n : ℕ) → told f q ≡ Refused n → (p : ℕ) × (q ≡ bad p n)
+  told-stops n e = answer-stops f q n (totals-refused (answer f q) n e)
+
+  pub told-is : (m : ℕ) (u : Totals) (h : List ℕ) → Told f q (Value m u) h → (a : A) × (q ≡ ok a m) × (f a ≡ with u h)
+  told-is m u h w = answer-is f q m (with u h) (told-value m u h w)
+
+  -- and what is told, from what was answered
+  pub value-told : (m : ℕ) (u : Totals) (h : List ℕ) → answer f q ≡ value m (with u h) → Told f q (Value m u) h
+  value-told m u h e = rw e (refl, refl)
+
+  pub refused-told : (n : ℕ) (h : List ℕ) → answer f q ≡ refused n → Told f q (Refused n) h
+  refused-told n h e = rw e (refl, tt)
 
 told-ok : {A : Type 0} (f : A → Sum) (q : Result A) (a : A) (m : ℕ) (u : Totals) (h : List ℕ) → q ≡ ok a m → u ≡ less (f a) → h ≡ f a .has → Told f q (Value m u) h
 told-ok f q a m u h e i j = rw (e, i) (refl, j)
@@ -93,52 +105,6 @@ pub step-low : (s : List ℕ) (t : Totals) (d : Done) (new : Bool) (at m i : ℕ
 unfolding plus
 step-low s t d new at m i l e h = omega arith
 
--- Things in a row ----------------------------------------------------------------------
-
--- each is read by r and totalled up by g; f' totals up the others
-module _ {A : Type 0} (r : ℕ → Result A) (f f' : List A → Sum → Sum) (g : Sum → A → Sum) (n at : ℕ) (t : Totals) (h : List ℕ) where
-  abbrev rows : Result (List A)
-  rows = many [] _∷_ r n at
-
-  abbrev all-of : List A → Sum
-  all-of l = f l (with t h)
-
-  pub row-none : n ≡ 0 → f [] (with t h) ≡ with t h → Told all-of rows (Value at t) h
-  unfolding many
-  row-none z e = told-ok all-of rows [] at t h (rw z) (rw e) (rw e)
-
-  pub row-stop : (n ≡ 0 → ⊥) → (e : ℕ) (h1 : List ℕ) → told (g (with t h)) (r at) ≡ Refused e → Told all-of rows (Refused e) h1
-  unfolding many then
-  row-stop z e h1 i = go n z
-    where
-      go : (n : ℕ) → (n ≡ 0 → ⊥) → Told all-of (many [] _∷_ r n at) (Refused e) h1
-      go zero z = absurd (z refl)
-      go (suc n) z = let q = told-stops (g (with t h)) (r at) e i in rw (q .1) (refl, tt)
-
-  pub row-more : (n ≡ 0 → ⊥) → ((a : A) (l : List A) → f (a ∷ l) (with t h) ≡ f' l (g (with t h) a))
-      → (m : ℕ) (u : Totals) (h1 : List ℕ) → Told (g (with t h)) (r at) (Value m u) h1
-      → (x : TotalsRead) (h2 : List ℕ) → Told (λ l. f' l (with u h1)) (many [] _∷_ r (n - 1) m) x h2 → Told all-of rows x h2
-  unfolding many then
-  row-more z law m u h1 w x h2 v = go n z v
-    where
-      go : (n : ℕ) → (n ≡ 0 → ⊥) → Told (λ l. f' l (with u h1)) (many [] _∷_ r (n - 1) m) x h2 → Told all-of (many [] _∷_ r n at) x h2
-      go zero z v = absurd (z refl)
-      go (suc n) z v = first (told-is (g (with t h)) (r at) m u (sym (w .0))) (rw sub-one at v)
-        where
-          first : ((a : A) × (r at ≡ ok a m) × (less (g (with t h) a) ≡ u)) → Told (λ l. f' l (with u h1)) (many [] _∷_ r n m) x h2
-              → Told all-of (then (r at) λ a k. then (many [] _∷_ r n k) λ b m. ok (a ∷ b) m) x h2
-          first (a, e, i) v = rw e (rest (many [] _∷_ r n m) v)
-            where
-              kept : h1 ≡ g (with t h) a .has
-              kept = rw e at (w .1)
-
-              same : with u h1 ≡ g (with t h) a
-              same = rw (sym i, kept)
-
-              rest : (q : Result (List A)) → Told (λ l. f' l (with u h1)) q x h2 → Told all-of (then q λ b m. ok (a ∷ b) m) x h2
-              rest (ok l j) (p, o) = rw (law a l, ← same) (p, o)
-              rest (bad p j) (y, o) = (y, tt)
-
 -- The steps of a struct ----------------------------------------------------------------
 
 module _ (ar types s : List ℕ) (k at : ℕ) (T : Sum) where
@@ -146,12 +112,74 @@ module _ (ar types s : List ℕ) (k at : ℕ) (T : Sum) where
   pub steps-stop : (e : ℕ) (h : List ℕ) → byte-told (ranged s 0 9 at) ≡ NoByte e → Told (λ ts. struct-totals ar types k ts T) (read-steps ar s at) (Refused e) h
   steps-stop e h i = let q = byte-stops (ranged s 0 9 at) e i in told-bad (λ ts. struct-totals ar types k ts T) (read-steps ar s at) (q .0) e h (steps-uncounted ar s at _ _ (q .1))
 
-  pub steps-read : (n m : ℕ) → byte-told (ranged s 0 9 at) ≡ Byte n m → read-steps ar s at ≡ many [] _∷_ (read-step ar s) n m
+  steps-read : (n m : ℕ) → byte-told (ranged s 0 9 at) ≡ Byte n m → read-steps ar s at ≡ many [] _∷_ (read-step ar s) n m
   unfolding read-steps counted then
   steps-read n m e = rw (byte-is (ranged s 0 9 at) n m e)
 
--- the steps of one struct, and those of the structs behind it
-pub structs-on : (ar types : List ℕ) (k : ℕ) (T : Sum) (ts : List Step) (tss : List (List Step))
-    → step-totals ar types k (ts ∷ tss) T ≡ step-totals ar types (k + 1) tss (struct-totals ar types k ts T)
-unfolding step-totals
-structs-on ar types k T ts tss = rw add-one
+  pub steps-all : (n m : ℕ) → byte-told (ranged s 0 9 at) ≡ Byte n m
+      → answer (λ ts. struct-totals ar types k ts T) (read-steps ar s at) ≡ answer (λ ts. struct-totals ar types k ts T) (many [] _∷_ (read-step ar s) n m)
+  steps-all n m e = ap (answer λ ts. struct-totals ar types k ts T) (steps-read n m e)
+
+-- steps in a row, behind those that the totals t and the table h are of: none left; the next is not read; it is
+module _ (ar types s : List ℕ) (k : ℕ) where
+  abbrev pub steps-row : Totals → List ℕ → ℕ → ℕ → Answer Sum
+  steps-row t h n at = answer (λ ts. struct-totals ar types k ts (with t h)) (many [] _∷_ (read-step ar s) n at)
+
+  abbrev total-steps : Sum → List Step → Sum
+  total-steps T ts = struct-totals ar types k ts T
+
+  steps-goes : (T : Sum) (t : Step) (ts : List Step) → total-steps T (t ∷ ts) ≡ total-steps (step-total ar types k T t) ts
+  unfolding struct-totals
+  steps-goes T t ts = refl
+
+  module _ (t : Totals) (h : List ℕ) (n at : ℕ) where
+    pub steps-end : n ≡ 0 → steps-row t h n at ≡ value at (with t h)
+    unfolding struct-totals
+    steps-end = row-none [] _∷_ (read-step ar s) (step-total ar types k) (λ T U. U) total-steps steps-goes (with t h) n at
+
+    pub steps-refused : (n ≡ 0 → ⊥) → (e : ℕ) → told (step-total ar types k (with t h)) (read-step ar s at) ≡ Refused e → steps-row t h n at ≡ refused e
+    steps-refused z e i =
+        row-stop [] _∷_ (read-step ar s) (step-total ar types k) (λ T U. U) total-steps steps-goes (with t h) n at z e (totals-refused _ e i)
+
+    pub steps-more : (n ≡ 0 → ⊥) → (m : ℕ) (u : Totals) (h′ : List ℕ) → Told (step-total ar types k (with t h)) (read-step ar s at) (Value m u) h′
+        → steps-row t h n at ≡ steps-row u h′ (n - 1) m
+    steps-more z m u h′ w =
+        row-more [] _∷_ (read-step ar s) (step-total ar types k) (λ T U. U) total-steps steps-goes (with t h) n at z m (with u h′)
+        (told-value (step-total ar types k (with t h)) (read-step ar s at) m u h′ w)
+
+-- The structs ----------------------------------------------------------------------------
+
+-- the same of the steps of structs in a row, from struct k on
+module _ (ar types s : List ℕ) where
+  abbrev pub structs-row : ℕ → Totals → List ℕ → ℕ → ℕ → Answer Sum
+  structs-row k t h n at = answer (λ tss. step-totals ar types k tss (with t h)) (many [] _∷_ (read-steps ar s) n at)
+
+  abbrev one : ℕ × Sum → List Step → Sum
+  one p ts = struct-totals ar types (p .0) ts (p .1)
+
+  abbrev next : ℕ × Sum → Sum → ℕ × Sum
+  next p U = (suc (p .0), U)
+
+  abbrev total-structs : ℕ × Sum → List (List Step) → Sum
+  total-structs p tss = step-totals ar types (p .0) tss (p .1)
+
+  structs-goes : (p : ℕ × Sum) (ts : List Step) (tss : List (List Step)) → total-structs p (ts ∷ tss) ≡ total-structs (next p (one p ts)) tss
+  unfolding step-totals
+  structs-goes p ts tss = refl
+
+  module _ (k : ℕ) (t : Totals) (h : List ℕ) (n at : ℕ) where
+    pub structs-end : n ≡ 0 → structs-row k t h n at ≡ value at (with t h)
+    unfolding step-totals
+    structs-end = row-none [] _∷_ (read-steps ar s) one next total-structs structs-goes (k, with t h) n at
+
+    pub structs-refused : (n ≡ 0 → ⊥) → (e : ℕ) → told (λ ts. struct-totals ar types k ts (with t h)) (read-steps ar s at) ≡ Refused e
+        → structs-row k t h n at ≡ refused e
+    structs-refused z e i = row-stop [] _∷_ (read-steps ar s) one next total-structs structs-goes (k, with t h) n at z e (totals-refused _ e i)
+
+    pub structs-more : (n ≡ 0 → ⊥) → (m : ℕ) (u : Totals) (h′ : List ℕ)
+        → Told (λ ts. struct-totals ar types k ts (with t h)) (read-steps ar s at) (Value m u) h′
+        → structs-row k t h n at ≡ structs-row (k + 1) u h′ (n - 1) m
+    structs-more z m u h′ w =
+        rw add-one
+        (row-more [] _∷_ (read-steps ar s) one next total-structs structs-goes (k, with t h) n at z m (with u h′)
+        (told-value (λ ts. struct-totals ar types k ts (with t h)) (read-steps ar s at) m u h′ w))

@@ -95,14 +95,9 @@ module _ (at : ℕ) (ar types s : List ℕ) where
 
   pub rest-on : (m : ℕ) (t : Totals) (h : List ℕ) → Told totals-of all-steps (TotalsValue m t) h
       → rest-told at ar types s (read-rest ar s at) ≡ end-told at (length ar) (with t h) s (read-items ar s (read-item ar s 8) m)
-  rest-on m t h w = go (told-is totals-of all-steps m t (sym (w .0)))
-    where
-      go : ((ss : List (List Step)) × (all-steps ≡ ok ss m) × (less (totals-of ss) ≡ t))
-          → rest-told at ar types s (read-rest ar s at) ≡ end-told at (length ar) (with t h) s (read-items ar s (read-item ar s 8) m)
-      go (ss, e, i) =
-          let kept : h ≡ totals-of ss .has = rw e at (w .1) in
-          let same : with t h ≡ totals-of ss = rw (sym i, kept) in
-          on ss m e ∙ ap (λ (T : Sum). end-told at (length ar) T s (read-items ar s (read-item ar s 8) m)) (sym same)
+  rest-on m t h w =
+      let (ss, e, i) = told-is totals-of all-steps m t h w in
+      on ss m e ∙ ap (λ (T : Sum). end-told at (length ar) T s (read-items ar s (read-item ar s 8) m)) i
 
 -- Programs -----------------------------------------------------------------------------
 

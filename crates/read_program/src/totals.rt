@@ -138,32 +138,6 @@ fn step(
     TotalsRead::Value(next, plus(t, d, new))
 }
 
-// n steps of the struct k.
-fn steps(
-    s: &[u8],
-    ar: &[u8],
-    types: &[u8],
-    has: &mut [u8],
-    k: u8,
-    n: u8,
-    t: Totals,
-    at: usize,
-) -> TotalsRead
-    requires { ⌜ (length (now ar) ≤ 16) × (length (now has) ≡ 512) × (k < 16) ⌝ }
-    requires { ⌜ Low t at × (at ≤ length (now s)) ⌝ }
-    ensures { λ r. ⌜ Told (λ ts. struct-totals (now (ar .entry)) (now (types .entry)) k ts (with t (now (has .entry)))) (many [] _∷_ (read-step (now (ar .entry)) (now (s .entry))) n at) r (now (has .exit)) ⌝ }
-    ensures { λ r. ⌜ Bounded (now (s .entry)) r ⌝ }
-{
-    if n == 0 {
-        return TotalsRead::Value(at, t);
-    }
-    let first = step(s, ar, types, has, k, t, at);
-    let TotalsRead::Value(m, u) = first else {
-        return first;
-    };
-    steps(s, ar, types, has, k, n - 1, u, m)
-}
-
 // The steps of the struct k.
 fn of_struct(
     s: &[u8],
@@ -183,7 +157,19 @@ fn of_struct(
     let ByteRead::Byte(n, m) = r else {
         return TotalsRead::Refused(read::byte_refusal(r));
     };
-    steps(s, ar, types, has, k, n, t, m)
+    let mut all = t;
+    let mut next = m;
+    let mut left = n;
+    while 0 < left {
+        let q = step(s, ar, types, has, k, all, next);
+        let TotalsRead::Value(behind, u) = q else {
+            return q;
+        };
+        all = u;
+        next = behind;
+        left = left - 1;
+    }
+    TotalsRead::Value(next, all)
 }
 
 // The steps of n structs, from the struct k on. After a refusal the table of names is free, of the length that it had.
@@ -202,12 +188,19 @@ pub fn structs(
     ensures { λ r. ⌜ Told (λ tss. step-totals (now (ar .entry)) (now (types .entry)) k tss (with t (now (has .entry)))) (many [] _∷_ (read-steps (now (ar .entry)) (now (s .entry))) n at) r (now (has .exit)) ⌝ }
     ensures { λ r. ⌜ Bounded (now (s .entry)) r ⌝ }
 {
-    if n == 0 {
-        return TotalsRead::Value(at, t);
+    let mut all = t;
+    let mut next = at;
+    let mut own = k;
+    let mut left = n;
+    while 0 < left {
+        let r = of_struct(s, ar, types, has, own, all, next);
+        let TotalsRead::Value(behind, u) = r else {
+            return r;
+        };
+        all = u;
+        next = behind;
+        own = own + 1;
+        left = left - 1;
     }
-    let first = of_struct(s, ar, types, has, k, t, at);
-    let TotalsRead::Value(m, u) = first else {
-        return first;
-    };
-    structs(s, ar, types, has, k + 1, n - 1, u, m)
+    TotalsRead::Value(next, all)
 }

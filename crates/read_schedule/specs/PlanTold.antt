@@ -5,7 +5,8 @@ use mathlib.Core.List.{List}
 use lib.ListN.{length}
 use Rattle.types.specs.Limits.{step-names}
 use Rattle.program.specs.Tree.{Item, Item.call-in}
-use Rattle.program.specs.Reader.{Result, Result.ok, Result.bad, pair, made, ranged}
+use Rattle.program.specs.Reader.{Result, pair, made, ranged}
+use Rattle.answers.specs.Answers.{Answer, Answer.value, Answer.refused, answer}
 use Rattle.judge.specs.ProgramFacts.{Planned as Plan, plan}
 use Rattle.read_schedule.specs.declared.Planned.{Planned}
 use Rattle.read_schedule.specs.declared.PlanRead.{PlanRead}
@@ -15,13 +16,19 @@ use Rattle.read_schedule.specs.declared.PlanRead.the-variants.{Value, Re
 abbrev pub planned : Plan → Planned
 planned p = record { count = p .count; fault = p .fault }
 
+abbrev pub plan-of : Planned → Plan
+plan-of p = plan (p .count) (p .fault)
+
+abbrev pub plan-read : Answer Plan → PlanRead
+plan-read (value m p) = Value m (planned p)
+plan-read (refused n) = Refused n
+
 abbrev pub told : {A : Type 0} → (A → Plan) → Result A → PlanRead
-told f (ok a m) = Value m (planned (f a))
-told f (bad p n) = Refused n
+told f r = plan-read (answer f r)
 
 -- what is made of a value, and a refusal as it is
 abbrev pub after : (Plan → Plan) → PlanRead → PlanRead
-after h (Value n p) = Value n (planned (h (plan (p .count) (p .fault))))
+after h (Value n p) = Value n (planned (h (plan-of p)))
 after h (Refused k) = Refused k
 
 -- the number of a refusal; of a value, 0
@@ -42,14 +49,11 @@ abbrev pub Span : List ℕ → ℕ → ℕ → PlanRead → Type 0
 Span s lo from (Value n p) = (lo ≤ n) × (n ≤ length s) × (p .count + from ≤ n)
 Span s lo from (Refused k) = Unit {0}
 
--- of an item, of what stands behind its byte, of a counted row; of any number of items
+-- of an item, of what stands behind its byte, of a counted row
 abbrev pub Ahead : List ℕ → ℕ → PlanRead → Type 0
 Ahead s at r = Span s (at + 1) at r
 
-abbrev pub Within : List ℕ → ℕ → PlanRead → Type 0
-Within s at r = Span s at at r
-
--- so many items more are still a number of 64 bits
-abbrev pub Room : ℕ → PlanRead → Type 0
-Room c (Value n p) = c + p .count < 2 ^ 64
-Room c (Refused k) = Unit {0}
+-- one item more is still a number of 64 bits
+abbrev pub Room : PlanRead → Type 0
+Room (Value n p) = p .count + 1 < 2 ^ 64
+Room (Refused k) = Unit {0}

@@ -2,46 +2,53 @@
 use Prim.Native.Nat.{ℕ, zero, suc, _+_, _-_, _<_, _≤_, _^_}
 use native.Mathlib.Omega.{arith}
 use native.Mathlib.Numerals.{sub-one, add-one}
-use mathlib.Core.Path.{_≡_, refl, sym}
+use mathlib.Core.Path.{_≡_, refl, ap, sym, subst, _∙_}
 use mathlib.Core.Bool.{true, false, not}
 use mathlib.Core.List.{List}
 use lib.ListN.{length, getD}
 use lib.Dec.{eqb}
 use borrow.Author.Tests.{eq-eqb, ne-eqb}
 use Rattle.program.specs.Tree.{Item, Item.call, Item.fix, Items, Items.stop, Items.item}
-use Rattle.program.specs.Reader.{Result, Result.ok, Result.bad, then, pair, made, many, opened, counted, lookup, sort, Sort, Sort.sort-call, Sort.sort-call-in, Sort.sort-fix, Sort.sort-none, ranged, rule-item, read-item, read-items}
+use Rattle.program.specs.Reader.{Result, Result.ok, Result.bad, then, pair, made, many, opened, counted, lookup, item-sort, ItemSort, ItemSort.sort-call, ItemSort.sort-call-in, ItemSort.sort-fix, ItemSort.sort-none, ranged, rule-item, read-item, read-items}
 use Rattle.program.specs.ItemLaws.{OpensItem, opens-item}
 use Rattle.judge.specs.Facts.{named}
 use Rattle.judge.specs.ProgramFacts.{Planned as Plan, plan, place, had, joined, item-plan, items-plan}
+use Rattle.judge.specs.FollowLaws.{joined-assoc, none-joined, joined-none}
+use Rattle.answers.specs.Answers.{Answer, Answer.value, Answer.refused, answer}
+use Rattle.answers.specs.AnswerLaws.{row-none, row-stop, row-more}
 use Rattle.read_exprs.specs.declared.read.ByteRead.the-variants.{Byte, NoByte}
 use Rattle.read_schedule.specs.declared.Planned.{Planned}
 use Rattle.read_schedule.specs.declared.PlanRead.{PlanRead}
 use Rattle.read_schedule.specs.declared.PlanRead.the-variants.{Value, Refused}
 use Rattle.read_exprs.specs.Told.{byte-told}
 use Rattle.read_exprs.specs.ByteWays.{byte-is, byte-stops, byte-in, byte-out}
-use Rattle.read_schedule.specs.PlanTold.{planned, told, after, fixed, read-call-in, Span, Room}
+use Rattle.read_schedule.specs.PlanTold.{planned, plan-of, plan-read, told, after, fixed, read-call-in, Span, Room}
 
--- among the structs: none is left, the first has the step, it has not
+-- among the structs from struct k on: none is left, the first has the step, it has not
 module _ (hs : List ℕ) (n k c : ℕ) where
-  pub had-none : c ≡ 0 → had hs n k c ≡ false
+  pub had-none : c ≤ k → had hs n k (c - k) ≡ false
   unfolding had
-  had-none e = rw e
+  had-none h = let z : c - k ≡ 0 = omega arith in rw z
 
-  pub had-here : (c ≡ 0 → ⊥) → (getD hs (place k n) 0 ≡ 0 → ⊥) → had hs n k c ≡ true
+  pub had-here : k < c → (getD hs (place k n) 0 ≡ 0 → ⊥) → had hs n k (c - k) ≡ true
   unfolding had
-  had-here z h = go c z
-    where
-      go : (c : ℕ) → (c ≡ 0 → ⊥) → had hs n k c ≡ true
-      go zero z = absurd (z refl)
-      go (suc c) z = simp (had, ne-eqb _ _ h)
+  had-here h e = let s : c - k ≡ suc (c - suc k) = omega arith in rw s (simp (had, ne-eqb _ _ e))
 
-  pub had-on : (c ≡ 0 → ⊥) → getD hs (place k n) 0 ≡ 0 → had hs n k c ≡ had hs n (k + 1) (c - 1)
+  pub had-on : k < c → getD hs (place k n) 0 ≡ 0 → had hs n k (c - k) ≡ had hs n (k + 1) (c - (k + 1))
   unfolding had
-  had-on z h = go c z
-    where
-      go : (c : ℕ) → (c ≡ 0 → ⊥) → had hs n k c ≡ had hs n (k + 1) (c - 1)
-      go zero z = absurd (z refl)
-      go (suc c) z = rw (sub-one, add-one) (simp (had, eq-eqb _ _ h))
+  had-on h e = let s : c - k ≡ suc (c - (k + 1)) = omega arith in rw (s, add-one) (simp (had, eq-eqb _ _ e))
+
+-- what was answered, from the enum that holds it
+pub plan-value : (x : Answer Plan) (m : ℕ) (p : Planned) → plan-read x ≡ Value m p → x ≡ value m (plan-of p)
+plan-value (value k q) m p e =
+    let h : k ≡ m = cc in
+    let i : planned q ≡ p = cc in
+    subst (λ p. value k q ≡ value m (plan-of p)) i (ap (λ k. value k q) h)
+plan-value (refused k) m p e = let z : _≡_ {A = ℕ} 0 1 = cc in absurd (omega arith)
+
+pub plan-refused : (x : Answer Plan) (n : ℕ) → plan-read x ≡ Refused n → x ≡ refused n
+plan-refused (value k q) n e = let z : _≡_ {A = ℕ} 0 1 = cc in absurd (omega arith)
+plan-refused (refused k) n e = cc
 
 module _ (hs : List ℕ) (S : ℕ) where
   -- a step of every struct: its name is not read, or is
@@ -76,39 +83,32 @@ module _ (hs : List ℕ) (S : ℕ) where
   fix-around (ok is m) = refl
   fix-around (bad p n) = refl
 
-  -- items in a row, each read by r: none is left, the first is not read, or is with the others behind it
-  module _ (r : ℕ → Result Item) (n at : ℕ) where
-    pub row-none : n ≡ 0 → told (items-plan hs S) (many stop item r n at) ≡ Value at (planned (plan 0 0))
-    unfolding many items-plan
-    row-none e = rw e
+  -- items in a row, each read by r, behind those of which p is planned: none yet; none left; the next is not read; it is
+  module _ (r : ℕ → Result Item) where
+    abbrev pub row : Plan → ℕ → ℕ → Answer Plan
+    row p n at = answer (λ is. joined p (items-plan hs S is)) (many stop item r n at)
 
-    pub row-stop : (n ≡ 0 → ⊥) → (e : ℕ) → told (item-plan hs S) (r at) ≡ Refused e → told (items-plan hs S) (many stop item r n at) ≡ Refused e
-    unfolding many then
-    row-stop z e p = go n z (r at) refl p
+    goes : (p : Plan) (i : Item) (is : Items) → joined p (items-plan hs S (item i is)) ≡ joined (joined p (item-plan hs S i)) (items-plan hs S is)
+    unfolding items-plan
+    goes p i is = sym (joined-assoc p (item-plan hs S i) (items-plan hs S is))
+
+    pub row-begins : (n at : ℕ) → row (plan 0 0) n at ≡ answer (items-plan hs S) (many stop item r n at)
+    row-begins n at = go (many stop item r n at)
       where
-        go : (n : ℕ) → (n ≡ 0 → ⊥) → (q : Result Item) → r at ≡ q → told (item-plan hs S) q ≡ Refused e → told (items-plan hs S) (many stop item r n at) ≡ Refused e
-        go zero z q h p = absurd (z refl)
-        go (suc n) z (ok i m) h p = let o : _≡_ {A = ℕ} 0 1 = cc in absurd (omega arith)
-        go (suc n) z (bad a k) h p = let o : k ≡ e = cc in rw (h, o)
+        go : (q : Result Items) → answer (λ is. joined (plan 0 0) (items-plan hs S is)) q ≡ answer (items-plan hs S) q
+        go (ok is m) = ap (value m) (none-joined (items-plan hs S is))
+        go (bad p k) = refl
 
-    pub row-more : (n ≡ 0 → ⊥) → (m : ℕ) (p : Planned) → told (item-plan hs S) (r at) ≡ Value m p
-        → told (items-plan hs S) (many stop item r n at) ≡ after (joined (plan (p .count) (p .fault))) (told (items-plan hs S) (many stop item r (n - 1) m))
-    unfolding many then items-plan
-    row-more z m p e = go n z (r at) refl e
-      where
-        one : (i : Item) (q : Result Items) → planned (item-plan hs S i) ≡ p
-            → told (items-plan hs S) (then q λ is k. ok (item i is) k) ≡ after (joined (plan (p .count) (p .fault))) (told (items-plan hs S) q)
-        one i (ok is k) h = rw (sym h)
-        one i (bad a k) h = refl
+    module _ (p : Plan) (n at : ℕ) where
+      pub row-ends : n ≡ 0 → row p n at ≡ value at p
+      unfolding items-plan
+      row-ends e = row-none stop item r (λ p. item-plan hs S) joined (λ p is. joined p (items-plan hs S is)) goes p n at e ∙ ap (value at) (joined-none p)
 
-        go : (n : ℕ) → (n ≡ 0 → ⊥) → (q : Result Item) → r at ≡ q → told (item-plan hs S) q ≡ Value m p
-            → told (items-plan hs S) (many stop item r n at) ≡ after (joined (plan (p .count) (p .fault))) (told (items-plan hs S) (many stop item r (n - 1) m))
-        go zero z q h e = absurd (z refl)
-        go (suc n) z (ok i k) h e =
-            let o : k ≡ m = cc in
-            let f : planned (item-plan hs S i) ≡ p = cc in
-            rw (h, o, sub-one) (one i (many stop item r n m) f)
-        go (suc n) z (bad a k) h e = let o : _≡_ {A = ℕ} 0 1 = cc in absurd (omega arith)
+      pub row-refused : (n ≡ 0 → ⊥) → (e : ℕ) → told (item-plan hs S) (r at) ≡ Refused e → row p n at ≡ refused e
+      row-refused z e h = row-stop stop item r (λ p. item-plan hs S) joined (λ p is. joined p (items-plan hs S is)) goes p n at z e (plan-refused _ e h)
+
+      pub row-goes : (n ≡ 0 → ⊥) → (m : ℕ) (q : Planned) → told (item-plan hs S) (r at) ≡ Value m q → row p n at ≡ row (joined p (plan-of q)) (n - 1) m
+      row-goes z m q h = row-more stop item r (λ p. item-plan hs S) joined (λ p is. joined p (items-plan hs S is)) goes p n at z m _ (plan-value _ m q h)
 
 -- an item more than those inside
 pub fix-value : (n : ℕ) (p : Planned) → _≡_ {A = PlanRead} (Value n (record { count = p .count + 1; fault = p .fault })) (after fixed (Value n p))
@@ -121,9 +121,13 @@ module _ (ar s : List ℕ) (r : ℕ → Result Item) (at : ℕ) where
   unfolding read-items counted then
   items-stop f e p = rw (byte-stops (ranged s 1 33 at) e p .1)
 
-  pub items-more : (n m : ℕ) → byte-told (ranged s 1 33 at) ≡ Byte n m → read-items ar s r at ≡ many stop item r n m
+  items-more : (n m : ℕ) → byte-told (ranged s 1 33 at) ≡ Byte n m → read-items ar s r at ≡ many stop item r n m
   unfolding read-items counted then
   items-more n m p = rw (byte-is (ranged s 1 33 at) n m p)
+
+  pub items-row : (hs : List ℕ) (S n m : ℕ) → byte-told (ranged s 1 33 at) ≡ Byte n m
+      → plan-read (row hs S r (plan 0 0) n m) ≡ told (items-plan hs S) (read-items ar s r at)
+  items-row hs S n m e = ap plan-read (row-begins hs S r n m) ∙ ap (told (items-plan hs S)) (sym (items-more n m e))
 
 -- an item: no byte, a step, a step of a struct, no item, one Fix too many, a Fix
 module _ (ar s : List ℕ) (d at : ℕ) where
@@ -137,7 +141,7 @@ module _ (ar s : List ℕ) (d at : ℕ) where
 
   module _ (h : at < length s) where
     pub item-call : getD s at 0 ≡ 1 → read-item ar s d at ≡ made call (ranged s 0 32 (at + 1))
-    unfolding read-item opened then sort lookup rule-item
+    unfolding read-item opened then item-sort lookup rule-item
     item-call e = go d
       where
         go : (d : ℕ) → read-item ar s d at ≡ made call (ranged s 0 32 (at + 1))
@@ -145,7 +149,7 @@ module _ (ar s : List ℕ) (d at : ℕ) where
         go (suc d) = rw (byte-in s at h, e)
 
     pub item-call-in : getD s at 0 ≡ 2 → (S : ℕ) → length ar ≡ S → read-item ar s d at ≡ read-call-in s S (at + 1)
-    unfolding read-item opened then sort lookup rule-item read-call-in
+    unfolding read-item opened then item-sort lookup rule-item read-call-in
     item-call-in e S l = go d
       where
         go : (d : ℕ) → read-item ar s d at ≡ read-call-in s S (at + 1)
@@ -156,25 +160,25 @@ module _ (ar s : List ℕ) (d at : ℕ) where
     unfolding read-item opened then rule-item
     item-none a b c = go d
       where
-        is : (k : Sort) → OpensItem (getD s at 0) k → k ≡ sort-none
+        is : (k : ItemSort) → OpensItem (getD s at 0) k → k ≡ sort-none
         is sort-call e = absurd (a e)
         is sort-call-in e = absurd (b e)
         is sort-fix e = absurd (c e)
         is sort-none e = refl
 
-        none : sort (getD s at 0) ≡ sort-none
-        none = is (sort (getD s at 0)) (opens-item (getD s at 0))
+        none : item-sort (getD s at 0) ≡ sort-none
+        none = is (item-sort (getD s at 0)) (opens-item (getD s at 0))
 
         go : (d : ℕ) → read-item ar s d at ≡ bad at 5
         go zero = rw (byte-in s at h, none)
         go (suc d) = rw (byte-in s at h, none)
 
     pub item-deep : getD s at 0 ≡ 3 → d ≡ 0 → read-item ar s d at ≡ bad at 5
-    unfolding read-item opened then sort lookup rule-item made
+    unfolding read-item opened then item-sort lookup rule-item made
     item-deep e z = rw (z, byte-in s at h, e)
 
     pub item-fix : getD s at 0 ≡ 3 → (d ≡ 0 → ⊥) → read-item ar s d at ≡ made fix (read-items ar s (read-item ar s (d - 1)) (at + 1))
-    unfolding read-item opened then sort lookup rule-item
+    unfolding read-item opened then item-sort lookup rule-item
     item-fix e z = go d z
       where
         go : (d : ℕ) → (d ≡ 0 → ⊥) → read-item ar s d at ≡ made fix (read-items ar s (read-item ar s (d - 1)) (at + 1))
@@ -189,18 +193,17 @@ module _ (s : List ℕ) where
   span-less lo from lo′ from′ (Value n p) h k x = omega arith
   span-less lo from lo′ from′ (Refused e) h k x = tt
 
-  -- around a Fix, and with an item before
+  -- around a Fix
   pub span-fixed : (at : ℕ) (r : PlanRead) → Span s (at + 1 + 1) (at + 1) r → Span s (at + 1) at (after fixed r)
   unfolding fixed
   span-fixed at (Value n p) x = omega arith
   span-fixed at (Refused e) x = tt
 
-  pub span-joined : (at m : ℕ) (p : Planned) (r : PlanRead) → at ≤ m → p .count + at ≤ m → Span s m m r → Span s at at (after (joined (plan (p .count) (p .fault))) r)
-  unfolding joined
-  span-joined at m p (Value n q) h k x = omega arith
-  span-joined at m p (Refused e) h k x = tt
+  pub room : (lo from : ℕ) (r : PlanRead) → length s < 2 ^ 64 → 1 ≤ from → Span s lo from r → Room r
+  room lo from (Value n p) g h x = omega arith
+  room lo from (Refused e) g h x = tt
 
-  -- items before the place from which the others were read
-  pub room : (c lo from : ℕ) (r : PlanRead) → length s < 2 ^ 64 → c ≤ from → Span s lo from r → Room c r
-  room c lo from (Value n p) g h x = omega arith
-  room c lo from (Refused e) g h x = tt
+  -- one item more among those in a row
+  pub span-joined : (from at m : ℕ) (p q : Planned) → p .count + from ≤ at → Span s (at + 1) at (Value m q) → joined (plan-of p) (plan-of q) .count + from ≤ m
+  unfolding joined
+  span-joined from at m p q h x = omega arith

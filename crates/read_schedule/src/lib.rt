@@ -5,13 +5,13 @@ use read_exprs::read::ByteRead;
 use types::number;
 ghost use mathlib.Core.Path.{_≡_};
 ghost use mathlib.Core.List.{List};
-ghost use Prim.Native.Nat.{ℕ, _+_, _<_, _≤_};
+ghost use Prim.Native.Nat.{ℕ, _+_, _<_, _^_};
 ghost use lib.ListN.{length};
-ghost use Rattle.program.specs.Tree.{Item.call, Items.stop, Items.item};
-ghost use Rattle.program.specs.Reader.{made, many, ranged, read-items, read-item};
+ghost use Rattle.program.specs.Tree.{Item.call};
+ghost use Rattle.program.specs.Reader.{made, ranged, read-items, read-item};
 ghost use Rattle.judge.specs.Facts.{named};
 ghost use Rattle.judge.specs.ProgramFacts.{plan, joined, had, item-plan, items-plan};
-ghost use Rattle.read_schedule.specs.PlanTold.{planned, told, plan-refusal, fixed, read-call-in, after, Ahead, Within, Room};
+ghost use Rattle.read_schedule.specs.PlanTold.{planned, told, plan-refusal, fixed, read-call-in, after, Ahead, Room};
 
 // How many items, those inside a Fix among them, and a fault, 0 or 7.
 pub struct Planned {
@@ -35,18 +35,18 @@ pub fn plan_refusal(r: PlanRead) -> u8
     n
 }
 
-// Whether some of the c structs from struct k on has the step n.
-fn had(has: &[u8], n: u8, k: u8, c: u8) -> bool
-    requires { ⌜ k + c < 256 ⌝ }
-    ensures { λ r. ⌜ r ≡ had (now (has .entry)) n k c ⌝ }
+// Whether some struct has the step n.
+fn had(has: &[u8], n: u8, structs: u8) -> bool
+    ensures { λ r. ⌜ r ≡ had (now (has .entry)) n 0 structs ⌝ }
 {
-    if c == 0 {
-        return false;
+    let mut k = 0;
+    while k < structs {
+        if judging::path::look(has, types::STEP_NAMES * k as usize + n as usize) != 0 {
+            return true;
+        }
+        k = k + 1;
     }
-    if judging::path::look(has, types::STEP_NAMES * k as usize + n as usize) != 0 {
-        return true;
-    }
-    had(has, n, k + 1, c - 1)
+    false
 }
 
 // One step, which is there or not.
@@ -68,7 +68,7 @@ fn call(s: &[u8], has: &[u8], structs: u8, at: usize) -> PlanRead
     let ByteRead::Byte(n, m) = r else {
         return PlanRead::Refused(read::byte_refusal(r));
     };
-    PlanRead::Value(m, one(had(has, n, 0, structs)))
+    PlanRead::Value(m, one(had(has, n, structs)))
 }
 
 // A step of one struct.
@@ -90,7 +90,7 @@ fn call_in(s: &[u8], has: &[u8], structs: u8, at: usize) -> PlanRead
 
 // A Fix around what was read.
 fn around(r: PlanRead) -> PlanRead
-    requires { ⌜ Room 1 r ⌝ }
+    requires { ⌜ Room r ⌝ }
     ensures { λ q. ⌜ q ≡ after fixed r ⌝ }
 {
     let PlanRead::Value(n, p) = r else {
@@ -105,21 +105,15 @@ fn around(r: PlanRead) -> PlanRead
     )
 }
 
-// An item before what was read behind it.
-fn joined(p: Planned, r: PlanRead) -> PlanRead
-    requires { ⌜ Room (p .count) r ⌝ }
-    ensures { λ q. ⌜ q ≡ after (joined (plan (p .count) (p .fault))) r ⌝ }
+// Items, and another behind them.
+fn joined(p: Planned, q: Planned) -> Planned
+    requires { ⌜ p .count + q .count < 2 ^ 64 ⌝ }
+    ensures { λ r. ⌜ r ≡ planned (joined (plan (p .count) (p .fault)) (plan (q .count) (q .fault))) ⌝ }
 {
-    let PlanRead::Value(n, q) = r else {
-        return r;
-    };
-    PlanRead::Value(
-        n,
-        Planned {
-            count: p.count + q.count,
-            fault: fault::worst(p.fault, q.fault),
-        },
-    )
+    Planned {
+        count: p.count + q.count,
+        fault: fault::worst(p.fault, q.fault),
+    }
 }
 
 // An item with at most depth levels of Fix.
@@ -147,22 +141,6 @@ fn item(s: &[u8], has: &[u8], structs: u8, at: usize, depth: usize) -> PlanRead
     around(items(s, has, structs, k, depth - 1))
 }
 
-// n items in a row.
-fn following(s: &[u8], has: &[u8], structs: u8, n: u8, at: usize, depth: usize) -> PlanRead
-    requires { ⌜ at ≤ length (now s) ⌝ }
-    ensures { λ r. ⌜ ((ar : List ℕ) → length ar ≡ structs → r ≡ told (items-plan (now (has .entry)) structs) (many stop item (read-item ar (now (s .entry)) depth) n at)) ⌝ }
-    ensures { λ r. ⌜ Within (now (s .entry)) at r ⌝ }
-{
-    if n == 0 {
-        return PlanRead::Value(at, Planned { count: 0, fault: 0 });
-    }
-    let first = item(s, has, structs, at, depth);
-    let PlanRead::Value(m, p) = first else {
-        return first;
-    };
-    joined(p, following(s, has, structs, n - 1, m, depth))
-}
-
 // The items of the schedule or of a Fix, with at most depth levels of Fix inside; has tells which steps the structs have.
 pub fn items(s: &[u8], has: &[u8], structs: u8, at: usize, depth: usize) -> PlanRead
     ensures { λ r. ⌜ ((ar : List ℕ) → length ar ≡ structs → r ≡ told (items-plan (now (has .entry)) structs) (read-items ar (now (s .entry)) (read-item ar (now (s .entry)) depth) at)) ⌝ }
@@ -172,5 +150,17 @@ pub fn items(s: &[u8], has: &[u8], structs: u8, at: usize, depth: usize) -> Plan
     let ByteRead::Byte(n, m) = r else {
         return PlanRead::Refused(read::byte_refusal(r));
     };
-    following(s, has, structs, n, m, depth)
+    let mut all = Planned { count: 0, fault: 0 };
+    let mut next = m;
+    let mut left = n;
+    while 0 < left {
+        let q = item(s, has, structs, next, depth);
+        let PlanRead::Value(behind, p) = q else {
+            return q;
+        };
+        all = joined(all, p);
+        next = behind;
+        left = left - 1;
+    }
+    PlanRead::Value(next, all)
 }

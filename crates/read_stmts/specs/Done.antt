@@ -6,7 +6,8 @@ use lib.ListN.{length}
 use Rattle.types.specs.Limits.{expr-levels}
 use Rattle.types.specs.Types.{Ty, code}
 use Rattle.program.specs.Tree.{Var, Expr, Exprs, Stmts}
-use Rattle.program.specs.Reader.{Result, Result.ok, Result.bad, pair, read-local, read-expr}
+use Rattle.program.specs.Reader.{Result, pair, read-local, read-expr}
+use Rattle.answers.specs.Answers.{Answer, Answer.value, Answer.refused, answer}
 use Rattle.judge.specs.declared.Facts.{Facts}
 use Rattle.judge.specs.declared.Scope.{Scope}
 use Rattle.judge.specs.declared.Done.{Done}
@@ -16,9 +17,12 @@ use Rattle.read_exprs.specs.declared.read.ExprRead.the-variants.{Value as ExprV
 use Rattle.read_stmts.specs.declared.StmtRead.{StmtRead}
 use Rattle.read_stmts.specs.declared.StmtRead.the-variants.{Value, Refused}
 
+abbrev pub stmt-read : Answer Done → StmtRead
+stmt-read (value m d) = Value m d
+stmt-read (refused n) = Refused n
+
 abbrev pub done : {A : Type 0} → (A → Done) → Result A → StmtRead
-done f (ok a m) = Value m (f a)
-done f (bad p n) = Refused n
+done f r = stmt-read (answer f r)
 
 -- what is made of an expression, or of statements, and a refusal as it is
 abbrev pub turn : (Facts → Done) → ExprRead → StmtRead

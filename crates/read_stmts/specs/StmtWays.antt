@@ -2,18 +2,21 @@
 use Prim.Native.Nat.{ℕ, zero, suc, _+_, _-_, _<_, _≤_}
 use native.Mathlib.Omega.{arith}
 use native.Mathlib.Numerals.{sub-one}
-use mathlib.Core.Path.{_≡_, refl}
+use mathlib.Core.Path.{_≡_, refl, ap}
 use mathlib.Core.List.{List}
 use lib.ListN.{length, getD}
 use Rattle.types.specs.Types.{Ty, code}
 use Rattle.program.specs.Tree.{Var, Expr, Exprs, Stmt, Stmts, Stmts.end, Stmts.next}
-use Rattle.program.specs.Reader.{Result, Result.ok, Result.bad, then, pair, made, many, lookup, Kind, Kind.kind-when, Kind.kind-declare, Kind.kind-update, Kind.kind-create, Kind.kind-none, kind, type-byte, byte, tested, opened, ranged, counted, read-local, read-path, read-make, read-expr, read-body, read-when, read-declare, read-update, rule-stmt, read-stmt}
+use Rattle.types.specs.TypeBytes.{is-type}
+use Rattle.program.specs.Reader.{Result, Result.ok, Result.bad, then, pair, made, many, lookup, Kind, Kind.kind-when, Kind.kind-declare, Kind.kind-update, Kind.kind-create, Kind.kind-none, kind, byte, tested, opened, ranged, counted, read-local, read-path, read-make, read-expr, read-body, read-when, read-declare, read-update, rule-stmt, read-stmt}
 use Rattle.program.specs.StmtLaws.{OpensStmt, opens-stmt}
+use Rattle.answers.specs.Answers.{Answer, Answer.value, Answer.refused, answer}
+use Rattle.answers.specs.AnswerLaws.{answer-is, answer-stops, answer-made}
 use Rattle.judge.specs.declared.Judged.{Judged}
 use Rattle.judge.specs.declared.Facts.{Facts}
 use Rattle.judge.specs.declared.Scope.{Scope}
 use Rattle.judge.specs.declared.Done.{Done}
-use Rattle.judge.specs.Facts.{path-of, expr-facts, constructed, nothing, branched, declared, updated, created, followed, stmt-facts, body-facts}
+use Rattle.judge.specs.Facts.{path-of, expr-facts, constructed, branched, declared, updated, created, stmt-facts, body-facts}
 use Rattle.read_exprs.specs.declared.read.ByteRead.the-variants.{Byte, NoByte}
 use Rattle.read_exprs.specs.declared.read.PathRead.the-variants.{Path, NoPath}
 use Rattle.read_exprs.specs.declared.read.ExprRead.the-variants.{Value as ExprValue, Refused as ExprRefused}
@@ -23,22 +26,27 @@ use Rattle.read_exprs.specs.PathWays.{path-read, path-stops}
 use Rattle.read_exprs.specs.ExprWays.{told-is, told-stops}
 use Rattle.read_stmts.specs.declared.StmtRead.{StmtRead}
 use Rattle.read_stmts.specs.declared.StmtRead.the-variants.{Value, Refused}
-use Rattle.read_stmts.specs.Done.{done, turn, after, labelled, read-named, local-facts, declare-facts, update-facts, create-facts, when-facts}
+use Rattle.read_stmts.specs.Done.{stmt-read, done, turn, after, labelled, read-named, local-facts, declare-facts, update-facts, create-facts, when-facts}
+
+-- what was answered, from the enum that holds it
+pub stmt-value : (x : Answer Done) (m : ℕ) (d : Done) → stmt-read x ≡ Value m d → x ≡ value m d
+stmt-value (value k a) m d e = cc
+stmt-value (refused k) m d e = let z : _≡_ {A = ℕ} 0 1 = cc in absurd (omega arith)
+
+pub stmt-refused : (x : Answer Done) (n : ℕ) → stmt-read x ≡ Refused n → x ≡ refused n
+stmt-refused (value k a) n e = let z : _≡_ {A = ℕ} 0 1 = cc in absurd (omega arith)
+stmt-refused (refused k) n e = cc
 
 -- what is made of what was read is computed of it
 pub done-made : {A B : Type 0} (f : B → Done) (g : A → B) (r : Result A) → done f (made g r) ≡ done (λ a. f (g a)) r
-unfolding made then
-done-made f g (ok a m) = refl
-done-made f g (bad p n) = refl
+done-made f g r = ap stmt-read (answer-made f g r)
 
 -- what was read, from what was answered
 pub done-is : {A : Type 0} (f : A → Done) (r : Result A) (m : ℕ) (d : Done) → done f r ≡ Value m d → (a : A) × (r ≡ ok a m) × (f a ≡ d)
-done-is f (ok a n) m d e = let h : n ≡ m = cc in (a, rw h refl, cc)
-done-is f (bad p n) m d e = let z : _≡_ {A = ℕ} 0 1 = cc in absurd (omega arith)
+done-is f r m d e = answer-is f r m d (stmt-value (answer f r) m d e)
 
 pub done-stops : {A : Type 0} (f : A → Done) (r : Result A) (n : ℕ) → done f r ≡ Refused n → (p : ℕ) × (r ≡ bad p n)
-done-stops f (ok a m) n e = let z : _≡_ {A = ℕ} 0 1 = cc in absurd (omega arith)
-done-stops f (bad p k) n e = (p, cc)
+done-stops f r n e = answer-stops f r n (stmt-refused (answer f r) n e)
 
 -- a byte that opens no statement
 pub no-kind : (b : ℕ) → (b ≡ 1 → ⊥) → (b ≡ 2 → ⊥) → (b ≡ 3 → ⊥) → (b ≡ 4 → ⊥) → kind b ≡ kind-none
@@ -77,11 +85,11 @@ module _ (ar types s : List ℕ) (own : ℕ) (c : Scope) where
         go (bad p k) = refl
 
     -- its type
-    pub declare-stop : (n : ℕ) → byte-told (tested s (type-byte (length ar)) at) ≡ NoByte n → done (declare-facts ar types own c) (read-declare ar s at) ≡ Refused n
+    pub declare-stop : (n : ℕ) → byte-told (tested s (is-type (length ar)) at) ≡ NoByte n → done (declare-facts ar types own c) (read-declare ar s at) ≡ Refused n
     unfolding read-declare pair then
     declare-stop n e = rw (type-stops s (length ar) at n e .1)
 
-    pub declare-is : (b m : ℕ) → byte-told (tested s (type-byte (length ar)) at) ≡ Byte b m
+    pub declare-is : (b m : ℕ) → byte-told (tested s (is-type (length ar)) at) ≡ Byte b m
         → done (declare-facts ar types own c) (read-declare ar s at) ≡ done (local-facts ar types own c b) (read-named ar s m)
     unfolding read-declare read-named pair then
     declare-is b m e =
@@ -164,29 +172,6 @@ module _ (ar types s : List ℕ) (own : ℕ) (c : Scope) where
     pub body-is : (n m : ℕ) → byte-told (ranged s 0 33 at) ≡ Byte n m → done B (read-body ar s r at) ≡ done B (many end next r n m)
     unfolding read-body counted then
     body-is n m e = rw (byte-is (ranged s 0 33 at) n m e)
-
-    -- statements in a row: none, one that is not read, one and the others in its scope
-    pub row-none : (n : ℕ) → n ≡ 0 → done B (many end next r n at) ≡ Value at (nothing c)
-    unfolding many body-facts
-    row-none n e = rw e
-
-    pub row-stop : (n : ℕ) → (n ≡ 0 → ⊥) → (i : ℕ) → done S (r at) ≡ Refused i → done B (many end next r n at) ≡ Refused i
-    unfolding many then
-    row-stop zero z i e = absurd (z refl)
-    row-stop (suc n) z i e = rw (done-stops S (r at) i e .1)
-
-    pub row-more : (n : ℕ) → (n ≡ 0 → ⊥) → (m : ℕ) (d : Done) → done S (r at) ≡ Value m d
-        → done B (many end next r n at) ≡ after (followed d) (done (λ b. body-facts ar types own b (d .after)) (many end next r (n - 1) m))
-    unfolding many then body-facts
-    row-more zero z m d e = absurd (z refl)
-    row-more (suc n) z m d e =
-        let q = done-is S (r at) m d e in
-        rw (q .1, sub-one) (go (q .0) (q .2) (many end next r n m))
-      where
-        go : (t : Stmt) → S t ≡ d → (q : Result Stmts)
-            → done B (then q λ b k. ok (next t b) k) ≡ after (followed d) (done (λ b. body-facts ar types own b (d .after)) q)
-        go t h (ok b k) = rw h
-        go t h (bad u k) = refl
 
   -- a statement with at most d levels of if: past the end, with no if, with an if at the level below, with an if
   module _ (d at : ℕ) where

@@ -12,10 +12,9 @@ use types::number;
 ghost use mathlib.Core.Path.{_≡_};
 ghost use Prim.Native.Nat.{_<_, _≤_};
 ghost use lib.ListN.{length};
-ghost use Rattle.program.specs.Tree.{Stmts.end, Stmts.next};
-ghost use Rattle.program.specs.Reader.{many, read-when, read-body, read-stmt};
+ghost use Rattle.program.specs.Reader.{read-when, read-body, read-stmt};
 ghost use Rattle.judge.specs.Facts.{stmt-facts, body-facts};
-ghost use Rattle.read_stmts.specs.Done.{done, when-facts, DoneAhead, DoneWithin, DoneBody, DoneBehind};
+ghost use Rattle.read_stmts.specs.Done.{done, when-facts, DoneAhead, DoneBody, DoneBehind};
 
 // A statement with at most depth levels of if.
 pub fn stmt(
@@ -85,36 +84,17 @@ pub fn body(
     let ByteRead::Byte(n, m) = r else {
         return StmtRead::Refused(read::byte_refusal(r));
     };
-    stmts(s, ar, types, own, c, n, m, depth)
-}
-
-// That many statements.
-pub fn stmts(
-    s: &[u8],
-    ar: &[u8],
-    types: &[u8],
-    own: u8,
-    c: Scope,
-    n: u8,
-    at: usize,
-    depth: usize,
-) -> StmtRead
-    requires { ⌜ (length (now ar) ≤ 16) × (own < 16) ⌝ }
-    requires { ⌜ at ≤ length (now s) ⌝ }
-    ensures { λ r. ⌜ r ≡ done (λ b. body-facts (now (ar .entry)) (now (types .entry)) own b c) (many end next (read-stmt (now (ar .entry)) (now (s .entry)) depth) n at) ⌝ }
-    ensures { λ r. ⌜ DoneWithin (now (s .entry)) at r ⌝ }
-{
     let mut done = statement::nothing(c);
-    let mut next = at;
+    let mut next = m;
     let mut left = n;
     while 0 < left {
         let scope = done.after;
-        let r = stmt(s, ar, types, own, scope, next, depth);
-        let StmtRead::Value(m, a) = r else {
-            return r;
+        let q = stmt(s, ar, types, own, scope, next, depth);
+        let StmtRead::Value(behind, a) = q else {
+            return q;
         };
         done = statement::followed(done, a);
-        next = m;
+        next = behind;
         left = left - 1;
     }
     StmtRead::Value(next, done)

@@ -11,7 +11,7 @@ use lib.ListN.{length}
 use Rattle.program.specs.Tree.{Program}
 use Rattle.machine.specs.Published.{Sched, Sched.done, Sched.start, Sched.fixpoint, Sched.active}
 use Rattle.machine.specs.Machine.{Machine, Out, Out.next, Out.refused, Out.stuck, command, move-by, move}
-use Rattle.machine.specs.Measure.{bound, passages, measure, Moved, Moved.unmoved, Moved.moved as moved-on}
+use Rattle.machine.specs.Measure.{bound, passages, measure}
 use Rattle.machine.specs.MeasureLaws.{move-falls}
 use Rattle.run.specs.Turns.{chosen}
 use Rattle.run.specs.Holders.{holders, due}
@@ -113,24 +113,6 @@ module _ (p : Program) where
   -- what the moves lead to, a run has
   pub settled : {m : Machine} {x : Settled} → Settles p m x → settle p (fuel m) m ≡ x
   settled {m} s = settles-settle p (bound (m .sched)) (fuel m) s (fuel-suffices m)
-
-  -- more fuel changes nothing
-  pub fuel-enough : (m : Machine) (f : ℕ) → fuel m ≤ f → settle p f m ≡ settle p (fuel m) m
-  fuel-enough m f h =
-      let (a, b) = fuel-suffices m in settles-settle p (bound (m .sched)) f (fuel-settles m) (a, omega arith)
-
-  jams-stuck : {m : Machine} {x : Settled} → Settles p m x → x ≡ stop jammed
-      → (n : ℕ) × (m′ : Machine) × (Moved p n m m′) × (due m′ ≡ true) × (m′ .sched ≡ done → ⊥) × (move p m′ ≡ stuck)
-  jams-stuck (holds g) e = let z : _≡_ {A = ℕ} 0 1 = cc in absurd (omega arith)
-  jams-stuck (ends g d) e = let z : _≡_ {A = ℕ} 0 1 = cc in absurd (omega arith)
-  jams-stuck (refuses g r) e = let z : _≡_ {A = ℕ} 0 1 = cc in absurd (omega arith)
-  jams-stuck {m} (sticks g n q) e = (0, m, unmoved, g, n, q)
-  jams-stuck (moves g q s) e = let (n, m′, a, b, c, d) = jams-stuck s e in (suc n, m′, moved-on q a, b, c, d)
-
-  -- fuel is not the reason of `jammed`: after some moves one is due, the schedule is not empty, and no rule moves it
-  pub settle-jammed : (m : Machine) → settle p (fuel m) m ≡ stop jammed
-      → (n : ℕ) × (m′ : Machine) × (Moved p n m m′) × (due m′ ≡ true) × (m′ .sched ≡ done → ⊥) × (move p m′ ≡ stuck)
-  settle-jammed m e = jams-stuck (fuel-settles m) e
 
   -- The whole run --------------------------------------------------------------------
 

@@ -17,8 +17,7 @@ use Rattle.blocks.specs.declared.Fault.the-variants.{Length, Sum, Layout}
 use Rattle.blocks.specs.declared.Found.{Found}
 use Rattle.blocks.specs.declared.Found.the-variants.{Right, Wrong}
 use Rattle.program.specs.Tree.{Program}
-use Rattle.commands.specs.Decide.{Reflects, Reflects.holds, Reflects.fails}
-use Rattle.commands.specs.DecideLaws.{lt-reflects}
+use Rattle.types.specs.Reflects.{Reflects, Reflects.holds, Reflects.fails, lt-reflects}
 use Rattle.commands.specs.Numbers.{Order, NoneOf, Foremost}
 use Rattle.commands.specs.NumbersLaws.{foremost-some}
 use Rattle.table.specs.Table.{Record}

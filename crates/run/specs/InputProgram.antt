@@ -23,11 +23,10 @@ use Rattle.program.specs.Exact.{Refused, Refused.not-allowed, Refused.ends-earl
 use Rattle.program.specs.Reader.{Result, Result.ok, Result.bad, read}
 use Rattle.program.specs.ProgramLaws.{program-law, enc-injective, program-refused}
 use Rattle.program.specs.FrontLaws.{ends-exactly, offends-exactly, ends-or-offends}
+use Rattle.types.specs.Reflects.{Reflects, Reflects.holds, Reflects.fails, lt-reflects}
 use Rattle.commands.specs.Bounds.{Within}
 use Rattle.commands.specs.Names.{NamesRight}
 use Rattle.commands.specs.Typing.{TypesRight}
-use Rattle.commands.specs.Decide.{Reflects, Reflects.holds, Reflects.fails}
-use Rattle.commands.specs.DecideLaws.{lt-reflects}
 use Rattle.commands.specs.BoundsDecideLaws.{within-reflects}
 use Rattle.commands.specs.NamesDecideLaws.{names-reflects}
 use Rattle.commands.specs.TypingDecideLaws.{types-reflects}

@@ -2,7 +2,7 @@
 -- a row is a fact by computation.
 use Prim.Native.Nat.{ℕ}
 use mathlib.Core.List.{List}
-use Rattle.types.specs.TypeBytes.{word-end}
+use Rattle.types.specs.TypeBytes.{word-end, struct-of}
 use Rattle.types.specs.Types.{same-type, code}
 use Rattle.types.specs.Values.{default, in-int, int-word, word-int, word, value-of}
 use Rattle.program.specs.Encoding.{enc-word, flat, op-code, var-code}
@@ -11,7 +11,7 @@ use Rattle.program.specs.Rows.{reading}
 use Rattle.commands.specs.Commands.{then, reads, front, last, expr-coms, args-coms, update-coms, stmt-coms, body-coms, flatten, commands}
 use Rattle.commands.specs.Coding.{coded, com-word, command-word, words}
 use Rattle.commands.specs.Context.{stmt-local, body-local, find-step}
-use Rattle.commands.specs.Names.{declares, declared, step-names}
+use Rattle.commands.specs.Names.{declares, declared, names-of-steps}
 use Rattle.commands.specs.Depth.{depth}
 use Rattle.commands.specs.Bounds.{item-count, items-count, total, greatest, program-size, program-depth}
 use Rattle.commands.specs.Decide.{every, member, distinct}
@@ -19,7 +19,7 @@ use Rattle.commands.specs.NamesDecide.{start-named, expr-named, args-named, stm
 use Rattle.commands.specs.TypingDecide.{is-of, agree, given as given-type, result, operate as operate-types, lead, path-type, expr-type, args-typed, stmt-typed, body-typed, steps-typed, types-right}
 use Rattle.commands.specs.BoundsDecide.{within}
 use Rattle.commands.specs.Numbers.{first, breach-tests, program-number}
-use Rattle.commands.specs.Noted.{struct-of, walk, store, read-path, write-path, note-expr, note-exprs, note-stmt, note-body, noted, now-written}
+use Rattle.commands.specs.Noted.{walk, store, read-path, write-path, note-expr, note-exprs, note-stmt, note-body, noted, now-written}
 use Rattle.operators.specs.Operators.{quotient, remainder}
 use Rattle.operators.specs.Apply.{same-int, same-bool, same-val, int-answer, nat-answer, by-nonzero, compute, answer, on-truths, on-labels, apply}
 use Rattle.table.specs.Table.{struct-at, enc-value, enc-record, enc-table}
@@ -27,7 +27,7 @@ use Rattle.table.specs.TableReader.{read-value, read-values, read-record, read-
 use Rattle.machine.specs.Published.{called, before, of-item, of-items, lookup, assign}
 use Rattle.machine.specs.Rules.{meet}
 use Rattle.machine.specs.Measure.{weight, bound}
-use Rattle.machine.specs.Machine.{update-env, settled, read-from, read-at, read as read-variable, write-to, write-parameter, write-at, write, negate, branch, operated, operate, construct, perform, command-of, command-at, command, given, started, repeat, move-by}
+use Rattle.machine.specs.Machine.{update-env, leaves-stable, read-from, read-at, read as read-variable, write-to, write-parameter, write-at, write, negate, branch, operated, operate, construct, perform, command-of, command-at, command, given, started, repeat, move-by}
 use Rattle.run.specs.Turns.{labels-from, chosen}
 use Rattle.run.specs.Holders.{holds-code, holders}
 use Rattle.run.specs.Run.{later, is-done, moved, settle-by, settle, fuel, taken, turn, at-last, run}
@@ -37,10 +37,10 @@ use Rattle.run.specs.EntryStreams.{Summary, of-outcome, summed, table-re
 
 -- what a program stream comes to
 unfoldable pub checking : List ℕ → Checked
-unfolding reading same-type then reads front last expr-coms args-coms update-coms stmt-coms body-coms flatten commands stmt-local body-local declares declared step-names depth item-count items-count total greatest program-size program-depth every member distinct start-named expr-named args-named stmt-named body-named steps-named stepped item-stepped items-stepped names-right is-of agree given-type result operate-types lead path-type expr-type args-typed stmt-typed body-typed steps-typed types-right within first breach-tests program-number judge of-read
+unfolding reading same-type then reads front last expr-coms args-coms update-coms stmt-coms body-coms flatten commands stmt-local body-local declares declared names-of-steps depth item-count items-count total greatest program-size program-depth every member distinct start-named expr-named args-named stmt-named body-named steps-named stepped item-stepped items-stepped names-right is-of agree given-type result operate-types lead path-type expr-type args-typed stmt-typed body-typed steps-typed types-right within first breach-tests program-number judge of-read
 checking s = of-read (read s)
 
 -- what a run of program stream, table stream and turn bytes comes to, where output and list have room
 unfoldable pub running : List ℕ → List ℕ → List ℕ → Summary
-unfolding checking word-end var-code coded com-word command-word words of-steps of-structs program-words code default in-int int-word word-int word value-of enc-word flat op-code struct-of walk store read-path write-path note-expr note-exprs note-stmt note-body noted quotient remainder same-int same-bool same-val int-answer nat-answer by-nonzero compute answer on-truths on-labels apply struct-at enc-value enc-record enc-table read-value read-values read-record read-count read-table is-struct refers refers-each references table-number table-answer table-of-stream before of-item of-items lookup assign find-step meet weight bound update-env settled read-from read-at read-variable write-to write-parameter write-at write negate branch operated operate construct perform now-written command-of command-at command called given started repeat move-by labels-from chosen holds-code holders later is-done moved settle-by settle fuel taken turn at-last run nulls first-instances begin record-of table-of of-table with-room of-outcome summed table-read begins-streams
+unfolding checking word-end var-code coded com-word command-word words of-steps of-structs program-words code default in-int int-word word-int word value-of enc-word flat op-code struct-of walk store read-path write-path note-expr note-exprs note-stmt note-body noted quotient remainder same-int same-bool same-val int-answer nat-answer by-nonzero compute answer on-truths on-labels apply struct-at enc-value enc-record enc-table read-value read-values read-record read-count read-table is-struct refers refers-each references table-number table-answer table-of-stream before of-item of-items lookup assign find-step meet weight bound update-env leaves-stable read-from read-at read-variable write-to write-parameter write-at write negate branch operated operate construct perform now-written command-of command-at command called given started repeat move-by labels-from chosen holds-code holders later is-done moved settle-by settle fuel taken turn at-last run nulls first-instances begin record-of table-of of-table with-room of-outcome summed table-read begins-streams
 running s t es = summed (begins-streams s t es) es

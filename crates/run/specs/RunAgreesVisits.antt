@@ -29,10 +29,6 @@ module _ (p : Program) where
       → (z : Machine) × (fs : List ℕ) × (v : Visits p m es z fs) × (turns-of p v ≡ t) × (Represents z st′)
   passes-visits m {t = t} R (fs, w) = let (z, v, S) = steps-complete p m R w in (z, fs, (t, v), refl, S)
 
-  -- a derivation passes through its last state, after the turns that it counts
-  pub runs-passes : {st st′ : State} {es : List ℕ} {n t : ℕ} → Runs p st es n t st′ → Passes p st es t st′
-  runs-passes (fs, v, h) = (fs, v)
-
   -- a command is taken for each byte at most
   pub passes-bounded : {st st′ : State} {es : List ℕ} {t : ℕ} → Passes p st es t st′ → t ≤ length es
   passes-bounded (fs, v) = omega (arith, steps-turns v)

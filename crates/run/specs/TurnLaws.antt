@@ -156,11 +156,6 @@ holders-represent m σ R = ap (labels-from 0) (flags (m .instances) σ (R .1))
 
 -- The chosen one -------------------------------------------------------------------
 
-below : {A : Type 0} (xs : List A) (k : ℕ) {x : A} → getElem? xs k ≡ some x → k < length xs
-below [] k g = let z : _≡_ {A = ℕ} 0 1 = cc in absurd (omega arith)
-below (y ∷ xs) zero g = omega arith
-below (y ∷ xs) (suc k) g = omega (arith, below xs k g)
-
 -- a byte below the number of holders picks the one at its place, from 0, in label order
 pub chosen-place : (hs : List ℕ) (e : ℕ) → e < length hs → chosen hs e ≡ getD hs e 0
 unfolding chosen
@@ -183,10 +178,6 @@ chosen-holds m e g =
     let (i, u, v) = at-map f (m .instances) k b in
     let w : chosen (holders m) e ≡ k = d ∙ a ∙ omega arith in
     (i, rw w u, λ n. let z = code-none (i .code) .1 n in let y : true ≡ false = cc in let x : _≡_ {A = ℕ} 0 1 = cc in omega arith)
-
--- its label is below the number of instances
-pub chosen-below : (m : Machine) (e : ℕ) → due m ≡ false → chosen (holders m) e < length (m .instances)
-chosen-below m e g = let (i, a, b) = chosen-holds m e g in below (m .instances) _ a
 
 -- each instance that holds commands is picked by some byte, of those below the number of holders
 pub holder-chosen : (m : Machine) (l : ℕ) {i : Instance} → getElem? (m .instances) l ≡ some i → (i .code ≡ [] → ⊥)

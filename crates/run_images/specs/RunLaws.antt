@@ -24,7 +24,8 @@ use Rattle.sound.specs.Accepted.{Accepted}
 use Rattle.sound.specs.AcceptedLaws.{number-accepts, accepted-firm}
 use Rattle.sound.specs.BeginGood.{begin-good}
 use Rattle.sound.specs.TabledLaws.{begin-tabled}
-use Rattle.memory.specs.Layout.{State}
+use Rattle.layout.specs.declared.Numbers.{Numbers}
+use Rattle.layout.specs.State.{State, state-of, fresh}
 use Rattle.memory.specs.Plan.{At}
 use Rattle.memory.specs.BoundedLaws.{accepted-bounded}
 use Rattle.checker.specs.CheckLaws.{same-words}
@@ -75,9 +76,9 @@ module _ {s counts : List ℕ} {at depth n : ℕ} {heads cells : List ℕ} {p : 
         ∙ from-start list (emitted-words p) (omega (arith, program-length p, seated-accepted .1 .1))
         ∙ rw (same-words p)
 
-    -- memory is ready
-    pub seated-ready : length spans′ ≡ span-places → Ready p counts list′ codes′ spans′ (begin p rs) (beginning n 0 heads cells)
-    seated-ready e = record {
+    -- memory is ready for a machine with fresh numbers
+    pub seated-ready : {m : Numbers} → m ≡ fresh n → length spans′ ≡ span-places → Ready p counts list′ codes′ spans′ (begin p rs) (state-of m heads cells)
+    seated-ready f e = record {
       prepared = record {
         firm = accepted-firm seated-accepted;
         bounded = rw (w .admitted .counted) (accepted-bounded seated-accepted);
@@ -86,7 +87,7 @@ module _ {s counts : List ℕ} {at depth n : ℕ} {heads cells : List ℕ} {p : 
       };
       good = begin-good p (admitted-counts (w .admitted)) rs (w .right);
       tabled = begin-tabled p rs (w .right);
-      stands = w .stands list′ codes′ 0 (prepared .laid .start);
+      stands = rw f (w .stands list′ codes′ 0 (prepared .laid .start));
     }
 
     -- and behind i turns it stands for a machine that this run passes through, with the bytes that are left
@@ -94,7 +95,7 @@ module _ {s counts : List ℕ} {at depth n : ℕ} {heads cells : List ℕ} {p : 
         → Gone counts list′ codes′ spans′ es z₁ b₁ i z b
         → (m : Machine) × (Visits p (begin p rs) es m (drop i es)) × (Ready p counts list′ codes′ spans′ m (cleared z))
     seated-visits e settled g =
-        let r = seated-ready e in
+        let r = seated-ready refl e in
         gone-visits (record { program = p; machine = begin p rs; ready = r }) settled g p (begin p rs) r
 
   -- The answer ---------------------------------------------------------------------------
@@ -123,17 +124,17 @@ module _ {s counts : List ℕ} {at depth n : ℕ} {heads cells : List ℕ} {p : 
     same = w .admitted .counted
 
     -- memory may be written as a table
-    pub ended-filled : Filled counts (z .heads) (z .cells) (z .count)
+    pub ended-filled : Filled counts (z .heads) (z .cells) (z .machine .count)
     ended-filled =
         rw same
         (filled p (admitted-counts (w .admitted)) list′ (At items) (e .last) (cleared z) (e .ready .stands) (e .ready .good .all) (e .ready .tabled))
 
-    pub ended-nulls : length counts ≤ z .count
+    pub ended-nulls : length counts ≤ z .machine .count
     ended-nulls =
         rw same
         (null-ones p (admitted-counts (w .admitted)) list′ (At items) (e .last) (cleared z) (e .ready .stands) (e .ready .good .all) (e .ready .tabled))
 
-    last-is : memory-stream counts (z .heads) (z .cells) (z .count) ≡ last-stream p (e .last)
+    last-is : memory-stream counts (z .heads) (z .cells) (z .machine .count) ≡ last-stream p (e .last)
     last-is =
         rw same
         (stream-stands p (admitted-counts (w .admitted)) list′ (At items) (e .last) (cleared z) (e .ready .stands) (e .ready .good .all) (e .ready .tabled))
@@ -142,13 +143,13 @@ module _ {s counts : List ℕ} {at depth n : ℕ} {heads cells : List ℕ} {p : 
     pub ended-turns : taken ≤ length es
     ended-turns = run-turns p (begin p rs) es (e .returns)
 
-    pub ended-blocks : memory-blocks counts (z .heads) (z .cells) (z .count) ≤ table-blocks
-    ended-blocks = omega (arith, stream-fits counts (z .heads) (z .cells) (z .count) ended-filled .1)
+    pub ended-blocks : memory-blocks counts (z .heads) (z .cells) (z .machine .count) ≤ table-blocks
+    ended-blocks = omega (arith, stream-fits counts (z .heads) (z .cells) (z .machine .count) ended-filled .1)
 
     pub ended-answers : {out list : List ℕ} → block-size * table-blocks ≤ length out → max-commands ≤ length list → length es ≤ max-turns
         → (r : Report) (out′ : List ℕ)
-        → r ≡ answer (report number taken (memory-blocks counts (z .heads) (z .cells) (z .count)) depth)
-        → out′ ≡ memory-image counts (z .heads) (z .cells) (z .count) out
+        → r ≡ answer (report number taken (memory-blocks counts (z .heads) (z .cells) (z .machine .count)) depth)
+        → out′ ≡ memory-image counts (z .heads) (z .cells) (z .machine .count) out
         → list′ ≡ listed p list → Answers (begun p rs) es out list r out′ list′
     ended-answers long places few r out′ a b c =
         seated-answers long places few (e .returns) r out′ list′ (rw last-is at a) (rw last-is at b) c

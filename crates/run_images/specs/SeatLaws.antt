@@ -15,7 +15,7 @@ use Rattle.table.specs.TableReader.{TableAnswer, TableAnswer.table, TableAnswer
 use Rattle.commands.specs.Bounds.{arities}
 use Rattle.machine.specs.Published.{structs}
 use Rattle.run.specs.Entry.{Begun, Begun.begun, Begun.not-begun, of-read, of-table, of-checked}
-use Rattle.memory.specs.Layout.{head-size, row-size}
+use Rattle.layout.specs.Layout.{head-size, row-size}
 use Rattle.memory.specs.Plan.{At}
 use Rattle.table_read.specs.declared.TableRead.the-variants.{Instances, Refused}
 use Rattle.table_read.specs.Params.{lists-of, Tables}

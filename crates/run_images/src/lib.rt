@@ -24,11 +24,6 @@ const MANY_TURNS: u8 = 14;
 // Output bytes that a run asks for.
 const OUTPUT: usize = types::TABLE_BLOCKS * blocks::BLOCK_SIZE;
 
-// Memory for the instances: four numbers and thirty-two cells each (`memory/specs/Layout.antt`).
-const HEADS: usize = 4 * types::MAX_INSTANCES;
-
-const CELLS: usize = 32 * types::MAX_INSTANCES;
-
 // What a run answers: the number, the commands taken, the blocks written and the program's depth.
 pub struct Report {
     pub number: u8,
@@ -81,15 +76,11 @@ fn begun(
     let mut items = [0usize; CODES];
     compile::program(s, counts, at, list, &mut spans, &mut items);
     let first = Machine {
-        count: n,
-        place: 0,
-        fixes: 0,
-        stable: 0,
-        number: 0,
+        numbers: layout::fresh(n),
     };
     let ran = interpreter::turns::run(first, list, counts, &items, &spans, heads, cells, turns);
     let last = ran.machine;
-    let count = last.count;
+    let count = last.numbers.count;
     let blocks = table_read::write(counts, heads, cells, count, output);
     Report {
         number: ran.number,
@@ -142,8 +133,8 @@ fn of_table(
     requires { ⌜ Admission (now s) (now counts) (now types) at depth ⌝ }
     ensures { λ r. ⌜ Answers (of-checked (of-read (read (now (s .entry)))) (now (table .entry))) (now (turns .entry)) (now (output .entry)) (now (list .entry)) r (now (output .exit)) (now (list .exit)) ⌝ }
 {
-    let mut heads = [0usize; HEADS];
-    let mut cells = [0u64; CELLS];
+    let mut heads = [0usize; layout::HEADS];
+    let mut cells = [0u64; layout::CELLS];
     let r = table_read::read_image(table, counts, types, &mut heads, &mut cells);
     let TableRead::Instances(n) = r else {
         return refused(table_refusal(r));

@@ -9,9 +9,9 @@ use lib.ListN.{getD}
 use lib.Dec.{eqb}
 use borrow.Author.Tests.{eq-eqb, ne-eqb, eqb-true, eqb-false, le-leb, lt-leb}
 use Rattle.types.specs.Limits.{step-names}
-use Rattle.memory.specs.Layout.{head, struct-of}
+use Rattle.layout.specs.Layout.{head, struct-of, begun}
 use Rattle.memory.specs.Plan.{span-of, from, to}
-use Rattle.memory.specs.Move.{means, begun, begin-one, begin-all}
+use Rattle.memory.specs.Move.{means, begin-one, begin-all}
 use Rattle.memory.specs.BeginLaws.{begins, begun-struct, one-begins, one-stays, one-length, one-others}
 use Rattle.scheduler.specs.Ready.{Row, Rows}
 

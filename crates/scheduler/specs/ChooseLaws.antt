@@ -7,7 +7,8 @@ use mathlib.Core.List.{List}
 use native.Mathlib.Nat.{mod-lt}
 use native.Mathlib.Omega.{arith}
 use lib.Dec.{eqb·suc-zero}
-use Rattle.memory.specs.Choose.{holds, holding, holder, picked}
+use Rattle.layout.specs.Layout.{holds}
+use Rattle.memory.specs.Choose.{holding, holder, picked}
 
 module _ (heads : List ℕ) where
   -- the label x is one of the n from l on, and holds commands

@@ -6,7 +6,8 @@ use mathlib.Core.List.{List}
 use native.Mathlib.Omega.{arith}
 use native.Mathlib.Numerals.{add-one}
 use borrow.Author.Tests.{eq-eqb, ne-eqb}
-use Rattle.memory.specs.Choose.{holds, holding, holder}
+use Rattle.layout.specs.Layout.{holds}
+use Rattle.memory.specs.Choose.{holding, holder}
 
 module _ (heads : List ℕ) (n l : ℕ) where
   -- nobody is left

@@ -2,6 +2,6 @@ pub mod Ready
 pub mod BeginWays
 pub mod ChooseLaws
 pub mod ChooseWays
-pub mod Numbers
+pub mod Makes
 pub mod MoveWays
 pub mod ReadyLaws

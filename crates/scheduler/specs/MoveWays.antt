@@ -8,12 +8,12 @@ use lib.ListN.{getD}
 use lib.Pow.{pow-mono}
 use borrow.Author.Tests.{lt-ltb, le-ltb, eq-eqb, ne-eqb}
 use Rattle.types.specs.Limits.{max-stability}
+use Rattle.layout.specs.declared.Numbers.{Numbers}
+use Rattle.layout.specs.State.{state-of, set-place, set-number, placed}
 use Rattle.memory.specs.Plan.{fix-code, round-code}
-use Rattle.memory.specs.Move.{begin-all, do-start, do-fix, do-round, move-by, move}
+use Rattle.memory.specs.Move.{nested, begin-all, do-start, do-fix, do-round, move-by, move}
 use Rattle.memory.specs.MoveLaws.{move-start}
-use Rattle.scheduler.specs.declared.Moved.{Moved}
-use Rattle.scheduler.specs.declared.Moved.the-variants.{To, Nested}
-use Rattle.scheduler.specs.Numbers.{state, Makes, Moves}
+use Rattle.scheduler.specs.Makes.{Makes, Moves}
 
 -- Entries of the open Fixes ---------------------------------------------------------
 
@@ -28,38 +28,39 @@ entry-open (suc f) s h e = omega arith
 
 -- A Fix -----------------------------------------------------------------------------
 
-module _ (a f s : ℕ) where
-  pub fix-opens : f < max-stability → Makes do-fix a f s (To (a + 1) (f + 1) (2 * s + 1))
+module _ (n : Numbers) where
+  pub fix-opens : n .fixes < max-stability → Makes do-fix n (placed n (n .place + 1) (n .fixes + 1) (2 * n .stable + 1))
   unfolding do-fix
-  fix-opens h c n l x = rw (add-one a, add-one f, add-one (2 * s), lt-ltb f max-stability h, do-fix)
+  fix-opens h l x =
+      rw (add-one (n .place), add-one (n .fixes), add-one (2 * n .stable), lt-ltb (n .fixes) max-stability h, do-fix)
 
-  pub fix-nested : max-stability ≤ f → Makes do-fix a f s Nested
+  pub fix-nested : max-stability ≤ n .fixes → Makes do-fix n (set-number n nested)
   unfolding do-fix
-  fix-nested h c n l x = rw (le-ltb f max-stability h, do-fix)
+  fix-nested h l x = rw (le-ltb (n .fixes) max-stability h, do-fix)
 
-  pub round-out : (t : ℕ) → s % 2 ≡ 1 → Makes (do-round t) a f s (To (a + 1) (f - 1) (s / 2))
+  pub round-out : (t : ℕ) → n .stable % 2 ≡ 1 → Makes (do-round t) n (placed n (n .place + 1) (n .fixes - 1) (n .stable / 2))
   unfolding do-round
-  round-out t e c n l x = rw (add-one a, eq-eqb (s % 2) 1 e, do-round)
+  round-out t e l x = rw (add-one (n .place), eq-eqb (n .stable % 2) 1 e, do-round)
 
-  pub round-back : (t : ℕ) → (s % 2 ≡ 1 → ⊥) → Makes (do-round t) a f s (To t f (s + 1))
+  pub round-back : (t : ℕ) → (n .stable % 2 ≡ 1 → ⊥) → Makes (do-round t) n (placed n t (n .fixes) (n .stable + 1))
   unfolding do-round
-  round-back t e c n l x = rw (add-one s, ne-eqb (s % 2) 1 e, do-round)
+  round-back t e l x = rw (add-one (n .stable), ne-eqb (n .stable % 2) 1 e, do-round)
 
 -- An item ---------------------------------------------------------------------------
 
-module _ (items spans heads : List ℕ) (count a f s : ℕ) where
+module _ (items spans heads : List ℕ) (n : Numbers) where
   abbrev item : ℕ
-  item = getD items a 0
+  item = getD items (n .place) 0
 
-  pub item-starts : item < fix-code → Moves items spans heads count a f s (To (a + 1) f s) (begin-all spans item heads 0 count)
+  pub item-starts : item < fix-code → Moves items spans heads n (set-place n (n .place + 1)) (begin-all spans item heads 0 (n .count))
   unfolding do-start
-  item-starts h n x = rw (add-one a) (sym (move-start items spans (state count a f s n heads x) refl h))
+  item-starts h x = rw (add-one (n .place)) (sym (move-start items spans (state-of n heads x) refl h))
 
-  pub item-fixes : (r : Moved) → item ≡ fix-code → Makes do-fix a f s r → Moves items spans heads count a f s r heads
+  pub item-fixes : (r : Numbers) → item ≡ fix-code → Makes do-fix n r → Moves items spans heads n r heads
   unfolding move move-by
-  item-fixes r e m n x =
-      m count n heads x ∙ sym (ap (λ c. move-by spans c (state count a f s n heads x)) e)
+  item-fixes r e m x = m heads x ∙ sym (ap (λ c. move-by spans c (state-of n heads x)) e)
 
-  pub item-rounds : (r : Moved) → fix-code ≤ item → (item ≡ fix-code → ⊥) → Makes (do-round (item - round-code 0)) a f s r → Moves items spans heads count a f s r heads
+  pub item-rounds : (r : Numbers) → fix-code ≤ item → (item ≡ fix-code → ⊥) → Makes (do-round (item - round-code 0)) n r
+      → Moves items spans heads n r heads
   unfolding move move-by
-  item-rounds r h e m n x = m count n heads x ∙ (rw (le-ltb item fix-code h, move-by, ne-eqb item fix-code e))
+  item-rounds r h e m x = m heads x ∙ (rw (le-ltb item fix-code h, move-by, ne-eqb item fix-code e))

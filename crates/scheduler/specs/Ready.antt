@@ -3,7 +3,8 @@ use Prim.Native.Nat.{ℕ, _*_, _^_, _<_, _≤_}
 use mathlib.Core.List.{List}
 use lib.ListN.{length, getD}
 use Rattle.types.specs.Limits.{max-structs, step-names}
-use Rattle.memory.specs.Layout.{head, head-size, struct-of, end-of}
+use Rattle.layout.specs.Layout.{head, head-size, struct-of, end-of}
+use Rattle.layout.specs.declared.Numbers.{Numbers}
 use Rattle.memory.specs.Plan.{fix-code, round-code}
 
 -- two numbers for each struct and name
@@ -21,9 +22,9 @@ pub record Rows (heads : List ℕ) (n : ℕ) : Type 0 where
   pub known : (l : ℕ) → l < n → getD heads (head l struct-of) 0 < max-structs
 
 -- a machine by its numbers, with an entry for each open Fix, stands at an item that is not the end
-pub record Movable (items spans heads : List ℕ) (count place fixes stable : ℕ) : Type 0 where
+pub record Movable (items spans heads : List ℕ) (n : Numbers) : Type 0 where
   pub spanned : spans-size ≤ length spans
-  pub rows : Rows heads count
-  pub within : place < length items
-  pub item : fix-code < getD items place 0 → round-code 0 ≤ getD items place 0
-  pub entries : stable < 2 ^ fixes
+  pub rows : Rows heads (n .count)
+  pub within : n .place < length items
+  pub item : fix-code < getD items (n .place) 0 → round-code 0 ≤ getD items (n .place) 0
+  pub entries : n .stable < 2 ^ n .fixes

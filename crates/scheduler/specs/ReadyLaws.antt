@@ -9,7 +9,7 @@ use lib.ListN.{length, getD, getElem?}
 use Rattle.types.specs.Limits.{max-structs}
 use Rattle.machine.specs.Published.{Sched, Sched.done}
 use Rattle.machine.specs.Machine.{Instance, Machine}
-use Rattle.memory.specs.Layout.{State}
+use Rattle.layout.specs.State.{State}
 use Rattle.memory.specs.Plan.{fix-code, round-code, At, At.at-end, At.at-start, At.at-fix, At.at-round}
 use Rattle.memory.specs.PlanLaws.{code-below, at-within}
 use Rattle.memory.specs.Stands.{bits, Stands}
@@ -39,7 +39,7 @@ at-place (i ∷ is) (suc l) h = at-place is l (omega arith)
 
 module _ {list items : List ℕ} (m : Machine) {z : State} (S : Stands list (At items) m z)
     (known : (l : ℕ) (i : Instance) → getElem? (m .instances) l ≡ some i → i .struct < max-structs) where
-  pub stands-rows : Rows (z .heads) (z .count)
+  pub stands-rows : Rows (z .heads) (z .machine .count)
   stands-rows =
       let n = S .counted in
       let f = S .few in
@@ -50,7 +50,7 @@ module _ {list items : List ℕ} (m : Machine) {z : State} (S : Stands list (At 
       }
 
   pub stands-movable : (spans : List ℕ) → spans-size ≤ length spans → (m .sched ≡ done → ⊥)
-      → Movable items spans (z .heads) (z .count) (z .place) (z .fixes) (z .stable)
+      → Movable items spans (z .heads) (z .machine)
   stands-movable spans h n = record {
     spanned = h;
     rows = stands-rows;

@@ -1,27 +1,11 @@
 // A step begins on the instances whose struct has it (000's rules InitG and InitL; 01, 'Table and turns').
-use crate::END_OF;
-use crate::HEAD_SIZE;
-use crate::HEIGHT_OF;
-use crate::NEXT_OF;
-use crate::STRUCT_OF;
 ghost use mathlib.Core.Path.{_≡_};
 ghost use Prim.Native.Nat.{_<_, _≤_};
 ghost use lib.ListN.{length};
 ghost use Rattle.types.specs.Limits.{max-structs};
-ghost use Rattle.memory.specs.Layout.{head, end-of};
-ghost use Rattle.memory.specs.Move.{means, begun, begin-one, begin-all};
+ghost use Rattle.layout.specs.Layout.{head, end-of, begun};
+ghost use Rattle.memory.specs.Move.{means, begin-one, begin-all};
 ghost use Rattle.scheduler.specs.Ready.{spans-size, Row, Rows};
-
-// Instance l has an empty stack and the commands from a to e.
-fn begun(heads: &mut [usize], l: usize, a: usize, e: usize)
-    requires { ⌜ head l end-of < length (now heads) ⌝ }
-    ensures { λ _. ⌜ now (heads .exit) ≡ begun (now (heads .entry)) l a e ⌝ }
-{
-    let at = HEAD_SIZE * l;
-    heads[at + HEIGHT_OF] = 0;
-    heads[at + NEXT_OF] = a;
-    heads[at + END_OF] = e;
-}
 
 // Whether the code c of a started step means struct k: any, or the one it names.
 fn means(c: usize, k: usize) -> bool
@@ -41,7 +25,7 @@ pub fn begin_one(spans: &[usize], heads: &mut [usize], c: usize, l: usize)
     requires { ⌜ Row (now heads) l ⌝ }
     ensures { λ _. ⌜ now (heads .exit) ≡ begin-one (now (spans .entry)) c (now (heads .entry)) l ⌝ }
 {
-    let k = heads[HEAD_SIZE * l + STRUCT_OF];
+    let k = heads[layout::HEAD_SIZE * l + layout::STRUCT];
     if !means(c, k) {
         return;
     }
@@ -49,7 +33,7 @@ pub fn begin_one(spans: &[usize], heads: &mut [usize], c: usize, l: usize)
     let a = spans[at];
     let e = spans[at + 1];
     if a <= e {
-        begun(heads, l, a, e);
+        layout::begin(heads, l, a, e);
     }
 }
 

@@ -1,21 +1,10 @@
 // How many instances hold commands, and which of them a turn byte picks (01, 'Table and turns'): one pass to count, one to find.
-use crate::END_OF;
-use crate::HEAD_SIZE;
-use crate::NEXT_OF;
+use layout::holds;
 ghost use mathlib.Core.Path.{_≡_};
 ghost use Prim.Native.Nat.{_*_, _<_, _≤_};
 ghost use lib.ListN.{length};
-ghost use Rattle.memory.specs.Layout.{head, head-size, end-of};
-ghost use Rattle.memory.specs.Choose.{holds, holding, holder, picked};
-
-// Whether instance l holds commands.
-fn holds(heads: &[usize], l: usize) -> bool
-    requires { ⌜ head l end-of < length (now heads) ⌝ }
-    ensures { λ r. ⌜ r ≡ holds (now (heads .entry)) l ⌝ }
-{
-    let at = HEAD_SIZE * l;
-    heads[at + NEXT_OF] < heads[at + END_OF]
-}
+ghost use Rattle.layout.specs.Layout.{head, head-size, end-of, holds};
+ghost use Rattle.memory.specs.Choose.{holding, holder, picked};
 
 // How many of n instances hold commands.
 pub fn holding(heads: &[usize], n: usize) -> usize

@@ -1,75 +1,64 @@
 // One move of the schedule, where no instance holds commands (000's rules for the schedule; 01, 'Table and turns').
-use crate::Moved;
 use crate::begin::begin_all;
+use layout::Numbers;
+use layout::codes;
 ghost use mathlib.Core.Path.{_≡_};
 ghost use Prim.Native.Nat.{_<_, _^_};
 ghost use Rattle.memory.specs.Move.{do-fix, do-round};
-ghost use Rattle.scheduler.specs.Numbers.{Makes, Moves};
+ghost use Rattle.scheduler.specs.Makes.{Makes, Moves};
 ghost use Rattle.scheduler.specs.Ready.{Movable};
 
-// The codes of memory/specs/Plan.antt: those of starts lie below FIX, those of a Fix that goes round from ROUND on.
-const FIX: usize = 1024;
-
-const ROUND: usize = 2048;
+// 01's number of a Fix met with all stability entries taken.
+const NESTED: u8 = 36;
 
 // A Fix begins, or is one too many.
-fn fix(place: usize, fixes: usize, stable: usize) -> Moved
-    requires { ⌜ (place < 2 ^ 63) × (stable < 2 ^ fixes) ⌝ }
-    ensures { λ r. ⌜ Makes do-fix place fixes stable r ⌝ }
+fn fix(numbers: Numbers) -> Numbers
+    requires { ⌜ (numbers .place < 2 ^ 63) × (numbers .stable < 2 ^ (numbers .fixes)) ⌝ }
+    ensures { λ r. ⌜ Makes do-fix numbers r ⌝ }
 {
-    if fixes < types::MAX_STABILITY {
-        return Moved::To {
-            place: place + 1,
-            fixes: fixes + 1,
-            stable: 2 * stable + 1,
-        };
+    let mut next = numbers;
+    if numbers.fixes < types::MAX_STABILITY {
+        next.place = numbers.place + 1;
+        next.fixes = numbers.fixes + 1;
+        next.stable = 2 * numbers.stable + 1;
+        return next;
     }
-    Moved::Nested
+    next.number = NESTED;
+    next
 }
 
 // A Fix ends where its entry, the lowest bit, is true; else it goes round to its items at t.
-fn round(t: usize, place: usize, fixes: usize, stable: usize) -> Moved
-    requires { ⌜ (place < 2 ^ 63) × (stable < 2 ^ fixes) ⌝ }
-    ensures { λ r. ⌜ Makes (do-round t) place fixes stable r ⌝ }
+fn round(t: usize, numbers: Numbers) -> Numbers
+    requires { ⌜ (numbers .place < 2 ^ 63) × (numbers .stable < 2 ^ (numbers .fixes)) ⌝ }
+    ensures { λ r. ⌜ Makes (do-round t) numbers r ⌝ }
 {
-    if stable % 2 == 1 {
-        return Moved::To {
-            place: place + 1,
-            fixes: fixes - 1,
-            stable: stable / 2,
-        };
+    let mut next = numbers;
+    if numbers.stable % 2 == 1 {
+        next.place = numbers.place + 1;
+        next.fixes = numbers.fixes - 1;
+        next.stable = numbers.stable / 2;
+        return next;
     }
-    Moved::To {
-        place: t,
-        fixes,
-        stable: stable + 1,
-    }
+    next.place = t;
+    next.stable = numbers.stable + 1;
+    next
 }
 
-// The item at a place, by a machine of count instances with these numbers.
-pub fn advance(
-    items: &[usize],
-    spans: &[usize],
-    heads: &mut [usize],
-    count: usize,
-    place: usize,
-    fixes: usize,
-    stable: usize,
-) -> Moved
-    requires { ⌜ Movable (now items) (now spans) (now heads) count place fixes stable ⌝ }
-    ensures { λ r. ⌜ Moves (now (items .entry)) (now (spans .entry)) (now (heads .entry)) count place fixes stable r (now (heads .exit)) ⌝ }
+// The item at the place of a machine with these numbers.
+pub fn advance(numbers: Numbers, items: &[usize], spans: &[usize], heads: &mut [usize]) -> Numbers
+    requires { ⌜ Movable (now items) (now spans) (now heads) numbers ⌝ }
+    ensures { λ r. ⌜ Moves (now (items .entry)) (now (spans .entry)) (now (heads .entry)) numbers r (now (heads .exit)) ⌝ }
 {
+    let place = numbers.place;
     let c = items[place];
-    if c < FIX {
-        begin_all(spans, heads, c, count);
-        return Moved::To {
-            place: place + 1,
-            fixes,
-            stable,
-        };
+    if c < codes::FIX {
+        begin_all(spans, heads, c, numbers.count);
+        let mut next = numbers;
+        next.place = place + 1;
+        return next;
     }
-    if c == FIX {
-        return fix(place, fixes, stable);
+    if c == codes::FIX {
+        return fix(numbers);
     }
-    round(c - ROUND, place, fixes, stable)
+    round(c - codes::ROUND, numbers)
 }

@@ -1,6 +1,6 @@
 -- An instance that takes a command goes on in its passage; the others keep theirs.
 use Prim.Native.Nat.{ℕ, _+_}
-use mathlib.Core.Path.{_≡_, refl, ap, sym, _∙_}
+use mathlib.Core.Path.{_≡_, refl, sym, _∙_}
 use mathlib.Core.Bool.{true, false, false≢true}
 use mathlib.Core.Option.{some}
 use mathlib.Core.Logic.{inr}
@@ -16,7 +16,7 @@ use Rattle.table.specs.Table.{Each}
 use Rattle.machine.specs.Published.{StepCall, Env, lookup}
 use Rattle.machine.specs.Machine.{Tagged, Instance, Machine, put, Out, Out.next, Out.refused, Out.stuck}
 use Rattle.commands.specs.Tags.{stack-after, is-this, next as leads, at-start, Way}
-use Rattle.sound.specs.Needs.{Of}
+use Rattle.sound.specs.Needs.{ValueAmong}
 use Rattle.sound.specs.Invariant.{Fits, Passage, Place.passing, Good}
 use Rattle.sound.specs.Keeps.{Keeps, keeps-set, of-kept, fits-kept}
 use Rattle.sound.specs.EachLaws.{each-map}
@@ -44,7 +44,7 @@ pub advance : {p : Program} {a : StepCall} {is : List Instance} {l : ℕ} {i : I
     → (is-this n ≡ true → (x : Tagged) × (ψ : List Tagged) × (χ ≡ x ∷ ψ) × (x .is ≡ label l))
     → (ξ : Env)
     → ((x : ℕ) → List·Memᴰ x (now-written n (i .written))
-    → (v : Val) × (lookup ξ (first-local + x) ≡ some v) × (Of js (body-local (g .body) x int) v))
+    → (v : Val) × (lookup ξ (first-local + x) ≡ some v) × (ValueAmong js (body-local (g .body) x int) v))
     → Passage p a js l (after i n c χ ξ)
 advance g n w sf js ts q χ s o ξ h = record {
   body = g .body;
@@ -60,7 +60,7 @@ advance g n w sf js ts q χ s o ξ h = record {
 -- the locals of a passage, where there are more instances and none is written
 pub locals-kept : {p : Program} {a : StepCall} {is : List Instance} {l : ℕ} {i : Instance} (g : Passage p a is l i) {js : List Instance} → Keeps is js
     → {w : List ℕ} → w ≡ i .written → (x : ℕ) → List·Memᴰ x w
-    → (v : Val) × (lookup (i .env) (first-local + x) ≡ some v) × (Of js (body-local (g .body) x int) v)
+    → (v : Val) × (lookup (i .env) (first-local + x) ≡ some v) × (ValueAmong js (body-local (g .body) x int) v)
 locals-kept g k a x h = let (v, e, o) = g .locals x (rw a at h) in (v, e, of-kept k (body-local (g .body) x int) v o)
 
 module _ {p : Program} {m : Machine} (good : Good p m) {a : StepCall} (runs : good .runs ≡ some a) (l : ℕ) (i : Instance)

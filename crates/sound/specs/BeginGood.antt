@@ -10,8 +10,9 @@ use mathlib.Core.List.{List, [], _∷_, _++_, map}
 use lib.ListN.{length, getD, getElem?}
 use lib.Dec.{ltb}
 use borrow.Author.Tests.{ltb-true, ltb-false}
-use Rattle.types.specs.Types.{Ty, Ty.int, Ty.nat, Ty.bool, Ty.ref, IsType}
-use Rattle.types.specs.Values.{Val, Val.int-val, Val.nat-val, Val.bool-val, Val.label, default}
+use Rattle.types.specs.Types.{Ty, Ty.ref, IsType}
+use Rattle.types.specs.Values.{Val, Val.label, default}
+use Rattle.types.specs.ValueLaws.{value-as}
 use Rattle.program.specs.Tree.{Item, Item.call, Item.call-in, Item.fix, Items, Items.stop, Items.item, Program}
 use Rattle.program.specs.Counts.{All, Counts}
 use Rattle.commands.specs.Context.{params-of}
@@ -19,7 +20,7 @@ use Rattle.table.specs.Table.{Record, Each, Held, HeldRecord, HeldTable, Refers
 use Rattle.machine.specs.Published.{Sched, of-item, of-items, structs}
 use Rattle.machine.specs.Machine.{Instance}
 use Rattle.run.specs.Begin.{resting, nulls, first-instances, begin}
-use Rattle.sound.specs.Needs.{Of}
+use Rattle.sound.specs.Needs.{ValueAmong}
 use Rattle.sound.specs.Invariant.{GoodInst, Unbegun, Open, Open.open-done, Open.open-start, Open.open-fix, Good, Nulls}
 use Rattle.sound.specs.Started.{Left.whole}
 use Rattle.sound.specs.ElemLaws.{none-some, some-is, at-append, at-joined, at-behind, at-below, at-map, map-at, all-elem}
@@ -81,7 +82,7 @@ module _ (p : Program) (counts : Counts p) (rs : List Record) where
   first-nulls : Nulls p at-first
   first-nulls k h = (resting k (map default (params-of p k)), null-first k h, refl)
 
-  defaults : (ts : List Ty) → All (IsType (structs p)) ts → Each (Of at-first) ts (map default ts)
+  defaults : (ts : List Ty) → All (IsType (structs p)) ts → Each (ValueAmong at-first) ts (map default ts)
   defaults [] a = tt
   defaults (t ∷ ts) a = (lasting-of p at-first first-nulls (default-lasts t (a .0)), defaults ts (a .1))
 
@@ -92,41 +93,26 @@ module _ (p : Program) (counts : Counts p) (rs : List Record) where
       at-behind (nulls 0 (p .params)) _ l (omega arith) ∙ rw q (at-map (λ r. resting (r .struct) (r .values)) rs _ r e)
 
   -- a reference names an instance of its struct
-  named : (k l : ℕ) → struct-at (p .params) rs l ≡ some k → Of at-first (ref k) (label l)
+  named : (k l : ℕ) → struct-at (p .params) rs l ≡ some k → ValueAmong at-first (ref k) (label l)
   unfolding struct-at
   named k l e = go (ltb l (length (p .params))) refl e
     where
       found : length (p .params) ≤ l → (o : Option Record) → getElem? rs (l - length (p .params)) ≡ o
-          → elim o [ none ↦ none | some r ↦ some (r .struct) ] ≡ some k → Of at-first (ref k) (label l)
+          → elim o [ none ↦ none | some r ↦ some (r .struct) ] ≡ some k → ValueAmong at-first (ref k) (label l)
       found h none q e = none-some e
       found h (some r) q e = (resting (r .struct) (r .values), record-first l r h q, some-is e)
 
       go : (t : Bool) → ltb l (length (p .params)) ≡ t
           → elim t [ true ↦ some l | false ↦ elim (getElem? rs (l - length (p .params))) [ none ↦ none | some r ↦ some (r .struct) ] ] ≡ some k
-          → Of at-first (ref k) (label l)
+          → ValueAmong at-first (ref k) (label l)
       go true q e = rw (← some-is e) (first-nulls l (ltb-true l (length (p .params)) q))
       go false q e = found (ltb-false l (length (p .params)) q) (getElem? rs (l - length (p .params))) refl e
 
   -- a value as a right table holds it is of its type
-  held-of : (t : Ty) (v : Val) → Held t v → Refers (p .params) rs t v → Of at-first t v
-  held-of int (int-val z) h r = h
-  held-of int (nat-val n) h r = h
-  held-of int (bool-val b) h r = h
-  held-of int (label l) h r = h
-  held-of nat (int-val z) h r = h
-  held-of nat (nat-val n) h r = h
-  held-of nat (bool-val b) h r = h
-  held-of nat (label l) h r = h
-  held-of bool (int-val z) h r = h
-  held-of bool (nat-val n) h r = h
-  held-of bool (bool-val b) h r = h
-  held-of bool (label l) h r = h
-  held-of (ref k) (int-val z) h r = h
-  held-of (ref k) (nat-val n) h r = h
-  held-of (ref k) (bool-val b) h r = h
-  held-of (ref k) (label l) h r = named k l r
+  held-of : (t : Ty) (v : Val) → Held t v → Refers (p .params) rs t v → ValueAmong at-first t v
+  held-of t v h r = value-as t v (λ k l e f _. named k l (rw (e, f) at r)) h
 
-  held-each : (ts : List Ty) (vs : List Val) → Each Held ts vs → Each (Refers (p .params) rs) ts vs → Each (Of at-first) ts vs
+  held-each : (ts : List Ty) (vs : List Val) → Each Held ts vs → Each (Refers (p .params) rs) ts vs → Each (ValueAmong at-first) ts vs
   held-each [] [] h r = tt
   held-each [] (v ∷ vs) h r = h
   held-each (t ∷ ts) [] h r = h

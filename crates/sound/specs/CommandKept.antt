@@ -25,8 +25,8 @@ use Rattle.machine.specs.Published.{StepCall, structs, arity}
 use Rattle.machine.specs.Machine.{Tagged, tagged, Source.variable, Source.local, Source.result, given-by, Instance, Machine, with-written, put, write-to, operated, perform, command-of, command-at, command}
 use Rattle.machine.specs.Stops.{full, exceeded}
 use Rattle.run.specs.Begin.{resting}
-use Rattle.commands.specs.Tags.{Tags, Top, Asks, stack-after, next as leads, at-start, Way, Way.on, Way.over}
-use Rattle.sound.specs.Needs.{Of}
+use Rattle.commands.specs.Tags.{Tags, Top, Asks, stack-after, next as leads, at-start, Way, Way.on, Way.over, result-type}
+use Rattle.sound.specs.Needs.{ValueAmong}
 use Rattle.sound.specs.Invariant.{Fits, Passage, Good}
 use Rattle.sound.specs.Keeps.{of-kept, fits-kept}
 use Rattle.sound.specs.EachLaws.{each-length, each-map, each-of-map, each-reverse}
@@ -40,7 +40,6 @@ use Rattle.sound.specs.Outcomes.{negated, branched, operates, has-read, 
 use Rattle.sound.specs.Advance.{Kept, after, advance, locals-kept, good-put, goes-on}
 use Rattle.sound.specs.WriteKept.{param-kept, local-kept-good}
 use Rattle.sound.specs.ConsKept.{cons-keeps, new-label, cons-kept}
-use Rattle.commands.specs.Tags.{result-type}
 
 -- the numbers of a command
 abbrev pub Refused : ℕ → Type 0
@@ -131,7 +130,7 @@ module _ {p : Program} (firm : Firm p) {m : Machine} (good : Good p m) {a : Step
       (goes-on good runs l i at (n-rd k v) c (tagged (given-by p (variable (j .struct) v)) y ∷ χ) g (on (way-at g firm (n-rd k v) c e)) (kept-next g firm (n-rd k v) c e) refl refl
       (typ (ctx g) k v ∷ h)
       (ap (stack-after (ctx g) (n-rd k v)) a)
-      ((ap (λ d. getD (params-of p d) v int) w, subst (λ d. Of (m .instances) (getD (params-of p d) v int) y) w o), r))
+      ((ap (λ d. getD (params-of p d) v int) w, subst (λ d. ValueAmong (m .instances) (getD (params-of p d) v int) y) w o), r))
 
   reads-local : (t : Ty) (v : ℕ) → Goes (n-get t v)
   unfolding perform now-written
@@ -144,7 +143,7 @@ module _ {p : Program} (firm : Firm p) {m : Machine} (good : Good p m) {a : Step
       (sym (has-read p m l (acting (n-get t v)) c (first-local + v) (λ d. local t) (s ∙ ap (λ u. tagged (x .by) u ∷ χ) q) at z))
       (goes-on good runs l i at (n-get t v) c (tagged t y ∷ χ) g (on (way-at g firm (n-get t v) c e)) (kept-next g firm (n-get t v) c e) refl refl (t ∷ h)
       (ap (stack-after (ctx g) (n-get t v)) a)
-      ((refl, subst (λ d. Of (m .instances) d y) (sym b) o), r))
+      ((refl, subst (λ d. ValueAmong (m .instances) d y) (sym b) o), r))
 
   writes : (k v : ℕ) → Goes (n-wr k v)
   unfolding perform now-written write-to
@@ -165,7 +164,7 @@ module _ {p : Program} (firm : Firm p) {m : Machine} (good : Good p m) {a : Step
       (λ other.
       subst (Kept p Refused) (sym (writes-param p m l (acting n) c v s′ at′ below other z′))
       (param-kept firm m l i at (after i n c χ (i .env)) refl refl own t j at′ v (x .is) _ b′
-      (subst (λ d. Of (m .instances) (getD (params-of p d) v int) (x .is)) (sym w) (f′ .1))))
+      (subst (λ d. ValueAmong (m .instances) (getD (params-of p d) v int) (x .is)) (sym w) (f′ .1))))
 
   writes-own : (d : Bool) (t : Ty) (v : ℕ) → Goes (n-set d t v)
   unfolding perform write-to
@@ -196,8 +195,8 @@ module _ {p : Program} (firm : Firm p) {m : Machine} (good : Good p m) {a : Step
       (λ q.
       subst (Kept p Refused) (sym (constructs p m l (acting n) c k ξ χ s size q))
       (cons-kept good l i at n c ψ k vs
-      (each-reverse (Of js) ps (map (λ x. x .is) ξ)
-      (each-of-map (Of js) (λ x. x .is) (reverse ps) ξ (each-map (λ t x z. of-kept keeps t (x .is) (z .1)) (reverse ps) ξ f)))
+      (each-reverse (ValueAmong js) ps (map (λ x. x .is) ξ)
+      (each-of-map (ValueAmong js) (λ x. x .is) (reverse ps) ξ (each-map (λ t x z. of-kept keeps t (x .is) (z .1)) (reverse ps) ξ f)))
       runs
       (advance g n (on (way-at g firm n c e)) (kept-next g firm n c e) js (ref k ∷ h)
       (ap (stack-after (ctx g) n) a ∙ ap (λ r. ref k ∷ r) (drop-at (reverse ps) h (length ps) (length-reverse ps)))
@@ -227,7 +226,7 @@ module _ {p : Program} (firm : Firm p) {m : Machine} (good : Good p m) {a : Step
           goes-on good runs l i at (n-op o) c (tagged (result-type (sort o) (x .by)) v ∷ χ) g (on (way-at g firm (n-op o) c e)) (kept-next g firm (n-op o) c e) refl refl
           (result-type (sort o) t ∷ h)
           (ap (stack-after (ctx g) (n-op o)) a)
-          ((ap (result-type (sort o)) b, subst (λ d. Of (m .instances) d v) (result-of k) (result-of-type (m .instances) k z)), r)
+          ((ap (result-type (sort o)) b, subst (λ d. ValueAmong (m .instances) d v) (result-of k) (result-of-type (m .instances) k z)), r)
       go t u k h a y x χ s b r outside q z = inr refl
       go t u k h a y x χ s b r unfit q z = absurd z
 

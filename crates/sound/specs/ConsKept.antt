@@ -18,7 +18,7 @@ use Rattle.machine.specs.Published.{StepCall}
 use Rattle.machine.specs.Rules.{meet}
 use Rattle.machine.specs.Machine.{Tagged, Instance, Machine, with-instances, with-stability}
 use Rattle.run.specs.Begin.{resting as at-rest}
-use Rattle.sound.specs.Needs.{Of}
+use Rattle.sound.specs.Needs.{ValueAmong}
 use Rattle.sound.specs.Invariant.{Passage, Place.resting, Place.passing, GoodInst, Good}
 use Rattle.sound.specs.Keeps.{Keeps, keeps-then, keeps-set, keeps-append}
 use Rattle.sound.specs.ElemLaws.{at-set-same, at-set-other, at-snoc, at-last, some-is}
@@ -26,7 +26,7 @@ use Rattle.sound.specs.GoodLaws.{fitted-kept, good-change, meet-length}
 use Rattle.sound.specs.Advance.{after}
 
 -- an instance at rest with parameters of their types
-pub rests : (p : Program) {r : Option StepCall} (is : List Instance) (l k : ℕ) (vs : List Val) → Each (Of is) (params-of p k) vs
+pub rests : (p : Program) {r : Option StepCall} (is : List Instance) (l k : ℕ) (vs : List Val) → Each (ValueAmong is) (params-of p k) vs
     → GoodInst p r is l (at-rest k vs)
 rests p is l k vs f = record { fitted = (f, length-replicate {A = Option Val} max-locals none); place = resting refl refl }
 
@@ -43,11 +43,11 @@ module _ {p : Program} {m : Machine} (good : Good p m) (l : ℕ) (i : Instance) 
   cons-keeps = keeps-then (keeps-set (m .instances) l i actor at refl) (keeps-append (set (m .instances) l actor) (at-rest k vs ∷ []))
 
   -- so is the new one, under the first label that was free
-  pub new-label : Of all-after (ref k) (label (length (m .instances)))
+  pub new-label : ValueAmong all-after (ref k) (label (length (m .instances)))
   new-label = (at-rest k vs, rw (length-set (m .instances) l actor) at (at-last (set (m .instances) l actor) (at-rest k vs)), refl)
 
   -- all of them are good
-  pub cons-kept : Each (Of all-after) (params-of p k) vs → {a : StepCall} → good .runs ≡ some a → Passage p a all-after l actor
+  pub cons-kept : Each (ValueAmong all-after) (params-of p k) vs → {a : StepCall} → good .runs ≡ some a → Passage p a all-after l actor
       → Good p (with-stability (with-instances m all-after) (meet false (m .stability)))
   cons-kept f runs g = record {
     runs = good .runs;

@@ -12,7 +12,7 @@ use Rattle.types.specs.Types.{Ty, Ty.int}
 use Rattle.types.specs.Values.{Val}
 use Rattle.machine.specs.Published.{Env, Env.env, lookup, assign}
 use Rattle.machine.specs.Machine.{Instance}
-use Rattle.sound.specs.Needs.{Of}
+use Rattle.sound.specs.Needs.{ValueAmong}
 use Rattle.sound.specs.Invariant.{Fitted}
 use Rattle.sound.specs.EachLaws.{each-at, each-set}
 
@@ -58,11 +58,11 @@ module _ (is : List Instance) (ts : List Ty) where
 
   module _ (few : length ts ≤ first-local) (v : ℕ) (h : v < length ts) where
     -- a parameter holds a value of its type
-    pub param-holds : (ξ : Env) → Fitted is ts ξ → (x : Val) × (lookup ξ v ≡ some x) × (Of is (getD ts v int) x)
+    pub param-holds : (ξ : Env) → Fitted is ts ξ → (x : Val) × (lookup ξ v ≡ some x) × (ValueAmong is (getD ts v int) x)
     param-holds (env ps ls) f =
-        let (x, e, o) = each-at (Of is) int ts ps v h (f .0) in
+        let (x, e, o) = each-at (ValueAmong is) int ts ps v h (f .0) in
         (x, param-at ps ls v (omega arith) ∙ e, o)
 
     -- and takes another of it
-    pub param-fitted : (ξ : Env) (x : Val) → Of is (getD ts v int) x → Fitted is ts ξ → Fitted is ts (assign ξ v x)
-    param-fitted (env ps ls) x o f = rw (param-set ps ls v x (omega arith)) (each-set (Of is) int ts ps v x o (f .0), f .1)
+    pub param-fitted : (ξ : Env) (x : Val) → ValueAmong is (getD ts v int) x → Fitted is ts ξ → Fitted is ts (assign ξ v x)
+    param-fitted (env ps ls) x o f = rw (param-set ps ls v x (omega arith)) (each-set (ValueAmong is) int ts ps v x o (f .0), f .1)

@@ -26,7 +26,7 @@ use Rattle.machine.specs.Stops.{ended, out-of-turns}
 use Rattle.run.specs.Run.{Outcome.stopped, run}
 use Rattle.run.specs.Begin.{begin}
 use Rattle.run.specs.RowsOpen.{running}
-use Rattle.sound.specs.Needs.{Of}
+use Rattle.sound.specs.Needs.{ValueAmong}
 use Rattle.sound.specs.Accepted.{Accepted}
 use Rattle.sound.specs.NeverStuck.{Demand3}
 use Rattle.sound.specs.After.{onward, act-on, after, after-visited}
@@ -201,10 +201,10 @@ loose-lacks = record {
     absent : (i : Instance) → getElem? is 9 ≡ some i → ⊥
     absent i e = let q : none ≡ some i = e in let z : _≡_ {A = ℕ} 0 1 = cc in omega arith
 
-    apart : (x : Tagged) (χ : List Tagged) → tagged (ref 0) (label 9) ∷ tagged int (int-val (pos 5)) ∷ [] ≡ x ∷ χ → Of is (ref 0) (x .is) → ⊥
+    apart : (x : Tagged) (χ : List Tagged) → tagged (ref 0) (label 9) ∷ tagged int (int-val (pos 5)) ∷ [] ≡ x ∷ χ → ValueAmong is (ref 0) (x .is) → ⊥
     apart x χ e o =
         let q : label 9 ≡ x .is = ap top e in
-        let (i, g, s) = subst (Of is (ref 0)) (sym q) o in
+        let (i, g, s) = subst (ValueAmong is (ref 0)) (sym q) o in
         absent i g
 
 -- the program is accepted

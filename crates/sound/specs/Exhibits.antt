@@ -22,7 +22,7 @@ use Rattle.run.specs.Run.{Outcome.jammed, run}
 use Rattle.run.specs.Visits.{Visits}
 use Rattle.run.specs.Begin.{begin}
 use Rattle.run.specs.RowsOpen.{running}
-use Rattle.sound.specs.Needs.{Needs, Ready}
+use Rattle.sound.specs.Needs.{Needs, NextReady}
 use Rattle.sound.specs.NeverStuck.{Demand3}
 use Rattle.sound.specs.After.{onward, act-on, after, after-visited}
 
@@ -43,7 +43,7 @@ pub record Lacks (p : Program) (rs : List Record) (es : List ℕ) : Type 0 where
 pub lacks-refutes : {p : Program} {rs : List Record} {es : List ℕ} → Lacks p rs es → Demand3 p rs es → ⊥
 lacks-refutes {p} s d =
     s .lacks
-    (subst (Ready p (s .place) (s .holder) (s .instance)) (s .holds)
+    (subst (NextReady p (s .place) (s .holder) (s .instance)) (s .holds)
     (d .right (s .place) (s .left) (s .visited) .ready (s .holder) (s .instance) (s .there)))
 
 -- such a run comes to no number

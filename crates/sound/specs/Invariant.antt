@@ -18,16 +18,16 @@ use Rattle.machine.specs.Published.{StepCall, called, Sched, Sched.done, Sched.
 use Rattle.machine.specs.Machine.{Tagged, Instance, Machine}
 use Rattle.commands.specs.Tags.{Tags, Way, at-start}
 use Rattle.commands.specs.Living.{alive, lives-at, Among}
-use Rattle.sound.specs.Needs.{Of}
+use Rattle.sound.specs.Needs.{ValueAmong}
 use Rattle.sound.specs.Started.{Left, Started}
 
 -- of a type in both senses
 abbrev pub Fits : List Instance → Ty → Tagged → Type 0
-Fits is t x = (x .by ≡ t) × (Of is t (x .is))
+Fits is t x = (x .by ≡ t) × (ValueAmong is t (x .is))
 
 -- an environment with these parameter types and a slot for each local
 abbrev pub Fitted : List Instance → List Ty → Env → Type 0
-Fitted is ts (env ps ls) = (Each (Of is) ts ps) × (length ls ≡ max-locals)
+Fitted is ts (env ps ls) = (Each (ValueAmong is) ts ps) × (length ls ≡ max-locals)
 
 -- instance l stands at a place that the commands of the step lead to which the call a starts on it; after a push this its own label
 -- is on top; each local written in this passage holds a value of its type
@@ -41,7 +41,7 @@ pub record Passage (p : Program) (a : StepCall) (is : List Instance) (l : ℕ) (
   pub stacked : Each (Fits is) (place .stack) (i .stack)
   pub own : place .fresh ≡ true → (x : Tagged) × (χ : List Tagged) × (i .stack ≡ x ∷ χ) × (x .is ≡ label l)
   pub locals : (x : ℕ) → List·Memᴰ x (i .written)
-      → (v : Val) × (lookup (i .env) (first-local + x) ≡ some v) × (Of is (body-local body x int) v)
+      → (v : Val) × (lookup (i .env) (first-local + x) ≡ some v) × (ValueAmong is (body-local body x int) v)
 
 -- an instance that has not begun a step, or stands in one: at its end, or in that of the call that runs
 pub data Place (p : Program) (r : Option StepCall) (is : List Instance) (l : ℕ) (i : Instance) : Type 0 where

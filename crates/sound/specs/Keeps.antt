@@ -5,11 +5,12 @@ use mathlib.Core.Path.{_≡_, refl, sym, ap, _∙_}
 use mathlib.Core.Option.{some}
 use mathlib.Core.List.{List, [], _∷_, _++_}
 use lib.ListN.{getElem?, set}
-use Rattle.types.specs.Types.{Ty, Ty.int, Ty.nat, Ty.bool, Ty.ref}
-use Rattle.types.specs.Values.{Val, Val.int-val, Val.nat-val, Val.bool-val, Val.label}
+use Rattle.types.specs.Types.{Ty}
+use Rattle.types.specs.Values.{Val}
+use Rattle.types.specs.ValueLaws.{value-as}
 use Rattle.machine.specs.Published.{Env}
 use Rattle.machine.specs.Machine.{Tagged, Instance, with-env, update-env}
-use Rattle.sound.specs.Needs.{Of}
+use Rattle.sound.specs.Needs.{ValueAmong}
 use Rattle.sound.specs.Invariant.{Fits}
 use Rattle.sound.specs.ElemLaws.{none-some, some-is, at-set-same, at-set-other, at-append}
 
@@ -72,23 +73,8 @@ keeps-append is js = record { at = λ l i h. (i, at-append is js l i h, refl) }
 
 module _ {is js : List Instance} (k : Keeps is js) where
   -- a value stays of its type
-  pub of-kept : (t : Ty) (v : Val) → Of is t v → Of js t v
-  of-kept int (int-val z) o = o
-  of-kept nat (nat-val n) o = o
-  of-kept bool (bool-val b) o = o
-  of-kept (ref j) (label l) o = let a = k .at l (o .0) (o .1) in (a .0, a .1, a .2 ∙ o .2)
-  of-kept int (nat-val n) o = absurd o
-  of-kept int (bool-val b) o = absurd o
-  of-kept int (label l) o = absurd o
-  of-kept nat (int-val z) o = absurd o
-  of-kept nat (bool-val b) o = absurd o
-  of-kept nat (label l) o = absurd o
-  of-kept bool (int-val z) o = absurd o
-  of-kept bool (nat-val n) o = absurd o
-  of-kept bool (label l) o = absurd o
-  of-kept (ref j) (int-val z) o = absurd o
-  of-kept (ref j) (nat-val n) o = absurd o
-  of-kept (ref j) (bool-val b) o = absurd o
+  pub of-kept : (t : Ty) (v : Val) → ValueAmong is t v → ValueAmong js t v
+  of-kept t v h = value-as t v (λ n l _ _ o. let a = k .at l (o .0) (o .1) in (a .0, a .1, a .2 ∙ o .2)) h
 
   -- in both senses
   pub fits-kept : (t : Ty) (x : Tagged) → Fits is t x → Fits js t x

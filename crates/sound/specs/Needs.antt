@@ -6,9 +6,10 @@ use mathlib.Core.Bool.{true, false}
 use mathlib.Core.Option.{some}
 use mathlib.Core.List.{List, [], _∷_, _++_, reverse, List·Memᴰ}
 use lib.ListN.{length, getD, getElem?}
-use Rattle.types.specs.Limits.{nat-end, first-local}
-use Rattle.types.specs.Types.{Ty, Ty.int, Ty.nat, Ty.bool, Ty.ref}
-use Rattle.types.specs.Values.{Val, Val.int-val, Val.nat-val, Val.bool-val, Val.label, IntRange}
+use Rattle.types.specs.Limits.{first-local}
+use Rattle.types.specs.Types.{Ty, Ty.int, Ty.bool, Ty.ref}
+use Rattle.types.specs.Values.{Val, Val.label}
+use Rattle.types.specs.TypeBytes.{ValueIn}
 use Rattle.program.specs.Tree.{Program}
 use Rattle.commands.specs.Context.{params-of}
 use Rattle.commands.specs.Typing.{Takes, sort}
@@ -18,28 +19,13 @@ use Rattle.machine.specs.Published.{Env, Env.env, lookup}
 use Rattle.machine.specs.Machine.{Tagged, Instance, Machine}
 
 -- a value is of a type if it lies in its range; of a struct, if it is the label of an existing instance of it
-abbrev pub Of : List Instance → Ty → Val → Type 0
-Of is int (int-val z) = IntRange z
-Of is int (nat-val n) = ⊥
-Of is int (bool-val b) = ⊥
-Of is int (label l) = ⊥
-Of is nat (int-val z) = ⊥
-Of is nat (nat-val n) = n < nat-end
-Of is nat (bool-val b) = ⊥
-Of is nat (label l) = ⊥
-Of is bool (int-val z) = ⊥
-Of is bool (nat-val n) = ⊥
-Of is bool (bool-val b) = Unit {0}
-Of is bool (label l) = ⊥
-Of is (ref k) (int-val z) = ⊥
-Of is (ref k) (nat-val n) = ⊥
-Of is (ref k) (bool-val b) = ⊥
-Of is (ref k) (label l) = (i : Instance) × (getElem? is l ≡ some i) × (i .struct ≡ k)
+abbrev pub ValueAmong : List Instance → Ty → Val → Type 0
+ValueAmong is t v = ValueIn (λ k l. (i : Instance) × (getElem? is l ≡ some i) × (i .struct ≡ k)) t v
 
 module _ (p : Program) (m : Machine) where
   -- in both senses
   abbrev pub Operand : Ty → Tagged → Type 0
-  Operand t x = (x .by ≡ t) × (Of (m .instances) t (x .is))
+  Operand t x = (x .by ≡ t) × (ValueAmong (m .instances) t (x .is))
 
   module _ (l : ℕ) (i : Instance) where
     -- the instance's own label, put there by push this
@@ -49,7 +35,7 @@ module _ (p : Program) (m : Machine) where
     -- the local x has been declared in this passage, and holds a value of its type
     abbrev pub Written : Ty → ℕ → Type 0
     Written t x =
-        (List·Memᴰ x (i .written)) × (v : Val) × (lookup (i .env) (first-local + x) ≡ some v) × (Of (m .instances) t v)
+        (List·Memᴰ x (i .written)) × (v : Val) × (lookup (i .env) (first-local + x) ≡ some v) × (ValueAmong (m .instances) t v)
 
     -- these stand on the stack, the first on top
     abbrev pub Under : List Tagged → Type 0
@@ -72,15 +58,15 @@ module _ (p : Program) (m : Machine) where
     Needs (n-set true t v) = (x : Tagged) × (y : Tagged) × Under (y ∷ x ∷ []) × Own y × Operand t x
     Needs (n-set false t v) = (x : Tagged) × (y : Tagged) × Under (y ∷ x ∷ []) × Own y × Operand t x × Written t v
 
-    abbrev pub Ready : List Note → Type 0
-    Ready [] = Unit {0}
-    Ready (n ∷ c) = Needs n
+    abbrev pub NextReady : List Note → Type 0
+    NextReady [] = Unit {0}
+    NextReady (n ∷ c) = Needs n
 
     abbrev pub Typed-params : Env → Type 0
-    Typed-params (env ps ls) = Each (Of (m .instances)) (params-of p (i .struct)) ps
+    Typed-params (env ps ls) = Each (ValueAmong (m .instances)) (params-of p (i .struct)) ps
 
 -- the next command of every instance finds what it needs; every parameter holds a value of its type; no stack is higher than d
 pub record Right (p : Program) (d : ℕ) (m : Machine) : Type 0 where
-  pub ready : (l : ℕ) (i : Instance) → getElem? (m .instances) l ≡ some i → Ready p m l i (i .code)
+  pub ready : (l : ℕ) (i : Instance) → getElem? (m .instances) l ≡ some i → NextReady p m l i (i .code)
   pub typed : (l : ℕ) (i : Instance) → getElem? (m .instances) l ≡ some i → Typed-params p m l i (i .env)
   pub low : (l : ℕ) (i : Instance) → getElem? (m .instances) l ≡ some i → length (i .stack) ≤ d

@@ -4,7 +4,7 @@ use native.Mathlib.Omega.{arith}
 use mathlib.Core.Path.{_≡_}
 use mathlib.Core.Bool.{true}
 use mathlib.Core.Option.{Option, some}
-use mathlib.Core.Logic.{_⊎_, inl, inr}
+use mathlib.Core.Logic.{inl, inr}
 use mathlib.Core.List.{List, [], _∷_, _++_, List·Memᴰ}
 use Rattle.types.specs.Limits.{first-local}
 use Rattle.types.specs.Types.{Ty, Ty.int}
@@ -17,7 +17,7 @@ use Rattle.machine.specs.Published.{StepCall, structs, lookup}
 use Rattle.machine.specs.CallLaws.{called-step}
 use Rattle.machine.specs.Machine.{Tagged, Instance}
 use Rattle.commands.specs.Tags.{Tags, tags, Top, Asks, jump, Way, at-start}
-use Rattle.sound.specs.Needs.{Of}
+use Rattle.sound.specs.Needs.{ValueAmong}
 use Rattle.sound.specs.Invariant.{Fits, Passage, Place, Place.resting, Place.passing}
 use lib.ListN.{drop}
 use Rattle.commands.specs.Living.{alive, lives, lives-at, beside, Among}
@@ -77,7 +77,7 @@ module _ {p : Program} {a : StepCall} {is : List Instance} {l : ℕ} {i : Instan
 
   -- a local that is written holds a value of its type
   pub local-value : (x : ℕ) → List·Memᴰ x (i .written)
-      → (v : Val) × (lookup (i .env) (first-local + x) ≡ some v) × (Of is (body-local (g .body) x int) v)
+      → (v : Val) × (lookup (i .env) (first-local + x) ≡ some v) × (ValueAmong is (body-local (g .body) x int) v)
   local-value x h = g .locals x h
 
   module _ (firm : Firm p) (n : Note) (c : List Note) (e : i .code ≡ n ∷ c) where

@@ -14,7 +14,7 @@ use Rattle.commands.specs.Bounds.{program-depth}
 use Rattle.machine.specs.Published.{StepCall, Env, Env.env}
 use Rattle.machine.specs.Machine.{Instance, Machine}
 use Rattle.commands.specs.Tags.{Asks}
-use Rattle.sound.specs.Needs.{Needs, Ready, Typed-params, Right}
+use Rattle.sound.specs.Needs.{Needs, NextReady, Typed-params, Right}
 use Rattle.sound.specs.Invariant.{Fits, Fitted, Passage, Place, Place.resting, Place.passing, Good}
 use Rattle.sound.specs.EachLaws.{each-length, each-reverse}
 use Rattle.sound.specs.Accepted.{Firm}
@@ -49,7 +49,7 @@ module _ {p : Program} (m : Machine) {a : StepCall} {l : ℕ} {i : Instance} (g 
       (x, y, (χ, e), (f .0, own-top g (a .0) y (x ∷ χ) e), f′, (a .2, w, q, rw (a .1) o))
 
 module _ {p : Program} (firm : Firm p) (m : Machine) (r : Option StepCall) (l : ℕ) (i : Instance) where
-  is-ready : Place p r (m .instances) l i → (c : List Note) → i .code ≡ c → Ready p m l i c
+  is-ready : Place p r (m .instances) l i → (c : List Note) → i .code ≡ c → NextReady p m l i c
   is-ready (resting e χ) [] q = tt
   is-ready (resting e χ) (n ∷ c) q = let z : _≡_ {A = ℕ} 0 1 = cc in absurd (omega arith)
   is-ready (passing g h) [] q = tt

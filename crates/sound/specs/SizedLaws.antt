@@ -14,16 +14,17 @@ use Rattle.types.specs.Values.{Val, IntRange, default, word-int, value-of}
 use Rattle.program.specs.Tree.{Var, Var.par, Var.loc, Expr, Expr.inv, Expr.make, Expr.path, Expr.int-lit, Expr.nat-lit, Expr.bool-lit, Expr.null, Expr.self, Expr.op, Exprs, Exprs.none, Exprs.more, Stmt, Stmt.when, Stmt.declare, Stmt.update, Stmt.create, Stmts, Stmts.end, Stmts.next, Program}
 use Rattle.program.specs.Counts.{IsVar, IsPath, CountsExpr, CountsExprs, CountsStmt, CountsStmts}
 use Rattle.commands.specs.Context.{Ctx, typ}
-use Rattle.commands.specs.Noted.{Note, struct-of, walk, store, read-path, write-path, note-expr, note-exprs, note-stmt, note-body, noted}
+use Rattle.types.specs.TypeBytes.{struct-of}
+use Rattle.commands.specs.Noted.{Note, walk, store, read-path, write-path, note-expr, note-exprs, note-stmt, note-body, noted}
 use Rattle.machine.specs.Published.{structs}
 use Rattle.machine.specs.Machine.{Instance}
 use Rattle.commands.specs.Tags.{Tags, jump, Way, Way.start, Way.on, Way.over}
-use Rattle.sound.specs.Needs.{Of}
+use Rattle.sound.specs.Needs.{ValueAmong}
 use Rattle.sound.specs.Invariant.{Nulls}
 use Rattle.sound.specs.Sized.{Lasting, Lasting.an-int, Lasting.a-nat, Lasting.a-bool, Lasting.a-null, SizedAll, SizedAll.none, SizedAll.more, Sized}
 
 -- what lasts is of its type where the null instances are
-pub lasting-of : (p : Program) (is : List Instance) {t : Ty} {v : Val} → Nulls p is → Lasting (structs p) t v → Of is t v
+pub lasting-of : (p : Program) (is : List Instance) {t : Ty} {v : Val} → Nulls p is → Lasting (structs p) t v → ValueAmong is t v
 lasting-of p is a (an-int h) = h
 lasting-of p is a (a-nat h) = h
 lasting-of p is a a-bool = tt

@@ -12,6 +12,7 @@ use borrow.Author.Tests.{ltb-true, ltb-false}
 use Rattle.types.specs.Limits.{table-blocks}
 use Rattle.types.specs.Types.{Ty, Ty.int, Ty.nat, Ty.bool, Ty.ref}
 use Rattle.types.specs.Values.{Val, Val.int-val, Val.nat-val, Val.bool-val, Val.label, default}
+use Rattle.types.specs.ValueLaws.{value-as}
 use Rattle.blocks.specs.Blocks.{block-size, payload-size}
 use Rattle.blocks.specs.Images.{image, pieces}
 use Rattle.blocks.specs.Faults.{Says}
@@ -33,7 +34,7 @@ use Rattle.run.specs.RunAgreesVisits.{run-visits}
 use Rattle.run.specs.Entry.{Begun, Begun.begun, Begun.not-begun, begins, output-of, run-output-by, run-output}
 use Rattle.run.specs.Input.{TableAccepted}
 use Rattle.run.specs.InputLaws.{begins-ready}
-use Rattle.sound.specs.Needs.{Of}
+use Rattle.sound.specs.Needs.{ValueAmong}
 use Rattle.sound.specs.Invariant.{Fitted, GoodAll, Good}
 use Rattle.sound.specs.Accepted.{Accepted}
 use Rattle.sound.specs.AcceptedLaws.{ready-accepted, accepted-firm}
@@ -46,7 +47,7 @@ use Rattle.sound.specs.TabledLaws.{visits-tabled, begin-tabled}
 
 -- The table of a machine -----------------------------------------------------------
 
-fitted-each : (is : List Instance) (ts : List Ty) (ξ : Env) → Fitted is ts ξ → Each (Of is) ts (params-in ξ)
+fitted-each : (is : List Instance) (ts : List Ty) (ξ : Env) → Fitted is ts ξ → Each (ValueAmong is) ts (params-in ξ)
 fitted-each is ts (env ps ls) f = f .0
 
 module _ (p : Program) {r : Option StepCall} {is : List Instance} (good : GoodAll p r is) (t : Tabled p is) where
@@ -54,23 +55,8 @@ module _ (p : Program) {r : Option StepCall} {is : List Instance} (good : GoodAl
   rows = map record-of (drop (structs p) is)
 
   -- a label is below 256
-  held-value : (u : Ty) (v : Val) → Of is u v → Held u v
-  held-value int (int-val z) o = o
-  held-value int (nat-val n) o = o
-  held-value int (bool-val b) o = o
-  held-value int (label l) o = o
-  held-value nat (int-val z) o = o
-  held-value nat (nat-val n) o = o
-  held-value nat (bool-val b) o = o
-  held-value nat (label l) o = o
-  held-value bool (int-val z) o = o
-  held-value bool (nat-val n) o = o
-  held-value bool (bool-val b) o = o
-  held-value bool (label l) o = o
-  held-value (ref k) (int-val z) o = o
-  held-value (ref k) (nat-val n) o = o
-  held-value (ref k) (bool-val b) o = o
-  held-value (ref k) (label l) (i, e, s) = let few = t .few in omega (arith, at-below is l i e)
+  held-value : (u : Ty) (v : Val) → ValueAmong is u v → Held u v
+  held-value u v o = value-as u v (λ k l _ _ (i, e, s). let few = t .few in omega (arith, at-below is l i e)) o
 
   -- the struct of a label is that of its instance
   struct-found : (l k : ℕ) (i : Instance) → getElem? is l ≡ some i → i .struct ≡ k → struct-at (p .params) rows l ≡ some k
@@ -86,7 +72,7 @@ module _ (p : Program) {r : Option StepCall} {is : List Instance} (good : GoodAl
           let d : getElem? (drop (structs p) is) (l - structs p) ≡ some i = at-drop (structs p) is (l - structs p) ∙ ap (getElem? is) w ∙ e in
           rw (at-map record-of (drop (structs p) is) (l - structs p) i d) (ap some s)
 
-  refers-value : (u : Ty) (v : Val) → Of is u v → Refers (p .params) rows u v
+  refers-value : (u : Ty) (v : Val) → ValueAmong is u v → Refers (p .params) rows u v
   refers-value int v o = tt
   refers-value nat v o = tt
   refers-value bool v o = tt

@@ -19,7 +19,7 @@ use Rattle.machine.specs.Published.{StepCall, Env, lookup, assign}
 use Rattle.machine.specs.Machine.{Tagged, Instance, Machine, with-env, with-instances, with-stability, put, update-env}
 use Rattle.machine.specs.Rules.{meet}
 use Rattle.commands.specs.Tags.{stack-after, next as leads, at-start, Way}
-use Rattle.sound.specs.Needs.{Of}
+use Rattle.sound.specs.Needs.{ValueAmong}
 use Rattle.sound.specs.Invariant.{Fits, Fitted, Passage, Place, Place.resting, Place.passing, GoodInst, Good}
 use Rattle.sound.specs.Keeps.{Keeps, keeps-set, of-kept, fits-kept, env-set}
 use Rattle.sound.specs.ElemLaws.{at-set-same, at-set-other, some-is}
@@ -33,7 +33,7 @@ use Rattle.sound.specs.Advance.{after, advance}
 -- an instance of struct k with environment ξ, after a parameter of it is written
 param-written : (p : Program) → Firm p → (is : List Instance) (r : ℕ) (j : Instance) (k : ℕ) (ξ : Env) → j .struct ≡ k → j .env ≡ ξ
     → (v : ℕ) (x : Val) → v < length (params-of p k)
-    → Of is (getD (params-of p k) v int) x
+    → ValueAmong is (getD (params-of p k) v int) x
     → {c : Option StepCall}
     → GoodInst p c is r j
     → GoodInst p c is r (with-env j (assign ξ v x))
@@ -78,11 +78,11 @@ is-written false t y w x h = inr h
 
 -- they hold values of their types
 locals-after : {is js : List Instance} → Keeps is js → (ts : List Ty) (ξ : Env) → Fitted is ts ξ → (τ : ℕ → Ty) (y : ℕ) → y < first-local
-    → (x : Val) → Of is (τ y) x
+    → (x : Val) → ValueAmong is (τ y) x
     → (w : List ℕ)
-    → ((z : ℕ) → List·Memᴰ z w → (v : Val) × (lookup ξ (first-local + z) ≡ some v) × (Of is (τ z) v))
+    → ((z : ℕ) → List·Memᴰ z w → (v : Val) × (lookup ξ (first-local + z) ≡ some v) × (ValueAmong is (τ z) v))
     → (z : ℕ) → Dec (z ≡ y) → (z ≡ y) ⊎ List·Memᴰ z w
-    → (v : Val) × (lookup (assign ξ (first-local + y) x) (first-local + z) ≡ some v) × (Of js (τ z) v)
+    → (v : Val) × (lookup (assign ξ (first-local + y) x) (first-local + z) ≡ some v) × (ValueAmong js (τ z) v)
 locals-after {is} k ts ξ f τ y small x o w old z (yes q) h =
     (x, rw q (local-holds is ts ξ y x small f), rw q (of-kept k (τ y) x o))
 locals-after k ts ξ f τ y small x o w old z (no q) (inl e) = absurd (q e)
@@ -94,7 +94,7 @@ module _ {p : Program} (firm : Firm p) (m : Machine) (l : ℕ) (i : Instance) (a
   -- where the actor is put back well, so is a parameter's new value
   pub param-kept : (a : Instance) → a .struct ≡ i .struct → a .env ≡ i .env → Good p (put m l a)
       → (r : ℕ) (j : Instance) → getElem? (m .instances) r ≡ some j
-      → (v : ℕ) (x : Val) (t : Bool) → v < length (params-of p (j .struct)) → Of (m .instances) (getD (params-of p (j .struct)) v int) x
+      → (v : ℕ) (x : Val) (t : Bool) → v < length (params-of p (j .struct)) → ValueAmong (m .instances) (getD (params-of p (j .struct)) v int) x
       → Good p (with-stability (with-instances m (update-env (set (m .instances) l a) r (assign (j .env) v x))) (meet t (m .stability)))
   param-kept a s e good r j at′ v x t h o =
       let (j′, q, w, z) = same-env (m .instances) l r i j a at at′ s e in
@@ -116,7 +116,7 @@ module _ {p : Program} (firm : Firm p) (m : Machine) (l : ℕ) (i : Instance) (a
         → Living-on g (n-set d t y) c
         → (ts : List Ty) → stack-after (ctx g) (n-set d t y) (g .place .stack) ≡ ts
         → (χ : List Tagged) → Each (Fits (m .instances)) ts χ
-        → (x : Val) (b : Bool) → Of (m .instances) t x
+        → (x : Val) (b : Bool) → ValueAmong (m .instances) t x
         → Good p
         (with-stability
         (with-instances m (update-env (set (m .instances) l (after i (n-set d t y) c χ (i .env))) l (assign (i .env) (first-local + y) x)))

@@ -15,7 +15,7 @@ use Rattle.program.specs.Tree.{Step, Program}
 use Rattle.program.specs.Reader.{read}
 use Rattle.commands.specs.Bounds.{total, step-list, step-size}
 use Rattle.commands.specs.Coding.{words}
-use Rattle.commands.specs.Names.{Once, step-names, NamedSteps, NamesRight}
+use Rattle.commands.specs.Names.{Once, names-of-steps, NamedSteps, NamesRight}
 use Rattle.emit.specs.WordLaws.{words-append, words-length}
 use Rattle.run.specs.Entry.{Checked, Checked.accepted, Checked.refused, of-read, checked, of-steps, of-structs, program-words, listed, check-list, no-room}
 use Rattle.run.specs.EntryStreamLaws.{checked-image}
@@ -25,7 +25,7 @@ use Rattle.run.specs.Rows.{listed-P}
 use Rattle.run.specs.RowsOpen.{checking}
 use Rattle.step_part.specs.declared.Search.{Search}
 use Rattle.step_part.specs.declared.Spot.{Spot}
-use Rattle.step_part.specs.StepPart.{search-at, search-from, past, seek, search-in, nowhere, found, spot-by, place-by, step-place, step-part}
+use Rattle.step_part.specs.StepPart.{search-at, search-from, past, seek, search-in, nowhere, found, spot-by, step-place, step-part}
 use Rattle.step_part.specs.StepPartLaws.{spot-outside, spot-inside, spot-number, by-refused, by-short, by-room}
 
 -- Words --------------------------------------------------------------------------------
@@ -83,8 +83,8 @@ past-passed n name size z = go (eqb name n) refl
     go false e = rw (past, e)
 
 -- what was found stays found where no step has the name
-seek-other : (n : ℕ) (ts : List Step) (z : Search) → (List·Memᴰ n (step-names ts) → ⊥) → (seek n ts z .start ≡ z .start) × (seek n ts z .len ≡ z .len)
-unfolding seek step-names
+seek-other : (n : ℕ) (ts : List Step) (z : Search) → (List·Memᴰ n (names-of-steps ts) → ⊥) → (seek n ts z .start ≡ z .start) × (seek n ts z .len ≡ z .len)
+unfolding seek names-of-steps
 seek-other n [] z h = (refl, refl)
 seek-other n (t ∷ ts) z h =
     let q = seek-other n ts (past n (t .name) (step-size t) z) (λ m. h (List·Memᴰ·tail m)) in
@@ -96,9 +96,9 @@ abbrev marked : Spot → List ℕ → List ℕ
 marked z l = take (z .len) (drop (z .start) l)
 
 -- names stand once, so the step that is found is the step of the name
-seek-marks : {t : Step} {ts : List Step} → List·Memᴰ t ts → Once (step-names ts) → (z : Search) (l more : List ℕ)
+seek-marks : {t : Step} {ts : List Step} → List·Memᴰ t ts → Once (names-of-steps ts) → (z : Search) (l more : List ℕ)
     → drop (z .passed) l ≡ words (of-steps ts) ++ more → marked (found (seek (t .name) ts z)) l ≡ words (step-list t)
-unfolding seek step-names
+unfolding seek names-of-steps
 seek-marks {t} (List·Memᴰ·head {x = a} {xs = ts} e) o z l more h =
     let q = seek-other (t .name) ts (past (t .name) (a .name) (step-size a) z) (λ m. o .0 (Memᴰ·cast (ap (λ (s : Step). s .name) (sym e)) m)) in
     let p = ap (λ (s : Step). past (t .name) (s .name) (step-size s) z) (sym e) ∙ past-sought (t .name) (step-size t) z in
@@ -121,8 +121,8 @@ has-struct tss k m = go (ltb k (length tss)) refl
     go true e = ltb-true k (length tss) e
     go false e = absurd (List·Memᴰ·not-nil (rw (List·getD-eq-default tss [] (ltb-false k (length tss) e)) at m))
 
-once-in : (p : Program) (j k : ℕ) (tss : List (List Step)) → NamedSteps p j tss → Once (step-names (getD tss k []))
-unfolding step-names
+once-in : (p : Program) (j k : ℕ) (tss : List (List Step)) → NamedSteps p j tss → Once (names-of-steps (getD tss k []))
+unfolding names-of-steps
 once-in p j k [] h = tt
 once-in p j zero (ts ∷ tss) h = h .0
 once-in p j (suc k) (ts ∷ tss) h = once-in p (suc j) k tss (h .2)
@@ -137,7 +137,7 @@ spot-marks c p k t l e r m =
     rw (← spot-inside c k (t .name) p e h) (seek-marks m (once-in p 0 k (p .steps) (r .0)) _ (program-words p ++ l) (w .0) (w .1))
 
 -- a step that is not there has no place
-spot-none : (c : Checked) (p : Program) (k n : ℕ) → c ≡ accepted p → (List·Memᴰ n (step-names (getD (p .steps) k [])) → ⊥) → spot-by c k n ≡ nowhere 0
+spot-none : (c : Checked) (p : Program) (k n : ℕ) → c ≡ accepted p → (List·Memᴰ n (names-of-steps (getD (p .steps) k [])) → ⊥) → spot-by c k n ≡ nowhere 0
 unfolding search-in
 spot-none c p k n e h = go (ltb k (length (p .steps))) refl
   where
@@ -173,7 +173,7 @@ module _ (x list : List ℕ) (k n : ℕ) where
   step-short p e h = handed-none no-room (by-short (checked x) list k n p e h)
 
   -- and a step that is not there, for want of the struct or of the name, no number and an empty part
-  pub step-absent : (p : Program) → checked x ≡ accepted p → max-commands ≤ length list → (List·Memᴰ n (step-names (getD (p .steps) k [])) → ⊥) → Handed 0 []
+  pub step-absent : (p : Program) → checked x ≡ accepted p → max-commands ≤ length list → (List·Memᴰ n (names-of-steps (getD (p .steps) k [])) → ⊥) → Handed 0 []
   unfolding step-place
   step-absent p e h f = handed-none 0 (by-room (checked x) list k n p e h ∙ spot-none (checked x) p k n e f)
 

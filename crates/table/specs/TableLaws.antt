@@ -1,5 +1,5 @@
 -- What a table stream comes to (01, 'Table and turns'; 11 and 12 of 'Numbers from the input').
-use Prim.Native.Nat.{_-_, ℕ, _+_, _<_}
+use Prim.Native.Nat.{ℕ}
 use native.Mathlib.Omega.{arith}
 use mathlib.Core.Path.{_≡_, refl}
 use mathlib.Core.Logic.{_↔_, _⊎_, inl, inr}
@@ -7,16 +7,11 @@ use mathlib.Core.Bool.{Bool, true, false}
 use mathlib.Core.List.{List, _∷_, _++_}
 use lib.ListN.{length}
 use lib.Dec.{eqb}
-use borrow.Author.Tests.{lt-leb}
-use Rattle.types.specs.Limits.{max-instances}
 use Rattle.types.specs.Types.{Ty}
-use Rattle.program.specs.Encoding.{enc-word}
-use Rattle.program.specs.Reader.{Result, Result.ok, Result.bad, wrong-end, wrong-byte, then, guard, whole}
-use Rattle.program.specs.StandsLaws.{stands-front}
-use Rattle.program.specs.WordLaws.{word-exact}
-use Rattle.program.specs.StreamLaws.{exact, injective, trailing, early, final}
-use Rattle.table.specs.Table.{Record, count-bytes, enc-table, HeldTable, References, TableRight}
-use Rattle.table.specs.TableReader.{read-count, read-table, references, TableAnswer.table, TableAnswer.no-table, table-end, table-value, table-number, table-answer, table-of-stream}
+use Rattle.program.specs.Reader.{Result, Result.ok, Result.bad, wrong-end, whole}
+use Rattle.program.specs.StreamLaws.{exact, injective, trailing}
+use Rattle.table.specs.Table.{Record, enc-table, HeldTable, References, TableRight}
+use Rattle.table.specs.TableReader.{read-table, references, TableAnswer.table, TableAnswer.no-table, table-end, table-value, table-number, table-answer, table-of-stream}
 use Rattle.table.specs.TableExact.{table-exact}
 use Rattle.table.specs.ReferenceLaws.{references-exact}
 
@@ -92,12 +87,6 @@ module _ (pss : List (List Ty)) where
   unfolding table-number
   table-trailing rs b bs h = of-refused (enc-table rs ++ b ∷ bs) (trailing (table-exact pss) rs b bs h)
 
-  -- a stream that ends before the end of a held table is 11, whatever its references
-  pub table-early : (pre : List ℕ) (b : ℕ) (bs : List ℕ) (rs : List Record) → HeldTable pss rs → enc-table rs ≡ pre ++ b ∷ bs
-      → table-of-stream pss pre ≡ no-table table-end
-  unfolding table-number
-  table-early pre b bs rs h e = of-refused pre (early (table-exact pss) pre b bs rs h e)
-
   -- a held table with a wrong reference is 12
   pub table-wrong-reference : (rs : List Record) → HeldTable pss rs → ¬ References pss rs → table-of-stream pss (enc-table rs) ≡ no-table table-value
   table-wrong-reference rs h w = go (references pss rs rs) refl
@@ -105,16 +94,3 @@ module _ (pss : List (List Ty)) where
       go : (t : Bool) → references pss rs rs ≡ t → table-of-stream pss (enc-table rs) ≡ no-table table-value
       go true e = absurd (w (references-exact pss rs .0 e))
       go false e = of-wrong (enc-table rs) (table-law (enc-table rs) rs _ .1 (h, refl, refl)) e
-
-  -- a value not allowed is 12 in every stream that goes on behind it
-  pub table-final : (s t : List ℕ) (p : ℕ) → whole (read-table pss) s ≡ bad p wrong-byte → table-of-stream pss (s ++ t) ≡ no-table table-value
-  unfolding table-number
-  table-final s t p e = of-refused (s ++ t) (final (table-exact pss) s t p e)
-
-  -- more records than labels are left is 12, whatever follows or does not
-  pub table-too-many : (n : ℕ) (t : List ℕ) → n < 65536 → max-instances < n + length pss
-      → table-of-stream pss (enc-word count-bytes n ++ t) ≡ no-table table-value
-  unfolding table-number whole read-table read-count guard then
-  table-too-many n t h w =
-      of-refused (enc-word count-bytes n ++ t) {p = length (enc-word count-bytes n) - 1} {k = wrong-byte}
-      (rw (word-exact count-bytes .complete (enc-word count-bytes n ++ t) n 0 _ h (stands-front (enc-word count-bytes n) t), lt-leb (n + length pss) max-instances w))

@@ -23,7 +23,8 @@ use Rattle.run.specs.Begin.{resting, nulls, first-instances, begin}
 use Rattle.sound.specs.ElemLaws.{none-some, some-is, at-below, elem-all}
 use Rattle.sound.specs.EachLaws.{each-at}
 use Rattle.sound.specs.AcceptedLaws.{params-counted}
-use Rattle.memory.specs.Layout.{State, head-size, row-size, cell}
+use Rattle.layout.specs.Layout.{head-size, row-size, cell}
+use Rattle.layout.specs.State.{State, state-of, set-count, set-place, fresh}
 use Rattle.memory.specs.Stands.{Shows, Stands, bits}
 use Rattle.memory.specs.Frame.{AllSlim}
 use Rattle.memory.specs.MadeLaws.{with-new, new-stands, new-slim}
@@ -36,19 +37,12 @@ of-record q = resting (q .struct) (q .values)
 
 -- memory as it was, with records as the instances behind those that it holds, n in all
 abbrev laid-state : List ℕ → State → List Record → ℕ → State
-laid-state ts z qs n = record {
-  count = n;
-  place = z .place;
-  fixes = z .fixes;
-  stable = z .stable;
-  number = z .number;
-  heads = heads-laid (z .heads) (z .count) qs;
-  cells = rows-laid ts (z .cells) (z .count) qs;
-}
+laid-state ts z qs n =
+    state-of (set-count (z .machine) n) (heads-laid (z .heads) (z .machine .count) qs) (rows-laid ts (z .cells) (z .machine .count) qs)
 
 -- memory of n instances at the place a of a schedule, with nothing begun
 abbrev pub beginning : ℕ → ℕ → List ℕ → List ℕ → State
-beginning n a h c = record { count = n; place = a; fixes = 0; stable = 0; number = 0; heads = h; cells = c }
+beginning n a h c = state-of (set-place (fresh n) a) h c
 
 -- One record after the other -----------------------------------------------------------
 
@@ -59,7 +53,7 @@ pub record Shown (ts : List ℕ) (q : Record) : Type 0 where
 
 module _ (ts list : List ℕ) (P : ℕ → Sched → Type 0) where
   records-stand : (qs : List Record) (m : Machine) (z : State) → Stands list P m z → AllSlim (m .instances) → All (Shown ts) qs
-      → (n : ℕ) → z .count + length qs ≡ n → n ≤ max-instances
+      → (n : ℕ) → z .machine .count + length qs ≡ n → n ≤ max-instances
       → Stands list P (with-instances m (m .instances ++ map of-record qs)) (laid-state ts z qs n)
   unfolding heads-laid rows-laid
   records-stand [] m z st slim o n e b = rw (append-nil, ← e, add-zero) st

@@ -8,8 +8,7 @@ use Rattle.types.specs.Limits.{max-params}
 use Rattle.types.specs.Types.{Ty}
 use Rattle.types.specs.Values.{Val, default, word}
 use Rattle.table.specs.Table.{Record}
-use Rattle.memory.specs.Layout.{head-size, row-size, cell}
-use Rattle.memory.specs.MadeLaws.{new-head}
+use Rattle.layout.specs.Layout.{head-size, row-size, cell, new-head}
 
 -- the cell i with a value, under the byte of its type
 abbrev pub value-laid : List ℕ → ℕ → ℕ → Val → List ℕ

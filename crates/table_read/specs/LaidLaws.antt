@@ -12,8 +12,7 @@ use Rattle.types.specs.Types.{Ty}
 use Rattle.types.specs.Values.{Val}
 use Rattle.table.specs.Table.{Record}
 use Rattle.sound.specs.ElemLaws.{none-some, some-is}
-use Rattle.memory.specs.Layout.{head-size, row-size}
-use Rattle.memory.specs.MadeLaws.{new-head}
+use Rattle.layout.specs.Layout.{head-size, row-size, new-head}
 use Rattle.memory.specs.RowLaws.{sets-other, sets-at}
 use Rattle.table_read.specs.Laid.{cells-of, head-laid, row-laid, heads-laid, rows-laid, null-records}
 use Rattle.table_read.specs.Refer.{struct-in}

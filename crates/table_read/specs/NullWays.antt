@@ -11,8 +11,7 @@ use Rattle.types.specs.Limits.{max-params}
 use Rattle.types.specs.Types.{type-of}
 use Rattle.types.specs.Values.{default, word}
 use Rattle.table.specs.Table.{Record}
-use Rattle.memory.specs.Layout.{head-size, row-size, cell}
-use Rattle.memory.specs.MadeLaws.{new-head}
+use Rattle.layout.specs.Layout.{head-size, row-size, cell, new-head}
 use Rattle.table_read.specs.Params.{types-from, lists-of}
 use Rattle.table_read.specs.ParamsLaws.{lists-length, list-is}
 use Rattle.table_read.specs.Laid.{cells-of, values-laid, null-records, heads-laid, rows-laid}

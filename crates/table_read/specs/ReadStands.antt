@@ -18,7 +18,7 @@ use Rattle.judge.specs.ProgramFacts.{types-table}
 use Rattle.machine.specs.Published.{Sched, of-items, structs}
 use Rattle.run.specs.Begin.{begin}
 use Rattle.run.specs.Entry.{of-table, of-table-image}
-use Rattle.memory.specs.Layout.{head-size, row-size}
+use Rattle.layout.specs.Layout.{head-size, row-size}
 use Rattle.memory.specs.Stands.{Stands}
 use Rattle.table_read.specs.Params.{lists-of, Tables}
 use Rattle.table_read.specs.ProgramTables.{params-back, params-tables}

@@ -12,8 +12,7 @@ use Rattle.program.specs.Reader.{Result, Result.ok, Result.bad, then, pair, mad
 use Rattle.read_exprs.specs.ByteWays.{byte-is, byte-stops, ranged-in, ranged-out, ranged-above}
 use Rattle.table.specs.Table.{Record}
 use Rattle.table.specs.TableReader.{read-values, read-record, table-number}
-use Rattle.memory.specs.Layout.{head-size, row-size}
-use Rattle.memory.specs.MadeLaws.{new-head}
+use Rattle.layout.specs.Layout.{head-size, row-size, new-head}
 use Rattle.table_read.specs.declared.reading.PlaceRead.{PlaceRead}
 use Rattle.table_read.specs.declared.reading.PlaceRead.the-variants.{Place, NoPlace}
 use Rattle.table_read.specs.Params.{lists-of}

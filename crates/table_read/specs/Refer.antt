@@ -7,7 +7,7 @@ use lib.Dec.{ltb, eqb}
 use Rattle.types.specs.Limits.{max-params}
 use Rattle.types.specs.Types.{type-of}
 use Rattle.types.specs.TypeBytes.{is-ref, struct-of as type-struct}
-use Rattle.memory.specs.Layout.{head-size, row-size, operand}
+use Rattle.layout.specs.Layout.{head-size, row-size, operand}
 
 -- the struct of instance l, the first of its numbers
 abbrev pub struct-in : List ℕ → ℕ → ℕ

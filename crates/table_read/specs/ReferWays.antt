@@ -12,7 +12,7 @@ use borrow.Author.Tests.{lt-ltb, le-ltb}
 use Rattle.types.specs.Limits.{max-params}
 use Rattle.types.specs.Types.{type-of}
 use Rattle.types.specs.TypeBytes.{is-ref, struct-of as type-struct}
-use Rattle.memory.specs.Layout.{row-size, operand}
+use Rattle.layout.specs.Layout.{row-size, operand}
 use Rattle.table_read.specs.Refer.{struct-in, cell-refers, row-refers, rows-refer}
 
 module _ (h : List ℕ) (n t c : ℕ) where

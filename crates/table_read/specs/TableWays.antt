@@ -27,7 +27,7 @@ use Rattle.program.specs.JoinLaws.{row-exact, flat-row}
 use Rattle.table.specs.Table.{Record, count-bytes, enc-record, HeldRecord}
 use Rattle.table.specs.TableReader.{read-record, read-count, read-table, references, TableAnswer.table, TableAnswer.no-table, table-number, table-answer, table-of-stream}
 use Rattle.table.specs.TableExact.{record-exact}
-use Rattle.memory.specs.Layout.{head-size, row-size}
+use Rattle.layout.specs.Layout.{head-size, row-size}
 use Rattle.table_read.specs.declared.reading.PlaceRead.the-variants.{Place, NoPlace}
 use Rattle.table_read.specs.declared.reading.CountRead.the-variants.{Count, NoCount}
 use Rattle.table_read.specs.declared.TableRead.the-variants.{Instances}

@@ -21,12 +21,13 @@ use Rattle.machine.specs.Machine.{Instance, Machine}
 use Rattle.run.specs.Begin.{params-in, record-of, table-of}
 use Rattle.run.specs.Run.{Outcome.stopped}
 use Rattle.run.specs.Entry.{report-of, output-of}
-use Rattle.sound.specs.Needs.{Of}
+use Rattle.sound.specs.Needs.{ValueAmong}
 use Rattle.sound.specs.Invariant.{Fitted, GoodAll}
 use Rattle.sound.specs.Tabled.{Tabled}
 use Rattle.sound.specs.ElemLaws.{at-below, at-drop}
 use Rattle.sound.specs.EnvLaws.{param-at}
-use Rattle.memory.specs.Layout.{State, row-size, operand, of-cell, variable}
+use Rattle.layout.specs.Layout.{row-size, operand, variable}
+use Rattle.layout.specs.State.{State, of-cell}
 use Rattle.memory.specs.CellLaws.{operand-part, code-byte}
 use Rattle.memory.specs.Stands.{Shows, Stands}
 use Rattle.table_read.specs.Refer.{struct-in}
@@ -85,7 +86,7 @@ module _ (p : Program) (counts : Counts p) (list : List ℕ) (P : ℕ → Sched 
       go : (ξ : Env) → Fitted (m .instances) (params-of p (i .struct)) ξ → ((v : ℕ) (x : Val) → lookup ξ v ≡ some x → Shows (of-cell z (variable l v)) x)
           → cells-bytes (z .cells) (row-size * l) (getD cs (i .struct) 0) ≡ flat enc-value (params-in ξ)
       go (env ps ls) f s =
-          let n : length ps ≡ length (params-of p (i .struct)) = each-length (Of (m .instances)) (params-of p (i .struct)) ps (f .0) in
+          let n : length ps ≡ length (params-of p (i .struct)) = each-length (ValueAmong (m .instances)) (params-of p (i .struct)) ps (f .0) in
           rw (List·getD-map length (p .params) (i .struct) [], ← n)
           (cells-are (z .cells) (row-size * l) ps λ v x q.
           let b : v < length ps = at-below ps v x q in
@@ -95,10 +96,10 @@ module _ (p : Program) (counts : Counts p) (list : List ℕ) (P : ℕ → Sched 
   structs-are = length-map (p .params) length
 
   -- the null ones are not written
-  pub null-ones : length cs ≤ z .count
+  pub null-ones : length cs ≤ z .machine .count
   null-ones = omega (arith, structs-are, st .counted, tabled .null-ones)
 
-  pub filled : Filled cs (z .heads) (z .cells) (z .count)
+  pub filled : Filled cs (z .heads) (z .cells) (z .machine .count)
   unfolding Counts
   filled = record {
     few = omega (arith, structs-are, counts .0 .1);
@@ -112,10 +113,10 @@ module _ (p : Program) (counts : Counts p) (list : List ℕ) (P : ℕ → Sched 
   }
 
   -- the stream is that of the machine's table
-  pub stream-stands : memory-stream cs (z .heads) (z .cells) (z .count) ≡ enc-table (table-of p m)
+  pub stream-stands : memory-stream cs (z .heads) (z .cells) (z .machine .count) ≡ enc-table (table-of p m)
   unfolding memory-stream enc-table table-of
   stream-stands =
-      let n : z .count - length cs ≡ length (drop (structs p) (m .instances)) = omega (arith, structs-are, st .counted, length-drop (structs p) (m .instances)) in
+      let n : z .machine .count - length cs ≡ length (drop (structs p) (m .instances)) = omega (arith, structs-are, st .counted, length-drop (structs p) (m .instances)) in
       let k : length (map record-of (drop (structs p) (m .instances))) ≡ length (drop (structs p) (m .instances)) = length-map (drop (structs p) (m .instances)) record-of in
       rw (n, k, structs-are)
       (ap (λ l. enc-word count-bytes (length (drop (structs p) (m .instances))) ++ l)
@@ -124,10 +125,10 @@ module _ (p : Program) (counts : Counts p) (list : List ℕ) (P : ℕ → Sched 
       (struct-is (structs p + j) i q, params-are (structs p + j) i q)))
 
   -- and so are the blocks that a run reports and the bytes that it leaves
-  pub blocks-stand : (n t : ℕ) → memory-blocks cs (z .heads) (z .cells) (z .count) ≡ report-of p (stopped n t m) .blocks
+  pub blocks-stand : (n t : ℕ) → memory-blocks cs (z .heads) (z .cells) (z .machine .count) ≡ report-of p (stopped n t m) .blocks
   unfolding report-of
   blocks-stand n t = rw stream-stands
 
-  pub output-stands : (n t : ℕ) (out : List ℕ) → memory-image cs (z .heads) (z .cells) (z .count) out ≡ output-of p (stopped n t m) out
+  pub output-stands : (n t : ℕ) (out : List ℕ) → memory-image cs (z .heads) (z .cells) (z .machine .count) out ≡ output-of p (stopped n t m) out
   unfolding output-of
   output-stands n t out = rw stream-stands

@@ -8,7 +8,7 @@ use Rattle.blocks.specs.Blocks.{block-size}
 use Rattle.blocks.specs.Images.{image, pieces}
 use Rattle.program.specs.Encoding.{enc-word}
 use Rattle.table.specs.Table.{value-bytes, count-bytes}
-use Rattle.memory.specs.Layout.{head-size, row-size, operand}
+use Rattle.layout.specs.Layout.{head-size, row-size, operand}
 use Rattle.table_read.specs.Refer.{struct-in, Structs}
 
 -- the bytes of the m cells from a on

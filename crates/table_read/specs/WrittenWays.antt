@@ -16,7 +16,7 @@ use Rattle.blocks.specs.declared.Written.the-variants.{Blocks}
 use Rattle.program.specs.Encoding.{enc-word}
 use Rattle.read_params.specs.ParamsWays.{from-start}
 use Rattle.emit.specs.WrittenLaws.{sets-append}
-use Rattle.memory.specs.Layout.{row-size, operand}
+use Rattle.layout.specs.Layout.{row-size, operand}
 use Rattle.table_read.specs.Refer.{struct-in}
 use Rattle.table_read.specs.Written.{cells-bytes, row-bytes, rows-bytes, memory-stream, memory-blocks, memory-image, Filled}
 

@@ -17,7 +17,7 @@ ghost use lib.ListN.{length};
 ghost use Rattle.types.specs.Limits.{max-instances, table-blocks};
 ghost use Rattle.blocks.specs.Blocks.{block-size};
 ghost use Rattle.table.specs.TableReader.{table-of-stream};
-ghost use Rattle.memory.specs.Layout.{head-size, row-size};
+ghost use Rattle.layout.specs.Layout.{head-size, row-size};
 ghost use Rattle.table_read.specs.Params.{Tables, lists-of};
 ghost use Rattle.table_read.specs.TableTold.{behind-count, table-told, image-refusal, image-answer, TableLaid};
 ghost use Rattle.table_read.specs.Written.{Filled, memory-blocks, memory-image};

@@ -6,7 +6,7 @@ ghost use Prim.Native.Nat.{_+_, _*_, _≤_};
 ghost use lib.ListN.{length};
 ghost use Rattle.types.specs.Types.{type-of};
 ghost use Rattle.types.specs.Values.{default, word};
-ghost use Rattle.memory.specs.Layout.{head-size, row-size, cell};
+ghost use Rattle.layout.specs.Layout.{head-size, row-size, cell};
 ghost use Rattle.table_read.specs.Params.{Tables, types-from, lists-of};
 ghost use Rattle.table_read.specs.Laid.{values-laid, null-records, heads-laid, rows-laid};
 

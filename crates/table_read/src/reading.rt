@@ -7,7 +7,7 @@ ghost use lib.ListN.{length};
 ghost use Rattle.types.specs.Limits.{nat-end};
 ghost use Rattle.types.specs.Types.{Ty, type-of};
 ghost use Rattle.table.specs.TableReader.{allowed, read-count};
-ghost use Rattle.memory.specs.Layout.{head-size, row-size};
+ghost use Rattle.layout.specs.Layout.{head-size, row-size};
 ghost use Rattle.table_read.specs.Params.{Tables};
 ghost use Rattle.table_read.specs.Told.{word-of, count-told, place-refusal, count-refusal, Counted, Within, ValueLaid, ValuesLaid, RecordLaid, RecordsLaid};
 

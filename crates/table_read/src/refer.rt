@@ -3,7 +3,7 @@ use crate::store;
 ghost use mathlib.Core.Path.{_≡_};
 ghost use Prim.Native.Nat.{_+_, _-_, _*_, _≤_};
 ghost use lib.ListN.{length};
-ghost use Rattle.memory.specs.Layout.{head-size, row-size};
+ghost use Rattle.layout.specs.Layout.{head-size, row-size};
 ghost use Rattle.table_read.specs.Params.{Tables};
 ghost use Rattle.table_read.specs.Refer.{cell-refers, row-refers, rows-refer, Structs};
 

@@ -4,8 +4,7 @@ ghost use Prim.Native.Nat.{_+_, _*_, _≤_, _<_};
 ghost use lib.ListN.{length};
 ghost use lib.Seq.{sets};
 ghost use Rattle.types.specs.Limits.{nat-end};
-ghost use Rattle.memory.specs.Layout.{cell, head-size};
-ghost use Rattle.memory.specs.MadeLaws.{new-head};
+ghost use Rattle.layout.specs.Layout.{cell, head-size, new-head};
 
 // How many numbers and cells an instance has.
 pub(crate) const HEAD: usize = 4;

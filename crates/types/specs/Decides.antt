@@ -21,14 +21,6 @@ is-true {t} d p = go t refl
     go true e = e
     go false e = absurd (d .fails e p)
 
--- and where it does not, false
-pub is-false : {t : Bool} {P : Type 0} → Decides t P → (P → ⊥) → t ≡ false
-is-false {t} d n = go t refl
-  where
-    go : (u : Bool) → t ≡ u → t ≡ false
-    go true e = absurd (n (d .holds e))
-    go false e = e
-
 pub decides-eqb : (a b : ℕ) → Decides (eqb a b) (a ≡ b)
 decides-eqb a b = record { holds = eqb-true a b; fails = eqb-false a b }
 

@@ -1,3 +1,4 @@
+pub mod Reflects
 pub mod Decides
 pub mod Limits
 pub mod Numbers

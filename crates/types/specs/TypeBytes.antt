@@ -36,21 +36,25 @@ word-end nat = nat-end
 word-end bool = 2
 word-end (ref k) = nat-end
 
--- a value of a type, in the range that four bytes hold
+-- a value of a type, in the range that four bytes hold; which labels are values of struct k, R says
+abbrev pub ValueIn : (ℕ → ℕ → Type 0) → Ty → Val → Type 0
+ValueIn R int (int-val z) = IntRange z
+ValueIn R int (nat-val n) = ⊥
+ValueIn R int (bool-val b) = ⊥
+ValueIn R int (label l) = ⊥
+ValueIn R nat (int-val z) = ⊥
+ValueIn R nat (nat-val n) = n < nat-end
+ValueIn R nat (bool-val b) = ⊥
+ValueIn R nat (label l) = ⊥
+ValueIn R bool (int-val z) = ⊥
+ValueIn R bool (nat-val n) = ⊥
+ValueIn R bool (bool-val b) = Unit {0}
+ValueIn R bool (label l) = ⊥
+ValueIn R (ref k) (int-val z) = ⊥
+ValueIn R (ref k) (nat-val n) = ⊥
+ValueIn R (ref k) (bool-val b) = ⊥
+ValueIn R (ref k) (label l) = R k l
+
+-- with any label that four bytes hold
 abbrev pub ValueOf : Ty → Val → Type 0
-ValueOf int (int-val z) = IntRange z
-ValueOf int (nat-val n) = ⊥
-ValueOf int (bool-val b) = ⊥
-ValueOf int (label l) = ⊥
-ValueOf nat (int-val z) = ⊥
-ValueOf nat (nat-val n) = n < nat-end
-ValueOf nat (bool-val b) = ⊥
-ValueOf nat (label l) = ⊥
-ValueOf bool (int-val z) = ⊥
-ValueOf bool (nat-val n) = ⊥
-ValueOf bool (bool-val b) = Unit {0}
-ValueOf bool (label l) = ⊥
-ValueOf (ref k) (int-val z) = ⊥
-ValueOf (ref k) (nat-val n) = ⊥
-ValueOf (ref k) (bool-val b) = ⊥
-ValueOf (ref k) (label l) = l < nat-end
+ValueOf t v = ValueIn (λ k l. l < nat-end) t v

@@ -4,9 +4,9 @@ use native.Mathlib.Omega.{arith}
 use native.Mathlib.Nat.{add-sub-cancel-left}
 use mathlib.Core.Path.{_≡_, refl, ap, sym, _∙_}
 use mathlib.Core.Bool.{Bool, true, false, _&&_, _||_}
-use lib.Dec.{eqb, leb, ltb}
-use borrow.Author.Tests.{eqb-true, eqb-false, ne-eqb, leb-true, ltb-true, le-leb, lt-leb, lt-ltb}
-use Rattle.types.specs.Decides.{Decides, is-true, is-false, decides-eqb, decides-as}
+use lib.Dec.{leb, ltb}
+use borrow.Author.Tests.{ne-eqb, leb-true, ltb-true, le-leb, lt-leb, lt-ltb}
+use Rattle.types.specs.Reflects.{Reflects, Reflects.holds, Reflects.fails, reflects-map, eq-reflects}
 use Rattle.types.specs.Types.{Ty, Ty.int, Ty.nat, Ty.bool, Ty.ref, struct-code, code, IsType, type-of, same-type}
 use Rattle.types.specs.TypeBytes.{TypeByte, is-type, is-ref, struct-of}
 
@@ -53,11 +53,13 @@ is-type-holds S b e = go (leb b 2) refl (leb struct-code b) refl e
     go false p false q r = absurd (let z : _≡_ {A = ℕ} 0 1 = cc in omega arith)
 
 -- the test is exact
-pub type-exact : (S b : ℕ) → Decides (is-type S b) (TypeByte S b)
-type-exact S b = record {
-  holds = is-type-holds S b;
-  fails = λ e p. let t = ap (is-type S) (p .2) in let h = code-is-type S (p .0) (p .1) in let z : _≡_ {A = ℕ} 0 1 = cc in omega arith;
-}
+pub type-exact : (S b : ℕ) → Reflects (TypeByte S b) (is-type S b)
+type-exact S b = go (is-type S b) refl
+  where
+    go : (t : Bool) → is-type S b ≡ t → Reflects (TypeByte S b) t
+    go true e = holds (is-type-holds S b e)
+    go false e =
+        fails (λ p. let t = ap (is-type S) (p .2) in let h = code-is-type S (p .0) (p .1) in let z : _≡_ {A = ℕ} 0 1 = cc in omega arith)
 
 pub code-type-of : (S b : ℕ) → is-type S b ≡ true → code (type-of b) ≡ b
 code-type-of S b e =
@@ -66,40 +68,24 @@ code-type-of S b e =
 
 -- Equal types -------------------------------------------------------------------
 
-alike : (t : Ty) → Decides true (t ≡ t)
-alike t = record { holds = λ e. refl; fails = λ e p. let z : _≡_ {A = ℕ} 0 1 = cc in omega arith }
-
-unlike : (t u : Ty) → (code t ≡ code u → ⊥) → Decides false (t ≡ u)
-unlike t u n = record { holds = λ e. absurd (let z : _≡_ {A = ℕ} 0 1 = cc in omega arith); fails = λ e p. n (ap code p) }
-
-pub same-exact : (a b : Ty) → Decides (same-type a b) (a ≡ b)
+pub same-exact : (t u : Ty) → Reflects (t ≡ u) (same-type t u)
 unfolding same-type code
-same-exact int int = alike int
-same-exact int nat = unlike int nat (omega arith)
-same-exact int bool = unlike int bool (omega arith)
-same-exact int (ref k) = unlike int (ref k) (omega arith)
-same-exact nat int = unlike nat int (omega arith)
-same-exact nat nat = alike nat
-same-exact nat bool = unlike nat bool (omega arith)
-same-exact nat (ref k) = unlike nat (ref k) (omega arith)
-same-exact bool int = unlike bool int (omega arith)
-same-exact bool nat = unlike bool nat (omega arith)
-same-exact bool bool = alike bool
-same-exact bool (ref k) = unlike bool (ref k) (omega arith)
-same-exact (ref j) int = unlike (ref j) int (omega arith)
-same-exact (ref j) nat = unlike (ref j) nat (omega arith)
-same-exact (ref j) bool = unlike (ref j) bool (omega arith)
-same-exact (ref j) (ref k) = decides-as (decides-eqb j k) (ap ref) (λ p. let e : j ≡ k = cc in e)
-
--- the bytes of two types are equal where the types are
-pub same-byte : (S a b : ℕ) → is-type S a ≡ true → is-type S b ≡ true → same-type (type-of a) (type-of b) ≡ eqb a b
-same-byte S a b ha hb = go (eqb a b) refl
-  where
-    go : (t : Bool) → eqb a b ≡ t → same-type (type-of a) (type-of b) ≡ t
-    go true e = is-true (same-exact (type-of a) (type-of b)) (ap type-of (eqb-true a b e))
-    go false e =
-        is-false (same-exact (type-of a) (type-of b))
-        (λ p. eqb-false a b e (sym (code-type-of S a ha) ∙ ap code p ∙ code-type-of S b hb))
+same-exact int int = holds refl
+same-exact int nat = fails (λ e. omega (arith, ap code e))
+same-exact int bool = fails (λ e. omega (arith, ap code e))
+same-exact int (ref k) = fails (λ e. omega (arith, ap code e))
+same-exact nat int = fails (λ e. omega (arith, ap code e))
+same-exact nat nat = holds refl
+same-exact nat bool = fails (λ e. omega (arith, ap code e))
+same-exact nat (ref k) = fails (λ e. omega (arith, ap code e))
+same-exact bool int = fails (λ e. omega (arith, ap code e))
+same-exact bool nat = fails (λ e. omega (arith, ap code e))
+same-exact bool bool = holds refl
+same-exact bool (ref k) = fails (λ e. omega (arith, ap code e))
+same-exact (ref j) int = fails (λ e. omega (arith, ap code e))
+same-exact (ref j) nat = fails (λ e. omega (arith, ap code e))
+same-exact (ref j) bool = fails (λ e. omega (arith, ap code e))
+same-exact (ref j) (ref k) = reflects-map (λ e. ap ref e) (λ e. omega (arith, ap code e)) (eq-reflects j k)
 
 -- What is read off a byte ---------------------------------------------------------
 

@@ -6,22 +6,18 @@ use mathlib.Core.Bool.{Bool, true, false}
 use lib.Dec.{eqb, ltb}
 use lib.IntN.{ℤ, pos, negsuc}
 use borrow.Author.Tests.{ltb-true, ltb-false, lt-ltb, le-ltb}
-use Rattle.types.specs.Decides.{Decides}
+use Rattle.types.specs.Reflects.{Reflects, lt-reflects}
 use Rattle.types.specs.Limits.{int-half, nat-end}
 use Rattle.types.specs.Types.{Ty, Ty.int, Ty.nat, Ty.bool, Ty.ref}
-use Rattle.types.specs.TypeBytes.{struct-of, word-end, ValueOf}
-use Rattle.types.specs.Values.{Val, Val.int-val, Val.nat-val, Val.bool-val, Val.label, default, IntRange, in-int, int-word, word-int}
-use Rattle.types.specs.Values.{word, value-of}
+use Rattle.types.specs.TypeBytes.{struct-of, word-end, ValueIn, ValueOf}
+use Rattle.types.specs.Values.{Val, Val.int-val, Val.nat-val, Val.bool-val, Val.label, default, IntRange, in-int, int-word, word-int, word, value-of}
 
 -- Int ---------------------------------------------------------------------------
 
-decides-below : (n m : ℕ) → Decides (ltb n m) (n < m)
-decides-below n m = record { holds = ltb-true n m; fails = λ e h. let k = ltb-false n m e in omega arith }
-
-pub int-exact : (z : ℤ) → Decides (in-int z) (IntRange z)
+pub int-exact : (z : ℤ) → Reflects (IntRange z) (in-int z)
 unfolding in-int
-int-exact (pos n) = decides-below n int-half
-int-exact (negsuc n) = decides-below n int-half
+int-exact (pos n) = lt-reflects n int-half
+int-exact (negsuc n) = lt-reflects n int-half
 
 pub int-of-word : (z : ℤ) → IntRange z → word-int (int-word z) ≡ z
 unfolding word-int int-word
@@ -96,3 +92,22 @@ default-word int = refl
 default-word nat = refl
 default-word bool = refl
 default-word (ref k) = refl
+
+-- a value is one by another rule for labels, where its own label is
+pub value-as : {R Q : ℕ → ℕ → Type 0} (t : Ty) (v : Val) → ((k l : ℕ) → t ≡ ref k → v ≡ label l → R k l → Q k l) → ValueIn R t v → ValueIn Q t v
+value-as int (int-val z) f h = h
+value-as int (nat-val n) f h = h
+value-as int (bool-val b) f h = h
+value-as int (label l) f h = h
+value-as nat (int-val z) f h = h
+value-as nat (nat-val n) f h = h
+value-as nat (bool-val b) f h = h
+value-as nat (label l) f h = h
+value-as bool (int-val z) f h = h
+value-as bool (nat-val n) f h = h
+value-as bool (bool-val b) f h = h
+value-as bool (label l) f h = h
+value-as (ref k) (int-val z) f h = h
+value-as (ref k) (nat-val n) f h = h
+value-as (ref k) (bool-val b) f h = h
+value-as (ref k) (label l) f h = f k l refl refl h

@@ -1,4 +1,4 @@
--- `whole::end` meets its contract: an item is not read, a byte is left, or none is.
+-- `end` meets its contract: an item is not read, a byte is left, or none is.
 use mathlib.Core.Path.{sym, _∙_}
 use borrow.Author.Tests.{lt-ltb, le-ltb}
 use Rattle.program.specs.Reader.{read-items, read-item}

@@ -1,4 +1,4 @@
--- `whole::number` meets its contract.
+-- `number` meets its contract.
 use borrow.Author.Tests.{eq-eqb, ne-eqb, lt-ltb, le-ltb}
 use borrow.Author.Needs.{needs}
 use Rattle.judge.specs.ProgramFacts.{exceeded, totals-number}

@@ -1,4 +1,4 @@
--- `whole::program` meets its contract: the parameters are not read, or are, with the rest behind them.
+-- `program` meets its contract: the parameters are not read, or are, with the rest behind them.
 use Rattle.types.specs.Limits.{max-structs}
 use lib.ListN.{length}
 use Prim.Native.Nat.{_≤_}

@@ -1,4 +1,4 @@
--- `whole::rest` meets its contract: a step is not read, or all are, with the schedule behind them.
+-- `rest` meets its contract: a step is not read, or all are, with the schedule behind them.
 use native.Mathlib.Omega.{arith}
 use mathlib.Core.Path.{refl, sym, _∙_}
 use Rattle.judge.specs.ProgramFacts.{no-steps, no-totals}

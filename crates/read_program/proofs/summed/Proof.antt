@@ -1,4 +1,4 @@
--- `whole::summed` meets its contract.
+-- `summed` meets its contract.
 use borrow.Author.Needs.{needs}
 use Rattle.read_program.proofs.summed.Statement.{statement}
 use Rattle.read_program.proofs.summed.Tie as tie

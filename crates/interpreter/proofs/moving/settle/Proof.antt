@@ -7,7 +7,7 @@ use lib.ListN.{length}
 use borrow.Author.Needs.{needs}
 use native.Mathlib.Omega.{arith}
 use Rattle.memory.specs.Choose.{holding}
-use Rattle.engine.specs.States.{state-of}
+use Rattle.layout.specs.State.{state-of}
 use Rattle.interpreter.specs.Moving.{moves-left}
 use Rattle.interpreter.specs.Running.{Led}
 use Rattle.interpreter.specs.SettleWays.{led-none, led-held, led-nested, led-ended, led-within, led-movable, led-less, led-more, led-rows}
@@ -17,11 +17,11 @@ use Rattle.interpreter.proofs.moving.settle.Tie as tie
 abbrev Inv-loop : tie.InvT-loop
 Inv-loop n items spans heads₀ next₀ left₀ heads next left =
     (length heads ≡ length heads₀)
-    × (left ≡ holding heads 0 (next .count))
-    × ((cells : List ℕ) → Led items spans (state-of next₀ heads₀ cells) (state-of next heads cells))
+    × (left ≡ holding heads 0 (next .numbers .count))
+    × ((cells : List ℕ) → Led items spans (state-of (next₀ .numbers) heads₀ cells) (state-of (next .numbers) heads cells))
 
 abbrev μ-loop : tie.MeasureT-loop
-μ-loop n items spans heads₀ next₀ left₀ heads next left = moves-left items (next .place) (next .fixes) (next .stable) (next .number)
+μ-loop n items spans heads₀ next₀ left₀ heads next left = let n = next .numbers in moves-left items (n .place) (n .fixes) (n .stable) (n .number)
 
 -- the places that proofs look back to
 abbrev start : tie.At-loop Inv-loop μ-loop → tie.Start Inv-loop μ-loop

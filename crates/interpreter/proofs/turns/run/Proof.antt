@@ -5,7 +5,7 @@ use mathlib.Core.Path.{_≡_, refl, _∙_}
 use lib.ListN.{length}
 use borrow.Author.Needs.{needs}
 use native.Mathlib.Omega.{arith}
-use Rattle.engine.specs.States.{state-of}
+use Rattle.layout.specs.State.{state-of}
 use Rattle.interpreter.specs.Running.{Gone}
 use Rattle.interpreter.specs.RunWays.{begun-rows, begun-standing, gone-none, gone-over, gone-lasting, gone-rows, gone-fits, gone-failed, gone-begun}
 use Rattle.interpreter.specs.RunWays.{gone-count, gone-row, gone-more, gone-on}
@@ -17,7 +17,7 @@ Inv-loop list counts items spans heads₀ cells₀ turns count first next₀ lef
     (length heads ≡ length heads₀)
     × (length cells ≡ length cells₀)
     × (taken ≤ length turns)
-    × Gone counts list items spans turns (state-of next₀ heads₀ cells₀) left₀ taken (state-of next heads cells) left
+    × Gone counts list items spans turns (state-of (next₀ .numbers) heads₀ cells₀) left₀ taken (state-of (next .numbers) heads cells) left
 
 abbrev μ-loop : tie.MeasureT-loop
 μ-loop list counts items spans heads₀ cells₀ turns count first next₀ left₀ taken₀ heads cells next left taken = length turns - taken

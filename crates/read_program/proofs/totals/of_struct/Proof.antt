@@ -1,44 +1,100 @@
--- `totals::of_struct` meets its contract: how many steps is not read, or is, with them behind it.
+-- `totals::of_struct` meets its contract: how many steps is not read, or is, with them behind it. The loop's invariant: the steps left, behind
+-- what was totalled up of the others, come to what all of them do. The measure is how many are left.
+use Prim.Native.Nat.{_≤_}
 use native.Mathlib.Omega.{arith}
-use mathlib.Core.Path.{sym, _∙_}
-use Rattle.read_program.specs.Total.{with}
-use Rattle.read_program.specs.TotalWays.{steps-stop, steps-read}
+use mathlib.Core.Path.{_≡_, refl, sym, _∙_}
+use lib.ListN.{length}
+use Rattle.program.specs.Reader.{read-steps}
+use Rattle.judge.specs.ProgramFacts.{struct-totals}
+use Rattle.read_program.specs.Total.{with, Low}
+use Rattle.read_program.specs.TotalWays.{steps-stop, steps-all, steps-row, steps-end, steps-refused, steps-more, value-told, refused-told}
 use borrow.Author.Needs.{needs}
 use Rattle.read_program.proofs.totals.of_struct.Statement.{statement}
 use Rattle.read_program.proofs.totals.of_struct.Tie as tie
 
+abbrev Inv-loop : tie.InvT-loop
+Inv-loop s ar types has₀ k at n m all₀ next₀ left₀ has all next left =
+    ((length has ≡ length has₀) × (Low all next × (next ≤ length s)))
+    × (steps-row ar types s k all₀ has₀ left₀ next₀ ≡ steps-row ar types s k all has left next)
+
+abbrev μ-loop : tie.MeasureT-loop
+μ-loop s ar types has₀ k at n m all₀ next₀ left₀ has all next left = left
+
 -- the places that proofs look back to
-abbrev start : tie.After-slice-known → tie.Start
-start c = c .before .before .before .before
+abbrev begin : tie.After-slice-known Inv-loop μ-loop → tie.Start Inv-loop μ-loop
+begin c = c .before .before .before .before
 
-abbrev start₂ : tie.After-ranged → tie.Start
-start₂ c = start (c .before)
+abbrev start : tie.After-ranged Inv-loop μ-loop → tie.Start Inv-loop μ-loop
+start c = begin (c .before)
 
-abbrev start₃ : tie.After-steps-arg → tie.Start
-start₃ c = start₂ (c .before .before .before .before)
+abbrev start₂ : tie.At-loop Inv-loop μ-loop → tie.Start Inv-loop μ-loop
+start₂ c = start (c .before .before .before .before)
 
-returns : tie.Need-returns
+returns : tie.Need-returns Inv-loop μ-loop
 returns c =
-    let at-ranged = c .before .before .before in let a = start (at-ranged .before) .args in
+    let at-ranged = c .before .before .before in let a = start at-ranged .args in
     let e = sym (at-ranged .ranged .ensures .0) ∙ c .before .enum-told .given .1 in
     rw (c .byte-refusal .ensures, c .before .enum-told .given .1)
     (steps-stop (a .ar .now) (a .types .now) (a .s .now) (a .k) (a .at) (with (a .t) (a .has .now)) _ _ e, tt)
 
-steps-requires : tie.Need-steps-requires
-steps-requires c κs =
-    let span = rw ((c .before .before .r) .given .1) at ((c .before .before .before .before .ranged) .ensures .1) in
-    (start₃ c .pre .0, (omega (arith, start₃ c .pre .1), span .1))
+loop-holds : tie.Need-loop-holds Inv-loop μ-loop
+loop-holds c =
+    let at-ranged = c .before .before .before in
+    let span = rw (c .before .r .given .1) at (at-ranged .ranged .ensures .1) in
+    ((refl, (omega (arith, start at-ranged .pre .1), span .1)), refl)
 
-returns-2 : tie.Need-returns-2
+step-requires : tie.Need-step-requires Inv-loop μ-loop
+step-requires c κs =
+    let at-loop = c .before .before in let pre = start₂ at-loop .pre .0 in
+    ((pre .0, at-loop .loop .inv .0 .0 ∙ pre .1, pre .2), at-loop .loop .inv .0 .1 .0)
+
+same-length : tie.Need-same-length Inv-loop μ-loop
+same-length c =
+    let at-step = c .before .before .before .before in let at-loop = at-step .before .before .before in
+    at-step .step .kept .1 .1 .1 .0 ∙ at-loop .loop .inv .0 .0
+
+returns-2 : tie.Need-returns-2 Inv-loop μ-loop
 returns-2 c =
-    let at-steps = c .before .before in let at-r = at-steps .before .before .before in
-    let at-ranged = at-r .before .before in let a = start (at-ranged .before) .args in
-    let read = steps-read (a .ar .now) (a .types .now) (a .s .now) (a .k) (a .at) (with (a .t) (a .has .now)) _ _
-    (sym (at-ranged .ranged .ensures .0) ∙ at-r .r .given .1) in
-    (rw read (at-steps .steps .ensures .0), at-steps .steps .ensures .1)
+    let at-step = c .before .before .before .before in let at-loop = at-step .before .before .before in
+    let at-r = at-loop .before .before in let at-ranged = at-r .before .before in
+    let a = start at-ranged .args in let s = a .s .now in let loop = at-loop .loop in
+    let T = with (a .t) (a .has .now) in let e = c .enum-told2 .given .1 in
+    let more : loop .left ≡ 0 → ⊥ = λ z. omega arith in
+    let all = steps-all (a .ar .now) (a .types .now) s (a .k) (a .at) T _ _ (sym (at-ranged .ranged .ensures .0) ∙ at-r .r .given .1) in
+    let law = steps-refused (a .ar .now) (a .types .now) s (a .k) (loop .all) (loop .has) (loop .left) (loop .next) more _
+    (sym (at-step .step .ensures .0 .0) ∙ e) in
+    rw e (
+      refused-told (λ ts. struct-totals (a .ar .now) (a .types .now) (a .k) ts T) (read-steps (a .ar .now) s (a .at)) _ _ (all ∙ loop .inv .1 ∙ law),
+      tt,
+    )
+
+loop-again : tie.Need-loop-again Inv-loop μ-loop
+loop-again c =
+    let at-q = c .before in let at-step = at-q .before .before .before .before in
+    let at-loop = at-step .before .before .before in let a = start₂ at-loop .args in let loop = at-loop .loop in
+    let more : loop .left ≡ 0 → ⊥ = λ z. omega arith in
+    let told = rw (at-q .q .given .1) at (at-step .step .ensures .0) in
+    let bounded = rw (at-q .q .given .1) at (at-step .step .ensures .1) in (
+      (at-step .step .kept .1 .1 .1 .0 ∙ loop .inv .0 .0, bounded),
+      loop .inv .1
+          ∙ steps-more (a .ar .now) (a .types .now) (a .s .now) (a .k) (loop .all) (loop .has) (loop .left) (loop .next) more _ _ _ told,
+    )
+
+returns-3 : tie.Need-returns-3 Inv-loop μ-loop
+returns-3 c =
+    let at-loop = c .before in let at-r = at-loop .before .before in let at-ranged = at-r .before .before in
+    let a = start at-ranged .args in let s = a .s .now in let loop = at-loop .loop in
+    let T = with (a .t) (a .has .now) in
+    let none : loop .left ≡ 0 = omega arith in
+    let all = steps-all (a .ar .now) (a .types .now) s (a .k) (a .at) T _ _ (sym (at-ranged .ranged .ensures .0) ∙ at-r .r .given .1) in
+    let law = steps-end (a .ar .now) (a .types .now) s (a .k) (loop .all) (loop .has) (loop .left) (loop .next) none in (
+      value-told (λ ts. struct-totals (a .ar .now) (a .types .now) (a .k) ts T) (read-steps (a .ar .now) s (a .at)) _ _ _ (all ∙ loop .inv .1 ∙ law),
+      loop .inv .0 .1,
+    )
 
 pub of-struct-spec : {M : Type 1} → statement M
 of-struct-spec =
     tie.close
-    (tie.spec (λ c. search needs) (λ c κs. search needs) (λ c. search needs) (λ c. search needs) (λ c κs. search needs) returns steps-requires
-    (λ c. search needs) returns-2)
+    (tie.spec Inv-loop μ-loop (λ c. search needs) (λ c κs. search needs) (λ c. search needs) (λ c. search needs) (λ c κs. search needs) returns
+    loop-holds step-requires (λ c. search needs) (λ c. search needs) same-length returns-2 (λ c. search needs) (λ c. search needs) loop-again
+    (λ c. c .before .loop .inv .0 .0) returns-3)

@@ -17,9 +17,9 @@ returns c =
 
 returns-2 : tie.Need-returns-2
 returns-2 c =
-    let at-begun = c .before .before in let at-if2 = at-begun .before .before in
+    let at-begin = c .before .before in let at-if2 = at-begin .before .before in
     let at-if1 = at-if2 .before .before .before in let args = start (at-if1 .before) .args in
-    at-begun .begun .ensures
+    at-begin .begin .ensures
     ∙ sym (one-with (args .spans .now) (args .c) (args .heads .now) (args .l) (sym (at-if1 .before .means .ensures) ∙ (not-false _ (at-if1 .if1 .left)))
     (at-if2 .if2 .taken))
 

@@ -4,7 +4,8 @@ use Prim.Native.Nat.{_≤_, _+_, _-_}
 use mathlib.Core.Path.{_≡_, sym, ap, _∙_}
 use mathlib.Core.Logic.{⊎-elim}
 use native.Mathlib.Omega.{arith}
-use Rattle.memory.specs.Choose.{holds, holder}
+use Rattle.layout.specs.Layout.{holds}
+use Rattle.memory.specs.Choose.{holder}
 use Rattle.scheduler.specs.ChooseWays.{find-done, find-here, find-next, find-past}
 use Rattle.scheduler.proofs.choose.holder.Statement.{statement}
 use Rattle.scheduler.proofs.choose.holder.Tie as tie

@@ -4,7 +4,8 @@ use Prim.Native.Nat.{_≤_, _+_, _-_}
 use mathlib.Core.Path.{_≡_, sym, ap, _∙_}
 use mathlib.Core.Logic.{⊎-elim}
 use native.Mathlib.Omega.{arith}
-use Rattle.memory.specs.Choose.{holds, holding}
+use Rattle.layout.specs.Layout.{holds}
+use Rattle.memory.specs.Choose.{holding}
 use Rattle.scheduler.specs.ChooseWays.{count-done, count-here, count-past}
 use Rattle.scheduler.proofs.choose.holding.Statement.{statement}
 use Rattle.scheduler.proofs.choose.holding.Tie as tie

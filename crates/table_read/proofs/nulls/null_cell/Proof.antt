@@ -1,7 +1,7 @@
 -- `nulls::null_cell` meets its contract.
 use mathlib.Core.Path.{ap, _∙_}
 use native.Mathlib.Omega.{arith}
-use Rattle.memory.specs.Layout.{cell}
+use Rattle.layout.specs.Layout.{cell}
 use borrow.Author.Needs.{needs}
 use Rattle.table_read.proofs.nulls.null_cell.Statement.{statement}
 use Rattle.table_read.proofs.nulls.null_cell.Tie as tie

@@ -4,7 +4,7 @@ use native.Mathlib.Omega.{arith}
 use lib.ListN.{set}
 use borrow.Author.Tests.{not-true, not-false}
 use Rattle.types.specs.Types.{type-of}
-use Rattle.memory.specs.Layout.{cell}
+use Rattle.layout.specs.Layout.{cell}
 use Rattle.table_read.specs.Laid.{value-laid}
 use Rattle.table_read.specs.ValueWays.{value-cut, value-wrong, value-right, value-cell}
 use borrow.Author.Needs.{needs}

@@ -1,0 +1,176 @@
+-- What the definitions compute is what they say (01, 'Program stream', 'Table and turns', 'Numbers from the input' and 'from the state';
+-- 000, section 4): tests decide their conditions, readers read back what is written, and what is spoken of as one is one.
+use Prim.Native.Nat.{ℕ, suc, _+_, _^_, _<_, _≤_}
+use mathlib.Core.Path.{_≡_}
+use mathlib.Core.Logic.{_↔_}
+use mathlib.Core.Bool.{Bool, true, _&&_}
+use mathlib.Core.Option.{some}
+use mathlib.Core.List.{List, [], _∷_, _++_, map}
+use lib.IntN.{ℤ}
+use lib.ListN.{length, getD, getElem?, drop}
+use Rattle.types.specs.Limits.{max-instances, expr-levels}
+use Rattle.types.specs.Reflects.{Reflects}
+use Rattle.types.specs.Types.{Ty}
+use Rattle.types.specs.TypeBytes.{TypeByte, is-type}
+use Rattle.types.specs.TypeLaws.{type-exact}
+use Rattle.types.specs.Values.{Val, IntRange, in-int, default}
+use Rattle.types.specs.ValueLaws.{int-exact}
+use Rattle.program.specs.Tree.{Op, Expr, Program}
+use Rattle.program.specs.Encoding.{enc-word, enc-program}
+use Rattle.program.specs.Counts.{Counts, CountsTo}
+use Rattle.program.specs.Levels.{levels-program}
+use Rattle.program.specs.Fronts.{Front, EndsAt, OffendsAt}
+use Rattle.program.specs.FrontLaws.{ends-unique, offends-unique, levels-exactly}
+use Rattle.commands.specs.Commands.{Coms, Coms.if-then, Flat.if-n, then, flatten}
+use Rattle.commands.specs.CommandLaws.{if-true, if-false}
+use Rattle.commands.specs.Context.{Ctx}
+use Rattle.commands.specs.Bounds.{Within}
+use Rattle.commands.specs.BoundsDecide.{within}
+use Rattle.commands.specs.BoundsDecideLaws.{within-exact}
+use Rattle.commands.specs.Names.{NamesRight}
+use Rattle.commands.specs.NamesDecide.{names-right}
+use Rattle.commands.specs.NamesDecideLaws.{names-exact}
+use Rattle.commands.specs.Typing.{Types, TypesRight}
+use Rattle.commands.specs.TypingDecide.{types-right}
+use Rattle.commands.specs.TypingDecideLaws.{types-unique, types-exact}
+use Rattle.operators.specs.Operators.{Applies, Exceeds}
+use Rattle.operators.specs.ApplyLaws.{applies-unique, applies-not-exceeds}
+use Rattle.table.specs.Table.{Record, enc-table, HeldTable, TableRight}
+use Rattle.table.specs.TableReader.{TableAnswer.table, table-of-stream}
+use Rattle.table.specs.TableLaws.{table-back, table-injective}
+use Rattle.table.specs.TableFaults.{Field, field-bytes, Allowed, Front as TableFront}
+use Rattle.table.specs.TableViable.{Viable, front-viable, offending-final}
+use Rattle.machine.specs.Published.{State, structs}
+use Rattle.machine.specs.Rules.{meet, Actor, Actor.instance, Actor.schedule, Rule}
+use Rattle.machine.specs.RulesLaws.{meet-each}
+use Rattle.machine.specs.RuleUnique.{rule-unique, full-not-exceeded}
+use Rattle.machine.specs.Stops.{Full, Exceeded, Nested}
+use Rattle.machine.specs.Machine.{Instance, Machine, Out.stuck, command, move}
+use Rattle.machine.specs.Represents.{Represents}
+use Rattle.machine.specs.RepresentsLaws.{Still}
+use Rattle.machine.specs.CommandAgrees.{command-stuck}
+use Rattle.machine.specs.MoveAgrees.{move-stuck}
+use Rattle.run.specs.Turns.{labels-from, chosen}
+use Rattle.run.specs.Holders.{holders}
+use Rattle.run.specs.TurnLaws.{labels-ascend, holder-chosen}
+use Rattle.run.specs.Runs.{Runs, Passes}
+use Rattle.run.specs.RunAgreesVisits.{passes-bounded, all-taken}
+use Rattle.run.specs.Initial.{idle, of-record, first-insts}
+use Rattle.run.specs.BeginLaws.{null-at, record-at, first-length}
+
+-- Types and values ------------------------------------------------------------------------
+
+-- "Types: 0 Int, 1 Nat, 2 Bool, 16 + k struct k, k below S"
+pub type-byte-tested : (S b : ℕ) → Reflects (TypeByte S b) (is-type S b)
+type-byte-tested = type-exact
+
+pub int-range-tested : (z : ℤ) → Reflects (IntRange z) (in-int z)
+int-range-tested = int-exact
+
+-- an operator gives its operands one value at most, and none where 35 is due
+pub result-one : {o : Op} {x y z w : Val} → Applies o x y z → Applies o x y w → z ≡ w
+result-one a b = applies-unique a b
+
+pub result-or-exceeded : {o : Op} {x y z : Val} → Applies o x y z → Exceeds o x y → ⊥
+result-or-exceeded a b = applies-not-exceeds a b
+
+-- Programs --------------------------------------------------------------------------------
+
+-- 4 and 5 are told of one place each, and the level at which a byte stands is that of the counts
+pub end-one : (s : List ℕ) (n m : ℕ) → EndsAt s n → EndsAt s m → n ≡ m
+end-one = ends-unique
+
+pub offence-one : (s : List ℕ) (n m : ℕ) → OffendsAt s n → OffendsAt s m → n ≡ m
+offence-one = offends-unique
+
+pub levels-counted : (p : Program) → CountsTo (suc expr-levels) p
+    → Counts p ↔ Front expr-levels (enc-program p) (enc-program p) (levels-program p)
+levels-counted = levels-exactly
+
+-- 6, 7 and 8 are decided by their tests, and an expression has one type at most
+pub limits-tested : (p : Program) → (within p ≡ true) ↔ Within p
+limits-tested = within-exact
+
+pub names-tested : (p : Program) → (names-right p ≡ true) ↔ NamesRight p
+names-tested = names-exact
+
+pub types-tested : (p : Program) → (types-right p ≡ true) ↔ TypesRight p
+types-tested = types-exact
+
+pub type-one : {G : Ctx} {e : Expr} {t u : Ty} → Types G e t → Types G e u → t ≡ u
+type-one h l = types-unique h l
+
+-- ComIfT and ComIfF on the list: behind `if n` stand the body and then the rest, and without the n commands behind it the rest
+pub if-taken : (b c : Coms) → flatten (if-then b c) ≡ if-n (length (flatten b)) ∷ flatten (then b c)
+if-taken = if-true
+
+pub if-left-out : (b c : Coms) → drop (length (flatten b)) (flatten (then b c)) ≡ flatten c
+if-left-out = if-false
+
+-- Tables ----------------------------------------------------------------------------------
+
+module _ (pss : List (List Ty)) where
+  -- a right table is read back from its bytes, which are no other's
+  pub table-read-back : (rs : List Record) → TableRight pss rs → table-of-stream pss (enc-table rs) ≡ table rs
+  table-read-back = table-back pss
+
+  pub table-one : (qs rs : List Record) → HeldTable pss qs → HeldTable pss rs → enc-table qs ≡ enc-table rs → qs ≡ rs
+  table-one = table-injective pss
+
+  -- fields that are whole and allowed begin a table, and with one behind them that is not allowed no table goes on
+  pub fields-begin : 0 < length pss → length pss ≤ max-instances → {u : List ℕ} {f : Field} → TableFront pss u f → Viable pss u
+  fields-begin s l h = front-viable pss s l h
+
+  pub field-offends : {u : List ℕ} {f : Field} (w : ℕ) → TableFront pss u f → w < 256 ^ field-bytes f → (Allowed pss f w → ⊥)
+      → Viable pss (u ++ enc-word (field-bytes f) w) → ⊥
+  field-offends w h l n v = offending-final pss w h l n v
+
+-- "A run starts with": label k below S is the null instance of struct k with its defaults, S + i is record i, and there are no others
+module _ (p : Program) (rs : List Record) where
+  pub first-null : (k : ℕ) → k < structs p → getElem? (first-insts p rs) k ≡ some (idle k (map default (getD (p .params) k [])))
+  first-null = null-at p rs
+
+  pub first-record : (i : ℕ) {r : Record} → getElem? rs i ≡ some r → getElem? (first-insts p rs) (structs p + i) ≡ some (of-record r)
+  first-record i g = record-at p rs i g
+
+  pub first-count : length (first-insts p rs) ≡ structs p + length rs
+  first-count = first-length p rs
+
+-- Rules -----------------------------------------------------------------------------------
+
+-- sχ₁ ∧ su; ..; sχₙ ∧ su, as 000 prints it
+pub entries-met : (su : Bool) (b : List Bool) → meet su b ≡ map (λ t. t && su) b
+entries-met = meet-each
+
+module _ (p : Program) where
+  -- an instance's command gives a state one next state at most, and so does a move of the schedule; 34 and 35 are never due together
+  pub next-one : (a : Actor) {st st′ st″ : State} → Rule p a st st′ → Rule p a st st″ → st′ ≡ st″
+  next-one a r q = rule-unique p a r q
+
+  pub full-or-exceeded : {l : ℕ} {st : State} → Full l st → Exceeded l st → ⊥
+  full-or-exceeded g h = full-not-exceeded p g h
+
+  -- the machine is stuck exactly where no rule and no number's condition fits
+  pub command-stuck-exactly : (l : ℕ) (m : Machine) (st : State) → Represents m st
+      → (command p l m ≡ stuck) ↔ (((st′ : State) → Rule p (instance l) st st′ → ⊥) × (Full l st → ⊥) × (Exceeded l st → ⊥))
+  command-stuck-exactly l m st R = command-stuck p l m st R
+
+  pub move-stuck-exactly : (m : Machine) (st : State) → Represents m st → Still (m .instances)
+      → (move p m ≡ stuck) ↔ (((st′ : State) → Rule p schedule st st′ → ⊥) × (Nested st → ⊥))
+  move-stuck-exactly m st R t = move-stuck p m st R t
+
+  -- a command is taken for each byte at most, and at 33 for every one
+  pub turns-within : {st st′ : State} {es : List ℕ} {t : ℕ} → Passes p st es t st′ → t ≤ length es
+  turns-within v = passes-bounded p v
+
+  pub turns-used-up : {st st′ : State} {es : List ℕ} {n t : ℕ} → Runs p st es n t st′ → n ≡ 33 → t ≡ length es
+  turns-used-up v e = all-taken p v e
+
+-- "it goes to the (e modulo R)th of them, from 0, in label order": labels ascend, and every holder is some byte's
+pub labels-in-order : (l : ℕ) (bs : List Bool) (i : ℕ) → suc i < length (labels-from l bs)
+    → getD (labels-from l bs) i 0 < getD (labels-from l bs) (suc i) 0
+labels-in-order = labels-ascend
+
+pub holder-picked : (m : Machine) (l : ℕ) {i : Instance} → getElem? (m .instances) l ≡ some i → (i .code ≡ [] → ⊥)
+    → (e : ℕ) × (e < length (holders m)) × (chosen (holders m) e ≡ l)
+holder-picked m l g n = holder-chosen m l g n

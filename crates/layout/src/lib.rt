@@ -1,0 +1,110 @@
+// The memory that a run is lent and the numbers of its machine (01, 'Table and turns'): how many numbers and cells an instance has, where
+// each of them stands, and the functions that read and write them. `specs/Layout.antt` and `specs/State.antt` define what is written here.
+pub mod codes;
+
+ghost use mathlib.Core.Path.{_≡_};
+ghost use Prim.Native.Nat.{_+_, _*_, _<_, _≤_};
+ghost use lib.ListN.{length, getD};
+ghost use lib.Seq.{sets};
+ghost use Rattle.types.specs.Limits.{nat-end};
+ghost use Rattle.layout.specs.Layout.{head-size, height-of, next-of, end-of, head, cell, holds, new-head, going, begun};
+ghost use Rattle.layout.specs.State.{fresh};
+
+// The numbers of an instance in `heads`: its struct, the height of its stack, the place of its next command, the end of its commands.
+pub const HEAD_SIZE: usize = 4;
+
+pub const STRUCT: usize = 0;
+
+pub const HEIGHT: usize = 1;
+
+pub const NEXT: usize = 2;
+
+pub const END: usize = 3;
+
+// The cells of an instance in `cells`: its variables, and behind them its stack.
+pub const ROW_SIZE: usize = 32;
+
+// Memory for all instances.
+pub const HEADS: usize = HEAD_SIZE * types::MAX_INSTANCES;
+
+pub const CELLS: usize = ROW_SIZE * types::MAX_INSTANCES;
+
+// The machine's numbers: instances so far, the place in the schedule, open Fixes, their stability entries as bits with the top one lowest,
+// and 0 or the number of a refusal.
+pub struct Numbers {
+    pub count: usize,
+    pub place: usize,
+    pub fixes: usize,
+    pub stable: usize,
+    pub number: u8,
+}
+
+// Those of a machine of so many instances at the beginning of its schedule.
+pub fn fresh(count: usize) -> Numbers
+    ensures { λ r. ⌜ r ≡ fresh count ⌝ }
+{
+    Numbers {
+        count,
+        place: 0,
+        fixes: 0,
+        stable: 0,
+        number: 0,
+    }
+}
+
+// Number f of instance l.
+pub fn number(heads: &[usize], l: usize, f: usize) -> usize
+    requires { ⌜ head l f < length (now heads) ⌝ }
+    ensures { λ r. ⌜ r ≡ getD (now (heads .entry)) (head l f) 0 ⌝ }
+{
+    heads[HEAD_SIZE * l + f]
+}
+
+// Whether instance l holds commands.
+pub fn holds(heads: &[usize], l: usize) -> bool
+    requires { ⌜ head l end-of < length (now heads) ⌝ }
+    ensures { λ r. ⌜ r ≡ holds (now (heads .entry)) l ⌝ }
+{
+    let at = HEAD_SIZE * l;
+    heads[at + NEXT] < heads[at + END]
+}
+
+// Instance l, new, of struct k: an empty stack and no commands.
+pub fn seat(heads: &mut [usize], l: usize, k: usize)
+    requires { ⌜ head-size * l + head-size ≤ length (now heads) ⌝ }
+    ensures { λ _. ⌜ now (heads .exit) ≡ sets (now (heads .entry)) (head-size * l) (new-head k) ⌝ }
+{
+    let at = HEAD_SIZE * l;
+    heads[at] = k;
+    heads[at + 1] = 0;
+    heads[at + 2] = 0;
+    heads[at + 3] = 0;
+}
+
+// Instance l goes on at the command n, with h values on its stack.
+pub fn go(heads: &mut [usize], l: usize, h: usize, n: usize)
+    requires { ⌜ head l next-of < length (now heads) ⌝ }
+    ensures { λ _. ⌜ now (heads .exit) ≡ going (now (heads .entry)) l h n ⌝ }
+{
+    heads[HEAD_SIZE * l + HEIGHT] = h;
+    heads[HEAD_SIZE * l + NEXT] = n;
+}
+
+// Instance l has an empty stack and the commands from a to e.
+pub fn begin(heads: &mut [usize], l: usize, a: usize, e: usize)
+    requires { ⌜ head l end-of < length (now heads) ⌝ }
+    ensures { λ _. ⌜ now (heads .exit) ≡ begun (now (heads .entry)) l a e ⌝ }
+{
+    let at = HEAD_SIZE * l;
+    heads[at + HEIGHT] = 0;
+    heads[at + NEXT] = a;
+    heads[at + END] = e;
+}
+
+// A cell by the byte of a type and a value's word.
+pub fn cell(t: u8, w: u64) -> u64
+    requires { ⌜ w < nat-end ⌝ }
+    ensures { λ r. ⌜ r ≡ cell t w ⌝ }
+{
+    1 + 256 * (t as u64) + types::NAT_END * w
+}

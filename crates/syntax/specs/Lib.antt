@@ -1,0 +1,14 @@
+pub mod Syntax
+pub mod Yield
+pub mod Bracketing
+pub mod Expecting
+pub mod Places
+pub mod Reading
+pub mod ExpectingLaws
+pub mod SoFar
+pub mod RowLaws
+pub mod PlaceLaws
+pub mod SoundLaws
+pub mod ExpLaws
+pub mod CompleteLaws
+pub mod Rows

@@ -1,0 +1,1 @@
+// The grammar of program text: definitions and laws stand in specs/.
