@@ -4,7 +4,7 @@ use mathlib.Core.Path.{_≡_}
 use mathlib.Core.List.{List}
 use lib.ListN.{length, take, drop}
 use Rattle.types.specs.Limits.{max-commands}
-use Rattle.run.specs.Entry.{check-verdict}
+use Rattle.verdict.specs.Verdict.{check-verdict}
 use Rattle.step_part.specs.StepPart.{step-place, step-part}
 use Rattle.step_part.specs.StepPartLaws.{place-number, place-fits, place-part}
 use Rattle.audala.specs.declared.Part.{Part}

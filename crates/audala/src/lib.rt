@@ -1,7 +1,8 @@
 // The checker and the run as a static library for C and Rust (01, 'Numbers from the input', 'Numbers from the state'); include/audala.h
 // declares it.
 ghost use mathlib.Core.Path.{_≡_};
-ghost use Rattle.run.specs.Entry.{check-verdict, check-list, run-report, run-output, run-list};
+ghost use Rattle.verdict.specs.Verdict.{check-verdict, check-list};
+ghost use Rattle.run.specs.Entry.{run-report, run-output, run-list};
 ghost use Rattle.step_part.specs.StepPart.{step-place};
 ghost use Rattle.audala.specs.Exported.{exported, exported-part, exported-report};
 

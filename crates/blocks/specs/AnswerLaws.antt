@@ -8,7 +8,7 @@ use lib.ListN.{length, drop}
 use lib.Dec.{ltb}
 use borrow.Author.Tests.{ltb-true, ltb-false}
 use Rattle.types.specs.Decides.{Decides, is-true}
-use Rattle.blocks.specs.Blocks.{block-size, payload-size}
+use Rattle.block.specs.Block.{block-size, payload-size}
 use Rattle.blocks.specs.Images.{most, count, fault, stream, image, pieces, read-of, read, read-into, stream-right, write}
 use Rattle.blocks.specs.ImageLaws.{count-length, stream-length, used-last}
 use Rattle.blocks.specs.ImageRoundTrip.{image-accepted, image-stream}
@@ -17,8 +17,8 @@ use Rattle.blocks.specs.WriteWays.{stream-exact, write-done}
 use Rattle.blocks.specs.Answers.{ReadSays, StreamRight, WriteSays}
 use Rattle.blocks.specs.Faults.{Says}
 use Rattle.blocks.specs.FaultLaws.{fault-says}
-use Rattle.blocks.specs.declared.Found.{Found}
-use Rattle.blocks.specs.declared.Found.the-variants.{Right, Wrong}
+use Rattle.block.specs.declared.Found.{Found}
+use Rattle.block.specs.declared.Found.the-variants.{Right, Wrong}
 use Rattle.blocks.specs.declared.Read.{Read}
 use Rattle.blocks.specs.declared.Read.the-variants.{Stream, Short as Short-buffer}
 use Rattle.blocks.specs.declared.Written.the-variants.{Blocks, Length as Wrong-length, Short as Short-output}

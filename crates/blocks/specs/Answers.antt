@@ -3,9 +3,9 @@ use Prim.Native.Nat.{ℕ, _*_, _<_, _≤_}
 use mathlib.Core.Path.{_≡_}
 use mathlib.Core.List.{List}
 use lib.ListN.{length}
-use Rattle.blocks.specs.Blocks.{block-size, payload-size}
+use Rattle.block.specs.Block.{block-size, payload-size}
 use Rattle.blocks.specs.Images.{most, fault, stream, pieces}
-use Rattle.blocks.specs.declared.Found.the-variants.{Right, Wrong}
+use Rattle.block.specs.declared.Found.the-variants.{Right, Wrong}
 use Rattle.blocks.specs.declared.Read.{Read}
 use Rattle.blocks.specs.declared.Read.the-variants.{Stream, Refused, Short as Short-buffer}
 use Rattle.blocks.specs.declared.Written.{Written}

@@ -10,15 +10,16 @@ use lib.ListN.{length}
 use lib.Dec.{ltb}
 use borrow.Author.Count.{below-more}
 use borrow.Author.Tests.{ltb-true, ltb-false}
-use Rattle.blocks.specs.Blocks.{block-size, SumsRight, LaidOut, block-fault, sums-right, laid-out}
-use Rattle.blocks.specs.BlockLaws.{sums-exact, layout-exact}
+use Rattle.block.specs.Block.{block-size, block-fault}
+use Rattle.block.specs.BlockFaults.{HasFault, BlockSays}
+use Rattle.block.specs.BlockFaultLaws.{block-says, not-right, one-fault}
 use Rattle.types.specs.Decides.{Decides, decides-eqb, decides-leb, decides-both, decides-as}
 use Rattle.blocks.specs.Images.{LengthRight, length-right, most, block, count, is-last, first-fault, fault}
-use Rattle.blocks.specs.Faults.{BlockRight, HasFault, BlockSays, AllRight, FirstFault, FirstSays, Says}
-use Rattle.blocks.specs.declared.Fault.{Fault}
-use Rattle.blocks.specs.declared.Fault.the-variants.{Length, Sum, Layout}
-use Rattle.blocks.specs.declared.Found.{Found}
-use Rattle.blocks.specs.declared.Found.the-variants.{Right, Wrong}
+use Rattle.blocks.specs.Faults.{AllRight, FirstFault, FirstSays, Says}
+use Rattle.block.specs.declared.Fault.{Fault}
+use Rattle.block.specs.declared.Fault.the-variants.{Length, Sum, Layout}
+use Rattle.block.specs.declared.Found.{Found}
+use Rattle.block.specs.declared.Found.the-variants.{Right, Wrong}
 
 pub length-exact : (max n : ℕ) → Decides (length-right max n) (LengthRight max n)
 unfolding length-right
@@ -27,16 +28,6 @@ length-exact max n =
     (decides-both _ _ (decides-eqb (n % block-size) 0) (decides-both _ _ (decides-leb block-size n) (decides-leb n (block-size * most max))))
     (λ p. record { whole = p .0; from-one = p .1 .0; to-most = p .1 .1 })
     (λ r. (r .whole, (r .from-one, r .to-most)))
-
-pub block-says : (k : ℕ) (last : Bool) (b : List ℕ) → BlockSays k last b (block-fault k last b)
-unfolding block-fault
-block-says k last b = go (sums-right b) (sums-exact b) (laid-out k last b) (layout-exact k last b)
-  where
-    go : (s : Bool) → Decides s (SumsRight b) → (l : Bool) → Decides l (LaidOut k last b)
-        → BlockSays k last b (elim s [ false ↦ Wrong Sum | true ↦ elim l [ false ↦ Wrong Layout | true ↦ Right ] ])
-    go false d l e = d .fails refl
-    go true d false e = (d .holds refl, e .fails refl)
-    go true d true e = record { sums = d .holds refl; layout = e .holds refl }
 
 pub first-says : (n : ℕ) (x : List ℕ) (k : ℕ) → FirstSays n x k (first-fault n x k)
 unfolding first-fault
@@ -51,21 +42,6 @@ first-says n x (suc k) = ahead (first-fault n x k) (first-says n x k)
         → FirstSays n x (suc k) (elim r [ Wrong f ↦ Wrong f | Right ↦ block-fault k (is-last n k) (block x k) ])
     ahead (Wrong f) p = record { at = p .at; within = omega (arith, p .within); before = p .before; faulty = p .faulty }
     ahead Right p = here (block-fault k (is-last n k) (block x k)) p (block-says k (is-last n k) (block x k))
-
--- a faulty block is not right, and has one first fault
-not-right : (k : ℕ) (last : Bool) (b : List ℕ) (f : Fault) → HasFault k last b f → BlockRight k last b → ⊥
-not-right k last b Length p r = p
-not-right k last b Sum p r = p (r .sums)
-not-right k last b Layout p r = p .1 (r .layout)
-
-one-fault : (k : ℕ) (last : Bool) (b : List ℕ) (f g : Fault) → HasFault k last b f → HasFault k last b g → f ≡ g
-one-fault k last b Length g p q = absurd p
-one-fault k last b Sum Length p q = absurd q
-one-fault k last b Sum Sum p q = refl
-one-fault k last b Sum Layout p q = absurd (p (q .0))
-one-fault k last b Layout Length p q = absurd q
-one-fault k last b Layout Sum p q = absurd (q (p .0))
-one-fault k last b Layout Layout p q = refl
 
 -- two first faults are one
 first-one : (n : ℕ) (x : List ℕ) (k : ℕ) (f g : Fault) → FirstFault n x k f → FirstFault n x k g → f ≡ g

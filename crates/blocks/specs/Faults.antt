@@ -1,30 +1,14 @@
 -- What each answer of looking through an image means, in 01's own conditions ('Blocks', and 1 to 3, 9 and 10 of 'Numbers from the input'): blocks in
--- order, and in a block the sums before index, used count and unused bytes.
+-- order, and in a block what `BlockFaults` says.
 use Prim.Native.Nat.{ℕ, _<_}
-use mathlib.Core.Bool.{Bool}
 use mathlib.Core.List.{List}
 use lib.ListN.{length}
-use Rattle.blocks.specs.Blocks.{SumsRight, LaidOut}
+use Rattle.block.specs.BlockFaults.{BlockRight, HasFault}
 use Rattle.blocks.specs.Images.{LengthRight, block, count, is-last}
-use Rattle.blocks.specs.declared.Fault.{Fault}
-use Rattle.blocks.specs.declared.Fault.the-variants.{Length, Sum, Layout}
-use Rattle.blocks.specs.declared.Found.{Found}
-use Rattle.blocks.specs.declared.Found.the-variants.{Right, Wrong}
-
--- block k is right
-pub record BlockRight (k : ℕ) (last : Bool) (b : List ℕ) : Type 0 where
-  pub sums : SumsRight b
-  pub layout : LaidOut k last b
-
--- block k has that fault; a length is no fault of a block
-abbrev pub HasFault : ℕ → Bool → List ℕ → Fault → Type 0
-HasFault k last b Length = ⊥
-HasFault k last b Sum = SumsRight b → ⊥
-HasFault k last b Layout = SumsRight b × (LaidOut k last b → ⊥)
-
-abbrev pub BlockSays : ℕ → Bool → List ℕ → Found → Type 0
-BlockSays k last b Right = BlockRight k last b
-BlockSays k last b (Wrong f) = HasFault k last b f
+use Rattle.block.specs.declared.Fault.{Fault}
+use Rattle.block.specs.declared.Fault.the-variants.{Length, Sum, Layout}
+use Rattle.block.specs.declared.Found.{Found}
+use Rattle.block.specs.declared.Found.the-variants.{Right, Wrong}
 
 -- the first k blocks of an image of n are right
 abbrev pub AllRight : ℕ → List ℕ → ℕ → Type 0

@@ -6,16 +6,16 @@ use mathlib.Core.Path.{_≡_, refl, ap, ap₂, sym, _∙_, subst}
 use mathlib.Core.List.{List, _++_}
 use lib.ListN.{length, take, drop}
 use lib.Seq.{take-all, take-add}
-use Rattle.blocks.specs.Sums.{Bytes}
-use Rattle.blocks.specs.Blocks.{block-size, payload-size, used-part, block-of}
-use Rattle.blocks.specs.BlockRoundTrip.{block-part, block-sums, block-layout, right-block}
-use Rattle.blocks.specs.ImageBytes.{bytes-take, bytes-drop}
+use Rattle.block.specs.Sums.{Bytes}
+use Rattle.block.specs.Block.{block-size, payload-size, used-part, block-of}
+use Rattle.block.specs.BlockRoundTrip.{block-part, block-sums, block-layout, right-block}
+use Rattle.block.specs.BlockBytes.{bytes-take, bytes-drop}
 use Rattle.blocks.specs.Images.{most, block, count, is-last, fault, joined, stream, piece, pieces, image-of, image}
 use Rattle.blocks.specs.ImageLaws.{piece-length, piece-used, image-length, image-block, count-length, block-whole, stream-piece}
 use Rattle.blocks.specs.ImageLaws.{stream-pieces}
 use Rattle.blocks.specs.Faults.{AllRight, Says}
 use Rattle.blocks.specs.FaultLaws.{fault-says, fault-exact}
-use Rattle.blocks.specs.declared.Found.the-variants.{Right}
+use Rattle.block.specs.declared.Found.the-variants.{Right}
 
 module _ (s : List ℕ) (some : 1 ≤ length s) where
   image-size : length (image s) ≡ block-size * pieces (length s)

@@ -10,18 +10,19 @@ use lib.ListN.{length, take, drop, length-append}
 use lib.Seq.{getD-take, getD-drop}
 use lib.Dec.{eqb, leb}
 use borrow.Author.Tests.{eq-eqb, ne-eqb, le-leb, lt-leb, lt-ltb, le-ltb}
-use Rattle.blocks.specs.Put.{put}
-use Rattle.blocks.specs.PutLaws.{put-next, put-front}
-use Rattle.blocks.specs.Sums.{byte}
-use Rattle.blocks.specs.Blocks.{block-size, payload-size, pair-at, used, used-part, block-fault}
+use Rattle.block.specs.Put.{put}
+use Rattle.block.specs.PutLaws.{put-next, put-front}
+use Rattle.block.specs.Sums.{byte}
+use Rattle.block.specs.Block.{block-size, payload-size, used, used-part, block-fault}
+use Rattle.little_endian.specs.Numbers.{pair-at}
 use Rattle.blocks.specs.Images.{length-right, most, block, count, is-last, first-fault, fault, joined, stream, read, read-of, read-into}
-use Rattle.blocks.specs.BlockRoundTrip.{used-most}
+use Rattle.block.specs.BlockRoundTrip.{used-most}
 use Rattle.blocks.specs.ImageLaws.{count-length, joined-length, joined-starts}
 use Rattle.blocks.specs.Faults.{AllRight, Says}
 use Rattle.blocks.specs.FaultLaws.{length-exact, fault-says}
-use Rattle.blocks.specs.declared.Fault.{Fault}
-use Rattle.blocks.specs.declared.Fault.the-variants.{Length}
-use Rattle.blocks.specs.declared.Found.the-variants.{Right, Wrong}
+use Rattle.block.specs.declared.Fault.{Fault}
+use Rattle.block.specs.declared.Fault.the-variants.{Length}
+use Rattle.block.specs.declared.Found.the-variants.{Right, Wrong}
 use Rattle.blocks.specs.declared.Read.the-variants.{Stream, Refused, Short as Short-buffer}
 
 -- The length of an image ---------------------------------------------------------

@@ -6,14 +6,16 @@ use mathlib.Core.Bool.{Bool, true, false, _&&_}
 use mathlib.Core.List.{List, [], _++_}
 use lib.ListN.{length, take, drop}
 use lib.Dec.{eqb, leb, ltb}
-use Rattle.blocks.specs.Sums.{wrap}
-use Rattle.blocks.specs.Blocks.{block-size, payload-size, block-fault, used-part, block-of}
-use Rattle.blocks.specs.declared.Fault.{Fault}
-use Rattle.blocks.specs.declared.Fault.the-variants.{Length, Sum, Layout}
-use Rattle.blocks.specs.declared.Found.{Found}
-use Rattle.blocks.specs.declared.Found.the-variants.{Right, Wrong}
+use Rattle.block.specs.Sums.{wrap}
+use Rattle.block.specs.Block.{block-size, payload-size, block-fault, used-part, block-of}
+use Rattle.block.specs.declared.Fault.{Fault}
+use Rattle.block.specs.declared.Fault.the-variants.{Length, Sum, Layout}
+use Rattle.block.specs.declared.Found.{Found}
+use Rattle.block.specs.declared.Found.the-variants.{Right, Wrong}
 use Rattle.blocks.specs.declared.Read.{Read}
 use Rattle.blocks.specs.declared.Read.the-variants.{Stream, Refused, Short as Short-buffer}
+use Rattle.blocks.specs.declared.Opened.{Opened}
+use Rattle.blocks.specs.declared.Opened.the-variants.{Stream as Open, Refused as Shut}
 use Rattle.blocks.specs.declared.Written.{Written}
 use Rattle.blocks.specs.declared.Written.the-variants.{Blocks, Length as Wrong-length, Short as Short-output}
 
@@ -73,6 +75,20 @@ unfoldable pub read-into : Read → List ℕ → List ℕ → List ℕ
 read-into (Stream n) s buffer = s ++ drop n buffer
 read-into (Refused f) s buffer = buffer
 read-into Short-buffer s buffer = buffer
+
+-- what opening an image answers, where the buffer has room for the payloads of as many blocks as are allowed; the buffer after it; the fault of a
+-- refusal, and Length where there is none
+unfoldable pub opened : Found → ℕ → Opened
+opened (Wrong f) n = Shut f
+opened Right n = Open n
+
+unfoldable pub opened-into : Opened → List ℕ → List ℕ → List ℕ
+opened-into (Open n) s buffer = s ++ drop n buffer
+opened-into (Shut f) s buffer = buffer
+
+abbrev pub fault-of : Opened → Fault
+fault-of (Shut f) = f
+fault-of (Open n) = Length
 
 -- Writing ---------------------------------------------------------------------
 

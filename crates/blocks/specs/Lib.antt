@@ -1,11 +1,3 @@
-pub mod Put
-pub mod PutLaws
-pub mod Sums
-pub mod SumLaws
-pub mod Blocks
-pub mod BlockLaws
-pub mod BlockWays
-pub mod BlockRoundTrip
 pub mod Images
 pub mod Faults
 pub mod FaultLaws
@@ -16,3 +8,4 @@ pub mod ImageWays
 pub mod Answers
 pub mod WriteWays
 pub mod AnswerLaws
+pub mod OpeningLaws

@@ -1,13 +1,11 @@
 // An image of blocks, looked through and joined to its stream (01, 'Blocks').
 use crate::BLOCK_SIZE;
-use crate::Found;
 use crate::PAYLOAD_SIZE;
-use crate::block;
-use crate::put;
+use block::Found;
 ghost use mathlib.Core.Path.{_≡_};
 ghost use Prim.Native.Nat.{_*_, _≤_};
 ghost use lib.ListN.{length};
-ghost use Rattle.blocks.specs.Put.{put};
+ghost use Rattle.block.specs.Put.{put};
 ghost use Rattle.blocks.specs.Images.{most, length-right, first-fault, joined};
 ghost use Rattle.blocks.specs.Faults.{AllRight};
 
@@ -40,7 +38,7 @@ pub(crate) fn first_fault(image: &[u8], n: usize) -> Found
         let start = BLOCK_SIZE * k;
         let end = start + BLOCK_SIZE;
         let last = k + 1 == n;
-        if let Found::Wrong(f) = block::fault(&image[start..end], k, last) {
+        if let Found::Wrong(f) = block::block_fault(&image[start..end], k, last) {
             return Found::Wrong(f);
         }
         k += 1;
@@ -55,7 +53,7 @@ pub(crate) fn stream_length(image: &[u8], n: usize) -> usize
     ensures { λ r. ⌜ r ≡ length (joined (now (image .entry)) n) ⌝ }
 {
     let k = n - 1;
-    PAYLOAD_SIZE * k + block::pair_at(image, BLOCK_SIZE * k + 2)
+    PAYLOAD_SIZE * k + little_endian::pair_at(image, BLOCK_SIZE * k + 2)
 }
 
 // The used payloads of n right blocks, joined from the start of the buffer.
@@ -70,8 +68,8 @@ pub(crate) fn join(image: &[u8], n: usize, buffer: &mut [u8])
         let start = BLOCK_SIZE * k;
         let end = start + BLOCK_SIZE;
         let block = &image[start..end];
-        let used = block::pair_at(block, 2);
-        put::copy(buffer, PAYLOAD_SIZE * k, block::payload(block, used));
+        let used = little_endian::pair_at(block, 2);
+        block::put::copy(buffer, PAYLOAD_SIZE * k, block::payload(block, used));
         k += 1;
     }
 }

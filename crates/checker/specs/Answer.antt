@@ -3,8 +3,8 @@ use Prim.Native.Nat.{ℕ}
 use Rattle.blocks.specs.Images.{program-number}
 use Rattle.blocks.specs.declared.Read.{Read}
 use Rattle.blocks.specs.declared.Read.the-variants.{Stream, Refused, Short}
-use Rattle.run.specs.Entry.{Verdict as Judgement}
-use Rattle.read_program.specs.declared.Summary.{Summary}
+use Rattle.verdict.specs.Verdict.{Verdict as Judgement}
+use Rattle.load.specs.declared.Loaded.{Loaded}
 use Rattle.checker.specs.declared.Verdict.{Verdict}
 
 abbrev pub answer : Judgement → Verdict
@@ -14,7 +14,7 @@ answer v = record { number = v .number; structs = v .structs; steps = v .steps; 
 abbrev pub counts-verdict : ℕ → ℕ → ℕ → ℕ → Verdict
 counts-verdict a b c d = record { number = 0; structs = a; steps = b; commands = c; depth = d }
 
-abbrev pub approved : Summary → Verdict
+abbrev pub approved : Loaded → Verdict
 approved z = counts-verdict (z .structs) (z .steps) (z .commands) (z .depth)
 
 -- the number of an image that is refused; a buffer with room for every block that is allowed is never too short

@@ -1,12 +1,10 @@
 // The checker: a program image to a number, counts and depth, and its commands to a lent list (01, numbers 1 to 8 and 13).
-
 use blocks::Read;
-use read_program::ProgramRead;
-use read_program::Summary;
+use emit_steps::rows::ROWS;
+use load::Load;
+use load::Loaded;
 ghost use mathlib.Core.Path.{_≡_};
-ghost use Prim.Native.Nat.{_<_};
-ghost use Rattle.program.specs.Reader.{read};
-ghost use Rattle.run.specs.Entry.{of-read, refusal, verdict-of, list-of, check-verdict, check-list};
+ghost use Rattle.verdict.specs.Verdict.{refusal, check-verdict, check-list};
 ghost use Rattle.checker.specs.Answer.{answer, approved, image-refusal};
 
 // 01's number of a lent list with too few places.
@@ -44,39 +42,16 @@ fn refused(number: u8) -> Verdict
     }
 }
 
-fn accepted(p: Summary) -> Verdict
-    requires { ⌜ (p .steps < 256) × (p .commands < 65536) × (p .depth < 256) ⌝ }
+fn accepted(p: Loaded) -> Verdict
     ensures { λ r. ⌜ r ≡ approved p ⌝ }
 {
     Verdict {
         number: 0,
         structs: p.structs,
-        steps: p.steps as u8,
-        commands: p.commands as u16,
-        depth: p.depth as u8,
+        steps: p.steps,
+        commands: p.commands,
+        depth: p.depth,
     }
-}
-
-// A program stream: 4 to 8, then 13; and the commands of an accepted program.
-fn stream(s: &[u8], list: &mut [u64]) -> Verdict
-    ensures { λ r. ⌜ r ≡ answer (verdict-of (of-read (read (now (s .entry)))) (now (list .entry))) ⌝ }
-    ensures { λ _. ⌜ now (list .exit) ≡ list-of (of-read (read (now (s .entry)))) (now (list .entry)) ⌝ }
-{
-    let mut counts = [0u8; types::MAX_STRUCTS];
-    let mut types = [0u8; types::MAX_STRUCTS * types::MAX_PARAMS];
-    let r = read_program::program(s, &mut counts, &mut types);
-    let ProgramRead::Value(at, p) = r else {
-        return refused(read_program::program_refusal(r));
-    };
-    if p.number != 0 {
-        return refused(p.number);
-    }
-    if list.len() < types::MAX_COMMANDS {
-        return refused(SHORT_LIST);
-    }
-    let n = p.structs as usize;
-    emit::steps::program(s, &counts[..n], at, list);
-    accepted(p)
 }
 
 // A program image: 1 to 8, then 13; and its commands in the list, from the first place on, where it is accepted.
@@ -84,10 +59,19 @@ pub fn check(image: &[u8], list: &mut [u64]) -> Verdict
     ensures { λ r. ⌜ r ≡ answer (check-verdict (now (image .entry)) (now (list .entry))) ⌝ }
     ensures { λ _. ⌜ now (list .exit) ≡ check-list (now (image .entry)) (now (list .entry)) ⌝ }
 {
-    let mut buffer = [0u8; types::PROGRAM_BLOCKS * blocks::PAYLOAD_SIZE];
-    let r = blocks::read_image(image, types::PROGRAM_BLOCKS, &mut buffer);
-    let Read::Stream(n) = r else {
-        return refused(image_refusal(r));
+    let mut stream = [0u8; types::PROGRAM_BLOCKS * blocks::PAYLOAD_SIZE];
+    let mut counts = [0u8; types::MAX_STRUCTS];
+    let mut types = [0u8; types::MAX_STRUCTS * types::MAX_PARAMS];
+    let r = load::program(image, &mut stream, &mut counts, &mut types);
+    let Load::Program(p) = r else {
+        return refused(load::refusal(r));
     };
-    stream(&buffer[..n], list)
+    if list.len() < types::MAX_COMMANDS {
+        return refused(SHORT_LIST);
+    }
+    let n = p.length;
+    let k = p.structs as usize;
+    let mut rows = [0u16; ROWS];
+    emit_steps::program(&stream[..n], &counts[..k], p.at, list, &mut rows);
+    accepted(p)
 }

@@ -6,9 +6,11 @@ use mathlib.Core.Path.{_≡_}
 use mathlib.Core.Logic.{_↔_}
 use mathlib.Core.List.{List, [], _∷_}
 use Rattle.commands.specs.Numbers.{Foremost}
-use Rattle.run.specs.Entry.{Checked.refused, checked, refusal, check-verdict, check-list, Begun.not-begun, begins, report, run-report, run-output, run-list}
-use Rattle.run.specs.Input.{program-order, check-order, order}
-use Rattle.run.specs.InputProgram.{checked-number, verdict-number, check-untouched}
+use Rattle.verdict.specs.Verdict.{Checked.refused, checked, refusal, check-verdict, check-list}
+use Rattle.run.specs.Entry.{Begun.not-begun, begins, report, run-report, run-output, run-list}
+use Rattle.verdict.specs.ProgramInput.{program-order, check-order}
+use Rattle.run.specs.Input.{order}
+use Rattle.verdict.specs.ProgramInputLaws.{checked-number, verdict-number, check-untouched}
 use Rattle.run.specs.InputLaws.{begins-number, refusal-untouched}
 use Rattle.step_part.specs.StepPart.{step-place, step-part}
 use Rattle.text.specs.Listing.{row}

@@ -28,9 +28,11 @@ use Rattle.run.specs.StepTurnsLaws.{step-turns as start-turns}
 use Rattle.run.specs.Begin.{params-in, begin, table-of}
 use Rattle.run.specs.Initial.{initial, Comes}
 use Rattle.run.specs.Runs.{Passes}
-use Rattle.run.specs.Entry.{Checked.accepted, checked, listed, approval, check-verdict, check-list, Begun.begun, begins, run-output}
-use Rattle.run.specs.Input.{check-order, order, Accepted as AcceptedImage, TableAccepted, Approved, Ready, Began}
-use Rattle.run.specs.InputProgram.{checked-accepted, verdict-approved, check-approved}
+use Rattle.verdict.specs.Verdict.{Checked.accepted, checked, listed, approval, check-verdict, check-list}
+use Rattle.run.specs.Entry.{Begun.begun, begins, run-output}
+use Rattle.verdict.specs.ProgramInput.{check-order, Accepted as AcceptedImage, Approved}
+use Rattle.run.specs.Input.{order, TableAccepted, Ready, Began}
+use Rattle.verdict.specs.ProgramInputLaws.{checked-accepted, verdict-approved, check-approved}
 use Rattle.run.specs.InputLaws.{begins-ready, begins-none}
 use Rattle.run.specs.RunAgreesVisits.{visits-passes, passes-visits}
 use Rattle.run.specs.BeginLaws.{begin-represents, outcome-exact, comes-unique}

@@ -13,8 +13,8 @@ use Rattle.commands.specs.CodingLaws.{word-injective}
 use Rattle.operators.specs.Operators.{quotient, remainder}
 use Rattle.operators.specs.Rounding.{TowardMinusInfinity, DivisorSigned}
 use Rattle.operators.specs.RoundingLaws.{quotient-downward, quotient-unique, remainder-signed, remainder-unique}
-use Rattle.run.specs.Entry.{of-structs, program-words}
-use Rattle.run.specs.ListLaws.{words-determine}
+use Rattle.verdict.specs.Verdict.{of-structs, program-words}
+use Rattle.verdict.specs.ListLaws.{words-determine}
 
 -- The coding of a command in its place of the list: its word determines it,
 pub word-determines : (c d : Flat) → InRanges c → InRanges d → command-word c ≡ command-word d → c ≡ d

@@ -28,9 +28,10 @@ use Rattle.run.specs.Initial.{initial}
 use Rattle.run.specs.BeginLaws.{begin-represents, outcome-exact}
 use Rattle.run.specs.Runs.{Passes}
 use Rattle.run.specs.RunAgreesVisits.{passes-visits}
-use Rattle.run.specs.Entry.{Checked, Checked.accepted, Checked.refused, checked, Verdict, check-list}
-use Rattle.run.specs.Input.{Accepted, Ready, program-order, check-order}
-use Rattle.run.specs.InputProgram.{checked-accepted, checked-number, verdict-number, verdict-approved, check-approved}
+use Rattle.verdict.specs.Verdict.{Checked, Checked.accepted, Checked.refused, checked, Verdict, check-list}
+use Rattle.verdict.specs.ProgramInput.{Accepted, program-order, check-order}
+use Rattle.run.specs.Input.{Ready}
+use Rattle.verdict.specs.ProgramInputLaws.{checked-accepted, checked-number, verdict-number, verdict-approved, check-approved}
 use Rattle.run.specs.InputLaws.{begins-ready}
 use Rattle.run.specs.AnsweredLaws.{comes-answered}
 use Rattle.sound.specs.Needs.{Right}
@@ -46,30 +47,6 @@ use Rattle.claims.specs.Call.{Call}
 
 -- Steps --------------------------------------------------------------------------------
 
--- a step that is found has the name and the body
-step-named : (ts : List Step) (n : ℕ) {b : Stmts} → find-step ts n ≡ some b → (t : Step) × List·Memᴰ t ts × (t .name ≡ n) × (t .body ≡ b)
-unfolding find-step
-step-named [] n e = let z : _≡_ {A = ℕ} 0 1 = cc in absurd (omega arith)
-step-named (t ∷ ts) n {b = b} e = go (eqb (t .name) n) refl e (λ e. step-named ts n e)
-  where
-    go : (q : Bool) → eqb (t .name) n ≡ q → elim q [ true ↦ some (t .body) | false ↦ find-step ts n ] ≡ some b
-        → (find-step ts n ≡ some b → (u : Step) × List·Memᴰ u ts × (u .name ≡ n) × (u .body ≡ b))
-        → (u : Step) × List·Memᴰ u (t ∷ ts) × (u .name ≡ n) × (u .body ≡ b)
-    go true i e k = (t, List·Memᴰ·head refl, eqb-true (t .name) n i, cc)
-    go false i e k = let (u, m, a, q) = k e in (u, List·Memᴰ·tail m, a, q)
-
--- a name for which none is found names no step
-step-unnamed : (ts : List Step) (n : ℕ) → find-step ts n ≡ none → List·Memᴰ n (names-of-steps ts) → ⊥
-unfolding find-step names-of-steps
-step-unnamed [] n e m = List·Memᴰ·not-nil m
-step-unnamed (t ∷ ts) n e m = go (eqb (t .name) n) refl e m (λ e. step-unnamed ts n e)
-  where
-    go : (q : Bool) → eqb (t .name) n ≡ q → _≡_ {A = Option Stmts} (elim q [ true ↦ some (t .body) | false ↦ find-step ts n ]) none
-        → List·Memᴰ n (t .name ∷ names-of-steps ts) → (find-step ts n ≡ none → List·Memᴰ n (names-of-steps ts) → ⊥) → ⊥
-    go true i e m k = let z : _≡_ {A = ℕ} 0 1 = cc in omega arith
-    go false i e (List·Memᴰ·head a) k = eqb-false (t .name) n i (sym a)
-    go false i e (List·Memᴰ·tail m) k = k e m
-
 module _ (x list : List ℕ) (p : Program) (a : Accepted x p) (h : max-commands ≤ length list) (k n : ℕ) where
   -- of the list that a check filled, the part of a step is the words of its commands, and these are the ones that a run takes
   pub step-handed : {b : Stmts} → step-of p k n ≡ some b
@@ -77,13 +54,12 @@ module _ (x list : List ℕ) (p : Program) (a : Accepted x p) (h : max-commands 
       × (step-part x (check-list x list) k n ≡ words (commands b))
       × (map erase (noted (context p k b) b) ≡ commands b)
   step-handed {b} e =
-      let (t, m, q, w) = step-named (getD (p .steps) k []) n e in
-      let (c, d) = rw (q, w) at (step-words x list p k t (checked-accepted x p .1 a) h m) in
+      let (c, d) = step-words x list p k n (checked-accepted x p .1 a) h e in
       (c, d, erased (context p k b) b)
 
   -- a step that is not there has an empty part
   pub step-not-there : step-of p k n ≡ none → (step-place x list k n .number ≡ 0) × (step-part x list k n ≡ [])
-  step-not-there e = step-absent x list k n p (checked-accepted x p .1 a) h (step-unnamed (getD (p .steps) k []) n e)
+  step-not-there e = step-absent x list k n p (checked-accepted x p .1 a) h e
 
 -- where the check refuses, so does the step entry: the same number, and an empty part
 pub step-numbered : (x list : List ℕ) (k s n : ℕ) → Foremost (check-order x list) n

@@ -53,6 +53,10 @@ all-append : (xs ys : List Row) → All RowInRange xs → All RowInRange ys → 
 all-append [] ys h g = g
 all-append (x ∷ xs) ys h g = (h .0, all-append xs ys (h .1) g)
 
+pub all-both : {A : Type 0} (C D : A → Type 0) (l : List A) → All C l → All D l → All (λ a. (C a) × (D a)) l
+all-both C D [] h g = tt
+all-both C D (a ∷ l) h g = ((h .0, g .0), all-both C D l (h .1) (g .1))
+
 steps-ranged : (ar : List ℕ) (k a : ℕ) (ts : List Step) → k < max-structs → All (CountsStep ar) ts → All RowInRange (steps-rows k a ts)
 unfolding steps-rows CountsStep
 steps-ranged ar k a [] l h = tt
@@ -124,6 +128,17 @@ pub directory-starts : (p : Program) (i : ℕ) → i < length (directory p)
     → getD (map (λ (r : Row). r .start) (directory p)) i 0 ≡ sizes (take i (directory p))
 unfolding directory
 directory-starts p i l = start-is 0 (directory p) (structs-consecutive 0 0 (p .steps)) i l ∙ zero-add _
+
+-- each ends within the commands of all
+inside : (b a : ℕ) (rs : List Row) → Consecutive a rs → a + sizes rs ≤ b → All (λ (r : Row). r .start + r .size ≤ b) rs
+unfolding total
+inside b a [] h l = tt
+inside b a (r ∷ rs) h l = (omega (arith, h .0), inside b (a + r .size) rs (h .1) (omega arith))
+
+pub directory-inside : (p : Program) (b : ℕ) → program-size p ≤ b → All (λ (r : Row). r .start + r .size ≤ b) (directory p)
+unfolding directory program-size
+directory-inside p b l =
+    inside b 0 (directory p) (structs-consecutive 0 0 (p .steps)) (omega (arith, structs-sizes 0 0 (p .steps)))
 
 -- the sizes together are the commands of the program
 pub directory-size : (p : Program) → sizes (directory p) ≡ program-size p

@@ -4,13 +4,14 @@ use Prim.Native.Nat.{ℕ, zero, suc, _+_, _<_}
 use native.Mathlib.Omega.{arith}
 use mathlib.Core.Path.{_≡_, refl, ap, sym, _∙_}
 use mathlib.Core.Bool.{Bool, true, false}
-use mathlib.Core.Option.{none, some}
+use mathlib.Core.Option.{Option, none, some}
 use mathlib.Core.List.{List, [], _∷_, _++_}
 use lib.ListN.{getD}
 use lib.Dec.{eqb}
 use borrow.Author.Tests.{eq-eqb, ne-eqb, eqb-true, eqb-false}
 use Rattle.program.specs.Tree.{Step, Program}
 use Rattle.program.specs.Encoding.{flat}
+use Rattle.program.specs.Counts.{All}
 use Rattle.commands.specs.Bounds.{total, step-size}
 use Rattle.commands.specs.Context.{find-step, step-of}
 use Rattle.directory.specs.declared.Row.{Row}
@@ -41,6 +42,20 @@ module _ (r : Row) (rs : List Row) (k n : ℕ) where
 pub find-none : (k n : ℕ) → find-row [] k n ≡ none
 unfolding find-row
 find-none k n = refl
+
+-- what all rows have, the row that is found has
+abbrev pub IfFound : (Row → Type 0) → Option Row → Type 0
+IfFound C none = Unit {0}
+IfFound C (some r) = C r
+
+pub find-all : (C : Row → Type 0) (rs : List Row) (k n : ℕ) → All C rs → IfFound C (find-row rs k n)
+unfolding find-row
+find-all C [] k n h = tt
+find-all C (r ∷ rs) k n h = go (is-row k n r) refl (find-all C rs k n (h .1))
+  where
+    go : (b : Bool) → is-row k n r ≡ b → IfFound C (find-row rs k n) → IfFound C (find-row (r ∷ rs) k n)
+    go true e g = rw (find-row, e) (h .0)
+    go false e g = rw (find-row, e) g
 
 module _ (t : Step) (ts : List Step) (n : ℕ) where
   step-here : t .name ≡ n → find-step (t ∷ ts) n ≡ some (t .body)

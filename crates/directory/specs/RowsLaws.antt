@@ -104,6 +104,10 @@ unfolding rows-from
 rows-more l i zero h = absurd (h refl)
 rows-more l i (suc n) h = rw (add-one, sub-one)
 
+-- the rows from i on
+pub rows-next : (l : List ℕ) (i n : ℕ) (x : Row) → x ≡ row-at l i → i < n → rows-from l i (n - i) ≡ x ∷ rows-from l (i + 1) (n - (i + 1))
+rows-next l i n x e h = let a : n - i - 1 ≡ n - (i + 1) = omega arith in rows-more l i (n - i) (λ z. omega arith) ∙ rw (a, e) refl
+
 -- what all rows have, each has
 rows-all : (C : Row → Type 0) (l : List ℕ) (i n : ℕ) → All C (rows-from l i n) → (j : ℕ) → j < n → C (row-at l (i + j))
 unfolding rows-from

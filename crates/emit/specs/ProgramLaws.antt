@@ -1,13 +1,12 @@
--- The words of an accepted program (01, 'Names, types, commands'): a caller has what the second pass requires, and gets the program's words.
-use Prim.Native.Nat.{ℕ, _≤_}
+-- The words of an accepted program (01, 'Names, types, commands'): as many as commands; and where its steps stand in a stream that is read.
+use Prim.Native.Nat.{ℕ}
 use native.Mathlib.Omega.{arith}
 use mathlib.Core.Path.{_≡_, refl, sym, _∙_}
 use mathlib.Core.List.{List, [], _∷_, map}
 use mathlib.Core.Bool.{Bool, true, false}
 use lib.ListN.{length, length-append, length-map}
-use lib.Seq.{sets}
 use lib.Dec.{ltb}
-use Rattle.types.specs.Limits.{max-commands, fix-levels}
+use Rattle.types.specs.Limits.{fix-levels}
 use Rattle.types.specs.Types.{Ty}
 use Rattle.program.specs.Tree.{Items, Step, Program}
 use Rattle.program.specs.Encoding.{flat}
@@ -15,9 +14,7 @@ use Rattle.program.specs.Reader.{Result, Result.ok, Result.bad, wrong-end, pair
 use Rattle.program.specs.PartLaws.{made-ok}
 use Rattle.commands.specs.Commands.{commands}
 use Rattle.commands.specs.Bounds.{total, arities, program-size, step-size}
-use Rattle.emit.specs.declared.Put.{Put}
-use Rattle.emit.specs.Written.{code-of, Ready, Wrote}
-use Rattle.emit.specs.ProgramWords.{step-words, steps-words, structs-words, program-words, structs-at, WroteProgram}
+use Rattle.emit.specs.ProgramWords.{step-words, steps-words, program-words, structs-at}
 use Rattle.emit.specs.WordLaws.{words-length}
 use Rattle.emit.specs.ReadLaws.{then-value, made-value, pair-value, pair-ok}
 
@@ -89,24 +86,3 @@ whole-program s p m e =
         go : (t : Bool) → ltb k (length s) ≡ t → ended s a k ≡ ok p m → ok a k ≡ ok p m
         go true h f = let z : _≡_ {A = ℕ} 0 1 = cc (short s a k h) in absurd (omega arith)
         go false h f = sym (long s a k h) ∙ f
-
--- an accepted program's steps may be written, where there is room for its commands
-pub program-ready : (s : List ℕ) (p : Program) (m : ℕ) → read s ≡ ok p m → program-size p ≤ max-commands → (ar : List ℕ) → ar ≡ arities p
-    → (out : List ℕ) → program-size p ≤ length out
-    → (at : ℕ) × (read-params s 0 ≡ ok (p .params) at) × (Ready structs-words (structs-at ar s (length ar) at) out 0)
-unfolding code-of program-words
-program-ready s p m e h ar a out l =
-    let t = program-steps s 0 p m (whole-program s p m e) in
-    let n = program-length p in
-    (t .behind, t .params, rw (a, t .steps) (record { good = tt; room = omega arith; few = omega arith }))
-
--- and what is written is the program's words
-pub program-wrote : (ar s : List ℕ) (at : ℕ) (out : List ℕ) (r : Put) (out' : List ℕ)
-    → Wrote structs-words (structs-at ar s (length ar) at) out 0 r out' → WroteProgram ar s at out r out'
-unfolding code-of program-words
-program-wrote ar s at out r out' w p m e a f =
-    let t = program-steps s 0 p m (whole-program s p m e) in
-    let x : ok (p .params) at ≡ ok (p .params) (t .behind) = sym f ∙ t .params in
-    let y : at ≡ t .behind = cc in
-    let z = rw (a, y, t .steps) at w in
-    (z .list, omega (arith, z .at, program-length p))

@@ -1,15 +1,11 @@
 -- The words of a program: its structs in order, each struct's steps in stream order, each step's commands (000, definition 2).
 use Prim.Native.Nat.{ℕ}
-use mathlib.Core.Path.{_≡_}
 use mathlib.Core.List.{List, [], _∷_}
-use lib.Seq.{sets}
 use Rattle.program.specs.Tree.{Step, Program}
 use Rattle.program.specs.Encoding.{flat}
-use Rattle.program.specs.Reader.{Result, Result.ok, many, read-params, read-step, read-steps, read}
+use Rattle.program.specs.Reader.{Result, many, read-step, read-steps}
 use Rattle.commands.specs.Commands.{commands}
 use Rattle.commands.specs.Coding.{words}
-use Rattle.commands.specs.Bounds.{arities, program-size}
-use Rattle.emit.specs.declared.Put.{Put}
 
 unfoldable pub step-words : Step → List ℕ
 step-words t = words (commands (t .body))
@@ -29,9 +25,3 @@ steps-at ar s n at = many [] _∷_ (read-step ar s) n at
 
 abbrev pub structs-at : List ℕ → List ℕ → ℕ → ℕ → Result (List (List Step))
 structs-at ar s n at = many [] _∷_ (read-steps ar s) n at
-
--- where the stream is a program, `ar` has its parameter counts and its parameter lists end at `at`, its words stand from place 0 on
-abbrev pub WroteProgram : List ℕ → List ℕ → ℕ → List ℕ → Put → List ℕ → Type 0
-WroteProgram ar s at out r out' =
-    (p : Program) (m : ℕ) → read s ≡ ok p m → ar ≡ arities p → read-params s 0 ≡ ok (p .params) at
-    → (out' ≡ sets out 0 (program-words p)) × (r .at ≡ program-size p)

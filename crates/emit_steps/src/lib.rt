@@ -2,6 +2,7 @@
 pub mod rows;
 
 use directory::Row;
+use rows::number;
 use rows::put_row;
 ghost use mathlib.Core.Path.{_≡_};
 ghost use Prim.Native.Nat.{_≤_};
@@ -19,12 +20,6 @@ pub struct Place {
     pub rows: usize,
 }
 
-fn name_of(b: u8) -> u16
-    ensures { λ r. ⌜ r ≡ b ⌝ }
-{
-    b as u16
-}
-
 // A step of a struct: its commands, and its row.
 fn step(s: &[u8], ar: &[u8], structure: u16, p: Place, list: &mut [u64], rows: &mut [u16]) -> Place
     requires { ⌜ Fits step-words (step-row structure) (read-step (now ar) (now s) (p .next)) (stand p (now list) (now rows)) ⌝ }
@@ -37,7 +32,7 @@ fn step(s: &[u8], ar: &[u8], structure: u16, p: Place, list: &mut [u64], rows: &
     let end = q.at;
     let r = Row {
         structure,
-        name: name_of(s[at]),
+        name: number(s[at]),
         start: k as u16,
         size: (end - k) as u16,
     };

@@ -43,6 +43,13 @@ pub fn row_at(rows: &[u16], i: usize) -> Row
     }
 }
 
+// A byte as a number of a row.
+pub fn number(b: u8) -> u16
+    ensures { λ r. ⌜ r ≡ b ⌝ }
+{
+    b as u16
+}
+
 // A number of a row as a place.
 pub fn place(n: u16) -> usize
     ensures { λ r. ⌜ (r ≡ n) × (r < 65536) ⌝ }

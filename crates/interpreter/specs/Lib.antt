@@ -3,6 +3,7 @@ pub mod ReadyLaws
 pub mod Moving
 pub mod MovingLaws
 pub mod Counting
+pub mod FlagLaws
 pub mod CountLaws
 pub mod Running
 pub mod VisitWays

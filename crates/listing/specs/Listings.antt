@@ -5,8 +5,7 @@ use mathlib.Core.List.{List, [], _∷_, _++_}
 use lib.ListN.{length}
 use Rattle.program.specs.Tree.{Program}
 use Rattle.commands.specs.Bounds.{total, program-size, program-depth}
-use Rattle.machine.specs.Published.{structs}
-use Rattle.run.specs.Entry.{Checked, Checked.accepted, Checked.refused, checked}
+use Rattle.verdict.specs.Verdict.{Checked, Checked.accepted, Checked.refused, checked}
 use Rattle.text.specs.Listing.{row}
 use Rattle.step_lines.specs.Lines.{program-lines}
 
@@ -18,7 +17,7 @@ abbrev pub refused-word : List ℕ
 refused-word = 114 ∷ 101 ∷ 102 ∷ 117 ∷ 115 ∷ 101 ∷ 100 ∷ []
 
 unfoldable pub head : Program → List ℕ
-head p = row audala (structs p ∷ total length (p .steps) ∷ program-size p ∷ program-depth p ∷ [])
+head p = row audala (length (p .params) ∷ total length (p .steps) ∷ program-size p ∷ program-depth p ∷ [])
 
 -- what is printed of an image
 unfoldable pub listing : Checked → List ℕ

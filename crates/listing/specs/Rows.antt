@@ -9,10 +9,10 @@ use Rattle.types.specs.Values.{default, word-int, value-of}
 use Rattle.blocks.specs.Images.{length-right, fault, image}
 use Rattle.program.specs.Encoding.{flat, op-code, var-code}
 use Rattle.program.specs.Reader.{read}
-use Rattle.run.specs.Entry.{of-read, of-image, checked}
-use Rattle.run.specs.EntryStreamLaws.{checked-image}
-use Rattle.run.specs.RowsOpen.{checking}
-use Rattle.run.specs.RowPrograms.{P}
+use Rattle.verdict.specs.Verdict.{of-read, of-image, checked}
+use Rattle.verdict.specs.VerdictLaws.{checked-image}
+use Rattle.verdict.specs.Rows.{checking}
+use Rattle.verdict.specs.Rows.{P}
 use Rattle.text.specs.Listing.{digits, decimal, column, tail, row}
 use Rattle.text.specs.CommandText.{shown, command-text}
 use Rattle.text.specs.Rows.{bytes, line-bytes}

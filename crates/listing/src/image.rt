@@ -1,5 +1,6 @@
 // What the listing program prints of an input: the listing of a program image, or its refusal (01, 'Bench rows').
-use blocks::Read;
+use emit_steps::rows::ROWS;
+use load::Load;
 use step_lines::program;
 use text::lines::row;
 ghost use Prim.Native.Nat.{_≤_};
@@ -12,21 +13,24 @@ pub fn listing(image: &[u8], text: &mut [u8; 131072]) -> usize
     ensures { λ r. ⌜ r ≤ 131072 ⌝ }
 {
     let mut stream = [0u8; types::PROGRAM_BLOCKS * blocks::PAYLOAD_SIZE];
-    let r = blocks::read_image(image, types::PROGRAM_BLOCKS, &mut stream);
-    let Read::Stream(n) = r else {
-        return row(text, 0, b"refused", &[checker::image_refusal(r) as u64]);
+    let mut counts = [0u8; types::MAX_STRUCTS];
+    let mut types = [0u8; types::MAX_STRUCTS * types::MAX_PARAMS];
+    let r = load::program(image, &mut stream, &mut counts, &mut types);
+    let Load::Program(p) = r else {
+        return row(text, 0, b"refused", &[load::refusal(r) as u64]);
     };
+    let n = p.length;
+    let structs = p.structs as usize;
     let mut list = [0u64; types::MAX_COMMANDS];
-    let v = checker::check(image, &mut list);
-    if v.number != 0 {
-        return row(text, 0, b"refused", &[v.number as u64]);
-    }
+    let mut rows = [0u16; ROWS];
+    let z = emit_steps::program(&stream[..n], &counts[..structs], p.at, &mut list, &mut rows);
+    let steps = z.rows;
     let head = [
-        v.structs as u64,
-        v.steps as u64,
-        v.commands as u64,
-        v.depth as u64,
+        p.structs as u64,
+        p.steps as u64,
+        p.commands as u64,
+        p.depth as u64,
     ];
     let k = row(text, 0, b"audala", &head);
-    program(&stream[..n], &list, text, k)
+    program(&rows, steps, &list, text, k)
 }

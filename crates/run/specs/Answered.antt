@@ -4,12 +4,13 @@ use Prim.Native.Nat.{ℕ, _*_}
 use mathlib.Core.Path.{_≡_}
 use mathlib.Core.List.{List, _++_}
 use lib.ListN.{length, drop}
-use Rattle.blocks.specs.Blocks.{block-size}
+use Rattle.block.specs.Block.{block-size}
 use Rattle.blocks.specs.Images.{image, pieces}
 use Rattle.program.specs.Tree.{Program}
 use Rattle.commands.specs.Bounds.{program-depth}
 use Rattle.table.specs.Table.{Record, enc-table}
-use Rattle.run.specs.Entry.{report, listed as listed-commands, run-report, run-output, run-list}
+use Rattle.run.specs.Entry.{report, run-report, run-output, run-list}
+use Rattle.verdict.specs.Verdict.{listed as listed-commands}
 
 -- number, turns, blocks and depth; the table's image and behind it the bytes that were there; the commands and behind them the
 -- places that were there

@@ -6,10 +6,11 @@ use mathlib.Core.List.{List, [], _∷_, _++_, map}
 use lib.ListN.{replicate}
 use Rattle.program.specs.Counts.{All}
 use Rattle.program.specs.Rows.{program, adding, addings}
-use Rattle.run.specs.Entry.{Verdict, refusal}
+use Rattle.verdict.specs.Verdict.{Verdict, refusal}
 use Rattle.run.specs.EntryStreams.{Summary, summary}
 use Rattle.run.specs.RowsOpen.{running}
-use Rattle.run.specs.RowPrograms.{P, P-with, once, in-fix, P-65, nots, cell, empty, cells}
+use Rattle.verdict.specs.Rows.{P}
+use Rattle.run.specs.RowPrograms.{P-with, once, in-fix, P-65, nots, cell, empty, cells}
 use Rattle.run.specs.RowLaws.{Row, RowRight, computed, said, rows-follow}
 
 abbrev pub row : List ℕ → List ℕ → List ℕ → Verdict → Summary → Row

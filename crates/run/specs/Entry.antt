@@ -1,106 +1,27 @@
--- The engine's entries on images (01, 'Numbers from the input', 'Numbers from the state', 'What contracts here say'): from a
--- program image, a table image, turn bytes and the lengths lent to number, counts, depth, list places, turns, blocks and bytes.
-use Prim.Native.Nat.{ℕ, zero, suc, _*_}
+-- The run's entry on images (01, 'Numbers from the input', 'Numbers from the state', 'What contracts here say'): from a
+-- program image, a table image, turn bytes and the lengths lent to number, depth, list places, turns, blocks and bytes.
+use Prim.Native.Nat.{ℕ, _*_}
 use mathlib.Core.Bool.{Bool, true, false, _||_}
-use mathlib.Core.List.{List, [], _∷_, _++_}
+use mathlib.Core.List.{List, _++_}
 use lib.ListN.{length, drop}
 use lib.Dec.{ltb}
-use Rattle.types.specs.Limits.{program-blocks, table-blocks, max-commands, max-turns}
-pub use Rattle.types.specs.Numbers.{no-room, many-turns}
-use Rattle.types.specs.Types.{Ty}
-use Rattle.blocks.specs.Blocks.{block-size}
-use Rattle.blocks.specs.Images.{fault, stream, image, pieces, program-number as block-number, table-number as table-block-number}
-use Rattle.blocks.specs.declared.Found.{Found}
-use Rattle.blocks.specs.declared.Found.the-variants.{Right, Wrong}
-use Rattle.program.specs.Tree.{Step, Program}
-use Rattle.program.specs.Reader.{Result, Result.ok, Result.bad, read}
-use Rattle.commands.specs.Bounds.{total, program-size, program-depth, step-list}
-use Rattle.commands.specs.Coding.{words}
-use Rattle.commands.specs.Commands.{Flat}
-use Rattle.commands.specs.Numbers.{program-number}
+use Rattle.types.specs.Limits.{table-blocks, max-commands, max-turns}
+use Rattle.types.specs.Numbers.{no-room, many-turns}
+use Rattle.block.specs.Block.{block-size}
+use Rattle.blocks.specs.Images.{fault, stream, image, pieces, table-number as table-block-number}
+use Rattle.block.specs.declared.Found.{Found}
+use Rattle.block.specs.declared.Found.the-variants.{Right, Wrong}
+use Rattle.program.specs.Tree.{Program}
+use Rattle.commands.specs.Bounds.{program-depth}
+use Rattle.verdict.specs.Verdict.{Checked, Checked.accepted, Checked.refused, checked, listed}
 use Rattle.table.specs.Table.{Record, enc-table}
 use Rattle.table.specs.TableReader.{TableAnswer, TableAnswer.table, TableAnswer.no-table, table-of-stream}
-use Rattle.machine.specs.Published.{structs}
 use Rattle.machine.specs.Machine.{Machine}
 use Rattle.run.specs.Run.{Outcome, Outcome.stopped, Outcome.jammed, run}
 use Rattle.run.specs.Begin.{begin, table-of}
 
 abbrev pub no-number : ℕ
 no-number = 255
-
--- A program image ------------------------------------------------------------------
-
-pub data Checked : Type 0 where
-  accepted : Program → Checked
-  refused : ℕ → Checked
-
-unfoldable pub judge : Program → ℕ → Checked
-judge p zero = accepted p
-judge p (suc n) = refused (suc n)
-
-unfoldable pub of-read : Result Program → Checked
-of-read (ok p at) = judge p (program-number p)
-of-read (bad at n) = refused n
-
-unfoldable pub of-image : Found → List ℕ → Checked
-of-image (Wrong f) x = refused (block-number f)
-of-image Right x = of-read (read (stream x))
-
--- 1 to 8, or the program
-unfoldable pub checked : List ℕ → Checked
-checked x = of-image (fault program-blocks x) x
-
--- the list: the steps from its first place, structs in order, each struct's steps in stream order
-unfoldable pub of-steps : List Step → List Flat
-of-steps [] = []
-of-steps (t ∷ ts) = step-list t ++ of-steps ts
-
-unfoldable pub of-structs : List (List Step) → List Flat
-of-structs [] = []
-of-structs (ts ∷ tss) = of-steps ts ++ of-structs tss
-
-unfoldable pub program-words : Program → List ℕ
-program-words p = words (of-structs (p .steps))
-
--- further places are untouched
-unfoldable pub listed : Program → List ℕ → List ℕ
-listed p list = program-words p ++ drop (length (program-words p)) list
-
--- what checking answers
-pub record Verdict : Type 0 where
-  pub number : ℕ
-  pub structs : ℕ
-  pub steps : ℕ
-  pub commands : ℕ
-  pub depth : ℕ
-
--- a refusal reports no counts and no depth
-abbrev pub refusal : ℕ → Verdict
-refusal n = record { number = n; structs = 0; steps = 0; commands = 0; depth = 0 }
-
-abbrev pub approval : Program → Verdict
-approval p = record {
-  number = 0;
-  structs = structs p;
-  steps = total length (p .steps);
-  commands = program-size p;
-  depth = program-depth p;
-}
-
-unfoldable pub verdict-of : Checked → List ℕ → Verdict
-verdict-of (refused n) list = refusal n
-verdict-of (accepted p) list = elim (ltb (length list) max-commands) [ true ↦ refusal no-room | false ↦ approval p ]
-
-unfoldable pub list-of : Checked → List ℕ → List ℕ
-list-of (refused n) list = list
-list-of (accepted p) list = elim (ltb (length list) max-commands) [ true ↦ list | false ↦ listed p list ]
-
--- an image and a lent list to the verdict, and to the list's places after it
-unfoldable pub check-verdict : List ℕ → List ℕ → Verdict
-check-verdict x list = verdict-of (checked x) list
-
-unfoldable pub check-list : List ℕ → List ℕ → List ℕ
-check-list x list = list-of (checked x) list
 
 -- A run ----------------------------------------------------------------------------
 

@@ -6,13 +6,15 @@ use mathlib.Core.List.{List, _++_}
 use lib.ListN.{length, drop}
 use borrow.Author.Tests.{le-ltb}
 use Rattle.types.specs.Limits.{program-blocks, table-blocks, max-commands}
-use Rattle.blocks.specs.Blocks.{block-size, payload-size}
+use Rattle.block.specs.Block.{block-size, payload-size}
 use Rattle.blocks.specs.Images.{image, image-of, pieces}
 use Rattle.blocks.specs.ImageRoundTrip.{image-accepted, image-stream}
 use Rattle.program.specs.Reader.{read}
 use Rattle.run.specs.Run.{Outcome, Outcome.stopped, Outcome.jammed, run}
 use Rattle.run.specs.Begin.{begin}
-use Rattle.run.specs.Entry.{Checked, Checked.accepted, Checked.refused, of-read, of-image, checked, Begun, Begun.begun, Begun.not-begun, of-table-image, of-checked, begins, report-of, output-of, run-report-by, run-output-by}
+use Rattle.verdict.specs.Verdict.{Checked, Checked.accepted, Checked.refused, of-read}
+use Rattle.run.specs.Entry.{Begun, Begun.begun, Begun.not-begun, of-table-image, of-checked, begins, report-of, output-of, run-report-by, run-output-by}
+use Rattle.verdict.specs.VerdictLaws.{checked-image}
 use Rattle.run.specs.EntryStreams.{of-outcome, summed, reported, table-read, begins-streams}
 
 -- the report and the output of a run, from number, turns, depth and stream
@@ -34,11 +36,6 @@ output-summed (begun p rs) es out = go (run p (begin p rs) es)
     go : (o : Outcome) → output-of p o out ≡ image (of-outcome p o .left) ++ drop (block-size * pieces (length (of-outcome p o .left))) out
     go (stopped n t m) = refl
     go jammed = refl
-
--- a program's image is checked as its stream
-pub checked-image : (s : List ℕ) → 1 ≤ length s → length s ≤ payload-size * program-blocks → checked (image s) ≡ of-read (read s)
-unfolding checked of-image
-checked-image s some fits = rw (image-accepted s some program-blocks (omega arith), of-image, image-stream s some)
 
 -- a run of images begins as their streams say
 module _ (s t : List ℕ) (some : 1 ≤ length s) (fits : length s ≤ payload-size * program-blocks) (has : 1 ≤ length t)

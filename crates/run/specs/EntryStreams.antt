@@ -12,7 +12,8 @@ use Rattle.commands.specs.Bounds.{program-depth}
 use Rattle.table.specs.TableReader.{table-of-stream}
 use Rattle.run.specs.Run.{Outcome, Outcome.stopped, Outcome.jammed, run}
 use Rattle.run.specs.Begin.{begin}
-use Rattle.run.specs.Entry.{Checked, Checked.accepted, Checked.refused, of-read, Begun, Begun.begun, Begun.not-begun, of-table, with-room, no-number, Report, report, last-stream}
+use Rattle.verdict.specs.Verdict.{Checked, Checked.accepted, Checked.refused, of-read}
+use Rattle.run.specs.Entry.{Begun, Begun.begun, Begun.not-begun, of-table, with-room, no-number, Report, report, last-stream}
 
 -- number, turns, depth, and the stream of the table as it stands, which is empty where nothing is written
 pub record Summary : Type 0 where

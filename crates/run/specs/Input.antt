@@ -1,69 +1,20 @@
--- The conditions of the numbers from the input, and their order (01, 'Numbers from the input'). Those of 4 and 5 speak of the fronts of
--- programs' encodings, those of 11 and 12 of the fields of a table's stream: nothing here speaks of reading.
+-- The conditions of the numbers from the input, and their order (01, 'Numbers from the input'): those of a run, beside those of a program image
+-- (`ProgramInput`). Those of 11 and 12 speak of the fields of a table's stream: nothing here speaks of reading.
 use Prim.Native.Nat.{ℕ, _*_, _<_, _≤_}
 use mathlib.Core.Path.{_≡_}
 use mathlib.Core.List.{List, [], _∷_, _++_}
 use lib.ListN.{length}
-use Rattle.types.specs.Limits.{program-blocks, table-blocks, max-commands, max-turns}
-use Rattle.blocks.specs.Blocks.{block-size}
-use Rattle.blocks.specs.Images.{LengthRight, count, stream}
-use Rattle.blocks.specs.Faults.{AllRight, FirstFault}
-use Rattle.blocks.specs.declared.Fault.{Fault}
-use Rattle.blocks.specs.declared.Fault.the-variants.{Sum, Layout}
+use Rattle.types.specs.Limits.{table-blocks, max-commands, max-turns}
+use Rattle.block.specs.Block.{block-size}
+use Rattle.blocks.specs.Images.{stream}
 use Rattle.program.specs.Tree.{Program}
-use Rattle.program.specs.Encoding.{enc-program}
-use Rattle.program.specs.Counts.{Counts}
-use Rattle.program.specs.Fronts.{EndsAt, OffendsAt}
-use Rattle.commands.specs.Bounds.{Within}
-use Rattle.commands.specs.Names.{NamesRight}
-use Rattle.commands.specs.Typing.{TypesRight}
 use Rattle.commands.specs.Numbers.{Order}
+use Rattle.verdict.specs.ProgramInput.{ImageRight, Reads, WrongLength, WrongBlock, ShortList, program-order, Accepted}
 use Rattle.table.specs.Table.{Record, TableRight, enc-table}
 use Rattle.table.specs.TableFaults.{TableEnds, TableOffends}
-use Rattle.run.specs.Entry.{Verdict, approval, Begun, Begun.begun}
-
--- an image of at most max blocks, its length and every block right
-pub record ImageRight (max : ℕ) (x : List ℕ) : Type 0 where
-  pub length-right : LengthRight max (length x)
-  pub blocks-right : AllRight (count x) x (count x)
-
--- the image's stream is the program's bytes, and the program keeps to the counts, ranges and levels
-pub record Reads (x : List ℕ) (p : Program) : Type 0 where
-  pub counts : Counts p
-  pub bytes : stream x ≡ enc-program p
+use Rattle.run.specs.Entry.{Begun, Begun.begun}
 
 -- The conditions ---------------------------------------------------------------------
-
--- an image's length is not a multiple of 512 from 512 to that of max blocks
-abbrev pub WrongLength : ℕ → List ℕ → Type 0
-WrongLength max x = LengthRight max (length x) → ⊥
-
--- the first faulty block of an image has wrong sums; wrong index, used count or unused bytes; is faulty
-abbrev pub WrongSums : List ℕ → Type 0
-WrongSums x = FirstFault (count x) x (count x) Sum
-
-abbrev pub WrongLayout : List ℕ → Type 0
-WrongLayout x = FirstFault (count x) x (count x) Layout
-
-abbrev pub WrongBlock : List ℕ → Type 0
-WrongBlock x = (f : Fault) × FirstFault (count x) x (count x) f
-
--- the stream of a program ends early or goes on after its end; has a byte that is not allowed at its place
-abbrev pub WrongEnd : List ℕ → Type 0
-WrongEnd x = (at : ℕ) × EndsAt (stream x) at
-
-abbrev pub WrongByte : List ℕ → Type 0
-WrongByte x = (at : ℕ) × OffendsAt (stream x) at
-
--- the program that is read is over a limit; breaks a rule of names; of types
-abbrev pub OverLimits : List ℕ → Type 0
-OverLimits x = (p : Program) × (Reads x p) × (Within p → ⊥)
-
-abbrev pub WrongNames : List ℕ → Type 0
-WrongNames x = (p : Program) × (Reads x p) × (NamesRight p → ⊥)
-
-abbrev pub WrongTypes : List ℕ → Type 0
-WrongTypes x = (p : Program) × (Reads x p) × (TypesRight p → ⊥)
 
 -- the stream of a table, under that program, ends early or goes on after its end; has an N, a struct byte or a value not allowed
 abbrev pub TableWrongEnd : List ℕ → List ℕ → Type 0
@@ -72,37 +23,17 @@ TableWrongEnd x y = (p : Program) × (Reads x p) × (TableEnds (p .params) (stre
 abbrev pub TableWrongValue : List ℕ → List ℕ → Type 0
 TableWrongValue x y = (p : Program) × (Reads x p) × (TableOffends (p .params) (stream y))
 
--- the output is under 8,704 bytes; the list has places for fewer than 1,024 commands; over 65,536 turns are given
+-- the output is under 8,704 bytes; over 65,536 turns are given
 abbrev pub ShortOutput : List ℕ → Type 0
 ShortOutput out = length out < block-size * table-blocks
-
-abbrev pub ShortList : List ℕ → Type 0
-ShortList list = length list < max-commands
 
 abbrev pub ManyTurns : List ℕ → Type 0
 ManyTurns es = max-turns < length es
 
 -- Their order ------------------------------------------------------------------------
 
--- Lowest number first. Within 2 and 3, 4 and 5, 11 and 12 the first place decides: there at most one of the two holds, so that which
--- of them stands before the other says nothing.
-
--- of a program image
-abbrev pub program-order : List ℕ → Order
-program-order x =
-    (1, WrongLength program-blocks x)
-    ∷ (2, WrongSums x)
-    ∷ (3, WrongLayout x)
-    ∷ (4, WrongEnd x)
-    ∷ (5, WrongByte x)
-    ∷ (6, OverLimits x)
-    ∷ (7, WrongNames x)
-    ∷ (8, WrongTypes x)
-    ∷ []
-
--- of what checking is given: program image and list
-abbrev pub check-order : List ℕ → List ℕ → Order
-check-order x list = program-order x ++ (13, ShortList list) ∷ []
+-- Lowest number first. Within 11 and 12 the first place decides, as within 2 and 3 and within 4 and 5: at most one of the two holds, so that
+-- which of them stands before the other says nothing.
 
 -- of what a run is given: program image, table image, turn bytes, output and list
 abbrev pub order : List ℕ → List ℕ → List ℕ → List ℕ → List ℕ → Order
@@ -119,14 +50,6 @@ order x y es out list =
 
 -- What is accepted -----------------------------------------------------------------------
 
--- a program image that is accepted
-pub record Accepted (x : List ℕ) (p : Program) : Type 0 where
-  pub image : ImageRight program-blocks x
-  pub reads : Reads x p
-  pub within : Within p
-  pub names : NamesRight p
-  pub types : TypesRight p
-
 -- a table image that is accepted under a program
 pub record TableAccepted (p : Program) (y : List ℕ) (rs : List Record) : Type 0 where
   pub image : ImageRight table-blocks y
@@ -140,10 +63,6 @@ pub record Ready (x y es out list : List ℕ) (p : Program) (rs : List Record) :
   pub output-room : block-size * table-blocks ≤ length out
   pub list-room : max-commands ≤ length list
   pub turns-few : length es ≤ max-turns
-
--- the verdict on an accepted program, where the list has room
-abbrev pub Approved : List ℕ → List ℕ → Verdict → Type 0
-Approved x list v = (p : Program) × (v ≡ approval p) × (Accepted x p) × (max-commands ≤ length list)
 
 -- the program and the table of an answer, ready to run
 abbrev pub Began : List ℕ → List ℕ → List ℕ → List ℕ → List ℕ → Begun → Type 0

@@ -9,13 +9,13 @@ use mathlib.Core.List.{List, [], _∷_}
 use lib.ListN.{length}
 use lib.Dec.{ltb}
 use Rattle.types.specs.Limits.{table-blocks, max-commands, max-turns}
-use Rattle.blocks.specs.Blocks.{block-size}
+use Rattle.block.specs.Block.{block-size}
 use Rattle.blocks.specs.Images.{stream, fault}
 use Rattle.blocks.specs.Faults.{Says}
 use Rattle.blocks.specs.FaultLaws.{fault-says}
-use Rattle.blocks.specs.declared.Fault.the-variants.{Length, Sum, Layout}
-use Rattle.blocks.specs.declared.Found.{Found}
-use Rattle.blocks.specs.declared.Found.the-variants.{Right, Wrong}
+use Rattle.block.specs.declared.Fault.the-variants.{Length, Sum, Layout}
+use Rattle.block.specs.declared.Found.{Found}
+use Rattle.block.specs.declared.Found.the-variants.{Right, Wrong}
 use Rattle.program.specs.Tree.{Program}
 use Rattle.types.specs.Reflects.{Reflects, Reflects.holds, Reflects.fails, lt-reflects}
 use Rattle.commands.specs.Numbers.{Order, NoneOf, Foremost}
@@ -26,10 +26,12 @@ use Rattle.table.specs.TableLaws.{table-answer-exact, table-numbers}
 use Rattle.table.specs.TableFaultLaws.{table-ends-exactly, table-offends-exactly, ends-or-offends, right-not-ends, right-not-offends}
 use Rattle.run.specs.Run.{run}
 use Rattle.run.specs.Begin.{begin}
-use Rattle.run.specs.Entry.{Checked, Checked.refused, checked, Begun, Begun.begun, Begun.not-begun, of-table, of-table-image, of-checked, with-room, begins, report, report-of, output-of, listed, run-report-by, run-output-by, run-list-by, run-report, run-output, run-list}
-use Rattle.run.specs.Input.{ImageRight, Reads, Accepted, TableAccepted, Ready, Began, WrongLength, WrongBlock, TableWrongEnd, TableWrongValue, ShortOutput, ShortList, ManyTurns, program-order, order}
-use Rattle.run.specs.InputOrder.{none-behind, foremost-front, Tells, Tells.refuses, Tells.passes, here, past, past-all, tells-number, tells-none}
-use Rattle.run.specs.InputProgram.{one-program, no-fault, Passed, tell-checked, accepted-none}
+use Rattle.verdict.specs.Verdict.{Checked, Checked.refused, checked, listed}
+use Rattle.run.specs.Entry.{Begun, Begun.begun, Begun.not-begun, of-table, of-table-image, of-checked, with-room, begins, report, report-of, output-of, run-report-by, run-output-by, run-list-by, run-report, run-output, run-list}
+use Rattle.verdict.specs.ProgramInput.{ImageRight, Reads, Accepted, WrongLength, WrongBlock, ShortList, program-order}
+use Rattle.run.specs.Input.{TableAccepted, Ready, Began, TableWrongEnd, TableWrongValue, ShortOutput, ManyTurns, order}
+use Rattle.verdict.specs.InputOrder.{none-behind, foremost-front, Tells, Tells.refuses, Tells.passes, here, past, past-all, tells-number, tells-none}
+use Rattle.verdict.specs.ProgramInputLaws.{one-program, no-fault, Passed, tell-checked, accepted-none}
 
 module _ (x y es out list : List ℕ) where
   abbrev Tell : Order → Begun → Type 1

@@ -8,7 +8,6 @@ pub mod Visits
 pub mod VisitLaws
 pub mod Begin
 pub mod Entry
-pub mod ListLaws
 pub mod EntryStreams
 pub mod EntryStreamLaws
 pub mod RowsOpen
@@ -18,8 +17,6 @@ pub mod RowLaws
 pub mod Bench
 pub mod Rows
 pub mod Input
-pub mod InputOrder
-pub mod InputProgram
 pub mod InputLaws
 pub mod TurnLaws
 pub mod Settles

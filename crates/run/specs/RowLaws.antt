@@ -11,17 +11,19 @@ use borrow.Author.Tests.{le-ltb}
 use Rattle.types.specs.Limits.{program-blocks, table-blocks, max-commands, max-turns, first-local}
 use Rattle.types.specs.Values.{Val}
 use Rattle.types.specs.Decides.{Decides, decides-leb, decides-both}
-use Rattle.blocks.specs.Blocks.{block-size, payload-size, block-of}
+use Rattle.block.specs.Block.{block-size, payload-size, block-of}
 use Rattle.blocks.specs.Images.{image, pieces}
-use Rattle.blocks.specs.declared.Found.{Found}
+use Rattle.block.specs.declared.Found.{Found}
 use Rattle.program.specs.Counts.{All}
 use Rattle.program.specs.Reader.{read}
 use Rattle.machine.specs.Published.{lookup}
 use Rattle.run.specs.Run.{Outcome, Outcome.stopped, Outcome.jammed, run}
 use Rattle.run.specs.Begin.{begin}
-use Rattle.run.specs.Entry.{Checked, Checked.accepted, Checked.refused, Verdict, refusal, approval, verdict-of, check-verdict, of-read, of-image, checked, Begun, Begun.begun, Begun.not-begun, of-table-image, of-checked, with-room, begins, Report, run-report-by, run-output-by, run-report, run-output}
+use Rattle.verdict.specs.Verdict.{Checked, Checked.accepted, Checked.refused, Verdict, refusal, approval, verdict-of, check-verdict, of-read, of-image, checked}
+use Rattle.run.specs.Entry.{Begun, Begun.begun, Begun.not-begun, of-table-image, of-checked, with-room, begins, Report, run-report-by, run-output-by, run-report, run-output}
 use Rattle.run.specs.EntryStreams.{Summary, summed, reported, begins-streams}
-use Rattle.run.specs.EntryStreamLaws.{report-summed, output-summed, checked-image, begins-image}
+use Rattle.run.specs.EntryStreamLaws.{report-summed, output-summed, begins-image}
+use Rattle.verdict.specs.VerdictLaws.{checked-image}
 use Rattle.run.specs.Swept.{swept-block, block-is, swept, fault-is}
 
 -- of every element of a list P holds, where it follows from an equation of two functions, and these are equal on the list

@@ -7,10 +7,6 @@ use Rattle.program.specs.Rows.{program, addings}
 
 -- 01's programs --------------------------------------------------------------------
 
--- P: load := load + prev.load, run once
-unfoldable pub P : List ℕ
-P = 1 ∷ 2 ∷ 0 ∷ 16 ∷ 1 ∷ 0 ∷ 1 ∷ 3 ∷ 1 ∷ 0 ∷ 41 ∷ 18 ∷ 1 ∷ 0 ∷ 18 ∷ 2 ∷ 1 ∷ 0 ∷ 1 ∷ 1 ∷ 0 ∷ []
-
 -- P's struct, its update n times, and a schedule; the step 0 once, twice, in a Fix
 unfoldable pub P-with : ℕ → List ℕ → List ℕ
 P-with n schedule = program (2 ∷ 0 ∷ 16 ∷ []) (n ∷ addings n) schedule

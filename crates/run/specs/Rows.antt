@@ -1,25 +1,24 @@
 -- Rows that pin what no law does, by computation: runs (01, 'Slips seen before', 'Table and turns', 'Numbers from the state'), numbers
 -- of damaged images and of lengths ('Blocks', 'Numbers from the input'), and what a run leaves in memory. 01's own rows are in Bench.
-use Prim.Native.Nat.{ℕ, _≤_}
+use Prim.Native.Nat.{ℕ}
 use native.Mathlib.Omega.{arith}
-use mathlib.Core.Path.{_≡_, refl, ap, _∙_}
+use mathlib.Core.Path.{_≡_, refl}
 use mathlib.Core.Option.{Option, none, some}
 use mathlib.Core.List.{List, [], _∷_, _++_, map}
-use lib.ListN.{length, take, drop, set, replicate}
+use lib.ListN.{take, set, replicate}
 use lib.IntN.{pos}
-use borrow.Author.Tests.{le-ltb}
-use Rattle.types.specs.Limits.{max-commands}
 use Rattle.types.specs.Values.{Val, Val.int-val}
-use Rattle.blocks.specs.Blocks.{pair-at, pair, index, used, used-part, unused-part, used-right, zeros as zero-bytes, laid-out, front, block-of}
+use Rattle.little_endian.specs.Numbers.{pair-at}
+use Rattle.block.specs.Block.{pair, index, used, used-part, unused-part, used-right, zeros as zero-bytes, laid-out, front, block-of}
 use Rattle.blocks.specs.Images.{length-right, block, is-last, joined, stream, piece, image-of, image}
 use Rattle.program.specs.Counts.{All}
-use Rattle.program.specs.Reader.{read}
 use Rattle.program.specs.Rows.{program, adding, addings}
-use Rattle.run.specs.Entry.{Checked, Checked.accepted, Checked.refused, of-read, of-image, of-table-image, report-of, run-report-by, program-words, listed, list-of, check-list}
+use Rattle.verdict.specs.Verdict.{of-image}
+use Rattle.run.specs.Entry.{of-table-image, report-of, run-report-by}
 use Rattle.run.specs.EntryStreams.{summary, begins-streams}
-use Rattle.run.specs.EntryStreamLaws.{checked-image}
 use Rattle.run.specs.RowsOpen.{running}
-use Rattle.run.specs.RowPrograms.{P, P-with, once, twice, one-in-fix, local-7, both-sides, constructing, inner-fix, itself, nothing, chosen-by, along-path, leaving, cell, single, empty, cells, plain}
+use Rattle.verdict.specs.Rows.{P}
+use Rattle.run.specs.RowPrograms.{P-with, once, twice, one-in-fix, local-7, both-sides, constructing, inner-fix, itself, nothing, chosen-by, along-path, leaving, cell, single, empty, cells, plain}
 use Rattle.run.specs.Swept.{plain-sum, falling-sum, swept-right, swept-fault, swept-block, block-is, first-swept, swept}
 use Rattle.run.specs.RowLaws.{each, Row, RowRight, computed, said, rows-follow, ImageRow, reports, swept-number, swept-over, images-follow, Kept, at-last, kept}
 use Rattle.run.specs.Bench.{row, ok, zeros, of-P, two}
@@ -176,28 +175,3 @@ kept-rows-computed = refl
 -- every schedule leaves what its row says
 pub kept-rows-right : All (λ r. leaves r ≡ r .keeps) kept-rows
 kept-rows-right = each leaves (λ r. r .keeps) (λ r e. e) kept-rows kept-rows-computed
-
--- The list -----------------------------------------------------------------------------
-
-abbrev words-by : Checked → List ℕ
-words-by (accepted p) = program-words p
-words-by (refused n) = []
-
-list-room : (c : Checked) (list : List ℕ) → max-commands ≤ length list → list-of c list ≡ words-by c ++ drop (length (words-by c)) list
-unfolding list-of listed
-list-room (refused n) list h = refl
-list-room (accepted p) list h = rw (le-ltb (length list) max-commands h, list-of)
-
-words-P : words-by (of-read (read P)) ≡ 2 ∷ 3 ∷ 2 ∷ 4294967299 ∷ 3 ∷ 176093659144 ∷ 2 ∷ 4 ∷ []
-unfolding running P
-words-P = refl
-
--- P's commands stand in the first 8 places of the list, and further places are untouched: push this, rd 0, push this, rd 1, rd 0,
--- op 41, push this, wr 0
-pub listed-P : (list : List ℕ) → max-commands ≤ length list
-    → check-list (image P) list ≡ 2 ∷ 3 ∷ 2 ∷ 4294967299 ∷ 3 ∷ 176093659144 ∷ 2 ∷ 4 ∷ drop 8 list
-unfolding check-list P
-listed-P list h =
-    ap (λ (c : Checked). list-of c list) (checked-image P (omega arith) (omega arith))
-    ∙ list-room (of-read (read P)) list h
-    ∙ ap (λ (w : List ℕ). w ++ drop (length w) list) words-P

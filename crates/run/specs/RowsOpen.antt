@@ -3,22 +3,11 @@
 use Prim.Native.Nat.{ℕ}
 use mathlib.Core.List.{List}
 use Rattle.types.specs.TypeBytes.{word-end, struct-of}
-use Rattle.types.specs.Types.{same-type, code}
+use Rattle.types.specs.Types.{code}
 use Rattle.types.specs.Values.{default, in-int, int-word, word-int, word, value-of}
 use Rattle.program.specs.Encoding.{enc-word, flat, op-code, var-code}
-use Rattle.program.specs.Reader.{read}
-use Rattle.program.specs.Rows.{reading}
-use Rattle.commands.specs.Commands.{then, reads, front, last, expr-coms, args-coms, update-coms, stmt-coms, body-coms, flatten, commands}
 use Rattle.commands.specs.Coding.{coded, com-word, command-word, words}
-use Rattle.commands.specs.Context.{stmt-local, body-local, find-step}
-use Rattle.commands.specs.Names.{declares, declared, names-of-steps}
-use Rattle.commands.specs.Depth.{depth}
-use Rattle.commands.specs.Bounds.{item-count, items-count, total, greatest, program-size, program-depth}
-use Rattle.commands.specs.Decide.{every, member, distinct}
-use Rattle.commands.specs.NamesDecide.{start-named, expr-named, args-named, stmt-named, body-named, steps-named, stepped, item-stepped, items-stepped, names-right}
-use Rattle.commands.specs.TypingDecide.{is-of, agree, given as given-type, result, operate as operate-types, lead, path-type, expr-type, args-typed, stmt-typed, body-typed, steps-typed, types-right}
-use Rattle.commands.specs.BoundsDecide.{within}
-use Rattle.commands.specs.Numbers.{first, breach-tests, program-number}
+use Rattle.commands.specs.Context.{find-step}
 use Rattle.commands.specs.Noted.{walk, store, read-path, write-path, note-expr, note-exprs, note-stmt, note-body, noted, now-written}
 use Rattle.operators.specs.Operators.{quotient, remainder}
 use Rattle.operators.specs.Apply.{same-int, same-bool, same-val, int-answer, nat-answer, by-nonzero, compute, answer, on-truths, on-labels, apply}
@@ -32,13 +21,10 @@ use Rattle.run.specs.Turns.{labels-from, chosen}
 use Rattle.run.specs.Holders.{holds-code, holders}
 use Rattle.run.specs.Run.{later, is-done, moved, settle-by, settle, fuel, taken, turn, at-last, run}
 use Rattle.run.specs.Begin.{nulls, first-instances, begin, record-of, table-of}
-use Rattle.run.specs.Entry.{Checked, judge, of-read, of-steps, of-structs, program-words, of-table, with-room}
+use Rattle.verdict.specs.Verdict.{of-steps, of-structs, program-words}
+use Rattle.verdict.specs.Rows.{checking}
+use Rattle.run.specs.Entry.{of-table, with-room}
 use Rattle.run.specs.EntryStreams.{Summary, of-outcome, summed, table-read, begins-streams}
-
--- what a program stream comes to
-unfoldable pub checking : List ℕ → Checked
-unfolding reading same-type then reads front last expr-coms args-coms update-coms stmt-coms body-coms flatten commands stmt-local body-local declares declared names-of-steps depth item-count items-count total greatest program-size program-depth every member distinct start-named expr-named args-named stmt-named body-named steps-named stepped item-stepped items-stepped names-right is-of agree given-type result operate-types lead path-type expr-type args-typed stmt-typed body-typed steps-typed types-right within first breach-tests program-number judge of-read
-checking s = of-read (read s)
 
 -- what a run of program stream, table stream and turn bytes comes to, where output and list have room
 unfoldable pub running : List ℕ → List ℕ → List ℕ → Summary

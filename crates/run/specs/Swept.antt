@@ -7,13 +7,14 @@ use mathlib.Core.Bool.{Bool, true, false, _&&_}
 use mathlib.Core.List.{List, [], _∷_, _++_}
 use lib.ListN.{length}
 use lib.Dec.{eqb}
-use Rattle.blocks.specs.Sums.{byte, sum, summed, wrap, sum-a, sum-b}
-use Rattle.blocks.specs.SumLaws.{sum-ext}
-use Rattle.blocks.specs.Blocks.{pair-at, pair, sums-right, laid-out, block-fault, front, block-of}
+use Rattle.block.specs.Sums.{byte, sum, summed, wrap, sum-a, sum-b}
+use Rattle.block.specs.SumLaws.{sum-ext}
+use Rattle.little_endian.specs.Numbers.{pair-at}
+use Rattle.block.specs.Block.{pair, sums-right, laid-out, block-fault, front, block-of}
 use Rattle.blocks.specs.Images.{length-right, count, block, is-last, first-fault, fault}
-use Rattle.blocks.specs.declared.Fault.the-variants.{Length, Sum, Layout}
-use Rattle.blocks.specs.declared.Found.{Found}
-use Rattle.blocks.specs.declared.Found.the-variants.{Right, Wrong}
+use Rattle.block.specs.declared.Fault.the-variants.{Length, Sum, Layout}
+use Rattle.block.specs.declared.Found.{Found}
+use Rattle.block.specs.declared.Found.the-variants.{Right, Wrong}
 
 -- Sums ---------------------------------------------------------------------------------
 

@@ -12,9 +12,9 @@ use Rattle.commands.specs.Numbers.{program-number}
 use Rattle.judge.specs.ProgramFacts.{types-table}
 use Rattle.read_params.specs.ParamsTold.{ParamsKept}
 use Rattle.read_params.specs.ParamsWays.{table-length}
-use Rattle.run.specs.Entry.{Checked.accepted, judge, of-read}
+use Rattle.verdict.specs.Verdict.{Checked.accepted, judge, of-read}
 use Rattle.read_program.specs.declared.Summary.{Summary}
-use Rattle.checker.specs.CheckLaws.{Behind, number-is, counted, here, table}
+use Rattle.load.specs.StreamLaws.{Behind, number-is, counted, here, table}
 use Rattle.run_images.specs.Stages.{Admitted}
 
 -- an admitted program is accepted

@@ -6,7 +6,7 @@ use mathlib.Core.Path.{_≡_, refl, ap, sym, _∙_}
 use mathlib.Core.List.{List, _++_, map}
 use lib.ListN.{length, drop}
 use Rattle.types.specs.Limits.{table-blocks, max-commands, max-turns, schedule-items}
-use Rattle.blocks.specs.Blocks.{block-size}
+use Rattle.block.specs.Block.{block-size}
 use Rattle.blocks.specs.Images.{image, pieces}
 use Rattle.program.specs.Tree.{Program}
 use Rattle.commands.specs.Bounds.{program-depth, Within}
@@ -19,7 +19,8 @@ use Rattle.run.specs.Run.{Outcome, Outcome.stopped, run}
 use Rattle.run.specs.Begin.{begin}
 use Rattle.run.specs.Visits.{Visits}
 use Rattle.run.specs.RunAgreesVisits.{run-turns}
-use Rattle.run.specs.Entry.{Begun.begun, listed, report, report-of, output-of, last-stream, run-report-by, run-output-by, run-list-by}
+use Rattle.run.specs.Entry.{Begun.begun, report, report-of, output-of, last-stream, run-report-by, run-output-by, run-list-by}
+use Rattle.verdict.specs.Verdict.{listed}
 use Rattle.sound.specs.Accepted.{Accepted}
 use Rattle.sound.specs.AcceptedLaws.{number-accepts, accepted-firm}
 use Rattle.sound.specs.BeginGood.{begin-good}

@@ -14,7 +14,8 @@ use Rattle.table.specs.Table.{Record}
 use Rattle.table.specs.TableReader.{TableAnswer, TableAnswer.table, TableAnswer.no-table}
 use Rattle.commands.specs.Bounds.{arities}
 use Rattle.machine.specs.Published.{structs}
-use Rattle.run.specs.Entry.{Begun, Begun.begun, Begun.not-begun, of-read, of-table, of-checked}
+use Rattle.run.specs.Entry.{Begun, Begun.begun, Begun.not-begun, of-table, of-checked}
+use Rattle.verdict.specs.Verdict.{of-read}
 use Rattle.layout.specs.Layout.{head-size, row-size}
 use Rattle.memory.specs.Plan.{At}
 use Rattle.table_read.specs.declared.TableRead.the-variants.{Instances, Refused}

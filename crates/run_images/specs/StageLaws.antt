@@ -5,10 +5,13 @@ use mathlib.Core.List.{List}
 use lib.ListN.{length}
 use borrow.Author.Tests.{lt-ltb, le-ltb}
 use Rattle.types.specs.Limits.{table-blocks, max-commands, max-turns}
-use Rattle.blocks.specs.Blocks.{block-size}
+use Rattle.block.specs.Block.{block-size}
 use Rattle.program.specs.Tree.{Program}
 use Rattle.table.specs.Table.{Record}
-use Rattle.run.specs.Entry.{Checked, Checked.refused, checked, Begun, Begun.begun, Begun.not-begun, with-room, of-checked, begins, report, no-room, many-turns, run-report-by, run-output-by, run-list-by, run-report, run-output, run-list}
+use Rattle.verdict.specs.Verdict.{Checked, Checked.refused, checked}
+use Rattle.types.specs.Numbers.{no-room}
+use Rattle.run.specs.Entry.{Begun, Begun.begun, Begun.not-begun, with-room, of-checked, begins, report, run-report-by, run-output-by, run-list-by, run-report, run-output, run-list}
+use Rattle.types.specs.Numbers.{many-turns}
 use Rattle.run_images.specs.declared.Report.{Report}
 use Rattle.run_images.specs.Answer.{answer}
 use Rattle.run_images.specs.Stages.{roomed, Answers}

@@ -7,7 +7,7 @@ use mathlib.Core.List.{List}
 use lib.ListN.{length}
 use lib.Dec.{ltb}
 use Rattle.types.specs.Limits.{table-blocks, max-commands, max-turns}
-use Rattle.blocks.specs.Blocks.{block-size}
+use Rattle.block.specs.Block.{block-size}
 use Rattle.program.specs.Tree.{Program}
 use Rattle.program.specs.Reader.{Result.ok, read-params, read}
 use Rattle.commands.specs.Bounds.{arities, program-depth}

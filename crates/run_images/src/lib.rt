@@ -10,9 +10,10 @@ ghost use mathlib.Core.Path.{_≡_};
 ghost use Prim.Native.Nat.{_*_, _≤_};
 ghost use lib.ListN.{length};
 ghost use Rattle.types.specs.Limits.{table-blocks, max-commands, max-turns};
-ghost use Rattle.blocks.specs.Blocks.{block-size};
+ghost use Rattle.block.specs.Block.{block-size};
 ghost use Rattle.program.specs.Reader.{read};
-ghost use Rattle.run.specs.Entry.{of-read, of-checked, report, run-report, run-output, run-list};
+ghost use Rattle.verdict.specs.Verdict.{of-read};
+ghost use Rattle.run.specs.Entry.{of-checked, report, run-report, run-output, run-list};
 ghost use Rattle.run_images.specs.Answer.{answer, table-refusal};
 ghost use Rattle.run_images.specs.Stages.{Answers, Admission, Seating, Runs};
 

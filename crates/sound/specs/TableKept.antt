@@ -13,7 +13,7 @@ use Rattle.types.specs.Limits.{table-blocks}
 use Rattle.types.specs.Types.{Ty, Ty.int, Ty.nat, Ty.bool, Ty.ref}
 use Rattle.types.specs.Values.{Val, Val.int-val, Val.nat-val, Val.bool-val, Val.label, default}
 use Rattle.types.specs.ValueLaws.{value-as}
-use Rattle.blocks.specs.Blocks.{block-size, payload-size}
+use Rattle.block.specs.Block.{block-size, payload-size}
 use Rattle.blocks.specs.Images.{image, pieces}
 use Rattle.blocks.specs.Faults.{Says}
 use Rattle.blocks.specs.FaultLaws.{fault-says}

@@ -1,6 +1,5 @@
 pub mod Lines
-pub mod Walk
-pub mod WalkLaws
-pub mod StepTextLaws
-pub mod StepWalkLaws
-pub mod ProgramTextLaws
+pub mod RowLines
+pub mod RowLinesLaws
+pub mod ListedLaws
+pub mod DirectoryLinesLaws

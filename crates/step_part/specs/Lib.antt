@@ -1,5 +1,4 @@
 pub mod StepPart
-pub mod Sought
-pub mod SoughtWays
+pub mod SeekLaws
 pub mod StepPartLaws
 pub mod StepPartWords

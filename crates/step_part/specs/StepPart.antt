@@ -1,51 +1,31 @@
--- Where the commands of a step stand in the list, and that part of it (01, 'Names, types, commands'): the offset is the sizes of the steps
--- before it. Names are new within a struct of an accepted program. A refused image and a short list have the number that a check answers.
-use Prim.Native.Nat.{ℕ, _+_}
-use mathlib.Core.Bool.{Bool, true, false}
-use mathlib.Core.List.{List, [], _∷_}
-use lib.ListN.{length, getD, take, drop}
-use lib.Dec.{ltb, eqb}
+-- Where the commands of a step stand in the list, and that part of it (01, 'Names, types, commands'), as the step directory has it. A
+-- refused image and a short list have the number that a check answers.
+use Prim.Native.Nat.{ℕ}
+use mathlib.Core.Bool.{true, false}
+use mathlib.Core.Option.{Option, none, some}
+use mathlib.Core.List.{List}
+use lib.ListN.{length, take, drop}
+use lib.Dec.{ltb}
 use Rattle.types.specs.Limits.{max-commands}
-use Rattle.program.specs.Tree.{Step, Program}
-use Rattle.commands.specs.Bounds.{total, step-size}
-use Rattle.run.specs.Entry.{Checked, Checked.accepted, Checked.refused, checked, no-room}
-use Rattle.step_part.specs.declared.Search.{Search}
+use Rattle.types.specs.Numbers.{no-room}
+use Rattle.program.specs.Tree.{Program}
+use Rattle.directory.specs.declared.Row.{Row}
+use Rattle.directory.specs.Directory.{directory, find-row}
+use Rattle.verdict.specs.Verdict.{Checked, Checked.accepted, Checked.refused, checked}
 use Rattle.step_part.specs.declared.Spot.{Spot}
-
--- Searching ----------------------------------------------------------------------------
-
--- commands so far; the place of the first command, and how many
-abbrev pub search-at : ℕ → ℕ → ℕ → Search
-search-at o a n = record { passed = o; start = a; len = n }
-
-abbrev pub search-from : ℕ → Search
-search-from o = search-at o 0 0
-
--- past a step with this name and so many commands, where n is sought
-unfoldable pub past : ℕ → ℕ → ℕ → Search → Search
-past n name size z =
-    elim (eqb name n) [ true ↦ search-at (z .passed + size) (z .passed) size | false ↦ search-at (z .passed + size) (z .start) (z .len) ]
-
-unfoldable pub seek : ℕ → List Step → Search → Search
-seek n [] z = z
-seek n (t ∷ ts) z = seek n ts (past n (t .name) (step-size t) z)
-
--- the step n of struct k
-unfoldable pub search-in : List (List Step) → ℕ → ℕ → Search
-search-in tss k n = seek n (getD tss k []) (search-from (total (total step-size) (take k tss)))
-
--- Places -------------------------------------------------------------------------------
 
 -- no place, with a number
 abbrev pub nowhere : ℕ → Spot
 nowhere m = record { number = m; start = 0; len = 0 }
 
-abbrev pub found : Search → Spot
-found z = record { number = 0; start = z .start; len = z .len }
+-- where the commands of a row stand, if there is one
+abbrev pub spot-of : Option Row → Spot
+spot-of none = nowhere 0
+spot-of (some r) = record { number = 0; start = r .start; len = r .size }
 
 unfoldable pub spot-by : Checked → ℕ → ℕ → Spot
 spot-by (refused m) k n = nowhere m
-spot-by (accepted p) k n = elim (ltb k (length (p .steps))) [ true ↦ found (search-in (p .steps) k n) | false ↦ nowhere 0 ]
+spot-by (accepted p) k n = spot-of (find-row (directory p) k n)
 
 -- 13 where the list is too short for a program that is accepted
 unfoldable pub place-by : Checked → List ℕ → ℕ → ℕ → Spot

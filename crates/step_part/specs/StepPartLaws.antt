@@ -1,150 +1,38 @@
 -- A step is found where its commands stand (01, 'Names, types, commands').
-use Prim.Native.Nat.{ℕ, zero, suc, _+_, _<_, _≤_}
+use Prim.Native.Nat.{ℕ, _+_, _<_, _≤_}
 use native.Mathlib.Omega.{arith}
-use native.Mathlib.Nat.{zero-add}
 use mathlib.Core.Path.{_≡_, refl, ap, sym, _∙_}
 use mathlib.Core.Bool.{Bool, true, false}
-use mathlib.Core.List.{List, [], _∷_}
-use lib.ListN.{length, getD, take, drop}
-use lib.Dec.{ltb, eqb}
+use mathlib.Core.Option.{Option, none, some}
+use mathlib.Core.List.{List}
+use lib.ListN.{length, take, drop}
+use lib.Dec.{ltb}
 use borrow.Author.Tests.{lt-ltb, le-ltb, ltb-true, ltb-false}
 use Rattle.types.specs.Limits.{max-commands}
-use Rattle.program.specs.Tree.{Items.stop, Step, Program}
-use Rattle.program.specs.Reader.{Result, Result.ok, Result.bad, then, many, read-steps}
-use Rattle.commands.specs.Bounds.{total, step-size, program-size, Within}
-use Rattle.commands.specs.SizeLaws.{program-size-is}
-use Rattle.judge.specs.ProgramFacts.{Totals as Sum, step-totals}
-use Rattle.judge.specs.TotalLaws.{steps-grown}
-use Rattle.run.specs.Entry.{Checked, Checked.accepted, Checked.refused, checked, no-room, verdict-of, check-verdict}
-use Rattle.run.specs.Input.{program-order}
-use Rattle.run.specs.InputOrder.{Numbered, foremost-numbered}
-use Rattle.run.specs.InputProgram.{checked-number, checked-accepted}
-use Rattle.read_program.specs.declared.totals.Totals.{Totals}
-use Rattle.read_program.specs.declared.totals.TotalsRead.the-variants.{Value as TotalsValue, Refused as TotalsRefused}
-use Rattle.step_part.specs.declared.Search.{Search}
-use Rattle.step_part.specs.declared.SearchRead.the-variants.{Value, Refused}
+use Rattle.types.specs.Numbers.{no-room}
+use Rattle.program.specs.Tree.{Program}
+use Rattle.commands.specs.Bounds.{Within}
+use Rattle.directory.specs.declared.Row.{Row}
+use Rattle.directory.specs.Directory.{directory, find-row}
+use Rattle.directory.specs.DirectoryLaws.{directory-inside}
+use Rattle.directory.specs.FindLaws.{IfFound, find-all}
+use Rattle.verdict.specs.Verdict.{Checked, Checked.accepted, Checked.refused, checked, verdict-of, check-verdict}
+use Rattle.verdict.specs.ProgramInput.{program-order}
+use Rattle.verdict.specs.InputOrder.{Numbered, foremost-numbered}
+use Rattle.verdict.specs.ProgramInputLaws.{checked-number, checked-accepted}
 use Rattle.step_part.specs.declared.Spot.{Spot}
-use Rattle.read_program.specs.Total.{less, told}
-use Rattle.step_part.specs.StepPart.{search-from, nowhere, past, seek, search-in, found, spot-by, place-by, step-place, step-part}
-use Rattle.step_part.specs.Sought.{sought, Walked}
-
--- Rows ---------------------------------------------------------------------------------
-
-module _ {A : Type 0} (r : ℕ → Result A) where
-  uncons : (n at : ℕ) (a : A) (l : List A) (m : ℕ) → many [] _∷_ r (suc n) at ≡ ok (a ∷ l) m → (i : ℕ) × (r at ≡ ok a i) × (many [] _∷_ r n i ≡ ok l m)
-  unfolding many then
-  uncons n at a l m e = first (r at) refl e
-    where
-      rest : (b : A) (i : ℕ) → r at ≡ ok b i → (q : Result (List A)) → many [] _∷_ r n i ≡ q → then q (λ c k. ok (b ∷ c) k) ≡ ok (a ∷ l) m
-          → (i : ℕ) × (r at ≡ ok a i) × (many [] _∷_ r n i ≡ ok l m)
-      rest b i h (ok c k) g e =
-          let x : b ≡ a = cc in
-          let y : c ≡ l = cc in
-          let z : k ≡ m = cc in
-          (i, h ∙ ap (λ (w : A). ok w i) x, g ∙ rw (y, z) refl)
-      rest b i h (bad p k) g e = let z : _≡_ {A = ℕ} 0 1 = cc in absurd (omega arith)
-
-      first : (q : Result A) → r at ≡ q → then q (λ b k. then (many [] _∷_ r n k) λ c m. ok (b ∷ c) m) ≡ ok (a ∷ l) m
-          → (i : ℕ) × (r at ≡ ok a i) × (many [] _∷_ r n i ≡ ok l m)
-      first (ok b i) h e = rest b i h (many [] _∷_ r n i) refl e
-      first (bad p k) h e = let z : _≡_ {A = ℕ} 0 1 = cc in absurd (omega arith)
-
-  onto : (k at : ℕ) (a : A) (l : List A) (i j : ℕ) → r at ≡ ok a i → many [] _∷_ r k i ≡ ok l j → many [] _∷_ r (suc k) at ≡ ok (a ∷ l) j
-  unfolding many then
-  onto k at a l i j x y = rw (x, y)
-
-  -- the first k of a row, and the next
-  pub split : (d : A) (k : ℕ) (l : List A) (at m : ℕ) → k < length l → many [] _∷_ r (length l) at ≡ ok l m
-      → (j : ℕ) × (i : ℕ) × (many [] _∷_ r k at ≡ ok (take k l) j) × (r j ≡ ok (getD l k d) i)
-  unfolding many
-  split d k [] at m h e = absurd (omega arith)
-  split d zero (a ∷ l) at m h e = let q = uncons (length l) at a l m e in (at, q .0, refl, q .1)
-  split d (suc k) (a ∷ l) at m h e =
-      let q = uncons (length l) at a l m e in
-      let w = split d k l (q .0) m (omega arith) (q .2) in
-      (w .0, w .1, onto k at a (take k l) (q .0) (w .0) (q .1) (w .2), w .3)
-
--- Walking ------------------------------------------------------------------------------
-
--- the commands of structs in a row
-commands-are : (ar types : List ℕ) (tss : List (List Step)) (T : Sum) → T .commands ≡ 0 → step-totals ar types 0 tss T .commands ≡ total (total step-size) tss
-unfolding program-size
-commands-are ar types tss T e =
-    steps-grown ar types tss 0 T .commands ∙ rw e (zero-add _) ∙ sym (program-size-is (record { params = []; steps = tss; schedule = stop }))
-
-module _ (ar types s : List ℕ) (k name at : ℕ) (T : Sum) (none : T .commands ≡ 0) where
-  abbrev before-k : Result (List (List Step))
-  before-k = many [] _∷_ (read-steps ar s) k at
-
-  -- there is no refusal where all steps are read
-  pub walk-on : (e : ℕ) → told (λ tss. step-totals ar types 0 tss T) before-k ≡ TotalsRefused e → (z : Search) → Walked ar s k name at z
-  walk-on e i z ss n l h =
-      let w = split (read-steps ar s) [] k ss at n l h in
-      let x = sym (ap (told (λ tss. step-totals ar types 0 tss T)) (w .2)) ∙ i in
-      let y : _≡_ {A = ℕ} 0 1 = cc in absurd (omega arith)
-
-  module _ (m : ℕ) (t : Totals) (told-so : told (λ tss. step-totals ar types 0 tss T) before-k ≡ TotalsValue m t) where
-    abbrev seeking : List Step → Search
-    seeking ts = seek name ts (search-from (t .commands))
-
-    found-in : (ss : List (List Step)) (n : ℕ) → k < length ss → many [] _∷_ (read-steps ar s) (length ss) at ≡ ok ss n
-        → (i : ℕ) × (read-steps ar s m ≡ ok (getD ss k []) i) × (t .commands ≡ total (total step-size) (take k ss))
-    found-in ss n l h =
-        let w = split (read-steps ar s) [] k ss at n l h in
-        let x : TotalsValue (w .0) (less (step-totals ar types 0 (take k ss) T)) ≡ TotalsValue m t = sym (ap (told (λ tss. step-totals ar types 0 tss T)) (w .2)) ∙ told-so in
-        let y : w .0 ≡ m = cc in
-        let z : less (step-totals ar types 0 (take k ss) T) ≡ t = cc in
-        (w .1, ap (read-steps ar s) (sym y) ∙ w .3, ap (λ (u : Totals). u .commands) (sym z) ∙ commands-are ar types (take k ss) T none)
-
-    pub walk-through : (e : ℕ) → sought seeking (read-steps ar s m) ≡ Refused e → (z : Search) → Walked ar s k name at z
-    walk-through e i z ss n l h =
-        let w = found-in ss n l h in
-        let x = sym (ap (sought seeking) (w .1)) ∙ i in
-        let y : _≡_ {A = ℕ} 0 1 = cc in absurd (omega arith)
-
-    pub walk-found : (i : ℕ) (y : Search) → sought seeking (read-steps ar s m) ≡ Value i y → Walked ar s k name at y
-    unfolding search-in
-    walk-found i y e ss n l h =
-        let w = found-in ss n l h in
-        let x : Value (w .0) (seeking (getD ss k [])) ≡ Value i y = sym (ap (sought seeking) (w .1)) ∙ e in
-        let z : seeking (getD ss k []) ≡ y = cc in
-        sym z ∙ ap (λ (o : ℕ). seek name (getD ss k []) (search-from o)) (w .2)
+use Rattle.step_part.specs.StepPart.{nowhere, spot-of, spot-by, place-by, step-place, step-part}
 
 -- Bounds -------------------------------------------------------------------------------
 
-past-bound : (n name size : ℕ) (z : Search) → z .start + z .len ≤ z .passed
-    → (past n name size z .start + past n name size z .len ≤ past n name size z .passed) × (past n name size z .passed ≡ z .passed + size)
-unfolding past
-past-bound n name size z h = go (eqb name n) refl
-  where
-    go : (t : Bool) → eqb name n ≡ t → (past n name size z .start + past n name size z .len ≤ past n name size z .passed) × (past n name size z .passed ≡ z .passed + size)
-    go true e = rw (past, e) (omega (arith, h), refl)
-    go false e = rw (past, e) (omega (arith, h), refl)
-
-seek-bound : (n : ℕ) (ts : List Step) (z : Search) → z .start + z .len ≤ z .passed → seek n ts z .start + seek n ts z .len ≤ z .passed + total step-size ts
-unfolding seek total
-seek-bound n [] z h = omega arith
-seek-bound n (t ∷ ts) z h =
-    let b = past-bound n (t .name) (step-size t) z h in
-    omega (arith, b .1, seek-bound n ts (past n (t .name) (step-size t) z) (b .0))
-
-total-at : {A : Type 0} (f : A → ℕ) (k : ℕ) (l : List A) (d : A) → k < length l → total f (take k l) + f (getD l k d) ≤ total f l
-unfolding total
-total-at f k [] d h = absurd (omega arith)
-total-at f zero (a ∷ l) d h = omega arith
-total-at f (suc k) (a ∷ l) d h = omega (arith, total-at f k l d (omega arith))
-
 -- a step's commands lie within the list's first 1,024 places
 accepted-fits : (p : Program) (k n : ℕ) → Within p → spot-by (accepted p) k n .start + spot-by (accepted p) k n .len ≤ max-commands
-unfolding Within program-size search-in spot-by
-accepted-fits p k n w = here (ltb k (length (p .steps))) refl
+unfolding Within spot-by
+accepted-fits p k n w = go (find-row (directory p) k n) (find-all _ (directory p) k n (directory-inside p max-commands (w .1)))
   where
-    here : (t : Bool) → ltb k (length (p .steps)) ≡ t → spot-by (accepted p) k n .start + spot-by (accepted p) k n .len ≤ max-commands
-    here true e =
-        let l = ltb-true k (length (p .steps)) e in
-        let before = total (total step-size) (take k (p .steps)) in
-        rw (spot-by, e) (omega (arith, w .1, total-at (total step-size) k (p .steps) [] l, seek-bound n (getD (p .steps) k []) (search-from before) (omega arith)))
-    here false e = rw (spot-by, e) (omega arith)
+    go : (o : Option Row) → IfFound (λ (r : Row). r .start + r .size ≤ max-commands) o → spot-of o .start + spot-of o .len ≤ max-commands
+    go none h = omega arith
+    go (some r) h = h
 
 pub spot-fits : (x : List ℕ) (k n : ℕ) → spot-by (checked x) k n .start + spot-by (checked x) k n .len ≤ max-commands
 unfolding spot-by
@@ -161,22 +49,17 @@ module _ (c : Checked) (k n : ℕ) where
   unfolding spot-by
   spot-refused m e = rw e
 
-  -- a struct that is not there, and one that is
-  pub spot-outside : (p : Program) → c ≡ accepted p → length (p .steps) ≤ k → nowhere 0 ≡ spot-by c k n
+  pub spot-accepted : (p : Program) → c ≡ accepted p → spot-of (find-row (directory p) k n) ≡ spot-by c k n
   unfolding spot-by
-  spot-outside p e l = rw e (rw (spot-by, le-ltb k (length (p .steps)) l))
-
-  pub spot-inside : (p : Program) → c ≡ accepted p → k < length (p .steps) → found (search-in (p .steps) k n) ≡ spot-by c k n
-  unfolding spot-by
-  spot-inside p e l = rw e (rw (spot-by, lt-ltb k (length (p .steps)) l))
+  spot-accepted p e = rw e
 
   -- no number for a step of an accepted program, whether or not it is there
   pub spot-number : (p : Program) → c ≡ accepted p → spot-by c k n .number ≡ 0
-  spot-number p e = go (ltb k (length (p .steps))) refl
+  spot-number p e = ap (λ (y : Spot). y .number) (sym (spot-accepted p e)) ∙ go (find-row (directory p) k n)
     where
-      go : (t : Bool) → ltb k (length (p .steps)) ≡ t → spot-by c k n .number ≡ 0
-      go true i = ap (λ (y : Spot). y .number) (sym (spot-inside p e (ltb-true _ _ i)))
-      go false i = ap (λ (y : Spot). y .number) (sym (spot-outside p e (ltb-false _ _ i)))
+      go : (o : Option Row) → spot-of o .number ≡ 0
+      go none = refl
+      go (some r) = refl
 
 -- The place ----------------------------------------------------------------------------
 
@@ -208,11 +91,11 @@ module _ (c : Checked) (list : List ℕ) (k n : ℕ) where
       go (accepted p) e = room p e (ltb (length list) max-commands) refl
 
 -- no refusal has the number 0
-some : (x : List ℕ) → Numbered (λ n. 1 ≤ n) (program-order x)
-some x = omega arith
+nonzero : (x : List ℕ) → Numbered (λ n. 1 ≤ n) (program-order x)
+nonzero x = omega arith
 
 refused-number : (x : List ℕ) (m : ℕ) → checked x ≡ refused m → m ≡ 0 → ⊥
-refused-number x m e z = omega (arith, foremost-numbered (λ n. 1 ≤ n) (some x) (checked-number x m .0 e))
+refused-number x m e z = omega (arith, foremost-numbered (λ n. 1 ≤ n) (nonzero x) (checked-number x m .0 e))
 
 module _ (x list : List ℕ) (k n : ℕ) where
   abbrev z : Spot

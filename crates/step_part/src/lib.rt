@@ -1,121 +1,22 @@
 // The commands of one step, as that part of the lent list (01, 'Names, types, commands').
-use blocks::Read;
-use judge::Scope;
-use read_exprs::read;
-use read_exprs::read::ByteRead;
-use read_program::ProgramRead;
-use read_program::totals;
-use read_program::totals::TotalsRead;
-use read_stmts::StmtRead;
-use read_stmts::stmt;
+use emit_steps::rows::ROWS;
+use emit_steps::rows::number;
+use emit_steps::rows::place;
+use emit_steps::rows::row_at;
+use load::Load;
 ghost use mathlib.Core.Path.{_≡_};
-ghost use mathlib.Core.List.{[], _∷_};
-ghost use Prim.Native.Nat.{_+_, _≤_, _<_, _^_};
+ghost use Prim.Native.Nat.{_*_, _≤_};
 ghost use lib.ListN.{length};
-ghost use Rattle.program.specs.Reader.{many, read-step, read-steps, read};
-ghost use Rattle.run.specs.Entry.{of-read, checked};
-ghost use Rattle.step_part.specs.StepPart.{search-from, nowhere, past, seek, found, spot-by, step-place, step-part};
-ghost use Rattle.step_part.specs.Sought.{sought, Passing, Walked};
+ghost use Rattle.directory.specs.Directory.{find-row};
+ghost use Rattle.directory.specs.Rows.{row-places, rows-from};
+ghost use Rattle.verdict.specs.Verdict.{checked};
+ghost use Rattle.step_part.specs.StepPart.{nowhere, spot-of, spot-by, step-place, step-part};
 
 // 01's number of a refused image or of a short list, else 0; the place of the step's first command, and how many it has.
 pub struct Spot {
     pub number: u8,
     pub start: usize,
     pub len: usize,
-}
-
-// Commands passed so far; the place of the first command of the step that is sought, and how many it has.
-pub struct Search {
-    pub passed: usize,
-    pub start: usize,
-    pub len: usize,
-}
-
-// The next place, and how far the search has come.
-pub enum SearchRead {
-    Value(usize, Search),
-    Refused(u8),
-}
-
-// Past a step with this name and so many commands.
-fn past(sought: u8, name: u8, size: usize, z: Search) -> Search
-    requires { ⌜ z .passed + size < 2 ^ 64 ⌝ }
-    ensures { λ r. ⌜ r ≡ past sought name size z ⌝ }
-{
-    if name == sought {
-        return Search {
-            passed: z.passed + size,
-            start: z.passed,
-            len: size,
-        };
-    }
-    Search {
-        passed: z.passed + size,
-        start: z.start,
-        len: z.len,
-    }
-}
-
-// A step of the struct k.
-fn step(s: &[u8], ar: &[u8], types: &[u8], k: u8, name: u8, z: Search, at: usize) -> SearchRead
-    requires { ⌜ (length (now ar) ≤ 16) × (k < 16) × (z .passed ≤ at) ⌝ }
-    ensures { λ r. ⌜ r ≡ sought (λ t. seek name (t ∷ []) z) (read-step (now (ar .entry)) (now (s .entry)) at) ⌝ }
-    ensures { λ r. ⌜ Passing (now (s .entry)) r ⌝ }
-{
-    let r = read::ranged(s, 0, types::STEP_NAMES, at);
-    let ByteRead::Byte(n, m) = r else {
-        return SearchRead::Refused(read::byte_refusal(r));
-    };
-    let q = stmt::body(
-        s,
-        ar,
-        types,
-        k,
-        Scope { live: 0, seen: 0 },
-        m,
-        types::IF_LEVELS,
-    );
-    let StmtRead::Value(next, d) = q else {
-        return SearchRead::Refused(totals::stmt_refusal(q));
-    };
-    SearchRead::Value(next, past(name, n, d.size, z))
-}
-
-// n steps of the struct k.
-fn steps(
-    s: &[u8],
-    ar: &[u8],
-    types: &[u8],
-    k: u8,
-    name: u8,
-    n: u8,
-    z: Search,
-    at: usize,
-) -> SearchRead
-    requires { ⌜ (length (now ar) ≤ 16) × (k < 16) × (z .passed ≤ at) × (at ≤ length (now s)) ⌝ }
-    ensures { λ r. ⌜ r ≡ sought (λ ts. seek name ts z) (many [] _∷_ (read-step (now (ar .entry)) (now (s .entry))) n at) ⌝ }
-    ensures { λ r. ⌜ Passing (now (s .entry)) r ⌝ }
-{
-    if n == 0 {
-        return SearchRead::Value(at, z);
-    }
-    let first = step(s, ar, types, k, name, z, at);
-    let SearchRead::Value(m, y) = first else {
-        return first;
-    };
-    steps(s, ar, types, k, name, n - 1, y, m)
-}
-
-// The steps of the struct k.
-fn of_struct(s: &[u8], ar: &[u8], types: &[u8], k: u8, name: u8, z: Search, at: usize) -> SearchRead
-    requires { ⌜ (length (now ar) ≤ 16) × (k < 16) × (z .passed ≤ at) ⌝ }
-    ensures { λ r. ⌜ r ≡ sought (λ ts. seek name ts z) (read-steps (now (ar .entry)) (now (s .entry)) at) ⌝ }
-{
-    let r = read::ranged(s, 0, types::MAX_STEPS + 1, at);
-    let ByteRead::Byte(n, m) = r else {
-        return SearchRead::Refused(read::byte_refusal(r));
-    };
-    steps(s, ar, types, k, name, n, z, m)
 }
 
 // No place, with a number.
@@ -129,76 +30,48 @@ fn nowhere(number: u8) -> Spot
     }
 }
 
-// What a search has found.
-fn found(z: Search) -> Spot
-    ensures { λ r. ⌜ r ≡ found z ⌝ }
+// The first of n rows that is of a struct and a name.
+fn seek(rows: &[u16], n: usize, structure: u8, name: u8) -> Spot
+    requires { ⌜ row-places * n ≤ length (now rows) ⌝ }
+    ensures { λ r. ⌜ r ≡ spot-of (find-row (rows-from (now (rows .entry)) 0 n) structure name) ⌝ }
 {
-    Spot {
-        number: 0,
-        start: z.start,
-        len: z.len,
+    let k = number(structure);
+    let m = number(name);
+    let mut i = 0;
+    while i < n {
+        let r = row_at(rows, i);
+        if r.structure == k {
+            if r.name == m {
+                return Spot {
+                    number: 0,
+                    start: place(r.start),
+                    len: place(r.size),
+                };
+            }
+        }
+        i += 1;
     }
+    nowhere(0)
 }
 
-// A search behind so many commands.
-fn behind(passed: usize) -> Search
-    ensures { λ r. ⌜ r ≡ search-from passed ⌝ }
+// The step of a struct and a name in a program image. Its commands are written into a list of their own, since what the caller lends is not changed.
+fn locate(image: &[u8], structure: u8, name: u8) -> Spot
+    ensures { λ r. ⌜ r ≡ spot-by (checked (now (image .entry))) structure name ⌝ }
 {
-    Search {
-        passed,
-        start: 0,
-        len: 0,
-    }
-}
-
-// Behind the steps of the structs before k, the step of that name.
-fn walk(s: &[u8], ar: &[u8], types: &[u8], k: u8, name: u8, at: usize) -> Search
-    requires { ⌜ (length (now ar) ≤ 16) × (k < 16) × (at ≤ length (now s)) ⌝ }
-    ensures { λ r. ⌜ Walked (now (ar .entry)) (now (s .entry)) k name at r ⌝ }
-{
-    let mut has = [0u8; types::MAX_STRUCTS * types::STEP_NAMES];
-    let r = totals::structs(s, ar, types, &mut has, 0, k, totals::none(), at);
-    let TotalsRead::Value(m, t) = r else {
-        return behind(0);
-    };
-    let q = of_struct(s, ar, types, k, name, behind(t.commands), m);
-    let SearchRead::Value(_, y) = q else {
-        return behind(0);
-    };
-    y
-}
-
-// The step k, name of a program stream.
-fn find(s: &[u8], k: u8, name: u8) -> Spot
-    ensures { λ r. ⌜ r ≡ spot-by (of-read (read (now (s .entry)))) k name ⌝ }
-{
+    let mut stream = [0u8; types::PROGRAM_BLOCKS * blocks::PAYLOAD_SIZE];
     let mut counts = [0u8; types::MAX_STRUCTS];
     let mut types = [0u8; types::MAX_STRUCTS * types::MAX_PARAMS];
-    let r = read_program::program(s, &mut counts, &mut types);
-    let ProgramRead::Value(at, p) = r else {
-        return nowhere(read_program::program_refusal(r));
+    let r = load::program(image, &mut stream, &mut counts, &mut types);
+    let Load::Program(p) = r else {
+        return nowhere(load::refusal(r));
     };
-    if p.number != 0 {
-        return nowhere(p.number);
-    }
-    if p.structs <= k {
-        return nowhere(0);
-    }
-    let n = p.structs as usize;
-    let end = types::MAX_PARAMS * n;
-    found(walk(s, &counts[..n], &types[..end], k, name, at))
-}
-
-// The step k, name of a program image.
-fn locate(image: &[u8], k: u8, name: u8) -> Spot
-    ensures { λ r. ⌜ r ≡ spot-by (checked (now (image .entry))) k name ⌝ }
-{
-    let mut buffer = [0u8; types::PROGRAM_BLOCKS * blocks::PAYLOAD_SIZE];
-    let r = blocks::read_image(image, types::PROGRAM_BLOCKS, &mut buffer);
-    let Read::Stream(n) = r else {
-        return nowhere(checker::image_refusal(r));
-    };
-    find(&buffer[..n], k, name)
+    let n = p.length;
+    let structs = p.structs as usize;
+    let mut list = [0u64; types::MAX_COMMANDS];
+    let mut rows = [0u16; ROWS];
+    let z = emit_steps::program(&stream[..n], &counts[..structs], p.at, &mut list, &mut rows);
+    let steps = z.rows;
+    seek(&rows, steps, structure, name)
 }
 
 // Where the commands of a step begin in the list, and how many it has: 0 and 0 where the image is not accepted, the list is too short

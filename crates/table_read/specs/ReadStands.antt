@@ -7,8 +7,8 @@ use mathlib.Core.List.{List, map}
 use lib.ListN.{length, length-map}
 use Rattle.types.specs.Limits.{max-instances, table-blocks}
 use Rattle.blocks.specs.Images.{fault, stream}
-use Rattle.blocks.specs.declared.Found.{Found}
-use Rattle.blocks.specs.declared.Found.the-variants.{Right, Wrong}
+use Rattle.block.specs.declared.Found.{Found}
+use Rattle.block.specs.declared.Found.the-variants.{Right, Wrong}
 use Rattle.program.specs.Tree.{Program}
 use Rattle.program.specs.Counts.{Counts}
 use Rattle.table.specs.Table.{Record, HeldTable, TableRight}

@@ -6,8 +6,8 @@ use lib.ListN.{length}
 use Rattle.types.specs.Limits.{table-blocks}
 use Rattle.types.specs.Types.{Ty}
 use Rattle.blocks.specs.Images.{fault, stream, table-number}
-use Rattle.blocks.specs.declared.Found.{Found}
-use Rattle.blocks.specs.declared.Found.the-variants.{Right, Wrong}
+use Rattle.block.specs.declared.Found.{Found}
+use Rattle.block.specs.declared.Found.the-variants.{Right, Wrong}
 use Rattle.blocks.specs.declared.Read.{Read}
 use Rattle.blocks.specs.declared.Read.the-variants.{Stream, Refused as ImageRefused, Short}
 use Rattle.program.specs.Reader.{then, many, ended}

@@ -15,8 +15,8 @@ use Rattle.types.specs.Limits.{max-instances, max-params, table-blocks}
 use Rattle.types.specs.Types.{Ty}
 use Rattle.blocks.specs.Images.{fault, stream, read as image-read, read-into, table-number as block-number}
 use Rattle.blocks.specs.AnswerLaws.{read-says, stream-most}
-use Rattle.blocks.specs.declared.Fault.{Fault}
-use Rattle.blocks.specs.declared.Found.the-variants.{Wrong}
+use Rattle.block.specs.declared.Fault.{Fault}
+use Rattle.block.specs.declared.Found.the-variants.{Wrong}
 use Rattle.blocks.specs.declared.Read.{Read}
 use Rattle.blocks.specs.declared.Read.the-variants.{Stream, Refused as ImageRefused, Short as ImageShort}
 use Rattle.blocks.proofs.Read.{the-type}

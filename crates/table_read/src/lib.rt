@@ -15,7 +15,7 @@ ghost use mathlib.Core.Path.{_≡_};
 ghost use Prim.Native.Nat.{_+_, _*_, _≤_};
 ghost use lib.ListN.{length};
 ghost use Rattle.types.specs.Limits.{max-instances, table-blocks};
-ghost use Rattle.blocks.specs.Blocks.{block-size};
+ghost use Rattle.block.specs.Block.{block-size};
 ghost use Rattle.table.specs.TableReader.{table-of-stream};
 ghost use Rattle.layout.specs.Layout.{head-size, row-size};
 ghost use Rattle.table_read.specs.Params.{Tables, lists-of};

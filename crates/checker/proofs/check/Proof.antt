@@ -1,53 +1,79 @@
--- `check` meets its contract: the image is refused, or its stream is checked.
+-- `check` meets its contract: the image is refused, the list is too short, or the commands of its program are written.
 use native.Mathlib.Omega.{arith}
 use mathlib.Core.Path.{_≡_, sym, ap, _∙_}
-use lib.ListN.{take, length-replicate}
+use lib.ListN.{length-replicate}
 use lib.Seq.{length-take-le}
-use Rattle.blocks.specs.Images.{stream}
-use Rattle.run.specs.Entry.{checked, check-verdict, check-list}
+use Rattle.verdict.specs.Verdict.{checked, check-verdict, check-list}
+use Rattle.load.specs.declared.Loaded.{Loaded}
+use Rattle.load.specs.LoadLaws.{LoadedAs, load-refused, load-value, length-fits, structs-few, admitted}
 use Rattle.checker.specs.Answer.{answer}
-use Rattle.checker.specs.CheckLaws.{refused-answers, image-unread, image-stream, image-front}
+use Rattle.checker.specs.CheckLaws.{refused-answers, short-answers, room-answers, approved-is, fits, counts-few, wrote}
 use borrow.Author.Needs.{needs}
 use Rattle.checker.proofs.check.Statement.{statement}
 use Rattle.checker.proofs.check.Tie as tie
 
+-- the places that proofs look back to
+abbrev at-program : tie.After-r → tie.After-program
+at-program c = let at-back = c .before .before in at-back .before .before .before
+
+abbrev start : tie.After-program → tie.Start
+start c = let at-lent = c .before .before .before in at-lent .before .before .before
+
+abbrev at-else : tie.After-program-arg → tie.Else1
+at-else c = c .before .before .before .before
+
+-- the program that was loaded
+loads : (c : tie.After-r) → LoadedAs (start (at-program c) .args .image .now) (c .r .given .0 .0)
+loads c = load-value _ _ (sym (at-program c .program .ensures .0) ∙ c .r .given .1)
+
 returns : tie.Need-returns
 unfolding check-verdict check-list
 returns c =
-    let at-match = c .before .before in let at-read-image = at-match .before .before in
-    let args = at-read-image .before .before .before .before .args in let x = args .image .now in
-    let unread = image-unread x (at-read-image .read-image .result) _ (simp length-replicate (omega arith)) (sym (at-read-image .read-image .ensures .0))
-    (at-match .match .keys2) in
-    let w = refused-answers (checked x) _ (args .list .now) unread in
-    ((rw (c .before .image-refusal .ensures) at (c .refused .ensures)) ∙ ap answer (w .0), w .1)
-
-array-share-prefix-buffer : tie.Need-array-share-prefix-buffer
-array-share-prefix-buffer c =
-    let at-read-image = c .before .before .before .before in
-    let args = at-read-image .before .before .before .before .args in
-    let h = image-stream (args .image .now) _ _ (sym (at-read-image .read-image .ensures .0) ∙ c .before .r .given .1) in
-    omega (arith, h .2, at-read-image .read-image .kept .1 .1 .0)
-
-slice-aggregate-stream : tie.Need-slice-aggregate-stream
-slice-aggregate-stream c =
-    let at-r = c .before .before in let at-read-image = at-r .before .before .before in
-    let args = at-read-image .before .before .before .before .args in
-    let h = image-stream (args .image .now) _ _ (sym (at-read-image .read-image .ensures .0) ∙ at-r .r .given .1) in
-    sym (length-take-le _ _ (omega (arith, h .2, at-read-image .read-image .kept .1 .1 .0)))
+    let at-told = c .before .before in let at-back = at-told .before .before in let at-program′ = at-back .before .before .before in
+    let args = start at-program′ .args in let x = args .image .now in let told = at-told .enum-told .given .1 in
+    let w = refused-answers (checked x) _ (args .list .now) (load-refused x _ (sym (at-program′ .program .ensures .0) ∙ told)) in
+    ((rw (c .before .refusal .ensures, told) at (c .refused .ensures)) ∙ ap answer (w .0), w .1)
 
 returns-2 : tie.Need-returns-2
 unfolding check-verdict check-list
 returns-2 c =
-    let at-stream = c .before .before in let at-r = at-stream .before .before .before .before in
-    let at-read-image = at-r .before .before .before in
-    let args = at-read-image .before .before .before .before .args in let x = args .image .now in
-    let h = image-stream x _ _ (sym (at-read-image .read-image .ensures .0) ∙ at-r .r .given .1) in
-    let f : take (at-r .r .given .0 .0) (at-read-image .read-image .last .1 .1 .0) ≡ stream x =
-    rw (at-read-image .read-image .ensures .1, at-r .r .given .1) (image-front x _ _ (h .1)) in
-    (rw (f, ← h .0) at (at-stream .stream .ensures .0), rw (f, ← h .0) at (at-stream .stream .ensures .1))
+    let at-r = c .before .before .before in let args = start (at-program at-r) .args in
+    let w = short-answers (checked (args .image .now)) _ (args .list .now) (loads at-r .accepts) (c .before .if1 .taken) in
+    (c .refused2 .ensures ∙ ap answer (w .0), w .1)
+
+array-share-prefix-stream : tie.Need-array-share-prefix-stream
+array-share-prefix-stream c =
+    let at-r = c .before .before .before in omega (arith, length-fits _ _ (loads at-r), at-program at-r .program .kept .1 .0)
+
+slice-aggregate-program-4 : tie.Need-slice-aggregate-program-4
+slice-aggregate-program-4 c = sym (length-take-le _ _ (array-share-prefix-stream (c .before)))
+
+array-share-prefix-counts : tie.Need-array-share-prefix-counts
+array-share-prefix-counts c = let at-r = c .before .before .before .before in omega (arith, structs-few _ _ (loads at-r), at-program at-r .program .kept .1 .1 .0)
+
+slice-aggregate-program-5 : tie.Need-slice-aggregate-program-5
+slice-aggregate-program-5 c = sym (length-take-le _ _ (array-share-prefix-counts (c .before)))
+
+program-requires-2 : tie.Need-program-requires-2
+program-requires-2 c κs =
+    let at-if1 = at-else (c .before) in let at-r = at-if1 .before .before in let l = loads at-r in
+    let a = admitted _ _ l _ _ _ _ _ _ (at-program at-r .program .ensures .1) in let list = start (at-program at-r) .args .list .now in
+    (fits _ _ l _ _ a list (at-if1 .if1 .left) _ (simp length-replicate (omega arith)), counts-few _ _ l _ _ a)
+
+returns-3 : tie.Need-returns-3
+unfolding check-verdict check-list
+returns-3 c =
+    let written = c .before .before .before .before in
+    let at-if1 = at-else (written .before .before) in let at-r = at-if1 .before .before in let l = loads at-r in
+    let args = start (at-program at-r) .args in let a = admitted _ _ l _ _ _ _ _ _ (at-program at-r .program .ensures .1) in
+    let w = room-answers (checked (args .image .now)) _ (args .list .now) (l .accepts) (at-if1 .if1 .left) in (
+      c .accepted .ensures ∙ approved-is _ _ l ∙ ap answer (w .0),
+      wrote _ _ l _ _ a (args .list .now) (at-if1 .if1 .left) _ _ _ (written .program2 .ensures) ∙ w .1,
+    )
 
 pub check-spec : {M : Type 1} → statement M
 check-spec =
     tie.close
-    (tie.spec (λ c. search needs) (λ c κs. search needs) (λ c. search needs) (λ c κs. search needs) (λ c κs. search needs) returns
-    array-share-prefix-buffer slice-aggregate-stream (λ c κs. search needs) (λ c. search needs) returns-2)
+    (tie.spec (λ c. search needs) (λ c. search needs) (λ c. search needs) (λ c κs. search needs) (λ c. search needs) (λ c. search needs) (λ c κs. search needs) (λ c κs. search needs) returns
+    (λ c κs. search needs) returns-2 (λ c. search needs) array-share-prefix-stream slice-aggregate-program-4 array-share-prefix-counts
+    slice-aggregate-program-5 (λ c. search needs) program-requires-2 (λ c κs. search needs) (λ c. search needs) returns-3)

@@ -12,20 +12,20 @@ start c = c .before .before .before .before
 abbrev start₂ : tie.After-step → tie.Start
 start₂ c = start (c .before .before)
 
-abbrev at-step : tie.After-name-of → tie.After-step
+abbrev at-step : tie.After-number → tie.After-step
 at-step c = c .before .before .before .before
 
-abbrev at-name-of : tie.After-put-row → tie.After-name-of
-at-name-of c = c .before .before
+abbrev at-number : tie.After-put-row → tie.After-number
+at-number c = c .before .before
 
 step-requires : tie.Need-step-requires
 step-requires c κs = step-ready _ _ _ _ (start (c .before) .pre)
 
-shared-slice-read-name-of : tie.Need-shared-slice-read-name-of
-shared-slice-read-name-of c = omega (arith, step-in _ _ _ _ (start₂ (c .before .before .before) .pre))
+shared-slice-read-number : tie.Need-shared-slice-read-number
+shared-slice-read-number c = omega (arith, step-in _ _ _ _ (start₂ (c .before .before .before) .pre))
 
-name-of-requires : tie.Need-name-of-requires
-name-of-requires c κs = search needs
+number-requires : tie.Need-number-requires
+number-requires c κs = search needs
 
 cast-t18 : tie.Need-cast-t18
 cast-t18 c = let w = at-step c in omega (arith, step-end _ _ _ _ (start₂ w .pre) (w .step .ensures))
@@ -40,7 +40,7 @@ put-row-requires : tie.Need-put-row-requires
 put-row-requires c κs = row-room _ _ _ _ (start₂ (at-step (c .before)) .pre)
 
 add-t19 : tie.Need-add-t19
-add-t19 c = omega (arith, row-room _ _ _ _ (start₂ (at-step (at-name-of (c .before .before))) .pre))
+add-t19 c = omega (arith, row-room _ _ _ _ (start₂ (at-step (at-number (c .before .before))) .pre))
 
 same-length : tie.Need-same-length
 same-length c = search needs
@@ -50,16 +50,16 @@ same-length-2 c = search needs
 
 returns : tie.Need-returns
 returns c =
-    let at-put-row = c .before .before in let named = at-name-of at-put-row in let w = at-step named in
-    step-emitted _ _ _ _ (start₂ w .pre) (w .step .ensures) _ (rw (named .name-of .ensures) at (at-put-row .put-row .ensures))
+    let at-put-row = c .before .before in let named = at-number at-put-row in let w = at-step named in
+    step-emitted _ _ _ _ (start₂ w .pre) (w .step .ensures) _ (rw (named .number .ensures) at (at-put-row .put-row .ensures))
 
 pub step-spec : {M : Type 1} → statement M
 step-spec =
     tie.close
     (tie.spec
     step-requires
-    shared-slice-read-name-of
-    name-of-requires
+    shared-slice-read-number
+    number-requires
     cast-t18
     sub-t19
     cast-t20

@@ -3,7 +3,7 @@ use native.Mathlib.Omega.{arith}
 use mathlib.Core.Path.{sym, ap, _∙_}
 use lib.Seq.{length-take-le}
 use Rattle.run.specs.Entry.{of-checked}
-use Rattle.checker.specs.CheckLaws.{Behind, stream-stops, stream-value, numbered, few, small}
+use Rattle.load.specs.StreamLaws.{Behind, stream-stops, stream-value, numbered, few, small}
 use Rattle.run_images.specs.AdmitLaws.{admits, admits-types}
 use Rattle.run_images.specs.StageLaws.{refused-answers, checked-refused}
 use borrow.Author.Needs.{needs}

@@ -2,11 +2,11 @@
 use Prim.Native.Nat.{_≤_, _-_}
 use mathlib.Core.Path.{_≡_, _∙_, ap, sym, refl, subst}
 use lib.ListN.{length}
-use Rattle.blocks.specs.Blocks.{block-fault}
+use Rattle.block.specs.Block.{block-fault}
 use Rattle.blocks.specs.Images.{first-fault}
 use Rattle.blocks.specs.ImageLaws.{block-whole}
 use Rattle.blocks.specs.ImageWays.{block-at, first-more, first-stop}
-use Rattle.blocks.specs.declared.Found.the-variants.{Right}
+use Rattle.block.specs.declared.Found.the-variants.{Right}
 use borrow.Author.Needs.{needs}
 use native.Mathlib.Omega.{arith}
 use Rattle.blocks.proofs.reading.first_fault.Statement.{statement}
@@ -19,14 +19,14 @@ abbrev μ-loop : tie.MeasureT-loop
 μ-loop image n k₀ k = n - k
 
 -- the places that proofs look back to
-abbrev at-loop : tie.After-fault Inv-loop μ-loop → tie.At-loop Inv-loop μ-loop
+abbrev at-loop : tie.After-block-fault Inv-loop μ-loop → tie.At-loop Inv-loop μ-loop
 at-loop c = c .before .before .before
 
 loop-holds : tie.Need-loop-holds Inv-loop μ-loop
 unfolding first-fault
 loop-holds c = (search needs, refl)
 
-fault-requires : tie.Need-fault-requires Inv-loop μ-loop
+fault-requires : tie.Need-block-fault-requires Inv-loop μ-loop
 fault-requires c κs =
     let x = c .before .before .before .before .args .image .now in
     ap length (block-at x (c .before .before .loop .k))
@@ -37,14 +37,14 @@ returns c =
     let at-fault = c .before .before .before in let in-loop = at-fault .before .before in
     let args = in-loop .before .before .before .args in let x = args .image .now in
     let k = in-loop .before .loop .k in
-    let here = ap (block-fault k _) (sym (block-at x k)) ∙ sym (at-fault .fault .ensures) ∙ c .before .f .given .1 in
+    let here = ap (block-fault k _) (sym (block-at x k)) ∙ sym (at-fault .block-fault .ensures) ∙ c .before .f .given .1 in
     sym (first-stop _ x k _ (in-loop .loop-test .taken) (in-loop .before .loop .inv .1) here)
 
 loop-again : tie.Need-loop-again Inv-loop μ-loop
 loop-again c =
     let at-fault = c .before .before in let args = at-loop at-fault .before .before .args in
     let x = args .image .now in let k = at-loop at-fault .loop .k in
-    let here = ap (block-fault k _) (sym (block-at x k)) ∙ sym (at-fault .fault .ensures) ∙ c .enum-told .given .1 in
+    let here = ap (block-fault k _) (sym (block-at x k)) ∙ sym (at-fault .block-fault .ensures) ∙ c .enum-told .given .1 in
     (omega arith, first-more _ x k (at-loop at-fault .loop .inv .1) here)
 
 returns-2 : tie.Need-returns-2 Inv-loop μ-loop

@@ -3,8 +3,8 @@
 use Prim.Native.Nat.{_≤_, _-_}
 use mathlib.Core.Path.{_≡_, _∙_, ap, sym, refl}
 use lib.ListN.{length}
-use Rattle.blocks.specs.Put.{put}
-use Rattle.blocks.specs.PutLaws.{put-nil}
+use Rattle.block.specs.Put.{put}
+use Rattle.block.specs.PutLaws.{put-nil}
 use Rattle.blocks.specs.Images.{joined}
 use Rattle.blocks.specs.ImageLaws.{block-whole}
 use Rattle.blocks.specs.ImageWays.{block-at, part-at, joined-fits, join-turn, used-fits}

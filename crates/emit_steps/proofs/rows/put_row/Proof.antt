@@ -14,33 +14,6 @@ at-store2 c = c .before .before .before .before
 abbrev at-store : tie.After-store2 → tie.After-store
 at-store c = c .before .before .before .before
 
-mul-k : tie.Need-mul-k
-mul-k c = search needs
-
-store-requires : tie.Need-store-requires
-store-requires c κs = search needs
-
-add-store : tie.Need-add-store
-add-store c = search needs
-
-store-requires-2 : tie.Need-store-requires-2
-store-requires-2 c κs = search needs
-
-add-store-2 : tie.Need-add-store-2
-add-store-2 c = search needs
-
-store-requires-3 : tie.Need-store-requires-3
-store-requires-3 c κs = search needs
-
-add-store-3 : tie.Need-add-store-3
-add-store-3 c = search needs
-
-store-requires-4 : tie.Need-store-requires-4
-store-requires-4 c κs = search needs
-
-same-length : tie.Need-same-length
-same-length c = search needs
-
 returns : tie.Need-returns
 returns c =
     let at-store4 = c .before .before in let third = at-store3 at-store4 in
@@ -51,14 +24,5 @@ returns c =
 pub put-row-spec : {M : Type 1} → statement M
 put-row-spec =
     tie.close
-    (tie.spec
-    mul-k
-    store-requires
-    add-store
-    store-requires-2
-    add-store-2
-    store-requires-3
-    add-store-3
-    store-requires-4
-    same-length
-    returns)
+    (tie.spec (λ c. search needs) (λ c κs. search needs) (λ c. search needs) (λ c κs. search needs) (λ c. search needs) (λ c κs. search needs)
+    (λ c. search needs) (λ c κs. search needs) (λ c. search needs) returns)

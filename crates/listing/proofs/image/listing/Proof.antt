@@ -1,90 +1,84 @@
--- `image::listing` meets its contract: the image is refused, its program is, or its head and the lines of its commands are written.
+-- `image::listing` meets its contract: the image is refused, or its head and the lines of its commands are written.
 use native.Mathlib.Omega.{arith}
-use mathlib.Core.Path.{_≡_, sym, _∙_}
-use lib.ListN.{take, length-replicate}
+use mathlib.Core.Path.{_≡_, sym, ap, _∙_}
+use lib.ListN.{length-replicate}
 use lib.Seq.{length-take-le}
-use Rattle.blocks.specs.Images.{stream}
-use Rattle.checker.specs.CheckLaws.{image-unread, image-stream, image-front}
+use Rattle.load.specs.Load.{load-refusal}
+use Rattle.load.specs.LoadLaws.{LoadedAs, load-refused, load-value, length-fits, structs-few, admitted}
+use Rattle.checker.specs.CheckLaws.{fits, counts-few, emitted}
 use Rattle.text.specs.ListingLaws.{placed-as, placed-on}
-use Rattle.listing.specs.ImageLaws.{image-listing, refused-listing, approved, accepted-listing, accepted-walkable}
+use Rattle.listing.specs.ImageLaws.{image-listing, accepted-listing, accepted-lines, accepted-listable}
 use borrow.Author.Needs.{needs}
 use Rattle.listing.proofs.image.listing.Statement.{statement}
 use Rattle.listing.proofs.image.listing.Tie as tie
 
+-- the places that proofs look back to
+abbrev start : tie.After-program → tie.Start
+start c = let at-lent = c .before .before .before in at-lent .before .before
+
+abbrev at-program : tie.After-r → tie.After-program
+at-program c = let at-back = c .before .before in at-back .before .before .before
+
+abbrev at-emit : tie.After-row2 → tie.After-program2
+at-emit c = let at-head = c .before .before .before .before in let at-cast = at-head .before .before .before .before in at-cast .before .before
+
+abbrev at-r : tie.After-list → tie.After-r
+at-r c = let at-stream = c .before .before in at-stream .before .before .before
+
+-- the program that was loaded
+loads : (c : tie.After-r) → LoadedAs (start (at-program c) .args .image .now) (c .r .given .0 .0)
+loads c = load-value _ _ (sym (at-program c .program .ensures .0) ∙ c .r .given .1)
+
 returns : tie.Need-returns
 returns c =
-    let at-image-refusal = c .before .before in let at-match = at-image-refusal .before .before .before in
-    let at-read-image = at-match .before .before in
-    let args = at-read-image .before .before .before .args in let x = args .image .now in
-    let unread = image-unread x (at-read-image .read-image .result) _ (simp length-replicate (omega arith)) (sym (at-read-image .read-image .ensures .0))
-    (at-match .match .keys2) in
-    (placed-as (image-listing x _ _ (at-image-refusal .image-refusal .ensures) unread) (c .row .ensures .0), omega (arith, c .row .ensures .1))
-
-returns-2 : tie.Need-returns-2
-returns-2 c =
-    let at-row-arg4 = c .before .before .before .before in
-    let at-check = at-row-arg4 .before .before .before .before in let at-r = at-check .before .before .before in
-    let at-read-image = at-r .before .before .before in
-    let args = at-read-image .before .before .before .args in
-    let e = refused-listing (args .image .now) _ _ (at-check .check .ensures .0) (simp length-replicate (omega arith)) (at-row-arg4 .before .if1 .taken) in
-    (placed-as e (c .row2 .ensures .0), omega (arith, c .row2 .ensures .1))
+    let at-refusal = c .before .before in let at-told = at-refusal .before .before .before in
+    let at-back = at-told .before .before in let at-program′ = at-back .before .before .before in
+    let x = start at-program′ .args .image .now in let told = at-told .enum-told .given .1 in
+    let e = load-refused x _ (sym (at-program′ .program .ensures .0) ∙ told) in
+    (placed-as (image-listing x _ _ (at-refusal .refusal .ensures ∙ ap load-refusal told) e) (c .row .ensures .0), omega (arith, c .row .ensures .1))
 
 array-share-prefix-stream : tie.Need-array-share-prefix-stream
 array-share-prefix-stream c =
-    let at-struct-known6 = c .before .before .before .before in
-    let at-if1 = at-struct-known6 .before .before .before .before in
-    let at-check = at-if1 .before .before .before in let at-r = at-check .before .before .before in
-    let at-read-image = at-r .before .before .before in
-    let args = at-read-image .before .before .before .args in
-    let h = image-stream (args .image .now) _ _ (sym (at-read-image .read-image .ensures .0) ∙ at-r .r .given .1) in
-    omega (arith, h .2, at-read-image .read-image .kept .1 .1 .0)
+    let here = c .before .before in omega (arith, length-fits _ _ (loads here), at-program here .program .kept .1 .0)
 
-slice-aggregate-program : tie.Need-slice-aggregate-program
-slice-aggregate-program c =
-    let at-row3 = c .before in let at-struct-known6 = at-row3 .before .before .before .before in
-    let at-if1 = at-struct-known6 .before .before .before .before in
-    let at-check = at-if1 .before .before .before in let at-r = at-check .before .before .before in
-    let at-read-image = at-r .before .before .before in
-    let args = at-read-image .before .before .before .args in
-    let h = image-stream (args .image .now) _ _ (sym (at-read-image .read-image .ensures .0) ∙ at-r .r .given .1) in
-    sym (length-take-le _ _ (omega (arith, h .2, at-read-image .read-image .kept .1 .1 .0)))
+slice-aggregate-program-4 : tie.Need-slice-aggregate-program-4
+slice-aggregate-program-4 c = sym (length-take-le _ _ (array-share-prefix-stream (c .before)))
 
-program-requires : tie.Need-program-requires
-program-requires c κs =
-    let at-row3 = c .before .before .before in let at-struct-known6 = at-row3 .before .before .before .before in
-    let at-if1 = at-struct-known6 .before .before .before .before in
-    let at-check = at-if1 .before .before .before in let at-r = at-check .before .before .before in
-    let at-read-image = at-r .before .before .before in
-    let args = at-read-image .before .before .before .args in let x = args .image .now in
-    let h = image-stream x _ _ (sym (at-read-image .read-image .ensures .0) ∙ at-r .r .given .1) in
-    let f : take (at-r .r .given .0 .0) (at-read-image .read-image .last .1 .1 .0) ≡ stream x =
-    rw (at-read-image .read-image .ensures .1, at-r .r .given .1) (image-front x _ _ (h .1)) in
-    let a = approved x _ _ (at-check .check .ensures .0) (simp length-replicate (omega arith)) (at-if1 .if1 .left) in
-    rw f (accepted-walkable x _ _ (at-check .check .ensures .0) (simp length-replicate (omega arith)) a _ _ _ (at-check .check .ensures .1)
-    (omega (arith, at-row3 .row3 .ensures .1, at-row3 .row3 .kept .0)))
+array-share-prefix-counts : tie.Need-array-share-prefix-counts
+array-share-prefix-counts c =
+    let here = c .before .before .before in omega (arith, structs-few _ _ (loads here), at-program here .program .kept .1 .1 .0)
 
-returns-3 : tie.Need-returns-3
-returns-3 c = (
-  let at-row3 = c .before .before .before .before in
-      let at-struct-known6 = at-row3 .before .before .before .before in
-      let at-if1 = at-struct-known6 .before .before .before .before in
-      let at-check = at-if1 .before .before .before in let at-r = at-check .before .before .before in
-      let at-read-image = at-r .before .before .before in
-      let args = at-read-image .before .before .before .args in let x = args .image .now in
-      let h = image-stream x _ _ (sym (at-read-image .read-image .ensures .0) ∙ at-r .r .given .1) in
-      let f : take (at-r .r .given .0 .0) (at-read-image .read-image .last .1 .1 .0) ≡ stream x =
-      rw (at-read-image .read-image .ensures .1, at-r .r .given .1) (image-front x _ _ (h .1)) in
-      let a = approved x _ _ (at-check .check .ensures .0) (simp length-replicate (omega arith)) (at-if1 .if1 .left) in
-      let e = accepted-listing x _ _ (at-check .check .ensures .0) (simp length-replicate (omega arith)) a in
-      placed-as e (placed-on (at-row3 .row3 .ensures .0) (rw f at (c .program .ensures .0))),
-  omega (arith, c .program .ensures .1, c .before .before .before .before .row3 .kept .0),
-)
+slice-aggregate-program-5 : tie.Need-slice-aggregate-program-5
+slice-aggregate-program-5 c = sym (length-take-le _ _ (array-share-prefix-counts (c .before)))
+
+program-requires-2 : tie.Need-program-requires-2
+program-requires-2 c κs =
+    let here = at-r (c .before) in let l = loads here in let a = admitted _ _ l _ _ _ _ _ _ (at-program here .program .ensures .1) in
+    (fits _ _ l _ _ a _ (simp length-replicate (omega arith)) _ (simp length-replicate (omega arith)), counts-few _ _ l _ _ a)
+
+program-requires-3 : tie.Need-program-requires-3
+program-requires-3 c κs =
+    let at-row = c .before .before .before in let written = at-emit at-row in let here = at-r (written .before .before) in
+    let l = loads here in let a = admitted _ _ l _ _ _ _ _ _ (at-program here .program .ensures .1) in
+    let w = emitted _ _ l _ _ a _ (simp length-replicate (omega arith)) _ _ _ (written .program2 .ensures) in
+    accepted-listable _ _ l (simp length-replicate (omega arith)) w _ _ (rw length-replicate at (written .program2 .kept .1 .1 .1 .1 .0))
+    (omega (arith, at-row .row2 .ensures .1, at-row .row2 .kept .0))
+
+returns-2 : tie.Need-returns-2
+returns-2 c =
+    let at-row = c .before .before .before .before in let written = at-emit at-row in let here = at-r (written .before .before) in
+    let l = loads here in let a = admitted _ _ l _ _ _ _ _ _ (at-program here .program .ensures .1) in
+    let w = emitted _ _ l _ _ a _ (simp length-replicate (omega arith)) _ _ _ (written .program2 .ensures) in
+    let e = accepted-lines _ _ l (simp length-replicate (omega arith)) w in (
+      placed-as (accepted-listing _ _ l) (placed-on (at-row .row2 .ensures .0) (placed-as (sym e) (c .program3 .ensures .0))),
+      omega (arith, c .program3 .ensures .1, at-row .row2 .kept .0),
+    )
 
 pub listing-spec : {M : Type 1} → statement M
 listing-spec =
     tie.close
-    (tie.spec (λ c. search needs) (λ c κs. search needs) (λ c. search needs) (λ c. search needs) (λ c κs. search needs) (λ c. search needs)
-    (λ c. search needs) (λ c κs. search needs) returns (λ c. search needs) (λ c κs. search needs) (λ c. search needs) (λ c. search needs)
-    (λ c. search needs) (λ c κs. search needs) returns-2 (λ c. search needs) (λ c. search needs) (λ c. search needs) (λ c. search needs)
-    (λ c. search needs) (λ c. search needs) (λ c κs. search needs) array-share-prefix-stream slice-aggregate-program (λ c. search needs)
-    program-requires returns-3)
+    (tie.spec (λ c. search needs) (λ c. search needs) (λ c. search needs) (λ c κs. search needs) (λ c. search needs) (λ c. search needs)
+    (λ c. search needs) (λ c κs. search needs) (λ c. search needs) (λ c. search needs) (λ c κs. search needs) returns (λ c. search needs)
+    array-share-prefix-stream slice-aggregate-program-4 array-share-prefix-counts slice-aggregate-program-5 (λ c. search needs) (λ c. search needs)
+    program-requires-2 (λ c. search needs) (λ c. search needs) (λ c. search needs) (λ c. search needs) (λ c. search needs) (λ c. search needs)
+    (λ c κs. search needs) (λ c. search needs) (λ c. search needs) program-requires-3 returns-2)

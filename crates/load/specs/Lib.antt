@@ -1,0 +1,3 @@
+pub mod Load
+pub mod StreamLaws
+pub mod LoadLaws

@@ -1,0 +1,154 @@
+-- What the reader of a program answers gives the program that is checked (01, 4 to 8 of 'Numbers from the input'), its counts, and the tables of its
+-- parameters.
+use Prim.Native.Nat.{ℕ, zero, suc, _+_, _*_, _<_, _≤_}
+use native.Mathlib.Omega.{arith}
+use mathlib.Core.Path.{_≡_, refl, ap, sym, _∙_}
+use mathlib.Core.List.{List, [], _∷_, _++_, map}
+use lib.ListN.{length, take, drop, length-map}
+use lib.Seq.{take-at}
+use Rattle.types.specs.Limits.{max-depth, max-steps}
+use Rattle.program.specs.Tree.{Step, Program}
+use Rattle.program.specs.Counts.{All, Few, CountsStep, Counts}
+use Rattle.program.specs.Reader.{Result, Result.ok, Result.bad, read-params, read}
+use Rattle.program.specs.ProgramLaws.{params-exact, program-law}
+use Rattle.program.specs.StreamLaws.{next-place}
+use Rattle.commands.specs.Bounds.{total, greatest, step-depth, arities, program-size, program-depth, Within}
+use Rattle.commands.specs.Numbers.{program-number}
+use Rattle.commands.specs.NumbersLaws.{number-accepted}
+use Rattle.verdict.specs.Verdict.{Checked.accepted, Checked.refused, judge, of-read}
+use Rattle.judge.specs.ProgramFacts.{program-totals, program-plan, checked-number}
+use Rattle.judge.specs.ProgramFactsLaws.{checked-law, checked-commands, checked-depth, checked-steps}
+use Rattle.read_params.specs.ParamsTold.{ParamsKept}
+use Rattle.emit.specs.ProgramWords.{structs-at}
+use Rattle.emit.specs.ProgramLaws.{Standing, program-steps, whole-program}
+use Rattle.read_program.specs.declared.Summary.{Summary}
+use Rattle.read_program.specs.declared.ProgramRead.the-variants.{Value, Refused}
+use Rattle.read_program.specs.Whole.{summary, place-of, program-told}
+
+total-few : {A : Type 0} (C : A → Type 0) (l : List (List A)) → All (Few 0 max-steps C) l → total length l ≤ max-steps * length l
+unfolding total
+total-few C [] h = omega arith
+total-few C (a ∷ l) h = omega (arith, h .0 .1, total-few C l (h .1))
+
+greatest-most : {A : Type 0} (f : A → ℕ) (l : List A) → All (λ a. f a ≤ max-depth) l → greatest f l ≤ max-depth
+unfolding greatest
+greatest-most f [] h = omega arith
+greatest-most f (a ∷ l) h = omega (arith, h .0, greatest-most f l (h .1))
+
+-- What was read, from what was answered ------------------------------------------------
+
+module _ (s : List ℕ) where
+  pub stream-stops : (e : ℕ) → program-told (read-params s 0) (read s) ≡ Refused e → of-read (read s) ≡ refused e
+  unfolding of-read
+  stream-stops e i = go (read s) i
+    where
+      go : (q : Result Program) → program-told (read-params s 0) q ≡ Refused e → of-read q ≡ refused e
+      go (ok p m) i = let z : _≡_ {A = ℕ} 0 1 = cc in absurd (omega arith)
+      go (bad p n) i = let j : n ≡ e = cc in ap refused j
+
+  -- the program behind an answer
+  pub record Behind (k : ℕ) (z : Summary) : Type 0 where
+    pub program : Program
+    pub end : ℕ
+    pub reads : read s ≡ ok program end
+    pub counts : Counts program
+    pub place : place-of (read-params s 0) ≡ k
+    pub summed : z ≡ summary (length (program .params)) (program-totals program) (program-plan program)
+
+  pub stream-value : (k : ℕ) (z : Summary) → program-told (read-params s 0) (read s) ≡ Value k z → Behind k z
+  stream-value k z i = go (read s) refl i
+    where
+      go : (q : Result Program) → read s ≡ q → program-told (read-params s 0) q ≡ Value k z → Behind k z
+      go (ok p m) e i = record { program = p; end = m; reads = e; counts = program-law s p m .0 e .0; place = cc; summed = cc }
+      go (bad p n) e i = let x : _≡_ {A = ℕ} 0 1 = cc in absurd (omega arith)
+
+  module _ (k : ℕ) (z : Summary) (b : Behind k z) where
+    abbrev p : Program
+    p = b .program
+
+    pub number-is : z .number ≡ program-number p
+    unfolding checked-number
+    number-is = ap (λ (x : Summary). x .number) (b .summed) ∙ checked-law p (b .counts)
+
+    judged : of-read (read s) ≡ judge p (z .number)
+    unfolding of-read
+    judged = rw (b .reads, ← number-is)
+
+    -- a number other than 0 refuses, and 0 accepts
+    pub numbered : (z .number ≡ 0 → ⊥) → of-read (read s) ≡ refused (z .number)
+    unfolding judge
+    numbered h = judged ∙ go (z .number) h
+      where
+        go : (n : ℕ) → (n ≡ 0 → ⊥) → judge p n ≡ refused n
+        go zero h = absurd (h refl)
+        go (suc n) h = refl
+
+    pub passed : z .number ≡ 0 → of-read (read s) ≡ accepted p
+    unfolding judge
+    passed e = judged ∙ ap (judge p) e
+
+    pub within : z .number ≡ 0 → Within p
+    within e = number-accepted p .0 (sym number-is ∙ e) .0
+
+    -- what is reported is what 01 counts
+    pub counted : (z .steps ≡ total length (p .steps)) × (z .commands ≡ program-size p) × (z .depth ≡ program-depth p) × (z .structs ≡ length (p .params))
+    counted =
+        let e = b .summed in (
+          ap (λ (x : Summary). x .steps) e ∙ checked-steps p (b .counts),
+          ap (λ (x : Summary). x .commands) e ∙ checked-commands p (b .counts),
+          ap (λ (x : Summary). x .depth) e ∙ checked-depth p (b .counts),
+          ap (λ (x : Summary). x .structs) e,
+        )
+
+    -- and it is small
+    pub few : z .structs ≤ 16
+    unfolding Counts
+    few = omega (arith, counted .3, b .counts .0 .1)
+
+    pub small : z .number ≡ 0 → (z .steps < 256) × (z .commands < 65536) × (z .depth < 256)
+    unfolding Counts Within program-depth
+    small e =
+        let w = within e in (
+          omega (arith, counted .0, total-few (CountsStep (arities p)) (p .steps) (b .counts .2), b .counts .1, b .counts .0 .1),
+          omega (arith, counted .1, w .1),
+          omega (arith, counted .2, greatest-most (greatest (step-depth p)) (p .steps) (depths (p .steps) (w .2))),
+        )
+      where
+        depths : (tss : List (List Step)) → All (All (λ t. step-depth p t ≤ max-depth)) tss → All (λ ts. greatest (step-depth p) ts ≤ max-depth) tss
+        depths [] h = tt
+        depths (ts ∷ tss) h = (greatest-most (step-depth p) ts (h .0), depths tss (h .1))
+
+    pub structs-are : z .structs ≡ length (p .steps)
+    unfolding Counts
+    structs-are = counted .3 ∙ sym (b .counts .1)
+
+    -- Tables and places ------------------------------------------------------------------
+
+    standing : Standing s 0 p
+    standing = program-steps s 0 p (b .end) (whole-program s p (b .end) (b .reads))
+
+    behind-is : standing .behind ≡ k
+    behind-is = sym (ap place-of (standing .params)) ∙ b .place
+
+    -- which is the one behind the parameters
+    pub here : read-params s 0 ≡ ok (p .params) k
+    here = standing .params ∙ ap (λ (i : ℕ). ok (p .params) i) behind-is
+
+    -- the place behind the parameters lies in the stream
+    pub place-in : k ≤ length s
+    place-in = next-place params-exact s (p .params) 0 k (omega arith) here .1
+
+    module _ (cs cs′ ts ts′ : List ℕ) (kept : ParamsKept cs cs′ ts ts′ (read-params s 0)) where
+      pub table : take (z .structs) cs′ ≡ arities p
+      table =
+          let w : cs′ ≡ map length (p .params) ++ drop (length (p .params)) cs = (rw here at kept) .0 in
+          rw w (take-at (arities p) _ (z .structs) (length-map (p .params) length ∙ sym (counted .3)))
+
+      pub table-few : length (take (z .structs) cs′) ≤ 16
+      table-few = rw table (omega (arith, length-map (p .params) length, counted .3, few))
+
+      -- behind the parameters stand the steps of all structs
+      pub steps-stand : (m : ℕ) × (structs-at (take (z .structs) cs′) s (length (p .steps)) k ≡ ok (p .steps) m)
+      steps-stand =
+          let l : length (arities p) ≡ length (p .steps) = length-map (p .params) length ∙ sym (counted .3) ∙ structs-are in
+          (standing .last, rw (table, ← l) (ap (λ (i : ℕ). structs-at (arities p) s (length (arities p)) i) (sym behind-is) ∙ standing .steps))

@@ -1,0 +1,11 @@
+pub mod Scope
+pub mod StepNames
+pub mod Values
+pub mod Means
+pub mod Holds
+pub mod HoldsDecide
+pub mod Finding
+pub mod Meant
+pub mod MeantComplete
+pub mod MeantLaws
+pub mod Rows

@@ -1,0 +1,155 @@
+-- Rows that pin what derivations mean, by computation: the stream of the program, or none (the readings of docs/DECISIONS.md, 'Program text'; the first is P).
+use Prim.Native.Nat.{ℕ}
+use mathlib.Core.Path.{_≡_, refl}
+use mathlib.Core.Bool.{true}
+use mathlib.Core.List.{List, [], _∷_}
+use mathlib.Core.Option.{Option, none, some}
+use Rattle.types.specs.Types.{code}
+use Rattle.types.specs.Values.{in-int, int-word}
+use Rattle.program.specs.Tree.{Op.op-add, Program as Tree, size, items, args}
+use Rattle.program.specs.Encoding.{enc-word, flat, op-code, var-code, enc-path, enc-expr, enc-exprs, enc-stmt, enc-stmts, enc-item, enc-items, enc-step, enc-program}
+use Rattle.tokens.specs.Tokens.{Polarity.plus, Polarity.minus}
+use Rattle.tokens.specs.Scanning.{same}
+use Rattle.syntax.specs.Syntax.{TypeName.int-type, TypeName.nat-type, TypeName.id-type, Literal.int-literal, Literal.nat-literal, Literal.bool-literal, Var.id as one-id, Var.dot, Exp.binary, Exp.brackets, Exp.constructor, Exp.variable, Exp.literal, Exp.null, Exp.this, Exps.no-exps, Exps.exps, Stat.if-then, Stat.assignment, Stat.update, Stat.construct, Stats.no-stats, Stats.stats, Par.par, Step.step, Struct.struct, Defs.last-struct, Defs.defs, Item.execution, Item.typed-execution, Item.fixpoint, Sched.last-item, Sched.barrier, Program, Program.program}
+use Rattle.meaning.specs.Scope.{par-id, par-type, step-id, struct-id, pars-of, steps-of, structs-of, local-id, local-number, local-type}
+use Rattle.meaning.specs.StepNames.{among, once, all-steps, step-names}
+use Rattle.meaning.specs.Values.{decimal-from, decimal, signed}
+use Rattle.meaning.specs.Finding.{find, one-later, absent, distinct}
+use Rattle.meaning.specs.Meant.{then, provided, each, literal-meaning, type-meaning, referred, further, started, start, path-meaning, exp-meaning, exps-meaning, stat-meaning, stats-meaning, pars-meaning, step-meaning, steps-meaning, item-meaning, sched-meaning, text-meaning, meant}
+
+unfoldable pub stream : Option Tree → Option (List ℕ)
+stream none = none
+stream (some p) = some (enc-program p)
+
+pub record Row : Type 0 where
+  pub text : Program
+  pub bytes : Option (List ℕ)
+
+abbrev row : Program → Option (List ℕ) → Row
+row c s = record { text = c; bytes = s }
+
+pub data Rows : List Row → Type 0 where
+  no-more : Rows []
+  and-then : {r : Row} {rs : List Row} → stream (meant (r .text)) ≡ r .bytes → Rows rs → Rows (r ∷ rs)
+
+abbrev A : List ℕ
+A = 65 ∷ []
+
+abbrev B : List ℕ
+B = 66 ∷ []
+
+abbrev C : List ℕ
+C = 67 ∷ []
+
+abbrev a : List ℕ
+a = 97 ∷ []
+
+abbrev b : List ℕ
+b = 98 ∷ []
+
+abbrev c : List ℕ
+c = 99 ∷ []
+
+abbrev s : List ℕ
+s = 115 ∷ []
+
+abbrev t : List ℕ
+t = 116 ∷ []
+
+abbrev u : List ℕ
+u = 117 ∷ []
+
+abbrev x : List ℕ
+x = 120 ∷ []
+
+abbrev y : List ℕ
+y = 121 ∷ []
+
+unfoldable pub rows : List Row
+rows =
+    -- struct A(a: Int, b: A) { s { a := (a + b.a); } } s
+    row (program (last-struct (struct A (par a int-type ∷ par b (id-type A) ∷ []) (step s (stats (update (one-id a) (brackets (binary op-add
+    (variable (one-id a)) (variable (dot b (one-id a)))))) no-stats) ∷ []))) (last-item (execution s))) (some
+    (1 ∷ 2 ∷ 0 ∷ 16 ∷ 1 ∷ 0 ∷ 1 ∷ 3 ∷ 1 ∷ 0 ∷ 41 ∷ 18 ∷ 1 ∷ 0 ∷ 18 ∷ 2 ∷ 1 ∷ 0 ∷ 1 ∷ 1 ∷ 0 ∷ []))
+    -- struct A(a: B) { s { } t { } } struct B(A: Nat) { t { } u { } } u < B.t < Fix(s)
+    ∷ row (program (defs (struct A (par a (id-type B) ∷ []) (step s no-stats ∷ step t no-stats ∷ [])) (last-struct (struct B (par A nat-type ∷ [])
+    (step t no-stats ∷ step u no-stats ∷ [])))) (barrier (execution u) (barrier (typed-execution B t) (last-item (fixpoint (last-item
+    (execution s))))))) (some (2 ∷ 1 ∷ 17 ∷ 1 ∷ 1 ∷ 2 ∷ 0 ∷ 0 ∷ 1 ∷ 0 ∷ 2 ∷ 1 ∷ 0 ∷ 2 ∷ 0 ∷ 3 ∷ 1 ∷ 2 ∷ 2 ∷ 1 ∷ 1 ∷ 3 ∷ 1 ∷ 1 ∷ 0 ∷ []))
+    -- struct A() { s { Int x := -1; Int y := x; } } s
+    ∷ row (program (last-struct (struct A ([]) (step s (stats (assignment int-type x (literal (int-literal minus (49 ∷ [])))) (stats
+    (assignment int-type y (variable (one-id x))) no-stats)) ∷ []))) (last-item (execution s))) (some
+    (1 ∷ 0 ∷ 1 ∷ 0 ∷ 2 ∷ 2 ∷ 0 ∷ 8 ∷ 19 ∷ 255 ∷ 255 ∷ 255 ∷ 255 ∷ 2 ∷ 0 ∷ 9 ∷ 18 ∷ 1 ∷ 8 ∷ 1 ∷ 1 ∷ 0 ∷ []))
+    -- struct A(a: Int, b: A) { s { if true then { Int x := a; } Int y := a; } } s
+    ∷ row (program (last-struct (struct A (par a int-type ∷ par b (id-type A) ∷ []) (step s (stats (if-then (literal (bool-literal true)) (stats
+    (assignment int-type x (variable (one-id a))) no-stats)) (stats (assignment int-type y (variable (one-id a))) no-stats)) ∷ []))) (last-item
+    (execution s))) (some (1 ∷ 2 ∷ 0 ∷ 16 ∷ 1 ∷ 0 ∷ 2 ∷ 1 ∷ 21 ∷ 1 ∷ 1 ∷ 2 ∷ 0 ∷ 8 ∷ 18 ∷ 1 ∷ 0 ∷ 2 ∷ 0 ∷ 9 ∷ 18 ∷ 1 ∷ 0 ∷ 1 ∷ 1 ∷ 0 ∷ []))
+    -- struct A(A: A) { A { A := A; } } A.A
+    ∷ row (program (last-struct (struct A (par A (id-type A) ∷ []) (step A (stats (update (one-id A) (variable (one-id A))) no-stats) ∷ [])))
+    (last-item (typed-execution A A))) (some (1 ∷ 1 ∷ 16 ∷ 1 ∷ 0 ∷ 1 ∷ 3 ∷ 1 ∷ 0 ∷ 18 ∷ 1 ∷ 0 ∷ 1 ∷ 2 ∷ 0 ∷ 0 ∷ []))
+    -- struct A(a: Int, b: A) { s { b := A(-0, null A); A(a, this); } } s
+    ∷ row (program (last-struct (struct A (par a int-type ∷ par b (id-type A) ∷ []) (step s (stats (update (one-id b) (constructor A (exps (literal
+    (int-literal minus (48 ∷ []))) (exps (null (id-type A)) no-exps)))) (stats (construct A (exps (variable (one-id a))
+    (exps this no-exps))) no-stats)) ∷ []))) (last-item (execution s))) (some
+    (1 ∷ 2 ∷ 0 ∷ 16 ∷ 1 ∷ 0 ∷ 2 ∷ 3 ∷ 1 ∷ 1 ∷ 17 ∷ 0 ∷ 19 ∷ 0 ∷ 0 ∷ 0 ∷ 0 ∷ 22 ∷ 16 ∷ 4 ∷ 0 ∷ 18 ∷ 1 ∷ 0 ∷ 23 ∷ 1 ∷ 1 ∷ 0 ∷ []))
+    -- struct A(a: Int, b: A) { s { a := -2147483648; } } s
+    ∷ row (program (last-struct (struct A (par a int-type ∷ par b (id-type A) ∷ []) (step s (stats (update (one-id a) (literal (int-literal minus
+    (50 ∷ 49 ∷ 52 ∷ 55 ∷ 52 ∷ 56 ∷ 51 ∷ 54 ∷ 52 ∷ 56 ∷ [])))) no-stats) ∷ []))) (last-item (execution s))) (some
+    (1 ∷ 2 ∷ 0 ∷ 16 ∷ 1 ∷ 0 ∷ 1 ∷ 3 ∷ 1 ∷ 0 ∷ 19 ∷ 0 ∷ 0 ∷ 0 ∷ 128 ∷ 1 ∷ 1 ∷ 0 ∷ []))
+    -- struct A(a: Int, b: A) { s { Nat x := 4294967295n; } } s
+    ∷ row (program (last-struct (struct A (par a int-type ∷ par b (id-type A) ∷ []) (step s (stats (assignment nat-type x (literal (nat-literal
+    (52 ∷ 50 ∷ 57 ∷ 52 ∷ 57 ∷ 54 ∷ 55 ∷ 50 ∷ 57 ∷ 53 ∷ [])))) no-stats) ∷ []))) (last-item (execution s))) (some
+    (1 ∷ 2 ∷ 0 ∷ 16 ∷ 1 ∷ 0 ∷ 1 ∷ 2 ∷ 1 ∷ 8 ∷ 20 ∷ 255 ∷ 255 ∷ 255 ∷ 255 ∷ 1 ∷ 1 ∷ 0 ∷ []))
+    -- struct A() { s { } s { } } s
+    ∷ row (program (last-struct (struct A ([]) (step s no-stats ∷ step s no-stats ∷ []))) (last-item (execution s))) (some
+    (1 ∷ 0 ∷ 2 ∷ 0 ∷ 0 ∷ 0 ∷ 0 ∷ 1 ∷ 1 ∷ 0 ∷ []))
+    -- struct A() { s { } } struct B() { t { } } A.t
+    ∷ row (program (defs (struct A ([]) (step s no-stats ∷ [])) (last-struct (struct B ([]) (step t no-stats ∷ [])))) (last-item
+    (typed-execution A t))) (some (2 ∷ 0 ∷ 0 ∷ 1 ∷ 0 ∷ 0 ∷ 1 ∷ 1 ∷ 0 ∷ 1 ∷ 2 ∷ 0 ∷ 1 ∷ []))
+    -- struct A(a: Int, b: A) { s { Int x := x; } } s
+    ∷ row (program (last-struct (struct A (par a int-type ∷ par b (id-type A) ∷ []) (step s (stats (assignment int-type x (variable
+    (one-id x))) no-stats) ∷ []))) (last-item (execution s))) none
+    -- struct A(a: Int, b: A) { s { if true then { Int x := a; } a := x; } } s
+    ∷ row (program (last-struct (struct A (par a int-type ∷ par b (id-type A) ∷ []) (step s (stats (if-then (literal (bool-literal true)) (stats
+    (assignment int-type x (variable (one-id a))) no-stats)) (stats (update (one-id a) (variable (one-id x))) no-stats)) ∷ []))) (last-item
+    (execution s))) none
+    -- struct A(a: Int, b: A) { s { if true then { Int x := a; } Int x := a; } } s
+    ∷ row (program (last-struct (struct A (par a int-type ∷ par b (id-type A) ∷ []) (step s (stats (if-then (literal (bool-literal true)) (stats
+    (assignment int-type x (variable (one-id a))) no-stats)) (stats (assignment int-type x (variable (one-id a))) no-stats)) ∷ []))) (last-item
+    (execution s))) none
+    -- struct A(a: Int, b: A) { s { Int a := +1; } } s
+    ∷ row (program (last-struct (struct A (par a int-type ∷ par b (id-type A) ∷ []) (step s (stats (assignment int-type a (literal (int-literal plus
+    (49 ∷ [])))) no-stats) ∷ []))) (last-item (execution s))) none
+    -- struct A(a: Int, b: A) { s { a := a.a; } } s
+    ∷ row (program (last-struct (struct A (par a int-type ∷ par b (id-type A) ∷ []) (step s (stats (update (one-id a) (variable (dot a
+    (one-id a)))) no-stats) ∷ []))) (last-item (execution s))) none
+    -- struct A(a: Int, b: A) { s { a := b.c; } } s
+    ∷ row (program (last-struct (struct A (par a int-type ∷ par b (id-type A) ∷ []) (step s (stats (update (one-id a) (variable (dot b
+    (one-id c)))) no-stats) ∷ []))) (last-item (execution s))) none
+    -- struct A(a: Int, b: A) { s { A(a); } } s
+    ∷ row (program (last-struct (struct A (par a int-type ∷ par b (id-type A) ∷ []) (step s (stats (construct A (exps (variable
+    (one-id a)) no-exps)) no-stats) ∷ []))) (last-item (execution s))) none
+    -- struct A(a: Int, b: A) { s { C x := this; } } s
+    ∷ row (program (last-struct (struct A (par a int-type ∷ par b (id-type A) ∷ []) (step s (stats (assignment (id-type C) x this) no-stats) ∷ [])))
+    (last-item (execution s))) none
+    -- struct A(a: Int, b: A) { s { a := +2147483648; } } s
+    ∷ row (program (last-struct (struct A (par a int-type ∷ par b (id-type A) ∷ []) (step s (stats (update (one-id a) (literal (int-literal plus
+    (50 ∷ 49 ∷ 52 ∷ 55 ∷ 52 ∷ 56 ∷ 51 ∷ 54 ∷ 52 ∷ 56 ∷ [])))) no-stats) ∷ []))) (last-item (execution s))) none
+    -- struct A(a: Int, b: A) { s { Nat x := 4294967296n; } } s
+    ∷ row (program (last-struct (struct A (par a int-type ∷ par b (id-type A) ∷ []) (step s (stats (assignment nat-type x (literal (nat-literal
+    (52 ∷ 50 ∷ 57 ∷ 52 ∷ 57 ∷ 54 ∷ 55 ∷ 50 ∷ 57 ∷ 54 ∷ [])))) no-stats) ∷ []))) (last-item (execution s))) none
+    -- struct A(a: Int, a: Nat) { s { } } s
+    ∷ row (program (last-struct (struct A (par a int-type ∷ par a nat-type ∷ []) (step s no-stats ∷ []))) (last-item (execution s))) none
+    -- struct A() { s { } } struct A() { s { } } s
+    ∷ row (program (defs (struct A ([]) (step s no-stats ∷ [])) (last-struct (struct A ([]) (step s no-stats ∷ [])))) (last-item (execution s))) none
+    -- struct A() { s { } } t
+    ∷ row (program (last-struct (struct A ([]) (step s no-stats ∷ []))) (last-item (execution t))) none
+    -- struct A(a: B) { s { } } s
+    ∷ row (program (last-struct (struct A (par a (id-type B) ∷ []) (step s no-stats ∷ []))) (last-item (execution s))) none
+    ∷ []
+
+pub rows-hold : Rows rows
+unfolding rows then provided each literal-meaning type-meaning referred further started start path-meaning exp-meaning exps-meaning stat-meaning stats-meaning pars-meaning step-meaning steps-meaning item-meaning sched-meaning text-meaning meant find one-later absent distinct same par-id par-type step-id struct-id pars-of steps-of structs-of local-id local-number local-type among once all-steps step-names decimal-from decimal signed in-int int-word stream enc-word flat op-code var-code enc-path enc-expr enc-exprs enc-stmt enc-stmts enc-item enc-items enc-step enc-program code size items args
+rows-hold =
+    (and-then refl (and-then refl (and-then refl (and-then refl (and-then refl (and-then refl (and-then refl (and-then refl
+    (and-then refl (and-then refl (and-then refl (and-then refl (and-then refl (and-then refl (and-then refl (and-then refl
+    (and-then refl (and-then refl (and-then refl (and-then refl (and-then refl (and-then refl (and-then refl (and-then refl no-more))))))))))))))))))))))))

@@ -1,0 +1,1 @@
+// What program text means: definitions and laws stand in specs/.

@@ -1,0 +1,4 @@
+pub mod Source
+pub mod TextReader
+pub mod SourceLaws
+pub mod Rows

@@ -1,0 +1,52 @@
+-- The text of P gives P's stream (01, 'Bench rows'), whatever the output is that has room for it, and the empty text is refused.
+use Prim.Native.Nat.{ℕ, _*_, _≤_}
+use mathlib.Core.Path.{_≡_, refl}
+use mathlib.Core.Bool.{false}
+use mathlib.Core.List.{List, [], _∷_}
+use lib.ListN.{length}
+use lib.Dec.{ltb}
+use borrow.Author.Tests.{le-ltb}
+use Rattle.types.specs.Limits.{program-blocks}
+use Rattle.types.specs.Types.{Ty.int, Ty.ref, code}
+use Rattle.types.specs.Values.{in-int, int-word}
+use Rattle.block.specs.Block.{block-size}
+use Rattle.program.specs.Tree.{Var.par as parameter, Op.op-add, Expr.path, Expr.op, Stmt.update, Stmts.end, Stmts.next, Item.call, Items.stop, Items.item, Program, size, items, args}
+use Rattle.program.specs.Encoding.{enc-word, flat, op-code, var-code, enc-path, enc-expr, enc-exprs, enc-stmt, enc-stmts, enc-item, enc-items, enc-step, enc-program}
+use Rattle.tokens.specs.Scanning.{same, lex}
+use Rattle.tokens.specs.Rows.{text-P, P-lexed}
+use Rattle.syntax.specs.Reading.{run, ended, read}
+use Rattle.syntax.specs.Rows.{P-derived}
+use Rattle.meaning.specs.Scope.{par-id, par-type, step-id, struct-id, pars-of, steps-of, structs-of, local-id, local-number, local-type}
+use Rattle.meaning.specs.StepNames.{among, once, all-steps, step-names}
+use Rattle.meaning.specs.Values.{decimal-from, decimal, signed}
+use Rattle.meaning.specs.Finding.{find, one-later, absent, distinct}
+use Rattle.meaning.specs.Meant.{then, provided, each, literal-meaning, type-meaning, referred, further, started, start, path-meaning, exp-meaning, exps-meaning, stat-meaning, stats-meaning, pars-meaning, step-meaning, steps-meaning, item-meaning, sched-meaning, text-meaning, meant}
+use Rattle.meaning.specs.HoldsDecide.{all, few, a-type, a-var, a-path, holds-expr, holds-exprs, holds-stmt, holds-stmts, holds-step, holds-item, holds-items, holds-schedule, counted, holds}
+use Rattle.source.specs.Source.{no-derivation, Outcome.written, Outcome.refused}
+use Rattle.source.specs.TextReader.{of-room, of-held, of-program, of-derivation, of-tokens, of-length, outcome}
+
+unfoldable pub program-P : Program
+program-P =
+    record {
+      params = (int ∷ ref 0 ∷ []) ∷ [];
+      steps = (record { name = 0; body = next (update (parameter 0) [] (op op-add (path (parameter 0) []) (path (parameter 1) (0 ∷ [])))) end } ∷ []) ∷ [];
+      schedule = item (call 0) stop;
+    }
+
+-- its stream is 01's
+pub stream-P : enc-program program-P ≡ 1 ∷ 2 ∷ 0 ∷ 16 ∷ 1 ∷ 0 ∷ 1 ∷ 3 ∷ 1 ∷ 0 ∷ 41 ∷ 18 ∷ 1 ∷ 0 ∷ 18 ∷ 2 ∷ 1 ∷ 0 ∷ 1 ∷ 1 ∷ 0 ∷ []
+unfolding program-P enc-word flat op-code var-code enc-path enc-expr enc-exprs enc-stmt enc-stmts enc-item enc-items enc-step enc-program code size items
+stream-P = refl
+
+short-P : ltb 65536 (length text-P) ≡ false
+unfolding text-P
+short-P = refl
+
+pub P-text : (out : List ℕ) → block-size * program-blocks ≤ length out → outcome text-P out ≡ written program-P
+unfolding program-P outcome of-length of-tokens of-derivation of-program of-held of-room all few a-type a-var a-path holds-expr holds-exprs holds-stmt holds-stmts holds-step holds-item holds-items holds-schedule counted holds then provided each literal-meaning type-meaning referred further started start path-meaning exp-meaning exps-meaning stat-meaning stats-meaning pars-meaning step-meaning steps-meaning item-meaning sched-meaning text-meaning meant find one-later absent distinct same par-id par-type step-id struct-id pars-of steps-of structs-of local-id local-number local-type among once all-steps step-names decimal-from decimal signed in-int int-word enc-word flat op-code var-code enc-path enc-expr enc-exprs enc-stmt enc-stmts enc-item enc-items enc-step enc-program code size items args
+P-text out h = rw (short-P, P-lexed, P-derived, le-ltb (length out) (block-size * program-blocks) h) refl
+
+-- an empty text has no derivation
+pub empty-text : (out : List ℕ) → outcome [] out ≡ refused no-derivation
+unfolding outcome of-length of-tokens of-derivation lex run ended read
+empty-text out = refl

@@ -1,0 +1,1 @@
+// Program text to an image: definitions and laws stand in specs/.

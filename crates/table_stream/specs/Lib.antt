@@ -1,0 +1,3 @@
+pub mod TableStream
+pub mod TableStreamLaws
+pub mod RoundTrip

@@ -1,0 +1,229 @@
+-- Checking a program image is exact (01, 1 to 8 and 13 of 'Numbers from the input'): it is refused with a number exactly where
+-- that number's condition is foremost, and accepted exactly where it meets 01's conditions.
+use Prim.Native.Nat.{ℕ, _≤_}
+use native.Mathlib.Omega.{arith}
+use mathlib.Core.Path.{_≡_, refl, sym, ap, subst, _∙_}
+use mathlib.Core.Logic.{_↔_}
+use mathlib.Core.Bool.{Bool, true, false}
+use mathlib.Core.List.{List, [], _∷_}
+use lib.ListN.{length}
+use borrow.Author.Tests.{le-ltb}
+use Rattle.types.specs.Limits.{program-blocks, max-commands}
+use Rattle.blocks.specs.Images.{count, stream, fault}
+use Rattle.blocks.specs.Faults.{AllRight, FirstFault, Says}
+use Rattle.blocks.specs.FaultLaws.{first-exact, fault-says}
+use Rattle.block.specs.declared.Fault.{Fault}
+use Rattle.block.specs.declared.Fault.the-variants.{Length, Sum, Layout}
+use Rattle.block.specs.declared.Found.{Found}
+use Rattle.block.specs.declared.Found.the-variants.{Right, Wrong}
+use Rattle.program.specs.Tree.{Program}
+use Rattle.program.specs.Encoding.{enc-program}
+use Rattle.program.specs.Counts.{Counts}
+use Rattle.program.specs.Exact.{Refused, Refused.not-allowed, Refused.ends-early, Refused.goes-on}
+use Rattle.program.specs.Reader.{Result, Result.ok, Result.bad, read}
+use Rattle.program.specs.ProgramLaws.{program-law, enc-injective, program-refused}
+use Rattle.program.specs.FrontLaws.{ends-exactly, offends-exactly, ends-or-offends}
+use Rattle.types.specs.Reflects.{Reflects, Reflects.holds, Reflects.fails, lt-reflects}
+use Rattle.commands.specs.Bounds.{Within}
+use Rattle.commands.specs.Names.{NamesRight}
+use Rattle.commands.specs.Typing.{TypesRight}
+use Rattle.commands.specs.BoundsDecideLaws.{within-reflects}
+use Rattle.commands.specs.NamesDecideLaws.{names-reflects}
+use Rattle.commands.specs.TypingDecideLaws.{types-reflects}
+use Rattle.commands.specs.Numbers.{Order, NoneOf, Foremost, program-number}
+use Rattle.commands.specs.NumbersLaws.{number-accepted, number-limits, number-names, number-types, foremost-some}
+use Rattle.verdict.specs.Verdict.{Checked, Checked.accepted, Checked.refused, judge, of-read, of-image, checked, Verdict, refusal, approval, verdict-of, check-verdict, list-of, listed, check-list}
+use Rattle.types.specs.Numbers.{no-room}
+use Rattle.verdict.specs.ProgramInput.{ImageRight, Reads, Accepted, Approved, WrongEnd, WrongByte, OverLimits, WrongNames, WrongTypes, ShortList, program-order, check-order}
+use Rattle.verdict.specs.InputOrder.{none-behind, foremost-front, Tells, Tells.refuses, Tells.passes, here, past, past-all, tells-number, tells-none}
+
+-- one program is read from an image
+pub one-program : {x : List ℕ} {p q : Program} → Reads x p → Reads x q → p ≡ q
+one-program {p} {q} r s = enc-injective p q (r .counts) (s .counts) (sym (r .bytes) ∙ s .bytes)
+
+-- a first fault is one fault; right blocks have none
+one-fault : (x : List ℕ) (f g : Fault) → FirstFault (count x) x (count x) f → FirstFault (count x) x (count x) g → f ≡ g
+one-fault x f g a b =
+    let p = first-exact (count x) x (count x) (Wrong f) a in
+    let q = first-exact (count x) x (count x) (Wrong g) b in
+    cc
+
+pub no-fault : (x : List ℕ) (f : Fault) → AllRight (count x) x (count x) → FirstFault (count x) x (count x) f → ⊥
+no-fault x f a b =
+    let p = first-exact (count x) x (count x) Right a in
+    let q = first-exact (count x) x (count x) (Wrong f) b in
+    let z : _≡_ {A = ℕ} 0 1 = cc in omega arith
+
+module _ (x : List ℕ) where
+  -- the program of an answer, accepted
+  abbrev pub Passed : Checked → Type 0
+  Passed c = (p : Program) × (c ≡ accepted p) × (Accepted x p)
+
+  abbrev Tell : Order → Checked → Type 1
+  Tell = Tells refused Passed
+
+  -- 6, 7 and 8
+  no-6 : {p : Program} → Reads x p → Within p → OverLimits x → ⊥
+  no-6 r w c = c .2 (rw (one-program (c .1) r) w)
+
+  no-7 : {p : Program} → Reads x p → NamesRight p → WrongNames x → ⊥
+  no-7 r w c = c .2 (rw (one-program (c .1) r) w)
+
+  no-8 : {p : Program} → Reads x p → TypesRight p → WrongTypes x → ⊥
+  no-8 r w c = c .2 (rw (one-program (c .1) r) w)
+
+  abbrev from-6 : Order
+  from-6 = (6, OverLimits x) ∷ (7, WrongNames x) ∷ (8, WrongTypes x) ∷ []
+
+  tell-program : (p : Program) → ImageRight program-blocks x → Reads x p → Tell from-6 (judge p (program-number p))
+  unfolding judge
+  tell-program p i r = go (within-reflects p) (names-reflects p) (types-reflects p)
+    where
+      go : {u v w : Bool} → Reflects (Within p) u → Reflects (NamesRight p) v → Reflects (TypesRight p) w
+          → Tell from-6 (judge p (program-number p))
+      go (fails f) v w = here (ap (judge p) (number-limits p .1 f)) (p, r, f)
+      go (holds a) (fails f) w = past (no-6 r a) (here (ap (judge p) (number-names p .1 (a, f))) (p, r, f))
+      go (holds a) (holds b) (fails f) =
+          past (no-6 r a) (past (no-7 r b) (here (ap (judge p) (number-types p .1 (a, b, f))) (p, r, f)))
+      go (holds a) (holds b) (holds c) =
+          passes (no-6 r a, (no-7 r b, (no-8 r c, tt)))
+          (p, ap (judge p) (number-accepted p .1 (a, b, c)), record { image = i; reads = r; within = a; names = b; types = c })
+
+  -- 4 and 5
+  no-4 : (p : Program) (m : ℕ) → read (stream x) ≡ ok p m → WrongEnd x → ⊥
+  no-4 p m e c = let d = ends-exactly (stream x) (c .0) .1 (c .1) in let z : _≡_ {A = ℕ} 0 1 = cc in omega arith
+
+  no-5 : (p : Program) (m : ℕ) → read (stream x) ≡ ok p m → WrongByte x → ⊥
+  no-5 p m e c = let d = offends-exactly (stream x) (c .0) .1 (c .1) in let z : _≡_ {A = ℕ} 0 1 = cc in omega arith
+
+  abbrev from-4 : Order
+  from-4 = (4, WrongEnd x) ∷ (5, WrongByte x) ∷ from-6
+
+  tell-read : ImageRight program-blocks x → Tell from-4 (of-read (read (stream x)))
+  unfolding of-read
+  tell-read i = go (read (stream x)) refl
+    where
+      numbered : {at k : ℕ} → read (stream x) ≡ bad at k → Refused Counts enc-program (stream x) at k → Tell from-4 (refused k)
+      numbered {at} e (not-allowed l) =
+          let offends = offends-exactly (stream x) at .0 e in
+          past (λ c. ends-or-offends (stream x) (c .0) at (c .1) offends) (here refl (at, offends))
+      numbered {at} e ends-early = here refl (at, ends-exactly (stream x) at .0 e)
+      numbered {at} e (goes-on a b bs c q) = here refl (at, ends-exactly (stream x) at .0 e)
+
+      go : (r : Result Program) → read (stream x) ≡ r → Tell from-4 (of-read r)
+      go (ok p m) e =
+          let q = program-law (stream x) p m .0 e in
+          past (no-4 p m e) (past (no-5 p m e) (tell-program p i (record { counts = q .0; bytes = q .1 })))
+      go (bad n k) e = numbered e (program-refused (stream x) n k e)
+
+  -- 1, 2 and 3
+  pub tell-checked : Tell (program-order x) (checked x)
+  unfolding checked of-image
+  tell-checked = go (fault program-blocks x) (fault-says program-blocks x)
+    where
+      go : (f : Found) → Says program-blocks x f → Tell (program-order x) (of-image f x)
+      go (Wrong Length) s = here refl s
+      go (Wrong Sum) s = past (λ f. f (s .0)) (here refl (s .1))
+      go (Wrong Layout) s =
+          past (λ f. f (s .0))
+          (past (λ b. let e = one-fault x Sum Layout b (s .1) in let z : _≡_ {A = ℕ} 0 1 = cc in omega arith) (here refl (s .1)))
+      go Right s =
+          past (λ f. f (s .0))
+          (past (no-fault x Sum (s .1))
+          (past (no-fault x Layout (s .1))
+          (tell-read (record { length-right = s .0; blocks-right = s .1 }))))
+
+  refused-same : (n m : ℕ) → refused n ≡ refused m → n ≡ m
+  refused-same n m e = cc
+
+  refused-apart : (n : ℕ) → Passed (refused n) → ⊥
+  refused-apart n d = let e = d .1 in let z : _≡_ {A = ℕ} 0 1 = cc in omega arith
+
+  -- a program image is refused with a number exactly where that number is foremost of those whose condition holds
+  pub checked-number : (n : ℕ) → (checked x ≡ refused n) ↔ Foremost (program-order x) n
+  checked-number = tells-number refused-same refused-apart tell-checked
+
+  -- what is accepted meets no condition
+  pub accepted-none : {p : Program} → Accepted x p → NoneOf (program-order x)
+  accepted-none {p} a =
+      let reads = program-law (stream x) p (length (stream x)) .1 (a .reads .counts, a .reads .bytes, refl) in
+      let judged : NoneOf from-6 = (no-6 (a .reads) (a .within), (no-7 (a .reads) (a .names), (no-8 (a .reads) (a .types), tt))) in
+      let whole : NoneOf from-4 = (no-4 p (length (stream x)) reads, (no-5 p (length (stream x)) reads, judged)) in (
+        λ f. f (a .image .length-right),
+        (no-fault x Sum (a .image .blocks-right), (no-fault x Layout (a .image .blocks-right), whole)),
+      )
+
+  -- it is accepted as a program exactly where it meets the conditions of 01: right blocks, the program's stream, within counts and
+  -- limits, names and types right
+  pub checked-accepted : (p : Program) → (checked x ≡ accepted p) ↔ Accepted x p
+  checked-accepted p = (forth tell-checked, back tell-checked)
+    where
+      forth : Tell (program-order x) (checked x) → checked x ≡ accepted p → Accepted x p
+      forth (refuses d q) e = let z : _≡_ {A = ℕ} 0 1 = cc in absurd (omega arith)
+      forth (passes f d) e = let h = d .1 in let q : d .0 ≡ p = cc in rw q at (d .2)
+
+      back : Tell (program-order x) (checked x) → Accepted x p → checked x ≡ accepted p
+      back (refuses d q) a = absurd (foremost-some q (accepted-none a))
+      back (passes f d) a = d .1 ∙ ap accepted (one-program (d .2 .reads) (a .reads))
+
+-- Checking, with a list ------------------------------------------------------------------
+
+module _ (x list : List ℕ) where
+  abbrev Verdicts : Order → Verdict → Type 1
+  Verdicts = Tells refusal (Approved x list)
+
+  tell-verdict : Verdicts (check-order x list) (check-verdict x list)
+  unfolding check-verdict verdict-of
+  tell-verdict = go (tell-checked x)
+    where
+      room : (p : Program) → Accepted x p → {t : Bool} → Reflects (ShortList list) t
+          → Verdicts ((13, ShortList list) ∷ []) (elim t [ true ↦ refusal no-room | false ↦ approval p ])
+      room p a (holds h) = here refl h
+      room p a (fails f) = passes (f, tt) (p, refl, a, omega arith)
+
+      go : Tells refused (Passed x) (program-order x) (checked x) → Verdicts (check-order x list) (verdict-of (checked x) list)
+      go (refuses e q) = refuses (ap (λ (c : Checked). verdict-of c list) e) (foremost-front ((13, ShortList list) ∷ []) q)
+      go (passes f d) =
+          past-all (program-order x) f
+          (subst (Verdicts ((13, ShortList list) ∷ [])) (sym (ap (λ (c : Checked). verdict-of c list) (d .1)))
+          (room (d .0) (d .2) (lt-reflects (length list) max-commands)))
+
+  refusal-same : (n m : ℕ) → refusal n ≡ refusal m → n ≡ m
+  refusal-same n m e = ap (λ (v : Verdict). v .number) e
+
+  -- a program has a struct, and a refusal counts none
+  refusal-apart : (n : ℕ) → Approved x list (refusal n) → ⊥
+  unfolding Counts
+  refusal-apart n d = omega (arith, d .2 .reads .counts .0 .0, ap (λ (v : Verdict). v .structs) (d .1))
+
+  -- checking refuses with a number exactly where that number is foremost
+  pub verdict-number : (n : ℕ) → (check-verdict x list ≡ refusal n) ↔ Foremost (check-order x list) n
+  verdict-number = tells-number refusal-same refusal-apart tell-verdict
+
+  -- it approves exactly where no condition holds
+  pub verdict-approved : Approved x list (check-verdict x list) ↔ NoneOf (check-order x list)
+  verdict-approved = tells-none refusal-same refusal-apart tell-verdict
+
+  -- an input refusal reports its number alone and leaves the list as it was
+  pub check-untouched : (n : ℕ) → Foremost (check-order x list) n → (check-verdict x list ≡ refusal n) × (check-list x list ≡ list)
+  unfolding check-list list-of
+  check-untouched n q = (verdict-number n .1 q, go (tell-checked x))
+    where
+      room : (p : Program) → NoneOf (program-order x) → {t : Bool} → Reflects (ShortList list) t
+          → (elim t [ true ↦ list | false ↦ listed p list ]) ≡ list
+      room p f (holds h) = refl
+      room p f (fails g) = absurd (foremost-some q (none-behind (program-order x) ((13, ShortList list) ∷ []) f (g, tt)))
+
+      go : Tells refused (Passed x) (program-order x) (checked x) → list-of (checked x) list ≡ list
+      go (refuses e r) = ap (λ (c : Checked). list-of c list) e
+      go (passes f d) = ap (λ (c : Checked). list-of c list) (d .1) ∙ room (d .0) f (lt-reflects (length list) max-commands)
+
+  -- an accepted program with room is approved, and its commands stand in the list
+  pub check-approved : (p : Program) → Accepted x p → max-commands ≤ length list
+      → (check-verdict x list ≡ approval p) × (check-list x list ≡ listed p list)
+  unfolding check-verdict verdict-of check-list list-of
+  check-approved p a h =
+      let e = checked-accepted x p .1 a in (
+        ap (λ (c : Checked). verdict-of c list) e ∙ rw (le-ltb (length list) max-commands h, verdict-of),
+        ap (λ (c : Checked). list-of c list) e ∙ rw (le-ltb (length list) max-commands h, list-of),
+      )

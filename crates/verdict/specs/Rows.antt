@@ -1,0 +1,62 @@
+-- 01's program P as a stream ('Bench rows'), and what a program stream comes to with every definition open that it computes through: where
+-- `checking` is unfolded, a row is a fact by computation.
+use Prim.Native.Nat.{ℕ, _≤_}
+use native.Mathlib.Omega.{arith}
+use mathlib.Core.Path.{_≡_, refl, ap, _∙_}
+use mathlib.Core.List.{List, [], _∷_, _++_}
+use lib.ListN.{length, drop}
+use borrow.Author.Tests.{le-ltb}
+use Rattle.types.specs.Limits.{max-commands}
+use Rattle.types.specs.Types.{same-type, code}
+use Rattle.types.specs.Values.{default, int-word, word}
+use Rattle.blocks.specs.Images.{image}
+use Rattle.program.specs.Encoding.{op-code, var-code}
+use Rattle.program.specs.Reader.{read}
+use Rattle.program.specs.Rows.{reading}
+use Rattle.commands.specs.Commands.{then, reads, front, last, expr-coms, args-coms, update-coms, stmt-coms, body-coms, flatten, commands}
+use Rattle.commands.specs.Coding.{coded, com-word, command-word, words}
+use Rattle.commands.specs.Context.{stmt-local, body-local}
+use Rattle.commands.specs.Names.{declares, declared, names-of-steps}
+use Rattle.commands.specs.Depth.{depth}
+use Rattle.commands.specs.Bounds.{item-count, items-count, total, greatest, program-size, program-depth}
+use Rattle.commands.specs.Decide.{every, member, distinct}
+use Rattle.commands.specs.NamesDecide.{start-named, expr-named, args-named, stmt-named, body-named, steps-named, stepped, item-stepped, items-stepped, names-right}
+use Rattle.commands.specs.TypingDecide.{is-of, agree, given as given-type, result, operate as operate-types, lead, path-type, expr-type, args-typed, stmt-typed, body-typed, steps-typed, types-right}
+use Rattle.commands.specs.BoundsDecide.{within}
+use Rattle.commands.specs.Numbers.{first, breach-tests, program-number}
+use Rattle.verdict.specs.Verdict.{Checked, Checked.accepted, Checked.refused, judge, of-read, of-steps, of-structs, program-words, listed, list-of, check-list}
+use Rattle.verdict.specs.VerdictLaws.{checked-image}
+
+-- P: load := load + prev.load, run once
+unfoldable pub P : List ℕ
+P = 1 ∷ 2 ∷ 0 ∷ 16 ∷ 1 ∷ 0 ∷ 1 ∷ 3 ∷ 1 ∷ 0 ∷ 41 ∷ 18 ∷ 1 ∷ 0 ∷ 18 ∷ 2 ∷ 1 ∷ 0 ∷ 1 ∷ 1 ∷ 0 ∷ []
+
+-- what a program stream comes to
+unfoldable pub checking : List ℕ → Checked
+unfolding reading same-type then reads front last expr-coms args-coms update-coms stmt-coms body-coms flatten commands stmt-local body-local declares declared names-of-steps depth item-count items-count total greatest program-size program-depth every member distinct start-named expr-named args-named stmt-named body-named steps-named stepped item-stepped items-stepped names-right is-of agree given-type result operate-types lead path-type expr-type args-typed stmt-typed body-typed steps-typed types-right within first breach-tests program-number judge of-read
+checking s = of-read (read s)
+
+-- The list -----------------------------------------------------------------------------
+
+abbrev words-by : Checked → List ℕ
+words-by (accepted p) = program-words p
+words-by (refused n) = []
+
+list-room : (c : Checked) (list : List ℕ) → max-commands ≤ length list → list-of c list ≡ words-by c ++ drop (length (words-by c)) list
+unfolding list-of listed
+list-room (refused n) list h = refl
+list-room (accepted p) list h = rw (le-ltb (length list) max-commands h, list-of)
+
+words-P : words-by (of-read (read P)) ≡ 2 ∷ 3 ∷ 2 ∷ 4294967299 ∷ 3 ∷ 176093659144 ∷ 2 ∷ 4 ∷ []
+unfolding checking P var-code coded com-word command-word words of-steps of-structs program-words code default int-word word op-code
+words-P = refl
+
+-- P's commands stand in the first 8 places of the list, and further places are untouched: push this, rd 0, push this, rd 1, rd 0,
+-- op 41, push this, wr 0
+pub listed-P : (list : List ℕ) → max-commands ≤ length list
+    → check-list (image P) list ≡ 2 ∷ 3 ∷ 2 ∷ 4294967299 ∷ 3 ∷ 176093659144 ∷ 2 ∷ 4 ∷ drop 8 list
+unfolding check-list P
+listed-P list h =
+    ap (λ (c : Checked). list-of c list) (checked-image P (omega arith) (omega arith))
+    ∙ list-room (of-read (read P)) list h
+    ∙ ap (λ (w : List ℕ). w ++ drop (length w) list) words-P

@@ -1,0 +1,16 @@
+-- The image of a program's stream is checked as its stream (01, 'Blocks').
+use Prim.Native.Nat.{ℕ, _*_, _≤_}
+use native.Mathlib.Omega.{arith}
+use mathlib.Core.Path.{_≡_}
+use mathlib.Core.List.{List}
+use lib.ListN.{length}
+use Rattle.types.specs.Limits.{program-blocks}
+use Rattle.block.specs.Block.{payload-size}
+use Rattle.blocks.specs.Images.{image}
+use Rattle.blocks.specs.ImageRoundTrip.{image-accepted, image-stream}
+use Rattle.program.specs.Reader.{read}
+use Rattle.verdict.specs.Verdict.{of-read, of-image, checked}
+
+pub checked-image : (s : List ℕ) → 1 ≤ length s → length s ≤ payload-size * program-blocks → checked (image s) ≡ of-read (read s)
+unfolding checked of-image
+checked-image s some fits = rw (image-accepted s some program-blocks (omega arith), of-image, image-stream s some)

@@ -1,0 +1,1 @@
+// The definitions of what checking answers, and their laws, stand in specs/.
