@@ -44,6 +44,8 @@ use Rattle.sound.specs.BeginGood.{begin-good}
 use Rattle.sound.specs.NeverStuckLaws.{visits-good, demand3, demand3-comes}
 use Rattle.sound.specs.Started.{OneStep}
 use Rattle.sound.specs.StartedLaws.{good-one-step}
+use Rattle.sound.specs.BeginGood.{begin-good}
+use Rattle.sound.specs.TabledLaws.{begin-tabled}
 use Rattle.sound.specs.TableKept.{table-kept, table-written, nulls-kept, comes-written, output-length}
 use Rattle.step_part.specs.StepPart.{step-place, step-part}
 use Rattle.step_lines.specs.Lines.{program-lines}
@@ -163,13 +165,13 @@ module _ {p : Program} (a : Accepted p) (rs : List Record) (right : TableRight (
     (v : Visits p (begin p rs) es z fs) where
   -- every machine of a run stands at a table that a run may begin with; written, it fits its blocks and is accepted as that table
   pub tables-right : TableRight (p .params) (table-of p z)
-  tables-right = table-kept a rs right v
+  tables-right = table-kept a (begin-good p (a .0) rs right) (begin-tabled p rs right) v
 
   pub tables-written : (pieces (length (enc-table (table-of p z))) ≤ table-blocks)
       × (TableAccepted p (image (enc-table (table-of p z))) (table-of p z))
-  tables-written = table-written a rs right v
+  tables-written = table-written a (begin-good p (a .0) rs right) (begin-tabled p rs right) v
 
   -- "Labels 0 to S − 1 are the null instances, holding defaults"
   pub nulls-default : (k : ℕ) → k < structs p
       → (i : Instance) × (getElem? (z .instances) k ≡ some i) × (i .struct ≡ k) × (params-in (i .env) ≡ map default (params-of p k))
-  nulls-default = nulls-kept a rs right v
+  nulls-default = nulls-kept a (begin-good p (a .0) rs right) (begin-tabled p rs right) v

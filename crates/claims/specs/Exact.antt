@@ -1,6 +1,6 @@
 -- What the definitions compute is what they say (01, 'Program stream', 'Table and turns', 'Numbers from the input' and 'from the state';
 -- 000, section 4): tests decide their conditions, readers read back what is written, and what is spoken of as one is one.
-use Prim.Native.Nat.{ℕ, suc, _+_, _^_, _<_, _≤_}
+use Prim.Native.Nat.{ℕ, suc, _+_, _*_, _^_, _<_, _≤_}
 use mathlib.Core.Path.{_≡_}
 use mathlib.Core.Logic.{_↔_}
 use mathlib.Core.Bool.{Bool, true, _&&_}
@@ -11,16 +11,27 @@ use lib.ListN.{length, getD, getElem?, drop}
 use Rattle.types.specs.Limits.{max-instances, expr-levels}
 use Rattle.types.specs.Reflects.{Reflects}
 use Rattle.types.specs.Types.{Ty}
+use Rattle.block.specs.declared.Found.the-variants.{Right}
+use Rattle.block.specs.Block.{block-size, payload-size}
+use Rattle.block.specs.Sums.{wrap, Bytes as ByteList}
+use Rattle.blocks.specs.declared.Read.the-variants.{Stream}
+use Rattle.blocks.specs.declared.Written.the-variants.{Blocks}
+use Rattle.blocks.specs.Images.{most, fault, stream, image, pieces, read as read-image, read-into, write}
+use Rattle.blocks.specs.Answers.{StreamRight, WriteSays}
+use Rattle.blocks.specs.AnswerLaws.{write-says, read-fits, write-fits, read-written-into}
+use Rattle.blocks.specs.ImageBytes.{image-bytes}
+use Rattle.blocks.specs.ImageRoundTrip.{one-image}
 use Rattle.types.specs.TypeBytes.{TypeByte, is-type}
 use Rattle.types.specs.TypeLaws.{type-exact}
-use Rattle.types.specs.Values.{Val, IntRange, in-int, default}
+use Rattle.types.specs.Values.{Val, IntRange, in-int, int-word, default}
 use Rattle.types.specs.ValueLaws.{int-exact}
 use Rattle.program.specs.Tree.{Op, Expr, Program}
 use Rattle.program.specs.Encoding.{enc-word, enc-program}
 use Rattle.program.specs.Counts.{Counts, CountsTo}
 use Rattle.program.specs.Levels.{levels-program}
+use Rattle.program.specs.Reader.{Result.bad, read, wrong-end}
 use Rattle.program.specs.Fronts.{Front, EndsAt, OffendsAt}
-use Rattle.program.specs.FrontLaws.{ends-unique, offends-unique, levels-exactly}
+use Rattle.program.specs.FrontLaws.{program-viable, ends-unique, offends-unique, levels-exactly}
 use Rattle.commands.specs.Commands.{Coms, Coms.if-then, Flat.if-n, then, flatten}
 use Rattle.commands.specs.CommandLaws.{if-true, if-false}
 use Rattle.commands.specs.Context.{Ctx}
@@ -38,6 +49,7 @@ use Rattle.operators.specs.ApplyLaws.{applies-unique, applies-not-exceeds}
 use Rattle.table.specs.Table.{Record, enc-table, HeldTable, TableRight}
 use Rattle.table.specs.TableReader.{TableAnswer.table, table-of-stream}
 use Rattle.table.specs.TableLaws.{table-back, table-injective}
+use Rattle.table.specs.SizeLaws.{Bytes, table-bytes}
 use Rattle.table.specs.TableFaults.{Field, field-bytes, Allowed, Front as TableFront}
 use Rattle.table.specs.TableViable.{Viable, front-viable, offending-final}
 use Rattle.machine.specs.Published.{State, structs}
@@ -55,8 +67,13 @@ use Rattle.run.specs.Holders.{holders}
 use Rattle.run.specs.TurnLaws.{labels-ascend, holder-chosen}
 use Rattle.run.specs.Runs.{Runs, Passes}
 use Rattle.run.specs.RunAgreesVisits.{passes-bounded, all-taken}
-use Rattle.run.specs.Initial.{idle, of-record, first-insts}
-use Rattle.run.specs.BeginLaws.{null-at, record-at, first-length}
+use Rattle.run.specs.Run.{Outcome.jammed, run}
+use Rattle.run.specs.Begin.{begin}
+use Rattle.run.specs.Initial.{idle, of-record, first-insts, Comes}
+use Rattle.run.specs.BeginLaws.{null-at, record-at, first-length, jammed-exact}
+use Rattle.text.specs.Listing.{decimal, int-text}
+use Rattle.text.specs.Decimals.{InDecimal, integer}
+use Rattle.text.specs.DecimalLaws.{decimal-right, int-right}
 
 -- Types and values ------------------------------------------------------------------------
 
@@ -74,15 +91,48 @@ result-one a b = applies-unique a b
 pub result-or-exceeded : {o : Op} {x y z : Val} → Applies o x y z → Exceeds o x y → ⊥
 result-or-exceeded a b = applies-not-exceeds a b
 
+-- Blocks ----------------------------------------------------------------------------------
+
+-- "The used payloads, joined, are the stream": what is written of a stream is read back,
+pub image-read-back : (max : ℕ) (s : List ℕ) → StreamRight max (length s) → (room : ℕ) → length s ≤ room → (buffer : List ℕ)
+    → read-into (read-image max (image s) room) (stream (image s)) buffer ≡ s ++ drop (length s) buffer
+image-read-back max s right room fits buffer = read-written-into max s right room fits buffer
+
+-- what writing answers holds: a stream too long or empty, an output too short, or its blocks
+pub write-answered : (max n room : ℕ) → WriteSays max n room (write max n room)
+write-answered = write-says
+
+-- a buffer as long as the payloads and an output as long as the blocks that are allowed are never too short
+pub read-room : (max : ℕ) (x : List ℕ) (room : ℕ) → fault max x ≡ Right → payload-size * most max ≤ room
+    → read-image max x room ≡ Stream (length (stream x))
+read-room = read-fits
+
+pub write-room : (max n room : ℕ) → StreamRight max n → block-size * most max ≤ room → write max n room ≡ Blocks (pieces n)
+write-room = write-fits
+
+-- its bytes are bytes,
+pub image-bytes-small : (s : List ℕ) → ByteList s → length s ≤ payload-size * wrap → ByteList (image s)
+image-bytes-small = image-bytes
+
+-- and a stream has one accepted image
+pub image-one : (max : ℕ) (x y : List ℕ) → ByteList x → ByteList y → fault max x ≡ Right → fault max y ≡ Right → stream x ≡ stream y → x ≡ y
+image-one = one-image
+
 -- Programs --------------------------------------------------------------------------------
 
--- 4 and 5 are told of one place each, and the level at which a byte stands is that of the counts
+-- 4 and 5 are told of one place each
 pub end-one : (s : List ℕ) (n m : ℕ) → EndsAt s n → EndsAt s m → n ≡ m
 end-one = ends-unique
 
 pub offence-one : (s : List ℕ) (n m : ℕ) → OffendsAt s n → OffendsAt s m → n ≡ m
 offence-one = offends-unique
 
+-- a stream that ends early can be completed, at one level more at the most
+pub stream-completed : (s : List ℕ) → read s ≡ bad (length s) wrong-end
+    → (t : List ℕ) × (p : Program) × (CountsTo (suc expr-levels) p) × (s ++ t ≡ enc-program p)
+stream-completed = program-viable
+
+-- the level at which a byte stands is that of the counts
 pub levels-counted : (p : Program) → CountsTo (suc expr-levels) p
     → Counts p ↔ Front expr-levels (enc-program p) (enc-program p) (levels-program p)
 levels-counted = levels-exactly
@@ -110,12 +160,15 @@ if-left-out = if-false
 -- Tables ----------------------------------------------------------------------------------
 
 module _ (pss : List (List Ty)) where
-  -- a right table is read back from its bytes, which are no other's
+  -- a right table is read back from its bytes, which are no other's and below 256
   pub table-read-back : (rs : List Record) → TableRight pss rs → table-of-stream pss (enc-table rs) ≡ table rs
   table-read-back = table-back pss
 
   pub table-one : (qs rs : List Record) → HeldTable pss qs → HeldTable pss rs → enc-table qs ≡ enc-table rs → qs ≡ rs
   table-one = table-injective pss
+
+  pub table-bytes-small : (rs : List Record) → HeldTable pss rs → Bytes (enc-table rs)
+  table-bytes-small = table-bytes pss
 
   -- fields that are whole and allowed begin a table, and with one behind them that is not allowed no table goes on
   pub fields-begin : 0 < length pss → length pss ≤ max-instances → {u : List ℕ} {f : Field} → TableFront pss u f → Viable pss u
@@ -159,6 +212,11 @@ module _ (p : Program) where
       → (move p m ≡ stuck) ↔ (((st′ : State) → Rule p schedule st st′ → ⊥) × (Nested st → ⊥))
   move-stuck-exactly m st R t = move-stuck p m st R t
 
+  -- a run is jammed exactly where the published rules come to nothing
+  pub jammed-exactly : (rs : List Record) (es : List ℕ)
+      → (run p (begin p rs) es ≡ jammed) ↔ ((n t : ℕ) (rs′ : List Record) → Comes p rs es n t rs′ → ⊥)
+  jammed-exactly rs es = jammed-exact p rs es
+
   -- a command is taken for each byte at most, and at 33 for every one
   pub turns-within : {st st′ : State} {es : List ℕ} {t : ℕ} → Passes p st es t st′ → t ≤ length es
   turns-within v = passes-bounded p v
@@ -174,3 +232,12 @@ labels-in-order = labels-ascend
 pub holder-picked : (m : Machine) (l : ℕ) {i : Instance} → getElem? (m .instances) l ≡ some i → (i .code ≡ [] → ⊥)
     → (e : ℕ) × (e < length (holders m)) × (chosen (holders m) e ≡ l)
 holder-picked m l g n = holder-chosen m l g n
+
+-- Listings --------------------------------------------------------------------------------
+
+-- "value in decimal, a minus sign before a negative Int"
+pub number-listed : (n : ℕ) → n < 2 ^ 64 → InDecimal n (decimal n)
+number-listed = decimal-right
+
+pub int-listed : (z : ℤ) → IntRange z → integer (int-text (int-word z)) ≡ z
+int-listed = int-right

@@ -106,9 +106,6 @@ program-schedule s p m at e b =
     go (bad i n) h = let z : _≡_ {A = ℕ} 0 1 = cc in absurd (omega arith)
 
 module _ (s : List ℕ) (p : Program) (m at : ℕ) (e : read s ≡ ok p m) (b : Behind s p at) where
-  abbrev sched : Sched
-  sched = of-items (p .schedule)
-
   counts : Counts p
   counts = program-law s p m .0 e .0
 

@@ -1,29 +1,28 @@
 -- An accepted program may be prepared (01, 'Table and turns'): each part of the walk has what it needs, and together they prepare a run.
-use Prim.Native.Nat.{ℕ, suc, _+_, _*_, _≤_}
+use Prim.Native.Nat.{ℕ, _+_, _*_, _≤_}
 use native.Mathlib.Omega.{arith}
-use mathlib.Core.Path.{_≡_, refl, sym, _∙_}
+use mathlib.Core.Path.{_≡_, sym, _∙_}
 use mathlib.Core.List.{List}
 use lib.ListN.{length, length-map}
 use lib.Seq.{sets-eq}
-use Rattle.types.specs.Limits.{max-structs, max-commands, schedule-items}
-use Rattle.program.specs.Tree.{Program}
+use Rattle.types.specs.Limits.{max-structs}
 use Rattle.program.specs.Counts.{All, Counts}
-use Rattle.program.specs.Reader.{Result.ok, read}
+use Rattle.program.specs.Reader.{Result.ok}
 use Rattle.program.specs.ProgramLaws.{program-law}
-use Rattle.commands.specs.Bounds.{arities, Within}
+use Rattle.commands.specs.Bounds.{Within}
 use Rattle.directory.specs.Directory.{structs-rows, directory}
 use Rattle.directory.specs.Rows.{row-places, directory-places, rows-from}
 use Rattle.directory.specs.DirectoryLaws.{directory-few, RowInRange, directory-ranged}
 use Rattle.directory.specs.FindLaws.{directory-marks}
 use Rattle.emit.specs.Written.{Ready}
 use Rattle.emit.specs.ProgramWords.{step-words, structs-words, program-words, structs-at}
-use Rattle.emit.specs.ProgramLaws.{program-length, whole-program, program-steps}
+use Rattle.emit.specs.ProgramLaws.{program-length}
 use Rattle.emit_steps.specs.declared.Place.{Place}
 use Rattle.emit_steps.specs.Emitted.{from-place, stand, Fits, Emitted, EmittedProgram}
 use Rattle.emit_steps.specs.ProgramLaws.{program-fits}
 use Rattle.memory.specs.Plan.{Located}
 use Rattle.compile.specs.Codes.{schedule-codes, schedule-at}
-use Rattle.compile.specs.Spans.{span-places, spans-of}
+use Rattle.compile.specs.Spans.{spans-of}
 use Rattle.compile.specs.SpansLaws.{spans-located}
 use Rattle.compile.specs.Laid.{Behind, LaidProgram}
 use Rattle.compile.specs.LaidLaws.{schedule-ready}
@@ -85,12 +84,3 @@ module _ {s ar : List ℕ} {at : ℕ} {list spans codes : List ℕ} (h : Prepara
         let z : ok p m ≡ ok (h .program) (h .end) = sym e ∙ h .reads in
         let x : p ≡ h .program = cc in
         rw x (record { words = emitted .words; located = located b; laid = c (h .program) (h .end) (h .reads) behind })
-
--- every program within the limits may be prepared, where there is room
-pub preparable : (s : List ℕ) (p : Program) (m : ℕ) → read s ≡ ok p m → Within p → (list spans codes : List ℕ) → max-commands ≤ length list
-    → length spans ≡ span-places → suc (2 * schedule-items) ≤ length codes → (at : ℕ) × (Preparable s (arities p) at list spans codes)
-preparable s p m e w list spans codes a b c =
-    let t = program-steps s 0 p m (whole-program s p m e) in (
-      t .behind,
-      record { program = p; end = m; reads = e; counts = refl; params = t .params; within = w; list-long = a; spans-long = b; codes-long = c },
-    )

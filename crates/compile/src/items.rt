@@ -12,13 +12,6 @@ ghost use Rattle.compile.specs.Codes.{item-codes, items-codes, schedule-
 // The codes of a schedule are at most two for each item, and the end.
 pub const CODES: usize = 2 * types::SCHEDULE_ITEMS + 1;
 
-// A Fix begins; the schedule ends; a Fix goes round to the place that is added to this number.
-const FIX: usize = 1024;
-
-const END: usize = 1025;
-
-const ROUND: usize = 2048;
-
 // A code behind what was written.
 fn add(codes: &mut [usize], p: Put, code: usize) -> Put
     requires { ⌜ p .at < length (now codes) ⌝ }
@@ -61,9 +54,9 @@ fn item(s: &[u8], at: usize, depth: usize, codes: &mut [usize], k: usize) -> Put
             types::STEP_NAMES * (j + 1) + n,
         );
     }
-    store(codes, k, FIX);
+    store(codes, k, layout::codes::FIX);
     let p = items(s, at + 1, depth - 1, codes, k + 1);
-    add(codes, p, ROUND + k + 1)
+    add(codes, p, layout::codes::ROUND + k + 1)
 }
 
 // The codes of n items in a row.
@@ -95,5 +88,5 @@ pub fn schedule(s: &[u8], at: usize, codes: &mut [usize]) -> Put
     ensures { λ _. ⌜ LaidProgram (now (s .entry)) at (now (codes .entry)) (now (codes .exit)) ⌝ }
 {
     let p = items(s, at, types::FIX_LEVELS, codes, 0);
-    add(codes, p, END)
+    add(codes, p, layout::codes::END)
 }

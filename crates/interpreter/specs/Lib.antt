@@ -1,5 +1,4 @@
 pub mod Ready
-pub mod ReadyLaws
 pub mod Moving
 pub mod MovingLaws
 pub mod Counting

@@ -4,12 +4,10 @@ use Prim.Native.Nat.{ℕ, _+_, _-_, _*_, _<_, _≤_}
 use mathlib.Core.Path.{_≡_, ap, sym, _∙_}
 use mathlib.Core.List.{List}
 use native.Mathlib.Omega.{arith}
-use lib.ListN.{length, getD, drop}
+use lib.ListN.{length, getD}
 use borrow.Author.Tests.{lt-ltb, le-ltb}
-use Rattle.program.specs.Tree.{Program}
 use Rattle.machine.specs.Machine.{Machine}
 use Rattle.machine.specs.Stops.{out-of-turns}
-use Rattle.run.specs.Visits.{Visits}
 use Rattle.layout.specs.Layout.{head, head-size, next-of, end-of, holds}
 use Rattle.layout.specs.State.{State, state-of}
 use Rattle.memory.specs.Fit.{Fit}
@@ -18,9 +16,9 @@ use Rattle.memory.specs.Choose.{holding, picked}
 use Rattle.layout.specs.declared.Numbers.{Numbers}
 use Rattle.interpreter.specs.Ready.{Ready}
 use Rattle.interpreter.specs.Counting.{fewer}
-use Rattle.interpreter.specs.Running.{busy, cleared, Begun, Standing, Settling, Ending, Gone}
+use Rattle.interpreter.specs.Running.{busy, Begun, Standing, Settling, Ending, Gone}
 use Rattle.interpreter.specs.TurnLaws.{picked-fits}
-use Rattle.interpreter.specs.RunningLaws.{ready-rows, moves-none, settles-held, runs-none, running-visits, still-running, ends-over, ends-lasting, ends-failed, taken-turn, runs-more}
+use Rattle.interpreter.specs.RunningLaws.{ready-rows, moves-none, settles-held, runs-none, still-running, ends-over, ends-lasting, ends-failed, taken-turn, runs-more}
 
 -- The count behind a command of instance l ------------------------------------------
 
@@ -49,12 +47,6 @@ module _ {counts list items spans es : List ℕ} {z₀ z₁ : State} {b₁ : ℕ
   gone-none p m s = runs-none s
 
   module _ {i : ℕ} {z : State} {n : ℕ} (g : Gone counts list items spans es z₁ b₁ i z n) where
-    -- whichever program and machine memory was ready for, behind i turns it holds a machine that their run passes through, with the bytes
-    -- that are left
-    pub gone-visits : (p : Program) (m : Machine) → Ready p counts list items spans m z₀
-        → (m′ : Machine) × (Visits p m es m′ (drop i es)) × (Ready p counts list items spans m′ (cleared z))
-    gone-visits p m r = running-visits (g p m (settled p counts list m r))
-
     -- The ends of the loop ------------------------------------------------------------
 
     pub gone-over : n ≡ 0 → Ending counts list items spans es z₀ (z .machine .number) i z

@@ -101,14 +101,6 @@ module _ {p : Program} {counts list items spans : List ℕ} where
     runs-none (still r h v q) = over r h (v es) (visits-outcome 0 (omega arith) (v es) (q es))
 
     module _ {i : ℕ} {z : State} {n : ℕ} (g : Running p counts list items spans m es i z n) where
-      -- behind every turn and the moves that follow it, memory holds a machine that the run passes through, with the bytes that are left
-      pub running-visits : (m′ : Machine) × (Visits p m es m′ (drop i es)) × (Ready p counts list items spans m′ (cleared z))
-      running-visits = go g
-        where
-          go : Running p counts list items spans m es i z n → (m′ : Machine) × (Visits p m es m′ (drop i es)) × (Ready p counts list items spans m′ (cleared z))
-          go (going {m′ = m′} r b k v) = (m′, v, ready-clear r)
-          go (over {m′ = m′} r k v q) = (m′, v, r)
-
       -- nobody holds commands
       pub ends-over : n ≡ 0 → Ended p counts list items spans m es (z .machine .number) i z
       ends-over h = go g

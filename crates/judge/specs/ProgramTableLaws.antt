@@ -12,7 +12,7 @@ use Rattle.types.specs.Limits.{max-structs, max-params, step-names}
 use Rattle.types.specs.Types.{Ty, Ty.int, code}
 use Rattle.program.specs.Tree.{Stmts, Step, Program}
 use Rattle.program.specs.Counts.{All}
-use Rattle.commands.specs.Context.{Ctx, context}
+use Rattle.commands.specs.Context.{context}
 use Rattle.commands.specs.Bounds.{arities}
 use Rattle.commands.specs.Names.{names-of-steps as names}
 use Rattle.commands.specs.Decide.{member}
@@ -58,15 +58,6 @@ tables-of p a k b = record {
   counts = λ j. List·getD-map length (p .params) j [];
   arities = λ j. List·getD-map length (p .params) j [];
   codes = λ j x h. types-at (p .params) a j x h;
-}
-
--- tables that read the same, as longer ones with zeros behind, do as well
-pub tables-as : {cs ar types : List ℕ} {G : Ctx} (ar' types' : List ℕ) → ((k : ℕ) → getD ar' k 0 ≡ getD ar k 0) → ((i : ℕ) → getD types' i 0 ≡ getD types i 0)
-    → Tables cs ar types G → Tables cs ar' types' G
-tables-as ar' types' a t T = record {
-  counts = T .counts;
-  arities = λ k. a k ∙ T .arities k;
-  codes = λ k x h. t (max-params * k + x) ∙ T .codes k x h;
 }
 
 -- Steps ----------------------------------------------------------------------------

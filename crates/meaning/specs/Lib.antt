@@ -4,6 +4,8 @@ pub mod Values
 pub mod Means
 pub mod Holds
 pub mod HoldsDecide
+pub mod Nesting
+pub mod NestingLaws
 pub mod Finding
 pub mod Meant
 pub mod MeantComplete

@@ -2,7 +2,7 @@
 -- the state').
 use Prim.Native.Nat.{ℕ, suc, _*_, _≤_}
 use native.Mathlib.Omega.{arith}
-use mathlib.Core.Path.{_≡_, refl, ap, sym, _∙_}
+use mathlib.Core.Path.{_≡_, _∙_}
 use mathlib.Core.List.{List, _++_, map}
 use lib.ListN.{length, drop}
 use Rattle.types.specs.Limits.{table-blocks, max-commands, max-turns, schedule-items}
@@ -15,9 +15,8 @@ use Rattle.emit.specs.ProgramWords.{program-words as emitted-words}
 use Rattle.emit.specs.ProgramLaws.{program-length}
 use Rattle.table.specs.Table.{Record}
 use Rattle.machine.specs.Machine.{Machine}
-use Rattle.run.specs.Run.{Outcome, Outcome.stopped, run}
+use Rattle.run.specs.Run.{Outcome.stopped, run}
 use Rattle.run.specs.Begin.{begin}
-use Rattle.run.specs.Visits.{Visits}
 use Rattle.run.specs.RunAgreesVisits.{run-turns}
 use Rattle.run.specs.Entry.{Begun.begun, report, report-of, output-of, last-stream, run-report-by, run-output-by, run-list-by}
 use Rattle.verdict.specs.Verdict.{listed}
@@ -32,16 +31,14 @@ use Rattle.memory.specs.BoundedLaws.{accepted-bounded}
 use Rattle.checker.specs.CheckLaws.{same-words}
 use Rattle.compile.specs.Spans.{span-places}
 use Rattle.compile.specs.Prepared.{Preparable, Prepared, PreparedProgram}
-use Rattle.table_read.specs.BeginStands.{beginning}
-use Rattle.table_read.specs.Written.{memory-stream, memory-blocks, memory-image, Filled}
-use Rattle.table_read.specs.WrittenWays.{stream-fits}
-use Rattle.table_read.specs.WriteStands.{null-ones, filled, stream-stands}
+use Rattle.table_write.specs.Written.{memory-stream, memory-blocks, memory-image, Filled}
+use Rattle.table_write.specs.WrittenWays.{stream-fits}
+use Rattle.table_write.specs.WriteStands.{null-ones, filled, stream-stands}
 use Rattle.interpreter.specs.Ready.{Ready}
-use Rattle.interpreter.specs.Running.{cleared, Ended, Settling, Gone}
-use Rattle.interpreter.specs.RunWays.{gone-visits}
+use Rattle.interpreter.specs.Running.{cleared, Ended}
 use Rattle.run_images.specs.declared.Report.{Report}
 use Rattle.run_images.specs.Answer.{answer}
-use Rattle.run_images.specs.Stages.{roomed, Answers, Admitted, Seated}
+use Rattle.run_images.specs.Stages.{roomed, Answers, Seated}
 use Rattle.run_images.specs.StageLaws.{room-is}
 use Rattle.run_images.specs.SeatLaws.{admitted-counts}
 
@@ -90,14 +87,6 @@ module _ {s counts : List ℕ} {at depth n : ℕ} {heads cells : List ℕ} {p : 
       tabled = begin-tabled p rs (w .right);
       stands = rw f (w .stands list′ codes′ 0 (prepared .laid .start));
     }
-
-    -- and behind i turns it stands for a machine that this run passes through, with the bytes that are left
-    pub seated-visits : length spans′ ≡ span-places → {es : List ℕ} {z₁ z : State} {b₁ i b : ℕ} → Settling codes′ spans′ (beginning n 0 heads cells) z₁ b₁
-        → Gone counts list′ codes′ spans′ es z₁ b₁ i z b
-        → (m : Machine) × (Visits p (begin p rs) es m (drop i es)) × (Ready p counts list′ codes′ spans′ m (cleared z))
-    seated-visits e settled g =
-        let r = seated-ready refl e in
-        gone-visits (record { program = p; machine = begin p rs; ready = r }) settled g p (begin p rs) r
 
   -- The answer ---------------------------------------------------------------------------
 

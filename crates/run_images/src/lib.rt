@@ -82,7 +82,7 @@ fn begun(
     let ran = interpreter::turns::run(first, list, counts, &items, &spans, heads, cells, turns);
     let last = ran.machine;
     let count = last.numbers.count;
-    let blocks = table_read::write(counts, heads, cells, count, output);
+    let blocks = table_write::write(counts, heads, cells, count, output);
     Report {
         number: ran.number,
         turns: ran.taken as u32,

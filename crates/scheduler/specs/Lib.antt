@@ -1,6 +1,5 @@
 pub mod Ready
 pub mod BeginWays
-pub mod ChooseLaws
 pub mod ChooseWays
 pub mod Makes
 pub mod MoveWays

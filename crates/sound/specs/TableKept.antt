@@ -126,15 +126,16 @@ image-table p a rs right =
 
 -- Runs -----------------------------------------------------------------------------
 
-module _ {p : Program} (a : Accepted p) (rs : List Record) (right : TableRight (p .params) rs) {es fs : List ℕ} {z : Machine}
-    (v : Visits p (begin p rs) es z fs) where
+-- from any machine with the invariant, in the shape of a table
+module _ {p : Program} (a : Accepted p) {m : Machine} (good : Good p m) (tabled : Tabled p (m .instances)) {es fs : List ℕ} {z : Machine}
+    (v : Visits p m es z fs) where
   last-good : Good p z
-  last-good = visits-good (accepted-firm a) (begin-good p (a .0) rs right) v
+  last-good = visits-good (accepted-firm a) good v
 
   all-tabled : Tabled p (z .instances)
-  all-tabled = visits-tabled (accepted-firm a) (begin-good p (a .0) rs right) (begin-tabled p rs right) v
+  all-tabled = visits-tabled (accepted-firm a) good tabled v
 
-  -- every machine of a run on a right table stands at a right table
+  -- every machine of a run stands at a right table
   pub table-kept : TableRight (p .params) (table-of p z)
   unfolding table-of
   table-kept = rows-right p (last-good .all) all-tabled
@@ -143,7 +144,7 @@ module _ {p : Program} (a : Accepted p) (rs : List Record) (right : TableRight (
   pub table-written : (pieces (length (enc-table (table-of p z))) ≤ table-blocks) × (TableAccepted p (image (enc-table (table-of p z))) (table-of p z))
   table-written = image-table p a (table-of p z) table-kept
 
-  -- the null instance of each struct holds the defaults that it began with
+  -- the null instance of each struct holds its defaults
   pub nulls-kept : (k : ℕ) → k < structs p
       → (i : Instance) × (getElem? (z .instances) k ≡ some i) × (i .struct ≡ k) × (params-in (i .env) ≡ map default (params-of p k))
   nulls-kept k h =
@@ -156,7 +157,7 @@ pub comes-written : {p : Program} → Accepted p → (rs : List Record) → Tabl
     → (pieces (length (enc-table rs′)) ≤ table-blocks) × (TableAccepted p (image (enc-table rs′)) rs′)
 comes-written {p} a rs right {es} c =
     let (z, q, w) = outcome-complete p rs es c in
-    rw w at (table-written a rs right (run-visits p (begin p rs) es q .0))
+    rw w at (table-written a (begin-good p (a .0) rs right) (begin-tabled p rs right) (run-visits p (begin p rs) es q .0))
 
 -- Output -----------------------------------------------------------------------------
 
@@ -172,7 +173,8 @@ output-length x y es out list = go (begins x y es out list) refl
         let ok = ready-accepted r in
         let d = demand3 ok rs (r .table .right) es in
         let s = enc-table (table-of p (d .last)) in
-        let few = table-written ok rs (r .table .right) (d .visited) .0 in
+        let right = r .table .right in
+        let few = table-written ok (begin-good p (ok .0) rs right) (begin-tabled p rs right) (d .visited) .0 in
         let room = r .output-room in
         rw (d .returns)
         (omega

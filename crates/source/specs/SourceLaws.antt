@@ -13,6 +13,9 @@ use Rattle.types.specs.Limits.{program-blocks}
 use Rattle.types.specs.Numbers.{no-room}
 use Rattle.block.specs.Block.{block-size}
 use Rattle.program.specs.Tree.{Program}
+use Rattle.program.specs.Encoding.{enc-program}
+use Rattle.program.specs.Reader.{Result.ok, read as read-stream}
+use Rattle.program.specs.ProgramLaws.{program-law}
 use Rattle.commands.specs.Numbers.{Order, NoneOf, Foremost}
 use Rattle.commands.specs.NumbersLaws.{at-first, behind-first, foremost-unique, foremost-some}
 use Rattle.tokens.specs.Tokens.{Token}
@@ -28,6 +31,8 @@ use Rattle.meaning.specs.Meant.{meant}
 use Rattle.meaning.specs.MeantLaws.{means-exact, means-one}
 use Rattle.meaning.specs.MeantComplete.{means-meant}
 use Rattle.meaning.specs.Holds.{Holds}
+use Rattle.meaning.specs.Nesting.{Shallow}
+use Rattle.meaning.specs.NestingLaws.{counts-split}
 use Rattle.meaning.specs.HoldsDecide.{holds, decides-holds}
 use Rattle.source.specs.Source.{max-text, no-derivation, no-program, Derived, Reading, NoTokens, NoDerivation, NoProgram, ShortOutput, text-order, Outcome, Outcome.written, Outcome.refused, output-of}
 use Rattle.source.specs.TextReader.{of-room, of-held, of-program, of-derivation, of-tokens, of-length, outcome, text-output}
@@ -135,6 +140,16 @@ module _ (x out : List ℕ) where
   pub text-untouched : (n : ℕ) → outcome x out ≡ refused n → text-output x out ≡ out
   unfolding text-output output-of
   text-untouched n e = rw e refl
+
+  -- the checker reads the stream that is written back as the program, exactly where its nesting keeps to 01's levels
+  pub written-read : (p : Program) → outcome x out ≡ written p → (read-stream (enc-program p) ≡ ok p (length (enc-program p))) ↔ Shallow p
+  written-read p e = held (subst (Tells x (text-order x out)) e tells)
+    where
+      held : Tells x (text-order x out) (written p) → (read-stream (enc-program p) ≡ ok p (length (enc-program p))) ↔ Shallow p
+      held (writes f r h) = (
+        λ q. counts-split p .0 (program-law (enc-program p) p (length (enc-program p)) .0 q .0) .1,
+        λ s. program-law (enc-program p) p (length (enc-program p)) .1 (counts-split p .1 (h .counted, s), refl, refl),
+      )
 
   -- Text free of 15 escapes 16 precisely when the grammar derives it -----------------------------------
 

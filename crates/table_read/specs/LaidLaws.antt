@@ -19,11 +19,6 @@ use Rattle.table_read.specs.Refer.{struct-in}
 
 -- Structs --------------------------------------------------------------------------
 
-pub heads-length : (h : List ℕ) (l : ℕ) (qs : List Record) → length (heads-laid h l qs) ≡ length h
-unfolding heads-laid
-heads-length h l [] = refl
-heads-length h l (q ∷ qs) = heads-length (head-laid h l q) (suc l) qs ∙ length-sets h (head-size * l) (new-head (q .struct))
-
 -- some records, and others behind them
 pub heads-append : (h : List ℕ) (l : ℕ) (qs rs : List Record) → heads-laid h l (qs ++ rs) ≡ heads-laid (heads-laid h l qs) (l + length qs) rs
 unfolding heads-laid
@@ -61,11 +56,6 @@ cells-length ts i [] = refl
 cells-length ts i (v ∷ vs) = ap suc (cells-length ts (suc i) vs)
 
 module _ (ts : List ℕ) where
-  pub rows-length : (c : List ℕ) (l : ℕ) (qs : List Record) → length (rows-laid ts c l qs) ≡ length c
-  unfolding rows-laid
-  rows-length c l [] = refl
-  rows-length c l (q ∷ qs) = rows-length (row-laid ts c l q) (suc l) qs ∙ length-sets c (row-size * l) (cells-of ts (max-params * q .struct) (q .values))
-
   pub rows-append : (c : List ℕ) (l : ℕ) (qs rs : List Record) → rows-laid ts c l (qs ++ rs) ≡ rows-laid ts (rows-laid ts c l qs) (l + length qs) rs
   unfolding rows-laid
   rows-append c l [] rs = rw add-zero

@@ -16,6 +16,3 @@ pub mod TableWays
 pub mod ProgramTables
 pub mod BeginStands
 pub mod ReadStands
-pub mod Written
-pub mod WrittenWays
-pub mod WriteStands

@@ -8,8 +8,6 @@ use Rattle.types.specs.Types.{Ty}
 use Rattle.blocks.specs.Images.{fault, stream, table-number}
 use Rattle.block.specs.declared.Found.{Found}
 use Rattle.block.specs.declared.Found.the-variants.{Right, Wrong}
-use Rattle.blocks.specs.declared.Read.{Read}
-use Rattle.blocks.specs.declared.Read.the-variants.{Stream, Refused as ImageRefused, Short}
 use Rattle.program.specs.Reader.{then, many, ended}
 use Rattle.table.specs.Table.{count-bytes}
 use Rattle.table.specs.TableReader.{read-record, TableAnswer, TableAnswer.table, TableAnswer.no-table, table-answer, table-of-stream}
@@ -34,12 +32,6 @@ answer-of pss Right y = table-of-stream pss (stream y)
 
 abbrev pub image-answer : List (List Ty) → List ℕ → TableAnswer
 image-answer pss y = answer-of pss (fault table-blocks y) y
-
--- the number of an image that is refused; a buffer with room for every block that is allowed is never too short
-abbrev pub image-refusal : Read → ℕ
-image-refusal (ImageRefused f) = table-number f
-image-refusal (Stream n) = 0
-image-refusal Short = 0
 
 -- memory after it, by what it held before: the null instances and the records of an accepted table; after a refusal, anything
 abbrev pub TableLaid : List ℕ → List ℕ → List ℕ → List ℕ → TableAnswer → List ℕ → List ℕ → Type 0

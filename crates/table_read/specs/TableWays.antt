@@ -3,23 +3,15 @@ use Prim.Native.Nat.{ℕ, _+_, _-_, _*_, _<_, _≤_}
 use native.Mathlib.Omega.{arith}
 use mathlib.Core.Path.{_≡_, refl, ap, sym, _∙_}
 use mathlib.Core.Bool.{Bool, true, false}
-use mathlib.Core.Logic.{⊎-elim}
 use mathlib.Core.List.{List, [], _∷_}
-use types.Run.{OneOf}
-use denote.Enum.Declared.{tagOf}
-use lib.ListN.{length, getD, take, drop}
-use lib.Seq.{take-at}
+use lib.ListN.{length, getD}
 use lib.Dec.{leb}
 use borrow.Author.Tests.{lt-ltb, le-ltb, le-leb, lt-leb}
 use Rattle.types.specs.Limits.{max-instances, max-params, table-blocks}
 use Rattle.types.specs.Types.{Ty}
-use Rattle.blocks.specs.Images.{fault, stream, read as image-read, read-into, table-number as block-number}
-use Rattle.blocks.specs.AnswerLaws.{read-says, stream-most}
+use Rattle.blocks.specs.Images.{fault, stream, table-number as block-number}
 use Rattle.block.specs.declared.Fault.{Fault}
-use Rattle.block.specs.declared.Found.the-variants.{Wrong}
-use Rattle.blocks.specs.declared.Read.{Read}
-use Rattle.blocks.specs.declared.Read.the-variants.{Stream, Refused as ImageRefused, Short as ImageShort}
-use Rattle.blocks.proofs.Read.{the-type}
+use Rattle.block.specs.declared.Found.the-variants.{Right, Wrong}
 use Rattle.program.specs.Counts.{All}
 use Rattle.program.specs.Reader.{Result, Result.ok, Result.bad, then, many, guard, ended, whole}
 use Rattle.program.specs.PartLaws.{told-is}
@@ -37,8 +29,9 @@ use Rattle.table_read.specs.Laid.{records-laid, heads-laid, rows-laid, n
 use Rattle.table_read.specs.LaidLaws.{heads-append, rows-append, nulls-length}
 use Rattle.table_read.specs.Refer.{Structs, rows-refer}
 use Rattle.table_read.specs.ReferLaws.{laid-refers, laid-structs}
-use Rattle.table_read.specs.Told.{word-of, count-told, RecordsLaid}
-use Rattle.table_read.specs.TableTold.{behind-count, table-told, answer-of, image-answer, image-refusal, TableLaid}
+use Rattle.little_endian.specs.Numbers.{number-at}
+use Rattle.table_read.specs.Told.{count-told, RecordsLaid}
+use Rattle.table_read.specs.TableTold.{behind-count, table-told, answer-of, image-answer, TableLaid}
 use Rattle.table_read.specs.ToldLaws.{laid-is, laid-stops}
 use Rattle.table_read.specs.ValueWays.{word-in, word-out}
 
@@ -49,18 +42,13 @@ module _ (s : List ℕ) (bytes : (i : ℕ) → getD s i 0 < 256) (pss : List (Li
   unfolding read-count then table-number
   count-cut h = let (p, e) = word-out s bytes 2 0 (omega arith) (omega arith) in rw e
 
-  pub count-wrong : 2 ≤ length s → (n : ℕ) → n ≡ word-of 2 s 0 → max-instances < n + length pss → NoCount 12 ≡ count-told (read-count pss s 0)
+  pub count-wrong : 2 ≤ length s → (n : ℕ) → n ≡ number-at 2 s 0 → max-instances < n + length pss → NoCount 12 ≡ count-told (read-count pss s 0)
   unfolding read-count then guard table-number
   count-wrong h n e w = rw (word-in s bytes 2 0 h, ← e, lt-leb (n + length pss) max-instances w)
 
-  pub count-right : 2 ≤ length s → (n : ℕ) → n ≡ word-of 2 s 0 → n + length pss ≤ max-instances → Count n ≡ count-told (read-count pss s 0)
+  pub count-right : 2 ≤ length s → (n : ℕ) → n ≡ number-at 2 s 0 → n + length pss ≤ max-instances → Count n ≡ count-told (read-count pss s 0)
   unfolding read-count then guard
   count-right h n e w = rw (word-in s bytes 2 0 h, ← e, le-leb (n + length pss) max-instances w)
-
--- two bytes at once
-pub word-two : (s : List ℕ) → word-of 2 s 0 ≡ getD s 0 0 + 256 * getD s 1 0
-unfolding word-of
-word-two s = let e : 0 + 1 ≡ 1 = omega arith in rw e (omega arith)
 
 -- The records behind N ---------------------------------------------------------------
 
@@ -173,37 +161,20 @@ module _ (s : List ℕ) (pss : List (List Ty)) where
   pub table-behind : ((i : ℕ) → getD s i 0 < 256) → 2 ≤ length s → (n : ℕ) → Count n ≡ count-told (read-count pss s 0)
       → table-of-stream pss s ≡ behind-count pss s n
   unfolding table-of-stream whole read-table then guard read-count behind-count
-  table-behind bytes h n w = rw (word-in s bytes 2 0 h) (go (leb (word-of 2 s 0 + length pss) max-instances) (rw (word-in s bytes 2 0 h) at w))
+  table-behind bytes h n w = rw (word-in s bytes 2 0 h) (go (leb (number-at 2 s 0 + length pss) max-instances) (rw (word-in s bytes 2 0 h) at w))
     where
-      go : (t : Bool) → Count n ≡ count-told (guard t 1 (word-of 2 s 0) 2)
-          → table-answer pss (then (then (guard t 1 (word-of 2 s 0) 2) λ n k. many [] _∷_ (read-record pss s) n k) (ended s)) ≡ behind-count pss s n
-      go true w = let z : word-of 2 s 0 ≡ n = cc in rw z
+      go : (t : Bool) → Count n ≡ count-told (guard t 1 (number-at 2 s 0) 2)
+          → table-answer pss (then (then (guard t 1 (number-at 2 s 0) 2) λ n k. many [] _∷_ (read-record pss s) n k) (ended s)) ≡ behind-count pss s n
+      go true w = let z : number-at 2 s 0 ≡ n = cc in rw z
       go false w = let z : _≡_ {A = ℕ} 0 1 = cc in absurd (omega arith)
 
 -- An image -------------------------------------------------------------------------
 
-module _ (y : List ℕ) (pss : List (List Ty)) (room : ℕ) where
-  pub image-refused : (f : Fault) → image-read table-blocks y room ≡ ImageRefused f → image-answer pss y ≡ no-table (block-number f)
+module _ (y : List ℕ) (pss : List (List Ty)) where
+  pub image-refused : (f : Fault) → fault table-blocks y ≡ Wrong f → image-answer pss y ≡ no-table (block-number f)
   unfolding answer-of
-  image-refused f e = let h : fault table-blocks y ≡ Wrong f = rw e at (read-says table-blocks y room) in rw h
+  image-refused f e = rw e
 
-  -- a buffer for as many blocks as are allowed is never too short
-  pub image-short : 8568 ≤ room → image-read table-blocks y room ≡ ImageShort → ⊥
-  image-short l e = let h = rw e at (read-says table-blocks y room) in omega (arith, stream-most table-blocks y (h .0), h .1)
-
-  -- so an answer that is no stream refuses the image
-  pub image-unread : (q : Read) → 8568 ≤ room → image-read table-blocks y room ≡ q → OneOf (1 ∷ 2 ∷ []) (tagOf the-type q)
-      → image-answer pss y ≡ no-table (image-refusal q)
-  image-unread (Stream n) l e k = absurd (⊎-elim (λ i. omega arith) (λ i. omega arith) k)
-  image-unread (ImageRefused f) l e k = image-refused f e
-  image-unread ImageShort l e k = absurd (image-short l e)
-
-  pub image-stream : (n : ℕ) → image-read table-blocks y room ≡ Stream n
-      → (image-answer pss y ≡ table-of-stream pss (stream y)) × (n ≡ length (stream y)) × (n ≤ room)
+  pub image-read : fault table-blocks y ≡ Right → image-answer pss y ≡ table-of-stream pss (stream y)
   unfolding answer-of
-  image-stream n e = let h = rw e at (read-says table-blocks y room) in (rw (h .0), h .1, h .2)
-
--- the front of the buffer is the stream
-pub image-front : (y b : List ℕ) (n : ℕ) → n ≡ length (stream y) → take n (read-into (Stream n) (stream y) b) ≡ stream y
-unfolding read-into
-image-front y b n e = take-at (stream y) (drop n b) n (sym e)
+  image-read e = rw e

@@ -1,9 +1,9 @@
 -- What the readers of a table answer for what is read (01, 'Table and turns', and numbers 11 and 12), and what they leave in memory.
-use Prim.Native.Nat.{ℕ, zero, suc, _+_, _*_, _≤_}
+use Prim.Native.Nat.{ℕ, _+_, _≤_}
 use mathlib.Core.Path.{_≡_}
 use mathlib.Core.List.{List, [], _∷_}
-use lib.ListN.{length, getD}
-use Rattle.program.specs.Reader.{Result, Result.ok, Result.bad, many, byte-end}
+use lib.ListN.{length}
+use Rattle.program.specs.Reader.{Result, Result.ok, Result.bad, many}
 use Rattle.types.specs.Limits.{max-instances}
 use Rattle.types.specs.Types.{type-of}
 use Rattle.table.specs.Table.{count-bytes}
@@ -14,11 +14,6 @@ use Rattle.table_read.specs.declared.reading.CountRead.{CountRead}
 use Rattle.table_read.specs.declared.reading.CountRead.the-variants.{Count, NoCount}
 use Rattle.table_read.specs.declared.reading.PlaceRead.{PlaceRead}
 use Rattle.table_read.specs.declared.reading.PlaceRead.the-variants.{Place, NoPlace}
-
--- the number of i bytes, the lowest first
-unfoldable pub word-of : ℕ → List ℕ → ℕ → ℕ
-word-of zero s at = 0
-word-of (suc i) s at = getD s at 0 + byte-end * word-of i s (at + 1)
 
 -- N, or the number of a refusal
 abbrev pub count-told : Result ℕ → CountRead

@@ -18,19 +18,20 @@ use Rattle.program.specs.Reader.{Result, Result.ok, Result.bad, byte-end, then,
 use Rattle.read_exprs.specs.ByteWays.{byte-is, byte-stops, ranged-in, ranged-out}
 use Rattle.table.specs.TableReader.{allowed, read-value, table-number}
 use Rattle.table_read.specs.declared.reading.PlaceRead.the-variants.{Place, NoPlace}
-use Rattle.table_read.specs.Told.{word-of, Laid}
+use Rattle.little_endian.specs.Numbers.{number-at}
+use Rattle.table_read.specs.Told.{Laid}
 
 -- bytes in a row: all of them, or the stream ends among them
 module _ (s : List ℕ) (bytes : (i : ℕ) → getD s i 0 < 256) where
   one : (at : ℕ) → at < length s → ranged s 0 256 at ≡ ok (getD s at 0) (at + 1)
   one at h = byte-is _ _ _ (ranged-in s 0 256 at h (omega arith) (bytes at))
 
-  pub word-in : (i at : ℕ) → at + i ≤ length s → read-word s i at ≡ ok (word-of i s at) (at + i)
-  unfolding read-word many then word-of
+  pub word-in : (i at : ℕ) → at + i ≤ length s → read-word s i at ≡ ok (number-at i s at) (at + i)
+  unfolding read-word many then number-at
   word-in zero at h = rw add-zero
   word-in (suc i) at h =
       let e : at + 1 + i ≡ at + suc i = omega arith in
-      let w : read-word s i (at + 1) ≡ ok (word-of i s (at + 1)) (at + 1 + i) = word-in i (at + 1) (omega arith) in
+      let w : read-word s i (at + 1) ≡ ok (number-at i s (at + 1)) (at + 1 + i) = word-in i (at + 1) (omega arith) in
       rw (one at (omega arith), w, e)
 
   pub word-out : (i at : ℕ) → at ≤ length s → length s < at + i → (p : ℕ) × (read-word s i at ≡ bad p 4)
@@ -51,11 +52,11 @@ module _ (s : List ℕ) (bytes : (i : ℕ) → getD s i 0 < 256) where
     unfolding read-value made then table-number
     value-cut h k = let (p, e) = word-out 4 at h (omega arith) in rw e
 
-    pub value-wrong : at + 4 ≤ length s → (w : ℕ) → w ≡ word-of 4 s at → allowed t w ≡ false → Laid f (read-value s t at) (NoPlace 12) x
+    pub value-wrong : at + 4 ≤ length s → (w : ℕ) → w ≡ number-at 4 s at → allowed t w ≡ false → Laid f (read-value s t at) (NoPlace 12) x
     unfolding read-value made then guard table-number
     value-wrong h w e a = rw (word-in 4 at h, ← e, a)
 
-    pub value-right : at + 4 ≤ length s → (w : ℕ) → w ≡ word-of 4 s at → allowed t w ≡ true → x ≡ f (value-of t w)
+    pub value-right : at + 4 ≤ length s → (w : ℕ) → w ≡ number-at 4 s at → allowed t w ≡ true → x ≡ f (value-of t w)
         → Laid f (read-value s t at) (Place (at + 4)) x
     unfolding read-value made then guard
     value-right h w e a q = rw (word-in 4 at h, ← e, a) (refl, q)
@@ -75,12 +76,3 @@ allowed-any zero w n h = lt-ltb w nat-end h
 allowed-any (suc zero) w n h = lt-ltb w nat-end h
 allowed-any (suc (suc zero)) w n h = absurd (n refl)
 allowed-any (suc (suc (suc b))) w n h = rw (type-of-struct (suc (suc (suc b))) (omega arith)) (lt-ltb w nat-end h)
-
--- four bytes at once
-pub word-four : (s : List ℕ) (at : ℕ)
-    → word-of 4 s at ≡ getD s at 0 + 256 * getD s (at + 1) 0 + 65536 * getD s (at + 2) 0 + 16777216 * getD s (at + 3) 0
-unfolding word-of
-word-four s at =
-    let e : at + 1 + 1 ≡ at + 2 = omega arith in
-    let f : at + 2 + 1 ≡ at + 3 = omega arith in
-    rw (e, f) (omega arith)

@@ -1,41 +1,26 @@
-// Tables of instances, from a stream into lent memory and back (01, 'Table and turns'). Memory holds them as `memory` lays a machine
+// Tables of instances, from an image into lent memory (01, 'Table and turns'). Memory holds them as `memory` lays a machine
 // out: four numbers for each instance in `heads`, thirty-two cells for each in `cells`. Of a program's parameters `counts` has for each
 // struct how many there are, and `types` eight places with the bytes of their types.
 mod nulls;
 mod reading;
 mod refer;
-mod store;
-mod writing;
 
-use blocks::Read;
-use blocks::Written;
+use blocks::Opened;
 use reading::CountRead;
 use reading::PlaceRead;
 ghost use mathlib.Core.Path.{_≡_};
 ghost use Prim.Native.Nat.{_+_, _*_, _≤_};
 ghost use lib.ListN.{length};
-ghost use Rattle.types.specs.Limits.{max-instances, table-blocks};
-ghost use Rattle.block.specs.Block.{block-size};
+ghost use Rattle.types.specs.Limits.{max-instances};
 ghost use Rattle.table.specs.TableReader.{table-of-stream};
 ghost use Rattle.layout.specs.Layout.{head-size, row-size};
 ghost use Rattle.table_read.specs.Params.{Tables, lists-of};
-ghost use Rattle.table_read.specs.TableTold.{behind-count, table-told, image-refusal, image-answer, TableLaid};
-ghost use Rattle.table_read.specs.Written.{Filled, memory-blocks, memory-image};
+ghost use Rattle.table_read.specs.TableTold.{behind-count, table-told, image-answer, TableLaid};
 
 // How many instances a table has, the null ones among them, with all of them in memory; or the number of a refusal, and memory anyhow.
 pub enum TableRead {
     Instances(usize),
     Refused(u8),
-}
-
-// The number of a table image that is refused; 0 where it is not.
-fn image_refusal(r: Read) -> u8
-    ensures { λ n. ⌜ n ≡ image-refusal r ⌝ }
-{
-    let Read::Refused(f) = r else {
-        return 0;
-    };
-    blocks::table_number(f)
 }
 
 // The n records behind their number, and the end of the stream behind them; references last.
@@ -97,25 +82,9 @@ pub fn read_image(
     ensures { λ _. ⌜ TableLaid (now (counts .entry)) (now (types .entry)) (now (heads .entry)) (now (cells .entry)) (image-answer (lists-of (now (counts .entry)) (now (types .entry))) (now (image .entry))) (now (heads .exit)) (now (cells .exit)) ⌝ }
 {
     let mut buffer = [0u8; types::TABLE_BLOCKS * blocks::PAYLOAD_SIZE];
-    let r = blocks::read_image(image, types::TABLE_BLOCKS, &mut buffer);
-    let Read::Stream(n) = r else {
-        return TableRead::Refused(image_refusal(r));
+    let r = blocks::open_image(image, types::TABLE_BLOCKS, &mut buffer);
+    let Opened::Stream(n) = r else {
+        return TableRead::Refused(blocks::table_number(blocks::fault_of(r)));
     };
     read(&buffer[..n], counts, types, heads, cells)
-}
-
-// The table of the n instances in memory, in blocks from the start of the output. How many blocks.
-pub fn write(counts: &[u8], heads: &[usize], cells: &[u64], n: usize, out: &mut [u8]) -> usize
-    requires { ⌜ Filled (now counts) (now heads) (now cells) n ⌝ }
-    requires { ⌜ (length (now counts) ≤ n) × (block-size * table-blocks ≤ length (now out)) ⌝ }
-    ensures { λ r. ⌜ r ≡ memory-blocks (now (counts .entry)) (now (heads .entry)) (now (cells .entry)) n ⌝ }
-    ensures { λ _. ⌜ now (out .exit) ≡ memory-image (now (counts .entry)) (now (heads .entry)) (now (cells .entry)) n (now (out .entry)) ⌝ }
-{
-    let mut buffer = [0u8; types::TABLE_BLOCKS * blocks::PAYLOAD_SIZE];
-    let len = writing::stream(counts, heads, cells, n, &mut buffer);
-    let w = blocks::write_image(&buffer[..len], types::TABLE_BLOCKS, out);
-    let Written::Blocks(k) = w else {
-        return 0;
-    };
-    k
 }

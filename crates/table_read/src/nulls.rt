@@ -1,5 +1,4 @@
 // The null instances, one for each struct, with their parameters at their defaults (01, 'Table and turns').
-use crate::store;
 ghost use mathlib.Core.Path.{_≡_};
 ghost use mathlib.Core.List.{map};
 ghost use Prim.Native.Nat.{_+_, _*_, _≤_};
@@ -15,7 +14,7 @@ fn null_cell(t: u8) -> u64
     ensures { λ r. ⌜ r ≡ cell t (word (default (type-of t))) ⌝ }
 {
     let w = types::default_word(t);
-    store::cell(t, w as u64)
+    layout::cell(t, w as u64)
 }
 
 // The defaults of n types that stand from a place on, stored one behind the other.
@@ -39,13 +38,13 @@ pub(crate) fn nulls(counts: &[u8], types: &[u8], heads: &mut [usize], cells: &mu
 {
     let mut k = 0;
     while k < counts.len() {
-        store::head(heads, k, k);
+        layout::seat(heads, k, k);
         defaults(
             types,
             types::MAX_PARAMS * k,
-            store::index(counts[k]),
+            little_endian::index(counts[k]),
             cells,
-            store::ROW * k,
+            layout::ROW_SIZE * k,
         );
         k += 1;
     }

@@ -1,5 +1,4 @@
 // The records of a table stream, read into memory one behind the other (01, 'Table and turns', and numbers 11 and 12).
-use crate::store;
 ghost use mathlib.Core.Path.{_≡_};
 ghost use mathlib.Core.List.{List};
 ghost use Prim.Native.Nat.{_+_, _*_, _≤_, _<_};
@@ -9,7 +8,7 @@ ghost use Rattle.types.specs.Types.{Ty, type-of};
 ghost use Rattle.table.specs.TableReader.{allowed, read-count};
 ghost use Rattle.layout.specs.Layout.{head-size, row-size};
 ghost use Rattle.table_read.specs.Params.{Tables};
-ghost use Rattle.table_read.specs.Told.{word-of, count-told, place-refusal, count-refusal, Counted, Within, ValueLaid, ValuesLaid, RecordLaid, RecordsLaid};
+ghost use Rattle.table_read.specs.Told.{count-told, place-refusal, count-refusal, Counted, Within, ValueLaid, ValuesLaid, RecordLaid, RecordsLaid};
 
 // The next place.
 pub enum PlaceRead {
@@ -24,9 +23,9 @@ pub enum CountRead {
 }
 
 // 01's numbers of a stream that ends early or goes on after its end, and of a number, struct byte or value that is not allowed.
-pub(crate) const WRONG_END: u8 = 11;
+pub(crate) const WRONG_END: u8 = types::number::TABLE_END;
 
-pub(crate) const WRONG_VALUE: u8 = 12;
+pub(crate) const WRONG_VALUE: u8 = types::number::TABLE_VALUE;
 
 // The number of a refusal, for a reader whose own answer is of another type; 0 where a value was read.
 pub(crate) fn place_refusal(r: PlaceRead) -> u8
@@ -56,22 +55,11 @@ pub(crate) fn count(s: &[u8], structs: usize) -> CountRead
     if s.len() < 2 {
         return CountRead::NoCount(WRONG_END);
     }
-    let n = store::index(s[0]) + 256 * store::index(s[1]);
+    let n = little_endian::pair_at(s, 0);
     if types::MAX_INSTANCES - structs < n {
         return CountRead::NoCount(WRONG_VALUE);
     }
     CountRead::Count(n)
-}
-
-// The number of four bytes, the lowest first.
-fn word(s: &[u8], at: usize) -> u64
-    requires { ⌜ at + 4 ≤ length (now s) ⌝ }
-    ensures { λ r. ⌜ (r ≡ word-of 4 (now (s .entry)) at) × (r < nat-end) ⌝ }
-{
-    store::wide(s[at])
-        + 256 * store::wide(s[at + 1])
-        + 65536 * store::wide(s[at + 2])
-        + 16777216 * store::wide(s[at + 3])
 }
 
 // Whether a number stands for a value of the type with this byte: a Bool is 0 or 1.
@@ -94,11 +82,11 @@ fn value(s: &[u8], t: u8, at: usize, cells: &mut [u64], i: usize) -> PlaceRead
     if s.len() - at < 4 {
         return PlaceRead::NoPlace(WRONG_END);
     }
-    let w = word(s, at);
+    let w = little_endian::word_at(s, at);
     if !allowed(t, w) {
         return PlaceRead::NoPlace(WRONG_VALUE);
     }
-    cells[i] = store::cell(t, w);
+    cells[i] = layout::cell(t, w);
     PlaceRead::Place(at + 4)
 }
 
@@ -147,19 +135,19 @@ fn one_record(
     if s.len() <= at {
         return PlaceRead::NoPlace(WRONG_END);
     }
-    let k = store::index(s[at]);
+    let k = little_endian::index(s[at]);
     if counts.len() <= k {
         return PlaceRead::NoPlace(WRONG_VALUE);
     }
-    store::head(heads, l, k);
+    layout::seat(heads, l, k);
     values(
         s,
         types,
         types::MAX_PARAMS * k,
-        store::index(counts[k]),
+        little_endian::index(counts[k]),
         at + 1,
         cells,
-        store::ROW * l,
+        layout::ROW_SIZE * l,
     )
 }
 

@@ -1,5 +1,4 @@
 // Whether the references of the instances in memory are right, which is judged after everything else (01, 'Table and turns').
-use crate::store;
 ghost use mathlib.Core.Path.{_≡_};
 ghost use Prim.Native.Nat.{_+_, _-_, _*_, _≤_};
 ghost use lib.ListN.{length};
@@ -19,7 +18,7 @@ fn cell_refers(heads: &[usize], n: usize, t: u8, c: u64) -> bool
     if n <= l {
         return false;
     }
-    heads[store::HEAD * l] == store::index(types::struct_of(t))
+    heads[layout::HEAD_SIZE * l] == little_endian::index(types::struct_of(t))
 }
 
 // The m cells from a place on, whose types stand from another.
@@ -60,15 +59,15 @@ pub(crate) fn rows_refer(
 {
     let mut l = first;
     while l < n {
-        let k = heads[store::HEAD * l];
-        let m = store::index(counts[k]);
+        let k = heads[layout::HEAD_SIZE * l];
+        let m = little_endian::index(counts[k]);
         if !row_refers(
             heads,
             n,
             types,
             types::MAX_PARAMS * k,
             cells,
-            store::ROW * l,
+            layout::ROW_SIZE * l,
             m,
         ) {
             return false;

@@ -3,11 +3,9 @@ use Prim.Native.Nat.{ℕ, zero, suc, _+_, _-_, _/_, _%_, _≤_, _<_}
 use native.Mathlib.Omega.{arith}
 use native.Mathlib.Numerals.{add-one}
 use mathlib.Core.Path.{_≡_, refl, sym, ap, _∙_}
-use mathlib.Core.Bool.{Bool, true, false}
 use mathlib.Core.List.{List, [], _∷_, _++_}
-use lib.Dec.{ltb}
-use lib.ListN.{length, set, drop, getD, length-append, drop-of-length-le}
-use lib.Seq.{sets, length-sets, drop-cons}
+use lib.ListN.{length, drop, getD, length-append, drop-of-length-le}
+use lib.Seq.{length-sets, drop-cons}
 use borrow.Author.Tests.{lt-ltb, le-ltb}
 use Rattle.emit.specs.WrittenLaws.{sets-append}
 use Rattle.text.specs.Listing.{digits, decimal, tail, Placed}
@@ -29,16 +27,6 @@ unfolding digits
 digits-more zero n e h = absurd (e refl)
 digits-more (suc w) n e h = let f : suc w - 1 ≡ w = omega arith in rw (digits, le-ltb n 10 h, f)
 
--- no more than asked for
-pub length-digits : (w n : ℕ) → length (digits w n) ≤ w
-unfolding digits
-length-digits zero n = omega arith
-length-digits (suc w) n = go (ltb n 10) refl (length-digits w (n / 10))
-  where
-    go : (t : Bool) → ltb n 10 ≡ t → length (digits w (n / 10)) ≤ w → length (digits (suc w) n) ≤ suc w
-    go true e h = rw (digits, e) (omega arith)
-    go false e h = rw (digits, e, length-append) (omega arith)
-
 -- Elements ---------------------------------------------------------------------
 
 pub drop-next : (t : List ℕ) (i : ℕ) → i < length t → drop i t ≡ getD t i 0 ∷ drop (i + 1) t
@@ -51,9 +39,6 @@ drop-end t i h = drop-of-length-le t h
 
 pub placed-none : (out : List ℕ) (k : ℕ) → Placed [] out k k out
 placed-none out k = record { end = omega arith; list = refl }
-
-pub placed-one : {b k r : ℕ} {out out1 : List ℕ} → r ≡ k + 1 → out1 ≡ set out k b → Placed (b ∷ []) out k r out1
-placed-one e f = record { end = e; list = f }
 
 -- the same text in other terms
 pub placed-as : {t u out out1 : List ℕ} {k r : ℕ} → u ≡ t → Placed t out k r out1 → Placed u out k r out1

@@ -1,60 +1,51 @@
 -- `read_image` meets its contract: the image is refused, or its stream is read.
 use mathlib.Core.Path.{_≡_, _∙_, sym, refl}
 use native.Mathlib.Omega.{arith}
-use lib.ListN.{take, length-replicate}
+use lib.ListN.{take}
 use lib.Seq.{length-take-le}
 use Rattle.blocks.specs.Images.{stream}
+use Rattle.blocks.specs.OpeningLaws.{opened-fault, opened-stream, opened-front}
 use Rattle.table_read.specs.Params.{lists-of}
-use Rattle.table_read.specs.TableWays.{image-unread, image-stream, image-front}
+use Rattle.table_read.specs.TableWays.{image-refused, image-read}
 use borrow.Author.Needs.{needs}
 use Rattle.table_read.proofs.read_image.Statement.{statement}
 use Rattle.table_read.proofs.read_image.Tie as tie
 
+-- the places that proofs look back to
+abbrev start : tie.After-open-image → tie.Start
+start c = let at-known = c .before .before .before .before in at-known .before .before .before
+
+abbrev at-open : tie.After-r → tie.After-open-image
+at-open c = c .before .before .before
+
 returns : tie.Need-returns
 returns c =
-    let at-read-image = c .before .before .before in
-    let at-shared-slice-known3 = at-read-image .before .before .before .before in
-    let args = at-shared-slice-known3 .before .before .before .args in
-    let q =
-    image-unread (args .image .now) (lists-of (args .counts .now) (args .types .now)) _ (at-read-image .read-image .result)
-    (simp length-replicate (omega arith))
-    (sym (at-read-image .read-image .ensures .0))
-    (c .before .match .keys2) in
-    rw (q, c .image-refusal .ensures) (refl, tt)
+    let at-fault = c .before in let at-told = at-fault .before in let at-open′ = at-told .before .before .before in
+    let args = start at-open′ .args in let y = args .image .now in let told = at-told .enum-told .given .1 in
+    let q = image-refused y (lists-of (args .counts .now) (args .types .now)) _ (opened-fault _ y _ (sym (at-open′ .open-image .ensures .0) ∙ told)) in
+    rw (q, c .table-number .ensures, at-fault .fault-of .ensures, told) (refl, tt)
 
 array-share-prefix-buffer : tie.Need-array-share-prefix-buffer
 array-share-prefix-buffer c =
-    let at-read-image = c .before .before .before .before in
-    let at-shared-slice-known3 = at-read-image .before .before .before .before in
-    let args = at-shared-slice-known3 .before .before .before .args in
-    let h = image-stream (args .image .now) (lists-of (args .counts .now) (args .types .now)) _ _
-    (sym (at-read-image .read-image .ensures .0) ∙ c .before .r .given .1) in
-    omega (arith, h .2, at-read-image .read-image .kept .1 .1 .0)
+    let at-r = c .before in
+    let h = opened-stream _ (start (at-open at-r) .args .image .now) _ (sym (at-open at-r .open-image .ensures .0) ∙ at-r .r .given .1) in
+    omega (arith, h .2, at-open at-r .open-image .kept .1 .1 .0)
 
 slice-aggregate-read : tie.Need-slice-aggregate-read
-slice-aggregate-read c =
-    let at-r = c .before .before in let at-read-image = at-r .before .before .before in
-    let at-shared-slice-known3 = at-read-image .before .before .before .before in
-    let args = at-shared-slice-known3 .before .before .before .args in
-    let h = image-stream (args .image .now) (lists-of (args .counts .now) (args .types .now)) _ _
-    (sym (at-read-image .read-image .ensures .0) ∙ at-r .r .given .1) in
-    sym (length-take-le _ _ (omega (arith, h .2, at-read-image .read-image .kept .1 .1 .0)))
+slice-aggregate-read c = sym (length-take-le _ _ (array-share-prefix-buffer (c .before)))
 
 returns-2 : tie.Need-returns-2
 returns-2 c =
     let at-read = c .before .before .before .before in
-    let at-known-told = at-read .before .before .before .before in
-    let at-read-image = at-known-told .before .before .before .before in
-    let at-shared-slice-known3 = at-read-image .before .before .before .before in
-    let args = at-shared-slice-known3 .before .before .before .args in let y = args .image .now in
-    let h = image-stream y (lists-of (args .counts .now) (args .types .now)) _ _
-    (sym (at-read-image .read-image .ensures .0) ∙ at-known-told .before .r .given .1) in
-    let f : take (at-known-told .before .r .given .0 .0) (at-read-image .read-image .last .1 .1 .0) ≡ stream y =
-    rw (at-read-image .read-image .ensures .1, at-known-told .before .r .given .1) (image-front y _ _ (h .1)) in
-    rw (h .0) (rw f at (at-read .read .ensures))
+    let at-r = at-read .before .before .before .before .before in let told = at-r .r .given .1 in let at-open′ = at-open at-r in
+    let args = start at-open′ .args in let y = args .image .now in
+    let h = opened-stream _ y _ (sym (at-open′ .open-image .ensures .0) ∙ told) in
+    let f : take (at-r .r .given .0 .0) (at-open′ .open-image .last .1 .1 .0) ≡ stream y =
+    opened-front y _ _ told (at-open′ .open-image .ensures .1) (h .1) in
+    rw (image-read y (lists-of (args .counts .now) (args .types .now)) (h .0)) (rw f at (at-read .read .ensures))
 
 pub read-image-spec : {M : Type 1} → statement M
 read-image-spec =
     tie.close
-    (tie.spec (λ c. search needs) (λ c κs. search needs) (λ c. search needs) (λ c κs. search needs) returns array-share-prefix-buffer
-    slice-aggregate-read (λ c κs. search needs) (λ c. search needs) (λ c. search needs) returns-2)
+    (tie.spec (λ c. search needs) (λ c κs. search needs) (λ c. search needs) (λ c. search needs) (λ c κs. search needs) (λ c κs. search needs) returns
+    array-share-prefix-buffer slice-aggregate-read (λ c κs. search needs) (λ c. search needs) (λ c. search needs) returns-2)

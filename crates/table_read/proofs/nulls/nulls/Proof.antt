@@ -38,10 +38,10 @@ loop-again c =
     let at-loop = in-loop .before in let at-shared-slice-known = at-loop .before .before .before .before in
     let loop = at-loop .loop in let args = at-shared-slice-known .before .args in
     let inv = loop .inv in (
-      (omega arith, at-head .head .kept .0 ∙ inv .0 .1, at-defaults .defaults .kept .1 .1 .1 .0 ∙ inv .0 .2),
+      (omega arith, at-head .seat .kept .0 ∙ inv .0 .1, at-defaults .defaults .kept .1 .1 .1 .0 ∙ inv .0 .2),
       (
-        heads-turn (args .counts .now) (args .types .now) (loop .heads) (at-head .head .last .0) (loop .k) (in-loop .loop-test .taken)
-            (at-head .head .ensures) ∙ inv .1 .0,
+        heads-turn (args .counts .now) (args .types .now) (loop .heads) (at-head .seat .last .0) (loop .k) (in-loop .loop-test .taken)
+            (at-head .seat .ensures) ∙ inv .1 .0,
         rows-turn (args .counts .now) (args .types .now) (loop .cells) (at-defaults .defaults .last .1 .1 .1 .0) (loop .k)
             (at-index .index .result) (in-loop .loop-test .taken) (at-index .index .ensures .0) (at-defaults .defaults .ensures) ∙ inv .1 .1,
       ),

@@ -42,8 +42,8 @@ returns-3 c =
     let values = at-values .values in let args = at-shared-slice-known2 .before .before .args in
     let v = rw (c .before .before .before .before .index2 .ensures .0) at (values .ensures .0) in (
       record-right (args .counts .now) (args .types .now) (args .s .now) (args .at) (args .heads .now) (args .cells .now) (args .l)
-          (at-if1 .if1 .left) (at-if2 .before .index .result) (at-if2 .before .index .ensures .0) (at-if2 .if2 .left) (at-head .head .last .0)
-          (at-head .head .ensures) (values .result) (values .last .1 .1 .1 .1 .1 .0) v,
+          (at-if1 .if1 .left) (at-if2 .before .index .result) (at-if2 .before .index .ensures .0) (at-if2 .if2 .left) (at-head .seat .last .0)
+          (at-head .seat .ensures) (values .result) (values .last .1 .1 .1 .1 .1 .0) v,
       within-from (args .s .now) (args .at) _ (values .result) (omega arith) (values .ensures .1),
     )
 

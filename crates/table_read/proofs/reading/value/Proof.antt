@@ -4,6 +4,7 @@ use native.Mathlib.Omega.{arith}
 use lib.ListN.{set}
 use borrow.Author.Tests.{not-true, not-false}
 use Rattle.types.specs.Types.{type-of}
+use Rattle.little_endian.specs.NumberLaws.{word-is}
 use Rattle.layout.specs.Layout.{cell}
 use Rattle.table_read.specs.Laid.{value-laid}
 use Rattle.table_read.specs.ValueWays.{value-cut, value-wrong, value-right, value-cell}
@@ -24,7 +25,7 @@ returns-2 c =
     let at-word = c .before .before in let at-shared-slice-known = at-word .before .before .before in
     let args = at-shared-slice-known .before .args in (
       value-wrong (args .s .now) (λ i. at-shared-slice-known .shared-slice-known .given i .fits) (value-laid (args .cells .now) (args .i) (args .t))
-          (args .cells .now) (type-of (args .t)) (args .at) (omega arith) _ (at-word .word .ensures .0)
+          (args .cells .now) (type-of (args .t)) (args .at) (omega arith) _ (at-word .word-at .ensures .0 ∙ sym (word-is _ _))
           (sym (c .before .allowed .ensures) ∙ not-true _ (c .if2 .taken)),
       tt,
     )
@@ -32,11 +33,11 @@ returns-2 c =
 returns-3 : tie.Need-returns-3
 returns-3 c =
     let at-allowed = c .before .before in let at-shared-slice-known = at-allowed .before .before .before .before in
-    let args = at-shared-slice-known .before .args in let w = at-allowed .before .word .result in
+    let args = at-shared-slice-known .before .args in let w = at-allowed .before .word-at .result in
     let right = sym (at-allowed .allowed .ensures) ∙ not-false _ (c .before .if2 .left) in
     let stored = ap (set (args .cells .now) (args .i)) (c .cell .ensures ∙ ap (cell (args .t)) (sym (value-cell (type-of (args .t)) w right))) in (
       value-right (args .s .now) (λ i. at-shared-slice-known .shared-slice-known .given i .fits) (value-laid (args .cells .now) (args .i) (args .t)) _
-          (type-of (args .t)) (args .at) (omega arith) w (at-allowed .before .word .ensures .0) right stored,
+          (type-of (args .t)) (args .at) (omega arith) w (at-allowed .before .word-at .ensures .0 ∙ sym (word-is _ _)) right stored,
       omega arith,
     )
 

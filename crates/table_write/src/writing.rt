@@ -1,11 +1,10 @@
 // The instances in memory, written as a table stream one behind the other (01, 'Table and turns').
-use crate::store;
 ghost use mathlib.Core.Path.{_≡_};
 ghost use Prim.Native.Nat.{_+_, _-_, _*_, _≤_};
 ghost use lib.ListN.{length};
 ghost use lib.Seq.{sets};
 ghost use Rattle.program.specs.Encoding.{enc-word};
-ghost use Rattle.table_read.specs.Written.{Filled, cells-bytes, rows-bytes, memory-stream};
+ghost use Rattle.table_write.specs.Written.{Filled, cells-bytes, rows-bytes, memory-stream};
 
 // The bytes of a value.
 const VALUE: usize = 4;
@@ -54,10 +53,10 @@ fn instances(
     let mut next = at;
     let mut l = first;
     while l < n {
-        let k = heads[store::HEAD * l];
-        let m = store::index(counts[k]);
+        let k = heads[layout::HEAD_SIZE * l];
+        let m = little_endian::index(counts[k]);
         out[next] = k as u8;
-        values(out, next + 1, cells, store::ROW * l, m);
+        values(out, next + 1, cells, layout::ROW_SIZE * l, m);
         next = next + 1 + VALUE * m;
         l += 1;
     }

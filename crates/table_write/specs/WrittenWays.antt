@@ -17,8 +17,8 @@ use Rattle.program.specs.Encoding.{enc-word}
 use Rattle.read_params.specs.ParamsWays.{from-start}
 use Rattle.emit.specs.WrittenLaws.{sets-append}
 use Rattle.layout.specs.Layout.{row-size, operand}
 use Rattle.table_read.specs.Refer.{struct-in}
-use Rattle.table_read.specs.Written.{cells-bytes, row-bytes, rows-bytes, memory-stream, memory-blocks, memory-image, Filled}
+use Rattle.table_write.specs.Written.{cells-bytes, row-bytes, rows-bytes, memory-stream, memory-blocks, memory-image, Filled}
 
 -- A number ---------------------------------------------------------------------------
 

@@ -4,10 +4,10 @@ use mathlib.Core.Logic.{⊎-elim}
 use native.Mathlib.Omega.{arith}
 use lib.ListN.{length-replicate}
 use lib.Seq.{length-take-le}
-use Rattle.table_read.specs.WrittenWays.{stream-fits, blocks-are, image-is}
+use Rattle.table_write.specs.WrittenWays.{stream-fits, blocks-are, image-is}
 use borrow.Author.Needs.{needs}
-use Rattle.table_read.proofs.write.Statement.{statement}
-use Rattle.table_read.proofs.write.Tie as tie
+use Rattle.table_write.proofs.write.Statement.{statement}
+use Rattle.table_write.proofs.write.Tie as tie
 
 stream-requires : tie.Need-stream-requires
 stream-requires c κs =

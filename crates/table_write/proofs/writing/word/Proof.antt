@@ -1,10 +1,10 @@
 -- `writing::word` meets its contract.
 use native.Mathlib.Omega.{arith}
 use lib.ListN.{length-set}
-use Rattle.table_read.specs.WrittenWays.{word-written}
+use Rattle.table_write.specs.WrittenWays.{word-written}
 use borrow.Author.Needs.{needs}
-use Rattle.table_read.proofs.writing.word.Statement.{statement}
-use Rattle.table_read.proofs.writing.word.Tie as tie
+use Rattle.table_write.proofs.writing.word.Statement.{statement}
+use Rattle.table_write.proofs.writing.word.Tie as tie
 
 returns : tie.Need-returns
 returns c =

@@ -2,10 +2,10 @@
 use mathlib.Core.Path.{_∙_, refl}
 use native.Mathlib.Omega.{arith}
 use lib.ListN.{length-set}
-use Rattle.table_read.specs.WrittenWays.{stream-written, stream-length}
+use Rattle.table_write.specs.WrittenWays.{stream-written, stream-length}
 use borrow.Author.Needs.{needs}
-use Rattle.table_read.proofs.writing.stream.Statement.{statement}
-use Rattle.table_read.proofs.writing.stream.Tie as tie
+use Rattle.table_write.proofs.writing.stream.Statement.{statement}
+use Rattle.table_write.proofs.writing.stream.Tie as tie
 
 instances-requires : tie.Need-instances-requires
 instances-requires c κs =

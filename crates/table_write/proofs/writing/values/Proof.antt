@@ -5,10 +5,10 @@ use mathlib.Core.Path.{_≡_, _∙_, refl}
 use native.Mathlib.Omega.{arith}
 use lib.ListN.{length}
 use lib.Seq.{sets}
-use Rattle.table_read.specs.Written.{cells-bytes}
-use Rattle.table_read.specs.WrittenWays.{cells-left, cells-begin, cells-turn, cells-end}
-use Rattle.table_read.proofs.writing.values.Statement.{statement}
-use Rattle.table_read.proofs.writing.values.Tie as tie
+use Rattle.table_write.specs.Written.{cells-bytes}
+use Rattle.table_write.specs.WrittenWays.{cells-left, cells-begin, cells-turn, cells-end}
+use Rattle.table_write.proofs.writing.values.Statement.{statement}
+use Rattle.table_write.proofs.writing.values.Tie as tie
 
 abbrev Inv-loop : tie.InvT-loop
 Inv-loop out₀ at cells place m x₀ out x =

@@ -5,11 +5,11 @@ use mathlib.Core.Path.{_≡_, _∙_, refl}
 use native.Mathlib.Omega.{arith}
 use lib.ListN.{length, getD, length-set}
 use lib.Seq.{sets}
-use Rattle.table_read.specs.Written.{rows-bytes}
-use Rattle.table_read.specs.WrittenWays.{rows-place, rows-turn, rows-end}
+use Rattle.table_write.specs.Written.{rows-bytes}
+use Rattle.table_write.specs.WrittenWays.{rows-place, rows-turn, rows-end}
 use borrow.Author.Needs.{needs}
-use Rattle.table_read.proofs.writing.instances.Statement.{statement}
-use Rattle.table_read.proofs.writing.instances.Tie as tie
+use Rattle.table_write.proofs.writing.instances.Statement.{statement}
+use Rattle.table_write.proofs.writing.instances.Tie as tie
 
 abbrev Inv-loop : tie.InvT-loop
 Inv-loop out₀ at counts heads cells first n next₀ l₀ out next l =

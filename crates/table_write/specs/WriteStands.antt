@@ -19,8 +19,6 @@ use Rattle.table.specs.SizeLaws.{each-length, few-params}
 use Rattle.machine.specs.Published.{StepCall, Sched, Env, Env.env, lookup, structs}
 use Rattle.machine.specs.Machine.{Instance, Machine}
 use Rattle.run.specs.Begin.{params-in, record-of, table-of}
-use Rattle.run.specs.Run.{Outcome.stopped}
-use Rattle.run.specs.Entry.{report-of, output-of}
 use Rattle.sound.specs.Needs.{ValueAmong}
 use Rattle.sound.specs.Invariant.{Fitted, GoodAll}
 use Rattle.sound.specs.Tabled.{Tabled}
@@ -30,10 +28,10 @@ use Rattle.layout.specs.Layout.{row-size, operand, variable}
 use Rattle.layout.specs.State.{State, of-cell}
 use Rattle.memory.specs.CellLaws.{operand-part, code-byte}
 use Rattle.memory.specs.Stands.{Shows, Stands}
 use Rattle.table_read.specs.Refer.{struct-in}
 use Rattle.table_read.specs.LaidLaws.{at-place}
 use Rattle.table_read.specs.BeginStands.{few-all}
-use Rattle.table_read.specs.Written.{cells-bytes, rows-bytes, memory-stream, memory-blocks, memory-image, Filled}
+use Rattle.table_write.specs.Written.{cells-bytes, rows-bytes, memory-stream, Filled}
 
 -- the number in a cell that shows a value
 shown-word : (c : ℕ) (x : Val) → Shows c x → operand c ≡ word x
@@ -123,12 +121,3 @@ module _ (p : Program) (counts : Counts p) (list : List ℕ) (P : ℕ → Sched 
       (rows-are cs (z .heads) (z .cells) (structs p) (drop (structs p) (m .instances)) λ j i e.
       let q : getElem? (m .instances) (structs p + j) ≡ some i = sym (at-drop (structs p) (m .instances) j) ∙ e in
       (struct-is (structs p + j) i q, params-are (structs p + j) i q)))
-
-  -- and so are the blocks that a run reports and the bytes that it leaves
-  pub blocks-stand : (n t : ℕ) → memory-blocks cs (z .heads) (z .cells) (z .machine .count) ≡ report-of p (stopped n t m) .blocks
-  unfolding report-of
-  blocks-stand n t = rw stream-stands
-
-  pub output-stands : (n t : ℕ) (out : List ℕ) → memory-image cs (z .heads) (z .cells) (z .machine .count) out ≡ output-of p (stopped n t m) out
-  unfolding output-of
-  output-stands n t out = rw stream-stands
