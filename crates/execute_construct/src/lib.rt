@@ -10,9 +10,6 @@ ghost use Rattle.memory.specs.Act.{do-cons};
 ghost use Rattle.memory.specs.Fit.{ConsFit};
 ghost use Rattle.execute_stack.specs.Answers.{Acting, DoesWith};
 
-// 01's number of a cons with 256 instances.
-const FULL: u8 = 34;
-
 // n cells from one place to another, which lies behind them.
 fn copy(cells: &mut [u64], from: usize, to: usize, n: usize)
     requires { ⌜ (from + n ≤ to) × (to + n ≤ length (now cells)) ⌝ }
@@ -40,7 +37,7 @@ pub fn construct(
     ensures { λ r. ⌜ DoesWith count (λ z. do-cons (now (counts .entry)) (a .label) z k) r (now (heads .entry)) (now (cells .entry)) (now (heads .exit)) (now (cells .exit)) ⌝ }
 {
     if types::MAX_INSTANCES <= count {
-        return Acted::Refused(FULL);
+        return Acted::Refused(types::number::FULL);
     }
     let l = a.label;
     let p = counts[k] as usize;

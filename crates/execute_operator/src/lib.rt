@@ -10,9 +10,6 @@ ghost use Rattle.memory.specs.Act.{result-byte, do-op};
 ghost use Rattle.memory.specs.Fit.{OpFit};
 ghost use Rattle.execute_stack.specs.Answers.{Acting, topmost, second, Does};
 
-// 01's number of a zero divisor or a result outside its type.
-const EXCEEDED: u8 = 35;
-
 // The bytes of × and −, between which the arithmetic operators stand.
 const MUL: u8 = 38;
 
@@ -54,7 +51,7 @@ pub fn operate(heads: &mut [usize], cells: &mut [u64], a: Actor, o: u8) -> Acted
             put(heads, cells, l, h - 2, c, a.next + 1);
             Acted::Kept
         }
-        Answered::Outside => Acted::Refused(EXCEEDED),
+        Answered::Outside => Acted::Refused(types::number::EXCEEDED),
         Answered::Unfit => Acted::Kept,
     }
 }

@@ -11,9 +11,6 @@ ghost use Rattle.layout.specs.State.{state-of};
 ghost use Rattle.interpreter.specs.Counting.{fewer};
 ghost use Rattle.interpreter.specs.Running.{Begun, Ending};
 
-// 01's number of a run whose bytes are used up while commands remain.
-const OUT_OF_TURNS: u8 = 33;
-
 // Where a run ends: the machine, the number (0, or 33 to 36), and the turns taken.
 pub struct Ran {
     pub machine: Machine,
@@ -58,7 +55,7 @@ pub fn run(
         if taken == turns.len() {
             return Ran {
                 machine: next,
-                number: OUT_OF_TURNS,
+                number: types::number::OUT_OF_TURNS,
                 taken,
             };
         }

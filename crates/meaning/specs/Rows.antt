@@ -11,6 +11,7 @@ use Rattle.program.specs.Encoding.{enc-word, flat, op-code, var-code, enc-path,
 use Rattle.tokens.specs.Tokens.{Polarity.plus, Polarity.minus}
 use Rattle.tokens.specs.Scanning.{same}
 use Rattle.syntax.specs.Syntax.{TypeName.int-type, TypeName.nat-type, TypeName.id-type, Literal.int-literal, Literal.nat-literal, Literal.bool-literal, Var.id as one-id, Var.dot, Exp.binary, Exp.brackets, Exp.constructor, Exp.variable, Exp.literal, Exp.null, Exp.this, Exps.no-exps, Exps.exps, Stat.if-then, Stat.assignment, Stat.update, Stat.construct, Stats.no-stats, Stats.stats, Par.par, Step.step, Struct.struct, Defs.last-struct, Defs.defs, Item.execution, Item.typed-execution, Item.fixpoint, Sched.last-item, Sched.barrier, Program, Program.program}
+use Rattle.syntax.specs.Letters.{A, B, C, a, b, c, s, t, u, x, y}
 use Rattle.meaning.specs.Scope.{par-id, par-type, step-id, struct-id, pars-of, steps-of, structs-of, local-id, local-number, local-type}
 use Rattle.meaning.specs.StepNames.{among, once, all-steps, step-names}
 use Rattle.meaning.specs.Values.{decimal-from, decimal, signed}
@@ -31,39 +32,6 @@ row c s = record { text = c; bytes = s }
 pub data Rows : List Row → Type 0 where
   no-more : Rows []
   and-then : {r : Row} {rs : List Row} → stream (meant (r .text)) ≡ r .bytes → Rows rs → Rows (r ∷ rs)
-
-abbrev A : List ℕ
-A = 65 ∷ []
-
-abbrev B : List ℕ
-B = 66 ∷ []
-
-abbrev C : List ℕ
-C = 67 ∷ []
-
-abbrev a : List ℕ
-a = 97 ∷ []
-
-abbrev b : List ℕ
-b = 98 ∷ []
-
-abbrev c : List ℕ
-c = 99 ∷ []
-
-abbrev s : List ℕ
-s = 115 ∷ []
-
-abbrev t : List ℕ
-t = 116 ∷ []
-
-abbrev u : List ℕ
-u = 117 ∷ []
-
-abbrev x : List ℕ
-x = 120 ∷ []
-
-abbrev y : List ℕ
-y = 121 ∷ []
 
 unfoldable pub rows : List Row
 rows =

@@ -8,9 +8,6 @@ ghost use Rattle.memory.specs.Move.{do-fix, do-round};
 ghost use Rattle.scheduler.specs.Makes.{Makes, Moves};
 ghost use Rattle.scheduler.specs.Ready.{Movable};
 
-// 01's number of a Fix met with all stability entries taken.
-const NESTED: u8 = 36;
-
 // A Fix begins, or is one too many.
 fn fix(numbers: Numbers) -> Numbers
     requires { ⌜ (numbers .place < 2 ^ 63) × (numbers .stable < 2 ^ (numbers .fixes)) ⌝ }
@@ -23,7 +20,7 @@ fn fix(numbers: Numbers) -> Numbers
         next.stable = 2 * numbers.stable + 1;
         return next;
     }
-    next.number = NESTED;
+    next.number = types::number::NESTED;
     next
 }
 

@@ -8,7 +8,7 @@ use mathlib.Core.Option.{Option, none, some}
 use mathlib.Core.List.{List, [], _∷_, List·Memᴰ·not-nil}
 use lib.ListN.{length, getElem?, replicate}
 use lib.IntN.{pos}
-use Rattle.types.specs.Types.{Ty, Ty.int, Ty.bool, Ty.ref}
+use Rattle.types.specs.Types.{Ty.int, Ty.bool, Ty.ref}
 use Rattle.types.specs.Values.{Val, Val.int-val, Val.bool-val, Val.label}
 use Rattle.program.specs.Tree.{Var.par, Var.loc, Op.op-add, Expr.inv, Expr.path, Expr.int-lit, Expr.bool-lit, Expr.op, Stmt.when, Stmt.declare, Stmt.update, Stmts, Stmts.end, Stmts.next, Item.call, Items.stop, Items.item, Program, args, size, items}
 use Rattle.program.specs.Counts.{Counts}
@@ -30,7 +30,7 @@ use Rattle.sound.specs.Needs.{ValueAmong}
 use Rattle.sound.specs.Accepted.{Accepted}
 use Rattle.sound.specs.NeverStuck.{Demand3}
 use Rattle.sound.specs.After.{onward, act-on, after, after-visited}
-use Rattle.sound.specs.Exhibits.{Lacks, lacks-refutes, no-record, Fails}
+use Rattle.sound.specs.Exhibits.{Lacks, lacks-refutes, no-record, Fails, negating, not-of-int}
 
 -- a run comes to a number after so many turns
 abbrev pub Stops : Program → List Record → List ℕ → ℕ → ℕ → Type 0
@@ -53,26 +53,13 @@ unchosen-lacks = record {
   left = after-visited (program negated) 2 (begin (program negated) []) one .0;
   visited = after-visited (program negated) 2 (begin (program negated) []) one .1;
   holder = 0;
-  instance = record {
-    struct = 0;
-    code = n-not ∷ n-this ∷ n-wr 0 1 ∷ [];
-    stack = tagged int (int-val (pos 1)) ∷ [];
-    env = fresh-env (int-val (pos 0) ∷ bool-val false ∷ []);
-    written = [];
-  };
+  instance = negating;
   there = refl;
   command = n-not;
   rest = n-this ∷ n-wr 0 1 ∷ [];
   holds = refl;
-  lacks = λ (x, (χ, e), f). apart x χ e (f .0);
+  lacks = λ (x, (χ, e), f). not-of-int x χ e (f .0);
 }
-  where
-    top : List Tagged → Ty
-    top [] = bool
-    top (x ∷ χ) = x .by
-
-    apart : (x : Tagged) (χ : List Tagged) → tagged int (int-val (pos 1)) ∷ [] ≡ x ∷ χ → x .by ≡ bool → ⊥
-    apart x χ e f = let q : int ≡ x .by = ap top e in let z : _≡_ {A = ℕ} 0 1 = cc in omega arith
 
 -- the program is refused with 8; its run comes to 33 after one turn, and demand 3 fails of it
 pub fails-unchosen : Fails wrong-types (program negated) [] one

@@ -61,6 +61,24 @@ Fails n p rs es = Counts p × (program-number p ≡ n) × TableRight (p .params)
 
 -- Refused with 8 -----------------------------------------------------------------
 
+-- the null instance before its not, with the Int that its push put there
+abbrev pub negating : Instance
+negating = record {
+  struct = 0;
+  code = n-not ∷ n-this ∷ n-wr 0 1 ∷ [];
+  stack = tagged int (int-val (pos 1)) ∷ [];
+  env = fresh-env (int-val (pos 0) ∷ bool-val false ∷ []);
+  written = [];
+}
+
+-- its not needs a Bool
+pub not-of-int : (x : Tagged) (χ : List Tagged) → tagged int (int-val (pos 1)) ∷ [] ≡ x ∷ χ → x .by ≡ bool → ⊥
+not-of-int x χ e f = let q : int ≡ x .by = ap top e in let z : _≡_ {A = ℕ} 0 1 = cc in omega arith
+  where
+    top : List Tagged → Ty
+    top [] = bool
+    top (x ∷ χ) = x .by
+
 -- p1 := not 1: the null instance's not finds the Int that its push put there
 pub stuck-8 : Lacks (program negated) [] (0 ∷ 0 ∷ [])
 unfolding running onward act-on after
@@ -69,26 +87,13 @@ stuck-8 = record {
   left = after-visited (program negated) 2 (begin (program negated) []) (0 ∷ 0 ∷ []) .0;
   visited = after-visited (program negated) 2 (begin (program negated) []) (0 ∷ 0 ∷ []) .1;
   holder = 0;
-  instance = record {
-    struct = 0;
-    code = n-not ∷ n-this ∷ n-wr 0 1 ∷ [];
-    stack = tagged int (int-val (pos 1)) ∷ [];
-    env = fresh-env (int-val (pos 0) ∷ bool-val false ∷ []);
-    written = [];
-  };
+  instance = negating;
   there = refl;
   command = n-not;
   rest = n-this ∷ n-wr 0 1 ∷ [];
   holds = refl;
-  lacks = λ (x, (χ, e), f). apart x χ e (f .0);
+  lacks = λ (x, (χ, e), f). not-of-int x χ e (f .0);
 }
-  where
-    top : List Tagged → Ty
-    top [] = bool
-    top (x ∷ χ) = x .by
-
-    apart : (x : Tagged) (χ : List Tagged) → tagged int (int-val (pos 1)) ∷ [] ≡ x ∷ χ → x .by ≡ bool → ⊥
-    apart x χ e f = let q : int ≡ x .by = ap top e in let z : _≡_ {A = ℕ} 0 1 = cc in omega arith
 
 pub jams-8 : Jams (program negated) [] (0 ∷ 0 ∷ [])
 unfolding running

@@ -11,4 +11,5 @@ pub mod PlaceLaws
 pub mod SoundLaws
 pub mod ExpLaws
 pub mod CompleteLaws
+pub mod Letters
 pub mod Rows

@@ -10,33 +10,5 @@ Inv-loop image list n of₀ of = Unit {0}
 abbrev μ-loop : tie.MeasureT-loop
 μ-loop image list n of₀ of = n - of
 
-loop-holds : tie.Need-loop-holds Inv-loop μ-loop
-loop-holds c = tt
-
-steps-requires : tie.Need-steps-requires Inv-loop μ-loop
-steps-requires c κs = search needs
-
-add-of : tie.Need-add-of Inv-loop μ-loop
-add-of c = search needs
-
-loop-less : tie.Need-loop-less Inv-loop μ-loop
-loop-less c = search needs
-
-loop-again : tie.Need-loop-again Inv-loop μ-loop
-loop-again c = tt
-
-returns : tie.Need-returns Inv-loop μ-loop
-returns c = search needs
-
 pub structs-spec : {M : Type 1} → statement M
-structs-spec =
-    tie.close
-    (tie.spec
-    Inv-loop
-    μ-loop
-    loop-holds
-    steps-requires
-    add-of
-    loop-less
-    loop-again
-    returns)
+structs-spec = tie.close (tie.spec Inv-loop μ-loop (λ c. tt) (λ c κs. search needs) (λ c. search needs) (λ c. search needs) (λ c. tt) (λ c. search needs))

@@ -33,7 +33,7 @@ of-rows-requires c κs =
 
 schedule-requires : tie.Need-schedule-requires
 schedule-requires c κs =
-    let w = at-program (c .before .before .before .before .before) in
+    let noted = c .before .before .before in let w = at-program (noted .before .before) in
     codes-ready (start₃ w .pre) (w .program .ensures)
 
 returns : tie.Need-returns

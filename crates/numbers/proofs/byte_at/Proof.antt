@@ -9,9 +9,6 @@ use borrow.Author.Needs.{needs}
 use Rattle.numbers.proofs.byte_at.Statement.{statement}
 use Rattle.numbers.proofs.byte_at.Tie as tie
 
-shared-slice-read-result : tie.Need-shared-slice-read-result
-shared-slice-read-result c = search needs
-
 returns : tie.Need-returns
 returns c = λ h. sym (List·getD-append (c .before .before .args .text .now) (10 ∷ []) 0 (c .before .before .args .i) (c .before .if1 .taken))
 
@@ -19,4 +16,4 @@ returns-2 : tie.Need-returns-2
 returns-2 c = λ h. sym (getD-at (c .before .args .text .now) 10 [] 0 (c .before .args .i) (omega arith))
 
 pub byte-at-spec : {M : Type 1} → statement M
-byte-at-spec = tie.close (tie.spec shared-slice-read-result returns returns-2)
+byte-at-spec = tie.close (tie.spec (λ c. search needs) returns returns-2)

@@ -5,12 +5,6 @@ use borrow.Author.Needs.{needs}
 use Rattle.numbers.proofs.longer.Statement.{statement}
 use Rattle.numbers.proofs.longer.Tie as tie
 
-extended-requires : tie.Need-extended-requires
-extended-requires c κs = search needs
-
-cast-t7 : tie.Need-cast-t7
-cast-t7 c = search needs
-
 returns : tie.Need-returns
 unfolding longer
 returns c = rw (longer, ← c .before .extended .ensures, lt-ltb _ 4294967296 (c .if1 .taken)) (rw (c .before .extended .ensures))
@@ -20,4 +14,4 @@ unfolding longer
 returns-2 c = rw (longer, ← c .before .extended .ensures, le-ltb _ 4294967296 (c .if1 .left))
 
 pub longer-spec : {M : Type 1} → statement M
-longer-spec = tie.close (tie.spec extended-requires cast-t7 returns returns-2)
+longer-spec = tie.close (tie.spec (λ c κs. search needs) (λ c. search needs) returns returns-2)

@@ -20,28 +20,10 @@ abbrev at-turned : tie.After-slice-known2 Inv-loop μ-loop → tie.After-turned 
 at-turned c = c .before .before
 
 abbrev at-loop : tie.After-turned Inv-loop μ-loop → tie.At-loop Inv-loop μ-loop
-at-loop c = c .before .before .before .before .before
+at-loop c = let in-char = c .before .before in in-char .before .before .before
 
 loop-holds : tie.Need-loop-holds Inv-loop μ-loop
 loop-holds c = record { within = omega arith; kept = refl; answer = refl; written = refl }
-
-byte-at-requires : tie.Need-byte-at-requires Inv-loop μ-loop
-byte-at-requires c κs = search needs
-
-char-of-requires : tie.Need-char-of-requires Inv-loop μ-loop
-char-of-requires c κs = search needs
-
-turned-requires : tie.Need-turned-requires Inv-loop μ-loop
-turned-requires c κs = search needs
-
-enum-known-t : tie.Need-enum-known-t Inv-loop μ-loop
-enum-known-t c = search needs
-
-add-i : tie.Need-add-i Inv-loop μ-loop
-add-i c = omega arith
-
-loop-less : tie.Need-loop-less Inv-loop μ-loop
-loop-less c = omega arith
 
 loop-again : tie.Need-loop-again Inv-loop μ-loop
 loop-again c =
@@ -49,12 +31,6 @@ loop-again c =
     reached-next (at-loop at .loop .inv) (in-char .before .before .loop-test .taken)
     (in-char .before .byte-at .ensures (in-char .before .before .loop-test .taken)) (in-char .char-of .ensures)
     (sym (told .t .given .1) ∙ at .turned .ensures .0) (at .turned .ensures .1) (at .turned .kept .1 .1 .1 .0)
-
-enum-told : tie.Need-enum-told Inv-loop μ-loop
-enum-told c = search needs
-
-same-length : tie.Need-same-length Inv-loop μ-loop
-same-length c = search needs
 
 returns : tie.Need-returns Inv-loop μ-loop
 unfolding go-on
@@ -65,12 +41,6 @@ returns c =
     (in-char .before .byte-at .ensures (in-char .before .before .loop-test .taken)) (in-char .char-of .ensures)
     (λ u m f. let z : _≡_ {A = ℕ} 0 1 = cc in omega arith) (λ rest. rw (← e)) (at .turned .ensures .1)
 
-enum-told-2 : tie.Need-enum-told-2 Inv-loop μ-loop
-enum-told-2 c = search needs
-
-same-length-2 : tie.Need-same-length-2 Inv-loop μ-loop
-same-length-2 c = search needs
-
 returns-2 : tie.Need-returns-2 Inv-loop μ-loop
 unfolding go-on
 returns-2 c =
@@ -79,12 +49,6 @@ returns-2 c =
     reached-stop (at-loop at .loop .inv) (in-char .before .before .loop-test .taken)
     (in-char .before .byte-at .ensures (in-char .before .before .loop-test .taken)) (in-char .char-of .ensures)
     (λ u m f. let z : _≡_ {A = ℕ} 0 1 = cc in omega arith) (λ rest. rw (← e)) (at .turned .ensures .1)
-
-enum-told-3 : tie.Need-enum-told-3 Inv-loop μ-loop
-enum-told-3 c = search needs
-
-same-length-3 : tie.Need-same-length-3 Inv-loop μ-loop
-same-length-3 c = search needs
 
 returns-3 : tie.Need-returns-3 Inv-loop μ-loop
 unfolding go-on
@@ -95,34 +59,12 @@ returns-3 c =
     (in-char .before .byte-at .ensures (in-char .before .before .loop-test .taken)) (in-char .char-of .ensures)
     (λ u m f. let z : _≡_ {A = ℕ} 0 1 = cc in omega arith) (λ rest. rw (← e)) (at .turned .ensures .1)
 
-same-length-4 : tie.Need-same-length-4 Inv-loop μ-loop
-same-length-4 c = search needs
-
 returns-4 : tie.Need-returns-4 Inv-loop μ-loop
 returns-4 c = reached-end (c .before .loop .inv) (c .loop-test .left)
 
 pub scan-spec : {M : Type 1} → statement M
 scan-spec =
     tie.close
-    (tie.spec
-    Inv-loop
-    μ-loop
-    loop-holds
-    byte-at-requires
-    char-of-requires
-    turned-requires
-    enum-known-t
-    add-i
-    loop-less
-    loop-again
-    enum-told
-    same-length
-    returns
-    enum-told-2
-    same-length-2
-    returns-2
-    enum-told-3
-    same-length-3
-    returns-3
-    same-length-4
-    returns-4)
+    (tie.spec Inv-loop μ-loop loop-holds (λ c κs. search needs) (λ c κs. search needs) (λ c κs. search needs) (λ c. search needs) (λ c. omega arith)
+    (λ c. omega arith) loop-again (λ c. search needs) (λ c. search needs) returns (λ c. search needs) (λ c. search needs) returns-2
+    (λ c. search needs) (λ c. search needs) returns-3 (λ c. search needs) returns-4)

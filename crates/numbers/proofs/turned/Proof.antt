@@ -7,15 +7,6 @@ use borrow.Author.Needs.{needs}
 use Rattle.numbers.proofs.turned.Statement.{statement}
 use Rattle.numbers.proofs.turned.Tie as tie
 
-stepped-requires : tie.Need-stepped-requires
-stepped-requires c κs = search needs
-
-enum-known-t : tie.Need-enum-known-t
-enum-known-t c = search needs
-
-enum-known-first : tie.Need-enum-known-first
-enum-known-first c = search needs
-
 returns : tie.Need-returns
 unfolding turn-of turn-into
 returns c =
@@ -23,30 +14,9 @@ returns c =
     let e = sym (at-first .before .before .stepped .ensures) ∙ at-first .first .given .1 in
     (rw (e, le-ltb _ _ (c .if1 .taken)), rw e (sym (set-out _ _ _ (c .if1 .taken))))
 
-coded-requires : tie.Need-coded-requires
-coded-requires c κs = search needs
-
-mul-out : tie.Need-mul-out
-mul-out c = search needs
-
-slice-write-out : tie.Need-slice-write-out
-slice-write-out c = search needs
-
-add-t12 : tie.Need-add-t12
-add-t12 c = search needs
-
-enum-told : tie.Need-enum-told
-enum-told c = search needs
-
-enum-told-2 : tie.Need-enum-told-2
-enum-told-2 c = search needs
-
 returns-2 : tie.Need-returns-2
 unfolding turn-of turn-into
 returns-2 c = let e = sym (c .before .before .before .stepped .ensures) ∙ c .before .t .given .1 in (rw e, rw e)
-
-same-length : tie.Need-same-length
-same-length c = search needs
 
 returns-3 : tie.Need-returns-3
 unfolding turn-of turn-into
@@ -66,19 +36,5 @@ returns-5 c = let e = sym (c .before .before .stepped .ensures) ∙ c .enum-told
 pub turned-spec : {M : Type 1} → statement M
 turned-spec =
     tie.close
-    (tie.spec
-    stepped-requires
-    enum-known-t
-    enum-known-first
-    returns
-    coded-requires
-    mul-out
-    slice-write-out
-    add-t12
-    enum-told
-    enum-told-2
-    returns-2
-    same-length
-    returns-3
-    returns-4
-    returns-5)
+    (tie.spec (λ c κs. search needs) (λ c. search needs) (λ c. search needs) returns (λ c κs. search needs) (λ c. search needs) (λ c. search needs)
+    (λ c. search needs) (λ c. search needs) (λ c. search needs) returns-2 (λ c. search needs) returns-3 returns-4 returns-5)

@@ -11,27 +11,21 @@ start c = c .before .before .before .before
 
 returns : tie.Need-returns
 returns c =
-    let at-if1 = c .before in let a = at-if1 .before .before .before .before .args in (
-      λ w p.
-          c .declare .ensures .0 ∙ sym (rule-declare (a .ar .now) (a .types .now) (a .s .now) (a .own) (a .c) w p (a .at) (a .b) (at-if1 .if1 .taken)),
-      c .declare .ensures .1,
-    )
+    let at-if1 = c .before in let a = at-if1 .before .before .before .before .args in
+    let law = rule-declare (a .ar .now) (a .types .now) (a .s .now) (a .own) (a .c) in
+    (λ w p. c .declare .ensures .0 ∙ sym (law w p (a .at) (a .b) (at-if1 .if1 .taken)), c .declare .ensures .1)
 
 returns-2 : tie.Need-returns-2
 returns-2 c =
-    let a = start (c .before .before) .args in (
-      λ w p.
-          c .update .ensures .0 ∙ sym (rule-update (a .ar .now) (a .types .now) (a .s .now) (a .own) (a .c) w p (a .at) (a .b) (c .before .if2 .taken)),
-      c .update .ensures .1,
-    )
+    let a = start (c .before .before) .args in
+    let law = rule-update (a .ar .now) (a .types .now) (a .s .now) (a .own) (a .c) in
+    (λ w p. c .update .ensures .0 ∙ sym (law w p (a .at) (a .b) (c .before .if2 .taken)), c .update .ensures .1)
 
 returns-3 : tie.Need-returns-3
 returns-3 c =
-    let a = start (c .before .before .before) .args in (
-      λ w p.
-          c .create .ensures .0 ∙ sym (rule-create (a .ar .now) (a .types .now) (a .s .now) (a .own) (a .c) w p (a .at) (a .b) (c .before .if3 .taken)),
-      c .create .ensures .1,
-    )
+    let a = start (c .before .before .before) .args in
+    let law = rule-create (a .ar .now) (a .types .now) (a .s .now) (a .own) (a .c) in
+    (λ w p. c .create .ensures .0 ∙ sym (law w p (a .at) (a .b) (c .before .if3 .taken)), c .create .ensures .1)
 
 returns-4 : tie.Need-returns-4
 returns-4 c =

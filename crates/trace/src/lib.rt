@@ -1,0 +1,1 @@
+// The definitions and laws of a trace stand in specs/.
