@@ -1,6 +1,6 @@
 //! The operators 32 to 44: bytes, operand and result types, and results
-//! (01, "Program stream", "Names, types, commands", "Table and turns"; 02,
-//! "Retarders below zero").
+//! (01, "Program stream", "Names, types, commands", "Table and turns"; Int
+//! division after 02, section 4).
 
 use crate::types::Type;
 
@@ -70,8 +70,8 @@ impl Operator {
     fn over_int(self, a: i32, b: i32) -> Option<u32> {
         let result = match self {
             Times => a.checked_mul(b)?,
-            Divide => quotient(a, b)?,
-            Remainder => remainder(a, b)?,
+            Divide => i32::try_from(int_quotient(a, b)?).ok()?,
+            Remainder => i32::try_from(int_remainder(a, b)?).ok()?,
             Plus => a.checked_add(b)?,
             Minus => a.checked_sub(b)?,
             _ => return Some(u32::from(self.holds(&a, &b))),
@@ -101,24 +101,24 @@ impl Operator {
     }
 }
 
-/// Rounded toward minus infinity: one below the quotient rounded toward zero
-/// where that leaves what the divisor's sign forbids.
-fn quotient(a: i32, b: i32) -> Option<i32> {
-    let toward_zero = a.checked_div(b)?;
-    Some(if opposed(a % b, b) { toward_zero - 1 } else { toward_zero })
-}
-
-/// What the quotient leaves, with the divisor's sign; also where the
-/// quotient itself lies outside Int.
-fn remainder(a: i32, b: i32) -> Option<i32> {
+/// The Int quotient, rounded toward minus infinity; `None` for a zero divisor.
+/// In i64, as -2147483648 / -1 lies outside Int: the caller looks at the range.
+fn int_quotient(a: i32, b: i32) -> Option<i64> {
+    let (a, b) = (i64::from(a), i64::from(b));
     if b == 0 {
         return None;
     }
-    let rest = a.wrapping_rem(b);
-    Some(if opposed(rest, b) { rest + b } else { rest })
+    let toward_zero = a / b;
+    let exact = toward_zero * b == a;
+    let signs_differ = (a < 0) != (b < 0);
+    // Rounding toward zero went up only where the true quotient is below
+    // zero and not whole.
+    Some(if signs_differ && !exact { toward_zero - 1 } else { toward_zero })
 }
 
-/// Whether a remainder lies on the other side of 0 than its divisor.
-fn opposed(rest: i32, divisor: i32) -> bool {
-    rest != 0 && (rest < 0) != (divisor < 0)
+/// The Int remainder, a - b * quotient: zero or of the divisor's sign, so
+/// always inside Int; `None` for a zero divisor.
+fn int_remainder(a: i32, b: i32) -> Option<i64> {
+    let quotient = int_quotient(a, b)?;
+    Some(i64::from(a) - i64::from(b) * quotient)
 }
