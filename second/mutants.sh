@@ -34,7 +34,7 @@ answers_differ() {
 }
 
 tests_fail() {
-    ! (cd "$copy" && timeout 300 cargo test --quiet --offline --jobs 1) >"$work/tests.txt" 2>&1
+    ! (cd "$copy" && timeout 300 cargo test --quiet --offline --jobs 1 --package second --package engine) >"$work/tests.txt" 2>&1
 }
 
 verdict() {
@@ -76,7 +76,7 @@ limit() {
 }
 
 mkdir "$copy"
-(cd "$here" && cp -r Cargo.toml Cargo.lock src tests cases engine "$copy/")
+(cd "$here" && cp -r Cargo.toml Cargo.lock src tests cases engine text "$copy/")
 if ! build || answers_differ; then
     echo "mutants: the engine as it is does not give the committed answers" >&2
     exit 1
@@ -133,11 +133,16 @@ mutant "36 one entry early" schedule.rs 's/if self\.count == NESTING \{/if self.
 mutant "36 one entry late" schedule.rs 's/if self\.count == NESTING \{/if self.count == NESTING + 1 {/; s/1 << self\.count/1u8.wrapping_shl(self.count as u32)/'
 
 # Arithmetic.
-mutant "Int division rounds down" operators.rs 's/a\.checked_div\(b\)\?/a.checked_div_euclid(b)?/'
-mutant "Int remainder never below 0" operators.rs 's/a\.wrapping_rem\(b\)/a.wrapping_rem_euclid(b)/'
-mutant "least Int % -1 refused" operators.rs 's/a\.wrapping_rem\(b\)/a.checked_rem(b)?/'
-mutant "least Int / -1 wraps" operators.rs 's/a\.checked_div\(b\)\?/(b != 0).then(|| a.wrapping_div(b))?/'
-mutant "Int % 0 is 0" operators.rs 's/Remainder if b == 0 => return None/Remainder if b == 0 => 0/'
+mutant "Int division rounds toward zero" operators.rs 's/\{ toward_zero - 1 \}/{ toward_zero }/'
+mutant "Int division is Euclid's" operators.rs 's/i32::try_from\(int_quotient\(a, b\)\?\)\.ok\(\)\?/a.checked_div_euclid(b)?/'
+mutant "Int division rounds down though nothing is left" operators.rs 's/signs_differ && !exact/signs_differ/'
+mutant "Int division rounds away from zero" operators.rs 's/signs_differ && !exact/!exact/'
+mutant "Int division rounds small dividends to 0" operators.rs 's/signs_differ && !exact/toward_zero != 0 \&\& signs_differ \&\& !exact/'
+mutant "Int remainder takes the dividend's sign" operators.rs 's/Some\(i64::from\(a\) - i64::from\(b\) \* quotient\)/Some(i64::from(a) % i64::from(b) + 0 * quotient)/'
+mutant "Int remainder is Euclid's" operators.rs 's/Some\(i64::from\(a\) - i64::from\(b\) \* quotient\)/Some(i64::from(a).rem_euclid(i64::from(b)) + 0 * quotient)/'
+mutant "least Int % -1 refused" operators.rs 's/let quotient = int_quotient\(a, b\)\?;/let quotient = i64::from(i32::try_from(int_quotient(a, b)?).ok()?);/'
+mutant "least Int / -1 wraps" operators.rs 's/i32::try_from\(int_quotient\(a, b\)\?\)\.ok\(\)\?/int_quotient(a, b)? as i32/'
+mutant "Int % 0 is the dividend" operators.rs 's/let quotient = int_quotient\(a, b\)\?;/let quotient = int_quotient(a, b).unwrap_or(0);/'
 mutant "Nat / 0 is 0" operators.rs 's/a\.checked_div\(b\),/Some(a.checked_div(b).unwrap_or(0)),/'
 mutant "Int sum wraps" operators.rs 's/a\.checked_add\(b\)\?/a.wrapping_add(b)/'
 mutant "Int minus wraps" operators.rs 's/a\.checked_sub\(b\)\?/a.wrapping_sub(b)/'

@@ -6,7 +6,7 @@ use second::generate::Generator;
 use std::collections::BTreeMap;
 
 /// The same case through both engines; the number answered.
-fn answered(case: &Case) -> u32 {
+pub fn answered(case: &Case) -> u32 {
     match case {
         Case::Check { places, program } => {
             let (mut mine, mut theirs) = (vec![LIST_FILL; *places], vec![None; *places]);

@@ -1,8 +1,9 @@
 //! Times both engines on the same images in one process, by groups of calls in which they take turns, and holds their answers
 //! together. Checks: P, the program with the most commands, the longest that is accepted, and an image of 64 blocks that is refused
 //! at its last byte. Runs: 65,536 turns with 2 to 256 instances. With a number as its argument it compares the answers to so many
-//! generated cases.
+//! generated cases, with the word `operators` those of every operator on corner values.
 mod agree;
+mod operators;
 mod proved;
 
 use proved::{check as proved, run as proved_run};
@@ -127,8 +128,10 @@ fn compare_runs(instances: u32, kind: &str, turns: &[u8]) {
 }
 
 fn main() {
-    if let Some(count) = std::env::args().nth(1) {
-        return agree::compare(count.parse().expect("a number of cases"));
+    match std::env::args().nth(1).as_deref() {
+        Some("operators") => return operators::compare(),
+        Some(count) => return agree::compare(count.parse().expect("a number of cases")),
+        None => {}
     }
     let p = [1, 2, 0, 16, 1, 0, 1, 3, 1, 0, 41, 18, 1, 0, 18, 2, 1, 0, 1, 1, 0];
     compare("P", &p, 2000);

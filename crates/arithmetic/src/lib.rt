@@ -3,9 +3,10 @@
 use operators::Answered;
 ghost use mathlib.Core.Path.{_≡_};
 ghost use mathlib.Core.Option.{some};
-ghost use Prim.Native.Nat.{_<_};
+ghost use Prim.Native.Nat.{_<_, _≤_};
 ghost use lib.IntN.{pos};
-ghost use lib.Signed.{mag};
+ghost use lib.Dec.{T};
+ghost use lib.Signed.{mag, nonNeg, shrZ};
 ghost use Rattle.types.specs.Limits.{int-half};
 ghost use Rattle.types.specs.Values.{word-int, Val.int-val, Val.nat-val, Val.bool-val, Val.label};
 ghost use Rattle.operators.specs.Operators.{quotient, remainder};
@@ -82,20 +83,35 @@ fn int_answer(z: i64) -> Answered
     Answered::Outside
 }
 
-// Rounded toward zero.
+// Rounded toward minus infinity, by a divisor above zero. The machine's own division rounds toward zero, so that a dividend below zero
+// is handed to it as -1 - x.
+fn floor_div(x: i64, m: i64) -> i64
+    requires { ⌜ (mag x ≤ int-half) × (mag m ≤ int-half) × (0 < mag m) × (T (nonNeg m)) ⌝ }
+    ensures { λ r. ⌜ r ≡ shrZ x (mag m) ⌝ }
+{
+    if x < 0 {
+        return -1 - (-1 - x) / m;
+    }
+    x / m
+}
+
+// Rounded toward minus infinity; 64 bits hold the least Int negated.
 fn quotient_of(x: i64, y: i64) -> i64
-    requires { ⌜ (mag x < int-half) × (y ≡ pos 0 → ⊥) ⌝ }
+    requires { ⌜ (mag x < int-half) × (mag y < int-half) × (y ≡ pos 0 → ⊥) ⌝ }
     ensures { λ r. ⌜ r ≡ quotient x y ⌝ }
 {
-    x / y
+    if y < 0 {
+        return floor_div(0 - x, 0 - y);
+    }
+    floor_div(x, y)
 }
 
 // What the quotient leaves.
 fn remainder_of(x: i64, y: i64) -> i64
-    requires { ⌜ (mag x < int-half) × (y ≡ pos 0 → ⊥) ⌝ }
+    requires { ⌜ (mag x < int-half) × (mag y < int-half) × (y ≡ pos 0 → ⊥) ⌝ }
     ensures { λ r. ⌜ r ≡ remainder x y ⌝ }
 {
-    x % y
+    x - y * quotient_of(x, y)
 }
 
 // Every operator on two numbers of Int.

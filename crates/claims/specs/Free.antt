@@ -6,7 +6,7 @@ use mathlib.Core.Option.{some}
 use mathlib.Core.List.{List, map}
 use Prim.Native.Nat.{ℕ}
 use lib.ListN.{length, take}
-use lib.IntN.{ℤ, pos, _+ℤ_, _*ℤ_}
+use lib.IntN.{ℤ, pos}
 use Rattle.program.specs.Tree.{Program}
 use Rattle.program.specs.Counts.{Counts}
 use Rattle.commands.specs.Bounds.{Within}
@@ -15,8 +15,8 @@ use Rattle.commands.specs.Coding.{command-word}
 use Rattle.commands.specs.Decoding.{decode, InRanges}
 use Rattle.commands.specs.CodingLaws.{word-injective}
 use Rattle.operators.specs.Operators.{quotient, remainder}
-use Rattle.operators.specs.Rounding.{TowardZero}
-use Rattle.operators.specs.RoundingLaws.{quotient-toward-zero, quotient-unique, remainder-completes}
+use Rattle.operators.specs.Rounding.{TowardMinusInfinity, DivisorSigned}
+use Rattle.operators.specs.RoundingLaws.{quotient-downward, quotient-unique, remainder-signed, remainder-unique}
 use Rattle.verdict.specs.Verdict.{of-structs, program-words, listed}
 use Rattle.verdict.specs.ListLaws.{listed-decoded, words-determine}
 
@@ -34,10 +34,10 @@ pub list-decoded : (p : Program) → Counts p → Within p → (list : List ℕ)
     → map decode (take (length (program-words p)) (listed p list)) ≡ map some (of-structs (p .steps))
 list-decoded p c w list = listed-decoded p c w list
 
--- "Int / rounds toward zero": the library's quotient is the one that does
-pub quotient-rounds : (a b q : ℤ) → (b ≡ pos 0 → ⊥) → TowardZero a b q ↔ (q ≡ quotient a b)
-quotient-rounds a b q h = (λ t. quotient-unique a b q h t, λ e. rw e (quotient-toward-zero a b h))
+-- "Int division now rounds toward minus infinity" (02, 'Retarders below zero'): the library's quotient is the one that does
+pub quotient-rounds : (a b q : ℤ) → (b ≡ pos 0 → ⊥) → TowardMinusInfinity a b q ↔ (q ≡ quotient a b)
+quotient-rounds a b q h = (λ t. quotient-unique a b q h t, λ e. rw e (quotient-downward a b h))
 
--- "a % b is a − b × quotient"
-pub remainder-rounds : (a b : ℤ) → b *ℤ quotient a b +ℤ remainder a b ≡ a
-remainder-rounds a b = remainder-completes a b
+-- "and the remainder takes the divisor's sign": 0 or of that sign, smaller in amount, and a is b × quotient and the remainder
+pub remainder-rounds : (a b q r : ℤ) → (b ≡ pos 0 → ⊥) → DivisorSigned a b q r ↔ ((q ≡ quotient a b) × (r ≡ remainder a b))
+remainder-rounds a b q r h = (λ t. remainder-unique a b q r t, λ e. rw (e .0, e .1) (remainder-signed a b h))

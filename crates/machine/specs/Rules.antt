@@ -1,4 +1,4 @@
--- The fifteen rules of 000, section 4, each under its published name, with 01's arithmetic, labels and limits.
+-- The fifteen rules of 000, section 4, each under its published name, with 01's arithmetic (02's division), labels and limits.
 -- Computed parts are premises. They depart from 000 in six places:
 -- * starting a step empties the stacks of the instances that have it and of no others (01, 'Table and turns'); 000's InitG empties all;
 -- * a new instance takes the next label (01, the same), 000's any fresh one; where none is free ComCons does not fit, and 34 is due;

@@ -1,6 +1,7 @@
 -- A word to the Int that it is in two's complement, and a whole number back to a word, or to number 35, as the code's tests tell (01, 'Program stream').
 use Prim.Native.Nat.{ℕ, suc, _-_, _<_, _≤_}
 use native.Mathlib.Omega.{arith}
+use native.Mathlib.Nat.{le-of-lt}
 use mathlib.Core.Path.{_≡_, refl, sym, _∙_}
 use mathlib.Core.Bool.{true, false, false≢true, true≢false}
 use mathlib.Core.Option.{some}
@@ -45,11 +46,11 @@ int-of-fits a h k = rw (high-sub a h k) (record { sfits = omega (arith, high-sma
 -- From there on it is read as 4294967296 less.
 pub int-of-high : (a : ℕ) → int-half ≤ a → a < nat-end → IntOf a (through (toZ w64 a -ℤ pos nat-end))
 int-of-high a h k =
-    rw (high-sub a h k, back (high-small a h k)) (record { is = refl; small = high-small a h k })
+    rw (high-sub a h k, back (le-of-lt (high-small a h k))) (record { is = refl; small = high-small a h k })
 
 -- A word's Int comes back from its 64 bits.
 pub int-of-back : {a : ℕ} {x : ℤ} → IntOf a x → through x ≡ word-int a
-int-of-back i = back (i .small) ∙ i .is
+int-of-back i = back (le-of-lt (i .small)) ∙ i .is
 
 -- a whole number to a word ----------------------------------------------------------
 

@@ -8,6 +8,7 @@ pub mod ApplyLaws
 pub mod RangesLaws
 pub mod Rows
 pub mod SignedLaws
+pub mod FloorLaws
 pub mod Words
 pub mod IntLaws
 pub mod NatLaws

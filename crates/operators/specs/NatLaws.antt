@@ -13,7 +13,7 @@ use Rattle.types.specs.Values.{word}
 use Rattle.operators.specs.Operators.{quotient, remainder}
 use Rattle.operators.specs.Apply.{nat-answer, by-nonzero}
 use Rattle.operators.specs.ApplyLaws.{nonzero}
-use Rattle.operators.specs.SignedLaws.{remainder-is}
+use Rattle.operators.specs.SignedLaws.{remainder-nat}
 use Rattle.operators.specs.Words.{answered}
 use Rattle.operators.specs.declared.Answered.the-variants.{Value, Outside}
 
@@ -58,5 +58,5 @@ module _ (a b : ℕ) (h : b ≡ 0 → ⊥) (k : a < nat-end) where
   -- The remainder by one.
   pub nat-remainder : Value (a % b) ≡ answered (nat-answer (by-nonzero (pos b) (remainder (pos a) (pos b))))
   nat-remainder =
-      rw (nonzero (pos b) (remainder (pos a) (pos b)) not-zero, remainder-is (pos a) (pos b))
+      rw (nonzero (pos b) (remainder (pos a) (pos b)) not-zero, remainder-nat a b)
       (nat-in (a % b) (omega (arith, mod-le a b)))

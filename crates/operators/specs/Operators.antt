@@ -1,17 +1,19 @@
 -- The operators on values (000, rule ComOp; 01, 'Names, types, commands', 'Table and turns' and number 35), as relations.
 -- 000 computes on unbounded numbers; 01 stops where the divisor is zero or the result lies outside its type.
-use Prim.Native.Nat.{ℕ, _<_}
+use Prim.Native.Nat.{ℕ, suc, _<_}
 use mathlib.Core.Path.{_≡_}
 use mathlib.Core.Bool.{Bool, true, false}
-use lib.IntN.{ℤ, pos, negsuc, _+ℤ_, _-ℤ_, _*ℤ_}
-use lib.Signed.{ltZ, leZ, quotZ}
+use lib.IntN.{ℤ, pos, negsuc, negℤ, _+ℤ_, _-ℤ_, _*ℤ_}
+use lib.Signed.{ltZ, leZ, shrZ}
 use Rattle.types.specs.Limits.{nat-end}
 use Rattle.types.specs.Values.{Val, Val.int-val, Val.nat-val, Val.bool-val, Val.label, IntRange}
 use Rattle.program.specs.Tree.{Op, Op.op-eq, Op.op-ne, Op.op-le, Op.op-ge, Op.op-lt, Op.op-gt, Op.op-mul, Op.op-div, Op.op-rem, Op.op-add, Op.op-sub, Op.op-and, Op.op-or}
 
--- quotient and remainder: / rounds toward zero, a % b is a − b × quotient
+-- quotient and remainder: / rounds toward minus infinity (02, 'Retarders below zero'), a % b is a − b × quotient. The library's shift
+-- rounds down by a divisor above zero; by one below, both numbers are negated.
 unfoldable pub quotient : ℤ → ℤ → ℤ
-quotient a b = quotZ a b
+quotient a (pos n) = shrZ a n
+quotient a (negsuc n) = shrZ (negℤ a) (suc n)
 
 unfoldable pub remainder : ℤ → ℤ → ℤ
 remainder a b = a -ℤ b *ℤ quotient a b

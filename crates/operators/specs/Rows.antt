@@ -1,5 +1,5 @@
--- Rows that pin what no law does: the operators at the edges of their types, both roundings, the ends of the ranges, zero divisors, order
--- across signs (01, 'Table and turns', number 35).
+-- Rows that pin what no law does: the operators at the edges of their types, division by the signs of its operands (02, 'Retarders
+-- below zero'), the ends of the ranges, zero divisors, order across signs (01, 'Table and turns', number 35).
 use Prim.Native.Nat.{ℕ}
 use mathlib.Core.Bool.{Bool, true, false}
 use mathlib.Core.List.{List, [], _∷_}
@@ -40,20 +40,25 @@ all (r ∷ rs) = elim (holds r) [ true ↦ all rs | false ↦ false ]
 
 unfoldable pub rows : List Row
 rows =
-    -- / rounds toward zero, and % has the dividend's sign
+    -- / rounds toward minus infinity, and % takes the divisor's sign
     row op-div (plus 7) (plus 2) (value (plus 3))
-    ∷ row op-div (minus 7) (plus 2) (value (minus 3))
-    ∷ row op-div (plus 7) (minus 2) (value (minus 3))
+    ∷ row op-div (minus 7) (plus 2) (value (minus 4))
+    ∷ row op-div (plus 7) (minus 2) (value (minus 4))
     ∷ row op-div (minus 7) (minus 2) (value (plus 3))
     ∷ row op-rem (plus 7) (plus 2) (value (plus 1))
-    ∷ row op-rem (minus 7) (plus 2) (value (minus 1))
-    ∷ row op-rem (plus 7) (minus 2) (value (plus 1))
+    ∷ row op-rem (minus 7) (plus 2) (value (plus 1))
+    ∷ row op-rem (plus 7) (minus 2) (value (minus 1))
     ∷ row op-rem (minus 7) (minus 2) (value (minus 1))
+    ∷ row op-div (minus 1) (plus 2147483647) (value (minus 1))
+    ∷ row op-rem (minus 1) (plus 2147483647) (value (plus 2147483646))
+    ∷ row op-rem (minus 8) (plus 2) (value (plus 0))
     ∷ row op-div (nat-val 7) (nat-val 2) (value (nat-val 3))
     ∷ row op-rem (nat-val 7) (nat-val 2) (value (nat-val 1))
     -- the least Int by -1, and zero divisors
     ∷ row op-div (minus 2147483648) (minus 1) outside
     ∷ row op-rem (minus 2147483648) (minus 1) (value (plus 0))
+    ∷ row op-div (plus 2147483647) (minus 2147483648) (value (minus 1))
+    ∷ row op-rem (plus 2147483647) (minus 2147483648) (value (minus 1))
     ∷ row op-div (plus 5) (plus 0) outside
     ∷ row op-rem (plus 5) (plus 0) outside
     ∷ row op-div (plus 0) (plus 0) outside

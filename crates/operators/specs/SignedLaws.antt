@@ -1,15 +1,15 @@
--- Whole numbers by sign and magnitude: 64 bits hold what the operators of Int compute on the way (01, 'Table and turns'), and the remainder is the machine's.
+-- Whole numbers by sign and magnitude: 64 bits hold what the operators of Int compute on the way (01, 'Table and turns').
 use Prim.Native.Nat.{ℕ, zero, suc, _+_, _-_, _*_, _/_, _%_, _<_, _≤_}
 use native.Mathlib.Omega.{arith}
-use native.Mathlib.Nat.{mul-zero, mul-le-mul, div-add-mod, div-le-self}
+use native.Mathlib.Nat.{mul-le-mul, div-add-mod}
 use mathlib.Core.Path.{_≡_, refl, sym, ap, _∙_}
 use mathlib.Core.Bool.{Bool, true, false, cond}
 use lib.Dec.{ltb, eqb}
-use lib.IntN.{ℤ, pos, negsuc, negℤ, subℕ, _+ℤ_, _-ℤ_, _*ℤ_, negℤ-+ℤ}
-use lib.Signed.{mag, quotZ, remZ, mag-rem}
+use lib.IntN.{ℤ, pos, negsuc, negℤ, subℕ, _+ℤ_, _-ℤ_, _*ℤ_}
+use lib.Signed.{mag, mag-shr}
 use mir.Syntax.{w64}
 use mir.Val.{SFits, toZ, ofZ}
-use mir.ValLaws.{toZ-ofZ, sfits-le}
+use mir.ValLaws.{toZ-ofZ}
 use borrow.Author.Tests.{le-ltb, eqb-true, eqb-false}
 use Rattle.types.specs.Limits.{int-half}
 use Rattle.operators.specs.Operators.{quotient, remainder}
@@ -20,7 +20,7 @@ mag-neg : (n : ℕ) → mag (negℤ (pos n)) ≤ n
 mag-neg zero = omega arith
 mag-neg (suc n) = omega arith
 
-mag-negated : (z : ℤ) → mag (negℤ z) ≤ suc (mag z)
+pub mag-negated : (z : ℤ) → mag (negℤ z) ≤ suc (mag z)
 mag-negated (pos zero) = omega arith
 mag-negated (pos (suc n)) = omega arith
 mag-negated (negsuc n) = omega arith
@@ -32,13 +32,13 @@ mag-sub a b = go (ltb a b)
     go true = omega arith
     go false = omega arith
 
-mag-add : (x y : ℤ) → mag (x +ℤ y) ≤ suc (mag x + mag y)
+pub mag-add : (x y : ℤ) → mag (x +ℤ y) ≤ suc (mag x + mag y)
 mag-add (pos a) (pos b) = omega arith
 mag-add (pos a) (negsuc b) = omega (arith, mag-sub a (suc b))
 mag-add (negsuc a) (pos b) = omega (arith, mag-sub b (suc a))
 mag-add (negsuc a) (negsuc b) = omega arith
 
-mag-mul : (x y : ℤ) → mag (x *ℤ y) ≤ suc (mag x) * suc (mag y)
+pub mag-mul : (x y : ℤ) → mag (x *ℤ y) ≤ suc (mag x) * suc (mag y)
 mag-mul (pos a) (pos b) = mul-le-mul (omega arith) (omega arith)
 mag-mul (pos a) (negsuc b) =
     let h : a * suc b ≤ suc a * suc b = mul-le-mul (omega arith) (omega arith) in omega (arith, mag-neg (a * suc b))
@@ -46,18 +46,17 @@ mag-mul (negsuc a) (pos b) =
     let h : suc a * b ≤ suc a * suc b = mul-le-mul (omega arith) (omega arith) in omega (arith, mag-neg (suc a * b))
 mag-mul (negsuc a) (negsuc b) = omega arith
 
-mag-quot : (x y : ℤ) → mag (quotZ x y) ≤ suc (mag x)
-mag-quot (pos a) (pos b) = omega (arith, div-le-self a b)
-mag-quot (pos a) (negsuc b) = omega (arith, div-le-self a (suc b), mag-neg (a / suc b))
-mag-quot (negsuc a) (pos b) = omega (arith, div-le-self (suc a) b, mag-neg (suc a / b))
-mag-quot (negsuc a) (negsuc b) = omega (arith, div-le-self (suc a) (suc b))
+pub mag-quotient : (x y : ℤ) → mag (quotient x y) ≤ suc (mag x)
+unfolding quotient
+mag-quotient x (pos n) = omega (arith, mag-shr x n)
+mag-quotient x (negsuc n) = omega (arith, mag-shr (negℤ x) (suc n), mag-negated x)
 
 -- a number as it comes back from its 64 bits
 abbrev pub through : ℤ → ℤ
 through z = toZ w64 (ofZ w64 z)
 
--- A number of Int comes back from its 64 bits.
-pub back : {x : ℤ} → mag x < int-half → through x ≡ x
+-- A number of Int, or one beside its ends, comes back from its 64 bits.
+pub back : {x : ℤ} → mag x ≤ int-half → through x ≡ x
 back {x} h = toZ-ofZ w64 x (record { sfits = omega arith })
 
 -- the remainder ---------------------------------------------------------------------
@@ -69,24 +68,10 @@ up m d = go (d * (m / d)) (div-add-mod m d)
     go zero e = ap pos (omega arith)
     go (suc n) e = rw (le-ltb m (suc n) (omega arith)) (ap pos (omega arith))
 
-down : (m d : ℕ) → negℤ (pos m) -ℤ negℤ (pos (d * (m / d))) ≡ negℤ (pos (m % d))
-down m d = sym (negℤ-+ℤ (pos m) (negℤ (pos (d * (m / d))))) ∙ ap negℤ (up m d)
-
-pos-neg : (b q : ℕ) → pos b *ℤ negℤ (pos q) ≡ negℤ (pos (b * q))
-pos-neg b zero = rw (mul-zero b)
-pos-neg b (suc q) = refl
-
-neg-neg : (b q : ℕ) → negsuc b *ℤ negℤ (pos q) ≡ pos (suc b * q)
-neg-neg b zero = rw (mul-zero (suc b))
-neg-neg b (suc q) = refl
-
--- The remainder is the one with the dividend's sign.
-pub remainder-is : (x y : ℤ) → remainder x y ≡ remZ x y
+-- The remainder of two numbers from zero on is theirs.
+pub remainder-nat : (a b : ℕ) → remainder (pos a) (pos b) ≡ pos (a % b)
 unfolding remainder quotient
-remainder-is (pos a) (pos b) = up a b
-remainder-is (pos a) (negsuc b) = rw (neg-neg b (a / suc b)) (up a (suc b))
-remainder-is (negsuc a) (pos b) = rw (pos-neg b (suc a / b)) (down (suc a) b)
-remainder-is (negsuc a) (negsuc b) = down (suc a) (suc b)
+remainder-nat a b = up a b
 
 -- an operation of the machine on two numbers of Int --------------------------------------
 
@@ -131,29 +116,18 @@ module _ {x y : ℤ} (f : SFits w64 x) (g : SFits w64 y) where
         carries _*ℤ_ f g (record { sfits = omega (arith, mag-mul x y) })
 
   -- The operands of a division, as they come back.
-  pub operands : mag x < int-half → (ofZ w64 y ≡ 0 → ⊥) → (mag (through x) < int-half) × (through y ≡ pos 0 → ⊥)
-  operands h k = rw (toZ-ofZ w64 x f, toZ-ofZ w64 y g) (h, λ e. k (ap (ofZ w64) e))
+  pub operands : (mag x < int-half) × (mag y < int-half) → (ofZ w64 y ≡ 0 → ⊥)
+      → (mag (through x) < int-half) × (mag (through y) < int-half) × (through y ≡ pos 0 → ⊥)
+  operands (h, i) k = rw (toZ-ofZ w64 x f, toZ-ofZ w64 y g) (h, i, λ e. k (ap (ofZ w64) e))
 
   -- So do quotient and remainder.
   pub quotient-carries : mag x < int-half → Carries quotient x y
-  unfolding quotient
-  quotient-carries h = carries quotZ f g (record { sfits = omega (arith, mag-quot x y) })
+  quotient-carries h = carries quotient f g (record { sfits = omega (arith, mag-quotient x y) })
 
-  pub remainder-carries : Carries remainder x y
-  remainder-carries = carries remainder f g (rw (remainder-is x y) (sfits-le (mag-rem x y) f))
-
-  -- The machine's division asks for a divisor whose bits are not zero; its quotient and remainder are the definitions'.
-  pub divides : mag x < int-half → (y ≡ pos 0 → ⊥) → (0 < ofZ w64 y) × (SFits w64 (quotZ (through x) (through y)))
-  unfolding quotient
-  divides h k = (positive (ofZ w64 y) refl, quotient-carries h .fits)
-    where
-      positive : (n : ℕ) → ofZ w64 y ≡ n → 0 < n
-      positive zero e = absurd (k (zero-bits g e))
-      positive (suc n) e = omega arith
-
-  pub quotient-said : mag x < int-half → through (quotZ (through x) (through y)) ≡ quotient x y
-  unfolding quotient
-  quotient-said h = quotient-carries h .gives
-
-  pub remainder-said : through (remZ (through x) (through y)) ≡ remainder x y
-  remainder-said = rw (← remainder-is (through x) (through y)) (remainder-carries .gives)
+  pub remainder-carries : (mag x < int-half) × (mag y < int-half) → Carries remainder x y
+  unfolding remainder
+  remainder-carries (h, k) =
+      let q : suc (mag (quotient x y)) ≤ int-half + 1 = omega (arith, mag-quotient x y) in
+      let m : suc (mag y) * suc (mag (quotient x y)) ≤ int-half * (int-half + 1) = mul-le-mul k q in
+      carries remainder f g
+      (record { sfits = omega (arith, mag-add x (negℤ (y *ℤ quotient x y)), mag-negated (y *ℤ quotient x y), mag-mul y (quotient x y)) })

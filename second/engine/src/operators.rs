@@ -1,5 +1,6 @@
 //! The operators 32 to 44: bytes, operand and result types, and results
-//! (01, "Program stream", "Names, types, commands", "Table and turns").
+//! (01, "Program stream", "Names, types, commands", "Table and turns"; Int
+//! division after 02, section 4).
 
 use crate::types::Type;
 
@@ -69,9 +70,8 @@ impl Operator {
     fn over_int(self, a: i32, b: i32) -> Option<u32> {
         let result = match self {
             Times => a.checked_mul(b)?,
-            Divide => a.checked_div(b)?,
-            Remainder if b == 0 => return None,
-            Remainder => a.wrapping_rem(b),
+            Divide => i32::try_from(int_quotient(a, b)?).ok()?,
+            Remainder => i32::try_from(int_remainder(a, b)?).ok()?,
             Plus => a.checked_add(b)?,
             Minus => a.checked_sub(b)?,
             _ => return Some(u32::from(self.holds(&a, &b))),
@@ -99,4 +99,26 @@ impl Operator {
             _ => a > b,
         }
     }
+}
+
+/// The Int quotient, rounded toward minus infinity; `None` for a zero divisor.
+/// In i64, as -2147483648 / -1 lies outside Int: the caller looks at the range.
+fn int_quotient(a: i32, b: i32) -> Option<i64> {
+    let (a, b) = (i64::from(a), i64::from(b));
+    if b == 0 {
+        return None;
+    }
+    let toward_zero = a / b;
+    let exact = toward_zero * b == a;
+    let signs_differ = (a < 0) != (b < 0);
+    // Rounding toward zero went up only where the true quotient is below
+    // zero and not whole.
+    Some(if signs_differ && !exact { toward_zero - 1 } else { toward_zero })
+}
+
+/// The Int remainder, a - b * quotient: zero or of the divisor's sign, so
+/// always inside Int; `None` for a zero divisor.
+fn int_remainder(a: i32, b: i32) -> Option<i64> {
+    let quotient = int_quotient(a, b)?;
+    Some(i64::from(a) - i64::from(b) * quotient)
 }

@@ -1,5 +1,5 @@
 //! Operator results and number 35 (01, "Table and turns" and "Numbers from
-//! the state").
+//! the state"; 02, "Retarders below zero").
 mod common;
 use common::*;
 
@@ -44,11 +44,19 @@ fn int_results() {
 fn int_division() {
     for (a, b, quotient, rest) in [
         (7, 2, 3, 1),
-        (-7, 2, -3, -1),
-        (7, -2, -3, 1),
+        (-7, 2, -4, 1),
+        (7, -2, -4, -1),
         (-7, -2, 3, -1),
+        (-8, 2, -4, 0),
+        (8, -2, -4, 0),
         (MIN, 2, MIN / 2, 0),
+        (MIN, MAX, -2, MAX - 1),
+        (MAX, MIN, -1, -1),
+        (-1, MAX, -1, MAX - 1),
+        (1, MIN, -1, MIN + 1),
+        (MIN, MIN, 1, 0),
         (0, 9, 0, 0),
+        (0, -9, 0, 0),
     ] {
         case(0, 39, a, b, Some(quotient));
         case(0, 40, a, b, Some(rest));
@@ -58,7 +66,28 @@ fn int_division() {
     case(0, 40, 0, 0, None);
     case(0, 39, MIN, -1, None);
     case(0, 40, MIN, -1, Some(0));
-    case(0, 40, MIN, MAX, Some(-1));
+}
+
+/// 02's words at the corners: a is b × quotient and remainder, and the
+/// remainder is 0 or has the divisor's sign and is smaller in amount.
+#[test]
+fn int_division_in_the_papers_words() {
+    let corners = [MIN, MIN + 1, -7, -2, -1, 0, 1, 2, 7, MAX - 1, MAX];
+    let apply = |byte, a: i64, b: i64| {
+        operator(byte).apply(true, a as u32, b as u32).map(|word| i64::from(word.cast_signed()))
+    };
+    for a in corners {
+        assert_eq!((apply(39, a, 0), apply(40, a, 0)), (None, None));
+        for b in corners.into_iter().filter(|&b| b != 0) {
+            let rest = apply(40, a, b).unwrap();
+            assert!(rest == 0 || (rest < 0) == (b < 0), "{a} % {b} is {rest}");
+            assert!(rest.abs() < b.abs(), "{a} % {b} is {rest}");
+            match apply(39, a, b) {
+                Some(quotient) => assert_eq!(b * quotient + rest, a, "{a} / {b} is {quotient}"),
+                None => assert_eq!((a, b), (MIN, -1)),
+            }
+        }
+    }
 }
 
 #[test]

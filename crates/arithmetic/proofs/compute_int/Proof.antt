@@ -71,7 +71,7 @@ returns-8 c =
 quotient-of-requires : tie.Need-quotient-of-requires
 quotient-of-requires c κs =
     let at-if5 = c .before .before .before .before in let start′ = start (at-if5 .before) in
-    operands (start′ .fits .x) (start′ .fits .y) (start′ .pre .0) (c .if9 .left)
+    operands (start′ .fits .x) (start′ .fits .y) (start′ .pre) (c .if9 .left)
 
 returns-9 : tie.Need-returns-9
 unfolding op-of compute answer
@@ -95,7 +95,7 @@ returns-10 c =
 remainder-of-requires : tie.Need-remainder-of-requires
 remainder-of-requires c κs =
     let start′ = start₂ (c .before .before) in
-    operands (start′ .fits .x) (start′ .fits .y) (start′ .pre .0) (c .if11 .left)
+    operands (start′ .fits .x) (start′ .fits .y) (start′ .pre) (c .if11 .left)
 
 returns-11 : tie.Need-returns-11
 unfolding op-of compute answer
@@ -104,7 +104,7 @@ returns-11 c =
     c .int-answer3 .ensures
     ∙ rw (
       c .before .remainder-of .ensures,
-      remainder-carries (start′ .fits .x) (start′ .fits .y) .gives,
+      remainder-carries (start′ .fits .x) (start′ .fits .y) (start′ .pre) .gives,
       at-if11 .before .if10 .taken,
       nonzero (start′ .args .y) _ (λ e. (at-if11 .if11 .left) (ap (ofZ w64) e)),
     )

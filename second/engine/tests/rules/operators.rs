@@ -30,9 +30,15 @@ fn arithmetic(byte: u8, a: i64, b: i64) -> Option<i128> {
     match byte {
         38 => Some(a * b),
         39 | 40 if b == 0 => None,
-        39 => Some(a / b),
-        40 => Some(a - b * (a / b)),
+        39 => Some(floor(a, b)),
+        40 => Some(a - b * floor(a, b)),
         41 => Some(a + b),
         _ => Some(a - b),
     }
+}
+
+/// The greatest whole number not above a / b; a divisor below zero turns
+/// both round.
+fn floor(a: i128, b: i128) -> i128 {
+    if b < 0 { (-a).div_euclid(-b) } else { a.div_euclid(b) }
 }

@@ -42,7 +42,7 @@ fn rows() -> Vec<Case> {
 
 /// Every arithmetic and order operator on values at the edges.
 fn arithmetic() -> Vec<Case> {
-    let pairs: [(u32, u32); 12] = [
+    let pairs: [(u32, u32); 15] = [
         (0, 0),
         (7, 0),
         (0x8000_0000, 1),
@@ -55,11 +55,14 @@ fn arithmetic() -> Vec<Case> {
         (0xFFFF_0000, 32_768),
         (3, 5),
         (0xFFFF_FFFF, 1),
+        (0xFFFF_FFFF, 0x7FFF_FFFF),
+        (0x7FFF_FFFF, 0x8000_0000),
+        (0xFFFF_FFF8, 2),
     ];
     let mut cases = Vec::new();
     for of in [0u8, 1] {
         for operator in 32..=42u8 {
-            let (given, tried) = if operator < 38 { (2, 4) } else { (of, 12) };
+            let (given, tried) = if operator < 38 { (2, 4) } else { (of, pairs.len()) };
             for &(left, right) in &pairs[..tried] {
                 let mut program = vec![1, 1, given, 1, 0, 1, 3, 1, 0, operator];
                 for value in [left, right] {
