@@ -34,13 +34,13 @@ Blocked n = n ≡ nested
 -- Schedules ----------------------------------------------------------------------
 
 module _ {s : Sched} {k : ℕ} where
-  past-start : {a : StepCall} → Open (start a s) k → Open s k
+  pub past-start : {a : StepCall} → Open (start a s) k → Open s k
   past-start (open-start o) = o
 
-  past-fix : {f : Sched} → Open (fixpoint f s) k → (Unbegun f) × (Open s k)
+  pub past-fix : {f : Sched} → Open (fixpoint f s) k → (Unbegun f) × (Open s k)
   past-fix (open-fix u o) = (u, o)
 
-  past-active : {f : Sched} → Open (active f s) (suc k) → (Unbegun f) × (Open s k)
+  pub past-active : {f : Sched} → Open (active f s) (suc k) → (Unbegun f) × (Open s k)
   past-active (open-active u o) = (u, o)
 
 -- a Fix that has begun has its entry
@@ -48,7 +48,7 @@ pub active-open : {f s : Sched} {k : ℕ} → Open (active f s) k → k ≡ 0 �
 active-open (open-active u o) e = omega arith
 
 -- what has not begun stands before an open schedule
-open-before : (f : Sched) {s : Sched} {k : ℕ} → Unbegun f → Open s k → Open (before f s) k
+pub open-before : (f : Sched) {s : Sched} {k : ℕ} → Unbegun f → Open s k → Open (before f s) k
 unfolding before Unbegun
 open-before done u o = o
 open-before (start a f) u o = open-start (open-before f u o)
