@@ -2,6 +2,7 @@
 -- program on an accepted table; and the same with what the entry answers.
 use Prim.Native.Nat.{ℕ, _<_, _≤_}
 use mathlib.Core.Path.{_≡_}
+use mathlib.Core.Logic.{_⊎_}
 use mathlib.Core.Bool.{Bool}
 use mathlib.Core.List.{List}
 use lib.ListN.{length}
@@ -18,6 +19,7 @@ use Rattle.run.specs.Input.{run-order, Runnable}
 use Rattle.run.specs.InputLaws.{begins-none}
 use Rattle.sound.specs.Needs.{Right}
 use Rattle.sound.specs.NeverStuck.{Demand3}
+use Rattle.sound.specs.NeverStuckLaws.{never-stuck-numbers}
 use Rattle.claims.specs.Call.{Call}
 use Rattle.claims.specs.JoinLaws.{ready-call, passes-right, passes-entries}
 
@@ -48,3 +50,8 @@ module _ (x y es out list : List ℕ) where
   pub call-none : NoneOf (run-order x y es out list)
       → (p : Program) × (rs : List Record) × Runnable x y es out list p rs × Call x y es out list p rs
   call-none f = let (p, rs, e, r) = begins-none x y es out list .1 f in (p, rs, r, ready-call x y es out list p rs r)
+
+-- "A run then ends or stops with 33, 34 or 35" (02 §9): no other number
+pub no-other-number : {p : Program} (rs : List Record) {es : List ℕ} (d : Demand3 p rs es)
+    → (d .number ≡ 0) ⊎ ((d .number ≡ 33) ⊎ ((d .number ≡ 34) ⊎ (d .number ≡ 35)))
+no-other-number rs d = never-stuck-numbers d
