@@ -11,8 +11,8 @@ use Rattle.blocks.specs.Images.{image, pieces}
 use Rattle.program.specs.Tree.{Program}
 use Rattle.commands.specs.Bounds.{program-depth, Within}
 use Rattle.read_params.specs.ParamsWays.{from-start}
-use Rattle.emit.specs.ProgramWords.{program-words as emitted-words}
-use Rattle.emit.specs.ProgramLaws.{program-length}
+use Rattle.commands.specs.ProgramWords.{program-words}
+use Rattle.commands.specs.ProgramWordsLaws.{program-length}
 use Rattle.table.specs.Table.{Record}
 use Rattle.machine.specs.Machine.{Machine}
 use Rattle.run.specs.Run.{Outcome.stopped, run}
@@ -29,7 +29,6 @@ use Rattle.layout.specs.declared.Numbers.{Numbers}
 use Rattle.layout.specs.State.{State, state-of, fresh}
 use Rattle.memory.specs.Plan.{At}
 use Rattle.memory.specs.BoundedLaws.{accepted-bounded}
-use Rattle.checker.specs.CheckLaws.{same-words}
 use Rattle.compile.specs.Spans.{span-places}
 use Rattle.compile.specs.Prepared.{Preparable, Prepared, PreparedProgram}
 use Rattle.table_write.specs.Written.{memory-stream, memory-blocks, memory-image, Filled}
@@ -71,9 +70,7 @@ module _ {s counts : List ℕ} {at depth n : ℕ} {heads cells : List ℕ} {p : 
     pub seated-listed : max-commands ≤ length list → list′ ≡ listed p list
     unfolding listed Within
     seated-listed places =
-        prepared .words
-        ∙ from-start list (emitted-words p) (omega (arith, program-length p, seated-accepted .1 .1))
-        ∙ rw (same-words p)
+        prepared .words ∙ from-start list (program-words p) (omega (arith, program-length p, seated-accepted .1 .1))
 
     -- memory is ready for a machine with fresh numbers
     pub seated-ready : {m : Numbers} → m ≡ fresh n → length spans′ ≡ span-places → Ready p counts list′ codes′ spans′ (begin p rs) (state-of m heads cells)
