@@ -59,5 +59,5 @@ accepted-firm {p} a = record {
   sized = λ k n {b} e.
       rw (length-map (p .params) length) at (noted-sized (map length (p .params)) (context p k b) b (step-counted p (a .0) k n e));
   few = λ k. params-counted p (a .0) k .0;
-  levels = schedule-counted p (a .0);
+  levels = omega (arith, schedule-counted p (a .0));
 }

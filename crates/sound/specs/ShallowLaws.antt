@@ -91,7 +91,7 @@ open-one (open-active u a) (open-active v b) = ap suc (open-one a b)
 -- a machine with the invariant is at a shallow schedule
 pub good-shallow : {p : Program} → Firm p → {m : Machine} → Good p m → Shallow (m .sched) (length (m .stability))
 good-shallow {p} firm {m} g =
-    let (k, o, h) = left-shallow (0, open-items (p .schedule), shallow-items (p .schedule) (firm .levels)) (g .left) in
+    let (k, o, h) = left-shallow (0, open-items (p .schedule), shallow-items (p .schedule) (omega (arith, firm .levels))) (g .left) in
     subst (Shallow (m .sched)) (open-one o (g .opened)) h
 
 -- Entries ------------------------------------------------------------------------
