@@ -184,20 +184,26 @@ module _ {list counts es : List ℕ} {s₀ : Going} {h₀ c₀ : List ℕ} where
         abbrev After : Going → Type 0
         After r = Kept list counts es s₀ h₀ c₀ r (set rs l (r .actor)) h′ c′
 
+        -- no turn is due behind it
+        rests-after : (n i : ℕ) (a : Record) (x : ℕ) → s₀ .taken ≤ i → i ≤ length es → (x ≡ 0 → s₀ .taken < i)
+            → ((items spans : List ℕ) (z : State) → Gone counts list items spans es z (s₀ .taken) (memory-of s₀ h₀ c₀) (s₀ .holding)
+            → Went counts list items spans es z (rests m n i a x) y₀)
+            → After (rests m n i a x)
+        rests-after n i a x since within more went = record {
+          ready = λ w. absurd (false≢true w);
+          since = since;
+          within = within;
+          more = λ w. more;
+          gone = λ w. absurd (false≢true w);
+          went = λ w. went;
+        }
+
         -- it was refused
         refused-after : (m .numbers .number ≡ 0 → ⊥) → After (rests m (s .holding) (s .taken) (s .actor) (m .numbers .number))
         refused-after e =
-            let k = t₀ .due .byte in
-            record {
-              ready = λ w. absurd (false≢true w);
-              since = kept .since;
-              within = omega arith;
-              more = λ w n. absurd (e n);
-              gone = λ w. absurd (false≢true w);
-              went = λ w items spans z g. record {
-                nobody = λ n. absurd (e n);
-                over = λ n p x r. ends-failed (kept .gone d items spans z g p x r) (t₀ .due .someone) (t₀ .due .byte) acted e;
-              };
+            rests-after (s .holding) (s .taken) (s .actor) (m .numbers .number) (kept .since) (kept .within) (λ n. absurd (e n)) λ items spans z g. record {
+              nobody = λ n. absurd (e n);
+              over = λ n p x r. ends-failed (kept .gone d items spans z g p x r) (t₀ .due .someone) (t₀ .due .byte) acted e;
             }
 
         -- or taken
@@ -217,36 +223,24 @@ module _ {list counts es : List ℕ} {s₀ : Going} {h₀ c₀ : List ℕ} where
           behind-it : Behind counts list (t₀ .items) (t₀ .spans) l z₀ y₀ rs
           behind-it = begun-behind (t₀ .begun) someone byte is-picked a e (t₀ .recorded)
 
+          later : s₀ .taken < s .taken + 1
+          later = let b = kept .since in omega arith
+
           -- nobody is left
           nobody-after : n₀ ≡ 0 → After (rests m n₀ (s .taken + 1) a₀ (m .numbers .number))
           nobody-after n =
-              let k = t₀ .due .byte in
-              let b = kept .since in
-              record {
-                ready = λ w. absurd (false≢true w);
-                since = omega arith;
-                within = omega arith;
-                more = λ w x. omega arith;
-                gone = λ w. absurd (false≢true w);
-                went = λ w items spans z g. record { nobody = λ x. (n, come items spans z g); over = λ x. absurd (x e) };
+              rests-after n₀ (s .taken + 1) a₀ (m .numbers .number) (omega (arith, later)) (omega (arith, t₀ .due .byte)) (λ x. later) λ items spans z g. record {
+                nobody = λ x. (n, come items spans z g);
+                over = λ x. absurd (x e);
               }
 
           module _ (n : 0 < n₀) where
             -- no byte is
             last-after : length es ≤ s .taken + 1 → After (rests m n₀ (s .taken + 1) a₀ out-of-turns)
             last-after q =
-                let k = t₀ .due .byte in
-                let b = kept .since in
-                record {
-                  ready = λ w. absurd (false≢true w);
-                  since = omega arith;
-                  within = omega arith;
-                  more = λ w x. omega arith;
-                  gone = λ w. absurd (false≢true w);
-                  went = λ w items spans z g. record {
-                    nobody = λ x. absurd (omega arith);
-                    over = λ x p u r. ends-lasting (runs-held (come items spans z g p u r) n) n (omega arith);
-                  };
+                rests-after n₀ (s .taken + 1) a₀ out-of-turns (omega (arith, later)) (omega (arith, t₀ .due .byte)) (λ x. later) λ items spans z g. record {
+                  nobody = λ x. absurd (omega arith);
+                  over = λ x p u r. ends-lasting (runs-held (come items spans z g p u r) n) n (omega (arith, t₀ .due .byte));
                 }
 
             -- the next turn is due
