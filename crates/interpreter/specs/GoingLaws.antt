@@ -95,7 +95,9 @@ module _ {counts list items spans : List ℕ} {z : State} (g : Begun counts list
       go (turned {m′ = m′} r′ u v) = record {
         begun = record { program = g .program; machine = m′; ready = r′ };
         counted = rw q (sym (counted (g .ready) b e r′ u));
-        recorded = records-behind (g .ready) r′ l (ap (λ (x : ℕ). command (g .program) x (g .machine)) (q ∙ picks (g .machine) (g .ready .stands) e) ∙ u) (begun-fits .chosen) f;
+        recorded =
+            records-behind (g .ready) r′ l (ap (λ (x : ℕ). command (g .program) x (g .machine)) (q ∙ picks (g .machine) (g .ready .stands) e) ∙ u)
+            (begun-fits .chosen) f;
       }
       go (failed k d v) = absurd (number-some d (sym (ap (λ (x : State). x .machine .number) k) ∙ c))
 
@@ -226,10 +228,13 @@ module _ {list counts es : List ℕ} {s₀ : Going} {h₀ c₀ : List ℕ} where
           later : s₀ .taken < s .taken + 1
           later = let b = kept .since in omega arith
 
+          bytes : s .taken + 1 ≤ length es
+          bytes = let b = t₀ .due .byte in omega arith
+
           -- nobody is left
           nobody-after : n₀ ≡ 0 → After (rests m n₀ (s .taken + 1) a₀ (m .numbers .number))
           nobody-after n =
-              rests-after n₀ (s .taken + 1) a₀ (m .numbers .number) (omega (arith, later)) (omega (arith, t₀ .due .byte)) (λ x. later) λ items spans z g. record {
+              rests-after n₀ (s .taken + 1) a₀ (m .numbers .number) (omega (arith, later)) bytes (λ x. later) λ items spans z g. record {
                 nobody = λ x. (n, come items spans z g);
                 over = λ x. absurd (x e);
               }
@@ -238,9 +243,9 @@ module _ {list counts es : List ℕ} {s₀ : Going} {h₀ c₀ : List ℕ} where
             -- no byte is
             last-after : length es ≤ s .taken + 1 → After (rests m n₀ (s .taken + 1) a₀ out-of-turns)
             last-after q =
-                rests-after n₀ (s .taken + 1) a₀ out-of-turns (omega (arith, later)) (omega (arith, t₀ .due .byte)) (λ x. later) λ items spans z g. record {
+                rests-after n₀ (s .taken + 1) a₀ out-of-turns (omega (arith, later)) bytes (λ x. later) λ items spans z g. record {
                   nobody = λ x. absurd (omega arith);
-                  over = λ x p u r. ends-lasting (runs-held (come items spans z g p u r) n) n (omega (arith, t₀ .due .byte));
+                  over = λ x p u r. ends-lasting (runs-held (come items spans z g p u r) n) n (omega (arith, bytes));
                 }
 
             -- the next turn is due

@@ -228,7 +228,10 @@ module _ {M : Type 1} (𝓤 : URA M) (H : Heap 𝓤) (A : Atoms 𝓤) (W : Given
   abbrev OC : List ℕ → ℕ → Fml
   OC c n = MutSlice (named 3) κ₃ u64 .own (cs γ₃ c) (vc n ∷ [])
 
-  abbrev args : RefT (List ℕ) → RefT (List ℕ) → Going × (List Record × (RefT (List ℕ) × (RefT (List ℕ) × (RefT (List ℕ) × (RefT (List ℕ) × (RefT (List ℕ) × Unit {0}))))))
+  abbrev Slice : Type 0
+  Slice = RefT (List ℕ)
+
+  abbrev args : Slice → Slice → Going × (List Record × (Slice × (Slice × (Slice × (Slice × (Slice × Unit {0}))))))
   args h c = (s₀, (rs₀, (L, (B, (h, (c, (E, tt)))))))
 
   abbrev vals : List Val × (List Val × (List Val × (List Val × (List Val × (List Val × (List Val × Unit {0}))))))
@@ -361,7 +364,8 @@ module _ {M : Type 1} (𝓤 : URA M) (H : Heap 𝓤) (A : Atoms 𝓤) (W : Given
   is-actor s is = LL.owed T.the-type T′.the-laws s _ is .1 .1 .1 .1 .1 .1 .0
 
   module _ (𝓣 : Tables 𝓤 H) (fm : FmC 𝓤 H (W .laws) (𝓣 .C)) (known-holder : Triple 𝓤 (𝓣 .C #holders·holder) (Holder 𝓤 H A mem run))
-      (known-turn : Triple 𝓤 (𝓣 .C #interpreter·turns·turn) (Turn 𝓤 H A mem run)) (l₀ l₁ l₂ l₃ l₄ l₅ l₆ l₇ l₈ l₉ l₁₀ l₁₁ l₁₂ l₁₃ l₁₄ l₁₅ l₁₆ l₁₇ l₁₈ l₁₉ : ℕ) where
+      (known-turn : Triple 𝓤 (𝓣 .C #interpreter·turns·turn) (Turn 𝓤 H A mem run))
+      (l₀ l₁ l₂ l₃ l₄ l₅ l₆ l₇ l₈ l₉ l₁₀ l₁₁ l₁₂ l₁₃ l₁₄ l₁₅ l₁₆ l₁₇ l₁₈ l₁₉ : ℕ) where
     abbrev C : Calls 𝓤 H
     C = 𝓣 .C
 
@@ -369,7 +373,9 @@ module _ {M : Type 1} (𝓤 : URA M) (H : Heap 𝓤) (A : Atoms 𝓤) (W : Given
     Λ = 𝓣 .Λ
 
     abbrev En : Env 𝓤 H
-    En = (going, l₀) ∷ (going, l₁) ∷ (arr, l₂) ∷ (shr 0 w64, l₃) ∷ (shr 1 w8, l₄) ∷ (mutable 2, l₅) ∷ (mutable 3, l₆) ∷ (shr 4 w8, l₇) ∷ (going, l₈) ∷ (arr, l₉) ∷ (word, l₁₀) ∷ (tyBool, l₁₁) ∷ (borrowed, l₁₂) ∷ (lent, l₁₃) ∷ (again, l₁₄) ∷ (agains, l₁₅) ∷ (again, l₁₆) ∷ (agains, l₁₇) ∷ (tyPtr, l₁₈) ∷ (tyPtr, l₁₉) ∷ []
+    En = (going, l₀) ∷ (going, l₁) ∷ (arr, l₂) ∷ (shr 0 w64, l₃) ∷ (shr 1 w8, l₄) ∷ (mutable 2, l₅) ∷ (mutable 3, l₆) ∷ (shr 4 w8, l₇) ∷ (going, l₈) ∷
+        (arr, l₉) ∷ (word, l₁₀) ∷ (tyBool, l₁₁) ∷ (borrowed, l₁₂) ∷ (lent, l₁₃) ∷ (again, l₁₄) ∷ (agains, l₁₅) ∷
+        (again, l₁₆) ∷ (agains, l₁₇) ∷ (tyPtr, l₁₈) ∷ (tyPtr, l₁₉) ∷ []
 
     -- the records; heads and cells with their tokens; the slices that are only read, with theirs; the run; the parameters; open rooms
     abbrev At : Upto → List (Item 𝓤)
@@ -466,10 +472,12 @@ module _ {M : Type 1} (𝓤 : URA M) (H : Heap 𝓤) (A : Atoms 𝓤) (W : Given
         split ! $ move ! (1 ∷ []) $ split ! $ move ! (1 ∷ []) $ split ! $ move ! (1 ∷ []) $ split ! $ move ! (1 ∷ []) $ split ! $
         -- [bytes' token; true; μ; ν; counts' token; list's token; cells' last; true; heads' last; bytes; counts; list; what is kept; the records; _8; ..]
         move ! (3 ∷ []) $ lft-end ! tt $ move ! (0 ∷ 13 ∷ 8 ∷ []) $
-        use3 W (later (‵ (OH (zs .1 .1 .1 .1 .0) (length (i .h))) ⊛ ‵ (flft κ₂ q₂))) (comes-back usize κ₂ (ν ∷ []) q₂ γ₂ b₂ o₂ 𝓤 H A W (named 2) (named 2) (i .h) δ
+        use3 W (later (‵ (OH (zs .1 .1 .1 .1 .0) (length (i .h))) ⊛ ‵ (flft κ₂ q₂)))
+        (comes-back usize κ₂ (ν ∷ []) q₂ γ₂ b₂ o₂ 𝓤 H A W (named 2) (named 2) (i .h) δ
         (zs .1 .1 .1 .1 .0) room-h eh) $ await ! tt $ split ! $
         move ! (4 ∷ []) $ lft-end ! tt $ move ! (0 ∷ 12 ∷ 7 ∷ []) $
-        use3 W (later (‵ (OC (zs .1 .1 .1 .1 .1 .0) (length (i .c))) ⊛ ‵ (flft κ₃ q₃))) (comes-back u64 κ₃ (μ ∷ []) q₃ γ₃ b₃ o₃ 𝓤 H A W (named 3) (named 3) (i .c) ε
+        use3 W (later (‵ (OC (zs .1 .1 .1 .1 .1 .0) (length (i .c))) ⊛ ‵ (flft κ₃ q₃)))
+        (comes-back u64 κ₃ (μ ∷ []) q₃ γ₃ b₃ o₃ 𝓤 H A W (named 3) (named 3) (i .c) ε
         (zs .1 .1 .1 .1 .1 .0) room-c ec) $ await ! tt $ split ! $
         -- [cells; its token; heads; its token; bytes' token; true; counts' token; list's token; true; bytes; counts; list; the records; _8; ..]
         assigns ! (addr ! (from ! (stop !))) (from ! (stop !)) (init ! 30 refl (tt, tt)) $
@@ -494,7 +502,8 @@ module _ {M : Type 1} (𝓤 : URA M) (H : Heap 𝓤) (A : Atoms 𝓤) (W : Given
         rewrite ! 3 (λ (m : ℕ). ‵ (OH (zs .1 .1 .1 .1 .0) m)) (sym eh) refl $ rewrite ! 1 (λ (m : ℕ). ‵ (OC (zs .1 .1 .1 .1 .1 .0) m)) (sym ec) refl $
         rewrite ! 16 (λ (m : ℕ). ‵ (fat fullShare (mutable 2) l₅ 0 (vh m))) (sym eh) refl $
         rewrite ! 17 (λ (m : ℕ). ‵ (fat fullShare (mutable 3) l₆ 0 (vc m))) (sym ec) refl $
-        forget ! 22 refl $ forget ! 23 refl $ forget ! 24 refl $ forget ! 25 refl $ forget ! 26 refl $ forget ! 27 refl $ forget ! 28 refl $ forget ! 29 refl $ forget ! 30 refl $ forget ! 31 refl $
+        forget ! 22 refl $ forget ! 23 refl $ forget ! 24 refl $ forget ! 25 refl $ forget ! 26 refl $ forget ! 27 refl $
+        forget ! 28 refl $ forget ! 29 refl $ forget ! 30 refl $ forget ! 31 refl $
         keep ! (0 ∷ 3 ∷ 1 ∷ 4 ∷ 2 ∷ 12 ∷ 11 ∷ 10 ∷ 8 ∷ 7 ∷ 5 ∷ 13 ∷ 14 ∷ 15 ∷ 16 ∷ 17 ∷ 18 ∷ 19 ∷ 20 ∷ 21 ∷ 22 ∷ 23 ∷ 24 ∷ 25 ∷ 26 ∷ 27 ∷ 28 ∷ 29 ∷
         30 ∷ 31 ∷ 32 ∷ 33 ∷ 34 ∷ 35 ∷ 36 ∷ 37 ∷ 38 ∷ 39 ∷ 40 ∷ 41 ∷ 42 ∷ 43 ∷ 44 ∷ 45 ∷ 46 ∷ 47 ∷ 48 ∷ 49 ∷ 50 ∷ 51 ∷ []) $
         turns-again ! Nearer At i (next due found r v ir zs eh ec took) (kept-less (i .kept) (is-true (i .s .due) due) found took))))))))))))))))))))
