@@ -130,11 +130,11 @@ pub fn run(
     let n = p.length;
     let k = p.structs as usize;
     let end = types::MAX_PARAMS * k;
-    let s = &stream[..n];
     let cs = &counts[..k];
     let ts = &types[..end];
-    // 9 to 12
-    let read = table_read::read_image(table, cs, ts, &mut heads, &mut cells);
+    // 9 to 12; behind an accepted program the buffer has room for a table
+    let rest = &mut stream[n..];
+    let read = table_read::read_image(table, cs, ts, rest, &mut heads, &mut cells);
     let TableRead::Instances(count) = read else {
         return refused(table_refusal(read));
     };
@@ -151,6 +151,7 @@ pub fn run(
     }
     let numbers = layout::fresh(count);
     let seat = Seat { at: p.at, numbers };
+    let s = &stream[..n];
     let ran = played(s, cs, seat, &mut heads, &mut cells, turns, list);
     reported(cs, &heads, &cells, ran, p.depth, output)
 }
