@@ -3,7 +3,7 @@ use Prim.Native.Nat.{ℕ, _-_, _*_, _≤_}
 use native.Mathlib.Omega.{arith}
 use mathlib.Core.Path.{_≡_, sym, _∙_}
 use mathlib.Core.List.{List, _++_}
-use lib.ListN.{length, take, drop, length-append, length-replicate}
+use lib.ListN.{length, take, drop, length-append, length-drop, length-replicate}
 use lib.Seq.{length-take-le, take-at}
 use Rattle.types.specs.Limits.{max-params}
 use Rattle.program.specs.Tree.{Program}
@@ -165,22 +165,44 @@ first c = begin (the-program c) (seated (the-read c) .0)
 
 -- the buffer holds the program's stream as before, and behind it what the table left there
 abbrev left-of : tie.After-fresh → List ℕ
-left-of c =
-    let l = the-loaded (the-read c) in
-    at-read (the-read c) .read-image .last .1 .1 .1 .0 ++ drop (32256 - answered l .length) (drop (answered l .length) (at-program l .program .last .1 .0))
+left-of c = at-read (the-read c) .read-image .last .1 .1 .1 .0
 
-stream-kept : (c : tie.After-fresh) → take (answered (the-loaded (the-read c)) .length) (stream-of (the-loaded (the-read c)) ++ left-of c) ≡ stream-of (the-loaded (the-read c))
-stream-kept c = let l = the-loaded (the-read c) in take-at (stream-of l) (left-of c) (answered l .length) (length-take-le _ _ (fits l))
+abbrev beyond : tie.After-loaded → List ℕ
+beyond c = drop (32256 - answered c .length) (drop (answered c .length) (at-program c .program .last .1 .0))
+
+abbrev buffer-of : tie.After-fresh → List ℕ
+buffer-of c = let l = the-loaded (the-read c) in stream-of l ++ (left-of c ++ beyond l)
+
+stream-length : (c : tie.After-loaded) → length (stream-of c) ≡ answered c .length
+stream-length c = length-take-le _ _ (fits c)
+
+stream-kept : (c : tie.After-fresh) → take (answered (the-loaded (the-read c)) .length) (buffer-of c) ≡ stream-of (the-loaded (the-read c))
+stream-kept c = let l = the-loaded (the-read c) in take-at (stream-of l) (left-of c ++ beyond l) (answered l .length) (stream-length l)
+
+buffer-length : (c : tie.After-fresh) → length (buffer-of c) ≡ 32256
+buffer-length c =
+    let r = the-read c in let l = the-loaded r in let n = answered l .length in let xs = at-program l .program .last .1 .0 in
+    let at-lent = at-read r .before .before .before in
+    omega (
+      arith,
+      length-append (stream-of l) (left-of c ++ beyond l),
+      length-append (left-of c) (beyond l),
+      stream-length l,
+      fits l,
+      length-drop (32256 - n) (drop n xs),
+      length-drop n xs,
+      at-program l .program .kept .1 .0,
+      at-read r .read-image .kept .1 .1 .1 .0,
+      at-lent .stream3 .given .1,
+    )
 
 array-share-prefix-stream : tie.Need-array-share-prefix-stream
-array-share-prefix-stream c =
-    let l = the-loaded (the-read c) in
-    omega (arith, length-append (stream-of l) (left-of c), length-take-le (answered l .length) (at-program l .program .last .1 .0) (fits l))
+array-share-prefix-stream c = omega (arith, buffer-length c, length-fits _ _ (loads (the-loaded (the-read c))))
 
 slice-aggregate-s : tie.Need-slice-aggregate-s
 slice-aggregate-s c = sym (length-take-le _ _ (array-share-prefix-stream (c .before)))
 
-seats : (c : tie.After-fresh) → Seated (take (answered (the-loaded (the-read c)) .length) (stream-of (the-loaded (the-read c)) ++ left-of c))
+seats : (c : tie.After-fresh) → Seated (take (answered (the-loaded (the-read c)) .length) (buffer-of c))
     (counts-of (the-loaded (the-read c))) (seat-of (answered (the-loaded (the-read c)) .at) (c .fresh .result)) (heads-of (the-read c)) (cells-of (the-read c))
     (the-program c) (first c)
 seats c = seated-by (stream-kept c) (seated (the-read c) .2 (c .fresh .result) (c .fresh .ensures))
@@ -199,18 +221,23 @@ plays : (c : tie.After-played) → Played (counts-of (the-loaded (the-read (the-
     (state-of (c .played .result .machine .numbers) (c .played .last .1 .1 .1 .0) (c .played .last .1 .1 .1 .1 .0)) (c .played .last .1 .1 .1 .1 .1 .1 .0)
 plays c = let f = the-fresh c in c .played .ensures (the-program f) (first f) (seats f)
 
-abbrev at-played : tie.After-reported-arg → tie.After-played
-at-played c = let at-list = c .before .before .before .before in at-list .before .before .before
+abbrev at-played : tie.After-cells5 → tie.After-played
+at-played c = let at-list = c .before .before .before in at-list .before .before .before
+
+slice-aggregate-reported-3 : tie.Need-slice-aggregate-reported-3
+slice-aggregate-reported-3 c = omega (arith, buffer-length (the-fresh (at-played (c .before))))
 
 reported-requires : tie.Need-reported-requires
 reported-requires c κs =
-    let d = at-played c in let at-else = the-fresh d .before in let a = admits (the-loaded (the-read (the-fresh d))) in
-    let nulls = played-nulls a (plays d) in
-    (played-filled a (plays d), ((nulls, omega (arith, played-turns a (plays d), at-else .if3 .left)), at-else .before .before .if1 .left))
+    let d = at-played (c .before .before) in let f = the-fresh d in let at-else = f .before in let a = admits (the-loaded (the-read f)) in
+    let nulls = played-nulls a (plays d) in (
+      played-filled a (plays d),
+      ((nulls, omega (arith, played-turns a (plays d), at-else .if3 .left)), (omega (arith, buffer-length f), at-else .before .before .if1 .left)),
+    )
 
 returns-6 : tie.Need-returns-6
 returns-6 c =
-    let at-reported = c .before .before in let d = at-played (at-reported .before) in let at-else = the-fresh d .before in
+    let at-reported = c .before .before .before in let d = at-played (at-reported .before .before .before) in let at-else = the-fresh d .before in
     let r = the-read (the-fresh d) in let l = the-loaded r in let args = the-start r .args in
     let came = played-came (admits l) (plays d) (depth-is _ _ (loads l)) _ _ (at-reported .reported .ensures .0) (at-reported .reported .ensures .1) in
     entry-answers (args .program .now) (args .table .now) (args .turns .now) (args .output .now) (args .list .now)
@@ -224,5 +251,5 @@ run-spec =
     array-share-prefix-types slice-aggregate-ts part-stream-start part-stream-start part-stream-end (λ c. search needs) (λ c. search needs)
     read-image-requires (λ c. search needs) (λ c. search needs) (λ c κs. search needs) (λ c κs. search needs) returns-2 (λ c κs. search needs)
     returns-3 (λ c κs. search needs) returns-4 (λ c κs. search needs) returns-5 (λ c κs. search needs) array-share-prefix-stream slice-aggregate-s
-    (λ c. search needs) (λ c. search needs) played-requires (λ c. search needs) (λ c. search needs) reported-requires (λ c. search needs)
+    (λ c. search needs) (λ c. search needs) played-requires (λ c. search needs) (λ c. search needs) slice-aggregate-reported-3 reported-requires (λ c. search needs)
     (λ c. search needs) returns-6)
