@@ -40,7 +40,7 @@ fn behind(
 {
     let structs = counts.len();
     nulls::nulls(counts, types, heads, cells);
-    let r = reading::records(s, counts, types, n, 2, heads, cells, structs);
+    let r = reading::records(s, counts, types, n, 2, heads, cells);
     let PlaceRead::Place(m) = r else {
         return TableRead::Refused(reading::place_refusal(r));
     };

@@ -36,8 +36,8 @@ slice-aggregate-read c = sym (length-take-le _ _ (array-share-prefix-buffer (c .
 
 returns-2 : tie.Need-returns-2
 returns-2 c =
-    let at-read = c .before .before .before .before in
-    let at-r = at-read .before .before .before .before .before in let told = at-r .r .given .1 in let at-open′ = at-open at-r in
+    let at-read = c .before .before .before .before in let at-part = at-read .before .before .before in
+    let at-r = at-part .before .before in let told = at-r .r .given .1 in let at-open′ = at-open at-r in
     let args = start at-open′ .args in let y = args .image .now in
     let h = opened-stream _ y _ (sym (at-open′ .open-image .ensures .0) ∙ told) in
     let f : take (at-r .r .given .0 .0) (at-open′ .open-image .last .1 .1 .0) ≡ stream y =
