@@ -3,7 +3,7 @@ use Prim.Native.Nat.{ℕ, zero, suc, _+_, _-_, _*_, _/_, _%_, _<_, _≤_}
 use native.Mathlib.Omega.{arith}
 use native.Mathlib.Numerals.{add-one}
 use mathlib.Core.Path.{_≡_, refl, sym, ap, _∙_, subst}
-use mathlib.Core.Bool.{true, false}
+use mathlib.Core.Bool.{Bool, true, false}
 use mathlib.Core.List.{List, [], _∷_, _++_, append-assoc, append-nil}
 use lib.Dec.{eqb, ltb}
 use lib.ListN.{length, getD, length-append}
@@ -162,3 +162,12 @@ module _ (n c : ℕ) where
   pub step-kept : fix-code ≤ c → n ≡ step-at n c
   unfolding step-at
   step-kept h = rw (step-at, le-ltb c fix-code h)
+
+  -- it is one of the names
+  pub step-below : n < step-names → step-at n c < step-names
+  unfolding step-at
+  step-below h = go (ltb c fix-code)
+    where
+      go : (b : Bool) → elim b [ true ↦ c % step-names | false ↦ n ] < step-names
+      go true = omega arith
+      go false = h

@@ -206,8 +206,10 @@ pub fn advance(
 ) -> Told
     requires { ⌜ Movable (now items) (now spans) (now heads) (machine .numbers) ⌝ }
     requires { ⌜ (machine .numbers .fixes ≤ max-stability) × (line-most ≤ length (now out)) ⌝ }
+    requires { ⌜ step < step-names ⌝ }
     ensures { λ r. ⌜ ((cells : List ℕ) → state-of (r .machine .numbers) (now (heads .exit)) cells ≡ move (now (items .entry)) (now (spans .entry)) (state-of (machine .numbers) (now (heads .entry)) cells)) ⌝ }
     ensures { λ r. ⌜ ((cells : List ℕ) → MoveTold (now (items .entry)) (now (spans .entry)) step (state-of (machine .numbers) (now (heads .entry)) cells) (r .step) (r .length) (now (out .exit))) ⌝ }
+    ensures { λ r. ⌜ r .step < step-names ⌝ }
 {
     let numbers = machine.numbers;
     let place = numbers.place;
