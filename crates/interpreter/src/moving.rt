@@ -22,7 +22,7 @@ pub fn settle(
     machine: Machine,
     n: usize,
     items: &[usize],
-    spans: &[usize],
+    spans: &[u16],
     heads: &mut [usize],
 ) -> Settled
     requires { ⌜ Standing (now items) (now spans) (now heads) (machine .numbers) ⌝ }

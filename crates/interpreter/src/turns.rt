@@ -37,7 +37,7 @@ pub fn run(
     list: &[u64],
     counts: &[u8],
     items: &[usize],
-    spans: &[usize],
+    spans: &[u16],
     heads: &mut [usize],
     cells: &mut [u64],
     turns: &[u8],

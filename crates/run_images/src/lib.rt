@@ -70,7 +70,7 @@ fn played(
     requires { ⌜ max-commands ≤ length (now list) ⌝ }
     ensures { λ r. ⌜ Plays (now (s .entry)) (now (counts .entry)) seat (now (heads .entry)) (now (cells .entry)) (now (turns .entry)) (now (list .entry)) r (now (heads .exit)) (now (cells .exit)) (now (list .exit)) ⌝ }
 {
-    let mut spans = [0usize; SPANS];
+    let mut spans = [0u16; SPANS];
     let mut items = [0usize; CODES];
     compile::program(s, counts, seat.at, list, &mut spans, &mut items);
     let numbers = seat.numbers;
