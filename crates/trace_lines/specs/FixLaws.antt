@@ -13,7 +13,8 @@ use Rattle.operators.specs.declared.Answered.the-variants.{Value, Outside, Unfi
 use Rattle.layout.specs.Layout.{struct-of, variable, operand}
 use Rattle.layout.specs.declared.Numbers.{Numbers}
 use Rattle.layout.specs.State.{State, state-of, of-head, of-cell}
-use Rattle.memory.specs.Act.{top, beneath, next-word, do-push, do-this, do-not, do-if, answered, do-op, do-rd, written, written-to, do-wr, do-cons, made, perform, act}
+use Rattle.memory.specs.Act.{top, beneath, next-word, do-push, do-this, do-not, do-if, answered, do-op, do-rd, written, written-to, do-wr, do-cons, made}
+use Rattle.memory.specs.Act.{perform, act}
 use Rattle.memory.specs.Move.{do-fix, do-round, do-start, move-by, move}
 use Rattle.memory.specs.Plan.{fix-code, round-code}
 

@@ -20,7 +20,8 @@ use Rattle.program.specs.Counts.{All}
 use Rattle.commands.specs.Commands.{commands}
 use Rattle.commands.specs.Coding.{words, command-word}
 use Rattle.commands.specs.Context.{context, step-of}
-use Rattle.commands.specs.Noted.{Note, Note.n-push, Note.n-this, Note.n-not, Note.n-rd, Note.n-wr, Note.n-get, Note.n-set, Note.n-cons, Note.n-op, Note.n-if, erase, noted}
+use Rattle.commands.specs.Noted.{Note, Note.n-push, Note.n-this, Note.n-not, Note.n-rd, Note.n-wr, Note.n-get, Note.n-set, Note.n-cons, Note.n-op}
+use Rattle.commands.specs.Noted.{Note.n-if, erase, noted}
 use Rattle.commands.specs.NotedLaws.{erased}
 use Rattle.operators.specs.Ranges.{Of as Range, Of.of-int, Of.of-nat, Of.of-bool, Of.of-ref}
 use Rattle.table.specs.Table.{Each}
@@ -123,7 +124,8 @@ place-among {is = is} i (passing g e) = each-among is (g .place .stack) (i .stac
 
 module _ {p : Program} {counts list items spans : List ℕ} {m : Machine} {z : State} (r : Ready p counts list items spans m z) where
   -- the row of an instance, and its struct
-  pub row-of : (l : ℕ) (i : Instance) → getElem? (m .instances) l ≡ some i → (l < max-instances) × (of-head z l struct-of < max-structs) × (i .struct < structs p)
+  pub row-of : (l : ℕ) (i : Instance) → getElem? (m .instances) l ≡ some i → (l < max-instances) × (of-head z l struct-of < max-structs) ×
+      (i .struct < structs p)
   row-of l i at =
       let a : l < z .machine .count = has-row list (At items) m z (r .stands) l i at in
       let b : z .machine .count ≤ max-instances = r .stands .few in

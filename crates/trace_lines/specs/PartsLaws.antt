@@ -17,7 +17,8 @@ use Rattle.memory.specs.Plan.{fix-code}
 use Rattle.text.specs.Listing.{Placed, decimal}
 use Rattle.text.specs.ListingLaws.{placed-none, placed-as, placed-on}
 use Rattle.trace_lines.specs.declared.writes.Write.{Write}
-use Rattle.trace_lines.specs.Parts.{tag-of, tag, worth, cell-text, cells-text, bit-text, entries-text, no-write, wr-kind, target-by, place-text, values-text, write-text, Fitting, step-at}
+use Rattle.trace_lines.specs.Parts.{tag-of, tag, worth, cell-text, cells-text, bit-text, entries-text, no-write, wr-kind, target-by, place-text}
+use Rattle.trace_lines.specs.Parts.{values-text, write-text, Fitting, step-at}
 
 -- Values -----------------------------------------------------------------------
 

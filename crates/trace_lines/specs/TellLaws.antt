@@ -109,7 +109,15 @@ module _ {p : Program} {counts list items spans : List ℕ} {m : Machine} {z : S
             let (j, at′, q) = holders-behind p actor m c in
             let x = r .stands .each actor i at in
             rw (c, at, at′, append-nil)
-            (rw (x .struct, position-told r actor i at n named, command-told r actor i at k d f, stack-told r′ actor j at′, write-told r r′ actor i at k d f a .0, stands-text (r′ .stands)))
+            (rw (
+              x .struct,
+              position-told r actor i at n named,
+              command-told r actor i at k d f,
+              stack-told r′ actor j at′,
+              write-told r r′ actor i
+                  at k d f a .0,
+              stands-text (r′ .stands),
+            ))
 
         turn-made : y .machine .number ≡ 0 → told ≡ lines-text p n t (turn-line alone e actor m (command p actor m))
         turn-made h = go by-turn
@@ -123,7 +131,8 @@ module _ {p : Program} {counts list items spans : List ℕ} {m : Machine} {z : S
         → BackFits (y .heads) (y .cells) actor (target list (length counts) (z .heads) (z .cells) actor) (y .machine .fixes)
     back-fits h few = go by-turn
       where
-        go : Turned p counts list items spans m e z y → BackFits (y .heads) (y .cells) actor (target list (length counts) (z .heads) (z .cells) actor) (y .machine .fixes)
+        go : Turned p counts list items spans m e z y → BackFits (y .heads) (y .cells) actor (target list (length counts) (z .heads)
+            (z .cells) actor) (y .machine .fixes)
         go (turned {m′ = m′} r′ c v) =
             let (i, k, d, at, f) = chosen-holds m e holding-due in
             let (j, at′, q) = holders-behind p actor m c in

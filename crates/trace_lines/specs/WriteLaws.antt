@@ -13,7 +13,8 @@ use Rattle.types.specs.Values.{Val, Val.int-val, Val.nat-val, Val.bool-val, Val
 use Rattle.program.specs.Tree.{Program}
 use Rattle.commands.specs.Commands.{Com.wr, Flat.plain}
 use Rattle.commands.specs.Context.{params-of}
-use Rattle.commands.specs.Noted.{Note, Note.n-push, Note.n-this, Note.n-not, Note.n-rd, Note.n-wr, Note.n-get, Note.n-set, Note.n-cons, Note.n-op, Note.n-if, erase}
+use Rattle.commands.specs.Noted.{Note, Note.n-push, Note.n-this, Note.n-not, Note.n-rd, Note.n-wr, Note.n-get, Note.n-set, Note.n-cons, Note.n-op}
+use Rattle.commands.specs.Noted.{Note.n-if, erase}
 use Rattle.machine.specs.Published.{lookup, structs}
 use Rattle.machine.specs.Machine.{Tagged, Instance, Machine}
 use Rattle.sound.specs.Needs.{Needs}
@@ -180,14 +181,21 @@ module _ {p : Program} {counts list items spans : List ℕ} {m m′ : Machine} {
     unfolding target write-text place-text values-text param-text change-text
     found h =
         let u : length counts ≡ structs p = counts-length (r .prepared .bounded) in
-        let w : record { some = true; label = operand (top counts l z); variable = operand word; old = of-cell z (variable (operand (top counts l z)) (operand word)) }
+        let w : record {
+          some = true;
+          label = operand (top counts l z);
+          variable = operand word;
+          old = of-cell z (variable (operand
+              (top counts l z)) (operand word));
+        }
         ≡ to-write =
         target-found (length counts) (z .cells) word (top counts l z) kind (rw variable-is low) (rw (target-is, u) h) in
         let w′ : record { some = true; label = q; variable = x; old = of-cell z (variable q x) } ≡ to-write = rw (target-is, variable-is) at w in
         let (j′, at′, f′) = behind in
         let b₁ : x < length (params-of p (j .struct)) = rw f b in
         let b₂ : x < length (params-of p (j′ .struct)) = rw f′ b in
-        let (v, e₁, o₁) = param-holds (m .instances) (params-of p (j .struct)) (r .prepared .firm .few (j .struct)) x b₁ (j .env) (r .good .all .each q j at-q .fitted) in
+        let (v, e₁, o₁) = param-holds (m .instances) (params-of p (j .struct)) (r .prepared .firm .few (j .struct)) x b₁ (j .env)
+        (r .good .all .each q j at-q .fitted) in
         let (v′, e₂, o₂) =
         param-holds (m′ .instances) (params-of p (j′ .struct)) (r .prepared .firm .few (j′ .struct)) x b₂ (j′ .env) (r′ .good .all .each q j′ at′ .fitted) in
         let s₁ = worth-shown (of-cell z (variable q x)) v (r .stands .each q j at-q .vars x v e₁) in

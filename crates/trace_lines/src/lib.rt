@@ -66,8 +66,15 @@ fn minus(a: usize, b: usize) -> usize
     a - b
 }
 
+// A number of two bytes.
+fn wide(n: u16) -> usize
+    ensures { λ r. ⌜ r ≡ n ⌝ }
+{
+    n as usize
+}
+
 // The position of instance l's next command among those of the step.
-fn position(spans: &[usize], heads: &[usize], l: usize, step: usize) -> usize
+fn position(spans: &[u16], heads: &[usize], l: usize, step: usize) -> usize
     requires { ⌜ (spans-size ≤ length (now spans)) × (head l end-of < length (now heads)) ⌝ }
     requires { ⌜ (getD (now heads) (head l struct-of) 0 < max-structs) × (step < step-names) ⌝ }
     ensures { λ r. ⌜ r ≡ position-of (now (spans .entry)) (now (heads .entry)) l step ⌝ }
@@ -75,7 +82,9 @@ fn position(spans: &[usize], heads: &[usize], l: usize, step: usize) -> usize
     let at = layout::HEAD_SIZE * l;
     let k = heads[at + layout::STRUCT];
     let s = 2 * (types::STEP_NAMES * k + step);
-    let size = minus(spans[s + 1], spans[s]);
+    let from = wide(spans[s]);
+    let to = wide(spans[s + 1]);
+    let size = minus(to, from);
     let left = minus(heads[at + layout::END], heads[at + layout::NEXT]);
     minus(size, left)
 }
@@ -130,7 +139,7 @@ pub fn turn(
     turn: Coming,
     list: &[u64],
     counts: &[u8],
-    spans: &[usize],
+    spans: &[u16],
     heads: &mut [usize],
     cells: &mut [u64],
     out: &mut [u8],
@@ -200,7 +209,7 @@ pub fn advance(
     machine: Machine,
     step: usize,
     items: &[usize],
-    spans: &[usize],
+    spans: &[u16],
     heads: &mut [usize],
     out: &mut [u8],
 ) -> Told

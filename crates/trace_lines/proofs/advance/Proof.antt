@@ -31,8 +31,11 @@ moved-requires c κs =
     let at-advance = at-slice-known3 .before .before in
     let at-numbers = at-advance .before .before .before .before in
     let at-shared-slice-known = at-numbers .before .before .before .before in
-    let at-pre = at-shared-slice-known .before in
-    (moved-few (at-pre .args .items .now) (at-pre .args .spans .now) (at-pre .args .heads .now) (at-pre .args .machine .numbers) (at-advance .advance .ensures) (at-pre .pre .1 .0 .0), at-pre .pre .1 .0 .1)
+    let at-pre = at-shared-slice-known .before in (
+      moved-few (at-pre .args .items .now) (at-pre .args .spans .now) (at-pre .args .heads .now) (at-pre .args .machine .numbers)
+          (at-advance .advance .ensures) (at-pre .pre .1 .0 .0),
+      at-pre .pre .1 .0 .1,
+    )
 
 returns-2 : tie.Need-returns-2
 returns-2 c =
@@ -56,4 +59,6 @@ returns-2 c =
 
 pub advance-spec : {M : Type 1} → statement M
 advance-spec =
-    tie.close (tie.spec (λ c. search needs) (λ c. search needs) (λ c κs. search needs) (λ c κs. search needs) (λ c. search needs) returns moved-requires (λ c. search needs) (λ c. search needs) returns-2)
+    tie.close
+    (tie.spec (λ c. search needs) (λ c. search needs) (λ c κs. search needs) (λ c κs. search needs) (λ c. search needs) returns moved-requires
+    (λ c. search needs) (λ c. search needs) returns-2)

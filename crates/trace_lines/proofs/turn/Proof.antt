@@ -93,8 +93,21 @@ position-requires c κs =
     let at-picked-of = at-target-arg2 .before .before in
     let at-machine = at-picked-of .before .before .before .before in
     let at-shared-slice-known3 = at-machine .before .before .before .before in
-    let at-pre = at-shared-slice-known3 .before .before .before in
-    ((turnable-spans (at-pre .pre .0) (at-pre .args .turn .byte) (at-picked-of .picked-of .ensures), omega (arith, fit-rows (turnable-fits (at-pre .pre .0) (at-pre .args .turn .byte) (at-picked-of .picked-of .ensures)))), (turnable-row (at-pre .pre .0) (at-pre .args .turn .byte) (at-picked-of .picked-of .ensures), at-pre .pre .0 .named))
+    let at-pre = at-shared-slice-known3 .before .before .before in (
+      (
+        turnable-spans (at-pre .pre .0) (at-pre .args .turn .byte) (at-picked-of .picked-of .ensures),
+        omega (
+          arith,
+          fit-rows (turnable-fits
+              (at-pre .pre .0) (at-pre .args .turn .byte) (at-picked-of .picked-of .ensures)),
+        ),
+      ),
+      (
+        turnable-row (at-pre .pre .0) (at-pre .args .turn .byte)
+            (at-picked-of .picked-of .ensures),
+        at-pre .pre .0 .named,
+      ),
+    )
 
 mul-t36 : tie.Need-mul-t36
 mul-t36 c =
@@ -137,7 +150,8 @@ returns c =
     let at-shared-slice-known3 = at-machine .before .before .before .before in
     let at-pre = at-shared-slice-known3 .before .before .before in (
       rw (← (at-picked-of .picked-of .ensures)) (at-command .command .ensures),
-      λ p items m r. picked-refused r (at-pre .pre .0 .held) (at-pre .args .turn .byte) (at-picked-of .picked-of .ensures) (at-command .command .ensures) (at-pre .args .turn .step) (at-pre .args .turn .taken) (c .if1 .taken),
+      λ p items m r. picked-refused r (at-pre .pre .0 .held) (at-pre .args .turn .byte) (at-picked-of .picked-of .ensures)
+          (at-command .command .ensures) (at-pre .args .turn .step) (at-pre .args .turn .taken) (c .if1 .taken),
     )
 
 back-requires : tie.Need-back-requires
@@ -154,7 +168,8 @@ back-requires c κs =
     let at-shared-slice-known3 = at-machine .before .before .before .before in
     let at-pre = at-shared-slice-known3 .before .before .before in (
       rw (at-target .target .ensures)
-          (picked-back (at-pre .pre .0 .begun .ready) (at-pre .pre .0 .held) (at-pre .args .turn .byte) (at-picked-of .picked-of .ensures) (at-command .command .ensures) (at-if1 .if1 .left)
+          (picked-back (at-pre .pre .0 .begun .ready) (at-pre .pre .0 .held) (at-pre .args .turn .byte) (at-picked-of .picked-of .ensures)
+          (at-command .command .ensures) (at-if1 .if1 .left)
           (at-pre .pre .0 .few)),
       omega (arith, at-front .front .ensures .1, at-front .front .kept .0, at-pre .pre .1),
     )
@@ -175,11 +190,15 @@ returns-2 c =
     let at-pre = at-shared-slice-known3 .before .before .before in (
       rw (← (at-picked-of .picked-of .ensures)) (at-command .command .ensures),
       λ p items m r.
-          picked-told r (at-pre .pre .0 .held) (at-pre .args .turn .byte) (at-picked-of .picked-of .ensures) (at-command .command .ensures) (at-pre .args .turn .step) (at-pre .args .turn .taken) (at-pre .pre .0 .named) (at-if1 .if1 .left)
+          picked-told r (at-pre .pre .0 .held) (at-pre .args .turn .byte) (at-picked-of .picked-of .ensures) (at-command .command .ensures)
+          (at-pre .args .turn .step) (at-pre .args .turn .taken) (at-pre .pre .0 .named) (at-if1 .if1 .left)
           (at-target .target .ensures) (at-position .position .ensures) (at-front .front .ensures .0) (at-back .back .ensures .0)
           (omega (arith, at-front .front .ensures .1, at-back .back .ensures .1, at-pre .pre .1)),
     )
 
 pub turn-spec : {M : Type 1} → statement M
 turn-spec =
-    tie.close (tie.spec holding-requires picked-of-requires target-requires mul-at add-next mul-next slice-read-next add-t22 mul-t31 slice-read-t29 position-requires mul-t36 shared-slice-read-t38 (λ c κs. search needs) command-requires (λ c. search needs) (λ c. search needs) (λ c. search needs) returns back-requires (λ c. search needs) (λ c. search needs) (λ c. search needs) returns-2)
+    tie.close
+    (tie.spec holding-requires picked-of-requires target-requires mul-at add-next mul-next slice-read-next add-t22 mul-t31 slice-read-t29
+    position-requires mul-t36 shared-slice-read-t38 (λ c κs. search needs) command-requires (λ c. search needs) (λ c. search needs)
+    (λ c. search needs) returns back-requires (λ c. search needs) (λ c. search needs) (λ c. search needs) returns-2)

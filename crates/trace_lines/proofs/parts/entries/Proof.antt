@@ -24,7 +24,16 @@ byte-requires c κs =
     let at-loop = at-loop-test .before in
     let at-put = at-loop .before .before .before in
     let at-pre = at-put .before .before .before .before in
-    omega (arith, bits-length (at-loop .loop .inv .1), at-loop .loop .inv .0, at-put .put .kept .0, at-put .put .ensures .end, at-loop-test .loop-test .taken, at-pre .pre)
+    omega (
+      arith,
+      bits-length
+          (at-loop .loop .inv .1),
+      at-loop .loop .inv .0,
+      at-put .put .kept .0,
+      at-put .put .ensures .end,
+      at-loop-test .loop-test .taken,
+      at-pre .pre,
+    )
 
 loop-again : tie.Need-loop-again Inv-loop μ-loop
 loop-again c =
@@ -53,4 +62,6 @@ returns c =
 
 pub entries-spec : {M : Type 1} → statement M
 entries-spec =
-    tie.close (tie.spec Inv-loop μ-loop (λ c. search needs) (λ c κs. search needs) loop-holds (λ c. search needs) (λ c. search needs) byte-requires (λ c. search needs) (λ c. search needs) loop-again same-length returns)
+    tie.close
+    (tie.spec Inv-loop μ-loop (λ c. search needs) (λ c κs. search needs) loop-holds (λ c. search needs) (λ c. search needs) byte-requires
+    (λ c. search needs) (λ c. search needs) loop-again same-length returns)

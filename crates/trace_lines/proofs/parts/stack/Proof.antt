@@ -34,8 +34,11 @@ cell-requires c κs =
     let at-loop-test = c .before .before in
     let at-loop = at-loop-test .before in
     let at-slice-known = at-loop .before .before .before .before in
-    let at-pre = at-slice-known .before in
-    (at-pre .pre .0 .each (at-loop .loop .h) (omega (arith, at-loop-test .loop-test .taken)), omega (arith, at-loop .loop .inv .0, at-loop .loop .inv .2, at-loop-test .loop-test .taken, at-pre .pre .0 .low, at-pre .pre .1))
+    let at-pre = at-slice-known .before in (
+      at-pre .pre .0 .each (at-loop .loop .h) (omega (arith, at-loop-test .loop-test .taken)),
+      omega
+          (arith, at-loop .loop .inv .0, at-loop .loop .inv .2, at-loop-test .loop-test .taken, at-pre .pre .0 .low, at-pre .pre .1),
+    )
 
 loop-again : tie.Need-loop-again Inv-loop μ-loop
 loop-again c =
@@ -60,4 +63,7 @@ returns c =
 
 pub stack-spec : {M : Type 1} → statement M
 stack-spec =
-    tie.close (tie.spec Inv-loop μ-loop (λ c. search needs) (λ c. search needs) (λ c. search needs) (λ c. search needs) (λ c. search needs) (λ c. search needs) loop-holds (λ c. search needs) (λ c. search needs) shared-slice-read-cell cell-requires (λ c. search needs) (λ c. search needs) loop-again (λ c. search needs) returns)
+    tie.close
+    (tie.spec Inv-loop μ-loop (λ c. search needs) (λ c. search needs) (λ c. search needs) (λ c. search needs) (λ c. search needs) (λ c. search needs)
+    loop-holds (λ c. search needs) (λ c. search needs) shared-slice-read-cell cell-requires (λ c. search needs) (λ c. search needs) loop-again
+    (λ c. search needs) returns)

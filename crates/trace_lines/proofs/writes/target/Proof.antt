@@ -164,4 +164,7 @@ returns-4 c =
 
 pub target-spec : {M : Type 1} → statement M
 target-spec =
-    tie.close (tie.spec mul-at add-next mul-next shared-slice-read-next mul-w shared-slice-read-w (λ c κs. search needs) returns (λ c κs. search needs) returns-2 add-under mul-under shared-slice-read-under sub-under mul-top add-top add-top-2 mul-top-2 shared-slice-read-top (λ c κs. search needs) returns-3 mul-t21 add-t13 mul-t16 shared-slice-read-t18 returns-4)
+    tie.close
+    (tie.spec mul-at add-next mul-next shared-slice-read-next mul-w shared-slice-read-w (λ c κs. search needs) returns (λ c κs. search needs)
+    returns-2 add-under mul-under shared-slice-read-under sub-under mul-top add-top add-top-2 mul-top-2 shared-slice-read-top (λ c κs. search needs)
+    returns-3 mul-t21 add-t13 mul-t16 shared-slice-read-t18 returns-4)

@@ -50,4 +50,6 @@ returns-2 c =
 
 pub written-spec : {M : Type 1} → statement M
 written-spec =
-    tie.close (tie.spec (λ c κs. search needs) mul-values add-values mul-values-2 shared-slice-read-values (λ c κs. search needs) (λ c. search needs) returns returns-2)
+    tie.close
+    (tie.spec (λ c κs. search needs) mul-values add-values mul-values-2 shared-slice-read-values (λ c κs. search needs) (λ c. search needs) returns
+    returns-2)
