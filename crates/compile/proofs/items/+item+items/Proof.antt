@@ -1,39 +1,33 @@
--- `items::item`, `items::row` and `items::items` meet their contracts, a law for each sort. The measure goes by the levels of Fix, and
+-- `items::item` and `items::items` meet their contracts, a law for each sort. The measure goes by the levels of Fix, with the count above the items. The
+-- invariant of the loop over items: once those that are left are written, all are.
 use lib.ListN.{length}
--- within one level by the items that are left (at most 255), with the count above them.
 use Prim.Native.Nat.{ℕ, _<_, _+_, _*_}
 use borrow.Fn.Kinds.{In}
 use borrow.Fn.PlainCycle.{Measures, is, falls, and}
 use Rattle.compile.proofs.items.item.Reads as item
 use Rattle.compile.proofs.items.item.Kinds as item-kinds
-use Rattle.compile.proofs.items.+item+items+row.Lts-item as item-lts
+use Rattle.compile.proofs.items.+item+items.Lts-item as item-lts
 use Rattle.compile.proofs.items.items.Reads as items
 use Rattle.compile.proofs.items.items.Kinds as items-kinds
-use Rattle.compile.proofs.items.+item+items+row.Lts-items as items-lts
-use Rattle.compile.proofs.items.row.Reads as row
-use Rattle.compile.proofs.items.row.Kinds as row-kinds
-use Rattle.compile.proofs.items.+item+items+row.Lts-row as row-lts
+use Rattle.compile.proofs.items.+item+items.Lts-items as items-lts
 use Rattle.compile.proofs.index.Reads as index-reads
 use Rattle.compile.proofs.items.add.Reads as add-reads
 use Rattle.compile.proofs.store.Reads as store-reads
-use Rattle.compile.proofs.items.+item+items+row.{statement}
-use Rattle.compile.proofs.items.+item+items+row.Tie.{close}
+use Rattle.compile.proofs.items.+item+items.{statement}
+use Rattle.compile.proofs.items.+item+items.Tie.{close}
 use native.Mathlib.Omega.{arith}
 use borrow.Author.Needs.{needs}
 use mathlib.Core.Path.{_∙_}
-use Rattle.emit.specs.WrittenLaws.{placed-kept}
 use Rattle.emit.specs.PartsLaws.{part-ready, part-same}
+use Rattle.compile.specs.Codes.{row-at, Left}
 use Rattle.compile.specs.WalkLaws.{one-room, one-wrote, item-in, call-one, call-in-one, fix-facts, fix-room, fix-ready, fix-end, fix-wrote}
-use Rattle.compile.specs.WalkLaws.{items-part, items-none, row-first, row-next, row-wrote, FixFacts}
+use Rattle.compile.specs.WalkLaws.{items-part, left-all, left-ready, left-next, left-none, FixFacts}
 
 abbrev μ-item : Measures 2 item-kinds.ps ℕ
-μ-item κs a = 300 * a .1 .1 .0
+μ-item κs a = 2 * a .1 .1 .0
 
 abbrev μ-items : Measures 2 items-kinds.ps ℕ
-μ-items κs a = 300 * a .1 .1 .0 + 257
-
-abbrev μ-row : Measures 2 row-kinds.ps ℕ
-μ-row κs a = 300 * a .1 .1 .0 + (1 + a .1 .1 .1 .0)
+μ-items κs a = 2 * a .1 .1 .0 + 1
 
 abbrev item-at : ℕ → In 2 item-kinds.ps
 item-at t = and 2 item-kinds.ps (is 2 item-kinds.ps μ-item t) item.Pre
@@ -47,21 +41,12 @@ items-at t = and 2 items-kinds.ps (is 2 items-kinds.ps μ-items t) items.Pre
 abbrev items-below : ℕ → In 2 items-kinds.ps
 items-below t = and 2 items-kinds.ps (falls 2 items-kinds.ps _<_ μ-items t) items.Pre
 
-abbrev row-at : ℕ → In 2 row-kinds.ps
-row-at t = and 2 row-kinds.ps (is 2 row-kinds.ps μ-row t) row.Pre
-
-abbrev row-below : ℕ → In 2 row-kinds.ps
-row-below t = and 2 row-kinds.ps (falls 2 row-kinds.ps _<_ μ-row t) row.Pre
-
 -- what the functions that each calls ask and give
 abbrev item-claims : ℕ → item-lts.Claims
 item-claims t = (index-reads.Asked, index-reads.Learnt, add-reads.Asked, add-reads.Learnt, store-reads.Asked, store-reads.Learnt, items-below t, items.Post)
 
 abbrev items-claims : ℕ → items-lts.Claims
-items-claims t = (row-below t, row.Post)
-
-abbrev row-claims : ℕ → row-lts.Claims
-row-claims t = (item-below t, item.Post, row-below t, row.Post)
+items-claims t = (item-below t, item.Post)
 
 -- the places of `item` that proofs look back to
 abbrev item-start : (t : ℕ) → item-lts.Else1 (item-claims t) (item-at t) item.Post → item-lts.Start (item-claims t) (item-at t) item.Post
@@ -165,66 +150,44 @@ item-returns-3 t c =
     fix-wrote (item-start t (at-if2 .before) .args .s .now) f (rw (at-store .store .ensures) at (at-items .items .ensures)) (omega arith)
     (at-add3 .add3 .ensures)
 
-items-row-requires : (t : ℕ) → items-lts.Need-row-requires (items-claims t) (items-at t) items.Post
-items-row-requires t c κs =
-    let a = c .before .before .before .before .args in (
-      omega (arith, c .before .before .before .before .pre .0, c .before .shared-slice-known2 .given (a .at)),
-      part-ready (items-part _ _ _ (c .before .before .before .before .pre .1 .good) .1 (a .k)) (c .before .before .before .before .pre .1),
-    )
+abbrev items-Inv-loop : items-lts.InvT-loop
+items-Inv-loop s at depth codes₀ k left₀ p₀ codes left p = Left s depth left (row-at s depth left₀ (at + 1)) codes₀ k p codes
 
-items-returns : (t : ℕ) → items-lts.Need-returns (items-claims t) (items-at t) items.Post
+abbrev items-μ-loop : items-lts.MeasureT-loop
+items-μ-loop s at depth codes₀ k left₀ p₀ codes left p = left
+
+-- the places of `items` that proofs look back to
+abbrev items-start : (t : ℕ) → items-lts.After-shared-slice-known2 (items-claims t) (items-at t) items.Post items-Inv-loop items-μ-loop
+    → items-lts.Start (items-claims t) (items-at t) items.Post items-Inv-loop items-μ-loop
+items-start t c = c .before .before .before
+
+abbrev items-inside : (t : ℕ) → items-lts.After-slice-known2 (items-claims t) (items-at t) items.Post items-Inv-loop items-μ-loop
+    → items-lts.In-loop (items-claims t) (items-at t) items.Post items-Inv-loop items-μ-loop
+items-inside t c = c .before .before .before .before
+
+items-loop-holds : (t : ℕ) → items-lts.Need-loop-holds (items-claims t) (items-at t) items.Post items-Inv-loop items-μ-loop
+items-loop-holds t c =
+    let start = items-start t c in
+    left-all _ _ _ _ (part-ready (items-part _ _ _ (start .pre .1 .good) .1 (start .args .k)) (start .pre .1))
+
+items-item-requires : (t : ℕ) → items-lts.Need-item-requires (items-claims t) (items-at t) items.Post items-Inv-loop items-μ-loop
+items-item-requires t c κs =
+    let at-loop = c .before .before in
+    (omega (arith, items-start t (at-loop .before) .pre .0), left-ready _ _ _ (at-loop .loop .inv) (c .before .loop-test .taken))
+
+items-loop-again : (t : ℕ) → items-lts.Need-loop-again (items-claims t) (items-at t) items.Post items-Inv-loop items-μ-loop
+items-loop-again t c =
+    let inside = items-inside t c in
+    left-next _ _ _ (inside .before .loop .inv) (inside .loop-test .taken) (c .before .before .item .ensures)
+
+items-returns : (t : ℕ) → items-lts.Need-returns (items-claims t) (items-at t) items.Post items-Inv-loop items-μ-loop
 items-returns t c =
-    let at-row = c .before .before in let at-shared-slice-known2 = at-row .before .before in
-    let start = at-shared-slice-known2 .before .before .before in let a = start .args in
-    part-same (items-part _ _ _ (start .pre .1 .good) .1 (a .k)) (at-row .row .ensures)
+    let start = items-start t (c .before .before) in
+    part-same (items-part _ _ _ (start .pre .1 .good) .1 (start .args .k)) (left-none _ _ _ (c .before .loop .inv) (c .loop-test .left))
 
--- the places of `row` that proofs look back to
-abbrev row-at-if1 : (t : ℕ) → row-lts.After-item (row-claims t) (row-at t) row.Post → row-lts.Else1 (row-claims t) (row-at t) row.Post
-row-at-if1 t c = c .before .before
-
-abbrev row-at-if1₂ : (t : ℕ) → row-lts.After-row-arg (row-claims t) (row-at t) row.Post → row-lts.Else1 (row-claims t) (row-at t) row.Post
-row-at-if1₂ t c = row-at-if1 t (c .before .before .before)
-
-abbrev row-at-item : (t : ℕ) → row-lts.After-row (row-claims t) (row-at t) row.Post → row-lts.After-item (row-claims t) (row-at t) row.Post
-row-at-item t c = c .before .before .before .before
-
-abbrev row-at-item₂ : (t : ℕ) → row-lts.After-slice-known3 (row-claims t) (row-at t) row.Post → row-lts.After-item (row-claims t) (row-at t) row.Post
-row-at-item₂ t c = row-at-item t (c .before .before)
-
-row-returns : (t : ℕ) → row-lts.Need-returns (row-claims t) (row-at t) row.Post
-row-returns t c =
-    let a = c .before .before .before .args in
-    items-none (a .s .now) (a .depth) (a .n) (a .at) (a .k) (c .if1 .taken) (a .codes .now)
-
-row-item-requires : (t : ℕ) → row-lts.Need-item-requires (row-claims t) (row-at t) row.Post
-row-item-requires t c κs =
-    let a = c .before .before .before .before .args in (
-      omega (arith, c .before .before .before .before .pre .0),
-      row-first (a .s .now) (a .depth) (a .n) (a .at) (a .k) (c .before .if1 .left) (c .before .before .before .before .pre .1),
-    )
-
-row-row-requires : (t : ℕ) → row-lts.Need-row-requires (row-claims t) (row-at t) row.Post
-row-row-requires t c κs =
-    let a = row-at-if1₂ t c .before .before .before .args in (
-      omega (arith, row-at-if1₂ t c .before .before .before .pre .0, row-at-if1₂ t c .if1 .left),
-      row-next (a .s .now) (a .depth) (a .n) (a .at) (a .k) (row-at-if1₂ t c .if1 .left) (row-at-if1₂ t c .before .before .before .pre .1)
-          (c .before .before .before .item .ensures),
-    )
-
-row-same-length : (t : ℕ) → row-lts.Need-same-length (row-claims t) (row-at t) row.Post
-row-same-length t c =
-    let at-row = c .before .before in
-    placed-kept (at-row .row .ensures) ∙ placed-kept (row-at-item₂ t c .item .ensures)
-
-row-returns-2 : (t : ℕ) → row-lts.Need-returns-2 (row-claims t) (row-at t) row.Post
-row-returns-2 t c =
-    let at-row = c .before .before in let at-if1 = row-at-if1₂ t (at-row .before) in
-    let start = at-if1 .before .before .before in let a = start .args in
-    row-wrote (a .s .now) (a .depth) (a .n) (a .at) (a .k) (at-if1 .if1 .left) (start .pre .1) (row-at-item₂ t c .item .ensures) (at-row .row .ensures)
-
-pub +item+items+row-spec : {M : Type 1} → statement M
-+item+items+row-spec =
-    close μ-item μ-items μ-row
+pub +item+items-spec : {M : Type 1} → statement M
++item+items-spec =
+    close μ-item μ-items
     (λ t. item-lts.spec (item-claims t) (item-at t) item.Post (λ c. item-in _ _ _ (c .before .before .before .pre .1 .good))
     (λ c. omega (arith, call-one _ _ _ (c .before .before .before .before .pre .1 .good) (c .if1 .taken) .0))
     (λ c. omega (arith, call-one _ _ _ (item-start₂ t (c .before) .pre .1 .good) (c .before .if1 .taken) .0)) (λ c κs. search needs)
@@ -237,8 +200,8 @@ pub +item+items+row-spec : {M : Type 1} → statement M
     (λ c. item-fix t (c .before .before .before .before) .deep) (λ c. omega (arith, item-fix-room t (item-at-else2₂ t c))) (item-items-requires t)
     (λ c. omega (arith, item-fix-room t (item-at-else2₃ t c))) (λ c. omega (arith, item-fix-room t (item-at-else2₃ t c))) (item-add-requires-3 t)
     (item-same-length-3 t) (item-returns-3 t))
-    (λ t. items-lts.spec (items-claims t) (items-at t) items.Post (λ c. omega (arith, items-part _ _ _ (c .before .before .pre .1 .good) .0))
-    (λ c. omega (arith, items-part _ _ _ (c .before .before .before .pre .1 .good) .0)) (items-row-requires t)
-    (λ c. placed-kept (c .before .before .row .ensures)) (items-returns t))
-    λ t. row-lts.spec (row-claims t) (row-at t) row.Post (row-returns t) (row-item-requires t)
-    (λ c. omega (arith, c .before .before .before .before .if1 .left)) (row-row-requires t) (row-same-length t) (row-returns-2 t)
+    λ t. items-lts.spec (items-claims t) (items-at t) items.Post items-Inv-loop items-μ-loop
+    (λ c. omega (arith, items-part _ _ _ (c .before .before .before .pre .1 .good) .0))
+    (λ c. omega (arith, items-part _ _ _ (c .before .before .before .pre .1 .good) .0)) (items-loop-holds t) (items-item-requires t)
+    (λ c. omega (arith, items-inside t c .loop-test .taken)) (λ c. omega (arith, items-inside t c .loop-test .taken)) (items-loop-again t)
+    (λ c. c .before .loop .inv .kept) (items-returns t)

@@ -1,49 +1,41 @@
--- `emit::exprs` meets its contracts, a law for each form. The measure goes by the depth, and within one depth by the arguments that are left
+-- `emit::exprs` meets its contracts, a law for each form. The measure goes by the depth, with a construct above its arguments. The invariant
+-- of the loop over these: once those that are left are written, all are.
 use lib.ListN.{length, getD}
--- (at most 255), with a construct above them.
 use Prim.Native.Nat.{ℕ, _<_, _+_, _*_}
 use borrow.Fn.Kinds.{In}
 use borrow.Fn.PlainCycle.{Measures, is, falls, and}
-use Rattle.emit.proofs.exprs.+args+expr+make.{statement}
-use Rattle.emit.proofs.exprs.+args+expr+make.Tie.{close}
+use Rattle.emit.proofs.exprs.+expr+make.{statement}
+use Rattle.emit.proofs.exprs.+expr+make.Tie.{close}
 use native.Mathlib.Omega.{arith}
 use mathlib.Core.Path.{refl, ap, _∙_}
+use Rattle.program.specs.Tree.{Exprs}
+use Rattle.program.specs.Reader.{Result}
+use Rattle.emit.specs.Written.{Wrote, args-words, args-at}
+use Rattle.emit.specs.Parts.{Rest}
 use Rattle.emit.specs.WrittenLaws.{placed-kept, placed-one, placed-as}
-use Rattle.emit.specs.PartsLaws.{part-ready, part-room, part-same, part-last, parts-ready, parts-next, parts-room, parts-same, parts-last}
-use Rattle.emit.specs.ExprLaws.{args-none, args-more, make-facts, expr-in, inv-part, make-part, path-part, op-parts, MakeFacts}
+use Rattle.emit.specs.PartsLaws.{part-ready, part-room, part-same, part-last, parts-ready, parts-next, parts-room, parts-last, rest-all}
+use Rattle.emit.specs.ExprLaws.{args-ready, args-next, args-none, make-facts, expr-in, inv-part, make-part, path-part, op-parts, MakeFacts}
 use Rattle.emit.specs.LiteralLaws.{leaf-facts, LeafFacts}
-use Rattle.emit.proofs.exprs.args.Reads as args
-use Rattle.emit.proofs.exprs.args.Kinds as args-kinds
-use Rattle.emit.proofs.exprs.+args+expr+make.Lts-args as args-lts
 use Rattle.emit.proofs.exprs.expr.Reads as expr
 use Rattle.emit.proofs.exprs.expr.Kinds as expr-kinds
-use Rattle.emit.proofs.exprs.+args+expr+make.Lts-expr as expr-lts
+use Rattle.emit.proofs.exprs.+expr+make.Lts-expr as expr-lts
 use Rattle.emit.proofs.exprs.make.Reads as make
 use Rattle.emit.proofs.exprs.make.Kinds as make-kinds
-use Rattle.emit.proofs.exprs.+args+expr+make.Lts-make as make-lts
+use Rattle.emit.proofs.exprs.+expr+make.Lts-make as make-lts
 use Rattle.emit.proofs.words.add.Reads as add
 use Rattle.emit.proofs.words.coded.Reads as coded
-use Rattle.emit.proofs.words.index.Reads as index
+use Rattle.little_endian.proofs.index.Reads as index
 use Rattle.emit.proofs.words.leaf.Reads as leaf
 use Rattle.emit.proofs.words.leaf_size.Reads as leaf-size
 use Rattle.emit.proofs.words.path.Reads as path
 use Rattle.emit.proofs.words.store.Reads as store
-use Rattle.emit.proofs.words.wide.Reads as wide
-
-abbrev μ-args : Measures 3 args-kinds.ps ℕ
-μ-args κs a = 258 * a .1 .1 .1 .0 + (1 + a .1 .1 .1 .1 .0)
+use Rattle.little_endian.proofs.wide.Reads as wide
 
 abbrev μ-expr : Measures 3 expr-kinds.ps ℕ
-μ-expr κs a = 258 * a .1 .1 .1 .0
+μ-expr κs a = 2 * a .1 .1 .1 .0
 
 abbrev μ-make : Measures 3 make-kinds.ps ℕ
-μ-make κs a = 258 * a .1 .1 .1 .0 + 257
-
-abbrev args-at : ℕ → In 3 args-kinds.ps
-args-at t = and 3 args-kinds.ps (is 3 args-kinds.ps μ-args t) args.Pre
-
-abbrev args-below : ℕ → In 3 args-kinds.ps
-args-below t = and 3 args-kinds.ps (falls 3 args-kinds.ps _<_ μ-args t) args.Pre
+μ-make κs a = 2 * a .1 .1 .1 .0 + 1
 
 abbrev expr-at : ℕ → In 3 expr-kinds.ps
 expr-at t = and 3 expr-kinds.ps (is 3 expr-kinds.ps μ-expr t) expr.Pre
@@ -58,9 +50,6 @@ abbrev make-below : ℕ → In 3 make-kinds.ps
 make-below t = and 3 make-kinds.ps (falls 3 make-kinds.ps _<_ μ-make t) make.Pre
 
 -- what the functions that each calls ask and give
-abbrev args-claims : ℕ → args-lts.Claims
-args-claims t = (expr-below t, expr.Post, args-below t, args.Post)
-
 abbrev expr-claims : ℕ → expr-lts.Claims
 expr-claims t = (
   expr-below t,
@@ -84,51 +73,7 @@ expr-claims t = (
 )
 
 abbrev make-claims : ℕ → make-lts.Claims
-make-claims t = (index.Asked, index.Learnt, args-below t, args.Post, wide.Asked, wide.Learnt, coded.Asked, coded.Learnt, add.Asked, add.Learnt)
-
--- the places of `args` that proofs look back to
-abbrev args-start : (t : ℕ) → args-lts.Else1 (args-claims t) (args-at t) args.Post → args-lts.Start (args-claims t) (args-at t) args.Post
-args-start t c = c .before .before .before .before
-
-abbrev args-at-if1 : (t : ℕ) → args-lts.After-expr (args-claims t) (args-at t) args.Post → args-lts.Else1 (args-claims t) (args-at t) args.Post
-args-at-if1 t c = c .before .before
-
-abbrev args-at-if1₂ : (t : ℕ) → args-lts.After-args-arg (args-claims t) (args-at t) args.Post → args-lts.Else1 (args-claims t) (args-at t) args.Post
-args-at-if1₂ t c = args-at-if1 t (c .before .before .before)
-
-abbrev args-at-expr : (t : ℕ) → args-lts.After-args2 (args-claims t) (args-at t) args.Post → args-lts.After-expr (args-claims t) (args-at t) args.Post
-args-at-expr t c = c .before .before .before .before
-
-abbrev args-at-expr₂ : (t : ℕ) → args-lts.After-slice-known3 (args-claims t) (args-at t) args.Post → args-lts.After-expr (args-claims t) (args-at t) args.Post
-args-at-expr₂ t c = args-at-expr t (c .before .before)
-
-args-returns : (t : ℕ) → args-lts.Need-returns (args-claims t) (args-at t) args.Post
-args-returns t c =
-    let a = c .before .before .before .before .args in
-    args-none (a .ar .now) (a .s .now) (a .depth) (a .n) (a .at) (c .if1 .taken) (a .out .now) (a .k)
-
-args-expr-requires : (t : ℕ) → args-lts.Need-expr-requires (args-claims t) (args-at t) args.Post
-args-expr-requires t c κs =
-    let f = args-more _ _ _ _ _ (c .before .if1 .left) (args-start t (c .before) .pre .1 .good) in
-    (omega (arith, args-start t (c .before) .pre .0), parts-ready f (args-start t (c .before) .pre .1))
-
-args-args-requires : (t : ℕ) → args-lts.Need-args-requires (args-claims t) (args-at t) args.Post
-args-args-requires t c κs =
-    let f = args-more _ _ _ _ _ (args-at-if1₂ t c .if1 .left) (args-start t (args-at-if1₂ t c) .pre .1 .good) in (
-      omega (arith, args-start t (args-at-if1₂ t c) .pre .0, args-at-if1₂ t c .if1 .left),
-      parts-next f (args-start t (args-at-if1₂ t c) .pre .1) (c .before .before .before .expr .ensures),
-    )
-
-args-same-length : (t : ℕ) → args-lts.Need-same-length (args-claims t) (args-at t) args.Post
-args-same-length t c =
-    let at-args2 = c .before .before in
-    placed-kept (at-args2 .args2 .ensures) ∙ placed-kept (args-at-expr₂ t c .expr .ensures)
-
-args-returns-2 : (t : ℕ) → args-lts.Need-returns-2 (args-claims t) (args-at t) args.Post
-args-returns-2 t c =
-    let at-args2 = c .before .before in let at-if1 = args-at-if1₂ t (at-args2 .before) in
-    let f = args-more _ _ _ _ _ (at-if1 .if1 .left) (args-start t at-if1 .pre .1 .good) in
-    parts-same (args-at-expr₂ t c .expr .ensures) (at-args2 .args2 .ensures) f
+make-claims t = (index.Asked, index.Learnt, expr-below t, expr.Post, wide.Asked, wide.Learnt, coded.Asked, coded.Learnt, add.Asked, add.Learnt)
 
 -- the places of `expr` that proofs look back to
 abbrev expr-start : (t : ℕ) → expr-lts.After-shared-slice-known3 (expr-claims t) (expr-at t) expr.Post → expr-lts.Start (expr-claims t) (expr-at t) expr.Post
@@ -294,53 +239,78 @@ expr-returns-5 t c =
     parts-last (at-expr2 .expr2 .ensures) (at-expr3 .expr3 .ensures) _ f (at-add2 .add2 .ensures .0) (at-add2 .add2 .ensures .1)
     (at-add2 .add2 .ensures .2 ∙ rw (at-coded2 .coded2 .ensures, at-coded2 .before .wide .ensures .0) refl)
 
+abbrev make-Inv-loop : make-lts.InvT-loop
+make-Inv-loop s ar at depth out₀ k b i left₀ p₀ out left p =
+    Rest args-words (args-at ar s depth left₀ (at + 1)) out₀ k (args-at ar s depth left (p .next)) p out
+
+abbrev make-μ-loop : make-lts.MeasureT-loop
+make-μ-loop s ar at depth out₀ k b i left₀ p₀ out left p = left
+
 -- the places of `make` that proofs look back to
-abbrev make-start : (t : ℕ) → make-lts.After-shared-slice-known3 (make-claims t) (make-at t) make.Post → make-lts.Start (make-claims t) (make-at t) make.Post
+abbrev make-start : (t : ℕ) → make-lts.After-shared-slice-known3 (make-claims t) (make-at t) make.Post make-Inv-loop make-μ-loop → make-lts.Start (make-claims t) (make-at t) make.Post make-Inv-loop make-μ-loop
 make-start t c = c .before .before .before .before
 
-abbrev make-start₂ : (t : ℕ) → make-lts.After-index (make-claims t) (make-at t) make.Post → make-lts.Start (make-claims t) (make-at t) make.Post
-make-start₂ t c = make-start t (c .before)
+abbrev make-at-index : (t : ℕ) → make-lts.At-loop (make-claims t) (make-at t) make.Post make-Inv-loop make-μ-loop → make-lts.After-index (make-claims t) (make-at t) make.Post make-Inv-loop make-μ-loop
+make-at-index t c = c .before .before
+
+abbrev make-start₂ : (t : ℕ) → make-lts.At-loop (make-claims t) (make-at t) make.Post make-Inv-loop make-μ-loop → make-lts.Start (make-claims t) (make-at t) make.Post make-Inv-loop make-μ-loop
+make-start₂ t c = make-start t (make-at-index t c .before)
+
+abbrev make-inside : (t : ℕ) → make-lts.After-slice-known2 (make-claims t) (make-at t) make.Post make-Inv-loop make-μ-loop → make-lts.In-loop (make-claims t) (make-at t) make.Post make-Inv-loop make-μ-loop
+make-inside t c = c .before .before .before .before
+
+abbrev make-at-loop : (t : ℕ) → make-lts.After-coded (make-claims t) (make-at t) make.Post make-Inv-loop make-μ-loop → make-lts.At-loop (make-claims t) (make-at t) make.Post make-Inv-loop make-μ-loop
+make-at-loop t c = c .before .before .before
 
 -- what was read of a construct
-make-known : (t : ℕ) (c : make-lts.Start (make-claims t) (make-at t) make.Post)
+make-known : (t : ℕ) (c : make-lts.Start (make-claims t) (make-at t) make.Post make-Inv-loop make-μ-loop)
     → MakeFacts (c .args .ar .now) (c .args .s .now) (c .args .depth) (c .args .at)
 make-known t c = make-facts _ _ _ _ (c .pre .1 .good)
 
-make-args-requires : (t : ℕ) → make-lts.Need-args-requires (make-claims t) (make-at t) make.Post
-make-args-requires t c κs =
-    let at-index = c .before .before in let start = make-start t (at-index .before) in
-    let f = make-known t start in (
-      omega (arith, start .pre .0, c .before .shared-slice-known4 .given (at-index .index .result)),
-      rw (at-index .index .ensures .0) (part-ready (f .part) (start .pre .1)),
-    )
+make-loop-holds : (t : ℕ) → make-lts.Need-loop-holds (make-claims t) (make-at t) make.Post make-Inv-loop make-μ-loop
+make-loop-holds t c =
+    let at-index = c .before in let start = make-start t (at-index .before) in
+    rw (at-index .index .ensures .0) (rest-all _ (part-ready (make-known t start .part) (start .pre .1)))
 
-make-add-requires : (t : ℕ) → make-lts.Need-add-requires (make-claims t) (make-at t) make.Post
+make-expr-requires : (t : ℕ) → make-lts.Need-expr-requires (make-claims t) (make-at t) make.Post make-Inv-loop make-μ-loop
+make-expr-requires t c κs =
+    let at-loop = c .before .before in
+    (omega (arith, make-start₂ t at-loop .pre .0), args-ready _ _ _ _ (at-loop .loop .inv) (c .before .loop-test .taken))
+
+make-loop-again : (t : ℕ) → make-lts.Need-loop-again (make-claims t) (make-at t) make.Post make-Inv-loop make-μ-loop
+make-loop-again t c =
+    let inside = make-inside t c in
+    args-next _ _ _ _ (inside .before .loop .inv) (inside .loop-test .taken) (c .before .before .expr .ensures)
+
+-- behind the loop all arguments are written
+abbrev make-args : (t : ℕ) (c : make-lts.Start (make-claims t) (make-at t) make.Post make-Inv-loop make-μ-loop) → Result Exprs
+make-args t c = args-at (c .args .ar .now) (c .args .s .now) (c .args .depth) (getD (c .args .ar .now) (getD (c .args .s .now) (c .args .at) 0) 0) (c .args .at + 1)
+
+make-written : (t : ℕ) (c : make-lts.After-loop (make-claims t) (make-at t) make.Post make-Inv-loop make-μ-loop)
+    → Wrote args-words (make-args t (make-start₂ t (c .before))) (make-start₂ t (c .before) .args .out .now) (make-start₂ t (c .before) .args .k)
+    (c .before .loop .p) (c .before .loop .out)
+make-written t c = rw (make-at-index t (c .before) .index .ensures .0) at (args-none _ _ _ _ (c .before .loop .inv) (c .loop-test .left))
+
+make-add-requires : (t : ℕ) → make-lts.Need-add-requires (make-claims t) (make-at t) make.Post make-Inv-loop make-μ-loop
 make-add-requires t c κs =
-    let at-wide = c .before .before in let at-args2 = at-wide .before .before .before in
-    let at-index = at-args2 .before .before .before in let start = make-start t (at-index .before) in
-    let f = make-known t start in
-    let e = rw (at-index .index .ensures .0) at (at-args2 .args2 .ensures) in
-    omega (arith, part-room (f .part) (start .pre .1) e)
+    let after = c .before .before .before in let start = make-start₂ t (after .before) in
+    omega (arith, part-room (make-known t start .part) (start .pre .1) (make-written t after))
 
-make-same-length : (t : ℕ) → make-lts.Need-same-length (make-claims t) (make-at t) make.Post
+make-same-length : (t : ℕ) → make-lts.Need-same-length (make-claims t) (make-at t) make.Post make-Inv-loop make-μ-loop
 make-same-length t c =
-    let at-add = c .before .before in let at-wide = at-add .before .before .before in
-    at-add .add .kept .0 ∙ placed-kept (at-wide .before .before .before .args2 .ensures)
+    let at-add = c .before .before in
+    at-add .add .kept .0 ∙ make-at-loop t (at-add .before .before) .loop .inv .kept
 
-make-returns : (t : ℕ) → make-lts.Need-returns (make-claims t) (make-at t) make.Post
+make-returns : (t : ℕ) → make-lts.Need-returns (make-claims t) (make-at t) make.Post make-Inv-loop make-μ-loop
 make-returns t c =
     let at-add = c .before .before in let at-coded = at-add .before .before in
-    let at-args2 = at-coded .before .before .before .before in let at-index = at-args2 .before .before .before in
-    let f = make-known t (make-start t (at-index .before)) in
-    let e = rw (at-index .index .ensures .0) at (at-args2 .args2 .ensures) in
-    part-last _ (f .part) e (at-add .add .ensures .0) (at-add .add .ensures .1)
+    let after = at-coded .before .before in
+    part-last _ (make-known t (make-start₂ t (after .before)) .part) (make-written t after) (at-add .add .ensures .0) (at-add .add .ensures .1)
     (at-add .add .ensures .2 ∙ rw (at-coded .coded .ensures, at-coded .before .wide .ensures .0) refl)
 
-pub +args+expr+make-spec : {M : Type 1} → statement M
-+args+expr+make-spec =
-    close μ-args μ-expr μ-make
-    (λ t. args-lts.spec (args-claims t) (args-at t) args.Post (args-returns t) (args-expr-requires t)
-    (λ c. omega (arith, c .before .before .before .before .if1 .left)) (args-args-requires t) (args-same-length t) (args-returns-2 t))
+pub +expr+make-spec : {M : Type 1} → statement M
++expr+make-spec =
+    close μ-expr μ-make
     (λ t. expr-lts.spec (expr-claims t) (expr-at t) expr.Post (λ c. omega (arith, expr-known t (c .before .before .before .before)))
     (λ c. omega (arith, expr-known t (expr-start t (c .before)))) (λ c. omega (arith, expr-known t (expr-start t (c .before))))
     (expr-expr-requires t) (λ c κs. omega arith) (expr-add-requires t) (expr-same-length t) (expr-returns t)
@@ -352,7 +322,8 @@ pub +args+expr+make-spec : {M : Type 1} → statement M
     (λ c. omega (arith, expr-known t (expr-start₄ t c))) (expr-expr-requires-2 t)
     (λ c. omega (arith, expr-known t (expr-start₄ t (expr-at-else4 t (c .before .before))))) (expr-expr-requires-3 t) (λ c κs. tt)
     (λ c κs. omega (arith, c .wide .ensures .1)) (expr-add-requires-2 t) (expr-same-length-5 t) (expr-returns-5 t))
-    λ t. make-lts.spec (make-claims t) (make-at t) make.Post (λ c. omega (arith, make-known t (c .before .before .before .before)))
-    (λ c κs. omega (arith, make-known t (c .before .before .before .before))) (λ c. omega (arith, make-known t (make-start₂ t c)))
-    (λ c. omega (arith, make-known t (make-start₂ t (c .before)), c .before .index .ensures .0)) (make-args-requires t) (λ c κs. tt)
-    (λ c κs. omega (arith, c .wide .ensures .1)) (make-add-requires t) (make-same-length t) (make-returns t)
+    λ t. make-lts.spec (make-claims t) (make-at t) make.Post make-Inv-loop make-μ-loop (λ c. omega (arith, make-known t (c .before .before .before .before)))
+    (λ c κs. tt) (λ c. omega (arith, make-known t (make-start t (c .before .before)), c .before .index .ensures .0))
+    (λ c. omega (arith, make-known t (make-start t (c .before .before)))) (make-loop-holds t) (make-expr-requires t)
+    (λ c. omega (arith, make-inside t c .loop-test .taken)) (λ c. omega (arith, make-inside t c .loop-test .taken)) (make-loop-again t)
+    (λ c κs. tt) (λ c κs. omega (arith, c .wide .ensures .1)) (make-add-requires t) (make-same-length t) (make-returns t)

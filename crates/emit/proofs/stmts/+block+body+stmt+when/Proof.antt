@@ -1,35 +1,33 @@
--- `emit::stmts` meets its contracts, a law for each kind. The measure goes by the levels of if, and within one level by the statements that
--- are left (at most 255), with a body, a block and an if above them.
-use Rattle.emit.specs.Written.{Ready, body-words, body-at as body-from}
+-- `emit::stmts` meets its contracts, a law for each kind. The measure goes by the levels of if, with a body, a block and an if above its
+-- statements. The invariant of the loop over these: once those that are left are written, all are.
+use Rattle.emit.specs.Written.{Ready, body-words, body-at as body-from, stmts-at as stmts-from}
+use Rattle.emit.specs.Parts.{Rest}
 use lib.ListN.{length}
 use Prim.Native.Nat.{ℕ, _<_, _+_, _*_}
 use mathlib.Core.List.{List}
 use borrow.Fn.Kind.{PK}
 use borrow.Fn.Kinds.{In}
 use borrow.Fn.PlainCycle.{Measures, is, falls, and}
-use Rattle.emit.proofs.stmts.+block+body+stmt+stmts+when.{statement}
-use Rattle.emit.proofs.stmts.+block+body+stmt+stmts+when.Tie.{close}
+use Rattle.emit.proofs.stmts.+block+body+stmt+when.{statement}
+use Rattle.emit.proofs.stmts.+block+body+stmt+when.Tie.{close}
 use native.Mathlib.Omega.{arith}
 use mathlib.Core.Path.{_∙_}
 use Rattle.emit.specs.WrittenLaws.{placed-kept}
-use Rattle.emit.specs.PartsLaws.{part-ready, part-same, parts-ready, parts-next, parts-same}
-use Rattle.emit.specs.StmtLaws.{block-ready, block-wrote, body-facts, when-parts, stmts-none, stmts-more, stmt-in, when-part, declare-part}
+use Rattle.emit.specs.PartsLaws.{part-ready, part-same, parts-ready, parts-next, parts-same, rest-all}
+use Rattle.emit.specs.StmtLaws.{block-ready, block-wrote, body-facts, BodyFacts, when-parts, stmts-ready, stmts-next, stmts-none, stmt-in, when-part, declare-part}
 use Rattle.emit.specs.StmtLaws.{updated-part, create-part}
 use Rattle.emit.proofs.stmts.block.Reads as block
 use Rattle.emit.proofs.stmts.block.Kinds as block-kinds
-use Rattle.emit.proofs.stmts.+block+body+stmt+stmts+when.Lts-block as block-lts
+use Rattle.emit.proofs.stmts.+block+body+stmt+when.Lts-block as block-lts
 use Rattle.emit.proofs.stmts.body.Reads as body
 use Rattle.emit.proofs.stmts.body.Kinds as body-kinds
-use Rattle.emit.proofs.stmts.+block+body+stmt+stmts+when.Lts-body as body-lts
+use Rattle.emit.proofs.stmts.+block+body+stmt+when.Lts-body as body-lts
 use Rattle.emit.proofs.stmts.stmt.Reads as stmt
 use Rattle.emit.proofs.stmts.stmt.Kinds as stmt-kinds
-use Rattle.emit.proofs.stmts.+block+body+stmt+stmts+when.Lts-stmt as stmt-lts
-use Rattle.emit.proofs.stmts.stmts.Reads as stmts
-use Rattle.emit.proofs.stmts.stmts.Kinds as stmts-kinds
-use Rattle.emit.proofs.stmts.+block+body+stmt+stmts+when.Lts-stmts as stmts-lts
+use Rattle.emit.proofs.stmts.+block+body+stmt+when.Lts-stmt as stmt-lts
 use Rattle.emit.proofs.stmts.when.Reads as when
 use Rattle.emit.proofs.stmts.when.Kinds as when-kinds
-use Rattle.emit.proofs.stmts.+block+body+stmt+stmts+when.Lts-when as when-lts
+use Rattle.emit.proofs.stmts.+block+body+stmt+when.Lts-when as when-lts
 use Rattle.emit.proofs.exprs.expr.Reads as expr-reads
 use Rattle.emit.proofs.exprs.make.Reads as make-reads
 use Rattle.emit.proofs.stmts.declare.Reads as declare-reads
@@ -38,19 +36,16 @@ use Rattle.emit.proofs.words.coded.Reads as coded-reads
 use Rattle.emit.proofs.words.store.Reads as store-reads
 
 abbrev μ-block : Measures 3 block-kinds.ps ℕ
-μ-block κs a = 300 * a .1 .1 .1 .0 + 258
+μ-block κs a = 4 * a .1 .1 .1 .0 + 2
 
 abbrev μ-body : Measures 3 body-kinds.ps ℕ
-μ-body κs a = 300 * a .1 .1 .1 .0 + 257
+μ-body κs a = 4 * a .1 .1 .1 .0 + 1
 
 abbrev μ-stmt : Measures 3 stmt-kinds.ps ℕ
-μ-stmt κs a = 300 * a .1 .1 .1 .0
-
-abbrev μ-stmts : Measures 3 stmts-kinds.ps ℕ
-μ-stmts κs a = 300 * a .1 .1 .1 .0 + (1 + a .1 .1 .1 .1 .0)
+μ-stmt κs a = 4 * a .1 .1 .1 .0
 
 abbrev μ-when : Measures 3 when-kinds.ps ℕ
-μ-when κs a = 300 * a .1 .1 .1 .0 + 259
+μ-when κs a = 4 * a .1 .1 .1 .0 + 3
 
 abbrev block-at : ℕ → In 3 block-kinds.ps
 block-at t = and 3 block-kinds.ps (is 3 block-kinds.ps μ-block t) block.Pre
@@ -60,9 +55,6 @@ body-at t = and 3 body-kinds.ps (is 3 body-kinds.ps μ-body t) body.Pre
 
 abbrev stmt-at : ℕ → In 3 stmt-kinds.ps
 stmt-at t = and 3 stmt-kinds.ps (is 3 stmt-kinds.ps μ-stmt t) stmt.Pre
-
-abbrev stmts-at : ℕ → In 3 stmts-kinds.ps
-stmts-at t = and 3 stmts-kinds.ps (is 3 stmts-kinds.ps μ-stmts t) stmts.Pre
 
 abbrev when-at : ℕ → In 3 when-kinds.ps
 when-at t = and 3 when-kinds.ps (is 3 when-kinds.ps μ-when t) when.Pre
@@ -76,7 +68,7 @@ abbrev block-claims : ℕ → block-lts.Claims
 block-claims t = (below body-kinds.ps μ-body body.Pre t, body.Post, coded-reads.Asked, coded-reads.Learnt, store-reads.Asked, store-reads.Learnt)
 
 abbrev body-claims : ℕ → body-lts.Claims
-body-claims t = (below stmts-kinds.ps μ-stmts stmts.Pre t, stmts.Post)
+body-claims t = (below stmt-kinds.ps μ-stmt stmt.Pre t, stmt.Post)
 
 abbrev stmt-claims : ℕ → stmt-lts.Claims
 stmt-claims t = (
@@ -89,9 +81,6 @@ stmt-claims t = (
   make-reads.Asked,
   make-reads.Learnt,
 )
-
-abbrev stmts-claims : ℕ → stmts-lts.Claims
-stmts-claims t = (below stmt-kinds.ps μ-stmt stmt.Pre t, stmt.Post, below stmts-kinds.ps μ-stmts stmts.Pre t, stmts.Post)
 
 abbrev when-claims : ℕ → when-lts.Claims
 when-claims t = (expr-reads.Asked, expr-reads.Learnt, below block-kinds.ps μ-block block.Pre t, block.Post)
@@ -147,22 +136,41 @@ block-returns t c =
     let at-body = block-at-body t (at-store .before) in
     block-wrote _ (block-start₂ t at-body .pre .1 .good) (at-body .body .ensures) (at-coded .coded .ensures) (at-store .store .ensures)
 
+abbrev body-Inv-loop : body-lts.InvT-loop
+body-Inv-loop s ar at depth out₀ k left₀ p₀ out left p =
+    Rest body-words (stmts-from ar s depth left₀ (at + 1)) out₀ k (stmts-from ar s depth left (p .next)) p out
+
+abbrev body-μ-loop : body-lts.MeasureT-loop
+body-μ-loop s ar at depth out₀ k left₀ p₀ out left p = left
+
 -- the places of `body` that proofs look back to
-abbrev body-start : (t : ℕ) → body-lts.After-shared-slice-known3 (body-claims t) (body-at t) body.Post → body-lts.Start (body-claims t) (body-at t) body.Post
+abbrev body-start : (t : ℕ) → body-lts.After-shared-slice-known3 (body-claims t) (body-at t) body.Post body-Inv-loop body-μ-loop → body-lts.Start (body-claims t) (body-at t) body.Post body-Inv-loop body-μ-loop
 body-start t c = c .before .before .before .before
 
-abbrev body-start₂ : (t : ℕ) → body-lts.After-stmts-arg (body-claims t) (body-at t) body.Post → body-lts.Start (body-claims t) (body-at t) body.Post
-body-start₂ t c = body-start t (c .before)
+abbrev body-inside : (t : ℕ) → body-lts.After-slice-known2 (body-claims t) (body-at t) body.Post body-Inv-loop body-μ-loop → body-lts.In-loop (body-claims t) (body-at t) body.Post body-Inv-loop body-μ-loop
+body-inside t c = c .before .before .before .before
 
-body-stmts-requires : (t : ℕ) → body-lts.Need-stmts-requires (body-claims t) (body-at t) body.Post
-body-stmts-requires t c κs =
-    let a = body-start₂ t c .args in let f = body-facts _ _ _ _ (body-start₂ t c .pre .1 .good) in
-    (omega (arith, body-start₂ t c .pre .0, c .before .shared-slice-known3 .given (a .at)), part-ready (f .part) (body-start₂ t c .pre .1))
+-- a body is a count and statements
+body-known : (t : ℕ) (c : body-lts.Start (body-claims t) (body-at t) body.Post body-Inv-loop body-μ-loop)
+    → BodyFacts (c .args .ar .now) (c .args .s .now) (c .args .depth) (c .args .at)
+body-known t c = body-facts _ _ _ _ (c .pre .1 .good)
 
-body-returns : (t : ℕ) → body-lts.Need-returns (body-claims t) (body-at t) body.Post
+body-loop-holds : (t : ℕ) → body-lts.Need-loop-holds (body-claims t) (body-at t) body.Post body-Inv-loop body-μ-loop
+body-loop-holds t c = let start = body-start t c in rest-all _ (part-ready (body-known t start .part) (start .pre .1))
+
+body-stmt-requires : (t : ℕ) → body-lts.Need-stmt-requires (body-claims t) (body-at t) body.Post body-Inv-loop body-μ-loop
+body-stmt-requires t c κs =
+    let at-loop = c .before .before in
+    (omega (arith, body-start t (at-loop .before) .pre .0), stmts-ready _ _ _ _ (at-loop .loop .inv) (c .before .loop-test .taken))
+
+body-loop-again : (t : ℕ) → body-lts.Need-loop-again (body-claims t) (body-at t) body.Post body-Inv-loop body-μ-loop
+body-loop-again t c =
+    let inside = body-inside t c in
+    stmts-next _ _ _ _ (inside .before .loop .inv) (inside .loop-test .taken) (c .before .before .stmt .ensures)
+
+body-returns : (t : ℕ) → body-lts.Need-returns (body-claims t) (body-at t) body.Post body-Inv-loop body-μ-loop
 body-returns t c =
-    let at-stmts = c .before .before in
-    part-same (body-facts _ _ _ _ (body-start₂ t (at-stmts .before) .pre .1 .good) .part) (at-stmts .stmts .ensures)
+    part-same (body-known t (body-start t (c .before .before)) .part) (stmts-none _ _ _ _ (c .before .loop .inv) (c .loop-test .left))
 
 -- the places of `stmt` that proofs look back to
 abbrev stmt-start : (t : ℕ) → stmt-lts.After-shared-slice-known3 (stmt-claims t) (stmt-at t) stmt.Post → stmt-lts.Start (stmt-claims t) (stmt-at t) stmt.Post
@@ -220,41 +228,6 @@ stmt-returns-4 t c =
     part-same (create-part _ _ _ _ (stmt-start₃ t (at-make .before) .pre .1 .good) (at-if1 .if1 .left) (at-if3 .before .if2 .left) (at-if3 .if3 .left))
     (at-make .make .ensures)
 
--- the places of `stmts` that proofs look back to
-abbrev stmts-start : (t : ℕ) → stmts-lts.Else1 (stmts-claims t) (stmts-at t) stmts.Post → stmts-lts.Start (stmts-claims t) (stmts-at t) stmts.Post
-stmts-start t c = c .before .before .before .before
-
-abbrev stmts-at-if1 : (t : ℕ) → stmts-lts.After-stmt (stmts-claims t) (stmts-at t) stmts.Post → stmts-lts.Else1 (stmts-claims t) (stmts-at t) stmts.Post
-stmts-at-if1 t c = c .before .before
-
-abbrev stmts-at-if1₂ : (t : ℕ) → stmts-lts.After-stmts-arg (stmts-claims t) (stmts-at t) stmts.Post → stmts-lts.Else1 (stmts-claims t) (stmts-at t) stmts.Post
-stmts-at-if1₂ t c = stmts-at-if1 t (c .before .before .before)
-
-abbrev stmts-at-stmt : (t : ℕ) → stmts-lts.After-stmts (stmts-claims t) (stmts-at t) stmts.Post → stmts-lts.After-stmt (stmts-claims t) (stmts-at t) stmts.Post
-stmts-at-stmt t c = c .before .before .before .before
-
-abbrev stmts-at-stmt₂ :
-    (t : ℕ) → stmts-lts.After-slice-known3 (stmts-claims t) (stmts-at t) stmts.Post → stmts-lts.After-stmt (stmts-claims t) (stmts-at t) stmts.Post
-stmts-at-stmt₂ t c = stmts-at-stmt t (c .before .before)
-
-stmts-stmt-requires : (t : ℕ) → stmts-lts.Need-stmt-requires (stmts-claims t) (stmts-at t) stmts.Post
-stmts-stmt-requires t c κs =
-    let f = stmts-more _ _ _ _ _ (c .before .if1 .left) (stmts-start t (c .before) .pre .1 .good) in
-    (omega (arith, stmts-start t (c .before) .pre .0), parts-ready f (stmts-start t (c .before) .pre .1))
-
-stmts-stmts-requires : (t : ℕ) → stmts-lts.Need-stmts-requires (stmts-claims t) (stmts-at t) stmts.Post
-stmts-stmts-requires t c κs =
-    let f = stmts-more _ _ _ _ _ (stmts-at-if1₂ t c .if1 .left) (stmts-start t (stmts-at-if1₂ t c) .pre .1 .good) in (
-      omega (arith, stmts-start t (stmts-at-if1₂ t c) .pre .0, stmts-at-if1₂ t c .if1 .left),
-      parts-next f (stmts-start t (stmts-at-if1₂ t c) .pre .1) (c .before .before .before .stmt .ensures),
-    )
-
-stmts-returns-2 : (t : ℕ) → stmts-lts.Need-returns-2 (stmts-claims t) (stmts-at t) stmts.Post
-stmts-returns-2 t c =
-    let at-stmts = c .before .before in let at-if1 = stmts-at-if1₂ t (at-stmts .before) in
-    let f = stmts-more _ _ _ _ _ (at-if1 .if1 .left) (stmts-start t at-if1 .pre .1 .good) in
-    parts-same (stmts-at-stmt₂ t c .stmt .ensures) (at-stmts .stmts .ensures) f
-
 -- the places of `when` that proofs look back to
 abbrev when-start : (t : ℕ) → when-lts.After-expr-arg (when-claims t) (when-at t) when.Post → when-lts.Start (when-claims t) (when-at t) when.Post
 when-start t c = c .before .before .before .before
@@ -288,15 +261,16 @@ when-returns t c =
     let at-block = c .before .before in
     parts-same (when-at-expr₂ t c .expr .ensures) (at-block .block .ensures) (when-parts _ _ _ _ (when-start₂ t (at-block .before) .pre .1 .good))
 
-pub +block+body+stmt+stmts+when-spec : {M : Type 1} → statement M
-+block+body+stmt+stmts+when-spec =
-    close μ-block μ-body μ-stmt μ-stmts μ-when
+pub +block+body+stmt+when-spec : {M : Type 1} → statement M
++block+body+stmt+when-spec =
+    close μ-block μ-body μ-stmt μ-when
     (λ t. block-lts.spec (block-claims t) (block-at t) block.Post (λ c. omega (arith, block-known t (c .before .before .before .before)))
     (block-body-requires t) (block-sub-n t) (block-sub-n-2 t) (block-coded-requires t) (block-store-requires t) (block-same-length t)
     (block-returns t))
-    (λ t. body-lts.spec (body-claims t) (body-at t) body.Post (λ c. omega (arith, body-facts _ _ _ _ (c .before .before .before .pre .1 .good)))
-    (λ c. omega (arith, body-facts _ _ _ _ (c .before .before .before .before .pre .1 .good))) (body-stmts-requires t)
-    (λ c. placed-kept (c .before .before .stmts .ensures)) (body-returns t))
+    (λ t. body-lts.spec (body-claims t) (body-at t) body.Post body-Inv-loop body-μ-loop (λ c. omega (arith, body-known t (c .before .before .before .before)))
+    (λ c. omega (arith, body-known t (c .before .before .before .before))) (body-loop-holds t) (body-stmt-requires t)
+    (λ c. omega (arith, body-inside t c .loop-test .taken)) (λ c. omega (arith, body-inside t c .loop-test .taken)) (body-loop-again t)
+    (λ c. c .before .loop .inv .kept) (body-returns t))
     (λ t. stmt-lts.spec (stmt-claims t) (stmt-at t) stmt.Post (λ c. omega (arith, stmt-in _ _ _ _ (c .before .before .before .before .pre .1 .good)))
     (λ c. omega (arith, stmt-in _ _ _ _ (stmt-start t (c .before) .pre .1 .good))) (stmt-sub-when t) (stmt-when-requires t)
     (λ c. placed-kept (c .before .before .when .ensures)) (stmt-returns t)
@@ -306,9 +280,4 @@ pub +block+body+stmt+stmts+when-spec : {M : Type 1} → statement M
     (λ c. placed-kept (c .before .before .update .ensures)) (stmt-returns-3 t)
     (λ c. omega (arith, stmt-in _ _ _ _ (stmt-start t (c .before .before .before) .pre .1 .good))) (stmt-make-requires t)
     (λ c. placed-kept (c .before .before .make .ensures)) (stmt-returns-4 t))
-    (λ t. stmts-lts.spec (stmts-claims t) (stmts-at t) stmts.Post
-    (λ c. let a = c .before .before .before .before .args in
-    stmts-none (a .ar .now) (a .s .now) (a .depth) (a .n) (a .at) (c .if1 .taken) (a .out .now) (a .k))
-    (stmts-stmt-requires t) (λ c. omega (arith, c .before .before .before .before .if1 .left)) (stmts-stmts-requires t)
-    (λ c. placed-kept (c .before .before .stmts .ensures) ∙ placed-kept (stmts-at-stmt₂ t c .stmt .ensures)) (stmts-returns-2 t))
     λ t. when-lts.spec (when-claims t) (when-at t) when.Post (when-expr-requires t) (when-block-requires t) (when-same-length t) (when-returns t)
