@@ -1,4 +1,4 @@
--- `choose::holding` meets its contract. The loop's invariant: those counted and those still to be counted are all. The measure is how
+-- `count::holding` meets its contract. The loop's invariant: those counted and those still to be counted are all. The measure is how
 -- many instances are left.
 use Prim.Native.Nat.{_≤_, _+_, _-_}
 use mathlib.Core.Path.{_≡_, sym, ap, _∙_}
@@ -6,9 +6,9 @@ use mathlib.Core.Logic.{⊎-elim}
 use native.Mathlib.Omega.{arith}
 use Rattle.layout.specs.Layout.{holds}
 use Rattle.memory.specs.Choose.{holding}
-use Rattle.scheduler.specs.ChooseWays.{count-done, count-here, count-past}
-use Rattle.scheduler.proofs.choose.holding.Statement.{statement}
-use Rattle.scheduler.proofs.choose.holding.Tie as tie
+use Rattle.scheduler.specs.CountWays.{count-done, count-here, count-past}
+use Rattle.scheduler.proofs.count.holding.Statement.{statement}
+use Rattle.scheduler.proofs.count.holding.Tie as tie
 
 abbrev Inv-loop : tie.InvT-loop
 Inv-loop heads n count₀ l₀ count l = (l ≤ n) × (count ≤ l) × (count + holding heads l (n - l) ≡ holding heads 0 n)
