@@ -35,12 +35,15 @@ byte-requires-2 : tie.Need-byte-requires-2 Inv-loop μ-loop
 byte-requires-2 c κs = search needs
 
 loop-less : tie.Need-loop-less Inv-loop μ-loop
-loop-less c = omega (arith, digit-told (c .before .before .before .before .loop .inv) (sym (c .before .before .before .is-digit .ensures) ∙ (c .before .before .if1 .taken)))
+loop-less c =
+    let at-digit = c .before .before .before in
+    omega (arith, digit-told (at-digit .before .loop .inv) (sym (at-digit .is-digit .ensures) ∙ (c .before .before .if1 .taken)))
 
 loop-again : tie.Need-loop-again Inv-loop μ-loop
 loop-again c =
+    let at-digit = c .before .before .before in
     record {
-      sum = added-on (c .before .before .before .before .loop .inv) (sym (c .before .before .before .is-digit .ensures) ∙ (c .before .before .if1 .taken)) (c .before .longer .ensures);
+      sum = added-on (at-digit .before .loop .inv) (sym (at-digit .is-digit .ensures) ∙ (c .before .before .if1 .taken)) (c .before .longer .ensures);
       at-hand = (c .byte2 .ensures);
     }
 

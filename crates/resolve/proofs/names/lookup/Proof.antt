@@ -29,7 +29,8 @@ same-name-requires c κs = search needs
 
 returns : tie.Need-returns Inv-loop μ-loop
 returns c =
-    seeks-here (c .before .before .before .before .loop .inv) (c .before .before .before .loop-test .taken) (sym (c .before .same-name .ensures) ∙ (c .if1 .taken))
+    let at-test = c .before .before .before in
+    seeks-here (at-test .before .loop .inv) (at-test .loop-test .taken) (sym (c .before .same-name .ensures) ∙ (c .if1 .taken))
 
 add-i : tie.Need-add-i Inv-loop μ-loop
 add-i c = omega (arith, (c .before .before .before .loop-test .taken))
@@ -39,7 +40,8 @@ loop-less c = omega (arith, (c .before .before .before .loop-test .taken))
 
 loop-again : tie.Need-loop-again Inv-loop μ-loop
 loop-again c =
-    seeks-on (c .before .before .before .before .loop .inv) (c .before .before .before .loop-test .taken) (sym (c .before .same-name .ensures) ∙ (c .if1 .left))
+    let at-test = c .before .before .before in
+    seeks-on (at-test .before .loop .inv) (at-test .loop-test .taken) (sym (c .before .same-name .ensures) ∙ (c .if1 .left))
 
 returns-2 : tie.Need-returns-2 Inv-loop μ-loop
 returns-2 c = seeks-out (c .before .loop .inv) (c .loop-test .left)

@@ -41,9 +41,10 @@ loop-less c = omega (arith, alike-inside (c .before .before .before .before .loo
 
 loop-again : tie.Need-loop-again Inv-loop μ-loop
 loop-again c =
+    let at-test = c .before .before .before in
     record {
       at-hand = c .letter3 .ensures;
-      rest = alike-on (c .before .before .before .before .loop .inv) (c .before .before .letter2 .ensures) (c .before .before .before .loop-test .taken) (c .before .if1 .left);
+      rest = alike-on (at-test .before .loop .inv) (c .before .before .letter2 .ensures) (at-test .loop-test .taken) (c .before .if1 .left);
     }
 
 letter-requires-4 : tie.Need-letter-requires-4 Inv-loop μ-loop
@@ -53,4 +54,6 @@ returns-2 : tie.Need-returns-2 Inv-loop μ-loop
 returns-2 c = alike-end (c .before .before .loop .inv) (c .letter4 .ensures) (c .before .loop-test .left)
 
 pub same-name-spec : {M : Type 1} → statement M
-same-name-spec = tie.close (tie.spec Inv-loop μ-loop letter-requires loop-holds letter-requires-2 returns add-p add-q letter-requires-3 loop-less loop-again letter-requires-4 returns-2)
+same-name-spec =
+    tie.close
+    (tie.spec Inv-loop μ-loop letter-requires loop-holds letter-requires-2 returns add-p add-q letter-requires-3 loop-less loop-again letter-requires-4 returns-2)
