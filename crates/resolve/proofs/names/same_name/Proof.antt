@@ -56,4 +56,5 @@ returns-2 c = alike-end (c .before .before .loop .inv) (c .letter4 .ensures) (c 
 pub same-name-spec : {M : Type 1} → statement M
 same-name-spec =
     tie.close
-    (tie.spec Inv-loop μ-loop letter-requires loop-holds letter-requires-2 returns add-p add-q letter-requires-3 loop-less loop-again letter-requires-4 returns-2)
+    (tie.spec Inv-loop μ-loop letter-requires loop-holds letter-requires-2 returns add-p add-q letter-requires-3 loop-less loop-again
+    letter-requires-4 returns-2)
