@@ -1,37 +1,33 @@
--- The ways through the loop of turns (01, 'Table and turns'): memory z₀ where the run begins, z₁ with b₁ instances that hold commands
--- where the loop does, and z with n of them behind i turns.
-use Prim.Native.Nat.{ℕ, _+_, _-_, _*_, _<_, _≤_}
-use mathlib.Core.Path.{_≡_, ap, sym, _∙_}
+-- The ways through the loop of a run (01, 'Table and turns'), from memory z₀ where it begins: between its passages of turns the schedule moves
+-- until a turn is due, or the run is over.
+use Prim.Native.Nat.{ℕ, _*_, _<_, _≤_}
+use mathlib.Core.Path.{_≡_, refl, ap, sym, _∙_, subst}
+use mathlib.Core.Bool.{Bool, true, false, true≢false, false≢true}
 use mathlib.Core.List.{List}
 use native.Mathlib.Omega.{arith}
-use lib.ListN.{length, getD}
-use borrow.Author.Tests.{lt-ltb, le-ltb}
+use lib.ListN.{length}
+use lib.Dec.{eqb, leb}
+use borrow.Author.Tests.{eqb-true, eqb-false, leb-true, leb-false}
+use Rattle.types.specs.Limits.{max-instances}
 use Rattle.machine.specs.Machine.{Machine}
-use Rattle.machine.specs.Stops.{out-of-turns}
-use Rattle.layout.specs.Layout.{head, head-size, next-of, end-of, holds}
+use Rattle.layout.specs.Layout.{head-size}
 use Rattle.layout.specs.State.{State, state-of}
-use Rattle.memory.specs.Fit.{Fit}
-use Rattle.memory.specs.Act.{act}
-use Rattle.memory.specs.Choose.{holding, picked}
 use Rattle.layout.specs.declared.Numbers.{Numbers}
+use Rattle.memory.specs.Choose.{holding}
+use Rattle.holders.specs.declared.Record.{Record}
+use Rattle.holders.specs.Records.{Recorded}
+use Rattle.engine.specs.declared.Machine.{Machine as Engine}
+use Rattle.interpreter.specs.declared.turns.Going.{Going}
 use Rattle.interpreter.specs.Ready.{Ready}
-use Rattle.interpreter.specs.Counting.{fewer}
 use Rattle.interpreter.specs.Running.{busy, Begun, Standing, Settling, Ending, Gone}
-use Rattle.interpreter.specs.TurnLaws.{picked-fits}
-use Rattle.interpreter.specs.RunningLaws.{ready-rows, moves-none, settles-held, runs-none, still-running, ends-over, ends-lasting, ends-failed, taken-turn, runs-more}
+use Rattle.interpreter.specs.RunningLaws.{ready-rows, runs-none, still-running, ends-over, ends-lasting, runs-settled}
+use Rattle.interpreter.specs.Going.{going-at, Due, memory-of, Turning, Went, Passes}
+use Rattle.interpreter.specs.GoingLaws.{turns-left, fewer-left, at-nobody, at-last, at-turn, going-taken}
 
--- The count behind a command of instance l ------------------------------------------
-
-module _ (heads : List ℕ) (l n : ℕ) where
-  pub actor-holds : getD heads (head l next-of) 0 < getD heads (head l end-of) 0 → n ≡ fewer (holds heads l) n
-  unfolding fewer
-  actor-holds h = rw (lt-ltb (getD heads (head l next-of) 0) (getD heads (head l end-of) 0) h)
-
-  pub actor-ended : getD heads (head l end-of) 0 ≤ getD heads (head l next-of) 0 → n - 1 ≡ fewer (holds heads l) n
-  unfolding fewer
-  actor-ended h = rw (le-ltb (getD heads (head l next-of) 0) (getD heads (head l end-of) 0) h)
-
--- The run ----------------------------------------------------------------------------
+-- a run from memory z has come to s: a turn is due, or the run is over
+pub record Stays (counts list items spans es : List ℕ) (z : State) (s : Going) (y : State) : Type 0 where
+  pub due : s .due ≡ true → Gone counts list items spans es z (s .taken) y (s .holding) × Due es s
+  pub over : s .due ≡ false → Ending counts list items spans es z (s .number) (s .taken) y
 
 -- memory where a run begins has a row for each instance, and its numbers and heads stand by themselves
 module _ {counts list items spans h c : List ℕ} {n : Numbers} (begun : Begun counts list items spans (state-of n h c)) where
@@ -41,73 +37,93 @@ module _ {counts list items spans h c : List ℕ} {n : Numbers} (begun : Begun c
   pub begun-standing : Standing items spans h n
   begun-standing = record { counts = counts; list = list; cells = c; begun = begun }
 
-module _ {counts list items spans es : List ℕ} {z₀ z₁ : State} {b₁ : ℕ} (begun : Begun counts list items spans z₀) (settled : Settling items spans z₀ z₁ b₁) where
-  -- no turn yet
-  pub gone-none : Gone counts list items spans es z₁ b₁ 0 z₁ b₁
-  gone-none p m s = runs-none s
+module _ {counts list items spans es : List ℕ} {z₀ : State} where
+  -- the schedule has moved as far as it goes
+  stays-at : {m : Engine} {h c : List ℕ} {n i : ℕ} (a : Record) {s : Going} → s ≡ going-at es m n i a
+      → Gone counts list items spans es z₀ i (state-of (m .numbers) h c) n → i ≤ length es
+      → Stays counts list items spans es z₀ s (memory-of s h c)
+  stays-at {m} {h} {c} {n} {i} a {s} w g k = go (eqb n 0) refl (leb (length es) i) refl
+    where
+      Here : Going → Type 0
+      Here x = Stays counts list items spans es z₀ x (memory-of x h c)
 
-  module _ {i : ℕ} {z : State} {n : ℕ} (g : Gone counts list items spans es z₁ b₁ i z n) where
-    -- The ends of the loop ------------------------------------------------------------
+      go : (t : Bool) → eqb n 0 ≡ t → (u : Bool) → leb (length es) i ≡ u → Here s
+      go true t u v =
+          let e = eqb-true n 0 t in
+          subst Here (sym (w ∙ at-nobody es m n i a e)) (record { due = λ d. absurd (false≢true d); over = λ d p x r. ends-over (g p x r) e })
+      go false t true v =
+          let e = eqb-false n 0 t in
+          let q = leb-true (length es) i v in
+          subst Here (sym (w ∙ at-last es m n i a (omega arith) q))
+          (record { due = λ d. absurd (false≢true d); over = λ d p x r. ends-lasting (g p x r) (omega arith) (omega arith) })
+      go false t false v =
+          let e = eqb-false n 0 t in
+          let q = leb-false (length es) i v in
+          subst Here (sym (w ∙ at-turn es m n i a (omega arith) q))
+          (record { due = λ d. (g, record { now = refl; someone = omega arith; byte = q; picks = refl }); over = λ d. absurd (true≢false d) })
 
-    pub gone-over : n ≡ 0 → Ending counts list items spans es z₀ (z .machine .number) i z
-    gone-over h p m r = ends-over (g p m (settled p counts list m r)) h
+  -- where the moves before the first turn have led, and the loop from there on
+  pub stays-on : {m : Engine} {h c : List ℕ} {b : ℕ} → Settling items spans z₀ (state-of (m .numbers) h c) b
+      → (a : Record) {s₀ : Going} → s₀ ≡ going-at es m b 0 a
+      → {s : Going} {y : State}
+      → ((z : State) → Stays counts list items spans es z s₀ (memory-of s₀ h c) → Stays counts list items spans es z s y)
+      → Stays counts list items spans es z₀ s y
+  stays-on g a e inv = inv z₀ (stays-at a e (λ p m r. runs-none (g p counts list m r)) (omega arith))
 
-    module _ (h : 0 < n) where
-      pub gone-lasting : i ≡ length es → Ending counts list items spans es z₀ out-of-turns i z
-      gone-lasting k p m r = ends-lasting (g p m (settled p counts list m r)) h k
+  module _ {s : Going} {h c : List ℕ} (stays : Stays counts list items spans es z₀ s (memory-of s h c)) (d : s .due ≡ true) where
+    -- A passage of turns --------------------------------------------------------------
 
-      -- A turn ----------------------------------------------------------------------
+    module _ {r : Going} {h′ c′ : List ℕ} (passes : Passes list counts es s h c r h′ c′) where
+      went : Went counts list items spans es z₀ r (memory-of r h′ c′)
+      went = passes .went items spans z₀ (stays .due d .0)
 
-      gone-ready : (m : Machine) × (Ready (begun .program) counts list items spans m z) × (n ≡ busy z)
-      gone-ready =
-          let (m, r, b, q) = still-running (g (begun .program) (begun .machine) (settled (begun .program) counts list (begun .machine) (begun .ready))) h in
-          (m, r, b)
+      -- a number stops the run
+      pub passed-over : (r .number ≡ 0 → ⊥) → Stays counts list items spans es z₀ r (memory-of r h′ c′)
+      passed-over e = record { due = λ w. absurd (true≢false (sym w ∙ passes .rest)); over = λ w. went .over e }
 
-      -- what the choice of a holder needs
-      pub gone-rows : (head-size * z .machine .count ≤ length (z .heads)) × (n ≡ holding (z .heads) 0 (z .machine .count)) × (0 < n)
-      gone-rows = let (m, r, b) = gone-ready in (ready-rows r, b, h)
+      pub passed-over-less : turns-left es r < turns-left es s
+      passed-over-less = rw (passes .rest, d) (omega arith)
 
-      -- the next byte picks instance l
-      module _ {l : ℕ} (q : l ≡ picked (z .heads) (z .machine .count) (getD es i 0)) where
-        -- what its command needs
-        pub gone-fits : Fit list counts l z
-        gone-fits = let (m, r, b) = gone-ready in rw q (picked-fits r (omega arith) (getD es i 0))
+      -- nobody holds commands, and the schedule moves
+      module _ (e : r .number ≡ 0) (m : Engine) (j : ℕ) (a : Record) {x : Going} (w : x ≡ going-at es m j (r .taken) a) where
+        pub passed-more : {h″ : List ℕ} → Settling items spans (memory-of r h′ c′) (state-of (m .numbers) h″ c′) j
+            → Stays counts list items spans es z₀ x (memory-of x h″ c′)
+        passed-more g = stays-at a w (λ p y u. runs-settled (went .nobody e .1 p y u) (passes .within) (λ k v. g p counts list k v)) (passes .within)
 
-        module _ (k : i < length es) {y : State} (a : y ≡ act list counts l z) where
-          acted : y ≡ act list counts (picked (z .heads) (z .machine .count) (getD es i 0)) z
-          acted = a ∙ ap (λ (x : ℕ). act list counts x z) q
+        pub passed-more-less : turns-left es x < turns-left es s
+        passed-more-less =
+            let q = ap (λ (y : Going). y .taken) w ∙ going-taken es m j (r .taken) a in
+            let k = passes .more e in
+            fewer-left es x s d (stays .due d .1 .byte) (omega arith)
 
-          pub gone-failed : (y .machine .number ≡ 0 → ⊥) → Ending counts list items spans es z₀ (y .machine .number) i y
-          gone-failed c p m r = ends-failed (g p m (settled p counts list m r)) h k acted c
+    -- What the code needs -------------------------------------------------------------
 
-          module _ (c : y .machine .number ≡ 0) where
-            gone-taken : (m : Machine) × (Ready (begun .program) counts list items spans m y) × (busy y ≡ fewer (holds (y .heads) l) n)
-            gone-taken =
-                let (m, r, w, b) =
-                taken-turn (g (begun .program) (begun .machine) (settled (begun .program) counts list (begun .machine) (begun .ready))) h k acted c in
-                (m, r, rw q b)
+    module _ (begun : Begun counts list items spans z₀) where
+      stays-ready : (m : Machine) × (Ready (begun .program) counts list items spans m (memory-of s h c)) × (s .holding ≡ busy (memory-of s h c))
+      stays-ready =
+          let (m, r, b, v) = still-running (stays .due d .0 (begun .program) (begun .machine) (begun .ready)) (stays .due d .1 .someone) in (m, r, b)
 
-            -- memory behind it is ready
-            pub gone-begun : Begun counts list items spans y
-            gone-begun = let (m, r, b) = gone-taken in record { program = begun .program; machine = m; ready = r }
+      -- for the records
+      pub stays-rows : (head-size * s .machine .numbers .count ≤ length h) × (s .machine .numbers .count ≤ max-instances)
+      stays-rows = let (m, r, b) = stays-ready in (ready-rows r, r .stands .few)
 
-            -- as many hold commands, or one fewer
-            pub gone-count : fewer (holds (y .heads) l) n ≡ holding (y .heads) 0 (y .machine .count)
-            gone-count = let (m, r, b) = gone-taken in sym b
+      -- for the turns
+      pub stays-turning : {rs : List Record} → Recorded h (s .machine .numbers .count) rs → Turning list counts es s rs h c
+      stays-turning f =
+          let (m, r, b) = stays-ready in
+          record {
+            items = items;
+            spans = spans;
+            begun = record { program = begun .program; machine = m; ready = r };
+            counted = b;
+            due = stays .due d .1;
+            recorded = f;
+          }
 
-            pub gone-row : head l end-of < length (y .heads)
-            gone-row =
-                let (m, r, b) = gone-taken in
-                let f = gone-fits in
-                let u = f .chosen in
-                let v = f .few in
-                let w = r .stands .heads-long in
-                omega arith
-
-            -- a turn more, and the moves behind it
-            pub gone-more : {x : State} {j : ℕ} → Settling items spans y x j → Gone counts list items spans es z₁ b₁ (i + 1) x j
-            gone-more s p m t = runs-more (g p m t) h k acted c (λ w r. s p counts list w r)
-
-            -- a turn more, where someone still holds commands: the schedule does not move
-            pub gone-on : {n′ : ℕ} → n′ ≡ fewer (holds (y .heads) l) n → 0 < n′ → Gone counts list items spans es z₁ b₁ (i + 1) y n′
-            gone-on e s p m t = runs-more (g p m t) h k acted c (λ w r. settles-held (moves-none r) (e ∙ gone-count) s)
+      -- and for the moves behind them
+      pub passed-standing : {r : Going} {h′ c′ : List ℕ} → Passes list counts es s h c r h′ c′ → r .number ≡ 0
+          → (Standing items spans h′ (r .machine .numbers)) × (0 ≡ holding h′ 0 (r .machine .numbers .count))
+      passed-standing passes e =
+          let (n, g) = went passes .nobody e in
+          let q = g (begun .program) (begun .machine) (begun .ready) in
+          (begun-standing (record { program = begun .program; machine = q .machine; ready = q .ready }), sym n ∙ q .counted)

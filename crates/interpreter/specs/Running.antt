@@ -60,6 +60,13 @@ module _ (p : Program) (counts list items spans : List ℕ) (m : Machine) where
     over : {m′ : Machine} → Ready p counts list items spans m′ (cleared z) → n ≡ 0 → Visits p m es m′ (drop i es) → run p m es ≡ stopped (z .machine .number) i m′
         → Running es i z n
 
+  -- memory after i turns, before the schedule moves: it holds a machine that the run passes through, of which n instances hold commands
+  pub record Reached (es : List ℕ) (i : ℕ) (z : State) (n : ℕ) : Type 0 where
+    pub machine : Machine
+    pub ready : Ready p counts list items spans machine z
+    pub counted : n ≡ busy z
+    pub visits : Visits p m es machine (drop i es)
+
   -- memory after the whole run
   pub record Ended (es : List ℕ) (number taken : ℕ) (z : State) : Type 0 where
     pub last : Machine
@@ -96,7 +103,12 @@ abbrev pub Ending : List ℕ → List ℕ → List ℕ → List ℕ → List ℕ
 Ending counts list items spans es z number taken y =
     (p : Program) (m : Machine) → Ready p counts list items spans m z → Ended p counts list items spans m es number taken y
 
--- and where i turns have led, from memory z with b instances that hold commands: y, with n of them
-abbrev pub Gone : List ℕ → List ℕ → List ℕ → List ℕ → List ℕ → State → ℕ → ℕ → State → ℕ → Type 0
-Gone counts list items spans es z b i y n =
-    (p : Program) (m : Machine) → Settles p counts list items spans m z b → Running p counts list items spans m es i y n
+-- where i turns and the moves behind them have led: y, with n instances that hold commands
+abbrev pub Gone : List ℕ → List ℕ → List ℕ → List ℕ → List ℕ → State → ℕ → State → ℕ → Type 0
+Gone counts list items spans es z i y n =
+    (p : Program) (m : Machine) → Ready p counts list items spans m z → Running p counts list items spans m es i y n
+
+-- and where i turns have led without the moves behind them
+abbrev pub Come : List ℕ → List ℕ → List ℕ → List ℕ → List ℕ → State → ℕ → State → ℕ → Type 0
+Come counts list items spans es z i y n =
+    (p : Program) (m : Machine) → Ready p counts list items spans m z → Reached p counts list items spans m es i y n

@@ -21,12 +21,12 @@ use Rattle.memory.specs.Choose.{picked}
 use Rattle.memory.specs.Move.{nested, move}
 use Rattle.interpreter.specs.Ready.{Ready}
 use Rattle.interpreter.specs.Counting.{fewer}
-use Rattle.interpreter.specs.Running.{busy, cleared, Advanced, Advanced.advanced, Advanced.blocked, Moving, Moving.moving, Moving.nesting, Settles, Settles.held, Settles.still, Turned, Turned.turned, Turned.failed, Running, Running.going, Running.over, Ended}
+use Rattle.interpreter.specs.Running.{busy, cleared, Advanced, Advanced.advanced, Advanced.blocked, Moving, Moving.moving, Moving.nesting, Settles, Settles.held, Settles.still, Turned, Turned.turned, Turned.failed, Running, Running.going, Running.over, Reached, Ended}
 use Rattle.interpreter.specs.VisitWays.{visits-on, visits-outcome}
 use Rattle.interpreter.specs.TurnLaws.{ends, moved-on, lasts, turned-by, counted}
 
 -- a refused command's number is not 0
-number-some : {n : ℕ} → (n ≡ full) ⊎ (n ≡ exceeded) → n ≡ 0 → ⊥
+pub number-some : {n : ℕ} → (n ≡ full) ⊎ (n ≡ exceeded) → n ≡ 0 → ⊥
 number-some (inl e) c = omega arith
 number-some (inr e) c = omega arith
 
@@ -153,32 +153,37 @@ module _ {p : Program} {counts list items spans : List ℕ} where
                     record { last = m′; reached = v; returns = rw t at (visits-outcome i (omega arith) v u); ready = ready-cleared n r e }
 
             -- or taken, so that the run passes through the machine then, with a byte fewer
-            module _ (c : y .machine .number ≡ 0) where
-              pub taken-turn : (m″ : Machine) × (Ready p counts list items spans m″ y) × (Visits p m es m″ (drop (i + 1) es))
-                  × (busy y ≡ fewer (holds (y .heads) (picked (z .heads) (z .machine .count) byte)) n)
-              taken-turn = let (m′, r, b, v, t) = next-turn in go r b v t
-                where
-                  go : {m′ : Machine} → Ready p counts list items spans m′ z → n ≡ busy z → Visits p m es m′ (drop i es)
-                      → Turned p counts list items spans m′ byte z y
-                      → (m″ : Machine) × (Ready p counts list items spans m″ y) × (Visits p m es m″ (drop (i + 1) es))
-                      × (busy y ≡ fewer (holds (y .heads) (picked (z .heads) (z .machine .count) byte)) n)
-                  go {m′} r b v (turned {m′ = m″} r′ u s) = (
-                    m″,
-                    r′,
-                    rw add-one (visits-on (rw (drop-cons es i 0 k) at v) (s (drop (suc i) es))),
-                    counted r (omega arith) byte r′ u ∙ ap (fewer (holds (y .heads) (picked (z .heads) (z .machine .count) byte))) (sym b),
-                  )
-                  go r b v (failed e d s) = absurd (number-some d (sym (ap (λ (x : State). x .machine .number) e) ∙ c))
+            pub taken-turn : y .machine .number ≡ 0
+                → Reached p counts list items spans m es (i + 1) y (fewer (holds (y .heads) (picked (z .heads) (z .machine .count) byte)) n)
+            taken-turn c = let (m′, r, b, v, t) = next-turn in go r b v t
+              where
+                go : {m′ : Machine} → Ready p counts list items spans m′ z → n ≡ busy z → Visits p m es m′ (drop i es)
+                    → Turned p counts list items spans m′ byte z y
+                    → Reached p counts list items spans m es (i + 1) y (fewer (holds (y .heads) (picked (z .heads) (z .machine .count) byte)) n)
+                go {m′} r b v (turned {m′ = m″} r′ u s) = record {
+                  machine = m″;
+                  ready = r′;
+                  counted =
+                      sym (counted r (omega arith) byte r′ u
+                      ∙ ap (fewer (holds (y .heads) (picked (z .heads) (z .machine .count) byte))) (sym b));
+                  visits = rw add-one (visits-on (rw (drop-cons es i 0 k) at v) (s (drop (suc i) es)));
+                }
+                go r b v (failed e d s) = absurd (number-some d (sym (ap (λ (x : State). x .machine .number) e) ∙ c))
 
-              -- and the schedule moves on
-              pub runs-more : {x : State} {j : ℕ} → ((m″ : Machine) → Ready p counts list items spans m″ y → Settles p counts list items spans m″ x j)
-                  → Running p counts list items spans m es (i + 1) x j
-              runs-more s = let (m″, r, v, b) = taken-turn in go v (s m″ r)
-                where
-                  go : {m″ : Machine} → Visits p m es m″ (drop (i + 1) es) → {x : State} {j : ℕ} → Settles p counts list items spans m″ x j
-                      → Running p counts list items spans m es (i + 1) x j
-                  go v (held r b h u) = going r b h (visits-on v (u (drop (i + 1) es)))
-                  go v (still r h u f) =
-                      let w = visits-on v (u (drop (i + 1) es)) in
-                      let t : i + 1 + 0 ≡ i + 1 = omega arith in
-                      over r h w (rw t at (visits-outcome (i + 1) (omega arith) w (f (drop (i + 1) es))))
+    module _ {i : ℕ} {z : State} {n : ℕ} (g : Reached p counts list items spans m es i z n) where
+      -- someone holds commands: the schedule does not move
+      pub runs-held : 0 < n → Running p counts list items spans m es i z n
+      runs-held h = going (g .ready) (g .counted) h (g .visits)
+
+      -- the schedule moves on
+      pub runs-settled : i ≤ length es → {x : State} {j : ℕ} → ((w : Machine) → Ready p counts list items spans w z → Settles p counts list items spans w x j)
+          → Running p counts list items spans m es i x j
+      runs-settled k s = go (g .visits) (s (g .machine) (g .ready))
+        where
+          go : {w : Machine} → Visits p m es w (drop i es) → {x : State} {j : ℕ} → Settles p counts list items spans w x j
+              → Running p counts list items spans m es i x j
+          go v (held r b h u) = going r b h (visits-on v (u (drop i es)))
+          go v (still r h u f) =
+              let w = visits-on v (u (drop i es)) in
+              let t : i + 0 ≡ i = omega arith in
+              over r h w (rw t at (visits-outcome i k w (f (drop i es))))

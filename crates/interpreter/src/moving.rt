@@ -1,7 +1,7 @@
 // The moves of the schedule, without a turn, until some instance holds commands (01, 'Table and turns').
 use engine::Machine;
 use layout::codes;
-use scheduler::choose::holding;
+use scheduler::count::holding;
 ghost use mathlib.Core.Path.{_≡_};
 ghost use mathlib.Core.List.{List};
 ghost use Prim.Native.Nat.{ℕ};
@@ -22,7 +22,7 @@ pub fn settle(
     machine: Machine,
     n: usize,
     items: &[usize],
-    spans: &[usize],
+    spans: &[u16],
     heads: &mut [usize],
 ) -> Settled
     requires { ⌜ Standing (now items) (now spans) (now heads) (machine .numbers) ⌝ }

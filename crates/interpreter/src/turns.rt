@@ -1,14 +1,19 @@
 // The whole list of turn bytes: one command for each, and the schedule's moves between them (01, 'Table and turns').
 use crate::moving::settle;
 use engine::Machine;
-use scheduler::choose::holding;
-use scheduler::choose::picked_of;
+use holders::Record;
+use holders::holder;
+use holders::records;
+use scheduler::count::holding;
 ghost use mathlib.Core.Path.{_≡_};
-ghost use Prim.Native.Nat.{_<_};
+ghost use mathlib.Core.Bool.{false};
+ghost use Prim.Native.Nat.{_+_, _<_};
 ghost use lib.ListN.{length};
 ghost use Rattle.layout.specs.Layout.{head, end-of, holds};
 ghost use Rattle.layout.specs.State.{state-of};
+ghost use Rattle.memory.specs.Fit.{Fit};
 ghost use Rattle.interpreter.specs.Counting.{fewer};
+ghost use Rattle.interpreter.specs.Going.{rests, going-at, memory-of, Takes, Turning, Passes};
 ghost use Rattle.interpreter.specs.Running.{Begun, Ending};
 
 // Where a run ends: the machine, the number (0, or 33 to 36), and the turns taken.
@@ -18,16 +23,111 @@ pub struct Ran {
     pub taken: usize,
 }
 
-// How many hold commands behind a command of instance l, where n did before it: the others hold what they held.
-fn left_holding(heads: &[usize], l: usize, n: usize) -> usize
-    requires { ⌜ (head l end-of < length (now heads)) × (0 < n) ⌝ }
-    ensures { λ r. ⌜ r ≡ fewer (holds (now (heads .entry)) l) n ⌝ }
+// A run between two turns: its machine, how many instances hold commands, the turns taken, the number that it stops with, whether a turn
+// is due, which of the holders its byte picks, and the record of the instance that acted last.
+pub struct Going {
+    pub machine: Machine,
+    pub holding: usize,
+    pub taken: usize,
+    pub number: u8,
+    pub due: bool,
+    pub pick: usize,
+    pub actor: Record,
+}
+
+// No turn is due: nobody holds commands, or the run stops with a number.
+fn resting(machine: Machine, n: usize, taken: usize, actor: Record, number: u8) -> Going
+    ensures { λ r. ⌜ r ≡ rests machine n taken actor number ⌝ }
 {
-    let at = layout::HEAD_SIZE * l;
-    if heads[at + layout::NEXT] < heads[at + layout::END] {
+    Going {
+        machine,
+        holding: n,
+        taken,
+        number,
+        due: false,
+        pick: 0,
+        actor,
+    }
+}
+
+// The run behind so many turns, where n instances hold commands: a turn is due, or nobody holds commands, or no byte is left.
+fn going_at(machine: Machine, n: usize, taken: usize, actor: Record, turns: &[u8]) -> Going
+    ensures { λ r. ⌜ r ≡ going-at (now (turns .entry)) machine n taken actor ⌝ }
+{
+    if n == 0 {
+        return resting(machine, n, taken, actor, machine.numbers.number);
+    }
+    if turns.len() <= taken {
+        return resting(machine, n, taken, actor, types::number::OUT_OF_TURNS);
+    }
+    let e = turns[taken] as usize;
+    Going {
+        machine,
+        holding: n,
+        taken,
+        number: 0,
+        due: true,
+        pick: e % n,
+        actor,
+    }
+}
+
+// How many hold commands behind a command of an instance that still holds some or not, where n did before it.
+fn left_holding(n: usize, holds: bool) -> usize
+    requires { ⌜ 0 < n ⌝ }
+    ensures { λ r. ⌜ r ≡ fewer holds n ⌝ }
+{
+    if holds {
         return n;
     }
     n - 1
+}
+
+// A turn: instance l takes its next command. A refused one stops the run with its number.
+fn turn(
+    s: Going,
+    l: usize,
+    list: &[u64],
+    counts: &[u8],
+    heads: &mut [usize],
+    cells: &mut [u64],
+    turns: &[u8],
+) -> Going
+    requires { ⌜ Fit (now list) (now counts) l (memory-of s (now heads) (now cells)) × (0 < s .holding) × (s .taken < length (now turns)) ⌝ }
+    ensures { λ r. ⌜ Takes (now (list .entry)) (now (counts .entry)) (now (turns .entry)) l s (now (heads .entry)) (now (cells .entry)) r (now (heads .exit)) (now (cells .exit)) ⌝ }
+{
+    let before = s.machine;
+    let machine = before.command(list, counts, heads, cells, l);
+    let number = machine.numbers.number;
+    if number != 0 {
+        return resting(machine, s.holding, s.taken, s.actor, number);
+    }
+    let holds = layout::holds(heads, l);
+    let n = left_holding(s.holding, holds);
+    going_at(machine, n, s.taken + 1, Record { holds }, turns)
+}
+
+// The turns that are due: each byte's actor is searched for among the records, which this loop lends, and its record is written anew.
+fn take_turns(
+    s: Going,
+    rs: [Record; types::MAX_INSTANCES],
+    list: &[u64],
+    counts: &[u8],
+    heads: &mut [usize],
+    cells: &mut [u64],
+    turns: &[u8],
+) -> Going
+    requires { ⌜ Turning (now list) (now counts) (now turns) s rs (now heads) (now cells) ⌝ }
+    ensures { λ r. ⌜ Passes (now (list .entry)) (now (counts .entry)) (now (turns .entry)) s (now (heads .entry)) (now (cells .entry)) r (now (heads .exit)) (now (cells .exit)) ⌝ }
+{
+    let mut next = s;
+    let mut known = rs;
+    while next.due {
+        let l = holder(&known, next.pick);
+        next = turn(next, l, list, counts, heads, cells, turns);
+        known[l] = next.actor;
+    }
+    next
 }
 
 // A run of a machine with these turn bytes. Memory and the machine's numbers are free up to the machine that they stand for with their number
@@ -37,7 +137,7 @@ pub fn run(
     list: &[u64],
     counts: &[u8],
     items: &[usize],
-    spans: &[usize],
+    spans: &[u16],
     heads: &mut [usize],
     cells: &mut [u64],
     turns: &[u8],
@@ -45,43 +145,25 @@ pub fn run(
     requires { ⌜ Begun (now counts) (now list) (now items) (now spans) (state-of (machine .numbers) (now heads) (now cells)) ⌝ }
     ensures { λ r. ⌜ Ending (now (counts .entry)) (now (list .entry)) (now (items .entry)) (now (spans .entry)) (now (turns .entry)) (state-of (machine .numbers) (now (heads .entry)) (now (cells .entry))) (r .number) (r .taken) (state-of (r .machine .numbers) (now (heads .exit)) (now (cells .exit))) ⌝ }
 {
-    let count = machine.numbers.count;
-    let first = holding(heads, count);
+    let nobody = Record { holds: false };
+    let first = holding(heads, machine.numbers.count);
     let begun = settle(machine, first, items, spans, heads);
-    let mut next = begun.machine;
-    let mut left = begun.holding;
-    let mut taken = 0;
-    while left > 0 {
-        if taken == turns.len() {
-            return Ran {
-                machine: next,
-                number: types::number::OUT_OF_TURNS,
-                taken,
-            };
-        }
-        let count = next.numbers.count;
-        let l = picked_of(heads, count, left, turns[taken]);
-        next = next.command(list, counts, heads, cells, l);
-        let number = next.numbers.number;
-        if number != 0 {
-            return Ran {
-                machine: next,
-                number,
-                taken,
-            };
-        }
-        taken += 1;
-        left = left_holding(heads, l, left);
-        if left == 0 {
-            let settled = settle(next, left, items, spans, heads);
-            next = settled.machine;
-            left = settled.holding;
+    let settled = begun.machine;
+    let mut next = going_at(settled, begun.holding, 0, nobody, turns);
+    while next.due {
+        let rs = records(heads, next.machine.numbers.count);
+        next = take_turns(next, rs, list, counts, heads, cells, turns);
+        if next.number == 0 {
+            let still = next.machine;
+            let moved = settle(still, 0, items, spans, heads);
+            let settled = moved.machine;
+            next = going_at(settled, moved.holding, next.taken, nobody, turns);
         }
     }
-    let number = next.numbers.number;
+    let last = next.machine;
     Ran {
-        machine: next,
-        number,
-        taken,
+        machine: last,
+        number: next.number,
+        taken: next.taken,
     }
 }

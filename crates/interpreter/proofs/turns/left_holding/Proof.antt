@@ -1,21 +1,16 @@
 -- `interpreter::turns::left_holding` meets its contract, by whether the actor still holds commands.
 use borrow.Author.Needs.{needs}
-use Rattle.interpreter.specs.RunWays.{actor-holds, actor-ended}
+use Rattle.interpreter.specs.Counting.{fewer}
 use Rattle.interpreter.proofs.turns.left_holding.Statement.{statement}
 use Rattle.interpreter.proofs.turns.left_holding.Tie as tie
 
 returns : tie.Need-returns
-returns c =
-    let a = c .before .before .before .args in
-    actor-holds (a .heads .now) (a .l) (a .n) (c .if1 .taken)
+unfolding fewer
+returns c = rw (c .if1 .taken, fewer)
 
 returns-2 : tie.Need-returns-2
-returns-2 c =
-    let a = c .before .before .before .args in
-    actor-ended (a .heads .now) (a .l) (a .n) (c .if1 .left)
+unfolding fewer
+returns-2 c = rw (c .if1 .left, fewer)
 
 pub left-holding-spec : {M : Type 1} → statement M
-left-holding-spec =
-    tie.close
-    (tie.spec (λ c. search needs) (λ c. search needs) (λ c. search needs) (λ c. search needs) (λ c. search needs) (λ c. search needs)
-    (λ c. search needs) returns (λ c. search needs) returns-2)
+left-holding-spec = tie.close (tie.spec returns (λ c. search needs) returns-2)
