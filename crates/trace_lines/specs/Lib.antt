@@ -1,3 +1,4 @@
+pub mod ChooseWays
 pub mod Parts
 pub mod PartsLaws
 pub mod LineLaws
