@@ -42,7 +42,8 @@ module _ (n : ℕ) (outer : n < 42) where
     exp-none (binary o a b) k = exp-none a (plain (op o) ∷ roles-exp b k) ∙ exp-none b k
     exp-none (brackets e) k = exp-none e (part brackets-close ∷ k)
     exp-none (negation e) k = exp-none e k
-    exp-none (constructor x es) k = passed n made x (part args-open ∷ roles-exps es (close-of es ∷ k)) (λ e. omega arith) ∙ exps-none es (close-of es ∷ k) ∙ close-none es k
+    exp-none (constructor x es) k =
+        passed n made x (part args-open ∷ roles-exps es (close-of es ∷ k)) (λ e. omega arith) ∙ exps-none es (close-of es ∷ k) ∙ close-none es k
     exp-none (variable v) k = var-none first-read v k (λ e. omega arith)
     exp-none (literal l) k = refl
     exp-none (null t) k = refl
@@ -61,7 +62,8 @@ module _ (n : ℕ) (outer : n < 42) where
 
     stat-none : (t : Stat) (k : List Role) → named n (roles-stat t k) ≡ named n k
     stat-none (if-then e b) k = exp-none e (plain (word w-then) ∷ part then-open ∷ roles-stats b (part then-close ∷ k)) ∙ stats-none b (part then-close ∷ k)
-    stat-none (assignment t x e) k = passed n new-local x (plain (sign assign) ∷ roles-exp e (plain (sign semicolon) ∷ k)) (λ f. omega arith) ∙ exp-none e (plain (sign semicolon) ∷ k)
+    stat-none (assignment t x e) k =
+        passed n new-local x (plain (sign assign) ∷ roles-exp e (plain (sign semicolon) ∷ k)) (λ f. omega arith) ∙ exp-none e (plain (sign semicolon) ∷ k)
     stat-none (update v e) k =
         var-none first-written v (plain (sign assign) ∷ roles-exp e (plain (sign semicolon) ∷ k)) (λ f. omega arith) ∙ exp-none e (plain (sign semicolon) ∷ k)
     stat-none (construct x es) k =
@@ -77,7 +79,8 @@ module _ (n : ℕ) (outer : n < 42) where
 
     item-none : (i : Item) (k : List Role) → named n (roles-item i k) ≡ named n k
     item-none (execution x) k = passed n called x k (λ e. omega arith)
-    item-none (typed-execution x y) k = passed n called-struct x (plain (sign dot-sign) ∷ naming called-step y ∷ k) (λ e. omega arith) ∙ passed n called-step y k (λ e. omega arith)
+    item-none (typed-execution x y) k =
+        passed n called-struct x (plain (sign dot-sign) ∷ naming called-step y ∷ k) (λ e. omega arith) ∙ passed n called-step y k (λ e. omega arith)
     item-none (fixpoint s) k = sched-none s (part fix-close ∷ k)
 
     sched-none : (s : Sched) (k : List Role) → named n (roles-sched s k) ≡ named n k
