@@ -1,6 +1,6 @@
 // The lines of a trace on lent memory (docs/FORMAT.md, 'Traces'): a turn and a move of the schedule, each made and told in one call. The bytes
 // that stand in `out` then are those that `trace` defines of the machine before it and the one behind it.
-pub mod choice;
+mod choice;
 pub mod parts;
 pub mod writes;
 
