@@ -1,4 +1,3 @@
-pub mod ChooseWays
 pub mod Parts
 pub mod PartsLaws
 pub mod LineLaws

@@ -1,10 +1,10 @@
 // The lines of a trace on lent memory (docs/FORMAT.md, 'Traces'): a turn and a move of the schedule, each made and told in one call. The bytes
 // that stand in `out` then are those that `trace` defines of the machine before it and the one behind it.
-mod choose;
+mod choice;
 pub mod parts;
 pub mod writes;
 
-use crate::choose::picked_of;
+use crate::choice::picked_of;
 use crate::parts::entries;
 use crate::parts::stack;
 use crate::writes::Write;
