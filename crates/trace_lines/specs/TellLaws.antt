@@ -9,7 +9,7 @@ use mathlib.Core.List.{List, [], _∷_, _++_, append-nil}
 use lib.Dec.{ltb}
 use lib.ListN.{length, getD, getElem?, take}
 use lib.Seq.{sets-eq, take-at}
-use Rattle.types.specs.Limits.{max-structs, fix-levels, step-names}
+use Rattle.types.specs.Limits.{max-structs, max-instances, fix-levels, step-names}
 use Rattle.program.specs.Tree.{Program}
 use Rattle.machine.specs.Stops.{full, exceeded}
 use Rattle.machine.specs.Published.{StepCall.global, StepCall.local, Sched, Sched.done, Sched.start, Sched.fixpoint, Sched.active}
@@ -178,6 +178,9 @@ module _ {p : Program} {counts list items spans : List ℕ} {m : Machine} {z : S
 module _ {counts list spans h c : List ℕ} {n : ℕ} {nu : Numbers} (t : Turnable counts list spans n (state-of nu h c)) where
   pub turnable-rows : head-size * nu .count ≤ length h
   turnable-rows = ready-rows (t .begun .ready)
+
+  pub turnable-few : nu .count ≤ max-instances
+  turnable-few = t .begun .ready .stands .few
 
   module _ (e : ℕ) {l : ℕ} (q : l ≡ picked h (nu .count) e) where
     pub turnable-fit : Fit list counts l (state-of nu h c)

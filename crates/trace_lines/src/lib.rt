@@ -1,8 +1,10 @@
 // The lines of a trace on lent memory (docs/FORMAT.md, 'Traces'): a turn and a move of the schedule, each made and told in one call. The bytes
 // that stand in `out` then are those that `trace` defines of the machine before it and the one behind it.
+mod choice;
 pub mod parts;
 pub mod writes;
 
+use crate::choice::picked_of;
 use crate::parts::entries;
 use crate::parts::stack;
 use crate::writes::Write;
@@ -11,8 +13,7 @@ use crate::writes::written;
 use engine::Machine;
 use layout::Numbers;
 use layout::codes;
-use scheduler::choose::holding;
-use scheduler::choose::picked_of;
+use scheduler::count::holding;
 use text::lines::column;
 ghost use mathlib.Core.Path.{_≡_};
 ghost use mathlib.Core.List.{List};

@@ -3,7 +3,7 @@ use borrow.Author.Needs.{needs}
 use native.Mathlib.Omega.{arith}
 use mathlib.Core.Path.{_≡_}
 use Rattle.trace_lines.specs.PartsLaws.{fit-rows}
-use Rattle.trace_lines.specs.TellLaws.{turnable-rows, turnable-fit, turnable-fits, turnable-row, turnable-spans, picked-refused, picked-back, picked-told}
+use Rattle.trace_lines.specs.TellLaws.{turnable-rows, turnable-few, turnable-fit, turnable-fits, turnable-row, turnable-spans, picked-refused, picked-back, picked-told}
 use Rattle.trace_lines.proofs.turn.Statement.{statement}
 use Rattle.trace_lines.proofs.turn.Tie as tie
 
@@ -20,7 +20,7 @@ picked-of-requires c κs =
     let at-slice-known3 = at-holding .before .before .before .before in
     let at-shared-slice-known2 = at-slice-known3 .before .before .before .before in
     let at-pre = at-shared-slice-known2 .before .before in
-    (turnable-rows (at-pre .pre .0), c .holding .ensures, rw (c .holding .ensures) (at-pre .pre .0 .held))
+    (turnable-rows (at-pre .pre .0), turnable-few (at-pre .pre .0), c .holding .ensures, rw (c .holding .ensures) (at-pre .pre .0 .held))
 
 target-requires : tie.Need-target-requires
 target-requires c κs =
