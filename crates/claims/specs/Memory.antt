@@ -11,7 +11,7 @@ use Rattle.run.specs.Run.{Outcome.stopped, run}
 use Rattle.run.specs.Visits.{Visits}
 use Rattle.layout.specs.State.{State}
 use Rattle.memory.specs.Plan.{At}
-use Rattle.memory.specs.PlanUnique.{at-unique}
+use Rattle.memory.specs.Laws.PlanUnique.{at-unique}
 use Rattle.memory.specs.Stands.{Stands}
 use Rattle.interpreter.specs.Running.{cleared, Running, Ended}
 use Rattle.claims.specs.MemoryLaws.{running-visited, ended-visited}
