@@ -16,6 +16,7 @@ pub mod ConsKept
 pub mod CommandKept
 pub mod MoveKept
 pub mod BeginGood
+pub mod ShallowLaws
 pub mod HolderLaws
 pub mod ConditionLaws
 pub mod NeverStuckLaws

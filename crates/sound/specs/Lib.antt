@@ -3,6 +3,7 @@ pub mod Sized
 pub mod Firm
 pub mod Started
 pub mod Invariant
+pub mod Shallow
 pub mod Conditions
 pub mod Tabled
 pub mod NeverStuck

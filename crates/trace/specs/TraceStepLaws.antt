@@ -7,7 +7,7 @@ use mathlib.Core.Bool.{Bool, true, false}
 use mathlib.Core.List.{List, [], _∷_, _++_}
 use Rattle.program.specs.Tree.{Program}
 use Rattle.machine.specs.Published.{Sched, Sched.done, Sched.start, Sched.fixpoint, Sched.active}
-use Rattle.machine.specs.Machine.{Instance, Machine, Out, Out.next, Out.refused, Out.stuck, command, move-by, move}
+use Rattle.machine.specs.Machine.{Instance, Machine, Out, Out.next, Out.refused, Out.stuck, Moved, Moved.next, Moved.stuck, command, move-by, move}
 use Rattle.machine.specs.Measure.{bound}
 use Rattle.machine.specs.MeasureLaws.{move-falls}
 use Rattle.run.specs.Turns.{chosen}
@@ -26,13 +26,12 @@ module _ (p : Program) where
   moves-fuel B C (suc f) zero m h k = absurd (omega arith)
   moves-fuel B C (suc f) (suc g) m h k = by (holders m) λ m′ a b. moves-fuel B C f g m′ a b
     where
-      of-move : (o : Out) → move p m ≡ o → ((m′ : Machine) → Enough B f m′ → Enough C g m′ → moves p f m′ ≡ moves p g m′)
+      of-move : (o : Moved) → move p m ≡ o → ((m′ : Machine) → Enough B f m′ → Enough C g m′ → moves p f m′ ≡ moves p g m′)
           → move-line (λ m′. moves p f m′) m o ≡ move-line (λ m′. moves p g m′) m o
       of-move (next m′) e r =
           let (a, b) = move-falls p B m (h .0) e in
           let (c, d) = move-falls p C m (k .0) e in
           ap {B = List Line} (λ ls. moved m m′ ∷ ls) (r m′ (b, omega arith) (d, omega arith))
-      of-move (refused n) e r = refl
       of-move stuck e r = refl
 
       at-done : (b : Bool) → ((m′ : Machine) → Enough B f m′ → Enough C g m′ → moves p f m′ ≡ moves p g m′)

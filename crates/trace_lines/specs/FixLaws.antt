@@ -6,8 +6,8 @@ use mathlib.Core.Bool.{Bool, true, false}
 use mathlib.Core.List.{List, []}
 use lib.Dec.{eqb, ltb}
 use lib.ListN.{length, getD}
-use borrow.Author.Tests.{ltb-true}
-use Rattle.types.specs.Limits.{max-instances, max-stability}
+use borrow.Author.Tests.{eqb-true}
+use Rattle.types.specs.Limits.{max-instances, fix-levels}
 use Rattle.operators.specs.declared.Answered.{Answered}
 use Rattle.operators.specs.declared.Answered.the-variants.{Value, Outside, Unfit}
 use Rattle.layout.specs.Layout.{struct-of, variable, operand}
@@ -17,6 +17,7 @@ use Rattle.memory.specs.Act.{top, beneath, next-word, do-push, do-this, do-not,
 use Rattle.memory.specs.Act.{perform, act}
 use Rattle.memory.specs.Move.{do-fix, do-round, do-start, move-by, move}
 use Rattle.layout.specs.Codes.{fix-code, round-code}
+use Rattle.scheduler.specs.Ready.{Movable}
 
 record Same (z y : State) : Type 0 where
   fixes : y .machine .fixes ≡ z .machine .fixes
@@ -61,33 +62,35 @@ module _ (counts : List ℕ) (l : ℕ) (z : State) where
 
 -- no more than there may be
 record Few (y : State) : Type 0 where
-  few : y .machine .fixes ≤ max-stability
+  few : y .machine .fixes ≤ fix-levels
 
 few-if : (b : Bool) {x y : State} → Few x → Few y → Few (elim b [ true ↦ x | false ↦ y ])
 few-if true a b = a
 few-if false a b = b
 
-module _ (z : State) (h : z .machine .fixes ≤ max-stability) where
-  fix-few : Few (do-fix z)
+module _ (z : State) (h : z .machine .fixes ≤ fix-levels) where
+  fix-few : z .machine .fixes < fix-levels → Few (do-fix z)
   unfolding do-fix
-  fix-few = go (ltb (z .machine .fixes) max-stability) refl
-    where
-      go : (b : Bool) → ltb (z .machine .fixes) max-stability ≡ b → Few (do-fix z)
-      go true e = let g = ltb-true (z .machine .fixes) max-stability e in rw (do-fix, e) (record { few = omega arith })
-      go false e = rw (do-fix, e) (record { few = h })
+  fix-few l = record { few = omega arith }
 
   round-few : (t : ℕ) → Few (do-round t z)
   unfolding do-round
   round-few t = few-if (eqb (z .machine .stable % 2) 1) (record { few = omega arith }) (record { few = h })
 
-  -- a move
-  pub move-fixes : (items spans : List ℕ) → move items spans z .machine .fixes ≤ max-stability
+  -- a move, where an entry is free if a Fix comes next
+  pub move-fixes : (items spans : List ℕ) → (getD items (z .machine .place) 0 ≡ fix-code → z .machine .fixes < fix-levels)
+      → move items spans z .machine .fixes ≤ fix-levels
   unfolding move move-by do-start
-  move-fixes items spans =
+  move-fixes items spans free =
       let c = getD items (z .machine .place) 0 in
-      few-if (ltb c fix-code) (record { few = h }) (few-if (eqb c fix-code) fix-few (round-few (c - round-code 0))) .few
+      few-if (ltb c fix-code) (record { few = h }) (by-test (eqb c fix-code) refl) .few
+    where
+      by-test : (b : Bool) → eqb (getD items (z .machine .place) 0) fix-code ≡ b
+          → Few (elim b [ true ↦ do-fix z | false ↦ do-round (getD items (z .machine .place) 0 - round-code 0) z ])
+      by-test true e = fix-few (free (eqb-true (getD items (z .machine .place) 0) fix-code e))
+      by-test false e = round-few (getD items (z .machine .place) 0 - round-code 0)
 
 -- of a move on whichever cells
-pub moved-few : (items spans h : List ℕ) (n : Numbers) {h′ : List ℕ} {n′ : Numbers}
-    → ((cells : List ℕ) → state-of n′ h′ cells ≡ move items spans (state-of n h cells)) → n .fixes ≤ max-stability → n′ .fixes ≤ max-stability
-moved-few items spans h n e f = rw (ap (λ (y : State). y .machine .fixes) (e [])) (move-fixes (state-of n h []) f items spans)
+pub moved-few : (items spans h : List ℕ) (n : Numbers) {h′ : List ℕ} {n′ : Numbers} → Movable items spans h n
+    → ((cells : List ℕ) → state-of n′ h′ cells ≡ move items spans (state-of n h cells)) → n .fixes ≤ fix-levels → n′ .fixes ≤ fix-levels
+moved-few items spans h n v e f = rw (ap (λ (y : State). y .machine .fixes) (e [])) (move-fixes (state-of n h []) f items spans (v .free))

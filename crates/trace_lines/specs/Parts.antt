@@ -6,7 +6,7 @@ use mathlib.Core.Bool.{true, false}
 use mathlib.Core.List.{List, [], _∷_, _++_}
 use lib.Dec.{eqb, ltb}
 use lib.ListN.{length, getD}
-use Rattle.types.specs.Limits.{max-structs, max-depth, max-stability, first-local, step-names}
+use Rattle.types.specs.Limits.{max-structs, max-depth, fix-levels, first-local, step-names}
 use Rattle.types.specs.Types.{struct-code}
 use Rattle.layout.specs.Layout.{head, struct-of, height-of, next-of, end-of, row-size, variable, stacked, type-byte, operand}
 use Rattle.layout.specs.State.{state-of}
@@ -134,7 +134,7 @@ back-text heads cells l w fixes stable =
 pub record BackFits (heads cells : List ℕ) (l : ℕ) (w : Write) (fixes : ℕ) : Type 0 where
   pub stack : StackFits heads cells l
   pub write : WriteFits cells w
-  pub few : fixes ≤ max-stability
+  pub few : fixes ≤ fix-levels
 
 -- of a move
 unfoldable pub move-text : ℕ → ℕ → List ℕ

@@ -9,11 +9,11 @@ use mathlib.Core.List.{List, [], _∷_, _++_, append-nil}
 use lib.Dec.{ltb}
 use lib.ListN.{length, getD, getElem?, take}
 use lib.Seq.{sets-eq, take-at}
-use Rattle.types.specs.Limits.{max-structs, max-instances, max-stability, step-names}
+use Rattle.types.specs.Limits.{max-structs, max-instances, fix-levels, step-names}
 use Rattle.program.specs.Tree.{Program}
-use Rattle.machine.specs.Stops.{full, exceeded, nested}
+use Rattle.machine.specs.Stops.{full, exceeded}
 use Rattle.machine.specs.Published.{StepCall.global, StepCall.local, Sched, Sched.done, Sched.start, Sched.fixpoint, Sched.active}
-use Rattle.machine.specs.Machine.{Instance, Machine, Out, Out.next, Out.refused, Out.stuck, command, repeat, move-by, move}
+use Rattle.machine.specs.Machine.{Instance, Machine, Out, Out.next, Out.refused, Out.stuck, Moved, Moved.next, Moved.stuck, command, move}
 use Rattle.run.specs.Turns.{chosen}
 use Rattle.run.specs.Holders.{holders, due}
 use Rattle.run.specs.Laws.TurnLaws.{some-due}
@@ -128,7 +128,7 @@ module _ {p : Program} {counts list items spans : List ℕ} {m : Machine} {z : S
             go (failed s (inl w) u) = let g = ap (λ (x : State). x .machine .number) s in absurd (omega arith)
             go (failed s (inr w) u) = let g = ap (λ (x : State). x .machine .number) s in absurd (omega arith)
 
-    back-fits : y .machine .number ≡ 0 → y .machine .fixes ≤ max-stability
+    back-fits : y .machine .number ≡ 0 → y .machine .fixes ≤ fix-levels
         → BackFits (y .heads) (y .cells) actor (target list (length counts) (z .heads) (z .cells) actor) (y .machine .fixes)
     back-fits h few = go by-turn
       where
@@ -146,7 +146,7 @@ module _ {p : Program} {counts list items spans : List ℕ} {m : Machine} {z : S
     same : actor ≡ l
     same = sym (q ∙ picks m (r .stands) e)
 
-    pub picked-back : y .machine .number ≡ 0 → z .machine .fixes ≤ max-stability
+    pub picked-back : y .machine .number ≡ 0 → z .machine .fixes ≤ fix-levels
         → BackFits (y .heads) (y .cells) l (target list (length counts) (z .heads) (z .cells) l) (y .machine .fixes)
     picked-back h few =
         subst (λ (x : ℕ). BackFits (y .heads) (y .cells) x (target list (length counts) (z .heads) (z .cells) x) (y .machine .fixes)) same
@@ -202,20 +202,6 @@ module _ {counts list spans h c : List ℕ} {n : ℕ} {nu : Numbers} (t : Turnab
 pub movable-on : {items spans heads : List ℕ} {n : Numbers} → Movable items spans heads n → getD items (n .place) 0 ≡ end-code → ⊥
 movable-on v q = let h = v .item (omega arith) in omega arith
 
--- only a Fix too many is refused
-refused-nested : (p : Program) (s : Sched) (is : List Instance) (b : List Bool) (k : ℕ) → move-by p s is b ≡ refused k → k ≡ nested
-unfolding move-by repeat
-refused-nested p done is b k e = let w : _≡_ {A = ℕ} 0 1 = cc in absurd (omega arith)
-refused-nested p (start a s) is b k e = let w : _≡_ {A = ℕ} 0 1 = cc in absurd (omega arith)
-refused-nested p (fixpoint f s) is b k e = go (ltb (length b) max-stability) refl
-  where
-    go : (u : Bool) → ltb (length b) max-stability ≡ u → k ≡ nested
-    go true q = let d = rw (q, move-by) at e in let w : _≡_ {A = ℕ} 0 1 = cc in absurd (omega arith)
-    go false q = let d = rw (q, move-by) at e in cc
-refused-nested p (active f s) is [] k e = let w : _≡_ {A = ℕ} 0 1 = cc in absurd (omega arith)
-refused-nested p (active f s) is (true ∷ b) k e = let w : _≡_ {A = ℕ} 0 1 = cc in absurd (omega arith)
-refused-nested p (active f s) is (false ∷ b) k e = let w : _≡_ {A = ℕ} 0 1 = cc in absurd (omega arith)
-
 -- the step that runs behind a move, by the item
 module _ (items : List ℕ) (n : ℕ) where
   step-told : {a : ℕ} (s : Sched) → At items a s → step-at n (getD items a 0) ≡ step-name n s
@@ -236,32 +222,19 @@ module _ (items : List ℕ) (n : ℕ) where
 
 module _ {p : Program} {counts list items spans : List ℕ} {m : Machine} {z : State} (r : Ready p counts list items spans m z)
     (go-on : getD items (z .machine .place) 0 ≡ end-code → ⊥) {y : State} (a : y ≡ move-on items spans z) (n : ℕ) where
-  follows : Follows list items z y (move p m)
+  follows : Follows list items y (move p m)
   follows =
       rw a (moves p list items spans (r .prepared .located) z m (λ l i g. r .tabled .each l i g .0) (r .stands) (r .good .opened)
       (λ q. go-on (at-end-done items (r .stands .scheduled) .1 q)))
 
-  -- a refused move has no line
-  pub move-refused : (y .machine .number ≡ 0 → ⊥) → [] ≡ lines-text p n 0 (move-line alone m (move p m))
-  unfolding lines-text move-line
-  move-refused h = go (move p m) follows
-    where
-      go : (o : Out) → Follows list items z y o → [] ≡ lines-text p n 0 (move-line alone m o)
-      go (next m′) s = absurd (h (s .clear))
-      go (refused k) s = refl
-      go stuck s = absurd s
-
-  pub move-made : y .machine .number ≡ 0 → move-text (y .machine .fixes) (y .machine .stable) ≡ lines-text p n 0 (move-line alone m (move p m))
+  -- a move has a line
+  pub move-made : move-text (y .machine .fixes) (y .machine .stable) ≡ lines-text p n 0 (move-line alone m (move p m))
   unfolding lines-text move-line line-text move-text
-  move-made h = go (move p m) refl follows
+  move-made = go (move p m) follows
     where
-      go : (o : Out) → move p m ≡ o → Follows list items z y o → move-text (y .machine .fixes) (y .machine .stable) ≡ lines-text p n 0 (move-line alone m o)
-      go (next m′) q s = rw (append-nil, stands-text s)
-      go (refused k) q s =
-          let w = refused-nested p (m .sched) (m .instances) (m .stability) k q in
-          let g = ap (λ (x : State). x .machine .number) s in
-          absurd (omega arith)
-      go stuck q s = absurd s
+      go : (o : Moved) → Follows list items y o → move-text (y .machine .fixes) (y .machine .stable) ≡ lines-text p n 0 (move-line alone m o)
+      go (next m′) s = rw (append-nil, stands-text s)
+      go stuck s = absurd s
 
   pub move-step : step-at n (getD items (z .machine .place) 0) ≡ step-name n (m .sched)
   move-step = step-told items n (m .sched) (r .stands .scheduled)

@@ -4,7 +4,7 @@ use Prim.Native.Nat.{ℕ, _<_, _≤_}
 use mathlib.Core.Path.{_≡_}
 use mathlib.Core.List.{List, []}
 use lib.ListN.{take}
-use Rattle.types.specs.Limits.{step-names, max-stability}
+use Rattle.types.specs.Limits.{step-names, fix-levels}
 use Rattle.program.specs.Tree.{Program}
 use Rattle.machine.specs.Machine.{Machine, command, move}
 use Rattle.run.specs.Turns.{chosen}
@@ -22,7 +22,7 @@ pub record Turnable (counts list spans : List ℕ) (n : ℕ) (z : State) : Type 
   pub begun : Begun counts list items spans z
   pub held : 0 < busy z
   pub named : n < step-names
-  pub few : z .machine .fixes ≤ max-stability
+  pub few : z .machine .fixes ≤ fix-levels
 
 -- nothing behind an act
 abbrev pub alone : Machine → List Line

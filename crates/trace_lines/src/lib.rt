@@ -19,7 +19,7 @@ ghost use mathlib.Core.Path.{_≡_};
 ghost use mathlib.Core.List.{List};
 ghost use Prim.Native.Nat.{ℕ, _+_, _-_, _*_, _<_, _≤_};
 ghost use lib.ListN.{length, getD};
-ghost use Rattle.types.specs.Limits.{max-structs, step-names, max-stability};
+ghost use Rattle.types.specs.Limits.{max-structs, step-names, fix-levels};
 ghost use Rattle.layout.specs.Layout.{head, struct-of, end-of};
 ghost use Rattle.layout.specs.State.{state-of};
 ghost use Rattle.memory.specs.Act.{act};
@@ -50,7 +50,7 @@ pub struct Acting {
     pub word: u64,
 }
 
-// The machine behind an act, the step that runs then, and how long the line is: 0 where the act was refused.
+// The machine behind an act, the step that runs then, and how long the line is: 0 where the command was refused.
 pub struct Told {
     pub machine: Machine,
     pub step: usize,
@@ -196,7 +196,7 @@ fn step_at(item: usize, step: usize) -> usize
 
 // The line of a move, with the entries behind it.
 fn moved(out: &mut [u8], numbers: Numbers) -> usize
-    requires { ⌜ (numbers .fixes ≤ max-stability) × (line-most ≤ length (now out)) ⌝ }
+    requires { ⌜ (numbers .fixes ≤ fix-levels) × (line-most ≤ length (now out)) ⌝ }
     ensures { λ r. ⌜ Placed (move-text (numbers .fixes) (numbers .stable)) (now (out .entry)) 0 r (now (out .exit)) ⌝ }
     ensures { λ r. ⌜ r ≤ line-most ⌝ }
 {
@@ -215,7 +215,7 @@ pub fn advance(
     out: &mut [u8],
 ) -> Told
     requires { ⌜ Movable (now items) (now spans) (now heads) (machine .numbers) ⌝ }
-    requires { ⌜ (machine .numbers .fixes ≤ max-stability) × (line-most ≤ length (now out)) ⌝ }
+    requires { ⌜ (machine .numbers .fixes ≤ fix-levels) × (line-most ≤ length (now out)) ⌝ }
     requires { ⌜ step < step-names ⌝ }
     ensures { λ r. ⌜ ((cells : List ℕ) → state-of (r .machine .numbers) (now (heads .exit)) cells ≡ move (now (items .entry)) (now (spans .entry)) (state-of (machine .numbers) (now (heads .entry)) cells)) ⌝ }
     ensures { λ r. ⌜ ((cells : List ℕ) → MoveTold (now (items .entry)) (now (spans .entry)) step (state-of (machine .numbers) (now (heads .entry)) cells) (r .step) (r .length) (now (out .exit))) ⌝ }
@@ -226,13 +226,6 @@ pub fn advance(
     let now = step_at(items[place], step);
     let behind = machine.advance(items, spans, heads);
     let after = behind.numbers;
-    if after.number != 0 {
-        return Told {
-            machine: behind,
-            step: now,
-            length: 0,
-        };
-    }
     let n = moved(out, after);
     Told {
         machine: behind,

@@ -2,7 +2,7 @@
 ghost use mathlib.Core.Path.{_≡_};
 ghost use Prim.Native.Nat.{_+_, _*_, _<_, _≤_};
 ghost use lib.ListN.{length, getD};
-ghost use Rattle.types.specs.Limits.{max-depth, max-stability};
+ghost use Rattle.types.specs.Limits.{max-depth, fix-levels};
 ghost use Rattle.layout.specs.Layout.{head, height-of};
 ghost use Rattle.text.specs.Listing.{Placed};
 ghost use Rattle.trace_lines.specs.Parts.{CellFits, StackFits, cell-most, tag, worth, cell-text, cells-text, entries-text};
@@ -65,7 +65,7 @@ pub(crate) fn stack(out: &mut [u8], k: usize, heads: &[usize], cells: &[u64], l:
 
 // The n lowest bits of s, the lowest first.
 pub(crate) fn entries(out: &mut [u8], k: usize, n: usize, s: usize) -> usize
-    requires { ⌜ (n ≤ max-stability) × (k + 10 ≤ length (now out)) ⌝ }
+    requires { ⌜ (n ≤ fix-levels) × (k + 10 ≤ length (now out)) ⌝ }
     ensures { λ r. ⌜ Placed (entries-text n s) (now (out .entry)) k r (now (out .exit)) ⌝ }
     ensures { λ r. ⌜ r ≤ k + 10 ⌝ }
 {
