@@ -7,7 +7,7 @@ work=$(mktemp -d)
 trap 'rm -rf "$work"' EXIT
 (cd "$top" && rt staticlib audala >/dev/null)
 lib=$top/target/staticlib
-for name in check turns; do
+for name in check turns image; do
     gcc -std=c11 -Wall -Wextra -Werror -O2 -I"$top/include" "$here/$name.c" -L"$lib" -laudala -o "$work/c"
     rustc --edition 2024 -O "$here/$name.rs" -L"native=$lib" -l static=audala -o "$work/rs"
     "$work/c" <"$top/crates/blocks_main/stdin" | tee "$work/c.txt"

@@ -94,6 +94,24 @@ audala_report audala_run(const uint8_t *program, size_t program_length, const ui
                          const uint8_t *turns, size_t turn_count, uint8_t *output, size_t output_length, uint64_t *list,
                          size_t places);
 
+/* Blocks that an image has at most: of a program, of a table. A block holds 504 bytes of the stream in 512. */
+#define AUDALA_PROGRAM_MOST 64
+#define AUDALA_TABLE_MOST 17
+
+/* What reading or writing an image answers. */
+typedef struct {
+    uint32_t number; /* 0: done; 1 to 3: see below (audala_number); 13: the buffer is too short */
+    size_t count;    /* bytes of the stream, or blocks of the image, that were written; 0 where the number is not */
+} audala_copied;
+
+/* The stream of an image of at most `most` blocks, in the front of the buffer; later bytes are untouched. 1: the image is empty, has more
+ * blocks or is no multiple of 512; 2: a sum is wrong; 3: an index, a used count or an unused byte. A refusal leaves the buffer. */
+audala_copied audala_read_image(const uint8_t *image, size_t length, size_t most, uint8_t *buffer, size_t room);
+
+/* The image of a stream in at most `most` blocks, in the front of the output; later bytes are untouched. 1: the stream is empty or longer
+ * than 504 * most. A refusal leaves the output. */
+audala_copied audala_write_image(const uint8_t *stream, size_t length, size_t most, uint8_t *output, size_t room);
+
 #ifdef __cplusplus
 }
 #endif

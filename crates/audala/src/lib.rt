@@ -1,5 +1,7 @@
 // The checker and the run as a static library for C and Rust (01, 'Numbers from the input', 'Numbers from the state'); include/audala.h
 // declares it.
+pub mod images;
+
 ghost use mathlib.Core.Path.{_≡_};
 ghost use Rattle.verdict.specs.Verdict.{check-verdict, check-list};
 ghost use Rattle.run.specs.Entry.{run-report, run-output, run-list};

@@ -1,5 +1,5 @@
--- What a run comes to at each of its stages (01, 'Numbers from the input'): images, their streams, the room lent. 13 and 14 stand behind
--- all others, so that a stage speaks of what program and table come to without them.
+-- What a run on images comes to (01, 'Numbers from the input', 'Numbers from the state'): the machine that memory holds before it, what is
+-- played, and what is answered. 13 and 14 stand behind all others, so that a stage speaks of what program and table come to without them.
 use Prim.Native.Nat.{ℕ, _*_}
 use mathlib.Core.Path.{_≡_}
 use mathlib.Core.Bool.{_||_}
@@ -9,19 +9,62 @@ use lib.Dec.{ltb}
 use Rattle.types.specs.Limits.{table-blocks, max-commands, max-turns}
 use Rattle.block.specs.Block.{block-size}
 use Rattle.program.specs.Tree.{Program}
-use Rattle.program.specs.Reader.{Result.ok, read-params, read}
-use Rattle.commands.specs.Bounds.{arities, program-depth}
-use Rattle.commands.specs.Numbers.{breach-number}
-use Rattle.judge.specs.ProgramFacts.{types-table}
-use Rattle.table.specs.Table.{Record, TableRight}
+use Rattle.verdict.specs.Verdict.{listed}
 use Rattle.machine.specs.Published.{of-items}
-use Rattle.run.specs.Begin.{begin}
-use Rattle.run.specs.Entry.{Begun, Begun.begun, with-room, run-report-by, run-output-by, run-list-by}
+use Rattle.machine.specs.Machine.{Machine}
+use Rattle.run.specs.Run.{run}
+use Rattle.run.specs.Entry.{Begun, with-room, report-of, output-of, run-report-by, run-output-by, run-list-by}
+use Rattle.sound.specs.Invariant.{Good}
+use Rattle.sound.specs.Tabled.{Tabled}
+use Rattle.layout.specs.declared.Numbers.{Numbers}
+use Rattle.layout.specs.State.{State, state-of}
 use Rattle.memory.specs.Plan.{At}
 use Rattle.memory.specs.Stands.{Stands}
-use Rattle.table_read.specs.BeginStands.{beginning}
+use Rattle.interpreter.specs.declared.turns.Ran.{Ran}
+use Rattle.interpreter.specs.Running.{Ended}
+use Rattle.load.specs.Load.{Admitted}
 use Rattle.run_images.specs.declared.Report.{Report}
+use Rattle.run_images.specs.declared.Seat.{Seat}
 use Rattle.run_images.specs.Answer.{answer}
+
+-- A machine in memory ------------------------------------------------------------------
+
+-- where the steps of its program begin, and its numbers
+abbrev pub seat-of : ℕ → Numbers → Seat
+seat-of at n = record { at = at; numbers = n }
+
+-- beside the accepted program p, lent memory and the seat's numbers hold the machine m of a run, wherever the schedule is laid flat and
+-- whatever the list held before the commands. A table is one way to be seated.
+pub record Seated (s counts : List ℕ) (seat : Seat) (heads cells : List ℕ) (p : Program) (m : Machine) : Type 0 where
+  pub admitted : Admitted s counts (seat .at) p
+  pub good : Good p m
+  pub tabled : Tabled p (m .instances)
+  pub stands : (list items : List ℕ) → At items 0 (of-items (p .schedule)) → Stands (listed p list) (At items) m (state-of (seat .numbers) heads cells)
+
+abbrev pub Seating : List ℕ → List ℕ → Seat → List ℕ → List ℕ → Type 0
+Seating s counts seat heads cells = (p : Program) × (m : Machine) × (Seated s counts seat heads cells p m)
+
+-- Its run --------------------------------------------------------------------------------
+
+-- m was run with the bytes es: memory z holds the last machine, and the list the commands
+pub record Played (counts es list : List ℕ) (p : Program) (m : Machine) (number taken : ℕ) (z : State) (list′ : List ℕ) : Type 0 where
+  pub items : List ℕ
+  pub spans : List ℕ
+  pub ended : Ended p counts list′ items spans m es number taken z
+  pub listed : list′ ≡ listed p list
+
+-- whatever program and machine are seated
+abbrev pub Plays : List ℕ → List ℕ → Seat → List ℕ → List ℕ → List ℕ → List ℕ → Ran → List ℕ → List ℕ → List ℕ → Type 0
+Plays s counts seat heads cells es list r heads′ cells′ list′ =
+    (p : Program) (m : Machine) → Seated s counts seat heads cells p m
+    → Played counts es list p m (r .number) (r .taken) (state-of (r .machine .numbers) heads′ cells′) list′
+
+-- what a run of m with the bytes es is answered by, and what it leaves in the output
+pub record Came (p : Program) (m : Machine) (es out : List ℕ) (r : Report) (out′ : List ℕ) : Type 0 where
+  pub reported : r ≡ answer (report-of p (run p m es))
+  pub written : out′ ≡ output-of p (run p m es) out
+
+-- The whole call -------------------------------------------------------------------------
 
 -- 13 and 14, behind what program and table come to
 abbrev pub roomed : Begun → List ℕ → List ℕ → List ℕ → Begun
@@ -33,36 +76,3 @@ pub record Answers (b : Begun) (es out list : List ℕ) (r : Report) (out′ lis
   pub reported : r ≡ answer (run-report-by (roomed b es out list) es)
   pub written : out′ ≡ run-output-by (roomed b es out list) es out
   pub listed : list′ ≡ run-list-by (roomed b es out list) list
-
--- An accepted program ------------------------------------------------------------------
-
--- the stream s is p, which is accepted; `counts` has how many parameters each struct has, the parameter lists end at a place, and the
--- depth is known
-pub record Admitted (s counts : List ℕ) (at depth : ℕ) (p : Program) : Type 0 where
-  pub end : ℕ
-  pub reads : read s ≡ ok p end
-  pub numbered : breach-number p ≡ 0
-  pub counted : counts ≡ arities p
-  pub place : read-params s 0 ≡ ok (p .params) at
-  pub deep : depth ≡ program-depth p
-
--- with the types of its parameters
-abbrev pub Admission : List ℕ → List ℕ → List ℕ → ℕ → ℕ → Type 0
-Admission s counts types at depth = (p : Program) × (Admitted s counts at depth p) × (types ≡ types-table (p .params))
-
--- An accepted table --------------------------------------------------------------------
-
--- beside the program, memory holds n instances: wherever the schedule is laid flat, they stand for the machine that a run on the right
--- table rs begins with
-pub record Seated (s counts : List ℕ) (at depth n : ℕ) (heads cells : List ℕ) (p : Program) (rs : List Record) : Type 0 where
-  pub admitted : Admitted s counts at depth p
-  pub right : TableRight (p .params) rs
-  pub stands : (list items : List ℕ) (a : ℕ) → At items a (of-items (p .schedule)) → Stands list (At items) (begin p rs) (beginning n a heads cells)
-
-abbrev pub Seating : List ℕ → List ℕ → ℕ → ℕ → ℕ → List ℕ → List ℕ → Type 0
-Seating s counts at depth n heads cells = (p : Program) × (rs : List Record) × (Seated s counts at depth n heads cells p rs)
-
--- whatever program and records these are, a run of them is answered
-abbrev pub Runs : List ℕ → List ℕ → ℕ → ℕ → ℕ → List ℕ → List ℕ → List ℕ → List ℕ → List ℕ → Report → List ℕ → List ℕ → Type 0
-Runs s counts at depth n heads cells es out list r out′ list′ =
-    (p : Program) (rs : List Record) → Seated s counts at depth n heads cells p rs → Answers (begun p rs) es out list r out′ list′

@@ -3,6 +3,8 @@
 use compile::items::CODES;
 use compile::spans::SPANS;
 use engine::Machine;
+use interpreter::turns::Ran;
+use layout::Numbers;
 use load::Load;
 use table_read::TableRead;
 ghost use mathlib.Core.Path.{_≡_};
@@ -10,16 +12,10 @@ ghost use Prim.Native.Nat.{_*_, _≤_};
 ghost use lib.ListN.{length};
 ghost use Rattle.types.specs.Limits.{table-blocks, max-commands, max-turns};
 ghost use Rattle.block.specs.Block.{block-size};
-ghost use Rattle.program.specs.Reader.{read};
-ghost use Rattle.verdict.specs.Verdict.{of-read};
-ghost use Rattle.run.specs.Entry.{of-checked, report, run-report, run-output, run-list};
+ghost use Rattle.run.specs.Entry.{report, run-report, run-output, run-list};
+ghost use Rattle.table_write.specs.Written.{Filled, memory-blocks, memory-image};
 ghost use Rattle.run_images.specs.Answer.{answer, table-refusal};
-ghost use Rattle.run_images.specs.Stages.{Answers, Admission, Seating, Runs};
-
-// 01's numbers of an output or a list that is too short, and of too many turns.
-const NO_ROOM: u8 = 13;
-
-const MANY_TURNS: u8 = 14;
+ghost use Rattle.run_images.specs.Stages.{Seating, Plays};
 
 // Output bytes that a run asks for.
 const OUTPUT: usize = types::TABLE_BLOCKS * blocks::BLOCK_SIZE;
@@ -30,6 +26,12 @@ pub struct Report {
     pub turns: u32,
     pub blocks: u8,
     pub depth: u8,
+}
+
+// Of a machine in lent memory: where the steps of its program begin, and its numbers.
+struct Seat {
+    at: usize,
+    numbers: Numbers,
 }
 
 // An input refusal: no turns, no blocks, no depth.
@@ -54,31 +56,43 @@ fn table_refusal(r: TableRead) -> u8
     n
 }
 
-// The run of an accepted program on a table that stands in memory: its commands are written into the list, the turns are taken, and the
-// table as it stands then is written into the output.
-fn begun(
+// The run of a machine that is seated: the commands of its program are written into the list, and the turns are taken.
+fn played(
     s: &[u8],
     counts: &[u8],
-    at: usize,
-    depth: u8,
-    n: usize,
+    seat: Seat,
     heads: &mut [usize],
     cells: &mut [u64],
     turns: &[u8],
-    output: &mut [u8],
     list: &mut [u64],
-) -> Report
-    requires { ⌜ Seating (now s) (now counts) at depth n (now heads) (now cells) ⌝ }
-    requires { ⌜ (block-size * table-blocks ≤ length (now output)) × (max-commands ≤ length (now list)) × (length (now turns) ≤ max-turns) ⌝ }
-    ensures { λ r. ⌜ Runs (now (s .entry)) (now (counts .entry)) at depth n (now (heads .entry)) (now (cells .entry)) (now (turns .entry)) (now (output .entry)) (now (list .entry)) r (now (output .exit)) (now (list .exit)) ⌝ }
+) -> Ran
+    requires { ⌜ Seating (now s) (now counts) seat (now heads) (now cells) ⌝ }
+    requires { ⌜ max-commands ≤ length (now list) ⌝ }
+    ensures { λ r. ⌜ Plays (now (s .entry)) (now (counts .entry)) seat (now (heads .entry)) (now (cells .entry)) (now (turns .entry)) (now (list .entry)) r (now (heads .exit)) (now (cells .exit)) (now (list .exit)) ⌝ }
 {
     let mut spans = [0usize; SPANS];
     let mut items = [0usize; CODES];
-    compile::program(s, counts, at, list, &mut spans, &mut items);
-    let first = Machine {
-        numbers: layout::fresh(n),
-    };
-    let ran = interpreter::turns::run(first, list, counts, &items, &spans, heads, cells, turns);
+    compile::program(s, counts, seat.at, list, &mut spans, &mut items);
+    let numbers = seat.numbers;
+    let first = Machine { numbers };
+    interpreter::turns::run(first, list, counts, &items, &spans, heads, cells, turns)
+}
+
+// What a run answers; the table as it stands then is written into the output.
+fn reported(
+    counts: &[u8],
+    heads: &[usize],
+    cells: &[u64],
+    ran: Ran,
+    depth: u8,
+    output: &mut [u8],
+) -> Report
+    requires { ⌜ Filled (now counts) (now heads) (now cells) (ran .machine .numbers .count) ⌝ }
+    requires { ⌜ (length (now counts) ≤ ran .machine .numbers .count) × (ran .taken ≤ max-turns) ⌝ }
+    requires { ⌜ block-size * table-blocks ≤ length (now output) ⌝ }
+    ensures { λ r. ⌜ r ≡ answer (report (ran .number) (ran .taken) (memory-blocks (now (counts .entry)) (now (heads .entry)) (now (cells .entry)) (ran .machine .numbers .count)) depth) ⌝ }
+    ensures { λ _. ⌜ now (output .exit) ≡ memory-image (now (counts .entry)) (now (heads .entry)) (now (cells .entry)) (ran .machine .numbers .count) (now (output .entry)) ⌝ }
+{
     let last = ran.machine;
     let count = last.numbers.count;
     let blocks = table_write::write(counts, heads, cells, count, output);
@@ -88,69 +102,6 @@ fn begun(
         blocks: blocks as u8,
         depth,
     }
-}
-
-// 13 and 14, behind all others; then the run of an accepted program whose table stands in memory.
-fn with_room(
-    s: &[u8],
-    counts: &[u8],
-    at: usize,
-    depth: u8,
-    n: usize,
-    heads: &mut [usize],
-    cells: &mut [u64],
-    turns: &[u8],
-    output: &mut [u8],
-    list: &mut [u64],
-) -> Report
-    requires { ⌜ Seating (now s) (now counts) at depth n (now heads) (now cells) ⌝ }
-    ensures { λ r. ⌜ Runs (now (s .entry)) (now (counts .entry)) at depth n (now (heads .entry)) (now (cells .entry)) (now (turns .entry)) (now (output .entry)) (now (list .entry)) r (now (output .exit)) (now (list .exit)) ⌝ }
-{
-    if output.len() < OUTPUT {
-        return refused(NO_ROOM);
-    }
-    if list.len() < types::MAX_COMMANDS {
-        return refused(NO_ROOM);
-    }
-    if types::MAX_TURNS < turns.len() {
-        return refused(MANY_TURNS);
-    }
-    begun(s, counts, at, depth, n, heads, cells, turns, output, list)
-}
-
-// A table image: 9 to 12, its instances in memory, and what stands behind them.
-fn of_table(
-    s: &[u8],
-    counts: &[u8],
-    types: &[u8],
-    at: usize,
-    depth: u8,
-    table: &[u8],
-    turns: &[u8],
-    output: &mut [u8],
-    list: &mut [u64],
-) -> Report
-    requires { ⌜ Admission (now s) (now counts) (now types) at depth ⌝ }
-    ensures { λ r. ⌜ Answers (of-checked (of-read (read (now (s .entry)))) (now (table .entry))) (now (turns .entry)) (now (output .entry)) (now (list .entry)) r (now (output .exit)) (now (list .exit)) ⌝ }
-{
-    let mut heads = [0usize; layout::HEADS];
-    let mut cells = [0u64; layout::CELLS];
-    let r = table_read::read_image(table, counts, types, &mut heads, &mut cells);
-    let TableRead::Instances(n) = r else {
-        return refused(table_refusal(r));
-    };
-    with_room(
-        s,
-        counts,
-        at,
-        depth,
-        n,
-        &mut heads,
-        &mut cells,
-        turns,
-        output,
-        list,
-    )
 }
 
 // A program image, a table image and turn bytes: 1 to 14 in order, or a run, which writes the commands into the list and the last table
@@ -169,22 +120,37 @@ pub fn run(
     let mut stream = [0u8; types::PROGRAM_BLOCKS * blocks::PAYLOAD_SIZE];
     let mut counts = [0u8; types::MAX_STRUCTS];
     let mut types = [0u8; types::MAX_STRUCTS * types::MAX_PARAMS];
-    let r = load::program(program, &mut stream, &mut counts, &mut types);
-    let Load::Program(p) = r else {
-        return refused(load::refusal(r));
+    let mut heads = [0usize; layout::HEADS];
+    let mut cells = [0u64; layout::CELLS];
+    // 1 to 8
+    let loaded = load::program(program, &mut stream, &mut counts, &mut types);
+    let Load::Program(p) = loaded else {
+        return refused(load::refusal(loaded));
     };
     let n = p.length;
     let k = p.structs as usize;
     let end = types::MAX_PARAMS * k;
-    of_table(
-        &stream[..n],
-        &counts[..k],
-        &types[..end],
-        p.at,
-        p.depth,
-        table,
-        turns,
-        output,
-        list,
-    )
+    let s = &stream[..n];
+    let cs = &counts[..k];
+    let ts = &types[..end];
+    // 9 to 12
+    let read = table_read::read_image(table, cs, ts, &mut heads, &mut cells);
+    let TableRead::Instances(count) = read else {
+        return refused(table_refusal(read));
+    };
+    // 13
+    if output.len() < OUTPUT {
+        return refused(types::number::NO_ROOM);
+    }
+    if list.len() < types::MAX_COMMANDS {
+        return refused(types::number::NO_ROOM);
+    }
+    // 14
+    if types::MAX_TURNS < turns.len() {
+        return refused(types::number::MANY_TURNS);
+    }
+    let numbers = layout::fresh(count);
+    let seat = Seat { at: p.at, numbers };
+    let ran = played(s, cs, seat, &mut heads, &mut cells, turns, list);
+    reported(cs, &heads, &cells, ran, p.depth, output)
 }

@@ -1,0 +1,1 @@
+// What the grammar makes of each token of a text: definitions and laws stand in specs/.

@@ -1,0 +1,65 @@
+-- A kind is never 0 and always below the count of kinds.
+use Prim.Native.Nat.{ℕ, _<_}
+use native.Mathlib.Omega.{arith}
+use mathlib.Core.Path.{_≡_, refl}
+use Rattle.program.specs.Tree.{Op, Op.op-eq, Op.op-ne, Op.op-le, Op.op-ge, Op.op-lt, Op.op-gt, Op.op-mul, Op.op-div, Op.op-rem, Op.op-add, Op.op-sub, Op.op-and, Op.op-or}
+use Rattle.tokens.specs.Tokens.{Word, Word.w-struct, Word.w-if, Word.w-then, Word.w-null, Word.w-this, Word.w-fix, Word.w-int, Word.w-nat, Word.w-bool, Word.w-string, Word.w-true, Word.w-false}
+use Rattle.tokens.specs.Tokens.{Sign, Sign.lpar, Sign.rpar, Sign.lbrace, Sign.rbrace, Sign.comma, Sign.colon, Sign.semicolon, Sign.assign, Sign.dot, Sign.bang, Token, Token.word, Token.sign, Token.op, Token.name, Token.int, Token.nat}
+use Rattle.lexer.specs.Kinds.{word-kind, sign-kind, op-kind, kinds, kind}
+
+-- within the bounds of a group
+abbrev pub Within : ℕ → ℕ → ℕ → Type 0
+Within lo hi n = (lo < n) × (n < hi)
+
+pub word-within : (w : Word) → Within 0 13 (word-kind w)
+unfolding word-kind
+word-within w-struct = (omega arith, omega arith)
+word-within w-if = (omega arith, omega arith)
+word-within w-then = (omega arith, omega arith)
+word-within w-null = (omega arith, omega arith)
+word-within w-this = (omega arith, omega arith)
+word-within w-fix = (omega arith, omega arith)
+word-within w-int = (omega arith, omega arith)
+word-within w-nat = (omega arith, omega arith)
+word-within w-bool = (omega arith, omega arith)
+word-within w-string = (omega arith, omega arith)
+word-within w-true = (omega arith, omega arith)
+word-within w-false = (omega arith, omega arith)
+
+pub sign-within : (g : Sign) → Within 12 23 (sign-kind g)
+unfolding sign-kind
+sign-within lpar = (omega arith, omega arith)
+sign-within rpar = (omega arith, omega arith)
+sign-within lbrace = (omega arith, omega arith)
+sign-within rbrace = (omega arith, omega arith)
+sign-within comma = (omega arith, omega arith)
+sign-within colon = (omega arith, omega arith)
+sign-within semicolon = (omega arith, omega arith)
+sign-within assign = (omega arith, omega arith)
+sign-within dot = (omega arith, omega arith)
+sign-within bang = (omega arith, omega arith)
+
+pub op-within : (o : Op) → Within 22 36 (op-kind o)
+unfolding op-kind
+op-within op-eq = (omega arith, omega arith)
+op-within op-ne = (omega arith, omega arith)
+op-within op-le = (omega arith, omega arith)
+op-within op-ge = (omega arith, omega arith)
+op-within op-lt = (omega arith, omega arith)
+op-within op-gt = (omega arith, omega arith)
+op-within op-mul = (omega arith, omega arith)
+op-within op-div = (omega arith, omega arith)
+op-within op-rem = (omega arith, omega arith)
+op-within op-add = (omega arith, omega arith)
+op-within op-sub = (omega arith, omega arith)
+op-within op-and = (omega arith, omega arith)
+op-within op-or = (omega arith, omega arith)
+
+pub kind-within : (t : Token) → Within 0 kinds (kind t)
+unfolding kind
+kind-within (word w) = let h = word-within w in (omega arith, omega arith)
+kind-within (sign g) = let h = sign-within g in (omega arith, omega arith)
+kind-within (op o) = let h = op-within o in (omega arith, omega arith)
+kind-within (name x) = (omega arith, omega arith)
+kind-within (int p ds) = (omega arith, omega arith)
+kind-within (nat ds) = (omega arith, omega arith)

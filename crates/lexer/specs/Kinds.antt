@@ -1,0 +1,70 @@
+-- The kind of a token as a byte: what is kept of it in its place of the text. 0 is no kind: no token begins there.
+use Prim.Native.Nat.{ℕ}
+use Rattle.program.specs.Tree.{Op, Op.op-eq, Op.op-ne, Op.op-le, Op.op-ge, Op.op-lt, Op.op-gt, Op.op-mul, Op.op-div, Op.op-rem, Op.op-add, Op.op-sub, Op.op-and, Op.op-or}
+use Rattle.tokens.specs.Tokens.{Word, Word.w-struct, Word.w-if, Word.w-then, Word.w-null, Word.w-this, Word.w-fix, Word.w-int, Word.w-nat, Word.w-bool, Word.w-string, Word.w-true, Word.w-false}
+use Rattle.tokens.specs.Tokens.{Sign, Sign.lpar, Sign.rpar, Sign.lbrace, Sign.rbrace, Sign.comma, Sign.colon, Sign.semicolon, Sign.assign, Sign.dot, Sign.bang, Token, Token.word, Token.sign, Token.op, Token.name, Token.int, Token.nat}
+
+-- 1 to 12: the words
+unfoldable pub word-kind : Word → ℕ
+word-kind w-struct = 1
+word-kind w-if = 2
+word-kind w-then = 3
+word-kind w-null = 4
+word-kind w-this = 5
+word-kind w-fix = 6
+word-kind w-int = 7
+word-kind w-nat = 8
+word-kind w-bool = 9
+word-kind w-string = 10
+word-kind w-true = 11
+word-kind w-false = 12
+
+-- 13 to 22: the signs
+unfoldable pub sign-kind : Sign → ℕ
+sign-kind lpar = 13
+sign-kind rpar = 14
+sign-kind lbrace = 15
+sign-kind rbrace = 16
+sign-kind comma = 17
+sign-kind colon = 18
+sign-kind semicolon = 19
+sign-kind assign = 20
+sign-kind dot = 21
+sign-kind bang = 22
+
+-- 23 to 35: the operators
+unfoldable pub op-kind : Op → ℕ
+op-kind op-eq = 23
+op-kind op-ne = 24
+op-kind op-le = 25
+op-kind op-ge = 26
+op-kind op-lt = 27
+op-kind op-gt = 28
+op-kind op-mul = 29
+op-kind op-div = 30
+op-kind op-rem = 31
+op-kind op-add = 32
+op-kind op-sub = 33
+op-kind op-and = 34
+op-kind op-or = 35
+
+abbrev pub name-kind : ℕ
+name-kind = 36
+
+abbrev pub int-kind : ℕ
+int-kind = 37
+
+abbrev pub nat-kind : ℕ
+nat-kind = 38
+
+-- how many kinds there are, with 0
+abbrev pub kinds : ℕ
+kinds = 39
+
+unfoldable pub kind : Token → ℕ
+kind (word w) = word-kind w
+kind (sign g) = sign-kind g
+kind (op o) = op-kind o
+kind (name x) = name-kind
+kind (int p ds) = int-kind
+kind (nat ds) = nat-kind

@@ -1,0 +1,1 @@
+// Tokens of program text by their kinds: definitions and laws stand in specs/.
