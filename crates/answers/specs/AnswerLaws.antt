@@ -5,7 +5,7 @@ use native.Mathlib.Omega.{arith}
 use native.Mathlib.Numerals.{sub-one}
 use mathlib.Core.Path.{_≡_, refl, ap}
 use Rattle.program.specs.Reader.{Result, Result.ok, Result.bad, then, made, many}
-use Rattle.answers.specs.Answers.{Answer, Answer.value, Answer.refused, answer, after}
+use Rattle.answers.specs.Answers.{Answer, Answer.value, Answer.refused, answer}
 
 module _ {A F : Type 0} (f : A → F) where
   -- what was read, from what was answered
@@ -22,10 +22,6 @@ module _ {A F : Type 0} (f : A → F) where
   unfolding made then
   answer-made g (ok b m) = refl
   answer-made g (bad p n) = refl
-
-  pub answer-after : {G : Type 0} (h : F → G) (r : Result A) → answer (λ a. h (f a)) r ≡ after h (answer f r)
-  answer-after h (ok a m) = refl
-  answer-after h (bad p n) = refl
 
 -- Things in a row, each read by r. What is totalled up of them behind x is `total x`; behind x and the first of them, of which f computes
 -- g, it is that of the others behind `step x g`.

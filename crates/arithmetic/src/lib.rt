@@ -12,6 +12,7 @@ ghost use Rattle.types.specs.Values.{word-int, Val.int-val, Val.nat-val, Val.bo
 ghost use Rattle.operators.specs.Operators.{quotient, remainder};
 ghost use Rattle.operators.specs.Apply.{Answer.value, int-answer, answer, compute, apply};
 ghost use Rattle.operators.specs.Words.{answered, op-of, apply-word, IntOf};
+ghost use Rattle.arithmetic.specs.Compares.{Compares};
 
 // The bytes of the operators; 44 is or.
 const EQ: u8 = 32;
@@ -114,10 +115,10 @@ fn remainder_of(x: i64, y: i64) -> i64
     x - y * quotient_of(x, y)
 }
 
-// Every operator on two numbers of Int.
-fn compute_int(op: u8, x: i64, y: i64) -> Answered
-    requires { ⌜ (mag x < int-half) × (mag y < int-half) ⌝ }
-    ensures { λ r. ⌜ r ≡ answered (answer int-answer (compute (op-of op) x y)) ⌝ }
+// The comparisons: a truth, whatever the type of the numbers.
+fn compare(op: u8, x: i64, y: i64) -> Answered
+    requires { ⌜ op ≤ 37 ⌝ }
+    ensures { λ r. ⌜ Compares op x y r ⌝ }
 {
     if op <= EQ {
         return truth(x == y);
@@ -134,8 +135,16 @@ fn compute_int(op: u8, x: i64, y: i64) -> Answered
     if op == LT {
         return truth(x < y);
     }
-    if op == GT {
-        return truth(y < x);
+    truth(y < x)
+}
+
+// Every operator on two numbers of Int.
+fn compute_int(op: u8, x: i64, y: i64) -> Answered
+    requires { ⌜ (mag x < int-half) × (mag y < int-half) ⌝ }
+    ensures { λ r. ⌜ r ≡ answered (answer int-answer (compute (op-of op) x y)) ⌝ }
+{
+    if op <= GT {
+        return compare(op, x, y);
     }
     if op == MUL {
         return int_answer(x * y);
@@ -171,23 +180,8 @@ fn apply_int(op: u8, a: u32, b: u32) -> Answered
 fn apply_nat(op: u8, a: u32, b: u32) -> Answered
     ensures { λ r. ⌜ r ≡ answered (apply (op-of op) (nat-val a) (nat-val b)) ⌝ }
 {
-    if op <= EQ {
-        return truth(a == b);
-    }
-    if op == NE {
-        return truth(a != b);
-    }
-    if op == LE {
-        return truth(a <= b);
-    }
-    if op == GE {
-        return truth(b <= a);
-    }
-    if op == LT {
-        return truth(a < b);
-    }
-    if op == GT {
-        return truth(b < a);
+    if op <= GT {
+        return compare(op, a as i64, b as i64);
     }
     if op == MUL {
         let n = (a as u64) * (b as u64);

@@ -1,30 +1,28 @@
 -- What a program is loaded as gives the verdict and the list (01, 1 to 8 and 13 of 'Numbers from the input').
-use Prim.Native.Nat.{ℕ, _+_, _<_, _≤_}
+use Prim.Native.Nat.{ℕ, _<_, _≤_}
 use native.Mathlib.Omega.{arith}
-use mathlib.Core.Path.{_≡_, refl, ap, sym, _∙_}
-use mathlib.Core.List.{List, [], _∷_, _++_}
+use mathlib.Core.Path.{_≡_, refl, ap, _∙_}
+use mathlib.Core.List.{List}
 use lib.ListN.{length, length-map}
 use borrow.Author.Tests.{lt-ltb, le-ltb}
 use Rattle.types.specs.Limits.{max-structs, max-commands}
-use Rattle.program.specs.Tree.{Step, Program}
-use Rattle.program.specs.Encoding.{flat}
-use Rattle.commands.specs.Coding.{words}
-use Rattle.commands.specs.Bounds.{step-list, program-size, Within}
+use Rattle.program.specs.Tree.{Program}
+use Rattle.commands.specs.Bounds.{program-size, Within}
+use Rattle.commands.specs.ProgramWords.{structs-words, program-words}
+use Rattle.commands.specs.ProgramWordsLaws.{program-length}
 use Rattle.commands.specs.NumbersLaws.{number-accepted}
 use Rattle.read_params.specs.ParamsWays.{from-start}
-use Rattle.emit.specs.ProgramWords.{step-words, steps-words, structs-words, structs-at, program-words as emitted-words}
-use Rattle.emit.specs.WordLaws.{words-append}
-use Rattle.emit.specs.ProgramLaws.{program-length}
+use Rattle.emit.specs.Written.{structs-at}
 use Rattle.emit_steps.specs.declared.Place.{Place}
 use Rattle.emit_steps.specs.Emitted.{from-place, stand, Fits, Emitted, EmittedProgram}
 use Rattle.emit_steps.specs.ProgramLaws.{program-fits}
 use Rattle.directory.specs.Directory.{structs-rows}
 use Rattle.directory.specs.Rows.{directory-places}
-use Rattle.verdict.specs.Verdict.{Checked, Checked.accepted, Checked.refused, of-steps, of-structs, program-words, listed, Verdict as Judgement, refusal, approval, verdict-of, list-of}
+use Rattle.verdict.specs.Verdict.{Checked, Checked.accepted, Checked.refused, listed, Verdict as Judgement, refusal, approval, verdict-of, list-of}
 use Rattle.load.specs.declared.Loaded.{Loaded}
 use Rattle.load.specs.Load.{Admitted}
 use Rattle.load.specs.LoadLaws.{LoadedAs, accepted-source, structs-are, structs-few}
-use Rattle.checker.specs.Answer.{answer, counts-verdict, approved}
+use Rattle.checker.specs.Answer.{answer, approved}
 
 -- Refusals -----------------------------------------------------------------------------
 
@@ -43,27 +41,6 @@ short-answers c p list e l = rw e (rw (verdict-of, list-of, lt-ltb (length list)
 pub room-answers : (c : Checked) (p : Program) (list : List ℕ) → c ≡ accepted p → max-commands ≤ length list → Answers c list (approval p) (listed p list)
 unfolding verdict-of list-of
 room-answers c p list e l = rw e (rw (verdict-of, list-of, le-ltb (length list) max-commands l) (refl, refl))
-
--- Words --------------------------------------------------------------------------------
-
-steps-same : (ts : List Step) → flat step-words ts ≡ words (of-steps ts)
-unfolding flat step-words of-steps words
-steps-same [] = refl
-steps-same (t ∷ ts) = ap (λ (l : List ℕ). words (step-list t) ++ l) (steps-same ts) ∙ sym (words-append (step-list t) (of-steps ts))
-
-structs-same : (tss : List (List Step)) → flat steps-words tss ≡ words (of-structs tss)
-unfolding flat of-structs words
-structs-same [] = refl
-structs-same (ts ∷ tss) = rw (steps-same ts, structs-same tss) (sym (words-append (of-steps ts) (of-structs tss)))
-
--- the words that are written are those of the list
-pub same-words : (p : Program) → emitted-words p ≡ program-words p
-unfolding emitted-words program-words
-same-words p = structs-same (p .steps)
-
--- a verdict of 0 by its counts
-same-verdict : (a b c d a′ b′ c′ d′ : ℕ) → a ≡ a′ → b ≡ b′ → c ≡ c′ → d ≡ d′ → counts-verdict a b c d ≡ counts-verdict a′ b′ c′ d′
-same-verdict a b c d a′ b′ c′ d′ e f g h = rw (e, f, g, h)
 
 -- A loaded program -----------------------------------------------------------------------
 
@@ -99,4 +76,4 @@ module _ (x : List ℕ) (z : Loaded) (l : LoadedAs x z) where
 
         pub wrote : list′ ≡ listed p list
         unfolding listed
-        wrote = emitted .words ∙ from-start list (emitted-words p) (omega (arith, program-length p, enough)) ∙ rw (same-words p)
+        wrote = emitted .words ∙ from-start list (program-words p) (omega (arith, program-length p, enough))

@@ -12,12 +12,13 @@ use Rattle.program.specs.Counts.{Counts}
 use Rattle.commands.specs.Bounds.{Within}
 use Rattle.commands.specs.Commands.{Flat}
 use Rattle.commands.specs.Coding.{command-word}
+use Rattle.commands.specs.ProgramWords.{structs-list, program-words}
 use Rattle.commands.specs.Decoding.{decode, InRanges}
 use Rattle.commands.specs.CodingLaws.{word-injective}
 use Rattle.operators.specs.Operators.{quotient, remainder}
 use Rattle.operators.specs.Rounding.{TowardMinusInfinity, DivisorSigned}
 use Rattle.operators.specs.RoundingLaws.{quotient-downward, quotient-unique, remainder-signed, remainder-unique}
-use Rattle.verdict.specs.Verdict.{of-structs, program-words, listed}
+use Rattle.verdict.specs.Verdict.{listed}
 use Rattle.verdict.specs.ListLaws.{listed-decoded, words-determine}
 
 -- The coding of a command in its place of the list: its word determines it,
@@ -26,12 +27,12 @@ word-determines c d h k e = word-injective c d h k e
 
 -- and the words of an accepted program its commands
 pub list-determines : (p q : Program) → Counts p → Within p → Counts q → Within q → program-words p ≡ program-words q
-    → of-structs (p .steps) ≡ of-structs (q .steps)
+    → structs-list (p .steps) ≡ structs-list (q .steps)
 list-determines p q c w d v e = words-determine p c w q d v e
 
 -- read off the list behind a check, they are those commands
 pub list-decoded : (p : Program) → Counts p → Within p → (list : List ℕ)
-    → map decode (take (length (program-words p)) (listed p list)) ≡ map some (of-structs (p .steps))
+    → map decode (take (length (program-words p)) (listed p list)) ≡ map some (structs-list (p .steps))
 list-decoded p c w list = listed-decoded p c w list
 
 -- "Int division now rounds toward minus infinity" (02, 'Retarders below zero'): the library's quotient is the one that does

@@ -7,6 +7,8 @@ pub mod Decoding
 pub mod CodingLaws
 pub mod Depth
 pub mod Bounds
+pub mod ProgramWords
+pub mod ProgramWordsLaws
 pub mod Noted
 pub mod CommandLaws
 pub mod NotedLaws

@@ -7,7 +7,7 @@ use lib.Seq.{sets}
 use Rattle.program.specs.Tree.{Program}
 use Rattle.program.specs.Reader.{Result.ok, read-params, read}
 use Rattle.commands.specs.Bounds.{arities}
-use Rattle.emit.specs.ProgramWords.{structs-at}
+use Rattle.emit.specs.Written.{structs-at}
 use Rattle.machine.specs.Published.{of-items}
 use Rattle.memory.specs.Plan.{laid-out, At}
 

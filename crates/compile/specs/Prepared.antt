@@ -9,7 +9,7 @@ use Rattle.types.specs.Limits.{max-commands, schedule-items}
 use Rattle.program.specs.Tree.{Program}
 use Rattle.program.specs.Reader.{Result.ok, read-params, read}
 use Rattle.commands.specs.Bounds.{arities, Within}
-use Rattle.emit.specs.ProgramWords.{program-words}
+use Rattle.commands.specs.ProgramWords.{program-words}
 use Rattle.memory.specs.Plan.{Located}
 use Rattle.compile.specs.Spans.{span-places}
 use Rattle.compile.specs.Laid.{Laid}

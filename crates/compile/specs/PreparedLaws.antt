@@ -14,9 +14,9 @@ use Rattle.directory.specs.Directory.{structs-rows, directory}
 use Rattle.directory.specs.Rows.{row-places, directory-places, rows-from}
 use Rattle.directory.specs.DirectoryLaws.{directory-few, RowInRange, directory-ranged}
 use Rattle.directory.specs.FindLaws.{directory-marks}
-use Rattle.emit.specs.Written.{Ready}
-use Rattle.emit.specs.ProgramWords.{step-words, structs-words, program-words, structs-at}
-use Rattle.emit.specs.ProgramLaws.{program-length}
+use Rattle.commands.specs.ProgramWords.{structs-words, program-words}
+use Rattle.commands.specs.ProgramWordsLaws.{program-length}
+use Rattle.emit.specs.Written.{Ready, structs-at}
 use Rattle.emit_steps.specs.declared.Place.{Place}
 use Rattle.emit_steps.specs.Emitted.{from-place, stand, Fits, Emitted, EmittedProgram}
 use Rattle.emit_steps.specs.ProgramLaws.{program-fits}
@@ -66,7 +66,7 @@ module _ {s ar : List ℕ} {at : ℕ} {list spans codes : List ℕ} (h : Prepara
 
     -- and they are located
     located : {spans' : List ℕ} → spans' ≡ spans-of (rows-from rows' 0 (q .rows)) (length ar) spans → Located (h .program) list' spans'
-    unfolding Within program-words step-words
+    unfolding Within
     located e k n i j =
         let p = h .program in
         let size = program-length p in

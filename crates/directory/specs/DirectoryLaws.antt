@@ -1,20 +1,17 @@
--- The directory of a program (01, 'Names, types, commands'): a row for each step, at most 128; each begins where the one before it ends;
--- together they have the program's commands; and each marks its step's words in the list.
-use Prim.Native.Nat.{ℕ, zero, suc, _+_, _*_, _<_, _≤_}
+-- The directory of a program (01, 'Names, types, commands'): a row for each step, at most 128; each begins where the one before it ends, and
+-- together they have the program's commands.
+use Prim.Native.Nat.{ℕ, suc, _+_, _*_, _<_, _≤_}
 use native.Mathlib.Omega.{arith}
-use native.Mathlib.Nat.{zero-add}
-use mathlib.Core.Path.{_≡_, refl, ap, sym, _∙_}
-use mathlib.Core.List.{List, [], _∷_, _++_, map, map-append}
-use lib.ListN.{length, getD, take, length-append}
+use mathlib.Core.Path.{_≡_, refl, ap}
+use mathlib.Core.List.{List, [], _∷_, _++_}
+use lib.ListN.{length, length-append}
 use Rattle.types.specs.Limits.{max-structs, max-steps, step-names}
 use Rattle.program.specs.Tree.{Step, Program}
-use Rattle.program.specs.Encoding.{flat}
 use Rattle.program.specs.Counts.{All, Few, CountsStep, Counts}
 use Rattle.commands.specs.Bounds.{total, arities, step-size, program-size}
+use Rattle.commands.specs.RangeLaws.{all-append}
 use Rattle.directory.specs.declared.Row.{Row}
-use Rattle.directory.specs.Directory.{row, steps-rows, structs-rows, directory}
-use Rattle.directory.specs.Held.{words-of-step, words-of-steps, words-of-structs, Holds, part}
-use Rattle.directory.specs.HeldLaws.{words-of-size, words-of-sizes, holds-front, holds-part, holds-first, holds-next}
+use Rattle.directory.specs.Directory.{steps-rows, structs-rows, directory}
 
 -- How many -----------------------------------------------------------------------------
 
@@ -49,10 +46,6 @@ directory-few p c = omega (arith, directory-count p, total-few max-steps (Counts
 abbrev pub RowInRange : Row → Type 0
 RowInRange r = (r .structure < max-structs) × (r .name < step-names)
 
-all-append : (xs ys : List Row) → All RowInRange xs → All RowInRange ys → All RowInRange (xs ++ ys)
-all-append [] ys h g = g
-all-append (x ∷ xs) ys h g = (h .0, all-append xs ys (h .1) g)
-
 pub all-both : {A : Type 0} (C D : A → Type 0) (l : List A) → All C l → All D l → All (λ a. (C a) × (D a)) l
 all-both C D [] h g = tt
 all-both C D (a ∷ l) h g = ((h .0, g .0), all-both C D l (h .1) (g .1))
@@ -67,7 +60,7 @@ structs-ranged : (ar : List ℕ) (k a : ℕ) (tss : List (List Step)) → k + le
 unfolding structs-rows
 structs-ranged ar k a [] l h = tt
 structs-ranged ar k a (ts ∷ tss) l h =
-    all-append (steps-rows k a ts) _ (steps-ranged ar k a ts (omega arith) (h .0 .2))
+    all-append RowInRange (steps-rows k a ts) _ (steps-ranged ar k a ts (omega arith) (h .0 .2))
     (structs-ranged ar (suc k) (a + total step-size ts) tss (omega arith) (h .1))
 
 -- those of the program
@@ -117,18 +110,6 @@ structs-consecutive k a (ts ∷ tss) =
     consecutive-append (steps-rows k a ts) _ a (a + total step-size ts) (rw (steps-sizes k a ts)) (steps-consecutive k a ts)
     (structs-consecutive (suc k) (a + total step-size ts) tss)
 
-start-is : (a : ℕ) (rs : List Row) → Consecutive a rs → (i : ℕ) → i < length rs → getD (map (λ (r : Row). r .start) rs) i 0 ≡ a + sizes (take i rs)
-unfolding total
-start-is a [] h i l = absurd (omega arith)
-start-is a (r ∷ rs) h zero l = omega (arith, h .0)
-start-is a (r ∷ rs) h (suc i) l = start-is (a + r .size) rs (h .1) i (omega arith) ∙ omega arith
-
--- the sum of the sizes before it
-pub directory-starts : (p : Program) (i : ℕ) → i < length (directory p)
-    → getD (map (λ (r : Row). r .start) (directory p)) i 0 ≡ sizes (take i (directory p))
-unfolding directory
-directory-starts p i l = start-is 0 (directory p) (structs-consecutive 0 0 (p .steps)) i l ∙ zero-add _
-
 -- each ends within the commands of all
 inside : (b a : ℕ) (rs : List Row) → Consecutive a rs → a + sizes rs ≤ b → All (λ (r : Row). r .start + r .size ≤ b) rs
 unfolding total
@@ -144,37 +125,3 @@ directory-inside p b l =
 pub directory-size : (p : Program) → sizes (directory p) ≡ program-size p
 unfolding directory program-size
 directory-size p = structs-sizes 0 0 (p .steps)
-
--- What they mark -----------------------------------------------------------------------
-
--- the words of the steps, one list for each
-unfoldable pub parts-of : List (List Step) → List (List ℕ)
-parts-of [] = []
-parts-of (ts ∷ tss) = map words-of-step ts ++ parts-of tss
-
-module _ (list : List ℕ) where
-  steps-parts : (k a : ℕ) (ts : List Step) → Holds list a (words-of-steps ts) → map (part list) (steps-rows k a ts) ≡ map words-of-step ts
-  unfolding steps-rows flat
-  steps-parts k a [] h = refl
-  steps-parts k a (t ∷ ts) h =
-      rw (
-        holds-part (step-size t) (words-of-size t) (holds-first (words-of-step t) _ h),
-        steps-parts k (a + step-size t) ts (holds-next (words-of-step t) _ (step-size t) (words-of-size t) h),
-      )
-
-  structs-parts : (k a : ℕ) (tss : List (List Step)) → Holds list a (words-of-structs tss)
-      → map (part list) (structs-rows k a tss) ≡ parts-of tss
-  unfolding structs-rows flat parts-of
-  structs-parts k a [] h = refl
-  structs-parts k a (ts ∷ tss) h =
-      rw (
-        map-append (part list) (steps-rows k a ts) _,
-        steps-parts k a ts (holds-first (words-of-steps ts) _ h),
-        structs-parts (suc k) (a + total step-size ts) tss (holds-next (words-of-steps ts) _ (total step-size ts) (words-of-sizes ts) h),
-      )
-
--- in a list that begins with the program's words each row marks the words of its step
-pub directory-parts : (p : Program) (list back : List ℕ) → list ≡ words-of-structs (p .steps) ++ back
-    → map (part list) (directory p) ≡ parts-of (p .steps)
-unfolding directory
-directory-parts p list back e = structs-parts list 0 0 (p .steps) (holds-front list _ back e)

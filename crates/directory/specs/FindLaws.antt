@@ -2,7 +2,7 @@
 -- types, commands'; 000's S).
 use Prim.Native.Nat.{ℕ, zero, suc, _+_, _<_}
 use native.Mathlib.Omega.{arith}
-use mathlib.Core.Path.{_≡_, refl, ap, sym, _∙_}
+use mathlib.Core.Path.{_≡_, refl, _∙_}
 use mathlib.Core.Bool.{Bool, true, false}
 use mathlib.Core.Option.{Option, none, some}
 use mathlib.Core.List.{List, [], _∷_, _++_}
@@ -10,14 +10,14 @@ use lib.ListN.{getD}
 use lib.Dec.{eqb}
 use borrow.Author.Tests.{eq-eqb, ne-eqb, eqb-true, eqb-false}
 use Rattle.program.specs.Tree.{Step, Program}
-use Rattle.program.specs.Encoding.{flat}
 use Rattle.program.specs.Counts.{All}
 use Rattle.commands.specs.Bounds.{total, step-size}
 use Rattle.commands.specs.Context.{find-step, step-of}
+use Rattle.commands.specs.ProgramWords.{step-words, steps-words, structs-words, program-words}
 use Rattle.directory.specs.declared.Row.{Row}
 use Rattle.directory.specs.Directory.{row, steps-rows, structs-rows, directory, is-row, find-row}
-use Rattle.directory.specs.Held.{words-of-step, words-of-steps, words-of-structs, Holds, Marks}
-use Rattle.directory.specs.HeldLaws.{words-of-size, words-of-sizes, holds-front, holds-in, holds-part, holds-first, holds-next}
+use Rattle.directory.specs.Held.{Holds, Marks}
+use Rattle.directory.specs.HeldLaws.{holds-program, holds-step, holds-struct, holds-words, holds-size}
 
 -- A row --------------------------------------------------------------------------------
 
@@ -84,16 +84,15 @@ module _ (k n : ℕ) where
 -- The step -----------------------------------------------------------------------------
 
 module _ (list : List ℕ) (n : ℕ) where
-  own-steps : (k a : ℕ) (ts : List Step) (rs : List Row) → find-row rs k n ≡ none → Holds list a (words-of-steps ts)
+  own-steps : (k a : ℕ) (ts : List Step) (rs : List Row) → find-row rs k n ≡ none → Holds list a (steps-words ts)
       → Marks list (find-row (steps-rows k a ts ++ rs) k n) (find-step ts n)
-  unfolding steps-rows find-step flat
+  unfolding steps-rows find-step
   own-steps k a [] rs e h = rw e tt
   own-steps k a (t ∷ ts) rs e h =
-      go (eqb (t .name) n) refl
-      (own-steps k (a + step-size t) ts rs e (holds-next (words-of-step t) (words-of-steps ts) (step-size t) (words-of-size t) h))
+      go (eqb (t .name) n) refl (own-steps k (a + step-size t) ts rs e (holds-step t ts h .1))
     where
-      first : Holds list a (words-of-step t)
-      first = holds-first (words-of-step t) (words-of-steps ts) h
+      first : Holds list a (step-words t)
+      first = holds-step t ts h .0
 
       later : List Row
       later = steps-rows k (a + step-size t) ts ++ rs
@@ -103,28 +102,28 @@ module _ (list : List ℕ) (n : ℕ) where
       go true b m =
           let i = eqb-true (t .name) n b in
           rw (find-here (row k (t .name) a (step-size t)) later k n refl i, step-here t ts n i)
-          (omega (arith, holds-in first, words-of-size t), holds-part (step-size t) (words-of-size t) first)
+          (holds-size t first, holds-words t first)
       go false b m =
           let i = eqb-false (t .name) n b in
           rw (find-other (row k (t .name) a (step-size t)) later k n i, step-other t ts n i) m
 
-  structs-marked : (j a : ℕ) (tss : List (List Step)) → Holds list a (words-of-structs tss) → (i : ℕ)
+  structs-marked : (j a : ℕ) (tss : List (List Step)) → Holds list a (structs-words tss) → (i : ℕ)
       → Marks list (find-row (structs-rows j a tss) (j + i) n) (find-step (getD tss i []) n)
-  unfolding structs-rows find-row find-step flat
+  unfolding structs-rows find-row find-step
   structs-marked j a [] h i = tt
   structs-marked j a (ts ∷ tss) h zero =
       let z : j + 0 ≡ j = omega arith in
       let e = later-structs j n (suc j) (a + total step-size ts) tss (omega arith) in
-      rw z (own-steps j a ts _ e (holds-first (words-of-steps ts) _ h))
+      rw z (own-steps j a ts _ e (holds-struct ts tss h .0))
   structs-marked j a (ts ∷ tss) h (suc i) =
       let z : j + suc i ≡ suc j + i = omega arith in
       let e = other-steps (suc j + i) n j a ts (structs-rows (suc j) (a + total step-size ts) tss) (λ e. omega arith) in
-      rw (z, e) (structs-marked (suc j) (a + total step-size ts) tss (holds-next (words-of-steps ts) _ (total step-size ts) (words-of-sizes ts) h) i)
+      rw (z, e) (structs-marked (suc j) (a + total step-size ts) tss (holds-struct ts tss h .1) i)
 
 -- the first row of (k, n) marks the words of the step n of struct k in a list that begins with the program's words
-pub directory-marks : (p : Program) (list back : List ℕ) → list ≡ words-of-structs (p .steps) ++ back → (k n : ℕ)
+pub directory-marks : (p : Program) (list back : List ℕ) → list ≡ program-words p ++ back → (k n : ℕ)
     → Marks list (find-row (directory p) k n) (step-of p k n)
 unfolding directory
 directory-marks p list back e k n =
     let z : 0 + k ≡ k = omega arith in
-    rw z at (structs-marked list n 0 0 (p .steps) (holds-front list _ back e) k)
+    rw z at (structs-marked list n 0 0 (p .steps) (holds-program p list back e) k)

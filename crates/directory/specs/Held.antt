@@ -2,24 +2,12 @@
 use Prim.Native.Nat.{ℕ, _+_, _≤_}
 use mathlib.Core.Path.{_≡_}
 use mathlib.Core.Option.{Option, none, some}
-use mathlib.Core.List.{List, [], _∷_, _++_}
+use mathlib.Core.List.{List, _++_}
 use lib.ListN.{length, take, drop}
-use Rattle.program.specs.Tree.{Stmts, Step}
-use Rattle.program.specs.Encoding.{flat}
-use Rattle.commands.specs.Bounds.{step-list}
+use Rattle.program.specs.Tree.{Stmts}
 use Rattle.commands.specs.Coding.{words}
 use Rattle.commands.specs.Commands.{commands}
 use Rattle.directory.specs.declared.Row.{Row}
-
--- the words of a step, of a struct's steps, and of those of all structs
-abbrev pub words-of-step : Step → List ℕ
-words-of-step t = words (step-list t)
-
-abbrev pub words-of-steps : List Step → List ℕ
-words-of-steps ts = flat words-of-step ts
-
-abbrev pub words-of-structs : List (List Step) → List ℕ
-words-of-structs tss = flat words-of-steps tss
 
 -- the words ws stand in the list from a place on
 pub record Holds (list : List ℕ) (a : ℕ) (ws : List ℕ) : Type 0 where

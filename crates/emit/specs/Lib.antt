@@ -10,7 +10,6 @@ pub mod PartsLaws
 pub mod ExprLaws
 pub mod LiteralLaws
 pub mod StmtLaws
-pub mod ProgramWords
 pub mod StepLaws
 pub mod ProgramLaws
 pub mod Rows

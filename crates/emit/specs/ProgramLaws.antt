@@ -1,34 +1,19 @@
--- The words of an accepted program (01, 'Names, types, commands'): as many as commands; and where its steps stand in a stream that is read.
+-- Where the steps of a program stand in a stream that is read (01, 'Program stream').
 use Prim.Native.Nat.{ℕ}
 use native.Mathlib.Omega.{arith}
 use mathlib.Core.Path.{_≡_, refl, sym, _∙_}
 use mathlib.Core.List.{List, [], _∷_, map}
 use mathlib.Core.Bool.{Bool, true, false}
-use lib.ListN.{length, length-append, length-map}
+use lib.ListN.{length, length-map}
 use lib.Dec.{ltb}
 use Rattle.types.specs.Limits.{fix-levels}
 use Rattle.types.specs.Types.{Ty}
 use Rattle.program.specs.Tree.{Items, Step, Program}
-use Rattle.program.specs.Encoding.{flat}
 use Rattle.program.specs.Reader.{Result, Result.ok, Result.bad, wrong-end, pair, many, ended, whole, read-params, read-steps, read-items, read-item, read-program, read}
 use Rattle.program.specs.PartLaws.{made-ok}
-use Rattle.commands.specs.Commands.{commands}
-use Rattle.commands.specs.Bounds.{total, arities, program-size, step-size}
-use Rattle.emit.specs.ProgramWords.{step-words, steps-words, program-words, structs-at}
-use Rattle.emit.specs.WordLaws.{words-length}
+use Rattle.commands.specs.Bounds.{arities}
+use Rattle.emit.specs.Written.{structs-at}
 use Rattle.emit.specs.ReadLaws.{then-value, made-value, pair-value, pair-ok}
-
--- the words in a row are as many as those of all
-flat-length : {A : Type 0} (f : A → List ℕ) (g : A → ℕ) → ((a : A) → length (f a) ≡ g a) → (l : List A) → length (flat f l) ≡ total g l
-unfolding flat total
-flat-length f g h [] = refl
-flat-length f g h (a ∷ l) = rw (length-append, h a, flat-length f g h l)
-
--- there are as many words as commands
-pub program-length : (p : Program) → length (program-words p) ≡ program-size p
-unfolding program-words program-size step-words
-program-length p =
-    flat-length steps-words (total step-size) (λ ts. flat-length step-words step-size (λ t. words-length (commands (t .body))) ts) (p .steps)
 
 -- behind the parameter lists of a program stand the steps of its structs
 pub record Standing (s : List ℕ) (at : ℕ) (p : Program) : Type 0 where

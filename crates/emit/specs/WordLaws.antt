@@ -10,26 +10,16 @@ use Rattle.types.specs.Types.{Ty}
 use Rattle.program.specs.Tree.{Var, Op, Expr, Expr.inv, Expr.make, Expr.path, Expr.op, Exprs, Exprs.none, Exprs.more, Stmt, Stmt.when, Stmt.declare, Stmt.update, Stmt.create, Stmts, Stmts.end, Stmts.next}
 use Rattle.program.specs.Encoding.{op-code, var-code}
 use Rattle.program.specs.Exact.{Stands, Stands.done, Stands.letter}
-use Rattle.commands.specs.Commands.{Coms, then, reads, front, last, expr-coms, args-coms, update-coms, stmt-coms, body-coms, Flat, flatten, commands}
+use Rattle.commands.specs.Commands.{Coms, then, reads, front, last, expr-coms, args-coms, update-coms, stmt-coms, body-coms, flatten, commands}
 use Rattle.commands.specs.CommandLaws.{flatten-then}
 use Rattle.commands.specs.Coding.{coded, com-word, command-word, words}
+use Rattle.commands.specs.ProgramWordsLaws.{words-append, words-length}
 use Rattle.emit.specs.Written.{coms-words, expr-words, args-words, make-words, path-words, target-words, stmt-words, body-words, when-words, block-words, declare-words, update-words}
 use Rattle.emit.specs.Leaf.{rd-words}
 
 -- the words of commands in a row
-pub words-append : (c d : List Flat) → words (c ++ d) ≡ words c ++ words d
-unfolding words
-words-append [] d = refl
-words-append (x ∷ c) d = ap (λ l. command-word x ∷ l) (words-append c d)
-
 pub words-then : (c d : Coms) → coms-words (then c d) ≡ coms-words c ++ coms-words d
 words-then c d = rw flatten-then (words-append (flatten c) (flatten d))
-
--- a word for each command
-pub words-length : (c : List Flat) → length (words c) ≡ length c
-unfolding words
-words-length [] = refl
-words-length (x ∷ c) = ap suc (words-length c)
 
 -- not stands behind its expression
 pub inv-words : (e : Expr) → expr-words (inv e) ≡ expr-words e ++ (coded 7 0 0 ∷ [])

@@ -7,9 +7,9 @@ use lib.ListN.{length}
 use lib.Seq.{sets}
 use Rattle.types.specs.Limits.{max-commands}
 use Rattle.types.specs.Types.{Ty}
-use Rattle.program.specs.Tree.{Var, Expr, Exprs, Exprs.none, Exprs.more, Stmt, Stmt.when, Stmt.declare, Stmt.update, Stmts, Stmts.end, Stmts.next}
+use Rattle.program.specs.Tree.{Var, Expr, Exprs, Exprs.none, Exprs.more, Stmt, Stmt.when, Stmt.declare, Stmt.update, Stmts, Stmts.end, Stmts.next, Step}
 use Rattle.program.specs.Encoding.{var-code}
-use Rattle.program.specs.Reader.{Result, Result.ok, Result.bad, many, read-expr, read-make, read-stmt, read-body, read-when}
+use Rattle.program.specs.Reader.{Result, Result.ok, Result.bad, many, read-expr, read-make, read-stmt, read-body, read-when, read-step, read-steps}
 use Rattle.commands.specs.Commands.{Com.wr, Com.cons, one, then, path-coms, front, last, expr-coms, args-coms, stmt-coms, flatten, Coms, commands}
 use Rattle.commands.specs.Coding.{coded, words}
 use Rattle.emit.specs.declared.Put.{Put}
@@ -99,3 +99,10 @@ body-at ar s d at = read-body ar s (λ m. read-stmt ar s d m) at
 
 abbrev pub when-at : List ℕ → List ℕ → ℕ → ℕ → Result (Expr × Stmts)
 when-at ar s d at = read-when ar s (λ m. read-stmt ar s d m) at
+
+-- n steps in a row, and the steps of n structs
+abbrev pub steps-at : List ℕ → List ℕ → ℕ → ℕ → Result (List Step)
+steps-at ar s n at = many [] _∷_ (read-step ar s) n at
+
+abbrev pub structs-at : List ℕ → List ℕ → ℕ → ℕ → Result (List (List Step))
+structs-at ar s n at = many [] _∷_ (read-steps ar s) n at

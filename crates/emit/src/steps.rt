@@ -2,8 +2,8 @@
 use crate::Put;
 use crate::stmts::body;
 ghost use Rattle.program.specs.Reader.{read-step};
+ghost use Rattle.commands.specs.ProgramWords.{step-words};
 ghost use Rattle.emit.specs.Written.{Ready, Wrote};
-ghost use Rattle.emit.specs.ProgramWords.{step-words};
 
 // The commands of the step at a place, from k on.
 pub fn step(s: &[u8], ar: &[u8], at: usize, out: &mut [u64], k: usize) -> Put

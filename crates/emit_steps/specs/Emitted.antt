@@ -13,7 +13,8 @@ use Rattle.directory.specs.declared.Row.{Row}
 use Rattle.directory.specs.Directory.{row, directory}
 use Rattle.directory.specs.Rows.{row-places, put-rows, rows-from}
 use Rattle.emit.specs.Written.{Good}
-use Rattle.emit.specs.ProgramWords.{program-words, structs-at}
+use Rattle.commands.specs.ProgramWords.{program-words}
+use Rattle.emit.specs.Written.{structs-at}
 use Rattle.emit_steps.specs.declared.Place.{Place}
 
 -- places, the list and the rows

@@ -14,8 +14,10 @@ use Rattle.directory.specs.Directory.{structs-rows, directory}
 use Rattle.directory.specs.Rows.{directory-places, put-rows, rows-from}
 use Rattle.directory.specs.RowsLaws.{rows-put}
 use Rattle.directory.specs.DirectoryLaws.{directory-few}
-use Rattle.emit.specs.ProgramWords.{structs-words, program-words, structs-at}
-use Rattle.emit.specs.ProgramLaws.{program-length, program-steps, whole-program}
+use Rattle.commands.specs.ProgramWords.{structs-words, program-words}
+use Rattle.commands.specs.ProgramWordsLaws.{program-length}
+use Rattle.emit.specs.Written.{structs-at}
+use Rattle.emit.specs.ProgramLaws.{program-steps, whole-program}
 use Rattle.emit_steps.specs.declared.Place.{Place}
 use Rattle.emit_steps.specs.Emitted.{Stand, from-place, stand, final, Fits, EmittedProgram}
 

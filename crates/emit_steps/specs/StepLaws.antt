@@ -3,21 +3,20 @@ use Prim.Native.Nat.{ℕ, suc, _+_, _-_, _*_, _<_, _≤_}
 use native.Mathlib.Omega.{arith}
 use native.Mathlib.Numerals.{add-one}
 use mathlib.Core.Path.{_≡_, refl, sym, ap, _∙_}
-use mathlib.Core.List.{List, [], _∷_, _++_}
+use mathlib.Core.List.{List, _∷_, _++_}
 use lib.ListN.{length, getD}
 use lib.Seq.{sets}
 use Rattle.types.specs.Limits.{max-commands, max-steps, step-names, if-levels}
 use Rattle.program.specs.Tree.{Stmts, Step}
-use Rattle.program.specs.Encoding.{flat}
 use Rattle.program.specs.Reader.{Result, Result.ok, pair, ranged, read-body, read-stmt, read-step, read-steps}
 use Rattle.program.specs.PartLaws.{made-ok}
-use Rattle.commands.specs.Bounds.{total, step-size}
+use Rattle.commands.specs.Bounds.{step-size}
+use Rattle.commands.specs.ProgramWords.{step-words, steps-words, structs-words}
+use Rattle.commands.specs.ProgramWordsLaws.{no-steps, more-steps, no-structs, more-structs, step-length, steps-length}
 use Rattle.directory.specs.Directory.{row, steps-rows, structs-rows}
 use Rattle.directory.specs.Rows.{row-places, put-row, put-rows}
-use Rattle.directory.specs.HeldLaws.{words-of-size, words-of-sizes}
 use Rattle.emit.specs.declared.Put.{Put}
-use Rattle.emit.specs.Written.{Good, code-of, next-of, Ready, Wrote}
-use Rattle.emit.specs.ProgramWords.{step-words, steps-words, structs-words, steps-at, structs-at}
+use Rattle.emit.specs.Written.{Good, code-of, next-of, Ready, Wrote, steps-at, structs-at}
 use Rattle.emit.specs.ReadLaws.{value, made-value, pair-value, pair-ok, ranged-value, counted-value}
 use Rattle.emit_steps.specs.Emitted.{Stand, place-at, stand, step-row, final, Fits}
 use Rattle.emit_steps.specs.EmittedLaws.{same-stand, final-none, first-fits, next-final, next-fits}
@@ -83,12 +82,12 @@ module _ (ar s : List ℕ) where
       -- with its row the step is written
       pub step-emitted : (rows′ : List ℕ) → rows′ ≡ put-row (x .rows) (x .place .rows) (row j (getD s (x .place .next) 0) (x .place .at) (q .at - x .place .at))
           → stand (place-at (q .next) (q .at) (x .place .rows + 1)) list′ rows′ ≡ final step-words (step-row j) (read-step ar s (x .place .next)) x
-      unfolding final step-row code-of next-of put-rows step-words
+      unfolding final step-row code-of next-of put-rows
       step-emitted rows′ e =
           let v = read-it in
           let u = rw (v .2) at w in
           let n = step-named (x .place .next) (v .0) (v .1) (v .2) .1 in
-          let m : q .at - x .place .at ≡ step-size (v .0) = omega (arith, u .at, words-of-size (v .0)) in
+          let m : q .at - x .place .at ≡ step-size (v .0) = omega (arith, u .at, step-length (v .0)) in
           rw (v .2)
           (same-stand _ _ _ _ _ _ _ _ _ _ (u .next) (u .at) refl (u .list) (e ∙ rw (m, ← n) refl))
 
@@ -96,12 +95,8 @@ module _ (ar s : List ℕ) where
 
 -- the first and the others
 steps-first : (j k : ℕ) (t : Step) (ts : List Step) → steps-rows j k (t ∷ ts) ≡ step-row j k t ++ steps-rows j (k + length (step-words t)) ts
-unfolding steps-rows step-row step-words
-steps-first j k t ts = rw (words-of-size t)
-
-words-first : (t : Step) (ts : List Step) → steps-words (t ∷ ts) ≡ step-words t ++ steps-words ts
-unfolding flat
-words-first t ts = refl
+unfolding steps-rows step-row
+steps-first j k t ts = rw (step-length t)
 
 -- behind the count
 abbrev pub behind-count : Stand → Stand
@@ -140,56 +135,52 @@ module _ (ar s : List ℕ) (j : ℕ) where
     row-of = steps-at ar s n (x .place .next)
 
     pub steps-none : n ≡ 0 → final steps-words (steps-rows j) row-of x ≡ x
-    unfolding flat steps-rows
-    steps-none e = final-none steps-words (steps-rows j) (read-step ar s) n (x .place .next) x refl (λ k. refl) e refl
+    unfolding steps-rows
+    steps-none e = final-none steps-words (steps-rows j) (read-step ar s) n (x .place .next) x no-steps (λ k. refl) e refl
 
     module _ (some : n ≡ 0 → ⊥) (fits : Fits steps-words (steps-rows j) row-of x) where
       pub step-fits : Fits step-words (step-row j) (read-step ar s (x .place .next)) x
       step-fits =
-          first-fits steps-words step-words (steps-rows j) (steps-rows j) (step-row j) words-first (steps-first j) (read-step ar s) n (x .place .next) x some fits
+          first-fits steps-words step-words (steps-rows j) (steps-rows j) (step-row j) more-steps (steps-first j) (read-step ar s) n (x .place .next) x some fits
 
       module _ (z : Stand) (e : z ≡ final step-words (step-row j) (read-step ar s (x .place .next)) x) where
         pub steps-final : final steps-words (steps-rows j) row-of x ≡ final steps-words (steps-rows j) (steps-at ar s (n - 1) (z .place .next)) z
         steps-final =
-            next-final steps-words step-words (steps-rows j) (steps-rows j) (step-row j) words-first (steps-first j) (read-step ar s) n (x .place .next) x some fits z e
+            next-final steps-words step-words (steps-rows j) (steps-rows j) (step-row j) more-steps (steps-first j) (read-step ar s) n (x .place .next) x some fits z e
 
         pub steps-fit : Fits steps-words (steps-rows j) (steps-at ar s (n - 1) (z .place .next)) z
         steps-fit =
-            next-fits steps-words step-words (steps-rows j) (steps-rows j) (step-row j) words-first (steps-first j) (read-step ar s) n (x .place .next) x some fits z e
+            next-fits steps-words step-words (steps-rows j) (steps-rows j) (step-row j) more-steps (steps-first j) (read-step ar s) n (x .place .next) x some fits z e
 
 -- Structs ------------------------------------------------------------------------------
 
 structs-first : (j k : ℕ) (ts : List Step) (tss : List (List Step))
     → structs-rows j k (ts ∷ tss) ≡ steps-rows j k ts ++ structs-rows (j + 1) (k + length (steps-words ts)) tss
-unfolding structs-rows step-words
-structs-first j k ts tss = rw (add-one, words-of-sizes ts)
-
-struct-words-first : (ts : List Step) (tss : List (List Step)) → structs-words (ts ∷ tss) ≡ steps-words ts ++ structs-words tss
-unfolding flat
-struct-words-first ts tss = refl
+unfolding structs-rows
+structs-first j k ts tss = rw (add-one, steps-length ts)
 
 module _ (ar s : List ℕ) (j n : ℕ) (x : Stand) where
   abbrev structs-of : Result (List (List Step))
   structs-of = structs-at ar s n (x .place .next)
 
   pub structs-none : n ≡ 0 → final structs-words (structs-rows j) structs-of x ≡ x
-  unfolding flat structs-rows
-  structs-none e = final-none structs-words (structs-rows j) (read-steps ar s) n (x .place .next) x refl (λ k. refl) e refl
+  unfolding structs-rows
+  structs-none e = final-none structs-words (structs-rows j) (read-steps ar s) n (x .place .next) x no-structs (λ k. refl) e refl
 
   module _ (some : n ≡ 0 → ⊥) (fits : Fits structs-words (structs-rows j) structs-of x) where
     pub struct-fits : Fits steps-words (steps-rows j) (read-steps ar s (x .place .next)) x
     struct-fits =
-        first-fits structs-words steps-words (structs-rows j) (structs-rows (j + 1)) (steps-rows j) struct-words-first (structs-first j) (read-steps ar s) n
+        first-fits structs-words steps-words (structs-rows j) (structs-rows (j + 1)) (steps-rows j) more-structs (structs-first j) (read-steps ar s) n
         (x .place .next) x some fits
 
     module _ (z : Stand) (e : z ≡ final steps-words (steps-rows j) (read-steps ar s (x .place .next)) x) where
       pub structs-final : final structs-words (structs-rows j) structs-of x
           ≡ final structs-words (structs-rows (j + 1)) (structs-at ar s (n - 1) (z .place .next)) z
       structs-final =
-          next-final structs-words steps-words (structs-rows j) (structs-rows (j + 1)) (steps-rows j) struct-words-first (structs-first j) (read-steps ar s) n
+          next-final structs-words steps-words (structs-rows j) (structs-rows (j + 1)) (steps-rows j) more-structs (structs-first j) (read-steps ar s) n
           (x .place .next) x some fits z e
 
       pub structs-fit : Fits structs-words (structs-rows (j + 1)) (structs-at ar s (n - 1) (z .place .next)) z
       structs-fit =
-          next-fits structs-words steps-words (structs-rows j) (structs-rows (j + 1)) (steps-rows j) struct-words-first (structs-first j) (read-steps ar s) n
+          next-fits structs-words steps-words (structs-rows j) (structs-rows (j + 1)) (steps-rows j) more-structs (structs-first j) (read-steps ar s) n
           (x .place .next) x some fits z e

@@ -10,7 +10,8 @@ ghost use lib.ListN.{length};
 ghost use Rattle.types.specs.Limits.{max-structs};
 ghost use Rattle.program.specs.Reader.{read-step, read-steps};
 ghost use Rattle.directory.specs.Directory.{steps-rows, structs-rows};
-ghost use Rattle.emit.specs.ProgramWords.{step-words, steps-words, structs-words, structs-at};
+ghost use Rattle.commands.specs.ProgramWords.{step-words, steps-words, structs-words};
+ghost use Rattle.emit.specs.Written.{structs-at};
 ghost use Rattle.emit_steps.specs.Emitted.{stand, from-place, step-row, final, Fits, EmittedProgram};
 
 // Where reading goes on, where the list goes on, and how many rows there are.

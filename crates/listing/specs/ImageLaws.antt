@@ -11,8 +11,8 @@ use Rattle.commands.specs.Bounds.{Within}
 use Rattle.commands.specs.NumbersLaws.{number-accepted}
 use Rattle.directory.specs.Rows.{directory-places, rows-from}
 use Rattle.directory.specs.DirectoryLaws.{directory-few}
-use Rattle.emit.specs.ProgramWords.{step-words, program-words}
-use Rattle.emit.specs.ProgramLaws.{program-length}
+use Rattle.commands.specs.ProgramWords.{program-words}
+use Rattle.commands.specs.ProgramWordsLaws.{program-length}
 use Rattle.emit_steps.specs.declared.Place.{Place}
 use Rattle.emit_steps.specs.Emitted.{Emitted}
 use Rattle.verdict.specs.Verdict.{Checked.refused, checked}
@@ -51,7 +51,7 @@ module _ (x : List ℕ) (z : Loaded) (l : LoadedAs x z) where
   module _ {s ar : List ℕ} {at : ℕ} {list : List ℕ} (room : max-commands ≤ length list) {r : Place} {list′ rows′ : List ℕ}
       (w : Emitted ar s at p list r list′ rows′) where
     pub accepted-lines : rows-lines list′ (rows-from rows′ 0 (r .rows)) ≡ program-lines p
-    unfolding Within program-words step-words
+    unfolding Within
     accepted-lines =
         let h : 0 + length (program-words p) ≤ length list = omega (arith, program-length p, within .1) in
         rw (w .rows) (directory-lines p (loaded-counts x z l) list′ _ (w .words ∙ sets-eq (program-words p) list 0 h))

@@ -10,8 +10,7 @@ use Rattle.types.specs.Limits.{max-depth, max-steps}
 use Rattle.program.specs.Tree.{Step, Program}
 use Rattle.program.specs.Counts.{All, Few, CountsStep, Counts}
 use Rattle.program.specs.Reader.{Result, Result.ok, Result.bad, read-params, read}
-use Rattle.program.specs.ProgramLaws.{params-exact, program-law}
-use Rattle.program.specs.StreamLaws.{next-place}
+use Rattle.program.specs.ProgramLaws.{program-law}
 use Rattle.commands.specs.Bounds.{total, greatest, step-depth, arities, program-size, program-depth, Within}
 use Rattle.commands.specs.Numbers.{breach-number}
 use Rattle.commands.specs.NumbersLaws.{number-accepted}
@@ -19,7 +18,6 @@ use Rattle.verdict.specs.Verdict.{Checked.accepted, Checked.refused, judge, of-
 use Rattle.judge.specs.ProgramFacts.{program-totals, program-plan, checked-number}
 use Rattle.judge.specs.ProgramFactsLaws.{checked-law, checked-commands, checked-depth, checked-steps}
 use Rattle.read_params.specs.ParamsTold.{ParamsKept}
-use Rattle.emit.specs.ProgramWords.{structs-at}
 use Rattle.emit.specs.ProgramLaws.{Standing, program-steps, whole-program}
 use Rattle.read_program.specs.declared.Summary.{Summary}
 use Rattle.read_program.specs.declared.ProgramRead.the-variants.{Value, Refused}
@@ -134,21 +132,8 @@ module _ (s : List ℕ) where
     pub here : read-params s 0 ≡ ok (p .params) k
     here = standing .params ∙ ap (λ (i : ℕ). ok (p .params) i) behind-is
 
-    -- the place behind the parameters lies in the stream
-    pub place-in : k ≤ length s
-    place-in = next-place params-exact s (p .params) 0 k (omega arith) here .1
-
     module _ (cs cs′ ts ts′ : List ℕ) (kept : ParamsKept cs cs′ ts ts′ (read-params s 0)) where
       pub table : take (z .structs) cs′ ≡ arities p
       table =
           let w : cs′ ≡ map length (p .params) ++ drop (length (p .params)) cs = (rw here at kept) .0 in
           rw w (take-at (arities p) _ (z .structs) (length-map (p .params) length ∙ sym (counted .3)))
-
-      pub table-few : length (take (z .structs) cs′) ≤ 16
-      table-few = rw table (omega (arith, length-map (p .params) length, counted .3, few))
-
-      -- behind the parameters stand the steps of all structs
-      pub steps-stand : (m : ℕ) × (structs-at (take (z .structs) cs′) s (length (p .steps)) k ≡ ok (p .steps) m)
-      steps-stand =
-          let l : length (arities p) ≡ length (p .steps) = length-map (p .params) length ∙ sym (counted .3) ∙ structs-are in
-          (standing .last, rw (table, ← l) (ap (λ (i : ℕ). structs-at (arities p) s (length (arities p)) i) (sym behind-is) ∙ standing .steps))

@@ -14,8 +14,8 @@ use Rattle.commands.specs.Accepted.{Accepted}
 use Rattle.commands.specs.NumbersLaws.{number-accepts}
 use Rattle.verdict.specs.Verdict.{listed}
 use Rattle.read_params.specs.ParamsWays.{from-start}
-use Rattle.emit.specs.ProgramWords.{program-words as emitted-words}
-use Rattle.emit.specs.ProgramLaws.{program-length}
+use Rattle.commands.specs.ProgramWords.{program-words}
+use Rattle.commands.specs.ProgramWordsLaws.{program-length}
 use Rattle.machine.specs.Machine.{Machine}
 use Rattle.run.specs.Run.{Outcome.stopped, run}
 use Rattle.run.specs.RunAgreesVisits.{run-turns}
@@ -24,7 +24,6 @@ use Rattle.sound.specs.AcceptedLaws.{accepted-firm}
 use Rattle.layout.specs.State.{State, state-of}
 use Rattle.memory.specs.Plan.{At}
 use Rattle.memory.specs.BoundedLaws.{accepted-bounded}
-use Rattle.checker.specs.CheckLaws.{same-words}
 use Rattle.load.specs.Load.{Admitted}
 use Rattle.compile.specs.Spans.{span-places}
 use Rattle.compile.specs.Prepared.{Preparable, Prepared, PreparedProgram}
@@ -68,8 +67,7 @@ module _ {s counts : List ℕ} {seat : Seat} {heads cells : List ℕ} {p : Progr
       unfolding listed Within
       seated-listed =
           prepared .words
-          ∙ from-start list (emitted-words p) (omega (arith, program-length p, seated-accepted .1 .1))
-          ∙ rw (same-words p)
+          ∙ from-start list (program-words p) (omega (arith, program-length p, seated-accepted .1 .1))
 
       -- memory is ready for the machine
       pub seated-ready : length spans′ ≡ span-places → Ready p counts list′ codes′ spans′ m (state-of (seat .numbers) heads cells)

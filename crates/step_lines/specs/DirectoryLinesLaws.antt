@@ -9,11 +9,12 @@ use Rattle.program.specs.Tree.{Step, Program}
 use Rattle.program.specs.Encoding.{flat}
 use Rattle.program.specs.Counts.{All, Few, CountsStep, Counts}
 use Rattle.commands.specs.Bounds.{total, arities, step-size, program-size}
+use Rattle.commands.specs.ProgramWords.{steps-words, structs-words, program-words}
 use Rattle.directory.specs.declared.Row.{Row}
 use Rattle.directory.specs.Directory.{steps-rows, structs-rows, directory}
 use Rattle.directory.specs.Rows.{row-places, rows-from}
-use Rattle.directory.specs.Held.{words-of-step, words-of-steps, words-of-structs, Holds}
-use Rattle.directory.specs.HeldLaws.{words-of-size, words-of-sizes, holds-front, holds-part, holds-first, holds-next}
+use Rattle.directory.specs.Held.{Holds}
+use Rattle.directory.specs.HeldLaws.{holds-program, holds-step, holds-struct, holds-words}
 use Rattle.directory.specs.DirectoryLaws.{RowInRange, all-both, directory-ranged, directory-inside, directory-size}
 use Rattle.step_lines.specs.Lines.{step-lines, steps-lines, structs-lines, program-lines}
 use Rattle.step_lines.specs.RowLines.{line-most, word-lines, row-lines, rows-lines, Listable}
@@ -21,35 +22,34 @@ use Rattle.step_lines.specs.RowLinesLaws.{flat-append}
 use Rattle.step_lines.specs.ListedLaws.{step-text}
 
 module _ (list ar : List ℕ) (few : length ar ≤ max-structs) where
-  steps-text : (k a : ℕ) (ts : List Step) → All (CountsStep ar) ts → Holds list a (words-of-steps ts)
+  steps-text : (k a : ℕ) (ts : List Step) → All (CountsStep ar) ts → Holds list a (steps-words ts)
       → rows-lines list (steps-rows k a ts) ≡ steps-lines k ts
   unfolding steps-rows flat row-lines
   steps-text k a [] c h = refl
   steps-text k a (t ∷ ts) c h =
       rw (
-        holds-part (step-size t) (words-of-size t) (holds-first (words-of-step t) _ h),
+        holds-words t (holds-step t ts h .0),
         step-text ar k t few (c .0),
-        steps-text k (a + step-size t) ts (c .1) (holds-next (words-of-step t) _ (step-size t) (words-of-size t) h),
+        steps-text k (a + step-size t) ts (c .1) (holds-step t ts h .1),
       )
 
-  structs-text : (k a : ℕ) (tss : List (List Step)) → All (Few 0 max-steps (CountsStep ar)) tss → Holds list a (words-of-structs tss)
+  structs-text : (k a : ℕ) (tss : List (List Step)) → All (Few 0 max-steps (CountsStep ar)) tss → Holds list a (structs-words tss)
       → rows-lines list (structs-rows k a tss) ≡ structs-lines k tss
   unfolding structs-rows structs-lines flat
   structs-text k a [] c h = refl
   structs-text k a (ts ∷ tss) c h =
       flat-append (row-lines list) (steps-rows k a ts) _
       ∙ rw (
-        steps-text k a ts (c .0 .2) (holds-first (words-of-steps ts) _ h),
-        structs-text (suc k) (a + total step-size ts) tss (c .1)
-            (holds-next (words-of-steps ts) _ (total step-size ts) (words-of-sizes ts) h),
+        steps-text k a ts (c .0 .2) (holds-struct ts tss h .0),
+        structs-text (suc k) (a + total step-size ts) tss (c .1) (holds-struct ts tss h .1),
       )
 
 -- they are the program's
-pub directory-lines : (p : Program) → Counts p → (list back : List ℕ) → list ≡ words-of-structs (p .steps) ++ back
+pub directory-lines : (p : Program) → Counts p → (list back : List ℕ) → list ≡ program-words p ++ back
     → rows-lines list (directory p) ≡ program-lines p
 unfolding Counts directory program-lines
 directory-lines p c list back e =
-    structs-text list (arities p) (omega (arith, length-map (p .params) length, c .0 .1)) 0 0 (p .steps) (c .2) (holds-front list _ back e)
+    structs-text list (arities p) (omega (arith, length-map (p .params) length, c .0 .1)) 0 0 (p .steps) (c .2) (holds-program p list back e)
 
 -- and they may be listed, where there is room
 pub directory-listable : (p : Program) → Counts p → (rows : List ℕ) (n : ℕ) (list out : List ℕ) (k : ℕ) → rows-from rows 0 n ≡ directory p

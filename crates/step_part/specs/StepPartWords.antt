@@ -13,14 +13,13 @@ use Rattle.program.specs.Tree.{Stmts, Program}
 use Rattle.program.specs.Reader.{read}
 use Rattle.commands.specs.Commands.{commands}
 use Rattle.commands.specs.Coding.{words}
+use Rattle.commands.specs.ProgramWords.{program-words}
 use Rattle.commands.specs.Context.{step-of}
 use Rattle.directory.specs.declared.Row.{Row}
 use Rattle.directory.specs.Directory.{steps-rows, structs-rows, directory, is-row, find-row}
 use Rattle.directory.specs.Held.{Marks}
 use Rattle.directory.specs.FindLaws.{directory-marks}
-use Rattle.emit.specs.ProgramWords.{step-words as emitted-step, program-words as emitted-words}
-use Rattle.checker.specs.CheckLaws.{same-words}
-use Rattle.verdict.specs.Verdict.{Checked, Checked.accepted, Checked.refused, of-read, checked, program-words, listed, check-list}
+use Rattle.verdict.specs.Verdict.{Checked, Checked.accepted, Checked.refused, of-read, checked, listed, check-list}
 use Rattle.verdict.specs.VerdictLaws.{checked-image}
 use Rattle.verdict.specs.ProgramInputLaws.{checked-accepted, check-approved}
 use Rattle.verdict.specs.Rows.{P, listed-P, checking}
@@ -34,8 +33,7 @@ marked z l = take (z .len) (drop (z .start) l)
 
 -- the first row of the struct and the name marks the words of the step that is there
 row-marks : (p : Program) (k n : ℕ) (l : List ℕ) → Marks (program-words p ++ l) (find-row (directory p) k n) (step-of p k n)
-unfolding emitted-words emitted-step
-row-marks p k n l = directory-marks p (program-words p ++ l) l (ap (λ (w : List ℕ). w ++ l) (sym (same-words p))) k n
+row-marks p k n l = directory-marks p (program-words p ++ l) l refl k n
 
 module _ (c : Checked) (p : Program) (k n : ℕ) (e : c ≡ accepted p) where
   spot-marks : (l : List ℕ) {b : Stmts} → step-of p k n ≡ some b → marked (spot-by c k n) (program-words p ++ l) ≡ words (commands b)

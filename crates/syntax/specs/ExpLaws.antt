@@ -4,7 +4,6 @@ use mathlib.Core.Bool.{true, false}
 use mathlib.Core.List.{List, [], _∷_}
 use Rattle.program.specs.Tree.{Op}
 use Rattle.tokens.specs.Tokens.{Word.w-then, Sign.lpar, Sign.rpar, Sign.comma, Sign.semicolon, Sign.dot as dot-sign, Token, Token.word, Token.sign, Token.op}
-use Rattle.tokens.specs.Tokens.{Sign}
 use Rattle.syntax.specs.Syntax.{Id, TypeName, TypeName.int-type, TypeName.nat-type, TypeName.bool-type, TypeName.id-type, Literal, Literal.int-literal, Literal.nat-literal, Literal.bool-literal, Var, Var.id, Var.dot}
 use Rattle.syntax.specs.Syntax.{Exp, Exp.binary, Exp.brackets, Exp.negation, Exp.constructor, Exp.variable, Exp.literal, Exp.null, Exp.this, Exps, Exps.no-exps, Exps.exps}
 use Rattle.syntax.specs.Places.{Place, Place.in-brackets, Place.in-negation, Place.in-right, Place.in-constructor}
@@ -28,9 +27,6 @@ Reads e = (p : Place) (t : Token) (k : List Token) → Follows t → run (want p
 -- directly in brackets
 abbrev pub ReadsIn : Exp → Type 0
 ReadsIn e = (p : Place) (k : List Token) → run (want (in-brackets p)) (yield-exp e (sign rpar ∷ k)) ≡ run (after p (brackets e)) k
-
-pub follows-sign : (g : Sign) → ((s z : State) → on-sign lpar s z (sign g) ≡ z) → ((s z : State) → on-sign dot-sign s z (sign g) ≡ z) → Follows (sign g)
-follows-sign g a b = record { no-bracket = a; no-dot = b }
 
 pub follows-rpar : Follows (sign rpar)
 unfolding on-sign sign-number

@@ -2,7 +2,7 @@
 use Prim.Native.Nat.{ℕ, zero, suc, _≤_}
 use native.Mathlib.Omega.{arith}
 use mathlib.Core.Path.{_≡_, refl, sym, ap, _∙_}
-use mathlib.Core.Bool.{Bool, true, false, _&&_, _||_, false≢true}
+use mathlib.Core.Bool.{Bool, true, false, _&&_, false≢true}
 use mathlib.Core.List.{List, [], _∷_, _++_, append-assoc}
 use lib.ListN.{length, take, drop, length-append}
 use lib.Dec.{eqb, leb}
@@ -16,9 +16,6 @@ use Rattle.tokens.specs.Scanning.{span, same, begins, one-more, closing,
 pub both-true : (a b : Bool) → (a && b) ≡ true → (a ≡ true) × (b ≡ true)
 both-true true b e = (refl, e)
 both-true false b e = absurd (false≢true e)
-
-pub neither : (a b : Bool) → a ≡ false → b ≡ false → (a || b) ≡ false
-neither a b d e = rw (d, e) refl
 
 -- Runs -------------------------------------------------------------------------------
 

@@ -2,13 +2,13 @@
 use Prim.Native.Nat.{ℕ, suc}
 use native.Mathlib.Omega.{arith}
 use mathlib.Core.Path.{_≡_, refl, sym, ap, _∙_}
-use mathlib.Core.Bool.{Bool, true, false}
+use mathlib.Core.Bool.{Bool, true, false, _&&_, false≢true}
 use mathlib.Core.List.{List, [], _∷_, _++_}
 use lib.ListN.{length, drop}
 use Rattle.tokens.specs.Tokens.{Word, Word.w-struct, Word.w-if, Word.w-then, Word.w-null, Word.w-this, Word.w-fix, Word.w-int, Word.w-nat, Word.w-bool, Word.w-string, Word.w-true, Word.w-false}
-use Rattle.tokens.specs.Tokens.{Token, Token.word, Token.sign, Token.name, word-spelling, sign-spelling, op-spelling, spelling, Name, Proper}
+use Rattle.tokens.specs.Tokens.{Token, Token.word, Token.sign, Token.op, Token.name, Token.int, Token.nat, word-spelling, sign-spelling, op-spelling, spelling, Name, Proper}
 use Rattle.tokens.specs.Scanning.{Front, Front.token, Front.nothing, same, begins, words, find-word, named, doubles, singles, signs, behind-first, find-sign}
-use Rattle.tokens.specs.ByteLaws.{same-true, begins-true}
+use Rattle.tokens.specs.ByteLaws.{both-true, same-true, begins-true}
 
 -- Words and names ----------------------------------------------------------------------
 
@@ -70,62 +70,41 @@ named-name s n = go (named s) refl (found s)
 
 -- Signs -----------------------------------------------------------------------------------
 
--- each sign or operator of a list has bytes, and is a token
-unfoldable pub Plain : List Token → Type 0
-Plain [] = Unit {0}
-Plain (t ∷ ts) = (Proper t) × (length (spelling t) ≡ suc (behind-first (spelling t))) × (Plain ts)
+-- a sign or an operator, of a byte or more
+unfoldable pub some-byte : List ℕ → Bool
+some-byte [] = false
+some-byte (b ∷ s) = true
 
-pub signs-plain : Plain signs
-unfolding Plain signs doubles singles Proper behind-first spelling sign-spelling op-spelling
-signs-plain = (
-  tt,
-  refl,
-  (
-    tt,
-    refl,
-    (
-      tt,
-      refl,
-      (
-        tt,
-        refl,
-        (
-          tt,
-          refl,
-          (
-            tt,
-            refl,
-            (
-              tt,
-              refl,
-              (
-                tt,
-                refl,
-                (
-                  tt,
-                  refl,
-                  (
-                    tt,
-                    refl,
-                    (
-                      tt,
-                      refl,
-                      (
-                        tt,
-                        refl,
-                        (tt, refl, (tt, refl, (tt, refl, (tt, refl, (tt, refl, (tt, refl, (tt, refl, (tt, refl, (tt, refl, (tt, refl, (tt, refl, tt))))))))))),
-                      ),
-                    ),
-                  ),
-                ),
-              ),
-            ),
-          ),
-        ),
-      ),
-    ),
-  ),
-)
+unfoldable pub plain : Token → Bool
+plain (sign g) = some-byte (sign-spelling g)
+plain (op o) = some-byte (op-spelling o)
+plain (word w) = false
+plain (name s) = false
+plain (int p ds) = false
+plain (nat ds) = false
+
+unfoldable pub all-plain : List Token → Bool
+all-plain [] = true
+all-plain (t ∷ ts) = plain t && all-plain ts
+
+pub signs-plain : all-plain signs ≡ true
+unfolding all-plain plain some-byte signs doubles singles sign-spelling op-spelling
+signs-plain = refl
+
+-- it is a token as it stands, and has as many bytes as are behind its first, and that one
+byte-counted : (s : List ℕ) → some-byte s ≡ true → length s ≡ suc (behind-first s)
+unfolding some-byte behind-first
+byte-counted [] e = absurd (false≢true e)
+byte-counted (b ∷ s) e = refl
+
+plain-token : (t : Token) → plain t ≡ true → (Proper t) × (length (spelling t) ≡ suc (behind-first (spelling t)))
+unfolding plain Proper spelling
+plain-token (sign g) e = (tt, byte-counted (sign-spelling g) e)
+plain-token (op o) e = (tt, byte-counted (op-spelling o) e)
+plain-token (word w) e = absurd (false≢true e)
+plain-token (name s) e = absurd (false≢true e)
+plain-token (int p ds) e = absurd (false≢true e)
+plain-token (nat ds) e = absurd (false≢true e)
 
 -- a token of n bytes behind its first at the front of x
 pub record At (x : List ℕ) (t : Token) (n : ℕ) : Type 0 where
@@ -137,17 +116,20 @@ pub data Stands (x : List ℕ) : Front → Type 0 where
   stands : {t : Token} {n : ℕ} → At x t n → Stands x (token t n)
   stands-not : Stands x nothing
 
-pub sign-stands : (ts : List Token) (x : List ℕ) → Plain ts → Stands x (find-sign ts x)
-unfolding find-sign Plain
+pub sign-stands : (ts : List Token) (x : List ℕ) → all-plain ts ≡ true → Stands x (find-sign ts x)
+unfolding find-sign all-plain
 sign-stands [] x p = stands-not
-sign-stands (t ∷ ts) x p = go (begins (spelling t) x) refl (sign-stands ts x (p .2))
+sign-stands (t ∷ ts) x p = go (begins (spelling t) x) refl (sign-stands ts x (both-true (plain t) (all-plain ts) p .1))
   where
+    is : (Proper t) × (length (spelling t) ≡ suc (behind-first (spelling t)))
+    is = plain-token t (both-true (plain t) (all-plain ts) p .0)
+
     go : (b : Bool) → begins (spelling t) x ≡ b → Stands x (find-sign ts x) → Stands x (find-sign (t ∷ ts) x)
     go true e r =
         rw (e, find-sign)
         (stands record {
-          proper = p .0;
-          whole = ap (λ n. spelling t ++ drop n x) (sym (p .1)) ∙ begins-true (spelling t) x e;
-          sized = p .1;
+          proper = is .0;
+          whole = ap (λ n. spelling t ++ drop n x) (sym (is .1)) ∙ begins-true (spelling t) x e;
+          sized = is .1;
         })
     go false e r = rw (e, find-sign) r

@@ -24,7 +24,8 @@ use Rattle.commands.specs.NamesDecide.{start-named, expr-named, args-named, stm
 use Rattle.commands.specs.TypingDecide.{is-of, agree, given as given-type, result, operate as operate-types, lead, path-type, expr-type, args-typed, stmt-typed, body-typed, steps-typed, types-right}
 use Rattle.commands.specs.BoundsDecide.{within}
 use Rattle.commands.specs.Numbers.{first, breach-tests, breach-number}
-use Rattle.verdict.specs.Verdict.{Checked, Checked.accepted, Checked.refused, judge, of-read, of-steps, of-structs, program-words, listed, list-of, check-list}
+use Rattle.commands.specs.ProgramWords.{steps-list, structs-list, structs-words, program-words}
+use Rattle.verdict.specs.Verdict.{Checked, Checked.accepted, Checked.refused, judge, of-read, listed, list-of, check-list}
 use Rattle.verdict.specs.VerdictLaws.{checked-image}
 
 -- P: load := load + prev.load, run once
@@ -48,7 +49,7 @@ list-room (refused n) list h = refl
 list-room (accepted p) list h = rw (le-ltb (length list) max-commands h, list-of)
 
 words-P : words-by (of-read (read P)) ≡ 2 ∷ 3 ∷ 2 ∷ 4294967299 ∷ 3 ∷ 176093659144 ∷ 2 ∷ 4 ∷ []
-unfolding checking P var-code coded com-word command-word words of-steps of-structs program-words code default int-word word op-code
+unfolding checking P var-code coded com-word command-word words steps-list structs-list structs-words program-words code default int-word word op-code
 words-P = refl
 
 -- P's commands stand in the first 8 places of the list, and further places are untouched: push this, rd 0, push this, rd 1, rd 0,

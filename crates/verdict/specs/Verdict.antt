@@ -2,7 +2,7 @@
 -- what is reported, and to the list's places.
 use Prim.Native.Nat.{ℕ, zero, suc}
 use mathlib.Core.Bool.{true, false}
-use mathlib.Core.List.{List, [], _∷_, _++_}
+use mathlib.Core.List.{List, _++_}
 use lib.ListN.{length, drop}
 use lib.Dec.{ltb}
 use Rattle.types.specs.Limits.{program-blocks, max-commands}
@@ -10,11 +10,10 @@ use Rattle.types.specs.Numbers.{no-room}
 use Rattle.block.specs.declared.Found.{Found}
 use Rattle.block.specs.declared.Found.the-variants.{Right, Wrong}
 use Rattle.blocks.specs.Images.{fault, stream, program-number as block-number}
-use Rattle.program.specs.Tree.{Step, Program}
+use Rattle.program.specs.Tree.{Program}
 use Rattle.program.specs.Reader.{Result, Result.ok, Result.bad, read}
-use Rattle.commands.specs.Bounds.{total, program-size, program-depth, step-list}
-use Rattle.commands.specs.Coding.{words}
-use Rattle.commands.specs.Commands.{Flat}
+use Rattle.commands.specs.Bounds.{total, program-size, program-depth}
+use Rattle.commands.specs.ProgramWords.{program-words}
 use Rattle.commands.specs.Numbers.{breach-number}
 
 -- A program image --------------------------------------------------------------------
@@ -41,19 +40,7 @@ checked x = of-image (fault program-blocks x) x
 
 -- The list -----------------------------------------------------------------------------
 
--- the steps from its first place, structs in order, each struct's steps in stream order
-unfoldable pub of-steps : List Step → List Flat
-of-steps [] = []
-of-steps (t ∷ ts) = step-list t ++ of-steps ts
-
-unfoldable pub of-structs : List (List Step) → List Flat
-of-structs [] = []
-of-structs (ts ∷ tss) = of-steps ts ++ of-structs tss
-
-unfoldable pub program-words : Program → List ℕ
-program-words p = words (of-structs (p .steps))
-
--- further places are untouched
+-- it holds the program's words from its first place, and further places are untouched
 unfoldable pub listed : Program → List ℕ → List ℕ
 listed p list = program-words p ++ drop (length (program-words p)) list
 

@@ -4,7 +4,8 @@ use native.Mathlib.Omega.{arith}
 use mathlib.Core.Path.{_≡_, refl, sym, ap, _∙_}
 use lib.ListN.{length}
 use Rattle.directory.specs.Directory.{steps-rows}
-use Rattle.emit.specs.ProgramWords.{step-words, steps-words, steps-at}
+use Rattle.commands.specs.ProgramWords.{steps-words}
+use Rattle.emit.specs.Written.{steps-at}
 use Rattle.emit_steps.specs.Emitted.{stand, final, Fits}
 use Rattle.emit_steps.specs.StepLaws.{count-in, count-final, count-fits, steps-none, step-fits, steps-final, steps-fit}
 use Rattle.emit_steps.proofs.of_struct.Statement.{statement}

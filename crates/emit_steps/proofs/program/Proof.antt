@@ -7,7 +7,8 @@ use mathlib.Core.Path.{_≡_, refl, sym, _∙_}
 use lib.ListN.{length}
 use Rattle.types.specs.Limits.{max-structs}
 use Rattle.directory.specs.Directory.{structs-rows}
-use Rattle.emit.specs.ProgramWords.{structs-words, structs-at}
+use Rattle.commands.specs.ProgramWords.{structs-words}
+use Rattle.emit.specs.Written.{structs-at}
 use Rattle.emit_steps.specs.Emitted.{stand, from-place, final, Fits}
 use Rattle.emit_steps.specs.StepLaws.{structs-none, struct-fits, structs-final, structs-fit}
 use Rattle.emit_steps.specs.ProgramLaws.{program-emitted}
