@@ -12,7 +12,7 @@ use Rattle.run.specs.Run.{Outcome.stopped, run}
 use Rattle.run.specs.Visits.{Visits}
 use Rattle.layout.specs.State.{State, bit}
 use Rattle.memory.specs.Plan.{At}
-use Rattle.memory.specs.PlanUnique.{at-unique}
+use Rattle.memory.specs.Laws.PlanUnique.{at-unique}
 use Rattle.memory.specs.Stands.{Stands, bits}
 use Rattle.memory.specs.EntriesLaws.{entry-times, bits-times}
 use Rattle.interpreter.specs.Running.{cleared, Running, Ended}
