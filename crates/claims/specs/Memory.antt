@@ -14,7 +14,7 @@ use Rattle.layout.specs.State.{State, bit}
 use Rattle.memory.specs.Plan.{At}
 use Rattle.memory.specs.Laws.PlanUnique.{at-unique}
 use Rattle.memory.specs.Stands.{Stands, bits}
-use Rattle.memory.specs.EntriesLaws.{entry-times, bits-times}
+use Rattle.memory.specs.Laws.EntriesLaws.{entry-times, bits-times}
 use Rattle.interpreter.specs.Running.{cleared, Running, Ended}
 use Rattle.claims.specs.MemoryLaws.{running-visited, ended-visited}
 

@@ -5,5 +5,4 @@ pub mod Choose
 pub mod Stands
 pub mod Frame
 pub mod Fit
-pub mod EntriesLaws
 pub mod Laws

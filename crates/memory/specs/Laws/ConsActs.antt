@@ -33,7 +33,7 @@ use Rattle.memory.specs.Frame.{AllSlim, Bounded, After, Goes}
 use Rattle.memory.specs.Laws.CellLaws.{label-shows}
 use Rattle.memory.specs.Laws.RowLaws.{sets-other}
 use Rattle.memory.specs.Laws.HeldLaws.{stack-under, holds-after}
-use Rattle.memory.specs.EntriesLaws.{times-zero}
+use Rattle.memory.specs.Laws.EntriesLaws.{times-zero}
 use Rattle.memory.specs.Laws.StandsLaws.{has-row, settles, pushed-stands}
 use Rattle.memory.specs.Laws.MadeLaws.{with-new, new-stands, new-slim, row-shows}
 use Rattle.memory.specs.Laws.ActorLaws.{count-of, good-slim, actor-needs, actor-sized, cons-room}

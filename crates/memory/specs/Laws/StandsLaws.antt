@@ -26,7 +26,7 @@ use Rattle.memory.specs.Frame.{AllSlim, moved}
 use Rattle.memory.specs.Laws.RowLaws.{going-other, going-length}
 use Rattle.memory.specs.Laws.VarLaws.{assigned-same, assigned-other, env-length}
 use Rattle.memory.specs.Laws.HeldLaws.{stack-kept, held-same, held-on}
-use Rattle.memory.specs.EntriesLaws.{meet-times}
+use Rattle.memory.specs.Laws.EntriesLaws.{meet-times}
 
 module _ (list : List ℕ) (P : ℕ → Sched → Type 0) (m : Machine) (z : State) (st : Stands list P m z) where
   -- an instance has a row

@@ -34,7 +34,7 @@ use Rattle.memory.specs.Stands.{Shows, Stack, Stands}
 use Rattle.memory.specs.Frame.{Slim, AllSlim, Bounded, After, Goes}
 use Rattle.memory.specs.Laws.CellLaws.{shown-operand, same-words}
 use Rattle.memory.specs.Laws.HeldLaws.{holds-after, holds-label, holds-beneath}
-use Rattle.memory.specs.EntriesLaws.{times-one}
+use Rattle.memory.specs.Laws.EntriesLaws.{times-one}
 use Rattle.memory.specs.Laws.StandsLaws.{settles, gone-stands, pushed-stands, stored-stands}
 use Rattle.memory.specs.Laws.ActorLaws.{counts-length, count-of, good-slim, actor-needs, actor-sized}
 
