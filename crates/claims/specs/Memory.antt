@@ -1,18 +1,20 @@
 -- The engine's memory (01, 'Table and turns'; "Commands and schedule moves each get the state that the one before left; nothing else
--- writes it meanwhile"): between turns and at the end it stands for a machine that the run visits.
-use Prim.Native.Nat.{ℕ}
+-- writes it meanwhile"): between turns and at the end it stands for a machine that the run visits. What stands in one number.
+use Prim.Native.Nat.{ℕ, _*_}
 use mathlib.Core.Path.{_≡_}
-use mathlib.Core.List.{List}
+use mathlib.Core.Bool.{Bool, _&&_}
+use mathlib.Core.List.{List, map}
 use lib.ListN.{drop}
 use Rattle.program.specs.Tree.{Program}
 use Rattle.machine.specs.Published.{Sched}
 use Rattle.machine.specs.Machine.{Machine}
 use Rattle.run.specs.Run.{Outcome.stopped, run}
 use Rattle.run.specs.Visits.{Visits}
-use Rattle.layout.specs.State.{State}
+use Rattle.layout.specs.State.{State, bit}
 use Rattle.memory.specs.Plan.{At}
 use Rattle.memory.specs.Laws.PlanUnique.{at-unique}
-use Rattle.memory.specs.Stands.{Stands}
+use Rattle.memory.specs.Stands.{Stands, bits}
+use Rattle.memory.specs.Laws.EntriesLaws.{entry-times, bits-times}
 use Rattle.interpreter.specs.Running.{cleared, Running, Ended}
 use Rattle.claims.specs.MemoryLaws.{running-visited, ended-visited}
 
@@ -30,3 +32,11 @@ module _ (p : Program) (counts list items spans : List ℕ) (m : Machine) {es : 
 -- a place of the schedule laid flat stands for one schedule left
 pub place-one : (items : List ℕ) {a : ℕ} {r s : Sched} → At items a r → At items a s → r ≡ s
 place-one items h k = at-unique items h k
+
+-- "On a write, multiply each stability entry by 0 or 1" (02, 'Stability entries by product'): an entry times 0 or 1,
+pub entry-multiplied : (e t : Bool) → bit (e && t) ≡ bit e * bit t
+entry-multiplied = entry-times
+
+-- and the number that all entries stand in: its product is the product of each
+pub entries-multiplied : (t : Bool) (b : List Bool) → bits (map (λ e. e && t) b) ≡ bits b * bit t
+entries-multiplied = bits-times

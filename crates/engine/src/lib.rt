@@ -25,8 +25,9 @@ fn after(numbers: Numbers, acted: Acted) -> Numbers
     let mut next = numbers;
     match acted {
         Acted::Kept => {}
-        Acted::Changed => {
-            next.stable = 0;
+        Acted::Wrote(same) => {
+            let product = numbers.stable * (same as usize);
+            next.stable = product;
         }
         Acted::Made => {
             next.stable = 0;

@@ -6,10 +6,10 @@ use mathlib.Core.List.{List}
 use lib.ListN.{length, getD}
 use Rattle.types.specs.Limits.{max-instances}
 use Rattle.layout.specs.Layout.{head-size, row-size, head, height-of, next-of, stacked}
-use Rattle.layout.specs.State.{State, with-heads, with-cells, with-count, unstable, refused}
+use Rattle.layout.specs.State.{State, with-heads, with-cells, with-count, times, unstable, refused}
 use Rattle.execute_stack.specs.declared.Actor.{Actor}
 use Rattle.execute_stack.specs.declared.Acted.{Acted}
-use Rattle.execute_stack.specs.declared.Acted.the-variants.{Kept, Changed, Made, Refused}
+use Rattle.execute_stack.specs.declared.Acted.the-variants.{Kept, Wrote, Made, Refused}
 
 -- the actor as memory has it
 abbrev pub seen : List ℕ → ℕ → Actor
@@ -38,7 +38,7 @@ on z h c = with-cells (with-heads z h) c
 -- what an answer makes of the rest of the state
 unfoldable pub answering : Acted → State → State
 answering Kept z = z
-answering Changed z = unstable z
+answering (Wrote t) z = times t z
 answering Made z = unstable (with-count z (suc (z .machine .count)))
 answering (Refused n) z = refused n z
 

@@ -17,11 +17,11 @@ pub struct Actor {
     pub next: usize,
 }
 
-// What a command did beside its writes to memory: nothing; it made all stability entries false; it made an instance, which does that
-// too; or it was refused with a number, and wrote nothing.
+// What a command did beside its writes to memory: nothing; it wrote a variable, which multiplies each stability entry by 1 where this is
+// true and else by 0; it made an instance, which makes all entries false; or it was refused with a number, and wrote nothing.
 pub enum Acted {
     Kept,
-    Changed,
+    Wrote(bool),
     Made,
     Refused(u8),
 }

@@ -1,10 +1,9 @@
--- The answer of a parameter's write (01, 'Table and turns'): it goes by whether the cell's word changes.
+-- The answer of a parameter's write (02, 'Stability entries by product'): each entry is multiplied by whether the cell's word stays.
 use Prim.Native.Nat.{ℕ}
-use mathlib.Core.Bool.{true, false}
 use lib.Dec.{eqb}
 use Rattle.layout.specs.Layout.{operand}
 use Rattle.execute_stack.specs.declared.Acted.{Acted}
-use Rattle.execute_stack.specs.declared.Acted.the-variants.{Kept, Changed}
+use Rattle.execute_stack.specs.declared.Acted.the-variants.{Wrote}
 
 unfoldable pub change : ℕ → ℕ → Acted
-change old c = elim (eqb (operand old) (operand c)) [ true ↦ Kept | false ↦ Changed ]
+change old c = Wrote (eqb (operand old) (operand c))

@@ -1,40 +1,20 @@
 -- Each way through the commands on variables, over plain values (01, 'Table and turns').
 use Prim.Native.Nat.{ℕ, _+_, _-_, _<_, _≤_}
 use native.Mathlib.Numerals.{add-one}
-use mathlib.Core.Path.{_≡_, refl}
-use mathlib.Core.Bool.{Bool, true, false}
+use mathlib.Core.Path.{_≡_, refl, _∙_}
+use mathlib.Core.Bool.{true}
 use mathlib.Core.List.{List, []}
 use lib.ListN.{length, getD, set}
-use lib.Dec.{eqb}
-use borrow.Author.Tests.{lt-ltb, le-ltb, eq-eqb, ne-eqb}
+use borrow.Author.Tests.{lt-ltb, le-ltb}
 use Rattle.layout.specs.Layout.{head, struct-of, variable, operand, going}
-use Rattle.layout.specs.State.{State, unstable}
 use Rattle.memory.specs.Act.{do-rd, do-wr, written, written-to}
+use Rattle.memory.specs.Laws.EntriesLaws.{times-one}
 use Rattle.execute_stack.specs.declared.Actor.{Actor}
 use Rattle.execute_stack.specs.declared.Acted.{Acted}
-use Rattle.execute_stack.specs.declared.Acted.the-variants.{Kept, Changed}
+use Rattle.execute_stack.specs.declared.Acted.the-variants.{Kept, Wrote}
 use Rattle.execute_stack.specs.Answers.{seen, Acting, topmost, second, on, answering, Does}
 use Rattle.execute_stack.specs.StackWays.{as-seen, Puts, put-way}
 use Rattle.execute_variables.specs.Change.{change}
-
--- the answer of a parameter's write, by what the words say
-pub change-none : (old c : ℕ) → operand old ≡ operand c → Kept ≡ change old c
-unfolding change
-change-none old c e = rw (change, eq-eqb (operand old) (operand c) e)
-
-pub change-some : (old c : ℕ) → (operand old ≡ operand c → ⊥) → Changed ≡ change old c
-unfolding change
-change-some old c e = rw (change, ne-eqb (operand old) (operand c) e)
-
--- what the answer of a parameter's write makes of a state
-change-answers : (old c : ℕ) (z : State)
-    → answering (change old c) z ≡ elim (eqb (operand old) (operand c)) [ true ↦ z | false ↦ unstable z ]
-unfolding change answering
-change-answers old c z = go (eqb (operand old) (operand c))
-  where
-    go : (t : Bool) → answering (elim t [ true ↦ Kept | false ↦ Changed ]) z ≡ elim t [ true ↦ z | false ↦ unstable z ]
-    go true = refl
-    go false = refl
 
 -- the instance that the label on top names, and how many parameters it has
 abbrev target : List ℕ → Actor → ℕ
@@ -59,17 +39,16 @@ module _ (counts h c : List ℕ) (l x : ℕ) {h′ : List ℕ} where
   null-seen p u b z = rw (do-wr, written-to, lt-ltb x (own counts h c (seen h l)) u, lt-ltb (target c (seen h l)) (length counts) b, p, add-one (seen h l .next))
 
   module _ {c′ : List ℕ} where
-    local-seen : Stored c (seen h l) x c′ → Gone h (seen h l) h′ → own counts h c (seen h l) ≤ x → Does (λ z. do-wr counts l z x) Kept h c h′ c′
+    local-seen : Stored c (seen h l) x c′ → Gone h (seen h l) h′ → own counts h c (seen h l) ≤ x → Does (λ z. do-wr counts l z x) (Wrote true) h c h′ c′
     unfolding do-wr written-to answering
-    local-seen e p u z = rw (do-wr, written-to, le-ltb x (own counts h c (seen h l)) u, p, e, add-one (seen h l .next))
+    local-seen e p u z = times-one (on z h′ c′) ∙ rw (do-wr, written-to, le-ltb x (own counts h c (seen h l)) u, p, e, add-one (seen h l .next))
 
     param-seen : {r : Acted} → Stored c (seen h l) x c′ → r ≡ change (getD c (variable (target c (seen h l)) x) 0) (second c (seen h l)) → Gone h (seen h l) h′
         → x < own counts h c (seen h l) → length counts ≤ target c (seen h l)
         → Does (λ z. do-wr counts l z x) r h c h′ c′
-    unfolding do-wr written-to written
+    unfolding do-wr written-to written change answering
     param-seen e q p u b z =
         rw (do-wr, written-to, lt-ltb x (own counts h c (seen h l)) u, le-ltb (target c (seen h l)) (length counts) b, p, e, q, add-one (seen h l .next))
-        (change-answers (getD c (variable (target c (seen h l)) x) 0) (second c (seen h l)) (on z _ _))
 
 -- The actor that was handed in -------------------------------------------------------
 
@@ -86,9 +65,9 @@ module _ (counts : List ℕ) {h c : List ℕ} {a : Actor} (g : Acting h c a) (x 
       (null-seen counts h c (a .label) x)
 
   module _ {c′ : List ℕ} where
-    pub local-way : Stored c a x c′ → Gone h a h′ → own counts h c a ≤ x → Does (λ z. do-wr counts (a .label) z x) Kept h c h′ c′
+    pub local-way : Stored c a x c′ → Gone h a h′ → own counts h c a ≤ x → Does (λ z. do-wr counts (a .label) z x) (Wrote true) h c h′ c′
     local-way =
-        as-seen g (λ b. Stored c b x c′ → Gone h b h′ → own counts h c b ≤ x → Does (λ z. do-wr counts (b .label) z x) Kept h c h′ c′)
+        as-seen g (λ b. Stored c b x c′ → Gone h b h′ → own counts h c b ≤ x → Does (λ z. do-wr counts (b .label) z x) (Wrote true) h c h′ c′)
         (local-seen counts h c (a .label) x)
 
     pub param-way : {r : Acted} → Stored c a x c′ → r ≡ change (getD c (variable (target c a) x) 0) (second c a) → Gone h a h′

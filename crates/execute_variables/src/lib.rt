@@ -28,7 +28,7 @@ pub fn read(heads: &mut [usize], cells: &mut [u64], a: Actor, x: usize) -> Acted
     Acted::Kept
 }
 
-// A parameter is written: stability goes by whether its value changes.
+// A parameter is written: the factor of the stability entries is whether its value is the one that stood there.
 fn replace(cells: &mut [u64], at: usize, c: u64) -> Acted
     requires { ⌜ at < length (now cells) ⌝ }
     ensures { λ r. ⌜ r ≡ change (getD (now (cells .entry)) at 0) c ⌝ }
@@ -36,13 +36,10 @@ fn replace(cells: &mut [u64], at: usize, c: u64) -> Acted
 {
     let old = cells[at] / types::NAT_END;
     cells[at] = c;
-    if old == c / types::NAT_END {
-        return Acted::Kept;
-    }
-    Acted::Changed
+    Acted::Wrote(old == c / types::NAT_END)
 }
 
-// wr x: the value beneath the label on top. A parameter of a null instance stays as it is.
+// wr x: the value beneath the label on top. A parameter of a null instance stays as it is; a local's write multiplies by 1.
 pub fn write(counts: &[u8], heads: &mut [usize], cells: &mut [u64], a: Actor, x: usize) -> Acted
     requires { ⌜ Acting (now heads) (now cells) a ⌝ }
     requires { ⌜ WrFit (a .height) (topmost (now cells) a) max-instances x (getD (now heads) (head (operand (topmost (now cells) a)) struct-of) 0) (length (now counts)) ⌝ }
@@ -62,5 +59,5 @@ pub fn write(counts: &[u8], heads: &mut [usize], cells: &mut [u64], a: Actor, x:
         return replace(cells, layout::ROW_SIZE * r + x, c);
     }
     cells[layout::ROW_SIZE * r + x] = c;
-    Acted::Kept
+    Acted::Wrote(true)
 }

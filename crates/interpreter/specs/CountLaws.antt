@@ -14,12 +14,9 @@ use Rattle.machine.specs.PerformedLaws.{by-ways}
 use Rattle.run.specs.Turns.{labels-from}
 use Rattle.run.specs.Holders.{holders, holds-code}
 use Rattle.sound.specs.Laws.ElemLaws.{none-some}
+use Rattle.layout.specs.State.{bit}
 use Rattle.interpreter.specs.Counting.{fewer}
 use Rattle.interpreter.specs.FlagLaws.{flag, flags, Idle, Flagged, flags-behind}
-
-abbrev bit : Bool → ℕ
-bit true = 1
-bit false = 0
 
 -- how many are true
 abbrev trues : List Bool → ℕ

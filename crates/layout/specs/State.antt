@@ -1,6 +1,7 @@
 -- A machine as it stands in memory (01, 'Table and turns'): its numbers, which the code holds by value, and the two lists that it is
 -- lent. Both records are built here alone, by one function for each field, so that a number more is paid for here.
-use Prim.Native.Nat.{ℕ}
+use Prim.Native.Nat.{ℕ, _*_}
+use mathlib.Core.Bool.{Bool, true, false}
 use mathlib.Core.List.{List}
 use lib.ListN.{getD}
 use Rattle.layout.specs.declared.Numbers.{Numbers}
@@ -53,6 +54,15 @@ with-cells z c = state-of (z .machine) (z .heads) c
 
 abbrev pub with-count : State → ℕ → State
 with-count z n = with-machine z (set-count (z .machine) n)
+
+-- a truth as a number
+abbrev pub bit : Bool → ℕ
+bit true = 1
+bit false = 0
+
+-- each stability entry times 0 or 1 (02, 'Stability entries by product')
+abbrev pub times : Bool → State → State
+times t z = with-machine z (set-stable (z .machine) (z .machine .stable * bit t))
 
 -- all stability entries are false
 abbrev pub unstable : State → State

@@ -12,7 +12,7 @@ use Rattle.operators.specs.declared.Answered.the-variants.{Value, Outside, Unfi
 use Rattle.operators.specs.Words.{apply-word}
 pub use Rattle.machine.specs.Stops.{full, exceeded}
 use Rattle.layout.specs.Layout.{head-size, struct-of, height-of, next-of, row-size, variable, stacked, cell, type-byte, operand, label-cell, new-head, going}
-use Rattle.layout.specs.State.{State, with-heads, with-cells, unstable, refused, with-count, of-head, of-cell}
+use Rattle.layout.specs.State.{State, with-heads, with-cells, times, unstable, refused, with-count, of-head, of-cell}
 
 -- the types of truths
 abbrev pub bool-byte : ℕ
@@ -73,9 +73,9 @@ module _ (counts : List ℕ) (l : ℕ) (z : State) where
   abbrev pub stored : ℕ → ℕ → ℕ → State
   stored r x c = gone (with-cells z (set (z .cells) (variable r x) c)) l (height - 2) after
 
-  -- a changed parameter makes all stability entries false
+  -- a parameter's write multiplies each stability entry: by 1 where the value is the one that stood there, else by 0
   unfoldable pub written : ℕ → ℕ → ℕ → State
-  written r x c = elim (eqb (operand (of-cell z (variable r x))) (operand c)) [ true ↦ stored r x c | false ↦ unstable (stored r x c) ]
+  written r x c = times (eqb (operand (of-cell z (variable r x))) (operand c)) (stored r x c)
 
   -- a parameter of a null instance stays as it is
   unfoldable pub written-to : ℕ → ℕ → ℕ → State

@@ -3,6 +3,7 @@ pub mod CellLaws
 pub mod RowLaws
 pub mod VarLaws
 pub mod HeldLaws
+pub mod EntriesLaws
 pub mod StandsLaws
 pub mod MadeLaws
 pub mod BoundedLaws

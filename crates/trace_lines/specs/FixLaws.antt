@@ -10,10 +10,10 @@ use borrow.Author.Tests.{eqb-true}
 use Rattle.types.specs.Limits.{max-instances, fix-levels}
 use Rattle.operators.specs.declared.Answered.{Answered}
 use Rattle.operators.specs.declared.Answered.the-variants.{Value, Outside, Unfit}
-use Rattle.layout.specs.Layout.{struct-of, variable, operand}
+use Rattle.layout.specs.Layout.{struct-of, operand}
 use Rattle.layout.specs.declared.Numbers.{Numbers}
-use Rattle.layout.specs.State.{State, state-of, of-head, of-cell}
-use Rattle.memory.specs.Act.{top, beneath, next-word, do-push, do-this, do-not, do-if, answered, do-op, do-rd, written, written-to, do-wr, do-cons, made}
+use Rattle.layout.specs.State.{State, state-of, of-head}
+use Rattle.memory.specs.Act.{top, next-word, do-push, do-this, do-not, do-if, answered, do-op, do-rd, written, written-to, do-wr, do-cons, made}
 use Rattle.memory.specs.Act.{perform, act}
 use Rattle.memory.specs.Move.{do-fix, do-round, do-start, move-by, move}
 use Rattle.layout.specs.Codes.{fix-code, round-code}
@@ -38,9 +38,7 @@ module _ (counts : List ℕ) (l : ℕ) (z : State) where
   wr-same x =
       let q = operand (top counts l z) in
       same-if (ltb x (getD counts (of-head z q struct-of) 0))
-      (same-if (ltb q (length counts)) (record { fixes = refl })
-      (same-if (eqb (operand (of-cell z (variable q x))) (operand (beneath counts l z))) (record { fixes = refl }) (record { fixes = refl })))
-      (record { fixes = refl })
+      (same-if (ltb q (length counts)) (record { fixes = refl }) (record { fixes = refl })) (record { fixes = refl })
 
   cons-same : (k : ℕ) → Same z (do-cons counts l z k)
   unfolding do-cons made

@@ -33,6 +33,7 @@ use Rattle.memory.specs.Frame.{AllSlim, Bounded, After, Goes}
 use Rattle.memory.specs.Laws.CellLaws.{label-shows}
 use Rattle.memory.specs.Laws.RowLaws.{sets-other}
 use Rattle.memory.specs.Laws.HeldLaws.{stack-under, holds-after}
+use Rattle.memory.specs.Laws.EntriesLaws.{times-zero}
 use Rattle.memory.specs.Laws.StandsLaws.{has-row, settles, pushed-stands}
 use Rattle.memory.specs.Laws.MadeLaws.{with-new, new-stands, new-slim, row-shows}
 use Rattle.memory.specs.Laws.ActorLaws.{count-of, good-slim, actor-needs, actor-sized, cons-room}
@@ -156,10 +157,11 @@ module _ {p : Program} {counts : List ℕ} (firm : Firm p) (bound : Bounded p co
     unfolding made
     makes =
         let b : l < length (m .instances) = at-below (m .instances) l i at in
+        let y : State = pushed (with-new z k ws) l base (label-cell k (z .machine .count)) (after counts l z) in
         subst
         (λ (js : List Instance). Stands list P (with-stability (with-instances m js) (meet false (m .stability))) (made counts l z k (length ξ)))
         (set-append-left (m .instances) (resting k vs ∷ []) l actor b)
-        (settles list P (put m′ l actor) (pushed (with-new z k ws) l base (label-cell k (z .machine .count)) (after counts l z)) labelled false)
+        (subst (Stands list P (with-stability (put m′ l actor) (meet false (m .stability)))) (times-zero y) (settles list P (put m′ l actor) y labelled false))
 
   constructs-to : (t : Bool) → ltb (length (m .instances)) max-instances ≡ t → After list P z (do-cons counts l z k) (construct p m l acting k c (i .stack))
   constructs-to true q =

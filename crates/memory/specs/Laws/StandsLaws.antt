@@ -1,12 +1,12 @@
 -- Laws of memory that holds a machine (01, 'Table and turns'): the actor goes on, with or without a new value on its stack; a
--- variable of an instance is written; the stability entries become false.
+-- variable of an instance is written; the stability entries are multiplied.
 use Prim.Native.Nat.{ℕ, suc, _+_, _-_, _*_, _<_, _≤_}
 use native.Mathlib.Omega.{arith}
 use native.Mathlib.Decide.{ℕ-discrete}
 use mathlib.Core.Path.{_≡_, refl, ap, sym, _∙_, subst}
 use mathlib.Core.Bool.{Bool, true, false}
 use mathlib.Core.Option.{some}
-use mathlib.Core.List.{List, [], _∷_, map}
+use mathlib.Core.List.{List, [], _∷_}
 use lib.ListN.{length, getD, getElem?, set, take, drop, length-set}
 use lib.Seq.{getD-set-same, getD-set-other}
 use Rattle.types.specs.Limits.{max-instances, max-depth, variables}
@@ -19,30 +19,23 @@ use Rattle.sound.specs.Laws.ElemLaws.{some-is, at-set-same, at-set-other, at-be
 use Rattle.sound.specs.Laws.Keeps.{at-env-same, at-env-other}
 use Rattle.sound.specs.Laws.GoodLaws.{meet-length}
 use Rattle.layout.specs.Layout.{end-of, row-size, variable, stacked}
-use Rattle.layout.specs.State.{State, of-head, of-cell, with-cells, unstable}
+use Rattle.layout.specs.State.{State, of-head, of-cell, with-cells, bit, times}
 use Rattle.memory.specs.Act.{gone, pushed}
-use Rattle.memory.specs.Stands.{Shows, Stack, note-words, Held, bits, Stands}
+use Rattle.memory.specs.Stands.{Shows, Stack, note-words, Held, Stands}
 use Rattle.memory.specs.Frame.{AllSlim, moved}
 use Rattle.memory.specs.Laws.RowLaws.{going-other, going-length}
 use Rattle.memory.specs.Laws.VarLaws.{assigned-same, assigned-other, env-length}
 use Rattle.memory.specs.Laws.HeldLaws.{stack-kept, held-same, held-on}
-
--- all entries false as bits
-bits-false : (b : List Bool) → bits (map (λ t. false) b) ≡ 0
-unfolding bits
-bits-false [] = refl
-bits-false (t ∷ b) = rw (bits-false b)
+use Rattle.memory.specs.Laws.EntriesLaws.{meet-times}
 
 module _ (list : List ℕ) (P : ℕ → Sched → Type 0) (m : Machine) (z : State) (st : Stands list P m z) where
   -- an instance has a row
   pub has-row : (l : ℕ) (i : Instance) → getElem? (m .instances) l ≡ some i → l < z .machine .count
   has-row l i at = rw (st .counted) (at-below (m .instances) l i at)
 
-  -- the stability entries once an act has left them so, or not
-  pub settles : (t : Bool) → Stands list P (with-stability m (meet t (m .stability))) (elim t [ true ↦ z | false ↦ unstable z ])
-  unfolding meet
-  settles true = st
-  settles false = record {
+  -- the stability entries once a write has multiplied them
+  pub settles : (t : Bool) → Stands list P (with-stability m (meet t (m .stability))) (times t z)
+  settles t = record {
     heads-long = st .heads-long;
     cells-long = st .cells-long;
     counted = st .counted;
@@ -50,8 +43,8 @@ module _ (list : List ℕ) (P : ℕ → Sched → Type 0) (m : Machine) (z : Sta
     each = λ l i at.
         let h = st .each l i at in
         record { struct = h .struct; height = h .height; within = h .within; code = h .code; stack = h .stack; vars = h .vars };
-    opened = st .opened ∙ sym (meet-length false (m .stability));
-    entries = sym (bits-false (m .stability));
+    opened = st .opened ∙ sym (meet-length t (m .stability));
+    entries = ap (λ (s : ℕ). s * bit t) (st .entries) ∙ sym (meet-times t (m .stability));
     scheduled = st .scheduled;
     clear = st .clear;
   }

@@ -34,6 +34,7 @@ use Rattle.memory.specs.Stands.{Shows, Stack, Stands}
 use Rattle.memory.specs.Frame.{Slim, AllSlim, Bounded, After, Goes}
 use Rattle.memory.specs.Laws.CellLaws.{shown-operand, same-words}
 use Rattle.memory.specs.Laws.HeldLaws.{holds-after, holds-label, holds-beneath}
+use Rattle.memory.specs.Laws.EntriesLaws.{times-one}
 use Rattle.memory.specs.Laws.StandsLaws.{settles, gone-stands, pushed-stands, stored-stands}
 use Rattle.memory.specs.Laws.ActorLaws.{counts-length, count-of, good-slim, actor-needs, actor-sized}
 
@@ -193,7 +194,8 @@ module _ {p : Program} {counts : List ℕ} (firm : Firm p) (bound : Bounded p co
         (sym (goes-to ∙ written-local counts l z r v (beneath counts l z) (arity p (j .struct)) count h))
         (subst (λ (t : Bool). Stands list P (with-stability m′ (meet t (m .stability))) (stored counts l z r v (beneath counts l z)))
         (sym (settled-local p (j .struct) v (x .is) (lookup (j .env) v) h))
-        (settles list P m′ (stored counts l z r v (beneath counts l z)) stores true)))
+        (subst (Stands list P (with-stability m′ (meet true (m .stability)))) (times-one (stored counts l z r v (beneath counts l z)))
+        (settles list P m′ (stored counts l z r v (beneath counts l z)) stores true))))
 
   pub writes : (k v : ℕ) → Goes p counts m list P z l i c (n-wr k v)
   unfolding perform
