@@ -103,7 +103,7 @@ mutant "local write unsettles" machine.rs 's/if is_parameter && \*kept != value 
 mutant "null locals dropped" machine.rs 's/if is_parameter && target < /if target < /'
 mutant "refused byte counted" machine.rs '/self\.turn\(choice\)/{n;s/break/taken += 1; break/}'
 mutant "no moves behind the last byte" machine.rs \
-    's/match self\.settle\(\) \{/match if taken > 0 \&\& taken == turns.len() { Ok(true) } else { self.settle() } {/'
+    's/if !self\.settle\(\) \{/if (taken == 0 || taken < turns.len()) \&\& !self.settle() {/'
 mutant "no moves before the first byte" machine.rs \
     's/let mut taken = 0;/& if turns.is_empty() { return Ending { number: 33, turns: 0 }; }/'
 mutant "stack kept at a start" instance.rs 's/self\.stack\.height = 0;//'
@@ -122,6 +122,7 @@ mutant "if skips one less" machine.rs 's/next \+= u16::from\(count\);/next += u1
 mutant "not keeps its value" machine.rs 's/\*acting\.stack\.top\(\) \^= 1/*acting.stack.top() ^= 0/'
 mutant "Fix not made stable again" schedule.rs 's/self\.entries \|= top;//'
 mutant "Fix met unstable" schedule.rs 's/self\.entries \|= 1 << self\.count;//'
+mutant "eighth Fix met unstable" schedule.rs 's/self\.entries \|= 1 << self\.count;/if self.count < 7 { & }/'
 mutant "Fix ends after one round" schedule.rs 's/let stable = .*;/let stable = true;/'
 mutant "Fix leaves its entry" schedule.rs 's/self\.count -= 1;//'
 mutant "Fix goes back to the first item" schedule.rs 's/self\.position = \*body;/self.position = 0;/'
@@ -129,8 +130,6 @@ mutant "byte bounded, not modulo" machine.rs 's/let place = .*;/let place = usiz
 mutant "holders not in label order" machine.rs 's/self\.holders\.remove\(place\)/self.holders.swap_remove(place)/'
 mutant "holders by struct" machine.rs 's/self\.holders\.sort_unstable\(\);//'
 mutant "34 one instance early" machine.rs 's/if new_label == INSTANCES \{/if new_label == INSTANCES - 1 {/'
-mutant "36 one entry early" schedule.rs 's/if self\.count == NESTING \{/if self.count == NESTING - 1 {/'
-mutant "36 one entry late" schedule.rs 's/if self\.count == NESTING \{/if self.count == NESTING + 1 {/; s/1 << self\.count/1u8.wrapping_shl(self.count as u32)/'
 
 # Arithmetic.
 mutant "Int division rounds toward zero" operators.rs 's/\{ toward_zero - 1 \}/{ toward_zero }/'

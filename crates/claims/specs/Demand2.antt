@@ -17,7 +17,7 @@ use Rattle.commands.specs.NotedLaws.{erased}
 use Rattle.commands.specs.Numbers.{NoneOf}
 use Rattle.table.specs.Table.{Record, enc-table, TableRight}
 use Rattle.machine.specs.Published.{State, structs}
-use Rattle.machine.specs.Machine.{Instance, Machine, Out.next, move}
+use Rattle.machine.specs.Machine.{Instance, Machine, Moved.next, move}
 use Rattle.machine.specs.Measure.{total, share-of}
 use Rattle.machine.specs.Represents.{Represents}
 use Rattle.run.specs.Holders.{holders}

@@ -1,12 +1,16 @@
 -- Demand 3 (01, 'The words of demand 3'): "a single statement about the whole list of turn bytes", of every run of an accepted
 -- program on an accepted table; and the same with what the entry answers.
-use Prim.Native.Nat.{ℕ}
+use Prim.Native.Nat.{ℕ, _<_, _≤_}
+use mathlib.Core.Path.{_≡_}
+use mathlib.Core.Logic.{_⊎_}
+use mathlib.Core.Bool.{Bool}
 use mathlib.Core.List.{List}
+use lib.ListN.{length}
 use Rattle.program.specs.Tree.{Program}
 use Rattle.commands.specs.Bounds.{program-depth}
 use Rattle.commands.specs.Numbers.{NoneOf}
 use Rattle.table.specs.Table.{Record}
-use Rattle.machine.specs.Published.{State}
+use Rattle.machine.specs.Published.{Sched, Sched.fixpoint, Inst, State, State.state}
 use Rattle.machine.specs.Machine.{Machine}
 use Rattle.machine.specs.Represents.{Represents}
 use Rattle.run.specs.Initial.{initial}
@@ -15,8 +19,9 @@ use Rattle.run.specs.Input.{run-order, Runnable}
 use Rattle.run.specs.InputLaws.{begins-none}
 use Rattle.sound.specs.Needs.{Right}
 use Rattle.sound.specs.NeverStuck.{Demand3}
+use Rattle.sound.specs.NeverStuckLaws.{never-stuck-numbers}
 use Rattle.claims.specs.Call.{Call}
-use Rattle.claims.specs.JoinLaws.{ready-call, passes-right}
+use Rattle.claims.specs.JoinLaws.{ready-call, passes-right, passes-entries}
 
 module _ (x y es out list : List ℕ) where
   module _ (p : Program) (rs : List Record) (r : Runnable x y es out list p rs) where
@@ -35,7 +40,18 @@ module _ (x y es out list : List ℕ) where
         → (z : Machine) × (Represents z st) × (Right p (program-depth p) z)
     states-right w = passes-right x y es out list p rs r w
 
+    -- "As Fix nests at most 8 deep, none is ever met with eight entries" (02 §9): no state that the published rules pass through has more
+    -- than 8 stability entries, and where a Fix comes next there are fewer
+    pub entries-within : {s : Sched} {σ : List Inst} {b : List Bool} {t : ℕ} → Passes p (initial p rs) es t (state s σ b)
+        → (length b ≤ 8) × ((f q : Sched) → s ≡ fixpoint f q → length b < 8)
+    entries-within w = passes-entries x y es out list p rs r w
+
   -- "A run is a call to run a program on a table and a list of turns, where no condition of a number from the input holds"
   pub call-none : NoneOf (run-order x y es out list)
       → (p : Program) × (rs : List Record) × Runnable x y es out list p rs × Call x y es out list p rs
   call-none f = let (p, rs, e, r) = begins-none x y es out list .1 f in (p, rs, r, ready-call x y es out list p rs r)
+
+-- "A run then ends or stops with 33, 34 or 35" (02 §9): no other number
+pub no-other-number : {p : Program} (rs : List Record) {es : List ℕ} (d : Demand3 p rs es)
+    → (d .number ≡ 0) ⊎ ((d .number ≡ 33) ⊎ ((d .number ≡ 34) ⊎ (d .number ≡ 35)))
+no-other-number rs d = never-stuck-numbers d

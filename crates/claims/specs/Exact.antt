@@ -56,8 +56,8 @@ use Rattle.machine.specs.Published.{State, structs}
 use Rattle.machine.specs.Rules.{meet, Actor, Actor.instance, Actor.schedule, Rule}
 use Rattle.machine.specs.RulesLaws.{meet-each}
 use Rattle.machine.specs.RuleUnique.{rule-unique, full-not-exceeded}
-use Rattle.machine.specs.Stops.{Full, Exceeded, Nested}
-use Rattle.machine.specs.Machine.{Instance, Machine, Out.stuck, command, move}
+use Rattle.machine.specs.Stops.{Full, Exceeded}
+use Rattle.machine.specs.Machine.{Instance, Machine, Out.stuck, Moved.stuck, command, move}
 use Rattle.machine.specs.Represents.{Represents}
 use Rattle.machine.specs.RepresentsLaws.{Still}
 use Rattle.machine.specs.CommandAgrees.{command-stuck}
@@ -209,7 +209,7 @@ module _ (p : Program) where
   command-stuck-exactly l m st R = command-stuck p l m st R
 
   pub move-stuck-exactly : (m : Machine) (st : State) → Represents m st → Still (m .instances)
-      → (move p m ≡ stuck) ↔ (((st′ : State) → Rule p schedule st st′ → ⊥) × (Nested st → ⊥))
+      → (move p m ≡ stuck) ↔ ((st′ : State) → Rule p schedule st st′ → ⊥)
   move-stuck-exactly m st R t = move-stuck p m st R t
 
   -- a run is jammed exactly where the published rules come to nothing

@@ -1,14 +1,14 @@
 -- What the claims say in one line and the crates below in two: a step by its name, a call with the run that it makes.
-use Prim.Native.Nat.{ℕ, _≤_}
+use Prim.Native.Nat.{ℕ, _<_, _≤_}
 use native.Mathlib.Omega.{arith}
-use mathlib.Core.Path.{_≡_, refl, sym, ap, _∙_}
+use mathlib.Core.Path.{_≡_, refl, sym, ap, _∙_, subst₂}
 use mathlib.Core.Bool.{Bool, true, false}
 use mathlib.Core.Option.{Option, none, some}
 use mathlib.Core.List.{List, [], _∷_, _++_, map, List·Memᴰ, List·Memᴰ·head, List·Memᴰ·tail, List·Memᴰ·not-nil}
 use lib.ListN.{length, getD}
 use lib.Dec.{eqb, ltb}
 use borrow.Author.Tests.{eqb-true, eqb-false, ltb-true, ltb-false}
-use Rattle.types.specs.Limits.{max-commands}
+use Rattle.types.specs.Limits.{max-commands, fix-levels}
 use Rattle.program.specs.Tree.{Stmts, Step, Program}
 use Rattle.commands.specs.Bounds.{program-depth}
 use Rattle.commands.specs.Coding.{words}
@@ -20,7 +20,7 @@ use Rattle.commands.specs.NotedLaws.{erased}
 use Rattle.commands.specs.Numbers.{Foremost}
 use Rattle.commands.specs.NumbersLaws.{foremost-some}
 use Rattle.table.specs.Table.{Record}
-use Rattle.machine.specs.Published.{State}
+use Rattle.machine.specs.Published.{Sched, Sched.fixpoint, Inst, State, State.state}
 use Rattle.machine.specs.Machine.{Machine}
 use Rattle.machine.specs.Represents.{Represents}
 use Rattle.run.specs.Begin.{begin}
@@ -35,8 +35,10 @@ use Rattle.verdict.specs.ProgramInputLaws.{checked-accepted, checked-number, ve
 use Rattle.run.specs.InputLaws.{begins-ready}
 use Rattle.run.specs.AnsweredLaws.{comes-answered}
 use Rattle.sound.specs.Needs.{Right}
-use Rattle.sound.specs.AcceptedLaws.{ready-accepted}
-use Rattle.sound.specs.NeverStuckLaws.{demand3}
+use Rattle.sound.specs.AcceptedLaws.{ready-accepted, accepted-firm}
+use Rattle.sound.specs.NeverStuckLaws.{visits-good, demand3}
+use Rattle.sound.specs.BeginGood.{begin-good}
+use Rattle.sound.specs.ShallowLaws.{good-entries}
 use Rattle.step_part.specs.StepPart.{step-place, step-part}
 use Rattle.step_part.specs.StepPartLaws.{place-number}
 use Rattle.step_part.specs.StepPartWords.{step-words, step-absent, step-refused, step-short}
@@ -101,3 +103,13 @@ module _ (x y es out list : List ℕ) (p : Program) (rs : List Record) (r : Runn
   passes-right w =
       let (z, fs, v, e, R) = passes-visits p (begin p rs) (begin-represents p rs) w in
       (z, R, ready-call .never-stuck .right z fs v)
+
+  -- none has more stability entries than Fixes may nest, and where a Fix comes next there are fewer
+  pub passes-entries : {s : Sched} {σ : List Inst} {b : List Bool} {t : ℕ} → Passes p (initial p rs) es t (state s σ b)
+      → (length b ≤ fix-levels) × ((f q : Sched) → s ≡ fixpoint f q → length b < fix-levels)
+  passes-entries w =
+      let (z, fs, v, e, R) = passes-visits p (begin p rs) (begin-represents p rs) w in
+      let a = ready-accepted r in
+      let firm = accepted-firm a in
+      subst₂ (λ s b. (length b ≤ fix-levels) × ((f q : Sched) → s ≡ fixpoint f q → length b < fix-levels)) (R .0) (R .2)
+      (good-entries firm (visits-good firm (begin-good p (a .0) rs (r .table .right)) v))

@@ -21,7 +21,8 @@ module _ (p : Program) (counts list items spans : List ℕ) (m : Machine) {es : 
       → (m′ : Machine) × (Stands list (At items) m′ (cleared z)) × (Visits p m es m′ (drop i es))
   running-visited (going {m′ = w} r b h v) =
       (w, subst (Stands list (At items) w) (sym (still-cleared z (r .stands .clear))) (r .stands), v)
-  running-visited (over {m′ = w} r h v e) = (w, r .stands, v)
+  running-visited (over {m′ = w} r h v e) =
+      (w, subst (Stands list (At items) w) (sym (still-cleared z (r .stands .clear))) (r .stands), v)
 
   pub ended-visited : {number taken : ℕ} → Ended p counts list items spans m es number taken z
       → (m′ : Machine) × (Stands list (At items) m′ (cleared z)) × (Visits p m es m′ (drop taken es)) × (run p m es ≡ stopped number taken m′)

@@ -9,6 +9,6 @@ unfoldable pub zeros : ℕ → ℕ → ℕ
 zeros zero s = 0
 zeros (suc n) s = (1 - s % 2) + zeros n (s / 2)
 
--- at a place, with so many open Fixes and their entries, where no Fix was refused yet or one was
-unfoldable pub moves-left : List ℕ → ℕ → ℕ → ℕ → ℕ → ℕ
-moves-left items place fixes stable number = zeros fixes stable * length items + (length items - place) + (1 - number)
+-- at a place, with so many open Fixes and their entries
+unfoldable pub moves-left : List ℕ → ℕ → ℕ → ℕ → ℕ
+moves-left items place fixes stable = zeros fixes stable * length items + (length items - place)

@@ -5,8 +5,6 @@ use mathlib.Core.Bool.{Bool, true, false}
 use mathlib.Core.List.{List, [], _∷_}
 use native.Mathlib.Omega.{arith}
 use lib.ListN.{length}
-use lib.Dec.{ltb}
-use Rattle.types.specs.Limits.{max-stability}
 use Rattle.machine.specs.Published.{Sched, Sched.done, Sched.start, Sched.fixpoint, Sched.active}
 use Rattle.machine.specs.Machine.{Instance, Machine, machine}
 use Rattle.sound.specs.Invariant.{Open}
@@ -16,7 +14,7 @@ use Rattle.memory.specs.Stands.{bits, Stands}
 use Rattle.memory.specs.Plan.{start-code, At}
 use Rattle.memory.specs.PlanLaws.{code-below, past-start, past-fix, past-round, at-within}
 use Rattle.memory.specs.Move.{do-start, move}
-use Rattle.memory.specs.MoveLaws.{move-start, fix-begins, fix-refused, round-ends, round-again}
+use Rattle.memory.specs.MoveLaws.{move-start, fix-begins, round-ends, round-again}
 use Rattle.interpreter.specs.Moving.{zeros, moves-left}
 
 -- an entry more, of either kind
@@ -36,15 +34,15 @@ zeros-false n s =
 
 -- what is left to a memory
 abbrev pub left : List ℕ → State → ℕ
-left items z = moves-left items (z .machine .place) (z .machine .fixes) (z .machine .stable) (z .machine .number)
+left items z = moves-left items (z .machine .place) (z .machine .fixes) (z .machine .stable)
 
 module _ (items spans : List ℕ) (z : State) where
   -- the next place, with as many false entries
-  on : (y : State) → z .machine .place < length items → move items spans z ≡ y → y .machine .place ≡ suc (z .machine .place) → y .machine .number ≡ z .machine .number
+  on : (y : State) → z .machine .place < length items → move items spans z ≡ y → y .machine .place ≡ suc (z .machine .place)
       → zeros (y .machine .fixes) (y .machine .stable) ≡ zeros (z .machine .fixes) (z .machine .stable)
       → left items (move items spans z) < left items z
   unfolding moves-left
-  on y h e a c q = rw (e, a, c, q) (omega arith)
+  on y h e a q = rw (e, a, q) (omega arith)
 
   module _ {list : List ℕ} where
     falls-by : (s : Sched) (is : List Instance) (b : List Bool) → Stands list (At items) (machine s is b) z → Open s (length b)
@@ -53,16 +51,10 @@ module _ (items spans : List ℕ) (z : State) where
     falls-by done is b S o n = absurd (n refl)
     falls-by (start c s) is b S o d =
         let (h, e, r) = past-start items (S .scheduled) in
-        on (do-start spans (start-code c) z) (at-within items (S .scheduled)) (move-start items spans z e (code-below c h)) refl refl refl
-    falls-by (fixpoint f s) is b S o d = go (ltb (z .machine .fixes) max-stability) refl
-      where
-        go : (t : Bool) → ltb (z .machine .fixes) max-stability ≡ t → left items (move items spans z) < left items z
-        go true t =
-            on _ (at-within items (S .scheduled)) (fix-begins items spans z (past-fix items (S .scheduled) .0) t) refl refl
-            (zeros-true (z .machine .fixes) (z .machine .stable))
-        go false t =
-            let c : z .machine .number ≡ 0 = S .clear in
-            rw (fix-refused items spans z (past-fix items (S .scheduled) .0) t) (omega arith)
+        on (do-start spans (start-code c) z) (at-within items (S .scheduled)) (move-start items spans z e (code-below c h)) refl refl
+    falls-by (fixpoint f s) is b S o d =
+        on _ (at-within items (S .scheduled)) (fix-begins items spans z (past-fix items (S .scheduled) .0)) refl
+        (zeros-true (z .machine .fixes) (z .machine .stable))
     falls-by (active f s) is [] S o d = absurd (active-open o refl)
     falls-by (active f s) is (true ∷ b) S o d =
         let (t, e, r, w) = past-round items (S .scheduled) in
@@ -70,7 +62,7 @@ module _ (items spans : List ℕ) (z : State) where
         let v : z .machine .fixes ≡ suc (length b) = S .opened in
         let g : z .machine .fixes - 1 ≡ length b = omega arith in
         let k : z .machine .stable / 2 ≡ bits b = omega arith in
-        on _ (at-within items (S .scheduled)) (round-ends items spans z t e (omega arith)) refl refl
+        on _ (at-within items (S .scheduled)) (round-ends items spans z t e (omega arith)) refl
         (rw (g, k, u, v, zeros-true))
     falls-by (active f s) is (false ∷ b) S o d =
         let (t, e, r, w) = past-round items (S .scheduled) in
@@ -81,7 +73,7 @@ module _ (items spans : List ℕ) (z : State) where
         let q : zeros (z .machine .fixes) (z .machine .stable) ≡ suc (zeros (length b) (bits b)) = rw (u, v) (zeros-false (length b) (bits b)) in
         rw (round-again items spans z t e (omega arith), a, q) (omega arith)
 
-    -- a move of a schedule that is not at its end, refused or not
+    -- a move of a schedule that is not at its end
     pub move-less : (m : Machine) → Stands list (At items) m z → Open (m .sched) (length (m .stability)) → (m .sched ≡ done → ⊥)
         → left items (move items spans z) < left items z
     move-less m S o n = falls-by (m .sched) (m .instances) (m .stability) S o n

@@ -8,13 +8,13 @@ use mathlib.Core.List.{List, _∷_}
 use lib.ListN.{drop}
 use Rattle.program.specs.Tree.{Program}
 use Rattle.machine.specs.Machine.{Machine, Out.next, command}
+use Rattle.machine.specs.Stops.{ended}
 use Rattle.run.specs.Turns.{chosen}
 use Rattle.run.specs.Holders.{holders}
 use Rattle.run.specs.Run.{Outcome.stopped, run}
 use Rattle.run.specs.Visits.{Visits}
 use Rattle.layout.specs.State.{State, refused, state-of}
 use Rattle.memory.specs.Act.{full, exceeded}
-use Rattle.memory.specs.Move.{nested}
 use Rattle.memory.specs.Choose.{holding}
 use Rattle.layout.specs.declared.Numbers.{Numbers}
 use Rattle.interpreter.specs.Ready.{Ready}
@@ -28,11 +28,6 @@ abbrev pub cleared : State → State
 cleared z = refused 0 z
 
 module _ (p : Program) (counts list items spans : List ℕ) (m : Machine) where
-  -- memory y after one move of m on z: it holds the next machine, or only the number is new
-  pub data Advanced (z y : State) : Type 0 where
-    advanced : {m′ : Machine} → Ready p counts list items spans m′ y → ((es : List ℕ) → Visits p m es m′ es) → Advanced z y
-    blocked : y ≡ refused nested z → ((es : List ℕ) → run p m es ≡ stopped nested 0 m) → Advanced z y
-
   -- memory y after a turn of m with the byte e on z: it holds the next machine, or only the number is new
   pub data Turned (e : ℕ) (z y : State) : Type 0 where
     turned : {m′ : Machine} → Ready p counts list items spans m′ y → command p (chosen (holders m) e) m ≡ next m′
@@ -40,25 +35,21 @@ module _ (p : Program) (counts list items spans : List ℕ) (m : Machine) where
         → Turned e z y
     failed : {n : ℕ} → y ≡ refused n z → (n ≡ full) ⊎ (n ≡ exceeded) → ((es : List ℕ) → run p m (e ∷ es) ≡ stopped n 0 m) → Turned e z y
 
-  -- memory after moves of m: it holds the machine then, or a Fix was refused
-  pub data Moving (z : State) : Type 0 where
-    moving : {m′ : Machine} → Ready p counts list items spans m′ z → ((es : List ℕ) → Visits p m es m′ es) → Moving z
-    nesting : {m′ : Machine} → Ready p counts list items spans m′ (cleared z) → z .machine .number ≡ nested → busy z ≡ 0 → ((es : List ℕ) → Visits p m es m′ es)
-        → ((es : List ℕ) → run p m′ es ≡ stopped nested 0 m′)
-        → Moving z
+  -- memory after moves of m: it holds the machine then
+  abbrev pub Moving : State → Type 0
+  Moving z = (m′ : Machine) × (Ready p counts list items spans m′ z) × ((es : List ℕ) → Visits p m es m′ es)
 
-  -- memory after all moves of m that need no turn: n instances hold commands, or the run stops
+  -- memory after all moves of m that need no turn: n instances hold commands, or the run has ended
   pub data Settles (z : State) (n : ℕ) : Type 0 where
     held : {m′ : Machine} → Ready p counts list items spans m′ z → n ≡ busy z → 0 < n → ((es : List ℕ) → Visits p m es m′ es) → Settles z n
-    still : {m′ : Machine} → Ready p counts list items spans m′ (cleared z) → n ≡ 0 → ((es : List ℕ) → Visits p m es m′ es)
-        → ((es : List ℕ) → run p m′ es ≡ stopped (z .machine .number) 0 m′)
+    still : {m′ : Machine} → Ready p counts list items spans m′ z → n ≡ 0 → ((es : List ℕ) → Visits p m es m′ es)
+        → ((es : List ℕ) → run p m′ es ≡ stopped ended 0 m′)
         → Settles z n
 
   -- memory after i turns and the moves behind them: it holds a machine that the run passes through, at which the run goes on or is over
   pub data Running (es : List ℕ) (i : ℕ) (z : State) (n : ℕ) : Type 0 where
     going : {m′ : Machine} → Ready p counts list items spans m′ z → n ≡ busy z → 0 < n → Visits p m es m′ (drop i es) → Running es i z n
-    over : {m′ : Machine} → Ready p counts list items spans m′ (cleared z) → n ≡ 0 → Visits p m es m′ (drop i es) → run p m es ≡ stopped (z .machine .number) i m′
-        → Running es i z n
+    over : {m′ : Machine} → Ready p counts list items spans m′ z → n ≡ 0 → Visits p m es m′ (drop i es) → run p m es ≡ stopped ended i m′ → Running es i z n
 
   -- memory after the whole run
   pub record Ended (es : List ℕ) (number taken : ℕ) (z : State) : Type 0 where

@@ -18,10 +18,10 @@ use Rattle.layout.specs.State.{State, refused}
 use Rattle.memory.specs.Plan.{end-code}
 use Rattle.memory.specs.Act.{full, exceeded, act}
 use Rattle.memory.specs.Choose.{picked}
-use Rattle.memory.specs.Move.{nested, move}
+use Rattle.memory.specs.Move.{move}
 use Rattle.interpreter.specs.Ready.{Ready}
 use Rattle.interpreter.specs.Counting.{fewer}
-use Rattle.interpreter.specs.Running.{busy, cleared, Advanced, Advanced.advanced, Advanced.blocked, Moving, Moving.moving, Moving.nesting, Settles, Settles.held, Settles.still, Turned, Turned.turned, Turned.failed, Running, Running.going, Running.over, Ended}
+use Rattle.interpreter.specs.Running.{busy, cleared, Moving, Settles, Settles.held, Settles.still, Turned, Turned.turned, Turned.failed, Running, Running.going, Running.over, Ended}
 use Rattle.interpreter.specs.VisitWays.{visits-on, visits-outcome}
 use Rattle.interpreter.specs.TurnLaws.{ends, moved-on, lasts, turned-by, counted}
 
@@ -50,47 +50,22 @@ module _ {p : Program} {counts list items spans : List ℕ} where
 
   module _ {m : Machine} where
     pub moves-none : {z : State} → Ready p counts list items spans m z → Moving p counts list items spans m z
-    moves-none r = moving r (λ es. (0, here))
+    moves-none r = (m, r, λ es. (0, here))
 
     module _ {z : State} where
-      -- where no Fix was refused, memory is ready
-      pub still-moving : Moving p counts list items spans m z → z .machine .number ≡ 0
-          → (m′ : Machine) × (Ready p counts list items spans m′ z) × ((es : List ℕ) → Visits p m es m′ es)
-      still-moving (moving {m′ = m′} r v) c = (m′, r, v)
-      still-moving (nesting r e h v q) c = absurd (omega arith)
-
       -- a move more
-      pub moves-more : Moving p counts list items spans m z → z .machine .number ≡ 0 → busy z ≡ 0 → (getD items (z .machine .place) 0 ≡ end-code → ⊥)
+      pub moves-more : Moving p counts list items spans m z → busy z ≡ 0 → (getD items (z .machine .place) 0 ≡ end-code → ⊥)
           → Moving p counts list items spans m (move items spans z)
-      moves-more g c h e = let (m′, r, v) = still-moving g c in go r v (moved-on r e h)
-        where
-          go : {m′ : Machine} → Ready p counts list items spans m′ z → ((es : List ℕ) → Visits p m es m′ es)
-              → {y : State} → Advanced p counts list items spans m′ z y
-              → Moving p counts list items spans m y
-          go r v (advanced r′ u) = moving r′ (λ es. visits-on (v es) (u es))
-          go r v (blocked a s) = nesting (ready-cleared nested r a) (ap (λ (x : State). x .machine .number) a) (ap busy a ∙ h) v s
-
-      -- as many rows as there are instances
-      pub moving-rows : Moving p counts list items spans m z → head-size * z .machine .count ≤ length (z .heads)
-      moving-rows (moving r v) = ready-rows r
-      moving-rows (nesting r e h v q) = ready-rows r
+      moves-more (m′, r, v) h e = let (m″, r′, u) = moved-on r e h in (m″, r′, λ es. visits-on (v es) (u es))
 
       -- someone holds commands
       pub settles-held : {n : ℕ} → Moving p counts list items spans m z → n ≡ busy z → 0 < n → Settles p counts list items spans m z n
-      settles-held (moving r v) b h = held r b h v
-      settles-held (nesting r e k v q) b h = absurd (omega arith)
+      settles-held (m′, r, v) b h = held r b h v
 
       -- the schedule is at its end
-      pub settles-ended : {n : ℕ} → Moving p counts list items spans m z → n ≡ busy z → n ≡ 0 → z .machine .number ≡ 0 → getD items (z .machine .place) 0 ≡ end-code
+      pub settles-ended : {n : ℕ} → Moving p counts list items spans m z → n ≡ busy z → n ≡ 0 → getD items (z .machine .place) 0 ≡ end-code
           → Settles p counts list items spans m z n
-      settles-ended g b h c e =
-          let (m′, r, v) = still-moving g c in
-          still (ready-clear r) h v (λ es. ends r (sym b ∙ h) e es ∙ ap (λ (x : ℕ). stopped x 0 m′) (sym c))
-
-      -- a Fix was refused
-      pub settles-nested : {n : ℕ} → Moving p counts list items spans m z → n ≡ 0 → (z .machine .number ≡ 0 → ⊥) → Settles p counts list items spans m z n
-      settles-nested (moving r v) h c = absurd (c (r .stands .clear))
-      settles-nested (nesting {m′ = m′} r e k v q) h c = still r h v (λ es. q es ∙ ap (λ (x : ℕ). stopped x 0 m′) (sym e))
+      settles-ended (m′, r, v) b h e = still r h v (λ es. ends r (sym b ∙ h) e es)
 
   -- Turns --------------------------------------------------------------------------
 
@@ -107,7 +82,8 @@ module _ {p : Program} {counts list items spans : List ℕ} where
         where
           go : Running p counts list items spans m es i z n → Ended p counts list items spans m es (z .machine .number) i z
           go (going r b k v) = absurd (omega arith)
-          go (over {m′ = m′} r k v q) = record { last = m′; reached = v; returns = q; ready = r }
+          go (over {m′ = m′} r k v q) =
+              record { last = m′; reached = v; returns = q ∙ ap (λ (x : ℕ). stopped x i m′) (sym (r .stands .clear)); ready = ready-clear r }
 
       module _ (h : 0 < n) where
         -- someone does

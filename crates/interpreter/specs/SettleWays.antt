@@ -17,7 +17,7 @@ use Rattle.interpreter.specs.Ready.{Ready}
 use Rattle.interpreter.specs.MovingLaws.{left}
 use Rattle.interpreter.specs.Running.{Standing, Led, Settling}
 use Rattle.interpreter.specs.TurnLaws.{movable, less}
-use Rattle.interpreter.specs.RunningLaws.{moves-none, still-moving, moves-more, moving-rows, settles-held, settles-ended, settles-nested}
+use Rattle.interpreter.specs.RunningLaws.{ready-rows, moves-none, moves-more, settles-held, settles-ended}
 
 module _ {items spans h₀ : List ℕ} {n₀ : Numbers} where
   -- no move yet
@@ -30,43 +30,36 @@ module _ {items spans h₀ : List ℕ} {n₀ : Numbers} where
     pub led-held : (b : ℕ) → b ≡ holding h 0 (n .count) → 0 < b → (cells : List ℕ) → Settling items spans (state-of n₀ h₀ cells) (state-of n h cells) b
     led-held b e k cells p counts list m r = settles-held (g cells p counts list m r) e k
 
-    pub led-nested : (n .number ≡ 0 → ⊥) → (cells : List ℕ) → Settling items spans (state-of n₀ h₀ cells) (state-of n h cells) 0
-    led-nested c cells p counts list m r = settles-nested (g cells p counts list m r) refl c
+    pub led-ended : holding h 0 (n .count) ≡ 0 → getD items (n .place) 0 ≡ end-code
+        → (cells : List ℕ) → Settling items spans (state-of n₀ h₀ cells) (state-of n h cells) 0
+    led-ended b e cells p counts list m r = settles-ended (g cells p counts list m r) (sym b) refl e
 
-    module _ (c : n .number ≡ 0) where
-      pub led-ended : holding h 0 (n .count) ≡ 0 → getD items (n .place) 0 ≡ end-code
-          → (cells : List ℕ) → Settling items spans (state-of n₀ h₀ cells) (state-of n h cells) 0
-      led-ended b e cells p counts list m r = settles-ended (g cells p counts list m r) (sym b) refl c e
+    -- A move ------------------------------------------------------------------------
 
-      -- A move ----------------------------------------------------------------------
+    module _ (s : Standing items spans h₀ n₀) where
+      -- the machine that memory holds
+      abbrev z : State
+      z = state-of n h (s .cells)
 
-      module _ (s : Standing items spans h₀ n₀) where
-        -- the machine that memory holds
-        abbrev z : State
-        z = state-of n h (s .cells)
+      led-ready : (m : Machine) × Ready (s .begun .program) (s .counts) (s .list) items spans m z
+      led-ready = let (m, r, v) = g (s .cells) (s .begun .program) (s .counts) (s .list) (s .begun .machine) (s .begun .ready) in (m, r)
 
-        led-ready : (m : Machine) × Ready (s .begun .program) (s .counts) (s .list) items spans m z
-        led-ready =
-            let (m, r, q) = still-moving (g (s .cells) (s .begun .program) (s .counts) (s .list) (s .begun .machine) (s .begun .ready)) c in (m, r)
+      -- it stands at one of the items
+      pub led-within : n .place < length items
+      led-within = at-within items (led-ready .1 .stands .scheduled)
 
-        -- it stands at one of the items
-        pub led-within : n .place < length items
-        led-within = at-within items (led-ready .1 .stands .scheduled)
+      -- as many rows as there are instances
+      pub led-rows : head-size * n .count ≤ length h
+      led-rows = ready-rows (led-ready .1)
 
-        module _ (e : getD items (n .place) 0 ≡ end-code → ⊥) where
-          pub led-movable : Movable items spans h n
-          led-movable = movable (led-ready .1) e
+      module _ (e : getD items (n .place) 0 ≡ end-code → ⊥) where
+        pub led-movable : Movable items spans h n
+        led-movable = movable (led-ready .1) e
 
-          module _ {h′ : List ℕ} {n′ : Numbers} (a : (cells : List ℕ) → state-of n′ h′ cells ≡ move items spans (state-of n h cells)) where
-            pub led-less : left items (state-of n′ h′ (s .cells)) < left items (state-of n h (s .cells))
-            led-less =
-                subst (λ (y : State). left items y < left items (state-of n h (s .cells))) (sym (a (s .cells))) (less (led-ready .1) e)
+        module _ {h′ : List ℕ} {n′ : Numbers} (a : (cells : List ℕ) → state-of n′ h′ cells ≡ move items spans (state-of n h cells)) where
+          pub led-less : left items (state-of n′ h′ (s .cells)) < left items (state-of n h (s .cells))
+          led-less =
+              subst (λ (y : State). left items y < left items (state-of n h (s .cells))) (sym (a (s .cells))) (less (led-ready .1) e)
 
-            pub led-more : holding h 0 (n .count) ≡ 0 → (cells : List ℕ) → Led items spans (state-of n₀ h₀ cells) (state-of n′ h′ cells)
-            led-more b cells p counts list m r = rw (a cells) (moves-more (g cells p counts list m r) c b e)
-
-  -- as many rows as there are instances, refused or not
-  pub led-rows : Standing items spans h₀ n₀ → {h : List ℕ} {n : Numbers}
-      → ((cells : List ℕ) → Led items spans (state-of n₀ h₀ cells) (state-of n h cells))
-      → head-size * n .count ≤ length h
-  led-rows s g = moving-rows (g (s .cells) (s .begun .program) (s .counts) (s .list) (s .begun .machine) (s .begun .ready))
+          pub led-more : holding h 0 (n .count) ≡ 0 → (cells : List ℕ) → Led items spans (state-of n₀ h₀ cells) (state-of n′ h′ cells)
+          led-more b cells p counts list m r = rw (a cells) (moves-more (g cells p counts list m r) b e)

@@ -1,5 +1,5 @@
--- Memory that is ready makes the run's moves and takes its turns (01, 'Table and turns'): it is ready again, or holds the number at
--- which the run stops; there is no third case.
+-- Memory that is ready makes the run's moves and takes its turns (01, 'Table and turns'): it is ready again, or, behind a turn, holds
+-- the number at which the run stops; there is no third case.
 use Prim.Native.Nat.{ℕ, _<_, _≤_}
 use mathlib.Core.Path.{_≡_, refl, ap, sym, _∙_, subst}
 use mathlib.Core.Bool.{true, false}
@@ -9,24 +9,23 @@ use lib.ListN.{length, getD}
 use Rattle.types.specs.Limits.{max-structs}
 use Rattle.program.specs.Tree.{Program}
 use Rattle.machine.specs.Published.{Sched.done, structs}
-use Rattle.machine.specs.Machine.{Instance, Machine, Out, Out.next, Out.refused, Out.stuck, command, move}
+use Rattle.machine.specs.Machine.{Instance, Machine, Out, Out.next, Out.refused, Out.stuck, Moved, Moved.next, Moved.stuck, command, move}
 use Rattle.run.specs.Turns.{chosen}
 use Rattle.run.specs.Holders.{holders, holds-code, none-of, due}
-use Rattle.run.specs.TurnLaws.{due-still}
 use Rattle.machine.specs.Stops.{ended, out-of-turns}
 use Rattle.run.specs.Run.{Outcome.stopped, run}
-use Rattle.run.specs.Settles.{Rests.ends as rests-ends, Rests.refuses as rests-refuses, Rests.lasts as rests-lasts, Rests.fails as rests-fails}
+use Rattle.run.specs.Settles.{Rests.ends as rests-ends, Rests.lasts as rests-lasts, Rests.fails as rests-fails}
 use Rattle.run.specs.FuelLaws.{rests-run}
 use Rattle.run.specs.Steps.{Steps.here, Steps.silent, Steps.reads}
 use Rattle.run.specs.Visits.{Acts.moves as acts-move, Acts.takes as acts-take}
 use Rattle.sound.specs.Advance.{Kept}
 use Rattle.sound.specs.CommandKept.{Refused, command-kept}
-use Rattle.sound.specs.MoveKept.{Blocked, still-good, move-kept}
+use Rattle.sound.specs.ShallowLaws.{good-entries}
 use Rattle.sound.specs.HolderLaws.{chosen-holds}
 use Rattle.sound.specs.NeverStuckLaws.{acts-good}
 use Rattle.sound.specs.TabledLaws.{acts-tabled}
 use Rattle.layout.specs.Layout.{holds}
-use Rattle.layout.specs.State.{State, refused as refusing}
+use Rattle.layout.specs.State.{State}
 use Rattle.memory.specs.Plan.{end-code, At}
 use Rattle.memory.specs.PlanLaws.{at-end-done}
 use Rattle.memory.specs.Frame.{After}
@@ -36,7 +35,7 @@ use Rattle.memory.specs.Act.{act}
 use Rattle.memory.specs.Acts.{acts}
 use Rattle.memory.specs.Choose.{picked}
 use Rattle.memory.specs.ChooseStands.{holds-same, holding-same, picks}
-use Rattle.memory.specs.Move.{nested, move as move-on}
+use Rattle.memory.specs.Move.{move as move-on}
 use Rattle.memory.specs.MoveStands.{Follows, moves}
 use Rattle.scheduler.specs.Ready.{Movable}
 use Rattle.scheduler.specs.ReadyLaws.{stands-movable}
@@ -44,7 +43,7 @@ use Rattle.interpreter.specs.Ready.{Ready}
 use Rattle.interpreter.specs.MovingLaws.{left, move-less}
 use Rattle.interpreter.specs.Counting.{fewer}
 use Rattle.interpreter.specs.CountLaws.{holders-behind}
-use Rattle.interpreter.specs.Running.{busy, Advanced, Advanced.advanced, Advanced.blocked, Turned, Turned.turned, Turned.failed}
+use Rattle.interpreter.specs.Running.{busy, Moving, Turned, Turned.turned, Turned.failed}
 
 none-left : (l : List ℕ) → length l ≡ 0 → none-of l ≡ true
 unfolding none-of
@@ -83,33 +82,29 @@ module _ {p : Program} {counts list items spans : List ℕ} {m : Machine} {z : S
         stands-movable m (r .stands) (λ l i g. let k : i .struct < structs p = r .tabled .each l i g .0 in omega arith) spans
         (r .prepared .spanned)
         not-done
+        (good-entries (r .prepared .firm) (r .good) .1)
 
     -- fewer moves are left behind one
     pub less : left items (move-on items spans z) < left items z
     less = move-less items spans z m (r .stands) (r .good .opened) not-done
 
     module _ (h : busy z ≡ 0) where
-      comes : (o : Out) → move p m ≡ o → Follows list items z (move-on items spans z) o → Advanced p counts list items spans m z (move-on items spans z)
+      comes : (o : Moved) → move p m ≡ o → Follows list items (move-on items spans z) o → Moving p counts list items spans m (move-on items spans z)
       comes (next m′) q S =
-          let s = acts-move (none-hold h) q in
-          advanced
-          (record {
-            prepared = r .prepared;
-            good = acts-good (r .prepared .firm) s (r .good);
-            tabled = acts-tabled (r .prepared .firm) s (r .good) (r .tabled);
-            stands = S;
-          })
-          (λ es. (0, silent (acts-move (none-hold h) q) here))
-      comes (refused n) q S =
-          let still = still-good p (m .instances) (due-still m (none-hold h)) (r .good .all) in
-          let k = move-kept (r .prepared .firm) (m .sched) (m .instances) (m .stability) still (r .good .opened) (r .good .left) not-done in
-          let w : n ≡ nested = subst (Kept p Blocked) q k in
-          blocked (S ∙ ap (λ (x : ℕ). refusing x z) w)
-          (λ es. rests-run p (rests-refuses (none-hold h) (q ∙ ap refused w)))
+          let s = acts-move (none-hold h) q in (
+            m′,
+            record {
+              prepared = r .prepared;
+              good = acts-good (r .prepared .firm) s (r .good);
+              tabled = acts-tabled (r .prepared .firm) s (r .good) (r .tabled);
+              stands = S;
+            },
+            λ es. (0, silent s here),
+          )
       comes stuck q S = absurd S
 
       -- a move
-      pub moved-on : Advanced p counts list items spans m z (move-on items spans z)
+      pub moved-on : Moving p counts list items spans m (move-on items spans z)
       moved-on =
           comes (move p m) refl
           (moves p list items spans (r .prepared .located) z m (λ l i g. r .tabled .each l i g .0) (r .stands) (r .good .opened) not-done)

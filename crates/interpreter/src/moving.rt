@@ -9,15 +9,14 @@ ghost use Rattle.memory.specs.Choose.{holding};
 ghost use Rattle.layout.specs.State.{state-of};
 ghost use Rattle.interpreter.specs.Running.{Standing, Settling};
 
-// Where the moves lead: the machine then, and how many instances hold commands. Where none does, the machine's number is 0 at the
-// schedule's end, or that of a refused Fix.
+// Where the moves lead: the machine then, and how many instances hold commands. Where none does, the schedule is at its end.
 pub struct Settled {
     pub machine: Machine,
     pub holding: usize,
 }
 
 // The moves of a machine of which n instances hold commands. Memory is free up to the machine that it stands for: nothing is said of cells above
-// a stack, nor where an instance without commands has its next one. The number is 0 where some hold commands, else what the run stops with.
+// a stack, nor where an instance without commands has its next one.
 pub fn settle(
     machine: Machine,
     n: usize,
@@ -32,13 +31,6 @@ pub fn settle(
     let mut next = machine;
     let mut left = n;
     while left == 0 {
-        let number = next.numbers.number;
-        if number != 0 {
-            return Settled {
-                machine: next,
-                holding: 0,
-            };
-        }
         let place = next.numbers.place;
         if items[place] == codes::END {
             return Settled {

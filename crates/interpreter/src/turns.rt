@@ -11,7 +11,7 @@ ghost use Rattle.layout.specs.State.{state-of};
 ghost use Rattle.interpreter.specs.Counting.{fewer};
 ghost use Rattle.interpreter.specs.Running.{Begun, Ending};
 
-// Where a run ends: the machine, the number (0, or 33 to 36), and the turns taken.
+// Where a run ends: the machine, the number (0, or 33 to 35), and the turns taken.
 pub struct Ran {
     pub machine: Machine,
     pub number: u8,

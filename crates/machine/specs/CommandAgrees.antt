@@ -13,7 +13,7 @@ use Rattle.machine.specs.CommandFollows.{Follows, command-outcome}
 use Rattle.machine.specs.CommandComplete.{Leads, rule-leads, full-refused, exceeded-refused}
 
 -- the machine that an outcome leads to
-pub led : (st : State) (o : Out) → Leads st o → (m : Machine) × (o ≡ next m) × (Represents m st)
+led : (st : State) (o : Out) → Leads st o → (m : Machine) × (o ≡ next m) × (Represents m st)
 led st (next m) h = (m, refl, h)
 led st (refused n) h = absurd h
 led st stuck h = absurd h

@@ -16,4 +16,3 @@ pub mod Measure
 pub mod MeasureLaws
 pub mod RulesLaws
 pub mod CallLaws
-pub mod Rows

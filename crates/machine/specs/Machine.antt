@@ -8,7 +8,7 @@ use mathlib.Core.Option.{Option, none, some}
 use mathlib.Core.List.{List, [], _∷_, _++_, map, reverse}
 use lib.ListN.{length, getD, getElem?, set, take, drop}
 use lib.Dec.{ltb, leb}
-use Rattle.types.specs.Limits.{max-instances, max-stability, first-local}
+use Rattle.types.specs.Limits.{max-instances, first-local}
 use Rattle.types.specs.Types.{Ty, Ty.int, Ty.bool, Ty.ref}
 use Rattle.types.specs.Values.{Val, Val.int-val, Val.nat-val, Val.bool-val, Val.label}
 use Rattle.program.specs.Tree.{Op, Stmts, Program}
@@ -19,7 +19,7 @@ use Rattle.commands.specs.Noted.{Note, Note.n-push, Note.n-this, Note.n-not, No
 use Rattle.operators.specs.Apply.{Answer, Answer.value, Answer.outside, Answer.unfit, apply, same-val}
 use Rattle.machine.specs.Published.{StepCall, called, Sched, Sched.done, Sched.start, Sched.fixpoint, Sched.active, before, Env, lookup, assign, fresh-env, structs, arity}
 use Rattle.machine.specs.Rules.{meet}
-use Rattle.machine.specs.Stops.{full, exceeded, nested}
+use Rattle.machine.specs.Stops.{full, exceeded}
 
 -- a stack value: the type that what put it there gives it, and the value (01, 'The words of demand 3')
 pub record Tagged : Type 0 where
@@ -65,11 +65,16 @@ pub record Machine : Type 0 where
   pub instances : List Instance
   pub stability : List Bool
 
--- what an act comes to: the next machine, a number from the state, or no rule
+-- what a command comes to: the next machine, a number from the state, or no rule
 pub data Out : Type 0 where
   next : Machine → Out
   refused : ℕ → Out
   stuck : Out
+
+-- what a move of the schedule comes to: the next machine, or no rule
+pub data Moved : Type 0 where
+  next : Machine → Moved
+  stuck : Moved
 
 -- Few setters ------------------------------------------------------------------
 
@@ -263,20 +268,17 @@ started p a i = given p (called p a (i .struct)) i
 abbrev pub machine : Sched → List Instance → List Bool → Machine
 machine s is b = record { sched = s; instances = is; stability = b }
 
-unfoldable pub repeat : Sched → Sched → List Instance → List Bool → Out
+unfoldable pub repeat : Sched → Sched → List Instance → List Bool → Moved
 repeat f s is [] = stuck
 repeat f s is (true ∷ b) = next (machine s is b)
 repeat f s is (false ∷ b) = next (machine (before f (active f s)) is (true ∷ b))
 
 -- one move of the schedule, where no instance holds commands
-unfoldable pub move-by : Program → Sched → List Instance → List Bool → Out
+unfoldable pub move-by : Program → Sched → List Instance → List Bool → Moved
 move-by p done is b = stuck
 move-by p (start a s) is b = next (machine s (map (started p a) is) b)
-move-by p (fixpoint f s) is b = elim (ltb (length b) max-stability) [
-  | true ↦ next (machine (before f (active f s)) is (true ∷ b))
-  | false ↦ refused nested
-]
+move-by p (fixpoint f s) is b = next (machine (before f (active f s)) is (true ∷ b))
 move-by p (active f s) is b = repeat f s is b
 
-abbrev pub move : Program → Machine → Out
+abbrev pub move : Program → Machine → Moved
 move p m = move-by p (m .sched) (m .instances) (m .stability)

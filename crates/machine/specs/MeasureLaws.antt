@@ -6,8 +6,6 @@ use mathlib.Core.Option.{Option, none, some}
 use mathlib.Core.List.{List, [], _∷_, _++_, map}
 use native.Mathlib.Omega.{arith}
 use lib.ListN.{length, getElem?, set, drop, length-drop, length-map}
-use lib.Dec.{ltb}
-use Rattle.types.specs.Limits.{max-stability}
 use Rattle.types.specs.Types.{Ty.ref}
 use Rattle.types.specs.Values.{Val.label}
 use Rattle.program.specs.Tree.{Stmts, Program}
@@ -15,9 +13,8 @@ use Rattle.commands.specs.Context.{context}
 use Rattle.commands.specs.Noted.{Note, erase, noted, now-written}
 use Rattle.commands.specs.NotedLaws.{erased}
 use Rattle.machine.specs.Published.{StepCall, called, Sched, Sched.done, Sched.start, Sched.fixpoint, Sched.active, before, Env, arity}
-use Rattle.machine.specs.Machine.{Tagged, tagged, Instance, Machine, Out, Out.next, Out.refused, Out.stuck, with-code, with-written, update-env, made, command, given, started, machine, repeat, move-by, move}
+use Rattle.machine.specs.Machine.{Tagged, tagged, Instance, Machine, Out, Out.next, Out.refused, Out.stuck, Moved, Moved.next, Moved.stuck, with-code, with-written, update-env, made, command, given, started, repeat, move-by, move}
 use Rattle.machine.specs.RepresentsLaws.{Still}
-use Rattle.machine.specs.Stops.{nested}
 use Rattle.machine.specs.Performed.{Performed, Performed.pushed, Performed.pushed-this, Performed.negated, Performed.read-one, Performed.skipped, Performed.wrote, Performed.calculated, Performed.exceeding, Performed.constructed, Performed.filled, Performed.branched, Performed.no-way}
 use Rattle.machine.specs.PerformedLaws.{by-ways}
 use Rattle.machine.specs.Measure.{weight, bound, passages, measure, total, codes, count, share, share-of}
@@ -39,20 +36,15 @@ bound-before (fixpoint g r) s = omega (arith, bound-before r s)
 bound-before (active g r) s = omega (arith, bound-before r s)
 
 -- the measure is below M, and the bound at most B
-abbrev Falls : ℕ → ℕ → Out → Type 0
+abbrev Falls : ℕ → ℕ → Moved → Type 0
 Falls B M (next m) = (measure B m < M) × (bound (m .sched) ≤ B)
-Falls B M (refused n) = Unit {0}
 Falls B M stuck = Unit {0}
 
 falls-by : (p : Program) (B : ℕ) (s : Sched) (is : List Instance) (b : List Bool) → bound s ≤ B → Falls B (passages B b + weight s) (move-by p s is b)
 unfolding move-by repeat measure weight bound passages
 falls-by p B done is b h = tt
 falls-by p B (start a s) is b h = (omega arith, h)
-falls-by p B (fixpoint f s) is b h = go (ltb (length b) max-stability) refl
-  where
-    go : (t : Bool) → ltb (length b) max-stability ≡ t → Falls B (passages B b + (weight f + 2 + weight s)) (move-by p (fixpoint f s) is b)
-    go true e = rw (e, move-by) (omega (arith, weight-before f (active f s)), omega (arith, bound-before f (active f s)))
-    go false e = rw (e, move-by) tt
+falls-by p B (fixpoint f s) is b h = (omega (arith, weight-before f (active f s)), omega (arith, bound-before f (active f s)))
 falls-by p B (active f s) is [] h = tt
 falls-by p B (active f s) is (true ∷ b) h = (omega arith, omega arith)
 falls-by p B (active f s) is (false ∷ b) h = (omega (arith, weight-before f (active f s)), omega (arith, bound-before f (active f s)))
@@ -142,21 +134,15 @@ module _ (p : Program) where
   started-code a i e = given-code (called p a (i .struct)) i e
 
   -- what a move leaves held in all, where it is made
-  abbrev Holding : ℕ → Out → Type 0
+  abbrev Holding : ℕ → Moved → Type 0
   Holding k (next m) = codes (m .instances) ≡ k
-  Holding k (refused n) = Unit {0}
   Holding k stuck = Unit {0}
 
   moves-codes : (s : Sched) (is : List Instance) (b : List Bool) → Still is → Holding (total (share-of p s) is) (move-by p s is b)
   unfolding move-by repeat share-of
   moves-codes done is b t = tt
   moves-codes (start a s) is b t = codes-map (started p a) (share p a) (started-code a) is t
-  moves-codes (fixpoint f s) is b t = go (ltb (length b) max-stability)
-    where
-      go : (u : Bool)
-          → Holding (total (share-of p (fixpoint f s)) is) (elim u [ true ↦ next (machine (before f (active f s)) is (true ∷ b)) | false ↦ refused nested ])
-      go true = codes-still (share-of p (fixpoint f s)) (λ i. refl) is t
-      go false = tt
+  moves-codes (fixpoint f s) is b t = codes-still (share-of p (fixpoint f s)) (λ i. refl) is t
   moves-codes (active f s) is [] t = tt
   moves-codes (active f s) is (true ∷ b) t = codes-still (share-of p (active f s)) (λ i. refl) is t
   moves-codes (active f s) is (false ∷ b) t = codes-still (share-of p (active f s)) (λ i. refl) is t

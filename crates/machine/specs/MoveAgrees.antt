@@ -1,4 +1,4 @@
--- A schedule move of the machine and the published rules for the schedule agree, both ways (000, section 4; 01, number 36).
+-- A schedule move of the machine and the published rules for the schedule agree, both ways (000, section 4).
 use Prim.Native.Nat.{ℕ}
 use mathlib.Core.Path.{_≡_, refl, sym, subst, subst₂}
 use mathlib.Core.Logic.{_↔_}
@@ -6,27 +6,19 @@ use mathlib.Core.Bool.{Bool, true, false}
 use mathlib.Core.Option.{Option, none, some}
 use mathlib.Core.List.{List, [], _∷_, map}
 use native.Mathlib.Omega.{arith}
-use lib.ListN.{length}
-use lib.Dec.{ltb}
-use borrow.Author.Tests.{ltb-true, ltb-false, lt-ltb, le-ltb}
-use Rattle.types.specs.Limits.{max-stability}
 use Rattle.program.specs.Tree.{Stmts, Program}
 use Rattle.commands.specs.Commands.{commands}
 use Rattle.commands.specs.Context.{context}
 use Rattle.commands.specs.NotedLaws.{erased}
 use Rattle.machine.specs.Published.{StepCall, StepCall.global, StepCall.local, called, Sched, Sched.done, Sched.start, Sched.fixpoint, Sched.active, before, Inst, Inst.inst, State, State.state}
 use Rattle.machine.specs.Rules.{Done, given, started, Actor.schedule, Rule, Rule.InitG, Rule.InitL, Rule.FixInit, Rule.FixIter, Rule.FixTerm}
-use Rattle.machine.specs.Stops.{Nested, Nested.no-entry, nested}
-use Rattle.machine.specs.Machine.{Instance, Machine, Out, Out.next, Out.refused, Out.stuck, given as equip, started as begin, repeat, move-by, move}
+use Rattle.machine.specs.Machine.{Instance, Machine, machine, Moved, Moved.next, Moved.stuck, given as equip, started as begin, repeat, move-by, move}
 use Rattle.machine.specs.Represents.{values, Represents-inst, Represents-all, Represents}
 use Rattle.machine.specs.RepresentsLaws.{Still, still-done, represents-map}
-use Rattle.machine.specs.CommandComplete.{Leads}
-use Rattle.machine.specs.CommandAgrees.{led}
 
 -- what an outcome of a move says of the published state
-abbrev pub Moves : Program → Sched → List Inst → List Bool → Out → Type 0
+abbrev pub Moves : Program → Sched → List Inst → List Bool → Moved → Type 0
 Moves p s σ b (next m) = Done σ → (st : State) × (Rule p schedule (state s σ b) st) × (Represents m st)
-Moves p s σ b (refused n) = (n ≡ nested) × (Nested (state s σ b))
 Moves p s σ b stuck = Unit {0}
 
 module _ (p : Program) where
@@ -57,31 +49,25 @@ module _ (p : Program) where
   unfolding move-by repeat
   moves-by done is σ b R = tt
   moves-by (start a s) is σ b R = λ d. (state s (map (started p a) σ) b, initiated a d, (refl, starts-represent a is σ R, refl))
-  moves-by (fixpoint f s) is σ b R = go (ltb (length b) max-stability) refl
-    where
-      go : (u : Bool) → ltb (length b) max-stability ≡ u → Moves p (fixpoint f s) σ b (move-by p (fixpoint f s) is b)
-      go true e = rw (e, move-by) λ d. (state (before f (active f s)) σ (true ∷ b), FixInit d (ltb-true (length b) max-stability e) refl, (refl, R, refl))
-      go false e = rw (e, move-by) (refl, no-entry (ltb-false (length b) max-stability e))
+  moves-by (fixpoint f s) is σ b R = λ d. (state (before f (active f s)) σ (true ∷ b), FixInit d refl, (refl, R, refl))
   moves-by (active f s) is σ [] R = tt
   moves-by (active f s) is σ (true ∷ b) R = λ d. (state s σ b, FixTerm d, (refl, R, refl))
   moves-by (active f s) is σ (false ∷ b) R = λ d. (state (before f (active f s)) σ (true ∷ b), FixIter d refl, (refl, R, refl))
 
   -- a rule for the schedule gives what the move comes to
-  leads-by : {s : Sched} (is : List Instance) {σ : List Inst} {b : List Bool} {st : State} → Represents-all is σ → Rule p schedule (state s σ b) st → Leads st (move-by p s is b)
+  leads-by : {s : Sched} (is : List Instance) {σ : List Inst} {b : List Bool} {st : State} → Represents-all is σ → Rule p schedule (state s σ b) st
+      → (m′ : Machine) × (move-by p s is b ≡ next m′) × (Represents m′ st)
   unfolding move-by repeat
-  leads-by is {σ} R (InitG {n = n} d e) = rw e (refl, starts-represent (global n) is σ R, refl)
-  leads-by is {σ} R (InitL {k = k} {n = n} d e) = rw e (refl, starts-represent (local k n) is σ R, refl)
-  leads-by is R (FixInit {b = b} d h e) = rw (e, lt-ltb (length b) max-stability h, move-by) (refl, R, refl)
-  leads-by is R (FixIter d e) = rw e (refl, R, refl)
-  leads-by is R (FixTerm d) = (refl, R, refl)
-
-  nested-by : {s : Sched} {σ : List Inst} {b : List Bool} (is : List Instance) → Nested (state s σ b) → move-by p s is b ≡ refused nested
-  unfolding move-by
-  nested-by is (no-entry {b = b} h) = rw (le-ltb (length b) max-stability h, move-by)
+  leads-by is {σ} {b} R (InitG {s = s} {n = n} d e) = (machine s (map (begin p (global n)) is) b, refl, rw e (refl, starts-represent (global n) is σ R, refl))
+  leads-by is {σ} {b} R (InitL {s = s} {k = k} {n = n} d e) =
+      (machine s (map (begin p (local k n)) is) b, refl, rw e (refl, starts-represent (local k n) is σ R, refl))
+  leads-by is R (FixInit {f = f} {s = s} {b = b} d e) = (machine (before f (active f s)) is (true ∷ b), refl, rw e (refl, R, refl))
+  leads-by is R (FixIter {f = f} {s = s} {b = b} d e) = (machine (before f (active f s)) is (true ∷ b), refl, rw e (refl, R, refl))
+  leads-by is R (FixTerm {s = s} {b = b} d) = (machine s is b, refl, (refl, R, refl))
 
   module _ (m : Machine) where
     -- a move from the schedule and the stability stack that the machine stands for
-    from : (P : Out → Type 0) {s : Sched} {b : List Bool} → m .sched ≡ s → m .stability ≡ b → P (move-by p s (m .instances) b) → P (move p m)
+    from : (P : Moved → Type 0) {s : Sched} {b : List Bool} → m .sched ≡ s → m .stability ≡ b → P (move-by p s (m .instances) b) → P (move p m)
     from P e f = subst₂ (λ s b. P (move-by p s (m .instances) b)) (sym e) (sym f)
 
     outcome : (s : Sched) (σ : List Inst) (b : List Bool) → Represents m (state s σ b) → Moves p s σ b (move p m)
@@ -93,28 +79,16 @@ module _ (p : Program) where
 
     -- what a rule gives, the next machine stands for
     pub move-complete : {st st′ : State} → Represents m st → Rule p schedule st st′ → (m′ : Machine) × (move p m ≡ next m′) × (Represents m′ st′)
-    move-complete {st = state s σ b} {st′} R r = led st′ (move p m) (from (Leads st′) (R .0) (R .2) (leads-by (m .instances) (R .1) r))
+    move-complete {st = state s σ b} {st′} R r =
+        from (λ o. (m′ : Machine) × (o ≡ next m′) × (Represents m′ st′)) (R .0) (R .2) (leads-by (m .instances) (R .1) r)
 
-    -- a move is refused with 36 exactly where Fix is met with 8 stability entries
-    pub move-nested : (st : State) → Represents m st → (move p m ≡ refused nested) ↔ (Nested st)
-    move-nested (state s σ b) R = (λ e. (rw e at (outcome s σ b R)) .1, λ h. from (λ o. o ≡ refused nested) (R .0) (R .2) (nested-by (m .instances) h))
-
-    -- a move is refused with no other number
-    pub move-numbers : (st : State) {n : ℕ} → Represents m st → move p m ≡ refused n → n ≡ nested
-    move-numbers (state s σ b) R e = (rw e at (outcome s σ b R)) .0
-
-    -- no move comes of it, where no instance holds commands, exactly where no rule and no condition of 36 fits
-    pub move-stuck : (st : State) → Represents m st → Still (m .instances)
-        → (move p m ≡ stuck) ↔ (((st′ : State) → Rule p schedule st st′ → ⊥) × (Nested st → ⊥))
+    -- no move comes of it, where no instance holds commands, exactly where no rule fits
+    pub move-stuck : (st : State) → Represents m st → Still (m .instances) → (move p m ≡ stuck) ↔ ((st′ : State) → Rule p schedule st st′ → ⊥)
     move-stuck (state s σ b) R t = (
-      λ e. (
-        λ st′ r. let (m′, f, h) = move-complete R r in let z : _≡_ {A = ℕ} 0 1 = cc in omega arith,
-        λ h. let f = move-nested (state s σ b) R .1 h in let z : _≡_ {A = ℕ} 0 1 = cc in omega arith,
-      ),
+      λ e st′ r. let (m′, f, h) = move-complete R r in let z : _≡_ {A = ℕ} 0 1 = cc in omega arith,
       λ h. go (move p m) (outcome s σ b R) h,
     )
       where
-        go : (o : Out) → Moves p s σ b o → ((st′ : State) → Rule p schedule (state s σ b) st′ → ⊥) × (Nested (state s σ b) → ⊥) → o ≡ stuck
-        go (next m′) f h = let (st′, r, q) = f (still-done (m .instances) σ (R .1) .0 t) in absurd (h .0 st′ r)
-        go (refused n) f h = absurd (h .1 (f .1))
+        go : (o : Moved) → Moves p s σ b o → ((st′ : State) → Rule p schedule (state s σ b) st′ → ⊥) → o ≡ stuck
+        go (next m′) f h = let (st′, r, q) = f (still-done (m .instances) σ (R .1) .0 t) in absurd (h st′ r)
         go stuck f h = refl

@@ -10,12 +10,12 @@ use Rattle.commands.specs.Commands.{Com.push, Com.push-this, Com.rd, Com.wr, Co
 use Rattle.commands.specs.Noted.{Note, Note.n-push, Note.n-this, Note.n-not, Note.n-rd, Note.n-wr, Note.n-cons, Note.n-op, Note.n-if, erase}
 use Rattle.machine.specs.Published.{Inst, Inst.inst, State, State.state}
 use Rattle.machine.specs.Rules.{Actor, Actor.instance, Actor.schedule, Rule}
-use Rattle.machine.specs.Stops.{Full, Exceeded, Nested, full, exceeded}
-use Rattle.machine.specs.Machine.{Tagged, tagged, Instance, Machine, machine, Out, Out.next}
+use Rattle.machine.specs.Stops.{Full, Exceeded, full, exceeded}
+use Rattle.machine.specs.Machine.{Tagged, tagged, Instance, Machine, machine}
 use Rattle.machine.specs.Represents.{values, Represents-all, Represents}
 use Rattle.machine.specs.RepresentsLaws.{represents-unique}
 use Rattle.machine.specs.CommandAgrees.{command-complete, command-full, command-exceeded}
-use Rattle.machine.specs.MoveAgrees.{move-complete, move-nested}
+use Rattle.machine.specs.MoveAgrees.{move-complete}
 
 -- Every state has a machine --------------------------------------------------------
 
@@ -67,17 +67,22 @@ represented (state s σ b) = (machine s (map noting σ) b, (refl, noting-represe
 -- One next state -------------------------------------------------------------------
 
 module _ (p : Program) where
-  -- machines that an outcome comes to, stand for one state
-  same : {o : Out} {st st′ : State} → (m : Machine) × (o ≡ next m) × (Represents m st) → (m : Machine) × (o ≡ next m) × (Represents m st′) → st ≡ st′
-  same {st = st} {st′ = st′} (m, e, R) (n, f, Q) =
-      let h : n ≡ m = cc in represents-unique m st st′ R (subst (λ x. Represents x st′) h Q)
+  -- one machine stands for one state
+  same : {m n : Machine} {st st′ : State} → n ≡ m → Represents m st → Represents n st′ → st ≡ st′
+  same {m} {st = st} {st′ = st′} h R Q = represents-unique m st st′ R (subst (λ x. Represents x st′) h Q)
 
   -- a state has at most one next state by the command of an instance, and at most one by a move of the schedule
   pub rule-unique : (a : Actor) {st st′ st″ : State} → Rule p a st st′ → Rule p a st st″ → st′ ≡ st″
   rule-unique (instance l) {st} r q =
-      let (m, R) = represented st in same (command-complete p l m R r) (command-complete p l m R q)
+      let (m, R) = represented st in
+      let (y, e, Y) = command-complete p l m R r in
+      let (z, f, Z) = command-complete p l m R q in
+      same (cc) Y Z
   rule-unique schedule {st} r q =
-      let (m, R) = represented st in same (move-complete p m R r) (move-complete p m R q)
+      let (m, R) = represented st in
+      let (y, e, Y) = move-complete p m R r in
+      let (z, f, Z) = move-complete p m R q in
+      same (cc) Y Z
 
   -- no rule fits where 34 is due
   pub rule-not-full : {l : ℕ} {st st′ : State} → Rule p (instance l) st st′ → Full l st → ⊥
@@ -104,13 +109,4 @@ module _ (p : Program) where
       let e = command-full p l m st R .1 g in
       let f = command-exceeded p l m st R .1 h in
       let z : full ≡ exceeded = cc in
-      omega arith
-
-  -- no rule fits where 36 is due
-  pub rule-not-nested : {st st′ : State} → Rule p schedule st st′ → Nested st → ⊥
-  rule-not-nested {st} r h =
-      let (m, R) = represented st in
-      let (m′, e, Q) = move-complete p m R r in
-      let f = move-nested p m st R .1 h in
-      let z : _≡_ {A = ℕ} 0 1 = cc in
       omega arith

@@ -1,10 +1,9 @@
 -- The fifteen rules of 000, section 4, each under its published name, with 01's arithmetic (02's division), labels and limits.
--- Computed parts are premises. They depart from 000 in six places:
+-- Computed parts are premises. They depart from 000 in five places:
 -- * starting a step empties the stacks of the instances that have it and of no others (01, 'Table and turns'); 000's InitG empties all;
 -- * a new instance takes the next label (01, the same), 000's any fresh one; where none is free ComCons does not fit, and 34 is due;
 -- * a result is in the range of its type, where 000 computes without bounds; for another, and for a zero divisor, ComOp does not
 --   fit, and 35 is due;
--- * a Fix begins with a free stability entry; where 8 are taken FixInit does not fit, and 36 is due ('Numbers from the state');
 -- * a variable that was never written has no value, and ComRd does not fit there; 000's definition 6 leaves its value arbitrary. A
 --   run of an accepted program reads none (01, 'The words of demand 3');
 -- * a write to a number between the struct's parameters and 7 stores nothing (`assign` of Published), where 000 stores the value; it
@@ -15,7 +14,7 @@ use mathlib.Core.Bool.{Bool, true, false, not as negation}
 use mathlib.Core.Option.{Option, none, some}
 use mathlib.Core.List.{List, [], _∷_, _++_, map, reverse}
 use lib.ListN.{length, getElem?, set}
-use Rattle.types.specs.Limits.{max-instances, max-stability}
+use Rattle.types.specs.Limits.{max-instances}
 use Rattle.types.specs.Types.{Ty}
 use Rattle.types.specs.Values.{Val, Val.bool-val, Val.label}
 use Rattle.program.specs.Tree.{Op, Stmts, Program}
@@ -117,7 +116,6 @@ pub data Rule (p : Program) : Actor → State → State → Type 0 where
       → Rule p schedule (state (start (local k n) s) σ b) (state s τ b)
   FixInit : {f s s′ : Sched} {σ : List Inst} {b : List Bool}
       → Done σ
-      → length b < max-stability
       → s′ ≡ before f (active f s)
       → Rule p schedule (state (fixpoint f s) σ b) (state s′ σ (true ∷ b))
   FixIter : {f s s′ : Sched} {σ : List Inst} {b : List Bool}

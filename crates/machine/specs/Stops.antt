@@ -1,4 +1,4 @@
--- The numbers from the state (01, 'Numbers from the state'), and the conditions of 34 to 36 on published states. The conditions of 0
+-- The numbers from the state (01, 'Numbers from the state'), and the conditions of 34 and 35 on published states. The conditions of 0
 -- and 33 speak of holders and turn bytes, and stand in the run.
 use Prim.Native.Nat.{ℕ, _≤_}
 use mathlib.Core.Path.{_≡_}
@@ -6,13 +6,13 @@ use mathlib.Core.Bool.{Bool}
 use mathlib.Core.Option.{some}
 use mathlib.Core.List.{List, _∷_}
 use lib.ListN.{length, getElem?}
-use Rattle.types.specs.Limits.{max-instances, max-stability}
-pub use Rattle.types.specs.Numbers.{out-of-turns, full, exceeded, nested}
+use Rattle.types.specs.Limits.{max-instances}
+pub use Rattle.types.specs.Numbers.{out-of-turns, full, exceeded}
 use Rattle.types.specs.Values.{Val}
 use Rattle.program.specs.Tree.{Op}
 use Rattle.commands.specs.Commands.{Com.cons, Com.oper, Coms, Coms.act}
 use Rattle.operators.specs.Operators.{Exceeds}
-use Rattle.machine.specs.Published.{Sched, Sched.fixpoint, Env, Inst, Inst.inst, State, State.state}
+use Rattle.machine.specs.Published.{Sched, Env, Inst, Inst.inst, State, State.state}
 
 -- 0 is the ended run
 abbrev pub ended : ℕ
@@ -31,7 +31,3 @@ pub data Exceeded (l : ℕ) : State → Type 0 where
       → getElem? σ l ≡ some (inst k (act (oper o) c) (y ∷ x ∷ χ) ξ)
       → Exceeds o x y
       → Exceeded l (state s σ b)
-
--- 36: Fix met with 8 stability entries
-pub data Nested : State → Type 0 where
-  no-entry : {f s : Sched} {σ : List Inst} {b : List Bool} → max-stability ≤ length b → Nested (state (fixpoint f s) σ b)

@@ -4,11 +4,10 @@ use mathlib.Core.Bool.{Bool, true, false, _||_, _&&_}
 use mathlib.Core.List.{List}
 use lib.ListN.{getD}
 use lib.Dec.{eqb, ltb, leb}
-use Rattle.types.specs.Limits.{step-names, max-stability}
+use Rattle.types.specs.Limits.{step-names}
 use Rattle.layout.specs.Layout.{head, struct-of, begun}
-use Rattle.layout.specs.State.{State, with-heads, refused, moved}
+use Rattle.layout.specs.State.{State, with-heads, moved}
 use Rattle.memory.specs.Plan.{fix-code, round-code, from, to}
-pub use Rattle.machine.specs.Stops.{nested}
 
 -- whether the code c of a started step means struct k: any, or the one it names
 abbrev pub means : ℕ → ℕ → Bool
@@ -29,7 +28,7 @@ begin-all spans c heads l (suc n) = begin-all spans c (begin-one spans c heads l
 
 -- a Fix begins
 unfoldable pub do-fix : State → State
-do-fix z = elim (ltb (z .machine .fixes) max-stability) [ true ↦ moved z (suc (z .machine .place)) (suc (z .machine .fixes)) (suc (2 * z .machine .stable)) | false ↦ refused nested z ]
+do-fix z = moved z (suc (z .machine .place)) (suc (z .machine .fixes)) (suc (2 * z .machine .stable))
 
 -- it ends where its entry is true, or goes round
 unfoldable pub do-round : ℕ → State → State

@@ -1,16 +1,13 @@
 -- Laws of a move on memory (01, 'Table and turns'): which of its ways the item at the machine's place takes.
 use Prim.Native.Nat.{ℕ, suc, _-_, _*_, _/_, _%_, _<_}
 use mathlib.Core.Path.{_≡_, ap, _∙_}
-use mathlib.Core.Bool.{true, false}
 use mathlib.Core.List.{List}
 use native.Mathlib.Omega.{arith}
 use lib.ListN.{getD}
-use lib.Dec.{ltb}
 use borrow.Author.Tests.{lt-ltb, le-ltb, eq-eqb, ne-eqb}
-use Rattle.types.specs.Limits.{max-stability}
-use Rattle.layout.specs.State.{State, refused, moved}
+use Rattle.layout.specs.State.{State, moved}
 use Rattle.memory.specs.Plan.{fix-code, round-code}
-use Rattle.memory.specs.Move.{nested, do-start, do-fix, do-round, move-by, move}
+use Rattle.memory.specs.Move.{do-start, do-fix, do-round, move-by, move}
 
 module _ (items spans : List ℕ) (z : State) where
   at-code : {c : ℕ} → getD items (z .machine .place) 0 ≡ c → move items spans z ≡ move-by spans c z
@@ -21,18 +18,10 @@ module _ (items spans : List ℕ) (z : State) where
   unfolding move-by
   move-start {c} e h = at-code e ∙ (rw (lt-ltb c fix-code h, move-by))
 
-  move-fix : getD items (z .machine .place) 0 ≡ fix-code → move items spans z ≡ do-fix z
-  unfolding move-by
-  move-fix e = at-code e
-
-  pub fix-begins : getD items (z .machine .place) 0 ≡ fix-code → ltb (z .machine .fixes) max-stability ≡ true
+  pub fix-begins : getD items (z .machine .place) 0 ≡ fix-code
       → move items spans z ≡ moved z (suc (z .machine .place)) (suc (z .machine .fixes)) (suc (2 * z .machine .stable))
-  unfolding do-fix
-  fix-begins e t = move-fix e ∙ (rw (t, do-fix))
-
-  pub fix-refused : getD items (z .machine .place) 0 ≡ fix-code → ltb (z .machine .fixes) max-stability ≡ false → move items spans z ≡ refused nested z
-  unfolding do-fix
-  fix-refused e t = move-fix e ∙ (rw (t, do-fix))
+  unfolding move-by do-fix
+  fix-begins e = at-code e
 
   move-round : (t : ℕ) → getD items (z .machine .place) 0 ≡ round-code t → move items spans z ≡ do-round t z
   unfolding move-by

@@ -1,5 +1,5 @@
 -- A move on memory follows the machine's (000's rules for the schedule; 01, 'Table and turns'): memory that holds a machine holds
--- the one after the move, or has the number of the refusal.
+-- the one after the move.
 use Prim.Native.Nat.{ℕ, zero, suc, _+_, _*_, _/_, _%_, _<_, _≤_}
 use mathlib.Core.Path.{_≡_, refl, ap, sym, subst, _∙_}
 use mathlib.Core.Bool.{Bool, true, false}
@@ -9,24 +9,24 @@ use native.Mathlib.Omega.{arith}
 use lib.ListN.{length, getElem?, length-map}
 use lib.Dec.{ltb, eqb, eqb·suc-zero, eqb·suc-suc}
 use borrow.Author.Tests.{ltb-true, ltb-false, le-leb, lt-leb, eq-eqb, ne-eqb, eqb-true, eqb-false}
-use Rattle.types.specs.Limits.{max-instances, max-stability, step-names}
+use Rattle.types.specs.Limits.{max-instances, step-names}
 use Rattle.program.specs.Tree.{Stmts, Program}
 use Rattle.commands.specs.Coding.{words}
 use Rattle.commands.specs.Context.{context, step-of}
 use Rattle.commands.specs.NotedLaws.{erased}
 use Rattle.machine.specs.Published.{StepCall, StepCall.global, StepCall.local, called, Sched, Sched.done, Sched.start, Sched.fixpoint, Sched.active, before, structs}
-use Rattle.machine.specs.Machine.{Instance, Machine, Out, Out.next, Out.refused, Out.stuck, machine, given, started, repeat, move-by, move}
+use Rattle.machine.specs.Machine.{Instance, Machine, Moved, Moved.next, Moved.stuck, machine, given, started, repeat, move-by, move}
 use Rattle.sound.specs.Invariant.{Open}
 use Rattle.sound.specs.MoveKept.{active-open}
 use Rattle.sound.specs.ElemLaws.{none-some, map-at}
 use Rattle.layout.specs.Layout.{head, head-size, struct-of, height-of, next-of, end-of}
-use Rattle.layout.specs.State.{State, with-heads, refused as refused-with, moved}
+use Rattle.layout.specs.State.{State, with-heads, moved}
 use Rattle.memory.specs.Stands.{bits, Held, Stands}
 use Rattle.memory.specs.Plan.{start-code, RangedCall, from, to, Spans, Located, At}
 use Rattle.memory.specs.PlanLaws.{code-below, past-start, past-fix, past-round}
 use Rattle.memory.specs.Move.{means, begin-one, begin-all, do-start, move as move-on}
 use Rattle.memory.specs.BeginLaws.{Same, begun-struct, begun-height, begun-next, begun-end, one-begins, one-stays, one-length, one-others, all-length}
-use Rattle.memory.specs.MoveLaws.{move-start, fix-begins, fix-refused, round-ends, round-again}
+use Rattle.memory.specs.MoveLaws.{move-start, fix-begins, round-ends, round-again}
 
 -- Instances ----------------------------------------------------------------------
 
@@ -197,32 +197,26 @@ module _ {list items : List ℕ} {q : Sched} {is : List Instance} {b : List Bool
             (λ k i g h. absurd (omega arith)) (λ k i g h. held-moved (S .each k i g) (suc (z .machine .place)) (z .machine .fixes) (z .machine .stable))
 
 -- what an outcome of the machine's move says of memory
-abbrev pub Follows : List ℕ → List ℕ → State → State → Out → Type 0
-Follows list items z y (next m) = Stands list (At items) m y
-Follows list items z y (refused n) = y ≡ refused-with n z
-Follows list items z y stuck = ⊥
+abbrev pub Follows : List ℕ → List ℕ → State → Moved → Type 0
+Follows list items y (next m) = Stands list (At items) m y
+Follows list items y stuck = ⊥
 
 module _ (p : Program) (list items spans : List ℕ) (located : Located p list spans) (z : State) where
-  by : (o : Out) {y : State} → move-on items spans z ≡ y → Follows list items z y o → Follows list items z (move-on items spans z) o
-  by o e = subst (λ y. Follows list items z y o) (sym e)
+  by : (o : Moved) {y : State} → move-on items spans z ≡ y → Follows list items y o → Follows list items (move-on items spans z) o
+  by o e = subst (λ y. Follows list items y o) (sym e)
 
   moves-by : (s : Sched) (is : List Instance) (b : List Bool) → ((l : ℕ) (i : Instance) → getElem? is l ≡ some i → i .struct < structs p)
-      → Stands list (At items) (machine s is b) z → Open s (length b) → (s ≡ done → ⊥) → Follows list items z (move-on items spans z) (move-by p s is b)
+      → Stands list (At items) (machine s is b) z → Open s (length b) → (s ≡ done → ⊥) → Follows list items (move-on items spans z) (move-by p s is b)
   unfolding move-by repeat bits
   moves-by done is b known S o n = absurd (n refl)
   moves-by (start c s) is b known S o _ =
       let (h, e, r) = past-start items (S .scheduled) in
       by (next (machine s (map (started p c) is) b)) (move-start items spans z e (code-below c h))
       (start-stands S p spans located known (start-code c) (started p c) (start-inst p c h) r)
-  moves-by (fixpoint f s) is b known S o _ = go (ltb (length b) max-stability) refl
-    where
-      go : (t : Bool) → ltb (length b) max-stability ≡ t
-          → Follows list items z (move-on items spans z) (elim t [ true ↦ next (machine (before f (active f s)) is (true ∷ b)) | false ↦ refused 36 ])
-      go true t =
-          let (e, r) = past-fix items (S .scheduled) in
-          by (next (machine (before f (active f s)) is (true ∷ b))) (fix-begins items spans z e (rw (S .opened) t))
-          (moved-stands S (true ∷ b) r (ap suc (S .opened)) (ap (λ x. suc (2 * x)) (S .entries)))
-      go false t = fix-refused items spans z (past-fix items (S .scheduled) .0) (rw (S .opened) t)
+  moves-by (fixpoint f s) is b known S o _ =
+      let (e, r) = past-fix items (S .scheduled) in
+      by (next (machine (before f (active f s)) is (true ∷ b))) (fix-begins items spans z e)
+      (moved-stands S (true ∷ b) r (ap suc (S .opened)) (ap (λ x. suc (2 * x)) (S .entries)))
   moves-by (active f s) is [] known S o _ = active-open o refl
   moves-by (active f s) is (true ∷ b) known S o _ =
       let (t, e, r, w) = past-round items (S .scheduled) in
@@ -238,5 +232,5 @@ module _ (p : Program) (list items spans : List ℕ) (located : Located p list s
   -- memory follows every move of a machine with a schedule that is not at its end
   pub moves : (m : Machine) → ((l : ℕ) (i : Instance) → getElem? (m .instances) l ≡ some i → i .struct < structs p)
       → Stands list (At items) m z → Open (m .sched) (length (m .stability)) → (m .sched ≡ done → ⊥)
-      → Follows list items z (move-on items spans z) (move p m)
+      → Follows list items (move-on items spans z) (move p m)
   moves m known S o n = moves-by (m .sched) (m .instances) (m .stability) known S o n

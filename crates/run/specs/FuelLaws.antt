@@ -10,7 +10,7 @@ use native.Mathlib.Omega.{arith}
 use lib.ListN.{length}
 use Rattle.program.specs.Tree.{Program}
 use Rattle.machine.specs.Published.{Sched, Sched.done, Sched.start, Sched.fixpoint, Sched.active}
-use Rattle.machine.specs.Machine.{Machine, Out, Out.next, Out.refused, Out.stuck, command, move-by, move}
+use Rattle.machine.specs.Machine.{Machine, Out, Out.next, Out.refused, Out.stuck, Moved, Moved.next, Moved.stuck, command, move-by, move}
 use Rattle.machine.specs.Measure.{bound, passages, measure}
 use Rattle.machine.specs.MeasureLaws.{move-falls}
 use Rattle.run.specs.Turns.{chosen}
@@ -18,7 +18,7 @@ use Rattle.run.specs.Holders.{holders, due}
 use Rattle.run.specs.TurnLaws.{due-none, due-some, some-due}
 use Rattle.machine.specs.Stops.{ended}
 use Rattle.run.specs.Run.{Outcome, Outcome.stopped, Outcome.jammed, later, Settled, Settled.hold, Settled.stop, is-done, moved, settle-by, settle, fuel, taken, turn, at-last, run}
-use Rattle.run.specs.Settles.{Settles, Settles.holds, Settles.ends, Settles.refuses, Settles.sticks, Settles.moves, Rests, Rests.ends as at-rest, Rests.refuses as refused-at, Rests.lasts, Rests.fails, Jams.sticks as stuck-at, Jams.jams, Ran, Ran.rests, Ran.stays}
+use Rattle.run.specs.Settles.{Settles, Settles.holds, Settles.ends, Settles.sticks, Settles.moves, Rests, Rests.ends as at-rest, Rests.lasts, Rests.fails, Jams.sticks as stuck-at, Jams.jams, Ran, Ran.rests, Ran.stays}
 use Rattle.run.specs.Steps.{Steps, Steps.here, Steps.silent, Steps.reads}
 use Rattle.run.specs.Visits.{Acts, Acts.moves as acts-move, Acts.takes as acts-take}
 
@@ -49,21 +49,20 @@ module _ (p : Program) (m : Machine) where
   done-stuck e = ap (λ s. move-by p s (m .instances) (m .stability)) e
 
   -- where a move is due and the schedule is not empty, it is made
-  settle-moves : (k : Machine → Settled) → due m ≡ true → (m .sched ≡ done → ⊥) → settle-by k p m (holders m) ≡ moved k m (move p m)
+  settle-moves : (k : Machine → Settled) → due m ≡ true → (m .sched ≡ done → ⊥) → settle-by k p m (holders m) ≡ moved k (move p m)
   unfolding settle-by
   settle-moves k g n = rw (due-none m .0 g, not-done (m .sched) n, settle-by)
 
 module _ (p : Program) (B : ℕ) where
   -- by the cases of a move, where more than f moves cannot be made, and f are enough for the machine after it
   module _ (f : ℕ) (m : Machine) (h : Enough B (suc f) m) (r : (m′ : Machine) → Enough B f m′ → Settles p m′ (settle p f m′)) where
-    by-move : due m ≡ true → (m .sched ≡ done → ⊥) → (o : Out) → move p m ≡ o → Settles p m (moved (λ m′. settle p f m′) m o)
+    by-move : due m ≡ true → (m .sched ≡ done → ⊥) → (o : Moved) → move p m ≡ o → Settles p m (moved (λ m′. settle p f m′) o)
     unfolding moved
     by-move g n (next m′) e = let (a, b) = move-falls p B m (h .0) e in moves g e (r m′ (b, omega arith))
-    by-move g n (refused k) e = refuses g e
     by-move g n stuck e = sticks g n e
 
     by-done : due m ≡ true → (t : Bool) → is-done (m .sched) ≡ t
-        → Settles p m (elim t [ true ↦ stop (stopped ended 0 m) | false ↦ moved (λ m′. settle p f m′) m (move p m) ])
+        → Settles p m (elim t [ true ↦ stop (stopped ended 0 m) | false ↦ moved (λ m′. settle p f m′) (move p m) ])
     by-done g true e = ends g (is-done-done (m .sched) .0 e)
     by-done g false e =
         by-move g (λ d. let a = is-done-done (m .sched) .1 d in let z : true ≡ false = cc in let y : _≡_ {A = ℕ} 0 1 = cc in omega arith) (move p m) refl
@@ -85,13 +84,11 @@ module _ (p : Program) (B : ℕ) where
   settles-settle zero s h = absurd (omega arith)
   settles-settle (suc f) (holds g) h = rw g
   settles-settle (suc f) {m} (ends g e) h = rw (due-none m .0 g, e)
-  settles-settle (suc f) {m} (refuses g e) h =
-      settle-moves p m (λ m′. settle p f m′) g (λ d. let a = done-stuck p m d in let z : _≡_ {A = ℕ} 0 1 = cc in omega arith) ∙ ap (λ o. moved (λ m′. settle p f m′) m o) e
-  settles-settle (suc f) {m} (sticks g n e) h = settle-moves p m (λ m′. settle p f m′) g n ∙ ap (λ o. moved (λ m′. settle p f m′) m o) e
+  settles-settle (suc f) {m} (sticks g n e) h = settle-moves p m (λ m′. settle p f m′) g n ∙ ap (λ (o : Moved). moved (λ m′. settle p f m′) o) e
   settles-settle (suc f) {m} (moves g e s) h =
       let (a, b) = move-falls p B m (h .0) e in
       settle-moves p m (λ m′. settle p f m′) g (λ d. let a = done-stuck p m d in let z : _≡_ {A = ℕ} 0 1 = cc in omega arith)
-      ∙ ap (λ o. moved (λ m′. settle p f m′) m o) e
+      ∙ ap (λ (o : Moved). moved (λ m′. settle p f m′) o) e
       ∙ settles-settle f s (b, omega arith)
 
 passages-bounded : (B : ℕ) (b : List Bool) → passages B b ≤ length b * suc B
@@ -130,7 +127,6 @@ module _ (p : Program) where
       → ((z : Machine) (h : ℕ) (hs : List ℕ) → holders z ≡ h ∷ hs → Ran p z es (F (hold z h hs))) → Ran p m es (F x)
   settles-ran (holds {m = m} {h = h} {hs = hs} g) es F s k = k m h hs g
   settles-ran (ends {m = m} g d) es F s k = rw (s (stopped ended 0 m)) (rests here (at-rest g d))
-  settles-ran (refuses {m = m} {n = n} g r) es F s k = rw (s (stopped n 0 m)) (rests here (refused-at g r))
   settles-ran (sticks g n q) es F s k = rw (s jammed) (stays here (stuck-at g n q))
   settles-ran (moves g q x) es F s k = ran-silent (acts-move g q) (settles-ran x es F s k)
 
@@ -190,6 +186,5 @@ module _ (p : Program) where
   pub rests-run : {m : Machine} {es : List ℕ} {n : ℕ} → Rests p m es n → run p m es ≡ stopped n 0 m
   unfolding run at-last taken
   rests-run {es = es} (at-rest g d) = run-stop es (ends g d)
-  rests-run {es = es} (refused-at g r) = run-stop es (refuses g r)
   rests-run {m} (lasts g) = let (h, hs, q) = due-some m g in ap at-last (settled (holds q))
   rests-run {m} (fails {e = e} {es = es} g c) = run-turn e es m g c

@@ -6,7 +6,7 @@ use mathlib.Core.List.{List, [], _∷_}
 use lib.ListN.{length}
 use Rattle.program.specs.Tree.{Program}
 use Rattle.machine.specs.Published.{Sched, Sched.done, Sched.start, Sched.fixpoint, Sched.active}
-use Rattle.machine.specs.Machine.{Machine, Out, Out.next, Out.refused, Out.stuck, command, move}
+use Rattle.machine.specs.Machine.{Machine, Out, Out.next, Out.refused, Out.stuck, Moved, Moved.next, Moved.stuck, command, move}
 use Rattle.machine.specs.Measure.{weight, bound}
 use Rattle.run.specs.Turns.{chosen}
 use Rattle.run.specs.Holders.{holders}
@@ -34,15 +34,14 @@ is-done (fixpoint f s) = false
 is-done (active f s) = false
 
 -- a move, and on by k
-unfoldable pub moved : (Machine → Settled) → Machine → Out → Settled
-moved k m (next m′) = k m′
-moved k m (refused n) = stop (stopped n 0 m)
-moved k m stuck = stop jammed
+unfoldable pub moved : (Machine → Settled) → Moved → Settled
+moved k (next m′) = k m′
+moved k stuck = stop jammed
 
 -- a move that is due (`due` of Holders) is made, and no turn is asked for before it
 unfoldable pub settle-by : (Machine → Settled) → Program → Machine → List ℕ → Settled
 settle-by k p m (h ∷ hs) = hold m h hs
-settle-by k p m [] = elim (is-done (m .sched)) [ true ↦ stop (stopped ended 0 m) | false ↦ moved k m (move p m) ]
+settle-by k p m [] = elim (is-done (m .sched)) [ true ↦ stop (stopped ended 0 m) | false ↦ moved k (move p m) ]
 
 unfoldable pub settle : Program → ℕ → Machine → Settled
 settle p zero m = stop jammed

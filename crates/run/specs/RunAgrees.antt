@@ -12,12 +12,12 @@ use Rattle.machine.specs.Machine.{Machine, Out.refused, command}
 use Rattle.machine.specs.Stops.{full, exceeded, ended}
 use Rattle.machine.specs.Represents.{Represents}
 use Rattle.machine.specs.CommandAgrees.{command-follows, command-complete, command-full, command-exceeded, command-numbers}
-use Rattle.machine.specs.MoveAgrees.{move-follows, move-complete, move-nested, move-numbers}
+use Rattle.machine.specs.MoveAgrees.{move-follows, move-complete}
 use Rattle.run.specs.Turns.{chosen}
 use Rattle.run.specs.Holders.{holders, due}
-use Rattle.run.specs.Runs.{Due, picked, Halts, Halts.at-end, Halts.at-33, Halts.at-34, Halts.at-35, Halts.at-36, Step, Step.moves, Step.takes, Runs}
+use Rattle.run.specs.Runs.{Due, picked, Halts, Halts.at-end, Halts.at-33, Halts.at-34, Halts.at-35, Step, Step.moves, Step.takes, Runs}
 use Rattle.run.specs.Run.{Outcome, Outcome.stopped, Outcome.jammed, run}
-use Rattle.run.specs.Settles.{Rests, Rests.ends, Rests.refuses, Rests.lasts, Rests.fails}
+use Rattle.run.specs.Settles.{Rests, Rests.ends, Rests.lasts, Rests.fails}
 use Rattle.run.specs.Steps.{Steps}
 use Rattle.run.specs.StepsLaws.{simulates}
 use Rattle.run.specs.Visits.{Acts, Acts.moves as acts-move, Acts.takes as acts-take}
@@ -91,9 +91,6 @@ module _ (p : Program) where
 
   rests-halts : {m : Machine} {es : List ℕ} {n : ℕ} (st : State) → Represents m st → Rests p m es n → Halts st es n
   rests-halts {m} {es} st R (ends g e) = ends-halts m st es R (due-same m st R .0 g) e
-  rests-halts {m} st R (refuses g e) =
-      let q = move-numbers p m st R e in
-      rw q (at-36 (due-same m st R .0 g) (move-nested p m st R .0 (e ∙ ap refused q)))
   rests-halts {m} st R (lasts g) = at-33 (none-due m st R .0 g)
   rests-halts {m} st R (fails {e = e} {es = es} g c) =
       fails-halts m st e es R (none-due m st R .0 g) (ap (λ l. command p l m) (sym (picked-same m st e R)) ∙ c)
@@ -106,7 +103,6 @@ module _ (p : Program) where
       fails {n = full} (none-due m st R .1 n) (ap (λ l. command p l m) (picked-same m st e R) ∙ command-full p (picked e st) m st R .1 f)
   halts-rests m {st} R (at-35 {e = e} n f) =
       fails {n = exceeded} (none-due m st R .1 n) (ap (λ l. command p l m) (picked-same m st e R) ∙ command-exceeded p (picked e st) m st R .1 f)
-  halts-rests m {st} R (at-36 d h) = refuses (due-same m st R .1 d) (move-nested p m st R .1 h)
 
   -- The whole run --------------------------------------------------------------------
 

@@ -12,7 +12,7 @@ use Rattle.machine.specs.Represents.{Represents}
 use Rattle.machine.specs.Stops.{out-of-turns}
 use Rattle.run.specs.Steps.{Steps}
 use Rattle.run.specs.StepsLaws.{steps-left, steps-turns}
-use Rattle.run.specs.Runs.{Halts, Halts.at-end, Halts.at-33, Halts.at-34, Halts.at-35, Halts.at-36, Passes, Runs}
+use Rattle.run.specs.Runs.{Halts, Halts.at-end, Halts.at-33, Halts.at-34, Halts.at-35, Passes, Runs}
 use Rattle.run.specs.Run.{Outcome.stopped, run}
 use Rattle.run.specs.Visits.{Acts, Visits, turns-of}
 use Rattle.run.specs.FuelLaws.{run-rests}
@@ -38,7 +38,6 @@ module _ (p : Program) where
   none-left (at-33 n) e = refl
   none-left (at-34 k f) e = absurd (omega arith)
   none-left (at-35 k f) e = absurd (omega arith)
-  none-left (at-36 d h) e = absurd (omega arith)
 
   -- 33 is the answer only once every byte has taken a command
   pub all-taken : {st st′ : State} {es : List ℕ} {n t : ℕ} → Runs p st es n t st′ → n ≡ out-of-turns → t ≡ length es

@@ -7,7 +7,7 @@ use mathlib.Core.List.{List, [], _∷_}
 use Rattle.program.specs.Tree.{Program}
 use Rattle.machine.specs.Published.{Sched.done, Inst, State, State.state}
 use Rattle.machine.specs.Rules.{Done, Actor.instance, Actor.schedule, Rule}
-use Rattle.machine.specs.Stops.{Full, Exceeded, Nested, ended, out-of-turns, full, exceeded, nested}
+use Rattle.machine.specs.Stops.{Full, Exceeded, ended, out-of-turns, full, exceeded}
 use Rattle.run.specs.Turns.{holders-of, chosen}
 use Rattle.run.specs.Steps.{Steps}
 
@@ -28,8 +28,6 @@ pub data Halts : State → List ℕ → ℕ → Type 0 where
   -- the command chosen by the next byte meets that condition
   at-34 : {st : State} {e : ℕ} {es : List ℕ} → (Due st → ⊥) → Full (picked e st) st → Halts st (e ∷ es) full
   at-35 : {st : State} {e : ℕ} {es : List ℕ} → (Due st → ⊥) → Exceeded (picked e st) st → Halts st (e ∷ es) exceeded
-  -- the schedule move that is due does
-  at-36 : {st : State} {es : List ℕ} → Due st → Nested st → Halts st es nested
 
 -- one step: by no byte, the schedule makes the move that is due; by a byte, where none is, the instance that it picks takes a command
 pub data Step (p : Program) : State → Option ℕ → State → Type 0 where

@@ -6,7 +6,7 @@ use mathlib.Core.Bool.{true, false}
 use mathlib.Core.List.{List, [], _∷_}
 use Rattle.program.specs.Tree.{Program}
 use Rattle.machine.specs.Published.{Sched.done}
-use Rattle.machine.specs.Machine.{Machine, Out.next, Out.refused, Out.stuck, command, move}
+use Rattle.machine.specs.Machine.{Machine, Out.refused, Out.stuck, Moved.next, Moved.stuck, command, move}
 use Rattle.run.specs.Turns.{chosen}
 use Rattle.run.specs.Holders.{holders, due}
 use Rattle.machine.specs.Stops.{ended, out-of-turns}
@@ -14,18 +14,16 @@ use Rattle.run.specs.Steps.{Steps}
 use Rattle.run.specs.Visits.{Acts}
 use Rattle.run.specs.Run.{Outcome, Outcome.stopped, Outcome.jammed, Settled, Settled.hold, Settled.stop}
 
--- moves until none is due, the schedule is empty or none is made
+-- moves until none is due, the schedule is empty or no rule fits
 pub data Settles (p : Program) : Machine → Settled → Type 0 where
   holds : {m : Machine} {h : ℕ} {hs : List ℕ} → holders m ≡ h ∷ hs → Settles p m (hold m h hs)
   ends : {m : Machine} → due m ≡ true → m .sched ≡ done → Settles p m (stop (stopped ended 0 m))
-  refuses : {m : Machine} {n : ℕ} → due m ≡ true → move p m ≡ refused n → Settles p m (stop (stopped n 0 m))
   sticks : {m : Machine} → due m ≡ true → (m .sched ≡ done → ⊥) → move p m ≡ stuck → Settles p m (stop jammed)
   moves : {m m′ : Machine} {x : Settled} → due m ≡ true → move p m ≡ next m′ → Settles p m′ x → Settles p m x
 
 -- at a machine, with these bytes left, its run has come to a number
 pub data Rests (p : Program) : Machine → List ℕ → ℕ → Type 0 where
   ends : {m : Machine} {es : List ℕ} → due m ≡ true → m .sched ≡ done → Rests p m es ended
-  refuses : {m : Machine} {es : List ℕ} {n : ℕ} → due m ≡ true → move p m ≡ refused n → Rests p m es n
   lasts : {m : Machine} → due m ≡ false → Rests p m [] out-of-turns
   fails : {m : Machine} {e n : ℕ} {es : List ℕ} → due m ≡ false → command p (chosen (holders m) e) m ≡ refused n → Rests p m (e ∷ es) n
 

@@ -5,7 +5,7 @@ use mathlib.Core.Path.{_≡_, subst}
 use mathlib.Core.Option.{some}
 use mathlib.Core.List.{List, [], _∷_}
 use Rattle.program.specs.Tree.{Program}
-use Rattle.machine.specs.Machine.{Machine, Out.next, move}
+use Rattle.machine.specs.Machine.{Machine, Moved.next, move}
 use Rattle.machine.specs.Measure.{total, codes, share-of}
 use Rattle.machine.specs.MeasureLaws.{command-shortens, moved-codes}
 use Rattle.run.specs.Turns.{chosen}

@@ -6,7 +6,7 @@ use mathlib.Core.Bool.{true, false}
 use mathlib.Core.Option.{Option, none, some}
 use mathlib.Core.List.{List}
 use Rattle.program.specs.Tree.{Program}
-use Rattle.machine.specs.Machine.{Machine, Out.next, command, move}
+use Rattle.machine.specs.Machine.{Machine, Out.next, Moved.next, command, move}
 use Rattle.run.specs.Turns.{chosen}
 use Rattle.run.specs.Holders.{holders, due}
 use Rattle.run.specs.Steps.{Steps}

@@ -6,19 +6,19 @@ use native.Mathlib.Omega.{arith}
 use native.Mathlib.Numerals.{add-one}
 use lib.ListN.{getD}
 use lib.Pow.{pow-mono}
-use borrow.Author.Tests.{lt-ltb, le-ltb, eq-eqb, ne-eqb}
-use Rattle.types.specs.Limits.{max-stability}
+use borrow.Author.Tests.{le-ltb, eq-eqb, ne-eqb}
+use Rattle.types.specs.Limits.{fix-levels}
 use Rattle.layout.specs.declared.Numbers.{Numbers}
-use Rattle.layout.specs.State.{state-of, set-place, set-number, placed}
+use Rattle.layout.specs.State.{state-of, set-place, placed}
 use Rattle.memory.specs.Plan.{fix-code, round-code}
-use Rattle.memory.specs.Move.{nested, begin-all, do-start, do-fix, do-round, move-by, move}
+use Rattle.memory.specs.Move.{begin-all, do-start, do-fix, do-round, move-by, move}
 use Rattle.memory.specs.MoveLaws.{move-start}
 use Rattle.scheduler.specs.Makes.{Makes, Moves}
 
 -- Entries of the open Fixes ---------------------------------------------------------
 
 -- few Fixes have few entries
-pub entries-low : (f s : ℕ) → s < 2 ^ f → f < max-stability → s < 128
+pub entries-low : (f s : ℕ) → s < 2 ^ f → f < fix-levels → s < 128
 entries-low f s h l = let m : 2 ^ f ≤ 2 ^ 7 = pow-mono {i = f} {j = 7} (omega arith) in omega arith
 
 -- an entry that is true is that of a Fix
@@ -29,14 +29,9 @@ entry-open (suc f) s h e = omega arith
 -- A Fix -----------------------------------------------------------------------------
 
 module _ (n : Numbers) where
-  pub fix-opens : n .fixes < max-stability → Makes do-fix n (placed n (n .place + 1) (n .fixes + 1) (2 * n .stable + 1))
+  pub fix-opens : Makes do-fix n (placed n (n .place + 1) (n .fixes + 1) (2 * n .stable + 1))
   unfolding do-fix
-  fix-opens h l x =
-      rw (add-one (n .place), add-one (n .fixes), add-one (2 * n .stable), lt-ltb (n .fixes) max-stability h, do-fix)
-
-  pub fix-nested : max-stability ≤ n .fixes → Makes do-fix n (set-number n nested)
-  unfolding do-fix
-  fix-nested h l x = rw (le-ltb (n .fixes) max-stability h, do-fix)
+  fix-opens l x = rw (add-one (n .place), add-one (n .fixes), add-one (2 * n .stable))
 
   pub round-out : (t : ℕ) → n .stable % 2 ≡ 1 → Makes (do-round t) n (placed n (n .place + 1) (n .fixes - 1) (n .stable / 2))
   unfolding do-round

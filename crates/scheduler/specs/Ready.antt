@@ -1,8 +1,9 @@
 -- What the code of a move may rely on, as plain bounds (01, 'Table and turns'): its places lie in the lists, and it stands at an item.
 use Prim.Native.Nat.{ℕ, _*_, _^_, _<_, _≤_}
+use mathlib.Core.Path.{_≡_}
 use mathlib.Core.List.{List}
 use lib.ListN.{length, getD}
-use Rattle.types.specs.Limits.{max-structs, step-names}
+use Rattle.types.specs.Limits.{max-structs, step-names, fix-levels}
 use Rattle.layout.specs.Layout.{head, head-size, struct-of, end-of}
 use Rattle.layout.specs.declared.Numbers.{Numbers}
 use Rattle.memory.specs.Plan.{fix-code, round-code}
@@ -28,3 +29,5 @@ pub record Movable (items spans heads : List ℕ) (n : Numbers) : Type 0 where
   pub within : n .place < length items
   pub item : fix-code < getD items (n .place) 0 → round-code 0 ≤ getD items (n .place) 0
   pub entries : n .stable < 2 ^ n .fixes
+  -- where a Fix comes next, an entry is free
+  pub free : getD items (n .place) 0 ≡ fix-code → n .fixes < fix-levels

@@ -6,8 +6,8 @@ use mathlib.Core.Option.{some}
 use mathlib.Core.List.{List, [], _∷_}
 use native.Mathlib.Omega.{arith}
 use lib.ListN.{length, getD, getElem?}
-use Rattle.types.specs.Limits.{max-structs}
-use Rattle.machine.specs.Published.{Sched, Sched.done}
+use Rattle.types.specs.Limits.{max-structs, fix-levels}
+use Rattle.machine.specs.Published.{Sched, Sched.done, Sched.fixpoint}
 use Rattle.machine.specs.Machine.{Instance, Machine}
 use Rattle.layout.specs.State.{State}
 use Rattle.memory.specs.Plan.{fix-code, round-code, At, At.at-end, At.at-start, At.at-fix, At.at-round}
@@ -32,6 +32,14 @@ item-is (at-start {c = c} q e r) n h = let u = code-below c q in absurd (omega a
 item-is (at-fix e b q r) n h = absurd (omega arith)
 item-is (at-round b e r) n h = omega arith
 
+-- what holds where a Fix comes next holds at its code
+fix-at : {items : List ℕ} {a : ℕ} {s : Sched} {k : ℕ} → At items a s → ((f r : Sched) → s ≡ fixpoint f r → k < fix-levels) → getD items a 0 ≡ fix-code
+    → k < fix-levels
+fix-at (at-end e) h q = absurd (omega arith)
+fix-at (at-start {c = c} r e w) h q = let u = code-below c r in absurd (omega arith)
+fix-at (at-fix {f = f} {s = s} e b r w) h q = h f s refl
+fix-at (at-round b e r) h q = absurd (omega arith)
+
 at-place : (is : List Instance) (l : ℕ) → l < length is → (i : Instance) × (getElem? is l ≡ some i)
 at-place [] l h = absurd (omega arith)
 at-place (i ∷ is) zero h = (i, refl)
@@ -50,11 +58,13 @@ module _ {list items : List ℕ} (m : Machine) {z : State} (S : Stands list (At 
       }
 
   pub stands-movable : (spans : List ℕ) → spans-size ≤ length spans → (m .sched ≡ done → ⊥)
+      → ((f r : Sched) → m .sched ≡ fixpoint f r → length (m .stability) < fix-levels)
       → Movable items spans (z .heads) (z .machine)
-  stands-movable spans h n = record {
+  stands-movable spans h n k = record {
     spanned = h;
     rows = stands-rows;
     within = at-within items (S .scheduled);
     item = item-is (S .scheduled) n;
     entries = rw (S .opened, S .entries) (bits-below (m .stability));
+    free = λ e. rw (S .opened) (fix-at (S .scheduled) k e);
   }

@@ -4,23 +4,20 @@ use layout::Numbers;
 use layout::codes;
 ghost use mathlib.Core.Path.{_≡_};
 ghost use Prim.Native.Nat.{_<_, _^_};
+ghost use Rattle.types.specs.Limits.{fix-levels};
 ghost use Rattle.memory.specs.Move.{do-fix, do-round};
 ghost use Rattle.scheduler.specs.Makes.{Makes, Moves};
 ghost use Rattle.scheduler.specs.Ready.{Movable};
 
-// A Fix begins, or is one too many.
+// A Fix begins, with an entry more.
 fn fix(numbers: Numbers) -> Numbers
-    requires { ⌜ (numbers .place < 2 ^ 63) × (numbers .stable < 2 ^ (numbers .fixes)) ⌝ }
+    requires { ⌜ (numbers .place < 2 ^ 63) × (numbers .stable < 2 ^ (numbers .fixes)) × (numbers .fixes < fix-levels) ⌝ }
     ensures { λ r. ⌜ Makes do-fix numbers r ⌝ }
 {
     let mut next = numbers;
-    if numbers.fixes < types::MAX_STABILITY {
-        next.place = numbers.place + 1;
-        next.fixes = numbers.fixes + 1;
-        next.stable = 2 * numbers.stable + 1;
-        return next;
-    }
-    next.number = types::number::NESTED;
+    next.place = numbers.place + 1;
+    next.fixes = numbers.fixes + 1;
+    next.stable = 2 * numbers.stable + 1;
     next
 }
 

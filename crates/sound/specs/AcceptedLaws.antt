@@ -5,10 +5,10 @@ use mathlib.Core.Path.{_≡_}
 use mathlib.Core.Option.{some}
 use mathlib.Core.List.{List, [], _∷_, map}
 use lib.ListN.{length, getD, length-map}
-use Rattle.types.specs.Limits.{first-local}
+use Rattle.types.specs.Limits.{first-local, fix-levels}
 use Rattle.types.specs.Types.{IsType}
 use Rattle.program.specs.Tree.{Stmts, Program}
-use Rattle.program.specs.Counts.{All, Few, CountsStmts, CountsStep, Counts}
+use Rattle.program.specs.Counts.{All, Few, fixes-in, CountsSchedule, CountsStmts, CountsStep, Counts}
 use Rattle.commands.specs.Context.{params-of, context, step-of}
 use Rattle.table.specs.Table.{Record}
 use Rattle.machine.specs.Published.{structs}
@@ -42,6 +42,11 @@ module _ (p : Program) (counts : Counts p) where
       let f = all-at (Few 0 8 C) (p .steps) k (omega arith, omega arith, tt) (counts .2) in
       rw q at (of-each C (f .2) m .2)
 
+  -- Fixes nest within their levels
+  schedule-counted : fixes-in (p .schedule) ≤ fix-levels
+  unfolding Counts CountsSchedule
+  schedule-counted = counts .3 .3
+
 -- the program of a run that begins is accepted
 pub ready-accepted : {x y es out list : List ℕ} {p : Program} {rs : List Record} → Runnable x y es out list p rs → Accepted p
 ready-accepted r = r .program .program
@@ -54,4 +59,5 @@ accepted-firm {p} a = record {
   sized = λ k n {b} e.
       rw (length-map (p .params) length) at (noted-sized (map length (p .params)) (context p k b) b (step-counted p (a .0) k n e));
   few = λ k. params-counted p (a .0) k .0;
+  levels = omega (arith, schedule-counted p (a .0));
 }

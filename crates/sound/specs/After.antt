@@ -4,14 +4,14 @@ use mathlib.Core.Path.{_≡_, refl, ap}
 use mathlib.Core.Bool.{true, false}
 use mathlib.Core.List.{List, [], _∷_}
 use Rattle.program.specs.Tree.{Program}
-use Rattle.machine.specs.Machine.{Machine, Out, Out.next, Out.refused, Out.stuck, command, move}
+use Rattle.machine.specs.Machine.{Machine, Out, Out.next, Out.refused, Out.stuck, Moved, Moved.next, Moved.stuck, command, move}
 use Rattle.run.specs.Turns.{chosen}
 use Rattle.run.specs.Holders.{holders, due}
 use Rattle.run.specs.TurnLaws.{due-none, some-due}
 use Rattle.run.specs.Steps.{Steps.here, Steps.silent, Steps.reads}
 use Rattle.run.specs.Visits.{Acts.moves, Acts.takes, Visits}
 
--- on from where an act leads; where it leads nowhere, the run stays
+-- on from where a command leads; where it leads nowhere, the run stays
 unfoldable pub onward : (Machine → Machine) → Machine → Out → Machine
 onward k m (next z) = k z
 onward k m (refused n) = m
@@ -19,7 +19,7 @@ onward k m stuck = m
 
 -- an act of a machine with these holders
 unfoldable pub act-on : Program → (Machine → List ℕ → Machine) → Machine → List ℕ → List ℕ → Machine
-act-on p k m [] es = onward (λ z. k z es) m (move p m)
+act-on p k m [] es = elim (move p m) [ next z ↦ k z es | stuck ↦ m ]
 act-on p k m (h ∷ hs) [] = m
 act-on p k m (h ∷ hs) (e ∷ es) = onward (λ z. k z es) m (command p (chosen (h ∷ hs) e) m)
 
@@ -34,10 +34,8 @@ module _ (p : Program) where
 
   -- an act, and on by k
   module _ (k : Machine → List ℕ → Machine) (on : (z : Machine) (es : List ℕ) → Visited z es (k z es)) (m : Machine) where
-    moved : (es : List ℕ) → due m ≡ true → (o : Out) → move p m ≡ o → Visited m es (onward (λ z. k z es) m o)
-    unfolding onward
+    moved : (es : List ℕ) → due m ≡ true → (o : Moved) → move p m ≡ o → Visited m es (elim o [ next z ↦ k z es | stuck ↦ m ])
     moved es q (next z) c = let (fs, (t, v)) = on z es in (fs, (t, silent (moves q c) v))
-    moved es q (refused n) c = (es, (0, here))
     moved es q stuck c = (es, (0, here))
 
     taken : (e : ℕ) (es : List ℕ) → due m ≡ false → (o : Out) → command p (chosen (holders m) e) m ≡ o

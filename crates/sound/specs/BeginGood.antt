@@ -48,7 +48,8 @@ open-item (call n) o = open-start o
 open-item (call-in k n) o = open-start o
 open-item (fix is) o = open-fix (unbegun is) o
 
-open-items : (is : Items) → Open (of-items is) 0
+-- no Fix of a program's schedule has begun
+pub open-items : (is : Items) → Open (of-items is) 0
 unfolding of-items
 open-items stop = open-done
 open-items (item i is) = open-item i (open-items is)

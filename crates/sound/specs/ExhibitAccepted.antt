@@ -19,7 +19,7 @@ use Rattle.commands.specs.Numbers.{no-breach, breach-number}
 use Rattle.commands.specs.NumbersLaws.{number-accepted}
 use Rattle.table.specs.Table.{Record, struct-at, HeldTable, References, TableRight}
 use Rattle.machine.specs.Published.{StepCall.global, Sched.done, Sched.start, Sched.active}
-use Rattle.machine.specs.Machine.{tagged, Machine, Out.next, move}
+use Rattle.machine.specs.Machine.{tagged, Machine, Moved.next, move}
 use Rattle.run.specs.Holders.{holders}
 use Rattle.machine.specs.Stops.{ended}
 use Rattle.run.specs.Run.{Outcome.stopped, run}

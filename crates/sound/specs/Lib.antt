@@ -3,6 +3,7 @@ pub mod Sized
 pub mod Firm
 pub mod Started
 pub mod Invariant
+pub mod Shallow
 pub mod Conditions
 pub mod Tabled
 pub mod NeverStuck
@@ -25,6 +26,7 @@ pub mod ConsKept
 pub mod CommandKept
 pub mod MoveKept
 pub mod BeginGood
+pub mod ShallowLaws
 pub mod HolderLaws
 pub mod ConditionLaws
 pub mod NeverStuckLaws

@@ -1,4 +1,4 @@
--- A move of a schedule that is not empty keeps the invariant, or is refused with 36; it never lacks a rule.
+-- A move of a schedule that is not empty keeps the invariant; it never lacks a rule.
 use Prim.Native.Nat.{ℕ, suc, _-_, _≤_}
 use native.Mathlib.Omega.{arith}
 use mathlib.Core.Path.{_≡_, refl, ap, _∙_}
@@ -7,40 +7,37 @@ use mathlib.Core.Option.{Option, none, some}
 use mathlib.Core.Logic.{_⊎_, inl, inr}
 use mathlib.Core.List.{List, [], _∷_, map, List·Memᴰ·not-nil}
 use lib.ListN.{length, getElem?}
-use lib.Dec.{ltb}
-use Rattle.types.specs.Limits.{max-stability}
 use Rattle.program.specs.Tree.{Stmts, Program}
 use Rattle.machine.specs.Published.{StepCall, called, Sched, Sched.done, Sched.start, Sched.fixpoint, Sched.active, before, of-items}
-use Rattle.machine.specs.Machine.{Instance, Machine, machine, Out.next, Out.refused, Out.stuck, given, started, repeat, move-by, move}
-use Rattle.machine.specs.Stops.{nested}
+use Rattle.machine.specs.Machine.{Instance, Machine, Moved, Moved.next, Moved.stuck, given, started, repeat, move-by, move}
 use Rattle.machine.specs.CallLaws.{called-step}
 use Rattle.machine.specs.RepresentsLaws.{Still}
 use Rattle.commands.specs.Tags.{at-start, Way.start as begins}
-use Rattle.sound.specs.Invariant.{Place, Place.resting, Place.passing, GoodInst, GoodAll, Unbegun, Open, Open.open-start, Open.open-fix, Open.open-active}
+use Rattle.sound.specs.Invariant.{Place, Place.resting, Place.passing, GoodInst, GoodAll, Good, Unbegun, Open, Open.open-start, Open.open-fix, Open.open-active}
 use Rattle.sound.specs.Started.{Left, Left.past, Left.into, Left.again, Left.out}
 use Rattle.sound.specs.Keeps.{Keeps}
 use Rattle.sound.specs.ElemLaws.{none-some, at-map, map-at, all-elem}
 use Rattle.sound.specs.GoodLaws.{inst-kept}
-use Rattle.sound.specs.Advance.{Kept}
 use Rattle.sound.specs.Firm.{Firm}
 use Rattle.commands.specs.Context.{context, step-of}
 use Rattle.commands.specs.Noted.{noted}
 use Rattle.commands.specs.Living.{alive, lives-at, Among}
 
--- the number of a move
-abbrev pub Blocked : ℕ → Type 0
-Blocked n = n ≡ nested
+-- what a move comes to keeps the invariant
+abbrev pub MoveKept : Program → Moved → Type 0
+MoveKept p (next m) = Good p m
+MoveKept p stuck = ⊥
 
 -- Schedules ----------------------------------------------------------------------
 
 module _ {s : Sched} {k : ℕ} where
-  past-start : {a : StepCall} → Open (start a s) k → Open s k
+  pub past-start : {a : StepCall} → Open (start a s) k → Open s k
   past-start (open-start o) = o
 
-  past-fix : {f : Sched} → Open (fixpoint f s) k → (Unbegun f) × (Open s k)
+  pub past-fix : {f : Sched} → Open (fixpoint f s) k → (Unbegun f) × (Open s k)
   past-fix (open-fix u o) = (u, o)
 
-  past-active : {f : Sched} → Open (active f s) (suc k) → (Unbegun f) × (Open s k)
+  pub past-active : {f : Sched} → Open (active f s) (suc k) → (Unbegun f) × (Open s k)
   past-active (open-active u o) = (u, o)
 
 -- a Fix that has begun has its entry
@@ -48,7 +45,7 @@ pub active-open : {f s : Sched} {k : ℕ} → Open (active f s) k → k ≡ 0 �
 active-open (open-active u o) e = omega arith
 
 -- what has not begun stands before an open schedule
-open-before : (f : Sched) {s : Sched} {k : ℕ} → Unbegun f → Open s k → Open (before f s) k
+pub open-before : (f : Sched) {s : Sched} {k : ℕ} → Unbegun f → Open s k → Open (before f s) k
 unfolding before Unbegun
 open-before done u o = o
 open-before (start a f) u o = open-start (open-before f u o)
@@ -130,11 +127,11 @@ module _ {p : Program} (firm : Firm p) where
   unfolding started
   started-good a is l i g = given-good a is l i (called p a (i .struct)) refl g
 
--- a move where no instance holds commands keeps the invariant, or is refused with 36
+-- a move where no instance holds commands keeps the invariant
 pub move-kept : {p : Program} → Firm p → (s : Sched) (is : List Instance) (b : List Bool) → GoodAll p none is → Open s (length b)
     → Left (of-items (p .schedule)) s
     → (s ≡ done → ⊥)
-    → Kept p Blocked (move-by p s is b)
+    → MoveKept p (move-by p s is b)
 unfolding move-by repeat
 move-kept firm done is b a o l h = absurd (h refl)
 move-kept {p} firm (start c s) is b a o l h =
@@ -145,12 +142,8 @@ move-kept {p} firm (start c s) is b a o l h =
       opened = past-start o;
       left = past l;
     }
-move-kept {p} firm (fixpoint f s) is b a o l h = go (ltb (length b) max-stability) refl
-  where
-    go : (t : Bool) → ltb (length b) max-stability ≡ t
-        → Kept p Blocked (elim t [ true ↦ next (machine (before f (active f s)) is (true ∷ b)) | false ↦ refused nested ])
-    go true e = let (u, r) = past-fix o in record { runs = none; all = a; running = tt; opened = open-before f u (open-active u r); left = into l }
-    go false e = refl
+move-kept firm (fixpoint f s) is b a o l h =
+    let (u, r) = past-fix o in record { runs = none; all = a; running = tt; opened = open-before f u (open-active u r); left = into l }
 move-kept firm (active f s) is [] a o l h = absurd (active-open o refl)
 move-kept firm (active f s) is (true ∷ b) a o l h = record { runs = none; all = a; running = tt; opened = past-active o .1; left = out l }
 move-kept firm (active f s) is (false ∷ b) a o l h =

@@ -12,6 +12,7 @@ use Rattle.commands.specs.Bounds.{program-depth}
 use Rattle.table.specs.Table.{Record, TableRight}
 use Rattle.machine.specs.Published.{Sched.done, State}
 use Rattle.machine.specs.Represents.{Represents}
+use Rattle.machine.specs.Stops.{ended, out-of-turns, full, exceeded}
 use Rattle.machine.specs.Machine.{Instance, Machine, command, move}
 use Rattle.run.specs.Turns.{chosen}
 use Rattle.run.specs.Holders.{holders, due}
@@ -25,7 +26,7 @@ use Rattle.run.specs.Visits.{Acts, Acts.moves, Acts.takes, Visits}
 use Rattle.run.specs.VisitLaws.{one-way}
 use Rattle.run.specs.RunAgrees.{run-follows}
 use Rattle.run.specs.RunAgreesVisits.{run-visits, run-turns}
-use Rattle.run.specs.HaltLaws.{runs-halts}
+use Rattle.run.specs.HaltLaws.{halts-numbers, runs-halts}
 use Rattle.run.specs.Begin.{table-of}
 use Rattle.run.specs.Initial.{initial, Comes}
 use Rattle.run.specs.BeginLaws.{begin-represents, outcome-exact}
@@ -39,7 +40,7 @@ use Rattle.sound.specs.Conditions.{Condition}
 use Rattle.sound.specs.ConditionLaws.{condition-one, condition-last}
 use Rattle.sound.specs.Advance.{Kept}
 use Rattle.sound.specs.CommandKept.{Refused, command-kept}
-use Rattle.sound.specs.MoveKept.{Blocked, still-good, move-kept, done-stops}
+use Rattle.sound.specs.MoveKept.{MoveKept, still-good, move-kept, done-stops}
 use Rattle.sound.specs.BeginGood.{begin-good}
 use Rattle.sound.specs.HolderLaws.{chosen-holds}
 use Rattle.sound.specs.NeverStuck.{NeverStuck, Demand3}
@@ -47,8 +48,8 @@ use Rattle.sound.specs.NeverStuck.{NeverStuck, Demand3}
 -- The machines of a run --------------------------------------------------------------
 
 module _ {p : Program} (firm : Firm p) where
-  -- a schedule move that is due keeps the invariant, or is refused with 36
-  moved-kept : {m : Machine} → Good p m → due m ≡ true → (m .sched ≡ done → ⊥) → Kept p Blocked (move p m)
+  -- a schedule move that is due keeps the invariant
+  moved-kept : {m : Machine} → Good p m → due m ≡ true → (m .sched ≡ done → ⊥) → MoveKept p (move p m)
   moved-kept {m} g h d =
       move-kept firm (m .sched) (m .instances) (m .stability) (still-good p (m .instances) (due-still m h) (g .all)) (g .opened) (g .left) d
 
@@ -61,7 +62,7 @@ module _ {p : Program} (firm : Firm p) where
 
   -- a step of a run keeps it,
   pub acts-good : {m z : Machine} {a : Option ℕ} → Acts p m a z → Good p m → Good p z
-  acts-good {m} (moves h e) g = subst (Kept p Blocked) e (moved-kept g h (λ s. done-stops p m s e))
+  acts-good {m} (moves h e) g = subst (MoveKept p) e (moved-kept g h (λ s. done-stops p m s e))
   acts-good (takes {e = e} h q) g = let (i, a, k) = taken-kept e g h in subst (Kept p Refused) q k
 
   -- and so every machine that a run from one with the invariant passes through has it
@@ -82,7 +83,7 @@ Ends jammed = ⊥
 module _ {p : Program} (firm : Firm p) where
   -- with the invariant some rule fits,
   never-jams : {m : Machine} {es : List ℕ} → Good p m → Jams p m es → ⊥
-  never-jams g (sticks h d q) = subst (Kept p Blocked) q (moved-kept firm g h d)
+  never-jams g (sticks h d q) = subst (MoveKept p) q (moved-kept firm g h d)
   never-jams g (jams {e = e} h q) = let (i, a, k) = taken-kept firm e g h in subst (Kept p Refused) q k
 
   -- so the outcome of every run from a machine with the invariant is one
@@ -128,6 +129,12 @@ module _ {p : Program} (firm : Firm p) where
             final = λ w fs v. condition-last c v;
           }
       go jammed e s = absurd s
+
+-- it has come to its end, or to 33, 34 or 35
+pub never-stuck-numbers : {p : Program} {m : Machine} {es : List ℕ} (d : NeverStuck p m es)
+    → (d .number ≡ ended) ⊎ ((d .number ≡ out-of-turns) ⊎ ((d .number ≡ full) ⊎ (d .number ≡ exceeded)))
+never-stuck-numbers {es = es} d =
+    let (st, R, h) = d .exactly (d .last) (drop (d .turns) es) (d .visited) (d .number) .1 (refl, refl, refl) in halts-numbers h
 
 -- a run of an accepted program from any machine with the invariant that stands for a state is never stuck
 pub never-stuck : {p : Program} → Accepted p → {m : Machine} → Good p m → (st : State) → Represents m st → (es : List ℕ) → NeverStuck p m es

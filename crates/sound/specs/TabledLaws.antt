@@ -12,15 +12,14 @@ use mathlib.Core.List.{List, [], _∷_, _++_, map}
 use lib.ListN.{length, getElem?, set, length-set, length-map, length-append}
 use lib.Seq.{set-out}
 use lib.Dec.{ltb}
-use Rattle.types.specs.Limits.{first-local, max-instances, max-stability}
+use Rattle.types.specs.Limits.{first-local, max-instances}
 use Rattle.types.specs.Values.{Val, default}
 use Rattle.program.specs.Tree.{Stmts, Program}
 use Rattle.commands.specs.Context.{params-of}
 use Rattle.commands.specs.Noted.{Note, Note.n-cons, now-written}
 use Rattle.table.specs.Table.{Record, HeldRecord, HeldTable, TableRight}
-use Rattle.machine.specs.Published.{StepCall, called, Sched, Sched.done, Sched.start, Sched.fixpoint, Sched.active, Env, Env.env, assign, structs, before}
-use Rattle.machine.specs.Machine.{Instance, Machine, machine, Out, Out.next, Out.refused, Out.stuck, with-code, with-env, with-written, update-env, given, started, repeat, move-by, command}
-use Rattle.machine.specs.Stops.{nested}
+use Rattle.machine.specs.Published.{StepCall, called, Sched, Sched.done, Sched.start, Sched.fixpoint, Sched.active, Env, Env.env, assign, structs}
+use Rattle.machine.specs.Machine.{Instance, Machine, Out, Out.next, Out.refused, Out.stuck, Moved, Moved.next, Moved.stuck, with-code, with-env, with-written, update-env, given, started, repeat, move-by, command}
 use Rattle.machine.specs.Performed.{Performed, Performed.pushed, Performed.pushed-this, Performed.negated, Performed.read-one, Performed.skipped, Performed.wrote, Performed.calculated, Performed.exceeding, Performed.constructed, Performed.filled, Performed.branched, Performed.no-way}
 use Rattle.machine.specs.PerformedLaws.{by-ways}
 use Rattle.run.specs.Turns.{chosen}
@@ -100,11 +99,10 @@ module _ (p : Program) {is : List Instance} (t : Tabled p is) where
 -- Schedule moves -------------------------------------------------------------------
 
 module _ (p : Program) where
-  -- what an act comes to
-  abbrev Comes-to : Out → Type 0
-  Comes-to (next m) = Tabled p (m .instances)
-  Comes-to (refused n) = Unit {0}
-  Comes-to stuck = Unit {0}
+  -- what a move comes to
+  abbrev Moves-to : Moved → Type 0
+  Moves-to (next m) = Tabled p (m .instances)
+  Moves-to stuck = Unit {0}
 
   given-same : (o : Option Stmts) (i : Instance) → (given p o i .struct ≡ i .struct) × (given p o i .env ≡ i .env)
   unfolding given
@@ -115,20 +113,22 @@ module _ (p : Program) where
   unfolding started
   started-same a i = given-same (called p a (i .struct)) i
 
-  move-tabled : (s : Sched) {is : List Instance} (b : List Bool) → Tabled p is → Comes-to (move-by p s is b)
+  move-tabled : (s : Sched) {is : List Instance} (b : List Bool) → Tabled p is → Moves-to (move-by p s is b)
   unfolding move-by repeat
   move-tabled done b t = tt
   move-tabled (start a s) b t = tabled-map p t (started p a) (started-same a)
-  move-tabled (fixpoint f s) {is} b t = go (ltb (length b) max-stability)
-    where
-      go : (u : Bool) → Comes-to (elim u [ true ↦ next (machine (before f (active f s)) is (true ∷ b)) | false ↦ refused nested ])
-      go true = t
-      go false = tt
+  move-tabled (fixpoint f s) b t = t
   move-tabled (active f s) [] t = tt
   move-tabled (active f s) (true ∷ b) t = t
   move-tabled (active f s) (false ∷ b) t = t
 
 -- Commands -------------------------------------------------------------------------
+
+-- what a command comes to
+abbrev Comes-to : Program → Out → Type 0
+Comes-to p (next m) = Tabled p (m .instances)
+Comes-to p (refused n) = Unit {0}
+Comes-to p stuck = Unit {0}
 
 module _ {p : Program} (firm : Firm p) {m : Machine} (good : Good p m) (t : Tabled p (m .instances)) (l : ℕ) where
   -- a holder's cons names a struct of the program
@@ -176,7 +176,7 @@ module _ {p : Program} (firm : Firm p) {m : Machine} (good : Good p m) (t : Tabl
 
 -- a step of a run keeps it,
 pub acts-tabled : {p : Program} → Firm p → {m z : Machine} {a : Option ℕ} → Acts p m a z → Good p m → Tabled p (m .instances) → Tabled p (z .instances)
-acts-tabled {p} firm {m} (moves h e) g t = subst (Comes-to p) e (move-tabled p (m .sched) (m .stability) t)
+acts-tabled {p} firm {m} (moves h e) g t = subst (Moves-to p) e (move-tabled p (m .sched) (m .stability) t)
 acts-tabled {p} firm {m} (takes {e = e} q c) g t = subst (Comes-to p) c (command-tabled firm g t (chosen (holders m) e))
 
 -- so it is in every machine that a run passes through

@@ -1,10 +1,10 @@
 -- The trace of a run (01, 'Table and turns', 'The words of demand 3'): a line for each move of the schedule and each turn, with the machine before it and
--- the one behind it. A refused act has no line: it changes nothing.
+-- the one behind it. A refused command has no line: it changes nothing.
 use Prim.Native.Nat.{ℕ, zero, suc}
 use mathlib.Core.Bool.{true, false}
 use mathlib.Core.List.{List, [], _∷_, _++_}
 use Rattle.program.specs.Tree.{Program}
-use Rattle.machine.specs.Machine.{Machine, Out, Out.next, Out.refused, Out.stuck, command, move}
+use Rattle.machine.specs.Machine.{Machine, Out, Out.next, Out.refused, Out.stuck, Moved, Moved.next, Moved.stuck, command, move}
 use Rattle.run.specs.Turns.{chosen}
 use Rattle.run.specs.Holders.{holders}
 use Rattle.run.specs.Steps.{Steps, Steps.here, Steps.silent, Steps.reads}
@@ -25,9 +25,8 @@ lines-of (reads {c = c} {d = d} {e = e} s v) = acted e (chosen (holders c) e) c 
 
 -- The executable trace ---------------------------------------------------------
 
-unfoldable pub move-line : (Machine → List Line) → Machine → Out → List Line
+unfoldable pub move-line : (Machine → List Line) → Machine → Moved → List Line
 move-line k m (next m′) = moved m m′ ∷ k m′
-move-line k m (refused n) = []
 move-line k m stuck = []
 
 unfoldable pub moves-by : (Machine → List Line) → Program → Machine → List ℕ → List Line

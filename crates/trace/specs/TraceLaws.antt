@@ -1,4 +1,4 @@
--- The trace of a run is the lines of the way that the run takes, one for each move and each turn, and none for a refused act; the machine behind its last
+-- The trace of a run is the lines of the way that the run takes, one for each move and each turn, and none for a refused command; the machine behind its last
 -- line is the run's last, and its turns are the run's (01, 'The words of demand 3').
 use Prim.Native.Nat.{ℕ, zero, suc}
 use native.Mathlib.Omega.{arith}
@@ -6,7 +6,7 @@ use mathlib.Core.Path.{_≡_, refl, sym, ap, _∙_}
 use mathlib.Core.Bool.{Bool, true, false}
 use mathlib.Core.List.{List, [], _∷_, _++_, append-nil}
 use Rattle.program.specs.Tree.{Program}
-use Rattle.machine.specs.Machine.{Machine, Out, Out.next, Out.refused, Out.stuck, command, move}
+use Rattle.machine.specs.Machine.{Machine, Out, Out.next, Out.refused, Out.stuck, Moved, Moved.next, Moved.stuck, command, move}
 use Rattle.run.specs.Turns.{chosen}
 use Rattle.run.specs.Holders.{holders, none-of, due}
 use Rattle.run.specs.Steps.{Steps, Steps.here, Steps.silent, Steps.reads}
@@ -63,14 +63,13 @@ module _ (p : Program) where
   moves-say zero m = tt
   moves-say (suc f) m = by (holders m) refl λ m′. moves-say f m′
     where
-      of-move : (o : Out) → due m ≡ true → move p m ≡ o → Before p f → MovesSay p m (move-line (λ m′. moves p f m′) m o) (moved-on (λ m′. settle p f m′) m o)
+      of-move : (o : Moved) → due m ≡ true → move p m ≡ o → Before p f → MovesSay p m (move-line (λ m′. moves p f m′) m o) (moved-on (λ m′. settle p f m′) o)
       of-move (next m′) d e r = say-first m m′ (moves p f m′) (settle p f m′) d e (r m′)
-      of-move (refused n) d e r = (refl, here-leads m)
       of-move stuck d e r = tt
 
       at-done : (b : Bool) → due m ≡ true → Before p f
           → MovesSay p m (elim b [ true ↦ [] | false ↦ move-line (λ m′. moves p f m′) m (move p m) ])
-          (elim b [ true ↦ stop (stopped 0 0 m) | false ↦ moved-on (λ m′. settle p f m′) m (move p m) ])
+          (elim b [ true ↦ stop (stopped 0 0 m) | false ↦ moved-on (λ m′. settle p f m′) (move p m) ])
       at-done true d r = (refl, here-leads m)
       at-done false d r = of-move (move p m) d refl r
 

@@ -2,10 +2,10 @@
 -- 'Numbers from the state'), as the code hands them out: each field is the definition of its name.
 use Rattle.types.specs.Limits.{max-structs, max-params, max-steps, step-names, max-statements, max-items, int-half, nat-end}
 use Rattle.types.specs.Limits.{first-local, variables, max-path, fix-levels, if-levels, expr-levels, max-instances, program-blocks}
-use Rattle.types.specs.Limits.{table-blocks, step-commands, max-commands, max-depth, schedule-items, max-turns, max-stability}
+use Rattle.types.specs.Limits.{table-blocks, step-commands, max-commands, max-depth, schedule-items, max-turns}
 use Rattle.types.specs.Types.{Ty.int, Ty.nat, Ty.bool, Ty.ref, code}
 use Rattle.types.specs.Numbers.{program-length, block-sums, block-layout, wrong-end, wrong-byte, over-limits, wrong-names, wrong-types, table-length}
-use Rattle.types.specs.Numbers.{table-block, table-end, table-value, no-room, many-turns, out-of-turns, full, exceeded, nested}
+use Rattle.types.specs.Numbers.{table-block, table-end, table-value, no-room, many-turns, out-of-turns, full, exceeded}
 use Rattle.types.specs.declared.Limits.{Limits}
 use Rattle.types.specs.declared.Codes.{Codes}
 use Rattle.types.specs.declared.number.Numbers.{Numbers}
@@ -34,7 +34,6 @@ limits = record {
   «max_depth» = max-depth;
   «schedule_items» = schedule-items;
   «max_turns» = max-turns;
-  «max_stability» = max-stability;
 }
 
 unfoldable pub codes : Codes
@@ -59,5 +58,4 @@ numbers = record {
   «out_of_turns» = out-of-turns;
   full = full;
   exceeded = exceeded;
-  nested = nested;
 }

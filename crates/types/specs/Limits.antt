@@ -82,9 +82,3 @@ schedule-items = 64
 
 abbrev pub max-turns : ℕ
 max-turns = 65536
-
--- 01, 'Numbers from the state' -------------------------------------------------
-
--- entries of the stability stack
-abbrev pub max-stability : ℕ
-max-stability = 8

@@ -63,7 +63,3 @@ full = 34
 -- zero divisor, or result outside its type
 abbrev pub exceeded : ℕ
 exceeded = 35
-
--- Fix met with 8 stability entries
-abbrev pub nested : ℕ
-nested = 36

@@ -54,9 +54,6 @@ pub const SCHEDULE_ITEMS: usize = 64;
 
 pub const MAX_TURNS: usize = 65536;
 
-// 01, 'Numbers from the state'
-pub const MAX_STABILITY: usize = 8;
-
 // The bytes of types; struct k's is k more than that of struct 0.
 pub const INT: u8 = 0;
 
@@ -90,7 +87,6 @@ pub struct Limits {
     pub max_depth: usize,
     pub schedule_items: usize,
     pub max_turns: usize,
-    pub max_stability: usize,
 }
 
 // Every byte of a type, likewise.
@@ -127,7 +123,6 @@ pub fn all_limits() -> Limits
         max_depth: MAX_DEPTH,
         schedule_items: SCHEDULE_ITEMS,
         max_turns: MAX_TURNS,
-        max_stability: MAX_STABILITY,
     }
 }
 

@@ -40,8 +40,6 @@ pub const FULL: u8 = 34;
 
 pub const EXCEEDED: u8 = 35;
 
-pub const NESTED: u8 = 36;
-
 // Every number, so that a contract can tie each constant to its definition.
 pub struct Numbers {
     pub program_length: u8,
@@ -61,7 +59,6 @@ pub struct Numbers {
     pub out_of_turns: u8,
     pub full: u8,
     pub exceeded: u8,
-    pub nested: u8,
 }
 
 pub fn all_numbers() -> Numbers
@@ -85,6 +82,5 @@ pub fn all_numbers() -> Numbers
         out_of_turns: OUT_OF_TURNS,
         full: FULL,
         exceeded: EXCEEDED,
-        nested: NESTED,
     }
 }

@@ -52,10 +52,8 @@ impl<'p> Machine<'p> {
     pub fn run(&mut self, turns: &[u8]) -> Ending {
         let mut taken = 0;
         let number = loop {
-            match self.settle() {
-                Ok(true) => {}
-                Ok(false) => break 0,
-                Err(refusal) => break refusal.number(),
+            if !self.settle() {
+                break 0;
             }
             let Some(&choice) = turns.get(taken) else {
                 break Refusal::NoTurnLeft.number();
@@ -69,15 +67,15 @@ impl<'p> Machine<'p> {
     }
 
     /// Moves the schedule until commands exist (true) or it is empty.
-    fn settle(&mut self) -> Result<bool, Refusal> {
+    fn settle(&mut self) -> bool {
         while self.holders.is_empty() {
-            match self.schedule.advance()? {
+            match self.schedule.advance() {
                 Moved::Started(parts) => self.start(parts),
                 Moved::Fix => {}
-                Moved::Empty => return Ok(false),
+                Moved::Empty => return false,
             }
         }
-        Ok(true)
+        true
     }
 
     /// Starts a step on every instance with commands for it. An instance

@@ -21,7 +21,6 @@ pub enum Refusal {
     NoTurnLeft = 33,
     InstancesFull = 34,
     Arithmetic = 35,
-    StabilityFull = 36,
 }
 
 impl Refusal {

@@ -1,11 +1,11 @@
 //! The schedule's position and the stability stack (000, section 4: FixInit,
-//! FixIter, FixTerm; 01, number 36).
+//! FixIter, FixTerm).
 
-use crate::limits::NESTING;
 use crate::program::{Move, Parts};
-use crate::refusal::Refusal;
 
 /// One entry for each Fix that was met and hasn't ended, as bits from below.
+/// Fix nests at most 8 deep, so one met finds 7 entries at most, and no number
+/// stands for a full stack (02 §9).
 #[derive(Clone, Copy, Debug, Default)]
 pub struct Stability {
     entries: u8,
@@ -13,13 +13,9 @@ pub struct Stability {
 }
 
 impl Stability {
-    fn push_stable(&mut self) -> Result<(), Refusal> {
-        if self.count == NESTING {
-            return Err(Refusal::StabilityFull);
-        }
+    fn push_stable(&mut self) {
         self.entries |= 1 << self.count;
         self.count += 1;
-        Ok(())
     }
 
     /// Ends a Fix whose entry on top is stable; sets it stable otherwise.
@@ -60,47 +56,25 @@ impl<'p> Schedule<'p> {
     }
 
     /// One move, made when no instance holds commands.
-    pub fn advance(&mut self) -> Result<Moved<'p>, Refusal> {
+    pub fn advance(&mut self) -> Moved<'p> {
         let Some(next) = self.moves.get(self.position) else {
-            return Ok(Moved::Empty);
+            return Moved::Empty;
         };
         let moved = match next {
             Move::Start(parts) => Moved::Started(parts),
             Move::FixOpen => {
-                self.stability.push_stable()?;
+                self.stability.push_stable();
                 Moved::Fix
             }
             Move::FixClose { body } => {
                 if !self.stability.ends() {
                     self.position = *body;
-                    return Ok(Moved::Fix);
+                    return Moved::Fix;
                 }
                 Moved::Fix
             }
         };
         self.position += 1;
-        Ok(moved)
-    }
-}
-
-#[cfg(test)]
-mod tests {
-    use super::*;
-
-    /// No accepted program nests Fix so deep; the rule stands all the same.
-    #[test]
-    fn a_ninth_fix_is_refused() {
-        let moves = [Move::FixOpen; 9];
-        let mut schedule = Schedule::new(&moves);
-        for _ in 0..8 {
-            assert!(matches!(schedule.advance(), Ok(Moved::Fix)));
-        }
-        let before = (schedule.position, schedule.stability.entries, schedule.stability.count);
-        assert!(matches!(schedule.advance(), Err(Refusal::StabilityFull)));
-        assert_eq!(
-            before,
-            (schedule.position, schedule.stability.entries, schedule.stability.count)
-        );
-        assert_eq!(before, (8, 255, 8));
+        moved
     }
 }

@@ -1,6 +1,4 @@
 //! Sentences of 01's "Table and turns" and "Numbers from the state".
-//! Number 36 can't be met by an accepted program: Fix nests at most 8 deep,
-//! an entry stands for each Fix around the one met, so there are at most 7.
 mod common;
 use common::*;
 
@@ -81,6 +79,23 @@ fn empty_steps_take_no_turn() {
     let nothing = program(&[&[0]], &[&[&empty]], &[2, 3, 1, 1, 0, 1, 0]);
     runs(&nothing, &table(&[(0, &[4])]), &[], 0, 0, &table(&[(0, &[4])]));
     runs(&nothing, &table(&[(0, &[4])]), &[1, 2, 3], 0, 0, &table(&[(0, &[4])]));
+}
+
+/// An entry stands for each Fix around the one met, so none is met with
+/// eight: the eighth ends as any other, and a ninth is no program.
+#[test]
+fn eight_fixes_end_and_nine_are_no_program() {
+    let set = step(0, &[&update(&[0], &int(5))]);
+    let nested =
+        |levels| program(&[&[0]], &[&[&set]], &join(&[&[1, 3].repeat(levels), &[1, 1, 0]]));
+    // A passage takes 3 of either instance. The first one changes the record,
+    // and then every Fix goes round once more, the innermost first.
+    for levels in 0..=8 {
+        let taken = 6 * (levels + 1);
+        runs(&nested(levels), &table(&[(0, &[4])]), &[0; 99], 0, taken, &table(&[(0, &[5])]));
+        runs(&nested(levels), &table(&[(0, &[5])]), &[0; 99], 0, 6, &table(&[(0, &[5])]));
+    }
+    refused(&nested(9), 5);
 }
 
 #[test]

@@ -15,6 +15,13 @@ returns c =
     let i = item-starts (a .items .now) (a .spans .now) (a .heads .now) (a .numbers) (then1 .if1 .taken) in
     λ x. rw (at-begin-all .begin-all .ensures) (i x)
 
+fix-requires : tie.Need-fix-requires
+fix-requires c κs =
+    let at-shared-slice-known2 = c .before .before .before .before in
+    let start = at-shared-slice-known2 .before .before in
+    let free = start .pre .free (c .if2 .taken) in
+    search needs
+
 returns-2 : tie.Need-returns-2
 returns-2 c =
     let then2 = c .before in
@@ -41,5 +48,5 @@ returns-3 c =
 pub advance-spec : {M : Type 1} → statement M
 advance-spec =
     tie.close
-    (tie.spec (λ c. search needs) (λ c. search needs) (λ c κs. search needs) (λ c. search needs) (λ c. search needs) returns (λ c κs. search needs)
+    (tie.spec (λ c. search needs) (λ c. search needs) (λ c κs. search needs) (λ c. search needs) (λ c. search needs) returns fix-requires
     returns-2 sub-round (λ c κs. search needs) returns-3)
