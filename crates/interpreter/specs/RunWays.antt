@@ -1,77 +1,59 @@
--- The ways through the loop of turns (01, 'Table and turns'): memory z₀ where the run begins, z₁ with b₁ instances that hold commands
--- where the loop does, and z with n of them behind i turns.
-use Prim.Native.Nat.{ℕ, _+_, _-_, _*_, _<_, _≤_}
-use mathlib.Core.Path.{_≡_, ap, sym, _∙_}
+-- The ways through the loop of turns (01, 'Table and turns'): memory z₀ where the run begins, z₁ where the loop does, and z behind i
+-- turns.
+use Prim.Native.Nat.{ℕ, _+_, _*_, _<_, _≤_}
+use mathlib.Core.Path.{_≡_, ap, _∙_}
 use mathlib.Core.List.{List}
-use native.Mathlib.Omega.{arith}
 use lib.ListN.{length, getD}
-use borrow.Author.Tests.{lt-ltb, le-ltb}
 use Rattle.machine.specs.Machine.{Machine}
 use Rattle.machine.specs.Stops.{out-of-turns}
-use Rattle.layout.specs.Layout.{head, head-size, next-of, end-of, holds}
+use Rattle.layout.specs.Layout.{head-size}
 use Rattle.layout.specs.State.{State, state-of}
 use Rattle.memory.specs.Fit.{Fit}
 use Rattle.memory.specs.Act.{act}
-use Rattle.memory.specs.Choose.{holding, picked}
+use Rattle.memory.specs.Choose.{Kept, picked}
 use Rattle.layout.specs.declared.Numbers.{Numbers}
 use Rattle.interpreter.specs.Ready.{Ready}
-use Rattle.interpreter.specs.Counting.{fewer}
-use Rattle.interpreter.specs.Running.{busy, Begun, Standing, Settling, Ending, Gone}
+use Rattle.interpreter.specs.Running.{Begun, Standing, Settling, Ending, Gone}
 use Rattle.interpreter.specs.TurnLaws.{picked-fits}
 use Rattle.interpreter.specs.RunningLaws.{ready-rows, moves-none, settles-held, runs-none, still-running, ends-over, ends-lasting, ends-failed, taken-turn, runs-more}
 
--- The count behind a command of instance l ------------------------------------------
-
-module _ (heads : List ℕ) (l n : ℕ) where
-  pub actor-holds : getD heads (head l next-of) 0 < getD heads (head l end-of) 0 → n ≡ fewer (holds heads l) n
-  unfolding fewer
-  actor-holds h = rw (lt-ltb (getD heads (head l next-of) 0) (getD heads (head l end-of) 0) h)
-
-  pub actor-ended : getD heads (head l end-of) 0 ≤ getD heads (head l next-of) 0 → n - 1 ≡ fewer (holds heads l) n
-  unfolding fewer
-  actor-ended h = rw (le-ltb (getD heads (head l next-of) 0) (getD heads (head l end-of) 0) h)
-
 -- The run ----------------------------------------------------------------------------
 
--- memory where a run begins has a row for each instance, and its numbers and heads stand by themselves
-module _ {counts list items spans h c : List ℕ} {n : Numbers} (begun : Begun counts list items spans (state-of n h c)) where
-  pub begun-rows : head-size * n .count ≤ length h
-  begun-rows = ready-rows (begun .ready)
+-- the numbers and heads where a run begins stand by themselves
+pub begun-standing : {counts list items spans h c : List ℕ} {n : Numbers} → Begun counts list items spans (state-of n h c) → Standing items spans h n
+begun-standing {counts} {list} {c = c} begun = record { counts = counts; list = list; cells = c; begun = begun }
 
-  pub begun-standing : Standing items spans h n
-  begun-standing = record { counts = counts; list = list; cells = c; begun = begun }
-
-module _ {counts list items spans es : List ℕ} {z₀ z₁ : State} {b₁ : ℕ} (begun : Begun counts list items spans z₀) (settled : Settling items spans z₀ z₁ b₁) where
+module _ {counts list items spans es : List ℕ} {z₀ z₁ : State} (begun : Begun counts list items spans z₀) (settled : Settling items spans z₀ z₁) where
   -- no turn yet
-  pub gone-none : Gone counts list items spans es z₁ b₁ 0 z₁ b₁
+  pub gone-none : Gone counts list items spans es z₁ 0 z₁
   gone-none p m s = runs-none s
 
-  module _ {i : ℕ} {z : State} {n : ℕ} (g : Gone counts list items spans es z₁ b₁ i z n) where
+  module _ {i : ℕ} {z : State} (g : Gone counts list items spans es z₁ i z) where
     -- The ends of the loop ------------------------------------------------------------
 
-    pub gone-over : n ≡ 0 → Ending counts list items spans es z₀ (z .machine .number) i z
+    pub gone-over : z .machine .holding ≡ 0 → Ending counts list items spans es z₀ (z .machine .number) i z
     gone-over h p m r = ends-over (g p m (settled p counts list m r)) h
 
-    module _ (h : 0 < n) where
+    module _ (h : 0 < z .machine .holding) where
       pub gone-lasting : i ≡ length es → Ending counts list items spans es z₀ out-of-turns i z
       gone-lasting k p m r = ends-lasting (g p m (settled p counts list m r)) h k
 
       -- A turn ----------------------------------------------------------------------
 
-      gone-ready : (m : Machine) × (Ready (begun .program) counts list items spans m z) × (n ≡ busy z)
+      gone-ready : (m : Machine) × Ready (begun .program) counts list items spans m z
       gone-ready =
-          let (m, r, b, q) = still-running (g (begun .program) (begun .machine) (settled (begun .program) counts list (begun .machine) (begun .ready))) h in
-          (m, r, b)
+          let (m, r, q) = still-running (g (begun .program) (begun .machine) (settled (begun .program) counts list (begun .machine) (begun .ready))) h in
+          (m, r)
 
       -- what the choice of a holder needs
-      pub gone-rows : (head-size * z .machine .count ≤ length (z .heads)) × (n ≡ holding (z .heads) 0 (z .machine .count)) × (0 < n)
-      gone-rows = let (m, r, b) = gone-ready in (ready-rows r, b, h)
+      pub gone-rows : (head-size * z .machine .count ≤ length (z .heads)) × Kept z × (0 < z .machine .holding)
+      gone-rows = let (m, r) = gone-ready in (ready-rows r, r .kept, h)
 
       -- the next byte picks instance l
       module _ {l : ℕ} (q : l ≡ picked (z .heads) (z .machine .count) (getD es i 0)) where
         -- what its command needs
-        pub gone-fits : Fit list counts l z
-        gone-fits = let (m, r, b) = gone-ready in rw q (picked-fits r (omega arith) (getD es i 0))
+        pub gone-fits : Fit list counts l z × (0 < z .machine .holding)
+        gone-fits = let (m, r) = gone-ready in (rw q (picked-fits r h (getD es i 0)), h)
 
         module _ (k : i < length es) {y : State} (a : y ≡ act list counts l z) where
           acted : y ≡ act list counts (picked (z .heads) (z .machine .count) (getD es i 0)) z
@@ -81,33 +63,20 @@ module _ {counts list items spans es : List ℕ} {z₀ z₁ : State} {b₁ : ℕ
           gone-failed c p m r = ends-failed (g p m (settled p counts list m r)) h k acted c
 
           module _ (c : y .machine .number ≡ 0) where
-            gone-taken : (m : Machine) × (Ready (begun .program) counts list items spans m y) × (busy y ≡ fewer (holds (y .heads) l) n)
+            gone-taken : (m : Machine) × Ready (begun .program) counts list items spans m y
             gone-taken =
-                let (m, r, w, b) =
+                let (m, r, w) =
                 taken-turn (g (begun .program) (begun .machine) (settled (begun .program) counts list (begun .machine) (begun .ready))) h k acted c in
-                (m, r, rw q b)
+                (m, r)
 
             -- memory behind it is ready
             pub gone-begun : Begun counts list items spans y
-            gone-begun = let (m, r, b) = gone-taken in record { program = begun .program; machine = m; ready = r }
-
-            -- as many hold commands, or one fewer
-            pub gone-count : fewer (holds (y .heads) l) n ≡ holding (y .heads) 0 (y .machine .count)
-            gone-count = let (m, r, b) = gone-taken in sym b
-
-            pub gone-row : head l end-of < length (y .heads)
-            gone-row =
-                let (m, r, b) = gone-taken in
-                let f = gone-fits in
-                let u = f .chosen in
-                let v = f .few in
-                let w = r .stands .heads-long in
-                omega arith
+            gone-begun = let (m, r) = gone-taken in record { program = begun .program; machine = m; ready = r }
 
             -- a turn more, and the moves behind it
-            pub gone-more : {x : State} {j : ℕ} → Settling items spans y x j → Gone counts list items spans es z₁ b₁ (i + 1) x j
+            pub gone-more : {x : State} → Settling items spans y x → Gone counts list items spans es z₁ (i + 1) x
             gone-more s p m t = runs-more (g p m t) h k acted c (λ w r. s p counts list w r)
 
             -- a turn more, where someone still holds commands: the schedule does not move
-            pub gone-on : {n′ : ℕ} → n′ ≡ fewer (holds (y .heads) l) n → 0 < n′ → Gone counts list items spans es z₁ b₁ (i + 1) y n′
-            gone-on e s p m t = runs-more (g p m t) h k acted c (λ w r. settles-held (moves-none r) (e ∙ gone-count) s)
+            pub gone-on : 0 < y .machine .holding → Gone counts list items spans es z₁ (i + 1) y
+            gone-on s p m t = runs-more (g p m t) h k acted c (λ w r. settles-held (moves-none r) s)

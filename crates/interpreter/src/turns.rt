@@ -1,14 +1,8 @@
 // The whole list of turn bytes: one command for each, and the schedule's moves between them (01, 'Table and turns').
 use crate::moving::settle;
 use engine::Machine;
-use scheduler::choose::holding;
 use scheduler::choose::picked_of;
-ghost use mathlib.Core.Path.{_≡_};
-ghost use Prim.Native.Nat.{_<_};
-ghost use lib.ListN.{length};
-ghost use Rattle.layout.specs.Layout.{head, end-of, holds};
 ghost use Rattle.layout.specs.State.{state-of};
-ghost use Rattle.interpreter.specs.Counting.{fewer};
 ghost use Rattle.interpreter.specs.Running.{Begun, Ending};
 
 // Where a run ends: the machine, the number (0, or 33 to 35), and the turns taken.
@@ -16,18 +10,6 @@ pub struct Ran {
     pub machine: Machine,
     pub number: u8,
     pub taken: usize,
-}
-
-// How many hold commands behind a command of instance l, where n did before it: the others hold what they held.
-fn left_holding(heads: &[usize], l: usize, n: usize) -> usize
-    requires { ⌜ (head l end-of < length (now heads)) × (0 < n) ⌝ }
-    ensures { λ r. ⌜ r ≡ fewer (holds (now (heads .entry)) l) n ⌝ }
-{
-    let at = layout::HEAD_SIZE * l;
-    if heads[at + layout::NEXT] < heads[at + layout::END] {
-        return n;
-    }
-    n - 1
 }
 
 // A run of a machine with these turn bytes. Memory and the machine's numbers are free up to the machine that they stand for with their number
@@ -45,13 +27,9 @@ pub fn run(
     requires { ⌜ Begun (now counts) (now list) (now items) (now spans) (state-of (machine .numbers) (now heads) (now cells)) ⌝ }
     ensures { λ r. ⌜ Ending (now (counts .entry)) (now (list .entry)) (now (items .entry)) (now (spans .entry)) (now (turns .entry)) (state-of (machine .numbers) (now (heads .entry)) (now (cells .entry))) (r .number) (r .taken) (state-of (r .machine .numbers) (now (heads .exit)) (now (cells .exit))) ⌝ }
 {
-    let count = machine.numbers.count;
-    let first = holding(heads, count);
-    let begun = settle(machine, first, items, spans, heads);
-    let mut next = begun.machine;
-    let mut left = begun.holding;
+    let mut next = settle(machine, items, spans, heads);
     let mut taken = 0;
-    while left > 0 {
+    while next.numbers.holding > 0 {
         if taken == turns.len() {
             return Ran {
                 machine: next,
@@ -59,8 +37,8 @@ pub fn run(
                 taken,
             };
         }
-        let count = next.numbers.count;
-        let l = picked_of(heads, count, left, turns[taken]);
+        let numbers = next.numbers;
+        let l = picked_of(heads, numbers.count, numbers.holding, turns[taken]);
         next = next.command(list, counts, heads, cells, l);
         let number = next.numbers.number;
         if number != 0 {
@@ -71,11 +49,8 @@ pub fn run(
             };
         }
         taken += 1;
-        left = left_holding(heads, l, left);
-        if left == 0 {
-            let settled = settle(next, left, items, spans, heads);
-            next = settled.machine;
-            left = settled.holding;
+        if next.numbers.holding == 0 {
+            next = settle(next, items, spans, heads);
         }
     }
     let number = next.numbers.number;

@@ -7,7 +7,7 @@ use Rattle.audala.proofs.audala_run.Statement.{statement}
 use Rattle.audala.proofs.audala_run.Tie as tie
 
 abbrev handed : Answered → Report
-handed r = record { number = r .number; turns = r .turns; blocks = r .blocks; depth = r .depth }
+handed r = record { number = r .number; turns = r .turns; blocks = r .blocks; depth = r .depth; holding = r .holding }
 
 returns : tie.Need-returns
 returns c =

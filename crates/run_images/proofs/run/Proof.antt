@@ -17,7 +17,7 @@ use Rattle.load.specs.LoadLaws.{LoadedAs, load-refused, load-value, length-fits
 use Rattle.run_images.specs.Stages.{seat-of, Seated, Played}
 use Rattle.run_images.specs.StageLaws.{refused-answers, output-short, list-short, turns-many, came-answers, entry-answers, checked-refused}
 use Rattle.run_images.specs.SeatLaws.{admitted-tables, image-refused, SeatedTable, image-seated}
-use Rattle.run_images.specs.RunLaws.{played-filled, played-nulls, played-turns, played-came}
+use Rattle.run_images.specs.RunLaws.{played-filled, played-nulls, played-holders, played-turns, played-came}
 use borrow.Author.Needs.{needs}
 use Rattle.run_images.proofs.run.Statement.{statement}
 use Rattle.run_images.proofs.run.Tie as tie
@@ -180,8 +180,10 @@ at-played c = let at-list = c .before .before .before .before in at-list .before
 reported-requires : tie.Need-reported-requires
 reported-requires c κs =
     let d = at-played c in let at-else = the-fresh d .before in let a = admits (the-loaded (the-read (the-fresh d))) in
-    let nulls = played-nulls a (plays d) in
-    (played-filled a (plays d), ((nulls, omega (arith, played-turns a (plays d), at-else .if3 .left)), at-else .before .before .if1 .left))
+    let nulls = played-nulls a (plays d) in (
+      played-filled a (plays d),
+      ((nulls, (omega (arith, played-turns a (plays d), at-else .if3 .left), played-holders a (plays d))), at-else .before .before .if1 .left),
+    )
 
 returns-6 : tie.Need-returns-6
 returns-6 c =

@@ -1,8 +1,8 @@
--- `interpreter::turns::left_holding` meets its contract, by whether the actor still holds commands.
+-- `left_holding` meets its contract, by whether the actor still holds commands.
 use borrow.Author.Needs.{needs}
-use Rattle.interpreter.specs.RunWays.{actor-holds, actor-ended}
-use Rattle.interpreter.proofs.turns.left_holding.Statement.{statement}
-use Rattle.interpreter.proofs.turns.left_holding.Tie as tie
+use Rattle.engine.specs.StateLaws.{actor-holds, actor-ended}
+use Rattle.engine.proofs.left_holding.Statement.{statement}
+use Rattle.engine.proofs.left_holding.Tie as tie
 
 returns : tie.Need-returns
 returns c =
