@@ -1,5 +1,5 @@
 // Runs a program image on a table image with turn bytes, all from files, and writes the last table to a file (01, 'Table and turns').
-// On standard output one line: number, turns, blocks, depth.
+// On standard output one line: number, turns, blocks, depth, and how many instances hold commands.
 mod files;
 
 use libc::STDERR_FILENO;
@@ -21,9 +21,10 @@ fn help() {
         \n\
         Runs the program image in the file PROGRAM on the table image in TABLE,\n\
         taking a turn for each byte of TURNS, and writes the last table's image\n\
-        to OUTPUT. Prints one line: number, turns, blocks, depth. A number from 1\n\
-        to 14 is a refusal: nothing is written. 0 is the ended run; 33 to 35 are\n\
-        stops, after which OUTPUT holds the table as it stood then.\n\
+        to OUTPUT. Prints one line: number, turns, blocks, depth, and how many\n\
+        instances hold commands. A number from 1 to 14 is a refusal: nothing is\n\
+        written. 0 is the ended run; 33 to 35 are stops, after which OUTPUT holds\n\
+        the table as it stood then.\n\
         docs/FORMAT.md says what each number means.\n",
     );
 }
@@ -48,7 +49,8 @@ fn run(program: &[u8], table: &[u8], turns: &[u8]) {
     number(r.number as u64, b' ');
     number(r.turns as u64, b' ');
     number(r.blocks as u64, b' ');
-    number(r.depth as u64, b'\n');
+    number(r.depth as u64, b' ');
+    number(r.holding as u64, b'\n');
 }
 
 fn main() {

@@ -11,10 +11,10 @@ handed r = record { number = r .number; turns = r .turns; blocks = r .blocks; de
 
 returns : tie.Need-returns
 returns c =
-    let casts = c .before .before .before .before in let r = casts .before .before .before .run in
+    let casts = c .before .before .before .before in let r = casts .before .before .before .before .run in
     (ap handed (r .ensures .0), r .ensures .1)
 
 pub audala-run-spec : {M : Type 1} → statement M
 audala-run-spec =
     tie.close
-    (tie.spec (λ c κs. search needs) (λ c. search needs) (λ c. search needs) (λ c. search needs) (λ c. search needs) (λ c. search needs) returns)
+    (tie.spec (λ c κs. search needs) (λ c. search needs) (λ c. search needs) (λ c. search needs) (λ c. search needs) (λ c. search needs) (λ c. search needs) returns)

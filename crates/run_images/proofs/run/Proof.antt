@@ -182,7 +182,7 @@ reported-requires c κs =
     let d = at-played c in let at-else = the-fresh d .before in let a = admits (the-loaded (the-read (the-fresh d))) in
     let nulls = played-nulls a (plays d) in (
       played-filled a (plays d),
-      ((nulls, (omega (arith, played-turns a (plays d), at-else .if3 .left), played-holders a (plays d))), at-else .before .before .if1 .left),
+      ((nulls, omega (arith, played-turns a (plays d), at-else .if3 .left), played-holders a (plays d)), at-else .before .before .if1 .left),
     )
 
 returns-6 : tie.Need-returns-6
