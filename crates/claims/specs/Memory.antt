@@ -16,7 +16,8 @@ use Rattle.memory.specs.Plan.{At}
 use Rattle.memory.specs.PlanUnique.{at-unique}
 use Rattle.memory.specs.Stands.{Stands, bits}
 use Rattle.memory.specs.EntriesLaws.{entry-times, bits-times}
-use Rattle.interpreter.specs.Running.{cleared, Running, Ended}
+use Rattle.interpreter.specs.TurnLaws.{held-count}
+use Rattle.interpreter.specs.Running.{cleared, Moving, Running, Ended}
 use Rattle.claims.specs.MemoryLaws.{running-visited, ended-visited}
 
 module _ (p : Program) (counts list items spans : List ℕ) (m : Machine) {es : List ℕ} {z : State} where
@@ -31,6 +32,11 @@ module _ (p : Program) (counts list items spans : List ℕ) (m : Machine) {es : 
       → (m′ : Machine) × (Stands list (At items) m′ (cleared z)) × (z .machine .holding ≡ length (holders m′)) × (Visits p m es m′ (drop taken es))
       × (run p m es ≡ stopped number taken m′)
   memory-last r = ended-visited p counts list items spans m r
+
+-- so it is behind every move of the schedule: `Moving` is the invariant of the loop over the moves
+pub memory-moved : (p : Program) (counts list items spans : List ℕ) (m : Machine) {z : State} → Moving p counts list items spans m z
+    → (m′ : Machine) × (Stands list (At items) m′ z) × (z .machine .holding ≡ length (holders m′)) × ((es : List ℕ) → Visits p m es m′ es)
+memory-moved p counts list items spans m (m′, r, v) = (m′, r .stands, held-count r, v)
 
 -- a place of the schedule laid flat stands for one schedule left
 pub place-one : (items : List ℕ) {a : ℕ} {r s : Sched} → At items a r → At items a s → r ≡ s
