@@ -18,7 +18,7 @@
 extern "C" {
 #endif
 
-/* The numbers that the functions answer. 1 to 14 are from the input: nothing is written. 33 to 36 are from the state: the run
+/* The numbers that the functions answer. 1 to 14 are from the input: nothing is written. 33 to 35 are from the state: the run
  * stopped, and its table up to there is written. Where several hold the lowest is answered; of 2 and 3, of 4 and 5, and of 11 and
  * 12 the one that is met first in the image. */
 typedef enum {
@@ -39,8 +39,7 @@ typedef enum {
     AUDALA_TOO_MANY_TURNS = 14,  /* more than 65,536 turn bytes */
     AUDALA_OUT_OF_TURNS = 33,    /* the turn bytes are used up while commands remain: hand in more */
     AUDALA_TABLE_FULL = 34,      /* an instance was to be made and there are 256 */
-    AUDALA_ARITHMETIC = 35,      /* a result outside its type, or a division by zero */
-    AUDALA_FIX_FULL = 36         /* a Fix was to begin with eight stability entries there */
+    AUDALA_ARITHMETIC = 35       /* a result outside its type, or a division by zero */
 } audala_number;
 
 /* Places of the command list that a check or a run asks for, else 13. */
@@ -90,7 +89,7 @@ typedef struct {
 } audala_report;
 
 /* Runs a program image on a table image with these turn bytes. A number from the input leaves output and list as they were.
- * Otherwise the output begins with the blocks of the last table, after 34 to 36 the one before the refused act, and later bytes
+ * Otherwise the output begins with the blocks of the last table, after 34 and 35 the one before the refused command, and later bytes
  * are untouched; and the list holds the commands as after a check. */
 audala_report audala_run(const uint8_t *program, size_t program_length, const uint8_t *table, size_t table_length,
                          const uint8_t *turns, size_t turn_count, uint8_t *output, size_t output_length, uint64_t *list,

@@ -6,6 +6,7 @@ use mathlib.Core.List.{List}
 use lib.ListN.{length, length-map}
 use borrow.Author.Tests.{lt-ltb, le-ltb}
 use Rattle.types.specs.Limits.{max-structs, max-commands}
+use Rattle.types.specs.Numbers.{no-room}
 use Rattle.program.specs.Tree.{Program}
 use Rattle.commands.specs.Bounds.{program-size, Within}
 use Rattle.commands.specs.ProgramWords.{structs-words, program-words}
@@ -34,7 +35,7 @@ pub refused-answers : (c : Checked) (n : ℕ) (list : List ℕ) → c ≡ refuse
 unfolding verdict-of list-of
 refused-answers c n list e = rw e (refl, refl)
 
-pub short-answers : (c : Checked) (p : Program) (list : List ℕ) → c ≡ accepted p → length list < max-commands → Answers c list (refusal 13) list
+pub short-answers : (c : Checked) (p : Program) (list : List ℕ) → c ≡ accepted p → length list < max-commands → Answers c list (refusal no-room) list
 unfolding verdict-of list-of
 short-answers c p list e l = rw e (rw (verdict-of, list-of, lt-ltb (length list) max-commands l) (refl, refl))
 

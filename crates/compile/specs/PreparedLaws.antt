@@ -5,14 +5,15 @@ use mathlib.Core.Path.{_≡_, sym, _∙_}
 use mathlib.Core.List.{List}
 use lib.ListN.{length, length-map}
 use lib.Seq.{sets-eq}
-use Rattle.types.specs.Limits.{max-structs}
+use Rattle.types.specs.Limits.{max-structs, max-commands}
 use Rattle.program.specs.Counts.{All, Counts}
 use Rattle.program.specs.Reader.{Result.ok}
 use Rattle.program.specs.ProgramLaws.{program-law}
 use Rattle.commands.specs.Bounds.{Within}
+use Rattle.directory.specs.declared.Row.{Row}
 use Rattle.directory.specs.Directory.{structs-rows, directory}
 use Rattle.directory.specs.Rows.{row-places, directory-places, rows-from}
-use Rattle.directory.specs.DirectoryLaws.{directory-few, RowInRange, directory-ranged}
+use Rattle.directory.specs.DirectoryLaws.{directory-few, RowInRange, all-both, directory-ranged, directory-inside}
 use Rattle.directory.specs.FindLaws.{directory-marks}
 use Rattle.commands.specs.ProgramWords.{structs-words, program-words}
 use Rattle.commands.specs.ProgramWordsLaws.{program-length}
@@ -22,7 +23,7 @@ use Rattle.emit_steps.specs.Emitted.{from-place, stand, Fits, Emitted, EmittedP
 use Rattle.emit_steps.specs.ProgramLaws.{program-fits}
 use Rattle.memory.specs.Plan.{Located}
 use Rattle.compile.specs.Codes.{schedule-codes, schedule-at}
-use Rattle.compile.specs.Spans.{spans-of}
+use Rattle.compile.specs.Spans.{RowHeld, spans-of}
 use Rattle.compile.specs.SpansLaws.{spans-located}
 use Rattle.compile.specs.Laid.{Behind, LaidProgram}
 use Rattle.compile.specs.LaidLaws.{schedule-ready}
@@ -50,12 +51,17 @@ module _ {s ar : List ℕ} {at : ℕ} {list spans codes : List ℕ} (h : Prepara
     counts : Counts (h .program)
     counts = program-law s (h .program) (h .end) .0 (h .reads) .0
 
-    -- their rows are few and in range
+    -- their rows are few, in range and within the list
     pub rows-few : row-places * q .rows ≤ directory-places
     rows-few = omega (arith, emitted .count, directory-few (h .program) counts)
 
-    pub rows-ranged : All RowInRange (rows-from rows' 0 (q .rows))
-    rows-ranged = rw (emitted .rows) (directory-ranged (h .program) counts)
+    pub rows-held : All RowHeld (rows-from rows' 0 (q .rows))
+    unfolding Within
+    rows-held =
+        let p = h .program in
+        rw (emitted .rows)
+        (all-both RowInRange (λ (r : Row). r .start + r .size ≤ max-commands) (directory p) (directory-ranged p counts)
+        (directory-inside p max-commands (h .within .1)))
 
     -- behind them stands the schedule
     behind : Behind s (h .program) (q .next)

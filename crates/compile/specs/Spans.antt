@@ -1,15 +1,20 @@
 -- Where the commands of each step stand, as it is noted off the step directory (01, 'Table and turns'; `memory/specs/Plan.antt` says what the
 -- numbers mean).
-use Prim.Native.Nat.{ℕ, zero, suc, _+_, _*_}
+use Prim.Native.Nat.{ℕ, zero, suc, _+_, _*_, _≤_}
 use mathlib.Core.List.{List, [], _∷_}
 use lib.ListN.{set}
-use Rattle.types.specs.Limits.{max-structs, step-names}
+use Rattle.types.specs.Limits.{max-structs, step-names, max-commands}
 use Rattle.directory.specs.declared.Row.{Row}
+use Rattle.directory.specs.DirectoryLaws.{RowInRange}
 use Rattle.memory.specs.Plan.{span-of}
 
 -- two numbers for each name of each struct
 abbrev pub span-places : ℕ
 span-places = 2 * (step-names * max-structs)
+
+-- a row of a step whose commands stand in a list that has room for a program's: so its two numbers take two bytes each
+abbrev pub RowHeld : Row → Type 0
+RowHeld r = (RowInRange r) × (r .start + r .size ≤ max-commands)
 
 -- the two numbers from i on are a and e
 unfoldable pub paired : ℕ → ℕ → ℕ → List ℕ → List ℕ

@@ -112,10 +112,10 @@ noted-more l m q spans i n r e h k s f =
     let w : rows-from l (i - 1) (n - (i - 1)) ≡ r ∷ rows-from l i (n - i) = rows-more l (i - 1) (n - (i - 1)) (λ z. omega arith) ∙ rw (a, b, e) refl in
     f ∙ rw (w, s) refl
 
--- its four numbers as places
-pub row-paired : (r : Row) (l q : List ℕ) (a m k n : ℕ) → a ≡ r .start → m ≡ r .size → k ≡ r .structure → n ≡ r .name
-    → q ≡ paired (span-of k n) a (a + m) l → q ≡ paired (span-of (r .structure) (r .name)) (r .start) (r .start + r .size) l
-row-paired r l q a m k n e f g h i = i ∙ rw (e, f, g, h)
+-- its struct and name as places
+pub row-paired : (r : Row) (l q : List ℕ) (k n : ℕ) → k ≡ r .structure → n ≡ r .name
+    → q ≡ paired (span-of k n) (r .start) (r .start + r .size) l → q ≡ paired (span-of (r .structure) (r .name)) (r .start) (r .start + r .size) l
+row-paired r l q k n g h i = i ∙ rw (g, h)
 
 module _ (k n : ℕ) (named : n < step-names) where
   -- of a step that has a row the pair says where; of any other it is as before

@@ -18,7 +18,7 @@ use Rattle.emit.specs.PartsLaws.{part-of, same-part, parts-of, parts-ready, par
 use Rattle.emit.specs.ReadLaws.{value, made-value, pair-value, pair-ok, many-value, ranged-value, counted-value, opened-value}
 use Rattle.machine.specs.Published.{StepCall.local}
 use Rattle.memory.specs.Plan.{start-code, fix-code, end-code, round-code}
-use Rattle.compile.specs.Codes.{item-codes, items-codes, schedule-codes, any-structs, item-at, row-at, items-at, schedule-at}
+use Rattle.compile.specs.Codes.{item-codes, items-codes, schedule-codes, any-structs, item-at, row-at, items-at, schedule-at, Left}
 use Rattle.compile.specs.CodesLaws.{call-codes, call-in-codes, fix-codes, no-codes, more-codes, whole-codes}
 
 -- One code --------------------------------------------------------------------
@@ -171,7 +171,7 @@ module _ (s : List ℕ) where
 
   module _ (d n at k : ℕ) where
     -- no item, no code
-    pub items-none : n ≡ 0 → (out : List ℕ) → Wrote (items-codes k) (row-at s d n at) out k (record { next = at; at = k }) out
+    items-none : n ≡ 0 → (out : List ℕ) → Wrote (items-codes k) (row-at s d n at) out k (record { next = at; at = k }) out
     items-none e out = row-none (items-codes k) (item-codes k) stop item (λ m. item-at s d m) n at (no-codes k) e out k
 
     -- the codes of an item, and those of the others from where they end
@@ -189,17 +189,41 @@ module _ (s : List ℕ) where
         (more-codes k (v .0) (v .2) ∙ rw (append-nil (items-codes others (v .2)), e))
 
     module _ (z : n ≡ 0 → ⊥) {out : List ℕ} (w : Ready (items-codes k) (row-at s d n at) out k) where
-      pub row-first : Ready (item-codes k) (item-at s d at) out k
+      row-first : Ready (item-codes k) (item-at s d at) out k
       row-first = parts-ready (row-parts z (w .good)) w
 
       module _ {p : Put} {out1 : List ℕ} (i : Wrote (item-codes k) (item-at s d at) out k p out1) where
-        pub row-next : Ready (items-codes (p .at)) (row-at s d (n - 1) (p .next)) out1 (p .at)
+        row-next : Ready (items-codes (p .at)) (row-at s d (n - 1) (p .next)) out1 (p .at)
         row-next = rw (← i .at) at (parts-next (row-parts z (w .good)) w i)
 
-        pub row-wrote : {q : Put} {out2 : List ℕ} → Wrote (items-codes (p .at)) (row-at s d (n - 1) (p .next)) out1 (p .at) q out2
+        row-wrote : {q : Put} {out2 : List ℕ} → Wrote (items-codes (p .at)) (row-at s d (n - 1) (p .next)) out1 (p .at) q out2
             → Wrote (items-codes k) (row-at s d n at) out k q out2
         row-wrote {q} {out2} j =
             parts-same i (subst (λ x. Wrote (items-codes x) (row-at s d (n - 1) (p .next)) out1 (p .at) q out2) (i .at) j) (row-parts z (w .good))
+
+  -- of n items that are left, the next may be written, and then the others are left; or all are written
+  module _ (d n : ℕ) {R : Result Items} {out : List ℕ} {k : ℕ} {p : Put} {out1 : List ℕ} (x : Left s d n R out k p out1) where
+    pub left-ready : (n ≡ 0 → ⊥) → Ready (item-codes (p .at)) (item-at s d (p .next)) out1 (p .at)
+    left-ready z = row-first d n (p .next) (p .at) z (x .ready)
+
+    pub left-next : (n ≡ 0 → ⊥) → {q : Put} {out2 : List ℕ} → Wrote (item-codes (p .at)) (item-at s d (p .next)) out1 (p .at) q out2
+        → Left s d (n - 1) R out k q out2
+    left-next z i =
+        record {
+          ready = row-next d n (p .next) (p .at) z (x .ready) i;
+          kept = placed-kept i ∙ x .kept;
+          whole = λ r out3 j. x .whole r out3 (row-wrote d n (p .next) (p .at) z (x .ready) i j);
+        }
+
+    pub left-none : n ≡ 0 → Wrote (items-codes k) R out k p out1
+    left-none e =
+        let w = items-none d n (p .next) (p .at) e out1 in
+        x .whole p out1 (record { next = w .next; at = w .at; list = w .list })
+
+  -- all of a row is left
+  pub left-all : (d n at : ℕ) {out : List ℕ} {k : ℕ} → Ready (items-codes k) (row-at s d n at) out k
+      → Left s d n (row-at s d n at) out k (record { next = at; at = k }) out
+  left-all d n at w = record { ready = w; kept = refl; whole = λ q out2 e. e }
 
 -- the end behind the schedule's items
 pub schedule-part : (s : List ℕ) (at : ℕ) → Good (schedule-at s at)

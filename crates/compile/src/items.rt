@@ -7,7 +7,7 @@ ghost use Prim.Native.Nat.{_+_, _<_};
 ghost use lib.ListN.{length, set};
 ghost use Rattle.emit.specs.Written.{Ready, Wrote};
 ghost use Rattle.compile.specs.Laid.{LaidProgram};
-ghost use Rattle.compile.specs.Codes.{item-codes, items-codes, schedule-codes, item-at, row-at, items-at, schedule-at};
+ghost use Rattle.compile.specs.Codes.{item-codes, items-codes, schedule-codes, item-at, items-at, schedule-at};
 
 // The codes of a schedule are at most two for each item, and the end.
 pub const CODES: usize = 2 * types::SCHEDULE_ITEMS + 1;
@@ -59,26 +59,23 @@ fn item(s: &[u8], at: usize, depth: usize, codes: &mut [usize], k: usize) -> Put
     add(codes, p, layout::codes::ROUND + k + 1)
 }
 
-// The codes of n items in a row.
-fn row(s: &[u8], at: usize, depth: usize, n: u8, codes: &mut [usize], k: usize) -> Put
-    requires { ⌜ Ready (items-codes k) (row-at (now s) depth n at) (now codes) k ⌝ }
-    ensures { λ r. ⌜ Wrote (items-codes k) (row-at (now (s .entry)) depth n at) (now (codes .entry)) k r (now (codes .exit)) ⌝ }
-{
-    if n == 0 {
-        return Put { next: at, at: k };
-    }
-    let p = item(s, at, depth, codes, k);
-    let next = p.next;
-    let i = p.at;
-    row(s, next, depth, n - 1, codes, i)
-}
-
 // The items of the schedule or of a Fix: a count and that many items.
 fn items(s: &[u8], at: usize, depth: usize, codes: &mut [usize], k: usize) -> Put
     requires { ⌜ Ready (items-codes k) (items-at (now s) depth at) (now codes) k ⌝ }
     ensures { λ r. ⌜ Wrote (items-codes k) (items-at (now (s .entry)) depth at) (now (codes .entry)) k r (now (codes .exit)) ⌝ }
 {
-    row(s, at + 1, depth, s[at], codes, k)
+    let mut left = s[at];
+    let mut p = Put {
+        next: at + 1,
+        at: k,
+    };
+    while left != 0 {
+        let next = p.next;
+        let i = p.at;
+        p = item(s, next, depth, codes, i);
+        left -= 1;
+    }
+    p
 }
 
 // The whole schedule, which begins at a place, and its end behind it.

@@ -30,7 +30,7 @@ pub fn program(
     ar: &[u8],
     at: usize,
     list: &mut [u64],
-    spans: &mut [usize],
+    spans: &mut [u16],
     codes: &mut [usize],
 )
     requires { ⌜ Preparable (now s) (now ar) at (now list) (now spans) (now codes) ⌝ }

@@ -5,15 +5,16 @@ use native.Mathlib.Numerals.{sub-one}
 use mathlib.Core.Path.{_≡_, refl, sym, _∙_}
 use mathlib.Core.List.{List, [], _∷_, append-nil}
 use lib.ListN.{length, getD}
-use Rattle.program.specs.Tree.{Expr, Expr.inv, Expr.make, Expr.path, Expr.op, Exprs.none, Exprs.more}
+use Rattle.program.specs.Tree.{Expr, Expr.inv, Expr.make, Expr.path, Expr.op, Exprs, Exprs.none, Exprs.more}
 use Rattle.program.specs.Reader.{Result, Result.ok, Result.bad, wrong-byte, byte, ranged, lookup, Form, Form.form-inv, Form.form-make, Form.form-path, Form.form-int, Form.form-nat, Form.form-bool, Form.form-null, Form.form-self, Form.form-op, Form.form-none, form, read-path, read-make, rule-expr, read-expr}
 use Rattle.program.specs.ExprLaws.{Opens, opens}
 use Rattle.commands.specs.Coding.{coded}
-use Rattle.emit.specs.Written.{Good, Wrote, expr-words, args-words, make-words, path-words, args-at, make-at}
+use Rattle.emit.specs.declared.Put.{Put}
+use Rattle.emit.specs.Written.{Good, Ready, Wrote, expr-words, args-words, make-words, path-words, args-at, make-at}
 use Rattle.emit.specs.WordLaws.{inv-words, make-is, cons-words, path-is, op-words, no-args, more-args}
 use Rattle.emit.specs.ReadLaws.{then-value, pair-value, ranged-value, opened-value}
-use Rattle.emit.specs.Parts.{Part, Parts}
-use Rattle.emit.specs.PartsLaws.{part-of, made-part, pair-parts, row-none, row-more}
+use Rattle.emit.specs.Parts.{Part, Parts, Rest}
+use Rattle.emit.specs.PartsLaws.{part-of, made-part, pair-parts, rest-ready, rest-next, rest-none}
 
 -- an expression has a byte and a level, and its byte's form says what is read
 pub expr-step : (ar s : List ℕ) (d at : ℕ) → Good (read-expr ar s d at)
@@ -96,12 +97,15 @@ make-facts ar s d at g =
       part = rw (← e0, ← e1) (part-of make-words args-words (v .6) (v .5) (cons-words (v .0) (v .2)));
     }
 
-module _ (ar s : List ℕ) (d n at : ℕ) where
-  -- no argument, nothing written
-  pub args-none : n ≡ 0 → (out : List ℕ) (k : ℕ) → Wrote args-words (args-at ar s d n at) out k (record { next = at; at = k }) out
-  args-none = row-none args-words expr-words none more (λ m. read-expr ar s d m) n at no-args
+-- of arguments n are left: the next may be written, and then the others are left; or all are written
+module _ (ar s : List ℕ) (d n : ℕ) {R : Result Exprs} {out : List ℕ} {k : ℕ} {p : Put} {out1 : List ℕ}
+    (x : Rest args-words R out k (args-at ar s d n (p .next)) p out1) where
+  pub args-ready : (n ≡ 0 → ⊥) → Ready expr-words (read-expr ar s d (p .next)) out1 (p .at)
+  args-ready = rest-ready args-words expr-words none more (λ m. read-expr ar s d m) n x more-args
 
-  -- an argument, and the others behind it
-  pub args-more : (n ≡ 0 → ⊥) → Good (args-at ar s d n at)
-      → Parts args-words (args-at ar s d n at) expr-words (read-expr ar s d at) args-words (λ m. args-at ar s d (n - 1) m) []
-  args-more = row-more args-words expr-words none more (λ m. read-expr ar s d m) n at more-args
+  pub args-next : (n ≡ 0 → ⊥) → {q : Put} {out2 : List ℕ} → Wrote expr-words (read-expr ar s d (p .next)) out1 (p .at) q out2
+      → Rest args-words R out k (args-at ar s d (n - 1) (q .next)) q out2
+  args-next i w = rest-next args-words expr-words none more (λ m. read-expr ar s d m) n x more-args i w
+
+  pub args-none : n ≡ 0 → Wrote args-words R out k p out1
+  args-none = rest-none args-words expr-words none more (λ m. read-expr ar s d m) n x no-args

@@ -1,16 +1,13 @@
 -- The words of literals, of null and of this, and of the variables of a path, off the bytes of the stream.
-use Prim.Native.Nat.{ℕ, zero, suc, _+_, _-_, _*_}
+use Prim.Native.Nat.{ℕ, zero, suc, _+_, _-_}
 use mathlib.Core.List.{List, [], _∷_}
 use mathlib.Core.Bool.{true, false}
 use lib.ListN.{getD}
 use lib.Dec.{ltb}
+use Rattle.little_endian.specs.Numbers.{word-at}
 use Rattle.types.specs.Types.{type-of}
 use Rattle.types.specs.Values.{default, word}
 use Rattle.commands.specs.Coding.{coded}
-
--- the number of four bytes, the lowest first
-unfoldable pub word-at : List ℕ → ℕ → ℕ
-word-at s at = getD s at 0 + 256 * getD s (at + 1) 0 + 65536 * getD s (at + 2) 0 + 16777216 * getD s (at + 3) 0
 
 -- the push of a type's default, by the type's byte
 unfoldable pub null-word : ℕ → ℕ

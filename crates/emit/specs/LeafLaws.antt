@@ -8,11 +8,12 @@ use mathlib.Core.List.{List}
 use lib.ListN.{length, getD, set}
 use lib.Seq.{sets}
 use borrow.Author.Tests.{lt-ltb, le-ltb}
+use Rattle.little_endian.specs.Numbers.{word-at}
 use Rattle.types.specs.Types.{type-of}
 use Rattle.types.specs.Values.{default, word}
 use Rattle.commands.specs.Coding.{coded}
 use Rattle.emit.specs.declared.Put.{Put}
-use Rattle.emit.specs.Leaf.{word-at, leaf-size, byte-word, leaf-of, leaf-word, null-word, rd-words}
+use Rattle.emit.specs.Leaf.{leaf-size, byte-word, leaf-of, leaf-word, null-word, rd-words}
 
 -- a null pushes the default of its type
 pub null-is : (b t v r : ℕ) → t ≡ b → v ≡ word (default (type-of b)) → r ≡ coded 1 t v → r ≡ null-word b
@@ -76,18 +77,22 @@ module _ (s : List ℕ) (at : ℕ) where
 abbrev pub Reads : List ℕ → ℕ → ℕ → List ℕ → ℕ → Put → List ℕ → Type 0
 Reads s at n out k r out' = (r .next ≡ at + n) × (r .at ≡ k + n) × (out' ≡ sets out k (rd-words s at n))
 
-module _ (s : List ℕ) (at k n : ℕ) (out : List ℕ) where
+-- n reads are left, which give what is to come out
+pub record ReadsLeft (s : List ℕ) (at n k : ℕ) (out end : List ℕ) : Type 0 where
+  pub gives : sets out k (rd-words s at n) ≡ end
+
+module _ (s : List ℕ) (at n k : ℕ) {out end : List ℕ} (x : ReadsLeft s at n k out end) where
   -- no variable, no rd
-  pub reads-none : n ≡ 0 → Reads s at n out k (record { next = at; at = k }) out
+  pub reads-none : n ≡ 0 → out ≡ end
   unfolding rd-words
-  reads-none e = (omega arith, omega arith, rw e refl)
+  reads-none e = rw e at (x .gives)
 
   -- an rd, and those of the other variables behind it
-  pub reads-more : (n ≡ 0 → ⊥) → (b v : ℕ) (out1 : List ℕ) (p : Put) (out2 : List ℕ) → b ≡ getD s at 0 → v ≡ coded 3 0 b → out1 ≡ set out k v
-      → Reads s (at + 1) (n - 1) out1 (k + 1) p out2 → Reads s at n out k p out2
+  pub reads-more : (n ≡ 0 → ⊥) → {b v : ℕ} {out1 : List ℕ} → b ≡ getD s at 0 → v ≡ coded 3 0 b → out1 ≡ set out k v
+      → ReadsLeft s (at + 1) (n - 1) (k + 1) out1 end
   unfolding rd-words
-  reads-more z b v out1 p out2 e f g h = (omega (arith, h .0), omega (arith, h .1), go n z (h .2))
+  reads-more z {out1 = out1} e f g = go n z x
     where
-      go : (n : ℕ) → (n ≡ 0 → ⊥) → out2 ≡ sets out1 (k + 1) (rd-words s (at + 1) (n - 1)) → out2 ≡ sets out k (rd-words s at n)
+      go : (n : ℕ) → (n ≡ 0 → ⊥) → ReadsLeft s at n k out end → ReadsLeft s (at + 1) (n - 1) (k + 1) out1 end
       go zero z q = absurd (z refl)
-      go (suc n) z q = let k1 : k + 1 ≡ suc k = add-one k in rw (sub-one, k1, g, f, e) at q
+      go (suc n) z q = record { gives = rw (sub-one, add-one k, g, f, e) (q .gives) }

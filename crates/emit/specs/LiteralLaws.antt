@@ -6,6 +6,7 @@ use mathlib.Core.Path.{_≡_, refl, _∙_}
 use mathlib.Core.List.{List, [], _∷_}
 use lib.ListN.{length, getD}
 use borrow.Author.Tests.{lt-ltb, le-ltb}
+use Rattle.little_endian.specs.Numbers.{word-at}
 use Rattle.types.specs.Limits.{nat-end, int-half}
 use Rattle.types.specs.Types.{Ty, code}
 use Rattle.types.specs.TypeLaws.{type-of-code}
@@ -20,7 +21,7 @@ use Rattle.program.specs.WordLaws.{word-exact, type-exact}
 use Rattle.commands.specs.Commands.{expr-coms, flatten}
 use Rattle.commands.specs.Coding.{coded, com-word, command-word, words}
 use Rattle.emit.specs.Written.{Good, next-of, code-of, expr-words}
-use Rattle.emit.specs.Leaf.{word-at, null-word, leaf-size, leaf-of, byte-word}
+use Rattle.emit.specs.Leaf.{null-word, leaf-size, leaf-of, byte-word}
 use Rattle.emit.specs.ReadLaws.{made-value, ranged-value}
 use Rattle.emit.specs.ExprLaws.{expr-step, expr-in}
 

@@ -1,7 +1,7 @@
 -- Of words in parts: where they come from, what a function has for its calls, and what it wrote after them.
 use Prim.Native.Nat.{ℕ, _+_, _-_, _≤_}
 use native.Mathlib.Omega.{arith}
-use mathlib.Core.Path.{_≡_, sym, ap, _∙_}
+use mathlib.Core.Path.{_≡_, refl, sym, ap, _∙_}
 use mathlib.Core.List.{List, [], _∷_, _++_, append-nil}
 use lib.ListN.{length, set, length-append}
 use Rattle.program.specs.Reader.{Result, Result.ok, pair, made, many}
@@ -9,7 +9,7 @@ use Rattle.program.specs.PartLaws.{made-ok}
 use Rattle.emit.specs.declared.Put.{Put}
 use Rattle.emit.specs.Written.{Good, next-of, code-of, Ready, Placed, Wrote}
 use Rattle.emit.specs.WrittenLaws.{placed-none, placed-kept, placed-as, placed-on, placed-last}
-use Rattle.emit.specs.Parts.{Part, Parts}
+use Rattle.emit.specs.Parts.{Part, Parts, Rest}
 use Rattle.emit.specs.ReadLaws.{made-value, pair-value, many-value, many-none}
 
 -- values give words in parts, by the words of what they are made of
@@ -125,3 +125,26 @@ module _ {A B : Type 0} (F : B → List ℕ) (f : A → List ℕ) (z : B) (c : A
   row-more e i g =
       let v = many-value z c r n at i g in
       parts-of F f F (λ m. many z c r (n - 1) m) (v .6) (v .4) (v .5) (e (v .0) (v .2) ∙ rw append-nil)
+
+-- A row that a loop writes: all of it is left; the next thing may be written, and then those behind it are left; nothing is.
+pub rest-all : {A : Type 0} {F : A → List ℕ} {R : Result A} {out : List ℕ} {k : ℕ} (m : ℕ) → Ready F R out k
+    → Rest F R out k R (record { next = m; at = k }) out
+rest-all m w = record { ready = w; kept = refl; whole = λ q out2 e. e }
+
+module _ {A B : Type 0} (F : B → List ℕ) (f : A → List ℕ) (z : B) (c : A → B → B) (r : ℕ → Result A) (n : ℕ) {R : Result B} {out : List ℕ} {k : ℕ} {p : Put}
+    {out1 : List ℕ} (x : Rest F R out k (many z c r n (p .next)) p out1) where
+  module _ (e : (a : A) (b : B) → F (c a b) ≡ f a ++ F b) (i : n ≡ 0 → ⊥) where
+    both : Parts F (many z c r n (p .next)) f (r (p .next)) F (λ m. many z c r (n - 1) m) []
+    both = row-more F f z c r n (p .next) e i (x .ready .good)
+
+    pub rest-ready : Ready f (r (p .next)) out1 (p .at)
+    rest-ready = parts-ready both (x .ready)
+
+    pub rest-next : {q : Put} {out2 : List ℕ} → Wrote f (r (p .next)) out1 (p .at) q out2 → Rest F R out k (many z c r (n - 1) (q .next)) q out2
+    rest-next d =
+        record { ready = parts-next both (x .ready) d; kept = placed-kept d ∙ x .kept; whole = λ u out3 g. x .whole u out3 (parts-same d g both) }
+
+  pub rest-none : F z ≡ [] → n ≡ 0 → Wrote F R out k p out1
+  rest-none e i =
+      let w = row-none F f z c r n (p .next) e i out1 (p .at) in
+      x .whole p out1 (record { next = w .next; at = w .at; list = w .list })

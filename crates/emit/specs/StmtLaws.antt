@@ -20,8 +20,8 @@ use Rattle.emit.specs.WrittenLaws.{set-sets, placed-one, placed-first, p
 use Rattle.emit.specs.WordLaws.{if-words, updating-words, declaring-words, when-is, declare-is, update-is, create-is, no-stmts, more-stmts}
 use Rattle.emit.specs.ReadLaws.{value, pair-value, pair-ok, one-stands, counted-value, opened-value}
 use Rattle.emit.specs.PathLaws.{path-facts}
-use Rattle.emit.specs.Parts.{Part, Parts}
-use Rattle.emit.specs.PartsLaws.{part-of, part-wrote, same-part, made-part, parts-of, row-none, row-more}
+use Rattle.emit.specs.Parts.{Part, Parts, Rest}
+use Rattle.emit.specs.PartsLaws.{part-of, part-wrote, same-part, made-part, parts-of, rest-ready, rest-next, rest-none}
 
 -- a declaration: its type's byte and its local stand before the expression
 pub record DeclareFacts (ar s : List ℕ) (at : ℕ) : Type 0 where
@@ -107,15 +107,18 @@ body-facts ar s d at g =
     let v = counted-value s 0 max-statements (λ n m. stmts-at ar s d n m) at g in
     record { inside = v .0; part = same-part body-words (v .1) g }
 
-module _ (ar s : List ℕ) (d n at : ℕ) where
-  -- no statement, nothing written
-  pub stmts-none : n ≡ 0 → (out : List ℕ) (k : ℕ) → Wrote body-words (stmts-at ar s d n at) out k (record { next = at; at = k }) out
-  stmts-none = row-none body-words stmt-words end next (λ m. read-stmt ar s d m) n at no-stmts
+-- of statements n are left: the next may be written, and then the others are left; or all are written
+module _ (ar s : List ℕ) (d n : ℕ) {R : Result Stmts} {out : List ℕ} {k : ℕ} {p : Put} {out1 : List ℕ}
+    (x : Rest body-words R out k (stmts-at ar s d n (p .next)) p out1) where
+  pub stmts-ready : (n ≡ 0 → ⊥) → Ready stmt-words (read-stmt ar s d (p .next)) out1 (p .at)
+  stmts-ready = rest-ready body-words stmt-words end next (λ m. read-stmt ar s d m) n x more-stmts
 
-  -- a statement, and the others behind it
-  pub stmts-more : (n ≡ 0 → ⊥) → Good (stmts-at ar s d n at)
-      → Parts body-words (stmts-at ar s d n at) stmt-words (read-stmt ar s d at) body-words (λ m. stmts-at ar s d (n - 1) m) []
-  stmts-more = row-more body-words stmt-words end next (λ m. read-stmt ar s d m) n at more-stmts
+  pub stmts-next : (n ≡ 0 → ⊥) → {q : Put} {out2 : List ℕ} → Wrote stmt-words (read-stmt ar s d (p .next)) out1 (p .at) q out2
+      → Rest body-words R out k (stmts-at ar s d (n - 1) (q .next)) q out2
+  stmts-next i w = rest-next body-words stmt-words end next (λ m. read-stmt ar s d m) n x more-stmts i w
+
+  pub stmts-none : n ≡ 0 → Wrote body-words R out k p out1
+  stmts-none = rest-none body-words stmt-words end next (λ m. read-stmt ar s d m) n x no-stmts
 
 module _ (ar s : List ℕ) where
   -- what reads behind the byte of an if

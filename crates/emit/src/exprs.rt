@@ -1,15 +1,15 @@
-// The commands of expressions (000, definition 2).
+// The commands of expressions (000, definition 2): an expression by those inside it, arguments by a loop.
 use crate::Put;
 use crate::words::add;
 use crate::words::coded;
-use crate::words::index;
 use crate::words::leaf;
 use crate::words::leaf_size;
 use crate::words::path;
 use crate::words::store;
-use crate::words::wide;
+use little_endian::index;
+use little_endian::wide;
 ghost use Rattle.program.specs.Reader.{read-expr};
-ghost use Rattle.emit.specs.Written.{Ready, Wrote, expr-words, args-words, make-words, args-at, make-at};
+ghost use Rattle.emit.specs.Written.{Ready, Wrote, expr-words, make-words, make-at};
 
 // The commands of the expression at a place, from k on.
 pub(crate) fn expr(s: &[u8], ar: &[u8], at: usize, depth: usize, out: &mut [u64], k: usize) -> Put
@@ -51,21 +51,17 @@ pub(crate) fn make(s: &[u8], ar: &[u8], at: usize, depth: usize, out: &mut [u64]
 {
     let b = s[at];
     let i = index(b);
-    let p = args(s, ar, at + 1, depth, ar[i], out, k);
+    let mut left = ar[i];
+    let mut p = Put {
+        next: at + 1,
+        at: k,
+    };
+    while left != 0 {
+        let next = p.next;
+        let j = p.at;
+        p = expr(s, ar, next, depth, out, j);
+        left -= 1;
+    }
     let v = coded(5, 0, wide(b));
     add(out, p, v)
-}
-
-// The commands of n expressions in a row.
-fn args(s: &[u8], ar: &[u8], at: usize, depth: usize, n: u8, out: &mut [u64], k: usize) -> Put
-    requires { ⌜ Ready args-words (args-at (now ar) (now s) depth n at) (now out) k ⌝ }
-    ensures { λ r. ⌜ Wrote args-words (args-at (now (ar .entry)) (now (s .entry)) depth n at) (now (out .entry)) k r (now (out .exit)) ⌝ }
-{
-    if n == 0 {
-        return Put { next: at, at: k };
-    }
-    let p = expr(s, ar, at, depth, out, k);
-    let next = p.next;
-    let i = p.at;
-    args(s, ar, next, depth, n - 1, out, i)
 }

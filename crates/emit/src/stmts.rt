@@ -1,15 +1,15 @@
-// The commands of statements (000, definition 2).
+// The commands of statements (000, definition 2): an if by its body, the statements of a body by a loop.
 use crate::Put;
 use crate::exprs::expr;
 use crate::exprs::make;
 use crate::words::add;
 use crate::words::coded;
-use crate::words::index;
 use crate::words::store;
 use crate::words::target;
-use crate::words::wide;
+use little_endian::index;
+use little_endian::wide;
 ghost use Rattle.program.specs.Reader.{read-stmt, read-declare, read-update};
-ghost use Rattle.emit.specs.Written.{Ready, Wrote, stmt-words, body-words, when-words, block-words, declare-words, update-words, stmts-at, body-at, when-at};
+ghost use Rattle.emit.specs.Written.{Ready, Wrote, stmt-words, body-words, when-words, block-words, declare-words, update-words, body-at, when-at};
 
 // A declaration: the expression, push this, and a wr of the local.
 fn declare(s: &[u8], ar: &[u8], at: usize, out: &mut [u64], k: usize) -> Put
@@ -85,19 +85,16 @@ pub(crate) fn body(s: &[u8], ar: &[u8], at: usize, depth: usize, out: &mut [u64]
     requires { ⌜ Ready body-words (body-at (now ar) (now s) depth at) (now out) k ⌝ }
     ensures { λ r. ⌜ Wrote body-words (body-at (now (ar .entry)) (now (s .entry)) depth at) (now (out .entry)) k r (now (out .exit)) ⌝ }
 {
-    stmts(s, ar, at + 1, depth, s[at], out, k)
-}
-
-// The commands of n statements in a row.
-fn stmts(s: &[u8], ar: &[u8], at: usize, depth: usize, n: u8, out: &mut [u64], k: usize) -> Put
-    requires { ⌜ Ready body-words (stmts-at (now ar) (now s) depth n at) (now out) k ⌝ }
-    ensures { λ r. ⌜ Wrote body-words (stmts-at (now (ar .entry)) (now (s .entry)) depth n at) (now (out .entry)) k r (now (out .exit)) ⌝ }
-{
-    if n == 0 {
-        return Put { next: at, at: k };
+    let mut left = s[at];
+    let mut p = Put {
+        next: at + 1,
+        at: k,
+    };
+    while left != 0 {
+        let next = p.next;
+        let j = p.at;
+        p = stmt(s, ar, next, depth, out, j);
+        left -= 1;
     }
-    let p = stmt(s, ar, at, depth, out, k);
-    let next = p.next;
-    let i = p.at;
-    stmts(s, ar, next, depth, n - 1, out, i)
+    p
 }

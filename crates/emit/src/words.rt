@@ -1,5 +1,7 @@
 // A command's word, and the words of the forms that hold no other expression.
 use crate::Put;
+use little_endian::wide;
+use little_endian::word_at;
 ghost use mathlib.Core.Path.{_≡_};
 ghost use Prim.Native.Nat.{ℕ, _+_, _<_, _≤_};
 ghost use lib.ListN.{length, getD, set};
@@ -8,19 +10,7 @@ ghost use Rattle.types.specs.Limits.{nat-end};
 ghost use Rattle.commands.specs.Coding.{coded};
 ghost use Rattle.program.specs.Reader.{read-path};
 ghost use Rattle.emit.specs.Written.{Ready, Wrote, path-words, target-words};
-ghost use Rattle.emit.specs.Leaf.{word-at, leaf-size, leaf-word, null-word, rd-words};
-
-pub(crate) fn wide(b: u8) -> u64
-    ensures { λ r. ⌜ (r ≡ b) × (r < 256) ⌝ }
-{
-    b as u64
-}
-
-pub(crate) fn index(b: u8) -> usize
-    ensures { λ r. ⌜ (r ≡ b) × (r < 256) ⌝ }
-{
-    b as usize
-}
+ghost use Rattle.emit.specs.Leaf.{leaf-size, leaf-word, null-word, rd-words};
 
 // The word of a command: its kind, the type byte of a push, its operand.
 pub(crate) fn coded(kind: u64, typ: u64, operand: u64) -> u64
@@ -50,14 +40,6 @@ pub(crate) fn add(out: &mut [u64], p: Put, v: u64) -> Put
     }
 }
 
-// The number of four bytes, the lowest first.
-fn word(s: &[u8], at: usize) -> u64
-    requires { ⌜ at + 4 ≤ length (now s) ⌝ }
-    ensures { λ r. ⌜ (r ≡ word-at (now (s .entry)) at) × (r < nat-end) ⌝ }
-{
-    wide(s[at]) + 256 * wide(s[at + 1]) + 65536 * wide(s[at + 2]) + 16777216 * wide(s[at + 3])
-}
-
 // The push of a type's default.
 fn null_word(b: u8) -> u64
     ensures { λ r. ⌜ r ≡ null-word b ⌝ }
@@ -85,7 +67,7 @@ pub(crate) fn leaf(s: &[u8], at: usize) -> u64
 {
     let tag = s[at];
     if tag < 21 {
-        let v = word(s, at + 1);
+        let v = word_at(s, at + 1);
         return coded(1, wide(tag - 19), v);
     }
     if tag < 23 {
@@ -103,12 +85,17 @@ fn reads(s: &[u8], at: usize, n: u8, out: &mut [u64], k: usize) -> Put
     requires { ⌜ (at + n ≤ length (now s)) × (k + n ≤ length (now out)) ⌝ }
     ensures { λ r. ⌜ (r .next ≡ at + n) × (r .at ≡ k + n) × (now (out .exit) ≡ sets (now (out .entry)) k (rd-words (now (s .entry)) at n)) ⌝ }
 {
-    if n == 0 {
-        return Put { next: at, at: k };
+    let mut next = at;
+    let mut i = k;
+    let mut left = n;
+    while left != 0 {
+        let v = coded(3, 0, wide(s[next]));
+        store(out, i, v);
+        next += 1;
+        i += 1;
+        left -= 1;
     }
-    let v = coded(3, 0, wide(s[at]));
-    store(out, k, v);
-    reads(s, at + 1, n - 1, out, k + 1)
+    Put { next, at: i }
 }
 
 // Push this, and an rd of each variable of the path at a place.

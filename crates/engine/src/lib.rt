@@ -79,7 +79,7 @@ impl Machine {
     }
 
     // One move of the schedule, where no instance holds commands.
-    pub fn advance(mut self, items: &[usize], spans: &[usize], heads: &mut [usize]) -> Machine
+    pub fn advance(mut self, items: &[usize], spans: &[u16], heads: &mut [usize]) -> Machine
         requires { ⌜ Movable (now items) (now spans) (now heads) (self .numbers) ⌝ }
         ensures { λ r. ⌜ ((cells : List ℕ) → state-of (r .numbers) (now (heads .exit)) cells ≡ move (now (items .entry)) (now (spans .entry)) (state-of (self .numbers) (now (heads .entry)) cells)) ⌝ }
     {

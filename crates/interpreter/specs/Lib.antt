@@ -4,8 +4,11 @@ pub mod MovingLaws
 pub mod FlagLaws
 pub mod CountLaws
 pub mod Running
+pub mod Going
 pub mod VisitWays
 pub mod TurnLaws
 pub mod RunningLaws
+pub mod RecordLaws
+pub mod GoingLaws
 pub mod SettleWays
 pub mod RunWays

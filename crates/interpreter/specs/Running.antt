@@ -48,6 +48,12 @@ module _ (p : Program) (counts list items spans : List ℕ) (m : Machine) where
         → run p m es ≡ stopped ended i m′
         → Running es i z
 
+  -- memory after i turns, before the schedule moves: it holds a machine that the run passes through
+  pub record Reached (es : List ℕ) (i : ℕ) (z : State) : Type 0 where
+    pub machine : Machine
+    pub ready : Ready p counts list items spans machine z
+    pub visits : Visits p m es machine (drop i es)
+
   -- memory after the whole run
   pub record Ended (es : List ℕ) (number taken : ℕ) (z : State) : Type 0 where
     pub last : Machine
@@ -84,7 +90,12 @@ abbrev pub Ending : List ℕ → List ℕ → List ℕ → List ℕ → List ℕ
 Ending counts list items spans es z number taken y =
     (p : Program) (m : Machine) → Ready p counts list items spans m z → Ended p counts list items spans m es number taken y
 
--- and where i turns have led from memory z
+-- where i turns and the moves behind them have led: y
 abbrev pub Gone : List ℕ → List ℕ → List ℕ → List ℕ → List ℕ → State → ℕ → State → Type 0
 Gone counts list items spans es z i y =
-    (p : Program) (m : Machine) → Settles p counts list items spans m z → Running p counts list items spans m es i y
+    (p : Program) (m : Machine) → Ready p counts list items spans m z → Running p counts list items spans m es i y
+
+-- and where i turns have led without the moves behind them
+abbrev pub Come : List ℕ → List ℕ → List ℕ → List ℕ → List ℕ → State → ℕ → State → Type 0
+Come counts list items spans es z i y =
+    (p : Program) (m : Machine) → Ready p counts list items spans m z → Reached p counts list items spans m es i y

@@ -20,12 +20,12 @@ use Rattle.memory.specs.Act.{full, exceeded, act}
 use Rattle.memory.specs.Choose.{picked}
 use Rattle.memory.specs.Move.{move}
 use Rattle.interpreter.specs.Ready.{Ready}
-use Rattle.interpreter.specs.Running.{cleared, Moving, Settles, Settles.held, Settles.still, Turned, Turned.turned, Turned.failed, Running, Running.going, Running.over, Ended}
+use Rattle.interpreter.specs.Running.{cleared, Moving, Settles, Settles.held, Settles.still, Turned, Turned.turned, Turned.failed, Running, Running.going, Running.over, Reached, Ended}
 use Rattle.interpreter.specs.VisitWays.{visits-on, visits-outcome}
 use Rattle.interpreter.specs.TurnLaws.{ends, moved-on, lasts, turned-by}
 
 -- a refused command's number is not 0
-number-some : {n : ℕ} → (n ≡ full) ⊎ (n ≡ exceeded) → n ≡ 0 → ⊥
+pub number-some : {n : ℕ} → (n ≡ full) ⊎ (n ≡ exceeded) → n ≡ 0 → ⊥
 number-some (inl e) c = omega arith
 number-some (inr e) c = omega arith
 
@@ -128,25 +128,28 @@ module _ {p : Program} {counts list items spans : List ℕ} where
                     record { last = m′; reached = v; returns = rw t at (visits-outcome i (omega arith) v u); ready = ready-cleared n r e }
 
             -- or taken, so that the run passes through the machine then, with a byte fewer
-            module _ (c : y .machine .number ≡ 0) where
-              pub taken-turn : (m″ : Machine) × (Ready p counts list items spans m″ y) × (Visits p m es m″ (drop (i + 1) es))
-              taken-turn = let (m′, r, v, t) = next-turn in go r v t
-                where
-                  go : {m′ : Machine} → Ready p counts list items spans m′ z → Visits p m es m′ (drop i es)
-                      → Turned p counts list items spans m′ byte z y
-                      → (m″ : Machine) × (Ready p counts list items spans m″ y) × (Visits p m es m″ (drop (i + 1) es))
-                  go r v (turned {m′ = m″} r′ u s) = (m″, r′, rw add-one (visits-on (rw (drop-cons es i 0 k) at v) (s (drop (suc i) es))))
-                  go r v (failed e d s) = absurd (number-some d (sym (ap (λ (x : State). x .machine .number) e) ∙ c))
+            pub taken-turn : y .machine .number ≡ 0 → Reached p counts list items spans m es (i + 1) y
+            taken-turn c = let (m′, r, v, t) = next-turn in go r v t
+              where
+                go : {m′ : Machine} → Ready p counts list items spans m′ z → Visits p m es m′ (drop i es) → Turned p counts list items spans m′ byte z y
+                    → Reached p counts list items spans m es (i + 1) y
+                go r v (turned {m′ = m″} r′ u s) =
+                    record { machine = m″; ready = r′; visits = rw add-one (visits-on (rw (drop-cons es i 0 k) at v) (s (drop (suc i) es))) }
+                go r v (failed e d s) = absurd (number-some d (sym (ap (λ (x : State). x .machine .number) e) ∙ c))
 
-              -- and the schedule moves on
-              pub runs-more : {x : State} → ((m″ : Machine) → Ready p counts list items spans m″ y → Settles p counts list items spans m″ x)
-                  → Running p counts list items spans m es (i + 1) x
-              runs-more s = let (m″, r, v) = taken-turn in go v (s m″ r)
-                where
-                  go : {m″ : Machine} → Visits p m es m″ (drop (i + 1) es) → {x : State} → Settles p counts list items spans m″ x
-                      → Running p counts list items spans m es (i + 1) x
-                  go v (held r h u) = going r h (visits-on v (u (drop (i + 1) es)))
-                  go v (still r h u f) =
-                      let w = visits-on v (u (drop (i + 1) es)) in
-                      let t : i + 1 + 0 ≡ i + 1 = omega arith in
-                      over r h w (rw t at (visits-outcome (i + 1) (omega arith) w (f (drop (i + 1) es))))
+    module _ {i : ℕ} {z : State} (g : Reached p counts list items spans m es i z) where
+      -- someone holds commands: the schedule does not move
+      pub runs-held : 0 < z .machine .holding → Running p counts list items spans m es i z
+      runs-held h = going (g .ready) h (g .visits)
+
+      -- the schedule moves on
+      pub runs-settled : i ≤ length es → {x : State} → ((w : Machine) → Ready p counts list items spans w z → Settles p counts list items spans w x)
+          → Running p counts list items spans m es i x
+      runs-settled k s = go (g .visits) (s (g .machine) (g .ready))
+        where
+          go : {w : Machine} → Visits p m es w (drop i es) → {x : State} → Settles p counts list items spans w x → Running p counts list items spans m es i x
+          go v (held r h u) = going r h (visits-on v (u (drop i es)))
+          go v (still r h u f) =
+              let w = visits-on v (u (drop i es)) in
+              let t : i + 0 ≡ i = omega arith in
+              over r h w (rw t at (visits-outcome i k w (f (drop i es))))

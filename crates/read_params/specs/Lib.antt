@@ -1,2 +1,3 @@
 pub mod ParamsTold
 pub mod ParamsWays
+pub mod ParamsLeft

@@ -5,6 +5,8 @@ ghost use mathlib.Core.Path.{_≡_};
 ghost use mathlib.Core.List.{[], _∷_};
 ghost use Prim.Native.Nat.{_+_, _*_, _≤_};
 ghost use lib.ListN.{length};
+ghost use lib.Seq.{sets};
+ghost use Rattle.judge.specs.ProgramFacts.{row};
 ghost use Rattle.program.specs.Reader.{many, read-type, read-params};
 ghost use Rattle.read_params.specs.ParamsTold.{read-list, place-told, params-told, place-refusal, params-refusal, RowKept, ListKept, ListsKept, ParamsKept, PlaceSpan, ParamsSpan};
 
@@ -42,6 +44,20 @@ pub fn params_refusal(r: ParamsRead) -> u8
     n
 }
 
+// Zeros in so much room.
+fn clear(types: &mut [u8], room: u8, place: usize)
+    requires { ⌜ place + room ≤ length (now types) ⌝ }
+    ensures { λ _. ⌜ now (types .exit) ≡ sets (now (types .entry)) place (row room []) ⌝ }
+{
+    let mut free = room;
+    let mut i = place;
+    while free != 0 {
+        types[i] = 0;
+        free -= 1;
+        i += 1;
+    }
+}
+
 // n types of a program with that many structs: their bytes, and zeros for the rest of the room.
 fn row(
     s: &[u8],
@@ -57,19 +73,23 @@ fn row(
     ensures { λ r. ⌜ PlaceSpan (now (s .entry)) at r ⌝ }
     ensures { λ _. ⌜ RowKept room place (now (types .entry)) (now (types .exit)) (many [] _∷_ (read-type (now (s .entry)) structs) n at) ⌝ }
 {
-    if room == 0 {
-        return PlaceRead::Place(at);
+    let mut next = at;
+    let mut left = n;
+    let mut free = room;
+    let mut i = place;
+    while left != 0 {
+        let r = read::type_byte(s, structs as usize, next);
+        let ByteRead::Byte(b, m) = r else {
+            return PlaceRead::NoPlace(read::byte_refusal(r));
+        };
+        types[i] = b;
+        next = m;
+        left -= 1;
+        free -= 1;
+        i += 1;
     }
-    if n == 0 {
-        types[place] = 0;
-        return row(s, types, structs, 0, room - 1, place + 1, at);
-    }
-    let r = read::type_byte(s, structs as usize, at);
-    let ByteRead::Byte(b, m) = r else {
-        return PlaceRead::NoPlace(read::byte_refusal(r));
-    };
-    types[place] = b;
-    row(s, types, structs, n - 1, room - 1, place + 1, m)
+    clear(types, free, i);
+    PlaceRead::Place(next)
 }
 
 // The parameters of struct k.
@@ -110,14 +130,19 @@ fn lists(
     ensures { λ r. ⌜ PlaceSpan (now (s .entry)) at r ⌝ }
     ensures { λ _. ⌜ ListsKept k (now (counts .entry)) (now (counts .exit)) (now (types .entry)) (now (types .exit)) (many [] _∷_ (read-list (now (s .entry)) structs) n at) ⌝ }
 {
-    if n == 0 {
-        return PlaceRead::Place(at);
+    let mut next = at;
+    let mut left = n;
+    let mut j = k;
+    while left != 0 {
+        let first = list(s, counts, types, structs, j, next);
+        let PlaceRead::Place(m) = first else {
+            return first;
+        };
+        next = m;
+        left -= 1;
+        j += 1;
     }
-    let first = list(s, counts, types, structs, k, at);
-    let PlaceRead::Place(m) = first else {
-        return first;
-    };
-    lists(s, counts, types, structs, n - 1, k + 1, m)
+    PlaceRead::Place(next)
 }
 
 // The parameter lists of a program: of each struct how many, and 8 places with their types. After a refusal the tables are free, of the

@@ -91,7 +91,7 @@ fn rest(s: &[u8], ar: &[u8], types: &[u8], structs: u8, at: usize) -> ProgramRea
     ensures { λ r. ⌜ r ≡ rest-told at (now (ar .entry)) (now (types .entry)) (now (s .entry)) (read-rest (now (ar .entry)) (now (s .entry)) at) ⌝ }
 {
     let mut has = [0u8; types::MAX_STRUCTS * types::STEP_NAMES];
-    let r = totals::structs(s, ar, types, &mut has, 0, structs, totals::none(), at);
+    let r = totals::structs(s, ar, types, &mut has, structs, totals::none(), at);
     let TotalsRead::Value(m, t) = r else {
         return ProgramRead::Refused(totals::totals_refusal(r));
     };

@@ -172,25 +172,24 @@ fn of_struct(
     TotalsRead::Value(next, all)
 }
 
-// The steps of n structs, from the struct k on. After a refusal the table of names is free, of the length that it had.
+// The steps of n structs. After a refusal the table of names is free, of the length that it had.
 pub fn structs(
     s: &[u8],
     ar: &[u8],
     types: &[u8],
     has: &mut [u8],
-    k: u8,
     n: u8,
     t: Totals,
     at: usize,
 ) -> TotalsRead
-    requires { ⌜ (length (now ar) ≤ 16) × (length (now has) ≡ 512) × (k + n ≤ 16) ⌝ }
+    requires { ⌜ (length (now ar) ≤ 16) × (length (now has) ≡ 512) × (n ≤ 16) ⌝ }
     requires { ⌜ Low t at × (at ≤ length (now s)) ⌝ }
-    ensures { λ r. ⌜ Told (λ tss. step-totals (now (ar .entry)) (now (types .entry)) k tss (with t (now (has .entry)))) (many [] _∷_ (read-steps (now (ar .entry)) (now (s .entry))) n at) r (now (has .exit)) ⌝ }
+    ensures { λ r. ⌜ Told (λ tss. step-totals (now (ar .entry)) (now (types .entry)) 0 tss (with t (now (has .entry)))) (many [] _∷_ (read-steps (now (ar .entry)) (now (s .entry))) n at) r (now (has .exit)) ⌝ }
     ensures { λ r. ⌜ Bounded (now (s .entry)) r ⌝ }
 {
     let mut all = t;
     let mut next = at;
-    let mut own = k;
+    let mut own = 0;
     let mut left = n;
     while 0 < left {
         let r = of_struct(s, ar, types, has, own, all, next);

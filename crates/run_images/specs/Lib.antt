@@ -1,5 +1,6 @@
 pub mod Answer
 pub mod Stages
 pub mod StageLaws
+pub mod SizeLaws
 pub mod SeatLaws
 pub mod RunLaws

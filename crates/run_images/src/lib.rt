@@ -11,7 +11,7 @@ ghost use mathlib.Core.Path.{_≡_};
 ghost use Prim.Native.Nat.{_*_, _≤_};
 ghost use lib.ListN.{length};
 ghost use Rattle.types.specs.Limits.{table-blocks, max-commands, max-turns, max-instances};
-ghost use Rattle.block.specs.Block.{block-size};
+ghost use Rattle.block.specs.Block.{block-size, payload-size};
 ghost use Rattle.run.specs.Entry.{report, run-report, run-output, run-list};
 ghost use Rattle.table_write.specs.Written.{Filled, memory-blocks, memory-image};
 ghost use Rattle.run_images.specs.Answer.{answer, table-refusal};
@@ -73,7 +73,7 @@ fn played(
     requires { ⌜ max-commands ≤ length (now list) ⌝ }
     ensures { λ r. ⌜ Plays (now (s .entry)) (now (counts .entry)) seat (now (heads .entry)) (now (cells .entry)) (now (turns .entry)) (now (list .entry)) r (now (heads .exit)) (now (cells .exit)) (now (list .exit)) ⌝ }
 {
-    let mut spans = [0usize; SPANS];
+    let mut spans = [0u16; SPANS];
     let mut items = [0usize; CODES];
     compile::program(s, counts, seat.at, list, &mut spans, &mut items);
     let numbers = seat.numbers;
@@ -81,24 +81,25 @@ fn played(
     interpreter::turns::run(first, list, counts, &items, &spans, heads, cells, turns)
 }
 
-// What a run answers; the table as it stands then is written into the output.
+// What a run answers; the table as it stands then is written into the output, its stream into the buffer before.
 fn reported(
     counts: &[u8],
     heads: &[usize],
     cells: &[u64],
     ran: Ran,
     depth: u8,
+    buffer: &mut [u8],
     output: &mut [u8],
 ) -> Report
     requires { ⌜ Filled (now counts) (now heads) (now cells) (ran .machine .numbers .count) ⌝ }
     requires { ⌜ (length (now counts) ≤ ran .machine .numbers .count) × (ran .taken ≤ max-turns) × (ran .machine .numbers .holding ≤ max-instances) ⌝ }
-    requires { ⌜ block-size * table-blocks ≤ length (now output) ⌝ }
+    requires { ⌜ (payload-size * table-blocks ≤ length (now buffer)) × (block-size * table-blocks ≤ length (now output)) ⌝ }
     ensures { λ r. ⌜ r ≡ answer (report (ran .number) (ran .taken) (memory-blocks (now (counts .entry)) (now (heads .entry)) (now (cells .entry)) (ran .machine .numbers .count)) depth (ran .machine .numbers .holding)) ⌝ }
     ensures { λ _. ⌜ now (output .exit) ≡ memory-image (now (counts .entry)) (now (heads .entry)) (now (cells .entry)) (ran .machine .numbers .count) (now (output .entry)) ⌝ }
 {
     let last = ran.machine;
     let count = last.numbers.count;
-    let blocks = table_write::write(counts, heads, cells, count, output);
+    let blocks = table_write::write(counts, heads, cells, count, buffer, output);
     Report {
         number: ran.number,
         turns: ran.taken as u32,
@@ -134,11 +135,11 @@ pub fn run(
     let n = p.length;
     let k = p.structs as usize;
     let end = types::MAX_PARAMS * k;
-    let s = &stream[..n];
     let cs = &counts[..k];
     let ts = &types[..end];
-    // 9 to 12
-    let read = table_read::read_image(table, cs, ts, &mut heads, &mut cells);
+    // 9 to 12; behind an accepted program the buffer has room for a table
+    let rest = &mut stream[n..];
+    let read = table_read::read_image(table, cs, ts, rest, &mut heads, &mut cells);
     let TableRead::Instances(count) = read else {
         return refused(table_refusal(read));
     };
@@ -155,6 +156,7 @@ pub fn run(
     }
     let numbers = layout::fresh(count);
     let seat = Seat { at: p.at, numbers };
+    let s = &stream[..n];
     let ran = played(s, cs, seat, &mut heads, &mut cells, turns, list);
-    reported(cs, &heads, &cells, ran, p.depth, output)
+    reported(cs, &heads, &cells, ran, p.depth, &mut stream, output)
 }

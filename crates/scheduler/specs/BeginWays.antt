@@ -40,15 +40,19 @@ module _ (spans : List ℕ) (c : ℕ) (heads : List ℕ) (l : ℕ) where
   pub one-not-meant : means c k₀ ≡ false → begin-one spans c heads l ≡ heads
   one-not-meant m = one-stays spans c heads l refl (rw m)
 
-  pub one-without : means c k₀ ≡ true → e₀ < a₀ → begin-one spans c heads l ≡ heads
-  one-without m h =
-      let t = lt-leb a₀ (to spans k₀ (c % step-names)) (rw ends at h) in
-      one-stays spans c heads l refl (rw (m, t))
+  -- its two numbers, as they were read
+  module _ {a e : ℕ} (first : a ≡ a₀) (last : e ≡ e₀) where
+    pub one-without : means c k₀ ≡ true → e < a → begin-one spans c heads l ≡ heads
+    one-without m h =
+        let g : e₀ < a₀ = omega (arith, h, first, last) in
+        let t = lt-leb a₀ (to spans k₀ (c % step-names)) (rw ends at g) in
+        one-stays spans c heads l refl (rw (m, t))
 
-  pub one-with : means c k₀ ≡ true → a₀ ≤ e₀ → begin-one spans c heads l ≡ begun heads l a₀ e₀
-  one-with m h =
-      let t = le-leb a₀ (to spans k₀ (c % step-names)) (rw ends at h) in
-      one-begins spans c heads l refl (rw (m, t)) ∙ ap (begun heads l a₀) (sym ends)
+    pub one-with : means c k₀ ≡ true → a ≤ e → begin-one spans c heads l ≡ begun heads l a e
+    one-with m h =
+        let g : a₀ ≤ e₀ = omega (arith, h, first, last) in
+        let t = le-leb a₀ (to spans k₀ (c % step-names)) (rw ends at g) in
+        one-begins spans c heads l refl (rw (m, t)) ∙ rw (first, last, ends)
 
   -- no instance changes its struct
   one-struct : (j : ℕ) → getD (begin-one spans c heads l) (head j struct-of) 0 ≡ getD heads (head j struct-of) 0

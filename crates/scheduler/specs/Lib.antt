@@ -1,6 +1,6 @@
 pub mod Ready
 pub mod BeginWays
-pub mod ChooseWays
+pub mod CountWays
 pub mod Makes
 pub mod MoveWays
 pub mod ReadyLaws

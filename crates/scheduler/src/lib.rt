@@ -1,4 +1,4 @@
-// The moves of the schedule and the choice of a holder, on lent memory (01, 'Table and turns').
+// The moves of the schedule and the count of those who hold commands, on lent memory (01, 'Table and turns').
 pub mod begin;
-pub mod choose;
+pub mod count;
 pub mod schedule;

@@ -1,6 +1,6 @@
 // One move of the schedule, where no instance holds commands (000's rules for the schedule; 01, 'Table and turns').
 use crate::begin::begin_all;
-use crate::choose::holding;
+use crate::count::holding;
 use layout::Numbers;
 use layout::codes;
 ghost use mathlib.Core.Path.{_≡_};
@@ -40,7 +40,7 @@ fn round(t: usize, numbers: Numbers) -> Numbers
 }
 
 // The item at the place of a machine with these numbers.
-pub fn advance(numbers: Numbers, items: &[usize], spans: &[usize], heads: &mut [usize]) -> Numbers
+pub fn advance(numbers: Numbers, items: &[usize], spans: &[u16], heads: &mut [usize]) -> Numbers
     requires { ⌜ Movable (now items) (now spans) (now heads) numbers ⌝ }
     ensures { λ r. ⌜ Moves (now (items .entry)) (now (spans .entry)) (now (heads .entry)) numbers r (now (heads .exit)) ⌝ }
 {

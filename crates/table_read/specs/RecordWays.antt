@@ -7,6 +7,7 @@ use mathlib.Core.List.{List, [], _∷_}
 use lib.ListN.{length, getD}
 use lib.Seq.{sets}
 use Rattle.types.specs.Limits.{max-params}
+use Rattle.types.specs.Numbers.{table-end, table-value}
 use Rattle.types.specs.Values.{Val}
 use Rattle.program.specs.Reader.{Result, Result.ok, Result.bad, then, pair, made, many, ranged}
 use Rattle.read_exprs.specs.ByteWays.{byte-is, byte-stops, ranged-in, ranged-out, ranged-above}
@@ -31,13 +32,13 @@ module _ (cs ts s : List ℕ) (at : ℕ) (h c : List ℕ) (l : ℕ) where
   unfolding pair made then
   refused q n h′ c′ e = rw (e .1)
 
-  pub record-cut : length s ≤ at → (h′ c′ : List ℕ) → RecordLaid cs ts s at h c l (NoPlace 11) h′ c′
+  pub record-cut : length s ≤ at → (h′ c′ : List ℕ) → RecordLaid cs ts s at h c l (NoPlace table-end) h′ c′
   unfolding read-record table-number
   record-cut b h′ c′ =
       refused (ranged s 0 (length (lists-of cs ts)) at) 4 h′ c′
       (byte-stops (ranged s 0 (length (lists-of cs ts)) at) 4 (ranged-out s 0 (length (lists-of cs ts)) at b))
 
-  pub record-wrong : at < length s → length cs ≤ getD s at 0 → (h′ c′ : List ℕ) → RecordLaid cs ts s at h c l (NoPlace 12) h′ c′
+  pub record-wrong : at < length s → length cs ≤ getD s at 0 → (h′ c′ : List ℕ) → RecordLaid cs ts s at h c l (NoPlace table-value) h′ c′
   unfolding read-record table-number
   record-wrong b w h′ c′ =
       refused (ranged s 0 (length (lists-of cs ts)) at) 5 h′ c′

@@ -8,6 +8,7 @@ use lib.ListN.{length, getD}
 use lib.Dec.{leb}
 use borrow.Author.Tests.{lt-ltb, le-ltb, le-leb, lt-leb}
 use Rattle.types.specs.Limits.{max-instances, max-params, table-blocks}
+use Rattle.types.specs.Numbers.{table-end, table-value}
 use Rattle.types.specs.Types.{Ty}
 use Rattle.blocks.specs.Images.{fault, stream, table-number as block-number}
 use Rattle.block.specs.declared.Fault.{Fault}
@@ -20,6 +21,7 @@ use Rattle.table.specs.Table.{Record, count-bytes, enc-record, HeldRecord}
 use Rattle.table.specs.TableReader.{read-record, read-count, read-table, references, TableAnswer.table, TableAnswer.no-table, table-number, table-answer, table-of-stream}
 use Rattle.table.specs.TableExact.{record-exact}
 use Rattle.layout.specs.Layout.{head-size, row-size}
+use Rattle.table_read.specs.declared.reading.PlaceRead.{PlaceRead}
 use Rattle.table_read.specs.declared.reading.PlaceRead.the-variants.{Place, NoPlace}
 use Rattle.table_read.specs.declared.reading.CountRead.the-variants.{Count, NoCount}
 use Rattle.table_read.specs.declared.TableRead.the-variants.{Instances}
@@ -38,11 +40,11 @@ use Rattle.table_read.specs.ValueWays.{word-in, word-out}
 -- N --------------------------------------------------------------------------------
 
 module _ (s : List ℕ) (bytes : (i : ℕ) → getD s i 0 < 256) (pss : List (List Ty)) where
-  pub count-cut : length s < 2 → NoCount 11 ≡ count-told (read-count pss s 0)
+  pub count-cut : length s < 2 → NoCount table-end ≡ count-told (read-count pss s 0)
   unfolding read-count then table-number
   count-cut h = let (p, e) = word-out s bytes 2 0 (omega arith) (omega arith) in rw e
 
-  pub count-wrong : 2 ≤ length s → (n : ℕ) → n ≡ number-at 2 s 0 → max-instances < n + length pss → NoCount 12 ≡ count-told (read-count pss s 0)
+  pub count-wrong : 2 ≤ length s → (n : ℕ) → n ≡ number-at 2 s 0 → max-instances < n + length pss → NoCount table-value ≡ count-told (read-count pss s 0)
   unfolding read-count then guard table-number
   count-wrong h n e w = rw (word-in s bytes 2 0 h, ← e, lt-leb (n + length pss) max-instances w)
 
@@ -66,12 +68,12 @@ pub record Got (cs ts s : List ℕ) (n : ℕ) (h₀ c₀ : List ℕ) (m : ℕ) (
   pub heads : h ≡ heads-laid h₀ 0 (all-records (lists-of cs ts) rs)
   pub cells : c ≡ rows-laid ts c₀ 0 (all-records (lists-of cs ts) rs)
 
-module _ (cs ts s : List ℕ) (n : ℕ) (h₀ c₀ : List ℕ) where
+module _ (cs ts s : List ℕ) (n : ℕ) where
   -- behind the null instances
-  pub got : (h₁ c₁ : List ℕ) → h₁ ≡ heads-laid h₀ 0 (null-records 0 (lists-of cs ts)) → c₁ ≡ rows-laid ts c₀ 0 (null-records 0 (lists-of cs ts))
-      → (m : ℕ) (h c : List ℕ) → RecordsLaid cs ts s n count-bytes h₁ c₁ (length cs) (Place m) h c → Got cs ts s n h₀ c₀ m h c
-  got h₁ c₁ e f m h c w =
-      let (rs, q, x) = laid-is (records-laid ts h₁ c₁ (length cs)) (many [] _∷_ (read-record (lists-of cs ts) s) n count-bytes) m (h, c) w in
+  pub got : (h₀ c₀ h₁ c₁ : List ℕ) → h₁ ≡ heads-laid h₀ 0 (null-records 0 (lists-of cs ts)) → c₁ ≡ rows-laid ts c₀ 0 (null-records 0 (lists-of cs ts))
+      → {r : PlaceRead} (m : ℕ) (h c : List ℕ) → r ≡ Place m → RecordsLaid cs ts s n count-bytes h₁ c₁ (length cs) r h c → Got cs ts s n h₀ c₀ m h c
+  got h₀ c₀ h₁ c₁ e f m h c p w =
+      let (rs, q, x) = laid-is (records-laid ts h₁ c₁ (length cs)) (many [] _∷_ (read-record (lists-of cs ts) s) n count-bytes) m (h, c) (rw p at w) in
       go rs q x
     where
       place : length cs ≡ 0 + length (null-records 0 (lists-of cs ts))
@@ -91,59 +93,60 @@ module _ (cs ts s : List ℕ) (n : ℕ) (h₀ c₀ : List ℕ) where
           }
 
   -- a record is refused
-  pub behind-refused : (h₁ c₁ : List ℕ) (e : ℕ) (h c : List ℕ) → RecordsLaid cs ts s n count-bytes h₁ c₁ (length cs) (NoPlace e) h c
-      → behind-count (lists-of cs ts) s n ≡ no-table e
+  pub behind-refused : (h₁ c₁ : List ℕ) {r : PlaceRead} (e : ℕ) (h c : List ℕ) → r ≡ NoPlace e
+      → RecordsLaid cs ts s n count-bytes h₁ c₁ (length cs) r h c → behind-count (lists-of cs ts) s n ≡ no-table e
   unfolding behind-count then table-answer
-  behind-refused h₁ c₁ e h c w =
-      let (p, j, q, x) = laid-stops (records-laid ts h₁ c₁ (length cs)) (many [] _∷_ (read-record (lists-of cs ts) s) n count-bytes) e (h, c) w in
+  behind-refused h₁ c₁ e h c f w =
+      let (p, j, q, x) =
+      laid-stops (records-laid ts h₁ c₁ (length cs)) (many [] _∷_ (read-record (lists-of cs ts) s) n count-bytes) e (h, c) (rw f at w) in
       go p j q x
     where
       go : (p j : ℕ) → many [] _∷_ (read-record (lists-of cs ts) s) n count-bytes ≡ bad p j → e ≡ table-number j
           → behind-count (lists-of cs ts) s n ≡ no-table e
       go p j q x = rw (q, x)
 
-  module _ (m : ℕ) (h c : List ℕ) (g : Got cs ts s n h₀ c₀ m h c) where
-    -- the stream goes on after its end
-    pub behind-more : m < length s → behind-count (lists-of cs ts) s n ≡ no-table 11
-    unfolding behind-count then ended table-answer table-number
-    behind-more l = rw (g .were, ended, lt-ltb m (length s) l)
+module _ {cs ts s : List ℕ} {n : ℕ} {h₀ c₀ : List ℕ} {m : ℕ} {h c : List ℕ} (g : Got cs ts s n h₀ c₀ m h c) where
+  -- the stream goes on after its end
+  pub behind-more : m < length s → behind-count (lists-of cs ts) s n ≡ no-table table-end
+  unfolding behind-count then ended table-answer table-number
+  behind-more l = rw (g .were, ended, lt-ltb m (length s) l)
 
-    -- it does not, and the references decide
-    ends : length s ≤ m → (t : Bool) → references (lists-of cs ts) (g .rs) (g .rs) ≡ t
-        → behind-count (lists-of cs ts) s n ≡ elim t [ true ↦ table (g .rs) | false ↦ no-table 12 ]
-    unfolding behind-count then ended table-answer
-    ends l t e = rw (g .were, ended, le-ltb m (length s) l, table-answer, e)
+  -- it does not, and the references decide
+  ends : length s ≤ m → (t : Bool) → references (lists-of cs ts) (g .rs) (g .rs) ≡ t
+      → behind-count (lists-of cs ts) s n ≡ elim t [ true ↦ table (g .rs) | false ↦ no-table table-value ]
+  unfolding behind-count then ended table-answer
+  ends l t e = rw (g .were, ended, le-ltb m (length s) l, table-answer, e)
 
-    module _ (tables : Tables cs ts) (bytes : (i : ℕ) → getD ts i 0 < 256) (long : length h₀ ≡ head-size * max-instances)
-        (wide : length c₀ ≡ row-size * max-instances) (room : n + length cs ≤ max-instances) where
-      S : length (lists-of cs ts) ≡ length cs
-      S = lists-length ts 0 cs
+  module _ (tables : Tables cs ts) (bytes : (i : ℕ) → getD ts i 0 < 256) (long : length h₀ ≡ head-size * max-instances)
+      (wide : length c₀ ≡ row-size * max-instances) (room : n + length cs ≤ max-instances) where
+    S : length (lists-of cs ts) ≡ length cs
+    S = lists-length ts 0 cs
 
-      all : length (lists-of cs ts) + length (g .rs) ≡ length cs + n
-      all = omega (arith, S, g .counted)
+    all : length (lists-of cs ts) + length (g .rs) ≡ length cs + n
+    all = omega (arith, S, g .counted)
 
-      fits : head-size * (length (lists-of cs ts) + length (g .rs)) ≤ length h₀
-      fits = omega (arith, all)
+    fits : head-size * (length (lists-of cs ts) + length (g .rs)) ≤ length h₀
+    fits = omega (arith, all)
 
-      pub behind-structs : Structs h (length cs + n) (length cs)
-      behind-structs = rw (g .heads, ← all) (laid-structs cs ts bytes (g .rs) h₀ fits (g .held))
+    pub behind-structs : Structs h (length cs + n) (length cs)
+    behind-structs = rw (g .heads, ← all) (laid-structs cs ts bytes (g .rs) h₀ fits (g .held))
 
-      refers : rows-refer cs ts h c (length cs + n) (length cs) (length cs + n - length cs) ≡ references (lists-of cs ts) (g .rs) (g .rs)
-      refers =
-          let d : length cs + n - length cs ≡ length (g .rs) = omega (arith, g .counted) in
-          rw (d, ← all, ← S, g .heads, g .cells)
-          (laid-refers cs ts bytes (g .rs) h₀ fits c₀ (omega (arith, all)) (λ k. rw (list-is cs ts k, types-length ts (max-params * k) (getD cs k 0)) (tables .each k)) (g .held))
+    refers : rows-refer cs ts h c (length cs + n) (length cs) (length cs + n - length cs) ≡ references (lists-of cs ts) (g .rs) (g .rs)
+    refers =
+        let d : length cs + n - length cs ≡ length (g .rs) = omega (arith, g .counted) in
+        rw (d, ← all, ← S, g .heads, g .cells)
+        (laid-refers cs ts bytes (g .rs) h₀ fits c₀ (omega (arith, all)) (λ k. rw (list-is cs ts k, types-length ts (max-params * k) (getD cs k 0)) (tables .each k)) (g .held))
 
-      module _ (l : length s ≤ m) (t : Bool) (e : t ≡ rows-refer cs ts h c (length cs + n) (length cs) (length cs + n - length cs)) where
-        pub behind-wrong : t ≡ false → behind-count (lists-of cs ts) s n ≡ no-table 12
-        behind-wrong w = ends l false (sym refers ∙ sym e ∙ w)
+    module _ (l : length s ≤ m) (t : Bool) (e : t ≡ rows-refer cs ts h c (length cs + n) (length cs) (length cs + n - length cs)) where
+      pub behind-wrong : t ≡ false → behind-count (lists-of cs ts) s n ≡ no-table table-value
+      behind-wrong w = ends l false (sym refers ∙ sym e ∙ w)
 
-        -- the instances, and memory with all of them
-        pub behind-right : t ≡ true
-            → (Instances (length cs + n) ≡ table-told (length cs) (behind-count (lists-of cs ts) s n))
-            × (TableLaid cs ts h₀ c₀ (behind-count (lists-of cs ts) s n) h c)
-        behind-right w =
-            rw (ends l true (sym refers ∙ sym e ∙ w)) (ap (λ k. Instances (length cs + k)) (sym (g .counted)), (g .heads, g .cells))
+      -- the instances, and memory with all of them
+      pub behind-right : t ≡ true
+          → (Instances (length cs + n) ≡ table-told (length cs) (behind-count (lists-of cs ts) s n))
+          × (TableLaid cs ts h₀ c₀ (behind-count (lists-of cs ts) s n) h c)
+      behind-right w =
+          rw (ends l true (sym refers ∙ sym e ∙ w)) (ap (λ k. Instances (length cs + k)) (sym (g .counted)), (g .heads, g .cells))
 
 -- A whole stream -------------------------------------------------------------------
 

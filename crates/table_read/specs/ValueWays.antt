@@ -9,6 +9,7 @@ use mathlib.Core.List.{List}
 use lib.ListN.{length, getD}
 use borrow.Author.Tests.{ltb-true, lt-ltb}
 use Rattle.types.specs.Limits.{nat-end}
+use Rattle.types.specs.Numbers.{table-end, table-value}
 use Rattle.types.specs.Types.{Ty, type-of}
 use Rattle.types.specs.TypeLaws.{type-of-struct}
 use Rattle.types.specs.TypeBytes.{word-end}
@@ -48,11 +49,11 @@ module _ (s : List ℕ) (bytes : (i : ℕ) → getD s i 0 < 256) where
 
   -- a value that the end of the stream cuts short, one that is not allowed, one that is
   module _ {M : Type 0} (f : Val → M) (x : M) (t : Ty) (at : ℕ) where
-    pub value-cut : at ≤ length s → length s - at < 4 → Laid f (read-value s t at) (NoPlace 11) x
+    pub value-cut : at ≤ length s → length s - at < 4 → Laid f (read-value s t at) (NoPlace table-end) x
     unfolding read-value made then table-number
     value-cut h k = let (p, e) = word-out 4 at h (omega arith) in rw e
 
-    pub value-wrong : at + 4 ≤ length s → (w : ℕ) → w ≡ number-at 4 s at → allowed t w ≡ false → Laid f (read-value s t at) (NoPlace 12) x
+    pub value-wrong : at + 4 ≤ length s → (w : ℕ) → w ≡ number-at 4 s at → allowed t w ≡ false → Laid f (read-value s t at) (NoPlace table-value) x
     unfolding read-value made then guard table-number
     value-wrong h w e a = rw (word-in 4 at h, ← e, a)
 

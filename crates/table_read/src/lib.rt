@@ -11,7 +11,8 @@ use reading::PlaceRead;
 ghost use mathlib.Core.Path.{_≡_};
 ghost use Prim.Native.Nat.{_+_, _*_, _≤_};
 ghost use lib.ListN.{length};
-ghost use Rattle.types.specs.Limits.{max-instances};
+ghost use Rattle.types.specs.Limits.{max-instances, table-blocks};
+ghost use Rattle.block.specs.Block.{payload-size};
 ghost use Rattle.table.specs.TableReader.{table-of-stream};
 ghost use Rattle.layout.specs.Layout.{head-size, row-size};
 ghost use Rattle.table_read.specs.Params.{Tables, lists-of};
@@ -40,7 +41,7 @@ fn behind(
 {
     let structs = counts.len();
     nulls::nulls(counts, types, heads, cells);
-    let r = reading::records(s, counts, types, n, 2, heads, cells, structs);
+    let r = reading::records(s, counts, types, n, 2, heads, cells);
     let PlaceRead::Place(m) = r else {
         return TableRead::Refused(reading::place_refusal(r));
     };
@@ -68,21 +69,23 @@ fn read(s: &[u8], counts: &[u8], types: &[u8], heads: &mut [usize], cells: &mut 
     behind(s, counts, types, n, heads, cells)
 }
 
-// A table image: 9 and 10, then what its stream comes to, memory too. The buffer has room for every block that is allowed.
+// A table image: 9 and 10, then what its stream comes to, memory too. The buffer has room for every block that is allowed; afterwards it is
+// free, of the length that it had.
 pub fn read_image(
     image: &[u8],
     counts: &[u8],
     types: &[u8],
+    buffer: &mut [u8],
     heads: &mut [usize],
     cells: &mut [u64],
 ) -> TableRead
     requires { ⌜ Tables (now counts) (now types) ⌝ }
     requires { ⌜ (length (now heads) ≡ head-size * max-instances) × (length (now cells) ≡ row-size * max-instances) ⌝ }
+    requires { ⌜ payload-size * table-blocks ≤ length (now buffer) ⌝ }
     ensures { λ r. ⌜ r ≡ table-told (length (now (counts .entry))) (image-answer (lists-of (now (counts .entry)) (now (types .entry))) (now (image .entry))) ⌝ }
     ensures { λ _. ⌜ TableLaid (now (counts .entry)) (now (types .entry)) (now (heads .entry)) (now (cells .entry)) (image-answer (lists-of (now (counts .entry)) (now (types .entry))) (now (image .entry))) (now (heads .exit)) (now (cells .exit)) ⌝ }
 {
-    let mut buffer = [0u8; types::TABLE_BLOCKS * blocks::PAYLOAD_SIZE];
-    let r = blocks::open_image(image, types::TABLE_BLOCKS, &mut buffer);
+    let r = blocks::open_image(image, types::TABLE_BLOCKS, buffer);
     let Opened::Stream(n) = r else {
         return TableRead::Refused(blocks::table_number(blocks::fault_of(r)));
     };

@@ -151,7 +151,7 @@ fn one_record(
     )
 }
 
-// n records from a place on, as the instances from l on.
+// n records from a place on, as the instances behind the null ones.
 pub(crate) fn records(
     s: &[u8],
     counts: &[u8],
@@ -160,17 +160,16 @@ pub(crate) fn records(
     at: usize,
     heads: &mut [usize],
     cells: &mut [u64],
-    l: usize,
 ) -> PlaceRead
     requires { ⌜ Tables (now counts) (now types) ⌝ }
-    requires { ⌜ (at ≤ length (now s)) × (head-size * (l + n) ≤ length (now heads)) × (row-size * (l + n) ≤ length (now cells)) ⌝ }
-    ensures { λ r. ⌜ RecordsLaid (now (counts .entry)) (now (types .entry)) (now (s .entry)) n at (now (heads .entry)) (now (cells .entry)) l r (now (heads .exit)) (now (cells .exit)) ⌝ }
+    requires { ⌜ (at ≤ length (now s)) × (head-size * (length (now counts) + n) ≤ length (now heads)) × (row-size * (length (now counts) + n) ≤ length (now cells)) ⌝ }
+    ensures { λ r. ⌜ RecordsLaid (now (counts .entry)) (now (types .entry)) (now (s .entry)) n at (now (heads .entry)) (now (cells .entry)) (length (now (counts .entry))) r (now (heads .exit)) (now (cells .exit)) ⌝ }
     ensures { λ r. ⌜ Within (now (s .entry)) at r ⌝ }
 {
     let mut next = at;
     let mut i = 0;
     while i < n {
-        let r = one_record(s, counts, types, next, heads, cells, l + i);
+        let r = one_record(s, counts, types, next, heads, cells, counts.len() + i);
         let PlaceRead::Place(m) = r else {
             return r;
         };

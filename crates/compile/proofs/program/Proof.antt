@@ -2,7 +2,7 @@
 use borrow.Author.Needs.{needs}
 use native.Mathlib.Omega.{arith}
 use lib.ListN.{length-replicate}
-use Rattle.compile.specs.PreparedLaws.{structs-few, steps-fit, rows-few, rows-ranged, codes-ready, prepared}
+use Rattle.compile.specs.PreparedLaws.{structs-few, steps-fit, rows-few, rows-held, codes-ready, prepared}
 use Rattle.compile.proofs.program.Statement.{statement}
 use Rattle.compile.proofs.program.Tie as tie
 
@@ -29,7 +29,7 @@ of-rows-requires : tie.Need-of-rows-requires
 of-rows-requires c κs =
     let w = at-program (c .before) in let h = start₃ w .pre in
     let long = rw length-replicate at (w .program .kept .1 .1 .1 .1 .0) in
-    (omega (arith, rows-few h (w .program .ensures), long), rows-ranged h (w .program .ensures), h .spans-long, structs-few h)
+    (omega (arith, rows-few h (w .program .ensures), long), rows-held h (w .program .ensures), h .spans-long, structs-few h)
 
 schedule-requires : tie.Need-schedule-requires
 schedule-requires c κs =

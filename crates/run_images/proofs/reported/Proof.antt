@@ -7,16 +7,18 @@ use Rattle.run_images.proofs.reported.Tie as tie
 
 -- the places that proofs look back to
 abbrev at-write : tie.After-struct-known → tie.After-write
-at-write c = c .before .before .before
+at-write c = let at-back = c .before .before in at-back .before .before .before
 
 abbrev start : tie.After-write → tie.Start
-start c = let at-known = c .before .before .before .before in at-known .before .before .before
+start c = let at-known = c .before .before .before .before in let at-slice = at-known .before in at-slice .before .before .before .before
 
-cast-t13 : tie.Need-cast-t13
-cast-t13 c = omega (arith, stream-fits _ _ _ _ (start (at-write c) .pre .0) .1, at-write c .write .ensures .0)
+cast-t16 : tie.Need-cast-t16
+cast-t16 c = omega (arith, stream-fits _ _ _ _ (start (at-write c) .pre .0) .1, at-write c .write .ensures .0)
 
 returns : tie.Need-returns
 returns c = let e = at-write (c .before) .write .ensures in (rw (e .0), e .1)
 
 pub reported-spec : {M : Type 1} → statement M
-reported-spec = tie.close (tie.spec (λ c κs. search needs) (λ c. search needs) cast-t13 (λ c. search needs) (λ c. search needs) returns)
+reported-spec =
+    tie.close
+    (tie.spec (λ c κs. search needs) (λ c. search needs) cast-t16 (λ c. search needs) (λ c. search needs) (λ c. search needs) returns)

@@ -6,8 +6,7 @@ use mathlib.Core.Path.{_≡_, refl, sym, _∙_}
 use lib.ListN.{length}
 use Rattle.directory.specs.Rows.{rows-from}
 use Rattle.directory.specs.RowsLaws.{rows-each}
-use Rattle.directory.specs.DirectoryLaws.{RowInRange}
-use Rattle.compile.specs.Spans.{noted}
+use Rattle.compile.specs.Spans.{RowHeld, noted}
 use Rattle.compile.specs.SpansLaws.{noted-none, noted-all, noted-more}
 use Rattle.compile.proofs.spans.note.Statement.{statement}
 use Rattle.compile.proofs.spans.note.Tie as tie
@@ -40,7 +39,7 @@ row-at-requires c κs = let inside = c .before in omega (arith, inside .loop-tes
 note-row-requires : tie.Need-note-row-requires Inv-loop μ-loop
 note-row-requires c κs =
     let inside = c .before .before in let at-loop = inside .before in let h = start at-loop .pre in (
-      rw (c .row-at .ensures) (rows-each RowInRange _ _ (h .1) (at-loop .loop .i - 1) (omega (arith, inside .loop-test .taken, at-loop .loop .inv .0))),
+      rw (c .row-at .ensures) (rows-each RowHeld _ _ (h .1) (at-loop .loop .i - 1) (omega (arith, inside .loop-test .taken, at-loop .loop .inv .0))),
       at-loop .loop .inv .1 ∙ h .2,
     )
 

@@ -8,14 +8,14 @@ use Rattle.emit.proofs.words.leaf.Tie as tie
 abbrev at-if1 : tie.After-shared-slice-known3 → tie.Else1
 at-if1 c = c .before .before
 
-word-requires : tie.Need-word-requires
-word-requires c κs =
+word-at-requires : tie.Need-word-at-requires
+word-at-requires c κs =
     leaf-word-in (c .before .before .before .args .s .now) (c .before .before .before .args .at) (c .before .before .before .pre .1) (c .if1 .taken)
 
 returns : tie.Need-returns
 returns c =
     let at-word = c .before .before in let start = at-word .before .before .before .before in
-    leaf-word-is (start .args .s .now) (start .args .at) (at-word .before .if1 .taken) (at-word .word .ensures .0) (c .before .wide .ensures .0)
+    leaf-word-is (start .args .s .now) (start .args .at) (at-word .before .if1 .taken) (at-word .word-at .ensures .0) (c .before .wide .ensures .0)
     (c .coded .ensures)
 
 shared-slice-read-b : tie.Need-shared-slice-read-b
@@ -44,5 +44,5 @@ pub leaf-spec : {M : Type 1} → statement M
 leaf-spec =
     tie.close
     (tie.spec (λ c. leaf-in (c .before .before .args .s .now) (c .before .before .args .at) (c .before .before .pre .1)) (λ c. search needs)
-    word-requires (λ c. search needs) (λ c κs. search needs) (λ c κs. search needs) returns (λ c. search needs) shared-slice-read-b
+    word-at-requires (λ c. search needs) (λ c κs. search needs) (λ c κs. search needs) returns (λ c. search needs) shared-slice-read-b
     (λ c. search needs) (λ c κs. search needs) (λ c κs. search needs) returns-2 (λ c κs. search needs) returns-3 (λ c κs. search needs) returns-4)

@@ -1,128 +1,135 @@
--- `interpreter::turns::run` meets its contract. The loop's invariant: memory is where the turns taken have led, whichever machine it held.
--- The measure is the bytes that are left.
-use Prim.Native.Nat.{_-_, _≤_}
+-- `interpreter::turns::run` meets its contract. The loop's invariant: a run that has come to where the loop begins has come to where it stands.
+-- The measure is the turns that are left.
 use mathlib.Core.Path.{_≡_, refl, _∙_}
 use lib.ListN.{length}
 use borrow.Author.Needs.{needs}
-use native.Mathlib.Omega.{arith}
-use Rattle.layout.specs.State.{state-of}
-use Rattle.interpreter.specs.Running.{Gone}
-use Rattle.interpreter.specs.RunWays.{begun-standing, gone-none, gone-over, gone-lasting, gone-rows, gone-fits, gone-failed, gone-begun, gone-more, gone-on}
+use Rattle.layout.specs.State.{State}
+use Rattle.holders.specs.Records.{idle}
+use Rattle.interpreter.specs.Going.{memory-of}
+use Rattle.interpreter.specs.GoingLaws.{turns-left}
+use Rattle.interpreter.specs.RunWays.{Stays, begun-standing, stays-on, stays-rows, stays-turning, passed-standing}
+use Rattle.interpreter.specs.RunWays.{passed-over, passed-over-less, passed-more, passed-more-less}
 use Rattle.interpreter.proofs.turns.run.Statement.{statement}
 use Rattle.interpreter.proofs.turns.run.Tie as tie
 
 abbrev Inv-loop : tie.InvT-loop
-Inv-loop list counts items spans heads₀ cells₀ turns next₀ taken₀ heads cells next taken =
+Inv-loop list counts items spans heads₀ cells₀ turns nobody first next₀ heads cells next =
     (length heads ≡ length heads₀)
     × (length cells ≡ length cells₀)
-    × (taken ≤ length turns)
-    × Gone counts list items spans turns (state-of (next₀ .numbers) heads₀ cells₀) taken (state-of (next .numbers) heads cells)
+    × ((z : State) → Stays counts list items spans turns z next₀ (memory-of next₀ heads₀ cells₀)
+    → Stays counts list items spans turns z next (memory-of next heads cells))
 
 abbrev μ-loop : tie.MeasureT-loop
-μ-loop list counts items spans heads₀ cells₀ turns next₀ taken₀ heads cells next taken = length turns - taken
+μ-loop list counts items spans heads₀ cells₀ turns nobody first next₀ heads cells next = turns-left turns next
 
 -- the places that proofs look back to
-abbrev start : tie.After-settle Inv-loop μ-loop → tie.Start Inv-loop μ-loop
-start c = let at-arg = c .before .before .before .before in let at-known = at-arg .before .before .before .before in at-known .before
+abbrev at-known : tie.After-holding-arg Inv-loop μ-loop → tie.After-shared-slice-known4 Inv-loop μ-loop
+at-known c = c .before .before .before .before
 
-abbrev at-settle : tie.At-loop Inv-loop μ-loop → tie.After-settle Inv-loop μ-loop
-at-settle c = c .before .before .before
+abbrev start : tie.After-holding-arg Inv-loop μ-loop → tie.Start Inv-loop μ-loop
+start c = at-known c .before .before .before .before
 
-abbrev at-loop : tie.Then1 Inv-loop μ-loop → tie.At-loop Inv-loop μ-loop
-at-loop c = c .before .before
+abbrev begin : tie.After-settle Inv-loop μ-loop → tie.Start Inv-loop μ-loop
+begin c = start (c .before .before .before)
 
-abbrev at-else2 : tie.After-picked-of Inv-loop μ-loop → tie.Else2 Inv-loop μ-loop
-at-else2 c = c .before .before .before .before
+abbrev at-settle : tie.After-going-at Inv-loop μ-loop → tie.After-settle Inv-loop μ-loop
+at-settle c = c .before .before .before .before
 
-abbrev at-picked-of : tie.After-command Inv-loop μ-loop → tie.After-picked-of Inv-loop μ-loop
-at-picked-of c = c .before .before .before
+abbrev at-records : tie.After-take-turns Inv-loop μ-loop → tie.After-records Inv-loop μ-loop
+at-records c = c .before .before .before
 
-abbrev at-command : tie.Else3 Inv-loop μ-loop → tie.After-command Inv-loop μ-loop
-at-command c = let at-known = c .before .before .before .before in at-known .before
+abbrev at-loop : tie.After-records Inv-loop μ-loop → tie.At-loop Inv-loop μ-loop
+at-loop c = c .before .before .before
 
-settle-requires : tie.Need-settle-requires Inv-loop μ-loop
-settle-requires c κs = let at-arg = c .before .before .before .before in begun-standing (at-arg .before .before .before .before .pre)
+abbrev at-turns : tie.After-slice-known5 Inv-loop μ-loop → tie.After-take-turns Inv-loop μ-loop
+at-turns c = c .before .before .before .before
 
-loop-holds : tie.Need-loop-holds Inv-loop μ-loop
-loop-holds c =
-    let t = c .before .before in
-    (refl, refl, omega arith, gone-none (start t .pre) (t .settle .ensures (start t .args .cells .now)))
+abbrev at-settle2 : tie.After-going-at2 Inv-loop μ-loop → tie.After-settle2 Inv-loop μ-loop
+at-settle2 c = c .before .before .before .before
 
-returns : tie.Need-returns Inv-loop μ-loop
-returns c =
-    let l = at-loop (c .before) in let t = at-settle l in
-    gone-lasting (start t .pre) (t .settle .ensures (start t .args .cells .now)) (l .loop .inv .3) (omega (arith, c .before .if1 .taken)) (c .if2 .taken)
+abbrev at-if1 : tie.After-settle2 Inv-loop μ-loop → tie.Then1 Inv-loop μ-loop
+at-if1 c = c .before .before .before
 
-shared-slice-read-picked-of : tie.Need-shared-slice-read-picked-of Inv-loop μ-loop
-shared-slice-read-picked-of c =
-    let e = c .before .before .before in
-    omega (arith, at-loop (e .before) .loop .inv .2, e .if2 .left)
+records-requires : tie.Need-records-requires Inv-loop μ-loop
+records-requires c κs =
+    let here = c .before .before in
+    let settled = at-settle (here .before) in
+    let stays = stays-on (settled .settle .ensures (begin settled .args .cells .now)) idle (here .before .going-at .ensures) (here .loop .inv .2) in
+    stays-rows stays (c .before .loop-test .taken) (begin settled .pre)
 
-picked-of-requires : tie.Need-picked-of-requires Inv-loop μ-loop
-picked-of-requires c κs =
-    let e = c .before .before .before in let l = at-loop (e .before) in let t = at-settle l in
-    gone-rows (start t .pre) (t .settle .ensures (start t .args .cells .now)) (l .loop .inv .3) (omega (arith, e .before .if1 .taken))
-
-command-requires : tie.Need-command-requires Inv-loop μ-loop
-command-requires c κs =
-    let k = c .before .before in let e = at-else2 k in let l = at-loop (e .before) in let t = at-settle l in
-    gone-fits (start t .pre) (t .settle .ensures (start t .args .cells .now)) (l .loop .inv .3) (omega (arith, e .before .if1 .taken)) (k .picked-of .ensures)
-
-returns-2 : tie.Need-returns-2 Inv-loop μ-loop
-returns-2 c =
-    let at-known = c .before .before .before .before in let a = at-known .before in let k = at-picked-of a in let e = at-else2 k in let l = at-loop (e .before) in let t = at-settle l in
-    gone-failed (start t .pre) (t .settle .ensures (start t .args .cells .now)) (l .loop .inv .3) (omega (arith, e .before .if1 .taken))
-    (k .picked-of .ensures) (omega (arith, l .loop .inv .2, e .if2 .left)) (a .command .ensures) (c .if3 .taken)
-
-add-taken : tie.Need-add-taken Inv-loop μ-loop
-add-taken c =
-    let a = at-command c in let k = at-picked-of a in let e = at-else2 k in let l = at-loop (e .before) in let t = at-settle l in
-    omega (arith, l .loop .inv .2, e .if2 .left, start t .good .1 .1 .1 .1 .1 .1 .1 .0 .1)
+take-turns-requires : tie.Need-take-turns-requires Inv-loop μ-loop
+take-turns-requires c κs =
+    let found = c .before .before in
+    let here = at-loop found in
+    let settled = at-settle (here .before) in
+    let stays = stays-on (settled .settle .ensures (begin settled .args .cells .now)) idle (here .before .going-at .ensures) (here .loop .inv .2) in
+    stays-turning stays (found .before .before .loop-test .taken) (begin settled .pre) (found .records .ensures)
 
 settle-requires-2 : tie.Need-settle-requires-2 Inv-loop μ-loop
 settle-requires-2 c κs =
-    let d = c .before .before .before in let a = at-command d in let k = at-picked-of a in let e = at-else2 k in let l = at-loop (e .before) in let t = at-settle l in
-    begun-standing (gone-begun (start t .pre) (t .settle .ensures (start t .args .cells .now)) (l .loop .inv .3) (omega (arith, e .before .if1 .taken))
-    (k .picked-of .ensures) (omega (arith, l .loop .inv .2, e .if2 .left)) (a .command .ensures) (d .if3 .left))
+    let at-if = c .before .before in
+    let took = at-turns (at-if .before .before) in
+    let found = at-records took in
+    let here = at-loop found in
+    let settled = at-settle (here .before) in
+    let stays = stays-on (settled .settle .ensures (begin settled .args .cells .now)) idle (here .before .going-at .ensures) (here .loop .inv .2) in
+    passed-standing stays (found .before .before .loop-test .taken) (begin settled .pre) (took .take-turns .ensures) (at-if .if1 .taken)
 
 loop-less : tie.Need-loop-less Inv-loop μ-loop
 loop-less c =
-    let at-settle2 = c .before .before in let d = at-settle2 .before .before .before .before in let a = at-command d in let k = at-picked-of a in let e = at-else2 k in let l = at-loop (e .before) in let t = at-settle l in
-    omega (arith, l .loop .inv .2, e .if2 .left)
+    let moved = at-settle2 c in
+    let at-if = at-if1 moved in
+    let took = at-turns (at-if .before .before) in
+    let found = at-records took in
+    let here = at-loop found in
+    let settled = at-settle (here .before) in
+    let stays = stays-on (settled .settle .ensures (begin settled .args .cells .now)) idle (here .before .going-at .ensures) (here .loop .inv .2) in
+    passed-more-less stays (found .before .before .loop-test .taken) (took .take-turns .ensures) (at-if .if1 .taken)
+    (moved .settle2 .result) idle (c .going-at2 .ensures)
 
 loop-again : tie.Need-loop-again Inv-loop μ-loop
 loop-again c =
-    let at-settle2 = c .before .before in let d = at-settle2 .before .before .before .before in let a = at-command d in let k = at-picked-of a in let e = at-else2 k in let l = at-loop (e .before) in let t = at-settle l in (
-      at-settle2 .settle2 .kept .1 .1 .1 .0 ∙ a .command .kept .1 .1 .1 .0 ∙ l .loop .inv .0,
-      a .command .kept .1 .1 .1 .1 .0 ∙ l .loop .inv .1,
-      omega (arith, l .loop .inv .2, e .if2 .left),
-      gone-more (start t .pre) (t .settle .ensures (start t .args .cells .now)) (l .loop .inv .3) (omega (arith, e .before .if1 .taken))
-          (k .picked-of .ensures) (omega (arith, l .loop .inv .2, e .if2 .left)) (a .command .ensures) (d .if3 .left) (at-settle2 .settle2 .ensures _),
+    let moved = at-settle2 c in
+    let at-if = at-if1 moved in
+    let took = at-turns (at-if .before .before) in
+    let found = at-records took in
+    let here = at-loop found in (
+      moved .settle2 .kept .1 .1 .1 .1 .0 ∙ took .take-turns .kept .1 .1 .1 .1 .0 ∙ here .loop .inv .0,
+      took .take-turns .kept .1 .1 .1 .1 .1 .0 ∙ here .loop .inv .1,
+      λ z s. passed-more (here .loop .inv .2 z s) (found .before .before .loop-test .taken) (took .take-turns .ensures) (at-if .if1 .taken)
+          (moved .settle2 .result) idle (c .going-at2 .ensures) (moved .settle2 .ensures _),
     )
 
 loop-less-2 : tie.Need-loop-less-2 Inv-loop μ-loop
 loop-less-2 c =
-    let a = at-command (c .before .before) in let k = at-picked-of a in let e = at-else2 k in let l = at-loop (e .before) in let t = at-settle l in
-    omega (arith, l .loop .inv .2, e .if2 .left)
+    let took = at-turns (c .before .before) in
+    let found = at-records took in
+    let here = at-loop found in
+    let settled = at-settle (here .before) in
+    let stays = stays-on (settled .settle .ensures (begin settled .args .cells .now)) idle (here .before .going-at .ensures) (here .loop .inv .2) in
+    passed-over-less stays (found .before .before .loop-test .taken) (took .take-turns .ensures)
 
 loop-again-2 : tie.Need-loop-again-2 Inv-loop μ-loop
 loop-again-2 c =
-    let d = c .before .before in let a = at-command d in let k = at-picked-of a in let e = at-else2 k in let l = at-loop (e .before) in let t = at-settle l in (
-      a .command .kept .1 .1 .1 .0 ∙ l .loop .inv .0,
-      a .command .kept .1 .1 .1 .1 .0 ∙ l .loop .inv .1,
-      omega (arith, l .loop .inv .2, e .if2 .left),
-      gone-on (start t .pre) (t .settle .ensures (start t .args .cells .now)) (l .loop .inv .3) (omega (arith, e .before .if1 .taken))
-          (k .picked-of .ensures) (omega (arith, l .loop .inv .2, e .if2 .left)) (a .command .ensures) (d .if3 .left) (omega (arith, c .if4 .left)),
+    let took = at-turns (c .before .before) in
+    let found = at-records took in
+    let here = at-loop found in (
+      took .take-turns .kept .1 .1 .1 .1 .0 ∙ here .loop .inv .0,
+      took .take-turns .kept .1 .1 .1 .1 .1 .0 ∙ here .loop .inv .1,
+      λ z s. passed-over (here .loop .inv .2 z s) (found .before .before .loop-test .taken) (took .take-turns .ensures) (c .if1 .left),
     )
 
-returns-3 : tie.Need-returns-3 Inv-loop μ-loop
-returns-3 c =
-    let l = c .before .before in let t = at-settle l in
-    gone-over (start t .pre) (t .settle .ensures (start t .args .cells .now)) (l .loop .inv .3) (omega (arith, c .if1 .left))
+returns : tie.Need-returns Inv-loop μ-loop
+returns c =
+    let here = c .before .before in
+    let settled = at-settle (here .before) in
+    let stays = stays-on (settled .settle .ensures (begin settled .args .cells .now)) idle (here .before .going-at .ensures) (here .loop .inv .2) in
+    stays .over (c .before .loop-test .left)
 
 pub run-spec : {M : Type 1} → statement M
 run-spec =
     tie.close
-    (tie.spec Inv-loop μ-loop settle-requires loop-holds (λ c. search needs) (λ c. search needs) returns shared-slice-read-picked-of
-    picked-of-requires command-requires (λ c. search needs) (λ c. search needs) returns-2 add-taken settle-requires-2 loop-less loop-again
-    loop-less-2 loop-again-2 (λ c. search needs) (λ c. search needs) returns-3)
+    (tie.spec Inv-loop μ-loop (λ c κs. begun-rows (start c .pre))
+    (λ c κs. (begun-standing (start (c .before .before) .pre), c .before .holding .ensures)) (λ c κs. search needs) (λ c. (refl, refl, λ z s. s))
+    records-requires take-turns-requires settle-requires-2 (λ c κs. search needs) loop-less loop-again loop-less-2 loop-again-2 (λ c. search needs)
+    (λ c. search needs) returns)

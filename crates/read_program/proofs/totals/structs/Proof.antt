@@ -14,12 +14,12 @@ use Rattle.read_program.proofs.totals.structs.Statement.{statement}
 use Rattle.read_program.proofs.totals.structs.Tie as tie
 
 abbrev Inv-loop : tie.InvT-loop
-Inv-loop s ar types has₀ k n at all₀ next₀ own₀ left₀ has all next own left =
-    ((own + left ≡ k + n) × ((length has ≡ length has₀) × (Low all next × (next ≤ length s))))
+Inv-loop s ar types has₀ n at all₀ next₀ own₀ left₀ has all next own left =
+    ((own + left ≡ n) × ((length has ≡ length has₀) × (Low all next × (next ≤ length s))))
     × (structs-row ar types s own₀ all₀ has₀ left₀ next₀ ≡ structs-row ar types s own all has left next)
 
 abbrev μ-loop : tie.MeasureT-loop
-μ-loop s ar types has₀ k n at all₀ next₀ own₀ left₀ has all next own left = left
+μ-loop s ar types has₀ n at all₀ next₀ own₀ left₀ has all next own left = left
 
 -- the places that proofs look back to
 abbrev begin : tie.After-slice-known Inv-loop μ-loop → tie.Start Inv-loop μ-loop
@@ -29,7 +29,7 @@ abbrev start : tie.At-loop Inv-loop μ-loop → tie.Start Inv-loop μ-loop
 start c = begin (c .before)
 
 loop-holds : tie.Need-loop-holds Inv-loop μ-loop
-loop-holds c = ((refl, (refl, c .before .before .before .before .pre .1)), refl)
+loop-holds c = ((omega arith, (refl, c .before .before .before .before .pre .1)), refl)
 
 of-struct-requires : tie.Need-of-struct-requires Inv-loop μ-loop
 of-struct-requires c κs =
@@ -50,7 +50,7 @@ returns c =
     let law = structs-refused (a .ar .now) (a .types .now) s (loop .own) (loop .all) (loop .has) (loop .left) (loop .next) more _
     (sym (at-of-struct .of-struct .ensures .0 .0) ∙ e) in
     rw e (
-      refused-told (λ tss. step-totals (a .ar .now) (a .types .now) (a .k) tss (with (a .t) (a .has .now)))
+      refused-told (λ tss. step-totals (a .ar .now) (a .types .now) 0 tss (with (a .t) (a .has .now)))
           (many [] _∷_ (read-steps (a .ar .now) s) (a .n) (a .at)) _ _ (loop .inv .1 ∙ law),
       tt,
     )
@@ -78,7 +78,7 @@ returns-2 c =
     let at-loop = c .before in let a = start at-loop .args in let s = a .s .now in let loop = at-loop .loop in
     let none : loop .left ≡ 0 = omega arith in
     let law = structs-end (a .ar .now) (a .types .now) s (loop .own) (loop .all) (loop .has) (loop .left) (loop .next) none in (
-      value-told (λ tss. step-totals (a .ar .now) (a .types .now) (a .k) tss (with (a .t) (a .has .now)))
+      value-told (λ tss. step-totals (a .ar .now) (a .types .now) 0 tss (with (a .t) (a .has .now)))
           (many [] _∷_ (read-steps (a .ar .now) s) (a .n) (a .at)) _ _ _ (loop .inv .1 ∙ law),
       loop .inv .0 .1 .1,
     )

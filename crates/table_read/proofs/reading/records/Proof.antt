@@ -10,19 +10,19 @@ use Rattle.table_read.proofs.reading.records.Statement.{statement}
 use Rattle.table_read.proofs.reading.records.Tie as tie
 
 abbrev Inv-loop : tie.InvT-loop
-Inv-loop s counts types n at heads₀ cells₀ l next₀ i₀ heads cells next i =
+Inv-loop s counts types n at heads₀ cells₀ next₀ i₀ heads cells next i =
     ((i ≤ n) × (at ≤ next) × (next ≤ length s) × (length heads ≡ length heads₀) × (length cells ≡ length cells₀))
-    × RecordsGo counts types s n at heads₀ cells₀ l i next heads cells
+    × RecordsGo counts types s n at heads₀ cells₀ (length counts) i next heads cells
 
 abbrev μ-loop : tie.MeasureT-loop
-μ-loop s counts types n at heads₀ cells₀ l next₀ i₀ heads cells next i = n - i
+μ-loop s counts types n at heads₀ cells₀ next₀ i₀ heads cells next i = n - i
 
 loop-holds : tie.Need-loop-holds Inv-loop μ-loop
 loop-holds c =
     let at-shared-slice-known = c .before .before .before .before in
     let args = at-shared-slice-known .before .args in (
       (omega arith, omega arith, omega arith, refl, refl),
-      records-begin (args .counts .now) (args .types .now) (args .s .now) (args .n) (args .at) (args .heads .now) (args .cells .now) (args .l),
+      records-begin (args .counts .now) (args .types .now) (args .s .now) (args .n) (args .at) (args .heads .now) (args .cells .now) (length (args .counts .now)),
     )
 
 one-record-requires : tie.Need-one-record-requires Inv-loop μ-loop
@@ -52,7 +52,7 @@ returns c =
     let one-record = at-one-record .one-record in
     rw (c .enum-told .given .1) (
       records-refused (args .counts .now) (args .types .now) (args .s .now) (args .n) (args .at) (args .heads .now)
-          (args .cells .now) (args .l) (loop .i) (loop .next) (loop .heads) (loop .cells) (loop .inv .1)
+          (args .cells .now) (length (args .counts .now)) (loop .i) (loop .next) (loop .heads) (loop .cells) (loop .inv .1)
           (in-loop .loop-test .taken) (c .enum-told .given .0 .0) (one-record .last .1 .1 .1 .1 .0)
           (one-record .last .1 .1 .1 .1 .1 .0) (rw (c .enum-told .given .1) at (one-record .ensures .0))
           (one-record .last .1 .1 .1 .1 .0) (one-record .last .1 .1 .1 .1 .1 .0),
@@ -70,7 +70,7 @@ loop-again c =
     let long = one-record .kept .1 .1 .1 .1 .0 ∙ loop .inv .0 .3 in
     let wide = one-record .kept .1 .1 .1 .1 .1 .0 ∙ loop .inv .0 .4 in (
       (omega arith, omega arith, omega arith, long, wide),
-      records-turn (args .counts .now) (args .types .now) (args .s .now) (args .n) (args .at) (args .heads .now) (args .cells .now) (args .l)
+      records-turn (args .counts .now) (args .types .now) (args .s .now) (args .n) (args .at) (args .heads .now) (args .cells .now) (length (args .counts .now))
           (loop .i) (loop .next) (loop .heads) (loop .cells) (loop .inv .1) (in-loop .loop-test .taken) (at-r .r .given .0 .0)
           (one-record .last .1 .1 .1 .1 .0) (one-record .last .1 .1 .1 .1 .1 .0) (rw (c .before .r .given .1) at (one-record .ensures .0)),
     )
@@ -79,7 +79,7 @@ returns-2 : tie.Need-returns-2 Inv-loop μ-loop
 returns-2 c =
     let at-loop = c .before in let at-shared-slice-known2 = at-loop .before .before .before .before in
     let args = at-shared-slice-known2 .before .before .args in let loop = at-loop .loop in (
-      records-end (args .counts .now) (args .types .now) (args .s .now) (args .n) (args .at) (args .heads .now) (args .cells .now) (args .l) (loop .i)
+      records-end (args .counts .now) (args .types .now) (args .s .now) (args .n) (args .at) (args .heads .now) (args .cells .now) (length (args .counts .now)) (loop .i)
           (loop .next) (loop .heads) (loop .cells) (loop .inv .1) (c .loop-test .left),
       omega arith,
     )

@@ -1,0 +1,160 @@
+// Classes of bytes, runs of them, and the end of a comment.
+ghost use mathlib.Core.Path.{_≡_};
+ghost use mathlib.Core.Bool.{_&&_};
+ghost use Prim.Native.Nat.{_+_, _≤_, _<_};
+ghost use lib.ListN.{length, getD, drop};
+ghost use lib.Dec.{eqb};
+ghost use Rattle.tokens.specs.Tokens.{between, letter, digit, name-byte, blank};
+ghost use Rattle.tokens.specs.Lexing.{slash, star, close};
+ghost use Rattle.tokens.specs.Scanning.{span, begins, closing};
+ghost use Rattle.lexer.specs.Marking.{signs-digit};
+
+const SLASH: u8 = 47;
+
+const STAR: u8 = 42;
+
+const PLUS: u8 = 43;
+
+const MINUS: u8 = 45;
+
+const UNDERSCORE: u8 = 95;
+
+// The byte at a place, 0 behind the last.
+pub(crate) fn byte(text: &[u8], i: usize) -> u8
+    ensures { λ r. ⌜ r ≡ getD (now (text .entry)) i 0 ⌝ }
+{
+    if i < text.len() { text[i] } else { 0 }
+}
+
+fn between(lo: u8, hi: u8, b: u8) -> bool
+    ensures { λ r. ⌜ r ≡ between lo hi b ⌝ }
+{
+    if b < lo {
+        return false;
+    }
+    b <= hi
+}
+
+pub(crate) fn is_letter(b: u8) -> bool
+    ensures { λ r. ⌜ r ≡ letter b ⌝ }
+{
+    if between(65, 90, b) {
+        return true;
+    }
+    between(97, 122, b)
+}
+
+pub(crate) fn is_digit(b: u8) -> bool
+    ensures { λ r. ⌜ r ≡ digit b ⌝ }
+{
+    between(48, 57, b)
+}
+
+fn is_name_byte(b: u8) -> bool
+    ensures { λ r. ⌜ r ≡ name-byte b ⌝ }
+{
+    if is_letter(b) {
+        return true;
+    }
+    if is_digit(b) {
+        return true;
+    }
+    b == UNDERSCORE
+}
+
+pub(crate) fn is_blank(b: u8) -> bool
+    ensures { λ r. ⌜ r ≡ blank b ⌝ }
+{
+    if b == 32 {
+        return true;
+    }
+    if b == 9 {
+        return true;
+    }
+    if b == 10 {
+        return true;
+    }
+    b == 13
+}
+
+// Whether two bytes open a comment; whether they are a sign and a digit.
+pub(crate) fn opens(b: u8, c: u8) -> bool
+    ensures { λ r. ⌜ r ≡ (eqb b slash && eqb c star) ⌝ }
+{
+    if b == SLASH {
+        return c == STAR;
+    }
+    false
+}
+
+pub(crate) fn signed(b: u8, c: u8) -> bool
+    ensures { λ r. ⌜ r ≡ signs-digit b c ⌝ }
+{
+    if b == PLUS {
+        return is_digit(c);
+    }
+    if b == MINUS {
+        return is_digit(c);
+    }
+    false
+}
+
+// The place behind the name bytes from a place on.
+pub(crate) fn name_end(text: &[u8], at: usize) -> usize
+    requires { ⌜ at ≤ length (now text) ⌝ }
+    ensures { λ r. ⌜ r ≡ at + span name-byte (drop at (now (text .entry))) ⌝ }
+    ensures { λ r. ⌜ r ≤ length (now (text .entry)) ⌝ }
+{
+    let mut i = at;
+    while i < text.len() {
+        if is_name_byte(text[i]) {
+            i += 1;
+        } else {
+            return i;
+        }
+    }
+    i
+}
+
+// The place behind the digits.
+pub(crate) fn digits_end(text: &[u8], at: usize) -> usize
+    requires { ⌜ at ≤ length (now text) ⌝ }
+    ensures { λ r. ⌜ r ≡ at + span digit (drop at (now (text .entry))) ⌝ }
+    ensures { λ r. ⌜ r ≤ length (now (text .entry)) ⌝ }
+{
+    let mut i = at;
+    while i < text.len() {
+        if is_digit(text[i]) {
+            i += 1;
+        } else {
+            return i;
+        }
+    }
+    i
+}
+
+// Whether a comment closes at a place.
+fn closes(text: &[u8], at: usize) -> bool
+    requires { ⌜ at < length (now text) ⌝ }
+    ensures { λ r. ⌜ r ≡ begins close (drop at (now (text .entry))) ⌝ }
+{
+    if text[at] == STAR {
+        return byte(text, at + 1) == SLASH;
+    }
+    false
+}
+
+// The bytes up to the first close from a place on, and with it; 0 where there is none.
+pub(crate) fn closing(text: &[u8], at: usize) -> usize
+    requires { ⌜ (0 < at) × (at ≤ length (now text)) ⌝ }
+    ensures { λ r. ⌜ r ≡ closing (drop at (now (text .entry))) ⌝ }
+{
+    let mut i = at;
+    while i < text.len() {
+        if closes(text, i) {
+            return i - at + 2;
+        }
+        i += 1;
+    }
+    0
+}
