@@ -1,9 +1,6 @@
 // Runs a program image on a table image with turn bytes, all from files, and writes the last table to a file (01, 'Table and turns').
 // On standard output one line: number, turns, blocks, depth, and how many instances hold commands.
-mod files;
-
-use libc::STDERR_FILENO;
-use libc::STDOUT_FILENO;
+use run_images::Report;
 
 // One byte more than each may have, so that a longer one is told from the longest.
 const PROGRAM: usize = types::PROGRAM_BLOCKS * blocks::BLOCK_SIZE + 1;
@@ -15,8 +12,7 @@ const TURNS: usize = types::MAX_TURNS + 1;
 const OUTPUT: usize = types::TABLE_BLOCKS * blocks::BLOCK_SIZE;
 
 fn help() {
-    io::write_all(
-        STDERR_FILENO,
+    files::tell(
         b"audala_run PROGRAM TABLE TURNS OUTPUT\n\
         \n\
         Runs the program image in the file PROGRAM on the table image in TABLE,\n\
@@ -29,28 +25,41 @@ fn help() {
     );
 }
 
-// A number and the byte behind it.
-fn number(n: u64, behind: u8) {
-    io::print_decimal(STDOUT_FILENO, n);
-    io::write_all(STDOUT_FILENO, &[behind]);
+// The line of a report.
+fn report(r: Report) {
+    let mut line = [0u8; 128];
+    let ns = [r.turns as u64, r.blocks as u64, r.depth as u64, r.holding as u64];
+    let k = text::decimal(&mut line, 0, r.number as u64);
+    let n = text::lines::row(&mut line, k, b"", &ns);
+    output(&line, n);
+}
+
+// The first n bytes to standard output.
+fn output(line: &[u8], n: usize) {
+    if n <= line.len() {
+        files::output(&line[..n]);
+    }
+}
+
+// The first n bytes to the file that argument 4 names; whether that was done.
+fn store(bytes: &[u8], n: usize) -> bool {
+    if n <= bytes.len() {
+        return files::store(4, &bytes[..n]);
+    }
+    false
 }
 
 // The run of what was read; its table to the file that argument 4 names.
 fn run(program: &[u8], table: &[u8], turns: &[u8]) {
-    let mut output = [0u8; OUTPUT];
+    let mut image = [0u8; OUTPUT];
     let mut list = [0u64; types::MAX_COMMANDS];
-    let r = run_images::run(program, table, turns, &mut output, &mut list);
-    let n = 512 * r.blocks as u32;
-    if n > 0 {
-        if !files::store(4, &output, n) {
+    let r = run_images::run(program, table, turns, &mut image, &mut list);
+    if r.blocks > 0 {
+        if !store(&image, blocks::BLOCK_SIZE * r.blocks as usize) {
             return;
         }
     }
-    number(r.number as u64, b' ');
-    number(r.turns as u64, b' ');
-    number(r.blocks as u64, b' ');
-    number(r.depth as u64, b' ');
-    number(r.holding as u64, b'\n');
+    report(r);
 }
 
 fn main() {

@@ -6,6 +6,7 @@ use mathlib.Core.Bool.{Bool, true, false, _&&_}
 use mathlib.Core.List.{List, [], _++_}
 use lib.ListN.{length, take, drop}
 use lib.Dec.{eqb, leb, ltb}
+use Rattle.types.specs.Numbers.{program-length, block-sums, block-layout, table-length, table-block}
 use Rattle.block.specs.Sums.{wrap}
 use Rattle.block.specs.Block.{block-size, payload-size, block-fault, used-part, block-of}
 use Rattle.block.specs.declared.Fault.{Fault}
@@ -128,11 +129,11 @@ written-into Short-output s out = out
 -- 01's numbers of a program image's faults, and of a table image's -------------------
 
 abbrev pub program-number : Fault → ℕ
-program-number Length = 1
-program-number Sum = 2
-program-number Layout = 3
+program-number Length = program-length
+program-number Sum = block-sums
+program-number Layout = block-layout
 
 abbrev pub table-number : Fault → ℕ
-table-number Length = 9
-table-number Sum = 10
-table-number Layout = 10
+table-number Length = table-length
+table-number Sum = table-block
+table-number Layout = table-block

@@ -7,8 +7,8 @@ use mathlib.Core.Bool.{Bool, true, _&&_}
 use mathlib.Core.Option.{some}
 use mathlib.Core.List.{List, [], _∷_, _++_, map}
 use lib.IntN.{ℤ}
-use lib.ListN.{length, getD, getElem?, drop}
-use Rattle.types.specs.Limits.{max-instances, expr-levels}
+use lib.ListN.{length, getD, getElem?, take, drop}
+use Rattle.types.specs.Limits.{max-instances, max-commands, expr-levels}
 use Rattle.types.specs.Reflects.{Reflects}
 use Rattle.types.specs.Types.{Ty}
 use Rattle.block.specs.declared.Found.the-variants.{Right}
@@ -71,6 +71,8 @@ use Rattle.run.specs.Run.{Outcome.jammed, run}
 use Rattle.run.specs.Begin.{begin}
 use Rattle.run.specs.Initial.{idle, of-record, first-insts, Comes}
 use Rattle.run.specs.BeginLaws.{null-at, record-at, first-length, jammed-exact}
+use Rattle.step_part.specs.StepPart.{step-place, step-part}
+use Rattle.step_part.specs.StepPartLaws.{place-fits, place-part}
 use Rattle.text.specs.Listing.{decimal, int-text}
 use Rattle.text.specs.Decimals.{InDecimal, integer}
 use Rattle.text.specs.DecimalLaws.{decimal-right, int-right}
@@ -156,6 +158,16 @@ if-taken = if-true
 
 pub if-left-out : (b c : Coms) → drop (length (flatten b)) (flatten (then b c)) ≡ flatten c
 if-left-out = if-false
+
+-- "handed out as that part of the lent command list": the place and the length that are told mark the part, in the list and its first 1,024
+-- places
+module _ (x list : List ℕ) (k n : ℕ) where
+  pub part-marked : take (step-place x list k n .len) (drop (step-place x list k n .start) list) ≡ step-part x list k n
+  part-marked = place-part x list k n
+
+  pub part-within : (step-place x list k n .start + step-place x list k n .len ≤ max-commands)
+      × (step-place x list k n .start + step-place x list k n .len ≤ length list)
+  part-within = place-fits x list k n
 
 -- Tables ----------------------------------------------------------------------------------
 

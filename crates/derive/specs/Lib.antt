@@ -1,2 +1,11 @@
 pub mod Roles
 pub mod RoleLaws
+pub mod Shape
+pub mod BothLaws
+pub mod ShapeLaws
+pub mod KindShapeLaws
+pub mod Table
+pub mod TableLaws
+pub mod IndexLaws
+pub mod Held
+pub mod HeldLaws

@@ -1,1 +1,167 @@
-// What the grammar makes of each token of a text: definitions and laws stand in specs/.
+// Whether a text's tokens have a derivation (02 §1), decided token by token over a lent stack: no function follows the nesting of the text.
+pub mod table;
+
+ghost use mathlib.Core.Path.{_≡_};
+ghost use Prim.Native.Nat.{_+_, _<_, _≤_};
+ghost use lib.ListN.{length, set};
+ghost use Rattle.lexer.specs.Marking.{kinds-in};
+ghost use Rattle.derive.specs.Shape.{Shape.shape, act, acted-below, move, sample, derived};
+ghost use Rattle.derive.specs.Table.{entries, act-at};
+ghost use Rattle.derive.specs.Held.{held, Kept, ends};
+
+// The codes of states and of what is open; the kinds, with 0.
+const CODES: u8 = 43;
+
+const KINDS: u8 = 39;
+
+// Before the first struct; where the tokens may end.
+const START: u8 = 1;
+
+const BEHIND_NAME: u8 = 30;
+
+const BEHIND_ITEM: u8 = 33;
+
+// What a token does: to a state; to a state, with a place opened; what was opened last takes it; no derivation goes on.
+pub enum Act {
+    Go(u8),
+    Open(u8, u8),
+    Below,
+    Stop,
+}
+
+// A state, and how many places are open on the stack.
+pub struct Mark {
+    pub state: u8,
+    pub height: usize,
+}
+
+fn dead() -> Mark
+    ensures { λ r. ⌜ (r .state ≡ 0) × (r .height ≡ 0) ⌝ }
+{
+    Mark {
+        state: 0,
+        height: 0,
+    }
+}
+
+// The place of an act in the tables.
+fn index(q: u8, k: u8) -> usize
+    ensures { λ r. ⌜ (r < entries) × (act-at r ≡ act q (sample k)) ⌝ }
+{
+    if q >= CODES {
+        return 0;
+    }
+    let row = q as usize * 39;
+    if k >= KINDS {
+        return row;
+    }
+    row + k as usize
+}
+
+// What a token of kind k does in state q.
+fn act_of(q: u8, k: u8) -> Act
+    ensures { λ r. ⌜ r ≡ act q (sample k) ⌝ }
+{
+    let i = index(q, k);
+    let n = table::next(i);
+    if n == 0 {
+        return Act::Stop;
+    }
+    if n == 63 {
+        return Act::Below;
+    }
+    let o = table::opened(i);
+    if o == 0 {
+        return Act::Go(n);
+    }
+    Act::Open(n, o)
+}
+
+// A place is opened.
+fn pushed(stack: &mut [u8], h: usize, q: u8, place: u8) -> Mark
+    requires { ⌜ h < length (now stack) ⌝ }
+    ensures { λ r. ⌜ (r .state ≡ q) × (r .height ≡ h + 1) ⌝ }
+    ensures { λ _. ⌜ now (stack .exit) ≡ set (now (stack .entry)) h place ⌝ }
+{
+    stack[h] = place;
+    Mark {
+        state: q,
+        height: h + 1,
+    }
+}
+
+// What was opened last takes a token.
+fn below(stack: &mut [u8], h: usize, k: u8) -> Mark
+    requires { ⌜ h ≤ length (now stack) ⌝ }
+    ensures { λ r. ⌜ Kept (r .state) (r .height) (now (stack .exit)) (acted-below (held (now (stack .entry)) h) (sample k)) ⌝ }
+    ensures { λ r. ⌜ (r .height ≤ h) × (length (now (stack .exit)) ≡ length (now (stack .entry))) ⌝ }
+{
+    if h == 0 {
+        return dead();
+    }
+    let i = h - 1;
+    let q = stack[i];
+    match act_of(q, k) {
+        Act::Go(p) => Mark {
+            state: p,
+            height: i,
+        },
+        Act::Open(p, place) => pushed(stack, i, p, place),
+        Act::Below => dead(),
+        Act::Stop => dead(),
+    }
+}
+
+// One token.
+fn step(stack: &mut [u8], m: Mark, k: u8) -> Mark
+    requires { ⌜ m .height < length (now stack) ⌝ }
+    ensures { λ r. ⌜ Kept (r .state) (r .height) (now (stack .exit)) (move (shape (m .state) (held (now (stack .entry)) (m .height))) (sample k)) ⌝ }
+    ensures { λ r. ⌜ (r .height ≤ m .height + 1) × (length (now (stack .exit)) ≡ length (now (stack .entry))) ⌝ }
+{
+    let q = m.state;
+    let h = m.height;
+    match act_of(q, k) {
+        Act::Go(p) => Mark {
+            state: p,
+            height: h,
+        },
+        Act::Open(p, place) => pushed(stack, h, p, place),
+        Act::Below => below(stack, h, k),
+        Act::Stop => dead(),
+    }
+}
+
+// Behind an item of the schedule itself.
+fn ends(q: u8, h: usize) -> bool
+    ensures { λ r. ⌜ r ≡ ends q h ⌝ }
+{
+    if h != 0 {
+        return false;
+    }
+    if q == BEHIND_NAME {
+        return true;
+    }
+    q == BEHIND_ITEM
+}
+
+// Whether the tokens have a derivation. A kind stands at each place where a token begins, 0 at the others.
+pub fn derived(kinds: &[u8], stack: &mut [u8]) -> bool
+    requires { ⌜ length (now kinds) ≤ length (now stack) ⌝ }
+    ensures { λ r. ⌜ r ≡ derived (kinds-in (now (kinds .entry))) ⌝ }
+{
+    let mut m = Mark {
+        state: START,
+        height: 0,
+    };
+    let mut i = 0;
+    while i < kinds.len() {
+        let k = kinds[i];
+        if k != 0 {
+            m = step(stack, m, k);
+        }
+        i += 1;
+    }
+    let q = m.state;
+    let h = m.height;
+    ends(q, h)
+}

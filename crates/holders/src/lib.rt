@@ -28,6 +28,13 @@ pub fn holder(rs: &[Record], r: usize) -> usize
     l
 }
 
+// The same search, for a caller that hands the records over: one call lends them.
+pub fn holder_of(rs: [Record; types::MAX_INSTANCES], r: usize) -> usize
+    ensures { λ l. ⌜ l ≡ holder-in rs r ⌝ }
+{
+    holder(&rs, r)
+}
+
 // The records of n instances; behind them those of nobody.
 pub fn records(heads: &[usize], n: usize) -> [Record; types::MAX_INSTANCES]
     requires { ⌜ (head-size * n ≤ length (now heads)) × (n ≤ max-instances) ⌝ }

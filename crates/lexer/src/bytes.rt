@@ -20,7 +20,7 @@ const MINUS: u8 = 45;
 const UNDERSCORE: u8 = 95;
 
 // The byte at a place, 0 behind the last.
-pub(crate) fn byte(text: &[u8], i: usize) -> u8
+pub fn byte(text: &[u8], i: usize) -> u8
     ensures { λ r. ⌜ r ≡ getD (now (text .entry)) i 0 ⌝ }
 {
     if i < text.len() { text[i] } else { 0 }
@@ -44,13 +44,13 @@ pub(crate) fn is_letter(b: u8) -> bool
     between(97, 122, b)
 }
 
-pub(crate) fn is_digit(b: u8) -> bool
+pub fn is_digit(b: u8) -> bool
     ensures { λ r. ⌜ r ≡ digit b ⌝ }
 {
     between(48, 57, b)
 }
 
-fn is_name_byte(b: u8) -> bool
+pub fn is_name_byte(b: u8) -> bool
     ensures { λ r. ⌜ r ≡ name-byte b ⌝ }
 {
     if is_letter(b) {

@@ -28,7 +28,7 @@ text-coded k t v hk ht =
     rw (a, b, d, c)
 
 -- the value of a push
-value-shown : (t : Ty) (v : Val) → ValueOf t v → value-text (code t) (word v) ≡ shown v
+pub value-shown : (t : Ty) (v : Val) → ValueOf t v → value-text (code t) (word v) ≡ shown v
 unfolding code word int-word shown
 value-shown int (int-val (pos n)) h = value-positive 0 n refl h
 value-shown int (int-val (negsuc n)) h =

@@ -10,7 +10,8 @@ ghost use Rattle.text.specs.Listing.{Placed, digits, decimal, push-text,
 // The byte of Int, as a word has it.
 const INT: u64 = types::INT as u64;
 
-pub(crate) fn byte(out: &mut [u8], k: usize, b: u8) -> usize
+// A byte.
+pub fn byte(out: &mut [u8], k: usize, b: u8) -> usize
     requires { ⌜ k < length (now out) ⌝ }
     ensures { λ r. ⌜ Placed (b ∷ []) (now (out .entry)) k r (now (out .exit)) ⌝ }
 {
@@ -71,7 +72,7 @@ pub fn decimal(out: &mut [u8], k: usize, n: u64) -> usize
 }
 
 // The value of a push: an Int from half of the numbers on is negative.
-fn value(out: &mut [u8], k: usize, typ: u64, v: u64) -> usize
+pub fn value(out: &mut [u8], k: usize, typ: u64, v: u64) -> usize
     requires { ⌜ (k + 21 ≤ length (now out)) × (v < nat-end) ⌝ }
     ensures { λ r. ⌜ Placed (value-text typ v) (now (out .entry)) k r (now (out .exit)) ⌝ }
     ensures { λ r. ⌜ r ≤ k + 21 ⌝ }

@@ -9,7 +9,7 @@ ghost use lib.ListN.{length, drop};
 ghost use Rattle.text.specs.Listing.{Placed, column, tail, row, line};
 
 // A number and a space.
-fn column(out: &mut [u8], k: usize, n: u64) -> usize
+pub fn column(out: &mut [u8], k: usize, n: u64) -> usize
     requires { ⌜ k + 21 ≤ length (now out) ⌝ }
     ensures { λ r. ⌜ Placed (column n) (now (out .entry)) k r (now (out .exit)) ⌝ }
     ensures { λ r. ⌜ r ≤ k + 21 ⌝ }

@@ -1,3 +1,4 @@
 pub mod Trace
 pub mod TraceLaws
 pub mod LineText
+pub mod TraceStepLaws

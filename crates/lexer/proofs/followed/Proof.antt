@@ -1,7 +1,6 @@
 -- `followed` meets its contract.
 use borrow.Author.Tests.{eq-eqb, ne-eqb}
 use Rattle.lexer.specs.Marking.{followed}
-use borrow.Author.Needs.{needs}
 use Rattle.lexer.proofs.followed.Statement.{statement}
 use Rattle.lexer.proofs.followed.Tie as tie
 

@@ -21,7 +21,14 @@ place-requires : tie.Need-place-requires Inv-loop μ-loop
 place-requires c κs = omega arith
 
 slice-write-kinds : tie.Need-slice-write-kinds Inv-loop μ-loop
-slice-write-kinds c = let at-loop-test = c .before .before .before .before in omega (arith, (at-loop-test .before .loop .inv .kept), (c .before .before .before .before .loop-test .taken), (at-loop-test .before .before .before .before .pre))
+slice-write-kinds c =
+    let at-loop-test = c .before .before .before .before in
+    omega (
+      arith,
+      (at-loop-test .before .loop .inv .kept),
+      (c .before .before .before .before .loop-test .taken),
+      (at-loop-test .before .before .before .before .pre),
+    )
 
 add-i : tie.Need-add-i Inv-loop μ-loop
 add-i c = omega (arith, (c .before .before .before .before .loop-test .taken))
@@ -30,13 +37,18 @@ loop-less : tie.Need-loop-less Inv-loop μ-loop
 loop-less c = omega (arith, (c .before .before .before .before .loop-test .taken))
 
 loop-again : tie.Need-loop-again Inv-loop μ-loop
-loop-again c = let at-loop-test = c .before .before .before .before in reached-next (at-loop-test .before .loop .inv) (c .before .before .before .before .loop-test .taken) (sym (c .before .k .given .1) ∙ (c .before .before .before .place .ensures))
+loop-again c =
+    let at-loop-test = c .before .before .before .before in
+    reached-next (at-loop-test .before .loop .inv) (c .before .before .before .before .loop-test .taken)
+    (sym (c .before .k .given .1) ∙ (c .before .before .before .place .ensures))
 
 same-length : tie.Need-same-length Inv-loop μ-loop
 same-length c = (c .before .before .before .before .loop .inv .kept)
 
 returns : tie.Need-returns Inv-loop μ-loop
-returns c = reached-stray (c .before .before .before .before .loop .inv) (c .before .before .before .loop-test .taken) (sym (c .enum-told .given .1) ∙ (c .before .before .place .ensures))
+returns c =
+    reached-stray (c .before .before .before .before .loop .inv) (c .before .before .before .loop-test .taken)
+    (sym (c .enum-told .given .1) ∙ (c .before .before .place .ensures))
 
 same-length-2 : tie.Need-same-length-2 Inv-loop μ-loop
 same-length-2 c = (c .before .loop .inv .kept)
@@ -45,4 +57,7 @@ returns-2 : tie.Need-returns-2 Inv-loop μ-loop
 returns-2 c = reached-end (c .before .loop .inv) (c .loop-test .left)
 
 pub mark-spec : {M : Type 1} → statement M
-mark-spec = tie.close (tie.spec Inv-loop μ-loop loop-holds place-requires (λ c. search needs) slice-write-kinds add-i loop-less loop-again (λ c. search needs) same-length returns same-length-2 returns-2)
+mark-spec =
+    tie.close
+    (tie.spec Inv-loop μ-loop loop-holds place-requires (λ c. search needs) slice-write-kinds add-i loop-less loop-again (λ c. search needs)
+    same-length returns same-length-2 returns-2)

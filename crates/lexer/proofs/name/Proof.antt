@@ -18,7 +18,11 @@ sub-t7 : tie.Need-sub-t7
 sub-t7 c = omega (arith, (c .before .before .name-end .ensures .0))
 
 returns : tie.Need-returns
-returns c = name-spot (c .before .before .before .before .args .text .now) (c .before .before .before .before .args .at) (c .before .before .name-end .result) (c .kind .result) (omega arith) (c .before .before .name-end .ensures .0) (c .kind .ensures)
+returns c =
+    name-spot (c .before .before .before .before .args .text .now) (c .before .before .before .before .args .at)
+    (c .before .before .name-end .result) (c .kind .result) (omega arith) (c .before .before .name-end .ensures .0) (c .kind .ensures)
 
 pub name-spec : {M : Type 1} → statement M
-name-spec = tie.close (tie.spec (λ c. search needs) (λ c κs. search needs) sub-kind part-kind-start part-kind-end (λ c κs. search needs) sub-t7 returns)
+name-spec =
+    tie.close
+    (tie.spec (λ c. search needs) (λ c κs. search needs) sub-kind part-kind-start part-kind-end (λ c κs. search needs) sub-t7 returns)

@@ -217,7 +217,8 @@ abbrev the-fresh : tie.After-played → tie.After-fresh
 the-fresh c = at-fresh (c .before)
 
 plays : (c : tie.After-played) → Played (counts-of (the-loaded (the-read (the-fresh c)))) (the-start (the-read (the-fresh c)) .args .turns .now)
-    (the-start (the-read (the-fresh c)) .args .list .now) (the-program (the-fresh c)) (first (the-fresh c)) (c .played .result .number) (c .played .result .taken)
+    (the-start (the-read (the-fresh c)) .args .list .now) (the-program (the-fresh c)) (first (the-fresh c))
+    (c .played .result .number) (c .played .result .taken)
     (state-of (c .played .result .machine .numbers) (c .played .last .1 .1 .1 .0) (c .played .last .1 .1 .1 .1 .0)) (c .played .last .1 .1 .1 .1 .1 .1 .0)
 plays c = let f = the-fresh c in c .played .ensures (the-program f) (first f) (seats f)
 
@@ -251,5 +252,5 @@ run-spec =
     array-share-prefix-types slice-aggregate-ts part-stream-start part-stream-start part-stream-end (λ c. search needs) (λ c. search needs)
     read-image-requires (λ c. search needs) (λ c. search needs) (λ c κs. search needs) (λ c κs. search needs) returns-2 (λ c κs. search needs)
     returns-3 (λ c κs. search needs) returns-4 (λ c κs. search needs) returns-5 (λ c κs. search needs) array-share-prefix-stream slice-aggregate-s
-    (λ c. search needs) (λ c. search needs) played-requires (λ c. search needs) (λ c. search needs) slice-aggregate-reported-3 reported-requires (λ c. search needs)
-    (λ c. search needs) returns-6)
+    (λ c. search needs) (λ c. search needs) played-requires (λ c. search needs) (λ c. search needs) slice-aggregate-reported-3 reported-requires
+    (λ c. search needs) (λ c. search needs) returns-6)

@@ -4,7 +4,7 @@ use mathlib.Core.Path.{_≡_, sym}
 use mathlib.Core.Logic.{⊎-elim}
 use lib.Seq.{length-take-le}
 use Rattle.blocks.specs.declared.Written.the-variants.{Blocks}
-use Rattle.table_write.specs.Written.{memory-blocks, memory-image}
+use Rattle.table_write.specs.Written.{memory-blocks}
 use Rattle.table_write.specs.WrittenWays.{stream-fits, blocks-are, image-is}
 use borrow.Author.Needs.{needs}
 use Rattle.table_write.proofs.write.Statement.{statement}
@@ -40,9 +40,10 @@ slice-reshare-prefix-write-image c =
 slice-aggregate-write-image : tie.Need-slice-aggregate-write-image
 slice-aggregate-write-image c = sym (length-take-le _ _ (slice-reshare-prefix-write-image (c .before)))
 
--- the blocks that are written, and the output with them
+-- the blocks that are written
 blocks : (c : tie.After-write-image)
-    → c .write-image .result ≡ Blocks (memory-blocks (the-start c .args .counts .now) (the-start c .args .heads .now) (the-start c .args .cells .now) (the-start c .args .n))
+    → c .write-image .result
+    ≡ Blocks (memory-blocks (the-start c .args .counts .now) (the-start c .args .heads .now) (the-start c .args .cells .now) (the-start c .args .n))
 blocks c =
     let s = the-start c in let args = s .args in let d = written-by c .stream in let w = c .write-image in
     blocks-are (args .counts .now) (args .heads .now) (args .cells .now) (args .n) (s .pre .0) _ (d .last .1 .1 .1 .1 .0) (d .result) (w .result)

@@ -247,19 +247,29 @@ abbrev make-μ-loop : make-lts.MeasureT-loop
 make-μ-loop s ar at depth out₀ k b i left₀ p₀ out left p = left
 
 -- the places of `make` that proofs look back to
-abbrev make-start : (t : ℕ) → make-lts.After-shared-slice-known3 (make-claims t) (make-at t) make.Post make-Inv-loop make-μ-loop → make-lts.Start (make-claims t) (make-at t) make.Post make-Inv-loop make-μ-loop
+abbrev make-start :
+    (t : ℕ) → make-lts.After-shared-slice-known3 (make-claims t) (make-at t) make.Post make-Inv-loop make-μ-loop
+    → make-lts.Start (make-claims t) (make-at t) make.Post make-Inv-loop make-μ-loop
 make-start t c = c .before .before .before .before
 
-abbrev make-at-index : (t : ℕ) → make-lts.At-loop (make-claims t) (make-at t) make.Post make-Inv-loop make-μ-loop → make-lts.After-index (make-claims t) (make-at t) make.Post make-Inv-loop make-μ-loop
+abbrev make-at-index :
+    (t : ℕ) → make-lts.At-loop (make-claims t) (make-at t) make.Post make-Inv-loop make-μ-loop
+    → make-lts.After-index (make-claims t) (make-at t) make.Post make-Inv-loop make-μ-loop
 make-at-index t c = c .before .before
 
-abbrev make-start₂ : (t : ℕ) → make-lts.At-loop (make-claims t) (make-at t) make.Post make-Inv-loop make-μ-loop → make-lts.Start (make-claims t) (make-at t) make.Post make-Inv-loop make-μ-loop
+abbrev make-start₂ :
+    (t : ℕ) → make-lts.At-loop (make-claims t) (make-at t) make.Post make-Inv-loop make-μ-loop
+    → make-lts.Start (make-claims t) (make-at t) make.Post make-Inv-loop make-μ-loop
 make-start₂ t c = make-start t (make-at-index t c .before)
 
-abbrev make-inside : (t : ℕ) → make-lts.After-slice-known2 (make-claims t) (make-at t) make.Post make-Inv-loop make-μ-loop → make-lts.In-loop (make-claims t) (make-at t) make.Post make-Inv-loop make-μ-loop
+abbrev make-inside :
+    (t : ℕ) → make-lts.After-slice-known2 (make-claims t) (make-at t) make.Post make-Inv-loop make-μ-loop
+    → make-lts.In-loop (make-claims t) (make-at t) make.Post make-Inv-loop make-μ-loop
 make-inside t c = c .before .before .before .before
 
-abbrev make-at-loop : (t : ℕ) → make-lts.After-coded (make-claims t) (make-at t) make.Post make-Inv-loop make-μ-loop → make-lts.At-loop (make-claims t) (make-at t) make.Post make-Inv-loop make-μ-loop
+abbrev make-at-loop :
+    (t : ℕ) → make-lts.After-coded (make-claims t) (make-at t) make.Post make-Inv-loop make-μ-loop
+    → make-lts.At-loop (make-claims t) (make-at t) make.Post make-Inv-loop make-μ-loop
 make-at-loop t c = c .before .before .before
 
 -- what was read of a construct
@@ -284,7 +294,9 @@ make-loop-again t c =
 
 -- behind the loop all arguments are written
 abbrev make-args : (t : ℕ) (c : make-lts.Start (make-claims t) (make-at t) make.Post make-Inv-loop make-μ-loop) → Result Exprs
-make-args t c = args-at (c .args .ar .now) (c .args .s .now) (c .args .depth) (getD (c .args .ar .now) (getD (c .args .s .now) (c .args .at) 0) 0) (c .args .at + 1)
+make-args t c =
+    args-at (c .args .ar .now) (c .args .s .now) (c .args .depth) (getD (c .args .ar .now) (getD (c .args .s .now) (c .args .at) 0) 0)
+    (c .args .at + 1)
 
 make-written : (t : ℕ) (c : make-lts.After-loop (make-claims t) (make-at t) make.Post make-Inv-loop make-μ-loop)
     → Wrote args-words (make-args t (make-start₂ t (c .before))) (make-start₂ t (c .before) .args .out .now) (make-start₂ t (c .before) .args .k)

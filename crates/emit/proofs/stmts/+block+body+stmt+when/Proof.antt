@@ -144,10 +144,14 @@ abbrev body-μ-loop : body-lts.MeasureT-loop
 body-μ-loop s ar at depth out₀ k left₀ p₀ out left p = left
 
 -- the places of `body` that proofs look back to
-abbrev body-start : (t : ℕ) → body-lts.After-shared-slice-known3 (body-claims t) (body-at t) body.Post body-Inv-loop body-μ-loop → body-lts.Start (body-claims t) (body-at t) body.Post body-Inv-loop body-μ-loop
+abbrev body-start :
+    (t : ℕ) → body-lts.After-shared-slice-known3 (body-claims t) (body-at t) body.Post body-Inv-loop body-μ-loop
+    → body-lts.Start (body-claims t) (body-at t) body.Post body-Inv-loop body-μ-loop
 body-start t c = c .before .before .before .before
 
-abbrev body-inside : (t : ℕ) → body-lts.After-slice-known2 (body-claims t) (body-at t) body.Post body-Inv-loop body-μ-loop → body-lts.In-loop (body-claims t) (body-at t) body.Post body-Inv-loop body-μ-loop
+abbrev body-inside :
+    (t : ℕ) → body-lts.After-slice-known2 (body-claims t) (body-at t) body.Post body-Inv-loop body-μ-loop
+    → body-lts.In-loop (body-claims t) (body-at t) body.Post body-Inv-loop body-μ-loop
 body-inside t c = c .before .before .before .before
 
 -- a body is a count and statements

@@ -1,7 +1,6 @@
 -- `bytes::between` meets its contract.
 use borrow.Author.Tests.{lt-leb, le-leb}
 use Rattle.tokens.specs.Tokens.{between}
-use borrow.Author.Needs.{needs}
 use Rattle.lexer.proofs.bytes.between.Statement.{statement}
 use Rattle.lexer.proofs.bytes.between.Tie as tie
 

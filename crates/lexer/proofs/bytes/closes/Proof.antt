@@ -9,7 +9,9 @@ use Rattle.lexer.proofs.bytes.closes.Statement.{statement}
 use Rattle.lexer.proofs.bytes.closes.Tie as tie
 
 returns : tie.Need-returns
-returns c = ap (λ n. eqb n slash) (c .byte .ensures) ∙ closes-here (c .before .before .before .before .args .text .now) (c .before .before .before .before .args .at) (omega arith) (c .before .if1 .taken)
+returns c =
+    ap (λ n. eqb n slash) (c .byte .ensures) ∙ closes-here (c .before .before .before .before .args .text .now)
+    (c .before .before .before .before .args .at) (omega arith) (c .before .if1 .taken)
 
 returns-2 : tie.Need-returns-2
 returns-2 c = closes-not (c .before .before .before .args .text .now) (c .before .before .before .args .at) (omega arith) (c .if1 .left)

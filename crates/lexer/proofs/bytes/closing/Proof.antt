@@ -4,7 +4,6 @@ use mathlib.Core.Path.{sym, _∙_}
 use native.Mathlib.Omega.{arith}
 use lib.ListN.{length}
 use Rattle.lexer.specs.RunLaws.{Opened, opened-start, opened-close, opened-on, opened-out}
-use borrow.Author.Needs.{needs}
 use Rattle.lexer.proofs.bytes.closing.Statement.{statement}
 use Rattle.lexer.proofs.bytes.closing.Tie as tie
 
@@ -27,7 +26,9 @@ add-result : tie.Need-add-result Inv-loop μ-loop
 add-result c = omega (arith, (c .before .before .before .loop .inv .behind), (c .before .before .loop-test .taken))
 
 returns : tie.Need-returns Inv-loop μ-loop
-returns c = opened-close (c .before .before .before .loop .inv) (c .before .before .loop-test .taken) (sym (c .before .closes .ensures) ∙ (c .if1 .taken))
+returns c =
+    opened-close (c .before .before .before .loop .inv) (c .before .before .loop-test .taken)
+    (sym (c .before .closes .ensures) ∙ (c .if1 .taken))
 
 add-i : tie.Need-add-i Inv-loop μ-loop
 add-i c = omega (arith, (c .before .before .loop-test .taken))
@@ -36,7 +37,8 @@ loop-less : tie.Need-loop-less Inv-loop μ-loop
 loop-less c = omega (arith, (c .before .before .loop-test .taken))
 
 loop-again : tie.Need-loop-again Inv-loop μ-loop
-loop-again c = opened-on (c .before .before .before .loop .inv) (c .before .before .loop-test .taken) (sym (c .before .closes .ensures) ∙ (c .if1 .left))
+loop-again c =
+    opened-on (c .before .before .before .loop .inv) (c .before .before .loop-test .taken) (sym (c .before .closes .ensures) ∙ (c .if1 .left))
 
 returns-2 : tie.Need-returns-2 Inv-loop μ-loop
 returns-2 c = opened-out (c .before .loop .inv) (c .loop-test .left)

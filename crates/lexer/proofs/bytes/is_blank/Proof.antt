@@ -1,7 +1,6 @@
 -- `bytes::is_blank` meets its contract.
 use borrow.Author.Tests.{eq-eqb, ne-eqb}
 use Rattle.tokens.specs.Tokens.{blank}
-use borrow.Author.Needs.{needs}
 use Rattle.lexer.proofs.bytes.is_blank.Statement.{statement}
 use Rattle.lexer.proofs.bytes.is_blank.Tie as tie
 

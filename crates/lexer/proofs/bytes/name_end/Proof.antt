@@ -25,13 +25,21 @@ loop-less : tie.Need-loop-less Inv-loop μ-loop
 loop-less c = omega (arith, (c .before .before .before .loop-test .taken))
 
 loop-again : tie.Need-loop-again Inv-loop μ-loop
-loop-again c = runs-on (c .before .before .before .before .loop .inv) (c .before .before .before .loop-test .taken) (sym (c .before .is-name-byte .ensures) ∙ (c .if1 .taken))
+loop-again c =
+    runs-on (c .before .before .before .before .loop .inv) (c .before .before .before .loop-test .taken)
+    (sym (c .before .is-name-byte .ensures) ∙ (c .if1 .taken))
 
 returns : tie.Need-returns Inv-loop μ-loop
-returns c = (runs-stop (c .before .before .before .before .loop .inv) (c .before .before .before .loop-test .taken) (sym (c .before .is-name-byte .ensures) ∙ (c .if1 .left)), (c .before .before .before .before .loop .inv .inner))
+returns c = (
+  runs-stop (c .before .before .before .before .loop .inv) (c .before .before .before .loop-test .taken) (sym (c .before .is-name-byte .ensures) ∙
+      (c .if1 .left)),
+  (c .before .before .before .before .loop .inv .inner),
+)
 
 returns-2 : tie.Need-returns-2 Inv-loop μ-loop
 returns-2 c = (runs-out (c .before .loop .inv) (c .loop-test .left), (c .before .loop .inv .inner))
 
 pub name-end-spec : {M : Type 1} → statement M
-name-end-spec = tie.close (tie.spec Inv-loop μ-loop loop-holds (λ c. search needs) (λ c κs. search needs) add-i loop-less loop-again returns returns-2)
+name-end-spec =
+    tie.close
+    (tie.spec Inv-loop μ-loop loop-holds (λ c. search needs) (λ c κs. search needs) add-i loop-less loop-again returns returns-2)

@@ -1,6 +1,5 @@
 -- `bytes::opens` meets its contract.
 use borrow.Author.Tests.{eq-eqb, ne-eqb}
-use borrow.Author.Needs.{needs}
 use Rattle.lexer.proofs.bytes.opens.Statement.{statement}
 use Rattle.lexer.proofs.bytes.opens.Tie as tie
 

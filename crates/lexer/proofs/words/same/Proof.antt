@@ -4,7 +4,6 @@ use mathlib.Core.Path.{refl}
 use native.Mathlib.Omega.{arith}
 use lib.ListN.{length}
 use Rattle.lexer.specs.RunLaws.{same-lengths, Agree, agree-on, agree-not, agree-out}
-use borrow.Author.Needs.{needs}
 use Rattle.lexer.proofs.words.same.Statement.{statement}
 use Rattle.lexer.proofs.words.same.Tie as tie
 
@@ -42,4 +41,6 @@ returns-3 : tie.Need-returns-3 Inv-loop μ-loop
 returns-3 c = agree-out (c .before .loop .inv) (c .loop-test .left)
 
 pub same-spec : {M : Type 1} → statement M
-same-spec = tie.close (tie.spec Inv-loop μ-loop returns loop-holds shared-slice-read-if2 shared-slice-read-if2-2 returns-2 add-i loop-less loop-again returns-3)
+same-spec =
+    tie.close
+    (tie.spec Inv-loop μ-loop returns loop-holds shared-slice-read-if2 shared-slice-read-if2-2 returns-2 add-i loop-less loop-again returns-3)

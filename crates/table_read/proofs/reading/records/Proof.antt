@@ -22,7 +22,8 @@ loop-holds c =
     let at-shared-slice-known = c .before .before .before .before in
     let args = at-shared-slice-known .before .args in (
       (omega arith, omega arith, omega arith, refl, refl),
-      records-begin (args .counts .now) (args .types .now) (args .s .now) (args .n) (args .at) (args .heads .now) (args .cells .now) (length (args .counts .now)),
+      records-begin (args .counts .now) (args .types .now) (args .s .now) (args .n) (args .at) (args .heads .now) (args .cells .now)
+          (length (args .counts .now)),
     )
 
 one-record-requires : tie.Need-one-record-requires Inv-loop μ-loop
@@ -79,8 +80,8 @@ returns-2 : tie.Need-returns-2 Inv-loop μ-loop
 returns-2 c =
     let at-loop = c .before in let at-shared-slice-known2 = at-loop .before .before .before .before in
     let args = at-shared-slice-known2 .before .before .args in let loop = at-loop .loop in (
-      records-end (args .counts .now) (args .types .now) (args .s .now) (args .n) (args .at) (args .heads .now) (args .cells .now) (length (args .counts .now)) (loop .i)
-          (loop .next) (loop .heads) (loop .cells) (loop .inv .1) (c .loop-test .left),
+      records-end (args .counts .now) (args .types .now) (args .s .now) (args .n) (args .at) (args .heads .now) (args .cells .now)
+          (length (args .counts .now)) (loop .i) (loop .next) (loop .heads) (loop .cells) (loop .inv .1) (c .loop-test .left),
       omega arith,
     )
 

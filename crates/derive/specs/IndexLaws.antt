@@ -1,0 +1,61 @@
+-- The place of an act in the tables: for each code and each byte of a kind, also those that are none.
+use Prim.Native.Nat.{ℕ, _+_, _*_, _/_, _%_, _<_, _≤_}
+use native.Mathlib.Omega.{arith}
+use mathlib.Core.Path.{_≡_, refl, sym, ap, _∙_}
+use lib.ListN.{getD, List·getD-eq-default}
+use Rattle.tokens.specs.Tokens.{Word.w-string, Token.word}
+use Rattle.lexer.specs.Kinds.{kinds}
+use Rattle.derive.specs.Shape.{acts, act, samples, sample}
+use Rattle.derive.specs.Table.{entries, act-at, next-of, opened-of, told}
+use Rattle.derive.specs.TableLaws.{entry-told}
+use Rattle.derive.specs.declared.Act.{Act}
+use Rattle.derive.specs.declared.Act.the-variants.{Go, Open, Below, Stop}
+use borrow.Author.Tests.{eq-eqb, ne-eqb}
+
+pub index-in : (q k : ℕ) → k < kinds → act-at (q * kinds + k) ≡ act q (sample k)
+unfolding act-at
+index-in q k h =
+    let d : (q * kinds + k) / kinds ≡ q = omega arith in
+    let m : (q * kinds + k) % kinds ≡ k = omega arith in
+    rw (d, m) refl
+
+pub index-row : (q k : ℕ) → kinds ≤ k → act-at (q * kinds) ≡ act q (sample k)
+unfolding act-at sample samples
+index-row q k h =
+    let d : (q * kinds) / kinds ≡ q = omega arith in
+    let m : (q * kinds) % kinds ≡ 0 = omega arith in
+    rw (d, m) (ap (act q) (first ∙ sym (List·getD-eq-default samples (word w-string) {n = k} h)))
+  where
+    first : getD samples 0 (word w-string) ≡ word w-string
+    first = refl
+
+pub index-out : (q k : ℕ) → 43 ≤ q → act-at 0 ≡ act q (sample k)
+unfolding act-at act acts
+index-out q k h = sym (List·getD-eq-default (acts (sample k)) Stop {n = q} h)
+
+-- the act of an entry by its numbers
+module _ {i n : ℕ} {a : Act} (l : i < entries) (e : n ≡ next-of (act-at i)) (f : act-at i ≡ a) where
+  by-next : told n (opened-of (act-at i)) ≡ a
+  by-next = ap (λ m. told m (opened-of (act-at i))) e ∙ entry-told i l ∙ f
+
+  pub told-stop : n ≡ 0 → Stop ≡ a
+  unfolding told
+  told-stop z = let h : told n (opened-of (act-at i)) ≡ Stop = rw (eq-eqb n 0 z, told) refl in sym h ∙ by-next
+
+  pub told-below : (n ≡ 0 → ⊥) → n ≡ 63 → Below ≡ a
+  unfolding told
+  told-below y z = let h : told n (opened-of (act-at i)) ≡ Below = rw (ne-eqb n 0 y, eq-eqb n 63 z, told) refl in sym h ∙ by-next
+
+  module _ {o : ℕ} (y : n ≡ 0 → ⊥) (z : n ≡ 63 → ⊥) (g : o ≡ opened-of (act-at i)) where
+    pub told-go : o ≡ 0 → Go n ≡ a
+    unfolding told
+    told-go w =
+        let h : told n (opened-of (act-at i)) ≡ Go n = rw (ne-eqb n 0 y, ne-eqb n 63 z, eq-eqb (opened-of (act-at i)) 0 (sym g ∙ w), told) refl in
+        sym h ∙ by-next
+
+    pub told-open : (o ≡ 0 → ⊥) → Open n o ≡ a
+    unfolding told
+    told-open w =
+        let h : told n (opened-of (act-at i)) ≡ Open n (opened-of (act-at i)) =
+        rw (ne-eqb n 0 y, ne-eqb n 63 z, ne-eqb (opened-of (act-at i)) 0 (λ v. w (g ∙ v)), told) refl in
+        ap (λ m. Open n m) g ∙ sym h ∙ by-next

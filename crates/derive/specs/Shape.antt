@@ -1,0 +1,236 @@
+-- What the code keeps of a derivation in progress: a code for its state, and the codes of the places that are open, the last one first; trees are
+-- forgotten. And what a token does to that, state by state, in the tests of `syntax/specs/Reading.antt`.
+use Prim.Native.Nat.{ℕ}
+use mathlib.Core.Bool.{Bool, false, _||_}
+use mathlib.Core.List.{List, [], _∷_}
+use lib.ListN.{getD}
+use lib.Dec.{eqb}
+use Rattle.program.specs.Tree.{Op.op-eq, Op.op-ne, Op.op-le, Op.op-ge, Op.op-lt, Op.op-gt, Op.op-mul, Op.op-div, Op.op-rem, Op.op-add, Op.op-sub, Op.op-and, Op.op-or}
+use Rattle.tokens.specs.Tokens.{Word.w-struct, Word.w-if, Word.w-then, Word.w-null, Word.w-this, Word.w-fix, Word.w-int, Word.w-nat, Word.w-bool, Word.w-string, Word.w-true, Word.w-false, Polarity.plus}
+use Rattle.tokens.specs.Tokens.{Sign.lpar, Sign.rpar, Sign.lbrace, Sign.rbrace, Sign.comma, Sign.colon, Sign.semicolon, Sign.assign, Sign.dot as dot-sign, Sign.bang, Token, Token.word, Token.sign, Token.op, Token.name, Token.int, Token.nat}
+use Rattle.syntax.specs.Syntax.{Struct}
+use Rattle.syntax.specs.Expecting.{on-word, on-sign, on-name, on-op, on-less, on-literal, on-type-word, on-type}
+use Rattle.syntax.specs.Places.{Body, Body.in-step, Body.in-then, Place, Place.in-brackets, Place.in-negation, Place.in-right, Place.in-constructor, Place.in-construct, Place.in-if, Place.in-assignment, Place.in-update, Row, Row.in-program, Row.in-fix}
+use Rattle.syntax.specs.Places.{State, State.at-defs, State.at-struct, State.at-struct-open, State.at-pars, State.at-par, State.at-colon, State.at-par-type, State.behind-par, State.at-steps-open, State.at-steps, State.at-step-open}
+use Rattle.syntax.specs.Places.{State.at-stats, State.behind-name, State.at-dot-name, State.behind-dot-name, State.at-local, State.at-assign, State.at-construct, State.at-semicolon, State.at-then-open}
+use Rattle.syntax.specs.Places.{State.want, State.after, State.behind-id, State.at-dot-id, State.behind-dot-id, State.at-args, State.at-null-type, State.at-item, State.behind-execution, State.at-step-name, State.at-fix-open, State.behind-item, State.dead}
+use Rattle.derive.specs.declared.Act.{Act}
+use Rattle.derive.specs.declared.Act.the-variants.{Go, Open, Below, Stop}
+
+-- The codes ------------------------------------------------------------------------------
+
+-- 1 and 2 stand before a struct, behind none and behind some; the others follow the states' own order
+unfoldable pub defs-code : List Struct → ℕ
+defs-code [] = 1
+defs-code (d ∷ ds) = 2
+
+unfoldable pub code-of : State → ℕ
+code-of (at-defs ds) = defs-code ds
+code-of (at-struct ds) = 3
+code-of (at-struct-open ds n) = 4
+code-of (at-pars ds n) = 5
+code-of (at-par ds n ps) = 6
+code-of (at-colon ds n ps x) = 7
+code-of (at-par-type ds n ps x) = 8
+code-of (behind-par ds n ps q) = 9
+code-of (at-steps-open ds n ps) = 10
+code-of (at-steps ds n ps ts) = 11
+code-of (at-step-open ds n ps ts x) = 12
+code-of (at-stats l c) = 13
+code-of (behind-name l c x) = 14
+code-of (at-dot-name l c xs) = 15
+code-of (behind-dot-name l c xs y) = 16
+code-of (at-local l c a) = 17
+code-of (at-assign l c a x) = 18
+code-of (at-construct l c x) = 19
+code-of (at-semicolon l c x es) = 20
+code-of (at-then-open l c e) = 21
+code-of (want p) = 22
+code-of (after p e) = 23
+code-of (behind-id p x) = 24
+code-of (at-dot-id p xs) = 25
+code-of (behind-dot-id p xs y) = 26
+code-of (at-args p x) = 27
+code-of (at-null-type p) = 28
+code-of (at-item l r) = 29
+code-of (behind-execution l r x) = 30
+code-of (at-step-name l r x) = 31
+code-of (at-fix-open l r) = 32
+code-of (behind-item l r i) = 33
+code-of dead = 0
+
+-- what is open, from 34 on; a negation leaves nothing
+unfoldable pub open-body : Body → List ℕ
+open-body (in-step ds n ps ts x) = 40 ∷ []
+open-body (in-then e l c) = 41 ∷ open-body c
+
+unfoldable pub open-place : Place → List ℕ
+open-place (in-brackets p) = 34 ∷ open-place p
+open-place (in-negation p) = open-place p
+open-place (in-right o a p) = 35 ∷ open-place p
+open-place (in-constructor x es p) = 36 ∷ open-place p
+open-place (in-construct x es l c) = 37 ∷ open-body c
+open-place (in-if l c) = 38 ∷ open-body c
+open-place (in-assignment a x l c) = 39 ∷ open-body c
+open-place (in-update v l c) = 39 ∷ open-body c
+
+unfoldable pub open-row : Row → List ℕ
+open-row (in-program d) = []
+open-row (in-fix l r) = 42 ∷ open-row r
+
+unfoldable pub open-of : State → List ℕ
+open-of (at-defs ds) = []
+open-of (at-struct ds) = []
+open-of (at-struct-open ds n) = []
+open-of (at-pars ds n) = []
+open-of (at-par ds n ps) = []
+open-of (at-colon ds n ps x) = []
+open-of (at-par-type ds n ps x) = []
+open-of (behind-par ds n ps q) = []
+open-of (at-steps-open ds n ps) = []
+open-of (at-steps ds n ps ts) = []
+open-of (at-step-open ds n ps ts x) = []
+open-of (at-stats l c) = open-body c
+open-of (behind-name l c x) = open-body c
+open-of (at-dot-name l c xs) = open-body c
+open-of (behind-dot-name l c xs y) = open-body c
+open-of (at-local l c a) = open-body c
+open-of (at-assign l c a x) = open-body c
+open-of (at-construct l c x) = 37 ∷ open-body c
+open-of (at-semicolon l c x es) = open-body c
+open-of (at-then-open l c e) = open-body c
+open-of (want p) = open-place p
+open-of (after p e) = open-place p
+open-of (behind-id p x) = open-place p
+open-of (at-dot-id p xs) = open-place p
+open-of (behind-dot-id p xs y) = open-place p
+open-of (at-args p x) = 36 ∷ open-place p
+open-of (at-null-type p) = open-place p
+open-of (at-item l r) = open-row r
+open-of (behind-execution l r x) = open-row r
+open-of (at-step-name l r x) = open-row r
+open-of (at-fix-open l r) = open-row r
+open-of (behind-item l r i) = open-row r
+open-of dead = []
+
+pub data Shape : Type 0 where
+  shape : ℕ → List ℕ → Shape
+
+abbrev pub shape-of : State → Shape
+shape-of s = shape (code-of s) (open-of s)
+
+-- What a token does ----------------------------------------------------------------------------
+
+-- `Go`: to a state; `Open`: to a state, with a place opened; `Below`: what was opened last takes the token; `Stop`: no derivation goes on
+
+-- where an expression, an item are wanted; behind an item
+unfoldable pub on-exp : Token → Act
+on-exp t =
+    on-name (λ x. Go 24)
+    (on-sign lpar (Open 22 34)
+    (on-sign bang (Go 22) (on-literal (λ l. Go 23) (on-word w-null (Go 28) (on-word w-this (Go 23) Stop t) t) t) t) t) t
+
+unfoldable pub on-item : Token → Act
+on-item t = on-name (λ x. Go 30) (on-word w-fix (Go 32) Stop t) t
+
+unfoldable pub past-item : Token → Act
+past-item t = on-less (Go 29) (on-sign rpar Below Stop t) t
+
+-- by the codes, from 0 on
+unfoldable pub acts : Token → List Act
+acts t =
+    Stop
+    ∷ on-word w-struct (Go 3) Stop t
+    ∷ on-word w-struct (Go 3) (on-item t) t
+    ∷ on-name (λ x. Go 4) Stop t
+    ∷ on-sign lpar (Go 5) Stop t
+    ∷ on-sign rpar (Go 10) (on-name (λ x. Go 7) Stop t) t
+    ∷ on-name (λ x. Go 7) Stop t
+    ∷ on-sign colon (Go 8) Stop t
+    ∷ on-type (λ a. Go 9) Stop t
+    ∷ on-sign comma (Go 6) (on-sign rpar (Go 10) Stop t) t
+    ∷ on-sign lbrace (Go 11) Stop t
+    ∷ on-name (λ x. Go 12) (on-sign rbrace (Go 2) Stop t) t
+    ∷ on-sign lbrace (Open 13 40) Stop t
+    ∷ on-word w-if (Open 22 38) (on-type-word (λ a. Go 17) (on-name (λ x. Go 14) (on-sign rbrace Below Stop t) t) t) t
+    ∷ on-name (λ y. Go 18) (on-sign assign (Open 22 39) (on-sign dot-sign (Go 15) (on-sign lpar (Open 19 37) Stop t) t) t) t
+    ∷ on-name (λ y. Go 16) Stop t
+    ∷ on-sign dot-sign (Go 15) (on-sign assign (Open 22 39) Stop t) t
+    ∷ on-name (λ x. Go 18) Stop t
+    ∷ on-sign assign (Open 22 39) Stop t
+    ∷ on-sign rpar Below (on-exp t) t
+    ∷ on-sign semicolon (Go 13) Stop t
+    ∷ on-sign lbrace (Open 13 41) Stop t
+    ∷ on-exp t
+    ∷ Below
+    ∷ on-sign lpar (Open 27 36) (on-sign dot-sign (Go 25) Below t) t
+    ∷ on-name (λ y. Go 26) Stop t
+    ∷ on-sign dot-sign (Go 25) Below t
+    ∷ on-sign rpar Below (on-exp t) t
+    ∷ on-type (λ a. Go 23) Stop t
+    ∷ on-item t
+    ∷ on-sign dot-sign (Go 31) (past-item t) t
+    ∷ on-name (λ y. Go 33) Stop t
+    ∷ on-sign lpar (Open 29 42) Stop t
+    ∷ past-item t
+    -- from 34 on: behind an expression in brackets, right of an operator, in an expression's arguments, in a statement's, in an if, at a statement's end
+    ∷ on-sign rpar (Go 23) (on-op (λ o. Open 22 35) Stop t) t
+    ∷ on-sign rpar (Go 23) Stop t
+    ∷ on-sign comma (Open 22 36) (on-sign rpar (Go 23) Stop t) t
+    ∷ on-sign comma (Open 22 37) (on-sign rpar (Go 20) Stop t) t
+    ∷ on-word w-then (Go 21) Stop t
+    ∷ on-sign semicolon (Go 13) Stop t
+    -- behind the statements of a step, of an if, behind the items of a Fix
+    ∷ on-sign rbrace (Go 11) Stop t
+    ∷ on-sign rbrace (Go 13) Stop t
+    ∷ on-sign rpar (Go 33) Stop t
+    ∷ []
+
+unfoldable pub act : ℕ → Token → Act
+act q t = getD (acts t) q Stop
+
+-- what was opened last hands a token no further
+unfoldable pub acted : Act → List ℕ → Shape
+acted (Go q) st = shape q st
+acted (Open q r) st = shape q (r ∷ st)
+acted Below st = shape 0 []
+acted Stop st = shape 0 []
+
+unfoldable pub acted-below : List ℕ → Token → Shape
+acted-below [] t = shape 0 []
+acted-below (r ∷ st) t = acted (act r t) st
+
+unfoldable pub moved : Act → List ℕ → Token → Shape
+moved (Go q) st t = shape q st
+moved (Open q r) st t = shape q (r ∷ st)
+moved Below st t = acted-below st t
+moved Stop st t = shape 0 []
+
+unfoldable pub move : Shape → Token → Shape
+move (shape q st) t = moved (act q t) st t
+
+-- By kinds ---------------------------------------------------------------------------------------
+
+-- a token of each kind; of what is no kind one that no derivation has
+unfoldable pub samples : List Token
+samples =
+    word w-string
+    ∷ word w-struct ∷ word w-if ∷ word w-then ∷ word w-null ∷ word w-this ∷ word w-fix ∷ word w-int ∷ word w-nat ∷ word w-bool ∷ word w-string ∷ word w-true
+    ∷ word w-false ∷ sign lpar ∷ sign rpar ∷ sign lbrace ∷ sign rbrace ∷ sign comma ∷ sign colon ∷ sign semicolon ∷ sign assign ∷ sign dot-sign ∷ sign bang
+    ∷ op op-eq ∷ op op-ne ∷ op op-le ∷ op op-ge ∷ op op-lt ∷ op op-gt ∷ op op-mul ∷ op op-div ∷ op op-rem ∷ op op-add ∷ op op-sub ∷ op op-and ∷ op op-or
+    ∷ name [] ∷ int plus [] ∷ nat [] ∷ []
+
+unfoldable pub sample : ℕ → Token
+sample k = getD samples k (word w-string)
+
+unfoldable pub moves : Shape → List ℕ → Shape
+moves s [] = s
+moves s (k ∷ ks) = moves (move s (sample k)) ks
+
+-- the tokens may end behind an item of the schedule, and there alone
+unfoldable pub at-end : Shape → Bool
+at-end (shape q []) = eqb q 30 || eqb q 33
+at-end (shape q (r ∷ st)) = false
+
+unfoldable pub derived : List ℕ → Bool
+derived ks = at-end (moves (shape 1 []) ks)

@@ -1,0 +1,61 @@
+// Tables of places: those where a role stands, and whether the names there are all different.
+use crate::names;
+ghost use mathlib.Core.Path.{_≡_};
+ghost use Prim.Native.Nat.{_+_, _<_};
+ghost use lib.ListN.{length, set};
+ghost use lib.Seq.{sets};
+ghost use Rattle.meaning.specs.Finding.{distinct};
+ghost use Rattle.resolve.specs.Named.{names-at};
+ghost use Rattle.resolve.specs.Tables.{places, with-place, with-one};
+
+// A place at an index of a table, if the table has it.
+fn put(table: &mut [usize], n: usize, i: usize)
+    ensures { λ _. ⌜ now (table .exit) ≡ set (now (table .entry)) n i ⌝ }
+{
+    if n >= table.len() {
+        return;
+    }
+    table[n] = i;
+}
+
+// One more place of a table's n, if it is one; and their count.
+fn add(table: &mut [usize], n: usize, i: usize, is: bool) -> usize
+    requires { ⌜ n + 1 < 18446744073709551616 ⌝ }
+    ensures { λ r. ⌜ r ≡ with-one is n ⌝ }
+    ensures { λ _. ⌜ now (table .exit) ≡ with-place is (now (table .entry)) n i ⌝ }
+{
+    if is {
+        put(table, n, i);
+        return n + 1;
+    }
+    n
+}
+
+// The places of a role, in order, into a table, as many as it has; and how many there are.
+pub fn gather(roles: &[u8], role: u8, table: &mut [usize]) -> usize
+    ensures { λ r. ⌜ r ≡ length (places role (now (roles .entry))) ⌝ }
+    ensures { λ _. ⌜ now (table .exit) ≡ sets (now (table .entry)) 0 (places role (now (roles .entry))) ⌝ }
+{
+    let mut n = 0;
+    let mut i = 0;
+    while i < roles.len() {
+        n = add(table, n, i, roles[i] == role);
+        i += 1;
+    }
+    n
+}
+
+// Whether the names at a table's places are all different.
+pub fn distinct(text: &[u8], table: &[usize]) -> bool
+    ensures { λ r. ⌜ r ≡ distinct (names-at (now (text .entry)) (now (table .entry))) ⌝ }
+{
+    let mut i = 0;
+    while i < table.len() {
+        let next = i + 1;
+        if names::lookup(text, &table[next..], table[i]) < table.len() - next {
+            return false;
+        }
+        i = next;
+    }
+    true
+}

@@ -1,0 +1,204 @@
+-- `turn` meets its contract: the command is the machine's, and its bytes are the line of it.
+use borrow.Author.Needs.{needs}
+use native.Mathlib.Omega.{arith}
+use mathlib.Core.Path.{_≡_}
+use Rattle.trace_lines.specs.PartsLaws.{fit-rows}
+use Rattle.trace_lines.specs.TellLaws.{turnable-rows, turnable-few, turnable-fit, turnable-fits, turnable-row, turnable-spans, picked-refused, picked-back, picked-told}
+use Rattle.trace_lines.proofs.turn.Statement.{statement}
+use Rattle.trace_lines.proofs.turn.Tie as tie
+
+holding-requires : tie.Need-holding-requires
+holding-requires c κs =
+    let at-slice-known2 = c .before .before .before .before in
+    let at-shared-slice-known = at-slice-known2 .before .before .before .before in
+    let at-pre = at-shared-slice-known .before in
+    turnable-rows (at-pre .pre .0)
+
+picked-of-requires : tie.Need-picked-of-requires
+picked-of-requires c κs =
+    let at-holding = c in
+    let at-slice-known3 = at-holding .before .before .before .before in
+    let at-shared-slice-known2 = at-slice-known3 .before .before .before .before in
+    let at-pre = at-shared-slice-known2 .before .before in
+    (turnable-rows (at-pre .pre .0), turnable-few (at-pre .pre .0), c .holding .ensures, rw (c .holding .ensures) (at-pre .pre .0 .held))
+
+target-requires : tie.Need-target-requires
+target-requires c κs =
+    let at-picked-of = c .before .before in
+    let at-machine = at-picked-of .before .before .before .before in
+    let at-shared-slice-known3 = at-machine .before .before .before .before in
+    let at-pre = at-shared-slice-known3 .before .before .before in
+    turnable-fits (at-pre .pre .0) (at-pre .args .turn .byte) (at-picked-of .picked-of .ensures)
+
+mul-at : tie.Need-mul-at
+mul-at c =
+    let at-picked-of = c .before .before .before in
+    let at-machine = at-picked-of .before .before .before .before in
+    let at-shared-slice-known3 = at-machine .before .before .before .before in
+    let at-pre = at-shared-slice-known3 .before .before .before in
+    omega (arith, fit-rows (turnable-fits (at-pre .pre .0) (at-pre .args .turn .byte) (at-picked-of .picked-of .ensures)))
+
+add-next : tie.Need-add-next
+add-next c =
+    let at-picked-of = c .before .before .before in
+    let at-machine = at-picked-of .before .before .before .before in
+    let at-shared-slice-known3 = at-machine .before .before .before .before in
+    let at-pre = at-shared-slice-known3 .before .before .before in
+    omega (arith, fit-rows (turnable-fits (at-pre .pre .0) (at-pre .args .turn .byte) (at-picked-of .picked-of .ensures)))
+
+mul-next : tie.Need-mul-next
+mul-next c =
+    let at-picked-of = c .before .before .before in
+    let at-machine = at-picked-of .before .before .before .before in
+    let at-shared-slice-known3 = at-machine .before .before .before .before in
+    let at-pre = at-shared-slice-known3 .before .before .before in
+    omega (arith, fit-rows (turnable-fits (at-pre .pre .0) (at-pre .args .turn .byte) (at-picked-of .picked-of .ensures)))
+
+slice-read-next : tie.Need-slice-read-next
+slice-read-next c =
+    let at-picked-of = c .before .before .before .before in
+    let at-machine = at-picked-of .before .before .before .before in
+    let at-shared-slice-known3 = at-machine .before .before .before .before in
+    let at-pre = at-shared-slice-known3 .before .before .before in
+    omega (arith, fit-rows (turnable-fits (at-pre .pre .0) (at-pre .args .turn .byte) (at-picked-of .picked-of .ensures)))
+
+add-t22 : tie.Need-add-t22
+add-t22 c =
+    let at-picked-of = c .before .before .before .before in
+    let at-machine = at-picked-of .before .before .before .before in
+    let at-shared-slice-known3 = at-machine .before .before .before .before in
+    let at-pre = at-shared-slice-known3 .before .before .before in
+    omega (arith, fit-rows (turnable-fits (at-pre .pre .0) (at-pre .args .turn .byte) (at-picked-of .picked-of .ensures)))
+
+mul-t31 : tie.Need-mul-t31
+mul-t31 c =
+    let at-picked-of = c .before .before .before .before in
+    let at-machine = at-picked-of .before .before .before .before in
+    let at-shared-slice-known3 = at-machine .before .before .before .before in
+    let at-pre = at-shared-slice-known3 .before .before .before in
+    omega (arith, fit-rows (turnable-fits (at-pre .pre .0) (at-pre .args .turn .byte) (at-picked-of .picked-of .ensures)))
+
+slice-read-t29 : tie.Need-slice-read-t29
+slice-read-t29 c =
+    let at-target-arg = c .before .before .before .before in
+    let at-picked-of = at-target-arg .before in
+    let at-machine = at-picked-of .before .before .before .before in
+    let at-shared-slice-known3 = at-machine .before .before .before .before in
+    let at-pre = at-shared-slice-known3 .before .before .before in
+    omega (arith, fit-rows (turnable-fits (at-pre .pre .0) (at-pre .args .turn .byte) (at-picked-of .picked-of .ensures)))
+
+position-requires : tie.Need-position-requires
+position-requires c κs =
+    let at-target-arg2 = c .before .before .before .before in
+    let at-picked-of = at-target-arg2 .before .before in
+    let at-machine = at-picked-of .before .before .before .before in
+    let at-shared-slice-known3 = at-machine .before .before .before .before in
+    let at-pre = at-shared-slice-known3 .before .before .before in (
+      (
+        turnable-spans (at-pre .pre .0) (at-pre .args .turn .byte) (at-picked-of .picked-of .ensures),
+        omega (
+          arith,
+          fit-rows (turnable-fits
+              (at-pre .pre .0) (at-pre .args .turn .byte) (at-picked-of .picked-of .ensures)),
+        ),
+      ),
+      (
+        turnable-row (at-pre .pre .0) (at-pre .args .turn .byte)
+            (at-picked-of .picked-of .ensures),
+        at-pre .pre .0 .named,
+      ),
+    )
+
+mul-t36 : tie.Need-mul-t36
+mul-t36 c =
+    let at-target = c .before .before .before .before in
+    let at-picked-of = at-target .before .before .before in
+    let at-machine = at-picked-of .before .before .before .before in
+    let at-shared-slice-known3 = at-machine .before .before .before .before in
+    let at-pre = at-shared-slice-known3 .before .before .before in
+    omega (arith, fit-rows (turnable-fits (at-pre .pre .0) (at-pre .args .turn .byte) (at-picked-of .picked-of .ensures)))
+
+shared-slice-read-t38 : tie.Need-shared-slice-read-t38
+shared-slice-read-t38 c =
+    let at-slice-known4 = c .before .before .before .before in
+    let at-picked-of = at-slice-known4 .before .before .before .before in
+    let at-machine = at-picked-of .before .before .before .before in
+    let at-shared-slice-known3 = at-machine .before .before .before .before in
+    let at-pre = at-shared-slice-known3 .before .before .before in
+    omega (arith, fit-rows (turnable-fits (at-pre .pre .0) (at-pre .args .turn .byte) (at-picked-of .picked-of .ensures)))
+
+command-requires : tie.Need-command-requires
+command-requires c κs =
+    let at-front = c .before .before .before .before in
+    let at-position-arg = at-front .before .before .before .before in
+    let at-target-arg2 = at-position-arg .before .before .before .before in
+    let at-picked-of = at-target-arg2 .before .before in
+    let at-machine = at-picked-of .before .before .before .before in
+    let at-shared-slice-known3 = at-machine .before .before .before .before in
+    let at-pre = at-shared-slice-known3 .before .before .before in
+    turnable-fit (at-pre .pre .0) (at-pre .args .turn .byte) (at-picked-of .picked-of .ensures)
+
+returns : tie.Need-returns
+returns c =
+    let at-cells = c .before .before .before .before in
+    let at-command = at-cells .before .before .before in
+    let at-out = at-command .before .before .before .before in
+    let at-position = at-out .before .before .before .before in
+    let at-target = at-position .before .before .before .before in
+    let at-picked-of = at-target .before .before .before in
+    let at-machine = at-picked-of .before .before .before .before in
+    let at-shared-slice-known3 = at-machine .before .before .before .before in
+    let at-pre = at-shared-slice-known3 .before .before .before in (
+      rw (← (at-picked-of .picked-of .ensures)) (at-command .command .ensures),
+      λ p items m r. picked-refused r (at-pre .pre .0 .held) (at-pre .args .turn .byte) (at-picked-of .picked-of .ensures)
+          (at-command .command .ensures) (at-pre .args .turn .step) (at-pre .args .turn .taken) (c .if1 .taken),
+    )
+
+back-requires : tie.Need-back-requires
+back-requires c κs =
+    let at-if1 = c .before .before .before in
+    let at-cells = at-if1 .before .before .before .before in
+    let at-command = at-cells .before .before .before in
+    let at-out = at-command .before .before .before .before in
+    let at-front = at-out .before in
+    let at-position-arg = at-front .before .before .before .before in
+    let at-target = at-position-arg .before .before .before in
+    let at-picked-of = at-target .before .before .before in
+    let at-machine = at-picked-of .before .before .before .before in
+    let at-shared-slice-known3 = at-machine .before .before .before .before in
+    let at-pre = at-shared-slice-known3 .before .before .before in (
+      rw (at-target .target .ensures)
+          (picked-back (at-pre .pre .0 .begun .ready) (at-pre .pre .0 .held) (at-pre .args .turn .byte) (at-picked-of .picked-of .ensures)
+          (at-command .command .ensures) (at-if1 .if1 .left)
+          (at-pre .pre .0 .few)),
+      omega (arith, at-front .front .ensures .1, at-front .front .kept .0, at-pre .pre .1),
+    )
+
+returns-2 : tie.Need-returns-2
+returns-2 c =
+    let at-back = c .before .before in
+    let at-if1 = at-back .before .before .before .before in
+    let at-cells = at-if1 .before .before .before .before in
+    let at-command = at-cells .before .before .before in
+    let at-out = at-command .before .before .before .before in
+    let at-front = at-out .before in
+    let at-position = at-front .before .before .before in
+    let at-target = at-position .before .before .before .before in
+    let at-picked-of = at-target .before .before .before in
+    let at-machine = at-picked-of .before .before .before .before in
+    let at-shared-slice-known3 = at-machine .before .before .before .before in
+    let at-pre = at-shared-slice-known3 .before .before .before in (
+      rw (← (at-picked-of .picked-of .ensures)) (at-command .command .ensures),
+      λ p items m r.
+          picked-told r (at-pre .pre .0 .held) (at-pre .args .turn .byte) (at-picked-of .picked-of .ensures) (at-command .command .ensures)
+          (at-pre .args .turn .step) (at-pre .args .turn .taken) (at-pre .pre .0 .named) (at-if1 .if1 .left)
+          (at-target .target .ensures) (at-position .position .ensures) (at-front .front .ensures .0) (at-back .back .ensures .0)
+          (omega (arith, at-front .front .ensures .1, at-back .back .ensures .1, at-pre .pre .1)),
+    )
+
+pub turn-spec : {M : Type 1} → statement M
+turn-spec =
+    tie.close
+    (tie.spec holding-requires picked-of-requires target-requires mul-at add-next mul-next slice-read-next add-t22 mul-t31 slice-read-t29
+    position-requires mul-t36 shared-slice-read-t38 (λ c κs. search needs) command-requires (λ c. search needs) (λ c. search needs)
+    (λ c. search needs) returns back-requires (λ c. search needs) (λ c. search needs) (λ c. search needs) returns-2)
