@@ -28,7 +28,12 @@ fn help() {
 // The line of a report.
 fn report(r: Report) {
     let mut line = [0u8; 128];
-    let ns = [r.turns as u64, r.blocks as u64, r.depth as u64, r.holding as u64];
+    let ns = [
+        r.turns as u64,
+        r.blocks as u64,
+        r.depth as u64,
+        r.holding as u64,
+    ];
     let k = text::decimal(&mut line, 0, r.number as u64);
     let n = text::lines::row(&mut line, k, b"", &ns);
     output(&line, n);

@@ -11,7 +11,7 @@ use Rattle.program.specs.Tree.{Program}
 use Rattle.commands.specs.Bounds.{program-size, Within}
 use Rattle.commands.specs.ProgramWords.{structs-words, program-words}
 use Rattle.commands.specs.ProgramWordsLaws.{program-length}
-use Rattle.commands.specs.NumbersLaws.{number-accepted}
+use Rattle.commands.specs.Laws.NumbersLaws.{number-accepted}
 use Rattle.read_params.specs.ParamsWays.{from-start}
 use Rattle.emit.specs.Written.{structs-at}
 use Rattle.emit_steps.specs.declared.Place.{Place}

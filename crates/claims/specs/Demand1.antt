@@ -11,7 +11,7 @@ use Rattle.run.specs.Entry.{Begun.not-begun, begins, report, run-report, run-ou
 use Rattle.verdict.specs.ProgramInput.{program-order, check-order}
 use Rattle.run.specs.Input.{run-order}
 use Rattle.verdict.specs.ProgramInputLaws.{checked-number, verdict-number, check-untouched}
-use Rattle.run.specs.InputLaws.{begins-number, refusal-untouched}
+use Rattle.run.specs.Laws.InputLaws.{begins-number, refusal-untouched}
 use Rattle.step_part.specs.StepPart.{step-place, step-part}
 use Rattle.text.specs.Listing.{row}
 use Rattle.listing.specs.Listings.{refused-word, listing-of}

@@ -13,7 +13,7 @@ use Rattle.commands.specs.Coding.{words}
 use Rattle.commands.specs.Commands.{commands}
 use Rattle.commands.specs.Context.{Ctx, context, params-of, step-of}
 use Rattle.commands.specs.Noted.{erase, noted}
-use Rattle.commands.specs.NotedLaws.{erased}
+use Rattle.commands.specs.Laws.NotedLaws.{erased}
 use Rattle.commands.specs.Numbers.{NoneOf}
 use Rattle.table.specs.Table.{Record, enc-table, TableRight}
 use Rattle.machine.specs.Published.{State, structs}
@@ -25,7 +25,7 @@ use Rattle.run.specs.Holders.{holders}
 use Rattle.run.specs.Run.{Outcome.stopped, run}
 use Rattle.run.specs.Visits.{Visits, turns-of}
 use Rattle.run.specs.StepTurns.{Spends}
-use Rattle.run.specs.StepTurnsLaws.{step-turns as start-turns}
+use Rattle.run.specs.Laws.StepTurnsLaws.{step-turns as start-turns}
 use Rattle.run.specs.Begin.{params-in, begin, table-of}
 use Rattle.run.specs.Initial.{initial, Comes}
 use Rattle.run.specs.Runs.{Passes}
@@ -34,19 +34,19 @@ use Rattle.run.specs.Entry.{Begun.begun, begins, run-output}
 use Rattle.verdict.specs.ProgramInput.{check-order, AcceptedImage, Approved}
 use Rattle.run.specs.Input.{run-order, TableAccepted, Runnable, Began}
 use Rattle.verdict.specs.ProgramInputLaws.{checked-accepted, verdict-approved, check-approved}
-use Rattle.run.specs.InputLaws.{begins-ready, begins-none}
-use Rattle.run.specs.RunAgreesVisits.{visits-passes, passes-visits}
-use Rattle.run.specs.BeginLaws.{begin-represents, outcome-exact, comes-unique, comes-holding, comes-stopped}
+use Rattle.run.specs.Laws.InputLaws.{begins-ready, begins-none}
+use Rattle.run.specs.Laws.RunAgreesVisits.{visits-passes, passes-visits}
+use Rattle.run.specs.Laws.BeginLaws.{begin-represents, outcome-exact, comes-unique, comes-holding, comes-stopped}
 use Rattle.run.specs.Answered.{Answered}
-use Rattle.run.specs.AnsweredLaws.{comes-answered}
+use Rattle.run.specs.Laws.AnsweredLaws.{comes-answered}
 use Rattle.commands.specs.Accepted.{Accepted}
-use Rattle.sound.specs.AcceptedLaws.{accepted-firm, ready-accepted}
-use Rattle.sound.specs.BeginGood.{begin-good}
-use Rattle.sound.specs.NeverStuckLaws.{visits-good, demand3, demand3-comes}
+use Rattle.sound.specs.Laws.AcceptedLaws.{accepted-firm, ready-accepted}
+use Rattle.sound.specs.Laws.BeginGood.{begin-good}
+use Rattle.sound.specs.Laws.NeverStuckLaws.{visits-good, demand3, demand3-comes}
 use Rattle.sound.specs.Started.{OneStep}
-use Rattle.sound.specs.StartedLaws.{good-one-step}
-use Rattle.sound.specs.TabledLaws.{begin-tabled}
-use Rattle.sound.specs.TableKept.{table-kept, table-written, nulls-kept, comes-written, output-length}
+use Rattle.sound.specs.Laws.StartedLaws.{good-one-step}
+use Rattle.sound.specs.Laws.TabledLaws.{begin-tabled}
+use Rattle.sound.specs.Laws.TableKept.{table-kept, table-written, nulls-kept, comes-written, output-length}
 use Rattle.step_part.specs.StepPart.{step-place, step-part}
 use Rattle.step_lines.specs.Lines.{program-lines}
 use Rattle.listing.specs.Listings.{head, listing-of}

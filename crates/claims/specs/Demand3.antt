@@ -16,10 +16,10 @@ use Rattle.machine.specs.Represents.{Represents}
 use Rattle.run.specs.Initial.{initial}
 use Rattle.run.specs.Runs.{Passes}
 use Rattle.run.specs.Input.{run-order, Runnable}
-use Rattle.run.specs.InputLaws.{begins-none}
+use Rattle.run.specs.Laws.InputLaws.{begins-none}
 use Rattle.sound.specs.Needs.{Right}
 use Rattle.sound.specs.NeverStuck.{Demand3}
-use Rattle.sound.specs.NeverStuckLaws.{never-stuck-numbers}
+use Rattle.sound.specs.Laws.NeverStuckLaws.{never-stuck-numbers}
 use Rattle.claims.specs.Call.{Call}
 use Rattle.claims.specs.JoinLaws.{ready-call, passes-right, passes-entries}
 

@@ -31,19 +31,19 @@ use Rattle.program.specs.Counts.{Counts, CountsTo}
 use Rattle.program.specs.Levels.{levels-program}
 use Rattle.program.specs.Reader.{Result.bad, read, wrong-end}
 use Rattle.program.specs.Fronts.{Front, EndsAt, OffendsAt}
-use Rattle.program.specs.FrontLaws.{program-viable, ends-unique, offends-unique, levels-exactly}
+use Rattle.program.specs.Laws.FrontLaws.{program-viable, ends-unique, offends-unique, levels-exactly}
 use Rattle.commands.specs.Commands.{Coms, Coms.if-then, Flat.if-n, then, flatten}
-use Rattle.commands.specs.CommandLaws.{if-true, if-false}
+use Rattle.commands.specs.Laws.CommandLaws.{if-true, if-false}
 use Rattle.commands.specs.Context.{Ctx}
 use Rattle.commands.specs.Bounds.{Within}
-use Rattle.commands.specs.BoundsDecide.{within}
-use Rattle.commands.specs.BoundsDecideLaws.{within-exact}
+use Rattle.commands.specs.Decide.BoundsDecide.{within}
+use Rattle.commands.specs.Decide.BoundsDecideLaws.{within-exact}
 use Rattle.commands.specs.Names.{NamesRight}
-use Rattle.commands.specs.NamesDecide.{names-right}
-use Rattle.commands.specs.NamesDecideLaws.{names-exact}
+use Rattle.commands.specs.Decide.NamesDecide.{names-right}
+use Rattle.commands.specs.Decide.NamesDecideLaws.{names-exact}
 use Rattle.commands.specs.Typing.{Types, TypesRight}
-use Rattle.commands.specs.TypingDecide.{types-right}
-use Rattle.commands.specs.TypingDecideLaws.{types-unique, types-exact}
+use Rattle.commands.specs.Decide.TypingDecide.{types-right}
+use Rattle.commands.specs.Decide.TypingDecideLaws.{types-unique, types-exact}
 use Rattle.operators.specs.Operators.{Applies, Exceeds}
 use Rattle.operators.specs.ApplyLaws.{applies-unique, applies-not-exceeds}
 use Rattle.table.specs.Table.{Record, enc-table, HeldTable, TableRight}
@@ -64,13 +64,13 @@ use Rattle.machine.specs.CommandAgrees.{command-stuck}
 use Rattle.machine.specs.MoveAgrees.{move-stuck}
 use Rattle.run.specs.Turns.{labels-from, chosen}
 use Rattle.run.specs.Holders.{holders}
-use Rattle.run.specs.TurnLaws.{labels-ascend, holder-chosen}
+use Rattle.run.specs.Laws.TurnLaws.{labels-ascend, holder-chosen}
 use Rattle.run.specs.Runs.{Runs, Passes}
-use Rattle.run.specs.RunAgreesVisits.{passes-bounded, all-taken}
+use Rattle.run.specs.Laws.RunAgreesVisits.{passes-bounded, all-taken}
 use Rattle.run.specs.Run.{Outcome.jammed, run}
 use Rattle.run.specs.Begin.{begin}
 use Rattle.run.specs.Initial.{idle, of-record, first-insts, Comes}
-use Rattle.run.specs.BeginLaws.{null-at, record-at, first-length, jammed-exact}
+use Rattle.run.specs.Laws.BeginLaws.{null-at, record-at, first-length, jammed-exact}
 use Rattle.step_part.specs.StepPart.{step-place, step-part}
 use Rattle.step_part.specs.StepPartLaws.{place-fits, place-part}
 use Rattle.text.specs.Listing.{decimal, int-text}

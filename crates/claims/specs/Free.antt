@@ -14,7 +14,7 @@ use Rattle.commands.specs.Commands.{Flat}
 use Rattle.commands.specs.Coding.{command-word}
 use Rattle.commands.specs.ProgramWords.{structs-list, program-words}
 use Rattle.commands.specs.Decoding.{decode, InRanges}
-use Rattle.commands.specs.CodingLaws.{word-injective}
+use Rattle.commands.specs.Laws.CodingLaws.{word-injective}
 use Rattle.operators.specs.Operators.{quotient, remainder}
 use Rattle.operators.specs.Rounding.{TowardMinusInfinity, DivisorSigned}
 use Rattle.operators.specs.RoundingLaws.{quotient-downward, quotient-unique, remainder-signed, remainder-unique}

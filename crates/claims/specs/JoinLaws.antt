@@ -16,29 +16,29 @@ use Rattle.commands.specs.Commands.{commands}
 use Rattle.commands.specs.Context.{context, find-step, step-of}
 use Rattle.commands.specs.Names.{names-of-steps}
 use Rattle.commands.specs.Noted.{erase, noted}
-use Rattle.commands.specs.NotedLaws.{erased}
+use Rattle.commands.specs.Laws.NotedLaws.{erased}
 use Rattle.commands.specs.Numbers.{Foremost}
-use Rattle.commands.specs.NumbersLaws.{foremost-some}
+use Rattle.commands.specs.Laws.NumbersLaws.{foremost-some}
 use Rattle.table.specs.Table.{Record}
 use Rattle.machine.specs.Published.{Sched, Sched.fixpoint, Inst, State, State.state}
 use Rattle.machine.specs.Machine.{Machine}
 use Rattle.machine.specs.Represents.{Represents}
 use Rattle.run.specs.Begin.{begin}
 use Rattle.run.specs.Initial.{initial}
-use Rattle.run.specs.BeginLaws.{begin-represents, outcome-exact}
+use Rattle.run.specs.Laws.BeginLaws.{begin-represents, outcome-exact}
 use Rattle.run.specs.Runs.{Passes}
-use Rattle.run.specs.RunAgreesVisits.{passes-visits}
+use Rattle.run.specs.Laws.RunAgreesVisits.{passes-visits}
 use Rattle.verdict.specs.Verdict.{Checked, Checked.accepted, Checked.refused, checked, Verdict, check-list}
 use Rattle.verdict.specs.ProgramInput.{AcceptedImage, program-order, check-order}
 use Rattle.run.specs.Input.{Runnable}
 use Rattle.verdict.specs.ProgramInputLaws.{checked-accepted, checked-number, verdict-number, verdict-approved, check-approved}
-use Rattle.run.specs.InputLaws.{begins-ready}
-use Rattle.run.specs.AnsweredLaws.{comes-answered}
+use Rattle.run.specs.Laws.InputLaws.{begins-ready}
+use Rattle.run.specs.Laws.AnsweredLaws.{comes-answered}
 use Rattle.sound.specs.Needs.{Right}
-use Rattle.sound.specs.AcceptedLaws.{ready-accepted, accepted-firm}
-use Rattle.sound.specs.NeverStuckLaws.{visits-good, demand3}
-use Rattle.sound.specs.BeginGood.{begin-good}
-use Rattle.sound.specs.ShallowLaws.{good-entries}
+use Rattle.sound.specs.Laws.AcceptedLaws.{ready-accepted, accepted-firm}
+use Rattle.sound.specs.Laws.NeverStuckLaws.{visits-good, demand3}
+use Rattle.sound.specs.Laws.BeginGood.{begin-good}
+use Rattle.sound.specs.Laws.ShallowLaws.{good-entries}
 use Rattle.step_part.specs.StepPart.{step-place, step-part}
 use Rattle.step_part.specs.StepPartLaws.{place-number}
 use Rattle.step_part.specs.StepPartWords.{step-words, step-absent, step-refused, step-short}

@@ -13,9 +13,9 @@ use Rattle.run.specs.Holders.{holders}
 use Rattle.run.specs.Visits.{Visits}
 use Rattle.layout.specs.State.{State, bit}
 use Rattle.memory.specs.Plan.{At}
-use Rattle.memory.specs.PlanUnique.{at-unique}
+use Rattle.memory.specs.Laws.PlanUnique.{at-unique}
 use Rattle.memory.specs.Stands.{Stands, bits}
-use Rattle.memory.specs.EntriesLaws.{entry-times, bits-times}
+use Rattle.memory.specs.Laws.EntriesLaws.{entry-times, bits-times}
 use Rattle.interpreter.specs.TurnLaws.{held-count}
 use Rattle.interpreter.specs.Running.{cleared, Moving, Running, Ended}
 use Rattle.claims.specs.MemoryLaws.{running-visited, ended-visited}

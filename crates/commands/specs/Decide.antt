@@ -1,4 +1,11 @@
 -- Tests on lists (for 01, numbers 6 to 8).
+pub mod DecideLaws
+pub mod NamesDecide
+pub mod NamesDecideLaws
+pub mod TypingDecide
+pub mod TypingDecideLaws
+pub mod BoundsDecide
+pub mod BoundsDecideLaws
 use Prim.Native.Nat.{ℕ}
 use mathlib.Core.Bool.{Bool, true, false, not, _&&_, _||_}
 use mathlib.Core.List.{List, [], _∷_}

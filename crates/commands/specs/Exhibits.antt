@@ -1,5 +1,7 @@
 -- The static side of demand 3 is not empty (01, 'The words of demand 3'): a program refused with 8 and one refused with 7 lead to
 -- a command that lacks what it asks for; an accepted one, which constructs and goes both ways through an if, does not.
+pub mod Rows
+pub mod NumberRows
 use Prim.Native.Nat.{ℕ, _≤_}
 use native.Mathlib.Omega.{arith}
 use mathlib.Core.Path.{_≡_, refl}
@@ -21,7 +23,7 @@ use Rattle.commands.specs.Noted.{Note, Note.n-push, Note.n-this, Note.n-
 use Rattle.commands.specs.Depth.{depth}
 use Rattle.commands.specs.Bounds.{Within, program-size, total, items-count}
 use Rattle.commands.specs.Tags.{Tags, tags, at-start, Asks, Way, Way.start, Way.on, Way.over}
-use Rattle.commands.specs.SafeLaws.{ready, way-safe}
+use Rattle.commands.specs.Laws.SafeLaws.{ready, way-safe}
 use Rattle.commands.specs.Steps.{step-safe}
 
 -- a program has a step that leads to a command which lacks what it asks for

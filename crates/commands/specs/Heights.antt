@@ -12,7 +12,7 @@ use Rattle.commands.specs.Noted.{Note, Note.n-push, Note.n-this, Note.n-
 use Rattle.commands.specs.Depth.{after, depth}
 use Rattle.commands.specs.Bounds.{greatest, arities, step-depth, program-depth}
 use Rattle.commands.specs.Tags.{Tags, at-start, next, jump, Way, Way.start, Way.on, Way.over}
-use Rattle.commands.specs.NotedLaws.{erased}
+use Rattle.commands.specs.Laws.NotedLaws.{erased}
 use Rattle.commands.specs.Steps.{found}
 
 -- the height after a command of the list, and how many commands the other way leaves out

@@ -5,9 +5,9 @@ use mathlib.Core.List.{List, [], _∷_, _++_}
 use mathlib.Core.Path.{_≡_}
 pub use Rattle.types.specs.Numbers.{over-limits, wrong-names, wrong-types}
 use Rattle.program.specs.Tree.{Program}
-use Rattle.commands.specs.BoundsDecide.{within}
-use Rattle.commands.specs.NamesDecide.{names-right}
-use Rattle.commands.specs.TypingDecide.{types-right}
+use Rattle.commands.specs.Decide.BoundsDecide.{within}
+use Rattle.commands.specs.Decide.NamesDecide.{names-right}
+use Rattle.commands.specs.Decide.TypingDecide.{types-right}
 
 abbrev pub no-breach : ℕ
 no-breach = 0

@@ -15,10 +15,10 @@ use Rattle.commands.specs.Names.{Named, NamedSteps, NamesRight}
 use Rattle.commands.specs.Typing.{Typed, TypedSteps, TypesRight}
 use Rattle.commands.specs.Noted.{noted}
 use Rattle.commands.specs.Tags.{at-start, Safe}
-use Rattle.commands.specs.Static.{secure-step}
+use Rattle.commands.specs.Laws.Static.{secure-step}
 use Rattle.commands.specs.Living.{lives, alive, Among}
 use Rattle.commands.specs.Secure.{Secure}
-use Rattle.commands.specs.SecureLaws.{secure-safe}
+use Rattle.commands.specs.Laws.SecureLaws.{secure-safe}
 
 -- what holds of all holds of each
 pub of-each : {A : Type 0} (C : A → Type 0) {a : A} {l : List A} → All C l → List·Memᴰ a l → C a

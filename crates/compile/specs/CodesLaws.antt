@@ -9,7 +9,8 @@ use Rattle.types.specs.Limits.{schedule-items}
 use Rattle.program.specs.Tree.{Item, Item.call, Item.call-in, Item.fix, Items, Items.stop, Items.item}
 use Rattle.commands.specs.Bounds.{item-count, items-count}
 use Rattle.machine.specs.Published.{StepCall.global, StepCall.local, Sched, of-item, of-items}
-use Rattle.memory.specs.Plan.{start-code, fix-code, end-code, round-code, laid, laid-out}
+use Rattle.layout.specs.Codes.{fix-code, end-code, round-code}
+use Rattle.memory.specs.Plan.{start-code, laid, laid-out}
 use Rattle.compile.specs.Codes.{item-codes, items-codes, schedule-codes}
 
 module _ (at : ℕ) where

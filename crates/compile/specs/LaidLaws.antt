@@ -10,9 +10,9 @@ use Rattle.types.specs.Types.{Ty}
 use Rattle.program.specs.Tree.{Item, Item.call, Item.call-in, Item.fix, Items, Items.stop, Items.item, Step, Program}
 use Rattle.program.specs.Counts.{CountsItem, CountsItems, CountsSchedule, Counts}
 use Rattle.program.specs.Reader.{Result, Result.ok, Result.bad, then, pair, made, read-items, read-item, read-program, read}
-use Rattle.program.specs.PartLaws.{told-is}
-use Rattle.program.specs.ItemLaws.{schedule-exact}
-use Rattle.program.specs.ProgramLaws.{program-law}
+use Rattle.program.specs.Laws.PartLaws.{told-is}
+use Rattle.program.specs.Laws.ItemLaws.{schedule-exact}
+use Rattle.program.specs.Laws.ProgramLaws.{program-law}
 use Rattle.commands.specs.Bounds.{arities, Within}
 use Rattle.emit.specs.declared.Put.{Put}
 use Rattle.emit.specs.Written.{code-of, Ready, Wrote}
@@ -20,7 +20,7 @@ use Rattle.emit.specs.ProgramLaws.{whole-program}
 use Rattle.emit.specs.Written.{structs-at}
 use Rattle.machine.specs.Published.{Sched, of-items}
 use Rattle.memory.specs.Plan.{laid, laid-out, Ranged, Body, At, At.at-end, At.at-start, At.at-fix, At.at-round}
-use Rattle.memory.specs.PlanLaws.{at-within, laid-whole, schedule-ranged}
+use Rattle.memory.specs.Laws.PlanLaws.{at-within, laid-whole, schedule-ranged}
 use Rattle.compile.specs.Codes.{schedule-codes, any-structs, schedule-at}
 use Rattle.compile.specs.CodesLaws.{schedule-few}
 use Rattle.compile.specs.Laid.{Behind, LaidProgram}

@@ -8,7 +8,7 @@ use lib.Seq.{sets-eq}
 use Rattle.types.specs.Limits.{max-structs, max-commands}
 use Rattle.program.specs.Counts.{All, Counts}
 use Rattle.program.specs.Reader.{Result.ok}
-use Rattle.program.specs.ProgramLaws.{program-law}
+use Rattle.program.specs.Laws.ProgramLaws.{program-law}
 use Rattle.commands.specs.Bounds.{Within}
 use Rattle.directory.specs.declared.Row.{Row}
 use Rattle.directory.specs.Directory.{structs-rows, directory}

@@ -8,8 +8,8 @@ use lib.ListN.{length, getD, set, length-set, length-append}
 use Rattle.types.specs.Limits.{step-names, max-items}
 use Rattle.program.specs.Tree.{Item, Item.call, Item.call-in, Item.fix, Items, Items.stop, Items.item}
 use Rattle.program.specs.Reader.{Result, Result.ok, Result.bad, wrong-byte, then, pair, made, lookup, ranged, ItemSort, ItemSort.sort-call, ItemSort.sort-call-in, ItemSort.sort-fix, ItemSort.sort-none, item-sort, rule-item, read-item, read-items}
-use Rattle.program.specs.PartLaws.{made-ok}
-use Rattle.program.specs.ItemLaws.{OpensItem, opens-item}
+use Rattle.program.specs.Laws.PartLaws.{made-ok}
+use Rattle.program.specs.Laws.ItemLaws.{OpensItem, opens-item}
 use Rattle.emit.specs.declared.Put.{Put}
 use Rattle.emit.specs.Written.{Good, next-of, code-of, Ready, Wrote}
 use Rattle.emit.specs.WrittenLaws.{placed-one, placed-as, placed-kept, placed-last, placed-first}
@@ -17,7 +17,8 @@ use Rattle.emit.specs.Parts.{Part, Parts}
 use Rattle.emit.specs.PartsLaws.{part-of, same-part, parts-of, parts-ready, parts-next, parts-same, row-none}
 use Rattle.emit.specs.ReadLaws.{value, made-value, pair-value, pair-ok, many-value, ranged-value, counted-value, opened-value}
 use Rattle.machine.specs.Published.{StepCall.local}
-use Rattle.memory.specs.Plan.{start-code, fix-code, end-code, round-code}
+use Rattle.layout.specs.Codes.{fix-code, end-code, round-code}
+use Rattle.memory.specs.Plan.{start-code}
 use Rattle.compile.specs.Codes.{item-codes, items-codes, schedule-codes, any-structs, item-at, row-at, items-at, schedule-at, Left}
 use Rattle.compile.specs.CodesLaws.{call-codes, call-in-codes, fix-codes, no-codes, more-codes, whole-codes}
 

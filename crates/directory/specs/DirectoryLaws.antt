@@ -9,7 +9,7 @@ use Rattle.types.specs.Limits.{max-structs, max-steps, step-names}
 use Rattle.program.specs.Tree.{Step, Program}
 use Rattle.program.specs.Counts.{All, Few, CountsStep, Counts}
 use Rattle.commands.specs.Bounds.{total, arities, step-size, program-size}
-use Rattle.commands.specs.RangeLaws.{all-append}
+use Rattle.commands.specs.Laws.RangeLaws.{all-append}
 use Rattle.directory.specs.declared.Row.{Row}
 use Rattle.directory.specs.Directory.{steps-rows, structs-rows, directory}
 

@@ -15,9 +15,9 @@ use Rattle.program.specs.Tree.{Op, Op.op-eq, Op.op-ne, Op.op-le, Op.op-ge, Op.o
 use Rattle.program.specs.Encoding.{op-code, enc-word}
 use Rattle.program.specs.Reader.{Result.ok, Result.bad, wrong-byte, made, Form, Form.form-inv, Form.form-make, Form.form-path, Form.form-int, Form.form-nat, Form.form-bool, Form.form-null, Form.form-self, Form.form-op, Form.form-none, form, bool-end, word-bytes, ranged, read-word, read-type, rule-expr, read-expr}
 use Rattle.program.specs.Exact.{Stands, Stands.done, Stands.letter}
-use Rattle.program.specs.PartLaws.{told-is, made-ok}
-use Rattle.program.specs.ExprLaws.{Opens, opens}
-use Rattle.program.specs.WordLaws.{word-exact, type-exact}
+use Rattle.program.specs.Laws.PartLaws.{told-is, made-ok}
+use Rattle.program.specs.Laws.ExprLaws.{Opens, opens}
+use Rattle.program.specs.Laws.WordLaws.{word-exact, type-exact}
 use Rattle.commands.specs.Commands.{expr-coms, flatten}
 use Rattle.commands.specs.Coding.{coded, com-word, command-word, words}
 use Rattle.emit.specs.Written.{Good, next-of, code-of, expr-words}

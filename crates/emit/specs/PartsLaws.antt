@@ -5,7 +5,7 @@ use mathlib.Core.Path.{_≡_, refl, sym, ap, _∙_}
 use mathlib.Core.List.{List, [], _∷_, _++_, append-nil}
 use lib.ListN.{length, set, length-append}
 use Rattle.program.specs.Reader.{Result, Result.ok, pair, made, many}
-use Rattle.program.specs.PartLaws.{made-ok}
+use Rattle.program.specs.Laws.PartLaws.{made-ok}
 use Rattle.emit.specs.declared.Put.{Put}
 use Rattle.emit.specs.Written.{Good, next-of, code-of, Ready, Placed, Wrote}
 use Rattle.emit.specs.WrittenLaws.{placed-none, placed-kept, placed-as, placed-on, placed-last}

@@ -8,9 +8,9 @@ use Rattle.program.specs.Tree.{Var}
 use Rattle.program.specs.Encoding.{enc-path}
 use Rattle.program.specs.Reader.{Result.ok, read-path}
 use Rattle.program.specs.Exact.{Stands, Stands.letter}
-use Rattle.program.specs.StandsLaws.{stands-length, stands-in}
-use Rattle.program.specs.PartLaws.{told-is}
-use Rattle.program.specs.WordLaws.{path-exact}
+use Rattle.program.specs.Laws.StandsLaws.{stands-length, stands-in}
+use Rattle.program.specs.Laws.PartLaws.{told-is}
+use Rattle.program.specs.Laws.WordLaws.{path-exact}
 use Rattle.commands.specs.Coding.{coded}
 use Rattle.emit.specs.declared.Put.{Put}
 use Rattle.emit.specs.Written.{Good, next-of, code-of, path-words, target-words, Ready, Placed, Wrote}

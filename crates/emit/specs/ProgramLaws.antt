@@ -10,7 +10,7 @@ use Rattle.types.specs.Limits.{fix-levels}
 use Rattle.types.specs.Types.{Ty}
 use Rattle.program.specs.Tree.{Items, Step, Program}
 use Rattle.program.specs.Reader.{Result, Result.ok, Result.bad, wrong-end, pair, many, ended, whole, read-params, read-steps, read-items, read-item, read-program, read}
-use Rattle.program.specs.PartLaws.{made-ok}
+use Rattle.program.specs.Laws.PartLaws.{made-ok}
 use Rattle.commands.specs.Bounds.{arities}
 use Rattle.emit.specs.Written.{structs-at}
 use Rattle.emit.specs.ReadLaws.{then-value, made-value, pair-value, pair-ok}

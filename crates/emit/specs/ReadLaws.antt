@@ -9,8 +9,8 @@ use lib.Dec.{ltb}
 use borrow.Author.Tests.{ltb-true}
 use Rattle.program.specs.Reader.{Result, Result.ok, Result.bad, wrong-end, then, pair, made, many, byte, ranged, counted, opened}
 use Rattle.program.specs.Exact.{Stands, Stands.done, Stands.letter}
-use Rattle.program.specs.PartLaws.{told-is, then-ok}
-use Rattle.program.specs.JoinLaws.{Within, ranged-exact}
+use Rattle.program.specs.Laws.PartLaws.{told-is, then-ok}
+use Rattle.program.specs.Laws.JoinLaws.{Within, ranged-exact}
 use Rattle.emit.specs.Written.{Good}
 
 -- the value that a reader gave

@@ -6,7 +6,7 @@ use lib.ListN.{length, getD}
 use Rattle.types.specs.Limits.{step-names, if-levels}
 use Rattle.program.specs.Tree.{Stmts}
 use Rattle.program.specs.Reader.{Result.ok, pair, ranged, read-body, read-stmt, read-step}
-use Rattle.program.specs.PartLaws.{made-ok}
+use Rattle.program.specs.Laws.PartLaws.{made-ok}
 use Rattle.commands.specs.ProgramWords.{step-words}
 use Rattle.emit.specs.Written.{Good, body-words, body-at}
 use Rattle.emit.specs.ReadLaws.{made-value, pair-value, pair-ok, ranged-value}

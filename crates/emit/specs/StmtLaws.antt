@@ -10,9 +10,9 @@ use Rattle.types.specs.Limits.{max-statements, expr-levels}
 use Rattle.types.specs.Types.{Ty}
 use Rattle.program.specs.Tree.{Expr, Stmt, Stmt.when, Stmt.declare, Stmt.update, Stmt.create, Stmts, Stmts.end, Stmts.next}
 use Rattle.program.specs.Reader.{Result, Result.ok, Result.bad, wrong-byte, then, pair, made, lookup, Kind, Kind.kind-when, Kind.kind-declare, Kind.kind-update, Kind.kind-create, Kind.kind-none, kind, read-type, read-local, read-path, read-expr, read-body, read-when, read-declare, read-update, rule-stmt, read-stmt}
-use Rattle.program.specs.PartLaws.{told-is}
-use Rattle.program.specs.WordLaws.{type-exact, local-exact}
-use Rattle.program.specs.StmtLaws.{OpensStmt, opens-stmt}
+use Rattle.program.specs.Laws.PartLaws.{told-is}
+use Rattle.program.specs.Laws.WordLaws.{type-exact, local-exact}
+use Rattle.program.specs.Laws.StmtLaws.{OpensStmt, opens-stmt}
 use Rattle.commands.specs.Coding.{coded}
 use Rattle.emit.specs.declared.Put.{Put}
 use Rattle.emit.specs.Written.{Good, next-of, code-of, Ready, Wrote, expr-words, make-words, target-words, stmt-words, body-words, when-words, block-words, declare-words, update-words, make-at, stmts-at, body-at, when-at}

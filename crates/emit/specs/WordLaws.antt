@@ -11,7 +11,7 @@ use Rattle.program.specs.Tree.{Var, Op, Expr, Expr.inv, Expr.make, Expr.path, E
 use Rattle.program.specs.Encoding.{op-code, var-code}
 use Rattle.program.specs.Exact.{Stands, Stands.done, Stands.letter}
 use Rattle.commands.specs.Commands.{Coms, then, reads, front, last, expr-coms, args-coms, update-coms, stmt-coms, body-coms, flatten, commands}
-use Rattle.commands.specs.CommandLaws.{flatten-then}
+use Rattle.commands.specs.Laws.CommandLaws.{flatten-then}
 use Rattle.commands.specs.Coding.{coded, com-word, command-word, words}
 use Rattle.commands.specs.ProgramWordsLaws.{words-append, words-length}
 use Rattle.emit.specs.Written.{coms-words, expr-words, args-words, make-words, path-words, target-words, stmt-words, body-words, when-words, block-words, declare-words, update-words}

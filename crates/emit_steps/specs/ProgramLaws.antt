@@ -8,7 +8,7 @@ use lib.ListN.{length}
 use Rattle.types.specs.Limits.{max-commands}
 use Rattle.program.specs.Tree.{Program}
 use Rattle.program.specs.Reader.{Result.ok, read-params, read}
-use Rattle.program.specs.ProgramLaws.{program-law}
+use Rattle.program.specs.Laws.ProgramLaws.{program-law}
 use Rattle.commands.specs.Bounds.{arities, program-size}
 use Rattle.directory.specs.Directory.{structs-rows, directory}
 use Rattle.directory.specs.Rows.{directory-places, put-rows, rows-from}

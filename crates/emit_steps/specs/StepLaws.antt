@@ -9,7 +9,7 @@ use lib.Seq.{sets}
 use Rattle.types.specs.Limits.{max-commands, max-steps, step-names, if-levels}
 use Rattle.program.specs.Tree.{Stmts, Step}
 use Rattle.program.specs.Reader.{Result, Result.ok, pair, ranged, read-body, read-stmt, read-step, read-steps}
-use Rattle.program.specs.PartLaws.{made-ok}
+use Rattle.program.specs.Laws.PartLaws.{made-ok}
 use Rattle.commands.specs.Bounds.{step-size}
 use Rattle.commands.specs.ProgramWords.{step-words, steps-words, structs-words}
 use Rattle.commands.specs.ProgramWordsLaws.{no-steps, more-steps, no-structs, more-structs, step-length, steps-length}

@@ -10,7 +10,7 @@ use borrow.Author.Tests.{lt-ltb, le-ltb}
 use Rattle.types.specs.Limits.{max-instances}
 use Rattle.layout.specs.Layout.{head-size, row-size, stacked, label-cell, going, new-head}
 use Rattle.memory.specs.Act.{full, made, do-cons}
-use Rattle.memory.specs.RowLaws.{sets-other}
+use Rattle.memory.specs.Laws.RowLaws.{sets-other}
 use Rattle.execute_stack.specs.declared.Actor.{Actor}
 use Rattle.execute_stack.specs.declared.Acted.the-variants.{Made, Refused}
 use Rattle.execute_stack.specs.Answers.{seen, Acting, answering, DoesWith}

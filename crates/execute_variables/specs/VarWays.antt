@@ -8,7 +8,7 @@ use lib.ListN.{length, getD, set}
 use borrow.Author.Tests.{lt-ltb, le-ltb}
 use Rattle.layout.specs.Layout.{head, struct-of, variable, operand, going}
 use Rattle.memory.specs.Act.{do-rd, do-wr, written, written-to}
-use Rattle.memory.specs.EntriesLaws.{times-one}
+use Rattle.memory.specs.Laws.EntriesLaws.{times-one}
 use Rattle.execute_stack.specs.declared.Actor.{Actor}
 use Rattle.execute_stack.specs.declared.Acted.{Acted}
 use Rattle.execute_stack.specs.declared.Acted.the-variants.{Kept, Wrote}

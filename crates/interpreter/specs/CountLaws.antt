@@ -13,7 +13,7 @@ use Rattle.machine.specs.Machine.{Instance, Machine, Out, Out.next, Out.refused
 use Rattle.machine.specs.PerformedLaws.{by-ways}
 use Rattle.run.specs.Turns.{labels-from}
 use Rattle.run.specs.Holders.{holders, holds-code}
-use Rattle.sound.specs.ElemLaws.{none-some}
+use Rattle.sound.specs.Laws.ElemLaws.{none-some}
 use Rattle.layout.specs.State.{bit}
 use Rattle.memory.specs.Choose.{fewer}
 use Rattle.interpreter.specs.FlagLaws.{flag, flags, Idle, Flagged, flags-behind}

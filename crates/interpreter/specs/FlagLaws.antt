@@ -16,7 +16,7 @@ use Rattle.machine.specs.Machine.{tagged, Instance, Machine, Out, Out.next, Out
 use Rattle.machine.specs.Performed.{Performed, Performed.pushed, Performed.pushed-this, Performed.negated, Performed.read-one, Performed.skipped, Performed.wrote, Performed.calculated, Performed.exceeding, Performed.constructed, Performed.filled, Performed.branched, Performed.no-way}
 use Rattle.machine.specs.PerformedLaws.{by-ways}
 use Rattle.run.specs.Holders.{holds-code}
-use Rattle.sound.specs.ElemLaws.{none-some, at-set-same, at-append}
+use Rattle.sound.specs.Laws.ElemLaws.{none-some, at-set-same, at-append}
 
 -- whether an instance holds commands, and of each of a list
 abbrev pub flag : Instance → Bool

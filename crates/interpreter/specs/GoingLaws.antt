@@ -17,7 +17,7 @@ use Rattle.layout.specs.State.{State, state-of}
 use Rattle.memory.specs.Act.{act}
 use Rattle.memory.specs.Fit.{Fit}
 use Rattle.memory.specs.Choose.{picked}
-use Rattle.memory.specs.ChooseStands.{picks}
+use Rattle.memory.specs.Laws.ChooseStands.{picks}
 use Rattle.holders.specs.declared.Record.{Record}
 use Rattle.holders.specs.Records.{Recorded, holder-in}
 use Rattle.holders.specs.RecordsLaws.{picked-in}

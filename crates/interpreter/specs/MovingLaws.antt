@@ -8,13 +8,13 @@ use lib.ListN.{length}
 use Rattle.machine.specs.Published.{Sched, Sched.done, Sched.start, Sched.fixpoint, Sched.active}
 use Rattle.machine.specs.Machine.{Instance, Machine, machine}
 use Rattle.sound.specs.Invariant.{Open}
-use Rattle.sound.specs.MoveKept.{active-open}
+use Rattle.sound.specs.Laws.MoveKept.{active-open}
 use Rattle.layout.specs.State.{State}
 use Rattle.memory.specs.Stands.{bits, Stands}
 use Rattle.memory.specs.Plan.{start-code, At}
-use Rattle.memory.specs.PlanLaws.{code-below, past-start, past-fix, past-round, at-within}
+use Rattle.memory.specs.Laws.PlanLaws.{code-below, past-start, past-fix, past-round, at-within}
 use Rattle.memory.specs.Move.{do-start, move}
-use Rattle.memory.specs.MoveLaws.{move-start, fix-begins, round-ends, round-again}
+use Rattle.memory.specs.Laws.MoveLaws.{move-start, fix-begins, round-ends, round-again}
 use Rattle.interpreter.specs.Moving.{zeros, moves-left}
 
 -- an entry more, of either kind

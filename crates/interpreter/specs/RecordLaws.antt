@@ -12,10 +12,10 @@ use lib.Dec.{eqb, ltb}
 use borrow.Author.Tests.{eqb-true, eqb-false, ltb-true, ltb-false}
 use Rattle.program.specs.Tree.{Program}
 use Rattle.machine.specs.Machine.{Instance, Machine, Out.next, command}
-use Rattle.sound.specs.ElemLaws.{at-below}
+use Rattle.sound.specs.Laws.ElemLaws.{at-below}
 use Rattle.layout.specs.Layout.{holds}
 use Rattle.layout.specs.State.{State}
-use Rattle.memory.specs.ChooseStands.{holds-same}
+use Rattle.memory.specs.Laws.ChooseStands.{holds-same}
 use Rattle.holders.specs.declared.Record.{Record}
 use Rattle.holders.specs.Records.{idle, Recorded}
 use Rattle.interpreter.specs.Ready.{Ready}

@@ -15,7 +15,7 @@ use Rattle.run.specs.Steps.{Steps.here}
 use Rattle.run.specs.Visits.{Visits}
 use Rattle.layout.specs.Layout.{head-size}
 use Rattle.layout.specs.State.{State, refused}
-use Rattle.memory.specs.Plan.{end-code}
+use Rattle.layout.specs.Codes.{end-code}
 use Rattle.memory.specs.Act.{full, exceeded, act}
 use Rattle.memory.specs.Choose.{picked}
 use Rattle.memory.specs.Move.{move}

@@ -6,8 +6,8 @@ use mathlib.Core.List.{List}
 use lib.ListN.{length, getD}
 use Rattle.machine.specs.Machine.{Machine}
 use Rattle.layout.specs.State.{State, state-of}
-use Rattle.memory.specs.Plan.{end-code}
-use Rattle.memory.specs.PlanLaws.{at-within}
+use Rattle.layout.specs.Codes.{end-code}
+use Rattle.memory.specs.Laws.PlanLaws.{at-within}
 use Rattle.memory.specs.Move.{move}
 use Rattle.scheduler.specs.Ready.{Movable}
 use Rattle.layout.specs.declared.Numbers.{Numbers}

@@ -14,31 +14,32 @@ use Rattle.run.specs.Turns.{chosen}
 use Rattle.run.specs.Holders.{holders, holds-code, none-of, due}
 use Rattle.machine.specs.Stops.{ended, out-of-turns}
 use Rattle.run.specs.Run.{Outcome.stopped, run}
-use Rattle.run.specs.Settles.{Rests.ends as rests-ends, Rests.lasts as rests-lasts, Rests.fails as rests-fails}
-use Rattle.run.specs.FuelLaws.{rests-run}
+use Rattle.run.specs.Laws.Settles.{Rests.ends as rests-ends, Rests.lasts as rests-lasts, Rests.fails as rests-fails}
+use Rattle.run.specs.Laws.FuelLaws.{rests-run}
 use Rattle.run.specs.Steps.{Steps.here, Steps.silent, Steps.reads}
 use Rattle.run.specs.Visits.{Acts.moves as acts-move, Acts.takes as acts-take}
-use Rattle.sound.specs.Advance.{Kept}
-use Rattle.sound.specs.CommandKept.{Refused, command-kept}
-use Rattle.sound.specs.ShallowLaws.{good-entries}
-use Rattle.sound.specs.HolderLaws.{chosen-holds}
-use Rattle.sound.specs.NeverStuckLaws.{acts-good}
-use Rattle.sound.specs.TabledLaws.{acts-tabled}
+use Rattle.sound.specs.Laws.Advance.{Kept}
+use Rattle.sound.specs.Laws.CommandKept.{Refused, command-kept}
+use Rattle.sound.specs.Laws.ShallowLaws.{good-entries}
+use Rattle.sound.specs.Laws.HolderLaws.{chosen-holds}
+use Rattle.sound.specs.Laws.NeverStuckLaws.{acts-good}
+use Rattle.sound.specs.Laws.TabledLaws.{acts-tabled}
 use Rattle.layout.specs.Layout.{holds}
 use Rattle.layout.specs.State.{State}
-use Rattle.memory.specs.Plan.{end-code, At}
-use Rattle.memory.specs.PlanLaws.{at-end-done}
+use Rattle.layout.specs.Codes.{end-code}
+use Rattle.memory.specs.Plan.{At}
+use Rattle.memory.specs.Laws.PlanLaws.{at-end-done}
 use Rattle.memory.specs.Frame.{After}
 use Rattle.memory.specs.Stands.{Stands}
 use Rattle.memory.specs.Fit.{Fit}
-use Rattle.memory.specs.FitLaws.{fits}
+use Rattle.memory.specs.Laws.FitLaws.{fits}
 use Rattle.memory.specs.Act.{act}
-use Rattle.memory.specs.Acts.{acts}
+use Rattle.memory.specs.Laws.Acts.{acts}
 use Rattle.memory.specs.Choose.{holding, fewer, picked}
-use Rattle.memory.specs.ChooseStands.{holds-same, holding-same, picks}
+use Rattle.memory.specs.Laws.ChooseStands.{holds-same, holding-same, picks}
 use Rattle.memory.specs.Move.{move as move-on}
-use Rattle.memory.specs.MoveLaws.{move-kept}
-use Rattle.memory.specs.MoveStands.{Follows, moves}
+use Rattle.memory.specs.Laws.MoveLaws.{move-kept}
+use Rattle.memory.specs.Laws.MoveStands.{Follows, moves}
 use Rattle.scheduler.specs.Ready.{Movable}
 use Rattle.scheduler.specs.ReadyLaws.{stands-movable}
 use Rattle.interpreter.specs.Ready.{Ready}

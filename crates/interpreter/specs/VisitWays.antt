@@ -8,8 +8,8 @@ use lib.ListN.{length, drop, length-drop}
 use Rattle.program.specs.Tree.{Program}
 use Rattle.machine.specs.Machine.{Machine}
 use Rattle.run.specs.Run.{Outcome.stopped, run}
-use Rattle.run.specs.FuelLaws.{steps-stopped}
-use Rattle.run.specs.StepsLaws.{steps-on, steps-turns}
+use Rattle.run.specs.Laws.FuelLaws.{steps-stopped}
+use Rattle.run.specs.Laws.StepsLaws.{steps-on, steps-turns}
 use Rattle.run.specs.Visits.{Visits}
 
 module _ {p : Program} where

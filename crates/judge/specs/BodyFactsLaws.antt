@@ -15,8 +15,8 @@ use Rattle.program.specs.Counts.{IsPath, CountsStmt, CountsStmts}
 use Rattle.commands.specs.Context.{Ctx, body-local, context}
 use Rattle.commands.specs.Names.{declares, live-after}
 use Rattle.commands.specs.Decide.{member}
-use Rattle.commands.specs.NamesDecide.{stmt-named, body-named}
-use Rattle.commands.specs.TypingDecide.{is-of, expr-type, stmt-typed, body-typed}
+use Rattle.commands.specs.Decide.NamesDecide.{stmt-named, body-named}
+use Rattle.commands.specs.Decide.TypingDecide.{is-of, expr-type, stmt-typed, body-typed}
 use Rattle.judge.specs.Facts.{worst, named, digit, no-locals, branched, declared as declaring, updated, created, followed, stmt-facts, body-facts}
 use Rattle.judge.specs.Verdicts.{Says, Says.misnamed, Says.right, Tables, tagged, flag, Living, Fits, Locals-stmt, Locals}
 use Rattle.judge.specs.FaultLaws.{says-as, says-both, says-named}

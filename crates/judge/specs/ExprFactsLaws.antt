@@ -18,8 +18,8 @@ use Rattle.types.specs.Reflects.{Reflects, Reflects.holds, Reflects.fails}
 use Rattle.commands.specs.Context.{Ctx, typ}
 use Rattle.commands.specs.Typing.{Sort, Sort.equality, Sort.order, Sort.arithmetic, Sort.logic, sort}
 use Rattle.commands.specs.Decide.{member}
-use Rattle.commands.specs.NamesDecide.{start-named, expr-named, args-named}
-use Rattle.commands.specs.TypingDecide.{Judgement, Judgement.untypable, is-of, agree, given, result, operate, lead as type-lead, path-type, expr-type, args-typed}
+use Rattle.commands.specs.Decide.NamesDecide.{start-named, expr-named, args-named}
+use Rattle.commands.specs.Decide.TypingDecide.{Judgement, Judgement.untypable, is-of, agree, given, result, operate, lead as type-lead, path-type, expr-type, args-typed}
 use Rattle.judge.specs.Facts.{worst, demand, judged, param, lead-by, lead, start-of, path-of, takes, gives, negated, combined, travelled, argued, constructed, expr-facts, args-facts}
 use Rattle.judge.specs.declared.Judged.{Judged}
 use Rattle.judge.specs.Verdicts.{Says, Says.misnamed, Says.mistyped, Says.right, Shows, Shows.unnamed, Shows.untyped, Shows.typed, Tables, tagged, Living}

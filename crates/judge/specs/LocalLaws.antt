@@ -10,7 +10,7 @@ use Rattle.program.specs.Tree.{Stmt, Stmt.when, Stmt.declare, Stmt.update, Stmt
 use Rattle.commands.specs.Context.{stmt-local, body-local}
 use Rattle.commands.specs.Names.{declares, declared, live-after}
 use Rattle.commands.specs.Decide.{member}
-use Rattle.commands.specs.NamesDecide.{expr-named, stmt-named, body-named}
+use Rattle.commands.specs.Decide.NamesDecide.{expr-named, stmt-named, body-named}
 use Rattle.judge.specs.Verdicts.{Locals-stmt, Locals}
 
 -- Truth values ---------------------------------------------------------------------

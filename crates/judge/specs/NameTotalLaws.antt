@@ -13,8 +13,8 @@ use Rattle.program.specs.Counts.{All, CountsStep}
 use Rattle.commands.specs.Context.{context}
 use Rattle.commands.specs.Names.{names-of-steps as names}
 use Rattle.commands.specs.Decide.{every, member, distinct}
-use Rattle.commands.specs.NamesDecide.{body-named, steps-named}
-use Rattle.commands.specs.TypingDecide.{body-typed, steps-typed}
+use Rattle.commands.specs.Decide.NamesDecide.{body-named, steps-named}
+use Rattle.commands.specs.Decide.TypingDecide.{body-typed, steps-typed}
 use Rattle.judge.specs.Facts.{named, no-locals, body-facts}
 use Rattle.judge.specs.Verdicts.{Says, Tables, flag}
 use Rattle.judge.specs.FaultLaws.{says-as, says-both, says-named}

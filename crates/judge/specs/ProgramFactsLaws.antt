@@ -13,15 +13,15 @@ use Rattle.program.specs.Counts.{All, Few, CountsItem, CountsItems, CountsStep,
 use Rattle.commands.specs.Context.{context}
 use Rattle.commands.specs.Commands.{commands}
 use Rattle.commands.specs.Sizes.{body-size}
-use Rattle.commands.specs.SizeLaws.{body-length, program-size-is}
+use Rattle.commands.specs.Laws.SizeLaws.{body-length, program-size-is}
 use Rattle.commands.specs.Depth.{height}
-use Rattle.commands.specs.DepthLaws.{step-depth-is, program-depth-is}
+use Rattle.commands.specs.Laws.DepthLaws.{step-depth-is, program-depth-is}
 use Rattle.commands.specs.Bounds.{item-count, items-count, total, greatest, step-size, arities, step-depth, program-size, program-depth}
 use Rattle.commands.specs.Names.{names-of-steps as names}
 use Rattle.commands.specs.Decide.{every, member}
-use Rattle.commands.specs.BoundsDecide.{within}
-use Rattle.commands.specs.NamesDecide.{stepped, item-stepped, items-stepped, names-right}
-use Rattle.commands.specs.TypingDecide.{types-right}
+use Rattle.commands.specs.Decide.BoundsDecide.{within}
+use Rattle.commands.specs.Decide.NamesDecide.{stepped, item-stepped, items-stepped, names-right}
+use Rattle.commands.specs.Decide.TypingDecide.{types-right}
 use Rattle.commands.specs.Numbers.{first, breach-tests, breach-number}
 use Rattle.judge.specs.Facts.{worst, named}
 use Rattle.judge.specs.Verdicts.{Says, Says.right, Tables, flag}

@@ -16,7 +16,7 @@ use Rattle.commands.specs.Context.{context}
 use Rattle.commands.specs.Bounds.{arities}
 use Rattle.commands.specs.Names.{names-of-steps as names}
 use Rattle.commands.specs.Decide.{member}
-use Rattle.commands.specs.NamesDecide.{stepped}
+use Rattle.commands.specs.Decide.NamesDecide.{stepped}
 use Rattle.judge.specs.Verdicts.{Tables, flag}
 use Rattle.judge.specs.ProgramFacts.{row, types-table, place, places, no-steps, Totals, added, struct-totals, step-totals, had}
 use Rattle.judge.specs.Facts.{no-locals, body-facts}

@@ -10,7 +10,7 @@ use Rattle.types.specs.Types.{Ty, code}
 use Rattle.program.specs.Tree.{Stmt, Stmt.when, Stmt.declare, Stmt.update, Stmt.create, Stmts, Stmts.end, Stmts.next}
 use Rattle.commands.specs.Context.{Ctx, typ}
 use Rattle.commands.specs.Decide.{member}
-use Rattle.commands.specs.TypingDecide.{Judgement, Judgement.untypable, Judgement.of-type}
+use Rattle.commands.specs.Decide.TypingDecide.{Judgement, Judgement.untypable, Judgement.of-type}
 use Rattle.judge.specs.Facts.{no-fault, digit}
 use Rattle.judge.specs.declared.Scope.{Scope}
 

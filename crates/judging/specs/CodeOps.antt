@@ -8,7 +8,7 @@ use borrow.Author.Tests.{lt-ltb, le-ltb}
 use Rattle.program.specs.Tree.{Op, Op.op-eq, Op.op-ne, Op.op-le, Op.op-ge, Op.op-lt, Op.op-gt, Op.op-mul, Op.op-div, Op.op-rem, Op.op-add, Op.op-sub, Op.op-and, Op.op-or}
 use Rattle.program.specs.Reader.{form, Form.form-op}
 use Rattle.program.specs.Encoding.{op-code}
-use Rattle.program.specs.ExprLaws.{Opens, opens}
+use Rattle.program.specs.Laws.ExprLaws.{Opens, opens}
 use Rattle.commands.specs.Typing.{Sort, Sort.equality, Sort.order, Sort.arithmetic, Sort.logic, sort}
 use Rattle.judge.specs.Facts.{bool-code, takes, gives}
 

@@ -1,4 +1,4 @@
-// The codes of the schedule laid flat (`memory/specs/Plan.antt`): those of starts lie below FIX.
+// The codes of the schedule laid flat (`layout/specs/Codes.antt`): those of starts lie below FIX.
 
 // A Fix begins; the schedule ends; a Fix goes round to its items at the place that is added to this number.
 pub const FIX: usize = 1024;

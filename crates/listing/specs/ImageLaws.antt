@@ -8,7 +8,7 @@ use lib.Seq.{sets-eq, length-sets}
 use Rattle.types.specs.Limits.{max-commands}
 use Rattle.program.specs.Tree.{Program}
 use Rattle.commands.specs.Bounds.{Within}
-use Rattle.commands.specs.NumbersLaws.{number-accepted}
+use Rattle.commands.specs.Laws.NumbersLaws.{number-accepted}
 use Rattle.directory.specs.Rows.{directory-places, rows-from}
 use Rattle.directory.specs.DirectoryLaws.{directory-few}
 use Rattle.commands.specs.ProgramWords.{program-words}

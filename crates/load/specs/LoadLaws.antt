@@ -16,7 +16,7 @@ use Rattle.blocks.specs.declared.Opened.the-variants.{Stream as Open}
 use Rattle.program.specs.Tree.{Program}
 use Rattle.program.specs.Counts.{Counts}
 use Rattle.program.specs.Reader.{Result, Result.ok, Result.bad, read-params, read}
-use Rattle.program.specs.ProgramLaws.{program-law}
+use Rattle.program.specs.Laws.ProgramLaws.{program-law}
 use Rattle.commands.specs.Bounds.{arities, program-depth}
 use Rattle.commands.specs.Numbers.{breach-number}
 use Rattle.verdict.specs.Verdict.{Checked, Checked.accepted, Checked.refused, judge, of-read, of-image, checked}

@@ -15,7 +15,7 @@ use Rattle.types.specs.Values.{Val, Val.bool-val, Val.label}
 use Rattle.program.specs.Tree.{Op, Program}
 use Rattle.commands.specs.Commands.{Com.push, Com.push-this, Com.rd, Com.wr, Com.cons, Com.not, Com.oper, Coms, Coms.nil, then, Flat, Flat.plain, Flat.if-n, flatten}
 use Rattle.commands.specs.Noted.{Note, erase, now-written}
-use Rattle.commands.specs.CommandLaws.{flatten-then}
+use Rattle.commands.specs.Laws.CommandLaws.{flatten-then}
 use Rattle.operators.specs.Operators.{Applies, Exceeds}
 use Rattle.operators.specs.Apply.{Answer, apply, same-val}
 use Rattle.operators.specs.ApplyLaws.{apply-value, apply-outside}

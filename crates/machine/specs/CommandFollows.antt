@@ -16,7 +16,7 @@ use Rattle.program.specs.Tree.{Program}
 use Rattle.commands.specs.Commands.{Com.push, Com.push-this, Com.rd, Com.wr, Com.cons, Com.not, Com.oper, Coms, Coms.nil, then, flatten}
 use Rattle.commands.specs.Typing.{sort}
 use Rattle.commands.specs.Noted.{Note, erase, now-written}
-use Rattle.commands.specs.CommandLaws.{flatten-then}
+use Rattle.commands.specs.Laws.CommandLaws.{flatten-then}
 use Rattle.operators.specs.Apply.{same-val}
 use Rattle.operators.specs.ApplyLaws.{apply-value, apply-outside}
 use Rattle.operators.specs.TestLaws.{same-val-exact}

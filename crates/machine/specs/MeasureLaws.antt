@@ -11,7 +11,7 @@ use Rattle.types.specs.Values.{Val.label}
 use Rattle.program.specs.Tree.{Stmts, Program}
 use Rattle.commands.specs.Context.{context}
 use Rattle.commands.specs.Noted.{Note, erase, noted, now-written}
-use Rattle.commands.specs.NotedLaws.{erased}
+use Rattle.commands.specs.Laws.NotedLaws.{erased}
 use Rattle.machine.specs.Published.{StepCall, called, Sched, Sched.done, Sched.start, Sched.fixpoint, Sched.active, before, Env, arity}
 use Rattle.machine.specs.Machine.{Tagged, tagged, Instance, Machine, Out, Out.next, Out.refused, Out.stuck, Moved, Moved.next, Moved.stuck, with-code, with-written, update-env, made, command, given, started, repeat, move-by, move}
 use Rattle.machine.specs.RepresentsLaws.{Still}

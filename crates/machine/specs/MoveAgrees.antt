@@ -9,7 +9,7 @@ use native.Mathlib.Omega.{arith}
 use Rattle.program.specs.Tree.{Stmts, Program}
 use Rattle.commands.specs.Commands.{commands}
 use Rattle.commands.specs.Context.{context}
-use Rattle.commands.specs.NotedLaws.{erased}
+use Rattle.commands.specs.Laws.NotedLaws.{erased}
 use Rattle.machine.specs.Published.{StepCall, StepCall.global, StepCall.local, called, Sched, Sched.done, Sched.start, Sched.fixpoint, Sched.active, before, Inst, Inst.inst, State, State.state}
 use Rattle.machine.specs.Rules.{Done, given, started, Actor.schedule, Rule, Rule.InitG, Rule.InitL, Rule.FixInit, Rule.FixIter, Rule.FixTerm}
 use Rattle.machine.specs.Machine.{Instance, Machine, machine, Moved, Moved.next, Moved.stuck, given as equip, started as begin, repeat, move-by, move}

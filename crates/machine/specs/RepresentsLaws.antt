@@ -11,7 +11,7 @@ use Rattle.types.specs.Values.{Val}
 use Rattle.program.specs.Counts.{All}
 use Rattle.commands.specs.Commands.{Coms, Coms.nil, Coms.act, Coms.if-then, flatten}
 use Rattle.commands.specs.Noted.{Note, erase}
-use Rattle.commands.specs.CommandLaws.{flatten-injective}
+use Rattle.commands.specs.Laws.CommandLaws.{flatten-injective}
 use Rattle.machine.specs.Published.{Env, Inst, Inst.inst, State, State.state, update-env}
 use Rattle.machine.specs.Rules.{Done}
 use Rattle.machine.specs.Machine.{Tagged, tagged, Instance, Machine, update-env as change-env}

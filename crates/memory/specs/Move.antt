@@ -7,7 +7,8 @@ use lib.Dec.{eqb, ltb, leb}
 use Rattle.types.specs.Limits.{step-names}
 use Rattle.layout.specs.Layout.{head, struct-of, begun}
 use Rattle.layout.specs.State.{State, with-heads, with-holding, moved}
-use Rattle.memory.specs.Plan.{fix-code, round-code, from, to}
+use Rattle.layout.specs.Codes.{fix-code, round-code}
+use Rattle.memory.specs.Plan.{from, to}
 use Rattle.memory.specs.Choose.{holding}
 
 -- whether the code c of a started step means struct k: any, or the one it names

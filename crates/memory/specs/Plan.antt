@@ -10,24 +10,15 @@ use Rattle.program.specs.Tree.{Stmts, Program}
 use Rattle.commands.specs.Commands.{commands}
 use Rattle.commands.specs.Coding.{words}
 use Rattle.commands.specs.Context.{step-of}
+use Rattle.layout.specs.Codes.{fix-code, end-code, round-code}
 use Rattle.machine.specs.Published.{StepCall, StepCall.global, StepCall.local, Sched, Sched.done, Sched.start, Sched.fixpoint, Sched.active, structs}
 
 -- The schedule -----------------------------------------------------------------
 
--- a step call: the codes below fix-code
+-- a step call: the codes below fix-code (`layout/specs/Codes.antt`)
 abbrev pub start-code : StepCall → ℕ
 start-code (global n) = n
 start-code (local k n) = step-names * suc k + n
-
--- a Fix begins, the schedule ends, a Fix whose items begin at the place t goes round
-abbrev pub fix-code : ℕ
-fix-code = 1024
-
-abbrev pub end-code : ℕ
-end-code = 1025
-
-abbrev pub round-code : ℕ → ℕ
-round-code t = 2048 + t
 
 -- the codes of a schedule in which no Fix has begun, from the place at on
 unfoldable pub laid : Sched → ℕ → List ℕ

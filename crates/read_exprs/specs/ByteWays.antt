@@ -11,7 +11,7 @@ use lib.Dec.{T}
 use borrow.Author.Tests.{lt-ltb, le-ltb, le-leb, lt-leb}
 use Rattle.types.specs.Types.{Ty, code, type-of}
 use Rattle.types.specs.TypeBytes.{is-type}
-use Rattle.program.specs.CodeLaws.{code-type}
+use Rattle.program.specs.Laws.CodeLaws.{code-type}
 use Rattle.program.specs.Reader.{Result, Result.ok, Result.bad, then, made, many, guard, between, byte-end, byte, tested, ranged, read-word, read-type}
 use Rattle.judge.specs.declared.Facts.{Facts}
 use Rattle.judge.specs.Facts.{pushed}

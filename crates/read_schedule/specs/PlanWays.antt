@@ -10,7 +10,7 @@ use lib.Dec.{eqb}
 use borrow.Author.Tests.{eq-eqb, ne-eqb}
 use Rattle.program.specs.Tree.{Item, Item.call, Item.fix, Items, Items.stop, Items.item}
 use Rattle.program.specs.Reader.{Result, Result.ok, Result.bad, then, pair, made, many, opened, counted, lookup, item-sort, ItemSort, ItemSort.sort-call, ItemSort.sort-call-in, ItemSort.sort-fix, ItemSort.sort-none, ranged, rule-item, read-item, read-items}
-use Rattle.program.specs.ItemLaws.{OpensItem, opens-item}
+use Rattle.program.specs.Laws.ItemLaws.{OpensItem, opens-item}
 use Rattle.judge.specs.Facts.{named}
 use Rattle.judge.specs.ProgramFacts.{Planned as Plan, plan, place, had, joined, item-plan, items-plan}
 use Rattle.judge.specs.FollowLaws.{joined-assoc, none-joined, joined-none}

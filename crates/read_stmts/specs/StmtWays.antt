@@ -9,7 +9,7 @@ use Rattle.types.specs.Types.{Ty, code}
 use Rattle.program.specs.Tree.{Var, Expr, Exprs, Stmt, Stmts, Stmts.end, Stmts.next}
 use Rattle.types.specs.TypeBytes.{is-type}
 use Rattle.program.specs.Reader.{Result, Result.ok, Result.bad, then, pair, made, many, lookup, Kind, Kind.kind-when, Kind.kind-declare, Kind.kind-update, Kind.kind-create, Kind.kind-none, kind, byte, tested, opened, ranged, counted, read-local, read-path, read-make, read-expr, read-body, read-when, read-declare, read-update, rule-stmt, read-stmt}
-use Rattle.program.specs.StmtLaws.{OpensStmt, opens-stmt}
+use Rattle.program.specs.Laws.StmtLaws.{OpensStmt, opens-stmt}
 use Rattle.answers.specs.Answers.{Answer, Answer.value, Answer.refused, answer}
 use Rattle.answers.specs.AnswerLaws.{answer-is, answer-stops, answer-made}
 use Rattle.judge.specs.declared.Judged.{Judged}

@@ -1,5 +1,10 @@
 -- Rows that pin what no law does, by computation: runs (01, 'Slips seen before', 'Table and turns', 'Numbers from the state'), numbers
 -- of damaged images and of lengths ('Blocks', 'Numbers from the input'), and what a run leaves in memory. 01's own rows are in Bench.
+pub mod RowsOpen
+pub mod RowPrograms
+pub mod Swept
+pub mod RowLaws
+pub mod Bench
 use Prim.Native.Nat.{ℕ}
 use native.Mathlib.Omega.{arith}
 use mathlib.Core.Path.{_≡_, refl}
@@ -16,12 +21,12 @@ use Rattle.program.specs.Rows.{program, adding, addings}
 use Rattle.verdict.specs.Verdict.{of-image}
 use Rattle.run.specs.Entry.{of-table-image, report-of, run-report-by}
 use Rattle.run.specs.EntryStreams.{summary, begins-streams}
-use Rattle.run.specs.RowsOpen.{running}
+use Rattle.run.specs.Rows.RowsOpen.{running}
 use Rattle.verdict.specs.Rows.{P}
-use Rattle.run.specs.RowPrograms.{P-with, once, twice, one-in-fix, local-7, both-sides, constructing, inner-fix, itself, nothing, chosen-by, along-path, leaving, cell, single, empty, cells, plain}
-use Rattle.run.specs.Swept.{plain-sum, falling-sum, swept-right, swept-fault, swept-block, block-is, first-swept, swept}
-use Rattle.run.specs.RowLaws.{each, Row, RowRight, computed, said, rows-follow, ImageRow, reports, swept-number, swept-over, images-follow, Kept, at-last, kept}
-use Rattle.run.specs.Bench.{row, ok, zeros, of-P, two}
+use Rattle.run.specs.Rows.RowPrograms.{P-with, once, twice, one-in-fix, local-7, both-sides, constructing, inner-fix, itself, nothing, chosen-by, along-path, leaving, cell, single, empty, cells, plain}
+use Rattle.run.specs.Rows.Swept.{plain-sum, falling-sum, swept-right, swept-fault, swept-block, block-is, first-swept, swept}
+use Rattle.run.specs.Rows.RowLaws.{each, Row, RowRight, computed, said, rows-follow, ImageRow, reports, swept-number, swept-over, images-follow, Kept, at-last, kept}
+use Rattle.run.specs.Rows.Bench.{row, ok, zeros, of-P, two}
 
 -- Runs ---------------------------------------------------------------------------------
 

@@ -11,20 +11,20 @@ use Rattle.blocks.specs.Images.{image, pieces}
 use Rattle.program.specs.Tree.{Program}
 use Rattle.commands.specs.Bounds.{program-depth, Within}
 use Rattle.commands.specs.Accepted.{Accepted}
-use Rattle.commands.specs.NumbersLaws.{number-accepts}
+use Rattle.commands.specs.Laws.NumbersLaws.{number-accepts}
 use Rattle.verdict.specs.Verdict.{listed}
 use Rattle.read_params.specs.ParamsWays.{from-start}
 use Rattle.commands.specs.ProgramWords.{program-words}
 use Rattle.commands.specs.ProgramWordsLaws.{program-length}
 use Rattle.machine.specs.Machine.{Machine}
 use Rattle.run.specs.Run.{Outcome.stopped, run}
-use Rattle.run.specs.RunAgreesVisits.{run-turns}
+use Rattle.run.specs.Laws.RunAgreesVisits.{run-turns}
 use Rattle.run.specs.Entry.{report, report-of, output-of, last-stream}
-use Rattle.sound.specs.AcceptedLaws.{accepted-firm}
+use Rattle.sound.specs.Laws.AcceptedLaws.{accepted-firm}
 use Rattle.layout.specs.State.{State, state-of}
 use Rattle.memory.specs.Plan.{At}
-use Rattle.memory.specs.ChooseStands.{holding-few}
-use Rattle.memory.specs.BoundedLaws.{accepted-bounded}
+use Rattle.memory.specs.Laws.ChooseStands.{holding-few}
+use Rattle.memory.specs.Laws.BoundedLaws.{accepted-bounded}
 use Rattle.load.specs.Load.{Admitted}
 use Rattle.compile.specs.Spans.{span-places}
 use Rattle.compile.specs.Prepared.{Preparable, Prepared, PreparedProgram}

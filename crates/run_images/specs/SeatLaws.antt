@@ -7,7 +7,7 @@ use lib.ListN.{length}
 use Rattle.types.specs.Limits.{max-instances}
 use Rattle.program.specs.Tree.{Program}
 use Rattle.program.specs.Counts.{Counts}
-use Rattle.program.specs.ProgramLaws.{program-law}
+use Rattle.program.specs.Laws.ProgramLaws.{program-law}
 use Rattle.judge.specs.ProgramFacts.{types-table}
 use Rattle.table.specs.Table.{Record}
 use Rattle.table.specs.TableReader.{TableAnswer, TableAnswer.table, TableAnswer.no-table}
@@ -16,15 +16,15 @@ use Rattle.verdict.specs.Verdict.{Checked, Checked.accepted, listed}
 use Rattle.machine.specs.Published.{structs}
 use Rattle.machine.specs.Machine.{Machine}
 use Rattle.run.specs.Begin.{begin}
-use Rattle.run.specs.BeginLaws.{begin-idle}
+use Rattle.run.specs.Laws.BeginLaws.{begin-idle}
 use Rattle.run.specs.Entry.{Begun, Begun.begun, Begun.not-begun, of-table, of-checked}
-use Rattle.sound.specs.BeginGood.{begin-good}
-use Rattle.sound.specs.TabledLaws.{begin-tabled}
+use Rattle.sound.specs.Laws.BeginGood.{begin-good}
+use Rattle.sound.specs.Laws.TabledLaws.{begin-tabled}
 use Rattle.layout.specs.Layout.{head-size, row-size}
 use Rattle.layout.specs.declared.Numbers.{Numbers}
 use Rattle.layout.specs.State.{fresh}
 use Rattle.memory.specs.Plan.{At}
-use Rattle.memory.specs.ChooseStands.{holding-same}
+use Rattle.memory.specs.Laws.ChooseStands.{holding-same}
 use Rattle.load.specs.Load.{Admitted}
 use Rattle.table_read.specs.declared.TableRead.the-variants.{Instances, Refused}
 use Rattle.table_read.specs.Params.{lists-of, Tables}

@@ -11,11 +11,11 @@ use Rattle.blocks.specs.Images.{stream}
 use Rattle.program.specs.Tree.{Expr, Expr.inv, Expr.make, Expr.path, Expr.int-lit, Expr.nat-lit, Expr.bool-lit, Expr.null, Expr.self, Expr.op, Exprs, Exprs.none, Exprs.more, Stmt, Stmt.when, Stmt.declare, Stmt.update, Stmt.create, Stmts, Stmts.end, Stmts.next, Item, Item.call, Item.call-in, Item.fix, Items, Items.stop, Items.item, Step, Program, size, items}
 use Rattle.program.specs.Encoding.{enc-list, flat, enc-path, enc-expr, enc-exprs, enc-stmt, enc-stmts, enc-item, enc-items, enc-step, enc-program}
 use Rattle.program.specs.Counts.{All, Few, Counts}
-use Rattle.program.specs.ProgramLaws.{program-law}
+use Rattle.program.specs.Laws.ProgramLaws.{program-law}
 use Rattle.commands.specs.Sizes.{expr-size, args-size, stmt-size, body-size}
-use Rattle.commands.specs.SizeLaws.{program-size-is}
+use Rattle.commands.specs.Laws.SizeLaws.{program-size-is}
 use Rattle.commands.specs.Bounds.{total, item-count, items-count, Within}
-use Rattle.commands.specs.NumbersLaws.{number-accepts}
+use Rattle.commands.specs.Laws.NumbersLaws.{number-accepts}
 use Rattle.load.specs.declared.Loaded.{Loaded}
 use Rattle.load.specs.LoadLaws.{LoadedAs, accepted-source, loaded-counts}
 use Rattle.table_write.specs.WrittenWays.{word-length}

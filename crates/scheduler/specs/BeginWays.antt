@@ -12,7 +12,7 @@ use Rattle.types.specs.Limits.{step-names}
 use Rattle.layout.specs.Layout.{head, struct-of, begun}
 use Rattle.memory.specs.Plan.{span-of, from, to}
 use Rattle.memory.specs.Move.{means, begin-one, begin-all}
-use Rattle.memory.specs.BeginLaws.{begins, begun-struct, one-begins, one-stays, one-length, one-others}
+use Rattle.memory.specs.Laws.BeginLaws.{begins, begun-struct, one-begins, one-stays, one-length, one-others}
 use Rattle.scheduler.specs.Ready.{Row, Rows}
 
 -- One instance -------------------------------------------------------------------

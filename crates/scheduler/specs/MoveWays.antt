@@ -10,10 +10,10 @@ use borrow.Author.Tests.{le-ltb, eq-eqb, ne-eqb}
 use Rattle.types.specs.Limits.{fix-levels}
 use Rattle.layout.specs.declared.Numbers.{Numbers}
 use Rattle.layout.specs.State.{state-of, set-place, set-holding, placed}
-use Rattle.memory.specs.Plan.{fix-code, round-code}
+use Rattle.layout.specs.Codes.{fix-code, round-code}
 use Rattle.memory.specs.Choose.{holding}
 use Rattle.memory.specs.Move.{begin-all, do-start, do-fix, do-round, move-by, move}
-use Rattle.memory.specs.MoveLaws.{move-start}
+use Rattle.memory.specs.Laws.MoveLaws.{move-start}
 use Rattle.scheduler.specs.Makes.{Makes, Moves}
 
 -- Entries of the open Fixes ---------------------------------------------------------

@@ -6,7 +6,7 @@ use lib.ListN.{length, getD}
 use Rattle.types.specs.Limits.{max-structs, step-names, fix-levels}
 use Rattle.layout.specs.Layout.{head, head-size, struct-of, end-of}
 use Rattle.layout.specs.declared.Numbers.{Numbers}
-use Rattle.memory.specs.Plan.{fix-code, round-code}
+use Rattle.layout.specs.Codes.{fix-code, round-code}
 
 -- two numbers for each struct and name
 abbrev pub spans-size : ℕ

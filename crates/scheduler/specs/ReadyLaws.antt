@@ -10,8 +10,9 @@ use Rattle.types.specs.Limits.{max-structs, fix-levels}
 use Rattle.machine.specs.Published.{Sched, Sched.done, Sched.fixpoint}
 use Rattle.machine.specs.Machine.{Instance, Machine}
 use Rattle.layout.specs.State.{State}
-use Rattle.memory.specs.Plan.{fix-code, round-code, At, At.at-end, At.at-start, At.at-fix, At.at-round}
-use Rattle.memory.specs.PlanLaws.{code-below, at-within}
+use Rattle.layout.specs.Codes.{fix-code, round-code}
+use Rattle.memory.specs.Plan.{At, At.at-end, At.at-start, At.at-fix, At.at-round}
+use Rattle.memory.specs.Laws.PlanLaws.{code-below, at-within}
 use Rattle.memory.specs.Stands.{bits, Stands}
 use Rattle.scheduler.specs.Ready.{spans-size, Rows, Movable}
 

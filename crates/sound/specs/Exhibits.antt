@@ -1,5 +1,9 @@
 -- Demand 3 is not empty (01, 'The words of demand 3'): a run of a program refused with 8, and one of a program refused with 7,
 -- passes through a machine whose next command lacks what it needs, and jams there.
+pub mod ExhibitTurns
+pub mod ExhibitLacks
+pub mod ExhibitAccepted
+pub mod ExhibitLocals
 use Prim.Native.Nat.{ℕ}
 use native.Mathlib.Omega.{arith}
 use mathlib.Core.Path.{_≡_, refl, ap, subst}
@@ -21,7 +25,7 @@ use Rattle.machine.specs.Machine.{Tagged, tagged, Instance, Machine}
 use Rattle.run.specs.Run.{Outcome.jammed, run}
 use Rattle.run.specs.Visits.{Visits}
 use Rattle.run.specs.Begin.{begin}
-use Rattle.run.specs.RowsOpen.{running}
+use Rattle.run.specs.Rows.RowsOpen.{running}
 use Rattle.sound.specs.Needs.{Needs, NextReady}
 use Rattle.sound.specs.NeverStuck.{Demand3}
 use Rattle.sound.specs.After.{onward, act-on, after, after-visited}

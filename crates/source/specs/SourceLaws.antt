@@ -15,9 +15,9 @@ use Rattle.block.specs.Block.{block-size}
 use Rattle.program.specs.Tree.{Program}
 use Rattle.program.specs.Encoding.{enc-program}
 use Rattle.program.specs.Reader.{Result.ok, read as read-stream}
-use Rattle.program.specs.ProgramLaws.{program-law}
+use Rattle.program.specs.Laws.ProgramLaws.{program-law}
 use Rattle.commands.specs.Numbers.{Order, NoneOf, Foremost}
-use Rattle.commands.specs.NumbersLaws.{at-first, behind-first, foremost-unique, foremost-some}
+use Rattle.commands.specs.Laws.NumbersLaws.{at-first, behind-first, foremost-unique, foremost-some}
 use Rattle.tokens.specs.Tokens.{Token}
 use Rattle.tokens.specs.Lexing.{Lexed}
 use Rattle.tokens.specs.Scanning.{lex}

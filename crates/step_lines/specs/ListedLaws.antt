@@ -13,7 +13,7 @@ use Rattle.program.specs.Tree.{Var, Var.loc, Expr, Expr.inv, Expr.make, Expr.pa
 use Rattle.program.specs.Encoding.{var-code}
 use Rattle.program.specs.Counts.{All, CountsExpr, CountsExprs, CountsStmt, CountsStmts, CountsStep}
 use Rattle.commands.specs.Commands.{Coms, then, reads, front, expr-coms, args-coms, update-coms, stmt-coms, body-coms, Flat, flatten, commands}
-use Rattle.commands.specs.CommandLaws.{flatten-then}
+use Rattle.commands.specs.Laws.CommandLaws.{flatten-then}
 use Rattle.commands.specs.Bounds.{step-list}
 use Rattle.commands.specs.Coding.{words}
 use Rattle.text.specs.Listing.{line}

@@ -12,9 +12,9 @@ use lib.Dec.{T}
 use Rattle.program.specs.Encoding.{enc-word, flat}
 use Rattle.program.specs.Counts.{All}
 use Rattle.program.specs.Reader.{Result.bad, wrong-end, wrong-byte, then, guard, between, tested, ranged, read-word}
-use Rattle.program.specs.PartLaws.{then-ok, byte-ok, byte-none}
-use Rattle.program.specs.JoinLaws.{between-iff}
-use Rattle.program.specs.WordLaws.{below-exact, word-exact}
+use Rattle.program.specs.Laws.PartLaws.{then-ok, byte-ok, byte-none}
+use Rattle.program.specs.Laws.JoinLaws.{between-iff}
+use Rattle.program.specs.Laws.WordLaws.{below-exact, word-exact}
 use Rattle.table.specs.Refusing.{Blames, Blames.unblamed, Blames.blamed, Refusing, Joined, Joined.in-first, Joined.in-second, InRow, InRow.in-row}
 use Rattle.table.specs.RefusingLaws.{refusing-iff, guard-refusing, then-refusing, row-refusing}
 

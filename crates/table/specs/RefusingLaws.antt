@@ -9,8 +9,8 @@ use lib.ListN.{length, drop}
 use Rattle.program.specs.Encoding.{flat}
 use Rattle.program.specs.Reader.{Result, Result.ok, Result.bad, wrong-byte, then, pair, made, many, guard}
 use Rattle.program.specs.Exact.{Exact}
-use Rattle.program.specs.StandsLaws.{stands-drop, stands-of}
-use Rattle.program.specs.PartLaws.{told-is, then-ok}
+use Rattle.program.specs.Laws.StandsLaws.{stands-drop, stands-of}
+use Rattle.program.specs.Laws.PartLaws.{told-is, then-ok}
 use Rattle.table.specs.Refusing.{Faults, Blames, Blames.unblamed, Blames.blamed, Refusing, Joined, Joined.in-first, Joined.in-second, InRow, InRow.in-row}
 
 -- what is said of a refusal gets weaker

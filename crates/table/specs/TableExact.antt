@@ -12,10 +12,10 @@ use Rattle.types.specs.Values.{Val, Val.nat-val, word, value-of}
 use Rattle.program.specs.Encoding.{enc-word, flat}
 use Rattle.program.specs.Reader.{Result, Result.ok, Result.bad, wrong-end, then, guard}
 use Rattle.program.specs.Exact.{Stands, Stands.done, Told, Told.told, Told.silent, Beyond.value-beyond, Beyond.refusal-beyond, Cut, Cut.same, Cut.stop, Cut.short, At, Exact}
-use Rattle.program.specs.StandsLaws.{both, split, stands-none, stands-length}
-use Rattle.program.specs.PartLaws.{told-then, told-weak, told-is, then-ok, cuts-ok, cuts-then}
-use Rattle.program.specs.JoinLaws.{exact-iff, made-exact, pair-exact, row-exact, flat-row}
-use Rattle.program.specs.WordLaws.{below-exact, word-exact}
+use Rattle.program.specs.Laws.StandsLaws.{both, split, stands-none, stands-length}
+use Rattle.program.specs.Laws.PartLaws.{told-then, told-weak, told-is, then-ok, cuts-ok, cuts-then}
+use Rattle.program.specs.Laws.JoinLaws.{exact-iff, made-exact, pair-exact, row-exact, flat-row}
+use Rattle.program.specs.Laws.WordLaws.{below-exact, word-exact}
 use Rattle.table.specs.Table.{value-bytes, count-bytes, enc-value, enc-record, enc-table, Each, Held, HeldRecord, HeldTable}
 use Rattle.table.specs.TableReader.{allowed, read-value, read-values, read-record, read-count, read-table}
 use Rattle.table.specs.ValueLaws.{value-of-word, word-of-value}

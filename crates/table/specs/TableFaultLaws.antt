@@ -13,8 +13,8 @@ use Rattle.types.specs.Types.{Ty}
 use Rattle.program.specs.Encoding.{enc-word}
 use Rattle.program.specs.Reader.{Result, Result.ok, Result.bad, wrong-end, wrong-byte, then, whole}
 use Rattle.program.specs.Exact.{Stands}
-use Rattle.program.specs.StandsLaws.{stands-drop, stands-whole}
-use Rattle.program.specs.StreamLaws.{exact-at}
+use Rattle.program.specs.Laws.StandsLaws.{stands-drop, stands-whole}
+use Rattle.program.specs.Laws.StreamLaws.{exact-at}
 use Rattle.table.specs.Table.{Record, enc-table, HeldTable, TableRight}
 use Rattle.table.specs.TableFaults.{field-bytes, TableEnds, TableEnds.ends-early, TableEnds.goes-on, TableOffends, TableOffends.not-allowed, TableOffends.no-byte, TableOffends.wrong-reference}
 use Rattle.table.specs.TableReader.{read-table, references, TableAnswer.no-table, table-end, table-value, table-number, table-of-stream}

@@ -10,7 +10,7 @@ use Rattle.types.specs.Limits.{max-instances}
 use Rattle.types.specs.Types.{Ty}
 use Rattle.types.specs.Values.{Val, value-of}
 use Rattle.program.specs.Encoding.{enc-word, flat}
-use Rattle.program.specs.WordLaws.{below-exact}
+use Rattle.program.specs.Laws.WordLaws.{below-exact}
 use Rattle.table.specs.Table.{Record, value-bytes, count-bytes, enc-value, enc-record, Each, Held, HeldRecord}
 use Rattle.table.specs.TableFaults.{Field, Field.count, Field.struct-byte, Field.value, field-bytes, Allowed, Front, Front.at-count, Front.at-struct, Front.at-value}
 use Rattle.table.specs.TableReader.{allowed, read-value, read-values, read-record, read-count, read-table}

@@ -13,7 +13,7 @@ use Rattle.types.specs.ValueLaws.{value-in-range}
 use Rattle.program.specs.Encoding.{enc-word, flat}
 use Rattle.program.specs.Counts.{All}
 use Rattle.program.specs.Reader.{wrong-byte}
-use Rattle.program.specs.StandsLaws.{stands-self}
+use Rattle.program.specs.Laws.StandsLaws.{stands-self}
 use Rattle.table.specs.Table.{Record, count-bytes, enc-value, enc-record, enc-table, Each, Held, HeldRecord, HeldTable}
 use Rattle.table.specs.TableFaults.{Field, field-bytes, byte-values, Allowed, Front, Front.at-count, Front.at-struct, Front.at-value}
 use Rattle.table.specs.FieldLaws.{NumberFault.unfit}

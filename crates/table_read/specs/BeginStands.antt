@@ -20,14 +20,14 @@ use Rattle.judge.specs.ProgramTableLaws.{types-at}
 use Rattle.machine.specs.Published.{Sched, of-items, structs}
 use Rattle.machine.specs.Machine.{Instance, Machine, machine, with-instances}
 use Rattle.run.specs.Begin.{resting, nulls, first-instances, begin}
-use Rattle.sound.specs.ElemLaws.{none-some, some-is, at-below, elem-all}
-use Rattle.sound.specs.EachLaws.{each-at}
-use Rattle.sound.specs.AcceptedLaws.{params-counted}
+use Rattle.sound.specs.Laws.ElemLaws.{none-some, some-is, at-below, elem-all}
+use Rattle.sound.specs.Laws.EachLaws.{each-at}
+use Rattle.sound.specs.Laws.AcceptedLaws.{params-counted}
 use Rattle.layout.specs.Layout.{head-size, row-size, cell}
 use Rattle.layout.specs.State.{State, state-of, set-count, set-place, fresh}
 use Rattle.memory.specs.Stands.{Shows, Stands, bits}
 use Rattle.memory.specs.Frame.{AllSlim}
-use Rattle.memory.specs.MadeLaws.{with-new, new-stands, new-slim}
+use Rattle.memory.specs.Laws.MadeLaws.{with-new, new-stands, new-slim}
 use Rattle.table_read.specs.Laid.{cells-of, heads-laid, rows-laid, null-records, all-records}
 use Rattle.table_read.specs.LaidLaws.{cells-length, nulls-length}
 

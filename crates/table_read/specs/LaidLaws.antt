@@ -11,9 +11,9 @@ use Rattle.types.specs.Limits.{max-params}
 use Rattle.types.specs.Types.{Ty}
 use Rattle.types.specs.Values.{Val}
 use Rattle.table.specs.Table.{Record}
-use Rattle.sound.specs.ElemLaws.{none-some, some-is}
+use Rattle.sound.specs.Laws.ElemLaws.{none-some, some-is}
 use Rattle.layout.specs.Layout.{head-size, row-size, new-head}
-use Rattle.memory.specs.RowLaws.{sets-other, sets-at}
+use Rattle.memory.specs.Laws.RowLaws.{sets-other, sets-at}
 use Rattle.table_read.specs.Laid.{cells-of, head-laid, row-laid, heads-laid, rows-laid, null-records}
 use Rattle.table_read.specs.Refer.{struct-in}
 

@@ -16,9 +16,9 @@ use Rattle.program.specs.Counts.{All}
 use Rattle.table.specs.Table.{Record, struct-at, Each, Held, HeldRecord}
 use Rattle.table.specs.SizeLaws.{each-length}
 use Rattle.table.specs.TableReader.{is-struct, refers, refers-each, references}
-use Rattle.sound.specs.ElemLaws.{at-append, at-behind, all-elem}
+use Rattle.sound.specs.Laws.ElemLaws.{at-append, at-behind, all-elem}
 use Rattle.layout.specs.Layout.{head-size, row-size, cell}
-use Rattle.memory.specs.CellLaws.{operand-part}
+use Rattle.memory.specs.Laws.CellLaws.{operand-part}
 use Rattle.table_read.specs.Params.{types-from, lists-of}
 use Rattle.table_read.specs.ParamsLaws.{list-is, types-length, lists-length}
 use Rattle.table_read.specs.Laid.{cells-of, heads-laid, rows-laid, null-records, all-records}

@@ -15,8 +15,8 @@ use Rattle.block.specs.declared.Fault.{Fault}
 use Rattle.block.specs.declared.Found.the-variants.{Right, Wrong}
 use Rattle.program.specs.Counts.{All}
 use Rattle.program.specs.Reader.{Result, Result.ok, Result.bad, then, many, guard, ended, whole}
-use Rattle.program.specs.PartLaws.{told-is}
-use Rattle.program.specs.JoinLaws.{row-exact, flat-row}
+use Rattle.program.specs.Laws.PartLaws.{told-is}
+use Rattle.program.specs.Laws.JoinLaws.{row-exact, flat-row}
 use Rattle.table.specs.Table.{Record, count-bytes, enc-record, HeldRecord}
 use Rattle.table.specs.TableReader.{read-record, read-count, read-table, references, TableAnswer.table, TableAnswer.no-table, table-number, table-answer, table-of-stream}
 use Rattle.table.specs.TableExact.{record-exact}

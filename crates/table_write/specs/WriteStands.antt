@@ -22,11 +22,11 @@ use Rattle.run.specs.Begin.{params-in, record-of, table-of}
 use Rattle.sound.specs.Needs.{ValueAmong}
 use Rattle.sound.specs.Invariant.{Fitted, GoodAll}
 use Rattle.sound.specs.Tabled.{Tabled}
-use Rattle.sound.specs.ElemLaws.{at-below, at-drop}
-use Rattle.sound.specs.EnvLaws.{param-at}
+use Rattle.sound.specs.Laws.ElemLaws.{at-below, at-drop}
+use Rattle.sound.specs.Laws.EnvLaws.{param-at}
 use Rattle.layout.specs.Layout.{row-size, operand, variable}
 use Rattle.layout.specs.State.{State, of-cell}
-use Rattle.memory.specs.CellLaws.{operand-part, code-byte}
+use Rattle.memory.specs.Laws.CellLaws.{operand-part, code-byte}
 use Rattle.memory.specs.Stands.{Shows, Stands}
 use Rattle.table_read.specs.Refer.{struct-in}
 use Rattle.table_read.specs.LaidLaws.{at-place}

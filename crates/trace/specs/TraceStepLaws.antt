@@ -12,9 +12,9 @@ use Rattle.machine.specs.Measure.{bound}
 use Rattle.machine.specs.MeasureLaws.{move-falls}
 use Rattle.run.specs.Turns.{chosen}
 use Rattle.run.specs.Holders.{holders, due}
-use Rattle.run.specs.TurnLaws.{due-none, due-some}
-use Rattle.run.specs.Settles.{Settles.holds, Settles.moves as settles-move}
-use Rattle.run.specs.FuelLaws.{Enough, fuel-suffices, fuel-settles, settled}
+use Rattle.run.specs.Laws.TurnLaws.{due-none, due-some}
+use Rattle.run.specs.Laws.Settles.{Settles.holds, Settles.moves as settles-move}
+use Rattle.run.specs.Laws.FuelLaws.{Enough, fuel-suffices, fuel-settles, settled}
 use Rattle.run.specs.Run.{Settled, Settled.hold, Settled.stop, is-done, settle, fuel}
 use Rattle.trace.specs.Trace.{Line, Line.moved, Line.acted, move-line, moves-by, moves, turn-line, turn-lines, trace}
 

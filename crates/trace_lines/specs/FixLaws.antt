@@ -16,7 +16,7 @@ use Rattle.layout.specs.State.{State, state-of, of-head}
 use Rattle.memory.specs.Act.{top, next-word, do-push, do-this, do-not, do-if, answered, do-op, do-rd, written, written-to, do-wr, do-cons, made}
 use Rattle.memory.specs.Act.{perform, act}
 use Rattle.memory.specs.Move.{do-fix, do-round, do-start, move-by, move}
-use Rattle.memory.specs.Plan.{fix-code, round-code}
+use Rattle.layout.specs.Codes.{fix-code, round-code}
 use Rattle.scheduler.specs.Ready.{Movable}
 
 record Same (z y : State) : Type 0 where

@@ -22,7 +22,7 @@ use Rattle.commands.specs.Coding.{words, command-word}
 use Rattle.commands.specs.Context.{context, step-of}
 use Rattle.commands.specs.Noted.{Note, Note.n-push, Note.n-this, Note.n-not, Note.n-rd, Note.n-wr, Note.n-get, Note.n-set, Note.n-cons, Note.n-op}
 use Rattle.commands.specs.Noted.{Note.n-if, erase, noted}
-use Rattle.commands.specs.NotedLaws.{erased}
+use Rattle.commands.specs.Laws.NotedLaws.{erased}
 use Rattle.operators.specs.Ranges.{Of as Range, Of.of-int, Of.of-nat, Of.of-bool, Of.of-ref}
 use Rattle.table.specs.Table.{Each}
 use Rattle.machine.specs.Published.{StepCall, Sched, structs}
@@ -30,16 +30,16 @@ use Rattle.machine.specs.Machine.{Tagged, Instance, Machine}
 use Rattle.sound.specs.Needs.{ValueAmong}
 use Rattle.sound.specs.Invariant.{Fits, Place, Place.resting, Place.passing}
 use Rattle.sound.specs.Sized.{Lasting, Lasting.an-int, Lasting.a-nat, Lasting.a-bool, Lasting.a-null, Sized}
-use Rattle.sound.specs.ValueLaws.{ranges}
+use Rattle.sound.specs.Laws.ValueLaws.{ranges}
 use Rattle.layout.specs.Layout.{head, struct-of, height-of, next-of, end-of, stacked, cell, type-byte, operand}
 use Rattle.layout.specs.State.{State, of-head}
 use Rattle.memory.specs.Act.{next-word}
 use Rattle.memory.specs.Plan.{from, to, Spans, At}
 use Rattle.memory.specs.Stands.{Shows, Stack, Held, Stands, note-words, bits}
-use Rattle.memory.specs.CellLaws.{shown-type, shown-operand}
-use Rattle.memory.specs.HeldLaws.{holds-word}
-use Rattle.memory.specs.StandsLaws.{has-row}
-use Rattle.memory.specs.ActorLaws.{good-slim, actor-sized}
+use Rattle.memory.specs.Laws.CellLaws.{shown-type, shown-operand}
+use Rattle.memory.specs.Laws.HeldLaws.{holds-word}
+use Rattle.memory.specs.Laws.StandsLaws.{has-row}
+use Rattle.memory.specs.Laws.ActorLaws.{good-slim, actor-sized}
 use Rattle.interpreter.specs.Ready.{Ready}
 use Rattle.text.specs.Listing.{decimal, value-text, text}
 use Rattle.text.specs.CommandText.{shown, Listed}

@@ -12,7 +12,8 @@ use Rattle.layout.specs.Layout.{head, struct-of, height-of, next-of, end-of, ro
 use Rattle.layout.specs.State.{state-of}
 use Rattle.layout.specs.declared.Numbers.{Numbers}
 use Rattle.memory.specs.Fit.{Fit}
-use Rattle.memory.specs.Plan.{fix-code, from, to}
+use Rattle.layout.specs.Codes.{fix-code}
+use Rattle.memory.specs.Plan.{from, to}
 use Rattle.text.specs.Listing.{decimal, value-text}
 use Rattle.trace_lines.specs.declared.writes.Write.{Write}
 

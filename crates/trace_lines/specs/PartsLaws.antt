@@ -13,7 +13,7 @@ use Rattle.types.specs.Types.{struct-code}
 use Rattle.layout.specs.Layout.{head, head-size, struct-of, height-of, next-of, row-size, variable, stacked, type-byte, operand}
 use Rattle.layout.specs.State.{state-of}
 use Rattle.memory.specs.Fit.{WrFit, Needed}
-use Rattle.memory.specs.Plan.{fix-code}
+use Rattle.layout.specs.Codes.{fix-code}
 use Rattle.text.specs.Listing.{Placed, decimal}
 use Rattle.text.specs.ListingLaws.{placed-none, placed-as, placed-on}
 use Rattle.trace_lines.specs.declared.writes.Write.{Write}

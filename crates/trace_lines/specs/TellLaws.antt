@@ -16,21 +16,22 @@ use Rattle.machine.specs.Published.{StepCall.global, StepCall.local, Sched, Sch
 use Rattle.machine.specs.Machine.{Instance, Machine, Out, Out.next, Out.refused, Out.stuck, Moved, Moved.next, Moved.stuck, command, move}
 use Rattle.run.specs.Turns.{chosen}
 use Rattle.run.specs.Holders.{holders, due}
-use Rattle.run.specs.TurnLaws.{some-due}
-use Rattle.sound.specs.HolderLaws.{chosen-holds}
+use Rattle.run.specs.Laws.TurnLaws.{some-due}
+use Rattle.sound.specs.Laws.HolderLaws.{chosen-holds}
 use Rattle.layout.specs.Layout.{head, head-size, struct-of}
 use Rattle.layout.specs.declared.Numbers.{Numbers}
 use Rattle.layout.specs.State.{State, state-of, of-head}
 use Rattle.memory.specs.Act.{next-word, act}
-use Rattle.memory.specs.Acts.{acts}
+use Rattle.memory.specs.Laws.Acts.{acts}
 use Rattle.memory.specs.Choose.{picked}
-use Rattle.memory.specs.ChooseStands.{holding-same, picks}
+use Rattle.memory.specs.Laws.ChooseStands.{holding-same, picks}
 use Rattle.memory.specs.Fit.{Fit}
 use Rattle.memory.specs.Frame.{After}
 use Rattle.memory.specs.Move.{move as move-on}
-use Rattle.memory.specs.MoveStands.{Follows, moves}
-use Rattle.memory.specs.Plan.{fix-code, end-code, round-code, At}
-use Rattle.memory.specs.PlanLaws.{past-start, past-fix, past-round, at-end-done}
+use Rattle.memory.specs.Laws.MoveStands.{Follows, moves}
+use Rattle.layout.specs.Codes.{fix-code, end-code, round-code}
+use Rattle.memory.specs.Plan.{At}
+use Rattle.memory.specs.Laws.PlanLaws.{past-start, past-fix, past-round, at-end-done}
 use Rattle.interpreter.specs.Ready.{Ready}
 use Rattle.interpreter.specs.Running.{busy, Turned, Turned.turned, Turned.failed}
 use Rattle.interpreter.specs.CountLaws.{holders-behind}

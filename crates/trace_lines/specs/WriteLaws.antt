@@ -18,18 +18,18 @@ use Rattle.commands.specs.Noted.{Note.n-if, erase}
 use Rattle.machine.specs.Published.{lookup, structs}
 use Rattle.machine.specs.Machine.{Tagged, Instance, Machine}
 use Rattle.sound.specs.Needs.{Needs}
-use Rattle.sound.specs.EnvLaws.{param-holds}
-use Rattle.sound.specs.ValueLaws.{label-value}
+use Rattle.sound.specs.Laws.EnvLaws.{param-holds}
+use Rattle.sound.specs.Laws.ValueLaws.{label-value}
 use Rattle.layout.specs.Layout.{head, struct-of, height-of, next-of, variable, stacked, operand, going}
 use Rattle.layout.specs.State.{State, of-head, of-cell}
 use Rattle.memory.specs.Act.{height, top, beneath, after, next-word, stored, written, written-to, do-wr, perform, act}
 use Rattle.memory.specs.Plan.{At}
 use Rattle.memory.specs.Frame.{kind-of, operand-of}
-use Rattle.memory.specs.Acts.{word-says}
-use Rattle.memory.specs.RowLaws.{going-other}
-use Rattle.memory.specs.HeldLaws.{holds-word, holds-label}
-use Rattle.memory.specs.StandsLaws.{has-row}
-use Rattle.memory.specs.ActorLaws.{counts-length, actor-needs, actor-sized}
+use Rattle.memory.specs.Laws.Acts.{word-says}
+use Rattle.memory.specs.Laws.RowLaws.{going-other}
+use Rattle.memory.specs.Laws.HeldLaws.{holds-word, holds-label}
+use Rattle.memory.specs.Laws.StandsLaws.{has-row}
+use Rattle.memory.specs.Laws.ActorLaws.{counts-length, actor-needs, actor-sized}
 use Rattle.interpreter.specs.Ready.{Ready}
 use Rattle.trace.specs.LineText.{change-text, param-text, target-text, flat-writes, written-text}
 use Rattle.trace_lines.specs.declared.writes.Write.{Write}
@@ -57,9 +57,7 @@ module _ (counts : List ℕ) (l : ℕ) (z : State) where
       let q = operand (top counts l z) in
       one-of (ltb x (getD counts (of-head z q struct-of) 0))
       (one-of (ltb q (length counts)) (record { height = height counts l z - 2; next = after counts l z; counted = refl; heads = refl })
-      (one-of (eqb (operand (of-cell z (variable q x))) (operand (beneath counts l z)))
-      (record { height = height counts l z - 2; next = after counts l z; counted = refl; heads = refl })
-      (record { height = height counts l z - 2; next = after counts l z; counted = refl; heads = refl })))
+      (record { height = height counts l z - 2; next = after counts l z; counted = refl; heads = refl }))
       (record { height = height counts l z - 2; next = after counts l z; counted = refl; heads = refl })
 
   -- a write leaves the structs of all instances

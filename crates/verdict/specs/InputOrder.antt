@@ -4,7 +4,7 @@ use mathlib.Core.Path.{_≡_, refl, sym, ap, subst, _∙_}
 use mathlib.Core.Logic.{_↔_}
 use mathlib.Core.List.{[], _∷_, _++_}
 use Rattle.commands.specs.Numbers.{Order, NoneOf, Foremost}
-use Rattle.commands.specs.NumbersLaws.{at-first, behind-first, foremost-unique, foremost-some}
+use Rattle.commands.specs.Laws.NumbersLaws.{at-first, behind-first, foremost-unique, foremost-some}
 
 -- what is foremost stays so, whatever the order goes on with
 pub foremost-front : {l : Order} {n : ℕ} (t : Order) → Foremost l n → Foremost (l ++ t) n

@@ -10,8 +10,8 @@ use Rattle.program.specs.Counts.{All, Counts}
 use Rattle.commands.specs.Bounds.{step-list, Within}
 use Rattle.commands.specs.ProgramWords.{steps-list, structs-list, structs-words, program-words}
 use Rattle.commands.specs.Decoding.{decode, InRanges}
-use Rattle.commands.specs.CodingLaws.{decode-words, words-injective}
-use Rattle.commands.specs.RangeLaws.{all-append, StepRanged, program-ranged}
+use Rattle.commands.specs.Laws.CodingLaws.{decode-words, words-injective}
+use Rattle.commands.specs.Laws.RangeLaws.{all-append, StepRanged, program-ranged}
 use Rattle.verdict.specs.Verdict.{listed}
 
 steps-ranged : (ts : List Step) → All StepRanged ts → All InRanges (steps-list ts)

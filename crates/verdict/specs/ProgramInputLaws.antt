@@ -21,17 +21,17 @@ use Rattle.program.specs.Encoding.{enc-program}
 use Rattle.program.specs.Counts.{Counts}
 use Rattle.program.specs.Exact.{Refused, Refused.not-allowed, Refused.ends-early, Refused.goes-on}
 use Rattle.program.specs.Reader.{Result, Result.ok, Result.bad, read}
-use Rattle.program.specs.ProgramLaws.{program-law, enc-injective, program-refused}
-use Rattle.program.specs.FrontLaws.{ends-exactly, offends-exactly, ends-or-offends}
+use Rattle.program.specs.Laws.ProgramLaws.{program-law, enc-injective, program-refused}
+use Rattle.program.specs.Laws.FrontLaws.{ends-exactly, offends-exactly, ends-or-offends}
 use Rattle.types.specs.Reflects.{Reflects, Reflects.holds, Reflects.fails, lt-reflects}
 use Rattle.commands.specs.Bounds.{Within}
 use Rattle.commands.specs.Names.{NamesRight}
 use Rattle.commands.specs.Typing.{TypesRight}
-use Rattle.commands.specs.BoundsDecideLaws.{within-reflects}
-use Rattle.commands.specs.NamesDecideLaws.{names-reflects}
-use Rattle.commands.specs.TypingDecideLaws.{types-reflects}
+use Rattle.commands.specs.Decide.BoundsDecideLaws.{within-reflects}
+use Rattle.commands.specs.Decide.NamesDecideLaws.{names-reflects}
+use Rattle.commands.specs.Decide.TypingDecideLaws.{types-reflects}
 use Rattle.commands.specs.Numbers.{Order, NoneOf, Foremost, breach-number}
-use Rattle.commands.specs.NumbersLaws.{number-accepted, number-limits, number-names, number-types, foremost-some}
+use Rattle.commands.specs.Laws.NumbersLaws.{number-accepted, number-limits, number-names, number-types, foremost-some}
 use Rattle.verdict.specs.Verdict.{Checked, Checked.accepted, Checked.refused, judge, of-read, of-image, checked, Verdict, refusal, approval, verdict-of, check-verdict, list-of, listed, check-list}
 use Rattle.types.specs.Numbers.{no-room}
 use Rattle.verdict.specs.ProgramInput.{ImageRight, Reads, AcceptedImage, reads-of, Approved, WrongEnd, WrongByte, OverLimits, WrongNames, WrongTypes, ShortList, program-order, check-order}

@@ -5,7 +5,7 @@ use mathlib.Core.Path.{_≡_, refl, sym, ap, _∙_}
 use native.Mathlib.Omega.{arith}
 use lib.ListN.{length}
 use Rattle.memory.specs.Move.{begin-all}
-use Rattle.memory.specs.BeginLaws.{one-length}
+use Rattle.memory.specs.Laws.BeginLaws.{one-length}
 use Rattle.scheduler.specs.Ready.{Rows}
 use Rattle.scheduler.specs.BeginWays.{row-of, one-rows, all-done, all-next}
 use Rattle.scheduler.proofs.begin.begin_all.Statement.{statement}

@@ -1,0 +1,21 @@
+-- Laws about the machine in memory: which list of numbers stands for which machine, and what commands and moves do to it.
+pub mod CellLaws
+pub mod RowLaws
+pub mod VarLaws
+pub mod HeldLaws
+pub mod EntriesLaws
+pub mod StandsLaws
+pub mod MadeLaws
+pub mod BoundedLaws
+pub mod ActorLaws
+pub mod StackActs
+pub mod VarActs
+pub mod ConsActs
+pub mod Acts
+pub mod FitLaws
+pub mod PlanLaws
+pub mod PlanUnique
+pub mod BeginLaws
+pub mod MoveLaws
+pub mod MoveStands
+pub mod ChooseStands

@@ -1,0 +1,20 @@
+-- Laws about streams and trees: what is written is read back, and where a stream ends or offends (01, 'Program').
+pub mod StandsLaws
+pub mod PartLaws
+pub mod JoinLaws
+pub mod FrontListLaws
+pub mod MetLaws
+pub mod FollowsLaws
+pub mod CodeLaws
+pub mod WordLaws
+pub mod WordFollows
+pub mod ExprLaws
+pub mod ExprFollows
+pub mod StmtLaws
+pub mod StmtFollows
+pub mod ItemLaws
+pub mod ItemFollows
+pub mod StreamLaws
+pub mod ProgramLaws
+pub mod ProgramFollows
+pub mod FrontLaws

@@ -1,0 +1,25 @@
+-- Laws behind 'never stuck': what each command and move keeps of the invariant, and what follows from it (01, 'The run').
+pub mod ElemLaws
+pub mod EachLaws
+pub mod Keeps
+pub mod GoodLaws
+pub mod SizedLaws
+pub mod AcceptedLaws
+pub mod PassageLaws
+pub mod ReadyLaws
+pub mod Outcomes
+pub mod EnvLaws
+pub mod ValueLaws
+pub mod Advance
+pub mod WriteKept
+pub mod ConsKept
+pub mod CommandKept
+pub mod MoveKept
+pub mod BeginGood
+pub mod ShallowLaws
+pub mod HolderLaws
+pub mod ConditionLaws
+pub mod NeverStuckLaws
+pub mod StartedLaws
+pub mod TabledLaws
+pub mod TableKept
