@@ -6,3 +6,5 @@ pub mod Tables
 pub mod TableLaws
 pub mod Declares
 pub mod DeclaresLaws
+pub mod Passing
+pub mod PassingLaws
