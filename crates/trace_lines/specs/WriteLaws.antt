@@ -57,9 +57,7 @@ module _ (counts : List ℕ) (l : ℕ) (z : State) where
       let q = operand (top counts l z) in
       one-of (ltb x (getD counts (of-head z q struct-of) 0))
       (one-of (ltb q (length counts)) (record { height = height counts l z - 2; next = after counts l z; counted = refl; heads = refl })
-      (one-of (eqb (operand (of-cell z (variable q x))) (operand (beneath counts l z)))
-      (record { height = height counts l z - 2; next = after counts l z; counted = refl; heads = refl })
-      (record { height = height counts l z - 2; next = after counts l z; counted = refl; heads = refl })))
+      (record { height = height counts l z - 2; next = after counts l z; counted = refl; heads = refl }))
       (record { height = height counts l z - 2; next = after counts l z; counted = refl; heads = refl })
 
   -- a write leaves the structs of all instances

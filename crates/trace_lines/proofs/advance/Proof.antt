@@ -10,7 +10,7 @@ use Rattle.trace_lines.proofs.advance.Tie as tie
 
 moved-requires : tie.Need-moved-requires
 moved-requires c κs =
-    let at-slice-known3 = c .before .before .before in
+    let at-slice-known3 = c .before .before in
     let at-advance = at-slice-known3 .before .before in
     let at-numbers = at-advance .before .before .before .before in
     let at-shared-slice-known = at-numbers .before .before .before .before in
@@ -23,8 +23,7 @@ moved-requires c κs =
 returns : tie.Need-returns
 returns c =
     let at-moved = c .before .before in
-    let at-after = at-moved .before .before .before in
-    let at-heads = at-after .before .before in
+    let at-heads = at-moved .before .before .before .before in
     let at-advance = at-heads .before in
     let at-step-at = at-advance .before .before in
     let at-slice-known = at-step-at .before .before .before .before in
