@@ -7,7 +7,7 @@ use Rattle.layout.specs.State.{State}
 use Rattle.holders.specs.Records.{idle}
 use Rattle.interpreter.specs.Going.{memory-of}
 use Rattle.interpreter.specs.GoingLaws.{turns-left}
-use Rattle.interpreter.specs.RunWays.{Stays, begun-rows, begun-standing, stays-on, stays-rows, stays-turning, passed-standing}
+use Rattle.interpreter.specs.RunWays.{Stays, begun-standing, stays-on, stays-rows, stays-turning, passed-standing}
 use Rattle.interpreter.specs.RunWays.{passed-over, passed-over-less, passed-more, passed-more-less}
 use Rattle.interpreter.proofs.turns.run.Statement.{statement}
 use Rattle.interpreter.proofs.turns.run.Tie as tie
@@ -85,7 +85,7 @@ loop-less c =
     let settled = at-settle (here .before) in
     let stays = stays-on (settled .settle .ensures (begin settled .args .cells .now)) idle (here .before .going-at .ensures) (here .loop .inv .2) in
     passed-more-less stays (found .before .before .loop-test .taken) (took .take-turns .ensures) (at-if .if1 .taken)
-    (moved .settle2 .result .machine) (moved .settle2 .result .holding) idle (c .going-at2 .ensures)
+    (moved .settle2 .result) idle (c .going-at2 .ensures)
 
 loop-again : tie.Need-loop-again Inv-loop μ-loop
 loop-again c =
@@ -97,7 +97,7 @@ loop-again c =
       moved .settle2 .kept .1 .1 .1 .1 .0 ∙ took .take-turns .kept .1 .1 .1 .1 .0 ∙ here .loop .inv .0,
       took .take-turns .kept .1 .1 .1 .1 .1 .0 ∙ here .loop .inv .1,
       λ z s. passed-more (here .loop .inv .2 z s) (found .before .before .loop-test .taken) (took .take-turns .ensures) (at-if .if1 .taken)
-          (moved .settle2 .result .machine) (moved .settle2 .result .holding) idle (c .going-at2 .ensures) (moved .settle2 .ensures _),
+          (moved .settle2 .result) idle (c .going-at2 .ensures) (moved .settle2 .ensures _),
     )
 
 loop-less-2 : tie.Need-loop-less-2 Inv-loop μ-loop

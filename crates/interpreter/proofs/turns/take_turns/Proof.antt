@@ -125,7 +125,7 @@ agains = sliceTy again
 abbrev more : Body
 more = seq (assign (place 12 []) (addrOf (place 9 [])))
     (seq (assign (place 13 []) (aggregate (copy (place 12 []) ∷ int w64 256 ∷ [])))
-    (seq (call #holders·holder (copy (place 13 []) ∷ copy (place 8 (field 5 ∷ [])) ∷ []) (place 10 []))
+    (seq (call #holders·holder (copy (place 13 []) ∷ copy (place 8 (field 4 ∷ [])) ∷ []) (place 10 []))
     (seq (assign (place 14 []) (addrOf (place 5 (field 0 ∷ deref word ∷ []))))
     (seq (assign (place 15 []) (aggregate (copy (place 14 []) ∷ copy (place 5 (field 1 ∷ [])) ∷ [])))
     (seq (assign (place 16 []) (addrOf (place 6 (field 0 ∷ deref word ∷ []))))
@@ -134,10 +134,10 @@ more = seq (assign (place 12 []) (addrOf (place 9 [])))
     copy (place 17 []) ∷ copy (place 7 []) ∷ []) (place 8 []))
     (seq (assign (place 18 []) (addrOf (place 9 [])))
     (seq (assign (place 19 []) (op2 offset (copy (place 18 [])) (copy (place 10 []))))
-    (assign (place 19 (deref P′.mir ∷ [])) (rvOpd (copy (place 8 (field 6 ∷ []))))))))))))))
+    (assign (place 19 (deref P′.mir ∷ [])) (rvOpd (copy (place 8 (field 5 ∷ []))))))))))))))
 
 abbrev one : Body
-one = seq (assign (place 11 []) (rvOpd (copy (place 8 (field 4 ∷ [])))))
+one = seq (assign (place 11 []) (rvOpd (copy (place 8 (field 3 ∷ [])))))
     (seq (cond (copy (place 11 [])) skipᴹ (exit 1))
     more)
 
@@ -358,10 +358,10 @@ module _ {M : Type 1} (𝓤 : URA M) (H : Heap 𝓤) (A : Atoms 𝓤) (W : Given
 
   -- what the numbers of a run and the elements of an array are known to be
   pick-fits : (i : Upto) → i .s .pick < 2 ^ 64
-  pick-fits i = LL.owed T.the-type T′.the-laws (i .s) _ (i .is-s) .1 .1 .1 .1 .1 .0 .1
+  pick-fits i = LL.owed T.the-type T′.the-laws (i .s) _ (i .is-s) .1 .1 .1 .1 .0 .1
 
   is-actor : (s : Going) → Is G s (gval s ∷ []) → Is R (s .actor) (rval (s .actor) ∷ [])
-  is-actor s is = LL.owed T.the-type T′.the-laws s _ is .1 .1 .1 .1 .1 .1 .0
+  is-actor s is = LL.owed T.the-type T′.the-laws s _ is .1 .1 .1 .1 .1 .0
 
   module _ (𝓣 : Tables 𝓤 H) (fm : FmC 𝓤 H (W .laws) (𝓣 .C)) (known-holder : Triple 𝓤 (𝓣 .C #holders·holder) (Holder 𝓤 H A mem run))
       (known-turn : Triple 𝓤 (𝓣 .C #interpreter·turns·turn) (Turn 𝓤 H A mem run))
