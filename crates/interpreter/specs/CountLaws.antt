@@ -12,11 +12,11 @@ use Rattle.commands.specs.Noted.{Note}
 use Rattle.machine.specs.Machine.{Instance, Machine, Out, Out.next, Out.refused, Out.stuck, command}
 use Rattle.machine.specs.PerformedLaws.{by-ways}
 use Rattle.run.specs.Turns.{labels-from}
-use Rattle.run.specs.Holders.{holders, holds-code}
+use Rattle.run.specs.Holders.{flag, flags, holders, holds-code}
 use Rattle.sound.specs.Laws.ElemLaws.{none-some}
 use Rattle.layout.specs.State.{bit}
 use Rattle.memory.specs.Choose.{fewer}
-use Rattle.interpreter.specs.FlagLaws.{flag, flags, Idle, Flagged, flags-behind}
+use Rattle.sound.specs.Laws.FlagLaws.{Idle, Flagged, flags-behind}
 
 -- how many are true
 abbrev trues : List Bool → ℕ

@@ -19,7 +19,7 @@ use Rattle.memory.specs.Laws.ChooseStands.{holds-same}
 use Rattle.holders.specs.declared.Record.{Record}
 use Rattle.holders.specs.Records.{idle, Recorded}
 use Rattle.interpreter.specs.Ready.{Ready}
-use Rattle.interpreter.specs.FlagLaws.{flag, flags, Idle, flags-behind}
+use Rattle.sound.specs.Laws.FlagLaws.{Idle, flags-behind}
 
 -- an instance has its flag
 flag-at : (is : List Instance) (k : ℕ) → k < length is → (i : Instance) × (getElem? is k ≡ some i) × (getD (flags is) k false ≡ flag i)

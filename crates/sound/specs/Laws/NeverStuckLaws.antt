@@ -54,7 +54,7 @@ module _ {p : Program} (firm : Firm p) where
       move-kept firm (m .sched) (m .instances) (m .stability) (m .from) (still-good p (m .instances) (due-still m h) (g .all)) (g .opened) (g .left) d
 
   -- the command of the instance that a byte picks keeps it, or is refused with 34 or 35
-  taken-kept : {m : Machine} (e : ℕ) → Good p m → due m ≡ false
+  pub taken-kept : {m : Machine} (e : ℕ) → Good p m → due m ≡ false
       → (i : Instance) × (getElem? (m .instances) (chosen (holders m) e) ≡ some i) × (Kept p Refused (command p (chosen (holders m) e) m))
   taken-kept {m} e g q =
       let (i, n, c, a, d) = chosen-holds m e q in
