@@ -7,3 +7,4 @@ pub mod Demand3
 pub mod Free
 pub mod Exact
 pub mod Memory
+pub mod Rounds

@@ -13,6 +13,7 @@ use Rattle.machine.specs.Machine.{Instance, Machine, Out, Out.next, Out.refused
 use Rattle.machine.specs.PerformedLaws.{by-ways}
 use Rattle.run.specs.Turns.{labels-from}
 use Rattle.run.specs.Holders.{flag, flags, holders, holds-code}
+use Rattle.run.specs.Laws.TurnLaws.{holders-length}
 use Rattle.sound.specs.Laws.ElemLaws.{none-some}
 use Rattle.layout.specs.State.{bit}
 use Rattle.memory.specs.Choose.{fewer}
@@ -30,8 +31,7 @@ labels-count (true ∷ fs) l = omega (arith, labels-count fs (suc l))
 labels-count (false ∷ fs) l = omega (arith, labels-count fs (suc l))
 
 holders-count : (m : Machine) → length (holders m) ≡ trues (flags (m .instances))
-unfolding holders
-holders-count m = labels-count (flags (m .instances)) 0
+holders-count m = holders-length m ∙ labels-count (flags (m .instances)) 0
 
 -- one of them is set
 trues-set : (is : List Instance) (l : ℕ) {i : Instance} (b : Bool) → getElem? is l ≡ some i

@@ -195,3 +195,25 @@ act-from list counts l z e = go (perform counts l z (next-word list z l % 256) (
         by h false t e =
             let q = eqb-false (h .machine .number) 0 t in
             absurd (q (sym (ap (λ (u : State). u .machine .number) (turned-refused l h q)) ∙ e))
+
+-- The other numbers ------------------------------------------------------------------------
+
+-- no other number is touched, nor memory
+pub turned-only : (l : ℕ) (y : State) → turned l y ≡ with-from y (turned l y .machine .from)
+turned-only l y = go (eqb (y .machine .number) 0) refl
+  where
+    Only : State → Type 0
+    Only x = x ≡ with-from y (x .machine .from)
+
+    go : (t : Bool) → eqb (y .machine .number) 0 ≡ t → Only (turned l y)
+    go true t = subst Only (sym (turned-taken l y (eqb-true (y .machine .number) 0 t))) refl
+    go false t = subst Only (sym (turned-refused l y (eqb-false (y .machine .number) 0 t))) refl
+
+-- what a command makes of the number of holders
+pub act-counts : (list counts : List ℕ) (l : ℕ) (z : State)
+    → act list counts l z .machine .holding ≡ fewer (holds (act list counts l z .heads) l) (z .machine .holding)
+unfolding act
+act-counts list counts l z =
+    let y = perform counts l z (next-word list z l % 256) (next-word list z l) (operand (next-word list z l)) in
+    let e = turned-only l (with-holding y (fewer (holds (y .heads) l) (z .machine .holding))) in
+    ap (λ (x : State). x .machine .holding) e ∙ ap (λ (x : State). fewer (holds (x .heads) l) (z .machine .holding)) (sym e)

@@ -1,11 +1,11 @@
 -- Memory that holds a machine has its holders, and a turn byte picks the same one of them (01, 'Table and turns'; 02, 'Turns that go round').
-use Prim.Native.Nat.{ℕ, zero, suc, _+_, _-_, _≤_}
+use Prim.Native.Nat.{ℕ, zero, suc, _+_, _-_, _<_, _≤_}
 use mathlib.Core.Path.{_≡_, refl, ap, sym, _∙_}
 use mathlib.Core.Bool.{Bool, true, false}
 use mathlib.Core.Option.{some}
 use mathlib.Core.List.{List, [], _∷_, map}
 use native.Mathlib.Omega.{arith}
-use lib.ListN.{length, getElem?, take, drop, length-take, length-drop, length-map}
+use lib.ListN.{length, getD, getElem?, take, drop, length-take, length-drop, length-map}
 use lib.Dec.{ltb}
 use borrow.Author.Tests.{lt-ltb, le-ltb}
 use Rattle.commands.specs.Noted.{Note, erase}
@@ -64,6 +64,18 @@ module _ (heads : List ℕ) where
   -- so many are counted, wherever counting begins
   pub holding-round : (s n : ℕ) → holding heads 0 n ≡ length (round-from s (flags heads 0 n))
   holding-round s n = holding-labels 0 n ∙ sym (round-length s (flags heads 0 n))
+
+  -- one for each of them, which says whether it does
+  pub flags-length : (l n : ℕ) → length (flags heads l n) ≡ n
+  unfolding flags
+  flags-length l zero = refl
+  flags-length l (suc n) = ap suc (flags-length (suc l) n)
+
+  pub flags-at : (l n k : ℕ) → k < n → getD (flags heads l n) k false ≡ holds heads (l + k)
+  unfolding flags
+  flags-at l zero k h = absurd (omega arith)
+  flags-at l (suc n) zero h = let z : l ≡ l + 0 = omega arith in ap (holds heads) z
+  flags-at l (suc n) (suc k) h = let z : suc l + k ≡ l + suc k = omega arith in flags-at (suc l) n k (omega arith) ∙ ap (holds heads) z
 
   flags-are : (is : List Instance) (l : ℕ) → ((k : ℕ) (i : Instance) → getElem? is k ≡ some i → holds heads (l + k) ≡ flag i)
       → flags heads l (length is) ≡ flags-of is

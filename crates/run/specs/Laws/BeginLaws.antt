@@ -47,10 +47,14 @@ pub begin-represents : (p : Program) (rs : List Record) → Represents (begin p 
 unfolding begin initial first-instances first-insts
 begin-represents p rs = (refl, all-represent 0 (p .params) rs, refl)
 
--- and for the published beginning of a run
-pub begin-stands : (p : Program) (rs : List Record) → StandsFor (begin p rs) (initially p rs)
+-- "a run starts counting at label 0" (02, 'Turns that go round')
+pub begin-from : (p : Program) (rs : List Record) → begin p rs .from ≡ 0
 unfolding begin
-begin-stands p rs = (refl, begin-represents p rs)
+begin-from p rs = refl
+
+-- so it stands for the published beginning of a run
+pub begin-stands : (p : Program) (rs : List Record) → StandsFor (begin p rs) (initially p rs)
+begin-stands p rs = (begin-from p rs, begin-represents p rs)
 
 null-place : (j : ℕ) (tss : List (List Ty)) (is : List Inst) (k : ℕ) → k < length tss
     → getElem? (null-insts j tss ++ is) k ≡ some (idle (j + k) (map default (getD tss k [])))
