@@ -60,10 +60,10 @@ use Rattle.holders.proofs.holder as holder
 use Rattle.holders.proofs.holder.Symbol as holder-def
 use Rattle.holders.proofs.holder.Symbol.{name as #holders·holder}
 use Rattle.holders.proofs.holder.Met as holder-thm
-use Rattle.layout.proofs.Numbers as N
-use Rattle.layout.proofs.Numbers.Laws as N′
-use Rattle.engine.proofs.Machine as M
-use Rattle.engine.proofs.Machine.Laws as M′
+use Rattle.layout.proofs.Numbers as Nums
+use Rattle.layout.proofs.Numbers.Laws as Nums′
+use Rattle.engine.proofs.Machine as Mach
+use Rattle.engine.proofs.Machine.Laws as Mach′
 use Rattle.interpreter.specs.declared.turns.Going.{Going}
 use Rattle.interpreter.specs.Going.{searched, Takes, Turning, Passes}
 use Rattle.interpreter.specs.GoingLaws.{turns-left, Kept, kept-none, kept-done, kept-few, kept-asks, kept-within, kept-more, kept-less}
@@ -386,14 +386,12 @@ module _ {M : Type 1} (𝓤 : URA M) (H : Heap 𝓤) (A : Atoms 𝓤) (W : Given
   pick-fits : (i : Upto) → i .s .pick < 2 ^ 64
   pick-fits i = LL.owed T.the-type T′.the-laws (i .s) _ (i .is-s) .1 .1 .1 .1 .0 .1
 
-  is-numbers : (i : Upto) → Is N.the-row (i .s .machine .numbers) _
-  is-numbers i = LL.owed M.the-type M′.the-laws (i .s .machine) _ (LL.owed T.the-type T′.the-laws (i .s) _ (i .is-s) .0) .0
-
-  count-fits : (i : Upto) → count (i .s) < 2 ^ 64
-  count-fits i = LL.owed N.the-type N′.the-laws (i .s .machine .numbers) _ (is-numbers i) .0 .1
-
-  start-fits : (i : Upto) → start (i .s) < 2 ^ 64
-  start-fits i = LL.owed N.the-type N′.the-laws (i .s .machine .numbers) _ (is-numbers i) .1 .1 .1 .1 .1 .1 .0 .1
+  numbers-fit : (i : Upto) → (count (i .s) < 2 ^ 64) × (start (i .s) < 2 ^ 64)
+  numbers-fit i =
+      let machine = LL.owed T.the-type T′.the-laws (i .s) _ (i .is-s) .0 in
+      let numbers = LL.owed Mach.the-type Mach′.the-laws (i .s .machine) _ machine .0 in
+      let n = LL.owed Nums.the-type Nums′.the-laws (i .s .machine .numbers) _ numbers in
+      (n .0 .1, n .1 .1 .1 .1 .1 .1 .0 .1)
 
   is-actor : (s : Going) → Is G s (gval s ∷ []) → Is R (s .actor) (rval (s .actor) ∷ [])
   is-actor s is = LL.owed T.the-type T′.the-laws s _ is .1 .1 .1 .1 .1 .0
@@ -448,11 +446,11 @@ module _ {M : Type 1} (𝓤 : URA M) (H : Heap 𝓤) (A : Atoms 𝓤) (W : Given
         (lends-shr-slice 𝓤 H A W R (named 0) (α ∷ []) fullShare (i .rs) l₉ 0 (subst (λ (m : ℕ). Room R m) (sym (i .len-rs)) room)) $ await ! tt $
         pick ! (λ γ. split ! $ move ! (0 ∷ 2 ∷ []) $
         use2 W (raw (Holder 𝓤 H A mem run .pre (to-holder α l₉ γ (i .rs) (i .s))))
-        (goes-holder α l₉ γ (i .rs) (i .s) (count-fits i) (start-fits i) (pick-fits i) (kept-few (i .kept) (is-true (i .s .due) due))) $
+        (goes-holder α l₉ γ (i .rs) (i .s) (numbers-fit i .0) (numbers-fit i .1) (pick-fits i) (kept-few (i .kept) (is-true (i .s .due) due))) $
         -- [what the search asks; lent; heads; cells; ..: one place more than before]
         calls-at ! fm (Holder 𝓤 H A mem run) known-holder (to-holder α l₉ γ (i .rs) (i .s)) (and-then ! (load ! (from ! (stop !)) (look ! 24 refl))
         (and-then ! (load ! (from ! (fld ! refl (fld ! refl (fld ! refl (stop !))))) (look-in ! 12 (sub ! 0 refl (sub ! 0 refl (sub ! 0 refl (whole !))))))
-        (and-then ! (load ! (from ! (fld ! refl (fld ! refl (fld ! refl (stop !))))) (look-in ! 12 (sub ! 0 refl (sub ! 0 refl (sub ! 6 refl (whole !))))))
+        (and-then ! (load ! (from ! (fld ! refl (fld ! refl (fld ! refl (stop !))))) (look-in ! 12 (sub ! 6 refl (sub ! 0 refl (sub ! 0 refl (whole !))))))
         (and-then ! (load ! (from ! (fld ! refl (stop !))) (look-in ! 12 (sub ! 4 refl (whole !)))) (no-more !))))) (λ u.
         use1 W (later (some (λ (r : ℕ). ((‵ (flft (α ∷ []) fullShare) ⊛ ‵ ftrue) ⊛ ‵ (usize .own r (u ∷ []))) ⊛ raw
         (ensured 𝓤 H A holder.ended (holder.clauses 𝓤 H A mem run) (α ∷ [], tt) (lent-records l₉ γ (i .rs), sought (i .s)) tt r)))) (id⊢ 𝓤 _) $
