@@ -4,6 +4,8 @@ pub mod Shape
 pub mod BothLaws
 pub mod ShapeLaws
 pub mod KindShapeLaws
+pub mod RoleMarks
+pub mod RoleExpLaws
 pub mod Table
 pub mod TableLaws
 pub mod IndexLaws
