@@ -6,6 +6,7 @@ pub mod ShapeLaws
 pub mod KindShapeLaws
 pub mod RoleMarks
 pub mod RoleExpLaws
+pub mod RoleMarkLaws
 pub mod Table
 pub mod TableLaws
 pub mod IndexLaws
