@@ -12,3 +12,5 @@ pub mod TableLaws
 pub mod IndexLaws
 pub mod Held
 pub mod HeldLaws
+pub mod Leaving
+pub mod LeavingLaws
