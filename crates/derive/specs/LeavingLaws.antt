@@ -36,7 +36,7 @@ data Ready (s : Shape) (last i : ℕ) : Type 0 where
   stood : last < i → Ready s last i
   quiet : ((k : ℕ) → renames s k ≡ 0) → Ready s last i
 
-length-amended : (m : List ℕ) (last w : ℕ) → length (amended m last w) ≡ length m
+pub length-amended : (m : List ℕ) (last w : ℕ) → length (amended m last w) ≡ length m
 unfolding amended
 length-amended m last w = go (eqb w 0) refl
   where
@@ -145,7 +145,7 @@ leaves-all (k ∷ ks) s last i d p h = go (eqb k 0) refl (λ s last i d p h. lea
     go false e rec = leaves-token ks k e rec s last i d p h
 
 -- from the first place on
-left-all : (ks : List ℕ) → leaves (shape 1 []) 0 0 ks ks ≡ placed ks (role-codes (shape 1 []) (kinds-in ks))
+pub left-all : (ks : List ℕ) → leaves (shape 1 []) 0 0 ks ks ≡ placed ks (role-codes (shape 1 []) (kinds-in ks))
 unfolding awaits amended renames renamed waits
 left-all ks = leaves-all ks (shape 1 []) 0 0 [] (quiet (λ k. refl)) refl ∙ front (kinds-in ks)
   where

@@ -12,5 +12,7 @@ pub mod TableLaws
 pub mod IndexLaws
 pub mod Held
 pub mod HeldLaws
+pub mod RoleWays
 pub mod Leaving
 pub mod LeavingLaws
+pub mod LoopLaws
