@@ -1,17 +1,16 @@
 -- What the loop leaves is each token's role in its place. And the loop's invariant.
-use Prim.Native.Nat.{ℕ, zero, suc, _+_, _≤_, _<_}
+use Prim.Native.Nat.{ℕ, _+_, _<_}
 use native.Mathlib.Omega.{arith}
-use native.Mathlib.Numerals.{add-one}
 use mathlib.Core.Path.{_≡_, refl, sym, ap, _∙_}
-use mathlib.Core.Bool.{Bool, true, false, _||_}
+use mathlib.Core.Bool.{Bool, true, false}
 use mathlib.Core.List.{List, [], _∷_, _++_, append-assoc}
-use lib.ListN.{length, getD, set, take, drop, length-set, length-append, drop-of-length-le}
-use lib.Seq.{set-append-left, set-at, drop-cons, drop-set-lt}
+use lib.ListN.{length, set, length-set, length-append}
+use lib.Seq.{set-append-left, set-at}
 use lib.Dec.{eqb}
 use borrow.Author.Tests.{eqb-true}
 use Rattle.lexer.specs.Marking.{kinds-in}
 use Rattle.derive.specs.Shape.{Shape, Shape.shape, sample, move}
-use Rattle.derive.specs.RoleMarks.{role, waits, other-role, renamed, kept-or, by-next, settled, role-codes, placed}
+use Rattle.derive.specs.RoleMarks.{role, waits, renamed, kept-or, by-next, settled, role-codes, placed}
 use Rattle.derive.specs.Leaving.{amended, left, renames, leaves}
 
 -- a name's role by what follows it

@@ -2,13 +2,13 @@
 use Prim.Native.Nat.{ℕ, _+_, _≤_, _<_}
 use native.Mathlib.Omega.{arith}
 use native.Mathlib.Numerals.{add-one}
-use mathlib.Core.Path.{_≡_, refl, sym, ap, _∙_}
+use mathlib.Core.Path.{_≡_, refl, sym, _∙_}
 use mathlib.Core.Bool.{Bool, true, false}
 use mathlib.Core.List.{List, [], _∷_}
-use lib.ListN.{length, getD, set, drop, length-set, drop-of-length-le}
-use lib.Seq.{drop-cons, drop-set-lt, getD-drop}
+use lib.ListN.{length, getD, drop, length-set, drop-of-length-le}
+use lib.Seq.{drop-cons, drop-set-lt}
 use lib.Dec.{eqb}
-use borrow.Author.Tests.{eq-eqb, ne-eqb}
+use borrow.Author.Tests.{ne-eqb}
 use Rattle.lexer.specs.Marking.{kinds-in}
 use Rattle.derive.specs.Shape.{Shape, Shape.shape, sample, move, moves, derived}
 use Rattle.derive.specs.RoleMarks.{role, renamed, role-codes, placed}

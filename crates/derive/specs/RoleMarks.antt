@@ -7,10 +7,14 @@ use lib.ListN.{getD}
 use lib.Dec.{eqb}
 use Rattle.tokens.specs.Tokens.{Sign.lpar, Sign.rpar, Sign.lbrace, Sign.rbrace, Sign.comma, Sign.dot as dot-sign, Token}
 use Rattle.syntax.specs.Syntax.{TypeName.id-type}
-use Rattle.syntax.specs.Expecting.{on-sign, on-name, on-less, on-type-word, on-type}
+use Rattle.syntax.specs.Expecting.{sign-number, on-sign, on-name, on-op, less, on-less, type-word, on-type-word, on-type}
 use Rattle.lexer.specs.Kinds.{name-kind, sign-kind}
-use Rattle.derive.specs.Roles.{Typed, Typed.of-par, Typed.of-local, Typed.of-null, Naming.new-struct, Naming.new-par, Naming.new-step, Naming.new-local, Naming.first-read, Naming.first-written, Naming.later-variable, Naming.made, Naming.made-statement, Naming.called, Naming.called-struct, Naming.called-step}
-use Rattle.derive.specs.Roles.{Part, Part.brackets-open, Part.brackets-close, Part.args-open, Part.args-close, Part.no-args-close, Part.pars-open, Part.pars-close, Part.fix-open, Part.fix-close, Part.steps-open, Part.steps-close, Part.body-open, Part.body-close, Part.then-open, Part.then-close, Part.par-comma, Part.arg-comma, Part.barrier-sign}
+use Rattle.derive.specs.Roles.{Typed.of-par, Typed.of-local, Typed.of-null, Naming.new-struct, Naming.new-par, Naming.new-step, Naming.new-local}
+use Rattle.derive.specs.Roles.{Naming.first-read, Naming.first-written, Naming.later-variable, Naming.made, Naming.made-statement, Naming.called}
+use Rattle.derive.specs.Roles.{Naming.called-struct, Naming.called-step}
+use Rattle.derive.specs.Roles.{Part.brackets-open, Part.brackets-close, Part.args-open, Part.args-close, Part.no-args-close, Part.pars-open}
+use Rattle.derive.specs.Roles.{Part.pars-close, Part.fix-open, Part.fix-close, Part.steps-open, Part.steps-close, Part.body-open, Part.body-close}
+use Rattle.derive.specs.Roles.{Part.then-open, Part.then-close, Part.par-comma, Part.arg-comma, Part.barrier-sign}
 use Rattle.derive.specs.Roles.{Naming, naming-code, typed-code, type-number, part-code}
 use Rattle.derive.specs.Shape.{Shape, Shape.shape, sample, move}
 
@@ -24,24 +28,29 @@ abbrev pub by-opened : ℕ
 by-opened = 94
 
 unfoldable pub a-name : Naming → Token → ℕ
-unfolding on-name
+unfolding on-name naming-code
 a-name n t = on-name (λ x. naming-code n) by-kind t
 
 -- where an expression is wanted; its arguments, with a ) of its own where there are none; behind an item; behind an argument
 unfoldable pub exp-mark : Token → ℕ
+unfolding on-name on-sign sign-number naming-code part-code
 exp-mark t = on-name (λ x. naming-code first-read) (on-sign lpar (part-code brackets-open) by-kind t) t
 
 unfoldable pub args-mark : Token → ℕ
+unfolding on-sign sign-number exp-mark part-code
 args-mark t = on-sign rpar (part-code no-args-close) (exp-mark t) t
 
 unfoldable pub past-mark : Token → ℕ
+unfolding on-less on-op less part-code
 past-mark t = on-less (part-code barrier-sign) by-opened t
 
 unfoldable pub argument-mark : Token → ℕ
+unfolding on-sign sign-number part-code
 argument-mark t = on-sign comma (part-code arg-comma) (on-sign rpar (part-code args-close) by-kind t) t
 
 -- by the codes, from 0 on, as `acts`; a name that waits has the role that most tokens behind it leave it
 unfoldable pub marks : Token → List ℕ
+unfolding a-name exp-mark args-mark past-mark argument-mark on-type on-type-word type-word typed-code type-number
 marks t =
     by-kind
     ∷ by-kind
@@ -90,6 +99,7 @@ marks t =
     ∷ []
 
 unfoldable pub mark : ℕ → Token → ℕ
+unfolding marks
 mark q t = getD (marks t) q by-kind
 
 -- By kinds ---------------------------------------------------------------------------------------
@@ -114,13 +124,13 @@ unfoldable pub other-role : ℕ → ℕ → ℕ
 other-role q k =
     elim (eqb q 14) [
       | true ↦ elim (eqb k name-kind) [
-          | true ↦ typed-code of-local + type-number (id-type [])
-          | false ↦ elim (eqb k (sign-kind lpar)) [ true ↦ naming-code made-statement | false ↦ 0 ]
-        ]
+        | true ↦ typed-code of-local + type-number (id-type [])
+        | false ↦ elim (eqb k (sign-kind lpar)) [ true ↦ naming-code made-statement | false ↦ 0 ]
+      ]
       | false ↦ elim (eqb q 24) [
-          | true ↦ elim (eqb k (sign-kind lpar)) [ true ↦ naming-code made | false ↦ 0 ]
-          | false ↦ elim (eqb k (sign-kind dot-sign)) [ true ↦ naming-code called-struct | false ↦ 0 ]
-        ]
+        | true ↦ elim (eqb k (sign-kind lpar)) [ true ↦ naming-code made | false ↦ 0 ]
+        | false ↦ elim (eqb k (sign-kind dot-sign)) [ true ↦ naming-code called-struct | false ↦ 0 ]
+      ]
     ]
 
 unfoldable pub renamed : ℕ → ℕ → ℕ

@@ -2,10 +2,8 @@
 use Prim.Native.Nat.{ℕ, zero, suc, _-_}
 use native.Mathlib.Numerals.{sub-one}
 use mathlib.Core.Path.{_≡_, refl, sym, ap, _∙_}
-use mathlib.Core.Bool.{_||_}
-use mathlib.Core.List.{List, [], _∷_}
+use mathlib.Core.List.{List}
 use lib.ListN.{getD}
-use lib.Dec.{eqb}
 use borrow.Author.Tests.{ne-eqb}
 use Rattle.lexer.specs.Kinds.{sign-kind}
 use Rattle.derive.specs.Roles.{naming-code, typed-code, type-number}
@@ -17,7 +15,9 @@ module _ (q k h : ℕ) (s : List ℕ) {b : ℕ} (e : b ≡ mark q (sample k)) wh
   -- by the state that a token meets
   pub role-own : (b ≡ by-opened → ⊥) → said b k ≡ role (shape q (held s h)) k
   unfolding role
-  role-own n = let f : role (shape q (held s h)) k ≡ said (mark q (sample k)) k = rw (role, ne-eqb (mark q (sample k)) by-opened (λ z. n (e ∙ z))) in ap (λ x. said x k) e ∙ sym f
+  role-own n =
+      let f : role (shape q (held s h)) k ≡ said (mark q (sample k)) k = rw (role, ne-eqb (mark q (sample k)) by-opened (λ z. n (e ∙ z))) in
+      ap (λ x. said x k) e ∙ sym f
 
   module _ (o : b ≡ by-opened) where
     role-opened : role (shape q (held s h)) k ≡ said-below (held s h) k

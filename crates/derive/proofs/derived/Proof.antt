@@ -51,7 +51,8 @@ loop-again c =
     omega (arith, c .before .before .loop-test .taken, inv .kept) in
     ⊎-elim
     (λ w. rw (w .12, w .13, w .14, w .15)
-    (reached-token inv less (w .0 .taken) (rw (w .3 .ensures, w .4 .ensures) at (w .5 .ensures)) (w .9 .ensures .0) (w .9 .ensures .1 .0) (w .9 .ensures .1 .1)))
+    (reached-token inv less (w .0 .taken) (rw (w .3 .ensures, w .4 .ensures) at (w .5 .ensures)) (w .9 .ensures .0) (w .9 .ensures .1 .0)
+    (w .9 .ensures .1 .1)))
     (λ w. rw (w .1, w .2, w .3, w .4) (reached-past inv less (w .0 .left)))
     (c .if1 .came)
 
@@ -62,7 +63,10 @@ same-length-2 : tie.Need-same-length-2 Inv-loop μ-loop
 same-length-2 c = c .before .before .loop .inv .room
 
 returns : tie.Need-returns Inv-loop μ-loop
-returns c = let e = reached-end (c .before .before .loop .inv) (omega (arith, c .before .before .loop .inv .kept, c .before .loop-test .left)) in (c .ends .ensures ∙ e .0, e .1)
+returns c =
+    let inv = c .before .before .loop .inv in
+    let e = reached-end inv (omega (arith, inv .kept, c .before .loop-test .left)) in
+    (c .ends .ensures ∙ e .0, e .1)
 
 pub derived-spec : {M : Type 1} → statement M
 derived-spec =

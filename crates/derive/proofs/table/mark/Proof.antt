@@ -2,17 +2,15 @@
 use native.Mathlib.Omega.{arith}
 use mathlib.Core.Path.{_∙_}
 use borrow.Author.Needs.{needs}
-use Rattle.syntax.specs.Expecting.{word-number, sign-number, on-word, on-sign, on-name, on-op, less, on-less, literal-word, on-literal, type-word, on-type-word, on-type}
-use Rattle.derive.specs.Roles.{naming-code, typed-code, type-number, part-code}
 use Rattle.derive.specs.Shape.{samples, sample}
-use Rattle.derive.specs.RoleMarks.{a-name, exp-mark, args-mark, past-mark, argument-mark, marks, mark}
+use Rattle.derive.specs.RoleMarks.{mark}
 use Rattle.derive.specs.Table.{values, mark-at, mark-bytes}
 use Rattle.derive.specs.TableLaws.{mark-byte}
 use Rattle.derive.proofs.table.mark.Statement.{statement}
 use Rattle.derive.proofs.table.mark.Tie as tie
 
 returns : tie.Need-returns
-unfolding values mark-bytes mark-at mark marks a-name exp-mark args-mark past-mark argument-mark naming-code typed-code type-number part-code samples sample word-number sign-number on-word on-sign on-name on-op less on-less literal-word on-literal type-word on-type-word on-type
+unfolding values mark-bytes mark-at mark samples sample
 returns c = c .pick .ensures ∙ mark-byte (c .before .before .args .i) (omega arith)
 
 pub mark-spec : {M : Type 1} → statement M

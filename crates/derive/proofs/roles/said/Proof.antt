@@ -1,8 +1,8 @@
--- `said` meets its contract.
+-- `roles::said` meets its contract.
 use borrow.Author.Tests.{eq-eqb, ne-eqb}
 use Rattle.derive.specs.RoleMarks.{said}
-use Rattle.derive.proofs.said.Statement.{statement}
-use Rattle.derive.proofs.said.Tie as tie
+use Rattle.derive.proofs.roles.said.Statement.{statement}
+use Rattle.derive.proofs.roles.said.Tie as tie
 
 returns : tie.Need-returns
 unfolding said

@@ -1,7 +1,7 @@
--- `renamed` meets its contract: one law for each state and kind.
+-- `roles::renamed` meets its contract: one law for each state and kind.
 use Rattle.derive.specs.RoleWays.{name-type, name-made, name-kept, id-made, id-kept, step-struct, step-kept, none-waits}
-use Rattle.derive.proofs.renamed.Statement.{statement}
-use Rattle.derive.proofs.renamed.Tie as tie
+use Rattle.derive.proofs.roles.renamed.Statement.{statement}
+use Rattle.derive.proofs.roles.renamed.Tie as tie
 
 returns : tie.Need-returns
 returns c = name-type (c .before .if1 .taken) (c .if2 .taken)

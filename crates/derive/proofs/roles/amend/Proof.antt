@@ -1,9 +1,9 @@
--- `amend` meets its contract.
+-- `roles::amend` meets its contract.
 use borrow.Author.Tests.{eq-eqb, ne-eqb}
 use borrow.Author.Needs.{needs}
 use Rattle.derive.specs.Leaving.{amended}
-use Rattle.derive.proofs.amend.Statement.{statement}
-use Rattle.derive.proofs.amend.Tie as tie
+use Rattle.derive.proofs.roles.amend.Statement.{statement}
+use Rattle.derive.proofs.roles.amend.Tie as tie
 
 returns : tie.Need-returns
 unfolding amended

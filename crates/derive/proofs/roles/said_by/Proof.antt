@@ -1,9 +1,9 @@
--- `said_by` meets its contract: the byte at the place of a code and a kind.
+-- `roles::said_by` meets its contract: the byte at the place of a code and a kind.
 use mathlib.Core.Path.{ap, _∙_}
 use borrow.Author.Needs.{needs}
 use Rattle.derive.specs.RoleMarks.{said}
-use Rattle.derive.proofs.said_by.Statement.{statement}
-use Rattle.derive.proofs.said_by.Tie as tie
+use Rattle.derive.proofs.roles.said_by.Statement.{statement}
+use Rattle.derive.proofs.roles.said_by.Tie as tie
 
 returns : tie.Need-returns
 returns c =
