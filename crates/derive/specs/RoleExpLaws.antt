@@ -10,7 +10,7 @@ use Rattle.syntax.specs.Syntax.{Id, TypeName, TypeName.int-type, TypeName.nat-t
 use Rattle.syntax.specs.Syntax.{Literal.nat-literal, Literal.bool-literal, Var, Var.id, Var.dot}
 use Rattle.syntax.specs.Syntax.{Exp, Exp.binary, Exp.brackets, Exp.negation, Exp.constructor, Exp.variable, Exp.literal, Exp.null, Exp.this, Exps, Exps.no-exps}
 use Rattle.syntax.specs.Syntax.{Exps.exps}
-use Rattle.syntax.specs.Expecting.{word-number, on-word, literal-word, on-literal}
+use Rattle.syntax.specs.Expecting.{sign-number, word-number, on-word, literal-word, on-literal}
 use Rattle.syntax.specs.Yield.{type-token, literal-token, yield-var, yield-exp, yield-exps, yield-exp-list}
 use Rattle.syntax.specs.Bracketing.{Spot.bracketed, Spot.bare, Fits, FitsExps}
 use Rattle.lexer.specs.Kinds.{word-kind, sign-kind, op-kind, kind}
@@ -94,7 +94,7 @@ pub record Dots (q p : ℕ) : Type 0 where
 
 pub later-comes : {q p : ℕ} → Dots q p → (v : Var) {st : List ℕ} {ts : List Token} {rs : List Role} → Comes p st ts rs
     → Comes q st (yield-var v ts) (roles-later v rs)
-unfolding yield-var roles-later kind sign-kind code naming-code
+unfolding yield-var roles-later kind sign-kind sign-number code naming-code
 later-comes d (id x) {st} h = comes (d .a-variable st _ ∙ onto 45 (codes h))
 later-comes d (dot x v) {st} h = comes (d .a-variable st _ ∙ onto 45 (d .a-dot st _ ∙ onto 21 (codes (later-comes d v h))))
 

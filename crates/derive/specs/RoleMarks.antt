@@ -121,6 +121,7 @@ waits q = eqb q 14 || (eqb q 24 || eqb q 30)
 
 -- the other role of such a name, by the kind behind it; 0 where it keeps its role
 unfoldable pub other-role : ℕ → ℕ → ℕ
+unfolding sign-kind sign-number naming-code typed-code type-number
 other-role q k =
     elim (eqb q 14) [
       | true ↦ elim (eqb k name-kind) [

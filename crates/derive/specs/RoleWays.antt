@@ -5,8 +5,6 @@ use mathlib.Core.Path.{_≡_, refl, sym, ap, _∙_}
 use mathlib.Core.List.{List}
 use lib.ListN.{getD}
 use borrow.Author.Tests.{ne-eqb}
-use Rattle.lexer.specs.Kinds.{sign-kind}
-use Rattle.derive.specs.Roles.{naming-code, typed-code, type-number}
 use Rattle.derive.specs.Shape.{Shape.shape, sample}
 use Rattle.derive.specs.RoleMarks.{by-opened, mark, said, said-below, role, waits, other-role, renamed}
 use Rattle.derive.specs.Held.{held}
@@ -41,31 +39,31 @@ module _ (q k h : ℕ) (s : List ℕ) {b : ℕ} (e : b ≡ mark q (sample k)) wh
 
 module _ {q k : ℕ} where
   pub name-type : q ≡ 14 → k ≡ 36 → 58 ≡ renamed q k
-  unfolding renamed waits other-role sign-kind naming-code typed-code type-number
+  unfolding renamed waits other-role
   name-type e f = rw (e, f) refl
 
   pub name-made : q ≡ 14 → (k ≡ 36 → ⊥) → k ≡ 13 → 47 ≡ renamed q k
-  unfolding renamed waits other-role sign-kind naming-code typed-code type-number
+  unfolding renamed waits other-role
   name-made e n f = rw (e, f) refl
 
   pub name-kept : q ≡ 14 → (k ≡ 36 → ⊥) → (k ≡ 13 → ⊥) → 0 ≡ renamed q k
-  unfolding renamed waits other-role sign-kind naming-code typed-code type-number
+  unfolding renamed waits other-role
   name-kept e n f = rw (e, other-role, ne-eqb k 36 n, ne-eqb k 13 f) refl
 
   pub id-made : q ≡ 24 → k ≡ 13 → 46 ≡ renamed q k
-  unfolding renamed waits other-role sign-kind naming-code typed-code type-number
+  unfolding renamed waits other-role
   id-made e f = rw (e, f) refl
 
   pub id-kept : q ≡ 24 → (k ≡ 13 → ⊥) → 0 ≡ renamed q k
-  unfolding renamed waits other-role sign-kind naming-code typed-code type-number
+  unfolding renamed waits other-role
   id-kept e f = rw (e, other-role, ne-eqb k 13 f) refl
 
   pub step-struct : q ≡ 30 → k ≡ 21 → 49 ≡ renamed q k
-  unfolding renamed waits other-role sign-kind naming-code typed-code type-number
+  unfolding renamed waits other-role
   step-struct e f = rw (e, f) refl
 
   pub step-kept : q ≡ 30 → (k ≡ 21 → ⊥) → 0 ≡ renamed q k
-  unfolding renamed waits other-role sign-kind naming-code typed-code type-number
+  unfolding renamed waits other-role
   step-kept e f = rw (e, other-role, ne-eqb k 21 f) refl
 
 pub none-waits : (q k : ℕ) → (q ≡ 14 → ⊥) → (q ≡ 24 → ⊥) → (q ≡ 30 → ⊥) → 0 ≡ renamed q k
