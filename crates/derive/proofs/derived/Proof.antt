@@ -23,17 +23,22 @@ slice-read-k : tie.Need-slice-read-k Inv-loop μ-loop
 slice-read-k c = omega (arith, c .before .loop-test .taken)
 
 role-requires : tie.Need-role-requires Inv-loop μ-loop
-role-requires c κs = let inv = c .before .before .before .before .before .loop .inv in omega (arith, inv .low, inv .inner, inv .fits)
+role-requires c κs =
+    let at-read = c .before .before .before in
+    let inv = at-read .before .before .loop .inv in
+    omega (arith, inv .low, inv .inner, inv .fits)
 
 leave-requires : tie.Need-leave-requires Inv-loop μ-loop
 leave-requires c κs =
-    let at-test = c .before .before .before .before .before .before in
+    let at-read = c .before .before .before .before in
+    let at-test = at-read .before .before in
     (omega (arith, at-test .loop-test .taken), omega (arith, at-test .before .loop .inv .before, at-test .loop-test .taken))
 
 step-requires : tie.Need-step-requires Inv-loop μ-loop
 step-requires c κs =
     let at-renamed = c .before .before .before .before in
-    let at-test = at-renamed .before .before .before .before .before .before in
+    let at-read = at-renamed .before .before .before .before in
+    let at-test = at-read .before .before in
     let inv = at-test .before .loop .inv in
     omega (arith, inv .low, inv .fits, inv .kept, at-test .loop-test .taken)
 
