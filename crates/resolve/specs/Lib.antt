@@ -6,3 +6,7 @@ pub mod Tables
 pub mod TableLaws
 pub mod Declares
 pub mod DeclaresLaws
+pub mod Passing
+pub mod Numbers
+pub mod Outcomes
+pub mod PassingLaws
