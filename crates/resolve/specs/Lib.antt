@@ -10,3 +10,5 @@ pub mod Passing
 pub mod Numbers
 pub mod Outcomes
 pub mod PassingLaws
+pub mod PassingStatLaws
+pub mod PassingTextLaws

@@ -1,8 +1,9 @@
 -- What the pass over some roles comes to, in front of any others: nothing, or it goes on from a state that what was passed determines, but for the type of the
 -- variable passed last. The laws put together such outcomes as the grammar puts together its trees.
 use Prim.Native.Nat.{ℕ}
-use mathlib.Core.Path.{_≡_, refl, sym, ap, _∙_}
-use mathlib.Core.Bool.{Bool, true, false, false≢true}
+use native.Mathlib.Omega.{arith}
+use mathlib.Core.Path.{_≡_, refl, ap, subst, _∙_}
+use mathlib.Core.Bool.{Bool, true, false}
 use mathlib.Core.List.{List, [], _∷_, _++_}
 use mathlib.Core.Option.{Option, none, some}
 use Rattle.syntax.specs.Syntax.{Id, TypeName, Struct}
@@ -19,6 +20,12 @@ pub onto-both : (a b o : List ℕ) → onto b (onto a o) ≡ onto (a ++ b) o
 unfolding onto
 onto-both [] b o = refl
 onto-both (n ∷ a) b o = onto-both a b (n ∷ o)
+
+-- what is made of an answer has what everything made so has
+pub built : {A B : Type 0} (P : B → Type 0) (o : Option A) (w : A → B) → ((a : A) → P (w a)) → (b : B) → then o (λ a. some (w a)) ≡ some b → P b
+unfolding then
+built P none w h b e = absurd (let z : _≡_ {A = ℕ} 0 1 = cc in omega arith)
+built P (some a) w h b e = let f : w a ≡ b = cc in subst P f (h a)
 
 module _ (ds : List Struct) (names : List Id) where
   -- of a thing that may mean nothing, and may be too much: `final` of what it means is where the pass goes on
@@ -48,20 +55,15 @@ module _ (ds : List Struct) (names : List Id) where
   never none n z = fails z
   never (some a) n z = refuses (n a refl) z
 
-  not-so : (t : Bool) → (t ≡ true → ⊥) → t ≡ false
-  not-so true n = absurd (n refl)
-  not-so false n = refl
-
   -- one thing and another behind it
   pub followed : {A B : Type 0} {ok : A → Bool} {ok' : B → Bool} {final : A → TypeName → Pass} {last : B → TypeName → Pass} {o : Option A} {g : A → Option B}
-      (p : Pass) (first second : List Role → List Role) → ((a : A) (b : B) → g a ≡ some b → ok' b ≡ true → ok a ≡ true)
+      (p : Pass) (first second : List Role → List Role) → ((a : A) → ok a ≡ false → (b : B) → g a ≡ some b → ok' b ≡ false)
       → Outcome ok final o (λ k. passes ds names (first k) p)
       → ((a : A) (t : TypeName) → ok a ≡ true → Outcome ok' last (g a) (λ k. passes ds names (second k) (final a t)))
       → Outcome ok' last (then o g) (λ k. passes ds names (first (second k)) p)
   unfolding then
   followed p first second n (fails z) h = fails (λ k. z (second k))
-  followed {g = g} p first second n (refuses {a = a} y z) h =
-      never (g a) (λ b e. not-so _ (λ q. false≢true (sym y ∙ n a b e q))) (λ k. z (second k))
+  followed {g = g} p first second n (refuses {a = a} y z) h = never (g a) (n a y) (λ k. z (second k))
   followed p first second n (goes {a = a} y t z) h = as-well (h a t y) (λ k. z (second k))
 
   -- a tree over what a part means
@@ -74,13 +76,13 @@ module _ (ds : List Struct) (names : List Id) where
   made-of w s (goes {a = a} y t z) e = goes (s a ∙ y) t (λ k. z k ∙ ap (passes ds names k) (e a t))
 
   -- what was too much means nothing
-  pub made-if : {A B : Type 0} {ok : A → Bool} {final : A → TypeName → Pass} {last : B → TypeName → Pass} {o : Option A} {f : List Role → Option Pass}
-      (w : A → B) → Outcome ok final o f → ((a : A) (t : TypeName) → final a t ≡ last (w a) t)
-      → Outcome (λ b. true) last (then o (λ a. provided (ok a) (some (w a)))) f
+  pub made-if : {A B : Type 0} {ok : A → Bool} {ok' : B → Bool} {final : A → TypeName → Pass} {last : B → TypeName → Pass} {o : Option A}
+      {f : List Role → Option Pass} (w : A → B) → ((a : A) → ok' (w a) ≡ true) → Outcome ok final o f → ((a : A) (t : TypeName) → final a t ≡ last (w a) t)
+      → Outcome ok' last (then o (λ a. provided (ok a) (some (w a)))) f
   unfolding then provided
-  made-if w (fails z) e = fails z
-  made-if w (refuses n z) e = rw n (fails z)
-  made-if w (goes {a = a} y t z) e = rw y (goes refl t (λ k. z k ∙ ap (passes ds names k) (e a t)))
+  made-if w s (fails z) e = fails z
+  made-if w s (refuses n z) e = rw n (fails z)
+  made-if w s (goes {a = a} y t z) e = rw y (goes (s a) t (λ k. z k ∙ ap (passes ds names k) (e a t)))
 
   -- a role that leads from every state to another
   pub past : {A : Type 0} {ok : A → Bool} {final last : A → TypeName → Pass} {o : Option A} {f : List Role → Option Pass} (r : Role)

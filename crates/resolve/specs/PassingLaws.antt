@@ -2,7 +2,7 @@
 use Prim.Native.Nat.{ℕ, zero, suc, _+_}
 use native.Mathlib.Omega.{arith}
 use mathlib.Core.Path.{_≡_, refl, sym, ap, _∙_}
-use mathlib.Core.Bool.{Bool, true, false}
+use mathlib.Core.Bool.{Bool, true, false, true≢false}
 use mathlib.Core.List.{List, [], _∷_, _++_}
 use mathlib.Core.Option.{Option, none, some}
 use lib.ListN.{length}
@@ -67,7 +67,7 @@ module _ (ds : List Struct) (names : List Id) where
   binary-told : (p : Pass) (o : Op) (a b : Exp) → Told p a → ((q : Pass) → Told q b) → Told p (binary o a b)
   unfolding roles-exp exp-meaning passes pass pass-token then expr-numbers told-to
   binary-told p o a b r h =
-      followed ds names p (roles-exp a) (λ k. plain (op o) ∷ roles-exp b k) (λ c d e y. refl) r
+      followed ds names p (roles-exp a) (λ k. plain (op o) ∷ roles-exp b k) (λ c y. absurd (true≢false y)) r
       (λ c t y. made-of ds names (op-of o c) (λ d. refl) (h (told p (expr-numbers c) t)) (λ d u. told-both p (p .dues) (p .dues) (expr-numbers c) (expr-numbers d) t u))
 
   this-told : (p : Pass) → Told p this
@@ -208,7 +208,7 @@ module _ (ds : List Struct) (names : List Id) where
       (λ k. passes ds names (roles-exp e (roles-exp-list es (part args-close ∷ k))) (opens q (w ∷ l)))
   unfolding exp-meaning exprs-numbers args told-to opens
   more-told q w l e es h hs =
-      followed ds names (opens q (w ∷ l)) (roles-exp e) (λ k. roles-exp-list es (part args-close ∷ k)) (λ a b f y. refl) (h (opens q (w ∷ l)))
+      followed ds names (opens q (w ∷ l)) (roles-exp e) (λ k. roles-exp-list es (part args-close ∷ k)) (λ a y. absurd (true≢false y)) (h (opens q (w ∷ l)))
       (λ c t y. made-of ds names (more c) (λ cs. refl) (hs (told-to q l (expr-numbers c) t)) (λ cs u. told-both q l l (expr-numbers c) (exprs-numbers cs) t u))
 
   listed-more : (q : Pass) (w : ℕ) (l : List ℕ) (e : Exp) (es : Exps) → ((r : Pass) → Told r e) → ((r : Pass) (v : ℕ) → Listed r v l es)
@@ -223,30 +223,30 @@ module _ (ds : List Struct) (names : List Id) where
   closed-more q w l e es h hs = more-told q w l e es h (λ r. hs r w)
 
   -- a struct is made, by an expression or a statement: n says which
-  pub make-told : {B : Type 0} {last : B → TypeName → Pass} (p : Pass) (n : Naming) (x : Id) (es : Exps) (tree : ℕ → Exprs → B)
-      → pass ds names (naming n x) p ≡ makes ds names x p → ((q : Pass) (w : ℕ) (l : List ℕ) → Closed q w l es)
+  pub make-told : {B : Type 0} {ok : B → Bool} {last : B → TypeName → Pass} (p : Pass) (n : Naming) (x : Id) (es : Exps) (tree : ℕ → Exprs → B)
+      → ((k : ℕ) (cs : Exprs) → ok (tree k cs) ≡ true) → pass ds names (naming n x) p ≡ makes ds names x p → ((q : Pass) (w : ℕ) (l : List ℕ) → Closed q w l es)
       → ((k : ℕ) (cs : Exprs) (t : TypeName) → told p (k ∷ exprs-numbers cs) t ≡ last (tree k cs) t)
-      → Outcome ds names (λ b. true) last
+      → Outcome ds names ok last
       (then (find struct-id x ds) (λ f. then (exps-meaning ds (p .own) (p .alive) es) (λ cs.
       provided (eqb (args cs) (length (pars-of (f .element)))) (some (tree (f .at) cs)))))
       (λ k. passes ds names (naming n x ∷ part args-open ∷ roles-exps es (close-of es ∷ k)) p)
   unfolding passes pass pass-part makes then leaves opens told-to onto
-  make-told {last = last} p n x es tree s h e =
+  make-told {ok = ok} {last = last} p n x es tree y s h e =
       as-well ds names (go (find struct-id x ds) refl) (λ k. ap (λ o. then o (passes ds names (part args-open ∷ roles-exps es (close-of es ∷ k)))) s)
     where
       go : (o : Option (Place Struct)) → find struct-id x ds ≡ o
-          → Outcome ds names (λ b. true) last
+          → Outcome ds names ok last
           (then (find struct-id x ds) (λ f. then (exps-meaning ds (p .own) (p .alive) es) (λ cs.
           provided (eqb (args cs) (length (pars-of (f .element)))) (some (tree (f .at) cs)))))
           (λ k. then (makes ds names x p) (passes ds names (part args-open ∷ roles-exps es (close-of es ∷ k))))
       go none f = rw f (fails (λ k. refl))
       go (some b) f =
           rw f
-          (made-if ds names (tree (b .at)) (h (leaves p (p .type) (b .at)) (length (pars-of (b .element))) (p .dues)) (λ cs t. e (b .at) cs t))
+          (made-if ds names (tree (b .at)) (y (b .at)) (h (leaves p (p .type) (b .at)) (length (pars-of (b .element))) (p .dues)) (λ cs t. e (b .at) cs t))
 
   constructor-told : (p : Pass) (x : Id) (es : Exps) → ((q : Pass) (w : ℕ) (l : List ℕ) → Closed q w l es) → Told p (constructor x es)
   unfolding roles-exp exp-meaning expr-numbers pass pass-name
-  constructor-told p x es h = make-told p made x es make refl h (λ k cs t. refl)
+  constructor-told p x es h = make-told p made x es make (λ k cs. refl) refl h (λ k cs t. refl)
 
   variable-told : (p : Pass) (v : Var) → Told p (variable v)
   unfolding roles-exp exp-meaning expr-numbers pass pass-name
