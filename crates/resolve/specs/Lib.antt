@@ -12,3 +12,5 @@ pub mod Outcomes
 pub mod PassingLaws
 pub mod PassingStatLaws
 pub mod PassingTextLaws
+pub mod Uses
+pub mod UsesLaws

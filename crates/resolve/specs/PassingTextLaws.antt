@@ -91,11 +91,11 @@ module _ (ds : List Struct) (names : List Id) where
       (λ k. pars-past ps (part pars-close ∷ part steps-open ∷ roles-steps ts (part steps-close ∷ k)) (idle ls ps t o))
 
   -- the parameters of the last struct
-  unfoldable own-behind : Defs → List Par
+  unfoldable pub own-behind : Defs → List Par
   own-behind (last-struct d) = pars-of d
   own-behind (defs d ds) = own-behind ds
 
-  defs-told : (d : Defs) (own : List Par) (t : TypeName) (o : List ℕ)
+  pub defs-told : (d : Defs) (own : List Par) (t : TypeName) (o : List ℕ)
       → Outcome ds names (all few-steps) (λ us w. idle [] (own-behind d) w (onto (flat steps-numbers us) o)) (each (steps-meaning ds names) (structs-of d))
       (λ k. passes ds names (roles-defs d k) (idle (structs-of d) own t o))
   unfolding roles-defs structs-of own-behind each flat all onto then
@@ -161,6 +161,6 @@ module _ (ds : List Struct) (names : List Id) where
     item-told (typed-execution x y) q = typed-told q x y
     item-told (fixpoint s) q = fix-told q s (sched-told s q)
 
-    sched-told : (s : Sched) (q : Pass) → Scheduled q s
+    pub sched-told : (s : Sched) (q : Pass) → Scheduled q s
     sched-told (last-item i) q = last-told q i (item-told i q)
     sched-told (barrier i s) q = barrier-told q i s (item-told i q) (λ r. sched-told s r)
