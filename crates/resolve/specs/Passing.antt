@@ -2,7 +2,6 @@
 -- used, each type behind a declaration or null, each step and each local, the last one first; or nothing where one of them stands for nothing, a literal is
 -- outside its type, arguments are other than one for each parameter, or a step has more locals than there are numbers for (17).
 use Prim.Native.Nat.{ℕ, zero, suc, _+_}
-use mathlib.Core.Bool.{Bool, true, false}
 use mathlib.Core.List.{List, [], _∷_, _++_, map}
 use mathlib.Core.Option.{Option, none, some}
 use lib.ListN.{length}

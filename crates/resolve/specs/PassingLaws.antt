@@ -1,5 +1,5 @@
 -- The pass over the roles of an expression goes on behind it with the numbers of what the expression means, and finds nothing where it means nothing.
-use Prim.Native.Nat.{ℕ, zero, suc, _+_}
+use Prim.Native.Nat.{ℕ, zero, suc}
 use native.Mathlib.Omega.{arith}
 use mathlib.Core.Path.{_≡_, refl, sym, ap, _∙_}
 use mathlib.Core.Bool.{Bool, true, false, true≢false}
@@ -11,7 +11,7 @@ use borrow.Author.Tests.{eq-eqb, ne-eqb, eqb-true, eqb-false}
 use Rattle.types.specs.Limits.{nat-end}
 use Rattle.types.specs.Types.{Ty}
 use Rattle.types.specs.Values.{in-int, int-word}
-use Rattle.program.specs.Tree.{Op, Expr, Expr.inv, Expr.make, Expr.path as path-of, Expr.int-lit, Expr.nat-lit, Expr.bool-lit, Expr.null as null-of, Expr.self, Expr.op as op-of, Exprs, Exprs.none as no-args, Exprs.more, args}
+use Rattle.program.specs.Tree.{Op, Expr, Expr.inv, Expr.make, Expr.path as path-of, Expr.int-lit, Expr.nat-lit, Expr.op as op-of, Exprs, Exprs.none as no-args, Exprs.more, args}
 use Rattle.program.specs.Encoding.{var-code}
 use Rattle.tokens.specs.Tokens.{Sign.dot as dot-sign, Token.op, Token.sign}
 use Rattle.syntax.specs.Syntax.{Id, TypeName, Par, Struct, Literal, Literal.int-literal, Literal.nat-literal, Literal.bool-literal, Var, Var.id as one-id, Var.dot, Exp, Exp.binary, Exp.brackets, Exp.negation, Exp.constructor, Exp.variable, Exp.literal, Exp.null, Exp.this, Exps, Exps.no-exps, Exps.exps}
@@ -20,7 +20,7 @@ use Rattle.meaning.specs.Scope.{par-id, par-type, pars-of, struct-id}
 use Rattle.meaning.specs.Values.{decimal, signed}
 use Rattle.meaning.specs.Finding.{Place, find}
 use Rattle.meaning.specs.Meant.{then, provided, literal-meaning, type-meaning, referred, further, Start, start, Path-of, path-meaning, exp-meaning, exps-meaning}
-use Rattle.derive.specs.Roles.{Naming, Naming.first-read, Naming.made, Part.brackets-close, Part.args-open, Part.args-close, Part.no-args-close, Part.arg-comma, Role, Role.plain, Role.naming, Role.part, roles-later, roles-var, close-of, roles-exp, roles-exps, roles-exp-list}
+use Rattle.derive.specs.Roles.{Naming, Naming.first-read, Naming.made, Part.brackets-close, Part.args-open, Part.args-close, Part.no-args-close, Role, Role.plain, Role.naming, Role.part, roles-later, roles-var, close-of, roles-exp, roles-exps, roles-exp-list}
 use Rattle.resolve.specs.Passing.{Pass, leaves, opens, goes-on, closes, makes, starts, pass, passes, pass-part, pass-name, pass-token, pass-type}
 use Rattle.resolve.specs.Numbers.{expr-numbers, exprs-numbers}
 use Rattle.resolve.specs.Outcomes.{onto, onto-both, Outcome, Outcome.fails, Outcome.refuses, Outcome.goes, as-well, by-test, never, followed, made-of, made-if, past}
@@ -68,7 +68,8 @@ module _ (ds : List Struct) (names : List Id) where
   unfolding roles-exp exp-meaning passes pass pass-token then expr-numbers told-to
   binary-told p o a b r h =
       followed ds names p (roles-exp a) (λ k. plain (op o) ∷ roles-exp b k) (λ c y. absurd (true≢false y)) r
-      (λ c t y. made-of ds names (op-of o c) (λ d. refl) (h (told p (expr-numbers c) t)) (λ d u. told-both p (p .dues) (p .dues) (expr-numbers c) (expr-numbers d) t u))
+      (λ c t y. made-of ds names (op-of o c) (λ d. refl) (h (told p (expr-numbers c) t))
+      (λ d u. told-both p (p .dues) (p .dues) (expr-numbers c) (expr-numbers d) t u))
 
   this-told : (p : Pass) → Told p this
   unfolding roles-exp exp-meaning passes pass pass-token then expr-numbers told-to onto
@@ -86,7 +87,8 @@ module _ (ds : List Struct) (names : List Id) where
 
   -- one that leaves no number, if it is of its type
   literal-of : (p : Pass) (t : Bool) (c : Expr) → expr-numbers c ≡ []
-      → Outcome ds names (λ d. true) (λ d u. told p (expr-numbers d) u) (provided t (some c)) (λ k. then (then (provided t (some c)) (λ d. some p)) (passes ds names k))
+      → Outcome ds names (λ d. true) (λ d u. told p (expr-numbers d) u) (provided t (some c))
+      (λ k. then (then (provided t (some c)) (λ d. some p)) (passes ds names k))
   unfolding provided then told-to onto
   literal-of p true c e = goes refl (p .type) (λ k. ap (λ ns. passes ds names k (told p ns (p .type))) (sym e))
   literal-of p false c e = fails (λ k. refl)
@@ -214,7 +216,8 @@ module _ (ds : List Struct) (names : List Id) where
   listed-more : (q : Pass) (w : ℕ) (l : List ℕ) (e : Exp) (es : Exps) → ((r : Pass) → Told r e) → ((r : Pass) (v : ℕ) → Listed r v l es)
       → Listed q w l (exps e es)
   unfolding roles-exp-list passes pass pass-part goes-on then opens
-  listed-more q zero l e es h hs = never ds names (exps-meaning ds (q .own) (q .alive) (exps e es)) (λ cs f. ne-eqb (suc (args cs)) 0 (λ z. omega arith)) (λ k. refl)
+  listed-more q zero l e es h hs =
+      never ds names (exps-meaning ds (q .own) (q .alive) (exps e es)) (λ cs f. ne-eqb (suc (args cs)) 0 (λ z. omega arith)) (λ k. refl)
   listed-more q (suc w) l e es h hs = by-test ds names (λ cs. eqb-suc (args cs) w) (more-told q w l e es h (λ r. hs r w))
 
   closed-more : (q : Pass) (w : ℕ) (l : List ℕ) (e : Exp) (es : Exps) → ((r : Pass) → Told r e) → ((r : Pass) (v : ℕ) → Listed r v l es)

@@ -1,25 +1,25 @@
 -- The pass over the roles of statements goes on behind them with their numbers, with the locals that are alive there and the names that are declared; it finds
 -- nothing where they mean nothing, or declare more locals than there are numbers for.
 use Prim.Native.Nat.{ℕ, _+_}
-use mathlib.Core.Path.{_≡_, refl, sym, ap, _∙_}
-use mathlib.Core.Bool.{Bool, true, false, _&&_, true≢false}
+use mathlib.Core.Path.{_≡_, refl, ap}
+use mathlib.Core.Bool.{Bool, true, false, true≢false}
 use mathlib.Core.List.{List, [], _∷_, _++_, map}
 use mathlib.Core.Option.{Option, none, some}
 use lib.ListN.{length}
 use lib.Dec.{ltb}
 use Rattle.types.specs.Limits.{first-local, max-locals}
 use Rattle.types.specs.Types.{Ty, code}
-use Rattle.program.specs.Tree.{Expr, Exprs, Stmt, Stmt.when, Stmt.declare, Stmt.update as update-of, Stmt.create, Stmts, Stmts.end, Stmts.next}
+use Rattle.program.specs.Tree.{Expr, Stmt, Stmt.when, Stmt.declare, Stmt.update as update-of, Stmt.create, Stmts, Stmts.next}
 use Rattle.program.specs.Encoding.{var-code}
 use Rattle.tokens.specs.Tokens.{Word.w-then, Sign.semicolon, Sign.assign, Token.word, Token.sign}
 use Rattle.syntax.specs.Syntax.{Id, TypeName, Struct, Var, Exp, Exps, Stat, Stat.if-then, Stat.assignment, Stat.update, Stat.construct, Stats, Stats.no-stats, Stats.stats}
 use Rattle.meaning.specs.Scope.{par-id, Local, Local.declared}
 use Rattle.meaning.specs.Finding.{absent}
 use Rattle.meaning.specs.Meant.{then, provided, type-meaning, Behind, exp-meaning, stat-meaning, stats-meaning}
-use Rattle.derive.specs.Roles.{Naming.first-written, Naming.made-statement, Part.then-open, Part.then-close, Role, Role.plain, Role.part, roles-var, roles-exp, roles-stat, roles-stats}
-use Rattle.resolve.specs.Passing.{Pass, leaves, lives, dies, starts, declares, pass, passes, pass-part, pass-name, pass-token, pass-type}
+use Rattle.derive.specs.Roles.{Naming.first-written, Naming.made-statement, Part.then-open, Part.then-close, Role.plain, Role.part, roles-var, roles-exp, roles-stat, roles-stats}
+use Rattle.resolve.specs.Passing.{Pass, leaves, lives, dies, declares, pass, passes, pass-part, pass-name, pass-token, pass-type}
 use Rattle.resolve.specs.Numbers.{expr-numbers, stmt-numbers, stmts-numbers, few-stmt, few-stmts}
-use Rattle.resolve.specs.Outcomes.{onto, onto-both, built, Outcome, Outcome.fails, Outcome.refuses, Outcome.goes, never, followed, made-of, past}
+use Rattle.resolve.specs.Outcomes.{onto, onto-both, built, Outcome, Outcome.fails, Outcome.goes, never, followed, made-of, past}
 use Rattle.resolve.specs.PassingLaws.{told-to, told, told-both, var-told, make-told, exp-told, closed-told}
 
 -- between statements: other locals are alive, other names are declared, and numbers are told
@@ -62,7 +62,8 @@ module _ (ds : List Struct) (names : List Id) where
 
   abbrev pub Bodied : Pass → Stats → Type 0
   Bodied p b =
-      Outcome ds names (λ r. few-stmts (r .tree)) (at-body p) (stats-meaning ds (p .own) b (p .alive) (p .met)) (λ k. passes ds names (roles-stats b k) (calm p))
+      Outcome ds names (λ r. few-stmts (r .tree)) (at-body p) (stats-meaning ds (p .own) b (p .alive) (p .met))
+      (λ k. passes ds names (roles-stats b k) (calm p))
 
   construct-told : (p : Pass) (x : Id) (es : Exps) → Stated p (construct x es)
   unfolding roles-stat stat-meaning stmt-numbers few-stmt pass pass-name pass-token lives lived told-to onto
@@ -74,7 +75,8 @@ module _ (ds : List Struct) (names : List Id) where
   update-told : (p : Pass) (v : Var) (e : Exp) → Stated p (update v e)
   unfolding roles-stat stat-meaning stmt-numbers few-stmt passes pass pass-name pass-token then lives lived told-to onto
   update-told p v e =
-      followed ds names (calm p) (roles-var first-written v) (λ k. plain (sign assign) ∷ roles-exp e (plain (sign semicolon) ∷ k)) (λ u y. absurd (true≢false y))
+      followed ds names (calm p) (roles-var first-written v) (λ k. plain (sign assign) ∷ roles-exp e (plain (sign semicolon) ∷ k))
+      (λ u y. absurd (true≢false y))
       (var-told ds names (calm p) first-written (λ x. refl) v)
       (λ u t y. past ds names {final = at-stat p} (plain (sign semicolon)) (λ r w. refl)
       (made-of ds names (λ c. record { tree = update-of (u .first) (u .rest) c; alive = p .alive; met = p .met }) (λ c. refl)

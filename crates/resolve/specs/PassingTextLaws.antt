@@ -2,19 +2,18 @@
 use Prim.Native.Nat.{ℕ}
 use mathlib.Core.Path.{_≡_, refl, sym, ap, _∙_}
 use mathlib.Core.Bool.{Bool, true, false, _&&_, true≢false}
-use mathlib.Core.List.{List, [], _∷_, _++_, map, append-nil}
+use mathlib.Core.List.{List, [], _∷_, append-nil}
 use mathlib.Core.Option.{Option, none, some}
-use Rattle.program.specs.Tree.{Stmts, Item as Call, Item.call, Item.call-in, Item.fix, Items, Items.stop, Items.item, Step as Named}
+use Rattle.program.specs.Tree.{Item as Call, Item.fix, Items, Items.stop, Items.item}
 use Rattle.program.specs.Encoding.{flat}
-use Rattle.tokens.specs.Tokens.{Sign.dot as dot-sign, Token.sign}
 use Rattle.syntax.specs.Syntax.{Id, TypeName, Par, Par.par, Step, Step.step, Struct, Struct.struct, Defs, Defs.last-struct, Defs.defs, Item, Item.execution, Item.typed-execution, Item.fixpoint, Sched, Sched.last-item, Sched.barrier}
 use Rattle.meaning.specs.Scope.{struct-id, pars-of, steps-of, structs-of}
 use Rattle.meaning.specs.Finding.{Place, find}
 use Rattle.meaning.specs.HoldsDecide.{all}
-use Rattle.meaning.specs.Meant.{then, each, Behind, stats-meaning, step-meaning, steps-meaning, item-meaning, sched-meaning}
-use Rattle.derive.specs.Roles.{Naming, Naming.called, Naming.called-step, Part.body-open, Part.body-close, Part.pars-close, Part.steps-open, Part.steps-close, Part.fix-close, Part.barrier-sign, Role, Role.plain, Role.naming, Role.part, roles-stats, roles-par, roles-par-list, roles-pars, roles-step, roles-steps, roles-struct, roles-defs, roles-item, roles-sched}
+use Rattle.meaning.specs.Meant.{then, each, step-meaning, steps-meaning, item-meaning, sched-meaning}
+use Rattle.derive.specs.Roles.{Part.body-close, Part.pars-close, Part.steps-open, Part.steps-close, Part.fix-close, Part.barrier-sign, Role, Role.part, roles-par, roles-par-list, roles-pars, roles-step, roles-steps, roles-struct, roles-defs, roles-item, roles-sched}
 use Rattle.resolve.specs.Passing.{Pass, leaves, lives, begins, numbered, pass, passes, pass-part, pass-name, pass-token, pass-type}
-use Rattle.resolve.specs.Numbers.{step-numbers, steps-numbers, item-numbers, items-numbers, few-step, few-steps, few-stmts}
+use Rattle.resolve.specs.Numbers.{step-numbers, steps-numbers, item-numbers, items-numbers, few-step, few-steps}
 use Rattle.resolve.specs.Outcomes.{onto, onto-both, built, Outcome, Outcome.fails, Outcome.goes, as-well, followed, made-of, past}
 use Rattle.resolve.specs.PassingLaws.{told-to, told, told-both}
 use Rattle.resolve.specs.PassingStatLaws.{lived, at-body, stats-told}
@@ -52,7 +51,8 @@ module _ (ds : List Struct) (names : List Id) where
         go (some f) e =
             rw e
             (made-of ds names (λ r. record { name = f .at; body = r .tree }) (λ r. refl)
-            (past ds names {final = at-body (leaves (idle ls own t o) t (f .at))} {last = λ r w. idle ls own w (onto (step-numbers (record { name = f .at; body = r .tree })) o)}
+            (past ds names {final = at-body (leaves (idle ls own t o) t (f .at))}
+            {last = λ r w. idle ls own w (onto (step-numbers (record { name = f .at; body = r .tree })) o)}
             (part body-close) (λ r w. refl) (stats-told ds names b (leaves (idle ls own t o) t (f .at)))) (λ r w. refl))
 
     steps-told : (ts : List Step) (t : TypeName) (o : List ℕ)

@@ -1,17 +1,17 @@
 -- The pass over uses leaves the numbers of what steps and schedule mean, and nothing where they mean nothing or declare too many locals; a derivation means a
 -- program where its structs, its parameters and its uses mean something.
-use Prim.Native.Nat.{ℕ, _<_}
-use mathlib.Core.Path.{_≡_, refl, sym, ap, _∙_}
-use mathlib.Core.Bool.{Bool, true, false, _&&_, false≢true, true≢false}
-use mathlib.Core.List.{List, [], _∷_, _++_, map}
+use Prim.Native.Nat.{ℕ}
+use mathlib.Core.Path.{_≡_, refl, ap}
+use mathlib.Core.Bool.{true, false}
+use mathlib.Core.List.{List, [], _∷_, map}
 use mathlib.Core.Option.{Option, none, some}
 use lib.ListN.{length}
 use borrow.Author.Tests.{lt-ltb}
 use Rattle.types.specs.Limits.{max-steps, max-locals}
 use Rattle.types.specs.Types.{Ty}
-use Rattle.program.specs.Tree.{Stmt, Stmt.when, Stmt.declare, Stmt.update, Stmt.create, Stmts, Stmts.end, Stmts.next, Items, Step, Program, size, args}
+use Rattle.program.specs.Tree.{Stmt, Stmt.when, Stmt.declare, Stmt.update, Stmt.create, Stmts, Stmts.end, Stmts.next, Items, Step, Program}
 use Rattle.program.specs.Encoding.{flat}
-use Rattle.syntax.specs.Syntax.{Id, TypeName, TypeName.int-type, Par, Struct, Defs, Sched, Program as Derivation, Program.program}
+use Rattle.syntax.specs.Syntax.{Id, TypeName, TypeName.int-type, Struct, Defs, Sched, Program.program}
 use Rattle.meaning.specs.Scope.{struct-id, structs-of}
 use Rattle.meaning.specs.StepNames.{step-names}
 use Rattle.meaning.specs.Finding.{distinct}
@@ -23,7 +23,7 @@ use Rattle.derive.specs.Roles.{roles, roles-defs, roles-sched}
 use Rattle.resolve.specs.Passing.{Pass, passes}
 use Rattle.resolve.specs.Numbers.{steps-numbers, items-numbers, few-stmt, few-stmts, few-step, few-steps}
 use Rattle.resolve.specs.Outcomes.{onto, onto-both, built, Outcome, Outcome.fails, Outcome.refuses, Outcome.goes, followed, made-of}
-use Rattle.resolve.specs.PassingLaws.{told-to, told}
+use Rattle.resolve.specs.PassingLaws.{told-to}
 use Rattle.resolve.specs.PassingTextLaws.{idle, own-behind, defs-told, sched-told}
 use Rattle.resolve.specs.Uses.{pass-start, used, Uses, uses-meaning, uses-numbers, few-uses}
 
@@ -32,7 +32,8 @@ module _ (ds : List Struct) (names : List Id) (d : Defs) (s : Sched) where
   finally : Uses → TypeName → Pass
   finally u t = idle [] (own-behind ds names d) t (onto (uses-numbers u) [])
 
-  text-told : Outcome ds names few-uses finally (uses-meaning ds names (structs-of d) s) (λ k. passes ds names (roles-defs d (roles-sched s k)) (pass-start (structs-of d)))
+  text-told : Outcome ds names few-uses finally (uses-meaning ds names (structs-of d) s)
+      (λ k. passes ds names (roles-defs d (roles-sched s k)) (pass-start (structs-of d)))
   unfolding uses-meaning uses-numbers then idle told-to finally
   text-told =
       followed ds names (idle (structs-of d) [] int-type []) (roles-defs d) (roles-sched s)
