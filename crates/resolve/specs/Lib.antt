@@ -14,3 +14,5 @@ pub mod PassingStatLaws
 pub mod PassingTextLaws
 pub mod Uses
 pub mod UsesLaws
+pub mod Standing
+pub mod StandingLaws
