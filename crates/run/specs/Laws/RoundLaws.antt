@@ -164,10 +164,12 @@ module _ (s : ℕ) (fs : List Bool) (b : Bool) where
       let c : labels-from 0 (take h fs) ≡ labels-from 0 (take s fs) =
       ap (λ (x : ℕ). labels-from 0 (take x fs)) a ∙ ap (labels-from 0) (take-add s k fs) ∙ labels-append 0 (take s fs) (take k (drop s fs))
       ∙ ap (λ (x : ℕ). labels-from 0 (take s fs) ++ labels-from x (take k (drop s fs))) u
-      ∙ ap (λ (r : List ℕ). labels-from 0 (take s fs) ++ r) (f .before) ∙ append-nil (labels-from 0 (take s fs)) in
-      (i, round-at fs h b i ∙ ap (λ (r : List ℕ). r ++ (labels-from 0 (take h fs) ++ kept b h)) (sym g)
-      ∙ ap (λ (r : List ℕ). t ++ (r ++ kept b h)) c
-      ∙ sym (append-assoc t (labels-from 0 (take s fs)) (kept b h)))
+      ∙ ap (λ (r : List ℕ). labels-from 0 (take s fs) ++ r) (f .before) ∙ append-nil (labels-from 0 (take s fs)) in (
+        i,
+        round-at fs h b i ∙ ap (λ (r : List ℕ). r ++ (labels-from 0 (take h fs) ++ kept b h)) (sym g)
+            ∙ ap (λ (r : List ℕ). t ++ (r ++ kept b h)) c
+            ∙ sym (append-assoc t (labels-from 0 (take s fs)) (kept b h)),
+      )
 
   -- nobody holds from s on, and the first stands before s
   past-highest : {h : ℕ} {t : List ℕ} → labels-from s (drop s fs) ≡ [] → labels-from 0 (take s fs) ≡ h ∷ t
@@ -185,9 +187,11 @@ module _ (s : ℕ) (fs : List Bool) (b : Bool) where
       let g : labels-from (suc h) (drop (suc h) fs) ≡ t =
       behind-split h j ∙ ap (λ (r : List ℕ). labels-from (suc h) (drop (suc h) (take s fs)) ++ r) o
       ∙ append-nil (labels-from (suc h) (drop (suc h) (take s fs)))
-      ∙ ap (λ (x : ℕ). labels-from (suc h) (drop (suc x) (take s fs))) (sym p) ∙ sym (f .behind) in
-      (i, round-at fs h b i ∙ ap (λ (r : List ℕ). r ++ (labels-from 0 (take h fs) ++ kept b h)) g
-      ∙ ap (λ (r : List ℕ). t ++ (r ++ kept b h)) c)
+      ∙ ap (λ (x : ℕ). labels-from (suc h) (drop (suc x) (take s fs))) (sym p) ∙ sym (f .behind) in (
+        i,
+        round-at fs h b i ∙ ap (λ (r : List ℕ). r ++ (labels-from 0 (take h fs) ++ kept b h)) g
+            ∙ ap (λ (r : List ℕ). t ++ (r ++ kept b h)) c,
+      )
     where
       behind-split : (h : ℕ) → h < s
           → labels-from (suc h) (drop (suc h) fs) ≡ labels-from (suc h) (drop (suc h) (take s fs)) ++ labels-from s (drop s fs)

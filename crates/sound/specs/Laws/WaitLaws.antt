@@ -46,9 +46,11 @@ holders-turned p m {m′} {h} {hs} e c =
     let fs = flags (m .instances) in
     let b = flag (f .actor) in
     let (within, turned) = round-behind (m .from) fs b e in
-    let long : suc h ≤ length (set fs h b) = rw (length-set fs h b) within in
-    (b, ap (λ (n : ℕ). round-from n (flags (m′ .instances))) (command-from p h m c) ∙ ap (round-from (suc h)) (f .others)
-    ∙ idle-more (suc h) (set fs h b) (f .more) (f .idle) long ∙ turned)
+    let long : suc h ≤ length (set fs h b) = rw (length-set fs h b) within in (
+      b,
+      ap (λ (n : ℕ). round-from n (flags (m′ .instances))) (command-from p h m c) ∙ ap (round-from (suc h)) (f .others)
+          ∙ idle-more (suc h) (set fs h b) (f .more) (f .idle) long ∙ turned,
+    )
 
 take-replicate : (n k : ℕ) → n ≤ k → take {A = ℕ} n (replicate k 0) ≡ replicate n 0
 take-replicate zero k h = refl
