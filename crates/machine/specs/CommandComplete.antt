@@ -23,7 +23,9 @@ use Rattle.operators.specs.TestLaws.{same-val-exact}
 use Rattle.machine.specs.Published.{Sched, Env, lookup, assign, fresh-env, Inst, Inst.inst, State, State.state, update-env, structs, arity}
 use Rattle.machine.specs.Rules.{LeavesStable, LeavesStable.no-parameter, LeavesStable.same-value, LeavesStable.other-value, meet, Actor.instance, Rule, Rule.ComPush, Rule.ComPushThis, Rule.ComRd, Rule.ComWr, Rule.ComWrNSkip, Rule.ComNot, Rule.ComOp, Rule.ComCons, Rule.ComIfT, Rule.ComIfF}
 use Rattle.machine.specs.Stops.{Full, Full.no-label, Exceeded, Exceeded.no-result, full, exceeded}
-use Rattle.machine.specs.Machine.{Tagged, tagged, Source, Source.variable, Source.local, Source.result, given-by, Instance, Machine, Out, Out.next, Out.refused, Out.stuck, with-code, with-written, acting, put, leaves-stable, read-from, read-at, read, write-to, write-parameter, write-at, write, negate, branch, operated, operate, made, construct, perform, command}
+use Rattle.machine.specs.Machine.{Tagged, tagged, Source, Source.variable, Source.local, Source.result, given-by, Instance, Machine, Out, Out.next}
+use Rattle.machine.specs.Machine.{Out.refused, Out.stuck, with-code, with-written, acting, put, leaves-stable, read-from, read-at, read, write-to}
+use Rattle.machine.specs.Machine.{write-parameter, write-at, write, negate, branch, operated, operate, made, construct, perform, command}
 use Rattle.machine.specs.Represents.{values, Represents-inst, Represents}
 use Rattle.machine.specs.RepresentsLaws.{instance-at, values-length, map-drop, map-take, top, represents-length, represents-set, represents-env, represents-append}
 use Rattle.machine.specs.PerformedLaws.{performs}

@@ -23,7 +23,8 @@ use Rattle.operators.specs.TestLaws.{same-val-exact}
 use Rattle.machine.specs.Published.{Sched, Env, lookup, assign, fresh-env, Inst, Inst.inst, State, State.state, update-env, arity}
 use Rattle.machine.specs.Rules.{LeavesStable, LeavesStable.no-parameter, LeavesStable.same-value, LeavesStable.other-value, meet, Actor.instance, Rule, Rule.ComPush, Rule.ComPushThis, Rule.ComRd, Rule.ComWr, Rule.ComWrNSkip, Rule.ComNot, Rule.ComOp, Rule.ComCons, Rule.ComIfT, Rule.ComIfF}
 use Rattle.machine.specs.Stops.{Full, Full.no-label, Exceeded, Exceeded.no-result, full, exceeded}
-use Rattle.machine.specs.Machine.{Tagged, tagged, given-by, Instance, Machine, Out, Out.next, Out.refused, Out.stuck, with-code, with-written, acting, put, leaves-stable, made, command}
+use Rattle.machine.specs.Machine.{Tagged, tagged, given-by, Instance, Machine, Out, Out.next, Out.refused, Out.stuck, with-code, with-written, acting}
+use Rattle.machine.specs.Machine.{put, leaves-stable, made, command}
 use Rattle.machine.specs.Represents.{values, Represents-inst, Represents}
 use Rattle.machine.specs.RepresentsLaws.{inst-at, values-length, map-drop, represents-length, represents-set, represents-env, represents-append}
 use Rattle.machine.specs.Performed.{Performed, Performed.pushed, Performed.pushed-this, Performed.negated, Performed.read-one, Performed.skipped, Performed.wrote, Performed.calculated, Performed.exceeding, Performed.constructed, Performed.filled, Performed.branched, Performed.no-way}

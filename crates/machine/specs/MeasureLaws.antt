@@ -13,7 +13,8 @@ use Rattle.commands.specs.Context.{context}
 use Rattle.commands.specs.Noted.{Note, erase, noted, now-written}
 use Rattle.commands.specs.Laws.NotedLaws.{erased}
 use Rattle.machine.specs.Published.{StepCall, called, Sched, Sched.done, Sched.start, Sched.fixpoint, Sched.active, before, Env, arity}
-use Rattle.machine.specs.Machine.{Tagged, tagged, Instance, Machine, Out, Out.next, Out.refused, Out.stuck, Moved, Moved.next, Moved.stuck, with-code, with-written, acting, update-env, made, command, given, started, repeat, move-by, move}
+use Rattle.machine.specs.Machine.{Tagged, tagged, Instance, Machine, Out, Out.next, Out.refused, Out.stuck, Moved, Moved.next, Moved.stuck, with-code}
+use Rattle.machine.specs.Machine.{with-written, acting, update-env, made, command, given, started, repeat, move-by, move}
 use Rattle.machine.specs.RepresentsLaws.{Still}
 use Rattle.machine.specs.Performed.{Performed, Performed.pushed, Performed.pushed-this, Performed.negated, Performed.read-one, Performed.skipped, Performed.wrote, Performed.calculated, Performed.exceeding, Performed.constructed, Performed.filled, Performed.branched, Performed.no-way}
 use Rattle.machine.specs.PerformedLaws.{by-ways}

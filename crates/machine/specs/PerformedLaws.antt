@@ -15,7 +15,9 @@ use Rattle.program.specs.Tree.{Op, Program}
 use Rattle.commands.specs.Noted.{Note, Note.n-push, Note.n-this, Note.n-not, Note.n-rd, Note.n-wr, Note.n-get, Note.n-set, Note.n-cons, Note.n-op, Note.n-if, now-written}
 use Rattle.operators.specs.Apply.{Answer, Answer.value, Answer.outside, Answer.unfit, apply}
 use Rattle.machine.specs.Published.{lookup, structs, arity}
-use Rattle.machine.specs.Machine.{Tagged, tagged, Source, Source.variable, Source.local, Source.result, Instance, Machine, Out, Out.stuck, with-written, acting, read-from, read-at, read, write-to, write-parameter, write-at, write, negate, branch, operated, operate, construct, perform, command-of, command-at, command}
+use Rattle.machine.specs.Machine.{Tagged, tagged, Source, Source.variable, Source.local, Source.result, Instance, Machine, Out, Out.stuck}
+use Rattle.machine.specs.Machine.{with-written, acting, read-from, read-at, read, write-to, write-parameter, write-at, write, negate, branch}
+use Rattle.machine.specs.Machine.{operated, operate, construct, perform, command-of, command-at, command}
 use Rattle.machine.specs.Performed.{Reads, Reads.parameter, Reads.of-local, Writes, Writes.to-parameter, Writes.to-local, Performed, Performed.pushed, Performed.pushed-this, Performed.negated, Performed.read-one, Performed.skipped, Performed.wrote, Performed.calculated, Performed.exceeding, Performed.constructed, Performed.filled, Performed.branched, Performed.no-way}
 
 module _ (p : Program) (m : Machine) (l : ℕ) (i : Instance) (r : List Note) where

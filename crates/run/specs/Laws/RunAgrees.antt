@@ -16,7 +16,8 @@ use Rattle.machine.specs.MoveAgrees.{move-follows, move-complete}
 use Rattle.machine.specs.FromLaws.{command-from, move-from}
 use Rattle.run.specs.Turns.{chosen}
 use Rattle.run.specs.Holders.{holders, due}
-use Rattle.run.specs.Runs.{Due, Config, Config.config, picked, StandsFor, Halts, Halts.at-end, Halts.at-33, Halts.at-34, Halts.at-35, Step, Step.moves, Step.takes, Runs}
+use Rattle.run.specs.Runs.{Due, Config, Config.config, picked, StandsFor, Halts, Halts.at-end, Halts.at-33, Halts.at-34, Halts.at-35, Step}
+use Rattle.run.specs.Runs.{Step.moves, Step.takes, Runs}
 use Rattle.run.specs.Run.{Outcome, Outcome.stopped, Outcome.jammed, run}
 use Rattle.run.specs.Laws.Settles.{Rests, Rests.ends, Rests.lasts, Rests.fails}
 use Rattle.run.specs.Steps.{Steps}

@@ -22,7 +22,8 @@ use Rattle.operators.specs.Apply.{Answer, Answer.value, Answer.outside, Answer.
 use Rattle.operators.specs.Ranges.{Fits as Answers}
 use Rattle.operators.specs.RangesLaws.{apply-fits}
 use Rattle.machine.specs.Published.{StepCall, structs, arity}
-use Rattle.machine.specs.Machine.{Tagged, tagged, Source.variable, Source.local, Source.result, given-by, Instance, Machine, with-written, put, acting as turning, write-to, operated, perform, command-of, command-at, command}
+use Rattle.machine.specs.Machine.{Tagged, tagged, Source.variable, Source.local, Source.result, given-by, Instance, Machine, with-written, put}
+use Rattle.machine.specs.Machine.{acting as turning, write-to, operated, perform, command-of, command-at, command}
 use Rattle.machine.specs.Stops.{full, exceeded}
 use Rattle.run.specs.Begin.{resting}
 use Rattle.commands.specs.Tags.{Tags, Top, Asks, stack-after, next as leads, at-start, Way, Way.on, Way.over, result-type}
