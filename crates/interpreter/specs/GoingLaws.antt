@@ -97,7 +97,8 @@ module _ {counts list items spans : List ℕ} {z : State} (g : Begun counts list
       go (turned {m′ = m′} r′ u v) = record {
         begun = record { program = g .program; machine = m′; ready = r′ };
         recorded =
-            records-behind (g .ready) r′ l (ap (λ (x : ℕ). command (g .program) x (g .machine)) (q ∙ picks (g .machine) (g .ready .stands) (g .ready .counting) e) ∙ u)
+            records-behind (g .ready) r′ l
+            (ap (λ (x : ℕ). command (g .program) x (g .machine)) (q ∙ picks (g .machine) (g .ready .stands) (g .ready .counting) e) ∙ u)
             (begun-fits .chosen) f;
       }
       go (failed k d v) = absurd (number-some d (sym (ap (λ (x : State). x .machine .number) k) ∙ c))

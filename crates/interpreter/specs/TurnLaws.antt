@@ -130,7 +130,8 @@ module _ {p : Program} {counts list items spans : List ℕ} {m : Machine} {z : S
       pub picked-fits : Fit list counts (picked (z .heads) (z .machine .from) (z .machine .count) e) z
       picked-fits =
           let (i, n, c, a, d) = chosen-holds m e (some-hold b) in
-          rw (picks m (r .stands) (r .counting) e) (fits (r .prepared .firm) (r .prepared .bounded) (r .good) list (At items) z (r .stands) (chosen (holders m) e) i a c n d)
+          rw (picks m (r .stands) (r .counting) e)
+          (fits (r .prepared .firm) (r .prepared .bounded) (r .good) list (At items) z (r .stands) (chosen (holders m) e) i a c n d)
 
       -- as many hold commands behind it, or one fewer
       counted : {m′ : Machine} {y : State} → Stands list (At items) m′ y → command p (chosen (holders m) e) m ≡ next m′

@@ -221,7 +221,8 @@ module _ (p : Program) (m : Machine) (l : ℕ) (s : Sched) (σ : List Inst) (b :
   -- what holds of performing the next command of instance l holds of the command
   taken : (P : Out → Type 0) {k : ℕ} {c : Coms} {χ : List Val} {ξ : Env} {f : Flat} {fs : List Flat}
       → getElem? σ l ≡ some (inst k c χ ξ) → flatten c ≡ f ∷ fs
-      → ((i : Instance) (n : Note) (r : List Note) → i .struct ≡ k → map erase r ≡ fs → values (i .stack) ≡ χ → i .env ≡ ξ → Means f n → P (perform p (acting l m) l i n r))
+      → ((i : Instance) (n : Note) (r : List Note) → i .struct ≡ k → map erase r ≡ fs → values (i .stack) ≡ χ → i .env ≡ ξ → Means f n
+      → P (perform p (acting l m) l i n r))
       → P (command p l m)
   taken P g e h =
       let (i, f, (a, c, x, y)) = instance-at (m .instances) σ l (R .1) g in
@@ -230,7 +231,8 @@ module _ (p : Program) (m : Machine) (l : ℕ) (s : Sched) (σ : List Inst) (b :
 
   leads : (st : State) {k : ℕ} {c : Coms} {χ : List Val} {ξ : Env} {f : Flat} {fs : List Flat}
       → getElem? σ l ≡ some (inst k c χ ξ) → flatten c ≡ f ∷ fs
-      → ((i : Instance) (n : Note) (r : List Note) → i .struct ≡ k → map erase r ≡ fs → values (i .stack) ≡ χ → i .env ≡ ξ → Means f n → Leads st (perform p (acting l m) l i n r))
+      → ((i : Instance) (n : Note) (r : List Note) → i .struct ≡ k → map erase r ≡ fs → values (i .stack) ≡ χ → i .env ≡ ξ → Means f n
+      → Leads st (perform p (acting l m) l i n r))
       → Leads st (command p l m)
   leads st = taken (Leads st)
 
@@ -240,11 +242,14 @@ module _ (p : Program) (m : Machine) (l : ℕ) (s : Sched) (σ : List Inst) (b :
   rule-leads (ComPush {c = c} g e) = rw e (leads _ g refl (λ i n r ek ec ex eξ h. push-leads p (acting l m) l s σ b R i r c ek ec eξ ex h))
   rule-leads (ComPushThis {c = c} g e) = rw e (leads _ g refl (λ i n r ek ec ex eξ h. this-leads p (acting l m) l s σ b R i r c ek ec eξ ex h))
   rule-leads (ComRd {v = v} {c = c} g f y e) = rw e (leads _ g refl (λ i n r ek ec ex eξ h. rd-leads p (acting l m) l s σ b R i r c ek ec eξ v ex f y h))
-  rule-leads (ComWr {v = v} {c = c} g f w u e e′) = rw (e, e′) (leads _ g refl (λ i n r ek ec ex eξ h. wr-leads p (acting l m) l s σ b R i r c ek ec eξ v ex f w u h))
-  rule-leads (ComWrNSkip {v = v} {c = c} g f a d e) = rw e (leads _ g refl (λ i n r ek ec ex eξ h. skip-leads p (acting l m) l s σ b R i r c ek ec eξ v ex f a d h))
+  rule-leads (ComWr {v = v} {c = c} g f w u e e′) =
+      rw (e, e′) (leads _ g refl (λ i n r ek ec ex eξ h. wr-leads p (acting l m) l s σ b R i r c ek ec eξ v ex f w u h))
+  rule-leads (ComWrNSkip {v = v} {c = c} g f a d e) =
+      rw e (leads _ g refl (λ i n r ek ec ex eξ h. skip-leads p (acting l m) l s σ b R i r c ek ec eξ v ex f a d h))
   rule-leads (ComNot {c = c} g e) = rw e (leads _ g refl (λ i n r ek ec ex eξ h. not-leads p (acting l m) l s σ b R i r c ek ec eξ ex h))
   rule-leads (ComOp {c = c} g a e) = rw e (leads _ g refl (λ i n r ek ec ex eξ h. op-leads p (acting l m) l s σ b R i r c ek ec eξ ex a h))
-  rule-leads (ComCons {c = c} xs χ g a f t e e′) = rw (e, e′) (leads _ g refl (λ i n r ek ec ex eξ h. cons-leads p (acting l m) l s σ b R i r c ek ec eξ xs χ (ex ∙ f) a t h))
+  rule-leads (ComCons {c = c} xs χ g a f t e e′) =
+      rw (e, e′) (leads _ g refl (λ i n r ek ec ex eξ h. cons-leads p (acting l m) l s σ b R i r c ek ec eξ xs χ (ex ∙ f) a t h))
   rule-leads (ComIfT {c = c} {d = d} g e) = rw e (leads _ g refl (λ i n r ek ec ex eξ h. branch-leads p (acting l m) l s σ b R i r d c true ek ec ex eξ h))
   rule-leads (ComIfF {c = c} {d = d} g e) = rw e (leads _ g refl (λ i n r ek ec ex eξ h. branch-leads p (acting l m) l s σ b R i r d c false ek ec ex eξ h))
 
@@ -256,4 +261,5 @@ module _ (p : Program) (m : Machine) (l : ℕ) (s : Sched) (σ : List Inst) (b :
   -- a zero divisor, or a result outside its type, is refused with 35
   pub exceeded-refused : Exceeded l (state s σ b) → command p l m ≡ refused exceeded
   unfolding flatten
-  exceeded-refused (no-result {c = c} g a) = taken (λ o. o ≡ refused exceeded) g refl (λ i n r ek ec ex eξ h. exceeded-is p (acting l m) l s σ b R i r c ek ec eξ ex a h)
+  exceeded-refused (no-result {c = c} g a) =
+      taken (λ o. o ≡ refused exceeded) g refl (λ i n r ek ec ex eξ h. exceeded-is p (acting l m) l s σ b R i r c ek ec eξ ex a h)

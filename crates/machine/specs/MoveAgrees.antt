@@ -58,7 +58,8 @@ module _ (p : Program) where
   leads-by : {s : Sched} (is : List Instance) {σ : List Inst} {b : List Bool} (q : ℕ) {st : State} → Represents-all is σ → Rule p schedule (state s σ b) st
       → (m′ : Machine) × (move-by p s is b q ≡ next m′) × (Represents m′ st)
   unfolding move-by repeat
-  leads-by is {σ} {b} q R (InitG {s = s} {n = n} d e) = (machine s (map (begin p (global n)) is) b q, refl, rw e (refl, starts-represent (global n) is σ R, refl))
+  leads-by is {σ} {b} q R (InitG {s = s} {n = n} d e) =
+      (machine s (map (begin p (global n)) is) b q, refl, rw e (refl, starts-represent (global n) is σ R, refl))
   leads-by is {σ} {b} q R (InitL {s = s} {k = k} {n = n} d e) =
       (machine s (map (begin p (local k n)) is) b q, refl, rw e (refl, starts-represent (local k n) is σ R, refl))
   leads-by is q R (FixInit {f = f} {s = s} {b = b} d e) = (machine (before f (active f s)) is (true ∷ b) q, refl, rw e (refl, R, refl))

@@ -58,7 +58,8 @@ module _ (counts : List ℕ) (l : ℕ) (z : State) where
   pub act-fixes : (list : List ℕ) → act list counts l z .machine .fixes ≡ z .machine .fixes
   unfolding act
   act-fixes list =
-      ap (λ (y : State). y .machine .fixes) (turned-only l _) ∙ perform-same (next-word list z l % 256) (next-word list z l) (operand (next-word list z l)) .fixes
+      ap (λ (y : State). y .machine .fixes) (turned-only l _)
+      ∙ perform-same (next-word list z l % 256) (next-word list z l) (operand (next-word list z l)) .fixes
 
 -- no more than there may be
 record Few (y : State) : Type 0 where

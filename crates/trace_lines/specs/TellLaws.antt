@@ -80,7 +80,8 @@ module _ {p : Program} {counts list items spans : List ℕ} {m : Machine} {z : S
   module _ {y : State} (a : y ≡ act list counts actor z) where
     by-turn : Turned p counts list items spans m e z y
     by-turn =
-        subst (λ (x : State). Turned p counts list items spans m e z x) (ap (λ (l : ℕ). act list counts l z) (picks m (r .stands) (r .counting) e) ∙ sym a) (turned-by r b e)
+        subst (λ (x : State). Turned p counts list items spans m e z x)
+        (ap (λ (l : ℕ). act list counts l z) (picks m (r .stands) (r .counting) e) ∙ sym a) (turned-by r b e)
 
     module _ (n t : ℕ) where
       -- a refused act has no line

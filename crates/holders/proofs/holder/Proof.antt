@@ -145,7 +145,15 @@ module _ {M : Type 1} (𝓤 : URA M) (H : Heap 𝓤) (A : Atoms 𝓤) (W : Given
   Nearer-wf = InvImage·wf (λ (i : Upto). n - i .passed) (Nat·lt-wfRel .wf)
 
   abbrev begun : Upto
-  begun = record { passed = 0; l = s; k = r; within = omega arith; fits = gs; fewer = omega arith; finds = let z : n ≡ n - 0 = omega arith in ap (λ (m : ℕ). search ys n m s r) z }
+  begun = record {
+    passed = 0;
+    l = s;
+    k = r;
+    within = omega arith;
+    fits = gs;
+    fewer = omega arith;
+    finds = let z : n ≡ n - 0 = omega arith in ap (λ (m : ℕ). search ys n m s r) z;
+  }
 
   -- one record of label x is looked at, where l is x or wraps to it
   module _ (i : Upto) (less : i .passed < n) (x : ℕ) (is : x ≡ wrapped n (i .l)) (low : x < n) where

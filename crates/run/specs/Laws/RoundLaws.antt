@@ -69,15 +69,21 @@ module _ (s : ℕ) (fs : List Bool) where
   unfolding round-from
   round-length =
       rw labels-two
-      (omega (arith, length-append (labels-from 0 (take s fs)) (labels-from s (drop s fs)), length-append (labels-from s (drop s fs)) (labels-from 0 (take s fs))))
+      (omega (
+        arith,
+        length-append (labels-from 0 (take s fs)) (labels-from s (drop s fs)),
+        length-append (labels-from s (drop s fs)) (labels-from 0 (take s fs)),
+      ))
 
   -- each has a place in label order,
-  pub round-place : (i : ℕ) → i < length (round-from s fs) → (j : ℕ) × (j < length (labels-from 0 fs)) × (getD (round-from s fs) i 0 ≡ getD (labels-from 0 fs) j 0)
+  pub round-place : (i : ℕ) → i < length (round-from s fs)
+      → (j : ℕ) × (j < length (labels-from 0 fs)) × (getD (round-from s fs) i 0 ≡ getD (labels-from 0 fs) j 0)
   unfolding round-from
   round-place i h = rw labels-two (swapped (labels-from s (drop s fs)) (labels-from 0 (take s fs)) i h)
 
   -- and each in label order one here
-  pub place-round : (j : ℕ) → j < length (labels-from 0 fs) → (i : ℕ) × (i < length (round-from s fs)) × (getD (labels-from 0 fs) j 0 ≡ getD (round-from s fs) i 0)
+  pub place-round : (j : ℕ) → j < length (labels-from 0 fs)
+      → (i : ℕ) × (i < length (round-from s fs)) × (getD (labels-from 0 fs) j 0 ≡ getD (round-from s fs) i 0)
   unfolding round-from
   place-round j h = rw labels-two (swapped (labels-from 0 (take s fs)) (labels-from s (drop s fs)) j (rw labels-two at h))
 

@@ -1,5 +1,5 @@
--- 01's own rows, those marked * (01, 'Bench rows'), as 02 counts turns ('Turns that go round'): each a program image, a table image and turn bytes, with the verdict, the report and
--- the bytes that the entries come to. One table, one proposition (`RowRight`), one proof.
+-- 01's own rows, those marked * (01, 'Bench rows'), as 02 counts turns ('Turns that go round'): each a program image, a table image and turn bytes,
+-- with the verdict, the report and the bytes that the entries come to. One table, one proposition (`RowRight`), one proof.
 use Prim.Native.Nat.{ℕ}
 use mathlib.Core.Path.{_≡_, refl}
 use mathlib.Core.List.{List, [], _∷_, _++_, map}
