@@ -39,11 +39,11 @@ left (leaves e) = e
 
 -- numbers of two things in a row; bytes of two things
 module _ {k : List Role} {z : Writing} {l : ℕ} {f : Bool} where
-  pub first-then : (a b : List ℕ) {s w n : List ℕ} → Leaves k z (writing s w (onto (a ++ b) n) l f) → Leaves k z (writing s w (onto b (onto a n)) l f)
-  first-then a b {n = n} h = rw (onto-both a b n) h
+  pub first-then : (a b n : List ℕ) {s w : List ℕ} → Leaves k z (writing s w (onto (a ++ b) n) l f) → Leaves k z (writing s w (onto b (onto a n)) l f)
+  first-then a b n h = rw (onto-both a b n) h
 
-  pub as-one : (a b : List ℕ) {s w n : List ℕ} → Leaves k z (writing (a ++ (b ++ s)) w n l f) → Leaves k z (writing ((a ++ b) ++ s) w n l f)
-  as-one a b {s = s} h = rw (append-assoc a b s) h
+  pub as-one : (a b s : List ℕ) {w n : List ℕ} → Leaves k z (writing (a ++ (b ++ s)) w n l f) → Leaves k z (writing ((a ++ b) ++ s) w n l f)
+  as-one a b s h = rw (append-assoc a b s) h
 
 -- Variables --------------------------------------------------------------------------------------
 
@@ -56,11 +56,11 @@ module _ {ds : List Struct} where
 
   -- a path up to its first variable
   pub path-left : {own : List Par} {alive : List Local} {v : Var} {u : Variable} {vs : List ℕ} → PathMeans ds own alive v u vs → (r : Naming)
-      → {k : List Role} {z : Writing} {s w n : List ℕ} {f : Bool} → Leaves k z (writing s w (onto (var-code u ∷ vs) n) 0 f)
+      → (n : List ℕ) {k : List Role} {z : Writing} {s w : List ℕ} {f : Bool} → Leaves k z (writing s w (onto (var-code u ∷ vs) n) 0 f)
       → written (roles-var r v k) z ≡ put (naming-code r) 0 (writing (vs ++ s) w (var-code u ∷ n) (length vs) f)
   unfolding roles-var onto written
-  path-left (alone p) r h = ap (put (naming-code r) 0) (left h)
-  path-left (path-behind p q t) r h = ap (λ x. put (naming-code r) 0 (put 21 0 x)) (left (later-left t h))
+  path-left (alone p) r n h = ap (put (naming-code r) 0) (left h)
+  path-left (path-behind p q t) r n h = ap (λ x. put (naming-code r) 0 (put 21 0 x)) (left (later-left t h))
 
 -- what e yields is written as the bytes of c
 pub record LeavesExp (e : Exp) (c : Expr) : Type 0 where
@@ -79,7 +79,7 @@ pub record LeavesExps (es : Exps) (cs : Exprs) : Type 0 where
 var-left : {ds : List Struct} {own : List Par} {alive : List Local} {v : Var} {u : Variable} {vs : List ℕ} → PathMeans ds own alive v u vs
     → LeavesExp (variable v) (path-of u vs)
 unfolding roles-exp expr-numbers enc-expr enc-path checks-expr written
-var-left p = record { there = λ h. leaves (path-left p first-read h) }
+var-left p = record { there = λ {n = n} h. leaves (path-left p first-read n h) }
 
 literal-left : {l : Literal} {c : Expr} → LiteralMeans l c → LeavesExp (literal l) c
 unfolding roles-exp literal-token expr-numbers onto enc-expr checks-expr written
@@ -154,10 +154,10 @@ binary-left o {a} {b} {c} {d} p q =
       inside = λ {k} {z} {s} {w} {n} {f} h.
       let closed : List Role = roles-exp b (part brackets-close ∷ k) in
       let g : Leaves (part brackets-close ∷ k) z (writing s (0 ∷ w) (onto (expr-numbers d) (onto (expr-numbers c) n)) 0 f) =
-      leaves (ap (put 64 0) (left (first-then (expr-numbers c) (expr-numbers d) h))) in
+      leaves (ap (put 64 0) (left (first-then (expr-numbers c) (expr-numbers d) n h))) in
       let i : Leaves (plain (op o) ∷ closed) z (writing (enc-expr d ++ s) (op-code o ∷ w) (onto (expr-numbers c) n) 0 (checks-expr d f)) =
       leaves (operator-left o (written closed z) ∙ ap (operated (op-code o)) (left (q .there g))) in
-      as-one (op-code o ∷ enc-expr c) (enc-expr d)
+      as-one (op-code o ∷ enc-expr c) (enc-expr d) s
       (leaves (ap (put 63 0) (left (p .there i)) ∙ pours (enc-expr c ++ (enc-expr d ++ s)) w n (checks-expr c (checks-expr d f)) o));
     }
 
@@ -167,7 +167,7 @@ brackets-left q = record { there = λ h. q .inside h }
 -- Arguments ---------------------------------------------------------------------------------------
 
 -- what ends arguments, and the comma before all but the first, leave nothing
-close-left : (es : Exps) (k : List Role) (z : Writing) → written (close-of es ∷ k) z ≡ written k z
+pub close-left : (es : Exps) (k : List Role) (z : Writing) → written (close-of es ∷ k) z ≡ written k z
 unfolding close-of written
 close-left no-exps k z = refl
 close-left (exps e es) k z = refl
@@ -187,8 +187,8 @@ args-some {c = c} {es = es} {cs = cs} p q =
     record {
       all = λ {k} {z} {s} {w} {n} {f} h.
       let g : Leaves (roles-exp-list es k) z (writing (enc-exprs cs ++ s) w (onto (expr-numbers c) n) 0 (checks-exprs cs f)) =
-      leaves (list-left es k z ∙ left (q .all (first-then (expr-numbers c) (exprs-numbers cs) h))) in
-      as-one (enc-expr c) (enc-exprs cs) (p .there g);
+      leaves (list-left es k z ∙ left (q .all (first-then (expr-numbers c) (exprs-numbers cs) n h))) in
+      as-one (enc-expr c) (enc-exprs cs) s (p .there g);
     }
 
 constructor-left : (x : Id) (j : ℕ) {es : Exps} {cs : Exprs} → LeavesExps es cs → LeavesExp (constructor x es) (make j cs)

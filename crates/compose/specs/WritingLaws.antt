@@ -42,11 +42,11 @@ if-left {e} {d} {b} {t} p q =
     record {
       there = λ {k} {z} {s} {w} {n} {c} {f} h.
       let g : Leaves (part then-close ∷ k) z (writing s (0 ∷ c ∷ w) (onto (stmts-numbers t) (onto (expr-numbers d) n)) 0 f) =
-      leaves (ap (put 77 0) (left (first-then (expr-numbers d) (stmts-numbers t) h))) in
+      leaves (ap (put 77 0) (left (first-then (expr-numbers d) (stmts-numbers t) n h))) in
       let i : Leaves (plain (word w-then) ∷ part then-open ∷ roles-stats b (part then-close ∷ k)) z
       (writing (size t ∷ (enc-stmts t ++ s)) (c ∷ w) (onto (expr-numbers d) n) 0 (checks-stmts t f)) =
       leaves (ap (λ x. put 3 0 (put 76 0 x)) (left (q .all g))) in
-      as-one (1 ∷ enc-expr d) (size t ∷ enc-stmts t) (leaves (ap (put 2 0) (left (p .there i))));
+      as-one (1 ∷ enc-expr d) (size t ∷ enc-stmts t) s (leaves (ap (put 2 0) (left (p .there i))));
     }
 
 -- the value of an assignment or an update, behind its sign
@@ -70,8 +70,8 @@ update-left : {ds : List Struct} {own : List Par} {alive : List Local} {v : Var}
 unfolding roles-stat stmt-numbers enc-stmt enc-path checks-stmt written
 update-left {u = u} {vs = vs} q {e} {d} p =
     record {
-      there = λ h. as-one (3 ∷ enc-path u vs) (enc-expr d)
-      (leaves (path-left q first-written (value-left p (first-then (var-code u ∷ vs) (expr-numbers d) h))));
+      there = λ {s = s} {n = n} h. as-one (3 ∷ enc-path u vs) (enc-expr d) s
+      (leaves (path-left q first-written n (value-left p (first-then (var-code u ∷ vs) (expr-numbers d) n h))));
     }
 
 construct-left : (x : Id) (j : ℕ) {es : Exps} {cs : Exprs} → LeavesExps es cs → LeavesStat (construct x es) (create j cs)
@@ -91,7 +91,7 @@ stats-end = record { all = λ h. h }
 stats-go-on : {t : Stat} {u : Stmt} {b : Stats} {c : Stmts} → LeavesStat t u → LeavesStats b c → LeavesStats (stats t b) (next u c)
 unfolding roles-stats stmts-numbers enc-stmts checks-stmts size
 stats-go-on {u = u} {c = c} p q =
-    record { all = λ h. as-one (enc-stmt u) (enc-stmts c) (p .there (q .all (first-then (stmt-numbers u) (stmts-numbers c) h))) }
+    record { all = λ {s = s} {n = n} h. as-one (enc-stmt u) (enc-stmts c) s (p .there (q .all (first-then (stmt-numbers u) (stmts-numbers c) n h))) }
 
 module _ {ds : List Struct} {own : List Par} where
   mutual
@@ -142,9 +142,9 @@ module _ {ds : List Struct} {names : List Id} {own : List Par} where
       → Leaves (roles-steps ss k) z (writing (flat enc-step us ++ s) (length us ∷ w) n 0 (checks-steps us f))
   unfolding FitsSteps roles-steps flat step-numbers enc-step checks-steps onto
   steps-left [] f no-more h = h
-  steps-left (step x b ∷ ss) f (and-then {b = u} {m = us} (step-means p q) r) h =
-      as-one (enc-step u) (flat enc-step us)
-      (step-left (stats-left b (f .0) q) (u .name) (steps-left ss (f .1) r (first-then (step-numbers u) (steps-numbers us) h)))
+  steps-left (step x b ∷ ss) f (and-then {b = u} {m = us} (step-means p q) r) {s = s} {n = n} h =
+      as-one (enc-step u) (flat enc-step us) s
+      (step-left (stats-left b (f .0) q) (u .name) (steps-left ss (f .1) r (first-then (step-numbers u) (steps-numbers us) n h)))
 
   struct-left : (d : Struct) → FitsStruct d → {us : List Named} → StepsMean ds names d us
       → {k : List Role} {z : Writing} {s w n : List ℕ} {c : ℕ} {f : Bool} → Leaves k z (writing s (c ∷ w) (onto (steps-numbers us) n) 0 f)
