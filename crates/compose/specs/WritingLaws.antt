@@ -2,23 +2,23 @@
 use Prim.Native.Nat.{ℕ, suc, _+_}
 use mathlib.Core.Path.{_≡_, refl, sym, ap, _∙_}
 use mathlib.Core.Bool.{Bool, true, false, _&&_}
-use mathlib.Core.List.{List, [], _∷_, _++_, append-assoc}
+use mathlib.Core.List.{List, [], _∷_, _++_, append-nil, append-assoc}
 use lib.ListN.{length}
 use lib.Dec.{leb, ltb}
 use Rattle.types.specs.Limits.{first-local, max-statements, max-steps}
 use Rattle.types.specs.Types.{Ty, code as type-code}
 use Rattle.program.specs.Tree.{Var as Variable, Expr, Exprs, Stmt, Stmt.when, Stmt.declare, Stmt.update as update-of, Stmt.create, Stmts, Stmts.end, Stmts.next, size}
-use Rattle.program.specs.Tree.{Item as Call, Item.call, Item.call-in, Item.fix, Items, Items.stop, Items.item, Step as Named, items}
+use Rattle.program.specs.Tree.{Item as Call, Item.call, Item.call-in, Item.fix, Items, Items.stop, Items.item, Step as Named, Program, items}
 use Rattle.program.specs.Encoding.{var-code, flat, enc-list, enc-path, enc-expr, enc-exprs, enc-stmt, enc-stmts, enc-step, enc-item, enc-items}
 use Rattle.tokens.specs.Tokens.{Sign.semicolon, Sign.assign, Word.w-then, Token.word, Token.sign}
 use Rattle.syntax.specs.Syntax.{Id, TypeName, TypeName.int-type, TypeName.nat-type, TypeName.bool-type, TypeName.id-type, Var}
 use Rattle.syntax.specs.Syntax.{Exp, Exps, Stat, Stat.if-then, Stat.assignment, Stat.update, Stat.construct, Stats, Stats.no-stats, Stats.stats}
 use Rattle.syntax.specs.Syntax.{Par, Par.par, Step, Step.step, Struct, Struct.struct, Defs, Defs.last-struct, Defs.defs, Item, Item.execution, Item.typed-execution, Item.fixpoint, Sched, Sched.last-item, Sched.barrier, Program as Derivation, Program.program}
 use Rattle.syntax.specs.Bracketing.{FitsStat, FitsStats, FitsSteps, FitsStruct, FitsDefs, FitsProgram}
-use Rattle.meaning.specs.Scope.{Local, Each, Each.no-more, Each.and-then}
+use Rattle.meaning.specs.Scope.{steps-of, structs-of, Local, Each, Each.no-more, Each.and-then}
 use Rattle.meaning.specs.Means.{PathMeans, StatMeans, StatMeans.if-means, StatMeans.assignment-means, StatMeans.update-means, StatMeans.construct-means, StatsMean, StatsMean.no-stats-mean, StatsMean.stats-mean}
-use Rattle.meaning.specs.Means.{StepMeans, StepMeans.step-means, StepsMean, StepsMean.steps-mean, ItemMeans, ItemMeans.execution-means, ItemMeans.typed-means, ItemMeans.fix-means, SchedMeans, SchedMeans.last-means, SchedMeans.barrier-means}
-use Rattle.derive.specs.Roles.{Naming.first-written, Part.then-open, Part.then-close, Part.body-close, Part.steps-close, Part.fix-close, Part.barrier-sign, Role, Role.plain, Role.part, close-of, roles-var, roles-exp, roles-exps, roles-stat, roles-stats, roles-par, roles-par-list, roles-pars, roles-step, roles-steps, roles-struct, roles-defs, roles-item, roles-sched, roles}
+use Rattle.meaning.specs.Means.{StepMeans, StepMeans.step-means, StepsMean, StepsMean.steps-mean, ItemMeans, ItemMeans.execution-means, ItemMeans.typed-means, ItemMeans.fix-means, SchedMeans, SchedMeans.last-means, SchedMeans.barrier-means, Means, Means.means}
+use Rattle.derive.specs.Roles.{Naming.first-written, Part.then-open, Part.then-close, Part.body-close, Part.pars-close, Part.steps-open, Part.steps-close, Part.fix-close, Part.barrier-sign, Role, Role.plain, Role.part, close-of, roles-var, roles-exp, roles-exps, roles-stat, roles-stats, roles-par, roles-par-list, roles-pars, roles-step, roles-steps, roles-struct, roles-defs, roles-item, roles-sched, roles}
 use Rattle.resolve.specs.Numbers.{expr-numbers, exprs-numbers, stmt-numbers, stmts-numbers, step-numbers, steps-numbers, item-numbers, items-numbers}
 use Rattle.resolve.specs.Outcomes.{onto}
 use Rattle.compose.specs.Writing.{Writing, Writing.writing, max-later, put, start}
@@ -128,25 +128,132 @@ unfolding roles-pars
 pars-left [] k z = refl
 pars-left (q ∷ ps) k z = par-left q (roles-par-list ps k) z ∙ par-list-left ps k z
 
-module _ {ds : List Struct} {names : List Id} {own : List Par} where
-  step-left : {x : Id} {b : Stats} {t : Stmts} → LeavesStats b t → (m : ℕ) {k : List Role} {z : Writing} {s w n : List ℕ} {c : ℕ} {f : Bool}
-      → Leaves k z (writing s (c ∷ w) (onto (m ∷ stmts-numbers t) n) 0 f)
-      → Leaves (roles-step (step x b) k) z (writing (m ∷ size t ∷ (enc-stmts t ++ s)) (suc c ∷ w) n 0 (checks-stmts t f && ltb c max-steps))
-  unfolding roles-step onto written
-  step-left {x} {b} {t} q m {k} {z} {s} {w} {n} {c} {f} h =
-      let g : Leaves (part body-close ∷ k) z (writing s (0 ∷ c ∷ w) (onto (stmts-numbers t) (m ∷ n)) 0 f) = leaves (ap (put 75 0) (left h)) in
-      leaves (ap (λ y. put 41 0 (put 74 0 y)) (left (q .all g)))
+step-left : (x : Id) {b : Stats} {t : Stmts} → LeavesStats b t → (m : ℕ) {k : List Role} {z : Writing} {s w n : List ℕ} {c : ℕ} {f : Bool}
+    → Leaves k z (writing s (c ∷ w) (onto (m ∷ stmts-numbers t) n) 0 f)
+    → Leaves (roles-step (step x b) k) z (writing (m ∷ size t ∷ (enc-stmts t ++ s)) (suc c ∷ w) n 0 (checks-stmts t f && ltb c max-steps))
+unfolding roles-step onto written
+step-left x {b} {t} q m {k} {z} {s} {w} {n} {c} {f} h =
+    let g : Leaves (part body-close ∷ k) z (writing s (0 ∷ c ∷ w) (onto (stmts-numbers t) (m ∷ n)) 0 f) = leaves (ap (put 75 0) (left h)) in
+    leaves (ap (λ y. put 41 0 (put 74 0 y)) (left (q .all g)))
 
-  steps-left : (ss : List Step) → FitsSteps ss → {us : List Named} → Each (StepMeans ds names own) ss us
+-- the bytes s, but that the first of them still waits
+pub record LeavesRow (k : List Role) (z : Writing) (s n : List ℕ) (f : Bool) : Type 0 where
+  pub count : ℕ
+  pub bytes : List ℕ
+  pub all : Leaves k z (writing bytes (count ∷ []) n 0 f)
+  pub are : count ∷ bytes ≡ s
+
+module _ {ds : List Struct} {names : List Id} where
+  steps-left : {own : List Par} (ss : List Step) → FitsSteps ss → {us : List Named} → Each (StepMeans ds names own) ss us
       → {k : List Role} {z : Writing} {s w n : List ℕ} {f : Bool} → Leaves k z (writing s (0 ∷ w) (onto (steps-numbers us) n) 0 f)
       → Leaves (roles-steps ss k) z (writing (flat enc-step us ++ s) (length us ∷ w) n 0 (checks-steps us f))
   unfolding FitsSteps roles-steps flat step-numbers enc-step checks-steps onto
   steps-left [] f no-more h = h
   steps-left (step x b ∷ ss) f (and-then {b = u} {m = us} (step-means p q) r) {s = s} {n = n} h =
       as-one (enc-step u) (flat enc-step us) s
-      (step-left (stats-left b (f .0) q) (u .name) (steps-left ss (f .1) r (first-then (step-numbers u) (steps-numbers us) n h)))
+      (step-left x (stats-left b (f .0) q) (u .name) (steps-left ss (f .1) r (first-then (step-numbers u) (steps-numbers us) n h)))
 
+  -- the count of what stands behind a struct, steps or items, is written before its steps
   struct-left : (d : Struct) → FitsStruct d → {us : List Named} → StepsMean ds names d us
       → {k : List Role} {z : Writing} {s w n : List ℕ} {c : ℕ} {f : Bool} → Leaves k z (writing s (c ∷ w) (onto (steps-numbers us) n) 0 f)
       → Leaves (roles-struct d k) z (writing (flat enc-step us ++ (c ∷ s)) (length us ∷ w) n 0 (checks-steps us f))
-  struct-left d f m h = ?
+  unfolding FitsStruct steps-of roles-struct written
+  struct-left (struct x ps ss) f {us} (steps-mean m) {k} {z} {s} {w} {n} {c} {f = g} h =
+      let i : Leaves (part steps-close ∷ k) z (writing (c ∷ s) (0 ∷ w) (onto (steps-numbers us) n) 0 g) = leaves (ap (put 73 0) (left h)) in
+      leaves (pars-left ps (part pars-close ∷ part steps-open ∷ roles-steps ss (part steps-close ∷ k)) z ∙ left (steps-left ss f m i))
+
+  -- the steps of structs in a row; the first one's count waits
+  defs-left : (d : Defs) → FitsDefs d → {uss : List (List Named)} → Each (StepsMean ds names) (structs-of d) uss
+      → {k : List Role} {z : Writing} (s n : List ℕ) (c : ℕ) {f : Bool} → Leaves k z (writing s (c ∷ []) (onto (flat steps-numbers uss) n) 0 f)
+      → LeavesRow (roles-defs d k) z (flat (enc-list enc-step) uss ++ (c ∷ s)) n (checks-structs uss f)
+  unfolding FitsDefs structs-of roles-defs flat checks-structs onto
+  defs-left (last-struct d) f (and-then {b = us} m no-more) s n c h =
+      record {
+        count = length us;
+        bytes = flat enc-step us ++ (c ∷ s);
+        all = struct-left d f m (first-then (steps-numbers us) [] n h);
+        are = sym (append-assoc (enc-list enc-step us) [] (c ∷ s));
+      }
+  defs-left (defs d e) f (and-then {b = us} {m = uss} m r) s n c h =
+      let rest = defs-left e (f .1) r s (onto (steps-numbers us) n) c (first-then (steps-numbers us) (flat steps-numbers uss) n h) in
+      record {
+        count = length us;
+        bytes = flat enc-step us ++ (rest .count ∷ rest .bytes);
+        all = struct-left d (f .0) m (rest .all);
+        are = ap (λ l. enc-list enc-step us ++ l) (rest .are) ∙ sym (append-assoc (enc-list enc-step us) (flat (enc-list enc-step) uss) (c ∷ s));
+      }
+
+-- The schedule ---------------------------------------------------------------------------------------
+
+record LeavesItem (i : Item) (u : Call) : Type 0 where
+  there : {k : List Role} {z : Writing} {s w n : List ℕ} {c : ℕ} {f : Bool} → Leaves k z (writing s (c ∷ w) (onto (item-numbers u) n) 0 f)
+      → Leaves (roles-item i k) z (writing (enc-item u ++ s) (suc c ∷ w) n 0 (checks-item u f && ltb c max-statements))
+
+record LeavesSched (t : Sched) (is : Items) : Type 0 where
+  all : {k : List Role} {z : Writing} {s w n : List ℕ} {f : Bool} → Leaves k z (writing s (0 ∷ w) (onto (items-numbers is) n) 0 f)
+      → Leaves (roles-sched t k) z (writing (enc-items is ++ s) (items is ∷ w) n 0 (checks-items is f))
+
+execution-left : (x : Id) (m : ℕ) → LeavesItem (execution x) (call m)
+unfolding roles-item item-numbers onto enc-item checks-item written
+execution-left x m = record { there = λ h. leaves (ap (put 48 0) (left h)) }
+
+typed-left : (x y : Id) (j m : ℕ) → LeavesItem (typed-execution x y) (call-in j m)
+unfolding roles-item item-numbers onto enc-item checks-item written
+typed-left x y j m = record { there = λ h. leaves (ap (λ u. put 49 0 (put 21 0 (put 50 0 u))) (left h)) }
+
+fix-left : {t : Sched} {is : Items} → LeavesSched t is → LeavesItem (fixpoint t) (fix is)
+unfolding roles-item item-numbers enc-item checks-item written
+fix-left {is = is} q =
+    record {
+      there = λ {k} {z} {s} {w} {n} {c} {f} h.
+      let g : Leaves (part fix-close ∷ k) z (writing s (0 ∷ c ∷ w) (onto (items-numbers is) n) 0 f) = leaves (ap (put 71 0) (left h)) in
+      leaves (ap (λ y. put 6 0 (put 70 0 y)) (left (q .all g)));
+    }
+
+last-left : {i : Item} {u : Call} → LeavesItem i u → LeavesSched (last-item i) (item u stop)
+unfolding roles-sched items-numbers onto enc-items items checks-items
+last-left {u = u} q = record { all = λ {s = s} {n = n} h. as-one (enc-item u) [] s (q .there (first-then (item-numbers u) [] n h)) }
+
+barrier-left : {i : Item} {u : Call} {t : Sched} {is : Items} → LeavesItem i u → LeavesSched t is → LeavesSched (barrier i t) (item u is)
+unfolding roles-sched items-numbers enc-items items checks-items written
+barrier-left {i} {u} {t} {is} q r =
+    record {
+      all = λ {k} {z} {s} {w} {n} {f} h.
+      let g : Leaves (part barrier-sign ∷ roles-sched t k) z (writing (enc-items is ++ s) (items is ∷ w) (onto (item-numbers u) n) 0 (checks-items is f)) =
+      leaves (ap (put 80 0) (left (r .all (first-then (item-numbers u) (items-numbers is) n h)))) in
+      as-one (enc-item u) (enc-items is) s (q .there g);
+    }
+
+module _ {ds : List Struct} {names : List Id} where
+  mutual
+    item-left : (i : Item) {u : Call} → ItemMeans ds names i u → LeavesItem i u
+    item-left (execution x) (execution-means {n = n} p) = execution-left x n
+    item-left (typed-execution x y) (typed-means {k = k} {n = n} p q) = typed-left x y k n
+    item-left (fixpoint t) (fix-means m) = fix-left (sched-left t m)
+
+    sched-left : (t : Sched) {is : Items} → SchedMeans ds names t is → LeavesSched t is
+    sched-left (last-item i) (last-means m) = last-left (item-left i m)
+    sched-left (barrier i t) (barrier-means m r) = barrier-left (item-left i m) (sched-left t r)
+
+-- The program ------------------------------------------------------------------------------------------
+
+-- the stream of a program behind its parameters' types, and what writing it asks
+unfoldable pub stream-behind : Program → List ℕ
+stream-behind p = flat (enc-list enc-step) (p .steps) ++ (items (p .schedule) ∷ enc-items (p .schedule))
+
+unfoldable pub checks : Program → Bool
+checks p = checks-structs (p .steps) (checks-items (p .schedule) true)
+
+unfoldable pub numbers-of : Program → List ℕ
+numbers-of p = flat steps-numbers (p .steps) ++ items-numbers (p .schedule)
+
+-- what is written of a derivation, from the numbers of what it means
+pub program-left : (c : Derivation) → FitsProgram c → {p : Program} → Means c p
+    → LeavesRow (roles c) (start (onto (numbers-of p) [])) (stream-behind p) [] (checks p)
+unfolding FitsProgram roles stream-behind checks numbers-of written
+program-left (program d t) f {p} (means {ts = ts} {is = is} x y m r) =
+    let z : Writing = start (onto (numbers-of p) []) in
+    let g : Leaves [] z (writing [] (0 ∷ []) (onto (items-numbers is) (onto (flat steps-numbers ts) [])) 0 true) =
+    first-then (flat steps-numbers ts) (items-numbers is) [] (leaves refl) in
+    let q = defs-left d f m (enc-items is ++ []) [] (items is) (sched-left t r .all g) in
+    record { count = q .count; bytes = q .bytes; all = q .all; are = q .are ∙ ap (λ l. flat (enc-list enc-step) ts ++ (items is ∷ l)) (append-nil (enc-items is)) }
