@@ -1,12 +1,17 @@
--- What writing asks of a program: at most so many statements in a body, items in a row, steps in a struct, variables in a path; in the order of writing.
+-- What is written of a program: its stream behind the parameters' types; from which numbers; and what writing asks, at most so many statements in a body,
+-- items in a row, steps in a struct, variables in a path, in the order of writing.
 use Prim.Native.Nat.{ℕ}
-use mathlib.Core.Bool.{Bool, _&&_}
-use mathlib.Core.List.{List, [], _∷_}
+use mathlib.Core.Bool.{Bool, true, _&&_}
+use mathlib.Core.List.{List, [], _∷_, _++_}
 use lib.ListN.{length}
 use lib.Dec.{leb, ltb}
 use Rattle.types.specs.Limits.{max-statements, max-steps}
-use Rattle.program.specs.Tree.{Expr, Expr.inv, Expr.make, Expr.path, Expr.int-lit, Expr.nat-lit, Expr.bool-lit, Expr.null, Expr.self, Expr.op, Exprs, Exprs.none, Exprs.more}
-use Rattle.program.specs.Tree.{Stmt, Stmt.when, Stmt.declare, Stmt.update, Stmt.create, Stmts, Stmts.end, Stmts.next, Item, Item.call, Item.call-in, Item.fix, Items, Items.stop, Items.item, Step, size, items}
+use Rattle.program.specs.Tree.{Expr, Expr.inv, Expr.make, Expr.path, Expr.int-lit, Expr.nat-lit, Expr.bool-lit, Expr.null, Expr.self, Expr.op, Exprs}
+use Rattle.program.specs.Tree.{Exprs.none, Exprs.more}
+use Rattle.program.specs.Tree.{Stmt, Stmt.when, Stmt.declare, Stmt.update, Stmt.create, Stmts, Stmts.end, Stmts.next, Item, Item.call, Item.call-in, Item.fix}
+use Rattle.program.specs.Tree.{Items, Items.stop, Items.item, Step, Program, size, items}
+use Rattle.program.specs.Encoding.{flat, enc-list, enc-step, enc-items}
+use Rattle.resolve.specs.Uses.{uses-numbers}
 use Rattle.compose.specs.Writing.{max-later}
 
 unfoldable mutual
@@ -58,3 +63,17 @@ unfoldable pub checks-structs : List (List Step) → Bool → Bool
 unfolding checks-steps
 checks-structs [] f = f
 checks-structs (l ∷ ls) f = checks-steps l (checks-structs ls f)
+
+-- Of a program -------------------------------------------------------------------------------------
+
+unfoldable pub checks : Program → Bool
+unfolding checks-structs checks-items
+checks p = checks-structs (p .steps) (checks-items (p .schedule) true)
+
+unfoldable pub stream-behind : Program → List ℕ
+stream-behind p = flat (enc-list enc-step) (p .steps) ++ (items (p .schedule) ∷ enc-items (p .schedule))
+
+-- the numbers of its names and types in the order of the text
+unfoldable pub numbers-of : Program → List ℕ
+unfolding uses-numbers
+numbers-of p = uses-numbers (record { steps = p .steps; schedule = p .schedule })

@@ -1,28 +1,36 @@
 -- What is written of expressions: the bytes of what they mean, in front of those that were there; by the derivation and its meaning.
-use Prim.Native.Nat.{ℕ, suc, _+_}
-use mathlib.Core.Path.{_≡_, refl, sym, ap, _∙_}
-use mathlib.Core.Bool.{Bool, true, false, _&&_}
-use mathlib.Core.List.{List, [], _∷_, _++_, append-assoc}
-use lib.ListN.{length, getD}
-use Rattle.types.specs.Types.{Ty, code as type-code}
-use Rattle.program.specs.Tree.{Op, Op.op-eq, Op.op-ne, Op.op-le, Op.op-ge, Op.op-lt, Op.op-gt, Op.op-mul, Op.op-div, Op.op-rem, Op.op-add, Op.op-sub, Op.op-and, Op.op-or}
-use Rattle.program.specs.Tree.{Var as Variable, Expr, Expr.inv, Expr.make, Expr.path as path-of, Expr.int-lit, Expr.nat-lit, Expr.bool-lit, Expr.null as null-of, Expr.self, Expr.op as op-of, Exprs, Exprs.none, Exprs.more as more-of}
-use Rattle.program.specs.Encoding.{op-code, var-code, enc-word, enc-path, enc-expr, enc-exprs}
+use Prim.Native.Nat.{ℕ, _+_}
+use mathlib.Core.Path.{_≡_, refl, ap, _∙_}
+use mathlib.Core.Bool.{Bool}
+use mathlib.Core.List.{List, _∷_, _++_, append-assoc}
+use lib.ListN.{length}
+use Rattle.types.specs.Types.{Ty}
+use Rattle.program.specs.Tree.{Op, Op.op-eq, Op.op-ne, Op.op-le, Op.op-ge, Op.op-lt, Op.op-gt, Op.op-mul, Op.op-div, Op.op-rem, Op.op-add, Op.op-sub, Op.op-and}
+use Rattle.program.specs.Tree.{Op.op-or}
+use Rattle.program.specs.Tree.{Var as Variable, Expr, Expr.inv, Expr.make, Expr.path as path-of}
+use Rattle.program.specs.Tree.{Expr.null as null-of, Expr.self, Expr.op as op-of, Exprs, Exprs.none, Exprs.more as more-of}
+use Rattle.program.specs.Encoding.{op-code, var-code, enc-path, enc-expr, enc-exprs}
 use Rattle.tokens.specs.Tokens.{Token.op}
 use Rattle.tokens.specs.TokenNumbers.{word-number, sign-number}
-use Rattle.syntax.specs.Syntax.{Id, TypeName, TypeName.int-type, TypeName.nat-type, TypeName.bool-type, TypeName.id-type, Literal, Literal.int-literal, Literal.nat-literal, Literal.bool-literal, Var, Var.id, Var.dot}
-use Rattle.syntax.specs.Syntax.{Exp, Exp.binary, Exp.brackets, Exp.negation, Exp.constructor, Exp.variable, Exp.literal, Exp.null, Exp.this, Exps, Exps.no-exps, Exps.exps, Par, Struct}
+use Rattle.syntax.specs.Syntax.{Id, TypeName, TypeName.int-type, TypeName.nat-type, TypeName.bool-type, TypeName.id-type, Literal}
+use Rattle.syntax.specs.Syntax.{Var}
+use Rattle.syntax.specs.Syntax.{Exp, Exp.binary, Exp.brackets, Exp.negation, Exp.constructor, Exp.variable, Exp.literal, Exp.null, Exp.this, Exps, Exps.no-exps}
+use Rattle.syntax.specs.Syntax.{Exps.exps, Par, Struct}
 use Rattle.syntax.specs.Yield.{literal-token}
 use Rattle.syntax.specs.Bracketing.{Spot.bracketed, Spot.bare, Fits, FitsExps}
 use Rattle.lexer.specs.Kinds.{word-kind, sign-kind, op-kind, kind}
 use Rattle.meaning.specs.Scope.{Local}
 use Rattle.meaning.specs.Means.{LiteralMeans, LiteralMeans.int-means, LiteralMeans.nat-means, LiteralMeans.true-means, LiteralMeans.false-means}
 use Rattle.meaning.specs.Means.{Further, Further.last, Further.goes-on, PathMeans, PathMeans.alone, PathMeans.behind as path-behind}
-use Rattle.meaning.specs.Means.{ExpMeans, ExpMeans.binary-means, ExpMeans.brackets-mean, ExpMeans.negation-means, ExpMeans.constructor-means, ExpMeans.variable-means, ExpMeans.literal-means, ExpMeans.null-means, ExpMeans.this-means, ExpsMean, ExpsMean.no-exps-mean, ExpsMean.exps-mean}
-use Rattle.derive.specs.Roles.{Naming, Naming.first-read, Part.brackets-close, Part.args-close, Role, Role.plain, Role.part, naming-code, typed-code, type-number, part-code, code, roles-later, roles-var, close-of, roles-exp, roles-exps, roles-exp-list}
+use Rattle.meaning.specs.Means.{ExpMeans, ExpMeans.binary-means, ExpMeans.brackets-mean, ExpMeans.negation-means, ExpMeans.constructor-means}
+use Rattle.meaning.specs.Means.{ExpMeans.variable-means, ExpMeans.literal-means, ExpMeans.null-means, ExpMeans.this-means, ExpsMean, ExpsMean.no-exps-mean}
+use Rattle.meaning.specs.Means.{ExpsMean.exps-mean}
+use Rattle.derive.specs.Roles.{Naming, Naming.first-read, Part.brackets-close, Role, Role.plain, Role.part, naming-code, typed-code}
+use Rattle.derive.specs.Roles.{type-number, part-code, code, roles-later, roles-var, close-of, roles-exp, roles-exps, roles-exp-list}
 use Rattle.resolve.specs.Numbers.{expr-numbers, exprs-numbers}
 use Rattle.resolve.specs.Outcomes.{onto, onto-both}
-use Rattle.compose.specs.Writing.{Writing, Writing.writing, wrote, numbered, lengthened, max-later, pathed, worded, more, opened, counted, poured, operated, behinds, stackings, behind-marks, forms, stack-marks, formed, put, token-value, value, writes}
+use Rattle.compose.specs.Writing.{Writing, Writing.writing}
+use Rattle.compose.specs.Writing.{operated, put, writes}
 use Rattle.compose.specs.Checks.{checks-expr, checks-exprs}
 
 -- `writes`, with all that it computes with
@@ -143,8 +151,8 @@ unfolding roles-exp written
 within {c = c} q =
     record {
       inside = λ {k} {z} {s} {w} {n} {f} h.
-      let g : Leaves (part brackets-close ∷ k) z (writing s (0 ∷ w) (onto (expr-numbers c) n) 0 f) = leaves (ap (put 64 0) (left h)) in
-      leaves (ap (put 63 0) (left (q .there g)));
+          let g : Leaves (part brackets-close ∷ k) z (writing s (0 ∷ w) (onto (expr-numbers c) n) 0 f) = leaves (ap (put 64 0) (left h)) in
+          leaves (ap (put 63 0) (left (q .there g)));
     }
 
 binary-left : (o : Op) {a b : Exp} {c d : Expr} → LeavesExp a c → LeavesExp b d → LeavesIn (binary o a b) (op-of o c d)
@@ -152,13 +160,13 @@ unfolding roles-exp expr-numbers enc-expr checks-expr written
 binary-left o {a} {b} {c} {d} p q =
     record {
       inside = λ {k} {z} {s} {w} {n} {f} h.
-      let closed : List Role = roles-exp b (part brackets-close ∷ k) in
-      let g : Leaves (part brackets-close ∷ k) z (writing s (0 ∷ w) (onto (expr-numbers d) (onto (expr-numbers c) n)) 0 f) =
-      leaves (ap (put 64 0) (left (first-then (expr-numbers c) (expr-numbers d) n h))) in
-      let i : Leaves (plain (op o) ∷ closed) z (writing (enc-expr d ++ s) (op-code o ∷ w) (onto (expr-numbers c) n) 0 (checks-expr d f)) =
-      leaves (operator-left o (written closed z) ∙ ap (operated (op-code o)) (left (q .there g))) in
-      as-one (op-code o ∷ enc-expr c) (enc-expr d) s
-      (leaves (ap (put 63 0) (left (p .there i)) ∙ pours (enc-expr c ++ (enc-expr d ++ s)) w n (checks-expr c (checks-expr d f)) o));
+          let closed : List Role = roles-exp b (part brackets-close ∷ k) in
+          let g : Leaves (part brackets-close ∷ k) z (writing s (0 ∷ w) (onto (expr-numbers d) (onto (expr-numbers c) n)) 0 f) =
+          leaves (ap (put 64 0) (left (first-then (expr-numbers c) (expr-numbers d) n h))) in
+          let i : Leaves (plain (op o) ∷ closed) z (writing (enc-expr d ++ s) (op-code o ∷ w) (onto (expr-numbers c) n) 0 (checks-expr d f)) =
+          leaves (operator-left o (written closed z) ∙ ap (operated (op-code o)) (left (q .there g))) in
+          as-one (op-code o ∷ enc-expr c) (enc-expr d) s
+          (leaves (ap (put 63 0) (left (p .there i)) ∙ pours (enc-expr c ++ (enc-expr d ++ s)) w n (checks-expr c (checks-expr d f)) o));
     }
 
 brackets-left : {e : Exp} {c : Expr} → LeavesIn e c → LeavesExp (brackets e) c
@@ -186,9 +194,9 @@ unfolding roles-exps exprs-numbers enc-exprs checks-exprs
 args-some {c = c} {es = es} {cs = cs} p q =
     record {
       all = λ {k} {z} {s} {w} {n} {f} h.
-      let g : Leaves (roles-exp-list es k) z (writing (enc-exprs cs ++ s) w (onto (expr-numbers c) n) 0 (checks-exprs cs f)) =
-      leaves (list-left es k z ∙ left (q .all (first-then (expr-numbers c) (exprs-numbers cs) n h))) in
-      as-one (enc-expr c) (enc-exprs cs) s (p .there g);
+          let g : Leaves (roles-exp-list es k) z (writing (enc-exprs cs ++ s) w (onto (expr-numbers c) n) 0 (checks-exprs cs f)) =
+          leaves (list-left es k z ∙ left (q .all (first-then (expr-numbers c) (exprs-numbers cs) n h))) in
+          as-one (enc-expr c) (enc-exprs cs) s (p .there g);
     }
 
 constructor-left : (x : Id) (j : ℕ) {es : Exps} {cs : Exprs} → LeavesExps es cs → LeavesExp (constructor x es) (make j cs)
@@ -196,8 +204,8 @@ unfolding roles-exp expr-numbers onto enc-expr checks-expr written
 constructor-left x j {es} {cs} q =
     record {
       there = λ {k} {z} {s} {w} {n} {f} h.
-      let g : Leaves (close-of es ∷ k) z (writing s w (onto (exprs-numbers cs) (j ∷ n)) 0 f) = leaves (close-left es k z ∙ left h) in
-      leaves (ap (λ y. put 46 0 (put 65 0 y)) (left (q .all g)));
+          let g : Leaves (close-of es ∷ k) z (writing s w (onto (exprs-numbers cs) (j ∷ n)) 0 f) = leaves (close-left es k z ∙ left h) in
+          leaves (ap (λ y. put 46 0 (put 65 0 y)) (left (q .all g)));
     }
 
 -- Every expression ---------------------------------------------------------------------------------

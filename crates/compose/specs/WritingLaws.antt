@@ -1,29 +1,38 @@
 -- What is written of a text's steps and schedule: the bytes of what they mean; by the derivation and its meaning.
 use Prim.Native.Nat.{ℕ, suc, _+_}
 use mathlib.Core.Path.{_≡_, refl, sym, ap, _∙_}
-use mathlib.Core.Bool.{Bool, true, false, _&&_}
+use mathlib.Core.Bool.{Bool, true, _&&_}
 use mathlib.Core.List.{List, [], _∷_, _++_, append-nil, append-assoc}
 use lib.ListN.{length}
-use lib.Dec.{leb, ltb}
-use Rattle.types.specs.Limits.{first-local, max-statements, max-steps}
-use Rattle.types.specs.Types.{Ty, code as type-code}
-use Rattle.program.specs.Tree.{Var as Variable, Expr, Exprs, Stmt, Stmt.when, Stmt.declare, Stmt.update as update-of, Stmt.create, Stmts, Stmts.end, Stmts.next, size}
+use lib.Dec.{ltb}
+use Rattle.types.specs.Limits.{max-statements, max-steps}
+use Rattle.types.specs.Types.{Ty}
+use Rattle.program.specs.Tree.{Var as Variable, Expr, Exprs, Stmt, Stmt.when, Stmt.declare, Stmt.update as update-of, Stmt.create, Stmts, Stmts.end, Stmts.next}
+use Rattle.program.specs.Tree.{size}
 use Rattle.program.specs.Tree.{Item as Call, Item.call, Item.call-in, Item.fix, Items, Items.stop, Items.item, Step as Named, Program, items}
-use Rattle.program.specs.Encoding.{var-code, flat, enc-list, enc-path, enc-expr, enc-exprs, enc-stmt, enc-stmts, enc-step, enc-item, enc-items}
+use Rattle.program.specs.Encoding.{var-code, flat, enc-list, enc-path, enc-expr, enc-stmt, enc-stmts, enc-step, enc-item, enc-items}
 use Rattle.tokens.specs.Tokens.{Sign.semicolon, Sign.assign, Word.w-then, Token.word, Token.sign}
 use Rattle.syntax.specs.Syntax.{Id, TypeName, TypeName.int-type, TypeName.nat-type, TypeName.bool-type, TypeName.id-type, Var}
 use Rattle.syntax.specs.Syntax.{Exp, Exps, Stat, Stat.if-then, Stat.assignment, Stat.update, Stat.construct, Stats, Stats.no-stats, Stats.stats}
-use Rattle.syntax.specs.Syntax.{Par, Par.par, Step, Step.step, Struct, Struct.struct, Defs, Defs.last-struct, Defs.defs, Item, Item.execution, Item.typed-execution, Item.fixpoint, Sched, Sched.last-item, Sched.barrier, Program as Derivation, Program.program}
+use Rattle.syntax.specs.Syntax.{Par, Par.par, Step, Step.step, Struct, Struct.struct, Defs, Defs.last-struct, Defs.defs, Item, Item.execution}
+use Rattle.syntax.specs.Syntax.{Item.typed-execution, Item.fixpoint, Sched, Sched.last-item, Sched.barrier, Program as Derivation, Program.program}
 use Rattle.syntax.specs.Bracketing.{FitsStat, FitsStats, FitsSteps, FitsStruct, FitsDefs, FitsProgram}
 use Rattle.meaning.specs.Scope.{steps-of, structs-of, Local, Each, Each.no-more, Each.and-then}
-use Rattle.meaning.specs.Means.{PathMeans, StatMeans, StatMeans.if-means, StatMeans.assignment-means, StatMeans.update-means, StatMeans.construct-means, StatsMean, StatsMean.no-stats-mean, StatsMean.stats-mean}
-use Rattle.meaning.specs.Means.{StepMeans, StepMeans.step-means, StepsMean, StepsMean.steps-mean, ItemMeans, ItemMeans.execution-means, ItemMeans.typed-means, ItemMeans.fix-means, SchedMeans, SchedMeans.last-means, SchedMeans.barrier-means, Means, Means.means}
-use Rattle.derive.specs.Roles.{Naming.first-written, Part.then-open, Part.then-close, Part.body-close, Part.pars-close, Part.steps-open, Part.steps-close, Part.fix-close, Part.barrier-sign, Role, Role.plain, Role.part, close-of, roles-var, roles-exp, roles-exps, roles-stat, roles-stats, roles-par, roles-par-list, roles-pars, roles-step, roles-steps, roles-struct, roles-defs, roles-item, roles-sched, roles}
+use Rattle.meaning.specs.Means.{PathMeans, StatMeans, StatMeans.if-means, StatMeans.assignment-means, StatMeans.update-means, StatMeans.construct-means}
+use Rattle.meaning.specs.Means.{StatsMean, StatsMean.no-stats-mean, StatsMean.stats-mean}
+use Rattle.meaning.specs.Means.{StepMeans, StepMeans.step-means, StepsMean, StepsMean.steps-mean, ItemMeans, ItemMeans.execution-means, ItemMeans.typed-means}
+use Rattle.meaning.specs.Means.{ItemMeans.fix-means, SchedMeans, SchedMeans.last-means, SchedMeans.barrier-means, Means, Means.means}
+use Rattle.derive.specs.Roles.{Naming.first-written, Part.then-open, Part.then-close, Part.body-close, Part.pars-close, Part.steps-open, Part.steps-close}
+use Rattle.derive.specs.Roles.{Part.fix-close, Part.barrier-sign, Role, Role.plain, Role.part, close-of, roles-exp, roles-stat}
+use Rattle.derive.specs.Roles.{roles-stats, roles-par, roles-par-list, roles-pars, roles-step, roles-steps, roles-struct, roles-defs, roles-item, roles-sched}
+use Rattle.derive.specs.Roles.{roles}
 use Rattle.resolve.specs.Numbers.{expr-numbers, exprs-numbers, stmt-numbers, stmts-numbers, step-numbers, steps-numbers, item-numbers, items-numbers}
 use Rattle.resolve.specs.Outcomes.{onto}
-use Rattle.compose.specs.Writing.{Writing, Writing.writing, max-later, put, start}
-use Rattle.compose.specs.Checks.{checks-expr, checks-exprs, checks-stmt, checks-stmts, checks-steps, checks-item, checks-items, checks-structs}
-use Rattle.compose.specs.WritingExpLaws.{written, Leaves, Leaves.leaves, left, first-then, as-one, path-left, LeavesExp, LeavesExps, exp-left, exps-left, close-left}
+use Rattle.compose.specs.Writing.{Writing, Writing.writing, put, start}
+use Rattle.compose.specs.Checks.{stream-behind, numbers-of, checks, checks-expr, checks-stmt, checks-stmts, checks-steps, checks-item, checks-items}
+use Rattle.compose.specs.Checks.{checks-structs}
+use Rattle.compose.specs.WritingExpLaws.{written, Leaves, Leaves.leaves, left, first-then, as-one, path-left, LeavesExp, LeavesExps, exp-left, exps-left}
+use Rattle.compose.specs.WritingExpLaws.{close-left}
 
 -- Statements --------------------------------------------------------------------------------------
 
@@ -41,12 +50,12 @@ unfolding roles-stat stmt-numbers enc-stmt checks-stmt written
 if-left {e} {d} {b} {t} p q =
     record {
       there = λ {k} {z} {s} {w} {n} {c} {f} h.
-      let g : Leaves (part then-close ∷ k) z (writing s (0 ∷ c ∷ w) (onto (stmts-numbers t) (onto (expr-numbers d) n)) 0 f) =
-      leaves (ap (put 77 0) (left (first-then (expr-numbers d) (stmts-numbers t) n h))) in
-      let i : Leaves (plain (word w-then) ∷ part then-open ∷ roles-stats b (part then-close ∷ k)) z
-      (writing (size t ∷ (enc-stmts t ++ s)) (c ∷ w) (onto (expr-numbers d) n) 0 (checks-stmts t f)) =
-      leaves (ap (λ x. put 3 0 (put 76 0 x)) (left (q .all g))) in
-      as-one (1 ∷ enc-expr d) (size t ∷ enc-stmts t) s (leaves (ap (put 2 0) (left (p .there i))));
+          let g : Leaves (part then-close ∷ k) z (writing s (0 ∷ c ∷ w) (onto (stmts-numbers t) (onto (expr-numbers d) n)) 0 f) =
+          leaves (ap (put 77 0) (left (first-then (expr-numbers d) (stmts-numbers t) n h))) in
+          let i : Leaves (plain (word w-then) ∷ part then-open ∷ roles-stats b (part then-close ∷ k)) z
+          (writing (size t ∷ (enc-stmts t ++ s)) (c ∷ w) (onto (expr-numbers d) n) 0 (checks-stmts t f)) =
+          leaves (ap (λ x. put 3 0 (put 76 0 x)) (left (q .all g))) in
+          as-one (1 ∷ enc-expr d) (size t ∷ enc-stmts t) s (leaves (ap (put 2 0) (left (p .there i))));
     }
 
 -- the value of an assignment or an update, behind its sign
@@ -71,7 +80,7 @@ unfolding roles-stat stmt-numbers enc-stmt enc-path checks-stmt written
 update-left {u = u} {vs = vs} q {e} {d} p =
     record {
       there = λ {s = s} {n = n} h. as-one (3 ∷ enc-path u vs) (enc-expr d) s
-      (leaves (path-left q first-written n (value-left p (first-then (var-code u ∷ vs) (expr-numbers d) n h))));
+          (leaves (path-left q first-written n (value-left p (first-then (var-code u ∷ vs) (expr-numbers d) n h))));
     }
 
 construct-left : (x : Id) (j : ℕ) {es : Exps} {cs : Exprs} → LeavesExps es cs → LeavesStat (construct x es) (create j cs)
@@ -79,9 +88,9 @@ unfolding roles-stat stmt-numbers onto enc-stmt checks-stmt written
 construct-left x j {es} {cs} q =
     record {
       there = λ {k} {z} {s} {w} {n} {c} {f} h.
-      let g : Leaves (close-of es ∷ plain (sign semicolon) ∷ k) z (writing s (c ∷ w) (onto (exprs-numbers cs) (j ∷ n)) 0 f) =
-      leaves (close-left es (plain (sign semicolon) ∷ k) z ∙ ap (put 19 0) (left h)) in
-      leaves (ap (λ y. put 47 0 (put 65 0 y)) (left (q .all g)));
+          let g : Leaves (close-of es ∷ plain (sign semicolon) ∷ k) z (writing s (c ∷ w) (onto (exprs-numbers cs) (j ∷ n)) 0 f) =
+          leaves (close-left es (plain (sign semicolon) ∷ k) z ∙ ap (put 19 0) (left h)) in
+          leaves (ap (λ y. put 47 0 (put 65 0 y)) (left (q .all g)));
     }
 
 stats-end : LeavesStats no-stats end
@@ -97,7 +106,8 @@ module _ {ds : List Struct} {own : List Par} where
   mutual
     unfolding FitsStat FitsStats
 
-    stat-left : (t : Stat) → FitsStat t → {alive after : List Local} {met met' : List Id} {u : Stmt} → StatMeans ds own alive met t u after met' → LeavesStat t u
+    stat-left : (t : Stat) → FitsStat t → {alive after : List Local} {met met' : List Id} {u : Stmt} → StatMeans ds own alive met t u after met'
+        → LeavesStat t u
     stat-left (if-then e b) f (if-means m q) = if-left (exp-left e (f .0) _ m) (stats-left b (f .1) q)
     stat-left (assignment a x e) f (assignment-means {u = u} {n = n} p y z r m) = assignment-left a x u n (exp-left e f _ m)
     stat-left (update v e) f (update-means p m) = update-left p (exp-left e f _ m)
@@ -206,8 +216,8 @@ unfolding roles-item item-numbers enc-item checks-item written
 fix-left {is = is} q =
     record {
       there = λ {k} {z} {s} {w} {n} {c} {f} h.
-      let g : Leaves (part fix-close ∷ k) z (writing s (0 ∷ c ∷ w) (onto (items-numbers is) n) 0 f) = leaves (ap (put 71 0) (left h)) in
-      leaves (ap (λ y. put 6 0 (put 70 0 y)) (left (q .all g)));
+          let g : Leaves (part fix-close ∷ k) z (writing s (0 ∷ c ∷ w) (onto (items-numbers is) n) 0 f) = leaves (ap (put 71 0) (left h)) in
+          leaves (ap (λ y. put 6 0 (put 70 0 y)) (left (q .all g)));
     }
 
 last-left : {i : Item} {u : Call} → LeavesItem i u → LeavesSched (last-item i) (item u stop)
@@ -219,9 +229,9 @@ unfolding roles-sched items-numbers enc-items items checks-items written
 barrier-left {i} {u} {t} {is} q r =
     record {
       all = λ {k} {z} {s} {w} {n} {f} h.
-      let g : Leaves (part barrier-sign ∷ roles-sched t k) z (writing (enc-items is ++ s) (items is ∷ w) (onto (item-numbers u) n) 0 (checks-items is f)) =
-      leaves (ap (put 80 0) (left (r .all (first-then (item-numbers u) (items-numbers is) n h)))) in
-      as-one (enc-item u) (enc-items is) s (q .there g);
+          let g : Leaves (part barrier-sign ∷ roles-sched t k) z (writing (enc-items is ++ s) (items is ∷ w) (onto (item-numbers u) n) 0 (checks-items is f)) =
+          leaves (ap (put 80 0) (left (r .all (first-then (item-numbers u) (items-numbers is) n h)))) in
+          as-one (enc-item u) (enc-items is) s (q .there g);
     }
 
 module _ {ds : List Struct} {names : List Id} where
@@ -237,16 +247,6 @@ module _ {ds : List Struct} {names : List Id} where
 
 -- The program ------------------------------------------------------------------------------------------
 
--- the stream of a program behind its parameters' types, and what writing it asks
-unfoldable pub stream-behind : Program → List ℕ
-stream-behind p = flat (enc-list enc-step) (p .steps) ++ (items (p .schedule) ∷ enc-items (p .schedule))
-
-unfoldable pub checks : Program → Bool
-checks p = checks-structs (p .steps) (checks-items (p .schedule) true)
-
-unfoldable pub numbers-of : Program → List ℕ
-numbers-of p = flat steps-numbers (p .steps) ++ items-numbers (p .schedule)
-
 -- what is written of a derivation, from the numbers of what it means
 pub program-left : (c : Derivation) → FitsProgram c → {p : Program} → Means c p
     → LeavesRow (roles c) (start (onto (numbers-of p) [])) (stream-behind p) [] (checks p)
@@ -256,4 +256,9 @@ program-left (program d t) f {p} (means {ts = ts} {is = is} x y m r) =
     let g : Leaves [] z (writing [] (0 ∷ []) (onto (items-numbers is) (onto (flat steps-numbers ts) [])) 0 true) =
     first-then (flat steps-numbers ts) (items-numbers is) [] (leaves refl) in
     let q = defs-left d f m (enc-items is ++ []) [] (items is) (sched-left t r .all g) in
-    record { count = q .count; bytes = q .bytes; all = q .all; are = q .are ∙ ap (λ l. flat (enc-list enc-step) ts ++ (items is ∷ l)) (append-nil (enc-items is)) }
+    record {
+      count = q .count;
+      bytes = q .bytes;
+      all = q .all;
+      are = q .are ∙ ap (λ l. flat (enc-list enc-step) ts ++ (items is ∷ l)) (append-nil (enc-items is));
+    }
