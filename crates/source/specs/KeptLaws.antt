@@ -3,15 +3,19 @@
 use Prim.Native.Nat.{ℕ, zero, suc, _+_, _<_, _≤_}
 use native.Mathlib.Omega.{arith}
 use native.Mathlib.Decide.{decLt}
-use mathlib.Core.Path.{_≡_, refl, sym, _∙_}
+use mathlib.Core.Path.{_≡_, refl}
 use mathlib.Core.List.{List, [], _∷_, _++_, map}
 use lib.ListN.{length, getD}
-use Rattle.types.specs.Limits.{max-structs, max-params, max-steps, max-statements, max-items, step-names, if-levels, fix-levels, expr-levels}
+use Rattle.types.specs.Limits.{max-steps, max-statements, max-items, step-names, if-levels, fix-levels, expr-levels}
 use Rattle.types.specs.Types.{code}
-use Rattle.program.specs.Tree.{Expr, Expr.inv, Expr.make, Expr.path, Expr.int-lit, Expr.nat-lit, Expr.bool-lit, Expr.null, Expr.self, Expr.op, Exprs, Exprs.none, Exprs.more, Stmt, Stmt.when, Stmt.declare, Stmt.update, Stmt.create, Stmts, Stmts.end, Stmts.next, Item, Item.call, Item.call-in, Item.fix, Items, Items.stop, Items.item, Step, Program, args, size, items}
-use Rattle.program.specs.Encoding.{flat, enc-list, op-code, enc-path, enc-expr, enc-exprs, enc-stmt, enc-stmts, enc-item, enc-items, enc-step, enc-program}
+use Rattle.program.specs.Tree.{Expr, Expr.inv, Expr.make, Expr.path, Expr.int-lit, Expr.nat-lit, Expr.bool-lit, Expr.null, Expr.self, Expr.op}
+use Rattle.program.specs.Tree.{Exprs, Exprs.none, Exprs.more, Stmt, Stmt.when, Stmt.declare, Stmt.update, Stmt.create, Stmts, Stmts.end, Stmts.next}
+use Rattle.program.specs.Tree.{Item, Item.call, Item.call-in, Item.fix, Items, Items.stop, Items.item, args, size, items}
+use Rattle.program.specs.Encoding.{flat, enc-list, op-code, enc-expr, enc-exprs, enc-stmt, enc-stmts, enc-item, enc-items, enc-step, enc-program}
 use Rattle.program.specs.Counts.{All, Few, expr-height, CountsExpr, CountsExprs, CountsItem, CountsItems}
-use Rattle.program.specs.Reader.{Result, Result.ok, Result.bad, wrong-end, wrong-byte, then, pair, made, many, lookup, form, kind, item-sort, byte, counted, ranged, opened, word-bytes, bool-end, read-make, rule-expr, read-expr, read-body, read-when, read-declare, read-update, rule-stmt, read-stmt, read-step, read-steps, read-items, rule-item, read-item, read-program}
+use Rattle.program.specs.Reader.{Result, Result.ok, Result.bad, wrong-end, wrong-byte, then, pair, made, many, lookup, counted, opened, word-bytes, bool-end}
+use Rattle.program.specs.Reader.{form, read-make, rule-expr, read-expr, kind, read-body, read-when, read-declare, read-update, rule-stmt, read-stmt}
+use Rattle.program.specs.Reader.{read-step, read-steps, item-sort, read-items, rule-item, read-item, read-program}
 use Rattle.program.specs.Exact.{Stands, Stands.letter, Exact}
 use Rattle.program.specs.Laws.StandsLaws.{split, stands-none}
 use Rattle.program.specs.Laws.PartLaws.{then-ok, byte-ok, byte-none}
@@ -47,7 +51,8 @@ pair-keeps {E = E} x y s p n m c w =
 
 -- a thing in front of a row
 kept-row : {A B : Type 0} {C : A → Type 0} {E : A → List ℕ} {r : List ℕ → ℕ → Result A} {F : List ℕ} {b : B} {m : ℕ}
-    (z : B) (c : A → B → B) (i : ℕ) → Keeps C E r → (s : List ℕ) (a : A) (n : ℕ) → C a → ((k : ℕ) → Stands s k F m → Kept b m (many z c (r s) i k)) → Stands s n (E a ++ F) m
+    (z : B) (c : A → B → B) (i : ℕ) → Keeps C E r → (s : List ℕ) (a : A) (n : ℕ) → C a
+    → ((k : ℕ) → Stands s k F m → Kept b m (many z c (r s) i k)) → Stands s n (E a ++ F) m
     → Kept (c a b) m (many z c (r s) (suc i) n)
 unfolding many
 kept-row {E = E} z c i x s a n h y w =
@@ -148,8 +153,8 @@ module _ (ar : List ℕ) where
     unfolding rule-stmt read-declare read-update HoldsStmt enc-stmt kind lookup
     stmt-tree s (when e b) n m c (letter h q v) = kept-opened s _ _ {b = 1} h q (kept-made _ (x s e b n m c v))
     stmt-tree s (declare t i e) n m c (letter h q v) =
-        kept-opened s _ _ {b = 2} h q
-        (kept-made _ (pair-keeps (exact-keeps (type-exact (length ar))) (λ t h. pair-keeps (exact-keeps local-exact) λ i h. outer) s (t, (i, e)) _ m (c .0, (c .1, c .2)) v))
+        let y = pair-keeps (exact-keeps (type-exact (length ar))) (λ t h. pair-keeps (exact-keeps local-exact) λ i h. outer) in
+        kept-opened s _ _ {b = 2} h q (kept-made _ (y s (t, (i, e)) _ m (c .0, (c .1, c .2)) v))
     stmt-tree s (update y ys e) n m c (letter h q v) =
         kept-opened s _ _ {b = 3} h q (kept-made _ (pair-keeps (exact-keeps path-exact) (λ p h. outer) s ((y, ys), e) _ m c v))
     stmt-tree s (create k es) n m c (letter h q v) = kept-opened s _ _ {b = 4} h q (kept-made _ (make-keeps _ outer s (k, es) _ m (c .0, (c .1, c .2)) v))
@@ -165,7 +170,8 @@ module _ (ar : List ℕ) where
   step-keeps : Keeps (HoldsStep ar) enc-step (read-step ar)
   unfolding read-step HoldsStep enc-step
   step-keeps s t n m c w =
-      kept-made _ (pair-keeps (exact-keeps (below-exact step-names)) (λ i h. body-keeps _ (stmt-keeps if-levels)) s (t .name, t .body) n m (c .0, (c .1, c .2)) w)
+      let y = pair-keeps (exact-keeps (below-exact step-names)) (λ i h. body-keeps _ (stmt-keeps if-levels)) in
+      kept-made _ (y s (t .name, t .body) n m (c .0, (c .1, c .2)) w)
 
   steps-keep : Keeps (Few 0 max-steps (HoldsStep ar)) (enc-list enc-step) (read-steps ar)
   unfolding read-steps

@@ -3,4 +3,6 @@ pub mod TextReader
 pub mod SourceLaws
 pub mod Kept
 pub mod KeptLaws
+pub mod Checking
+pub mod CheckingLaws
 pub mod Rows
