@@ -105,13 +105,14 @@ fn run_line(places: usize, output: usize, program: &[u8], table: &[u8], turns: &
     let mut output = vec![OUTPUT_FILL; output];
     let answer = run(program, table, turns, &mut output, &mut list);
     format!(
-        "run {} {} {} {} {} {}",
+        "run {} {} {} {} {} {} {}",
         answer.number,
         answer.turns,
         answer.blocks,
         answer.depth,
         digest(output.iter().copied()),
-        list_digest(&list)
+        list_digest(&list),
+        answer.holding
     )
 }
 
