@@ -3,8 +3,8 @@
 
 use crate::coding::coded;
 use engine::{Command, check, run};
-use text::read;
 use std::io::{self, Read};
+use text::read;
 
 pub const OUTPUT_FILL: u8 = 0xA5;
 

@@ -41,7 +41,8 @@ fn the_answer_to_a_text() {
     let text = b"struct P(load:Int,prev:P){add{load:=(load+prev.load);}}add".to_vec();
     let answer = Case::Text { output: 32_768, text: text.clone() }.answer();
     let image = second::generate::encode::image(&second::generate::edges::P);
-    let output: Vec<u8> = image.iter().copied().chain(std::iter::repeat(0xA5)).take(32_768).collect();
+    let output: Vec<u8> =
+        image.iter().copied().chain(std::iter::repeat(0xA5)).take(32_768).collect();
     assert_eq!(answer, format!("text 0 1 {}", second::cases::digest(output.into_iter())));
     assert!(Case::Text { output: 32_767, text }.answer().starts_with("text 13 0 "));
 }
@@ -49,7 +50,7 @@ fn the_answer_to_a_text() {
 /// Each number is met at the edges and among seeded texts.
 #[test]
 fn every_number_is_met() {
-    for (cases, least) in [(edges(), 5), ((0..1_000).map(|index| case(7, index)).collect(), 30)] {
+    for (cases, least) in [(edges(), 4), ((0..1_000).map(|index| case(7, index)).collect(), 30)] {
         let mut met = BTreeMap::new();
         cases.iter().for_each(|case| *met.entry(number(case)).or_insert(0) += 1);
         assert_eq!(met.keys().copied().collect::<Vec<_>>(), [0, 13, 15, 16, 17], "{met:?}");

@@ -5,7 +5,7 @@ use mathlib.Core.Logic.{_↔_}
 use mathlib.Core.List.{List}
 use lib.ListN.{length}
 use Rattle.types.specs.Limits.{max-commands}
-use Rattle.types.specs.Numbers.{wrong-byte}
+use Rattle.types.specs.Numbers.{wrong-byte, wrong-names}
 use Rattle.blocks.specs.Images.{image}
 use Rattle.program.specs.Tree.{Program}
 use Rattle.program.specs.Encoding.{enc-program}
@@ -22,8 +22,9 @@ use Rattle.source.specs.Source.{no-derivation, Derived, Reading, NoTokens, text
 use Rattle.source.specs.TextReader.{outcome, text-output}
 use Rattle.source.specs.SourceLaws.{one-reading as reading-law, text-refused-exactly as refused-law, text-written as written-law}
 use Rattle.source.specs.SourceLaws.{text-untouched as untouched-law, escapes-16 as escapes-law}
+use Rattle.source.specs.Stepping.{StepsRight}
 use Rattle.source.specs.Checking.{Answers, written-image, text-verdict, both-order}
-use Rattle.source.specs.CheckingLaws.{image-written, deep-exactly, text-checked as checked-law, text-order-exact as order-law}
+use Rattle.source.specs.CheckingLaws.{image-written, deep-exactly, seven-for-steps, text-checked as checked-law, text-order-exact as order-law}
 
 -- "The longest token is taken first": a text parts into tokens in one way at most,
 pub lexed-one : {x : List ℕ} {ts us : List Token} → Lexed x ts → Lexed x us → ts ≡ us
@@ -61,6 +62,10 @@ module _ (x out : List ℕ) where
   -- "nesting apart": to what was written the checker says 5 exactly where it nests deeper than 01's levels,
   pub text-nesting : (p : Program) → outcome x out ≡ written p → (checked (written-image x out) ≡ checked-refused wrong-byte) ↔ (Shallow p → ⊥)
   text-nesting p e = deep-exactly x out p e
+
+  -- 7 for steps alone, since 17 has judged all other names: one twice in its struct, or a typed call of one that its struct has not,
+  pub text-steps : (p : Program) → outcome x out ≡ written p → checked (written-image x out) ≡ checked-refused wrong-names → StepsRight p → ⊥
+  text-steps p e q r = seven-for-steps x out p e q r
 
   -- and 0, 5, 6, 7 or 8, no other number
   pub text-checked : (p : Program) → outcome x out ≡ written p → (list : List ℕ) → max-commands ≤ length list

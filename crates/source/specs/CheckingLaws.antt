@@ -26,7 +26,8 @@ use Rattle.commands.specs.Decide.BoundsDecide.{within}
 use Rattle.commands.specs.Decide.NamesDecide.{names-right}
 use Rattle.commands.specs.Decide.TypingDecide.{types-right}
 use Rattle.commands.specs.Numbers.{NoneOf, Foremost, over-limits, wrong-names, wrong-types, first, breach-tests, breach-number}
-use Rattle.commands.specs.Laws.NumbersLaws.{behind-first, foremost-unique, foremost-some}
+use Rattle.commands.specs.Names.{NamesRight}
+use Rattle.commands.specs.Laws.NumbersLaws.{behind-first, foremost-unique, foremost-some, number-names}
 use Rattle.verdict.specs.Verdict.{Checked, Checked.accepted, Checked.refused as checked-refused, judge, of-read, checked}
 use Rattle.verdict.specs.Verdict.{Verdict, refusal, approval, verdict-of, check-verdict}
 use Rattle.verdict.specs.VerdictLaws.{checked-image}
@@ -38,6 +39,8 @@ use Rattle.meaning.specs.Nesting.{Shallow}
 use Rattle.source.specs.Source.{Outcome, Outcome.written, Outcome.refused, blocks-of, output-of, text-order}
 use Rattle.source.specs.TextReader.{outcome, text-blocks, text-output}
 use Rattle.source.specs.SourceLaws.{text-refused-exactly, text-written, written-held, written-read}
+use Rattle.source.specs.Stepping.{StepsRight}
+use Rattle.source.specs.SteppingLaws.{steps-left}
 use Rattle.source.specs.Kept.{Kept, Kept.kept, Kept.too-deep}
 use Rattle.source.specs.KeptLaws.{program-keeps}
 use Rattle.source.specs.Checking.{Answers, written-image, checked-next, text-verdict, both-order}
@@ -142,6 +145,24 @@ module _ (x out : List ℕ) (p : Program) (e : outcome x out ≡ written p) wher
       go : (read-stream s ≡ ok p (length s)) ⊎ ((at : ℕ) × (read-stream s ≡ bad at wrong-byte)) → Answers (verdict-of (of-read (read-stream s)) list .number)
       go (inl q) = rw (q, judged-number p list h (breach-number p)) (answers (breach-one p))
       go (inr q) = rw (q .1) (inr (omega arith, omega arith))
+
+  -- 7 is said for a step alone: one that stands twice in its struct, or a typed call of one that its struct has not
+  pub seven-for-steps : checked (written-image x out) ≡ checked-refused wrong-names → StepsRight p → ⊥
+  unfolding judge of-read
+  seven-for-steps q r = go read-or-deep
+    where
+      named : NamesRight p
+      named = steps-left (text-written x out p .0 e .1 .means) r
+
+      judged : (n : ℕ) → breach-number p ≡ n → judge p n ≡ checked-refused wrong-names → ⊥
+      judged zero b k = let z : _≡_ {A = ℕ} 0 1 = cc in omega arith
+      judged (suc n) b k = let z : suc n ≡ wrong-names = cc in number-names p .0 (b ∙ z) .1 named
+
+      go : (read-stream s ≡ ok p (length s)) ⊎ ((at : ℕ) × (read-stream s ≡ bad at wrong-byte)) → ⊥
+      go (inl k) = judged (breach-number p) refl (sym (shallow-judged (written-read x out p e .0 k)) ∙ q)
+      go (inr k) =
+          let d = checked-written ∙ ap of-read (k .1) in
+          let z : _≡_ {A = ℕ} wrong-byte wrong-names = cc in omega arith
 
 -- Reading and then checking ---------------------------------------------------------------------------
 

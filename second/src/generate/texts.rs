@@ -8,12 +8,8 @@ use text::generate;
 const IMAGE: usize = 32_768;
 
 /// Texts that are accepted, and refused with 15, 16 and 17.
-const ORDER: [&str; 4] = [
-    "struct P(){s{}}s",
-    "struct P(){s{}}s $",
-    "struct P(){s{}}s s",
-    "struct P(){s{}}t",
-];
+const ORDER: [&str; 4] =
+    ["struct P(){s{}}s", "struct P(){s{}}s $", "struct P(){s{}}s s", "struct P(){s{}}t"];
 
 /// The case of this seed and index; a text past the bound of a case is cut
 /// there, where it is refused for its length as before.
@@ -28,7 +24,8 @@ pub fn case(seed: u64, index: u64) -> Case {
 pub fn edges() -> Vec<Case> {
     let whole = generate::edges().into_iter().map(|text| Case::Text { output: IMAGE, text });
     let short = ORDER.iter().flat_map(|text| {
-        [0, 511, 512, IMAGE - 1, IMAGE + 1].map(|output| Case::Text { output, text: text.as_bytes().to_vec() })
+        [0, 511, 512, IMAGE - 1, IMAGE + 1]
+            .map(|output| Case::Text { output, text: text.as_bytes().to_vec() })
     });
     let long = Case::Text { output: 0, text: vec![b' '; MOST_TEXT] };
     whole.chain(short).chain([long]).collect()
