@@ -1,15 +1,15 @@
 -- The roles of a derivation stand in its text, where the loop over kinds leaves them.
 use Prim.Native.Nat.{ℕ, zero, suc}
 use native.Mathlib.Omega.{arith}
-use mathlib.Core.Path.{_≡_, refl, sym, ap, _∙_}
-use mathlib.Core.Bool.{Bool, true, false, _&&_, _||_, false≢true}
+use mathlib.Core.Path.{_≡_, refl}
+use mathlib.Core.Bool.{Bool, true, false, _&&_, false≢true}
 use mathlib.Core.List.{List, [], _∷_, map}
 use mathlib.Core.Option.{Option, none, some}
-use lib.ListN.{getD, take, drop}
+use lib.ListN.{getD, take}
 use lib.Dec.{eqb}
 use borrow.Author.Tests.{ne-eqb}
 use Rattle.tokens.specs.Tokens.{Token, Token.word, Token.sign, Token.op, Token.name, Token.int, Token.nat, letter, digit, name-byte, blank, spelling, nat-end-byte}
-use Rattle.tokens.specs.Scanning.{Front, Front.token, Front.gap, Front.nothing, span, polarity, named, signs, find-sign, begins, Class, Class.letters, Class.digits, Class.blanks, Class.others, class, signed, opens, closing, after-star, comment-front, nat-front, other-front, front-of, front, added, taken, lex}
+use Rattle.tokens.specs.Scanning.{Front, Front.token, Front.gap, Front.nothing, span, signs, find-sign, begins, class, signed, opens, closing, after-star, comment-front, nat-front, other-front, front-of, front, added, taken, lex}
 use Rattle.tokens.specs.NamedLaws.{Found, Found.a-word, Found.a-name, found, plain, all-plain, signs-plain}
 use Rattle.lexer.specs.Kinds.{kind}
 use Rattle.lexer.specs.KindLaws.{kind-within}
