@@ -54,7 +54,8 @@ module _ (t : ℕ → ℕ → Bool) (l : List ℕ) where
     module _ (inside : i < length l) where
       here : drop (i - 1) l ≡ getD l (i - 1) 0 ∷ getD l i 0 ∷ drop (i + 1) l
       here =
-          next-byte l (i - 1) (omega arith) ∙ ap (λ k. getD l (i - 1) 0 ∷ drop k l) (let h = r .begun in omega (arith, h))
+          let f : (i - 1) + 1 ≡ i = let h = r .begun in omega (arith, h) in
+          next-byte l (i - 1) (omega arith) ∙ ap (λ k. getD l (i - 1) 0 ∷ drop k l) f
           ∙ ap (λ m. getD l (i - 1) 0 ∷ m) (next-byte l i inside)
 
       pub paired-not : false ≡ t (getD l (i - 1) 0) (getD l i 0) → false ≡ between-all t l
@@ -65,7 +66,8 @@ module _ (t : ℕ → ℕ → Bool) (l : List ℕ) where
       unfolding between-all
       paired-on e =
           let f : between-all t (drop (i - 1) l) ≡ between-all t (getD l i 0 ∷ drop (i + 1) l) = rw (here, between-all, ← e) refl in
-          let g : drop ((i + 1) - 1) l ≡ getD l i 0 ∷ drop (i + 1) l = ap (λ k. drop k l) (omega arith) ∙ next-byte l i inside in
+          let k : (i + 1) - 1 ≡ i = omega arith in
+          let g : drop ((i + 1) - 1) l ≡ getD l i 0 ∷ drop (i + 1) l = ap (λ k. drop k l) k ∙ next-byte l i inside in
           record { begun = omega arith; rest = ap (between-all t) g ∙ sym f ∙ r .rest }
 
     pub paired-end : length l ≤ i → true ≡ between-all t l

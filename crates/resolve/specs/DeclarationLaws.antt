@@ -3,7 +3,7 @@ use Prim.Native.Nat.{ℕ, zero, suc, _+_, _-_, _≤_, _<_}
 use native.Mathlib.Omega.{arith}
 use native.Mathlib.Numerals.{add-one}
 use mathlib.Core.Path.{_≡_, refl, sym, ap, _∙_}
-use mathlib.Core.Bool.{Bool, true, false, _&&_}
+use mathlib.Core.Bool.{Bool, true, false, _&&_, _||_}
 use mathlib.Core.List.{List, [], _∷_, _++_, map}
 use mathlib.Core.Option.{Option, none, some}
 use lib.ListN.{length, take, drop, length-drop, length-append}
@@ -107,7 +107,7 @@ module _ (ds : List Struct) where
 
 -- Rows -----------------------------------------------------------------------------------------------
 
-few-named : Struct → Bool
+unfoldable pub few-named : Struct → Bool
 few-named d = leb (length (pars-of d)) max-params && distinct (map par-id (pars-of d))
 
 -- the names of a row are those of its parameters, and behind it are the others
@@ -203,23 +203,31 @@ ltb-suc a b = go (ltb a b) refl
     go false e = let h = ltb-false a b e in le-ltb (suc a) (suc b) (omega (arith, h)) ∙ sym e
 
 -- one of the names, or the one behind them
-sought-last : (y z : Id) (l : List Id) → ltb (sought y (l ++ (z ∷ []))) (suc (length l)) ≡ elim (same z y) [ true ↦ true | false ↦ ltb (sought y l) (length l) ]
+sought-last : (y z : Id) (l : List Id) → ltb (sought y (l ++ (z ∷ []))) (suc (length l)) ≡ (same z y || ltb (sought y l) (length l))
 unfolding sought
 sought-last y z [] = go (same z y) refl
   where
-    go : (t : Bool) → same z y ≡ t → ltb (sought y (z ∷ [])) 1 ≡ elim (same z y) [ true ↦ true | false ↦ ltb (sought y []) 0 ]
+    go : (t : Bool) → same z y ≡ t → ltb (sought y (z ∷ [])) 1 ≡ (same z y || ltb (sought y []) 0)
     go true e = rw (e, sought) refl
     go false e = rw (e, sought) refl
 sought-last y z (w ∷ l) = go (same w y) refl (sought-last y z l)
   where
-    always : (t : Bool) (n : ℕ) → true ≡ elim t [ true ↦ true | false ↦ ltb 0 (suc n) ]
+    always : (t : Bool) (n : ℕ) → true ≡ (t || ltb 0 (suc n))
     always true n = refl
     always false n = sym (lt-ltb 0 (suc n) (omega arith))
 
-    go : (t : Bool) → same w y ≡ t → ltb (sought y (l ++ (z ∷ []))) (suc (length l)) ≡ elim (same z y) [ true ↦ true | false ↦ ltb (sought y l) (length l) ]
-        → ltb (sought y (w ∷ (l ++ (z ∷ [])))) (suc (suc (length l))) ≡ elim (same z y) [ true ↦ true | false ↦ ltb (sought y (w ∷ l)) (suc (length l)) ]
-    go true e rec = rw (e, sought) (lt-ltb 0 (suc (suc (length l))) (omega arith) ∙ always (same z y) (length l))
-    go false e rec = rw (e, sought, ltb-suc (sought y (l ++ (z ∷ []))) (suc (length l)), ltb-suc (sought y l) (length l)) rec
+    go : (t : Bool) → same w y ≡ t → ltb (sought y (l ++ (z ∷ []))) (suc (length l)) ≡ (same z y || ltb (sought y l) (length l))
+        → ltb (sought y (w ∷ (l ++ (z ∷ [])))) (suc (suc (length l))) ≡ (same z y || ltb (sought y (w ∷ l)) (suc (length l)))
+    go true e rec =
+        let f : sought y (w ∷ (l ++ (z ∷ []))) ≡ 0 = rw (sought, e) refl in
+        let g : sought y (w ∷ l) ≡ 0 = rw (sought, e) refl in
+        ap (λ k. ltb k (suc (suc (length l)))) f ∙ lt-ltb 0 (suc (suc (length l))) (omega arith) ∙ always (same z y) (length l)
+        ∙ ap (λ k. same z y || ltb k (suc (length l))) (sym g)
+    go false e rec =
+        let f : sought y (w ∷ (l ++ (z ∷ []))) ≡ suc (sought y (l ++ (z ∷ []))) = rw (sought, e) refl in
+        let g : sought y (w ∷ l) ≡ suc (sought y l) = rw (sought, e) refl in
+        ap (λ k. ltb k (suc (suc (length l)))) f ∙ ltb-suc (sought y (l ++ (z ∷ []))) (suc (length l)) ∙ rec
+        ∙ ap (λ b. same z y || b) (sym (ap (λ k. ltb k (suc (length l))) g ∙ ltb-suc (sought y l) (length l)))
 
 module _ (x : List ℕ) where
   names-long-at : (l : List ℕ) → length (names-at x l) ≡ length l
@@ -244,7 +252,7 @@ module _ (x : List ℕ) where
     where
       go : (t : Bool) → same (name-at x p) y ≡ t
           → among y (name-at x p ∷ l)
-          ≡ elim (same (name-at x p) y) [ true ↦ true | false ↦ ltb (sought y (names-at x met)) (length (names-at x met)) ]
+          ≡ (same (name-at x p) y || ltb (sought y (names-at x met)) (length (names-at x met)))
       go true e = rw (e, among) refl
       go false e = rw (e, among) (h y ∙ ap (ltb (sought y (names-at x met))) (sym (names-long-at met)))
 

@@ -95,8 +95,8 @@ pub fn types(text: &[u8], roles: &[u8], structs: &[usize], places: &[usize], tab
     requires { ⌜ length (now structs) ≤ 16 ⌝ }
     ensures { λ r. ⌜ r ≡ known (length (now (structs .entry)))
         (types-at (now (text .entry)) (now (roles .entry)) (names-at (now (text .entry)) (now (structs .entry))) (now (places .entry))) ⌝ }
-    ensures { λ r. ⌜ r ≡ true → now (table .exit) ≡ sets (now (table .entry)) 0
-        (types-at (now (text .entry)) (now (roles .entry)) (names-at (now (text .entry)) (now (structs .entry))) (now (places .entry))) ⌝ }
+    ensures { λ r. ⌜ (r ≡ true → now (table .exit) ≡ sets (now (table .entry)) 0
+        (types-at (now (text .entry)) (now (roles .entry)) (names-at (now (text .entry)) (now (structs .entry))) (now (places .entry)))) ⌝ }
 {
     let mut i = 0;
     while i < places.len() {
