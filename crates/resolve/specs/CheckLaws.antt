@@ -11,11 +11,12 @@ use lib.Dec.{leb}
 use borrow.Author.Tests.{le-leb, lt-leb, lt-ltb, le-ltb}
 use Rattle.types.specs.Limits.{max-params}
 use Rattle.types.specs.Types.{struct-code}
+use Rattle.tokens.specs.Scanning.{same}
 use Rattle.syntax.specs.Syntax.{Id, TypeName, TypeName.id-type}
 use Rattle.lexer.specs.RunLaws.{next-byte}
 use Rattle.meaning.specs.Finding.{distinct}
 use Rattle.meaning.specs.HoldsDecide.{all}
-use Rattle.resolve.specs.Named.{name-of, names-at}
+use Rattle.resolve.specs.Named.{name-of, name-at, names-at, sought}
 use Rattle.resolve.specs.Checks.{part-of, row-ok, between-all, type-here, byte-of, first-type, types-at, known}
 
 -- A row ------------------------------------------------------------------------------------------
@@ -95,6 +96,25 @@ module _ (names : List Id) (s : List ℕ) where
   type-named (suc zero) l = absurd (omega arith)
   type-named (suc (suc zero)) l = absurd (omega arith)
   type-named (suc (suc (suc n))) l = refl
+
+  pub byte-named : (n r : ℕ) → 3 ≤ n → r ≡ sought (name-of s) names → struct-code + r ≡ byte-of names (type-here n s)
+  unfolding byte-of
+  byte-named n r l e = ap (λ k. struct-code + k) e ∙ ap (byte-of names) (sym (type-named n l))
+
+-- what is sought stands among the places, or behind them
+pub sought-within : (y : Id) (text table : List ℕ) → sought y (names-at text table) ≤ length table
+unfolding sought
+sought-within y text [] = omega arith
+sought-within y text (p ∷ table) = go (same (name-at text p) y) refl (sought-within y text table)
+  where
+    go : (t : Bool) → same (name-at text p) y ≡ t → sought y (names-at text table) ≤ length table → sought y (name-at text p ∷ names-at text table) ≤ suc (length table)
+    go true e h = rw (sought, e) (omega arith)
+    go false e h = rw (sought, e) (omega arith)
+
+-- a type's byte, by the role at its place
+pub of-type : {b k c m : ℕ} (names : List Id) (s : List ℕ) → b ≡ byte-of names (type-here k s) → k ≡ c - first-type → c ≡ m
+    → b ≡ byte-of names (type-here (m - first-type) s)
+of-type names s e f g = e ∙ ap (λ n. byte-of names (type-here n s)) (f ∙ ap (λ n. n - first-type) g)
 
 -- the loop over types: those from i on are as they were, and complete the table
 pub record Typing (text roles : List ℕ) (names : List Id) (structs : ℕ) (places table₀ table : List ℕ) (i : ℕ) : Type 0 where

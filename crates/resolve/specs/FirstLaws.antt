@@ -7,11 +7,23 @@ use mathlib.Core.Bool.{Bool, true, false, not}
 use mathlib.Core.List.{List, [], _∷_, _++_}
 use lib.ListN.{length, getD, set, take, drop, length-set, length-take, drop-of-length-le}
 use lib.Seq.{sets, set-out, take-suc-set}
-use lib.Dec.{ltb}
-use borrow.Author.Tests.{not-true, not-false}
+use lib.Dec.{leb, ltb}
+use borrow.Author.Tests.{not-true, not-false, ltb-true, ltb-false, le-leb, lt-leb}
 use Rattle.lexer.specs.RunLaws.{next-byte}
 use Rattle.resolve.specs.Named.{name-at, names-at, sought}
+use Rattle.resolve.specs.Tables.{with-one, with-place}
 use Rattle.resolve.specs.Checks.{firsts}
+
+-- a place that is not below another
+pub not-below : (n r k : ℕ) → r ≡ k → leb n r ≡ not (ltb k n)
+not-below n r k e = go (ltb k n) refl
+  where
+    go : (t : Bool) → ltb k n ≡ t → leb n r ≡ not (ltb k n)
+    go true f = let h = ltb-true k n f in rw (f, lt-leb n r (omega (arith, h, e))) refl
+    go false f = let h = ltb-false k n f in rw (f, le-leb n r (omega (arith, h, e))) refl
+
+pub take-long : (table : List ℕ) (n : ℕ) → n ≤ length table → n ≡ length (take n table)
+take-long table n l = let h = length-take n table in omega (arith, h, l)
 
 -- n names were gathered from the places before i: what is left completes the table
 pub record Firsting (text places table₀ table : List ℕ) (n i : ℕ) : Type 0 where
@@ -92,6 +104,51 @@ module _ (text places table₀ : List ℕ) where
         (let h = r .fits in omega (arith, h, r .kept, ap length (new-here f), r .count)),
         sym (sets-beyond table (firsts text (take n table) (drop i places)) n l) ∙ r .stored,
       )
+
+      -- with the name added, if it is one
+      pub firsting-on : {table' : List ℕ} {m : ℕ} → m ≡ with-one b n → table' ≡ with-place b table n (getD places i 0) → m ≤ length table'
+          → Firsting text places table₀ table' m (i + 1)
+      unfolding with-one with-place
+      firsting-on {table'} {m} f g l = go b refl
+        where
+          go : (t : Bool) → b ≡ t → Firsting text places table₀ table' m (i + 1)
+          go true h =
+              let u : m ≡ n + 1 = rw (h, with-one) at f in
+              let v : table' ≡ set table n (getD places i 0) = rw (h, with-place) at g in
+              let w = length-set table n (getD places i 0) in
+              rw u (firsting-new h (omega (arith, u, l, ap length v, w)) v)
+          go false h =
+              let u : m ≡ n = rw (h, with-one) at f in
+              let v : table' ≡ table = rw (h, with-place) at g in
+              rw (u, v) (firsting-old h)
+
+      pub firsting-kept : {table' : List ℕ} → table' ≡ with-place b table n (getD places i 0) → length table' ≡ length table₀
+      unfolding with-place
+      firsting-kept {table'} g = go b refl
+        where
+          go : (t : Bool) → b ≡ t → length table' ≡ length table₀
+          go true h =
+              let v : table' ≡ set table n (getD places i 0) = rw (h, with-place) at g in
+              ap length v ∙ length-set table n (getD places i 0) ∙ r .kept
+          go false h = let v : table' ≡ table = rw (h, with-place) at g in ap length v ∙ r .kept
+
+      pub firsting-over : {table' : List ℕ} {m : ℕ} → m ≡ with-one b n → table' ≡ with-place b table n (getD places i 0) → length table' < m
+          → (m ≡ min (length all) (1 + length table₀)) × (table' ≡ sets table₀ 0 all)
+      unfolding with-one with-place
+      firsting-over {table'} {m} f g l = go b refl
+        where
+          go : (t : Bool) → b ≡ t → (m ≡ min (length all) (1 + length table₀)) × (table' ≡ sets table₀ 0 all)
+          go true h =
+              let u : m ≡ n + 1 = rw (h, with-one) at f in
+              let v : table' ≡ set table n (getD places i 0) = rw (h, with-place) at g in
+              let w = length-set table n (getD places i 0) in
+              let full : length table ≤ n = omega (arith, u, l, ap length v, w) in
+              let (a, z) = firsting-full h full in
+              (u ∙ a, v ∙ set-out table n (getD places i 0) full ∙ z)
+          go false h =
+              let u : m ≡ n = rw (h, with-one) at f in
+              let v : table' ≡ table = rw (h, with-place) at g in
+              absurd (let k = r .fits in omega (arith, u, l, ap length v, k))
 
     pub firsting-end : length places ≤ i → (n ≡ min (length all) (1 + length table₀)) × (table ≡ sets table₀ 0 all)
     unfolding firsts

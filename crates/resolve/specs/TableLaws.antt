@@ -159,6 +159,9 @@ module _ {s table₀ table : List ℕ} {q n k i : ℕ} (r : Lays s table₀ tabl
       let f : offsets-from q n (drop i s) ≡ n ∷ [] = rw (drop-of-length-le s {i = i} l) refl in
       e ∙ ap (sets table k) (sym f) ∙ r .stored
 
+  pub lays-kept : {table' : List ℕ} → table' ≡ set table k n → length table' ≡ length table₀
+  lays-kept e = ap length e ∙ length-set table k n ∙ r .kept
+
   pub lays-count : length s ≤ i → k + 1 ≡ length (offsets q s)
   unfolding offsets-from
   lays-count l =

@@ -128,12 +128,10 @@ pub fn step_names(text: &[u8], places: &[usize], table: &mut [usize]) -> usize
     let mut i = 0;
     while i < places.len() {
         let at = places[i];
-        if is_new(text, table, n, at) {
-            if n >= table.len() {
-                return n + 1;
-            }
-            table[n] = at;
-            n += 1;
+        let new = is_new(text, table, n, at);
+        n = tables::add(table, n, at, new);
+        if n > table.len() {
+            return n;
         }
         i += 1;
     }

@@ -23,7 +23,7 @@ pub(crate) fn put(table: &mut [usize], n: usize, i: usize)
 }
 
 // One more place of a table's n, if it is one; and their count.
-fn add(table: &mut [usize], n: usize, i: usize, is: bool) -> usize
+pub(crate) fn add(table: &mut [usize], n: usize, i: usize, is: bool) -> usize
     requires { ⌜ n + 1 < 18446744073709551616 ⌝ }
     ensures { λ r. ⌜ r ≡ with-one is n ⌝ }
     ensures { λ _. ⌜ now (table .exit) ≡ with-place is (now (table .entry)) n i ⌝ }

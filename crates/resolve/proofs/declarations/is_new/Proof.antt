@@ -1,21 +1,14 @@
+-- `declarations::is_new` meets its contract.
+use Rattle.resolve.specs.FirstLaws.{not-below, take-long}
 use borrow.Author.Needs.{needs}
 use Rattle.resolve.proofs.declarations.is_new.Statement.{statement}
 use Rattle.resolve.proofs.declarations.is_new.Tie as tie
-use Rattle.resolve.proofs.declarations.is_new.Reads as reads
-use Rattle.resolve.proofs.declarations.is_new.Lts as lts
-use Rattle.resolve.proofs.names.lookup.Reads as lookup-reads
 
--- src/declarations.rt:119:25
 slice-aggregate-lookup : tie.Need-slice-aggregate-lookup
-slice-aggregate-lookup c = ?
+slice-aggregate-lookup c = take-long (c .before .before .before .args .table .now) (c .before .before .before .args .n) (c .before .before .before .pre)
 
--- src/declarations.rt:119:5
-lookup-requires : tie.Need-lookup-requires
-lookup-requires c κs = search needs
-
--- src/declarations.rt:115:1
 returns : tie.Need-returns
-returns c = ?
+returns c = not-below _ _ _ (c .lookup .ensures)
 
 pub is-new-spec : {M : Type 1} → statement M
-is-new-spec = tie.close (tie.spec slice-aggregate-lookup lookup-requires returns)
+is-new-spec = tie.close (tie.spec slice-aggregate-lookup (λ c κs. search needs) returns)

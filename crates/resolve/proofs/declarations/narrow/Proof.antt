@@ -1,78 +1,53 @@
+-- `declarations::narrow` meets its contract. The loop's invariant: the rows before i have few steps. The measure is what is left of the rows.
+use Prim.Native.Nat.{_-_}
+use mathlib.Core.Path.{sym, _∙_}
+use native.Mathlib.Omega.{arith}
+use borrow.Author.Tests.{not-true, not-false}
+use lib.ListN.{length}
+use lib.Dec.{leb}
+use Rattle.types.specs.Limits.{max-steps}
+use Rattle.resolve.specs.CheckLaws.{Paired, paired-start, paired-not, paired-on, paired-end}
+use Rattle.resolve.specs.Checks.{narrow}
+use borrow.Author.Needs.{needs}
 use Rattle.resolve.proofs.declarations.narrow.Statement.{statement}
 use Rattle.resolve.proofs.declarations.narrow.Tie as tie
-use Rattle.resolve.proofs.declarations.narrow.Reads as reads
-use Rattle.resolve.proofs.declarations.narrow.Lts as lts
-use Rattle.resolve.proofs.declarations.few.Reads as few-reads
 
 abbrev Inv-loop : tie.InvT-loop
-Inv-loop rows i₀ i = ?
+Inv-loop rows i₀ i = Paired (λ a b. leb (b - a) max-steps) rows i
 
 abbrev μ-loop : tie.MeasureT-loop
-μ-loop rows i₀ i = ?
+μ-loop rows i₀ i = length rows - i
 
--- src/declarations.rt:63:5
 loop-holds : tie.Need-loop-holds Inv-loop μ-loop
-loop-holds c = ?
+loop-holds c = paired-start _ _
 
--- src/declarations.rt:64:22
 sub-few : tie.Need-sub-few Inv-loop μ-loop
-sub-few c = ?
+sub-few c = omega (arith, c .before .loop .inv .begun)
 
--- src/declarations.rt:64:17
-mul-few : tie.Need-mul-few Inv-loop μ-loop
-mul-few c = ?
-
--- src/declarations.rt:64:17
 shared-slice-read-few : tie.Need-shared-slice-read-few Inv-loop μ-loop
-shared-slice-read-few c = ?
+shared-slice-read-few c = omega (arith, c .before .loop-test .taken, c .before .before .loop .inv .begun)
 
--- src/declarations.rt:64:30
-mul-few-2 : tie.Need-mul-few-2 Inv-loop μ-loop
-mul-few-2 c = ?
-
--- src/declarations.rt:64:30
 shared-slice-read-few-2 : tie.Need-shared-slice-read-few-2 Inv-loop μ-loop
-shared-slice-read-few-2 c = ?
+shared-slice-read-few-2 c = omega (arith, c .before .before .loop-test .taken)
 
--- src/declarations.rt:64:13
-few-requires : tie.Need-few-requires Inv-loop μ-loop
-few-requires c κs = ?
-
--- src/declarations.rt:65:13
 returns : tie.Need-returns Inv-loop μ-loop
-returns c = ?
+unfolding narrow
+returns c = let at-loop-test = c .before .before .before .before in
+    paired-not _ _ _ (at-loop-test .before .loop .inv) (c .before .before .before .before .loop-test .taken) (sym (not-true _ (c .if1 .taken)) ∙ c .before .few .ensures)
 
--- src/declarations.rt:67:9
 add-i : tie.Need-add-i Inv-loop μ-loop
-add-i c = ?
+add-i c = omega (arith, c .before .before .before .before .loop-test .taken)
 
--- src/declarations.rt:63:5
 loop-less : tie.Need-loop-less Inv-loop μ-loop
-loop-less c = ?
+loop-less c = omega (arith, c .before .before .before .before .loop-test .taken)
 
--- src/declarations.rt:63:5
 loop-again : tie.Need-loop-again Inv-loop μ-loop
-loop-again c = ?
+loop-again c = let at-loop-test = c .before .before .before .before in
+    paired-on _ _ _ (at-loop-test .before .loop .inv) (c .before .before .before .before .loop-test .taken) (sym (not-false _ (c .if1 .left)) ∙ c .before .few .ensures)
 
--- src/declarations.rt:59:1
 returns-2 : tie.Need-returns-2 Inv-loop μ-loop
-returns-2 c = ?
+unfolding narrow
+returns-2 c = paired-end _ _ _ (c .before .loop .inv) (c .loop-test .left)
 
 pub narrow-spec : {M : Type 1} → statement M
-narrow-spec =
-    tie.close
-    (tie.spec
-    Inv-loop
-    μ-loop
-    loop-holds
-    sub-few
-    mul-few
-    shared-slice-read-few
-    mul-few-2
-    shared-slice-read-few-2
-    few-requires
-    returns
-    add-i
-    loop-less
-    loop-again
-    returns-2)
+narrow-spec = tie.close (tie.spec Inv-loop μ-loop loop-holds sub-few (λ c. search needs) shared-slice-read-few (λ c. search needs) shared-slice-read-few-2 (λ c κs. search needs) returns add-i loop-less loop-again returns-2)

@@ -1,51 +1,22 @@
+-- `declarations::row_ok` meets its contract: one law for each way.
+use mathlib.Core.Path.{_∙_}
+use native.Mathlib.Omega.{arith}
+use Rattle.resolve.specs.CheckLaws.{row-turned, row-out, row-long, row-short}
 use borrow.Author.Needs.{needs}
 use Rattle.resolve.proofs.declarations.row_ok.Statement.{statement}
 use Rattle.resolve.proofs.declarations.row_ok.Tie as tie
-use Rattle.resolve.proofs.declarations.row_ok.Reads as reads
-use Rattle.resolve.proofs.declarations.row_ok.Lts as lts
-use Rattle.resolve.proofs.tables.distinct.Reads as distinct-reads
 
--- src/declarations.rt:23:9
 returns : tie.Need-returns
-returns c = ?
+returns c = row-turned _ _ _ _ (c .if1 .taken)
 
--- src/declarations.rt:26:9
 returns-2 : tie.Need-returns-2
-returns-2 c = ?
+returns-2 c = row-out _ _ _ _ (c .before .if1 .left) (c .if2 .taken)
 
--- src/declarations.rt:29:9
 returns-3 : tie.Need-returns-3
-returns-3 c = ?
+returns-3 c = row-long _ _ _ _ (c .before .before .if1 .left) (c .before .if2 .left) (c .if3 .taken)
 
--- src/declarations.rt:31:28
-mul-distinct : tie.Need-mul-distinct
-mul-distinct c = search needs
-
--- src/declarations.rt:31:28
-part-distinct-start : tie.Need-part-distinct-start
-part-distinct-start c = search needs
-
--- src/declarations.rt:31:28
-part-distinct-end : tie.Need-part-distinct-end
-part-distinct-end c = search needs
-
--- src/declarations.rt:31:5
-distinct-requires : tie.Need-distinct-requires
-distinct-requires c κs = search needs
-
--- src/declarations.rt:19:1
 returns-4 : tie.Need-returns-4
-returns-4 c = ?
+returns-4 c = c .distinct .ensures ∙ row-short _ _ _ _ (c .before .before .before .before .if1 .left) (c .before .before .before .if2 .left) (c .before .before .if3 .left)
 
 pub row-ok-spec : {M : Type 1} → statement M
-row-ok-spec =
-    tie.close
-    (tie.spec
-    returns
-    returns-2
-    returns-3
-    mul-distinct
-    part-distinct-start
-    part-distinct-end
-    distinct-requires
-    returns-4)
+row-ok-spec = tie.close (tie.spec returns returns-2 returns-3 (λ c. search needs) (λ c. search needs) (λ c. search needs) (λ c κs. search needs) returns-4)

@@ -1,78 +1,52 @@
+-- `declarations::rows_ok` meets its contract. The loop's invariant: the rows before i are of few parameters with different names. The measure is what is left
+-- of the rows.
+use Prim.Native.Nat.{_-_}
+use mathlib.Core.Path.{sym, _∙_}
+use native.Mathlib.Omega.{arith}
+use borrow.Author.Tests.{not-true, not-false}
+use lib.ListN.{length}
+use Rattle.resolve.specs.CheckLaws.{Paired, paired-start, paired-not, paired-on, paired-end}
+use Rattle.resolve.specs.Checks.{row-ok, rows-ok}
+use borrow.Author.Needs.{needs}
 use Rattle.resolve.proofs.declarations.rows_ok.Statement.{statement}
 use Rattle.resolve.proofs.declarations.rows_ok.Tie as tie
-use Rattle.resolve.proofs.declarations.rows_ok.Reads as reads
-use Rattle.resolve.proofs.declarations.rows_ok.Lts as lts
-use Rattle.resolve.proofs.declarations.row_ok.Reads as row-ok-reads
 
 abbrev Inv-loop : tie.InvT-loop
-Inv-loop text pars rows i₀ i = ?
+Inv-loop text pars rows i₀ i = Paired (row-ok text pars) rows i
 
 abbrev μ-loop : tie.MeasureT-loop
-μ-loop text pars rows i₀ i = ?
+μ-loop text pars rows i₀ i = length rows - i
 
--- src/declarations.rt:39:5
 loop-holds : tie.Need-loop-holds Inv-loop μ-loop
-loop-holds c = ?
+loop-holds c = paired-start _ _
 
--- src/declarations.rt:40:37
 sub-row-ok : tie.Need-sub-row-ok Inv-loop μ-loop
-sub-row-ok c = ?
+sub-row-ok c = omega (arith, c .before .loop .inv .begun)
 
--- src/declarations.rt:40:32
-mul-row-ok : tie.Need-mul-row-ok Inv-loop μ-loop
-mul-row-ok c = ?
-
--- src/declarations.rt:40:32
 shared-slice-read-row-ok : tie.Need-shared-slice-read-row-ok Inv-loop μ-loop
-shared-slice-read-row-ok c = ?
+shared-slice-read-row-ok c = omega (arith, c .before .loop-test .taken, c .before .before .loop .inv .begun)
 
--- src/declarations.rt:40:45
-mul-row-ok-2 : tie.Need-mul-row-ok-2 Inv-loop μ-loop
-mul-row-ok-2 c = ?
-
--- src/declarations.rt:40:45
 shared-slice-read-row-ok-2 : tie.Need-shared-slice-read-row-ok-2 Inv-loop μ-loop
-shared-slice-read-row-ok-2 c = ?
+shared-slice-read-row-ok-2 c = omega (arith, c .before .before .loop-test .taken)
 
--- src/declarations.rt:40:13
-row-ok-requires : tie.Need-row-ok-requires Inv-loop μ-loop
-row-ok-requires c κs = ?
-
--- src/declarations.rt:41:13
 returns : tie.Need-returns Inv-loop μ-loop
-returns c = ?
+unfolding rows-ok
+returns c = let at-loop-test = c .before .before .before .before in
+    paired-not _ _ _ (at-loop-test .before .loop .inv) (c .before .before .before .before .loop-test .taken) (sym (not-true _ (c .if1 .taken)) ∙ c .before .row-ok .ensures)
 
--- src/declarations.rt:43:9
 add-i : tie.Need-add-i Inv-loop μ-loop
-add-i c = ?
+add-i c = omega (arith, c .before .before .before .before .loop-test .taken)
 
--- src/declarations.rt:39:5
 loop-less : tie.Need-loop-less Inv-loop μ-loop
-loop-less c = ?
+loop-less c = omega (arith, c .before .before .before .before .loop-test .taken)
 
--- src/declarations.rt:39:5
 loop-again : tie.Need-loop-again Inv-loop μ-loop
-loop-again c = ?
+loop-again c = let at-loop-test = c .before .before .before .before in
+    paired-on _ _ _ (at-loop-test .before .loop .inv) (c .before .before .before .before .loop-test .taken) (sym (not-false _ (c .if1 .left)) ∙ c .before .row-ok .ensures)
 
--- src/declarations.rt:35:1
 returns-2 : tie.Need-returns-2 Inv-loop μ-loop
-returns-2 c = ?
+unfolding rows-ok
+returns-2 c = paired-end _ _ _ (c .before .loop .inv) (c .loop-test .left)
 
 pub rows-ok-spec : {M : Type 1} → statement M
-rows-ok-spec =
-    tie.close
-    (tie.spec
-    Inv-loop
-    μ-loop
-    loop-holds
-    sub-row-ok
-    mul-row-ok
-    shared-slice-read-row-ok
-    mul-row-ok-2
-    shared-slice-read-row-ok-2
-    row-ok-requires
-    returns
-    add-i
-    loop-less
-    loop-again
-    returns-2)
+rows-ok-spec = tie.close (tie.spec Inv-loop μ-loop loop-holds sub-row-ok (λ c. search needs) shared-slice-read-row-ok (λ c. search needs) shared-slice-read-row-ok-2 (λ c κs. search needs) returns add-i loop-less loop-again returns-2)

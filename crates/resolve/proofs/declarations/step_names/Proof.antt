@@ -1,93 +1,59 @@
+-- `declarations::step_names` meets its contract. The loop's invariant: the names that are left complete the table. The measure is what is left of the places.
+use Prim.Native.Nat.{_-_}
+use native.Mathlib.Omega.{arith}
+use lib.ListN.{length}
+use Rattle.resolve.specs.FirstLaws.{Firsting, firsting-start, firsting-on, firsting-kept, firsting-over, firsting-end}
+use borrow.Author.Needs.{needs}
 use Rattle.resolve.proofs.declarations.step_names.Statement.{statement}
 use Rattle.resolve.proofs.declarations.step_names.Tie as tie
-use Rattle.resolve.proofs.declarations.step_names.Reads as reads
-use Rattle.resolve.proofs.declarations.step_names.Lts as lts
-use Rattle.resolve.proofs.declarations.is_new.Reads as is-new-reads
 
 abbrev Inv-loop : tie.InvT-loop
-Inv-loop text places table₀ n₀ i₀ table n i = ?
+Inv-loop text places table₀ n₀ i₀ table n i = Firsting text places table₀ table n i
 
 abbrev μ-loop : tie.MeasureT-loop
-μ-loop text places table₀ n₀ i₀ table n i = ?
+μ-loop text places table₀ n₀ i₀ table n i = length places - i
 
--- src/declarations.rt:129:5
 loop-holds : tie.Need-loop-holds Inv-loop μ-loop
-loop-holds c = ?
+loop-holds c = firsting-start _ _ _
 
--- src/declarations.rt:130:18
-mul-at : tie.Need-mul-at Inv-loop μ-loop
-mul-at c = ?
-
--- src/declarations.rt:130:18
 shared-slice-read-at : tie.Need-shared-slice-read-at Inv-loop μ-loop
-shared-slice-read-at c = ?
+shared-slice-read-at c = omega (arith, c .before .loop-test .taken)
 
--- src/declarations.rt:131:12
 is-new-requires : tie.Need-is-new-requires Inv-loop μ-loop
-is-new-requires c κs = ?
+is-new-requires c κs = c .before .before .before .loop .inv .fits
 
--- src/declarations.rt:133:24
-add-result : tie.Need-add-result Inv-loop μ-loop
-add-result c = ?
+add-requires : tie.Need-add-requires Inv-loop μ-loop
+add-requires c κs = let at-loop-test = c .before .before .before .before in
+    omega (arith, at-loop-test .before .loop .inv .few, c .before .before .before .before .loop-test .taken)
 
--- src/declarations.rt:133:17
 same-length : tie.Need-same-length Inv-loop μ-loop
-same-length c = ?
+same-length c = let at-add-arg = c .before .before .before .before in
+    let at-loop-test = at-add-arg .before .before .before .before in
+    firsting-kept _ _ _ _ _ _ (at-loop-test .before .loop .inv) (at-add-arg .before .before .before .before .loop-test .taken) (at-add-arg .before .is-new .ensures) (c .before .before .before .add .ensures .1)
 
--- src/declarations.rt:133:17
 returns : tie.Need-returns Inv-loop μ-loop
-returns c = ?
+returns c = let at-add-arg = c .before .before .before .before in
+    let at-loop-test = at-add-arg .before .before .before .before in
+    firsting-over _ _ _ _ _ _ (at-loop-test .before .loop .inv) (at-add-arg .before .before .before .before .loop-test .taken) (at-add-arg .before .is-new .ensures) (c .before .before .before .add .ensures .0) (c .before .before .before .add .ensures .1) (c .if1 .taken)
 
--- src/declarations.rt:135:13
-mul-table : tie.Need-mul-table Inv-loop μ-loop
-mul-table c = ?
-
--- src/declarations.rt:135:13
-slice-write-table : tie.Need-slice-write-table Inv-loop μ-loop
-slice-write-table c = ?
-
--- src/declarations.rt:136:13
-add-n : tie.Need-add-n Inv-loop μ-loop
-add-n c = ?
-
--- src/declarations.rt:138:9
 add-i : tie.Need-add-i Inv-loop μ-loop
-add-i c = ?
+add-i c = let at-add-arg = c .before .before .before .before in
+    omega (arith, at-add-arg .before .before .before .before .loop-test .taken)
 
--- src/declarations.rt:129:5
 loop-less : tie.Need-loop-less Inv-loop μ-loop
-loop-less c = ?
+loop-less c = let at-add-arg = c .before .before .before .before in
+    omega (arith, at-add-arg .before .before .before .before .loop-test .taken)
 
--- src/declarations.rt:129:5
 loop-again : tie.Need-loop-again Inv-loop μ-loop
-loop-again c = ?
+loop-again c = let at-add-arg = c .before .before .before .before in
+    let at-loop-test = at-add-arg .before .before .before .before in
+    firsting-on _ _ _ _ _ _ (at-loop-test .before .loop .inv) (at-add-arg .before .before .before .before .loop-test .taken) (at-add-arg .before .is-new .ensures) (c .before .before .before .add .ensures .0) (c .before .before .before .add .ensures .1) (c .if1 .left)
 
--- src/declarations.rt:123:1
 same-length-2 : tie.Need-same-length-2 Inv-loop μ-loop
-same-length-2 c = ?
+same-length-2 c = c .before .loop .inv .kept
 
--- src/declarations.rt:123:1
 returns-2 : tie.Need-returns-2 Inv-loop μ-loop
-returns-2 c = ?
+returns-2 c = firsting-end _ _ _ _ _ _ (c .before .loop .inv) (c .loop-test .left)
 
 pub step-names-spec : {M : Type 1} → statement M
-step-names-spec =
-    tie.close
-    (tie.spec
-    Inv-loop
-    μ-loop
-    loop-holds
-    mul-at
-    shared-slice-read-at
-    is-new-requires
-    add-result
-    same-length
-    returns
-    mul-table
-    slice-write-table
-    add-n
-    add-i
-    loop-less
-    loop-again
-    same-length-2
-    returns-2)
+step-names-spec = tie.close (tie.spec Inv-loop μ-loop loop-holds (λ c. search needs) shared-slice-read-at is-new-requires add-requires same-length returns add-i loop-less loop-again same-length-2 returns-2)

@@ -1,101 +1,60 @@
+-- `declarations::types` meets its contract. The loop's invariant: the types that are left complete the table. The measure is what is left of the places.
+use Prim.Native.Nat.{_-_}
+use mathlib.Core.Bool.{false≢true}
+use native.Mathlib.Omega.{arith}
+use lib.ListN.{length}
+use Rattle.resolve.specs.Named.{names-at}
+use Rattle.resolve.specs.CheckLaws.{Typing, typing-start, typing-not, typing-on, typing-end, typing-stored, of-type}
+use borrow.Author.Needs.{needs}
 use Rattle.resolve.proofs.declarations.types.Statement.{statement}
 use Rattle.resolve.proofs.declarations.types.Tie as tie
-use Rattle.resolve.proofs.declarations.types.Reads as reads
-use Rattle.resolve.proofs.declarations.types.Lts as lts
-use Rattle.lexer.proofs.bytes.byte.Reads as byte-reads
-use Rattle.resolve.proofs.declarations.type_byte.Reads as type-byte-reads
-use Rattle.resolve.proofs.declarations.type_kind.Reads as type-kind-reads
-use Rattle.resolve.proofs.tables.put.Reads as put-reads
 
 abbrev Inv-loop : tie.InvT-loop
-Inv-loop text roles structs places table₀ i₀ table i = ?
+Inv-loop text roles structs places table₀ i₀ table i = Typing text roles (names-at text structs) (length structs) places table₀ table i
 
 abbrev μ-loop : tie.MeasureT-loop
-μ-loop text roles structs places table₀ i₀ table i = ?
+μ-loop text roles structs places table₀ i₀ table i = length places - i
 
--- src/declarations.rt:102:5
 loop-holds : tie.Need-loop-holds Inv-loop μ-loop
-loop-holds c = ?
+loop-holds c = typing-start _ _ _ _ _ _
 
--- src/declarations.rt:103:18
-mul-at : tie.Need-mul-at Inv-loop μ-loop
-mul-at c = ?
-
--- src/declarations.rt:103:18
 shared-slice-read-at : tie.Need-shared-slice-read-at Inv-loop μ-loop
-shared-slice-read-at c = ?
+shared-slice-read-at c = omega (arith, c .before .loop-test .taken)
 
--- src/declarations.rt:104:52
-byte-requires : tie.Need-byte-requires Inv-loop μ-loop
-byte-requires c κs = ?
-
--- src/declarations.rt:104:42
-type-kind-requires : tie.Need-type-kind-requires Inv-loop μ-loop
-type-kind-requires c κs = ?
-
--- src/declarations.rt:104:13
-type-byte-requires : tie.Need-type-byte-requires Inv-loop μ-loop
-type-byte-requires c κs = ?
-
--- src/declarations.rt:105:17
-cast-if1 : tie.Need-cast-if1 Inv-loop μ-loop
-cast-if1 c = ?
-
--- src/declarations.rt:105:17
 add-if1 : tie.Need-add-if1 Inv-loop μ-loop
-add-if1 c = ?
+add-if1 c = let at-loop-test = c .before .before .before .before in
+    let at-shared-slice-known3 = at-loop-test .before .before .before .before in
+    omega (arith, at-shared-slice-known3 .before .before .before .pre)
 
--- src/declarations.rt:106:13
 same-length : tie.Need-same-length Inv-loop μ-loop
-same-length c = ?
+same-length c = let at-shared-slice-known5 = c .before .before .before .before in
+    at-shared-slice-known5 .before .before .loop .inv .kept
 
--- src/declarations.rt:106:13
 returns : tie.Need-returns Inv-loop μ-loop
-returns c = ?
+returns c = let at-shared-slice-known5 = c .before .before .before .before in
+    (typing-not _ _ _ _ _ _ _ _ (at-shared-slice-known5 .before .before .loop .inv) (at-shared-slice-known5 .before .loop-test .taken) _ (of-type _ _ (c .before .type-byte .ensures) (c .before .before .type-kind .ensures) (c .before .before .before .byte .ensures)) (c .if1 .taken), λ e. absurd (false≢true e))
 
--- src/declarations.rt:108:9
-put-requires : tie.Need-put-requires Inv-loop μ-loop
-put-requires c κs = ?
-
--- src/declarations.rt:109:9
 add-i : tie.Need-add-i Inv-loop μ-loop
-add-i c = ?
+add-i c = let at-if1 = c .before .before .before .before in
+    let at-shared-slice-known5 = at-if1 .before .before .before .before in
+    let at-shared-slice-known4 = at-shared-slice-known5 .before .before .before .before in
+    omega (arith, at-shared-slice-known5 .before .loop-test .taken, at-shared-slice-known4 .before .before .before .before .good)
 
--- src/declarations.rt:102:5
 loop-less : tie.Need-loop-less Inv-loop μ-loop
-loop-less c = ?
+loop-less c = let at-if1 = c .before .before .before .before in
+    let at-shared-slice-known5 = at-if1 .before .before .before .before in
+    omega (arith, at-shared-slice-known5 .before .loop-test .taken)
 
--- src/declarations.rt:102:5
 loop-again : tie.Need-loop-again Inv-loop μ-loop
-loop-again c = ?
+loop-again c = let at-if1 = c .before .before .before .before in
+    let at-shared-slice-known5 = at-if1 .before .before .before .before in
+    typing-on _ _ _ _ _ _ _ _ (at-shared-slice-known5 .before .before .loop .inv) (at-shared-slice-known5 .before .loop-test .taken) _ (of-type _ _ (at-if1 .before .type-byte .ensures) (at-if1 .before .before .type-kind .ensures) (at-if1 .before .before .before .byte .ensures)) (c .before .before .before .before .if1 .left) (c .before .before .put .ensures)
 
--- src/declarations.rt:94:1
 same-length-2 : tie.Need-same-length-2 Inv-loop μ-loop
-same-length-2 c = ?
+same-length-2 c = c .before .loop .inv .kept
 
--- src/declarations.rt:94:1
 returns-2 : tie.Need-returns-2 Inv-loop μ-loop
-returns-2 c = ?
+returns-2 c = (typing-end _ _ _ _ _ _ _ _ (c .before .loop .inv) (c .loop-test .left), λ e. typing-stored _ _ _ _ _ _ _ _ (c .before .loop .inv) (c .loop-test .left))
 
 pub types-spec : {M : Type 1} → statement M
-types-spec =
-    tie.close
-    (tie.spec
-    Inv-loop
-    μ-loop
-    loop-holds
-    mul-at
-    shared-slice-read-at
-    byte-requires
-    type-kind-requires
-    type-byte-requires
-    cast-if1
-    add-if1
-    same-length
-    returns
-    put-requires
-    add-i
-    loop-less
-    loop-again
-    same-length-2
-    returns-2)
+types-spec = tie.close (tie.spec Inv-loop μ-loop loop-holds (λ c. search needs) shared-slice-read-at (λ c κs. search needs) (λ c κs. search needs) (λ c κs. search needs) (λ c. search needs) add-if1 same-length returns (λ c κs. search needs) add-i loop-less loop-again same-length-2 returns-2)

@@ -1,75 +1,54 @@
+-- `tables::rows` meets its contract. The loop's invariant: the rows that are left complete the table. The measure is what is left of the roles.
+use Prim.Native.Nat.{_-_}
+use native.Mathlib.Omega.{arith}
+use lib.ListN.{length}
+use Rattle.resolve.specs.TableLaws.{Lays, lays-start, lays-on, lays-end, lays-kept, lays-count}
+use borrow.Author.Needs.{needs}
 use Rattle.resolve.proofs.tables.rows.Statement.{statement}
 use Rattle.resolve.proofs.tables.rows.Tie as tie
-use Rattle.resolve.proofs.tables.rows.Reads as reads
-use Rattle.resolve.proofs.tables.rows.Lts as lts
-use Rattle.resolve.proofs.tables.add.Reads as add-reads
-use Rattle.resolve.proofs.tables.counted.Reads as counted-reads
-use Rattle.resolve.proofs.tables.put.Reads as put-reads
 
 abbrev Inv-loop : tie.InvT-loop
-Inv-loop roles role table₀ n₀ k₀ i₀ table n k i = ?
+Inv-loop roles role table₀ n₀ k₀ i₀ table n k i = Lays roles table₀ table role n k i
 
 abbrev μ-loop : tie.MeasureT-loop
-μ-loop roles role table₀ n₀ k₀ i₀ table n k i = ?
+μ-loop roles role table₀ n₀ k₀ i₀ table n k i = length roles - i
 
--- src/tables.rt:71:5
 loop-holds : tie.Need-loop-holds Inv-loop μ-loop
-loop-holds c = ?
+loop-holds c = lays-start (c .before .before .args .roles .now) (c .before .before .args .table .now) (c .before .before .args .role)
 
--- src/tables.rt:72:17
 shared-slice-read-b : tie.Need-shared-slice-read-b Inv-loop μ-loop
-shared-slice-read-b c = ?
+shared-slice-read-b c = omega (arith, c .before .loop-test .taken)
 
--- src/tables.rt:73:9
 add-requires : tie.Need-add-requires Inv-loop μ-loop
-add-requires c κs = ?
+add-requires c κs = omega (arith, c .before .before .loop-test .taken, c .before .before .before .loop .inv .few)
 
--- src/tables.rt:74:9
 counted-requires : tie.Need-counted-requires Inv-loop μ-loop
-counted-requires c κs = ?
+counted-requires c κs = let at-shared-slice-known2 = c .before .before .before .before in
+    omega (arith, at-shared-slice-known2 .before .loop-test .taken, at-shared-slice-known2 .before .before .loop .inv .less)
 
--- src/tables.rt:75:9
 add-i : tie.Need-add-i Inv-loop μ-loop
-add-i c = ?
+add-i c = let at-add-arg = c .before .before .before .before in
+    omega (arith, at-add-arg .before .before .loop-test .taken)
 
--- src/tables.rt:71:5
 loop-less : tie.Need-loop-less Inv-loop μ-loop
-loop-less c = ?
+loop-less c = let at-add-arg = c .before .before .before .before in
+    omega (arith, at-add-arg .before .before .loop-test .taken)
 
--- src/tables.rt:71:5
 loop-again : tie.Need-loop-again Inv-loop μ-loop
-loop-again c = ?
+loop-again c = let at-add-arg = c .before .before .before .before in
+    lays-on (at-add-arg .before .before .before .loop .inv) (at-add-arg .before .before .loop-test .taken) (c .before .before .before .add .ensures .0) (c .before .before .before .add .ensures .1) (c .counted .ensures)
 
--- src/tables.rt:77:5
-put-requires : tie.Need-put-requires Inv-loop μ-loop
-put-requires c κs = ?
-
--- src/tables.rt:78:5
 add-result : tie.Need-add-result Inv-loop μ-loop
-add-result c = ?
+add-result c = let at-loop-test = c .before .before .before .before in
+    omega (arith, at-loop-test .before .loop .inv .few, at-loop-test .before .loop .inv .inner)
 
--- src/tables.rt:64:1
 same-length : tie.Need-same-length Inv-loop μ-loop
-same-length c = ?
+same-length c = let at-loop-test = c .before .before .before .before in
+    lays-kept (at-loop-test .before .loop .inv) (c .before .before .put .ensures)
 
--- src/tables.rt:64:1
 returns : tie.Need-returns Inv-loop μ-loop
-returns c = ?
+returns c = let at-loop-test = c .before .before .before .before in
+    (lays-count (at-loop-test .before .loop .inv) (c .before .before .before .before .loop-test .left), lays-end (at-loop-test .before .loop .inv) (c .before .before .before .before .loop-test .left) (c .before .before .put .ensures))
 
 pub rows-spec : {M : Type 1} → statement M
-rows-spec =
-    tie.close
-    (tie.spec
-    Inv-loop
-    μ-loop
-    loop-holds
-    shared-slice-read-b
-    add-requires
-    counted-requires
-    add-i
-    loop-less
-    loop-again
-    put-requires
-    add-result
-    same-length
-    returns)
+rows-spec = tie.close (tie.spec Inv-loop μ-loop loop-holds shared-slice-read-b add-requires counted-requires add-i loop-less loop-again (λ c κs. search needs) add-result same-length returns)
