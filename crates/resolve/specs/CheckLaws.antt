@@ -1,18 +1,17 @@
 -- Laws of the tests of tables: one for each way through the code, and the loops over rows.
 use Prim.Native.Nat.{ℕ, zero, suc, _+_, _-_, _≤_, _<_}
 use native.Mathlib.Omega.{arith}
-use native.Mathlib.Numerals.{add-one, sub-one}
+use native.Mathlib.Numerals.{add-one}
 use mathlib.Core.Path.{_≡_, refl, sym, ap, _∙_}
-use mathlib.Core.Bool.{Bool, true, false, _&&_}
+use mathlib.Core.Bool.{Bool, true, false}
 use mathlib.Core.List.{List, [], _∷_}
 use lib.ListN.{length, getD, set, drop, length-set, length-drop, drop-of-length-le}
 use lib.Seq.{sets}
-use lib.Dec.{leb}
 use borrow.Author.Tests.{le-leb, lt-leb, lt-ltb, le-ltb}
 use Rattle.types.specs.Limits.{max-params}
 use Rattle.types.specs.Types.{struct-code}
 use Rattle.tokens.specs.Scanning.{same}
-use Rattle.syntax.specs.Syntax.{Id, TypeName, TypeName.id-type}
+use Rattle.syntax.specs.Syntax.{Id, TypeName.id-type}
 use Rattle.lexer.specs.RunLaws.{next-byte}
 use Rattle.meaning.specs.Finding.{distinct}
 use Rattle.meaning.specs.HoldsDecide.{all}
@@ -107,7 +106,8 @@ unfolding sought
 sought-within y text [] = omega arith
 sought-within y text (p ∷ table) = go (same (name-at text p) y) refl (sought-within y text table)
   where
-    go : (t : Bool) → same (name-at text p) y ≡ t → sought y (names-at text table) ≤ length table → sought y (name-at text p ∷ names-at text table) ≤ suc (length table)
+    go : (t : Bool) → same (name-at text p) y ≡ t → sought y (names-at text table) ≤ length table
+        → sought y (name-at text p ∷ names-at text table) ≤ suc (length table)
     go true e h = rw (sought, e) (omega arith)
     go false e h = rw (sought, e) (omega arith)
 
@@ -136,7 +136,9 @@ module _ (text roles : List ℕ) (names : List Id) (structs : ℕ) (places table
 
       pub typing-not : struct-code + structs ≤ b → false ≡ known structs (types-at text roles names places)
       unfolding known all
-      typing-not l = let f : known structs (types-at text roles names (drop i places)) ≡ false = rw (here-typed, le-ltb b (struct-code + structs) l) refl in sym f ∙ r .rest
+      typing-not l =
+          let f : known structs (types-at text roles names (drop i places)) ≡ false = rw (here-typed, le-ltb b (struct-code + structs) l) refl in
+          sym f ∙ r .rest
 
       pub typing-on : {table' : List ℕ} → b < struct-code + structs → table' ≡ set table i b → Typing text roles names structs places table₀ table' (i + 1)
       unfolding known all
@@ -148,8 +150,8 @@ module _ (text roles : List ℕ) (names : List Id) (structs : ℕ) (places table
             kept = ap length g ∙ length-set table i b ∙ r .kept;
             rest = sym f ∙ r .rest;
             stored =
-              ap (λ k. sets table' k (types-at text roles names (drop (i + 1) places))) (add-one i)
-              ∙ ap (λ v. sets v (suc i) (types-at text roles names (drop (i + 1) places))) g ∙ ap (sets table i) (sym here-typed) ∙ r .stored;
+                ap (λ k. sets table' k (types-at text roles names (drop (i + 1) places))) (add-one i)
+                ∙ ap (λ v. sets v (suc i) (types-at text roles names (drop (i + 1) places))) g ∙ ap (sets table i) (sym here-typed) ∙ r .stored;
           }
 
     module _ (l : length places ≤ i) where

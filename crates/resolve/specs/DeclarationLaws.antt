@@ -1,5 +1,5 @@
 -- The tables of declarations say what a derivation's declarations mean: types by their bytes, rows of parameters, rows of steps, step names each once.
-use Prim.Native.Nat.{ℕ, zero, suc, _+_, _-_, _≤_, _<_}
+use Prim.Native.Nat.{ℕ, suc, _+_, _-_, _≤_}
 use native.Mathlib.Omega.{arith}
 use native.Mathlib.Numerals.{add-one}
 use mathlib.Core.Path.{_≡_, refl, sym, ap, _∙_}
@@ -11,8 +11,7 @@ use lib.Seq.{drop-drop}
 use lib.Dec.{leb, ltb}
 use borrow.Author.Tests.{lt-ltb, le-ltb, le-leb, ltb-true, ltb-false}
 use Rattle.types.specs.Limits.{max-params, max-steps}
-use Rattle.types.specs.Types.{Ty, Ty.int, Ty.nat, Ty.bool, Ty.ref, struct-code, code}
-use Rattle.program.specs.Encoding.{flat}
+use Rattle.types.specs.Types.{struct-code, code}
 use Rattle.syntax.specs.Syntax.{Id, TypeName, TypeName.int-type, TypeName.nat-type, TypeName.bool-type, TypeName.id-type, Par, Struct}
 use Rattle.tokens.specs.Scanning.{same}
 use Rattle.meaning.specs.Scope.{par-id, par-type, struct-id, pars-of}
@@ -23,7 +22,7 @@ use Rattle.meaning.specs.Meant.{then, provided, each, type-meaning, pars-meanin
 use Rattle.resolve.specs.Named.{name-at, names-at, sought}
 use Rattle.resolve.specs.NamedLaws.{found-where-sought, none-where-sought}
 use Rattle.resolve.specs.Declares.{all-pars, sums}
-use Rattle.resolve.specs.Checks.{part-of, row-ok, between-all, rows-ok, narrow, byte-of, known, firsts}
+use Rattle.resolve.specs.Checks.{part-of, row-ok, between-all, rows-ok, narrow, byte-of, firsts}
 
 -- a row of things that mean something by a test, and then what the test says of them
 each-known : {A B C : Type 0} (f : A → Option B) (c : B → C) (t : A → Bool) (w : A → C) → ((a : A) → then (f a) (λ b. some (c b)) ≡ provided (t a) (some (w a)))
@@ -97,7 +96,8 @@ module _ (ds : List Struct) where
           → then (pars-meaning ds d) (λ us. some (map code us)) ≡ provided (sound d) (some (row-bytes d))
       go true e =
           rw (e, sound)
-          (each-known (λ q. type-meaning ds (par-type q)) code (λ q. one-known (byte (par-type q))) (λ q. byte (par-type q)) (λ q. type-known (par-type q)) (pars-of d))
+          (each-known (λ q. type-meaning ds (par-type q)) code (λ q. one-known (byte (par-type q))) (λ q. byte (par-type q)) (λ q. type-known (par-type q))
+          (pars-of d))
       go false e = rw (e, sound) refl
 
   -- what all parameters mean
@@ -247,7 +247,8 @@ module _ (x : List ℕ) where
   same-on met l p h y =
       go (same (name-at x p) y) refl
       ∙ sym (sought-last y (name-at x p) (names-at x met))
-      ∙ ap (λ n. ltb (sought y (names-at x met ++ (name-at x p ∷ []))) n) (ap suc (names-long-at met) ∙ sym (add-one (length met)) ∙ sym (length-append met (p ∷ [])))
+      ∙ ap (λ n. ltb (sought y (names-at x met ++ (name-at x p ∷ []))) n)
+      (ap suc (names-long-at met) ∙ sym (add-one (length met)) ∙ sym (length-append met (p ∷ [])))
       ∙ ap (λ k. ltb (sought y k) (length (met ++ (p ∷ [])))) (sym (names-append met (p ∷ [])))
     where
       go : (t : Bool) → same (name-at x p) y ≡ t

@@ -1,24 +1,19 @@
 -- A derivation declares its structs, and in each its parameters and its steps, in order; bodies and the schedule declare none of these, whatever is asked of
 -- the roles.
-use Prim.Native.Nat.{ℕ, suc, _+_, _<_}
+use Prim.Native.Nat.{ℕ, _<_}
 use native.Mathlib.Omega.{arith}
 use mathlib.Core.Path.{_≡_, refl, sym, ap, _∙_}
-use mathlib.Core.Bool.{true, false, false≢true}
-use lib.ListN.{length}
+use mathlib.Core.Bool.{true, false≢true}
 use mathlib.Core.List.{List, [], _∷_, _++_, map, append-assoc, append-nil}
 use borrow.Author.Tests.{ne-eqb}
-use Rattle.tokens.specs.Tokens.{Sign.semicolon, Sign.assign, Sign.colon, Sign.dot as dot-sign, Sign.bang, Word.w-then, Word.w-if, Word.w-null, Word.w-this, Word.w-fix, Token.sign, Token.word, Token.op}
-use Rattle.syntax.specs.Yield.{literal-token}
-use Rattle.syntax.specs.Syntax.{TypeName, Var, Var.id, Var.dot}
-use Rattle.syntax.specs.Syntax.{Exp, Exp.binary, Exp.brackets, Exp.negation, Exp.constructor, Exp.variable, Exp.literal, Exp.null, Exp.this, Exps, Exps.no-exps, Exps.exps, Stat, Stat.if-then, Stat.assignment, Stat.update, Stat.construct, Stats, Stats.no-stats, Stats.stats}
-use Rattle.syntax.specs.Syntax.{Par, Par.par, Step, Step.step, Struct, Struct.struct, Defs, Defs.last-struct, Defs.defs, Item, Item.execution, Item.typed-execution, Item.fixpoint, Sched, Sched.last-item, Sched.barrier, Program, Program.program}
+use Rattle.syntax.specs.Syntax.{TypeName}
+use Rattle.syntax.specs.Syntax.{Par, Par.par, Struct, Struct.struct, Defs, Defs.last-struct, Defs.defs, Sched, Program.program}
 use Rattle.meaning.specs.Scope.{par-id, par-type, step-id, struct-id, pars-of, steps-of, structs-of}
 use Rattle.meaning.specs.StepNames.{all-steps}
-use Rattle.derive.specs.Roles.{Naming, Naming.new-struct, Naming.new-par, Naming.new-step, Naming.new-local, Naming.first-read, Naming.first-written, Naming.later-variable, Naming.made, Naming.made-statement, Naming.called, Naming.called-struct, Naming.called-step, Part.args-open, Part.args-close, Part.no-args-close, Part.arg-comma, Part.par-comma, Part.body-open, Part.brackets-open, Part.brackets-close, Part.fix-open, Part.then-open, Part.then-close, Part.body-close, Part.pars-close, Part.steps-open, Part.steps-close, Part.fix-close, Part.barrier-sign, Role, Role.plain, Role.naming, Role.typed, Role.part, Typed, Typed.of-par, Typed.of-local, Typed.of-null, naming-code}
-use Rattle.derive.specs.Roles.{roles-later, roles-var, close-of, roles-exp, roles-exps, roles-exp-list, roles-stat, roles-stats, roles-par, roles-par-list, roles-pars, roles-step, roles-steps, roles-struct, roles-defs, roles-item, roles-sched, roles}
-use Rattle.resolve.specs.Declares.{named, inner, inner-name, inner-type, par-types, all-pars, sums}
-use Rattle.resolve.specs.Tables.{struct-byte, offsets-from, offsets, with-one}
-use Rattle.resolve.specs.QuietLaws.{pars-quiet, steps-quiet, pars-each, steps-each, pars-counted, steps-counted, stats-quiet, sched-quiet}
+use Rattle.derive.specs.Roles.{Naming, Naming.new-struct, Naming.new-par, Naming.new-step, Naming.new-local, Naming.first-read, Naming.first-written, Naming.later-variable, Naming.made, Naming.made-statement, Naming.called, Naming.called-struct, Naming.called-step, Part.pars-close, Part.steps-open, Part.steps-close, Role, Role.plain, Role.naming, Role.typed, Role.part, Typed.of-par, Typed.of-local, Typed.of-null, naming-code}
+use Rattle.derive.specs.Roles.{roles-par, roles-steps, roles-struct, roles-defs, roles-sched, roles}
+use Rattle.resolve.specs.Declares.{named, inner, inner-name, inner-type, par-types, all-pars}
+use Rattle.resolve.specs.QuietLaws.{pars-quiet, steps-quiet, pars-each, steps-each, sched-quiet}
 
 -- Names ------------------------------------------------------------------------------------------
 

@@ -92,10 +92,10 @@ module _ (text places table₀ : List ℕ) where
             kept = long' ∙ r .kept;
             count = omega (arith, ap length k, ap length (new-here f), r .count);
             stored =
-              ap (sets table' (n + 1)) k
-              ∙ ap (λ m. sets table' m (firsts text (take n table ++ (getD places i 0 ∷ [])) (drop (i + 1) places))) (add-one n)
-              ∙ ap (λ v. sets v (suc n) (firsts text (take n table ++ (getD places i 0 ∷ [])) (drop (i + 1) places))) g
-              ∙ ap (sets table n) (sym (new-here f)) ∙ r .stored;
+                ap (sets table' (n + 1)) k
+                ∙ ap (λ m. sets table' m (firsts text (take n table ++ (getD places i 0 ∷ [])) (drop (i + 1) places))) (add-one n)
+                ∙ ap (λ v. sets v (suc n) (firsts text (take n table ++ (getD places i 0 ∷ [])) (drop (i + 1) places))) g
+                ∙ ap (sets table n) (sym (new-here f)) ∙ r .stored;
           }
 
       -- one more than the table has

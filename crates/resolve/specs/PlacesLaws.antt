@@ -4,19 +4,19 @@ use Prim.Native.Nat.{ℕ, suc, _+_, _-_, _≤_, _<_}
 use native.Mathlib.Omega.{arith}
 use native.Mathlib.Numerals.{add-one}
 use mathlib.Core.Path.{_≡_, refl, sym, ap, _∙_}
-use mathlib.Core.Logic.{_⊎_, inl, inr, ⊎-elim}
+use mathlib.Core.Logic.{_⊎_, inl, inr}
 use mathlib.Core.Bool.{Bool, true, false, _&&_}
-use mathlib.Core.List.{List, [], _∷_, map}
+use mathlib.Core.List.{List, _∷_, map}
 use lib.ListN.{length, getD, drop, length-drop}
 use lib.Dec.{eqb, leb}
-use borrow.Author.Tests.{eq-eqb, ne-eqb, eqb-true, eqb-false, le-leb, lt-leb, leb-true}
+use borrow.Author.Tests.{ne-eqb, eqb-true, eqb-false, le-leb, lt-leb, leb-true}
 use Rattle.tokens.specs.Tokens.{between}
 use Rattle.syntax.specs.Syntax.{Id, TypeName, TypeName.int-type, TypeName.nat-type, TypeName.bool-type, TypeName.id-type}
 use Rattle.syntax.specs.Yield.{type-token}
 use Rattle.lexer.specs.KindLaws.{kind-within}
 use Rattle.lexer.specs.RunLaws.{next-byte}
-use Rattle.derive.specs.Roles.{Naming, Naming.new-struct, Naming.new-par, Naming.new-step, Naming.new-local, Naming.first-read, Naming.first-written, Naming.later-variable, Naming.made, Naming.made-statement, Naming.called, Naming.called-struct, Naming.called-step, Typed, Typed.of-par, Typed.of-local, Typed.of-null, Role, Role.plain, Role.naming, Role.typed, Role.part, naming-code, typed-code, type-number, part-code, code, token-of}
-use Rattle.resolve.specs.Named.{name-of, name-at, names-at}
+use Rattle.derive.specs.Roles.{Naming, Naming.new-struct, Naming.new-par, Naming.new-step, Naming.new-local, Naming.first-read, Naming.first-written, Naming.later-variable, Naming.made, Naming.made-statement, Naming.called, Naming.called-struct, Naming.called-step, Typed.of-par, Typed.of-local, Typed.of-null, Role, Role.plain, Role.naming, Role.typed, Role.part, naming-code, typed-code, type-number, part-code, code, token-of}
+use Rattle.resolve.specs.Named.{name-of, names-at}
 use Rattle.resolve.specs.Tables.{struct-byte, places-from, with-one, offsets-from}
 use Rattle.resolve.specs.Declares.{named, par-types}
 use Rattle.resolve.specs.RowLaws.{typed-far, part-far}
@@ -29,7 +29,10 @@ module _ (x : List ℕ) (i b : ℕ) (s : List ℕ) (e : drop i x ≡ b ∷ s) wh
   inside = let h = length-drop i x in omega (arith, h, ap length e)
 
   next-of : drop (suc i) x ≡ s
-  next-of = let f : getD x i 0 ∷ drop (i + 1) x ≡ b ∷ s = sym (next-byte x i inside) ∙ e in let g : drop (i + 1) x ≡ s = cc in ap (λ k. drop k x) (sym (add-one i)) ∙ g
+  next-of =
+      let f : getD x i 0 ∷ drop (i + 1) x ≡ b ∷ s = sym (next-byte x i inside) ∙ e in
+      let g : drop (i + 1) x ≡ s = cc in
+      ap (λ k. drop k x) (sym (add-one i)) ∙ g
 
   first-of : getD x i 0 ≡ b
   first-of = let f : getD x i 0 ∷ drop (i + 1) x ≡ b ∷ s = sym (next-byte x i inside) ∙ e in cc
@@ -145,7 +148,8 @@ module _ (x codes : List ℕ) (names : List Id) where
       let g : (getD codes i 0 - first-type) ≡ type-number t = let h = first-of codes i (51 + type-number t) cs f in omega (arith, h) in
       let k : type-here (getD codes i 0 - first-type) (drop i x) ≡ t =
       ap (λ m. type-here m (drop i x)) g ∙ ap (type-here (type-number t)) e ∙ type-spelt t (b ∷ s) p in
-      rw (places-from, le-leb 51 (51 + type-number t) (omega arith), le-leb (51 + type-number t) 54 (omega (arith, n))) (both _ _ _ _ (ap (byte-of names) k) rec)
+      rw (places-from, le-leb 51 (51 + type-number t) (omega arith), le-leb (51 + type-number t) 54 (omega (arith, n)))
+      (both _ _ _ _ (ap (byte-of names) k) rec)
     where
       both : (a c : ℕ) (k l : List ℕ) → a ≡ c → k ≡ l → a ∷ k ≡ c ∷ l
       both a c k l f g = cc

@@ -4,18 +4,17 @@ use native.Mathlib.Omega.{arith}
 use native.Mathlib.Numerals.{add-one}
 use mathlib.Core.Path.{_≡_, refl, sym, ap, _∙_}
 use mathlib.Core.Logic.{_⊎_, inl, inr, ⊎-elim}
-use mathlib.Core.Bool.{true, false}
+use mathlib.Core.Bool.{true}
 use mathlib.Core.List.{List, [], _∷_, map}
 use lib.ListN.{length}
-use lib.Dec.{eqb}
 use borrow.Author.Tests.{eq-eqb, ne-eqb}
 use Rattle.tokens.specs.Tokens.{Sign.colon, Word.w-struct, Token.sign, Token.word}
-use Rattle.syntax.specs.Syntax.{Par, Par.par, Step, Struct, Struct.struct, Defs, Defs.last-struct, Defs.defs, Sched, Program.program}
+use Rattle.syntax.specs.Syntax.{Par, Par.par, Struct, Struct.struct, Defs, Defs.last-struct, Defs.defs, Sched, Program.program}
 use Rattle.meaning.specs.Scope.{pars-of, steps-of, structs-of}
 use Rattle.lexer.specs.KindLaws.{kind-within}
-use Rattle.derive.specs.Roles.{Naming.new-struct, Naming.new-par, Naming.new-step, Typed, Typed.of-par, Typed.of-local, Typed.of-null, Part, Part.brackets-open, Part.brackets-close, Part.args-open, Part.args-close, Part.no-args-close, Part.pars-open, Part.pars-close, Part.fix-open, Part.fix-close, Part.steps-open, Part.steps-close, Part.body-open, Part.body-close, Part.then-open, Part.then-close, Part.par-comma, Part.arg-comma, Part.barrier-sign, Role, Role.plain, Role.naming, Role.typed, Role.part, naming-code, typed-code, type-number, part-code, code}
+use Rattle.derive.specs.Roles.{Naming.new-struct, Naming.new-par, Naming.new-step, Typed, Typed.of-par, Typed.of-local, Typed.of-null, Part, Part.brackets-open, Part.brackets-close, Part.args-open, Part.args-close, Part.no-args-close, Part.pars-open, Part.pars-close, Part.fix-open, Part.fix-close, Part.steps-open, Part.steps-close, Part.body-open, Part.body-close, Part.then-open, Part.then-close, Part.par-comma, Part.arg-comma, Part.barrier-sign, Role, Role.plain, Role.naming, Role.typed, Role.part, naming-code, typed-code, part-code, code}
 use Rattle.derive.specs.Roles.{roles-par, roles-pars, roles-steps, roles-struct, roles-defs, roles-sched, roles}
-use Rattle.resolve.specs.Declares.{inner, inner-name, inner-type, sums}
+use Rattle.resolve.specs.Declares.{inner, sums}
 use Rattle.resolve.specs.DeclaresLaws.{inner-code}
 use Rattle.resolve.specs.QuietLaws.{pars-quiet, steps-quiet, pars-counted, steps-counted, sched-quiet}
 use Rattle.resolve.specs.Tables.{struct-byte, with-one, offsets-from}
@@ -63,7 +62,12 @@ module _ (q : ℕ) (low : 39 < q) (high : q < 42) where
   far-past : (n : ℕ) (r : Role) (k : List Role) → (code r < 39) ⊎ (41 < code r) → rows-in n (r ∷ k) ≡ rows-in n k
   unfolding offsets-from with-one
   far-past n r k h =
-      rw (offsets-from, ne-eqb (code r) struct-byte (λ e. ⊎-elim (λ l. omega arith) (λ l. omega arith) h), ne-eqb (code r) q (λ e. ⊎-elim (λ l. omega arith) (λ l. omega arith) h)) refl
+      rw (
+        offsets-from,
+        ne-eqb (code r) struct-byte (λ e. ⊎-elim (λ l. omega arith) (λ l. omega arith) h),
+        ne-eqb (code r) q
+            (λ e. ⊎-elim (λ l. omega arith) (λ l. omega arith) h),
+      ) refl
 
   rows-quiet : (n : ℕ) (r : Role) (k : List Role) → inner r ≡ true → rows-in n (r ∷ k) ≡ rows-in n k
   rows-quiet n r k e = far-past n r k (inner-byte r e)

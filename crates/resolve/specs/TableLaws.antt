@@ -1,20 +1,19 @@
 -- Places are gathered one after the other; a row of names is distinct where each is sought in vain behind itself.
-use Prim.Native.Nat.{ℕ, zero, suc, _+_, _-_, _≤_, _<_}
+use Prim.Native.Nat.{ℕ, suc, _+_, _-_, _≤_, _<_}
 use native.Mathlib.Omega.{arith}
 use native.Mathlib.Numerals.{add-one}
 use mathlib.Core.Path.{_≡_, refl, sym, ap, _∙_}
-use mathlib.Core.Bool.{Bool, true, false, _&&_, not}
-use mathlib.Core.List.{List, [], _∷_, map}
+use mathlib.Core.Bool.{Bool, true, false}
+use mathlib.Core.List.{List, [], _∷_}
 use lib.ListN.{length, getD, set, length-set, take, drop, length-drop, drop-of-length-le}
 use lib.Seq.{sets, take-all}
 use lib.Dec.{eqb}
-use borrow.Author.Tests.{eq-eqb, ne-eqb, eqb-true, eqb-false}
 use Rattle.tokens.specs.Tokens.{between}
 use Rattle.tokens.specs.Scanning.{same}
 use Rattle.lexer.specs.RunLaws.{next-byte}
 use Rattle.syntax.specs.Syntax.{Id}
 use Rattle.meaning.specs.Finding.{absent, distinct}
-use Rattle.resolve.specs.Named.{name-of, name-at, names-at, sought}
+use Rattle.resolve.specs.Named.{name-at, names-at, sought}
 use Rattle.resolve.specs.Tables.{struct-byte, places-from, places, with-place, with-one, offsets-from, offsets}
 
 -- One place ---------------------------------------------------------------------------------

@@ -1,5 +1,6 @@
 // What a text declares (02 §1), by tables of places: rows of parameters, their types, steps, and the names of steps.
-use crate::{names, tables};
+use crate::names;
+use crate::tables;
 use lexer::bytes;
 ghost use mathlib.Core.Path.{_≡_};
 ghost use mathlib.Core.Bool.{true, not};
@@ -91,7 +92,13 @@ fn type_kind(role: u8) -> u8
 }
 
 // The bytes of the types at some places into a table, as many as it has, and whether each is one: up to one that is none.
-pub fn types(text: &[u8], roles: &[u8], structs: &[usize], places: &[usize], table: &mut [usize]) -> bool
+pub fn types(
+    text: &[u8],
+    roles: &[u8],
+    structs: &[usize],
+    places: &[usize],
+    table: &mut [usize],
+) -> bool
     requires { ⌜ length (now structs) ≤ 16 ⌝ }
     ensures { λ r. ⌜ r ≡ known (length (now (structs .entry)))
         (types-at (now (text .entry)) (now (roles .entry)) (names-at (now (text .entry)) (now (structs .entry))) (now (places .entry))) ⌝ }

@@ -33,7 +33,8 @@ shared-slice-read-few-2 c = omega (arith, c .before .before .loop-test .taken)
 returns : tie.Need-returns Inv-loop μ-loop
 unfolding narrow
 returns c = let at-loop-test = c .before .before .before .before in
-    paired-not _ _ _ (at-loop-test .before .loop .inv) (c .before .before .before .before .loop-test .taken) (sym (not-true _ (c .if1 .taken)) ∙ c .before .few .ensures)
+    paired-not _ _ _ (at-loop-test .before .loop .inv) (c .before .before .before .before .loop-test .taken)
+    (sym (not-true _ (c .if1 .taken)) ∙ c .before .few .ensures)
 
 add-i : tie.Need-add-i Inv-loop μ-loop
 add-i c = omega (arith, c .before .before .before .before .loop-test .taken)
@@ -43,11 +44,13 @@ loop-less c = omega (arith, c .before .before .before .before .loop-test .taken)
 
 loop-again : tie.Need-loop-again Inv-loop μ-loop
 loop-again c = let at-loop-test = c .before .before .before .before in
-    paired-on _ _ _ (at-loop-test .before .loop .inv) (c .before .before .before .before .loop-test .taken) (sym (not-false _ (c .if1 .left)) ∙ c .before .few .ensures)
+    paired-on _ _ _ (at-loop-test .before .loop .inv) (c .before .before .before .before .loop-test .taken)
+    (sym (not-false _ (c .if1 .left)) ∙ c .before .few .ensures)
 
 returns-2 : tie.Need-returns-2 Inv-loop μ-loop
 unfolding narrow
 returns-2 c = paired-end _ _ _ (c .before .loop .inv) (c .loop-test .left)
 
 pub narrow-spec : {M : Type 1} → statement M
-narrow-spec = tie.close (tie.spec Inv-loop μ-loop loop-holds sub-few (λ c. search needs) shared-slice-read-few (λ c. search needs) shared-slice-read-few-2 (λ c κs. search needs) returns add-i loop-less loop-again returns-2)
+narrow-spec = tie.close (tie.spec Inv-loop μ-loop loop-holds sub-few (λ c. search needs) shared-slice-read-few (λ c. search needs) shared-slice-read-few-2
+    (λ c κs. search needs) returns add-i loop-less loop-again returns-2)

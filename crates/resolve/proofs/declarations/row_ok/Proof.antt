@@ -1,6 +1,5 @@
 -- `declarations::row_ok` meets its contract: one law for each way.
 use mathlib.Core.Path.{_∙_}
-use native.Mathlib.Omega.{arith}
 use Rattle.resolve.specs.CheckLaws.{row-turned, row-out, row-long, row-short}
 use borrow.Author.Needs.{needs}
 use Rattle.resolve.proofs.declarations.row_ok.Statement.{statement}
@@ -16,7 +15,8 @@ returns-3 : tie.Need-returns-3
 returns-3 c = row-long _ _ _ _ (c .before .before .if1 .left) (c .before .if2 .left) (c .if3 .taken)
 
 returns-4 : tie.Need-returns-4
-returns-4 c = c .distinct .ensures ∙ row-short _ _ _ _ (c .before .before .before .before .if1 .left) (c .before .before .before .if2 .left) (c .before .before .if3 .left)
+returns-4 c = c .distinct .ensures ∙ row-short _ _ _ _ (c .before .before .before .before .if1 .left) (c .before .before .before .if2 .left)
+    (c .before .before .if3 .left)
 
 pub row-ok-spec : {M : Type 1} → statement M
 row-ok-spec = tie.close (tie.spec returns returns-2 returns-3 (λ c. search needs) (λ c. search needs) (λ c. search needs) (λ c κs. search needs) returns-4)

@@ -32,7 +32,8 @@ shared-slice-read-row-ok-2 c = omega (arith, c .before .before .loop-test .taken
 returns : tie.Need-returns Inv-loop μ-loop
 unfolding rows-ok
 returns c = let at-loop-test = c .before .before .before .before in
-    paired-not _ _ _ (at-loop-test .before .loop .inv) (c .before .before .before .before .loop-test .taken) (sym (not-true _ (c .if1 .taken)) ∙ c .before .row-ok .ensures)
+    paired-not _ _ _ (at-loop-test .before .loop .inv) (c .before .before .before .before .loop-test .taken)
+    (sym (not-true _ (c .if1 .taken)) ∙ c .before .row-ok .ensures)
 
 add-i : tie.Need-add-i Inv-loop μ-loop
 add-i c = omega (arith, c .before .before .before .before .loop-test .taken)
@@ -42,11 +43,13 @@ loop-less c = omega (arith, c .before .before .before .before .loop-test .taken)
 
 loop-again : tie.Need-loop-again Inv-loop μ-loop
 loop-again c = let at-loop-test = c .before .before .before .before in
-    paired-on _ _ _ (at-loop-test .before .loop .inv) (c .before .before .before .before .loop-test .taken) (sym (not-false _ (c .if1 .left)) ∙ c .before .row-ok .ensures)
+    paired-on _ _ _ (at-loop-test .before .loop .inv) (c .before .before .before .before .loop-test .taken)
+    (sym (not-false _ (c .if1 .left)) ∙ c .before .row-ok .ensures)
 
 returns-2 : tie.Need-returns-2 Inv-loop μ-loop
 unfolding rows-ok
 returns-2 c = paired-end _ _ _ (c .before .loop .inv) (c .loop-test .left)
 
 pub rows-ok-spec : {M : Type 1} → statement M
-rows-ok-spec = tie.close (tie.spec Inv-loop μ-loop loop-holds sub-row-ok (λ c. search needs) shared-slice-read-row-ok (λ c. search needs) shared-slice-read-row-ok-2 (λ c κs. search needs) returns add-i loop-less loop-again returns-2)
+rows-ok-spec = tie.close (tie.spec Inv-loop μ-loop loop-holds sub-row-ok (λ c. search needs) shared-slice-read-row-ok
+    (λ c. search needs) shared-slice-read-row-ok-2 (λ c κs. search needs) returns add-i loop-less loop-again returns-2)

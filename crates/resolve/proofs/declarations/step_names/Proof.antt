@@ -29,12 +29,14 @@ add-requires c κs = let at-loop-test = c .before .before .before .before in
 same-length : tie.Need-same-length Inv-loop μ-loop
 same-length c = let at-add-arg = c .before .before .before .before in
     let at-loop-test = at-add-arg .before .before .before .before in
-    firsting-kept _ _ _ _ _ _ (at-loop-test .before .loop .inv) (at-add-arg .before .before .before .before .loop-test .taken) (at-add-arg .before .is-new .ensures) (c .before .before .before .add .ensures .1)
+    firsting-kept _ _ _ _ _ _ (at-loop-test .before .loop .inv) (at-add-arg .before .before .before .before .loop-test .taken)
+    (at-add-arg .before .is-new .ensures) (c .before .before .before .add .ensures .1)
 
 returns : tie.Need-returns Inv-loop μ-loop
 returns c = let at-add-arg = c .before .before .before .before in
     let at-loop-test = at-add-arg .before .before .before .before in
-    firsting-over _ _ _ _ _ _ (at-loop-test .before .loop .inv) (at-add-arg .before .before .before .before .loop-test .taken) (at-add-arg .before .is-new .ensures) (c .before .before .before .add .ensures .0) (c .before .before .before .add .ensures .1) (c .if1 .taken)
+    firsting-over _ _ _ _ _ _ (at-loop-test .before .loop .inv) (at-add-arg .before .before .before .before .loop-test .taken)
+    (at-add-arg .before .is-new .ensures) (c .before .before .before .add .ensures .0) (c .before .before .before .add .ensures .1) (c .if1 .taken)
 
 add-i : tie.Need-add-i Inv-loop μ-loop
 add-i c = let at-add-arg = c .before .before .before .before in
@@ -47,7 +49,8 @@ loop-less c = let at-add-arg = c .before .before .before .before in
 loop-again : tie.Need-loop-again Inv-loop μ-loop
 loop-again c = let at-add-arg = c .before .before .before .before in
     let at-loop-test = at-add-arg .before .before .before .before in
-    firsting-on _ _ _ _ _ _ (at-loop-test .before .loop .inv) (at-add-arg .before .before .before .before .loop-test .taken) (at-add-arg .before .is-new .ensures) (c .before .before .before .add .ensures .0) (c .before .before .before .add .ensures .1) (c .if1 .left)
+    firsting-on _ _ _ _ _ _ (at-loop-test .before .loop .inv) (at-add-arg .before .before .before .before .loop-test .taken)
+    (at-add-arg .before .is-new .ensures) (c .before .before .before .add .ensures .0) (c .before .before .before .add .ensures .1) (c .if1 .left)
 
 same-length-2 : tie.Need-same-length-2 Inv-loop μ-loop
 same-length-2 c = c .before .loop .inv .kept
@@ -56,4 +59,5 @@ returns-2 : tie.Need-returns-2 Inv-loop μ-loop
 returns-2 c = firsting-end _ _ _ _ _ _ (c .before .loop .inv) (c .loop-test .left)
 
 pub step-names-spec : {M : Type 1} → statement M
-step-names-spec = tie.close (tie.spec Inv-loop μ-loop loop-holds (λ c. search needs) shared-slice-read-at is-new-requires add-requires same-length returns add-i loop-less loop-again same-length-2 returns-2)
+step-names-spec = tie.close (tie.spec Inv-loop μ-loop loop-holds
+    (λ c. search needs) shared-slice-read-at is-new-requires add-requires same-length returns add-i loop-less loop-again same-length-2 returns-2)

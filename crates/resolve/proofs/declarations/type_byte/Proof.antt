@@ -10,7 +10,14 @@ returns : tie.Need-returns
 returns c = byte-small _ _ _ (c .if1 .taken)
 
 add-result : tie.Need-add-result
-add-result c = omega (arith, c .lookup .ensures, sought-within (name-at (c .before .before .before .before .args .text .now) (c .before .before .before .before .args .at)) (c .before .before .before .before .args .text .now) (c .before .before .before .before .args .structs .now), c .before .before .before .before .pre)
+add-result c = omega (
+  arith,
+  c .lookup .ensures,
+  sought-within
+      (name-at (c .before .before .before .before .args .text .now) (c .before .before .before .before .args .at))
+      (c .before .before .before .before .args .text .now) (c .before .before .before .before .args .structs .now),
+  c .before .before .before .before .pre,
+)
 
 returns-2 : tie.Need-returns-2
 returns-2 c = byte-named _ _ _ _ (c .before .if1 .left) (c .lookup .ensures)

@@ -31,8 +31,12 @@ same-length c = let at-shared-slice-known5 = c .before .before .before .before i
     at-shared-slice-known5 .before .before .loop .inv .kept
 
 returns : tie.Need-returns Inv-loop μ-loop
-returns c = let at-shared-slice-known5 = c .before .before .before .before in
-    (typing-not _ _ _ _ _ _ _ _ (at-shared-slice-known5 .before .before .loop .inv) (at-shared-slice-known5 .before .loop-test .taken) _ (of-type _ _ (c .before .type-byte .ensures) (c .before .before .type-kind .ensures) (c .before .before .before .byte .ensures)) (c .if1 .taken), λ e. absurd (false≢true e))
+returns c = let at-shared-slice-known5 = c .before .before .before .before in (
+  typing-not _ _ _ _ _ _ _ _ (at-shared-slice-known5 .before .before .loop .inv) (at-shared-slice-known5 .before .loop-test .taken) _
+      (of-type _ _ (c .before .type-byte .ensures) (c .before .before .type-kind .ensures) (c .before .before .before .byte .ensures))
+      (c .if1 .taken),
+  λ e. absurd (false≢true e),
+)
 
 add-i : tie.Need-add-i Inv-loop μ-loop
 add-i c = let at-if1 = c .before .before .before .before in
@@ -48,13 +52,20 @@ loop-less c = let at-if1 = c .before .before .before .before in
 loop-again : tie.Need-loop-again Inv-loop μ-loop
 loop-again c = let at-if1 = c .before .before .before .before in
     let at-shared-slice-known5 = at-if1 .before .before .before .before in
-    typing-on _ _ _ _ _ _ _ _ (at-shared-slice-known5 .before .before .loop .inv) (at-shared-slice-known5 .before .loop-test .taken) _ (of-type _ _ (at-if1 .before .type-byte .ensures) (at-if1 .before .before .type-kind .ensures) (at-if1 .before .before .before .byte .ensures)) (c .before .before .before .before .if1 .left) (c .before .before .put .ensures)
+    typing-on _ _ _ _ _ _ _ _ (at-shared-slice-known5 .before .before .loop .inv) (at-shared-slice-known5 .before .loop-test .taken) _
+    (of-type _ _ (at-if1 .before .type-byte .ensures) (at-if1 .before .before .type-kind .ensures) (at-if1 .before .before .before .byte .ensures))
+    (c .before .before .before .before .if1 .left) (c .before .before .put .ensures)
 
 same-length-2 : tie.Need-same-length-2 Inv-loop μ-loop
 same-length-2 c = c .before .loop .inv .kept
 
 returns-2 : tie.Need-returns-2 Inv-loop μ-loop
-returns-2 c = (typing-end _ _ _ _ _ _ _ _ (c .before .loop .inv) (c .loop-test .left), λ e. typing-stored _ _ _ _ _ _ _ _ (c .before .loop .inv) (c .loop-test .left))
+returns-2 c = (
+  typing-end _ _ _ _ _ _ _ _ (c .before .loop .inv) (c .loop-test .left),
+  λ e. typing-stored _ _ _ _ _ _ _ _ (c .before .loop .inv)
+      (c .loop-test .left),
+)
 
 pub types-spec : {M : Type 1} → statement M
-types-spec = tie.close (tie.spec Inv-loop μ-loop loop-holds (λ c. search needs) shared-slice-read-at (λ c κs. search needs) (λ c κs. search needs) (λ c κs. search needs) (λ c. search needs) add-if1 same-length returns (λ c κs. search needs) add-i loop-less loop-again same-length-2 returns-2)
+types-spec = tie.close (tie.spec Inv-loop μ-loop loop-holds (λ c. search needs) shared-slice-read-at (λ c κs. search needs) (λ c κs. search needs)
+    (λ c κs. search needs) (λ c. search needs) add-if1 same-length returns (λ c κs. search needs) add-i loop-less loop-again same-length-2 returns-2)

@@ -14,7 +14,8 @@ abbrev μ-loop : tie.MeasureT-loop
 μ-loop roles low high table₀ n₀ i₀ table n i = length roles - i
 
 loop-holds : tie.Need-loop-holds Inv-loop μ-loop
-loop-holds c = gathers-start (c .before .before .args .roles .now) (c .before .before .args .table .now) (c .before .before .args .low) (c .before .before .args .high)
+loop-holds c = gathers-start (c .before .before .args .roles .now) (c .before .before .args .table .now) (c .before .before .args .low)
+    (c .before .before .args .high)
 
 shared-slice-read-between : tie.Need-shared-slice-read-between Inv-loop μ-loop
 shared-slice-read-between c = omega (arith, c .before .before .loop-test .taken)
@@ -32,7 +33,8 @@ loop-less c = let at-shared-slice-known2 = c .before .before .before .before in
 
 loop-again : tie.Need-loop-again Inv-loop μ-loop
 loop-again c = let at-shared-slice-known2 = c .before .before .before .before in
-    gathers-on (at-shared-slice-known2 .before .before .before .loop .inv) (at-shared-slice-known2 .before .before .loop-test .taken) (c .before .before .before .between .ensures) (c .before .before .add .ensures .0) (c .before .before .add .ensures .1)
+    gathers-on (at-shared-slice-known2 .before .before .before .loop .inv) (at-shared-slice-known2 .before .before .loop-test .taken)
+    (c .before .before .before .between .ensures) (c .before .before .add .ensures .0) (c .before .before .add .ensures .1)
 
 same-length : tie.Need-same-length Inv-loop μ-loop
 same-length c = c .before .loop .inv .kept
@@ -41,4 +43,5 @@ returns : tie.Need-returns Inv-loop μ-loop
 returns c = (gathers-count (c .before .loop .inv) (c .loop-test .left), gathers-stored (c .before .loop .inv) (c .loop-test .left))
 
 pub gather-spec : {M : Type 1} → statement M
-gather-spec = tie.close (tie.spec Inv-loop μ-loop loop-holds shared-slice-read-between (λ c κs. search needs) add-requires add-i loop-less loop-again same-length returns)
+gather-spec = tie.close (tie.spec Inv-loop μ-loop loop-holds shared-slice-read-between
+    (λ c κs. search needs) add-requires add-i loop-less loop-again same-length returns)

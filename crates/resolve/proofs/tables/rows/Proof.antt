@@ -36,7 +36,8 @@ loop-less c = let at-add-arg = c .before .before .before .before in
 
 loop-again : tie.Need-loop-again Inv-loop μ-loop
 loop-again c = let at-add-arg = c .before .before .before .before in
-    lays-on (at-add-arg .before .before .before .loop .inv) (at-add-arg .before .before .loop-test .taken) (c .before .before .before .add .ensures .0) (c .before .before .before .add .ensures .1) (c .counted .ensures)
+    lays-on (at-add-arg .before .before .before .loop .inv) (at-add-arg .before .before .loop-test .taken) (c .before .before .before .add .ensures .0)
+    (c .before .before .before .add .ensures .1) (c .counted .ensures)
 
 add-result : tie.Need-add-result Inv-loop μ-loop
 add-result c = let at-loop-test = c .before .before .before .before in
@@ -47,8 +48,12 @@ same-length c = let at-loop-test = c .before .before .before .before in
     lays-kept (at-loop-test .before .loop .inv) (c .before .before .put .ensures)
 
 returns : tie.Need-returns Inv-loop μ-loop
-returns c = let at-loop-test = c .before .before .before .before in
-    (lays-count (at-loop-test .before .loop .inv) (c .before .before .before .before .loop-test .left), lays-end (at-loop-test .before .loop .inv) (c .before .before .before .before .loop-test .left) (c .before .before .put .ensures))
+returns c = let at-loop-test = c .before .before .before .before in (
+  lays-count (at-loop-test .before .loop .inv) (c .before .before .before .before .loop-test .left),
+  lays-end (at-loop-test .before .loop .inv)
+      (c .before .before .before .before .loop-test .left) (c .before .before .put .ensures),
+)
 
 pub rows-spec : {M : Type 1} → statement M
-rows-spec = tie.close (tie.spec Inv-loop μ-loop loop-holds shared-slice-read-b add-requires counted-requires add-i loop-less loop-again (λ c κs. search needs) add-result same-length returns)
+rows-spec = tie.close (tie.spec Inv-loop μ-loop loop-holds shared-slice-read-b add-requires counted-requires add-i loop-less loop-again
+    (λ c κs. search needs) add-result same-length returns)
