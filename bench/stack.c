@@ -71,6 +71,12 @@ static void ifs(int depth, int levels) {
     ifs(depth - 1, levels);
 }
 
+/* Constructors in one another, so many levels with the path innermost. */
+static void constructors(int levels) {
+    for (int i = 1; i < levels; i++) put(17), put(0);
+    put(18), put(1), put(0);
+}
+
 static void fixes(int depth) {
     if (depth == 0) {
         put(1), put(0);
@@ -86,6 +92,16 @@ static void program(int statements, int depth, int levels, int fix) {
     put(1), put(1), put(2), put(1), put(0), put(statements);
     for (int i = 0; i < statements; i++) ifs(depth, levels);
     put(1), fixes(fix);
+    image_length = seal(image, stream, used);
+}
+
+/* One struct with a reference to itself, one step: ifs in one another, a constructor of such an argument innermost. */
+static void construction(int depth, int levels) {
+    used = 0;
+    put(1), put(1), put(16), put(1), put(0), put(1);
+    for (int i = 0; i < depth; i++) put(1), nots(1), put(1);
+    put(4), put(0), constructors(levels);
+    put(1), fixes(8);
     image_length = seal(image, stream, used);
 }
 
@@ -110,6 +126,8 @@ int main(void) {
     program(1, 8, 3, 8), measure("8 ifs, 8 Fixes");
     program(1, 8, 16, 8), measure("8 ifs of 16 nots: over 64 commands");
     program(32, 8, 16, 8), measure("32 of them");
+    construction(8, 16), measure("8 ifs, 16 constructors");
+    construction(8, 17), measure("8 ifs, 17 constructors");
     program(1, 9, 2, 8), measure("9 ifs");
     program(1, 0, 17, 8), measure("17 levels");
     memset(stream, 16, STREAM), image_length = seal(image, stream, STREAM), measure("64 blocks of 16");
