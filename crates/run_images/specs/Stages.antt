@@ -44,6 +44,7 @@ pub record Opens (z : Loaded) (q : Params) (s : List ℕ) (p : Program) : Type 0
   pub typed : take (max-params * z .structs) (q .types) ≡ types-table (p .params)
   pub deep : z .depth ≡ program-depth p
   pub few : z .structs ≤ max-structs
+  pub wide : (length (q .counts) ≡ max-structs) × (length (q .types) ≡ max-structs * max-params)
 
 abbrev pub Opening : Loaded → Params → List ℕ → Type 0
 Opening z q s = (p : Program) × (Opens z q s p)

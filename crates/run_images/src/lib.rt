@@ -131,7 +131,8 @@ fn kept(image: &[u8], buffer: &mut [u8], counts: &mut [u8], types: &mut [u8]) ->
     requires { ⌜ most-bytes ≤ length (now buffer) ⌝ }
     requires { ⌜ (length (now counts) ≡ max-structs) × (length (now types) ≡ max-structs * max-params) ⌝ }
     ensures { λ r. ⌜ r ≡ load-told (checked (now (image .entry))) (stream (now (image .entry))) ⌝ }
-    ensures { λ _. ⌜ Held (checked (now (image .entry))) (stream (now (image .entry))) (now (buffer .entry)) (now (buffer .exit)) (now (counts .entry)) (now (counts .exit)) (now (types .entry)) (now (types .exit)) ⌝ }
+    ensures { λ _. ⌜ Held (checked (now (image .entry))) (stream (now (image .entry))) (now (buffer .entry)) (now (buffer .exit))
+        (now (counts .entry)) (now (counts .exit)) (now (types .entry)) (now (types .exit)) ⌝ }
 {
     let mut stream = [0u8; types::PROGRAM_BLOCKS * blocks::PAYLOAD_SIZE];
     let r = load::program(image, &mut stream, counts, types);
@@ -154,7 +155,8 @@ fn begun(
     list: &mut [u64],
 ) -> Report
     requires { ⌜ Opening p q (now s) ⌝ }
-    ensures { λ r. ⌜ Begins p q (now (s .entry)) (now (table .entry)) (now (turns .entry)) (now (output .entry)) (now (list .entry)) r (now (output .exit)) (now (list .exit)) ⌝ }
+    ensures { λ r. ⌜ Begins p q (now (s .entry)) (now (table .entry)) (now (turns .entry)) (now (output .entry)) (now (list .entry)) r
+        (now (output .exit)) (now (list .exit)) ⌝ }
 {
     let counts = q.counts;
     let types = q.types;

@@ -1,17 +1,15 @@
 -- `begun` meets its contract: the table is refused, there is no room, or the machine that the table begins with is seated, played and reported.
-use Prim.Native.Nat.{ℕ, _*_}
+use Prim.Native.Nat.{ℕ}
 use native.Mathlib.Omega.{arith}
-use mathlib.Core.Path.{_≡_, refl, sym, _∙_}
+use mathlib.Core.Path.{refl, sym, _∙_}
 use mathlib.Core.List.{List}
 use lib.ListN.{take, length-replicate}
 use lib.Seq.{length-take-le}
-use Rattle.types.specs.Limits.{max-params}
 use Rattle.program.specs.Tree.{Program}
-use Rattle.machine.specs.Machine.{Machine}
 use Rattle.verdict.specs.Verdict.{Checked.accepted}
 use Rattle.run.specs.Begin.{begin}
 use Rattle.layout.specs.State.{state-of}
-use Rattle.run_images.specs.Stages.{seat-of, Opens, Seated, Played}
+use Rattle.run_images.specs.Stages.{Opens, Played}
 use Rattle.run_images.specs.StageLaws.{refused-answers, output-short, list-short, turns-many, came-answers}
 use Rattle.run_images.specs.SeatLaws.{admitted-tables, image-refused, SeatedTable, image-seated}
 use Rattle.run_images.specs.RunLaws.{played-filled, played-nulls, played-holders, played-turns, played-came}
@@ -30,13 +28,13 @@ abbrev OpensAt : tie.Start → Program → Type 0
 OpensAt c p = Opens (c .args .p) (c .args .q) (c .args .s .now) p
 
 array-share-prefix-counts : tie.Need-array-share-prefix-counts
-array-share-prefix-counts c = ?
+array-share-prefix-counts c = let o = start c .pre .1 in omega (arith, o .few, o .wide .0)
 
 slice-aggregate-cs : tie.Need-slice-aggregate-cs
 slice-aggregate-cs c = sym (length-take-le _ _ (array-share-prefix-counts (c .before)))
 
 array-share-prefix-types : tie.Need-array-share-prefix-types
-array-share-prefix-types c = ?
+array-share-prefix-types c = let o = start (c .before) .pre .1 in omega (arith, o .few, o .wide .1)
 
 slice-aggregate-ts : tie.Need-slice-aggregate-ts
 slice-aggregate-ts c = sym (length-take-le _ _ (array-share-prefix-types (c .before)))
@@ -138,7 +136,7 @@ reported-requires c κs =
       played-filled a w,
       (
         (played-nulls a w, omega (arith, played-turns a w, at-else .if3 .left), played-holders a w),
-        (omega arith, at-else .before .before .if1 .left),
+        (omega (arith, at-read (the-read f) .read-image .kept .1 .1 .1 .0), at-else .before .before .if1 .left),
       ),
     )
 

@@ -37,13 +37,18 @@ slice-aggregate-copy c = sym (length-take-le _ _ (array-share-prefix-stream (c .
 
 copy-requires : tie.Need-copy-requires
 copy-requires c κs =
-    let at-r = c .before .before .before in
-    omega (arith, loaded-short _ _ (loads at-r), length-take-le _ _ (array-share-prefix-stream (c .before)), start (the-program at-r) .pre .0)
+    let at-r = c .before .before .before in let p = the-program at-r in
+    omega (
+      arith,
+      loaded-short _ _ (loads at-r),
+      length-take-le (at-r .r .given .0 .0 .length) (p .program .last .1 .0) (array-share-prefix-stream (c .before)),
+      start p .pre .0,
+    )
 
 returns-2 : tie.Need-returns-2
 returns-2 c =
     let at-copy = c .before .before in let at-told = at-copy .before .before .before in let at-r = at-told .before in let p = the-program at-r in
-    (p .program .ensures .0, kept-held _ _ (loads at-r) _ _ _ _ _ _ _ _ (p .program .ensures .1) (at-copy .copy .ensures))
+    (sym (at-r .r .given .1) ∙ p .program .ensures .0, kept-held _ _ (loads at-r) _ _ _ _ _ _ _ _ (p .program .ensures .1) (at-copy .copy .ensures))
 
 pub kept-spec : {M : Type 1} → statement M
 kept-spec =

@@ -1,10 +1,10 @@
 -- `run` meets its contract: the program is refused, or a run begins behind it.
 use native.Mathlib.Omega.{arith}
 use mathlib.Core.Path.{sym, _∙_}
-use lib.ListN.{length-replicate}
+use lib.ListN.{take}
 use lib.Seq.{length-take-le}
 use Rattle.load.specs.LoadLaws.{LoadedAs, load-refused, load-value, structs-few, depth-is, types-are, admitted}
-use Rattle.run_images.specs.Stages.{Opening}
+use Rattle.run_images.specs.Stages.{Opens}
 use Rattle.run_images.specs.StageLaws.{refused-answers, entry-answers, checked-refused}
 use Rattle.run_images.specs.SizeLaws.{loaded-short}
 use borrow.Author.Needs.{needs}
@@ -39,29 +39,29 @@ array-share-prefix-stream c = let l = c .before in omega (arith, loaded-short _ 
 slice-aggregate-begun : tie.Need-slice-aggregate-begun
 slice-aggregate-begun c = sym (length-take-le _ _ (array-share-prefix-stream (c .before)))
 
-begun-requires : tie.Need-begun-requires
-begun-requires c κs =
-    let at = at-loaded c in let l = loads at in let held = at-kept at .kept .ensures .1 in (
-      l .program,
-      record {
-        admitted = admitted _ _ l _ _ _ _ _ _ held;
-        typed = types-are _ _ l _ _ _ _ _ _ held;
-        deep = depth-is _ _ l;
-        few = structs-few _ _ l;
-      },
-    )
-
-returns-2 : tie.Need-returns-2
-returns-2 c =
-    let at-begun = c .before .before .before .before in let at = at-loaded (at-begun .before) in let l = loads at in
-    let held = at-kept at .kept .ensures .1 in let args = start (at-kept at) .args in
-    let answers = at-begun .begun .ensures (l .program) (record {
+-- it is opened
+opens : (c : tie.After-loaded) → Opens (c .loaded .given .0 .0)
+    (record { counts = at-kept c .kept .last .1 .1 .0; types = at-kept c .kept .last .1 .1 .1 .0 })
+    (take (c .loaded .given .0 .0 .length) (at-kept c .kept .last .1 .0)) (loads c .program)
+opens c =
+    let l = loads c in let held = at-kept c .kept .ensures .1 in let lengths = at-kept c .kept .kept .1 .1 in
+    record {
       admitted = admitted _ _ l _ _ _ _ _ _ held;
       typed = types-are _ _ l _ _ _ _ _ _ held;
       deep = depth-is _ _ l;
       few = structs-few _ _ l;
-    }) in
-    entry-answers (args .program .now) (args .table .now) (args .turns .now) (args .output .now) (args .list .now) (rw (l .accepts) answers)
+      wide = (omega (arith, lengths .0), omega (arith, lengths .1 .0));
+    }
+
+begun-requires : tie.Need-begun-requires
+begun-requires c κs = let at = at-loaded c in (loads at .program, opens at)
+
+returns-2 : tie.Need-returns-2
+returns-2 c =
+    let at-begun = c .before .before .before .before in let at = at-loaded (at-begun .before) in let l = loads at in
+    let args = start (at-kept at) .args in
+    entry-answers (args .program .now) (args .table .now) (args .turns .now) (args .output .now) (args .list .now)
+    (rw (l .accepts) (at-begun .begun .ensures (l .program) (opens at)))
 
 pub run-spec : {M : Type 1} → statement M
 run-spec =
