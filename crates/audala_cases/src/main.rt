@@ -12,7 +12,7 @@ enum Size {
 }
 
 // What came of a case: it was answered; it is cut short or no case; or there is none, or no answer could be written.
-enum Next {
+enum Outcome {
     Answered,
     Malformed,
     Over,
@@ -84,18 +84,22 @@ fn answer(image: &[u8], list: &mut [u64]) -> bool {
 }
 
 // What came of a case whose answer was written or not.
-fn answered(written: bool) -> Next {
-    if written { Next::Answered } else { Next::Over }
+fn answered(written: bool) -> Outcome {
+    if written {
+        Outcome::Answered
+    } else {
+        Outcome::Over
+    }
 }
 
 // A case of kind 1.
-fn check_case() -> Next {
+fn check_case() -> Outcome {
     let Size::Of(places) = number(1100) else {
-        return Next::Malformed;
+        return Outcome::Malformed;
     };
     let mut image = [0u8; 33792];
     let Size::Of(n) = part(&mut image) else {
-        return Next::Malformed;
+        return Outcome::Malformed;
     };
     let mut list = [11936128518282651045u64; 1100];
     answered(answer(&image[..n], &mut list[..places]))
@@ -125,20 +129,20 @@ fn answer_run(
 }
 
 // The images and turns of a case of kind 2, with so many list places and output bytes.
-fn run_parts(places: usize, room: usize) -> Next
+fn run_parts(places: usize, room: usize) -> Outcome
     requires { ⌜ (places ≤ 1100) × (room ≤ 9216) ⌝ }
 {
     let mut image = [0u8; 33792];
     let Size::Of(n) = part(&mut image) else {
-        return Next::Malformed;
+        return Outcome::Malformed;
     };
     let mut table = [0u8; 9728];
     let Size::Of(m) = part(&mut table) else {
-        return Next::Malformed;
+        return Outcome::Malformed;
     };
     let mut turns = [0u8; 65600];
     let Size::Of(t) = part(&mut turns) else {
-        return Next::Malformed;
+        return Outcome::Malformed;
     };
     let mut output = [165u8; 9216];
     let mut list = [11936128518282651045u64; 1100];
@@ -152,21 +156,21 @@ fn run_parts(places: usize, room: usize) -> Next
 }
 
 // A case of kind 2.
-fn run_case() -> Next {
+fn run_case() -> Outcome {
     let Size::Of(places) = number(1100) else {
-        return Next::Malformed;
+        return Outcome::Malformed;
     };
     let Size::Of(room) = number(9216) else {
-        return Next::Malformed;
+        return Outcome::Malformed;
     };
     run_parts(places, room)
 }
 
 // The next case.
-fn next() -> Next {
+fn next() -> Outcome {
     let mut kind = [0u8; 1];
     if !fetch(&mut kind, 1) {
-        return Next::Over;
+        return Outcome::Over;
     }
     if kind[0] == 1 {
         return check_case();
@@ -174,12 +178,12 @@ fn next() -> Next {
     if kind[0] == 2 {
         return run_case();
     }
-    Next::Malformed
+    Outcome::Malformed
 }
 
 // Why case n was the last.
-fn stopped(why: Next, n: u64) {
-    if let Next::Malformed = why {
+fn stopped(why: Outcome, n: u64) {
+    if let Outcome::Malformed = why {
         files::tell(b"audala_cases: case ");
         files::tell_number(n);
         files::tell(b" is cut short or is none\n");
@@ -195,7 +199,7 @@ fn main() {
     while n < 4294967296 {
         n += 1;
         let r = next();
-        let Next::Answered = r else {
+        let Outcome::Answered = r else {
             stopped(r, n);
             return;
         };
