@@ -397,7 +397,7 @@ module _ {M : Type 1} (𝓤 : URA M) (H : Heap 𝓤) (A : Atoms 𝓤) (W : Given
     unfolding afterTurn
     turns i =
         -- _11 = whether a turn is due
-        assigns ! (of-opd ! (load ! (from ! (fld ! refl (stop !))) (look-in ! 11 (sub ! 4 refl (whole !))))) (from ! (stop !)) (init ! 21 refl (tt, tt)) $
+        assigns ! (of-opd ! (load ! (from ! (fld ! refl (stop !))) (look-in ! 11 (sub ! 3 refl (whole !))))) (from ! (stop !)) (init ! 21 refl (tt, tt)) $
         first ! $ branches ! (load ! (from ! (stop !)) (look ! 21 refl))
         (λ due. skips ! $ exec ! C Λ En more (anyQ (Turned i)) $
         -- _12, _13 = the records as a slice
@@ -415,7 +415,7 @@ module _ {M : Type 1} (𝓤 : URA M) (H : Heap 𝓤) (A : Atoms 𝓤) (W : Given
         use2 W (raw (Holder 𝓤 H A mem run .pre (to-holder α l₉ γ (i .rs) (i .s .pick)))) (goes-holder α l₉ γ (i .rs) (i .s .pick) (pick-fits i)) $
         -- [what the search asks; lent; heads; cells; ..: one place more than before]
         calls-at ! fm (Holder 𝓤 H A mem run) known-holder (to-holder α l₉ γ (i .rs) (i .s .pick)) (and-then ! (load ! (from ! (stop !)) (look ! 24 refl))
-        (and-then ! (load ! (from ! (fld ! refl (stop !))) (look-in ! 12 (sub ! 5 refl (whole !)))) (no-more !))) (λ u.
+        (and-then ! (load ! (from ! (fld ! refl (stop !))) (look-in ! 12 (sub ! 4 refl (whole !)))) (no-more !))) (λ u.
         use1 W (later (some (λ (r : ℕ). ((‵ (flft (α ∷ []) fullShare) ⊛ ‵ ftrue) ⊛ ‵ (usize .own r (u ∷ []))) ⊛ raw
         (ensured 𝓤 H A holder.ended (holder.clauses 𝓤 H A mem run) (α ∷ [], tt) (lent-records l₉ γ (i .rs), (i .s .pick, tt)) tt r)))) (id⊢ 𝓤 _) $
         await ! tt $ pick ! (λ l. split ! $ move ! (1 ∷ []) $
@@ -490,7 +490,7 @@ module _ {M : Type 1} (𝓤 : URA M) (H : Heap 𝓤) (A : Atoms 𝓤) (W : Given
         (within due found) (λ g.
         use1 W (‵ (fat fullShare P′.mir l₉ (place-of 1 0 l) (rval (getD (i .rs) l idle))))
         (W .laws .raw-at fullShare P′.mir l₉ (place-of 1 0 l) (rval (getD (i .rs) l idle))) $
-        assigns-last ! (of-opd ! (load ! (from ! (fld ! refl (stop !))) (look-in ! 15 (sub ! 6 refl (whole !))))) (from ! (hop ! (look ! 33 refl) (stop !)))
+        assigns-last ! (of-opd ! (load ! (from ! (fld ! refl (stop !))) (look-in ! 15 (sub ! 5 refl (whole !))))) (from ! (hop ! (look ! 33 refl) (stop !)))
         (store ! 0 refl (tt, (tt, tt))) $
         use1 W (‵ (cellAt fullShare (R .mir) (rval (r .actor) ∷ []) l₉ (place-of 1 0 l)))
         (W .laws .at-raw fullShare P′.mir l₉ (place-of 1 0 l) (rval (r .actor))) $

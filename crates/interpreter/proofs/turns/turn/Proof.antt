@@ -36,7 +36,7 @@ returns c =
 
 add-going-at : tie.Need-add-going-at
 add-going-at c =
-    let at-if1 = c .before .before .before .before in
+    let at-if1 = c .before .before .before in
     let begin = start (at-command (at-if1 .before)) in
     omega (arith, begin .pre .2, begin .good .1 .1 .1 .1 .1 .1 .0 .1)
 
@@ -59,5 +59,5 @@ returns-2 c =
 pub turn-spec : {M : Type 1} → statement M
 turn-spec =
     tie.close
-    (tie.spec (λ c κs. search needs) (λ c κs. search needs) (λ c. search needs) (λ c. search needs) returns (λ c κs. search needs) (λ c κs. search needs)
+    (tie.spec (λ c κs. search needs) (λ c κs. search needs) (λ c. search needs) (λ c. search needs) returns (λ c κs. search needs)
     add-going-at (λ c κs. search needs) (λ c. search needs) (λ c. search needs) returns-2)
