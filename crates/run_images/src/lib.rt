@@ -31,9 +31,9 @@ pub struct Report {
 }
 
 // Of a machine in lent memory: where the steps of its program begin, and its numbers.
-struct Seat {
-    at: usize,
-    numbers: Numbers,
+pub struct Seat {
+    pub at: usize,
+    pub numbers: Numbers,
 }
 
 // An input refusal: no turns, no blocks, no depth, no holders.

@@ -33,50 +33,50 @@ unfoldable pub trace-rows : List TraceRow
 trace-rows =
     -- P on (5,2),(7,1): a turn for each command of the first record; the last one writes
     traced P (cells 2 (cell 5 2 ++ cell 7 1)) (replicate 8 1) (
-      "move s"
-      ∷ "0 1 1 0 0 0 push this [ 16:1 ] s"
-      ∷ "1 1 1 0 0 1 rd 0 [ 0:5 ] s"
-      ∷ "2 1 1 0 0 2 push this [ 0:5 16:1 ] s"
-      ∷ "3 1 1 0 0 3 rd 1 [ 0:5 16:2 ] s"
-      ∷ "4 1 1 0 0 4 rd 0 [ 0:5 0:7 ] s"
-      ∷ "5 1 1 0 0 5 op 41 [ 0:12 ] s"
-      ∷ "6 1 1 0 0 6 push this [ 0:12 16:1 ] s"
-      ∷ "7 1 1 0 0 7 wr 0 [ ] 1.0 5 12 s"
-      ∷ "end 33 8"
-      ∷ []
+    "move s"
+    ∷ "0 1 1 0 0 0 push this [ 16:1 ] s"
+    ∷ "1 1 1 0 0 1 rd 0 [ 0:5 ] s"
+    ∷ "2 1 1 0 0 2 push this [ 0:5 16:1 ] s"
+    ∷ "3 1 1 0 0 3 rd 1 [ 0:5 16:2 ] s"
+    ∷ "4 1 1 0 0 4 rd 0 [ 0:5 0:7 ] s"
+    ∷ "5 1 1 0 0 5 op 41 [ 0:12 ] s"
+    ∷ "6 1 1 0 0 6 push this [ 0:12 16:1 ] s"
+    ∷ "7 1 1 0 0 7 wr 0 [ ] 1.0 5 12 s"
+    ∷ "end 33 8"
+    ∷ []
     )
     -- the second record's sum is out of range
     ∷ traced P (cells 2 (cell 1 0 ++ cell 2147483647 1)) (replicate 8 2) (
-      "move s"
-      ∷ "0 2 2 0 0 0 push this [ 16:2 ] s"
-      ∷ "1 2 2 0 0 1 rd 0 [ 0:2147483647 ] s"
-      ∷ "2 2 2 0 0 2 push this [ 0:2147483647 16:2 ] s"
-      ∷ "3 2 2 0 0 3 rd 1 [ 0:2147483647 16:1 ] s"
-      ∷ "4 2 2 0 0 4 rd 0 [ 0:2147483647 0:1 ] s"
-      ∷ "end 35 5"
-      ∷ []
+    "move s"
+    ∷ "0 2 2 0 0 0 push this [ 16:2 ] s"
+    ∷ "1 2 2 0 0 1 rd 0 [ 0:2147483647 ] s"
+    ∷ "2 2 2 0 0 2 push this [ 0:2147483647 16:2 ] s"
+    ∷ "3 2 2 0 0 3 rd 1 [ 0:2147483647 16:1 ] s"
+    ∷ "4 2 2 0 0 4 rd 0 [ 0:2147483647 0:1 ] s"
+    ∷ "end 35 5"
+    ∷ []
     )
     -- load := 1 in a Fix: an instance's write makes its entry false, and that to the null instance is dropped
     ∷ traced one-in-fix (cells 1 (single 0)) (replicate 3 1 ++ replicate 9 0) (
-      "move s1"
-      ∷ "move s1"
-      ∷ "0 1 1 0 0 0 push 0 1 [ 0:1 ] s1"
-      ∷ "1 1 1 0 0 1 push this [ 0:1 16:1 ] s1"
-      ∷ "2 1 1 0 0 2 wr 0 [ ] 1.0 0 1 s0"
-      ∷ "3 0 0 0 0 0 push 0 1 [ 0:1 ] s0"
-      ∷ "4 0 0 0 0 1 push this [ 0:1 16:0 ] s0"
-      ∷ "5 0 0 0 0 2 wr 0 [ ] s0"
-      ∷ "move s1"
-      ∷ "move s1"
-      ∷ "6 0 0 0 0 0 push 0 1 [ 0:1 ] s1"
-      ∷ "7 0 0 0 0 1 push this [ 0:1 16:0 ] s1"
-      ∷ "8 0 0 0 0 2 wr 0 [ ] s1"
-      ∷ "9 0 1 0 0 0 push 0 1 [ 0:1 ] s1"
-      ∷ "10 0 1 0 0 1 push this [ 0:1 16:1 ] s1"
-      ∷ "11 0 1 0 0 2 wr 0 [ ] 1.0 1 1 s1"
-      ∷ "move s"
-      ∷ "end 0 12"
-      ∷ []
+    "move s1"
+    ∷ "move s1"
+    ∷ "0 1 1 0 0 0 push 0 1 [ 0:1 ] s1"
+    ∷ "1 1 1 0 0 1 push this [ 0:1 16:1 ] s1"
+    ∷ "2 1 1 0 0 2 wr 0 [ ] 1.0 0 1 s0"
+    ∷ "3 0 0 0 0 0 push 0 1 [ 0:1 ] s0"
+    ∷ "4 0 0 0 0 1 push this [ 0:1 16:0 ] s0"
+    ∷ "5 0 0 0 0 2 wr 0 [ ] s0"
+    ∷ "move s1"
+    ∷ "move s1"
+    ∷ "6 0 0 0 0 0 push 0 1 [ 0:1 ] s1"
+    ∷ "7 0 0 0 0 1 push this [ 0:1 16:0 ] s1"
+    ∷ "8 0 0 0 0 2 wr 0 [ ] s1"
+    ∷ "9 0 1 0 0 0 push 0 1 [ 0:1 ] s1"
+    ∷ "10 0 1 0 0 1 push this [ 0:1 16:1 ] s1"
+    ∷ "11 0 1 0 0 2 wr 0 [ ] 1.0 1 1 s1"
+    ∷ "move s"
+    ∷ "end 0 12"
+    ∷ []
     )
     -- a table that ends early
     ∷ traced P (1 ∷ 0 ∷ []) [] ("end 11 0" ∷ [])
