@@ -18,14 +18,10 @@ use Rattle.run.specs.Entry.{Begun, Begun.begun, Begun.not-begun, of-checked, wi
 use Rattle.run.specs.Turns.{chosen}
 use Rattle.run.specs.Holders.{holders, due}
 use Rattle.run.specs.Run.{Outcome.stopped, run}
-use Rattle.trace.specs.Trace.{Line, Line.moved, Line.acted, move-line, turn-line, trace}
+use Rattle.trace.specs.Trace.{Line.moved, Line.acted, alone, move-line, turn-line, trace}
 use Rattle.trace.specs.LineText.{step-name, line-text, step-behind, turn-behind, lines-text, trace-lines, end-text}
 use Rattle.trace.specs.TraceText.{end-of, run-text, begun-text, allowed, trace-text}
 use Rattle.trace.specs.TraceStepLaws.{trace-move, trace-turn, trace-lasts, trace-ends}
-
--- nothing behind an act
-abbrev pub alone : Machine → List Line
-alone m = []
 
 module _ (p : Program) (m : Machine) (n t : ℕ) where
   -- a move that is due
