@@ -1,0 +1,5 @@
+pub mod Pages
+pub mod PageLaws
+pub mod Telling
+pub mod TellingLaws
+pub mod SettlingWays

@@ -1,0 +1,6 @@
+// The trace of a run.
+mod pages;
+mod telling;
+
+fn main() {
+}
