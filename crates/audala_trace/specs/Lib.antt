@@ -3,3 +3,4 @@ pub mod PageLaws
 pub mod Telling
 pub mod TellingLaws
 pub mod SettlingWays
+pub mod PlayWays

@@ -73,3 +73,12 @@ pub(crate) fn ended(g: Page, number: u8, taken: usize, out: &mut [u8]) -> Page
         written: p.written,
     }
 }
+
+// What is written of an input refusal: its number, and no turns.
+pub(crate) fn refused(number: u8, out: &mut [u8]) -> Page
+    requires { ⌜ line-most ≤ length (now out) ⌝ }
+    ensures { λ r. ⌜ Paged (end-text number 0) r (now (out .exit)) ⌝ }
+    ensures { λ r. ⌜ r .length ≤ length (now (out .exit)) ⌝ }
+{
+    ended(blank(), number, 0, out)
+}

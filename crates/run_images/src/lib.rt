@@ -50,7 +50,7 @@ fn refused(number: u8) -> Report
 }
 
 // The number of a table that is refused; 0 where it is not.
-fn table_refusal(r: TableRead) -> u8
+pub fn table_refusal(r: TableRead) -> u8
     ensures { λ n. ⌜ n ≡ table-refusal r ⌝ }
 {
     let TableRead::Refused(n) = r else {
