@@ -24,7 +24,8 @@ paged-handed {text} {out} {g} {r} e f h = record {
 }
 
 -- a text that stands behind the page
-pub paged-more : {text : List ℕ} (t out out′ : List ℕ) {g : Page} (k : ℕ) → take k out′ ≡ take (g .length) out ++ t → Paged text g out → Paged (text ++ t) (longer g k) out′
+pub paged-more : {text : List ℕ} (t out out′ : List ℕ) {g : Page} (k : ℕ) → take k out′ ≡ take (g .length) out ++ t → Paged text g out
+    → Paged (text ++ t) (longer g k) out′
 paged-more t out out′ k e h = record {
   before = h .before;
   is = rw (h .is, append-assoc, e) refl;
@@ -68,6 +69,12 @@ module _ (k : ℕ) (out : List ℕ) (room : k + line-most ≤ length out) where
     behind-lies =
         let e : length (put-back k out part) ≡ length out =
         length-append (take k out) (part ++ drop (length out - k) (drop k out))
-        ∙ omega (arith, length-append part (drop (length out - k) (drop k out)), length-take-le k out (omega arith), part-length,
-          length-drop (length out - k) (drop k out), length-drop k out) in
+        ∙ omega (
+          arith,
+          length-append part (drop (length out - k) (drop k out)),
+          length-take-le k out (omega arith),
+          part-length,
+          length-drop (length out - k) (drop k out),
+          length-drop k out,
+        ) in
         (omega arith, omega arith)

@@ -1,4 +1,5 @@
--- The ways through the loop of turns that are told (01, 'Table and turns'): of a run of m with the bytes es, a turn is due, or it has stopped and its text is told.
+-- The ways through the loop of turns that are told (01, 'Table and turns'): of a run of m with the bytes es, a turn is due, or it has stopped and its
+-- text is told.
 use Prim.Native.Nat.{ℕ, suc, _+_, _-_, _^_, _<_, _≤_}
 use native.Mathlib.Omega.{arith}
 use native.Mathlib.Numerals.{add-one}
@@ -204,7 +205,6 @@ module _ (p : Program) (m : Machine) (es counts list items spans : List ℕ) whe
 
           pub taken-standing : Standing items spans h′ (r .coming .machine .numbers)
           taken-standing = begun-standing (record { program = p; machine = behind-turn .machine; ready = behind-turn .ready })
-
 
 module _ (p : Program) (m : Machine) (es counts list items spans : List ℕ) where
   -- the schedule moves on behind a turn that was taken

@@ -1,5 +1,6 @@
--- A run that is told (docs/FORMAT.md, 'Traces'): what the code keeps of it between two acts, how far its text is told there, and what the code of a move, of the moves
--- between turns and of a turn promises. A text is told up to a machine that the run visits: the rest is the text of that machine's own trace.
+-- A run that is told (docs/FORMAT.md, 'Traces'): what the code keeps of it between two acts, how far its text is told there, and what the code of a
+-- move, of the moves between turns and of a turn promises. A text is told up to a machine that the run visits: the rest is the text of that
+-- machine's own trace.
 use Prim.Native.Nat.{ℕ, _+_, _^_, _<_, _≤_}
 use mathlib.Core.Path.{_≡_}
 use mathlib.Core.Bool.{true, false}

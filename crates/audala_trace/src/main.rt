@@ -1,5 +1,5 @@
-// The trace of a run (docs/FORMAT.md, 'Traces'): a program image on a table image with turn bytes, all from files. On standard output a line for each move of the
-// schedule and each turn, and behind them the run's number and turns.
+// The trace of a run (docs/FORMAT.md, 'Traces'): a program image on a table image with turn bytes, all from files. On standard output a line for each
+// move of the schedule and each turn, and behind them the run's number and turns.
 mod pages;
 mod telling;
 

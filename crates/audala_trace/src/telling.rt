@@ -20,8 +20,8 @@ ghost use Rattle.trace_lines.specs.Parts.{line-most};
 ghost use Rattle.audala_trace.specs.Pages.{Lies};
 ghost use Rattle.audala_trace.specs.Telling.{first-of, rests, told-at, behind, Moveable, Moves, Settles, Takeable, Takes, Plays};
 
-// A run between two acts: its machine, the step that runs, the turns taken and the byte that comes next; the number that it stops with, and whether a turn is due;
-// the page of its text.
+// A run between two acts: its machine, the step that runs, the turns taken and the byte that comes next; the number that it stops with, and whether
+// a turn is due; the page of its text.
 pub(crate) struct Telling {
     pub coming: Coming,
     pub number: u8,
@@ -126,7 +126,13 @@ fn moved(s: Telling, items: &[usize], spans: &[u16], heads: &mut [usize], out: &
 }
 
 // The moves of the schedule until some instance holds commands, each with its line.
-fn settle(s: Telling, items: &[usize], spans: &[u16], heads: &mut [usize], out: &mut [u8]) -> Telling
+fn settle(
+    s: Telling,
+    items: &[usize],
+    spans: &[u16],
+    heads: &mut [usize],
+    out: &mut [u8],
+) -> Telling
     requires { ⌜ Standing (now items) (now spans) (now heads) (s .coming .machine .numbers) × (s .coming .step < step-names) ⌝ }
     requires { ⌜ Lies (s .page) (now out) ⌝ }
     ensures { λ r. ⌜ Settles (now (items .entry)) (now (spans .entry)) s (now (heads .entry)) (now (out .entry)) r (now (heads .exit)) (now (out .exit)) ⌝ }

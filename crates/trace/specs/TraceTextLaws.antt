@@ -1,5 +1,5 @@
--- The text of a trace is made line by line (docs/FORMAT.md, 'Traces'): that of an act that is due stands in front of the text from the machine behind it, and where the
--- run rests there is no more.
+-- The text of a trace is made line by line (docs/FORMAT.md, 'Traces'): that of an act that is due stands in front of the text from the machine behind
+-- it, and where the run rests there is no more.
 use Prim.Native.Nat.{ℕ, _+_, _<_, _≤_}
 use mathlib.Core.Path.{_≡_, refl, sym, ap, _∙_}
 use mathlib.Core.Bool.{true, false}

@@ -12,8 +12,7 @@ returns : tie.Need-returns
 unfolding end-text
 returns c =
     let at-row = c .before .before in
-    let at-room = at-row .before .before .before .before in
-    (
+    let at-room = at-row .before .before .before .before in (
       λ text h. paged-more _ _ _ _ (placed-behind (at-row .row .ensures .0) (omega (arith, at-row .row .ensures .1, at-room .room .ensures .0)))
           (at-room .room .ensures .1 text h),
       omega (arith, at-row .row .ensures .1, at-room .room .ensures .0),

@@ -1,5 +1,5 @@
--- `telling::play` meets its contract: the program is prepared, memory is ready for the machine that is seated, and its run is told. The loop's invariant: a run that has
--- come to where the loop begins has come to where it stands. The measure is the turns that are left.
+-- `telling::play` meets its contract: the program is prepared, memory is ready for the machine that is seated, and its run is told. The loop's
+-- invariant: a run that has come to where the loop begins has come to where it stands. The measure is the turns that are left.
 use native.Mathlib.Omega.{arith}
 use Prim.Native.Nat.{ℕ, _+_, _*_, _<_}
 use mathlib.Core.Path.{_≡_, refl, _∙_}
@@ -27,7 +27,8 @@ Inv-loop s counts heads₀ cells₀ turns out₀ list spans items next₀ heads 
     × (length out ≡ length out₀)
     × (next .coming .step < step-names)
     × Lies (next .page) out
-    × ((p : Program) (m : Machine) → Goes p m turns counts list items spans next₀ heads₀ cells₀ out₀ → Goes p m turns counts list items spans next heads cells out)
+    × ((p : Program) (m : Machine) → Goes p m turns counts list items spans next₀ heads₀ cells₀ out₀
+    → Goes p m turns counts list items spans next heads cells out)
 
 abbrev μ-loop : tie.MeasureT-loop
 μ-loop s counts heads₀ cells₀ turns out₀ list spans items next₀ heads cells out next = turns-left turns next
@@ -115,10 +116,14 @@ loop-holds c =
     (refl, refl, refl, named, told-lies es x (c .told-at .result) e (t .settle .last .1 .1 .1 .1 .0) (t .settle .ensures .lies), λ p m g. g)
 
 -- the run where the loop stands
-goes : (c : tie.At-loop Inv-loop μ-loop) (p : Program) (m : Machine) → SeatedHere (at-program (at-first (at-settle (c .before)))) p m
-    → Goes p m (begin (at-program (at-first (at-settle (c .before)))) .args .turns .now) (begin (at-program (at-first (at-settle (c .before)))) .args .counts .now)
-    (list-of (at-program (at-first (at-settle (c .before))))) (items-of (at-program (at-first (at-settle (c .before)))))
-    (spans-of (at-program (at-first (at-settle (c .before)))))
+abbrev prepared : tie.At-loop Inv-loop μ-loop → tie.After-program Inv-loop μ-loop
+prepared c = at-program (at-first (at-settle (c .before)))
+
+abbrev begun : tie.At-loop Inv-loop μ-loop → tie.Start Inv-loop μ-loop
+begun c = begin (prepared c)
+
+goes : (c : tie.At-loop Inv-loop μ-loop) (p : Program) (m : Machine) → SeatedHere (prepared c) p m
+    → Goes p m (begun c .args .turns .now) (begun c .args .counts .now) (list-of (prepared c)) (items-of (prepared c)) (spans-of (prepared c))
     (c .loop .next) (c .loop .heads) (c .loop .cells) (c .loop .out)
 goes c p m w =
     let t = at-settle (c .before) in
@@ -129,38 +134,31 @@ goes c p m w =
     (rw (c .before .told-at .ensures)
     (first-goes p m (a .turns .now) (a .counts .now) (list-of d) (items-of d) (spans-of d) (f .first .ensures) (ready d p m w) (t .settle .ensures)))
 
-abbrev begun : tie.At-loop Inv-loop μ-loop → tie.Start Inv-loop μ-loop
-begun c = begin (at-program (at-first (at-settle (c .before))))
-
 abbrev the-program : tie.At-loop Inv-loop μ-loop → Program
 the-program c = begun c .pre .0 .0
 
 abbrev the-machine : tie.At-loop Inv-loop μ-loop → Machine
 the-machine c = begun c .pre .0 .1
 
-abbrev prepared : tie.In-loop Inv-loop μ-loop → tie.After-program Inv-loop μ-loop
-prepared c = at-program (at-first (at-settle (c .before .before)))
-
 -- what the loop lends
 slice-aggregate-turn : tie.Need-slice-aggregate-turn Inv-loop μ-loop
-slice-aggregate-turn c = omega (arith, list-length (prepared (c .before)))
+slice-aggregate-turn c = omega (arith, list-length (prepared (c .before .before)))
 
 slice-aggregate-turn-2 : tie.Need-slice-aggregate-turn-2 Inv-loop μ-loop
-slice-aggregate-turn-2 c = omega (arith, spans-length (prepared (c .before .before)))
+slice-aggregate-turn-2 c = omega (arith, spans-length (prepared (c .before .before .before)))
 
 slice-aggregate-settle-3 : tie.Need-slice-aggregate-settle-3 Inv-loop μ-loop
-slice-aggregate-settle-3 c = omega (arith, items-length (prepared (in-loop (at-turn (c .before .before)))))
+slice-aggregate-settle-3 c = omega (arith, items-length (prepared (in-loop (at-turn (c .before .before)) .before)))
 
 slice-aggregate-settle-4 : tie.Need-slice-aggregate-settle-4 Inv-loop μ-loop
-slice-aggregate-settle-4 c = omega (arith, spans-length (prepared (in-loop (at-turn (c .before .before .before)))))
+slice-aggregate-settle-4 c = omega (arith, spans-length (prepared (in-loop (at-turn (c .before .before .before)) .before)))
 
 turn-requires : tie.Need-turn-requires Inv-loop μ-loop
 turn-requires c κs =
     let at-list = c .before .before .before .before in
     let i = at-list .before in
     let l = i .before in
-    let s = begun l in
-    (
+    let s = begun l in (
       goes-takeable _ _ _ _ _ _ _ (goes l (the-program l) (the-machine l) (s .pre .0 .2)) (i .loop-test .taken) (l .loop .inv .3)
           (s .good .1 .1 .1 .1 .1 .0 .0),
       l .loop .inv .4,
@@ -171,8 +169,7 @@ settle-requires-2 c κs =
     let h = c .before .before .before .before in
     let t = at-turn (h .before) in
     let i = in-loop t in
-    let l = i .before in
-    (
+    let l = i .before in (
       (
         taken-standing _ _ _ _ _ _ _ (goes l (the-program l) (the-machine l) (begun l .pre .0 .2)) (i .loop-test .taken) (t .turn .ensures) (h .if1 .taken),
         rw (t .turn .ensures .named) (l .loop .inv .3),
@@ -187,7 +184,8 @@ loop-less c =
     let t = at-turn (h .before) in
     let i = in-loop t in
     let l = i .before in
-    told-less (begun l .args .turns .now) (n .settle2 .result) (c .told-at2 .result) (c .told-at2 .ensures) (l .loop .next) (n .settle2 .ensures .taken ∙ t .turn .ensures .counted (h .if1 .taken))
+    told-less (begun l .args .turns .now) (n .settle2 .result) (c .told-at2 .result) (c .told-at2 .ensures) (l .loop .next)
+    (n .settle2 .ensures .taken ∙ t .turn .ensures .counted (h .if1 .taken))
     (goes l (the-program l) (the-machine l) (begun l .pre .0 .2) .early (i .loop-test .taken)) (i .loop-test .taken)
 
 loop-again : tie.Need-loop-again Inv-loop μ-loop
@@ -199,8 +197,7 @@ loop-again c =
     let i = in-loop t in
     let l = i .before in
     let es = begun l .args .turns .now in
-    let v = l .loop .inv in
-    (
+    let v = l .loop .inv in (
       n .settle2 .kept .1 .1 .1 .0 ∙ t .turn .kept .1 .1 .1 .1 .0 ∙ v .0,
       t .turn .kept .1 .1 .1 .1 .1 .0 ∙ v .1,
       n .settle2 .kept .1 .1 .1 .1 .0 ∙ t .turn .kept .1 .1 .1 .1 .1 .1 .0 ∙ v .2,
@@ -214,14 +211,14 @@ loop-less-2 c =
     let t = at-turn (c .before) in
     let i = in-loop t in
     let l = i .before in
-    refused-less (begun l .args .turns .now) (l .loop .next) (t .turn .result) (t .turn .ensures .kept (c .if1 .left)) (t .turn .ensures .rest) (i .loop-test .taken)
+    refused-less (begun l .args .turns .now) (l .loop .next) (t .turn .result) (t .turn .ensures .kept (c .if1 .left)) (t .turn .ensures .rest)
+    (i .loop-test .taken)
 
 loop-again-2 : tie.Need-loop-again-2 Inv-loop μ-loop
 loop-again-2 c =
     let t = at-turn (c .before) in
     let i = in-loop t in
-    let v = i .before .loop .inv in
-    (
+    let v = i .before .loop .inv in (
       t .turn .kept .1 .1 .1 .1 .0 ∙ v .0,
       t .turn .kept .1 .1 .1 .1 .1 .0 ∙ v .1,
       t .turn .kept .1 .1 .1 .1 .1 .1 .0 ∙ v .2,

@@ -61,8 +61,7 @@ moved-requires c κs =
     let e = c .before .before in
     let t = e .before .before in
     let l = at-loop t in
-    let s = start l in
-    (
+    let s = start l in (
       settling-moveable (s .args .s) (s .args .heads .now) (s .args .out .now) (s .pre .0 .0) (l .loop .next) (l .loop .heads) (l .loop .out) (l .loop .inv .2)
           (e .if2 .left) (t .if1 .taken) (l .loop .inv .3),
       l .loop .inv .5,
@@ -81,8 +80,7 @@ loop-again : tie.Need-loop-again Inv-loop μ-loop
 loop-again c =
     let m = at-moved c in
     let i = at-loop (at-else m .before .before) .loop .inv in
-    let r = m .moved .ensures in
-    (
+    let r = m .moved .ensures in (
       m .moved .kept .1 .1 .1 .0 ∙ i .0,
       m .moved .kept .1 .1 .1 .1 .0 ∙ i .1,
       silent-more (i .2) (r .tells),

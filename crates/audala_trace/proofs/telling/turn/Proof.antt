@@ -32,7 +32,8 @@ part c = c .turn .last .1 .1 .1 .1 .1 .1 .0
 abbrev at : tie.After-turn → ℕ
 at c = at-room c .room .result .length
 
-line : (c : tie.After-turn) → take (at c + c .turn .result .length) (put-back (at c) (lent c) (part c)) ≡ take (at c) (lent c) ++ take (c .turn .result .length) (part c)
+line : (c : tie.After-turn)
+    → take (at c + c .turn .result .length) (put-back (at c) (lent c) (part c)) ≡ take (at c) (lent c) ++ take (c .turn .result .length) (part c)
 line c =
     line-behind (at c) (lent c) (at-room c .room .ensures .0) (part c) (c .turn .kept .1 .1 .1 .1 .1 .1 .0) (c .turn .result .length) (c .turn .ensures .1 .1)
 
