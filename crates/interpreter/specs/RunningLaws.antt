@@ -20,7 +20,8 @@ use Rattle.memory.specs.Act.{full, exceeded, act}
 use Rattle.memory.specs.Choose.{picked}
 use Rattle.memory.specs.Move.{move}
 use Rattle.interpreter.specs.Ready.{Ready}
-use Rattle.interpreter.specs.Running.{cleared, Moving, Settles, Settles.held, Settles.still, Turned, Turned.turned, Turned.failed, Running, Running.going, Running.over, Reached, Ended}
+use Rattle.interpreter.specs.Running.{cleared, Moving, Settles, Settles.held, Settles.still, Turned, Turned.turned, Turned.failed}
+use Rattle.interpreter.specs.Running.{Running, Running.going, Running.over, Reached, Ended}
 use Rattle.interpreter.specs.VisitWays.{visits-on, visits-outcome}
 use Rattle.interpreter.specs.TurnLaws.{ends, moved-on, lasts, turned-by}
 

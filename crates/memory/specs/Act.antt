@@ -11,7 +11,8 @@ use Rattle.operators.specs.declared.Answered.{Answered}
 use Rattle.operators.specs.declared.Answered.the-variants.{Value, Outside, Unfit}
 use Rattle.operators.specs.Words.{apply-word}
 pub use Rattle.machine.specs.Stops.{full, exceeded}
-use Rattle.layout.specs.Layout.{head-size, struct-of, height-of, next-of, row-size, variable, stacked, cell, type-byte, operand, label-cell, new-head, going, holds}
+use Rattle.layout.specs.Layout.{head-size, struct-of, height-of, next-of, row-size, variable, stacked, cell}
+use Rattle.layout.specs.Layout.{type-byte, operand, label-cell, new-head, going, holds}
 use Rattle.layout.specs.State.{State, with-heads, with-cells, times, unstable, refused, with-count, with-holding, of-head, of-cell}
 use Rattle.memory.specs.Choose.{fewer}
 

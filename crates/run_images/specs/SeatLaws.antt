@@ -85,15 +85,16 @@ module _ {s counts types : List ℕ} {at : ℕ} {p : Program} (a : Admitted s co
             let k : n ≡ structs p + length rs = cc in
             let w : TableLaid (arities p) (types-table (p .params)) h d (image-answer (lists-of (arities p) (types-table (p .params))) y) h′ d′ =
             rw (a .counted, typed) at laid in
-            let right = image-right p (admitted-counts a) y rs q in (
+            let right = image-right p (admitted-counts a) y rs q in
+            let lies = image-stands p (admitted-counts a) rs h d h′ d′ long wide in (
               rs,
               goes (ap (of-table p) q),
               λ m f. record {
                 admitted = a;
                 good = begin-good p (admitted-counts a) rs right;
                 tabled = begin-tabled p rs right;
-                kept = rw (f, k) (sym (holding-same (begin p rs) (image-stands p (admitted-counts a) rs h d h′ d′ long wide [] (λ b s. Unit {0}) 0 tt y q w) ∙ ap length (begin-idle p rs)));
-                stands = λ list items o. rw (f, k) (image-stands p (admitted-counts a) rs h d h′ d′ long wide (listed p list) (At items) 0 o y q w);
+                kept = rw (f, k) (sym (holding-same (begin p rs) (lies [] (λ b s. Unit {0}) 0 tt y q w) ∙ ap length (begin-idle p rs)));
+                stands = λ list items o. rw (f, k) (lies (listed p list) (At items) 0 o y q w);
               },
             )
         go (no-table k) q =

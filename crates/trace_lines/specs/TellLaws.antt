@@ -63,7 +63,8 @@ some-hold m (x ∷ hs) e h = some-due m e
 
 -- Turns --------------------------------------------------------------------------
 
-module _ {p : Program} {counts list items spans : List ℕ} {m : Machine} {z : State} (r : Ready p counts list items spans m z) (b : 0 < z .machine .holding) (e : ℕ) where
+module _ {p : Program} {counts list items spans : List ℕ} {m : Machine} {z : State} (r : Ready p counts list items spans m z)
+    (b : 0 < z .machine .holding) (e : ℕ) where
   abbrev actor : ℕ
   actor = chosen (holders m) e
 

@@ -99,7 +99,8 @@ module _ (list counts : List ℕ) (l : ℕ) (z : State) where
   unfolding act
   act-does h n s w =
       let (a, b) = word-says h n s (next-word list z l) w in
-      let q : perform counts l z (next-word list z l % 256) (next-word list z l) (operand (next-word list z l)) ≡ does counts l z n = rw (a, b, w) (performs n) in
+      let q : perform counts l z (next-word list z l % 256) (next-word list z l) (operand (next-word list z l)) ≡ does counts l z n =
+      rw (a, b, w) (performs n) in
       ap (counted l z) q
 
 -- The command ------------------------------------------------------------------------

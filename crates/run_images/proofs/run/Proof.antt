@@ -233,7 +233,10 @@ reported-requires c κs =
     let d = at-played (c .before .before) in let f = the-fresh d in let at-else = f .before in let a = admits (the-loaded (the-read f)) in
     let nulls = played-nulls a (plays d) in (
       played-filled a (plays d),
-      ((nulls, omega (arith, played-turns a (plays d), at-else .if3 .left), played-holders a (plays d)), (omega (arith, buffer-length f), at-else .before .before .if1 .left)),
+      (
+        (nulls, omega (arith, played-turns a (plays d), at-else .if3 .left), played-holders a (plays d)),
+        (omega (arith, buffer-length f), at-else .before .before .if1 .left),
+      ),
     )
 
 returns-6 : tie.Need-returns-6

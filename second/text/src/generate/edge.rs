@@ -152,7 +152,7 @@ fn nesting(random: &mut Random) -> String {
 }
 
 /// A stream of 32,256 bytes or near to it; those of the frame are 17.
-fn stream_bytes(random: &mut Random) -> String {
+pub fn stream_bytes(random: &mut Random) -> String {
     let inner = near(random, 32_256) - 17;
     if random.one_in(2) {
         return with_statements(&format!("b := {} b ;", "! ".repeat(inner - 3)));
@@ -164,7 +164,7 @@ fn stream_bytes(random: &mut Random) -> String {
 
 /// Texts about single rules: tokens, derivations, names alive or twice, and
 /// what is left to the checker.
-const RULES: [&str; 54] = [
+pub const RULES: [&str; 54] = [
     "",
     "s",
     "struct P ( ) { }",
@@ -222,7 +222,7 @@ const RULES: [&str; 54] = [
 ];
 
 /// Texts whose bytes matter, comments above all.
-const RAW: [&str; 16] = [
+pub const RAW: [&str; 16] = [
     "struct P(){s{}}s/**/",
     "struct P(){s{}}s/*/",
     "struct P(){s{}}s/***/",
@@ -242,7 +242,7 @@ const RAW: [&str; 16] = [
 ];
 
 /// Text whose length is near the greatest, by blanks or one comment.
-fn padded(random: &mut Random, text: String) -> String {
+pub fn padded(random: &mut Random, text: String) -> String {
     let room = near(random, 65_536) - text.len();
     if random.one_in(2) {
         text + &" ".repeat(room)
@@ -251,7 +251,7 @@ fn padded(random: &mut Random, text: String) -> String {
     }
 }
 
-const COUNTED: [fn(&mut Random) -> String; 11] = [
+pub const COUNTED: [fn(&mut Random) -> String; 11] = [
     structs, parameters, steps, step_names, statements, path, locals, items, arguments, literal,
     nesting,
 ];
