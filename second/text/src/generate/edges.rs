@@ -44,7 +44,7 @@ fn deep() -> Vec<String> {
 pub fn edges() -> Vec<Vec<u8>> {
     let mut texts: Vec<String> = RULES.iter().chain(&RAW).map(|text| text.to_string()).collect();
     texts.extend(COUNTED.iter().flat_map(drawn));
-    texts.extend(drawn(|random| stream_bytes(random).replace(' ', "")));
+    texts.extend(drawn(stream_bytes));
     texts.extend(drawn(|random| padded(random, "struct P(){s{}}s".to_string())));
     texts.extend(deep());
     texts.into_iter().map(String::into_bytes).collect()
