@@ -4,7 +4,8 @@ use Prim.Native.Nat.{ℕ}
 use mathlib.Core.Path.{_≡_, refl}
 use mathlib.Core.List.{List, [], _∷_, _++_}
 use lib.ListN.{take, drop, replicate}
-use Rattle.program.specs.Reader.{then, pair, made, many, guard, lookup, item-sort, between, byte, tested, ranged, counted, opened, read-items, rule-item, read-item}
+use Rattle.program.specs.Reader.{then, pair, made, many, guard, lookup, item-sort, between, byte, tested, ranged, counted, opened, read-items}
+use Rattle.program.specs.Reader.{rule-item, read-item}
 use Rattle.directory.specs.Directory.{row}
 use Rattle.emit.specs.Written.{code-of}
 use Rattle.machine.specs.Published.{of-item, of-items}

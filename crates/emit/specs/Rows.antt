@@ -6,7 +6,9 @@ use Rattle.types.specs.Types.{code, type-of}
 use Rattle.types.specs.Values.{default, int-word, word-int, word, value-of}
 use Rattle.program.specs.Encoding.{op-code, var-code}
 use Rattle.types.specs.TypeBytes.{is-type}
-use Rattle.program.specs.Reader.{then, pair, made, many, guard, lookup, form, kind, between, var-of, byte, tested, ranged, counted, opened, read-word, read-type, read-var, read-local, read-path, read-make, rule-expr, read-expr, read-body, read-when, read-declare, read-update, rule-stmt, read-stmt, read-step, read-steps}
+use Rattle.program.specs.Reader.{then, pair, made, many, guard, lookup, form, kind, between, var-of, byte, tested, ranged, counted, opened, read-word}
+use Rattle.program.specs.Reader.{read-type, read-var, read-local, read-path, read-make, rule-expr, read-expr, read-body, read-when, read-declare}
+use Rattle.program.specs.Reader.{read-update, rule-stmt, read-stmt, read-step, read-steps}
 use Rattle.commands.specs.Commands.{then as then-coms, reads, front, last, expr-coms, update-coms, stmt-coms, flatten, commands}
 use Rattle.commands.specs.Coding.{coded, com-word, command-word, words}
 use Rattle.commands.specs.ProgramWords.{steps-list, structs-list, structs-words}

@@ -10,8 +10,10 @@ use Rattle.types.specs.Limits.{program-blocks}
 use Rattle.types.specs.Types.{Ty.int, Ty.ref, code}
 use Rattle.types.specs.Values.{in-int, int-word}
 use Rattle.block.specs.Block.{block-size}
-use Rattle.program.specs.Tree.{Var.par as parameter, Op.op-add, Expr.path, Expr.op, Stmt.update, Stmts.end, Stmts.next, Item.call, Items.stop, Items.item, Program, size, items, args}
-use Rattle.program.specs.Encoding.{enc-word, flat, op-code, var-code, enc-path, enc-expr, enc-exprs, enc-stmt, enc-stmts, enc-item, enc-items, enc-step, enc-program}
+use Rattle.program.specs.Tree.{Var.par as parameter, Op.op-add, Expr.path, Expr.op, Stmt.update, Stmts.end, Stmts.next, Item.call, Items.stop}
+use Rattle.program.specs.Tree.{Items.item, Program, size, items, args}
+use Rattle.program.specs.Encoding.{enc-word, flat, op-code, var-code, enc-path, enc-expr, enc-exprs, enc-stmt, enc-stmts, enc-item, enc-items}
+use Rattle.program.specs.Encoding.{enc-step, enc-program}
 use Rattle.tokens.specs.Scanning.{same, lex}
 use Rattle.tokens.specs.Rows.{text-P, P-lexed}
 use Rattle.syntax.specs.Reading.{run, ended, read}
@@ -20,8 +22,11 @@ use Rattle.meaning.specs.Scope.{par-id, par-type, step-id, struct-id, pars-of, 
 use Rattle.meaning.specs.StepNames.{among, once, all-steps, step-names}
 use Rattle.meaning.specs.Values.{decimal-from, decimal, signed}
 use Rattle.meaning.specs.Finding.{find, one-later, absent, distinct}
-use Rattle.meaning.specs.Meant.{then, provided, each, literal-meaning, type-meaning, referred, further, started, start, path-meaning, exp-meaning, exps-meaning, stat-meaning, stats-meaning, pars-meaning, step-meaning, steps-meaning, item-meaning, sched-meaning, text-meaning, meant}
-use Rattle.meaning.specs.HoldsDecide.{all, few, a-type, a-var, a-path, holds-expr, holds-exprs, holds-stmt, holds-stmts, holds-step, holds-item, holds-items, holds-schedule, counted, holds}
+use Rattle.meaning.specs.Meant.{then, provided, each, literal-meaning, type-meaning, referred, further, started, start, path-meaning, exp-meaning}
+use Rattle.meaning.specs.Meant.{exps-meaning, stat-meaning, stats-meaning, pars-meaning, step-meaning, steps-meaning, item-meaning, sched-meaning}
+use Rattle.meaning.specs.Meant.{text-meaning, meant}
+use Rattle.meaning.specs.HoldsDecide.{all, few, a-type, a-var, a-path, holds-expr, holds-exprs, holds-stmt, holds-stmts, holds-step, holds-item}
+use Rattle.meaning.specs.HoldsDecide.{holds-items, holds-schedule, counted, holds}
 use Rattle.source.specs.Source.{no-derivation, Outcome.written, Outcome.refused}
 use Rattle.source.specs.TextReader.{of-room, of-held, of-program, of-derivation, of-tokens, of-length, outcome}
 

@@ -4,17 +4,23 @@ use mathlib.Core.List.{List, [], _∷_, reverseAux}
 use mathlib.Core.Option.{some}
 use mathlib.Core.Logic.{_↔_}
 use Rattle.program.specs.Tree.{Op.op-lt}
-use Rattle.tokens.specs.Tokens.{Word.w-then, Sign.rpar, Sign.lbrace, Sign.rbrace, Sign.comma, Sign.semicolon, Sign.assign, Sign.dot as dot-sign, Token, Token.word, Token.sign, Token.op}
+use Rattle.tokens.specs.Tokens.{Word.w-then, Sign.rpar, Sign.lbrace, Sign.rbrace, Sign.comma, Sign.semicolon, Sign.assign, Sign.dot as dot-sign}
+use Rattle.tokens.specs.Tokens.{Token, Token.word, Token.sign, Token.op}
 use Rattle.syntax.specs.Syntax.{Id, TypeName, TypeName.int-type, TypeName.nat-type, TypeName.bool-type, TypeName.id-type, Var, Var.id, Var.dot}
 use Rattle.syntax.specs.Syntax.{Exp, Exps, Stat, Stat.if-then, Stat.assignment, Stat.update, Stat.construct, Stats, Stats.no-stats, Stats.stats}
-use Rattle.syntax.specs.Syntax.{Par, Par.par, Step, Step.step as a-step, Struct, Struct.struct, Defs, Defs.last-struct, Defs.defs, Item, Item.execution, Item.typed-execution, Item.fixpoint, Sched, Sched.last-item, Sched.barrier, Program, Program.program}
-use Rattle.syntax.specs.Places.{Body, Body.in-step, Body.in-then, Place.in-construct, Place.in-if, Place.in-assignment, Place.in-update, Row, Row.in-program, Row.in-fix}
+use Rattle.syntax.specs.Syntax.{Par, Par.par, Step, Step.step as a-step, Struct, Struct.struct, Defs, Defs.last-struct, Defs.defs, Item}
+use Rattle.syntax.specs.Syntax.{Item.execution, Item.typed-execution, Item.fixpoint, Sched, Sched.last-item, Sched.barrier, Program}
+use Rattle.syntax.specs.Syntax.{Program.program}
+use Rattle.syntax.specs.Places.{Body, Body.in-step, Body.in-then, Place.in-construct, Place.in-if, Place.in-assignment, Place.in-update, Row}
+use Rattle.syntax.specs.Places.{Row.in-program, Row.in-fix}
 use Rattle.syntax.specs.Places.{State, State.at-defs, State.at-pars, State.at-par, State.behind-par, State.at-steps-open, State.at-steps}
 use Rattle.syntax.specs.Places.{State.at-stats, State.at-dot-name, State.at-construct, State.at-semicolon}
 use Rattle.syntax.specs.Places.{State.want, State.at-item, State.behind-item}
 use Rattle.syntax.specs.Places.{var-onto, stats-onto, defs-onto, sched-onto}
-use Rattle.syntax.specs.Expecting.{word-number, sign-number, on-word, on-sign, on-name, on-op, less, on-less, literal-word, on-literal, type-word, on-type-word, on-type}
-use Rattle.syntax.specs.Yield.{type-token, literal-token, yield-var, yield-exp, yield-stat, yield-stats, yield-par, yield-par-list, yield-pars, yield-step, yield-steps, yield-struct, yield-defs, yield-item, yield-sched, yield}
+use Rattle.syntax.specs.Expecting.{word-number, sign-number, on-word, on-sign, on-name, on-op, less, on-less, literal-word, on-literal}
+use Rattle.syntax.specs.Expecting.{type-word, on-type-word, on-type}
+use Rattle.syntax.specs.Yield.{type-token, literal-token, yield-var, yield-exp, yield-stat, yield-stats, yield-par, yield-par-list, yield-pars}
+use Rattle.syntax.specs.Yield.{yield-step, yield-steps, yield-struct, yield-defs, yield-item, yield-sched, yield}
 use Rattle.syntax.specs.Bracketing.{Spot.bare, Fits, FitsExps, FitsStat, FitsStats, FitsSteps, FitsStruct, FitsDefs, FitsProgram, Derives}
 use Rattle.syntax.specs.Reading.{closed, behind, item-wanted, item-behind, begun, step, run, whole, ended, read}
 use Rattle.syntax.specs.ExpLaws.{follows-semicolon, follows-then, Args, reads, reads-args}

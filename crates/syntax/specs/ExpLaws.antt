@@ -4,13 +4,16 @@ use mathlib.Core.Bool.{true, false}
 use mathlib.Core.List.{List, [], _∷_}
 use Rattle.program.specs.Tree.{Op}
 use Rattle.tokens.specs.Tokens.{Word.w-then, Sign.lpar, Sign.rpar, Sign.comma, Sign.semicolon, Sign.dot as dot-sign, Token, Token.word, Token.sign, Token.op}
-use Rattle.syntax.specs.Syntax.{Id, TypeName, TypeName.int-type, TypeName.nat-type, TypeName.bool-type, TypeName.id-type, Literal, Literal.int-literal, Literal.nat-literal, Literal.bool-literal, Var, Var.id, Var.dot}
-use Rattle.syntax.specs.Syntax.{Exp, Exp.binary, Exp.brackets, Exp.negation, Exp.constructor, Exp.variable, Exp.literal, Exp.null, Exp.this, Exps, Exps.no-exps, Exps.exps}
+use Rattle.syntax.specs.Syntax.{Id, TypeName, TypeName.int-type, TypeName.nat-type, TypeName.bool-type, TypeName.id-type, Literal}
+use Rattle.syntax.specs.Syntax.{Literal.int-literal, Literal.nat-literal, Literal.bool-literal, Var, Var.id, Var.dot}
+use Rattle.syntax.specs.Syntax.{Exp, Exp.binary, Exp.brackets, Exp.negation, Exp.constructor, Exp.variable, Exp.literal, Exp.null, Exp.this}
+use Rattle.syntax.specs.Syntax.{Exps, Exps.no-exps, Exps.exps}
 use Rattle.syntax.specs.Places.{Place, Place.in-brackets, Place.in-negation, Place.in-right, Place.in-constructor}
 use Rattle.syntax.specs.Places.{State}
 use Rattle.syntax.specs.Places.{State.want, State.after, State.at-dot-id, State.at-args}
 use Rattle.syntax.specs.Places.{var-onto, exps-onto}
-use Rattle.syntax.specs.Expecting.{word-number, sign-number, on-word, on-sign, on-name, on-op, less, on-less, literal-word, on-literal, type-word, on-type-word, on-type}
+use Rattle.syntax.specs.Expecting.{word-number, sign-number, on-word, on-sign, on-name, on-op, less, on-less, literal-word, on-literal}
+use Rattle.syntax.specs.Expecting.{type-word, on-type-word, on-type}
 use Rattle.syntax.specs.Yield.{type-token, literal-token, yield-var, yield-exp, yield-exps, yield-exp-list}
 use Rattle.syntax.specs.Bracketing.{Spot.bracketed, Spot.bare, Fits, FitsExps}
 use Rattle.syntax.specs.Reading.{behind, wanted, step, run}

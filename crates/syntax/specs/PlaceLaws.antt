@@ -1,17 +1,23 @@
 -- What is read was there: a state's tokens and one more are those of the state that it leads to.
 use mathlib.Core.Path.{_≡_, refl, ap, _∙_}
 use mathlib.Core.List.{List, [], _∷_}
-use Rattle.tokens.specs.Tokens.{Word.w-struct, Word.w-then, Word.w-null, Word.w-this, Word.w-fix, Sign.lpar, Sign.rpar, Sign.rbrace, Sign.comma, Sign.semicolon, Sign.bang, Token, Token.word, Token.sign, Token.name}
+use Rattle.tokens.specs.Tokens.{Word.w-struct, Word.w-then, Word.w-null, Word.w-this, Word.w-fix, Sign.lpar, Sign.rpar, Sign.rbrace, Sign.comma}
+use Rattle.tokens.specs.Tokens.{Sign.semicolon, Sign.bang, Token, Token.word, Token.sign, Token.name}
 use Rattle.syntax.specs.Syntax.{Exp, Exp.negation, Exps.no-exps, Exps.exps, Stat.if-then, Stats}
 use Rattle.syntax.specs.Syntax.{Step.step as a-step, Struct, Defs.last-struct, Item, Sched.last-item}
-use Rattle.syntax.specs.Places.{Body, Body.in-step, Body.in-then, Place, Place.in-brackets, Place.in-negation, Place.in-right, Place.in-constructor, Place.in-construct, Place.in-if, Place.in-assignment, Place.in-update, Row, Row.in-program, Row.in-fix}
+use Rattle.syntax.specs.Places.{Body, Body.in-step, Body.in-then, Place, Place.in-brackets, Place.in-negation, Place.in-right}
+use Rattle.syntax.specs.Places.{Place.in-constructor, Place.in-construct, Place.in-if, Place.in-assignment, Place.in-update, Row}
+use Rattle.syntax.specs.Places.{Row.in-program, Row.in-fix}
 use Rattle.syntax.specs.Places.{State, State.at-steps}
 use Rattle.syntax.specs.Places.{State.at-stats}
 use Rattle.syntax.specs.Places.{State.dead}
 use Rattle.syntax.specs.Places.{defs-onto}
-use Rattle.syntax.specs.Yield.{type-token, literal-token, yield-var, yield-exp, yield-exps, yield-exp-list, yield-stat, yield-stats, yield-par, yield-par-list, yield-pars, yield-step, yield-steps, yield-struct, yield-defs, yield-item, yield-sched}
+use Rattle.syntax.specs.Yield.{type-token, literal-token, yield-var, yield-exp, yield-exps, yield-exp-list, yield-stat, yield-stats, yield-par}
+use Rattle.syntax.specs.Yield.{yield-par-list, yield-pars, yield-step, yield-steps, yield-struct, yield-defs, yield-item, yield-sched}
 use Rattle.syntax.specs.Bracketing.{Spot.bare, Fits, FitsExps, FitsStat, FitsStats, FitsSteps, FitsStruct, FitsDefs}
-use Rattle.syntax.specs.SoFar.{structs-rev, pars-rev, steps-rev, ids-rev, exps-rev, stats-rev, items-rev, before-name, before-pars, before-steps, before-body, before-stat, before, before-row, before-item, so-far, FitsAll, FitsBefore, FitsStructs, SitsBody, SitsPlace, SitsRow, Sits}
+use Rattle.syntax.specs.SoFar.{structs-rev, pars-rev, steps-rev, ids-rev, exps-rev, stats-rev, items-rev, before-name, before-pars}
+use Rattle.syntax.specs.SoFar.{before-steps, before-body, before-stat, before, before-row, before-item, so-far, FitsAll, FitsBefore}
+use Rattle.syntax.specs.SoFar.{FitsStructs, SitsBody, SitsPlace, SitsRow, Sits}
 use Rattle.syntax.specs.Reading.{closed, behind, wanted, item-wanted, item-behind, begun}
 use Rattle.syntax.specs.ExpectingLaws.{on-word-law, on-sign-law, on-name-law, on-op-law, on-less-law, on-literal-law}
 use Rattle.syntax.specs.RowLaws.{exps-yield, defs-yield, sched-yield, exps-fit, defs-fit, fits-in}

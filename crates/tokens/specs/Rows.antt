@@ -5,9 +5,13 @@ use mathlib.Core.List.{List, [], _∷_}
 use mathlib.Core.Option.{Option, none, some}
 use Rattle.program.specs.Tree.{Op.op-eq, Op.op-ne, Op.op-le, Op.op-lt, Op.op-mul, Op.op-div, Op.op-add, Op.op-sub, Op.op-and, Op.op-or}
 use Rattle.tokens.specs.Tokens.{Word.w-struct, Word.w-then, Word.w-int, Word.w-string}
-use Rattle.tokens.specs.Tokens.{Sign.lpar, Sign.rpar, Sign.lbrace, Sign.rbrace, Sign.comma, Sign.colon, Sign.semicolon, Sign.assign, Sign.dot, Sign.bang, Polarity.plus, Polarity.minus}
-use Rattle.tokens.specs.Tokens.{Token, Token.word, Token.sign, Token.op, Token.name, Token.int, Token.nat, between, letter, digit, name-byte, blank, word-spelling, sign-spelling, op-spelling, spelling}
-use Rattle.tokens.specs.Scanning.{span, same, begins, one-more, closing, words, find-word, named, doubles, singles, signs, behind-first, find-sign, class, polarity, signed, opens, nat-front, comment-front, after-star, other-front, front-of, front, added, taken, lex}
+use Rattle.tokens.specs.Tokens.{Sign.lpar, Sign.rpar, Sign.lbrace, Sign.rbrace, Sign.comma, Sign.colon, Sign.semicolon, Sign.assign, Sign.dot}
+use Rattle.tokens.specs.Tokens.{Sign.bang, Polarity.plus, Polarity.minus}
+use Rattle.tokens.specs.Tokens.{Token, Token.word, Token.sign, Token.op, Token.name, Token.int, Token.nat, between, letter, digit, name-byte}
+use Rattle.tokens.specs.Tokens.{blank, word-spelling, sign-spelling, op-spelling, spelling}
+use Rattle.tokens.specs.Scanning.{span, same, begins, one-more, closing, words, find-word, named, doubles, singles, signs, behind-first}
+use Rattle.tokens.specs.Scanning.{find-sign, class, polarity, signed, opens, nat-front, comment-front, after-star, other-front, front-of, front}
+use Rattle.tokens.specs.Scanning.{added, taken, lex}
 
 -- bytes, and the tokens that they part into, if any
 pub record Row : Type 0 where

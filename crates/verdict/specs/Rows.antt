@@ -20,8 +20,10 @@ use Rattle.commands.specs.Names.{declares, declared, names-of-steps}
 use Rattle.commands.specs.Depth.{depth}
 use Rattle.commands.specs.Bounds.{item-count, items-count, total, greatest, program-size, program-depth}
 use Rattle.commands.specs.Decide.{every, member, distinct}
-use Rattle.commands.specs.Decide.NamesDecide.{start-named, expr-named, args-named, stmt-named, body-named, steps-named, stepped, item-stepped, items-stepped, names-right}
-use Rattle.commands.specs.Decide.TypingDecide.{is-of, agree, given as given-type, result, operate as operate-types, lead, path-type, expr-type, args-typed, stmt-typed, body-typed, steps-typed, types-right}
+use Rattle.commands.specs.Decide.NamesDecide.{start-named, expr-named, args-named, stmt-named, body-named, steps-named, stepped, item-stepped}
+use Rattle.commands.specs.Decide.NamesDecide.{items-stepped, names-right}
+use Rattle.commands.specs.Decide.TypingDecide.{is-of, agree, given as given-type, result, operate as operate-types, lead, path-type, expr-type}
+use Rattle.commands.specs.Decide.TypingDecide.{args-typed, stmt-typed, body-typed, steps-typed, types-right}
 use Rattle.commands.specs.Decide.BoundsDecide.{within}
 use Rattle.commands.specs.Numbers.{first, breach-tests, breach-number}
 use Rattle.commands.specs.ProgramWords.{steps-list, structs-list, structs-words, program-words}

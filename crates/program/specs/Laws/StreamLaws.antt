@@ -9,7 +9,8 @@ use lib.ListN.{length, getD, drop, length-append}
 use lib.Seq.{drop-cons}
 use borrow.Author.Tests.{lt-ltb, le-ltb}
 use Rattle.program.specs.Reader.{Result, Result.ok, Result.bad, wrong-end, wrong-byte, then, ended, whole}
-use Rattle.program.specs.Exact.{Stands, Told, Told.told, Told.silent, Beyond.refusal-beyond, Cut, Cut.same, Cut.stop, Cut.short, Exact, Refused, Refused.not-allowed, Refused.ends-early, Refused.goes-on}
+use Rattle.program.specs.Exact.{Stands, Told, Told.told, Told.silent, Beyond.refusal-beyond, Cut, Cut.same, Cut.stop, Cut.short, Exact, Refused}
+use Rattle.program.specs.Exact.{Refused.not-allowed, Refused.ends-early, Refused.goes-on}
 use Rattle.program.specs.Laws.StandsLaws.{stands-drop, stands-length, stands-in, stands-front, stands-self, stands-whole}
 use Rattle.program.specs.Laws.PartLaws.{told-then, told-is, then-ok}
 
