@@ -1,13 +1,31 @@
 // Reads a program image on standard input and prints its listing, or `refused n` (01, 'Bench rows').
-use libc::STDIN_FILENO;
-use libc::STDOUT_FILENO;
 use listing::image;
 
+fn help() {
+    files::tell(
+        b"audala_list < IMAGE\n\
+        \n\
+        Reads a program image and prints its listing: a head with the counts of\n\
+        structs, steps and commands and the depth, then a line for each command:\n\
+        struct, step name, position, command. Prints 'refused' and the number for\n\
+        an image that is refused.\n\
+        docs/FORMAT.md has the image byte by byte, and says what each number means.\n",
+    );
+}
+
 fn main() {
+    if os::arg_count() != 1 {
+        help();
+        return;
+    }
     // One byte more than an image may have, so that a longer one is told from the longest.
     let mut input = [0u8; 32769];
     let mut text = [0u8; 131072];
-    let n = io::read_full(STDIN_FILENO, &mut input);
+    let r = files::input(&mut input);
+    if !r.done {
+        return;
+    }
+    let n = r.len;
     let k = image::listing(&input[..n], &mut text);
-    io::write_all(STDOUT_FILENO, &text[..k]);
+    files::output(&text[..k]);
 }

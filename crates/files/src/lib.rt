@@ -2,27 +2,39 @@
 use libc::STDERR_FILENO;
 use libc::STDIN_FILENO;
 use libc::STDOUT_FILENO;
+ghost use mathlib.Core.Path.{_≡_};
+ghost use mathlib.Core.Bool.{false};
 ghost use Rattle.io.specs.Counts.{Counts};
+ghost use Rattle.files.specs.Answers.{AllOrNone};
 
-// Whether all was read, and how many bytes of it stand in the buffer. Where it was not, why was told.
+// Whether all was read, and how many bytes of it stand in the buffer: none where it was not, and why was told.
 pub struct Loaded {
     pub done: bool,
     pub len: usize,
 }
 
+// What was not read, which is told.
+fn unread(buf: &[u8], what: &[u8]) -> Loaded
+    ensures { λ r. ⌜ Counts (r .len) (now (buf .entry)) ⌝ }
+    ensures { λ r. ⌜ (r .done ≡ false) × (r .len ≡ 0) ⌝ }
+{
+    os::fail(what);
+    Loaded {
+        done: false,
+        len: io::count(0, buf),
+    }
+}
+
 // What is left to read of an open file: as many bytes as the buffer has places for. A read that failed is told from the end by asking once more.
 fn read(fd: i32, buf: &mut [u8], what: &[u8]) -> Loaded
     ensures { λ r. ⌜ Counts (r .len) (now (buf .exit)) ⌝ }
+    ensures { λ r. ⌜ AllOrNone (r .done) (r .len) ⌝ }
 {
     let got = io::read_full(fd, buf);
     let mut more = [0u8; 1];
     let last = libc::read(fd, &mut more);
     if last < 0 {
-        os::fail(what);
-        return Loaded {
-            done: false,
-            len: got,
-        };
+        return unread(buf, what);
     }
     Loaded {
         done: true,
@@ -33,6 +45,7 @@ fn read(fd: i32, buf: &mut [u8], what: &[u8]) -> Loaded
 // Standard input.
 pub fn input(buf: &mut [u8]) -> Loaded
     ensures { λ r. ⌜ Counts (r .len) (now (buf .exit)) ⌝ }
+    ensures { λ r. ⌜ AllOrNone (r .done) (r .len) ⌝ }
 {
     read(STDIN_FILENO, buf, b"standard input")
 }
@@ -40,36 +53,35 @@ pub fn input(buf: &mut [u8]) -> Loaded
 // The bytes of the file that argument i names.
 pub fn load(i: usize, buf: &mut [u8]) -> Loaded
     ensures { λ r. ⌜ Counts (r .len) (now (buf .exit)) ⌝ }
+    ensures { λ r. ⌜ AllOrNone (r .done) (r .len) ⌝ }
 {
     let mut name = io::buffer();
     let n = os::arg(i, &mut name);
     if os::errno() != 0 {
-        os::fail(b"an argument");
-        return Loaded {
-            done: false,
-            len: io::count(0, buf),
-        };
+        return unread(buf, b"an argument");
     }
     let fd = os::open_read(&name[..n]);
     if fd < 0 {
-        os::fail(&name[..n]);
-        return Loaded {
-            done: false,
-            len: io::count(0, buf),
-        };
+        return unread(buf, &name[..n]);
     }
     let r = read(fd, buf, &name[..n]);
     libc::close(fd);
     r
 }
 
-// All bytes to standard output; whether that was done.
-pub fn output(bytes: &[u8]) -> bool {
-    let done = io::write_all(STDOUT_FILENO, bytes);
+// Whether all was written, as it was answered; where it was not, that is told.
+fn told(done: bool, what: &[u8]) -> bool
+    ensures { λ r. ⌜ r ≡ done ⌝ }
+{
     if !done {
-        os::fail(b"standard output");
+        os::fail(what);
     }
     done
+}
+
+// All bytes to standard output; whether that was done.
+pub fn output(bytes: &[u8]) -> bool {
+    told(io::write_all(STDOUT_FILENO, bytes), b"standard output")
 }
 
 // A text to standard error.
@@ -87,18 +99,13 @@ pub fn store(i: usize, bytes: &[u8]) -> bool {
     let mut name = io::buffer();
     let k = os::arg(i, &mut name);
     if os::errno() != 0 {
-        os::fail(b"an argument");
-        return false;
+        return told(false, b"an argument");
     }
     let fd = os::open_overwrite(&name[..k]);
     if fd < 0 {
-        os::fail(&name[..k]);
-        return false;
+        return told(false, &name[..k]);
     }
-    let done = io::write_all(fd, bytes);
-    if !done {
-        os::fail(&name[..k]);
-    }
+    let done = told(io::write_all(fd, bytes), &name[..k]);
     libc::close(fd);
     done
 }

@@ -1,12 +1,19 @@
 -- A kind is never 0 and always below the count of kinds.
 use Prim.Native.Nat.{ℕ, _<_}
 use native.Mathlib.Omega.{arith}
+<<<<<<< HEAD
 use Rattle.program.specs.Tree.{Op, Op.op-eq, Op.op-ne, Op.op-le, Op.op-ge, Op.op-lt, Op.op-gt, Op.op-mul, Op.op-div, Op.op-rem, Op.op-add, Op.op-sub}
 use Rattle.program.specs.Tree.{Op.op-and, Op.op-or}
 use Rattle.tokens.specs.Tokens.{Word, Word.w-struct, Word.w-if, Word.w-then, Word.w-null, Word.w-this, Word.w-fix, Word.w-int, Word.w-nat}
 use Rattle.tokens.specs.Tokens.{Word.w-bool, Word.w-string, Word.w-true, Word.w-false}
 use Rattle.tokens.specs.Tokens.{Sign, Sign.lpar, Sign.rpar, Sign.lbrace, Sign.rbrace, Sign.comma, Sign.colon, Sign.semicolon, Sign.assign, Sign.dot}
 use Rattle.tokens.specs.Tokens.{Sign.bang, Token, Token.word, Token.sign, Token.op, Token.name, Token.int, Token.nat}
+=======
+use Rattle.program.specs.Tree.{Op, Op.op-eq, Op.op-ne, Op.op-le, Op.op-ge, Op.op-lt, Op.op-gt, Op.op-mul, Op.op-div, Op.op-rem, Op.op-add, Op.op-sub, Op.op-and, Op.op-or}
+use Rattle.tokens.specs.Tokens.{Word, Word.w-struct, Word.w-if, Word.w-then, Word.w-null, Word.w-this, Word.w-fix, Word.w-int, Word.w-nat, Word.w-bool, Word.w-string, Word.w-true, Word.w-false}
+use Rattle.tokens.specs.Tokens.{Sign, Sign.lpar, Sign.rpar, Sign.lbrace, Sign.rbrace, Sign.comma, Sign.colon, Sign.semicolon, Sign.assign, Sign.dot, Sign.bang, Token, Token.word, Token.sign, Token.op, Token.name, Token.int, Token.nat}
+use Rattle.tokens.specs.TokenNumbers.{word-number, sign-number}
+>>>>>>> main
 use Rattle.lexer.specs.Kinds.{word-kind, sign-kind, op-kind, kinds, kind}
 
 -- within the bounds of a group
@@ -14,7 +21,7 @@ abbrev pub Within : ℕ → ℕ → ℕ → Type 0
 Within lo hi n = (lo < n) × (n < hi)
 
 pub word-within : (w : Word) → Within 0 13 (word-kind w)
-unfolding word-kind
+unfolding word-kind word-number
 word-within w-struct = (omega arith, omega arith)
 word-within w-if = (omega arith, omega arith)
 word-within w-then = (omega arith, omega arith)
@@ -29,7 +36,7 @@ word-within w-true = (omega arith, omega arith)
 word-within w-false = (omega arith, omega arith)
 
 pub sign-within : (g : Sign) → Within 12 23 (sign-kind g)
-unfolding sign-kind
+unfolding sign-kind sign-number
 sign-within lpar = (omega arith, omega arith)
 sign-within rpar = (omega arith, omega arith)
 sign-within lbrace = (omega arith, omega arith)

@@ -1,4 +1,5 @@
 -- The kind of a token as a byte: what is kept of it in its place of the text. 0 is no kind: no token begins there.
+<<<<<<< HEAD
 use Prim.Native.Nat.{ℕ}
 use Rattle.program.specs.Tree.{Op, Op.op-eq, Op.op-ne, Op.op-le, Op.op-ge, Op.op-lt, Op.op-gt, Op.op-mul, Op.op-div, Op.op-rem, Op.op-add, Op.op-sub}
 use Rattle.program.specs.Tree.{Op.op-and, Op.op-or}
@@ -6,34 +7,19 @@ use Rattle.tokens.specs.Tokens.{Word, Word.w-struct, Word.w-if, Word.w-then, Wo
 use Rattle.tokens.specs.Tokens.{Word.w-bool, Word.w-string, Word.w-true, Word.w-false}
 use Rattle.tokens.specs.Tokens.{Sign, Sign.lpar, Sign.rpar, Sign.lbrace, Sign.rbrace, Sign.comma, Sign.colon, Sign.semicolon, Sign.assign, Sign.dot}
 use Rattle.tokens.specs.Tokens.{Sign.bang, Token, Token.word, Token.sign, Token.op, Token.name, Token.int, Token.nat}
+=======
+use Prim.Native.Nat.{ℕ, _+_}
+use Rattle.program.specs.Tree.{Op, Op.op-eq, Op.op-ne, Op.op-le, Op.op-ge, Op.op-lt, Op.op-gt, Op.op-mul, Op.op-div, Op.op-rem, Op.op-add, Op.op-sub, Op.op-and, Op.op-or}
+use Rattle.tokens.specs.Tokens.{Word, Sign, Token, Token.word, Token.sign, Token.op, Token.name, Token.int, Token.nat}
+use Rattle.tokens.specs.TokenNumbers.{word-number, sign-number}
+>>>>>>> main
 
--- 1 to 12: the words
+-- 1 to 12: the words; 13 to 22: the signs
 unfoldable pub word-kind : Word → ℕ
-word-kind w-struct = 1
-word-kind w-if = 2
-word-kind w-then = 3
-word-kind w-null = 4
-word-kind w-this = 5
-word-kind w-fix = 6
-word-kind w-int = 7
-word-kind w-nat = 8
-word-kind w-bool = 9
-word-kind w-string = 10
-word-kind w-true = 11
-word-kind w-false = 12
+word-kind w = 1 + word-number w
 
--- 13 to 22: the signs
 unfoldable pub sign-kind : Sign → ℕ
-sign-kind lpar = 13
-sign-kind rpar = 14
-sign-kind lbrace = 15
-sign-kind rbrace = 16
-sign-kind comma = 17
-sign-kind colon = 18
-sign-kind semicolon = 19
-sign-kind assign = 20
-sign-kind dot = 21
-sign-kind bang = 22
+sign-kind g = 13 + sign-number g
 
 -- 23 to 35: the operators
 unfoldable pub op-kind : Op → ℕ

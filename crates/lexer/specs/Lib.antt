@@ -1,4 +1,6 @@
 pub mod Kinds
+pub mod WordTable
+pub mod WordTableLaws
 pub mod KindLaws
 pub mod Marking
 pub mod RunLaws

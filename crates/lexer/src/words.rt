@@ -1,8 +1,9 @@
-// Whether some letters are one of the grammar's words (02 §1), and which: by their list, a few in a function.
+// Whether some letters are one of the grammar's words (02 §1), and which: by a table of the words.
 ghost use mathlib.Core.Path.{_≡_};
-ghost use lib.ListN.{drop};
+ghost use Prim.Native.Nat.{_<_};
 ghost use Rattle.tokens.specs.Scanning.{same, words, find-word, named};
 ghost use Rattle.lexer.specs.Kinds.{kind as kind-of};
+ghost use Rattle.lexer.specs.WordTable.{laid};
 
 const NAME: u8 = 36;
 
@@ -22,63 +23,37 @@ fn same(s: &[u8], t: &[u8]) -> bool
     true
 }
 
-fn from_string(s: &[u8]) -> u8
-    ensures { λ r. ⌜ r ≡ kind-of (find-word (drop 9 words) (now (s .entry))) ⌝ }
+fn wide(b: u8) -> usize
+    ensures { λ r. ⌜ (r ≡ b) × (r < 256) ⌝ }
 {
-    if same(b"String", s) {
-        return 10;
-    }
-    if same(b"true", s) {
-        return 11;
-    }
-    if same(b"false", s) {
-        return 12;
+    b as usize
+}
+
+// The kind of a word or a name by a table that has each word behind the count of its letters, in the order of their kinds.
+fn find(table: &[u8], s: &[u8]) -> u8
+    requires { ⌜ now table ≡ laid words ⌝ }
+    ensures { λ r. ⌜ r ≡ kind-of (find-word words (now (s .entry))) ⌝ }
+{
+    let mut kind = 1;
+    let mut at = 0;
+    while at < table.len() {
+        let first = at + 1;
+        let end = first + wide(table[at]);
+        if same(&table[first..end], s) {
+            return kind;
+        }
+        kind += 1;
+        at = end;
     }
     NAME
-}
-
-fn from_int(s: &[u8]) -> u8
-    ensures { λ r. ⌜ r ≡ kind-of (find-word (drop 6 words) (now (s .entry))) ⌝ }
-{
-    if same(b"Int", s) {
-        return 7;
-    }
-    if same(b"Nat", s) {
-        return 8;
-    }
-    if same(b"Bool", s) {
-        return 9;
-    }
-    from_string(s)
-}
-
-fn from_null(s: &[u8]) -> u8
-    ensures { λ r. ⌜ r ≡ kind-of (find-word (drop 3 words) (now (s .entry))) ⌝ }
-{
-    if same(b"null", s) {
-        return 4;
-    }
-    if same(b"this", s) {
-        return 5;
-    }
-    if same(b"Fix", s) {
-        return 6;
-    }
-    from_int(s)
 }
 
 // The kind of a word or a name by its bytes.
 pub(crate) fn kind(s: &[u8]) -> u8
     ensures { λ r. ⌜ r ≡ kind-of (named (now (s .entry))) ⌝ }
 {
-    if same(b"struct", s) {
-        return 1;
-    }
-    if same(b"if", s) {
-        return 2;
-    }
-    if same(b"then", s) {
-        return 3;
-    }
-    from_null(s)
+    find(
+        b"\x06struct\x02if\x04then\x04null\x04this\x03Fix\x03Int\x03Nat\x04Bool\x06String\x04true\x05false",
+        s,
+    )
 }

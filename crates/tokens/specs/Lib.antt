@@ -1,4 +1,5 @@
 pub mod Tokens
+pub mod TokenNumbers
 pub mod Lexing
 pub mod Scanning
 pub mod ByteLaws

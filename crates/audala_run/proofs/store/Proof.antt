@@ -9,14 +9,5 @@ use Rattle.audala_run.proofs.store.Tie as tie
 slice-aggregate-store : tie.Need-slice-aggregate-store
 slice-aggregate-store c = sym (length-take-le _ _ (omega arith))
 
-store-requires : tie.Need-store-requires
-store-requires c κs = search needs
-
-returns : tie.Need-returns
-returns c = search needs
-
-returns-2 : tie.Need-returns-2
-returns-2 c = search needs
-
 pub store-spec : {M : Type 1} → statement M
-store-spec = tie.close (tie.spec slice-aggregate-store store-requires returns returns-2)
+store-spec = tie.close (tie.spec slice-aggregate-store (λ c κs. search needs) (λ c. search needs) (λ c. search needs))

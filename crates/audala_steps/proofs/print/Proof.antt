@@ -8,10 +8,10 @@ use Rattle.audala_steps.proofs.print.Tie as tie
 array-share-prefix-text : tie.Need-array-share-prefix-text
 array-share-prefix-text c = search needs
 
-slice-aggregate-write-all : tie.Need-slice-aggregate-write-all
-slice-aggregate-write-all c = sym (length-take-le _ _ (array-share-prefix-text (c .before)))
+slice-aggregate-output : tie.Need-slice-aggregate-output
+slice-aggregate-output c = sym (length-take-le _ _ (array-share-prefix-text (c .before)))
 
 pub print-spec : {M : Type 1} → statement M
 print-spec =
     tie.close
-    (tie.spec (λ c. search needs) (λ c κs. search needs) array-share-prefix-text slice-aggregate-write-all (λ c κs. search needs) (λ c. search needs))
+    (tie.spec (λ c. search needs) (λ c κs. search needs) array-share-prefix-text slice-aggregate-output (λ c κs. search needs) (λ c. search needs))

@@ -9,14 +9,5 @@ use Rattle.audala_table.proofs.output.Tie as tie
 slice-aggregate-output : tie.Need-slice-aggregate-output
 slice-aggregate-output c = sym (length-take-le _ _ (omega arith))
 
-output-requires : tie.Need-output-requires
-output-requires c κs = search needs
-
-returns : tie.Need-returns
-returns c = search needs
-
-returns-2 : tie.Need-returns-2
-returns-2 c = search needs
-
 pub output-spec : {M : Type 1} → statement M
-output-spec = tie.close (tie.spec slice-aggregate-output output-requires returns returns-2)
+output-spec = tie.close (tie.spec slice-aggregate-output (λ c κs. search needs) (λ c. search needs) (λ c. search needs))

@@ -1,47 +1,19 @@
--- `words::kind` meets its contract: word by word.
-use mathlib.Core.Path.{sym, _∙_}
+-- `words::kind` meets its contract: the bytes of the source are the table of the words.
 use Rattle.tokens.specs.Tokens.{word-spelling}
-use Rattle.tokens.specs.Scanning.{same, words, find-word, named}
-use Rattle.lexer.specs.Kinds.{kind, word-kind}
+use Rattle.tokens.specs.Scanning.{words, named}
+use Rattle.lexer.specs.WordTable.{laid}
+use mathlib.Core.Path.{refl}
 use borrow.Author.Needs.{needs}
 use Rattle.lexer.proofs.words.kind.Statement.{statement}
 use Rattle.lexer.proofs.words.kind.Tie as tie
 
+find-requires : tie.Need-find-requires
+unfolding laid words word-spelling
+find-requires c κs = refl
+
 returns : tie.Need-returns
-unfolding same words find-word named word-spelling kind word-kind
-returns c = rw (sym (c .before .same .ensures) ∙ (c .if1 .taken))
-
-returns-2 : tie.Need-returns-2
-unfolding same words find-word named word-spelling kind word-kind
-returns-2 c =
-    rw
-    (sym (c .before .before .before .before .same .ensures) ∙ (c .before .before .before .if1 .left), sym (c .before .same2 .ensures) ∙ (c .if2 .taken))
-
-returns-3 : tie.Need-returns-3
-unfolding same words find-word named word-spelling kind word-kind
-returns-3 c =
-    let at-same2 = c .before .before .before .before in
-    rw (
-      sym (at-same2 .before .before .before .same .ensures) ∙ (at-same2 .before .before .if1 .left),
-      sym
-          (c .before .before .before .before .same2 .ensures) ∙ (c .before .before .before .if2 .left),
-      sym (c .before .same3 .ensures) ∙ (c .if3 .taken),
-    )
-
-returns-4 : tie.Need-returns-4
-unfolding same words find-word named word-spelling kind word-kind
-returns-4 c =
-    let at-if2 = c .before .before .before .before in
-    rw (
-      sym (at-if2 .before .before .before .before .same .ensures) ∙ (at-if2 .before .before .before .if1 .left),
-      sym (at-if2 .before .same2 .ensures) ∙
-          (c .before .before .before .before .if2 .left),
-      sym (c .before .before .same3 .ensures) ∙ (c .before .if3 .left),
-    )
-    (c .from-null .ensures)
+unfolding named
+returns c = c .find .ensures
 
 pub kind-spec : {M : Type 1} → statement M
-kind-spec =
-    tie.close
-    (tie.spec (λ c. search needs) (λ c κs. search needs) returns (λ c. search needs) (λ c κs. search needs) returns-2 (λ c. search needs)
-    (λ c κs. search needs) returns-3 (λ c κs. search needs) returns-4)
+kind-spec = tie.close (tie.spec (λ c. search needs) find-requires returns)
