@@ -7,8 +7,7 @@ use mathlib.Core.Bool.{Bool, true, false}
 use lib.ListN.{getD}
 use lib.Dec.{T, eqb}
 use borrow.Author.Tests.{eqb-true, eqb-false}
-use Rattle.syntax.specs.Expecting.{word-number, sign-number, on-word, on-sign, on-name, on-op, less, on-less, literal-word, on-literal, type-word}
-use Rattle.syntax.specs.Expecting.{on-type-word, on-type}
+use Rattle.syntax.specs.Expecting.{word-number, sign-number, on-word, on-sign, on-name, on-op, less, on-less, literal-word, on-literal, type-word, on-type-word, on-type}
 use Rattle.derive.specs.Shape.{on-exp, on-item, past-item, acts, act, samples, sample}
 use Rattle.derive.specs.Table.{entries, act-at, next-of, opened-of, told, values, next-bytes, opened-bytes}
 use Rattle.derive.specs.declared.Act.{Act}

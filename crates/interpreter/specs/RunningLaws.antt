@@ -21,8 +21,7 @@ use Rattle.memory.specs.Choose.{picked}
 use Rattle.memory.specs.Move.{move}
 use Rattle.interpreter.specs.Ready.{Ready}
 use Rattle.interpreter.specs.Counting.{fewer}
-use Rattle.interpreter.specs.Running.{busy, cleared, Moving, Settles, Settles.held, Settles.still, Turned, Turned.turned, Turned.failed}
-use Rattle.interpreter.specs.Running.{Running, Running.going, Running.over, Reached, Ended}
+use Rattle.interpreter.specs.Running.{busy, cleared, Moving, Settles, Settles.held, Settles.still, Turned, Turned.turned, Turned.failed, Running, Running.going, Running.over, Reached, Ended}
 use Rattle.interpreter.specs.VisitWays.{visits-on, visits-outcome}
 use Rattle.interpreter.specs.TurnLaws.{ends, moved-on, lasts, turned-by, counted}
 
@@ -91,8 +90,7 @@ module _ {p : Program} {counts list items spans : List ℕ} where
         pub still-running : (m′ : Machine) × (Ready p counts list items spans m′ z) × (n ≡ busy z) × (Visits p m es m′ (drop i es))
         still-running = go g
           where
-            go : Running p counts list items spans m es i z n → (m′ : Machine) × (Ready p counts list items spans m′ z) × (n ≡ busy z) ×
-                (Visits p m es m′ (drop i es))
+            go : Running p counts list items spans m es i z n → (m′ : Machine) × (Ready p counts list items spans m′ z) × (n ≡ busy z) × (Visits p m es m′ (drop i es))
             go (going {m′ = m′} r b k v) = (m′, r, b, v)
             go (over r k v q) = absurd (omega arith)
 

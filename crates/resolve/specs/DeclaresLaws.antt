@@ -6,20 +6,12 @@ use mathlib.Core.List.{List, [], _∷_, _++_, map, append-assoc, append-nil}
 use borrow.Author.Tests.{ne-eqb}
 use Rattle.tokens.specs.Tokens.{Sign.semicolon, Sign.assign, Sign.colon, Sign.dot as dot-sign, Word.w-then, Token.sign, Token.word, Token.op}
 use Rattle.syntax.specs.Syntax.{Var, Var.id, Var.dot}
-use Rattle.syntax.specs.Syntax.{Exp, Exp.binary, Exp.brackets, Exp.negation, Exp.constructor, Exp.variable, Exp.literal, Exp.null, Exp.this, Exps}
-use Rattle.syntax.specs.Syntax.{Exps.no-exps, Exps.exps, Stat, Stat.if-then, Stat.assignment, Stat.update, Stat.construct, Stats, Stats.no-stats}
-use Rattle.syntax.specs.Syntax.{Stats.stats}
-use Rattle.syntax.specs.Syntax.{Par, Par.par, Step, Step.step, Struct, Struct.struct, Defs, Defs.last-struct, Defs.defs, Item, Item.execution}
-use Rattle.syntax.specs.Syntax.{Item.typed-execution, Item.fixpoint, Sched, Sched.last-item, Sched.barrier, Program, Program.program}
+use Rattle.syntax.specs.Syntax.{Exp, Exp.binary, Exp.brackets, Exp.negation, Exp.constructor, Exp.variable, Exp.literal, Exp.null, Exp.this, Exps, Exps.no-exps, Exps.exps, Stat, Stat.if-then, Stat.assignment, Stat.update, Stat.construct, Stats, Stats.no-stats, Stats.stats}
+use Rattle.syntax.specs.Syntax.{Par, Par.par, Step, Step.step, Struct, Struct.struct, Defs, Defs.last-struct, Defs.defs, Item, Item.execution, Item.typed-execution, Item.fixpoint, Sched, Sched.last-item, Sched.barrier, Program, Program.program}
 use Rattle.meaning.specs.Scope.{par-id, step-id, struct-id, pars-of, steps-of, structs-of}
 use Rattle.meaning.specs.StepNames.{all-steps}
-use Rattle.derive.specs.Roles.{Naming, Naming.new-struct, Naming.new-par, Naming.new-step, Naming.new-local, Naming.first-read, Naming.first-written}
-use Rattle.derive.specs.Roles.{Naming.later-variable, Naming.made, Naming.made-statement, Naming.called, Naming.called-struct, Naming.called-step}
-use Rattle.derive.specs.Roles.{Part.args-open, Part.body-open, Part.brackets-close, Part.then-open, Part.then-close, Part.body-close, Part.pars-close}
-use Rattle.derive.specs.Roles.{Part.steps-open, Part.steps-close, Part.fix-close, Part.barrier-sign, Role, Role.plain, Role.naming, Role.typed}
-use Rattle.derive.specs.Roles.{Role.part, Typed.of-par, naming-code}
-use Rattle.derive.specs.Roles.{roles-later, roles-var, close-of, roles-exp, roles-exps, roles-exp-list, roles-stat, roles-stats, roles-par}
-use Rattle.derive.specs.Roles.{roles-par-list, roles-pars, roles-step, roles-steps, roles-struct, roles-defs, roles-item, roles-sched, roles}
+use Rattle.derive.specs.Roles.{Naming, Naming.new-struct, Naming.new-par, Naming.new-step, Naming.new-local, Naming.first-read, Naming.first-written, Naming.later-variable, Naming.made, Naming.made-statement, Naming.called, Naming.called-struct, Naming.called-step, Part.args-open, Part.body-open, Part.brackets-close, Part.then-open, Part.then-close, Part.body-close, Part.pars-close, Part.steps-open, Part.steps-close, Part.fix-close, Part.barrier-sign, Role, Role.plain, Role.naming, Role.typed, Role.part, Typed.of-par, naming-code}
+use Rattle.derive.specs.Roles.{roles-later, roles-var, close-of, roles-exp, roles-exps, roles-exp-list, roles-stat, roles-stats, roles-par, roles-par-list, roles-pars, roles-step, roles-steps, roles-struct, roles-defs, roles-item, roles-sched, roles}
 use Rattle.resolve.specs.Declares.{named}
 
 passed : (n : ℕ) (m : Naming) (x : List ℕ) (k : List Role) → (naming-code m ≡ n → ⊥) → named n (naming m x ∷ k) ≡ named n k

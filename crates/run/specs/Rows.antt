@@ -23,11 +23,9 @@ use Rattle.run.specs.Entry.{of-table-image, report-of, run-report-by}
 use Rattle.run.specs.EntryStreams.{summary, begins-streams}
 use Rattle.run.specs.Rows.RowsOpen.{running}
 use Rattle.verdict.specs.Rows.{P}
-use Rattle.run.specs.Rows.RowPrograms.{P-with, once, twice, one-in-fix, local-7, both-sides, constructing, inner-fix, itself, nothing}
-use Rattle.run.specs.Rows.RowPrograms.{chosen-by, along-path, leaving, cell, single, empty, cells, plain}
+use Rattle.run.specs.Rows.RowPrograms.{P-with, once, twice, one-in-fix, local-7, both-sides, constructing, inner-fix, itself, nothing, chosen-by, along-path, leaving, cell, single, empty, cells, plain}
 use Rattle.run.specs.Rows.Swept.{plain-sum, falling-sum, swept-right, swept-fault, swept-block, block-is, first-swept, swept}
-use Rattle.run.specs.Rows.RowLaws.{each, Row, RowRight, computed, said, rows-follow, ImageRow, reports, swept-number, swept-over, images-follow}
-use Rattle.run.specs.Rows.RowLaws.{Kept, at-last, kept}
+use Rattle.run.specs.Rows.RowLaws.{each, Row, RowRight, computed, said, rows-follow, ImageRow, reports, swept-number, swept-over, images-follow, Kept, at-last, kept}
 use Rattle.run.specs.Rows.Bench.{row, ok, zeros, of-P, two}
 
 -- Runs ---------------------------------------------------------------------------------

@@ -12,14 +12,11 @@ use Rattle.commands.specs.Noted.{walk, store, read-path, write-path, note-expr,
 use Rattle.operators.specs.Operators.{quotient, remainder}
 use Rattle.operators.specs.Apply.{same-int, same-bool, same-val, int-answer, nat-answer, by-nonzero, compute, answer, on-truths, on-labels, apply}
 use Rattle.table.specs.Table.{struct-at, enc-value, enc-record, enc-table}
-use Rattle.table.specs.TableReader.{read-value, read-values, read-record, read-count, read-table, is-struct, refers, refers-each, references}
-use Rattle.table.specs.TableReader.{table-number, table-answer, table-of-stream}
+use Rattle.table.specs.TableReader.{read-value, read-values, read-record, read-count, read-table, is-struct, refers, refers-each, references, table-number, table-answer, table-of-stream}
 use Rattle.machine.specs.Published.{called, before, of-item, of-items, lookup, assign}
 use Rattle.machine.specs.Rules.{meet}
 use Rattle.machine.specs.Measure.{weight, bound}
-use Rattle.machine.specs.Machine.{update-env, leaves-stable, read-from, read-at, read as read-variable, write-to, write-parameter, write-at, write}
-use Rattle.machine.specs.Machine.{negate, branch, operated, operate, construct, perform, command-of, command-at, command, given, started, repeat}
-use Rattle.machine.specs.Machine.{move-by}
+use Rattle.machine.specs.Machine.{update-env, leaves-stable, read-from, read-at, read as read-variable, write-to, write-parameter, write-at, write, negate, branch, operated, operate, construct, perform, command-of, command-at, command, given, started, repeat, move-by}
 use Rattle.run.specs.Turns.{labels-from, chosen}
 use Rattle.run.specs.Holders.{holds-code, holders}
 use Rattle.run.specs.Run.{later, is-done, moved, settle-by, settle, fuel, taken, turn, at-last, run}

@@ -3,8 +3,7 @@ use Prim.Native.Nat.{_+_, _-_}
 use native.Mathlib.Omega.{arith}
 use mathlib.Core.Path.{_≡_, _∙_}
 use borrow.Author.Needs.{needs}
-use Rattle.syntax.specs.Expecting.{word-number, sign-number, on-word, on-sign, on-name, on-op, less, on-less, literal-word, on-literal, type-word}
-use Rattle.syntax.specs.Expecting.{on-type-word, on-type}
+use Rattle.syntax.specs.Expecting.{word-number, sign-number, on-word, on-sign, on-name, on-op, less, on-less, literal-word, on-literal, type-word, on-type-word, on-type}
 use Rattle.derive.specs.Shape.{on-exp, on-item, past-item, acts, act, samples, sample}
 use Rattle.derive.specs.Table.{act-at, next-of, opened-of, values, next-bytes}
 use Rattle.derive.specs.TableLaws.{next-byte}

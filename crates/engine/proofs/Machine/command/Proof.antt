@@ -22,8 +22,7 @@ returns c =
     let at-shared-slice-known2 = at-numbers .before .before .before .before in
     let start = at-shared-slice-known2 .before .before in
     let a = start .args in
-    acted (a .list .now) (a .counts .now) (a .heads .now) (a .cells .now) (a .l) (a .self .numbers) (at-perform .perform .result)
-    (at-perform .perform .ensures) (c .after .ensures)
+    acted (a .list .now) (a .counts .now) (a .heads .now) (a .cells .now) (a .l) (a .self .numbers) (at-perform .perform .result) (at-perform .perform .ensures) (c .after .ensures)
 
 pub command-spec : {M : Type 1} → statement M
 command-spec =
