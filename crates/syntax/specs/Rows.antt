@@ -12,10 +12,8 @@ use Rattle.syntax.specs.Syntax.{TypeName.int-type, TypeName.id-type, Var
 use Rattle.syntax.specs.Syntax.{Stat.update, Stats.no-stats, Stats.stats, Par.par, Step.step as a-step, Struct.struct, Defs.last-struct}
 use Rattle.syntax.specs.Syntax.{Item.execution, Sched.last-item, Program, Program.program}
 use Rattle.syntax.specs.Letters.{A, B, a, b, s}
-use Rattle.syntax.specs.Expecting.{word-number, sign-number, on-word, on-sign, on-name, on-op, less, on-less, literal-word, on-literal}
-use Rattle.syntax.specs.Expecting.{type-word, on-type-word, on-type}
-use Rattle.syntax.specs.Places.{var-onto, exps-onto, stats-onto, defs-onto, sched-onto}
-use Rattle.syntax.specs.Reading.{closed, behind, wanted, item-wanted, item-behind, begun, step, run, whole, ended, read}
+use Rattle.syntax.specs.Reading.{step, read}
+use Rattle.syntax.specs.Unfold.{reading}
 
 -- whether tokens derive
 unfoldable pub derivable : Option Program → Bool
@@ -135,7 +133,7 @@ programs =
     ∷ []
 
 pub statements-hold : Rows statements
-unfolding statements derivable word-number sign-number on-word on-sign on-name on-op less on-less literal-word on-literal type-word on-type-word on-type var-onto exps-onto stats-onto defs-onto sched-onto closed behind wanted item-wanted item-behind begun step run whole ended read
+unfolding statements derivable reading
 statements-hold =
     (and-then refl (and-then refl (and-then refl (and-then refl (and-then refl (and-then refl (and-then refl (and-then refl
     (and-then refl (and-then refl (and-then refl (and-then refl (and-then refl (and-then refl (and-then refl (and-then refl
@@ -143,7 +141,7 @@ statements-hold =
     (and-then refl (and-then refl (and-then refl (and-then refl no-more))))))))))))))))))))))))))))
 
 pub programs-hold : Rows programs
-unfolding programs derivable word-number sign-number on-word on-sign on-name on-op less on-less literal-word on-literal type-word on-type-word on-type var-onto exps-onto stats-onto defs-onto sched-onto closed behind wanted item-wanted item-behind begun step run whole ended read
+unfolding programs derivable reading
 programs-hold =
     (and-then refl (and-then refl (and-then refl (and-then refl (and-then refl (and-then refl (and-then refl (and-then refl
     (and-then refl (and-then refl (and-then refl (and-then refl (and-then refl no-more)))))))))))))
@@ -161,5 +159,5 @@ pub P-derived : read tokens-P
     no-stats)
     ∷ [])))
     (last-item (execution (97 ∷ 100 ∷ 100 ∷ []))))
-unfolding tokens-P derivable word-number sign-number on-word on-sign on-name on-op less on-less literal-word on-literal type-word on-type-word on-type var-onto exps-onto stats-onto defs-onto sched-onto closed behind wanted item-wanted item-behind begun step run whole ended read
+unfolding tokens-P derivable reading
 P-derived = refl
