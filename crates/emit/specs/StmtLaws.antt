@@ -50,8 +50,8 @@ declare-facts ar s at g =
           inside = omega (arith, z .0);
           part =
               rw (← i, z .1)
-              (part-of declare-words expr-words (pair-ok (λ t k. pair (read-local s k) λ x. read-expr ar s expr-levels) p
-              (pair-ok (λ x. read-expr ar s expr-levels) q r))
+              (part-of declare-words expr-words
+              (pair-ok (λ t k. pair (read-local s k) λ x. read-expr ar s expr-levels) p (pair-ok (λ x. read-expr ar s expr-levels) q r))
               (rw j at r) (declaring-words t x e));
         }
 
@@ -161,8 +161,9 @@ module _ (ar s : List ℕ) (d at : ℕ) (g : Good (read-stmt ar s d at)) where
       go zero p g = absurd (shut ar s (λ p. when (p .0) (p .1)) at (at + 1) p g)
       go (suc d) p g = (
         omega arith,
-        rw sub-one (made-part stmt-words when-words (λ p. when (p .0) (p .1)) (when-at ar s d (at + 1))
-            (level ar s (λ p. when (p .0) (p .1)) d at (at + 1) p) g (λ p. when-is p ∙ sym (append-nil _))),
+        rw sub-one
+            (made-part stmt-words when-words (λ p. when (p .0) (p .1)) (when-at ar s d (at + 1)) (level ar s (λ p. when (p .0) (p .1)) d at (at + 1) p) g
+            (λ p. when-is p ∙ sym (append-nil _))),
       )
 
   -- a declaration

@@ -42,8 +42,7 @@ module _ (counts h c : List ℕ) (l x : ℕ) {h′ : List ℕ} where
     lt-ltb x (own counts h c (seen h l)) u,
     lt-ltb (target c (seen h l)) (length counts) b,
     p,
-    add-one
-        (seen h l .next),
+    add-one (seen h l .next),
   )
 
   module _ {c′ : List ℕ} where

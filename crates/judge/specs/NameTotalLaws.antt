@@ -106,8 +106,8 @@ module _ (p : Program) {cs ar types : List ℕ} (tables : (k : ℕ) (t : Step) �
       → Says (added k (t .name) (body-facts ar types k (t .body) no-locals) T .fault) (a && (well-named k t && not (member (t .name) ns)))
       (b && (well-typed k t && true))
   unfolding added CountsStep
-  added-says k t ns T c H s = says-both s (says-both (step-says p k (t .body) (tables k t) few (c .2))
-      (rw (H .holds-at (t .name) (c .0)) (go (member (t .name) ns))))
+  added-says k t ns T c H s = says-both s
+      (says-both (step-says p k (t .body) (tables k t) few (c .2)) (rw (H .holds-at (t .name) (c .0)) (go (member (t .name) ns))))
     where
       go : (m : Bool) → Says (named (eqb (flag m) 0)) (not m) true
       go true = says-named false

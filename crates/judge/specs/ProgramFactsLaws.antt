@@ -107,8 +107,8 @@ module _ (p : Program) (c : Counts p) where
   unfolding Counts
   fits-is =
       every-same {C = Few 0 8 (CountsStep (arities p))}
-      (λ ts h. every-same {C = CountsStep (arities p)} one ts (h .2) ∙ every-and (λ t. leb (step-size t) step-commands)
-      (λ t. leb (step-depth p t) max-depth) ts)
+      (λ ts h. every-same {C = CountsStep (arities p)} one ts (h .2)
+      ∙ every-and (λ t. leb (step-size t) step-commands) (λ t. leb (step-depth p t) max-depth) ts)
       (p .steps) (c .2)
       ∙ every-and (every (λ t. leb (step-size t) step-commands)) (every (λ t. leb (step-depth p t) max-depth)) (p .steps)
     where

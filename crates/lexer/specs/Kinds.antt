@@ -1,18 +1,9 @@
 -- The kind of a token as a byte: what is kept of it in its place of the text. 0 is no kind: no token begins there.
-<<<<<<< HEAD
-use Prim.Native.Nat.{ℕ}
+use Prim.Native.Nat.{ℕ, _+_}
 use Rattle.program.specs.Tree.{Op, Op.op-eq, Op.op-ne, Op.op-le, Op.op-ge, Op.op-lt, Op.op-gt, Op.op-mul, Op.op-div, Op.op-rem, Op.op-add, Op.op-sub}
 use Rattle.program.specs.Tree.{Op.op-and, Op.op-or}
-use Rattle.tokens.specs.Tokens.{Word, Word.w-struct, Word.w-if, Word.w-then, Word.w-null, Word.w-this, Word.w-fix, Word.w-int, Word.w-nat}
-use Rattle.tokens.specs.Tokens.{Word.w-bool, Word.w-string, Word.w-true, Word.w-false}
-use Rattle.tokens.specs.Tokens.{Sign, Sign.lpar, Sign.rpar, Sign.lbrace, Sign.rbrace, Sign.comma, Sign.colon, Sign.semicolon, Sign.assign, Sign.dot}
-use Rattle.tokens.specs.Tokens.{Sign.bang, Token, Token.word, Token.sign, Token.op, Token.name, Token.int, Token.nat}
-=======
-use Prim.Native.Nat.{ℕ, _+_}
-use Rattle.program.specs.Tree.{Op, Op.op-eq, Op.op-ne, Op.op-le, Op.op-ge, Op.op-lt, Op.op-gt, Op.op-mul, Op.op-div, Op.op-rem, Op.op-add, Op.op-sub, Op.op-and, Op.op-or}
 use Rattle.tokens.specs.Tokens.{Word, Sign, Token, Token.word, Token.sign, Token.op, Token.name, Token.int, Token.nat}
 use Rattle.tokens.specs.TokenNumbers.{word-number, sign-number}
->>>>>>> main
 
 -- 1 to 12: the words; 13 to 22: the signs
 unfoldable pub word-kind : Word → ℕ

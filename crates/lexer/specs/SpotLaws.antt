@@ -11,9 +11,12 @@ use lib.Dec.{eqb}
 use borrow.Author.Tests.{eqb-true, eq-eqb, ne-eqb}
 use Rattle.tokens.specs.ByteLaws.{both-true}
 use Rattle.program.specs.Tree.{Op.op-ne, Op.op-le, Op.op-ge, Op.op-lt, Op.op-gt, Op.op-and, Op.op-or}
-use Rattle.tokens.specs.Tokens.{Sign.colon, Sign.assign, Sign.bang, Token, Token.sign, Token.op, Token.int, Token.nat, nat-end-byte, letter, digit, name-byte, blank, op-spelling, sign-spelling, spelling}
+use Rattle.tokens.specs.Tokens.{Sign.colon, Sign.assign, Sign.bang, Token, Token.sign, Token.op, Token.int, Token.nat, nat-end-byte, letter, digit}
+use Rattle.tokens.specs.Tokens.{name-byte, blank, op-spelling, sign-spelling, spelling}
 use Rattle.tokens.specs.Lexing.{slash, star}
-use Rattle.tokens.specs.Scanning.{Front, Front.token, Front.nothing, span, begins, closing, named, doubles, singles, signs, behind-first, find-sign, Class.letters, Class.digits, class, polarity, signed, opens, nat-front, comment-front, after-star, other-front, front-of, front}
+use Rattle.tokens.specs.Scanning.{Front, Front.token, Front.nothing, span, begins, closing, named, doubles, singles, signs, behind-first, find-sign}
+use Rattle.tokens.specs.Scanning.{Class.letters, Class.digits, class, polarity, signed, opens, nat-front, comment-front, after-star, other-front}
+use Rattle.tokens.specs.Scanning.{front-of, front}
 use Rattle.tokens.specs.TokenNumbers.{sign-number}
 use Rattle.lexer.specs.Kinds.{int-kind, nat-kind, sign-kind, op-kind, kind}
 use Rattle.lexer.specs.Marking.{spot-of, at-spot, signs-digit, followed}

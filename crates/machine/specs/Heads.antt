@@ -59,8 +59,8 @@ means (n-op o) = m-op
 means (n-if n) = m-if
 
 -- code that stands for a list with a command in front has a note of it in front
-pub next-note : (n : List Note) {f : Flat} {fs : List Flat} → map erase n ≡ f ∷ fs → (a : Note) × (r : List Note) × (n ≡ a ∷ r) × (Means f a) ×
-    (map erase r ≡ fs)
+pub next-note : (n : List Note) {f : Flat} {fs : List Flat} → map erase n ≡ f ∷ fs
+    → (a : Note) × (r : List Note) × (n ≡ a ∷ r) × (Means f a) × (map erase r ≡ fs)
 next-note [] e = let z : _≡_ {A = ℕ} 0 1 = cc in absurd (omega arith)
 next-note (a ∷ r) {f} e = (a, r, refl, (let h : erase a ≡ f = cc in subst (λ g. Means g a) h (means a)), cc)
 

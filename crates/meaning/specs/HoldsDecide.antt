@@ -46,8 +46,8 @@ unfoldable pub few : {A : Type 0} → ℕ → ℕ → (A → Bool) → List A �
 unfolding all
 few lo hi t l = leb lo (length l) && (leb (length l) hi && all t l)
 
-decides-few : {A : Type 0} {C : A → Type 0} (lo hi : ℕ) (t : A → Bool) → ((a : A) → Decides (t a) (C a)) → (l : List A) → Decides (few lo hi t l)
-    (Few lo hi C l)
+decides-few : {A : Type 0} {C : A → Type 0} (lo hi : ℕ) (t : A → Bool) → ((a : A) → Decides (t a) (C a)) → (l : List A)
+    → Decides (few lo hi t l) (Few lo hi C l)
 unfolding few
 decides-few lo hi t d l = decides-three (leb lo (length l)) (leb (length l) hi) (all t l) (decides-leb lo (length l)) (decides-leb (length l) hi)
     (decides-all t d l)

@@ -93,8 +93,8 @@ module _ (ds : List Struct) where
 
     pub data StatsMean (own : List Par) : List Local → List Id → Stats → Stmts → List Local → List Id → Type 0 where
       no-stats-mean : {alive : List Local} {met : List Id} → StatsMean own alive met no-stats end alive met
-      stats-mean : {alive after last : List Local} {met met' met'' : List Id} {t : Stat} {u : Stmt} {b : Stats}
-          {c : Stmts} → StatMeans own alive met t u after met'
+      stats-mean : {alive after last : List Local} {met met' met'' : List Id} {t : Stat} {u : Stmt} {b : Stats} {c : Stmts}
+          → StatMeans own alive met t u after met'
           → StatsMean own after met' b c last met'' → StatsMean own alive met (stats t b) (next u c) last met''
 
   -- a parameter by its type; a step by the number of its name

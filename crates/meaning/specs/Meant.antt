@@ -124,8 +124,8 @@ module _ (ds : List Struct) where
           then (type-meaning t) (λ u. provided (absent x met) (provided (absent x (map par-id own)) (then (exp-meaning own alive e) (λ c.
           some (record { tree = declare u (length met) c; alive = declared x (length met) t ∷ alive; met = x ∷ met })))))
       stat-meaning (update v e) alive met =
-          then (path-meaning own alive v) (λ p. then (exp-meaning own alive e)
-          (λ c. some (record { tree = update-of (p .first) (p .rest) c; alive = alive; met = met })))
+          then (path-meaning own alive v)
+          (λ p. then (exp-meaning own alive e) (λ c. some (record { tree = update-of (p .first) (p .rest) c; alive = alive; met = met })))
       stat-meaning (construct x es) alive met =
           then (find struct-id x ds) (λ p. then (exps-meaning own alive es) (λ cs.
           provided (eqb (args cs) (length (pars-of (p .element)))) (some (record { tree = create (p .at) cs; alive = alive; met = met }))))
@@ -133,8 +133,8 @@ module _ (ds : List Struct) where
       pub stats-meaning : Stats → List Local → List Id → Option (Behind Stmts)
       stats-meaning no-stats alive met = some (record { tree = end; alive = alive; met = met })
       stats-meaning (stats t b) alive met =
-          then (stat-meaning t alive met) (λ r. then (stats-meaning b (r .alive) (r .met))
-          (λ q. some (record { tree = next (r .tree) (q .tree); alive = q .alive; met = q .met })))
+          then (stat-meaning t alive met)
+          (λ r. then (stats-meaning b (r .alive) (r .met)) (λ q. some (record { tree = next (r .tree) (q .tree); alive = q .alive; met = q .met })))
 
   unfoldable pub pars-meaning : Struct → Option (List Ty)
   unfolding provided each type-meaning

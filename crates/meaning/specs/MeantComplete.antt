@@ -49,8 +49,8 @@ literal-complete (nat-means {ds = ds} h) = rw (lt-ltb (decimal ds) nat-end h) re
 literal-complete true-means = refl
 literal-complete false-means = refl
 
-each-complete : {A B : Type 0} {R : A → B → Type 0} {f : A → Option B} → ((a : A) (b : B) → R a b → f a ≡ some b) → {l : List A}
-    {m : List B} → Each R l m → each f l ≡ some m
+each-complete : {A B : Type 0} {R : A → B → Type 0} {f : A → Option B} → ((a : A) (b : B) → R a b → f a ≡ some b) → {l : List A} {m : List B} → Each R l m
+    → each f l ≡ some m
 unfolding each then
 each-complete h no-more = refl
 each-complete h (and-then {a = a} {b = b} r e) = rw (h a b r) (rw (each-complete h e) refl)
@@ -78,8 +78,8 @@ module _ (ds : List Struct) where
     start-complete {x = x} (a-parameter f) = rw (is-not (decides-absent x (map par-id own)) (found-there par-id x f)) (rw (find-complete par-id _ f) refl)
     start-complete {x = x} (a-local a f) = rw (is-true (decides-absent x (map par-id own)) a) (rw (find-complete local-id _ f) refl)
 
-    path-complete : {v : Var} {u : Variable} {vs : List ℕ} → PathMeans ds own alive v u vs → path-meaning ds own alive v ≡ some
-        (record { first = u; rest = vs })
+    path-complete : {v : Var} {u : Variable} {vs : List ℕ} → PathMeans ds own alive v u vs
+        → path-meaning ds own alive v ≡ some (record { first = u; rest = vs })
     unfolding path-meaning then
     path-complete (alone s) = rw (start-complete s) refl
     path-complete (behind s r g) = rw (start-complete s) (rw (refers-complete r) (rw (further-complete g) refl))

@@ -79,8 +79,8 @@ literal-sound (nat-literal ds) c e =
 literal-sound (bool-literal true) c e = rw (← same-answer {a = bool-lit 1} e) true-means
 literal-sound (bool-literal false) c e = rw (← same-answer {a = bool-lit 0} e) false-means
 
-each-sound : {A B : Type 0} {R : A → B → Type 0} (f : A → Option B) → ((a : A) (b : B) → f a ≡ some b → R a b) → (l : List A)
-    (m : List B) → each f l ≡ some m → Each R l m
+each-sound : {A B : Type 0} {R : A → B → Type 0} (f : A → Option B) → ((a : A) (b : B) → f a ≡ some b → R a b) → (l : List A) (m : List B)
+    → each f l ≡ some m → Each R l m
 unfolding each
 each-sound f h [] m e = rw (← same-answer e) no-more
 each-sound f h (a ∷ l) m e =
@@ -222,8 +222,9 @@ module _ (ds : List Struct) where
       unfolding item-meaning sched-meaning
 
       item-sound : (i : Item) (c : Call) → item-meaning ds names i ≡ some c → ItemMeans ds names i c
-      item-sound (execution x) c e = let (n, p, q) = then-parts (find (λ z. z) x names) _ e in rw (← same-answer q)
-          (execution-means (find-sound (λ z. z) x names n p))
+      item-sound (execution x) c e =
+          let (n, p, q) = then-parts (find (λ z. z) x names) _ e in
+          rw (← same-answer q) (execution-means (find-sound (λ z. z) x names n p))
       item-sound (typed-execution x y) c e =
           let (k, p, q) = then-parts (find struct-id x ds) _ e in
           let (n, r, s) = then-parts (find (λ z. z) y names) _ q in

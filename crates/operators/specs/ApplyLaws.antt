@@ -191,8 +191,8 @@ by-zero-said by-div x = refl
 by-zero-said by-rem x = refl
 
 -- On values that are alike = and ≠ answer by the test of equality.
-pub equality-said : {a b : Val} → Alike a b → (t : Bool) → same-val a b ≡ t → (apply op-eq a b ≡ value (bool-val t)) ×
-    (apply op-ne a b ≡ value (bool-val (not t)))
+pub equality-said : {a b : Val} → Alike a b → (t : Bool) → same-val a b ≡ t
+    → (apply op-eq a b ≡ value (bool-val t)) × (apply op-ne a b ≡ value (bool-val (not t)))
 unfolding apply answer compute on-truths on-labels same-val same-int
 equality-said ints t e = (rw e, rw e)
 equality-said nats t e = (rw e, rw e)

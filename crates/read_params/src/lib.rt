@@ -128,7 +128,8 @@ fn lists(
     requires { ⌜ (at ≤ length (now s)) × (n + k ≤ length (now counts)) × (8 * (n + k) ≤ length (now types)) × (n + k ≤ 16) ⌝ }
     ensures { λ r. ⌜ r ≡ place-told (many [] _∷_ (read-list (now (s .entry)) structs) n at) ⌝ }
     ensures { λ r. ⌜ PlaceSpan (now (s .entry)) at r ⌝ }
-    ensures { λ _. ⌜ ListsKept k (now (counts .entry)) (now (counts .exit)) (now (types .entry)) (now (types .exit)) (many [] _∷_ (read-list (now (s .entry)) structs) n at) ⌝ }
+    ensures { λ _. ⌜ ListsKept k (now (counts .entry)) (now (counts .exit)) (now (types .entry)) (now (types .exit))
+        (many [] _∷_ (read-list (now (s .entry)) structs) n at) ⌝ }
 {
     let mut next = at;
     let mut left = n;

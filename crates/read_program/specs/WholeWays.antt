@@ -159,8 +159,8 @@ module _ (s : List ℕ) where
       go (bad a n) e = refl
 
   -- behind the parameters stands the rest, over the tables that they give
-  pub program-read : (cs cs′ types types′ : List ℕ) (k n : ℕ) → params-told (read-params s 0) ≡ ParamsValue k n → ParamsKept cs cs′ types types′
-      (read-params s 0)
+  pub program-read : (cs cs′ types types′ : List ℕ) (k n : ℕ) → params-told (read-params s 0) ≡ ParamsValue k n
+      → ParamsKept cs cs′ types types′ (read-params s 0)
       → rest-told k (take n cs′) (take (8 * n) types′) s (read-rest (take n cs′) s k) ≡ program-told (read-params s 0) (read s)
   program-read cs cs′ types types′ k n i w = go (read-params s 0) refl i w
     where

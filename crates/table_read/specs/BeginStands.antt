@@ -134,8 +134,8 @@ module _ (p : Program) (counts : Counts p) where
           }
 
   -- the null instances and the records of a table
-  nulls-shown : (k : ℕ) (pss : List (List Ty)) → ((j : ℕ) → j < length pss → params-of p (k + j) ≡ getD pss j []) → All (Shown (types-table (p .params)))
-      (null-records k pss)
+  nulls-shown : (k : ℕ) (pss : List (List Ty)) → ((j : ℕ) → j < length pss → params-of p (k + j) ≡ getD pss j [])
+      → All (Shown (types-table (p .params))) (null-records k pss)
   unfolding null-records
   nulls-shown k [] f = tt
   nulls-shown k (ps ∷ pss) f =

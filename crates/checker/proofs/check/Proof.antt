@@ -49,8 +49,9 @@ slice-aggregate-program-4 : tie.Need-slice-aggregate-program-4
 slice-aggregate-program-4 c = sym (length-take-le _ _ (array-share-prefix-stream (c .before)))
 
 array-share-prefix-counts : tie.Need-array-share-prefix-counts
-array-share-prefix-counts c = let at-r = c .before .before .before .before in omega
-    (arith, structs-few _ _ (loads at-r), at-program at-r .program .kept .1 .1 .0)
+array-share-prefix-counts c =
+    let at-r = c .before .before .before .before in
+    omega (arith, structs-few _ _ (loads at-r), at-program at-r .program .kept .1 .1 .0)
 
 slice-aggregate-program-5 : tie.Need-slice-aggregate-program-5
 slice-aggregate-program-5 c = sym (length-take-le _ _ (array-share-prefix-counts (c .before)))

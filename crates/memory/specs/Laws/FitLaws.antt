@@ -141,8 +141,8 @@ module _ {p : Program} {counts : List ℕ} (firm : Firm p) (bound : Bounded p co
       let tx = shown-type (beneath counts l z) (x .is) sx in
       let ox = shown-operand (beneath counts l z) (x .is) sx in
       let oy = shown-operand (top counts l z) (y .is) sy in
-      let q : apply-word (op-code o) (type-byte (beneath counts l z)) (operand (beneath counts l z)) (operand (top counts l z)) ≡ answered
-      (apply o (x .is) (y .is)) =
+      let q : apply-word (op-code o) (type-byte (beneath counts l z)) (operand (beneath counts l z)) (operand (top counts l z))
+      ≡ answered (apply o (x .is) (y .is)) =
       rw (tx, ox, oy) (apply-shown o (sx .by) (sx .held) rx ry) in
       record {
         two = omega arith;

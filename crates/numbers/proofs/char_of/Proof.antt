@@ -22,8 +22,7 @@ returns-4 c = rw (
   char-of,
   ne-eqb _ 10 (c .before .before .before .if1 .left),
   ne-eqb _ 45 (c .before .before .if2 .left),
-  ne-eqb _ 32
-      (c .before .if3 .left),
+  ne-eqb _ 32 (c .before .if3 .left),
   eq-eqb _ 9 (c .if4 .taken),
 )
 

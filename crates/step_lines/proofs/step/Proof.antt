@@ -42,8 +42,7 @@ loop-holds c =
       refl,
       omega arith,
       omega arith,
-      no-lines _ _ (start (at-byte2 c) .args .list .now)
-          (c .before .place .result) _ _,
+      no-lines _ _ (start (at-byte2 c) .args .list .now) (c .before .place .result) _ _,
     )
 
 add-line : tie.Need-add-line Inv-loop μ-loop
