@@ -22,11 +22,12 @@ use Rattle.commands.specs.Decide.{member}
 use Rattle.commands.specs.Decide.NamesDecide.{start-named, expr-named, args-named}
 use Rattle.commands.specs.Decide.TypingDecide.{Judgement, Judgement.untypable, is-of, agree, given, result, operate, lead as type-lead, path-type}
 use Rattle.commands.specs.Decide.TypingDecide.{expr-type, args-typed}
-use Rattle.judge.specs.Facts.{worst, demand, judged, param, lead-by, lead, start-of, path-of, takes, gives, negated, combined, travelled}
-use Rattle.judge.specs.Facts.{argued, constructed, expr-facts, args-facts}
+use Rattle.judge.specs.Facts.{worst, demand, judged, param, lead-by, lead, start-of, path-of, takes, gives}
+use Rattle.judge.specs.Facts.{expr-facts, args-facts}
 use Rattle.judge.specs.declared.Judged.{Judged}
 use Rattle.judge.specs.Verdicts.{Says, Says.misnamed, Says.mistyped, Says.right, Shows, Shows.unnamed, Shows.untyped, Shows.typed, Tables, tagged, Living}
 use Rattle.judge.specs.FaultLaws.{says-both, says-demand}
+use Rattle.judge.specs.Unfold.{expr-judging}
 
 -- Types by their bytes -------------------------------------------------------------
 
@@ -222,7 +223,7 @@ module _ {cs ar types : List ℕ} {G : Ctx} (T : Tables cs ar types G) where
     -- Expressions ------------------------------------------------------------------
 
     mutual
-      unfolding expr-facts args-facts expr-named args-named expr-type args-typed CountsExpr CountsExprs IsPath args negated combined travelled argued constructed code
+      unfolding expr-judging CountsExpr CountsExprs IsPath args code
 
       -- an expression's fault is 7 where a name is wrong in it, else 8 where it has no type, else 0, and its type is told
       pub expr-shows : (e : Expr) → CountsExpr cs e

@@ -201,7 +201,8 @@ module _ (ar types s : List ℕ) (own w : ℕ) where
 
       pub is-none : 44 < getD s at 0 → told E (read-expr ar s d at) ≡ Refused 5
       is-none l =
-          let n : Apart (getD s at 0) = (λ e. omega arith, λ e. omega arith, λ e. omega arith, λ e. omega arith, λ e. omega arith, λ e. omega arith, λ e. omega arith, λ e. omega arith) in
+          let n : Apart (getD s at 0) =
+          (λ e. omega arith, λ e. omega arith, λ e. omega arith, λ e. omega arith, λ e. omega arith, λ e. omega arith, λ e. omega arith, λ e. omega arith) in
           rw (expr-in z h) (rule-none (read-expr ar s (d - 1)) at (at + 1) _ n (λ k. omega arith))
 
       pub is-stop : 32 ≤ getD s at 0 → getD s at 0 ≤ 44 → (n : ℕ) → told E (read-expr ar s (d - 1) (at + 1)) ≡ Refused n

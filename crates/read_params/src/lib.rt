@@ -8,7 +8,8 @@ ghost use lib.ListN.{length};
 ghost use lib.Seq.{sets};
 ghost use Rattle.judge.specs.ProgramFacts.{row};
 ghost use Rattle.program.specs.Reader.{many, read-type, read-params};
-ghost use Rattle.read_params.specs.ParamsTold.{read-list, place-told, params-told, place-refusal, params-refusal, RowKept, ListKept, ListsKept, ParamsKept, PlaceSpan, ParamsSpan};
+ghost use Rattle.read_params.specs.ParamsTold.{read-list, place-told, params-told, place-refusal, params-refusal, RowKept, ListKept, ListsKept};
+ghost use Rattle.read_params.specs.ParamsTold.{ParamsKept, PlaceSpan, ParamsSpan};
 
 // The next place.
 pub enum PlaceRead {

@@ -25,9 +25,13 @@ unfoldable pub leaf-tokens : Type 0
 unfolding type-token literal-token
 leaf-tokens = Unit {0}
 
--- the yields of expressions, statements, structs and the schedule
+-- the yields of statements, and of structs and the schedule
+unfoldable pub stat-yields : Type 0
+unfolding leaf-tokens yield-var yield-exp yield-exps yield-exp-list yield-stat yield-stats
+stat-yields = Unit {0}
+
 unfoldable pub yields : Type 0
-unfolding leaf-tokens yield-var yield-exp yield-exps yield-exp-list yield-stat yield-stats yield-par yield-par-list yield-pars yield-step yield-steps yield-struct yield-defs yield-item yield-sched
+unfolding stat-yields yield-par yield-par-list yield-pars yield-step yield-steps yield-struct yield-defs yield-item yield-sched
 yields = Unit {0}
 
 -- where brackets stand
@@ -41,6 +45,10 @@ unfolding structs-rev pars-rev steps-rev ids-rev exps-rev stats-rev items-rev
 reversed = Unit {0}
 
 -- what stands before a place, and that it fits
+unfoldable pub before-places : Type 0
+unfolding before before-name before-pars before-steps before-body before-stat before-row before-item
+before-places = Unit {0}
+
 unfoldable pub sitting : Type 0
-unfolding yields fitting reversed so-far before before-name before-pars before-steps before-body before-stat before-row before-item Sits SitsBody SitsPlace SitsRow
+unfolding yields fitting reversed before-places so-far Sits SitsBody SitsPlace SitsRow
 sitting = Unit {0}

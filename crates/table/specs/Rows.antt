@@ -9,10 +9,11 @@ use lib.IntN.{pos, negsuc}
 use Rattle.types.specs.TypeBytes.{word-end}
 use Rattle.types.specs.Types.{Ty, Ty.int, Ty.nat, Ty.bool, Ty.ref}
 use Rattle.types.specs.Values.{Val, Val.int-val, Val.nat-val, Val.bool-val, Val.label, word-int, value-of}
-use Rattle.program.specs.Reader.{then, pair, made, many, guard, ended, whole, between, byte, tested, ranged, read-word}
+use Rattle.program.specs.Reader.{byte, read-word}
 use Rattle.table.specs.Table.{Record, struct-at}
 use Rattle.table.specs.TableReader.{read-value, read-values, read-record, read-count, read-table, is-struct, refers, refers-each, references}
 use Rattle.table.specs.TableReader.{TableAnswer, TableAnswer.table, TableAnswer.no-table, table-number, table-answer, table-of-stream}
+use Rattle.program.specs.Unfold.{joining}
 
 -- the parameter types of each struct, a stream, and what it comes to
 pub record Row : Type 0 where
@@ -94,7 +95,12 @@ rows =
     ∷ row P (2 ∷ 0 ∷ bytes-P 5 3 ++ 0 ∷ four 7) (no-table 11)
     ∷ []
 
+-- the reader of a table: what an `unfolding` line opens by one name
+reader : Type 0
+unfolding joining read-word struct-at read-value read-values read-record read-count read-table is-struct refers refers-each references
+reader = Unit {0}
+
 -- every row's stream comes to its answer
 pub rows-hold : map (λ r. table-of-stream (r .params) (r .stream)) rows ≡ map (λ r. r .answer) rows
-unfolding word-end rows word-int value-of then pair made many guard ended whole between byte tested ranged read-word struct-at read-value read-values read-record read-count read-table is-struct refers refers-each references table-number table-answer table-of-stream
+unfolding word-end rows word-int value-of reader table-number table-answer table-of-stream
 rows-hold = refl
