@@ -30,7 +30,7 @@ int main(void) {
     seal(table, 20);
     audala_report r = audala_run(image, length, table, sizeof table, turns, sizeof turns, output, sizeof output, list,
                                  AUDALA_LIST_PLACES);
-    printf("number %u, %u turns, %u blocks, depth %u\n", r.number, r.turns, r.blocks, r.depth);
+    printf("number %u, %u turns, %u blocks, depth %u, %u hold commands\n", r.number, r.turns, r.blocks, r.depth, r.holding);
     if (r.blocks > 0) {
         printf("loads %u and %u\n", output[7], output[16]);
     }

@@ -8,6 +8,7 @@ struct Report {
     turns: u32,
     blocks: u32,
     depth: u32,
+    holding: u32,
 }
 
 unsafe extern "C" {
@@ -64,7 +65,7 @@ fn main() -> std::io::Result<()> {
     let table = block(&[2, 0, 0, 5, 0, 0, 0, 2, 0, 0, 0, 0, 7, 0, 0, 0, 1, 0, 0, 0]);
     let (mut output, mut list) = (vec![0; 8_704], vec![0; 1_024]);
     let r = run(&program, &table, &[0; 24], &mut output, &mut list);
-    println!("number {}, {} turns, {} blocks, depth {}", r.number, r.turns, r.blocks, r.depth);
+    println!("number {}, {} turns, {} blocks, depth {}, {} hold commands", r.number, r.turns, r.blocks, r.depth, r.holding);
     if r.blocks > 0 {
         println!("loads {} and {}", output[7], output[16]);
     }

@@ -80,10 +80,12 @@ audala_part audala_step(const uint8_t *image, size_t length, const uint64_t *lis
 
 /* What a run answers. After a number from the input, 1 to 14, all but the number are 0. */
 typedef struct {
-    uint32_t number; /* 0: the run has ended; 1 to 14: refused; 33 to 35: stopped (audala_number) */
-    uint32_t turns;  /* commands taken; the byte that chose a refused command is not counted */
-    uint32_t blocks; /* blocks of 512 bytes written */
-    uint32_t depth;  /* the greatest stack height over all steps of the program */
+    uint32_t number;  /* 0: the run has ended; 1 to 14: refused; 33 to 35: stopped (audala_number) */
+    uint32_t turns;   /* commands taken; the byte that chose a refused command is not counted */
+    uint32_t blocks;  /* blocks of 512 bytes written */
+    uint32_t depth;   /* the greatest stack height over all steps of the program */
+    uint32_t holding; /* instances that hold commands where the call ends, before the turn that would come next: 0 exactly at 0, at least 1 at
+                         33, 34 and 35 (the instance of a refused command still holds it) */
 } audala_report;
 
 /* Runs a program image on a table image with these turn bytes. A number from the input leaves output and list as they were.

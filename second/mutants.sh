@@ -105,7 +105,7 @@ mutant "refused byte counted" machine.rs '/self\.turn\(choice\)/{n;s/break/taken
 mutant "no moves behind the last byte" machine.rs \
     's/if !self\.settle\(\) \{/if (taken == 0 || taken < turns.len()) \&\& !self.settle() {/'
 mutant "no moves before the first byte" machine.rs \
-    's/let mut taken = 0;/& if turns.is_empty() { return Ending { number: 33, turns: 0 }; }/'
+    's/let mut taken = 0;/& if turns.is_empty() { return Ending { number: 33, turns: 0, holding: 0 }; }/'
 mutant "stack kept at a start" instance.rs 's/self\.stack\.height = 0;//'
 mutant "typed item starts all" program.rs 's/step\.structure == structure && step\.name == name/step.name == name/'
 mutant "plain item starts the first struct" program.rs \
@@ -126,9 +126,21 @@ mutant "eighth Fix met unstable" schedule.rs 's/self\.entries \|= 1 << self\.cou
 mutant "Fix ends after one round" schedule.rs 's/let stable = .*;/let stable = true;/'
 mutant "Fix leaves its entry" schedule.rs 's/self\.count -= 1;//'
 mutant "Fix goes back to the first item" schedule.rs 's/self\.position = \*body;/self.position = 0;/'
-mutant "byte bounded, not modulo" machine.rs 's/let place = .*;/let place = usize::from(choice).min(self.holders.len() - 1);/'
+mutant "byte bounded, not modulo" machine.rs 's/let place = .*;/let place = usize::from(choice).min(self.holding - 1);/'
 mutant "holders not in label order" machine.rs 's/self\.holders\.remove\(place\)/self.holders.swap_remove(place)/'
 mutant "holders by struct" machine.rs 's/self\.holders\.sort_unstable\(\);//'
+mutant "holding not counted down" machine.rs 's/self\.holding -= 1;//'
+mutant "holding counted down at every command" machine.rs \
+    's/self\.holding -= 1;//; s/held\.first = next;/& self.holding -= 1;/'
+mutant "holding counted down on a refusal" machine.rs '/self\.turn\(choice\)/{n;s/break/self.holding -= 1; break/}'
+mutant "holding counts a new instance" machine.rs 's/self\.instances\.push\(instance\);/& self.holding += 1;/'
+mutant "holding not counted at a start" machine.rs 's/self\.holding \+= members\.len\(\);//'
+mutant "holding without null instances" machine.rs 's/self\.holding \+= members\.len\(\);/self.holding += members.len() - 1;/'
+mutant "holding counts those given no commands" machine.rs \
+    's/if part\.is_empty\(\) \{/& self.holding += members.len();/'
+mutant "holding told before the moves" machine.rs 's/if !self\.settle\(\) \{/let before = self.holding; &/; s/break Refusal::NoTurnLeft\.number\(\);/self.holding = before; &/'
+mutant "instances told for holding" machine.rs 's/holding: self\.holding \}/holding: self.instances.len() }/'
+mutant "holding not told" engine.rs 's/depth: program\.depth, holding \}/depth: program.depth, holding: holding * 0 }/'
 mutant "34 one instance early" machine.rs 's/if new_label == INSTANCES \{/if new_label == INSTANCES - 1 {/'
 
 # Arithmetic.
@@ -184,7 +196,7 @@ mutant "list written before 13" engine.rs '/^fn accept/,/^}/ s/if !has_places\(l
 mutant "list written before 14" engine.rs 's/if turns\.len\(\) > TURNS \{/program.hand_out(list); &/'
 mutant "list of a run not written" engine.rs '/^fn run_accepted/,/^}/ s/program\.hand_out\(list\);//'
 mutant "depth of a run not told" engine.rs 's/blocks, depth: program\.depth/blocks, depth: 0/'
-mutant "one block more told" engine.rs 's/turns: ending\.turns, blocks,/turns: ending.turns, blocks: blocks + 1,/'
+mutant "one block more told" engine.rs 's/number, turns, blocks,/number, turns, blocks: blocks + 1,/'
 mutant "structs told as steps" engine.rs 's/steps: program\.steps\.len\(\)/steps: program.structs.len()/'
 mutant "negative Int listed as Nat" command.rs 's/value\.cast_signed\(\)/value/'
 mutant "step listed before its struct" listing.rs 's/step\.structure, step\.name\)/step.name, step.structure)/'

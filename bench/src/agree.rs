@@ -26,8 +26,8 @@ pub fn answered(case: &Case) -> u32 {
             let a = proved::run(program, table, turns, &mut out, &mut mine);
             let b = second::run(program, table, turns, &mut other, &mut theirs);
             assert_eq!(
-                (a.number, a.turns, a.blocks, a.depth),
-                (u32::from(b.number), b.turns as u32, b.blocks as u32, b.depth as u32),
+                (a.number, a.turns, a.blocks, a.depth, a.holding),
+                (u32::from(b.number), b.turns as u32, b.blocks as u32, b.depth as u32, b.holding as u32),
                 "{case:?}"
             );
             assert!(out == other, "the outputs differ: {case:?}");

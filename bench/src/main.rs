@@ -112,7 +112,7 @@ fn compare_runs(instances: u32, kind: &str, turns: &[u8]) {
     let (mut list, mut other_list) = (vec![LIST_FILL; LIST_PLACES], vec![None; LIST_PLACES]);
     let a = proved_run(&program, &table, turns, &mut mine, &mut list);
     let b = second::run(&program, &table, turns, &mut theirs, &mut other_list);
-    assert_eq!((a.number, a.turns, a.blocks, a.depth), (u32::from(b.number), b.turns as u32, b.blocks as u32, b.depth as u32));
+    assert_eq!((a.number, a.turns, a.blocks, a.depth, a.holding), (u32::from(b.number), b.turns as u32, b.blocks as u32, b.depth as u32, b.holding as u32));
     assert!(mine == theirs, "the tables differ");
     let (first, other) = best(
         1,

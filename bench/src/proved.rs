@@ -17,6 +17,7 @@ pub struct Report {
     pub turns: u32,
     pub blocks: u32,
     pub depth: u32,
+    pub holding: u32,
 }
 
 unsafe extern "C" {

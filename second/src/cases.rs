@@ -80,13 +80,14 @@ impl Case {
                 let mut output = vec![OUTPUT_FILL; *output];
                 let answer = run(program, table, turns, &mut output, &mut list);
                 format!(
-                    "run {} {} {} {} {} {}",
+                    "run {} {} {} {} {} {} {}",
                     answer.number,
                     answer.turns,
                     answer.blocks,
                     answer.depth,
                     digest(output.iter().copied()),
-                    list_digest(&list)
+                    list_digest(&list),
+                    answer.holding
                 )
             }
         }

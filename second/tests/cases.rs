@@ -53,6 +53,30 @@ fn the_digest_is_that_of_the_format() {
     );
 }
 
+/// Instances holding commands are the last word of a run, and of no check.
+#[test]
+fn an_answer_has_the_words_of_the_format() {
+    let run = |turns: usize| {
+        let table = image(&[1, 0, 0, 5, 0, 0, 0, 0, 0, 0, 0]);
+        let turns = vec![0; turns];
+        let case = Case::Run { places: 1_024, output: 8_704, program: image(&P), table, turns };
+        case.answer().split(' ').map(String::from).collect::<Vec<_>>()
+    };
+    for (turns, number, holding) in [(0, 33, 2), (7, 33, 2), (8, 33, 1), (15, 33, 1), (16, 0, 0)] {
+        let words = run(turns);
+        assert_eq!(words.len(), 8);
+        let told = [number, turns, 1, 2].map(|word| word.to_string());
+        assert_eq!(words[..5], [&["run".to_string()][..], &told].concat());
+        assert_eq!(words[7], holding.to_string());
+    }
+    let words = run(65_537);
+    assert_eq!(words[..5], ["run", "14", "0", "0", "0"]);
+    assert_eq!((words.len(), words[7].as_str()), (8, "0"));
+    let check = Case::Check { places: 1_024, program: image(&P) };
+    assert!(check.answer().starts_with("check 0 1 1 8 2 "));
+    assert_eq!(check.answer().split(' ').count(), 7);
+}
+
 #[test]
 fn a_file_reads_as_it_was_written() {
     let mut generator = Generator::new(3);

@@ -13,4 +13,4 @@ abbrev pub exported-part : Spot → Part
 exported-part z = record { number = z .number; start = z .start; length = z .len }
 
 abbrev pub exported-report : Reported → Report
-exported-report r = record { number = r .number; turns = r .turns; blocks = r .blocks; depth = r .depth }
+exported-report r = record { number = r .number; turns = r .turns; blocks = r .blocks; depth = r .depth; holding = r .holding }

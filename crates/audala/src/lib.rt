@@ -62,6 +62,7 @@ pub struct Report {
     pub turns: u32,
     pub blocks: u32,
     pub depth: u32,
+    pub holding: u32,
 }
 
 // A program image, a table image and turn bytes to a report, the last table to the output and the commands to the list.
@@ -83,5 +84,6 @@ pub extern "C" fn audala_run(
         turns: r.turns,
         blocks: r.blocks as u32,
         depth: r.depth as u32,
+        holding: r.holding as u32,
     }
 }

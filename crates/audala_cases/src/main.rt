@@ -89,6 +89,7 @@ fn answer_run(image: &[u8], table: &[u8], turns: &[u8], output: &mut [u8], list:
         r.depth as u64,
         cases::bytes(output),
         cases::digest(list),
+        r.holding as u64,
     ];
     let mut text = [0u8; 256];
     let n = lines::row(&mut text, 0, b"run", &ns);

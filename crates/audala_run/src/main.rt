@@ -1,5 +1,5 @@
 // Runs a program image on a table image with turn bytes, all from files, and writes the last table to a file (01, 'Table and turns').
-// On standard output one line: number, turns, blocks, depth.
+// On standard output one line: number, turns, blocks, depth, and how many instances hold commands.
 use run_images::Report;
 
 // One byte more than each may have, so that a longer one is told from the longest.
@@ -17,9 +17,10 @@ fn help() {
         \n\
         Runs the program image in the file PROGRAM on the table image in TABLE,\n\
         taking a turn for each byte of TURNS, and writes the last table's image\n\
-        to OUTPUT. Prints one line: number, turns, blocks, depth. A number from 1\n\
-        to 14 is a refusal: nothing is written. 0 is the ended run; 33 to 35 are\n\
-        stops, after which OUTPUT holds the table as it stood then.\n\
+        to OUTPUT. Prints one line: number, turns, blocks, depth, and how many\n\
+        instances hold commands. A number from 1 to 14 is a refusal: nothing is\n\
+        written. 0 is the ended run; 33 to 35 are stops, after which OUTPUT holds\n\
+        the table as it stood then.\n\
         docs/FORMAT.md says what each number means.\n",
     );
 }
@@ -27,7 +28,12 @@ fn help() {
 // The line of a report.
 fn report(r: Report) {
     let mut line = [0u8; 128];
-    let ns = [r.turns as u64, r.blocks as u64, r.depth as u64];
+    let ns = [
+        r.turns as u64,
+        r.blocks as u64,
+        r.depth as u64,
+        r.holding as u64,
+    ];
     let k = text::decimal(&mut line, 0, r.number as u64);
     let n = text::lines::row(&mut line, k, b"", &ns);
     output(&line, n);

@@ -45,7 +45,7 @@ module _ (x y es out list : List ℕ) where
   pub refused-exactly : (n : ℕ) → (begins x y es out list ≡ not-begun n) ↔ Foremost (run-order x y es out list) n
   refused-exactly n = begins-number x y es out list n
 
-  -- "Each returns the number, 0 turns, 0 blocks, with the output untouched"
+  -- "Each returns the number, 0 turns, 0 blocks, with the output untouched"; depth and holders are 0 too
   pub refused-untouched : (n : ℕ) → Foremost (run-order x y es out list) n
-      → (run-report x y es out list ≡ report n 0 0 0) × (run-output x y es out list ≡ out) × (run-list x y es out list ≡ list)
+      → (run-report x y es out list ≡ report n 0 0 0 0) × (run-output x y es out list ≡ out) × (run-list x y es out list ≡ list)
   refused-untouched n q = refusal-untouched x y es out list n q

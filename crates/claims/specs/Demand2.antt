@@ -1,7 +1,7 @@
 -- Demand 2: what is accepted, handed out, listed and run is what the papers say (01; 000, sections 3 and 4).
 use Prim.Native.Nat.{ℕ, _<_, _≤_}
 use mathlib.Core.Path.{_≡_}
-use mathlib.Core.Logic.{_↔_}
+use mathlib.Core.Logic.{_↔_, _⊎_}
 use mathlib.Core.Option.{none, some}
 use mathlib.Core.List.{List, [], _++_, map}
 use lib.ListN.{length, getElem?}
@@ -20,6 +20,7 @@ use Rattle.machine.specs.Published.{State, structs}
 use Rattle.machine.specs.Machine.{Instance, Machine, Moved.next, move}
 use Rattle.machine.specs.Measure.{total, share-of}
 use Rattle.machine.specs.Represents.{Represents}
+use Rattle.machine.specs.Stops.{ended, out-of-turns, full, exceeded}
 use Rattle.run.specs.Holders.{holders}
 use Rattle.run.specs.Run.{Outcome.stopped, run}
 use Rattle.run.specs.Visits.{Visits, turns-of}
@@ -35,7 +36,7 @@ use Rattle.run.specs.Input.{run-order, TableAccepted, Runnable, Began}
 use Rattle.verdict.specs.ProgramInputLaws.{checked-accepted, verdict-approved, check-approved}
 use Rattle.run.specs.Laws.InputLaws.{begins-ready, begins-none}
 use Rattle.run.specs.Laws.RunAgreesVisits.{visits-passes, passes-visits}
-use Rattle.run.specs.Laws.BeginLaws.{begin-represents, outcome-exact, comes-unique}
+use Rattle.run.specs.Laws.BeginLaws.{begin-represents, outcome-exact, comes-unique, comes-holding, comes-stopped}
 use Rattle.run.specs.Answered.{Answered}
 use Rattle.run.specs.Laws.AnsweredLaws.{comes-answered}
 use Rattle.commands.specs.Accepted.{Accepted}
@@ -105,18 +106,19 @@ module _ (x y es out list : List ℕ) where
   pub begun-none : Began x y es out list (begins x y es out list) ↔ NoneOf (run-order x y es out list)
   begun-none = begins-none x y es out list
 
-  -- where a run begins, number, turns, blocks, depth, every output byte and the list are those that the published rules come to
+  -- where a run begins, number, turns, blocks, depth, holders, every output byte and the list are those that the published rules come to
   pub run-published : (p : Program) (rs : List Record) → begins x y es out list ≡ begun p rs
-      → {n t : ℕ} {rs′ : List Record} → Comes p rs es n t rs′ → Answered x y es out list p n t rs′
+      → {n t k : ℕ} {rs′ : List Record} → Comes p rs es n t k rs′ → Answered x y es out list p n t k rs′
   run-published p rs e c = comes-answered x y es out list p rs e c
 
   -- and they come to a number
   pub run-comes : (p : Program) (rs : List Record) → begins x y es out list ≡ begun p rs
-      → (n : ℕ) × (t : ℕ) × (rs′ : List Record) × Comes p rs es n t rs′
+      → (n : ℕ) × (t : ℕ) × (k : ℕ) × (rs′ : List Record) × Comes p rs es n t k rs′
   run-comes p rs e = let r = begun-exactly p rs .0 e in demand3-comes p rs es (demand3 (ready-accepted r) rs (r .table .right) es)
 
   -- the table written is one that a run may begin with: its image fits its blocks and is accepted as that table
-  pub written-accepted : (p : Program) (rs : List Record) → Runnable x y es out list p rs → {n t : ℕ} {rs′ : List Record} → Comes p rs es n t rs′
+  pub written-accepted : (p : Program) (rs : List Record) → Runnable x y es out list p rs
+      → {n t k : ℕ} {rs′ : List Record} → Comes p rs es n t k rs′
       → (pieces (length (enc-table rs′)) ≤ table-blocks) × (TableAccepted p (image (enc-table rs′)) rs′)
   written-accepted p rs r c = comes-written (ready-accepted r) rs (r .table .right) c
 
@@ -137,13 +139,21 @@ module _ (p : Program) (rs : List Record) (es : List ℕ) where
       → (z : Machine) × (fs : List ℕ) × (v : Visits p (begin p rs) es z fs) × (turns-of p v ≡ t) × (Represents z st)
   states-visited w = passes-visits p (begin p rs) (begin-represents p rs) w
 
-  -- it comes to the one number, turns and last table that they give
-  pub outcome-published : {n t : ℕ} {z : Machine} → run p (begin p rs) es ≡ stopped n t z → Comes p rs es n t (table-of p z)
+  -- it comes to the one number, turns, holders and last table that they give
+  pub outcome-published : {n t : ℕ} {z : Machine} → run p (begin p rs) es ≡ stopped n t z → Comes p rs es n t (length (holders z)) (table-of p z)
   outcome-published = outcome-exact p rs es
 
-  pub outcome-one : {n n′ t t′ : ℕ} {rs′ rs″ : List Record} → Comes p rs es n t rs′ → Comes p rs es n′ t′ rs″
-      → (n ≡ n′) × (t ≡ t′) × (rs′ ≡ rs″)
+  pub outcome-one : {n n′ t t′ k k′ : ℕ} {rs′ rs″ : List Record} → Comes p rs es n t k rs′ → Comes p rs es n′ t′ k′ rs″
+      → (n ≡ n′) × (t ≡ t′) × (k ≡ k′) × (rs′ ≡ rs″)
   outcome-one = comes-unique p rs es
+
+  -- "the count of instances holding commands before each turn" (02, 'Holders kept as a number'), where a run ends: 0 exactly at 0,
+  pub holders-ended : {n t k : ℕ} {rs′ : List Record} → Comes p rs es n t k rs′ → (n ≡ ended) ↔ (k ≡ 0)
+  holders-ended = comes-holding p rs es
+
+  -- and so at least 1 at 33, 34 and 35
+  pub holders-stopped : {n t k : ℕ} {rs′ : List Record} → Comes p rs es n t k rs′ → (n ≡ out-of-turns) ⊎ (n ≡ full) ⊎ (n ≡ exceeded) → 1 ≤ k
+  holders-stopped = comes-stopped p rs es
 
 module _ (p : Program) where
   -- "A started step takes at most the sum of its command counts, each over its instances, in turns": wherever a run goes behind a move of

@@ -226,7 +226,7 @@ module _ (p : Program) where
 
   -- a run is jammed exactly where the published rules come to nothing
   pub jammed-exactly : (rs : List Record) (es : List ℕ)
-      → (run p (begin p rs) es ≡ jammed) ↔ ((n t : ℕ) (rs′ : List Record) → Comes p rs es n t rs′ → ⊥)
+      → (run p (begin p rs) es ≡ jammed) ↔ ((n t k : ℕ) (rs′ : List Record) → Comes p rs es n t k rs′ → ⊥)
   jammed-exactly rs es = jammed-exact p rs es
 
   -- a command is taken for each byte at most, and at 33 for every one

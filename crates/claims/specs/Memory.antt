@@ -4,30 +4,39 @@ use Prim.Native.Nat.{ℕ, _*_}
 use mathlib.Core.Path.{_≡_}
 use mathlib.Core.Bool.{Bool, _&&_}
 use mathlib.Core.List.{List, map}
-use lib.ListN.{drop}
+use lib.ListN.{length, drop}
 use Rattle.program.specs.Tree.{Program}
 use Rattle.machine.specs.Published.{Sched}
 use Rattle.machine.specs.Machine.{Machine}
 use Rattle.run.specs.Run.{Outcome.stopped, run}
+use Rattle.run.specs.Holders.{holders}
 use Rattle.run.specs.Visits.{Visits}
 use Rattle.layout.specs.State.{State, bit}
 use Rattle.memory.specs.Plan.{At}
 use Rattle.memory.specs.Laws.PlanUnique.{at-unique}
 use Rattle.memory.specs.Stands.{Stands, bits}
 use Rattle.memory.specs.Laws.EntriesLaws.{entry-times, bits-times}
-use Rattle.interpreter.specs.Running.{cleared, Running, Ended}
+use Rattle.interpreter.specs.TurnLaws.{held-count}
+use Rattle.interpreter.specs.Running.{cleared, Moving, Running, Ended}
 use Rattle.claims.specs.MemoryLaws.{running-visited, ended-visited}
 
 module _ (p : Program) (counts list items spans : List ℕ) (m : Machine) {es : List ℕ} {z : State} where
-  -- after i turns and the schedule moves behind them: `Running` is the invariant of the loop over the turn bytes
-  pub memory-visited : {i n : ℕ} → Running p counts list items spans m es i z n
-      → (m′ : Machine) × (Stands list (At items) m′ (cleared z)) × (Visits p m es m′ (drop i es))
+  -- after i turns and the schedule moves behind them: `Running` is the invariant of the loop over the turn bytes. The number of holders that the
+  -- machine keeps is the one counted from its instances (02, 'Holders kept as a number')
+  pub memory-visited : {i : ℕ} → Running p counts list items spans m es i z
+      → (m′ : Machine) × (Stands list (At items) m′ (cleared z)) × (z .machine .holding ≡ length (holders m′)) × (Visits p m es m′ (drop i es))
   memory-visited r = running-visited p counts list items spans m r
 
   -- after the whole run: `Ended` is the loop's contract
   pub memory-last : {number taken : ℕ} → Ended p counts list items spans m es number taken z
-      → (m′ : Machine) × (Stands list (At items) m′ (cleared z)) × (Visits p m es m′ (drop taken es)) × (run p m es ≡ stopped number taken m′)
+      → (m′ : Machine) × (Stands list (At items) m′ (cleared z)) × (z .machine .holding ≡ length (holders m′)) × (Visits p m es m′ (drop taken es))
+      × (run p m es ≡ stopped number taken m′)
   memory-last r = ended-visited p counts list items spans m r
+
+-- so it is behind every move of the schedule: `Moving` is the invariant of the loop over the moves
+pub memory-moved : (p : Program) (counts list items spans : List ℕ) (m : Machine) {z : State} → Moving p counts list items spans m z
+    → (m′ : Machine) × (Stands list (At items) m′ z) × (z .machine .holding ≡ length (holders m′)) × ((es : List ℕ) → Visits p m es m′ es)
+memory-moved p counts list items spans m (m′, r, v) = (m′, r .stands, held-count r, v)
 
 -- a place of the schedule laid flat stands for one schedule left
 pub place-one : (items : List ℕ) {a : ℕ} {r s : Sched} → At items a r → At items a s → r ≡ s

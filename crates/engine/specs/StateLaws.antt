@@ -1,11 +1,14 @@
--- The answer of a command makes the machine's next state (01, 'Table and turns').
-use Prim.Native.Nat.{ℕ, _%_}
-use mathlib.Core.Path.{_≡_, refl, _∙_}
+-- The answer of a command makes the machine's next state, with the number of its holders (01, 'Table and turns'; 02, 'Holders kept as a number').
+use Prim.Native.Nat.{ℕ, _-_, _%_, _<_, _≤_}
+use mathlib.Core.Path.{_≡_, refl, ap, _∙_}
 use mathlib.Core.List.{List}
-use Rattle.layout.specs.Layout.{operand}
+use lib.ListN.{getD}
+use borrow.Author.Tests.{lt-ltb, le-ltb}
+use Rattle.layout.specs.Layout.{operand, head, next-of, end-of, holds}
 use Rattle.layout.specs.declared.Numbers.{Numbers}
-use Rattle.layout.specs.State.{state-of}
-use Rattle.memory.specs.Act.{next-word, perform, act}
+use Rattle.layout.specs.State.{state-of, set-holding}
+use Rattle.memory.specs.Choose.{fewer}
+use Rattle.memory.specs.Act.{next-word, perform, counted, act}
 use Rattle.execute_stack.specs.declared.Acted.{Acted}
 use Rattle.execute_stack.specs.Answers.{answering, DoesWith}
 
@@ -18,6 +21,18 @@ module _ (list counts h c : List ℕ) (l : ℕ) (m : Numbers) where
   pub acted : (r : Acted) {h′ c′ : List ℕ} {m′ : Numbers}
       → DoesWith (m .count) (λ z. perform counts l z (word % 256) word (operand word)) r h c h′ c′
       → ((x y : List ℕ) → state-of m′ x y ≡ answering r (state-of m x y))
-      → state-of m′ h′ c′ ≡ act list counts l (state-of m h c)
+      → {n : ℕ} → n ≡ fewer (holds h′ l) (m .holding)
+      → state-of (set-holding m′ n) h′ c′ ≡ act list counts l (state-of m h c)
   unfolding act
-  acted r {h′} {c′} d e = e h′ c′ ∙ d (state-of m h c) refl
+  acted r {h′} {c′} d e q = rw q (ap (counted l (state-of m h c)) (e h′ c′ ∙ d (state-of m h c) refl))
+
+-- The count behind a command of instance l ------------------------------------------
+
+module _ (heads : List ℕ) (l n : ℕ) where
+  pub actor-holds : getD heads (head l next-of) 0 < getD heads (head l end-of) 0 → n ≡ fewer (holds heads l) n
+  unfolding fewer
+  actor-holds h = rw (lt-ltb (getD heads (head l next-of) 0) (getD heads (head l end-of) 0) h)
+
+  pub actor-ended : getD heads (head l end-of) 0 ≤ getD heads (head l next-of) 0 → n - 1 ≡ fewer (holds heads l) n
+  unfolding fewer
+  actor-ended h = rw (le-ltb (getD heads (head l next-of) 0) (getD heads (head l end-of) 0) h)

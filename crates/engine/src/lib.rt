@@ -6,8 +6,11 @@ use scheduler::schedule::advance;
 ghost use mathlib.Core.Path.{_≡_};
 ghost use mathlib.Core.List.{List};
 ghost use Prim.Native.Nat.{ℕ, _^_, _<_};
+ghost use lib.ListN.{length};
+ghost use Rattle.layout.specs.Layout.{head, end-of, holds};
 ghost use Rattle.layout.specs.State.{state-of};
 ghost use Rattle.memory.specs.Act.{act};
+ghost use Rattle.memory.specs.Choose.{fewer};
 ghost use Rattle.memory.specs.Fit.{Fit};
 ghost use Rattle.memory.specs.Move.{move};
 ghost use Rattle.execute_stack.specs.Answers.{answering};
@@ -40,8 +43,20 @@ fn after(numbers: Numbers, acted: Acted) -> Numbers
     next
 }
 
+// How many hold commands behind a command of instance l, where n did before it: the others hold what they held.
+fn left_holding(heads: &[usize], l: usize, n: usize) -> usize
+    requires { ⌜ (head l end-of < length (now heads)) × (0 < n) ⌝ }
+    ensures { λ r. ⌜ r ≡ fewer (holds (now (heads .entry)) l) n ⌝ }
+{
+    let at = layout::HEAD_SIZE * l;
+    if heads[at + layout::NEXT] < heads[at + layout::END] {
+        return n;
+    }
+    n - 1
+}
+
 impl Machine {
-    // Instance l takes its next command.
+    // Instance l takes its next command, where some instance holds commands.
     pub fn command(
         mut self,
         list: &[u64],
@@ -51,12 +66,15 @@ impl Machine {
         l: usize,
     ) -> Machine
         requires { ⌜ Fit (now list) (now counts) l (state-of (self .numbers) (now heads) (now cells)) ⌝ }
+        requires { ⌜ 0 < self .numbers .holding ⌝ }
         ensures { λ r. ⌜ state-of (r .numbers) (now (heads .exit)) (now (cells .exit)) ≡ act (now (list .entry)) (now (counts .entry)) l (state-of (self .numbers) (now (heads .entry)) (now (cells .entry))) ⌝ }
     {
         let at = heads[layout::HEAD_SIZE * l + layout::NEXT];
         let numbers = self.numbers;
         let acted = perform(counts, heads, cells, l, numbers.count, list[at]);
-        self.numbers = after(numbers, acted);
+        let mut next = after(numbers, acted);
+        next.holding = left_holding(heads, l, numbers.holding);
+        self.numbers = next;
         self
     }
 

@@ -15,7 +15,7 @@ use Rattle.run.specs.Turns.{labels-from}
 use Rattle.run.specs.Holders.{holders, holds-code}
 use Rattle.sound.specs.Laws.ElemLaws.{none-some}
 use Rattle.layout.specs.State.{bit}
-use Rattle.interpreter.specs.Counting.{fewer}
+use Rattle.memory.specs.Choose.{fewer}
 use Rattle.interpreter.specs.FlagLaws.{flag, flags, Idle, Flagged, flags-behind}
 
 -- how many are true

@@ -24,17 +24,20 @@ use Rattle.holders.specs.RecordsLaws.{picked-in}
 use Rattle.engine.specs.declared.Machine.{Machine as Engine}
 use Rattle.interpreter.specs.declared.turns.Going.{Going}
 use Rattle.interpreter.specs.Ready.{Ready}
-use Rattle.interpreter.specs.Counting.{fewer}
-use Rattle.interpreter.specs.Running.{busy, Turned, Turned.turned, Turned.failed, Reached, Begun, Gone, Come}
-use Rattle.interpreter.specs.TurnLaws.{picked-fits, turned-by, counted}
+use Rattle.interpreter.specs.Running.{Turned, Turned.turned, Turned.failed, Begun, Gone, Come}
+use Rattle.interpreter.specs.TurnLaws.{picked-fits, turned-by}
 use Rattle.interpreter.specs.RunningLaws.{number-some, ends-lasting, ends-failed, taken-turn, runs-held}
 use Rattle.interpreter.specs.RecordLaws.{records-behind}
 use Rattle.interpreter.specs.Going.{rests, waits, going-at, behind, Takes, Due, memory-of, Turning, Went, Passes}
 
 -- The cases of a definition ----------------------------------------------------------
 
-module _ (es : List ℕ) (m : Engine) (n i : ℕ) (a : Record) where
-  pub at-nobody : n ≡ 0 → going-at es m n i a ≡ rests m n i a (m .numbers .number)
+module _ (es : List ℕ) (m : Engine) (i : ℕ) (a : Record) where
+  -- how many hold commands
+  abbrev n : ℕ
+  n = m .numbers .holding
+
+  pub at-nobody : n ≡ 0 → going-at es m i a ≡ rests m i a (m .numbers .number)
   unfolding going-at
   at-nobody h = rw (eq-eqb n 0 h, going-at)
 
@@ -42,19 +45,19 @@ module _ (es : List ℕ) (m : Engine) (n i : ℕ) (a : Record) where
     some : n ≡ 0 → ⊥
     some e = omega arith
 
-    pub at-last : length es ≤ i → going-at es m n i a ≡ rests m n i a out-of-turns
+    pub at-last : length es ≤ i → going-at es m i a ≡ rests m i a out-of-turns
     unfolding going-at
     at-last k = rw (ne-eqb n 0 some, going-at, le-leb (length es) i k)
 
-    pub at-turn : i < length es → going-at es m n i a ≡ waits m n i a (getD es i 0 % n)
+    pub at-turn : i < length es → going-at es m i a ≡ waits m i a (getD es i 0 % n)
     unfolding going-at
     at-turn k = rw (ne-eqb n 0 some, going-at, lt-leb (length es) i k)
 
-  -- the turns taken stay as they are
-  pub going-taken : going-at es m n i a .taken ≡ i
+  -- the turns taken stay as they are, and so does the machine
+  pub going-taken : going-at es m i a .taken ≡ i
   going-taken = go (eqb n 0) refl (leb (length es) i) refl
     where
-      go : (t : Bool) → eqb n 0 ≡ t → (u : Bool) → leb (length es) i ≡ u → going-at es m n i a .taken ≡ i
+      go : (t : Bool) → eqb n 0 ≡ t → (u : Bool) → leb (length es) i ≡ u → going-at es m i a .taken ≡ i
       go true t u v = ap (λ (x : Going). x .taken) (at-nobody (eqb-true n 0 t))
       go false t true v =
           let e = eqb-false n 0 t in
@@ -64,11 +67,11 @@ module _ (es : List ℕ) (m : Engine) (n i : ℕ) (a : Record) where
           ap (λ (x : Going). x .taken) (at-turn (omega arith) (leb-false (length es) i v))
 
 module _ (es : List ℕ) (s : Going) (m : Engine) (t : Bool) where
-  pub behind-refused : (m .numbers .number ≡ 0 → ⊥) → behind es s m t ≡ rests m (s .holding) (s .taken) (s .actor) (m .numbers .number)
+  pub behind-refused : (m .numbers .number ≡ 0 → ⊥) → behind es s m t ≡ rests m (s .taken) (s .actor) (m .numbers .number)
   unfolding behind
   behind-refused c = rw (ne-eqb (m .numbers .number) 0 c, behind)
 
-  pub behind-taken : m .numbers .number ≡ 0 → behind es s m t ≡ going-at es m (fewer t (s .holding)) (s .taken + 1) (record { holds = t })
+  pub behind-taken : m .numbers .number ≡ 0 → behind es s m t ≡ going-at es m (s .taken + 1) (record { holds = t })
   unfolding behind
   behind-taken c = rw (eq-eqb (m .numbers .number) 0 c, behind)
 
@@ -77,10 +80,9 @@ module _ (es : List ℕ) (s : Going) (m : Engine) (t : Bool) where
 -- memory y behind a command of instance l on z, with the records rs before it
 pub record Behind (counts list items spans : List ℕ) (l : ℕ) (z y : State) (rs : List Record) : Type 0 where
   pub begun : Begun counts list items spans y
-  pub counted : fewer (holds (y .heads) l) (busy z) ≡ busy y
   pub recorded : Recorded (y .heads) (y .machine .count) (set rs l (record { holds = holds (y .heads) l }))
 
-module _ {counts list items spans : List ℕ} {z : State} (g : Begun counts list items spans z) (b : 0 < busy z) (e : ℕ) {l : ℕ}
+module _ {counts list items spans : List ℕ} {z : State} (g : Begun counts list items spans z) (b : 0 < z .machine .holding) (e : ℕ) {l : ℕ}
     (q : l ≡ picked (z .heads) (z .machine .count) e) where
   pub begun-fits : Fit list counts l z
   begun-fits = rw q (picked-fits (g .ready) b e)
@@ -94,7 +96,6 @@ module _ {counts list items spans : List ℕ} {z : State} (g : Begun counts list
       go : Turned (g .program) counts list items spans (g .machine) e z y → Behind counts list items spans l z y rs
       go (turned {m′ = m′} r′ u v) = record {
         begun = record { program = g .program; machine = m′; ready = r′ };
-        counted = rw q (sym (counted (g .ready) b e r′ u));
         recorded =
             records-behind (g .ready) r′ l (ap (λ (x : ℕ). command (g .program) x (g .machine)) (q ∙ picks (g .machine) (g .ready .stands) e) ∙ u)
             (begun-fits .chosen) f;
@@ -120,9 +121,9 @@ pub record Kept (list counts es : List ℕ) (s₀ : Going) (h₀ c₀ : List ℕ
   pub since : s₀ .taken ≤ s .taken
   pub within : s .taken ≤ length es
   pub more : s .due ≡ false → s .number ≡ 0 → s₀ .taken < s .taken
-  pub gone : s .due ≡ true → (items spans : List ℕ) (z : State) → Gone counts list items spans es z (s₀ .taken) (memory-of s₀ h₀ c₀) (s₀ .holding)
-      → Gone counts list items spans es z (s .taken) (memory-of s h c) (s .holding)
-  pub went : s .due ≡ false → (items spans : List ℕ) (z : State) → Gone counts list items spans es z (s₀ .taken) (memory-of s₀ h₀ c₀) (s₀ .holding)
+  pub gone : s .due ≡ true → (items spans : List ℕ) (z : State) → Gone counts list items spans es z (s₀ .taken) (memory-of s₀ h₀ c₀)
+      → Gone counts list items spans es z (s .taken) (memory-of s h c)
+  pub went : s .due ≡ false → (items spans : List ℕ) (z : State) → Gone counts list items spans es z (s₀ .taken) (memory-of s₀ h₀ c₀)
       → Went counts list items spans es z s (memory-of s h c)
 
 module _ {list counts es : List ℕ} {s₀ : Going} {h₀ c₀ : List ℕ} where
@@ -156,21 +157,19 @@ module _ {list counts es : List ℕ} {s₀ : Going} {h₀ c₀ : List ℕ} where
       abbrev byte : ℕ
       byte = getD es (s .taken) 0
 
-      someone : 0 < busy z₀
-      someone = let a = t₀ .due .someone in let b = t₀ .counted in omega arith
-
       few : s .machine .numbers .count ≤ max-instances
       few = t₀ .begun .ready .stands .few
 
       -- it is the one that the byte picks
       is-picked : l ≡ picked h (s .machine .numbers .count) byte
       is-picked =
-          found ∙ ap (holder-in rs) (t₀ .due .picks ∙ ap (λ (n : ℕ). byte % n) (t₀ .counted))
-          ∙ sym (picked-in h (t₀ .recorded) few byte someone)
+          let kept = t₀ .begun .ready .kept in
+          found ∙ ap (holder-in rs) (t₀ .due .picks ∙ ap (λ (n : ℕ). byte % n) kept)
+          ∙ sym (picked-in h (t₀ .recorded) few byte (rw kept at (t₀ .due .someone)))
 
       -- what its turn needs
-      pub kept-asks : (Fit list counts l z₀) × (0 < s .holding) × (s .taken < length es)
-      kept-asks = (begun-fits (t₀ .begun) someone byte is-picked, t₀ .due .someone, t₀ .due .byte)
+      pub kept-asks : (Fit list counts l z₀) × (0 < s .machine .numbers .holding) × (s .taken < length es)
+      kept-asks = (begun-fits (t₀ .begun) (t₀ .due .someone) byte is-picked, t₀ .due .someone, t₀ .due .byte)
 
       pub kept-within : l < length rs
       kept-within = let a = kept-asks .0 .chosen in let b = t₀ .recorded .long in omega (arith, few)
@@ -187,11 +186,11 @@ module _ {list counts es : List ℕ} {s₀ : Going} {h₀ c₀ : List ℕ} where
         After r = Kept list counts es s₀ h₀ c₀ r (set rs l (r .actor)) h′ c′
 
         -- no turn is due behind it
-        rests-after : (n i : ℕ) (a : Record) (x : ℕ) → s₀ .taken ≤ i → i ≤ length es → (x ≡ 0 → s₀ .taken < i)
-            → ((items spans : List ℕ) (z : State) → Gone counts list items spans es z (s₀ .taken) (memory-of s₀ h₀ c₀) (s₀ .holding)
-            → Went counts list items spans es z (rests m n i a x) y₀)
-            → After (rests m n i a x)
-        rests-after n i a x since within more went = record {
+        rests-after : (i : ℕ) (a : Record) (x : ℕ) → s₀ .taken ≤ i → i ≤ length es → (x ≡ 0 → s₀ .taken < i)
+            → ((items spans : List ℕ) (z : State) → Gone counts list items spans es z (s₀ .taken) (memory-of s₀ h₀ c₀)
+            → Went counts list items spans es z (rests m i a x) y₀)
+            → After (rests m i a x)
+        rests-after i a x since within more went = record {
           ready = λ w. absurd (false≢true w);
           since = since;
           within = within;
@@ -201,9 +200,9 @@ module _ {list counts es : List ℕ} {s₀ : Going} {h₀ c₀ : List ℕ} where
         }
 
         -- it was refused
-        refused-after : (m .numbers .number ≡ 0 → ⊥) → After (rests m (s .holding) (s .taken) (s .actor) (m .numbers .number))
+        refused-after : (m .numbers .number ≡ 0 → ⊥) → After (rests m (s .taken) (s .actor) (m .numbers .number))
         refused-after e =
-            rests-after (s .holding) (s .taken) (s .actor) (m .numbers .number) (kept .since) (kept .within) (λ n. absurd (e n)) λ items spans z g. record {
+            rests-after (s .taken) (s .actor) (m .numbers .number) (kept .since) (kept .within) (λ n. absurd (e n)) λ items spans z g. record {
               nobody = λ n. absurd (e n);
               over = λ n p x r. ends-failed (kept .gone d items spans z g p x r) (t₀ .due .someone) (t₀ .due .byte) acted e;
             }
@@ -211,19 +210,17 @@ module _ {list counts es : List ℕ} {s₀ : Going} {h₀ c₀ : List ℕ} where
         -- or taken
         module _ (e : m .numbers .number ≡ 0) where
           abbrev n₀ : ℕ
-          n₀ = fewer (holds h′ l) (s .holding)
+          n₀ = m .numbers .holding
 
           abbrev a₀ : Record
           a₀ = record { holds = holds h′ l }
 
-          come : (items spans : List ℕ) (z : State) → Gone counts list items spans es z (s₀ .taken) (memory-of s₀ h₀ c₀) (s₀ .holding)
-              → Come counts list items spans es z (s .taken + 1) y₀ n₀
-          come items spans z g p x r =
-              subst (λ (k : ℕ). Reached p counts list items spans x es (s .taken + 1) y₀ (fewer (holds h′ k) (s .holding))) (sym is-picked)
-              (taken-turn (kept .gone d items spans z g p x r) (t₀ .due .someone) (t₀ .due .byte) acted e)
+          come : (items spans : List ℕ) (z : State) → Gone counts list items spans es z (s₀ .taken) (memory-of s₀ h₀ c₀)
+              → Come counts list items spans es z (s .taken + 1) y₀
+          come items spans z g p x r = taken-turn (kept .gone d items spans z g p x r) (t₀ .due .someone) (t₀ .due .byte) acted e
 
           behind-it : Behind counts list (t₀ .items) (t₀ .spans) l z₀ y₀ rs
-          behind-it = begun-behind (t₀ .begun) someone byte is-picked a e (t₀ .recorded)
+          behind-it = begun-behind (t₀ .begun) (t₀ .due .someone) byte is-picked a e (t₀ .recorded)
 
           later : s₀ .taken < s .taken + 1
           later = let b = kept .since in omega arith
@@ -232,24 +229,24 @@ module _ {list counts es : List ℕ} {s₀ : Going} {h₀ c₀ : List ℕ} where
           bytes = let b = t₀ .due .byte in omega arith
 
           -- nobody is left
-          nobody-after : n₀ ≡ 0 → After (rests m n₀ (s .taken + 1) a₀ (m .numbers .number))
+          nobody-after : n₀ ≡ 0 → After (rests m (s .taken + 1) a₀ (m .numbers .number))
           nobody-after n =
-              rests-after n₀ (s .taken + 1) a₀ (m .numbers .number) (omega (arith, later)) bytes (λ x. later) λ items spans z g. record {
+              rests-after (s .taken + 1) a₀ (m .numbers .number) (omega (arith, later)) bytes (λ x. later) λ items spans z g. record {
                 nobody = λ x. (n, come items spans z g);
                 over = λ x. absurd (x e);
               }
 
           module _ (n : 0 < n₀) where
             -- no byte is
-            last-after : length es ≤ s .taken + 1 → After (rests m n₀ (s .taken + 1) a₀ out-of-turns)
+            last-after : length es ≤ s .taken + 1 → After (rests m (s .taken + 1) a₀ out-of-turns)
             last-after q =
-                rests-after n₀ (s .taken + 1) a₀ out-of-turns (omega (arith, later)) bytes (λ x. later) λ items spans z g. record {
+                rests-after (s .taken + 1) a₀ out-of-turns (omega (arith, later)) bytes (λ x. later) λ items spans z g. record {
                   nobody = λ x. absurd (omega arith);
                   over = λ x p u r. ends-lasting (runs-held (come items spans z g p u r) n) n (omega (arith, bytes));
                 }
 
             -- the next turn is due
-            turn-after : s .taken + 1 < length es → After (waits m n₀ (s .taken + 1) a₀ (getD es (s .taken + 1) 0 % n₀))
+            turn-after : s .taken + 1 < length es → After (waits m (s .taken + 1) a₀ (getD es (s .taken + 1) 0 % n₀))
             turn-after q =
                 let b = kept .since in
                 record {
@@ -257,7 +254,6 @@ module _ {list counts es : List ℕ} {s₀ : Going} {h₀ c₀ : List ℕ} where
                     items = t₀ .items;
                     spans = t₀ .spans;
                     begun = behind-it .begun;
-                    counted = ap (fewer (holds h′ l)) (t₀ .counted) ∙ behind-it .counted;
                     due = record { now = refl; someone = n; byte = q; picks = refl };
                     recorded = behind-it .recorded;
                   };
@@ -268,24 +264,24 @@ module _ {list counts es : List ℕ} {s₀ : Going} {h₀ c₀ : List ℕ} where
                   went = λ w. absurd (true≢false w);
                 }
 
-          taken-after : After (going-at es m n₀ (s .taken + 1) a₀)
+          taken-after : After (going-at es m (s .taken + 1) a₀)
           taken-after = go (eqb n₀ 0) refl (leb (length es) (s .taken + 1)) refl
             where
               positive : eqb n₀ 0 ≡ false → 0 < n₀
               positive t = let w = eqb-false n₀ 0 t in omega arith
 
-              go : (t : Bool) → eqb n₀ 0 ≡ t → (u : Bool) → leb (length es) (s .taken + 1) ≡ u → After (going-at es m n₀ (s .taken + 1) a₀)
+              go : (t : Bool) → eqb n₀ 0 ≡ t → (u : Bool) → leb (length es) (s .taken + 1) ≡ u → After (going-at es m (s .taken + 1) a₀)
               go true t u v =
                   let n = eqb-true n₀ 0 t in
-                  subst After (sym (at-nobody es m n₀ (s .taken + 1) a₀ n)) (nobody-after n)
+                  subst After (sym (at-nobody es m (s .taken + 1) a₀ n)) (nobody-after n)
               go false t true v =
                   let n = positive t in
                   let q = leb-true (length es) (s .taken + 1) v in
-                  subst After (sym (at-last es m n₀ (s .taken + 1) a₀ n q)) (last-after n q)
+                  subst After (sym (at-last es m (s .taken + 1) a₀ n q)) (last-after n q)
               go false t false v =
                   let n = positive t in
                   let q = leb-false (length es) (s .taken + 1) v in
-                  subst After (sym (at-turn es m n₀ (s .taken + 1) a₀ n q)) (turn-after n q)
+                  subst After (sym (at-turn es m (s .taken + 1) a₀ n q)) (turn-after n q)
 
       -- a turn more
       pub kept-more : {r : Going} {h′ c′ : List ℕ} → Takes list counts es l s h c r h′ c′ → Kept list counts es s₀ h₀ c₀ r (set rs l (r .actor)) h′ c′
@@ -306,8 +302,7 @@ module _ {list counts es : List ℕ} {s₀ : Going} {h₀ c₀ : List ℕ} where
           go true t =
               let e = eqb-true (k .machine .numbers .number) 0 t in
               let w = k .goes ∙ behind-taken es s (k .machine) (holds h′ l) e in
-              let q = ap (λ (x : Going). x .taken) w
-              ∙ going-taken es (k .machine) (fewer (holds h′ l) (s .holding)) (s .taken + 1) (record { holds = holds h′ l }) in
+              let q = ap (λ (x : Going). x .taken) w ∙ going-taken es (k .machine) (s .taken + 1) (record { holds = holds h′ l }) in
               fewer-left es r s d (t₀ .due .byte) (omega arith)
           go false t =
               let e = eqb-false (k .machine .numbers .number) 0 t in

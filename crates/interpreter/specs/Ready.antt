@@ -1,5 +1,5 @@
 -- What holds all through a run on lent memory (01, 'Table and turns'): what was prepared of an accepted program, and a machine with
--- the invariant, which memory holds.
+-- the invariant, which memory holds, and the number of its holders.
 use Prim.Native.Nat.{ℕ, _≤_}
 use mathlib.Core.List.{List}
 use lib.ListN.{length}
@@ -11,6 +11,7 @@ use Rattle.sound.specs.Tabled.{Tabled}
 use Rattle.layout.specs.State.{State}
 use Rattle.memory.specs.Frame.{Bounded}
 use Rattle.memory.specs.Plan.{At, Located}
+use Rattle.memory.specs.Choose.{Kept}
 use Rattle.memory.specs.Stands.{Stands}
 use Rattle.scheduler.specs.Ready.{spans-size}
 
@@ -27,3 +28,4 @@ pub record Ready (p : Program) (counts list items spans : List ℕ) (m : Machine
   pub good : Good p m
   pub tabled : Tabled p (m .instances)
   pub stands : Stands list (At items) m z
+  pub kept : Kept z

@@ -15,13 +15,8 @@ use Rattle.run.specs.Run.{Outcome.stopped, run}
 use Rattle.run.specs.Visits.{Visits}
 use Rattle.layout.specs.State.{State, refused, state-of}
 use Rattle.memory.specs.Act.{full, exceeded}
-use Rattle.memory.specs.Choose.{holding}
 use Rattle.layout.specs.declared.Numbers.{Numbers}
 use Rattle.interpreter.specs.Ready.{Ready}
-
--- how many hold commands
-abbrev pub busy : State → ℕ
-busy z = holding (z .heads) 0 (z .machine .count)
 
 -- the number taken out again
 abbrev pub cleared : State → State
@@ -39,23 +34,24 @@ module _ (p : Program) (counts list items spans : List ℕ) (m : Machine) where
   abbrev pub Moving : State → Type 0
   Moving z = (m′ : Machine) × (Ready p counts list items spans m′ z) × ((es : List ℕ) → Visits p m es m′ es)
 
-  -- memory after all moves of m that need no turn: n instances hold commands, or the run has ended
-  pub data Settles (z : State) (n : ℕ) : Type 0 where
-    held : {m′ : Machine} → Ready p counts list items spans m′ z → n ≡ busy z → 0 < n → ((es : List ℕ) → Visits p m es m′ es) → Settles z n
-    still : {m′ : Machine} → Ready p counts list items spans m′ z → n ≡ 0 → ((es : List ℕ) → Visits p m es m′ es)
+  -- memory after all moves of m that need no turn: some instance holds commands, or the run has ended
+  pub data Settles (z : State) : Type 0 where
+    held : {m′ : Machine} → Ready p counts list items spans m′ z → 0 < z .machine .holding → ((es : List ℕ) → Visits p m es m′ es) → Settles z
+    still : {m′ : Machine} → Ready p counts list items spans m′ z → z .machine .holding ≡ 0 → ((es : List ℕ) → Visits p m es m′ es)
         → ((es : List ℕ) → run p m′ es ≡ stopped ended 0 m′)
-        → Settles z n
+        → Settles z
 
   -- memory after i turns and the moves behind them: it holds a machine that the run passes through, at which the run goes on or is over
-  pub data Running (es : List ℕ) (i : ℕ) (z : State) (n : ℕ) : Type 0 where
-    going : {m′ : Machine} → Ready p counts list items spans m′ z → n ≡ busy z → 0 < n → Visits p m es m′ (drop i es) → Running es i z n
-    over : {m′ : Machine} → Ready p counts list items spans m′ z → n ≡ 0 → Visits p m es m′ (drop i es) → run p m es ≡ stopped ended i m′ → Running es i z n
+  pub data Running (es : List ℕ) (i : ℕ) (z : State) : Type 0 where
+    going : {m′ : Machine} → Ready p counts list items spans m′ z → 0 < z .machine .holding → Visits p m es m′ (drop i es) → Running es i z
+    over : {m′ : Machine} → Ready p counts list items spans m′ z → z .machine .holding ≡ 0 → Visits p m es m′ (drop i es)
+        → run p m es ≡ stopped ended i m′
+        → Running es i z
 
-  -- memory after i turns, before the schedule moves: it holds a machine that the run passes through, of which n instances hold commands
-  pub record Reached (es : List ℕ) (i : ℕ) (z : State) (n : ℕ) : Type 0 where
+  -- memory after i turns, before the schedule moves: it holds a machine that the run passes through
+  pub record Reached (es : List ℕ) (i : ℕ) (z : State) : Type 0 where
     pub machine : Machine
     pub ready : Ready p counts list items spans machine z
-    pub counted : n ≡ busy z
     pub visits : Visits p m es machine (drop i es)
 
   -- memory after the whole run
@@ -84,22 +80,22 @@ abbrev pub Led : List ℕ → List ℕ → State → State → Type 0
 Led items spans z y =
     (p : Program) (counts list : List ℕ) (m : Machine) → Ready p counts list items spans m z → Moving p counts list items spans m y
 
--- and where all of them lead, with n instances that hold commands
-abbrev pub Settling : List ℕ → List ℕ → State → State → ℕ → Type 0
-Settling items spans z y n =
-    (p : Program) (counts list : List ℕ) (m : Machine) → Ready p counts list items spans m z → Settles p counts list items spans m y n
+-- and where all of them lead
+abbrev pub Settling : List ℕ → List ℕ → State → State → Type 0
+Settling items spans z y =
+    (p : Program) (counts list : List ℕ) (m : Machine) → Ready p counts list items spans m z → Settles p counts list items spans m y
 
 -- what the code of the run promises, of every program and machine that the first memory is ready for: where the run ends
 abbrev pub Ending : List ℕ → List ℕ → List ℕ → List ℕ → List ℕ → State → ℕ → ℕ → State → Type 0
 Ending counts list items spans es z number taken y =
     (p : Program) (m : Machine) → Ready p counts list items spans m z → Ended p counts list items spans m es number taken y
 
--- where i turns and the moves behind them have led: y, with n instances that hold commands
-abbrev pub Gone : List ℕ → List ℕ → List ℕ → List ℕ → List ℕ → State → ℕ → State → ℕ → Type 0
-Gone counts list items spans es z i y n =
-    (p : Program) (m : Machine) → Ready p counts list items spans m z → Running p counts list items spans m es i y n
+-- where i turns and the moves behind them have led: y
+abbrev pub Gone : List ℕ → List ℕ → List ℕ → List ℕ → List ℕ → State → ℕ → State → Type 0
+Gone counts list items spans es z i y =
+    (p : Program) (m : Machine) → Ready p counts list items spans m z → Running p counts list items spans m es i y
 
 -- and where i turns have led without the moves behind them
-abbrev pub Come : List ℕ → List ℕ → List ℕ → List ℕ → List ℕ → State → ℕ → State → ℕ → Type 0
-Come counts list items spans es z i y n =
-    (p : Program) (m : Machine) → Ready p counts list items spans m z → Reached p counts list items spans m es i y n
+abbrev pub Come : List ℕ → List ℕ → List ℕ → List ℕ → List ℕ → State → ℕ → State → Type 0
+Come counts list items spans es z i y =
+    (p : Program) (m : Machine) → Ready p counts list items spans m z → Reached p counts list items spans m es i y

@@ -1,15 +1,13 @@
 -- The ways through the loop of moves (01, 'Table and turns'): the machine's numbers n₀ and its heads h₀ where the loop begins, n and h
 -- where it stands.
-use Prim.Native.Nat.{ℕ, _*_, _<_, _≤_}
-use mathlib.Core.Path.{_≡_, refl, sym, subst}
+use Prim.Native.Nat.{ℕ, _<_}
+use mathlib.Core.Path.{_≡_, sym, subst}
 use mathlib.Core.List.{List}
 use lib.ListN.{length, getD}
 use Rattle.machine.specs.Machine.{Machine}
-use Rattle.layout.specs.Layout.{head-size}
 use Rattle.layout.specs.State.{State, state-of}
 use Rattle.layout.specs.Codes.{end-code}
 use Rattle.memory.specs.Laws.PlanLaws.{at-within}
-use Rattle.memory.specs.Choose.{holding}
 use Rattle.memory.specs.Move.{move}
 use Rattle.scheduler.specs.Ready.{Movable}
 use Rattle.layout.specs.declared.Numbers.{Numbers}
@@ -17,7 +15,7 @@ use Rattle.interpreter.specs.Ready.{Ready}
 use Rattle.interpreter.specs.MovingLaws.{left}
 use Rattle.interpreter.specs.Running.{Standing, Led, Settling}
 use Rattle.interpreter.specs.TurnLaws.{movable, less}
-use Rattle.interpreter.specs.RunningLaws.{ready-rows, moves-none, moves-more, settles-held, settles-ended}
+use Rattle.interpreter.specs.RunningLaws.{moves-none, moves-more, settles-held, settles-ended}
 
 module _ {items spans h₀ : List ℕ} {n₀ : Numbers} where
   -- no move yet
@@ -27,12 +25,12 @@ module _ {items spans h₀ : List ℕ} {n₀ : Numbers} where
   module _ {h : List ℕ} {n : Numbers} (g : (cells : List ℕ) → Led items spans (state-of n₀ h₀ cells) (state-of n h cells)) where
     -- The ends of the loop ------------------------------------------------------------
 
-    pub led-held : (b : ℕ) → b ≡ holding h 0 (n .count) → 0 < b → (cells : List ℕ) → Settling items spans (state-of n₀ h₀ cells) (state-of n h cells) b
-    led-held b e k cells p counts list m r = settles-held (g cells p counts list m r) e k
+    pub led-held : 0 < n .holding → (cells : List ℕ) → Settling items spans (state-of n₀ h₀ cells) (state-of n h cells)
+    led-held k cells p counts list m r = settles-held (g cells p counts list m r) k
 
-    pub led-ended : holding h 0 (n .count) ≡ 0 → getD items (n .place) 0 ≡ end-code
-        → (cells : List ℕ) → Settling items spans (state-of n₀ h₀ cells) (state-of n h cells) 0
-    led-ended b e cells p counts list m r = settles-ended (g cells p counts list m r) (sym b) refl e
+    pub led-ended : n .holding ≡ 0 → getD items (n .place) 0 ≡ end-code
+        → (cells : List ℕ) → Settling items spans (state-of n₀ h₀ cells) (state-of n h cells)
+    led-ended b e cells p counts list m r = settles-ended (g cells p counts list m r) b e
 
     -- A move ------------------------------------------------------------------------
 
@@ -48,10 +46,6 @@ module _ {items spans h₀ : List ℕ} {n₀ : Numbers} where
       pub led-within : n .place < length items
       led-within = at-within items (led-ready .1 .stands .scheduled)
 
-      -- as many rows as there are instances
-      pub led-rows : head-size * n .count ≤ length h
-      led-rows = ready-rows (led-ready .1)
-
       module _ (e : getD items (n .place) 0 ≡ end-code → ⊥) where
         pub led-movable : Movable items spans h n
         led-movable = movable (led-ready .1) e
@@ -61,5 +55,5 @@ module _ {items spans h₀ : List ℕ} {n₀ : Numbers} where
           led-less =
               subst (λ (y : State). left items y < left items (state-of n h (s .cells))) (sym (a (s .cells))) (less (led-ready .1) e)
 
-          pub led-more : holding h 0 (n .count) ≡ 0 → (cells : List ℕ) → Led items spans (state-of n₀ h₀ cells) (state-of n′ h′ cells)
+          pub led-more : n .holding ≡ 0 → (cells : List ℕ) → Led items spans (state-of n₀ h₀ cells) (state-of n′ h′ cells)
           led-more b cells p counts list m r = rw (a cells) (moves-more (g cells p counts list m r) b e)

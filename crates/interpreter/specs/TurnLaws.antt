@@ -30,21 +30,22 @@ use Rattle.layout.specs.Codes.{end-code}
 use Rattle.memory.specs.Plan.{At}
 use Rattle.memory.specs.Laws.PlanLaws.{at-end-done}
 use Rattle.memory.specs.Frame.{After}
+use Rattle.memory.specs.Stands.{Stands}
 use Rattle.memory.specs.Fit.{Fit}
 use Rattle.memory.specs.Laws.FitLaws.{fits}
 use Rattle.memory.specs.Act.{act}
 use Rattle.memory.specs.Laws.Acts.{acts}
-use Rattle.memory.specs.Choose.{picked}
+use Rattle.memory.specs.Choose.{holding, fewer, picked}
 use Rattle.memory.specs.Laws.ChooseStands.{holds-same, holding-same, picks}
 use Rattle.memory.specs.Move.{move as move-on}
+use Rattle.memory.specs.Laws.MoveLaws.{move-kept}
 use Rattle.memory.specs.Laws.MoveStands.{Follows, moves}
 use Rattle.scheduler.specs.Ready.{Movable}
 use Rattle.scheduler.specs.ReadyLaws.{stands-movable}
 use Rattle.interpreter.specs.Ready.{Ready}
 use Rattle.interpreter.specs.MovingLaws.{left, move-less}
-use Rattle.interpreter.specs.Counting.{fewer}
 use Rattle.interpreter.specs.CountLaws.{holders-behind}
-use Rattle.interpreter.specs.Running.{busy, Moving, Turned, Turned.turned, Turned.failed}
+use Rattle.interpreter.specs.Running.{Moving, Turned, Turned.turned, Turned.failed}
 
 none-left : (l : List ℕ) → length l ≡ 0 → none-of l ≡ true
 unfolding none-of
@@ -56,20 +57,30 @@ unfolding none-of
 some-left [] e = absurd (omega arith)
 some-left (h ∷ hs) e = refl
 
-module _ {p : Program} {counts list items spans : List ℕ} {m : Machine} {z : State} (r : Ready p counts list items spans m z) where
-  -- memory says whether a move of the schedule is due
-  none-hold : busy z ≡ 0 → due m ≡ true
-  unfolding due
-  none-hold h = none-left (holders m) (sym (holding-same m (r .stands)) ∙ h)
+-- what a command makes of the number of holders
+act-counts : (list counts : List ℕ) (l : ℕ) (z : State)
+    → act list counts l z .machine .holding ≡ fewer (holds (act list counts l z .heads) l) (z .machine .holding)
+unfolding act
+act-counts list counts l z = refl
 
-  some-hold : 0 < busy z → due m ≡ false
+module _ {p : Program} {counts list items spans : List ℕ} {m : Machine} {z : State} (r : Ready p counts list items spans m z) where
+  -- the number that the machine keeps is that of its holders
+  pub held-count : z .machine .holding ≡ length (holders m)
+  held-count = r .kept ∙ holding-same m (r .stands)
+
+  -- so it says whether a move of the schedule is due
+  none-hold : z .machine .holding ≡ 0 → due m ≡ true
   unfolding due
-  some-hold b = some-left (holders m) (rw (holding-same m (r .stands)) at b)
+  none-hold h = none-left (holders m) (sym held-count ∙ h)
+
+  some-hold : 0 < z .machine .holding → due m ≡ false
+  unfolding due
+  some-hold b = some-left (holders m) (rw held-count at b)
 
   -- The schedule ------------------------------------------------------------------
 
   -- its end
-  pub ends : busy z ≡ 0 → getD items (z .machine .place) 0 ≡ end-code → (es : List ℕ) → run p m es ≡ stopped ended 0 m
+  pub ends : z .machine .holding ≡ 0 → getD items (z .machine .place) 0 ≡ end-code → (es : List ℕ) → run p m es ≡ stopped ended 0 m
   ends h e es = rests-run p (rests-ends (none-hold h) (at-end-done items (r .stands .scheduled) .0 e))
 
   module _ (e : getD items (z .machine .place) 0 ≡ end-code → ⊥) where
@@ -89,7 +100,7 @@ module _ {p : Program} {counts list items spans : List ℕ} {m : Machine} {z : S
     pub less : left items (move-on items spans z) < left items z
     less = move-less items spans z m (r .stands) (r .good .opened) not-done
 
-    module _ (h : busy z ≡ 0) where
+    module _ (h : z .machine .holding ≡ 0) where
       comes : (o : Moved) → move p m ≡ o → Follows list items (move-on items spans z) o → Moving p counts list items spans m (move-on items spans z)
       comes (next m′) q S =
           let s = acts-move (none-hold h) q in (
@@ -99,6 +110,7 @@ module _ {p : Program} {counts list items spans : List ℕ} {m : Machine} {z : S
               good = acts-good (r .prepared .firm) s (r .good);
               tabled = acts-tabled (r .prepared .firm) s (r .good) (r .tabled);
               stands = S;
+              kept = move-kept items spans z (r .kept);
             },
             λ es. (0, silent s here),
           )
@@ -112,7 +124,7 @@ module _ {p : Program} {counts list items spans : List ℕ} {m : Machine} {z : S
 
   -- Turns ---------------------------------------------------------------------------
 
-  module _ (b : 0 < busy z) where
+  module _ (b : 0 < z .machine .holding) where
     -- no byte is left
     pub lasts : run p m [] ≡ stopped out-of-turns 0 m
     lasts = rests-run p (rests-lasts (some-hold b))
@@ -124,10 +136,19 @@ module _ {p : Program} {counts list items spans : List ℕ} {m : Machine} {z : S
           let (i, n, c, a, d) = chosen-holds m e (some-hold b) in
           rw (picks m (r .stands) e) (fits (r .prepared .firm) (r .prepared .bounded) (r .good) list (At items) z (r .stands) (chosen (holders m) e) i a c n d)
 
+      -- as many hold commands behind it, or one fewer
+      counted : {m′ : Machine} {y : State} → Stands list (At items) m′ y → command p (chosen (holders m) e) m ≡ next m′
+          → holding (y .heads) 0 (y .machine .count) ≡ fewer (holds (y .heads) (chosen (holders m) e)) (holding (z .heads) 0 (z .machine .count))
+      counted {m′} {y} S c =
+          let (i, at, q) = holders-behind p (chosen (holders m) e) m c in
+          let w : holds (y .heads) (chosen (holders m) e) ≡ holds-code (i .code) = holds-same (S .each (chosen (holders m) e) i at) in
+          holding-same m′ S ∙ q ∙ (rw (w, holding-same m (r .stands)))
+
       takes : (i : Instance) → Kept p Refused (command p (chosen (holders m) e) m)
-          → (y : State) (o : Out) → command p (chosen (holders m) e) m ≡ o → After list (At items) z y o
+          → (y : State) → y .machine .holding ≡ fewer (holds (y .heads) (chosen (holders m) e)) (z .machine .holding)
+          → (o : Out) → command p (chosen (holders m) e) m ≡ o → After list (At items) z y o
           → Turned p counts list items spans m e z y
-      takes i k y (next m′) c S =
+      takes i k y q (next m′) c S =
           let s = acts-take {e = e} (some-hold b) c in
           turned
           (record {
@@ -135,12 +156,13 @@ module _ {p : Program} {counts list items spans : List ℕ} {m : Machine} {z : S
             good = acts-good (r .prepared .firm) s (r .good);
             tabled = acts-tabled (r .prepared .firm) s (r .good) (r .tabled);
             stands = S;
+            kept = q ∙ ap (fewer (holds (y .heads) (chosen (holders m) e))) (r .kept) ∙ sym (counted S c);
           })
           c
           (λ es. (1, reads (acts-take (some-hold b) c) here))
-      takes i k y (refused n) c S =
+      takes i k y q (refused n) c S =
           failed S (subst (Kept p Refused) c k) (λ es. rests-run p (rests-fails (some-hold b) c))
-      takes i k y stuck c S = absurd S
+      takes i k y q stuck c S = absurd S
 
       -- a turn
       pub turned-by : Turned p counts list items spans m e z (act list counts (picked (z .heads) (z .machine .count) e) z)
@@ -149,15 +171,7 @@ module _ {p : Program} {counts list items spans : List ℕ} {m : Machine} {z : S
           rw (picks m (r .stands) e)
           (takes i (command-kept (r .prepared .firm) (r .good) (chosen (holders m) e) i a n c d)
           (act list counts (chosen (holders m) e) z)
+          (act-counts list counts (chosen (holders m) e) z)
           (command p (chosen (holders m) e) m)
           refl
           (acts (r .prepared .firm) (r .prepared .bounded) (r .good) list (At items) z (r .stands) (chosen (holders m) e) i a c n d))
-
-      -- and as many hold commands behind it, or one fewer
-      pub counted : {m′ : Machine} {y : State} → Ready p counts list items spans m′ y → command p (chosen (holders m) e) m ≡ next m′
-          → busy y ≡ fewer (holds (y .heads) (picked (z .heads) (z .machine .count) e)) (busy z)
-      counted {m′} {y} r′ c =
-          let (i, at, q) = holders-behind p (chosen (holders m) e) m c in
-          let w : holds (y .heads) (picked (z .heads) (z .machine .count) e) ≡ holds-code (i .code) =
-          ap (holds (y .heads)) (picks m (r .stands) e) ∙ holds-same (r′ .stands .each (chosen (holders m) e) i at) in
-          holding-same m′ (r′ .stands) ∙ q ∙ (rw (w, holding-same m (r .stands)))

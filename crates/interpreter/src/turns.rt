@@ -4,15 +4,12 @@ use engine::Machine;
 use holders::Record;
 use holders::holder;
 use holders::records;
-use scheduler::count::holding;
 ghost use mathlib.Core.Path.{_≡_};
 ghost use mathlib.Core.Bool.{false};
 ghost use Prim.Native.Nat.{_+_, _<_};
 ghost use lib.ListN.{length};
-ghost use Rattle.layout.specs.Layout.{head, end-of, holds};
 ghost use Rattle.layout.specs.State.{state-of};
 ghost use Rattle.memory.specs.Fit.{Fit};
-ghost use Rattle.interpreter.specs.Counting.{fewer};
 ghost use Rattle.interpreter.specs.Going.{rests, going-at, memory-of, Takes, Turning, Passes};
 ghost use Rattle.interpreter.specs.Running.{Begun, Ending};
 
@@ -23,11 +20,10 @@ pub struct Ran {
     pub taken: usize,
 }
 
-// A run between two turns: its machine, how many instances hold commands, the turns taken, the number that it stops with, whether a turn
-// is due, which of the holders its byte picks, and the record of the instance that acted last.
+// A run between two turns: its machine, the turns taken, the number that it stops with, whether a turn is due, which of the holders its
+// byte picks, and the record of the instance that acted last.
 pub struct Going {
     pub machine: Machine,
-    pub holding: usize,
     pub taken: usize,
     pub number: u8,
     pub due: bool,
@@ -36,12 +32,11 @@ pub struct Going {
 }
 
 // No turn is due: nobody holds commands, or the run stops with a number.
-fn resting(machine: Machine, n: usize, taken: usize, actor: Record, number: u8) -> Going
-    ensures { λ r. ⌜ r ≡ rests machine n taken actor number ⌝ }
+fn resting(machine: Machine, taken: usize, actor: Record, number: u8) -> Going
+    ensures { λ r. ⌜ r ≡ rests machine taken actor number ⌝ }
 {
     Going {
         machine,
-        holding: n,
         taken,
         number,
         due: false,
@@ -50,37 +45,26 @@ fn resting(machine: Machine, n: usize, taken: usize, actor: Record, number: u8) 
     }
 }
 
-// The run behind so many turns, where n instances hold commands: a turn is due, or nobody holds commands, or no byte is left.
-fn going_at(machine: Machine, n: usize, taken: usize, actor: Record, turns: &[u8]) -> Going
-    ensures { λ r. ⌜ r ≡ going-at (now (turns .entry)) machine n taken actor ⌝ }
+// The run behind so many turns: a turn is due, or nobody holds commands, or no byte is left.
+fn going_at(machine: Machine, taken: usize, actor: Record, turns: &[u8]) -> Going
+    ensures { λ r. ⌜ r ≡ going-at (now (turns .entry)) machine taken actor ⌝ }
 {
+    let n = machine.numbers.holding;
     if n == 0 {
-        return resting(machine, n, taken, actor, machine.numbers.number);
+        return resting(machine, taken, actor, machine.numbers.number);
     }
     if turns.len() <= taken {
-        return resting(machine, n, taken, actor, types::number::OUT_OF_TURNS);
+        return resting(machine, taken, actor, types::number::OUT_OF_TURNS);
     }
     let e = turns[taken] as usize;
     Going {
         machine,
-        holding: n,
         taken,
         number: 0,
         due: true,
         pick: e % n,
         actor,
     }
-}
-
-// How many hold commands behind a command of an instance that still holds some or not, where n did before it.
-fn left_holding(n: usize, holds: bool) -> usize
-    requires { ⌜ 0 < n ⌝ }
-    ensures { λ r. ⌜ r ≡ fewer holds n ⌝ }
-{
-    if holds {
-        return n;
-    }
-    n - 1
 }
 
 // A turn: instance l takes its next command. A refused one stops the run with its number.
@@ -93,18 +77,17 @@ fn turn(
     cells: &mut [u64],
     turns: &[u8],
 ) -> Going
-    requires { ⌜ Fit (now list) (now counts) l (memory-of s (now heads) (now cells)) × (0 < s .holding) × (s .taken < length (now turns)) ⌝ }
+    requires { ⌜ Fit (now list) (now counts) l (memory-of s (now heads) (now cells)) × (0 < s .machine .numbers .holding) × (s .taken < length (now turns)) ⌝ }
     ensures { λ r. ⌜ Takes (now (list .entry)) (now (counts .entry)) (now (turns .entry)) l s (now (heads .entry)) (now (cells .entry)) r (now (heads .exit)) (now (cells .exit)) ⌝ }
 {
     let before = s.machine;
     let machine = before.command(list, counts, heads, cells, l);
     let number = machine.numbers.number;
     if number != 0 {
-        return resting(machine, s.holding, s.taken, s.actor, number);
+        return resting(machine, s.taken, s.actor, number);
     }
     let holds = layout::holds(heads, l);
-    let n = left_holding(s.holding, holds);
-    going_at(machine, n, s.taken + 1, Record { holds }, turns)
+    going_at(machine, s.taken + 1, Record { holds }, turns)
 }
 
 // The turns that are due: each byte's actor is searched for among the records, which this loop lends, and its record is written anew.
@@ -146,18 +129,15 @@ pub fn run(
     ensures { λ r. ⌜ Ending (now (counts .entry)) (now (list .entry)) (now (items .entry)) (now (spans .entry)) (now (turns .entry)) (state-of (machine .numbers) (now (heads .entry)) (now (cells .entry))) (r .number) (r .taken) (state-of (r .machine .numbers) (now (heads .exit)) (now (cells .exit))) ⌝ }
 {
     let nobody = Record { holds: false };
-    let first = holding(heads, machine.numbers.count);
-    let begun = settle(machine, first, items, spans, heads);
-    let settled = begun.machine;
-    let mut next = going_at(settled, begun.holding, 0, nobody, turns);
+    let settled = settle(machine, items, spans, heads);
+    let mut next = going_at(settled, 0, nobody, turns);
     while next.due {
         let rs = records(heads, next.machine.numbers.count);
         next = take_turns(next, rs, list, counts, heads, cells, turns);
         if next.number == 0 {
             let still = next.machine;
-            let moved = settle(still, 0, items, spans, heads);
-            let settled = moved.machine;
-            next = going_at(settled, moved.holding, next.taken, nobody, turns);
+            let moved = settle(still, items, spans, heads);
+            next = going_at(moved, next.taken, nobody, turns);
         }
     }
     let last = next.machine;

@@ -11,23 +11,26 @@ use Rattle.layout.specs.Layout.{head}
 
 -- a machine of n instances at the beginning of its schedule
 abbrev pub fresh : ℕ → Numbers
-fresh n = record { count = n; place = 0; fixes = 0; stable = 0; number = 0 }
+fresh n = record { count = n; place = 0; fixes = 0; stable = 0; number = 0; holding = 0 }
 
 module _ (m : Numbers) (x : ℕ) where
   abbrev pub set-count : Numbers
-  set-count = record { count = x; place = m .place; fixes = m .fixes; stable = m .stable; number = m .number }
+  set-count = record { count = x; place = m .place; fixes = m .fixes; stable = m .stable; number = m .number; holding = m .holding }
 
   abbrev pub set-place : Numbers
-  set-place = record { count = m .count; place = x; fixes = m .fixes; stable = m .stable; number = m .number }
+  set-place = record { count = m .count; place = x; fixes = m .fixes; stable = m .stable; number = m .number; holding = m .holding }
 
   abbrev pub set-fixes : Numbers
-  set-fixes = record { count = m .count; place = m .place; fixes = x; stable = m .stable; number = m .number }
+  set-fixes = record { count = m .count; place = m .place; fixes = x; stable = m .stable; number = m .number; holding = m .holding }
 
   abbrev pub set-stable : Numbers
-  set-stable = record { count = m .count; place = m .place; fixes = m .fixes; stable = x; number = m .number }
+  set-stable = record { count = m .count; place = m .place; fixes = m .fixes; stable = x; number = m .number; holding = m .holding }
 
   abbrev pub set-number : Numbers
-  set-number = record { count = m .count; place = m .place; fixes = m .fixes; stable = m .stable; number = x }
+  set-number = record { count = m .count; place = m .place; fixes = m .fixes; stable = m .stable; number = x; holding = m .holding }
+
+  abbrev pub set-holding : Numbers
+  set-holding = record { count = m .count; place = m .place; fixes = m .fixes; stable = m .stable; number = m .number; holding = x }
 
 -- place, open Fixes and their entries
 abbrev pub placed : Numbers → ℕ → ℕ → ℕ → Numbers
@@ -67,6 +70,10 @@ times t z = with-machine z (set-stable (z .machine) (z .machine .stable * bit t)
 -- all stability entries are false
 abbrev pub unstable : State → State
 unstable z = with-machine z (set-stable (z .machine) 0)
+
+-- so many instances hold commands
+abbrev pub with-holding : State → ℕ → State
+with-holding z n = with-machine z (set-holding (z .machine) n)
 
 abbrev pub refused : ℕ → State → State
 refused n z = with-machine z (set-number (z .machine) n)

@@ -30,13 +30,14 @@ pub const HEADS: usize = HEAD_SIZE * types::MAX_INSTANCES;
 pub const CELLS: usize = ROW_SIZE * types::MAX_INSTANCES;
 
 // The machine's numbers: instances so far, the place in the schedule, open Fixes, their stability entries as bits with the top one lowest,
-// and 0 or the number of a refusal.
+// 0 or the number of a refusal, and how many instances hold commands (02, 'Holders kept as a number').
 pub struct Numbers {
     pub count: usize,
     pub place: usize,
     pub fixes: usize,
     pub stable: usize,
     pub number: u8,
+    pub holding: usize,
 }
 
 // Those of a machine of so many instances at the beginning of its schedule.
@@ -49,6 +50,7 @@ pub fn fresh(count: usize) -> Numbers
         fixes: 0,
         stable: 0,
         number: 0,
+        holding: 0,
     }
 }
 

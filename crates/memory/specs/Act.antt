@@ -11,8 +11,10 @@ use Rattle.operators.specs.declared.Answered.{Answered}
 use Rattle.operators.specs.declared.Answered.the-variants.{Value, Outside, Unfit}
 use Rattle.operators.specs.Words.{apply-word}
 pub use Rattle.machine.specs.Stops.{full, exceeded}
-use Rattle.layout.specs.Layout.{head-size, struct-of, height-of, next-of, row-size, variable, stacked, cell, type-byte, operand, label-cell, new-head, going}
-use Rattle.layout.specs.State.{State, with-heads, with-cells, times, unstable, refused, with-count, of-head, of-cell}
+use Rattle.layout.specs.Layout.{head-size, struct-of, height-of, next-of, row-size, variable, stacked, cell}
+use Rattle.layout.specs.Layout.{type-byte, operand, label-cell, new-head, going, holds}
+use Rattle.layout.specs.State.{State, with-heads, with-cells, times, unstable, refused, with-count, with-holding, of-head, of-cell}
+use Rattle.memory.specs.Choose.{fewer}
 
 -- the types of truths
 abbrev pub bool-byte : ℕ
@@ -125,6 +127,10 @@ module _ (counts : List ℕ) (l : ℕ) (z : State) where
 abbrev pub next-word : List ℕ → State → ℕ → ℕ
 next-word list z l = getD list (of-head z l next-of) 0
 
+-- behind a command of instance l as many hold commands as in z before it, or one fewer where it has none left (02, 'Holders kept as a number')
+abbrev pub counted : ℕ → State → State → State
+counted l z y = with-holding y (fewer (holds (y .heads) l) (z .machine .holding))
+
 -- instance l takes its next command
 unfoldable pub act : List ℕ → List ℕ → ℕ → State → State
-act list counts l z = perform counts l z (next-word list z l % 256) (next-word list z l) (operand (next-word list z l))
+act list counts l z = counted l z (perform counts l z (next-word list z l % 256) (next-word list z l) (operand (next-word list z l)))

@@ -1,14 +1,25 @@
 -- Which instances hold commands, and which of them a turn byte picks, on memory (01, 'Table and turns').
 use Prim.Native.Nat.{ℕ, zero, suc, _-_, _%_}
-use mathlib.Core.Bool.{true, false}
+use mathlib.Core.Path.{_≡_}
+use mathlib.Core.Bool.{Bool, true, false}
 use mathlib.Core.List.{List}
 use lib.Dec.{eqb}
 use Rattle.layout.specs.Layout.{holds}
+use Rattle.layout.specs.State.{State}
 
 -- how many of the n instances from l on hold commands
 unfoldable pub holding : List ℕ → ℕ → ℕ → ℕ
 holding heads l zero = 0
 holding heads l (suc n) = elim (holds heads l) [ true ↦ suc (holding heads (suc l) n) | false ↦ holding heads (suc l) n ]
+
+-- how many do behind a command, where n did before it, by whether its actor still does
+unfoldable pub fewer : Bool → ℕ → ℕ
+fewer true n = n
+fewer false n = n - 1
+
+-- the number of holders that the machine keeps is the one counted from its instances (02, 'Holders kept as a number')
+abbrev pub Kept : State → Type 0
+Kept z = z .machine .holding ≡ holding (z .heads) 0 (z .machine .count)
 
 -- the label of the r-th of them
 unfoldable pub holder : List ℕ → ℕ → ℕ → ℕ → ℕ

@@ -6,9 +6,10 @@ use lib.ListN.{getD}
 use lib.Dec.{eqb, ltb, leb}
 use Rattle.types.specs.Limits.{step-names}
 use Rattle.layout.specs.Layout.{head, struct-of, begun}
-use Rattle.layout.specs.State.{State, with-heads, moved}
+use Rattle.layout.specs.State.{State, with-heads, with-holding, moved}
 use Rattle.layout.specs.Codes.{fix-code, round-code}
 use Rattle.memory.specs.Plan.{from, to}
+use Rattle.memory.specs.Choose.{holding}
 
 -- whether the code c of a started step means struct k: any, or the one it names
 abbrev pub means : ℕ → ℕ → Bool
@@ -39,9 +40,11 @@ do-round t z =
       | false ↦ moved z t (z .machine .fixes) (suc (z .machine .stable))
     ]
 
+-- a step begins, and the instances that hold commands are counted anew
 unfoldable pub do-start : List ℕ → ℕ → State → State
 do-start spans c z =
-    with-heads (moved z (suc (z .machine .place)) (z .machine .fixes) (z .machine .stable)) (begin-all spans c (z .heads) 0 (z .machine .count))
+    let h = begin-all spans c (z .heads) 0 (z .machine .count) in
+    with-holding (with-heads (moved z (suc (z .machine .place)) (z .machine .fixes) (z .machine .stable)) h) (holding h 0 (z .machine .count))
 
 unfoldable pub move-by : List ℕ → ℕ → State → State
 move-by spans c z =

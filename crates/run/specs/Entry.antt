@@ -19,6 +19,7 @@ use Rattle.table.specs.TableReader.{TableAnswer, TableAnswer.table, TableAnswer
 use Rattle.machine.specs.Machine.{Machine}
 use Rattle.run.specs.Run.{Outcome, Outcome.stopped, Outcome.jammed, run}
 use Rattle.run.specs.Begin.{begin, table-of}
+use Rattle.run.specs.Holders.{holders}
 
 abbrev pub no-number : ℕ
 no-number = 255
@@ -56,31 +57,33 @@ begins x y es out list =
     (ltb (length out) (block-size * table-blocks) || ltb (length list) max-commands)
     (ltb max-turns (length es))
 
--- what a run answers: number, commands taken, blocks written, depth
+-- what a run answers: number, commands taken, blocks written, depth, and how many instances hold commands where it ends (02, 'Holders kept
+-- as a number')
 pub record Report : Type 0 where
   pub number : ℕ
   pub turns : ℕ
   pub blocks : ℕ
   pub depth : ℕ
+  pub holding : ℕ
 
-abbrev pub report : ℕ → ℕ → ℕ → ℕ → Report
-report n t b d = record { number = n; turns = t; blocks = b; depth = d }
+abbrev pub report : ℕ → ℕ → ℕ → ℕ → ℕ → Report
+report n t b d k = record { number = n; turns = t; blocks = b; depth = d; holding = k }
 
 -- the table as it stands, as a stream
 abbrev pub last-stream : Program → Machine → List ℕ
 last-stream p m = enc-table (table-of p m)
 
 unfoldable pub report-of : Program → Outcome → Report
-report-of p (stopped n t m) = report n t (pieces (length (last-stream p m))) (program-depth p)
+report-of p (stopped n t m) = report n t (pieces (length (last-stream p m))) (program-depth p) (length (holders m))
 -- no run of an accepted program comes to it (demand 3): a number that 01 does not use
-report-of p jammed = report no-number 0 0 0
+report-of p jammed = report no-number 0 0 0 0
 
 unfoldable pub output-of : Program → Outcome → List ℕ → List ℕ
 output-of p (stopped n t m) out = image (last-stream p m) ++ drop (block-size * pieces (length (last-stream p m))) out
 output-of p jammed out = out
 
 unfoldable pub run-report-by : Begun → List ℕ → Report
-run-report-by (not-begun n) es = report n 0 0 0
+run-report-by (not-begun n) es = report n 0 0 0 0
 run-report-by (begun p rs) es = report-of p (run p (begin p rs) es)
 
 unfoldable pub run-output-by : Begun → List ℕ → List ℕ → List ℕ

@@ -3,13 +3,14 @@
 use Prim.Native.Nat.{ℕ, suc}
 use mathlib.Core.Path.{_≡_}
 use mathlib.Core.List.{List, [], _∷_, _++_, map}
-use lib.ListN.{drop}
+use lib.ListN.{length, drop}
 use Rattle.types.specs.Types.{Ty}
 use Rattle.types.specs.Values.{Val, default}
 use Rattle.program.specs.Tree.{Program}
 use Rattle.commands.specs.Commands.{Coms.nil}
 use Rattle.table.specs.Table.{Record}
 use Rattle.machine.specs.Published.{Env.env, fresh-env, of-items, structs, Inst, Inst.inst, State, State.state}
+use Rattle.run.specs.Turns.{holders-of}
 use Rattle.run.specs.Runs.{Runs}
 
 -- ⟨k, ε, ε, ξ⟩ with parameters of these values
@@ -40,6 +41,10 @@ to-record (inst k c χ (env ps ls)) = record { struct = k; values = ps }
 unfoldable pub table-in : Program → State → List Record
 table-in p (state s σ b) = map to-record (drop (structs p) σ)
 
--- a run of a program on a table, with these bytes, comes to a number, after so many turns, with a last table
-pub data Comes (p : Program) (rs : List Record) (es : List ℕ) (n t : ℕ) (rs′ : List Record) : Type 0 where
-  comes : {st : State} → Runs p (initial p rs) es n t st → rs′ ≡ table-in p st → Comes p rs es n t rs′
+-- how many instances of a state hold commands
+abbrev pub holding-in : State → ℕ
+holding-in (state s σ b) = length (holders-of σ)
+
+-- a run of a program on a table, with these bytes, comes to a number, after so many turns, where k instances hold commands, with a last table
+pub data Comes (p : Program) (rs : List Record) (es : List ℕ) (n t k : ℕ) (rs′ : List Record) : Type 0 where
+  comes : {st : State} → Runs p (initial p rs) es n t st → k ≡ holding-in st → rs′ ≡ table-in p st → Comes p rs es n t k rs′

@@ -33,37 +33,37 @@ use Rattle.run.specs.Rows.Bench.{row, ok, zeros, of-P, two}
 unfoldable pub rows : List Row
 rows =
     -- the table as it stands, not as given, at 33 and at 35; 33 comes before what the next command would meet
-    row (P-with 1 twice) (two 5 0 7 1) (zeros 25) (ok 1 1 8 2) (summary 33 25 2 (two 5 0 12 1))
-    ∷ row (P-with 1 twice) (two 1 0 2147483646 1) (zeros 48) (ok 1 1 8 2) (summary 35 45 2 (two 1 0 2147483647 1))
-    ∷ of-P (two 1 0 2147483647 1) (zeros 21) 33 21 (two 1 0 2147483647 1)
+    row (P-with 1 twice) (two 5 0 7 1) (zeros 25) (ok 1 1 8 2) (summary 33 25 2 3 (two 5 0 12 1))
+    ∷ row (P-with 1 twice) (two 1 0 2147483646 1) (zeros 48) (ok 1 1 8 2) (summary 35 45 2 1 (two 1 0 2147483647 1))
+    ∷ of-P (two 1 0 2147483647 1) (zeros 21) 33 21 1 (two 1 0 2147483647 1)
     -- the schedule moves on behind the last byte
-    ∷ row (P-with 1 twice) (two 5 0 7 1) (zeros 24) (ok 1 1 8 2) (summary 33 24 2 (two 5 0 12 1))
-    ∷ row nothing empty [] (ok 1 1 0 0) (summary 0 0 0 empty)
+    ∷ row (P-with 1 twice) (two 5 0 7 1) (zeros 24) (ok 1 1 8 2) (summary 33 24 2 3 (two 5 0 12 1))
+    ∷ row nothing empty [] (ok 1 1 0 0) (summary 0 0 0 0 empty)
     -- bytes above the number of holders
-    ∷ of-P (two 5 2 7 1) (replicate 8 255 ++ replicate 8 3 ++ replicate 8 200) 0 24 (two 17 2 12 1)
+    ∷ of-P (two 5 2 7 1) (replicate 8 255 ++ replicate 8 3 ++ replicate 8 200) 0 24 0 (two 17 2 12 1)
     -- a null instance runs, and a write to its parameter is dropped and leaves stability; its locals are written
-    ∷ row one-in-fix empty (zeros 9) (ok 1 1 3 2) (summary 0 3 2 empty)
-    ∷ row one-in-fix (cells 1 (single 0)) (zeros 20) (ok 1 1 3 2) (summary 0 12 2 (cells 1 (single 1)))
-    ∷ row local-7 empty (zeros 9) (ok 1 1 6 2) (summary 0 6 2 (cells 1 (single 7)))
+    ∷ row one-in-fix empty (zeros 9) (ok 1 1 3 2) (summary 0 3 2 0 empty)
+    ∷ row one-in-fix (cells 1 (single 0)) (zeros 20) (ok 1 1 3 2) (summary 0 12 2 0 (cells 1 (single 1)))
+    ∷ row local-7 empty (zeros 9) (ok 1 1 6 2) (summary 0 6 2 0 (cells 1 (single 7)))
     -- both sides of and, or
-    ∷ row (both-sides 43 0) empty (zeros 20) (ok 1 1 9 3) (summary 35 3 3 empty)
-    ∷ row (both-sides 44 1) empty (zeros 20) (ok 1 1 9 3) (summary 35 3 3 empty)
+    ∷ row (both-sides 43 0) empty (zeros 20) (ok 1 1 9 3) (summary 35 3 3 1 empty)
+    ∷ row (both-sides 44 1) empty (zeros 20) (ok 1 1 9 3) (summary 35 3 3 1 empty)
     -- a constructor makes stability false; a change in the inner Fix sends the outer round again
-    ∷ row constructing empty (zeros 5) (ok 2 1 1 1) (summary 33 5 1 (plain 5 1))
-    ∷ row inner-fix (cells 1 (single 0)) (zeros 99) (ok 1 2 11 2) (summary 0 54 2 (cells 1 (single 1)))
+    ∷ row constructing empty (zeros 5) (ok 2 1 1 1) (summary 33 5 1 1 (plain 5 1))
+    ∷ row inner-fix (cells 1 (single 0)) (zeros 99) (ok 1 2 11 2) (summary 0 54 2 0 (cells 1 (single 1)))
     -- a new instance holds no commands until a later item; 256 instances, null ones too
-    ∷ row (itself twice) empty (zeros 9) (ok 1 1 1 1) (summary 0 3 1 (plain 3 0))
-    ∷ row (itself once) (plain 255 0) (zeros 9) (ok 1 1 1 1) (summary 34 0 1 (plain 255 0))
-    ∷ row (itself once) (plain 254 0) (zeros 9) (ok 1 1 1 1) (summary 34 1 1 (plain 255 0))
+    ∷ row (itself twice) empty (zeros 9) (ok 1 1 1 1) (summary 0 3 1 0 (plain 3 0))
+    ∷ row (itself once) (plain 255 0) (zeros 9) (ok 1 1 1 1) (summary 34 0 1 256 (plain 255 0))
+    ∷ row (itself once) (plain 254 0) (zeros 9) (ok 1 1 1 1) (summary 34 1 1 254 (plain 255 0))
     -- a step of every struct that has it, and of one; an update follows its path
-    ∷ row (chosen-by once) empty (zeros 9) (ok 3 2 4 1) (summary 0 3 1 (plain 1 2))
-    ∷ row (chosen-by (1 ∷ 2 ∷ 0 ∷ 0 ∷ [])) empty (zeros 9) (ok 3 2 4 1) (summary 0 1 1 (plain 1 2))
-    ∷ row (chosen-by (1 ∷ 2 ∷ 1 ∷ 0 ∷ [])) empty (zeros 9) (ok 3 2 4 1) (summary 0 2 1 empty)
+    ∷ row (chosen-by once) empty (zeros 9) (ok 3 2 4 1) (summary 0 3 1 0 (plain 1 2))
+    ∷ row (chosen-by (1 ∷ 2 ∷ 0 ∷ 0 ∷ [])) empty (zeros 9) (ok 3 2 4 1) (summary 0 1 1 0 (plain 1 2))
+    ∷ row (chosen-by (1 ∷ 2 ∷ 1 ∷ 0 ∷ [])) empty (zeros 9) (ok 3 2 4 1) (summary 0 2 1 0 empty)
     ∷ row along-path (cells 3 (cell 5 2 ++ cell 6 3 ++ cell 7 0)) (zeros 24) (ok 1 1 6 2)
-    (summary 0 24 2 (cells 3 (cell 5 2 ++ cell 6 3 ++ cell 5 0)))
+    (summary 0 24 2 0 (cells 3 (cell 5 2 ++ cell 6 3 ++ cell 5 0)))
     -- 65,536 turns, and one more
-    ∷ of-P (cells 1 (cell 5 0)) (zeros 65536) 0 16 (cells 1 (cell 5 0))
-    ∷ row P (cells 1 (cell 5 0)) (zeros 65537) (ok 1 1 8 2) (summary 14 0 0 [])
+    ∷ of-P (cells 1 (cell 5 0)) (zeros 65536) 0 16 0 (cells 1 (cell 5 0))
+    ∷ row P (cells 1 (cell 5 0)) (zeros 65537) (ok 1 1 8 2) (summary 14 0 0 0 [])
     ∷ []
 
 rows-computed : map computed rows ≡ map said rows

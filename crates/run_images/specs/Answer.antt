@@ -6,7 +6,7 @@ use Rattle.table_read.specs.declared.TableRead.the-variants.{Instances, Refused
 use Rattle.run_images.specs.declared.Report.{Report}
 
 abbrev pub answer : Reported → Report
-answer r = record { number = r .number; turns = r .turns; blocks = r .blocks; depth = r .depth }
+answer r = record { number = r .number; turns = r .turns; blocks = r .blocks; depth = r .depth; holding = r .holding }
 
 -- the number of a table's refusal; of a table that is read, 0
 abbrev pub table-refusal : TableRead → ℕ

@@ -5,7 +5,7 @@ use native.Mathlib.Omega.{arith}
 use mathlib.Core.Path.{_≡_, ap, _∙_}
 use mathlib.Core.List.{List, _++_, map}
 use lib.ListN.{length, drop}
-use Rattle.types.specs.Limits.{table-blocks, max-commands, schedule-items}
+use Rattle.types.specs.Limits.{table-blocks, max-commands, max-instances, schedule-items}
 use Rattle.block.specs.Block.{block-size}
 use Rattle.blocks.specs.Images.{image, pieces}
 use Rattle.program.specs.Tree.{Program}
@@ -23,6 +23,7 @@ use Rattle.run.specs.Entry.{report, report-of, output-of, last-stream}
 use Rattle.sound.specs.Laws.AcceptedLaws.{accepted-firm}
 use Rattle.layout.specs.State.{State, state-of}
 use Rattle.memory.specs.Plan.{At}
+use Rattle.memory.specs.Laws.ChooseStands.{holding-few}
 use Rattle.memory.specs.Laws.BoundedLaws.{accepted-bounded}
 use Rattle.load.specs.Load.{Admitted}
 use Rattle.compile.specs.Spans.{span-places}
@@ -30,6 +31,7 @@ use Rattle.compile.specs.Prepared.{Preparable, Prepared, PreparedProgram}
 use Rattle.table_write.specs.Written.{memory-stream, memory-blocks, memory-image, Filled}
 use Rattle.table_write.specs.WriteStands.{null-ones, filled, stream-stands}
 use Rattle.interpreter.specs.Ready.{Ready}
+use Rattle.interpreter.specs.TurnLaws.{held-count}
 use Rattle.interpreter.specs.Running.{cleared, Ended}
 use Rattle.run_images.specs.declared.Report.{Report}
 use Rattle.run_images.specs.declared.Seat.{Seat}
@@ -81,6 +83,7 @@ module _ {s counts : List ℕ} {seat : Seat} {heads cells : List ℕ} {p : Progr
         good = w .good;
         tabled = w .tabled;
         stands = rw seated-listed (w .stands list codes′ (prepared .laid .start));
+        kept = w .kept;
       }
 
       -- what it comes to is played
@@ -115,16 +118,24 @@ module _ {s counts : List ℕ} {at : ℕ} {p : Program} (a : Admitted s counts a
       ap (λ (cs : List ℕ). memory-stream cs (z .heads) (z .cells) (z .machine .count)) same
       ∙ stream-stands p (admitted-counts a) list′ (At (d .items)) last (cleared z) (e .ready .stands) (e .ready .good .all) (e .ready .tabled)
 
+  -- so are the holders
+  pub played-holders : z .machine .holding ≤ max-instances
+  played-holders =
+      let e = d .ended in
+      let a = holding-few (z .heads) 0 (z .machine .count) in
+      let b = e .ready .stands .few in
+      omega (arith, e .ready .kept)
+
   -- turns are few
   pub played-turns : taken ≤ length es
   played-turns = run-turns p m es (d .ended .returns)
 
-  -- number and turns, the blocks of the last table and the program's depth are what the run comes to
+  -- number and turns, the blocks of the last table, the program's depth and the holders are what the run comes to
   pub played-came : {out : List ℕ} {depth : ℕ} → depth ≡ program-depth p → (r : Report) (out′ : List ℕ)
-      → r ≡ answer (report number taken (memory-blocks counts (z .heads) (z .cells) (z .machine .count)) depth)
+      → r ≡ answer (report number taken (memory-blocks counts (z .heads) (z .cells) (z .machine .count)) depth (z .machine .holding))
       → out′ ≡ memory-image counts (z .heads) (z .cells) (z .machine .count) out → Came p m es out r out′
   unfolding report-of output-of
   played-came {out} {depth} deep r out′ e f = record {
-    reported = rw (d .ended .returns, report-of, ← deep, ← last-is) e;
+    reported = rw (d .ended .returns, report-of, ← deep, ← last-is, ← held-count (d .ended .ready)) e;
     written = rw (d .ended .returns, output-of, ← last-is) f;
   }

@@ -2,7 +2,7 @@
 use Prim.Native.Nat.{ℕ, _+_, _*_}
 use native.Mathlib.Omega.{arith}
 use mathlib.Core.Path.{_≡_, refl, ap, sym, _∙_}
-use mathlib.Core.List.{List}
+use mathlib.Core.List.{List, []}
 use lib.ListN.{length}
 use Rattle.types.specs.Limits.{max-instances}
 use Rattle.program.specs.Tree.{Program}
@@ -16,6 +16,7 @@ use Rattle.verdict.specs.Verdict.{Checked, Checked.accepted, listed}
 use Rattle.machine.specs.Published.{structs}
 use Rattle.machine.specs.Machine.{Machine}
 use Rattle.run.specs.Begin.{begin}
+use Rattle.run.specs.Laws.BeginLaws.{begin-idle}
 use Rattle.run.specs.Entry.{Begun, Begun.begun, Begun.not-begun, of-table, of-checked}
 use Rattle.sound.specs.Laws.BeginGood.{begin-good}
 use Rattle.sound.specs.Laws.TabledLaws.{begin-tabled}
@@ -23,6 +24,7 @@ use Rattle.layout.specs.Layout.{head-size, row-size}
 use Rattle.layout.specs.declared.Numbers.{Numbers}
 use Rattle.layout.specs.State.{fresh}
 use Rattle.memory.specs.Plan.{At}
+use Rattle.memory.specs.Laws.ChooseStands.{holding-same}
 use Rattle.load.specs.Load.{Admitted}
 use Rattle.table_read.specs.declared.TableRead.the-variants.{Instances, Refused}
 use Rattle.table_read.specs.Params.{lists-of, Tables}
@@ -83,14 +85,16 @@ module _ {s counts types : List ℕ} {at : ℕ} {p : Program} (a : Admitted s co
             let k : n ≡ structs p + length rs = cc in
             let w : TableLaid (arities p) (types-table (p .params)) h d (image-answer (lists-of (arities p) (types-table (p .params))) y) h′ d′ =
             rw (a .counted, typed) at laid in
-            let right = image-right p (admitted-counts a) y rs q in (
+            let right = image-right p (admitted-counts a) y rs q in
+            let lies = image-stands p (admitted-counts a) rs h d h′ d′ long wide in (
               rs,
               goes (ap (of-table p) q),
               λ m f. record {
                 admitted = a;
                 good = begin-good p (admitted-counts a) rs right;
                 tabled = begin-tabled p rs right;
-                stands = λ list items o. rw (f, k) (image-stands p (admitted-counts a) rs h d h′ d′ long wide (listed p list) (At items) 0 o y q w);
+                kept = rw (f, k) (sym (holding-same (begin p rs) (lies [] (λ b s. Unit {0}) 0 tt y q w) ∙ ap length (begin-idle p rs)));
+                stands = λ list items o. rw (f, k) (lies (listed p list) (At items) 0 o y q w);
               },
             )
         go (no-table k) q =

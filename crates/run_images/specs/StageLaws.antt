@@ -25,27 +25,27 @@ room-is es out list begins long places few =
 
 module _ {es out list : List ℕ} where
   -- what is refused already, is
-  refused-by : {b : Begun} {r : Report} {n : ℕ} → roomed b es out list ≡ not-begun n → r ≡ answer (report n 0 0 0) → Answers b es out list r out list
+  refused-by : {b : Begun} {r : Report} {n : ℕ} → roomed b es out list ≡ not-begun n → r ≡ answer (report n 0 0 0 0) → Answers b es out list r out list
   unfolding run-report-by run-output-by run-list-by
   refused-by e h = record { reported = rw e h; written = rw e; listed = rw e }
 
-  pub refused-answers : {b : Begun} {r : Report} {n : ℕ} → b ≡ not-begun n → r ≡ answer (report n 0 0 0) → Answers b es out list r out list
+  pub refused-answers : {b : Begun} {r : Report} {n : ℕ} → b ≡ not-begun n → r ≡ answer (report n 0 0 0 0) → Answers b es out list r out list
   unfolding with-room
   refused-answers e h = refused-by (rw e refl) h
 
   -- program and table begin a run
   module _ {b : Begun} {p : Program} {rs : List Record} (begins : b ≡ begun p rs) {r : Report} where
-    pub output-short : length out < block-size * table-blocks → r ≡ answer (report no-room 0 0 0) → Answers b es out list r out list
+    pub output-short : length out < block-size * table-blocks → r ≡ answer (report no-room 0 0 0 0) → Answers b es out list r out list
     unfolding with-room
     output-short h e = refused-by (rw (begins, lt-ltb (length out) (block-size * table-blocks) h)) e
 
     module _ (long : block-size * table-blocks ≤ length out) where
-      pub list-short : length list < max-commands → r ≡ answer (report no-room 0 0 0) → Answers b es out list r out list
+      pub list-short : length list < max-commands → r ≡ answer (report no-room 0 0 0 0) → Answers b es out list r out list
       unfolding with-room
       list-short h e = refused-by (rw (begins, le-ltb (length out) (block-size * table-blocks) long, lt-ltb (length list) max-commands h)) e
 
       module _ (places : max-commands ≤ length list) where
-        pub turns-many : max-turns < length es → r ≡ answer (report many-turns 0 0 0) → Answers b es out list r out list
+        pub turns-many : max-turns < length es → r ≡ answer (report many-turns 0 0 0 0) → Answers b es out list r out list
         unfolding with-room
         turns-many h e =
             refused-by

@@ -18,6 +18,7 @@ use Rattle.sound.specs.Invariant.{Good}
 use Rattle.sound.specs.Tabled.{Tabled}
 use Rattle.layout.specs.declared.Numbers.{Numbers}
 use Rattle.layout.specs.State.{State, state-of}
+use Rattle.memory.specs.Choose.{Kept}
 use Rattle.memory.specs.Plan.{At}
 use Rattle.memory.specs.Stands.{Stands}
 use Rattle.interpreter.specs.declared.turns.Ran.{Ran}
@@ -39,6 +40,7 @@ pub record Seated (s counts : List ℕ) (seat : Seat) (heads cells : List ℕ) (
   pub admitted : Admitted s counts (seat .at) p
   pub good : Good p m
   pub tabled : Tabled p (m .instances)
+  pub kept : Kept (state-of (seat .numbers) heads cells)
   pub stands : (list items : List ℕ) → At items 0 (of-items (p .schedule)) → Stands (listed p list) (At items) m (state-of (seat .numbers) heads cells)
 
 abbrev pub Seating : List ℕ → List ℕ → Seat → List ℕ → List ℕ → Type 0

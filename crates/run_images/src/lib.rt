@@ -10,7 +10,7 @@ use table_read::TableRead;
 ghost use mathlib.Core.Path.{_≡_};
 ghost use Prim.Native.Nat.{_*_, _≤_};
 ghost use lib.ListN.{length};
-ghost use Rattle.types.specs.Limits.{table-blocks, max-commands, max-turns};
+ghost use Rattle.types.specs.Limits.{table-blocks, max-commands, max-turns, max-instances};
 ghost use Rattle.block.specs.Block.{block-size, payload-size};
 ghost use Rattle.run.specs.Entry.{report, run-report, run-output, run-list};
 ghost use Rattle.table_write.specs.Written.{Filled, memory-blocks, memory-image};
@@ -20,12 +20,14 @@ ghost use Rattle.run_images.specs.Stages.{Seating, Plays};
 // Output bytes that a run asks for.
 const OUTPUT: usize = types::TABLE_BLOCKS * blocks::BLOCK_SIZE;
 
-// What a run answers: the number, the commands taken, the blocks written and the program's depth.
+// What a run answers: the number, the commands taken, the blocks written, the program's depth, and how many instances hold commands where it
+// ends, before the turn that would come next (02, 'Holders kept as a number').
 pub struct Report {
     pub number: u8,
     pub turns: u32,
     pub blocks: u8,
     pub depth: u8,
+    pub holding: u16,
 }
 
 // Of a machine in lent memory: where the steps of its program begin, and its numbers.
@@ -34,15 +36,16 @@ struct Seat {
     numbers: Numbers,
 }
 
-// An input refusal: no turns, no blocks, no depth.
+// An input refusal: no turns, no blocks, no depth, no holders.
 fn refused(number: u8) -> Report
-    ensures { λ r. ⌜ r ≡ answer (report number 0 0 0) ⌝ }
+    ensures { λ r. ⌜ r ≡ answer (report number 0 0 0 0) ⌝ }
 {
     Report {
         number,
         turns: 0,
         blocks: 0,
         depth: 0,
+        holding: 0,
     }
 }
 
@@ -89,9 +92,9 @@ fn reported(
     output: &mut [u8],
 ) -> Report
     requires { ⌜ Filled (now counts) (now heads) (now cells) (ran .machine .numbers .count) ⌝ }
-    requires { ⌜ (length (now counts) ≤ ran .machine .numbers .count) × (ran .taken ≤ max-turns) ⌝ }
+    requires { ⌜ (length (now counts) ≤ ran .machine .numbers .count) × (ran .taken ≤ max-turns) × (ran .machine .numbers .holding ≤ max-instances) ⌝ }
     requires { ⌜ (payload-size * table-blocks ≤ length (now buffer)) × (block-size * table-blocks ≤ length (now output)) ⌝ }
-    ensures { λ r. ⌜ r ≡ answer (report (ran .number) (ran .taken) (memory-blocks (now (counts .entry)) (now (heads .entry)) (now (cells .entry)) (ran .machine .numbers .count)) depth) ⌝ }
+    ensures { λ r. ⌜ r ≡ answer (report (ran .number) (ran .taken) (memory-blocks (now (counts .entry)) (now (heads .entry)) (now (cells .entry)) (ran .machine .numbers .count)) depth (ran .machine .numbers .holding)) ⌝ }
     ensures { λ _. ⌜ now (output .exit) ≡ memory-image (now (counts .entry)) (now (heads .entry)) (now (cells .entry)) (ran .machine .numbers .count) (now (output .entry)) ⌝ }
 {
     let last = ran.machine;
@@ -102,6 +105,7 @@ fn reported(
         turns: ran.taken as u32,
         blocks: blocks as u8,
         depth,
+        holding: last.numbers.holding as u16,
     }
 }
 

@@ -9,8 +9,9 @@ use lib.Pow.{pow-mono}
 use borrow.Author.Tests.{le-ltb, eq-eqb, ne-eqb}
 use Rattle.types.specs.Limits.{fix-levels}
 use Rattle.layout.specs.declared.Numbers.{Numbers}
-use Rattle.layout.specs.State.{state-of, set-place, placed}
+use Rattle.layout.specs.State.{state-of, set-place, set-holding, placed}
 use Rattle.layout.specs.Codes.{fix-code, round-code}
+use Rattle.memory.specs.Choose.{holding}
 use Rattle.memory.specs.Move.{begin-all, do-start, do-fix, do-round, move-by, move}
 use Rattle.memory.specs.Laws.MoveLaws.{move-start}
 use Rattle.scheduler.specs.Makes.{Makes, Moves}
@@ -47,7 +48,11 @@ module _ (items spans heads : List ℕ) (n : Numbers) where
   abbrev item : ℕ
   item = getD items (n .place) 0
 
-  pub item-starts : item < fix-code → Moves items spans heads n (set-place n (n .place + 1)) (begin-all spans item heads 0 (n .count))
+  -- the heads behind a start
+  abbrev begun : List ℕ
+  begun = begin-all spans item heads 0 (n .count)
+
+  pub item-starts : item < fix-code → Moves items spans heads n (set-holding (set-place n (n .place + 1)) (holding begun 0 (n .count))) begun
   unfolding do-start
   item-starts h x = rw (add-one (n .place)) (sym (move-start items spans (state-of n heads x) refl h))
 

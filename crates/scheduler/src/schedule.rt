@@ -1,5 +1,6 @@
 // One move of the schedule, where no instance holds commands (000's rules for the schedule; 01, 'Table and turns').
 use crate::begin::begin_all;
+use crate::count::holding;
 use layout::Numbers;
 use layout::codes;
 ghost use mathlib.Core.Path.{_≡_};
@@ -49,6 +50,7 @@ pub fn advance(numbers: Numbers, items: &[usize], spans: &[u16], heads: &mut [us
         begin_all(spans, heads, c, numbers.count);
         let mut next = numbers;
         next.place = place + 1;
+        next.holding = holding(heads, numbers.count);
         return next;
     }
     if c == codes::FIX {

@@ -24,7 +24,7 @@ use Rattle.layout.specs.State.{State, state-of, of-head}
 use Rattle.memory.specs.Act.{next-word, act}
 use Rattle.memory.specs.Laws.Acts.{acts}
 use Rattle.memory.specs.Choose.{picked}
-use Rattle.memory.specs.Laws.ChooseStands.{holding-same, picks}
+use Rattle.memory.specs.Laws.ChooseStands.{picks}
 use Rattle.memory.specs.Fit.{Fit}
 use Rattle.memory.specs.Frame.{After}
 use Rattle.memory.specs.Move.{move as move-on}
@@ -33,10 +33,10 @@ use Rattle.layout.specs.Codes.{fix-code, end-code, round-code}
 use Rattle.memory.specs.Plan.{At}
 use Rattle.memory.specs.Laws.PlanLaws.{past-start, past-fix, past-round, at-end-done}
 use Rattle.interpreter.specs.Ready.{Ready}
-use Rattle.interpreter.specs.Running.{busy, Turned, Turned.turned, Turned.failed}
+use Rattle.interpreter.specs.Running.{Turned, Turned.turned, Turned.failed}
 use Rattle.interpreter.specs.CountLaws.{holders-behind}
 use Rattle.interpreter.specs.RunningLaws.{ready-rows}
-use Rattle.interpreter.specs.TurnLaws.{picked-fits, turned-by}
+use Rattle.interpreter.specs.TurnLaws.{held-count, picked-fits, turned-by}
 use Rattle.scheduler.specs.Ready.{spans-size, Movable}
 use Rattle.text.specs.Listing.{Placed, text}
 use Rattle.text.specs.ListingLaws.{placed-on}
@@ -63,12 +63,13 @@ some-hold m (x ∷ hs) e h = some-due m e
 
 -- Turns --------------------------------------------------------------------------
 
-module _ {p : Program} {counts list items spans : List ℕ} {m : Machine} {z : State} (r : Ready p counts list items spans m z) (b : 0 < busy z) (e : ℕ) where
+module _ {p : Program} {counts list items spans : List ℕ} {m : Machine} {z : State} (r : Ready p counts list items spans m z)
+    (b : 0 < z .machine .holding) (e : ℕ) where
   abbrev actor : ℕ
   actor = chosen (holders m) e
 
   holding-due : due m ≡ false
-  holding-due = some-hold m (holders m) refl (rw (holding-same m (r .stands)) at b)
+  holding-due = some-hold m (holders m) refl (rw (held-count r) at b)
 
   -- the actor has a row, of a struct of the program
   pub actor-row : (l : ℕ) → l ≡ picked (z .heads) (z .machine .count) e → of-head z l struct-of < max-structs

@@ -11,7 +11,7 @@ use Rattle.run.specs.Turns.{chosen}
 use Rattle.run.specs.Holders.{holders}
 use Rattle.layout.specs.State.{State}
 use Rattle.interpreter.specs.Ready.{Ready}
-use Rattle.interpreter.specs.Running.{busy, Begun}
+use Rattle.interpreter.specs.Running.{Begun}
 use Rattle.trace.specs.Trace.{Line, move-line, turn-line}
 use Rattle.trace.specs.LineText.{step-name, lines-text}
 use Rattle.trace_lines.specs.declared.Coming.{Coming}
@@ -20,7 +20,7 @@ use Rattle.trace_lines.specs.declared.Coming.{Coming}
 pub record Turnable (counts list spans : List ℕ) (n : ℕ) (z : State) : Type 0 where
   pub items : List ℕ
   pub begun : Begun counts list items spans z
-  pub held : 0 < busy z
+  pub held : 0 < z .machine .holding
   pub named : n < step-names
   pub few : z .machine .fixes ≤ fix-levels
 

@@ -13,7 +13,6 @@ use crate::writes::written;
 use engine::Machine;
 use layout::Numbers;
 use layout::codes;
-use scheduler::count::holding;
 use text::lines::column;
 ghost use mathlib.Core.Path.{_≡_};
 ghost use mathlib.Core.List.{List};
@@ -153,7 +152,7 @@ pub fn turn(
     let machine = turn.machine;
     let numbers = machine.numbers;
     let count = numbers.count;
-    let l = picked_of(heads, count, holding(heads, count), turn.byte);
+    let l = picked_of(heads, count, numbers.holding, turn.byte);
     let w = target(list, counts, heads, cells, l);
     let at = layout::HEAD_SIZE * l;
     let next = heads[at + layout::NEXT];

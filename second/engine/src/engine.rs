@@ -3,7 +3,7 @@
 
 use crate::command::Command;
 use crate::limits::{TABLE_BYTES, TURNS};
-use crate::machine::Machine;
+use crate::machine::{Ending, Machine};
 use crate::program::{Program, has_places};
 use crate::refusal::Refusal;
 use crate::table;
@@ -19,12 +19,15 @@ pub struct CheckAnswer {
 }
 
 /// What a run tells; all but the number are 0 after a number from the input.
+/// `holding` is the number of instances that hold commands where the run ends,
+/// before the turn that would come next (02 §6).
 #[derive(Clone, Copy, PartialEq, Eq, Debug, Default)]
 pub struct RunAnswer {
     pub number: u8,
     pub turns: usize,
     pub blocks: usize,
     pub depth: usize,
+    pub holding: usize,
 }
 
 /// Checks a program image and hands its commands out in the lent list, which
@@ -82,7 +85,7 @@ fn run_accepted(
     }
     program.hand_out(list);
     let mut machine = Machine::new(&program, instances);
-    let ending = machine.run(turns);
+    let Ending { number, turns, holding } = machine.run(turns);
     let blocks = table::write(machine.instances(), &program.structs, output);
-    Ok(RunAnswer { number: ending.number, turns: ending.turns, blocks, depth: program.depth })
+    Ok(RunAnswer { number, turns, blocks, depth: program.depth, holding })
 }

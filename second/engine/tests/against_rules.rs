@@ -89,10 +89,43 @@ fn case(random: &mut Random) -> Option<u8> {
     let answer = run(&program, &image(&stream(&records)), &turns, &mut output, &mut list());
     let expected = image(&written(&state, &source));
     assert_eq!((answer.number, answer.turns), (number, taken));
+    assert_eq!(answer.holding, state.holders().len());
     assert_eq!(answer.blocks, expected.len() / 512);
     assert_eq!(output[..expected.len()], expected);
     assert!(output[expected.len()..].iter().all(|&byte| byte == 0xA5));
     Some(number)
+}
+
+/// Before each turn of a random run, as many hold commands as the rules say.
+fn holding_at_each_turn(random: &mut Random) -> usize {
+    let source = source(random);
+    let program = image(&encode::stream(&source));
+    if check(&program, &mut list()).number != 0 {
+        return 0;
+    }
+    let records = records(random, &source);
+    let table = image(&stream(&records));
+    let turns: Vec<u8> = (0..200).map(|_| random.below(256) as u8).collect();
+    let mut state = State::new(&source, &records);
+    let mut output = vec![0xA5; OUTPUT];
+    let mut most = 0;
+    for count in 0..=turns.len() {
+        let (number, _) = state.run(&turns[count.saturating_sub(1)..count]);
+        let answer = run(&program, &table, &turns[..count], &mut output, &mut list());
+        assert_eq!((answer.number, answer.holding), (number, state.holders().len()));
+        most = most.max(answer.holding);
+        if number != 33 {
+            break;
+        }
+    }
+    most
+}
+
+#[test]
+fn the_holders_are_those_of_the_rules_at_each_turn() {
+    let mut random = Random(0x1234_5678_9ABC_DEF1);
+    let most = (0..120).map(|_| holding_at_each_turn(&mut random)).max();
+    assert!(most > Some(12));
 }
 
 #[test]

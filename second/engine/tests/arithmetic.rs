@@ -17,10 +17,11 @@ fn case(of: u8, byte: u8, a: i64, b: i64, expected: Option<i64>) {
     let stream = program(&[&[of, of, result, 2]], &[&[&step(0, &[&only])]], &[1, 1, 0]);
     let before = table(&[(0, &[a, b, 0, 1])]);
     // The null instance takes 3; the record 3, then 5 before the operator.
-    match expected {
+    let holding = match expected {
         Some(c) => runs(&stream, &before, &[0; 99], 0, 13, &table(&[(0, &[a, b, c, 1])])),
         None => runs(&stream, &before, &[0; 99], 35, 10, &before),
-    }
+    };
+    assert_eq!(holding, usize::from(expected.is_none()));
 }
 
 #[test]

@@ -12,6 +12,6 @@ pub answer-run-spec : {M : Type 1} → statement M
 answer-run-spec =
     tie.close
     (tie.spec (λ c κs. search needs) (λ c. search needs) (λ c. search needs) (λ c. search needs) (λ c. search needs) (λ c κs. search needs)
-    (λ c κs. search needs) (λ c. search needs) (λ c. search needs) (λ c. search needs) (λ c κs. search needs) array-share-prefix-text
+    (λ c κs. search needs) (λ c. search needs) (λ c. search needs) (λ c. search needs) (λ c. search needs) (λ c κs. search needs) array-share-prefix-text
     (λ c. sym (length-take-le _ _ (array-share-prefix-text (c .before)))) (λ c κs. search needs) (λ c. search needs) (λ c. search needs)
     (λ c. search needs))

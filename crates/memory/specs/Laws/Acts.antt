@@ -3,6 +3,7 @@
 use Prim.Native.Nat.{ℕ, _%_, _<_, _≤_}
 use native.Mathlib.Omega.{arith}
 use mathlib.Core.Path.{_≡_, refl, ap, sym, _∙_, subst}
+use mathlib.Core.Bool.{true}
 use mathlib.Core.Option.{some}
 use mathlib.Core.List.{List, _∷_}
 use lib.ListN.{getElem?}
@@ -13,19 +14,23 @@ use Rattle.program.specs.Tree.{Program}
 use Rattle.commands.specs.Coding.{coded, com-word, command-word}
 use Rattle.commands.specs.Noted.{Note, Note.n-push, Note.n-this, Note.n-not, Note.n-rd, Note.n-wr, Note.n-get, Note.n-set, Note.n-cons, Note.n-op, Note.n-if, erase, now-written}
 use Rattle.machine.specs.Published.{Sched}
-use Rattle.machine.specs.Machine.{Instance, Machine, with-written, command, perform as machine-perform}
+use Rattle.machine.specs.Machine.{Instance, Machine, with-written, Out, Out.next, Out.refused, Out.stuck, command, perform as machine-perform}
+use Rattle.run.specs.Holders.{holds-code}
 use Rattle.sound.specs.Invariant.{Good}
 use Rattle.sound.specs.Firm.{Firm}
 use Rattle.sound.specs.Laws.CommandKept.{commanded}
 use Rattle.sound.specs.Sized.{Sized, Lasting, Lasting.an-int, Lasting.a-nat, Lasting.a-bool, Lasting.a-null}
-use Rattle.layout.specs.Layout.{operand}
+use Rattle.layout.specs.Layout.{operand, holds}
 use Rattle.layout.specs.State.{State}
-use Rattle.memory.specs.Act.{next-word, perform, act}
+use Rattle.memory.specs.Choose.{fewer}
+use Rattle.memory.specs.Laws.ChooseStands.{holds-same}
+use Rattle.memory.specs.Act.{next-word, perform, counted, act}
 use Rattle.memory.specs.Stands.{Stands}
 use Rattle.memory.specs.Frame.{Bounded, does, kind-of, operand-of, After, Goes}
 use Rattle.memory.specs.Laws.CellLaws.{kind-part, operand-part, code-byte}
 use Rattle.memory.specs.Laws.HeldLaws.{holds-word}
 use Rattle.memory.specs.Laws.ActorLaws.{actor-sized}
+use Rattle.memory.specs.Laws.StandsLaws.{holding-stands}
 use Rattle.memory.specs.Laws.StackActs.{pushes, pushes-this, negates, branches, operates-on}
 use Rattle.memory.specs.Laws.VarActs.{reads-param, reads-local, writes, writes-own}
 use Rattle.memory.specs.Laws.ConsActs.{constructs-one}
@@ -89,13 +94,20 @@ module _ (list counts : List ℕ) (l : ℕ) (z : State) where
   performs (n-op o) = refl
   performs (n-if n) = refl
 
-  act-does : {S : ℕ} → S ≤ max-structs → (n : Note) → Sized S n → next-word list z l ≡ command-word (erase n) → act list counts l z ≡ does counts l z n
+  act-does : {S : ℕ} → S ≤ max-structs → (n : Note) → Sized S n → next-word list z l ≡ command-word (erase n)
+      → act list counts l z ≡ counted l z (does counts l z n)
   unfolding act
   act-does h n s w =
       let (a, b) = word-says h n s (next-word list z l) w in
-      rw (a, b, w) (performs n)
+      let q : perform counts l z (next-word list z l % 256) (next-word list z l) (operand (next-word list z l)) ≡ does counts l z n =
+      rw (a, b, w) (performs n) in
+      ap (counted l z) q
 
 -- The command ------------------------------------------------------------------------
+
+code-holds : {c r : List Note} {n : Note} → c ≡ n ∷ r → holds-code c ≡ true
+unfolding holds-code
+code-holds e = rw e
 
 module _ {p : Program} {counts : List ℕ} (firm : Firm p) (bound : Bounded p counts) {m : Machine} (good : Good p m)
     (list : List ℕ) (P : ℕ → Sched → Type 0) (z : State) (st : Stands list P m z)
@@ -112,10 +124,19 @@ module _ {p : Program} {counts : List ℕ} (firm : Firm p) (bound : Bounded p co
   goes (n-op o) = operates-on firm bound good list P z st l i at c o
   goes (n-if n) = branches firm bound good list P z st l i at c n
 
+  -- the holders are counted: a refused actor still holds its commands
+  after-counted : holds (z .heads) l ≡ true → (o : Out) (y : State) → After list P z y o → After list P z (counted l z y) o
+  unfolding fewer
+  after-counted h (next m′) y s = holding-stands list P m′ y s _
+  after-counted h (refused n) y e = ap (counted l z) e ∙ rw (h, fewer)
+  after-counted h stuck y s = s
+
   -- a command of an instance that holds one
   pub acts : (n : Note) → i .code ≡ n ∷ c → After list P z (act list counts l z) (command p l m)
   acts n e =
       let w = holds-word list z l i (st .each l i at) n c e in
-      let q : act list counts l z ≡ does counts l z n = act-does list counts l z (bound .few) n (actor-sized firm bound good l i at n c e) w in
+      let q : act list counts l z ≡ counted l z (does counts l z n) = act-does list counts l z (bound .few) n (actor-sized firm bound good l i at n c e) w in
+      let o = machine-perform p m l (with-written i (now-written n (i .written))) n c in
+      let h : holds (z .heads) l ≡ true = holds-same (st .each l i at) ∙ code-holds e in
       subst (After list P z (act list counts l z)) (sym (commanded p m l i n c at e))
-      (subst (λ (u : State). After list P z u (machine-perform p m l (with-written i (now-written n (i .written))) n c)) (sym q) (goes n e))
+      (subst (λ (u : State). After list P z u o) (sym q) (after-counted h o (does counts l z n) (goes n e)))

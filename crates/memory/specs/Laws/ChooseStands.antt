@@ -38,6 +38,16 @@ holds-same {list} {z} {l} {i} H =
     apart (of-head z l next-of) (of-head z l end-of) (i .code)
     (sym (part-length list (of-head z l next-of) (of-head z l end-of) (H .within)) ∙ ap length (H .code) ∙ words-length (i .code))
 
+-- no more hold commands than there are
+pub holding-few : (heads : List ℕ) (l n : ℕ) → holding heads l n ≤ n
+unfolding holding
+holding-few heads l zero = omega arith
+holding-few heads l (suc n) = go (holds heads l) (holding-few heads (suc l) n)
+  where
+    go : (t : Bool) → holding heads (suc l) n ≤ n → elim t [ true ↦ suc (holding heads (suc l) n) | false ↦ holding heads (suc l) n ] ≤ suc n
+    go true h = omega arith
+    go false h = omega arith
+
 module _ (heads : List ℕ) where
   -- from l on, instances hold commands as bs says
   abbrev Flags : ℕ → List Bool → Type 0

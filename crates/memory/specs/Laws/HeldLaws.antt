@@ -10,7 +10,8 @@ use Rattle.commands.specs.Noted.{Note, erase}
 use Rattle.commands.specs.Coding.{command-word}
 use Rattle.machine.specs.Machine.{Tagged, Instance}
 use Rattle.layout.specs.Layout.{head, head-size, struct-of, height-of, next-of, end-of, variable, stacked, operand}
-use Rattle.layout.specs.State.{State, of-head, of-cell}
+use Rattle.layout.specs.declared.Numbers.{Numbers}
+use Rattle.layout.specs.State.{State, of-head, of-cell, with-machine}
 use Rattle.memory.specs.Act.{height, top, beneath, after, next-word}
 use Rattle.memory.specs.Stands.{Shows, Stack, note-words, Held}
 use Rattle.memory.specs.Frame.{Same, Slim, moved}
@@ -29,6 +30,10 @@ stack-kept cs cs′ l (x ∷ χ) k b f s = (rw (f (length χ) (omega arith)) (s 
 pub stack-under : (cs : List ℕ) (l : ℕ) (ξ χ : List Tagged) → Stack cs l (ξ ++ χ) → Stack cs l χ
 stack-under cs l [] χ s = s
 stack-under cs l (x ∷ ξ) χ s = stack-under cs l ξ χ (s .1)
+
+-- an instance is held whatever the machine's numbers are
+pub held-numbers : {list : List ℕ} {z : State} {l : ℕ} {i : Instance} → Held list z l i → {n : Numbers} → Held list (with-machine z n) l i
+held-numbers h = record { struct = h .struct; height = h .height; within = h .within; code = h .code; stack = h .stack; vars = h .vars }
 
 -- an instance is held by its row
 pub held-same : (list : List ℕ) (z z′ : State) (l : ℕ) (i : Instance) → Same z z′ l → Slim i → Held list z l i → Held list z′ l i

@@ -1,12 +1,15 @@
 -- Laws of a move on memory (01, 'Table and turns'): which of its ways the item at the machine's place takes.
 use Prim.Native.Nat.{ℕ, suc, _-_, _*_, _/_, _%_, _<_}
-use mathlib.Core.Path.{_≡_, ap, _∙_}
+use mathlib.Core.Path.{_≡_, refl, ap, _∙_}
+use mathlib.Core.Bool.{Bool, true, false}
 use mathlib.Core.List.{List}
 use native.Mathlib.Omega.{arith}
 use lib.ListN.{getD}
+use lib.Dec.{eqb, ltb}
 use borrow.Author.Tests.{lt-ltb, le-ltb, eq-eqb, ne-eqb}
 use Rattle.layout.specs.State.{State, moved}
 use Rattle.layout.specs.Codes.{fix-code, round-code}
+use Rattle.memory.specs.Choose.{Kept}
 use Rattle.memory.specs.Move.{do-start, do-fix, do-round, move-by, move}
 
 module _ (items spans : List ℕ) (z : State) where
@@ -41,3 +44,27 @@ module _ (items spans : List ℕ) (z : State) where
   pub round-again : (t : ℕ) → getD items (z .machine .place) 0 ≡ round-code t → z .machine .stable % 2 ≡ 0 → move items spans z ≡ moved z t (z .machine .fixes) (suc (z .machine .stable))
   unfolding do-round
   round-again t e b = move-round t e ∙ (rw (ne-eqb (z .machine .stable % 2) 1 (omega arith), do-round))
+
+  -- the holders are counted anew at a start; otherwise they are as they were
+  pub move-kept : Kept z → Kept (move items spans z)
+  unfolding move move-by do-start do-fix do-round
+  move-kept k = go (ltb item fix-code) (eqb item fix-code) (eqb (z .machine .stable % 2) 1)
+    where
+      item : ℕ
+      item = getD items (z .machine .place) 0
+
+      go : (a b t : Bool)
+          → Kept (elim a [
+            | true ↦ do-start spans item z
+            | false ↦ elim b [
+              | true ↦ do-fix z
+              | false ↦ elim t [
+                | true ↦ moved z (suc (z .machine .place)) (z .machine .fixes - 1) (z .machine .stable / 2)
+                | false ↦ moved z (item - round-code 0) (z .machine .fixes) (suc (z .machine .stable))
+              ]
+            ]
+          ])
+      go true b t = refl
+      go false true t = k
+      go false false true = k
+      go false false false = k

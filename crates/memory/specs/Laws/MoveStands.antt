@@ -27,6 +27,8 @@ use Rattle.memory.specs.Laws.PlanLaws.{code-below, past-start, past-fix,
 use Rattle.memory.specs.Move.{means, begin-one, begin-all, do-start, move as move-on}
 use Rattle.memory.specs.Laws.BeginLaws.{Same, begun-struct, begun-height, begun-next, begun-end, one-begins, one-stays, one-length, one-others, all-length}
 use Rattle.memory.specs.Laws.MoveLaws.{move-start, fix-begins, round-ends, round-again}
+use Rattle.memory.specs.Laws.HeldLaws.{held-numbers}
+use Rattle.memory.specs.Laws.StandsLaws.{holding-stands}
 
 -- Instances ----------------------------------------------------------------------
 
@@ -49,11 +51,6 @@ module _ {list : List ℕ} {z : State} {l : ℕ} {i : Instance} (H : Held list z
         stack = H .stack;
         vars = H .vars;
       }
-
-  -- wherever the schedule stands
-  held-moved : (a f s : ℕ) → Held list (moved z a f s) l i
-  held-moved a f s =
-      record { struct = H .struct; height = H .height; within = H .within; code = H .code; stack = H .stack; vars = H .vars }
 
 -- what the step of the code c makes of an instance
 module _ (p : Program) (c : ℕ) where
@@ -161,7 +158,7 @@ module _ {list items : List ℕ} {q : Sched} {is : List Instance} {b : List Bool
     cells-long = S .cells-long;
     counted = S .counted;
     few = S .few;
-    each = λ l i g. held-moved (S .each l i g) _ f e;
+    each = λ l i g. held-numbers (S .each l i g);
     opened = u;
     entries = v;
     scheduled = r;
@@ -171,10 +168,13 @@ module _ {list items : List ℕ} {q : Sched} {is : List Instance} {b : List Bool
   module _ (p : Program) (spans : List ℕ) (located : Located p list spans)
       (known : (l : ℕ) (i : Instance) → getElem? is l ≡ some i → i .struct < structs p) where
     -- a step begins
-    start-stands : {s : Sched} (c : ℕ) (f : Instance → Instance) → ((i : Instance) → f i ≡ begin-inst p c i)
-        → At items (suc (z .machine .place)) s → Stands list (At items) (machine s (map f is) b) (do-start spans c z)
-    unfolding do-start
-    start-stands {s} c f law r = record {
+    abbrev begins : ℕ → State
+    begins c =
+        with-heads (moved z (suc (z .machine .place)) (z .machine .fixes) (z .machine .stable)) (begin-all spans c (z .heads) 0 (z .machine .count))
+
+    begins-stands : {s : Sched} (c : ℕ) (f : Instance → Instance) → ((i : Instance) → f i ≡ begin-inst p c i)
+        → At items (suc (z .machine .place)) s → Stands list (At items) (machine s (map f is) b) (begins c)
+    begins-stands {s} c f law r = record {
       heads-long = all-length spans c (z .heads) 0 (z .machine .count) ∙ S .heads-long;
       cells-long = S .cells-long;
       counted = S .counted ∙ sym (length-map is f);
@@ -188,13 +188,18 @@ module _ {list items : List ℕ} {q : Sched} {is : List Instance} {b : List Bool
       clear = S .clear;
     }
       where
-        held : (l : ℕ) (i : Instance) → getElem? is l ≡ some i
-            → Held list (with-heads (moved z (suc (z .machine .place)) (z .machine .fixes) (z .machine .stable)) (begin-all spans c (z .heads) 0 (z .machine .count))) l (begin-inst p c i)
+        held : (l : ℕ) (i : Instance) → getElem? is l ≡ some i → Held list (begins c) l (begin-inst p c i)
         held =
             let n = S .counted in
             let w = S .few in
             all-held p list spans located c is known (moved z (suc (z .machine .place)) (z .machine .fixes) (z .machine .stable)) 0 (z .machine .count) (S .heads-long) (omega arith) (omega arith)
-            (λ k i g h. absurd (omega arith)) (λ k i g h. held-moved (S .each k i g) (suc (z .machine .place)) (z .machine .fixes) (z .machine .stable))
+            (λ k i g h. absurd (omega arith)) (λ k i g h. held-numbers (S .each k i g))
+
+    -- and the instances that hold commands are counted
+    start-stands : {s : Sched} (c : ℕ) (f : Instance → Instance) → ((i : Instance) → f i ≡ begin-inst p c i)
+        → At items (suc (z .machine .place)) s → Stands list (At items) (machine s (map f is) b) (do-start spans c z)
+    unfolding do-start
+    start-stands {s} c f law r = holding-stands list (At items) (machine s (map f is) b) (begins c) (begins-stands c f law r) _
 
 -- what an outcome of the machine's move says of memory
 abbrev pub Follows : List ℕ → List ℕ → State → Moved → Type 0

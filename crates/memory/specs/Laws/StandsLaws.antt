@@ -19,13 +19,13 @@ use Rattle.sound.specs.Laws.ElemLaws.{some-is, at-set-same, at-set-other, at-be
 use Rattle.sound.specs.Laws.Keeps.{at-env-same, at-env-other}
 use Rattle.sound.specs.Laws.GoodLaws.{meet-length}
 use Rattle.layout.specs.Layout.{end-of, row-size, variable, stacked}
-use Rattle.layout.specs.State.{State, of-head, of-cell, with-cells, bit, times}
+use Rattle.layout.specs.State.{State, of-head, of-cell, with-cells, with-holding, bit, times}
 use Rattle.memory.specs.Act.{gone, pushed}
 use Rattle.memory.specs.Stands.{Shows, Stack, note-words, Held, Stands}
 use Rattle.memory.specs.Frame.{AllSlim, moved}
 use Rattle.memory.specs.Laws.RowLaws.{going-other, going-length}
 use Rattle.memory.specs.Laws.VarLaws.{assigned-same, assigned-other, env-length}
-use Rattle.memory.specs.Laws.HeldLaws.{stack-kept, held-same, held-on}
+use Rattle.memory.specs.Laws.HeldLaws.{stack-kept, held-same, held-on, held-numbers}
 use Rattle.memory.specs.Laws.EntriesLaws.{meet-times}
 
 module _ (list : List ℕ) (P : ℕ → Sched → Type 0) (m : Machine) (z : State) (st : Stands list P m z) where
@@ -40,11 +40,23 @@ module _ (list : List ℕ) (P : ℕ → Sched → Type 0) (m : Machine) (z : Sta
     cells-long = st .cells-long;
     counted = st .counted;
     few = st .few;
-    each = λ l i at.
-        let h = st .each l i at in
-        record { struct = h .struct; height = h .height; within = h .within; code = h .code; stack = h .stack; vars = h .vars };
+    each = λ l i at. held-numbers (st .each l i at);
     opened = st .opened ∙ sym (meet-length t (m .stability));
     entries = ap (λ (s : ℕ). s * bit t) (st .entries) ∙ sym (meet-times t (m .stability));
+    scheduled = st .scheduled;
+    clear = st .clear;
+  }
+
+  -- whatever number of holders it has
+  pub holding-stands : (n : ℕ) → Stands list P m (with-holding z n)
+  holding-stands n = record {
+    heads-long = st .heads-long;
+    cells-long = st .cells-long;
+    counted = st .counted;
+    few = st .few;
+    each = λ l i at. held-numbers (st .each l i at);
+    opened = st .opened;
+    entries = st .entries;
     scheduled = st .scheduled;
     clear = st .clear;
   }

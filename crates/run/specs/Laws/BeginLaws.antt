@@ -1,8 +1,8 @@
 -- A run begins at the published initial state, and its number, turns and last table are those of the one run by the published
 -- rules from there (000, definition 6; 01, 'Table and turns', 'Numbers from the state').
-use Prim.Native.Nat.{ℕ, zero, suc, _+_, _<_}
+use Prim.Native.Nat.{ℕ, zero, suc, _+_, _<_, _≤_}
 use mathlib.Core.Path.{_≡_, refl, ap, sym, _∙_}
-use mathlib.Core.Logic.{_↔_}
+use mathlib.Core.Logic.{_↔_, _⊎_, inl, inr}
 use mathlib.Core.Option.{some}
 use mathlib.Core.List.{List, [], _∷_, _++_, map}
 use native.Mathlib.Omega.{arith}
@@ -15,11 +15,14 @@ use Rattle.table.specs.Table.{Record}
 use Rattle.machine.specs.Published.{Env.env, structs, Inst, Inst.inst, State, State.state}
 use Rattle.machine.specs.Machine.{Instance, Machine}
 use Rattle.machine.specs.Represents.{values, Represents-inst, Represents-all, Represents}
-use Rattle.run.specs.Runs.{Runs}
+use Rattle.machine.specs.Stops.{ended, out-of-turns, full, exceeded}
+use Rattle.run.specs.Runs.{Runs, Halts, Halts.at-end, Halts.at-33, Halts.at-34, Halts.at-35}
+use Rattle.run.specs.Turns.{labels-from, holds-coms, holders-of}
+use Rattle.run.specs.Holders.{holders}
 use Rattle.run.specs.Run.{Outcome.stopped, Outcome.jammed, run}
 use Rattle.run.specs.Begin.{nulls, resting, first-instances, begin, record-of, table-of}
-use Rattle.run.specs.Initial.{idle, null-insts, of-record, first-insts, initial, to-record, table-in, Comes, Comes.comes}
-use Rattle.run.specs.Laws.TurnLaws.{map-at}
+use Rattle.run.specs.Initial.{idle, null-insts, of-record, first-insts, initial, to-record, table-in, holding-in, Comes, Comes.comes}
+use Rattle.run.specs.Laws.TurnLaws.{map-at, holders-done, holders-represent}
 use Rattle.run.specs.Laws.RunAgrees.{run-follows, run-complete, run-jammed}
 use Rattle.run.specs.Laws.RunsUnique.{runs-unique}
 
@@ -83,6 +86,21 @@ module _ (p : Program) (rs : List Record) where
   unfolding first-insts
   first-length = simp (length-append, length-map, nulls-length)
 
+-- nobody holds commands at the beginning
+idle-records : (rs : List Record) (l : ℕ) → labels-from l (map holds-coms (map of-record rs)) ≡ []
+unfolding labels-from
+idle-records [] l = refl
+idle-records (r ∷ rs) l = idle-records rs (suc l)
+
+idle-insts : (k : ℕ) (tss : List (List Ty)) (rs : List Record) (l : ℕ) → labels-from l (map holds-coms (null-insts k tss ++ map of-record rs)) ≡ []
+unfolding null-insts labels-from
+idle-insts k [] rs l = idle-records rs l
+idle-insts k (ts ∷ tss) rs l = idle-insts (suc k) tss rs (suc l)
+
+pub begin-idle : (p : Program) (rs : List Record) → holders (begin p rs) ≡ []
+unfolding initial first-insts holders-of
+begin-idle p rs = holders-represent (begin p rs) (first-insts p rs) (begin-represents p rs) ∙ idle-insts 0 (p .params) rs 0
+
 -- The last table -------------------------------------------------------------------
 
 record-same : (i : Instance) (j : Inst) → Represents-inst i j → record-of i ≡ to-record j
@@ -103,6 +121,21 @@ pub table-represents : (p : Program) (m : Machine) (st : State) → Represents m
 unfolding table-of table-in
 table-represents p m (state s σ b) R = records-same (structs p) (m .instances) σ (R .1)
 
+-- as many hold commands
+pub holding-represents : (m : Machine) (st : State) → Represents m st → length (holders m) ≡ holding-in st
+holding-represents m (state s σ b) R = ap length (holders-represent m σ R)
+
+none-listed : (l : List ℕ) → length l ≡ 0 → l ≡ []
+none-listed [] e = refl
+none-listed (x ∷ l) e = absurd (omega arith)
+
+-- at a halt nobody holds commands exactly where the number is 0
+halts-holding : (st : State) {es : List ℕ} {n : ℕ} → Halts st es n → ((n ≡ ended) → (holding-in st ≡ 0)) × ((holding-in st ≡ 0) → (n ≡ ended))
+halts-holding st (at-end {σ = σ} d) = (λ e. ap length (holders-done σ .1 d), λ e. refl)
+halts-holding (state s σ b) (at-33 h) = (λ e. absurd (omega arith), λ e. absurd (h (holders-done σ .0 (none-listed (holders-of σ) e))))
+halts-holding (state s σ b) (at-34 h f) = (λ e. absurd (omega arith), λ e. absurd (h (holders-done σ .0 (none-listed (holders-of σ) e))))
+halts-holding (state s σ b) (at-35 h f) = (λ e. absurd (omega arith), λ e. absurd (h (holders-done σ .0 (none-listed (holders-of σ) e))))
+
 -- The outcome ----------------------------------------------------------------------
 
 module _ (p : Program) (rs : List Record) (es : List ℕ) where
@@ -111,27 +144,42 @@ module _ (p : Program) (rs : List Record) (es : List ℕ) where
       → (st : State) × (Runs p (initial p rs) es n t st) × (Represents z st)
   run-exact e = run-follows p (begin p rs) (initial p rs) es (begin-represents p rs) e
 
-  -- number, turns and last table of an executable run are those that the published rules come to
-  pub outcome-exact : {n t : ℕ} {z : Machine} → run p (begin p rs) es ≡ stopped n t z → Comes p rs es n t (table-of p z)
-  outcome-exact {z = z} e = let (st, r, R) = run-exact e in comes r (table-represents p z st R)
+  -- number, turns, holders and last table of an executable run are those that the published rules come to
+  pub outcome-exact : {n t : ℕ} {z : Machine} → run p (begin p rs) es ≡ stopped n t z → Comes p rs es n t (length (holders z)) (table-of p z)
+  outcome-exact {z = z} e = let (st, r, R) = run-exact e in comes r (holding-represents z st R) (table-represents p z st R)
 
   -- and what the published rules come to, an executable run has
-  pub outcome-complete : {n t : ℕ} {rs′ : List Record} → Comes p rs es n t rs′
-      → (z : Machine) × (run p (begin p rs) es ≡ stopped n t z) × (table-of p z ≡ rs′)
-  outcome-complete (comes {st = st} r q) =
-      let (z, e, R) = run-complete p (begin p rs) (begin-represents p rs) r in (z, e, table-represents p z st R ∙ sym q)
+  pub outcome-complete : {n t k : ℕ} {rs′ : List Record} → Comes p rs es n t k rs′
+      → (z : Machine) × (run p (begin p rs) es ≡ stopped n t z) × (length (holders z) ≡ k) × (table-of p z ≡ rs′)
+  outcome-complete (comes {st = st} r h q) =
+      let (z, e, R) = run-complete p (begin p rs) (begin-represents p rs) r in
+      (z, e, holding-represents z st R ∙ sym h, table-represents p z st R ∙ sym q)
 
-  -- the published rules come to one number, turns and last table
-  pub comes-unique : {n n′ t t′ : ℕ} {rs′ rs″ : List Record} → Comes p rs es n t rs′ → Comes p rs es n′ t′ rs″
-      → (n ≡ n′) × (t ≡ t′) × (rs′ ≡ rs″)
-  comes-unique (comes r q) (comes r′ q′) =
-      let (a, b, c) = runs-unique p r r′ in (a, b, q ∙ ap (table-in p) c ∙ sym q′)
+  -- the published rules come to one number, turns, holders and last table
+  pub comes-unique : {n n′ t t′ k k′ : ℕ} {rs′ rs″ : List Record} → Comes p rs es n t k rs′ → Comes p rs es n′ t′ k′ rs″
+      → (n ≡ n′) × (t ≡ t′) × (k ≡ k′) × (rs′ ≡ rs″)
+  comes-unique (comes r h q) (comes r′ h′ q′) =
+      let (a, b, c) = runs-unique p r r′ in (a, b, h ∙ ap holding-in c ∙ sym h′, q ∙ ap (table-in p) c ∙ sym q′)
+
+  -- nobody holds commands exactly where the number is 0
+  pub comes-holding : {n t k : ℕ} {rs′ : List Record} → Comes p rs es n t k rs′ → (n ≡ ended) ↔ (k ≡ 0)
+  comes-holding (comes {st = st} r h q) = let (a, b) = halts-holding st (r .2) in (λ e. h ∙ a e, λ e. b (sym h ∙ e))
+
+  -- at 33, 34 and 35 some do
+  pub comes-stopped : {n t k : ℕ} {rs′ : List Record} → Comes p rs es n t k rs′ → (n ≡ out-of-turns) ⊎ (n ≡ full) ⊎ (n ≡ exceeded) → 1 ≤ k
+  comes-stopped {n} {k = zero} c s = absurd (stops s (comes-holding c .1 refl))
+    where
+      stops : (n ≡ out-of-turns) ⊎ (n ≡ full) ⊎ (n ≡ exceeded) → n ≡ ended → ⊥
+      stops (inl a) e = omega arith
+      stops (inr (inl a)) e = omega arith
+      stops (inr (inr a)) e = omega arith
+  comes-stopped {k = suc k} c s = omega arith
 
   -- the executable run is jammed exactly where the published rules come to nothing
-  pub jammed-exact : (run p (begin p rs) es ≡ jammed) ↔ ((n t : ℕ) (rs′ : List Record) → Comes p rs es n t rs′ → ⊥)
+  pub jammed-exact : (run p (begin p rs) es ≡ jammed) ↔ ((n t k : ℕ) (rs′ : List Record) → Comes p rs es n t k rs′ → ⊥)
   jammed-exact =
       let j = run-jammed p (begin p rs) (initial p rs) es (begin-represents p rs) in
-      (λ e n t rs′ c. none-comes (j .0 e) c, λ h. j .1 (λ n t st r. h n t (table-in p st) (comes r refl)))
+      (λ e n t k rs′ c. none-comes (j .0 e) c, λ h. j .1 (λ n t st r. h n t (holding-in st) (table-in p st) (comes r refl refl)))
     where
-      none-comes : {n t : ℕ} {rs′ : List Record} → ((n t : ℕ) (st : State) → Runs p (initial p rs) es n t st → ⊥) → Comes p rs es n t rs′ → ⊥
-      none-comes {n} {t} h (comes {st = st} r q) = h n t st r
+      none-comes : {n t k : ℕ} {rs′ : List Record} → ((n t : ℕ) (st : State) → Runs p (initial p rs) es n t st → ⊥) → Comes p rs es n t k rs′ → ⊥
+      none-comes {n} {t} h (comes {st = st} r a q) = h n t st r

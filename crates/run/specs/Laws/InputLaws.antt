@@ -159,9 +159,9 @@ module _ (x y es out list : List ℕ) where
 
   -- Where it is refused ----------------------------------------------------------------------
 
-  -- an input refusal returns its number, 0 turns, 0 blocks and depth 0, and leaves output and list as they were
+  -- an input refusal returns its number, 0 turns, 0 blocks, depth 0 and 0 holders, and leaves output and list as they were
   pub refusal-untouched : (n : ℕ) → Foremost (run-order x y es out list) n
-      → (run-report x y es out list ≡ report n 0 0 0) × (run-output x y es out list ≡ out) × (run-list x y es out list ≡ list)
+      → (run-report x y es out list ≡ report n 0 0 0 0) × (run-output x y es out list ≡ out) × (run-list x y es out list ≡ list)
   unfolding run-report run-output run-list run-report-by run-output-by run-list-by
   refusal-untouched n q =
       let e = begins-number n .1 q in (

@@ -23,12 +23,12 @@ ok s t c d = record { number = 0; structs = s; steps = t; commands = c; depth = 
 abbrev pub zeros : ℕ → List ℕ
 zeros n = replicate n 0
 
--- a row of P: records, turns; number, turns taken, records. A row of a program that is refused
-abbrev pub of-P : List ℕ → List ℕ → ℕ → ℕ → List ℕ → Row
-of-P t es n k left = row P t es (ok 1 1 8 2) (summary n k 2 left)
+-- a row of P: records, turns; number, turns taken, holders, records. A row of a program that is refused
+abbrev pub of-P : List ℕ → List ℕ → ℕ → ℕ → ℕ → List ℕ → Row
+of-P t es n k h left = row P t es (ok 1 1 8 2) (summary n k 2 h left)
 
 abbrev pub no-program : List ℕ → ℕ → Row
-no-program s n = row s empty [] (refusal n) (summary n 0 0 [])
+no-program s n = row s empty [] (refusal n) (summary n 0 0 0 [])
 
 -- two records (load, prev)
 abbrev pub two : ℕ → ℕ → ℕ → ℕ → List ℕ
@@ -37,22 +37,22 @@ two l p m q = cells 2 (cell l p ++ cell m q)
 unfoldable pub bench : List Row
 bench =
     -- (5,0),(7,1): 24 zeros; 23 zeros
-    of-P (two 5 0 7 1) (zeros 24) 0 24 (two 5 0 12 1)
-    ∷ of-P (two 5 0 7 1) (zeros 23) 33 23 (two 5 0 7 1)
+    of-P (two 5 0 7 1) (zeros 24) 0 24 0 (two 5 0 12 1)
+    ∷ of-P (two 5 0 7 1) (zeros 23) 33 23 1 (two 5 0 7 1)
     -- (5,2),(7,1): 24 zeros; 8 zeros, 8 ones, 8 zeros; 14 zeros, 8 ones, 2 zeros
-    ∷ of-P (two 5 2 7 1) (zeros 24) 0 24 (two 12 2 19 1)
-    ∷ of-P (two 5 2 7 1) (zeros 8 ++ replicate 8 1 ++ zeros 8) 0 24 (two 17 2 12 1)
-    ∷ of-P (two 5 2 7 1) (zeros 14 ++ replicate 8 1 ++ zeros 2) 0 24 (two 12 2 12 1)
+    ∷ of-P (two 5 2 7 1) (zeros 24) 0 24 0 (two 12 2 19 1)
+    ∷ of-P (two 5 2 7 1) (zeros 8 ++ replicate 8 1 ++ zeros 8) 0 24 0 (two 17 2 12 1)
+    ∷ of-P (two 5 2 7 1) (zeros 14 ++ replicate 8 1 ++ zeros 2) 0 24 0 (two 12 2 12 1)
     -- (1,0),(2147483647,1), zeros
-    ∷ of-P (two 1 0 2147483647 1) (zeros 24) 35 21 (two 1 0 2147483647 1)
+    ∷ of-P (two 1 0 2147483647 1) (zeros 24) 35 21 1 (two 1 0 2147483647 1)
     -- P in a Fix: (5,0); N = 0
-    ∷ row (P-with 1 in-fix) (cells 1 (cell 5 0)) (zeros 40) (ok 1 1 8 2) (summary 0 16 2 (cells 1 (cell 5 0)))
-    ∷ row (P-with 1 in-fix) empty (zeros 40) (ok 1 1 8 2) (summary 0 8 2 empty)
+    ∷ row (P-with 1 in-fix) (cells 1 (cell 5 0)) (zeros 40) (ok 1 1 8 2) (summary 0 16 2 0 (cells 1 (cell 5 0)))
+    ∷ row (P-with 1 in-fix) empty (zeros 40) (ok 1 1 8 2) (summary 0 8 2 0 empty)
     -- 15 nots over a Bool; 16
-    ∷ row (nots 15) empty (zeros 20) (ok 1 1 18 2) (summary 0 18 2 empty)
+    ∷ row (nots 15) empty (zeros 20) (ok 1 1 18 2) (summary 0 18 2 0 empty)
     ∷ no-program (nots 16) 5
     -- P's update eight times, 64 commands; and a construct statement of an added parameterless struct, 65
-    ∷ row (P-with 8 once) empty (zeros 64) (ok 1 1 64 2) (summary 0 64 2 empty)
+    ∷ row (P-with 8 once) empty (zeros 64) (ok 1 1 64 2) (summary 0 64 2 0 empty)
     ∷ no-program P-65 6
     ∷ []
 

@@ -16,7 +16,9 @@ cast-t16 : tie.Need-cast-t16
 cast-t16 c = omega (arith, stream-fits _ _ _ _ (start (at-write c) .pre .0) .1, at-write c .write .ensures .0)
 
 returns : tie.Need-returns
-returns c = let e = at-write c .write .ensures in (rw (e .0), e .1)
+returns c = let e = at-write (c .before) .write .ensures in (rw (e .0), e .1)
 
 pub reported-spec : {M : Type 1} → statement M
-reported-spec = tie.close (tie.spec (λ c κs. search needs) (λ c. search needs) cast-t16 (λ c. search needs) (λ c. search needs) returns)
+reported-spec =
+    tie.close
+    (tie.spec (λ c κs. search needs) (λ c. search needs) cast-t16 (λ c. search needs) (λ c. search needs) (λ c. search needs) returns)

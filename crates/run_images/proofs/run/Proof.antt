@@ -18,7 +18,7 @@ use Rattle.run_images.specs.Stages.{seat-of, Seated, Played}
 use Rattle.run_images.specs.StageLaws.{refused-answers, output-short, list-short, turns-many, came-answers, entry-answers, checked-refused}
 use Rattle.run_images.specs.SizeLaws.{loaded-short}
 use Rattle.run_images.specs.SeatLaws.{admitted-tables, image-refused, SeatedTable, image-seated, seated-by}
-use Rattle.run_images.specs.RunLaws.{played-filled, played-nulls, played-turns, played-came}
+use Rattle.run_images.specs.RunLaws.{played-filled, played-nulls, played-holders, played-turns, played-came}
 use borrow.Author.Needs.{needs}
 use Rattle.run_images.proofs.run.Statement.{statement}
 use Rattle.run_images.proofs.run.Tie as tie
@@ -233,7 +233,10 @@ reported-requires c κs =
     let d = at-played (c .before .before) in let f = the-fresh d in let at-else = f .before in let a = admits (the-loaded (the-read f)) in
     let nulls = played-nulls a (plays d) in (
       played-filled a (plays d),
-      ((nulls, omega (arith, played-turns a (plays d), at-else .if3 .left)), (omega (arith, buffer-length f), at-else .before .before .if1 .left)),
+      (
+        (nulls, omega (arith, played-turns a (plays d), at-else .if3 .left), played-holders a (plays d)),
+        (omega (arith, buffer-length f), at-else .before .before .if1 .left),
+      ),
     )
 
 returns-6 : tie.Need-returns-6

@@ -6,7 +6,7 @@ use mathlib.Core.Logic.{_↔_, _⊎_, inl, inr}
 use mathlib.Core.Bool.{true, false}
 use mathlib.Core.Option.{Option, some}
 use mathlib.Core.List.{List}
-use lib.ListN.{drop, getElem?}
+use lib.ListN.{length, drop, getElem?}
 use Rattle.program.specs.Tree.{Program}
 use Rattle.commands.specs.Bounds.{program-depth}
 use Rattle.table.specs.Table.{Record, TableRight}
@@ -145,5 +145,6 @@ pub demand3 : {p : Program} → Accepted p → (rs : List Record) → TableRight
 demand3 {p} a rs t es = never-stuck a (begin-good p (a .0) rs t) (initial p rs) (begin-represents p rs) es
 
 -- so the published rules come to a number, turns and a last table
-pub demand3-comes : (p : Program) (rs : List Record) (es : List ℕ) → Demand3 p rs es → (n : ℕ) × (t : ℕ) × (rs′ : List Record) × Comes p rs es n t rs′
-demand3-comes p rs es d = (d .number, d .turns, table-of p (d .last), outcome-exact p rs es (d .returns))
+pub demand3-comes : (p : Program) (rs : List Record) (es : List ℕ) → Demand3 p rs es
+    → (n : ℕ) × (t : ℕ) × (k : ℕ) × (rs′ : List Record) × Comes p rs es n t k rs′
+demand3-comes p rs es d = (d .number, d .turns, length (holders (d .last)), table-of p (d .last), outcome-exact p rs es (d .returns))

@@ -152,11 +152,11 @@ module _ {p : Program} (a : Accepted p) {m : Machine} (good : Good p m) (tabled 
       (i, e, s, all-tabled .each k i e .1 h ∙ ap (λ j. map default (params-of p j)) s)
 
 -- so is the image of the table that the published rules come to
-pub comes-written : {p : Program} → Accepted p → (rs : List Record) → TableRight (p .params) rs → {es : List ℕ} {n t : ℕ} {rs′ : List Record}
-    → Comes p rs es n t rs′
+pub comes-written : {p : Program} → Accepted p → (rs : List Record) → TableRight (p .params) rs → {es : List ℕ} {n t k : ℕ} {rs′ : List Record}
+    → Comes p rs es n t k rs′
     → (pieces (length (enc-table rs′)) ≤ table-blocks) × (TableAccepted p (image (enc-table rs′)) rs′)
 comes-written {p} a rs right {es} c =
-    let (z, q, w) = outcome-complete p rs es c in
+    let (z, q, h, w) = outcome-complete p rs es c in
     rw w at (table-written a (begin-good p (a .0) rs right) (begin-tabled p rs right) (run-visits p (begin p rs) es q .0))
 
 -- Output -----------------------------------------------------------------------------

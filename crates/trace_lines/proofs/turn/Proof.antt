@@ -7,93 +7,74 @@ use Rattle.trace_lines.specs.TellLaws.{turnable-rows, turnable-few, turn
 use Rattle.trace_lines.proofs.turn.Statement.{statement}
 use Rattle.trace_lines.proofs.turn.Tie as tie
 
-holding-requires : tie.Need-holding-requires
-holding-requires c κs =
-    let at-slice-known2 = c .before .before .before .before in
-    let at-shared-slice-known = at-slice-known2 .before .before .before .before in
-    let at-pre = at-shared-slice-known .before in
-    turnable-rows (at-pre .pre .0)
+-- the place that proofs look back to
+abbrev start : tie.After-picked-of → tie.Start
+start c =
+    let at-known = c .before .before .before .before in
+    let at-lists = at-known .before .before .before .before in
+    at-lists .before .before
 
 picked-of-requires : tie.Need-picked-of-requires
 picked-of-requires c κs =
-    let at-holding = c in
-    let at-slice-known3 = at-holding .before .before .before .before in
-    let at-shared-slice-known2 = at-slice-known3 .before .before .before .before in
-    let at-pre = at-shared-slice-known2 .before .before in
-    (turnable-rows (at-pre .pre .0), turnable-few (at-pre .pre .0), c .holding .ensures, rw (c .holding .ensures) (at-pre .pre .0 .held))
+    let at-known = c .before .before .before .before in
+    let at-lists = at-known .before .before .before .before in
+    let t = at-lists .before .pre .0 in
+    (turnable-rows t, turnable-few t, t .begun .ready .kept, t .held)
 
 target-requires : tie.Need-target-requires
 target-requires c κs =
     let at-picked-of = c .before .before in
-    let at-machine = at-picked-of .before .before .before .before in
-    let at-shared-slice-known3 = at-machine .before .before .before .before in
-    let at-pre = at-shared-slice-known3 .before .before .before in
+    let at-pre = start at-picked-of in
     turnable-fits (at-pre .pre .0) (at-pre .args .turn .byte) (at-picked-of .picked-of .ensures)
 
 mul-at : tie.Need-mul-at
 mul-at c =
     let at-picked-of = c .before .before .before in
-    let at-machine = at-picked-of .before .before .before .before in
-    let at-shared-slice-known3 = at-machine .before .before .before .before in
-    let at-pre = at-shared-slice-known3 .before .before .before in
+    let at-pre = start at-picked-of in
     omega (arith, fit-rows (turnable-fits (at-pre .pre .0) (at-pre .args .turn .byte) (at-picked-of .picked-of .ensures)))
 
 add-next : tie.Need-add-next
 add-next c =
     let at-picked-of = c .before .before .before in
-    let at-machine = at-picked-of .before .before .before .before in
-    let at-shared-slice-known3 = at-machine .before .before .before .before in
-    let at-pre = at-shared-slice-known3 .before .before .before in
+    let at-pre = start at-picked-of in
     omega (arith, fit-rows (turnable-fits (at-pre .pre .0) (at-pre .args .turn .byte) (at-picked-of .picked-of .ensures)))
 
 mul-next : tie.Need-mul-next
 mul-next c =
     let at-picked-of = c .before .before .before in
-    let at-machine = at-picked-of .before .before .before .before in
-    let at-shared-slice-known3 = at-machine .before .before .before .before in
-    let at-pre = at-shared-slice-known3 .before .before .before in
+    let at-pre = start at-picked-of in
     omega (arith, fit-rows (turnable-fits (at-pre .pre .0) (at-pre .args .turn .byte) (at-picked-of .picked-of .ensures)))
 
 slice-read-next : tie.Need-slice-read-next
 slice-read-next c =
     let at-picked-of = c .before .before .before .before in
-    let at-machine = at-picked-of .before .before .before .before in
-    let at-shared-slice-known3 = at-machine .before .before .before .before in
-    let at-pre = at-shared-slice-known3 .before .before .before in
+    let at-pre = start at-picked-of in
     omega (arith, fit-rows (turnable-fits (at-pre .pre .0) (at-pre .args .turn .byte) (at-picked-of .picked-of .ensures)))
 
-add-t22 : tie.Need-add-t22
-add-t22 c =
+add-t26 : tie.Need-add-t26
+add-t26 c =
     let at-picked-of = c .before .before .before .before in
-    let at-machine = at-picked-of .before .before .before .before in
-    let at-shared-slice-known3 = at-machine .before .before .before .before in
-    let at-pre = at-shared-slice-known3 .before .before .before in
+    let at-pre = start at-picked-of in
     omega (arith, fit-rows (turnable-fits (at-pre .pre .0) (at-pre .args .turn .byte) (at-picked-of .picked-of .ensures)))
 
-mul-t31 : tie.Need-mul-t31
-mul-t31 c =
+mul-t29 : tie.Need-mul-t29
+mul-t29 c =
     let at-picked-of = c .before .before .before .before in
-    let at-machine = at-picked-of .before .before .before .before in
-    let at-shared-slice-known3 = at-machine .before .before .before .before in
-    let at-pre = at-shared-slice-known3 .before .before .before in
+    let at-pre = start at-picked-of in
     omega (arith, fit-rows (turnable-fits (at-pre .pre .0) (at-pre .args .turn .byte) (at-picked-of .picked-of .ensures)))
 
-slice-read-t29 : tie.Need-slice-read-t29
-slice-read-t29 c =
+slice-read-t27 : tie.Need-slice-read-t27
+slice-read-t27 c =
     let at-target-arg = c .before .before .before .before in
     let at-picked-of = at-target-arg .before in
-    let at-machine = at-picked-of .before .before .before .before in
-    let at-shared-slice-known3 = at-machine .before .before .before .before in
-    let at-pre = at-shared-slice-known3 .before .before .before in
+    let at-pre = start at-picked-of in
     omega (arith, fit-rows (turnable-fits (at-pre .pre .0) (at-pre .args .turn .byte) (at-picked-of .picked-of .ensures)))
 
 position-requires : tie.Need-position-requires
 position-requires c κs =
     let at-target-arg2 = c .before .before .before .before in
     let at-picked-of = at-target-arg2 .before .before in
-    let at-machine = at-picked-of .before .before .before .before in
-    let at-shared-slice-known3 = at-machine .before .before .before .before in
-    let at-pre = at-shared-slice-known3 .before .before .before in (
+    let at-pre = start at-picked-of in (
       (
         turnable-spans (at-pre .pre .0) (at-pre .args .turn .byte) (at-picked-of .picked-of .ensures),
         omega (
@@ -109,22 +90,18 @@ position-requires c κs =
       ),
     )
 
-mul-t36 : tie.Need-mul-t36
-mul-t36 c =
+mul-t34 : tie.Need-mul-t34
+mul-t34 c =
     let at-target = c .before .before .before .before in
     let at-picked-of = at-target .before .before .before in
-    let at-machine = at-picked-of .before .before .before .before in
-    let at-shared-slice-known3 = at-machine .before .before .before .before in
-    let at-pre = at-shared-slice-known3 .before .before .before in
+    let at-pre = start at-picked-of in
     omega (arith, fit-rows (turnable-fits (at-pre .pre .0) (at-pre .args .turn .byte) (at-picked-of .picked-of .ensures)))
 
-shared-slice-read-t38 : tie.Need-shared-slice-read-t38
-shared-slice-read-t38 c =
+shared-slice-read-t36 : tie.Need-shared-slice-read-t36
+shared-slice-read-t36 c =
     let at-slice-known4 = c .before .before .before .before in
     let at-picked-of = at-slice-known4 .before .before .before .before in
-    let at-machine = at-picked-of .before .before .before .before in
-    let at-shared-slice-known3 = at-machine .before .before .before .before in
-    let at-pre = at-shared-slice-known3 .before .before .before in
+    let at-pre = start at-picked-of in
     omega (arith, fit-rows (turnable-fits (at-pre .pre .0) (at-pre .args .turn .byte) (at-picked-of .picked-of .ensures)))
 
 command-requires : tie.Need-command-requires
@@ -133,10 +110,8 @@ command-requires c κs =
     let at-position-arg = at-front .before .before .before .before in
     let at-target-arg2 = at-position-arg .before .before .before .before in
     let at-picked-of = at-target-arg2 .before .before in
-    let at-machine = at-picked-of .before .before .before .before in
-    let at-shared-slice-known3 = at-machine .before .before .before .before in
-    let at-pre = at-shared-slice-known3 .before .before .before in
-    turnable-fit (at-pre .pre .0) (at-pre .args .turn .byte) (at-picked-of .picked-of .ensures)
+    let at-pre = start at-picked-of in
+    (turnable-fit (at-pre .pre .0) (at-pre .args .turn .byte) (at-picked-of .picked-of .ensures), at-pre .pre .0 .held)
 
 returns : tie.Need-returns
 returns c =
@@ -146,9 +121,7 @@ returns c =
     let at-position = at-out .before .before .before .before in
     let at-target = at-position .before .before .before .before in
     let at-picked-of = at-target .before .before .before in
-    let at-machine = at-picked-of .before .before .before .before in
-    let at-shared-slice-known3 = at-machine .before .before .before .before in
-    let at-pre = at-shared-slice-known3 .before .before .before in (
+    let at-pre = start at-picked-of in (
       rw (← (at-picked-of .picked-of .ensures)) (at-command .command .ensures),
       λ p items m r. picked-refused r (at-pre .pre .0 .held) (at-pre .args .turn .byte) (at-picked-of .picked-of .ensures)
           (at-command .command .ensures) (at-pre .args .turn .step) (at-pre .args .turn .taken) (c .if1 .taken),
@@ -164,9 +137,7 @@ back-requires c κs =
     let at-position-arg = at-front .before .before .before .before in
     let at-target = at-position-arg .before .before .before in
     let at-picked-of = at-target .before .before .before in
-    let at-machine = at-picked-of .before .before .before .before in
-    let at-shared-slice-known3 = at-machine .before .before .before .before in
-    let at-pre = at-shared-slice-known3 .before .before .before in (
+    let at-pre = start at-picked-of in (
       rw (at-target .target .ensures)
           (picked-back (at-pre .pre .0 .begun .ready) (at-pre .pre .0 .held) (at-pre .args .turn .byte) (at-picked-of .picked-of .ensures)
           (at-command .command .ensures) (at-if1 .if1 .left)
@@ -185,9 +156,7 @@ returns-2 c =
     let at-position = at-front .before .before .before in
     let at-target = at-position .before .before .before .before in
     let at-picked-of = at-target .before .before .before in
-    let at-machine = at-picked-of .before .before .before .before in
-    let at-shared-slice-known3 = at-machine .before .before .before .before in
-    let at-pre = at-shared-slice-known3 .before .before .before in (
+    let at-pre = start at-picked-of in (
       rw (← (at-picked-of .picked-of .ensures)) (at-command .command .ensures),
       λ p items m r.
           picked-told r (at-pre .pre .0 .held) (at-pre .args .turn .byte) (at-picked-of .picked-of .ensures) (at-command .command .ensures)
@@ -199,6 +168,6 @@ returns-2 c =
 pub turn-spec : {M : Type 1} → statement M
 turn-spec =
     tie.close
-    (tie.spec holding-requires picked-of-requires target-requires mul-at add-next mul-next slice-read-next add-t22 mul-t31 slice-read-t29
-    position-requires mul-t36 shared-slice-read-t38 (λ c κs. search needs) command-requires (λ c. search needs) (λ c. search needs)
+    (tie.spec picked-of-requires target-requires mul-at add-next mul-next slice-read-next add-t26 mul-t29 slice-read-t27
+    position-requires mul-t34 shared-slice-read-t36 (λ c κs. search needs) command-requires (λ c. search needs) (λ c. search needs)
     (λ c. search needs) returns back-requires (λ c. search needs) (λ c. search needs) (λ c. search needs) returns-2)

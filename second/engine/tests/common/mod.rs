@@ -132,15 +132,23 @@ pub fn input_refusal(
     lent.resize(places, None);
     let before = lent.clone();
     let answer = run(program, table, turns, &mut output, &mut lent);
-    assert_eq!(answer, RunAnswer { number, turns: 0, blocks: 0, depth: 0 });
+    assert_eq!(answer, RunAnswer { number, turns: 0, blocks: 0, depth: 0, holding: 0 });
     assert_eq!(output, vec![FILL; room]);
     assert_eq!(lent, before);
 }
 
 /// Asserts a run's whole answer: number, turns, depth as the checker's,
-/// every output byte from the expected table stream, every list place.
+/// every output byte from the expected table stream, every list place. What
+/// hold commands then, none after an end and some otherwise, are given back.
 #[track_caller]
-pub fn runs(program: &[u8], table: &[u8], turns: &[u8], number: u8, taken: usize, after: &[u8]) {
+pub fn runs(
+    program: &[u8],
+    table: &[u8],
+    turns: &[u8],
+    number: u8,
+    taken: usize,
+    after: &[u8],
+) -> usize {
     let program = image(program);
     let mut checked = list();
     let checker = check(&program, &mut checked);
@@ -150,11 +158,14 @@ pub fn runs(program: &[u8], table: &[u8], turns: &[u8], number: u8, taken: usize
     let answer = run(&program, &image(table), turns, &mut output, &mut lent);
     let written = image(after);
     let blocks = written.len() / 512;
-    assert_eq!(answer, RunAnswer { number, turns: taken, blocks, depth: checker.depth });
+    let holding = answer.holding;
+    assert_eq!(answer, RunAnswer { number, turns: taken, blocks, depth: checker.depth, holding });
+    assert_eq!(number == 0, holding == 0);
     let mut expected = vec![FILL; OUTPUT + 3];
     expected[..written.len()].copy_from_slice(&written);
     assert_eq!(output, expected);
     assert_eq!(lent, checked);
+    holding
 }
 
 /// A table stream of records, each a struct byte and its values.

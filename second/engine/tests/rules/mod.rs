@@ -112,13 +112,11 @@ impl<'s> State<'s> {
         Inst { structure, gamma: Vec::new(), chi: Vec::new(), xi }
     }
 
-    /// The number and the commands taken.
+    /// The number and the commands taken; after 33 it goes on from where it is.
     pub fn run(&mut self, turns: &[u8]) -> (u8, usize) {
         let mut taken = 0;
         loop {
-            let holders: Vec<usize> = (0..self.sigma.len())
-                .filter(|&label| !self.sigma[label].gamma.is_empty())
-                .collect();
+            let holders = self.holders();
             if holders.is_empty() {
                 if self.schedule.is_empty() {
                     return (0, taken);
@@ -134,6 +132,11 @@ impl<'s> State<'s> {
                 taken += 1;
             }
         }
+    }
+
+    /// The labels of the instances holding commands.
+    pub fn holders(&self) -> Vec<usize> {
+        (0..self.sigma.len()).filter(|&label| !self.sigma[label].gamma.is_empty()).collect()
     }
 
     fn schedule_move(&mut self) {

@@ -4,7 +4,7 @@ use super::{P, run};
 use crate::cases::Case;
 
 pub fn cases() -> Vec<Case> {
-    [rows(), arithmetic(), both_sides(), constructors(), fixes(), turns()].concat()
+    [rows(), arithmetic(), both_sides(), constructors(), fixes(), turns(), holders()].concat()
 }
 
 fn cells(records: &[(u32, u32)]) -> Vec<u8> {
@@ -161,4 +161,16 @@ fn turns() -> Vec<Case> {
     let endless = [1, 1, 0, 1, 0, 1, 3, 1, 0, 42, 19, 1, 0, 0, 0, 18, 1, 0, 1, 3, 1, 1, 0];
     cases.push(run(&endless, &[1, 0, 0, 0, 0, 0, 0], &[1; 65_536]));
     cases
+}
+
+/// A run cut at each turn: an if passed over as the last command, a step that
+/// holds none, an instance made on the way that holds commands later.
+fn holders() -> Vec<Case> {
+    // struct 0 (Bool): step 0 is `if b then construct 1`, step 1 has nothing,
+    // step 2 is an empty if, as is step 0 of struct 1; 0 < 1 < 2 < 0
+    let mut program = vec![2, 1, 2, 0, 3, 0, 1, 1, 18, 1, 0, 1, 4, 1, 1, 0, 2, 1, 1, 21, 1, 0];
+    program.extend([1, 0, 1, 1, 21, 1, 0, 4, 1, 0, 1, 1, 1, 2, 1, 0]);
+    let table = [3, 0, 0, 1, 0, 0, 0, 1, 0, 0, 0, 0, 0];
+    let bytes: Vec<u8> = (0..40).map(|at: usize| ((at * 7) & 255) as u8).collect();
+    (0..=37).map(|count| run(&program, &table, &bytes[..count])).collect()
 }

@@ -1,10 +1,21 @@
 -- `Machine::command` meets its contract: what the answer makes of the numbers is the state after the command.
 use borrow.Author.Needs.{needs}
+use native.Mathlib.Omega.{arith}
 use Rattle.layout.specs.State.{state-of}
 use Rattle.execute.specs.ReadyLaws.{ready}
 use Rattle.engine.specs.StateLaws.{acted}
 use Rattle.engine.proofs.Machine.command.Statement.{statement}
 use Rattle.engine.proofs.Machine.command.Tie as tie
+
+-- the places that proofs look back to
+abbrev start : tie.After-perform → tie.Start
+start c =
+    let at-numbers = c .before .before .before .before in
+    let at-known = at-numbers .before .before .before .before in
+    at-known .before .before
+
+abbrev at-perform : tie.After-left-holding-arg → tie.After-perform
+at-perform c = let at-after = c .before .before .before .before in at-after .before .before
 
 perform-requires : tie.Need-perform-requires
 perform-requires c κs =
@@ -12,20 +23,23 @@ perform-requires c κs =
     let at-shared-slice-known = at-slice-known3 .before .before .before .before in
     let start = at-shared-slice-known .before in
     let a = start .args in
-    ready (a .list .now) (a .counts .now) (a .l) (state-of (a .self .numbers) (a .heads .now) (a .cells .now)) (start .pre)
+    ready (a .list .now) (a .counts .now) (a .l) (state-of (a .self .numbers) (a .heads .now) (a .cells .now)) (start .pre .0)
+
+left-holding-requires : tie.Need-left-holding-requires
+left-holding-requires c κs =
+    let p = at-perform c in
+    let f = start p .pre .0 in
+    (omega (arith, p .perform .kept .1 .0, f .chosen, f .few, f .heads-long), start p .pre .1)
 
 returns : tie.Need-returns
 returns c =
-    let at-heads = c .before .before .before .before in
-    let at-perform = at-heads .before in
-    let at-numbers = at-perform .before .before .before .before in
-    let at-shared-slice-known2 = at-numbers .before .before .before .before in
-    let start = at-shared-slice-known2 .before .before in
-    let a = start .args in
-    acted (a .list .now) (a .counts .now) (a .heads .now) (a .cells .now) (a .l) (a .self .numbers) (at-perform .perform .result) (at-perform .perform .ensures) (c .after .ensures)
+    let p = at-perform (c .before) in
+    let a = start p .args in
+    acted (a .list .now) (a .counts .now) (a .heads .now) (a .cells .now) (a .l) (a .self .numbers) (p .perform .result) (p .perform .ensures)
+    (c .before .before .after .ensures) (c .left-holding .ensures)
 
 pub command-spec : {M : Type 1} → statement M
 command-spec =
     tie.close
     (tie.spec (λ c. search needs) (λ c. search needs) (λ c. search needs) (λ c. search needs) (λ c. search needs) (λ c. search needs) perform-requires
-    (λ c κs. search needs) (λ c. search needs) (λ c. search needs) returns)
+    (λ c κs. search needs) left-holding-requires (λ c. search needs) (λ c. search needs) returns)

@@ -9,13 +9,13 @@ use Rattle.interpreter.proofs.turns.going_at.Tie as tie
 returns : tie.Need-returns
 returns c =
     let a = c .before .before .before .args in
-    c .resting .ensures ∙ sym (at-nobody (a .turns .now) (a .machine) (a .n) (a .taken) (a .actor) (c .before .if1 .taken))
+    c .resting .ensures ∙ sym (at-nobody (a .turns .now) (a .machine) (a .taken) (a .actor) (c .before .if1 .taken))
 
 returns-2 : tie.Need-returns-2
 returns-2 c =
     let a = c .before .before .before .before .args in
     c .resting2 .ensures
-    ∙ sym (at-last (a .turns .now) (a .machine) (a .n) (a .taken) (a .actor) (omega (arith, c .before .before .if1 .left)) (c .before .if2 .taken))
+    ∙ sym (at-last (a .turns .now) (a .machine) (a .taken) (a .actor) (omega (arith, c .before .before .if1 .left)) (c .before .if2 .taken))
 
 cast-e : tie.Need-cast-e
 cast-e c = omega (arith, c .shared-slice-known2 .given (c .before .before .before .before .args .taken))
@@ -23,7 +23,7 @@ cast-e c = omega (arith, c .shared-slice-known2 .given (c .before .before .befor
 returns-3 : tie.Need-returns-3
 returns-3 c =
     let a = c .before .before .before .before .args in
-    sym (at-turn (a .turns .now) (a .machine) (a .n) (a .taken) (a .actor) (omega (arith, c .before .before .if1 .left)) (c .before .if2 .left))
+    sym (at-turn (a .turns .now) (a .machine) (a .taken) (a .actor) (omega (arith, c .before .before .if1 .left)) (c .before .if2 .left))
 
 pub going-at-spec : {M : Type 1} → statement M
 going-at-spec =

@@ -125,7 +125,7 @@ agains = sliceTy again
 abbrev more : Body
 more = seq (assign (place 12 []) (addrOf (place 9 [])))
     (seq (assign (place 13 []) (aggregate (copy (place 12 []) ∷ int w64 256 ∷ [])))
-    (seq (call #holders·holder (copy (place 13 []) ∷ copy (place 8 (field 5 ∷ [])) ∷ []) (place 10 []))
+    (seq (call #holders·holder (copy (place 13 []) ∷ copy (place 8 (field 4 ∷ [])) ∷ []) (place 10 []))
     (seq (assign (place 14 []) (addrOf (place 5 (field 0 ∷ deref word ∷ []))))
     (seq (assign (place 15 []) (aggregate (copy (place 14 []) ∷ copy (place 5 (field 1 ∷ [])) ∷ [])))
     (seq (assign (place 16 []) (addrOf (place 6 (field 0 ∷ deref word ∷ []))))
@@ -134,10 +134,10 @@ more = seq (assign (place 12 []) (addrOf (place 9 [])))
     copy (place 17 []) ∷ copy (place 7 []) ∷ []) (place 8 []))
     (seq (assign (place 18 []) (addrOf (place 9 [])))
     (seq (assign (place 19 []) (op2 offset (copy (place 18 [])) (copy (place 10 []))))
-    (assign (place 19 (deref P′.mir ∷ [])) (rvOpd (copy (place 8 (field 6 ∷ []))))))))))))))
+    (assign (place 19 (deref P′.mir ∷ [])) (rvOpd (copy (place 8 (field 5 ∷ []))))))))))))))
 
 abbrev one : Body
-one = seq (assign (place 11 []) (rvOpd (copy (place 8 (field 4 ∷ [])))))
+one = seq (assign (place 11 []) (rvOpd (copy (place 8 (field 3 ∷ [])))))
     (seq (cond (copy (place 11 [])) skipᴹ (exit 1))
     more)
 
@@ -358,10 +358,10 @@ module _ {M : Type 1} (𝓤 : URA M) (H : Heap 𝓤) (A : Atoms 𝓤) (W : Given
 
   -- what the numbers of a run and the elements of an array are known to be
   pick-fits : (i : Upto) → i .s .pick < 2 ^ 64
-  pick-fits i = LL.owed T.the-type T′.the-laws (i .s) _ (i .is-s) .1 .1 .1 .1 .1 .0 .1
+  pick-fits i = LL.owed T.the-type T′.the-laws (i .s) _ (i .is-s) .1 .1 .1 .1 .0 .1
 
   is-actor : (s : Going) → Is G s (gval s ∷ []) → Is R (s .actor) (rval (s .actor) ∷ [])
-  is-actor s is = LL.owed T.the-type T′.the-laws s _ is .1 .1 .1 .1 .1 .1 .0
+  is-actor s is = LL.owed T.the-type T′.the-laws s _ is .1 .1 .1 .1 .1 .0
 
   module _ (𝓣 : Tables 𝓤 H) (fm : FmC 𝓤 H (W .laws) (𝓣 .C)) (known-holder : Triple 𝓤 (𝓣 .C #holders·holder) (Holder 𝓤 H A mem run))
       (known-turn : Triple 𝓤 (𝓣 .C #interpreter·turns·turn) (Turn 𝓤 H A mem run))
@@ -397,7 +397,7 @@ module _ {M : Type 1} (𝓤 : URA M) (H : Heap 𝓤) (A : Atoms 𝓤) (W : Given
     unfolding afterTurn
     turns i =
         -- _11 = whether a turn is due
-        assigns ! (of-opd ! (load ! (from ! (fld ! refl (stop !))) (look-in ! 11 (sub ! 4 refl (whole !))))) (from ! (stop !)) (init ! 21 refl (tt, tt)) $
+        assigns ! (of-opd ! (load ! (from ! (fld ! refl (stop !))) (look-in ! 11 (sub ! 3 refl (whole !))))) (from ! (stop !)) (init ! 21 refl (tt, tt)) $
         first ! $ branches ! (load ! (from ! (stop !)) (look ! 21 refl))
         (λ due. skips ! $ exec ! C Λ En more (anyQ (Turned i)) $
         -- _12, _13 = the records as a slice
@@ -415,7 +415,7 @@ module _ {M : Type 1} (𝓤 : URA M) (H : Heap 𝓤) (A : Atoms 𝓤) (W : Given
         use2 W (raw (Holder 𝓤 H A mem run .pre (to-holder α l₉ γ (i .rs) (i .s .pick)))) (goes-holder α l₉ γ (i .rs) (i .s .pick) (pick-fits i)) $
         -- [what the search asks; lent; heads; cells; ..: one place more than before]
         calls-at ! fm (Holder 𝓤 H A mem run) known-holder (to-holder α l₉ γ (i .rs) (i .s .pick)) (and-then ! (load ! (from ! (stop !)) (look ! 24 refl))
-        (and-then ! (load ! (from ! (fld ! refl (stop !))) (look-in ! 12 (sub ! 5 refl (whole !)))) (no-more !))) (λ u.
+        (and-then ! (load ! (from ! (fld ! refl (stop !))) (look-in ! 12 (sub ! 4 refl (whole !)))) (no-more !))) (λ u.
         use1 W (later (some (λ (r : ℕ). ((‵ (flft (α ∷ []) fullShare) ⊛ ‵ ftrue) ⊛ ‵ (usize .own r (u ∷ []))) ⊛ raw
         (ensured 𝓤 H A holder.ended (holder.clauses 𝓤 H A mem run) (α ∷ [], tt) (lent-records l₉ γ (i .rs), (i .s .pick, tt)) tt r)))) (id⊢ 𝓤 _) $
         await ! tt $ pick ! (λ l. split ! $ move ! (1 ∷ []) $
@@ -490,7 +490,7 @@ module _ {M : Type 1} (𝓤 : URA M) (H : Heap 𝓤) (A : Atoms 𝓤) (W : Given
         (within due found) (λ g.
         use1 W (‵ (fat fullShare P′.mir l₉ (place-of 1 0 l) (rval (getD (i .rs) l idle))))
         (W .laws .raw-at fullShare P′.mir l₉ (place-of 1 0 l) (rval (getD (i .rs) l idle))) $
-        assigns-last ! (of-opd ! (load ! (from ! (fld ! refl (stop !))) (look-in ! 15 (sub ! 6 refl (whole !))))) (from ! (hop ! (look ! 33 refl) (stop !)))
+        assigns-last ! (of-opd ! (load ! (from ! (fld ! refl (stop !))) (look-in ! 15 (sub ! 5 refl (whole !))))) (from ! (hop ! (look ! 33 refl) (stop !)))
         (store ! 0 refl (tt, (tt, tt))) $
         use1 W (‵ (cellAt fullShare (R .mir) (rval (r .actor) ∷ []) l₉ (place-of 1 0 l)))
         (W .laws .at-raw fullShare P′.mir l₉ (place-of 1 0 l) (rval (r .actor))) $

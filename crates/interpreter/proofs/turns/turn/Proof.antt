@@ -1,11 +1,10 @@
 -- `interpreter::turns::turn` meets its contract: the command is refused, or the run goes on behind it.
-use Prim.Native.Nat.{ℕ, _+_}
+use Prim.Native.Nat.{_+_}
 use mathlib.Core.Path.{sym, ap, _∙_}
 use mathlib.Core.Bool.{Bool}
 use borrow.Author.Needs.{needs}
 use native.Mathlib.Omega.{arith}
 use Rattle.layout.specs.Layout.{holds}
-use Rattle.interpreter.specs.Counting.{fewer}
 use Rattle.interpreter.specs.Going.{going-at}
 use Rattle.interpreter.specs.GoingLaws.{behind-refused, behind-taken}
 use Rattle.interpreter.proofs.turns.turn.Statement.{statement}
@@ -37,30 +36,28 @@ returns c =
 
 add-going-at : tie.Need-add-going-at
 add-going-at c =
-    let at-if1 = c .before .before .before .before in
+    let at-if1 = c .before .before .before in
     let begin = start (at-command (at-if1 .before)) in
     omega (arith, begin .pre .2, begin .good .1 .1 .1 .1 .1 .1 .0 .1)
 
 returns-2 : tie.Need-returns-2
 returns-2 c =
-    let at-holds = c .before .before .before in
+    let at-holds = c .before .before in
     let at-if1 = at-holds .before .before in
     let called = at-command (at-if1 .before) in
     let a = start called .args in
     let es = a .turns .now in
     let m = called .command .result in
-    let b = at-holds .holds .result in
     record {
       machine = m;
       acted = called .command .ensures;
       goes =
-          c .going-at .ensures ∙ ap (λ (n : ℕ). going-at es m n (a .s .taken + 1) (record { holds = b })) (c .before .before .left-holding .ensures)
-          ∙ ap (λ (t : Bool). going-at es m (fewer t (a .s .holding)) (a .s .taken + 1) (record { holds = t })) (at-holds .holds .ensures)
+          c .going-at .ensures ∙ ap (λ (t : Bool). going-at es m (a .s .taken + 1) (record { holds = t })) (at-holds .holds .ensures)
           ∙ sym (behind-taken es (a .s) m (holds (called .command .last .1 .1 .1 .0) (a .l)) (at-if1 .if1 .left));
     }
 
 pub turn-spec : {M : Type 1} → statement M
 turn-spec =
     tie.close
-    (tie.spec (λ c κs. search needs) (λ c κs. search needs) (λ c. search needs) (λ c. search needs) returns (λ c κs. search needs) (λ c κs. search needs)
+    (tie.spec (λ c κs. search needs) (λ c κs. search needs) (λ c. search needs) (λ c. search needs) returns (λ c κs. search needs)
     add-going-at (λ c κs. search needs) (λ c. search needs) (λ c. search needs) returns-2)

@@ -7,13 +7,13 @@ use Rattle.scheduler.proofs.schedule.advance.Tie as tie
 
 returns : tie.Need-returns
 returns c =
-    let at-begin-all = c .before .before in
+    let at-begin-all = c .before .before .before .before in
     let then1 = at-begin-all .before .before in
     let at-shared-slice-known = then1 .before .before .before .before in
     let start = at-shared-slice-known .before in
     let a = start .args in
     let i = item-starts (a .items .now) (a .spans .now) (a .heads .now) (a .numbers) (then1 .if1 .taken) in
-    λ x. rw (at-begin-all .begin-all .ensures) (i x)
+    λ x. rw (c .holding .ensures, at-begin-all .begin-all .ensures) (i x)
 
 fix-requires : tie.Need-fix-requires
 fix-requires c κs =
@@ -48,5 +48,5 @@ returns-3 c =
 pub advance-spec : {M : Type 1} → statement M
 advance-spec =
     tie.close
-    (tie.spec (λ c. search needs) (λ c. search needs) (λ c κs. search needs) (λ c. search needs) (λ c. search needs) returns fix-requires
+    (tie.spec (λ c. search needs) (λ c. search needs) (λ c κs. search needs) (λ c. search needs) (λ c κs. search needs) (λ c. search needs) returns fix-requires
     returns-2 sub-round (λ c κs. search needs) returns-3)
