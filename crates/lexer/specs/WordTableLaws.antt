@@ -30,7 +30,7 @@ pub record Seeking (t s : List ℕ) (k at : ℕ) : Type 0 where
 pub seeking-start : {t s : List ℕ} → t ≡ laid words → Seeking t s 1 0
 unfolding kinds-from words word-kind word-number
 seeking-start e =
-    let up = (refl, (refl, (refl, (refl, (refl, (refl, (refl, (refl, (refl, (refl, (refl, (refl, tt)))))))))))) in
+    let up : kinds-from 1 words = (refl, (refl, (refl, (refl, (refl, (refl, (refl, (refl, (refl, (refl, (refl, (refl, tt)))))))))))) in
     record { left = words; inner = omega arith; here = e; kinds = up; few = refl; same-found = refl }
 
 first-of : (t : List ℕ) (i x : ℕ) (l : List ℕ) → drop i t ≡ x ∷ l → getD t i 0 ≡ x
