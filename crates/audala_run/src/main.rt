@@ -36,14 +36,7 @@ fn report(r: Report) {
     ];
     let k = text::decimal(&mut line, 0, r.number as u64);
     let n = text::lines::row(&mut line, k, b"", &ns);
-    output(&line, n);
-}
-
-// The first n bytes to standard output.
-fn output(line: &[u8], n: usize) {
-    if n <= line.len() {
-        files::output(&line[..n]);
-    }
+    files::output(&line[..n]);
 }
 
 // The first n bytes to the file that argument 4 names; whether that was done.

@@ -77,13 +77,6 @@ fn structs(program: &[u8], counts: &mut [u8; 16], types: &mut [u8; 128]) -> u8 {
     }
 }
 
-// The first n bytes to standard output.
-fn output(text: &[u8], n: usize) {
-    if n <= text.len() {
-        files::output(&text[..n]);
-    }
-}
-
 // The first n words as lines.
 fn print(words: &[u64], n: usize) {
     if words.len() < n {
@@ -94,7 +87,7 @@ fn print(words: &[u64], n: usize) {
     }
     let mut text = [0u8; TEXT];
     let k = number_lines::print(&words[..n], &mut text);
-    output(&text, k);
+    files::output(&text[..k]);
 }
 
 // The words of a table's stream.

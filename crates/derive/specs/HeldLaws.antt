@@ -120,17 +120,17 @@ module _ (ks : List ℕ) (i : ℕ) (l : i < length ks) where
   kinds-next : kinds-in (take (i + 1) ks) ≡ kinds-in (take i ks) ++ kinds-in (getD ks i 0 ∷ [])
   kinds-next = rw (add-one i, take-suc ks i 0 l) (kinds-append (take i ks) (getD ks i 0 ∷ []))
 
-  passed-none : getD ks i 0 ≡ 0 → passed ks (i + 1) ≡ passed ks i
+  pub passed-none : getD ks i 0 ≡ 0 → passed ks (i + 1) ≡ passed ks i
   unfolding passed kinds-in
   passed-none e = ap (moves (shape 1 [])) (kinds-next ∙ rw e (append-nil (kinds-in (take i ks))))
 
-  passed-token : (getD ks i 0 ≡ 0 → ⊥) → passed ks (i + 1) ≡ move (passed ks i) (sample (getD ks i 0))
+  pub passed-token : (getD ks i 0 ≡ 0 → ⊥) → passed ks (i + 1) ≡ move (passed ks i) (sample (getD ks i 0))
   unfolding passed
   passed-token n =
       ap (moves (shape 1 [])) (kinds-next ∙ ap (λ u. kinds-in (take i ks) ++ u) (kinds-one (getD ks i 0) n))
       ∙ moves-append (shape 1 []) (kinds-in (take i ks)) (getD ks i 0)
 
-kept-shape : {q h : ℕ} {s : List ℕ} {x : Shape} → Kept q h s x → x ≡ shape q (held s h)
+pub kept-shape : {q h : ℕ} {s : List ℕ} {x : Shape} → Kept q h s x → x ≡ shape q (held s h)
 kept-shape (kept e) = rw (← e) refl
 
 pub loop-start : (ks s : List ℕ) → Kept 1 0 s (passed ks 0)

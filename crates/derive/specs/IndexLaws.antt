@@ -1,37 +1,45 @@
--- The place of an act in the tables: for each code and each byte of a kind, also those that are none.
+-- The place of an act and of a role in the tables: for each code and each byte of a kind, also those that are none.
 use Prim.Native.Nat.{ℕ, _+_, _*_, _/_, _%_, _<_, _≤_}
 use native.Mathlib.Omega.{arith}
 use mathlib.Core.Path.{_≡_, refl, sym, ap, _∙_}
 use lib.ListN.{getD, List·getD-eq-default}
-use Rattle.tokens.specs.Tokens.{Word.w-string, Token.word}
+use Rattle.tokens.specs.Tokens.{Word.w-string, Token, Token.word}
 use Rattle.lexer.specs.Kinds.{kinds}
 use Rattle.derive.specs.Shape.{acts, act, samples, sample}
-use Rattle.derive.specs.Table.{entries, act-at, next-of, opened-of, told}
+use Rattle.derive.specs.RoleMarks.{by-kind, marks, mark}
+use Rattle.derive.specs.Table.{entries, act-at, mark-at, next-of, opened-of, told}
 use Rattle.derive.specs.TableLaws.{entry-told}
 use Rattle.derive.specs.declared.Act.{Act}
 use Rattle.derive.specs.declared.Act.the-variants.{Go, Open, Below, Stop}
 use borrow.Author.Tests.{eq-eqb, ne-eqb}
 
-pub index-in : (q k : ℕ) → k < kinds → act-at (q * kinds + k) ≡ act q (sample k)
-unfolding act-at
-index-in q k h =
-    let d : (q * kinds + k) / kinds ≡ q = omega arith in
-    let m : (q * kinds + k) % kinds ≡ k = omega arith in
-    rw (d, m) refl
+-- of every table of rows
+module _ {A : Type 0} (f : ℕ → Token → A) (q k : ℕ) where
+  pub index-in : k < kinds → f ((q * kinds + k) / kinds) (sample ((q * kinds + k) % kinds)) ≡ f q (sample k)
+  index-in h =
+      let d : (q * kinds + k) / kinds ≡ q = omega arith in
+      let m : (q * kinds + k) % kinds ≡ k = omega arith in
+      rw (d, m) refl
 
-pub index-row : (q k : ℕ) → kinds ≤ k → act-at (q * kinds) ≡ act q (sample k)
-unfolding act-at sample samples
-index-row q k h =
-    let d : (q * kinds) / kinds ≡ q = omega arith in
-    let m : (q * kinds) % kinds ≡ 0 = omega arith in
-    rw (d, m) (ap (act q) (first ∙ sym (List·getD-eq-default samples (word w-string) {n = k} h)))
-  where
-    first : getD samples 0 (word w-string) ≡ word w-string
-    first = refl
+  pub index-row : kinds ≤ k → f ((q * kinds) / kinds) (sample ((q * kinds) % kinds)) ≡ f q (sample k)
+  unfolding sample samples
+  index-row h =
+      let d : (q * kinds) / kinds ≡ q = omega arith in
+      let m : (q * kinds) % kinds ≡ 0 = omega arith in
+      rw (d, m) (ap (f q) (first ∙ sym (List·getD-eq-default samples (word w-string) {n = k} h)))
+    where
+      first : getD samples 0 (word w-string) ≡ word w-string
+      first = refl
 
-pub index-out : (q k : ℕ) → 43 ≤ q → act-at 0 ≡ act q (sample k)
-unfolding act-at act acts
-index-out q k h = sym (List·getD-eq-default (acts (sample k)) Stop {n = q} h)
+-- what no code is does nothing and says nothing
+module _ (q k : ℕ) (h : 43 ≤ q) where
+  pub act-out : act-at 0 ≡ act q (sample k)
+  unfolding act-at act acts
+  act-out = sym (List·getD-eq-default (acts (sample k)) Stop {n = q} h)
+
+  pub mark-out : mark-at 0 ≡ mark q (sample k)
+  unfolding mark-at mark marks
+  mark-out = sym (List·getD-eq-default (marks (sample k)) by-kind {n = q} h)
 
 -- the act of an entry by its numbers
 module _ {i n : ℕ} {a : Act} (l : i < entries) (e : n ≡ next-of (act-at i)) (f : act-at i ≡ a) where

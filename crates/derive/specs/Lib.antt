@@ -4,8 +4,15 @@ pub mod Shape
 pub mod BothLaws
 pub mod ShapeLaws
 pub mod KindShapeLaws
+pub mod RoleMarks
+pub mod RoleExpLaws
+pub mod RoleMarkLaws
 pub mod Table
 pub mod TableLaws
 pub mod IndexLaws
 pub mod Held
 pub mod HeldLaws
+pub mod RoleWays
+pub mod Leaving
+pub mod LeavingLaws
+pub mod LoopLaws

@@ -1,10 +1,11 @@
--- The acts as two tables of bytes, a row of 39 kinds for each code: where an act goes to, and what it opens.
+-- The acts as two tables of bytes, a row of 39 kinds for each code: where an act goes to, and what it opens. And the roles as a third.
 use Prim.Native.Nat.{ℕ, zero, suc, _+_, _/_, _%_}
 use mathlib.Core.Bool.{true, false}
 use mathlib.Core.List.{List, [], _∷_}
 use lib.Dec.{eqb}
 use Rattle.lexer.specs.Kinds.{kinds}
 use Rattle.derive.specs.Shape.{sample, act}
+use Rattle.derive.specs.RoleMarks.{mark}
 use Rattle.derive.specs.declared.Act.{Act}
 use Rattle.derive.specs.declared.Act.the-variants.{Go, Open, Below, Stop}
 
@@ -42,3 +43,9 @@ next-bytes = values (λ i. 48 + next-of (act-at i)) 0 entries
 
 unfoldable pub opened-bytes : List ℕ
 opened-bytes = values (λ i. 48 + opened-of (act-at i)) 0 entries
+
+unfoldable pub mark-at : ℕ → ℕ
+mark-at i = mark (i / kinds) (sample (i % kinds))
+
+unfoldable pub mark-bytes : List ℕ
+mark-bytes = values mark-at 0 entries

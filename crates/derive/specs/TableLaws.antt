@@ -9,7 +9,7 @@ use lib.Dec.{T, eqb}
 use borrow.Author.Tests.{eqb-true, eqb-false}
 use Rattle.syntax.specs.Expecting.{word-number, sign-number, on-word, on-sign, on-name, on-op, less, on-less, literal-word, on-literal, type-word, on-type-word, on-type}
 use Rattle.derive.specs.Shape.{on-exp, on-item, past-item, acts, act, samples, sample}
-use Rattle.derive.specs.Table.{entries, act-at, next-of, opened-of, told, values, next-bytes, opened-bytes}
+use Rattle.derive.specs.Table.{entries, act-at, next-of, opened-of, told, values, next-bytes, opened-bytes, mark-at, mark-bytes}
 use Rattle.derive.specs.declared.Act.{Act}
 use Rattle.derive.specs.declared.Act.the-variants.{Go, Open, Below, Stop}
 
@@ -28,6 +28,10 @@ next-byte i h = values-at (λ j. 48 + next-of (act-at j)) 0 entries i h ∙ ap (
 pub opened-byte : (i : ℕ) → i < entries → getD opened-bytes i 0 ≡ 48 + opened-of (act-at i)
 unfolding opened-bytes
 opened-byte i h = values-at (λ j. 48 + opened-of (act-at j)) 0 entries i h ∙ ap (λ j. 48 + opened-of (act-at j)) (zero-add i)
+
+pub mark-byte : (i : ℕ) → i < entries → getD mark-bytes i 0 ≡ mark-at i
+unfolding mark-bytes
+mark-byte i h = values-at mark-at 0 entries i h ∙ ap mark-at (zero-add i)
 
 -- Two numbers tell an act ---------------------------------------------------------------------------
 

@@ -1,12 +1,16 @@
-// Whether a text's tokens have a derivation (02 §1), decided token by token over a lent stack: no function follows the nesting of the text.
+// Whether a text's tokens have a derivation (02 §1), and the role that it gives each of them: token by token over a lent stack, so that no function follows
+// the nesting of the text.
+pub mod roles;
 pub mod table;
 
 ghost use mathlib.Core.Path.{_≡_};
+ghost use mathlib.Core.List.{[]};
 ghost use Prim.Native.Nat.{_+_, _<_, _≤_};
 ghost use lib.ListN.{length, set};
 ghost use Rattle.lexer.specs.Marking.{kinds-in};
 ghost use Rattle.derive.specs.Shape.{Shape.shape, act, acted-below, move, sample, derived};
-ghost use Rattle.derive.specs.Table.{entries, act-at};
+ghost use Rattle.derive.specs.RoleMarks.{mark, role-codes, placed};
+ghost use Rattle.derive.specs.Table.{entries, act-at, mark-at};
 ghost use Rattle.derive.specs.Held.{held, Kept, ends};
 
 // The codes of states and of what is open; the kinds, with 0.
@@ -17,7 +21,7 @@ const KINDS: u8 = 39;
 // Before the first struct; where the tokens may end.
 const START: u8 = 1;
 
-const BEHIND_NAME: u8 = 30;
+const BEHIND_STEP: u8 = 30;
 
 const BEHIND_ITEM: u8 = 33;
 
@@ -44,9 +48,9 @@ fn dead() -> Mark
     }
 }
 
-// The place of an act in the tables.
-fn index(q: u8, k: u8) -> usize
-    ensures { λ r. ⌜ (r < entries) × (act-at r ≡ act q (sample k)) ⌝ }
+// The place of an act and of a role in the tables.
+pub(crate) fn index(q: u8, k: u8) -> usize
+    ensures { λ r. ⌜ (r < entries) × (act-at r ≡ act q (sample k)) × (mark-at r ≡ mark q (sample k)) ⌝ }
 {
     if q >= CODES {
         return 0;
@@ -138,26 +142,37 @@ fn ends(q: u8, h: usize) -> bool
     if h != 0 {
         return false;
     }
-    if q == BEHIND_NAME {
+    if q == BEHIND_STEP {
         return true;
     }
     q == BEHIND_ITEM
 }
 
-// Whether the tokens have a derivation. A kind stands at each place where a token begins, 0 at the others.
-pub fn derived(kinds: &[u8], stack: &mut [u8]) -> bool
+// Whether the tokens have a derivation. A kind stands at each place where a token begins, 0 at the others; each kind gives way to the token's role.
+pub fn derived(kinds: &mut [u8], stack: &mut [u8]) -> bool
     requires { ⌜ length (now kinds) ≤ length (now stack) ⌝ }
     ensures { λ r. ⌜ r ≡ derived (kinds-in (now (kinds .entry))) ⌝ }
+    ensures { λ _. ⌜ now (kinds .exit) ≡ placed (now (kinds .entry)) (role-codes (shape 1 []) (kinds-in (now (kinds .entry)))) ⌝ }
 {
     let mut m = Mark {
         state: START,
         height: 0,
     };
+    let mut last = 0;
     let mut i = 0;
     while i < kinds.len() {
         let k = kinds[i];
         if k != 0 {
+            let q = m.state;
+            roles::leave(
+                kinds,
+                i,
+                last,
+                roles::role(stack, m, k),
+                roles::renamed(q, k),
+            );
             m = step(stack, m, k);
+            last = i;
         }
         i += 1;
     }

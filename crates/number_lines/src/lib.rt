@@ -42,6 +42,7 @@ fn word(out: &mut [u8], k: usize, begin: bool, w: u64) -> usize
 fn last_end(out: &mut [u8], k: usize, begin: bool) -> usize
     requires { ⌜ k < length (now out) ⌝ }
     ensures { λ r. ⌜ Placed (last-end begin) (now (out .entry)) k r (now (out .exit)) ⌝ }
+    ensures { λ r. ⌜ r ≤ k + 1 ⌝ }
 {
     if begin {
         return k;
@@ -53,6 +54,7 @@ fn last_end(out: &mut [u8], k: usize, begin: bool) -> usize
 pub fn print(words: &[u64], out: &mut [u8]) -> usize
     requires { ⌜ 22 * length (now words) < length (now out) ⌝ }
     ensures { λ r. ⌜ Placed (lines (now (words .entry))) (now (out .entry)) 0 r (now (out .exit)) ⌝ }
+    ensures { λ r. ⌜ r ≤ 22 * length (now (words .entry)) + 1 ⌝ }
 {
     let mut k = 0;
     let mut begin = true;

@@ -6,3 +6,13 @@ pub mod Tables
 pub mod TableLaws
 pub mod Declares
 pub mod DeclaresLaws
+pub mod Passing
+pub mod Numbers
+pub mod Outcomes
+pub mod PassingLaws
+pub mod PassingStatLaws
+pub mod PassingTextLaws
+pub mod Uses
+pub mod UsesLaws
+pub mod Standing
+pub mod StandingLaws

@@ -1,3 +1,4 @@
 pub mod TableStream
 pub mod TableStreamLaws
 pub mod RoundTrip
+pub mod StreamAgain

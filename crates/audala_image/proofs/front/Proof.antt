@@ -1,6 +1,5 @@
 -- `front` is safe: the first bytes are as many as asked for.
 use mathlib.Core.Path.{sym}
-use native.Mathlib.Omega.{arith}
 use lib.Seq.{length-take-le}
 use borrow.Author.Needs.{needs}
 use Rattle.audala_image.proofs.front.Statement.{statement}

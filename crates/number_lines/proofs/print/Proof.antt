@@ -16,15 +16,6 @@ abbrev μ-loop : tie.MeasureT-loop
 loop-holds : tie.Need-loop-holds Inv-loop μ-loop
 loop-holds c = lines-begin _ _
 
-mul-word : tie.Need-mul-word Inv-loop μ-loop
-mul-word c = search needs
-
-shared-slice-read-word : tie.Need-shared-slice-read-word Inv-loop μ-loop
-shared-slice-read-word c = search needs
-
-word-requires : tie.Need-word-requires Inv-loop μ-loop
-word-requires c κs = search needs
-
 add-i : tie.Need-add-i Inv-loop μ-loop
 add-i c = omega arith
 
@@ -36,30 +27,14 @@ loop-again c =
     let at-word = c .before .before in let in-loop = at-word .before .before .before in
     lines-next (in-loop .before .loop .inv) (in-loop .loop-test .taken) (at-word .word .ensures .0) (at-word .word .ensures .1)
 
-last-end-requires : tie.Need-last-end-requires Inv-loop μ-loop
-last-end-requires c κs = search needs
-
-same-length : tie.Need-same-length Inv-loop μ-loop
-same-length c = search needs
-
 returns : tie.Need-returns Inv-loop μ-loop
 returns c =
     let at-end = c .before .before in let at-test = at-end .before .before in
-    lines-end (at-test .before .loop .inv) (at-test .loop-test .left) (at-end .last-end .ensures)
+    let passed = at-test .before .loop .inv in
+    (lines-end passed (at-test .loop-test .left) (at-end .last-end .ensures .0), omega (arith, passed .near, passed .within, at-end .last-end .ensures .1))
 
 pub print-spec : {M : Type 1} → statement M
 print-spec =
     tie.close
-    (tie.spec
-    Inv-loop
-    μ-loop
-    loop-holds
-    mul-word
-    shared-slice-read-word
-    word-requires
-    add-i
-    loop-less
-    loop-again
-    last-end-requires
-    same-length
-    returns)
+    (tie.spec Inv-loop μ-loop loop-holds (λ c. search needs) (λ c. search needs) (λ c κs. search needs) add-i loop-less loop-again
+    (λ c κs. search needs) (λ c. search needs) returns)

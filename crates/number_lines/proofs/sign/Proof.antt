@@ -1,6 +1,6 @@
 -- `sign` meets its contract.
 use native.Mathlib.Omega.{arith}
-use Rattle.text.specs.ListingLaws.{placed-none, placed-as, placed-on}
+use Rattle.text.specs.ListingLaws.{placed-none, placed-as}
 use Rattle.number_lines.specs.LineLaws.{sign-none, sign-minus}
 use borrow.Author.Needs.{needs}
 use Rattle.number_lines.proofs.sign.Statement.{statement}
@@ -9,19 +9,10 @@ use Rattle.number_lines.proofs.sign.Tie as tie
 returns : tie.Need-returns
 returns c = (placed-as (sign-none _ (c .if1 .taken)) (placed-none _ _), omega arith)
 
-slice-aggregate-put : tie.Need-slice-aggregate-put
-slice-aggregate-put c = search needs
-
-put-requires : tie.Need-put-requires
-put-requires c κs = search needs
-
-same-length : tie.Need-same-length
-same-length c = search needs
-
 returns-2 : tie.Need-returns-2
 returns-2 c =
     let at-put = c .before .before in let at-if = at-put .before .before .before in
     (placed-as (sign-minus _ (at-if .if1 .left)) (at-put .put .ensures), omega (arith, at-put .put .ensures .end))
 
 pub sign-spec : {M : Type 1} → statement M
-sign-spec = tie.close (tie.spec returns slice-aggregate-put put-requires same-length returns-2)
+sign-spec = tie.close (tie.spec returns (λ c. search needs) (λ c κs. search needs) (λ c. search needs) returns-2)

@@ -1,23 +1,14 @@
 -- `item` meets its contract.
 use native.Mathlib.Omega.{arith}
-use mathlib.Core.Path.{_≡_, sym, _∙_, refl}
+use mathlib.Core.Path.{sym, _∙_}
 use Rattle.table_stream.specs.TableStream.{item-bytes}
 use borrow.Author.Needs.{needs}
 use Rattle.table_stream.proofs.item.Statement.{statement}
 use Rattle.table_stream.proofs.item.Tie as tie
 
-begins-requires : tie.Need-begins-requires
-begins-requires c κs = search needs
-
 returns : tie.Need-returns
 unfolding item-bytes
 returns c = let e = sym (c .before .begins .ensures) ∙ c .if1 .taken in ((rw (item-bytes, e) (omega arith), rw (item-bytes, e)), omega arith)
-
-word-requires : tie.Need-word-requires
-word-requires c κs = search needs
-
-same-length : tie.Need-same-length
-same-length c = search needs
 
 returns-2 : tie.Need-returns-2
 unfolding item-bytes
@@ -27,4 +18,4 @@ returns-2 c =
     (rw (item-bytes, e) (at-word .word .ensures .0), at-word .word .ensures .1)
 
 pub item-spec : {M : Type 1} → statement M
-item-spec = tie.close (tie.spec begins-requires returns word-requires same-length returns-2)
+item-spec = tie.close (tie.spec (λ c κs. search needs) returns (λ c κs. search needs) (λ c. search needs) returns-2)

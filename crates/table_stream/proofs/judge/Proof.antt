@@ -1,6 +1,4 @@
 -- `judge` meets its contract: test by test.
-use native.Mathlib.Omega.{arith}
-use mathlib.Core.Path.{_≡_, sym, _∙_, refl}
 use borrow.Author.Tests.{lt-ltb, le-ltb, eq-eqb, ne-eqb}
 use Rattle.table_stream.specs.TableStream.{judged}
 use borrow.Author.Needs.{needs}
@@ -10,9 +8,6 @@ use Rattle.table_stream.proofs.judge.Tie as tie
 returns : tie.Need-returns
 unfolding judged
 returns c = rw (judged, lt-ltb _ _ (c .if1 .taken))
-
-agreed-requires : tie.Need-agreed-requires
-agreed-requires c κs = search needs
 
 returns-2 : tie.Need-returns-2
 unfolding judged
@@ -33,4 +28,4 @@ returns-4 c =
     rw (judged, le-ltb _ _ (at-agreed .before .if1 .left), ← e, eq-eqb _ _ (c .before .if2 .left), eq-eqb _ _ (c .if3 .left))
 
 pub judge-spec : {M : Type 1} → statement M
-judge-spec = tie.close (tie.spec returns agreed-requires returns-2 returns-3 returns-4)
+judge-spec = tie.close (tie.spec returns (λ c κs. search needs) returns-2 returns-3 returns-4)

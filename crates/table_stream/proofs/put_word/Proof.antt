@@ -1,49 +1,8 @@
 -- `put_word` meets its contract: four bytes one behind the other.
-use native.Mathlib.Omega.{arith}
-use Prim.Native.Nat.{suc, _+_}
-use mathlib.Core.Path.{_≡_, _∙_, ap}
-use lib.ListN.{set}
-use Rattle.program.specs.Encoding.{enc-word}
 use Rattle.table_stream.specs.TableStreamLaws.{word-put}
 use borrow.Author.Needs.{needs}
 use Rattle.table_stream.proofs.put_word.Statement.{statement}
 use Rattle.table_stream.proofs.put_word.Tie as tie
-
-cast-put : tie.Need-cast-put
-cast-put c = search needs
-
-put-requires : tie.Need-put-requires
-put-requires c κs = search needs
-
-add-put : tie.Need-add-put
-add-put c = search needs
-
-cast-put-2 : tie.Need-cast-put-2
-cast-put-2 c = search needs
-
-put-requires-2 : tie.Need-put-requires-2
-put-requires-2 c κs = search needs
-
-add-put-2 : tie.Need-add-put-2
-add-put-2 c = search needs
-
-cast-put-3 : tie.Need-cast-put-3
-cast-put-3 c = search needs
-
-put-requires-3 : tie.Need-put-requires-3
-put-requires-3 c κs = search needs
-
-add-put-3 : tie.Need-add-put-3
-add-put-3 c = search needs
-
-cast-put-4 : tie.Need-cast-put-4
-cast-put-4 c = search needs
-
-put-requires-4 : tie.Need-put-requires-4
-put-requires-4 c κs = search needs
-
-same-length : tie.Need-same-length
-same-length c = search needs
 
 returns : tie.Need-returns
 returns c =
@@ -55,17 +14,5 @@ returns c =
 pub put-word-spec : {M : Type 1} → statement M
 put-word-spec =
     tie.close
-    (tie.spec
-    cast-put
-    put-requires
-    add-put
-    cast-put-2
-    put-requires-2
-    add-put-2
-    cast-put-3
-    put-requires-3
-    add-put-3
-    cast-put-4
-    put-requires-4
-    same-length
-    returns)
+    (tie.spec (λ c. search needs) (λ c κs. search needs) (λ c. search needs) (λ c. search needs) (λ c κs. search needs) (λ c. search needs)
+    (λ c. search needs) (λ c κs. search needs) (λ c. search needs) (λ c. search needs) (λ c κs. search needs) (λ c. search needs) returns)

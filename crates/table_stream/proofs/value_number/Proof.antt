@@ -1,6 +1,5 @@
 -- `value_number` meets its contract.
-use native.Mathlib.Omega.{arith}
-use borrow.Author.Tests.{lt-ltb, le-ltb, eq-eqb, ne-eqb}
+use borrow.Author.Tests.{lt-ltb, le-ltb}
 use Rattle.table_stream.specs.TableStream.{value-number}
 use borrow.Author.Needs.{needs}
 use Rattle.table_stream.proofs.value_number.Statement.{statement}
@@ -10,12 +9,9 @@ returns : tie.Need-returns
 unfolding value-number
 returns c = rw (value-number, lt-ltb _ 4294967296 (c .if1 .taken))
 
-sub-result : tie.Need-sub-result
-sub-result c = search needs
-
 returns-2 : tie.Need-returns-2
 unfolding value-number
 returns-2 c = rw (value-number, le-ltb _ 4294967296 (c .if1 .left))
 
 pub value-number-spec : {M : Type 1} → statement M
-value-number-spec = tie.close (tie.spec returns sub-result returns-2)
+value-number-spec = tie.close (tie.spec returns (λ c. search needs) returns-2)

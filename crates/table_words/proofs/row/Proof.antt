@@ -3,44 +3,6 @@ use Rattle.table_words.specs.TableWordsLaws.{row-written}
 use borrow.Author.Needs.{needs}
 use Rattle.table_words.proofs.row.Statement.{statement}
 use Rattle.table_words.proofs.row.Tie as tie
-use Rattle.table_words.proofs.row.Reads as reads
-use Rattle.table_words.proofs.row.Lts as lts
-use Rattle.table_words.proofs.byte.Reads as byte-reads
-use Rattle.table_words.proofs.put.Reads as put-reads
-use Rattle.table_words.proofs.values.Reads as values-reads
-
-byte-requires : tie.Need-byte-requires
-byte-requires c κs = search needs
-
-byte-requires-2 : tie.Need-byte-requires-2
-byte-requires-2 c κs = search needs
-
-add-put : tie.Need-add-put
-add-put c = search needs
-
-put-requires : tie.Need-put-requires
-put-requires c κs = search needs
-
-add-put-2 : tie.Need-add-put-2
-add-put-2 c = search needs
-
-put-requires-2 : tie.Need-put-requires-2
-put-requires-2 c κs = search needs
-
-mul-values : tie.Need-mul-values
-mul-values c = search needs
-
-add-values : tie.Need-add-values
-add-values c = search needs
-
-add-values-2 : tie.Need-add-values-2
-add-values-2 c = search needs
-
-values-requires : tie.Need-values-requires
-values-requires c κs = search needs
-
-same-length : tie.Need-same-length
-same-length c = search needs
 
 returns : tie.Need-returns
 returns c =
@@ -55,16 +17,5 @@ returns c =
 pub row-spec : {M : Type 1} → statement M
 row-spec =
     tie.close
-    (tie.spec
-    byte-requires
-    byte-requires-2
-    add-put
-    put-requires
-    add-put-2
-    put-requires-2
-    mul-values
-    add-values
-    add-values-2
-    values-requires
-    same-length
-    returns)
+    (tie.spec (λ c κs. search needs) (λ c κs. search needs) (λ c. search needs) (λ c κs. search needs) (λ c. search needs)
+    (λ c κs. search needs) (λ c. search needs) (λ c. search needs) (λ c. search needs) (λ c κs. search needs) (λ c. search needs) returns)

@@ -14,15 +14,9 @@ returns-2 : tie.Need-returns-2
 unfolding value-word
 returns-2 c = rw (value-word, eq-eqb _ 0 (c .before .if1 .left), lt-ltb _ int-half (c .if2 .taken))
 
-sub-result : tie.Need-sub-result
-sub-result c = search needs
-
-add-result : tie.Need-add-result
-add-result c = search needs
-
 returns-3 : tie.Need-returns-3
 unfolding value-word
 returns-3 c = rw (value-word, eq-eqb _ 0 (c .before .if1 .left), le-ltb _ int-half (c .if2 .left))
 
 pub value-word-spec : {M : Type 1} → statement M
-value-word-spec = tie.close (tie.spec returns returns-2 sub-result add-result returns-3)
+value-word-spec = tie.close (tie.spec returns returns-2 (λ c. search needs) (λ c. search needs) returns-3)

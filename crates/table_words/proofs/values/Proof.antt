@@ -17,30 +17,6 @@ abbrev μ-loop : tie.MeasureT-loop
 loop-holds : tie.Need-loop-holds Inv-loop μ-loop
 loop-holds c = (values-begin _ _ _ _ _ _ _, refl)
 
-add-put : tie.Need-add-put Inv-loop μ-loop
-add-put c = search needs
-
-add-byte : tie.Need-add-byte Inv-loop μ-loop
-add-byte c = search needs
-
-byte-requires : tie.Need-byte-requires Inv-loop μ-loop
-byte-requires c κs = search needs
-
-mul-quad : tie.Need-mul-quad Inv-loop μ-loop
-mul-quad c = search needs
-
-add-quad : tie.Need-add-quad Inv-loop μ-loop
-add-quad c = search needs
-
-quad-requires : tie.Need-quad-requires Inv-loop μ-loop
-quad-requires c κs = search needs
-
-value-word-requires : tie.Need-value-word-requires Inv-loop μ-loop
-value-word-requires c κs = search needs
-
-put-requires : tie.Need-put-requires Inv-loop μ-loop
-put-requires c κs = search needs
-
 add-x : tie.Need-add-x Inv-loop μ-loop
 add-x c = omega arith
 
@@ -56,29 +32,12 @@ loop-again c =
       at-put .put .kept .0 ∙ in-loop .before .loop .inv .1,
     )
 
-same-length : tie.Need-same-length Inv-loop μ-loop
-same-length c = search needs
-
 returns : tie.Need-returns Inv-loop μ-loop
 returns c = values-end (c .before .loop .inv .0) (c .loop-test .left)
 
 pub values-spec : {M : Type 1} → statement M
 values-spec =
     tie.close
-    (tie.spec
-    Inv-loop
-    μ-loop
-    loop-holds
-    add-put
-    add-byte
-    byte-requires
-    mul-quad
-    add-quad
-    quad-requires
-    value-word-requires
-    put-requires
-    add-x
-    loop-less
-    loop-again
-    same-length
+    (tie.spec Inv-loop μ-loop loop-holds (λ c. search needs) (λ c. search needs) (λ c κs. search needs) (λ c. search needs)
+    (λ c. search needs) (λ c κs. search needs) (λ c κs. search needs) (λ c κs. search needs) add-x loop-less loop-again (λ c. search needs)
     returns)

@@ -1,0 +1,35 @@
+-- `roles::role` meets its contract: one law for each way.
+use mathlib.Core.Path.{_∙_}
+use borrow.Author.Needs.{needs}
+use Rattle.derive.specs.RoleWays.{role-own, role-none, role-top}
+use Rattle.derive.proofs.roles.role.Statement.{statement}
+use Rattle.derive.proofs.roles.role.Tie as tie
+
+returns : tie.Need-returns
+returns c =
+    let at-mark = c .before .before in
+    let args = at-mark .before .before .before .args in
+    c .said .ensures
+    ∙ role-own (args .m .state) (args .k) (args .m .height) (args .stack .now) (at-mark .mark .ensures ∙ at-mark .before .index .ensures .2)
+    (c .before .if1 .taken)
+
+returns-2 : tie.Need-returns-2
+returns-2 c =
+    let at-mark = c .before .before in
+    let args = at-mark .before .before .before .args in
+    role-none (args .m .state) (args .k) (args .m .height) (args .stack .now) (at-mark .mark .ensures ∙ at-mark .before .index .ensures .2)
+    (c .before .if1 .left) (c .if2 .taken)
+
+returns-3 : tie.Need-returns-3
+returns-3 c =
+    let at-mark = c .before .before .before .before in
+    let args = at-mark .before .before .before .args in
+    c .said-by .ensures
+    ∙ role-top (args .m .state) (args .k) (args .m .height) (args .stack .now) (at-mark .mark .ensures ∙ at-mark .before .index .ensures .2)
+    (c .before .before .before .if1 .left) (c .before .before .if2 .left)
+
+pub role-spec : {M : Type 1} → statement M
+role-spec =
+    tie.close
+    (tie.spec (λ c κs. search needs) (λ c κs. search needs) (λ c κs. search needs) returns returns-2 (λ c. search needs) (λ c. search needs)
+    (λ c κs. search needs) returns-3)

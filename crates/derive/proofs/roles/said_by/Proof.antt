@@ -1,0 +1,13 @@
+-- `roles::said_by` meets its contract: the byte at the place of a code and a kind.
+use mathlib.Core.Path.{ap, _∙_}
+use borrow.Author.Needs.{needs}
+use Rattle.derive.specs.RoleMarks.{said}
+use Rattle.derive.proofs.roles.said_by.Statement.{statement}
+use Rattle.derive.proofs.roles.said_by.Tie as tie
+
+returns : tie.Need-returns
+returns c =
+    c .said .ensures ∙ ap (λ b. said b (c .before .before .before .args .k)) (c .before .mark .ensures ∙ c .before .before .index .ensures .2)
+
+pub said-by-spec : {M : Type 1} → statement M
+said-by-spec = tie.close (tie.spec (λ c κs. search needs) (λ c κs. search needs) (λ c κs. search needs) returns)

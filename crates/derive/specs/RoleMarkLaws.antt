@@ -1,0 +1,235 @@
+-- The roles from codes and kinds are those that the grammar gives: statements, structs, the schedule and the program, by the derivation alone.
+use Prim.Native.Nat.{ℕ}
+use mathlib.Core.Path.{_≡_, refl, ap, _∙_}
+use mathlib.Core.List.{List, [], _∷_, map}
+use mathlib.Core.Option.{some}
+use Rattle.program.specs.Tree.{Op.op-lt}
+use Rattle.tokens.specs.Tokens.{Sign.rpar, Sign.rbrace, Sign.semicolon, Token, Token.sign, Token.op}
+use Rattle.syntax.specs.Syntax.{Id, TypeName, TypeName.int-type, TypeName.nat-type, TypeName.bool-type, TypeName.id-type, Var, Var.id, Var.dot}
+use Rattle.syntax.specs.Syntax.{Exp, Exps, Stat, Stat.if-then, Stat.assignment, Stat.update, Stat.construct, Stats, Stats.no-stats, Stats.stats}
+use Rattle.syntax.specs.Syntax.{Par, Par.par, Step, Step.step, Struct, Struct.struct, Defs, Defs.last-struct, Defs.defs, Item, Item.execution}
+use Rattle.syntax.specs.Syntax.{Item.typed-execution, Item.fixpoint, Sched, Sched.last-item, Sched.barrier, Program, Program.program}
+use Rattle.syntax.specs.Yield.{type-token, yield-var, yield-exp, yield-exps, yield-stat, yield-stats, yield-par, yield-par-list, yield-pars, yield-step}
+use Rattle.syntax.specs.Yield.{yield-steps, yield-struct, yield-defs, yield-item, yield-sched, yield}
+use Rattle.syntax.specs.Bracketing.{FitsStat, FitsStats, FitsSteps, FitsStruct, FitsDefs, FitsProgram, Derives}
+use Rattle.tokens.specs.Scanning.{lex}
+use Rattle.lexer.specs.Marking.{marks as marks-in, kinds-in}
+use Rattle.lexer.specs.MarkingLaws.{marks-tell}
+use Rattle.lexer.specs.Kinds.{kind}
+use Rattle.derive.specs.Roles.{Part.pars-close, Part.steps-close, Role, Role.plain, Role.part, code, roles-var, roles-exp, roles-stat, roles-stats}
+use Rattle.derive.specs.Roles.{roles-par, roles-par-list, roles-pars, roles-step, roles-steps, roles-struct, roles-defs, roles-item, roles-sched, roles}
+use Rattle.derive.specs.Shape.{Shape.shape}
+use Rattle.derive.specs.RoleMarks.{by-next, role-codes, placed}
+use Rattle.derive.specs.RoleExpLaws.{found, Comes, Comes.comes, codes, onto, follows-semicolon, follows-then, Dots, later-comes, Args, ComesExp}
+use Rattle.derive.specs.RoleExpLaws.{ComesArgs, exp-comes, args-come}
+
+-- Statements -----------------------------------------------------------------------------------
+
+-- what a statement yields has its roles
+record ComesStat (s : Stat) : Type 0 where
+  there : {st : List ℕ} {ts : List Token} {rs : List Role} → Comes 13 st ts rs → Comes 13 st (yield-stat s ts) (roles-stat s rs)
+
+record ComesStats (b : Stats) : Type 0 where
+  all : {st : List ℕ} {ts : List Token} {rs : List Role} → Comes 13 st ts rs → Comes 13 st (yield-stats b ts) (roles-stats b rs)
+
+if-comes : {e : Exp} {b : Stats} → ComesExp e → ComesStats b → ComesStat (if-then e b)
+unfolding yield-stat roles-stat found
+if-comes c d =
+    record {
+      there = λ {st} h. comes (onto 2 (codes (c .there {st = 38 ∷ st} follows-then (comes (onto 3 (onto 76 (codes
+          (d .all {st = 41 ∷ st} (comes (onto 77 (codes h)))))))))));
+    }
+
+-- the value of an assignment or an update, and the semicolon
+value-comes : {e : Exp} → ComesExp e → {st : List ℕ} {ts : List Token} {rs : List Role} → Comes 13 st ts rs
+    → Comes 22 (39 ∷ st) (yield-exp e (sign semicolon ∷ ts)) (roles-exp e (plain (sign semicolon) ∷ rs))
+unfolding found
+value-comes c {st} h = c .there {st = 39 ∷ st} follows-semicolon (comes (onto 19 (codes h)))
+
+assignment-comes : (a : TypeName) (x : Id) {e : Exp} → ComesExp e → ComesStat (assignment a x e)
+unfolding yield-stat roles-stat type-token found
+assignment-comes int-type x c = record { there = λ h. comes (onto 55 (onto 42 (onto 20 (codes (value-comes c h))))) }
+assignment-comes nat-type x c = record { there = λ h. comes (onto 56 (onto 42 (onto 20 (codes (value-comes c h))))) }
+assignment-comes bool-type x c = record { there = λ h. comes (onto 57 (onto 42 (onto 20 (codes (value-comes c h))))) }
+assignment-comes (id-type y) x c = record { there = λ h. comes (onto 58 (onto 42 (onto 20 (codes (value-comes c h))))) }
+
+dots-written : Dots 15 16
+unfolding found
+dots-written = record { a-variable = λ st ks. refl; a-dot = λ st ks. refl }
+
+update-comes : (v : Var) {e : Exp} → ComesExp e → ComesStat (update v e)
+unfolding yield-stat roles-stat yield-var roles-var found
+update-comes (id x) c = record { there = λ h. comes (onto 44 (onto 20 (codes (value-comes c h)))) }
+update-comes (dot x v) c =
+    record { there = λ {st} h. comes (onto 44 (onto 21 (codes (later-comes dots-written v {st = st} (comes (onto 20 (codes (value-comes c h)))))))) }
+
+-- arguments of a construct statement are met as those of a constructor
+statement-args : Args 37 20
+unfolding found
+statement-args = record { empty = λ st ks. refl; more = λ st ks. refl; last = λ st ks. refl }
+
+as-args : (st ks : List ℕ) → found (shape 19 st) ks ≡ found (shape 27 st) ks
+unfolding found
+as-args st [] = refl
+as-args st (k ∷ ks) = refl
+
+construct-comes : (x : Id) {es : Exps} → ComesArgs es → ComesStat (construct x es)
+unfolding yield-stat roles-stat found
+construct-comes x {es} c =
+    record {
+      there = λ {st} {ts} h. comes (onto 47 (onto 65 (as-args (37 ∷ st) (map kind (yield-exps es (sign rpar ∷ sign semicolon ∷ ts)))
+          ∙ codes (c .all statement-args {st = st} (comes (onto 19 (codes h)))))));
+    }
+
+stats-end : ComesStats no-stats
+unfolding yield-stats roles-stats
+stats-end = record { all = λ h. h }
+
+stats-go-on : {t : Stat} {b : Stats} → ComesStat t → ComesStats b → ComesStats (stats t b)
+unfolding yield-stats roles-stats
+stats-go-on c d = record { all = λ h. c .there (d .all h) }
+
+mutual
+  unfolding FitsStat FitsStats
+
+  stat-comes : (t : Stat) → FitsStat t → ComesStat t
+  stat-comes (if-then e b) f = if-comes (exp-comes e (f .0)) (stats-come b (f .1))
+  stat-comes (assignment a x e) f = assignment-comes a x (exp-comes e f)
+  stat-comes (update v e) f = update-comes v (exp-comes e f)
+  stat-comes (construct x es) f = construct-comes x (args-come es f)
+
+  stats-come : (b : Stats) → FitsStats b → ComesStats b
+  stats-come no-stats f = stats-end
+  stats-come (stats t b) f = stats-go-on (stat-comes t (f .0)) (stats-come b (f .1))
+
+-- Structs ----------------------------------------------------------------------------------------
+
+par-comes : (q : Par) {ts : List Token} {rs : List Role} → Comes 9 [] ts rs → Comes 6 [] (yield-par q ts) (roles-par q rs)
+unfolding yield-par roles-par type-token found
+par-comes (par x int-type) h = comes (onto 40 (onto 18 (onto 51 (codes h))))
+par-comes (par x nat-type) h = comes (onto 40 (onto 18 (onto 52 (codes h))))
+par-comes (par x bool-type) h = comes (onto 40 (onto 18 (onto 53 (codes h))))
+par-comes (par x (id-type y)) h = comes (onto 40 (onto 18 (onto 54 (codes h))))
+
+-- the first parameter is met as any other
+first-par : (q : Par) (k : List Token) → found (shape 5 []) (map kind (yield-par q k)) ≡ found (shape 6 []) (map kind (yield-par q k))
+unfolding yield-par found
+first-par (par x a) k = refl
+
+par-list-comes : (ps : List Par) {ts : List Token} {rs : List Role} → Comes 10 [] ts rs
+    → Comes 9 [] (yield-par-list ps (sign rpar ∷ ts)) (roles-par-list ps (part pars-close ∷ rs))
+unfolding yield-par-list roles-par-list found
+par-list-comes [] h = comes (onto 69 (codes h))
+par-list-comes (q ∷ ps) h = comes (onto 78 (codes (par-comes q (par-list-comes ps h))))
+
+pars-come : (ps : List Par) {ts : List Token} {rs : List Role} → Comes 10 [] ts rs
+    → Comes 5 [] (yield-pars ps (sign rpar ∷ ts)) (roles-pars ps (part pars-close ∷ rs))
+unfolding yield-pars roles-pars found
+pars-come [] h = comes (onto 69 (codes h))
+pars-come (q ∷ ps) h = comes (first-par q _ ∙ codes (par-comes q (par-list-comes ps h)))
+
+steps-come : (ss : List Step) → FitsSteps ss → {ts : List Token} {rs : List Role} → Comes 2 [] ts rs
+    → Comes 11 [] (yield-steps ss (sign rbrace ∷ ts)) (roles-steps ss (part steps-close ∷ rs))
+unfolding FitsSteps yield-steps roles-steps yield-step roles-step found
+steps-come [] f h = comes (onto 73 (codes h))
+steps-come (step x b ∷ ss) f h =
+    comes (onto 41 (onto 74 (codes (stats-come b (f .0) .all {st = 40 ∷ []} (comes (onto 75 (codes (steps-come ss (f .1) h))))))))
+
+struct-comes : (d : Struct) → FitsStruct d → {ts : List Token} {rs : List Role} → Comes 2 [] ts rs → Comes 2 [] (yield-struct d ts) (roles-struct d rs)
+unfolding FitsStruct yield-struct roles-struct found
+struct-comes (struct x ps ss) f h = comes (onto 1 (onto 39 (onto 68 (codes (pars-come ps (comes (onto 72 (codes (steps-come ss f h)))))))))
+
+defs-come : (d : Defs) → FitsDefs d → {ts : List Token} {rs : List Role} → Comes 2 [] ts rs → Comes 2 [] (yield-defs d ts) (roles-defs d rs)
+unfolding FitsDefs yield-defs roles-defs
+defs-come (last-struct d) f h = struct-comes d f h
+defs-come (defs d ds) f h = struct-comes d (f .0) (defs-come ds (f .1) h)
+
+-- the first struct is met as any other
+first-struct : (d : Defs) (k : List Token) → found (shape 1 []) (map kind (yield-defs d k)) ≡ found (shape 2 []) (map kind (yield-defs d k))
+unfolding yield-defs yield-struct found
+first-struct (last-struct (struct x ps ss)) k = refl
+first-struct (defs (struct x ps ss) ds) k = refl
+
+-- The schedule ---------------------------------------------------------------------------------------
+
+-- what may follow an item is met behind a name as behind any other
+record FollowsItem (ks : List ℕ) : Type 0 where
+  behind-step : (st : List ℕ) → found (shape 30 st) ks ≡ found (shape 33 st) ks
+  keeps : by-next 48 30 ks ≡ 48
+
+ends-item : FollowsItem []
+unfolding found
+ends-item = record { behind-step = λ st. refl; keeps = refl }
+
+less-item : (ks : List ℕ) → FollowsItem (27 ∷ ks)
+unfolding found
+less-item ks = record { behind-step = λ st. refl; keeps = refl }
+
+fix-item : (ks : List ℕ) → FollowsItem (14 ∷ ks)
+unfolding found
+fix-item ks = record { behind-step = λ st. refl; keeps = refl }
+
+record ComesItem (i : Item) : Type 0 where
+  there : {st : List ℕ} {ts : List Token} {rs : List Role} → FollowsItem (map kind ts) → Comes 33 st ts rs → Comes 29 st (yield-item i ts) (roles-item i rs)
+
+record ComesSched (s : Sched) : Type 0 where
+  all : {st : List ℕ} {ts : List Token} {rs : List Role} → FollowsItem (map kind ts) → Comes 33 st ts rs → Comes 29 st (yield-sched s ts) (roles-sched s rs)
+
+execution-comes : (x : Id) → ComesItem (execution x)
+unfolding yield-item roles-item found
+execution-comes x = record { there = λ {st} f h. comes (rw (f .keeps) (onto 48 (f .behind-step st ∙ codes h))) }
+
+typed-comes : (x y : Id) → ComesItem (typed-execution x y)
+unfolding yield-item roles-item found
+typed-comes x y = record { there = λ f h. comes (onto 49 (onto 21 (onto 50 (codes h)))) }
+
+fix-comes : {s : Sched} → ComesSched s → ComesItem (fixpoint s)
+unfolding yield-item roles-item found
+fix-comes c = record { there = λ {st} f h. comes (onto 6 (onto 70 (codes (c .all {st = 42 ∷ st} (fix-item _) (comes (onto 71 (codes h))))))) }
+
+last-comes : {i : Item} → ComesItem i → ComesSched (last-item i)
+unfolding yield-sched roles-sched
+last-comes c = record { all = λ f h. c .there f h }
+
+barrier-comes : {i : Item} {s : Sched} → ComesItem i → ComesSched s → ComesSched (barrier i s)
+unfolding yield-sched roles-sched found
+barrier-comes c d = record { all = λ f h. c .there (less-item _) (comes (onto 80 (codes (d .all f h)))) }
+
+mutual
+  item-comes : (i : Item) → ComesItem i
+  item-comes (execution x) = execution-comes x
+  item-comes (typed-execution x y) = typed-comes x y
+  item-comes (fixpoint s) = fix-comes (sched-comes s)
+
+  sched-comes : (s : Sched) → ComesSched s
+  sched-comes (last-item i) = last-comes (item-comes i)
+  sched-comes (barrier i s) = barrier-comes (item-comes i) (sched-comes s)
+
+-- the first item, behind the last struct, is met as any other
+first-item : (i : Item) (k : List Token) → found (shape 2 []) (map kind (yield-item i k)) ≡ found (shape 29 []) (map kind (yield-item i k))
+unfolding yield-item found
+first-item (execution x) k = refl
+first-item (typed-execution x y) k = refl
+first-item (fixpoint s) k = refl
+
+begins : (s : Sched) (k : List Token) → found (shape 2 []) (map kind (yield-sched s k)) ≡ found (shape 29 []) (map kind (yield-sched s k))
+unfolding yield-sched
+begins (last-item i) k = first-item i k
+begins (barrier i s) k = first-item i (op op-lt ∷ yield-sched s k)
+
+-- The program ------------------------------------------------------------------------------------------
+
+program-comes : (c : Program) → FitsProgram c → Comes 1 [] (yield c) (roles c)
+unfolding FitsProgram yield roles found
+program-comes (program d s) f =
+    comes (first-struct d _ ∙ codes (defs-come d f (comes (begins s [] ∙ codes (sched-comes s .all ends-item (comes refl))))))
+
+-- where tokens have a derivation, their roles from codes and kinds are those that it gives them
+pub derives-roles : (ts : List Token) (c : Program) → Derives ts c → role-codes (shape 1 []) (map kind ts) ≡ map code (roles c)
+unfolding found
+derives-roles ts c d = rw (← d .yields) (codes (program-comes c (d .fits)))
+
+-- where a text has a derivation, the roles in the places of its tokens are those that it gives them
+pub text-roles : (x : List ℕ) (ts : List Token) (c : Program) → lex 0 x ≡ some ts → Derives ts c
+    → placed (marks-in x) (role-codes (shape 1 []) (kinds-in (marks-in x))) ≡ placed (marks-in x) (map code (roles c))
+text-roles x ts c e d = ap (placed (marks-in x)) (ap (role-codes (shape 1 [])) (marks-tell x ts e .0) ∙ derives-roles ts c d)

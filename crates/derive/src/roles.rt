@@ -1,0 +1,120 @@
+// The role of a token by codes and kinds (`specs/RoleMarks.antt`), left in the place of its kind.
+use crate::Mark;
+use crate::index;
+use crate::table;
+ghost use mathlib.Core.Path.{_≡_};
+ghost use Prim.Native.Nat.{_<_, _≤_};
+ghost use lib.ListN.{length};
+ghost use Rattle.derive.specs.Shape.{Shape.shape, sample};
+ghost use Rattle.derive.specs.RoleMarks.{mark, said, role, renamed};
+ghost use Rattle.derive.specs.Held.{held};
+ghost use Rattle.derive.specs.Leaving.{amended, left};
+
+// Behind a name that begins a statement, an expression, an item.
+const BEHIND_NAME: u8 = 14;
+
+const BEHIND_ID: u8 = 24;
+
+const BEHIND_STEP: u8 = 30;
+
+// Two bytes of the table that are no role: the kind says it all; what was opened last says it.
+const BY_KIND: u8 = 95;
+
+const BY_OPENED: u8 = 94;
+
+// Kinds behind a name that tell its role, and the roles that they tell: a local's type, and names of structs.
+const LPAR: u8 = 13;
+
+const DOT: u8 = 21;
+
+const NAME: u8 = 36;
+
+const LOCAL_TYPE: u8 = 58;
+
+const MADE: u8 = 46;
+
+const MADE_STATEMENT: u8 = 47;
+
+const CALLED_STRUCT: u8 = 49;
+
+// What a byte of the table says of a token of kind k.
+fn said(m: u8, k: u8) -> u8
+    ensures { λ r. ⌜ r ≡ said m k ⌝ }
+{
+    if m == BY_KIND {
+        return k;
+    }
+    m
+}
+
+// The same, of the row of a code.
+fn said_by(q: u8, k: u8) -> u8
+    ensures { λ r. ⌜ r ≡ said (mark q (sample k)) k ⌝ }
+{
+    said(table::mark(index(q, k)), k)
+}
+
+// The role of a token by the state that it meets, or by what was opened last.
+pub(crate) fn role(stack: &[u8], m: Mark, k: u8) -> u8
+    requires { ⌜ m .height ≤ length (now stack) ⌝ }
+    ensures { λ r. ⌜ r ≡ role (shape (m .state) (held (now (stack .entry)) (m .height))) k ⌝ }
+{
+    let q = m.state;
+    let h = m.height;
+    let b = table::mark(index(q, k));
+    if b != BY_OPENED {
+        return said(b, k);
+    }
+    if h == 0 {
+        return k;
+    }
+    let i = h - 1;
+    said_by(stack[i], k)
+}
+
+// The other role of a name that waits, by the kind behind it; 0 where it keeps its role.
+pub(crate) fn renamed(q: u8, k: u8) -> u8
+    ensures { λ r. ⌜ r ≡ renamed q k ⌝ }
+{
+    if q == BEHIND_NAME {
+        if k == NAME {
+            return LOCAL_TYPE;
+        }
+        if k == LPAR {
+            return MADE_STATEMENT;
+        }
+        return 0;
+    }
+    if q == BEHIND_ID {
+        if k == LPAR {
+            return MADE;
+        }
+        return 0;
+    }
+    if q == BEHIND_STEP {
+        if k == DOT {
+            return CALLED_STRUCT;
+        }
+    }
+    0
+}
+
+// The name before a token gets its other role, if there is one.
+fn amend(kinds: &mut [u8], last: usize, other: u8)
+    requires { ⌜ last < length (now kinds) ⌝ }
+    ensures { λ _. ⌜ now (kinds .exit) ≡ amended (now (kinds .entry)) last other ⌝ }
+{
+    if other == 0 {
+        return;
+    }
+    kinds[last] = other;
+}
+
+// A token's role in its place, and the other role of the name before it.
+pub(crate) fn leave(kinds: &mut [u8], i: usize, last: usize, role: u8, other: u8)
+    requires { ⌜ (i < length (now kinds)) × (last < length (now kinds)) ⌝ }
+    ensures { λ _. ⌜ now (kinds .exit) ≡ left (now (kinds .entry)) i last role other ⌝ }
+{
+    amend(kinds, last, other);
+    kinds[i] = role;
+}
