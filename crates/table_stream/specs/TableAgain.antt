@@ -32,7 +32,7 @@ module _ (pss : List (List Ty)) (cs ts : List ℕ) (arities : (k : ℕ) → k < 
       let u = flat enc-record rs in
       let k : getD (p ++ (b ++ u)) (length p) 0 ≡ r .struct = getD-at p (r .struct) (flat enc-value (r .values) ++ u) 0 (length p) refl in
       let a : arity-at cs ts (p ++ (b ++ u)) (length p) ≡ length (r .values) =
-      rw k (arities (r .struct) (h .0 .0) ∙ sym (each-length Held _ _ (h .0 .1))) in
+      rw k (arities (r .struct) (h .0 .0) ∙ sym (each-length Held (getD pss (r .struct) []) (r .values) (h .0 .1))) in
       let l : length b ≡ 1 + 4 * length (r .values) = omega (arith, values-length (r .values)) in
       let n : length p + 1 + 4 * arity-at cs ts (p ++ (b ++ u)) (length p) ≡ length (p ++ b) = omega (arith, a, l, length-append p b) in
       let rest : Ends cs ts (p ++ (b ++ u)) (length rs) (length (p ++ b)) = rw append-assoc at (records-end (p ++ b) rs (h .1)) in
