@@ -1,19 +1,19 @@
 /* How much stack the exported entries use: each call runs on a painted stack of its own, and what is no longer paint was used. The images nest as deep as 01
- * allows and are as long, or are damaged; the most bytes of each entry are printed. */
+ * allows, every way of nesting among them, and are as long, or are damaged; the most bytes of each entry are printed. */
 #include "audala.h"
 #include <stdio.h>
 #include <stdlib.h>
 #include <string.h>
 #include <ucontext.h>
 
-enum { STACK = 4 << 20, PAINT = 0xA5, STREAM = 32256, IMAGE = 32768, TABLE = 8704 };
+enum { STACK = 1 << 19, PAINT = 0xA5, STREAM = 32256, IMAGE = 32768, TABLE = 8704, ENTRIES = 5 };
 
-static uint8_t stack[STACK], image[IMAGE + 1], table[TABLE + 1], output[AUDALA_OUTPUT_BYTES], stream[STREAM];
+static uint8_t stack[STACK], image[IMAGE + 1], table[TABLE + 1], output[AUDALA_OUTPUT_BYTES], stream[STREAM], buffer[IMAGE];
 static uint8_t turns[AUDALA_MOST_TURNS + 1];
 static uint64_t list[AUDALA_LIST_PLACES];
 static size_t image_length, table_length, turn_count, used;
 static ucontext_t caller, callee;
-static size_t worst[3];
+static size_t worst[ENTRIES];
 static uint32_t number;
 
 static void check(void) { number = audala_check(image, image_length, list, AUDALA_LIST_PLACES).number; }
@@ -21,6 +21,8 @@ static void step(void) { number = audala_step(image, image_length, list, AUDALA_
 static void run(void) {
     number = audala_run(image, image_length, table, table_length, turns, turn_count, output, sizeof output, list, AUDALA_LIST_PLACES).number;
 }
+static void read_image(void) { number = audala_read_image(image, image_length, AUDALA_PROGRAM_MOST, buffer, sizeof buffer).number; }
+static void write_image(void) { number = audala_write_image(stream, used, AUDALA_PROGRAM_MOST, buffer, sizeof buffer).number; }
 static void nothing(void) {}
 
 /* The bytes of a painted stack that a call leaves changed. */
@@ -89,35 +91,107 @@ static void program(int statements, int depth, int levels, int fix) {
     image_length = seal(image, stream, used);
 }
 
-static void measure(const char *what) {
-    static void (*const entries[3])(void) = {check, step, run};
-    size_t base = touched(nothing), bytes[3];
-    uint32_t numbers[3];
-    for (int i = 0; i < 3; i++) {
+/* Ways of nesting: nots, operators to the left and to the right, an operator over constructors; constructors by their first argument, over nots by their last. */
+enum { WAYS = 6, CONSTRUCTORS = 4, FORMS = 4 };
+
+static void nest(int way, int levels) {
+    if (levels == 1) {
+        if (way < CONSTRUCTORS) put(21), put(1);
+        else put(18), put(1), put(0);
+        return;
+    }
+    switch (way) {
+    case 0: put(16), nest(0, levels - 1); break;
+    case 1: put(44), nest(1, levels - 1), put(21), put(1); break;
+    case 2: put(43), put(21), put(1), nest(2, levels - 1); break;
+    case 3: put(32), nest(CONSTRUCTORS, levels - 1), put(22), put(16); break;
+    case 4: put(17), put(0), nest(CONSTRUCTORS, levels - 1), put(21), put(1); break;
+    case 5: put(17), put(0), put(22), put(16), nest(0, levels - 1); break;
+    }
+}
+
+/* An if, a declaration, an update or a construct with such an expression. */
+static void statement(int form, int way, int levels) {
+    int reference = way >= CONSTRUCTORS;
+    switch (form) {
+    case 0:
+        put(1);
+        if (reference) put(32), nest(way, levels - 1), put(22), put(16);
+        else nest(way, levels);
+        put(0);
+        break;
+    case 1: put(2), put(reference ? 16 : 2), put(8), nest(way, levels); break;
+    case 2: put(3), put(1), put(reference ? 0 : 1), nest(way, levels); break;
+    case 3:
+        put(4), put(0);
+        if (reference) nest(way, levels), put(21), put(1);
+        else put(22), put(16), nest(way, levels);
+        break;
+    }
+}
+
+/* One struct with a reference to itself and a Bool, one step: ifs in one another, a statement innermost. */
+static void nesting(int ifs, int form, int way, int levels) {
+    used = 0;
+    put(1), put(2), put(16), put(2), put(1), put(0), put(1);
+    for (int i = 0; i < ifs; i++) put(1), put(21), put(1), put(1);
+    statement(form, way, levels);
+    put(1), fixes(8);
+    image_length = seal(image, stream, used);
+}
+
+/* The bytes of each entry, and the numbers that they answer. */
+static size_t bytes[ENTRIES];
+static uint32_t numbers[ENTRIES];
+
+static void measure(void) {
+    static void (*const entries[ENTRIES])(void) = {check, step, run, read_image, write_image};
+    size_t base = touched(nothing);
+    for (int i = 0; i < ENTRIES; i++) {
         bytes[i] = touched(entries[i]) - base;
         numbers[i] = number;
         if (bytes[i] > worst[i]) worst[i] = bytes[i];
     }
+}
+
+static void row(const char *what) {
+    measure();
     printf("%-34s check %u: %zu  step %u: %zu  run %u: %zu\n", what, numbers[0], bytes[0], numbers[1], bytes[1], numbers[2], bytes[2]);
 }
 
+/* Every way of nesting in every form of statement, one level and one if past what is allowed, too. */
+static void every(void) {
+    size_t most[3] = {0, 0, 0};
+    unsigned programs = 0;
+    for (int ifs = 0; ifs <= 9; ifs++)
+        for (int form = 0; form < FORMS; form++)
+            for (int way = 0; way < WAYS; way++)
+                for (int levels = 2; levels <= 17; levels++) {
+                    nesting(ifs, form, way, levels), measure(), programs++;
+                    for (int i = 0; i < 3; i++)
+                        if (bytes[i] > most[i]) most[i] = bytes[i];
+                }
+    printf("%u ways of nesting                check: %zu  step: %zu  run: %zu\n", programs, most[0], most[1], most[2]);
+}
+
 int main(void) {
-    uint8_t records[2 + 255 * 5] = {255, 0};
+    uint8_t records[2 + 255 * 5] = {255, 0}, pairs[2 + 255 * 9] = {255, 0};
     table_length = seal(table, records, sizeof records);
     turn_count = AUDALA_MOST_TURNS;
-    program(1, 0, 1, 0), measure("the least");
-    program(1, 2, 16, 8), measure("16 nots, 2 ifs, 8 Fixes");
-    program(1, 8, 3, 8), measure("8 ifs, 8 Fixes");
-    program(1, 8, 16, 8), measure("8 ifs of 16 nots: over 64 commands");
-    program(32, 8, 16, 8), measure("32 of them");
-    program(1, 9, 2, 8), measure("9 ifs");
-    program(1, 0, 17, 8), measure("17 levels");
-    memset(stream, 16, STREAM), image_length = seal(image, stream, STREAM), measure("64 blocks of 16");
-    image[IMAGE - 1] ^= 1, measure("the same, its last sum wrong");
-    image_length = 0, measure("empty");
-    image_length = IMAGE + 1, measure("too long");
-    program(1, 8, 3, 8), table_length = TABLE + 1, measure("table too long");
-    table_length = seal(table, records, sizeof records), table[9] = 7, measure("table damaged");
-    printf("most bytes of stack: check %zu, step %zu, run %zu\n", worst[0], worst[1], worst[2]);
+    program(1, 0, 1, 0), row("the least");
+    program(1, 2, 16, 8), row("16 nots, 2 ifs, 8 Fixes");
+    program(1, 8, 3, 8), row("8 ifs, 8 Fixes");
+    program(1, 8, 16, 8), row("8 ifs of 16 nots: over 64 commands");
+    program(32, 8, 16, 8), row("32 of them");
+    program(1, 9, 2, 8), row("9 ifs");
+    program(1, 0, 17, 8), row("17 levels");
+    memset(stream, 16, STREAM), image_length = seal(image, stream, STREAM), row("64 blocks of 16");
+    image[IMAGE - 1] ^= 1, row("the same, its last sum wrong");
+    image_length = 0, row("empty");
+    image_length = IMAGE + 1, row("too long");
+    program(1, 8, 3, 8), table_length = TABLE + 1, row("table too long");
+    table_length = seal(table, records, sizeof records), table[9] = 7, row("table damaged");
+    table_length = seal(table, pairs, sizeof pairs), every();
+    printf("most bytes of stack: check %zu, step %zu, run %zu, an image read %zu, written %zu\n", worst[0], worst[1], worst[2], worst[3], worst[4]);
     return 0;
 }

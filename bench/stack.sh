@@ -7,5 +7,5 @@ top=$(cd "$here/.." && pwd)
 work=$(mktemp -d)
 trap 'rm -rf "$work"' EXIT
 (cd "$top" && rt staticlib audala >/dev/null)
-gcc -std=gnu11 -Wall -Wextra -Werror -O2 -I"$top/include" "$here/stack.c" -L"$top/target/staticlib" -laudala -o "$work/stack"
+gcc -std=gnu11 -Wall -Wextra -Werror -O2 -Wl,-z,now -I"$top/include" "$here/stack.c" -L"$top/target/staticlib" -laudala -o "$work/stack"
 "$work/stack"

@@ -7,7 +7,8 @@
  *   alignment  a list is aligned to 8 bytes, as a uint64_t array is; byte buffers may stand anywhere;
  *   null       a null pointer may stand for an empty buffer, with length 0;
  *   threads    the library has no data of its own: calls may go on at the same time, each with buffers of its own;
- *   stack      what a call uses does not depend on its input's length; README, 'Stack', has the measured figures. */
+ *   stack      a check or a step takes at most 48 KB, a run at most 112 KB, reading and writing images less than 1 KB: measured with this compiler on images
+ *              that nest as deep as the format allows (bench/stack.sh). Levels of nesting bound it, not lengths, and no input takes more. */
 #ifndef AUDALA_H
 #define AUDALA_H
 

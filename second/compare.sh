@@ -32,24 +32,35 @@ make_committed() {
         "$second" generate 1 200
     } >"$work/cases.bin"
     "$second" <"$work/cases.bin" >"$work/expected.txt"
+    {
+        "$second" texts
+        "$second" texts 1 200
+    } >"$work/texts.bin"
+    "$second" <"$work/texts.bin" >"$work/texts.txt"
+}
+
+# The committed file $1 is the one made now; of answers, up to ten lines that differ.
+as_committed() {
+    if cmp "$work/$1" "$here/cases/$1" >&2; then
+        return
+    fi
+    if [[ $1 = *.txt ]]; then
+        { diff "$here/cases/$1" "$work/$1" || true; } | head -n 10 >&2
+    fi
+    echo "compare: the committed $1 is not what is made now" >&2
+    exit 1
 }
 
 same_as_committed() {
     make_committed
-    if ! cmp "$work/cases.bin" "$here/cases/cases.bin"; then
-        echo "compare: the committed cases are not those generated now" >&2
-        exit 1
-    fi
-    if ! diff "$here/cases/expected.txt" "$work/expected.txt" >"$work/difference"; then
-        head -n 10 "$work/difference" >&2
-        echo "compare: the committed answers are not those given now" >&2
-        exit 1
-    fi
+    for file in cases.bin expected.txt texts.bin texts.txt; do
+        as_committed "$file"
+    done
     if ! { cmp "$here/cases/cases.bin" "$program/stdin" && cmp "$here/cases/expected.txt" "$program/stdout"; }; then
         echo "compare: audala_cases is handed other cases" >&2
         exit 1
     fi
-    echo "compare: $(wc -l <"$work/expected.txt") committed cases agree"
+    echo "compare: $(wc -l <"$work/expected.txt") committed cases and $(wc -l <"$work/texts.txt") texts agree"
 }
 
 # Answers $work/cases.bin by both; $1 says how to make it again.
@@ -94,7 +105,7 @@ case ${1-} in
 write)
     build
     make_committed
-    cp "$work/cases.bin" "$work/expected.txt" "$here/cases/"
+    cp "$work/cases.bin" "$work/expected.txt" "$work/texts.bin" "$work/texts.txt" "$here/cases/"
     cp "$work/cases.bin" "$program/stdin"
     cp "$work/expected.txt" "$program/stdout"
     ;;

@@ -1,7 +1,8 @@
 #!/usr/bin/env bash
-# Plants faults in a copy of the second engine, one at a time. The committed
-# cases or the tests have to catch each; fails if one survives, did not apply
-# or did not build. With words, only the mutants whose name holds one of them.
+# Plants faults in a copy of the second engine and of the second reader of texts
+# (named `text: ..`), one at a time. The committed cases or the tests have to
+# catch each; fails if one survives, did not apply or did not build. With words,
+# only the mutants whose name holds one of them.
 set -euo pipefail
 
 here=$(cd "$(dirname "$0")" && pwd)
@@ -10,6 +11,10 @@ trap 'rm -rf "$work"' EXIT
 copy=$work/second
 export CARGO_TARGET_DIR=$work/target CARGO_PROFILE_DEV_DEBUG=0 RUST_BACKTRACE=0
 only=("$@")
+# what is mutated, and the committed cases and answers that judge it
+package=engine
+cases=cases.bin
+answers=expected.txt
 planted=0
 failed=0
 by_cases=0
@@ -29,16 +34,16 @@ build() {
 
 # Up to the first line that differs; one that is missing does.
 answers_differ() {
-    ! (timeout 60 "$CARGO_TARGET_DIR/debug/second" <"$copy/cases/cases.bin" 2>/dev/null || true) |
-        cmp -s - "$copy/cases/expected.txt"
+    ! (timeout 60 "$CARGO_TARGET_DIR/debug/second" <"$copy/cases/$cases" 2>/dev/null || true) |
+        cmp -s - "$copy/cases/$answers"
 }
 
 tests_fail() {
-    ! (cd "$copy" && timeout 300 cargo test --quiet --offline --jobs 1 --package second --package engine) >"$work/tests.txt" 2>&1
+    ! (cd "$copy" && timeout 300 cargo test --quiet --offline --jobs 1 --package second --package "$package") >"$work/tests.txt" 2>&1
 }
 
 verdict() {
-    if cmp -s "$here/engine/src/$1" "$copy/engine/src/$1"; then
+    if cmp -s "$here/$package/src/$1" "$copy/$package/src/$1"; then
         echo "NOT APPLIED"
     elif ! build; then
         echo "NOT BUILT"
@@ -55,9 +60,9 @@ verdict() {
 mutant() {
     local said
     chosen "$1" || return 0
-    sed -i -E "$3" "$copy/engine/src/$2"
+    sed -i -E "$3" "$copy/$package/src/$2"
     said=$(verdict "$2")
-    cp "$here/engine/src/$2" "$copy/engine/src/$2"
+    cp "$here/$package/src/$2" "$copy/$package/src/$2"
     planted=$((planted + 1))
     echo "$1: $said"
     case $said in
@@ -71,7 +76,7 @@ mutant() {
 limit() {
     local name=$1 value=$2 by=${3:-1} other
     for other in $((value - by)) $((value + by)); do
-        mutant "$name is $other" limits.rs "s/^(pub const $name: [a-z0-9]+ =) .*;/\\1 $other;/"
+        mutant "${prefix-}$name is $other" limits.rs "s/^(pub const $name: [a-z0-9]+ =) .*;/\\1 $other;/"
     done
 }
 
@@ -286,6 +291,43 @@ mutant "1,023 places lent" program.rs 's/list\.len\(\) >= COMMANDS/list.len() >=
 mutant "1,025 places asked for" program.rs 's/list\.len\(\) >= COMMANDS/list.len() > COMMANDS/'
 mutant "8,703 output bytes lent" engine.rs 's/output\.len\(\) < TABLE_BYTES/output.len() < TABLE_BYTES - 1/'
 mutant "8,705 output bytes asked for" engine.rs 's/output\.len\(\) < TABLE_BYTES/output.len() <= TABLE_BYTES/'
+
+# Program text (02 §1): 15, 16, 17, 13 and their order.
+package=text
+cases=texts.bin
+answers=texts.txt
+prefix='text: '
+limit TEXT_BYTES 65536
+mutant "text: comment closed by its opening" token.rs 's/body\.windows\(2\)/text[at + 1..].windows(2)/; s/at \+ 2 \+ length \+ 2/at + 1 + length + 2/'
+mutant "text: comment never unclosed" token.rs 's/comment\(text, at\)\?/comment(text, at).unwrap_or(text.len())/'
+mutant "text: underscore begins a name" token.rs "s/b'A'\.\.=b'Z' =>/b'A'..=b'Z' | b'_' =>/"
+mutant "text: digits alone are a literal" token.rs "s/\(text\.get\(end\) == Some\(&b'n'\)\)\.then_some\(\(Kind::NatLiteral, end \+ 1\)\)/Some((Kind::NatLiteral, (end + 1).min(text.len())))/"
+mutant "text: String is a name" token.rs '/b"String"\)/d'
+mutant "text: form feed parts tokens" token.rs "s/b' ' \| b'.t'/b' ' | 12 | b'\\\\t'/"
+mutant "text: shorter sign first" token.rs "s/b'<' => longer\(Kind::AtMost, b'=', Kind::Less\)/b'<' => (Kind::Less, 1)/"
+mutant "text: bare sums" expression.rs 's/self\.within == Within::Brackets && !self\.full/!self.full/'
+mutant "text: three operands in brackets" expression.rs 's/self\.within == Within::Brackets && !self\.full/self.within == Within::Brackets/'
+mutant "text: null without its type" expression.rs 's/self\.type_name\(\)\?;/self.type_name();/'
+mutant "text: more behind the schedule" grammar.rs 's/self\.expect\(Kind::End\)\.map\(\|_\| \(\)\)/Some(())/'
+mutant "text: statement without its end" grammar.rs '/fn update/,/^    }/ s/self\.expect\(Kind::Semicolon\)\.map\(\|_\| \(\)\)/{ self.goes_on(Kind::Semicolon); Some(()) }/'
+mutant "text: struct declared twice" names.rs 's/ \|\| self\.structure\(name\)\.is_some\(\)//'
+mutant "text: parameter declared twice" names.rs 's/ \|\| position\(parameters, name\)\.is_some\(\)//'
+mutant "text: local declared twice" names.rs 's/\|\| position\(&self\.locals, name\)\.is_some\(\);/;/'
+mutant "text: local named as a parameter" names.rs 's/let taken = position\(&self\.structs\[self\.current\]\.parameters, name\)\.is_some\(\)/let taken = false/'
+mutant "text: local alive in its declaration" names.rs 's/(self\.locals\.push\(Variable \{ name, of \}\);)/\1 self.declaration_ends();/'
+mutant "text: local alive behind its if" names.rs 's/self\.living = self\.scopes\.pop\(\)\.unwrap_or\(0\);/self.scopes.pop();/'
+mutant "text: first struct's parameters for all" names.rs 's/&self\.structs\[before\.referred\(\)\?\]\.parameters/\&self.structs[before.referred()? * 0].parameters/'
+mutant "text: arguments not counted" write.rs 's/if self\.names\.parameter_count\(structure\) != arguments/if false \&\& arguments == 0/'
+mutant "text: Int over its range" write.rs 's/i32::MAX\.unsigned_abs\(\)/i32::MIN.unsigned_abs()/'
+mutant "text: Nat one short" write.rs 's/\.1, u32::MAX\)/.1, u32::MAX - 1)/'
+mutant "text: bytes not counted" write.rs 's/writer\.stream\.len\(\) <= STREAM_BYTES/writer.stream.len() <= STREAM_BYTES + 1/'
+for name in STRUCTS:16 PARAMETERS:8 STEPS:8 STEP_NAMES:32 STATEMENTS:32 ITEMS:32 PATH:4 LOCALS:8; do
+    limit "${name%:*}" "${name#*:}"
+done
+mutant "text: 13 before 15" lib.rs 's/^(    let tokens = token::scan)/    if room < PROGRAM_BYTES { return Err(Refusal::Room); }\n\1/'
+mutant "text: 13 before 17" lib.rs 's/^(    let stream = write::stream)/    if room < PROGRAM_BYTES { return Err(Refusal::Room); }\n\1/'
+mutant "text: 32,767 output bytes lent" lib.rs 's/room < PROGRAM_BYTES/room < PROGRAM_BYTES - 1/'
+mutant "text: 32,769 output bytes asked for" lib.rs 's/room < PROGRAM_BYTES/room <= PROGRAM_BYTES/'
 
 echo "mutants: $planted planted, $by_cases caught by the cases, $failed not caught"
 [ "$failed" -eq 0 ]

@@ -4,6 +4,7 @@
 use crate::coding::coded;
 use engine::{Command, check, run};
 use std::io::{self, Read};
+use text::read;
 
 pub const OUTPUT_FILL: u8 = 0xA5;
 
@@ -12,11 +13,14 @@ pub const MOST_OUTPUT: usize = 9_216;
 pub const MOST_PROGRAM: usize = 33_792;
 pub const MOST_TABLE: usize = 9_728;
 pub const MOST_TURNS: usize = 65_600;
+pub const MOST_IMAGE: usize = 33_792;
+pub const MOST_TEXT: usize = 66_000;
 
 #[derive(Clone, Debug, PartialEq, Eq)]
 pub enum Case {
     Check { places: usize, program: Vec<u8> },
     Run { places: usize, output: usize, program: Vec<u8>, table: Vec<u8>, turns: Vec<u8> },
+    Text { output: usize, text: Vec<u8> },
 }
 
 impl Case {
@@ -36,6 +40,11 @@ impl Case {
                 put_bytes(file, table);
                 put_bytes(file, turns);
             }
+            Case::Text { output, text } => {
+                file.push(3);
+                put_number(file, *output);
+                put_bytes(file, text);
+            }
         }
     }
 
@@ -45,53 +54,72 @@ impl Case {
         if file.read(&mut kind)? == 0 {
             return Ok(None);
         }
-        let places = take_number(file, MOST_PLACES)?;
         match kind[0] {
-            1 => Ok(Some(Case::Check { places, program: take_bytes(file, MOST_PROGRAM)? })),
+            1 => Ok(Some(Case::Check {
+                places: take_number(file, MOST_PLACES)?,
+                program: take_bytes(file, MOST_PROGRAM)?,
+            })),
             2 => Ok(Some(Case::Run {
-                places,
+                places: take_number(file, MOST_PLACES)?,
                 output: take_number(file, MOST_OUTPUT)?,
                 program: take_bytes(file, MOST_PROGRAM)?,
                 table: take_bytes(file, MOST_TABLE)?,
                 turns: take_bytes(file, MOST_TURNS)?,
             })),
-            _ => Err(io::Error::other("a case is of kind 1 or 2")),
+            3 => Ok(Some(Case::Text {
+                output: take_number(file, MOST_IMAGE)?,
+                text: take_bytes(file, MOST_TEXT)?,
+            })),
+            _ => Err(io::Error::other("a case is of kind 1, 2 or 3")),
         }
     }
 
     /// The line that answers the case.
     pub fn answer(&self) -> String {
         match self {
-            Case::Check { places, program } => {
-                let mut list = vec![None; *places];
-                let answer = check(program, &mut list);
-                format!(
-                    "check {} {} {} {} {} {}",
-                    answer.number,
-                    answer.structs,
-                    answer.steps,
-                    answer.commands,
-                    answer.depth,
-                    list_digest(&list)
-                )
-            }
+            Case::Check { places, program } => check_line(*places, program),
             Case::Run { places, output, program, table, turns } => {
-                let mut list = vec![None; *places];
-                let mut output = vec![OUTPUT_FILL; *output];
-                let answer = run(program, table, turns, &mut output, &mut list);
-                format!(
-                    "run {} {} {} {} {} {} {}",
-                    answer.number,
-                    answer.turns,
-                    answer.blocks,
-                    answer.depth,
-                    digest(output.iter().copied()),
-                    list_digest(&list),
-                    answer.holding
-                )
+                run_line(*places, *output, program, table, turns)
             }
+            Case::Text { output, text } => text_line(*output, text),
         }
     }
+}
+
+fn check_line(places: usize, program: &[u8]) -> String {
+    let mut list = vec![None; places];
+    let answer = check(program, &mut list);
+    format!(
+        "check {} {} {} {} {} {}",
+        answer.number,
+        answer.structs,
+        answer.steps,
+        answer.commands,
+        answer.depth,
+        list_digest(&list)
+    )
+}
+
+fn run_line(places: usize, output: usize, program: &[u8], table: &[u8], turns: &[u8]) -> String {
+    let mut list = vec![None; places];
+    let mut output = vec![OUTPUT_FILL; output];
+    let answer = run(program, table, turns, &mut output, &mut list);
+    format!(
+        "run {} {} {} {} {} {} {}",
+        answer.number,
+        answer.turns,
+        answer.blocks,
+        answer.depth,
+        digest(output.iter().copied()),
+        list_digest(&list),
+        answer.holding
+    )
+}
+
+fn text_line(output: usize, text: &[u8]) -> String {
+    let mut output = vec![OUTPUT_FILL; output];
+    let answer = read(text, &mut output);
+    format!("text {} {} {}", answer.number, answer.blocks, digest(output.iter().copied()))
 }
 
 fn list_digest(list: &[Option<Command>]) -> u64 {

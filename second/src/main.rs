@@ -1,16 +1,16 @@
 //! The second engine as a program. Without a word it answers cases, one line
-//! each; the other words are `listing`, `edges`, `generate SEED COUNT` and
-//! `bench`.
+//! each; the other words are `listing`, `edges`, `generate SEED COUNT`, `texts`
+//! (the edges of program texts), `texts SEED COUNT` and `bench`.
 #![forbid(unsafe_code)]
 
 use second::bench::bench;
 use second::cases::Case;
-use second::generate::{Generator, edges::edges};
+use second::generate::{Generator, edges::edges, texts};
 use second::listing;
 use std::io::{self, BufReader, BufWriter, Read, Write};
 use std::process::ExitCode;
 
-const USAGE: &str = "second [listing | edges | generate SEED COUNT | bench]";
+const USAGE: &str = "second [listing | edges | generate SEED COUNT | texts [SEED COUNT] | bench]";
 
 fn main() -> ExitCode {
     let words: Vec<String> = std::env::args().skip(1).collect();
@@ -21,6 +21,11 @@ fn main() -> ExitCode {
         ["edges"] => write_cases(edges().into_iter()),
         ["generate", seed, count] => match (seed.parse(), count.parse()) {
             (Ok(seed), Ok(count)) => generate(seed, count),
+            _ => Err(io::Error::other(USAGE)),
+        },
+        ["texts"] => write_cases(texts::edges().into_iter()),
+        ["texts", seed, count] => match (seed.parse(), count.parse()) {
+            (Ok(seed), Ok(count)) => write_cases((0..count).map(|index| texts::case(seed, index))),
             _ => Err(io::Error::other(USAGE)),
         },
         ["bench"] => io::stdout().write_all(bench().as_bytes()),

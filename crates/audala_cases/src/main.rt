@@ -1,6 +1,5 @@
-// Reads cases on standard input and answers each by a line (docs/CASES.md). A malformed case ends the program.
+// Reads cases on standard input and answers each by a line (docs/CASES.md). A malformed case ends the program, with a line on standard error.
 use libc::STDIN_FILENO;
-use libc::STDOUT_FILENO;
 use text::lines;
 ghost use Prim.Native.Nat.{_≤_};
 ghost use lib.ListN.{length};
@@ -10,6 +9,24 @@ ghost use Rattle.audala_cases.specs.Within.{Within};
 enum Size {
     Of(usize),
     Nothing,
+}
+
+// What came of a case: it was answered; it is cut short or no case; or there is none, or no answer could be written.
+enum Outcome {
+    Answered,
+    Malformed,
+    Over,
+}
+
+fn help() {
+    files::tell(
+        b"audala_cases < CASES\n\
+        \n\
+        Reads cases, each a call of the engine with all that it is given, and answers\n\
+        each by a line: the engine's answer and digests of what it wrote. A case that\n\
+        is cut short, or is none, ends it with a line on standard error.\n\
+        docs/CASES.md has cases and answers byte by byte.\n",
+    );
 }
 
 // Fills the front of a buffer with n bytes; whether there are so many.
@@ -50,7 +67,8 @@ fn part(buffer: &mut [u8]) -> Size
     Size::Of(n)
 }
 
-fn answer(image: &[u8], list: &mut [u64]) {
+// Whether the answer was written.
+fn answer(image: &[u8], list: &mut [u64]) -> bool {
     let v = checker::check(image, list);
     let ns = [
         v.number as u64,
@@ -62,25 +80,39 @@ fn answer(image: &[u8], list: &mut [u64]) {
     ];
     let mut text = [0u8; 256];
     let n = lines::row(&mut text, 0, b"check", &ns);
-    io::write_all(STDOUT_FILENO, &text[..n]);
+    files::output(&text[..n])
 }
 
-// A case of kind 1; whether it is whole.
-fn check_case() -> bool {
+// What came of a case whose answer was written or not.
+fn answered(written: bool) -> Outcome {
+    if written {
+        Outcome::Answered
+    } else {
+        Outcome::Over
+    }
+}
+
+// A case of kind 1.
+fn check_case() -> Outcome {
     let Size::Of(places) = number(1100) else {
-        return false;
+        return Outcome::Malformed;
     };
     let mut image = [0u8; 33792];
     let Size::Of(n) = part(&mut image) else {
-        return false;
+        return Outcome::Malformed;
     };
     let mut list = [11936128518282651045u64; 1100];
-    answer(&image[..n], &mut list[..places]);
-    true
+    answered(answer(&image[..n], &mut list[..places]))
 }
 
-// What a run answers, as a line.
-fn answer_run(image: &[u8], table: &[u8], turns: &[u8], output: &mut [u8], list: &mut [u64]) {
+// What a run answers, as a line; whether it was written.
+fn answer_run(
+    image: &[u8],
+    table: &[u8],
+    turns: &[u8],
+    output: &mut [u8],
+    list: &mut [u64],
+) -> bool {
     let r = run_images::run(image, table, turns, output, list);
     let ns = [
         r.number as u64,
@@ -93,53 +125,52 @@ fn answer_run(image: &[u8], table: &[u8], turns: &[u8], output: &mut [u8], list:
     ];
     let mut text = [0u8; 256];
     let n = lines::row(&mut text, 0, b"run", &ns);
-    io::write_all(STDOUT_FILENO, &text[..n]);
+    files::output(&text[..n])
 }
 
-// The images and turns of a case of kind 2, with so many list places and output bytes; whether it is whole.
-fn run_parts(places: usize, room: usize) -> bool
+// The images and turns of a case of kind 2, with so many list places and output bytes.
+fn run_parts(places: usize, room: usize) -> Outcome
     requires { ⌜ (places ≤ 1100) × (room ≤ 9216) ⌝ }
 {
     let mut image = [0u8; 33792];
     let Size::Of(n) = part(&mut image) else {
-        return false;
+        return Outcome::Malformed;
     };
     let mut table = [0u8; 9728];
     let Size::Of(m) = part(&mut table) else {
-        return false;
+        return Outcome::Malformed;
     };
     let mut turns = [0u8; 65600];
     let Size::Of(t) = part(&mut turns) else {
-        return false;
+        return Outcome::Malformed;
     };
     let mut output = [165u8; 9216];
     let mut list = [11936128518282651045u64; 1100];
-    answer_run(
+    answered(answer_run(
         &image[..n],
         &table[..m],
         &turns[..t],
         &mut output[..room],
         &mut list[..places],
-    );
-    true
+    ))
 }
 
-// A case of kind 2; whether it is whole.
-fn run_case() -> bool {
+// A case of kind 2.
+fn run_case() -> Outcome {
     let Size::Of(places) = number(1100) else {
-        return false;
+        return Outcome::Malformed;
     };
     let Size::Of(room) = number(9216) else {
-        return false;
+        return Outcome::Malformed;
     };
     run_parts(places, room)
 }
 
-// The next case; whether there is one.
-fn next() -> bool {
+// The next case.
+fn next() -> Outcome {
     let mut kind = [0u8; 1];
     if !fetch(&mut kind, 1) {
-        return false;
+        return Outcome::Over;
     }
     if kind[0] == 1 {
         return check_case();
@@ -147,15 +178,30 @@ fn next() -> bool {
     if kind[0] == 2 {
         return run_case();
     }
-    false
+    Outcome::Malformed
+}
+
+// Why case n was the last.
+fn stopped(why: Outcome, n: u64) {
+    if let Outcome::Malformed = why {
+        files::tell(b"audala_cases: case ");
+        files::tell_number(n);
+        files::tell(b" is cut short or is none\n");
+    }
 }
 
 fn main() {
-    let mut left: u64 = 4294967296;
-    while 0 < left {
-        if !next() {
+    if os::arg_count() != 1 {
+        help();
+        return;
+    }
+    let mut n: u64 = 0;
+    while n < 4294967296 {
+        n += 1;
+        let r = next();
+        let Outcome::Answered = r else {
+            stopped(r, n);
             return;
-        }
-        left -= 1;
+        };
     }
 }

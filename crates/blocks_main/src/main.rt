@@ -1,12 +1,22 @@
 // Reads a program image on standard input and writes its stream on standard output, or `refused n` with 01's number of what is wrong with it.
 use blocks::Read;
-use libc::STDIN_FILENO;
 use libc::STDOUT_FILENO;
 
+fn help() {
+    files::tell(
+        b"blocks_main < IMAGE > STREAM\n\
+        \n\
+        Reads a program image, blocks of 512 bytes, and writes its stream. Prints\n\
+        'refused' and the number where a block or the image's length is wrong.\n\
+        docs/FORMAT.md has the blocks byte by byte, and says what each number means.\n",
+    );
+}
+
 fn refuse(number: u8) {
-    io::write_all(STDOUT_FILENO, b"refused ");
-    io::print_decimal(STDOUT_FILENO, number as u64);
-    io::write_all(STDOUT_FILENO, b"\n");
+    if files::output(b"refused ") {
+        io::print_decimal(STDOUT_FILENO, number as u64);
+        files::output(b"\n");
+    }
 }
 
 fn answer(image: &[u8]) {
@@ -14,7 +24,7 @@ fn answer(image: &[u8]) {
     let mut buffer = [0u8; 32256];
     match blocks::read_image(image, types::PROGRAM_BLOCKS, &mut buffer) {
         Read::Stream(length) => {
-            io::write_all(STDOUT_FILENO, &buffer[..length]);
+            files::output(&buffer[..length]);
         }
         Read::Refused(fault) => refuse(blocks::program_number(fault)),
         Read::Short => {}
@@ -22,8 +32,16 @@ fn answer(image: &[u8]) {
 }
 
 fn main() {
+    if os::arg_count() != 1 {
+        help();
+        return;
+    }
     // One byte more than an image may have, so that a longer one is told from the longest.
     let mut input = [0u8; 32769];
-    let n = io::read_full(STDIN_FILENO, &mut input);
+    let r = files::input(&mut input);
+    if !r.done {
+        return;
+    }
+    let n = r.len;
     answer(&input[..n]);
 }

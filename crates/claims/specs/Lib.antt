@@ -4,6 +4,7 @@ pub mod MemoryLaws
 pub mod Demand1
 pub mod Demand2
 pub mod Demand3
+pub mod Text
 pub mod Free
 pub mod Exact
 pub mod Memory

@@ -24,7 +24,7 @@ use Rattle.emit_steps.specs.Emitted.{Stand, from-place, stand, final, Fi
 -- behind the parameter lists of a program stand the steps of its structs
 module _ (ar s : List ℕ) (at : ℕ) (p : Program) (m : ℕ) (reads : read s ≡ ok p m) (counts : ar ≡ arities p)
     (params : read-params s 0 ≡ ok (p .params) at) where
-  standing : (last : ℕ) × (structs-at ar s (length ar) at ≡ ok (p .steps) last)
+  pub standing : (last : ℕ) × (structs-at ar s (length ar) at ≡ ok (p .steps) last)
   standing =
       let t = program-steps s 0 p m (whole-program s p m reads) in
       let x : ok (p .params) at ≡ ok (p .params) (t .behind) = sym params ∙ t .params in

@@ -25,7 +25,7 @@ use Rattle.emit_steps.specs.EmittedLaws.{same-stand, final-none, first-f
 
 module _ (ar s : List ℕ) where
   -- its first byte is its name
-  step-named : (at : ℕ) (t : Step) (m : ℕ) → read-step ar s at ≡ ok t m → (at < length s) × (t .name ≡ getD s at 0)
+  pub step-named : (at : ℕ) (t : Step) (m : ℕ) → read-step ar s at ≡ ok t m → (at < length s) × (t .name ≡ getD s at 0)
   unfolding read-step
   step-named at t m e =
       let v = made-value step-of both (rw e tt) in

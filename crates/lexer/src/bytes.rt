@@ -26,7 +26,7 @@ pub fn byte(text: &[u8], i: usize) -> u8
     if i < text.len() { text[i] } else { 0 }
 }
 
-fn between(lo: u8, hi: u8, b: u8) -> bool
+pub fn between(lo: u8, hi: u8, b: u8) -> bool
     ensures { λ r. ⌜ r ≡ between lo hi b ⌝ }
 {
     if b < lo {

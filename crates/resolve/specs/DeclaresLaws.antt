@@ -1,116 +1,47 @@
--- A derivation declares its structs, and in each its parameters and its steps, in order; bodies and the schedule declare none of these.
+-- A derivation declares its structs, and in each its parameters and its steps, in order; bodies and the schedule declare none of these, whatever is asked of
+-- the roles.
 use Prim.Native.Nat.{ℕ, _<_}
 use native.Mathlib.Omega.{arith}
 use mathlib.Core.Path.{_≡_, refl, sym, ap, _∙_}
+use mathlib.Core.Bool.{true, false≢true}
 use mathlib.Core.List.{List, [], _∷_, _++_, map, append-assoc, append-nil}
 use borrow.Author.Tests.{ne-eqb}
-use Rattle.tokens.specs.Tokens.{Sign.semicolon, Sign.assign, Sign.colon, Sign.dot as dot-sign, Word.w-then, Token.sign, Token.word, Token.op}
-use Rattle.syntax.specs.Syntax.{Var, Var.id, Var.dot}
-use Rattle.syntax.specs.Syntax.{Exp, Exp.binary, Exp.brackets, Exp.negation, Exp.constructor, Exp.variable, Exp.literal, Exp.null, Exp.this, Exps, Exps.no-exps, Exps.exps, Stat, Stat.if-then, Stat.assignment, Stat.update, Stat.construct, Stats, Stats.no-stats, Stats.stats}
-use Rattle.syntax.specs.Syntax.{Par, Par.par, Step, Step.step, Struct, Struct.struct, Defs, Defs.last-struct, Defs.defs, Item, Item.execution, Item.typed-execution, Item.fixpoint, Sched, Sched.last-item, Sched.barrier, Program, Program.program}
-use Rattle.meaning.specs.Scope.{par-id, step-id, struct-id, pars-of, steps-of, structs-of}
+use Rattle.syntax.specs.Syntax.{TypeName}
+use Rattle.syntax.specs.Syntax.{Par, Par.par, Struct, Struct.struct, Defs, Defs.last-struct, Defs.defs, Sched, Program.program}
+use Rattle.meaning.specs.Scope.{par-id, par-type, step-id, struct-id, pars-of, steps-of, structs-of}
 use Rattle.meaning.specs.StepNames.{all-steps}
-use Rattle.derive.specs.Roles.{Naming, Naming.new-struct, Naming.new-par, Naming.new-step, Naming.new-local, Naming.first-read, Naming.first-written, Naming.later-variable, Naming.made, Naming.made-statement, Naming.called, Naming.called-struct, Naming.called-step, Part.args-open, Part.body-open, Part.brackets-close, Part.then-open, Part.then-close, Part.body-close, Part.pars-close, Part.steps-open, Part.steps-close, Part.fix-close, Part.barrier-sign, Role, Role.plain, Role.naming, Role.typed, Role.part, Typed.of-par, naming-code}
-use Rattle.derive.specs.Roles.{roles-later, roles-var, close-of, roles-exp, roles-exps, roles-exp-list, roles-stat, roles-stats, roles-par, roles-par-list, roles-pars, roles-step, roles-steps, roles-struct, roles-defs, roles-item, roles-sched, roles}
-use Rattle.resolve.specs.Declares.{named}
+use Rattle.derive.specs.Roles.{Naming, Naming.new-struct, Naming.new-par, Naming.new-step, Naming.new-local, Naming.first-read, Naming.first-written, Naming.later-variable, Naming.made, Naming.made-statement, Naming.called, Naming.called-struct, Naming.called-step, Part.pars-close, Part.steps-open, Part.steps-close, Role, Role.plain, Role.naming, Role.typed, Role.part, Typed.of-par, Typed.of-local, Typed.of-null, naming-code}
+use Rattle.derive.specs.Roles.{roles-par, roles-steps, roles-struct, roles-defs, roles-sched, roles}
+use Rattle.resolve.specs.Declares.{named, inner, inner-name, inner-type, par-types, all-pars}
+use Rattle.resolve.specs.QuietLaws.{pars-quiet, steps-quiet, pars-each, steps-each, sched-quiet}
+
+-- Names ------------------------------------------------------------------------------------------
+
+pub inner-code : (m : Naming) → inner-name m ≡ true → 41 < naming-code m
+unfolding inner-name naming-code
+inner-code new-struct e = absurd (false≢true e)
+inner-code new-par e = absurd (false≢true e)
+inner-code new-step e = absurd (false≢true e)
+inner-code new-local e = omega arith
+inner-code first-read e = omega arith
+inner-code first-written e = omega arith
+inner-code later-variable e = omega arith
+inner-code made e = omega arith
+inner-code made-statement e = omega arith
+inner-code called e = omega arith
+inner-code called-struct e = omega arith
+inner-code called-step e = omega arith
 
 passed : (n : ℕ) (m : Naming) (x : List ℕ) (k : List Role) → (naming-code m ≡ n → ⊥) → named n (naming m x ∷ k) ≡ named n k
 unfolding named
 passed n m x k e = rw (named, ne-eqb (naming-code m) n e) refl
 
--- Bodies and the schedule: names of uses and of locals come behind those of declarations
-module _ (n : ℕ) (outer : n < 42) where
-  later-none : (v : Var) (k : List Role) → named n (roles-later v k) ≡ named n k
-  unfolding roles-later named naming-code
-  later-none (id x) k = passed n later-variable x k (λ e. omega arith)
-  later-none (dot x v) k = passed n later-variable x (plain (sign dot-sign) ∷ roles-later v k) (λ e. omega arith) ∙ later-none v k
-
-  var-none : (m : Naming) (v : Var) (k : List Role) → (naming-code m ≡ n → ⊥) → named n (roles-var m v k) ≡ named n k
-  unfolding roles-var named
-  var-none m (id x) k e = passed n m x k e
-  var-none m (dot x v) k e = passed n m x (plain (sign dot-sign) ∷ roles-later v k) e ∙ later-none v k
-
-  close-none : (es : Exps) (k : List Role) → named n (close-of es ∷ k) ≡ named n k
-  unfolding close-of named
-  close-none no-exps k = refl
-  close-none (exps e es) k = refl
-
-  mutual
-    unfolding roles-exp roles-exps roles-exp-list named naming-code
-
-    exp-none : (e : Exp) (k : List Role) → named n (roles-exp e k) ≡ named n k
-    exp-none (binary o a b) k = exp-none a (plain (op o) ∷ roles-exp b k) ∙ exp-none b k
-    exp-none (brackets e) k = exp-none e (part brackets-close ∷ k)
-    exp-none (negation e) k = exp-none e k
-    exp-none (constructor x es) k =
-        passed n made x (part args-open ∷ roles-exps es (close-of es ∷ k)) (λ e. omega arith) ∙ exps-none es (close-of es ∷ k) ∙ close-none es k
-    exp-none (variable v) k = var-none first-read v k (λ e. omega arith)
-    exp-none (literal l) k = refl
-    exp-none (null t) k = refl
-    exp-none this k = refl
-
-    exps-none : (es : Exps) (k : List Role) → named n (roles-exps es k) ≡ named n k
-    exps-none no-exps k = refl
-    exps-none (exps e es) k = exp-none e (roles-exp-list es k) ∙ exp-list-none es k
-
-    exp-list-none : (es : Exps) (k : List Role) → named n (roles-exp-list es k) ≡ named n k
-    exp-list-none no-exps k = refl
-    exp-list-none (exps e es) k = exp-none e (roles-exp-list es k) ∙ exp-list-none es k
-
-  mutual
-    unfolding roles-stat roles-stats named naming-code
-
-    stat-none : (t : Stat) (k : List Role) → named n (roles-stat t k) ≡ named n k
-    stat-none (if-then e b) k = exp-none e (plain (word w-then) ∷ part then-open ∷ roles-stats b (part then-close ∷ k)) ∙ stats-none b (part then-close ∷ k)
-    stat-none (assignment t x e) k =
-        passed n new-local x (plain (sign assign) ∷ roles-exp e (plain (sign semicolon) ∷ k)) (λ f. omega arith) ∙ exp-none e (plain (sign semicolon) ∷ k)
-    stat-none (update v e) k =
-        var-none first-written v (plain (sign assign) ∷ roles-exp e (plain (sign semicolon) ∷ k)) (λ f. omega arith) ∙ exp-none e (plain (sign semicolon) ∷ k)
-    stat-none (construct x es) k =
-        passed n made-statement x (part args-open ∷ roles-exps es (close-of es ∷ plain (sign semicolon) ∷ k)) (λ f. omega arith)
-        ∙ exps-none es (close-of es ∷ plain (sign semicolon) ∷ k) ∙ close-none es (plain (sign semicolon) ∷ k)
-
-    stats-none : (b : Stats) (k : List Role) → named n (roles-stats b k) ≡ named n k
-    stats-none no-stats k = refl
-    stats-none (stats t b) k = stat-none t (roles-stats b k) ∙ stats-none b k
-
-  mutual
-    unfolding roles-item roles-sched named naming-code
-
-    item-none : (i : Item) (k : List Role) → named n (roles-item i k) ≡ named n k
-    item-none (execution x) k = passed n called x k (λ e. omega arith)
-    item-none (typed-execution x y) k =
-        passed n called-struct x (plain (sign dot-sign) ∷ naming called-step y ∷ k) (λ e. omega arith) ∙ passed n called-step y k (λ e. omega arith)
-    item-none (fixpoint s) k = sched-none s (part fix-close ∷ k)
-
-    sched-none : (s : Sched) (k : List Role) → named n (roles-sched s k) ≡ named n k
-    sched-none (last-item i) k = item-none i k
-    sched-none (barrier i s) k = item-none i (part barrier-sign ∷ roles-sched s k) ∙ sched-none s k
-
-  module _ (other : naming-code new-par ≡ n → ⊥) where
-    par-none : (p : Par) (k : List Role) → named n (roles-par p k) ≡ named n k
-    unfolding roles-par named
-    par-none (par x t) k = passed n new-par x (plain (sign colon) ∷ typed of-par t ∷ k) other
-
-    par-list-none : (ps : List Par) (k : List Role) → named n (roles-par-list ps k) ≡ named n k
-    unfolding roles-par-list named
-    par-list-none [] k = refl
-    par-list-none (p ∷ ps) k = par-none p (roles-par-list ps k) ∙ par-list-none ps k
-
-    pars-none : (ps : List Par) (k : List Role) → named n (roles-pars ps k) ≡ named n k
-    unfolding roles-pars
-    pars-none [] k = refl
-    pars-none (p ∷ ps) k = par-none p (roles-par-list ps k) ∙ par-list-none ps k
-
-  module _ (other : naming-code new-step ≡ n → ⊥) where
-    steps-none : (ts : List Step) (k : List Role) → named n (roles-steps ts k) ≡ named n k
-    unfolding roles-steps roles-step named
-    steps-none [] k = refl
-    steps-none (step x b ∷ ts) k =
-        passed n new-step x (part body-open ∷ roles-stats b (part body-close ∷ roles-steps ts k)) other
-        ∙ stats-none b (part body-close ∷ roles-steps ts k) ∙ steps-none ts k
-
--- Declarations -----------------------------------------------------------------------------------
+named-quiet : (n : ℕ) → n < 42 → (r : Role) (k : List Role) → inner r ≡ true → named n (r ∷ k) ≡ named n k
+unfolding named inner
+named-quiet n l (plain t) k e = refl
+named-quiet n l (naming m x) k e = passed n m x k (λ f. omega (arith, inner-code m e))
+named-quiet n l (typed u t) k e = refl
+named-quiet n l (part g) k e = refl
 
 abbrev structs-in : List Role → List (List ℕ)
 structs-in k = named (naming-code new-struct) k
@@ -121,68 +52,108 @@ pars-in k = named (naming-code new-par) k
 abbrev steps-in : List Role → List (List ℕ)
 steps-in k = named (naming-code new-step) k
 
-par-named : (p : Par) (k : List Role) → pars-in (roles-par p k) ≡ par-id p ∷ pars-in k
-unfolding roles-par named naming-code par-id
-par-named (par x t) k = refl
+structs-quiet : (r : Role) (k : List Role) → inner r ≡ true → structs-in (r ∷ k) ≡ structs-in k
+unfolding naming-code
+structs-quiet = named-quiet (naming-code new-struct) (omega arith)
 
-par-list-named : (ps : List Par) (k : List Role) → pars-in (roles-par-list ps k) ≡ map par-id ps ++ pars-in k
-unfolding roles-par-list named
-par-list-named [] k = refl
-par-list-named (p ∷ ps) k = par-named p (roles-par-list ps k) ∙ ap (λ l. par-id p ∷ l) (par-list-named ps k)
+pars-in-quiet : (r : Role) (k : List Role) → inner r ≡ true → pars-in (r ∷ k) ≡ pars-in k
+unfolding naming-code
+pars-in-quiet = named-quiet (naming-code new-par) (omega arith)
 
-pars-named : (ps : List Par) (k : List Role) → pars-in (roles-pars ps k) ≡ map par-id ps ++ pars-in k
-unfolding roles-pars
-pars-named [] k = refl
-pars-named (p ∷ ps) k = par-named p (roles-par-list ps k) ∙ ap (λ l. par-id p ∷ l) (par-list-named ps k)
+steps-in-quiet : (r : Role) (k : List Role) → inner r ≡ true → steps-in (r ∷ k) ≡ steps-in k
+unfolding naming-code
+steps-in-quiet = named-quiet (naming-code new-step) (omega arith)
 
-steps-named : (ts : List Step) (k : List Role) → steps-in (roles-steps ts k) ≡ map step-id ts ++ steps-in k
-unfolding roles-steps roles-step named naming-code step-id
-steps-named [] k = refl
-steps-named (step x b ∷ ts) k =
-    ap (λ l. x ∷ l) (stats-none (naming-code new-step) (omega arith) b (part body-close ∷ roles-steps ts k) ∙ steps-named ts k)
+types-quiet : (r : Role) (k : List Role) → inner r ≡ true → par-types (r ∷ k) ≡ par-types k
+unfolding par-types inner inner-type
+types-quiet (plain t) k e = refl
+types-quiet (naming m x) k e = refl
+types-quiet (typed of-par t) k e = absurd (false≢true e)
+types-quiet (typed of-local t) k e = refl
+types-quiet (typed of-null t) k e = refl
+types-quiet (part g) k e = refl
 
--- a struct declares itself, its parameters and its steps
+-- a struct declares itself, its parameters with their types and its steps
 module _ (k : List Role) where
-  pub struct-named : (d : Struct) → structs-in (roles-struct d k) ≡ struct-id d ∷ structs-in k
-  unfolding roles-struct named naming-code struct-id
+  struct-named : (d : Struct) → structs-in (roles-struct d k) ≡ struct-id d ∷ structs-in k
+  unfolding roles-struct roles-par named naming-code struct-id
   struct-named (struct x ps ts) =
       ap (λ l. x ∷ l)
-      (pars-none (naming-code new-struct) (omega arith) (λ e. omega arith) ps (part pars-close ∷ part steps-open ∷ roles-steps ts (part steps-close ∷ k))
-      ∙ steps-none (naming-code new-struct) (omega arith) (λ e. omega arith) ts (part steps-close ∷ k))
+      (pars-quiet structs-in structs-quiet (λ p j. par-past p j) ps (part pars-close ∷ part steps-open ∷ roles-steps ts (part steps-close ∷ k))
+      ∙ steps-quiet structs-in structs-quiet (λ y j. refl) ts (part steps-close ∷ k))
+    where
+      par-past : (p : Par) (j : List Role) → structs-in (roles-par p j) ≡ structs-in j
+      par-past (par y t) j = refl
 
-  pub struct-pars-named : (d : Struct) → pars-in (roles-struct d k) ≡ map par-id (pars-of d) ++ pars-in k
-  unfolding roles-struct named naming-code pars-of
+  struct-pars-named : (d : Struct) → pars-in (roles-struct d k) ≡ map par-id (pars-of d) ++ pars-in k
+  unfolding roles-struct roles-par named naming-code pars-of par-id
   struct-pars-named (struct x ps ts) =
-      pars-named ps (part pars-close ∷ part steps-open ∷ roles-steps ts (part steps-close ∷ k))
-      ∙ ap (λ l. map par-id ps ++ l) (steps-none (naming-code new-par) (omega arith) (λ e. omega arith) ts (part steps-close ∷ k))
+      pars-each pars-in pars-in-quiet par-id (λ p j. par-adds p j) ps (part pars-close ∷ part steps-open ∷ roles-steps ts (part steps-close ∷ k))
+      ∙ ap (λ l. map par-id ps ++ l) (steps-quiet pars-in pars-in-quiet (λ y j. refl) ts (part steps-close ∷ k))
+    where
+      par-adds : (p : Par) (j : List Role) → pars-in (roles-par p j) ≡ par-id p ∷ pars-in j
+      par-adds (par y t) j = refl
 
-  pub struct-steps-named : (d : Struct) → steps-in (roles-struct d k) ≡ map step-id (steps-of d) ++ steps-in k
-  unfolding roles-struct named naming-code steps-of
+  struct-types : (d : Struct) → par-types (roles-struct d k) ≡ map par-type (pars-of d) ++ par-types k
+  unfolding roles-struct roles-par par-types pars-of par-type
+  struct-types (struct x ps ts) =
+      pars-each par-types types-quiet par-type (λ p j. par-adds p j) ps (part pars-close ∷ part steps-open ∷ roles-steps ts (part steps-close ∷ k))
+      ∙ ap (λ l. map par-type ps ++ l) (steps-quiet par-types types-quiet (λ y j. refl) ts (part steps-close ∷ k))
+    where
+      par-adds : (p : Par) (j : List Role) → par-types (roles-par p j) ≡ par-type p ∷ par-types j
+      par-adds (par y t) j = refl
+
+  struct-steps-named : (d : Struct) → steps-in (roles-struct d k) ≡ map step-id (steps-of d) ++ steps-in k
+  unfolding roles-struct roles-par named naming-code steps-of
   struct-steps-named (struct x ps ts) =
-      pars-none (naming-code new-step) (omega arith) (λ e. omega arith) ps (part pars-close ∷ part steps-open ∷ roles-steps ts (part steps-close ∷ k))
-      ∙ steps-named ts (part steps-close ∷ k)
+      pars-quiet steps-in steps-in-quiet (λ p j. par-past p j) ps (part pars-close ∷ part steps-open ∷ roles-steps ts (part steps-close ∷ k))
+      ∙ steps-each steps-in steps-in-quiet (λ y. y) (λ y j. refl) ts (part steps-close ∷ k)
+    where
+      par-past : (p : Par) (j : List Role) → steps-in (roles-par p j) ≡ steps-in j
+      par-past (par y t) j = refl
 
-defs-named : (d : Defs) (k : List Role) → structs-in (roles-defs d k) ≡ map struct-id (structs-of d) ++ structs-in k
-unfolding roles-defs structs-of
-defs-named (last-struct d) k = struct-named k d
-defs-named (defs d ds) k = struct-named (roles-defs ds k) d ∙ ap (λ l. struct-id d ∷ l) (defs-named ds k)
+-- the structs, their parameters with their types and the steps of a whole derivation
+module _ {B : Type 0} (f : List Role → List B) (quiet : (r : Role) (k : List Role) → inner r ≡ true → f (r ∷ k) ≡ f k) (nothing : f [] ≡ [])
+    (of : Struct → List B) (row : List Struct → List B) (adds : (k : List Role) (d : Struct) → f (roles-struct d k) ≡ of d ++ f k)
+    (none : row [] ≡ []) (more : (d : Struct) (ds : List Struct) → row (d ∷ ds) ≡ of d ++ row ds) where
+  defs-declared : (d : Defs) (k : List Role) → f (roles-defs d k) ≡ row (structs-of d) ++ f k
+  unfolding roles-defs structs-of
+  defs-declared (last-struct d) k = adds k d ∙ ap (λ l. l ++ f k) (sym (append-nil (of d)) ∙ ap (λ l. of d ++ l) (sym none) ∙ sym (more d []))
+  defs-declared (defs d e) k =
+      adds (roles-defs e k) d ∙ ap (λ l. of d ++ l) (defs-declared e k) ∙ sym (append-assoc (of d) (row (structs-of e)) (f k))
+      ∙ ap (λ l. l ++ f k) (sym (more d (structs-of e)))
 
-defs-steps-named : (d : Defs) (k : List Role) → steps-in (roles-defs d k) ≡ all-steps (structs-of d) ++ steps-in k
-unfolding roles-defs structs-of all-steps
-defs-steps-named (last-struct d) k = struct-steps-named k d ∙ ap (λ l. l ++ steps-in k) (sym (append-nil (map step-id (steps-of d))))
-defs-steps-named (defs d ds) k =
-    struct-steps-named (roles-defs ds k) d ∙ ap (λ l. map step-id (steps-of d) ++ l) (defs-steps-named ds k)
-    ∙ sym (append-assoc (map step-id (steps-of d)) (all-steps (structs-of ds)) (steps-in k))
+  declared : (d : Defs) (s : Sched) → f (roles (program d s)) ≡ row (structs-of d)
+  unfolding roles
+  declared d s =
+      defs-declared d (roles-sched s []) ∙ ap (λ l. row (structs-of d) ++ l) (sched-quiet f quiet s [] ∙ nothing) ∙ append-nil (row (structs-of d))
 
--- the structs and the steps of a whole derivation
+map-pars : (B : Type 0) (h : Par → B) (d : Struct) (ds : List Struct) → map h (all-pars (d ∷ ds)) ≡ map h (pars-of d) ++ map h (all-pars ds)
+unfolding all-pars
+map-pars B h d ds = go (pars-of d)
+  where
+    go : (l : List Par) → map h (l ++ all-pars ds) ≡ map h l ++ map h (all-pars ds)
+    go [] = refl
+    go (p ∷ l) = ap (λ m. h p ∷ m) (go l)
+
 pub structs-declared : (d : Defs) (s : Sched) → structs-in (roles (program d s)) ≡ map struct-id (structs-of d)
-unfolding roles named naming-code
-structs-declared d s =
-    defs-named d (roles-sched s []) ∙ ap (λ l. map struct-id (structs-of d) ++ l) (sched-none (naming-code new-struct) (omega arith) s [])
-    ∙ append-nil (map struct-id (structs-of d))
+unfolding named
+structs-declared =
+    declared structs-in structs-quiet refl (λ d. struct-id d ∷ []) (map struct-id) (λ k d. struct-named k d) refl (λ d ds. refl)
 
 pub steps-declared : (d : Defs) (s : Sched) → steps-in (roles (program d s)) ≡ all-steps (structs-of d)
-unfolding roles named naming-code
-steps-declared d s =
-    defs-steps-named d (roles-sched s []) ∙ ap (λ l. all-steps (structs-of d) ++ l) (sched-none (naming-code new-step) (omega arith) s [])
-    ∙ append-nil (all-steps (structs-of d))
+unfolding named all-steps
+steps-declared =
+    declared steps-in steps-in-quiet refl (λ d. map step-id (steps-of d)) all-steps (λ k d. struct-steps-named k d) refl (λ d ds. refl)
+
+pub pars-declared : (d : Defs) (s : Sched) → pars-in (roles (program d s)) ≡ map par-id (all-pars (structs-of d))
+unfolding named all-pars
+pars-declared =
+    declared pars-in pars-in-quiet refl (λ d. map par-id (pars-of d)) (λ ds. map par-id (all-pars ds)) (λ k d. struct-pars-named k d) refl
+    (map-pars (List ℕ) par-id)
+
+pub types-declared : (d : Defs) (s : Sched) → par-types (roles (program d s)) ≡ map par-type (all-pars (structs-of d))
+unfolding par-types all-pars
+types-declared =
+    declared par-types types-quiet refl (λ d. map par-type (pars-of d)) (λ ds. map par-type (all-pars ds)) (λ k d. struct-types k d) refl
+    (map-pars TypeName par-type)

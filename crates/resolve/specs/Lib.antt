@@ -5,7 +5,12 @@ pub mod DigitLaws
 pub mod Tables
 pub mod TableLaws
 pub mod Declares
+pub mod QuietLaws
 pub mod DeclaresLaws
+pub mod RowLaws
+pub mod Checks
+pub mod CheckLaws
+pub mod FirstLaws
 pub mod Passing
 pub mod Numbers
 pub mod Outcomes
@@ -16,3 +21,5 @@ pub mod Uses
 pub mod UsesLaws
 pub mod Standing
 pub mod StandingLaws
+pub mod PlacesLaws
+pub mod DeclarationLaws

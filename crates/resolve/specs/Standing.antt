@@ -2,8 +2,6 @@
 use Prim.Native.Nat.{ℕ}
 use mathlib.Core.Path.{_≡_}
 use mathlib.Core.List.{List, [], _∷_}
-use mathlib.Core.Bool.{true, false}
-use lib.Dec.{eqb}
 use lib.ListN.{getD, drop}
 use Rattle.tokens.specs.Tokens.{Token, Token.word, Token.sign, Token.op, Token.name, Token.int, Token.nat}
 use Rattle.tokens.specs.Scanning.{polarity}
@@ -25,9 +23,3 @@ pub data Stood : List ℕ → List ℕ → List Role → Type 0 where
   at-end : Stood [] [] []
   no-token : {b : ℕ} {s cs : List ℕ} {rs : List Role} → Stood s cs rs → Stood (b ∷ s) (0 ∷ cs) rs
   a-role : {b : ℕ} {s cs : List ℕ} {rs : List Role} (r : Role) → Spelt (token-of r) (b ∷ s) → Stood s cs rs → Stood (b ∷ s) (code r ∷ cs) (r ∷ rs)
-
--- the bytes rs in the places where tokens begin
-unfoldable pub placed : List ℕ → List ℕ → List ℕ
-placed [] rs = []
-placed (k ∷ ks) [] = k ∷ ks
-placed (k ∷ ks) (r ∷ rs) = elim (eqb k 0) [ true ↦ k ∷ placed ks (r ∷ rs) | false ↦ r ∷ placed ks rs ]

@@ -15,9 +15,10 @@ use Rattle.lexer.specs.Kinds.{kind}
 use Rattle.lexer.specs.KindLaws.{kind-within}
 use Rattle.lexer.specs.Marking.{spot-of, at-spot, marks-of, marks-from, marks}
 use Rattle.derive.specs.Roles.{Role, code, token-of}
+use Rattle.derive.specs.RoleMarks.{placed}
 use Rattle.resolve.specs.Named.{name-of}
 use Rattle.resolve.specs.Digits.{digits-of}
-use Rattle.resolve.specs.Standing.{placed, Spelt, Stood, Stood.at-end, Stood.no-token, Stood.a-role}
+use Rattle.resolve.specs.Standing.{Spelt, Stood, Stood.at-end, Stood.no-token, Stood.a-role}
 
 -- What a token at the front says --------------------------------------------------------------
 

@@ -1,20 +1,20 @@
 -- Places are gathered one after the other; a row of names is distinct where each is sought in vain behind itself.
-use Prim.Native.Nat.{ℕ, zero, suc, _+_, _-_, _≤_, _<_}
+use Prim.Native.Nat.{ℕ, suc, _+_, _-_, _≤_, _<_}
 use native.Mathlib.Omega.{arith}
 use native.Mathlib.Numerals.{add-one}
 use mathlib.Core.Path.{_≡_, refl, sym, ap, _∙_}
-use mathlib.Core.Bool.{Bool, true, false, _&&_, not}
-use mathlib.Core.List.{List, [], _∷_, map}
+use mathlib.Core.Bool.{Bool, true, false}
+use mathlib.Core.List.{List, [], _∷_}
 use lib.ListN.{length, getD, set, length-set, take, drop, length-drop, drop-of-length-le}
 use lib.Seq.{sets, take-all}
 use lib.Dec.{eqb}
-use borrow.Author.Tests.{eq-eqb, ne-eqb, eqb-true, eqb-false}
+use Rattle.tokens.specs.Tokens.{between}
 use Rattle.tokens.specs.Scanning.{same}
 use Rattle.lexer.specs.RunLaws.{next-byte}
 use Rattle.syntax.specs.Syntax.{Id}
 use Rattle.meaning.specs.Finding.{absent, distinct}
-use Rattle.resolve.specs.Named.{name-of, name-at, names-at, sought}
-use Rattle.resolve.specs.Tables.{places-from, places, with-place, with-one}
+use Rattle.resolve.specs.Named.{name-at, names-at, sought}
+use Rattle.resolve.specs.Tables.{struct-byte, places-from, places, with-place, with-one, offsets-from, offsets}
 
 -- One place ---------------------------------------------------------------------------------
 
@@ -39,36 +39,36 @@ module _ {t : Bool} (table : List ℕ) (n i : ℕ) where
 -- Gathering ----------------------------------------------------------------------------------
 
 -- the places from i on, stored behind the n before them, complete the table
-pub record Gathers (s table₀ table : List ℕ) (code n i : ℕ) : Type 0 where
+pub record Gathers (s table₀ table : List ℕ) (lo hi n i : ℕ) : Type 0 where
   pub inner : i ≤ length s
   pub few : n ≤ i
   pub kept : length table ≡ length table₀
-  pub count : n + length (places-from code i (drop i s)) ≡ length (places code s)
-  pub stored : sets table n (places-from code i (drop i s)) ≡ sets table₀ 0 (places code s)
+  pub count : n + length (places-from lo hi i (drop i s)) ≡ length (places lo hi s)
+  pub stored : sets table n (places-from lo hi i (drop i s)) ≡ sets table₀ 0 (places lo hi s)
 
-pub gathers-start : (s table : List ℕ) (code : ℕ) → Gathers s table table code 0 0
-gathers-start s table code = record { inner = omega arith; few = omega arith; kept = refl; count = omega arith; stored = refl }
+pub gathers-start : (s table : List ℕ) (lo hi : ℕ) → Gathers s table table lo hi 0 0
+gathers-start s table lo hi = record { inner = omega arith; few = omega arith; kept = refl; count = omega arith; stored = refl }
 
-module _ {s table₀ table : List ℕ} {code n i : ℕ} (r : Gathers s table₀ table code n i) where
+module _ {s table₀ table : List ℕ} {lo hi n i : ℕ} (r : Gathers s table₀ table lo hi n i) where
   module _ (l : i < length s) where
-    gathers-one : getD s i 0 ≡ code → Gathers s table₀ (set table n i) code (n + 1) (i + 1)
+    gathers-one : between lo hi (getD s i 0) ≡ true → Gathers s table₀ (set table n i) lo hi (n + 1) (i + 1)
     unfolding places-from
     gathers-one e =
-        let f : places-from code i (drop i s) ≡ i ∷ places-from code (i + 1) (drop (i + 1) s) =
-        rw (next-byte s i l, places-from, eq-eqb (getD s i 0) code e) (ap (λ k. i ∷ places-from code k (drop (i + 1) s)) (sym (add-one i))) in
+        let f : places-from lo hi i (drop i s) ≡ i ∷ places-from lo hi (i + 1) (drop (i + 1) s) =
+        rw (next-byte s i l, places-from, e) (ap (λ k. i ∷ places-from lo hi k (drop (i + 1) s)) (sym (add-one i))) in
         record {
           inner = omega arith;
           few = let h = r .few in omega arith;
           kept = length-set table n i ∙ r .kept;
           count = omega (arith, ap length f, r .count);
-          stored = ap (λ k. sets (set table n i) k (places-from code (i + 1) (drop (i + 1) s))) (add-one n) ∙ ap (sets table n) (sym f) ∙ r .stored;
+          stored = ap (λ k. sets (set table n i) k (places-from lo hi (i + 1) (drop (i + 1) s))) (add-one n) ∙ ap (sets table n) (sym f) ∙ r .stored;
         }
 
-    gathers-none : (getD s i 0 ≡ code → ⊥) → Gathers s table₀ table code n (i + 1)
+    gathers-none : between lo hi (getD s i 0) ≡ false → Gathers s table₀ table lo hi n (i + 1)
     unfolding places-from
     gathers-none e =
-        let f : places-from code i (drop i s) ≡ places-from code (i + 1) (drop (i + 1) s) =
-        rw (next-byte s i l, places-from, ne-eqb (getD s i 0) code e) (ap (λ k. places-from code k (drop (i + 1) s)) (sym (add-one i))) in
+        let f : places-from lo hi i (drop i s) ≡ places-from lo hi (i + 1) (drop (i + 1) s) =
+        rw (next-byte s i l, places-from, e) (ap (λ k. places-from lo hi k (drop (i + 1) s)) (sym (add-one i))) in
         record {
           inner = omega arith;
           few = let h = r .few in omega arith;
@@ -77,26 +77,95 @@ module _ {s table₀ table : List ℕ} {code n i : ℕ} (r : Gathers s table₀ 
           stored = ap (sets table n) (sym f) ∙ r .stored;
         }
 
-    pub gathers-on : {t : Bool} {table' : List ℕ} {m : ℕ} → t ≡ eqb (getD s i 0) code → m ≡ with-one t n → table' ≡ with-place t table n i
-        → Gathers s table₀ table' code m (i + 1)
+    pub gathers-on : {t : Bool} {table' : List ℕ} {m : ℕ} → t ≡ between lo hi (getD s i 0) → m ≡ with-one t n → table' ≡ with-place t table n i
+        → Gathers s table₀ table' lo hi m (i + 1)
     unfolding with-one with-place
     gathers-on {t} {table'} {m} e f g = go t e f g
       where
-        go : (u : Bool) → u ≡ eqb (getD s i 0) code → m ≡ with-one u n → table' ≡ with-place u table n i → Gathers s table₀ table' code m (i + 1)
-        go true a b d = rw (b, d) (gathers-one (eqb-true (getD s i 0) code (sym a)))
-        go false a b d = rw (b, d) (gathers-none (eqb-false (getD s i 0) code (sym a)))
+        go : (u : Bool) → u ≡ between lo hi (getD s i 0) → m ≡ with-one u n → table' ≡ with-place u table n i → Gathers s table₀ table' lo hi m (i + 1)
+        go true a b d = rw (b, d) (gathers-one (sym a))
+        go false a b d = rw (b, d) (gathers-none (sym a))
 
-  pub gathers-count : length s ≤ i → n ≡ length (places code s)
+  pub gathers-count : length s ≤ i → n ≡ length (places lo hi s)
   unfolding places-from
   gathers-count l =
-      let f : places-from code i (drop i s) ≡ [] = rw (drop-of-length-le s {i = i} l) refl in
+      let f : places-from lo hi i (drop i s) ≡ [] = rw (drop-of-length-le s {i = i} l) refl in
       omega (arith, ap length f, r .count)
 
-  pub gathers-stored : length s ≤ i → table ≡ sets table₀ 0 (places code s)
+  pub gathers-stored : length s ≤ i → table ≡ sets table₀ 0 (places lo hi s)
   unfolding places-from
   gathers-stored l =
-      let f : places-from code i (drop i s) ≡ [] = rw (drop-of-length-le s {i = i} l) refl in
+      let f : places-from lo hi i (drop i s) ≡ [] = rw (drop-of-length-le s {i = i} l) refl in
       ap (sets table n) (sym f) ∙ r .stored
+
+-- Rows ---------------------------------------------------------------------------------------------
+
+-- the rows from i on, stored behind the k before them, complete the table
+pub record Lays (s table₀ table : List ℕ) (q n k i : ℕ) : Type 0 where
+  pub inner : i ≤ length s
+  pub few : k ≤ i
+  pub less : n ≤ i
+  pub kept : length table ≡ length table₀
+  pub count : k + length (offsets-from q n (drop i s)) ≡ length (offsets q s)
+  pub stored : sets table k (offsets-from q n (drop i s)) ≡ sets table₀ 0 (offsets q s)
+
+pub lays-start : (s table : List ℕ) (q : ℕ) → Lays s table table q 0 0 0
+lays-start s table q = record { inner = omega arith; few = omega arith; less = omega arith; kept = refl; count = omega arith; stored = refl }
+
+module _ {s table₀ table : List ℕ} {q n k i : ℕ} (r : Lays s table₀ table q n k i) where
+  module _ (l : i < length s) where
+    pub lays-on : {table' : List ℕ} {m j : ℕ} → j ≡ with-one (eqb (getD s i 0) struct-byte) k → table' ≡ with-place (eqb (getD s i 0) struct-byte) table k n
+        → m ≡ with-one (eqb (getD s i 0) q) n → Lays s table₀ table' q m j (i + 1)
+    unfolding with-one with-place offsets-from
+    lays-on {table'} {m} {j} a b d = go (eqb (getD s i 0) struct-byte) refl
+      where
+        at-most : (t : Bool) → m ≡ with-one t n → m ≤ i + 1
+        at-most true e = omega (arith, e, r .less)
+        at-most false e = omega (arith, e, r .less)
+
+        rest : List ℕ
+        rest = offsets-from q m (drop (i + 1) s)
+
+        go : (t : Bool) → eqb (getD s i 0) struct-byte ≡ t → Lays s table₀ table' q m j (i + 1)
+        go true e =
+            let f : offsets-from q n (drop i s) ≡ n ∷ rest = rw (next-byte s i l, offsets-from, e) (ap (λ v. n ∷ offsets-from q v (drop (i + 1) s)) (sym d)) in
+            let g : j ≡ k + 1 = rw (e, with-one) at a in
+            let h : table' ≡ set table k n = rw (e, with-place) at b in
+            record {
+              inner = omega arith;
+              few = omega (arith, g, r .few);
+              less = at-most (eqb (getD s i 0) q) d;
+              kept = ap length h ∙ length-set table k n ∙ r .kept;
+              count = omega (arith, g, ap length f, r .count);
+              stored = ap (λ v. sets table' v rest) (g ∙ add-one k) ∙ ap (λ v. sets v (suc k) rest) h ∙ ap (sets table k) (sym f) ∙ r .stored;
+            }
+        go false e =
+            let f : offsets-from q n (drop i s) ≡ rest = rw (next-byte s i l, offsets-from, e) (ap (λ v. offsets-from q v (drop (i + 1) s)) (sym d)) in
+            let g : j ≡ k = rw (e, with-one) at a in
+            let h : table' ≡ table = rw (e, with-place) at b in
+            record {
+              inner = omega arith;
+              few = omega (arith, g, r .few);
+              less = at-most (eqb (getD s i 0) q) d;
+              kept = ap length h ∙ r .kept;
+              count = omega (arith, g, ap length f, r .count);
+              stored = ap (λ v. sets table' v rest) g ∙ ap (λ v. sets v k rest) h ∙ ap (sets table k) (sym f) ∙ r .stored;
+            }
+
+  pub lays-end : {table' : List ℕ} → length s ≤ i → table' ≡ set table k n → table' ≡ sets table₀ 0 (offsets q s)
+  unfolding offsets-from
+  lays-end l e =
+      let f : offsets-from q n (drop i s) ≡ n ∷ [] = rw (drop-of-length-le s {i = i} l) refl in
+      e ∙ ap (sets table k) (sym f) ∙ r .stored
+
+  pub lays-kept : {table' : List ℕ} → table' ≡ set table k n → length table' ≡ length table₀
+  lays-kept e = ap length e ∙ length-set table k n ∙ r .kept
+
+  pub lays-count : length s ≤ i → k + 1 ≡ length (offsets q s)
+  unfolding offsets-from
+  lays-count l =
+      let f : offsets-from q n (drop i s) ≡ n ∷ [] = rw (drop-of-length-le s {i = i} l) refl in
+      omega (arith, ap length f, r .count)
 
 -- Names that are all different -----------------------------------------------------------------
 

@@ -3,11 +3,9 @@
 use Prim.Native.Nat.{ℕ, suc, _*_, _≤_}
 use native.Mathlib.Omega.{arith}
 use mathlib.Core.Path.{_≡_, ap, _∙_}
-use mathlib.Core.List.{List, _++_, map}
-use lib.ListN.{length, drop}
-use Rattle.types.specs.Limits.{table-blocks, max-commands, max-instances, schedule-items}
-use Rattle.block.specs.Block.{block-size}
-use Rattle.blocks.specs.Images.{image, pieces}
+use mathlib.Core.List.{List, map}
+use lib.ListN.{length}
+use Rattle.types.specs.Limits.{max-commands, max-instances, schedule-items}
 use Rattle.program.specs.Tree.{Program}
 use Rattle.commands.specs.Bounds.{program-depth, Within}
 use Rattle.commands.specs.Accepted.{Accepted}
@@ -17,7 +15,6 @@ use Rattle.read_params.specs.ParamsWays.{from-start}
 use Rattle.commands.specs.ProgramWords.{program-words}
 use Rattle.commands.specs.ProgramWordsLaws.{program-length}
 use Rattle.machine.specs.Machine.{Machine}
-use Rattle.run.specs.Run.{Outcome.stopped, run}
 use Rattle.run.specs.Laws.RunAgreesVisits.{run-turns}
 use Rattle.run.specs.Entry.{report, report-of, output-of, last-stream}
 use Rattle.sound.specs.Laws.AcceptedLaws.{accepted-firm}

@@ -14,7 +14,6 @@ use Rattle.table.specs.TableReader.{TableAnswer, TableAnswer.table, TableAnswer
 use Rattle.commands.specs.Bounds.{arities}
 use Rattle.verdict.specs.Verdict.{Checked, Checked.accepted, listed}
 use Rattle.machine.specs.Published.{structs}
-use Rattle.machine.specs.Machine.{Machine}
 use Rattle.run.specs.Begin.{begin}
 use Rattle.run.specs.Laws.BeginLaws.{begin-idle}
 use Rattle.run.specs.Entry.{Begun, Begun.begun, Begun.not-begun, of-table, of-checked}
@@ -30,16 +29,10 @@ use Rattle.table_read.specs.declared.TableRead.the-variants.{Instances, Refused
 use Rattle.table_read.specs.Params.{lists-of, Tables}
 use Rattle.table_read.specs.TableTold.{table-told, image-answer, TableLaid}
 use Rattle.table_read.specs.ReadStands.{program-tables, image-answer-is, image-begins, image-right, image-stands}
-use Rattle.run_images.specs.declared.Seat.{Seat}
 use Rattle.run_images.specs.Stages.{seat-of, Seated}
 
 pub admitted-counts : {s counts : List ℕ} {at : ℕ} {p : Program} → Admitted s counts at p → Counts p
 admitted-counts {s = s} {p = p} a = program-law s p (a .end) .0 (a .reads) .0
-
--- where the stream stands does not matter
-pub seated-by : {s s′ counts heads cells : List ℕ} {seat : Seat} {p : Program} {m : Machine} → s′ ≡ s → Seated s counts seat heads cells p m
-    → Seated s′ counts seat heads cells p m
-seated-by e w = rw e w
 
 module _ {s counts types : List ℕ} {at : ℕ} {p : Program} (a : Admitted s counts at p) (typed : types ≡ types-table (p .params)) where
   -- the program's parameters may be read by

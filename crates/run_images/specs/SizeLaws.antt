@@ -1,11 +1,10 @@
--- The stream of an accepted program is short (01, 'Program stream', and the limits of 6): behind it the buffer of a program image has room
--- for the stream of a table.
+-- The stream of an accepted program is short (01, 'Program stream', and the limits of 6), and so kept in little room.
 use Prim.Native.Nat.{ℕ, _+_, _*_, _≤_}
 use native.Mathlib.Omega.{arith}
 use mathlib.Core.Path.{_≡_, refl, ap, _∙_}
 use mathlib.Core.List.{List, [], _∷_, _++_}
 use lib.ListN.{length, length-append}
-use Rattle.types.specs.Limits.{max-structs, max-params, max-steps, max-commands, schedule-items}
+use Rattle.types.specs.Limits.{max-params, max-steps}
 use Rattle.types.specs.Types.{Ty, code}
 use Rattle.blocks.specs.Images.{stream}
 use Rattle.program.specs.Tree.{Expr, Expr.inv, Expr.make, Expr.path, Expr.int-lit, Expr.nat-lit, Expr.bool-lit, Expr.null, Expr.self, Expr.op, Exprs, Exprs.none, Exprs.more, Stmt, Stmt.when, Stmt.declare, Stmt.update, Stmt.create, Stmts, Stmts.end, Stmts.next, Item, Item.call, Item.call-in, Item.fix, Items, Items.stop, Items.item, Step, Program, size, items}
@@ -17,8 +16,9 @@ use Rattle.commands.specs.Laws.SizeLaws.{program-size-is}
 use Rattle.commands.specs.Bounds.{total, item-count, items-count, Within}
 use Rattle.commands.specs.Laws.NumbersLaws.{number-accepts}
 use Rattle.load.specs.declared.Loaded.{Loaded}
-use Rattle.load.specs.LoadLaws.{LoadedAs, accepted-source, loaded-counts}
+use Rattle.load.specs.LoadLaws.{LoadedAs, accepted-source}
 use Rattle.table_write.specs.WrittenWays.{word-length}
+use Rattle.run_images.specs.Stages.{most-bytes}
 
 -- at most five bytes for a command
 mutual
@@ -95,10 +95,6 @@ mutual
   items-bytes : (is : Items) → length (enc-items is) ≤ 3 * items-count is
   items-bytes stop = omega arith
   items-bytes (item i is) = omega (arith, length-append (enc-item i) (enc-items is), item-bytes i, items-bytes is)
-
--- 5,730 bytes
-abbrev most-bytes : ℕ
-most-bytes = 1 + 9 * max-structs + 17 * max-structs + 5 * max-commands + 1 + 3 * schedule-items
 
 program-bytes : (p : Program)
     → length (enc-program p) ≡ length (enc-list (enc-list type-byte) (p .params)) + length (flat (enc-list enc-step) (p .steps))

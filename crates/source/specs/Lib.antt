@@ -1,4 +1,11 @@
 pub mod Source
 pub mod TextReader
 pub mod SourceLaws
+pub mod Kept
+pub mod KeptLaws
+pub mod NamingLaws
+pub mod Stepping
+pub mod SteppingLaws
+pub mod Checking
+pub mod CheckingLaws
 pub mod Rows

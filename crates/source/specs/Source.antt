@@ -6,7 +6,7 @@ use lib.ListN.{length, drop}
 use Rattle.types.specs.Limits.{program-blocks}
 use Rattle.types.specs.Numbers.{no-room}
 use Rattle.block.specs.Block.{block-size}
-use Rattle.blocks.specs.Images.{image}
+use Rattle.blocks.specs.Images.{image, pieces}
 use Rattle.program.specs.Tree.{Program}
 use Rattle.program.specs.Encoding.{enc-program}
 use Rattle.commands.specs.Numbers.{Order}
@@ -68,6 +68,15 @@ text-order x out = (no-token, NoTokens x) ∷ (no-derivation, NoDerivation x) �
 pub data Outcome : Type 0 where
   written : Program → Outcome
   refused : ℕ → Outcome
+
+-- 0 or the number of the refusal; the blocks that are written
+unfoldable pub number-of : Outcome → ℕ
+number-of (written p) = 0
+number-of (refused n) = n
+
+unfoldable pub blocks-of : Outcome → ℕ
+blocks-of (written p) = pieces (length (enc-program p))
+blocks-of (refused n) = 0
 
 -- the image of the program's stream in front, the rest as it was; a refusal leaves all
 unfoldable pub output-of : Outcome → List ℕ → List ℕ

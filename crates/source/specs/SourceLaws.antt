@@ -136,6 +136,13 @@ module _ (x out : List ℕ) where
       back f r o e (refuses q) = absurd (foremost-some q f)
       back f r o e (writes g s h) = e ∙ ap (λ q. written q) (one-reading s r)
 
+  -- such a program is held
+  pub written-held : (p : Program) → outcome x out ≡ written p → Holds p
+  written-held p e = held (subst (Tells x (text-order x out)) e tells)
+    where
+      held : Tells x (text-order x out) (written p) → Holds p
+      held (writes f r h) = h
+
   -- a refusal leaves the output
   pub text-untouched : (n : ℕ) → outcome x out ≡ refused n → text-output x out ≡ out
   unfolding text-output output-of
@@ -143,13 +150,10 @@ module _ (x out : List ℕ) where
 
   -- the checker reads the stream that is written back as the program, exactly where its nesting keeps to 01's levels
   pub written-read : (p : Program) → outcome x out ≡ written p → (read-stream (enc-program p) ≡ ok p (length (enc-program p))) ↔ Shallow p
-  written-read p e = held (subst (Tells x (text-order x out)) e tells)
-    where
-      held : Tells x (text-order x out) (written p) → (read-stream (enc-program p) ≡ ok p (length (enc-program p))) ↔ Shallow p
-      held (writes f r h) = (
-        λ q. counts-split p .0 (program-law (enc-program p) p (length (enc-program p)) .0 q .0) .1,
-        λ s. program-law (enc-program p) p (length (enc-program p)) .1 (counts-split p .1 (h .counted, s), refl, refl),
-      )
+  written-read p e = (
+    λ q. counts-split p .0 (program-law (enc-program p) p (length (enc-program p)) .0 q .0) .1,
+    λ s. program-law (enc-program p) p (length (enc-program p)) .1 (counts-split p .1 (written-held p e .counted, s), refl, refl),
+  )
 
   -- Text free of 15 escapes 16 precisely when the grammar derives it -----------------------------------
 

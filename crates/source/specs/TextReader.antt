@@ -15,7 +15,7 @@ use Rattle.syntax.specs.Syntax.{Program as Derivation}
 use Rattle.syntax.specs.Reading.{read}
 use Rattle.meaning.specs.Meant.{meant}
 use Rattle.meaning.specs.HoldsDecide.{holds}
-use Rattle.source.specs.Source.{max-text, no-token, no-derivation, no-program, Outcome, Outcome.written, Outcome.refused, output-of}
+use Rattle.source.specs.Source.{max-text, no-token, no-derivation, no-program, Outcome, Outcome.written, Outcome.refused, number-of, blocks-of, output-of}
 
 -- with room for the output, or without
 unfoldable pub of-room : Bool → Program → Outcome
@@ -51,7 +51,15 @@ unfoldable pub outcome : List ℕ → List ℕ → Outcome
 unfolding of-length
 outcome x out = of-length (ltb max-text (length x)) x out
 
--- the output behind reading
+-- the number, the blocks and the output behind reading
+unfoldable pub text-number : List ℕ → List ℕ → ℕ
+unfolding outcome number-of
+text-number x out = number-of (outcome x out)
+
+unfoldable pub text-blocks : List ℕ → List ℕ → ℕ
+unfolding outcome blocks-of
+text-blocks x out = blocks-of (outcome x out)
+
 unfoldable pub text-output : List ℕ → List ℕ → List ℕ
 unfolding outcome output-of
 text-output x out = output-of (outcome x out) out

@@ -1,4 +1,6 @@
 pub mod StepPart
-pub mod SeekLaws
+pub mod Search
+pub mod SearchLaws
+pub mod SearchSteps
 pub mod StepPartLaws
 pub mod StepPartWords

@@ -1,16 +1,13 @@
 // The commands of one step, as that part of the lent list (01, 'Names, types, commands').
-use emit_steps::rows::ROWS;
-use emit_steps::rows::number;
-use emit_steps::rows::place;
-use emit_steps::rows::row_at;
+mod search;
+
 use load::Load;
+use search::Search;
+use search::Wanted;
 ghost use mathlib.Core.Path.{_≡_};
-ghost use Prim.Native.Nat.{_*_, _≤_};
-ghost use lib.ListN.{length};
-ghost use Rattle.directory.specs.Directory.{find-row};
-ghost use Rattle.directory.specs.Rows.{row-places, rows-from};
 ghost use Rattle.verdict.specs.Verdict.{checked};
-ghost use Rattle.step_part.specs.StepPart.{nowhere, spot-of, spot-by, step-place, step-part};
+ghost use Rattle.step_part.specs.StepPart.{nowhere, spot-by, step-place, step-part};
+ghost use Rattle.step_part.specs.Search.{ended};
 
 // 01's number of a refused image or of a short list, else 0; the place of the step's first command, and how many it has.
 pub struct Spot {
@@ -30,31 +27,17 @@ fn nowhere(number: u8) -> Spot
     }
 }
 
-// The first of n rows that is of a struct and a name.
-fn seek(rows: &[u16], n: usize, structure: u8, name: u8) -> Spot
-    requires { ⌜ row-places * n ≤ length (now rows) ⌝ }
-    ensures { λ r. ⌜ r ≡ spot-of (find-row (rows-from (now (rows .entry)) 0 n) structure name) ⌝ }
+// Where a search ended.
+fn ended(r: Search) -> Spot
+    ensures { λ z. ⌜ z ≡ ended r ⌝ }
 {
-    let k = number(structure);
-    let m = number(name);
-    let mut i = 0;
-    while i < n {
-        let r = row_at(rows, i);
-        if r.structure == k {
-            if r.name == m {
-                return Spot {
-                    number: 0,
-                    start: place(r.start),
-                    len: place(r.size),
-                };
-            }
-        }
-        i += 1;
-    }
-    nowhere(0)
+    let Search::Here(z) = r else {
+        return nowhere(0);
+    };
+    z
 }
 
-// The step of a struct and a name in a program image. Its commands are written into a list of their own, since what the caller lends is not changed.
+// The step of a struct and a name in a program image. What the caller lends is not changed, and one step's commands at a time need little room.
 fn locate(image: &[u8], structure: u8, name: u8) -> Spot
     ensures { λ r. ⌜ r ≡ spot-by (checked (now (image .entry))) structure name ⌝ }
 {
@@ -67,11 +50,9 @@ fn locate(image: &[u8], structure: u8, name: u8) -> Spot
     };
     let n = p.length;
     let structs = p.structs as usize;
-    let mut list = [0u64; types::MAX_COMMANDS];
-    let mut rows = [0u16; ROWS];
-    let z = emit_steps::program(&stream[..n], &counts[..structs], p.at, &mut list, &mut rows);
-    let steps = z.rows;
-    seek(&rows, steps, structure, name)
+    let w = Wanted { structure, name };
+    let mut room = [0u64; types::STEP_COMMANDS];
+    ended(search::structs(&stream[..n], &counts[..structs], w, p.at, &mut room))
 }
 
 // Where the commands of a step begin in the list, and how many it has: 0 and 0 where the image is not accepted, the list is too short

@@ -9,9 +9,10 @@ pub mod programs;
 pub mod random;
 pub mod syntax;
 pub mod tables;
+pub mod texts;
 
 use crate::cases::{
-    Case, MOST_OUTPUT, MOST_PLACES, MOST_PROGRAM, MOST_TABLE, MOST_TURNS, OUTPUT_FILL,
+    Case, MOST_IMAGE, MOST_OUTPUT, MOST_PLACES, MOST_PROGRAM, MOST_TABLE, MOST_TURNS, OUTPUT_FILL,
 };
 use encode::{image, program_stream, table_stream};
 use engine::run;
@@ -167,5 +168,6 @@ fn lend_otherwise(random: &mut Random, case: &mut Case) {
             4..=7 => *output = *random.pick(&[0, 511, 8_703, 8_705, MOST_OUTPUT]),
             _ => turns.resize(*random.pick(&[65_536, 65_537, MOST_TURNS]), 1),
         },
+        Case::Text { output, .. } => *output = *random.pick(&[0, 32_767, 32_769, MOST_IMAGE]),
     }
 }

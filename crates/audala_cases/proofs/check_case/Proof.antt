@@ -21,4 +21,4 @@ check-case-spec =
     (tie.spec (λ c κs. search needs) (λ c. search needs) (λ c. search needs) (λ c. search needs) (λ c. search needs) (λ c κs. search needs)
     (λ c. search needs) (λ c. search needs) (λ c. search needs) array-share-prefix-image
     (λ c. sym (length-take-le _ _ (array-share-prefix-image (c .before)))) array-borrow-prefix-list
-    (λ c. sym (length-take-le _ _ (array-borrow-prefix-list (c .before)))) (λ c κs. search needs) (λ c. search needs))
+    (λ c. sym (length-take-le _ _ (array-borrow-prefix-list (c .before)))) (λ c κs. search needs) (λ c κs. search needs) (λ c. search needs))

@@ -39,4 +39,4 @@ run-parts-spec =
     (λ c. sym (length-take-le _ _ (array-share-prefix-table (c .before)))) array-share-prefix-turns
     (λ c. sym (length-take-le _ _ (array-share-prefix-turns (c .before)))) array-borrow-prefix-output
     (λ c. sym (length-take-le _ _ (array-borrow-prefix-output (c .before)))) array-borrow-prefix-list
-    (λ c. sym (length-take-le _ _ (array-borrow-prefix-list (c .before)))) (λ c κs. search needs) (λ c. search needs))
+    (λ c. sym (length-take-le _ _ (array-borrow-prefix-list (c .before)))) (λ c κs. search needs) (λ c κs. search needs) (λ c. search needs))

@@ -15,12 +15,12 @@ array-share-prefix-buffer c =
     let fits = subst (ReadSays _ _ _) (sym (read-image .ensures .0) ∙ length .given .1) (read-says _ _ _) .2 in
     subst (λ (n : ℕ). length .given .0 .0 ≤ n) (sym (read-image .kept .1 .1 .0)) fits
 
-slice-aggregate-write-all : tie.Need-slice-aggregate-write-all
-slice-aggregate-write-all c = sym (length-take-le _ _ (array-share-prefix-buffer (c .before)))
+slice-aggregate-output : tie.Need-slice-aggregate-output
+slice-aggregate-output c = sym (length-take-le _ _ (array-share-prefix-buffer (c .before)))
 
 pub answer-spec : {M : Type 1} → statement M
 answer-spec =
     tie.close
-    (tie.spec (λ c. search needs) (λ c κs. search needs) (λ c. search needs) array-share-prefix-buffer slice-aggregate-write-all
+    (tie.spec (λ c. search needs) (λ c κs. search needs) (λ c. search needs) array-share-prefix-buffer slice-aggregate-output
     (λ c κs. search needs) (λ c. search needs) (λ c κs. search needs) (λ c κs. search needs) (λ c. search needs) (λ c. search needs)
     (λ c. search needs) (λ c. search needs))

@@ -151,20 +151,23 @@ fn nesting(random: &mut Random) -> String {
     }
 }
 
-/// A stream of 32,256 bytes or near to it; those of the frame are 17.
-fn stream_bytes(random: &mut Random) -> String {
-    let inner = near(random, 32_256) - 17;
-    if random.one_in(2) {
-        return with_statements(&format!("b := {} b ;", "! ".repeat(inner - 3)));
-    }
-    let (sums, nots) = ((inner - 3) / 4, (inner - 3) % 4);
-    let open = "( ".repeat(sums) + &"! ".repeat(nots);
-    with_statements(&format!("x := {open} x {} ;", "+ x ) ".repeat(sums)))
+/// A stream of 32,256 bytes or near to it; those of the frame are 14. The text
+/// has no more blanks than it needs.
+pub fn stream_bytes(random: &mut Random) -> String {
+    let inner = near(random, 32_256) - 14;
+    let text = if random.one_in(2) {
+        with_statements(&format!("b := {} b ;", "! ".repeat(inner - 3)))
+    } else {
+        let (sums, nots) = ((inner - 3) / 4, (inner - 3) % 4);
+        let open = "( ".repeat(sums) + &"! ".repeat(nots);
+        with_statements(&format!("x := {open} x {} ;", "+ x ) ".repeat(sums)))
+    };
+    text.replace(' ', "").replace("struct", "struct ")
 }
 
 /// Texts about single rules: tokens, derivations, names alive or twice, and
 /// what is left to the checker.
-const RULES: [&str; 54] = [
+pub const RULES: [&str; 54] = [
     "",
     "s",
     "struct P ( ) { }",
@@ -222,7 +225,7 @@ const RULES: [&str; 54] = [
 ];
 
 /// Texts whose bytes matter, comments above all.
-const RAW: [&str; 16] = [
+pub const RAW: [&str; 19] = [
     "struct P(){s{}}s/**/",
     "struct P(){s{}}s/*/",
     "struct P(){s{}}s/***/",
@@ -239,10 +242,13 @@ const RAW: [&str; 16] = [
     "struct P(x:Nat){s{if 1nthen{}}}s",
     "struct P(x:Nat){s{x:=(x-1n);}}s",
     "struct P(x:Int){s{x:=(x-+1);x:=(-1--1);}}s",
+    "struct P(){_s{}}_s",
+    "struct P(){s{}}\x0cs",
+    "struct P(){s{}}s\u{e9}",
 ];
 
 /// Text whose length is near the greatest, by blanks or one comment.
-fn padded(random: &mut Random, text: String) -> String {
+pub fn padded(random: &mut Random, text: String) -> String {
     let room = near(random, 65_536) - text.len();
     if random.one_in(2) {
         text + &" ".repeat(room)
@@ -251,7 +257,7 @@ fn padded(random: &mut Random, text: String) -> String {
     }
 }
 
-const COUNTED: [fn(&mut Random) -> String; 11] = [
+pub const COUNTED: [fn(&mut Random) -> String; 11] = [
     structs, parameters, steps, step_names, statements, path, locals, items, arguments, literal,
     nesting,
 ];
@@ -269,7 +275,7 @@ pub fn tokens(random: &mut Random) -> Vec<Vec<u8>> {
 /// A text to be taken as it stands; seldom a long one.
 pub fn raw(random: &mut Random) -> Vec<u8> {
     let text = match random.below(12) {
-        0 => stream_bytes(random).replace(' ', ""),
+        0 => stream_bytes(random),
         1 => padded(random, "struct P(){s{}}s".to_string()),
         2 => padded(random, with_statements("x := ( x + p . x ) ;")),
         _ => random.pick(&RAW).to_string(),

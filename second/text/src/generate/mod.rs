@@ -3,12 +3,14 @@
 
 mod damage;
 mod edge;
+mod edges;
 mod program;
 mod random;
 mod render;
 mod vocabulary;
 
 use crate::{Answer, read, read_bare};
+pub use edges::edges;
 use random::Random;
 use render::Style;
 

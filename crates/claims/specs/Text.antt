@@ -1,0 +1,77 @@
+-- Program text (02 §1): what has one reading at most, which number a text is refused with, what is written otherwise, and what the checker says to it.
+use Prim.Native.Nat.{ℕ, _≤_}
+use mathlib.Core.Path.{_≡_}
+use mathlib.Core.Logic.{_↔_}
+use mathlib.Core.List.{List}
+use lib.ListN.{length}
+use Rattle.types.specs.Limits.{max-commands}
+use Rattle.types.specs.Numbers.{wrong-byte, wrong-names}
+use Rattle.blocks.specs.Images.{image}
+use Rattle.program.specs.Tree.{Program}
+use Rattle.program.specs.Encoding.{enc-program}
+use Rattle.commands.specs.Numbers.{NoneOf, Foremost}
+use Rattle.verdict.specs.Verdict.{Checked.refused as checked-refused, checked, refusal, check-verdict}
+use Rattle.tokens.specs.Tokens.{Token}
+use Rattle.tokens.specs.Lexing.{Lexed}
+use Rattle.tokens.specs.LexingLaws.{lexed-one as lexed-law}
+use Rattle.syntax.specs.Syntax.{Program as Derivation}
+use Rattle.syntax.specs.Bracketing.{Derives}
+use Rattle.syntax.specs.CompleteLaws.{one-derivation as derivation-law}
+use Rattle.meaning.specs.Nesting.{Shallow}
+use Rattle.source.specs.Source.{no-derivation, Derived, Reading, NoTokens, text-order, Outcome.written, Outcome.refused}
+use Rattle.source.specs.TextReader.{outcome, text-output}
+use Rattle.source.specs.SourceLaws.{one-reading as reading-law, text-refused-exactly as refused-law, text-written as written-law}
+use Rattle.source.specs.SourceLaws.{text-untouched as untouched-law, escapes-16 as escapes-law}
+use Rattle.source.specs.Stepping.{StepsRight}
+use Rattle.source.specs.Checking.{Answers, written-image, text-verdict, both-order}
+use Rattle.source.specs.CheckingLaws.{image-written, deep-exactly, seven-for-steps, text-checked as checked-law, text-order-exact as order-law}
+
+-- "The longest token is taken first": a text parts into tokens in one way at most,
+pub lexed-one : {x : List ℕ} {ts us : List Token} → Lexed x ts → Lexed x us → ts ≡ us
+lexed-one a b = lexed-law a b
+
+-- tokens have one derivation at most,
+pub one-derivation : (ts : List Token) (c d : Derivation) → Derives ts c → Derives ts d → c ≡ d
+one-derivation ts c d a b = derivation-law ts c d a b
+
+-- "and then has one reading"
+pub one-reading : {x : List ℕ} {p q : Program} → Reading x p → Reading x q → p ≡ q
+one-reading a b = reading-law a b
+
+module _ (x out : List ℕ) where
+  -- "Text free of 15 escapes 16 precisely when the grammar, written without the reader, derives it"
+  pub escapes-16 : (NoTokens x → ⊥) → ((outcome x out ≡ refused no-derivation → ⊥) ↔ ((c : Derivation) × Derived x c))
+  escapes-16 f = escapes-law x out f
+
+  -- 15, 16, 17 and 13, "checked in that order": a text is refused with the foremost number,
+  pub text-refused-exactly : (n : ℕ) → (outcome x out ≡ refused n) ↔ Foremost (text-order x out) n
+  text-refused-exactly n = refused-law x out n
+
+  -- and otherwise written as the program of its one reading
+  pub text-written : (p : Program) → (outcome x out ≡ written p) ↔ ((NoneOf (text-order x out)) × (Reading x p))
+  text-written p = written-law x out p
+
+  -- "whose image is written unless 17 holds": the blocks written are the image of its stream,
+  pub text-image : (p : Program) → outcome x out ≡ written p → written-image x out ≡ image (enc-program p)
+  text-image p e = image-written x out p e
+
+  -- and a refusal leaves the output
+  pub text-untouched : (n : ℕ) → outcome x out ≡ refused n → text-output x out ≡ out
+  text-untouched n e = untouched-law x out n e
+
+  -- "nesting apart": to what was written the checker says 5 exactly where it nests deeper than 01's levels,
+  pub text-nesting : (p : Program) → outcome x out ≡ written p → (checked (written-image x out) ≡ checked-refused wrong-byte) ↔ (Shallow p → ⊥)
+  text-nesting p e = deep-exactly x out p e
+
+  -- 7 for steps alone, since 17 has judged all other names: one twice in its struct, or a typed call of one that its struct has not,
+  pub text-steps : (p : Program) → outcome x out ≡ written p → checked (written-image x out) ≡ checked-refused wrong-names → StepsRight p → ⊥
+  text-steps p e q r = seven-for-steps x out p e q r
+
+  -- and 0, 5, 6, 7 or 8, no other number
+  pub text-checked : (p : Program) → outcome x out ≡ written p → (list : List ℕ) → max-commands ≤ length list
+      → Answers (check-verdict (written-image x out) list .number)
+  text-checked p e list h = checked-law x out p e list h
+
+  -- "before 1": reading and then checking gives the first number of both whose condition holds
+  pub text-order-exact : (list : List ℕ) (n : ℕ) → (text-verdict x out list ≡ refusal n) ↔ Foremost (both-order x out list) n
+  text-order-exact list n = order-law x out list n

@@ -1,0 +1,4 @@
+pub mod Writing
+pub mod Checks
+pub mod WritingExpLaws
+pub mod WritingLaws
