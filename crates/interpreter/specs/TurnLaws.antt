@@ -69,11 +69,11 @@ module _ {p : Program} {counts list items spans : List ℕ} {m : Machine} {z : S
   held-count = r .kept ∙ holding-same m (r .stands)
 
   -- so it says whether a move of the schedule is due
-  none-hold : z .machine .holding ≡ 0 → due m ≡ true
+  pub none-hold : z .machine .holding ≡ 0 → due m ≡ true
   unfolding due
   none-hold h = none-left (holders m) (sym held-count ∙ h)
 
-  some-hold : 0 < z .machine .holding → due m ≡ false
+  pub some-hold : 0 < z .machine .holding → due m ≡ false
   unfolding due
   some-hold b = some-left (holders m) (rw held-count at b)
 
@@ -101,10 +101,12 @@ module _ {p : Program} {counts list items spans : List ℕ} {m : Machine} {z : S
     less = move-less items spans z m (r .stands) (r .good .opened) not-done
 
     module _ (h : z .machine .holding ≡ 0) where
-      comes : (o : Moved) → move p m ≡ o → Follows list items (move-on items spans z) o → Moving p counts list items spans m (move-on items spans z)
+      comes : (o : Moved) → move p m ≡ o → Follows list items (move-on items spans z) o
+          → (m′ : Machine) × (move p m ≡ next m′) × Ready p counts list items spans m′ (move-on items spans z)
       comes (next m′) q S =
           let s = acts-move (none-hold h) q in (
             m′,
+            q,
             record {
               prepared = r .prepared;
               good = acts-good (r .prepared .firm) s (r .good);
@@ -112,15 +114,18 @@ module _ {p : Program} {counts list items spans : List ℕ} {m : Machine} {z : S
               stands = S;
               kept = move-kept items spans z (r .kept);
             },
-            λ es. (0, silent s here),
           )
       comes stuck q S = absurd S
 
-      -- a move
-      pub moved-on : Moving p counts list items spans m (move-on items spans z)
-      moved-on =
+      -- a move leads to the next machine
+      pub moves-to : (m′ : Machine) × (move p m ≡ next m′) × Ready p counts list items spans m′ (move-on items spans z)
+      moves-to =
           comes (move p m) refl
           (moves p list items spans (r .prepared .located) z m (λ l i g. r .tabled .each l i g .0) (r .stands) (r .good .opened) not-done)
+
+      -- which the run visits
+      pub moved-on : Moving p counts list items spans m (move-on items spans z)
+      moved-on = let (m′, q, r′) = moves-to in (m′, r′, λ es. (0, silent (acts-move (none-hold h) q) here))
 
   -- Turns ---------------------------------------------------------------------------
 

@@ -1,7 +1,7 @@
 -- The roles of a derivation stand in its text, where the loop over kinds leaves them.
 use Prim.Native.Nat.{ℕ, zero, suc}
 use native.Mathlib.Omega.{arith}
-use mathlib.Core.Path.{_≡_, refl}
+use mathlib.Core.Path.{_≡_, refl, sym, ap, _∙_}
 use mathlib.Core.Bool.{Bool, true, false, _&&_, false≢true}
 use mathlib.Core.List.{List, [], _∷_, map}
 use mathlib.Core.Option.{Option, none, some}
@@ -14,7 +14,10 @@ use Rattle.tokens.specs.NamedLaws.{Found, Found.a-word, Found.a-name, found, pl
 use Rattle.lexer.specs.Kinds.{kind}
 use Rattle.lexer.specs.KindLaws.{kind-within}
 use Rattle.lexer.specs.Marking.{spot-of, at-spot, marks-of, marks-from, marks}
-use Rattle.derive.specs.Roles.{Role, code, token-of}
+use Rattle.derive.specs.Roles.{Role, code, token-of, roles}
+use Rattle.derive.specs.RoleLaws.{roles-yield}
+use Rattle.syntax.specs.Syntax.{Program}
+use Rattle.syntax.specs.Bracketing.{Derives}
 use Rattle.derive.specs.RoleMarks.{placed}
 use Rattle.resolve.specs.Named.{name-of}
 use Rattle.resolve.specs.Digits.{digits-of}
@@ -148,3 +151,8 @@ all-placed zero (b ∷ s) = go (front (b ∷ s)) (fronted b s) (λ n. all-placed
 pub roles-stand : (x : List ℕ) (rs : List Role) → lex 0 x ≡ some (map token-of rs) → Stood x (placed (marks x) (map code rs)) rs
 unfolding Placed
 roles-stand x rs e = let h : Placed x (marks x) (some (map token-of rs)) = rw e at (all-placed 0 x) in h rs refl
+
+-- the roles of a derivation stand in its text
+pub derivation-stands : (x : List ℕ) (ts : List Token) (c : Program) → lex 0 x ≡ some ts → Derives ts c
+    → Stood x (placed (marks x) (map code (roles c))) (roles c)
+derivation-stands x ts c e d = roles-stand x (roles c) (e ∙ ap (λ l. some l) (sym (roles-yield c ∙ d .yields)))

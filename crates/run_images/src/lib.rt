@@ -47,9 +47,9 @@ struct Params {
 }
 
 // Of a machine in lent memory: where the steps of its program begin, and its numbers.
-struct Seat {
-    at: usize,
-    numbers: Numbers,
+pub struct Seat {
+    pub at: usize,
+    pub numbers: Numbers,
 }
 
 // An input refusal: no turns, no blocks, no depth, no holders.
@@ -66,7 +66,7 @@ fn refused(number: u8) -> Report
 }
 
 // The number of a table that is refused; 0 where it is not.
-fn table_refusal(r: TableRead) -> u8
+pub fn table_refusal(r: TableRead) -> u8
     ensures { λ n. ⌜ n ≡ table-refusal r ⌝ }
 {
     let TableRead::Refused(n) = r else {

@@ -53,6 +53,10 @@ unfoldable pub trace : Program → Machine → List ℕ → List Line
 trace p m [] = moves p (fuel m) m
 trace p m (e ∷ es) = moves p (fuel m) m ++ turn-lines (λ m′. trace p m′ es) p e (settle p (fuel m) m)
 
+-- nothing behind an act
+abbrev pub alone : Machine → List Line
+alone m = []
+
 -- Read off lines ---------------------------------------------------------------
 
 -- the machine behind the last

@@ -13,7 +13,7 @@ use Rattle.machine.specs.MeasureLaws.{move-falls}
 use Rattle.run.specs.Turns.{chosen}
 use Rattle.run.specs.Holders.{holders, due}
 use Rattle.run.specs.Laws.TurnLaws.{due-none, due-some}
-use Rattle.run.specs.Laws.Settles.{Settles.holds, Settles.moves as settles-move}
+use Rattle.run.specs.Laws.Settles.{Settles.holds, Settles.ends as settles-end, Settles.moves as settles-move}
 use Rattle.run.specs.Laws.FuelLaws.{Enough, fuel-suffices, fuel-settles, settled}
 use Rattle.run.specs.Run.{Settled, Settled.hold, Settled.stop, is-done, settle, fuel}
 use Rattle.trace.specs.Trace.{Line, Line.moved, Line.acted, move-line, moves-by, moves, turn-line, turn-lines, trace}
@@ -85,3 +85,15 @@ module _ (p : Program) where
       pub trace-lasts : trace p m [] ≡ []
       unfolding trace
       trace-lasts = moves-none (fuel m)
+
+    module _ (d : due m ≡ true) (q : m .sched ≡ done) where
+      moves-ended : (f : ℕ) → moves p f m ≡ []
+      unfolding moves moves-by is-done
+      moves-ended zero = refl
+      moves-ended (suc f) = rw (due-none m .0 d, q)
+
+      -- the schedule is at its end
+      pub trace-ends : (es : List ℕ) → trace p m es ≡ []
+      unfolding trace turn-lines
+      trace-ends [] = moves-ended (fuel m)
+      trace-ends (e ∷ es) = rw (moves-ended (fuel m), settled p (settles-end d q))

@@ -40,7 +40,7 @@ use Rattle.interpreter.specs.TurnLaws.{held-count, picked-fits, turned-by}
 use Rattle.scheduler.specs.Ready.{spans-size, Movable}
 use Rattle.text.specs.Listing.{Placed, text}
 use Rattle.text.specs.ListingLaws.{placed-on}
-use Rattle.trace.specs.Trace.{move-line, turn-line}
+use Rattle.trace.specs.Trace.{alone, move-line, turn-line}
 use Rattle.trace.specs.LineText.{front-text, acted-text, line-text, lines-text, step-name}
 use Rattle.trace_lines.specs.declared.writes.Write.{Write}
 use Rattle.trace_lines.specs.Parts.{target, position-of, step-at, back-text, move-text, BackFits, Fitting}
@@ -48,7 +48,7 @@ use Rattle.trace_lines.specs.LineLaws.{row-of, stands-text, stack-fits, 
 use Rattle.trace_lines.specs.WriteLaws.{write-told}
 use Rattle.trace_lines.specs.FixLaws.{act-fixes}
 use Rattle.trace_lines.specs.PartsLaws.{step-started, step-kept}
-use Rattle.trace_lines.specs.Told.{alone, Turnable}
+use Rattle.trace_lines.specs.Told.{Turnable}
 
 -- text that was placed in front is what the buffer begins with
 pub placed-front : {t out out1 : List ℕ} {r : ℕ} → Placed t out 0 r out1 → r ≤ length out → take r out1 ≡ t

@@ -2,7 +2,7 @@
 -- `trace` defines, one where the act is made and none where it is refused.
 use Prim.Native.Nat.{ℕ, _<_, _≤_}
 use mathlib.Core.Path.{_≡_}
-use mathlib.Core.List.{List, []}
+use mathlib.Core.List.{List}
 use lib.ListN.{take}
 use Rattle.types.specs.Limits.{step-names, fix-levels}
 use Rattle.program.specs.Tree.{Program}
@@ -12,7 +12,7 @@ use Rattle.run.specs.Holders.{holders}
 use Rattle.layout.specs.State.{State}
 use Rattle.interpreter.specs.Ready.{Ready}
 use Rattle.interpreter.specs.Running.{Begun}
-use Rattle.trace.specs.Trace.{Line, move-line, turn-line}
+use Rattle.trace.specs.Trace.{alone, move-line, turn-line}
 use Rattle.trace.specs.LineText.{step-name, lines-text}
 use Rattle.trace_lines.specs.declared.Coming.{Coming}
 
@@ -23,10 +23,6 @@ pub record Turnable (counts list spans : List ℕ) (n : ℕ) (z : State) : Type 
   pub held : 0 < z .machine .holding
   pub named : n < step-names
   pub few : z .machine .fixes ≤ fix-levels
-
--- nothing behind an act
-abbrev pub alone : Machine → List Line
-alone m = []
 
 -- the first r bytes are what the trace has of the turn
 abbrev pub TurnTold : List ℕ → List ℕ → List ℕ → Coming → State → ℕ → List ℕ → Type 0

@@ -148,6 +148,7 @@ pub fn turn(
     requires { ⌜ line-most ≤ length (now out) ⌝ }
     ensures { λ r. ⌜ state-of (r .machine .numbers) (now (heads .exit)) (now (cells .exit)) ≡ act (now (list .entry)) (now (counts .entry)) (picked (now (heads .entry)) (turn .machine .numbers .count) (turn .byte)) (state-of (turn .machine .numbers) (now (heads .entry)) (now (cells .entry))) ⌝ }
     ensures { λ r. ⌜ TurnTold (now (counts .entry)) (now (list .entry)) (now (spans .entry)) turn (state-of (turn .machine .numbers) (now (heads .entry)) (now (cells .entry))) (r .length) (now (out .exit)) ⌝ }
+    ensures { λ r. ⌜ r .length ≤ line-most ⌝ }
 {
     let machine = turn.machine;
     let numbers = machine.numbers;
@@ -218,7 +219,7 @@ pub fn advance(
     requires { ⌜ step < step-names ⌝ }
     ensures { λ r. ⌜ ((cells : List ℕ) → state-of (r .machine .numbers) (now (heads .exit)) cells ≡ move (now (items .entry)) (now (spans .entry)) (state-of (machine .numbers) (now (heads .entry)) cells)) ⌝ }
     ensures { λ r. ⌜ ((cells : List ℕ) → MoveTold (now (items .entry)) (now (spans .entry)) step (state-of (machine .numbers) (now (heads .entry)) cells) (r .step) (r .length) (now (out .exit))) ⌝ }
-    ensures { λ r. ⌜ r .step < step-names ⌝ }
+    ensures { λ r. ⌜ (r .step < step-names) × (r .length ≤ line-most) ⌝ }
 {
     let numbers = machine.numbers;
     let place = numbers.place;

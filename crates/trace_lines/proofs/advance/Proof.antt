@@ -35,7 +35,7 @@ returns c =
               ∙ move-made r (movable-on (at-pre .pre .0)) (at-advance .advance .ensures cells) (at-pre .args .step),
           at-step-at .step-at .ensures ∙ move-step r (movable-on (at-pre .pre .0)) (at-advance .advance .ensures cells) (at-pre .args .step),
         ),
-        rw (at-step-at .step-at .ensures) (step-below _ _ (at-pre .pre .1 .1)),
+        (rw (at-step-at .step-at .ensures) (step-below _ _ (at-pre .pre .1 .1)), at-moved .moved .ensures .1),
       ),
     )
 

@@ -123,8 +123,11 @@ returns c =
     let at-picked-of = at-target .before .before .before in
     let at-pre = start at-picked-of in (
       rw (← (at-picked-of .picked-of .ensures)) (at-command .command .ensures),
-      λ p items m r. picked-refused r (at-pre .pre .0 .held) (at-pre .args .turn .byte) (at-picked-of .picked-of .ensures)
-          (at-command .command .ensures) (at-pre .args .turn .step) (at-pre .args .turn .taken) (c .if1 .taken),
+      (
+        λ p items m r. picked-refused r (at-pre .pre .0 .held) (at-pre .args .turn .byte) (at-picked-of .picked-of .ensures)
+            (at-command .command .ensures) (at-pre .args .turn .step) (at-pre .args .turn .taken) (c .if1 .taken),
+        omega arith,
+      ),
     )
 
 back-requires : tie.Need-back-requires
@@ -158,11 +161,14 @@ returns-2 c =
     let at-picked-of = at-target .before .before .before in
     let at-pre = start at-picked-of in (
       rw (← (at-picked-of .picked-of .ensures)) (at-command .command .ensures),
-      λ p items m r.
-          picked-told r (at-pre .pre .0 .held) (at-pre .args .turn .byte) (at-picked-of .picked-of .ensures) (at-command .command .ensures)
-          (at-pre .args .turn .step) (at-pre .args .turn .taken) (at-pre .pre .0 .named) (at-if1 .if1 .left)
-          (at-target .target .ensures) (at-position .position .ensures) (at-front .front .ensures .0) (at-back .back .ensures .0)
-          (omega (arith, at-front .front .ensures .1, at-back .back .ensures .1, at-pre .pre .1)),
+      (
+        λ p items m r.
+            picked-told r (at-pre .pre .0 .held) (at-pre .args .turn .byte) (at-picked-of .picked-of .ensures) (at-command .command .ensures)
+            (at-pre .args .turn .step) (at-pre .args .turn .taken) (at-pre .pre .0 .named) (at-if1 .if1 .left)
+            (at-target .target .ensures) (at-position .position .ensures) (at-front .front .ensures .0) (at-back .back .ensures .0)
+            (omega (arith, at-front .front .ensures .1, at-back .back .ensures .1, at-pre .pre .1)),
+        omega (arith, at-front .front .ensures .1, at-back .back .ensures .1),
+      ),
     )
 
 pub turn-spec : {M : Type 1} → statement M

@@ -1,0 +1,6 @@
+pub mod Pages
+pub mod PageLaws
+pub mod Telling
+pub mod TellingLaws
+pub mod SettlingWays
+pub mod PlayWays
