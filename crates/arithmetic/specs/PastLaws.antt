@@ -6,7 +6,8 @@ use Rattle.operators.specs.WordLaws.{past-numbers}
 
 -- Above 37 and none of the next five, a byte is above 42.
 pub past-computing : {o : ℕ} → 37 < o → (o ≡ 38 → ⊥) → (o ≡ 39 → ⊥) → (o ≡ 40 → ⊥) → (o ≡ 41 → ⊥) → (o ≡ 42 → ⊥) → 42 < o
-past-computing {o} h = past-numbers (omega arith) (not 33 (omega arith)) (not 34 (omega arith)) (not 35 (omega arith)) (not 36 (omega arith)) (not 37 (omega arith))
+past-computing {o} h = past-numbers (omega arith) (not 33 (omega arith)) (not 34 (omega arith)) (not 35 (omega arith)) (not 36 (omega arith))
+    (not 37 (omega arith))
   where
     not : (k : ℕ) → k < o → o ≡ k → ⊥
     not k l e = omega arith

@@ -61,7 +61,8 @@ fn of_written(r: Written) -> Copied
 #[no_mangle]
 pub extern "C" fn audala_read_image(image: &[u8], most: usize, buffer: &mut [u8]) -> Copied
     ensures { λ r. ⌜ r ≡ exported-read (read most (now (image .entry)) (length (now (buffer .entry)))) ⌝ }
-    ensures { λ _. ⌜ now (buffer .exit) ≡ read-into (read most (now (image .entry)) (length (now (buffer .entry)))) (stream (now (image .entry))) (now (buffer .entry)) ⌝ }
+    ensures { λ _. ⌜ now (buffer .exit)
+        ≡ read-into (read most (now (image .entry)) (length (now (buffer .entry)))) (stream (now (image .entry))) (now (buffer .entry)) ⌝ }
 {
     let r = blocks::read_image(image, most, buffer);
     of_read(r)
@@ -71,7 +72,8 @@ pub extern "C" fn audala_read_image(image: &[u8], most: usize, buffer: &mut [u8]
 #[no_mangle]
 pub extern "C" fn audala_write_image(bytes: &[u8], most: usize, output: &mut [u8]) -> Copied
     ensures { λ r. ⌜ r ≡ exported-write (write most (length (now (bytes .entry))) (length (now (output .entry)))) ⌝ }
-    ensures { λ _. ⌜ now (output .exit) ≡ written-into (write most (length (now (bytes .entry))) (length (now (output .entry)))) (now (bytes .entry)) (now (output .entry)) ⌝ }
+    ensures { λ _. ⌜ now (output .exit)
+        ≡ written-into (write most (length (now (bytes .entry))) (length (now (output .entry)))) (now (bytes .entry)) (now (output .entry)) ⌝ }
 {
     let r = blocks::write_image(bytes, most, output);
     of_written(r)

@@ -74,8 +74,10 @@ pub extern "C" fn audala_run(
     output: &mut [u8],
     list: &mut [u64],
 ) -> Report
-    ensures { λ r. ⌜ r ≡ exported-report (run-report (now (program .entry)) (now (table .entry)) (now (turns .entry)) (now (output .entry)) (now (list .entry))) ⌝ }
-    ensures { λ _. ⌜ now (output .exit) ≡ run-output (now (program .entry)) (now (table .entry)) (now (turns .entry)) (now (output .entry)) (now (list .entry)) ⌝ }
+    ensures { λ r. ⌜ r ≡ exported-report
+        (run-report (now (program .entry)) (now (table .entry)) (now (turns .entry)) (now (output .entry)) (now (list .entry))) ⌝ }
+    ensures { λ _. ⌜ now (output .exit)
+        ≡ run-output (now (program .entry)) (now (table .entry)) (now (turns .entry)) (now (output .entry)) (now (list .entry)) ⌝ }
     ensures { λ _. ⌜ now (list .exit) ≡ run-list (now (program .entry)) (now (table .entry)) (now (turns .entry)) (now (output .entry)) (now (list .entry)) ⌝ }
 {
     let r = run_images::run(program, table, turns, output, list);

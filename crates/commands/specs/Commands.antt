@@ -5,7 +5,9 @@ use mathlib.Core.List.{List, [], _∷_, _++_}
 use lib.ListN.{length}
 use Rattle.types.specs.Types.{Ty, Ty.int, Ty.nat, Ty.bool}
 use Rattle.types.specs.Values.{Val, default, value-of}
-use Rattle.program.specs.Tree.{Var, Var.loc, Op, Expr, Expr.inv, Expr.make, Expr.path, Expr.int-lit, Expr.nat-lit, Expr.bool-lit, Expr.null, Expr.self, Expr.op, Exprs, Exprs.none, Exprs.more, Stmt, Stmt.when, Stmt.declare, Stmt.update, Stmt.create, Stmts, Stmts.end, Stmts.next}
+use Rattle.program.specs.Tree.{Var, Var.loc, Op, Expr, Expr.inv, Expr.make, Expr.path, Expr.int-lit, Expr.nat-lit, Expr.bool-lit, Expr.null}
+use Rattle.program.specs.Tree.{Expr.self, Expr.op, Exprs, Exprs.none, Exprs.more, Stmt, Stmt.when, Stmt.declare, Stmt.update, Stmt.create, Stmts}
+use Rattle.program.specs.Tree.{Stmts.end, Stmts.next}
 use Rattle.program.specs.Encoding.{var-code}
 
 -- 000, definition 1: a command other than if; `push T V` with its type, as 01 lists it

@@ -7,7 +7,8 @@ use Rattle.types.specs.Limits.{max-structs, nat-end, variables, step-commands}
 use Rattle.types.specs.Types.{IsType, type-of}
 use Rattle.types.specs.TypeBytes.{ValueOf}
 use Rattle.types.specs.Values.{value-of}
-use Rattle.program.specs.Reader.{Row.row, lookup, Form, Form.form-inv, Form.form-make, Form.form-path, Form.form-int, Form.form-nat, Form.form-bool, Form.form-null, Form.form-self, Form.form-op, Form.form-none, form}
+use Rattle.program.specs.Reader.{Row.row, lookup, Form, Form.form-inv, Form.form-make, Form.form-path, Form.form-int, Form.form-nat, Form.form-bool}
+use Rattle.program.specs.Reader.{Form.form-null, Form.form-self, Form.form-op, Form.form-none, form}
 use Rattle.commands.specs.Commands.{Com.push, Com.push-this, Com.rd, Com.wr, Com.cons, Com.not, Com.oper, Flat, Flat.plain, Flat.if-n}
 
 -- an operator, where its byte is one

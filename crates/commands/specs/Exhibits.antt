@@ -12,19 +12,26 @@ use lib.ListN.{length}
 use Rattle.types.specs.Limits.{step-commands, max-depth}
 use Rattle.types.specs.Types.{Ty, Ty.int, Ty.bool, Ty.ref}
 use Rattle.types.specs.Values.{value-of}
-use Rattle.program.specs.Tree.{Var.par, Var.loc, Op.op-add, Expr.inv, Expr.path, Expr.int-lit, Expr.bool-lit, Expr.self, Expr.op, Exprs.none, Exprs.more, Stmt.when, Stmt.declare, Stmt.update, Stmt.create, Stmts, Stmts.end, Stmts.next, Item.call, Items.stop, Items.item, Program, args, size, items}
+use Rattle.program.specs.Tree.{Var.par, Var.loc, Op.op-add, Expr.inv, Expr.path, Expr.int-lit, Expr.bool-lit, Expr.self, Expr.op, Exprs.none}
+use Rattle.program.specs.Tree.{Exprs.more, Stmt.when, Stmt.declare, Stmt.update, Stmt.create, Stmts, Stmts.end, Stmts.next, Item.call, Items.stop}
+use Rattle.program.specs.Tree.{Items.item, Program, args, size, items}
 use Rattle.program.specs.Counts.{Counts, CountsExpr, CountsStmts, CountsItems, CountsStep, CountsSchedule, IsPath, IsVar, expr-height, nests, fixes-in}
-use Rattle.commands.specs.Commands.{commands, flatten, body-coms, expr-coms, update-coms, reads, front, last, then}
+use Rattle.commands.specs.Commands.{commands}
 use Rattle.commands.specs.Context.{Ctx, context, body-local, find-step, step-of}
 use Rattle.commands.specs.Names.{Names, declared, Named, names-of-steps, Scheduled, NamesRight}
-use Rattle.commands.specs.Typing.{Takes.arith-int, Leads.arrived, Leads.onward, Reaches, Reaches.from-own, Reaches.from-local, Types, Types.t-not, Types.t-path, Types.t-int, Types.t-bool, Types.t-this, Types.t-op, Types-all.t-none, Types-all.t-more, Typed-stmt.t-when, Typed-stmt.t-declare, Typed-stmt.t-update, Typed-stmt.t-create, Typed, Typed.t-end, Typed.t-next, TypesRight}
+use Rattle.commands.specs.Typing.{Takes.arith-int, Leads.arrived, Leads.onward, Reaches, Reaches.from-own, Reaches.from-local, Types}
+use Rattle.commands.specs.Typing.{Types.t-not, Types.t-path, Types.t-int, Types.t-bool, Types.t-this, Types.t-op, Types-all.t-none}
+use Rattle.commands.specs.Typing.{Types-all.t-more, Typed-stmt.t-when, Typed-stmt.t-declare, Typed-stmt.t-update, Typed-stmt.t-create, Typed}
+use Rattle.commands.specs.Typing.{Typed.t-end, Typed.t-next, TypesRight}
 use Rattle.types.specs.TypeBytes.{struct-of}
-use Rattle.commands.specs.Noted.{Note, Note.n-push, Note.n-this, Note.n-not, Note.n-wr, Note.n-get, walk, store, read-path, write-path, note-expr, note-body, noted, now-written}
+use Rattle.commands.specs.Noted.{Note, Note.n-push, Note.n-this, Note.n-not, Note.n-wr, Note.n-get, walk, store, read-path, write-path}
+use Rattle.commands.specs.Noted.{note-expr, note-body, noted, now-written}
 use Rattle.commands.specs.Depth.{depth}
 use Rattle.commands.specs.Bounds.{Within, program-size, total, items-count}
 use Rattle.commands.specs.Tags.{Tags, tags, at-start, Asks, Way, Way.start, Way.on, Way.over}
 use Rattle.commands.specs.Laws.SafeLaws.{ready, way-safe}
 use Rattle.commands.specs.Steps.{step-safe}
+use Rattle.commands.specs.Unfold.{compiling}
 
 -- a program has a step that leads to a command which lacks what it asks for
 pub record Lacking (p : Program) : Type 0 where
@@ -92,7 +99,7 @@ abbrev pub negated : Stmts
 negated = next (update (par 1) [] (inv (int-lit 1))) end
 
 negated-formed : Formed negated
-unfolding CountsStep CountsStmts CountsExpr IsPath IsVar expr-height nests size commands flatten body-coms expr-coms update-coms reads front last then depth
+unfolding CountsStep CountsStmts CountsExpr IsPath IsVar expr-height nests size compiling
 negated-formed =
     formed negated
     (omega arith, omega arith, (((omega arith, omega arith, tt), omega arith, omega arith), tt), omega arith)
@@ -134,7 +141,7 @@ abbrev pub outlived : Stmts
 outlived = next (when (bool-lit 0) (next (declare int 0 (int-lit 1)) end)) (next (update (par 0) [] (path (loc 0) [])) end)
 
 outlived-formed : Formed outlived
-unfolding CountsStep CountsStmts CountsExpr IsPath IsVar expr-height nests size commands flatten body-coms expr-coms update-coms reads front last then depth
+unfolding CountsStep CountsStmts CountsExpr IsPath IsVar expr-height nests size compiling
 outlived-formed =
     formed outlived (
       omega arith,
@@ -189,7 +196,7 @@ abbrev pub G₁ : Ctx
 G₁ = context (program joined) 0 joined
 
 joined-formed : Formed joined
-unfolding CountsStep CountsStmts CountsExpr IsPath IsVar expr-height nests size args commands flatten body-coms expr-coms update-coms reads front last then depth
+unfolding CountsStep CountsStmts CountsExpr IsPath IsVar expr-height nests size args compiling
 joined-formed =
     let v : IsPath (par 0) [] = (omega arith, omega arith, tt) in
     formed joined (

@@ -8,7 +8,8 @@ use lib.ListN.{length, getD, drop, length-drop, List·getD-map}
 use Rattle.program.specs.Tree.{Stmts, Step, Program}
 use Rattle.commands.specs.Commands.{Flat, Flat.plain, Flat.if-n, commands}
 use Rattle.commands.specs.Context.{Ctx, context, step-of}
-use Rattle.commands.specs.Noted.{Note, Note.n-push, Note.n-this, Note.n-not, Note.n-rd, Note.n-wr, Note.n-get, Note.n-set, Note.n-cons, Note.n-op, Note.n-if, erase, noted}
+use Rattle.commands.specs.Noted.{Note, Note.n-push, Note.n-this, Note.n-not, Note.n-rd, Note.n-wr, Note.n-get, Note.n-set, Note.n-cons}
+use Rattle.commands.specs.Noted.{Note.n-op, Note.n-if, erase, noted}
 use Rattle.commands.specs.Depth.{after, depth}
 use Rattle.commands.specs.Bounds.{greatest, arities, step-depth, program-depth}
 use Rattle.commands.specs.Tags.{Tags, at-start, next, jump, Way, Way.start, Way.on, Way.over}

@@ -19,5 +19,6 @@ pub mod Living
 pub mod Secure
 pub mod Steps
 pub mod Heights
+pub mod Unfold
 pub mod Exhibits
 pub mod Laws

@@ -8,7 +8,8 @@ use lib.ListN.{length, getD, drop}
 use Rattle.types.specs.Types.{Ty, Ty.int, Ty.bool, Ty.ref}
 use Rattle.commands.specs.Context.{Ctx, typ}
 use Rattle.commands.specs.Typing.{Sort, Sort.equality, Sort.order, Sort.arithmetic, Sort.logic, Takes, sort}
-use Rattle.commands.specs.Noted.{Note, Note.n-push, Note.n-this, Note.n-not, Note.n-rd, Note.n-wr, Note.n-get, Note.n-set, Note.n-cons, Note.n-op, Note.n-if, now-written}
+use Rattle.commands.specs.Noted.{Note, Note.n-push, Note.n-this, Note.n-not, Note.n-rd, Note.n-wr, Note.n-get, Note.n-set, Note.n-cons}
+use Rattle.commands.specs.Noted.{Note.n-op, Note.n-if, now-written}
 
 -- arithmetic gives its operands' type, the other operators Bool
 abbrev pub result-type : Sort → Ty → Ty

@@ -3,7 +3,10 @@ use Prim.Native.Nat.{ℕ, suc, _<_}
 use mathlib.Core.List.{List, [], _∷_}
 use lib.ListN.{length}
 use Rattle.types.specs.Types.{Ty, Ty.int, Ty.nat, Ty.bool, Ty.ref}
-use Rattle.program.specs.Tree.{Var, Var.par, Var.loc, Op, Op.op-eq, Op.op-ne, Op.op-le, Op.op-ge, Op.op-lt, Op.op-gt, Op.op-mul, Op.op-div, Op.op-rem, Op.op-add, Op.op-sub, Op.op-and, Op.op-or, Expr, Expr.inv, Expr.make, Expr.path, Expr.int-lit, Expr.nat-lit, Expr.bool-lit, Expr.null, Expr.self, Expr.op, Exprs, Exprs.none, Exprs.more, Stmt, Stmt.when, Stmt.declare, Stmt.update, Stmt.create, Stmts, Stmts.end, Stmts.next, Step, Program}
+use Rattle.program.specs.Tree.{Var, Var.par, Var.loc, Op, Op.op-eq, Op.op-ne, Op.op-le, Op.op-ge, Op.op-lt, Op.op-gt, Op.op-mul, Op.op-div, Op.op-rem}
+use Rattle.program.specs.Tree.{Op.op-add, Op.op-sub, Op.op-and, Op.op-or, Expr, Expr.inv, Expr.make, Expr.path, Expr.int-lit, Expr.nat-lit}
+use Rattle.program.specs.Tree.{Expr.bool-lit, Expr.null, Expr.self, Expr.op, Exprs, Exprs.none, Exprs.more, Stmt, Stmt.when, Stmt.declare}
+use Rattle.program.specs.Tree.{Stmt.update, Stmt.create, Stmts, Stmts.end, Stmts.next, Step, Program}
 use Rattle.program.specs.Counts.{All}
 use Rattle.commands.specs.Context.{Ctx, typ, context}
 

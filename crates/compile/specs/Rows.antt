@@ -4,19 +4,19 @@ use Prim.Native.Nat.{ℕ}
 use mathlib.Core.Path.{_≡_, refl}
 use mathlib.Core.List.{List, [], _∷_, _++_}
 use lib.ListN.{take, drop, replicate}
-use Rattle.program.specs.Reader.{then, pair, made, many, guard, lookup, item-sort, between, byte, tested, ranged, counted, opened, read-items, rule-item, read-item}
 use Rattle.directory.specs.Directory.{row}
 use Rattle.emit.specs.Written.{code-of}
 use Rattle.machine.specs.Published.{of-item, of-items}
 use Rattle.memory.specs.Plan.{laid, laid-out}
 use Rattle.compile.specs.Codes.{schedule-codes, any-structs, schedule-at}
 use Rattle.compile.specs.Spans.{paired, cleared, noted, spans-of}
+use Rattle.program.specs.Unfold.{schedules}
 
 abbrev schedule : List ℕ
 schedule = 3 ∷ 1 ∷ 5 ∷ 3 ∷ 2 ∷ 2 ∷ 1 ∷ 0 ∷ 3 ∷ 1 ∷ 1 ∷ 4 ∷ 1 ∷ 7 ∷ []
 
 row-codes : code-of schedule-codes (schedule-at schedule 0) ≡ 5 ∷ 1024 ∷ 64 ∷ 1024 ∷ 4 ∷ 2052 ∷ 2050 ∷ 7 ∷ 1025 ∷ []
-unfolding code-of schedule-codes any-structs then pair made many guard lookup item-sort between byte tested ranged counted opened read-items rule-item read-item of-item of-items laid laid-out
+unfolding code-of schedule-codes any-structs schedules of-item of-items laid laid-out
 row-codes = refl
 
 abbrev spans : List ℕ

@@ -7,7 +7,8 @@ use mathlib.Core.List.{List, [], _∷_, _++_, append-nil}
 use lib.ListN.{length, getD, set, length-set, length-append}
 use Rattle.types.specs.Limits.{step-names, max-items}
 use Rattle.program.specs.Tree.{Item, Item.call, Item.call-in, Item.fix, Items, Items.stop, Items.item}
-use Rattle.program.specs.Reader.{Result, Result.ok, Result.bad, wrong-byte, then, pair, made, lookup, ranged, ItemSort, ItemSort.sort-call, ItemSort.sort-call-in, ItemSort.sort-fix, ItemSort.sort-none, item-sort, rule-item, read-item, read-items}
+use Rattle.program.specs.Reader.{Result, Result.ok, Result.bad, wrong-byte, then, pair, made, lookup, ranged, ItemSort, ItemSort.sort-call}
+use Rattle.program.specs.Reader.{ItemSort.sort-call-in, ItemSort.sort-fix, ItemSort.sort-none, item-sort, rule-item, read-item, read-items}
 use Rattle.program.specs.Laws.PartLaws.{made-ok}
 use Rattle.program.specs.Laws.ItemLaws.{OpensItem, opens-item}
 use Rattle.emit.specs.declared.Put.{Put}
@@ -110,8 +111,11 @@ module _ (s : List ℕ) where
             let j : i ≡ at + 2 = let z : ok a i ≡ ok (getD s (at + 1) 0) (at + 1 + 1) = sym x ∙ u .2 in let t : i ≡ at + 1 + 1 = cc in omega arith in
             let v' = rw j at (v .2) in
             let n : at + 2 + 1 ≡ at + 3 = omega arith in
-            let o : at + 1 + 1 ≡ at + 2 = omega arith in
-            (rw j at (v .0), λ k. one-of (item-codes k) (p ∙ made-ok in-struct (pair-ok (λ c. ranged s 0 step-names) (u .2 ∙ rw o) (v' ∙ rw n))) (call-in-codes k _ _))
+            let o : at + 1 + 1 ≡ at + 2 = omega arith in (
+              rw j at (v .0),
+              λ k. one-of (item-codes k) (p ∙ made-ok in-struct (pair-ok (λ c. ranged s 0 step-names) (u .2 ∙ rw o) (v' ∙ rw n)))
+                  (call-in-codes k _ _),
+            )
 
     -- a Fix, where it is nothing else
     pub fix-facts : (getD s at 0 ≡ 1 → ⊥) → (getD s at 0 ≡ 2 → ⊥) → FixFacts d at

@@ -1,7 +1,7 @@
 // The schedule of an accepted program laid flat, so that what is left of it is a place (01, 'Table and turns').
-use crate::index;
 use crate::store;
 use emit::Put;
+use little_endian::index;
 ghost use mathlib.Core.Path.{_≡_};
 ghost use Prim.Native.Nat.{_+_, _<_};
 ghost use lib.ListN.{length, set};

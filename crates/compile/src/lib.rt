@@ -9,12 +9,6 @@ ghost use Prim.Native.Nat.{_<_};
 ghost use lib.ListN.{length, set};
 ghost use Rattle.compile.specs.Prepared.{Preparable, PreparedProgram};
 
-pub(crate) fn index(b: u8) -> usize
-    ensures { λ r. ⌜ (r ≡ b) × (r < 256) ⌝ }
-{
-    b as usize
-}
-
 pub(crate) fn store(out: &mut [usize], k: usize, v: usize)
     requires { ⌜ k < length (now out) ⌝ }
     ensures { λ _. ⌜ now (out .exit) ≡ set (now (out .entry)) k v ⌝ }

@@ -68,7 +68,8 @@ fn note(rows: &[u16], n: usize, spans: &mut [u16])
 
 // The steps of n rows, and of the other names of the first structs that there is no step.
 pub fn of_rows(rows: &[u16], n: usize, structs: usize, spans: &mut [u16])
-    requires { ⌜ (row-places * n ≤ length (now rows)) × (All RowHeld (rows-from (now rows) 0 n)) × (length (now spans) ≡ span-places) × (structs ≤ max-structs) ⌝ }
+    requires { ⌜ (row-places * n ≤ length (now rows)) × (All RowHeld (rows-from (now rows) 0 n)) × (length (now spans) ≡ span-places)
+        × (structs ≤ max-structs) ⌝ }
     ensures { λ _. ⌜ now (spans .exit) ≡ spans-of (rows-from (now (rows .entry)) 0 n) structs (now (spans .entry)) ⌝ }
 {
     clear(spans, structs);

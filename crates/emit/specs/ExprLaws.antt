@@ -6,7 +6,9 @@ use mathlib.Core.Path.{_≡_, refl, sym, _∙_}
 use mathlib.Core.List.{List, [], _∷_, append-nil}
 use lib.ListN.{length, getD}
 use Rattle.program.specs.Tree.{Expr, Expr.inv, Expr.make, Expr.path, Expr.op, Exprs, Exprs.none, Exprs.more}
-use Rattle.program.specs.Reader.{Result, Result.ok, Result.bad, wrong-byte, byte, ranged, lookup, Form, Form.form-inv, Form.form-make, Form.form-path, Form.form-int, Form.form-nat, Form.form-bool, Form.form-null, Form.form-self, Form.form-op, Form.form-none, form, read-path, read-make, rule-expr, read-expr}
+use Rattle.program.specs.Reader.{Result, Result.ok, Result.bad, wrong-byte, byte, ranged, lookup, Form, Form.form-inv, Form.form-make, Form.form-path}
+use Rattle.program.specs.Reader.{Form.form-int, Form.form-nat, Form.form-bool, Form.form-null, Form.form-self, Form.form-op, Form.form-none, form}
+use Rattle.program.specs.Reader.{read-path, read-make, rule-expr, read-expr}
 use Rattle.program.specs.Laws.ExprLaws.{Opens, opens}
 use Rattle.commands.specs.Coding.{coded}
 use Rattle.emit.specs.declared.Put.{Put}

@@ -11,9 +11,12 @@ use Rattle.types.specs.Limits.{nat-end, int-half}
 use Rattle.types.specs.Types.{Ty, code}
 use Rattle.types.specs.TypeLaws.{type-of-code}
 use Rattle.types.specs.Values.{int-word, word-int, word, value-of}
-use Rattle.program.specs.Tree.{Op, Op.op-eq, Op.op-ne, Op.op-le, Op.op-ge, Op.op-lt, Op.op-gt, Op.op-mul, Op.op-div, Op.op-rem, Op.op-add, Op.op-sub, Op.op-and, Op.op-or, Expr, Expr.int-lit, Expr.nat-lit, Expr.bool-lit, Expr.null, Expr.self}
+use Rattle.program.specs.Tree.{Op, Op.op-eq, Op.op-ne, Op.op-le, Op.op-ge, Op.op-lt, Op.op-gt, Op.op-mul, Op.op-div, Op.op-rem, Op.op-add, Op.op-sub}
+use Rattle.program.specs.Tree.{Op.op-and, Op.op-or, Expr, Expr.int-lit, Expr.nat-lit, Expr.bool-lit, Expr.null, Expr.self}
 use Rattle.program.specs.Encoding.{op-code, enc-word}
-use Rattle.program.specs.Reader.{Result.ok, Result.bad, wrong-byte, made, Form, Form.form-inv, Form.form-make, Form.form-path, Form.form-int, Form.form-nat, Form.form-bool, Form.form-null, Form.form-self, Form.form-op, Form.form-none, form, bool-end, word-bytes, ranged, read-word, read-type, rule-expr, read-expr}
+use Rattle.program.specs.Reader.{Result.ok, Result.bad, wrong-byte, made, Form, Form.form-inv, Form.form-make, Form.form-path, Form.form-int}
+use Rattle.program.specs.Reader.{Form.form-nat, Form.form-bool, Form.form-null, Form.form-self, Form.form-op, Form.form-none, form, bool-end}
+use Rattle.program.specs.Reader.{word-bytes, ranged, read-word, read-type, rule-expr, read-expr}
 use Rattle.program.specs.Exact.{Stands, Stands.done, Stands.letter}
 use Rattle.program.specs.Laws.PartLaws.{told-is, made-ok}
 use Rattle.program.specs.Laws.ExprLaws.{Opens, opens}

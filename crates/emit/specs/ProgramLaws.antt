@@ -9,7 +9,8 @@ use lib.Dec.{ltb}
 use Rattle.types.specs.Limits.{fix-levels}
 use Rattle.types.specs.Types.{Ty}
 use Rattle.program.specs.Tree.{Items, Step, Program}
-use Rattle.program.specs.Reader.{Result, Result.ok, Result.bad, wrong-end, pair, many, ended, whole, read-params, read-steps, read-items, read-item, read-program, read}
+use Rattle.program.specs.Reader.{Result, Result.ok, Result.bad, wrong-end, pair, many, ended, whole, read-params, read-steps, read-items, read-item}
+use Rattle.program.specs.Reader.{read-program, read}
 use Rattle.program.specs.Laws.PartLaws.{made-ok}
 use Rattle.commands.specs.Bounds.{arities}
 use Rattle.emit.specs.Written.{structs-at}

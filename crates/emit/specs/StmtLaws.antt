@@ -9,13 +9,16 @@ use lib.Seq.{sets}
 use Rattle.types.specs.Limits.{max-statements, expr-levels}
 use Rattle.types.specs.Types.{Ty}
 use Rattle.program.specs.Tree.{Expr, Stmt, Stmt.when, Stmt.declare, Stmt.update, Stmt.create, Stmts, Stmts.end, Stmts.next}
-use Rattle.program.specs.Reader.{Result, Result.ok, Result.bad, wrong-byte, then, pair, made, lookup, Kind, Kind.kind-when, Kind.kind-declare, Kind.kind-update, Kind.kind-create, Kind.kind-none, kind, read-type, read-local, read-path, read-expr, read-body, read-when, read-declare, read-update, rule-stmt, read-stmt}
+use Rattle.program.specs.Reader.{Result, Result.ok, Result.bad, wrong-byte, then, pair, made, lookup, Kind, Kind.kind-when, Kind.kind-declare}
+use Rattle.program.specs.Reader.{Kind.kind-update, Kind.kind-create, Kind.kind-none, kind, read-type, read-local, read-path, read-expr, read-body}
+use Rattle.program.specs.Reader.{read-when, read-declare, read-update, rule-stmt, read-stmt}
 use Rattle.program.specs.Laws.PartLaws.{told-is}
 use Rattle.program.specs.Laws.WordLaws.{type-exact, local-exact}
 use Rattle.program.specs.Laws.StmtLaws.{OpensStmt, opens-stmt}
 use Rattle.commands.specs.Coding.{coded}
 use Rattle.emit.specs.declared.Put.{Put}
-use Rattle.emit.specs.Written.{Good, next-of, code-of, Ready, Wrote, expr-words, make-words, target-words, stmt-words, body-words, when-words, block-words, declare-words, update-words, make-at, stmts-at, body-at, when-at}
+use Rattle.emit.specs.Written.{Good, next-of, code-of, Ready, Wrote, expr-words, make-words, target-words, stmt-words, body-words, when-words}
+use Rattle.emit.specs.Written.{block-words, declare-words, update-words, make-at, stmts-at, body-at, when-at}
 use Rattle.emit.specs.WrittenLaws.{set-sets, placed-one, placed-first, placed-as}
 use Rattle.emit.specs.WordLaws.{if-words, updating-words, declaring-words, when-is, declare-is, update-is, create-is, no-stmts, more-stmts}
 use Rattle.emit.specs.ReadLaws.{value, pair-value, pair-ok, one-stands, counted-value, opened-value}
@@ -47,7 +50,8 @@ declare-facts ar s at g =
           inside = omega (arith, z .0);
           part =
               rw (← i, z .1)
-              (part-of declare-words expr-words (pair-ok (λ t k. pair (read-local s k) λ x. read-expr ar s expr-levels) p (pair-ok (λ x. read-expr ar s expr-levels) q r))
+              (part-of declare-words expr-words
+              (pair-ok (λ t k. pair (read-local s k) λ x. read-expr ar s expr-levels) p (pair-ok (λ x. read-expr ar s expr-levels) q r))
               (rw j at r) (declaring-words t x e));
         }
 
@@ -155,8 +159,12 @@ module _ (ar s : List ℕ) (d at : ℕ) (g : Good (read-stmt ar s d at)) where
       go : (d : ℕ) → read-stmt ar s d at ≡ made (λ p. when (p .0) (p .1)) (inner ar s d at (at + 1)) → Good (read-stmt ar s d at)
           → (0 < d) × (Part stmt-words (read-stmt ar s d at) when-words (when-at ar s (d - 1) (at + 1)) [])
       go zero p g = absurd (shut ar s (λ p. when (p .0) (p .1)) at (at + 1) p g)
-      go (suc d) p g =
-          (omega arith, rw sub-one (made-part stmt-words when-words (λ p. when (p .0) (p .1)) (when-at ar s d (at + 1)) (level ar s (λ p. when (p .0) (p .1)) d at (at + 1) p) g (λ p. when-is p ∙ sym (append-nil _))))
+      go (suc d) p g = (
+        omega arith,
+        rw sub-one
+            (made-part stmt-words when-words (λ p. when (p .0) (p .1)) (when-at ar s d (at + 1)) (level ar s (λ p. when (p .0) (p .1)) d at (at + 1) p) g
+            (λ p. when-is p ∙ sym (append-nil _))),
+      )
 
   -- a declaration
   pub declare-part : getD s at 0 ≡ 2 → Part stmt-words (read-stmt ar s d at) declare-words (read-declare ar s (at + 1)) []

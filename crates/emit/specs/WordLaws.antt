@@ -7,14 +7,16 @@ use mathlib.Core.List.{List, [], _∷_, _++_, map, append-nil}
 use lib.ListN.{length, getD}
 use Rattle.types.specs.Limits.{first-local}
 use Rattle.types.specs.Types.{Ty}
-use Rattle.program.specs.Tree.{Var, Op, Expr, Expr.inv, Expr.make, Expr.path, Expr.op, Exprs, Exprs.none, Exprs.more, Stmt, Stmt.when, Stmt.declare, Stmt.update, Stmt.create, Stmts, Stmts.end, Stmts.next}
+use Rattle.program.specs.Tree.{Var, Op, Expr, Expr.inv, Expr.make, Expr.path, Expr.op, Exprs, Exprs.none, Exprs.more, Stmt, Stmt.when, Stmt.declare}
+use Rattle.program.specs.Tree.{Stmt.update, Stmt.create, Stmts, Stmts.end, Stmts.next}
 use Rattle.program.specs.Encoding.{op-code, var-code}
 use Rattle.program.specs.Exact.{Stands, Stands.done, Stands.letter}
 use Rattle.commands.specs.Commands.{Coms, then, reads, front, last, expr-coms, args-coms, update-coms, stmt-coms, body-coms, flatten, commands}
 use Rattle.commands.specs.Laws.CommandLaws.{flatten-then}
 use Rattle.commands.specs.Coding.{coded, com-word, command-word, words}
 use Rattle.commands.specs.ProgramWordsLaws.{words-append, words-length}
-use Rattle.emit.specs.Written.{coms-words, expr-words, args-words, make-words, path-words, target-words, stmt-words, body-words, when-words, block-words, declare-words, update-words}
+use Rattle.emit.specs.Written.{coms-words, expr-words, args-words, make-words, path-words, target-words, stmt-words, body-words, when-words}
+use Rattle.emit.specs.Written.{block-words, declare-words, update-words}
 use Rattle.emit.specs.Leaf.{rd-words}
 
 -- the words of commands in a row

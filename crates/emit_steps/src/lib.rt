@@ -24,7 +24,8 @@ pub struct Place {
 // A step of a struct: its commands, and its row.
 fn step(s: &[u8], ar: &[u8], structure: u16, p: Place, list: &mut [u64], rows: &mut [u16]) -> Place
     requires { ⌜ Fits step-words (step-row structure) (read-step (now ar) (now s) (p .next)) (stand p (now list) (now rows)) ⌝ }
-    ensures { λ r. ⌜ stand r (now (list .exit)) (now (rows .exit)) ≡ final step-words (step-row structure) (read-step (now (ar .entry)) (now (s .entry)) (p .next)) (stand p (now (list .entry)) (now (rows .entry))) ⌝ }
+    ensures { λ r. ⌜ stand r (now (list .exit)) (now (rows .exit))
+        ≡ final step-words (step-row structure) (read-step (now (ar .entry)) (now (s .entry)) (p .next)) (stand p (now (list .entry)) (now (rows .entry))) ⌝ }
 {
     let at = p.next;
     let k = p.at;
@@ -55,7 +56,9 @@ fn of_struct(
     rows: &mut [u16],
 ) -> Place
     requires { ⌜ Fits steps-words (steps-rows structure) (read-steps (now ar) (now s) (p .next)) (stand p (now list) (now rows)) ⌝ }
-    ensures { λ r. ⌜ stand r (now (list .exit)) (now (rows .exit)) ≡ final steps-words (steps-rows structure) (read-steps (now (ar .entry)) (now (s .entry)) (p .next)) (stand p (now (list .entry)) (now (rows .entry))) ⌝ }
+    ensures { λ r. ⌜ stand r (now (list .exit)) (now (rows .exit))
+        ≡ final steps-words (steps-rows structure) (read-steps (now (ar .entry)) (now (s .entry)) (p .next))
+        (stand p (now (list .entry)) (now (rows .entry))) ⌝ }
 {
     let at = p.next;
     let mut left = s[at];

@@ -26,7 +26,8 @@ pub fn perform(
     w: u64,
 ) -> Acted
     requires { ⌜ Ready (now counts) (now heads) (now cells) l count w ⌝ }
-    ensures { λ r. ⌜ DoesWith count (λ z. perform (now (counts .entry)) l z (w % 256) w (operand w)) r (now (heads .entry)) (now (cells .entry)) (now (heads .exit)) (now (cells .exit)) ⌝ }
+    ensures { λ r. ⌜ DoesWith count (λ z. perform (now (counts .entry)) l z (w % 256) w (operand w)) r (now (heads .entry)) (now (cells .entry))
+        (now (heads .exit)) (now (cells .exit)) ⌝ }
 {
     let a = Actor {
         label: l,

@@ -34,7 +34,8 @@ pub fn construct(
     requires { ⌜ Acting (now heads) (now cells) a ⌝ }
     requires { ⌜ ConsFit (now counts) (a .height) k ⌝ }
     requires { ⌜ a .label < count ⌝ }
-    ensures { λ r. ⌜ DoesWith count (λ z. do-cons (now (counts .entry)) (a .label) z k) r (now (heads .entry)) (now (cells .entry)) (now (heads .exit)) (now (cells .exit)) ⌝ }
+    ensures { λ r. ⌜ DoesWith count (λ z. do-cons (now (counts .entry)) (a .label) z k) r (now (heads .entry)) (now (cells .entry)) (now (heads .exit))
+        (now (cells .exit)) ⌝ }
 {
     if types::MAX_INSTANCES <= count {
         return Acted::Refused(types::number::FULL);

@@ -36,7 +36,14 @@ Stored c a x c′ = c′ ≡ set c (variable (target c a) x) (second c a)
 module _ (counts h c : List ℕ) (l x : ℕ) {h′ : List ℕ} where
   null-seen : Gone h (seen h l) h′ → x < own counts h c (seen h l) → target c (seen h l) < length counts → Does (λ z. do-wr counts l z x) Kept h c h′ c
   unfolding do-wr written-to answering
-  null-seen p u b z = rw (do-wr, written-to, lt-ltb x (own counts h c (seen h l)) u, lt-ltb (target c (seen h l)) (length counts) b, p, add-one (seen h l .next))
+  null-seen p u b z = rw (
+    do-wr,
+    written-to,
+    lt-ltb x (own counts h c (seen h l)) u,
+    lt-ltb (target c (seen h l)) (length counts) b,
+    p,
+    add-one (seen h l .next),
+  )
 
   module _ {c′ : List ℕ} where
     local-seen : Stored c (seen h l) x c′ → Gone h (seen h l) h′ → own counts h c (seen h l) ≤ x → Does (λ z. do-wr counts l z x) (Wrote true) h c h′ c′

@@ -42,8 +42,10 @@ fn replace(cells: &mut [u64], at: usize, c: u64) -> Acted
 // wr x: the value beneath the label on top. A parameter of a null instance stays as it is; a local's write multiplies by 1.
 pub fn write(counts: &[u8], heads: &mut [usize], cells: &mut [u64], a: Actor, x: usize) -> Acted
     requires { ⌜ Acting (now heads) (now cells) a ⌝ }
-    requires { ⌜ WrFit (a .height) (topmost (now cells) a) max-instances x (getD (now heads) (head (operand (topmost (now cells) a)) struct-of) 0) (length (now counts)) ⌝ }
-    ensures { λ r. ⌜ Does (λ z. do-wr (now (counts .entry)) (a .label) z x) r (now (heads .entry)) (now (cells .entry)) (now (heads .exit)) (now (cells .exit)) ⌝ }
+    requires { ⌜ WrFit (a .height) (topmost (now cells) a) max-instances x (getD (now heads) (head (operand (topmost (now cells) a)) struct-of) 0)
+        (length (now counts)) ⌝ }
+    ensures { λ r. ⌜ Does (λ z. do-wr (now (counts .entry)) (a .label) z x) r (now (heads .entry)) (now (cells .entry)) (now (heads .exit))
+        (now (cells .exit)) ⌝ }
 {
     let l = a.label;
     let h = a.height;

@@ -17,13 +17,14 @@ use Rattle.commands.specs.Names.{declares, live-after}
 use Rattle.commands.specs.Decide.{member}
 use Rattle.commands.specs.Decide.NamesDecide.{stmt-named, body-named}
 use Rattle.commands.specs.Decide.TypingDecide.{is-of, expr-type, stmt-typed, body-typed}
-use Rattle.judge.specs.Facts.{worst, named, digit, no-locals, branched, declared as declaring, updated, created, followed, stmt-facts, body-facts}
+use Rattle.judge.specs.Facts.{worst, named, digit, no-locals, stmt-facts, body-facts}
 use Rattle.judge.specs.Verdicts.{Says, Says.misnamed, Says.right, Tables, tagged, flag, Living, Fits, Locals-stmt, Locals}
 use Rattle.judge.specs.FaultLaws.{says-as, says-both, says-named}
 use Rattle.judge.specs.ExprFactsLaws.{wanted, agree-says, path-shows, expr-shows, args-says}
 use Rattle.judge.specs.LocalLaws.{step-locals}
 use Rattle.judge.specs.ScopeLaws.{types-after, stmt-fits, fits-none}
 use Rattle.judge.specs.declared.Scope.{Scope}
+use Rattle.judge.specs.Unfold.{body-judging}
 
 -- a fault that says of names what b does, and under a condition of types what t does
 record Told (A : Type 0) (f : ℕ) (b t : Bool) : Type 0 where
@@ -92,7 +93,7 @@ module _ {cs ar types : List ℕ} {G : Ctx} (T : Tables cs ar types G) (few : le
       go false = says-named true
 
   mutual
-    unfolding stmt-facts body-facts branched declaring updated created followed stmt-named body-named stmt-typed body-typed CountsStmt CountsStmts IsPath Locals-stmt Locals code
+    unfolding body-judging CountsStmt CountsStmts IsPath Locals-stmt Locals code
 
     stmt-told : (s : Stmt) → CountsStmt cs s → (c : Scope) (live seen : List ℕ) (L M : ℕ → Ty) → Fits c live seen L
         → Told (Agrees live L M × Locals-stmt M s) (stmt-facts ar types (G .own) s c .fault) (stmt-named s own-params live seen) (stmt-typed (at G M) s)

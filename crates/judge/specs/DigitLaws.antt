@@ -1,7 +1,8 @@
 -- Digits to the base 256: what a mark changes, and that eight of them fit 64 bits (for the locals of 01, number 7).
 use Prim.Native.Nat.{ℕ, zero, suc, _+_, _*_, _-_, _/_, _%_, _^_, _<_}
 use native.Mathlib.Omega.{arith}
-use native.Mathlib.Nat.{zero-add, mul-one, pow-zero, pow-suc, one-le-pow, mul-assoc, mod-eq-of-lt, zero-div, add-mod, div-eq-of-lt, div-add-mod', add-mul-div-right, mul-add-div-right, add-mul-mod-self-right, div-div-eq-div-mul, div-lt-iff-lt-mul, suc-add}
+use native.Mathlib.Nat.{zero-add, mul-one, pow-zero, pow-suc, one-le-pow, mul-assoc, mod-eq-of-lt, zero-div, add-mod, div-eq-of-lt, div-add-mod'}
+use native.Mathlib.Nat.{add-mul-div-right, mul-add-div-right, add-mul-mod-self-right, div-div-eq-div-mul, div-lt-iff-lt-mul, suc-add}
 use mathlib.Core.Bool.{Bool, true, false}
 use mathlib.Core.Path.{_≡_, refl, _∙_, ap, sym, subst}
 use lib.Dec.{eqb, ltb}

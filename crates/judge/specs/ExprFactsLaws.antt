@@ -11,7 +11,8 @@ use borrow.Author.Tests.{eq-eqb, ne-eqb, le-leb, lt-leb, le-ltb, ltb-true}
 use Rattle.types.specs.Limits.{max-params}
 use Rattle.types.specs.Numbers.{wrong-names, wrong-types}
 use Rattle.types.specs.Types.{Ty, Ty.int, Ty.nat, Ty.bool, Ty.ref, struct-code, code, same-type, type-of}
-use Rattle.program.specs.Tree.{Var, Var.par, Var.loc, Expr, Expr.inv, Expr.make, Expr.path, Expr.int-lit, Expr.nat-lit, Expr.bool-lit, Expr.null, Expr.self, Expr.op, Exprs, Exprs.none, Exprs.more, args}
+use Rattle.program.specs.Tree.{Var, Var.par, Var.loc, Expr, Expr.inv, Expr.make, Expr.path, Expr.int-lit, Expr.nat-lit, Expr.bool-lit, Expr.null}
+use Rattle.program.specs.Tree.{Expr.self, Expr.op, Exprs, Exprs.none, Exprs.more, args}
 use Rattle.program.specs.Counts.{IsVar, IsPath, CountsExpr, CountsExprs}
 use Rattle.types.specs.TypeLaws.{type-of-code, same-exact}
 use Rattle.types.specs.Reflects.{Reflects, Reflects.holds, Reflects.fails}
@@ -19,11 +20,14 @@ use Rattle.commands.specs.Context.{Ctx, typ}
 use Rattle.commands.specs.Typing.{Sort, Sort.equality, Sort.order, Sort.arithmetic, Sort.logic, sort}
 use Rattle.commands.specs.Decide.{member}
 use Rattle.commands.specs.Decide.NamesDecide.{start-named, expr-named, args-named}
-use Rattle.commands.specs.Decide.TypingDecide.{Judgement, Judgement.untypable, is-of, agree, given, result, operate, lead as type-lead, path-type, expr-type, args-typed}
-use Rattle.judge.specs.Facts.{worst, demand, judged, param, lead-by, lead, start-of, path-of, takes, gives, negated, combined, travelled, argued, constructed, expr-facts, args-facts}
+use Rattle.commands.specs.Decide.TypingDecide.{Judgement, Judgement.untypable, is-of, agree, given, result, operate, lead as type-lead, path-type}
+use Rattle.commands.specs.Decide.TypingDecide.{expr-type, args-typed}
+use Rattle.judge.specs.Facts.{worst, demand, judged, param, lead-by, lead, start-of, path-of, takes, gives}
+use Rattle.judge.specs.Facts.{expr-facts, args-facts}
 use Rattle.judge.specs.declared.Judged.{Judged}
 use Rattle.judge.specs.Verdicts.{Says, Says.misnamed, Says.mistyped, Says.right, Shows, Shows.unnamed, Shows.untyped, Shows.typed, Tables, tagged, Living}
 use Rattle.judge.specs.FaultLaws.{says-both, says-demand}
+use Rattle.judge.specs.Unfold.{expr-judging}
 
 -- Types by their bytes -------------------------------------------------------------
 
@@ -219,11 +223,12 @@ module _ {cs ar types : List ℕ} {G : Ctx} (T : Tables cs ar types G) where
     -- Expressions ------------------------------------------------------------------
 
     mutual
-      unfolding expr-facts args-facts expr-named args-named expr-type args-typed CountsExpr CountsExprs IsPath args negated combined travelled argued constructed code
+      unfolding expr-judging CountsExpr CountsExprs IsPath args code
 
       -- an expression's fault is 7 where a name is wrong in it, else 8 where it has no type, else 0, and its type is told
       pub expr-shows : (e : Expr) → CountsExpr cs e
-          → Shows (expr-facts ar types (G .own) w e .fault) (expr-facts ar types (G .own) w e .typ) (expr-named e (length (G .params (G .own))) live) (expr-type G e)
+          → Shows (expr-facts ar types (G .own) w e .fault) (expr-facts ar types (G .own) w e .typ) (expr-named e (length (G .params (G .own))) live)
+          (expr-type G e)
       expr-shows (inv e) c = negated-shows (expr-shows e c)
       expr-shows (make k es) c = made-shows k (args-says es (c .2) k 0 (G .params k) (c .1 ∙ T .counts k) (λ i h. rw zero-add (T .codes k i h)))
       expr-shows (path v vs) c = path-shows v vs (c .0)

@@ -3,6 +3,7 @@ pub mod DigitLaws
 pub mod Verdicts
 pub mod FaultLaws
 pub mod SizeFactsLaws
+pub mod Unfold
 pub mod ExprFactsLaws
 pub mod LocalLaws
 pub mod ScopeLaws

@@ -125,7 +125,8 @@ mutual
           go : (a : Bool) → member x (declares s) ≡ a → member x (declares s) ≡ false
           go false e = e
           go true e =
-              absurd (true≢false (sym m ∙ body-unseen b n (live-after s live) (declares s ++ seen) x g (member-append x (declares s) seen ∙ ap (λ a. a || member x seen) e)))
+              absurd (true≢false (sym m
+              ∙ body-unseen b n (live-after s live) (declares s ++ seen) x g (member-append x (declares s) seen ∙ ap (λ a. a || member x seen) e)))
 
 -- the types that a step declares are those of its declarations where its names are right
 pub step-locals : (b : Stmts) (n : ℕ) → body-named b n [] [] ≡ true → Locals (λ x. body-local b x int) b

@@ -103,9 +103,11 @@ module _ (p : Program) {cs ar types : List ℕ} (tables : (k : ℕ) (t : Step) �
   well-typed k t = body-typed (context p k (t .body)) (t .body)
 
   added-says : {a b : Bool} (k : ℕ) (t : Step) (ns : List ℕ) (T : Totals) → CountsStep cs t → Holds (T .has) k ns → Says (T .fault) a b
-      → Says (added k (t .name) (body-facts ar types k (t .body) no-locals) T .fault) (a && (well-named k t && not (member (t .name) ns))) (b && (well-typed k t && true))
+      → Says (added k (t .name) (body-facts ar types k (t .body) no-locals) T .fault) (a && (well-named k t && not (member (t .name) ns)))
+      (b && (well-typed k t && true))
   unfolding added CountsStep
-  added-says k t ns T c H s = says-both s (says-both (step-says p k (t .body) (tables k t) few (c .2)) (rw (H .holds-at (t .name) (c .0)) (go (member (t .name) ns))))
+  added-says k t ns T c H s = says-both s
+      (says-both (step-says p k (t .body) (tables k t) few (c .2)) (rw (H .holds-at (t .name) (c .0)) (go (member (t .name) ns))))
     where
       go : (m : Bool) → Says (named (eqb (flag m) 0)) (not m) true
       go true = says-named false
@@ -120,7 +122,8 @@ module _ (p : Program) {cs ar types : List ℕ} (tables : (k : ℕ) (t : Step) �
       says-as
       (names-order a (well-named k t) (not (member (t .name) ns)) (fresh (t .name ∷ ns) (names ts)) (every (well-named k) ts))
       (types-order b (well-typed k t) (every (well-typed k) ts))
-      (struct-says ts (c .1) k (t .name ∷ ns) (added k (t .name) (body-facts ar types k (t .body) no-locals) T) l (holds-more (t .name) l (c .0 .0) H) (added-says k t ns T (c .0) H s))
+      (struct-says ts (c .1) k (t .name ∷ ns) (added k (t .name) (body-facts ar types k (t .body) no-locals) T) l (holds-more (t .name) l (c .0 .0) H)
+      (added-says k t ns T (c .0) H s))
 
   -- over the steps of each struct the fault is 7 where a name is wrong, else 8 where a type is, else 0
   pub steps-say : (tss : List (List Step)) → All (All (CountsStep cs)) tss → {a b : Bool} (k : ℕ) (T : Totals) → k + length tss ≤ max-structs

@@ -26,7 +26,8 @@ use Rattle.commands.specs.Numbers.{first, breach-tests, breach-number}
 use Rattle.judge.specs.Facts.{worst, named}
 use Rattle.judge.specs.Verdicts.{Says, Says.right, Tables, flag}
 use Rattle.judge.specs.FaultLaws.{says-as, says-both, says-named, says-number}
-use Rattle.judge.specs.ProgramFacts.{place, Totals, Planned, no-totals, step-totals, joined, item-plan, items-plan, exceeded, totals-number, types-table, program-totals, program-plan, checked-number}
+use Rattle.judge.specs.ProgramFacts.{place, Totals, Planned, no-totals, step-totals, joined, item-plan, items-plan, exceeded, totals-number}
+use Rattle.judge.specs.ProgramFacts.{types-table, program-totals, program-plan, checked-number}
 use Rattle.judge.specs.ProgramTableLaws.{tables-of, holds-none, steps-hold, had-is}
 use Rattle.judge.specs.TotalLaws.{Grown, above, step-fits, steps-grown}
 use Rattle.judge.specs.NameTotalLaws.{low, steps-say}
@@ -106,7 +107,8 @@ module _ (p : Program) (c : Counts p) where
   unfolding Counts
   fits-is =
       every-same {C = Few 0 8 (CountsStep (arities p))}
-      (λ ts h. every-same {C = CountsStep (arities p)} one ts (h .2) ∙ every-and (λ t. leb (step-size t) step-commands) (λ t. leb (step-depth p t) max-depth) ts)
+      (λ ts h. every-same {C = CountsStep (arities p)} one ts (h .2)
+      ∙ every-and (λ t. leb (step-size t) step-commands) (λ t. leb (step-depth p t) max-depth) ts)
       (p .steps) (c .2)
       ∙ every-and (every (λ t. leb (step-size t) step-commands)) (every (λ t. leb (step-depth p t) max-depth)) (p .steps)
     where

@@ -87,7 +87,8 @@ swap false b c = refl
 
 -- one of three lists, in another order
 pub swapped : (x : ℕ) (a b c : List ℕ) → member x (b ++ (a ++ c)) ≡ member x ((a ++ b) ++ c)
-swapped x a b c = rw (member-append x b (a ++ c), member-append x a c, member-append x (a ++ b) c, member-append x a b) (swap (member x a) (member x b) (member x c))
+swapped x a b c = rw (member-append x b (a ++ c), member-append x a c, member-append x (a ++ b) c, member-append x a b)
+    (swap (member x a) (member x b) (member x c))
 
 module _ (ar types : List ℕ) (own : ℕ) where
   mutual

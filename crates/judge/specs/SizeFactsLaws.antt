@@ -2,10 +2,12 @@
 use Prim.Native.Nat.{ℕ, suc}
 use mathlib.Core.List.{List}
 use mathlib.Core.Path.{_≡_, refl, ap}
-use Rattle.program.specs.Tree.{Expr, Expr.inv, Expr.make, Expr.path, Expr.int-lit, Expr.nat-lit, Expr.bool-lit, Expr.null, Expr.self, Expr.op, Exprs, Exprs.none, Exprs.more, Stmt, Stmt.when, Stmt.declare, Stmt.update, Stmt.create, Stmts, Stmts.end, Stmts.next}
+use Rattle.program.specs.Tree.{Expr, Expr.inv, Expr.make, Expr.path, Expr.int-lit, Expr.nat-lit, Expr.bool-lit, Expr.null, Expr.self, Expr.op, Exprs}
+use Rattle.program.specs.Tree.{Exprs.none, Exprs.more, Stmt, Stmt.when, Stmt.declare, Stmt.update, Stmt.create, Stmts, Stmts.end, Stmts.next}
 use Rattle.commands.specs.Sizes.{expr-size, args-size, stmt-size, body-size}
 use Rattle.commands.specs.Depth.{peak, peaks, stmt-growth, growth, stmt-height, height}
-use Rattle.judge.specs.Facts.{negated, combined, travelled, argued, constructed, expr-facts, args-facts, branched, declared, updated, created, followed, stmt-facts, body-facts}
+use Rattle.judge.specs.Facts.{negated, combined, travelled, argued, constructed, expr-facts, args-facts, branched, declared, updated, created}
+use Rattle.judge.specs.Facts.{followed, stmt-facts, body-facts}
 use Rattle.judge.specs.declared.Scope.{Scope}
 
 -- Expressions ----------------------------------------------------------------------

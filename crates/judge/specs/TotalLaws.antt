@@ -90,7 +90,8 @@ module _ (ar types : List ℕ) where
 
   -- over the steps of each struct: how many, their commands, their greatest height, and whether each is within its limits
   pub steps-grown : (tss : List (List Step)) (k : ℕ) (T : Totals)
-      → Grown T (step-totals ar types k tss T) (total length tss) (total (total (λ t. body-size (t .body))) tss) (greatest (greatest (λ t. height (t .body))) tss)
+      → Grown T (step-totals ar types k tss T) (total length tss) (total (total (λ t. body-size (t .body))) tss)
+      (greatest (greatest (λ t. height (t .body))) tss)
       (every (every step-fits) tss)
   unfolding step-totals total greatest every
   steps-grown [] k T = unchanged T

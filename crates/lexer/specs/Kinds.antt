@@ -1,6 +1,7 @@
 -- The kind of a token as a byte: what is kept of it in its place of the text. 0 is no kind: no token begins there.
 use Prim.Native.Nat.{ℕ, _+_}
-use Rattle.program.specs.Tree.{Op, Op.op-eq, Op.op-ne, Op.op-le, Op.op-ge, Op.op-lt, Op.op-gt, Op.op-mul, Op.op-div, Op.op-rem, Op.op-add, Op.op-sub, Op.op-and, Op.op-or}
+use Rattle.program.specs.Tree.{Op, Op.op-eq, Op.op-ne, Op.op-le, Op.op-ge, Op.op-lt, Op.op-gt, Op.op-mul, Op.op-div, Op.op-rem, Op.op-add, Op.op-sub}
+use Rattle.program.specs.Tree.{Op.op-and, Op.op-or}
 use Rattle.tokens.specs.Tokens.{Word, Sign, Token, Token.word, Token.sign, Token.op, Token.name, Token.int, Token.nat}
 use Rattle.tokens.specs.TokenNumbers.{word-number, sign-number}
 

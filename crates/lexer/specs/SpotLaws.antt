@@ -11,15 +11,19 @@ use lib.Dec.{eqb}
 use borrow.Author.Tests.{eqb-true, eq-eqb, ne-eqb}
 use Rattle.tokens.specs.ByteLaws.{both-true}
 use Rattle.program.specs.Tree.{Op.op-ne, Op.op-le, Op.op-ge, Op.op-lt, Op.op-gt, Op.op-and, Op.op-or}
-use Rattle.tokens.specs.Tokens.{Sign.colon, Sign.assign, Sign.bang, Token, Token.sign, Token.op, Token.int, Token.nat, nat-end-byte, letter, digit, name-byte, blank, op-spelling, sign-spelling, spelling}
+use Rattle.tokens.specs.Tokens.{Sign.colon, Sign.assign, Sign.bang, Token, Token.sign, Token.op, Token.int, Token.nat, nat-end-byte, letter, digit}
+use Rattle.tokens.specs.Tokens.{name-byte, blank, op-spelling, sign-spelling, spelling}
 use Rattle.tokens.specs.Lexing.{slash, star}
-use Rattle.tokens.specs.Scanning.{Front, Front.token, Front.nothing, span, begins, closing, named, doubles, singles, signs, behind-first, find-sign, Class.letters, Class.digits, class, polarity, signed, opens, nat-front, comment-front, after-star, other-front, front-of, front}
+use Rattle.tokens.specs.Scanning.{Front, Front.token, Front.nothing, span, begins, closing, named, doubles, singles, signs, find-sign}
+use Rattle.tokens.specs.Scanning.{Class.letters, Class.digits, class, polarity, signed, opens, nat-front, comment-front, after-star, other-front}
+use Rattle.tokens.specs.Scanning.{front-of, front}
 use Rattle.tokens.specs.TokenNumbers.{sign-number}
 use Rattle.lexer.specs.Kinds.{int-kind, nat-kind, sign-kind, op-kind, kind}
 use Rattle.lexer.specs.Marking.{spot-of, at-spot, signs-digit, followed}
 use Rattle.lexer.specs.RunLaws.{next-byte, inside, eqb-turned}
 use Rattle.lexer.specs.declared.Spot.{Spot}
 use Rattle.lexer.specs.declared.Spot.the-variants.{Marked, Stray}
+use Rattle.tokens.specs.Unfold.{sign-scan}
 
 -- the byte behind a place
 pub behind-byte : (s : List ℕ) (i n : ℕ) → getD (drop (i + 1) s) n 0 ≡ getD s (i + 1 + n) 0
@@ -258,27 +262,27 @@ either x y t = spot-of (elim (t && true) [ true ↦ x | false ↦ y ])
 
 module _ (c : ℕ) where
   pub bang-spot : followed c 61 24 22 ≡ spot-of (find-sign signs (33 ∷ c ∷ []))
-  unfolding either find-sign signs doubles singles begins spelling sign-spelling op-spelling spot-of behind-first kind sign-kind sign-number op-kind
+  unfolding either sign-scan spot-of kind sign-kind sign-number op-kind
   bang-spot = by-second c 61 24 22 (either (token (op op-ne) 1) (token (sign bang) 0)) refl refl
 
   pub and-spot : followed c 38 34 0 ≡ spot-of (find-sign signs (38 ∷ c ∷ []))
-  unfolding either find-sign signs doubles singles begins spelling sign-spelling op-spelling spot-of behind-first kind sign-kind sign-number op-kind
+  unfolding either sign-scan spot-of kind sign-kind sign-number op-kind
   and-spot = by-second c 38 34 0 (either (token (op op-and) 1) nothing) refl refl
 
   pub colon-spot : followed c 61 20 18 ≡ spot-of (find-sign signs (58 ∷ c ∷ []))
-  unfolding either find-sign signs doubles singles begins spelling sign-spelling op-spelling spot-of behind-first kind sign-kind sign-number op-kind
+  unfolding either sign-scan spot-of kind sign-kind sign-number op-kind
   colon-spot = by-second c 61 20 18 (either (token (sign assign) 1) (token (sign colon) 0)) refl refl
 
   pub less-spot : followed c 61 25 27 ≡ spot-of (find-sign signs (60 ∷ c ∷ []))
-  unfolding either find-sign signs doubles singles begins spelling sign-spelling op-spelling spot-of behind-first kind sign-kind sign-number op-kind
+  unfolding either sign-scan spot-of kind sign-kind sign-number op-kind
   less-spot = by-second c 61 25 27 (either (token (op op-le) 1) (token (op op-lt) 0)) refl refl
 
   pub more-spot : followed c 61 26 28 ≡ spot-of (find-sign signs (62 ∷ c ∷ []))
-  unfolding either find-sign signs doubles singles begins spelling sign-spelling op-spelling spot-of behind-first kind sign-kind sign-number op-kind
+  unfolding either sign-scan spot-of kind sign-kind sign-number op-kind
   more-spot = by-second c 61 26 28 (either (token (op op-ge) 1) (token (op op-gt) 0)) refl refl
 
   pub or-spot : followed c 124 35 0 ≡ spot-of (find-sign signs (124 ∷ c ∷ []))
-  unfolding either find-sign signs doubles singles begins spelling sign-spelling op-spelling spot-of behind-first kind sign-kind sign-number op-kind
+  unfolding either sign-scan spot-of kind sign-kind sign-number op-kind
   or-spot = by-second c 124 35 0 (either (token (op op-or) 1) nothing) refl refl
 
 -- what opens a comment has a byte behind it

@@ -29,7 +29,9 @@ pub record Seeking (t s : List ℕ) (k at : ℕ) : Type 0 where
 
 pub seeking-start : {t s : List ℕ} → t ≡ laid words → Seeking t s 1 0
 unfolding kinds-from words word-kind word-number
-seeking-start e = record { left = words; inner = omega arith; here = e; kinds = (refl, (refl, (refl, (refl, (refl, (refl, (refl, (refl, (refl, (refl, (refl, (refl, tt)))))))))))); few = refl; same-found = refl }
+seeking-start e =
+    let up : kinds-from 1 words = (refl, (refl, (refl, (refl, (refl, (refl, (refl, (refl, (refl, (refl, (refl, (refl, tt)))))))))))) in
+    record { left = words; inner = omega arith; here = e; kinds = up; few = refl; same-found = refl }
 
 first-of : (t : List ℕ) (i x : ℕ) (l : List ℕ) → drop i t ≡ x ∷ l → getD t i 0 ≡ x
 first-of t i x l e = ap (λ j. getD t j 0) (sym (add-zero i)) ∙ sym (getD-drop i t 0 0) ∙ ap (λ q. getD q 0 0) e

@@ -1,6 +1,6 @@
 // Whether some letters are one of the grammar's words (02 §1), and which: by a table of the words.
+use little_endian::index;
 ghost use mathlib.Core.Path.{_≡_};
-ghost use Prim.Native.Nat.{_<_};
 ghost use Rattle.tokens.specs.Scanning.{same, words, find-word, named};
 ghost use Rattle.lexer.specs.Kinds.{kind as kind-of};
 ghost use Rattle.lexer.specs.WordTable.{laid};
@@ -23,12 +23,6 @@ fn same(s: &[u8], t: &[u8]) -> bool
     true
 }
 
-fn wide(b: u8) -> usize
-    ensures { λ r. ⌜ (r ≡ b) × (r < 256) ⌝ }
-{
-    b as usize
-}
-
 // The kind of a word or a name by a table that has each word behind the count of its letters, in the order of their kinds.
 fn find(table: &[u8], s: &[u8]) -> u8
     requires { ⌜ now table ≡ laid words ⌝ }
@@ -38,7 +32,7 @@ fn find(table: &[u8], s: &[u8]) -> u8
     let mut at = 0;
     while at < table.len() {
         let first = at + 1;
-        let end = first + wide(table[at]);
+        let end = first + index(table[at]);
         if same(&table[first..end], s) {
             return kind;
         }

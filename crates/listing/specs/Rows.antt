@@ -70,12 +70,21 @@ all-forms-lines =
     ∷ "1 5 19 wr 0"
     ∷ []
 
+-- numbers as text; all that makes a listing of a stream: what an `unfolding` line opens by one name
+numerals : Type 0
+unfolding flat code op-code var-code digits decimal column tail row
+numerals = Unit {0}
+
+listings : Type 0
+unfolding numerals listing checking head program-lines structs-lines step-lines command-lines command-line command-text shown
+listings = Unit {0}
+
 stream-row : listing (of-read (read P)) ≡ line-bytes P-lines
-unfolding P P-lines bytes line-bytes listing checking head program-lines structs-lines step-lines command-lines command-line command-text shown flat code op-code var-code digits decimal column tail row
+unfolding P P-lines bytes line-bytes listings
 stream-row = refl
 
 forms-row : listing (of-read (read all-forms)) ≡ line-bytes all-forms-lines
-unfolding all-forms all-forms-lines bytes line-bytes listing checking head program-lines structs-lines step-lines command-lines command-line command-text shown flat code op-code var-code default word-int value-of digits decimal column tail row
+unfolding all-forms all-forms-lines bytes line-bytes listings default word-int value-of
 forms-row = refl
 
 -- P's image gives 01's listing, byte for byte

@@ -73,7 +73,8 @@ pub fn program(image: &[u8], buffer: &mut [u8], counts: &mut [u8], types: &mut [
     requires { ⌜ payload-size * program-blocks ≤ length (now buffer) ⌝ }
     requires { ⌜ (length (now counts) ≡ max-structs) × (length (now types) ≡ max-structs * max-params) ⌝ }
     ensures { λ r. ⌜ r ≡ load-told (checked (now (image .entry))) (stream (now (image .entry))) ⌝ }
-    ensures { λ _. ⌜ Held (checked (now (image .entry))) (stream (now (image .entry))) (now (buffer .entry)) (now (buffer .exit)) (now (counts .entry)) (now (counts .exit)) (now (types .entry)) (now (types .exit)) ⌝ }
+    ensures { λ _. ⌜ Held (checked (now (image .entry))) (stream (now (image .entry))) (now (buffer .entry)) (now (buffer .exit)) (now (counts .entry))
+        (now (counts .exit)) (now (types .entry)) (now (types .exit)) ⌝ }
 {
     let r = blocks::open_image(image, types::PROGRAM_BLOCKS, buffer);
     let Opened::Stream(n) = r else {

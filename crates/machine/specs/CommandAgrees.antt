@@ -23,7 +23,8 @@ module _ (p : Program) (l : ℕ) (m : Machine) where
   outcome (state s σ b) R = command-outcome p m l s σ b R
 
   -- what the next machine stands for, a rule gives
-  pub command-follows : (st : State) {m′ : Machine} → Represents m st → command p l m ≡ next m′ → (st′ : State) × (Rule p (instance l) st st′) × (Represents m′ st′)
+  pub command-follows : (st : State) {m′ : Machine} → Represents m st → command p l m ≡ next m′
+      → (st′ : State) × (Rule p (instance l) st st′) × (Represents m′ st′)
   command-follows st R e = rw e at (outcome st R)
 
   -- what a rule gives, the next machine stands for

@@ -9,8 +9,10 @@ use Rattle.types.specs.Limits.{first-local}
 use Rattle.types.specs.Types.{Ty}
 use Rattle.types.specs.Values.{Val}
 use Rattle.program.specs.Tree.{Op}
-use Rattle.commands.specs.Commands.{Com, Com.push, Com.push-this, Com.rd, Com.wr, Com.cons, Com.not, Com.oper, Coms, Coms.nil, Coms.act, Coms.if-then, Flat, Flat.plain, Flat.if-n, flatten}
-use Rattle.commands.specs.Noted.{Note, Note.n-push, Note.n-this, Note.n-not, Note.n-rd, Note.n-wr, Note.n-get, Note.n-set, Note.n-cons, Note.n-op, Note.n-if, erase}
+use Rattle.commands.specs.Commands.{Com, Com.push, Com.push-this, Com.rd, Com.wr, Com.cons, Com.not, Com.oper, Coms, Coms.nil, Coms.act, Coms.if-then}
+use Rattle.commands.specs.Commands.{Flat, Flat.plain, Flat.if-n, flatten}
+use Rattle.commands.specs.Noted.{Note, Note.n-push, Note.n-this, Note.n-not, Note.n-rd, Note.n-wr, Note.n-get, Note.n-set, Note.n-cons, Note.n-op}
+use Rattle.commands.specs.Noted.{Note.n-if, erase}
 use Rattle.machine.specs.Machine.{Source}
 use Rattle.machine.specs.Performed.{Reads, Reads.parameter, Reads.of-local, Writes, Writes.to-parameter, Writes.to-local}
 
@@ -57,7 +59,8 @@ means (n-op o) = m-op
 means (n-if n) = m-if
 
 -- code that stands for a list with a command in front has a note of it in front
-pub next-note : (n : List Note) {f : Flat} {fs : List Flat} → map erase n ≡ f ∷ fs → (a : Note) × (r : List Note) × (n ≡ a ∷ r) × (Means f a) × (map erase r ≡ fs)
+pub next-note : (n : List Note) {f : Flat} {fs : List Flat} → map erase n ≡ f ∷ fs
+    → (a : Note) × (r : List Note) × (n ≡ a ∷ r) × (Means f a) × (map erase r ≡ fs)
 next-note [] e = let z : _≡_ {A = ℕ} 0 1 = cc in absurd (omega arith)
 next-note (a ∷ r) {f} e = (a, r, refl, (let h : erase a ≡ f = cc in subst (λ g. Means g a) h (means a)), cc)
 

@@ -15,7 +15,8 @@ use Rattle.commands.specs.Noted.{Note, Note.n-push, Note.n-this, Note.n-not, No
 use Rattle.operators.specs.Apply.{Answer.value, Answer.outside, apply}
 use Rattle.machine.specs.Published.{lookup, assign, structs, arity}
 use Rattle.machine.specs.Rules.{meet}
-use Rattle.machine.specs.Machine.{Tagged, tagged, Source, Source.variable, Source.local, given-by, Instance, Machine, Out, Out.next, Out.refused, Out.stuck, with-code, update-env, with-instances, put, with-stability, leaves-stable, made}
+use Rattle.machine.specs.Machine.{Tagged, tagged, Source, Source.variable, Source.local, given-by, Instance, Machine, Out, Out.next}
+use Rattle.machine.specs.Machine.{Out.refused, Out.stuck, with-code, update-env, with-instances, put, with-stability, leaves-stable, made}
 use Rattle.machine.specs.Stops.{full, exceeded}
 use Rattle.commands.specs.Tags.{result-type}
 

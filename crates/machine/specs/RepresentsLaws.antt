@@ -34,7 +34,8 @@ represents-at (i ∷ is) (j ∷ σ) zero R = R .0
 represents-at (i ∷ is) (j ∷ σ) (suc l) R = represents-at is σ l (R .1)
 
 -- an instance of the state has one of the machine that represents it
-pub instance-at : (is : List Instance) (σ : List Inst) (l : ℕ) {j : Inst} → Represents-all is σ → getElem? σ l ≡ some j → (i : Instance) × (getElem? is l ≡ some i) × (Represents-inst i j)
+pub instance-at : (is : List Instance) (σ : List Inst) (l : ℕ) {j : Inst} → Represents-all is σ → getElem? σ l ≡ some j
+    → (i : Instance) × (getElem? is l ≡ some i) × (Represents-inst i j)
 instance-at is σ l {j} R e = go (getElem? is l) refl (rw e at (represents-at is σ l R))
   where
     go : (o : Option Instance) → getElem? is l ≡ o → Represents-at o (some j) → (i : Instance) × (getElem? is l ≡ some i) × (Represents-inst i j)
@@ -46,7 +47,8 @@ pub inst-at : (is : List Instance) (σ : List Inst) (l : ℕ) {i : Instance} →
     → (c : Coms) × (getElem? σ l ≡ some (inst (i .struct) c (values (i .stack)) (i .env))) × (map erase (i .code) ≡ flatten c)
 inst-at is σ l {i} R e = go (getElem? σ l) refl (rw e at (represents-at is σ l R))
   where
-    go : (o : Option Inst) → getElem? σ l ≡ o → Represents-at (some i) o → (c : Coms) × (getElem? σ l ≡ some (inst (i .struct) c (values (i .stack)) (i .env))) × (map erase (i .code) ≡ flatten c)
+    go : (o : Option Inst) → getElem? σ l ≡ o → Represents-at (some i) o
+        → (c : Coms) × (getElem? σ l ≡ some (inst (i .struct) c (values (i .stack)) (i .env))) × (map erase (i .code) ≡ flatten c)
     go none g r = absurd r
     go (some (inst k c χ ξ)) g (a, b, x, y) = (c, g ∙ cc, b)
 

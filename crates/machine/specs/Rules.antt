@@ -19,9 +19,11 @@ use Rattle.types.specs.Types.{Ty}
 use Rattle.types.specs.Values.{Val, Val.bool-val, Val.label}
 use Rattle.program.specs.Tree.{Op, Stmts, Program}
 use Rattle.program.specs.Counts.{All}
-use Rattle.commands.specs.Commands.{Com.push, Com.push-this, Com.rd, Com.wr, Com.cons, Com.not, Com.oper, Coms, Coms.nil, Coms.act, Coms.if-then, then, body-coms}
+use Rattle.commands.specs.Commands.{Com.push, Com.push-this, Com.rd, Com.wr, Com.cons, Com.not, Com.oper, Coms, Coms.nil, Coms.act, Coms.if-then}
+use Rattle.commands.specs.Commands.{then, body-coms}
 use Rattle.operators.specs.Operators.{Applies}
-use Rattle.machine.specs.Published.{StepCall, StepCall.global, StepCall.local, called, Sched, Sched.start, Sched.fixpoint, Sched.active, before, Env, lookup, assign, fresh-env, Inst, Inst.inst, State, State.state, update-env, structs, arity, Idle}
+use Rattle.machine.specs.Published.{StepCall, StepCall.global, StepCall.local, called, Sched, Sched.start, Sched.fixpoint, Sched.active, before}
+use Rattle.machine.specs.Published.{Env, lookup, assign, fresh-env, Inst, Inst.inst, State, State.state, update-env, structs, arity, Idle}
 
 -- Done(σ)
 abbrev pub Done : List Inst → Type 0

@@ -76,7 +76,8 @@ module _ {A : Type 0} (key : A → Id) (x : Id) where
           → Found key x (p .at) (p .element) (a ∷ l)
       last q g f n = let h : record { at = suc (q .at); element = q .element } ≡ p = cc in rw (← h) (later n f)
 
-      go : (t : Bool) → same (key a) x ≡ t → (o : Option (Place A)) → find key x l ≡ o → ((q : Place A) → find key x l ≡ some q → Found key x (q .at) (q .element) l)
+      go : (t : Bool) → same (key a) x ≡ t → (o : Option (Place A)) → find key x l ≡ o
+          → ((q : Place A) → find key x l ≡ some q → Found key x (q .at) (q .element) l)
           → Found key x (p .at) (p .element) (a ∷ l)
       go true t o f rec =
           let g : some (record { at = 0; element = a }) ≡ some p = rw (t, find) at e in

@@ -10,7 +10,10 @@ use native.Mathlib.Omega.{arith}
 use Rattle.types.specs.Limits.{max-structs, max-params, max-steps, step-names, max-statements, max-items, nat-end, first-local, max-locals, max-path}
 use Rattle.types.specs.Types.{Ty, Ty.int, Ty.nat, Ty.bool, Ty.ref, IsType}
 use Rattle.types.specs.Decides.{Decides, decides-eqb, decides-leb, decides-both, decides-as}
-use Rattle.program.specs.Tree.{Var, Var.par, Var.loc, Expr, Expr.inv, Expr.make, Expr.path, Expr.int-lit, Expr.nat-lit, Expr.bool-lit, Expr.null, Expr.self, Expr.op, Exprs, Exprs.none, Exprs.more, Stmt, Stmt.when, Stmt.declare, Stmt.update, Stmt.create, Stmts, Stmts.end, Stmts.next, Item, Item.call, Item.call-in, Item.fix, Items, Items.stop, Items.item, Step, Program, args, size, items}
+use Rattle.program.specs.Tree.{Var, Var.par, Var.loc, Expr, Expr.inv, Expr.make, Expr.path, Expr.int-lit, Expr.nat-lit, Expr.bool-lit, Expr.null}
+use Rattle.program.specs.Tree.{Expr.self, Expr.op, Exprs, Exprs.none, Exprs.more, Stmt, Stmt.when, Stmt.declare, Stmt.update, Stmt.create, Stmts}
+use Rattle.program.specs.Tree.{Stmts.end, Stmts.next, Item, Item.call, Item.call-in, Item.fix, Items, Items.stop, Items.item, Step, Program, args}
+use Rattle.program.specs.Tree.{size, items}
 use Rattle.program.specs.Encoding.{enc-program}
 use Rattle.program.specs.Counts.{All, Few, IsVar, IsPath, CountsExpr, CountsExprs, CountsItem, CountsItems}
 use Rattle.meaning.specs.Holds.{max-stream, HoldsStmt, HoldsStmts, HoldsStep, HoldsSchedule, Counted, Holds}
@@ -43,9 +46,11 @@ unfoldable pub few : {A : Type 0} → ℕ → ℕ → (A → Bool) → List A �
 unfolding all
 few lo hi t l = leb lo (length l) && (leb (length l) hi && all t l)
 
-decides-few : {A : Type 0} {C : A → Type 0} (lo hi : ℕ) (t : A → Bool) → ((a : A) → Decides (t a) (C a)) → (l : List A) → Decides (few lo hi t l) (Few lo hi C l)
+decides-few : {A : Type 0} {C : A → Type 0} (lo hi : ℕ) (t : A → Bool) → ((a : A) → Decides (t a) (C a)) → (l : List A)
+    → Decides (few lo hi t l) (Few lo hi C l)
 unfolding few
-decides-few lo hi t d l = decides-three (leb lo (length l)) (leb (length l) hi) (all t l) (decides-leb lo (length l)) (decides-leb (length l) hi) (decides-all t d l)
+decides-few lo hi t d l = decides-three (leb lo (length l)) (leb (length l) hi) (all t l) (decides-leb lo (length l)) (decides-leb (length l) hi)
+    (decides-all t d l)
 
 -- Leaves -------------------------------------------------------------------------------------
 
@@ -108,7 +113,8 @@ module _ (ar : List ℕ) where
     decides-expr : (e : Expr) → Decides (holds-expr e) (CountsExpr ar e)
     decides-expr (inv e) = decides-expr e
     decides-expr (make k es) =
-        decides-three (ltb k (length ar)) (eqb (args es) (getD ar k 0)) (holds-exprs es) (decides-ltb k (length ar)) (decides-eqb (args es) (getD ar k 0)) (decides-exprs es)
+        decides-three (ltb k (length ar)) (eqb (args es) (getD ar k 0)) (holds-exprs es) (decides-ltb k (length ar)) (decides-eqb (args es) (getD ar k 0))
+        (decides-exprs es)
     decides-expr (path v vs) = decides-path v vs
     decides-expr (int-lit w) = decides-ltb w nat-end
     decides-expr (nat-lit w) = decides-ltb w nat-end
@@ -144,7 +150,8 @@ module _ (ar : List ℕ) where
         decides-three (a-type (length ar) t) (ltb x max-locals) (holds-expr e) (decides-type (length ar) t) (decides-ltb x max-locals) (decides-expr e)
     decides-stmt (update v vs e) = decides-both (a-path v vs) (holds-expr e) (decides-path v vs) (decides-expr e)
     decides-stmt (create k es) =
-        decides-three (ltb k (length ar)) (eqb (args es) (getD ar k 0)) (holds-exprs es) (decides-ltb k (length ar)) (decides-eqb (args es) (getD ar k 0)) (decides-exprs es)
+        decides-three (ltb k (length ar)) (eqb (args es) (getD ar k 0)) (holds-exprs es) (decides-ltb k (length ar)) (decides-eqb (args es) (getD ar k 0))
+        (decides-exprs es)
 
     decides-stmts : (b : Stmts) → Decides (holds-stmts b) (HoldsStmts ar b)
     decides-stmts end = decides-true tt
@@ -177,7 +184,8 @@ module _ (ar : List ℕ) where
     decides-item (call n) = decides-ltb n step-names
     decides-item (call-in k n) = decides-both (ltb k (length ar)) (ltb n step-names) (decides-ltb k (length ar)) (decides-ltb n step-names)
     decides-item (fix is) =
-        decides-three (leb 1 (items is)) (leb (items is) max-items) (holds-items is) (decides-leb 1 (items is)) (decides-leb (items is) max-items) (decides-items is)
+        decides-three (leb 1 (items is)) (leb (items is) max-items) (holds-items is) (decides-leb 1 (items is)) (decides-leb (items is) max-items)
+        (decides-items is)
 
     decides-items : (is : Items) → Decides (holds-items is) (CountsItems ar is)
     decides-items stop = decides-true tt
@@ -190,7 +198,8 @@ module _ (ar : List ℕ) where
   decides-schedule : (is : Items) → Decides (holds-schedule is) (HoldsSchedule ar is)
   unfolding holds-schedule HoldsSchedule
   decides-schedule is =
-      decides-three (leb 1 (items is)) (leb (items is) max-items) (holds-items is) (decides-leb 1 (items is)) (decides-leb (items is) max-items) (decides-items is)
+      decides-three (leb 1 (items is)) (leb (items is) max-items) (holds-items is) (decides-leb 1 (items is)) (decides-leb (items is) max-items)
+      (decides-items is)
 
 -- Programs -------------------------------------------------------------------------------------
 

@@ -10,4 +10,5 @@ pub mod Finding
 pub mod Meant
 pub mod MeantComplete
 pub mod MeantLaws
+pub mod Unfold
 pub mod Rows

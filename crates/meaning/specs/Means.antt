@@ -9,12 +9,19 @@ use lib.ListN.{length}
 use Rattle.types.specs.Limits.{nat-end}
 use Rattle.types.specs.Types.{Ty, Ty.int, Ty.nat, Ty.bool, Ty.ref}
 use Rattle.types.specs.Values.{IntRange, int-word}
-use Rattle.program.specs.Tree.{Var as Variable, Var.par as parameter, Var.loc as local, Expr, Expr.inv, Expr.make, Expr.path as path-of, Expr.int-lit, Expr.nat-lit, Expr.bool-lit, Expr.null as null-of, Expr.self, Expr.op, Exprs, Exprs.none, Exprs.more, args}
-use Rattle.program.specs.Tree.{Stmt, Stmt.when, Stmt.declare, Stmt.update as update-of, Stmt.create, Stmts, Stmts.end, Stmts.next, Item as Call, Item.call, Item.call-in, Item.fix, Items, Items.stop, Items.item, Step as Named, Program}
-use Rattle.syntax.specs.Syntax.{Id, TypeName, TypeName.int-type, TypeName.nat-type, TypeName.bool-type, TypeName.id-type, Literal, Literal.int-literal, Literal.nat-literal, Literal.bool-literal, Var, Var.id as one-id, Var.dot}
-use Rattle.syntax.specs.Syntax.{Exp, Exp.binary, Exp.brackets, Exp.negation, Exp.constructor, Exp.variable, Exp.literal, Exp.null, Exp.this, Exps, Exps.no-exps, Exps.exps, Stat, Stat.if-then, Stat.assignment, Stat.update, Stat.construct, Stats, Stats.no-stats, Stats.stats}
-use Rattle.syntax.specs.Syntax.{Par, Step, Step.step, Struct, Item, Item.execution, Item.typed-execution, Item.fixpoint, Sched, Sched.last-item, Sched.barrier, Program as Derivation, Program.program}
-use Rattle.meaning.specs.Scope.{Found, Absent, Distinct, Each, par-id, par-type, struct-id, pars-of, steps-of, structs-of, Local, Local.declared, local-id, local-number, local-type}
+use Rattle.program.specs.Tree.{Var as Variable, Var.par as parameter, Var.loc as local, Expr, Expr.inv, Expr.make, Expr.path as path-of, Expr.int-lit}
+use Rattle.program.specs.Tree.{Expr.nat-lit, Expr.bool-lit, Expr.null as null-of, Expr.self, Expr.op, Exprs, Exprs.none, Exprs.more, args}
+use Rattle.program.specs.Tree.{Stmt, Stmt.when, Stmt.declare, Stmt.update as update-of, Stmt.create, Stmts, Stmts.end, Stmts.next, Item as Call}
+use Rattle.program.specs.Tree.{Item.call, Item.call-in, Item.fix, Items, Items.stop, Items.item, Step as Named, Program}
+use Rattle.syntax.specs.Syntax.{Id, TypeName, TypeName.int-type, TypeName.nat-type, TypeName.bool-type, TypeName.id-type, Literal}
+use Rattle.syntax.specs.Syntax.{Literal.int-literal, Literal.nat-literal, Literal.bool-literal, Var, Var.id as one-id, Var.dot}
+use Rattle.syntax.specs.Syntax.{Exp, Exp.binary, Exp.brackets, Exp.negation, Exp.constructor, Exp.variable, Exp.literal, Exp.null, Exp.this, Exps}
+use Rattle.syntax.specs.Syntax.{Exps.no-exps, Exps.exps, Stat, Stat.if-then, Stat.assignment, Stat.update, Stat.construct, Stats, Stats.no-stats}
+use Rattle.syntax.specs.Syntax.{Stats.stats}
+use Rattle.syntax.specs.Syntax.{Par, Step, Step.step, Struct, Item, Item.execution, Item.typed-execution, Item.fixpoint, Sched, Sched.last-item}
+use Rattle.syntax.specs.Syntax.{Sched.barrier, Program as Derivation, Program.program}
+use Rattle.meaning.specs.Scope.{Found, Absent, Distinct, Each, par-id, par-type, struct-id, pars-of, steps-of, structs-of, Local}
+use Rattle.meaning.specs.Scope.{Local.declared, local-id, local-number, local-type}
 use Rattle.meaning.specs.StepNames.{step-names}
 use Rattle.meaning.specs.Values.{decimal, signed}
 
@@ -86,7 +93,8 @@ module _ (ds : List Struct) where
 
     pub data StatsMean (own : List Par) : List Local → List Id → Stats → Stmts → List Local → List Id → Type 0 where
       no-stats-mean : {alive : List Local} {met : List Id} → StatsMean own alive met no-stats end alive met
-      stats-mean : {alive after last : List Local} {met met' met'' : List Id} {t : Stat} {u : Stmt} {b : Stats} {c : Stmts} → StatMeans own alive met t u after met'
+      stats-mean : {alive after last : List Local} {met met' met'' : List Id} {t : Stat} {u : Stmt} {b : Stats} {c : Stmts}
+          → StatMeans own alive met t u after met'
           → StatsMean own after met' b c last met'' → StatsMean own alive met (stats t b) (next u c) last met''
 
   -- a parameter by its type; a step by the number of its name

@@ -8,11 +8,17 @@ use lib.Dec.{eqb, ltb}
 use Rattle.types.specs.Limits.{nat-end}
 use Rattle.types.specs.Types.{Ty, Ty.int, Ty.nat, Ty.bool, Ty.ref}
 use Rattle.types.specs.Values.{in-int, int-word}
-use Rattle.program.specs.Tree.{Var as Variable, Var.par as parameter, Var.loc as local, Expr, Expr.inv, Expr.make, Expr.path as path-of, Expr.int-lit, Expr.nat-lit, Expr.bool-lit, Expr.null as null-of, Expr.self, Expr.op, Exprs, Exprs.none as no-args, Exprs.more, args}
-use Rattle.program.specs.Tree.{Stmt, Stmt.when, Stmt.declare, Stmt.update as update-of, Stmt.create, Stmts, Stmts.end, Stmts.next, Item as Call, Item.call, Item.call-in, Item.fix, Items, Items.stop, Items.item, Step as Named, Program}
-use Rattle.syntax.specs.Syntax.{Id, TypeName, TypeName.int-type, TypeName.nat-type, TypeName.bool-type, TypeName.id-type, Literal, Literal.int-literal, Literal.nat-literal, Literal.bool-literal, Var, Var.id as one-id, Var.dot}
-use Rattle.syntax.specs.Syntax.{Exp, Exp.binary, Exp.brackets, Exp.negation, Exp.constructor, Exp.variable, Exp.literal, Exp.null, Exp.this, Exps, Exps.no-exps, Exps.exps, Stat, Stat.if-then, Stat.assignment, Stat.update, Stat.construct, Stats, Stats.no-stats, Stats.stats}
-use Rattle.syntax.specs.Syntax.{Par, Step, Step.step, Struct, Item, Item.execution, Item.typed-execution, Item.fixpoint, Sched, Sched.last-item, Sched.barrier, Program as Derivation, Program.program}
+use Rattle.program.specs.Tree.{Var as Variable, Var.par as parameter, Var.loc as local, Expr, Expr.inv, Expr.make, Expr.path as path-of, Expr.int-lit}
+use Rattle.program.specs.Tree.{Expr.nat-lit, Expr.bool-lit, Expr.null as null-of, Expr.self, Expr.op, Exprs, Exprs.none as no-args, Exprs.more, args}
+use Rattle.program.specs.Tree.{Stmt, Stmt.when, Stmt.declare, Stmt.update as update-of, Stmt.create, Stmts, Stmts.end, Stmts.next, Item as Call}
+use Rattle.program.specs.Tree.{Item.call, Item.call-in, Item.fix, Items, Items.stop, Items.item, Step as Named, Program}
+use Rattle.syntax.specs.Syntax.{Id, TypeName, TypeName.int-type, TypeName.nat-type, TypeName.bool-type, TypeName.id-type, Literal}
+use Rattle.syntax.specs.Syntax.{Literal.int-literal, Literal.nat-literal, Literal.bool-literal, Var, Var.id as one-id, Var.dot}
+use Rattle.syntax.specs.Syntax.{Exp, Exp.binary, Exp.brackets, Exp.negation, Exp.constructor, Exp.variable, Exp.literal, Exp.null, Exp.this, Exps}
+use Rattle.syntax.specs.Syntax.{Exps.no-exps, Exps.exps, Stat, Stat.if-then, Stat.assignment, Stat.update, Stat.construct, Stats, Stats.no-stats}
+use Rattle.syntax.specs.Syntax.{Stats.stats}
+use Rattle.syntax.specs.Syntax.{Par, Step, Step.step, Struct, Item, Item.execution, Item.typed-execution, Item.fixpoint, Sched, Sched.last-item}
+use Rattle.syntax.specs.Syntax.{Sched.barrier, Program as Derivation, Program.program}
 use Rattle.meaning.specs.Scope.{par-id, par-type, struct-id, pars-of, steps-of, structs-of, Local, Local.declared, local-id, local-number, local-type}
 use Rattle.meaning.specs.StepNames.{step-names}
 use Rattle.meaning.specs.Values.{decimal, signed}
@@ -118,7 +124,8 @@ module _ (ds : List Struct) where
           then (type-meaning t) (λ u. provided (absent x met) (provided (absent x (map par-id own)) (then (exp-meaning own alive e) (λ c.
           some (record { tree = declare u (length met) c; alive = declared x (length met) t ∷ alive; met = x ∷ met })))))
       stat-meaning (update v e) alive met =
-          then (path-meaning own alive v) (λ p. then (exp-meaning own alive e) (λ c. some (record { tree = update-of (p .first) (p .rest) c; alive = alive; met = met })))
+          then (path-meaning own alive v)
+          (λ p. then (exp-meaning own alive e) (λ c. some (record { tree = update-of (p .first) (p .rest) c; alive = alive; met = met })))
       stat-meaning (construct x es) alive met =
           then (find struct-id x ds) (λ p. then (exps-meaning own alive es) (λ cs.
           provided (eqb (args cs) (length (pars-of (p .element)))) (some (record { tree = create (p .at) cs; alive = alive; met = met }))))
@@ -126,7 +133,8 @@ module _ (ds : List Struct) where
       pub stats-meaning : Stats → List Local → List Id → Option (Behind Stmts)
       stats-meaning no-stats alive met = some (record { tree = end; alive = alive; met = met })
       stats-meaning (stats t b) alive met =
-          then (stat-meaning t alive met) (λ r. then (stats-meaning b (r .alive) (r .met)) (λ q. some (record { tree = next (r .tree) (q .tree); alive = q .alive; met = q .met })))
+          then (stat-meaning t alive met)
+          (λ r. then (stats-meaning b (r .alive) (r .met)) (λ q. some (record { tree = next (r .tree) (q .tree); alive = q .alive; met = q .met })))
 
   unfoldable pub pars-meaning : Struct → Option (List Ty)
   unfolding provided each type-meaning

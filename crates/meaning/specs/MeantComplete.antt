@@ -20,10 +20,21 @@ use borrow.Author.Tests.{eq-eqb, lt-ltb}
 use lib.IntN.{ℤ, pos, negsuc}
 use Rattle.types.specs.Values.{IntRange}
 use Rattle.meaning.specs.Scope.{Each, Each.no-more, Each.and-then}
-use Rattle.meaning.specs.Means.{LiteralMeans, LiteralMeans.int-means, LiteralMeans.nat-means, LiteralMeans.true-means, LiteralMeans.false-means, TypeMeans, TypeMeans.int-is, TypeMeans.nat-is, TypeMeans.bool-is, TypeMeans.struct-is, Refers, Refers.refers, Further, Further.last, Further.goes-on, Starts, Starts.a-parameter, Starts.a-local, PathMeans, PathMeans.alone, PathMeans.behind}
-use Rattle.meaning.specs.Means.{ExpMeans, ExpMeans.binary-means, ExpMeans.brackets-mean, ExpMeans.negation-means, ExpMeans.constructor-means, ExpMeans.variable-means, ExpMeans.literal-means, ExpMeans.null-means, ExpMeans.this-means, ExpsMean, ExpsMean.no-exps-mean, ExpsMean.exps-mean}
-use Rattle.meaning.specs.Means.{StatMeans, StatMeans.if-means, StatMeans.assignment-means, StatMeans.update-means, StatMeans.construct-means, StatsMean, StatsMean.no-stats-mean, StatsMean.stats-mean, ParMeans, ParMeans.par-means, ParsMean, ParsMean.pars-mean, StepMeans, StepMeans.step-means, StepsMean, StepsMean.steps-mean, ItemMeans, ItemMeans.execution-means, ItemMeans.typed-means, ItemMeans.fix-means, SchedMeans, SchedMeans.last-means, SchedMeans.barrier-means, Means, Means.means}
-use Rattle.meaning.specs.Meant.{then, provided, each, literal-meaning, type-meaning, referred, further, started, start, path-meaning, exp-meaning, exps-meaning, stat-meaning, stats-meaning, pars-meaning, step-meaning, steps-meaning, item-meaning, sched-meaning, text-meaning, meant}
+use Rattle.meaning.specs.Means.{LiteralMeans, LiteralMeans.int-means, LiteralMeans.nat-means, LiteralMeans.true-means, LiteralMeans.false-means}
+use Rattle.meaning.specs.Means.{TypeMeans, TypeMeans.int-is, TypeMeans.nat-is, TypeMeans.bool-is, TypeMeans.struct-is, Refers, Refers.refers}
+use Rattle.meaning.specs.Means.{Further, Further.last, Further.goes-on, Starts, Starts.a-parameter, Starts.a-local, PathMeans, PathMeans.alone}
+use Rattle.meaning.specs.Means.{PathMeans.behind}
+use Rattle.meaning.specs.Means.{ExpMeans, ExpMeans.binary-means, ExpMeans.brackets-mean, ExpMeans.negation-means, ExpMeans.constructor-means}
+use Rattle.meaning.specs.Means.{ExpMeans.variable-means, ExpMeans.literal-means, ExpMeans.null-means, ExpMeans.this-means, ExpsMean}
+use Rattle.meaning.specs.Means.{ExpsMean.no-exps-mean, ExpsMean.exps-mean}
+use Rattle.meaning.specs.Means.{StatMeans, StatMeans.if-means, StatMeans.assignment-means, StatMeans.update-means, StatMeans.construct-means}
+use Rattle.meaning.specs.Means.{StatsMean, StatsMean.no-stats-mean, StatsMean.stats-mean, ParMeans, ParMeans.par-means, ParsMean}
+use Rattle.meaning.specs.Means.{ParsMean.pars-mean, StepMeans, StepMeans.step-means, StepsMean, StepsMean.steps-mean, ItemMeans}
+use Rattle.meaning.specs.Means.{ItemMeans.execution-means, ItemMeans.typed-means, ItemMeans.fix-means, SchedMeans, SchedMeans.last-means}
+use Rattle.meaning.specs.Means.{SchedMeans.barrier-means, Means, Means.means}
+use Rattle.meaning.specs.Meant.{then, provided, each, literal-meaning, type-meaning, referred, further, started, start, path-meaning}
+use Rattle.meaning.specs.Meant.{exp-meaning, exps-meaning, stat-meaning, stats-meaning, pars-meaning, step-meaning, steps-meaning, item-meaning}
+use Rattle.meaning.specs.Meant.{sched-meaning, text-meaning, meant}
 use Rattle.meaning.specs.Finding.{is-not, decides-absent, decides-distinct, find-complete, found-there}
 
 range-test : (z : ℤ) → IntRange z → in-int z ≡ true
@@ -38,7 +49,8 @@ literal-complete (nat-means {ds = ds} h) = rw (lt-ltb (decimal ds) nat-end h) re
 literal-complete true-means = refl
 literal-complete false-means = refl
 
-each-complete : {A B : Type 0} {R : A → B → Type 0} {f : A → Option B} → ((a : A) (b : B) → R a b → f a ≡ some b) → {l : List A} {m : List B} → Each R l m → each f l ≡ some m
+each-complete : {A B : Type 0} {R : A → B → Type 0} {f : A → Option B} → ((a : A) (b : B) → R a b → f a ≡ some b) → {l : List A} {m : List B} → Each R l m
+    → each f l ≡ some m
 unfolding each then
 each-complete h no-more = refl
 each-complete h (and-then {a = a} {b = b} r e) = rw (h a b r) (rw (each-complete h e) refl)
@@ -66,7 +78,8 @@ module _ (ds : List Struct) where
     start-complete {x = x} (a-parameter f) = rw (is-not (decides-absent x (map par-id own)) (found-there par-id x f)) (rw (find-complete par-id _ f) refl)
     start-complete {x = x} (a-local a f) = rw (is-true (decides-absent x (map par-id own)) a) (rw (find-complete local-id _ f) refl)
 
-    path-complete : {v : Var} {u : Variable} {vs : List ℕ} → PathMeans ds own alive v u vs → path-meaning ds own alive v ≡ some (record { first = u; rest = vs })
+    path-complete : {v : Var} {u : Variable} {vs : List ℕ} → PathMeans ds own alive v u vs
+        → path-meaning ds own alive v ≡ some (record { first = u; rest = vs })
     unfolding path-meaning then
     path-complete (alone s) = rw (start-complete s) refl
     path-complete (behind s r g) = rw (start-complete s) (rw (refers-complete r) (rw (further-complete g) refl))
@@ -138,4 +151,5 @@ unfolding meant text-meaning then provided
 means-meant (means {d = d} n us ts is) =
     rw (is-true (decides-distinct (map struct-id (structs-of d))) n)
     (rw (each-complete (pars-complete (structs-of d)) us)
-    (rw (each-complete (steps-complete (structs-of d) (step-names (structs-of d))) ts) (rw (sched-complete (structs-of d) (step-names (structs-of d)) is) refl)))
+    (rw (each-complete (steps-complete (structs-of d) (step-names (structs-of d))) ts)
+    (rw (sched-complete (structs-of d) (step-names (structs-of d)) is) refl)))

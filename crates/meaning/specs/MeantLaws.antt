@@ -10,9 +10,13 @@ use Rattle.types.specs.Types.{Ty}
 use Rattle.types.specs.Values.{in-int, int-word}
 use Rattle.program.specs.Tree.{Expr, Expr.make, Expr.int-lit, Expr.nat-lit, Expr.bool-lit, Expr.self, Exprs, Exprs.none as no-args, args}
 use Rattle.program.specs.Tree.{Stmt, Stmt.create, Stmts, Stmts.end, Item as Call, Items, Step as Named, Program}
-use Rattle.syntax.specs.Syntax.{Id, TypeName, TypeName.int-type, TypeName.nat-type, TypeName.bool-type, TypeName.id-type, Literal, Literal.int-literal, Literal.nat-literal, Literal.bool-literal, Var, Var.id as one-id, Var.dot}
-use Rattle.syntax.specs.Syntax.{Exp, Exp.binary, Exp.brackets, Exp.negation, Exp.constructor, Exp.variable, Exp.literal, Exp.null, Exp.this, Exps, Exps.no-exps, Exps.exps, Stat, Stat.if-then, Stat.assignment, Stat.update, Stat.construct, Stats, Stats.no-stats, Stats.stats}
-use Rattle.syntax.specs.Syntax.{Par, Step, Step.step, Struct, Item, Item.execution, Item.typed-execution, Item.fixpoint, Sched, Sched.last-item, Sched.barrier, Program as Derivation, Program.program}
+use Rattle.syntax.specs.Syntax.{Id, TypeName, TypeName.int-type, TypeName.nat-type, TypeName.bool-type, TypeName.id-type, Literal}
+use Rattle.syntax.specs.Syntax.{Literal.int-literal, Literal.nat-literal, Literal.bool-literal, Var, Var.id as one-id, Var.dot}
+use Rattle.syntax.specs.Syntax.{Exp, Exp.binary, Exp.brackets, Exp.negation, Exp.constructor, Exp.variable, Exp.literal, Exp.null, Exp.this, Exps}
+use Rattle.syntax.specs.Syntax.{Exps.no-exps, Exps.exps, Stat, Stat.if-then, Stat.assignment, Stat.update, Stat.construct, Stats, Stats.no-stats}
+use Rattle.syntax.specs.Syntax.{Stats.stats}
+use Rattle.syntax.specs.Syntax.{Par, Step, Step.step, Struct, Item, Item.execution, Item.typed-execution, Item.fixpoint, Sched, Sched.last-item}
+use Rattle.syntax.specs.Syntax.{Sched.barrier, Program as Derivation, Program.program}
 use Rattle.meaning.specs.Scope.{par-id, par-type, struct-id, pars-of, steps-of, structs-of, Local, local-id}
 use Rattle.meaning.specs.StepNames.{step-names}
 use Rattle.meaning.specs.Values.{decimal, signed}
@@ -24,10 +28,21 @@ use lib.IntN.{ℤ, pos, negsuc}
 use Rattle.types.specs.Values.{IntRange}
 use mathlib.Core.Logic.{_↔_}
 use Rattle.meaning.specs.Scope.{Each, Each.no-more, Each.and-then}
-use Rattle.meaning.specs.Means.{LiteralMeans, LiteralMeans.int-means, LiteralMeans.nat-means, LiteralMeans.true-means, LiteralMeans.false-means, TypeMeans, TypeMeans.int-is, TypeMeans.nat-is, TypeMeans.bool-is, TypeMeans.struct-is, Refers, Refers.refers, Further, Further.last, Further.goes-on, Starts, Starts.a-parameter, Starts.a-local, PathMeans, PathMeans.alone, PathMeans.behind}
-use Rattle.meaning.specs.Means.{ExpMeans, ExpMeans.binary-means, ExpMeans.brackets-mean, ExpMeans.negation-means, ExpMeans.constructor-means, ExpMeans.variable-means, ExpMeans.literal-means, ExpMeans.null-means, ExpMeans.this-means, ExpsMean, ExpsMean.no-exps-mean, ExpsMean.exps-mean}
-use Rattle.meaning.specs.Means.{StatMeans, StatMeans.if-means, StatMeans.assignment-means, StatMeans.update-means, StatMeans.construct-means, StatsMean, StatsMean.no-stats-mean, StatsMean.stats-mean, ParMeans.par-means, ParsMean, ParsMean.pars-mean, StepMeans, StepMeans.step-means, StepsMean, StepsMean.steps-mean, ItemMeans, ItemMeans.execution-means, ItemMeans.typed-means, ItemMeans.fix-means, SchedMeans, SchedMeans.last-means, SchedMeans.barrier-means, Means, Means.means}
-use Rattle.meaning.specs.Meant.{then, provided, each, literal-meaning, Start, Path-of, Behind, type-meaning, referred, further, started, start, path-meaning, exp-meaning, exps-meaning, stat-meaning, stats-meaning, pars-meaning, step-meaning, steps-meaning, item-meaning, sched-meaning, text-meaning, meant}
+use Rattle.meaning.specs.Means.{LiteralMeans, LiteralMeans.int-means, LiteralMeans.nat-means, LiteralMeans.true-means, LiteralMeans.false-means}
+use Rattle.meaning.specs.Means.{TypeMeans, TypeMeans.int-is, TypeMeans.nat-is, TypeMeans.bool-is, TypeMeans.struct-is, Refers, Refers.refers}
+use Rattle.meaning.specs.Means.{Further, Further.last, Further.goes-on, Starts, Starts.a-parameter, Starts.a-local, PathMeans, PathMeans.alone}
+use Rattle.meaning.specs.Means.{PathMeans.behind}
+use Rattle.meaning.specs.Means.{ExpMeans, ExpMeans.binary-means, ExpMeans.brackets-mean, ExpMeans.negation-means, ExpMeans.constructor-means}
+use Rattle.meaning.specs.Means.{ExpMeans.variable-means, ExpMeans.literal-means, ExpMeans.null-means, ExpMeans.this-means, ExpsMean}
+use Rattle.meaning.specs.Means.{ExpsMean.no-exps-mean, ExpsMean.exps-mean}
+use Rattle.meaning.specs.Means.{StatMeans, StatMeans.if-means, StatMeans.assignment-means, StatMeans.update-means, StatMeans.construct-means}
+use Rattle.meaning.specs.Means.{StatsMean, StatsMean.no-stats-mean, StatsMean.stats-mean, ParMeans.par-means, ParsMean, ParsMean.pars-mean}
+use Rattle.meaning.specs.Means.{StepMeans, StepMeans.step-means, StepsMean, StepsMean.steps-mean, ItemMeans, ItemMeans.execution-means}
+use Rattle.meaning.specs.Means.{ItemMeans.typed-means, ItemMeans.fix-means, SchedMeans, SchedMeans.last-means, SchedMeans.barrier-means, Means}
+use Rattle.meaning.specs.Means.{Means.means}
+use Rattle.meaning.specs.Meant.{then, provided, each, literal-meaning, Start, Path-of, Behind, type-meaning, referred, further, started, start}
+use Rattle.meaning.specs.Meant.{path-meaning, exp-meaning, exps-meaning, stat-meaning, stats-meaning, pars-meaning, step-meaning, steps-meaning}
+use Rattle.meaning.specs.Meant.{item-meaning, sched-meaning, text-meaning, meant}
 use Rattle.meaning.specs.Finding.{decides-absent, decides-distinct, find-sound}
 use Rattle.meaning.specs.MeantComplete.{means-meant}
 
@@ -64,7 +79,8 @@ literal-sound (nat-literal ds) c e =
 literal-sound (bool-literal true) c e = rw (← same-answer {a = bool-lit 1} e) true-means
 literal-sound (bool-literal false) c e = rw (← same-answer {a = bool-lit 0} e) false-means
 
-each-sound : {A B : Type 0} {R : A → B → Type 0} (f : A → Option B) → ((a : A) (b : B) → f a ≡ some b → R a b) → (l : List A) (m : List B) → each f l ≡ some m → Each R l m
+each-sound : {A B : Type 0} {R : A → B → Type 0} (f : A → Option B) → ((a : A) (b : B) → f a ≡ some b → R a b) → (l : List A) (m : List B)
+    → each f l ≡ some m → Each R l m
 unfolding each
 each-sound f h [] m e = rw (← same-answer e) no-more
 each-sound f h (a ∷ l) m e =
@@ -206,7 +222,9 @@ module _ (ds : List Struct) where
       unfolding item-meaning sched-meaning
 
       item-sound : (i : Item) (c : Call) → item-meaning ds names i ≡ some c → ItemMeans ds names i c
-      item-sound (execution x) c e = let (n, p, q) = then-parts (find (λ z. z) x names) _ e in rw (← same-answer q) (execution-means (find-sound (λ z. z) x names n p))
+      item-sound (execution x) c e =
+          let (n, p, q) = then-parts (find (λ z. z) x names) _ e in
+          rw (← same-answer q) (execution-means (find-sound (λ z. z) x names n p))
       item-sound (typed-execution x y) c e =
           let (k, p, q) = then-parts (find struct-id x ds) _ e in
           let (n, r, s) = then-parts (find (λ z. z) y names) _ q in

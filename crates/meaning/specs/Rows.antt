@@ -4,19 +4,19 @@ use mathlib.Core.Path.{_≡_, refl}
 use mathlib.Core.Bool.{true}
 use mathlib.Core.List.{List, [], _∷_}
 use mathlib.Core.Option.{Option, none, some}
-use Rattle.types.specs.Types.{code}
-use Rattle.types.specs.Values.{in-int, int-word}
-use Rattle.program.specs.Tree.{Op.op-add, Program as Tree, size, items, args}
-use Rattle.program.specs.Encoding.{enc-word, flat, op-code, var-code, enc-path, enc-expr, enc-exprs, enc-stmt, enc-stmts, enc-item, enc-items, enc-step, enc-program}
+use Rattle.program.specs.Tree.{Op.op-add, Program as Tree}
+use Rattle.program.specs.Encoding.{enc-program}
 use Rattle.tokens.specs.Tokens.{Polarity.plus, Polarity.minus}
-use Rattle.tokens.specs.Scanning.{same}
-use Rattle.syntax.specs.Syntax.{TypeName.int-type, TypeName.nat-type, TypeName.id-type, Literal.int-literal, Literal.nat-literal, Literal.bool-literal, Var.id as one-id, Var.dot, Exp.binary, Exp.brackets, Exp.constructor, Exp.variable, Exp.literal, Exp.null, Exp.this, Exps.no-exps, Exps.exps, Stat.if-then, Stat.assignment, Stat.update, Stat.construct, Stats.no-stats, Stats.stats, Par.par, Step.step, Struct.struct, Defs.last-struct, Defs.defs, Item.execution, Item.typed-execution, Item.fixpoint, Sched.last-item, Sched.barrier, Program, Program.program}
+use Rattle.syntax.specs.Syntax.{TypeName.int-type, TypeName.nat-type, TypeName.id-type, Literal.int-literal, Literal.nat-literal}
+use Rattle.syntax.specs.Syntax.{Literal.bool-literal, Var.id as one-id, Var.dot, Exp.binary, Exp.brackets, Exp.constructor, Exp.variable, Exp.literal}
+use Rattle.syntax.specs.Syntax.{Exp.null, Exp.this, Exps.no-exps, Exps.exps, Stat.if-then, Stat.assignment, Stat.update, Stat.construct}
+use Rattle.syntax.specs.Syntax.{Stats.no-stats, Stats.stats, Par.par, Step.step, Struct.struct, Defs.last-struct, Defs.defs, Item.execution}
+use Rattle.syntax.specs.Syntax.{Item.typed-execution, Item.fixpoint, Sched.last-item, Sched.barrier, Program, Program.program}
 use Rattle.syntax.specs.Letters.{A, B, C, a, b, c, s, t, u, x, y}
-use Rattle.meaning.specs.Scope.{par-id, par-type, step-id, struct-id, pars-of, steps-of, structs-of, local-id, local-number, local-type}
-use Rattle.meaning.specs.StepNames.{among, once, all-steps, step-names}
-use Rattle.meaning.specs.Values.{decimal-from, decimal, signed}
-use Rattle.meaning.specs.Finding.{find, one-later, absent, distinct}
-use Rattle.meaning.specs.Meant.{then, provided, each, literal-meaning, type-meaning, referred, further, started, start, path-meaning, exp-meaning, exps-meaning, stat-meaning, stats-meaning, pars-meaning, step-meaning, steps-meaning, item-meaning, sched-meaning, text-meaning, meant}
+use Rattle.meaning.specs.Meant.{then}
+use Rattle.meaning.specs.Meant.{meant}
+use Rattle.program.specs.Unfold.{encodings}
+use Rattle.meaning.specs.Unfold.{meanings}
 
 unfoldable pub stream : Option Tree → Option (List ℕ)
 stream none = none
@@ -116,7 +116,7 @@ rows =
     ∷ []
 
 pub rows-hold : Rows rows
-unfolding rows then provided each literal-meaning type-meaning referred further started start path-meaning exp-meaning exps-meaning stat-meaning stats-meaning pars-meaning step-meaning steps-meaning item-meaning sched-meaning text-meaning meant find one-later absent distinct same par-id par-type step-id struct-id pars-of steps-of structs-of local-id local-number local-type among once all-steps step-names decimal-from decimal signed in-int int-word stream enc-word flat op-code var-code enc-path enc-expr enc-exprs enc-stmt enc-stmts enc-item enc-items enc-step enc-program code size items args
+unfolding rows meanings stream encodings
 rows-hold =
     (and-then refl (and-then refl (and-then refl (and-then refl (and-then refl (and-then refl (and-then refl (and-then refl
     (and-then refl (and-then refl (and-then refl (and-then refl (and-then refl (and-then refl (and-then refl (and-then refl

@@ -11,7 +11,8 @@ use Rattle.types.specs.Values.{Val, word}
 use Rattle.program.specs.Tree.{Program}
 use Rattle.program.specs.Encoding.{op-code}
 use Rattle.commands.specs.Bounds.{program-depth}
-use Rattle.commands.specs.Noted.{Note, Note.n-push, Note.n-this, Note.n-not, Note.n-rd, Note.n-wr, Note.n-get, Note.n-set, Note.n-cons, Note.n-op, Note.n-if, now-written}
+use Rattle.commands.specs.Noted.{Note, Note.n-push, Note.n-this, Note.n-not, Note.n-rd, Note.n-wr, Note.n-get, Note.n-set, Note.n-cons, Note.n-op}
+use Rattle.commands.specs.Noted.{Note.n-if, now-written}
 use Rattle.machine.specs.Published.{Sched, lookup, structs}
 use Rattle.machine.specs.Machine.{Instance, Machine, with-written, Out, Out.next, Out.refused, Out.stuck, perform}
 use Rattle.layout.specs.Layout.{head-size, row-size, cell}

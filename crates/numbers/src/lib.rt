@@ -5,7 +5,8 @@ ghost use mathlib.Core.List.{_++_, [], _∷_};
 ghost use Prim.Native.Nat.{_+_, _*_, _≤_, _<_};
 ghost use lib.ListN.{length, getD, take};
 ghost use lib.Seq.{sets};
-ghost use Rattle.numbers.specs.Scan.{char-of, step, in-gap, behind-sign, longer, in-number, coded, turn-of, turn-into, scanned, words, bytes-of, bytes-answer};
+ghost use Rattle.numbers.specs.Scan.{char-of, step, in-gap, behind-sign, longer, in-number, coded, turn-of, turn-into, scanned, words};
+ghost use Rattle.numbers.specs.Scan.{bytes-of, bytes-answer};
 
 // A word from here on has a minus sign; one from there on is the first of its line.
 pub const MINUS: u64 = 4294967296;

@@ -8,7 +8,8 @@ use lib.IntN.{ℤ, pos, negsuc, _+ℤ_, _-ℤ_, _*ℤ_}
 use lib.Signed.{ltZ, leZ}
 use Rattle.types.specs.Limits.{nat-end}
 use Rattle.types.specs.Values.{Val, Val.int-val, Val.nat-val, Val.bool-val, Val.label, in-int}
-use Rattle.program.specs.Tree.{Op, Op.op-eq, Op.op-ne, Op.op-le, Op.op-ge, Op.op-lt, Op.op-gt, Op.op-mul, Op.op-div, Op.op-rem, Op.op-add, Op.op-sub, Op.op-and, Op.op-or}
+use Rattle.program.specs.Tree.{Op, Op.op-eq, Op.op-ne, Op.op-le, Op.op-ge, Op.op-lt, Op.op-gt, Op.op-mul, Op.op-div, Op.op-rem, Op.op-add, Op.op-sub}
+use Rattle.program.specs.Tree.{Op.op-and, Op.op-or}
 use Rattle.operators.specs.Operators.{quotient, remainder}
 
 pub data Answer : Type 0 where

@@ -10,9 +10,17 @@ use lib.IntN.{ℤ, pos, negsuc}
 use borrow.Author.Tests.{lt-ltb}
 use Rattle.types.specs.Limits.{nat-end}
 use Rattle.types.specs.Values.{Val, Val.int-val, Val.nat-val, Val.bool-val, Val.label, IntRange, in-int}
-use Rattle.program.specs.Tree.{Op, Op.op-eq, Op.op-ne, Op.op-le, Op.op-ge, Op.op-lt, Op.op-gt, Op.op-mul, Op.op-div, Op.op-rem, Op.op-add, Op.op-sub, Op.op-and, Op.op-or}
-use Rattle.operators.specs.Operators.{quotient, remainder, Computes, Computes.times, Computes.divided, Computes.modulo, Computes.plus, Computes.minus, Compares, Compares.at-most, Compares.at-least, Compares.below, Compares.above, Alike, Alike.ints, Alike.nats, Alike.bools, Alike.labels, Applies, Applies.int-result, Applies.nat-result, Applies.int-order, Applies.nat-order, Applies.equal, Applies.unequal, Applies.differs, Applies.differs-not, Applies.both, Applies.not-both, Applies.either, Applies.or-second, Divides, Divides.by-div, Divides.by-rem, Exceeds, Exceeds.int-by-zero, Exceeds.nat-by-zero, Exceeds.int-outside, Exceeds.nat-below, Exceeds.nat-above}
-use Rattle.operators.specs.Apply.{Answer, Answer.value, Answer.outside, Answer.unfit, same-int, same-val, int-answer, nat-answer, by-nonzero, Work, Work.number, Work.truth, Work.no-work, compute, answer, on-truths, on-labels, apply}
+use Rattle.program.specs.Tree.{Op, Op.op-eq, Op.op-ne, Op.op-le, Op.op-ge, Op.op-lt, Op.op-gt, Op.op-mul, Op.op-div, Op.op-rem, Op.op-add, Op.op-sub}
+use Rattle.program.specs.Tree.{Op.op-and, Op.op-or}
+use Rattle.operators.specs.Operators.{quotient, remainder, Computes, Computes.times, Computes.divided, Computes.modulo, Computes.plus}
+use Rattle.operators.specs.Operators.{Computes.minus, Compares, Compares.at-most, Compares.at-least, Compares.below, Compares.above, Alike}
+use Rattle.operators.specs.Operators.{Alike.ints, Alike.nats, Alike.bools, Alike.labels, Applies, Applies.int-result, Applies.nat-result}
+use Rattle.operators.specs.Operators.{Applies.int-order, Applies.nat-order, Applies.equal, Applies.unequal, Applies.differs}
+use Rattle.operators.specs.Operators.{Applies.differs-not, Applies.both, Applies.not-both, Applies.either, Applies.or-second, Divides}
+use Rattle.operators.specs.Operators.{Divides.by-div, Divides.by-rem, Exceeds, Exceeds.int-by-zero, Exceeds.nat-by-zero, Exceeds.int-outside}
+use Rattle.operators.specs.Operators.{Exceeds.nat-below, Exceeds.nat-above}
+use Rattle.operators.specs.Apply.{Answer, Answer.value, Answer.outside, Answer.unfit, same-int, same-val, int-answer, nat-answer, by-nonzero}
+use Rattle.operators.specs.Apply.{Work, Work.number, Work.truth, Work.no-work, compute, answer, on-truths, on-labels, apply}
 use Rattle.operators.specs.TestLaws.{same-val-exact, same-val-false, in-int-exact, in-nat-exact, fails}
 
 -- what the function says holds ---------------------------------------------------
@@ -183,7 +191,8 @@ by-zero-said by-div x = refl
 by-zero-said by-rem x = refl
 
 -- On values that are alike = and ≠ answer by the test of equality.
-pub equality-said : {a b : Val} → Alike a b → (t : Bool) → same-val a b ≡ t → (apply op-eq a b ≡ value (bool-val t)) × (apply op-ne a b ≡ value (bool-val (not t)))
+pub equality-said : {a b : Val} → Alike a b → (t : Bool) → same-val a b ≡ t
+    → (apply op-eq a b ≡ value (bool-val t)) × (apply op-ne a b ≡ value (bool-val (not t)))
 unfolding apply answer compute on-truths on-labels same-val same-int
 equality-said ints t e = (rw e, rw e)
 equality-said nats t e = (rw e, rw e)

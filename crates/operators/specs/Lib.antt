@@ -6,6 +6,7 @@ pub mod Ranges
 pub mod TestLaws
 pub mod ApplyLaws
 pub mod RangesLaws
+pub mod Unfold
 pub mod Rows
 pub mod SignedLaws
 pub mod FloorLaws

@@ -8,7 +8,8 @@ use lib.IntN.{ℤ, pos, negsuc}
 use Rattle.types.specs.Limits.{nat-end}
 use Rattle.types.specs.Types.{Ty, Ty.int, Ty.nat}
 use Rattle.types.specs.Values.{Val, Val.int-val, Val.nat-val, IntRange, in-int}
-use Rattle.program.specs.Tree.{Op, Op.op-eq, Op.op-ne, Op.op-le, Op.op-ge, Op.op-lt, Op.op-gt, Op.op-mul, Op.op-div, Op.op-rem, Op.op-add, Op.op-sub, Op.op-and, Op.op-or}
+use Rattle.program.specs.Tree.{Op, Op.op-eq, Op.op-ne, Op.op-le, Op.op-ge, Op.op-lt, Op.op-gt, Op.op-mul, Op.op-div, Op.op-rem, Op.op-add, Op.op-sub}
+use Rattle.program.specs.Tree.{Op.op-and, Op.op-or}
 use Rattle.commands.specs.Typing.{sort, Takes, Takes.any-equal, Takes.order-int, Takes.order-nat, Takes.arith-int, Takes.arith-nat, Takes.logic-bool}
 use Rattle.operators.specs.Operators.{Alike, Alike.ints, Alike.nats, Alike.bools, Alike.labels}
 use Rattle.operators.specs.Apply.{Answer.value, Answer.outside, int-answer, nat-answer, compute, answer, on-truths, apply}

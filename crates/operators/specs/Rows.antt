@@ -5,10 +5,12 @@ use mathlib.Core.Bool.{Bool, true, false}
 use mathlib.Core.List.{List, [], _∷_}
 use lib.Dec.{T}
 use lib.IntN.{pos, negℤ}
-use Rattle.types.specs.Values.{Val, Val.int-val, Val.nat-val, Val.bool-val, Val.label, in-int}
-use Rattle.program.specs.Tree.{Op, Op.op-eq, Op.op-ne, Op.op-le, Op.op-ge, Op.op-lt, Op.op-gt, Op.op-mul, Op.op-div, Op.op-rem, Op.op-add, Op.op-sub, Op.op-and, Op.op-or}
-use Rattle.operators.specs.Operators.{quotient, remainder}
-use Rattle.operators.specs.Apply.{Answer, Answer.value, Answer.outside, Answer.unfit, same-int, same-bool, same-val, int-answer, nat-answer, by-nonzero, compute, answer, on-truths, on-labels, apply}
+use Rattle.types.specs.Values.{Val, Val.int-val, Val.nat-val, Val.bool-val, Val.label}
+use Rattle.program.specs.Tree.{Op, Op.op-eq, Op.op-ne, Op.op-le, Op.op-ge, Op.op-lt, Op.op-gt, Op.op-mul, Op.op-div, Op.op-rem, Op.op-add, Op.op-sub}
+use Rattle.program.specs.Tree.{Op.op-and, Op.op-or}
+use Rattle.operators.specs.Apply.{Answer, Answer.value, Answer.outside, Answer.unfit, same-val}
+use Rattle.operators.specs.Apply.{answer, apply}
+use Rattle.operators.specs.Unfold.{applying}
 
 -- an operator, its operands, and what it must answer
 pub data Row : Type 0 where
@@ -125,5 +127,5 @@ rows =
 
 -- Every row holds, by computation.
 pub rows-hold : T (all rows)
-unfolding all rows holds same-answer apply answer compute by-nonzero int-answer nat-answer on-truths on-labels same-val same-int same-bool quotient remainder in-int
+unfolding all rows holds same-answer applying
 rows-hold = tt

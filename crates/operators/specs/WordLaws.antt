@@ -10,7 +10,8 @@ use lib.IntN.{ℤ}
 use borrow.Author.Tests.{ltb-true, ltb-false, eqb-true, eqb-false, ne-eqb}
 use Rattle.types.specs.Types.{Ty.ref, struct-code, type-of}
 use Rattle.types.specs.Values.{Val.bool-val}
-use Rattle.program.specs.Tree.{Op, Op.op-eq, Op.op-ne, Op.op-le, Op.op-ge, Op.op-lt, Op.op-gt, Op.op-mul, Op.op-div, Op.op-rem, Op.op-add, Op.op-sub, Op.op-and, Op.op-or}
+use Rattle.program.specs.Tree.{Op, Op.op-eq, Op.op-ne, Op.op-le, Op.op-ge, Op.op-lt, Op.op-gt, Op.op-mul, Op.op-div, Op.op-rem, Op.op-add, Op.op-sub}
+use Rattle.program.specs.Tree.{Op.op-and, Op.op-or}
 use Rattle.program.specs.Encoding.{op-code}
 use Rattle.operators.specs.Apply.{Answer, Answer.value, same-bool, compute, answer, on-truths, on-labels}
 use Rattle.operators.specs.Words.{operators, first-op, op-of, answered}

@@ -8,7 +8,8 @@ use lib.Signed.{mag}
 use Rattle.types.specs.Limits.{int-half}
 use Rattle.types.specs.Types.{type-of}
 use Rattle.types.specs.Values.{word, word-int, value-of}
-use Rattle.program.specs.Tree.{Op, Op.op-eq, Op.op-ne, Op.op-le, Op.op-ge, Op.op-lt, Op.op-gt, Op.op-mul, Op.op-div, Op.op-rem, Op.op-add, Op.op-sub, Op.op-and, Op.op-or}
+use Rattle.program.specs.Tree.{Op, Op.op-eq, Op.op-ne, Op.op-le, Op.op-ge, Op.op-lt, Op.op-gt, Op.op-mul, Op.op-div, Op.op-rem, Op.op-add, Op.op-sub}
+use Rattle.program.specs.Tree.{Op.op-and, Op.op-or}
 use Rattle.operators.specs.Apply.{Answer, Answer.value, Answer.outside, Answer.unfit, apply}
 use Rattle.operators.specs.declared.Answered.{Answered}
 use Rattle.operators.specs.declared.Answered.the-variants.{Value, Outside, Unfit}

@@ -3,9 +3,13 @@ use Prim.Native.Nat.{ℕ, suc, max, _<_, _≤_}
 use mathlib.Core.Path.{_≡_}
 use mathlib.Core.List.{List, [], _∷_, map}
 use lib.ListN.{length, getD}
-use Rattle.types.specs.Limits.{max-structs, max-params, max-steps, step-names, max-statements, max-items, nat-end, first-local, max-locals, max-path, fix-levels, if-levels, expr-levels}
+use Rattle.types.specs.Limits.{max-structs, max-params, max-steps, step-names, max-statements, max-items, nat-end, first-local, max-locals, max-path}
+use Rattle.types.specs.Limits.{fix-levels, if-levels, expr-levels}
 use Rattle.types.specs.Types.{IsType}
-use Rattle.program.specs.Tree.{Var, Var.par, Var.loc, Expr, Expr.inv, Expr.make, Expr.path, Expr.int-lit, Expr.nat-lit, Expr.bool-lit, Expr.null, Expr.self, Expr.op, Exprs, Exprs.none, Exprs.more, Stmt, Stmt.when, Stmt.declare, Stmt.update, Stmt.create, Stmts, Stmts.end, Stmts.next, Item, Item.call, Item.call-in, Item.fix, Items, Items.stop, Items.item, Step, Program, args, size, items}
+use Rattle.program.specs.Tree.{Var, Var.par, Var.loc, Expr, Expr.inv, Expr.make, Expr.path, Expr.int-lit, Expr.nat-lit, Expr.bool-lit}
+use Rattle.program.specs.Tree.{Expr.null, Expr.self, Expr.op, Exprs, Exprs.none, Exprs.more, Stmt, Stmt.when, Stmt.declare, Stmt.update}
+use Rattle.program.specs.Tree.{Stmt.create, Stmts, Stmts.end, Stmts.next, Item, Item.call, Item.call-in, Item.fix, Items, Items.stop}
+use Rattle.program.specs.Tree.{Items.item, Step, Program, args, size, items}
 
 -- of every element
 abbrev pub All : {A : Type 0} → (A → Type 0) → List A → Type 0

@@ -4,7 +4,11 @@ use mathlib.Core.List.{List, [], _∷_, _++_, map}
 use lib.ListN.{length}
 use Rattle.types.specs.Limits.{first-local}
 use Rattle.types.specs.Types.{Ty, code}
-use Rattle.program.specs.Tree.{Var, Var.par, Var.loc, Op, Op.op-eq, Op.op-ne, Op.op-le, Op.op-ge, Op.op-lt, Op.op-gt, Op.op-mul, Op.op-div, Op.op-rem, Op.op-add, Op.op-sub, Op.op-and, Op.op-or, Expr, Expr.inv, Expr.make, Expr.path, Expr.int-lit, Expr.nat-lit, Expr.bool-lit, Expr.null, Expr.self, Expr.op, Exprs, Exprs.none, Exprs.more, Stmt, Stmt.when, Stmt.declare, Stmt.update, Stmt.create, Stmts, Stmts.end, Stmts.next, Item, Item.call, Item.call-in, Item.fix, Items, Items.stop, Items.item, Step, Program, size, items}
+use Rattle.program.specs.Tree.{Var, Var.par, Var.loc, Op, Op.op-eq, Op.op-ne, Op.op-le, Op.op-ge, Op.op-lt, Op.op-gt, Op.op-mul, Op.op-div}
+use Rattle.program.specs.Tree.{Op.op-rem, Op.op-add, Op.op-sub, Op.op-and, Op.op-or, Expr, Expr.inv, Expr.make, Expr.path, Expr.int-lit}
+use Rattle.program.specs.Tree.{Expr.nat-lit, Expr.bool-lit, Expr.null, Expr.self, Expr.op, Exprs, Exprs.none, Exprs.more, Stmt, Stmt.when}
+use Rattle.program.specs.Tree.{Stmt.declare, Stmt.update, Stmt.create, Stmts, Stmts.end, Stmts.next, Item, Item.call, Item.call-in, Item.fix}
+use Rattle.program.specs.Tree.{Items, Items.stop, Items.item, Step, Program, size, items}
 
 -- a number of i bytes, the lowest first
 unfoldable pub enc-word : ℕ → ℕ → List ℕ

@@ -2,7 +2,9 @@
 -- stands in no other has its own bytes at level 1, the expressions inside it stand one level deeper, and what is no expression stands at 0.
 use Prim.Native.Nat.{ℕ, suc}
 use mathlib.Core.List.{List, [], _∷_, _++_, map}
-use Rattle.program.specs.Tree.{Expr, Expr.inv, Expr.make, Expr.path, Expr.int-lit, Expr.nat-lit, Expr.bool-lit, Expr.null, Expr.self, Expr.op, Exprs, Exprs.none, Exprs.more, Stmt, Stmt.when, Stmt.declare, Stmt.update, Stmt.create, Stmts, Stmts.end, Stmts.next, Step, Program, items}
+use Rattle.program.specs.Tree.{Expr, Expr.inv, Expr.make, Expr.path, Expr.int-lit, Expr.nat-lit, Expr.bool-lit, Expr.null, Expr.self, Expr.op}
+use Rattle.program.specs.Tree.{Exprs, Exprs.none, Exprs.more, Stmt, Stmt.when, Stmt.declare, Stmt.update, Stmt.create, Stmts, Stmts.end}
+use Rattle.program.specs.Tree.{Stmts.next, Step, Program, items}
 use Rattle.types.specs.Types.{code}
 use Rattle.program.specs.Encoding.{flat, enc-list, enc-path, enc-expr, enc-items}
 

@@ -6,5 +6,6 @@ pub mod Fronts
 pub mod Reader
 pub mod Exact
 pub mod Follows
+pub mod Unfold
 pub mod Rows
 pub mod Laws

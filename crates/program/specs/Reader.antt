@@ -5,11 +5,16 @@ use mathlib.Core.List.{List, [], _∷_, map}
 use mathlib.Core.Bool.{Bool, true, false, _&&_}
 use lib.ListN.{length, getD}
 use lib.Dec.{ltb, leb, eqb}
-use Rattle.types.specs.Limits.{max-structs, max-params, max-steps, step-names, max-statements, max-items, first-local, variables, max-path, fix-levels, if-levels, expr-levels}
+use Rattle.types.specs.Limits.{max-structs, max-params, max-steps, step-names, max-statements, max-items, first-local, variables, max-path}
+use Rattle.types.specs.Limits.{fix-levels, if-levels, expr-levels}
 pub use Rattle.types.specs.Numbers.{wrong-end, wrong-byte}
 use Rattle.types.specs.Types.{Ty, type-of}
 use Rattle.types.specs.TypeBytes.{is-type}
-use Rattle.program.specs.Tree.{Var, Var.par, Var.loc, Op, Op.op-eq, Op.op-ne, Op.op-le, Op.op-ge, Op.op-lt, Op.op-gt, Op.op-mul, Op.op-div, Op.op-rem, Op.op-add, Op.op-sub, Op.op-and, Op.op-or, Expr, Expr.inv, Expr.make, Expr.path, Expr.int-lit, Expr.nat-lit, Expr.bool-lit, Expr.null, Expr.self, Expr.op, Exprs, Exprs.none, Exprs.more, Stmt, Stmt.when, Stmt.declare, Stmt.update, Stmt.create, Stmts, Stmts.end, Stmts.next, Item, Item.call, Item.call-in, Item.fix, Items, Items.stop, Items.item, Step, Program}
+use Rattle.program.specs.Tree.{Var, Var.par, Var.loc, Op, Op.op-eq, Op.op-ne, Op.op-le, Op.op-ge, Op.op-lt, Op.op-gt, Op.op-mul, Op.op-div}
+use Rattle.program.specs.Tree.{Op.op-rem, Op.op-add, Op.op-sub, Op.op-and, Op.op-or, Expr, Expr.inv, Expr.make, Expr.path, Expr.int-lit}
+use Rattle.program.specs.Tree.{Expr.nat-lit, Expr.bool-lit, Expr.null, Expr.self, Expr.op, Exprs, Exprs.none, Exprs.more, Stmt, Stmt.when}
+use Rattle.program.specs.Tree.{Stmt.declare, Stmt.update, Stmt.create, Stmts, Stmts.end, Stmts.next, Item, Item.call, Item.call-in, Item.fix}
+use Rattle.program.specs.Tree.{Items, Items.stop, Items.item, Step, Program}
 
 -- a value with the next place, or a refusal with its place and number
 pub data Result (A : Type 0) : Type 0 where

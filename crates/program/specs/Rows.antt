@@ -5,10 +5,11 @@ use mathlib.Core.List.{List, [], _∷_, _++_}
 use mathlib.Core.Bool.{Bool, true, false, _&&_}
 use lib.ListN.{replicate}
 use lib.Dec.{eqb, T}
-use Rattle.types.specs.Types.{Ty.int, Ty.ref, type-of}
+use Rattle.types.specs.Types.{Ty.int, Ty.ref}
 use Rattle.program.specs.Tree.{Var.par, Op.op-add, Expr.path, Expr.op, Stmt.update, Stmts.end, Stmts.next, Item.call, Items.stop, Items.item, Program}
-use Rattle.types.specs.TypeBytes.{is-type}
-use Rattle.program.specs.Reader.{Result, Result.ok, Result.bad, then, pair, made, many, guard, ended, whole, lookup, form, kind, item-sort, between, var-of, byte, tested, ranged, counted, opened, read-word, read-type, read-var, read-local, read-path, read-params, read-make, rule-expr, read-expr, read-body, read-when, read-declare, read-update, rule-stmt, read-stmt, read-step, read-steps, read-items, rule-item, read-item, read-program, read}
+use Rattle.program.specs.Reader.{Result, Result.ok, Result.bad}
+use Rattle.program.specs.Reader.{read}
+use Rattle.program.specs.Unfold.{programs}
 
 -- a program, or a refusal's place and number
 pub data Answer : Type 0 where
@@ -24,7 +25,7 @@ row s a = record { stream = s; answer = a }
 
 -- a stream, read with every reader open
 unfoldable pub reading : List ℕ → Result Program
-unfolding type-of then pair made many guard ended whole lookup form kind item-sort between is-type var-of byte tested ranged counted opened read-word read-type read-var read-local read-path read-params read-make rule-expr read-expr read-body read-when read-declare read-update rule-stmt read-stmt read-step read-steps read-items rule-item read-item read-program read
+unfolding programs
 reading s = read s
 
 unfoldable pub agrees : Result Program → Answer → Bool

@@ -8,7 +8,8 @@ use lib.ListN.{length, getD}
 use Rattle.types.specs.Limits.{max-params}
 use Rattle.types.specs.Types.{struct-code, code}
 use Rattle.program.specs.Tree.{Op, Expr, Expr.inv, Expr.make, Expr.op, Exprs, Exprs.none, Exprs.more}
-use Rattle.program.specs.Reader.{Result, Result.ok, Result.bad, then, pair, made, many, lookup, Form.form-op, form, byte, opened, ranged, read-word, read-type, read-path, read-make, rule-expr, read-expr}
+use Rattle.program.specs.Reader.{Result, Result.ok, Result.bad, then, pair, made, many, lookup, Form.form-op, form, byte, opened, ranged, read-word}
+use Rattle.program.specs.Reader.{read-type, read-path, read-make, rule-expr, read-expr}
 use Rattle.answers.specs.Answers.{Answer, Answer.value, Answer.refused, answer, after as made-of}
 use Rattle.answers.specs.AnswerLaws.{answer-is, answer-stops, answer-made, row-none, row-stop, row-more}
 use Rattle.judge.specs.declared.Facts.{Facts}
@@ -160,7 +161,8 @@ module _ (ar types s : List ℕ) (own w : ℕ) where
     make-row k m e = rw (byte-is (ranged s 0 (length ar) at) k m e) (go (many none more r (getD ar k 0) m))
       where
         go : (q : Result Exprs)
-            → expr-read (made-of (constructed k) (answer (λ es. behind 0 no-args (A k 0 es)) q)) ≡ told (made-facts ar types own w) (then q λ es i. ok (k, es) i)
+            → expr-read (made-of (constructed k) (answer (λ es. behind 0 no-args (A k 0 es)) q))
+            ≡ told (made-facts ar types own w) (then q λ es i. ok (k, es) i)
         go (ok es i) = ap (λ f. Value i (constructed k f)) (none-behind (A k 0 es) (args-typ ar types own w es k 0))
         go (bad u i) = refl
 
@@ -193,15 +195,18 @@ module _ (ar types s : List ℕ) (own w : ℕ) where
       pub is-make : getD s at 0 ≡ 17 → told E (read-expr ar s d at) ≡ told (made-facts ar types own w) (read-make ar s (read-expr ar s (d - 1)) (at + 1))
       is-make e = rw (expr-in z h) (rule-make (read-expr ar s (d - 1)) at (at + 1) _ e)
 
-      pub is-leaf : (q : ExprRead) → ((r : ℕ → Result Expr) (p : ℕ) → q ≡ told E (rule-expr ar s r p (at + 1) (form (getD s at 0)))) → q ≡ told E (read-expr ar s d at)
+      pub is-leaf : (q : ExprRead) → ((r : ℕ → Result Expr) (p : ℕ) → q ≡ told E (rule-expr ar s r p (at + 1) (form (getD s at 0))))
+          → q ≡ told E (read-expr ar s d at)
       is-leaf q f = rw (expr-in z h) (f (read-expr ar s (d - 1)) at)
 
       pub is-none : 44 < getD s at 0 → told E (read-expr ar s d at) ≡ Refused 5
       is-none l =
-          let n : Apart (getD s at 0) = (λ e. omega arith, λ e. omega arith, λ e. omega arith, λ e. omega arith, λ e. omega arith, λ e. omega arith, λ e. omega arith, λ e. omega arith) in
+          let n : Apart (getD s at 0) =
+          (λ e. omega arith, λ e. omega arith, λ e. omega arith, λ e. omega arith, λ e. omega arith, λ e. omega arith, λ e. omega arith, λ e. omega arith) in
           rw (expr-in z h) (rule-none (read-expr ar s (d - 1)) at (at + 1) _ n (λ k. omega arith))
 
-      pub is-stop : 32 ≤ getD s at 0 → getD s at 0 ≤ 44 → (n : ℕ) → told E (read-expr ar s (d - 1) (at + 1)) ≡ Refused n → told E (read-expr ar s d at) ≡ Refused n
+      pub is-stop : 32 ≤ getD s at 0 → getD s at 0 ≤ 44 → (n : ℕ) → told E (read-expr ar s (d - 1) (at + 1)) ≡ Refused n
+          → told E (read-expr ar s d at) ≡ Refused n
       is-stop l k n e =
           let o = op-form _ l k in
           rw (expr-in z h) (rule-stop (read-expr ar s (d - 1)) at (at + 1) _ (o .0) (o .1) n e)

@@ -33,7 +33,8 @@ module _ (s ar types : List ℕ) where
         go (suc n) z = rw (byte-stops (ranged s 0 8 at) k e .1)
 
     pub row-more : (n ≡ 0 → ⊥) → (x m : ℕ) → byte-told (ranged s 0 8 at) ≡ Byte x m
-        → row-told (lead ar types j) c (many [] _∷_ (ranged s 0 8) n at) ≡ row-told (lead ar types (lead-by ar types j x)) (c + 1) (many [] _∷_ (ranged s 0 8) (n - 1) m)
+        → row-told (lead ar types j) c (many [] _∷_ (ranged s 0 8) n at)
+        ≡ row-told (lead ar types (lead-by ar types j x)) (c + 1) (many [] _∷_ (ranged s 0 8) (n - 1) m)
     unfolding many then lead
     row-more z x m e = go n z
       where
@@ -41,7 +42,9 @@ module _ (s ar types : List ℕ) where
         one (ok xs k) = let h : c + suc (length xs) ≡ c + 1 + length xs = omega arith in rw h
         one (bad p k) = refl
 
-        go : (n : ℕ) → (n ≡ 0 → ⊥) → row-told (lead ar types j) c (many [] _∷_ (ranged s 0 8) n at) ≡ row-told (lead ar types (lead-by ar types j x)) (c + 1) (many [] _∷_ (ranged s 0 8) (n - 1) m)
+        go : (n : ℕ) → (n ≡ 0 → ⊥)
+            → row-told (lead ar types j) c (many [] _∷_ (ranged s 0 8) n at)
+            ≡ row-told (lead ar types (lead-by ar types j x)) (c + 1) (many [] _∷_ (ranged s 0 8) (n - 1) m)
         go zero z = absurd (z refl)
         go (suc n) z = rw (byte-is (ranged s 0 8 at) x m e, sub-one) (one (many [] _∷_ (ranged s 0 8) n m))
 
@@ -52,11 +55,13 @@ module _ (s ar types : List ℕ) where
     vars-stop k e = rw (byte-stops (ranged s 0 16 at) k e .1)
 
     pub vars-more : (b m : ℕ) → byte-told (ranged s 0 16 at) ≡ Byte b m
-        → path-told (path-of ar types own w) (read-vars s n at) ≡ row-told (lead ar types (start-of ar types own w (var-of b))) 1 (many [] _∷_ (ranged s 0 8) (n - 1) m)
+        → path-told (path-of ar types own w) (read-vars s n at)
+        ≡ row-told (lead ar types (start-of ar types own w (var-of b))) 1 (many [] _∷_ (ranged s 0 8) (n - 1) m)
     unfolding read-vars pair read-var made then path-of
     vars-more b m e = rw (byte-is (ranged s 0 16 at) b m e) (one (many [] _∷_ (ranged s 0 8) (n - 1) m))
       where
-        one : (r : Result (List ℕ)) → path-told (path-of ar types own w) (then r λ xs k. ok (var-of b, xs) k) ≡ row-told (lead ar types (start-of ar types own w (var-of b))) 1 r
+        one : (r : Result (List ℕ))
+            → path-told (path-of ar types own w) (then r λ xs k. ok (var-of b, xs) k) ≡ row-told (lead ar types (start-of ar types own w (var-of b))) 1 r
         one (ok xs k) = rw one-add
         one (bad p k) = refl
 
@@ -65,7 +70,8 @@ module _ (s ar types : List ℕ) where
     unfolding read-path counted then
     path-stop k e = rw (byte-stops (ranged s 1 5 at) k e .1)
 
-    pub path-more : (m : ℕ) → byte-told (ranged s 1 5 at) ≡ Byte n m → path-told (path-of ar types own w) (read-path s at) ≡ path-told (path-of ar types own w) (read-vars s n m)
+    pub path-more : (m : ℕ) → byte-told (ranged s 1 5 at) ≡ Byte n m
+        → path-told (path-of ar types own w) (read-path s at) ≡ path-told (path-of ar types own w) (read-vars s n m)
     unfolding read-path counted then read-vars
     path-more m e = rw (byte-is (ranged s 1 5 at) n m e)
 

@@ -101,7 +101,8 @@ pub fn construct(
     depth: usize,
 ) -> ExprRead
     requires { ⌜ (length (now ar) ≤ 16) × (own < 16) ⌝ }
-    ensures { λ r. ⌜ r ≡ told (made-facts (now (ar .entry)) (now (types .entry)) own live) (read-make (now (ar .entry)) (now (s .entry)) (read-expr (now (ar .entry)) (now (s .entry)) depth) at) ⌝ }
+    ensures { λ r. ⌜ r ≡ told (made-facts (now (ar .entry)) (now (types .entry)) own live)
+        (read-make (now (ar .entry)) (now (s .entry)) (read-expr (now (ar .entry)) (now (s .entry)) depth) at) ⌝ }
     ensures { λ r. ⌜ Behind (now (s .entry)) at r ⌝ }
 {
     let r = read::ranged(s, 0, ar.len(), at);

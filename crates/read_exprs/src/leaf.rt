@@ -54,7 +54,8 @@ fn null(s: &[u8], n: usize, at: usize) -> ExprRead
 
 // A path as an expression.
 fn travel(s: &[u8], ar: &[u8], types: &[u8], own: u8, live: u64, at: usize) -> ExprRead
-    ensures { λ r. ⌜ r ≡ told (λ p. travelled (suc (length (p .1))) (path-of (now (ar .entry)) (now (types .entry)) own live (p .0) (p .1))) (read-path (now (s .entry)) at) ⌝ }
+    ensures { λ r. ⌜ r ≡ told (λ p. travelled (suc (length (p .1))) (path-of (now (ar .entry)) (now (types .entry)) own live (p .0) (p .1)))
+        (read-path (now (s .entry)) at) ⌝ }
     ensures { λ r. ⌜ Behind (now (s .entry)) at r ⌝ }
 {
     let r = path::path(s, ar, types, own, live, at);
@@ -68,7 +69,8 @@ fn travel(s: &[u8], ar: &[u8], types: &[u8], own: u8, live: u64, at: usize) -> E
 pub fn leaf(s: &[u8], ar: &[u8], types: &[u8], own: u8, live: u64, b: u8, at: usize) -> ExprRead
     requires { ⌜ (at ≤ length (now s)) × (own < 16) ⌝ }
     requires { ⌜ ((b ≡ 16 → ⊥) × (b ≡ 17 → ⊥)) × (b < 32) ⌝ }
-    ensures { λ r. ⌜ ((rec : ℕ → Result Expr) (p : ℕ) → r ≡ told (expr-facts (now (ar .entry)) (now (types .entry)) own live) (rule-expr (now (ar .entry)) (now (s .entry)) rec p at (form b))) ⌝ }
+    ensures { λ r. ⌜ ((rec : ℕ → Result Expr) (p : ℕ)
+        → r ≡ told (expr-facts (now (ar .entry)) (now (types .entry)) own live) (rule-expr (now (ar .entry)) (now (s .entry)) rec p at (form b))) ⌝ }
     ensures { λ r. ⌜ Behind (now (s .entry)) at r ⌝ }
 {
     if b == 18 {

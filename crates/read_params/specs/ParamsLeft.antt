@@ -12,7 +12,8 @@ use Rattle.read_exprs.specs.declared.read.ByteRead.the-variants.{Byte, NoByte}
 use Rattle.read_exprs.specs.Told.{byte-told}
 use Rattle.read_params.specs.declared.PlaceRead.the-variants.{Place, NoPlace}
 use Rattle.read_params.specs.ParamsTold.{read-list, place-told, RowKept, ListKept, ListsKept}
-use Rattle.read_params.specs.ParamsWays.{place-is, place-stops, onto-place, many-none, many-stop, many-more, type-read, type-stop, kept-zero, kept-type, kept-lists}
+use Rattle.read_params.specs.ParamsWays.{place-is, place-stops, onto-place, many-none, many-stop, many-more, type-read, type-stop, kept-zero}
+use Rattle.read_params.specs.ParamsWays.{kept-type, kept-lists}
 
 -- Zeros --------------------------------------------------------------------------------
 

@@ -1,7 +1,7 @@
 -- Each way through the readers of the parameter lists (01, 'Program stream').
 use Prim.Native.Nat.{ℕ, zero, suc, _+_, _-_, _*_, _≤_}
 use native.Mathlib.Omega.{arith}
-use native.Mathlib.Nat.{add-zero, add-suc, suc-add, zero-add}
+use native.Mathlib.Nat.{zero-add}
 use native.Mathlib.Numerals.{sub-one, add-one}
 use mathlib.Core.Path.{_≡_, refl, ap, _∙_}
 use mathlib.Core.List.{List, [], _∷_, _++_, map}
@@ -9,6 +9,7 @@ use lib.ListN.{length, drop, set, length-append, length-map}
 use lib.Seq.{sets, sets-eq}
 use Rattle.types.specs.Types.{Ty, code}
 use Rattle.types.specs.TypeBytes.{is-type}
+use Rattle.types.specs.SetsLaws.{sets-append}
 use Rattle.program.specs.Reader.{Result, Result.ok, Result.bad, then, made, many, tested, ranged, counted, read-type, read-params}
 use Rattle.judge.specs.declared.Facts.{Facts}
 use Rattle.judge.specs.Facts.{pushed}
@@ -158,10 +159,6 @@ pub table-length : (tss : List (List Ty)) → length (types-table tss) ≡ 8 * l
 unfolding types-table
 table-length [] = refl
 table-length (t ∷ tss) = rw (length-append) (omega (arith, row-length 8 t, table-length tss))
-
-sets-append : (l : List ℕ) (i : ℕ) (xs ys : List ℕ) → sets l i (xs ++ ys) ≡ sets (sets l i xs) (i + length xs) ys
-sets-append l i [] ys = rw add-zero
-sets-append l i (x ∷ xs) ys = rw (add-suc, ← suc-add) (sets-append (set l i x) (suc i) xs ys)
 
 -- the parameters of one struct, and those of the others behind it
 pub kept-lists : (k : ℕ) (cs cs′ cs″ ts ts′ ts″ : List ℕ) (t : List Ty) (m : ℕ) (q : Result (List (List Ty))) → ListKept k cs cs′ ts ts′ (ok t m)

@@ -8,7 +8,8 @@ ghost use lib.ListN.{length};
 ghost use lib.Seq.{sets};
 ghost use Rattle.judge.specs.ProgramFacts.{row};
 ghost use Rattle.program.specs.Reader.{many, read-type, read-params};
-ghost use Rattle.read_params.specs.ParamsTold.{read-list, place-told, params-told, place-refusal, params-refusal, RowKept, ListKept, ListsKept, ParamsKept, PlaceSpan, ParamsSpan};
+ghost use Rattle.read_params.specs.ParamsTold.{read-list, place-told, params-told, place-refusal, params-refusal, RowKept, ListKept, ListsKept};
+ghost use Rattle.read_params.specs.ParamsTold.{ParamsKept, PlaceSpan, ParamsSpan};
 
 // The next place.
 pub enum PlaceRead {
@@ -128,7 +129,8 @@ fn lists(
     requires { ⌜ (at ≤ length (now s)) × (n + k ≤ length (now counts)) × (8 * (n + k) ≤ length (now types)) × (n + k ≤ 16) ⌝ }
     ensures { λ r. ⌜ r ≡ place-told (many [] _∷_ (read-list (now (s .entry)) structs) n at) ⌝ }
     ensures { λ r. ⌜ PlaceSpan (now (s .entry)) at r ⌝ }
-    ensures { λ _. ⌜ ListsKept k (now (counts .entry)) (now (counts .exit)) (now (types .entry)) (now (types .exit)) (many [] _∷_ (read-list (now (s .entry)) structs) n at) ⌝ }
+    ensures { λ _. ⌜ ListsKept k (now (counts .entry)) (now (counts .exit)) (now (types .entry)) (now (types .exit))
+        (many [] _∷_ (read-list (now (s .entry)) structs) n at) ⌝ }
 {
     let mut next = at;
     let mut left = n;

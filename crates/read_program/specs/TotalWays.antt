@@ -53,7 +53,8 @@ module _ {A : Type 0} (f : A → Sum) (q : Result A) where
   pub refused-told : (n : ℕ) (h : List ℕ) → answer f q ≡ refused n → Told f q (Refused n) h
   refused-told n h e = rw e (refl, tt)
 
-told-ok : {A : Type 0} (f : A → Sum) (q : Result A) (a : A) (m : ℕ) (u : Totals) (h : List ℕ) → q ≡ ok a m → u ≡ less (f a) → h ≡ f a .has → Told f q (Value m u) h
+told-ok : {A : Type 0} (f : A → Sum) (q : Result A) (a : A) (m : ℕ) (u : Totals) (h : List ℕ) → q ≡ ok a m → u ≡ less (f a) → h ≡ f a .has
+    → Told f q (Value m u) h
 told-ok f q a m u h e i j = rw (e, i) (refl, j)
 
 told-bad : {A : Type 0} (f : A → Sum) (q : Result A) (p n : ℕ) (h : List ℕ) → q ≡ bad p n → Told f q (Refused n) h
@@ -84,24 +85,30 @@ module _ (ar s : List ℕ) (at : ℕ) where
 module _ (ar types s : List ℕ) (k at : ℕ) (T : Sum) where
   -- the name is not read; it is, and the body is not; both are
   pub step-stop : (e : ℕ) (h : List ℕ) → byte-told (ranged s 0 32 at) ≡ NoByte e → Told (step-total ar types k T) (read-step ar s at) (Refused e) h
-  step-stop e h i = let q = byte-stops (ranged s 0 32 at) e i in told-bad (step-total ar types k T) (read-step ar s at) (q .0) e h (step-unread ar s at _ _ (q .1))
+  step-stop e h i =
+      let q = byte-stops (ranged s 0 32 at) e i in
+      told-bad (step-total ar types k T) (read-step ar s at) (q .0) e h (step-unread ar s at _ _ (q .1))
 
-  pub step-cut : (n m e : ℕ) (h : List ℕ) → byte-told (ranged s 0 32 at) ≡ Byte n m → done (λ b. body-facts ar types k b no-locals) (body-of ar s at m) ≡ StmtRefused e
+  pub step-cut : (n m e : ℕ) (h : List ℕ) → byte-told (ranged s 0 32 at) ≡ Byte n m
+      → done (λ b. body-facts ar types k b no-locals) (body-of ar s at m) ≡ StmtRefused e
       → Told (step-total ar types k T) (read-step ar s at) (Refused e) h
   step-cut n m e h i j =
       let q = done-stops (λ b. body-facts ar types k b no-locals) (body-of ar s at m) e j in
       told-bad (step-total ar types k T) (read-step ar s at) (q .0) e h (step-bodiless ar s at n m _ e (byte-is (ranged s 0 32 at) n m i) (q .1))
 
-  pub step-read : (n m i : ℕ) (d : Done) → byte-told (ranged s 0 32 at) ≡ Byte n m → done (λ b. body-facts ar types k b no-locals) (body-of ar s at m) ≡ StmtValue i d
+  pub step-read : (n m i : ℕ) (d : Done) → byte-told (ranged s 0 32 at) ≡ Byte n m
+      → done (λ b. body-facts ar types k b no-locals) (body-of ar s at m) ≡ StmtValue i d
       → Told (step-total ar types k T) (read-step ar s at) (Value i (plus (less T) d (eqb (getD (T .has) (place k n) 0) 0))) (set (T .has) (place k n) 1)
   unfolding added plus over-by
   step-read n m i d e j =
       let q = done-is (λ b. body-facts ar types k b no-locals) (body-of ar s at m) i d j in
-      told-ok (step-total ar types k T) (read-step ar s at) (record { name = n; body = q .0 }) i _ _ (step-whole ar s at n m i (q .0) (byte-is (ranged s 0 32 at) n m e) (q .1))
+      told-ok (step-total ar types k T) (read-step ar s at) (record { name = n; body = q .0 }) i _ _
+      (step-whole ar s at n m i (q .0) (byte-is (ranged s 0 32 at) n m e) (q .1))
       (ap (λ (x : Done). plus (less T) x (eqb (getD (T .has) (place k n) 0) 0)) (sym (q .2))) refl
 
 -- a step has a byte of its own, and its commands one each
-pub step-low : (s : List ℕ) (t : Totals) (d : Done) (new : Bool) (at m i : ℕ) → Low t at → m ≡ at + 1 → DoneBody s m (StmtValue i d) → Bounded s (Value i (plus t d new))
+pub step-low : (s : List ℕ) (t : Totals) (d : Done) (new : Bool) (at m i : ℕ) → Low t at → m ≡ at + 1 → DoneBody s m (StmtValue i d)
+    → Bounded s (Value i (plus t d new))
 unfolding plus
 step-low s t d new at m i l e h = omega arith
 
@@ -110,7 +117,9 @@ step-low s t d new at m i l e h = omega arith
 module _ (ar types s : List ℕ) (k at : ℕ) (T : Sum) where
   -- how many steps, which is not read, or is, with them behind it
   pub steps-stop : (e : ℕ) (h : List ℕ) → byte-told (ranged s 0 9 at) ≡ NoByte e → Told (λ ts. struct-totals ar types k ts T) (read-steps ar s at) (Refused e) h
-  steps-stop e h i = let q = byte-stops (ranged s 0 9 at) e i in told-bad (λ ts. struct-totals ar types k ts T) (read-steps ar s at) (q .0) e h (steps-uncounted ar s at _ _ (q .1))
+  steps-stop e h i =
+      let q = byte-stops (ranged s 0 9 at) e i in
+      told-bad (λ ts. struct-totals ar types k ts T) (read-steps ar s at) (q .0) e h (steps-uncounted ar s at _ _ (q .1))
 
   steps-read : (n m : ℕ) → byte-told (ranged s 0 9 at) ≡ Byte n m → read-steps ar s at ≡ many [] _∷_ (read-step ar s) n m
   unfolding read-steps counted then

@@ -9,8 +9,10 @@ use lib.Seq.{take-at}
 use lib.Dec.{ltb}
 use Rattle.types.specs.Types.{Ty}
 use Rattle.program.specs.Tree.{Items, Step, Program}
-use Rattle.program.specs.Reader.{Result, Result.ok, Result.bad, wrong-end, then, pair, made, many, ended, whole, read-params, read-steps, read-items, read-item, read-program, read}
-use Rattle.judge.specs.ProgramFacts.{Totals as Sum, Planned as Plan, plan, no-steps, no-totals, types-table, step-totals, items-plan, exceeded, totals-number, program-totals, program-plan}
+use Rattle.program.specs.Reader.{Result, Result.ok, Result.bad, wrong-end, then, pair, made, many, ended, whole, read-params, read-steps, read-items}
+use Rattle.program.specs.Reader.{read-item, read-program, read}
+use Rattle.judge.specs.ProgramFacts.{Totals as Sum, Planned as Plan, plan, no-steps, no-totals, types-table, step-totals, items-plan, exceeded}
+use Rattle.judge.specs.ProgramFacts.{totals-number, program-totals, program-plan}
 use Rattle.read_params.specs.declared.ParamsRead.the-variants.{Value as ParamsValue, Refused as ParamsRefused}
 use Rattle.read_schedule.specs.declared.PlanRead.the-variants.{Value as PlanValue, Refused as PlanRefused}
 use Rattle.read_schedule.specs.declared.Planned.{Planned}
@@ -157,7 +159,8 @@ module _ (s : List ℕ) where
       go (bad a n) e = refl
 
   -- behind the parameters stands the rest, over the tables that they give
-  pub program-read : (cs cs′ types types′ : List ℕ) (k n : ℕ) → params-told (read-params s 0) ≡ ParamsValue k n → ParamsKept cs cs′ types types′ (read-params s 0)
+  pub program-read : (cs cs′ types types′ : List ℕ) (k n : ℕ) → params-told (read-params s 0) ≡ ParamsValue k n
+      → ParamsKept cs cs′ types types′ (read-params s 0)
       → rest-told k (take n cs′) (take (8 * n) types′) s (read-rest (take n cs′) s k) ≡ program-told (read-params s 0) (read s)
   program-read cs cs′ types types′ k n i w = go (read-params s 0) refl i w
     where

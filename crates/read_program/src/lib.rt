@@ -73,7 +73,8 @@ fn summed(structs: u8, t: Totals, p: Planned) -> Summary
 
 // The schedule, and the stream's end behind it.
 fn end(s: &[u8], has: &[u8], structs: u8, behind: usize, t: Totals, at: usize) -> ProgramRead
-    ensures { λ r. ⌜ ((ar : List ℕ) → length ar ≡ structs → r ≡ end-told behind structs (with t (now (has .entry))) (now (s .entry)) (read-items ar (now (s .entry)) (read-item ar (now (s .entry)) 8) at)) ⌝ }
+    ensures { λ r. ⌜ ((ar : List ℕ) → length ar ≡ structs
+        → r ≡ end-told behind structs (with t (now (has .entry))) (now (s .entry)) (read-items ar (now (s .entry)) (read-item ar (now (s .entry)) 8) at)) ⌝ }
 {
     let r = read_schedule::items(s, has, structs, at, types::FIX_LEVELS);
     let PlanRead::Value(m, p) = r else {

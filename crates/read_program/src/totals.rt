@@ -115,7 +115,8 @@ fn step(
 ) -> TotalsRead
     requires { ⌜ (length (now ar) ≤ 16) × (length (now has) ≡ 512) × (k < 16) ⌝ }
     requires { ⌜ Low t at ⌝ }
-    ensures { λ r. ⌜ Told (step-total (now (ar .entry)) (now (types .entry)) k (with t (now (has .entry)))) (read-step (now (ar .entry)) (now (s .entry)) at) r (now (has .exit)) ⌝ }
+    ensures { λ r. ⌜ Told (step-total (now (ar .entry)) (now (types .entry)) k (with t (now (has .entry))))
+        (read-step (now (ar .entry)) (now (s .entry)) at) r (now (has .exit)) ⌝ }
     ensures { λ r. ⌜ Bounded (now (s .entry)) r ⌝ }
 {
     let r = read::ranged(s, 0, types::STEP_NAMES, at);
@@ -150,7 +151,8 @@ fn of_struct(
 ) -> TotalsRead
     requires { ⌜ (length (now ar) ≤ 16) × (length (now has) ≡ 512) × (k < 16) ⌝ }
     requires { ⌜ Low t at ⌝ }
-    ensures { λ r. ⌜ Told (λ ts. struct-totals (now (ar .entry)) (now (types .entry)) k ts (with t (now (has .entry)))) (read-steps (now (ar .entry)) (now (s .entry)) at) r (now (has .exit)) ⌝ }
+    ensures { λ r. ⌜ Told (λ ts. struct-totals (now (ar .entry)) (now (types .entry)) k ts (with t (now (has .entry))))
+        (read-steps (now (ar .entry)) (now (s .entry)) at) r (now (has .exit)) ⌝ }
     ensures { λ r. ⌜ Bounded (now (s .entry)) r ⌝ }
 {
     let r = read::ranged(s, 0, types::MAX_STEPS + 1, at);
@@ -184,7 +186,8 @@ pub fn structs(
 ) -> TotalsRead
     requires { ⌜ (length (now ar) ≤ 16) × (length (now has) ≡ 512) × (n ≤ 16) ⌝ }
     requires { ⌜ Low t at × (at ≤ length (now s)) ⌝ }
-    ensures { λ r. ⌜ Told (λ tss. step-totals (now (ar .entry)) (now (types .entry)) 0 tss (with t (now (has .entry)))) (many [] _∷_ (read-steps (now (ar .entry)) (now (s .entry))) n at) r (now (has .exit)) ⌝ }
+    ensures { λ r. ⌜ Told (λ tss. step-totals (now (ar .entry)) (now (types .entry)) 0 tss (with t (now (has .entry))))
+        (many [] _∷_ (read-steps (now (ar .entry)) (now (s .entry))) n at) r (now (has .exit)) ⌝ }
     ensures { λ r. ⌜ Bounded (now (s .entry)) r ⌝ }
 {
     let mut all = t;

@@ -143,7 +143,8 @@ fn item(s: &[u8], has: &[u8], structs: u8, at: usize, depth: usize) -> PlanRead
 
 // The items of the schedule or of a Fix, with at most depth levels of Fix inside; has tells which steps the structs have.
 pub fn items(s: &[u8], has: &[u8], structs: u8, at: usize, depth: usize) -> PlanRead
-    ensures { λ r. ⌜ ((ar : List ℕ) → length ar ≡ structs → r ≡ told (items-plan (now (has .entry)) structs) (read-items ar (now (s .entry)) (read-item ar (now (s .entry)) depth) at)) ⌝ }
+    ensures { λ r. ⌜ ((ar : List ℕ) → length ar ≡ structs
+        → r ≡ told (items-plan (now (has .entry)) structs) (read-items ar (now (s .entry)) (read-item ar (now (s .entry)) depth) at)) ⌝ }
     ensures { λ r. ⌜ Ahead (now (s .entry)) at r ⌝ }
 {
     let r = read::ranged(s, 1, types::MAX_ITEMS + 1, at);

@@ -37,7 +37,8 @@ module _ (s : List ℕ) where
   span-declared at m c t x (ExprValue n f) e h = omega arith
   span-declared at m c t x (ExprRefused k) e h = tt
 
-  pub span-updated : (at m n : ℕ) (c : Scope) (j : Judged) (r : ExprRead) → PathSpan s 0 4 (at + 1) (Path m n j) → Ahead s m r → DoneBehind s at (turn (updated c n j) r)
+  pub span-updated : (at m n : ℕ) (c : Scope) (j : Judged) (r : ExprRead) → PathSpan s 0 4 (at + 1) (Path m n j) → Ahead s m r
+      → DoneBehind s at (turn (updated c n j) r)
   unfolding updated
   span-updated at m n c j (ExprValue k f) e h = omega arith
   span-updated at m n c j (ExprRefused k) e h = tt

@@ -8,7 +8,9 @@ use lib.ListN.{length, getD}
 use Rattle.types.specs.Types.{Ty, code}
 use Rattle.program.specs.Tree.{Var, Expr, Exprs, Stmt, Stmts, Stmts.end, Stmts.next}
 use Rattle.types.specs.TypeBytes.{is-type}
-use Rattle.program.specs.Reader.{Result, Result.ok, Result.bad, then, pair, made, many, lookup, Kind, Kind.kind-when, Kind.kind-declare, Kind.kind-update, Kind.kind-create, Kind.kind-none, kind, byte, tested, opened, ranged, counted, read-local, read-path, read-make, read-expr, read-body, read-when, read-declare, read-update, rule-stmt, read-stmt}
+use Rattle.program.specs.Reader.{Result, Result.ok, Result.bad, then, pair, made, many, lookup, Kind, Kind.kind-when, Kind.kind-declare}
+use Rattle.program.specs.Reader.{Kind.kind-update, Kind.kind-create, Kind.kind-none, kind, byte, tested, opened, ranged, counted, read-local}
+use Rattle.program.specs.Reader.{read-path, read-make, read-expr, read-body, read-when, read-declare, read-update, rule-stmt, read-stmt}
 use Rattle.program.specs.Laws.StmtLaws.{OpensStmt, opens-stmt}
 use Rattle.answers.specs.Answers.{Answer, Answer.value, Answer.refused, answer}
 use Rattle.answers.specs.AnswerLaws.{answer-is, answer-stops, answer-made}
@@ -85,7 +87,8 @@ module _ (ar types s : List ℕ) (own : ℕ) (c : Scope) where
         go (bad p k) = refl
 
     -- its type
-    pub declare-stop : (n : ℕ) → byte-told (tested s (is-type (length ar)) at) ≡ NoByte n → done (declare-facts ar types own c) (read-declare ar s at) ≡ Refused n
+    pub declare-stop : (n : ℕ) → byte-told (tested s (is-type (length ar)) at) ≡ NoByte n
+        → done (declare-facts ar types own c) (read-declare ar s at) ≡ Refused n
     unfolding read-declare pair then
     declare-stop n e = rw (type-stops s (length ar) at n e .1)
 
@@ -96,12 +99,14 @@ module _ (ar types s : List ℕ) (own : ℕ) (c : Scope) where
         let q = type-read s (length ar) at b m e in
         rw (q .1) (go (q .0) (q .2) (read-named ar s m))
       where
-        go : (t : Ty) → code t ≡ b → (r : Result (ℕ × Expr)) → done (declare-facts ar types own c) (then r λ p k. ok (t, p) k) ≡ done (local-facts ar types own c b) r
+        go : (t : Ty) → code t ≡ b → (r : Result (ℕ × Expr))
+            → done (declare-facts ar types own c) (then r λ p k. ok (t, p) k) ≡ done (local-facts ar types own c b) r
         go t h (ok p k) = rw h
         go t h (bad p k) = refl
 
     -- an update's path, which is not read, or is, with the value behind it
-    pub update-stop : (n : ℕ) → path-told (path-of ar types own (c .live)) (read-path s at) ≡ NoPath n → done (update-facts ar types own c) (read-update ar s at) ≡ Refused n
+    pub update-stop : (n : ℕ) → path-told (path-of ar types own (c .live)) (read-path s at) ≡ NoPath n
+        → done (update-facts ar types own c) (read-update ar s at) ≡ Refused n
     unfolding read-update pair then
     update-stop n e = rw (path-stops (path-of ar types own (c .live)) (read-path s at) n e .1)
 
@@ -183,7 +188,8 @@ module _ (ar types s : List ℕ) (own : ℕ) (c : Scope) where
         go zero = rw (byte-out s at h)
         go (suc d) = rw (byte-out s at h)
 
-    pub stmt-simple : at < length s → (q : StmtRead) → ((w : ℕ → ℕ → Result (Expr × Stmts)) (p : ℕ) → q ≡ done S (rule-stmt ar s w p (at + 1) (kind (getD s at 0))))
+    pub stmt-simple : at < length s → (q : StmtRead)
+        → ((w : ℕ → ℕ → Result (Expr × Stmts)) (p : ℕ) → q ≡ done S (rule-stmt ar s w p (at + 1) (kind (getD s at 0))))
         → q ≡ done S (read-stmt ar s d at)
     unfolding read-stmt opened then
     stmt-simple h q f = go d

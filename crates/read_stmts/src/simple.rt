@@ -67,7 +67,8 @@ fn update(s: &[u8], ar: &[u8], types: &[u8], own: u8, c: Scope, at: usize) -> St
 
 fn create(s: &[u8], ar: &[u8], types: &[u8], own: u8, c: Scope, at: usize) -> StmtRead
     requires { ⌜ (length (now ar) ≤ 16) × (own < 16) ⌝ }
-    ensures { λ r. ⌜ r ≡ done (create-facts (now (ar .entry)) (now (types .entry)) own c) (read-make (now (ar .entry)) (now (s .entry)) (read-expr (now (ar .entry)) (now (s .entry)) 16) at) ⌝ }
+    ensures { λ r. ⌜ r ≡ done (create-facts (now (ar .entry)) (now (types .entry)) own c)
+        (read-make (now (ar .entry)) (now (s .entry)) (read-expr (now (ar .entry)) (now (s .entry)) 16) at) ⌝ }
     ensures { λ r. ⌜ DoneBehind (now (s .entry)) at r ⌝ }
 {
     let live = c.live;
@@ -81,7 +82,8 @@ fn create(s: &[u8], ar: &[u8], types: &[u8], own: u8, c: Scope, at: usize) -> St
 pub fn simple(s: &[u8], ar: &[u8], types: &[u8], own: u8, c: Scope, b: u8, at: usize) -> StmtRead
     requires { ⌜ (length (now ar) ≤ 16) × (own < 16) ⌝ }
     requires { ⌜ (b ≡ 1 → ⊥) ⌝ }
-    ensures { λ r. ⌜ ((w : ℕ → ℕ → Result (Expr × Stmts)) (p : ℕ) → r ≡ done (λ t. stmt-facts (now (ar .entry)) (now (types .entry)) own t c) (rule-stmt (now (ar .entry)) (now (s .entry)) w p at (kind b))) ⌝ }
+    ensures { λ r. ⌜ ((w : ℕ → ℕ → Result (Expr × Stmts)) (p : ℕ)
+        → r ≡ done (λ t. stmt-facts (now (ar .entry)) (now (types .entry)) own t c) (rule-stmt (now (ar .entry)) (now (s .entry)) w p at (kind b))) ⌝ }
     ensures { λ r. ⌜ DoneBehind (now (s .entry)) at r ⌝ }
 {
     if b == 2 {

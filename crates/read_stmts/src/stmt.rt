@@ -55,7 +55,8 @@ pub fn when(
     depth: usize,
 ) -> StmtRead
     requires { ⌜ (length (now ar) ≤ 16) × (own < 16) ⌝ }
-    ensures { λ r. ⌜ r ≡ done (when-facts (now (ar .entry)) (now (types .entry)) own c) (read-when (now (ar .entry)) (now (s .entry)) (read-stmt (now (ar .entry)) (now (s .entry)) depth) at) ⌝ }
+    ensures { λ r. ⌜ r ≡ done (when-facts (now (ar .entry)) (now (types .entry)) own c)
+        (read-when (now (ar .entry)) (now (s .entry)) (read-stmt (now (ar .entry)) (now (s .entry)) depth) at) ⌝ }
     ensures { λ r. ⌜ DoneBehind (now (s .entry)) at r ⌝ }
 {
     let live = c.live;
@@ -77,7 +78,8 @@ pub fn body(
     depth: usize,
 ) -> StmtRead
     requires { ⌜ (length (now ar) ≤ 16) × (own < 16) ⌝ }
-    ensures { λ r. ⌜ r ≡ done (λ b. body-facts (now (ar .entry)) (now (types .entry)) own b c) (read-body (now (ar .entry)) (now (s .entry)) (read-stmt (now (ar .entry)) (now (s .entry)) depth) at) ⌝ }
+    ensures { λ r. ⌜ r ≡ done (λ b. body-facts (now (ar .entry)) (now (types .entry)) own b c)
+        (read-body (now (ar .entry)) (now (s .entry)) (read-stmt (now (ar .entry)) (now (s .entry)) depth) at) ⌝ }
     ensures { λ r. ⌜ DoneBody (now (s .entry)) at r ⌝ }
 {
     let r = read::ranged(s, 0, types::MAX_STATEMENTS + 1, at);

@@ -11,7 +11,8 @@ use Rattle.program.specs.Tree.{Program}
 use Rattle.table.specs.Table.{Record}
 use Rattle.verdict.specs.Verdict.{Checked, Checked.refused, checked, listed}
 use Rattle.run.specs.Begin.{begin}
-use Rattle.run.specs.Entry.{Begun, Begun.begun, Begun.not-begun, with-room, of-checked, begins, report, run-report-by, run-output-by, run-list-by, run-report, run-output, run-list}
+use Rattle.run.specs.Entry.{Begun, Begun.begun, Begun.not-begun, with-room, of-checked, begins, report, run-report-by, run-output-by, run-list-by}
+use Rattle.run.specs.Entry.{run-report, run-output, run-list}
 use Rattle.run_images.specs.declared.Report.{Report}
 use Rattle.run_images.specs.Answer.{answer}
 use Rattle.run_images.specs.Stages.{roomed, Answers, Came}

@@ -8,22 +8,19 @@ use lib.Dec.{ltb}
 use borrow.Author.Tests.{le-ltb}
 use Rattle.types.specs.Limits.{program-blocks}
 use Rattle.types.specs.Types.{Ty.int, Ty.ref, code}
-use Rattle.types.specs.Values.{in-int, int-word}
 use Rattle.block.specs.Block.{block-size}
-use Rattle.program.specs.Tree.{Var.par as parameter, Op.op-add, Expr.path, Expr.op, Stmt.update, Stmts.end, Stmts.next, Item.call, Items.stop, Items.item, Program, size, items, args}
-use Rattle.program.specs.Encoding.{enc-word, flat, op-code, var-code, enc-path, enc-expr, enc-exprs, enc-stmt, enc-stmts, enc-item, enc-items, enc-step, enc-program}
-use Rattle.tokens.specs.Scanning.{same, lex}
+use Rattle.program.specs.Tree.{Var.par as parameter, Op.op-add, Expr.path, Expr.op, Stmt.update, Stmts.end, Stmts.next, Item.call, Items.stop}
+use Rattle.program.specs.Tree.{Items.item, Program, size, items}
+use Rattle.program.specs.Encoding.{enc-word, flat, op-code, var-code, enc-path, enc-expr, enc-exprs, enc-stmt, enc-stmts, enc-item, enc-items}
+use Rattle.program.specs.Encoding.{enc-step, enc-program}
+use Rattle.tokens.specs.Scanning.{lex}
 use Rattle.tokens.specs.Rows.{text-P, P-lexed}
 use Rattle.syntax.specs.Reading.{run, ended, read}
 use Rattle.syntax.specs.Rows.{P-derived}
-use Rattle.meaning.specs.Scope.{par-id, par-type, step-id, struct-id, pars-of, steps-of, structs-of, local-id, local-number, local-type}
-use Rattle.meaning.specs.StepNames.{among, once, all-steps, step-names}
-use Rattle.meaning.specs.Values.{decimal-from, decimal, signed}
-use Rattle.meaning.specs.Finding.{find, one-later, absent, distinct}
-use Rattle.meaning.specs.Meant.{then, provided, each, literal-meaning, type-meaning, referred, further, started, start, path-meaning, exp-meaning, exps-meaning, stat-meaning, stats-meaning, pars-meaning, step-meaning, steps-meaning, item-meaning, sched-meaning, text-meaning, meant}
-use Rattle.meaning.specs.HoldsDecide.{all, few, a-type, a-var, a-path, holds-expr, holds-exprs, holds-stmt, holds-stmts, holds-step, holds-item, holds-items, holds-schedule, counted, holds}
 use Rattle.source.specs.Source.{no-derivation, Outcome.written, Outcome.refused}
 use Rattle.source.specs.TextReader.{of-room, of-held, of-program, of-derivation, of-tokens, of-length, outcome}
+use Rattle.program.specs.Unfold.{encodings}
+use Rattle.meaning.specs.Unfold.{meanings, holding}
 
 unfoldable pub program-P : Program
 program-P =
@@ -43,7 +40,7 @@ unfolding text-P
 short-P = refl
 
 pub P-text : (out : List ℕ) → block-size * program-blocks ≤ length out → outcome text-P out ≡ written program-P
-unfolding program-P outcome of-length of-tokens of-derivation of-program of-held of-room all few a-type a-var a-path holds-expr holds-exprs holds-stmt holds-stmts holds-step holds-item holds-items holds-schedule counted holds then provided each literal-meaning type-meaning referred further started start path-meaning exp-meaning exps-meaning stat-meaning stats-meaning pars-meaning step-meaning steps-meaning item-meaning sched-meaning text-meaning meant find one-later absent distinct same par-id par-type step-id struct-id pars-of steps-of structs-of local-id local-number local-type among once all-steps step-names decimal-from decimal signed in-int int-word enc-word flat op-code var-code enc-path enc-expr enc-exprs enc-stmt enc-stmts enc-item enc-items enc-step enc-program code size items args
+unfolding program-P outcome of-length of-tokens of-derivation of-program of-held of-room holding meanings encodings
 P-text out h = rw (short-P, P-lexed, P-derived, le-ltb (length out) (block-size * program-blocks) h) refl
 
 -- an empty text has no derivation

@@ -9,7 +9,9 @@ use Rattle.types.specs.Types.{Ty, Ty.int, Ty.nat, Ty.bool, Ty.ref, IsType}
 use Rattle.types.specs.Values.{default}
 use Rattle.types.specs.TypeBytes.{ValueOf, word-end}
 use Rattle.types.specs.ValueLaws.{value-in-range}
-use Rattle.program.specs.Tree.{Var, Var.loc, Expr, Expr.inv, Expr.make, Expr.path, Expr.int-lit, Expr.nat-lit, Expr.bool-lit, Expr.null, Expr.self, Expr.op, Exprs, Exprs.none, Exprs.more, Stmt, Stmt.when, Stmt.declare, Stmt.update, Stmt.create, Stmts, Stmts.end, Stmts.next, Step}
+use Rattle.program.specs.Tree.{Var, Var.loc, Expr, Expr.inv, Expr.make, Expr.path, Expr.int-lit, Expr.nat-lit, Expr.bool-lit, Expr.null, Expr.self}
+use Rattle.program.specs.Tree.{Expr.op, Exprs, Exprs.none, Exprs.more, Stmt, Stmt.when, Stmt.declare, Stmt.update, Stmt.create, Stmts, Stmts.end}
+use Rattle.program.specs.Tree.{Stmts.next, Step}
 use Rattle.program.specs.Encoding.{var-code}
 use Rattle.program.specs.Counts.{All, CountsExpr, CountsExprs, CountsStmt, CountsStmts, CountsStep}
 use Rattle.commands.specs.Commands.{Coms, then, reads, front, expr-coms, args-coms, update-coms, stmt-coms, body-coms, Flat, flatten, commands}

@@ -82,7 +82,8 @@ module _ (c : Checked) (list : List ℕ) (k n : ℕ) where
   unfolding verdict-of
   by-number = go c refl
     where
-      room : (p : Program) → c ≡ accepted p → (t : Bool) → ltb (length list) max-commands ≡ t → place-by c list k n .number ≡ verdict-of (accepted p) list .number
+      room : (p : Program) → c ≡ accepted p → (t : Bool) → ltb (length list) max-commands ≡ t
+          → place-by c list k n .number ≡ verdict-of (accepted p) list .number
       room p e true i = ap (λ (y : Spot). y .number) (by-short p e (ltb-true _ _ i)) ∙ rw (verdict-of, i)
       room p e false i = ap (λ (y : Spot). y .number) (by-room p e (ltb-false _ _ i)) ∙ spot-number c k n p e ∙ rw (verdict-of, i)
 

@@ -4,16 +4,19 @@ use mathlib.Core.Bool.{true, false}
 use mathlib.Core.List.{List, [], _∷_}
 use Rattle.program.specs.Tree.{Op}
 use Rattle.tokens.specs.Tokens.{Word.w-then, Sign.lpar, Sign.rpar, Sign.comma, Sign.semicolon, Sign.dot as dot-sign, Token, Token.word, Token.sign, Token.op}
-use Rattle.syntax.specs.Syntax.{Id, TypeName, TypeName.int-type, TypeName.nat-type, TypeName.bool-type, TypeName.id-type, Literal, Literal.int-literal, Literal.nat-literal, Literal.bool-literal, Var, Var.id, Var.dot}
-use Rattle.syntax.specs.Syntax.{Exp, Exp.binary, Exp.brackets, Exp.negation, Exp.constructor, Exp.variable, Exp.literal, Exp.null, Exp.this, Exps, Exps.no-exps, Exps.exps}
+use Rattle.syntax.specs.Syntax.{Id, TypeName, TypeName.int-type, TypeName.nat-type, TypeName.bool-type, TypeName.id-type, Literal}
+use Rattle.syntax.specs.Syntax.{Literal.int-literal, Literal.nat-literal, Literal.bool-literal, Var, Var.id, Var.dot}
+use Rattle.syntax.specs.Syntax.{Exp, Exp.binary, Exp.brackets, Exp.negation, Exp.constructor, Exp.variable, Exp.literal, Exp.null, Exp.this}
+use Rattle.syntax.specs.Syntax.{Exps, Exps.no-exps, Exps.exps}
 use Rattle.syntax.specs.Places.{Place, Place.in-brackets, Place.in-negation, Place.in-right, Place.in-constructor}
 use Rattle.syntax.specs.Places.{State}
 use Rattle.syntax.specs.Places.{State.want, State.after, State.at-dot-id, State.at-args}
 use Rattle.syntax.specs.Places.{var-onto, exps-onto}
-use Rattle.syntax.specs.Expecting.{word-number, sign-number, on-word, on-sign, on-name, on-op, less, on-less, literal-word, on-literal, type-word, on-type-word, on-type}
+use Rattle.syntax.specs.Expecting.{sign-number, on-sign, on-name}
 use Rattle.syntax.specs.Yield.{type-token, literal-token, yield-var, yield-exp, yield-exps, yield-exp-list}
 use Rattle.syntax.specs.Bracketing.{Spot.bracketed, Spot.bare, Fits, FitsExps}
 use Rattle.syntax.specs.Reading.{behind, wanted, step, run}
+use Rattle.syntax.specs.Unfold.{expecting, leaf-tokens}
 
 -- a token that may follow an expression: none that a name at its end would go on with
 pub record Follows (t : Token) : Type 0 where
@@ -64,38 +67,38 @@ reads-var (dot x v) p t k f = reads-dots v (x ∷ []) p t k f
 -- The others -----------------------------------------------------------------------------------
 
 reads-literal : (l : Literal) → Reads (literal l)
-unfolding yield-exp run step wanted word-number sign-number on-word on-sign on-name on-op less on-less literal-word on-literal type-word on-type-word on-type type-token literal-token
+unfolding yield-exp run step wanted expecting leaf-tokens
 reads-literal (int-literal r ds) p t k f = refl
 reads-literal (nat-literal ds) p t k f = refl
 reads-literal (bool-literal true) p t k f = refl
 reads-literal (bool-literal false) p t k f = refl
 
 reads-null : (a : TypeName) → Reads (null a)
-unfolding yield-exp run step wanted word-number sign-number on-word on-sign on-name on-op less on-less literal-word on-literal type-word on-type-word on-type type-token literal-token
+unfolding yield-exp run step wanted expecting leaf-tokens
 reads-null int-type p t k f = refl
 reads-null nat-type p t k f = refl
 reads-null bool-type p t k f = refl
 reads-null (id-type x) p t k f = refl
 
 reads-this : Reads this
-unfolding yield-exp run step wanted word-number sign-number on-word on-sign on-name on-op less on-less literal-word on-literal type-word on-type-word on-type type-token literal-token
+unfolding yield-exp run step wanted expecting leaf-tokens
 reads-this p t k f = refl
 
 reads-brackets : (e : Exp) → ReadsIn e → Reads (brackets e)
-unfolding yield-exp run step wanted word-number sign-number on-word on-sign on-name on-op less on-less literal-word on-literal type-word on-type-word on-type type-token literal-token
+unfolding yield-exp run step wanted expecting leaf-tokens
 reads-brackets e r p t k f = r p (t ∷ k)
 
 reads-negation : (e : Exp) → Reads e → Reads (negation e)
-unfolding yield-exp run step wanted behind word-number sign-number on-word on-sign on-name on-op less on-less literal-word on-literal type-word on-type-word on-type type-token literal-token
+unfolding yield-exp run step wanted behind expecting leaf-tokens
 reads-negation e r p t k f = r (in-negation p) t k f
 
 -- what stands bare, in brackets
 within : (e : Exp) → Reads e → ReadsIn e
-unfolding run step behind word-number sign-number on-word on-sign on-name on-op less on-less literal-word on-literal type-word on-type-word on-type type-token literal-token
+unfolding run step behind expecting leaf-tokens
 within e r p k = r (in-brackets p) (sign rpar) k follows-rpar
 
 reads-binary : (o : Op) (a b : Exp) → Reads a → Reads b → ReadsIn (binary o a b)
-unfolding yield-exp run step behind word-number sign-number on-word on-sign on-name on-op less on-less literal-word on-literal type-word on-type-word on-type type-token literal-token
+unfolding yield-exp run step behind expecting leaf-tokens
 reads-binary o a b r q p k = r (in-brackets p) (op o) (yield-exp b (sign rpar ∷ k)) (follows-op o) ∙ q (in-right o a p) (sign rpar) k follows-rpar
 
 -- Arguments ------------------------------------------------------------------------------------
@@ -131,7 +134,7 @@ list-goes-on f es q rec A l e k r =
 
 -- the first argument's first token is no closing bracket
 enters : (e : Exp) → Fits bare e → (A : Args) (k : List Token) → run (A .start) (yield-exp e k) ≡ run (want (A .place [])) (yield-exp e k)
-unfolding yield-exp yield-var run step Fits on-sign sign-number type-token literal-token
+unfolding yield-exp yield-var run step Fits on-sign sign-number leaf-tokens
 enters (binary o a b) f A k = absurd f
 enters (brackets e) f A k = ap (λ s. run s (yield-exp e (sign rpar ∷ k))) (A .enter _ (λ s z. refl))
 enters (negation e) f A k = ap (λ s. run s (yield-exp e k)) (A .enter _ (λ s z. refl))
@@ -161,7 +164,7 @@ args-some e es f r rec A k = enters e f A _ ∙ rec A [] e k r
 
 -- of a constructor expression
 args-of : Id → Place → Args
-unfolding step behind word-number sign-number on-word on-sign on-name on-op less on-less literal-word on-literal type-word on-type-word on-type type-token literal-token
+unfolding step behind expecting leaf-tokens
 args-of x p =
     record {
       start = at-args p x;
@@ -174,7 +177,7 @@ args-of x p =
     }
 
 reads-constructor : (x : Id) (es : Exps) → ReadsArgs es → Reads (constructor x es)
-unfolding yield-exp run step wanted args-of word-number sign-number on-word on-sign on-name on-op less on-less literal-word on-literal type-word on-type-word on-type type-token literal-token
+unfolding yield-exp run step wanted args-of expecting leaf-tokens
 reads-constructor x es r p t k f = r (args-of x p) (t ∷ k)
 
 -- Every expression -----------------------------------------------------------------------------

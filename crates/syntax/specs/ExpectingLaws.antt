@@ -5,13 +5,18 @@ use mathlib.Core.List.{List, [], _∷_}
 use lib.ListN.{getD}
 use lib.Dec.{eqb}
 use borrow.Author.Tests.{eqb-true}
-use Rattle.program.specs.Tree.{Op, Op.op-eq, Op.op-ne, Op.op-le, Op.op-ge, Op.op-lt, Op.op-gt, Op.op-mul, Op.op-div, Op.op-rem, Op.op-add, Op.op-sub, Op.op-and, Op.op-or}
-use Rattle.tokens.specs.Tokens.{Word, Word.w-struct, Word.w-if, Word.w-then, Word.w-null, Word.w-this, Word.w-fix, Word.w-int, Word.w-nat, Word.w-bool, Word.w-string, Word.w-true, Word.w-false}
-use Rattle.tokens.specs.Tokens.{Sign, Sign.lpar, Sign.rpar, Sign.lbrace, Sign.rbrace, Sign.comma, Sign.colon, Sign.semicolon, Sign.assign, Sign.dot, Sign.bang, Token, Token.word, Token.sign, Token.op, Token.name, Token.int, Token.nat}
+use Rattle.program.specs.Tree.{Op, Op.op-eq, Op.op-ne, Op.op-le, Op.op-ge, Op.op-lt, Op.op-gt, Op.op-mul, Op.op-div, Op.op-rem, Op.op-add, Op.op-sub}
+use Rattle.program.specs.Tree.{Op.op-and, Op.op-or}
+use Rattle.tokens.specs.Tokens.{Word, Word.w-struct, Word.w-if, Word.w-then, Word.w-null, Word.w-this, Word.w-fix, Word.w-int, Word.w-nat}
+use Rattle.tokens.specs.Tokens.{Word.w-bool, Word.w-string, Word.w-true, Word.w-false}
+use Rattle.tokens.specs.Tokens.{Sign, Sign.lpar, Sign.rpar, Sign.lbrace, Sign.rbrace, Sign.comma, Sign.colon, Sign.semicolon, Sign.assign, Sign.dot}
+use Rattle.tokens.specs.Tokens.{Sign.bang, Token, Token.word, Token.sign, Token.op, Token.name, Token.int, Token.nat}
 use Rattle.tokens.specs.Scanning.{words}
-use Rattle.syntax.specs.Syntax.{Id, TypeName, TypeName.int-type, TypeName.nat-type, TypeName.bool-type, TypeName.id-type, Literal, Literal.int-literal, Literal.nat-literal, Literal.bool-literal}
+use Rattle.syntax.specs.Syntax.{Id, TypeName, TypeName.int-type, TypeName.nat-type, TypeName.bool-type, TypeName.id-type, Literal}
+use Rattle.syntax.specs.Syntax.{Literal.int-literal, Literal.nat-literal, Literal.bool-literal}
 use Rattle.syntax.specs.Yield.{type-token, literal-token}
-use Rattle.syntax.specs.Expecting.{word-number, sign-number, on-word, on-sign, on-name, on-op, less, on-less, literal-word, on-literal, type-word, on-type-word, on-type}
+use Rattle.syntax.specs.Expecting.{word-number, sign-number, on-word, on-sign, on-name, on-op, less, on-less, literal-word, on-literal}
+use Rattle.syntax.specs.Expecting.{type-word, on-type-word, on-type}
 
 -- Numbers tell words and signs apart ------------------------------------------------------
 

@@ -6,6 +6,7 @@ pub mod Places
 pub mod Reading
 pub mod ExpectingLaws
 pub mod SoFar
+pub mod Unfold
 pub mod RowLaws
 pub mod PlaceLaws
 pub mod SoundLaws

@@ -1,20 +1,27 @@
 -- What is read was there: a state's tokens and one more are those of the state that it leads to.
 use mathlib.Core.Path.{_≡_, refl, ap, _∙_}
 use mathlib.Core.List.{List, [], _∷_}
-use Rattle.tokens.specs.Tokens.{Word.w-struct, Word.w-then, Word.w-null, Word.w-this, Word.w-fix, Sign.lpar, Sign.rpar, Sign.rbrace, Sign.comma, Sign.semicolon, Sign.bang, Token, Token.word, Token.sign, Token.name}
+use Rattle.tokens.specs.Tokens.{Word.w-struct, Word.w-then, Word.w-null, Word.w-this, Word.w-fix, Sign.lpar, Sign.rpar, Sign.rbrace, Sign.comma}
+use Rattle.tokens.specs.Tokens.{Sign.semicolon, Sign.bang, Token, Token.word, Token.sign, Token.name}
 use Rattle.syntax.specs.Syntax.{Exp, Exp.negation, Exps.no-exps, Exps.exps, Stat.if-then, Stats}
 use Rattle.syntax.specs.Syntax.{Step.step as a-step, Struct, Defs.last-struct, Item, Sched.last-item}
-use Rattle.syntax.specs.Places.{Body, Body.in-step, Body.in-then, Place, Place.in-brackets, Place.in-negation, Place.in-right, Place.in-constructor, Place.in-construct, Place.in-if, Place.in-assignment, Place.in-update, Row, Row.in-program, Row.in-fix}
+use Rattle.syntax.specs.Places.{Body, Body.in-step, Body.in-then, Place, Place.in-brackets, Place.in-negation, Place.in-right}
+use Rattle.syntax.specs.Places.{Place.in-constructor, Place.in-construct, Place.in-if, Place.in-assignment, Place.in-update, Row}
+use Rattle.syntax.specs.Places.{Row.in-program, Row.in-fix}
 use Rattle.syntax.specs.Places.{State, State.at-steps}
 use Rattle.syntax.specs.Places.{State.at-stats}
 use Rattle.syntax.specs.Places.{State.dead}
 use Rattle.syntax.specs.Places.{defs-onto}
-use Rattle.syntax.specs.Yield.{type-token, literal-token, yield-var, yield-exp, yield-exps, yield-exp-list, yield-stat, yield-stats, yield-par, yield-par-list, yield-pars, yield-step, yield-steps, yield-struct, yield-defs, yield-item, yield-sched}
-use Rattle.syntax.specs.Bracketing.{Spot.bare, Fits, FitsExps, FitsStat, FitsStats, FitsSteps, FitsStruct, FitsDefs}
-use Rattle.syntax.specs.SoFar.{structs-rev, pars-rev, steps-rev, ids-rev, exps-rev, stats-rev, items-rev, before-name, before-pars, before-steps, before-body, before-stat, before, before-row, before-item, so-far, FitsAll, FitsBefore, FitsStructs, SitsBody, SitsPlace, SitsRow, Sits}
+use Rattle.syntax.specs.Yield.{yield-exp, yield-stats}
+use Rattle.syntax.specs.Yield.{yield-item}
+use Rattle.syntax.specs.Bracketing.{Spot.bare, Fits, FitsStats}
+use Rattle.syntax.specs.SoFar.{structs-rev}
+use Rattle.syntax.specs.SoFar.{before-body, before-stat, before, before-item, so-far}
+use Rattle.syntax.specs.SoFar.{FitsStructs, SitsBody, SitsPlace, SitsRow, Sits}
 use Rattle.syntax.specs.Reading.{closed, behind, wanted, item-wanted, item-behind, begun}
 use Rattle.syntax.specs.ExpectingLaws.{on-word-law, on-sign-law, on-name-law, on-op-law, on-less-law, on-literal-law}
 use Rattle.syntax.specs.RowLaws.{exps-yield, defs-yield, sched-yield, exps-fit, defs-fit, fits-in}
+use Rattle.syntax.specs.Unfold.{sitting}
 
 -- a state that keeps to the brackets and whose tokens are given; nothing is said of a dead one
 pub data Kept (f : List Token → List Token) : State → Type 0 where
@@ -26,7 +33,7 @@ abbrev pub Goes : (List Token → List Token) → Token → State → Type 0
 Goes f t s = Kept (λ k. f (t ∷ k)) s
 
 pub closed-kept : (b : Stats) (c : Body) → FitsStats b → SitsBody c → Kept (λ k. before-body c (yield-stats b (sign rbrace ∷ k))) (closed b c)
-unfolding closed type-token literal-token yield-par-list so-far Sits before before-name before-pars before-steps before-body before-stat before-row before-item structs-rev pars-rev steps-rev ids-rev exps-rev stats-rev items-rev yield-var yield-exp yield-exps yield-exp-list yield-stat yield-stats yield-par yield-pars yield-step yield-steps yield-struct yield-defs yield-item yield-sched SitsBody SitsPlace SitsRow FitsAll FitsBefore FitsStructs Fits FitsExps FitsStat FitsStats FitsSteps FitsStruct FitsDefs
+unfolding closed sitting
 closed-kept b (in-step ds n ps ts x) f s = kept {s = at-steps ds n ps (a-step x b ∷ ts)} (s .0, (f, s .1)) (λ k. refl)
 closed-kept b (in-then e l c) f s = kept {s = at-stats (if-then e b ∷ l) c} (((s .0, f), s .1), s .2) (λ k. refl)
 
@@ -35,7 +42,7 @@ abbrev up-to : Place → Exp → List Token → List Token
 up-to p e k = before p (yield-exp e k)
 
 pub behind-kept : (p : Place) (e : Exp) (t : Token) → Fits bare e → SitsPlace p → Goes (up-to p e) t (behind p e t)
-unfolding behind type-token literal-token yield-par-list so-far Sits before before-name before-pars before-steps before-body before-stat before-row before-item structs-rev pars-rev steps-rev ids-rev exps-rev stats-rev items-rev yield-var yield-exp yield-exps yield-exp-list yield-stat yield-stats yield-par yield-pars yield-step yield-steps yield-struct yield-defs yield-item yield-sched SitsBody SitsPlace SitsRow FitsAll FitsBefore FitsStructs Fits FitsExps FitsStat FitsStats FitsSteps FitsStruct FitsDefs
+unfolding behind sitting
 behind-kept (in-brackets p) e t f s =
     on-sign-law (Goes (up-to (in-brackets p) e)) rpar _ _ t (kept (fits-in e f, s) (λ k. refl))
     (on-op-law (Goes (up-to (in-brackets p) e)) _ _ t (λ o. kept (f, s) (λ k. refl)) lost)
@@ -56,7 +63,7 @@ behind-kept (in-assignment a x l c) e t f s = on-sign-law (Goes (up-to (in-assig
 behind-kept (in-update v l c) e t f s = on-sign-law (Goes (up-to (in-update v l c) e)) semicolon _ _ t (kept ((f, s .0), s .1) (λ k. refl)) lost
 
 pub wanted-kept : (p : Place) (t : Token) → SitsPlace p → Goes (before p) t (wanted p t)
-unfolding wanted type-token literal-token yield-par-list so-far Sits before before-name before-pars before-steps before-body before-stat before-row before-item structs-rev pars-rev steps-rev ids-rev exps-rev stats-rev items-rev yield-var yield-exp yield-exps yield-exp-list yield-stat yield-stats yield-par yield-pars yield-step yield-steps yield-struct yield-defs yield-item yield-sched SitsBody SitsPlace SitsRow FitsAll FitsBefore FitsStructs Fits FitsExps FitsStat FitsStats FitsSteps FitsStruct FitsDefs
+unfolding wanted sitting
 wanted-kept p t s =
     on-name-law (Goes (before p)) _ _ t (λ x. kept s (λ k. refl))
     (on-sign-law (Goes (before p)) lpar _ _ t (kept s (λ k. refl))
@@ -65,12 +72,12 @@ wanted-kept p t s =
     (on-word-law (Goes (before p)) w-null _ _ t (kept s (λ k. refl)) (on-word-law (Goes (before p)) w-this _ _ t (kept (tt, s) (λ k. refl)) lost)))))
 
 pub item-wanted-kept : (l : List Item) (r : Row) (t : Token) → SitsRow r → Goes (before-item l r) t (item-wanted l r t)
-unfolding item-wanted type-token literal-token yield-par-list so-far Sits before before-name before-pars before-steps before-body before-stat before-row before-item structs-rev pars-rev steps-rev ids-rev exps-rev stats-rev items-rev yield-var yield-exp yield-exps yield-exp-list yield-stat yield-stats yield-par yield-pars yield-step yield-steps yield-struct yield-defs yield-item yield-sched SitsBody SitsPlace SitsRow FitsAll FitsBefore FitsStructs Fits FitsExps FitsStat FitsStats FitsSteps FitsStruct FitsDefs
+unfolding item-wanted sitting
 item-wanted-kept l r t s = on-name-law (Goes (before-item l r)) _ _ t (λ x. kept s (λ k. refl)) (on-word-law (Goes (before-item l r)) w-fix _ _ t
     (kept s (λ k. refl)) lost)
 
 pub item-behind-kept : (l : List Item) (r : Row) (i : Item) (t : Token) → SitsRow r → Goes (λ k. before-item l r (yield-item i k)) t (item-behind l r i t)
-unfolding item-behind type-token literal-token yield-par-list so-far Sits before before-name before-pars before-steps before-body before-stat before-row before-item structs-rev pars-rev steps-rev ids-rev exps-rev stats-rev items-rev yield-var yield-exp yield-exps yield-exp-list yield-stat yield-stats yield-par yield-pars yield-step yield-steps yield-struct yield-defs yield-item yield-sched SitsBody SitsPlace SitsRow FitsAll FitsBefore FitsStructs Fits FitsExps FitsStat FitsStats FitsSteps FitsStruct FitsDefs
+unfolding item-behind sitting
 item-behind-kept l (in-program d) i t s = on-less-law (Goes (λ k. before-item l (in-program d) (yield-item i k))) _ _ t (kept s (λ k. refl)) lost
 item-behind-kept l (in-fix m r) i t s =
     on-less-law (Goes (λ k. before-item l (in-fix m r) (yield-item i k))) _ _ t (kept s (λ k. refl))
@@ -78,7 +85,7 @@ item-behind-kept l (in-fix m r) i t s =
     (kept s (λ k. ap (λ u. before-item m r (word w-fix ∷ sign lpar ∷ u)) (sched-yield l (last-item i) (sign rpar ∷ k)))) lost)
 
 pub begun-kept : (ds : List Struct) (t : Token) → FitsStructs ds → Goes (structs-rev ds) t (begun ds t)
-unfolding begun type-token literal-token yield-par-list so-far Sits before before-name before-pars before-steps before-body before-stat before-row before-item structs-rev pars-rev steps-rev ids-rev exps-rev stats-rev items-rev yield-var yield-exp yield-exps yield-exp-list yield-stat yield-stats yield-par yield-pars yield-step yield-steps yield-struct yield-defs yield-item yield-sched SitsBody SitsPlace SitsRow FitsAll FitsBefore FitsStructs Fits FitsExps FitsStat FitsStats FitsSteps FitsStruct FitsDefs
+unfolding begun sitting
 begun-kept [] t s = on-word-law (Goes (structs-rev [])) w-struct _ _ t (kept s (λ k. refl)) lost
 begun-kept (d ∷ ds) t s =
     on-word-law (Goes (structs-rev (d ∷ ds))) w-struct _ _ t (kept s (λ k. refl))

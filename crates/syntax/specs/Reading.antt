@@ -1,15 +1,24 @@
 -- Reading, one token at a time and with no recursion over the text: what a token makes of a derivation in progress.
 use mathlib.Core.List.{List, [], _∷_, reverseAux}
 use mathlib.Core.Option.{Option, none, some}
-use Rattle.tokens.specs.Tokens.{Word.w-struct, Word.w-if, Word.w-then, Word.w-null, Word.w-this, Word.w-fix, Sign.lpar, Sign.rpar, Sign.lbrace, Sign.rbrace, Sign.comma, Sign.colon, Sign.semicolon, Sign.assign, Sign.dot as dot-sign, Sign.bang, Token}
+use Rattle.tokens.specs.Tokens.{Word.w-struct, Word.w-if, Word.w-then, Word.w-null, Word.w-this, Word.w-fix, Sign.lpar, Sign.rpar, Sign.lbrace}
+use Rattle.tokens.specs.Tokens.{Sign.rbrace, Sign.comma, Sign.colon, Sign.semicolon, Sign.assign, Sign.dot as dot-sign, Sign.bang, Token}
 use Rattle.syntax.specs.Syntax.{TypeName.id-type, Var.id}
-use Rattle.syntax.specs.Syntax.{Exp, Exp.binary, Exp.brackets, Exp.negation, Exp.constructor, Exp.variable, Exp.literal, Exp.null, Exp.this, Exps.no-exps, Exps.exps, Stat.if-then, Stat.assignment, Stat.update, Stat.construct, Stats, Stats.no-stats}
-use Rattle.syntax.specs.Syntax.{Par.par, Step.step as a-step, Struct, Struct.struct, Defs.last-struct, Item, Item.execution, Item.typed-execution, Item.fixpoint, Sched.last-item, Program, Program.program}
+use Rattle.syntax.specs.Syntax.{Exp, Exp.binary, Exp.brackets, Exp.negation, Exp.constructor, Exp.variable, Exp.literal, Exp.null, Exp.this}
+use Rattle.syntax.specs.Syntax.{Exps.no-exps, Exps.exps, Stat.if-then, Stat.assignment, Stat.update, Stat.construct, Stats, Stats.no-stats}
+use Rattle.syntax.specs.Syntax.{Par.par, Step.step as a-step, Struct, Struct.struct, Defs.last-struct, Item, Item.execution}
+use Rattle.syntax.specs.Syntax.{Item.typed-execution, Item.fixpoint, Sched.last-item, Program, Program.program}
 use Rattle.syntax.specs.Expecting.{on-word, on-sign, on-name, on-op, on-less, on-literal, on-type-word, on-type}
-use Rattle.syntax.specs.Places.{Body, Body.in-step, Body.in-then, Place, Place.in-brackets, Place.in-negation, Place.in-right, Place.in-constructor, Place.in-construct, Place.in-if, Place.in-assignment, Place.in-update, Row, Row.in-program, Row.in-fix}
-use Rattle.syntax.specs.Places.{State, State.at-defs, State.at-struct, State.at-struct-open, State.at-pars, State.at-par, State.at-colon, State.at-par-type, State.behind-par, State.at-steps-open, State.at-steps, State.at-step-open}
-use Rattle.syntax.specs.Places.{State.at-stats, State.behind-name, State.at-dot-name, State.behind-dot-name, State.at-local, State.at-assign, State.at-construct, State.at-semicolon, State.at-then-open}
-use Rattle.syntax.specs.Places.{State.want, State.after, State.behind-id, State.at-dot-id, State.behind-dot-id, State.at-args, State.at-null-type, State.at-item, State.behind-execution, State.at-step-name, State.at-fix-open, State.behind-item, State.dead}
+use Rattle.syntax.specs.Places.{Body, Body.in-step, Body.in-then, Place, Place.in-brackets, Place.in-negation, Place.in-right}
+use Rattle.syntax.specs.Places.{Place.in-constructor, Place.in-construct, Place.in-if, Place.in-assignment, Place.in-update, Row}
+use Rattle.syntax.specs.Places.{Row.in-program, Row.in-fix}
+use Rattle.syntax.specs.Places.{State, State.at-defs, State.at-struct, State.at-struct-open, State.at-pars, State.at-par, State.at-colon}
+use Rattle.syntax.specs.Places.{State.at-par-type, State.behind-par, State.at-steps-open, State.at-steps, State.at-step-open}
+use Rattle.syntax.specs.Places.{State.at-stats, State.behind-name, State.at-dot-name, State.behind-dot-name, State.at-local, State.at-assign}
+use Rattle.syntax.specs.Places.{State.at-construct, State.at-semicolon, State.at-then-open}
+use Rattle.syntax.specs.Places.{State.want, State.after, State.behind-id, State.at-dot-id, State.behind-dot-id, State.at-args}
+use Rattle.syntax.specs.Places.{State.at-null-type, State.at-item, State.behind-execution, State.at-step-name, State.at-fix-open}
+use Rattle.syntax.specs.Places.{State.behind-item, State.dead}
 use Rattle.syntax.specs.Places.{var-onto, exps-onto, stats-onto, defs-onto, sched-onto}
 
 -- statements have ended

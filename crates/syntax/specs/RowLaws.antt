@@ -3,7 +3,8 @@ use mathlib.Core.Path.{_≡_, refl}
 use mathlib.Core.List.{List, [], _∷_, reverseAux}
 use Rattle.tokens.specs.Tokens.{Token}
 use Rattle.syntax.specs.Syntax.{Id, Var, Var.dot}
-use Rattle.syntax.specs.Syntax.{Exp, Exp.binary, Exp.brackets, Exp.negation, Exp.constructor, Exp.variable, Exp.literal, Exp.null, Exp.this, Exps, Exps.exps, Stat, Stats, Stats.stats}
+use Rattle.syntax.specs.Syntax.{Exp, Exp.binary, Exp.brackets, Exp.negation, Exp.constructor, Exp.variable, Exp.literal, Exp.null, Exp.this}
+use Rattle.syntax.specs.Syntax.{Exps, Exps.exps, Stat, Stats, Stats.stats}
 use Rattle.syntax.specs.Syntax.{Par, Step, Step.step as a-step, Struct, Defs, Defs.defs, Item, Sched, Sched.barrier}
 use Rattle.syntax.specs.Places.{var-onto, exps-onto, stats-onto, defs-onto, sched-onto}
 use Rattle.syntax.specs.Yield.{yield-var, yield-exps, yield-exp-list, yield-stats, yield-par-list, yield-pars, yield-steps, yield-defs, yield-sched}

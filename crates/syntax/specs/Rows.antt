@@ -4,13 +4,16 @@ use mathlib.Core.Bool.{Bool, true, false}
 use mathlib.Core.List.{List, [], _∷_, _++_}
 use mathlib.Core.Option.{Option, none, some}
 use Rattle.program.specs.Tree.{Op.op-eq, Op.op-lt, Op.op-add, Op.op-and}
-use Rattle.tokens.specs.Tokens.{Word.w-struct, Word.w-if, Word.w-then, Word.w-null, Word.w-this, Word.w-fix, Word.w-int, Word.w-nat, Word.w-string, Word.w-true, Sign.lpar, Sign.rpar, Sign.lbrace, Sign.rbrace, Sign.comma, Sign.colon, Sign.semicolon, Sign.assign, Sign.dot, Sign.bang, Polarity.plus, Token, Token.word, Token.sign, Token.op, Token.name, Token.int, Token.nat}
+use Rattle.tokens.specs.Tokens.{Word.w-struct, Word.w-if, Word.w-then, Word.w-null, Word.w-this, Word.w-fix, Word.w-int, Word.w-nat, Word.w-string}
+use Rattle.tokens.specs.Tokens.{Word.w-true, Sign.lpar, Sign.rpar, Sign.lbrace, Sign.rbrace, Sign.comma, Sign.colon, Sign.semicolon, Sign.assign}
+use Rattle.tokens.specs.Tokens.{Sign.dot, Sign.bang, Polarity.plus, Token, Token.word, Token.sign, Token.op, Token.name, Token.int, Token.nat}
 use Rattle.tokens.specs.Rows.{tokens-P}
-use Rattle.syntax.specs.Syntax.{TypeName.int-type, TypeName.id-type, Var.id, Var.dot as path, Exp.binary, Exp.brackets, Exp.variable, Stat.update, Stats.no-stats, Stats.stats, Par.par, Step.step as a-step, Struct.struct, Defs.last-struct, Item.execution, Sched.last-item, Program, Program.program}
+use Rattle.syntax.specs.Syntax.{TypeName.int-type, TypeName.id-type, Var.id, Var.dot as path, Exp.binary, Exp.brackets, Exp.variable}
+use Rattle.syntax.specs.Syntax.{Stat.update, Stats.no-stats, Stats.stats, Par.par, Step.step as a-step, Struct.struct, Defs.last-struct}
+use Rattle.syntax.specs.Syntax.{Item.execution, Sched.last-item, Program, Program.program}
 use Rattle.syntax.specs.Letters.{A, B, a, b, s}
-use Rattle.syntax.specs.Expecting.{word-number, sign-number, on-word, on-sign, on-name, on-op, less, on-less, literal-word, on-literal, type-word, on-type-word, on-type}
-use Rattle.syntax.specs.Places.{var-onto, exps-onto, stats-onto, defs-onto, sched-onto}
-use Rattle.syntax.specs.Reading.{closed, behind, wanted, item-wanted, item-behind, begun, step, run, whole, ended, read}
+use Rattle.syntax.specs.Reading.{step, read}
+use Rattle.syntax.specs.Unfold.{reading}
 
 -- whether tokens derive
 unfoldable pub derivable : Option Program → Bool
@@ -130,7 +133,7 @@ programs =
     ∷ []
 
 pub statements-hold : Rows statements
-unfolding statements derivable word-number sign-number on-word on-sign on-name on-op less on-less literal-word on-literal type-word on-type-word on-type var-onto exps-onto stats-onto defs-onto sched-onto closed behind wanted item-wanted item-behind begun step run whole ended read
+unfolding statements derivable reading
 statements-hold =
     (and-then refl (and-then refl (and-then refl (and-then refl (and-then refl (and-then refl (and-then refl (and-then refl
     (and-then refl (and-then refl (and-then refl (and-then refl (and-then refl (and-then refl (and-then refl (and-then refl
@@ -138,7 +141,7 @@ statements-hold =
     (and-then refl (and-then refl (and-then refl (and-then refl no-more))))))))))))))))))))))))))))
 
 pub programs-hold : Rows programs
-unfolding programs derivable word-number sign-number on-word on-sign on-name on-op less on-less literal-word on-literal type-word on-type-word on-type var-onto exps-onto stats-onto defs-onto sched-onto closed behind wanted item-wanted item-behind begun step run whole ended read
+unfolding programs derivable reading
 programs-hold =
     (and-then refl (and-then refl (and-then refl (and-then refl (and-then refl (and-then refl (and-then refl (and-then refl
     (and-then refl (and-then refl (and-then refl (and-then refl (and-then refl no-more)))))))))))))
@@ -156,5 +159,5 @@ pub P-derived : read tokens-P
     no-stats)
     ∷ [])))
     (last-item (execution (97 ∷ 100 ∷ 100 ∷ []))))
-unfolding tokens-P derivable word-number sign-number on-word on-sign on-name on-op less on-less literal-word on-literal type-word on-type-word on-type var-onto exps-onto stats-onto defs-onto sched-onto closed behind wanted item-wanted item-behind begun step run whole ended read
+unfolding tokens-P derivable reading
 P-derived = refl

@@ -1,15 +1,23 @@
 -- What was read in a state: the tokens before it, in front of some tokens k; and that its trees keep to the brackets.
 use mathlib.Core.List.{List, [], _∷_}
 use Rattle.program.specs.Tree.{Op.op-lt}
-use Rattle.tokens.specs.Tokens.{Word.w-struct, Word.w-if, Word.w-then, Word.w-null, Word.w-fix, Sign.lpar, Sign.rpar, Sign.lbrace, Sign.comma, Sign.colon, Sign.assign, Sign.dot as dot-sign, Sign.bang, Token, Token.word, Token.sign, Token.op, Token.name}
+use Rattle.tokens.specs.Tokens.{Word.w-struct, Word.w-if, Word.w-then, Word.w-null, Word.w-fix, Sign.lpar, Sign.rpar, Sign.lbrace, Sign.comma}
+use Rattle.tokens.specs.Tokens.{Sign.colon, Sign.assign, Sign.dot as dot-sign, Sign.bang, Token, Token.word, Token.sign, Token.op, Token.name}
 use Rattle.syntax.specs.Syntax.{Id}
 use Rattle.syntax.specs.Syntax.{Exp, Stat}
 use Rattle.syntax.specs.Syntax.{Par, Step, Struct, Item}
-use Rattle.syntax.specs.Places.{Body, Body.in-step, Body.in-then, Place, Place.in-brackets, Place.in-negation, Place.in-right, Place.in-constructor, Place.in-construct, Place.in-if, Place.in-assignment, Place.in-update, Row, Row.in-program, Row.in-fix}
-use Rattle.syntax.specs.Places.{State, State.at-defs, State.at-struct, State.at-struct-open, State.at-pars, State.at-par, State.at-colon, State.at-par-type, State.behind-par, State.at-steps-open, State.at-steps, State.at-step-open}
-use Rattle.syntax.specs.Places.{State.at-stats, State.behind-name, State.at-dot-name, State.behind-dot-name, State.at-local, State.at-assign, State.at-construct, State.at-semicolon, State.at-then-open}
-use Rattle.syntax.specs.Places.{State.want, State.after, State.behind-id, State.at-dot-id, State.behind-dot-id, State.at-args, State.at-null-type, State.at-item, State.behind-execution, State.at-step-name, State.at-fix-open, State.behind-item, State.dead}
-use Rattle.syntax.specs.Yield.{type-token, yield-var, yield-exp, yield-exps, yield-stat, yield-par, yield-pars, yield-step, yield-struct, yield-defs, yield-item}
+use Rattle.syntax.specs.Places.{Body, Body.in-step, Body.in-then, Place, Place.in-brackets, Place.in-negation, Place.in-right}
+use Rattle.syntax.specs.Places.{Place.in-constructor, Place.in-construct, Place.in-if, Place.in-assignment, Place.in-update, Row}
+use Rattle.syntax.specs.Places.{Row.in-program, Row.in-fix}
+use Rattle.syntax.specs.Places.{State, State.at-defs, State.at-struct, State.at-struct-open, State.at-pars, State.at-par, State.at-colon}
+use Rattle.syntax.specs.Places.{State.at-par-type, State.behind-par, State.at-steps-open, State.at-steps, State.at-step-open}
+use Rattle.syntax.specs.Places.{State.at-stats, State.behind-name, State.at-dot-name, State.behind-dot-name, State.at-local, State.at-assign}
+use Rattle.syntax.specs.Places.{State.at-construct, State.at-semicolon, State.at-then-open}
+use Rattle.syntax.specs.Places.{State.want, State.after, State.behind-id, State.at-dot-id, State.behind-dot-id, State.at-args}
+use Rattle.syntax.specs.Places.{State.at-null-type, State.at-item, State.behind-execution, State.at-step-name, State.at-fix-open}
+use Rattle.syntax.specs.Places.{State.behind-item, State.dead}
+use Rattle.syntax.specs.Yield.{type-token, yield-var, yield-exp, yield-exps, yield-stat, yield-par, yield-pars, yield-step, yield-struct}
+use Rattle.syntax.specs.Yield.{yield-defs, yield-item}
 use Rattle.syntax.specs.Bracketing.{Spot.bare, Fits, FitsExps, FitsStat, FitsSteps, FitsStruct, FitsDefs}
 
 -- Tokens ----------------------------------------------------------------------------------------

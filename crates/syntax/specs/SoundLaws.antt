@@ -4,25 +4,35 @@ use native.Mathlib.Omega.{arith}
 use mathlib.Core.Path.{_≡_, refl, ap, _∙_}
 use mathlib.Core.List.{List, [], _∷_, _++_, append-nil}
 use mathlib.Core.Option.{Option, none, some}
-use Rattle.tokens.specs.Tokens.{Word.w-if, Sign.lpar, Sign.rpar, Sign.lbrace, Sign.rbrace, Sign.comma, Sign.colon, Sign.semicolon, Sign.assign, Sign.dot as dot-sign, Token, Token.sign, Token.name}
+use Rattle.tokens.specs.Tokens.{Word.w-if, Sign.lpar, Sign.rpar, Sign.lbrace, Sign.rbrace, Sign.comma, Sign.colon, Sign.semicolon, Sign.assign}
+use Rattle.tokens.specs.Tokens.{Sign.dot as dot-sign, Token, Token.sign, Token.name}
 use Rattle.syntax.specs.Syntax.{Var.id}
 use Rattle.syntax.specs.Syntax.{Exp.variable, Stats.no-stats}
 use Rattle.syntax.specs.Syntax.{Item, Item.execution, Sched.last-item, Program, Program.program}
 use Rattle.syntax.specs.Places.{Place.in-constructor, Place.in-construct, Row, Row.in-program, Row.in-fix}
-use Rattle.syntax.specs.Places.{State, State.at-defs, State.at-struct, State.at-struct-open, State.at-pars, State.at-par, State.at-colon, State.at-par-type, State.behind-par, State.at-steps-open, State.at-steps, State.at-step-open}
-use Rattle.syntax.specs.Places.{State.at-stats, State.behind-name, State.at-dot-name, State.behind-dot-name, State.at-local, State.at-assign, State.at-construct, State.at-semicolon, State.at-then-open}
-use Rattle.syntax.specs.Places.{State.want, State.after, State.behind-id, State.at-dot-id, State.behind-dot-id, State.at-args, State.at-null-type, State.at-item, State.behind-execution, State.at-step-name, State.at-fix-open, State.behind-item, State.dead}
+use Rattle.syntax.specs.Places.{State, State.at-defs, State.at-struct, State.at-struct-open, State.at-pars, State.at-par, State.at-colon}
+use Rattle.syntax.specs.Places.{State.at-par-type, State.behind-par, State.at-steps-open, State.at-steps, State.at-step-open}
+use Rattle.syntax.specs.Places.{State.at-stats, State.behind-name, State.at-dot-name, State.behind-dot-name, State.at-local, State.at-assign}
+use Rattle.syntax.specs.Places.{State.at-construct, State.at-semicolon, State.at-then-open}
+use Rattle.syntax.specs.Places.{State.want, State.after, State.behind-id, State.at-dot-id, State.behind-dot-id, State.at-args}
+use Rattle.syntax.specs.Places.{State.at-null-type, State.at-item, State.behind-execution, State.at-step-name, State.at-fix-open}
+use Rattle.syntax.specs.Places.{State.behind-item, State.dead}
 use Rattle.syntax.specs.Places.{var-onto, stats-onto, sched-onto}
-use Rattle.syntax.specs.Yield.{type-token, literal-token, yield-var, yield-exp, yield-exps, yield-exp-list, yield-stat, yield-stats, yield-par, yield-par-list, yield-pars, yield-step, yield-steps, yield-struct, yield-defs, yield-item, yield-sched, yield}
-use Rattle.syntax.specs.Bracketing.{Fits, FitsExps, FitsStat, FitsStats, FitsSteps, FitsStruct, FitsDefs, FitsProgram, Derives}
-use Rattle.syntax.specs.SoFar.{structs-rev, pars-rev, steps-rev, ids-rev, exps-rev, stats-rev, items-rev, before-name, before-pars, before-steps, before-body, before-stat, before, before-row, before-item, so-far, FitsAll, FitsBefore, FitsStructs, SitsBody, SitsPlace, SitsRow, Sits}
+use Rattle.syntax.specs.Yield.{yield-var, yield-stats}
+use Rattle.syntax.specs.Yield.{yield-defs, yield-item, yield-sched, yield}
+use Rattle.syntax.specs.Bracketing.{FitsProgram, Derives}
+use Rattle.syntax.specs.SoFar.{structs-rev, ids-rev, items-rev, before-pars}
+use Rattle.syntax.specs.SoFar.{before-steps, before-body, before-stat, before, before-row, before-item, so-far}
+use Rattle.syntax.specs.SoFar.{FitsStructs, SitsRow, Sits}
 use Rattle.syntax.specs.Reading.{step, run, whole, ended, read}
 use Rattle.syntax.specs.ExpectingLaws.{on-word-law, on-sign-law, on-name-law, on-type-word-law, on-type-law}
 use Rattle.syntax.specs.RowLaws.{var-yield, stats-yield, pars-yield, steps-yield, sched-yield, stats-fit, steps-fit}
-use Rattle.syntax.specs.PlaceLaws.{Kept, Kept.kept, Kept.lost, Goes, closed-kept, behind-kept, wanted-kept, item-wanted-kept, item-behind-kept, begun-kept}
+use Rattle.syntax.specs.PlaceLaws.{Kept, Kept.kept, Kept.lost, Goes, closed-kept, behind-kept, wanted-kept, item-wanted-kept, item-behind-kept}
+use Rattle.syntax.specs.PlaceLaws.{begun-kept}
+use Rattle.syntax.specs.Unfold.{sitting}
 
 steps-kept : (u : State) (t : Token) → Sits u → Goes (so-far u) t (step u t)
-unfolding step type-token literal-token yield-par-list so-far Sits before before-name before-pars before-steps before-body before-stat before-row before-item structs-rev pars-rev steps-rev ids-rev exps-rev stats-rev items-rev yield-var yield-exp yield-exps yield-exp-list yield-stat yield-stats yield-par yield-pars yield-step yield-steps yield-struct yield-defs yield-item yield-sched SitsBody SitsPlace SitsRow FitsAll FitsBefore FitsStructs Fits FitsExps FitsStat FitsStats FitsSteps FitsStruct FitsDefs
+unfolding step sitting
 steps-kept (at-defs ds) t s = begun-kept ds t s
 steps-kept (at-struct ds) t s = on-name-law (Goes (so-far (at-struct ds))) _ _ t (λ x. kept s (λ k. refl)) lost
 steps-kept (at-struct-open ds m) t s = on-sign-law (Goes (so-far (at-struct-open ds m))) lpar _ _ t (kept s (λ k. refl)) lost

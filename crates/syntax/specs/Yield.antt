@@ -2,10 +2,17 @@
 use mathlib.Core.Bool.{true, false}
 use mathlib.Core.List.{List, [], _∷_}
 use Rattle.program.specs.Tree.{Op.op-lt}
-use Rattle.tokens.specs.Tokens.{Word.w-struct, Word.w-if, Word.w-then, Word.w-null, Word.w-this, Word.w-fix, Word.w-int, Word.w-nat, Word.w-bool, Word.w-true, Word.w-false, Sign.lpar, Sign.rpar, Sign.lbrace, Sign.rbrace, Sign.comma, Sign.colon, Sign.semicolon, Sign.assign, Sign.dot as dot-sign, Sign.bang, Token, Token.word, Token.sign, Token.op, Token.name, Token.int, Token.nat}
-use Rattle.syntax.specs.Syntax.{TypeName, TypeName.int-type, TypeName.nat-type, TypeName.bool-type, TypeName.id-type, Literal, Literal.int-literal, Literal.nat-literal, Literal.bool-literal, Var, Var.id, Var.dot}
-use Rattle.syntax.specs.Syntax.{Exp, Exp.binary, Exp.brackets, Exp.negation, Exp.constructor, Exp.variable, Exp.literal, Exp.null, Exp.this, Exps, Exps.no-exps, Exps.exps, Stat, Stat.if-then, Stat.assignment, Stat.update, Stat.construct, Stats, Stats.no-stats, Stats.stats}
-use Rattle.syntax.specs.Syntax.{Par, Par.par, Step, Step.step, Struct, Struct.struct, Defs, Defs.last-struct, Defs.defs, Item, Item.execution, Item.typed-execution, Item.fixpoint, Sched, Sched.last-item, Sched.barrier, Program, Program.program}
+use Rattle.tokens.specs.Tokens.{Word.w-struct, Word.w-if, Word.w-then, Word.w-null, Word.w-this, Word.w-fix, Word.w-int, Word.w-nat, Word.w-bool}
+use Rattle.tokens.specs.Tokens.{Word.w-true, Word.w-false, Sign.lpar, Sign.rpar, Sign.lbrace, Sign.rbrace, Sign.comma, Sign.colon, Sign.semicolon}
+use Rattle.tokens.specs.Tokens.{Sign.assign, Sign.dot as dot-sign, Sign.bang, Token, Token.word, Token.sign, Token.op, Token.name, Token.int}
+use Rattle.tokens.specs.Tokens.{Token.nat}
+use Rattle.syntax.specs.Syntax.{TypeName, TypeName.int-type, TypeName.nat-type, TypeName.bool-type, TypeName.id-type, Literal}
+use Rattle.syntax.specs.Syntax.{Literal.int-literal, Literal.nat-literal, Literal.bool-literal, Var, Var.id, Var.dot}
+use Rattle.syntax.specs.Syntax.{Exp, Exp.binary, Exp.brackets, Exp.negation, Exp.constructor, Exp.variable, Exp.literal, Exp.null, Exp.this}
+use Rattle.syntax.specs.Syntax.{Exps, Exps.no-exps, Exps.exps, Stat, Stat.if-then, Stat.assignment, Stat.update, Stat.construct, Stats}
+use Rattle.syntax.specs.Syntax.{Stats.no-stats, Stats.stats}
+use Rattle.syntax.specs.Syntax.{Par, Par.par, Step, Step.step, Struct, Struct.struct, Defs, Defs.last-struct, Defs.defs, Item, Item.execution}
+use Rattle.syntax.specs.Syntax.{Item.typed-execution, Item.fixpoint, Sched, Sched.last-item, Sched.barrier, Program, Program.program}
 
 unfoldable pub type-token : TypeName → Token
 type-token int-type = word w-int

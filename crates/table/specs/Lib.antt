@@ -1,4 +1,5 @@
 pub mod Table
+pub mod EachLaws
 pub mod TableFaults
 pub mod TableReader
 pub mod Sizes

@@ -9,9 +9,11 @@ use lib.IntN.{pos, negsuc}
 use Rattle.types.specs.TypeBytes.{word-end}
 use Rattle.types.specs.Types.{Ty, Ty.int, Ty.nat, Ty.bool, Ty.ref}
 use Rattle.types.specs.Values.{Val, Val.int-val, Val.nat-val, Val.bool-val, Val.label, word-int, value-of}
-use Rattle.program.specs.Reader.{then, pair, made, many, guard, ended, whole, between, byte, tested, ranged, read-word}
+use Rattle.program.specs.Reader.{byte, read-word}
 use Rattle.table.specs.Table.{Record, struct-at}
-use Rattle.table.specs.TableReader.{read-value, read-values, read-record, read-count, read-table, is-struct, refers, refers-each, references, TableAnswer, TableAnswer.table, TableAnswer.no-table, table-number, table-answer, table-of-stream}
+use Rattle.table.specs.TableReader.{read-value, read-values, read-record, read-count, read-table, is-struct, refers, refers-each, references}
+use Rattle.table.specs.TableReader.{TableAnswer, TableAnswer.table, TableAnswer.no-table, table-number, table-answer, table-of-stream}
+use Rattle.program.specs.Unfold.{joining}
 
 -- the parameter types of each struct, a stream, and what it comes to
 pub record Row : Type 0 where
@@ -75,7 +77,8 @@ rows =
     ∷ row flag (1 ∷ 0 ∷ 0 ∷ 1 ∷ 1 ∷ 0 ∷ 0 ∷ []) (no-table 12)
     ∷ row flag (2 ∷ 0 ∷ 0 ∷ four 2) (no-table 12)
     ∷ row ((int ∷ nat ∷ []) ∷ []) (1 ∷ 0 ∷ 0 ∷ replicate 8 255) (table (rec 0 (int-val (negsuc 0) ∷ nat-val 4294967295 ∷ []) ∷ []))
-    ∷ row ((int ∷ int ∷ []) ∷ []) (1 ∷ 0 ∷ 0 ∷ 0 ∷ 0 ∷ 0 ∷ 128 ∷ 255 ∷ 255 ∷ 255 ∷ 127 ∷ []) (table (rec 0 (int-val (negsuc 2147483647) ∷ int-val (pos 2147483647) ∷ []) ∷ []))
+    ∷ row ((int ∷ int ∷ []) ∷ []) (1 ∷ 0 ∷ 0 ∷ 0 ∷ 0 ∷ 0 ∷ 128 ∷ 255 ∷ 255 ∷ 255 ∷ 127 ∷ [])
+    (table (rec 0 (int-val (negsuc 2147483647) ∷ int-val (pos 2147483647) ∷ []) ∷ []))
     -- a reference to itself, to a later record, to an absent label, to 256 more than itself
     ∷ row P (1 ∷ 0 ∷ bytes-P 5 1) (table (rec-P 5 1 ∷ []))
     ∷ row P (2 ∷ 0 ∷ bytes-P 5 2 ++ bytes-P 7 0) (table (rec-P 5 2 ∷ rec-P 7 0 ∷ []))
@@ -92,7 +95,12 @@ rows =
     ∷ row P (2 ∷ 0 ∷ bytes-P 5 3 ++ 0 ∷ four 7) (no-table 11)
     ∷ []
 
+-- the reader of a table: what an `unfolding` line opens by one name
+reader : Type 0
+unfolding joining read-word struct-at read-value read-values read-record read-count read-table is-struct refers refers-each references
+reader = Unit {0}
+
 -- every row's stream comes to its answer
 pub rows-hold : map (λ r. table-of-stream (r .params) (r .stream)) rows ≡ map (λ r. r .answer) rows
-unfolding word-end rows word-int value-of then pair made many guard ended whole between byte tested ranged read-word struct-at read-value read-values read-record read-count read-table is-struct refers refers-each references table-number table-answer table-of-stream
+unfolding word-end rows word-int value-of reader table-number table-answer table-of-stream
 rows-hold = refl

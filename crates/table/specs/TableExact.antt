@@ -11,7 +11,8 @@ use Rattle.types.specs.Types.{Ty}
 use Rattle.types.specs.Values.{Val, Val.nat-val, word, value-of}
 use Rattle.program.specs.Encoding.{enc-word, flat}
 use Rattle.program.specs.Reader.{Result, Result.ok, Result.bad, wrong-end, then, guard}
-use Rattle.program.specs.Exact.{Stands, Stands.done, Told, Told.told, Told.silent, Beyond.value-beyond, Beyond.refusal-beyond, Cut, Cut.same, Cut.stop, Cut.short, At, Exact}
+use Rattle.program.specs.Exact.{Stands, Stands.done, Told, Told.told, Told.silent, Beyond.value-beyond, Beyond.refusal-beyond, Cut, Cut.same}
+use Rattle.program.specs.Exact.{Cut.stop, Cut.short, At, Exact}
 use Rattle.program.specs.Laws.StandsLaws.{both, split, stands-none, stands-length}
 use Rattle.program.specs.Laws.PartLaws.{told-then, told-weak, told-is, then-ok, cuts-ok, cuts-then}
 use Rattle.program.specs.Laws.JoinLaws.{exact-iff, made-exact, pair-exact, row-exact, flat-row}

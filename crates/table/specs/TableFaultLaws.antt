@@ -16,7 +16,8 @@ use Rattle.program.specs.Exact.{Stands}
 use Rattle.program.specs.Laws.StandsLaws.{stands-drop, stands-whole}
 use Rattle.program.specs.Laws.StreamLaws.{exact-at}
 use Rattle.table.specs.Table.{Record, enc-table, HeldTable, TableRight}
-use Rattle.table.specs.TableFaults.{field-bytes, TableEnds, TableEnds.ends-early, TableEnds.goes-on, TableOffends, TableOffends.not-allowed, TableOffends.no-byte, TableOffends.wrong-reference}
+use Rattle.table.specs.TableFaults.{field-bytes, TableEnds, TableEnds.ends-early, TableEnds.goes-on, TableOffends, TableOffends.not-allowed}
+use Rattle.table.specs.TableFaults.{TableOffends.no-byte, TableOffends.wrong-reference}
 use Rattle.table.specs.TableReader.{read-table, references, TableAnswer.no-table, table-end, table-value, table-number, table-of-stream}
 use Rattle.table.specs.FieldLaws.{NumberFault.cut, NumberFault.strange, NumberFault.unfit}
 use Rattle.table.specs.RefusingLaws.{blames-is}

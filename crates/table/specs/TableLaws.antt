@@ -11,7 +11,8 @@ use Rattle.types.specs.Types.{Ty}
 use Rattle.program.specs.Reader.{Result, Result.ok, Result.bad, wrong-end, whole}
 use Rattle.program.specs.Laws.StreamLaws.{exact, injective, trailing}
 use Rattle.table.specs.Table.{Record, enc-table, HeldTable, References, TableRight}
-use Rattle.table.specs.TableReader.{read-table, references, TableAnswer.table, TableAnswer.no-table, table-end, table-value, table-number, table-answer, table-of-stream}
+use Rattle.table.specs.TableReader.{read-table, references, TableAnswer.table, TableAnswer.no-table, table-end, table-value, table-number}
+use Rattle.table.specs.TableReader.{table-answer, table-of-stream}
 use Rattle.table.specs.TableExact.{table-exact}
 use Rattle.table.specs.ReferenceLaws.{references-exact}
 

@@ -12,7 +12,8 @@ use Rattle.types.specs.Values.{Val, value-of}
 use Rattle.program.specs.Encoding.{enc-word, flat}
 use Rattle.program.specs.Laws.WordLaws.{below-exact}
 use Rattle.table.specs.Table.{Record, value-bytes, count-bytes, enc-value, enc-record, Each, Held, HeldRecord}
-use Rattle.table.specs.TableFaults.{Field, Field.count, Field.struct-byte, Field.value, field-bytes, Allowed, Front, Front.at-count, Front.at-struct, Front.at-value}
+use Rattle.table.specs.TableFaults.{Field, Field.count, Field.struct-byte, Field.value, field-bytes, Allowed, Front, Front.at-count}
+use Rattle.table.specs.TableFaults.{Front.at-struct, Front.at-value}
 use Rattle.table.specs.TableReader.{allowed, read-value, read-values, read-record, read-count, read-table}
 use Rattle.table.specs.ValueLaws.{value-of-word, word-of-value}
 use Rattle.table.specs.Refusing.{Refusing, Joined, Joined.in-first, Joined.in-second, InRow, InRow.in-row}

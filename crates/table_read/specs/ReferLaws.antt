@@ -131,7 +131,9 @@ module _ (cs ts : List ℕ) (bytes : (i : ℕ) → getD ts i 0 < 256) (rs : List
   record-refers c j q o s =
       let e : getD params (q .struct) [] ≡ types-from ts (max-params * q .struct) (getD cs (q .struct) 0) = list-is cs ts (q .struct) in
       let f : Each Held (types-from ts (max-params * q .struct) (getD cs (q .struct) 0)) (q .values) = rw e at (o .1) in
-      let n : length (q .values) ≡ getD cs (q .struct) 0 = each-length Held (types-from ts (max-params * q .struct) (getD cs (q .struct) 0)) (q .values) f ∙ types-length ts (max-params * q .struct) (getD cs (q .struct) 0) in
+      let n : length (q .values) ≡ getD cs (q .struct) 0 =
+      each-length Held (types-from ts (max-params * q .struct) (getD cs (q .struct) 0)) (q .values) f
+      ∙ types-length ts (max-params * q .struct) (getD cs (q .struct) 0) in
       rw (s .0, e)
       (values-refer params rs h long ts bytes (max-params * q .struct) (getD cs (q .struct) 0) (q .values) f c (row-size * j) λ x b. s .1 x (omega arith))
 
@@ -157,7 +159,8 @@ module _ (cs ts : List ℕ) (bytes : (i : ℕ) → getD ts i 0 < 256) (rs : List
       let m : length (all-records params rs) ≡ total = every params rs h long in
       let z : 0 + (length params + i) ≡ length params + i = omega arith in
       let b : length params + i - length (null-records 0 params) ≡ i = omega arith in
-      let there : getElem? (all-records params rs) (length params + i) ≡ some q = at-behind (null-records 0 params) rs (length params + i) (omega arith) ∙ rw b e in
+      let there : getElem? (all-records params rs) (length params + i) ≡ some q =
+      at-behind (null-records 0 params) rs (length params + i) (omega arith) ∙ rw b e in
       let held = all-elem (HeldRecord params) rs i q o e in
       let slim : length (q .values) ≤ max-params = rw (each-length Held (getD params (q .struct) []) (q .values) (held .1)) (few (q .struct)) in (
         instance-struct params rs h long (length params + i) q there,

@@ -36,7 +36,8 @@ module _ (h : List ℕ) (n : ℕ) (ts : List ℕ) (i : ℕ) (c : List ℕ) (a m 
 
   -- with one cell more
   row-more : (x : ℕ) → x < m
-      → row-refers h n ts (i + x) c (a + x) (m - x) ≡ (cell-refers h n (getD ts (i + x) 0) (getD c (a + x) 0) && row-refers h n ts (i + (x + 1)) c (a + (x + 1)) (m - (x + 1)))
+      → row-refers h n ts (i + x) c (a + x) (m - x)
+      ≡ (cell-refers h n (getD ts (i + x) 0) (getD c (a + x) 0) && row-refers h n ts (i + (x + 1)) c (a + (x + 1)) (m - (x + 1)))
   unfolding row-refers
   row-more x l =
       let p : i + (x + 1) ≡ suc (i + x) = omega arith in

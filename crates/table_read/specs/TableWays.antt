@@ -18,7 +18,8 @@ use Rattle.program.specs.Reader.{Result, Result.ok, Result.bad, then, many, gua
 use Rattle.program.specs.Laws.PartLaws.{told-is}
 use Rattle.program.specs.Laws.JoinLaws.{row-exact, flat-row}
 use Rattle.table.specs.Table.{Record, count-bytes, enc-record, HeldRecord}
-use Rattle.table.specs.TableReader.{read-record, read-count, read-table, references, TableAnswer.table, TableAnswer.no-table, table-number, table-answer, table-of-stream}
+use Rattle.table.specs.TableReader.{read-record, read-count, read-table, references, TableAnswer.table, TableAnswer.no-table, table-number}
+use Rattle.table.specs.TableReader.{table-answer, table-of-stream}
 use Rattle.table.specs.TableExact.{record-exact}
 use Rattle.layout.specs.Layout.{head-size, row-size}
 use Rattle.table_read.specs.declared.reading.PlaceRead.{PlaceRead}
@@ -135,7 +136,8 @@ module _ {cs ts s : List ℕ} {n : ℕ} {h₀ c₀ : List ℕ} {m : ℕ} {h c : 
     refers =
         let d : length cs + n - length cs ≡ length (g .rs) = omega (arith, g .counted) in
         rw (d, ← all, ← S, g .heads, g .cells)
-        (laid-refers cs ts bytes (g .rs) h₀ fits c₀ (omega (arith, all)) (λ k. rw (list-is cs ts k, types-length ts (max-params * k) (getD cs k 0)) (tables .each k)) (g .held))
+        (laid-refers cs ts bytes (g .rs) h₀ fits c₀ (omega (arith, all))
+        (λ k. rw (list-is cs ts k, types-length ts (max-params * k) (getD cs k 0)) (tables .each k)) (g .held))
 
     module _ (l : length s ≤ m) (t : Bool) (e : t ≡ rows-refer cs ts h c (length cs + n) (length cs) (length cs + n - length cs)) where
       pub behind-wrong : t ≡ false → behind-count (lists-of cs ts) s n ≡ no-table table-value

@@ -37,7 +37,8 @@ fn behind(
     requires { ⌜ (2 ≤ length (now s)) × (n + length (now counts) ≤ max-instances) ⌝ }
     requires { ⌜ (length (now heads) ≡ head-size * max-instances) × (length (now cells) ≡ row-size * max-instances) ⌝ }
     ensures { λ r. ⌜ r ≡ table-told (length (now (counts .entry))) (behind-count (lists-of (now (counts .entry)) (now (types .entry))) (now (s .entry)) n) ⌝ }
-    ensures { λ _. ⌜ TableLaid (now (counts .entry)) (now (types .entry)) (now (heads .entry)) (now (cells .entry)) (behind-count (lists-of (now (counts .entry)) (now (types .entry))) (now (s .entry)) n) (now (heads .exit)) (now (cells .exit)) ⌝ }
+    ensures { λ _. ⌜ TableLaid (now (counts .entry)) (now (types .entry)) (now (heads .entry)) (now (cells .entry))
+        (behind-count (lists-of (now (counts .entry)) (now (types .entry))) (now (s .entry)) n) (now (heads .exit)) (now (cells .exit)) ⌝ }
 {
     let structs = counts.len();
     nulls::nulls(counts, types, heads, cells);
@@ -60,7 +61,8 @@ fn read(s: &[u8], counts: &[u8], types: &[u8], heads: &mut [usize], cells: &mut 
     requires { ⌜ Tables (now counts) (now types) ⌝ }
     requires { ⌜ (length (now heads) ≡ head-size * max-instances) × (length (now cells) ≡ row-size * max-instances) ⌝ }
     ensures { λ r. ⌜ r ≡ table-told (length (now (counts .entry))) (table-of-stream (lists-of (now (counts .entry)) (now (types .entry))) (now (s .entry))) ⌝ }
-    ensures { λ _. ⌜ TableLaid (now (counts .entry)) (now (types .entry)) (now (heads .entry)) (now (cells .entry)) (table-of-stream (lists-of (now (counts .entry)) (now (types .entry))) (now (s .entry))) (now (heads .exit)) (now (cells .exit)) ⌝ }
+    ensures { λ _. ⌜ TableLaid (now (counts .entry)) (now (types .entry)) (now (heads .entry)) (now (cells .entry))
+        (table-of-stream (lists-of (now (counts .entry)) (now (types .entry))) (now (s .entry))) (now (heads .exit)) (now (cells .exit)) ⌝ }
 {
     let q = reading::count(s, counts.len());
     let CountRead::Count(n) = q else {
@@ -83,7 +85,8 @@ pub fn read_image(
     requires { ⌜ (length (now heads) ≡ head-size * max-instances) × (length (now cells) ≡ row-size * max-instances) ⌝ }
     requires { ⌜ payload-size * table-blocks ≤ length (now buffer) ⌝ }
     ensures { λ r. ⌜ r ≡ table-told (length (now (counts .entry))) (image-answer (lists-of (now (counts .entry)) (now (types .entry))) (now (image .entry))) ⌝ }
-    ensures { λ _. ⌜ TableLaid (now (counts .entry)) (now (types .entry)) (now (heads .entry)) (now (cells .entry)) (image-answer (lists-of (now (counts .entry)) (now (types .entry))) (now (image .entry))) (now (heads .exit)) (now (cells .exit)) ⌝ }
+    ensures { λ _. ⌜ TableLaid (now (counts .entry)) (now (types .entry)) (now (heads .entry)) (now (cells .entry))
+        (image-answer (lists-of (now (counts .entry)) (now (types .entry))) (now (image .entry))) (now (heads .exit)) (now (cells .exit)) ⌝ }
 {
     let r = blocks::open_image(image, types::TABLE_BLOCKS, buffer);
     let Opened::Stream(n) = r else {

@@ -20,7 +20,8 @@ fn null_cell(t: u8) -> u64
 // The defaults of n types that stand from a place on, stored one behind the other.
 fn defaults(types: &[u8], from: usize, n: usize, cells: &mut [u64], place: usize)
     requires { ⌜ (from + n ≤ length (now types)) × (place + n ≤ length (now cells)) ⌝ }
-    ensures { λ _. ⌜ now (cells .exit) ≡ values-laid (now (types .entry)) from (now (cells .entry)) place (map default (types-from (now (types .entry)) from n)) ⌝ }
+    ensures { λ _. ⌜ now (cells .exit)
+        ≡ values-laid (now (types .entry)) from (now (cells .entry)) place (map default (types-from (now (types .entry)) from n)) ⌝ }
 {
     let mut x = 0;
     while x < n {
@@ -34,7 +35,8 @@ pub(crate) fn nulls(counts: &[u8], types: &[u8], heads: &mut [usize], cells: &mu
     requires { ⌜ Tables (now counts) (now types) ⌝ }
     requires { ⌜ (head-size * length (now counts) ≤ length (now heads)) × (row-size * length (now counts) ≤ length (now cells)) ⌝ }
     ensures { λ _. ⌜ now (heads .exit) ≡ heads-laid (now (heads .entry)) 0 (null-records 0 (lists-of (now (counts .entry)) (now (types .entry)))) ⌝ }
-    ensures { λ _. ⌜ now (cells .exit) ≡ rows-laid (now (types .entry)) (now (cells .entry)) 0 (null-records 0 (lists-of (now (counts .entry)) (now (types .entry)))) ⌝ }
+    ensures { λ _. ⌜ now (cells .exit)
+        ≡ rows-laid (now (types .entry)) (now (cells .entry)) 0 (null-records 0 (lists-of (now (counts .entry)) (now (types .entry)))) ⌝ }
 {
     let mut k = 0;
     while k < counts.len() {

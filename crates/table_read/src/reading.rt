@@ -129,7 +129,8 @@ fn one_record(
 ) -> PlaceRead
     requires { ⌜ Tables (now counts) (now types) ⌝ }
     requires { ⌜ (head-size * l + head-size ≤ length (now heads)) × (row-size * l + row-size ≤ length (now cells)) ⌝ }
-    ensures { λ r. ⌜ RecordLaid (now (counts .entry)) (now (types .entry)) (now (s .entry)) at (now (heads .entry)) (now (cells .entry)) l r (now (heads .exit)) (now (cells .exit)) ⌝ }
+    ensures { λ r. ⌜ RecordLaid (now (counts .entry)) (now (types .entry)) (now (s .entry)) at (now (heads .entry)) (now (cells .entry)) l r
+        (now (heads .exit)) (now (cells .exit)) ⌝ }
     ensures { λ r. ⌜ Within (now (s .entry)) at r ⌝ }
 {
     if s.len() <= at {
@@ -162,8 +163,10 @@ pub(crate) fn records(
     cells: &mut [u64],
 ) -> PlaceRead
     requires { ⌜ Tables (now counts) (now types) ⌝ }
-    requires { ⌜ (at ≤ length (now s)) × (head-size * (length (now counts) + n) ≤ length (now heads)) × (row-size * (length (now counts) + n) ≤ length (now cells)) ⌝ }
-    ensures { λ r. ⌜ RecordsLaid (now (counts .entry)) (now (types .entry)) (now (s .entry)) n at (now (heads .entry)) (now (cells .entry)) (length (now (counts .entry))) r (now (heads .exit)) (now (cells .exit)) ⌝ }
+    requires { ⌜ (at ≤ length (now s)) × (head-size * (length (now counts) + n) ≤ length (now heads))
+        × (row-size * (length (now counts) + n) ≤ length (now cells)) ⌝ }
+    ensures { λ r. ⌜ RecordsLaid (now (counts .entry)) (now (types .entry)) (now (s .entry)) n at (now (heads .entry)) (now (cells .entry))
+        (length (now (counts .entry))) r (now (heads .exit)) (now (cells .exit)) ⌝ }
     ensures { λ r. ⌜ Within (now (s .entry)) at r ⌝ }
 {
     let mut next = at;

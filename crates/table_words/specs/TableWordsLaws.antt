@@ -22,7 +22,8 @@ length-row cs ts s l at =
     let e = length-values ts s (max-params * getD s at 0) (arity-at cs ts s at) (at + 1) in omega arith
 
 -- what is written of a record: its label, its struct, its values
-pub row-written : (cs ts s out : List ℕ) (l at n : ℕ) {out1 out2 out3 : List ℕ} {k c : ℕ} → k ≡ getD s at 0 → c ≡ getD cs k 0 → out1 ≡ set out n (8589934592 + l)
+pub row-written : (cs ts s out : List ℕ) (l at n : ℕ) {out1 out2 out3 : List ℕ} {k c : ℕ} → k ≡ getD s at 0 → c ≡ getD cs k 0
+    → out1 ≡ set out n (8589934592 + l)
     → out2 ≡ set out1 (n + 1) k → out3 ≡ sets out2 (n + 2) (values-words ts s (8 * k) c (at + 1))
     → (c ≡ arity-at cs ts s at) × (out3 ≡ sets out n (row-words cs ts s l at))
 unfolding row-words
@@ -51,7 +52,8 @@ module _ {ts s : List ℕ} {i m at : ℕ} {out₀ : List ℕ} {n : ℕ} {out : L
       let g : i + x + 1 ≡ i + (x + 1) = omega arith in
       let k : at + 4 * x + 4 ≡ at + 4 * (x + 1) = omega arith in
       let z : v ≡ value-word (getD ts (i + x) 0) (quad s (at + 4 * x)) = ev ∙ rw (et, ew) in
-      let q : sets (set out (n + x) (value-word (getD ts (i + x) 0) (quad s (at + 4 * x)))) (suc (n + x)) (values-words ts s (i + x + 1) (m - (x + 1)) (at + 4 * x + 4))
+      let q : sets (set out (n + x) (value-word (getD ts (i + x) 0) (quad s (at + 4 * x)))) (suc (n + x))
+      (values-words ts s (i + x + 1) (m - (x + 1)) (at + 4 * x + 4))
       ≡ sets out₀ n (values-words ts s i m at)
       = rw e at (r .written) in
       record { within = omega arith; written = rw (eo, z, ← f, ← g, ← k) q }

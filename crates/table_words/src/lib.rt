@@ -83,7 +83,8 @@ fn row(
     n: usize,
 ) -> usize
     requires { ⌜ (at < 3000000000) × (l < 4294967296) × (n < 3000000000) ⌝ }
-    ensures { λ r. ⌜ (r ≡ arity-at (now (counts .entry)) (now (types .entry)) (now (s .entry)) at) × (now (out .exit) ≡ sets (now (out .entry)) n (row-words (now (counts .entry)) (now (types .entry)) (now (s .entry)) l at)) ⌝ }
+    ensures { λ r. ⌜ (r ≡ arity-at (now (counts .entry)) (now (types .entry)) (now (s .entry)) at)
+        × (now (out .exit) ≡ sets (now (out .entry)) n (row-words (now (counts .entry)) (now (types .entry)) (now (s .entry)) l at)) ⌝ }
     ensures { λ r. ⌜ r < 256 ⌝ }
 {
     let k = byte(s, at);

@@ -114,8 +114,10 @@ module _ (p : Program) (counts : Counts p) (list : List ℕ) (P : ℕ → Sched 
   pub stream-stands : memory-stream cs (z .heads) (z .cells) (z .machine .count) ≡ enc-table (table-of p m)
   unfolding memory-stream enc-table table-of
   stream-stands =
-      let n : z .machine .count - length cs ≡ length (drop (structs p) (m .instances)) = omega (arith, structs-are, st .counted, length-drop (structs p) (m .instances)) in
-      let k : length (map record-of (drop (structs p) (m .instances))) ≡ length (drop (structs p) (m .instances)) = length-map (drop (structs p) (m .instances)) record-of in
+      let n : z .machine .count - length cs ≡ length (drop (structs p) (m .instances)) =
+      omega (arith, structs-are, st .counted, length-drop (structs p) (m .instances)) in
+      let k : length (map record-of (drop (structs p) (m .instances))) ≡ length (drop (structs p) (m .instances)) =
+      length-map (drop (structs p) (m .instances)) record-of in
       rw (n, k, structs-are)
       (ap (λ l. enc-word count-bytes (length (drop (structs p) (m .instances))) ++ l)
       (rows-are cs (z .heads) (z .cells) (structs p) (drop (structs p) (m .instances)) λ j i e.

@@ -48,7 +48,8 @@ fn instances(
     requires { ⌜ Filled (now counts) (now heads) (now cells) n ⌝ }
     requires { ⌜ (first ≤ n) × (at + 33 * (n - first) ≤ length (now out)) ⌝ }
     ensures { λ r. ⌜ r ≡ at + length (rows-bytes (now (counts .entry)) (now (heads .entry)) (now (cells .entry)) first (n - first)) ⌝ }
-    ensures { λ _. ⌜ now (out .exit) ≡ sets (now (out .entry)) at (rows-bytes (now (counts .entry)) (now (heads .entry)) (now (cells .entry)) first (n - first)) ⌝ }
+    ensures { λ _. ⌜ now (out .exit) ≡ sets (now (out .entry)) at
+        (rows-bytes (now (counts .entry)) (now (heads .entry)) (now (cells .entry)) first (n - first)) ⌝ }
 {
     let mut next = at;
     let mut l = first;

@@ -7,12 +7,18 @@ use mathlib.Core.Bool.{Bool, true, false}
 use mathlib.Core.List.{List, [], _∷_, _++_, append-assoc}
 use lib.ListN.{length, take, getD, length-append}
 use lib.Seq.{take-at, getD-at}
-use Rattle.program.specs.Tree.{Op, Op.op-eq, Op.op-ne, Op.op-le, Op.op-ge, Op.op-lt, Op.op-gt, Op.op-mul, Op.op-div, Op.op-rem, Op.op-add, Op.op-sub, Op.op-and, Op.op-or}
-use Rattle.tokens.specs.Tokens.{Word, Word.w-struct, Word.w-if, Word.w-then, Word.w-null, Word.w-this, Word.w-fix, Word.w-int, Word.w-nat, Word.w-bool, Word.w-string, Word.w-true, Word.w-false}
-use Rattle.tokens.specs.Tokens.{Sign, Sign.lpar, Sign.rpar, Sign.lbrace, Sign.rbrace, Sign.comma, Sign.colon, Sign.semicolon, Sign.assign, Sign.dot, Sign.bang, Polarity, Polarity.plus, Polarity.minus}
-use Rattle.tokens.specs.Tokens.{Token, Token.word, Token.sign, Token.op, Token.name, Token.int, Token.nat, between, letter, digit, name-byte, blank, every, word-spelling, sign-spelling, op-spelling, polarity-byte, nat-end-byte, spelling, Name, Digits, Proper}
+use Rattle.program.specs.Tree.{Op, Op.op-eq, Op.op-ne, Op.op-le, Op.op-ge, Op.op-lt, Op.op-gt, Op.op-mul, Op.op-div, Op.op-rem, Op.op-add, Op.op-sub}
+use Rattle.program.specs.Tree.{Op.op-and, Op.op-or}
+use Rattle.tokens.specs.Tokens.{Word, Word.w-struct, Word.w-if, Word.w-then, Word.w-null, Word.w-this, Word.w-fix, Word.w-int, Word.w-nat}
+use Rattle.tokens.specs.Tokens.{Word.w-bool, Word.w-string, Word.w-true, Word.w-false}
+use Rattle.tokens.specs.Tokens.{Sign, Sign.lpar, Sign.rpar, Sign.lbrace, Sign.rbrace, Sign.comma, Sign.colon, Sign.semicolon, Sign.assign}
+use Rattle.tokens.specs.Tokens.{Sign.dot, Sign.bang, Polarity, Polarity.plus, Polarity.minus}
+use Rattle.tokens.specs.Tokens.{Token, Token.word, Token.sign, Token.op, Token.name, Token.int, Token.nat, between, letter, digit, name-byte}
+use Rattle.tokens.specs.Tokens.{blank, every, word-spelling, sign-spelling, op-spelling, polarity-byte, nat-end-byte, spelling, Name, Digits}
+use Rattle.tokens.specs.Tokens.{Proper}
 use Rattle.tokens.specs.Lexing.{slash, Comment}
-use Rattle.tokens.specs.Scanning.{Front, Front.token, Front.gap, Front.nothing, span, begins, named, doubles, singles, signs, behind-first, find-sign, Class.others, class, polarity, signed, opens, after-star, nat-front, other-front, front-of, front}
+use Rattle.tokens.specs.Scanning.{Front, Front.token, Front.gap, Front.nothing, span, begins, named, doubles, singles, signs, behind-first}
+use Rattle.tokens.specs.Scanning.{find-sign, Class.others, class, polarity, signed, opens, after-star, nat-front, other-front, front-of, front}
 use Rattle.tokens.specs.ByteLaws.{span-most, span-ends, class-letter, class-digit}
 use Rattle.tokens.specs.NamedLaws.{named-spelling, named-word, named-name}
 use Rattle.tokens.specs.FrontLaws.{digits-run, opens-comment}

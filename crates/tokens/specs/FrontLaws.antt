@@ -8,10 +8,14 @@ use lib.ListN.{length, take, drop, getD, length-append, take-append-drop}
 use lib.Dec.{eqb}
 use lib.Seq.{length-take-le, split-at, take-at}
 use borrow.Author.Tests.{eqb-true}
-use Rattle.tokens.specs.Tokens.{Token, Token.int, Token.nat, between, letter, digit, name-byte, polarity-byte, nat-end-byte, spelling, Name, Digits, Proper}
+use Rattle.tokens.specs.Tokens.{Token, Token.int, Token.nat, between, letter, digit, name-byte, polarity-byte, nat-end-byte, spelling, Name}
+use Rattle.tokens.specs.Tokens.{Digits, Proper}
 use Rattle.tokens.specs.Lexing.{slash, star, close, Comment, Gap, Gap.blank-byte, Gap.comment}
-use Rattle.tokens.specs.Scanning.{Front, Front.token, Front.gap, Front.nothing, span, closing, named, signs, Class, Class.letters, Class.digits, Class.others, class, polarity, signed, opens, nat-front, comment-front, after-star, other-front, front-of, front}
-use Rattle.tokens.specs.ByteLaws.{both-true, span-within, span-every, Closed, closing-found, ClassOf, ClassOf.is-letter, ClassOf.is-digit, ClassOf.is-blank, ClassOf.is-other, classed}
+use Rattle.tokens.specs.Scanning.{Front, Front.token, Front.gap, Front.nothing, span, closing, named, signs, Class, Class.letters, Class.digits}
+use Rattle.tokens.specs.Scanning.{Class.others, class, polarity, signed, opens, nat-front, comment-front, after-star, other-front, front-of}
+use Rattle.tokens.specs.Scanning.{front}
+use Rattle.tokens.specs.ByteLaws.{both-true, span-within, span-every, Closed, closing-found, ClassOf, ClassOf.is-letter, ClassOf.is-digit}
+use Rattle.tokens.specs.ByteLaws.{ClassOf.is-blank, ClassOf.is-other, classed}
 use Rattle.tokens.specs.NamedLaws.{named-spelling, named-proper, signs-plain, At, Stands, Stands.stands, Stands.stands-not, sign-stands}
 
 pub data Sound (x : List ℕ) : Front → Type 0 where

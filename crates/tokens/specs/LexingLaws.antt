@@ -9,7 +9,8 @@ use mathlib.Core.Option.{Option, none, some}
 use lib.ListN.{length, take, drop, length-append, length-drop, take-append-drop}
 use Rattle.tokens.specs.Tokens.{Token, between, letter, digit, blank, spelling, Proper}
 use Rattle.tokens.specs.Lexing.{slash, star, close, Comment, Closes, Gap, Gap.blank-byte, Gap.comment, Longest, Lexed, Lexed.end, Lexed.gap, Lexed.token}
-use Rattle.tokens.specs.Scanning.{Front, Front.token as token-front, Front.gap as gap-front, Front.nothing, class, opens, comment-front, after-star, other-front, front-of, front, added, taken, lex}
+use Rattle.tokens.specs.Scanning.{Front, Front.token as token-front, Front.gap as gap-front, Front.nothing, class, opens, comment-front}
+use Rattle.tokens.specs.Scanning.{after-star, other-front, front-of, front, added, taken, lex}
 use Rattle.tokens.specs.ByteLaws.{class-blank, closing-first}
 use Rattle.tokens.specs.NamedLaws.{At}
 use Rattle.tokens.specs.FrontLaws.{Sound, Sound.token-sound, Sound.gap-sound, front-sound}

@@ -7,4 +7,5 @@ pub mod NamedLaws
 pub mod FrontLaws
 pub mod CoverLaws
 pub mod LexingLaws
+pub mod Unfold
 pub mod Rows

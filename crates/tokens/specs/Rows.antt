@@ -5,9 +5,11 @@ use mathlib.Core.List.{List, [], _∷_}
 use mathlib.Core.Option.{Option, none, some}
 use Rattle.program.specs.Tree.{Op.op-eq, Op.op-ne, Op.op-le, Op.op-lt, Op.op-mul, Op.op-div, Op.op-add, Op.op-sub, Op.op-and, Op.op-or}
 use Rattle.tokens.specs.Tokens.{Word.w-struct, Word.w-then, Word.w-int, Word.w-string}
-use Rattle.tokens.specs.Tokens.{Sign.lpar, Sign.rpar, Sign.lbrace, Sign.rbrace, Sign.comma, Sign.colon, Sign.semicolon, Sign.assign, Sign.dot, Sign.bang, Polarity.plus, Polarity.minus}
-use Rattle.tokens.specs.Tokens.{Token, Token.word, Token.sign, Token.op, Token.name, Token.int, Token.nat, between, letter, digit, name-byte, blank, word-spelling, sign-spelling, op-spelling, spelling}
-use Rattle.tokens.specs.Scanning.{span, same, begins, one-more, closing, words, find-word, named, doubles, singles, signs, behind-first, find-sign, class, polarity, signed, opens, nat-front, comment-front, after-star, other-front, front-of, front, added, taken, lex}
+use Rattle.tokens.specs.Tokens.{Sign.lpar, Sign.rpar, Sign.lbrace, Sign.rbrace, Sign.comma, Sign.colon, Sign.semicolon, Sign.assign, Sign.dot}
+use Rattle.tokens.specs.Tokens.{Sign.bang, Polarity.plus, Polarity.minus}
+use Rattle.tokens.specs.Tokens.{Token, Token.word, Token.sign, Token.op, Token.name, Token.int, Token.nat}
+use Rattle.tokens.specs.Scanning.{lex}
+use Rattle.tokens.specs.Unfold.{scanning}
 
 -- bytes, and the tokens that they part into, if any
 pub record Row : Type 0 where
@@ -96,7 +98,7 @@ rows =
     ∷ []
 
 pub rows-hold : Rows rows
-unfolding rows between letter digit name-byte blank word-spelling sign-spelling op-spelling spelling span same begins one-more closing words find-word named doubles singles signs behind-first find-sign class polarity signed opens nat-front comment-front after-star other-front front-of front added taken lex
+unfolding rows scanning
 rows-hold =
     (and-then refl (and-then refl (and-then refl (and-then refl (and-then refl (and-then refl (and-then refl (and-then refl
     (and-then refl (and-then refl (and-then refl (and-then refl (and-then refl (and-then refl (and-then refl (and-then refl
@@ -120,5 +122,5 @@ tokens-P =
     name (97 ∷ 100 ∷ 100 ∷ []) ∷ []
 
 pub P-lexed : lex 0 text-P ≡ some tokens-P
-unfolding text-P tokens-P between letter digit name-byte blank word-spelling sign-spelling op-spelling spelling span same begins one-more closing words find-word named doubles singles signs behind-first find-sign class polarity signed opens nat-front comment-front after-star other-front front-of front added taken lex
+unfolding text-P tokens-P scanning
 P-lexed = refl

@@ -1,7 +1,9 @@
 -- A number for each word and each sign, in the order in which 'Tokens' has them: by it they are told apart.
 use Prim.Native.Nat.{ℕ}
-use Rattle.tokens.specs.Tokens.{Word, Word.w-struct, Word.w-if, Word.w-then, Word.w-null, Word.w-this, Word.w-fix, Word.w-int, Word.w-nat, Word.w-bool, Word.w-string, Word.w-true, Word.w-false}
-use Rattle.tokens.specs.Tokens.{Sign, Sign.lpar, Sign.rpar, Sign.lbrace, Sign.rbrace, Sign.comma, Sign.colon, Sign.semicolon, Sign.assign, Sign.dot, Sign.bang}
+use Rattle.tokens.specs.Tokens.{Word, Word.w-struct, Word.w-if, Word.w-then, Word.w-null, Word.w-this, Word.w-fix, Word.w-int, Word.w-nat}
+use Rattle.tokens.specs.Tokens.{Word.w-bool, Word.w-string, Word.w-true, Word.w-false}
+use Rattle.tokens.specs.Tokens.{Sign, Sign.lpar, Sign.rpar, Sign.lbrace, Sign.rbrace, Sign.comma, Sign.colon, Sign.semicolon, Sign.assign}
+use Rattle.tokens.specs.Tokens.{Sign.dot, Sign.bang}
 
 unfoldable pub word-number : Word → ℕ
 word-number w-struct = 0

@@ -11,7 +11,8 @@ use Rattle.run.specs.Turns.{chosen}
 use Rattle.run.specs.Holders.{holders, none-of, due}
 use Rattle.run.specs.Steps.{Steps, Steps.here, Steps.silent, Steps.reads}
 use Rattle.run.specs.Visits.{Acts, Acts.moves as by-move, Acts.takes as by-turn}
-use Rattle.run.specs.Run.{Outcome, Outcome.stopped, Outcome.jammed, later, Settled, Settled.hold, Settled.stop, is-done, moved as moved-on, settle-by, settle, fuel, taken, turn, at-last, run}
+use Rattle.run.specs.Run.{Outcome, Outcome.stopped, Outcome.jammed, later, Settled, Settled.hold, Settled.stop, is-done, moved as moved-on, settle-by}
+use Rattle.run.specs.Run.{settle, fuel, taken, turn, at-last, run}
 use Rattle.trace.specs.Trace.{Line, Line.moved, Line.acted, lines-of, move-line, moves-by, moves, turn-line, turn-lines, trace, last-of, turn-count}
 
 -- a way by these bytes whose lines are those

@@ -49,7 +49,8 @@ fn cell(out: &mut [u8], k: usize, heads: &[usize], c: u64) -> usize
 pub(crate) fn stack(out: &mut [u8], k: usize, heads: &[usize], cells: &[u64], l: usize) -> usize
     requires { ⌜ StackFits (now heads) (now cells) l ⌝ }
     requires { ⌜ k + cell-most * max-depth ≤ length (now out) ⌝ }
-    ensures { λ r. ⌜ Placed (cells-text (now (heads .entry)) (now (cells .entry)) l (getD (now (heads .entry)) (head l height-of) 0)) (now (out .entry)) k r (now (out .exit)) ⌝ }
+    ensures { λ r. ⌜ Placed (cells-text (now (heads .entry)) (now (cells .entry)) l (getD (now (heads .entry)) (head l height-of) 0))
+        (now (out .entry)) k r (now (out .exit)) ⌝ }
     ensures { λ r. ⌜ r ≤ k + cell-most * max-depth ⌝ }
 {
     let high = heads[layout::HEAD_SIZE * l + layout::HEIGHT];

@@ -3,7 +3,8 @@ use Prim.Native.Nat.{ℕ, _≤_}
 use mathlib.Core.Path.{_≡_, refl}
 use mathlib.Core.Bool.{Bool, true, false, _&&_, true≢false, false≢true}
 use lib.Dec.{eqb, leb}
-use Rattle.types.specs.Reflects.{Reflects, Reflects.holds as so, Reflects.fails as not-so, reflects-iff, reflects-map, reflects-both, le-reflects, eq-reflects}
+use Rattle.types.specs.Reflects.{Reflects, Reflects.holds as so, Reflects.fails as not-so, reflects-iff, reflects-map, reflects-both}
+use Rattle.types.specs.Reflects.{le-reflects, eq-reflects}
 
 pub record Decides (t : Bool) (P : Type 0) : Type 0 where
   pub holds : t ≡ true → P

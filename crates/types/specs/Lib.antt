@@ -8,3 +8,4 @@ pub mod TypeLaws
 pub mod Values
 pub mod ValueLaws
 pub mod Constants
+pub mod SetsLaws

@@ -32,9 +32,11 @@ use Rattle.commands.specs.Decide.NamesDecideLaws.{names-reflects}
 use Rattle.commands.specs.Decide.TypingDecideLaws.{types-reflects}
 use Rattle.commands.specs.Numbers.{Order, NoneOf, Foremost, breach-number}
 use Rattle.commands.specs.Laws.NumbersLaws.{number-accepted, number-limits, number-names, number-types, foremost-some}
-use Rattle.verdict.specs.Verdict.{Checked, Checked.accepted, Checked.refused, judge, of-read, of-image, checked, Verdict, refusal, approval, verdict-of, check-verdict, list-of, listed, check-list}
+use Rattle.verdict.specs.Verdict.{Checked, Checked.accepted, Checked.refused, judge, of-read, of-image, checked, Verdict, refusal, approval}
+use Rattle.verdict.specs.Verdict.{verdict-of, check-verdict, list-of, listed, check-list}
 use Rattle.types.specs.Numbers.{no-room}
-use Rattle.verdict.specs.ProgramInput.{ImageRight, Reads, AcceptedImage, reads-of, Approved, WrongEnd, WrongByte, OverLimits, WrongNames, WrongTypes, ShortList, program-order, check-order}
+use Rattle.verdict.specs.ProgramInput.{ImageRight, Reads, AcceptedImage, reads-of, Approved, WrongEnd, WrongByte, OverLimits, WrongNames}
+use Rattle.verdict.specs.ProgramInput.{WrongTypes, ShortList, program-order, check-order}
 use Rattle.verdict.specs.InputOrder.{none-behind, foremost-front, Tells, Tells.refuses, Tells.passes, here, past, past-all, tells-number, tells-none}
 
 -- one program is read from an image

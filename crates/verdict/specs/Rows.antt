@@ -7,26 +7,16 @@ use mathlib.Core.List.{List, [], _∷_, _++_}
 use lib.ListN.{length, drop}
 use borrow.Author.Tests.{le-ltb}
 use Rattle.types.specs.Limits.{max-commands}
-use Rattle.types.specs.Types.{same-type, code}
-use Rattle.types.specs.Values.{default, int-word, word}
 use Rattle.blocks.specs.Images.{image}
-use Rattle.program.specs.Encoding.{op-code, var-code}
 use Rattle.program.specs.Reader.{read}
 use Rattle.program.specs.Rows.{reading}
-use Rattle.commands.specs.Commands.{then, reads, front, last, expr-coms, args-coms, update-coms, stmt-coms, body-coms, flatten, commands}
-use Rattle.commands.specs.Coding.{coded, com-word, command-word, words}
-use Rattle.commands.specs.Context.{stmt-local, body-local}
-use Rattle.commands.specs.Names.{declares, declared, names-of-steps}
-use Rattle.commands.specs.Depth.{depth}
-use Rattle.commands.specs.Bounds.{item-count, items-count, total, greatest, program-size, program-depth}
-use Rattle.commands.specs.Decide.{every, member, distinct}
-use Rattle.commands.specs.Decide.NamesDecide.{start-named, expr-named, args-named, stmt-named, body-named, steps-named, stepped, item-stepped, items-stepped, names-right}
-use Rattle.commands.specs.Decide.TypingDecide.{is-of, agree, given as given-type, result, operate as operate-types, lead, path-type, expr-type, args-typed, stmt-typed, body-typed, steps-typed, types-right}
-use Rattle.commands.specs.Decide.BoundsDecide.{within}
-use Rattle.commands.specs.Numbers.{first, breach-tests, breach-number}
-use Rattle.commands.specs.ProgramWords.{steps-list, structs-list, structs-words, program-words}
+use Rattle.commands.specs.Commands.{commands}
+use Rattle.commands.specs.Decide.{every}
+use Rattle.commands.specs.Numbers.{first}
+use Rattle.commands.specs.ProgramWords.{program-words}
 use Rattle.verdict.specs.Verdict.{Checked, Checked.accepted, Checked.refused, judge, of-read, listed, list-of, check-list}
 use Rattle.verdict.specs.VerdictLaws.{checked-image}
+use Rattle.commands.specs.Unfold.{judging, coding}
 
 -- P: load := load + prev.load, run once
 unfoldable pub P : List ℕ
@@ -34,7 +24,7 @@ P = 1 ∷ 2 ∷ 0 ∷ 16 ∷ 1 ∷ 0 ∷ 1 ∷ 3 ∷ 1 ∷ 0 ∷ 41 ∷ 18 ∷ 1
 
 -- what a program stream comes to
 unfoldable pub checking : List ℕ → Checked
-unfolding reading same-type then reads front last expr-coms args-coms update-coms stmt-coms body-coms flatten commands stmt-local body-local declares declared names-of-steps depth item-count items-count total greatest program-size program-depth every member distinct start-named expr-named args-named stmt-named body-named steps-named stepped item-stepped items-stepped names-right is-of agree given-type result operate-types lead path-type expr-type args-typed stmt-typed body-typed steps-typed types-right within first breach-tests breach-number judge of-read
+unfolding reading judging judge of-read
 checking s = of-read (read s)
 
 -- The list -----------------------------------------------------------------------------
@@ -49,7 +39,7 @@ list-room (refused n) list h = refl
 list-room (accepted p) list h = rw (le-ltb (length list) max-commands h, list-of)
 
 words-P : words-by (of-read (read P)) ≡ 2 ∷ 3 ∷ 2 ∷ 4294967299 ∷ 3 ∷ 176093659144 ∷ 2 ∷ 4 ∷ []
-unfolding checking P var-code coded com-word command-word words steps-list structs-list structs-words program-words code default int-word word op-code
+unfolding checking P coding
 words-P = refl
 
 -- P's commands stand in the first 8 places of the list, and further places are untouched: push this, rd 0, push this, rd 1, rd 0,

@@ -97,5 +97,6 @@ returns-12 c =
 pub apply-nat-spec : {M : Type 1} → statement M
 apply-nat-spec =
     tie.close
-    (tie.spec (λ c. search needs) (λ c. search needs) (λ c κs. search needs) returns mul-n (λ c. search needs) returns-2 returns-3 returns-4 (λ c. search needs) returns-5 returns-6
+    (tie.spec (λ c. search needs) (λ c. search needs) (λ c κs. search needs) returns mul-n (λ c. search needs) returns-2 returns-3 returns-4
+    (λ c. search needs) returns-5 returns-6
     (λ c. search needs) returns-7 (λ c. search needs) (λ c. search needs) returns-8 returns-9 returns-10 returns-11 returns-12)

@@ -49,7 +49,9 @@ slice-aggregate-program-4 : tie.Need-slice-aggregate-program-4
 slice-aggregate-program-4 c = sym (length-take-le _ _ (array-share-prefix-stream (c .before)))
 
 array-share-prefix-counts : tie.Need-array-share-prefix-counts
-array-share-prefix-counts c = let at-r = c .before .before .before .before in omega (arith, structs-few _ _ (loads at-r), at-program at-r .program .kept .1 .1 .0)
+array-share-prefix-counts c =
+    let at-r = c .before .before .before .before in
+    omega (arith, structs-few _ _ (loads at-r), at-program at-r .program .kept .1 .1 .0)
 
 slice-aggregate-program-5 : tie.Need-slice-aggregate-program-5
 slice-aggregate-program-5 c = sym (length-take-le _ _ (array-share-prefix-counts (c .before)))
@@ -74,6 +76,7 @@ returns-3 c =
 pub check-spec : {M : Type 1} → statement M
 check-spec =
     tie.close
-    (tie.spec (λ c. search needs) (λ c. search needs) (λ c. search needs) (λ c κs. search needs) (λ c. search needs) (λ c. search needs) (λ c κs. search needs) (λ c κs. search needs) returns
+    (tie.spec (λ c. search needs) (λ c. search needs) (λ c. search needs) (λ c κs. search needs) (λ c. search needs) (λ c. search needs)
+    (λ c κs. search needs) (λ c κs. search needs) returns
     (λ c κs. search needs) returns-2 (λ c. search needs) array-share-prefix-stream slice-aggregate-program-4 array-share-prefix-counts
     slice-aggregate-program-5 (λ c. search needs) program-requires-2 (λ c κs. search needs) (λ c. search needs) returns-3)

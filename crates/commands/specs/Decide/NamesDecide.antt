@@ -4,7 +4,9 @@ use mathlib.Core.Bool.{Bool, true, false, not, _&&_, _||_}
 use mathlib.Core.List.{List, [], _∷_, _++_}
 use lib.ListN.{length, getD}
 use lib.Dec.{ltb}
-use Rattle.program.specs.Tree.{Var, Var.par, Var.loc, Expr, Expr.inv, Expr.make, Expr.path, Expr.int-lit, Expr.nat-lit, Expr.bool-lit, Expr.null, Expr.self, Expr.op, Exprs, Exprs.none, Exprs.more, Stmt, Stmt.when, Stmt.declare, Stmt.update, Stmt.create, Stmts, Stmts.end, Stmts.next, Item, Item.call, Item.call-in, Item.fix, Items, Items.stop, Items.item, Step, Program}
+use Rattle.program.specs.Tree.{Var, Var.par, Var.loc, Expr, Expr.inv, Expr.make, Expr.path, Expr.int-lit, Expr.nat-lit, Expr.bool-lit, Expr.null}
+use Rattle.program.specs.Tree.{Expr.self, Expr.op, Exprs, Exprs.none, Exprs.more, Stmt, Stmt.when, Stmt.declare, Stmt.update, Stmt.create, Stmts}
+use Rattle.program.specs.Tree.{Stmts.end, Stmts.next, Item, Item.call, Item.call-in, Item.fix, Items, Items.stop, Items.item, Step, Program}
 use Rattle.commands.specs.Names.{declares, live-after, names-of-steps}
 use Rattle.commands.specs.Decide.{every, member, distinct}
 

@@ -5,11 +5,15 @@ use mathlib.Core.List.{List, [], _∷_, _++_, List·Memᴰ, List·Memᴰ·not-ni
 use mathlib.Core.Logic.{_↔_}
 use mathlib.Core.Path.{_≡_}
 use lib.ListN.{length, getD}
-use Rattle.program.specs.Tree.{Var, Var.par, Var.loc, Expr, Expr.inv, Expr.make, Expr.path, Expr.int-lit, Expr.nat-lit, Expr.bool-lit, Expr.null, Expr.self, Expr.op, Exprs, Exprs.none, Exprs.more, Stmt, Stmt.when, Stmt.declare, Stmt.update, Stmt.create, Stmts, Stmts.end, Stmts.next, Item, Item.call, Item.call-in, Item.fix, Items, Items.stop, Items.item, Step, Program}
+use Rattle.program.specs.Tree.{Var, Var.par, Var.loc, Expr, Expr.inv, Expr.make, Expr.path, Expr.int-lit, Expr.nat-lit, Expr.bool-lit, Expr.null}
+use Rattle.program.specs.Tree.{Expr.self, Expr.op, Exprs, Exprs.none, Exprs.more, Stmt, Stmt.when, Stmt.declare, Stmt.update, Stmt.create, Stmts}
+use Rattle.program.specs.Tree.{Stmts.end, Stmts.next, Item, Item.call, Item.call-in, Item.fix, Items, Items.stop, Items.item, Step, Program}
 use Rattle.types.specs.Reflects.{Reflects, Reflects.holds, Reflects.fails, reflects-iff, reflects-map, reflects-negation, reflects-both, lt-reflects}
-use Rattle.commands.specs.Names.{Starts, Names, Names-all, declares, live-after, Named-stmt, Named, names-of-steps, NamedSteps, Had, Scheduled-item, Scheduled, NamesRight}
+use Rattle.commands.specs.Names.{Starts, Names, Names-all, declares, live-after, Named-stmt, Named, names-of-steps, NamedSteps, Had}
+use Rattle.commands.specs.Names.{Scheduled-item, Scheduled, NamesRight}
 use Rattle.commands.specs.Decide.DecideLaws.{every-reflects, member-reflects, once-reflects}
-use Rattle.commands.specs.Decide.NamesDecide.{start-named, expr-named, args-named, stmt-named, body-named, steps-named, stepped, item-stepped, items-stepped, names-right}
+use Rattle.commands.specs.Decide.NamesDecide.{start-named, expr-named, args-named, stmt-named, body-named, steps-named, stepped, item-stepped}
+use Rattle.commands.specs.Decide.NamesDecide.{items-stepped, names-right}
 
 start-reflects : (n : ℕ) (live : List ℕ) (v : Var) → Reflects (Starts n live v) (start-named n live v)
 unfolding start-named

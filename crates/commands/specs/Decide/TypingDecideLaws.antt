@@ -7,13 +7,21 @@ use mathlib.Core.Path.{_≡_, refl, sym, _∙_, subst}
 use lib.ListN.{length}
 use native.Mathlib.Omega.{arith}
 use Rattle.types.specs.Types.{Ty, Ty.int, Ty.nat, Ty.bool, Ty.ref}
-use Rattle.program.specs.Tree.{Var, Var.par, Var.loc, Op, Expr, Expr.inv, Expr.make, Expr.path, Expr.int-lit, Expr.nat-lit, Expr.bool-lit, Expr.null, Expr.self, Expr.op, Exprs, Exprs.none, Exprs.more, Stmt, Stmt.when, Stmt.declare, Stmt.update, Stmt.create, Stmts, Stmts.end, Stmts.next, Step, Program}
+use Rattle.program.specs.Tree.{Var, Var.par, Var.loc, Op, Expr, Expr.inv, Expr.make, Expr.path, Expr.int-lit, Expr.nat-lit, Expr.bool-lit, Expr.null}
+use Rattle.program.specs.Tree.{Expr.self, Expr.op, Exprs, Exprs.none, Exprs.more, Stmt, Stmt.when, Stmt.declare, Stmt.update, Stmt.create, Stmts}
+use Rattle.program.specs.Tree.{Stmts.end, Stmts.next, Step, Program}
 use Rattle.types.specs.TypeLaws.{same-exact}
 use Rattle.types.specs.Reflects.{Reflects, Reflects.holds, Reflects.fails, reflects-iff, reflects-map, reflects-both, lt-reflects}
 use Rattle.commands.specs.Context.{Ctx, typ, context}
-use Rattle.commands.specs.Typing.{Sort, Sort.equality, Sort.order, Sort.arithmetic, Sort.logic, sort, Takes, Takes.any-equal, Takes.order-int, Takes.order-nat, Takes.arith-int, Takes.arith-nat, Takes.logic-bool, Leads, Leads.arrived, Leads.onward, Reaches, Reaches.from-own, Reaches.from-local, Types, Types.t-not, Types.t-make, Types.t-path, Types.t-int, Types.t-nat, Types.t-bool, Types.t-null, Types.t-this, Types.t-op, Types-all, Types-all.t-none, Types-all.t-more, Typed-stmt, Typed-stmt.t-when, Typed-stmt.t-declare, Typed-stmt.t-update, Typed-stmt.t-create, Typed, Typed.t-end, Typed.t-next, TypedSteps, TypesRight}
+use Rattle.commands.specs.Typing.{Sort, Sort.equality, Sort.order, Sort.arithmetic, Sort.logic, sort, Takes, Takes.any-equal, Takes.order-int}
+use Rattle.commands.specs.Typing.{Takes.order-nat, Takes.arith-int, Takes.arith-nat, Takes.logic-bool, Leads, Leads.arrived, Leads.onward}
+use Rattle.commands.specs.Typing.{Reaches, Reaches.from-own, Reaches.from-local, Types, Types.t-not, Types.t-make, Types.t-path, Types.t-int}
+use Rattle.commands.specs.Typing.{Types.t-nat, Types.t-bool, Types.t-null, Types.t-this, Types.t-op, Types-all, Types-all.t-none}
+use Rattle.commands.specs.Typing.{Types-all.t-more, Typed-stmt, Typed-stmt.t-when, Typed-stmt.t-declare, Typed-stmt.t-update}
+use Rattle.commands.specs.Typing.{Typed-stmt.t-create, Typed, Typed.t-end, Typed.t-next, TypedSteps, TypesRight}
 use Rattle.commands.specs.Decide.DecideLaws.{every-reflects}
-use Rattle.commands.specs.Decide.TypingDecide.{Judgement, Judgement.untypable, Judgement.of-type, is-of, agree, given, result, operate, lead, path-type, expr-type, args-typed, stmt-typed, body-typed, steps-typed, types-right}
+use Rattle.commands.specs.Decide.TypingDecide.{Judgement, Judgement.untypable, Judgement.of-type, is-of, agree, given, result, operate, lead}
+use Rattle.commands.specs.Decide.TypingDecide.{path-type, expr-type, args-typed, stmt-typed, body-typed, steps-typed, types-right}
 
 -- what a judgement says of a condition on types: it holds of that type alone, or of none
 pub data Judges (T : Ty → Type 0) : Judgement → Type 0 where

@@ -2,21 +2,20 @@
 use Prim.Native.Nat.{ℕ, zero, suc}
 use mathlib.Core.Path.{_≡_, refl}
 use mathlib.Core.List.{List, [], _∷_}
-use Rattle.types.specs.Types.{Ty, Ty.int, Ty.nat, Ty.bool, Ty.ref, same-type}
-use Rattle.program.specs.Tree.{Var.par, Var.loc, Op.op-eq, Op.op-le, Op.op-add, Op.op-and, Expr, Expr.inv, Expr.make, Expr.path, Expr.int-lit, Expr.nat-lit, Expr.bool-lit, Expr.null, Expr.self, Expr.op, Exprs.none, Exprs.more, Stmt, Stmt.when, Stmt.declare, Stmt.update, Stmt.create, Stmts, Stmts.end, Stmts.next, Item, Item.call, Item.call-in, Item.fix, Items, Items.stop, Items.item, Step, Program}
+use Rattle.types.specs.Types.{Ty, Ty.int, Ty.nat, Ty.bool, Ty.ref}
+use Rattle.program.specs.Tree.{Var.par, Var.loc, Op.op-eq, Op.op-le, Op.op-add, Op.op-and, Expr, Expr.inv, Expr.make, Expr.path, Expr.int-lit}
+use Rattle.program.specs.Tree.{Expr.nat-lit, Expr.bool-lit, Expr.null, Expr.self, Expr.op, Exprs.none, Exprs.more, Stmt, Stmt.when, Stmt.declare}
+use Rattle.program.specs.Tree.{Stmt.update, Stmt.create, Stmts, Stmts.end, Stmts.next, Item, Item.call, Item.call-in, Item.fix, Items, Items.stop}
+use Rattle.program.specs.Tree.{Items.item, Step, Program}
 use Rattle.program.specs.Counts.{All}
 use Rattle.types.specs.Reflects.{reflects-iff, eq-reflects}
-use Rattle.commands.specs.Commands.{then, reads, front, last, expr-coms, args-coms, update-coms, stmt-coms, body-coms, flatten, commands}
-use Rattle.commands.specs.Context.{stmt-local, body-local}
-use Rattle.commands.specs.Names.{declares, declared, names-of-steps}
+use Rattle.commands.specs.Commands.{front, last, commands}
+use Rattle.commands.specs.Names.{declared}
 use Rattle.commands.specs.Depth.{depth}
-use Rattle.commands.specs.Bounds.{item-count, items-count, total, program-size}
-use Rattle.commands.specs.Decide.{every, member, distinct}
+use Rattle.commands.specs.Decide.{every}
 use Rattle.commands.specs.Decide.DecideLaws.{every-reflects}
-use Rattle.commands.specs.Decide.NamesDecide.{start-named, expr-named, args-named, stmt-named, body-named, steps-named, stepped, item-stepped, items-stepped, names-right}
-use Rattle.commands.specs.Decide.TypingDecide.{is-of, agree, given, result, operate, lead, path-type, expr-type, args-typed, stmt-typed, body-typed, steps-typed, types-right}
-use Rattle.commands.specs.Decide.BoundsDecide.{within}
-use Rattle.commands.specs.Numbers.{first, breach-tests, breach-number}
+use Rattle.commands.specs.Numbers.{first, breach-number}
+use Rattle.commands.specs.Unfold.{judging}
 
 -- Parts ---------------------------------------------------------------------------
 
@@ -168,5 +167,5 @@ rows =
 
 -- every row's tree has its number
 rows-hold : All (λ r. breach-number (r .tree) ≡ r .number) rows
-unfolding rows statements in-a-row named-to same-type then reads front last expr-coms args-coms update-coms stmt-coms body-coms flatten commands stmt-local body-local declares declared names-of-steps depth item-count items-count total program-size every member distinct start-named expr-named args-named stmt-named body-named steps-named stepped item-stepped items-stepped names-right is-of agree given result operate lead path-type expr-type args-typed stmt-typed body-typed steps-typed types-right within first breach-tests breach-number
+unfolding rows statements in-a-row named-to judging
 rows-hold = reflects-iff (every-reflects (λ (r : Row). eq-reflects (breach-number (r .tree)) (r .number)) rows) .0 refl

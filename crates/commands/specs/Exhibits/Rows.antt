@@ -7,10 +7,14 @@ use lib.Dec.{eqb, T}
 use lib.IntN.{pos, negsuc}
 use Rattle.types.specs.Types.{Ty.int, Ty.nat, Ty.bool, Ty.ref, code}
 use Rattle.types.specs.Values.{Val, Val.int-val, Val.nat-val, Val.bool-val, Val.label, default, value-of, word-int}
-use Rattle.program.specs.Tree.{Var.par, Var.loc, Op.op-add, Op.op-eq, Expr.inv, Expr.make, Expr.path, Expr.int-lit, Expr.nat-lit, Expr.bool-lit, Expr.null, Expr.self, Expr.op, Exprs.none, Exprs.more, Stmt.when, Stmt.declare, Stmt.update, Stmt.create, Stmts, Stmts.end, Stmts.next}
+use Rattle.program.specs.Tree.{Var.par, Var.loc, Op.op-add, Op.op-eq, Expr.inv, Expr.make, Expr.path, Expr.int-lit, Expr.nat-lit, Expr.bool-lit}
+use Rattle.program.specs.Tree.{Expr.null, Expr.self, Expr.op, Exprs.none, Exprs.more, Stmt.when, Stmt.declare, Stmt.update, Stmt.create, Stmts}
+use Rattle.program.specs.Tree.{Stmts.end, Stmts.next}
 use Rattle.program.specs.Encoding.{flat, op-code, var-code}
-use Rattle.commands.specs.Commands.{Com.push, Com.push-this, Com.rd, Com.wr, Com.cons, Com.not, Com.oper, then, reads, front, last, expr-coms, update-coms, body-coms, Flat, Flat.plain, Flat.if-n, flatten, commands}
+use Rattle.commands.specs.Commands.{Com.push, Com.push-this, Com.rd, Com.wr, Com.cons, Com.not, Com.oper}
+use Rattle.commands.specs.Commands.{Flat, Flat.plain, Flat.if-n, commands}
 use Rattle.commands.specs.Depth.{depth}
+use Rattle.commands.specs.Unfold.{compiling}
 
 -- a step of struct 0, which has two parameters (struct 1 has none), the commands that it gives and its depth
 pub record Row : Type 0 where
@@ -114,5 +118,5 @@ rows =
     ∷ []
 
 pub rows-hold : T (all rows)
-unfolding all rows holds same numbers val-numbers labels flat op-code var-code code default value-of word-int commands flatten body-coms update-coms expr-coms then reads front last depth
+unfolding all rows holds same numbers val-numbers labels flat op-code var-code code default value-of word-int compiling
 rows-hold = tt

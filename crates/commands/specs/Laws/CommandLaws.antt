@@ -6,7 +6,8 @@ use lib.ListN.{length, drop}
 use lib.Seq.{take-append-seam, drop-append-seam}
 use Rattle.program.specs.Tree.{Var, Expr, Stmt.when, Stmts}
 use Rattle.program.specs.Encoding.{var-code}
-use Rattle.commands.specs.Commands.{Com.push-this, Com.wr, Coms, Coms.nil, Coms.act, Coms.if-then, then, reads, front, last, expr-coms, update-coms, stmt-coms, body-coms, Flat, Flat.plain, Flat.if-n, flatten}
+use Rattle.commands.specs.Commands.{Com.push-this, Com.wr, Coms, Coms.nil, Coms.act, Coms.if-then, then, reads, front, last, expr-coms}
+use Rattle.commands.specs.Commands.{update-coms, stmt-coms, body-coms, Flat, Flat.plain, Flat.if-n, flatten}
 
 -- one list behind another is flat as the two flat lists in a row
 pub flatten-then : (c d : Coms) → flatten (then c d) ≡ flatten c ++ flatten d

@@ -8,10 +8,13 @@ use mathlib.Core.Path.{_≡_, refl, _∙_, ap}
 use mathlib.Core.List.{List, [], _∷_, _++_, append-nil}
 use lib.ListN.{length, drop, getD}
 use lib.Seq.{drop-append-seam}
-use Rattle.program.specs.Tree.{Var, Var.loc, Expr, Expr.inv, Expr.make, Expr.path, Expr.int-lit, Expr.nat-lit, Expr.bool-lit, Expr.null, Expr.self, Expr.op, Exprs, Exprs.none, Exprs.more, Stmt, Stmt.when, Stmt.declare, Stmt.update, Stmt.create, Stmts, Stmts.end, Stmts.next, Step, Program, args}
+use Rattle.program.specs.Tree.{Var, Var.loc, Expr, Expr.inv, Expr.make, Expr.path, Expr.int-lit, Expr.nat-lit, Expr.bool-lit, Expr.null, Expr.self}
+use Rattle.program.specs.Tree.{Expr.op, Exprs, Exprs.none, Exprs.more, Stmt, Stmt.when, Stmt.declare, Stmt.update, Stmt.create, Stmts, Stmts.end}
+use Rattle.program.specs.Tree.{Stmts.next, Step, Program, args}
 use Rattle.program.specs.Encoding.{var-code}
 use Rattle.program.specs.Counts.{All, CountsExpr, CountsExprs, CountsStmt, CountsStmts, CountsStep, Counts}
-use Rattle.commands.specs.Commands.{Com, Com.push, Com.push-this, Com.rd, Com.wr, Com.cons, Com.not, Com.oper, reads, front, last, expr-coms, args-coms, update-coms, stmt-coms, body-coms, Flat, Flat.plain, Flat.if-n, flatten, commands}
+use Rattle.commands.specs.Commands.{Com, Com.push, Com.push-this, Com.rd, Com.wr, Com.cons, Com.not, Com.oper, reads, front, last, expr-coms}
+use Rattle.commands.specs.Commands.{args-coms, update-coms, stmt-coms, body-coms, Flat, Flat.plain, Flat.if-n, flatten, commands}
 use Rattle.commands.specs.Laws.CommandLaws.{flatten-app, stored, update-flat, when-flat}
 use Rattle.commands.specs.Depth.{after, depth, peak, peaks, stmt-growth, growth, stmt-height, height}
 use Rattle.commands.specs.Bounds.{greatest, arities, step-depth, program-depth}

@@ -6,10 +6,13 @@ use mathlib.Core.Bool.{true}
 use lib.ListN.{length, drop}
 use lib.Seq.{drop-append-seam}
 use Rattle.types.specs.Types.{Ty}
-use Rattle.program.specs.Tree.{Var, Var.par, Var.loc, Expr, Expr.inv, Expr.make, Expr.path, Expr.int-lit, Expr.nat-lit, Expr.bool-lit, Expr.null, Expr.self, Expr.op, Exprs, Exprs.none as no-exprs, Exprs.more as more-exprs, Stmt, Stmt.when, Stmt.declare, Stmt.update, Stmt.create, Stmts, Stmts.end, Stmts.next}
+use Rattle.program.specs.Tree.{Var, Var.par, Var.loc, Expr, Expr.inv, Expr.make, Expr.path, Expr.int-lit, Expr.nat-lit, Expr.bool-lit, Expr.null}
+use Rattle.program.specs.Tree.{Expr.self, Expr.op, Exprs, Exprs.none as no-exprs, Exprs.more as more-exprs, Stmt, Stmt.when, Stmt.declare}
+use Rattle.program.specs.Tree.{Stmt.update, Stmt.create, Stmts, Stmts.end, Stmts.next}
 use Rattle.commands.specs.Context.{Ctx}
 use Rattle.commands.specs.Names.{live-after}
-use Rattle.commands.specs.Noted.{Note, Note.n-this, Note.n-not, Note.n-set, Note.n-cons, Note.n-op, Note.n-if, walk, store, read-path, write-path, note-expr, note-exprs, note-stmt, note-body}
+use Rattle.commands.specs.Noted.{Note, Note.n-this, Note.n-not, Note.n-set, Note.n-cons, Note.n-op, Note.n-if, walk, store, read-path}
+use Rattle.commands.specs.Noted.{write-path, note-expr, note-exprs, note-stmt, note-body}
 use Rattle.commands.specs.Living.{live-walk, live-expr, live-exprs, live-stmt, live-body}
 
 -- In front of two lists in a row -------------------------------------------------

@@ -8,7 +8,8 @@ use Rattle.types.specs.Types.{Ty, Ty.int}
 use Rattle.program.specs.Tree.{Stmt, Stmt.when, Stmt.declare, Stmt.update, Stmt.create, Stmts, Stmts.end, Stmts.next, Program}
 use Rattle.commands.specs.Context.{stmt-local, body-local, context}
 use Rattle.commands.specs.Names.{declares, declared, live-after, Named-stmt, Named}
-use Rattle.commands.specs.Locals.{Declaration, Declaration.itself, Declaration.inside, Declaration-in, Declaration-in.first, Declaration-in.later, Locals-right}
+use Rattle.commands.specs.Locals.{Declaration, Declaration.itself, Declaration.inside, Declaration-in, Declaration-in.first}
+use Rattle.commands.specs.Locals.{Declaration-in.later, Locals-right}
 
 mutual
   unfolding stmt-local declares

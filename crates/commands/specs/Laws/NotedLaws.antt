@@ -7,13 +7,17 @@ use mathlib.Core.Bool.{true}
 use lib.ListN.{length, drop, length-map}
 use lib.Seq.{drop-append-seam}
 use Rattle.types.specs.Types.{Ty}
-use Rattle.program.specs.Tree.{Var, Var.par, Var.loc, Expr, Expr.inv, Expr.make, Expr.path, Expr.int-lit, Expr.nat-lit, Expr.bool-lit, Expr.null, Expr.self, Expr.op, Exprs, Exprs.none, Exprs.more, Stmt, Stmt.when, Stmt.declare, Stmt.update, Stmt.create, Stmts, Stmts.end, Stmts.next}
+use Rattle.program.specs.Tree.{Var, Var.par, Var.loc, Expr, Expr.inv, Expr.make, Expr.path, Expr.int-lit, Expr.nat-lit, Expr.bool-lit, Expr.null}
+use Rattle.program.specs.Tree.{Expr.self, Expr.op, Exprs, Exprs.none, Exprs.more, Stmt, Stmt.when, Stmt.declare, Stmt.update, Stmt.create, Stmts}
+use Rattle.program.specs.Tree.{Stmts.end, Stmts.next}
 use Rattle.program.specs.Encoding.{var-code}
-use Rattle.commands.specs.Commands.{Com.push-this, reads, path-coms, front, last, expr-coms, args-coms, stmt-coms, body-coms, Flat.plain, flatten, commands}
+use Rattle.commands.specs.Commands.{Com.push-this, reads, path-coms, front, last, expr-coms, args-coms, stmt-coms, body-coms, Flat.plain}
+use Rattle.commands.specs.Commands.{flatten, commands}
 use Rattle.commands.specs.Laws.CommandLaws.{flatten-app, stored, update-flat, when-flat}
 use Rattle.commands.specs.Context.{Ctx, typ}
 use Rattle.types.specs.TypeBytes.{struct-of}
-use Rattle.commands.specs.Noted.{Note, Note.n-this, Note.n-not, Note.n-set, Note.n-cons, Note.n-op, Note.n-if, erase, walk, store, read-path, write-path, note-expr, note-exprs, note-stmt, note-body, noted}
+use Rattle.commands.specs.Noted.{Note, Note.n-this, Note.n-not, Note.n-set, Note.n-cons, Note.n-op, Note.n-if, erase, walk, store, read-path}
+use Rattle.commands.specs.Noted.{write-path, note-expr, note-exprs, note-stmt, note-body, noted}
 
 module _ (G : Ctx) where
   walk-app : (t : Ty) (xs : List ℕ) (c d : List Note) → walk G t xs (c ++ d) ≡ walk G t xs c ++ d

@@ -4,7 +4,8 @@ use mathlib.Core.List.{List}
 use mathlib.Core.Bool.{Bool, true, false}
 use Rattle.types.specs.Types.{Ty}
 use Rattle.commands.specs.Context.{Ctx}
-use Rattle.commands.specs.Noted.{Note, Note.n-push, Note.n-this, Note.n-not, Note.n-rd, Note.n-wr, Note.n-get, Note.n-set, Note.n-cons, Note.n-op, Note.n-if, now-written}
+use Rattle.commands.specs.Noted.{Note, Note.n-push, Note.n-this, Note.n-not, Note.n-rd, Note.n-wr, Note.n-get, Note.n-set, Note.n-cons}
+use Rattle.commands.specs.Noted.{Note.n-op, Note.n-if, now-written}
 use Rattle.commands.specs.Tags.{tags, Asks, Safe, Safe.stop as safe-stop, Safe.act as safe-act}
 use Rattle.commands.specs.Living.{alive, Among}
 use Rattle.commands.specs.Laws.StaticParts.{widen}

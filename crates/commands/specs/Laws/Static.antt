@@ -8,12 +8,17 @@ use lib.ListN.{length, length-reverse, length-append}
 use lib.Seq.{drop-at}
 use Rattle.types.specs.Types.{Ty, Ty.int, Ty.nat, Ty.bool, Ty.ref}
 use Rattle.types.specs.Values.{value-of, default}
-use Rattle.program.specs.Tree.{Var, Expr, Expr.inv, Expr.make, Expr.path, Expr.int-lit, Expr.nat-lit, Expr.bool-lit, Expr.null, Expr.self, Expr.op, Exprs, Exprs.none, Exprs.more, Stmt, Stmts, Program}
+use Rattle.program.specs.Tree.{Var, Expr, Expr.inv, Expr.make, Expr.path, Expr.int-lit, Expr.nat-lit, Expr.bool-lit, Expr.null, Expr.self, Expr.op}
+use Rattle.program.specs.Tree.{Exprs, Exprs.none, Exprs.more, Stmt, Stmts, Program}
 use Rattle.commands.specs.Context.{Ctx, params-of, context}
 use Rattle.commands.specs.Names.{Starts, Names, Names-all, declares, live-after, Named-stmt, Named}
-use Rattle.commands.specs.Typing.{Leads, Leads.arrived, Leads.onward, Reaches, Reaches.from-own, Reaches.from-local, Types, Types-all, Types-all.t-none, Types-all.t-more, Typed-stmt, Typed-stmt.t-when, Typed-stmt.t-declare, Typed-stmt.t-update, Typed-stmt.t-create, Typed, Typed.t-end, Typed.t-next}
+use Rattle.commands.specs.Typing.{Leads, Leads.arrived, Leads.onward, Reaches, Reaches.from-own, Reaches.from-local, Types, Types-all}
+use Rattle.commands.specs.Typing.{Types-all.t-none, Types-all.t-more, Typed-stmt, Typed-stmt.t-when, Typed-stmt.t-declare, Typed-stmt.t-update}
+use Rattle.commands.specs.Typing.{Typed-stmt.t-create, Typed, Typed.t-end, Typed.t-next}
 use Rattle.types.specs.TypeBytes.{struct-of}
-use Rattle.commands.specs.Noted.{Note, Note.n-push, Note.n-this, Note.n-not, Note.n-rd, Note.n-wr, Note.n-get, Note.n-set, Note.n-cons, Note.n-op, Note.n-if, walk, store, read-path, write-path, note-expr, note-exprs, note-stmt, note-body, noted, now-written}
+use Rattle.commands.specs.Noted.{Note, Note.n-push, Note.n-this, Note.n-not, Note.n-rd, Note.n-wr, Note.n-get, Note.n-set, Note.n-cons}
+use Rattle.commands.specs.Noted.{Note.n-op, Note.n-if, walk, store, read-path, write-path, note-expr, note-exprs, note-stmt, note-body, noted}
+use Rattle.commands.specs.Noted.{now-written}
 use Rattle.commands.specs.Tags.{tags, stack-after, is-this, Asks, jump}
 use Rattle.commands.specs.Living.{live-walk, live-expr, live-exprs, live-stmt, live-body, lives, alive, Among}
 use Rattle.commands.specs.Laws.LivingLaws.{live-out}

@@ -3,10 +3,13 @@ use Prim.Native.Nat.{ℕ}
 use mathlib.Core.Path.{_≡_, refl}
 use mathlib.Core.List.{List, [], _∷_, List·Memᴰ·head, List·Memᴰ·tail}
 use Rattle.types.specs.Types.{Ty, Ty.int, Ty.nat, Ty.bool, Ty.ref}
-use Rattle.program.specs.Tree.{Expr, Expr.inv, Expr.make, Expr.path, Expr.int-lit, Expr.nat-lit, Expr.bool-lit, Expr.null, Expr.self, Expr.op, Stmt, Stmt.when, Stmt.declare, Stmt.update, Stmt.create}
+use Rattle.program.specs.Tree.{Expr, Expr.inv, Expr.make, Expr.path, Expr.int-lit, Expr.nat-lit, Expr.bool-lit, Expr.null, Expr.self, Expr.op, Stmt}
+use Rattle.program.specs.Tree.{Stmt.when, Stmt.declare, Stmt.update, Stmt.create}
 use Rattle.commands.specs.Context.{Ctx}
 use Rattle.commands.specs.Names.{live-after}
-use Rattle.commands.specs.Typing.{Sort, sort, Takes, Takes.any-equal, Takes.order-int, Takes.order-nat, Takes.arith-int, Takes.arith-nat, Takes.logic-bool, Leads, Leads.arrived, Reaches, Types, Types.t-not, Types.t-make, Types.t-path, Types.t-int, Types.t-nat, Types.t-bool, Types.t-null, Types.t-this, Types.t-op, Types-all}
+use Rattle.commands.specs.Typing.{Sort, sort, Takes, Takes.any-equal, Takes.order-int, Takes.order-nat, Takes.arith-int, Takes.arith-nat}
+use Rattle.commands.specs.Typing.{Takes.logic-bool, Leads, Leads.arrived, Reaches, Types, Types.t-not, Types.t-make, Types.t-path, Types.t-int}
+use Rattle.commands.specs.Typing.{Types.t-nat, Types.t-bool, Types.t-null, Types.t-this, Types.t-op, Types-all}
 use Rattle.commands.specs.Tags.{result-type}
 use Rattle.commands.specs.Living.{Among}
 

@@ -85,49 +85,57 @@ returns : tie.Need-returns
 unfolding perform do-push
 returns c =
     let at-call = c .before .before .before .before in let at-match = at-call .before .before .before in let a = start (at-match .before) .args in
-    performs (a .counts .now) (a .heads .now) (a .cells .now) (a .l) (a .count) (a .w) 1 (at-match .match .keys1) _ (λ z. refl) _ _ _ (λ z e. at-call .push .ensures z)
+    performs (a .counts .now) (a .heads .now) (a .cells .now) (a .l) (a .count) (a .w) 1 (at-match .match .keys1) _ (λ z. refl) _ _ _
+    (λ z e. at-call .push .ensures z)
 
 returns-2 : tie.Need-returns-2
 unfolding perform do-this
 returns-2 c =
     let at-call = c .before .before .before .before in let at-match = at-call .before .before .before in let a = start (at-match .before) .args in
-    performs (a .counts .now) (a .heads .now) (a .cells .now) (a .l) (a .count) (a .w) 2 (at-match .match .keys2) _ (λ z. refl) _ _ _ (λ z e. at-call .push-this .ensures z)
+    performs (a .counts .now) (a .heads .now) (a .cells .now) (a .l) (a .count) (a .w) 2 (at-match .match .keys2) _ (λ z. refl) _ _ _
+    (λ z e. at-call .push-this .ensures z)
 
 returns-3 : tie.Need-returns-3
 unfolding perform do-rd
 returns-3 c =
     let at-call = c .before .before .before .before in let at-match = at-call .before .before .before in let a = start (at-match .before) .args in
-    performs (a .counts .now) (a .heads .now) (a .cells .now) (a .l) (a .count) (a .w) 3 (at-match .match .keys3) _ (λ z. refl) _ _ _ (λ z e. at-call .read .ensures z)
+    performs (a .counts .now) (a .heads .now) (a .cells .now) (a .l) (a .count) (a .w) 3 (at-match .match .keys3) _ (λ z. refl) _ _ _
+    (λ z e. at-call .read .ensures z)
 
 returns-4 : tie.Need-returns-4
 unfolding perform do-wr
 returns-4 c =
     let at-call = c .before .before .before .before in let at-match = at-call .before .before .before in let a = start (at-match .before) .args in
-    performs (a .counts .now) (a .heads .now) (a .cells .now) (a .l) (a .count) (a .w) 4 (at-match .match .keys4) _ (λ z. refl) _ _ _ (λ z e. at-call .write .ensures z)
+    performs (a .counts .now) (a .heads .now) (a .cells .now) (a .l) (a .count) (a .w) 4 (at-match .match .keys4) _ (λ z. refl) _ _ _
+    (λ z e. at-call .write .ensures z)
 
 returns-5 : tie.Need-returns-5
 unfolding perform do-cons
 returns-5 c =
     let at-call = c .before .before .before .before in let at-match = at-call .before .before .before in let a = start (at-match .before) .args in
-    performs (a .counts .now) (a .heads .now) (a .cells .now) (a .l) (a .count) (a .w) 5 (at-match .match .keys5) _ (λ z. refl) _ _ _ (at-call .construct .ensures)
+    performs (a .counts .now) (a .heads .now) (a .cells .now) (a .l) (a .count) (a .w) 5 (at-match .match .keys5) _ (λ z. refl) _ _ _
+    (at-call .construct .ensures)
 
 returns-6 : tie.Need-returns-6
 unfolding perform do-if
 returns-6 c =
     let at-call = c .before .before in let at-match = at-call .before .before .before in let a = start (at-match .before) .args in
-    performs (a .counts .now) (a .heads .now) (a .cells .now) (a .l) (a .count) (a .w) 6 (at-match .match .keys6) _ (λ z. refl) _ _ _ (λ z e. at-call .branch .ensures z)
+    performs (a .counts .now) (a .heads .now) (a .cells .now) (a .l) (a .count) (a .w) 6 (at-match .match .keys6) _ (λ z. refl) _ _ _
+    (λ z e. at-call .branch .ensures z)
 
 returns-7 : tie.Need-returns-7
 unfolding perform do-not
 returns-7 c =
     let at-call = c .before .before .before .before in let at-match = at-call .before .before .before in let a = start (at-match .before) .args in
-    performs (a .counts .now) (a .heads .now) (a .cells .now) (a .l) (a .count) (a .w) 7 (at-match .match .keys7) _ (λ z. refl) _ _ _ (λ z e. at-call .negate .ensures z)
+    performs (a .counts .now) (a .heads .now) (a .cells .now) (a .l) (a .count) (a .w) 7 (at-match .match .keys7) _ (λ z. refl) _ _ _
+    (λ z e. at-call .negate .ensures z)
 
 returns-8 : tie.Need-returns-8
 unfolding perform do-op answered
 returns-8 c =
     let at-call = c .before .before .before .before in let at-match = at-call .before .before .before in let a = start (at-match .before) .args in
-    performs (a .counts .now) (a .heads .now) (a .cells .now) (a .l) (a .count) (a .w) 8 (eighth at-match) _ (λ z. refl) _ _ _ (λ z e. at-call .operate .ensures z)
+    performs (a .counts .now) (a .heads .now) (a .cells .now) (a .l) (a .count) (a .w) 8 (eighth at-match) _ (λ z. refl) _ _ _
+    (λ z e. at-call .operate .ensures z)
 
 pub perform-spec : {M : Type 1} → statement M
 perform-spec =

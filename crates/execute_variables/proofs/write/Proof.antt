@@ -15,7 +15,11 @@ cast-if1 c =
     let at-slice-known3 = at-struct-known .before .before .before .before in
     let at-shared-slice-known = at-slice-known3 .before .before .before in
     let start = at-shared-slice-known .before in
-    omega (arith, at-shared-slice-known .shared-slice-known .given (getD (start .args .heads .now) (head (operand (topmost (start .args .cells .now) (start .args .a))) struct-of) 0))
+    omega (
+      arith,
+      at-shared-slice-known .shared-slice-known .given
+          (getD (start .args .heads .now) (head (operand (topmost (start .args .cells .now) (start .args .a))) struct-of) 0),
+    )
 
 returns : tie.Need-returns
 returns c =
@@ -35,7 +39,8 @@ returns-2 c =
     let at-slice-known4 = at-go .before .before .before .before in
     let at-shared-slice-known = at-slice-known4 .before .before .before .before in
     let start = at-shared-slice-known .before in
-    param-way (start .args .counts .now) (start .pre .0) (start .args .x) (at-replace .replace .ensures .1) (at-replace .replace .ensures .0) (at-go .go .ensures)
+    param-way (start .args .counts .now) (start .pre .0) (start .args .x) (at-replace .replace .ensures .1) (at-replace .replace .ensures .0)
+    (at-go .go .ensures)
     (then1 .if1 .taken) (else2 .if2 .left)
 
 returns-3 : tie.Need-returns-3

@@ -1,8 +1,7 @@
 -- `sign` meets its contract: an arm for each first byte, which is a sign or an operator whatever follows, or by the byte behind it.
 use mathlib.Core.Path.{_∙_}
-use Rattle.tokens.specs.Tokens.{spelling, sign-spelling, op-spelling}
 use Rattle.tokens.specs.TokenNumbers.{sign-number}
-use Rattle.tokens.specs.Scanning.{begins, doubles, singles, signs, behind-first, find-sign}
+use Rattle.tokens.specs.Unfold.{sign-scan}
 use Rattle.lexer.specs.Kinds.{kind, sign-kind, op-kind}
 use Rattle.lexer.specs.Marking.{spot-of}
 use Rattle.lexer.specs.SpotLaws.{sign-none, bang-spot, and-spot, colon-spot, less-spot, more-spot, or-spot}
@@ -11,7 +10,7 @@ use Rattle.lexer.proofs.sign.Statement.{statement}
 use Rattle.lexer.proofs.sign.Tie as tie
 
 pub sign-spec : {M : Type 1} → statement M
-unfolding spot-of find-sign signs doubles singles begins spelling sign-spelling op-spelling behind-first kind sign-kind sign-number op-kind
+unfolding spot-of sign-scan kind sign-kind sign-number op-kind
 sign-spec =
     tie.close
     (tie.spec (λ c κs. search needs) (λ c κs. search needs) (λ c κs. search needs) (λ c κs. search needs) (λ c κs. search needs)

@@ -141,7 +141,8 @@ module _ {p : Program} {counts : List ℕ} (firm : Firm p) (bound : Bounded p co
         let x : Shows (label-cell k (z .machine .count)) (label (z .machine .count)) = label-shows k (z .machine .count) (omega arith) (omega arith) in
         let a : length vs ≡ length ξ = vs-length in
         let q : length ξ ≤ first-local = few-params in
-        pushed-stands list P m′ (with-new z k ws) made-stands (new-slim (m .instances) slim k vs (omega arith)) l i at′ c χ (now-written (n-cons k) (i .written)) base
+        pushed-stands list P m′ (with-new z k ws) made-stands (new-slim (m .instances) slim k vs (omega arith)) l i at′ c χ
+        (now-written (n-cons k) (i .written)) base
         (after counts l z)
         base-is
         (stack-under (with-new z k ws .cells) l ξ χ v)

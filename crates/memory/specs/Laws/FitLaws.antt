@@ -9,7 +9,8 @@ use lib.ListN.{length, getD, getElem?, length-append, length-reverse}
 use Rattle.types.specs.Limits.{nat-end, max-structs, max-depth, first-local, max-locals, variables}
 use Rattle.types.specs.Types.{Ty, Ty.int, Ty.nat, Ty.bool}
 use Rattle.types.specs.Values.{Val, Val.int-val, Val.nat-val, Val.bool-val, Val.label, word}
-use Rattle.program.specs.Tree.{Op, Op.op-eq, Op.op-ne, Op.op-le, Op.op-ge, Op.op-lt, Op.op-gt, Op.op-mul, Op.op-div, Op.op-rem, Op.op-add, Op.op-sub, Op.op-and, Op.op-or, Program}
+use Rattle.program.specs.Tree.{Op, Op.op-eq, Op.op-ne, Op.op-le, Op.op-ge, Op.op-lt, Op.op-gt, Op.op-mul, Op.op-div, Op.op-rem, Op.op-add, Op.op-sub}
+use Rattle.program.specs.Tree.{Op.op-and, Op.op-or, Program}
 use Rattle.program.specs.Encoding.{op-code}
 use Rattle.commands.specs.Context.{params-of}
 use Rattle.commands.specs.Typing.{Sort, sort, Takes, Takes.any-equal, Takes.order-int, Takes.order-nat, Takes.arith-int, Takes.arith-nat, Takes.logic-bool}
@@ -35,7 +36,8 @@ use Rattle.memory.specs.Fit.{RdFit, WrFit, ConsFit, TruthFit, OpFit, Nee
 use Rattle.memory.specs.Laws.CellLaws.{word-below, shown-type, shown-operand, shown-below, apply-shown}
 use Rattle.memory.specs.Laws.HeldLaws.{holds-next, holds-within, holds-word, holds-top, holds-label, holds-beneath}
 use Rattle.memory.specs.Laws.StandsLaws.{has-row}
-use Rattle.memory.specs.Laws.ActorLaws.{counts-length, count-of, has-param, good-slim, actor-needs, actor-sized, actor-jump, actor-struct, push-room, this-room, cons-room}
+use Rattle.memory.specs.Laws.ActorLaws.{counts-length, count-of, has-param, good-slim, actor-needs, actor-sized, actor-jump, actor-struct}
+use Rattle.memory.specs.Laws.ActorLaws.{push-room, this-room, cons-room}
 use Rattle.memory.specs.Laws.VarActs.{own-local}
 use Rattle.memory.specs.Laws.Acts.{kind-bounds, word-says}
 
@@ -139,7 +141,8 @@ module _ {p : Program} {counts : List ℕ} (firm : Firm p) (bound : Bounded p co
       let tx = shown-type (beneath counts l z) (x .is) sx in
       let ox = shown-operand (beneath counts l z) (x .is) sx in
       let oy = shown-operand (top counts l z) (y .is) sy in
-      let q : apply-word (op-code o) (type-byte (beneath counts l z)) (operand (beneath counts l z)) (operand (top counts l z)) ≡ answered (apply o (x .is) (y .is)) =
+      let q : apply-word (op-code o) (type-byte (beneath counts l z)) (operand (beneath counts l z)) (operand (top counts l z))
+      ≡ answered (apply o (x .is) (y .is)) =
       rw (tx, ox, oy) (apply-shown o (sx .by) (sx .held) rx ry) in
       record {
         two = omega arith;

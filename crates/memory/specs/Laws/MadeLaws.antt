@@ -27,7 +27,8 @@ use Rattle.memory.specs.Laws.StandsLaws.{has-row}
 -- memory with one instance more, of struct k, with these cells for its first variables
 abbrev pub with-new : State → ℕ → List ℕ → State
 with-new z k ws =
-    with-count (with-cells (with-heads z (sets (z .heads) (head-size * z .machine .count) (new-head k))) (sets (z .cells) (row-size * z .machine .count) ws)) (suc (z .machine .count))
+    with-count (with-cells (with-heads z (sets (z .heads) (head-size * z .machine .count) (new-head k)))
+    (sets (z .cells) (row-size * z .machine .count) ws)) (suc (z .machine .count))
 
 module _ (list : List ℕ) (P : ℕ → Sched → Type 0) (m : Machine) (z : State) (st : Stands list P m z) (slim : AllSlim (m .instances))
     (room : z .machine .count < max-instances) (k : ℕ) (ws : List ℕ) (vs : List Val) (same : length vs ≡ length ws) (few : length ws ≤ variables)

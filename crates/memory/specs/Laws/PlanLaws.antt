@@ -11,7 +11,8 @@ use lib.Seq.{take-append-seam, drop-append-seam, getD-append-seam, getD-drop, ta
 use Rattle.types.specs.Limits.{max-structs, step-names}
 use Rattle.program.specs.Tree.{Item, Item.call, Item.call-in, Item.fix, Items, Items.stop, Items.item, Program}
 use Rattle.program.specs.Counts.{CountsItem, CountsItems, CountsSchedule, Counts}
-use Rattle.machine.specs.Published.{StepCall, StepCall.global, StepCall.local, Sched, Sched.done, Sched.start, Sched.fixpoint, Sched.active, before, of-item, of-items}
+use Rattle.machine.specs.Published.{StepCall, StepCall.global, StepCall.local, Sched, Sched.done, Sched.start, Sched.fixpoint, Sched.active, before}
+use Rattle.machine.specs.Published.{of-item, of-items}
 use Rattle.layout.specs.Codes.{fix-code, end-code, round-code}
 use Rattle.memory.specs.Plan.{start-code, laid, laid-out, RangedCall, Ranged, At, At.at-end, At.at-start, At.at-fix, At.at-round}
 

@@ -157,7 +157,8 @@ module _ {p : Program} {counts : List ℕ} (firm : Firm p) (bound : Bounded p co
       let tx : type-byte (beneath counts l z) ≡ code (sx .by) = shown-type (beneath counts l z) (x .is) sx in
       let ox : operand (beneath counts l z) ≡ word (x .is) = shown-operand (beneath counts l z) (x .is) sx in
       let oy : operand (top counts l z) ≡ word (y .is) = shown-operand (top counts l z) (y .is) sy in
-      let q : apply-word (op-code o) (type-byte (beneath counts l z)) (operand (beneath counts l z)) (operand (top counts l z)) ≡ as-words (apply o (x .is) (y .is)) =
+      let q : apply-word (op-code o) (type-byte (beneath counts l z)) (operand (beneath counts l z)) (operand (top counts l z))
+      ≡ as-words (apply o (x .is) (y .is)) =
       rw (tx, ox, oy) (apply-shown o (sx .by) (sx .held) rx ry) in
       subst (After list P z (do-op counts l z (op-code o))) (sym (operates p m l (acting (n-op o)) c o s))
       (subst

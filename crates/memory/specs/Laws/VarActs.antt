@@ -18,7 +18,8 @@ use Rattle.commands.specs.Noted.{Note, Note.n-rd, Note.n-wr, Note.n-get, Note.n
 use Rattle.operators.specs.Apply.{same-val}
 use Rattle.machine.specs.Published.{Sched, Env, lookup, assign, structs, arity}
 use Rattle.machine.specs.Rules.{meet}
-use Rattle.machine.specs.Machine.{Tagged, tagged, Source, Source.variable as from-variable, Source.local, given-by, Instance, Machine, with-code, with-written, with-instances, with-stability, put, update-env, leaves-stable, read, write-to, write, perform}
+use Rattle.machine.specs.Machine.{Tagged, tagged, Source, Source.variable as from-variable, Source.local, given-by, Instance, Machine, with-code}
+use Rattle.machine.specs.Machine.{with-written, with-instances, with-stability, put, update-env, leaves-stable, read, write-to, write, perform}
 use Rattle.sound.specs.Needs.{ValueAmong, Needs}
 use Rattle.sound.specs.Invariant.{Good}
 use Rattle.sound.specs.Firm.{Firm}
@@ -140,12 +141,14 @@ module _ {p : Program} {counts : List ℕ} (firm : Firm p) (bound : Bounded p co
         (holds-after list z l i held n c e counts)
 
     -- and the variable
-    stores : Stands list P (with-instances m (update-env (set (m .instances) l actor) r (assign (j .env) v (x .is)))) (stored counts l z r v (beneath counts l z))
+    stores : Stands list P (with-instances m (update-env (set (m .instances) l actor) r (assign (j .env) v (x .is))))
+        (stored counts l z r v (beneath counts l z))
     stores =
         let (j′, b, k, g) = same-env (m .instances) l r i j actor at at′ refl refl in
         let slim′ : AllSlim (set (m .instances) l actor) =
         slim-put (m .instances) l i actor at slim (record { low = low; near = slim l i at .near }) in
-        subst (λ (ξ : Env). Stands list P (with-instances m (update-env (set (m .instances) l actor) r (assign ξ v (x .is)))) (stored counts l z r v (beneath counts l z))) g
+        subst (λ (ξ : Env). Stands list P (with-instances m (update-env (set (m .instances) l actor) r (assign ξ v (x .is))))
+        (stored counts l z r v (beneath counts l z))) g
         (stored-stands list P (put m l actor) (gone z l (height counts l z - 2) (after counts l z)) leaves slim′ r j′ b v small (beneath counts l z) (x .is)
         (holds-beneath list z l i (st .each l i at) counts y x χ s))
 

@@ -18,7 +18,13 @@ returns-3 c = rw (char-of, ne-eqb _ 10 (c .before .before .if1 .left), ne-eqb _ 
 
 returns-4 : tie.Need-returns-4
 unfolding char-of
-returns-4 c = rw (char-of, ne-eqb _ 10 (c .before .before .before .if1 .left), ne-eqb _ 45 (c .before .before .if2 .left), ne-eqb _ 32 (c .before .if3 .left), eq-eqb _ 9 (c .if4 .taken))
+returns-4 c = rw (
+  char-of,
+  ne-eqb _ 10 (c .before .before .before .if1 .left),
+  ne-eqb _ 45 (c .before .before .if2 .left),
+  ne-eqb _ 32 (c .before .if3 .left),
+  eq-eqb _ 9 (c .if4 .taken),
+)
 
 returns-5 : tie.Need-returns-5
 unfolding char-of

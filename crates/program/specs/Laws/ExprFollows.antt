@@ -11,12 +11,15 @@ use Rattle.program.specs.Encoding.{op-code, enc-expr, enc-exprs}
 use Rattle.program.specs.Levels.{levels-expr, levels-exprs}
 use Rattle.program.specs.Counts.{expr-height, CountsExpr}
 use Rattle.program.specs.Fronts.{Front.front-none}
-use Rattle.program.specs.Reader.{Result, Result.bad, wrong-end, wrong-byte, lookup, Form, Form.form-inv, Form.form-make, Form.form-path, Form.form-int, Form.form-nat, Form.form-bool, Form.form-null, Form.form-self, Form.form-op, Form.form-none, form, bool-end, word-bytes, byte, then, read-make, rule-expr, read-expr}
+use Rattle.program.specs.Reader.{Result, Result.bad, wrong-end, wrong-byte, lookup, Form, Form.form-inv, Form.form-make, Form.form-path}
+use Rattle.program.specs.Reader.{Form.form-int, Form.form-nat, Form.form-bool, Form.form-null, Form.form-self, Form.form-op, Form.form-none}
+use Rattle.program.specs.Reader.{form, bool-end, word-bytes, byte, then, read-make, rule-expr, read-expr}
 use Rattle.program.specs.Exact.{Stands, Stands.letter, Stands.done, Exact}
 use Rattle.program.specs.Laws.PartLaws.{then-ok, byte-ok}
 use Rattle.program.specs.Laws.WordLaws.{below-exact}
 use Rattle.program.specs.Laws.ExprLaws.{Opens, opens, form-code, InExpr, InExprs, exprs-row, expr-exact}
-use Rattle.program.specs.Follows.{Covers.covers-none, Covers.covers-byte, Deep, Deep.deep-here, Met.met-whole, Met.met-deep, GoesOn, Follows, FormEnds, Opened}
+use Rattle.program.specs.Follows.{Covers.covers-none, Covers.covers-byte, Deep, Deep.deep-here, Met.met-whole, Met.met-deep, GoesOn, Follows}
+use Rattle.program.specs.Follows.{FormEnds, Opened}
 use Rattle.program.specs.Laws.MetLaws.{met-made}
 use Rattle.program.specs.Laws.FollowsLaws.{pair-follows, row-follows, follows-behind, formed-ends, met-byte, opened-follows, no-form-ends}
 use Rattle.program.specs.Laws.WordFollows.{below-follows, word-follows, type-follows, path-follows}

@@ -14,7 +14,8 @@ use Rattle.program.specs.Encoding.{flat, enc-list}
 use Rattle.program.specs.Counts.{Few}
 use Rattle.program.specs.Levels.{all-at}
 use Rattle.program.specs.Fronts.{Front.front-none, Front.front-byte}
-use Rattle.program.specs.Reader.{Result, Result.ok, Result.bad, wrong-end, wrong-byte, then, pair, made, many, guard, between, byte, tested, ranged, counted, opened}
+use Rattle.program.specs.Reader.{Result, Result.ok, Result.bad, wrong-end, wrong-byte, then, pair, made, many, guard, between, byte, tested}
+use Rattle.program.specs.Reader.{ranged, counted, opened}
 use Rattle.program.specs.Exact.{Stands, Exact, Rowed}
 use Rattle.program.specs.Laws.StandsLaws.{split, stands-none, stands-drop, stands-length, stands-in}
 use Rattle.program.specs.Laws.PartLaws.{told-is, then-ok, byte-ok}

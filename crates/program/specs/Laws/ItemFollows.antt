@@ -9,13 +9,15 @@ use Rattle.program.specs.Tree.{Item, Item.call, Item.call-in, Item.fix, 
 use Rattle.program.specs.Encoding.{enc-item}
 use Rattle.program.specs.Levels.{all-at}
 use Rattle.program.specs.Counts.{fixes, fixes-in, CountsItem, CountsItems, CountsSchedule}
-use Rattle.program.specs.Reader.{Result, ranged, opened, pair, lookup, ItemSort, ItemSort.sort-call, ItemSort.sort-call-in, ItemSort.sort-fix, ItemSort.sort-none, item-sort, read-items, rule-item, read-item}
+use Rattle.program.specs.Reader.{Result, ranged, opened, pair, lookup, ItemSort, ItemSort.sort-call, ItemSort.sort-call-in, ItemSort.sort-fix}
+use Rattle.program.specs.Reader.{ItemSort.sort-none, item-sort, read-items, rule-item, read-item}
 use Rattle.program.specs.Exact.{Stands, Stands.letter, Exact}
 use Rattle.program.specs.Laws.WordLaws.{below-exact}
 use Rattle.program.specs.Laws.ItemLaws.{OpensItem, opens-item, InItem, InFix, enc-schedule, items-row, item-exact}
 use Rattle.program.specs.Follows.{Follows, FollowsBehind, FormEnds, Opened}
 use Rattle.program.specs.Laws.MetLaws.{met-made}
-use Rattle.program.specs.Laws.FollowsLaws.{follows-as, pair-follows, row-at, follows-behind, shut-follows, counted-follows, formed-ends, met-byte, opened-follows, no-form-ends}
+use Rattle.program.specs.Laws.FollowsLaws.{follows-as, pair-follows, row-at, follows-behind, shut-follows, counted-follows, formed-ends}
+use Rattle.program.specs.Laws.FollowsLaws.{met-byte, opened-follows, no-form-ends}
 use Rattle.program.specs.Laws.WordFollows.{below-follows}
 
 -- where there is a struct; items stand at level 0, whatever the deepest

@@ -8,7 +8,8 @@ use Rattle.types.specs.Limits.{step-names, max-items, fix-levels}
 use Rattle.program.specs.Tree.{Item, Item.call, Item.call-in, Item.fix, Items, Items.stop, Items.item, items}
 use Rattle.program.specs.Encoding.{enc-item, enc-items}
 use Rattle.program.specs.Counts.{fixes, fixes-in, CountsItem, CountsItems, CountsSchedule}
-use Rattle.program.specs.Reader.{Result, ranged, opened, pair, lookup, ItemSort, ItemSort.sort-call, ItemSort.sort-call-in, ItemSort.sort-fix, ItemSort.sort-none, item-sorts, item-sort, read-items, rule-item, read-item}
+use Rattle.program.specs.Reader.{Result, ranged, opened, pair, lookup, ItemSort, ItemSort.sort-call, ItemSort.sort-call-in, ItemSort.sort-fix}
+use Rattle.program.specs.Reader.{ItemSort.sort-none, item-sorts, item-sort, read-items, rule-item, read-item}
 use Rattle.program.specs.Exact.{Stands, Stands.letter, Exact, Behind, Formed, Rowed}
 use Rattle.program.specs.Laws.PartLaws.{made-ok}
 use Rattle.program.specs.Laws.JoinLaws.{exact-iff, pair-exact, row-exact, behind, shut, formed, no-form, counted-exact, lookup-is, Reads, opened-exact}

@@ -10,8 +10,10 @@ use lib.Dec.{ltb, leb, eqb, T, leb→le, ltb→lt, le→leb, lt→ltb}
 use borrow.Author.Tests.{eqb-true}
 use Rattle.program.specs.Encoding.{flat, enc-list}
 use Rattle.program.specs.Counts.{All, Few}
-use Rattle.program.specs.Reader.{Result, Result.ok, Result.bad, wrong-byte, pair, made, many, guard, Row, Row.row, lookup, between, tested, ranged, counted, opened}
-use Rattle.program.specs.Exact.{Stands, Stands.done, Stands.letter, Told, Told.told, Told.silent, Cut, Cut.same, Cut.stop, Cuts, At, Exact, Behind, Formed, Rowed}
+use Rattle.program.specs.Reader.{Result, Result.ok, Result.bad, wrong-byte, pair, made, many, guard, Row, Row.row, lookup, between, tested}
+use Rattle.program.specs.Reader.{ranged, counted, opened}
+use Rattle.program.specs.Exact.{Stands, Stands.done, Stands.letter, Told, Told.told, Told.silent, Cut, Cut.same, Cut.stop, Cuts, At, Exact}
+use Rattle.program.specs.Exact.{Behind, Formed, Rowed}
 use Rattle.program.specs.Laws.StandsLaws.{both, split, stands-none}
 use Rattle.program.specs.Laws.PartLaws.{told-then, told-weak, told-made, then-ok, made-ok, cuts-ok, cuts-then, cut-made, byte-ok, told-byte, cuts-byte}
 

@@ -7,7 +7,8 @@ use mathlib.Core.List.{List, [], _++_}
 use lib.ListN.{length, getD, length-append, List·getD-append}
 use borrow.Author.Tests.{lt-ltb, le-ltb}
 use Rattle.program.specs.Reader.{Result, Result.ok, Result.bad, wrong-end, then, made, byte}
-use Rattle.program.specs.Exact.{Told, Told.told, Told.silent, Beyond, Beyond.value-beyond, Beyond.refusal-beyond, Cut, Cut.same, Cut.stop, Cut.short, Cuts, CutsBehind}
+use Rattle.program.specs.Exact.{Told, Told.told, Told.silent, Beyond, Beyond.value-beyond, Beyond.refusal-beyond, Cut, Cut.same, Cut.stop}
+use Rattle.program.specs.Exact.{Cut.short, Cuts, CutsBehind}
 
 -- what is said of an answer goes on behind it, gets weaker, and holds of its value
 pub told-then : {A B : Type 0} {P : A → ℕ → Type 0} {Q : B → ℕ → Type 0} {r : Result A} {f : A → ℕ → Result B}

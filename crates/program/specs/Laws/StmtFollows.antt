@@ -7,18 +7,22 @@ use mathlib.Core.List.{List, [], _∷_, _++_}
 use lib.ListN.{length}
 use Rattle.types.specs.Limits.{step-names, max-steps, max-statements, if-levels, expr-levels, first-local}
 use Rattle.types.specs.Types.{code}
-use Rattle.program.specs.Tree.{Var.par, Expr, Expr.self, Stmt, Stmt.when, Stmt.declare, Stmt.update, Stmt.create, Stmts, Stmts.end, Stmts.next, Step, size}
+use Rattle.program.specs.Tree.{Var.par, Expr, Expr.self, Stmt, Stmt.when, Stmt.declare, Stmt.update, Stmt.create, Stmts, Stmts.end, Stmts.next}
+use Rattle.program.specs.Tree.{Step, size}
 use Rattle.program.specs.Encoding.{flat, enc-path, enc-expr, enc-exprs, enc-stmt, enc-list, enc-step}
 use Rattle.program.specs.Levels.{all-at, levels-expr, levels-exprs, levels-stmt, levels-stmts, levels-step}
 use Rattle.program.specs.Counts.{All, IsVar, IsPath, expr-height, nest, nests, CountsExpr, CountsStmtTo, CountsStmtsTo, CountsStepTo, CountsStep, Few}
-use Rattle.program.specs.Reader.{Result, lookup, Kind, Kind.kind-when, Kind.kind-declare, Kind.kind-update, Kind.kind-create, Kind.kind-none, kind, opened, read-make, read-expr, read-body, read-when, read-declare, read-update, rule-stmt, read-stmt, read-step, read-steps}
+use Rattle.program.specs.Reader.{Result, lookup, Kind, Kind.kind-when, Kind.kind-declare, Kind.kind-update, Kind.kind-create, Kind.kind-none}
+use Rattle.program.specs.Reader.{kind, opened, read-make, read-expr, read-body, read-when, read-declare, read-update, rule-stmt, read-stmt}
+use Rattle.program.specs.Reader.{read-step, read-steps}
 use Rattle.program.specs.Exact.{Stands, Stands.letter, Exact}
 use Rattle.program.specs.Laws.WordLaws.{below-exact, type-exact, local-exact, path-exact}
 use Rattle.program.specs.Laws.ExprLaws.{InExpr, expr-exact}
 use Rattle.program.specs.Laws.StmtLaws.{OpensStmt, opens-stmt, InStmt, InStmtTo, enc-body, enc-when, stmts-row-to, stmt-exact, step-exact}
 use Rattle.program.specs.Follows.{Follows, FollowsBehind, FormEnds, Opened}
 use Rattle.program.specs.Laws.MetLaws.{met-made}
-use Rattle.program.specs.Laws.FollowsLaws.{follows-as, made-follows, pair-follows, row-follows, follows-behind, shut-follows, counted-follows, list-follows, formed-ends, met-byte, opened-follows, no-form-ends}
+use Rattle.program.specs.Laws.FollowsLaws.{follows-as, made-follows, pair-follows, row-follows, follows-behind, shut-follows, counted-follows}
+use Rattle.program.specs.Laws.FollowsLaws.{list-follows, formed-ends, met-byte, opened-follows, no-form-ends}
 use Rattle.program.specs.Laws.WordFollows.{below-follows, type-follows, local-follows, path-follows}
 use Rattle.program.specs.Laws.ExprFollows.{make-follows, expr-follows}
 

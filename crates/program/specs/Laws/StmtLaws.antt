@@ -9,10 +9,13 @@ use Rattle.types.specs.Types.{code}
 use Rattle.program.specs.Tree.{Expr, Stmt, Stmt.when, Stmt.declare, Stmt.update, Stmt.create, Stmts, Stmts.end, Stmts.next, size}
 use Rattle.program.specs.Encoding.{enc-path, enc-expr, enc-exprs, enc-stmt, enc-stmts, enc-list, enc-step}
 use Rattle.program.specs.Counts.{nest, nests, CountsStmtTo, CountsStmtsTo, CountsStmt, CountsStmts, CountsStep, Few}
-use Rattle.program.specs.Reader.{Result, lookup, Kind, Kind.kind-when, Kind.kind-declare, Kind.kind-update, Kind.kind-create, Kind.kind-none, kinds, kind, opened, read-make, read-expr, read-body, read-when, read-declare, read-update, rule-stmt, read-stmt, read-step, read-steps}
+use Rattle.program.specs.Reader.{Result, lookup, Kind, Kind.kind-when, Kind.kind-declare, Kind.kind-update, Kind.kind-create, Kind.kind-none}
+use Rattle.program.specs.Reader.{kinds, kind, opened, read-make, read-expr, read-body, read-when, read-declare, read-update, rule-stmt}
+use Rattle.program.specs.Reader.{read-stmt, read-step, read-steps}
 use Rattle.program.specs.Exact.{Stands, Stands.letter, Exact, Behind, Formed, Rowed}
 use Rattle.program.specs.Laws.PartLaws.{made-ok}
-use Rattle.program.specs.Laws.JoinLaws.{exact-iff, made-exact, pair-exact, row-exact, behind, shut, formed, no-form, counted-exact, lookup-is, Reads, opened-exact, list-exact}
+use Rattle.program.specs.Laws.JoinLaws.{exact-iff, made-exact, pair-exact, row-exact, behind, shut, formed, no-form, counted-exact, lookup-is}
+use Rattle.program.specs.Laws.JoinLaws.{Reads, opened-exact, list-exact}
 use Rattle.program.specs.Laws.WordLaws.{below-exact, type-exact, local-exact, path-exact}
 use Rattle.program.specs.Laws.ExprLaws.{make-exact, expr-exact}
 

@@ -1,5 +1,5 @@
 -- What exactness says of places and of whole streams (01, 'Program stream' and 4 and 5 of 'Numbers from the input').
-use Prim.Native.Nat.{ℕ, suc, _+_, _<_, _≤_}
+use Prim.Native.Nat.{ℕ, suc, _<_, _≤_}
 use native.Mathlib.Omega.{arith}
 use native.Mathlib.Decide.{decLt}
 use mathlib.Core.Path.{_≡_, refl, sym, _∙_}
@@ -9,8 +9,9 @@ use lib.ListN.{length, getD, drop, length-append}
 use lib.Seq.{drop-cons}
 use borrow.Author.Tests.{lt-ltb, le-ltb}
 use Rattle.program.specs.Reader.{Result, Result.ok, Result.bad, wrong-end, wrong-byte, then, ended, whole}
-use Rattle.program.specs.Exact.{Stands, Told, Told.told, Told.silent, Beyond.refusal-beyond, Cut, Cut.same, Cut.stop, Cut.short, Exact, Refused, Refused.not-allowed, Refused.ends-early, Refused.goes-on}
-use Rattle.program.specs.Laws.StandsLaws.{stands-drop, stands-length, stands-in, stands-front, stands-self, stands-whole}
+use Rattle.program.specs.Exact.{Stands, Told, Told.told, Told.silent, Beyond.refusal-beyond, Cut, Cut.same, Cut.stop, Cut.short, Exact, Refused}
+use Rattle.program.specs.Exact.{Refused.not-allowed, Refused.ends-early, Refused.goes-on}
+use Rattle.program.specs.Laws.StandsLaws.{stands-drop, stands-length, stands-front, stands-self, stands-whole}
 use Rattle.program.specs.Laws.PartLaws.{told-then, told-is, then-ok}
 
 ended-in : {A : Type 0} (s : List ℕ) (a : A) (k : ℕ) → length s ≤ k → ended s a k ≡ ok a k
@@ -25,10 +26,6 @@ module _ {A : Type 0} {C : A → Type 0} {E : A → List ℕ} {r : List ℕ → 
   -- a value is read at a place exactly where it keeps to its condition and its bytes stand there
   pub exact-at : (s : List ℕ) (a : A) (n m : ℕ) → (r s n ≡ ok a m) ↔ ((C a) × (Stands s n (E a) m))
   exact-at s a n m = (told-is (x .sound s n), λ h. x .complete s a n m (h .0) (h .1))
-
-  -- the next place lies behind the value's bytes, in the stream
-  pub next-place : (s : List ℕ) (a : A) (n m : ℕ) → n ≤ length s → r s n ≡ ok a m → (m ≡ n + length (E a)) × (m ≤ length s)
-  next-place s a n m l e = let h = exact-at s a n m .0 e in (stands-length (h .1), stands-in (h .1) l)
 
   sound-whole : (s : List ℕ) → Told (λ a m. (C a) × (s ≡ E a) × (m ≡ length s)) (whole r s)
   unfolding whole

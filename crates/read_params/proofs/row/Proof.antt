@@ -90,7 +90,7 @@ row-spec =
     (λ c. search needs)
     (λ c. search needs)
     (λ c κs. search needs)
-    (λ c. c .before .before .before .before .before .loop .inv .4)
+    (λ c. let within = c .before .before .before .before in within .before .loop .inv .4)
     returns
     (λ c. omega (arith, known (inside c)))
     (λ c. omega (arith, inside c .loop-test .taken))

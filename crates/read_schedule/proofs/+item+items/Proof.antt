@@ -60,7 +60,16 @@ item-claims t = (
 )
 
 abbrev items-claims : ℕ → items-lts.Claims
-items-claims t = (ranged-reads.Asked, ranged-reads.Learnt, byte-refusal-reads.Asked, byte-refusal-reads.Learnt, item-below t, item.Post, joined-reads.Asked, joined-reads.Learnt)
+items-claims t = (
+  ranged-reads.Asked,
+  ranged-reads.Learnt,
+  byte-refusal-reads.Asked,
+  byte-refusal-reads.Learnt,
+  item-below t,
+  item.Post,
+  joined-reads.Asked,
+  joined-reads.Learnt,
+)
 
 -- the places of `item` that proofs look back to
 abbrev item-at-if1 : (t : ℕ) → item-lts.Else3 (item-claims t) (item-at t) item.Post → item-lts.Else1 (item-claims t) (item-at t) item.Post

@@ -27,7 +27,8 @@ use Rattle.table.specs.TableFaultLaws.{table-ends-exactly, table-offends-exactl
 use Rattle.run.specs.Run.{run}
 use Rattle.run.specs.Begin.{begin}
 use Rattle.verdict.specs.Verdict.{Checked, Checked.refused, checked, listed}
-use Rattle.run.specs.Entry.{Begun, Begun.begun, Begun.not-begun, of-table, of-table-image, of-checked, with-room, begins, report, report-of, output-of, run-report-by, run-output-by, run-list-by, run-report, run-output, run-list}
+use Rattle.run.specs.Entry.{Begun, Begun.begun, Begun.not-begun, of-table, of-table-image, of-checked, with-room, begins, report, report-of}
+use Rattle.run.specs.Entry.{output-of, run-report-by, run-output-by, run-list-by, run-report, run-output, run-list}
 use Rattle.verdict.specs.ProgramInput.{ImageRight, Reads, AcceptedImage, reads-of, WrongLength, WrongBlock, ShortList, program-order}
 use Rattle.run.specs.Input.{TableAccepted, Runnable, Began, TableWrongEnd, TableWrongValue, ShortOutput, ManyTurns, run-order}
 use Rattle.verdict.specs.InputOrder.{none-behind, foremost-front, Tells, Tells.refuses, Tells.passes, here, past, past-all, tells-number, tells-none}

@@ -20,7 +20,8 @@ use Rattle.machine.specs.Published.{lookup}
 use Rattle.run.specs.Run.{Outcome, Outcome.stopped, Outcome.jammed, run}
 use Rattle.run.specs.Begin.{begin}
 use Rattle.verdict.specs.Verdict.{Checked, Checked.accepted, Checked.refused, Verdict, refusal, approval, verdict-of, check-verdict, of-read, of-image, checked}
-use Rattle.run.specs.Entry.{Begun, Begun.begun, Begun.not-begun, of-table-image, of-checked, with-room, begins, Report, run-report-by, run-output-by, run-report, run-output}
+use Rattle.run.specs.Entry.{Begun, Begun.begun, Begun.not-begun, of-table-image, of-checked, with-room, begins, Report, run-report-by}
+use Rattle.run.specs.Entry.{run-output-by, run-report, run-output}
 use Rattle.run.specs.EntryStreams.{Summary, summed, reported, begins-streams}
 use Rattle.run.specs.Laws.EntryStreamLaws.{report-summed, output-summed, begins-image}
 use Rattle.verdict.specs.VerdictLaws.{checked-image}

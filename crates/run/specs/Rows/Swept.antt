@@ -51,7 +51,8 @@ falling-is zero b = refl
 falling-is (suc n) [] = sum-none (suc n) (λ i. (suc n - i) * byte [] i) (λ i. omega arith)
 falling-is (suc n) (x ∷ b) =
     let z : suc n - 0 ≡ suc n = omega arith in
-    let r : sum n (λ i. (suc n - suc i) * byte b i) ≡ falling-sum n b = sum-ext n _ _ (λ i h. let e : suc n - suc i ≡ n - i = omega arith in rw e) ∙ falling-is n b in
+    let r : sum n (λ i. (suc n - suc i) * byte b i) ≡ falling-sum n b =
+    sum-ext n _ _ (λ i h. let e : suc n - suc i ≡ n - i = omega arith in rw e) ∙ falling-is n b in
     sum-first n (λ i. (suc n - i) * byte (x ∷ b) i) ∙ rw (z, r)
 
 module _ (b : List ℕ) where

@@ -7,6 +7,7 @@ use mathlib.Core.List.{List, [], _∷_, _++_, map, reverse, reverseAux, reverse-
 use lib.ListN.{length, getD, getElem?, set}
 use Rattle.types.specs.Types.{Ty}
 use Rattle.table.specs.Table.{Each}
+pub use Rattle.table.specs.EachLaws.{each-length}
 
 -- what holds of each pair and follows from another
 pub each-map : {A : Type 0} {P Q : Ty → A → Type 0} → ((t : Ty) (x : A) → P t x → Q t x) → (ts : List Ty) (xs : List A) → Each P ts xs → Each Q ts xs
@@ -23,13 +24,6 @@ each-of-map P f (t ∷ ts) [] e = absurd e
 each-of-map P f (t ∷ ts) (x ∷ xs) e = (e .0, each-of-map P f ts xs (e .1))
 
 module _ {A : Type 0} (P : Ty → A → Type 0) where
-  -- as many elements as types
-  pub each-length : (ts : List Ty) (xs : List A) → Each P ts xs → length xs ≡ length ts
-  each-length [] [] e = refl
-  each-length [] (x ∷ xs) e = absurd e
-  each-length (t ∷ ts) [] e = absurd e
-  each-length (t ∷ ts) (x ∷ xs) e = ap suc (each-length ts xs (e .1))
-
   -- the first of them and the others
   pub each-uncons : (t : Ty) (r : List Ty) (xs : List A) → Each P (t ∷ r) xs → (x : A) × (ys : List A) × (xs ≡ x ∷ ys) × (P t x) × (Each P r ys)
   each-uncons t r [] e = absurd e

@@ -14,7 +14,9 @@ use Rattle.commands.specs.Noted.{Note, now-written}
 use Rattle.machine.specs.Published.{Env, arity}
 use Rattle.machine.specs.Machine.{tagged, Instance, Machine, Out, Out.next, Out.refused, Out.stuck, with-code, with-env, with-written, acting, update-env}
 use Rattle.machine.specs.Machine.{made, command}
-use Rattle.machine.specs.Performed.{Performed, Performed.pushed, Performed.pushed-this, Performed.negated, Performed.read-one, Performed.skipped, Performed.wrote, Performed.calculated, Performed.exceeding, Performed.constructed, Performed.filled, Performed.branched, Performed.no-way}
+use Rattle.machine.specs.Performed.{Performed, Performed.pushed, Performed.pushed-this, Performed.negated, Performed.read-one, Performed.skipped}
+use Rattle.machine.specs.Performed.{Performed.wrote, Performed.calculated, Performed.exceeding, Performed.constructed, Performed.filled}
+use Rattle.machine.specs.Performed.{Performed.branched, Performed.no-way}
 use Rattle.machine.specs.PerformedLaws.{by-ways}
 use Rattle.run.specs.Holders.{holds-code, flag, flags}
 use Rattle.sound.specs.Laws.ElemLaws.{none-some, at-set-same, at-append}

@@ -17,7 +17,9 @@ use Rattle.commands.specs.Noted.{Note}
 use Rattle.operators.specs.Apply.{apply}
 use Rattle.machine.specs.Rules.{meet}
 use Rattle.machine.specs.Published.{lookup, structs, arity}
-use Rattle.machine.specs.Machine.{Tagged, tagged, Source, Source.result, given-by, Instance, Machine, with-code, with-instances, with-stability, put, Out.next, Out.refused, read-from, read-at, read, write-to, write-parameter, write-at, write, negate, branch, operated, operate, construct}
+use Rattle.machine.specs.Machine.{Tagged, tagged, Source, Source.result, given-by, Instance, Machine, with-code, with-instances, with-stability, put}
+use Rattle.machine.specs.Machine.{Out.next, Out.refused, read-from, read-at, read, write-to, write-parameter, write-at, write, negate, branch}
+use Rattle.machine.specs.Machine.{operated, operate, construct}
 use Rattle.machine.specs.Stops.{full}
 use Rattle.run.specs.Begin.{resting}
 

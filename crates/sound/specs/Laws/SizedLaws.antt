@@ -11,7 +11,9 @@ use borrow.Author.Tests.{ltb-true, ltb-false}
 use Rattle.types.specs.Limits.{int-half, nat-end}
 use Rattle.types.specs.Types.{Ty, Ty.int, Ty.nat, Ty.bool, Ty.ref, IsType}
 use Rattle.types.specs.Values.{Val, IntRange, default, word-int, value-of}
-use Rattle.program.specs.Tree.{Var, Var.par, Var.loc, Expr, Expr.inv, Expr.make, Expr.path, Expr.int-lit, Expr.nat-lit, Expr.bool-lit, Expr.null, Expr.self, Expr.op, Exprs, Exprs.none, Exprs.more, Stmt, Stmt.when, Stmt.declare, Stmt.update, Stmt.create, Stmts, Stmts.end, Stmts.next, Program}
+use Rattle.program.specs.Tree.{Var, Var.par, Var.loc, Expr, Expr.inv, Expr.make, Expr.path, Expr.int-lit, Expr.nat-lit, Expr.bool-lit, Expr.null}
+use Rattle.program.specs.Tree.{Expr.self, Expr.op, Exprs, Exprs.none, Exprs.more, Stmt, Stmt.when, Stmt.declare, Stmt.update, Stmt.create, Stmts}
+use Rattle.program.specs.Tree.{Stmts.end, Stmts.next, Program}
 use Rattle.program.specs.Counts.{IsVar, IsPath, CountsExpr, CountsExprs, CountsStmt, CountsStmts}
 use Rattle.commands.specs.Context.{Ctx, typ}
 use Rattle.types.specs.TypeBytes.{struct-of}

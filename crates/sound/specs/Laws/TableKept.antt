@@ -177,5 +177,10 @@ output-length x y es out list = go (begins x y es out list) refl
         let few = table-written ok (begin-good p (ok .0) rs right) (begin-tabled p rs right) (d .visited) .0 in
         let room = r .output-room in
         rw (d .returns)
-        (omega
-        (arith, length-append (image s) (drop (block-size * pieces (length s)) out), image-length s (pieces (length s)), length-drop (block-size * pieces (length s)) out))
+        (omega (
+          arith,
+          length-append (image s) (drop (block-size * pieces (length s)) out),
+          image-length s (pieces (length s)),
+          length-drop
+              (block-size * pieces (length s)) out,
+        ))

@@ -110,7 +110,8 @@ module _ {p : Program} (firm : Firm p) (m : Machine) (l : ℕ) (i : Instance) (a
         left = good .left;
       }
 
-  module _ (good : Good p m) {a : StepCall} (runs : good .runs ≡ some a) (g : Passage p a (m .instances) l i) (d : Bool) (t : Ty) (y : ℕ) (small : y < max-locals) (same : t ≡ body-local (g .body) y int) where
+  module _ (good : Good p m) {a : StepCall} (runs : good .runs ≡ some a) (g : Passage p a (m .instances) l i) (d : Bool) (t : Ty) (y : ℕ)
+      (small : y < max-locals) (same : t ≡ body-local (g .body) y int) where
     -- a local of the actor
     pub local-kept-good : (c : List Note) → Way (ctx g) (noted (ctx g) (g .body)) at-start c (leads (ctx g) (n-set d t y) (g .place))
         → Living-on g (n-set d t y) c

@@ -36,8 +36,14 @@ loop-holds : tie.Need-loop-holds Inv-loop μ-loop
 loop-holds c =
     let h = start (at-byte2 c) .pre in
     let a = c .before .place .ensures .0 in
-    let b = c .place2 .ensures .0 in
-    (omega (arith, h .0 .1, a, b), omega (arith, h .1, b), refl, omega arith, omega arith, no-lines _ _ (start (at-byte2 c) .args .list .now) (c .before .place .result) _ _)
+    let b = c .place2 .ensures .0 in (
+      omega (arith, h .0 .1, a, b),
+      omega (arith, h .1, b),
+      refl,
+      omega arith,
+      omega arith,
+      no-lines _ _ (start (at-byte2 c) .args .list .now) (c .before .place .result) _ _,
+    )
 
 add-line : tie.Need-add-line Inv-loop μ-loop
 add-line c = omega arith
@@ -61,7 +67,8 @@ loop-again c =
       w .line .kept .0 ∙ h .2,
       omega (arith, more),
       omega (arith, w .line .ensures .1, h .4),
-      more-lines _ _ (start (at-byte2 sized) .args .list .now) (sized .before .place .result) _ _ (inside .before .loop .i) (omega (arith, more, h .0)) (h .5) (w .line .ensures .0),
+      more-lines _ _ (start (at-byte2 sized) .args .list .now) (sized .before .place .result) _ _ (inside .before .loop .i) (omega (arith, more, h .0))
+          (h .5) (w .line .ensures .0),
     )
 
 returns : tie.Need-returns Inv-loop μ-loop

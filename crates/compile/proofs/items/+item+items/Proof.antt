@@ -10,7 +10,7 @@ use Rattle.compile.proofs.items.+item+items.Lts-item as item-lts
 use Rattle.compile.proofs.items.items.Reads as items
 use Rattle.compile.proofs.items.items.Kinds as items-kinds
 use Rattle.compile.proofs.items.+item+items.Lts-items as items-lts
-use Rattle.compile.proofs.index.Reads as index-reads
+use Rattle.little_endian.proofs.index.Reads as index-reads
 use Rattle.compile.proofs.items.add.Reads as add-reads
 use Rattle.compile.proofs.store.Reads as store-reads
 use Rattle.compile.proofs.items.+item+items.{statement}

@@ -14,7 +14,8 @@ use native.Mathlib.Omega.{arith}
 use mathlib.Core.Path.{_∙_}
 use Rattle.emit.specs.WrittenLaws.{placed-kept}
 use Rattle.emit.specs.PartsLaws.{part-ready, part-same, parts-ready, parts-next, parts-same, rest-all}
-use Rattle.emit.specs.StmtLaws.{block-ready, block-wrote, body-facts, BodyFacts, when-parts, stmts-ready, stmts-next, stmts-none, stmt-in, when-part, declare-part}
+use Rattle.emit.specs.StmtLaws.{block-ready, block-wrote, body-facts, BodyFacts, when-parts, stmts-ready, stmts-next, stmts-none, stmt-in}
+use Rattle.emit.specs.StmtLaws.{when-part, declare-part}
 use Rattle.emit.specs.StmtLaws.{updated-part, create-part}
 use Rattle.emit.proofs.stmts.block.Reads as block
 use Rattle.emit.proofs.stmts.block.Kinds as block-kinds

@@ -16,11 +16,11 @@ abbrev μ-loop : tie.MeasureT-loop
 
 -- the word at the place
 here :
-    (c : tie.After-wide Inv-loop μ-loop) →
+    (c : tie.After-index Inv-loop μ-loop) →
     let at-loop = c .before .before in
     let at-start = at-loop .before .before .before in
-    Spelled (at-start .before .args .table .now) (at-start .before .args .s .now) (at-loop .before .loop .kind) (at-loop .before .loop .at) (c .wide .result)
-here c = let at-loop = c .before .before in spelled (at-loop .before .loop .inv) (at-loop .loop-test .taken) (c .wide .ensures .0)
+    Spelled (at-start .before .args .table .now) (at-start .before .args .s .now) (at-loop .before .loop .kind) (at-loop .before .loop .at) (c .index .result)
+here c = let at-loop = c .before .before in spelled (at-loop .before .loop .inv) (at-loop .loop-test .taken) (c .index .ensures .0)
 
 loop-holds : tie.Need-loop-holds Inv-loop μ-loop
 loop-holds c = seeking-start (c .before .before .pre)
@@ -28,11 +28,11 @@ loop-holds c = seeking-start (c .before .before .pre)
 add-first : tie.Need-add-first Inv-loop μ-loop
 add-first c = omega (arith, c .loop-test .taken)
 
-shared-slice-read-wide : tie.Need-shared-slice-read-wide Inv-loop μ-loop
-shared-slice-read-wide c = c .before .loop-test .taken
+shared-slice-read-index : tie.Need-shared-slice-read-index Inv-loop μ-loop
+shared-slice-read-index c = c .before .loop-test .taken
 
-wide-requires : tie.Need-wide-requires Inv-loop μ-loop
-wide-requires c κs = search needs
+index-requires : tie.Need-index-requires Inv-loop μ-loop
+index-requires c κs = search needs
 
 add-end : tie.Need-add-end Inv-loop μ-loop
 add-end c = omega (arith, here c .inner)
@@ -67,5 +67,5 @@ returns-2 c = seeking-out (c .before .loop .inv) (c .loop-test .left)
 pub find-spec : {M : Type 1} → statement M
 find-spec =
     tie.close
-    (tie.spec Inv-loop μ-loop loop-holds add-first shared-slice-read-wide wide-requires add-end sub-same part-same-start part-same-end
+    (tie.spec Inv-loop μ-loop loop-holds add-first shared-slice-read-index index-requires add-end sub-same part-same-start part-same-end
     same-requires returns add-kind loop-less loop-again returns-2)

@@ -148,7 +148,8 @@ construct-returns-2 t c =
     let s = a .s .now in let loop = at-loop .loop in let read = read-expr (a .ar .now) s (a .depth) in
     let e = c .enum-told2 .given .1 in
     let opened = sym (at-ranged .ranged .ensures .0) ∙ at-r .r .given .1 in
-    let law = loop .inv .1 ∙ args-stop (a .ar .now) (a .types .now) s (a .own) (a .live) read (at-r .r .given .0 .0) _ (loop .x) (loop .all) (loop .next) (omega arith) _
+    let law = loop .inv .1
+    ∙ args-stop (a .ar .now) (a .types .now) s (a .own) (a .live) read (at-r .r .given .0 .0) _ (loop .x) (loop .all) (loop .next) (omega arith) _
     (sym (at-expr .expr .ensures .0) ∙ e) in
     let all = make-row (a .ar .now) (a .types .now) s (a .own) (a .live) read 0 (a .at) _ _ opened in
     (e ∙ ap (λ y. expr-read (made-of (constructed (at-r .r .given .0 .0)) y)) (sym (rw (at-loop .before .before .look .ensures) at law)) ∙ all, rw e tt)
@@ -172,8 +173,13 @@ construct-loop-again t c =
     let ahead = rw (at-q .q .given .1) at (at-expr .expr .ensures .1) in
     let e = sym (at-expr .expr .ensures .0) ∙ at-q .q .given .1 in
     rw (c .appended .ensures, c .before .type-at .ensures) (
-      (omega arith, args-read (a .ar .now) (a .types .now) s (a .own) (a .live) read k (at-look .look .result) (loop .x) (loop .all) (loop .next) _ _ _ e ahead (loop .inv .0 .1)),
-      loop .inv .1 ∙ args-more (a .ar .now) (a .types .now) s (a .own) (a .live) read k (at-look .look .result) (loop .x) (loop .all) (loop .next) (omega arith) _ _ e,
+      (
+        omega arith,
+        args-read (a .ar .now) (a .types .now) s (a .own) (a .live) read k (at-look .look .result) (loop .x) (loop .all)
+            (loop .next) _ _ _ e ahead (loop .inv .0 .1),
+      ),
+      loop .inv .1 ∙ args-more (a .ar .now) (a .types .now) s (a .own) (a .live) read k (at-look .look .result) (loop .x) (loop .all) (loop .next)
+          (omega arith) _ _ e,
     )
 
 construct-constructed-requires :
@@ -193,7 +199,8 @@ construct-returns-3 t c =
     let s = a .s .now in let loop = at-loop .loop in let read = read-expr (a .ar .now) s (a .depth) in
     let span = rw (at-r .r .given .1) at (at-ranged .ranged .ensures .1) in
     let opened = sym (at-ranged .ranged .ensures .0) ∙ at-r .r .given .1 in
-    let law = loop .inv .1 ∙ args-end (a .ar .now) (a .types .now) s (a .own) (a .live) read (at-r .r .given .0 .0) _ (loop .x) (loop .all) (loop .next) (omega arith)
+    let law = loop .inv .1
+    ∙ args-end (a .ar .now) (a .types .now) s (a .own) (a .live) read (at-r .r .given .0 .0) _ (loop .x) (loop .all) (loop .next) (omega arith)
     (loop .inv .0 .1 .high) (loop .inv .0 .1 .untyped) in
     let all = make-row (a .ar .now) (a .types .now) s (a .own) (a .live) read 0 (a .at) _ _ opened in
     rw (c .constructed .ensures) (
