@@ -160,7 +160,8 @@ fn turn(
 ) -> Telling
     requires { ⌜ Takeable (now counts) (now list) (now spans) s (now heads) (now cells) ⌝ }
     requires { ⌜ Lies (s .page) (now out) ⌝ }
-    ensures { λ r. ⌜ Takes (now (counts .entry)) (now (list .entry)) (now (spans .entry)) s (now (heads .entry)) (now (cells .entry)) (now (out .entry)) r (now (heads .exit)) (now (cells .exit)) (now (out .exit)) ⌝ }
+    ensures { λ r. ⌜ Takes (now (counts .entry)) (now (list .entry)) (now (spans .entry)) s (now (heads .entry)) (now (cells .entry)) (now (out .entry)) r
+        (now (heads .exit)) (now (cells .exit)) (now (out .exit)) ⌝ }
 {
     let coming = s.coming;
     let page = room(s.page, out);

@@ -7,26 +7,35 @@ use mathlib.Core.Logic.{_↔_}
 use mathlib.Core.Option.{Option, none, some}
 use lib.ListN.{getD}
 use lib.Dec.{eqb}
-use Rattle.program.specs.Tree.{Op.op-eq, Op.op-ne, Op.op-le, Op.op-ge, Op.op-lt, Op.op-gt, Op.op-mul, Op.op-div, Op.op-rem, Op.op-add, Op.op-sub, Op.op-and, Op.op-or}
-use Rattle.tokens.specs.Tokens.{Word.w-struct, Word.w-if, Word.w-then, Word.w-null, Word.w-this, Word.w-fix, Word.w-int, Word.w-nat, Word.w-bool, Word.w-string, Word.w-true, Word.w-false}
-use Rattle.tokens.specs.Tokens.{Sign.lpar, Sign.rpar, Sign.lbrace, Sign.rbrace, Sign.comma, Sign.colon, Sign.semicolon, Sign.assign, Sign.dot, Sign.bang, Token, Token.word, Token.sign, Token.op, Token.name, Token.int, Token.nat}
+use Rattle.program.specs.Tree.{Op.op-eq, Op.op-ne, Op.op-le, Op.op-ge, Op.op-lt, Op.op-gt, Op.op-mul, Op.op-div, Op.op-rem, Op.op-add, Op.op-sub, Op.op-and}
+use Rattle.program.specs.Tree.{Op.op-or}
+use Rattle.tokens.specs.Tokens.{Word.w-struct, Word.w-if, Word.w-then, Word.w-null, Word.w-this, Word.w-fix, Word.w-int, Word.w-nat, Word.w-bool, Word.w-string}
+use Rattle.tokens.specs.Tokens.{Word.w-true, Word.w-false}
+use Rattle.tokens.specs.Tokens.{Sign.lpar, Sign.rpar, Sign.lbrace, Sign.rbrace, Sign.comma, Sign.colon, Sign.semicolon, Sign.assign, Sign.dot, Sign.bang, Token}
+use Rattle.tokens.specs.Tokens.{Token.word, Token.sign, Token.op, Token.name, Token.int, Token.nat}
 use Rattle.syntax.specs.Syntax.{Program}
 use Rattle.syntax.specs.Bracketing.{Derives}
-use Rattle.syntax.specs.Expecting.{word-number, sign-number, on-word, on-sign, on-name, on-op, less, on-less, literal-word, on-literal, type-word, on-type-word, on-type}
+use Rattle.syntax.specs.Expecting.{word-number, sign-number, on-word, on-sign, on-name, on-op, less, on-less, literal-word, on-literal, type-word, on-type-word}
+use Rattle.syntax.specs.Expecting.{on-type}
 use Rattle.syntax.specs.CompleteLaws.{derived-exact}
 use Rattle.syntax.specs.Places.{Row.in-program, Row.in-fix}
-use Rattle.syntax.specs.Places.{State, State.at-defs, State.at-struct, State.at-struct-open, State.at-pars, State.at-par, State.at-colon, State.at-par-type, State.behind-par, State.at-steps-open, State.at-steps, State.at-step-open}
-use Rattle.syntax.specs.Places.{State.at-stats, State.behind-name, State.at-dot-name, State.behind-dot-name, State.at-local, State.at-assign, State.at-construct, State.at-semicolon, State.at-then-open}
-use Rattle.syntax.specs.Places.{State.want, State.after, State.behind-id, State.at-dot-id, State.behind-dot-id, State.at-args, State.at-null-type, State.at-item, State.behind-execution, State.at-step-name, State.at-fix-open, State.behind-item, State.dead}
+use Rattle.syntax.specs.Places.{State, State.at-defs, State.at-struct, State.at-struct-open, State.at-pars, State.at-par, State.at-colon, State.at-par-type}
+use Rattle.syntax.specs.Places.{State.behind-par, State.at-steps-open, State.at-steps, State.at-step-open}
+use Rattle.syntax.specs.Places.{State.at-stats, State.behind-name, State.at-dot-name, State.behind-dot-name, State.at-local, State.at-assign}
+use Rattle.syntax.specs.Places.{State.at-construct, State.at-semicolon, State.at-then-open}
+use Rattle.syntax.specs.Places.{State.want, State.after, State.behind-id, State.at-dot-id, State.behind-dot-id, State.at-args, State.at-null-type}
+use Rattle.syntax.specs.Places.{State.at-item, State.behind-execution, State.at-step-name, State.at-fix-open, State.behind-item, State.dead}
 use Rattle.syntax.specs.Reading.{step, run, whole, ended, read}
 use Rattle.lexer.specs.Kinds.{word-kind, sign-kind, op-kind, kind}
-use Rattle.derive.specs.Shape.{defs-code, code-of, open-body, open-place, open-row, open-of, Shape, Shape.shape, shape-of, on-exp, on-item, past-item, acts, act, acted, acted-below, moved, move, samples, sample, moves, at-end, derived}
+use Rattle.derive.specs.Shape.{defs-code, code-of, open-body, open-place, open-row, open-of, Shape, Shape.shape, shape-of, on-exp, on-item, past-item}
+use Rattle.derive.specs.Shape.{acts, act, acted, acted-below, moved, move, samples, sample, moves, at-end, derived}
 use Rattle.derive.specs.ShapeLaws.{step-shape}
 use Rattle.derive.specs.declared.Act.{Act}
 use Rattle.derive.specs.declared.Act.the-variants.{Go, Open, Below, Stop}
 
 sample-acts : (t : Token) → acts (sample (kind t)) ≡ acts t
-unfolding acts on-exp on-item past-item samples sample kind word-kind sign-kind op-kind word-number sign-number on-word on-sign on-name on-op less on-less literal-word on-literal type-word on-type-word on-type
+unfolding acts on-exp on-item past-item samples sample kind word-kind sign-kind op-kind word-number sign-number on-word on-sign on-name on-op less on-less
+    literal-word on-literal type-word on-type-word on-type
 sample-acts (word w-struct) = refl
 sample-acts (word w-if) = refl
 sample-acts (word w-then) = refl

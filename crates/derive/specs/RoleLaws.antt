@@ -2,12 +2,19 @@
 use mathlib.Core.Path.{_≡_, refl, ap, _∙_}
 use mathlib.Core.List.{List, [], _∷_, map}
 use Rattle.program.specs.Tree.{Op.op-lt}
-use Rattle.tokens.specs.Tokens.{Word.w-struct, Word.w-if, Word.w-then, Word.w-fix, Sign.lpar, Sign.comma, Sign.bang, Sign.rpar, Sign.lbrace, Sign.rbrace, Sign.semicolon, Sign.assign, Sign.dot as dot-sign, Token, Token.word, Token.sign, Token.op, Token.name}
+use Rattle.tokens.specs.Tokens.{Word.w-struct, Word.w-if, Word.w-then, Word.w-fix, Sign.lpar, Sign.comma, Sign.bang, Sign.rpar, Sign.lbrace, Sign.rbrace}
+use Rattle.tokens.specs.Tokens.{Sign.semicolon, Sign.assign, Sign.dot as dot-sign, Token, Token.word, Token.sign, Token.op, Token.name}
 use Rattle.syntax.specs.Syntax.{Var, Var.id, Var.dot}
-use Rattle.syntax.specs.Syntax.{Exp, Exp.binary, Exp.brackets, Exp.negation, Exp.constructor, Exp.variable, Exp.literal, Exp.null, Exp.this, Exps, Exps.no-exps, Exps.exps, Stat, Stat.if-then, Stat.assignment, Stat.update, Stat.construct, Stats, Stats.no-stats, Stats.stats}
-use Rattle.syntax.specs.Syntax.{Par, Par.par, Step, Step.step, Struct, Struct.struct, Defs, Defs.last-struct, Defs.defs, Item, Item.execution, Item.typed-execution, Item.fixpoint, Sched, Sched.last-item, Sched.barrier, Program, Program.program}
-use Rattle.syntax.specs.Yield.{type-token, yield-var, yield-exp, yield-exps, yield-exp-list, yield-stat, yield-stats, yield-par, yield-par-list, yield-pars, yield-step, yield-steps, yield-struct, yield-defs, yield-item, yield-sched, yield}
-use Rattle.derive.specs.Roles.{Naming, Naming.first-read, Naming.first-written, Part.brackets-close, Part.then-open, Part.then-close, Part.body-close, Part.pars-close, Part.steps-open, Part.steps-close, Part.fix-close, Part.barrier-sign, Role, Role.plain, Role.part, part-token, token-of, roles-later, roles-var, close-of, roles-exp, roles-exps, roles-exp-list, roles-stat, roles-stats, roles-par, roles-par-list, roles-pars, roles-step, roles-steps, roles-struct, roles-defs, roles-item, roles-sched, roles}
+use Rattle.syntax.specs.Syntax.{Exp, Exp.binary, Exp.brackets, Exp.negation, Exp.constructor, Exp.variable, Exp.literal, Exp.null, Exp.this, Exps, Exps.no-exps}
+use Rattle.syntax.specs.Syntax.{Exps.exps, Stat, Stat.if-then, Stat.assignment, Stat.update, Stat.construct, Stats, Stats.no-stats, Stats.stats}
+use Rattle.syntax.specs.Syntax.{Par, Par.par, Step, Step.step, Struct, Struct.struct, Defs, Defs.last-struct, Defs.defs, Item, Item.execution}
+use Rattle.syntax.specs.Syntax.{Item.typed-execution, Item.fixpoint, Sched, Sched.last-item, Sched.barrier, Program, Program.program}
+use Rattle.syntax.specs.Yield.{type-token, yield-var, yield-exp, yield-exps, yield-exp-list, yield-stat, yield-stats, yield-par, yield-par-list, yield-pars}
+use Rattle.syntax.specs.Yield.{yield-step, yield-steps, yield-struct, yield-defs, yield-item, yield-sched, yield}
+use Rattle.derive.specs.Roles.{Naming, Naming.first-read, Naming.first-written, Part.brackets-close, Part.then-open, Part.then-close, Part.body-close}
+use Rattle.derive.specs.Roles.{Part.pars-close, Part.steps-open, Part.steps-close, Part.fix-close, Part.barrier-sign, Role, Role.plain, Role.part}
+use Rattle.derive.specs.Roles.{part-token, token-of, roles-later, roles-var, close-of, roles-exp, roles-exps, roles-exp-list, roles-stat, roles-stats}
+use Rattle.derive.specs.Roles.{roles-par, roles-par-list, roles-pars, roles-step, roles-steps, roles-struct, roles-defs, roles-item, roles-sched, roles}
 
 abbrev pub tokens-of : List Role → List Token
 tokens-of k = map token-of k

@@ -3,10 +3,14 @@
 use Prim.Native.Nat.{ℕ, _+_}
 use mathlib.Core.List.{List, [], _∷_}
 use Rattle.program.specs.Tree.{Op.op-lt}
-use Rattle.tokens.specs.Tokens.{Word.w-struct, Word.w-if, Word.w-then, Word.w-null, Word.w-this, Word.w-fix, Sign.lpar, Sign.rpar, Sign.lbrace, Sign.rbrace, Sign.comma, Sign.colon, Sign.semicolon, Sign.assign, Sign.dot as dot-sign, Sign.bang, Token, Token.word, Token.sign, Token.op, Token.name}
+use Rattle.tokens.specs.Tokens.{Word.w-struct, Word.w-if, Word.w-then, Word.w-null, Word.w-this, Word.w-fix, Sign.lpar, Sign.rpar, Sign.lbrace, Sign.rbrace}
+use Rattle.tokens.specs.Tokens.{Sign.comma, Sign.colon, Sign.semicolon, Sign.assign, Sign.dot as dot-sign, Sign.bang, Token, Token.word, Token.sign, Token.op}
+use Rattle.tokens.specs.Tokens.{Token.name}
 use Rattle.syntax.specs.Syntax.{Id, TypeName, TypeName.int-type, TypeName.nat-type, TypeName.bool-type, TypeName.id-type, Var, Var.id, Var.dot}
-use Rattle.syntax.specs.Syntax.{Exp, Exp.binary, Exp.brackets, Exp.negation, Exp.constructor, Exp.variable, Exp.literal, Exp.null, Exp.this, Exps, Exps.no-exps, Exps.exps, Stat, Stat.if-then, Stat.assignment, Stat.update, Stat.construct, Stats, Stats.no-stats, Stats.stats}
-use Rattle.syntax.specs.Syntax.{Par, Par.par, Step, Step.step, Struct, Struct.struct, Defs, Defs.last-struct, Defs.defs, Item, Item.execution, Item.typed-execution, Item.fixpoint, Sched, Sched.last-item, Sched.barrier, Program, Program.program}
+use Rattle.syntax.specs.Syntax.{Exp, Exp.binary, Exp.brackets, Exp.negation, Exp.constructor, Exp.variable, Exp.literal, Exp.null, Exp.this, Exps, Exps.no-exps}
+use Rattle.syntax.specs.Syntax.{Exps.exps, Stat, Stat.if-then, Stat.assignment, Stat.update, Stat.construct, Stats, Stats.no-stats, Stats.stats}
+use Rattle.syntax.specs.Syntax.{Par, Par.par, Step, Step.step, Struct, Struct.struct, Defs, Defs.last-struct, Defs.defs, Item, Item.execution}
+use Rattle.syntax.specs.Syntax.{Item.typed-execution, Item.fixpoint, Sched, Sched.last-item, Sched.barrier, Program, Program.program}
 use Rattle.syntax.specs.Yield.{type-token, literal-token}
 use Rattle.lexer.specs.Kinds.{kind}
 

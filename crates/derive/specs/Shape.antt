@@ -5,15 +5,22 @@ use mathlib.Core.Bool.{Bool, false, _||_}
 use mathlib.Core.List.{List, [], _∷_}
 use lib.ListN.{getD}
 use lib.Dec.{eqb}
-use Rattle.program.specs.Tree.{Op.op-eq, Op.op-ne, Op.op-le, Op.op-ge, Op.op-lt, Op.op-gt, Op.op-mul, Op.op-div, Op.op-rem, Op.op-add, Op.op-sub, Op.op-and, Op.op-or}
-use Rattle.tokens.specs.Tokens.{Word.w-struct, Word.w-if, Word.w-then, Word.w-null, Word.w-this, Word.w-fix, Word.w-int, Word.w-nat, Word.w-bool, Word.w-string, Word.w-true, Word.w-false, Polarity.plus}
-use Rattle.tokens.specs.Tokens.{Sign.lpar, Sign.rpar, Sign.lbrace, Sign.rbrace, Sign.comma, Sign.colon, Sign.semicolon, Sign.assign, Sign.dot as dot-sign, Sign.bang, Token, Token.word, Token.sign, Token.op, Token.name, Token.int, Token.nat}
+use Rattle.program.specs.Tree.{Op.op-eq, Op.op-ne, Op.op-le, Op.op-ge, Op.op-lt, Op.op-gt, Op.op-mul, Op.op-div, Op.op-rem, Op.op-add, Op.op-sub, Op.op-and}
+use Rattle.program.specs.Tree.{Op.op-or}
+use Rattle.tokens.specs.Tokens.{Word.w-struct, Word.w-if, Word.w-then, Word.w-null, Word.w-this, Word.w-fix, Word.w-int, Word.w-nat, Word.w-bool, Word.w-string}
+use Rattle.tokens.specs.Tokens.{Word.w-true, Word.w-false, Polarity.plus}
+use Rattle.tokens.specs.Tokens.{Sign.lpar, Sign.rpar, Sign.lbrace, Sign.rbrace, Sign.comma, Sign.colon, Sign.semicolon, Sign.assign, Sign.dot as dot-sign}
+use Rattle.tokens.specs.Tokens.{Sign.bang, Token, Token.word, Token.sign, Token.op, Token.name, Token.int, Token.nat}
 use Rattle.syntax.specs.Syntax.{Struct}
 use Rattle.syntax.specs.Expecting.{on-word, on-sign, on-name, on-op, on-less, on-literal, on-type-word, on-type}
-use Rattle.syntax.specs.Places.{Body, Body.in-step, Body.in-then, Place, Place.in-brackets, Place.in-negation, Place.in-right, Place.in-constructor, Place.in-construct, Place.in-if, Place.in-assignment, Place.in-update, Row, Row.in-program, Row.in-fix}
-use Rattle.syntax.specs.Places.{State, State.at-defs, State.at-struct, State.at-struct-open, State.at-pars, State.at-par, State.at-colon, State.at-par-type, State.behind-par, State.at-steps-open, State.at-steps, State.at-step-open}
-use Rattle.syntax.specs.Places.{State.at-stats, State.behind-name, State.at-dot-name, State.behind-dot-name, State.at-local, State.at-assign, State.at-construct, State.at-semicolon, State.at-then-open}
-use Rattle.syntax.specs.Places.{State.want, State.after, State.behind-id, State.at-dot-id, State.behind-dot-id, State.at-args, State.at-null-type, State.at-item, State.behind-execution, State.at-step-name, State.at-fix-open, State.behind-item, State.dead}
+use Rattle.syntax.specs.Places.{Body, Body.in-step, Body.in-then, Place, Place.in-brackets, Place.in-negation, Place.in-right, Place.in-constructor}
+use Rattle.syntax.specs.Places.{Place.in-construct, Place.in-if, Place.in-assignment, Place.in-update, Row, Row.in-program, Row.in-fix}
+use Rattle.syntax.specs.Places.{State, State.at-defs, State.at-struct, State.at-struct-open, State.at-pars, State.at-par, State.at-colon, State.at-par-type}
+use Rattle.syntax.specs.Places.{State.behind-par, State.at-steps-open, State.at-steps, State.at-step-open}
+use Rattle.syntax.specs.Places.{State.at-stats, State.behind-name, State.at-dot-name, State.behind-dot-name, State.at-local, State.at-assign}
+use Rattle.syntax.specs.Places.{State.at-construct, State.at-semicolon, State.at-then-open}
+use Rattle.syntax.specs.Places.{State.want, State.after, State.behind-id, State.at-dot-id, State.behind-dot-id, State.at-args, State.at-null-type}
+use Rattle.syntax.specs.Places.{State.at-item, State.behind-execution, State.at-step-name, State.at-fix-open, State.behind-item, State.dead}
 use Rattle.derive.specs.declared.Act.{Act}
 use Rattle.derive.specs.declared.Act.the-variants.{Go, Open, Below, Stop}
 

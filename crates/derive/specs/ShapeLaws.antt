@@ -5,17 +5,23 @@ use mathlib.Core.Bool.{Bool, true, false}
 use mathlib.Core.List.{List, [], _∷_}
 use lib.Dec.{eqb}
 use Rattle.tokens.specs.Tokens.{Word.w-struct, Word.w-if, Word.w-then, Word.w-null, Word.w-this, Word.w-fix}
-use Rattle.tokens.specs.Tokens.{Sign.lpar, Sign.rpar, Sign.lbrace, Sign.rbrace, Sign.comma, Sign.colon, Sign.semicolon, Sign.assign, Sign.dot as dot-sign, Sign.bang, Token, Token.word, Token.sign, Token.op, Token.name, Token.int, Token.nat}
+use Rattle.tokens.specs.Tokens.{Sign.lpar, Sign.rpar, Sign.lbrace, Sign.rbrace, Sign.comma, Sign.colon, Sign.semicolon, Sign.assign, Sign.dot as dot-sign}
+use Rattle.tokens.specs.Tokens.{Sign.bang, Token, Token.word, Token.sign, Token.op, Token.name, Token.int, Token.nat}
 use Rattle.syntax.specs.Syntax.{Var.id}
 use Rattle.syntax.specs.Syntax.{Exp, Exp.negation, Exp.variable, Stats, Stats.no-stats, Item, Item.execution, Defs.last-struct}
 use Rattle.syntax.specs.Expecting.{sign-number, on-sign}
-use Rattle.syntax.specs.Places.{Body, Body.in-step, Body.in-then, Place, Place.in-brackets, Place.in-negation, Place.in-right, Place.in-constructor, Place.in-construct, Place.in-if, Place.in-assignment, Place.in-update, Row, Row.in-program, Row.in-fix}
-use Rattle.syntax.specs.Places.{State, State.at-defs, State.at-struct, State.at-struct-open, State.at-pars, State.at-par, State.at-colon, State.at-par-type, State.behind-par, State.at-steps-open, State.at-steps, State.at-step-open}
-use Rattle.syntax.specs.Places.{State.at-stats, State.behind-name, State.at-dot-name, State.behind-dot-name, State.at-local, State.at-assign, State.at-construct, State.at-semicolon, State.at-then-open}
-use Rattle.syntax.specs.Places.{State.want, State.after, State.behind-id, State.at-dot-id, State.behind-dot-id, State.at-args, State.at-null-type, State.at-item, State.behind-execution, State.at-step-name, State.at-fix-open, State.behind-item, State.dead}
+use Rattle.syntax.specs.Places.{Body, Body.in-step, Body.in-then, Place, Place.in-brackets, Place.in-negation, Place.in-right, Place.in-constructor}
+use Rattle.syntax.specs.Places.{Place.in-construct, Place.in-if, Place.in-assignment, Place.in-update, Row, Row.in-program, Row.in-fix}
+use Rattle.syntax.specs.Places.{State, State.at-defs, State.at-struct, State.at-struct-open, State.at-pars, State.at-par, State.at-colon, State.at-par-type}
+use Rattle.syntax.specs.Places.{State.behind-par, State.at-steps-open, State.at-steps, State.at-step-open}
+use Rattle.syntax.specs.Places.{State.at-stats, State.behind-name, State.at-dot-name, State.behind-dot-name, State.at-local, State.at-assign}
+use Rattle.syntax.specs.Places.{State.at-construct, State.at-semicolon, State.at-then-open}
+use Rattle.syntax.specs.Places.{State.want, State.after, State.behind-id, State.at-dot-id, State.behind-dot-id, State.at-args, State.at-null-type}
+use Rattle.syntax.specs.Places.{State.at-item, State.behind-execution, State.at-step-name, State.at-fix-open, State.behind-item, State.dead}
 use Rattle.syntax.specs.Places.{var-onto, stats-onto, defs-onto}
 use Rattle.syntax.specs.Reading.{closed, behind, wanted, item-wanted, item-behind, begun, step}
-use Rattle.derive.specs.Shape.{defs-code, code-of, open-body, open-place, open-row, open-of, Shape.shape, shape-of, on-exp, on-item, past-item, acts, act, acted, acted-below, moved, move}
+use Rattle.derive.specs.Shape.{defs-code, code-of, open-body, open-place, open-row, open-of, Shape.shape, shape-of, on-exp, on-item, past-item, acts, act}
+use Rattle.derive.specs.Shape.{acted, acted-below, moved, move}
 use Rattle.derive.specs.BothLaws.{word-both, sign-both, name-both, op-both, less-both, literal-both, type-word-both, type-both}
 use Rattle.derive.specs.declared.Act.{Act}
 use Rattle.derive.specs.declared.Act.the-variants.{Go, Open, Below, Stop}

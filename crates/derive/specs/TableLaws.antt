@@ -7,7 +7,8 @@ use mathlib.Core.Bool.{Bool, true, false}
 use lib.ListN.{getD}
 use lib.Dec.{T, eqb}
 use borrow.Author.Tests.{eqb-true, eqb-false}
-use Rattle.syntax.specs.Expecting.{word-number, sign-number, on-word, on-sign, on-name, on-op, less, on-less, literal-word, on-literal, type-word, on-type-word, on-type}
+use Rattle.syntax.specs.Expecting.{word-number, sign-number, on-word, on-sign, on-name, on-op, less, on-less, literal-word, on-literal, type-word, on-type-word}
+use Rattle.syntax.specs.Expecting.{on-type}
 use Rattle.derive.specs.Shape.{on-exp, on-item, past-item, acts, act, samples, sample}
 use Rattle.derive.specs.Table.{entries, act-at, next-of, opened-of, told, values, next-bytes, opened-bytes, mark-at, mark-bytes}
 use Rattle.derive.specs.declared.Act.{Act}
@@ -107,7 +108,8 @@ tells : ℕ → Bool
 tells i = same-act (told (next-of (act-at i)) (opened-of (act-at i))) (act-at i)
 
 all-tell : T (each tells entries)
-unfolding each tells same-act told next-of opened-of act-at act acts on-exp on-item past-item samples sample word-number sign-number on-word on-sign on-name on-op less on-less literal-word on-literal type-word on-type-word on-type
+unfolding each tells same-act told next-of opened-of act-at act acts on-exp on-item past-item samples sample word-number sign-number on-word on-sign on-name
+    on-op less on-less literal-word on-literal type-word on-type-word on-type
 all-tell = tt
 
 pub entry-told : (i : ℕ) → i < entries → told (next-of (act-at i)) (opened-of (act-at i)) ≡ act-at i

@@ -141,16 +141,19 @@ module _ (ar s : List ℕ) (j : ℕ) where
     module _ (some : n ≡ 0 → ⊥) (fits : Fits steps-words (steps-rows j) row-of x) where
       pub step-fits : Fits step-words (step-row j) (read-step ar s (x .place .next)) x
       step-fits =
-          first-fits steps-words step-words (steps-rows j) (steps-rows j) (step-row j) more-steps (steps-first j) (read-step ar s) n (x .place .next) x some fits
+          first-fits steps-words step-words (steps-rows j) (steps-rows j) (step-row j) more-steps (steps-first j) (read-step ar s) n
+          (x .place .next) x some fits
 
       module _ (z : Stand) (e : z ≡ final step-words (step-row j) (read-step ar s (x .place .next)) x) where
         pub steps-final : final steps-words (steps-rows j) row-of x ≡ final steps-words (steps-rows j) (steps-at ar s (n - 1) (z .place .next)) z
         steps-final =
-            next-final steps-words step-words (steps-rows j) (steps-rows j) (step-row j) more-steps (steps-first j) (read-step ar s) n (x .place .next) x some fits z e
+            next-final steps-words step-words (steps-rows j) (steps-rows j) (step-row j) more-steps (steps-first j) (read-step ar s) n
+            (x .place .next) x some fits z e
 
         pub steps-fit : Fits steps-words (steps-rows j) (steps-at ar s (n - 1) (z .place .next)) z
         steps-fit =
-            next-fits steps-words step-words (steps-rows j) (steps-rows j) (step-row j) more-steps (steps-first j) (read-step ar s) n (x .place .next) x some fits z e
+            next-fits steps-words step-words (steps-rows j) (steps-rows j) (step-row j) more-steps (steps-first j) (read-step ar s) n
+            (x .place .next) x some fits z e
 
 -- Structs ------------------------------------------------------------------------------
 

@@ -67,7 +67,8 @@ impl Machine {
     ) -> Machine
         requires { ⌜ Fit (now list) (now counts) l (state-of (self .numbers) (now heads) (now cells)) ⌝ }
         requires { ⌜ 0 < self .numbers .holding ⌝ }
-        ensures { λ r. ⌜ state-of (r .numbers) (now (heads .exit)) (now (cells .exit)) ≡ act (now (list .entry)) (now (counts .entry)) l (state-of (self .numbers) (now (heads .entry)) (now (cells .entry))) ⌝ }
+        ensures { λ r. ⌜ state-of (r .numbers) (now (heads .exit)) (now (cells .exit)) ≡ act (now (list .entry)) (now (counts .entry)) l
+            (state-of (self .numbers) (now (heads .entry)) (now (cells .entry))) ⌝ }
     {
         let at = heads[layout::HEAD_SIZE * l + layout::NEXT];
         let numbers = self.numbers;
@@ -81,7 +82,8 @@ impl Machine {
     // One move of the schedule, where no instance holds commands.
     pub fn advance(mut self, items: &[usize], spans: &[u16], heads: &mut [usize]) -> Machine
         requires { ⌜ Movable (now items) (now spans) (now heads) (self .numbers) ⌝ }
-        ensures { λ r. ⌜ ((cells : List ℕ) → state-of (r .numbers) (now (heads .exit)) cells ≡ move (now (items .entry)) (now (spans .entry)) (state-of (self .numbers) (now (heads .entry)) cells)) ⌝ }
+        ensures { λ r. ⌜ ((cells : List ℕ) → state-of (r .numbers) (now (heads .exit)) cells ≡ move (now (items .entry)) (now (spans .entry))
+            (state-of (self .numbers) (now (heads .entry)) cells)) ⌝ }
     {
         let numbers = self.numbers;
         self.numbers = advance(numbers, items, spans, heads);

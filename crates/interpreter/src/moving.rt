@@ -10,7 +10,8 @@ ghost use Rattle.interpreter.specs.Running.{Standing, Settling};
 // it stands for: nothing is said of cells above a stack, nor where an instance without commands has its next one.
 pub fn settle(machine: Machine, items: &[usize], spans: &[u16], heads: &mut [usize]) -> Machine
     requires { ⌜ Standing (now items) (now spans) (now heads) (machine .numbers) ⌝ }
-    ensures { λ r. ⌜ ((cells : List ℕ) → Settling (now (items .entry)) (now (spans .entry)) (state-of (machine .numbers) (now (heads .entry)) cells) (state-of (r .numbers) (now (heads .exit)) cells)) ⌝ }
+    ensures { λ r. ⌜ ((cells : List ℕ) → Settling (now (items .entry)) (now (spans .entry)) (state-of (machine .numbers) (now (heads .entry)) cells)
+        (state-of (r .numbers) (now (heads .exit)) cells)) ⌝ }
 {
     let mut next = machine;
     while next.numbers.holding == 0 {

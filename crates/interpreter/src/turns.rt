@@ -78,7 +78,8 @@ fn turn(
     turns: &[u8],
 ) -> Going
     requires { ⌜ Fit (now list) (now counts) l (memory-of s (now heads) (now cells)) × (0 < s .machine .numbers .holding) × (s .taken < length (now turns)) ⌝ }
-    ensures { λ r. ⌜ Takes (now (list .entry)) (now (counts .entry)) (now (turns .entry)) l s (now (heads .entry)) (now (cells .entry)) r (now (heads .exit)) (now (cells .exit)) ⌝ }
+    ensures { λ r. ⌜ Takes (now (list .entry)) (now (counts .entry)) (now (turns .entry)) l s (now (heads .entry)) (now (cells .entry)) r
+        (now (heads .exit)) (now (cells .exit)) ⌝ }
 {
     let before = s.machine;
     let machine = before.command(list, counts, heads, cells, l);
@@ -101,7 +102,8 @@ fn take_turns(
     turns: &[u8],
 ) -> Going
     requires { ⌜ Turning (now list) (now counts) (now turns) s rs (now heads) (now cells) ⌝ }
-    ensures { λ r. ⌜ Passes (now (list .entry)) (now (counts .entry)) (now (turns .entry)) s (now (heads .entry)) (now (cells .entry)) r (now (heads .exit)) (now (cells .exit)) ⌝ }
+    ensures { λ r. ⌜ Passes (now (list .entry)) (now (counts .entry)) (now (turns .entry)) s (now (heads .entry)) (now (cells .entry)) r
+        (now (heads .exit)) (now (cells .exit)) ⌝ }
 {
     let mut next = s;
     let mut known = rs;
@@ -126,7 +128,9 @@ pub fn run(
     turns: &[u8],
 ) -> Ran
     requires { ⌜ Begun (now counts) (now list) (now items) (now spans) (state-of (machine .numbers) (now heads) (now cells)) ⌝ }
-    ensures { λ r. ⌜ Ending (now (counts .entry)) (now (list .entry)) (now (items .entry)) (now (spans .entry)) (now (turns .entry)) (state-of (machine .numbers) (now (heads .entry)) (now (cells .entry))) (r .number) (r .taken) (state-of (r .machine .numbers) (now (heads .exit)) (now (cells .exit))) ⌝ }
+    ensures { λ r. ⌜ Ending (now (counts .entry)) (now (list .entry)) (now (items .entry)) (now (spans .entry)) (now (turns .entry))
+        (state-of (machine .numbers) (now (heads .entry)) (now (cells .entry))) (r .number) (r .taken)
+        (state-of (r .machine .numbers) (now (heads .exit)) (now (cells .exit))) ⌝ }
 {
     let nobody = Record { holds: false };
     let settled = settle(machine, items, spans, heads);

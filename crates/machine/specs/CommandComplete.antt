@@ -13,7 +13,8 @@ use Rattle.types.specs.Limits.{max-instances}
 use Rattle.types.specs.Types.{Ty, Ty.bool, Ty.ref}
 use Rattle.types.specs.Values.{Val, Val.bool-val, Val.label}
 use Rattle.program.specs.Tree.{Op, Program}
-use Rattle.commands.specs.Commands.{Com.push, Com.push-this, Com.rd, Com.wr, Com.cons, Com.not, Com.oper, Coms, Coms.nil, then, Flat, Flat.plain, Flat.if-n, flatten}
+use Rattle.commands.specs.Commands.{Com.push, Com.push-this, Com.rd, Com.wr, Com.cons, Com.not, Com.oper, Coms, Coms.nil, then, Flat, Flat.plain, Flat.if-n}
+use Rattle.commands.specs.Commands.{flatten}
 use Rattle.commands.specs.Noted.{Note, erase, now-written}
 use Rattle.commands.specs.Laws.CommandLaws.{flatten-then}
 use Rattle.operators.specs.Operators.{Applies, Exceeds}
@@ -21,13 +22,19 @@ use Rattle.operators.specs.Apply.{Answer, apply, same-val}
 use Rattle.operators.specs.ApplyLaws.{apply-value, apply-outside}
 use Rattle.operators.specs.TestLaws.{same-val-exact}
 use Rattle.machine.specs.Published.{Sched, Env, lookup, assign, fresh-env, Inst, Inst.inst, State, State.state, update-env, structs, arity}
-use Rattle.machine.specs.Rules.{LeavesStable, LeavesStable.no-parameter, LeavesStable.same-value, LeavesStable.other-value, meet, Actor.instance, Rule, Rule.ComPush, Rule.ComPushThis, Rule.ComRd, Rule.ComWr, Rule.ComWrNSkip, Rule.ComNot, Rule.ComOp, Rule.ComCons, Rule.ComIfT, Rule.ComIfF}
+use Rattle.machine.specs.Rules.{LeavesStable, LeavesStable.no-parameter, LeavesStable.same-value, LeavesStable.other-value, meet, Actor.instance, Rule}
+use Rattle.machine.specs.Rules.{Rule.ComPush, Rule.ComPushThis, Rule.ComRd, Rule.ComWr, Rule.ComWrNSkip, Rule.ComNot, Rule.ComOp, Rule.ComCons}
+use Rattle.machine.specs.Rules.{Rule.ComIfT, Rule.ComIfF}
 use Rattle.machine.specs.Stops.{Full, Full.no-label, Exceeded, Exceeded.no-result, full, exceeded}
-use Rattle.machine.specs.Machine.{Tagged, tagged, Source, Source.variable, Source.local, Source.result, given-by, Instance, Machine, Out, Out.next, Out.refused, Out.stuck, with-code, with-written, put, leaves-stable, read-from, read-at, read, write-to, write-parameter, write-at, write, negate, branch, operated, operate, made, construct, perform, command}
+use Rattle.machine.specs.Machine.{Tagged, tagged, Source, Source.variable, Source.local, Source.result, given-by, Instance, Machine, Out, Out.next}
+use Rattle.machine.specs.Machine.{Out.refused, Out.stuck, with-code, with-written, put, leaves-stable, read-from, read-at, read, write-to}
+use Rattle.machine.specs.Machine.{write-parameter, write-at, write, negate, branch, operated, operate, made, construct, perform, command}
 use Rattle.machine.specs.Represents.{values, Represents-inst, Represents}
-use Rattle.machine.specs.RepresentsLaws.{instance-at, values-length, map-drop, map-take, top, represents-length, represents-set, represents-env, represents-append}
+use Rattle.machine.specs.RepresentsLaws.{instance-at, values-length, map-drop, map-take, top, represents-length, represents-set, represents-env}
+use Rattle.machine.specs.RepresentsLaws.{represents-append}
 use Rattle.machine.specs.PerformedLaws.{performs}
-use Rattle.machine.specs.Heads.{Means, Means.m-push, Means.m-this, Means.m-not, Means.m-rd, Means.m-get, Means.m-wr, Means.m-set, Means.m-cons, Means.m-op, Means.m-if, next-note}
+use Rattle.machine.specs.Heads.{Means, Means.m-push, Means.m-this, Means.m-not, Means.m-rd, Means.m-get, Means.m-wr, Means.m-set, Means.m-cons}
+use Rattle.machine.specs.Heads.{Means.m-op, Means.m-if, next-note}
 
 -- a machine comes to be that stands for this state
 abbrev pub Leads : State → Out → Type 0
@@ -61,7 +68,8 @@ module _ (p : Program) (m : Machine) (l : ℕ) (s : Sched) (σ : List Inst) (b :
   -- what holds of performing the next command of instance l holds of the command
   taken : (P : Out → Type 0) {k : ℕ} {c : Coms} {χ : List Val} {ξ : Env} {f : Flat} {fs : List Flat}
       → getElem? σ l ≡ some (inst k c χ ξ) → flatten c ≡ f ∷ fs
-      → ((i : Instance) (n : Note) (r : List Note) → i .struct ≡ k → map erase r ≡ fs → values (i .stack) ≡ χ → i .env ≡ ξ → Means f n → P (perform p m l i n r))
+      → ((i : Instance) (n : Note) (r : List Note) → i .struct ≡ k → map erase r ≡ fs → values (i .stack) ≡ χ → i .env ≡ ξ → Means f n
+      → P (perform p m l i n r))
       → P (command p l m)
   taken P g e h =
       let (i, f, (a, c, x, y)) = instance-at (m .instances) σ l (R .1) g in
@@ -91,7 +99,8 @@ module _ (p : Program) (m : Machine) (l : ℕ) (s : Sched) (σ : List Inst) (b :
         λ t χ′ f. put-leads (with-code i r (tagged bool (bool-val (negation u)) ∷ χ′)) (inst k c (bool-val (negation u) ∷ χ) ξ) (ek, ec, cc, eξ)
 
     -- rd
-    module _ (v : ℕ) {q j : ℕ} {d : Coms} {ψ χ : List Val} {η : Env} {y : Val} (e : values (i .stack) ≡ label q ∷ χ) (g : getElem? σ q ≡ some (inst j d ψ η)) (h : lookup η v ≡ some y) where
+    module _ (v : ℕ) {q j : ℕ} {d : Coms} {ψ χ : List Val} {η : Env} {y : Val} (e : values (i .stack) ≡ label q ∷ χ)
+        (g : getElem? σ q ≡ some (inst j d ψ η)) (h : lookup η v ≡ some y) where
       read-leads : (f : ℕ → Source) → Leads (state s (set σ l (inst k c (y ∷ χ) ξ)) b) (read p m l i r (i .stack) v f)
       unfolding read read-at read-from values
       read-leads t =
@@ -107,7 +116,8 @@ module _ (p : Program) (m : Machine) (l : ℕ) (s : Sched) (σ : List Inst) (b :
       rd-leads (m-get {t = t} f) = rw f (read-leads (λ j. local t))
 
     -- wr
-    module _ (v : ℕ) {q j : ℕ} {d : Coms} {ψ χ : List Val} {η : Env} {y : Val} (e : values (i .stack) ≡ label q ∷ y ∷ χ) (g : getElem? σ q ≡ some (inst j d ψ η)) where
+    module _ (v : ℕ) {q j : ℕ} {d : Coms} {ψ χ : List Val} {η : Env} {y : Val} (e : values (i .stack) ≡ label q ∷ y ∷ χ)
+        (g : getElem? σ q ≡ some (inst j d ψ η)) where
       -- what holds of writing to the instance found holds of the command
       written-at : (P : Out → Type 0) {n : Note} → Means (plain (wr v)) n
           → ((a : Instance) (χ′ : List Tagged) → a .struct ≡ j → a .env ≡ η → values χ′ ≡ χ → P (write-at p m l i r χ′ v y q (some a)))
@@ -133,7 +143,8 @@ module _ (p : Program) (m : Machine) (l : ℕ) (s : Sched) (σ : List Inst) (b :
           (put-leads (with-code i r χ′) (inst k c χ ξ) (ek, ec, ex, eξ))
 
       -- y written to the instance a
-      module _ {su : Bool} (w : q < structs p → v < arity p j → ⊥) (u : LeavesStable p j v η y su) (a : Instance) (χ′ : List Tagged) (ea : a .struct ≡ j) (eη : a .env ≡ η) (ex : values χ′ ≡ χ) where
+      module _ {su : Bool} (w : q < structs p → v < arity p j → ⊥) (u : LeavesStable p j v η y su) (a : Instance) (χ′ : List Tagged) (ea : a .struct ≡ j)
+          (eη : a .env ≡ η) (ex : values χ′ ≡ χ) where
         abbrev Wrote : Out → Type 0
         Wrote o = Leads (state s (update-env (set σ l (inst k c χ ξ)) q (assign η v y)) (meet su b)) o
 
@@ -166,7 +177,8 @@ module _ (p : Program) (m : Machine) (l : ℕ) (s : Sched) (σ : List Inst) (b :
       wr-leads {su = su} w u h = written-at (Leads (state s (update-env (set σ l (inst k c χ ξ)) q (assign η v y)) (meet su b))) h (at-leads w u)
 
     -- op: what holds of the answer holds of the command
-    answered : (P : Out → Type 0) {o : Op} {x y : Val} {n : Note} {χ : List Val} {a : Answer} → values (i .stack) ≡ y ∷ x ∷ χ → apply o x y ≡ a → Means (plain (oper o)) n
+    answered : (P : Out → Type 0) {o : Op} {x y : Val} {n : Note} {χ : List Val} {a : Answer} → values (i .stack) ≡ y ∷ x ∷ χ → apply o x y ≡ a
+        → Means (plain (oper o)) n
         → ((s : Source) (χ′ : List Tagged) → values χ′ ≡ χ → P (operated p m l i r χ′ s a)) → P (perform p m l i n r)
     unfolding perform operate
     answered P {x = x} {y = y} e h (m-op {o = o}) t =
@@ -181,7 +193,8 @@ module _ (p : Program) (m : Machine) (l : ℕ) (s : Sched) (σ : List Inst) (b :
         answered (Leads (state s (set σ l (inst k c (z ∷ χ) ξ)) b)) e (apply-value o x y z .1 h) t
         λ u χ′ f. put-leads (with-code i r (tagged (given-by p u) z ∷ χ′)) (inst k c (z ∷ χ) ξ) (ek, ec, cc, eξ)
 
-    cons-leads : {j : ℕ} {n : Note} (xs χ : List Val) → values (i .stack) ≡ reverse xs ++ χ → length xs ≡ arity p j → length σ < max-instances → Means (plain (cons j)) n
+    cons-leads : {j : ℕ} {n : Note} (xs χ : List Val) → values (i .stack) ≡ reverse xs ++ χ → length xs ≡ arity p j → length σ < max-instances
+        → Means (plain (cons j)) n
         → Leads (state s (set σ l (inst k c (label (length σ) ∷ χ) ξ) ++ inst j nil [] (fresh-env xs) ∷ []) (meet false b)) (perform p m l i n r)
     unfolding perform construct values flatten
     cons-leads xs χ e f h (m-cons {k = j}) =
@@ -191,10 +204,12 @@ module _ (p : Program) (m : Machine) (l : ℕ) (s : Sched) (σ : List Inst) (b :
         let t : length (m .instances) < max-instances = omega arith in
         let i′ : Instance = with-code i r (tagged (ref j) (label (length (m .instances))) ∷ drop (arity p j) (i .stack)) in
         let v : values (drop (arity p j) (i .stack)) ≡ χ = rw (map-drop (λ (x : Tagged). x .is), e) (drop-at (reverse xs) χ (arity p j) a) in
-        let w : reverse (values (take (arity p j) (i .stack))) ≡ xs = rw (map-take (λ (x : Tagged). x .is), e, take-at (reverse xs) χ (arity p j) a) (reverse-reverse xs) in
+        let w : reverse (values (take (arity p j) (i .stack))) ≡ xs = rw (map-take (λ (x : Tagged). x .is), e, take-at (reverse xs) χ (arity p j) a)
+        (reverse-reverse xs) in
         rw (lt-ltb (length (m .instances)) max-instances t, le-leb (arity p j) (length (i .stack)) d, construct) (
           R .0,
-          represents-append (set (m .instances) l i′) (set σ l (inst k c (label (length σ) ∷ χ) ξ)) (made p m l i j (arity p j) (i .stack)) (inst j nil [] (fresh-env xs))
+          represents-append (set (m .instances) l i′) (set σ l (inst k c (label (length σ) ∷ χ) ξ)) (made p m l i j (arity p j) (i .stack))
+              (inst j nil [] (fresh-env xs))
               (represents-set (m .instances) σ l i′ (inst k c (label (length σ) ∷ χ) ξ) (R .1) (ek, ec, rw (q, v), eξ))
               (refl, refl, refl, ap fresh-env w),
           ap (meet false) (R .2),
@@ -207,7 +222,8 @@ module _ (p : Program) (m : Machine) (l : ℕ) (s : Sched) (σ : List Inst) (b :
         let t : max-instances ≤ length (m .instances) = omega (arith, represents-length (m .instances) σ (R .1)) in
         rw (le-ltb (length (m .instances)) max-instances t, construct)
 
-    exceeded-is : {o : Op} {x y : Val} {n : Note} {χ : List Val} → values (i .stack) ≡ y ∷ x ∷ χ → Exceeds o x y → Means (plain (oper o)) n → perform p m l i n r ≡ refused exceeded
+    exceeded-is : {o : Op} {x y : Val} {n : Note} {χ : List Val} → values (i .stack) ≡ y ∷ x ∷ χ → Exceeds o x y → Means (plain (oper o)) n
+        → perform p m l i n r ≡ refused exceeded
     unfolding operated
     exceeded-is {o} {x} {y} e h t = answered (λ out. out ≡ refused exceeded) e (apply-outside o x y .1 h) t (λ u χ′ f. refl)
 
@@ -226,7 +242,8 @@ module _ (p : Program) (m : Machine) (l : ℕ) (s : Sched) (σ : List Inst) (b :
 
   leads : (st : State) {k : ℕ} {c : Coms} {χ : List Val} {ξ : Env} {f : Flat} {fs : List Flat}
       → getElem? σ l ≡ some (inst k c χ ξ) → flatten c ≡ f ∷ fs
-      → ((i : Instance) (n : Note) (r : List Note) → i .struct ≡ k → map erase r ≡ fs → values (i .stack) ≡ χ → i .env ≡ ξ → Means f n → Leads st (perform p m l i n r))
+      → ((i : Instance) (n : Note) (r : List Note) → i .struct ≡ k → map erase r ≡ fs → values (i .stack) ≡ χ → i .env ≡ ξ → Means f n
+      → Leads st (perform p m l i n r))
       → Leads st (command p l m)
   leads st = taken (Leads st)
 

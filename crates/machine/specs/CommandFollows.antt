@@ -21,12 +21,17 @@ use Rattle.operators.specs.Apply.{same-val}
 use Rattle.operators.specs.ApplyLaws.{apply-value, apply-outside}
 use Rattle.operators.specs.TestLaws.{same-val-exact}
 use Rattle.machine.specs.Published.{Sched, Env, lookup, assign, fresh-env, Inst, Inst.inst, State, State.state, update-env, arity}
-use Rattle.machine.specs.Rules.{LeavesStable, LeavesStable.no-parameter, LeavesStable.same-value, LeavesStable.other-value, meet, Actor.instance, Rule, Rule.ComPush, Rule.ComPushThis, Rule.ComRd, Rule.ComWr, Rule.ComWrNSkip, Rule.ComNot, Rule.ComOp, Rule.ComCons, Rule.ComIfT, Rule.ComIfF}
+use Rattle.machine.specs.Rules.{LeavesStable, LeavesStable.no-parameter, LeavesStable.same-value, LeavesStable.other-value, meet, Actor.instance, Rule}
+use Rattle.machine.specs.Rules.{Rule.ComPush, Rule.ComPushThis, Rule.ComRd, Rule.ComWr, Rule.ComWrNSkip, Rule.ComNot, Rule.ComOp, Rule.ComCons}
+use Rattle.machine.specs.Rules.{Rule.ComIfT, Rule.ComIfF}
 use Rattle.machine.specs.Stops.{Full, Full.no-label, Exceeded, Exceeded.no-result, full, exceeded}
-use Rattle.machine.specs.Machine.{Tagged, tagged, given-by, Instance, Machine, Out, Out.next, Out.refused, Out.stuck, with-code, with-written, put, leaves-stable, made, command}
+use Rattle.machine.specs.Machine.{Tagged, tagged, given-by, Instance, Machine, Out, Out.next, Out.refused, Out.stuck, with-code, with-written, put}
+use Rattle.machine.specs.Machine.{leaves-stable, made, command}
 use Rattle.machine.specs.Represents.{values, Represents-inst, Represents}
 use Rattle.machine.specs.RepresentsLaws.{inst-at, values-length, map-drop, represents-length, represents-set, represents-env, represents-append}
-use Rattle.machine.specs.Performed.{Performed, Performed.pushed, Performed.pushed-this, Performed.negated, Performed.read-one, Performed.skipped, Performed.wrote, Performed.calculated, Performed.exceeding, Performed.constructed, Performed.filled, Performed.branched, Performed.no-way}
+use Rattle.machine.specs.Performed.{Performed, Performed.pushed, Performed.pushed-this, Performed.negated, Performed.read-one, Performed.skipped}
+use Rattle.machine.specs.Performed.{Performed.wrote, Performed.calculated, Performed.exceeding, Performed.constructed, Performed.filled}
+use Rattle.machine.specs.Performed.{Performed.branched, Performed.no-way}
 use Rattle.machine.specs.PerformedLaws.{by-ways}
 use Rattle.machine.specs.Heads.{plain-head, if-head, reads-erase, writes-erase}
 use Rattle.commands.specs.Tags.{result-type}
@@ -39,7 +44,8 @@ Follows p l st stuck = Unit {0}
 
 module _ (p : Program) where
   -- the machine's answer, whether a write leaves stability as it is, is that of rule ComWr
-  pub settles : (k v : ℕ) (ξ : Env) (x : Val) (o : Option Val) → lookup ξ v ≡ o → (v < arity p k → o ≡ none → ⊥) → LeavesStable p k v ξ x (leaves-stable p k v x o)
+  pub settles : (k v : ℕ) (ξ : Env) (x : Val) (o : Option Val) → lookup ξ v ≡ o → (v < arity p k → o ≡ none → ⊥)
+      → LeavesStable p k v ξ x (leaves-stable p k v x o)
   unfolding leaves-stable
   settles k v ξ x none e h = no-parameter (go (ltb v (arity p k)) refl)
     where
@@ -48,7 +54,8 @@ module _ (p : Program) where
       go false a = ltb-false v (arity p k) a
   settles k v ξ x (some y) e h = go (ltb v (arity p k)) refl (same-val y x) refl
     where
-      go : (t : Bool) → ltb v (arity p k) ≡ t → (u : Bool) → same-val y x ≡ u → LeavesStable p k v ξ x (elim (ltb v (arity p k)) [ true ↦ same-val y x | false ↦ true ])
+      go : (t : Bool) → ltb v (arity p k) ≡ t → (u : Bool) → same-val y x ≡ u
+          → LeavesStable p k v ξ x (elim (ltb v (arity p k)) [ true ↦ same-val y x | false ↦ true ])
       go true a true b = rw (a, b) (same-value (ltb-true v (arity p k) a) (e ∙ ap {B = Option Val} some (same-val-exact y x .0 b)))
       go true a false b = rw (a, b) (other-value (ltb-true v (arity p k) a) e (λ q. let z : _≡_ {A = ℕ} 0 1 = cc (same-val-exact y x .1 q) in omega arith))
       go false a u b = rw a (no-parameter (ltb-false v (arity p k) a))
@@ -119,7 +126,8 @@ module _ (p : Program) (m : Machine) (l : ℕ) (s : Sched) (σ : List Inst) (b :
       let j : Inst = inst (i .struct) c (label (length σ) ∷ values (drop n (i .stack))) (i .env) in
       let i′ : Instance = with-code i r (tagged (ref k) (label (length (m .instances))) ∷ drop n (i .stack)) in (
         state s (set σ l j ++ inst k nil [] (fresh-env xs) ∷ []) (meet false b),
-        ComCons xs (values (drop n (i .stack))) (rw f at g) (rw (length-reverse, values-length) (length-take-le n (i .stack) a)) (parted n (i .stack)) (rw q at u) refl refl,
+        ComCons xs (values (drop n (i .stack))) (rw f at g) (rw (length-reverse, values-length) (length-take-le n (i .stack) a)) (parted n (i .stack))
+            (rw q at u) refl refl,
         (
           R .0,
           represents-append (set (m .instances) l i′) (set σ l j) (made p m l i k n (i .stack)) (inst k nil [] (fresh-env xs))
@@ -133,7 +141,8 @@ module _ (p : Program) (m : Machine) (l : ℕ) (s : Sched) (σ : List Inst) (b :
       inl (refl, no-label (rw f at g) (rw (represents-length (m .instances) σ (R .1)) at u))
   way-follows i r d (branched {n = n} {b = true} {χ = χ} x) e g =
       let (a, c, f, h, k) = if-head d n (map erase r) e in
-      put-follows (with-code i r χ) (inst (i .struct) (then a c) (values χ) (i .env)) (ComIfT (rw (f, x) at g) refl) (refl, k ∙ sym (flatten-then a c), refl, refl)
+      put-follows (with-code i r χ) (inst (i .struct) (then a c) (values χ) (i .env)) (ComIfT (rw (f, x) at g) refl)
+      (refl, k ∙ sym (flatten-then a c), refl, refl)
   way-follows i r d (branched {n = n} {b = false} {χ = χ} x) e g =
       let (a, c, f, h, k) = if-head d n (map erase r) e in
       put-follows (with-code i (drop n r) χ) (inst (i .struct) c (values χ) (i .env)) (ComIfF (rw (f, x) at g) refl)

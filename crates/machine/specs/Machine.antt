@@ -15,9 +15,11 @@ use Rattle.program.specs.Tree.{Op, Stmts, Program}
 use Rattle.commands.specs.Context.{params-of, context}
 use Rattle.commands.specs.Typing.{sort}
 use Rattle.commands.specs.Tags.{result-type}
-use Rattle.commands.specs.Noted.{Note, Note.n-push, Note.n-this, Note.n-not, Note.n-rd, Note.n-wr, Note.n-get, Note.n-set, Note.n-cons, Note.n-op, Note.n-if, now-written, noted}
+use Rattle.commands.specs.Noted.{Note, Note.n-push, Note.n-this, Note.n-not, Note.n-rd, Note.n-wr, Note.n-get, Note.n-set, Note.n-cons, Note.n-op, Note.n-if}
+use Rattle.commands.specs.Noted.{now-written, noted}
 use Rattle.operators.specs.Apply.{Answer, Answer.value, Answer.outside, Answer.unfit, apply, same-val}
-use Rattle.machine.specs.Published.{StepCall, called, Sched, Sched.done, Sched.start, Sched.fixpoint, Sched.active, before, Env, lookup, assign, fresh-env, structs, arity}
+use Rattle.machine.specs.Published.{StepCall, called, Sched, Sched.done, Sched.start, Sched.fixpoint, Sched.active, before, Env, lookup, assign}
+use Rattle.machine.specs.Published.{fresh-env, structs, arity}
 use Rattle.machine.specs.Rules.{meet}
 use Rattle.machine.specs.Stops.{full, exceeded}
 

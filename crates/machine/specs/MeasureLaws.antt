@@ -13,9 +13,12 @@ use Rattle.commands.specs.Context.{context}
 use Rattle.commands.specs.Noted.{Note, erase, noted, now-written}
 use Rattle.commands.specs.Laws.NotedLaws.{erased}
 use Rattle.machine.specs.Published.{StepCall, called, Sched, Sched.done, Sched.start, Sched.fixpoint, Sched.active, before, Env, arity}
-use Rattle.machine.specs.Machine.{Tagged, tagged, Instance, Machine, Out, Out.next, Out.refused, Out.stuck, Moved, Moved.next, Moved.stuck, with-code, with-written, update-env, made, command, given, started, repeat, move-by, move}
+use Rattle.machine.specs.Machine.{Tagged, tagged, Instance, Machine, Out, Out.next, Out.refused, Out.stuck, Moved, Moved.next, Moved.stuck, with-code}
+use Rattle.machine.specs.Machine.{with-written, update-env, made, command, given, started, repeat, move-by, move}
 use Rattle.machine.specs.RepresentsLaws.{Still}
-use Rattle.machine.specs.Performed.{Performed, Performed.pushed, Performed.pushed-this, Performed.negated, Performed.read-one, Performed.skipped, Performed.wrote, Performed.calculated, Performed.exceeding, Performed.constructed, Performed.filled, Performed.branched, Performed.no-way}
+use Rattle.machine.specs.Performed.{Performed, Performed.pushed, Performed.pushed-this, Performed.negated, Performed.read-one, Performed.skipped}
+use Rattle.machine.specs.Performed.{Performed.wrote, Performed.calculated, Performed.exceeding, Performed.constructed, Performed.filled}
+use Rattle.machine.specs.Performed.{Performed.branched, Performed.no-way}
 use Rattle.machine.specs.PerformedLaws.{by-ways}
 use Rattle.machine.specs.Measure.{weight, bound, passages, measure, total, codes, count, share, share-of}
 
@@ -50,13 +53,15 @@ falls-by p B (active f s) is (true ∷ b) h = (omega arith, omega arith)
 falls-by p B (active f s) is (false ∷ b) h = (omega (arith, weight-before f (active f s)), omega (arith, bound-before f (active f s)))
 
 -- with every move the measure falls, and the bound does not grow: moves alone come to an end
-pub move-falls : (p : Program) (B : ℕ) (m : Machine) {m′ : Machine} → bound (m .sched) ≤ B → move p m ≡ next m′ → (measure B m′ < measure B m) × (bound (m′ .sched) ≤ B)
+pub move-falls : (p : Program) (B : ℕ) (m : Machine) {m′ : Machine} → bound (m .sched) ≤ B → move p m ≡ next m′ → (measure B m′ < measure B m)
+    × (bound (m′ .sched) ≤ B)
 unfolding measure
 move-falls p B m h e = rw e at (falls-by p B (m .sched) (m .instances) (m .stability) h)
 
 -- Commands -------------------------------------------------------------------------
 
-codes-set : (is : List Instance) (l : ℕ) {i : Instance} (j : Instance) → getElem? is l ≡ some i → codes (set is l j) + length (i .code) ≡ codes is + length (j .code)
+codes-set : (is : List Instance) (l : ℕ) {i : Instance} (j : Instance) → getElem? is l ≡ some i
+    → codes (set is l j) + length (i .code) ≡ codes is + length (j .code)
 unfolding codes total
 codes-set [] l j e = let z : _≡_ {A = ℕ} 0 1 = cc in absurd (omega arith)
 codes-set (x ∷ is) zero {i} j e = let h : x ≡ i = cc in rw h (omega arith)
@@ -80,7 +85,8 @@ Fewer n (refused k) = Unit {0}
 Fewer n stuck = Unit {0}
 
 -- every way through a command with r behind it leaves r or less
-module _ (p : Program) (m : Machine) (l : ℕ) {i₀ : Instance} (g : getElem? (m .instances) l ≡ some i₀) (i : Instance) (r : List Note) (h : length r < length (i₀ .code)) where
+module _ (p : Program) (m : Machine) (l : ℕ) {i₀ : Instance} (g : getElem? (m .instances) l ≡ some i₀) (i : Instance) (r : List Note)
+    (h : length r < length (i₀ .code)) where
   kept : (r′ : List Note) (χ : List Tagged) → length r′ ≤ length r → codes (set (m .instances) l (with-code i r′ χ)) < codes (m .instances)
   kept r′ χ k = omega (arith, codes-set (m .instances) l (with-code i r′ χ) g)
 
@@ -112,7 +118,8 @@ command-shortens p l m e =
 
 -- Starts ---------------------------------------------------------------------------
 
-codes-map : (f : Instance → Instance) (g : Instance → ℕ) → ((i : Instance) → i .code ≡ [] → length (f i .code) ≡ g i) → (is : List Instance) → Still is → codes (map f is) ≡ total g is
+codes-map : (f : Instance → Instance) (g : Instance → ℕ) → ((i : Instance) → i .code ≡ [] → length (f i .code) ≡ g i) → (is : List Instance) → Still is
+    → codes (map f is) ≡ total g is
 unfolding codes total
 codes-map f g h [] t = refl
 codes-map f g h (i ∷ is) t = rw (h i (t .0), codes-map f g h is (t .1))

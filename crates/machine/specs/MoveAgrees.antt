@@ -10,7 +10,8 @@ use Rattle.program.specs.Tree.{Stmts, Program}
 use Rattle.commands.specs.Commands.{commands}
 use Rattle.commands.specs.Context.{context}
 use Rattle.commands.specs.Laws.NotedLaws.{erased}
-use Rattle.machine.specs.Published.{StepCall, StepCall.global, StepCall.local, called, Sched, Sched.done, Sched.start, Sched.fixpoint, Sched.active, before, Inst, Inst.inst, State, State.state}
+use Rattle.machine.specs.Published.{StepCall, StepCall.global, StepCall.local, called, Sched, Sched.done, Sched.start, Sched.fixpoint, Sched.active}
+use Rattle.machine.specs.Published.{before, Inst, Inst.inst, State, State.state}
 use Rattle.machine.specs.Rules.{Done, given, started, Actor.schedule, Rule, Rule.InitG, Rule.InitL, Rule.FixInit, Rule.FixIter, Rule.FixTerm}
 use Rattle.machine.specs.Machine.{Instance, Machine, machine, Moved, Moved.next, Moved.stuck, given as equip, started as begin, repeat, move-by, move}
 use Rattle.machine.specs.Represents.{values, Represents-inst, Represents-all, Represents}
@@ -74,7 +75,8 @@ module _ (p : Program) where
     outcome s σ b R = from (Moves p s σ b) (R .0) (R .2) (moves-by s (m .instances) σ b (R .1))
 
     -- what the next machine stands for, a rule gives, where no instance holds commands
-    pub move-follows : (st : State) {m′ : Machine} → Represents m st → Still (m .instances) → move p m ≡ next m′ → (st′ : State) × (Rule p schedule st st′) × (Represents m′ st′)
+    pub move-follows : (st : State) {m′ : Machine} → Represents m st → Still (m .instances) → move p m ≡ next m′ → (st′ : State) × (Rule p schedule st st′)
+        × (Represents m′ st′)
     move-follows (state s σ b) R t e = (rw e at (outcome s σ b R)) (still-done (m .instances) σ (R .1) .0 t)
 
     -- what a rule gives, the next machine stands for

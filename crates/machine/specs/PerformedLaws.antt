@@ -12,11 +12,17 @@ use Rattle.types.specs.Limits.{max-instances, first-local}
 use Rattle.types.specs.Types.{Ty}
 use Rattle.types.specs.Values.{Val, Val.int-val, Val.nat-val, Val.bool-val, Val.label}
 use Rattle.program.specs.Tree.{Op, Program}
-use Rattle.commands.specs.Noted.{Note, Note.n-push, Note.n-this, Note.n-not, Note.n-rd, Note.n-wr, Note.n-get, Note.n-set, Note.n-cons, Note.n-op, Note.n-if, now-written}
+use Rattle.commands.specs.Noted.{Note, Note.n-push, Note.n-this, Note.n-not, Note.n-rd, Note.n-wr, Note.n-get, Note.n-set, Note.n-cons, Note.n-op, Note.n-if}
+use Rattle.commands.specs.Noted.{now-written}
 use Rattle.operators.specs.Apply.{Answer, Answer.value, Answer.outside, Answer.unfit, apply}
 use Rattle.machine.specs.Published.{lookup, structs, arity}
-use Rattle.machine.specs.Machine.{Tagged, tagged, Source, Source.variable, Source.local, Source.result, Instance, Machine, Out, Out.stuck, with-written, read-from, read-at, read, write-to, write-parameter, write-at, write, negate, branch, operated, operate, construct, perform, command-of, command-at, command}
-use Rattle.machine.specs.Performed.{Reads, Reads.parameter, Reads.of-local, Writes, Writes.to-parameter, Writes.to-local, Performed, Performed.pushed, Performed.pushed-this, Performed.negated, Performed.read-one, Performed.skipped, Performed.wrote, Performed.calculated, Performed.exceeding, Performed.constructed, Performed.filled, Performed.branched, Performed.no-way}
+use Rattle.machine.specs.Machine.{Tagged, tagged, Source, Source.variable, Source.local, Source.result, Instance, Machine, Out, Out.stuck, with-written}
+use Rattle.machine.specs.Machine.{read-from, read-at, read, write-to, write-parameter, write-at, write, negate, branch, operated, operate, construct}
+use Rattle.machine.specs.Machine.{perform, command-of, command-at, command}
+use Rattle.machine.specs.Performed.{Reads, Reads.parameter, Reads.of-local, Writes, Writes.to-parameter, Writes.to-local, Performed, Performed.pushed}
+use Rattle.machine.specs.Performed.{Performed.pushed-this, Performed.negated, Performed.read-one, Performed.skipped, Performed.wrote}
+use Rattle.machine.specs.Performed.{Performed.calculated, Performed.exceeding, Performed.constructed, Performed.filled, Performed.branched}
+use Rattle.machine.specs.Performed.{Performed.no-way}
 
 module _ (p : Program) (m : Machine) (l : ℕ) (i : Instance) (r : List Note) where
   negated-top : (t : Ty) (v : Val) (χ : List Tagged) → i .stack ≡ tagged t v ∷ χ → Performed p m l i r n-not (negate p m l i r (tagged t v ∷ χ))
@@ -51,7 +57,8 @@ module _ (p : Program) (m : Machine) (l : ℕ) (i : Instance) (r : List Note) wh
     read-top u (bool-val b) χ e = no-way
     read-top u (label q) χ e = at (getElem? (m .instances) q) refl
       where
-        from : (j : Instance) → getElem? (m .instances) q ≡ some j → (o : Option Val) → lookup (j .env) v ≡ o → Performed p m l i r n (read-from p m l i r χ (s (j .struct)) o)
+        from : (j : Instance) → getElem? (m .instances) q ≡ some j → (o : Option Val) → lookup (j .env) v ≡ o
+            → Performed p m l i r n (read-from p m l i r χ (s (j .struct)) o)
         from j f none g = no-way
         from j f (some y) g = read-one h e f g
 
@@ -74,13 +81,15 @@ module _ (p : Program) (m : Machine) (l : ℕ) (i : Instance) (r : List Note) wh
         par a none g = no-way
         par a (some x) g = wrote h e f (λ b c. omega arith) (λ b c. let z : _≡_ {A = ℕ} 0 1 = cc in omega arith)
 
-        go : (t : Bool) → ltb v (arity p (j .struct)) ≡ t → (o : Bool) → ltb q (structs p) ≡ o → Performed p m l i r n (write-at p m l i r χ v (y .is) q (some j))
+        go : (t : Bool) → ltb v (arity p (j .struct)) ≡ t → (o : Bool) → ltb q (structs p) ≡ o
+            → Performed p m l i r n (write-at p m l i r χ v (y .is) q (some j))
         go true a true b = rw (a, b, write-at) (skipped h e f (ltb-true q (structs p) b) (ltb-true v (arity p (j .struct)) a))
         go true a false b = rw (a, b, write-at) (par (ltb-false q (structs p) b) (lookup (j .env) v) refl)
         go false a o b =
             let d = ltb-false v (arity p (j .struct)) a in rw (a, write-at) (wrote h e f (λ b c. omega arith) (λ b c. omega arith))
 
-    write-top : (u : Ty) (x : Val) (y : Tagged) (χ : List Tagged) → i .stack ≡ tagged u x ∷ y ∷ χ → Performed p m l i r n (write p m l i r (tagged u x ∷ y ∷ χ) v)
+    write-top : (u : Ty) (x : Val) (y : Tagged) (χ : List Tagged) → i .stack ≡ tagged u x ∷ y ∷ χ
+        → Performed p m l i r n (write p m l i r (tagged u x ∷ y ∷ χ) v)
     unfolding write write-at
     write-top u (int-val z) y χ e = no-way
     write-top u (nat-val k) y χ e = no-way

@@ -5,7 +5,9 @@ use mathlib.Core.List.{List, [], _∷_, _++_}
 use lib.Dec.{eqb}
 use Rattle.syntax.specs.Syntax.{Id, TypeName, Par, Struct}
 use Rattle.meaning.specs.Scope.{pars-of}
-use Rattle.derive.specs.Roles.{Typed, Typed.of-par, Typed.of-local, Typed.of-null, Naming, Naming.new-struct, Naming.new-par, Naming.new-step, Naming.new-local, Naming.first-read, Naming.first-written, Naming.later-variable, Naming.made, Naming.made-statement, Naming.called, Naming.called-struct, Naming.called-step, Role, Role.plain, Role.naming, Role.typed, Role.part, naming-code}
+use Rattle.derive.specs.Roles.{Typed, Typed.of-par, Typed.of-local, Typed.of-null, Naming, Naming.new-struct, Naming.new-par, Naming.new-step, Naming.new-local}
+use Rattle.derive.specs.Roles.{Naming.first-read, Naming.first-written, Naming.later-variable, Naming.made, Naming.made-statement, Naming.called}
+use Rattle.derive.specs.Roles.{Naming.called-struct, Naming.called-step, Role, Role.plain, Role.naming, Role.typed, Role.part, naming-code}
 
 unfoldable pub named : ℕ → List Role → List Id
 named n [] = []

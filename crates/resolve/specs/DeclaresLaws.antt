@@ -10,7 +10,10 @@ use Rattle.syntax.specs.Syntax.{TypeName}
 use Rattle.syntax.specs.Syntax.{Par, Par.par, Struct, Struct.struct, Defs, Defs.last-struct, Defs.defs, Sched, Program.program}
 use Rattle.meaning.specs.Scope.{par-id, par-type, step-id, struct-id, pars-of, steps-of, structs-of}
 use Rattle.meaning.specs.StepNames.{all-steps}
-use Rattle.derive.specs.Roles.{Naming, Naming.new-struct, Naming.new-par, Naming.new-step, Naming.new-local, Naming.first-read, Naming.first-written, Naming.later-variable, Naming.made, Naming.made-statement, Naming.called, Naming.called-struct, Naming.called-step, Part.pars-close, Part.steps-open, Part.steps-close, Role, Role.plain, Role.naming, Role.typed, Role.part, Typed.of-par, Typed.of-local, Typed.of-null, naming-code}
+use Rattle.derive.specs.Roles.{Naming, Naming.new-struct, Naming.new-par, Naming.new-step, Naming.new-local, Naming.first-read, Naming.first-written}
+use Rattle.derive.specs.Roles.{Naming.later-variable, Naming.made, Naming.made-statement, Naming.called, Naming.called-struct, Naming.called-step}
+use Rattle.derive.specs.Roles.{Part.pars-close, Part.steps-open, Part.steps-close, Role, Role.plain, Role.naming, Role.typed, Role.part, Typed.of-par}
+use Rattle.derive.specs.Roles.{Typed.of-local, Typed.of-null, naming-code}
 use Rattle.derive.specs.Roles.{roles-par, roles-steps, roles-struct, roles-defs, roles-sched, roles}
 use Rattle.resolve.specs.Declares.{named, inner, inner-name, inner-type, par-types, all-pars}
 use Rattle.resolve.specs.QuietLaws.{pars-quiet, steps-quiet, pars-each, steps-each, sched-quiet}

@@ -11,19 +11,25 @@ use borrow.Author.Tests.{eq-eqb, ne-eqb, eqb-true, eqb-false}
 use Rattle.types.specs.Limits.{nat-end}
 use Rattle.types.specs.Types.{Ty}
 use Rattle.types.specs.Values.{in-int, int-word}
-use Rattle.program.specs.Tree.{Op, Expr, Expr.inv, Expr.make, Expr.path as path-of, Expr.int-lit, Expr.nat-lit, Expr.op as op-of, Exprs, Exprs.none as no-args, Exprs.more, args}
+use Rattle.program.specs.Tree.{Op, Expr, Expr.inv, Expr.make, Expr.path as path-of, Expr.int-lit, Expr.nat-lit, Expr.op as op-of, Exprs, Exprs.none as no-args}
+use Rattle.program.specs.Tree.{Exprs.more, args}
 use Rattle.program.specs.Encoding.{var-code}
 use Rattle.tokens.specs.Tokens.{Sign.dot as dot-sign, Token.op, Token.sign}
-use Rattle.syntax.specs.Syntax.{Id, TypeName, Par, Struct, Literal, Literal.int-literal, Literal.nat-literal, Literal.bool-literal, Var, Var.id as one-id, Var.dot, Exp, Exp.binary, Exp.brackets, Exp.negation, Exp.constructor, Exp.variable, Exp.literal, Exp.null, Exp.this, Exps, Exps.no-exps, Exps.exps}
+use Rattle.syntax.specs.Syntax.{Id, TypeName, Par, Struct, Literal, Literal.int-literal, Literal.nat-literal, Literal.bool-literal, Var, Var.id as one-id}
+use Rattle.syntax.specs.Syntax.{Var.dot, Exp, Exp.binary, Exp.brackets, Exp.negation, Exp.constructor, Exp.variable, Exp.literal, Exp.null, Exp.this, Exps}
+use Rattle.syntax.specs.Syntax.{Exps.no-exps, Exps.exps}
 use Rattle.syntax.specs.Yield.{literal-token}
 use Rattle.meaning.specs.Scope.{par-id, par-type, pars-of, struct-id}
 use Rattle.meaning.specs.Values.{decimal, signed}
 use Rattle.meaning.specs.Finding.{Place, find}
-use Rattle.meaning.specs.Meant.{then, provided, literal-meaning, type-meaning, referred, further, Start, start, Path-of, path-meaning, exp-meaning, exps-meaning}
-use Rattle.derive.specs.Roles.{Naming, Naming.first-read, Naming.made, Part.brackets-close, Part.args-open, Part.args-close, Part.no-args-close, Role, Role.plain, Role.naming, Role.part, roles-later, roles-var, close-of, roles-exp, roles-exps, roles-exp-list}
+use Rattle.meaning.specs.Meant.{then, provided, literal-meaning, type-meaning, referred, further, Start, start, Path-of, path-meaning, exp-meaning}
+use Rattle.meaning.specs.Meant.{exps-meaning}
+use Rattle.derive.specs.Roles.{Naming, Naming.first-read, Naming.made, Part.brackets-close, Part.args-open, Part.args-close, Part.no-args-close, Role}
+use Rattle.derive.specs.Roles.{Role.plain, Role.naming, Role.part, roles-later, roles-var, close-of, roles-exp, roles-exps, roles-exp-list}
 use Rattle.resolve.specs.Passing.{Pass, leaves, opens, goes-on, closes, makes, starts, pass, passes, pass-part, pass-name, pass-token, pass-type}
 use Rattle.resolve.specs.Numbers.{expr-numbers, exprs-numbers}
-use Rattle.resolve.specs.Outcomes.{onto, onto-both, Outcome, Outcome.fails, Outcome.refuses, Outcome.goes, as-well, by-test, never, followed, made-of, made-if, past}
+use Rattle.resolve.specs.Outcomes.{onto, onto-both, Outcome, Outcome.fails, Outcome.refuses, Outcome.goes, as-well, by-test, never, followed, made-of}
+use Rattle.resolve.specs.Outcomes.{made-if, past}
 
 -- numbers are told, and argument lists are closed
 unfoldable pub told-to : Pass → List ℕ → List ℕ → TypeName → Pass

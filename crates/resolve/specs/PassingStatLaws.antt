@@ -12,11 +12,13 @@ use Rattle.types.specs.Types.{Ty, code}
 use Rattle.program.specs.Tree.{Expr, Stmt, Stmt.when, Stmt.declare, Stmt.update as update-of, Stmt.create, Stmts, Stmts.next}
 use Rattle.program.specs.Encoding.{var-code}
 use Rattle.tokens.specs.Tokens.{Word.w-then, Sign.semicolon, Sign.assign, Token.word, Token.sign}
-use Rattle.syntax.specs.Syntax.{Id, TypeName, Struct, Var, Exp, Exps, Stat, Stat.if-then, Stat.assignment, Stat.update, Stat.construct, Stats, Stats.no-stats, Stats.stats}
+use Rattle.syntax.specs.Syntax.{Id, TypeName, Struct, Var, Exp, Exps, Stat, Stat.if-then, Stat.assignment, Stat.update, Stat.construct, Stats, Stats.no-stats}
+use Rattle.syntax.specs.Syntax.{Stats.stats}
 use Rattle.meaning.specs.Scope.{par-id, Local, Local.declared}
 use Rattle.meaning.specs.Finding.{absent}
 use Rattle.meaning.specs.Meant.{then, provided, type-meaning, Behind, exp-meaning, stat-meaning, stats-meaning}
-use Rattle.derive.specs.Roles.{Naming.first-written, Naming.made-statement, Part.then-open, Part.then-close, Role.plain, Role.part, roles-var, roles-exp, roles-stat, roles-stats}
+use Rattle.derive.specs.Roles.{Naming.first-written, Naming.made-statement, Part.then-open, Part.then-close, Role.plain, Role.part, roles-var, roles-exp}
+use Rattle.derive.specs.Roles.{roles-stat, roles-stats}
 use Rattle.resolve.specs.Passing.{Pass, leaves, lives, dies, declares, pass, passes, pass-part, pass-name, pass-token, pass-type}
 use Rattle.resolve.specs.Numbers.{expr-numbers, stmt-numbers, stmts-numbers, few-stmt, few-stmts}
 use Rattle.resolve.specs.Outcomes.{onto, onto-both, built, Outcome, Outcome.fails, Outcome.goes, never, followed, made-of, past}

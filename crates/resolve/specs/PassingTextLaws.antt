@@ -6,12 +6,14 @@ use mathlib.Core.List.{List, [], _∷_, append-nil}
 use mathlib.Core.Option.{Option, none, some}
 use Rattle.program.specs.Tree.{Item as Call, Item.fix, Items, Items.stop, Items.item}
 use Rattle.program.specs.Encoding.{flat}
-use Rattle.syntax.specs.Syntax.{Id, TypeName, Par, Par.par, Step, Step.step, Struct, Struct.struct, Defs, Defs.last-struct, Defs.defs, Item, Item.execution, Item.typed-execution, Item.fixpoint, Sched, Sched.last-item, Sched.barrier}
+use Rattle.syntax.specs.Syntax.{Id, TypeName, Par, Par.par, Step, Step.step, Struct, Struct.struct, Defs, Defs.last-struct, Defs.defs, Item, Item.execution}
+use Rattle.syntax.specs.Syntax.{Item.typed-execution, Item.fixpoint, Sched, Sched.last-item, Sched.barrier}
 use Rattle.meaning.specs.Scope.{struct-id, pars-of, steps-of, structs-of}
 use Rattle.meaning.specs.Finding.{Place, find}
 use Rattle.meaning.specs.HoldsDecide.{all}
 use Rattle.meaning.specs.Meant.{then, each, step-meaning, steps-meaning, item-meaning, sched-meaning}
-use Rattle.derive.specs.Roles.{Part.body-close, Part.pars-close, Part.steps-open, Part.steps-close, Part.fix-close, Part.barrier-sign, Role, Role.part, roles-par, roles-par-list, roles-pars, roles-step, roles-steps, roles-struct, roles-defs, roles-item, roles-sched}
+use Rattle.derive.specs.Roles.{Part.body-close, Part.pars-close, Part.steps-open, Part.steps-close, Part.fix-close, Part.barrier-sign, Role, Role.part}
+use Rattle.derive.specs.Roles.{roles-par, roles-par-list, roles-pars, roles-step, roles-steps, roles-struct, roles-defs, roles-item, roles-sched}
 use Rattle.resolve.specs.Passing.{Pass, leaves, lives, begins, numbered, pass, passes, pass-part, pass-name, pass-token, pass-type}
 use Rattle.resolve.specs.Numbers.{step-numbers, steps-numbers, item-numbers, items-numbers, few-step, few-steps}
 use Rattle.resolve.specs.Outcomes.{onto, onto-both, built, Outcome, Outcome.fails, Outcome.goes, as-well, followed, made-of, past}

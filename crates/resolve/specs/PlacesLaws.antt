@@ -15,7 +15,10 @@ use Rattle.syntax.specs.Syntax.{Id, TypeName, TypeName.int-type, TypeName.nat-t
 use Rattle.syntax.specs.Yield.{type-token}
 use Rattle.lexer.specs.KindLaws.{kind-within}
 use Rattle.lexer.specs.RunLaws.{next-byte}
-use Rattle.derive.specs.Roles.{Naming, Naming.new-struct, Naming.new-par, Naming.new-step, Naming.new-local, Naming.first-read, Naming.first-written, Naming.later-variable, Naming.made, Naming.made-statement, Naming.called, Naming.called-struct, Naming.called-step, Typed.of-par, Typed.of-local, Typed.of-null, Role, Role.plain, Role.naming, Role.typed, Role.part, naming-code, typed-code, type-number, part-code, code, token-of}
+use Rattle.derive.specs.Roles.{Naming, Naming.new-struct, Naming.new-par, Naming.new-step, Naming.new-local, Naming.first-read, Naming.first-written}
+use Rattle.derive.specs.Roles.{Naming.later-variable, Naming.made, Naming.made-statement, Naming.called, Naming.called-struct, Naming.called-step, Typed.of-par}
+use Rattle.derive.specs.Roles.{Typed.of-local, Typed.of-null, Role, Role.plain, Role.naming, Role.typed, Role.part, naming-code, typed-code, type-number}
+use Rattle.derive.specs.Roles.{part-code, code, token-of}
 use Rattle.resolve.specs.Named.{name-of, names-at}
 use Rattle.resolve.specs.Tables.{struct-byte, places-from, with-one, offsets-from}
 use Rattle.resolve.specs.Declares.{named, par-types}

@@ -6,14 +6,21 @@ use mathlib.Core.Path.{_≡_, refl, ap, _∙_}
 use mathlib.Core.Bool.{true}
 use lib.ListN.{length}
 use mathlib.Core.List.{List, [], _∷_, _++_, map}
-use Rattle.tokens.specs.Tokens.{Sign.semicolon, Sign.assign, Sign.dot as dot-sign, Sign.bang, Word.w-then, Word.w-if, Word.w-null, Word.w-this, Word.w-fix, Token.sign, Token.word, Token.op}
+use Rattle.tokens.specs.Tokens.{Sign.semicolon, Sign.assign, Sign.dot as dot-sign, Sign.bang, Word.w-then, Word.w-if, Word.w-null, Word.w-this, Word.w-fix}
+use Rattle.tokens.specs.Tokens.{Token.sign, Token.word, Token.op}
 use Rattle.syntax.specs.Yield.{literal-token}
 use Rattle.syntax.specs.Syntax.{Var, Var.id, Var.dot}
-use Rattle.syntax.specs.Syntax.{Exp, Exp.binary, Exp.brackets, Exp.negation, Exp.constructor, Exp.variable, Exp.literal, Exp.null, Exp.this, Exps, Exps.no-exps, Exps.exps, Stat, Stat.if-then, Stat.assignment, Stat.update, Stat.construct, Stats, Stats.no-stats, Stats.stats}
+use Rattle.syntax.specs.Syntax.{Exp, Exp.binary, Exp.brackets, Exp.negation, Exp.constructor, Exp.variable, Exp.literal, Exp.null, Exp.this, Exps, Exps.no-exps}
+use Rattle.syntax.specs.Syntax.{Exps.exps, Stat, Stat.if-then, Stat.assignment, Stat.update, Stat.construct, Stats, Stats.no-stats, Stats.stats}
 use Rattle.syntax.specs.Syntax.{Par, Step, Step.step, Item, Item.execution, Item.typed-execution, Item.fixpoint, Sched, Sched.last-item, Sched.barrier}
 use Rattle.meaning.specs.Scope.{step-id}
-use Rattle.derive.specs.Roles.{Naming, Naming.new-step, Naming.new-local, Naming.first-read, Naming.first-written, Naming.later-variable, Naming.made, Naming.made-statement, Naming.called, Naming.called-struct, Naming.called-step, Part.args-open, Part.args-close, Part.no-args-close, Part.arg-comma, Part.par-comma, Part.body-open, Part.brackets-open, Part.brackets-close, Part.fix-open, Part.then-open, Part.then-close, Part.body-close, Part.fix-close, Part.barrier-sign, Role, Role.plain, Role.naming, Role.typed, Role.part, Typed.of-local, Typed.of-null}
-use Rattle.derive.specs.Roles.{roles-later, roles-var, close-of, roles-exp, roles-exps, roles-exp-list, roles-stat, roles-stats, roles-par, roles-par-list, roles-pars, roles-step, roles-steps, roles-item, roles-sched}
+use Rattle.derive.specs.Roles.{Naming, Naming.new-step, Naming.new-local, Naming.first-read, Naming.first-written, Naming.later-variable, Naming.made}
+use Rattle.derive.specs.Roles.{Naming.made-statement, Naming.called, Naming.called-struct, Naming.called-step, Part.args-open, Part.args-close}
+use Rattle.derive.specs.Roles.{Part.no-args-close, Part.arg-comma, Part.par-comma, Part.body-open, Part.brackets-open, Part.brackets-close, Part.fix-open}
+use Rattle.derive.specs.Roles.{Part.then-open, Part.then-close, Part.body-close, Part.fix-close, Part.barrier-sign, Role, Role.plain, Role.naming, Role.typed}
+use Rattle.derive.specs.Roles.{Role.part, Typed.of-local, Typed.of-null}
+use Rattle.derive.specs.Roles.{roles-later, roles-var, close-of, roles-exp, roles-exps, roles-exp-list, roles-stat, roles-stats, roles-par, roles-par-list}
+use Rattle.derive.specs.Roles.{roles-pars, roles-step, roles-steps, roles-item, roles-sched}
 use Rattle.resolve.specs.Declares.{inner, inner-name, inner-type}
 
 -- Bodies and the schedule: nothing that is asked of declarations alone changes there

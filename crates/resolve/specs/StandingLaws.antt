@@ -8,8 +8,10 @@ use mathlib.Core.Option.{Option, none, some}
 use lib.ListN.{getD, take}
 use lib.Dec.{eqb}
 use borrow.Author.Tests.{ne-eqb}
-use Rattle.tokens.specs.Tokens.{Token, Token.word, Token.sign, Token.op, Token.name, Token.int, Token.nat, letter, digit, name-byte, blank, spelling, nat-end-byte}
-use Rattle.tokens.specs.Scanning.{Front, Front.token, Front.gap, Front.nothing, span, signs, find-sign, begins, class, signed, opens, closing, after-star, comment-front, nat-front, other-front, front-of, front, added, taken, lex}
+use Rattle.tokens.specs.Tokens.{Token, Token.word, Token.sign, Token.op, Token.name, Token.int, Token.nat, letter, digit, name-byte, blank, spelling}
+use Rattle.tokens.specs.Tokens.{nat-end-byte}
+use Rattle.tokens.specs.Scanning.{Front, Front.token, Front.gap, Front.nothing, span, signs, find-sign, begins, class, signed, opens, closing, after-star}
+use Rattle.tokens.specs.Scanning.{comment-front, nat-front, other-front, front-of, front, added, taken, lex}
 use Rattle.tokens.specs.NamedLaws.{Found, Found.a-word, Found.a-name, found, plain, all-plain, signs-plain}
 use Rattle.lexer.specs.Kinds.{kind}
 use Rattle.lexer.specs.KindLaws.{kind-within}

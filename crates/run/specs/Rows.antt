@@ -23,9 +23,11 @@ use Rattle.run.specs.Entry.{of-table-image, report-of, run-report-by}
 use Rattle.run.specs.EntryStreams.{summary, begins-streams}
 use Rattle.run.specs.Rows.RowsOpen.{running}
 use Rattle.verdict.specs.Rows.{P}
-use Rattle.run.specs.Rows.RowPrograms.{P-with, once, twice, one-in-fix, local-7, both-sides, constructing, inner-fix, itself, nothing, chosen-by, along-path, leaving, cell, single, empty, cells, plain}
+use Rattle.run.specs.Rows.RowPrograms.{P-with, once, twice, one-in-fix, local-7, both-sides, constructing, inner-fix, itself, nothing, chosen-by}
+use Rattle.run.specs.Rows.RowPrograms.{along-path, leaving, cell, single, empty, cells, plain}
 use Rattle.run.specs.Rows.Swept.{plain-sum, falling-sum, swept-right, swept-fault, swept-block, block-is, first-swept, swept}
-use Rattle.run.specs.Rows.RowLaws.{each, Row, RowRight, computed, said, rows-follow, ImageRow, reports, swept-number, swept-over, images-follow, Kept, at-last, kept}
+use Rattle.run.specs.Rows.RowLaws.{each, Row, RowRight, computed, said, rows-follow, ImageRow, reports, swept-number, swept-over, images-follow, Kept}
+use Rattle.run.specs.Rows.RowLaws.{at-last, kept}
 use Rattle.run.specs.Rows.Bench.{row, ok, zeros, of-P, two}
 
 -- Runs ---------------------------------------------------------------------------------
@@ -67,7 +69,8 @@ rows =
     ∷ []
 
 rows-computed : map computed rows ≡ map said rows
-unfolding rows running program adding addings P P-with one-in-fix local-7 both-sides constructing inner-fix itself nothing chosen-by along-path cell single cells plain
+unfolding rows running program adding addings P P-with one-in-fix local-7 both-sides constructing inner-fix itself nothing chosen-by along-path cell single
+    cells plain
 rows-computed = refl
 
 -- every row is right
@@ -129,7 +132,8 @@ unfoldable pub image-rows : List ImageRow
 image-rows = rows-of (image P) (image one-cell) (block-of 1 P)
 
 images-computed : map swept-number (swept-over rows-of P one-cell) ≡ map (λ r. r .number) (swept-over rows-of P one-cell)
-unfolding swept-number running plain-sum falling-sum swept-right swept-fault swept-block first-swept swept pair-at pair index used used-part unused-part used-right zero-bytes laid-out front length-right block is-last joined stream of-image of-table-image report-of run-report-by P cell cells
+unfolding swept-number running plain-sum falling-sum swept-right swept-fault swept-block first-swept swept pair-at pair index used used-part unused-part
+    used-right zero-bytes laid-out front length-right block is-last joined stream of-image of-table-image report-of run-report-by P cell cells
 images-computed = refl
 
 program-is : image P ≡ swept-block 0 P

@@ -7,7 +7,9 @@ use lib.ListN.{length, length-append}
 use Rattle.types.specs.Limits.{max-params, max-steps}
 use Rattle.types.specs.Types.{Ty, code}
 use Rattle.blocks.specs.Images.{stream}
-use Rattle.program.specs.Tree.{Expr, Expr.inv, Expr.make, Expr.path, Expr.int-lit, Expr.nat-lit, Expr.bool-lit, Expr.null, Expr.self, Expr.op, Exprs, Exprs.none, Exprs.more, Stmt, Stmt.when, Stmt.declare, Stmt.update, Stmt.create, Stmts, Stmts.end, Stmts.next, Item, Item.call, Item.call-in, Item.fix, Items, Items.stop, Items.item, Step, Program, size, items}
+use Rattle.program.specs.Tree.{Expr, Expr.inv, Expr.make, Expr.path, Expr.int-lit, Expr.nat-lit, Expr.bool-lit, Expr.null, Expr.self, Expr.op, Exprs}
+use Rattle.program.specs.Tree.{Exprs.none, Exprs.more, Stmt, Stmt.when, Stmt.declare, Stmt.update, Stmt.create, Stmts, Stmts.end, Stmts.next, Item, Item.call}
+use Rattle.program.specs.Tree.{Item.call-in, Item.fix, Items, Items.stop, Items.item, Step, Program, size, items}
 use Rattle.program.specs.Encoding.{enc-list, flat, enc-path, enc-expr, enc-exprs, enc-stmt, enc-stmts, enc-item, enc-items, enc-step, enc-program}
 use Rattle.program.specs.Counts.{All, Few, Counts}
 use Rattle.program.specs.Laws.ProgramLaws.{program-law}

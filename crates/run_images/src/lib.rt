@@ -87,7 +87,8 @@ fn played(
 ) -> Ran
     requires { ⌜ Seating (now s) (now counts) seat (now heads) (now cells) ⌝ }
     requires { ⌜ max-commands ≤ length (now list) ⌝ }
-    ensures { λ r. ⌜ Plays (now (s .entry)) (now (counts .entry)) seat (now (heads .entry)) (now (cells .entry)) (now (turns .entry)) (now (list .entry)) r (now (heads .exit)) (now (cells .exit)) (now (list .exit)) ⌝ }
+    ensures { λ r. ⌜ Plays (now (s .entry)) (now (counts .entry)) seat (now (heads .entry)) (now (cells .entry)) (now (turns .entry)) (now (list .entry)) r
+        (now (heads .exit)) (now (cells .exit)) (now (list .exit)) ⌝ }
 {
     let mut spans = [0u16; SPANS];
     let mut items = [0usize; CODES];
@@ -110,8 +111,11 @@ fn reported(
     requires { ⌜ Filled (now counts) (now heads) (now cells) (ran .machine .numbers .count) ⌝ }
     requires { ⌜ (length (now counts) ≤ ran .machine .numbers .count) × (ran .taken ≤ max-turns) × (ran .machine .numbers .holding ≤ max-instances) ⌝ }
     requires { ⌜ (payload-size * table-blocks ≤ length (now buffer)) × (block-size * table-blocks ≤ length (now output)) ⌝ }
-    ensures { λ r. ⌜ r ≡ answer (report (ran .number) (ran .taken) (memory-blocks (now (counts .entry)) (now (heads .entry)) (now (cells .entry)) (ran .machine .numbers .count)) depth (ran .machine .numbers .holding)) ⌝ }
-    ensures { λ _. ⌜ now (output .exit) ≡ memory-image (now (counts .entry)) (now (heads .entry)) (now (cells .entry)) (ran .machine .numbers .count) (now (output .entry)) ⌝ }
+    ensures { λ r. ⌜ r ≡ answer (report (ran .number) (ran .taken)
+        (memory-blocks (now (counts .entry)) (now (heads .entry)) (now (cells .entry)) (ran .machine .numbers .count)) depth
+        (ran .machine .numbers .holding)) ⌝ }
+    ensures { λ _. ⌜ now (output .exit) ≡ memory-image (now (counts .entry)) (now (heads .entry)) (now (cells .entry)) (ran .machine .numbers .count)
+        (now (output .entry)) ⌝ }
 {
     let last = ran.machine;
     let count = last.numbers.count;
@@ -199,7 +203,8 @@ pub fn run(
     list: &mut [u64],
 ) -> Report
     ensures { λ r. ⌜ r ≡ answer (run-report (now (program .entry)) (now (table .entry)) (now (turns .entry)) (now (output .entry)) (now (list .entry))) ⌝ }
-    ensures { λ _. ⌜ now (output .exit) ≡ run-output (now (program .entry)) (now (table .entry)) (now (turns .entry)) (now (output .entry)) (now (list .entry)) ⌝ }
+    ensures { λ _. ⌜ now (output .exit) ≡ run-output (now (program .entry)) (now (table .entry)) (now (turns .entry)) (now (output .entry))
+        (now (list .entry)) ⌝ }
     ensures { λ _. ⌜ now (list .exit) ≡ run-list (now (program .entry)) (now (table .entry)) (now (turns .entry)) (now (output .entry)) (now (list .entry)) ⌝ }
 {
     let mut stream = [0u8; SHORT];

@@ -34,7 +34,8 @@ use Rattle.meaning.specs.Holds.{Holds}
 use Rattle.meaning.specs.Nesting.{Shallow}
 use Rattle.meaning.specs.NestingLaws.{counts-split}
 use Rattle.meaning.specs.HoldsDecide.{holds, decides-holds}
-use Rattle.source.specs.Source.{max-text, no-derivation, no-program, Derived, Reading, NoTokens, NoDerivation, NoProgram, ShortOutput, text-order, Outcome, Outcome.written, Outcome.refused, output-of}
+use Rattle.source.specs.Source.{max-text, no-derivation, no-program, Derived, Reading, NoTokens, NoDerivation, NoProgram, ShortOutput, text-order}
+use Rattle.source.specs.Source.{Outcome, Outcome.written, Outcome.refused, output-of}
 use Rattle.source.specs.TextReader.{of-room, of-held, of-program, of-derivation, of-tokens, of-length, outcome, text-output}
 
 -- One reading --------------------------------------------------------------------------------

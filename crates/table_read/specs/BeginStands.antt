@@ -134,7 +134,8 @@ module _ (p : Program) (counts : Counts p) where
           }
 
   -- the null instances and the records of a table
-  nulls-shown : (k : ℕ) (pss : List (List Ty)) → ((j : ℕ) → j < length pss → params-of p (k + j) ≡ getD pss j []) → All (Shown (types-table (p .params))) (null-records k pss)
+  nulls-shown : (k : ℕ) (pss : List (List Ty)) → ((j : ℕ) → j < length pss → params-of p (k + j) ≡ getD pss j [])
+      → All (Shown (types-table (p .params))) (null-records k pss)
   unfolding null-records
   nulls-shown k [] f = tt
   nulls-shown k (ps ∷ pss) f =
@@ -187,7 +188,8 @@ module _ (p : Program) (counts : Counts p) where
     -- a held table, laid in memory of any contents, stands for the machine that a run begins with
     pub laid-stands : (rs : List Record) → HeldTable (p .params) rs
         → Stands list P (begin p rs)
-        (beginning (structs p + length rs) a (heads-laid h 0 (all-records (p .params) rs)) (rows-laid (types-table (p .params)) c 0 (all-records (p .params) rs)))
+        (beginning (structs p + length rs) a (heads-laid h 0 (all-records (p .params) rs))
+        (rows-laid (types-table (p .params)) c 0 (all-records (p .params) rs)))
     unfolding begin HeldTable
     laid-stands rs o =
         let n : length (null-records 0 (p .params)) ≡ structs p = nulls-length 0 (p .params) in

@@ -16,7 +16,8 @@ use Rattle.text.specs.CommandText.{shown, command-text}
 use Rattle.text.specs.Rows.{bytes, line-bytes}
 use Rattle.trace.specs.Trace.{move-line, moves-by, moves, turn-line, turn-lines, trace}
 use Rattle.trace.specs.LineText.{tagged-text, stack-text, bits, stability-text, step-name, step-size, position, next-text, change-text, param-text}
-use Rattle.trace.specs.LineText.{target-text, flat-writes, written-text, columns, front-text, acted-text, line-text, step-behind, turn-behind, lines-text, end-text}
+use Rattle.trace.specs.LineText.{target-text, flat-writes, written-text, columns, front-text, acted-text, line-text, step-behind, turn-behind, lines-text}
+use Rattle.trace.specs.LineText.{end-text}
 use Rattle.trace.specs.TraceText.{end-of, run-text, begun-text}
 
 -- streams and turn bytes; the lines
@@ -85,5 +86,7 @@ trace-rows =
 -- every row's streams have its lines
 pub trace-rows-right : map (λ r. begun-text (begins-streams (r .program) (r .table) (r .turns)) (r .turns)) trace-rows
     ≡ map (λ r. line-bytes (r .lines)) trace-rows
-unfolding trace-rows running program adding addings P one-in-fix cell single cells erase digits decimal column tail row shown command-text bytes line-bytes move-line moves-by moves turn-line turn-lines trace tagged-text stack-text bits stability-text step-name step-size position next-text change-text param-text target-text flat-writes written-text columns front-text acted-text line-text step-behind turn-behind lines-text end-text end-of run-text begun-text
+unfolding trace-rows running program adding addings P one-in-fix cell single cells erase digits decimal column tail row shown command-text bytes line-bytes
+    move-line moves-by moves turn-line turn-lines trace tagged-text stack-text bits stability-text step-name step-size position next-text change-text param-text
+    target-text flat-writes written-text columns front-text acted-text line-text step-behind turn-behind lines-text end-text end-of run-text begun-text
 trace-rows-right = refl

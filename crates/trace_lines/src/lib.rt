@@ -103,7 +103,8 @@ fn columns(out: &mut [u8], k: usize, a: u64, b: u64, c: u64) -> usize
 // The line up to the stack.
 fn front(out: &mut [u8], f: Acting) -> usize
     requires { ⌜ front-most ≤ length (now out) ⌝ }
-    ensures { λ r. ⌜ Placed (front-text (f .taken) (f .byte) (f .label) (f .structure) (f .step) (f .position) (text (f .word))) (now (out .entry)) 0 r (now (out .exit)) ⌝ }
+    ensures { λ r. ⌜ Placed (front-text (f .taken) (f .byte) (f .label) (f .structure) (f .step) (f .position) (text (f .word))) (now (out .entry)) 0 r
+        (now (out .exit)) ⌝ }
     ensures { λ r. ⌜ r ≤ front-most ⌝ }
 {
     let a = columns(out, 0, f.taken as u64, f.byte as u64, f.label as u64);
@@ -124,7 +125,8 @@ fn back(
 ) -> usize
     requires { ⌜ BackFits (now heads) (now cells) l w (numbers .fixes) ⌝ }
     requires { ⌜ k + back-most ≤ length (now out) ⌝ }
-    ensures { λ r. ⌜ Placed (back-text (now (heads .entry)) (now (cells .entry)) l w (numbers .fixes) (numbers .stable)) (now (out .entry)) k r (now (out .exit)) ⌝ }
+    ensures { λ r. ⌜ Placed (back-text (now (heads .entry)) (now (cells .entry)) l w (numbers .fixes) (numbers .stable)) (now (out .entry)) k r
+        (now (out .exit)) ⌝ }
     ensures { λ r. ⌜ r ≤ k + back-most ⌝ }
 {
     let a = stack(out, k, heads, cells, l);
@@ -146,8 +148,11 @@ pub fn turn(
 ) -> Told
     requires { ⌜ Turnable (now counts) (now list) (now spans) (turn .step) (state-of (turn .machine .numbers) (now heads) (now cells)) ⌝ }
     requires { ⌜ line-most ≤ length (now out) ⌝ }
-    ensures { λ r. ⌜ state-of (r .machine .numbers) (now (heads .exit)) (now (cells .exit)) ≡ act (now (list .entry)) (now (counts .entry)) (picked (now (heads .entry)) (turn .machine .numbers .count) (turn .byte)) (state-of (turn .machine .numbers) (now (heads .entry)) (now (cells .entry))) ⌝ }
-    ensures { λ r. ⌜ TurnTold (now (counts .entry)) (now (list .entry)) (now (spans .entry)) turn (state-of (turn .machine .numbers) (now (heads .entry)) (now (cells .entry))) (r .length) (now (out .exit)) ⌝ }
+    ensures { λ r. ⌜ state-of (r .machine .numbers) (now (heads .exit)) (now (cells .exit)) ≡ act (now (list .entry)) (now (counts .entry))
+        (picked (now (heads .entry)) (turn .machine .numbers .count) (turn .byte))
+        (state-of (turn .machine .numbers) (now (heads .entry)) (now (cells .entry))) ⌝ }
+    ensures { λ r. ⌜ TurnTold (now (counts .entry)) (now (list .entry)) (now (spans .entry)) turn
+        (state-of (turn .machine .numbers) (now (heads .entry)) (now (cells .entry))) (r .length) (now (out .exit)) ⌝ }
     ensures { λ r. ⌜ r .length ≤ line-most ⌝ }
 {
     let machine = turn.machine;
@@ -217,8 +222,10 @@ pub fn advance(
     requires { ⌜ Movable (now items) (now spans) (now heads) (machine .numbers) ⌝ }
     requires { ⌜ (machine .numbers .fixes ≤ fix-levels) × (line-most ≤ length (now out)) ⌝ }
     requires { ⌜ step < step-names ⌝ }
-    ensures { λ r. ⌜ ((cells : List ℕ) → state-of (r .machine .numbers) (now (heads .exit)) cells ≡ move (now (items .entry)) (now (spans .entry)) (state-of (machine .numbers) (now (heads .entry)) cells)) ⌝ }
-    ensures { λ r. ⌜ ((cells : List ℕ) → MoveTold (now (items .entry)) (now (spans .entry)) step (state-of (machine .numbers) (now (heads .entry)) cells) (r .step) (r .length) (now (out .exit))) ⌝ }
+    ensures { λ r. ⌜ ((cells : List ℕ) → state-of (r .machine .numbers) (now (heads .exit)) cells ≡ move (now (items .entry)) (now (spans .entry))
+        (state-of (machine .numbers) (now (heads .entry)) cells)) ⌝ }
+    ensures { λ r. ⌜ ((cells : List ℕ) → MoveTold (now (items .entry)) (now (spans .entry)) step (state-of (machine .numbers) (now (heads .entry)) cells)
+        (r .step) (r .length) (now (out .exit))) ⌝ }
     ensures { λ r. ⌜ (r .step < step-names) × (r .length ≤ line-most) ⌝ }
 {
     let numbers = machine.numbers;

@@ -12,7 +12,8 @@ use Rattle.types.specs.Types.{Ty, Ty.int, Ty.nat, Ty.bool, Ty.ref, code}
 use Rattle.types.specs.Values.{Val}
 use Rattle.program.specs.Tree.{Program}
 use Rattle.commands.specs.Coding.{coded, com-word, command-word}
-use Rattle.commands.specs.Noted.{Note, Note.n-push, Note.n-this, Note.n-not, Note.n-rd, Note.n-wr, Note.n-get, Note.n-set, Note.n-cons, Note.n-op, Note.n-if, erase, now-written}
+use Rattle.commands.specs.Noted.{Note, Note.n-push, Note.n-this, Note.n-not, Note.n-rd, Note.n-wr, Note.n-get, Note.n-set, Note.n-cons, Note.n-op, Note.n-if}
+use Rattle.commands.specs.Noted.{erase, now-written}
 use Rattle.machine.specs.Published.{Sched}
 use Rattle.machine.specs.Machine.{Instance, Machine, with-written, Out, Out.next, Out.refused, Out.stuck, command, perform as machine-perform}
 use Rattle.run.specs.Holders.{holds-code}

@@ -41,7 +41,8 @@ module _ (items spans : List ℕ) (z : State) where
   round-ends t e b = move-round t e ∙ (rw (eq-eqb (z .machine .stable % 2) 1 b, do-round))
 
   -- and goes round where it is false
-  pub round-again : (t : ℕ) → getD items (z .machine .place) 0 ≡ round-code t → z .machine .stable % 2 ≡ 0 → move items spans z ≡ moved z t (z .machine .fixes) (suc (z .machine .stable))
+  pub round-again : (t : ℕ) → getD items (z .machine .place) 0 ≡ round-code t → z .machine .stable % 2 ≡ 0
+      → move items spans z ≡ moved z t (z .machine .fixes) (suc (z .machine .stable))
   unfolding do-round
   round-again t e b = move-round t e ∙ (rw (ne-eqb (z .machine .stable % 2) 1 (omega arith), do-round))
 

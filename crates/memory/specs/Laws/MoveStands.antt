@@ -14,7 +14,8 @@ use Rattle.program.specs.Tree.{Stmts, Program}
 use Rattle.commands.specs.Coding.{words}
 use Rattle.commands.specs.Context.{context, step-of}
 use Rattle.commands.specs.Laws.NotedLaws.{erased}
-use Rattle.machine.specs.Published.{StepCall, StepCall.global, StepCall.local, called, Sched, Sched.done, Sched.start, Sched.fixpoint, Sched.active, before, structs}
+use Rattle.machine.specs.Published.{StepCall, StepCall.global, StepCall.local, called, Sched, Sched.done, Sched.start, Sched.fixpoint, Sched.active, before}
+use Rattle.machine.specs.Published.{structs}
 use Rattle.machine.specs.Machine.{Instance, Machine, Moved, Moved.next, Moved.stuck, machine, given, started, repeat, move-by, move}
 use Rattle.sound.specs.Invariant.{Open}
 use Rattle.sound.specs.Laws.MoveKept.{active-open}
@@ -25,7 +26,8 @@ use Rattle.memory.specs.Stands.{bits, Held, Stands}
 use Rattle.memory.specs.Plan.{start-code, RangedCall, from, to, Spans, Located, At}
 use Rattle.memory.specs.Laws.PlanLaws.{code-below, past-start, past-fix, past-round}
 use Rattle.memory.specs.Move.{means, begin-one, begin-all, do-start, move as move-on}
-use Rattle.memory.specs.Laws.BeginLaws.{Same, begun-struct, begun-height, begun-next, begun-end, one-begins, one-stays, one-length, one-others, all-length}
+use Rattle.memory.specs.Laws.BeginLaws.{Same, begun-struct, begun-height, begun-next, begun-end, one-begins, one-stays, one-length, one-others}
+use Rattle.memory.specs.Laws.BeginLaws.{all-length}
 use Rattle.memory.specs.Laws.MoveLaws.{move-start, fix-begins, round-ends, round-again}
 use Rattle.memory.specs.Laws.HeldLaws.{held-numbers}
 use Rattle.memory.specs.Laws.StandsLaws.{holding-stands}
@@ -73,7 +75,8 @@ module _ (p : Program) (list spans : List ℕ) (located : Located p list spans) 
     stays-held : begin-one spans c (z .heads) l ≡ z .heads → Held list (with-heads z (begin-one spans c (z .heads) l)) l i
     stays-held q = rw q H
 
-    given-held : means c (i .struct) ≡ true → (o : Option Stmts) → Spans list begin-at end-at o → Held list (with-heads z (begin-one spans c (z .heads) l)) l (given p o i)
+    given-held : means c (i .struct) ≡ true → (o : Option Stmts) → Spans list begin-at end-at o
+        → Held list (with-heads z (begin-one spans c (z .heads) l)) l (given p o i)
     unfolding given
     given-held m none s = stays-held (one-stays spans c (z .heads) l (H .struct) (rw (m, lt-leb begin-at end-at s)))
     given-held m (some b) s =
@@ -111,7 +114,8 @@ module _ (p : Program) (list spans : List ℕ) (located : Located p list spans) 
       (λ k i g q. begun-now k i g q (ltb k l) refl)
       (λ k i g q. held-same (high k i g (omega arith)) (begin-one spans c (z .heads) l) (one-others spans c (z .heads) l k (omega arith)))
     where
-      begun-now : (k : ℕ) (i : Instance) → getElem? is k ≡ some i → k < suc l → (t : Bool) → ltb k l ≡ t → Held list (with-heads z (begin-one spans c (z .heads) l)) k (begin-inst p c i)
+      begun-now : (k : ℕ) (i : Instance) → getElem? is k ≡ some i → k < suc l → (t : Bool) → ltb k l ≡ t
+          → Held list (with-heads z (begin-one spans c (z .heads) l)) k (begin-inst p c i)
       begun-now k i g q true t =
           let r = ltb-true k l t in
           held-same (low k i g r) (begin-one spans c (z .heads) l) (one-others spans c (z .heads) l k (omega arith))
@@ -192,7 +196,8 @@ module _ {list items : List ℕ} {q : Sched} {is : List Instance} {b : List Bool
         held =
             let n = S .counted in
             let w = S .few in
-            all-held p list spans located c is known (moved z (suc (z .machine .place)) (z .machine .fixes) (z .machine .stable)) 0 (z .machine .count) (S .heads-long) (omega arith) (omega arith)
+            all-held p list spans located c is known (moved z (suc (z .machine .place)) (z .machine .fixes) (z .machine .stable)) 0 (z .machine .count)
+            (S .heads-long) (omega arith) (omega arith)
             (λ k i g h. absurd (omega arith)) (λ k i g h. held-numbers (S .each k i g))
 
     -- and the instances that hold commands are counted

@@ -17,8 +17,10 @@ use Rattle.run.specs.Turns.{chosen}
 use Rattle.run.specs.Holders.{holders, due}
 use Rattle.run.specs.Laws.TurnLaws.{due-none, due-some, some-due}
 use Rattle.machine.specs.Stops.{ended}
-use Rattle.run.specs.Run.{Outcome, Outcome.stopped, Outcome.jammed, later, Settled, Settled.hold, Settled.stop, is-done, moved, settle-by, settle, fuel, taken, turn, at-last, run}
-use Rattle.run.specs.Laws.Settles.{Settles, Settles.holds, Settles.ends, Settles.sticks, Settles.moves, Rests, Rests.ends as at-rest, Rests.lasts, Rests.fails, Jams.sticks as stuck-at, Jams.jams, Ran, Ran.rests, Ran.stays}
+use Rattle.run.specs.Run.{Outcome, Outcome.stopped, Outcome.jammed, later, Settled, Settled.hold, Settled.stop, is-done, moved, settle-by, settle, fuel}
+use Rattle.run.specs.Run.{taken, turn, at-last, run}
+use Rattle.run.specs.Laws.Settles.{Settles, Settles.holds, Settles.ends, Settles.sticks, Settles.moves, Rests, Rests.ends as at-rest, Rests.lasts}
+use Rattle.run.specs.Laws.Settles.{Rests.fails, Jams.sticks as stuck-at, Jams.jams, Ran, Ran.rests, Ran.stays}
 use Rattle.run.specs.Steps.{Steps, Steps.here, Steps.silent, Steps.reads}
 use Rattle.run.specs.Visits.{Acts, Acts.moves as acts-move, Acts.takes as acts-take}
 

@@ -10,7 +10,8 @@ use lib.ListN.{length, drop, replicate}
 use lib.IntN.{pos}
 use Rattle.types.specs.Types.{Ty.int, Ty.bool, Ty.ref}
 use Rattle.types.specs.Values.{Val.int-val, Val.bool-val, Val.label}
-use Rattle.program.specs.Tree.{Var.par, Expr.path, Expr.int-lit, Expr.bool-lit, Expr.self, Exprs.none, Exprs.more, Stmt.when, Stmt.update, Stmt.create, Stmts, Stmts.end, Stmts.next, Item.call, Item.fix, Items.stop, Items.item, Program, args, size, items}
+use Rattle.program.specs.Tree.{Var.par, Expr.path, Expr.int-lit, Expr.bool-lit, Expr.self, Exprs.none, Exprs.more, Stmt.when, Stmt.update, Stmt.create, Stmts}
+use Rattle.program.specs.Tree.{Stmts.end, Stmts.next, Item.call, Item.fix, Items.stop, Items.item, Program, args, size, items}
 use Rattle.program.specs.Encoding.{enc-path, enc-expr, enc-exprs, enc-stmt, enc-stmts, enc-item, enc-items, enc-step, enc-program}
 use Rattle.program.specs.Reader.{Result.ok, read}
 use Rattle.program.specs.Laws.ProgramLaws.{program-law}
@@ -100,7 +101,8 @@ unfolding running onward act-on after
 goes-in = (turn-at settling start-machine turns 10 2 refl refl refl, refl, refl)
 
 -- the null instance leaves it out
-pub leaves-out : (t : Taken 0 (n-if 6)) × (stack-at (t .before) 0 ≡ some (tagged bool (bool-val false) ∷ [])) × (code-at (t .behind) 0 ≡ some (drop 6 (t .rest)))
+pub leaves-out : (t : Taken 0 (n-if 6)) × (stack-at (t .before) 0 ≡ some (tagged bool (bool-val false) ∷ []))
+    × (code-at (t .behind) 0 ≡ some (drop 6 (t .rest)))
 unfolding running onward act-on after
 leaves-out = (turn-at settling start-machine turns 4 0 refl refl refl, refl, refl)
 

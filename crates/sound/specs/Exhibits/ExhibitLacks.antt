@@ -10,7 +10,8 @@ use lib.ListN.{length, getElem?, replicate}
 use lib.IntN.{pos}
 use Rattle.types.specs.Types.{Ty.int, Ty.bool, Ty.ref}
 use Rattle.types.specs.Values.{Val, Val.int-val, Val.bool-val, Val.label}
-use Rattle.program.specs.Tree.{Var.par, Var.loc, Op.op-add, Expr.inv, Expr.path, Expr.int-lit, Expr.bool-lit, Expr.op, Stmt.when, Stmt.declare, Stmt.update, Stmts, Stmts.end, Stmts.next, Item.call, Items.stop, Items.item, Program, args, size, items}
+use Rattle.program.specs.Tree.{Var.par, Var.loc, Op.op-add, Expr.inv, Expr.path, Expr.int-lit, Expr.bool-lit, Expr.op, Stmt.when, Stmt.declare, Stmt.update}
+use Rattle.program.specs.Tree.{Stmts, Stmts.end, Stmts.next, Item.call, Items.stop, Items.item, Program, args, size, items}
 use Rattle.program.specs.Counts.{Counts}
 use Rattle.program.specs.Encoding.{enc-path, enc-expr, enc-exprs, enc-stmt, enc-stmts, enc-item, enc-items, enc-step, enc-program}
 use Rattle.program.specs.Reader.{Result.ok, read}

@@ -16,13 +16,15 @@ use Rattle.types.specs.Values.{Val, Val.bool-val, Val.label}
 use Rattle.program.specs.Tree.{Op, Program}
 use Rattle.commands.specs.Context.{Ctx, params-of, typ}
 use Rattle.commands.specs.Typing.{sort, Takes}
-use Rattle.commands.specs.Noted.{Note, Note.n-push, Note.n-this, Note.n-not, Note.n-rd, Note.n-wr, Note.n-get, Note.n-set, Note.n-cons, Note.n-op, Note.n-if, noted, now-written}
+use Rattle.commands.specs.Noted.{Note, Note.n-push, Note.n-this, Note.n-not, Note.n-rd, Note.n-wr, Note.n-get, Note.n-set, Note.n-cons, Note.n-op, Note.n-if}
+use Rattle.commands.specs.Noted.{noted, now-written}
 use Rattle.table.specs.Table.{Each}
 use Rattle.operators.specs.Apply.{Answer, Answer.value, Answer.outside, Answer.unfit, apply}
 use Rattle.operators.specs.Ranges.{Fits as Answers}
 use Rattle.operators.specs.RangesLaws.{apply-fits}
 use Rattle.machine.specs.Published.{StepCall, structs, arity}
-use Rattle.machine.specs.Machine.{Tagged, tagged, Source.variable, Source.local, Source.result, given-by, Instance, Machine, with-written, put, write-to, operated, perform, command-of, command-at, command}
+use Rattle.machine.specs.Machine.{Tagged, tagged, Source.variable, Source.local, Source.result, given-by, Instance, Machine, with-written, put, write-to}
+use Rattle.machine.specs.Machine.{operated, perform, command-of, command-at, command}
 use Rattle.machine.specs.Stops.{full, exceeded}
 use Rattle.run.specs.Begin.{resting}
 use Rattle.commands.specs.Tags.{Tags, Top, Asks, stack-after, next as leads, at-start, Way, Way.on, Way.over, result-type}
@@ -35,7 +37,8 @@ use Rattle.commands.specs.Laws.StaticParts.{result-of}
 use Rattle.sound.specs.Laws.SizedLaws.{lasting-of}
 use Rattle.sound.specs.Laws.ValueLaws.{bool-value, label-value, ranges, result-of-type}
 use Rattle.sound.specs.Firm.{Firm}
-use Rattle.sound.specs.Laws.PassageLaws.{holder-passage, ctx, here, tops, top-one, top-two, own-top, local-value, asks, kept-next, kept-past, Living-on, next-sized, way-at}
+use Rattle.sound.specs.Laws.PassageLaws.{holder-passage, ctx, here, tops, top-one, top-two, own-top, local-value, asks, kept-next, kept-past, Living-on}
+use Rattle.sound.specs.Laws.PassageLaws.{next-sized, way-at}
 use Rattle.sound.specs.Laws.Outcomes.{negated, branched, operates, has-read, leaves-null, writes-param, writes-local, constructs, finds-full}
 use Rattle.sound.specs.Laws.Advance.{Kept, after, advance, locals-kept, good-put, goes-on}
 use Rattle.sound.specs.Laws.WriteKept.{param-kept, local-kept-good}
@@ -68,7 +71,8 @@ module _ {p : Program} (firm : Firm p) {m : Machine} (good : Good p m) {a : Step
   pushes : (t : Ty) (v : Val) → Goes (n-push t v)
   unfolding perform now-written
   pushes t v e =
-      goes-on good runs l i at (n-push t v) c (tagged t v ∷ i .stack) g (on (way-at g firm (n-push t v) c e)) (kept-next g firm (n-push t v) c e) refl refl (t ∷ g .place .stack) refl
+      goes-on good runs l i at (n-push t v) c (tagged t v ∷ i .stack) g (on (way-at g firm (n-push t v) c e)) (kept-next g firm (n-push t v) c e) refl refl
+      (t ∷ g .place .stack) refl
       ((refl, lasting-of p (m .instances) (good .all .nulls) (next-sized g firm (n-push t v) c e)), g .stacked)
 
   pushes-this : Goes n-this
@@ -76,7 +80,8 @@ module _ {p : Program} (firm : Firm p) {m : Machine} (good : Good p m) {a : Step
   pushes-this e =
       let x = tagged (ref (i .struct)) (label l) in
       good-put good runs l i at n-this c (x ∷ i .stack) (λ k.
-      advance g n-this (on (way-at g firm n-this c e)) (kept-next g firm n-this c e) (set (m .instances) l (after i n-this c (x ∷ i .stack) (i .env))) (ref (i .struct) ∷ g .place .stack) refl (x ∷ i .stack) (
+      advance g n-this (on (way-at g firm n-this c e)) (kept-next g firm n-this c e) (set (m .instances) l (after i n-this c (x ∷ i .stack) (i .env)))
+      (ref (i .struct) ∷ g .place .stack) refl (x ∷ i .stack) (
         (refl, of-kept k (ref (i .struct)) (label l) (i, at, refl)),
         each-map (fits-kept k) (g .place .stack) (i .stack) (g .stacked),
       )
@@ -127,7 +132,8 @@ module _ {p : Program} (firm : Firm p) {m : Machine} (good : Good p m) {a : Step
       param-holds (m .instances) (params-of p (j .struct)) (firm .few (j .struct)) v b′ (j .env) (good .all .each t j at′ .fitted) in
       subst (Kept p Refused)
       (sym (has-read p m l (acting (n-rd k v)) c v (λ d. variable d v) (s ∙ ap (λ u. tagged (x .by) u ∷ χ) q) at′ z))
-      (goes-on good runs l i at (n-rd k v) c (tagged (given-by p (variable (j .struct) v)) y ∷ χ) g (on (way-at g firm (n-rd k v) c e)) (kept-next g firm (n-rd k v) c e) refl refl
+      (goes-on good runs l i at (n-rd k v) c (tagged (given-by p (variable (j .struct) v)) y ∷ χ) g (on (way-at g firm (n-rd k v) c e))
+      (kept-next g firm (n-rd k v) c e) refl refl
       (typ (ctx g) k v ∷ h)
       (ap (stack-after (ctx g) (n-rd k v)) a)
       ((ap (λ d. getD (params-of p d) v int) w, subst (λ d. ValueAmong (m .instances) (getD (params-of p d) v int) y) w o), r))
@@ -176,7 +182,8 @@ module _ {p : Program} (firm : Firm p) {m : Machine} (good : Good p m) {a : Step
       let few = firm .few (i .struct) in
       let beyond = le-ltb (first-local + v) (arity p (i .struct)) (omega arith) in
       subst (Kept p Refused) (sym (writes-local p m l (acting n) c (first-local + v) s′ at beyond))
-      (local-kept-good firm m l i at good runs g d t v (next-sized g firm n c e) b c (on (way-at g firm n c e)) (kept-next g firm n c e) h (ap (stack-after (ctx g) n) a) χ r (x .is) _
+      (local-kept-good firm m l i at good runs g d t v (next-sized g firm n c e) b c (on (way-at g firm n c e)) (kept-next g firm n c e) h
+      (ap (stack-after (ctx g) n) a) χ r (x .is) _
       (f′ .1))
 
   constructs-one : (k : ℕ) → Goes (n-cons k)
@@ -223,7 +230,8 @@ module _ {p : Program} (firm : Firm p) {m : Machine} (good : Good p m) {a : Step
           → (w : Answer) → apply o (x .is) (y .is) ≡ w → Answers u w
           → Kept p Refused (operated p m l (acting (n-op o)) c χ (result o (x .by)) w)
       go t u k h a y x χ s b r (value v) q z =
-          goes-on good runs l i at (n-op o) c (tagged (result-type (sort o) (x .by)) v ∷ χ) g (on (way-at g firm (n-op o) c e)) (kept-next g firm (n-op o) c e) refl refl
+          goes-on good runs l i at (n-op o) c (tagged (result-type (sort o) (x .by)) v ∷ χ) g (on (way-at g firm (n-op o) c e))
+          (kept-next g firm (n-op o) c e) refl refl
           (result-type (sort o) t ∷ h)
           (ap (stack-after (ctx g) (n-op o)) a)
           ((ap (result-type (sort o)) b, subst (λ d. ValueAmong (m .instances) d v) (result-of k) (result-of-type (m .instances) k z)), r)

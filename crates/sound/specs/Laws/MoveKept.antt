@@ -13,7 +13,8 @@ use Rattle.machine.specs.Machine.{Instance, Machine, Moved, Moved.next, Moved.s
 use Rattle.machine.specs.CallLaws.{called-step}
 use Rattle.machine.specs.RepresentsLaws.{Still}
 use Rattle.commands.specs.Tags.{at-start, Way.start as begins}
-use Rattle.sound.specs.Invariant.{Place, Place.resting, Place.passing, GoodInst, GoodAll, Good, Unbegun, Open, Open.open-start, Open.open-fix, Open.open-active}
+use Rattle.sound.specs.Invariant.{Place, Place.resting, Place.passing, GoodInst, GoodAll, Good, Unbegun, Open, Open.open-start, Open.open-fix}
+use Rattle.sound.specs.Invariant.{Open.open-active}
 use Rattle.sound.specs.Started.{Left, Left.past, Left.into, Left.again, Left.out}
 use Rattle.sound.specs.Laws.Keeps.{Keeps}
 use Rattle.sound.specs.Laws.ElemLaws.{none-some, at-map, map-at, all-elem}

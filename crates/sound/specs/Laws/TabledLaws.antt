@@ -19,8 +19,11 @@ use Rattle.commands.specs.Context.{params-of}
 use Rattle.commands.specs.Noted.{Note, Note.n-cons, now-written}
 use Rattle.table.specs.Table.{Record, HeldRecord, HeldTable, TableRight}
 use Rattle.machine.specs.Published.{StepCall, called, Sched, Sched.done, Sched.start, Sched.fixpoint, Sched.active, Env, Env.env, assign, structs}
-use Rattle.machine.specs.Machine.{Instance, Machine, Out, Out.next, Out.refused, Out.stuck, Moved, Moved.next, Moved.stuck, with-code, with-env, with-written, update-env, given, started, repeat, move-by, command}
-use Rattle.machine.specs.Performed.{Performed, Performed.pushed, Performed.pushed-this, Performed.negated, Performed.read-one, Performed.skipped, Performed.wrote, Performed.calculated, Performed.exceeding, Performed.constructed, Performed.filled, Performed.branched, Performed.no-way}
+use Rattle.machine.specs.Machine.{Instance, Machine, Out, Out.next, Out.refused, Out.stuck, Moved, Moved.next, Moved.stuck, with-code, with-env, with-written}
+use Rattle.machine.specs.Machine.{update-env, given, started, repeat, move-by, command}
+use Rattle.machine.specs.Performed.{Performed, Performed.pushed, Performed.pushed-this, Performed.negated, Performed.read-one, Performed.skipped}
+use Rattle.machine.specs.Performed.{Performed.wrote, Performed.calculated, Performed.exceeding, Performed.constructed, Performed.filled, Performed.branched}
+use Rattle.machine.specs.Performed.{Performed.no-way}
 use Rattle.machine.specs.PerformedLaws.{by-ways}
 use Rattle.run.specs.Turns.{chosen}
 use Rattle.run.specs.Holders.{holders}
@@ -180,7 +183,8 @@ acts-tabled {p} firm {m} (moves h e) g t = subst (Moves-to p) e (move-tabled p (
 acts-tabled {p} firm {m} (takes {e = e} q c) g t = subst (Comes-to p) c (command-tabled firm g t (chosen (holders m) e))
 
 -- so it is in every machine that a run passes through
-pub visits-tabled : {p : Program} → Firm p → {m z : Machine} {es fs : List ℕ} → Good p m → Tabled p (m .instances) → Visits p m es z fs → Tabled p (z .instances)
+pub visits-tabled : {p : Program} → Firm p → {m z : Machine} {es fs : List ℕ} → Good p m → Tabled p (m .instances) → Visits p m es z fs
+    → Tabled p (z .instances)
 visits-tabled {p} firm g t (n, v) =
     steps-keep (λ x. Good p x × Tabled p (x .instances)) (λ m z a s (h, k). (acts-good firm s h, acts-tabled firm s h k)) v (g, t) .1
 

@@ -3,7 +3,8 @@ use borrow.Author.Needs.{needs}
 use native.Mathlib.Omega.{arith}
 use mathlib.Core.Path.{_≡_}
 use Rattle.trace_lines.specs.PartsLaws.{fit-rows}
-use Rattle.trace_lines.specs.TellLaws.{turnable-rows, turnable-few, turnable-fit, turnable-fits, turnable-row, turnable-spans, picked-refused, picked-back, picked-told}
+use Rattle.trace_lines.specs.TellLaws.{turnable-rows, turnable-few, turnable-fit, turnable-fits, turnable-row, turnable-spans, picked-refused}
+use Rattle.trace_lines.specs.TellLaws.{picked-back, picked-told}
 use Rattle.trace_lines.proofs.turn.Statement.{statement}
 use Rattle.trace_lines.proofs.turn.Tie as tie
 

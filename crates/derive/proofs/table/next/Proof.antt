@@ -3,7 +3,8 @@ use Prim.Native.Nat.{_+_, _-_}
 use native.Mathlib.Omega.{arith}
 use mathlib.Core.Path.{_≡_, _∙_}
 use borrow.Author.Needs.{needs}
-use Rattle.syntax.specs.Expecting.{word-number, sign-number, on-word, on-sign, on-name, on-op, less, on-less, literal-word, on-literal, type-word, on-type-word, on-type}
+use Rattle.syntax.specs.Expecting.{word-number, sign-number, on-word, on-sign, on-name, on-op, less, on-less, literal-word, on-literal, type-word, on-type-word}
+use Rattle.syntax.specs.Expecting.{on-type}
 use Rattle.derive.specs.Shape.{on-exp, on-item, past-item, acts, act, samples, sample}
 use Rattle.derive.specs.Table.{act-at, next-of, opened-of, values, next-bytes}
 use Rattle.derive.specs.TableLaws.{next-byte}
@@ -12,7 +13,8 @@ use Rattle.derive.proofs.table.next.Tie as tie
 
 -- the byte that was read
 read : (c : tie.After-pick) → c .pick .result ≡ 48 + next-of (act-at (c .before .before .args .i))
-unfolding values next-bytes next-of opened-of act-at act acts on-exp on-item past-item samples sample word-number sign-number on-word on-sign on-name on-op less on-less literal-word on-literal type-word on-type-word on-type
+unfolding values next-bytes next-of opened-of act-at act acts on-exp on-item past-item samples sample word-number sign-number on-word on-sign on-name on-op less
+    on-less literal-word on-literal type-word on-type-word on-type
 read c = c .pick .ensures ∙ next-byte (c .before .before .args .i) (omega arith)
 
 sub-result : tie.Need-sub-result

@@ -31,7 +31,8 @@ returns c =
       machine = called .command .result;
       acted = called .command .ensures;
       goes =
-          c .resting .ensures ∙ sym (behind-refused (a .turns .now) (a .s) (called .command .result) (holds (called .command .last .1 .1 .1 .0) (a .l)) (c .before .if1 .taken));
+          c .resting .ensures ∙ sym (behind-refused (a .turns .now) (a .s) (called .command .result) (holds (called .command .last .1 .1 .1 .0) (a .l))
+          (c .before .if1 .taken));
     }
 
 add-going-at : tie.Need-add-going-at
