@@ -68,20 +68,12 @@ fn main() {
     let mut program = [0u8; PROGRAM];
     let mut table = [0u8; TABLE];
     let mut turns = [0u8; TURNS];
-    let p = files::load(1, &mut program);
-    if !p.done {
+    let got = files::load_inputs(&mut program, &mut table, &mut turns);
+    if !got.done {
         return;
     }
-    let t = files::load(2, &mut table);
-    if !t.done {
-        return;
-    }
-    let e = files::load(3, &mut turns);
-    if !e.done {
-        return;
-    }
-    let m = p.len;
-    let n = t.len;
-    let k = e.len;
+    let m = got.program;
+    let n = got.table;
+    let k = got.turns;
     run(&program[..m], &table[..n], &turns[..k]);
 }
