@@ -62,7 +62,7 @@ fn an_answer_has_the_words_of_the_format() {
         let case = Case::Run { places: 1_024, output: 8_704, program: image(&P), table, turns };
         case.answer().split(' ').map(String::from).collect::<Vec<_>>()
     };
-    for (turns, number, holding) in [(0, 33, 2), (7, 33, 2), (8, 33, 1), (15, 33, 1), (16, 0, 0)] {
+    for (turns, number, holding) in [(0, 33, 2), (8, 33, 2), (14, 33, 2), (15, 33, 1), (16, 0, 0)] {
         let words = run(turns);
         assert_eq!(words.len(), 8);
         let told = [number, turns, 1, 2].map(|word| word.to_string());

@@ -5,7 +5,7 @@ use second::generate::encode::{Record, image, table_stream};
 use second::run;
 
 /// Runs a step of struct 0 (Int, struct 0) over records (load, next) and
-/// answers the loads; every instance runs in label order.
+/// answers the loads; every instance takes its command in turn.
 fn loads(statement: &[u8], records: &[(u32, u32)]) -> Vec<u32> {
     let program = [&[1, 2, 0, 16, 1, 0, 1][..], statement, &[1, 1, 0]].concat();
     let record = |&(load, next): &(u32, u32)| Record { of: 0, values: vec![load, next] };
@@ -36,7 +36,7 @@ fn an_update_reaches_the_instance_its_path_leads_to() {
 
 #[test]
 fn a_read_comes_from_the_instance_its_path_leads_to() {
-    // Each load is read through the path before a later instance writes its own.
+    // Each load is read through the path before any instance writes its own.
     for (nexts, wanted) in
         [(0, [5, 6, 7, 8]), (1, [6, 7, 8, 0]), (2, [7, 8, 0, 0]), (3, [8, 0, 0, 0])]
     {

@@ -92,7 +92,7 @@ module _ (out : List ℕ) (s : Telling) (g : Page) (made : Made) (part out′ : 
   -- a turn
   module _ {counts list spans h c h′ c′ : List ℕ} (held : 0 < s .coming .machine .numbers .holding)
       (goes : state-of (made .machine .numbers) h′ c′
-      ≡ act list counts (picked h (s .coming .machine .numbers .count) (s .coming .byte)) (memory-of s h c))
+      ≡ act list counts (picked h (s .coming .machine .numbers .from) (s .coming .machine .numbers .count) (s .coming .byte)) (memory-of s h c))
       (told : TurnTold counts list spans (s .coming) (memory-of s h c) (made .length) part)
       {p : Program} {m : Machine} {es whole fs items : List ℕ} (st : Stage p m es whole (s .coming .byte ∷ fs) counts list items spans s h c out) where
     after : Turned p counts list items spans (st .machine) (s .coming .byte) (memory-of s h c) (state-of (made .machine .numbers) h′ c′)

@@ -16,10 +16,9 @@ use Rattle.commands.specs.Noted.{erase, noted}
 use Rattle.commands.specs.Laws.NotedLaws.{erased}
 use Rattle.commands.specs.Numbers.{NoneOf}
 use Rattle.table.specs.Table.{Record, enc-table, TableRight}
-use Rattle.machine.specs.Published.{State, structs}
+use Rattle.machine.specs.Published.{structs}
 use Rattle.machine.specs.Machine.{Instance, Machine, Moved.next, move}
 use Rattle.machine.specs.Measure.{total, share-of}
-use Rattle.machine.specs.Represents.{Represents}
 use Rattle.machine.specs.Stops.{ended, out-of-turns, full, exceeded}
 use Rattle.run.specs.Holders.{holders}
 use Rattle.run.specs.Run.{Outcome.stopped, run}
@@ -27,8 +26,8 @@ use Rattle.run.specs.Visits.{Visits, turns-of}
 use Rattle.run.specs.StepTurns.{Spends}
 use Rattle.run.specs.Laws.StepTurnsLaws.{step-turns as start-turns}
 use Rattle.run.specs.Begin.{params-in, begin, table-of}
-use Rattle.run.specs.Initial.{initial, Comes}
-use Rattle.run.specs.Runs.{Passes}
+use Rattle.run.specs.Initial.{initially, Comes}
+use Rattle.run.specs.Runs.{Config, StandsFor, Passes}
 use Rattle.verdict.specs.Verdict.{Checked.accepted, checked, listed, approval, check-verdict, check-list}
 use Rattle.run.specs.Entry.{Begun.begun, begins, run-output}
 use Rattle.verdict.specs.ProgramInput.{check-order, AcceptedImage, Approved}
@@ -36,7 +35,7 @@ use Rattle.run.specs.Input.{run-order, TableAccepted, Runnable, Began}
 use Rattle.verdict.specs.ProgramInputLaws.{checked-accepted, verdict-approved, check-approved}
 use Rattle.run.specs.Laws.InputLaws.{begins-ready, begins-none}
 use Rattle.run.specs.Laws.RunAgreesVisits.{visits-passes, passes-visits}
-use Rattle.run.specs.Laws.BeginLaws.{begin-represents, outcome-exact, comes-unique, comes-holding, comes-stopped}
+use Rattle.run.specs.Laws.BeginLaws.{begin-stands, outcome-exact, comes-unique, comes-holding, comes-stopped}
 use Rattle.run.specs.Answered.{Answered}
 use Rattle.run.specs.Laws.AnsweredLaws.{comes-answered}
 use Rattle.commands.specs.Accepted.{Accepted}
@@ -129,15 +128,15 @@ module _ (x y es out list : List ℕ) where
 -- Its states -------------------------------------------------------------------------------
 
 module _ (p : Program) (rs : List Record) (es : List ℕ) where
-  -- a run passes through the states that the published rules give for those turns,
+  -- a run passes through the states that the published rules give for those turns, with the label that turns are counted from,
   pub states-published : {z : Machine} {fs : List ℕ} (v : Visits p (begin p rs) es z fs)
-      → (st : State) × (Passes p (initial p rs) es (turns-of p v) st) × (Represents z st)
-  states-published v = visits-passes p (initial p rs) (begin-represents p rs) v
+      → (c : Config) × (Passes p (initially p rs) es (turns-of p v) c) × (StandsFor z c)
+  states-published v = visits-passes p (initially p rs) (begin-stands p rs) v
 
   -- and through each of them
-  pub states-visited : {st : State} {t : ℕ} → Passes p (initial p rs) es t st
-      → (z : Machine) × (fs : List ℕ) × (v : Visits p (begin p rs) es z fs) × (turns-of p v ≡ t) × (Represents z st)
-  states-visited w = passes-visits p (begin p rs) (begin-represents p rs) w
+  pub states-visited : {c : Config} {t : ℕ} → Passes p (initially p rs) es t c
+      → (z : Machine) × (fs : List ℕ) × (v : Visits p (begin p rs) es z fs) × (turns-of p v ≡ t) × (StandsFor z c)
+  states-visited w = passes-visits p (begin p rs) (begin-stands p rs) w
 
   -- it comes to the one number, turns, holders and last table that they give
   pub outcome-published : {n t : ℕ} {z : Machine} → run p (begin p rs) es ≡ stopped n t z → Comes p rs es n t (length (holders z)) (table-of p z)

@@ -10,11 +10,10 @@ use Rattle.program.specs.Tree.{Program}
 use Rattle.commands.specs.Bounds.{program-depth}
 use Rattle.commands.specs.Numbers.{NoneOf}
 use Rattle.table.specs.Table.{Record}
-use Rattle.machine.specs.Published.{Sched, Sched.fixpoint, Inst, State, State.state}
+use Rattle.machine.specs.Published.{Sched, Sched.fixpoint, Inst, State.state}
 use Rattle.machine.specs.Machine.{Machine}
-use Rattle.machine.specs.Represents.{Represents}
-use Rattle.run.specs.Initial.{initial}
-use Rattle.run.specs.Runs.{Passes}
+use Rattle.run.specs.Initial.{initially}
+use Rattle.run.specs.Runs.{Config, Config.config, StandsFor, Passes}
 use Rattle.run.specs.Input.{run-order, Runnable}
 use Rattle.run.specs.Laws.InputLaws.{begins-none}
 use Rattle.sound.specs.Needs.{Right}
@@ -34,15 +33,15 @@ module _ (x y es out list : List ℕ) where
     pub call-answered : Call x y es out list p rs
     call-answered = ready-call x y es out list p rs r
 
-    -- "A next command is that of any instance holding commands, chosen or not": every state that the published rules pass through is
-    -- one of a machine in which each next command finds what it needs
-    pub states-right : {st : State} {t : ℕ} → Passes p (initial p rs) es t st
-        → (z : Machine) × (Represents z st) × (Right p (program-depth p) z)
+    -- "A next command is that of any instance holding commands, chosen or not": every configuration that the published rules pass through
+    -- is one of a machine in which each next command finds what it needs
+    pub states-right : {c : Config} {t : ℕ} → Passes p (initially p rs) es t c
+        → (z : Machine) × (StandsFor z c) × (Right p (program-depth p) z)
     states-right w = passes-right x y es out list p rs r w
 
     -- "As Fix nests at most 8 deep, none is ever met with eight entries" (02 §9): no state that the published rules pass through has more
     -- than 8 stability entries, and where a Fix comes next there are fewer
-    pub entries-within : {s : Sched} {σ : List Inst} {b : List Bool} {t : ℕ} → Passes p (initial p rs) es t (state s σ b)
+    pub entries-within : {n : ℕ} {s : Sched} {σ : List Inst} {b : List Bool} {t : ℕ} → Passes p (initially p rs) es t (config n (state s σ b))
         → (length b ≤ 8) × ((f q : Sched) → s ≡ fixpoint f q → length b < 8)
     entries-within w = passes-entries x y es out list p rs r w
 

@@ -65,7 +65,7 @@ use Rattle.machine.specs.MoveAgrees.{move-stuck}
 use Rattle.run.specs.Turns.{labels-from, chosen}
 use Rattle.run.specs.Holders.{holders}
 use Rattle.run.specs.Laws.TurnLaws.{labels-ascend, holder-chosen}
-use Rattle.run.specs.Runs.{Runs, Passes}
+use Rattle.run.specs.Runs.{Config, Runs, Passes}
 use Rattle.run.specs.Laws.RunAgreesVisits.{passes-bounded, all-taken}
 use Rattle.run.specs.Run.{Outcome.jammed, run}
 use Rattle.run.specs.Begin.{begin}
@@ -230,13 +230,14 @@ module _ (p : Program) where
   jammed-exactly rs es = jammed-exact p rs es
 
   -- a command is taken for each byte at most, and at 33 for every one
-  pub turns-within : {st st′ : State} {es : List ℕ} {t : ℕ} → Passes p st es t st′ → t ≤ length es
+  pub turns-within : {c c′ : Config} {es : List ℕ} {t : ℕ} → Passes p c es t c′ → t ≤ length es
   turns-within v = passes-bounded p v
 
-  pub turns-used-up : {st st′ : State} {es : List ℕ} {n t : ℕ} → Runs p st es n t st′ → n ≡ 33 → t ≡ length es
+  pub turns-used-up : {c c′ : Config} {es : List ℕ} {n t : ℕ} → Runs p c es n t c′ → n ≡ 33 → t ≡ length es
   turns-used-up v e = all-taken p v e
 
--- "it goes to the (e modulo R)th of them, from 0, in label order": labels ascend, and every holder is some byte's
+-- "the (e modulo R)th holder, now counted from the label after the one that acted last, wrapping past the highest" (02 §5): each of the two parts
+-- of a round ascends, and every holder is some byte's
 pub labels-in-order : (l : ℕ) (bs : List Bool) (i : ℕ) → suc i < length (labels-from l bs)
     → getD (labels-from l bs) i 0 < getD (labels-from l bs) (suc i) 0
 labels-in-order = labels-ascend

@@ -20,13 +20,12 @@ use Rattle.commands.specs.Laws.NotedLaws.{erased}
 use Rattle.commands.specs.Numbers.{Foremost}
 use Rattle.commands.specs.Laws.NumbersLaws.{foremost-some}
 use Rattle.table.specs.Table.{Record}
-use Rattle.machine.specs.Published.{Sched, Sched.fixpoint, Inst, State, State.state}
+use Rattle.machine.specs.Published.{Sched, Sched.fixpoint, Inst, State.state}
 use Rattle.machine.specs.Machine.{Machine}
-use Rattle.machine.specs.Represents.{Represents}
 use Rattle.run.specs.Begin.{begin}
-use Rattle.run.specs.Initial.{initial}
-use Rattle.run.specs.Laws.BeginLaws.{begin-represents, outcome-exact}
-use Rattle.run.specs.Runs.{Passes}
+use Rattle.run.specs.Initial.{initially}
+use Rattle.run.specs.Laws.BeginLaws.{begin-stands, outcome-exact}
+use Rattle.run.specs.Runs.{Config, Config.config, StandsFor, Passes}
 use Rattle.run.specs.Laws.RunAgreesVisits.{passes-visits}
 use Rattle.verdict.specs.Verdict.{Checked, Checked.accepted, Checked.refused, checked, Verdict, check-list}
 use Rattle.verdict.specs.ProgramInput.{AcceptedImage, program-order, check-order}
@@ -98,18 +97,18 @@ module _ (x y es out list : List ℕ) (p : Program) (rs : List Record) (r : Runn
       let c = outcome-exact p rs es (d .returns) in
       record { never-stuck = d; comes = c; answered = comes-answered x y es out list p rs (begins-ready x y es out list p rs .1 r) c }
 
-  -- every state that the published rules pass through is one of a right machine
-  pub passes-right : {st : State} {t : ℕ} → Passes p (initial p rs) es t st → (z : Machine) × (Represents z st) × (Right p (program-depth p) z)
+  -- every configuration that the published rules pass through is one of a right machine
+  pub passes-right : {c : Config} {t : ℕ} → Passes p (initially p rs) es t c → (z : Machine) × (StandsFor z c) × (Right p (program-depth p) z)
   passes-right w =
-      let (z, fs, v, e, R) = passes-visits p (begin p rs) (begin-represents p rs) w in
-      (z, R, ready-call .never-stuck .right z fs v)
+      let (z, fs, v, e, S) = passes-visits p (begin p rs) (begin-stands p rs) w in
+      (z, S, ready-call .never-stuck .right z fs v)
 
   -- none has more stability entries than Fixes may nest, and where a Fix comes next there are fewer
-  pub passes-entries : {s : Sched} {σ : List Inst} {b : List Bool} {t : ℕ} → Passes p (initial p rs) es t (state s σ b)
+  pub passes-entries : {n : ℕ} {s : Sched} {σ : List Inst} {b : List Bool} {t : ℕ} → Passes p (initially p rs) es t (config n (state s σ b))
       → (length b ≤ fix-levels) × ((f q : Sched) → s ≡ fixpoint f q → length b < fix-levels)
   passes-entries w =
-      let (z, fs, v, e, R) = passes-visits p (begin p rs) (begin-represents p rs) w in
+      let (z, fs, v, e, S) = passes-visits p (begin p rs) (begin-stands p rs) w in
       let a = ready-accepted r in
       let firm = accepted-firm a in
-      subst₂ (λ s b. (length b ≤ fix-levels) × ((f q : Sched) → s ≡ fixpoint f q → length b < fix-levels)) (R .0) (R .2)
+      subst₂ (λ s b. (length b ≤ fix-levels) × ((f q : Sched) → s ≡ fixpoint f q → length b < fix-levels)) (S .1 .0) (S .1 .2)
       (good-entries firm (visits-good firm (begin-good p (a .0) rs (r .table .right)) v))

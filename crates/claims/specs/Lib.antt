@@ -8,3 +8,4 @@ pub mod Text
 pub mod Free
 pub mod Exact
 pub mod Memory
+pub mod Rounds

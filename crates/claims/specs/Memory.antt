@@ -22,21 +22,25 @@ use Rattle.claims.specs.MemoryLaws.{running-visited, ended-visited}
 
 module _ (p : Program) (counts list items spans : List ℕ) (m : Machine) {es : List ℕ} {z : State} where
   -- after i turns and the schedule moves behind them: `Running` is the invariant of the loop over the turn bytes. The number of holders that the
-  -- machine keeps is the one counted from its instances (02, 'Holders kept as a number')
+  -- machine keeps is the one counted from its instances (02, 'Holders kept as a number'), and its turns are counted from the machine's label (02, 'Turns
+  -- that go round')
   pub memory-visited : {i : ℕ} → Running p counts list items spans m es i z
-      → (m′ : Machine) × (Stands list (At items) m′ (cleared z)) × (z .machine .holding ≡ length (holders m′)) × (Visits p m es m′ (drop i es))
+      → (m′ : Machine) × (Stands list (At items) m′ (cleared z)) × (z .machine .holding ≡ length (holders m′)) × (z .machine .from ≡ m′ .from)
+      × (Visits p m es m′ (drop i es))
   memory-visited r = running-visited p counts list items spans m r
 
   -- after the whole run: `Ended` is the loop's contract
   pub memory-last : {number taken : ℕ} → Ended p counts list items spans m es number taken z
-      → (m′ : Machine) × (Stands list (At items) m′ (cleared z)) × (z .machine .holding ≡ length (holders m′)) × (Visits p m es m′ (drop taken es))
+      → (m′ : Machine) × (Stands list (At items) m′ (cleared z)) × (z .machine .holding ≡ length (holders m′)) × (z .machine .from ≡ m′ .from)
+      × (Visits p m es m′ (drop taken es))
       × (run p m es ≡ stopped number taken m′)
   memory-last r = ended-visited p counts list items spans m r
 
 -- so it is behind every move of the schedule: `Moving` is the invariant of the loop over the moves
 pub memory-moved : (p : Program) (counts list items spans : List ℕ) (m : Machine) {z : State} → Moving p counts list items spans m z
-    → (m′ : Machine) × (Stands list (At items) m′ z) × (z .machine .holding ≡ length (holders m′)) × ((es : List ℕ) → Visits p m es m′ es)
-memory-moved p counts list items spans m (m′, r, v) = (m′, r .stands, held-count r, v)
+    → (m′ : Machine) × (Stands list (At items) m′ z) × (z .machine .holding ≡ length (holders m′)) × (z .machine .from ≡ m′ .from)
+    × ((es : List ℕ) → Visits p m es m′ es)
+memory-moved p counts list items spans m (m′, r, v) = (m′, r .stands, held-count r, r .counting, v)
 
 -- a place of the schedule laid flat stands for one schedule left
 pub place-one : (items : List ℕ) {a : ℕ} {r s : Sched} → At items a r → At items a s → r ≡ s

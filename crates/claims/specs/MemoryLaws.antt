@@ -20,13 +20,15 @@ still-cleared z e = ap (λ n. refused n z) (sym e)
 
 module _ (p : Program) (counts list items spans : List ℕ) (m : Machine) {es : List ℕ} {z : State} where
   pub running-visited : {i : ℕ} → Running p counts list items spans m es i z
-      → (m′ : Machine) × (Stands list (At items) m′ (cleared z)) × (z .machine .holding ≡ length (holders m′)) × (Visits p m es m′ (drop i es))
+      → (m′ : Machine) × (Stands list (At items) m′ (cleared z)) × (z .machine .holding ≡ length (holders m′)) × (z .machine .from ≡ m′ .from)
+      × (Visits p m es m′ (drop i es))
   running-visited (going {m′ = w} r h v) =
-      (w, subst (Stands list (At items) w) (sym (still-cleared z (r .stands .clear))) (r .stands), held-count r, v)
+      (w, subst (Stands list (At items) w) (sym (still-cleared z (r .stands .clear))) (r .stands), held-count r, r .counting, v)
   running-visited (over {m′ = w} r h v e) =
-      (w, subst (Stands list (At items) w) (sym (still-cleared z (r .stands .clear))) (r .stands), held-count r, v)
+      (w, subst (Stands list (At items) w) (sym (still-cleared z (r .stands .clear))) (r .stands), held-count r, r .counting, v)
 
   pub ended-visited : {number taken : ℕ} → Ended p counts list items spans m es number taken z
-      → (m′ : Machine) × (Stands list (At items) m′ (cleared z)) × (z .machine .holding ≡ length (holders m′)) × (Visits p m es m′ (drop taken es))
+      → (m′ : Machine) × (Stands list (At items) m′ (cleared z)) × (z .machine .holding ≡ length (holders m′)) × (z .machine .from ≡ m′ .from)
+      × (Visits p m es m′ (drop taken es))
       × (run p m es ≡ stopped number taken m′)
-  ended-visited r = (r .last, r .ready .stands, held-count (r .ready), r .reached, r .returns)
+  ended-visited r = (r .last, r .ready .stands, held-count (r .ready), r .ready .counting, r .reached, r .returns)

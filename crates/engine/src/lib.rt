@@ -9,7 +9,7 @@ ghost use Prim.Native.Nat.{ℕ, _^_, _<_};
 ghost use lib.ListN.{length};
 ghost use Rattle.layout.specs.Layout.{head, end-of, holds};
 ghost use Rattle.layout.specs.State.{state-of};
-ghost use Rattle.memory.specs.Act.{act};
+ghost use Rattle.memory.specs.Act.{turned, act};
 ghost use Rattle.memory.specs.Choose.{fewer};
 ghost use Rattle.memory.specs.Fit.{Fit};
 ghost use Rattle.memory.specs.Move.{move};
@@ -55,6 +55,19 @@ fn left_holding(heads: &[usize], l: usize, n: usize) -> usize
     n - 1
 }
 
+// Turns are counted on from the label after l, where its command was not refused (02, 'Turns that go round').
+fn turned(numbers: Numbers, l: usize) -> Numbers
+    requires { ⌜ l < 2 ^ 63 ⌝ }
+    ensures { λ r. ⌜ ((h c : List ℕ) → state-of r h c ≡ turned l (state-of numbers h c)) ⌝ }
+{
+    if numbers.number != 0 {
+        return numbers;
+    }
+    let mut next = numbers;
+    next.from = l + 1;
+    next
+}
+
 impl Machine {
     // Instance l takes its next command, where some instance holds commands.
     pub fn command(
@@ -75,7 +88,7 @@ impl Machine {
         let acted = perform(counts, heads, cells, l, numbers.count, list[at]);
         let mut next = after(numbers, acted);
         next.holding = left_holding(heads, l, numbers.holding);
-        self.numbers = next;
+        self.numbers = turned(next, l);
         self
     }
 

@@ -1,10 +1,10 @@
--- A holder among instance records (01, 'Table and turns').
-use Prim.Native.Nat.{ℕ, suc, _-_, _<_, _≤_}
+-- A holder among instance records (01, 'Table and turns'; 02, 'Turns that go round').
+use Prim.Native.Nat.{ℕ, zero, suc, _-_, _<_, _≤_}
 use mathlib.Core.Path.{_≡_}
 use mathlib.Core.Bool.{true, false}
-use mathlib.Core.List.{List, [], _∷_}
+use mathlib.Core.List.{List}
 use lib.ListN.{length, getD}
-use lib.Dec.{eqb}
+use lib.Dec.{eqb, ltb}
 use Rattle.types.specs.Limits.{max-instances}
 use Rattle.layout.specs.Layout.{holds}
 use Rattle.holders.specs.declared.Record.{Record}
@@ -19,11 +19,20 @@ pub record Recorded (heads : List ℕ) (n : ℕ) (rs : List Record) : Type 0 whe
   pub each : (k : ℕ) → k < n → getD rs k idle .holds ≡ holds heads k
   pub rest : (k : ℕ) → n ≤ k → getD rs k idle .holds ≡ false
 
--- the place of the r-th record that holds commands, from 0, or how many records there are
-unfoldable pub holder-in : List Record → ℕ → ℕ
-holder-in [] r = 0
-holder-in (p ∷ ps) r =
-    elim (p .holds) [
-      | true ↦ elim (eqb r 0) [ true ↦ 0 | false ↦ suc (holder-in ps (r - 1)) ]
-      | false ↦ suc (holder-in ps r)
+-- the label l, or label 0 past the highest of n
+unfoldable pub wrapped : ℕ → ℕ → ℕ
+wrapped n l = elim (ltb l n) [ true ↦ l | false ↦ 0 ]
+
+-- of the records of n instances, m of them looked at from l on and past the highest from 0: the label of the r-th that holds commands, from 0, or
+-- the one behind the last
+unfoldable pub search : List Record → ℕ → ℕ → ℕ → ℕ → ℕ
+search rs n zero l r = l
+search rs n (suc m) l r =
+    elim (getD rs (wrapped n l) idle .holds) [
+      | true ↦ elim (eqb r 0) [ true ↦ wrapped n l | false ↦ search rs n m (suc (wrapped n l)) (r - 1) ]
+      | false ↦ search rs n m (suc (wrapped n l)) r
     ]
+
+-- all of them
+abbrev pub holder-in : List Record → ℕ → ℕ → ℕ → ℕ
+holder-in rs n from r = search rs n n from r

@@ -1,4 +1,5 @@
-// The chosen holder, searched for in a lent slice of instance records (01, 'Table and turns': "scanned from the lowest label up").
+// The chosen holder, searched for in a lent slice of instance records (01, 'Table and turns'; 02, 'Turns that go round': "counted from the label
+// after the one that acted last, wrapping past the highest").
 ghost use mathlib.Core.Path.{_≡_};
 ghost use Prim.Native.Nat.{_*_, _≤_};
 ghost use lib.ListN.{length};
@@ -11,28 +12,36 @@ pub struct Record {
     pub holds: bool,
 }
 
-// The label of the r-th record that holds commands, from 0; where there are fewer, how many records there are.
-pub fn holder(rs: &[Record], r: usize) -> usize
-    ensures { λ l. ⌜ l ≡ holder-in (now (rs .entry)) r ⌝ }
+// Of the first n records, from the label `from` on and past the highest from 0: the label of the r-th that holds commands, from 0. Where there
+// are fewer, the label behind the last one looked at.
+pub fn holder(rs: &[Record], n: usize, from: usize, r: usize) -> usize
+    requires { ⌜ n ≤ length (now rs) ⌝ }
+    ensures { λ l. ⌜ l ≡ holder-in (now (rs .entry)) n from r ⌝ }
 {
     let mut left = r;
-    let mut l: usize = 0;
-    while l < rs.len() {
+    let mut l = from;
+    let mut passed: usize = 0;
+    while passed < n {
+        if n <= l {
+            l = 0;
+        }
         let one = rs[l].holds as usize;
         if left < one {
             return l;
         }
         left -= one;
         l += 1;
+        passed += 1;
     }
     l
 }
 
 // The same search, for a caller that hands the records over: one call lends them.
-pub fn holder_of(rs: [Record; types::MAX_INSTANCES], r: usize) -> usize
-    ensures { λ l. ⌜ l ≡ holder-in rs r ⌝ }
+pub fn holder_of(rs: [Record; types::MAX_INSTANCES], n: usize, from: usize, r: usize) -> usize
+    requires { ⌜ n ≤ max-instances ⌝ }
+    ensures { λ l. ⌜ l ≡ holder-in rs n from r ⌝ }
 {
-    holder(&rs, r)
+    holder(&rs, n, from, r)
 }
 
 // The records of n instances; behind them those of nobody.

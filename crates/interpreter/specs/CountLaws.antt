@@ -12,11 +12,12 @@ use Rattle.commands.specs.Noted.{Note}
 use Rattle.machine.specs.Machine.{Instance, Machine, Out, Out.next, Out.refused, Out.stuck, command}
 use Rattle.machine.specs.PerformedLaws.{by-ways}
 use Rattle.run.specs.Turns.{labels-from}
-use Rattle.run.specs.Holders.{holders, holds-code}
+use Rattle.run.specs.Holders.{flag, flags, holders, holds-code}
+use Rattle.run.specs.Laws.TurnLaws.{holders-length}
 use Rattle.sound.specs.Laws.ElemLaws.{none-some}
 use Rattle.layout.specs.State.{bit}
 use Rattle.memory.specs.Choose.{fewer}
-use Rattle.interpreter.specs.FlagLaws.{flag, flags, Idle, Flagged, flags-behind}
+use Rattle.sound.specs.Laws.FlagLaws.{Idle, Flagged, flags-behind}
 
 -- how many are true
 abbrev trues : List Bool → ℕ
@@ -30,8 +31,7 @@ labels-count (true ∷ fs) l = omega (arith, labels-count fs (suc l))
 labels-count (false ∷ fs) l = omega (arith, labels-count fs (suc l))
 
 holders-count : (m : Machine) → length (holders m) ≡ trues (flags (m .instances))
-unfolding holders
-holders-count m = labels-count (flags (m .instances)) 0
+holders-count m = holders-length m ∙ labels-count (flags (m .instances)) 0
 
 -- one of them is set
 trues-set : (is : List Instance) (l : ℕ) {i : Instance} (b : Bool) → getElem? is l ≡ some i

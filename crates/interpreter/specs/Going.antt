@@ -10,7 +10,7 @@ use Rattle.layout.specs.Layout.{holds}
 use Rattle.layout.specs.State.{State, state-of}
 use Rattle.memory.specs.Act.{act}
 use Rattle.holders.specs.declared.Record.{Record}
-use Rattle.holders.specs.Records.{Recorded}
+use Rattle.holders.specs.Records.{Recorded, holder-in}
 use Rattle.engine.specs.declared.Machine.{Machine}
 use Rattle.interpreter.specs.declared.turns.Going.{Going}
 use Rattle.interpreter.specs.Running.{Begun, Ending, Gone, Come}
@@ -58,6 +58,10 @@ pub record Due (es : List ℕ) (s : Going) : Type 0 where
 
 abbrev pub memory-of : Going → List ℕ → List ℕ → State
 memory-of s h c = state-of (s .machine .numbers) h c
+
+-- whom the search among the records finds
+abbrev pub searched : Going → List Record → ℕ
+searched s rs = holder-in rs (s .machine .numbers .count) (s .machine .numbers .from) (s .pick)
 
 -- memory is ready for it, and rs has the records of the instances
 pub record Turning (list counts es : List ℕ) (s : Going) (rs : List Record) (h c : List ℕ) : Type 0 where

@@ -28,7 +28,7 @@ use Rattle.interpreter.specs.Running.{Turned, Turned.turned, Turned.fail
 use Rattle.interpreter.specs.TurnLaws.{picked-fits, turned-by}
 use Rattle.interpreter.specs.RunningLaws.{number-some, ends-lasting, ends-failed, taken-turn, runs-held}
 use Rattle.interpreter.specs.RecordLaws.{records-behind}
-use Rattle.interpreter.specs.Going.{rests, waits, going-at, behind, Takes, Due, memory-of, Turning, Went, Passes}
+use Rattle.interpreter.specs.Going.{rests, waits, going-at, behind, Takes, Due, memory-of, searched, Turning, Went, Passes}
 
 -- The cases of a definition ----------------------------------------------------------
 
@@ -83,7 +83,7 @@ pub record Behind (counts list items spans : List ℕ) (l : ℕ) (z y : State) (
   pub recorded : Recorded (y .heads) (y .machine .count) (set rs l (record { holds = holds (y .heads) l }))
 
 module _ {counts list items spans : List ℕ} {z : State} (g : Begun counts list items spans z) (b : 0 < z .machine .holding) (e : ℕ) {l : ℕ}
-    (q : l ≡ picked (z .heads) (z .machine .count) e) where
+    (q : l ≡ picked (z .heads) (z .machine .from) (z .machine .count) e) where
   pub begun-fits : Fit list counts l z
   begun-fits = rw q (picked-fits (g .ready) b e)
 
@@ -97,7 +97,8 @@ module _ {counts list items spans : List ℕ} {z : State} (g : Begun counts list
       go (turned {m′ = m′} r′ u v) = record {
         begun = record { program = g .program; machine = m′; ready = r′ };
         recorded =
-            records-behind (g .ready) r′ l (ap (λ (x : ℕ). command (g .program) x (g .machine)) (q ∙ picks (g .machine) (g .ready .stands) e) ∙ u)
+            records-behind (g .ready) r′ l
+            (ap (λ (x : ℕ). command (g .program) x (g .machine)) (q ∙ picks (g .machine) (g .ready .stands) (g .ready .counting) e) ∙ u)
             (begun-fits .chosen) f;
       }
       go (failed k d v) = absurd (number-some d (sym (ap (λ (x : State). x .machine .number) k) ∙ c))
@@ -147,7 +148,11 @@ module _ {list counts es : List ℕ} {s₀ : Going} {h₀ c₀ : List ℕ} where
 
     -- The search has found instance l ------------------------------------------------
 
-    module _ (d : s .due ≡ true) {l : ℕ} (found : l ≡ holder-in rs (s .pick)) where
+    -- as many records as instances, and more
+    pub kept-few : s .due ≡ true → s .machine .numbers .count ≤ length rs
+    kept-few d = let t = kept .ready d in let a = t .begun .ready .stands .few in let b = t .recorded .long in omega arith
+
+    module _ (d : s .due ≡ true) {l : ℕ} (found : l ≡ searched s rs) where
       abbrev t₀ : Turning list counts es s rs h c
       t₀ = kept .ready d
 
@@ -161,11 +166,11 @@ module _ {list counts es : List ℕ} {s₀ : Going} {h₀ c₀ : List ℕ} where
       few = t₀ .begun .ready .stands .few
 
       -- it is the one that the byte picks
-      is-picked : l ≡ picked h (s .machine .numbers .count) byte
+      is-picked : l ≡ picked h (s .machine .numbers .from) (s .machine .numbers .count) byte
       is-picked =
           let kept = t₀ .begun .ready .kept in
-          found ∙ ap (holder-in rs) (t₀ .due .picks ∙ ap (λ (n : ℕ). byte % n) kept)
-          ∙ sym (picked-in h (t₀ .recorded) few byte (rw kept at (t₀ .due .someone)))
+          found ∙ ap (holder-in rs (s .machine .numbers .count) (s .machine .numbers .from)) (t₀ .due .picks ∙ ap (λ (n : ℕ). byte % n) kept)
+          ∙ sym (picked-in h (t₀ .recorded) (s .machine .numbers .from) byte (rw kept at (t₀ .due .someone)))
 
       -- what its turn needs
       pub kept-asks : (Fit list counts l z₀) × (0 < s .machine .numbers .holding) × (s .taken < length es)
@@ -179,7 +184,7 @@ module _ {list counts es : List ℕ} {s₀ : Going} {h₀ c₀ : List ℕ} where
         abbrev y₀ : State
         y₀ = state-of (m .numbers) h′ c′
 
-        acted : y₀ ≡ act list counts (picked h (s .machine .numbers .count) byte) z₀
+        acted : y₀ ≡ act list counts (picked h (s .machine .numbers .from) (s .machine .numbers .count) byte) z₀
         acted = a ∙ ap (λ (x : ℕ). act list counts x z₀) is-picked
 
         abbrev After : Going → Type 0

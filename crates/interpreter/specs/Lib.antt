@@ -1,7 +1,6 @@
 pub mod Ready
 pub mod Moving
 pub mod MovingLaws
-pub mod FlagLaws
 pub mod CountLaws
 pub mod Running
 pub mod Going

@@ -45,18 +45,18 @@ module _ (items spans : List ℕ) (z : State) where
   on y h e a q = rw (e, a, q) (omega arith)
 
   module _ {list : List ℕ} where
-    falls-by : (s : Sched) (is : List Instance) (b : List Bool) → Stands list (At items) (machine s is b) z → Open s (length b)
+    falls-by : (s : Sched) (is : List Instance) (b : List Bool) (from : ℕ) → Stands list (At items) (machine s is b from) z → Open s (length b)
         → (s ≡ done → ⊥) → left items (move items spans z) < left items z
     unfolding bits do-start moves-left
-    falls-by done is b S o n = absurd (n refl)
-    falls-by (start c s) is b S o d =
+    falls-by done is b from S o n = absurd (n refl)
+    falls-by (start c s) is b from S o d =
         let (h, e, r) = past-start items (S .scheduled) in
         on (do-start spans (start-code c) z) (at-within items (S .scheduled)) (move-start items spans z e (code-below c h)) refl refl
-    falls-by (fixpoint f s) is b S o d =
+    falls-by (fixpoint f s) is b from S o d =
         on _ (at-within items (S .scheduled)) (fix-begins items spans z (past-fix items (S .scheduled) .0)) refl
         (zeros-true (z .machine .fixes) (z .machine .stable))
-    falls-by (active f s) is [] S o d = absurd (active-open o refl)
-    falls-by (active f s) is (true ∷ b) S o d =
+    falls-by (active f s) is [] from S o d = absurd (active-open o refl)
+    falls-by (active f s) is (true ∷ b) from S o d =
         let (t, e, r, w) = past-round items (S .scheduled) in
         let u : z .machine .stable ≡ suc (2 * bits b) = S .entries in
         let v : z .machine .fixes ≡ suc (length b) = S .opened in
@@ -64,7 +64,7 @@ module _ (items spans : List ℕ) (z : State) where
         let k : z .machine .stable / 2 ≡ bits b = omega arith in
         on _ (at-within items (S .scheduled)) (round-ends items spans z t e (omega arith)) refl
         (rw (g, k, u, v, zeros-true))
-    falls-by (active f s) is (false ∷ b) S o d =
+    falls-by (active f s) is (false ∷ b) from S o d =
         let (t, e, r, w) = past-round items (S .scheduled) in
         let u : z .machine .stable ≡ 2 * bits b = S .entries in
         let v : z .machine .fixes ≡ suc (length b) = S .opened in
@@ -76,4 +76,4 @@ module _ (items spans : List ℕ) (z : State) where
     -- a move of a schedule that is not at its end
     pub move-less : (m : Machine) → Stands list (At items) m z → Open (m .sched) (length (m .stability)) → (m .sched ≡ done → ⊥)
         → left items (move items spans z) < left items z
-    move-less m S o n = falls-by (m .sched) (m .instances) (m .stability) S o n
+    move-less m S o n = falls-by (m .sched) (m .instances) (m .stability) (m .from) S o n

@@ -1,6 +1,7 @@
 -- What holds all through a run on lent memory (01, 'Table and turns'): what was prepared of an accepted program, and a machine with
--- the invariant, which memory holds, and the number of its holders.
+-- the invariant, which memory holds, with the number of its holders and the label that its turns are counted from.
 use Prim.Native.Nat.{ℕ, _≤_}
+use mathlib.Core.Path.{_≡_}
 use mathlib.Core.List.{List}
 use lib.ListN.{length}
 use Rattle.program.specs.Tree.{Program}
@@ -29,3 +30,4 @@ pub record Ready (p : Program) (counts list items spans : List ℕ) (m : Machine
   pub tabled : Tabled p (m .instances)
   pub stands : Stands list (At items) m z
   pub kept : Kept z
+  pub counting : z .machine .from ≡ m .from

@@ -12,14 +12,15 @@ use lib.Dec.{eqb, ltb}
 use borrow.Author.Tests.{eqb-true, eqb-false, ltb-true, ltb-false}
 use Rattle.program.specs.Tree.{Program}
 use Rattle.machine.specs.Machine.{Instance, Machine, Out.next, command}
+use Rattle.run.specs.Holders.{flag, flags}
 use Rattle.sound.specs.Laws.ElemLaws.{at-below}
+use Rattle.sound.specs.Laws.FlagLaws.{Idle, flags-behind}
 use Rattle.layout.specs.Layout.{holds}
 use Rattle.layout.specs.State.{State}
 use Rattle.memory.specs.Laws.ChooseStands.{holds-same}
 use Rattle.holders.specs.declared.Record.{Record}
 use Rattle.holders.specs.Records.{idle, Recorded}
 use Rattle.interpreter.specs.Ready.{Ready}
-use Rattle.interpreter.specs.FlagLaws.{flag, flags, Idle, flags-behind}
 
 -- an instance has its flag
 flag-at : (is : List Instance) (k : ℕ) → k < length is → (i : Instance) × (getElem? is k ≡ some i) × (getD (flags is) k false ≡ flag i)

@@ -108,7 +108,7 @@ module _ {p : Program} {counts list items spans : List ℕ} where
           abbrev byte : ℕ
           byte = getD es i 0
 
-          module _ {y : State} (a : y ≡ act list counts (picked (z .heads) (z .machine .count) byte) z) where
+          module _ {y : State} (a : y ≡ act list counts (picked (z .heads) (z .machine .from) (z .machine .count) byte) z) where
             next-turn : (m′ : Machine) × (Ready p counts list items spans m′ z) × (Visits p m es m′ (drop i es))
                 × Turned p counts list items spans m′ byte z y
             next-turn =

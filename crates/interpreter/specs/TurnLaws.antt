@@ -1,6 +1,6 @@
 -- Memory that is ready makes the run's moves and takes its turns (01, 'Table and turns'): it is ready again, or, behind a turn, holds
 -- the number at which the run stops; there is no third case.
-use Prim.Native.Nat.{ℕ, _<_, _≤_}
+use Prim.Native.Nat.{ℕ, suc, _<_, _≤_}
 use mathlib.Core.Path.{_≡_, refl, ap, sym, _∙_, subst}
 use mathlib.Core.Bool.{true, false}
 use mathlib.Core.List.{List, [], _∷_}
@@ -12,6 +12,7 @@ use Rattle.machine.specs.Published.{Sched.done, structs}
 use Rattle.machine.specs.Machine.{Instance, Machine, Out, Out.next, Out.refused, Out.stuck, Moved, Moved.next, Moved.stuck, command, move}
 use Rattle.run.specs.Turns.{chosen}
 use Rattle.run.specs.Holders.{holders, holds-code, none-of, due}
+use Rattle.machine.specs.FromLaws.{command-from, move-from as machine-move-from}
 use Rattle.machine.specs.Stops.{ended, out-of-turns}
 use Rattle.run.specs.Run.{Outcome.stopped, run}
 use Rattle.run.specs.Laws.Settles.{Rests.ends as rests-ends, Rests.lasts as rests-lasts, Rests.fails as rests-fails}
@@ -34,11 +35,11 @@ use Rattle.memory.specs.Stands.{Stands}
 use Rattle.memory.specs.Fit.{Fit}
 use Rattle.memory.specs.Laws.FitLaws.{fits}
 use Rattle.memory.specs.Act.{act}
-use Rattle.memory.specs.Laws.Acts.{acts}
+use Rattle.memory.specs.Laws.Acts.{acts, act-counts, act-from}
 use Rattle.memory.specs.Choose.{holding, fewer, picked}
 use Rattle.memory.specs.Laws.ChooseStands.{holds-same, holding-same, picks}
 use Rattle.memory.specs.Move.{move as move-on}
-use Rattle.memory.specs.Laws.MoveLaws.{move-kept}
+use Rattle.memory.specs.Laws.MoveLaws.{move-kept, move-from}
 use Rattle.memory.specs.Laws.MoveStands.{Follows, moves}
 use Rattle.scheduler.specs.Ready.{Movable}
 use Rattle.scheduler.specs.ReadyLaws.{stands-movable}
@@ -56,12 +57,6 @@ some-left : (l : List ℕ) → 0 < length l → none-of l ≡ false
 unfolding none-of
 some-left [] e = absurd (omega arith)
 some-left (h ∷ hs) e = refl
-
--- what a command makes of the number of holders
-act-counts : (list counts : List ℕ) (l : ℕ) (z : State)
-    → act list counts l z .machine .holding ≡ fewer (holds (act list counts l z .heads) l) (z .machine .holding)
-unfolding act
-act-counts list counts l z = refl
 
 module _ {p : Program} {counts list items spans : List ℕ} {m : Machine} {z : State} (r : Ready p counts list items spans m z) where
   -- the number that the machine keeps is that of its holders
@@ -113,6 +108,7 @@ module _ {p : Program} {counts list items spans : List ℕ} {m : Machine} {z : S
               tabled = acts-tabled (r .prepared .firm) s (r .good) (r .tabled);
               stands = S;
               kept = move-kept items spans z (r .kept);
+              counting = move-from items spans z ∙ r .counting ∙ sym (machine-move-from p m q);
             },
           )
       comes stuck q S = absurd S
@@ -136,10 +132,11 @@ module _ {p : Program} {counts list items spans : List ℕ} {m : Machine} {z : S
 
     module _ (e : ℕ) where
       -- the command of the instance that the byte picks finds what it needs
-      pub picked-fits : Fit list counts (picked (z .heads) (z .machine .count) e) z
+      pub picked-fits : Fit list counts (picked (z .heads) (z .machine .from) (z .machine .count) e) z
       picked-fits =
           let (i, n, c, a, d) = chosen-holds m e (some-hold b) in
-          rw (picks m (r .stands) e) (fits (r .prepared .firm) (r .prepared .bounded) (r .good) list (At items) z (r .stands) (chosen (holders m) e) i a c n d)
+          rw (picks m (r .stands) (r .counting) e)
+          (fits (r .prepared .firm) (r .prepared .bounded) (r .good) list (At items) z (r .stands) (chosen (holders m) e) i a c n d)
 
       -- as many hold commands behind it, or one fewer
       counted : {m′ : Machine} {y : State} → Stands list (At items) m′ y → command p (chosen (holders m) e) m ≡ next m′
@@ -151,9 +148,10 @@ module _ {p : Program} {counts list items spans : List ℕ} {m : Machine} {z : S
 
       takes : (i : Instance) → Kept p Refused (command p (chosen (holders m) e) m)
           → (y : State) → y .machine .holding ≡ fewer (holds (y .heads) (chosen (holders m) e)) (z .machine .holding)
+          → (y .machine .number ≡ 0 → y .machine .from ≡ suc (chosen (holders m) e))
           → (o : Out) → command p (chosen (holders m) e) m ≡ o → After list (At items) z y o
           → Turned p counts list items spans m e z y
-      takes i k y q (next m′) c S =
+      takes i k y q f (next m′) c S =
           let s = acts-take {e = e} (some-hold b) c in
           turned
           (record {
@@ -162,21 +160,23 @@ module _ {p : Program} {counts list items spans : List ℕ} {m : Machine} {z : S
             tabled = acts-tabled (r .prepared .firm) s (r .good) (r .tabled);
             stands = S;
             kept = q ∙ ap (fewer (holds (y .heads) (chosen (holders m) e))) (r .kept) ∙ sym (counted S c);
+            counting = f (S .clear) ∙ sym (command-from p (chosen (holders m) e) m c);
           })
           c
           (λ es. (1, reads (acts-take (some-hold b) c) here))
-      takes i k y q (refused n) c S =
+      takes i k y q f (refused n) c S =
           failed S (subst (Kept p Refused) c k) (λ es. rests-run p (rests-fails (some-hold b) c))
-      takes i k y q stuck c S = absurd S
+      takes i k y q f stuck c S = absurd S
 
       -- a turn
-      pub turned-by : Turned p counts list items spans m e z (act list counts (picked (z .heads) (z .machine .count) e) z)
+      pub turned-by : Turned p counts list items spans m e z (act list counts (picked (z .heads) (z .machine .from) (z .machine .count) e) z)
       turned-by =
           let (i, n, c, a, d) = chosen-holds m e (some-hold b) in
-          rw (picks m (r .stands) e)
+          rw (picks m (r .stands) (r .counting) e)
           (takes i (command-kept (r .prepared .firm) (r .good) (chosen (holders m) e) i a n c d)
           (act list counts (chosen (holders m) e) z)
           (act-counts list counts (chosen (holders m) e) z)
+          (act-from list counts (chosen (holders m) e) z)
           (command p (chosen (holders m) e) m)
           refl
           (acts (r .prepared .firm) (r .prepared .bounded) (r .good) list (At items) z (r .stands) (chosen (holders m) e) i a c n d))

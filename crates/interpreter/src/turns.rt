@@ -108,7 +108,12 @@ fn take_turns(
     let mut next = s;
     let mut known = rs;
     while next.due {
-        let l = holder(&known, next.pick);
+        let l = holder(
+            &known,
+            next.machine.numbers.count,
+            next.machine.numbers.from,
+            next.pick,
+        );
         next = turn(next, l, list, counts, heads, cells, turns);
         known[l] = next.actor;
     }

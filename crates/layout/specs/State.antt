@@ -11,26 +11,30 @@ use Rattle.layout.specs.Layout.{head}
 
 -- a machine of n instances at the beginning of its schedule
 abbrev pub fresh : ℕ → Numbers
-fresh n = record { count = n; place = 0; fixes = 0; stable = 0; number = 0; holding = 0 }
+fresh n = record { count = n; place = 0; fixes = 0; stable = 0; number = 0; holding = 0; from = 0 }
 
 module _ (m : Numbers) (x : ℕ) where
   abbrev pub set-count : Numbers
-  set-count = record { count = x; place = m .place; fixes = m .fixes; stable = m .stable; number = m .number; holding = m .holding }
+  set-count = record { count = x; place = m .place; fixes = m .fixes; stable = m .stable; number = m .number; holding = m .holding; from = m .from }
 
   abbrev pub set-place : Numbers
-  set-place = record { count = m .count; place = x; fixes = m .fixes; stable = m .stable; number = m .number; holding = m .holding }
+  set-place = record { count = m .count; place = x; fixes = m .fixes; stable = m .stable; number = m .number; holding = m .holding; from = m .from }
 
   abbrev pub set-fixes : Numbers
-  set-fixes = record { count = m .count; place = m .place; fixes = x; stable = m .stable; number = m .number; holding = m .holding }
+  set-fixes = record { count = m .count; place = m .place; fixes = x; stable = m .stable; number = m .number; holding = m .holding; from = m .from }
 
   abbrev pub set-stable : Numbers
-  set-stable = record { count = m .count; place = m .place; fixes = m .fixes; stable = x; number = m .number; holding = m .holding }
+  set-stable = record { count = m .count; place = m .place; fixes = m .fixes; stable = x; number = m .number; holding = m .holding; from = m .from }
 
   abbrev pub set-number : Numbers
-  set-number = record { count = m .count; place = m .place; fixes = m .fixes; stable = m .stable; number = x; holding = m .holding }
+  set-number = record { count = m .count; place = m .place; fixes = m .fixes; stable = m .stable; number = x; holding = m .holding; from = m .from }
 
   abbrev pub set-holding : Numbers
-  set-holding = record { count = m .count; place = m .place; fixes = m .fixes; stable = m .stable; number = m .number; holding = x }
+  set-holding = record { count = m .count; place = m .place; fixes = m .fixes; stable = m .stable; number = m .number; holding = x; from = m .from }
+
+  abbrev pub set-from : Numbers
+  set-from =
+      record { count = m .count; place = m .place; fixes = m .fixes; stable = m .stable; number = m .number; holding = m .holding; from = x }
 
 -- place, open Fixes and their entries
 abbrev pub placed : Numbers → ℕ → ℕ → ℕ → Numbers
@@ -74,6 +78,10 @@ unstable z = with-machine z (set-stable (z .machine) 0)
 -- so many instances hold commands
 abbrev pub with-holding : State → ℕ → State
 with-holding z n = with-machine z (set-holding (z .machine) n)
+
+-- turns are counted from this label (02, 'Turns that go round')
+abbrev pub with-from : State → ℕ → State
+with-from z n = with-machine z (set-from (z .machine) n)
 
 abbrev pub refused : ℕ → State → State
 refused n z = with-machine z (set-number (z .machine) n)

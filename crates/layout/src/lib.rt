@@ -30,7 +30,8 @@ pub const HEADS: usize = HEAD_SIZE * types::MAX_INSTANCES;
 pub const CELLS: usize = ROW_SIZE * types::MAX_INSTANCES;
 
 // The machine's numbers: instances so far, the place in the schedule, open Fixes, their stability entries as bits with the top one lowest,
-// 0 or the number of a refusal, and how many instances hold commands (02, 'Holders kept as a number').
+// 0 or the number of a refusal, how many instances hold commands (02, 'Holders kept as a number'), and the label from which turns are
+// counted on, the one after that which acted last (02, 'Turns that go round').
 pub struct Numbers {
     pub count: usize,
     pub place: usize,
@@ -38,6 +39,7 @@ pub struct Numbers {
     pub stable: usize,
     pub number: u8,
     pub holding: usize,
+    pub from: usize,
 }
 
 // Those of a machine of so many instances at the beginning of its schedule.
@@ -51,6 +53,7 @@ pub fn fresh(count: usize) -> Numbers
         stable: 0,
         number: 0,
         holding: 0,
+        from: 0,
     }
 }
 

@@ -27,7 +27,7 @@ use Rattle.machine.specs.Rules.{Rule.ComPush, Rule.ComPushThis, Rule.Com
 use Rattle.machine.specs.Rules.{Rule.ComIfT, Rule.ComIfF}
 use Rattle.machine.specs.Stops.{Full, Full.no-label, Exceeded, Exceeded.no-result, full, exceeded}
 use Rattle.machine.specs.Machine.{Tagged, tagged, Source, Source.variable, Source.local, Source.result, given-by, Instance, Machine, Out, Out.next}
-use Rattle.machine.specs.Machine.{Out.refused, Out.stuck, with-code, with-written, put, leaves-stable, read-from, read-at, read, write-to}
+use Rattle.machine.specs.Machine.{Out.refused, Out.stuck, with-code, with-written, acting, put, leaves-stable, read-from, read-at, read, write-to}
 use Rattle.machine.specs.Machine.{write-parameter, write-at, write, negate, branch, operated, operate, made, construct, perform, command}
 use Rattle.machine.specs.Represents.{values, Represents-inst, Represents}
 use Rattle.machine.specs.RepresentsLaws.{instance-at, values-length, map-drop, map-take, top, represents-length, represents-set, represents-env}
@@ -65,17 +65,6 @@ has-value p {x = x} (same-value h e) a = (x, e)
 has-value p (other-value {y = y} h e n) a = (y, e)
 
 module _ (p : Program) (m : Machine) (l : ℕ) (s : Sched) (σ : List Inst) (b : List Bool) (R : Represents m (state s σ b)) where
-  -- what holds of performing the next command of instance l holds of the command
-  taken : (P : Out → Type 0) {k : ℕ} {c : Coms} {χ : List Val} {ξ : Env} {f : Flat} {fs : List Flat}
-      → getElem? σ l ≡ some (inst k c χ ξ) → flatten c ≡ f ∷ fs
-      → ((i : Instance) (n : Note) (r : List Note) → i .struct ≡ k → map erase r ≡ fs → values (i .stack) ≡ χ → i .env ≡ ξ → Means f n
-      → P (perform p m l i n r))
-      → P (command p l m)
-  taken P g e h =
-      let (i, f, (a, c, x, y)) = instance-at (m .instances) σ l (R .1) g in
-      let (n, r, q, k, t) = next-note (i .code) (c ∙ e) in
-      performs P p m l f q (h (with-written i (now-written n (i .written))) n r a t x y k)
-
   -- instance l is put back
   put-leads : (i : Instance) (j : Inst) → Represents-inst i j → Leads (state s (set σ l j) b) (next (put m l i))
   put-leads i j h = (R .0, represents-set (m .instances) σ l i j (R .1) h, R .2)
@@ -240,33 +229,50 @@ module _ (p : Program) (m : Machine) (l : ℕ) (s : Sched) (σ : List Inst) (b :
       λ t χ′ f. put-leads (with-code i (drop (length (flatten d)) r) χ′) (inst k c χ ξ)
       (ek, rw (map-drop erase, ec) (drop-append-seam (flatten d) (flatten c)), f, eξ)
 
+-- Of a command, by which counting goes on behind its actor
+module _ (p : Program) (m : Machine) (l : ℕ) (s : Sched) (σ : List Inst) (b : List Bool) (R : Represents m (state s σ b)) where
+  -- what holds of performing the next command of instance l holds of the command
+  taken : (P : Out → Type 0) {k : ℕ} {c : Coms} {χ : List Val} {ξ : Env} {f : Flat} {fs : List Flat}
+      → getElem? σ l ≡ some (inst k c χ ξ) → flatten c ≡ f ∷ fs
+      → ((i : Instance) (n : Note) (r : List Note) → i .struct ≡ k → map erase r ≡ fs → values (i .stack) ≡ χ → i .env ≡ ξ → Means f n
+      → P (perform p (acting l m) l i n r))
+      → P (command p l m)
+  taken P g e h =
+      let (i, f, (a, c, x, y)) = instance-at (m .instances) σ l (R .1) g in
+      let (n, r, q, k, t) = next-note (i .code) (c ∙ e) in
+      performs P p m l f q (h (with-written i (now-written n (i .written))) n r a t x y k)
+
   leads : (st : State) {k : ℕ} {c : Coms} {χ : List Val} {ξ : Env} {f : Flat} {fs : List Flat}
       → getElem? σ l ≡ some (inst k c χ ξ) → flatten c ≡ f ∷ fs
       → ((i : Instance) (n : Note) (r : List Note) → i .struct ≡ k → map erase r ≡ fs → values (i .stack) ≡ χ → i .env ≡ ξ → Means f n
-      → Leads st (perform p m l i n r))
+      → Leads st (perform p (acting l m) l i n r))
       → Leads st (command p l m)
   leads st = taken (Leads st)
 
   -- a rule for instance l gives what its command comes to
   pub rule-leads : {st : State} → Rule p (instance l) (state s σ b) st → Leads st (command p l m)
   unfolding flatten
-  rule-leads (ComPush {c = c} g e) = rw e (leads _ g refl (λ i n r ek ec ex eξ h. push-leads i r c ek ec eξ ex h))
-  rule-leads (ComPushThis {c = c} g e) = rw e (leads _ g refl (λ i n r ek ec ex eξ h. this-leads i r c ek ec eξ ex h))
-  rule-leads (ComRd {v = v} {c = c} g f y e) = rw e (leads _ g refl (λ i n r ek ec ex eξ h. rd-leads i r c ek ec eξ v ex f y h))
-  rule-leads (ComWr {v = v} {c = c} g f w u e e′) = rw (e, e′) (leads _ g refl (λ i n r ek ec ex eξ h. wr-leads i r c ek ec eξ v ex f w u h))
-  rule-leads (ComWrNSkip {v = v} {c = c} g f a d e) = rw e (leads _ g refl (λ i n r ek ec ex eξ h. skip-leads i r c ek ec eξ v ex f a d h))
-  rule-leads (ComNot {c = c} g e) = rw e (leads _ g refl (λ i n r ek ec ex eξ h. not-leads i r c ek ec eξ ex h))
-  rule-leads (ComOp {c = c} g a e) = rw e (leads _ g refl (λ i n r ek ec ex eξ h. op-leads i r c ek ec eξ ex a h))
-  rule-leads (ComCons {c = c} xs χ g a f t e e′) = rw (e, e′) (leads _ g refl (λ i n r ek ec ex eξ h. cons-leads i r c ek ec eξ xs χ (ex ∙ f) a t h))
-  rule-leads (ComIfT {c = c} {d = d} g e) = rw e (leads _ g refl (λ i n r ek ec ex eξ h. branch-leads i r d c true ek ec ex eξ h))
-  rule-leads (ComIfF {c = c} {d = d} g e) = rw e (leads _ g refl (λ i n r ek ec ex eξ h. branch-leads i r d c false ek ec ex eξ h))
+  rule-leads (ComPush {c = c} g e) = rw e (leads _ g refl (λ i n r ek ec ex eξ h. push-leads p (acting l m) l s σ b R i r c ek ec eξ ex h))
+  rule-leads (ComPushThis {c = c} g e) = rw e (leads _ g refl (λ i n r ek ec ex eξ h. this-leads p (acting l m) l s σ b R i r c ek ec eξ ex h))
+  rule-leads (ComRd {v = v} {c = c} g f y e) = rw e (leads _ g refl (λ i n r ek ec ex eξ h. rd-leads p (acting l m) l s σ b R i r c ek ec eξ v ex f y h))
+  rule-leads (ComWr {v = v} {c = c} g f w u e e′) =
+      rw (e, e′) (leads _ g refl (λ i n r ek ec ex eξ h. wr-leads p (acting l m) l s σ b R i r c ek ec eξ v ex f w u h))
+  rule-leads (ComWrNSkip {v = v} {c = c} g f a d e) =
+      rw e (leads _ g refl (λ i n r ek ec ex eξ h. skip-leads p (acting l m) l s σ b R i r c ek ec eξ v ex f a d h))
+  rule-leads (ComNot {c = c} g e) = rw e (leads _ g refl (λ i n r ek ec ex eξ h. not-leads p (acting l m) l s σ b R i r c ek ec eξ ex h))
+  rule-leads (ComOp {c = c} g a e) = rw e (leads _ g refl (λ i n r ek ec ex eξ h. op-leads p (acting l m) l s σ b R i r c ek ec eξ ex a h))
+  rule-leads (ComCons {c = c} xs χ g a f t e e′) =
+      rw (e, e′) (leads _ g refl (λ i n r ek ec ex eξ h. cons-leads p (acting l m) l s σ b R i r c ek ec eξ xs χ (ex ∙ f) a t h))
+  rule-leads (ComIfT {c = c} {d = d} g e) = rw e (leads _ g refl (λ i n r ek ec ex eξ h. branch-leads p (acting l m) l s σ b R i r d c true ek ec ex eξ h))
+  rule-leads (ComIfF {c = c} {d = d} g e) = rw e (leads _ g refl (λ i n r ek ec ex eξ h. branch-leads p (acting l m) l s σ b R i r d c false ek ec ex eξ h))
 
   -- cons with 256 instances is refused with 34
   pub full-refused : Full l (state s σ b) → command p l m ≡ refused full
   unfolding flatten
-  full-refused (no-label {c = c} g f) = taken (λ o. o ≡ refused full) g refl (λ i n r ek ec ex eξ h. full-is i r c ek ec eξ f h)
+  full-refused (no-label {c = c} g f) = taken (λ o. o ≡ refused full) g refl (λ i n r ek ec ex eξ h. full-is p (acting l m) l s σ b R i r c ek ec eξ f h)
 
   -- a zero divisor, or a result outside its type, is refused with 35
   pub exceeded-refused : Exceeded l (state s σ b) → command p l m ≡ refused exceeded
   unfolding flatten
-  exceeded-refused (no-result {c = c} g a) = taken (λ o. o ≡ refused exceeded) g refl (λ i n r ek ec ex eξ h. exceeded-is i r c ek ec eξ ex a h)
+  exceeded-refused (no-result {c = c} g a) =
+      taken (λ o. o ≡ refused exceeded) g refl (λ i n r ek ec ex eξ h. exceeded-is p (acting l m) l s σ b R i r c ek ec eξ ex a h)

@@ -25,8 +25,8 @@ use Rattle.machine.specs.Rules.{LeavesStable, LeavesStable.no-parameter,
 use Rattle.machine.specs.Rules.{Rule.ComPush, Rule.ComPushThis, Rule.ComRd, Rule.ComWr, Rule.ComWrNSkip, Rule.ComNot, Rule.ComOp, Rule.ComCons}
 use Rattle.machine.specs.Rules.{Rule.ComIfT, Rule.ComIfF}
 use Rattle.machine.specs.Stops.{Full, Full.no-label, Exceeded, Exceeded.no-result, full, exceeded}
-use Rattle.machine.specs.Machine.{Tagged, tagged, given-by, Instance, Machine, Out, Out.next, Out.refused, Out.stuck, with-code, with-written, put}
-use Rattle.machine.specs.Machine.{leaves-stable, made, command}
+use Rattle.machine.specs.Machine.{Tagged, tagged, given-by, Instance, Machine, Out, Out.next, Out.refused, Out.stuck, with-code, with-written, acting}
+use Rattle.machine.specs.Machine.{put, leaves-stable, made, command}
 use Rattle.machine.specs.Represents.{values, Represents-inst, Represents}
 use Rattle.machine.specs.RepresentsLaws.{inst-at, values-length, map-drop, represents-length, represents-set, represents-env, represents-append}
 use Rattle.machine.specs.Performed.{Performed, Performed.pushed, Performed.pushed-this, Performed.negated, Performed.read-one, Performed.skipped}
@@ -149,9 +149,10 @@ module _ (p : Program) (m : Machine) (l : ℕ) (s : Sched) (σ : List Inst) (b :
       (refl, map-drop erase n r ∙ ap (drop n) k ∙ drop-at (flatten a) (flatten c) n (sym h), refl, refl)
   way-follows i r d no-way e g = tt
 
+module _ (p : Program) (m : Machine) (l : ℕ) (s : Sched) (σ : List Inst) (b : List Bool) (R : Represents m (state s σ b)) where
   -- what the command of instance l comes to follows the rules
   pub command-outcome : Follows p l (state s σ b) (command p l m)
   command-outcome =
       by-ways (Follows p l (state s σ b)) p m l tt
       λ i n r o g e h. let (d, f, k) = inst-at (m .instances) σ l (R .1) g in
-      way-follows (with-written i (now-written n (i .written))) r d h (sym (ap (map erase) e) ∙ k) f
+      way-follows p (acting l m) l s σ b R (with-written i (now-written n (i .written))) r d h (sym (ap (map erase) e) ∙ k) f

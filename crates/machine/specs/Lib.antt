@@ -16,3 +16,4 @@ pub mod Measure
 pub mod MeasureLaws
 pub mod RulesLaws
 pub mod CallLaws
+pub mod FromLaws

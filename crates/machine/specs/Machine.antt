@@ -66,6 +66,8 @@ pub record Machine : Type 0 where
   pub sched : Sched
   pub instances : List Instance
   pub stability : List Bool
+  -- the label from which turns are counted on, the one after that which acted last (02, 'Turns that go round')
+  pub from : ℕ
 
 -- what a command comes to: the next machine, a number from the state, or no rule
 pub data Out : Type 0 where
@@ -95,14 +97,18 @@ update-env (i ∷ is) zero ξ = with-env i ξ ∷ is
 update-env (i ∷ is) (suc l) ξ = i ∷ update-env is l ξ
 
 abbrev pub with-instances : Machine → List Instance → Machine
-with-instances m is = record { sched = m .sched; instances = is; stability = m .stability }
+with-instances m is = record { sched = m .sched; instances = is; stability = m .stability; from = m .from }
 
 -- the instance l put back
 abbrev pub put : Machine → ℕ → Instance → Machine
 put m l i = with-instances m (set (m .instances) l i)
 
 abbrev pub with-stability : Machine → List Bool → Machine
-with-stability m b = record { sched = m .sched; instances = m .instances; stability = b }
+with-stability m b = record { sched = m .sched; instances = m .instances; stability = b; from = m .from }
+
+-- instance l acts, and counting goes on behind it
+abbrev pub acting : ℕ → Machine → Machine
+acting l m = record { sched = m .sched; instances = m .instances; stability = m .stability; from = suc l }
 
 -- Commands ---------------------------------------------------------------------
 
@@ -249,7 +255,7 @@ command-at p m l none = stuck
 command-at p m l (some i) = command-of p m l i (i .code)
 
 unfoldable pub command : Program → ℕ → Machine → Out
-command p l m = command-at p m l (getElem? (m .instances) l)
+command p l m = command-at p (acting l m) l (getElem? (m .instances) l)
 
 -- Schedule moves ----------------------------------------------------------------
 
@@ -267,20 +273,20 @@ given p (some b) i = record {
 unfoldable pub started : Program → StepCall → Instance → Instance
 started p a i = given p (called p a (i .struct)) i
 
-abbrev pub machine : Sched → List Instance → List Bool → Machine
-machine s is b = record { sched = s; instances = is; stability = b }
+abbrev pub machine : Sched → List Instance → List Bool → ℕ → Machine
+machine s is b n = record { sched = s; instances = is; stability = b; from = n }
 
-unfoldable pub repeat : Sched → Sched → List Instance → List Bool → Moved
-repeat f s is [] = stuck
-repeat f s is (true ∷ b) = next (machine s is b)
-repeat f s is (false ∷ b) = next (machine (before f (active f s)) is (true ∷ b))
+unfoldable pub repeat : Sched → Sched → List Instance → List Bool → ℕ → Moved
+repeat f s is [] n = stuck
+repeat f s is (true ∷ b) n = next (machine s is b n)
+repeat f s is (false ∷ b) n = next (machine (before f (active f s)) is (true ∷ b) n)
 
--- one move of the schedule, where no instance holds commands
-unfoldable pub move-by : Program → Sched → List Instance → List Bool → Moved
-move-by p done is b = stuck
-move-by p (start a s) is b = next (machine s (map (started p a) is) b)
-move-by p (fixpoint f s) is b = next (machine (before f (active f s)) is (true ∷ b))
-move-by p (active f s) is b = repeat f s is b
+-- one move of the schedule, where no instance holds commands; counting goes on from the same label
+unfoldable pub move-by : Program → Sched → List Instance → List Bool → ℕ → Moved
+move-by p done is b n = stuck
+move-by p (start a s) is b n = next (machine s (map (started p a) is) b n)
+move-by p (fixpoint f s) is b n = next (machine (before f (active f s)) is (true ∷ b) n)
+move-by p (active f s) is b n = repeat f s is b n
 
 abbrev pub move : Program → Machine → Moved
-move p m = move-by p (m .sched) (m .instances) (m .stability)
+move p m = move-by p (m .sched) (m .instances) (m .stability) (m .from)

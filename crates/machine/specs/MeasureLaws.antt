@@ -14,7 +14,7 @@ use Rattle.commands.specs.Noted.{Note, erase, noted, now-written}
 use Rattle.commands.specs.Laws.NotedLaws.{erased}
 use Rattle.machine.specs.Published.{StepCall, called, Sched, Sched.done, Sched.start, Sched.fixpoint, Sched.active, before, Env, arity}
 use Rattle.machine.specs.Machine.{Tagged, tagged, Instance, Machine, Out, Out.next, Out.refused, Out.stuck, Moved, Moved.next, Moved.stuck, with-code}
-use Rattle.machine.specs.Machine.{with-written, update-env, made, command, given, started, repeat, move-by, move}
+use Rattle.machine.specs.Machine.{with-written, acting, update-env, made, command, given, started, repeat, move-by, move}
 use Rattle.machine.specs.RepresentsLaws.{Still}
 use Rattle.machine.specs.Performed.{Performed, Performed.pushed, Performed.pushed-this, Performed.negated, Performed.read-one, Performed.skipped}
 use Rattle.machine.specs.Performed.{Performed.wrote, Performed.calculated, Performed.exceeding, Performed.constructed, Performed.filled}
@@ -43,20 +43,21 @@ abbrev Falls : ℕ → ℕ → Moved → Type 0
 Falls B M (next m) = (measure B m < M) × (bound (m .sched) ≤ B)
 Falls B M stuck = Unit {0}
 
-falls-by : (p : Program) (B : ℕ) (s : Sched) (is : List Instance) (b : List Bool) → bound s ≤ B → Falls B (passages B b + weight s) (move-by p s is b)
+falls-by : (p : Program) (B : ℕ) (s : Sched) (is : List Instance) (b : List Bool) (n : ℕ) → bound s ≤ B
+    → Falls B (passages B b + weight s) (move-by p s is b n)
 unfolding move-by repeat measure weight bound passages
-falls-by p B done is b h = tt
-falls-by p B (start a s) is b h = (omega arith, h)
-falls-by p B (fixpoint f s) is b h = (omega (arith, weight-before f (active f s)), omega (arith, bound-before f (active f s)))
-falls-by p B (active f s) is [] h = tt
-falls-by p B (active f s) is (true ∷ b) h = (omega arith, omega arith)
-falls-by p B (active f s) is (false ∷ b) h = (omega (arith, weight-before f (active f s)), omega (arith, bound-before f (active f s)))
+falls-by p B done is b n h = tt
+falls-by p B (start a s) is b n h = (omega arith, h)
+falls-by p B (fixpoint f s) is b n h = (omega (arith, weight-before f (active f s)), omega (arith, bound-before f (active f s)))
+falls-by p B (active f s) is [] n h = tt
+falls-by p B (active f s) is (true ∷ b) n h = (omega arith, omega arith)
+falls-by p B (active f s) is (false ∷ b) n h = (omega (arith, weight-before f (active f s)), omega (arith, bound-before f (active f s)))
 
 -- with every move the measure falls, and the bound does not grow: moves alone come to an end
 pub move-falls : (p : Program) (B : ℕ) (m : Machine) {m′ : Machine} → bound (m .sched) ≤ B → move p m ≡ next m′ → (measure B m′ < measure B m)
     × (bound (m′ .sched) ≤ B)
 unfolding measure
-move-falls p B m h e = rw e at (falls-by p B (m .sched) (m .instances) (m .stability) h)
+move-falls p B m h e = rw e at (falls-by p B (m .sched) (m .instances) (m .stability) (m .from) h)
 
 -- Commands -------------------------------------------------------------------------
 
@@ -114,7 +115,7 @@ module _ (p : Program) (m : Machine) (l : ℕ) {i₀ : Instance} (g : getElem? (
 pub command-shortens : (p : Program) (l : ℕ) (m : Machine) {m′ : Machine} → command p l m ≡ next m′ → codes (m′ .instances) < codes (m .instances)
 command-shortens p l m e =
     rw e at (by-ways (Fewer (codes (m .instances))) p m l tt
-    λ i n r o g f h. fewer p m l g (with-written i (now-written n (i .written))) r (omega (arith, ap length f)) h)
+    λ i n r o g f h. fewer p (acting l m) l g (with-written i (now-written n (i .written))) r (omega (arith, ap length f)) h)
 
 -- Starts ---------------------------------------------------------------------------
 
@@ -145,16 +146,16 @@ module _ (p : Program) where
   Holding k (next m) = codes (m .instances) ≡ k
   Holding k stuck = Unit {0}
 
-  moves-codes : (s : Sched) (is : List Instance) (b : List Bool) → Still is → Holding (total (share-of p s) is) (move-by p s is b)
+  moves-codes : (s : Sched) (is : List Instance) (b : List Bool) (n : ℕ) → Still is → Holding (total (share-of p s) is) (move-by p s is b n)
   unfolding move-by repeat share-of
-  moves-codes done is b t = tt
-  moves-codes (start a s) is b t = codes-map (started p a) (share p a) (started-code a) is t
-  moves-codes (fixpoint f s) is b t = codes-still (share-of p (fixpoint f s)) (λ i. refl) is t
-  moves-codes (active f s) is [] t = tt
-  moves-codes (active f s) is (true ∷ b) t = codes-still (share-of p (active f s)) (λ i. refl) is t
-  moves-codes (active f s) is (false ∷ b) t = codes-still (share-of p (active f s)) (λ i. refl) is t
+  moves-codes done is b n t = tt
+  moves-codes (start a s) is b n t = codes-map (started p a) (share p a) (started-code a) is t
+  moves-codes (fixpoint f s) is b n t = codes-still (share-of p (fixpoint f s)) (λ i. refl) is t
+  moves-codes (active f s) is [] n t = tt
+  moves-codes (active f s) is (true ∷ b) n t = codes-still (share-of p (active f s)) (λ i. refl) is t
+  moves-codes (active f s) is (false ∷ b) n t = codes-still (share-of p (active f s)) (λ i. refl) is t
 
   -- a move where no instance holds commands leaves the sum of the command counts of the step that it starts, each over its instances
   pub moved-codes : (m : Machine) {m′ : Machine} → Still (m .instances) → move p m ≡ next m′
       → codes (m′ .instances) ≡ total (share-of p (m .sched)) (m .instances)
-  moved-codes m t e = rw e at (moves-codes (m .sched) (m .instances) (m .stability) t)
+  moved-codes m t e = rw e at (moves-codes (m .sched) (m .instances) (m .stability) (m .from) t)

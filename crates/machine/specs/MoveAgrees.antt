@@ -46,33 +46,34 @@ module _ (p : Program) where
   initiated (local k n) d = InitL d refl
 
   -- what a move comes to follows the rules
-  moves-by : (s : Sched) (is : List Instance) (σ : List Inst) (b : List Bool) → Represents-all is σ → Moves p s σ b (move-by p s is b)
+  moves-by : (s : Sched) (is : List Instance) (σ : List Inst) (b : List Bool) (n : ℕ) → Represents-all is σ → Moves p s σ b (move-by p s is b n)
   unfolding move-by repeat
-  moves-by done is σ b R = tt
-  moves-by (start a s) is σ b R = λ d. (state s (map (started p a) σ) b, initiated a d, (refl, starts-represent a is σ R, refl))
-  moves-by (fixpoint f s) is σ b R = λ d. (state (before f (active f s)) σ (true ∷ b), FixInit d refl, (refl, R, refl))
-  moves-by (active f s) is σ [] R = tt
-  moves-by (active f s) is σ (true ∷ b) R = λ d. (state s σ b, FixTerm d, (refl, R, refl))
-  moves-by (active f s) is σ (false ∷ b) R = λ d. (state (before f (active f s)) σ (true ∷ b), FixIter d refl, (refl, R, refl))
+  moves-by done is σ b n R = tt
+  moves-by (start a s) is σ b n R = λ d. (state s (map (started p a) σ) b, initiated a d, (refl, starts-represent a is σ R, refl))
+  moves-by (fixpoint f s) is σ b n R = λ d. (state (before f (active f s)) σ (true ∷ b), FixInit d refl, (refl, R, refl))
+  moves-by (active f s) is σ [] n R = tt
+  moves-by (active f s) is σ (true ∷ b) n R = λ d. (state s σ b, FixTerm d, (refl, R, refl))
+  moves-by (active f s) is σ (false ∷ b) n R = λ d. (state (before f (active f s)) σ (true ∷ b), FixIter d refl, (refl, R, refl))
 
   -- a rule for the schedule gives what the move comes to
-  leads-by : {s : Sched} (is : List Instance) {σ : List Inst} {b : List Bool} {st : State} → Represents-all is σ → Rule p schedule (state s σ b) st
-      → (m′ : Machine) × (move-by p s is b ≡ next m′) × (Represents m′ st)
+  leads-by : {s : Sched} (is : List Instance) {σ : List Inst} {b : List Bool} (q : ℕ) {st : State} → Represents-all is σ → Rule p schedule (state s σ b) st
+      → (m′ : Machine) × (move-by p s is b q ≡ next m′) × (Represents m′ st)
   unfolding move-by repeat
-  leads-by is {σ} {b} R (InitG {s = s} {n = n} d e) = (machine s (map (begin p (global n)) is) b, refl, rw e (refl, starts-represent (global n) is σ R, refl))
-  leads-by is {σ} {b} R (InitL {s = s} {k = k} {n = n} d e) =
-      (machine s (map (begin p (local k n)) is) b, refl, rw e (refl, starts-represent (local k n) is σ R, refl))
-  leads-by is R (FixInit {f = f} {s = s} {b = b} d e) = (machine (before f (active f s)) is (true ∷ b), refl, rw e (refl, R, refl))
-  leads-by is R (FixIter {f = f} {s = s} {b = b} d e) = (machine (before f (active f s)) is (true ∷ b), refl, rw e (refl, R, refl))
-  leads-by is R (FixTerm {s = s} {b = b} d) = (machine s is b, refl, (refl, R, refl))
+  leads-by is {σ} {b} q R (InitG {s = s} {n = n} d e) =
+      (machine s (map (begin p (global n)) is) b q, refl, rw e (refl, starts-represent (global n) is σ R, refl))
+  leads-by is {σ} {b} q R (InitL {s = s} {k = k} {n = n} d e) =
+      (machine s (map (begin p (local k n)) is) b q, refl, rw e (refl, starts-represent (local k n) is σ R, refl))
+  leads-by is q R (FixInit {f = f} {s = s} {b = b} d e) = (machine (before f (active f s)) is (true ∷ b) q, refl, rw e (refl, R, refl))
+  leads-by is q R (FixIter {f = f} {s = s} {b = b} d e) = (machine (before f (active f s)) is (true ∷ b) q, refl, rw e (refl, R, refl))
+  leads-by is q R (FixTerm {s = s} {b = b} d) = (machine s is b q, refl, (refl, R, refl))
 
   module _ (m : Machine) where
     -- a move from the schedule and the stability stack that the machine stands for
-    from : (P : Moved → Type 0) {s : Sched} {b : List Bool} → m .sched ≡ s → m .stability ≡ b → P (move-by p s (m .instances) b) → P (move p m)
-    from P e f = subst₂ (λ s b. P (move-by p s (m .instances) b)) (sym e) (sym f)
+    moving : (P : Moved → Type 0) {s : Sched} {b : List Bool} → m .sched ≡ s → m .stability ≡ b → P (move-by p s (m .instances) b (m .from)) → P (move p m)
+    moving P e f = subst₂ (λ s b. P (move-by p s (m .instances) b (m .from))) (sym e) (sym f)
 
     outcome : (s : Sched) (σ : List Inst) (b : List Bool) → Represents m (state s σ b) → Moves p s σ b (move p m)
-    outcome s σ b R = from (Moves p s σ b) (R .0) (R .2) (moves-by s (m .instances) σ b (R .1))
+    outcome s σ b R = moving (Moves p s σ b) (R .0) (R .2) (moves-by s (m .instances) σ b (m .from) (R .1))
 
     -- what the next machine stands for, a rule gives, where no instance holds commands
     pub move-follows : (st : State) {m′ : Machine} → Represents m st → Still (m .instances) → move p m ≡ next m′ → (st′ : State) × (Rule p schedule st st′)
@@ -82,7 +83,7 @@ module _ (p : Program) where
     -- what a rule gives, the next machine stands for
     pub move-complete : {st st′ : State} → Represents m st → Rule p schedule st st′ → (m′ : Machine) × (move p m ≡ next m′) × (Represents m′ st′)
     move-complete {st = state s σ b} {st′} R r =
-        from (λ o. (m′ : Machine) × (o ≡ next m′) × (Represents m′ st′)) (R .0) (R .2) (leads-by (m .instances) (R .1) r)
+        moving (λ o. (m′ : Machine) × (o ≡ next m′) × (Represents m′ st′)) (R .0) (R .2) (leads-by (m .instances) (m .from) (R .1) r)
 
     -- no move comes of it, where no instance holds commands, exactly where no rule fits
     pub move-stuck : (st : State) → Represents m st → Still (m .instances) → (move p m ≡ stuck) ↔ ((st′ : State) → Rule p schedule st st′ → ⊥)

@@ -16,9 +16,9 @@ use Rattle.commands.specs.Noted.{Note, Note.n-push, Note.n-this, Note.n-not, No
 use Rattle.commands.specs.Noted.{now-written}
 use Rattle.operators.specs.Apply.{Answer, Answer.value, Answer.outside, Answer.unfit, apply}
 use Rattle.machine.specs.Published.{lookup, structs, arity}
-use Rattle.machine.specs.Machine.{Tagged, tagged, Source, Source.variable, Source.local, Source.result, Instance, Machine, Out, Out.stuck, with-written}
-use Rattle.machine.specs.Machine.{read-from, read-at, read, write-to, write-parameter, write-at, write, negate, branch, operated, operate, construct}
-use Rattle.machine.specs.Machine.{perform, command-of, command-at, command}
+use Rattle.machine.specs.Machine.{Tagged, tagged, Source, Source.variable, Source.local, Source.result, Instance, Machine, Out, Out.stuck}
+use Rattle.machine.specs.Machine.{with-written, acting, read-from, read-at, read, write-to, write-parameter, write-at, write, negate, branch}
+use Rattle.machine.specs.Machine.{operated, operate, construct, perform, command-of, command-at, command}
 use Rattle.machine.specs.Performed.{Reads, Reads.parameter, Reads.of-local, Writes, Writes.to-parameter, Writes.to-local, Performed, Performed.pushed}
 use Rattle.machine.specs.Performed.{Performed.pushed-this, Performed.negated, Performed.read-one, Performed.skipped, Performed.wrote}
 use Rattle.machine.specs.Performed.{Performed.calculated, Performed.exceeding, Performed.constructed, Performed.filled, Performed.branched}
@@ -144,24 +144,24 @@ module _ (p : Program) (m : Machine) (l : ℕ) (i : Instance) (r : List Note) wh
 -- what holds of performing a command holds of the command of the instance l that has it next
 pub performs : (P : Out → Type 0) (p : Program) (m : Machine) (l : ℕ) {i : Instance} {n : Note} {r : List Note}
     → getElem? (m .instances) l ≡ some i → i .code ≡ n ∷ r
-    → P (perform p m l (with-written i (now-written n (i .written))) n r) → P (command p l m)
+    → P (perform p (acting l m) l (with-written i (now-written n (i .written))) n r) → P (command p l m)
 unfolding command command-at command-of
 performs P p m l {i} g e h =
-    subst (λ o. P (command-at p m l o)) (sym g) (subst (λ c. P (command-of p m l i c)) (sym e) h)
+    subst (λ o. P (command-at p (acting l m) l o)) (sym g) (subst (λ c. P (command-of p (acting l m) l i c)) (sym e) h)
 
 -- what holds of `stuck` and of every way through the next command of instance l holds of its command
 pub by-ways : (P : Out → Type 0) (p : Program) (m : Machine) (l : ℕ) → P stuck
     → ((i : Instance) (n : Note) (r : List Note) (o : Out) → getElem? (m .instances) l ≡ some i → i .code ≡ n ∷ r
-    → Performed p m l (with-written i (now-written n (i .written))) r n o → P o)
+    → Performed p (acting l m) l (with-written i (now-written n (i .written))) r n o → P o)
     → P (command p l m)
 unfolding command command-at command-of
 by-ways P p m l s h = at (getElem? (m .instances) l) refl
   where
-    code : (i : Instance) → getElem? (m .instances) l ≡ some i → (c : List Note) → i .code ≡ c → P (command-of p m l i c)
+    code : (i : Instance) → getElem? (m .instances) l ≡ some i → (c : List Note) → i .code ≡ c → P (command-of p (acting l m) l i c)
     code i g [] e = s
     code i g (n ∷ r) e =
-        let j = with-written i (now-written n (i .written)) in h i n r (perform p m l j n r) g e (performed p m l j r n)
+        let j = with-written i (now-written n (i .written)) in h i n r (perform p (acting l m) l j n r) g e (performed p (acting l m) l j r n)
 
-    at : (o : Option Instance) → getElem? (m .instances) l ≡ o → P (command-at p m l o)
+    at : (o : Option Instance) → getElem? (m .instances) l ≡ o → P (command-at p (acting l m) l o)
     at none g = s
     at (some i) g = code i g (i .code) refl

@@ -62,7 +62,7 @@ noting-represents (inst k c χ ξ ∷ σ) = ((refl, erase-notes (flatten c), val
 
 -- every published state has a machine that stands for it
 pub represented : (st : State) → (m : Machine) × (Represents m st)
-represented (state s σ b) = (machine s (map noting σ) b, (refl, noting-represents σ, refl))
+represented (state s σ b) = (machine s (map noting σ) b 0, (refl, noting-represents σ, refl))
 
 -- One next state -------------------------------------------------------------------
 

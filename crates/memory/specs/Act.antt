@@ -13,7 +13,7 @@ use Rattle.operators.specs.Words.{apply-word}
 pub use Rattle.machine.specs.Stops.{full, exceeded}
 use Rattle.layout.specs.Layout.{head-size, struct-of, height-of, next-of, row-size, variable, stacked, cell}
 use Rattle.layout.specs.Layout.{type-byte, operand, label-cell, new-head, going, holds}
-use Rattle.layout.specs.State.{State, with-heads, with-cells, times, unstable, refused, with-count, with-holding, of-head, of-cell}
+use Rattle.layout.specs.State.{State, with-heads, with-cells, times, unstable, refused, with-count, with-holding, with-from, of-head, of-cell}
 use Rattle.memory.specs.Choose.{fewer}
 
 -- the types of truths
@@ -127,9 +127,13 @@ module _ (counts : List ℕ) (l : ℕ) (z : State) where
 abbrev pub next-word : List ℕ → State → ℕ → ℕ
 next-word list z l = getD list (of-head z l next-of) 0
 
+-- turns are counted on from the label after l, where its command was not refused (02, 'Turns that go round')
+unfoldable pub turned : ℕ → State → State
+turned l y = elim (eqb (y .machine .number) 0) [ true ↦ with-from y (suc l) | false ↦ y ]
+
 -- behind a command of instance l as many hold commands as in z before it, or one fewer where it has none left (02, 'Holders kept as a number')
 abbrev pub counted : ℕ → State → State → State
-counted l z y = with-holding y (fewer (holds (y .heads) l) (z .machine .holding))
+counted l z y = turned l (with-holding y (fewer (holds (y .heads) l) (z .machine .holding)))
 
 -- instance l takes its next command
 unfoldable pub act : List ℕ → List ℕ → ℕ → State → State

@@ -1,9 +1,9 @@
 -- Which instances hold commands, and which of them a turn byte picks, on memory (01, 'Table and turns').
-use Prim.Native.Nat.{ℕ, zero, suc, _-_, _%_}
+use Prim.Native.Nat.{ℕ, zero, suc, _-_}
 use mathlib.Core.Path.{_≡_}
 use mathlib.Core.Bool.{Bool, true, false}
-use mathlib.Core.List.{List}
-use lib.Dec.{eqb}
+use mathlib.Core.List.{List, [], _∷_}
+use Rattle.run.specs.Turns.{round-from, chosen}
 use Rattle.layout.specs.Layout.{holds}
 use Rattle.layout.specs.State.{State}
 
@@ -21,15 +21,11 @@ fewer false n = n - 1
 abbrev pub Kept : State → Type 0
 Kept z = z .machine .holding ≡ holding (z .heads) 0 (z .machine .count)
 
--- the label of the r-th of them
-unfoldable pub holder : List ℕ → ℕ → ℕ → ℕ → ℕ
-holder heads l zero r = 0
-holder heads l (suc n) r =
-    elim (holds heads l) [
-      | true ↦ elim (eqb r 0) [ true ↦ l | false ↦ holder heads (suc l) n (r - 1) ]
-      | false ↦ holder heads (suc l) n r
-    ]
+-- whether each of the n instances from l on holds commands
+unfoldable pub flags : List ℕ → ℕ → ℕ → List Bool
+flags heads l zero = []
+flags heads l (suc n) = holds heads l ∷ flags heads (suc l) n
 
--- the holder that the byte e picks among those of n instances
-unfoldable pub picked : List ℕ → ℕ → ℕ → ℕ
-picked heads n e = holder heads 0 n (e % holding heads 0 n)
+-- the holder that the byte e picks among those of n instances, counted from label s (02, 'Turns that go round')
+unfoldable pub picked : List ℕ → ℕ → ℕ → ℕ → ℕ
+picked heads s n e = chosen (round-from s (flags heads 0 n)) e

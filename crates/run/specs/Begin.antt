@@ -1,4 +1,5 @@
--- The machine that a run begins with (000, definition 6; 01, 'Table and turns'), and the table that a machine stands at.
+-- The machine that a run begins with (000, definition 6; 01, 'Table and turns'; 02, 'Turns that go round'), and the table that a machine stands
+-- at.
 use Prim.Native.Nat.{ℕ, suc}
 use mathlib.Core.List.{List, [], _∷_, _++_, map}
 use lib.ListN.{length, drop}
@@ -22,9 +23,9 @@ nulls k (ts ∷ tss) = resting k (map default ts) ∷ nulls (suc k) tss
 unfoldable pub first-instances : Program → List Record → List Instance
 first-instances p rs = nulls 0 (p .params) ++ map (λ r. resting (r .struct) (r .values)) rs
 
--- the accepted table, the whole schedule, and an empty stability stack
+-- the accepted table, the whole schedule, an empty stability stack, and counting from label 0
 unfoldable pub begin : Program → List Record → Machine
-begin p rs = machine (of-items (p .schedule)) (first-instances p rs) []
+begin p rs = machine (of-items (p .schedule)) (first-instances p rs) [] 0
 
 -- the table as it stands: every instance but the null ones, in label order, with its parameters
 abbrev pub params-in : Env → List Val

@@ -1,20 +1,27 @@
--- The instances of a machine that hold commands (01, 'Table and turns'), in label order; a byte picks one as in Turns. Where nobody does, a
--- move of the schedule is due.
+-- The instances of a machine that hold commands (01, 'Table and turns'), in the order of turns (02, 'Turns that go round'); a byte picks one as
+-- in Turns. Where nobody does, a move of the schedule is due.
 use Prim.Native.Nat.{ℕ}
 use mathlib.Core.Bool.{Bool, true, false}
 use mathlib.Core.List.{List, [], _∷_, map}
 use Rattle.commands.specs.Noted.{Note}
-use Rattle.machine.specs.Machine.{Machine}
-use Rattle.run.specs.Turns.{labels-from}
+use Rattle.machine.specs.Machine.{Instance, Machine}
+use Rattle.run.specs.Turns.{round-from}
 
 -- whether code is left
 unfoldable pub holds-code : List Note → Bool
 holds-code [] = false
 holds-code (n ∷ c) = true
 
--- the holders of a machine
+-- whether an instance holds commands, and of each of a list
+abbrev pub flag : Instance → Bool
+flag i = holds-code (i .code)
+
+abbrev pub flags : List Instance → List Bool
+flags is = map flag is
+
+-- the holders of a machine, counted from its label
 unfoldable pub holders : Machine → List ℕ
-holders m = labels-from 0 (map (λ i. holds-code (i .code)) (m .instances))
+holders m = round-from (m .from) (flags (m .instances))
 
 -- whether no label is listed
 unfoldable pub none-of : List ℕ → Bool

@@ -10,8 +10,8 @@ use Rattle.program.specs.Tree.{Program}
 use Rattle.commands.specs.Commands.{Coms.nil}
 use Rattle.table.specs.Table.{Record}
 use Rattle.machine.specs.Published.{Env.env, fresh-env, of-items, structs, Inst, Inst.inst, State, State.state}
-use Rattle.run.specs.Turns.{holders-of}
-use Rattle.run.specs.Runs.{Runs}
+use Rattle.run.specs.Turns.{holds-coms, labels-from}
+use Rattle.run.specs.Runs.{Config, Config.config, Runs}
 
 -- ⟨k, ε, ε, ξ⟩ with parameters of these values
 abbrev pub idle : ℕ → List Val → Inst
@@ -33,6 +33,10 @@ first-insts p rs = null-insts 0 (p .params) ++ map of-record rs
 unfoldable pub initial : Program → List Record → State
 initial p rs = state (of-items (p .schedule)) (first-insts p rs) []
 
+-- "a run starts counting at label 0" (02, 'Turns that go round')
+abbrev pub initially : Program → List Record → Config
+initially p rs = config 0 (initial p rs)
+
 -- an instance as a record: its struct and its parameters' values
 abbrev pub to-record : Inst → Record
 to-record (inst k c χ (env ps ls)) = record { struct = k; values = ps }
@@ -43,8 +47,8 @@ table-in p (state s σ b) = map to-record (drop (structs p) σ)
 
 -- how many instances of a state hold commands
 abbrev pub holding-in : State → ℕ
-holding-in (state s σ b) = length (holders-of σ)
+holding-in (state s σ b) = length (labels-from 0 (map holds-coms σ))
 
 -- a run of a program on a table, with these bytes, comes to a number, after so many turns, where k instances hold commands, with a last table
 pub data Comes (p : Program) (rs : List Record) (es : List ℕ) (n t k : ℕ) (rs′ : List Record) : Type 0 where
-  comes : {st : State} → Runs p (initial p rs) es n t st → k ≡ holding-in st → rs′ ≡ table-in p st → Comes p rs es n t k rs′
+  comes : {a : ℕ} {st : State} → Runs p (initially p rs) es n t (config a st) → k ≡ holding-in st → rs′ ≡ table-in p st → Comes p rs es n t k rs′

@@ -3,6 +3,7 @@ pub mod StepsLaws
 pub mod VisitLaws
 pub mod EntryStreamLaws
 pub mod InputLaws
+pub mod RoundLaws
 pub mod TurnLaws
 pub mod Settles
 pub mod FuelLaws

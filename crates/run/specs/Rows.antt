@@ -17,14 +17,15 @@ use Rattle.little_endian.specs.Numbers.{pair-at}
 use Rattle.block.specs.Block.{pair, index, used, used-part, unused-part, used-right, zeros as zero-bytes, laid-out, front, block-of}
 use Rattle.blocks.specs.Images.{length-right, block, is-last, joined, stream, piece, image-of, image}
 use Rattle.program.specs.Counts.{All}
+use Rattle.program.specs.Encoding.{enc-word}
 use Rattle.program.specs.Rows.{program, adding, addings}
 use Rattle.verdict.specs.Verdict.{of-image}
 use Rattle.run.specs.Entry.{of-table-image, report-of, run-report-by}
 use Rattle.run.specs.EntryStreams.{summary, begins-streams}
 use Rattle.run.specs.Rows.RowsOpen.{running}
 use Rattle.verdict.specs.Rows.{P}
-use Rattle.run.specs.Rows.RowPrograms.{P-with, once, twice, one-in-fix, local-7, both-sides, constructing, inner-fix, itself, nothing, chosen-by}
-use Rattle.run.specs.Rows.RowPrograms.{along-path, leaving, cell, single, empty, cells, plain}
+use Rattle.run.specs.Rows.RowPrograms.{P-with, once, twice, one-in-fix, local-7, both-sides, makers, chained, constructing, inner-fix, itself}
+use Rattle.run.specs.Rows.RowPrograms.{nothing, chosen-by, along-path, leaving, cell, single, empty, cells, plain}
 use Rattle.run.specs.Rows.Swept.{plain-sum, falling-sum, swept-right, swept-fault, swept-block, block-is, first-swept, swept}
 use Rattle.run.specs.Rows.RowLaws.{each, Row, RowRight, computed, said, rows-follow, ImageRow, reports, swept-number, swept-over, images-follow, Kept}
 use Rattle.run.specs.Rows.RowLaws.{at-last, kept}
@@ -36,13 +37,16 @@ unfoldable pub rows : List Row
 rows =
     -- the table as it stands, not as given, at 33 and at 35; 33 comes before what the next command would meet
     row (P-with 1 twice) (two 5 0 7 1) (zeros 25) (ok 1 1 8 2) (summary 33 25 2 3 (two 5 0 12 1))
-    ∷ row (P-with 1 twice) (two 1 0 2147483646 1) (zeros 48) (ok 1 1 8 2) (summary 35 45 2 1 (two 1 0 2147483647 1))
-    ∷ of-P (two 1 0 2147483647 1) (zeros 21) 33 21 1 (two 1 0 2147483647 1)
+    ∷ row (P-with 1 twice) (two 1 0 2147483646 1) (zeros 48) (ok 1 1 8 2) (summary 35 41 2 3 (two 1 0 2147483647 1))
+    ∷ of-P (two 1 0 2147483647 1) (zeros 17) 33 17 3 (two 1 0 2147483647 1)
     -- the schedule moves on behind the last byte
     ∷ row (P-with 1 twice) (two 5 0 7 1) (zeros 24) (ok 1 1 8 2) (summary 33 24 2 3 (two 5 0 12 1))
     ∷ row nothing empty [] (ok 1 1 0 0) (summary 0 0 0 0 empty)
     -- bytes above the number of holders
-    ∷ of-P (two 5 2 7 1) (replicate 8 255 ++ replicate 8 3 ++ replicate 8 200) 0 24 0 (two 17 2 12 1)
+    ∷ of-P (two 5 2 7 1) (replicate 8 254 ++ replicate 8 3 ++ replicate 8 200) 0 24 0 (two 17 2 12 1)
+    -- counting goes on where it was when a step starts; behind the highest label comes the one that its own command made
+    ∷ row makers (2 ∷ 0 ∷ 0 ∷ 1 ∷ []) (replicate 8 1) (ok 4 2 2 1) (summary 0 8 1 0 (10 ∷ 0 ∷ 0 ∷ 1 ∷ 3 ∷ 3 ∷ 2 ∷ 2 ∷ 2 ∷ 2 ∷ 3 ∷ 3 ∷ []))
+    ∷ row chained empty (zeros 11) (ok 2 2 8 2) (summary 0 11 2 0 (cells 3 (1 ∷ enc-word 4 10 ++ single 10 ++ single 0)))
     -- a null instance runs, and a write to its parameter is dropped and leaves stability; its locals are written
     ∷ row one-in-fix empty (zeros 9) (ok 1 1 3 2) (summary 0 3 2 0 empty)
     ∷ row one-in-fix (cells 1 (single 0)) (zeros 20) (ok 1 1 3 2) (summary 0 12 2 0 (cells 1 (single 1)))
@@ -69,8 +73,8 @@ rows =
     ∷ []
 
 rows-computed : map computed rows ≡ map said rows
-unfolding rows running program adding addings P P-with one-in-fix local-7 both-sides constructing inner-fix itself nothing chosen-by along-path cell single
-    cells plain
+unfolding rows running program adding addings P P-with one-in-fix local-7 both-sides makers chained constructing inner-fix itself nothing chosen-by along-path
+    cell single cells plain
 rows-computed = refl
 
 -- every row is right

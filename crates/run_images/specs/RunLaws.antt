@@ -81,6 +81,7 @@ module _ {s counts : List ℕ} {seat : Seat} {heads cells : List ℕ} {p : Progr
         tabled = w .tabled;
         stands = rw seated-listed (w .stands list codes′ (prepared .laid .start));
         kept = w .kept;
+        counting = w .counting;
       }
 
       -- what it comes to is played

@@ -15,7 +15,7 @@ use Rattle.commands.specs.Bounds.{arities}
 use Rattle.verdict.specs.Verdict.{Checked, Checked.accepted, listed}
 use Rattle.machine.specs.Published.{structs}
 use Rattle.run.specs.Begin.{begin}
-use Rattle.run.specs.Laws.BeginLaws.{begin-idle}
+use Rattle.run.specs.Laws.BeginLaws.{begin-idle, begin-from}
 use Rattle.run.specs.Entry.{Begun, Begun.begun, Begun.not-begun, of-table, of-checked}
 use Rattle.sound.specs.Laws.BeginGood.{begin-good}
 use Rattle.sound.specs.Laws.TabledLaws.{begin-tabled}
@@ -87,6 +87,7 @@ module _ {s counts types : List ℕ} {at : ℕ} {p : Program} (a : Admitted s co
                 good = begin-good p (admitted-counts a) rs right;
                 tabled = begin-tabled p rs right;
                 kept = rw (f, k) (sym (holding-same (begin p rs) (lies [] (λ b s. Unit {0}) 0 tt y q w) ∙ ap length (begin-idle p rs)));
+                counting = rw f (sym (begin-from p rs));
                 stands = λ list items o. rw (f, k) (lies (listed p list) (At items) 0 o y q w);
               },
             )

@@ -62,6 +62,7 @@ pub record Seated (s counts : List ℕ) (seat : Seat) (heads cells : List ℕ) (
   pub good : Good p m
   pub tabled : Tabled p (m .instances)
   pub kept : Kept (state-of (seat .numbers) heads cells)
+  pub counting : seat .numbers .from ≡ m .from
   pub stands : (list items : List ℕ) → At items 0 (of-items (p .schedule)) → Stands (listed p list) (At items) m (state-of (seat .numbers) heads cells)
 
 abbrev pub Seating : List ℕ → List ℕ → Seat → List ℕ → List ℕ → Type 0

@@ -18,8 +18,10 @@ pub mod MoveKept
 pub mod BeginGood
 pub mod ShallowLaws
 pub mod HolderLaws
+pub mod FlagLaws
 pub mod ConditionLaws
 pub mod NeverStuckLaws
+pub mod WaitLaws
 pub mod StartedLaws
 pub mod TabledLaws
 pub mod TableKept

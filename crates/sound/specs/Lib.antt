@@ -7,6 +7,7 @@ pub mod Shallow
 pub mod Conditions
 pub mod Tabled
 pub mod NeverStuck
+pub mod Waiting
 pub mod After
 pub mod Exhibits
 pub mod Laws

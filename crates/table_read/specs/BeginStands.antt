@@ -171,7 +171,7 @@ module _ (p : Program) (counts : Counts p) where
 
   module _ (h c : List ℕ) (long : length h ≡ head-size * max-instances) (wide : length c ≡ row-size * max-instances) (list : List ℕ)
       (P : ℕ → Sched → Type 0) (a : ℕ) (scheduled : P a (of-items (p .schedule))) where
-    nothing-stands : Stands list P (machine (of-items (p .schedule)) [] []) (beginning 0 a h c)
+    nothing-stands : Stands list P (machine (of-items (p .schedule)) [] [] 0) (beginning 0 a h c)
     unfolding bits
     nothing-stands = record {
       heads-long = long;
@@ -195,5 +195,5 @@ module _ (p : Program) (counts : Counts p) where
         let n : length (null-records 0 (p .params)) ≡ structs p = nulls-length 0 (p .params) in
         let m : length (all-records (p .params) rs) ≡ length (null-records 0 (p .params)) + length rs = length-append (null-records 0 (p .params)) rs in
         rw (instances-are rs) at
-        (records-stand (types-table (p .params)) list P (all-records (p .params) rs) (machine (of-items (p .schedule)) [] []) (beginning 0 a h c)
+        (records-stand (types-table (p .params)) list P (all-records (p .params) rs) (machine (of-items (p .schedule)) [] [] 0) (beginning 0 a h c)
         nothing-stands (λ l i e. none-some e) (all-shown rs (o .1)) (structs p + length rs) (omega arith) (omega (arith, o .0)))

@@ -33,16 +33,16 @@ traced s t es ls = record { program = s; table = t; turns = es; lines = ls }
 unfoldable pub trace-rows : List TraceRow
 trace-rows =
     -- P on (5,2),(7,1): a turn for each command of the first record; the last one writes
-    traced P (cells 2 (cell 5 2 ++ cell 7 1)) (replicate 8 1) (
+    traced P (cells 2 (cell 5 2 ++ cell 7 1)) (1 ∷ replicate 7 2) (
     "move s"
     ∷ "0 1 1 0 0 0 push this [ 16:1 ] s"
-    ∷ "1 1 1 0 0 1 rd 0 [ 0:5 ] s"
-    ∷ "2 1 1 0 0 2 push this [ 0:5 16:1 ] s"
-    ∷ "3 1 1 0 0 3 rd 1 [ 0:5 16:2 ] s"
-    ∷ "4 1 1 0 0 4 rd 0 [ 0:5 0:7 ] s"
-    ∷ "5 1 1 0 0 5 op 41 [ 0:12 ] s"
-    ∷ "6 1 1 0 0 6 push this [ 0:12 16:1 ] s"
-    ∷ "7 1 1 0 0 7 wr 0 [ ] 1.0 5 12 s"
+    ∷ "1 2 1 0 0 1 rd 0 [ 0:5 ] s"
+    ∷ "2 2 1 0 0 2 push this [ 0:5 16:1 ] s"
+    ∷ "3 2 1 0 0 3 rd 1 [ 0:5 16:2 ] s"
+    ∷ "4 2 1 0 0 4 rd 0 [ 0:5 0:7 ] s"
+    ∷ "5 2 1 0 0 5 op 41 [ 0:12 ] s"
+    ∷ "6 2 1 0 0 6 push this [ 0:12 16:1 ] s"
+    ∷ "7 2 1 0 0 7 wr 0 [ ] 1.0 5 12 s"
     ∷ "end 33 8"
     ∷ []
     )
@@ -69,12 +69,12 @@ trace-rows =
     ∷ "5 0 0 0 0 2 wr 0 [ ] s0"
     ∷ "move s1"
     ∷ "move s1"
-    ∷ "6 0 0 0 0 0 push 0 1 [ 0:1 ] s1"
-    ∷ "7 0 0 0 0 1 push this [ 0:1 16:0 ] s1"
-    ∷ "8 0 0 0 0 2 wr 0 [ ] s1"
-    ∷ "9 0 1 0 0 0 push 0 1 [ 0:1 ] s1"
-    ∷ "10 0 1 0 0 1 push this [ 0:1 16:1 ] s1"
-    ∷ "11 0 1 0 0 2 wr 0 [ ] 1.0 1 1 s1"
+    ∷ "6 0 1 0 0 0 push 0 1 [ 0:1 ] s1"
+    ∷ "7 0 0 0 0 0 push 0 1 [ 0:1 ] s1"
+    ∷ "8 0 1 0 0 1 push this [ 0:1 16:1 ] s1"
+    ∷ "9 0 0 0 0 1 push this [ 0:1 16:0 ] s1"
+    ∷ "10 0 1 0 0 2 wr 0 [ ] 1.0 1 1 s1"
+    ∷ "11 0 0 0 0 2 wr 0 [ ] s1"
     ∷ "move s"
     ∷ "end 0 12"
     ∷ []

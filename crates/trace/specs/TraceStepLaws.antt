@@ -46,12 +46,12 @@ module _ (p : Program) where
       by [] r = at-done (is-done (m .sched)) r
 
   -- a schedule that moves is not at its end
-  undone : (s : Sched) (is : List Instance) (b : List Bool) {m′ : Machine} → move-by p s is b ≡ next m′ → is-done s ≡ false
+  undone : (s : Sched) (is : List Instance) (b : List Bool) (n : ℕ) {m′ : Machine} → move-by p s is b n ≡ next m′ → is-done s ≡ false
   unfolding is-done move-by
-  undone done is b e = let z : _≡_ {A = ℕ} 0 1 = cc in absurd (omega arith)
-  undone (start a s) is b e = refl
-  undone (fixpoint f s) is b e = refl
-  undone (active f s) is b e = refl
+  undone done is b n e = let z : _≡_ {A = ℕ} 0 1 = cc in absurd (omega arith)
+  undone (start a s) is b n e = refl
+  undone (fixpoint f s) is b n e = refl
+  undone (active f s) is b n e = refl
 
   module _ (m : Machine) where
     module _ {m′ : Machine} (d : due m ≡ true) (q : move p m ≡ next m′) where
@@ -60,7 +60,7 @@ module _ (p : Program) where
       moves-first zero h = absurd (omega arith)
       moves-first (suc f) h =
           let (a, b) = move-falls p (bound (m .sched)) m (h .0) q in
-          rw (due-none m .0 d, undone (m .sched) (m .instances) (m .stability) q, moves-by, q)
+          rw (due-none m .0 d, undone (m .sched) (m .instances) (m .stability) (m .from) q, moves-by, q)
           (ap {B = List Line} (λ ls. moved m m′ ∷ ls) (moves-fuel (bound (m .sched)) (bound (m′ .sched)) f (fuel m′) m′ (b, omega arith) (fuel-suffices m′)))
 
       -- a move that is due

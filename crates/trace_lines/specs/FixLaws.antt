@@ -1,7 +1,7 @@
 -- The open Fixes of memory behind an act (01, 'Numbers from the state'): a command leaves them, and a move opens no more than there may be.
 use Prim.Native.Nat.{ℕ, suc, _+_, _-_, _%_, _<_, _≤_}
 use native.Mathlib.Omega.{arith}
-use mathlib.Core.Path.{_≡_, refl, ap}
+use mathlib.Core.Path.{_≡_, refl, ap, _∙_}
 use mathlib.Core.Bool.{Bool, true, false}
 use mathlib.Core.List.{List, []}
 use lib.Dec.{eqb, ltb}
@@ -15,6 +15,7 @@ use Rattle.layout.specs.declared.Numbers.{Numbers}
 use Rattle.layout.specs.State.{State, state-of, of-head}
 use Rattle.memory.specs.Act.{top, next-word, do-push, do-this, do-not, do-if, answered, do-op, do-rd, written, written-to, do-wr, do-cons, made}
 use Rattle.memory.specs.Act.{perform, act}
+use Rattle.memory.specs.Laws.Acts.{turned-only}
 use Rattle.memory.specs.Move.{do-fix, do-round, do-start, move-by, move}
 use Rattle.layout.specs.Codes.{fix-code, round-code}
 use Rattle.scheduler.specs.Ready.{Movable}
@@ -56,7 +57,9 @@ module _ (counts : List ℕ) (l : ℕ) (z : State) where
   -- a command
   pub act-fixes : (list : List ℕ) → act list counts l z .machine .fixes ≡ z .machine .fixes
   unfolding act
-  act-fixes list = perform-same (next-word list z l % 256) (next-word list z l) (operand (next-word list z l)) .fixes
+  act-fixes list =
+      ap (λ (y : State). y .machine .fixes) (turned-only l _)
+      ∙ perform-same (next-word list z l % 256) (next-word list z l) (operand (next-word list z l)) .fixes
 
 -- no more than there may be
 record Few (y : State) : Type 0 where

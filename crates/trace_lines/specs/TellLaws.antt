@@ -72,15 +72,16 @@ module _ {p : Program} {counts list items spans : List ℕ} {m : Machine} {z : S
   holding-due = some-hold m (holders m) refl (rw (held-count r) at b)
 
   -- the actor has a row, of a struct of the program
-  pub actor-row : (l : ℕ) → l ≡ picked (z .heads) (z .machine .count) e → of-head z l struct-of < max-structs
+  pub actor-row : (l : ℕ) → l ≡ picked (z .heads) (z .machine .from) (z .machine .count) e → of-head z l struct-of < max-structs
   actor-row l q =
       let (i, n, c, a, d) = chosen-holds m e holding-due in
-      rw (q ∙ picks m (r .stands) e) (row-of r actor i a .1)
+      rw (q ∙ picks m (r .stands) (r .counting) e) (row-of r actor i a .1)
 
   module _ {y : State} (a : y ≡ act list counts actor z) where
     by-turn : Turned p counts list items spans m e z y
     by-turn =
-        subst (λ (x : State). Turned p counts list items spans m e z x) (ap (λ (l : ℕ). act list counts l z) (picks m (r .stands) e) ∙ sym a) (turned-by r b e)
+        subst (λ (x : State). Turned p counts list items spans m e z x)
+        (ap (λ (l : ℕ). act list counts l z) (picks m (r .stands) (r .counting) e) ∙ sym a) (turned-by r b e)
 
     module _ (n t : ℕ) where
       -- a refused act has no line
@@ -143,9 +144,9 @@ module _ {p : Program} {counts list items spans : List ℕ} {m : Machine} {z : S
         go (failed s (inr w) u) = let g = ap (λ (x : State). x .machine .number) s in absurd (omega arith)
 
   -- the same of the label that the code picks
-  module _ {l : ℕ} (q : l ≡ picked (z .heads) (z .machine .count) e) {y : State} (a : y ≡ act list counts l z) where
+  module _ {l : ℕ} (q : l ≡ picked (z .heads) (z .machine .from) (z .machine .count) e) {y : State} (a : y ≡ act list counts l z) where
     same : actor ≡ l
-    same = sym (q ∙ picks m (r .stands) e)
+    same = sym (q ∙ picks m (r .stands) (r .counting) e)
 
     pub picked-back : y .machine .number ≡ 0 → z .machine .fixes ≤ fix-levels
         → BackFits (y .heads) (y .cells) l (target list (length counts) (z .heads) (z .cells) l) (y .machine .fixes)
@@ -184,7 +185,7 @@ module _ {counts list spans h c : List ℕ} {n : ℕ} {nu : Numbers} (t : Turnab
   pub turnable-few : nu .count ≤ max-instances
   turnable-few = t .begun .ready .stands .few
 
-  module _ (e : ℕ) {l : ℕ} (q : l ≡ picked h (nu .count) e) where
+  module _ (e : ℕ) {l : ℕ} (q : l ≡ picked h (nu .from) (nu .count) e) where
     pub turnable-fit : Fit list counts l (state-of nu h c)
     turnable-fit = rw q (picked-fits (t .begun .ready) (t .held) e)
 

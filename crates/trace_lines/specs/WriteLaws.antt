@@ -25,7 +25,7 @@ use Rattle.layout.specs.State.{State, of-head, of-cell}
 use Rattle.memory.specs.Act.{height, top, beneath, after, next-word, stored, written, written-to, do-wr, perform, act}
 use Rattle.memory.specs.Plan.{At}
 use Rattle.memory.specs.Frame.{kind-of, operand-of}
-use Rattle.memory.specs.Laws.Acts.{word-says}
+use Rattle.memory.specs.Laws.Acts.{word-says, turned-only}
 use Rattle.memory.specs.Laws.RowLaws.{going-other}
 use Rattle.memory.specs.Laws.HeldLaws.{holds-word, holds-label}
 use Rattle.memory.specs.Laws.StandsLaws.{has-row}
@@ -66,11 +66,11 @@ module _ (counts : List ℕ) (l : ℕ) (z : State) where
   unfolding act perform
   kept-structs list e q =
       let w = wr-goes (operand (next-word list z l)) in
-      rw e (
+      subst (λ (y : State). (of-head y q struct-of ≡ of-head z q struct-of) × (y .machine .count ≡ z .machine .count)) (sym (turned-only l _)) (rw e (
         ap (λ (hs : List ℕ). getD hs (head q struct-of) 0) (w .heads)
             ∙ going-other (z .heads) l (w .height) (w .next) (head q struct-of) (λ g. omega arith) (λ g. omega arith),
         w .counted,
-      )
+      ))
 
 -- Lines --------------------------------------------------------------------------
 

@@ -1,4 +1,4 @@
-// The instance that a turn byte picks (01, 'Table and turns'), by the run's own search over instance records.
+// The instance that a turn byte picks (01, 'Table and turns'; 02, 'Turns that go round'), by the run's own search over instance records.
 use holders::holder_of;
 use holders::records;
 ghost use mathlib.Core.Path.{_≡_};
@@ -8,11 +8,11 @@ ghost use Rattle.types.specs.Limits.{max-instances};
 ghost use Rattle.layout.specs.Layout.{head-size};
 ghost use Rattle.memory.specs.Choose.{holding, picked};
 
-// Of n instances, where it is known how many hold commands.
-pub(crate) fn picked_of(heads: &[usize], n: usize, count: usize, turn: u8) -> usize
+// Of n instances, counted from the label `from`, where it is known how many hold commands.
+pub(crate) fn picked_of(heads: &[usize], n: usize, from: usize, count: usize, turn: u8) -> usize
     requires { ⌜ (head-size * n ≤ length (now heads)) × (n ≤ max-instances) × (count ≡ holding (now heads) 0 n) × (0 < count) ⌝ }
-    ensures { λ l. ⌜ l ≡ picked (now (heads .entry)) n turn ⌝ }
+    ensures { λ l. ⌜ l ≡ picked (now (heads .entry)) from n turn ⌝ }
 {
     let rs = records(heads, n);
-    holder_of(rs, turn as usize % count)
+    holder_of(rs, n, from, turn as usize % count)
 }

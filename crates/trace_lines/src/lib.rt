@@ -149,7 +149,7 @@ pub fn turn(
     requires { ⌜ Turnable (now counts) (now list) (now spans) (turn .step) (state-of (turn .machine .numbers) (now heads) (now cells)) ⌝ }
     requires { ⌜ line-most ≤ length (now out) ⌝ }
     ensures { λ r. ⌜ state-of (r .machine .numbers) (now (heads .exit)) (now (cells .exit)) ≡ act (now (list .entry)) (now (counts .entry))
-        (picked (now (heads .entry)) (turn .machine .numbers .count) (turn .byte))
+        (picked (now (heads .entry)) (turn .machine .numbers .from) (turn .machine .numbers .count) (turn .byte))
         (state-of (turn .machine .numbers) (now (heads .entry)) (now (cells .entry))) ⌝ }
     ensures { λ r. ⌜ TurnTold (now (counts .entry)) (now (list .entry)) (now (spans .entry)) turn
         (state-of (turn .machine .numbers) (now (heads .entry)) (now (cells .entry))) (r .length) (now (out .exit)) ⌝ }
@@ -158,7 +158,7 @@ pub fn turn(
     let machine = turn.machine;
     let numbers = machine.numbers;
     let count = numbers.count;
-    let l = picked_of(heads, count, numbers.holding, turn.byte);
+    let l = picked_of(heads, count, numbers.from, numbers.holding, turn.byte);
     let w = target(list, counts, heads, cells, l);
     let at = layout::HEAD_SIZE * l;
     let next = heads[at + layout::NEXT];

@@ -19,6 +19,8 @@ pub struct Machine<'p> {
     holders: Vec<u8>,
     /// How many instances hold commands (02 §6).
     holding: usize,
+    /// The label that acted last, if any did.
+    last: Option<u8>,
     schedule: Schedule<'p>,
 }
 
@@ -45,6 +47,7 @@ impl<'p> Machine<'p> {
             members,
             holders: Vec::with_capacity(INSTANCES),
             holding: 0,
+            last: None,
             schedule: Schedule::new(&program.moves),
         }
     }
@@ -112,9 +115,21 @@ impl<'p> Machine<'p> {
         }
     }
 
+    /// The place among the holders that a byte e picks: the (e modulo R)th,
+    /// counted from the label after the one that acted last, wrapping past
+    /// the highest; from label 0 before any did (02 §5).
+    fn chosen(&self, choice: u8) -> usize {
+        let first = match self.last {
+            Some(last) => self.holders.partition_point(|&label| label <= last),
+            None => 0,
+        };
+        let counted = (u32::from(choice) % self.holding as u32) as usize;
+        (first + counted) % self.holding
+    }
+
     /// One turn: a command of the chosen holder. A refused one changes nothing.
     fn turn(&mut self, choice: u8) -> Result<(), Refusal> {
-        let place = (u32::from(choice) % self.holding as u32) as usize;
+        let place = self.chosen(choice);
         let label = self.holders[place];
         let acting = &mut self.instances[usize::from(label)];
         let mut next = acting.held.first + 1;
@@ -137,6 +152,7 @@ impl<'p> Machine<'p> {
                 *acting.stack.top() = result;
             }
         }
+        self.last = Some(label);
         let held = &mut self.instances[usize::from(label)].held;
         held.first = next;
         if held.is_empty() {
@@ -199,39 +215,59 @@ mod tests {
         image
     }
 
-    /// The number kept is that counted from the table of instances.
-    fn agrees(machine: &Machine) {
-        let holds = |instance: &&Instance| !instance.held.is_empty();
-        assert_eq!(machine.holding, machine.instances.iter().filter(holds).count());
+    /// What a watched run did: its number, the labels holding commands
+    /// before each turn as counted from the table, and the labels that acted.
+    struct Seen {
+        number: u8,
+        before: Vec<Vec<u8>>,
+        acted: Vec<u8>,
+    }
+
+    impl Seen {
+        fn counts(&self) -> Vec<usize> {
+            self.before.iter().map(Vec::len).collect()
+        }
+    }
+
+    /// The labels holding commands, from the table of instances; the number
+    /// kept is theirs.
+    fn counted(machine: &Machine) -> Vec<u8> {
+        let labels = (0u8..=255).zip(&machine.instances);
+        let holders = labels.filter(|(_, instance)| !instance.held.is_empty());
+        let holders: Vec<u8> = holders.map(|(label, _)| label).collect();
+        assert_eq!(machine.holding, holders.len());
+        holders
     }
 
     /// Runs as `run` does and looks at the beginning, after each move, each
-    /// command and each refusal; the number, and the counts before each turn.
-    fn watched(program: &[u8], table: &[u8], turns: &[u8]) -> (u8, Vec<usize>) {
+    /// command and each refusal.
+    fn watched(program: &[u8], table: &[u8], turns: &[u8]) -> Seen {
         let program = Program::accept(&image(program)).unwrap();
         let instances = table::read(&image(table), &program.structs).unwrap();
         let mut machine = Machine::new(&program, instances);
-        agrees(&machine);
-        let mut counts = Vec::new();
-        for at in 0.. {
+        let (mut before, mut acted) = (Vec::new(), Vec::new());
+        let mut holders = counted(&machine);
+        let number = loop {
             while machine.holding == 0 {
-                let moved = machine.advance();
-                agrees(&machine);
-                if !moved {
-                    return (0, counts);
+                if !machine.advance() {
+                    assert!(counted(&machine).is_empty());
+                    return Seen { number: 0, before, acted };
                 }
+                holders = counted(&machine);
             }
-            counts.push(machine.holding);
-            let Some(&choice) = turns.get(at) else {
-                return (33, counts);
+            before.push(holders);
+            let Some(&choice) = turns.get(acted.len()) else {
+                break 33;
             };
             let turned = machine.turn(choice);
-            agrees(&machine);
+            holders = counted(&machine);
             if let Err(refusal) = turned {
-                return (refusal.number(), counts);
+                assert_eq!(Some(&holders), before.last());
+                break refusal.number();
             }
-        }
-        unreachable!("the turns end")
+            acted.push(machine.last.unwrap());
+        };
+        Seen { number, before, acted }
     }
 
     /// Struct 0 (Bool) has `if b then construct 1` as its step 0, struct 1 an
@@ -248,7 +284,8 @@ mod tests {
         for length in 0..40 {
             for step in [0usize, 1, 3, 6, 85, 254] {
                 let turns: Vec<u8> = (0..length).map(|at| ((at * step) & 255) as u8).collect();
-                let (number, counts) = watched(&passages, &RECORDS, &turns);
+                let seen = watched(&passages, &RECORDS, &turns);
+                let (number, counts) = (seen.number, seen.counts());
                 // 3, 2, 4, 2 and 3 commands, then those and 2 of the new one.
                 assert_eq!(number, if length < 30 { 33 } else { 0 });
                 assert_eq!(counts.len(), if length < 30 { length + 1 } else { 30 });
@@ -265,9 +302,9 @@ mod tests {
         let table = [&[233, 0], &RECORDS[2..], &[1; 230]].concat();
         for step in [0usize, 1, 7, 100] {
             let turns: Vec<u8> = (0..65_536).map(|at| ((at * step) & 255) as u8).collect();
-            let (number, counts) = watched(&endless, &table, &turns);
-            assert_eq!(number, 34);
-            assert_eq!(counts.iter().max(), Some(&256));
+            let seen = watched(&endless, &table, &turns);
+            assert_eq!(seen.number, 34);
+            assert_eq!(seen.counts().into_iter().max(), Some(256));
         }
     }
 
@@ -276,8 +313,54 @@ mod tests {
         // n := 1 / n: the null instance divides by zero, the record by 2.
         let divide = [1, 1, 0, 1, 0, 1, 3, 1, 0, 39, 19, 1, 0, 0, 0, 18, 1, 0, 1, 1, 0];
         let table = [1, 0, 0, 2, 0, 0, 0];
-        assert_eq!(watched(&divide, &table, &[0; 9]), (35, vec![2; 4]));
-        let (number, counts) = watched(&divide, &table, &[1, 1, 1, 1, 1, 1, 0, 0, 0, 0]);
-        assert_eq!((number, counts), (35, [vec![2; 6], vec![1; 4]].concat()));
+        for (turns, acted, counts) in [
+            (&[0; 9][..], vec![0, 1, 0, 1, 0, 1], vec![2; 7]),
+            (&[0, 1, 1, 1, 1], vec![0; 3], vec![2; 4]),
+            (&[1; 10], [vec![1; 6], vec![0; 3]].concat(), [vec![2; 6], vec![1; 4]].concat()),
+        ] {
+            let seen = watched(&divide, &table, turns);
+            assert_eq!((seen.number, seen.counts(), seen.acted), (35, counts, acted));
+        }
+    }
+
+    #[test]
+    fn the_count_goes_round_from_behind_the_last_actor() {
+        let passages = [&GROWING[..], &[4, 1, 1, 1, 0, 1, 1, 1, 0]].concat();
+        // 3, 2, 4, 2 and 3 commands: 1 and 3 leave, then 0 and 4. Behind the
+        // move label 2 still acted last, so 3 comes before 0.
+        let first = [0, 1, 2, 3, 4, 0, 1, 2, 3, 4, 0, 2, 4, 2];
+        let second = [3, 4, 5, 0, 1, 2, 3, 4, 5, 0, 1, 2, 4, 0, 2, 2];
+        let seen = watched(&passages, &RECORDS, &[0; 40]);
+        assert_eq!((seen.number, seen.acted), (0, [&first[..], &second].concat()));
+        // The highest byte is 0 modulo 5 and 3, 3 modulo 4 and 1 modulo 2.
+        let seen = watched(&passages, &RECORDS, &[255; 14]);
+        assert_eq!(seen.acted, [0, 1, 2, 3, 4, 0, 1, 0, 2, 3, 2, 2, 4, 4]);
+        // 4 stays on the actor as long as five hold, then 4 is 0.
+        let seen = watched(&passages, &RECORDS, &[4; 14]);
+        assert_eq!(seen.acted, [4, 4, 4, 0, 1, 2, 3, 0, 1, 3, 0, 2, 2, 2]);
+    }
+
+    /// With all bytes zero an instance holding commands acts within as many
+    /// turns as there were holders, unless the bytes or a refusal end the run
+    /// before.
+    #[test]
+    fn a_holder_waits_no_longer_than_a_round() {
+        let passages = [&GROWING[..], &[4, 1, 1, 1, 0, 1, 1, 1, 0]].concat();
+        let endless = [&GROWING[..], &[1, 3, 2, 1, 1, 1, 0]].concat();
+        let many = [&[233, 0], &RECORDS[2..], &[1; 230]].concat();
+        for program in [&passages, &endless] {
+            for table in [&RECORDS[..], &many] {
+                for length in [20, 300, 5_000] {
+                    let seen = watched(program, table, &vec![0; length]);
+                    for (at, holders) in seen.before.iter().enumerate() {
+                        let end = at + holders.len();
+                        if end <= seen.acted.len() || seen.number == 0 {
+                            let round = &seen.acted[at..end.min(seen.acted.len())];
+                            assert!(holders.iter().all(|label| round.contains(label)));
+                        }
+                    }
+                }
+            }
+        }
     }
 }

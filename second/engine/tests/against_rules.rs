@@ -82,7 +82,8 @@ fn case(random: &mut Random) -> Option<u8> {
     }
     let records = records(random, &source);
     let count = random.below(600);
-    let turns: Vec<u8> = (0..count).map(|_| random.below(256) as u8).collect();
+    let highest = if random.below(4) == 0 { 1 } else { 256 };
+    let turns: Vec<u8> = (0..count).map(|_| random.below(highest) as u8).collect();
     let mut state = State::new(&source, &records);
     let (number, taken) = state.run(&turns);
     let mut output = vec![0xA5; OUTPUT];

@@ -1,4 +1,4 @@
-//! Every row of 01's "Bench rows", starred or not.
+//! Every row of 01's "Bench rows", starred or not, as 02 §5 counts turns.
 mod common;
 use common::*;
 
@@ -26,29 +26,43 @@ fn chain_lacks_a_turn_after_23() {
     runs(&P, &loads(&[(5, 0), (7, 1)]), &[0; 23], 33, 23, &loads(&[(5, 0), (7, 1)]));
 }
 
+/// 02 §5: turns go round.
 #[test]
-fn ring_in_label_order() {
-    runs(&P, &loads(&[(5, 2), (7, 1)]), &[0; 24], 0, 24, &loads(&[(12, 2), (19, 1)]));
+fn ring_goes_round() {
+    runs(&P, &loads(&[(5, 2), (7, 1)]), &[0; 24], 0, 24, &loads(&[(12, 2), (12, 1)]));
 }
 
+/// Three orders that 01 gave by other bytes.
 #[test]
-fn ring_second_first() {
+fn ring_in_other_orders() {
+    let ring = loads(&[(5, 2), (7, 1)]);
+    for (order, first, second) in [
+        (&[(8, 0), (8, 1), (8, 2)][..], 12, 19),
+        (&[(8, 0), (8, 2), (8, 1)], 17, 12),
+        (&[(8, 0), (6, 1), (8, 2), (2, 1)], 12, 12),
+    ] {
+        let turns = in_order(&[8; 3], &blocks_of(order));
+        runs(&P, &ring, &turns, 0, 24, &loads(&[(first, 2), (second, 1)]));
+    }
+}
+
+/// 01's two rows holding ones: now both records read before either writes.
+#[test]
+fn ring_with_ones() {
+    let ring = loads(&[(5, 2), (7, 1)]);
     let turns = [[0; 8], [1; 8], [0; 8]].concat();
-    runs(&P, &loads(&[(5, 2), (7, 1)]), &turns, 0, 24, &loads(&[(17, 2), (12, 1)]));
-}
-
-#[test]
-fn ring_interleaved() {
+    runs(&P, &ring, &turns, 0, 24, &loads(&[(12, 2), (12, 1)]));
     let turns = [&[0; 14][..], &[1; 8], &[0; 2]].concat();
-    runs(&P, &loads(&[(5, 2), (7, 1)]), &turns, 0, 24, &loads(&[(12, 2), (12, 1)]));
+    runs(&P, &ring, &turns, 0, 24, &loads(&[(12, 2), (12, 1)]));
 }
 
+/// 02 §5: the stop with 35 comes after 17 turns.
 #[test]
-fn overflow_is_refused_after_21() {
+fn overflow_is_refused_after_17() {
     let before = loads(&[(1, 0), (2_147_483_647, 1)]);
-    runs(&P, &before, &[0; 24], 35, 21, &before);
-    runs(&P, &before, &[0; 22], 35, 21, &before);
-    runs(&P, &before, &[0; 21], 33, 21, &before);
+    runs(&P, &before, &[0; 24], 35, 17, &before);
+    runs(&P, &before, &[0; 18], 35, 17, &before);
+    runs(&P, &before, &[0; 17], 33, 17, &before);
 }
 
 #[test]

@@ -15,12 +15,16 @@ fn a_step_that_waits_for_its_first_turn() {
 
 #[test]
 fn one_less_at_each_last_command() {
-    // The null instance and two records, of 8 commands each.
+    // The null instance and two records, of 8 commands each: in turn, so that
+    // the last round lowers it, and one after the other.
     let records = table(&[(0, &RECORD), (0, &RECORD)]);
+    let one_by_one = in_order(&[8; 3], &blocks_of(&[(8, 0), (8, 2), (8, 1)]));
     for turns in 0..=24 {
         let number = if turns < 24 { 33 } else { 0 };
-        let bytes = vec![0; turns];
-        assert_eq!(runs(&P, &records, &bytes, number, turns, &records), 3 - turns / 8);
+        let holding = 3 - usize::saturating_sub(turns, 21);
+        assert_eq!(runs(&P, &records, &vec![0; turns], number, turns, &records), holding);
+        let bytes = &one_by_one[..turns];
+        assert_eq!(runs(&P, &records, bytes, number, turns, &records), 3 - turns / 8);
     }
 }
 
@@ -31,8 +35,8 @@ fn an_if_passed_over_may_be_the_last_command() {
     let own = step(0, &[&when(&var(&[0]), &[&body])]);
     let stream = program(&[&[2, 0]], &[&[&own]], &[1, 1, 0]);
     let before = table(&[(0, &[1, 0])]);
-    assert_eq!(runs(&stream, &before, &[0; 2], 33, 2, &before), 2);
-    assert_eq!(runs(&stream, &before, &[0; 3], 33, 3, &before), 1);
+    assert_eq!(runs(&stream, &before, &[0; 4], 33, 4, &before), 2);
+    assert_eq!(runs(&stream, &before, &[0; 5], 33, 5, &before), 1);
     assert_eq!(runs(&stream, &before, &[0; 8], 33, 8, &before), 1);
     assert_eq!(runs(&stream, &before, &[0; 9], 0, 9, &table(&[(0, &[1, 1])])), 0);
 }
@@ -75,10 +79,14 @@ fn a_refused_command_is_still_held() {
     let divide = update(&[0], &op(39, &int(1), &var(&[0])));
     let stream = program(&[&[], &[0]], &[&[], &[&step(0, &[&divide])]], &[1, 2, 1, 0]);
     let before = table(&[(1, &[1]), (1, &[0])]);
-    assert_eq!(runs(&stream, &before, &[0; 4], 35, 3, &before), 3);
-    assert_eq!(runs(&stream, &before, &[0; 3], 33, 3, &before), 3);
-    assert_eq!(runs(&stream, &before, &[1; 10], 35, 9, &before), 2);
-    assert_eq!(runs(&stream, &before, &[1; 9], 33, 9, &before), 2);
+    assert_eq!(runs(&stream, &before, &[0; 10], 35, 9, &before), 3);
+    assert_eq!(runs(&stream, &before, &[0; 9], 33, 9, &before), 3);
+    let commands = [0, 6, 6, 6];
+    let null_first = in_order(&commands, &[1; 4]);
+    assert_eq!(runs(&stream, &before, &null_first, 35, 3, &before), 3);
+    let records = in_order(&commands, &blocks_of(&[(6, 2), (4, 3)]));
+    assert_eq!(runs(&stream, &before, &records, 35, 9, &before), 2);
+    assert_eq!(runs(&stream, &before, &records[..9], 33, 9, &before), 2);
 }
 
 #[test]

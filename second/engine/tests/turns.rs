@@ -1,4 +1,5 @@
-//! Sentences of 01's "Table and turns" and "Numbers from the state".
+//! Sentences of 01's "Table and turns" and "Numbers from the state", with the
+//! counting of 02 §5.
 mod common;
 use common::*;
 
@@ -11,7 +12,7 @@ fn mark() -> Vec<u8> {
 }
 
 #[test]
-fn the_byte_goes_modulo_the_holders_in_label_order() {
+fn the_byte_goes_modulo_the_holders_from_behind_the_last_actor() {
     // Labels 0 (null, 0), 2 (20), 4 (40) hold; label 3 is of struct 1.
     let before = [(0, &[20][..]), (1, &[9][..]), (0, &[40][..])];
     let run = |turns: &[u8], marks: [i64; 3]| {
@@ -19,13 +20,75 @@ fn the_byte_goes_modulo_the_holders_in_label_order() {
         after.extend(marks.iter().map(|mark| (1, std::slice::from_ref(mark))));
         runs(&mark(), &table(&before), turns, 0, 9, &table(&after));
     };
-    run(&[0; 9], [0, 20, 40]);
-    run(&[2, 2, 2, 1, 1, 1, 0, 0, 0], [40, 20, 0]);
-    // 255 and 254 modulo 3 are 0 and 2; modulo 2 they are 1 and 0; alone 0.
-    run(&[255, 255, 255, 255, 255, 255, 77, 78, 79], [0, 40, 20]);
-    run(&[254, 254, 254, 254, 254, 254, 1, 2, 3], [40, 0, 20]);
     // One command of each in turn: the labels are taken by who constructs.
-    run(&[0, 1, 2, 0, 1, 2, 1, 0, 0], [20, 0, 40]);
+    run(&[0; 9], [0, 20, 40]);
+    // 2, 0, 4 twice; 2 again, 0 as the second from 4 on, 4.
+    run(&[1; 9], [20, 0, 40]);
+    // 4 three times, as the last from 0 on; then 0 and 2 in turn.
+    run(&[2; 9], [40, 0, 20]);
+    // 255 and 254 modulo 3 are 0 and 2; modulo 2 they are 1 and 0; alone 0.
+    run(&[255, 255, 255, 255, 255, 255, 255, 255, 79], [0, 40, 20]);
+    run(&[254, 254, 254, 254, 254, 254, 254, 254, 3], [40, 0, 20]);
+    // Each order there is, one after the other.
+    for order in [[0, 2, 4], [0, 4, 2], [2, 0, 4], [2, 4, 0], [4, 0, 2], [4, 2, 0]] {
+        let labels = blocks_of(&order.map(|label| (3, label)));
+        let marks = order.map(|label| 10 * label as i64);
+        run(&in_order(&[3, 0, 3, 0, 3], &labels), marks);
+    }
+}
+
+#[test]
+fn the_count_goes_on_behind_a_move() {
+    // The step twice, on labels 0, 2 and 4 as above: whoever acted last in the
+    // first passage, the second one begins behind it.
+    let twice = join(&[&mark()[..mark().len() - 3], &[2, 1, 0, 1, 0]]);
+    let before = [(0, &[20][..]), (1, &[9][..]), (0, &[40][..])];
+    for (first, second) in [
+        ([0, 2, 4], [0, 2, 4]),
+        ([2, 4, 0], [2, 4, 0]),
+        ([4, 0, 2], [4, 0, 2]),
+        ([2, 0, 4], [0, 2, 4]),
+        ([4, 2, 0], [2, 4, 0]),
+        ([0, 4, 2], [4, 0, 2]),
+    ] {
+        let labels = blocks_of(&first.map(|label| (3, label)));
+        let turns = [in_order(&[3, 0, 3, 0, 3], &labels), vec![0; 9]].concat();
+        let marks: Vec<i64> = first.iter().chain(&second).map(|&label| 10 * label as i64).collect();
+        let marks = marks.iter().map(|mark| (1, std::slice::from_ref(mark)));
+        let after: Vec<_> = before.into_iter().chain(marks).collect();
+        runs(&twice, &table(&before), &turns, 0, 18, &table(&after));
+    }
+}
+
+#[test]
+fn the_last_actor_need_not_hold_commands_again() {
+    // Struct 1, labels 1 and 3, has step 1 alone, which one of the records ends;
+    // then step 0 begins behind its label, on 0, 2 and 4, and past the highest.
+    let construct = join(&[&[4, 1], &var(&[0])]);
+    let set = update(&[0], &nat(9));
+    let steps: [&[&[u8]]; 2] = [&[&step(0, &[&construct])], &[&step(1, &[&set])]];
+    let stream = program(&[&[1], &[1]], &steps, &[2, 1, 1, 1, 0]);
+    let before = [(0, &[20][..]), (1, &[9][..]), (0, &[40][..])];
+    for (last, marks) in [(3, [40, 0, 20]), (1, [20, 40, 0])] {
+        let first = in_order(&[0, 3, 0, 3, 0], &blocks_of(&[(3, 4 - last), (3, last)]));
+        let marks = marks.iter().map(|mark| (1, std::slice::from_ref(mark)));
+        let after: Vec<_> = before.into_iter().chain(marks).collect();
+        runs(&stream, &table(&before), &[&first[..], &[0; 9]].concat(), 0, 15, &table(&after));
+    }
+}
+
+#[test]
+fn an_instance_made_behind_the_actor_is_not_counted() {
+    // Each constructs its like with n + 1, then a struct 1 with its n. While
+    // the step lasts, the new labels behind 2 hold nothing and are passed over.
+    let like = join(&[&[4, 0], &op(41, &var(&[0]), &nat(1))]);
+    let mark = join(&[&[4, 1], &var(&[0])]);
+    let stream = program(&[&[1], &[1]], &[&[&step(0, &[&like, &mark])], &[]], &ONCE);
+    let after = [(0, &[5][..]), (0, &[1]), (0, &[6]), (1, &[0]), (1, &[5])];
+    runs(&stream, &table(&[(0, &[5])]), &[0; 16], 0, 16, &table(&after));
+    // Label 2 alone up to its last command, by ones past label 0.
+    let after = [(0, &[5][..]), (0, &[6]), (1, &[5]), (0, &[1]), (1, &[0])];
+    runs(&stream, &table(&[(0, &[5])]), &[1; 16], 0, 16, &table(&after));
 }
 
 #[test]
@@ -46,7 +109,8 @@ fn new_instances_wait_for_a_later_item() {
     let construct = join(&[&[4, 0], &op(41, &var(&[0]), &int(1))]);
     let own = step(0, &[&construct]);
     let stream = program(&[&[0]], &[&[&own]], &[2, 1, 0, 2, 0, 0]);
-    let after = table(&[(0, &[1]), (0, &[1]), (0, &[2])]);
+    // Behind the first item label 0 acted last: the new label 1 comes first.
+    let after = table(&[(0, &[1]), (0, &[2]), (0, &[1])]);
     runs(&stream, &table(&[]), &[0; 15], 0, 15, &after);
     runs(&stream, &table(&[]), &[0; 5], 33, 5, &table(&[(0, &[1])]));
 }
@@ -136,14 +200,15 @@ fn two_hundred_and_fifty_six_instances() {
     runs(&stream, &table(&full(255)), &[0; 9], 34, 0, &table(&full(255)));
     runs(&stream, &table(&full(255)), &[], 33, 0, &table(&full(255)));
     runs(&stream, &table(&full(254)), &[200; 9], 34, 1, &table(&full(255)));
-    // All 256 hold: the byte itself is the label.
+    // All 256 hold: from label 0 on, and so behind 255, the byte is the label.
     let set = update(&[0], &op(41, &var(&[0]), &nat(1)));
     let count = program(&[&[1]], &[&[&step(0, &[&set])]], &ONCE);
     let zero = vec![(0u8, &[0i64][..]); 255];
     let mut after = zero.clone();
     after[254].1 = &[1];
     runs(&count, &table(&zero), &[255; 6], 33, 6, &table(&after));
-    // Label 255 is done: 255 modulo 255 is the null instance.
+    // Label 255 is done: 255 modulo 255 is 0, the null instance and those
+    // behind it, one command of each.
     runs(&count, &table(&zero), &[255; 12], 33, 12, &table(&after));
     after[253].1 = &[1];
     runs(&count, &table(&zero), &[&[255; 6][..], &[254; 6]].concat(), 33, 12, &table(&after));
@@ -194,9 +259,12 @@ fn locals_hold_their_value_while_others_run() {
     let stream = program(&[&[0, 16, 0]], &[&[&step(0, &statements)]], &ONCE);
     let before = table(&[(0, &[5, 1, 0]), (0, &[6, 1, 0])]);
     let after = |a, b| table(&[(0, &[100, 1, a]), (0, &[6, 1, b])]);
-    let null = [0; 13];
-    runs(&stream, &before, &[&null[..], &[0; 26]].concat(), 0, 39, &after(5, 100));
-    let swapped = [&null[..], &[0; 5], &[1; 13], &[0; 8]].concat();
-    runs(&stream, &before, &swapped, 0, 39, &after(5, 5));
-    runs(&stream, &before, &[&null[..], &[1; 26]].concat(), 0, 39, &after(100, 5));
+    let run = |parts: &[(usize, usize)], a, b| {
+        let turns = in_order(&[13; 3], &blocks_of(parts));
+        runs(&stream, &before, &turns, 0, 39, &after(a, b));
+    };
+    run(&[(13, 0), (13, 1), (13, 2)], 5, 100);
+    run(&[(13, 0), (5, 1), (13, 2), (8, 1)], 5, 5);
+    run(&[(13, 0), (13, 2), (13, 1)], 100, 5);
+    runs(&stream, &before, &[0; 39], 0, 39, &after(5, 5));
 }

@@ -46,16 +46,17 @@ module _ (items spans : List ℕ) (z : State) where
   unfolding do-round
   round-again t e b = move-round t e ∙ (rw (ne-eqb (z .machine .stable % 2) 1 (omega arith), do-round))
 
-  -- the holders are counted anew at a start; otherwise they are as they were
-  pub move-kept : Kept z → Kept (move items spans z)
-  unfolding move move-by do-start do-fix do-round
-  move-kept k = go (ltb item fix-code) (eqb item fix-code) (eqb (z .machine .stable % 2) 1)
+  -- what holds behind a start, a Fix that begins, one that ends and one that goes round holds behind a move
+  by-item : (P : State → Type 0) → P (do-start spans (getD items (z .machine .place) 0) z) → P (do-fix z)
+      → ((a f s : ℕ) → P (moved z a f s)) → P (move items spans z)
+  unfolding move move-by do-round
+  by-item P starts fixes rounds = go (ltb item fix-code) (eqb item fix-code) (eqb (z .machine .stable % 2) 1)
     where
       item : ℕ
       item = getD items (z .machine .place) 0
 
       go : (a b t : Bool)
-          → Kept (elim a [
+          → P (elim a [
             | true ↦ do-start spans item z
             | false ↦ elim b [
               | true ↦ do-fix z
@@ -65,7 +66,17 @@ module _ (items spans : List ℕ) (z : State) where
               ]
             ]
           ])
-      go true b t = refl
-      go false true t = k
-      go false false true = k
-      go false false false = k
+      go true b t = starts
+      go false true t = fixes
+      go false false true = rounds _ _ _
+      go false false false = rounds _ _ _
+
+  -- the holders are counted anew at a start; otherwise they are as they were
+  pub move-kept : Kept z → Kept (move items spans z)
+  unfolding do-start do-fix
+  move-kept k = by-item Kept refl k (λ a f s. k)
+
+  -- turns are counted on from the same label (02, 'Turns that go round')
+  pub move-from : move items spans z .machine .from ≡ z .machine .from
+  unfolding do-start do-fix
+  move-from = by-item (λ (y : State). y .machine .from ≡ z .machine .from) refl refl (λ a f s. refl)

@@ -30,7 +30,7 @@ use Rattle.memory.specs.Laws.BeginLaws.{Same, begun-struct, begun-height
 use Rattle.memory.specs.Laws.BeginLaws.{all-length}
 use Rattle.memory.specs.Laws.MoveLaws.{move-start, fix-begins, round-ends, round-again}
 use Rattle.memory.specs.Laws.HeldLaws.{held-numbers}
-use Rattle.memory.specs.Laws.StandsLaws.{holding-stands}
+use Rattle.memory.specs.Laws.StandsLaws.{numbered-stands}
 
 -- Instances ----------------------------------------------------------------------
 
@@ -153,10 +153,11 @@ start-inst p (local x n) h i = go (eqb (i .struct) x) refl
 
 -- Machines -----------------------------------------------------------------------
 
-module _ {list items : List ℕ} {q : Sched} {is : List Instance} {b : List Bool} {z : State} (S : Stands list (At items) (machine q is b) z) where
+module _ {list items : List ℕ} {q : Sched} {is : List Instance} {b : List Bool} {from : ℕ} {z : State}
+    (S : Stands list (At items) (machine q is b from) z) where
   -- the schedule elsewhere, with its entries
   moved-stands : {s : Sched} {a : ℕ} (d : List Bool) {f e : ℕ} → At items a s → f ≡ length d → e ≡ bits d
-      → Stands list (At items) (machine s is d) (moved z a f e)
+      → Stands list (At items) (machine s is d from) (moved z a f e)
   moved-stands d {f = f} {e = e} r u v = record {
     heads-long = S .heads-long;
     cells-long = S .cells-long;
@@ -177,7 +178,7 @@ module _ {list items : List ℕ} {q : Sched} {is : List Instance} {b : List Bool
         with-heads (moved z (suc (z .machine .place)) (z .machine .fixes) (z .machine .stable)) (begin-all spans c (z .heads) 0 (z .machine .count))
 
     begins-stands : {s : Sched} (c : ℕ) (f : Instance → Instance) → ((i : Instance) → f i ≡ begin-inst p c i)
-        → At items (suc (z .machine .place)) s → Stands list (At items) (machine s (map f is) b) (begins c)
+        → At items (suc (z .machine .place)) s → Stands list (At items) (machine s (map f is) b from) (begins c)
     begins-stands {s} c f law r = record {
       heads-long = all-length spans c (z .heads) 0 (z .machine .count) ∙ S .heads-long;
       cells-long = S .cells-long;
@@ -202,9 +203,9 @@ module _ {list items : List ℕ} {q : Sched} {is : List Instance} {b : List Bool
 
     -- and the instances that hold commands are counted
     start-stands : {s : Sched} (c : ℕ) (f : Instance → Instance) → ((i : Instance) → f i ≡ begin-inst p c i)
-        → At items (suc (z .machine .place)) s → Stands list (At items) (machine s (map f is) b) (do-start spans c z)
+        → At items (suc (z .machine .place)) s → Stands list (At items) (machine s (map f is) b from) (do-start spans c z)
     unfolding do-start
-    start-stands {s} c f law r = holding-stands list (At items) (machine s (map f is) b) (begins c) (begins-stands c f law r) _
+    start-stands {s} c f law r = numbered-stands list (At items) (machine s (map f is) b from) (begins c) (begins-stands c f law r) _ (z .machine .from)
 
 -- what an outcome of the machine's move says of memory
 abbrev pub Follows : List ℕ → List ℕ → State → Moved → Type 0
@@ -215,32 +216,33 @@ module _ (p : Program) (list items spans : List ℕ) (located : Located p list s
   by : (o : Moved) {y : State} → move-on items spans z ≡ y → Follows list items y o → Follows list items (move-on items spans z) o
   by o e = subst (λ y. Follows list items y o) (sym e)
 
-  moves-by : (s : Sched) (is : List Instance) (b : List Bool) → ((l : ℕ) (i : Instance) → getElem? is l ≡ some i → i .struct < structs p)
-      → Stands list (At items) (machine s is b) z → Open s (length b) → (s ≡ done → ⊥) → Follows list items (move-on items spans z) (move-by p s is b)
+  moves-by : (s : Sched) (is : List Instance) (b : List Bool) (from : ℕ) → ((l : ℕ) (i : Instance) → getElem? is l ≡ some i → i .struct < structs p)
+      → Stands list (At items) (machine s is b from) z → Open s (length b) → (s ≡ done → ⊥)
+      → Follows list items (move-on items spans z) (move-by p s is b from)
   unfolding move-by repeat bits
-  moves-by done is b known S o n = absurd (n refl)
-  moves-by (start c s) is b known S o _ =
+  moves-by done is b from known S o n = absurd (n refl)
+  moves-by (start c s) is b from known S o _ =
       let (h, e, r) = past-start items (S .scheduled) in
-      by (next (machine s (map (started p c) is) b)) (move-start items spans z e (code-below c h))
+      by (next (machine s (map (started p c) is) b from)) (move-start items spans z e (code-below c h))
       (start-stands S p spans located known (start-code c) (started p c) (start-inst p c h) r)
-  moves-by (fixpoint f s) is b known S o _ =
+  moves-by (fixpoint f s) is b from known S o _ =
       let (e, r) = past-fix items (S .scheduled) in
-      by (next (machine (before f (active f s)) is (true ∷ b))) (fix-begins items spans z e)
+      by (next (machine (before f (active f s)) is (true ∷ b) from)) (fix-begins items spans z e)
       (moved-stands S (true ∷ b) r (ap suc (S .opened)) (ap (λ x. suc (2 * x)) (S .entries)))
-  moves-by (active f s) is [] known S o _ = active-open o refl
-  moves-by (active f s) is (true ∷ b) known S o _ =
+  moves-by (active f s) is [] from known S o _ = active-open o refl
+  moves-by (active f s) is (true ∷ b) from known S o _ =
       let (t, e, r, w) = past-round items (S .scheduled) in
       let u : z .machine .stable ≡ suc (2 * bits b) = S .entries in
       let v : z .machine .fixes ≡ suc (length b) = S .opened in
-      by (next (machine s is b)) (round-ends items spans z t e (omega arith)) (moved-stands S b r (omega arith) (omega arith))
-  moves-by (active f s) is (false ∷ b) known S o _ =
+      by (next (machine s is b from)) (round-ends items spans z t e (omega arith)) (moved-stands S b r (omega arith) (omega arith))
+  moves-by (active f s) is (false ∷ b) from known S o _ =
       let (t, e, r, w) = past-round items (S .scheduled) in
       let u : z .machine .stable ≡ 2 * bits b = S .entries in
-      by (next (machine (before f (active f s)) is (true ∷ b))) (round-again items spans z t e (omega arith))
+      by (next (machine (before f (active f s)) is (true ∷ b) from)) (round-again items spans z t e (omega arith))
       (moved-stands S (true ∷ b) w (S .opened) (omega arith))
 
   -- memory follows every move of a machine with a schedule that is not at its end
   pub moves : (m : Machine) → ((l : ℕ) (i : Instance) → getElem? (m .instances) l ≡ some i → i .struct < structs p)
       → Stands list (At items) m z → Open (m .sched) (length (m .stability)) → (m .sched ≡ done → ⊥)
       → Follows list items (move-on items spans z) (move p m)
-  moves m known S o n = moves-by (m .sched) (m .instances) (m .stability) known S o n
+  moves m known S o n = moves-by (m .sched) (m .instances) (m .stability) (m .from) known S o n

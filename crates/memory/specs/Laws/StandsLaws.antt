@@ -19,7 +19,7 @@ use Rattle.sound.specs.Laws.ElemLaws.{some-is, at-set-same, at-set-other, at-be
 use Rattle.sound.specs.Laws.Keeps.{at-env-same, at-env-other}
 use Rattle.sound.specs.Laws.GoodLaws.{meet-length}
 use Rattle.layout.specs.Layout.{end-of, row-size, variable, stacked}
-use Rattle.layout.specs.State.{State, of-head, of-cell, with-cells, with-holding, bit, times}
+use Rattle.layout.specs.State.{State, of-head, of-cell, with-cells, with-from, with-holding, bit, times}
 use Rattle.memory.specs.Act.{gone, pushed}
 use Rattle.memory.specs.Stands.{Shows, Stack, note-words, Held, Stands}
 use Rattle.memory.specs.Frame.{AllSlim, moved}
@@ -47,9 +47,9 @@ module _ (list : List ℕ) (P : ℕ → Sched → Type 0) (m : Machine) (z : Sta
     clear = st .clear;
   }
 
-  -- whatever number of holders it has
-  pub holding-stands : (n : ℕ) → Stands list P m (with-holding z n)
-  holding-stands n = record {
+  -- whatever number of holders it has, and whichever label turns are counted from
+  pub numbered-stands : (n s : ℕ) → Stands list P m (with-from (with-holding z n) s)
+  numbered-stands n s = record {
     heads-long = st .heads-long;
     cells-long = st .cells-long;
     counted = st .counted;

@@ -16,13 +16,13 @@ use Rattle.machine.specs.Published.{Env.env, structs, Inst, Inst.inst, State, S
 use Rattle.machine.specs.Machine.{Instance, Machine}
 use Rattle.machine.specs.Represents.{values, Represents-inst, Represents-all, Represents}
 use Rattle.machine.specs.Stops.{ended, out-of-turns, full, exceeded}
-use Rattle.run.specs.Runs.{Runs, Halts, Halts.at-end, Halts.at-33, Halts.at-34, Halts.at-35}
-use Rattle.run.specs.Turns.{labels-from, holds-coms, holders-of}
-use Rattle.run.specs.Holders.{holders}
+use Rattle.run.specs.Runs.{Config, Config.config, StandsFor, Runs, Halts, Halts.at-end, Halts.at-33, Halts.at-34, Halts.at-35}
+use Rattle.run.specs.Turns.{labels-from, holds-coms}
+use Rattle.run.specs.Holders.{flags, holders}
 use Rattle.run.specs.Run.{Outcome.stopped, Outcome.jammed, run}
 use Rattle.run.specs.Begin.{nulls, resting, first-instances, begin, record-of, table-of}
-use Rattle.run.specs.Initial.{idle, null-insts, of-record, first-insts, initial, to-record, table-in, holding-in, Comes, Comes.comes}
-use Rattle.run.specs.Laws.TurnLaws.{map-at, holders-done, holders-represent}
+use Rattle.run.specs.Initial.{idle, null-insts, of-record, first-insts, initial, initially, to-record, table-in, holding-in, Comes, Comes.comes}
+use Rattle.run.specs.Laws.TurnLaws.{labels-done, none-listed, map-at, flags-represent, holders-length}
 use Rattle.run.specs.Laws.RunAgrees.{run-follows, run-complete, run-jammed}
 use Rattle.run.specs.Laws.RunsUnique.{runs-unique}
 
@@ -46,6 +46,15 @@ all-represent k (ts ∷ tss) rs = (rests k (map default ts), all-represent (suc 
 pub begin-represents : (p : Program) (rs : List Record) → Represents (begin p rs) (initial p rs)
 unfolding begin initial first-instances first-insts
 begin-represents p rs = (refl, all-represent 0 (p .params) rs, refl)
+
+-- "a run starts counting at label 0" (02, 'Turns that go round')
+pub begin-from : (p : Program) (rs : List Record) → begin p rs .from ≡ 0
+unfolding begin
+begin-from p rs = refl
+
+-- so it stands for the published beginning of a run
+pub begin-stands : (p : Program) (rs : List Record) → StandsFor (begin p rs) (initially p rs)
+begin-stands p rs = (begin-from p rs, begin-represents p rs)
 
 null-place : (j : ℕ) (tss : List (List Ty)) (is : List Inst) (k : ℕ) → k < length tss
     → getElem? (null-insts j tss ++ is) k ≡ some (idle (j + k) (map default (getD tss k [])))
@@ -98,8 +107,12 @@ idle-insts k [] rs l = idle-records rs l
 idle-insts k (ts ∷ tss) rs l = idle-insts (suc k) tss rs (suc l)
 
 pub begin-idle : (p : Program) (rs : List Record) → holders (begin p rs) ≡ []
-unfolding initial first-insts holders-of
-begin-idle p rs = holders-represent (begin p rs) (first-insts p rs) (begin-represents p rs) ∙ idle-insts 0 (p .params) rs 0
+unfolding initial first-insts
+begin-idle p rs =
+    let m = begin p rs in
+    none-listed (holders m)
+    (holders-length m ∙ ap (λ fs. length (labels-from 0 fs)) (flags-represent (m .instances) (first-insts p rs) (begin-represents p rs .1))
+    ∙ ap length (idle-insts 0 (p .params) rs 0))
 
 -- The last table -------------------------------------------------------------------
 
@@ -123,47 +136,49 @@ table-represents p m (state s σ b) R = records-same (structs p) (m .instances) 
 
 -- as many hold commands
 pub holding-represents : (m : Machine) (st : State) → Represents m st → length (holders m) ≡ holding-in st
-holding-represents m (state s σ b) R = ap length (holders-represent m σ R)
-
-none-listed : (l : List ℕ) → length l ≡ 0 → l ≡ []
-none-listed [] e = refl
-none-listed (x ∷ l) e = absurd (omega arith)
+holding-represents m (state s σ b) R = holders-length m ∙ ap (λ fs. length (labels-from 0 fs)) (flags-represent (m .instances) σ (R .1))
 
 -- at a halt nobody holds commands exactly where the number is 0
-halts-holding : (st : State) {es : List ℕ} {n : ℕ} → Halts st es n → ((n ≡ ended) → (holding-in st ≡ 0)) × ((holding-in st ≡ 0) → (n ≡ ended))
-halts-holding st (at-end {σ = σ} d) = (λ e. ap length (holders-done σ .1 d), λ e. refl)
-halts-holding (state s σ b) (at-33 h) = (λ e. absurd (omega arith), λ e. absurd (h (holders-done σ .0 (none-listed (holders-of σ) e))))
-halts-holding (state s σ b) (at-34 h f) = (λ e. absurd (omega arith), λ e. absurd (h (holders-done σ .0 (none-listed (holders-of σ) e))))
-halts-holding (state s σ b) (at-35 h f) = (λ e. absurd (omega arith), λ e. absurd (h (holders-done σ .0 (none-listed (holders-of σ) e))))
+halts-holding : (a : ℕ) (st : State) {es : List ℕ} {n : ℕ} → Halts (config a st) es n
+    → ((n ≡ ended) → (holding-in st ≡ 0)) × ((holding-in st ≡ 0) → (n ≡ ended))
+halts-holding a st (at-end {σ = σ} d) = (λ e. ap length (labels-done σ .1 d), λ e. refl)
+halts-holding a (state s σ b) (at-33 h) = (λ e. absurd (omega arith), λ e. absurd (h (labels-done σ .0 (none-listed _ e))))
+halts-holding a (state s σ b) (at-34 h f) = (λ e. absurd (omega arith), λ e. absurd (h (labels-done σ .0 (none-listed _ e))))
+halts-holding a (state s σ b) (at-35 h f) = (λ e. absurd (omega arith), λ e. absurd (h (labels-done σ .0 (none-listed _ e))))
 
 -- The outcome ----------------------------------------------------------------------
 
 module _ (p : Program) (rs : List Record) (es : List ℕ) where
   -- what the executable run stops with, the run by the published rules from the initial state comes to
   pub run-exact : {n t : ℕ} {z : Machine} → run p (begin p rs) es ≡ stopped n t z
-      → (st : State) × (Runs p (initial p rs) es n t st) × (Represents z st)
-  run-exact e = run-follows p (begin p rs) (initial p rs) es (begin-represents p rs) e
+      → (c : Config) × (Runs p (initially p rs) es n t c) × (StandsFor z c)
+  run-exact e = run-follows p (begin p rs) (initially p rs) es (begin-stands p rs) e
 
   -- number, turns, holders and last table of an executable run are those that the published rules come to
   pub outcome-exact : {n t : ℕ} {z : Machine} → run p (begin p rs) es ≡ stopped n t z → Comes p rs es n t (length (holders z)) (table-of p z)
-  outcome-exact {z = z} e = let (st, r, R) = run-exact e in comes r (holding-represents z st R) (table-represents p z st R)
+  outcome-exact {n} {t} {z} e = let (c, r, S) = run-exact e in go c r S
+    where
+      go : (c : Config) → Runs p (initially p rs) es n t c → StandsFor z c → Comes p rs es n t (length (holders z)) (table-of p z)
+      go (config a st) r S = comes r (holding-represents z st (S .1)) (table-represents p z st (S .1))
 
   -- and what the published rules come to, an executable run has
   pub outcome-complete : {n t k : ℕ} {rs′ : List Record} → Comes p rs es n t k rs′
       → (z : Machine) × (run p (begin p rs) es ≡ stopped n t z) × (length (holders z) ≡ k) × (table-of p z ≡ rs′)
   outcome-complete (comes {st = st} r h q) =
-      let (z, e, R) = run-complete p (begin p rs) (begin-represents p rs) r in
-      (z, e, holding-represents z st R ∙ sym h, table-represents p z st R ∙ sym q)
+      let (z, e, S) = run-complete p (begin p rs) (begin-stands p rs) r in
+      (z, e, holding-represents z st (S .1) ∙ sym h, table-represents p z st (S .1) ∙ sym q)
 
   -- the published rules come to one number, turns, holders and last table
   pub comes-unique : {n n′ t t′ k k′ : ℕ} {rs′ rs″ : List Record} → Comes p rs es n t k rs′ → Comes p rs es n′ t′ k′ rs″
       → (n ≡ n′) × (t ≡ t′) × (k ≡ k′) × (rs′ ≡ rs″)
-  comes-unique (comes r h q) (comes r′ h′ q′) =
-      let (a, b, c) = runs-unique p r r′ in (a, b, h ∙ ap holding-in c ∙ sym h′, q ∙ ap (table-in p) c ∙ sym q′)
+  comes-unique (comes {st = st} r h q) (comes {st = st′} r′ h′ q′) =
+      let (a, b, c) = runs-unique p r r′ in
+      let d : st ≡ st′ = cc in
+      (a, b, h ∙ ap holding-in d ∙ sym h′, q ∙ ap (table-in p) d ∙ sym q′)
 
   -- nobody holds commands exactly where the number is 0
   pub comes-holding : {n t k : ℕ} {rs′ : List Record} → Comes p rs es n t k rs′ → (n ≡ ended) ↔ (k ≡ 0)
-  comes-holding (comes {st = st} r h q) = let (a, b) = halts-holding st (r .2) in (λ e. h ∙ a e, λ e. b (sym h ∙ e))
+  comes-holding (comes {a = a} {st = st} r h q) = let (x, y) = halts-holding a st (r .2) in (λ e. h ∙ x e, λ e. y (sym h ∙ e))
 
   -- at 33, 34 and 35 some do
   pub comes-stopped : {n t k : ℕ} {rs′ : List Record} → Comes p rs es n t k rs′ → (n ≡ out-of-turns) ⊎ (n ≡ full) ⊎ (n ≡ exceeded) → 1 ≤ k
@@ -178,8 +193,11 @@ module _ (p : Program) (rs : List Record) (es : List ℕ) where
   -- the executable run is jammed exactly where the published rules come to nothing
   pub jammed-exact : (run p (begin p rs) es ≡ jammed) ↔ ((n t k : ℕ) (rs′ : List Record) → Comes p rs es n t k rs′ → ⊥)
   jammed-exact =
-      let j = run-jammed p (begin p rs) (initial p rs) es (begin-represents p rs) in
-      (λ e n t k rs′ c. none-comes (j .0 e) c, λ h. j .1 (λ n t st r. h n t (holding-in st) (table-in p st) (comes r refl refl)))
+      let j = run-jammed p (begin p rs) (initially p rs) es (begin-stands p rs) in
+      (λ e n t k rs′ c. none-comes (j .0 e) c, λ h. j .1 (λ n t c r. some-comes h c r))
     where
-      none-comes : {n t k : ℕ} {rs′ : List Record} → ((n t : ℕ) (st : State) → Runs p (initial p rs) es n t st → ⊥) → Comes p rs es n t k rs′ → ⊥
-      none-comes {n} {t} h (comes {st = st} r a q) = h n t st r
+      none-comes : {n t k : ℕ} {rs′ : List Record} → ((n t : ℕ) (c : Config) → Runs p (initially p rs) es n t c → ⊥) → Comes p rs es n t k rs′ → ⊥
+      none-comes {n} {t} h (comes {a = a} {st = st} r k q) = h n t (config a st) r
+
+      some-comes : ((n t k : ℕ) (rs′ : List Record) → Comes p rs es n t k rs′ → ⊥) → {n t : ℕ} (c : Config) → Runs p (initially p rs) es n t c → ⊥
+      some-comes h {n} {t} (config a st) r = h n t (holding-in st) (table-in p st) (comes r refl refl)

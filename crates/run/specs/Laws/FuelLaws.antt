@@ -48,7 +48,7 @@ module _ (p : Program) (m : Machine) where
   -- an empty schedule makes no move
   done-stuck : m .sched ≡ done → move p m ≡ stuck
   unfolding move-by
-  done-stuck e = ap (λ s. move-by p s (m .instances) (m .stability)) e
+  done-stuck e = ap (λ s. move-by p s (m .instances) (m .stability) (m .from)) e
 
   -- where a move is due and the schedule is not empty, it is made
   settle-moves : (k : Machine → Settled) → due m ≡ true → (m .sched ≡ done → ⊥) → settle-by k p m (holders m) ≡ moved k (move p m)

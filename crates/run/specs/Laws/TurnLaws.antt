@@ -1,7 +1,7 @@
--- Laws of turns (01, 'Table and turns'): the labels of holders are all of them, in label order; a byte picks one of them, and
--- each is picked by some byte; a machine has the holders of the state that it stands for.
+-- Laws of turns (01, 'Table and turns'; 02, 'Turns that go round'): the labels of holders are all of them; a byte picks one of them, and each is
+-- picked by some byte; a machine has the holders of the configuration that it stands for.
 use Prim.Native.Nat.{ℕ, zero, suc, _+_, _%_, _<_}
-use mathlib.Core.Path.{_≡_, refl, ap, _∙_}
+use mathlib.Core.Path.{_≡_, refl, ap, sym, _∙_}
 use mathlib.Core.Logic.{_↔_}
 use mathlib.Core.Bool.{Bool, true, false}
 use mathlib.Core.Option.{some}
@@ -18,8 +18,10 @@ use Rattle.machine.specs.Rules.{Done}
 use Rattle.machine.specs.Machine.{Instance, Machine}
 use Rattle.machine.specs.Represents.{Represents-all, Represents}
 use Rattle.machine.specs.RepresentsLaws.{Still}
-use Rattle.run.specs.Turns.{labels-from, chosen, holds-coms, holders-of}
-use Rattle.run.specs.Holders.{holds-code, holders, none-of, due}
+use Rattle.run.specs.Turns.{labels-from, round-from, chosen, holds-coms, holders-of}
+use Rattle.run.specs.Holders.{holds-code, flag, flags, holders, none-of, due}
+use Rattle.run.specs.Runs.{Config.config, StandsFor}
+use Rattle.run.specs.Laws.RoundLaws.{round-length, round-place, place-round}
 
 -- Labels ---------------------------------------------------------------------------
 
@@ -71,13 +73,22 @@ module _ {A B : Type 0} (f : A → B) where
   map-at (y ∷ xs) zero {x} g = let h : y ≡ x = cc in cc
   map-at (y ∷ xs) (suc k) g = map-at xs k g
 
+-- a list without a length is empty
+pub none-listed : (l : List ℕ) → length l ≡ 0 → l ≡ []
+none-listed [] e = refl
+none-listed (x ∷ l) e = absurd (omega arith)
+
 module _ {A : Type 0} (f : A → Bool) where
   all-map : (C : A → Type 0) → ((x : A) → (f x ≡ false) ↔ (C x)) → (xs : List A) → (All (λ b. b ≡ false) (map f xs)) ↔ (All C xs)
   all-map C h [] = (λ a. tt, λ a. tt)
   all-map C h (x ∷ xs) = let r = all-map C h xs in (λ a. (h x .0 (a .0), r .0 (a .1)), λ a. (h x .1 (a .0), r .1 (a .1)))
 
-  none-map : (C : A → Type 0) → ((x : A) → (f x ≡ false) ↔ (C x)) → (xs : List A) → (labels-from 0 (map f xs) ≡ []) ↔ (All C xs)
-  none-map C h xs = let a = labels-none 0 (map f xs) in let b = all-map C h xs in (λ e. b .0 (a .0 e), λ c. a .1 (b .1 c))
+  none-map : (C : A → Type 0) → ((x : A) → (f x ≡ false) ↔ (C x)) → (n : ℕ) (xs : List A) → (round-from n (map f xs) ≡ []) ↔ (All C xs)
+  none-map C h n xs =
+      let a = labels-none 0 (map f xs) in
+      let b = all-map C h xs in
+      let r = round-length n (map f xs) in
+      (λ e. b .0 (a .0 (none-listed _ (sym r ∙ ap length e))), λ c. none-listed _ (r ∙ ap length (a .1 (b .1 c))))
 
 -- Holders --------------------------------------------------------------------------
 
@@ -99,7 +110,7 @@ held (x ∷ c) n = refl
 -- nobody holds commands exactly where every instance is still
 pub holders-still : (m : Machine) → (holders m ≡ []) ↔ (Still (m .instances))
 unfolding holders
-holders-still m = none-map (λ i. holds-code (i .code)) (λ i. i .code ≡ []) (λ i. code-none (i .code)) (m .instances)
+holders-still m = none-map flag (λ i. i .code ≡ []) (λ i. code-none (i .code)) (m .from) (m .instances)
 
 none-none : (hs : List ℕ) → (none-of hs ≡ true) ↔ (hs ≡ [])
 unfolding none-of
@@ -129,9 +140,13 @@ unfolding due none-of
 some-due m g = ap none-of g
 
 -- and so in a published state
-pub holders-done : (σ : List Inst) → (holders-of σ ≡ []) ↔ (Done σ)
+pub labels-done : (σ : List Inst) → (labels-from 0 (map holds-coms σ) ≡ []) ↔ (Done σ)
+labels-done σ =
+    let a = labels-none 0 (map holds-coms σ) in let b = all-map holds-coms Idle coms-none σ in (λ e. b .0 (a .0 e), λ c. a .1 (b .1 c))
+
+pub holders-done : (n : ℕ) (σ : List Inst) → (holders-of n σ ≡ []) ↔ (Done σ)
 unfolding holders-of
-holders-done σ = none-map holds-coms Idle coms-none σ
+holders-done n σ = none-map holds-coms Idle coms-none n σ
 
 holds-same : (n : List Note) (k : ℕ) (c : Coms) (χ : List Val) (ξ : Env) → map erase n ≡ flatten c → holds-code n ≡ holds-coms (inst k c χ ξ)
 unfolding holds-code flatten
@@ -142,21 +157,27 @@ holds-same (n ∷ ns) k nil χ ξ e = cc
 holds-same (n ∷ ns) k (act m c) χ ξ e = refl
 holds-same (n ∷ ns) k (if-then b c) χ ξ e = refl
 
-flags : (is : List Instance) (σ : List Inst) → Represents-all is σ → map (λ i. holds-code (i .code)) is ≡ map holds-coms σ
-flags [] [] R = refl
-flags [] (j ∷ σ) R = absurd R
-flags (i ∷ is) [] R = absurd R
-flags (i ∷ is) (inst k c χ ξ ∷ σ) R =
-    let r = flags is σ (R .1) in let h = holds-same (i .code) k c χ ξ (R .0 .1) in cc
+pub flags-represent : (is : List Instance) (σ : List Inst) → Represents-all is σ → flags is ≡ map holds-coms σ
+flags-represent [] [] R = refl
+flags-represent [] (j ∷ σ) R = absurd R
+flags-represent (i ∷ is) [] R = absurd R
+flags-represent (i ∷ is) (inst k c χ ξ ∷ σ) R =
+    let r = flags-represent is σ (R .1) in let h = holds-same (i .code) k c χ ξ (R .0 .1) in cc
 
--- a machine has the holders of the state that it stands for
-pub holders-represent : (m : Machine) {s : Sched} (σ : List Inst) {b : List Bool} → Represents m (state s σ b) → holders m ≡ holders-of σ
+-- a machine has the holders of the configuration that it stands for, in their order
+pub holders-represent : (m : Machine) (n : ℕ) {s : Sched} (σ : List Inst) {b : List Bool} → StandsFor m (config n (state s σ b)) → holders m ≡ holders-of n σ
 unfolding holders holders-of
-holders-represent m σ R = ap (labels-from 0) (flags (m .instances) σ (R .1))
+holders-represent m n σ (q, R) =
+    ap (λ (x : ℕ). round-from x (flags (m .instances))) q ∙ ap (round-from n) (flags-represent (m .instances) σ (R .1))
+
+-- as many hold commands as are listed in label order
+pub holders-length : (m : Machine) → length (holders m) ≡ length (labels-from 0 (flags (m .instances)))
+unfolding holders
+holders-length m = round-length (m .from) (flags (m .instances))
 
 -- The chosen one -------------------------------------------------------------------
 
--- a byte below the number of holders picks the one at its place, from 0, in label order
+-- a byte below the number of holders picks the one at its place, from 0
 pub chosen-place : (hs : List ℕ) (e : ℕ) → e < length hs → chosen hs e ≡ getD hs e 0
 unfolding chosen
 chosen-place hs e h = ap (λ i. getD hs i 0) (mod-eq-of-lt h)
@@ -171,12 +192,12 @@ pub chosen-holds : (m : Machine) (e : ℕ) → due m ≡ false
     → (i : Instance) × (getElem? (m .instances) (chosen (holders m) e) ≡ some i) × (i .code ≡ [] → ⊥)
 unfolding holders
 chosen-holds m e g =
-    let f : Instance → Bool = λ i. holds-code (i .code) in
     let (h, hs, s) = due-some m g in
     let (j, c, d) = chosen-among (holders m) e (rw s (omega arith)) in
-    let (k, a, b) = labels-at 0 (map f (m .instances)) j c in
-    let (i, u, v) = at-map f (m .instances) k b in
-    let w : chosen (holders m) e ≡ k = d ∙ a ∙ omega arith in
+    let (x, o, y) = round-place (m .from) (flags (m .instances)) j c in
+    let (k, a, b) = labels-at 0 (flags (m .instances)) x o in
+    let (i, u, v) = at-map flag (m .instances) k b in
+    let w : chosen (holders m) e ≡ k = d ∙ y ∙ a ∙ omega arith in
     (i, rw w u, λ n. let z = code-none (i .code) .1 n in let y : true ≡ false = cc in let x : _≡_ {A = ℕ} 0 1 = cc in omega arith)
 
 -- each instance that holds commands is picked by some byte, of those below the number of holders
@@ -184,6 +205,6 @@ pub holder-chosen : (m : Machine) (l : ℕ) {i : Instance} → getElem? (m .inst
     → (e : ℕ) × (e < length (holders m)) × (chosen (holders m) e ≡ l)
 unfolding holders
 holder-chosen m l {i} g n =
-    let f : Instance → Bool = λ i. holds-code (i .code) in
-    let (e, a, b) = labels-all 0 (map f (m .instances)) l (map-at f (m .instances) l g ∙ ap some (held (i .code) n)) in
-    (e, a, chosen-place (holders m) e a ∙ b ∙ omega arith)
+    let (j, a, b) = labels-all 0 (flags (m .instances)) l (map-at flag (m .instances) l g ∙ ap some (held (i .code) n)) in
+    let (e, c, d) = place-round (m .from) (flags (m .instances)) j a in
+    (e, c, chosen-place (holders m) e c ∙ sym d ∙ b ∙ omega arith)

@@ -1,5 +1,5 @@
--- 01's own rows, those marked * (01, 'Bench rows'): each a program image, a table image and turn bytes, with the verdict, the report and
--- the bytes that the entries come to. One table, one proposition (`RowRight`), one proof.
+-- 01's own rows, those marked * (01, 'Bench rows'), as 02 counts turns ('Turns that go round'): each a program image, a table image and turn bytes,
+-- with the verdict, the report and the bytes that the entries come to. One table, one proposition (`RowRight`), one proof.
 use Prim.Native.Nat.{ℕ}
 use mathlib.Core.Path.{_≡_, refl}
 use mathlib.Core.List.{List, [], _∷_, _++_, map}
@@ -39,12 +39,10 @@ bench =
     -- (5,0),(7,1): 24 zeros; 23 zeros
     of-P (two 5 0 7 1) (zeros 24) 0 24 0 (two 5 0 12 1)
     ∷ of-P (two 5 0 7 1) (zeros 23) 33 23 1 (two 5 0 7 1)
-    -- (5,2),(7,1): 24 zeros; 8 zeros, 8 ones, 8 zeros; 14 zeros, 8 ones, 2 zeros
-    ∷ of-P (two 5 2 7 1) (zeros 24) 0 24 0 (two 12 2 19 1)
-    ∷ of-P (two 5 2 7 1) (zeros 8 ++ replicate 8 1 ++ zeros 8) 0 24 0 (two 17 2 12 1)
-    ∷ of-P (two 5 2 7 1) (zeros 14 ++ replicate 8 1 ++ zeros 2) 0 24 0 (two 12 2 12 1)
+    -- (5,2),(7,1): 24 zeros
+    ∷ of-P (two 5 2 7 1) (zeros 24) 0 24 0 (two 12 2 12 1)
     -- (1,0),(2147483647,1), zeros
-    ∷ of-P (two 1 0 2147483647 1) (zeros 24) 35 21 1 (two 1 0 2147483647 1)
+    ∷ of-P (two 1 0 2147483647 1) (zeros 24) 35 17 3 (two 1 0 2147483647 1)
     -- P in a Fix: (5,0); N = 0
     ∷ row (P-with 1 in-fix) (cells 1 (cell 5 0)) (zeros 40) (ok 1 1 8 2) (summary 0 16 2 0 (cells 1 (cell 5 0)))
     ∷ row (P-with 1 in-fix) empty (zeros 40) (ok 1 1 8 2) (summary 0 8 2 0 empty)

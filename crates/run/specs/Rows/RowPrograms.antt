@@ -44,6 +44,16 @@ both-sides o b =
     program (1 ∷ 2 ∷ [])
     (1 ∷ 3 ∷ 1 ∷ 0 ∷ o ∷ 21 ∷ b ∷ 32 ∷ 39 ∷ 19 ∷ 1 ∷ 0 ∷ 0 ∷ 0 ∷ 19 ∷ 0 ∷ 0 ∷ 0 ∷ 0 ∷ 19 ∷ 0 ∷ 0 ∷ 0 ∷ 0 ∷ []) once
 
+-- four structs without parameters: the step 0 of struct 0 constructs a struct 2, that of struct 1 a struct 3; run twice
+unfoldable pub makers : List ℕ
+makers = 4 ∷ 0 ∷ 0 ∷ 0 ∷ 0 ∷ 1 ∷ 0 ∷ 1 ∷ 4 ∷ 2 ∷ 1 ∷ 0 ∷ 1 ∷ 4 ∷ 3 ∷ 0 ∷ 0 ∷ twice
+
+-- two structs with an Int: the step 0 of struct 1 constructs a struct 1 with 10 more, its step 1 a struct 0 with the same; one after the other
+unfoldable pub chained : List ℕ
+chained =
+    2 ∷ 1 ∷ 0 ∷ 1 ∷ 0 ∷ 0 ∷ 2 ∷ 0 ∷ 1 ∷ 4 ∷ 1 ∷ 41 ∷ 18 ∷ 1 ∷ 0 ∷ 19 ∷ 10 ∷ 0 ∷ 0 ∷ 0
+    ∷ 1 ∷ 1 ∷ 4 ∷ 0 ∷ 18 ∷ 1 ∷ 0 ∷ 2 ∷ 1 ∷ 0 ∷ 1 ∷ 1 ∷ []
+
 -- two structs without parameters: struct 0 constructs struct 1, in a Fix
 unfoldable pub constructing : List ℕ
 constructing = 2 ∷ 0 ∷ 0 ∷ 1 ∷ 0 ∷ 1 ∷ 4 ∷ 1 ∷ 0 ∷ 1 ∷ 3 ∷ 1 ∷ 2 ∷ 0 ∷ 0 ∷ []

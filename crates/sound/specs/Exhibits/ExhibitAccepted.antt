@@ -15,12 +15,12 @@ use Rattle.program.specs.Tree.{Stmts.end, Stmts.next, Item.call, Item.fix, Item
 use Rattle.program.specs.Encoding.{enc-path, enc-expr, enc-exprs, enc-stmt, enc-stmts, enc-item, enc-items, enc-step, enc-program}
 use Rattle.program.specs.Reader.{Result.ok, read}
 use Rattle.program.specs.Laws.ProgramLaws.{program-law}
-use Rattle.commands.specs.Noted.{Note, Note.n-wr, Note.n-cons, Note.n-if}
+use Rattle.commands.specs.Noted.{Note, Note.n-push, Note.n-this, Note.n-wr, Note.n-cons, Note.n-if}
 use Rattle.commands.specs.Numbers.{no-breach, breach-number}
 use Rattle.commands.specs.Laws.NumbersLaws.{number-accepted}
 use Rattle.table.specs.Table.{Record, struct-at, HeldTable, References, TableRight}
-use Rattle.machine.specs.Published.{StepCall.global, Sched.done, Sched.start, Sched.active}
-use Rattle.machine.specs.Machine.{tagged, Machine, Moved.next, move}
+use Rattle.machine.specs.Published.{fresh-env, StepCall.global, Sched.done, Sched.start, Sched.active}
+use Rattle.machine.specs.Machine.{tagged, Instance, Machine, Moved.next, move}
 use Rattle.run.specs.Holders.{holders}
 use Rattle.machine.specs.Stops.{ended}
 use Rattle.run.specs.Run.{Outcome.stopped, run}
@@ -55,7 +55,7 @@ settling = record {
 abbrev pub table : List Record
 table = record { struct = 0; values = int-val (pos 5) ∷ bool-val true ∷ [] } ∷ []
 
--- the first holder takes every turn
+-- zeros: the holders take turns
 abbrev pub turns : List ℕ
 turns = replicate 32 0
 
@@ -90,21 +90,40 @@ Taken l n = Turn settling start-machine turns l n
 abbrev after-acts : ℕ → Machine
 after-acts k = at-act settling start-machine turns k
 
+-- the record before its construct, and the null instance before its last write
+abbrev constructing : Instance
+constructing = record {
+  struct = 0;
+  code = n-cons 1 ∷ n-push bool (bool-val false) ∷ n-this ∷ n-wr 0 1 ∷ n-push int (int-val (pos 2)) ∷ n-this ∷ n-wr 0 0 ∷ [];
+  stack = tagged (ref 0) (label 2) ∷ tagged int (int-val (pos 7)) ∷ [];
+  env = fresh-env (int-val (pos 5) ∷ bool-val true ∷ []);
+  written = [];
+}
+
+abbrev writing : Instance
+writing = record {
+  struct = 0;
+  code = n-wr 0 0 ∷ [];
+  stack = tagged (ref 0) (label 0) ∷ tagged int (int-val (pos 2)) ∷ [];
+  env = fresh-env (int-val (pos 0) ∷ bool-val false ∷ []);
+  written = [];
+}
+
 -- a construct: there is one instance more
 pub constructs : (t : Taken 2 (n-cons 1)) × (length (t .behind .instances) ≡ suc (length (t .before .instances)))
 unfolding running onward act-on after
-constructs = (turn-at settling start-machine turns 13 2 refl refl refl, refl)
+constructs = (turn-at settling start-machine turns 13 2 {i = constructing} refl refl refl, refl)
 
 -- the record goes into the if's body
 pub goes-in : (t : Taken 2 (n-if 6)) × (stack-at (t .before) 2 ≡ some (tagged bool (bool-val true) ∷ [])) × (code-at (t .behind) 2 ≡ some (t .rest))
 unfolding running onward act-on after
-goes-in = (turn-at settling start-machine turns 10 2 refl refl refl, refl, refl)
+goes-in = (turn-at settling start-machine turns 7 2 refl refl refl, refl, refl)
 
 -- the null instance leaves it out
 pub leaves-out : (t : Taken 0 (n-if 6)) × (stack-at (t .before) 0 ≡ some (tagged bool (bool-val false) ∷ []))
     × (code-at (t .behind) 0 ≡ some (drop 6 (t .rest)))
 unfolding running onward act-on after
-leaves-out = (turn-at settling start-machine turns 4 0 refl refl refl, refl, refl)
+leaves-out = (turn-at settling start-machine turns 6 0 refl refl refl, refl, refl)
 
 -- the null instance's write of 2 to its own p0 is dropped: p0 is 0 still, and stability is what it was
 pub write-dropped : (t : Taken 0 (n-wr 0 0))
@@ -114,7 +133,7 @@ pub write-dropped : (t : Taken 0 (n-wr 0 0))
     × (t .before .stability ≡ true ∷ [])
     × (t .behind .stability ≡ true ∷ [])
 unfolding running onward act-on after
-write-dropped = (turn-at settling start-machine turns 7 0 refl refl refl, refl, refl, refl, refl, refl)
+write-dropped = (turn-at settling start-machine turns 12 0 {i = writing} refl refl refl, refl, refl, refl, refl, refl)
 
 -- the Fix is met with a false entry, and begins again
 pub goes-round : (m : Machine) × (z : Machine)

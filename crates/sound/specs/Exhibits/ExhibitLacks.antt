@@ -99,9 +99,9 @@ outlasting-stops = (after twice 52 (begin twice single) fifty, refl)
 pub outlasting-lacks : Lacks twice single fifty
 unfolding running onward act-on after
 outlasting-lacks = record {
-  place = after twice 49 (begin twice single) fifty;
-  left = after-visited twice 49 (begin twice single) fifty .0;
-  visited = after-visited twice 49 (begin twice single) fifty .1;
+  place = after twice 40 (begin twice single) fifty;
+  left = after-visited twice 40 (begin twice single) fifty .0;
+  visited = after-visited twice 40 (begin twice single) fifty .1;
   holder = 1;
   instance = record {
     struct = 0;
@@ -149,21 +149,21 @@ chain = record {
 abbrev pub loose : List Record
 loose = record { struct = 0; values = int-val (pos 5) ∷ label 9 ∷ [] } ∷ []
 
--- the null instance takes its eight commands, the record four
-abbrev pub twelve : List ℕ
-twelve = replicate 12 0
+-- the null instance and the record take four commands each
+abbrev pub eight : List ℕ
+eight = replicate 8 0
 
-pub loose-stops : Stops chain loose twelve out-of-turns 12
+pub loose-stops : Stops chain loose eight out-of-turns 8
 unfolding running onward act-on after
-loose-stops = (after chain 13 (begin chain loose) twelve, refl)
+loose-stops = (after chain 9 (begin chain loose) eight, refl)
 
 -- label 9 is a reference to struct 0 by what put it there, and names no instance
-pub loose-lacks : Lacks chain loose twelve
+pub loose-lacks : Lacks chain loose eight
 unfolding running onward act-on after
 loose-lacks = record {
-  place = after chain 13 (begin chain loose) twelve;
-  left = after-visited chain 13 (begin chain loose) twelve .0;
-  visited = after-visited chain 13 (begin chain loose) twelve .1;
+  place = after chain 9 (begin chain loose) eight;
+  left = after-visited chain 9 (begin chain loose) eight .0;
+  visited = after-visited chain 9 (begin chain loose) eight .1;
   holder = 1;
   instance = record {
     struct = 0;
@@ -180,7 +180,7 @@ loose-lacks = record {
 }
   where
     is : List Instance
-    is = after chain 13 (begin chain loose) twelve .instances
+    is = after chain 9 (begin chain loose) eight .instances
 
     top : List Tagged → Val
     top [] = label 0
@@ -205,7 +205,7 @@ chain-accepted =
     (program-law (enc-program chain) chain (length (enc-program chain)) .0 r .0, a .0, a .1, a .2)
 
 -- and the table is not right for it; the run comes to 33, and demand 3 fails of it
-pub fails-table : Accepted chain × (TableRight (chain .params) loose → ⊥) × (Demand3 chain loose twelve → ⊥)
+pub fails-table : Accepted chain × (TableRight (chain .params) loose → ⊥) × (Demand3 chain loose eight → ⊥)
 unfolding HeldTable References struct-at TableRight
 fails-table = (chain-accepted, λ h. dangling (h .1 .0 .1 .0), lacks-refutes loose-lacks)
   where

@@ -23,8 +23,8 @@ use Rattle.operators.specs.Apply.{Answer, Answer.value, Answer.outside, Answer.
 use Rattle.operators.specs.Ranges.{Fits as Answers}
 use Rattle.operators.specs.RangesLaws.{apply-fits}
 use Rattle.machine.specs.Published.{StepCall, structs, arity}
-use Rattle.machine.specs.Machine.{Tagged, tagged, Source.variable, Source.local, Source.result, given-by, Instance, Machine, with-written, put, write-to}
-use Rattle.machine.specs.Machine.{operated, perform, command-of, command-at, command}
+use Rattle.machine.specs.Machine.{Tagged, tagged, Source.variable, Source.local, Source.result, given-by, Instance, Machine, with-written, put}
+use Rattle.machine.specs.Machine.{acting as turning, write-to, operated, perform, command-of, command-at, command}
 use Rattle.machine.specs.Stops.{full, exceeded}
 use Rattle.run.specs.Begin.{resting}
 use Rattle.commands.specs.Tags.{Tags, Top, Asks, stack-after, next as leads, at-start, Way, Way.on, Way.over, result-type}
@@ -253,9 +253,13 @@ module _ {p : Program} (firm : Firm p) {m : Machine} (good : Good p m) {a : Step
 
 -- the instance at l takes its next command
 pub commanded : (p : Program) (m : Machine) (l : ℕ) (i : Instance) (n : Note) (c : List Note) → getElem? (m .instances) l ≡ some i → i .code ≡ n ∷ c
-    → command p l m ≡ perform p m l (with-written i (now-written n (i .written))) n c
+    → command p l m ≡ perform p (turning l m) l (with-written i (now-written n (i .written))) n c
 unfolding command command-at command-of
-commanded p m l i n c at e = ap (command-at p m l) at ∙ ap (command-of p m l i) e
+commanded p m l i n c at e = ap (command-at p (turning l m) l) at ∙ ap (command-of p (turning l m) l i) e
+
+-- the invariant does not see from where turns are counted
+abbrev pub turning-good : {p : Program} {m : Machine} (l : ℕ) → Good p m → Good p (turning l m)
+turning-good l g = record { runs = g .runs; all = g .all; running = g .running; opened = g .opened; left = g .left }
 
 -- a command of a holder keeps the invariant, or is refused with one of its numbers
 pub command-kept : {p : Program} → Firm p → {m : Machine} → Good p m → (l : ℕ) (i : Instance) → getElem? (m .instances) l ≡ some i
@@ -263,4 +267,4 @@ pub command-kept : {p : Program} → Firm p → {m : Machine} → Good p m → (
     → Kept p Refused (command p l m)
 command-kept {p} firm {m} good l i at n c e =
     let (a, runs, g) = holder-passage (good .all .each l i at .place) e in
-    subst (Kept p Refused) (sym (commanded p m l i n c at e)) (takes firm good runs l i at g c n e)
+    subst (Kept p Refused) (sym (commanded p m l i n c at e)) (takes firm (turning-good l good) runs l i at g c n e)

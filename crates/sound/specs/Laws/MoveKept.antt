@@ -129,13 +129,13 @@ module _ {p : Program} (firm : Firm p) where
   started-good a is l i g = given-good a is l i (called p a (i .struct)) refl g
 
 -- a move where no instance holds commands keeps the invariant
-pub move-kept : {p : Program} → Firm p → (s : Sched) (is : List Instance) (b : List Bool) → GoodAll p none is → Open s (length b)
+pub move-kept : {p : Program} → Firm p → (s : Sched) (is : List Instance) (b : List Bool) (n : ℕ) → GoodAll p none is → Open s (length b)
     → Left (of-items (p .schedule)) s
     → (s ≡ done → ⊥)
-    → MoveKept p (move-by p s is b)
+    → MoveKept p (move-by p s is b n)
 unfolding move-by repeat
-move-kept firm done is b a o l h = absurd (h refl)
-move-kept {p} firm (start c s) is b a o l h =
+move-kept firm done is b n a o l h = absurd (h refl)
+move-kept {p} firm (start c s) is b n a o l h =
     record {
       runs = some c;
       all = good-map p (started p c) (started-struct firm c) (started-good firm c) is a;
@@ -143,15 +143,15 @@ move-kept {p} firm (start c s) is b a o l h =
       opened = past-start o;
       left = past l;
     }
-move-kept firm (fixpoint f s) is b a o l h =
+move-kept firm (fixpoint f s) is b n a o l h =
     let (u, r) = past-fix o in record { runs = none; all = a; running = tt; opened = open-before f u (open-active u r); left = into l }
-move-kept firm (active f s) is [] a o l h = absurd (active-open o refl)
-move-kept firm (active f s) is (true ∷ b) a o l h = record { runs = none; all = a; running = tt; opened = past-active o .1; left = out l }
-move-kept firm (active f s) is (false ∷ b) a o l h =
+move-kept firm (active f s) is [] n a o l h = absurd (active-open o refl)
+move-kept firm (active f s) is (true ∷ b) n a o l h = record { runs = none; all = a; running = tt; opened = past-active o .1; left = out l }
+move-kept firm (active f s) is (false ∷ b) n a o l h =
     let (u, r) = past-active o in record { runs = none; all = a; running = tt; opened = open-before f u (open-active u r); left = again l }
 
 -- no move leads on from an empty schedule
 pub done-stops : (p : Program) (m : Machine) {z : Machine} → m .sched ≡ done → move p m ≡ next z → ⊥
 unfolding move-by
 done-stops p m s e =
-    let q : move p m ≡ stuck = ap (λ s. move-by p s (m .instances) (m .stability)) s in let z : _≡_ {A = ℕ} 0 1 = cc in omega arith
+    let q : move p m ≡ stuck = ap (λ s. move-by p s (m .instances) (m .stability) (m .from)) s in let z : _≡_ {A = ℕ} 0 1 = cc in omega arith

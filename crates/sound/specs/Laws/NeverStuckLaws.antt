@@ -10,8 +10,7 @@ use lib.ListN.{length, drop, getElem?}
 use Rattle.program.specs.Tree.{Program}
 use Rattle.commands.specs.Bounds.{program-depth}
 use Rattle.table.specs.Table.{Record, TableRight}
-use Rattle.machine.specs.Published.{Sched.done, State}
-use Rattle.machine.specs.Represents.{Represents}
+use Rattle.machine.specs.Published.{Sched.done}
 use Rattle.machine.specs.Stops.{ended, out-of-turns, full, exceeded}
 use Rattle.machine.specs.Machine.{Instance, Machine, command, move}
 use Rattle.run.specs.Turns.{chosen}
@@ -28,8 +27,9 @@ use Rattle.run.specs.Laws.RunAgrees.{run-follows}
 use Rattle.run.specs.Laws.RunAgreesVisits.{run-visits, run-turns}
 use Rattle.run.specs.Laws.HaltLaws.{halts-numbers, runs-halts}
 use Rattle.run.specs.Begin.{table-of}
-use Rattle.run.specs.Initial.{initial, Comes}
-use Rattle.run.specs.Laws.BeginLaws.{begin-represents, outcome-exact}
+use Rattle.run.specs.Initial.{initially, Comes}
+use Rattle.run.specs.Runs.{Config, StandsFor}
+use Rattle.run.specs.Laws.BeginLaws.{begin-stands, outcome-exact}
 use Rattle.sound.specs.Needs.{Right}
 use Rattle.sound.specs.Invariant.{Good}
 use Rattle.commands.specs.Accepted.{Accepted}
@@ -51,10 +51,10 @@ module _ {p : Program} (firm : Firm p) where
   -- a schedule move that is due keeps the invariant
   moved-kept : {m : Machine} → Good p m → due m ≡ true → (m .sched ≡ done → ⊥) → MoveKept p (move p m)
   moved-kept {m} g h d =
-      move-kept firm (m .sched) (m .instances) (m .stability) (still-good p (m .instances) (due-still m h) (g .all)) (g .opened) (g .left) d
+      move-kept firm (m .sched) (m .instances) (m .stability) (m .from) (still-good p (m .instances) (due-still m h) (g .all)) (g .opened) (g .left) d
 
   -- the command of the instance that a byte picks keeps it, or is refused with 34 or 35
-  taken-kept : {m : Machine} (e : ℕ) → Good p m → due m ≡ false
+  pub taken-kept : {m : Machine} (e : ℕ) → Good p m → due m ≡ false
       → (i : Instance) × (getElem? (m .instances) (chosen (holders m) e) ≡ some i) × (Kept p Refused (command p (chosen (holders m) e) m))
   taken-kept {m} e g q =
       let (i, n, c, a, d) = chosen-holds m e q in
@@ -108,14 +108,14 @@ module _ {p : Program} {m z : Machine} {es gs : List ℕ} {n : ℕ} (at : Visits
 
 module _ {p : Program} (firm : Firm p) where
   -- a run of a program with firm ground under it, from any machine with the invariant, is never stuck
-  firm-never-stuck : {m : Machine} → Good p m → (st : State) → Represents m st → (es : List ℕ) → NeverStuck p m es
-  firm-never-stuck {m} g st R es = go (run p m es) refl (ran-ends firm g (run-ran p es m))
+  firm-never-stuck : {m : Machine} → Good p m → (c : Config) → StandsFor m c → (es : List ℕ) → NeverStuck p m es
+  firm-never-stuck {m} g c₀ S es = go (run p m es) refl (ran-ends firm g (run-ran p es m))
     where
       go : (o : Outcome) → run p m es ≡ o → Ends o → NeverStuck p m es
       go (stopped n t z) e s =
           let at = run-visits p m es e .0 in
-          let (st′, r, Q) = run-follows p m st es R e in
-          let c : Condition z (drop t es) n = (st′, Q, runs-halts p r) in
+          let (c′, r, Q) = run-follows p m c₀ es S e in
+          let c : Condition z (drop t es) n = (c′, Q, runs-halts p r) in
           record {
             number = n;
             turns = t;
@@ -134,15 +134,15 @@ module _ {p : Program} (firm : Firm p) where
 pub never-stuck-numbers : {p : Program} {m : Machine} {es : List ℕ} (d : NeverStuck p m es)
     → (d .number ≡ ended) ⊎ ((d .number ≡ out-of-turns) ⊎ ((d .number ≡ full) ⊎ (d .number ≡ exceeded)))
 never-stuck-numbers {es = es} d =
-    let (st, R, h) = d .exactly (d .last) (drop (d .turns) es) (d .visited) (d .number) .1 (refl, refl, refl) in halts-numbers h
+    let (c, S, h) = d .exactly (d .last) (drop (d .turns) es) (d .visited) (d .number) .1 (refl, refl, refl) in halts-numbers h
 
--- a run of an accepted program from any machine with the invariant that stands for a state is never stuck
-pub never-stuck : {p : Program} → Accepted p → {m : Machine} → Good p m → (st : State) → Represents m st → (es : List ℕ) → NeverStuck p m es
-never-stuck a g st R es = firm-never-stuck (accepted-firm a) g st R es
+-- a run of an accepted program from any machine with the invariant that stands for a configuration is never stuck
+pub never-stuck : {p : Program} → Accepted p → {m : Machine} → Good p m → (c : Config) → StandsFor m c → (es : List ℕ) → NeverStuck p m es
+never-stuck a g c S es = firm-never-stuck (accepted-firm a) g c S es
 
 -- Demand 3: so is one on a right table, whatever the turn bytes
 pub demand3 : {p : Program} → Accepted p → (rs : List Record) → TableRight (p .params) rs → (es : List ℕ) → Demand3 p rs es
-demand3 {p} a rs t es = never-stuck a (begin-good p (a .0) rs t) (initial p rs) (begin-represents p rs) es
+demand3 {p} a rs t es = never-stuck a (begin-good p (a .0) rs t) (initially p rs) (begin-stands p rs) es
 
 -- so the published rules come to a number, turns and a last table
 pub demand3-comes : (p : Program) (rs : List Record) (es : List ℕ) → Demand3 p rs es

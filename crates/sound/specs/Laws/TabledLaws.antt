@@ -36,6 +36,7 @@ use Rattle.sound.specs.Tabled.{TabledInst, Tabled}
 use Rattle.sound.specs.Laws.ElemLaws.{some-is, at-set-same, at-set-other, at-snoc, at-joined, at-below, map-at, all-elem}
 use Rattle.sound.specs.Laws.Keeps.{at-env-same, at-env-other}
 use Rattle.sound.specs.Laws.PassageLaws.{holder-passage, next-sized}
+use Rattle.sound.specs.Laws.CommandKept.{turning-good}
 use Rattle.sound.specs.Laws.WriteKept.{same-env}
 use Rattle.sound.specs.Laws.BeginGood.{nulls-length, null-at}
 use Rattle.sound.specs.Laws.NeverStuckLaws.{acts-good}
@@ -116,14 +117,14 @@ module _ (p : Program) where
   unfolding started
   started-same a i = given-same (called p a (i .struct)) i
 
-  move-tabled : (s : Sched) {is : List Instance} (b : List Bool) → Tabled p is → Moves-to (move-by p s is b)
+  move-tabled : (s : Sched) {is : List Instance} (b : List Bool) (n : ℕ) → Tabled p is → Moves-to (move-by p s is b n)
   unfolding move-by repeat
-  move-tabled done b t = tt
-  move-tabled (start a s) b t = tabled-map p t (started p a) (started-same a)
-  move-tabled (fixpoint f s) b t = t
-  move-tabled (active f s) [] t = tt
-  move-tabled (active f s) (true ∷ b) t = t
-  move-tabled (active f s) (false ∷ b) t = t
+  move-tabled done b n t = tt
+  move-tabled (start a s) b n t = tabled-map p t (started p a) (started-same a)
+  move-tabled (fixpoint f s) b n t = t
+  move-tabled (active f s) [] n t = tt
+  move-tabled (active f s) (true ∷ b) n t = t
+  move-tabled (active f s) (false ∷ b) n t = t
 
 -- Commands -------------------------------------------------------------------------
 
@@ -172,14 +173,14 @@ module _ {p : Program} (firm : Firm p) {m : Machine} (good : Good p m) (t : Tabl
       go (branched s) e = own _ refl refl
       go no-way e = tt
 
-  command-tabled : Comes-to p (command p l m)
-  command-tabled = by-ways (Comes-to p) p m l tt performed-tabled
+command-tabled : {p : Program} → Firm p → {m : Machine} → Good p m → Tabled p (m .instances) → (l : ℕ) → Comes-to p (command p l m)
+command-tabled {p} firm {m} good t l = by-ways (Comes-to p) p m l tt (performed-tabled firm (turning-good l good) t l)
 
 -- Runs -----------------------------------------------------------------------------
 
 -- a step of a run keeps it,
 pub acts-tabled : {p : Program} → Firm p → {m z : Machine} {a : Option ℕ} → Acts p m a z → Good p m → Tabled p (m .instances) → Tabled p (z .instances)
-acts-tabled {p} firm {m} (moves h e) g t = subst (Moves-to p) e (move-tabled p (m .sched) (m .stability) t)
+acts-tabled {p} firm {m} (moves h e) g t = subst (Moves-to p) e (move-tabled p (m .sched) (m .stability) (m .from) t)
 acts-tabled {p} firm {m} (takes {e = e} q c) g t = subst (Comes-to p) c (command-tabled firm g t (chosen (holders m) e))
 
 -- so it is in every machine that a run passes through

@@ -168,6 +168,30 @@ pub fn runs(
     holding
 }
 
+/// The bytes by which labels act in this order in the first step of a run,
+/// where each label has so many commands: a byte counts the holders passed
+/// over on the way round from behind the label before.
+pub fn in_order(commands: &[usize], order: &[usize]) -> Vec<u8> {
+    let mut left = commands.to_vec();
+    let mut at = 0;
+    let mut byte_to = |label: usize| {
+        let mut passed = 0;
+        while at % left.len() != label {
+            passed += u8::from(left[at % left.len()] > 0);
+            at += 1;
+        }
+        left[label] -= 1;
+        at = label + 1;
+        passed
+    };
+    order.iter().map(|&label| byte_to(label)).collect()
+}
+
+/// So many of each label, one label after the other.
+pub fn blocks_of(parts: &[(usize, usize)]) -> Vec<usize> {
+    parts.iter().flat_map(|&(count, label)| vec![label; count]).collect()
+}
+
 /// A table stream of records, each a struct byte and its values.
 pub fn table(records: &[(u8, &[i64])]) -> Vec<u8> {
     let mut stream = (records.len() as u16).to_le_bytes().to_vec();

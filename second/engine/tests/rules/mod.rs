@@ -91,6 +91,8 @@ pub struct State<'s> {
     schedule: Vec<Sched>,
     pub sigma: Vec<Inst>,
     stability: Vec<bool>,
+    /// Where the counting begins: the label after the one that acted last.
+    from: usize,
 }
 
 fn entries(items: &[Item]) -> Vec<Sched> {
@@ -104,7 +106,8 @@ impl<'s> State<'s> {
             nulls.map(|(k, types)| (k as u8, types.iter().map(|&of| default(of)).collect()));
         let all = nulls.chain(records.iter().cloned());
         let sigma = all.map(|(structure, values)| State::instance(structure, values)).collect();
-        State { source, schedule: entries(&source.schedule), sigma, stability: Vec::new() }
+        let schedule = entries(&source.schedule);
+        State { source, schedule, sigma, stability: Vec::new(), from: 0 }
     }
 
     fn instance(structure: u8, mut xi: Vec<Value>) -> Inst {
@@ -125,10 +128,13 @@ impl<'s> State<'s> {
             } else if taken == turns.len() {
                 return (33, taken);
             } else {
+                let around = (self.from..self.sigma.len()).chain(0..self.from);
+                let holders: Vec<usize> = around.filter(|label| holders.contains(label)).collect();
                 let label = holders[usize::from(turns[taken]) % holders.len()];
                 if let Err(number) = self.command(label) {
                     return (number, taken);
                 }
+                self.from = label + 1;
                 taken += 1;
             }
         }

@@ -1,10 +1,12 @@
-//! Runs that stop at each number from the state, and 01's bench rows.
+//! Runs that stop at each number from the state, 01's bench rows, and turns as
+//! 02 §5 counts them.
 
 use super::{P, run};
 use crate::cases::Case;
 
 pub fn cases() -> Vec<Case> {
-    [rows(), arithmetic(), both_sides(), constructors(), fixes(), turns(), holders()].concat()
+    let runs = [rows(), arithmetic(), both_sides(), constructors(), fixes(), turns()].concat();
+    [runs, holders(), rounds()].concat()
 }
 
 fn cells(records: &[(u32, u32)]) -> Vec<u8> {
@@ -173,4 +175,44 @@ fn holders() -> Vec<Case> {
     let table = [3, 0, 0, 1, 0, 0, 0, 1, 0, 0, 0, 0, 0];
     let bytes: Vec<u8> = (0..40).map(|at: usize| ((at * 7) & 255) as u8).collect();
     (0..=37).map(|count| run(&program, &table, &bytes[..count])).collect()
+}
+
+/// Turns that go round: each instance constructs a struct 1 with its number, so
+/// that the table tells who came when; once, twice, with a step of struct 1
+/// between, and in a Fix.
+fn rounds() -> Vec<Case> {
+    // struct 0 (Nat): step 0 is `construct 1 (n)`; struct 1 (Nat): step 1 is
+    // `n := n + n`
+    let mut steps = vec![2, 1, 1, 1, 1, 1, 0, 1, 4, 1, 18, 1, 0];
+    steps.extend([1, 1, 1, 3, 1, 0, 41, 18, 1, 0, 18, 1, 0]);
+    // labels 2 to 6, of which 3 and 5 are of struct 1
+    let mut table = vec![5, 0];
+    for (of, number) in [(0, 20), (1, 3), (0, 40), (1, 5), (0, 60)] {
+        table.extend([of, number, 0, 0, 0]);
+    }
+    let schedules: [&[u8]; 4] =
+        [&[1, 1, 0], &[2, 1, 0, 1, 0], &[3, 1, 0, 1, 1, 1, 0], &[1, 3, 2, 1, 1, 1, 0]];
+    let mut cases = Vec::new();
+    for schedule in schedules {
+        let program = [&steps[..], schedule].concat();
+        for byte in [0u8, 1, 2, 3, 4, 7, 127, 254, 255] {
+            cases.push(run(&program, &table, &[byte; 80]));
+        }
+        for step in [1usize, 3, 11, 83, 253] {
+            let bytes: Vec<u8> = (0..80).map(|at| ((at * step) & 255) as u8).collect();
+            cases.push(run(&program, &table, &bytes));
+        }
+    }
+    // 02's rows: the stop with 35 behind 17 turns, and one turn before it
+    let large = cells(&[(1, 0), (0x7FFF_FFFF, 1)]);
+    cases.push(run(&P, &large, &[0; 18]));
+    cases.push(run(&P, &large, &[0; 17]));
+    // 256 instances, the highest label first and behind it the lowest
+    let add = [1, 1, 1, 1, 0, 1, 3, 1, 0, 41, 18, 1, 0, 20, 1, 0, 0, 0, 1, 1, 0];
+    let full = [&[255, 0][..], &[0; 5 * 255]].concat();
+    for (first, behind) in [(255, 0), (255, 255), (254, 1), (254, 0), (0, 255), (0, 254)] {
+        let bytes = [&[first][..], &[behind; 1_400]].concat();
+        cases.push(run(&add, &full, &bytes));
+    }
+    cases
 }

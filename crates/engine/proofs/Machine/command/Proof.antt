@@ -31,15 +31,19 @@ left-holding-requires c κs =
     let f = start p .pre .0 in
     (omega (arith, p .perform .kept .1 .0, f .chosen, f .few, f .heads-long), start p .pre .1)
 
+turned-requires : tie.Need-turned-requires
+turned-requires c κs = let f = start (at-perform (c .before)) .pre .0 in omega (arith, f .chosen, f .few)
+
 returns : tie.Need-returns
 returns c =
-    let p = at-perform (c .before) in
+    let left = c .before in
+    let p = at-perform (left .before) in
     let a = start p .args in
     acted (a .list .now) (a .counts .now) (a .heads .now) (a .cells .now) (a .l) (a .self .numbers) (p .perform .result) (p .perform .ensures)
-    (c .before .before .after .ensures) (c .left-holding .ensures)
+    (left .before .before .after .ensures) (left .left-holding .ensures) (c .turned .ensures)
 
 pub command-spec : {M : Type 1} → statement M
 command-spec =
     tie.close
     (tie.spec (λ c. search needs) (λ c. search needs) (λ c. search needs) (λ c. search needs) (λ c. search needs) (λ c. search needs) perform-requires
-    (λ c κs. search needs) left-holding-requires (λ c. search needs) (λ c. search needs) returns)
+    (λ c κs. search needs) left-holding-requires turned-requires (λ c. search needs) (λ c. search needs) returns)

@@ -2,7 +2,7 @@
 -- the turns that are left. In a turn the records are lent for a lifetime that is made for the search, and come back; heads and cells are lent again for
 -- the turn's own function, and come back (`Again.antt`); the actor's record is stored. All that is known of the two callees is their contracts.
 use mathlib.Core.Path.{_≡_, refl, ap, sym, _∙_, subst}
-use Prim.Native.Nat.{ℕ, _<_, _^_, _+_}
+use Prim.Native.Nat.{ℕ, _<_, _≤_, _^_, _+_}
 use mathlib.Core.Bool.{Bool, true, false, not}
 use mathlib.Core.List.{List, [], _∷_, map}
 use mathlib.Core.WellFounded.{WellFounded, InvImage·wf}
@@ -53,16 +53,20 @@ use denote.Triple.Walked.{says, needs, Stays, stay-dropped, stay-slice, walkOf, 
 use denote.Triple.Clauses.{ensured, lasts}
 use denote.Exit.{yes}
 use Rattle.holders.specs.declared.Record.{Record}
-use Rattle.holders.specs.Records.{idle, holder-in}
+use Rattle.holders.specs.Records.{idle}
 use Rattle.holders.proofs.Record as P
 use Rattle.holders.proofs.Record.Laws as P′
 use Rattle.holders.proofs.holder as holder
 use Rattle.holders.proofs.holder.Symbol as holder-def
 use Rattle.holders.proofs.holder.Symbol.{name as #holders·holder}
 use Rattle.holders.proofs.holder.Met as holder-thm
+use Rattle.layout.proofs.Numbers as Nums
+use Rattle.layout.proofs.Numbers.Laws as Nums′
+use Rattle.engine.proofs.Machine as Mach
+use Rattle.engine.proofs.Machine.Laws as Mach′
 use Rattle.interpreter.specs.declared.turns.Going.{Going}
-use Rattle.interpreter.specs.Going.{Takes, Turning, Passes}
-use Rattle.interpreter.specs.GoingLaws.{turns-left, Kept, kept-none, kept-done, kept-asks, kept-within, kept-more, kept-less}
+use Rattle.interpreter.specs.Going.{searched, Takes, Turning, Passes}
+use Rattle.interpreter.specs.GoingLaws.{turns-left, Kept, kept-none, kept-done, kept-few, kept-asks, kept-within, kept-more, kept-less}
 use Rattle.interpreter.proofs.Again.{LentAgain, lends-again, comes-back}
 use Rattle.interpreter.proofs.turns.Going as T
 use Rattle.interpreter.proofs.turns.Going.Laws as T′
@@ -125,7 +129,8 @@ agains = sliceTy again
 abbrev more : Body
 more = seq (assign (place 12 []) (addrOf (place 9 [])))
     (seq (assign (place 13 []) (aggregate (copy (place 12 []) ∷ int w64 256 ∷ [])))
-    (seq (call #holders·holder (copy (place 13 []) ∷ copy (place 8 (field 4 ∷ [])) ∷ []) (place 10 []))
+    (seq (call #holders·holder (copy (place 13 []) ∷ copy (place 8 (field 0 ∷ field 0 ∷ field 0 ∷ [])) ∷ copy (place 8 (field 0 ∷ field 0 ∷ field 6 ∷ [])) ∷
+    copy (place 8 (field 4 ∷ [])) ∷ []) (place 10 []))
     (seq (assign (place 14 []) (addrOf (place 5 (field 0 ∷ deref word ∷ []))))
     (seq (assign (place 15 []) (aggregate (copy (place 14 []) ∷ copy (place 5 (field 1 ∷ [])) ∷ [])))
     (seq (assign (place 16 []) (addrOf (place 6 (field 0 ∷ deref word ∷ []))))
@@ -307,21 +312,42 @@ module _ {M : Type 1} (𝓤 : URA M) (H : Heap 𝓤) (A : Atoms 𝓤) (W : Given
   abbrev lent-records : ℕ → GName → List Record → RefT (List Record)
   lent-records l γ rs = record { ptr = (l, 0); name = γ; now = rs }
 
-  abbrev to-holder : ℕ → ℕ → GName → List Record → ℕ → Holder 𝓤 H A mem run .Ghost
-  to-holder α l γ rs k = (((α ∷ [], tt), (fullShare, tt), tt, (lent-records l γ rs, (k, tt)), (sliceVal (l, 0) (length rs) ∷ [], (vint w64 k ∷ [], tt))), tt)
+  -- how many instances there are, from which label counting goes on, and which holder is looked for
+  abbrev count : Going → ℕ
+  count s = s .machine .numbers .count
 
-  goes-holder : (α l : ℕ) (γ : GName) (rs : List Record) (k : ℕ) → k < 2 ^ 64
+  abbrev start : Going → ℕ
+  start s = s .machine .numbers .from
+
+  abbrev sought : Going → ℕ × (ℕ × (ℕ × Unit {0}))
+  sought s = (count s, (start s, (s .pick, tt)))
+
+  abbrev to-holder : ℕ → ℕ → GName → List Record → Going → Holder 𝓤 H A mem run .Ghost
+  to-holder α l γ rs s = (
+    (
+      (α ∷ [], tt),
+      (fullShare, tt),
+      tt,
+      (lent-records l γ rs, sought s),
+      (sliceVal (l, 0) (length rs) ∷ [], (vint w64 (count s) ∷ [], (vint w64 (start s) ∷ [], (vint w64 (s .pick) ∷ [], tt)))),
+    ),
+    tt,
+  )
+
+  goes-holder : (α l : ℕ) (γ : GName) (rs : List Record) (s : Going) → count s < 2 ^ 64 → start s < 2 ^ 64 → s .pick < 2 ^ 64 → count s ≤ length rs
       → ent 𝓤 (⋆ 𝓤 H A (‵ (ShrSlice (named 0) (α ∷ []) R .own (lent-records l γ rs) (sliceVal (l, 0) (length rs) ∷ [])) ∷ ‵ (flft (α ∷ []) fullShare) ∷ []))
-      (Holder 𝓤 H A mem run .pre (to-holder α l γ rs k))
-  goes-holder α l γ rs k gk =
+      (Holder 𝓤 H A mem run .pre (to-holder α l γ rs s))
+  goes-holder α l γ rs s gn gs gk few =
       qed W (‵ (ShrSlice (named 0) (α ∷ []) R .own (lent-records l γ rs) (sliceVal (l, 0) (length rs) ∷ [])) ∷ ‵ (flft (α ∷ []) fullShare) ∷ []) ∵
-      nothing ! $ owned ! usize (Is usize) (uint-makes 𝓤 H A W w64) k (vint w64 k ∷ []) (refl, gk) $ fjoin ! $ move ! (1 ∷ 0 ∷ []) $ fjoin ! $
-      nothing ! $ move ! (2 ∷ 0 ∷ []) $ join ! $ join ! $ frame ! $ done !
+      says ! few $ nothing ! $ move ! (2 ∷ 0 ∷ []) $ join ! $ frame ! $
+      nothing ! $ owned ! usize (Is usize) (uint-makes 𝓤 H A W w64) (s .pick) (vint w64 (s .pick) ∷ []) (refl, gk) $ fjoin ! $
+      owned ! usize (Is usize) (uint-makes 𝓤 H A W w64) (start s) (vint w64 (start s) ∷ []) (refl, gs) $ fjoin ! $
+      owned ! usize (Is usize) (uint-makes 𝓤 H A W w64) (count s) (vint w64 (count s) ∷ []) (refl, gn) $ fjoin ! $ move ! (1 ∷ 0 ∷ []) $ fjoin ! $ done !
 
-  said-holder : (α l : ℕ) (γ : GName) (rs : List Record) (k r : ℕ)
-      → ent 𝓤 (ensured 𝓤 H A holder.ended (holder.clauses 𝓤 H A mem run) (α ∷ [], tt) (lent-records l γ rs, (k, tt)) tt r) (fact 𝓤 (r ≡ holder-in rs k))
-  said-holder α l γ rs k r =
-      exE 𝓤 _ (λ ws. snd∗ 𝓤 (sem 𝓤 H A (lasts holder.ended (α ∷ [], tt) (lent-records l γ rs, (k, tt)) ws)) (fact 𝓤 (r ≡ holder-in rs k)))
+  said-holder : (α l : ℕ) (γ : GName) (rs : List Record) (s : Going) (r : ℕ)
+      → ent 𝓤 (ensured 𝓤 H A holder.ended (holder.clauses 𝓤 H A mem run) (α ∷ [], tt) (lent-records l γ rs, sought s) tt r) (fact 𝓤 (r ≡ searched s rs))
+  said-holder α l γ rs s r =
+      exE 𝓤 _ (λ ws. snd∗ 𝓤 (sem 𝓤 H A (lasts holder.ended (α ∷ [], tt) (lent-records l γ rs, sought s) ws)) (fact 𝓤 (r ≡ searched s rs)))
 
   -- The turn --------------------------------------------------------------------------
 
@@ -337,7 +363,7 @@ module _ {M : Type 1} (𝓤 : URA M) (H : Heap 𝓤) (A : Atoms 𝓤) (W : Given
     tt,
   )
 
-  goes-turn : (i : Upto) (ν μ : ℕ) (δ ε : GName) (l : ℕ) → i .s .due ≡ true → l ≡ holder-in (i .rs) (i .s .pick) → l < 2 ^ 64
+  goes-turn : (i : Upto) (ν μ : ℕ) (δ ε : GName) (l : ℕ) → i .s .due ≡ true → l ≡ searched (i .s) (i .rs) → l < 2 ^ 64
       → ent 𝓤 (⋆ 𝓤 H A (‵ OL ∷ ‵ OB ∷ ‵ (MutSlice (named 2) (ν ∷ []) usize .own (hs δ (i .h)) (vh (length (i .h)) ∷ [])) ∷
       ‵ (MutSlice (named 3) (μ ∷ []) u64 .own (cs ε (i .c)) (vc (length (i .c)) ∷ [])) ∷ ‵ OE ∷ ‵ (flft κ₀ q₀) ∷ ‵ (flft κ₁ q₁) ∷
       ‵ (flft (ν ∷ []) fullShare) ∷ ‵ (flft (μ ∷ []) fullShare) ∷ ‵ (flft κ₄ q₄) ∷ []))
@@ -359,6 +385,13 @@ module _ {M : Type 1} (𝓤 : URA M) (H : Heap 𝓤) (A : Atoms 𝓤) (W : Given
   -- what the numbers of a run and the elements of an array are known to be
   pick-fits : (i : Upto) → i .s .pick < 2 ^ 64
   pick-fits i = LL.owed T.the-type T′.the-laws (i .s) _ (i .is-s) .1 .1 .1 .1 .0 .1
+
+  numbers-fit : (i : Upto) → (count (i .s) < 2 ^ 64) × (start (i .s) < 2 ^ 64)
+  numbers-fit i =
+      let machine = LL.owed T.the-type T′.the-laws (i .s) _ (i .is-s) .0 in
+      let numbers = LL.owed Mach.the-type Mach′.the-laws (i .s .machine) _ machine .0 in
+      let n = LL.owed Nums.the-type Nums′.the-laws (i .s .machine .numbers) _ numbers in
+      (n .0 .1, n .1 .1 .1 .1 .1 .1 .0 .1)
 
   is-actor : (s : Going) → Is G s (gval s ∷ []) → Is R (s .actor) (rval (s .actor) ∷ [])
   is-actor s is = LL.owed T.the-type T′.the-laws s _ is .1 .1 .1 .1 .1 .0
@@ -412,15 +445,18 @@ module _ {M : Type 1} (𝓤 : URA M) (H : Heap 𝓤) (A : Atoms 𝓤) (W : Given
         ‵ (flent (α ∷ []) (Rows (i .rs) (length (i .rs)) l₉)))))
         (lends-shr-slice 𝓤 H A W R (named 0) (α ∷ []) fullShare (i .rs) l₉ 0 (subst (λ (m : ℕ). Room R m) (sym (i .len-rs)) room)) $ await ! tt $
         pick ! (λ γ. split ! $ move ! (0 ∷ 2 ∷ []) $
-        use2 W (raw (Holder 𝓤 H A mem run .pre (to-holder α l₉ γ (i .rs) (i .s .pick)))) (goes-holder α l₉ γ (i .rs) (i .s .pick) (pick-fits i)) $
+        use2 W (raw (Holder 𝓤 H A mem run .pre (to-holder α l₉ γ (i .rs) (i .s))))
+        (goes-holder α l₉ γ (i .rs) (i .s) (numbers-fit i .0) (numbers-fit i .1) (pick-fits i) (kept-few (i .kept) (is-true (i .s .due) due))) $
         -- [what the search asks; lent; heads; cells; ..: one place more than before]
-        calls-at ! fm (Holder 𝓤 H A mem run) known-holder (to-holder α l₉ γ (i .rs) (i .s .pick)) (and-then ! (load ! (from ! (stop !)) (look ! 24 refl))
-        (and-then ! (load ! (from ! (fld ! refl (stop !))) (look-in ! 12 (sub ! 4 refl (whole !)))) (no-more !))) (λ u.
+        calls-at ! fm (Holder 𝓤 H A mem run) known-holder (to-holder α l₉ γ (i .rs) (i .s)) (and-then ! (load ! (from ! (stop !)) (look ! 24 refl))
+        (and-then ! (load ! (from ! (fld ! refl (fld ! refl (fld ! refl (stop !))))) (look-in ! 12 (sub ! 0 refl (sub ! 0 refl (sub ! 0 refl (whole !))))))
+        (and-then ! (load ! (from ! (fld ! refl (fld ! refl (fld ! refl (stop !))))) (look-in ! 12 (sub ! 6 refl (sub ! 0 refl (sub ! 0 refl (whole !))))))
+        (and-then ! (load ! (from ! (fld ! refl (stop !))) (look-in ! 12 (sub ! 4 refl (whole !)))) (no-more !))))) (λ u.
         use1 W (later (some (λ (r : ℕ). ((‵ (flft (α ∷ []) fullShare) ⊛ ‵ ftrue) ⊛ ‵ (usize .own r (u ∷ []))) ⊛ raw
-        (ensured 𝓤 H A holder.ended (holder.clauses 𝓤 H A mem run) (α ∷ [], tt) (lent-records l₉ γ (i .rs), (i .s .pick, tt)) tt r)))) (id⊢ 𝓤 _) $
+        (ensured 𝓤 H A holder.ended (holder.clauses 𝓤 H A mem run) (α ∷ [], tt) (lent-records l₉ γ (i .rs), sought (i .s)) tt r)))) (id⊢ 𝓤 _) $
         await ! tt $ pick ! (λ l. split ! $ move ! (1 ∷ []) $
-        use1 W (raw (fact 𝓤 (l ≡ holder-in (i .rs) (i .s .pick)))) (said-holder α l₉ γ (i .rs) (i .s .pick) l) $
-        heard ! (l ≡ holder-in (i .rs) (i .s .pick)) (λ found. split ! $ move ! (1 ∷ []) $ peeks ! usize (Is usize) (shows 𝓤 H A usize) l (u ∷ []) (λ iu.
+        use1 W (raw (fact 𝓤 (l ≡ searched (i .s) (i .rs)))) (said-holder α l₉ γ (i .rs) (i .s) l) $
+        heard ! (l ≡ searched (i .s) (i .rs)) (λ found. split ! $ move ! (1 ∷ []) $ peeks ! usize (Is usize) (shows 𝓤 H A usize) l (u ∷ []) (λ iu.
         -- [l; the token and true; lent; heads; cells; ..]
         land ! (from ! (stop !)) (init ! 22 refl (uint-lawful 𝓤 H A W w64 .typed l (u ∷ []) iu .0)) $
         rewrite ! 22 (λ (x : Val). ‵ (fat fullShare word l₁₀ 0 x)) (ap only (iu .0)) refl $
@@ -529,13 +565,13 @@ module _ {M : Type 1} (𝓤 : URA M) (H : Heap 𝓤) (A : Atoms 𝓤) (W : Given
         room-c : Room u64 (length (i .c))
         room-c = subst (λ (m : ℕ). Room u64 m) (sym (i .len-c)) gc
 
-        within : {l : ℕ} → Holds (i .s .due) → l ≡ holder-in (i .rs) (i .s .pick) → l < length (i .rs)
+        within : {l : ℕ} → Holds (i .s .due) → l ≡ searched (i .s) (i .rs) → l < length (i .rs)
         within due found = kept-within (i .kept) (is-true (i .s .due) due) found
 
         is-next : (r : Going) (v : Val) → Is G r (v ∷ []) → Is G r (gval r ∷ [])
         is-next r v ir = subst (λ (vs : List Val). Is G r vs) (LL.tells T.the-type T′.the-laws r (v ∷ []) ir) ir
 
-        next : {l : ℕ} → Holds (i .s .due) → l ≡ holder-in (i .rs) (i .s .pick) → (r : Going) (v : Val) → Is G r (v ∷ []) → (zs : Lists)
+        next : {l : ℕ} → Holds (i .s .due) → l ≡ searched (i .s) (i .rs) → (r : Going) (v : Val) → Is G r (v ∷ []) → (zs : Lists)
             → length (zs .1 .1 .1 .1 .0) ≡ length (i .h) → length (zs .1 .1 .1 .1 .1 .0) ≡ length (i .c)
             → Takes (L .now) (B .now) es l (i .s) (i .h) (i .c) r (zs .1 .1 .1 .1 .0) (zs .1 .1 .1 .1 .1 .0)
             → Upto

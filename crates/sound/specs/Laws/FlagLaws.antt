@@ -5,28 +5,21 @@ use mathlib.Core.Path.{_≡_, refl, ap, sym, _∙_, subst}
 use mathlib.Core.Bool.{Bool, true, false}
 use mathlib.Core.Logic.{_⊎_, inl, inr}
 use mathlib.Core.Option.{some}
-use mathlib.Core.List.{List, [], _∷_, _++_, map, append-nil}
+use mathlib.Core.List.{List, [], _∷_, _++_, append-nil}
 use lib.ListN.{getElem?, set, drop, length}
 use Rattle.types.specs.Types.{Ty.ref}
 use Rattle.types.specs.Values.{Val.label}
 use Rattle.program.specs.Tree.{Program}
 use Rattle.commands.specs.Noted.{Note, now-written}
 use Rattle.machine.specs.Published.{Env, arity}
-use Rattle.machine.specs.Machine.{tagged, Instance, Machine, Out, Out.next, Out.refused, Out.stuck, with-code, with-env, with-written, update-env}
+use Rattle.machine.specs.Machine.{tagged, Instance, Machine, Out, Out.next, Out.refused, Out.stuck, with-code, with-env, with-written, acting, update-env}
 use Rattle.machine.specs.Machine.{made, command}
 use Rattle.machine.specs.Performed.{Performed, Performed.pushed, Performed.pushed-this, Performed.negated, Performed.read-one, Performed.skipped}
 use Rattle.machine.specs.Performed.{Performed.wrote, Performed.calculated, Performed.exceeding, Performed.constructed, Performed.filled}
 use Rattle.machine.specs.Performed.{Performed.branched, Performed.no-way}
 use Rattle.machine.specs.PerformedLaws.{by-ways}
-use Rattle.run.specs.Holders.{holds-code}
+use Rattle.run.specs.Holders.{holds-code, flag, flags}
 use Rattle.sound.specs.Laws.ElemLaws.{none-some, at-set-same, at-append}
-
--- whether an instance holds commands, and of each of a list
-abbrev pub flag : Instance → Bool
-flag i = holds-code (i .code)
-
-abbrev pub flags : List Instance → List Bool
-flags is = map flag is
 
 flags-set : (is : List Instance) (l : ℕ) (j : Instance) → flags (set is l j) ≡ set (flags is) l (flag j)
 flags-set [] l j = refl
@@ -118,7 +111,7 @@ module _ (p : Program) (m : Machine) (l : ℕ) {i₀ : Instance} (g : getElem? (
 command-leaves : (p : Program) (l : ℕ) (m : Machine) → Leaves l (flags (m .instances)) (command p l m)
 command-leaves p l m =
     by-ways (Leaves l (flags (m .instances))) p m l tt
-    λ i n r o g e w. leaves p m l g (with-written i (now-written n (i .written))) r w
+    λ i n r o g e w. leaves p (acting l m) l g (with-written i (now-written n (i .written))) r w
 
 -- the flags behind a command of instance l
 pub flags-behind : (p : Program) (l : ℕ) (m : Machine) {m′ : Machine} → command p l m ≡ next m′ → Flagged l (flags (m .instances)) (m′ .instances)
