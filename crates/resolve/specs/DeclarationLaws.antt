@@ -66,7 +66,7 @@ module _ (ds : List Struct) where
       go (d ∷ l) = ap suc (go l)
 
   -- a type means the type of its byte, where it means one
-  type-known : (t : TypeName) → then (type-meaning ds t) (λ u. some (code u)) ≡ provided (one-known (byte t)) (some (byte t))
+  pub type-known : (t : TypeName) → then (type-meaning ds t) (λ u. some (code u)) ≡ provided (one-known (byte t)) (some (byte t))
   unfolding type-meaning then provided byte-of code
   type-known int-type = rw (lt-ltb 0 (struct-code + length ds) (omega arith)) refl
   type-known nat-type = rw (lt-ltb 1 (struct-code + length ds) (omega arith)) refl

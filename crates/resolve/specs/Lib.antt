@@ -26,3 +26,8 @@ pub mod PlacesLaws
 pub mod DeclarationLaws
 pub mod OnceLaws
 pub mod WellDeclaredLaws
+pub mod Using
+pub mod SoughtLaws
+pub mod UsingLaws
+pub mod UsingNameLaws
+pub mod UsingTextLaws

@@ -23,7 +23,7 @@ use Rattle.meaning.specs.Meant.{then, provided, each, pars-meaning}
 use Rattle.meaning.specs.Means.{TypeMeans, TypeMeans.int-is, TypeMeans.nat-is, TypeMeans.bool-is, TypeMeans.struct-is, ParMeans, ParMeans.par-means, ParsMean, ParsMean.pars-mean, StepMeans, StepMeans.step-means, StepsMean, StepsMean.steps-mean, Means, Means.means}
 use Rattle.derive.specs.Roles.{naming-code, roles}
 use Rattle.resolve.specs.Named.{names-at, sought}
-use Rattle.resolve.specs.NamedLaws.{found-where-sought}
+use Rattle.resolve.specs.NamedLaws.{found-where-sought, same-names}
 use Rattle.resolve.specs.Tables.{struct-byte, places, offsets}
 use Rattle.resolve.specs.Declares.{named, all-pars}
 use Rattle.resolve.specs.DeclaresLaws.{structs-declared, pars-declared, types-declared, steps-declared}
@@ -91,10 +91,6 @@ module _ (x cs : List ℕ) (d : Defs) (s : Sched) (st : Stood x cs (roles (progr
 each-long : {A B : Type 0} {R : A → B → Type 0} {l : List A} {m : List B} → Each R l m → length l ≡ length m
 each-long no-more = refl
 each-long (and-then r e) = ap suc (each-long e)
-
-same-names : (l : List Id) → map (λ z. z) l ≡ l
-same-names [] = refl
-same-names (x ∷ l) = ap (λ m. x ∷ m) (same-names l)
 
 module _ (ds : List Struct) where
   abbrev byte : TypeName → ℕ
