@@ -31,3 +31,7 @@ pub mod SoughtLaws
 pub mod UsingLaws
 pub mod UsingNameLaws
 pub mod UsingTextLaws
+pub mod UsingAt
+pub mod UsingAtLaws
+pub mod Resolved
+pub mod ResolvedLaws

@@ -163,7 +163,8 @@ module _ (ds : List Struct) (names : List Id) where
         }
 
     -- a local comes alive
-    pub agree-alive : Agrees ds names (lives p (p .fresh ++ p .alive) [] (p .met) (p .bodies)) (live u (u .living) (u .numbers) (u .bytes) 0 (u .met) (u .heights))
+    pub agree-alive : Agrees ds names (lives p (p .fresh ++ p .alive) [] (p .met) (p .bodies))
+        (live u (u .living) (u .numbers) (u .bytes) 0 (u .met) (u .heights))
     unfolding lives live
     agree-alive =
         record {

@@ -243,7 +243,8 @@ module _ (ds : List Struct) (names : List Id) where
     unfolding then provided
     typed-both t =
         subst
-        (λ n. Both ds names (then (type-meaning ds t) (λ v. some (leaves p t (code v)))) (provided (ltb (byte t) (struct-code + n)) (some (leave u (byte t) (byte t)))))
+        (λ n. Both ds names (then (type-meaning ds t) (λ v. some (leaves p t (code v))))
+        (provided (ltb (byte t) (struct-code + n)) (some (leave u (byte t) (byte t)))))
         (sym (length-map ds struct-id))
         (go (type-meaning ds t) (ltb (byte t) (struct-code + length ds)) (type-known ds t))
       where

@@ -46,14 +46,14 @@ module _ (x cs : List ℕ) (d : Defs) (s : Sched) (st : Stood x cs (roles (progr
   abbrev ds : List Struct
   ds = structs-of d
 
-  struct-names : names-at x (places struct-byte struct-byte cs) ≡ map struct-id ds
+  pub struct-names : names-at x (places struct-byte struct-byte cs) ≡ map struct-id ds
   unfolding named naming-code
   struct-names = names-stand x struct-byte (omega arith) (omega arith) 0 refl st ∙ structs-declared d s
 
   struct-count : length (places struct-byte struct-byte cs) ≡ length ds
   struct-count = sym (length-map (places struct-byte struct-byte cs) _) ∙ ap length struct-names ∙ length-map ds struct-id
 
-  par-names : names-at x (places par-byte par-byte cs) ≡ map par-id (all-pars ds)
+  pub par-names : names-at x (places par-byte par-byte cs) ≡ map par-id (all-pars ds)
   unfolding named naming-code
   par-names = names-stand x par-byte (omega arith) (omega arith) 0 refl st ∙ pars-declared d s
 
