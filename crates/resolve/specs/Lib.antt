@@ -35,3 +35,4 @@ pub mod UsingAt
 pub mod UsingAtLaws
 pub mod Resolved
 pub mod ResolvedLaws
+pub mod PartLaws

@@ -1,27 +1,23 @@
 -- The numbers of a text's names (02 §1): its tables of declarations, tested, and the pass over its places by them; nothing where 17 holds for one of them.
-use Prim.Native.Nat.{ℕ, _-_}
+use Prim.Native.Nat.{ℕ}
 use mathlib.Core.List.{List, [], _∷_, _++_}
 use mathlib.Core.Option.{Option, some}
-use lib.ListN.{take, drop}
 use Rattle.program.specs.Tree.{Program}
 use Rattle.program.specs.Encoding.{flat}
 use Rattle.meaning.specs.Meant.{then, provided}
 use Rattle.resolve.specs.Named.{names-at}
 use Rattle.resolve.specs.Numbers.{steps-numbers, items-numbers}
 use Rattle.resolve.specs.Tables.{struct-byte, places, offsets}
-use Rattle.resolve.specs.Checks.{types-at, firsts}
+use Rattle.resolve.specs.Checks.{part-of, types-at, firsts}
 use Rattle.resolve.specs.WellDeclared.{par-byte, step-byte, tables-ok}
 use Rattle.resolve.specs.Using.{Book, use-start}
 use Rattle.resolve.specs.UsingAt.{uses-at}
 
--- the part of a list from a to b; the parts between each of some numbers and the next
-abbrev pub cut : {A : Type 0} → List A → ℕ → ℕ → List A
-cut l a b = take (b - a) (drop a l)
-
+-- the parts of a list between each of some numbers and the next
 unfoldable pub cuts : {A : Type 0} → List A → List ℕ → List (List A)
 cuts l [] = []
 cuts l (a ∷ []) = []
-cuts l (a ∷ b ∷ k) = cut l a b ∷ cuts l (b ∷ k)
+cuts l (a ∷ b ∷ k) = part-of l a b ∷ cuts l (b ∷ k)
 
 -- the tables of a text by its roles
 unfoldable pub book-at : List ℕ → List ℕ → Book

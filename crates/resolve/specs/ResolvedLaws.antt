@@ -1,4 +1,4 @@
--- 17 for names (02 §1): the numbers of a text are those of the program that its derivation means; where there are none, it means no program that a stream holds.
+-- 17 for names (02 §1): the numbers of a text are those of the program that its derivation means; without them it means no program that a stream holds.
 use Prim.Native.Nat.{ℕ, _+_, _-_}
 use native.Mathlib.Omega.{arith}
 use mathlib.Core.Path.{_≡_, refl, sym, ap, _∙_}
@@ -31,7 +31,7 @@ use Rattle.resolve.specs.Tables.{struct-byte, places, offsets}
 use Rattle.resolve.specs.Declares.{named, all-pars, sums}
 use Rattle.resolve.specs.DeclaresLaws.{map-pars, types-declared, steps-declared}
 use Rattle.resolve.specs.RowLaws.{par-rows-declared}
-use Rattle.resolve.specs.Checks.{byte-of, types-at, firsts}
+use Rattle.resolve.specs.Checks.{part-of, byte-of, types-at, firsts}
 use Rattle.resolve.specs.Standing.{Stood}
 use Rattle.resolve.specs.StandingLaws.{both-parts}
 use Rattle.resolve.specs.PlacesLaws.{names-stand, rows-stand, types-stand}
@@ -43,11 +43,11 @@ use Rattle.resolve.specs.UsingLaws.{pair}
 use Rattle.resolve.specs.UsingTextLaws.{used-by-tables}
 use Rattle.resolve.specs.UsingAt.{uses-at}
 use Rattle.resolve.specs.UsingAtLaws.{uses-stand}
-use Rattle.resolve.specs.Resolved.{cut, cuts, book-at, resolved, program-numbers}
+use Rattle.resolve.specs.Resolved.{cuts, book-at, resolved, program-numbers}
 
 -- Tables -------------------------------------------------------------------------------------------
 
-cuts-front : {A : Type 0} (l : List A) (n m : ℕ) (k : List ℕ) → cuts l (n ∷ sums m k) ≡ cut l n m ∷ cuts l (sums m k)
+cuts-front : {A : Type 0} (l : List A) (n m : ℕ) (k : List ℕ) → cuts l (n ∷ sums m k) ≡ part-of l n m ∷ cuts l (sums m k)
 unfolding cuts sums
 cuts-front l n m [] = refl
 cuts-front l n m (a ∷ k) = refl
@@ -61,7 +61,7 @@ module _ {B : Type 0} (h : Par → B) (l : List B) where
   cuts-of (d ∷ ds) n e =
       let f : drop n l ≡ map h (pars-of d) ++ map h (all-pars ds) = e ∙ map-pars B h d ds in
       let i : (n + length (pars-of d)) - n ≡ length (pars-of d) = omega arith in
-      let a : cut l n (n + length (pars-of d)) ≡ map h (pars-of d) =
+      let a : part-of l n (n + length (pars-of d)) ≡ map h (pars-of d) =
       ap (λ m. take m (drop n l)) i ∙ ap (take (length (pars-of d))) f
       ∙ take-at (map h (pars-of d)) (map h (all-pars ds)) (length (pars-of d)) (length-map (pars-of d) h) in
       let b : drop (n + length (pars-of d)) l ≡ map h (all-pars ds) =

@@ -26,7 +26,8 @@ first-part = 63
 -- names from 39 on; types from 51 on, four to each; parts from 63 on
 abbrev namings : List Naming
 namings =
-    new-struct ∷ new-par ∷ new-step ∷ new-local ∷ first-read ∷ first-written ∷ later-variable ∷ made ∷ made-statement ∷ called ∷ called-struct ∷ called-step ∷ []
+    new-struct ∷ new-par ∷ new-step ∷ new-local ∷ first-read ∷ first-written ∷ later-variable ∷ made ∷ made-statement ∷ called ∷ called-struct
+    ∷ called-step ∷ []
 
 abbrev typeds : List Typed
 typeds =
