@@ -6,8 +6,8 @@ use mathlib.Core.Bool.{Bool, true, false}
 use mathlib.Core.List.{List, [], _∷_, map}
 use mathlib.Core.Option.{Option, none, some}
 use lib.ListN.{length, getD, drop, length-map}
-use lib.Dec.{leb, ltb}
-use borrow.Author.Tests.{leb-true, leb-false, le-leb, lt-leb, lt-ltb, le-ltb}
+use lib.Dec.{leb, ltb, leb·suc-suc}
+use borrow.Author.Tests.{le-leb, lt-leb, lt-ltb, le-ltb}
 use Rattle.tokens.specs.Scanning.{same}
 use Rattle.syntax.specs.Syntax.{Id}
 use Rattle.meaning.specs.Finding.{Place, find, one-later, absent, decides-absent, is-not, find-sound, found-there}
@@ -66,13 +66,6 @@ module _ {A : Type 0} (key : A → Id) (x : Id) where
           absurd (let g : some (record { at = suc (q .at); element = q .element }) ≡ none = rw (t, find, f) at e in let z : _≡_ {A = ℕ} 0 1 = cc in omega arith)
 
 -- by where it is sought
-leb-suc : (a b : ℕ) → leb a b ≡ leb (suc a) (suc b)
-leb-suc a b = go (leb a b) refl
-  where
-    go : (t : Bool) → leb a b ≡ t → leb a b ≡ leb (suc a) (suc b)
-    go true e = let h = leb-true a b e in e ∙ sym (le-leb (suc a) (suc b) (omega (arith, h)))
-    go false e = let h = leb-false a b e in e ∙ sym (lt-leb (suc a) (suc b) (omega (arith, h)))
-
 pub absent-sought : (x : Id) (l : List Id) → absent x l ≡ leb (length l) (sought x l)
 unfolding absent sought
 absent-sought x [] = sym (le-leb 0 0 (omega arith))
@@ -86,7 +79,7 @@ absent-sought x (y ∷ l) = go (same y x) refl (absent-sought x l)
     go false e rec =
         let f : sought x (y ∷ l) ≡ suc (sought x l) = rw (sought, e) refl in
         let g : absent x (y ∷ l) ≡ absent x l = rw e refl in
-        g ∙ rec ∙ leb-suc (length l) (sought x l) ∙ ap (leb (suc (length l))) (sym f)
+        g ∙ rec ∙ sym (leb·suc-suc (length l) (sought x l)) ∙ ap (leb (suc (length l))) (sym f)
 
 -- what stands at a place, by what is left from there on
 pub at-front : {A B : Type 0} (g : A → B) (d : B) (k : ℕ) (l : List A) (a : A) (m : List A) → drop k l ≡ a ∷ m → getD (map g l) k d ≡ g a
