@@ -1,4 +1,10 @@
 pub mod Writing
 pub mod Checks
+pub mod Pens
+pub mod PenLaws
+pub mod Fits
+pub mod FitsLaws
+pub mod LoopLaws
+pub mod TableLaws
 pub mod WritingExpLaws
 pub mod WritingLaws
