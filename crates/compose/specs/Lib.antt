@@ -4,7 +4,10 @@ pub mod Pens
 pub mod PenLaws
 pub mod Fits
 pub mod FitsLaws
+pub mod PutLaws
 pub mod LoopLaws
+pub mod Standing
+pub mod StandingLaws
 pub mod TableLaws
 pub mod WritingExpLaws
 pub mod WritingLaws

@@ -35,6 +35,10 @@ within-unfit : (room : ℕ) (x : Writing) → fits room x ≡ false → within r
 unfolding fits within kept
 within-unfit room (writing s w n l f) e = rw e refl
 
+kept-spoilt : (out stack numbers : List ℕ) (p : Pen) → p .fits ≡ false → kept (stands out stack numbers p) ≡ writing [] [] [] 0 false
+unfolding stands kept
+kept-spoilt out stack numbers p e = rw e refl
+
 -- two that are kept alike are one where the first fits
 kept-one : (room : ℕ) (x y : Writing) → fits room x ≡ true → kept x ≡ kept y → x ≡ y
 unfolding fits kept
@@ -105,30 +109,34 @@ both-ways : (f g : Bool) → (f && g) ≡ true → (f ≡ true) × (g ≡ true)
 both-ways true g e = (refl, e)
 both-ways false g e = absurd (false≢true e)
 
-pub reached-start : (text roles numbers out stack : List ℕ) (p : Pen) → length roles < length stack → 6 ≤ length out
-    → stands out (set stack 0 0) numbers p ≡ writing (drop (length out) out) (held (set stack 0 0) 1) (held numbers (length numbers)) 0 true
-    → p .fits ≡ true → p .place ≡ length out → p .height ≡ 1 → p .left ≡ length numbers → p .later ≡ 0
-    → Reached text roles numbers out stack out (set stack 0 0) p (length roles)
-unfolding writes-at held
-reached-start text roles numbers out stack p l m e good place height left later =
+-- before the first place: nothing is written, the schedule's count waits
+abbrev pub first-pen : List ℕ → List ℕ → Pen
+first-pen out numbers = record { place = length out; height = 1; left = length numbers; later = 0; fits = true }
+
+pub reached-start : (text roles numbers out stack : List ℕ) → length roles < length stack → 6 ≤ length out
+    → Reached text roles numbers out (set stack 0 0) out (set stack 0 0) (first-pen out numbers) (length roles)
+unfolding stands writes-at held
+reached-start text roles numbers out stack l m =
+    let e : stands out (set stack 0 0) numbers (first-pen out numbers)
+    ≡ writing (drop (length out) out) (held (set stack 0 0) 1) (held numbers (length numbers)) 0 true = refl in
     record {
       inner = omega arith;
       state = e ∙ rw (drop-length out, drop-length roles, getD-set-same stack 0 0 0 (omega arith)) refl;
-      good = good;
-      front = omega (arith, place);
-      behind = omega (arith, place);
-      low = omega (arith, height);
+      good = refl;
+      front = m;
+      behind = omega arith;
+      low = omega arith;
       high = rw (length-set stack 0 0) l;
-      rest = omega (arith, left);
-      short = omega (arith, later);
+      rest = omega arith;
+      short = omega arith;
       room = refl;
-      tall = length-set stack 0 0;
+      tall = refl;
     }
 
-abbrev at-end : List ℕ → Writing
+abbrev pub at-end : List ℕ → Writing
 at-end numbers = start (held numbers (length numbers))
 
-module _ {text roles numbers out₀ stack₀ out stack : List ℕ} {p : Pen} where
+module _ (text roles numbers out₀ stack₀ out stack : List ℕ) (p : Pen) where
   past : (j : ℕ) → Reached text roles numbers out₀ stack₀ out stack p (suc j) → getD roles j 0 ≡ 0 → Reached text roles numbers out₀ stack₀ out stack p j
   past j r e =
       record {
@@ -151,7 +159,7 @@ module _ {text roles numbers out₀ stack₀ out stack : List ℕ} {p : Pen} whe
   reached-past (suc j) r l e = rw sub-one (past j r (rw sub-one at e))
 
   -- a role and what it leaves
-  module _ (out₁ stack₁ : List ℕ) (q : Pen) (near : Near 6 p q) (a : length out₁ ≡ length out) (b : length stack₁ ≡ length stack) where
+  module _ (out₁ stack₁ : List ℕ) (q : Pen) (near : Near 6 1 1 p q) (a : length out₁ ≡ length out) (b : length stack₁ ≡ length stack) where
     module _ (j : ℕ) (r : Reached text roles numbers out₀ stack₀ out stack p (suc j)) (n : getD roles j 0 ≡ 0 → ⊥)
         (k : kept (stands out₁ stack₁ numbers q) ≡ kept (put (getD roles j 0) (value-at text j (getD roles j 0)) (stands out stack numbers p))) where
       is-left : put (getD roles j 0) (value-at text j (getD roles j 0)) (stands out stack numbers p) ≡ writes-at text j (drop j roles) (at-end numbers)
@@ -159,7 +167,9 @@ module _ {text roles numbers out₀ stack₀ out stack : List ℕ} {p : Pen} whe
           ap (put (getD roles j 0) (value-at text j (getD roles j 0))) (r .state) ∙ sym (from-next text roles (at-end numbers) j (omega (arith, r .inner)) n)
 
       fits-left : (q .fits && leb 6 (q .place)) ≡ fits (length out₁ - 6) (put (getD roles j 0) (value-at text j (getD roles j 0)) (stands out stack numbers p))
-      fits-left = tested out₁ stack₁ numbers q (put (getD roles j 0) (value-at text j (getD roles j 0)) (stands out stack numbers p)) (omega (arith, r .front, r .behind)) (omega (arith, near .behind, r .behind)) k
+      fits-left =
+          tested out₁ stack₁ numbers q (put (getD roles j 0) (value-at text j (getD roles j 0)) (stands out stack numbers p))
+          (omega (arith, r .front, r .behind)) (omega (arith, near .behind, r .behind)) k
 
       token : (q .fits && leb 6 (q .place)) ≡ true → Reached text roles numbers out₀ stack₀ out₁ stack₁ q j
       token t =
@@ -170,7 +180,7 @@ module _ {text roles numbers out₀ stack₀ out stack : List ℕ} {p : Pen} whe
           record {
             inner = omega (arith, r .inner);
             state = kept-one (length out₁ - 6) (stands out₁ stack₁ numbers q)
-          (put (getD roles j 0) (value-at text j (getD roles j 0)) (stands out stack numbers p)) f k ∙ is-left;
+                (put (getD roles j 0) (value-at text j (getD roles j 0)) (stands out stack numbers p)) f k ∙ is-left;
             good = two .0;
             front = leb-true 6 (q .place) (two .1);
             behind = omega (arith, near .behind, r .behind);
@@ -184,7 +194,8 @@ module _ {text roles numbers out₀ stack₀ out stack : List ℕ} {p : Pen} whe
 
       refused : (q .fits && leb 6 (q .place)) ≡ false → within (length out₀ - 6) (writes-at text 0 roles (at-end numbers)) ≡ writing [] [] [] 0 false
       refused t =
-          let f : fits (length out₁ - 6) (writes-at text j (drop j roles) (at-end numbers)) ≡ false = ap (fits (length out₁ - 6)) (sym is-left) ∙ sym fits-left ∙ t in
+          let f : fits (length out₁ - 6) (writes-at text j (drop j roles) (at-end numbers)) ≡ false =
+          ap (fits (length out₁ - 6)) (sym is-left) ∙ sym fits-left ∙ t in
           within-unfit (length out₀ - 6) (writes-at text 0 roles (at-end numbers))
           (rw (a ∙ r .room) at (unfit-all text roles (at-end numbers) (length out₁ - 6) j (omega (arith, r .inner)) f))
 
@@ -196,11 +207,10 @@ module _ {text roles numbers out₀ stack₀ out stack : List ℕ} {p : Pen} whe
 
     pub reached-refused : (i : ℕ) → Reached text roles numbers out₀ stack₀ out stack p i → 0 < i → (getD roles (i - 1) 0 ≡ 0 → ⊥)
         → kept (stands out₁ stack₁ numbers q) ≡ kept (put (getD roles (i - 1) 0) (value-at text (i - 1) (getD roles (i - 1) 0)) (stands out stack numbers p))
-        → (q .fits && leb 6 (q .place)) ≡ false → {s : Pen} → s .fits ≡ false
+        → (q .fits && leb 6 (q .place)) ≡ false → (s : Pen) → s .fits ≡ false
         → kept (stands out₁ stack₁ numbers s) ≡ within (length out₀ - 6) (writes-at text 0 roles (at-end numbers))
-    unfolding stands kept
-    reached-refused zero r l n k t e = absurd (omega arith)
-    reached-refused (suc j) r l n k t e = rw (e, refused j r (rw sub-one at n) (rw sub-one at k) t) refl
+    reached-refused zero r l n k t s e = absurd (omega arith)
+    reached-refused (suc j) r l n k t s e = kept-spoilt out₁ stack₁ numbers s e ∙ sym (refused j r (rw sub-one at n) (rw sub-one at k) t)
 
   pub reached-end : (i : ℕ) → Reached text roles numbers out₀ stack₀ out stack p i → i ≡ 0
       → kept (stands out stack numbers p) ≡ within (length out₀ - 6) (writes-at text 0 roles (at-end numbers))

@@ -5,7 +5,7 @@ ghost use mathlib.Core.Bool.{false};
 ghost use mathlib.Core.List.{List};
 ghost use Prim.Native.Nat.{ℕ, _+_, _≤_, _<_, _%_};
 ghost use lib.ListN.{length, getD};
-ghost use Rattle.compose.specs.Writing.{Writing, wrote, numbered, lengthened, pathed, worded, formed, behinds};
+ghost use Rattle.compose.specs.Writing.{wrote, numbered, lengthened, pathed, worded, formed, behinds};
 ghost use Rattle.compose.specs.Pens.{stands, kept, Near};
 
 // The later variables that a path may have.
@@ -27,7 +27,7 @@ pub(crate) fn spoilt(p: Pen) -> Pen
 pub(crate) fn wrote(out: &mut [u8], p: Pen, b: u8) -> Pen
     requires { ⌜ (0 < p .place) × (p .place ≤ length (now out)) ⌝ }
     ensures { λ r. ⌜ ((w n : List ℕ) → stands (now (out .exit)) w n r ≡ wrote b (stands (now (out .entry)) w n p)) ⌝ }
-    ensures { λ r. ⌜ (r .place + 1 ≡ p .place) × Near 1 p r ⌝ }
+    ensures { λ r. ⌜ (r .place + 1 ≡ p .place) × Near 1 0 0 p r ⌝ }
 {
     let at = p.place - 1;
     out[at] = b;
@@ -44,7 +44,7 @@ pub(crate) fn wrote(out: &mut [u8], p: Pen, b: u8) -> Pen
 pub(crate) fn formed(out: &mut [u8], p: Pen, b: u8) -> Pen
     requires { ⌜ (0 < p .place) × (p .place ≤ length (now out)) ⌝ }
     ensures { λ r. ⌜ ((w n : List ℕ) → stands (now (out .exit)) w n r ≡ formed b (stands (now (out .entry)) w n p)) ⌝ }
-    ensures { λ r. ⌜ Near 1 p r ⌝ }
+    ensures { λ r. ⌜ Near 1 0 0 p r ⌝ }
 {
     if b == 0 {
         return p;
@@ -56,7 +56,7 @@ pub(crate) fn formed(out: &mut [u8], p: Pen, b: u8) -> Pen
 fn numbered(out: &mut [u8], numbers: &[u8], p: Pen) -> Pen
     requires { ⌜ (0 < p .place) × (p .place ≤ length (now out)) × (p .left ≤ length (now numbers)) ⌝ }
     ensures { λ r. ⌜ ((w : List ℕ) → stands (now (out .exit)) w (now (numbers .entry)) r ≡ numbered (stands (now (out .entry)) w (now (numbers .entry)) p)) ⌝ }
-    ensures { λ r. ⌜ (r .later ≡ p .later) × Near 1 p r ⌝ }
+    ensures { λ r. ⌜ (r .later ≡ p .later) × Near 1 0 0 p r ⌝ }
 {
     let n = p.left;
     if n == 0 {
@@ -78,7 +78,7 @@ fn numbered(out: &mut [u8], numbers: &[u8], p: Pen) -> Pen
 fn lengthened(p: Pen) -> Pen
     requires { ⌜ p .later + 1 < 18446744073709551616 ⌝ }
     ensures { λ r. ⌜ ((s w n : List ℕ) → stands s w n r ≡ lengthened (stands s w n p)) ⌝ }
-    ensures { λ r. ⌜ (r .place ≡ p .place) × Near 0 p r ⌝ }
+    ensures { λ r. ⌜ (r .place ≡ p .place) × Near 0 0 1 p r ⌝ }
 {
     Pen {
         place: p.place,
@@ -93,7 +93,7 @@ fn lengthened(p: Pen) -> Pen
 fn pathed(out: &mut [u8], p: Pen) -> Pen
     requires { ⌜ (0 < p .place) × (p .place ≤ length (now out)) ⌝ }
     ensures { λ r. ⌜ ((w n : List ℕ) → kept (stands (now (out .exit)) w n r) ≡ kept (pathed (stands (now (out .entry)) w n p))) ⌝ }
-    ensures { λ r. ⌜ Near 1 p r ⌝ }
+    ensures { λ r. ⌜ Near 1 0 0 p r ⌝ }
 {
     let l = p.later;
     if l > MAX_LATER {
@@ -119,7 +119,7 @@ fn low(v: u32) -> u8
 fn worded(out: &mut [u8], p: Pen, v: u32) -> Pen
     requires { ⌜ (4 ≤ p .place) × (p .place ≤ length (now out)) ⌝ }
     ensures { λ r. ⌜ ((w n : List ℕ) → stands (now (out .exit)) w n r ≡ worded v (stands (now (out .entry)) w n p)) ⌝ }
-    ensures { λ r. ⌜ Near 4 p r ⌝ }
+    ensures { λ r. ⌜ Near 4 0 0 p r ⌝ }
 {
     let second = v / 256;
     let third = second / 256;
@@ -134,7 +134,7 @@ pub(crate) fn behind(out: &mut [u8], numbers: &[u8], p: Pen, mark: u8, v: u32) -
     requires { ⌜ (4 ≤ p .place) × (p .place ≤ length (now out)) × (p .left ≤ length (now numbers)) × (p .later + 1 < 18446744073709551616) ⌝ }
     ensures { λ r. ⌜ ((w : List ℕ) → kept (stands (now (out .exit)) w (now (numbers .entry)) r)
         ≡ kept (getD (behinds v) mark (λ x. x) (stands (now (out .entry)) w (now (numbers .entry)) p))) ⌝ }
-    ensures { λ r. ⌜ Near 4 p r ⌝ }
+    ensures { λ r. ⌜ Near 4 0 1 p r ⌝ }
 {
     match mark {
         1 => numbered(out, numbers, p),

@@ -18,7 +18,7 @@ pub fn put(out: &mut [u8], stack: &mut [u8], numbers: &[u8], p: Pen, c: u8, v: u
     requires { ⌜ (p .left ≤ length (now numbers)) × (p .later + 1 < 18446744073709551616) ⌝ }
     ensures { λ r. ⌜ kept (stands (now (out .exit)) (now (stack .exit)) (now (numbers .entry)) r)
         ≡ kept (put c v (stands (now (out .entry)) (now (stack .entry)) (now (numbers .entry)) p)) ⌝ }
-    ensures { λ r. ⌜ Near 6 p r ⌝ }
+    ensures { λ r. ⌜ Near 6 1 1 p r ⌝ }
 {
     if c >= ROLES {
         return p;

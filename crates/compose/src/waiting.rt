@@ -16,7 +16,7 @@ const MAX_STEPS: u8 = 8;
 fn more(stack: &mut [u8], p: Pen, limit: u8) -> Pen
     requires { ⌜ p .height ≤ length (now stack) ⌝ }
     ensures { λ r. ⌜ ((s n : List ℕ) → kept (stands s (now (stack .exit)) n r) ≡ kept (more limit (stands s (now (stack .entry)) n p))) ⌝ }
-    ensures { λ r. ⌜ Near 0 p r ⌝ }
+    ensures { λ r. ⌜ Near 0 0 0 p r ⌝ }
 {
     let h = p.height;
     if h == 0 {
@@ -35,7 +35,7 @@ fn more(stack: &mut [u8], p: Pen, limit: u8) -> Pen
 fn opened(stack: &mut [u8], p: Pen) -> Pen
     requires { ⌜ p .height < length (now stack) ⌝ }
     ensures { λ r. ⌜ ((s n : List ℕ) → stands s (now (stack .exit)) n r ≡ opened (stands s (now (stack .entry)) n p)) ⌝ }
-    ensures { λ r. ⌜ (r .place ≡ p .place) × Near 0 p r ⌝ }
+    ensures { λ r. ⌜ (r .place ≡ p .place) × Near 0 1 0 p r ⌝ }
 {
     let h = p.height;
     stack[h] = 0;
@@ -66,7 +66,7 @@ fn popped(p: Pen) -> Pen
 fn counted(out: &mut [u8], stack: &[u8], p: Pen) -> Pen
     requires { ⌜ (0 < p .place) × (p .place ≤ length (now out)) × (p .height ≤ length (now stack)) ⌝ }
     ensures { λ r. ⌜ ((n : List ℕ) → stands (now (out .exit)) (now (stack .entry)) n r ≡ counted (stands (now (out .entry)) (now (stack .entry)) n p)) ⌝ }
-    ensures { λ r. ⌜ (r .height ≤ p .height) × Near 1 p r ⌝ }
+    ensures { λ r. ⌜ (r .height ≤ p .height) × Near 1 0 0 p r ⌝ }
 {
     let h = p.height;
     if h == 0 {
@@ -80,7 +80,7 @@ fn counted(out: &mut [u8], stack: &[u8], p: Pen) -> Pen
 fn poured(out: &mut [u8], stack: &[u8], p: Pen) -> Pen
     requires { ⌜ (0 < p .place) × (p .place ≤ length (now out)) × (p .height ≤ length (now stack)) ⌝ }
     ensures { λ r. ⌜ ((n : List ℕ) → stands (now (out .exit)) (now (stack .entry)) n r ≡ poured (stands (now (out .entry)) (now (stack .entry)) n p)) ⌝ }
-    ensures { λ r. ⌜ Near 1 p r ⌝ }
+    ensures { λ r. ⌜ Near 1 0 0 p r ⌝ }
 {
     let h = p.height;
     if h == 0 {
@@ -94,7 +94,7 @@ fn poured(out: &mut [u8], stack: &[u8], p: Pen) -> Pen
 fn operated(stack: &mut [u8], p: Pen, o: u8) -> Pen
     requires { ⌜ p .height ≤ length (now stack) ⌝ }
     ensures { λ r. ⌜ ((s n : List ℕ) → stands s (now (stack .exit)) n r ≡ operated o (stands s (now (stack .entry)) n p)) ⌝ }
-    ensures { λ r. ⌜ Near 0 p r ⌝ }
+    ensures { λ r. ⌜ Near 0 0 0 p r ⌝ }
 {
     let h = p.height;
     if h == 0 {
@@ -110,7 +110,7 @@ pub(crate) fn stacked(out: &mut [u8], stack: &mut [u8], p: Pen, mark: u8, o: u8)
     requires { ⌜ (0 < p .place) × (p .place ≤ length (now out)) × (p .height < length (now stack)) ⌝ }
     ensures { λ r. ⌜ ((n : List ℕ) → kept (stands (now (out .exit)) (now (stack .exit)) n r)
         ≡ kept (getD (stackings o) mark (λ x. x) (stands (now (out .entry)) (now (stack .entry)) n p))) ⌝ }
-    ensures { λ r. ⌜ Near 1 p r ⌝ }
+    ensures { λ r. ⌜ Near 1 1 0 p r ⌝ }
 {
     match mark {
         1 => more(stack, p, MAX_STATEMENTS),

@@ -1,48 +1,35 @@
+-- `literal` meets its contract: one law for each way.
+use mathlib.Core.Path.{ap, _∙_}
 use borrow.Author.Needs.{needs}
+use Rattle.compose.specs.Fits.{word-value}
+use Rattle.compose.specs.PutLaws.{value-int, value-nat, value-none}
 use Rattle.compose.proofs.literal.Statement.{statement}
 use Rattle.compose.proofs.literal.Tie as tie
-use Rattle.compose.proofs.literal.Reads as reads
-use Rattle.compose.proofs.literal.Lts as lts
-use Rattle.compose.proofs.number.Reads as number-reads
-use Rattle.resolve.proofs.literals.int_word.Reads as int-word-reads
-use Rattle.resolve.proofs.literals.nat_word.Reads as nat-word-reads
 
--- src/lib.rt:52:23
-int-word-requires : tie.Need-int-word-requires
-int-word-requires c κs = search needs
-
--- src/lib.rt:52:9
-number-requires : tie.Need-number-requires
-number-requires c κs = search needs
-
--- src/lib.rt:52:9
 returns : tie.Need-returns
-returns c = ?
+returns c =
+    let at-word = c .before in
+    let at-if = at-word .before in
+    let args = at-if .before .before .args in
+    c .number .ensures ∙ ap word-value (at-word .int-word .ensures) ∙ value-int (args .text .now) (args .i) (args .c) (at-if .if1 .taken)
 
--- src/lib.rt:55:23
-nat-word-requires : tie.Need-nat-word-requires
-nat-word-requires c κs = search needs
-
--- src/lib.rt:55:9
-number-requires-2 : tie.Need-number-requires-2
-number-requires-2 c κs = search needs
-
--- src/lib.rt:55:9
 returns-2 : tie.Need-returns-2
-returns-2 c = ?
+returns-2 c =
+    let at-word = c .before in
+    let at-if2 = at-word .before in
+    let at-if1 = at-if2 .before in
+    let args = at-if1 .before .before .args in
+    c .number2 .ensures
+    ∙ ap word-value (at-word .nat-word .ensures)
+    ∙ value-nat (args .text .now) (args .i) (args .c) (at-if1 .if1 .left) (at-if2 .if2 .taken)
 
--- src/lib.rt:47:1
 returns-3 : tie.Need-returns-3
-returns-3 c = ?
+returns-3 c =
+    let at-if = c .before in
+    let args = at-if .before .before .args in
+    value-none (args .text .now) (args .i) (args .c) (at-if .if1 .left) (c .if2 .left)
 
 pub literal-spec : {M : Type 1} → statement M
 literal-spec =
     tie.close
-    (tie.spec
-    int-word-requires
-    number-requires
-    returns
-    nat-word-requires
-    number-requires-2
-    returns-2
-    returns-3)
+    (tie.spec (λ c κs. search needs) (λ c κs. search needs) returns (λ c κs. search needs) (λ c κs. search needs) returns-2 returns-3)

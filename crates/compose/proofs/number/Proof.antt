@@ -1,24 +1,14 @@
+-- `number` meets its contract.
 use borrow.Author.Needs.{needs}
+use Rattle.compose.specs.PutLaws.{word-is, word-outside}
 use Rattle.compose.proofs.number.Statement.{statement}
 use Rattle.compose.proofs.number.Tie as tie
-use Rattle.compose.proofs.number.Reads as reads
-use Rattle.compose.proofs.number.Lts as lts
 
--- src/lib.rt:41:18
-enum-known-w : tie.Need-enum-known-w
-enum-known-w c = search needs
-
--- src/lib.rt:42:26
-enum-told : tie.Need-enum-told
-enum-told c = search needs
-
--- src/lib.rt:37:1
 returns : tie.Need-returns
-returns c = ?
+returns c = word-is (c .before .before .before .args .w) _ (c .before .w .given .1)
 
--- src/lib.rt:37:1
 returns-2 : tie.Need-returns-2
-returns-2 c = ?
+returns-2 c = word-outside (c .before .before .args .w) (c .enum-told .given .1)
 
 pub number-spec : {M : Type 1} → statement M
-number-spec = tie.close (tie.spec enum-known-w enum-told returns returns-2)
+number-spec = tie.close (tie.spec (λ c. search needs) (λ c. search needs) returns returns-2)

@@ -1,16 +1,14 @@
+-- `roomy` meets its contract.
+use lib.Dec.{leb}
 use borrow.Author.Needs.{needs}
+use Rattle.compose.specs.PutLaws.{both-on}
 use Rattle.compose.proofs.roomy.Statement.{statement}
 use Rattle.compose.proofs.roomy.Tie as tie
-use Rattle.compose.proofs.roomy.Reads as reads
-use Rattle.compose.proofs.roomy.Lts as lts
 
--- src/lib.rt:65:9
 returns : tie.Need-returns
-returns c = ?
-
--- src/lib.rt:61:1
-returns-2 : tie.Need-returns-2
-returns-2 c = search needs
+returns c =
+    let p = c .before .before .args .p in
+    both-on (p .fits) (leb 6 (p .place)) (c .before .if1 .taken)
 
 pub roomy-spec : {M : Type 1} → statement M
-roomy-spec = tie.close (tie.spec returns returns-2)
+roomy-spec = tie.close (tie.spec returns (λ c. search needs))

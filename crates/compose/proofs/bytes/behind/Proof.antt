@@ -1,120 +1,94 @@
+-- `bytes::behind` meets its contract: one law for each mark.
+use native.Mathlib.Omega.{arith}
+use mathlib.Core.Path.{ap, _∙_}
 use borrow.Author.Needs.{needs}
+use Rattle.compose.specs.Writing.{lengthened, pathed, behinds}
+use Rattle.compose.specs.Pens.{stands, kept}
+use Rattle.compose.specs.PenLaws.{near-same, near-within, near-then}
+use Rattle.compose.specs.PutLaws.{chosen, behind-rest}
 use Rattle.compose.proofs.bytes.behind.Statement.{statement}
 use Rattle.compose.proofs.bytes.behind.Tie as tie
-use Rattle.compose.proofs.bytes.behind.Reads as reads
-use Rattle.compose.proofs.bytes.behind.Lts as lts
-use Rattle.compose.proofs.bytes.lengthened.Reads as lengthened-reads
-use Rattle.compose.proofs.bytes.numbered.Reads as numbered-reads
-use Rattle.compose.proofs.bytes.pathed.Reads as pathed-reads
-use Rattle.compose.proofs.bytes.worded.Reads as worded-reads
-use Rattle.compose.proofs.bytes.wrote.Reads as wrote-reads
 
--- src/bytes.rt:140:14
-numbered-requires : tie.Need-numbered-requires
-numbered-requires c κs = search needs
-
--- src/bytes.rt:141:25
-numbered-requires-2 : tie.Need-numbered-requires-2
-numbered-requires-2 c κs = search needs
-
--- src/bytes.rt:141:14
-lengthened-requires : tie.Need-lengthened-requires
-lengthened-requires c κs = search needs
-
--- src/bytes.rt:143:17
-numbered-requires-3 : tie.Need-numbered-requires-3
-numbered-requires-3 c κs = search needs
-
--- src/bytes.rt:144:13
-pathed-requires : tie.Need-pathed-requires
-pathed-requires c κs = search needs
-
--- src/bytes.rt:146:14
-worded-requires : tie.Need-worded-requires
-worded-requires c κs = search needs
-
--- src/bytes.rt:147:14
-wrote-requires : tie.Need-wrote-requires
-wrote-requires c κs = search needs
-
--- src/bytes.rt:148:14
-wrote-requires-2 : tie.Need-wrote-requires-2
-wrote-requires-2 c κs = search needs
-
--- src/bytes.rt:133:1
-same-length : tie.Need-same-length
-same-length c = search needs
-
--- src/bytes.rt:133:1
 returns : tie.Need-returns
-returns c = ?
+unfolding behinds
+returns c =
+    let at-call = c .before .before in
+    let at-match = at-call .before .before in
+    let args = at-match .before .before .before .args in (
+      λ w. ap kept (at-call .numbered .ensures .0 w)
+          ∙ ap (λ f. kept (f (stands (args .out .now) w (args .numbers .now) (args .p)))) (chosen (behinds (args .v)) (args .mark) 1 (at-match .match .keys1)),
+      near-within 4 0 1 (at-call .numbered .ensures .1 .1) (omega arith) (omega arith) (omega arith),
+    )
 
--- src/bytes.rt:133:1
-same-length-2 : tie.Need-same-length-2
-same-length-2 c = search needs
-
--- src/bytes.rt:133:1
 returns-2 : tie.Need-returns-2
-returns-2 c = ?
+unfolding behinds
+returns-2 c =
+    let at-call = c .before .before .before in
+    let at-match = at-call .before .before in
+    let args = at-match .before .before .before .args in (
+      λ w. ap kept
+          (c .lengthened .ensures .0 (at-call .numbered2 .last .0) w (args .numbers .now) ∙ ap lengthened (at-call .numbered2 .ensures .0 w))
+          ∙ ap (λ f. kept (f (stands (args .out .now) w (args .numbers .now) (args .p)))) (chosen (behinds (args .v)) (args .mark) 2 (at-match .match .keys2)),
+      near-then 4 0 1 (at-call .numbered2 .ensures .1 .1) (c .lengthened .ensures .1 .1) (omega arith) (omega arith) (omega arith),
+    )
 
--- src/bytes.rt:133:1
-same-length-3 : tie.Need-same-length-3
-same-length-3 c = search needs
-
--- src/bytes.rt:133:1
 returns-3 : tie.Need-returns-3
-returns-3 c = ?
+unfolding behinds
+returns-3 c =
+    let at-path = c .before .before in
+    let at-call = at-path .before .before .before .before in
+    let at-match = at-call .before .before in
+    let args = at-match .before .before .before .args in (
+      λ w. at-path .pathed .ensures .0 w (args .numbers .now) ∙ ap (λ x. kept (pathed x)) (at-call .numbered3 .ensures .0 w)
+          ∙ ap (λ f. kept (f (stands (args .out .now) w (args .numbers .now) (args .p)))) (chosen (behinds (args .v)) (args .mark) 3 (at-match .match .keys3)),
+      near-then 4 0 1 (at-call .numbered3 .ensures .1 .1) (at-path .pathed .ensures .1) (omega arith) (omega arith) (omega arith),
+    )
 
--- src/bytes.rt:133:1
-same-length-4 : tie.Need-same-length-4
-same-length-4 c = search needs
-
--- src/bytes.rt:133:1
 returns-4 : tie.Need-returns-4
-returns-4 c = ?
+unfolding behinds
+returns-4 c =
+    let at-call = c .before .before in
+    let at-match = at-call .before .before in
+    let args = at-match .before .before .before .args in (
+      λ w. ap kept (at-call .worded .ensures .0 w (args .numbers .now))
+          ∙ ap (λ f. kept (f (stands (args .out .now) w (args .numbers .now) (args .p)))) (chosen (behinds (args .v)) (args .mark) 4 (at-match .match .keys4)),
+      near-within 4 0 1 (at-call .worded .ensures .1) (omega arith) (omega arith) (omega arith),
+    )
 
--- src/bytes.rt:133:1
-same-length-5 : tie.Need-same-length-5
-same-length-5 c = search needs
-
--- src/bytes.rt:133:1
 returns-5 : tie.Need-returns-5
-returns-5 c = ?
+unfolding behinds
+returns-5 c =
+    let at-call = c .before .before in
+    let at-match = at-call .before .before in
+    let args = at-match .before .before .before .args in (
+      λ w. ap kept (at-call .wrote .ensures .0 w (args .numbers .now))
+          ∙ ap (λ f. kept (f (stands (args .out .now) w (args .numbers .now) (args .p)))) (chosen (behinds (args .v)) (args .mark) 5 (at-match .match .keys5)),
+      near-within 4 0 1 (at-call .wrote .ensures .1 .1) (omega arith) (omega arith) (omega arith),
+    )
 
--- src/bytes.rt:133:1
-same-length-6 : tie.Need-same-length-6
-same-length-6 c = search needs
-
--- src/bytes.rt:133:1
 returns-6 : tie.Need-returns-6
-returns-6 c = ?
+unfolding behinds
+returns-6 c =
+    let at-call = c .before .before in
+    let at-match = at-call .before .before in
+    let args = at-match .before .before .before .args in (
+      λ w. ap kept (at-call .wrote2 .ensures .0 w (args .numbers .now))
+          ∙ ap (λ f. kept (f (stands (args .out .now) w (args .numbers .now) (args .p)))) (chosen (behinds (args .v)) (args .mark) 6 (at-match .match .keys6)),
+      near-within 4 0 1 (at-call .wrote2 .ensures .1 .1) (omega arith) (omega arith) (omega arith),
+    )
 
--- src/bytes.rt:133:1
 returns-7 : tie.Need-returns-7
-returns-7 c = ?
+returns-7 c =
+    let args = c .before .before .before .args in
+    let none = c .match .rest in (
+      λ w. behind-rest (args .v) (args .mark) (stands (args .out .now) w (args .numbers .now) (args .p)) (none .0 .0 .0 .0 .0 .1) (none .0 .0 .0 .0 .1)
+          (none .0 .0 .0 .1) (none .0 .0 .1) (none .0 .1) (none .1),
+      near-within 4 0 1 (near-same (args .p)) (omega arith) (omega arith) (omega arith),
+    )
 
 pub behind-spec : {M : Type 1} → statement M
 behind-spec =
     tie.close
-    (tie.spec
-    numbered-requires
-    numbered-requires-2
-    lengthened-requires
-    numbered-requires-3
-    pathed-requires
-    worded-requires
-    wrote-requires
-    wrote-requires-2
-    same-length
-    returns
-    same-length-2
-    returns-2
-    same-length-3
-    returns-3
-    same-length-4
-    returns-4
-    same-length-5
-    returns-5
-    same-length-6
-    returns-6
-    returns-7)
+    (tie.spec (λ c κs. search needs) (λ c κs. search needs) (λ c κs. search needs) (λ c κs. search needs) (λ c κs. search needs)
+    (λ c κs. search needs) (λ c κs. search needs) (λ c κs. search needs) (λ c. search needs) returns (λ c. search needs) returns-2
+    (λ c. search needs) returns-3 (λ c. search needs) returns-4 (λ c. search needs) returns-5 (λ c. search needs) returns-6 returns-7)

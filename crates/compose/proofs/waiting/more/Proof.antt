@@ -1,61 +1,54 @@
+-- `waiting::more` meets its contract: nothing waits, the row is full, or it has one more.
+use native.Mathlib.Omega.{arith}
+use mathlib.Core.Path.{ap, _∙_}
 use borrow.Author.Needs.{needs}
+use lib.ListN.{drop}
+use Rattle.derive.specs.Held.{held}
+use Rattle.compose.specs.Pens.{stands, kept}
+use Rattle.compose.specs.PenLaws.{spoilt-stands, near-same, near-spoilt, more-none, more-over, more-within}
 use Rattle.compose.proofs.waiting.more.Statement.{statement}
 use Rattle.compose.proofs.waiting.more.Tie as tie
-use Rattle.compose.proofs.waiting.more.Reads as reads
-use Rattle.compose.proofs.waiting.more.Lts as lts
-use Rattle.compose.proofs.bytes.spoilt.Reads as spoilt-reads
 
--- src/waiting.rt:23:9
-spoilt-requires : tie.Need-spoilt-requires
-spoilt-requires c κs = search needs
-
--- src/waiting.rt:23:9
 returns : tie.Need-returns
-returns c = ?
+unfolding stands
+returns c =
+    let at-if = c .before in
+    let args = at-if .before .before .args in
+    let p = args .p in
+    let e = c .spoilt .ensures in (
+      λ s n. ap kept
+          (spoilt-stands s (args .stack .now) n p (c .spoilt .result) e
+          ∙ more-none (drop (p .place) s) (args .stack .now) (held n (p .left)) (p .height) (p .later) (p .fits) (args .limit) (at-if .if1 .taken)),
+      near-spoilt p (c .spoilt .result) e,
+    )
 
--- src/waiting.rt:25:13
-sub-i : tie.Need-sub-i
-sub-i c = search needs
-
--- src/waiting.rt:26:13
-slice-read-c : tie.Need-slice-read-c
-slice-read-c c = search needs
-
--- src/waiting.rt:28:9
-spoilt-requires-2 : tie.Need-spoilt-requires-2
-spoilt-requires-2 c κs = search needs
-
--- src/waiting.rt:28:9
 returns-2 : tie.Need-returns-2
-returns-2 c = ?
+unfolding stands
+returns-2 c =
+    let at-if2 = c .before in
+    let at-if1 = at-if2 .before .before in
+    let args = at-if1 .before .before .args in
+    let p = args .p in
+    let e = c .spoilt2 .ensures in (
+      λ s n. ap kept (spoilt-stands s (args .stack .now) n p (c .spoilt2 .result) e)
+          ∙ more-over (drop (p .place) s) (args .stack .now) (held n (p .left)) (p .height) (p .later) (p .fits) (at-if1 .if1 .left) (args .limit)
+          (at-if2 .if2 .taken),
+      near-spoilt p (c .spoilt2 .result) e,
+    )
 
--- src/waiting.rt:30:16
-add-stack : tie.Need-add-stack
-add-stack c = search needs
-
--- src/waiting.rt:30:5
-slice-write-stack : tie.Need-slice-write-stack
-slice-write-stack c = search needs
-
--- src/waiting.rt:16:1
-same-length : tie.Need-same-length
-same-length c = search needs
-
--- src/waiting.rt:16:1
 returns-3 : tie.Need-returns-3
-returns-3 c = ?
+unfolding stands
+returns-3 c =
+    let at-if = c .before .before in
+    let args = at-if .before .before .args in
+    let p = args .p in (
+      λ s n. ap kept (more-within (drop (p .place) s) (args .stack .now) (held n (p .left)) (p .height) (p .later) (p .fits) (at-if .if1 .left) (args .limit)
+          (omega arith) (c .if2 .left)),
+      near-same p,
+    )
 
 pub more-spec : {M : Type 1} → statement M
 more-spec =
     tie.close
-    (tie.spec
-    spoilt-requires
-    returns
-    sub-i
-    slice-read-c
-    spoilt-requires-2
-    returns-2
-    add-stack
-    slice-write-stack
-    same-length
-    returns-3)
+    (tie.spec (λ c κs. search needs) returns (λ c. search needs) (λ c. search needs) (λ c κs. search needs) returns-2 (λ c. search needs)
+    (λ c. search needs) (λ c. search needs) returns-3)

@@ -1,24 +1,22 @@
+-- `waiting::opened` meets its contract.
+use native.Mathlib.Omega.{arith}
+use mathlib.Core.Path.{refl}
 use borrow.Author.Needs.{needs}
+use lib.ListN.{drop}
+use Rattle.derive.specs.Held.{held}
+use Rattle.compose.specs.Pens.{stands}
+use Rattle.compose.specs.PenLaws.{opened-on}
 use Rattle.compose.proofs.waiting.opened.Statement.{statement}
 use Rattle.compose.proofs.waiting.opened.Tie as tie
-use Rattle.compose.proofs.waiting.opened.Reads as reads
-use Rattle.compose.proofs.waiting.opened.Lts as lts
 
--- src/waiting.rt:41:5
-slice-write-stack : tie.Need-slice-write-stack
-slice-write-stack c = search needs
-
--- src/waiting.rt:44:17
-add-t5 : tie.Need-add-t5
-add-t5 c = search needs
-
--- src/waiting.rt:35:1
-same-length : tie.Need-same-length
-same-length c = search needs
-
--- src/waiting.rt:35:1
 returns : tie.Need-returns
-returns c = ?
+unfolding stands
+returns c =
+    let args = c .args in
+    let p = args .p in (
+      λ s n. opened-on (drop (p .place) s) (args .stack .now) (held n (p .left)) (p .height) (p .later) (p .fits) (omega arith),
+      (refl, record { front = omega arith; behind = omega arith; height = omega arith; left = omega arith; later = omega arith }),
+    )
 
 pub opened-spec : {M : Type 1} → statement M
-opened-spec = tie.close (tie.spec slice-write-stack add-t5 same-length returns)
+opened-spec = tie.close (tie.spec (λ c. search needs) (λ c. search needs) (λ c. search needs) returns)

@@ -1,145 +1,105 @@
+-- `waiting::stacked` meets its contract: one law for each mark.
+use native.Mathlib.Omega.{arith}
+use mathlib.Core.Path.{ap, _∙_}
 use borrow.Author.Needs.{needs}
+use Rattle.compose.specs.Writing.{opened, stackings}
+use Rattle.compose.specs.Pens.{stands, kept}
+use Rattle.compose.specs.PenLaws.{near-same, near-within, near-then}
+use Rattle.compose.specs.PutLaws.{chosen, stacked-rest}
 use Rattle.compose.proofs.waiting.stacked.Statement.{statement}
 use Rattle.compose.proofs.waiting.stacked.Tie as tie
-use Rattle.compose.proofs.waiting.stacked.Reads as reads
-use Rattle.compose.proofs.waiting.stacked.Lts as lts
-use Rattle.compose.proofs.waiting.counted.Reads as counted-reads
-use Rattle.compose.proofs.waiting.more.Reads as more-reads
-use Rattle.compose.proofs.waiting.opened.Reads as opened-reads
-use Rattle.compose.proofs.waiting.operated.Reads as operated-reads
-use Rattle.compose.proofs.waiting.poured.Reads as poured-reads
 
--- src/waiting.rt:116:14
-more-requires : tie.Need-more-requires
-more-requires c κs = search needs
-
--- src/waiting.rt:117:14
-more-requires-2 : tie.Need-more-requires-2
-more-requires-2 c κs = search needs
-
--- src/waiting.rt:118:14
-opened-requires : tie.Need-opened-requires
-opened-requires c κs = search needs
-
--- src/waiting.rt:119:14
-counted-requires : tie.Need-counted-requires
-counted-requires c κs = search needs
-
--- src/waiting.rt:120:14
-poured-requires : tie.Need-poured-requires
-poured-requires c κs = search needs
-
--- src/waiting.rt:122:17
-counted-requires-2 : tie.Need-counted-requires-2
-counted-requires-2 c κs = search needs
-
--- src/waiting.rt:123:13
-opened-requires-2 : tie.Need-opened-requires-2
-opened-requires-2 c κs = search needs
-
--- src/waiting.rt:125:14
-operated-requires : tie.Need-operated-requires
-operated-requires c κs = search needs
-
--- src/waiting.rt:109:1
-same-length : tie.Need-same-length
-same-length c = search needs
-
--- src/waiting.rt:109:1
 returns : tie.Need-returns
-returns c = ?
+unfolding stackings
+returns c =
+    let at-call = c .before .before in
+    let at-match = at-call .before .before in
+    let args = at-match .before .before .before .args in (
+      λ n. at-call .more .ensures .0 (args .out .now) n
+          ∙ ap (λ f. kept (f (stands (args .out .now) (args .stack .now) n (args .p)))) (chosen (stackings (args .o)) (args .mark) 1 (at-match .match .keys1)),
+      near-within 1 1 0 (at-call .more .ensures .1) (omega arith) (omega arith) (omega arith),
+    )
 
--- src/waiting.rt:109:1
-same-length-2 : tie.Need-same-length-2
-same-length-2 c = search needs
-
--- src/waiting.rt:109:1
 returns-2 : tie.Need-returns-2
-returns-2 c = ?
+unfolding stackings
+returns-2 c =
+    let at-call = c .before .before in
+    let at-match = at-call .before .before in
+    let args = at-match .before .before .before .args in (
+      λ n. at-call .more2 .ensures .0 (args .out .now) n
+          ∙ ap (λ f. kept (f (stands (args .out .now) (args .stack .now) n (args .p)))) (chosen (stackings (args .o)) (args .mark) 2 (at-match .match .keys2)),
+      near-within 1 1 0 (at-call .more2 .ensures .1) (omega arith) (omega arith) (omega arith),
+    )
 
--- src/waiting.rt:109:1
-same-length-3 : tie.Need-same-length-3
-same-length-3 c = search needs
-
--- src/waiting.rt:109:1
 returns-3 : tie.Need-returns-3
-returns-3 c = ?
+unfolding stackings
+returns-3 c =
+    let at-call = c .before .before in
+    let at-match = at-call .before .before in
+    let args = at-match .before .before .before .args in (
+      λ n. ap kept (at-call .opened .ensures .0 (args .out .now) n)
+          ∙ ap (λ f. kept (f (stands (args .out .now) (args .stack .now) n (args .p)))) (chosen (stackings (args .o)) (args .mark) 3 (at-match .match .keys3)),
+      near-within 1 1 0 (at-call .opened .ensures .1 .1) (omega arith) (omega arith) (omega arith),
+    )
 
--- src/waiting.rt:109:1
-same-length-4 : tie.Need-same-length-4
-same-length-4 c = search needs
-
--- src/waiting.rt:109:1
-same-length-5 : tie.Need-same-length-5
-same-length-5 c = search needs
-
--- src/waiting.rt:109:1
 returns-4 : tie.Need-returns-4
-returns-4 c = ?
+unfolding stackings
+returns-4 c =
+    let at-call = c .before .before in
+    let at-match = at-call .before .before .before in
+    let args = at-match .before .before .before .args in (
+      λ n. ap kept (at-call .counted .ensures .0 n)
+          ∙ ap (λ f. kept (f (stands (args .out .now) (args .stack .now) n (args .p)))) (chosen (stackings (args .o)) (args .mark) 4 (at-match .match .keys4)),
+      near-within 1 1 0 (at-call .counted .ensures .1 .1) (omega arith) (omega arith) (omega arith),
+    )
 
--- src/waiting.rt:109:1
-same-length-6 : tie.Need-same-length-6
-same-length-6 c = search needs
-
--- src/waiting.rt:109:1
-same-length-7 : tie.Need-same-length-7
-same-length-7 c = search needs
-
--- src/waiting.rt:109:1
 returns-5 : tie.Need-returns-5
-returns-5 c = ?
+unfolding stackings
+returns-5 c =
+    let at-call = c .before .before in
+    let at-match = at-call .before .before .before in
+    let args = at-match .before .before .before .args in (
+      λ n. ap kept (at-call .poured .ensures .0 n)
+          ∙ ap (λ f. kept (f (stands (args .out .now) (args .stack .now) n (args .p)))) (chosen (stackings (args .o)) (args .mark) 5 (at-match .match .keys5)),
+      near-within 1 1 0 (at-call .poured .ensures .1) (omega arith) (omega arith) (omega arith),
+    )
 
--- src/waiting.rt:109:1
-same-length-8 : tie.Need-same-length-8
-same-length-8 c = search needs
-
--- src/waiting.rt:109:1
-same-length-9 : tie.Need-same-length-9
-same-length-9 c = search needs
-
--- src/waiting.rt:109:1
 returns-6 : tie.Need-returns-6
-returns-6 c = ?
+unfolding stackings
+returns-6 c =
+    let at-open = c .before .before in
+    let at-call = at-open .before .before .before .before in
+    let at-match = at-call .before .before .before in
+    let args = at-match .before .before .before .args in (
+      λ n. ap kept (at-open .opened2 .ensures .0 (at-call .counted2 .last .0) n ∙ ap opened (at-call .counted2 .ensures .0 n))
+          ∙ ap (λ f. kept (f (stands (args .out .now) (args .stack .now) n (args .p)))) (chosen (stackings (args .o)) (args .mark) 6 (at-match .match .keys6)),
+      near-then 1 1 0 (at-call .counted2 .ensures .1 .1) (at-open .opened2 .ensures .1 .1) (omega arith) (omega arith) (omega arith),
+    )
 
--- src/waiting.rt:109:1
-same-length-10 : tie.Need-same-length-10
-same-length-10 c = search needs
-
--- src/waiting.rt:109:1
 returns-7 : tie.Need-returns-7
-returns-7 c = ?
+unfolding stackings
+returns-7 c =
+    let at-call = c .before .before in
+    let at-match = at-call .before .before in
+    let args = at-match .before .before .before .args in (
+      λ n. ap kept (at-call .operated .ensures .0 (args .out .now) n)
+          ∙ ap (λ f. kept (f (stands (args .out .now) (args .stack .now) n (args .p)))) (chosen (stackings (args .o)) (args .mark) 7 (at-match .match .keys7)),
+      near-within 1 1 0 (at-call .operated .ensures .1) (omega arith) (omega arith) (omega arith),
+    )
 
--- src/waiting.rt:109:1
 returns-8 : tie.Need-returns-8
-returns-8 c = ?
+returns-8 c =
+    let args = c .before .before .before .args in
+    let none = c .match .rest in (
+      λ n. stacked-rest (args .o) (args .mark) (stands (args .out .now) (args .stack .now) n (args .p)) (none .0 .0 .0 .0 .0 .0 .1) (none .0 .0 .0 .0 .0 .1)
+          (none .0 .0 .0 .0 .1) (none .0 .0 .0 .1) (none .0 .0 .1) (none .0 .1) (none .1),
+      near-within 1 1 0 (near-same (args .p)) (omega arith) (omega arith) (omega arith),
+    )
 
 pub stacked-spec : {M : Type 1} → statement M
 stacked-spec =
     tie.close
-    (tie.spec
-    more-requires
-    more-requires-2
-    opened-requires
-    counted-requires
-    poured-requires
-    counted-requires-2
-    opened-requires-2
-    operated-requires
-    same-length
-    returns
-    same-length-2
-    returns-2
-    same-length-3
-    returns-3
-    same-length-4
-    same-length-5
-    returns-4
-    same-length-6
-    same-length-7
-    returns-5
-    same-length-8
-    same-length-9
-    returns-6
-    same-length-10
-    returns-7
-    returns-8)
+    (tie.spec (λ c κs. search needs) (λ c κs. search needs) (λ c κs. search needs) (λ c κs. search needs) (λ c κs. search needs)
+    (λ c κs. search needs) (λ c κs. search needs) (λ c κs. search needs) (λ c. search needs) returns (λ c. search needs) returns-2
+    (λ c. search needs) returns-3 (λ c. search needs) (λ c. search needs) returns-4 (λ c. search needs) (λ c. search needs) returns-5
+    (λ c. search needs) (λ c. search needs) returns-6 (λ c. search needs) returns-7 returns-8)
