@@ -8,6 +8,7 @@ pub mod PutLaws
 pub mod LoopLaws
 pub mod Standing
 pub mod StandingLaws
+pub mod HeldLaws
 pub mod TableLaws
 pub mod WritingExpLaws
 pub mod WritingLaws
