@@ -9,6 +9,8 @@ pub mod LoopLaws
 pub mod Standing
 pub mod StandingLaws
 pub mod HeldLaws
+pub mod Ranged
+pub mod RangedLaws
 pub mod TableLaws
 pub mod WritingExpLaws
 pub mod WritingLaws

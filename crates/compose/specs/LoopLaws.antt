@@ -169,7 +169,7 @@ module _ (text roles numbers out₀ stack₀ out stack : List ℕ) (p : Pen) whe
       fits-left : (q .fits && leb 6 (q .place)) ≡ fits (length out₁ - 6) (put (getD roles j 0) (value-at text j (getD roles j 0)) (stands out stack numbers p))
       fits-left =
           tested out₁ stack₁ numbers q (put (getD roles j 0) (value-at text j (getD roles j 0)) (stands out stack numbers p))
-          (omega (arith, r .front, r .behind)) (omega (arith, near .behind, r .behind)) k
+          (omega (arith, r .front, r .behind, a)) (omega (arith, near .behind, r .behind, a)) k
 
       token : (q .fits && leb 6 (q .place)) ≡ true → Reached text roles numbers out₀ stack₀ out₁ stack₁ q j
       token t =
@@ -183,9 +183,9 @@ module _ (text roles numbers out₀ stack₀ out stack : List ℕ) (p : Pen) whe
                 (put (getD roles j 0) (value-at text j (getD roles j 0)) (stands out stack numbers p)) f k ∙ is-left;
             good = two .0;
             front = leb-true 6 (q .place) (two .1);
-            behind = omega (arith, near .behind, r .behind);
+            behind = omega (arith, near .behind, r .behind, a);
             low = omega (arith, near .height, r .low);
-            high = omega (arith, r .high);
+            high = omega (arith, r .high, b);
             rest = omega (arith, near .left, r .rest);
             short = omega (arith, near .later, r .short);
             room = a ∙ r .room;
