@@ -6,10 +6,11 @@ use mathlib.Core.Path.{_≡_, refl, sym, ap, _∙_}
 use mathlib.Core.Bool.{Bool, true, false, _&&_, false≢true}
 use mathlib.Core.List.{List, [], _∷_}
 use lib.ListN.{length, getD}
-use lib.Dec.{eqb, leb}
+use lib.Dec.{eqb, leb, ltb}
 use borrow.Author.Tests.{leb-true, le-leb}
 use Rattle.types.specs.Limits.{max-statements, max-steps}
 use Rattle.program.specs.Encoding.{enc-word}
+use Rattle.tokens.specs.ByteLaws.{both-true}
 use Rattle.compose.specs.Writing.{Writing, Writing.writing, wrote, numbered, lengthened, pathed, worded, more, opened, counted, poured, operated, behinds}
 use Rattle.compose.specs.Writing.{stackings, behind-marks, forms, stack-marks, formed, put, max-later}
 use Rattle.compose.specs.Pens.{kept}
@@ -31,10 +32,6 @@ grows-on x y z a b = record { mended = λ e. a .mended (b .mended e); longer = l
 
 no-mending : {f : Bool} → false ≡ true → f ≡ true
 no-mending e = absurd (false≢true e)
-
-both-true : (f g : Bool) → (f && g) ≡ true → f ≡ true
-both-true true g e = refl
-both-true false g e = e
 
 -- What each part of a role does -----------------------------------------------------------------------
 
@@ -60,7 +57,7 @@ lengthened-later (writing s w n l f) = record { mended = λ e. e; longer = omega
 
 pathed-later : Later pathed
 unfolding good size pathed
-pathed-later (writing s w n l f) = record { mended = both-true f (leb l max-later); longer = omega arith }
+pathed-later (writing s w n l f) = record { mended = λ e. both-true f (leb l max-later) e .0; longer = omega arith }
 
 worded-later : (v : ℕ) → Later (worded v)
 unfolding good size worded enc-word
@@ -69,7 +66,7 @@ worded-later v (writing s w n l f) = record { mended = λ e. e; longer = omega a
 more-later : (limit : ℕ) → Later (more limit)
 unfolding good size more
 more-later limit (writing s [] n l f) = record { mended = no-mending; longer = omega arith }
-more-later limit (writing s (c ∷ w) n l f) = record { mended = both-true f _; longer = omega arith }
+more-later limit (writing s (c ∷ w) n l f) = record { mended = λ e. both-true f (ltb c limit) e .0; longer = omega arith }
 
 opened-later : Later opened
 unfolding good size opened

@@ -11,6 +11,7 @@ pub mod StandingLaws
 pub mod HeldLaws
 pub mod Ranged
 pub mod RangedLaws
+pub mod MeantRangedLaws
 pub mod TableLaws
 pub mod WritingExpLaws
 pub mod WritingLaws

@@ -9,6 +9,7 @@ use lib.ListN.{length, getD, set, drop, length-drop, length-set}
 use lib.Seq.{drop-cons, drop-length, getD-set-same}
 use lib.Dec.{eqb, leb}
 use borrow.Author.Tests.{eqb-true, eqb-false, ne-eqb, leb-true, leb-false, le-leb, lt-leb}
+use Rattle.tokens.specs.ByteLaws.{both-true}
 use Rattle.derive.specs.Held.{held}
 use Rattle.compose.specs.Writing.{Writing, Writing.writing, put, start}
 use Rattle.compose.specs.Pens.{stands, kept, Near}
@@ -105,10 +106,6 @@ pub record Reached (text roles numbers out₀ stack₀ out stack : List ℕ) (p 
   pub room : length out ≡ length out₀
   pub tall : length stack ≡ length stack₀
 
-both-ways : (f g : Bool) → (f && g) ≡ true → (f ≡ true) × (g ≡ true)
-both-ways true g e = (refl, e)
-both-ways false g e = absurd (false≢true e)
-
 -- before the first place: nothing is written, the schedule's count waits
 abbrev pub first-pen : List ℕ → List ℕ → Pen
 first-pen out numbers = record { place = length out; height = 1; left = length numbers; later = 0; fits = true }
@@ -173,7 +170,7 @@ module _ (text roles numbers out₀ stack₀ out stack : List ℕ) (p : Pen) whe
 
       token : (q .fits && leb 6 (q .place)) ≡ true → Reached text roles numbers out₀ stack₀ out₁ stack₁ q j
       token t =
-          let two = both-ways (q .fits) (leb 6 (q .place)) t in
+          let two = both-true (q .fits) (leb 6 (q .place)) t in
           let f : fits (length out₁ - 6) (stands out₁ stack₁ numbers q) ≡ true =
           fits-alike (length out₁ - 6) (stands out₁ stack₁ numbers q)
           (put (getD roles j 0) (value-at text j (getD roles j 0)) (stands out stack numbers p)) k ∙ sym fits-left ∙ t in

@@ -3,7 +3,7 @@ use Prim.Native.Nat.{ℕ, zero, suc, _+_, _-_, _/_, _%_, _<_, _≤_}
 use native.Mathlib.Omega.{arith}
 use native.Mathlib.Numerals.{add-one, sub-one}
 use mathlib.Core.Path.{_≡_, refl, sym, ap, _∙_}
-use mathlib.Core.Bool.{Bool, true, false, _&&_}
+use mathlib.Core.Bool.{Bool, true, false, and-true, and-false}
 use mathlib.Core.List.{List, [], _∷_}
 use lib.ListN.{length, getD, set, drop}
 use lib.Seq.{getD-set-same, drop-cons, drop-set-lt, lt-length-set}
@@ -40,16 +40,6 @@ held-none s h e = rw e refl
 pub held-changed : (s : List ℕ) (h v : ℕ) → (h ≡ 0 → ⊥) → h ≤ length s → held (set s (h - 1) v) h ≡ v ∷ held s (h - 1)
 held-changed s zero v n l = absurd (n refl)
 held-changed s (suc h) v n l = rw (sub-one, ← add-one h) (held-push s h v (omega arith))
-
--- Counts that do not keep to what a stream holds -----------------------------------------------------
-
-and-false : (f : Bool) → (f && false) ≡ false
-and-false true = refl
-and-false false = refl
-
-and-true : (f : Bool) → (f && true) ≡ f
-and-true true = refl
-and-true false = refl
 
 -- Pens --------------------------------------------------------------------------------------------------
 

@@ -1,8 +1,8 @@
 -- What is in range, whose counts were kept to and whose bytes are few, is what a stream holds.
 use Prim.Native.Nat.{ℕ, suc, _<_, _≤_}
 use native.Mathlib.Omega.{arith}
-use mathlib.Core.Path.{_≡_, refl}
-use mathlib.Core.Bool.{Bool, true, false, _&&_, false≢true}
+use mathlib.Core.Path.{_≡_}
+use mathlib.Core.Bool.{Bool, true}
 use mathlib.Core.List.{List, [], _∷_, map}
 use lib.ListN.{length}
 use lib.Dec.{leb, ltb}
@@ -14,15 +14,11 @@ use Rattle.program.specs.Tree.{Stmt, Stmt.when, Stmt.declare, Stmt.update, Stmt
 use Rattle.program.specs.Tree.{Items, Items.stop, Items.item, Step, Program, size, items}
 use Rattle.program.specs.Encoding.{enc-program}
 use Rattle.program.specs.Counts.{All, Few, IsPath, CountsExpr, CountsExprs, CountsItem, CountsItems}
+use Rattle.tokens.specs.ByteLaws.{both-true}
 use Rattle.meaning.specs.Holds.{max-stream, HoldsStmt, HoldsStmts, HoldsStep, HoldsSchedule, Counted, Holds}
 use Rattle.compose.specs.Writing.{max-later}
 use Rattle.compose.specs.Checks.{checks-expr, checks-exprs, checks-stmt, checks-stmts, checks-steps, checks-item, checks-items, checks-structs, checks}
 use Rattle.compose.specs.Ranged.{RangedPath, RangedExpr, RangedExprs, RangedStmt, RangedStmts, RangedStep, RangedItem, RangedItems, Ranged}
-
--- two tests
-both-hold : (f t : Bool) → (f && t) ≡ true → (f ≡ true) × (t ≡ true)
-both-hold true t e = (refl, e)
-both-hold false t e = absurd (false≢true e)
 
 module _ (ar : List ℕ) where
   mutual
@@ -32,7 +28,7 @@ module _ (ar : List ℕ) where
     expr-holds (inv e) f r h = expr-holds e f r h
     expr-holds (make k es) f r h = let q = exprs-holds es f (r .2) h in ((r .0, r .1, q .0), q .1)
     expr-holds (path v vs) f r h =
-        let q = both-hold f (leb (length vs) max-later) h in
+        let q = both-true f (leb (length vs) max-later) h in
         let l : length vs ≤ max-later = leb-true (length vs) max-later (q .1) in
         ((r .0, omega (arith, l), r .1), q .0)
     expr-holds (int-lit w) f r h = (r, h)
@@ -62,7 +58,7 @@ module _ (ar : List ℕ) where
         ((p .0, q .0 .0, q .0 .1), q .1)
     stmt-holds (declare t x e) f r h = let p = expr-holds e f (r .2) h in ((r .0, r .1, p .0), p .1)
     stmt-holds (update v vs e) f r h =
-        let b = both-hold (checks-expr e f) (leb (length vs) max-later) h in
+        let b = both-true (checks-expr e f) (leb (length vs) max-later) h in
         let l : length vs ≤ max-later = leb-true (length vs) max-later (b .1) in
         let p = expr-holds e f (r .1) (b .0) in
         (((r .0 .0, omega (arith, l), r .0 .1), p .0), p .1)
@@ -71,7 +67,7 @@ module _ (ar : List ℕ) where
     stmts-hold : (b : Stmts) (f : Bool) → RangedStmts ar b → checks-stmts b f ≡ true → ((size b ≤ max-statements) × (HoldsStmts ar b)) × (f ≡ true)
     stmts-hold end f r h = ((omega arith, tt), h)
     stmts-hold (next t b) f r h =
-        let c = both-hold (checks-stmt t (checks-stmts b f)) (ltb (size b) max-statements) h in
+        let c = both-true (checks-stmt t (checks-stmts b f)) (ltb (size b) max-statements) h in
         let l : size b < max-statements = ltb-true (size b) max-statements (c .1) in
         let p = stmt-holds t (checks-stmts b f) (r .0) (c .0) in
         let q = stmts-hold b f (r .1) (p .1) in
@@ -81,7 +77,7 @@ module _ (ar : List ℕ) where
   unfolding RangedStep HoldsStep checks-steps
   steps-hold [] f r h = ((omega arith, tt), h)
   steps-hold (t ∷ l) f r h =
-      let c = both-hold (checks-stmts (t .body) (checks-steps l f)) (ltb (length l) max-steps) h in
+      let c = both-true (checks-stmts (t .body) (checks-steps l f)) (ltb (length l) max-steps) h in
       let b : length l < max-steps = ltb-true (length l) max-steps (c .1) in
       let p = stmts-hold (t .body) (checks-steps l f) (r .0 .1) (c .0) in
       let q = steps-hold l f (r .1) (p .1) in
@@ -107,7 +103,7 @@ module _ (ar : List ℕ) where
     items-hold : (is : Items) (f : Bool) → RangedItems ar is → checks-items is f ≡ true → ((items is ≤ max-items) × (CountsItems ar is)) × (f ≡ true)
     items-hold stop f r h = ((omega arith, tt), h)
     items-hold (item i is) f r h =
-        let c = both-hold (checks-item i (checks-items is f)) (ltb (items is) max-statements) h in
+        let c = both-true (checks-item i (checks-items is f)) (ltb (items is) max-statements) h in
         let l : items is < max-statements = ltb-true (items is) max-statements (c .1) in
         let p = item-holds i (checks-items is f) (r .0) (c .0) in
         let q = items-hold is f (r .1) (p .1) in
