@@ -12,6 +12,8 @@ pub mod HeldLaws
 pub mod Ranged
 pub mod RangedLaws
 pub mod MeantRangedLaws
+pub mod Header
+pub mod HeaderLaws
 pub mod TableLaws
 pub mod WritingExpLaws
 pub mod WritingLaws
