@@ -1,0 +1,5 @@
+pub mod Pens
+pub mod PenLaws
+pub mod PutLaws
+pub mod LoopLaws
+pub mod TableLaws
