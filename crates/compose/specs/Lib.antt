@@ -10,5 +10,6 @@ pub mod RangedLaws
 pub mod MeantRangedLaws
 pub mod Header
 pub mod HeaderLaws
+pub mod Composed
 pub mod WritingExpLaws
 pub mod WritingLaws
