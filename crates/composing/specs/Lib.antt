@@ -3,3 +3,4 @@ pub mod PenLaws
 pub mod PutLaws
 pub mod LoopLaws
 pub mod TableLaws
+pub mod RowLaws
