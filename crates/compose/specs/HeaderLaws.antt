@@ -40,3 +40,10 @@ parts-on offsets types k l =
     let e : drop k offsets ≡ getD offsets k 0 ∷ drop (suc k) offsets = drop-cons offsets k 0 (omega arith) in
     let f : drop (k + 1) offsets ≡ getD offsets (k + 1) 0 ∷ drop (suc (k + 1)) offsets = drop-cons offsets (k + 1) 0 l in
     rw (e, ← add-one k, f) refl
+
+-- as many rows as there are offsets, but one
+pub parts-count : (offsets types : List ℕ) → length (parts offsets types) ≡ length offsets - 1
+unfolding parts
+parts-count [] types = refl
+parts-count (a ∷ []) types = refl
+parts-count (a ∷ b ∷ os) types = let i = parts-count (b ∷ os) types in omega (arith, i)

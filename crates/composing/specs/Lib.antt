@@ -4,3 +4,5 @@ pub mod PutLaws
 pub mod LoopLaws
 pub mod TableLaws
 pub mod RowLaws
+pub mod Placing
+pub mod PlacingLaws
