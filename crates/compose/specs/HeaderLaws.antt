@@ -5,10 +5,20 @@ use native.Mathlib.Numerals.{add-one, sub-one}
 use mathlib.Core.Path.{_≡_, refl, sym, ap, _∙_}
 use mathlib.Core.List.{List, [], _∷_, _++_, append-assoc}
 use lib.ListN.{length, getD, set, drop, length-set}
-use lib.Seq.{slice, slice-empty, slice-cons, length-slice, drop-cons, drop-length}
+use lib.Seq.{slice, slice-empty, slice-cons, length-slice, drop-cons, drop-length, lt-length-set, getD-set-same, drop-set-lt}
 use Rattle.program.specs.Encoding.{flat, enc-list}
-use Rattle.compose.specs.PenLaws.{drop-front}
 use Rattle.compose.specs.Header.{parts, row-of, header, Rows}
+
+-- a byte in front of what stands behind a place
+pub drop-front : (out : List ℕ) (k b : ℕ) → 0 < k → k ≤ length out → drop (k - 1) (set out (k - 1) b) ≡ b ∷ drop k out
+drop-front out zero b l h = absurd (omega arith)
+drop-front out (suc j) b l h =
+    rw (
+      sub-one,
+      drop-cons (set out j b) j 0 (lt-length-set out j b (omega arith)),
+      getD-set-same out j b 0 (omega arith),
+      drop-set-lt (suc j) out j b (omega arith),
+    ) refl
 
 -- A row ----------------------------------------------------------------------------------------------
 
