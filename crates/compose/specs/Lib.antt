@@ -1,6 +1,7 @@
 pub mod Writing
 pub mod Checks
 pub mod Fits
+pub mod FitsLaws
 pub mod Standing
 pub mod Ranged
 pub mod RangedLaws
@@ -12,3 +13,5 @@ pub mod Composed
 pub mod WritingExpLaws
 pub mod WritingLaws
 pub mod StandingLaws
+pub mod RowsLaws
+pub mod StreamLaws
