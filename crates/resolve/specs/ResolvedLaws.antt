@@ -145,6 +145,11 @@ meant-parts true none v p e = absurd (let z : _≡_ {A = ℕ} 0 1 = cc in omega 
 meant-parts true (some us) none p e = absurd (let z : _≡_ {A = ℕ} 0 1 = cc in omega arith)
 meant-parts true (some us) (some u) p e = (u, refl, (let f : of us u ≡ p = cc in ap (λ q. q .steps) f))
 
+meant-from : (t : Bool) (o : Option (List (List Ty))) (v : Option Uses) (us : List (List Ty)) (u : Uses) → t ≡ true → o ≡ some us → v ≡ some u
+    → provided t (then o (λ us. then v (λ u. some (of us u)))) ≡ some (of us u)
+unfolding provided then
+meant-from t o v us u e f g = rw (e, f, g) refl
+
 module _ (d : Defs) (s : Sched) where
   abbrev structs : List Struct
   structs = structs-of d
@@ -196,7 +201,9 @@ module _ (d : Defs) (s : Sched) where
       let r = rows-of (each (pars-meaning structs) structs) (map (row-bytes structs) structs) (params-meant structs w) in
       let g = passed-of (passes structs (step-names structs) (roles (program d s)) (pass-start structs)) l e in
       let f = declared-few structs w in
-      let m : meant (program d s) ≡ some (of (r .0) (n .0)) = meant-by-uses d s ∙ rw (f .different, r .1, n .1) refl in
+      let m : meant (program d s) ≡ some (of (r .0) (n .0)) =
+      meant-by-uses d s
+      ∙ meant-from (distinct (map struct-id structs)) (each (pars-meaning structs) structs) told (r .0) (n .0) (f .different) (r .1) (n .1) in
       (of (r .0) (n .0),
       record {
         means = meant-means (program d s) (of (r .0) (n .0)) m;

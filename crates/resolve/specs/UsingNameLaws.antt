@@ -128,6 +128,9 @@ module _ (ds : List Struct) (names : List Id) where
         start-of : Place Local → Start
         start-of f = record { variable-of = loc (local-number (f .element)); type-of = local-type (f .element) }
 
+        living : Option Use
+        living = use-local (drop (u .fresh) (u .living)) (drop (u .fresh) (u .numbers)) (drop (u .fresh) (u .bytes)) x u
+
         by-local : (o : Option (Place Local))
             → then (then o (λ f. some (start-of f)))
             (λ s. some (leaves p (s .type-of) (var-code (s .variable-of))))
@@ -147,7 +150,8 @@ module _ (ds : List Struct) (names : List Id) where
             (sym (by-local (find local-id x (p .alive)))) b)
         go (some q) f a b =
             let c : Both ds names (some (leaves p (par-type (q .element)) (q .at))) (use-par own own-bytes x u) = rw f at a in
-            rw (absent-not par-id x (p .own) q f, f, present par-id x (p .own) own (s .own) q f .0) c
+            subst (λ t. Both ds names (starts ds names x p) (chosen t (use-par own own-bytes x u) living)) (sym (present par-id x (p .own) own (s .own) q f .0))
+            (rw (absent-not par-id x (p .own) q f, f) c)
 
     -- a later variable, by the byte of the type before it
     behind-none : (c : ℕ) (x : Id) → c < struct-code → use-behind book c x u ≡ none
