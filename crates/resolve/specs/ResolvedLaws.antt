@@ -203,17 +203,18 @@ module _ (d : Defs) (s : Sched) where
       let f = declared-few structs w in
       let m : meant (program d s) ≡ some (of (r .0) (n .0)) =
       meant-by-uses d s
-      ∙ meant-from (distinct (map struct-id structs)) (each (pars-meaning structs) structs) told (r .0) (n .0) (f .different) (r .1) (n .1) in
-      (of (r .0) (n .0),
-      record {
-        means = meant-means (program d s) (of (r .0) (n .0)) m;
-        numbers = n .2;
-        types = r .2;
-        declared = f;
-        locals = n .3;
-        behind = g .0;
-        passed = g .1;
-      })
+      ∙ meant-from (distinct (map struct-id structs)) (each (pars-meaning structs) structs) told (r .0) (n .0) (f .different) (r .1) (n .1) in (
+        of (r .0) (n .0),
+        record {
+          means = meant-means (program d s) (of (r .0) (n .0)) m;
+          numbers = n .2;
+          types = r .2;
+          declared = f;
+          locals = n .3;
+          behind = g .0;
+          passed = g .1;
+        },
+      )
 
 -- Texts ----------------------------------------------------------------------------------------------
 
