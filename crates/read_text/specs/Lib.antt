@@ -6,3 +6,4 @@ pub mod StreamLaws
 pub mod TableLaws
 pub mod MeantLaws
 pub mod ReadLaws
+pub mod PassLaws

@@ -5,7 +5,7 @@ use mathlib.Core.Path.{_≡_, refl, sym, ap, _∙_}
 use mathlib.Core.List.{List}
 use mathlib.Core.Option.{Option, none, some}
 use lib.ListN.{length, getD, take, drop, length-drop, length-take}
-use lib.Seq.{getD-take, getD-drop}
+use lib.Seq.{getD-take, getD-drop, take-all}
 use Rattle.meaning.specs.Meant.{then}
 use Rattle.derive.specs.Held.{held}
 use Rattle.resolve.specs.Tables.{places, offsets}
@@ -22,6 +22,9 @@ use Rattle.uses.specs.declared.Numbered.the-variants.{Count, Nothing}
 use Rattle.composing.specs.Placing.{placed-in}
 use Rattle.composing.specs.declared.Placed.{Placed}
 use Rattle.composing.specs.declared.Placed.the-variants.{At, Over}
+use Rattle.source.specs.Source.{no-program}
+use Rattle.read_text.specs.Ending.{Ending.stopped, ended, answer, left}
+use Rattle.read_text.specs.declared.Answer.{Answer}
 use Rattle.read_text.specs.Roled.{Roled, stream-of}
 use Rattle.read_text.specs.StreamLaws.{held-front, composed-long}
 use Rattle.read_text.specs.TableLaws.{last-offset}
@@ -64,10 +67,20 @@ module _ (x cs t : List ℕ) (r : Roled x cs) (ok : Rows (offsets par-byte cs) (
 
 -- The ways -------------------------------------------------------------------------------------------
 
-module _ (x cs l : List ℕ) (r : Numbered) (e : numbered-in l r ≡ resolved x cs) where
-  pub unnamed : r ≡ Nothing → stream-of x cs ≡ none
+-- 17 where there is no stream
+none-ends : (x cs out : List ℕ) → stream-of x cs ≡ none → (a : Answer) → a ≡ answer (stopped no-program)
+    → (a ≡ answer (ended (stream-of x cs) out)) × (out ≡ left (ended (stream-of x cs) out) out)
+unfolding ended left
+none-ends x cs out e a f = rw (e, f) (refl, refl)
+
+module _ (x cs out l : List ℕ) (r : Numbered) (e : numbered-in l r ≡ resolved x cs) where
+  unnamed : r ≡ Nothing → stream-of x cs ≡ none
   unfolding numbered-in then
   unnamed f = rw (← e, f) refl
+
+  pub unnamed-ends : r ≡ Nothing → (a : Answer) → a ≡ answer (stopped no-program)
+      → (a ≡ answer (ended (stream-of x cs) out)) × (out ≡ left (ended (stream-of x cs) out) out)
+  unnamed-ends f = none-ends x cs out (unnamed f)
 
   module _ (n : ℕ) (f : r ≡ Count n) where
     named : resolved x cs ≡ some (held l n)
@@ -86,19 +99,35 @@ module _ (x cs l : List ℕ) (r : Numbered) (e : numbered-in l r ≡ resolved x 
       unfolding then
       streamed = rw named (sym (g ∙ ap (composed x cs) (held-front l n b)))
 
-      pub over : q ≡ Over → stream-of x cs ≡ none
+      over : q ≡ Over → stream-of x cs ≡ none
       unfolding placed-in
       over h = streamed ∙ rw h refl
 
+      pub over-ends : q ≡ Over → (a : Answer) → a ≡ answer (stopped no-program)
+          → (a ≡ answer (ended (stream-of x cs) out)) × (out ≡ left (ended (stream-of x cs) out) out)
+      over-ends h = none-ends x cs out (over h)
+
       module _ (p : ℕ) (h : q ≡ At p) where
-        pub at-place : stream-of x cs ≡ some (drop p o)
+        at-place : stream-of x cs ≡ some (drop p o)
         unfolding placed-in
         at-place = streamed ∙ rw h refl
 
-        pub stream-long : (1 ≤ length (drop p o)) × (length (drop p o) ≤ 32256)
+        long : (1 ≤ length (drop p o)) × (length (drop p o) ≤ 32256)
         unfolding composed placed-in
-        stream-long =
-            composed-long (offsets par-byte cs) (type-bytes x cs) x cs (held (take n l) (length (take n l))) (drop p o) (sym g ∙ rw h refl)
+        long = composed-long (offsets par-byte cs) (type-bytes x cs) x cs (held (take n l) (length (take n l))) (drop p o) (sym g ∙ rw h refl)
 
         pub inside : p < length o
-        inside = let k = length-drop p o in omega (arith, stream-long .0)
+        inside = let k = length-drop p o in omega (arith, long .0)
+
+        -- the stream is the part from there on
+        module _ (m : ℕ) (k : length o ≡ m) where
+          part-is : take (m - p) (drop p o) ≡ drop p o
+          part-is = take-all (m - p) (drop p o) (let d = length-drop p o in omega arith)
+
+          pub stream-long : (1 ≤ length (take (m - p) (drop p o))) × (length (take (m - p) (drop p o)) ≤ 32256)
+          stream-long = rw part-is long
+
+          pub at-ends : (a : Answer) (u : List ℕ)
+              → (a ≡ answer (ended (some (take (m - p) (drop p o))) out)) × (u ≡ left (ended (some (take (m - p) (drop p o))) out) out)
+              → (a ≡ answer (ended (stream-of x cs) out)) × (u ≡ left (ended (stream-of x cs) out) out)
+          at-ends a u w = rw (at-place, ← part-is) w

@@ -1,139 +1,62 @@
+-- `meant` meets its contract: 17 for names or declarations, 17 for counts or bytes, or a stream that is written.
+use native.Mathlib.Omega.{arith}
+use mathlib.Core.Path.{_≡_, sym, _∙_}
+use lib.ListN.{length}
+use lib.Seq.{length-take-le}
+use Rattle.uses.specs.declared.Numbered.the-variants.{Count}
+use Rattle.read_text.specs.TableLaws.{fronted}
+use Rattle.read_text.specs.MeantLaws.{unnamed-ends, rows-there, count-told, over-ends, at-ends, stream-long, inside}
 use borrow.Author.Needs.{needs}
 use Rattle.read_text.proofs.meant.Statement.{statement}
 use Rattle.read_text.proofs.meant.Tie as tie
-use Rattle.read_text.proofs.meant.Reads as reads
-use Rattle.read_text.proofs.meant.Lts as lts
-use Rattle.read_text.proofs.composed.Reads as composed-reads
-use Rattle.read_text.proofs.imaged.Reads as imaged-reads
-use Rattle.read_text.proofs.refused.Reads as refused-reads
-use Rattle.uses.proofs.numbers.Reads as numbers-reads
 
--- src/lib.rt:115:44
-slice-aggregate-numbers : tie.Need-slice-aggregate-numbers
-slice-aggregate-numbers c = search needs
+-- the places that proofs look back to
+abbrev at-numbers : tie.After-numbers3 → tie.After-numbers2
+at-numbers c = c .before .before .before .before
 
--- src/lib.rt:115:64
-slice-aggregate-numbers-2 : tie.Need-slice-aggregate-numbers-2
-slice-aggregate-numbers-2 c = search needs
+abbrev at-tables : tie.After-numbers → tie.After-tables
+at-tables c = c .before .before
 
--- src/lib.rt:115:9
+abbrev entry : tie.After-numbers → tie.Start
+entry c = let at-known = at-tables c .before in at-known .before .before .before .before
+
 numbers-requires : tie.Need-numbers-requires
 numbers-requires c κs = ?
 
--- src/lib.rt:116:25
-enum-known-names : tie.Need-enum-known-names
-enum-known-names c = search needs
-
--- src/lib.rt:117:9
-enum-told : tie.Need-enum-told
-enum-told c = search needs
-
--- src/lib.rt:117:9
-refused-requires : tie.Need-refused-requires
-refused-requires c κs = search needs
-
--- src/lib.rt:117:9
-same-length : tie.Need-same-length
-same-length c = search needs
-
--- src/lib.rt:117:9
 returns : tie.Need-returns
-returns c = ?
+returns c =
+    let at-told = c .before in let n = at-numbers (at-told .before .before) in let args = entry (n .before) .args in
+    unnamed-ends (args .text .now) (args .roles .now) (args .out .now) _ (n .numbers2 .result) (n .numbers2 .ensures .0) (at-told .enum-told .given .1) _
+    (c .refused .ensures)
 
--- src/lib.rt:120:40
 array-share-prefix-numbers : tie.Need-array-share-prefix-numbers
 array-share-prefix-numbers c = ?
 
--- src/lib.rt:120:40
 slice-aggregate-composed : tie.Need-slice-aggregate-composed
-slice-aggregate-composed c = ?
+slice-aggregate-composed c = sym (length-take-le _ _ (array-share-prefix-numbers (c .before)))
 
--- src/lib.rt:120:55
-slice-aggregate-composed-2 : tie.Need-slice-aggregate-composed-2
-slice-aggregate-composed-2 c = search needs
-
--- src/lib.rt:120:71
-slice-aggregate-composed-3 : tie.Need-slice-aggregate-composed-3
-slice-aggregate-composed-3 c = search needs
-
--- src/lib.rt:120:9
 composed-requires : tie.Need-composed-requires
 composed-requires c κs = ?
 
--- src/lib.rt:121:20
-enum-known-placed : tie.Need-enum-known-placed
-enum-known-placed c = search needs
-
--- src/lib.rt:122:9
-enum-told-2 : tie.Need-enum-told-2
-enum-told-2 c = search needs
-
--- src/lib.rt:122:9
-refused-requires-2 : tie.Need-refused-requires-2
-refused-requires-2 c κs = search needs
-
--- src/lib.rt:122:9
-same-length-2 : tie.Need-same-length-2
-same-length-2 c = search needs
-
--- src/lib.rt:122:9
 returns-2 : tie.Need-returns-2
 returns-2 c = ?
 
--- src/lib.rt:124:12
 sub-imaged : tie.Need-sub-imaged
 sub-imaged c = ?
 
--- src/lib.rt:124:12
 part-imaged-start : tie.Need-part-imaged-start
 part-imaged-start c = ?
 
--- src/lib.rt:124:12
-part-imaged-end : tie.Need-part-imaged-end
-part-imaged-end c = search needs
-
--- src/lib.rt:124:5
 imaged-requires : tie.Need-imaged-requires
 imaged-requires c κs = ?
 
--- src/lib.rt:107:1
-same-length-3 : tie.Need-same-length-3
-same-length-3 c = search needs
-
--- src/lib.rt:107:1
-same-length-4 : tie.Need-same-length-4
-same-length-4 c = search needs
-
--- src/lib.rt:107:1
 returns-3 : tie.Need-returns-3
 returns-3 c = ?
 
 pub meant-spec : {M : Type 1} → statement M
 meant-spec =
     tie.close
-    (tie.spec
-    slice-aggregate-numbers
-    slice-aggregate-numbers-2
-    numbers-requires
-    enum-known-names
-    enum-told
-    refused-requires
-    same-length
-    returns
-    array-share-prefix-numbers
-    slice-aggregate-composed
-    slice-aggregate-composed-2
-    slice-aggregate-composed-3
-    composed-requires
-    enum-known-placed
-    enum-told-2
-    refused-requires-2
-    same-length-2
-    returns-2
-    sub-imaged
-    part-imaged-start
-    part-imaged-end
-    imaged-requires
-    same-length-3
-    same-length-4
-    returns-3)
+    (tie.spec (λ c. search needs) (λ c. search needs) numbers-requires (λ c. search needs) (λ c. search needs) (λ c κs. search needs) (λ c. search needs)
+    returns array-share-prefix-numbers slice-aggregate-composed (λ c. search needs) (λ c. search needs) composed-requires (λ c. search needs)
+    (λ c. search needs) (λ c κs. search needs) (λ c. search needs) returns-2 sub-imaged part-imaged-start (λ c. search needs) imaged-requires
+    (λ c. search needs) (λ c. search needs) returns-3)
