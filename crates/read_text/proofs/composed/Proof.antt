@@ -28,7 +28,7 @@ part-stream-end-2 c = omega (arith, inside (entry (c .before)), entry (c .before
 stream-requires : tie.Need-stream-requires
 stream-requires c κs =
     let s = entry (at-types c) in let args = s .args in
-    (s .pre .0, (rows-lent (args .text .now) (args .roles .now) (args .tables .now) (s .pre .1 .0 .0) (s .pre .1 .1) (s .pre .1 .0 .1), ?))
+    (s .pre .0, rows-lent (args .text .now) (args .roles .now) (args .tables .now) (s .pre .1 .0 .0) (s .pre .1 .1) (s .pre .1 .0 .1))
 
 returns : tie.Need-returns
 returns c =

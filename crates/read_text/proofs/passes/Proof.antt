@@ -41,7 +41,7 @@ meant-requires c κs =
     let s = entry m in let args = s .args in let r = m .mark in (
       (d .kept .0 ∙ r .kept .1 .0 ∙ s .pre .0, s .pre .1, omega (arith, s .pre .0, s .pre .2, r .kept .1 .0, d .kept .0, d .kept .1 .0)),
       roled-there (args .text .now) (args .kinds .now) _ (s .pre .0) (r .result) (r .ensures .0) (r .ensures .1) (args .out .now) (e .if1 .left) _ (d .result)
-      (d .ensures .0) (d .ensures .1) (at-e .if2 .left),
+          (d .ensures .0) (d .ensures .1) (at-e .if2 .left),
     )
 
 returns-3 : tie.Need-returns-3
