@@ -47,12 +47,12 @@ fit-is s w n l room (writing s' w' n' l' f) e = go f (leb (length s') room) refl
     go true false p q = absurd (false≢true (cc (rw (p, q) at e)))
     go true true p q = rw p (rw (p, q) at e)
 
--- of a pen that stands for a writing as far as it fits
-module _ (head out stack numbers : List ℕ) (p : Pen) (x : Writing) (size : length out ≡ 32402) (state : kept (stands out stack numbers p) ≡ within (length out - 6) x)
-  where
+-- of a pen that stands for a writing as far as it fits, in an output and as it was before
+module _ (head out₀ out stack numbers : List ℕ) (p : Pen) (x : Writing) (size : length out₀ ≡ 32402) (kept-size : length out ≡ length out₀)
+    (state : kept (stands out stack numbers p) ≡ within (length out₀ - 6) x) where
   pub placed-unfit : p .fits ≡ false → none ≡ of-writing head x
   unfolding stands kept
-  placed-unfit e = unfit-none head (length out - 6) x (omega (arith, size)) (sym state ∙ rw e refl)
+  placed-unfit e = unfit-none head (length out₀ - 6) x (omega (arith, size)) (sym state ∙ rw e refl)
 
   module _ (fit : p .fits ≡ true) (inner : p .place ≤ length out) where
     fit-stands : of-writing head x ≡ of-writing head (stands out stack numbers p)
@@ -61,21 +61,21 @@ module _ (head out stack numbers : List ℕ) (p : Pen) (x : Writing) (size : len
         let whole : kept (stands out stack numbers p) ≡ stands out stack numbers p = rw fit refl in
         let as-it-is : stands out stack numbers p
         ≡ writing (drop (p .place) out) (held stack (p .height)) (held numbers (p .left)) (p .later) true = rw fit refl in
-        let found : within (length out - 6) x ≡ writing (drop (p .place) out) (held stack (p .height)) (held numbers (p .left)) (p .later) true =
+        let found : within (length out₀ - 6) x ≡ writing (drop (p .place) out) (held stack (p .height)) (held numbers (p .left)) (p .later) true =
         sym state ∙ whole ∙ as-it-is in
-        ap (of-writing head) (fit-is (drop (p .place) out) (held stack (p .height)) (held numbers (p .left)) (p .later) (length out - 6) x found ∙ sym as-it-is)
+        ap (of-writing head) (fit-is (drop (p .place) out) (held stack (p .height)) (held numbers (p .left)) (p .later) (length out₀ - 6) x found ∙ sym as-it-is)
 
     is-long : max-stream < length (head ++ drop (p .place) out) → none ≡ of-writing head x
     unfolding stands
     is-long h = long-none head (drop (p .place) out) _ _ _ _ h ∙ sym fit-stands
 
     pub placed-long : p .place < 146 → none ≡ of-writing head x
-    placed-long h = is-long (omega (arith, h, size, inner, length-append head (drop (p .place) out), length-drop (p .place) out))
+    placed-long h = is-long (omega (arith, h, size, kept-size, inner, length-append head (drop (p .place) out), length-drop (p .place) out))
 
     -- with the header in front
-    module _ (out₁ : List ℕ) (at : ℕ) (same : length out₁ ≡ length out) (front : at ≤ p .place) (bytes : drop at out₁ ≡ head ++ drop (p .place) out) where
+    module _ (out₁ : List ℕ) (at : ℕ) (same : length out₁ ≡ length out) (bytes : drop at out₁ ≡ head ++ drop (p .place) out) where
       in-all : length (head ++ drop (p .place) out) ≡ 32402 - at
-      in-all = ap length (sym bytes) ∙ length-drop at out₁ ∙ ap (λ n. n - at) (same ∙ size)
+      in-all = ap length (sym bytes) ∙ length-drop at out₁ ∙ ap (λ n. n - at) (same ∙ kept-size ∙ size)
 
       pub placed-over : at < 146 → none ≡ of-writing head x
       placed-over h = is-long (omega (arith, h, in-all))
@@ -84,6 +84,6 @@ module _ (head out stack numbers : List ℕ) (p : Pen) (x : Writing) (size : len
       unfolding stands of-writing provided
       placed-at h =
           let l : leb (length (head ++ drop (p .place) out)) max-stream ≡ true =
-          le-leb (length (head ++ drop (p .place) out)) max-stream (omega (arith, h, in-all, front, inner, size)) in
+          le-leb (length (head ++ drop (p .place) out)) max-stream (omega (arith, h, in-all)) in
           let w : of-writing head (stands out stack numbers p) ≡ some (head ++ drop (p .place) out) = rw (fit, l) refl in
           ap some bytes ∙ sym w ∙ sym fit-stands
