@@ -86,7 +86,7 @@ pub fn write(text: &[u8], roles: &[u8], numbers: &[u8], stack: &mut [u8], out: &
     ensures { λ r. ⌜ kept (stands (now (out .exit)) (now (stack .exit)) (now (numbers .entry)) r)
         ≡ within (length (now (out .entry)) - 6)
         (writes-at (now (text .entry)) 0 (now (roles .entry)) (start (held (now (numbers .entry)) (length (now (numbers .entry)))))) ⌝ }
-    ensures { λ r. ⌜ r .place ≤ length (now (out .entry)) ⌝ }
+    ensures { λ r. ⌜ (r .place ≤ length (now (out .entry))) × (r .height ≤ length (now (stack .entry))) ⌝ }
 {
     stack[0] = 0;
     let mut p = Pen {
@@ -111,19 +111,33 @@ pub fn write(text: &[u8], roles: &[u8], numbers: &[u8], stack: &mut [u8], out: &
 }
 
 // The whole stream of a text at the end of the output: the types of parameters in front of what its roles write.
-pub fn stream(text: &[u8], roles: &[u8], numbers: &[u8], offsets: &[usize], types: &[usize], stack: &mut [u8], out: &mut [u8]) -> Placed
+pub fn stream(
+    text: &[u8],
+    roles: &[u8],
+    numbers: &[u8],
+    offsets: &[usize],
+    types: &[usize],
+    stack: &mut [u8],
+    out: &mut [u8],
+) -> Placed
     requires { ⌜ (length (now roles) ≤ length (now text)) × (length (now roles) < length (now stack)) × (length (now out) ≡ 32402) ⌝ }
     requires { ⌜ Rows (now offsets) (now types) ⌝ }
     ensures { λ r. ⌜ placed-in (now (out .exit)) r
         ≡ composed-by (now (offsets .entry)) (now (types .entry)) (now (text .entry)) (now (roles .entry))
         (held (now (numbers .entry)) (length (now (numbers .entry)))) ⌝ }
 {
-    let p = write(text, roles, numbers, stack, out);
-    let place = p.place;
-    if !p.fits {
+    let w = write(text, roles, numbers, stack, out);
+    let front = w.place;
+    if !w.fits {
         return Placed::Over;
     }
-    if place < FRONT {
+    if front <= FRONT {
+        return Placed::Over;
+    }
+    // The count of the first struct's steps still waits.
+    let p = waiting::counted(out, stack, w);
+    let place = p.place;
+    if !p.fits {
         return Placed::Over;
     }
     let at = header::write_header(out, types, offsets, place);
