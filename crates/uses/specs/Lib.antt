@@ -3,3 +3,9 @@ pub mod Lent
 pub mod Seeing
 pub mod SeeingLaws
 pub mod Declaring
+pub mod Tabling
+pub mod PutLaws
+pub mod OffsetLaws
+pub mod LayingLaws
+pub mod TablingLaws
+pub mod TabledLaws

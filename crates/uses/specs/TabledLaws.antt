@@ -5,7 +5,7 @@ use native.Mathlib.Omega.{arith}
 use mathlib.Core.Path.{_≡_, refl, sym, ap, _∙_}
 use mathlib.Core.Bool.{Bool, true, false, _&&_, false≢true}
 use mathlib.Core.List.{List, [], _∷_, map}
-use lib.ListN.{length, getD, length-map}
+use lib.ListN.{length, getD, take, drop, length-map}
 use lib.Seq.{sets}
 use lib.Dec.{leb}
 use borrow.Author.Tests.{leb-true}
@@ -25,7 +25,8 @@ use Rattle.uses.specs.Declaring.{Fronted, Tabled, type-bytes}
 use Rattle.uses.specs.Tabling.{structs-at, pars-at, steps-at, names-first, Front, Laid, tested}
 use Rattle.uses.specs.PutLaws.{put, put-long, put-at-behind, front-put, front-before, front-behind}
 use Rattle.uses.specs.OffsetLaws.{offsets-long, pair-held}
-use Rattle.uses.specs.TablingLaws.{RowOk, row-held, few-pars, few-steps}
+use Rattle.uses.specs.TablingLaws.{row-held, few-pars, few-steps}
+use Rattle.uses.specs.LayingLaws.{mid-long}
 
 -- Tests ------------------------------------------------------------------------------------------
 
@@ -204,14 +205,20 @@ module _ {text roles t : List ℕ} (laid : Laid text roles t) (types : Front t 1
       }
 
 -- with the bytes of types put in
-module _ {text roles t : List ℕ} (m : List ℕ) (laid : Laid text roles t) (many : length m ≡ 128) where
+module _ {text roles t : List ℕ} (m : List ℕ) (laid : Laid text roles t) (kept : length m ≡ length (take 128 (drop 161 t))) where
   room : 161 + 128 ≤ length t
   room = let h = laid .long in omega (arith, h)
 
-  pub laid-typed : Laid text roles (put 161 128 t m)
+  many : length m ≡ 128
+  many = kept ∙ mid-long 161 128 t room
+
+  pub typed-long : length (put 161 128 t m) ≡ length t
+  typed-long = put-long 161 128 t m room many
+
+  laid-typed : Laid text roles (put 161 128 t m)
   laid-typed =
       record {
-        long = put-long 161 128 t m room many ∙ laid .long;
+        long = typed-long ∙ laid .long;
         count = put-at-behind 161 128 t m room many 321 (omega arith) ∙ laid .count;
         structs = front-before 161 128 t m room many 0 16 (structs-at roles) (omega arith) (omega arith) (laid .structs);
         rows = front-before 161 128 t m room many 16 33 (offsets par-byte roles) (omega arith) (omega arith) (laid .rows);
@@ -220,7 +227,8 @@ module _ {text roles t : List ℕ} (m : List ℕ) (laid : Laid text roles t) (ma
         names = λ h. front-behind 161 128 t m room many 289 321 (names-first text roles) (omega arith) (laid .names h);
       }
 
-  pub fill-tabled : Fronted roles → {w r : Bool} (z : List ℕ) → w ≡ tested text roles → w ≡ true → length z ≡ 128
-      → (r ≡ true → m ≡ sets z 0 (type-bytes text roles)) → r ≡ true → Tabled text roles (put 161 128 t m)
-  fill-tabled fr z e f l g h =
-      tabled-all laid-typed (front-put 161 128 t m room many z (type-bytes text roles) (g h) l) fr (few-tested text roles fr e f)
+  pub fill-tabled : Fronted roles → {w r : Bool} → w ≡ tested text roles → w ≡ true
+      → (r ≡ true → m ≡ sets (take 128 (drop 161 t)) 0 (type-bytes text roles)) → r ≡ true → Tabled text roles (put 161 128 t m)
+  fill-tabled fr e f g h =
+      tabled-all laid-typed
+      (front-put 161 128 t m room many (take 128 (drop 161 t)) (type-bytes text roles) (g h) (mid-long 161 128 t room)) fr (few-tested text roles fr e f)

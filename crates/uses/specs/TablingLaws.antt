@@ -1,25 +1,25 @@
--- The tables of a text's declarations: each way through the code that lays and tests them.
-use Prim.Native.Nat.{ℕ, suc, _+_, _-_, _≤_, _<_, min}
+-- The tables of a text's declarations (02 §1): tables that code gathers beside the lent one, and each way through the tests.
+use Prim.Native.Nat.{ℕ, _+_, _-_, _≤_, _<_, min}
 use native.Mathlib.Nat.{min-eq-left, min-eq-right}
 use native.Mathlib.Omega.{arith}
 use mathlib.Core.Path.{_≡_, refl, sym, ap, _∙_}
-use mathlib.Core.Bool.{Bool, true, false, _&&_}
+use mathlib.Core.Bool.{Bool, true, false}
 use mathlib.Core.List.{List, []}
-use lib.ListN.{length, getD, set, take, drop, length-set}
-use lib.Seq.{sets, getD-set-same, getD-set-other}
+use lib.ListN.{length, getD, take}
+use lib.Seq.{sets}
 use lib.Dec.{leb}
 use borrow.Author.Tests.{le-leb, lt-leb, leb-true, leb-false}
-use Rattle.types.specs.Limits.{max-structs, max-params, max-steps, step-names as max-names}
+use Rattle.types.specs.Limits.{max-structs, max-params, max-steps}
 use Rattle.meaning.specs.Finding.{distinct}
 use Rattle.resolve.specs.Named.{names-at}
-use Rattle.resolve.specs.Tables.{struct-byte, places, offsets}
+use Rattle.resolve.specs.Tables.{places, offsets}
 use Rattle.resolve.specs.StandingLaws.{both-parts}
-use Rattle.resolve.specs.Checks.{part-of, row-ok, between-all, rows-ok, narrow, known, types-at, firsts}
-use Rattle.resolve.specs.WellDeclared.{par-byte, step-byte, tables-ok}
+use Rattle.resolve.specs.Checks.{part-of, row-ok, rows-ok, narrow, known, types-at, firsts}
+use Rattle.resolve.specs.WellDeclared.{par-byte, step-byte}
 use Rattle.uses.specs.PartLaws.{part-at}
 use Rattle.uses.specs.Declaring.{Fronted, type-bytes}
-use Rattle.uses.specs.Tabling.{structs-at, pars-at, steps-at, names-first, Front, Gathered, Laid, tested}
-use Rattle.uses.specs.PutLaws.{put, sets-front, put-long, front-put, front-before, front-set}
+use Rattle.uses.specs.Tabling.{structs-at, pars-at, steps-at, names-first, Gathered, Laid, tested}
+use Rattle.uses.specs.PutLaws.{sets-front}
 use Rattle.uses.specs.OffsetLaws.{offsets-long, offsets-last, few-in-rows}
 
 -- Gathered in a table of their own -------------------------------------------------------------
@@ -41,87 +41,31 @@ gathered-all text roles t₀ z {t} {p} {n} {k} long e f h c s =
       stored = λ _. s ∙ ap (λ l. sets t₀ 0 (firsts text [] l)) g;
     }
 
--- Laid one after the other -----------------------------------------------------------------------
+-- the types of parameters, by places in tables of their own
+module _ (text roles z₁ z₂ : List ℕ) {n₁ n₂ : ℕ} {p₁ p₂ : List ℕ} (few : length (structs-at roles) ≤ 16) (slim : length (places 51 54 roles) ≤ 128)
+    (e₁ : n₁ ≡ length (structs-at roles)) (f₁ : p₁ ≡ sets z₁ 0 (structs-at roles)) (m₁ : length z₁ ≡ 16) (e₂ : n₂ ≡ length (places 51 54 roles))
+    (f₂ : p₂ ≡ sets z₂ 0 (places 51 54 roles)) (m₂ : length z₂ ≡ 128) where
+  structs-held : take n₁ p₁ ≡ structs-at roles
+  structs-held = front-held z₁ (structs-at roles) e₁ f₁ (omega (arith, e₁, few, m₁))
 
-module _ (text roles t p₁ p₂ p₃ p₄ : List ℕ) (s k : ℕ) where
-  abbrev with-structs : List ℕ
-  with-structs = put 0 16 t p₁
+  pub structs-few : length (take n₁ p₁) ≤ 16
+  structs-few = let h = ap length structs-held in omega (arith, h, few)
 
-  abbrev with-rows : List ℕ
-  with-rows = put 16 17 with-structs p₂
+  bytes-held : types-at text roles (names-at text (take n₁ p₁)) (take n₂ p₂) ≡ type-bytes text roles
+  bytes-held =
+      ap (λ l. types-at text roles (names-at text l) (take n₂ p₂)) structs-held
+      ∙ ap (types-at text roles (names-at text (structs-at roles)))
+      (front-held z₂ (places 51 54 roles) e₂ f₂ (omega (arith, e₂, slim, m₂)))
 
-  abbrev with-pars : List ℕ
-  with-pars = put 33 128 with-rows p₃
+  pub types-tested : {r : Bool} → r ≡ known (length (take n₁ p₁)) (types-at text roles (names-at text (take n₁ p₁)) (take n₂ p₂))
+      → r ≡ known (length (structs-at roles)) (type-bytes text roles)
+  types-tested e =
+      e ∙ ap (λ l. known (length l) (types-at text roles (names-at text (take n₁ p₁)) (take n₂ p₂))) structs-held
+      ∙ ap (known (length (structs-at roles))) bytes-held
 
-  abbrev with-names : List ℕ
-  with-names = put 289 32 with-pars p₄
-
-  abbrev with-counts : List ℕ
-  with-counts = set (set with-names 321 s) 322 k
-
-  module _ (long : length t ≡ 323) (n₁ : length p₁ ≡ 16) (n₂ : length p₂ ≡ 17) (n₃ : length p₃ ≡ 128) (n₄ : length p₄ ≡ 32) where
-    long₁ : length with-structs ≡ 323
-    long₁ = put-long 0 16 t p₁ (omega (arith, long)) n₁ ∙ long
-
-    long₂ : length with-rows ≡ 323
-    long₂ = put-long 16 17 with-structs p₂ (omega (arith, long₁)) n₂ ∙ long₁
-
-    long₃ : length with-pars ≡ 323
-    long₃ = put-long 33 128 with-rows p₃ (omega (arith, long₂)) n₃ ∙ long₂
-
-    pub long₄ : length with-names ≡ 323
-    long₄ = put-long 289 32 with-pars p₄ (omega (arith, long₃)) n₄ ∙ long₃
-
-    pub long₅ : length with-counts ≡ 323
-    long₅ = length-set (set with-names 321 s) 322 k ∙ length-set with-names 321 s ∙ long₄
-
-    -- what stands before the names stays, and what stands before the counts
-    stays : (c d : ℕ) (v : List ℕ) → c ≤ d → d ≤ 289 → Front with-pars c d v → Front with-counts c d v
-    stays c d v h i f = counted c d v h (omega (arith, i)) (front-before 289 32 with-pars p₄ (omega (arith, long₃)) n₄ c d v h i f)
-      where
-        counted : (c d : ℕ) (v : List ℕ) → c ≤ d → d ≤ 321 → Front with-names c d v → Front with-counts c d v
-        counted c d v h i f = front-set (set with-names 321 s) 322 k c d v h (omega (arith, i)) (front-set with-names 321 s c d v h i f)
-
-    module _ (z₁ z₂ z₃ z₄ : List ℕ) (m₁ : length z₁ ≡ 16) (m₂ : length z₂ ≡ 17) (m₃ : length z₃ ≡ 128) (m₄ : length z₄ ≡ 32)
-        (e₁ : p₁ ≡ sets z₁ 0 (structs-at roles)) (e₂ : p₂ ≡ sets z₂ 0 (offsets par-byte roles)) (e₃ : p₃ ≡ sets z₃ 0 (pars-at roles))
-        (c : s ≡ length (structs-at roles)) (g : Gathered text roles z₄ p₄ k) where
-      laid-structs : Front with-counts 0 16 (structs-at roles)
-      laid-structs =
-          stays 0 16 (structs-at roles) (omega arith) (omega arith)
-          (front-before 33 128 with-rows p₃ (omega (arith, long₂)) n₃ 0 16 (structs-at roles) (omega arith) (omega arith)
-          (front-before 16 17 with-structs p₂ (omega (arith, long₁)) n₂ 0 16 (structs-at roles) (omega arith) (omega arith)
-          (front-put 0 16 t p₁ (omega (arith, long)) n₁ z₁ (structs-at roles) e₁ m₁)))
-
-      laid-rows : Front with-counts 16 33 (offsets par-byte roles)
-      laid-rows =
-          stays 16 33 (offsets par-byte roles) (omega arith) (omega arith)
-          (front-before 33 128 with-rows p₃ (omega (arith, long₂)) n₃ 16 33 (offsets par-byte roles) (omega arith) (omega arith)
-          (front-put 16 17 with-structs p₂ (omega (arith, long₁)) n₂ z₂ (offsets par-byte roles) e₂ m₂))
-
-      laid-pars : Front with-counts 33 161 (pars-at roles)
-      laid-pars =
-          stays 33 161 (pars-at roles) (omega arith) (omega arith)
-          (front-put 33 128 with-rows p₃ (omega (arith, long₂)) n₃ z₃ (pars-at roles) e₃ m₃)
-
-      laid-names : length (steps-at roles) ≤ 128 → Front with-counts 289 321 (names-first text roles)
-      laid-names h =
-          front-set (set with-names 321 s) 322 k 289 321 (names-first text roles) (omega arith) (omega arith)
-          (front-set with-names 321 s 289 321 (names-first text roles) (omega arith) (omega arith)
-          (front-put 289 32 with-pars p₄ (omega (arith, long₃)) n₄ z₄ (names-first text roles) (g .stored h) m₄))
-
-      pub laid-all : Laid text roles with-counts
-      laid-all =
-          record {
-            long = long₅;
-            count =
-                getD-set-other (set with-names 321 s) 322 321 k 0 (λ e. omega (arith, e)) ∙ getD-set-same with-names 321 s 0 (omega (arith, long₄)) ∙ c;
-            structs = laid-structs;
-            rows = laid-rows;
-            pars = laid-pars;
-            names-count =
-                λ h. getD-set-same (set with-names 321 s) 322 k 0 (let i = length-set with-names 321 s in omega (arith, i, long₄)) ∙ g .count h;
-            names = laid-names;
-          }
+  pub types-stored : {t : List ℕ} (t₀ : List ℕ) → t ≡ sets t₀ 0 (types-at text roles (names-at text (take n₁ p₁)) (take n₂ p₂))
+      → t ≡ sets t₀ 0 (type-bytes text roles)
+  types-stored t₀ e = e ∙ ap (sets t₀ 0) bytes-held
 
 -- Tests ------------------------------------------------------------------------------------------
 
