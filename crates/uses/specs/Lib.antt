@@ -9,3 +9,4 @@ pub mod OffsetLaws
 pub mod LayingLaws
 pub mod TablingLaws
 pub mod TabledLaws
+pub mod DeclaringLaws

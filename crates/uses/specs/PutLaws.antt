@@ -1,13 +1,13 @@
 -- A part of a table that was lent and came back with other numbers in it: what stands there then, and what stays.
-use Prim.Native.Nat.{ℕ, _+_, _-_, _≤_, _<_}
+use Prim.Native.Nat.{ℕ, _+_, _-_, _≤_}
 use native.Mathlib.Omega.{arith}
 use mathlib.Core.Path.{_≡_, sym, ap, _∙_}
 use mathlib.Core.List.{List, _++_}
 use lib.ListN.{length, getD, set, take, drop, length-take, length-drop}
-use lib.Seq.{sets, sets-eq, take-at, drop-at, take-append-le, take-take, drop-drop, getD-drop, length-take-le, take-append-seam}
+use lib.Seq.{sets, sets-eq, take-at, drop-at, take-append-le, drop-drop, getD-drop, length-take-le, take-append-seam}
 use borrow.Rule.Slice.PartMut.{same-len-mid}
 use Rattle.resolve.specs.Checks.{part-of}
-use Rattle.uses.specs.PartLaws.{part-part, part-before, part-long}
+use Rattle.uses.specs.PartLaws.{part-part, part-before}
 use Rattle.uses.specs.Tabling.{Front}
 
 -- l with the k places from a on as they are in m

@@ -1,9 +1,9 @@
 -- A table of declarations that passed every test: what stands in it, and the book that can be read of it.
-use Prim.Native.Nat.{ℕ, zero, suc, _+_, _-_, _≤_, _<_, min}
+use Prim.Native.Nat.{ℕ, suc, _+_, _-_, _≤_, _<_}
 use native.Mathlib.Nat.{min-eq-left}
 use native.Mathlib.Omega.{arith}
 use mathlib.Core.Path.{_≡_, refl, sym, ap, _∙_}
-use mathlib.Core.Bool.{Bool, true, false, _&&_, false≢true}
+use mathlib.Core.Bool.{Bool, true, false, _&&_}
 use mathlib.Core.List.{List, [], _∷_, map}
 use lib.ListN.{length, getD, take, drop, length-map}
 use lib.Seq.{sets}
@@ -13,14 +13,14 @@ use Rattle.types.specs.Limits.{max-structs, step-names as max-names}
 use Rattle.syntax.specs.Syntax.{Id}
 use Rattle.meaning.specs.Finding.{distinct}
 use Rattle.resolve.specs.Named.{names-at}
-use Rattle.resolve.specs.Tables.{struct-byte, places, offsets}
+use Rattle.resolve.specs.Tables.{places, offsets}
 use Rattle.resolve.specs.StandingLaws.{both-parts}
-use Rattle.resolve.specs.Checks.{part-of, row-ok, between-all, rows-ok, narrow, known, types-at, firsts}
+use Rattle.resolve.specs.Checks.{part-of, row-ok, between-all, rows-ok, narrow, known, types-at}
 use Rattle.resolve.specs.WellDeclared.{par-byte, step-byte, tables-ok}
 use Rattle.resolve.specs.Using.{Book}
 use Rattle.resolve.specs.Resolved.{cuts, book-at}
 use Rattle.uses.specs.PartLaws.{pair, map-part, part-at, part-part}
-use Rattle.uses.specs.Lent.{structs-of-table, names-of-table, row-start, row-end, book-in, Booked}
+use Rattle.uses.specs.Lent.{structs-of-table, names-of-table, row-start, row-end, book-in}
 use Rattle.uses.specs.Declaring.{Fronted, Tabled, type-bytes}
 use Rattle.uses.specs.Tabling.{structs-at, pars-at, steps-at, names-first, Front, Laid, tested}
 use Rattle.uses.specs.PutLaws.{put, put-long, put-at-behind, front-put, front-before, front-behind}
