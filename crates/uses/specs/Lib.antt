@@ -5,4 +5,5 @@ pub mod SeeingLaws
 pub mod StackLaws
 pub mod BracketLaws
 pub mod ChangeLaws
+pub mod NameLaws
 pub mod Declaring
