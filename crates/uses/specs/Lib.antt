@@ -6,4 +6,5 @@ pub mod StackLaws
 pub mod BracketLaws
 pub mod ChangeLaws
 pub mod NameLaws
+pub mod LoopLaws
 pub mod Declaring
