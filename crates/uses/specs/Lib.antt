@@ -1,5 +1,6 @@
 pub mod PartLaws
 pub mod Lent
+pub mod Declaring
 pub mod Seeing
 pub mod SeeingLaws
 pub mod StackLaws
@@ -7,4 +8,4 @@ pub mod BracketLaws
 pub mod ChangeLaws
 pub mod NameLaws
 pub mod LoopLaws
-pub mod Declaring
+pub mod NumberedLaws
