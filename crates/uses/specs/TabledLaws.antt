@@ -20,7 +20,7 @@ use Rattle.resolve.specs.WellDeclared.{par-byte, step-byte, tables-ok}
 use Rattle.resolve.specs.Using.{Book}
 use Rattle.resolve.specs.Resolved.{cuts, book-at}
 use Rattle.uses.specs.PartLaws.{pair, map-part, part-at, part-part}
-use Rattle.uses.specs.Lent.{structs-of-table, names-of-table, row-start, row-end, book-in}
+use Rattle.uses.specs.Lent.{structs-of-table, names-of-table, row-end, book-in, Rowed}
 use Rattle.uses.specs.Declaring.{Fronted, Tabled, type-bytes}
 use Rattle.uses.specs.Tabling.{structs-at, pars-at, steps-at, names-first, Front, Laid, tested}
 use Rattle.uses.specs.PutLaws.{put, put-long, put-at-behind, front-put, front-before, front-behind}
@@ -173,7 +173,7 @@ module _ {text roles t : List ℕ} (laid : Laid text roles t) (types : Front t 1
   row-at : (k : ℕ) → k ≤ s → getD t (16 + k) 0 ≡ getD (offsets par-byte roles) k 0
   row-at k h = sym (part-at t 16 (17 + s) k (omega (arith, h))) ∙ ap (λ l. getD l k 0) rows-here
 
-  row-here : (k : ℕ) → k < s → (row-start t k ≤ row-end t k) × (row-end t k ≤ row-start t k + 8) × (row-end t k ≤ 128)
+  row-here : (k : ℕ) → k < s → Rowed t k
   unfolding rows-ok
   row-here k h =
       let l = offsets-long par-byte roles in
@@ -185,7 +185,7 @@ module _ {text roles t : List ℕ} (laid : Laid text roles t) (types : Front t 1
       row-held text (pars-at roles) (getD (offsets par-byte roles) k 0) (getD (offsets par-byte roles) (suc k) 0)
       (pair-held row (offsets par-byte roles) (few .rows) k (omega (arith, l, c, h))) in
       let p = few .pars in
-      (omega (arith, e, f, r .up), omega (arith, e, f, r .short), omega (arith, e, f, r .within, p))
+      record { up = omega (arith, e, f, r .up); few = omega (arith, e, f, r .short); inner = omega (arith, e, f, r .within, p) }
 
   pub tabled-all : Tabled text roles t
   tabled-all =
