@@ -1,25 +1,23 @@
 -- Arguments due and open ifs in lent memory (02 §1): one law for each way through the code of brackets, braces and commas.
 use Prim.Native.Nat.{ℕ, zero, suc, _+_, _-_, _≤_, _<_}
 use native.Mathlib.Omega.{arith}
-use native.Mathlib.Numerals.{add-one, sub-one}
+use native.Mathlib.Numerals.{sub-one}
 use mathlib.Core.Path.{_≡_, refl, sym, ap, _∙_}
-use mathlib.Core.List.{List, [], _∷_, map}
-use mathlib.Core.Option.{Option, none, some}
+use mathlib.Core.List.{List, [], _∷_}
+use mathlib.Core.Option.{some}
 use lib.ListN.{length, getD, set, take, drop, length-set, length-map}
 use lib.Seq.{drop-cons}
-use lib.Dec.{eqb}
 use borrow.Author.Tests.{eq-eqb, ne-eqb}
 use Rattle.derive.specs.Held.{held}
 use Rattle.derive.specs.HeldLaws.{held-set, held-push}
 use Rattle.meaning.specs.Meant.{provided}
 use Rattle.resolve.specs.Named.{name-at, names-at}
-use Rattle.resolve.specs.Checks.{part-of}
 use Rattle.resolve.specs.Using.{Use, due, live, last-of, use-goes, use-closes, use-dies, use-opens}
-use Rattle.uses.specs.PartLaws.{up-to, pair, map-drop, mapped-long, part-behind, up-to-more, up-to-long, drop-up-to, last-up-to, last-all}
+use Rattle.uses.specs.PartLaws.{up-to, map-drop, mapped-long, part-behind, up-to-more, up-to-long, drop-up-to, last-up-to, last-all}
 use Rattle.uses.specs.Lent.{use-in, Roomy, passed-in, Next}
 use Rattle.uses.specs.Seeing.{dued, lived}
 use Rattle.uses.specs.declared.Scope.{Scope}
-use Rattle.uses.specs.declared.Passed.the-variants.{Stop, On, Left}
+use Rattle.uses.specs.declared.Passed.the-variants.{Stop, On}
 
 held-top : (k : List ℕ) (d : ℕ) → (d ≡ 0 → ⊥) → held k d ≡ getD k (d - 1) 0 ∷ held k (d - 1)
 unfolding held

@@ -8,11 +8,7 @@ use Rattle.uses.specs.StackLaws.{close-none, close-other, close-one, nex
 use borrow.Author.Needs.{needs}
 use Rattle.uses.proofs.parts.close.Statement.{statement}
 use Rattle.uses.proofs.parts.close.Tie as tie
-use Rattle.uses.proofs.parts.close.Reads as reads
-use Rattle.uses.proofs.parts.close.Lts as lts
-use Rattle.uses.proofs.parts.dued.Reads as dued-reads
 
--- src/parts.rt:56:9
 returns : tie.Need-returns
 returns c =
     (
@@ -20,15 +16,6 @@ returns c =
     λ t l r. next-stop t l (c .before .before .args .c) r,
     )
 
--- src/parts.rt:58:13
-sub-h : tie.Need-sub-h
-sub-h c = search needs
-
--- src/parts.rt:59:13
-shared-slice-read-m : tie.Need-shared-slice-read-m
-shared-slice-read-m c = search needs
-
--- src/parts.rt:61:9
 returns-2 : tie.Need-returns-2
 returns-2 c =
     (
@@ -36,11 +23,6 @@ returns-2 c =
     λ t l r. next-stop t l (c .before .before .before .before .args .c) r,
     )
 
--- src/parts.rt:63:16
-dued-requires : tie.Need-dued-requires
-dued-requires c κs = search needs
-
--- src/parts.rt:48:1
 returns-3 : tie.Need-returns-3
 returns-3 c =
     let at-4 = c .before .before .before .before in
@@ -52,4 +34,4 @@ returns-3 c =
 
 pub close-spec : {M : Type 1} → statement M
 close-spec =
-    tie.close (tie.spec returns sub-h shared-slice-read-m returns-2 dued-requires returns-3)
+    tie.close (tie.spec returns (λ c. search needs) (λ c. search needs) returns-2 (λ c κs. search needs) returns-3)

@@ -9,43 +9,7 @@ use Rattle.uses.specs.StackLaws.{opened, next-lived}
 use borrow.Author.Needs.{needs}
 use Rattle.uses.proofs.parts.open_if.Statement.{statement}
 use Rattle.uses.proofs.parts.open_if.Tie as tie
-use Rattle.uses.proofs.parts.open_if.Reads as reads
-use Rattle.uses.proofs.parts.open_if.Lts as lts
-use Rattle.uses.proofs.parts.lived.Reads as lived-reads
 
--- src/parts.rt:94:13
-sub-n : tie.Need-sub-n
-sub-n c = search needs
-
--- src/parts.rt:96:28
-add-h : tie.Need-add-h
-add-h c = search needs
-
--- src/parts.rt:96:13
-sub-h : tie.Need-sub-h
-sub-h c = search needs
-
--- src/parts.rt:97:16
-cast-stack : tie.Need-cast-stack
-cast-stack c = search needs
-
--- src/parts.rt:97:5
-slice-write-stack : tie.Need-slice-write-stack
-slice-write-stack c = search needs
-
--- src/parts.rt:98:35
-add-lived : tie.Need-add-lived
-add-lived c = search needs
-
--- src/parts.rt:98:16
-lived-requires : tie.Need-lived-requires
-lived-requires c κs = search needs
-
--- src/parts.rt:88:1
-same-length : tie.Need-same-length
-same-length c = search needs
-
--- src/parts.rt:88:1
 returns : tie.Need-returns
 returns c =
     let k = c .before .before .before .args .stack .now in
@@ -62,12 +26,12 @@ pub open-if-spec : {M : Type 1} → statement M
 open-if-spec =
     tie.close
     (tie.spec
-    sub-n
-    add-h
-    sub-h
-    cast-stack
-    slice-write-stack
-    add-lived
-    lived-requires
-    same-length
+    (λ c. search needs)
+    (λ c. search needs)
+    (λ c. search needs)
+    (λ c. search needs)
+    (λ c. search needs)
+    (λ c. search needs)
+    (λ c κs. search needs)
+    (λ c. search needs)
     returns)

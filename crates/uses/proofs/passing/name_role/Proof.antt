@@ -6,19 +6,7 @@ use Rattle.uses.specs.ChangeLaws.{next-seen, name-seen, name-39, name-40
 use borrow.Author.Needs.{needs}
 use Rattle.uses.proofs.passing.name_role.Statement.{statement}
 use Rattle.uses.proofs.passing.name_role.Tie as tie
-use Rattle.uses.proofs.passing.name_role.Reads as reads
-use Rattle.uses.proofs.passing.name_role.Lts as lts
-use Rattle.uses.proofs.looked.seen.Reads as seen-reads
-use Rattle.uses.proofs.passing.begin.Reads as begin-reads
-use Rattle.uses.proofs.passing.declare.Reads as declare-reads
-use Rattle.uses.proofs.passing.left.Reads as left-reads
-use Rattle.uses.proofs.passing.made.Reads as made-reads
 
--- src/passing.rt:155:9
-begin-requires : tie.Need-begin-requires
-begin-requires c κs = search needs
-
--- src/passing.rt:155:9
 returns : tie.Need-returns
 returns c =
     let at-4 = c .before .before .before .before in
@@ -29,7 +17,6 @@ returns c =
     (c .begin .ensures .1 (a .locals .now) (at-4 .before .before .pre .1), (refl, refl)),
     )
 
--- src/passing.rt:158:9
 returns-2 : tie.Need-returns-2
 returns-2 c =
     let at-4 = c .before .before .before .before in
@@ -39,15 +26,6 @@ returns-2 c =
     (next-same (a .tables .now) (a .locals .now) (a .c) (at-4 .before .before .pre .1), (refl, refl)),
     )
 
--- src/passing.rt:161:9
-declare-requires : tie.Need-declare-requires
-declare-requires c κs = search needs
-
--- src/passing.rt:161:9
-same-length : tie.Need-same-length
-same-length c = search needs
-
--- src/passing.rt:161:9
 returns-3 : tie.Need-returns-3
 returns-3 c =
     let at-4 = c .before .before .before .before in
@@ -59,15 +37,6 @@ returns-3 c =
     (c .before .before .declare .ensures .1 .0, (refl, c .before .before .declare .ensures .1 .1)),
     )
 
--- src/passing.rt:164:9
-made-requires : tie.Need-made-requires
-made-requires c κs = search needs
-
--- src/passing.rt:164:9
-same-length-2 : tie.Need-same-length-2
-same-length-2 c = search needs
-
--- src/passing.rt:164:9
 returns-4 : tie.Need-returns-4
 returns-4 c =
     let at-4 = c .before .before .before .before in
@@ -80,15 +49,6 @@ returns-4 c =
     (c .before .before .made .ensures .1 .0 (a .locals .now) (at-12 .pre .1), (c .before .before .made .ensures .1 .1, refl)),
     )
 
--- src/passing.rt:167:9
-made-requires-2 : tie.Need-made-requires-2
-made-requires-2 c κs = search needs
-
--- src/passing.rt:167:9
-same-length-3 : tie.Need-same-length-3
-same-length-3 c = search needs
-
--- src/passing.rt:167:9
 returns-5 : tie.Need-returns-5
 returns-5 c =
     let at-4 = c .before .before .before .before in
@@ -101,19 +61,6 @@ returns-5 c =
     (c .before .before .made2 .ensures .1 .0 (a .locals .now) (at-12 .before .pre .1), (c .before .before .made2 .ensures .1 .1, refl)),
     )
 
--- src/passing.rt:169:13
-seen-requires : tie.Need-seen-requires
-seen-requires c κs = search needs
-
--- src/passing.rt:169:5
-left-requires : tie.Need-left-requires
-left-requires c κs = search needs
-
--- src/passing.rt:146:1
-same-length-4 : tie.Need-same-length-4
-same-length-4 c = search needs
-
--- src/passing.rt:146:1
 returns-6 : tie.Need-returns-6
 returns-6 c =
     let at-4 = c .before .before .before .before in
@@ -129,19 +76,19 @@ pub name-role-spec : {M : Type 1} → statement M
 name-role-spec =
     tie.close
     (tie.spec
-    begin-requires
+    (λ c κs. search needs)
     returns
     returns-2
-    declare-requires
-    same-length
+    (λ c κs. search needs)
+    (λ c. search needs)
     returns-3
-    made-requires
-    same-length-2
+    (λ c κs. search needs)
+    (λ c. search needs)
     returns-4
-    made-requires-2
-    same-length-3
+    (λ c κs. search needs)
+    (λ c. search needs)
     returns-5
-    seen-requires
-    left-requires
-    same-length-4
+    (λ c κs. search needs)
+    (λ c κs. search needs)
+    (λ c. search needs)
     returns-6)
