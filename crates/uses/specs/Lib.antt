@@ -15,3 +15,4 @@ pub mod LayingLaws
 pub mod TablingLaws
 pub mod TabledLaws
 pub mod NumberedLaws
+pub mod DeclaringLaws

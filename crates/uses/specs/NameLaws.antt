@@ -222,15 +222,14 @@ module _ (x t l : List ℕ) (c : Scope) (r : Roomy t l c) (at : ℕ) (q : Bool)
     unfolding passed-in use-in live leave
     stored h =
         let less : c .living - c .fresh < 8 = omega (arith, r .living, h) in
-        rw
-        (
+        rw (
           met-stored l (r .long) at (c .met) (c .living - c .fresh) (c .typ) h less,
           living-stored l (r .long) at (c .met) (c .living - c .fresh) (c .typ) h less,
           numbers-stored l (r .long) at (c .met) (c .living - c .fresh) (c .typ) h less,
           bytes-stored l (r .long) at (c .met) (c .living - c .fresh) (c .typ) h less,
           rest-names x l k o c r,
           rest x l k o c r 24 (omega arith),
-          rest x l k o c r 32 (omega arith)
+          rest x l k o c r 32 (omega arith),
         )
         refl
 

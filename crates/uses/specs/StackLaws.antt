@@ -72,18 +72,17 @@ module _ (t l : List ℕ) (c : Scope) (r : Roomy t l c) where
 
   pub next-lived : (m n b : ℕ) → m ≤ 8 → n ≤ m → n ≤ c .living → b ≤ c .bodies + 1 → Next t l c (On (lived c m n b))
   unfolding Next lived
-  next-lived m n b g h i j =
-      (
-        record {
-          long = r .long;
-          begun = r .begun;
-          met = g;
-          living = h;
-          fresh = omega arith;
-          small = λ p q s. r .small p (omega (arith, q, i)) s;
-        },
-        omega arith
-      )
+  next-lived m n b g h i j = (
+    record {
+      long = r .long;
+      begun = r .begun;
+      met = g;
+      living = h;
+      fresh = omega arith;
+      small = λ p q s. r .small p (omega (arith, q, i)) s;
+    },
+    omega arith,
+  )
 
 -- Arguments --------------------------------------------------------------------------------------
 
@@ -188,12 +187,11 @@ module _ (x l k o : List ℕ) (c : Scope) {t : List ℕ} (r : Roomy t l c) where
         let a = r .living in
         let b = r .met in
         let e = r .long in
-        rw
-        (
+        rw (
           up-to-top k (c .bodies) n fits,
           last-names height (omega (arith, h)),
           last-up-to l 24 (c .living) height (omega (arith, h)) (omega (arith, a, b)) (omega (arith, e)),
-          last-up-to l 32 (c .living) height (omega (arith, h)) (omega (arith, a, b)) (omega (arith, e))
+          last-up-to l 32 (c .living) height (omega (arith, h)) (omega (arith, a, b)) (omega (arith, e)),
         )
         refl
 
@@ -206,11 +204,10 @@ module _ (x l k o : List ℕ) (c : Scope) {t : List ℕ} (r : Roomy t l c) where
         let e = r .long in
         let f = up-to-long l 24 (c .living) (omega (arith, a, b)) (omega (arith, e)) in
         let g = up-to-long l 32 (c .living) (omega (arith, a, b)) (omega (arith, e)) in
-        rw
-        (
+        rw (
           up-to-top k (c .bodies) n fits,
           last-all (names-at x (up-to l 16 (c .living))) height (omega (arith, h, names-long)),
           last-all (up-to l 24 (c .living)) height (omega (arith, h, f)),
-          last-all (up-to l 32 (c .living)) height (omega (arith, h, g))
+          last-all (up-to l 32 (c .living)) height (omega (arith, h, g)),
         )
         refl

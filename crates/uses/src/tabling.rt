@@ -91,7 +91,11 @@ fn well(text: &[u8], roles: &[u8], table: &[usize]) -> bool
     if n > MANY {
         return false;
     }
-    if !declarations::rows_ok(text, &table[PARS..PARS + n], &table[OFFSETS..OFFSETS + 1 + s]) {
+    if !declarations::rows_ok(
+        text,
+        &table[PARS..PARS + n],
+        &table[OFFSETS..OFFSETS + 1 + s],
+    ) {
         return false;
     }
     if !few_steps(roles, s) {

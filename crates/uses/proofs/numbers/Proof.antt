@@ -30,8 +30,8 @@ returns-2 c =
     let at-16 = at-12 .before .before .before .before in
     let at-20 = at-16 .before .before .before .before in
     let tabled = at-12 .before .fill .ensures .1 .0 (not-false _ (at-8 .before .before .if1 .left)) in (
-    numbers-passed (at-20 .args .text .now) (at-20 .args .roles .now) (at-12 .before .fill .ensures .0) _ _ _ (not-false _ (at-8 .before .before .if1 .left)) (tabled .book) (at-4 .before .uses .ensures .0),
-    counted-with _ _ _ (at-4 .before .uses .ensures .1 .0) tabled,
+      numbers-passed (at-20 .args .text .now) (at-20 .args .roles .now) (at-12 .before .fill .ensures .0) _ _ _ (not-false _ (at-8 .before .before .if1 .left)) (tabled .book) (at-4 .before .uses .ensures .0),
+      counted-with _ _ _ (at-4 .before .uses .ensures .1 .0) tabled,
     )
 
 pub numbers-spec : {M : Type 1} → statement M

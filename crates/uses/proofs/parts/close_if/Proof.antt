@@ -11,11 +11,10 @@ use Rattle.uses.proofs.parts.close_if.Statement.{statement}
 use Rattle.uses.proofs.parts.close_if.Tie as tie
 
 returns : tie.Need-returns
-returns c =
-    (
-    λ x t l o r. shut-none x l (c .before .before .args .stack .now) o (c .before .before .args .c) r (c .if1 .taken),
-    λ t l r. next-stop t l (c .before .before .args .c) r,
-    )
+returns c = (
+  λ x t l o r. shut-none x l (c .before .before .args .stack .now) o (c .before .before .args .c) r (c .if1 .taken),
+  λ t l r. next-stop t l (c .before .before .args .c) r,
+)
 
 cast-n : tie.Need-cast-n
 cast-n c =
@@ -26,9 +25,9 @@ returns-2 c =
     let at-4 = c .before .before .before .before in
     let k = at-4 .before .args .stack .now in
     let s = at-4 .before .args .c in (
-    λ x t l o r. ap (λ d. passed-in x l k (On d) o) (c .lived .ensures) ∙ shut-less x l k o s r (c .before .before .before .if1 .left) (at-4 .before .pre) (c .before .if2 .taken),
-    λ t l r. rw (c .lived .ensures) (next-lived t l s r (s .met) (getD k (length k - s .bodies) 0) (s .bodies - 1) (r .met) (omega (arith, r .living, c .before .if2 .taken))
-    (omega (arith, c .before .if2 .taken)) (omega arith)),
+      λ x t l o r. ap (λ d. passed-in x l k (On d) o) (c .lived .ensures) ∙ shut-less x l k o s r (c .before .before .before .if1 .left) (at-4 .before .pre) (c .before .if2 .taken),
+      λ t l r. rw (c .lived .ensures) (next-lived t l s r (s .met) (getD k (length k - s .bodies) 0) (s .bodies - 1) (r .met) (omega (arith, r .living, c .before .if2 .taken))
+          (omega (arith, c .before .if2 .taken)) (omega arith)),
     )
 
 returns-3 : tie.Need-returns-3
@@ -36,8 +35,8 @@ returns-3 c =
     let at-4 = c .before .before .before .before in
     let k = at-4 .before .args .stack .now in
     let s = at-4 .before .args .c in (
-    λ x t l o r. ap (λ d. passed-in x l k (On d) o) (c .lived2 .ensures) ∙ shut-all x l k o s r (c .before .before .before .if1 .left) (at-4 .before .pre) (c .before .if2 .left),
-    λ t l r. rw (c .lived2 .ensures) (next-lived t l s r (s .met) (s .living) (s .bodies - 1) (r .met) (r .living) (omega arith) (omega arith)),
+      λ x t l o r. ap (λ d. passed-in x l k (On d) o) (c .lived2 .ensures) ∙ shut-all x l k o s r (c .before .before .before .if1 .left) (at-4 .before .pre) (c .before .if2 .left),
+      λ t l r. rw (c .lived2 .ensures) (next-lived t l s r (s .met) (s .living) (s .bodies - 1) (r .met) (r .living) (omega arith) (omega arith)),
     )
 
 pub close-if-spec : {M : Type 1} → statement M

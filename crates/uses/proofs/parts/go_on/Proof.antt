@@ -8,25 +8,22 @@ use Rattle.uses.proofs.parts.go_on.Statement.{statement}
 use Rattle.uses.proofs.parts.go_on.Tie as tie
 
 returns : tie.Need-returns
-returns c =
-    (
-    λ x l o. go-none x l (c .before .args .stack .now) o (c .before .args .c) (c .if1 .taken),
-    (λ t l r. next-stop t l (c .before .args .c) r, refl),
-    )
+returns c = (
+  λ x l o. go-none x l (c .before .args .stack .now) o (c .before .args .c) (c .if1 .taken),
+  (λ t l r. next-stop t l (c .before .args .c) r, refl),
+)
 
 returns-2 : tie.Need-returns-2
-returns-2 c =
-    (
-    λ x l o. go-zero x l (c .before .before .before .args .stack .now) o (c .before .before .before .args .c) (c .before .before .if1 .left) (c .if2 .taken),
-    (λ t l r. next-stop t l (c .before .before .before .args .c) r, refl),
-    )
+returns-2 c = (
+  λ x l o. go-zero x l (c .before .before .before .args .stack .now) o (c .before .before .before .args .c) (c .before .before .if1 .left) (c .if2 .taken),
+  (λ t l r. next-stop t l (c .before .before .before .args .c) r, refl),
+)
 
 returns-3 : tie.Need-returns-3
-returns-3 c =
-    (
-    λ x l o. go-one x l (c .before .before .before .args .stack .now) o (c .before .before .before .args .c) (c .before .before .if1 .left) (c .if2 .left) (c .before .before .before .pre),
-    (λ t l r. next-same t l (c .before .before .before .args .c) r, length-set (c .before .before .before .args .stack .now) (c .before .before .before .args .c .dues - 1) (getD (c .before .before .before .args .stack .now) (c .before .before .before .args .c .dues - 1) 0 - 1)),
-    )
+returns-3 c = (
+  λ x l o. go-one x l (c .before .before .before .args .stack .now) o (c .before .before .before .args .c) (c .before .before .if1 .left) (c .if2 .left) (c .before .before .before .pre),
+  (λ t l r. next-same t l (c .before .before .before .args .c) r, length-set (c .before .before .before .args .stack .now) (c .before .before .before .args .c .dues - 1) (getD (c .before .before .before .args .stack .now) (c .before .before .before .args .c .dues - 1) 0 - 1)),
+)
 
 pub go-on-spec : {M : Type 1} → statement M
 go-on-spec =

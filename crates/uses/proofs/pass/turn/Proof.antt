@@ -15,8 +15,8 @@ returns c =
     let a = at-4 .before .args in
     let l = a .locals .now in
     let k = a .stack .now in (
-    λ o. place-none (book-in (a .text .now) (a .tables .now)) (a .role) (drop (a .at) (a .text .now)) (use-in (a .text .now) l k (a .c) o) (c .if1 .taken),
-    (next-same (a .tables .now) l (a .c) (at-4 .before .pre .1), (refl, refl)),
+      λ o. place-none (book-in (a .text .now) (a .tables .now)) (a .role) (drop (a .at) (a .text .now)) (use-in (a .text .now) l k (a .c) o) (c .if1 .taken),
+      (next-same (a .tables .now) l (a .c) (at-4 .before .pre .1), (refl, refl)),
     )
 
 returns-2 : tie.Need-returns-2
@@ -27,9 +27,9 @@ returns-2 c =
     let a = at-12 .args in
     let l = a .locals .now in
     let k = a .stack .now in (
-    λ o. at-4 .use-at .ensures .0 o
-    ∙ place-some (book-in (a .text .now) (a .tables .now)) (a .role) (drop (a .at) (a .text .now)) (use-in (a .text .now) l k (a .c) o) (at-4 .before .before .before .if1 .left),
-    at-4 .use-at .ensures .1,
+      λ o. at-4 .use-at .ensures .0 o
+          ∙ place-some (book-in (a .text .now) (a .tables .now)) (a .role) (drop (a .at) (a .text .now)) (use-in (a .text .now) l k (a .c) o) (at-4 .before .before .before .if1 .left),
+      at-4 .use-at .ensures .1,
     )
 
 pub turn-spec : {M : Type 1} → statement M

@@ -61,9 +61,9 @@ returns c =
     let at-16 = at-12 .before .before .before .before in
     let a = at-16 .before .before .args in
     let inv = at-8 .before .before .before .loop .inv in (
-    reached-stop (a .text .now) (a .roles .now) (a .tables .now) (a .locals .now) (a .stack .now) (a .numbers .now) (at-16 .before .before .pre .1 .0) inv (at-8 .before .before .loop-test .taken)
-    _ _ _ (at-4 .before .before .turn .ensures .0) (at-4 .before .before .turn .ensures .1 .0) (at-4 .before .before .turn .ensures .1 .1) _ (c .enum-told .given .1),
-    (tt, (at-4 .before .before .turn .ensures .1 .1 .0 ∙ inv .stack, at-4 .before .before .turn .ensures .1 .1 .1 ∙ inv .locals, inv .numbers)),
+      reached-stop (a .text .now) (a .roles .now) (a .tables .now) (a .locals .now) (a .stack .now) (a .numbers .now) (at-16 .before .before .pre .1 .0) inv (at-8 .before .before .loop-test .taken)
+          _ _ _ (at-4 .before .before .turn .ensures .0) (at-4 .before .before .turn .ensures .1 .0) (at-4 .before .before .turn .ensures .1 .1) _ (c .enum-told .given .1),
+      (tt, (at-4 .before .before .turn .ensures .1 .1 .0 ∙ inv .stack, at-4 .before .before .turn .ensures .1 .1 .1 ∙ inv .locals, inv .numbers)),
     )
 
 loop-less : tie.Need-loop-less Inv-loop μ-loop
@@ -131,8 +131,8 @@ returns-2 c =
     let at-8 = at-4 .before .before .before .before in
     let a = at-8 .args in
     let inv = c .before .loop .inv in (
-    reached-end (a .text .now) (a .roles .now) (a .tables .now) (a .locals .now) (a .stack .now) (a .numbers .now) (at-8 .pre .1 .0) inv (c .loop-test .left),
-    ((omega (arith, inv .few, inv .inner, inv .numbers, at-8 .pre .1 .2), tt), (inv .stack, inv .locals, inv .numbers)),
+      reached-end (a .text .now) (a .roles .now) (a .tables .now) (a .locals .now) (a .stack .now) (a .numbers .now) (at-8 .pre .1 .0) inv (c .loop-test .left),
+      ((omega (arith, inv .few, inv .inner, inv .numbers, at-8 .pre .1 .2), tt), (inv .stack, inv .locals, inv .numbers)),
     )
 
 pub uses-spec : {M : Type 1} → statement M

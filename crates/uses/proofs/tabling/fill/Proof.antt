@@ -35,10 +35,13 @@ returns-2 c =
     let tested = typed .before .before .before in
     let lay = at-lay tested in
     let m = typed .par-types .last .1 .1 .0 in
-    let is = not-false _ (typed .before .before .if1 .left) in
-    (fill-known _ _ (tested .well .ensures) is (typed .par-types .ensures .0),
-    (fill-tabled m (lay .lay .ensures) (typed .par-types .kept .1 .1 .0) (start lay .pre .1) (tested .well .ensures) is (typed .par-types .ensures .1),
-    typed-long m (lay .lay .ensures) (typed .par-types .kept .1 .1 .0) ∙ lay .lay .kept .1 .1 .0))
+    let is = not-false _ (typed .before .before .if1 .left) in (
+      fill-known _ _ (tested .well .ensures) is (typed .par-types .ensures .0),
+      (
+        fill-tabled m (lay .lay .ensures) (typed .par-types .kept .1 .1 .0) (start lay .pre .1) (tested .well .ensures) is (typed .par-types .ensures .1),
+        typed-long m (lay .lay .ensures) (typed .par-types .kept .1 .1 .0) ∙ lay .lay .kept .1 .1 .0,
+      ),
+    )
 
 pub fill-spec : {M : Type 1} → statement M
 fill-spec =

@@ -42,9 +42,10 @@ returns c =
     let places = lent-places .before .before .before in
     let pre = start (at-structs places) .pre in
     let g = at-structs places .gather .ensures in
-    let h = places .gather2 .ensures in
-    (types-tested _ _ _ _ (pre .0) (pre .1) (g .0) (g .1) refl (h .0) (h .1) refl (typed .types .ensures .0),
-    λ e. types-stored _ _ _ _ (pre .0) (pre .1) (g .0) (g .1) refl (h .0) (h .1) refl _ (typed .types .ensures .1 e))
+    let h = places .gather2 .ensures in (
+      types-tested _ _ _ _ (pre .0) (pre .1) (g .0) (g .1) refl (h .0) (h .1) refl (typed .types .ensures .0),
+      λ e. types-stored _ _ _ _ (pre .0) (pre .1) (g .0) (g .1) refl (h .0) (h .1) refl _ (typed .types .ensures .1 e),
+    )
 
 pub par-types-spec : {M : Type 1} → statement M
 par-types-spec =
