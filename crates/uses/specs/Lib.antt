@@ -2,4 +2,17 @@ pub mod PartLaws
 pub mod Lent
 pub mod Seeing
 pub mod SeeingLaws
+pub mod StackLaws
+pub mod BracketLaws
+pub mod ChangeLaws
+pub mod NameLaws
+pub mod LoopLaws
 pub mod Declaring
+pub mod Tabling
+pub mod PutLaws
+pub mod OffsetLaws
+pub mod LayingLaws
+pub mod TablingLaws
+pub mod TabledLaws
+pub mod NumberedLaws
+pub mod DeclaringLaws
