@@ -31,8 +31,10 @@ numbers-requires : tie.Need-numbers-requires
 numbers-requires c κs =
     let s = entry c in let args = s .args in let pre = s .pre .0 in let r = s .pre .1 in (
       (pre .0, pre .2),
-      ((simp length-replicate (omega (arith, pre .0, pre .1)), length-replicate {A = ℕ} 323 0),
-      fronted (args .text .now) (args .roles .now) (r .derivation) (r .stands)),
+      (
+        (simp length-replicate (omega (arith, pre .0, pre .1)), length-replicate {A = ℕ} 323 0),
+        fronted (args .text .now) (args .roles .now) (r .derivation) (r .stands),
+      ),
     )
 
 returns : tie.Need-returns
