@@ -40,7 +40,7 @@ use Rattle.compose.specs.Checks.{checks, stream-behind, numbers-of}
 use Rattle.compose.specs.WritingExpLaws.{written, left}
 use Rattle.compose.specs.WritingLaws.{program-left}
 use Rattle.compose.specs.Fits.{word-value, value-at, writes-at}
-use Rattle.compose.specs.PutLaws.{value-int, value-nat, value-none}
+use Rattle.compose.specs.FitsLaws.{value-int, value-nat, value-none}
 use Rattle.compose.specs.Standing.{InsideToken, Inside}
 
 -- Every literal that is passed is of its type ---------------------------------------------------------
