@@ -1,0 +1,60 @@
+// Reads program text on standard input and writes its image on standard output (02 §1; docs/FORMAT.md, 'Program text'). A text that is refused is told on
+// standard error with its number, and nothing is written.
+
+// One byte more than a text may have, so that a longer one is told from the longest.
+const TEXT: usize = 65537;
+
+const IMAGE: usize = types::PROGRAM_BLOCKS * blocks::BLOCK_SIZE;
+
+fn help() {
+    files::tell(
+        b"audala_text < TEXT > IMAGE\n\
+        \n\
+        Reads a program as text and writes its image: blocks of 512 bytes. A text\n\
+        that is refused is told on standard error as 'refused' and the number, and\n\
+        nothing is written: 15 no token, or a text over 65536 bytes; 16 no\n\
+        derivation; 17 a name, a literal, an argument list or a count. The checker\n\
+        says whether the program is one to run: audala_text < TEXT | audala_list.\n\
+        docs/FORMAT.md has the text's grammar, and says what each number means.\n",
+    );
+}
+
+// The first n blocks of the image, of which there are at most 64.
+fn put(image: &[u8], n: u32) {
+    if n <= 64 {
+        let bytes = 512 * n;
+        let m = io::count(bytes as isize, image);
+        files::output(&image[..m]);
+    }
+}
+
+fn refuse(n: u32) {
+    files::tell(b"refused ");
+    files::tell_number(n as u64);
+    files::tell(b"\n");
+}
+
+// The image of a text, or why there is none.
+fn answer(text: &[u8]) {
+    let mut image = [0u8; IMAGE];
+    let r = read_text::read(text, &mut image);
+    if r.number == 0 {
+        put(&image, r.blocks);
+        return;
+    }
+    refuse(r.number);
+}
+
+fn main() {
+    if os::arg_count() != 1 {
+        help();
+        return;
+    }
+    let mut text = [0u8; TEXT];
+    let r = files::input(&mut text);
+    if !r.done {
+        return;
+    }
+    let n = r.len;
+    answer(&text[..n]);
+}
