@@ -4,7 +4,20 @@ use blocks::Written;
 use composing::Placed;
 use uses::Numbered;
 ghost use mathlib.Core.Path.{_≡_};
-ghost use Rattle.source.specs.TextReader.{text-number, text-blocks, text-output};
+ghost use mathlib.Core.Bool.{true};
+ghost use mathlib.Core.Option.{some};
+ghost use Prim.Native.Nat.{_<_, _≤_};
+ghost use lib.ListN.{length};
+ghost use Rattle.tokens.specs.Scanning.{lex};
+ghost use Rattle.source.specs.Source.{max-text};
+ghost use Rattle.source.specs.TextReader.{of-tokens, text-number, text-blocks, text-output};
+ghost use Rattle.derive.specs.Held.{held};
+ghost use Rattle.resolve.specs.WellDeclared.{tables-ok};
+ghost use Rattle.compose.specs.Composed.{composed};
+ghost use Rattle.uses.specs.Numbering.{Tabled};
+ghost use Rattle.composing.specs.Placing.{placed-in};
+ghost use Rattle.read_text.specs.Ending.{Ending.stopped, ended, answer, left, ending};
+ghost use Rattle.read_text.specs.Roled.{Roled, stream-of};
 
 // 02's numbers: no tokens, no derivation, no program.
 const NO_TOKEN: u32 = 15;
@@ -13,14 +26,14 @@ const NO_DERIVATION: u32 = 16;
 
 const NO_PROGRAM: u32 = 17;
 
-// Bytes of a text at the most; of the largest image; of the longest stream, with room for what is written in front of it before it is measured.
+// Bytes of a text at the most; of the largest image; of memory for the longest stream and what is in front of it before it is measured.
 const MAX_TEXT: usize = 65536;
 
 const OUTPUT: usize = types::PROGRAM_BLOCKS * blocks::BLOCK_SIZE;
 
 const STREAM: usize = 32402;
 
-// Places of the tables of declarations: in all; where the offsets of structs' parameters begin, the bytes of their types, the count of structs.
+// Places of the tables of declarations: in all; where the offsets of structs' parameters begin, the bytes of their types; the count of structs.
 const TABLES: usize = 323;
 
 const OFFSETS: usize = 16;
@@ -35,11 +48,13 @@ pub struct Answer {
     pub blocks: u32,
 }
 
-fn refused(number: u32) -> Answer {
+fn refused(number: u32) -> Answer
+    ensures { λ r. ⌜ r ≡ answer (stopped number) ⌝ }
+{
     Answer { number, blocks: 0 }
 }
 
-// The stream of a text by its tables, at the end of the lent memory.
+// The stream of a text by its tables of declarations, at the end of the lent memory.
 fn composed(
     text: &[u8],
     roles: &[u8],
@@ -47,10 +62,14 @@ fn composed(
     tables: &[usize],
     stack: &mut [u8],
     stream: &mut [u8],
-) -> Placed {
-    let k = tables[STRUCT_COUNT];
+) -> Placed
+    requires { ⌜ (length (now roles) ≤ length (now text)) × (length (now roles) < length (now stack)) × (length (now stream) ≡ 32402) ⌝ }
+    requires { ⌜ (Roled (now text) (now roles)) × (tables-ok (now text) (now roles) ≡ true) × (Tabled (now text) (now roles) (now tables)) ⌝ }
+    ensures { λ r. ⌜ placed-in (now (stream .exit)) r
+        ≡ composed (now (text .entry)) (now (roles .entry)) (held (now (numbers .entry)) (length (now (numbers .entry)))) ⌝ }
+{
     let first = OFFSETS;
-    let last = first + k;
+    let last = first + tables[STRUCT_COUNT];
     let end = last + 1;
     let types = TYPES;
     let types_end = types + tables[last];
@@ -66,7 +85,11 @@ fn composed(
 }
 
 // A stream in blocks from the start of the output, where that has room for the largest image (13).
-fn imaged(stream: &[u8], out: &mut [u8]) -> Answer {
+fn imaged(stream: &[u8], out: &mut [u8]) -> Answer
+    requires { ⌜ (1 ≤ length (now stream)) × (length (now stream) ≤ 32256) ⌝ }
+    ensures { λ r. ⌜ r ≡ answer (ended (some (now (stream .entry))) (now (out .entry))) ⌝ }
+    ensures { λ _. ⌜ now (out .exit) ≡ left (ended (some (now (stream .entry))) (now (out .entry))) (now (out .entry)) ⌝ }
+{
     if out.len() < OUTPUT {
         return refused(types::number::NO_ROOM as u32);
     }
@@ -81,35 +104,51 @@ fn imaged(stream: &[u8], out: &mut [u8]) -> Answer {
 }
 
 // Behind a derivation, by the roles that it gives the tokens: 17, 13, or the image.
-fn meant(text: &[u8], roles: &[u8], stack: &mut [u8], out: &mut [u8]) -> Answer {
+fn meant(text: &[u8], roles: &[u8], stack: &mut [u8], out: &mut [u8]) -> Answer
+    requires { ⌜ (length (now roles) ≡ length (now text)) × (length (now text) ≤ max-text) × (length (now roles) < length (now stack)) ⌝ }
+    requires { ⌜ Roled (now text) (now roles) ⌝ }
+    ensures { λ r. ⌜ r ≡ answer (ended (stream-of (now (text .entry)) (now (roles .entry))) (now (out .entry))) ⌝ }
+    ensures { λ _. ⌜ now (out .exit) ≡ left (ended (stream-of (now (text .entry)) (now (roles .entry))) (now (out .entry))) (now (out .entry)) ⌝ }
+{
     let mut numbers = [0u8; MAX_TEXT];
     let mut tables = [0usize; TABLES];
-    let Numbered::Count(n) = uses::numbers(text, roles, &mut tables, stack, &mut numbers) else {
+    let names = uses::numbers(text, roles, &mut tables, stack, &mut numbers);
+    let Numbered::Count(n) = names else {
         return refused(NO_PROGRAM);
     };
     let mut stream = [0u8; STREAM];
-    let Placed::At(p) = composed(text, roles, &numbers[..n], &tables, stack, &mut stream) else {
+    let placed = composed(text, roles, &numbers[..n], &tables, stack, &mut stream);
+    let Placed::At(p) = placed else {
         return refused(NO_PROGRAM);
     };
     imaged(&stream[p..], out)
 }
 
-// A text: 15, 16, 17 and 13 in order, or its program's image from the start of the output.
+// A text, in memory for the kinds of its tokens and then their roles: 15, 16, 17 and 13 in order, or the image.
+fn passes(text: &[u8], kinds: &mut [u8], stack: &mut [u8], out: &mut [u8]) -> Answer
+    requires { ⌜ (length (now kinds) ≡ length (now text)) × (length (now text) ≤ max-text) × (length (now text) < length (now stack)) ⌝ }
+    ensures { λ r. ⌜ r ≡ answer (ending (of-tokens (lex 0 (now (text .entry))) (now (out .entry)))) ⌝ }
+    ensures { λ _. ⌜ now (out .exit) ≡ left (ending (of-tokens (lex 0 (now (text .entry))) (now (out .entry)))) (now (out .entry)) ⌝ }
+{
+    if !lexer::mark(text, kinds) {
+        return refused(NO_TOKEN);
+    }
+    if !derive::derived(kinds, stack) {
+        return refused(NO_DERIVATION);
+    }
+    meant(text, kinds, stack, out)
+}
+
+// A text: the number of its refusal, or its program's image from the start of the output.
 pub fn read(text: &[u8], out: &mut [u8]) -> Answer
     ensures { λ r. ⌜ (r .number ≡ text-number (now (text .entry)) (now (out .entry))) × (r .blocks ≡ text-blocks (now (text .entry)) (now (out .entry))) ⌝ }
     ensures { λ _. ⌜ now (out .exit) ≡ text-output (now (text .entry)) (now (out .entry)) ⌝ }
 {
-    if MAX_TEXT < text.len() {
-        return refused(NO_TOKEN);
-    }
     let n = text.len();
-    let mut kinds = [0u8; MAX_TEXT];
-    if !lexer::mark(text, &mut kinds[..n]) {
+    if MAX_TEXT < n {
         return refused(NO_TOKEN);
     }
+    let mut kinds = [0u8; MAX_TEXT];
     let mut stack = [0u8; MAX_TEXT + 1];
-    if !derive::derived(&mut kinds[..n], &mut stack) {
-        return refused(NO_DERIVATION);
-    }
-    meant(text, &kinds[..n], &mut stack, out)
+    passes(text, &mut kinds[..n], &mut stack, out)
 }
