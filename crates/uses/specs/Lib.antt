@@ -1,2 +1,4 @@
 pub mod PartLaws
 pub mod Lent
+pub mod Seeing
+pub mod Declaring
