@@ -8,6 +8,8 @@
 #                                        as many texts, in chunks, answered by
 #                                        both; OTHER... reads cases, prints lines
 set -euo pipefail
+# files in the same order everywhere
+export LC_ALL=C
 
 here=$(cd "$(dirname "$0")" && pwd)
 # the proved engine's program, which rt hands the same cases
@@ -26,6 +28,22 @@ build() {
     trap 'rm -rf "$work"' EXIT
 }
 
+# a number as four bytes, the lowest first
+four() {
+    printf "$(printf '\\x%02x\\x%02x\\x%02x\\x%02x' $(($1 & 255)) $(($1 >> 8 & 255)) $(($1 >> 16 & 255)) $(($1 >> 24 & 255)))"
+}
+
+# each text of examples/ as a case, with the output that an image needs
+examples() {
+    local text
+    for text in "$here"/../examples/*.audala "$here"/../examples/texts/*.audala; do
+        printf '\x03'
+        four 32768
+        four "$(wc -c <"$text")"
+        cat "$text"
+    done
+}
+
 make_committed() {
     {
         "$second" edges
@@ -35,6 +53,7 @@ make_committed() {
     {
         "$second" texts
         "$second" texts 1 200
+        examples
     } >"$work/texts.bin"
     "$second" <"$work/texts.bin" >"$work/texts.txt"
 }
