@@ -11,15 +11,14 @@ use mathlib.Core.Option.{some}
 use lib.ListN.{length, getD, take, drop, length-append, length-map}
 use lib.Seq.{slice, take-nil, drop-drop, take-at, drop-at}
 use lib.Dec.{leb, ltb}
-use borrow.Author.Tests.{leb-true, ltb-true}
-use Rattle.types.specs.Limits.{max-structs, max-params, step-names as max-names}
+use borrow.Author.Tests.{ltb-true}
+use Rattle.types.specs.Limits.{max-structs, max-params}
 use Rattle.types.specs.Types.{Ty, code, struct-code}
 use Rattle.program.specs.Counts.{All}
 use Rattle.program.specs.Encoding.{flat, enc-list}
 use Rattle.tokens.specs.ByteLaws.{both-true}
 use Rattle.syntax.specs.Syntax.{Id, TypeName, Par, Struct, Defs, Sched, Program.program}
 use Rattle.meaning.specs.Scope.{par-id, par-type, struct-id, pars-of, structs-of}
-use Rattle.meaning.specs.StepNames.{step-names}
 use Rattle.meaning.specs.Finding.{distinct}
 use Rattle.meaning.specs.HoldsDecide.{all}
 use Rattle.derive.specs.Roles.{roles}
@@ -31,8 +30,8 @@ use Rattle.resolve.specs.Checks.{byte-of, types-at, known}
 use Rattle.resolve.specs.Standing.{Stood}
 use Rattle.resolve.specs.PlacesLaws.{rows-stand, types-stand}
 use Rattle.resolve.specs.DeclarationLaws.{row-bytes}
-use Rattle.resolve.specs.WellDeclared.{few-named, few-stepped, par-byte, well-declared, tables-ok}
-use Rattle.resolve.specs.WellDeclaredLaws.{struct-names, tables-tested}
+use Rattle.resolve.specs.WellDeclared.{few-named, par-byte, well-declared, tables-ok}
+use Rattle.resolve.specs.WellDeclaredLaws.{struct-names, tables-tested, declared-few}
 use Rattle.compose.specs.Header.{parts, row-of, header, Rows}
 use Rattle.compose.specs.Composed.{type-bytes}
 
@@ -74,34 +73,13 @@ count d = length (pars-of d)
 abbrev counts : List Struct → List ℕ
 counts ds = map count ds
 
-pub record Few (ds : List Struct) : Type 0 where
-  pub structs : length ds ≤ max-structs
-  pub parameters : All (λ d. length (pars-of d) ≤ max-params) ds
-  pub types : known (length ds) (map (byte-of (map struct-id ds)) (map par-type (all-pars ds))) ≡ true
-  pub names : length (step-names ds) ≤ max-names
-
-few-rows : (l : List Struct) → all few-named l ≡ true → All (λ d. length (pars-of d) ≤ max-params) l
-unfolding all few-named
-few-rows [] e = tt
-few-rows (d ∷ l) e =
-    let b = both-true (few-named d) (all few-named l) e in
-    let n = both-true (leb (count d) max-params) (distinct (map par-id (pars-of d))) (b .0) in
-    (leb-true (count d) max-params (n .0), few-rows l (b .1))
-
-pub declared-few : (ds : List Struct) → well-declared ds ≡ true → Few ds
+types-known : (ds : List Struct) → well-declared ds ≡ true → known (length ds) (map (byte-of (map struct-id ds)) (map par-type (all-pars ds))) ≡ true
 unfolding well-declared
-declared-few ds e =
+types-known ds e =
     let a = both-true (leb (length ds) max-structs) _ e in
     let b = both-true (distinct (map struct-id ds)) _ (a .1) in
     let c = both-true (all few-named ds) _ (b .1) in
-    let f = both-true (known (length ds) (map (byte-of (map struct-id ds)) (map par-type (all-pars ds)))) _ (c .1) in
-    let g = both-true (all few-stepped ds) (leb (length (step-names ds)) max-names) (f .1) in
-    record {
-      structs = leb-true (length ds) max-structs (a .0);
-      parameters = few-rows ds (c .0);
-      types = f .0;
-      names = leb-true (length (step-names ds)) max-names (g .1);
-    }
+    both-true (known (length ds) (map (byte-of (map struct-id ds)) (map par-type (all-pars ds)))) _ (c .1) .0
 
 -- Rows -------------------------------------------------------------------------------------------------------
 
@@ -121,7 +99,7 @@ known-below n [] e i h = absurd (omega arith)
 known-below n (b ∷ l) e zero h = ltb-true b (struct-code + n) (both-true (ltb b (struct-code + n)) _ e .0)
 known-below n (b ∷ l) e (suc i) h = known-below n l (both-true (ltb b (struct-code + n)) _ e .1) i (omega arith)
 
-module _ (ds : List Struct) (few : Few ds) where
+module _ (ds : List Struct) (declared : well-declared ds ≡ true) where
   abbrev here : List ℕ
   here = map (byte-of (map struct-id ds)) (map par-type (all-pars ds))
 
@@ -135,15 +113,16 @@ module _ (ds : List Struct) (few : Few ds) where
   next : (k : ℕ) → k + 1 < length (sums 0 (counts ds)) → getD (sums 0 (counts ds)) (k + 1) 0 ≡ getD (sums 0 (counts ds)) k 0 + getD (counts ds) k 0
   next k h = ap (λ n. getD (sums 0 (counts ds)) n 0) (add-one k) ∙ sums-next (counts ds) 0 k (omega (arith, h, long, length-map ds count))
 
-  pub rows-few : Rows (sums 0 (counts ds)) here
-  rows-few =
+  pub rows-declared : Rows (sums 0 (counts ds)) here
+  rows-declared =
+      let few = declared-few ds declared in
       record {
         some = omega (arith, long);
         few = omega (arith, long, few .structs);
         up = λ k h. omega (arith, next k h);
-        narrow = λ k h. omega (arith, next k h, few-counted ds k (few .parameters) (omega (arith, h, long, length-map ds count)));
+        narrow = λ k h. omega (arith, next k h, few-counted ds k (few .params) (omega (arith, h, long, length-map ds count)));
         inside = λ k h. omega (arith, sums-within (counts ds) 0 (k + 1) (omega (arith, h, long, length-map ds count)), bytes-long);
-        bytes = λ i h. omega (arith, known-below (length ds) here (few .types) i h, few .structs);
+        bytes = λ i h. omega (arith, known-below (length ds) here (types-known ds declared) i h, few .structs);
       }
 
 -- The header --------------------------------------------------------------------------------------------------
@@ -213,7 +192,7 @@ module _ (x cs : List ℕ) (d : Defs) (s : Sched) (st : Stood x cs (roles (progr
 
   -- the tables of a text whose declarations are well made are rows
   pub text-rows : tables-ok x cs ≡ true → Rows (offsets par-byte cs) (type-bytes x cs)
-  text-rows e = rw (offsets-are, types-are) (rows-few ds (declared-few ds (sym (tables-tested x cs d s st) ∙ e)))
+  text-rows e = rw (offsets-are, types-are) (rows-declared ds (sym (tables-tested x cs d s st) ∙ e))
 
   header-told : header (offsets par-byte cs) (type-bytes x cs) ≡ enc-list row-of (map (row-bytes ds) ds)
   header-told =

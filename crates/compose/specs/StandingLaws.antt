@@ -71,11 +71,12 @@ module _ (ds : List Struct) (names : List Id) where
   pub passed-inside : (k : List Role) (p q : Pass) → passes ds names k p ≡ some q → All Inside k
   unfolding passes then
   passed-inside [] p q e = tt
-  passed-inside (r ∷ k) p q e = go (pass ds names r p) refl e
+  passed-inside (r ∷ k) p q e = go (pass ds names r p) refl e (λ s g. passed-inside k s q g)
     where
-      go : (o : Option Pass) → pass ds names r p ≡ o → then o (passes ds names k) ≡ some q → All Inside (r ∷ k)
-      go none f g = absurd (never g)
-      go (some s) f g = (role-inside r p s f, passed-inside k s q g)
+      go : (o : Option Pass) → pass ds names r p ≡ o → then o (passes ds names k) ≡ some q
+          → ((s : Pass) → passes ds names k s ≡ some q → All Inside k) → All Inside (r ∷ k)
+      go none f g rec = absurd (never g)
+      go (some s) f g rec = (role-inside r p s f, rec s g)
 
 -- the bytes of names stand behind those of literals
 naming-far : (n : Naming) → 38 < naming-code n

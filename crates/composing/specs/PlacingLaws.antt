@@ -10,6 +10,7 @@ use lib.Dec.{leb}
 use borrow.Author.Tests.{leb-false, le-leb, lt-leb}
 use Rattle.meaning.specs.Holds.{max-stream}
 use Rattle.meaning.specs.Meant.{provided}
+use Rattle.derive.specs.Held.{held}
 use Rattle.compose.specs.Writing.{Writing, Writing.writing}
 use Rattle.compose.specs.Fits.{kept, within}
 use Rattle.compose.specs.Composed.{of-writing}
@@ -56,7 +57,13 @@ module _ (head out stack numbers : List ℕ) (p : Pen) (x : Writing) (size : len
   module _ (fit : p .fits ≡ true) (inner : p .place ≤ length out) where
     fit-stands : of-writing head x ≡ of-writing head (stands out stack numbers p)
     unfolding stands kept
-    fit-stands = ap (of-writing head) (fit-is _ _ _ _ (length out - 6) x (sym state ∙ rw fit refl) ∙ sym (rw fit refl))
+    fit-stands =
+        let whole : kept (stands out stack numbers p) ≡ stands out stack numbers p = rw fit refl in
+        let as-it-is : stands out stack numbers p
+        ≡ writing (drop (p .place) out) (held stack (p .height)) (held numbers (p .left)) (p .later) true = rw fit refl in
+        let found : within (length out - 6) x ≡ writing (drop (p .place) out) (held stack (p .height)) (held numbers (p .left)) (p .later) true =
+        sym state ∙ whole ∙ as-it-is in
+        ap (of-writing head) (fit-is (drop (p .place) out) (held stack (p .height)) (held numbers (p .left)) (p .later) (length out - 6) x found ∙ sym as-it-is)
 
     is-long : max-stream < length (head ++ drop (p .place) out) → none ≡ of-writing head x
     unfolding stands

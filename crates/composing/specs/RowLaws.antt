@@ -39,7 +39,11 @@ module _ (out₀ types out : List ℕ) (place b p : ℕ) where
   pub row-on : (i : ℕ) → RowReached out₀ types out place b p i → 0 < i → b ≤ length types → 0 < p → p ≤ length out
       → RowReached out₀ types (set out (p - 1) (getD types (i - 1) 0)) place b (p - 1) (i - 1)
   row-on zero r k l m n = absurd (omega arith)
-  row-on (suc j) r k l m n = rw sub-one (on j r l m n)
+  row-on (suc j) r k l m n = rw (sub-one (suc j)) (on j r l m n)
+
+  -- down to where it begins
+  pub row-left : (i a : ℕ) → i ≡ a → RowReached out₀ types out place b p i → RowReached out₀ types out place b p a
+  row-left i a e r = rw e at r
 
   -- its count in front
   pub row-end : (a : ℕ) → RowReached out₀ types out place b p a → b ≤ length types → 0 < p → p ≤ length out

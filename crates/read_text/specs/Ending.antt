@@ -27,7 +27,7 @@ unfolding with-room
 ended none out = stopped no-program
 ended (some s) out = with-room (ltb (length out) (block-size * program-blocks)) s
 
-unfoldable pub answer : Ending → Answer
+abbrev pub answer : Ending → Answer
 answer (wrote s) = record { number = 0; blocks = pieces (length s) }
 answer (stopped n) = record { number = n; blocks = 0 }
 

@@ -28,7 +28,7 @@ use Rattle.read_text.specs.declared.Answer.{Answer}
 -- Of an outcome ----------------------------------------------------------------------------------
 
 pub answered : (o : Outcome) → (answer (ending o) .number ≡ number-of o) × (answer (ending o) .blocks ≡ blocks-of o)
-unfolding answer ending number-of blocks-of
+unfolding ending number-of blocks-of
 answered (written p) = (refl, refl)
 answered (refused n) = (refl, refl)
 
@@ -39,26 +39,28 @@ output-left (refused n) out = refl
 
 -- a program ends as its stream does, where a stream holds it
 pub program-ends : (o : Option Program) (out : List ℕ) → ended (then o (λ p. provided (holds p) (some (enc-program p)))) out ≡ ending (of-program o out)
-unfolding then provided ended ending of-program of-held
+unfolding then provided ended ending with-room of-program of-held of-room
 program-ends none out = refl
 program-ends (some p) out = held (holds p)
   where
     roomy : (b : Bool) → with-room b (enc-program p) ≡ ending (of-room b p)
-    unfolding with-room of-room ending
     roomy true = refl
     roomy false = refl
 
     held : (b : Bool) → ended (provided b (some (enc-program p))) out ≡ ending (of-held b p out)
-    unfolding provided ended ending of-held
     held true = roomy (ltb (length out) (block-size * program-blocks))
     held false = refl
 
 -- Of a stream ------------------------------------------------------------------------------------
 
 module _ (s out : List ℕ) where
-  pub short-ends : length out < 32768 → ended (some s) out ≡ stopped no-room
+  short-ends : length out < 32768 → ended (some s) out ≡ stopped no-room
   unfolding ended with-room
   short-ends h = rw (lt-ltb (length out) 32768 h, with-room) refl
+
+  pub short-told : length out < 32768 → (answer (stopped no-room) ≡ answer (ended (some s) out)) × (out ≡ left (ended (some s) out) out)
+  unfolding left
+  short-told h = rw (short-ends h) (refl, refl)
 
   module _ (room : 32768 ≤ length out) (one : 1 ≤ length s) (fits : length s ≤ 32256) where
     room-ends : ended (some s) out ≡ wrote s
@@ -76,7 +78,7 @@ module _ (s out : List ℕ) where
     -- what writing the image answers and leaves
     pub image-ends : (w : Written) (k : ℕ) (o : List ℕ) → w ≡ write 64 (length s) (length out) → w ≡ Blocks k → o ≡ written-into w s out
         → (record { number = 0; blocks = k } ≡ answer (ended (some s) out)) × (o ≡ left (ended (some s) out) out)
-    unfolding answer left written-into image
+    unfolding left written-into image
     image-ends w k o e f g =
         let b : k ≡ pieces (length s) = cc blocks-are in
         rw room-ends (rw b refl, g ∙ rw (f, b, image-length s (pieces (length s))) refl)

@@ -27,17 +27,17 @@ use Rattle.resolve.specs.Checks.{byte-of, types-at}
 use Rattle.resolve.specs.Standing.{Stood}
 use Rattle.resolve.specs.WellDeclared.{par-byte}
 use Rattle.resolve.specs.WellDeclaredLaws.{struct-names}
-use Rattle.compose.specs.Writing.{Writing, Writing.writing, start}
+use Rattle.compose.specs.Writing.{Writing, Writing.writing, start, counted}
 use Rattle.compose.specs.Fits.{writes-at}
 use Rattle.compose.specs.Header.{header}
 use Rattle.compose.specs.Composed.{of-writing, composed-by, type-bytes}
 
 -- what the front n places of numbers hold
 pub held-front : (l : List ℕ) (n : ℕ) → n ≤ length l → held (take n l) (length (take n l)) ≡ held l n
+unfolding held
 held-front l n h = rw (length-take-le n l h) (go n (omega arith))
   where
     go : (k : ℕ) → k ≤ n → held (take n l) k ≡ held l k
-    unfolding held
     go zero b = refl
     go (suc k) b = both (getD-take n l k 0 (omega arith)) (go k (omega arith))
       where
@@ -65,8 +65,8 @@ writing-long head (writing b w n l f) s e =
     (omega arith, omega arith)
 
 pub composed-long : (os ts x cs ns s : List ℕ) → composed-by os ts x cs ns ≡ some s → (1 ≤ length s) × (length s ≤ 32256)
-unfolding composed-by
-composed-long os ts x cs ns s e = let h = writing-long (header os ts) (writes-at x 0 cs (start ns)) s e in (omega (arith, h .0), h .1)
+unfolding composed-by writes-at counted
+composed-long os ts x cs ns s e = let h = writing-long (header os ts) (counted (writes-at x 0 cs (start ns))) s e in (omega (arith, h .0), h .1)
 
 -- The last offset is the count of types ------------------------------------------------------------
 

@@ -1,7 +1,7 @@
 -- 15 and 16 (02 §1): a text that is too long, that does not part into tokens, or whose tokens no derivation yields is refused so; else its roles stand in it.
 use Prim.Native.Nat.{ℕ, _+_, _<_, _≤_}
 use native.Mathlib.Omega.{arith}
-use mathlib.Core.Path.{_≡_, refl, sym, ap, _∙_}
+use mathlib.Core.Path.{_≡_, refl, sym, ap, subst, _∙_}
 use mathlib.Core.Bool.{Bool, true, false, false≢true}
 use mathlib.Core.List.{List, [], _∷_, _++_, map, append-nil}
 use mathlib.Core.Option.{Option, none, some}
@@ -23,6 +23,8 @@ use Rattle.derive.specs.Shape.{Shape.shape, derived}
 use Rattle.derive.specs.KindShapeLaws.{derived-derives}
 use Rattle.derive.specs.RoleMarks.{role-codes, placed}
 use Rattle.derive.specs.RoleMarkLaws.{text-roles}
+use Rattle.derive.specs.Roles.{roles}
+use Rattle.resolve.specs.Standing.{Stood}
 use Rattle.resolve.specs.StandingLaws.{derivation-stands}
 use Rattle.source.specs.Source.{max-text, no-token, no-derivation, Outcome, Outcome.refused}
 use Rattle.source.specs.TextReader.{of-program, of-derivation, of-tokens, of-length, outcome}
@@ -38,19 +40,19 @@ module _ (x out : List ℕ) where
   not-long h = rw (le-ltb max-text (length x) h, of-length) refl
 
   pub no-parts : false ≡ parts x → of-tokens (lex 0 x) out ≡ refused no-token
+  unfolding found of-tokens
   no-parts e = go (lex 0 x) e
     where
       go : (o : Option (List Token)) → false ≡ found o → of-tokens o out ≡ refused no-token
-      unfolding found of-tokens
       go none e = refl
       go (some ts) e = absurd (false≢true e)
 
 -- a text that parts into tokens
 parted : (x : List ℕ) → true ≡ parts x → (ts : List Token) × (lex 0 x ≡ some ts)
+unfolding found
 parted x e = go (lex 0 x) refl e
   where
     go : (o : Option (List Token)) → lex 0 x ≡ o → true ≡ found o → (ts : List Token) × (lex 0 x ≡ some ts)
-    unfolding found
     go none f e = absurd (false≢true (sym e))
     go (some ts) f e = (ts, f)
 
@@ -64,6 +66,7 @@ module _ (x ks₀ ks : List ℕ) (long : length ks₀ ≡ length x) (p : true �
   tokens = parted x p .0
 
   lexed : lex 0 x ≡ some tokens
+  unfolding tokens
   lexed = parted x p .1
 
   marks-are : ks ≡ marks x
@@ -73,11 +76,10 @@ module _ (x ks₀ ks : List ℕ) (long : length ks₀ ≡ length x) (p : true �
   kinds-are = ap kinds-in marks-are ∙ marks-tell x tokens lexed .0
 
   pub underived : false ≡ derived (kinds-in ks) → (out : List ℕ) → of-tokens (lex 0 x) out ≡ refused no-derivation
-  unfolding of-tokens
+  unfolding of-tokens of-derivation
   underived f out = rw (lexed, of-tokens) (go (read tokens) refl)
     where
       go : (o : Option Derivation) → read tokens ≡ o → of-derivation o out ≡ refused no-derivation
-      unfolding of-derivation
       go none g = refl
       go (some c) g = absurd (false≢true (f ∙ ap derived kinds-are ∙ derived-derives tokens .1 (c, derived-exact tokens c .0 g)))
 
@@ -90,7 +92,7 @@ module _ (x ks₀ ks : List ℕ) (long : length ks₀ ≡ length x) (p : true �
         let c = derives .0 in
         let g : cs ≡ placed (marks x) (role-codes (shape 1 []) (kinds-in (marks x))) =
         f ∙ ap (λ l. placed l (role-codes (shape 1 []) (kinds-in l))) marks-are in
-        record { derivation = c; stands = rw (g, text-roles x tokens c lexed (derives .1)) (derivation-stands x tokens c lexed (derives .1)) }
+        record { derivation = c; stands = subst (λ l. Stood x l (roles c)) (sym (g ∙ text-roles x tokens c lexed (derives .1))) (derivation-stands x tokens c lexed (derives .1)) }
 
     pub roled-reads : (out : List ℕ) → of-tokens (lex 0 x) out ≡ of-program (meant (roled .derivation)) out
     unfolding of-tokens of-derivation roled

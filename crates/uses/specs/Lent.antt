@@ -25,8 +25,12 @@ structs-of-table t = getD t 321 0
 abbrev pub names-of-table : List ℕ → ℕ
 names-of-table t = getD t 322 0
 
-abbrev pub offset : List ℕ → ℕ → ℕ
-offset t k = getD t (16 + k) 0
+-- where the row of struct k begins and ends
+abbrev pub row-start : List ℕ → ℕ → ℕ
+row-start t k = getD t (16 + k) 0
+
+abbrev pub row-end : List ℕ → ℕ → ℕ
+row-end t k = getD t (16 + k + 1) 0
 
 unfoldable pub book-in : List ℕ → List ℕ → Book
 unfolding cuts
@@ -43,7 +47,7 @@ pub record Booked (t : List ℕ) : Type 0 where
   pub long : length t ≡ 323
   pub structs : structs-of-table t ≤ 16
   pub names : names-of-table t ≤ 32
-  pub rows : (k : ℕ) → k < structs-of-table t → (offset t k ≤ offset t (1 + k)) × (offset t (1 + k) ≤ offset t k + 8) × (offset t (1 + k) ≤ 128)
+  pub rows : (k : ℕ) → k < structs-of-table t → (row-start t k ≤ row-end t k) × (row-end t k ≤ row-start t k + 8) × (row-end t k ≤ 128)
 
 unfoldable pub use-in : List ℕ → List ℕ → List ℕ → Scope → List ℕ → Use
 unfolding held
@@ -88,7 +92,7 @@ Grown c d = d .dues + d .bodies ≤ c .dues + c .bodies + 1
 unfoldable pub Next : List ℕ → List ℕ → Scope → Passed → Type 0
 Next t l c Stop = Unit {0}
 Next t l c (On d) = Roomy t l d × Grown c d
-Next t l c (Left d n) = Roomy t l d × Grown c d × (n < 256)
+Next t l c (Left d n) = Roomy t l d × Grown c d
 
 -- the numbers that stand in memory, the last one first
 unfoldable pub numbered-in : List ℕ → Numbered → Option (List ℕ)

@@ -1,4 +1,5 @@
 pub mod PartLaws
 pub mod Lent
 pub mod Seeing
+pub mod SeeingLaws
 pub mod Declaring

@@ -26,7 +26,7 @@ pub struct Scope {
 
 // What a name stands for: its number and the byte of a type; or nothing.
 pub enum Seen {
-    Of(usize, usize),
+    Of(u8, usize),
     Nothing,
 }
 
@@ -34,7 +34,7 @@ pub enum Seen {
 pub enum Passed {
     Stop,
     On(Scope),
-    Left(Scope, usize),
+    Left(Scope, u8),
 }
 
 // How many numbers a text's names have; or 17.

@@ -32,14 +32,14 @@ const LIVING: usize = 16;
 
 // The number of a name among those from a to b of a table, and a type's byte.
 pub(crate) fn listed(text: &[u8], table: &[usize], a: usize, b: usize, at: usize, typ: usize) -> Seen
-    requires { ⌜ (a ≤ b) × (b ≤ length (now table)) ⌝ }
+    requires { ⌜ (a ≤ b) × (b ≤ a + 32) × (b ≤ length (now table)) ⌝ }
     ensures { λ r. ⌜ r ≡ seen-listed (names-at (now (text .entry)) (part-of (now (table .entry)) a b)) (name-at (now (text .entry)) at) typ ⌝ }
 {
     let n = names::lookup(text, &table[a..b], at);
     if n >= b - a {
         return Seen::Nothing;
     }
-    Seen::Of(n, typ)
+    Seen::Of(n as u8, typ)
 }
 
 // A parameter of struct k, and the byte of its type.
@@ -54,7 +54,7 @@ pub(crate) fn parameter(text: &[u8], tables: &[usize], k: usize, at: usize) -> S
     if n >= b - a {
         return Seen::Nothing;
     }
-    Seen::Of(n, tables[a + n + 128])
+    Seen::Of(n as u8, tables[a + n + 128])
 }
 
 // One of the n locals that are alive, and the byte of its type.
@@ -68,7 +68,7 @@ pub(crate) fn local(text: &[u8], locals: &[usize], n: usize, at: usize) -> Seen
     if k >= n {
         return Seen::Nothing;
     }
-    Seen::Of(types::FIRST_LOCAL + locals[a + k + 8], locals[a + k + 16])
+    Seen::Of((types::FIRST_LOCAL + locals[a + k + 8]) as u8, locals[a + k + 16])
 }
 
 // The first variable of a path: a parameter of the struct at hand, or a living local.

@@ -47,9 +47,9 @@ fn lived(c: Scope, met: usize, n: usize, bodies: usize) -> Scope
 // An argument list is closed where n arguments are due.
 fn close(stack: &[u8], n: u8, c: Scope) -> Passed
     requires { ⌜ c .dues ≤ length (now stack) ⌝ }
-    ensures { λ r. ⌜ (x l o : List ℕ) → passed-in x l (now (stack .entry)) r o
-        ≡ use-closes n (use-in x l (now (stack .entry)) c o) (use-in x l (now (stack .entry)) c o .dues) ⌝ }
-    ensures { λ r. ⌜ (t l : List ℕ) → Roomy t l c → Next t l c r ⌝ }
+    ensures { λ r. ⌜ ((x l o : List ℕ) → passed-in x l (now (stack .entry)) r o
+        ≡ use-closes n (use-in x l (now (stack .entry)) c o) (use-in x l (now (stack .entry)) c o .dues)) ⌝ }
+    ensures { λ r. ⌜ ((t l : List ℕ) → Roomy t l c → Next t l c r) ⌝ }
 {
     let d = c.dues;
     if d == 0 {
@@ -65,9 +65,9 @@ fn close(stack: &[u8], n: u8, c: Scope) -> Passed
 // An argument is at its end, and another follows.
 fn go_on(stack: &mut [u8], c: Scope) -> Passed
     requires { ⌜ c .dues + c .bodies ≤ length (now stack) ⌝ }
-    ensures { λ r. ⌜ (x l o : List ℕ) → passed-in x l (now (stack .exit)) r o
-        ≡ use-goes (use-in x l (now (stack .entry)) c o) (use-in x l (now (stack .entry)) c o .dues) ⌝ }
-    ensures { λ r. ⌜ (t l : List ℕ) → Roomy t l c → Next t l c r ⌝ }
+    ensures { λ r. ⌜ ((x l o : List ℕ) → passed-in x l (now (stack .exit)) r o
+        ≡ use-goes (use-in x l (now (stack .entry)) c o) (use-in x l (now (stack .entry)) c o .dues)) ⌝ }
+    ensures { λ r. ⌜ ((t l : List ℕ) → Roomy t l c → Next t l c r) ⌝ }
     ensures { λ _. ⌜ length (now (stack .exit)) ≡ length (now (stack .entry)) ⌝ }
 {
     let d = c.dues;
@@ -86,8 +86,8 @@ fn go_on(stack: &mut [u8], c: Scope) -> Passed
 // An if is opened.
 fn open_if(stack: &mut [u8], c: Scope) -> Passed
     requires { ⌜ (c .dues + c .bodies < length (now stack)) × (c .living ≤ 8) × (c .fresh ≤ c .living) ⌝ }
-    ensures { λ r. ⌜ (x t l o : List ℕ) → Roomy t l c → passed-in x l (now (stack .exit)) r o ≡ some (use-opens (use-in x l (now (stack .entry)) c o)) ⌝ }
-    ensures { λ r. ⌜ (t l : List ℕ) → Roomy t l c → Next t l c r ⌝ }
+    ensures { λ r. ⌜ ((x t l o : List ℕ) → Roomy t l c → passed-in x l (now (stack .exit)) r o ≡ some (use-opens (use-in x l (now (stack .entry)) c o))) ⌝ }
+    ensures { λ r. ⌜ ((t l : List ℕ) → Roomy t l c → Next t l c r) ⌝ }
     ensures { λ _. ⌜ length (now (stack .exit)) ≡ length (now (stack .entry)) ⌝ }
 {
     let n = c.living - c.fresh;
@@ -99,9 +99,9 @@ fn open_if(stack: &mut [u8], c: Scope) -> Passed
 // It is closed, and its locals are dead.
 fn close_if(stack: &[u8], c: Scope) -> Passed
     requires { ⌜ c .bodies ≤ length (now stack) ⌝ }
-    ensures { λ r. ⌜ (x t l o : List ℕ) → Roomy t l c → passed-in x l (now (stack .entry)) r o
-        ≡ use-dies (use-in x l (now (stack .entry)) c o) (use-in x l (now (stack .entry)) c o .heights) ⌝ }
-    ensures { λ r. ⌜ (t l : List ℕ) → Roomy t l c → Next t l c r ⌝ }
+    ensures { λ r. ⌜ ((x t l o : List ℕ) → Roomy t l c → passed-in x l (now (stack .entry)) r o
+        ≡ use-dies (use-in x l (now (stack .entry)) c o) (use-in x l (now (stack .entry)) c o .heights)) ⌝ }
+    ensures { λ r. ⌜ ((t l : List ℕ) → Roomy t l c → Next t l c r) ⌝ }
 {
     let b = c.bodies;
     if b == 0 {
@@ -118,9 +118,9 @@ fn close_if(stack: &[u8], c: Scope) -> Passed
 // Brackets, braces and commas.
 pub(crate) fn part_role(stack: &mut [u8], role: u8, c: Scope) -> Passed
     requires { ⌜ (c .dues + c .bodies < length (now stack)) × (c .living ≤ 8) × (c .fresh ≤ c .living) × (63 ≤ role) ⌝ }
-    ensures { λ r. ⌜ (x t l o : List ℕ) → Roomy t l c → passed-in x l (now (stack .exit)) r o
-        ≡ use-part (part-at role) (use-in x l (now (stack .entry)) c o) ⌝ }
-    ensures { λ r. ⌜ (t l : List ℕ) → Roomy t l c → Next t l c r ⌝ }
+    ensures { λ r. ⌜ ((x t l o : List ℕ) → Roomy t l c → passed-in x l (now (stack .exit)) r o
+        ≡ use-part (part-at role) (use-in x l (now (stack .entry)) c o)) ⌝ }
+    ensures { λ r. ⌜ ((t l : List ℕ) → Roomy t l c → Next t l c r) ⌝ }
     ensures { λ _. ⌜ length (now (stack .exit)) ≡ length (now (stack .entry)) ⌝ }
 {
     match role {
@@ -147,8 +147,8 @@ fn of_type(w: Word, c: Scope) -> Passed
 // A token whose kind says it all: behind a semicolon a local is alive.
 pub(crate) fn kind_role(text: &[u8], at: usize, kind: u8, c: Scope) -> Passed
     requires { ⌜ at < length (now text) ⌝ }
-    ensures { λ r. ⌜ (l k o : List ℕ) → passed-in (now (text .entry)) l k r o ≡ use-kind kind (drop at (now (text .entry))) (use-in (now (text .entry)) l k c o) ⌝ }
-    ensures { λ r. ⌜ (t l : List ℕ) → Roomy t l c → Next t l c r ⌝ }
+    ensures { λ r. ⌜ ((l k o : List ℕ) → passed-in (now (text .entry)) l k r o ≡ use-kind kind (drop at (now (text .entry))) (use-in (now (text .entry)) l k c o)) ⌝ }
+    ensures { λ r. ⌜ ((t l : List ℕ) → Roomy t l c → Next t l c r) ⌝ }
 {
     match kind {
         19 => Passed::On(lived(c, c.met, c.living, c.bodies)),

@@ -17,9 +17,9 @@ ghost use Rattle.uses.specs.Lent.{book-in, Booked, use-in, Roomy, passed
 // One place where a token begins.
 fn use_at(text: &[u8], tables: &[usize], locals: &mut [usize], stack: &mut [u8], at: usize, role: u8, c: Scope) -> Passed
     requires { ⌜ Booked (now tables) × Roomy (now tables) (now locals) c × (c .dues + c .bodies < length (now stack)) × (at < length (now text)) ⌝ }
-    ensures { λ r. ⌜ (o : List ℕ) → passed-in (now (text .entry)) (now (locals .exit)) (now (stack .exit)) r o
+    ensures { λ r. ⌜ ((o : List ℕ) → passed-in (now (text .entry)) (now (locals .exit)) (now (stack .exit)) r o
         ≡ use-at (book-in (now (text .entry)) (now (tables .entry))) role (drop at (now (text .entry)))
-        (use-in (now (text .entry)) (now (locals .entry)) (now (stack .entry)) c o) ⌝ }
+        (use-in (now (text .entry)) (now (locals .entry)) (now (stack .entry)) c o)) ⌝ }
     ensures { λ r. ⌜ Next (now (tables .entry)) (now (locals .exit)) c r ⌝ }
     ensures { λ _. ⌜ (length (now (stack .exit)) ≡ length (now (stack .entry))) × (length (now (locals .exit)) ≡ length (now (locals .entry))) ⌝ }
 {
@@ -38,10 +38,10 @@ fn use_at(text: &[u8], tables: &[usize], locals: &mut [usize], stack: &mut [u8],
 // One place: 0 stands where no token begins.
 fn turn(text: &[u8], tables: &[usize], locals: &mut [usize], stack: &mut [u8], at: usize, role: u8, c: Scope) -> Passed
     requires { ⌜ Booked (now tables) × Roomy (now tables) (now locals) c × (c .dues + c .bodies < length (now stack)) × (at < length (now text)) ⌝ }
-    ensures { λ r. ⌜ (o : List ℕ) → passed-in (now (text .entry)) (now (locals .exit)) (now (stack .exit)) r o
+    ensures { λ r. ⌜ ((o : List ℕ) → passed-in (now (text .entry)) (now (locals .exit)) (now (stack .exit)) r o
         ≡ chosen (eqb role 0) (some (use-in (now (text .entry)) (now (locals .entry)) (now (stack .entry)) c o))
         (use-at (book-in (now (text .entry)) (now (tables .entry))) role (drop at (now (text .entry)))
-        (use-in (now (text .entry)) (now (locals .entry)) (now (stack .entry)) c o)) ⌝ }
+        (use-in (now (text .entry)) (now (locals .entry)) (now (stack .entry)) c o))) ⌝ }
     ensures { λ r. ⌜ Next (now (tables .entry)) (now (locals .exit)) c r ⌝ }
     ensures { λ _. ⌜ (length (now (stack .exit)) ≡ length (now (stack .entry))) × (length (now (locals .exit)) ≡ length (now (locals .entry))) ⌝ }
 {
@@ -81,7 +81,7 @@ pub(crate) fn uses(text: &[u8], roles: &[u8], tables: &[usize], locals: &mut [us
                 c = d;
             }
             Passed::Left(d, m) => {
-                numbers[n] = m as u8;
+                numbers[n] = m;
                 n += 1;
                 c = d;
             }

@@ -51,8 +51,8 @@ fn left(c: Scope, s: Seen) -> Passed
 // A struct is begun.
 fn begin(tables: &[usize], c: Scope) -> Passed
     requires { ⌜ Booked (now tables) ⌝ }
-    ensures { λ r. ⌜ (x y l k o : List ℕ) → passed-in x l k r o ≡ use-name (book-in x (now (tables .entry))) new-struct y (use-in x l k c o) ⌝ }
-    ensures { λ r. ⌜ (l : List ℕ) → Roomy (now (tables .entry)) l c → Next (now (tables .entry)) l c r ⌝ }
+    ensures { λ r. ⌜ ((x y l k o : List ℕ) → passed-in x l k r o ≡ use-name (book-in x (now (tables .entry))) new-struct y (use-in x l k c o)) ⌝ }
+    ensures { λ r. ⌜ ((l : List ℕ) → Roomy (now (tables .entry)) l c → Next (now (tables .entry)) l c r) ⌝ }
 {
     let begun = c.begun;
     if begun >= tables[STRUCT_COUNT] {
@@ -72,9 +72,9 @@ fn begin(tables: &[usize], c: Scope) -> Passed
 // The struct of a constructor: as many arguments are due as it has parameters.
 fn made(text: &[u8], tables: &[usize], stack: &mut [u8], at: usize, c: Scope) -> Passed
     requires { ⌜ Booked (now tables) × (c .dues + c .bodies < length (now stack)) ⌝ }
-    ensures { λ r. ⌜ (l o : List ℕ) → passed-in (now (text .entry)) l (now (stack .exit)) r o
-        ≡ use-made (book-in (now (text .entry)) (now (tables .entry))) (name-at (now (text .entry)) at) (use-in (now (text .entry)) l (now (stack .entry)) c o) ⌝ }
-    ensures { λ r. ⌜ (l : List ℕ) → Roomy (now (tables .entry)) l c → Next (now (tables .entry)) l c r ⌝ }
+    ensures { λ r. ⌜ ((l o : List ℕ) → passed-in (now (text .entry)) l (now (stack .exit)) r o
+        ≡ use-made (book-in (now (text .entry)) (now (tables .entry))) (name-at (now (text .entry)) at) (use-in (now (text .entry)) l (now (stack .entry)) c o)) ⌝ }
+    ensures { λ r. ⌜ ((l : List ℕ) → Roomy (now (tables .entry)) l c → Next (now (tables .entry)) l c r) ⌝ }
     ensures { λ _. ⌜ length (now (stack .exit)) ≡ length (now (stack .entry)) ⌝ }
 {
     let s = tables[STRUCT_COUNT];
@@ -94,7 +94,7 @@ fn made(text: &[u8], tables: &[usize], stack: &mut [u8], at: usize, c: Scope) ->
             dues: h + 1,
             bodies: c.bodies,
         },
-        n,
+        n as u8,
     )
 }
 
@@ -112,8 +112,8 @@ fn store(locals: &mut [usize], at: usize, met: usize, n: usize, typ: usize)
 // A local is declared: it comes alive behind its declaration.
 fn declare(text: &[u8], tables: &[usize], locals: &mut [usize], at: usize, c: Scope) -> Passed
     requires { ⌜ Booked (now tables) × Roomy (now tables) (now locals) c ⌝ }
-    ensures { λ r. ⌜ (k o : List ℕ) → passed-in (now (text .entry)) (now (locals .exit)) k r o
-        ≡ use-new (book-in (now (text .entry)) (now (tables .entry))) (name-at (now (text .entry)) at) (use-in (now (text .entry)) (now (locals .entry)) k c o) ⌝ }
+    ensures { λ r. ⌜ ((k o : List ℕ) → passed-in (now (text .entry)) (now (locals .exit)) k r o
+        ≡ use-new (book-in (now (text .entry)) (now (tables .entry))) (name-at (now (text .entry)) at) (use-in (now (text .entry)) (now (locals .entry)) k c o)) ⌝ }
     ensures { λ r. ⌜ Next (now (tables .entry)) (now (locals .exit)) c r ⌝ }
     ensures { λ _. ⌜ length (now (locals .exit)) ≡ length (now (locals .entry)) ⌝ }
 {
@@ -136,16 +136,16 @@ fn declare(text: &[u8], tables: &[usize], locals: &mut [usize], at: usize, c: Sc
             dues: c.dues,
             bodies: c.bodies,
         },
-        types::FIRST_LOCAL + met,
+        (types::FIRST_LOCAL + met) as u8,
     )
 }
 
 // A name, by its role.
 pub(crate) fn name_role(text: &[u8], tables: &[usize], locals: &mut [usize], stack: &mut [u8], at: usize, role: u8, c: Scope) -> Passed
     requires { ⌜ Booked (now tables) × Roomy (now tables) (now locals) c × (c .dues + c .bodies < length (now stack)) × (39 ≤ role) × (role < 51) ⌝ }
-    ensures { λ r. ⌜ (o : List ℕ) → passed-in (now (text .entry)) (now (locals .exit)) (now (stack .exit)) r o
+    ensures { λ r. ⌜ ((o : List ℕ) → passed-in (now (text .entry)) (now (locals .exit)) (now (stack .exit)) r o
         ≡ use-name (book-in (now (text .entry)) (now (tables .entry))) (naming-at role) (name-at (now (text .entry)) at)
-        (use-in (now (text .entry)) (now (locals .entry)) (now (stack .entry)) c o) ⌝ }
+        (use-in (now (text .entry)) (now (locals .entry)) (now (stack .entry)) c o)) ⌝ }
     ensures { λ r. ⌜ Next (now (tables .entry)) (now (locals .exit)) c r ⌝ }
     ensures { λ _. ⌜ length (now (stack .exit)) ≡ length (now (stack .entry)) ⌝ }
 {
@@ -170,10 +170,10 @@ pub(crate) fn name_role(text: &[u8], tables: &[usize], locals: &mut [usize], sta
 // A type behind a declaration or null: from 55 on and from 59 on.
 pub(crate) fn type_role(text: &[u8], tables: &[usize], at: usize, role: u8, c: Scope) -> Passed
     requires { ⌜ Booked (now tables) × (51 ≤ role) × (role < 63) ⌝ }
-    ensures { λ r. ⌜ (l k o : List ℕ) → passed-in (now (text .entry)) l k r o
+    ensures { λ r. ⌜ ((l k o : List ℕ) → passed-in (now (text .entry)) l k r o
         ≡ use-type (book-in (now (text .entry)) (now (tables .entry))) (typed-at role) (type-here (number-at role) (drop at (now (text .entry))))
-        (use-in (now (text .entry)) l k c o) ⌝ }
-    ensures { λ r. ⌜ (l : List ℕ) → Roomy (now (tables .entry)) l c → Next (now (tables .entry)) l c r ⌝ }
+        (use-in (now (text .entry)) l k c o)) ⌝ }
+    ensures { λ r. ⌜ ((l : List ℕ) → Roomy (now (tables .entry)) l c → Next (now (tables .entry)) l c r) ⌝ }
 {
     if role < 55 {
         return Passed::On(c);
@@ -183,5 +183,5 @@ pub(crate) fn type_role(text: &[u8], tables: &[usize], at: usize, role: u8, c: S
     if b >= types::STRUCT as usize + s {
         return Passed::Stop;
     }
-    left(c, Seen::Of(b, b))
+    left(c, Seen::Of(b as u8, b))
 }

@@ -4,6 +4,7 @@
 use resolve::declarations;
 use resolve::tables;
 ghost use mathlib.Core.Path.{_≡_};
+ghost use mathlib.Core.Bool.{true};
 ghost use Prim.Native.Nat.{_+_, _≤_, _<_};
 ghost use lib.ListN.{length};
 ghost use Rattle.resolve.specs.WellDeclared.{tables-ok};
