@@ -118,12 +118,18 @@ pub fn stream(text: &[u8], roles: &[u8], numbers: &[u8], offsets: &[usize], type
         ≡ composed-by (now (offsets .entry)) (now (types .entry)) (now (text .entry)) (now (roles .entry))
         (held (now (numbers .entry)) (length (now (numbers .entry)))) ⌝ }
 {
-    let p = write(text, roles, numbers, stack, out);
-    let place = p.place;
-    if !p.fits {
+    let w = write(text, roles, numbers, stack, out);
+    let front = w.place;
+    if !w.fits {
         return Placed::Over;
     }
-    if place < FRONT {
+    if front <= FRONT {
+        return Placed::Over;
+    }
+    // The count of the first struct's steps still waits.
+    let p = waiting::counted(out, stack, w);
+    let place = p.place;
+    if !p.fits {
         return Placed::Over;
     }
     let at = header::write_header(out, types, offsets, place);
