@@ -6,7 +6,7 @@ use mathlib.Core.Path.{_≡_, refl, sym, ap, _∙_}
 use mathlib.Core.List.{List, [], _∷_, _++_}
 use lib.ListN.{length, getD, drop}
 use lib.Seq.{slice, length-slice, drop-cons, drop-length}
-use Rattle.program.specs.Encoding.{flat, enc-list}
+use Rattle.program.specs.Encoding.{flat}
 use Rattle.compose.specs.Header.{parts, row-of}
 
 pub singles : (l : List ℕ) → flat (λ t. t ∷ []) l ≡ l

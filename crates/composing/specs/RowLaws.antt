@@ -3,11 +3,10 @@ use Prim.Native.Nat.{ℕ, zero, suc, _+_, _-_, _*_, _<_, _≤_}
 use native.Mathlib.Omega.{arith}
 use native.Mathlib.Numerals.{add-one, sub-one}
 use mathlib.Core.Path.{_≡_, refl, sym, ap, _∙_}
-use mathlib.Core.List.{List, [], _∷_, _++_, append-assoc}
+use mathlib.Core.List.{List, _∷_, _++_, append-assoc}
 use lib.ListN.{length, getD, set, drop, length-set}
 use lib.Seq.{slice, slice-empty, slice-cons}
-use Rattle.program.specs.Encoding.{flat, enc-list}
-use Rattle.compose.specs.Header.{parts, row-of, header, Rows}
+use Rattle.compose.specs.Header.{row-of, header, Rows}
 use Rattle.compose.specs.HeaderLaws.{row-is, rest, none-left, parts-on, parts-count}
 use Rattle.composing.specs.PenLaws.{drop-front}
 

@@ -86,7 +86,7 @@ pub fn write(text: &[u8], roles: &[u8], numbers: &[u8], stack: &mut [u8], out: &
     ensures { λ r. ⌜ kept (stands (now (out .exit)) (now (stack .exit)) (now (numbers .entry)) r)
         ≡ within (length (now (out .entry)) - 6)
         (writes-at (now (text .entry)) 0 (now (roles .entry)) (start (held (now (numbers .entry)) (length (now (numbers .entry)))))) ⌝ }
-    ensures { λ r. ⌜ r .place ≤ length (now (out .entry)) ⌝ }
+    ensures { λ r. ⌜ (r .place ≤ length (now (out .entry))) × (r .height ≤ length (now (stack .entry))) ⌝ }
 {
     stack[0] = 0;
     let mut p = Pen {

@@ -81,7 +81,8 @@ returns c =
     let at-slice = at-loop .before .before .before .before in
     let args = at-slice .before .before .args in
     let here = at-loop .loop in
-    let q = at-put .put in (
+    let q = at-put .put in
+    let long = length-set (args .stack .now) 0 0 in (
     reached-refused (args .text .now) (args .roles .now) (args .numbers .now) (args .out .now) (set (args .stack .now) 0 0)
     (here .out) (here .stack) (here .p) (q .last .0) (q .last .1 .0) (q .result) (q .ensures .1) (q .kept .0) (q .kept .1 .0)
     (here .i) (here .inv) (at-test .loop-test .taken) (at-if .if1 .taken)
@@ -89,7 +90,8 @@ returns c =
     ∙ ap (λ v. kept (put (getD (args .roles .now) (here .i - 1) 0) v (stands (here .out) (here .stack) (args .numbers .now) (here .p))))
     (at-lit .literal .ensures))
     (sym (at-roomy .roomy .ensures) ∙ not-true _ (at-if2 .if2 .taken)) (c .spoilt .result) (c .spoilt .ensures .4),
-    omega (arith, c .spoilt .ensures .0, q .ensures .1 .behind, here .inv .behind, here .inv .room))
+    (omega (arith, c .spoilt .ensures .0, q .ensures .1 .behind, here .inv .behind, here .inv .room),
+    omega (arith, c .spoilt .ensures .1, q .ensures .1 .height, here .inv .low, here .inv .high, here .inv .tall, long)))
 
 loop-less : tie.Need-loop-less Inv-loop μ-loop
 loop-less c =
@@ -148,11 +150,12 @@ returns-2 c =
     let at-loop = c .before in
     let at-slice = at-loop .before .before .before .before in
     let args = at-slice .before .before .args in
-    let here = at-loop .loop in (
+    let here = at-loop .loop in
+    let long = length-set (args .stack .now) 0 0 in (
     reached-end (args .text .now) (args .roles .now) (args .numbers .now) (args .out .now) (set (args .stack .now) 0 0)
     (here .out) (here .stack) (here .p) (here .i) (here .inv)
     (omega (arith, c .loop-test .left)),
-    omega (arith, here .inv .behind, here .inv .room))
+    (omega (arith, here .inv .behind, here .inv .room), omega (arith, here .inv .low, here .inv .high, here .inv .tall, long)))
 
 pub write-spec : {M : Type 1} → statement M
 write-spec =

@@ -1,4 +1,4 @@
--- `header::row` meets its contract. The loop's invariant: the bytes from i on stand in front of the place, and no further than the row begins. Its measure is i.
+-- `header::row` meets its contract. The loop's invariant: the bytes from i on stand in front of the place. Its measure is i.
 use Prim.Native.Nat.{_≤_, _-_}
 use native.Mathlib.Omega.{arith}
 use mathlib.Core.Path.{_∙_}
