@@ -67,13 +67,13 @@ module _ (s out : List ℕ) where
     unfolding ended with-room
     room-ends = rw (le-ltb (length out) 32768 room, with-room) refl
 
-    pub few-blocks : pieces (length s) ≤ 64
-    few-blocks = omega arith
-
     pub blocks-are : write 64 (length s) (length out) ≡ Blocks (pieces (length s))
     unfolding stream-right
     blocks-are =
         sym (write-done 64 (length s) (length out) true (rw (le-leb 1 (length s) one, le-leb (length s) (504 * 64) (omega arith))) refl (omega arith))
+
+    pub few-written : (w : Written) (k : ℕ) → w ≡ write 64 (length s) (length out) → w ≡ Blocks k → k ≤ 64
+    few-written w k e f = let b : k ≡ pieces (length s) = cc blocks-are in omega arith
 
     -- what writing the image answers and leaves
     pub image-ends : (w : Written) (k : ℕ) (o : List ℕ) → w ≡ write 64 (length s) (length out) → w ≡ Blocks k → o ≡ written-into w s out

@@ -3,6 +3,7 @@ use Prim.Native.Nat.{ℕ}
 use mathlib.Core.List.{List}
 use mathlib.Core.Option.{Option}
 use Rattle.syntax.specs.Syntax.{Program as Derivation}
+use Rattle.syntax.specs.Bracketing.{FitsProgram}
 use Rattle.meaning.specs.Meant.{then}
 use Rattle.derive.specs.Roles.{roles}
 use Rattle.resolve.specs.Standing.{Stood}
@@ -11,6 +12,7 @@ use Rattle.compose.specs.Composed.{composed}
 
 pub record Roled (x cs : List ℕ) : Type 0 where
   pub derivation : Derivation
+  pub fits : FitsProgram derivation
   pub stands : Stood x cs (roles derivation)
 
 abbrev pub stream-of : List ℕ → List ℕ → Option (List ℕ)

@@ -23,7 +23,7 @@ use Rattle.derive.specs.Shape.{Shape.shape, derived}
 use Rattle.derive.specs.KindShapeLaws.{derived-derives}
 use Rattle.derive.specs.RoleMarks.{role-codes, placed}
 use Rattle.derive.specs.RoleMarkLaws.{text-roles}
-use Rattle.derive.specs.Roles.{roles}
+use Rattle.derive.specs.Roles.{code, roles}
 use Rattle.resolve.specs.Standing.{Stood}
 use Rattle.resolve.specs.StandingLaws.{derivation-stands}
 use Rattle.source.specs.Source.{max-text, no-token, no-derivation, Outcome, Outcome.refused}
@@ -92,7 +92,12 @@ module _ (x ks₀ ks : List ℕ) (long : length ks₀ ≡ length x) (p : true �
         let c = derives .0 in
         let g : cs ≡ placed (marks x) (role-codes (shape 1 []) (kinds-in (marks x))) =
         f ∙ ap (λ l. placed l (role-codes (shape 1 []) (kinds-in l))) marks-are in
-        record { derivation = c; stands = subst (λ l. Stood x l (roles c)) (sym (g ∙ text-roles x tokens c lexed (derives .1))) (derivation-stands x tokens c lexed (derives .1)) }
+        let h : cs ≡ placed (marks x) (map code (roles c)) = g ∙ text-roles x tokens c lexed (derives .1) in
+        record {
+          derivation = c;
+          fits = derives .1 .fits;
+          stands = subst (λ l. Stood x l (roles c)) (sym h) (derivation-stands x tokens c lexed (derives .1));
+        }
 
     pub roled-reads : (out : List ℕ) → of-tokens (lex 0 x) out ≡ of-program (meant (roled .derivation)) out
     unfolding of-tokens of-derivation roled

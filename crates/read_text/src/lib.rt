@@ -4,7 +4,6 @@ use blocks::Written;
 use composing::Placed;
 use uses::Numbered;
 ghost use mathlib.Core.Path.{_≡_};
-ghost use mathlib.Core.Bool.{true};
 ghost use mathlib.Core.Option.{some};
 ghost use Prim.Native.Nat.{_<_, _≤_};
 ghost use lib.ListN.{length};
@@ -12,9 +11,11 @@ ghost use Rattle.tokens.specs.Scanning.{lex};
 ghost use Rattle.source.specs.Source.{max-text};
 ghost use Rattle.source.specs.TextReader.{of-tokens, text-number, text-blocks, text-output};
 ghost use Rattle.derive.specs.Held.{held};
-ghost use Rattle.resolve.specs.WellDeclared.{tables-ok};
-ghost use Rattle.compose.specs.Composed.{composed};
-ghost use Rattle.uses.specs.Numbering.{Tabled};
+ghost use Rattle.resolve.specs.Tables.{offsets};
+ghost use Rattle.resolve.specs.WellDeclared.{par-byte};
+ghost use Rattle.compose.specs.Header.{Rows};
+ghost use Rattle.compose.specs.Composed.{type-bytes, composed};
+ghost use Rattle.uses.specs.Declaring.{Tabled};
 ghost use Rattle.composing.specs.Placing.{placed-in};
 ghost use Rattle.read_text.specs.Ending.{Ending.stopped, ended, answer, left, ending};
 ghost use Rattle.read_text.specs.Roled.{Roled, stream-of};
@@ -64,7 +65,8 @@ fn composed(
     stream: &mut [u8],
 ) -> Placed
     requires { ⌜ (length (now roles) ≤ length (now text)) × (length (now roles) < length (now stack)) × (length (now stream) ≡ 32402) ⌝ }
-    requires { ⌜ (Roled (now text) (now roles)) × (tables-ok (now text) (now roles) ≡ true) × (Tabled (now text) (now roles) (now tables)) ⌝ }
+    requires { ⌜ (Roled (now text) (now roles)) × (Tabled (now text) (now roles) (now tables)) ⌝ }
+    requires { ⌜ Rows (offsets par-byte (now roles)) (type-bytes (now text) (now roles)) ⌝ }
     ensures { λ r. ⌜ placed-in (now (stream .exit)) r
         ≡ composed (now (text .entry)) (now (roles .entry)) (held (now (numbers .entry)) (length (now (numbers .entry)))) ⌝ }
 {

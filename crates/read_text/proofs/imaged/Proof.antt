@@ -5,7 +5,7 @@ use mathlib.Core.Logic.{⊎-elim}
 use lib.ListN.{length}
 use Rattle.blocks.specs.Images.{pieces}
 use Rattle.blocks.specs.declared.Written.the-variants.{Blocks}
-use Rattle.read_text.specs.EndingLaws.{short-told, few-blocks, blocks-are, image-ends}
+use Rattle.read_text.specs.EndingLaws.{short-told, few-written, blocks-are, image-ends}
 use borrow.Author.Needs.{needs}
 use Rattle.read_text.proofs.imaged.Statement.{statement}
 use Rattle.read_text.proofs.imaged.Tie as tie
@@ -32,7 +32,11 @@ returns-2 : tie.Need-returns-2
 returns-2 c = absurd (⊎-elim (λ e. omega arith) (λ e. omega arith) (rw (blocks (c .before .before)) at (c .before .match .keys2)))
 
 cast-t10 : tie.Need-cast-t10
-cast-t10 c = ?
+cast-t10 c =
+    let at-w = c .before in let at-known = at-w .before .before in let e = at-else at-known in let s = entry e in let args = s .args in
+    let w = at-known .before .before .write-image in
+    let few = few-written (args .stream .now) (args .out .now) (e .if1 .left) (s .pre .0) (s .pre .1) (w .result) _ (w .ensures .0) (at-w .w .given .1) in
+    omega (arith, few)
 
 returns-3 : tie.Need-returns-3
 returns-3 c =

@@ -1,84 +1,59 @@
+-- `passes` meets its contract: 15, 16, or on behind the derivation of the text.
+use native.Mathlib.Omega.{arith}
+use mathlib.Core.Path.{sym, _∙_}
+use Rattle.read_text.specs.PassLaws.{way-15, way-16, roled-there, way-on}
 use borrow.Author.Needs.{needs}
 use Rattle.read_text.proofs.passes.Statement.{statement}
 use Rattle.read_text.proofs.passes.Tie as tie
-use Rattle.read_text.proofs.passes.Reads as reads
-use Rattle.read_text.proofs.passes.Lts as lts
-use Rattle.derive.proofs.derived.Reads as derived-reads
-use Rattle.lexer.proofs.mark.Reads as mark-reads
-use Rattle.read_text.proofs.meant.Reads as meant-reads
-use Rattle.read_text.proofs.refused.Reads as refused-reads
 
--- src/lib.rt:133:9
-mark-requires : tie.Need-mark-requires
-mark-requires c κs = search needs
+-- the places that proofs look back to
+abbrev at-mark : tie.After-slice-known4 → tie.After-mark
+at-mark c = c .before .before
 
--- src/lib.rt:134:9
-refused-requires : tie.Need-refused-requires
-refused-requires c κs = search needs
+abbrev entry : tie.After-mark → tie.Start
+entry c = let at-known = c .before .before .before in at-known .before .before .before
 
--- src/lib.rt:134:9
-same-length : tie.Need-same-length
-same-length c = search needs
+abbrev at-else : tie.After-slice-known6 → tie.Else1
+at-else c = let at-derived = c .before .before .before .before in at-derived .before .before .before
 
--- src/lib.rt:134:9
+abbrev at-derived : tie.After-slice-known6 → tie.After-derived
+at-derived c = c .before .before .before .before
+
+abbrev at-else-2 : tie.After-meant-arg3 → tie.Else2
+at-else-2 c = c .before .before .before
+
 returns : tie.Need-returns
-returns c = ?
+returns c =
+    let at-then = c .before in let m = at-mark (at-then .before) in let s = entry m in let args = s .args in let r = m .mark in
+    way-15 (args .text .now) (args .kinds .now) _ (s .pre .0) (r .result) (r .ensures .0) (r .ensures .1) (args .out .now) (at-then .if1 .taken) _
+    (c .refused .ensures)
 
--- src/lib.rt:136:9
-derived-requires : tie.Need-derived-requires
-derived-requires c κs = search needs
-
--- src/lib.rt:137:9
-refused-requires-2 : tie.Need-refused-requires-2
-refused-requires-2 c κs = search needs
-
--- src/lib.rt:137:9
-same-length-2 : tie.Need-same-length-2
-same-length-2 c = search needs
-
--- src/lib.rt:137:9
-same-length-3 : tie.Need-same-length-3
-same-length-3 c = search needs
-
--- src/lib.rt:137:9
 returns-2 : tie.Need-returns-2
-returns-2 c = ?
+returns-2 c =
+    let at-then = c .before in let k = at-then .before in let d = at-derived k .derived in let e = at-else k in let m = at-mark (e .before) in
+    let s = entry m in let args = s .args in let r = m .mark in
+    way-16 (args .text .now) (args .kinds .now) _ (s .pre .0) (r .result) (r .ensures .0) (r .ensures .1) (args .out .now) (e .if1 .left) _ (d .result)
+    (d .ensures .0) (d .ensures .1) (at-then .if2 .taken) _ (c .refused2 .ensures)
 
--- src/lib.rt:139:5
 meant-requires : tie.Need-meant-requires
-meant-requires c κs = ?
+meant-requires c κs =
+    let at-e = at-else-2 c in let k = at-e .before in let d = at-derived k .derived in let e = at-else k in let m = at-mark (e .before) in
+    let s = entry m in let args = s .args in let r = m .mark in (
+      (d .kept .0 ∙ r .kept .1 .0 ∙ s .pre .0, s .pre .1, omega (arith, s .pre .0, s .pre .2, r .kept .1 .0, d .kept .0, d .kept .1 .0)),
+      roled-there (args .text .now) (args .kinds .now) _ (s .pre .0) (r .result) (r .ensures .0) (r .ensures .1) (args .out .now) (e .if1 .left) _ (d .result)
+          (d .ensures .0) (d .ensures .1) (at-e .if2 .left),
+    )
 
--- src/lib.rt:128:1
-same-length-4 : tie.Need-same-length-4
-same-length-4 c = search needs
-
--- src/lib.rt:128:1
-same-length-5 : tie.Need-same-length-5
-same-length-5 c = search needs
-
--- src/lib.rt:128:1
-same-length-6 : tie.Need-same-length-6
-same-length-6 c = search needs
-
--- src/lib.rt:128:1
 returns-3 : tie.Need-returns-3
-returns-3 c = ?
+returns-3 c =
+    let at-meant = c .before .before .before .before in
+    let at-e = at-else-2 (at-meant .before) in let k = at-e .before in let d = at-derived k .derived in let e = at-else k in let m = at-mark (e .before) in
+    let s = entry m in let args = s .args in let r = m .mark in
+    way-on (args .text .now) (args .kinds .now) _ (s .pre .0) (r .result) (r .ensures .0) (r .ensures .1) (args .out .now) (e .if1 .left) _ (d .result)
+    (d .ensures .0) (d .ensures .1) (at-e .if2 .left) _ _ (at-meant .meant .ensures)
 
 pub passes-spec : {M : Type 1} → statement M
 passes-spec =
     tie.close
-    (tie.spec
-    mark-requires
-    refused-requires
-    same-length
-    returns
-    derived-requires
-    refused-requires-2
-    same-length-2
-    same-length-3
-    returns-2
-    meant-requires
-    same-length-4
-    same-length-5
-    same-length-6
-    returns-3)
+    (tie.spec (λ c κs. search needs) (λ c κs. search needs) (λ c. search needs) returns (λ c κs. search needs) (λ c κs. search needs) (λ c. search needs)
+    (λ c. search needs) returns-2 meant-requires (λ c. search needs) (λ c. search needs) (λ c. search needs) returns-3)
