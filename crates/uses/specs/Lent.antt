@@ -42,12 +42,18 @@ book-in x t =
       steps = names-at x (part-of t 289 (289 + names-of-table t));
     }
 
+-- the row of struct k: few parameters, and places for them
+pub record Rowed (t : List ℕ) (k : ℕ) : Type 0 where
+  pub up : row-start t k ≤ row-end t k
+  pub few : row-end t k ≤ row-start t k + 8
+  pub inner : row-end t k ≤ 128
+
 -- a table of which a book can be read
 pub record Booked (t : List ℕ) : Type 0 where
   pub long : length t ≡ 323
   pub structs : structs-of-table t ≤ 16
   pub names : names-of-table t ≤ 32
-  pub rows : (k : ℕ) → k < structs-of-table t → (row-start t k ≤ row-end t k) × (row-end t k ≤ row-start t k + 8) × (row-end t k ≤ 128)
+  pub rows : (k : ℕ) → k < structs-of-table t → Rowed t k
 
 unfoldable pub use-in : List ℕ → List ℕ → List ℕ → Scope → List ℕ → Use
 unfolding held

@@ -77,19 +77,19 @@ module _ (x t : List ℕ) (b : Booked t) (k : ℕ) (inside : k < structs-of-tabl
       let h = b .rows k inside in
       sym
       (cut-at (names-at x (part-of t 33 161)) ∙ sym (map-part (name-at x) (part-of t 33 161) (row-start t k) (row-end t k))
-      ∙ ap (names-at x) (part-part t 33 161 (row-start t k) (row-end t k) (omega (arith, h .2))))
+      ∙ ap (names-at x) (part-part t 33 161 (row-start t k) (row-end t k) (omega (arith, h .inner))))
 
   pub types-in : part-of t (161 + row-start t k) (161 + row-end t k) ≡ getD (book-in x t .types) k []
   unfolding book-in
   types-in =
       let h = b .rows k inside in
-      sym (cut-at (part-of t 161 289) ∙ part-part t 161 289 (row-start t k) (row-end t k) (omega (arith, h .2)))
+      sym (cut-at (part-of t 161 289) ∙ part-part t 161 289 (row-start t k) (row-end t k) (omega (arith, h .inner)))
 
   pub row-long : length (getD (book-in x t .rows) k []) ≡ row-end t k - row-start t k
   row-long =
       let h = b .rows k inside in
       let e : (33 + row-end t k) - (33 + row-start t k) ≡ row-end t k - row-start t k = omega arith in
-      ap length (sym row-in) ∙ mapped-long (name-at x) t (33 + row-start t k) (33 + row-end t k) (omega (arith, h .2, b .long)) ∙ e
+      ap length (sym row-in) ∙ mapped-long (name-at x) t (33 + row-start t k) (33 + row-end t k) (omega (arith, h .inner, b .long)) ∙ e
 
   -- a parameter of struct k
   module _ (y : Id) {n : ℕ} (e : n ≡ sought y (names-at x (part-of t (33 + row-start t k) (33 + row-end t k)))) where
@@ -252,12 +252,12 @@ module _ (b : Book) (n : ℕ) (y : Id) where
         go false f g = sym (le-leb (length met-row) (sought y met-row) (ltb-false (sought y met-row) (length met-row) f))
         go true f g = absurd (let h = rw f at g in let z : _≡_ {A = ℕ} 0 1 = cc in omega arith)
 
--- two tests
-pub both-first : {p q : Bool} → p ≡ false → false ≡ (p && q)
-both-first e = rw e refl
+-- a name met before, and not
+pub met-one : (m k n : ℕ) (q : Bool) → n ≡ k → n < m → false ≡ (leb m k && q)
+met-one m k n q e h = rw (lt-leb m k (omega arith)) refl
 
-pub both-second : {p q r : Bool} → p ≡ true → r ≡ q → r ≡ (p && q)
-both-second e f = rw e f
+pub met-none : (m k n : ℕ) (q r : Bool) → n ≡ k → m ≤ n → r ≡ q → r ≡ (leb m k && q)
+met-none m k n q r e h f = rw (le-leb m k (omega arith)) f
 
 -- By roles ----------------------------------------------------------------------------------------
 

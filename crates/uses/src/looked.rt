@@ -15,7 +15,7 @@ ghost use Rattle.resolve.specs.Checks.{part-of};
 ghost use Rattle.resolve.specs.Using.{own-row};
 ghost use Rattle.resolve.specs.UsingAt.{naming-at};
 ghost use Rattle.uses.specs.PartLaws.{up-to};
-ghost use Rattle.uses.specs.Lent.{structs-of-table, book-in, Booked, use-in, Small, Roomy};
+ghost use Rattle.uses.specs.Lent.{structs-of-table, book-in, Booked, Rowed, use-in, Small, Roomy};
 ghost use Rattle.uses.specs.Seeing.{seen-listed, seen-par, seen-local, seen-first, seen-behind, seen-name};
 
 const OFFSETS: usize = 16;
@@ -44,7 +44,7 @@ pub(crate) fn listed(text: &[u8], table: &[usize], a: usize, b: usize, at: usize
 
 // A parameter of struct k, and the byte of its type.
 pub(crate) fn parameter(text: &[u8], tables: &[usize], k: usize, at: usize) -> Seen
-    requires { ⌜ Booked (now tables) × (k < structs-of-table (now tables)) ⌝ }
+    requires { ⌜ Booked (now tables) × (k < structs-of-table (now tables)) × Rowed (now tables) k ⌝ }
     ensures { λ r. ⌜ r ≡ seen-par (getD (book-in (now (text .entry)) (now (tables .entry)) .rows) k [])
         (getD (book-in (now (text .entry)) (now (tables .entry)) .types) k []) (name-at (now (text .entry)) at) ⌝ }
 {

@@ -1,0 +1,11 @@
+use Rattle.uses.proofs.parts.dued.Statement.{statement}
+use Rattle.uses.proofs.parts.dued.Tie as tie
+use Rattle.uses.proofs.parts.dued.Reads as reads
+use Rattle.uses.proofs.parts.dued.Lts as lts
+
+-- src/parts.rt:18:1
+returns : tie.Need-returns
+returns c = ?
+
+pub dued-spec : {M : Type 1} → statement M
+dued-spec = tie.close (tie.spec returns)
