@@ -176,7 +176,7 @@ static void every(void) {
     printf("%u ways of nesting                check: %zu  step: %zu  run: %zu\n", programs, most[0], most[1], most[2]);
 }
 
-/* A text: its front, as many openings as there is room for, what stands innermost, as many closings, its end. Without the end the text is cut behind the openings. */
+/* A text: its front, as many openings as there is room for, what stands innermost, as many closings, its end. Without the end it is cut behind the openings. */
 static void deep(const char *front, const char *open, const char *inner, const char *close, const char *end) {
     size_t fixed = strlen(front) + (end ? strlen(inner) + strlen(end) : 0);
     size_t pairs = (TEXT - fixed) / (strlen(open) + (end ? strlen(close) : 0));
@@ -236,6 +236,7 @@ int main(void) {
     table_length = seal(table, records, sizeof records), table[9] = 7, row("table damaged");
     table_length = seal(table, pairs, sizeof pairs), every();
     texts();
-    printf("most bytes of stack: check %zu, step %zu, run %zu, an image read %zu, written %zu, a text read %zu\n", worst[0], worst[1], worst[2], worst[3], worst[4], worst_text);
+    printf("most bytes of stack: check %zu, step %zu, run %zu, an image read %zu, written %zu, a text read %zu\n", worst[0], worst[1], worst[2], worst[3], worst[4],
+           worst_text);
     return 0;
 }

@@ -169,11 +169,7 @@ fn run_case() -> Outcome {
 // What reading a text answers, as a line; whether it was written.
 fn answer_text(text: &[u8], output: &mut [u8]) -> bool {
     let r = read_text::read(text, output);
-    let ns = [
-        r.number as u64,
-        r.blocks as u64,
-        cases::bytes(output),
-    ];
+    let ns = [r.number as u64, r.blocks as u64, cases::bytes(output)];
     let mut line = [0u8; 256];
     let n = lines::row(&mut line, 0, b"text", &ns);
     files::output(&line[..n])
