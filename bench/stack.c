@@ -1,5 +1,5 @@
 /* How much stack the exported entries use: each call runs on a painted stack of its own, and what is no longer paint was used. The images nest as deep as 01
- * allows, every way of nesting among them, and are as long, or are damaged; texts nest as deep as 65,536 bytes hold. The most bytes of each entry are printed. */
+ * allows, every way of nesting among them, and are as long, or are damaged; texts nest as deep as 65,536 bytes hold. The most bytes of each are printed. */
 #include "audala.h"
 #include <stdio.h>
 #include <stdlib.h>
@@ -236,7 +236,7 @@ int main(void) {
     table_length = seal(table, records, sizeof records), table[9] = 7, row("table damaged");
     table_length = seal(table, pairs, sizeof pairs), every();
     texts();
-    printf("most bytes of stack: check %zu, step %zu, run %zu, an image read %zu, written %zu, a text read %zu\n", worst[0], worst[1], worst[2], worst[3], worst[4],
-           worst_text);
+    printf("most bytes of stack: check %zu, step %zu, run %zu, an image read %zu, written %zu, a text read %zu\n", worst[0], worst[1], worst[2], worst[3],
+           worst[4], worst_text);
     return 0;
 }
