@@ -1,10 +1,15 @@
 // Reads program text on standard input and writes its image on standard output (02 §1; docs/FORMAT.md, 'Program text'). A text that is refused is told on
-// standard error with its number, and nothing is written.
+// standard error with its number and, of 15 and 16, the place at which reading stopped; nothing is written.
 
 // One byte more than a text may have, so that a longer one is told from the longest.
 const TEXT: usize = 65537;
 
 const IMAGE: usize = types::PROGRAM_BLOCKS * blocks::BLOCK_SIZE;
+
+// The first number that has no place: 17.
+const NO_PROGRAM: u32 = 17;
+
+const LINE_END: u8 = 10;
 
 fn help() {
     files::tell(
@@ -13,8 +18,9 @@ fn help() {
         Reads a program as text and writes its image: blocks of 512 bytes. A text\n\
         that is refused is told on standard error as 'refused' and the number, and\n\
         nothing is written: 15 no token, or a text over 65536 bytes; 16 no\n\
-        derivation; 17 a name, a literal, an argument list or a count. The checker\n\
-        says whether the program is one to run: audala_text < TEXT | audala_list.\n\
+        derivation, both with the line and the column where reading stopped; 17 a\n\
+        name, a literal, an argument list or a count. The checker says whether the\n\
+        program is one to run: audala_text < TEXT | audala_list.\n\
         docs/FORMAT.md has the text's grammar, and says what each number means.\n",
     );
 }
@@ -28,9 +34,46 @@ fn put(image: &[u8], n: u32) {
     }
 }
 
-fn refuse(n: u32) {
+// A line and a column, both from 1.
+struct Spot {
+    line: u64,
+    column: u64,
+}
+
+// Where the byte behind some bytes stands.
+fn behind(front: &[u8]) -> Spot {
+    let mut line: u64 = 1;
+    let mut column: u64 = 1;
+    let mut i = 0;
+    while i < front.len() {
+        if front[i] == LINE_END {
+            line += 1;
+            column = 1;
+        } else {
+            column += 1;
+        }
+        i += 1;
+    }
+    Spot { line, column }
+}
+
+// The place at which reading a text stopped.
+fn tell_place(text: &[u8]) {
+    let at = text_place::place(text);
+    let s = behind(&text[..at]);
+    files::tell(b", line ");
+    files::tell_number(s.line);
+    files::tell(b", column ");
+    files::tell_number(s.column);
+}
+
+// Why there is no image: of 15 and 16 with the place.
+fn refuse(text: &[u8], n: u32) {
     files::tell(b"refused ");
     files::tell_number(n as u64);
+    if n < NO_PROGRAM {
+        tell_place(text);
+    }
     files::tell(b"\n");
 }
 
@@ -42,7 +85,7 @@ fn answer(text: &[u8]) {
         put(&image, r.blocks);
         return;
     }
-    refuse(r.number);
+    refuse(text, r.number);
 }
 
 fn main() {
