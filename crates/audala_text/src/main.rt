@@ -1,6 +1,8 @@
 // Reads program text on standard input and writes its image on standard output (02 §1; docs/FORMAT.md, 'Program text'). A text that is refused is told on
 // standard error with its number and, of 15 and 16, the place at which reading stopped; nothing is written.
 
+ghost use Prim.Native.Nat.{_+_, _≤_, _<_};
+
 // One byte more than a text may have, so that a longer one is told from the longest.
 const TEXT: usize = 65537;
 
@@ -40,18 +42,37 @@ struct Spot {
     column: u64,
 }
 
+// The line behind a byte in a line.
+fn line_behind(line: u64, b: u8) -> u64
+    requires { ⌜ line + 1 < 18446744073709551616 ⌝ }
+    ensures { λ r. ⌜ r ≤ line + 1 ⌝ }
+{
+    if b == LINE_END {
+        return line + 1;
+    }
+    line
+}
+
+// The column behind a byte in a column.
+fn column_behind(column: u64, b: u8) -> u64
+    requires { ⌜ column + 1 < 18446744073709551616 ⌝ }
+    ensures { λ r. ⌜ r ≤ column + 1 ⌝ }
+{
+    if b == LINE_END {
+        return 1;
+    }
+    column + 1
+}
+
 // Where the byte behind some bytes stands.
 fn behind(front: &[u8]) -> Spot {
     let mut line: u64 = 1;
     let mut column: u64 = 1;
     let mut i = 0;
     while i < front.len() {
-        if front[i] == LINE_END {
-            line += 1;
-            column = 1;
-        } else {
-            column += 1;
-        }
+        let b = front[i];
+        line = line_behind(line, b);
+        column = column_behind(column, b);
         i += 1;
     }
     Spot { line, column }
