@@ -99,7 +99,7 @@ module _ (out₀ offsets types out : List ℕ) (place p : ℕ) where
   -- what a row asks: its offsets, room in front
   pub row-fits : (k : ℕ) → RowsReached out₀ offsets types out place p k → 0 < k → Rows offsets types → 146 ≤ place → place ≤ length out₀
       → (getD offsets (k - 1) 0 ≤ getD offsets k 0) × (getD offsets k 0 ≤ getD offsets (k - 1) 0 + 8) × (getD offsets k 0 ≤ length types)
-          × (getD offsets k 0 + 1 ≤ p + getD offsets (k - 1) 0) × (p ≤ length out)
+      × (getD offsets k 0 + 1 ≤ p + getD offsets (k - 1) 0) × (p ≤ length out)
   row-fits zero r l rows m n = absurd (omega arith)
   row-fits (suc j) r l rows m n =
       let inside : j + 1 < length offsets = omega (arith, r .inner) in

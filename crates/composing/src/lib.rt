@@ -111,7 +111,15 @@ pub fn write(text: &[u8], roles: &[u8], numbers: &[u8], stack: &mut [u8], out: &
 }
 
 // The whole stream of a text at the end of the output: the types of parameters in front of what its roles write.
-pub fn stream(text: &[u8], roles: &[u8], numbers: &[u8], offsets: &[usize], types: &[usize], stack: &mut [u8], out: &mut [u8]) -> Placed
+pub fn stream(
+    text: &[u8],
+    roles: &[u8],
+    numbers: &[u8],
+    offsets: &[usize],
+    types: &[usize],
+    stack: &mut [u8],
+    out: &mut [u8],
+) -> Placed
     requires { ⌜ (length (now roles) ≤ length (now text)) × (length (now roles) < length (now stack)) × (length (now out) ≡ 32402) ⌝ }
     requires { ⌜ Rows (now offsets) (now types) ⌝ }
     ensures { λ r. ⌜ placed-in (now (out .exit)) r

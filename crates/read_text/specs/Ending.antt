@@ -1,5 +1,5 @@
--- How reading a text ends (02 §1), by the stream that it is read as: 17 where there is none, 13 for an output that is too short, or the image of the stream. What
--- is answered, and what is left in the output.
+-- How reading a text ends (02 §1), by the stream that it is read as: 17 where there is none, 13 for an output that is too short, or the image of the stream.
+-- What is answered, and what is left in the output.
 use Prim.Native.Nat.{ℕ, _*_}
 use mathlib.Core.Bool.{Bool, true, false}
 use mathlib.Core.List.{List, _++_}

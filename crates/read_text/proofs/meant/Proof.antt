@@ -31,7 +31,8 @@ numbers-requires : tie.Need-numbers-requires
 numbers-requires c κs =
     let s = entry c in let args = s .args in let pre = s .pre .0 in let r = s .pre .1 in (
       (pre .0, pre .2),
-      ((simp length-replicate (omega (arith, pre .0, pre .1)), length-replicate {A = ℕ} 323 0), fronted (args .text .now) (args .roles .now) (r .derivation) (r .stands)),
+      ((simp length-replicate (omega (arith, pre .0, pre .1)), length-replicate {A = ℕ} 323 0),
+      fronted (args .text .now) (args .roles .now) (r .derivation) (r .stands)),
     )
 
 returns : tie.Need-returns
@@ -94,7 +95,7 @@ imaged-requires c κs =
 
 returns-3 : tie.Need-returns-3
 returns-3 c =
-    let at-imaged = c .before .before in let at-placed = at-imaged .before .before .before .before .before in
+    let at-imaged = c .before .before in let at-stream = at-imaged .before .before .before in let at-placed = at-stream .before .before in
     let m = at-composed (at-placed .before .before) in let known = at-known (m .before) in
     let at-names = known .before in let n = at-numbers (at-names .before .before) in let args = entry (n .before) .args in let r = n .numbers2 in
     at-ends (args .text .now) (args .roles .now) (args .out .now) _ (r .result) (r .ensures .0) _ (at-names .names .given .1)
