@@ -1,5 +1,11 @@
 pub mod PartLaws
 pub mod Lent
+pub mod Declaring
 pub mod Seeing
 pub mod SeeingLaws
-pub mod Declaring
+pub mod StackLaws
+pub mod BracketLaws
+pub mod ChangeLaws
+pub mod NameLaws
+pub mod LoopLaws
+pub mod NumberedLaws

@@ -56,7 +56,8 @@ fn close(stack: &[u8], n: u8, c: Scope) -> Passed
         return Passed::Stop;
     }
     let h = d - 1;
-    if stack[h] != n {
+    let m = stack[h];
+    if m != n {
         return Passed::Stop;
     }
     Passed::On(dued(c, h))
@@ -91,9 +92,10 @@ fn open_if(stack: &mut [u8], c: Scope) -> Passed
     ensures { λ _. ⌜ length (now (stack .exit)) ≡ length (now (stack .entry)) ⌝ }
 {
     let n = c.living - c.fresh;
-    let h = stack.len() - 1 - c.bodies;
+    let b = c.bodies;
+    let h = stack.len() - (b + 1);
     stack[h] = n as u8;
-    Passed::On(lived(c, c.met, n, c.bodies + 1))
+    Passed::On(lived(c, c.met, n, b + 1))
 }
 
 // It is closed, and its locals are dead.
@@ -109,10 +111,11 @@ fn close_if(stack: &[u8], c: Scope) -> Passed
     }
     let h = stack.len() - b;
     let n = stack[h] as usize;
-    if n < c.living {
+    let living = c.living;
+    if n < living {
         return Passed::On(lived(c, c.met, n, b - 1));
     }
-    Passed::On(lived(c, c.met, c.living, b - 1))
+    Passed::On(lived(c, c.met, living, b - 1))
 }
 
 // Brackets, braces and commas.

@@ -21,6 +21,8 @@ const OFFSETS: usize = 16;
 
 const STRUCT_COUNT: usize = 321;
 
+const DECLARED: usize = 8;
+
 const LIVING: usize = 16;
 
 const NUMBERS: usize = 24;
@@ -103,10 +105,10 @@ fn store(locals: &mut [usize], at: usize, met: usize, n: usize, typ: usize)
     requires { ⌜ (length (now locals) ≡ 32) × (met < 8) × (n < 8) ⌝ }
     ensures { λ _. ⌜ now (locals .exit) ≡ with-local (now (locals .entry)) at met n typ ⌝ }
 {
-    locals[7 - met] = at;
-    locals[LIVING - 1 - n] = at;
-    locals[NUMBERS - 1 - n] = met;
-    locals[BYTES - 1 - n] = typ;
+    locals[DECLARED - (met + 1)] = at;
+    locals[LIVING - (n + 1)] = at;
+    locals[NUMBERS - (n + 1)] = met;
+    locals[BYTES - (n + 1)] = typ;
 }
 
 // A local is declared: it comes alive behind its declaration.
@@ -147,7 +149,7 @@ pub(crate) fn name_role(text: &[u8], tables: &[usize], locals: &mut [usize], sta
         ≡ use-name (book-in (now (text .entry)) (now (tables .entry))) (naming-at role) (name-at (now (text .entry)) at)
         (use-in (now (text .entry)) (now (locals .entry)) (now (stack .entry)) c o)) ⌝ }
     ensures { λ r. ⌜ Next (now (tables .entry)) (now (locals .exit)) c r ⌝ }
-    ensures { λ _. ⌜ length (now (stack .exit)) ≡ length (now (stack .entry)) ⌝ }
+    ensures { λ _. ⌜ (length (now (stack .exit)) ≡ length (now (stack .entry))) × (length (now (locals .exit)) ≡ length (now (locals .entry))) ⌝ }
 {
     if role == 39 {
         return begin(tables, c);
@@ -167,6 +169,17 @@ pub(crate) fn name_role(text: &[u8], tables: &[usize], locals: &mut [usize], sta
     left(c, looked::seen(text, tables, locals, at, role, c))
 }
 
+// The number of a type among the four kinds, by its role behind a declaration or null.
+fn type_number(role: u8) -> u8
+    requires { ⌜ (55 ≤ role) × (role < 63) ⌝ }
+    ensures { λ r. ⌜ r ≡ number-at role ⌝ }
+{
+    if role < 59 {
+        return role - 55;
+    }
+    role - 59
+}
+
 // A type behind a declaration or null: from 55 on and from 59 on.
 pub(crate) fn type_role(text: &[u8], tables: &[usize], at: usize, role: u8, c: Scope) -> Passed
     requires { ⌜ Booked (now tables) × (51 ≤ role) × (role < 63) ⌝ }
@@ -179,7 +192,7 @@ pub(crate) fn type_role(text: &[u8], tables: &[usize], at: usize, role: u8, c: S
         return Passed::On(c);
     }
     let s = tables[STRUCT_COUNT];
-    let b = declarations::type_byte(text, &tables[0..s], (role - 55) % 4, at);
+    let b = declarations::type_byte(text, &tables[0..s], type_number(role), at);
     if b >= types::STRUCT as usize + s {
         return Passed::Stop;
     }

@@ -1,3 +1,6 @@
+-- `parts::lived` meets its contract.
+use mathlib.Core.Path.{refl}
+use Rattle.uses.specs.Seeing.{lived}
 use Rattle.uses.proofs.parts.lived.Statement.{statement}
 use Rattle.uses.proofs.parts.lived.Tie as tie
 use Rattle.uses.proofs.parts.lived.Reads as reads
@@ -5,7 +8,8 @@ use Rattle.uses.proofs.parts.lived.Lts as lts
 
 -- src/parts.rt:33:1
 returns : tie.Need-returns
-returns c = ?
+unfolding lived
+returns c = refl
 
 pub lived-spec : {M : Type 1} → statement M
 lived-spec = tie.close (tie.spec returns)

@@ -1,3 +1,6 @@
+-- `passing::left` meets its contract.
+use mathlib.Core.Path.{sym, ap}
+use Rattle.uses.specs.Seeing.{retyped, seen-passed}
 use borrow.Author.Needs.{needs}
 use Rattle.uses.proofs.passing.left.Statement.{statement}
 use Rattle.uses.proofs.passing.left.Tie as tie
@@ -14,11 +17,13 @@ enum-told c = search needs
 
 -- src/passing.rt:31:1
 returns : tie.Need-returns
-returns c = ?
+unfolding seen-passed retyped
+returns c = ap (seen-passed (c .before .before .before .args .c)) (sym (c .before .s .given .1))
 
 -- src/passing.rt:31:1
 returns-2 : tie.Need-returns-2
-returns-2 c = ?
+unfolding seen-passed
+returns-2 c = ap (seen-passed (c .before .before .args .c)) (sym (c .enum-told .given .1))
 
 pub left-spec : {M : Type 1} → statement M
 left-spec = tie.close (tie.spec enum-known-s enum-told returns returns-2)
