@@ -1,24 +1,23 @@
 -- Brackets, braces, commas, semicolons and literals by their bytes (02 §1): one law for each way through the code.
-use Prim.Native.Nat.{ℕ, zero, suc, _+_, _-_, _≤_, _<_}
+use Prim.Native.Nat.{ℕ, zero, suc, _+_, _-_, _≤_}
 use native.Mathlib.Omega.{arith}
 use mathlib.Core.Path.{_≡_, refl, sym, ap, _∙_}
 use mathlib.Core.Bool.{Bool, true, false}
 use mathlib.Core.List.{List, [], _∷_}
-use mathlib.Core.Option.{Option, none, some}
+use mathlib.Core.Option.{some}
 use lib.ListN.{length, getD, drop}
 use lib.Seq.{getD-drop, drop-drop}
-use lib.Dec.{eqb, ltb}
-use borrow.Author.Tests.{eq-eqb, ne-eqb}
+use lib.Dec.{ltb}
+use borrow.Author.Tests.{ne-eqb}
 use Rattle.tokens.specs.Tokens.{Polarity}
 use Rattle.tokens.specs.Scanning.{polarity}
 use Rattle.syntax.specs.Syntax.{Literal.int-literal, Literal.nat-literal}
-use Rattle.program.specs.Tree.{Expr, Expr.int-lit, Expr.nat-lit}
+use Rattle.program.specs.Tree.{Expr.int-lit, Expr.nat-lit}
 use Rattle.types.specs.Values.{in-int, int-word}
 use Rattle.meaning.specs.Values.{signed, decimal}
 use Rattle.types.specs.Limits.{nat-end}
 use Rattle.meaning.specs.Meant.{then, provided, literal-meaning}
-use Rattle.derive.specs.Held.{held}
-use Rattle.derive.specs.Roles.{Part, Part.brackets-open, Part.brackets-close, Part.args-open, Part.args-close, Part.no-args-close, Part.pars-open, Part.pars-close, Part.fix-open, Part.fix-close, Part.steps-open, Part.steps-close, Part.body-open, Part.body-close, Part.then-open, Part.then-close, Part.par-comma, Part.arg-comma, Part.barrier-sign}
+use Rattle.derive.specs.Roles.{Part.brackets-open, Part.brackets-close, Part.args-open, Part.args-close, Part.no-args-close, Part.pars-open, Part.pars-close, Part.fix-open, Part.fix-close, Part.steps-open, Part.steps-close, Part.body-open, Part.body-close, Part.then-open, Part.then-close, Part.par-comma, Part.arg-comma, Part.barrier-sign}
 use Rattle.resolve.specs.Digits.{digits-of, word-of, nat-at, int-at}
 use Rattle.resolve.specs.Using.{Use, live, chosen, use-goes, use-closes, use-dies, use-opens, use-part, use-token}
 use Rattle.resolve.specs.UsingAt.{part-at, use-kind}
@@ -28,7 +27,7 @@ use Rattle.uses.specs.Lent.{use-in, Roomy, passed-in, Next}
 use Rattle.uses.specs.Seeing.{lived, word-passed}
 use Rattle.uses.specs.StackLaws.{next-stop, next-same}
 use Rattle.uses.specs.declared.Scope.{Scope}
-use Rattle.uses.specs.declared.Passed.the-variants.{Stop, On, Left}
+use Rattle.uses.specs.declared.Passed.the-variants.{On}
 
 -- By their bytes ---------------------------------------------------------------------------------
 

@@ -1,36 +1,27 @@
 -- What names and types do to the pass over uses, in lent memory (02 §1): one law for each way through the code.
 use Prim.Native.Nat.{ℕ, zero, suc, _+_, _-_, _≤_, _<_}
 use native.Mathlib.Omega.{arith}
-use mathlib.Core.Path.{_≡_, refl, sym, ap, _∙_}
-use mathlib.Core.Bool.{Bool, true, false, _&&_}
-use mathlib.Core.List.{List, [], _∷_, map}
+use mathlib.Core.Path.{_≡_, refl, ap, _∙_}
+use mathlib.Core.Bool.{Bool, true, false}
+use mathlib.Core.List.{List, [], _∷_}
 use mathlib.Core.Option.{Option, none, some}
-use lib.ListN.{length, getD, set, drop, length-set, length-map}
-use lib.Seq.{getD-set-same, getD-set-other}
-use lib.Dec.{leb, ltb}
-use borrow.Author.Tests.{lt-ltb, le-ltb, le-leb, lt-leb}
-use Rattle.types.specs.Limits.{first-local, max-locals}
+use lib.ListN.{length, getD, drop}
+use lib.Dec.{ltb}
+use Rattle.types.specs.Limits.{first-local}
 use Rattle.types.specs.Types.{struct-code}
-use Rattle.syntax.specs.Syntax.{Id, TypeName}
-use Rattle.derive.specs.Held.{held}
-use Rattle.derive.specs.HeldLaws.{held-push}
+use Rattle.syntax.specs.Syntax.{Id}
 use Rattle.derive.specs.Roles.{Naming, Naming.new-struct, Naming.new-par, Naming.new-step, Naming.new-local, Naming.first-read, Naming.first-written, Naming.later-variable, Naming.made, Naming.made-statement, Naming.called, Naming.called-struct, Naming.called-step}
-use Rattle.derive.specs.Roles.{Typed, Typed.of-par, Typed.of-local, Typed.of-null}
 use Rattle.meaning.specs.Meant.{provided}
-use Rattle.resolve.specs.Named.{name-at, names-at, sought}
-use Rattle.resolve.specs.Checks.{part-of, byte-of, type-here}
-use Rattle.resolve.specs.Using.{Book, Use, chosen, own-row, leave, due, live, begin, use-listed, use-par, use-local, use-made, use-first, use-behind, use-new, use-name, use-type}
-use Rattle.resolve.specs.UsingAt.{naming-at, typed-at, number-at}
-use Rattle.uses.specs.PartLaws.{up-to, mapped-long, part-behind, part-before, up-to-more, up-to-long}
-use Rattle.uses.specs.Lent.{structs-of-table, row-start, row-end, book-in, Booked, use-in, Small, Roomy, passed-in, Next}
-use Rattle.uses.specs.Seeing.{seen-listed, seen-par, seen-local, seen-first, seen-behind, seen-name, seen-left, seen-passed, retyped, dued, with-local}
-use Rattle.uses.specs.SeeingLaws.{structs-long, row-long}
-use Rattle.uses.specs.StackLaws.{heights-stay, rest, rest-names}
+use Rattle.resolve.specs.Named.{sought}
+use Rattle.resolve.specs.Using.{Book, Use, chosen, own-row, leave, use-listed, use-par, use-local, use-made, use-first, use-behind, use-new, use-name}
+use Rattle.resolve.specs.UsingAt.{naming-at}
+use Rattle.uses.specs.Lent.{book-in, use-in, Roomy, passed-in, Next}
+use Rattle.uses.specs.Seeing.{seen-listed, seen-par, seen-local, seen-first, seen-behind, seen-name, seen-left, seen-passed, retyped}
 use Rattle.uses.specs.declared.Scope.{Scope}
 use Rattle.uses.specs.declared.Seen.{Seen}
 use Rattle.uses.specs.declared.Seen.the-variants.{Of, Nothing}
 use Rattle.uses.specs.declared.Passed.{Passed}
-use Rattle.uses.specs.declared.Passed.the-variants.{Stop, On, Left}
+use Rattle.uses.specs.declared.Passed.the-variants.{On}
 
 -- Names that are looked up -----------------------------------------------------------------------
 

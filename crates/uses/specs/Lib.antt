@@ -1,6 +1,5 @@
 pub mod PartLaws
 pub mod Lent
-pub mod Declaring
 pub mod Seeing
 pub mod SeeingLaws
 pub mod StackLaws
@@ -8,4 +7,12 @@ pub mod BracketLaws
 pub mod ChangeLaws
 pub mod NameLaws
 pub mod LoopLaws
+pub mod Declaring
+pub mod Tabling
+pub mod PutLaws
+pub mod OffsetLaws
+pub mod LayingLaws
+pub mod TablingLaws
+pub mod TabledLaws
 pub mod NumberedLaws
+pub mod DeclaringLaws

@@ -4,10 +4,10 @@ use native.Mathlib.Omega.{arith}
 use native.Mathlib.Numerals.{add-one}
 use mathlib.Core.Path.{_≡_, refl, sym, ap, _∙_}
 use mathlib.Core.List.{List, [], _∷_}
-use mathlib.Core.Option.{Option, none, some}
+use mathlib.Core.Option.{some}
 use lib.ListN.{length, getD, set, take, drop, length-set, drop-of-length-le}
 use lib.Seq.{drop-cons}
-use lib.Dec.{eqb, ltb}
+use lib.Dec.{eqb}
 use borrow.Author.Tests.{lt-ltb, le-ltb, eq-eqb, ne-eqb}
 use Rattle.meaning.specs.Meant.{then}
 use Rattle.derive.specs.Held.{held}
@@ -17,7 +17,7 @@ use Rattle.resolve.specs.Checks.{type-here}
 use Rattle.resolve.specs.Using.{Book, Use, chosen, use-start, use-name, use-type, use-part}
 use Rattle.resolve.specs.UsingAt.{naming-at, typed-at, number-at, part-at, use-kind, use-at, uses-at}
 use Rattle.uses.specs.PartLaws.{up-to}
-use Rattle.uses.specs.Lent.{book-in, use-in, Roomy, passed-in, Next, numbered-in, Counted, used-out}
+use Rattle.uses.specs.Lent.{book-in, use-in, Roomy, passed-in, Next, numbered-in, used-out}
 use Rattle.uses.specs.declared.Scope.{Scope}
 use Rattle.uses.specs.declared.Passed.{Passed}
 use Rattle.uses.specs.declared.Passed.the-variants.{Stop, On, Left}

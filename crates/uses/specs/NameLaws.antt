@@ -4,8 +4,8 @@ use native.Mathlib.Omega.{arith}
 use native.Mathlib.Numerals.{add-one}
 use mathlib.Core.Path.{_≡_, refl, sym, ap, _∙_}
 use mathlib.Core.Bool.{Bool, true, false, _&&_}
-use mathlib.Core.List.{List, [], _∷_, map}
-use mathlib.Core.Option.{Option, none, some}
+use mathlib.Core.List.{List, [], _∷_}
+use mathlib.Core.Option.{Option, some}
 use lib.ListN.{length, getD, set, drop, length-set, length-map}
 use lib.Seq.{getD-set-same, getD-set-other}
 use lib.Dec.{eqb, leb, ltb}
@@ -13,7 +13,6 @@ use borrow.Author.Tests.{lt-ltb, le-ltb, eqb-true, eqb-false}
 use Rattle.types.specs.Limits.{first-local, max-locals}
 use Rattle.types.specs.Types.{struct-code}
 use Rattle.syntax.specs.Syntax.{Id, TypeName}
-use Rattle.derive.specs.Held.{held}
 use Rattle.derive.specs.HeldLaws.{held-push}
 use Rattle.derive.specs.Roles.{Naming.new-struct, Typed, Typed.of-par, Typed.of-local, Typed.of-null}
 use Rattle.meaning.specs.Meant.{provided}
@@ -223,15 +222,14 @@ module _ (x t l : List ℕ) (c : Scope) (r : Roomy t l c) (at : ℕ) (q : Bool)
     unfolding passed-in use-in live leave
     stored h =
         let less : c .living - c .fresh < 8 = omega (arith, r .living, h) in
-        rw
-        (
+        rw (
           met-stored l (r .long) at (c .met) (c .living - c .fresh) (c .typ) h less,
           living-stored l (r .long) at (c .met) (c .living - c .fresh) (c .typ) h less,
           numbers-stored l (r .long) at (c .met) (c .living - c .fresh) (c .typ) h less,
           bytes-stored l (r .long) at (c .met) (c .living - c .fresh) (c .typ) h less,
           rest-names x l k o c r,
           rest x l k o c r 24 (omega arith),
-          rest x l k o c r 32 (omega arith)
+          rest x l k o c r 32 (omega arith),
         )
         refl
 

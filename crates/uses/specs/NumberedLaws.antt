@@ -3,7 +3,7 @@ use Prim.Native.Nat.{ℕ}
 use mathlib.Core.Path.{_≡_, refl, sym, ap, _∙_}
 use mathlib.Core.Bool.{Bool, true, false}
 use mathlib.Core.List.{List}
-use Rattle.meaning.specs.Meant.{then, provided}
+use Rattle.meaning.specs.Meant.{provided}
 use Rattle.resolve.specs.WellDeclared.{tables-ok}
 use Rattle.resolve.specs.Using.{use-start}
 use Rattle.resolve.specs.UsingAt.{uses-at}

@@ -1,6 +1,6 @@
 -- What a name stands for (02 §1), as its number and the byte of a type, by what the pass over uses knows; and what is left of it.
 use Prim.Native.Nat.{ℕ, _+_, _-_}
-use mathlib.Core.List.{List, [], _∷_}
+use mathlib.Core.List.{List, []}
 use mathlib.Core.Option.{Option, none, some}
 use lib.ListN.{length, getD, set, drop}
 use lib.Dec.{ltb}

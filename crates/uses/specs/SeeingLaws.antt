@@ -1,24 +1,24 @@
 -- What a name stands for, by the tables of a text (02 §1): one law for each way through the code.
 use Prim.Native.Nat.{ℕ, zero, suc, _+_, _-_, _≤_, _<_}
 use native.Mathlib.Omega.{arith}
-use native.Mathlib.Numerals.{add-one, sub-one}
+use native.Mathlib.Numerals.{sub-one}
 use mathlib.Core.Path.{_≡_, refl, sym, ap, _∙_}
 use mathlib.Core.Bool.{Bool, true, false, _&&_}
-use mathlib.Core.List.{List, [], _∷_, map}
+use mathlib.Core.List.{List, [], _∷_}
 use lib.ListN.{length, getD, drop}
 use lib.Dec.{leb, ltb}
 use borrow.Author.Tests.{ltb-true, ltb-false, lt-ltb, le-ltb, le-leb, lt-leb}
 use Rattle.types.specs.Limits.{first-local}
 use Rattle.types.specs.Types.{struct-code}
 use Rattle.syntax.specs.Syntax.{Id}
-use Rattle.derive.specs.Roles.{Naming, Naming.new-struct, Naming.new-par, Naming.new-step, Naming.new-local, Naming.first-read, Naming.first-written, Naming.later-variable, Naming.made, Naming.made-statement, Naming.called, Naming.called-struct, Naming.called-step}
+use Rattle.derive.specs.Roles.{Naming.new-struct, Naming.new-par, Naming.new-step, Naming.new-local, Naming.first-read, Naming.first-written, Naming.later-variable, Naming.made, Naming.made-statement, Naming.called, Naming.called-struct, Naming.called-step}
 use Rattle.resolve.specs.Named.{name-at, names-at, sought}
 use Rattle.resolve.specs.Checks.{part-of}
 use Rattle.resolve.specs.Using.{Book, Use, chosen, own-row}
 use Rattle.resolve.specs.UsingAt.{naming-at}
 use Rattle.resolve.specs.Resolved.{cuts}
 use Rattle.uses.specs.PartLaws.{up-to, map-drop, map-part, cuts-at, part-at, part-long, mapped-long, part-part, drop-up-to}
-use Rattle.uses.specs.Lent.{structs-of-table, names-of-table, row-start, row-end, book-in, Booked, use-in, Small, Roomy}
+use Rattle.uses.specs.Lent.{structs-of-table, row-start, row-end, book-in, Booked, use-in, Roomy}
 use Rattle.uses.specs.Seeing.{seen-listed, seen-par, seen-local, seen-first, seen-behind, seen-name}
 use Rattle.uses.specs.declared.Scope.{Scope}
 use Rattle.uses.specs.declared.Seen.{Seen}

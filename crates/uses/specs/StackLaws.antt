@@ -1,25 +1,23 @@
 -- Arguments due and open ifs in lent memory (02 §1): one law for each way through the code of brackets, braces and commas.
 use Prim.Native.Nat.{ℕ, zero, suc, _+_, _-_, _≤_, _<_}
 use native.Mathlib.Omega.{arith}
-use native.Mathlib.Numerals.{add-one, sub-one}
+use native.Mathlib.Numerals.{sub-one}
 use mathlib.Core.Path.{_≡_, refl, sym, ap, _∙_}
-use mathlib.Core.List.{List, [], _∷_, map}
-use mathlib.Core.Option.{Option, none, some}
+use mathlib.Core.List.{List, [], _∷_}
+use mathlib.Core.Option.{some}
 use lib.ListN.{length, getD, set, take, drop, length-set, length-map}
 use lib.Seq.{drop-cons}
-use lib.Dec.{eqb}
 use borrow.Author.Tests.{eq-eqb, ne-eqb}
 use Rattle.derive.specs.Held.{held}
 use Rattle.derive.specs.HeldLaws.{held-set, held-push}
 use Rattle.meaning.specs.Meant.{provided}
 use Rattle.resolve.specs.Named.{name-at, names-at}
-use Rattle.resolve.specs.Checks.{part-of}
 use Rattle.resolve.specs.Using.{Use, due, live, last-of, use-goes, use-closes, use-dies, use-opens}
-use Rattle.uses.specs.PartLaws.{up-to, pair, map-drop, mapped-long, part-behind, up-to-more, up-to-long, drop-up-to, last-up-to, last-all}
+use Rattle.uses.specs.PartLaws.{up-to, map-drop, mapped-long, part-behind, up-to-more, up-to-long, drop-up-to, last-up-to, last-all}
 use Rattle.uses.specs.Lent.{use-in, Roomy, passed-in, Next}
 use Rattle.uses.specs.Seeing.{dued, lived}
 use Rattle.uses.specs.declared.Scope.{Scope}
-use Rattle.uses.specs.declared.Passed.the-variants.{Stop, On, Left}
+use Rattle.uses.specs.declared.Passed.the-variants.{Stop, On}
 
 held-top : (k : List ℕ) (d : ℕ) → (d ≡ 0 → ⊥) → held k d ≡ getD k (d - 1) 0 ∷ held k (d - 1)
 unfolding held
@@ -74,18 +72,17 @@ module _ (t l : List ℕ) (c : Scope) (r : Roomy t l c) where
 
   pub next-lived : (m n b : ℕ) → m ≤ 8 → n ≤ m → n ≤ c .living → b ≤ c .bodies + 1 → Next t l c (On (lived c m n b))
   unfolding Next lived
-  next-lived m n b g h i j =
-      (
-        record {
-          long = r .long;
-          begun = r .begun;
-          met = g;
-          living = h;
-          fresh = omega arith;
-          small = λ p q s. r .small p (omega (arith, q, i)) s;
-        },
-        omega arith
-      )
+  next-lived m n b g h i j = (
+    record {
+      long = r .long;
+      begun = r .begun;
+      met = g;
+      living = h;
+      fresh = omega arith;
+      small = λ p q s. r .small p (omega (arith, q, i)) s;
+    },
+    omega arith,
+  )
 
 -- Arguments --------------------------------------------------------------------------------------
 
@@ -190,12 +187,11 @@ module _ (x l k o : List ℕ) (c : Scope) {t : List ℕ} (r : Roomy t l c) where
         let a = r .living in
         let b = r .met in
         let e = r .long in
-        rw
-        (
+        rw (
           up-to-top k (c .bodies) n fits,
           last-names height (omega (arith, h)),
           last-up-to l 24 (c .living) height (omega (arith, h)) (omega (arith, a, b)) (omega (arith, e)),
-          last-up-to l 32 (c .living) height (omega (arith, h)) (omega (arith, a, b)) (omega (arith, e))
+          last-up-to l 32 (c .living) height (omega (arith, h)) (omega (arith, a, b)) (omega (arith, e)),
         )
         refl
 
@@ -208,11 +204,10 @@ module _ (x l k o : List ℕ) (c : Scope) {t : List ℕ} (r : Roomy t l c) where
         let e = r .long in
         let f = up-to-long l 24 (c .living) (omega (arith, a, b)) (omega (arith, e)) in
         let g = up-to-long l 32 (c .living) (omega (arith, a, b)) (omega (arith, e)) in
-        rw
-        (
+        rw (
           up-to-top k (c .bodies) n fits,
           last-all (names-at x (up-to l 16 (c .living))) height (omega (arith, h, names-long)),
           last-all (up-to l 24 (c .living)) height (omega (arith, h, f)),
-          last-all (up-to l 32 (c .living)) height (omega (arith, h, g))
+          last-all (up-to l 32 (c .living)) height (omega (arith, h, g)),
         )
         refl

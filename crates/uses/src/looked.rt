@@ -31,7 +31,14 @@ const NAME_COUNT: usize = 322;
 const LIVING: usize = 16;
 
 // The number of a name among those from a to b of a table, and a type's byte.
-pub(crate) fn listed(text: &[u8], table: &[usize], a: usize, b: usize, at: usize, typ: usize) -> Seen
+pub(crate) fn listed(
+    text: &[u8],
+    table: &[usize],
+    a: usize,
+    b: usize,
+    at: usize,
+    typ: usize,
+) -> Seen
     requires { ⌜ (a ≤ b) × (b ≤ a + 32) × (b ≤ length (now table)) ⌝ }
     ensures { λ r. ⌜ r ≡ seen-listed (names-at (now (text .entry)) (part-of (now (table .entry)) a b)) (name-at (now (text .entry)) at) typ ⌝ }
 {
@@ -68,7 +75,10 @@ pub(crate) fn local(text: &[u8], locals: &[usize], n: usize, at: usize) -> Seen
     if k >= n {
         return Seen::Nothing;
     }
-    Seen::Of((types::FIRST_LOCAL + locals[a + k + 8]) as u8, locals[a + k + 16])
+    Seen::Of(
+        (types::FIRST_LOCAL + locals[a + k + 8]) as u8,
+        locals[a + k + 16],
+    )
 }
 
 // The first variable of a path: a parameter of the struct at hand, or a living local.
@@ -103,7 +113,14 @@ pub(crate) fn later(text: &[u8], tables: &[usize], at: usize, typ: usize) -> See
 }
 
 // What the name in a role stands for: the first or a later variable, a struct, a step.
-pub(crate) fn seen(text: &[u8], tables: &[usize], locals: &[usize], at: usize, role: u8, c: Scope) -> Seen
+pub(crate) fn seen(
+    text: &[u8],
+    tables: &[usize],
+    locals: &[usize],
+    at: usize,
+    role: u8,
+    c: Scope,
+) -> Seen
     requires { ⌜ Booked (now tables) × Roomy (now tables) (now locals) c ⌝ }
     ensures { λ r. ⌜ r ≡ seen-name (book-in (now (text .entry)) (now (tables .entry))) (naming-at role) (name-at (now (text .entry)) at)
         (use-in (now (text .entry)) (now (locals .entry)) [] c []) ⌝ }
@@ -140,7 +157,14 @@ fn no_parameter(text: &[u8], tables: &[usize], begun: usize, at: usize) -> bool
 }
 
 // Whether a name is none of a step's locals and none of its struct's parameters.
-pub(crate) fn unused(text: &[u8], tables: &[usize], locals: &[usize], at: usize, met: usize, begun: usize) -> bool
+pub(crate) fn unused(
+    text: &[u8],
+    tables: &[usize],
+    locals: &[usize],
+    at: usize,
+    met: usize,
+    begun: usize,
+) -> bool
     requires { ⌜ Booked (now tables) × (begun ≤ structs-of-table (now tables)) ⌝ }
     requires { ⌜ (length (now locals) ≡ 32) × (met ≤ 8) ⌝ }
     ensures { λ r. ⌜ r ≡ (leb met (sought (name-at (now (text .entry)) at) (names-at (now (text .entry)) (up-to (now (locals .entry)) 8 met)))

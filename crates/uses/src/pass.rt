@@ -15,7 +15,15 @@ ghost use Rattle.resolve.specs.UsingAt.{use-at, uses-at};
 ghost use Rattle.uses.specs.Lent.{book-in, Booked, use-in, Roomy, passed-in, Next, numbered-in, used-out, Counted};
 
 // One place where a token begins.
-fn use_at(text: &[u8], tables: &[usize], locals: &mut [usize], stack: &mut [u8], at: usize, role: u8, c: Scope) -> Passed
+fn use_at(
+    text: &[u8],
+    tables: &[usize],
+    locals: &mut [usize],
+    stack: &mut [u8],
+    at: usize,
+    role: u8,
+    c: Scope,
+) -> Passed
     requires { ⌜ Booked (now tables) × Roomy (now tables) (now locals) c × (c .dues + c .bodies < length (now stack)) × (at < length (now text)) ⌝ }
     ensures { λ r. ⌜ ((o : List ℕ) → passed-in (now (text .entry)) (now (locals .exit)) (now (stack .exit)) r o
         ≡ use-at (book-in (now (text .entry)) (now (tables .entry))) role (drop at (now (text .entry)))
@@ -36,7 +44,15 @@ fn use_at(text: &[u8], tables: &[usize], locals: &mut [usize], stack: &mut [u8],
 }
 
 // One place: 0 stands where no token begins.
-fn turn(text: &[u8], tables: &[usize], locals: &mut [usize], stack: &mut [u8], at: usize, role: u8, c: Scope) -> Passed
+fn turn(
+    text: &[u8],
+    tables: &[usize],
+    locals: &mut [usize],
+    stack: &mut [u8],
+    at: usize,
+    role: u8,
+    c: Scope,
+) -> Passed
     requires { ⌜ Booked (now tables) × Roomy (now tables) (now locals) c × (c .dues + c .bodies < length (now stack)) × (at < length (now text)) ⌝ }
     ensures { λ r. ⌜ ((o : List ℕ) → passed-in (now (text .entry)) (now (locals .exit)) (now (stack .exit)) r o
         ≡ chosen (eqb role 0) (some (use-in (now (text .entry)) (now (locals .entry)) (now (stack .entry)) c o))
@@ -52,7 +68,14 @@ fn turn(text: &[u8], tables: &[usize], locals: &mut [usize], stack: &mut [u8], a
 }
 
 // The numbers of a text's uses, in order; or that there are none (17).
-pub(crate) fn uses(text: &[u8], roles: &[u8], tables: &[usize], locals: &mut [usize], stack: &mut [u8], numbers: &mut [u8]) -> Numbered
+pub(crate) fn uses(
+    text: &[u8],
+    roles: &[u8],
+    tables: &[usize],
+    locals: &mut [usize],
+    stack: &mut [u8],
+    numbers: &mut [u8],
+) -> Numbered
     requires { ⌜ Booked (now tables) × (length (now locals) ≡ 32) ⌝ }
     requires { ⌜ (length (now roles) ≡ length (now text)) × (length (now roles) < length (now stack)) × (length (now roles) ≤ length (now numbers)) ⌝ }
     ensures { λ r. ⌜ numbered-in (now (numbers .exit)) r

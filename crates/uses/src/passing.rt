@@ -143,7 +143,15 @@ fn declare(text: &[u8], tables: &[usize], locals: &mut [usize], at: usize, c: Sc
 }
 
 // A name, by its role.
-pub(crate) fn name_role(text: &[u8], tables: &[usize], locals: &mut [usize], stack: &mut [u8], at: usize, role: u8, c: Scope) -> Passed
+pub(crate) fn name_role(
+    text: &[u8],
+    tables: &[usize],
+    locals: &mut [usize],
+    stack: &mut [u8],
+    at: usize,
+    role: u8,
+    c: Scope,
+) -> Passed
     requires { ⌜ Booked (now tables) × Roomy (now tables) (now locals) c × (c .dues + c .bodies < length (now stack)) × (39 ≤ role) × (role < 51) ⌝ }
     ensures { λ r. ⌜ ((o : List ℕ) → passed-in (now (text .entry)) (now (locals .exit)) (now (stack .exit)) r o
         ≡ use-name (book-in (now (text .entry)) (now (tables .entry))) (naming-at role) (name-at (now (text .entry)) at)

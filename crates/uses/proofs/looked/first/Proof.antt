@@ -7,48 +7,24 @@ use Rattle.uses.specs.SeeingLaws.{first-none, first-own, first-alive}
 use borrow.Author.Needs.{needs}
 use Rattle.uses.proofs.looked.first.Statement.{statement}
 use Rattle.uses.proofs.looked.first.Tie as tie
-use Rattle.uses.proofs.looked.first.Reads as reads
-use Rattle.uses.proofs.looked.first.Lts as lts
-use Rattle.uses.proofs.looked.local.Reads as local-reads
-use Rattle.uses.proofs.looked.parameter.Reads as parameter-reads
 
--- src/looked.rt:80:13
-sub-n : tie.Need-sub-n
-sub-n c = search needs
-
--- src/looked.rt:82:9
 local-requires : tie.Need-local-requires
 local-requires c κs =
     let at-4 = c .before .before .before .before in
     let r = at-4 .before .before .pre .1 in
     (r .long, omega (arith, r .met, r .living), λ i g h. r .small i (omega (arith, g)) h)
 
--- src/looked.rt:82:9
 returns : tie.Need-returns
 returns c =
     let at-4 = c .before .before .before .before in
     c .local .ensures ∙ first-none (at-4 .before .before .before .args .text .now) (at-4 .before .before .before .args .tables .now) (at-4 .before .before .before .args .locals .now) (at-4 .before .before .before .args .c) (at-4 .before .before .before .pre .1) _ _ (c .before .if1 .taken)
 
--- src/looked.rt:84:35
-sub-parameter : tie.Need-sub-parameter
-sub-parameter c = search needs
-
--- src/looked.rt:84:11
 parameter-requires : tie.Need-parameter-requires
 parameter-requires c κs =
     let at-4 = c .before .before .before .before in
     let h : at-4 .before .before .before .args .c .begun - 1 < structs-of-table (at-4 .before .before .before .args .tables .now) = omega (arith, c .before .if1 .left, at-4 .before .before .before .pre .1 .begun) in
     (at-4 .before .before .before .pre .0, h, at-4 .before .before .before .pre .0 .rows (at-4 .before .before .before .args .c .begun - 1) h)
 
--- src/looked.rt:85:18
-enum-known-k : tie.Need-enum-known-k
-enum-known-k c = search needs
-
--- src/looked.rt:86:26
-enum-told : tie.Need-enum-told
-enum-told c = search needs
-
--- src/looked.rt:86:26
 local-requires-2 : tie.Need-local-requires-2
 local-requires-2 c κs =
     let at-4 = c .before .before .before .before in
@@ -56,7 +32,6 @@ local-requires-2 c κs =
     let r = at-8 .before .before .pre .1 in
     (r .long, omega (arith, r .met, r .living), λ i g h. r .small i (omega (arith, g)) h)
 
--- src/looked.rt:75:1
 returns-2 : tie.Need-returns-2
 returns-2 c =
     let at-4 = c .before .before .before .before in
@@ -64,7 +39,6 @@ returns-2 c =
     first-own (at-8 .before .before .before .args .text .now) (at-8 .before .before .before .args .tables .now) (at-8 .before .before .before .args .locals .now) (at-8 .before .before .before .args .c) (at-8 .before .before .before .pre .1) _ _ (at-4 .before .if1 .left)
     (sym (c .before .k .given .1) ∙ c .before .before .before .parameter .ensures)
 
--- src/looked.rt:75:1
 returns-3 : tie.Need-returns-3
 returns-3 c =
     let at-4 = c .before .before .before .before in
@@ -76,13 +50,13 @@ pub first-spec : {M : Type 1} → statement M
 first-spec =
     tie.close
     (tie.spec
-    sub-n
+    (λ c. search needs)
     local-requires
     returns
-    sub-parameter
+    (λ c. search needs)
     parameter-requires
-    enum-known-k
-    enum-told
+    (λ c. search needs)
+    (λ c. search needs)
     local-requires-2
     returns-2
     returns-3)

@@ -7,48 +7,19 @@ use Rattle.uses.specs.SeeingLaws.{seen-read, seen-written, seen-later, s
 use borrow.Author.Needs.{needs}
 use Rattle.uses.proofs.looked.seen.Statement.{statement}
 use Rattle.uses.proofs.looked.seen.Tie as tie
-use Rattle.uses.proofs.looked.seen.Reads as reads
-use Rattle.uses.proofs.looked.seen.Lts as lts
-use Rattle.uses.proofs.looked.first.Reads as first-reads
-use Rattle.uses.proofs.looked.later.Reads as later-reads
-use Rattle.uses.proofs.looked.listed.Reads as listed-reads
 
--- src/looked.rt:113:9
-first-requires : tie.Need-first-requires
-first-requires c κs = search needs
-
--- src/looked.rt:113:9
 returns : tie.Need-returns
 returns c = c .first .ensures ∙ seen-read _ _ _ _ (c .before .if1 .taken)
 
--- src/looked.rt:116:9
-first-requires-2 : tie.Need-first-requires-2
-first-requires-2 c κs = search needs
-
--- src/looked.rt:116:9
 returns-2 : tie.Need-returns-2
 returns-2 c = c .first2 .ensures ∙ seen-written _ _ _ _ (c .before .if2 .taken)
 
--- src/looked.rt:119:9
-later-requires : tie.Need-later-requires
-later-requires c κs = search needs
-
--- src/looked.rt:119:9
 returns-3 : tie.Need-returns-3
 unfolding use-in
 returns-3 c =
     let at-4 = c .before .before .before .before in
     c .later .ensures ∙ seen-later (book-in (at-4 .before .before .before .args .text .now) (at-4 .before .before .before .args .tables .now)) (name-at (at-4 .before .before .before .args .text .now) (at-4 .before .before .before .args .at)) (use-in (at-4 .before .before .before .args .text .now) (at-4 .before .before .before .args .locals .now) [] (at-4 .before .before .before .args .c) []) (at-4 .before .before .before .args .role) (c .before .if3 .taken)
 
--- src/looked.rt:122:40
-shared-slice-read-listed : tie.Need-shared-slice-read-listed
-shared-slice-read-listed c = search needs
-
--- src/looked.rt:122:9
-listed-requires : tie.Need-listed-requires
-listed-requires c κs = search needs
-
--- src/looked.rt:122:9
 returns-4 : tie.Need-returns-4
 unfolding use-in book-in
 returns-4 c =
@@ -56,19 +27,6 @@ returns-4 c =
     let at-8 = at-4 .before .before .before .before in
     c .listed .ensures ∙ seen-struct (book-in (at-8 .before .args .text .now) (at-8 .before .args .tables .now)) (name-at (at-8 .before .args .text .now) (at-8 .before .args .at)) (use-in (at-8 .before .args .text .now) (at-8 .before .args .locals .now) [] (at-8 .before .args .c) []) (at-8 .before .args .role) (c .before .before .if4 .taken)
 
--- src/looked.rt:124:41
-shared-slice-read-listed-2 : tie.Need-shared-slice-read-listed-2
-shared-slice-read-listed-2 c = search needs
-
--- src/looked.rt:124:33
-add-listed : tie.Need-add-listed
-add-listed c = search needs
-
--- src/looked.rt:124:5
-listed-requires-2 : tie.Need-listed-requires-2
-listed-requires-2 c κs = search needs
-
--- src/looked.rt:106:1
 returns-5 : tie.Need-returns-5
 unfolding use-in book-in
 returns-5 c =
@@ -80,16 +38,16 @@ pub seen-spec : {M : Type 1} → statement M
 seen-spec =
     tie.close
     (tie.spec
-    first-requires
+    (λ c κs. search needs)
     returns
-    first-requires-2
+    (λ c κs. search needs)
     returns-2
-    later-requires
+    (λ c κs. search needs)
     returns-3
-    shared-slice-read-listed
-    listed-requires
+    (λ c. search needs)
+    (λ c κs. search needs)
     returns-4
-    shared-slice-read-listed-2
-    add-listed
-    listed-requires-2
+    (λ c. search needs)
+    (λ c. search needs)
+    (λ c κs. search needs)
     returns-5)

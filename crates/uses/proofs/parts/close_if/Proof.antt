@@ -9,66 +9,34 @@ use Rattle.uses.specs.StackLaws.{shut-none, shut-less, shut-all, next-st
 use borrow.Author.Needs.{needs}
 use Rattle.uses.proofs.parts.close_if.Statement.{statement}
 use Rattle.uses.proofs.parts.close_if.Tie as tie
-use Rattle.uses.proofs.parts.close_if.Reads as reads
-use Rattle.uses.proofs.parts.close_if.Lts as lts
-use Rattle.uses.proofs.parts.lived.Reads as lived-reads
 
--- src/parts.rt:110:9
 returns : tie.Need-returns
-returns c =
-    (
-    λ x t l o r. shut-none x l (c .before .before .args .stack .now) o (c .before .before .args .c) r (c .if1 .taken),
-    λ t l r. next-stop t l (c .before .before .args .c) r,
-    )
+returns c = (
+  λ x t l o r. shut-none x l (c .before .before .args .stack .now) o (c .before .before .args .c) r (c .if1 .taken),
+  λ t l r. next-stop t l (c .before .before .args .c) r,
+)
 
--- src/parts.rt:112:13
-sub-h : tie.Need-sub-h
-sub-h c = search needs
-
--- src/parts.rt:113:13
-shared-slice-read-n : tie.Need-shared-slice-read-n
-shared-slice-read-n c = search needs
-
--- src/parts.rt:113:13
 cast-n : tie.Need-cast-n
 cast-n c =
     omega (arith, c .shared-slice-known2 .given (length (c .before .before .before .args .stack .now) - c .before .before .before .args .c .bodies))
 
--- src/parts.rt:116:46
-sub-lived : tie.Need-sub-lived
-sub-lived c = search needs
-
--- src/parts.rt:116:27
-lived-requires : tie.Need-lived-requires
-lived-requires c κs = search needs
-
--- src/parts.rt:116:9
 returns-2 : tie.Need-returns-2
 returns-2 c =
     let at-4 = c .before .before .before .before in
     let k = at-4 .before .args .stack .now in
     let s = at-4 .before .args .c in (
-    λ x t l o r. ap (λ d. passed-in x l k (On d) o) (c .lived .ensures) ∙ shut-less x l k o s r (c .before .before .before .if1 .left) (at-4 .before .pre) (c .before .if2 .taken),
-    λ t l r. rw (c .lived .ensures) (next-lived t l s r (s .met) (getD k (length k - s .bodies) 0) (s .bodies - 1) (r .met) (omega (arith, r .living, c .before .if2 .taken))
-    (omega (arith, c .before .if2 .taken)) (omega arith)),
+      λ x t l o r. ap (λ d. passed-in x l k (On d) o) (c .lived .ensures) ∙ shut-less x l k o s r (c .before .before .before .if1 .left) (at-4 .before .pre) (c .before .if2 .taken),
+      λ t l r. rw (c .lived .ensures) (next-lived t l s r (s .met) (getD k (length k - s .bodies) 0) (s .bodies - 1) (r .met) (omega (arith, r .living, c .before .if2 .taken))
+          (omega (arith, c .before .if2 .taken)) (omega arith)),
     )
 
--- src/parts.rt:118:40
-sub-lived-2 : tie.Need-sub-lived-2
-sub-lived-2 c = search needs
-
--- src/parts.rt:118:16
-lived-requires-2 : tie.Need-lived-requires-2
-lived-requires-2 c κs = search needs
-
--- src/parts.rt:102:1
 returns-3 : tie.Need-returns-3
 returns-3 c =
     let at-4 = c .before .before .before .before in
     let k = at-4 .before .args .stack .now in
     let s = at-4 .before .args .c in (
-    λ x t l o r. ap (λ d. passed-in x l k (On d) o) (c .lived2 .ensures) ∙ shut-all x l k o s r (c .before .before .before .if1 .left) (at-4 .before .pre) (c .before .if2 .left),
-    λ t l r. rw (c .lived2 .ensures) (next-lived t l s r (s .met) (s .living) (s .bodies - 1) (r .met) (r .living) (omega arith) (omega arith)),
+      λ x t l o r. ap (λ d. passed-in x l k (On d) o) (c .lived2 .ensures) ∙ shut-all x l k o s r (c .before .before .before .if1 .left) (at-4 .before .pre) (c .before .if2 .left),
+      λ t l r. rw (c .lived2 .ensures) (next-lived t l s r (s .met) (s .living) (s .bodies - 1) (r .met) (r .living) (omega arith) (omega arith)),
     )
 
 pub close-if-spec : {M : Type 1} → statement M
@@ -76,12 +44,12 @@ close-if-spec =
     tie.close
     (tie.spec
     returns
-    sub-h
-    shared-slice-read-n
+    (λ c. search needs)
+    (λ c. search needs)
     cast-n
-    sub-lived
-    lived-requires
+    (λ c. search needs)
+    (λ c κs. search needs)
     returns-2
-    sub-lived-2
-    lived-requires-2
+    (λ c. search needs)
+    (λ c κs. search needs)
     returns-3)

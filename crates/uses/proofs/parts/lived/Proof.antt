@@ -3,10 +3,7 @@ use mathlib.Core.Path.{refl}
 use Rattle.uses.specs.Seeing.{lived}
 use Rattle.uses.proofs.parts.lived.Statement.{statement}
 use Rattle.uses.proofs.parts.lived.Tie as tie
-use Rattle.uses.proofs.parts.lived.Reads as reads
-use Rattle.uses.proofs.parts.lived.Lts as lts
 
--- src/parts.rt:33:1
 returns : tie.Need-returns
 unfolding lived
 returns c = refl

@@ -4,26 +4,14 @@ use Rattle.uses.specs.Seeing.{word-passed}
 use borrow.Author.Needs.{needs}
 use Rattle.uses.proofs.parts.of_type.Statement.{statement}
 use Rattle.uses.proofs.parts.of_type.Tie as tie
-use Rattle.uses.proofs.parts.of_type.Reads as reads
-use Rattle.uses.proofs.parts.of_type.Lts as lts
 
--- src/parts.rt:142:24
-enum-told : tie.Need-enum-told
-enum-told c = search needs
-
--- src/parts.rt:143:26
-enum-told-2 : tie.Need-enum-told-2
-enum-told-2 c = search needs
-
--- src/parts.rt:138:1
 returns : tie.Need-returns
 unfolding word-passed
 returns c = ap (λ w. word-passed w (c .before .before .args .c)) (sym (c .enum-told .given .1))
 
--- src/parts.rt:138:1
 returns-2 : tie.Need-returns-2
 unfolding word-passed
 returns-2 c = ap (λ w. word-passed w (c .before .before .args .c)) (sym (c .enum-told2 .given .1))
 
 pub of-type-spec : {M : Type 1} → statement M
-of-type-spec = tie.close (tie.spec enum-told enum-told-2 returns returns-2)
+of-type-spec = tie.close (tie.spec (λ c. search needs) (λ c. search needs) returns returns-2)

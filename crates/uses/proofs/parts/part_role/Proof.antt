@@ -8,137 +8,74 @@ use Rattle.uses.specs.BracketLaws.{part-66, part-67, part-75, part-76, p
 use borrow.Author.Needs.{needs}
 use Rattle.uses.proofs.parts.part_role.Statement.{statement}
 use Rattle.uses.proofs.parts.part_role.Tie as tie
-use Rattle.uses.proofs.parts.part_role.Reads as reads
-use Rattle.uses.proofs.parts.part_role.Lts as lts
-use Rattle.uses.proofs.parts.close.Reads as close-reads
-use Rattle.uses.proofs.parts.close_if.Reads as close-if-reads
-use Rattle.uses.proofs.parts.go_on.Reads as go-on-reads
-use Rattle.uses.proofs.parts.lived.Reads as lived-reads
-use Rattle.uses.proofs.parts.open_if.Reads as open-if-reads
 
--- src/parts.rt:127:15
-close-requires : tie.Need-close-requires
-close-requires c κs = search needs
-
--- src/parts.rt:128:15
-close-requires-2 : tie.Need-close-requires-2
-close-requires-2 c κs = search needs
-
--- src/parts.rt:129:26
-lived-requires : tie.Need-lived-requires
-lived-requires c κs = search needs
-
--- src/parts.rt:130:15
-open-if-requires : tie.Need-open-if-requires
-open-if-requires c κs = search needs
-
--- src/parts.rt:131:15
-close-if-requires : tie.Need-close-if-requires
-close-if-requires c κs = search needs
-
--- src/parts.rt:132:15
-go-on-requires : tie.Need-go-on-requires
-go-on-requires c κs = search needs
-
--- src/parts.rt:119:1
-same-length : tie.Need-same-length
-same-length c = search needs
-
--- src/parts.rt:119:1
 returns : tie.Need-returns
-returns c =
-    (
-    λ x t l o r. c .close .ensures .0 x l o ∙ part-66 (c .before .before .before .before .args .role) (use-in x l (c .before .before .before .before .args .stack .now) (c .before .before .before .before .args .c) o) (c .before .before .match .keys1),
-    (c .close .ensures .1, refl),
-    )
+returns c = (
+  λ x t l o r. c .close .ensures .0 x l o ∙ part-66 (c .before .before .before .before .args .role) (use-in x l (c .before .before .before .before .args .stack .now) (c .before .before .before .before .args .c) o) (c .before .before .match .keys1),
+  (c .close .ensures .1, refl),
+)
 
--- src/parts.rt:119:1
-same-length-2 : tie.Need-same-length-2
-same-length-2 c = search needs
-
--- src/parts.rt:119:1
 returns-2 : tie.Need-returns-2
-returns-2 c =
-    (
-    λ x t l o r. c .close2 .ensures .0 x l o ∙ part-67 (c .before .before .before .before .args .role) (use-in x l (c .before .before .before .before .args .stack .now) (c .before .before .before .before .args .c) o) (c .before .before .match .keys2),
-    (c .close2 .ensures .1, refl),
-    )
+returns-2 c = (
+  λ x t l o r. c .close2 .ensures .0 x l o ∙ part-67 (c .before .before .before .before .args .role) (use-in x l (c .before .before .before .before .args .stack .now) (c .before .before .before .before .args .c) o) (c .before .before .match .keys2),
+  (c .close2 .ensures .1, refl),
+)
 
--- src/parts.rt:119:1
 returns-3 : tie.Need-returns-3
 returns-3 c =
     let k = c .before .before .before .args .stack .now in
     let s = c .before .before .before .args .c in (
-    λ x t l o r. ap (λ d. passed-in x l k (On d) o) (c .lived .ensures) ∙ body-shut x l k o s ∙ part-75 (c .before .before .before .args .role) (use-in x l k s o) (c .before .match .keys3),
-    (λ t l r. rw (c .lived .ensures) (next-lived t l s r 0 0 0 (omega arith) (omega arith) (omega arith) (omega arith)), refl),
+      λ x t l o r. ap (λ d. passed-in x l k (On d) o) (c .lived .ensures) ∙ body-shut x l k o s ∙ part-75 (c .before .before .before .args .role) (use-in x l k s o) (c .before .match .keys3),
+      (λ t l r. rw (c .lived .ensures) (next-lived t l s r 0 0 0 (omega arith) (omega arith) (omega arith) (omega arith)), refl),
     )
 
--- src/parts.rt:119:1
-same-length-3 : tie.Need-same-length-3
-same-length-3 c = search needs
-
--- src/parts.rt:119:1
 returns-4 : tie.Need-returns-4
 returns-4 c =
-    let at-4 = c .before .before .before .before in
-    (
-    λ x t l o r. c .before .before .open-if .ensures .0 x t l o r ∙ part-76 (at-4 .before .before .args .role) (use-in x l (at-4 .before .before .args .stack .now) (at-4 .before .before .args .c) o) (at-4 .match .keys4),
-    c .before .before .open-if .ensures .1,
+    let at-4 = c .before .before .before .before in (
+      λ x t l o r. c .before .before .open-if .ensures .0 x t l o r ∙ part-76 (at-4 .before .before .args .role) (use-in x l (at-4 .before .before .args .stack .now) (at-4 .before .before .args .c) o) (at-4 .match .keys4),
+      c .before .before .open-if .ensures .1,
     )
 
--- src/parts.rt:119:1
-same-length-4 : tie.Need-same-length-4
-same-length-4 c = search needs
-
--- src/parts.rt:119:1
 returns-5 : tie.Need-returns-5
-returns-5 c =
-    (
-    λ x t l o r. c .close-if .ensures .0 x t l o r ∙ part-77 (c .before .before .before .before .args .role) (use-in x l (c .before .before .before .before .args .stack .now) (c .before .before .before .before .args .c) o) (c .before .before .match .keys5),
-    (c .close-if .ensures .1, refl),
-    )
+returns-5 c = (
+  λ x t l o r. c .close-if .ensures .0 x t l o r ∙ part-77 (c .before .before .before .before .args .role) (use-in x l (c .before .before .before .before .args .stack .now) (c .before .before .before .before .args .c) o) (c .before .before .match .keys5),
+  (c .close-if .ensures .1, refl),
+)
 
--- src/parts.rt:119:1
-same-length-5 : tie.Need-same-length-5
-same-length-5 c = search needs
-
--- src/parts.rt:119:1
 returns-6 : tie.Need-returns-6
 returns-6 c =
-    let at-4 = c .before .before .before .before in
-    (
-    λ x t l o r. c .before .before .go-on .ensures .0 x l o ∙ part-79 (at-4 .before .before .args .role) (use-in x l (at-4 .before .before .args .stack .now) (at-4 .before .before .args .c) o) (at-4 .match .keys6),
-    c .before .before .go-on .ensures .1,
+    let at-4 = c .before .before .before .before in (
+      λ x t l o r. c .before .before .go-on .ensures .0 x l o ∙ part-79 (at-4 .before .before .args .role) (use-in x l (at-4 .before .before .args .stack .now) (at-4 .before .before .args .c) o) (at-4 .match .keys6),
+      c .before .before .go-on .ensures .1,
     )
 
--- src/parts.rt:119:1
 returns-7 : tie.Need-returns-7
 unfolding passed-in
 returns-7 c =
     let rest = c .match .rest in (
-    λ x t l o r. part-quiet (use-in x l (c .before .before .args .stack .now) (c .before .before .args .c) o) (c .before .before .args .role) (c .before .before .pre .3) (rest .0 .0 .0 .0 .0 .1) (rest .0 .0 .0 .0 .1) (rest .0 .0 .0 .1) (rest .0 .0 .1) (rest .0 .1) (rest .1),
-    (λ t l r. next-same t l (c .before .before .args .c) r, refl),
+      λ x t l o r. part-quiet (use-in x l (c .before .before .args .stack .now) (c .before .before .args .c) o) (c .before .before .args .role) (c .before .before .pre .3) (rest .0 .0 .0 .0 .0 .1) (rest .0 .0 .0 .0 .1) (rest .0 .0 .0 .1) (rest .0 .0 .1) (rest .0 .1) (rest .1),
+      (λ t l r. next-same t l (c .before .before .args .c) r, refl),
     )
 
 pub part-role-spec : {M : Type 1} → statement M
 part-role-spec =
     tie.close
     (tie.spec
-    close-requires
-    close-requires-2
-    lived-requires
-    open-if-requires
-    close-if-requires
-    go-on-requires
-    same-length
+    (λ c κs. search needs)
+    (λ c κs. search needs)
+    (λ c κs. search needs)
+    (λ c κs. search needs)
+    (λ c κs. search needs)
+    (λ c κs. search needs)
+    (λ c. search needs)
     returns
-    same-length-2
+    (λ c. search needs)
     returns-2
     returns-3
-    same-length-3
+    (λ c. search needs)
     returns-4
-    same-length-4
+    (λ c. search needs)
     returns-5
-    same-length-5
+    (λ c. search needs)
     returns-6
     returns-7)

@@ -1,16 +1,13 @@
 -- `pass::uses` meets its contract. The loop's invariant: what is left of the places leads to what the whole leads to. The measure is what is left of the roles.
 use Prim.Native.Nat.{_-_}
-use mathlib.Core.Path.{refl, sym, _∙_}
+use mathlib.Core.Path.{_∙_}
 use native.Mathlib.Omega.{arith}
-use lib.ListN.{length, length-set}
+use lib.ListN.{length}
 use borrow.Author.Needs.{needs}
 use Rattle.uses.specs.Lent.{Counted}
 use Rattle.uses.specs.LoopLaws.{Reached, reached-start, reached-stop, reached-on, reached-left, reached-end}
 use Rattle.uses.proofs.pass.uses.Statement.{statement}
 use Rattle.uses.proofs.pass.uses.Tie as tie
-use Rattle.uses.proofs.pass.uses.Reads as reads
-use Rattle.uses.proofs.pass.uses.Lts as lts
-use Rattle.uses.proofs.pass.turn.Reads as turn-reads
 
 abbrev Inv-loop : tie.InvT-loop
 Inv-loop text roles tables locals₀ stack₀ numbers₀ c₀ n₀ i₀ locals stack numbers c n i = Reached text roles tables locals₀ stack₀ numbers₀ locals stack numbers c n i
@@ -18,22 +15,18 @@ Inv-loop text roles tables locals₀ stack₀ numbers₀ c₀ n₀ i₀ locals s
 abbrev μ-loop : tie.MeasureT-loop
 μ-loop text roles tables locals₀ stack₀ numbers₀ c₀ n₀ i₀ locals stack numbers c n i = length roles - i
 
--- src/pass.rt:75:5
 loop-holds : tie.Need-loop-holds Inv-loop μ-loop
 loop-holds c =
     let at-4 = c .before .before .before .before in
     let a = at-4 .before .before .args in
     reached-start (a .text .now) (a .roles .now) (a .tables .now) (a .locals .now) (a .stack .now) (a .numbers .now) (at-4 .before .before .pre .0 .1)
 
--- src/pass.rt:77:9
 add-i : tie.Need-add-i Inv-loop μ-loop
 add-i c = omega (arith, c .loop-test .taken)
 
--- src/pass.rt:78:53
 shared-slice-read-turn : tie.Need-shared-slice-read-turn Inv-loop μ-loop
 shared-slice-read-turn c = omega (arith, c .before .before .before .loop-test .taken)
 
--- src/pass.rt:78:15
 turn-requires : tie.Need-turn-requires Inv-loop μ-loop
 turn-requires c κs =
     let at-4 = c .before .before .before .before in
@@ -41,32 +34,24 @@ turn-requires c κs =
     let inv = at-4 .loop .inv in
     (at-8 .before .before .before .pre .0 .0, inv .room, omega (arith, inv .low, inv .stack, c .before .before .before .loop-test .taken, at-8 .before .before .before .pre .1 .1), omega (arith, c .before .before .before .loop-test .taken, at-8 .before .before .before .pre .1 .0))
 
--- src/pass.rt:79:29
-enum-told : tie.Need-enum-told Inv-loop μ-loop
-enum-told c = search needs
-
--- src/pass.rt:79:29
 same-length : tie.Need-same-length Inv-loop μ-loop
 same-length c =
     let at-4 = c .before .before .before .before in
     let at-8 = at-4 .before .before .before .before in
     at-4 .before .before .turn .ensures .1 .1 .1 ∙ at-8 .before .before .before .loop .inv .locals
 
--- src/pass.rt:79:29
 same-length-2 : tie.Need-same-length-2 Inv-loop μ-loop
 same-length-2 c =
     let at-4 = c .before .before .before .before in
     let at-8 = at-4 .before .before .before .before in
     at-4 .before .before .turn .ensures .1 .1 .0 ∙ at-8 .before .before .before .loop .inv .stack
 
--- src/pass.rt:79:29
 same-length-3 : tie.Need-same-length-3 Inv-loop μ-loop
 same-length-3 c =
     let at-4 = c .before .before .before .before in
     let at-8 = at-4 .before .before .before .before in
     at-8 .before .before .before .loop .inv .numbers
 
--- src/pass.rt:79:29
 returns : tie.Need-returns Inv-loop μ-loop
 unfolding Counted
 returns c =
@@ -76,23 +61,17 @@ returns c =
     let at-16 = at-12 .before .before .before .before in
     let a = at-16 .before .before .args in
     let inv = at-8 .before .before .before .loop .inv in (
-    reached-stop (a .text .now) (a .roles .now) (a .tables .now) (a .locals .now) (a .stack .now) (a .numbers .now) (at-16 .before .before .pre .1 .0) inv (at-8 .before .before .loop-test .taken)
-    _ _ _ (at-4 .before .before .turn .ensures .0) (at-4 .before .before .turn .ensures .1 .0) (at-4 .before .before .turn .ensures .1 .1) _ (c .enum-told .given .1),
-    (tt, (at-4 .before .before .turn .ensures .1 .1 .0 ∙ inv .stack, at-4 .before .before .turn .ensures .1 .1 .1 ∙ inv .locals, inv .numbers)),
+      reached-stop (a .text .now) (a .roles .now) (a .tables .now) (a .locals .now) (a .stack .now) (a .numbers .now) (at-16 .before .before .pre .1 .0) inv (at-8 .before .before .loop-test .taken)
+          _ _ _ (at-4 .before .before .turn .ensures .0) (at-4 .before .before .turn .ensures .1 .0) (at-4 .before .before .turn .ensures .1 .1) _ (c .enum-told .given .1),
+      (tt, (at-4 .before .before .turn .ensures .1 .1 .0 ∙ inv .stack, at-4 .before .before .turn .ensures .1 .1 .1 ∙ inv .locals, inv .numbers)),
     )
 
--- src/pass.rt:80:24
-enum-known-d : tie.Need-enum-known-d Inv-loop μ-loop
-enum-known-d c = search needs
-
--- src/pass.rt:75:5
 loop-less : tie.Need-loop-less Inv-loop μ-loop
 loop-less c =
     let at-4 = c .before .before .before .before in
     let at-8 = at-4 .before .before .before .before in
     omega (arith, at-8 .before .before .before .loop-test .taken)
 
--- src/pass.rt:75:5
 loop-again : tie.Need-loop-again Inv-loop μ-loop
 loop-again c =
     let at-4 = c .before .before .before .before in
@@ -104,11 +83,6 @@ loop-again c =
     reached-on (a .text .now) (a .roles .now) (a .tables .now) (a .locals .now) (a .stack .now) (a .numbers .now) (at-16 .before .before .before .pre .1 .0) inv (at-8 .before .before .before .loop-test .taken)
     _ _ _ (at-4 .before .before .before .turn .ensures .0) (at-4 .before .before .before .turn .ensures .1 .0) (at-4 .before .before .before .turn .ensures .1 .1) (c .before .d .given .1)
 
--- src/pass.rt:83:26
-enum-known-d-2 : tie.Need-enum-known-d-2 Inv-loop μ-loop
-enum-known-d-2 c = search needs
-
--- src/pass.rt:84:17
 slice-write-numbers : tie.Need-slice-write-numbers Inv-loop μ-loop
 slice-write-numbers c =
     let at-4 = c .before .before .before .before in
@@ -117,7 +91,6 @@ slice-write-numbers c =
     let at-16 = at-12 .before .before .before .before in
     let inv = at-12 .loop .inv in omega (arith, inv .few, inv .numbers, at-8 .before .before .before .loop-test .taken, at-16 .before .before .before .pre .1 .2)
 
--- src/pass.rt:85:17
 add-n : tie.Need-add-n Inv-loop μ-loop
 add-n c =
     let at-4 = c .before .before .before .before in
@@ -125,14 +98,12 @@ add-n c =
     let at-12 = at-8 .before .before .before .before in
     let inv = at-12 .loop .inv in omega (arith, inv .few, at-8 .before .before .before .loop-test .taken)
 
--- src/pass.rt:75:5
 loop-less-2 : tie.Need-loop-less-2 Inv-loop μ-loop
 loop-less-2 c =
     let at-4 = c .before .before .before .before in
     let at-8 = at-4 .before .before .before .before in
     omega (arith, at-8 .before .before .before .loop-test .taken)
 
--- src/pass.rt:75:5
 loop-again-2 : tie.Need-loop-again-2 Inv-loop μ-loop
 loop-again-2 c =
     let at-4 = c .before .before .before .before in
@@ -144,19 +115,15 @@ loop-again-2 c =
     reached-left (a .text .now) (a .roles .now) (a .tables .now) (a .locals .now) (a .stack .now) (a .numbers .now) (at-16 .before .before .before .pre .1 .0) inv (at-8 .before .before .before .loop-test .taken)
     _ _ _ (at-4 .before .before .before .turn .ensures .0) (at-4 .before .before .before .turn .ensures .1 .0) (at-4 .before .before .before .turn .ensures .1 .1) (at-16 .before .before .before .pre .1 .2) (c .before .d2 .given .1)
 
--- src/pass.rt:55:1
 same-length-4 : tie.Need-same-length-4 Inv-loop μ-loop
 same-length-4 c = c .before .loop .inv .locals
 
--- src/pass.rt:55:1
 same-length-5 : tie.Need-same-length-5 Inv-loop μ-loop
 same-length-5 c = c .before .loop .inv .stack
 
--- src/pass.rt:55:1
 same-length-6 : tie.Need-same-length-6 Inv-loop μ-loop
 same-length-6 c = c .before .loop .inv .numbers
 
--- src/pass.rt:55:1
 returns-2 : tie.Need-returns-2 Inv-loop μ-loop
 unfolding Counted
 returns-2 c =
@@ -164,8 +131,8 @@ returns-2 c =
     let at-8 = at-4 .before .before .before .before in
     let a = at-8 .args in
     let inv = c .before .loop .inv in (
-    reached-end (a .text .now) (a .roles .now) (a .tables .now) (a .locals .now) (a .stack .now) (a .numbers .now) (at-8 .pre .1 .0) inv (c .loop-test .left),
-    ((omega (arith, inv .few, inv .inner, inv .numbers, at-8 .pre .1 .2), tt), (inv .stack, inv .locals, inv .numbers)),
+      reached-end (a .text .now) (a .roles .now) (a .tables .now) (a .locals .now) (a .stack .now) (a .numbers .now) (at-8 .pre .1 .0) inv (c .loop-test .left),
+      ((omega (arith, inv .few, inv .inner, inv .numbers, at-8 .pre .1 .2), tt), (inv .stack, inv .locals, inv .numbers)),
     )
 
 pub uses-spec : {M : Type 1} → statement M
@@ -178,15 +145,15 @@ uses-spec =
     add-i
     shared-slice-read-turn
     turn-requires
-    enum-told
+    (λ c. search needs)
     same-length
     same-length-2
     same-length-3
     returns
-    enum-known-d
+    (λ c. search needs)
     loop-less
     loop-again
-    enum-known-d-2
+    (λ c. search needs)
     slice-write-numbers
     add-n
     loop-less-2

@@ -11,20 +11,7 @@ use Rattle.uses.specs.NameLaws.{declaring, declare-not, declare-full, de
 use borrow.Author.Needs.{needs}
 use Rattle.uses.proofs.passing.declare.Statement.{statement}
 use Rattle.uses.proofs.passing.declare.Tie as tie
-use Rattle.uses.proofs.passing.declare.Reads as reads
-use Rattle.uses.proofs.passing.declare.Lts as lts
-use Rattle.uses.proofs.looked.unused.Reads as unused-reads
-use Rattle.uses.proofs.passing.store.Reads as store-reads
 
--- src/passing.rt:121:9
-unused-requires : tie.Need-unused-requires
-unused-requires c κs = search needs
-
--- src/passing.rt:122:9
-same-length : tie.Need-same-length
-same-length c = search needs
-
--- src/passing.rt:122:9
 returns : tie.Need-returns
 returns c =
     let at-4 = c .before .before .before .before in
@@ -32,19 +19,10 @@ returns c =
     let t = at-4 .before .before .args .tables .now in
     let l = at-4 .before .before .args .locals .now in
     let s = at-4 .before .before .args .c in (
-    λ k o. declare-not x t l s (at-4 .before .before .pre .1) (at-4 .before .before .args .at) (c .before .unused .result) (c .before .unused .ensures) k o (not-true _ (c .if1 .taken)),
-    (next-stop t l s (at-4 .before .before .pre .1), refl),
+      λ k o. declare-not x t l s (at-4 .before .before .pre .1) (at-4 .before .before .args .at) (c .before .unused .result) (c .before .unused .ensures) k o (not-true _ (c .if1 .taken)),
+      (next-stop t l s (at-4 .before .before .pre .1), refl),
     )
 
--- src/passing.rt:124:15
-sub-if2 : tie.Need-sub-if2
-sub-if2 c = search needs
-
--- src/passing.rt:125:9
-same-length-2 : tie.Need-same-length-2
-same-length-2 c = search needs
-
--- src/passing.rt:125:9
 returns-2 : tie.Need-returns-2
 returns-2 c =
     let at-4 = c .before .before .before .before in
@@ -52,39 +30,10 @@ returns-2 c =
     let t = at-4 .before .before .before .args .tables .now in
     let l = at-4 .before .before .before .args .locals .now in
     let s = at-4 .before .before .before .args .c in (
-    λ k o. declare-full x t l s (at-4 .before .before .before .pre .1) (at-4 .before .before .before .args .at) (c .before .before .unused .result) (c .before .before .unused .ensures) k o (not-false _ (c .before .if1 .left)) (c .if2 .taken),
-    (next-stop t l s (at-4 .before .before .before .pre .1), refl),
+      λ k o. declare-full x t l s (at-4 .before .before .before .pre .1) (at-4 .before .before .before .args .at) (c .before .before .unused .result) (c .before .before .unused .ensures) k o (not-false _ (c .before .if1 .left)) (c .if2 .taken),
+      (next-stop t l s (at-4 .before .before .before .pre .1), refl),
     )
 
--- src/passing.rt:127:13
-sub-n : tie.Need-sub-n
-sub-n c = search needs
-
--- src/passing.rt:128:5
-store-requires : tie.Need-store-requires
-store-requires c κs = search needs
-
--- src/passing.rt:132:18
-add-t12 : tie.Need-add-t12
-add-t12 c = search needs
-
--- src/passing.rt:133:21
-add-t16 : tie.Need-add-t16
-add-t16 c = search needs
-
--- src/passing.rt:139:10
-add-t18 : tie.Need-add-t18
-add-t18 c = search needs
-
--- src/passing.rt:139:9
-cast-t19 : tie.Need-cast-t19
-cast-t19 c = search needs
-
--- src/passing.rt:113:1
-same-length-3 : tie.Need-same-length-3
-same-length-3 c = search needs
-
--- src/passing.rt:113:1
 returns-3 : tie.Need-returns-3
 returns-3 c =
     let at-4 = c .before .before .before .before in
@@ -95,30 +44,30 @@ returns-3 c =
     let l = at-12 .args .locals .now in
     let s = at-12 .args .c in
     let r = at-12 .pre .1 in (
-    λ k o. ap (λ z. passed-in x z k (Left (declaring s) (8 + s .met)) o) (c .before .before .store .ensures)
-    ∙ declare-one x t l s r (at-12 .args .at) (at-4 .before .before .before .unused .result) (at-4 .before .before .before .unused .ensures) k o (not-false _ (at-4 .before .before .if1 .left)) (at-4 .before .if2 .left),
-    (
-    rw (c .before .before .store .ensures) (next-declared x t l s r (at-12 .args .at) (at-4 .before .before .before .unused .result) (at-4 .before .before .before .unused .ensures) (at-4 .before .if2 .left) (8 + s .met)),
-    ap length (c .before .before .store .ensures)
-    ∙ long-stored l (r .long) (at-12 .args .at) (s .met) (s .living - s .fresh) (s .typ) (at-4 .before .if2 .left) (omega (arith, r .living, at-4 .before .if2 .left)) ∙ sym (r .long),
-    ),
+      λ k o. ap (λ z. passed-in x z k (Left (declaring s) (8 + s .met)) o) (c .before .before .store .ensures)
+          ∙ declare-one x t l s r (at-12 .args .at) (at-4 .before .before .before .unused .result) (at-4 .before .before .before .unused .ensures) k o (not-false _ (at-4 .before .before .if1 .left)) (at-4 .before .if2 .left),
+      (
+        rw (c .before .before .store .ensures) (next-declared x t l s r (at-12 .args .at) (at-4 .before .before .before .unused .result) (at-4 .before .before .before .unused .ensures) (at-4 .before .if2 .left) (8 + s .met)),
+        ap length (c .before .before .store .ensures)
+            ∙ long-stored l (r .long) (at-12 .args .at) (s .met) (s .living - s .fresh) (s .typ) (at-4 .before .if2 .left) (omega (arith, r .living, at-4 .before .if2 .left)) ∙ sym (r .long),
+      ),
     )
 
 pub declare-spec : {M : Type 1} → statement M
 declare-spec =
     tie.close
     (tie.spec
-    unused-requires
-    same-length
+    (λ c κs. search needs)
+    (λ c. search needs)
     returns
-    sub-if2
-    same-length-2
+    (λ c. search needs)
+    (λ c. search needs)
     returns-2
-    sub-n
-    store-requires
-    add-t12
-    add-t16
-    add-t18
-    cast-t19
-    same-length-3
+    (λ c. search needs)
+    (λ c κs. search needs)
+    (λ c. search needs)
+    (λ c. search needs)
+    (λ c. search needs)
+    (λ c. search needs)
+    (λ c. search needs)
     returns-3)

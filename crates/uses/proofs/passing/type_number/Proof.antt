@@ -3,20 +3,12 @@ use Rattle.uses.specs.NameLaws.{number-local, number-null}
 use borrow.Author.Needs.{needs}
 use Rattle.uses.proofs.passing.type_number.Statement.{statement}
 use Rattle.uses.proofs.passing.type_number.Tie as tie
-use Rattle.uses.proofs.passing.type_number.Reads as reads
-use Rattle.uses.proofs.passing.type_number.Lts as lts
 
--- src/passing.rt:178:16
-sub-result : tie.Need-sub-result
-sub-result c = search needs
-
--- src/passing.rt:178:9
 returns : tie.Need-returns
 returns c = number-local (c .before .args .role) (c .before .pre .0) (c .if1 .taken)
 
--- src/passing.rt:173:1
 returns-2 : tie.Need-returns-2
 returns-2 c = number-null (c .before .args .role) (c .if1 .left) (c .before .pre .1)
 
 pub type-number-spec : {M : Type 1} → statement M
-type-number-spec = tie.close (tie.spec sub-result returns returns-2)
+type-number-spec = tie.close (tie.spec (λ c. search needs) returns returns-2)

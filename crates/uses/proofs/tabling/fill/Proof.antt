@@ -1,95 +1,50 @@
+-- `tabling::fill` meets its contract: one law for each way.
+use mathlib.Core.Path.{_∙_}
+use mathlib.Core.Bool.{false≢true}
+use borrow.Author.Tests.{not-true, not-false}
+use Rattle.uses.specs.TabledLaws.{fill-not, fill-known, few-tested, typed-long, fill-tabled}
 use borrow.Author.Needs.{needs}
 use Rattle.uses.proofs.tabling.fill.Statement.{statement}
 use Rattle.uses.proofs.tabling.fill.Tie as tie
-use Rattle.uses.proofs.tabling.fill.Reads as reads
-use Rattle.uses.proofs.tabling.fill.Lts as lts
-use Rattle.uses.proofs.tabling.few_steps.Reads as few-steps-reads
-use Rattle.uses.proofs.tabling.par_types.Reads as par-types-reads
-use Rattle.uses.proofs.tabling.parameters.Reads as parameters-reads
-use Rattle.uses.proofs.tabling.step_names.Reads as step-names-reads
-use Rattle.uses.proofs.tabling.structs.Reads as structs-reads
 
--- src/tabling.rt:95:9
-structs-requires : tie.Need-structs-requires
-structs-requires c κs = search needs
+-- where the table was laid, and where the function began
+abbrev at-lay : tie.After-well → tie.After-lay
+at-lay c = c .before .before .before .before
 
--- src/tabling.rt:96:9
-same-length : tie.Need-same-length
-same-length c = search needs
+abbrev lent : tie.After-lay → tie.After-lay-arg
+lent c = c .before
 
--- src/tabling.rt:96:9
+abbrev start : tie.After-lay → tie.Start
+start c = lent c .before .before .before .before
+
 returns : tie.Need-returns
-returns c = ?
+returns c =
+    let tested = c .before in
+    let lay = at-lay tested in
+    (fill-not _ _ (tested .well .ensures) (not-true _ (c .if1 .taken)), (λ e. absurd (false≢true e), lay .lay .kept .1 .1 .0))
 
--- src/tabling.rt:98:9
-parameters-requires : tie.Need-parameters-requires
-parameters-requires c κs = search needs
-
--- src/tabling.rt:99:9
-same-length-2 : tie.Need-same-length-2
-same-length-2 c = search needs
-
--- src/tabling.rt:99:9
-returns-2 : tie.Need-returns-2
-returns-2 c = ?
-
--- src/tabling.rt:101:9
 par-types-requires : tie.Need-par-types-requires
-par-types-requires c κs = search needs
+par-types-requires c κs =
+    let tested = c .before .before in
+    let few = few-tested _ _ (start (at-lay tested) .pre .1) (tested .well .ensures) (not-false _ (c .before .if1 .left)) in
+    (few .structs, few .types)
 
--- src/tabling.rt:102:9
-same-length-3 : tie.Need-same-length-3
-same-length-3 c = search needs
-
--- src/tabling.rt:102:9
-returns-3 : tie.Need-returns-3
-returns-3 c = ?
-
--- src/tabling.rt:104:26
-slice-read-few-steps : tie.Need-slice-read-few-steps
-slice-read-few-steps c = search needs
-
--- src/tabling.rt:104:9
-few-steps-requires : tie.Need-few-steps-requires
-few-steps-requires c κs = search needs
-
--- src/tabling.rt:105:9
-same-length-4 : tie.Need-same-length-4
-same-length-4 c = search needs
-
--- src/tabling.rt:105:9
-returns-4 : tie.Need-returns-4
-returns-4 c = ?
-
--- src/tabling.rt:107:5
-step-names-requires : tie.Need-step-names-requires
-step-names-requires c κs = search needs
-
--- src/tabling.rt:89:1
-same-length-5 : tie.Need-same-length-5
-same-length-5 c = search needs
-
--- src/tabling.rt:89:1
-returns-5 : tie.Need-returns-5
-returns-5 c = ?
+returns-2 : tie.Need-returns-2
+returns-2 c =
+    let typed = c .before .before in
+    let tested = typed .before .before .before in
+    let lay = at-lay tested in
+    let m = typed .par-types .last .1 .1 .0 in
+    let is = not-false _ (typed .before .before .if1 .left) in (
+      fill-known _ _ (tested .well .ensures) is (typed .par-types .ensures .0),
+      (
+        fill-tabled m (lay .lay .ensures) (typed .par-types .kept .1 .1 .0) (start lay .pre .1) (tested .well .ensures) is (typed .par-types .ensures .1),
+        typed-long m (lay .lay .ensures) (typed .par-types .kept .1 .1 .0) ∙ lay .lay .kept .1 .1 .0,
+      ),
+    )
 
 pub fill-spec : {M : Type 1} → statement M
 fill-spec =
     tie.close
-    (tie.spec
-    structs-requires
-    same-length
-    returns
-    parameters-requires
-    same-length-2
-    returns-2
-    par-types-requires
-    same-length-3
-    returns-3
-    slice-read-few-steps
-    few-steps-requires
-    same-length-4
-    returns-4
-    step-names-requires
-    same-length-5
-    returns-5)
+    (tie.spec (λ c κs. search needs) (λ c κs. search needs) (λ c. search needs) returns (λ c. search needs) (λ c. search needs) (λ c. search needs)
+    par-types-requires (λ c. search needs) returns-2)

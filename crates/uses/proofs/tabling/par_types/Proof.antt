@@ -1,87 +1,54 @@
+-- `tabling::par_types` meets its contract: places gathered in tables that have room for them.
+use mathlib.Core.Path.{refl}
+use native.Mathlib.Omega.{arith}
+use Rattle.resolve.specs.FirstLaws.{take-long}
+use Rattle.uses.specs.TablingLaws.{structs-few, types-tested, types-stored}
 use borrow.Author.Needs.{needs}
 use Rattle.uses.proofs.tabling.par_types.Statement.{statement}
 use Rattle.uses.proofs.tabling.par_types.Tie as tie
-use Rattle.uses.proofs.tabling.par_types.Reads as reads
-use Rattle.uses.proofs.tabling.par_types.Lts as lts
-use Rattle.resolve.proofs.declarations.types.Reads as types-reads
-use Rattle.resolve.proofs.tables.gather.Reads as gather-reads
 
--- src/tabling.rt:61:13
-slice-read-s : tie.Need-slice-read-s
-slice-read-s c = ?
+-- where the places of structs are gathered, and where the function began
+abbrev at-structs : tie.After-gather2 → tie.After-gather
+at-structs c = c .before .before .before
 
--- src/tabling.rt:63:58
-slice-aggregate-gather : tie.Need-slice-aggregate-gather
-slice-aggregate-gather c = search needs
+abbrev lent : tie.After-gather → tie.After-structs
+lent c = c .before
 
--- src/tabling.rt:63:9
-gather-requires : tie.Need-gather-requires
-gather-requires c κs = search needs
+abbrev start : tie.After-gather → tie.Start
+start c = lent c .before .before .before .before
 
--- src/tabling.rt:65:51
-slice-aggregate-gather-2 : tie.Need-slice-aggregate-gather-2
-slice-aggregate-gather-2 c = search needs
-
--- src/tabling.rt:65:5
-gather-requires-2 : tie.Need-gather-requires-2
-gather-requires-2 c κs = search needs
-
--- src/tabling.rt:66:38
-array-share-prefix-structs : tie.Need-array-share-prefix-structs
-array-share-prefix-structs c = ?
-
--- src/tabling.rt:66:38
 slice-aggregate-types : tie.Need-slice-aggregate-types
-slice-aggregate-types c = ?
+slice-aggregate-types c =
+    let structs = at-structs (c .before .before) in
+    take-long _ _ (omega (arith, structs .gather .kept .1 .1 .1 .0, structs .gather .ensures .0, start structs .pre .0))
 
--- src/tabling.rt:66:53
-array-share-prefix-places : tie.Need-array-share-prefix-places
-array-share-prefix-places c = ?
-
--- src/tabling.rt:66:53
 slice-aggregate-types-2 : tie.Need-slice-aggregate-types-2
-slice-aggregate-types-2 c = ?
+slice-aggregate-types-2 c =
+    let places = c .before .before .before in
+    take-long _ _ (omega (arith, places .gather2 .kept .1 .1 .1 .0, places .gather2 .ensures .0, start (at-structs places) .pre .1))
 
--- src/tabling.rt:66:67
-sub-types : tie.Need-sub-types
-sub-types c = search needs
-
--- src/tabling.rt:66:67
-part-types-start : tie.Need-part-types-start
-part-types-start c = search needs
-
--- src/tabling.rt:66:67
-part-types-end : tie.Need-part-types-end
-part-types-end c = ?
-
--- src/tabling.rt:66:5
 types-requires : tie.Need-types-requires
-types-requires c κs = ?
+types-requires c κs =
+    let places = c .before .before .before .before in
+    let structs = at-structs places in
+    let pre = start structs .pre in
+    structs-few (start structs .args .text .now) _ _ _ (pre .0) (pre .1) (structs .gather .ensures .0) (structs .gather .ensures .1) refl
+    (places .gather2 .ensures .0) (places .gather2 .ensures .1) refl
 
--- src/tabling.rt:60:1
-same-length : tie.Need-same-length
-same-length c = search needs
-
--- src/tabling.rt:60:1
 returns : tie.Need-returns
-returns c = search needs
+returns c =
+    let typed = c .before .before in
+    let lent-places = typed .before .before in
+    let places = lent-places .before .before .before in
+    let pre = start (at-structs places) .pre in
+    let g = at-structs places .gather .ensures in
+    let h = places .gather2 .ensures in (
+      types-tested _ _ _ _ (pre .0) (pre .1) (g .0) (g .1) refl (h .0) (h .1) refl (typed .types .ensures .0),
+      λ e. types-stored _ _ _ _ (pre .0) (pre .1) (g .0) (g .1) refl (h .0) (h .1) refl _ (typed .types .ensures .1 e),
+    )
 
 pub par-types-spec : {M : Type 1} → statement M
 par-types-spec =
     tie.close
-    (tie.spec
-    slice-read-s
-    slice-aggregate-gather
-    gather-requires
-    slice-aggregate-gather-2
-    gather-requires-2
-    array-share-prefix-structs
-    slice-aggregate-types
-    array-share-prefix-places
-    slice-aggregate-types-2
-    sub-types
-    part-types-start
-    part-types-end
-    types-requires
-    same-length
-    returns)
+    (tie.spec (λ c. search needs) (λ c κs. search needs) (λ c. search needs) (λ c κs. search needs) (λ c. search needs) slice-aggregate-types
+    (λ c. search needs) slice-aggregate-types-2 types-requires (λ c. search needs) returns)
