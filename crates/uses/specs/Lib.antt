@@ -7,6 +7,7 @@ pub mod StackLaws
 pub mod BracketLaws
 pub mod ChangeLaws
 pub mod NameLaws
+pub mod TypeLaws
 pub mod LoopLaws
 pub mod NumberedLaws
 pub mod Tabling
