@@ -57,6 +57,9 @@ module _ (c : ℕ) (u : Use) where
   part-79 e = rw e refl
 
 -- the other parts, six at a time
+six : {m n : ℕ} → m ≡ n → suc (suc (suc (suc (suc (suc m))))) ≡ suc (suc (suc (suc (suc (suc n)))))
+six e = ap (λ z. suc (suc (suc (suc (suc (suc z)))))) e
+
 module _ (u : Use) where
   from-twelve : (n : ℕ) → (n ≡ 0 → ⊥) → (n ≡ 1 → ⊥) → (n ≡ 2 → ⊥) → (n ≡ 4 → ⊥)
       → use-part (getD (body-close ∷ then-open ∷ then-close ∷ par-comma ∷ arg-comma ∷ barrier-sign ∷ []) n brackets-open) u ≡ some u
@@ -70,7 +73,8 @@ module _ (u : Use) where
   from-twelve (suc (suc (suc (suc (suc (suc n)))))) h i j k = refl
 
   from-six : (n : ℕ) → (n ≡ 6 → ⊥) → (n ≡ 7 → ⊥) → (n ≡ 8 → ⊥) → (n ≡ 10 → ⊥)
-      → use-part (getD (pars-close ∷ fix-open ∷ fix-close ∷ steps-open ∷ steps-close ∷ body-open ∷ body-close ∷ then-open ∷ then-close ∷ par-comma ∷ arg-comma ∷ barrier-sign ∷ []) n brackets-open) u ≡ some u
+      → use-part (getD (pars-close ∷ fix-open ∷ fix-close ∷ steps-open ∷ steps-close ∷ body-open ∷ body-close ∷ then-open ∷ then-close ∷ par-comma ∷
+      arg-comma ∷ barrier-sign ∷ []) n brackets-open) u ≡ some u
   unfolding use-part
   from-six zero h i j k = refl
   from-six (suc zero) h i j k = refl
@@ -78,10 +82,12 @@ module _ (u : Use) where
   from-six (suc (suc (suc zero))) h i j k = refl
   from-six (suc (suc (suc (suc zero)))) h i j k = refl
   from-six (suc (suc (suc (suc (suc zero))))) h i j k = refl
-  from-six (suc (suc (suc (suc (suc (suc n)))))) h i j k = from-twelve n (λ e. h (ap (λ z. suc (suc (suc (suc (suc (suc z)))))) e)) (λ e. i (ap (λ z. suc (suc (suc (suc (suc (suc z)))))) e)) (λ e. j (ap (λ z. suc (suc (suc (suc (suc (suc z)))))) e)) (λ e. k (ap (λ z. suc (suc (suc (suc (suc (suc z)))))) e))
+  from-six (suc (suc (suc (suc (suc (suc n)))))) h i j k =
+      from-twelve n (λ e. h (six e)) (λ e. i (six e)) (λ e. j (six e)) (λ e. k (six e))
 
   from-none : (n : ℕ) → (n ≡ 3 → ⊥) → (n ≡ 4 → ⊥) → (n ≡ 12 → ⊥) → (n ≡ 13 → ⊥) → (n ≡ 14 → ⊥) → (n ≡ 16 → ⊥)
-      → use-part (getD (brackets-open ∷ brackets-close ∷ args-open ∷ args-close ∷ no-args-close ∷ pars-open ∷ pars-close ∷ fix-open ∷ fix-close ∷ steps-open ∷ steps-close ∷ body-open ∷ body-close ∷ then-open ∷ then-close ∷ par-comma ∷ arg-comma ∷ barrier-sign ∷ []) n brackets-open) u ≡ some u
+      → use-part (getD (brackets-open ∷ brackets-close ∷ args-open ∷ args-close ∷ no-args-close ∷ pars-open ∷ pars-close ∷ fix-open ∷ fix-close ∷ steps-open
+      ∷ steps-close ∷ body-open ∷ body-close ∷ then-open ∷ then-close ∷ par-comma ∷ arg-comma ∷ barrier-sign ∷ []) n brackets-open) u ≡ some u
   unfolding use-part
   from-none zero h i j k p q = refl
   from-none (suc zero) h i j k p q = refl
@@ -89,7 +95,8 @@ module _ (u : Use) where
   from-none (suc (suc (suc zero))) h i j k p q = absurd (h refl)
   from-none (suc (suc (suc (suc zero)))) h i j k p q = absurd (i refl)
   from-none (suc (suc (suc (suc (suc zero))))) h i j k p q = refl
-  from-none (suc (suc (suc (suc (suc (suc n)))))) h i j k p q = from-six n (λ e. j (ap (λ z. suc (suc (suc (suc (suc (suc z)))))) e)) (λ e. k (ap (λ z. suc (suc (suc (suc (suc (suc z)))))) e)) (λ e. p (ap (λ z. suc (suc (suc (suc (suc (suc z)))))) e)) (λ e. q (ap (λ z. suc (suc (suc (suc (suc (suc z)))))) e))
+  from-none (suc (suc (suc (suc (suc (suc n)))))) h i j k p q =
+      from-six n (λ e. j (six e)) (λ e. k (six e)) (λ e. p (six e)) (λ e. q (six e))
 
   pub part-quiet : (c : ℕ) → 63 ≤ c → (c ≡ 66 → ⊥) → (c ≡ 67 → ⊥) → (c ≡ 75 → ⊥) → (c ≡ 76 → ⊥) → (c ≡ 77 → ⊥) → (c ≡ 79 → ⊥) → some u ≡ use-part (part-at c) u
   unfolding part-at
@@ -112,12 +119,14 @@ module _ (x l k o : List ℕ) (c : Scope) where
   abbrev used : Use
   used = use-in x l k c o
 
-  int-if : (t : Bool) (n : ℕ) → passed-in x l k (word-passed (word-of (provided t (some (int-lit n)))) c) o ≡ then (provided t (some (int-lit n))) (λ z. some used)
+  int-if : (t : Bool) (n : ℕ)
+      → passed-in x l k (word-passed (word-of (provided t (some (int-lit n)))) c) o ≡ then (provided t (some (int-lit n))) (λ z. some used)
   unfolding passed-in word-passed word-of provided then
   int-if true n = refl
   int-if false n = refl
 
-  nat-if : (t : Bool) (n : ℕ) → passed-in x l k (word-passed (word-of (provided t (some (nat-lit n)))) c) o ≡ then (provided t (some (nat-lit n))) (λ z. some used)
+  nat-if : (t : Bool) (n : ℕ)
+      → passed-in x l k (word-passed (word-of (provided t (some (nat-lit n)))) c) o ≡ then (provided t (some (nat-lit n))) (λ z. some used)
   unfolding passed-in word-passed word-of provided then
   nat-if true n = refl
   nat-if false n = refl

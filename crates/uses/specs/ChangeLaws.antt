@@ -129,7 +129,9 @@ naming-number called = 9
 naming-number called-struct = 10
 naming-number called-step = 11
 
-numbered : (n : ℕ) → n < 12 → naming-number (getD (new-struct ∷ new-par ∷ new-step ∷ new-local ∷ first-read ∷ first-written ∷ later-variable ∷ made ∷ made-statement ∷ called ∷ called-struct ∷ called-step ∷ []) n new-par) ≡ n
+numbered : (n : ℕ) → n < 12
+    → naming-number (getD (new-struct ∷ new-par ∷ new-step ∷ new-local ∷ first-read ∷ first-written ∷ later-variable ∷ made ∷ made-statement ∷ called
+    ∷ called-struct ∷ called-step ∷ []) n new-par) ≡ n
 unfolding naming-number
 numbered zero h = refl
 numbered (suc zero) h = refl

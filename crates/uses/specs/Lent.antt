@@ -1,6 +1,6 @@
--- How the pass over uses stands in lent memory (02 §1). Declarations are one table: places of structs, offsets of rows, places of parameters, bytes of their types,
--- places of step names, how many structs and names there are. A step's locals are another: those declared, those alive, their numbers, the bytes of their types,
--- each region filled from its end. Arguments due stand at the front of a stack, how many locals were alive before each open if at its end.
+-- How the pass over uses stands in lent memory (02 §1). Declarations are one table: places of structs, offsets of rows, places of parameters, bytes of their
+-- types, places of step names, how many structs and names there are. A step's locals are another: those declared, those alive, their numbers, the bytes of
+-- their types, each region filled from its end. Arguments due stand at the front of a stack, how many locals were alive before each open if at its end.
 use Prim.Native.Nat.{ℕ, _+_, _≤_, _<_}
 use mathlib.Core.Path.{_≡_}
 use mathlib.Core.List.{List, _∷_}

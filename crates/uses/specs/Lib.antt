@@ -6,13 +6,14 @@ pub mod StackLaws
 pub mod BracketLaws
 pub mod ChangeLaws
 pub mod NameLaws
+pub mod TypeLaws
 pub mod LoopLaws
 pub mod Declaring
+pub mod NumberedLaws
 pub mod Tabling
 pub mod PutLaws
 pub mod OffsetLaws
 pub mod LayingLaws
 pub mod TablingLaws
 pub mod TabledLaws
-pub mod NumberedLaws
 pub mod DeclaringLaws

@@ -102,7 +102,8 @@ module _ (x roles t l₀ k₀ m₀ : List ℕ) where
       here s h = drop-cons s i 0 h ∙ ap (λ z. getD s i 0 ∷ drop z s) (sym (add-one i))
 
       one-place : uses-at book (drop i x) (drop i roles) used
-          ≡ then (chosen (eqb (getD roles i 0) 0) (some used) (use-at book (getD roles i 0) (drop i x) used)) (uses-at book (drop (i + 1) x) (drop (i + 1) roles))
+          ≡ then (chosen (eqb (getD roles i 0) 0) (some used) (use-at book (getD roles i 0) (drop i x) used)) (uses-at book (drop (i + 1) x)
+          (drop (i + 1) roles))
       unfolding uses-at
       one-place =
           let e = here x (omega (arith, inside, same)) in
@@ -117,7 +118,8 @@ module _ (x roles t l₀ k₀ m₀ : List ℕ) where
           (e : (o : List ℕ) → passed-in x l' k' p o
           ≡ chosen (eqb (getD roles i 0) 0) (some (use-in x l k c o)) (use-at book (getD roles i 0) (drop i x) (use-in x l k c o)))
           (g : Next t l' c p) (h : (length k' ≡ length k) × (length l' ≡ length l)) where
-        next-place : (q : Passed) → p ≡ q → then (passed-in x l' k' q (held m n)) (uses-at book (drop (i + 1) x) (drop (i + 1) roles)) ≡ uses-at book x roles use-start
+        next-place : (q : Passed) → p ≡ q
+            → then (passed-in x l' k' q (held m n)) (uses-at book (drop (i + 1) x) (drop (i + 1) roles)) ≡ uses-at book x roles use-start
         next-place q f =
             ap (λ z. then z (uses-at book (drop (i + 1) x) (drop (i + 1) roles))) (ap (λ z. passed-in x l' k' z (held m n)) (sym f) ∙ e (held m n))
             ∙ sym one-place ∙ r .whole

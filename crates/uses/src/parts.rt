@@ -1,5 +1,5 @@
-// What a bracket, a brace, a comma, a semicolon or a literal does to the pass over uses (02 §1; `resolve/specs/Using.antt`). Arguments due stand at the front of
-// the stack, how many locals were alive before each open if at its end.
+// What a bracket, a brace, a comma, a semicolon or a literal does to the pass over uses (02 §1; `resolve/specs/Using.antt`). Arguments due stand at the
+// front of the stack, how many locals were alive before each open if at its end.
 use crate::Passed;
 use crate::Scope;
 use resolve::Word;
@@ -150,7 +150,8 @@ fn of_type(w: Word, c: Scope) -> Passed
 // A token whose kind says it all: behind a semicolon a local is alive.
 pub(crate) fn kind_role(text: &[u8], at: usize, kind: u8, c: Scope) -> Passed
     requires { ⌜ at < length (now text) ⌝ }
-    ensures { λ r. ⌜ ((l k o : List ℕ) → passed-in (now (text .entry)) l k r o ≡ use-kind kind (drop at (now (text .entry))) (use-in (now (text .entry)) l k c o)) ⌝ }
+    ensures { λ r. ⌜ ((l k o : List ℕ) → passed-in (now (text .entry)) l k r o
+        ≡ use-kind kind (drop at (now (text .entry))) (use-in (now (text .entry)) l k c o)) ⌝ }
     ensures { λ r. ⌜ ((t l : List ℕ) → Roomy t l c → Next t l c r) ⌝ }
 {
     match kind {

@@ -75,7 +75,8 @@ fn begin(tables: &[usize], c: Scope) -> Passed
 fn made(text: &[u8], tables: &[usize], stack: &mut [u8], at: usize, c: Scope) -> Passed
     requires { ⌜ Booked (now tables) × (c .dues + c .bodies < length (now stack)) ⌝ }
     ensures { λ r. ⌜ ((l o : List ℕ) → passed-in (now (text .entry)) l (now (stack .exit)) r o
-        ≡ use-made (book-in (now (text .entry)) (now (tables .entry))) (name-at (now (text .entry)) at) (use-in (now (text .entry)) l (now (stack .entry)) c o)) ⌝ }
+        ≡ use-made (book-in (now (text .entry)) (now (tables .entry))) (name-at (now (text .entry)) at)
+        (use-in (now (text .entry)) l (now (stack .entry)) c o)) ⌝ }
     ensures { λ r. ⌜ ((l : List ℕ) → Roomy (now (tables .entry)) l c → Next (now (tables .entry)) l c r) ⌝ }
     ensures { λ _. ⌜ length (now (stack .exit)) ≡ length (now (stack .entry)) ⌝ }
 {
@@ -115,7 +116,8 @@ fn store(locals: &mut [usize], at: usize, met: usize, n: usize, typ: usize)
 fn declare(text: &[u8], tables: &[usize], locals: &mut [usize], at: usize, c: Scope) -> Passed
     requires { ⌜ Booked (now tables) × Roomy (now tables) (now locals) c ⌝ }
     ensures { λ r. ⌜ ((k o : List ℕ) → passed-in (now (text .entry)) (now (locals .exit)) k r o
-        ≡ use-new (book-in (now (text .entry)) (now (tables .entry))) (name-at (now (text .entry)) at) (use-in (now (text .entry)) (now (locals .entry)) k c o)) ⌝ }
+        ≡ use-new (book-in (now (text .entry)) (now (tables .entry))) (name-at (now (text .entry)) at)
+        (use-in (now (text .entry)) (now (locals .entry)) k c o)) ⌝ }
     ensures { λ r. ⌜ Next (now (tables .entry)) (now (locals .exit)) c r ⌝ }
     ensures { λ _. ⌜ length (now (locals .exit)) ≡ length (now (locals .entry)) ⌝ }
 {

@@ -1,6 +1,6 @@
 // The tables of a text's declarations (02 §1): places and counts into one lent table, and whether a stream has numbers for them
-// (`resolve/specs/WellDeclared.antt`). Places of structs from 0 on, offsets of parameters from 16 on, places of parameters from 33 on, bytes of their types from
-// 161 on, places of step names from 289 on, the count of structs at 321, the count of step names at 322.
+// (`resolve/specs/WellDeclared.antt`). Places of structs from 0 on, offsets of parameters from 16 on, places of parameters from 33 on, bytes of their types
+// from 161 on, places of step names from 289 on, the count of structs at 321, the count of step names at 322.
 use resolve::declarations;
 use resolve::tables;
 ghost use mathlib.Core.Path.{_≡_};

@@ -12,7 +12,8 @@ returns c = later-basic _ _ _ (c .if1 .taken)
 returns-2 : tie.Need-returns-2
 returns-2 c =
     let at-4 = c .before .before .before .before in
-    later-none _ _ _ (c .before .before .if1 .left) (structs-long (at-4 .before .args .text .now) (at-4 .before .args .tables .now) (at-4 .before .pre)) (c .if2 .taken)
+    later-none _ _ _ (c .before .before .if1 .left) (structs-long (at-4 .before .args .text .now) (at-4 .before .args .tables .now) (at-4 .before .pre))
+    (c .if2 .taken)
 
 parameter-requires : tie.Need-parameter-requires
 parameter-requires c κs =
@@ -22,7 +23,8 @@ parameter-requires c κs =
 returns-3 : tie.Need-returns-3
 returns-3 c =
     let at-4 = c .before .before .before .before in
-    c .parameter .ensures ∙ later-one _ _ _ (c .before .before .before .if1 .left) (structs-long (at-4 .before .before .args .text .now) (at-4 .before .before .args .tables .now) (at-4 .before .before .pre)) (c .before .if2 .left)
+    c .parameter .ensures ∙ later-one _ _ _ (c .before .before .before .if1 .left) (structs-long (at-4 .before .before .args .text .now)
+    (at-4 .before .before .args .tables .now) (at-4 .before .before .pre)) (c .before .if2 .left)
 
 pub later-spec : {M : Type 1} → statement M
 later-spec =

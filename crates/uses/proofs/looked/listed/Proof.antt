@@ -9,12 +9,14 @@ use Rattle.uses.proofs.looked.listed.Tie as tie
 returns : tie.Need-returns
 returns c =
     let at-4 = c .before .before .before .before in
-    listed-none _ _ (c .before .lookup .ensures) (mapped-long (name-at (at-4 .before .args .text .now)) (at-4 .before .args .table .now) (at-4 .before .args .a) (at-4 .before .args .b) (at-4 .before .pre .2)) (at-4 .before .args .typ) (c .if1 .taken)
+    listed-none _ _ (c .before .lookup .ensures) (mapped-long (name-at (at-4 .before .args .text .now)) (at-4 .before .args .table .now)
+    (at-4 .before .args .a) (at-4 .before .args .b) (at-4 .before .pre .2)) (at-4 .before .args .typ) (c .if1 .taken)
 
 returns-2 : tie.Need-returns-2
 returns-2 c =
     let at-4 = c .before .before .before .before in
-    listed-one _ _ (c .before .lookup .ensures) (mapped-long (name-at (at-4 .before .args .text .now)) (at-4 .before .args .table .now) (at-4 .before .args .a) (at-4 .before .args .b) (at-4 .before .pre .2)) (at-4 .before .args .typ) (c .if1 .left)
+    listed-one _ _ (c .before .lookup .ensures) (mapped-long (name-at (at-4 .before .args .text .now)) (at-4 .before .args .table .now)
+    (at-4 .before .args .a) (at-4 .before .args .b) (at-4 .before .pre .2)) (at-4 .before .args .typ) (c .if1 .left)
 
 pub listed-spec : {M : Type 1} → statement M
 listed-spec =

@@ -17,7 +17,8 @@ returns c = (
 
 returns-2 : tie.Need-returns-2
 returns-2 c = (
-  λ x l o. close-other x l (c .before .before .before .before .args .stack .now) o (c .before .before .before .before .args .c) (c .before .before .before .before .args .n) (c .before .before .if1 .left) (c .if2 .taken),
+  λ x l o. close-other x l (c .before .before .before .before .args .stack .now) o (c .before .before .before .before .args .c)
+      (c .before .before .before .before .args .n) (c .before .before .if1 .left) (c .if2 .taken),
   λ t l r. next-stop t l (c .before .before .before .before .args .c) r,
 )
 
@@ -25,7 +26,8 @@ returns-3 : tie.Need-returns-3
 returns-3 c =
     let at-4 = c .before .before .before .before in (
       λ x l o. ap (λ d. passed-in x l (at-4 .before .args .stack .now) (On d) o) (c .dued .ensures)
-          ∙ close-one x l (at-4 .before .args .stack .now) o (at-4 .before .args .c) (at-4 .before .args .n) (c .before .before .before .if1 .left) (c .before .if2 .left),
+          ∙ close-one x l (at-4 .before .args .stack .now) o (at-4 .before .args .c) (at-4 .before .args .n) (c .before .before .before .if1 .left)
+          (c .before .if2 .left),
       λ t l r. rw (c .dued .ensures) (next-dued t l (at-4 .before .args .c) r (at-4 .before .args .c .dues - 1) (omega arith)),
     )
 

@@ -25,8 +25,10 @@ returns-2 c =
     let at-4 = c .before .before .before .before in
     let k = at-4 .before .args .stack .now in
     let s = at-4 .before .args .c in (
-      λ x t l o r. ap (λ d. passed-in x l k (On d) o) (c .lived .ensures) ∙ shut-less x l k o s r (c .before .before .before .if1 .left) (at-4 .before .pre) (c .before .if2 .taken),
-      λ t l r. rw (c .lived .ensures) (next-lived t l s r (s .met) (getD k (length k - s .bodies) 0) (s .bodies - 1) (r .met) (omega (arith, r .living, c .before .if2 .taken))
+      λ x t l o r. ap (λ d. passed-in x l k (On d) o) (c .lived .ensures) ∙ shut-less x l k o s r (c .before .before .before .if1 .left) (at-4 .before .pre)
+          (c .before .if2 .taken),
+      λ t l r. rw (c .lived .ensures) (next-lived t l s r (s .met) (getD k (length k - s .bodies) 0) (s .bodies - 1) (r .met)
+          (omega (arith, r .living, c .before .if2 .taken))
           (omega (arith, c .before .if2 .taken)) (omega arith)),
     )
 
@@ -35,7 +37,8 @@ returns-3 c =
     let at-4 = c .before .before .before .before in
     let k = at-4 .before .args .stack .now in
     let s = at-4 .before .args .c in (
-      λ x t l o r. ap (λ d. passed-in x l k (On d) o) (c .lived2 .ensures) ∙ shut-all x l k o s r (c .before .before .before .if1 .left) (at-4 .before .pre) (c .before .if2 .left),
+      λ x t l o r. ap (λ d. passed-in x l k (On d) o) (c .lived2 .ensures) ∙ shut-all x l k o s r (c .before .before .before .if1 .left) (at-4 .before .pre)
+          (c .before .if2 .left),
       λ t l r. rw (c .lived2 .ensures) (next-lived t l s r (s .met) (s .living) (s .bodies - 1) (r .met) (r .living) (omega arith) (omega arith)),
     )
 

@@ -20,10 +20,12 @@ returns-2 c = (
 )
 
 returns-3 : tie.Need-returns-3
-returns-3 c = (
-  λ x l o. go-one x l (c .before .before .before .args .stack .now) o (c .before .before .before .args .c) (c .before .before .if1 .left) (c .if2 .left) (c .before .before .before .pre),
-  (λ t l r. next-same t l (c .before .before .before .args .c) r, length-set (c .before .before .before .args .stack .now) (c .before .before .before .args .c .dues - 1) (getD (c .before .before .before .args .stack .now) (c .before .before .before .args .c .dues - 1) 0 - 1)),
-)
+returns-3 c =
+    let k = c .before .before .before .args .stack .now in
+    let s = c .before .before .before .args .c in (
+      λ x l o. go-one x l k o s (c .before .before .if1 .left) (c .if2 .left) (c .before .before .before .pre),
+      (λ t l r. next-same t l s r, length-set k (s .dues - 1) (getD k (s .dues - 1) 0 - 1)),
+    )
 
 pub go-on-spec : {M : Type 1} → statement M
 go-on-spec =

@@ -17,7 +17,8 @@ returns c =
       λ x t l o r. ap (λ d. passed-in x l (set k (length k - (s .bodies + 1)) (s .living - s .fresh)) (On d) o) (c .lived .ensures)
           ∙ opened x l k o s r (c .before .before .before .pre .0),
       (
-        λ t l r. rw (c .lived .ensures) (next-lived t l s r (s .met) (s .living - s .fresh) (s .bodies + 1) (r .met) (omega (arith, r .living)) (omega arith) (omega arith)),
+        λ t l r. rw (c .lived .ensures) (next-lived t l s r (s .met) (s .living - s .fresh) (s .bodies + 1) (r .met) (omega (arith, r .living)) (omega arith)
+            (omega arith)),
         length-set k (length k - (s .bodies + 1)) (s .living - s .fresh),
       ),
     )

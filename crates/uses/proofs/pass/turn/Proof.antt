@@ -28,7 +28,8 @@ returns-2 c =
     let l = a .locals .now in
     let k = a .stack .now in (
       λ o. at-4 .use-at .ensures .0 o
-          ∙ place-some (book-in (a .text .now) (a .tables .now)) (a .role) (drop (a .at) (a .text .now)) (use-in (a .text .now) l k (a .c) o) (at-4 .before .before .before .if1 .left),
+          ∙ place-some (book-in (a .text .now) (a .tables .now)) (a .role) (drop (a .at) (a .text .now)) (use-in (a .text .now) l k (a .c) o)
+          (at-4 .before .before .before .if1 .left),
       at-4 .use-at .ensures .1,
     )
 

@@ -14,7 +14,8 @@ returns c =
     let l = a .locals .now in
     let k = a .stack .now in (
       λ o. c .kind-role .ensures .0 l k o
-          ∙ place-kind (book-in (a .text .now) (a .tables .now)) (a .role) (drop (a .at) (a .text .now)) (use-in (a .text .now) l k (a .c) o) (c .before .if1 .taken),
+          ∙ place-kind (book-in (a .text .now) (a .tables .now)) (a .role) (drop (a .at) (a .text .now)) (use-in (a .text .now) l k (a .c) o)
+          (c .before .if1 .taken),
       (c .kind-role .ensures .1 (a .tables .now) l (at-4 .before .before .pre .1), (refl, refl)),
     )
 
@@ -27,7 +28,8 @@ returns-2 c =
     let l = a .locals .now in
     let k = a .stack .now in (
       λ o. at-4 .name-role .ensures .0 o
-          ∙ place-name (book-in (a .text .now) (a .tables .now)) (a .role) (drop (a .at) (a .text .now)) (use-in (a .text .now) l k (a .c) o) (at-8 .if1 .left) (at-4 .before .before .before .if2 .taken),
+          ∙ place-name (book-in (a .text .now) (a .tables .now)) (a .role) (drop (a .at) (a .text .now)) (use-in (a .text .now) l k (a .c) o)
+          (at-8 .if1 .left) (at-4 .before .before .before .if2 .taken),
       at-4 .name-role .ensures .1,
     )
 
@@ -39,7 +41,8 @@ returns-3 c =
     let l = a .locals .now in
     let k = a .stack .now in (
       λ o. c .type-role .ensures .0 l k o
-          ∙ place-type (book-in (a .text .now) (a .tables .now)) (a .role) (drop (a .at) (a .text .now)) (use-in (a .text .now) l k (a .c) o) (c .before .before .before .if1 .left) (c .before .before .if2 .left) (c .before .if3 .taken),
+          ∙ place-type (book-in (a .text .now) (a .tables .now)) (a .role) (drop (a .at) (a .text .now)) (use-in (a .text .now) l k (a .c) o)
+          (c .before .before .before .if1 .left) (c .before .before .if2 .left) (c .before .if3 .taken),
       (c .type-role .ensures .1 l (at-8 .pre .1), (refl, refl)),
     )
 
@@ -51,8 +54,15 @@ returns-4 c =
     let l = a .locals .now in
     let k = a .stack .now in (
       λ o. c .before .before .part-role .ensures .0 (a .text .now) (a .tables .now) l o (at-8 .before .before .before .pre .1)
-          ∙ place-part (book-in (a .text .now) (a .tables .now)) (a .role) (drop (a .at) (a .text .now)) (use-in (a .text .now) l k (a .c) o) (at-4 .before .before .if1 .left) (at-4 .before .if2 .left) (at-4 .if3 .left),
-      (c .before .before .part-role .ensures .1 .0 (a .tables .now) l (at-8 .before .before .before .pre .1), (c .before .before .part-role .ensures .1 .1, refl)),
+          ∙ place-part (book-in (a .text .now) (a .tables .now)) (a .role) (drop (a .at) (a .text .now)) (use-in (a .text .now) l k (a .c) o)
+          (at-4 .before .before .if1 .left) (at-4 .before .if2 .left) (at-4 .if3 .left),
+      (
+        c .before .before .part-role .ensures .1 .0 (a .tables .now) l (at-8 .before .before .before .pre .1),
+        (
+          c .before .before .part-role .ensures .1 .1,
+          refl,
+        ),
+      ),
     )
 
 pub use-at-spec : {M : Type 1} → statement M

@@ -10,7 +10,8 @@ use Rattle.uses.proofs.pass.uses.Statement.{statement}
 use Rattle.uses.proofs.pass.uses.Tie as tie
 
 abbrev Inv-loop : tie.InvT-loop
-Inv-loop text roles tables locals₀ stack₀ numbers₀ c₀ n₀ i₀ locals stack numbers c n i = Reached text roles tables locals₀ stack₀ numbers₀ locals stack numbers c n i
+Inv-loop text roles tables locals₀ stack₀ numbers₀ c₀ n₀ i₀ locals stack numbers c n i =
+    Reached text roles tables locals₀ stack₀ numbers₀ locals stack numbers c n i
 
 abbrev μ-loop : tie.MeasureT-loop
 μ-loop text roles tables locals₀ stack₀ numbers₀ c₀ n₀ i₀ locals stack numbers c n i = length roles - i
@@ -31,8 +32,18 @@ turn-requires : tie.Need-turn-requires Inv-loop μ-loop
 turn-requires c κs =
     let at-4 = c .before .before .before .before in
     let at-8 = at-4 .before .before .before .before in
-    let inv = at-4 .loop .inv in
-    (at-8 .before .before .before .pre .0 .0, inv .room, omega (arith, inv .low, inv .stack, c .before .before .before .loop-test .taken, at-8 .before .before .before .pre .1 .1), omega (arith, c .before .before .before .loop-test .taken, at-8 .before .before .before .pre .1 .0))
+    let inv = at-4 .loop .inv in (
+      at-8 .before .before .before .pre .0 .0,
+      inv .room,
+      omega (
+        arith,
+        inv .low,
+        inv .stack,
+        c .before .before .before .loop-test .taken,
+        at-8 .before .before .before .pre .1 .1,
+      ),
+      omega (arith, c .before .before .before .loop-test .taken, at-8 .before .before .before .pre .1 .0),
+    )
 
 same-length : tie.Need-same-length Inv-loop μ-loop
 same-length c =
@@ -61,8 +72,10 @@ returns c =
     let at-16 = at-12 .before .before .before .before in
     let a = at-16 .before .before .args in
     let inv = at-8 .before .before .before .loop .inv in (
-      reached-stop (a .text .now) (a .roles .now) (a .tables .now) (a .locals .now) (a .stack .now) (a .numbers .now) (at-16 .before .before .pre .1 .0) inv (at-8 .before .before .loop-test .taken)
-          _ _ _ (at-4 .before .before .turn .ensures .0) (at-4 .before .before .turn .ensures .1 .0) (at-4 .before .before .turn .ensures .1 .1) _ (c .enum-told .given .1),
+      reached-stop (a .text .now) (a .roles .now) (a .tables .now) (a .locals .now) (a .stack .now) (a .numbers .now) (at-16 .before .before .pre .1 .0) inv
+          (at-8 .before .before .loop-test .taken)
+          _ _ _ (at-4 .before .before .turn .ensures .0) (at-4 .before .before .turn .ensures .1 .0) (at-4 .before .before .turn .ensures .1 .1) _
+          (c .enum-told .given .1),
       (tt, (at-4 .before .before .turn .ensures .1 .1 .0 ∙ inv .stack, at-4 .before .before .turn .ensures .1 .1 .1 ∙ inv .locals, inv .numbers)),
     )
 
@@ -80,8 +93,10 @@ loop-again c =
     let at-16 = at-12 .before .before .before .before in
     let a = at-16 .before .before .before .args in
     let inv = at-12 .loop .inv in
-    reached-on (a .text .now) (a .roles .now) (a .tables .now) (a .locals .now) (a .stack .now) (a .numbers .now) (at-16 .before .before .before .pre .1 .0) inv (at-8 .before .before .before .loop-test .taken)
-    _ _ _ (at-4 .before .before .before .turn .ensures .0) (at-4 .before .before .before .turn .ensures .1 .0) (at-4 .before .before .before .turn .ensures .1 .1) (c .before .d .given .1)
+    reached-on (a .text .now) (a .roles .now) (a .tables .now) (a .locals .now) (a .stack .now) (a .numbers .now) (at-16 .before .before .before .pre .1 .0)
+    inv (at-8 .before .before .before .loop-test .taken)
+    _ _ _ (at-4 .before .before .before .turn .ensures .0) (at-4 .before .before .before .turn .ensures .1 .0)
+    (at-4 .before .before .before .turn .ensures .1 .1) (c .before .d .given .1)
 
 slice-write-numbers : tie.Need-slice-write-numbers Inv-loop μ-loop
 slice-write-numbers c =
@@ -89,7 +104,13 @@ slice-write-numbers c =
     let at-8 = at-4 .before .before .before .before in
     let at-12 = at-8 .before .before .before .before in
     let at-16 = at-12 .before .before .before .before in
-    let inv = at-12 .loop .inv in omega (arith, inv .few, inv .numbers, at-8 .before .before .before .loop-test .taken, at-16 .before .before .before .pre .1 .2)
+    let inv = at-12 .loop .inv in omega (
+      arith,
+      inv .few,
+      inv .numbers,
+      at-8 .before .before .before .loop-test .taken,
+      at-16 .before .before .before .pre .1 .2,
+    )
 
 add-n : tie.Need-add-n Inv-loop μ-loop
 add-n c =
@@ -112,8 +133,10 @@ loop-again-2 c =
     let at-16 = at-12 .before .before .before .before in
     let a = at-16 .before .before .before .args in
     let inv = at-12 .loop .inv in
-    reached-left (a .text .now) (a .roles .now) (a .tables .now) (a .locals .now) (a .stack .now) (a .numbers .now) (at-16 .before .before .before .pre .1 .0) inv (at-8 .before .before .before .loop-test .taken)
-    _ _ _ (at-4 .before .before .before .turn .ensures .0) (at-4 .before .before .before .turn .ensures .1 .0) (at-4 .before .before .before .turn .ensures .1 .1) (at-16 .before .before .before .pre .1 .2) (c .before .d2 .given .1)
+    reached-left (a .text .now) (a .roles .now) (a .tables .now) (a .locals .now) (a .stack .now) (a .numbers .now)
+    (at-16 .before .before .before .pre .1 .0) inv (at-8 .before .before .before .loop-test .taken)
+    _ _ _ (at-4 .before .before .before .turn .ensures .0) (at-4 .before .before .before .turn .ensures .1 .0)
+    (at-4 .before .before .before .turn .ensures .1 .1) (at-16 .before .before .before .pre .1 .2) (c .before .d2 .given .1)
 
 same-length-4 : tie.Need-same-length-4 Inv-loop μ-loop
 same-length-4 c = c .before .loop .inv .locals

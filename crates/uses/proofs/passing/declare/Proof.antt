@@ -19,7 +19,8 @@ returns c =
     let t = at-4 .before .before .args .tables .now in
     let l = at-4 .before .before .args .locals .now in
     let s = at-4 .before .before .args .c in (
-      λ k o. declare-not x t l s (at-4 .before .before .pre .1) (at-4 .before .before .args .at) (c .before .unused .result) (c .before .unused .ensures) k o (not-true _ (c .if1 .taken)),
+      λ k o. declare-not x t l s (at-4 .before .before .pre .1) (at-4 .before .before .args .at) (c .before .unused .result) (c .before .unused .ensures) k o
+          (not-true _ (c .if1 .taken)),
       (next-stop t l s (at-4 .before .before .pre .1), refl),
     )
 
@@ -30,7 +31,8 @@ returns-2 c =
     let t = at-4 .before .before .before .args .tables .now in
     let l = at-4 .before .before .before .args .locals .now in
     let s = at-4 .before .before .before .args .c in (
-      λ k o. declare-full x t l s (at-4 .before .before .before .pre .1) (at-4 .before .before .before .args .at) (c .before .before .unused .result) (c .before .before .unused .ensures) k o (not-false _ (c .before .if1 .left)) (c .if2 .taken),
+      λ k o. declare-full x t l s (at-4 .before .before .before .pre .1) (at-4 .before .before .before .args .at) (c .before .before .unused .result)
+          (c .before .before .unused .ensures) k o (not-false _ (c .before .if1 .left)) (c .if2 .taken),
       (next-stop t l s (at-4 .before .before .before .pre .1), refl),
     )
 
@@ -45,11 +47,14 @@ returns-3 c =
     let s = at-12 .args .c in
     let r = at-12 .pre .1 in (
       λ k o. ap (λ z. passed-in x z k (Left (declaring s) (8 + s .met)) o) (c .before .before .store .ensures)
-          ∙ declare-one x t l s r (at-12 .args .at) (at-4 .before .before .before .unused .result) (at-4 .before .before .before .unused .ensures) k o (not-false _ (at-4 .before .before .if1 .left)) (at-4 .before .if2 .left),
+          ∙ declare-one x t l s r (at-12 .args .at) (at-4 .before .before .before .unused .result) (at-4 .before .before .before .unused .ensures) k o
+          (not-false _ (at-4 .before .before .if1 .left)) (at-4 .before .if2 .left),
       (
-        rw (c .before .before .store .ensures) (next-declared x t l s r (at-12 .args .at) (at-4 .before .before .before .unused .result) (at-4 .before .before .before .unused .ensures) (at-4 .before .if2 .left) (8 + s .met)),
+        rw (c .before .before .store .ensures) (next-declared x t l s r (at-12 .args .at) (at-4 .before .before .before .unused .result)
+            (at-4 .before .before .before .unused .ensures) (at-4 .before .if2 .left) (8 + s .met)),
         ap length (c .before .before .store .ensures)
-            ∙ long-stored l (r .long) (at-12 .args .at) (s .met) (s .living - s .fresh) (s .typ) (at-4 .before .if2 .left) (omega (arith, r .living, at-4 .before .if2 .left)) ∙ sym (r .long),
+            ∙ long-stored l (r .long) (at-12 .args .at) (s .met) (s .living - s .fresh) (s .typ) (at-4 .before .if2 .left)
+            (omega (arith, r .living, at-4 .before .if2 .left)) ∙ sym (r .long),
       ),
     )
 

@@ -17,7 +17,8 @@ returns c =
     let at-4 = c .before .before .before .before in
     let t = at-4 .before .before .before .args .tables .now in
     let s = at-4 .before .before .before .args .c in (
-      made-none (at-4 .before .before .before .args .text .now) t (at-4 .before .before .before .pre .0) (at-4 .before .before .before .args .stack .now) s (name-at (at-4 .before .before .before .args .text .now) (at-4 .before .before .before .args .at)) (c .before .lookup .ensures) (c .if1 .taken),
+      made-none (at-4 .before .before .before .args .text .now) t (at-4 .before .before .before .pre .0) (at-4 .before .before .before .args .stack .now) s
+          (name-at (at-4 .before .before .before .args .text .now) (at-4 .before .before .before .args .at)) (c .before .lookup .ensures) (c .if1 .taken),
       (λ l r. next-stop t l s r, refl),
     )
 
@@ -42,7 +43,8 @@ returns-2 c =
     let s = at-8 .before .args .c in
     let k = at-8 .before .args .stack .now in
     let n = c .before .before .before .lookup .result in (
-      made-one (at-8 .before .args .text .now) t (at-8 .before .pre .0) k s (name-at (at-8 .before .args .text .now) (at-8 .before .args .at)) (c .before .before .before .lookup .ensures) (c .before .before .if1 .left) (at-8 .before .pre .1),
+      made-one (at-8 .before .args .text .now) t (at-8 .before .pre .0) k s (name-at (at-8 .before .args .text .now) (at-8 .before .args .at))
+          (c .before .before .before .lookup .ensures) (c .before .before .if1 .left) (at-8 .before .pre .1),
       (λ l r. next-made t l s n r, length-set k (s .dues) (row-end t n - row-start t n)),
     )
 

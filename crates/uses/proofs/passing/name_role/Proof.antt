@@ -13,7 +13,8 @@ returns c =
     let a = at-4 .before .before .args in
     let y = name-at (a .text .now) (a .at) in (
       λ o. c .begin .ensures .0 (a .text .now) y (a .locals .now) (a .stack .now) o
-          ∙ name-39 (a .text .now) (a .tables .now) (a .locals .now) (a .stack .now) o (a .c) y (a .role) (at-4 .before .before .pre .3) (at-4 .before .before .pre .4) (c .before .if1 .taken),
+          ∙ name-39 (a .text .now) (a .tables .now) (a .locals .now) (a .stack .now) o (a .c) y (a .role) (at-4 .before .before .pre .3)
+          (at-4 .before .before .pre .4) (c .before .if1 .taken),
       (c .begin .ensures .1 (a .locals .now) (at-4 .before .before .pre .1), (refl, refl)),
     )
 
@@ -22,7 +23,8 @@ returns-2 c =
     let at-4 = c .before .before .before .before in
     let a = at-4 .before .before .args in
     let y = name-at (a .text .now) (a .at) in (
-      λ o. name-40 (a .text .now) (a .tables .now) (a .locals .now) (a .stack .now) o (a .c) y (a .role) (at-4 .before .before .pre .3) (at-4 .before .before .pre .4) (c .if2 .taken),
+      λ o. name-40 (a .text .now) (a .tables .now) (a .locals .now) (a .stack .now) o (a .c) y (a .role) (at-4 .before .before .pre .3)
+          (at-4 .before .before .pre .4) (c .if2 .taken),
       (next-same (a .tables .now) (a .locals .now) (a .c) (at-4 .before .before .pre .1), (refl, refl)),
     )
 
@@ -33,7 +35,8 @@ returns-3 c =
     let a = at-8 .before .before .before .args in
     let y = name-at (a .text .now) (a .at) in (
       λ o. c .before .before .declare .ensures .0 (a .stack .now) o
-          ∙ name-42 (a .text .now) (a .tables .now) (a .locals .now) (a .stack .now) o (a .c) y (a .role) (at-8 .before .before .before .pre .3) (at-8 .before .before .before .pre .4) (at-4 .if3 .taken),
+          ∙ name-42 (a .text .now) (a .tables .now) (a .locals .now) (a .stack .now) o (a .c) y (a .role) (at-8 .before .before .before .pre .3)
+          (at-8 .before .before .before .pre .4) (at-4 .if3 .taken),
       (c .before .before .declare .ensures .1 .0, (refl, c .before .before .declare .ensures .1 .1)),
     )
 
@@ -57,7 +60,8 @@ returns-5 c =
     let a = at-12 .before .args in
     let y = name-at (a .text .now) (a .at) in (
       λ o. c .before .before .made2 .ensures .0 (a .locals .now) o
-          ∙ name-47 (a .text .now) (a .tables .now) (a .locals .now) (a .stack .now) o (a .c) y (a .role) (at-12 .before .pre .3) (at-12 .before .pre .4) (at-4 .if5 .taken),
+          ∙ name-47 (a .text .now) (a .tables .now) (a .locals .now) (a .stack .now) o (a .c) y (a .role) (at-12 .before .pre .3) (at-12 .before .pre .4)
+          (at-4 .if5 .taken),
       (c .before .before .made2 .ensures .1 .0 (a .locals .now) (at-12 .before .pre .1), (c .before .before .made2 .ensures .1 .1, refl)),
     )
 
@@ -68,7 +72,9 @@ returns-6 c =
     let at-12 = at-8 .before .before .before .before in
     let a = at-12 .args in
     let y = name-at (a .text .now) (a .at) in (
-      λ o. name-seen (a .text .now) (a .tables .now) (a .locals .now) (a .stack .now) o (a .c) y (a .role) (at-12 .pre .3) (at-12 .pre .4) (at-4 .before .before .before .if1 .left) (at-4 .before .before .if2 .left) (at-4 .before .if3 .left) (at-4 .if4 .left) (c .before .before .before .if5 .left) (c .before .seen .ensures) (c .left .ensures),
+      λ o. name-seen (a .text .now) (a .tables .now) (a .locals .now) (a .stack .now) o (a .c) y (a .role) (at-12 .pre .3) (at-12 .pre .4)
+          (at-4 .before .before .before .if1 .left) (at-4 .before .before .if2 .left) (at-4 .before .if3 .left) (at-4 .if4 .left)
+          (c .before .before .before .if5 .left) (c .before .seen .ensures) (c .left .ensures),
       (rw (c .left .ensures) (next-seen (a .tables .now) (a .locals .now) (a .c) (at-12 .pre .1) (c .before .seen .result)), (refl, refl)),
     )
 

@@ -6,7 +6,7 @@ use Rattle.uses.specs.declared.Seen.the-variants.{Of}
 use Rattle.uses.specs.Lent.{book-in, use-in, passed-in}
 use Rattle.uses.specs.StackLaws.{next-stop, next-same}
 use Rattle.uses.specs.ChangeLaws.{next-seen}
-use Rattle.uses.specs.NameLaws.{type-par, type-none, type-one}
+use Rattle.uses.specs.TypeLaws.{type-par, type-none, type-one}
 use borrow.Author.Needs.{needs}
 use Rattle.uses.proofs.passing.type_role.Statement.{statement}
 use Rattle.uses.proofs.passing.type_role.Tie as tie
@@ -15,7 +15,8 @@ returns : tie.Need-returns
 unfolding passed-in
 returns c =
     let a = c .before .before .before .args in (
-      λ l k o. type-par (book-in (a .text .now) (a .tables .now)) (type-here (number-at (a .role)) (drop (a .at) (a .text .now))) (use-in (a .text .now) l k (a .c) o) (a .role) (c .if1 .taken),
+      λ l k o. type-par (book-in (a .text .now) (a .tables .now)) (type-here (number-at (a .role)) (drop (a .at) (a .text .now))) (use-in (a .text .now) l k
+          (a .c) o) (a .role) (c .if1 .taken),
       λ l r. next-same (a .tables .now) l (a .c) r,
     )
 
@@ -24,7 +25,8 @@ returns-2 c =
     let at-4 = c .before .before .before .before in
     let at-8 = at-4 .before .before .before .before in
     let a = at-8 .args in (
-      λ l k o. type-none (a .text .now) (a .tables .now) (at-8 .pre .0) (a .c) (a .role) (at-4 .before .if1 .left) (at-8 .pre .2) (drop (a .at) (a .text .now)) (c .before .type-byte .ensures) (c .before .before .type-number .ensures) l k o (c .if2 .taken),
+      λ l k o. type-none (a .text .now) (a .tables .now) (at-8 .pre .0) (a .c) (a .role) (at-4 .before .if1 .left) (at-8 .pre .2)
+          (drop (a .at) (a .text .now)) (c .before .type-byte .ensures) (c .before .before .type-number .ensures) l k o (c .if2 .taken),
       λ l r. next-stop (a .tables .now) l (a .c) r,
     )
 
@@ -33,7 +35,9 @@ returns-3 c =
     let at-4 = c .before .before .before .before in
     let at-8 = at-4 .before .before .before .before in
     let a = at-8 .before .args in (
-      λ l k o. type-one (a .text .now) (a .tables .now) (at-8 .before .pre .0) (a .c) (a .role) (at-4 .before .before .if1 .left) (at-8 .before .pre .2) (drop (a .at) (a .text .now)) (c .before .before .type-byte .ensures) (c .before .before .before .type-number .ensures) l k o (c .before .if2 .left) (c .left .ensures),
+      λ l k o. type-one (a .text .now) (a .tables .now) (at-8 .before .pre .0) (a .c) (a .role) (at-4 .before .before .if1 .left) (at-8 .before .pre .2)
+          (drop (a .at) (a .text .now)) (c .before .before .type-byte .ensures) (c .before .before .before .type-number .ensures) l k o (c .before .if2 .left)
+          (c .left .ensures),
       λ l r. rw (c .left .ensures) (next-seen (a .tables .now) l (a .c) r (Of (c .before .before .type-byte .result) (c .before .before .type-byte .result))),
     )
 
