@@ -1,5 +1,5 @@
 -- Program text (02 §1): what has one reading at most, which number a text is refused with, what is written otherwise, and what the checker says to it.
-use Prim.Native.Nat.{ℕ, _≤_}
+use Prim.Native.Nat.{ℕ, _*_, _≤_}
 use mathlib.Core.Path.{_≡_}
 use mathlib.Core.Logic.{_↔_}
 use mathlib.Core.List.{List, _++_}
