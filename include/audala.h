@@ -124,7 +124,8 @@ audala_copied audala_write_image(const uint8_t *stream, size_t length, size_t mo
 
 /* The image of the program that a text of `length` bytes means, in the front of the output; later bytes are untouched. The count is that of its
  * blocks of 512 bytes. 15: no tokens; 16: no derivation; 17: no program; 13: the output is too short. A refusal leaves the output. What is
- * written is to be checked like any image: audala_check then answers 0, 5, 6, 7 or 8. */
+ * written, the first 512 * count bytes, is to be checked like any image: audala_check, with a list of AUDALA_LIST_PLACES, then answers
+ * 0, 5, 6, 7 or 8. */
 audala_copied audala_text(const uint8_t *text, size_t length, uint8_t *output, size_t room);
 
 #ifdef __cplusplus

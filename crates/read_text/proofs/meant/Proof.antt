@@ -4,8 +4,7 @@ use native.Mathlib.Omega.{arith}
 use mathlib.Core.Path.{_≡_, sym, _∙_}
 use lib.ListN.{length, length-replicate}
 use lib.Seq.{length-take-le}
-use Rattle.uses.specs.declared.Numbered.the-variants.{Count}
-use Rattle.read_text.specs.TableLaws.{fronted}
+use Rattle.uses.specs.DeclaringLaws.{roles-fronted}
 use Rattle.read_text.specs.MeantLaws.{unnamed-ends, rows-there, count-told, over-ends, at-ends, stream-long, inside}
 use borrow.Author.Needs.{needs}
 use Rattle.read_text.proofs.meant.Statement.{statement}
@@ -33,7 +32,7 @@ numbers-requires c κs =
       (pre .0, pre .2),
       (
         (simp length-replicate (omega (arith, pre .0, pre .1)), length-replicate {A = ℕ} 323 0),
-        fronted (args .text .now) (args .roles .now) (r .derivation) (r .stands),
+        roles-fronted (r .derivation) (r .stands),
       ),
     )
 
