@@ -23,8 +23,8 @@ use Rattle.derive.specs.RoleMarks.{role-codes, placed}
 use Rattle.derive.specs.Held.{held, Kept}
 use Rattle.derive.specs.HeldLaws.{kept-shape}
 use Rattle.uses.specs.Declaring.{Fronted}
+use Rattle.uses.specs.DeclaringLaws.{roles-fronted}
 use Rattle.uses.specs.Stopping.{stops}
-use Rattle.read_text.specs.TableLaws.{fronted}
 use Rattle.read_text.specs.PassLaws.{roled-there}
 use Rattle.text_place.specs.Place.{dead, stuck-from, roles-in, of-derived, of-parts, of-length, place}
 
@@ -201,7 +201,7 @@ module _ (x ks₀ ks : List ℕ) (short : length x ≤ max-text) (long : length 
 
     module _ (h : not q ≡ false) where
       pub fronted-there : Fronted cs
-      fronted-there = let r = roled-there x ks₀ ks long p e f [] parted cs q d k h in fronted x cs (r .derivation) (r .stands)
+      fronted-there = let r = roled-there x ks₀ ks long p e f [] parted cs q d k h in roles-fronted (r .derivation) (r .stands)
 
       pub names-place : length cs ≡ length x → (r : ℕ) → (r ≡ stops x cs) × (r ≤ length cs) → (r ≡ place x) × (r ≤ length x)
       unfolding of-derived roles-in

@@ -166,13 +166,13 @@ returns-2 c =
     let at-4 = c .before .before .before .before in
     let at-8 = at-4 .before .before .before .before in
     let a = at-8 .args in
-    let inv = c .before .loop .inv in (
-      reached-end (a .text .now) (a .roles .now) (a .tables .now) (a .locals .now) (a .stack .now) (a .numbers .now) (at-8 .pre .1 .0) inv (c .loop-test .left),
+    let inv = c .before .loop .inv in let same = at-8 .pre .1 .0 in (
+      reached-end (a .text .now) (a .roles .now) (a .tables .now) (a .locals .now) (a .stack .now) (a .numbers .now) same inv (c .loop-test .left),
       (
         (omega (arith, inv .few, inv .inner, inv .numbers, at-8 .pre .1 .2), tt),
         (
           (
-            stopped-end (a .text .now) (a .roles .now) (a .tables .now) (a .locals .now) (a .stack .now) (a .numbers .now) (at-8 .pre .1 .0) inv (c .loop-test .left),
+            stopped-end (a .text .now) (a .roles .now) (a .tables .now) (a .locals .now) (a .stack .now) (a .numbers .now) same inv (c .loop-test .left),
             omega arith,
           ),
           (inv .stack, inv .locals, inv .numbers),
