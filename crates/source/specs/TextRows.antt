@@ -52,8 +52,9 @@ tokens-Q =
     name (114 ∷ []) ∷ sign colon ∷ name B ∷ sign rpar ∷ sign lbrace ∷ name s ∷ sign lbrace ∷ word w-bool ∷ name x ∷ sign assign ∷ sign bang ∷ word w-false ∷
     sign semicolon ∷ word w-if ∷ sign lpar ∷ name x ∷ op op-and ∷ sign lpar ∷ name (110 ∷ []) ∷ op op-ge ∷ nat (50 ∷ []) ∷ sign rpar ∷ sign rpar ∷ word
     w-then ∷ sign lbrace ∷ name B ∷ name y ∷ sign assign ∷ word w-null ∷ name B ∷ sign semicolon ∷ name y ∷ sign dot-sign ∷ name (105 ∷ []) ∷ sign assign ∷ int
-    plus (55 ∷ []) ∷ sign semicolon ∷ sign rbrace ∷ name (114 ∷ []) ∷ sign dot-sign ∷ name c ∷ sign dot-sign ∷ name (113 ∷ []) ∷ sign assign ∷ word w-true ∷ sign
-    semicolon ∷ sign rbrace ∷ name t ∷ sign lbrace ∷ word w-nat ∷ name x ∷ sign assign ∷ sign lpar ∷ name (110 ∷ []) ∷ op op-rem ∷ nat (57 ∷ []) ∷ sign rpar
+    plus (55 ∷ []) ∷ sign semicolon ∷ sign rbrace ∷ name (114 ∷ []) ∷ sign dot-sign ∷ name c ∷ sign dot-sign ∷ name (113 ∷ []) ∷ sign assign ∷ word w-true ∷
+    sign semicolon ∷ sign rbrace ∷ name t ∷ sign lbrace ∷ word w-nat ∷ name x ∷ sign assign ∷ sign lpar ∷ name (110 ∷ []) ∷ op op-rem ∷ nat (57 ∷ [])
+    ∷ sign rpar
     ∷ sign semicolon ∷ name B ∷ sign lpar ∷ int minus (49 ∷ []) ∷ sign comma ∷ word w-this ∷ sign rpar ∷ sign semicolon ∷ sign rbrace ∷ sign rbrace ∷ word
     w-struct ∷ name B ∷ sign lpar ∷ name (105 ∷ []) ∷ sign colon ∷ word w-int ∷ sign comma ∷ name c ∷ sign colon ∷ name A ∷ sign rpar ∷ sign lbrace ∷ name s
     ∷ sign lbrace ∷ name c ∷ sign assign ∷ name A ∷ sign lpar ∷ nat (48 ∷ []) ∷ sign comma ∷ sign lpar ∷ name (105 ∷ []) ∷ op op-gt ∷ name (105 ∷ []) ∷ sign

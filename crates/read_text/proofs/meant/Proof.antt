@@ -39,14 +39,14 @@ numbers-requires c κs =
 returns : tie.Need-returns
 returns c =
     let at-told = c .before in let n = at-numbers (at-told .before .before) in let args = entry (n .before) .args in
-    unnamed-ends (args .text .now) (args .roles .now) (args .out .now) _ (n .numbers2 .result) (n .numbers2 .ensures .0) (at-told .enum-told .given .1) _
+    unnamed-ends (args .text .now) (args .roles .now) (args .out .now) _ (n .numbers2 .result) (n .numbers2 .ensures .0) _ (at-told .enum-told .given .1) _
     (c .refused .ensures)
 
 array-share-prefix-numbers : tie.Need-array-share-prefix-numbers
 array-share-prefix-numbers c =
     let at-names = c .before in let n = at-numbers (at-names .before .before) in let args = entry (n .before) .args in
     count-told (args .text .now) (args .roles .now) (args .out .now) _ (n .numbers2 .result) (n .numbers2 .ensures .0) _ (at-names .names .given .1)
-    (n .numbers2 .ensures .1) .0
+    (n .numbers2 .ensures .1 .0) .0
 
 slice-aggregate-composed : tie.Need-slice-aggregate-composed
 slice-aggregate-composed c = sym (length-take-le _ _ (array-share-prefix-numbers (c .before)))
@@ -59,7 +59,7 @@ composed-requires c κs =
       (
         (
           s .pre .1,
-          count-told (args .text .now) (args .roles .now) (args .out .now) _ (r .result) (r .ensures .0) _ (at-names .names .given .1) (r .ensures .1) .1,
+          count-told (args .text .now) (args .roles .now) (args .out .now) _ (r .result) (r .ensures .0) _ (at-names .names .given .1) (r .ensures .1 .0) .1,
         ),
         rows-there (args .text .now) (args .roles .now) (args .out .now) _ (r .result) (r .ensures .0) _ (at-names .names .given .1) (s .pre .1),
       ),
