@@ -2,3 +2,16 @@ pub mod Writing
 pub mod Checks
 pub mod WritingExpLaws
 pub mod WritingLaws
+pub mod Fits
+pub mod FitsLaws
+pub mod Standing
+pub mod StandingLaws
+pub mod HeldLaws
+pub mod Ranged
+pub mod RangedLaws
+pub mod MeantRangedLaws
+pub mod Header
+pub mod HeaderLaws
+pub mod Composed
+pub mod RowsLaws
+pub mod StreamLaws

@@ -16,12 +16,12 @@ use Rattle.derive.specs.declared.Act.{Act}
 use Rattle.derive.specs.declared.Act.the-variants.{Go, Open, Below, Stop}
 
 -- a store from the height on leaves what is held; one at the height is held on top
-held-set : (s : List ℕ) (i v h : ℕ) → h ≤ i → held (set s i v) h ≡ held s h
+pub held-set : (s : List ℕ) (i v h : ℕ) → h ≤ i → held (set s i v) h ≡ held s h
 unfolding held
 held-set s i v zero l = refl
 held-set s i v (suc h) l = rw (getD-set-other s i h v 0 (λ e. absurd (omega arith)), held-set s i v h (omega arith)) refl
 
-held-push : (s : List ℕ) (h v : ℕ) → h < length s → held (set s h v) (h + 1) ≡ v ∷ held s h
+pub held-push : (s : List ℕ) (h v : ℕ) → h < length s → held (set s h v) (h + 1) ≡ v ∷ held s h
 unfolding held
 held-push s h v l = rw (add-one h, getD-set-same s h v 0 l, held-set s h v h (omega arith)) refl
 

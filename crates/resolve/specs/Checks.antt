@@ -15,7 +15,7 @@ use Rattle.resolve.specs.Named.{name-of, name-at, names-at, sought}
 -- Rows ----------------------------------------------------------------------------------------
 
 -- the part of a table from a to b
-abbrev pub part-of : List ℕ → ℕ → ℕ → List ℕ
+abbrev pub part-of : {A : Type 0} → List A → ℕ → ℕ → List A
 part-of table a b = take (b - a) (drop a table)
 
 -- of parameters, from a to b

@@ -13,7 +13,7 @@ use borrow.Author.Tests.{lt-ltb, le-ltb, le-leb, ltb-true, ltb-false}
 use Rattle.types.specs.Limits.{max-params, max-steps}
 use Rattle.types.specs.Types.{struct-code, code}
 use Rattle.syntax.specs.Syntax.{Id, TypeName, TypeName.int-type, TypeName.nat-type, TypeName.bool-type, TypeName.id-type, Par, Struct}
-use Rattle.tokens.specs.Scanning.{same}
+use Rattle.tokens.specs.Tokens.{same}
 use Rattle.meaning.specs.Scope.{par-id, par-type, struct-id, pars-of}
 use Rattle.meaning.specs.StepNames.{among, once}
 use Rattle.meaning.specs.Finding.{Place, find, distinct}
@@ -22,6 +22,7 @@ use Rattle.meaning.specs.Meant.{then, provided, each, type-meaning, pars-meanin
 use Rattle.resolve.specs.Named.{name-at, names-at, sought}
 use Rattle.resolve.specs.NamedLaws.{found-where-sought, none-where-sought}
 use Rattle.resolve.specs.Declares.{all-pars, sums}
+use Rattle.resolve.specs.WellDeclared.{few-named}
 use Rattle.resolve.specs.Checks.{part-of, row-ok, between-all, rows-ok, narrow, byte-of, firsts}
 
 -- a row of things that mean something by a test, and then what the test says of them
@@ -65,7 +66,7 @@ module _ (ds : List Struct) where
       go (d ∷ l) = ap suc (go l)
 
   -- a type means the type of its byte, where it means one
-  type-known : (t : TypeName) → then (type-meaning ds t) (λ u. some (code u)) ≡ provided (one-known (byte t)) (some (byte t))
+  pub type-known : (t : TypeName) → then (type-meaning ds t) (λ u. some (code u)) ≡ provided (one-known (byte t)) (some (byte t))
   unfolding type-meaning then provided byte-of code
   type-known int-type = rw (lt-ltb 0 (struct-code + length ds) (omega arith)) refl
   type-known nat-type = rw (lt-ltb 1 (struct-code + length ds) (omega arith)) refl
@@ -106,9 +107,6 @@ module _ (ds : List Struct) where
   pars-known l = each-known (pars-meaning ds) (λ u. map code u) sound row-bytes struct-known l
 
 -- Rows -----------------------------------------------------------------------------------------------
-
-unfoldable pub few-named : Struct → Bool
-few-named d = leb (length (pars-of d)) max-params && distinct (map par-id (pars-of d))
 
 -- the names of a row are those of its parameters, and behind it are the others
 both : {A : Type 0} {a b : A} {k l : List A} → a ≡ b → k ≡ l → a ∷ k ≡ b ∷ l

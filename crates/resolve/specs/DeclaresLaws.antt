@@ -131,7 +131,7 @@ module _ {B : Type 0} (f : List Role → List B) (quiet : (r : Role) (k : List R
   declared d s =
       defs-declared d (roles-sched s []) ∙ ap (λ l. row (structs-of d) ++ l) (sched-quiet f quiet s [] ∙ nothing) ∙ append-nil (row (structs-of d))
 
-map-pars : (B : Type 0) (h : Par → B) (d : Struct) (ds : List Struct) → map h (all-pars (d ∷ ds)) ≡ map h (pars-of d) ++ map h (all-pars ds)
+pub map-pars : (B : Type 0) (h : Par → B) (d : Struct) (ds : List Struct) → map h (all-pars (d ∷ ds)) ≡ map h (pars-of d) ++ map h (all-pars ds)
 unfolding all-pars
 map-pars B h d ds = go (pars-of d)
   where

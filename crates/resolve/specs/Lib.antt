@@ -10,6 +10,7 @@ pub mod DeclaresLaws
 pub mod RowLaws
 pub mod Checks
 pub mod CheckLaws
+pub mod WellDeclared
 pub mod FirstLaws
 pub mod Passing
 pub mod Numbers
@@ -23,3 +24,14 @@ pub mod Standing
 pub mod StandingLaws
 pub mod PlacesLaws
 pub mod DeclarationLaws
+pub mod OnceLaws
+pub mod WellDeclaredLaws
+pub mod Using
+pub mod SoughtLaws
+pub mod UsingLaws
+pub mod UsingNameLaws
+pub mod UsingTextLaws
+pub mod UsingAt
+pub mod UsingAtLaws
+pub mod Resolved
+pub mod ResolvedLaws

@@ -8,8 +8,8 @@ use mathlib.Core.Option.{Option, none, some}
 use lib.ListN.{length, getD, take, drop, drop-of-length-le}
 use lib.Dec.{eqb, ltb}
 use borrow.Author.Tests.{eq-eqb, ne-eqb, ltb-true, ltb-false}
-use Rattle.tokens.specs.Tokens.{name-byte, letter, digit, between}
-use Rattle.tokens.specs.Scanning.{span, same}
+use Rattle.tokens.specs.Tokens.{name-byte, letter, digit, between, same}
+use Rattle.tokens.specs.Scanning.{span}
 use Rattle.lexer.specs.RunLaws.{next-byte, inside}
 use Rattle.syntax.specs.Syntax.{Id}
 use Rattle.meaning.specs.Finding.{Place, find, one-later}
@@ -165,3 +165,8 @@ module _ {A : Type 0} (key : A → Id) (x : Id) where
       go false t none f rec = rw (sought, t) (ap suc (rec f))
       go false t (some q) f rec =
           absurd (let g : some (record { at = suc (q .at); element = q .element }) ≡ none = rw (t, find, f) at e in let z : _≡_ {A = ℕ} 0 1 = cc in omega arith)
+
+-- names by themselves
+pub same-names : (l : List Id) → map (λ z. z) l ≡ l
+same-names [] = refl
+same-names (x ∷ l) = ap (λ m. x ∷ m) (same-names l)

@@ -55,7 +55,7 @@ one-byte q b = go (eqb b q) refl (leb q b) refl
 
 -- Names ------------------------------------------------------------------------------------------
 
-naming-near : (m : Naming) → (38 < naming-code m) × (naming-code m < 51)
+pub naming-near : (m : Naming) → (38 < naming-code m) × (naming-code m < 51)
 unfolding naming-code
 naming-near new-struct = omega arith
 naming-near new-par = omega arith
@@ -119,7 +119,7 @@ rows-stand q n l (a-role {cs = cs} {rs = rs} r p st) = go (eqb (code r) struct-b
 
 -- Types ----------------------------------------------------------------------------------------------
 
-type-near : (t : TypeName) → type-number t < 4
+pub type-near : (t : TypeName) → type-number t < 4
 unfolding type-number
 type-near int-type = omega arith
 type-near nat-type = omega arith

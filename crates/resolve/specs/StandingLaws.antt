@@ -47,7 +47,7 @@ plain-spelt (name y) x e = absurd (false≢true e)
 plain-spelt (int p ds) x e = absurd (false≢true e)
 plain-spelt (nat ds) x e = absurd (false≢true e)
 
-both-parts : (s t : Bool) → (s && t) ≡ true → (s ≡ true) × (t ≡ true)
+pub both-parts : (s t : Bool) → (s && t) ≡ true → (s ≡ true) × (t ≡ true)
 both-parts true t e = (refl, e)
 both-parts false t e = absurd (false≢true e)
 

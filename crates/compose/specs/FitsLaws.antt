@@ -1,0 +1,205 @@
+-- What does not fit does not fit later: bytes only grow, and no count is mended. And what is kept alike is kept alike by what a role does.
+use Prim.Native.Nat.{ℕ, zero, suc, _≤_, _+_}
+use native.Mathlib.Omega.{arith}
+use native.Mathlib.Nat.{le-trans}
+use mathlib.Core.Path.{_≡_, refl, sym, ap, _∙_}
+use mathlib.Core.Bool.{Bool, true, false, _&&_, false≢true}
+use mathlib.Core.List.{List, [], _∷_}
+use lib.ListN.{length, getD}
+use lib.Dec.{eqb, leb, ltb}
+use borrow.Author.Tests.{eq-eqb, ne-eqb, leb-true, le-leb}
+use Rattle.types.specs.Limits.{max-statements, max-steps}
+use Rattle.program.specs.Encoding.{enc-word}
+use Rattle.tokens.specs.ByteLaws.{both-true}
+use Rattle.resolve.specs.Digits.{nat-at, int-at}
+use Rattle.compose.specs.Writing.{Writing, Writing.writing, wrote, numbered, lengthened, pathed, worded, more, opened, counted, poured, operated, behinds}
+use Rattle.compose.specs.Writing.{stackings, behind-marks, forms, stack-marks, formed, put, max-later}
+use Rattle.compose.specs.Fits.{word-value, value-at, fits, kept}
+
+unfoldable good : Writing → Bool
+good (writing s w n l f) = f
+
+unfoldable size : Writing → ℕ
+size (writing s w n l f) = length s
+
+-- of a writing and a later one
+record Grows (x y : Writing) : Type 0 where
+  mended : good y ≡ true → good x ≡ true
+  longer : size x ≤ size y
+
+grows-on : (x y z : Writing) → Grows x y → Grows y z → Grows x z
+grows-on x y z a b = record { mended = λ e. a .mended (b .mended e); longer = le-trans (a .longer) (b .longer) }
+
+no-mending : {f : Bool} → false ≡ true → f ≡ true
+no-mending e = absurd (false≢true e)
+
+-- What each part of a role does -----------------------------------------------------------------------
+
+abbrev Later : (Writing → Writing) → Type 0
+Later h = (x : Writing) → Grows x (h x)
+
+same-later : Later (λ x. x)
+unfolding good size
+same-later (writing s w n l f) = record { mended = λ e. e; longer = omega arith }
+
+wrote-later : (b : ℕ) → Later (wrote b)
+unfolding good size wrote
+wrote-later b (writing s w n l f) = record { mended = λ e. e; longer = omega arith }
+
+numbered-later : Later numbered
+unfolding good size numbered
+numbered-later (writing s w [] l f) = record { mended = no-mending; longer = omega arith }
+numbered-later (writing s w (b ∷ n) l f) = record { mended = λ e. e; longer = omega arith }
+
+lengthened-later : Later lengthened
+unfolding good size lengthened
+lengthened-later (writing s w n l f) = record { mended = λ e. e; longer = omega arith }
+
+pathed-later : Later pathed
+unfolding good size pathed
+pathed-later (writing s w n l f) = record { mended = λ e. both-true f (leb l max-later) e .0; longer = omega arith }
+
+worded-later : (v : ℕ) → Later (worded v)
+unfolding good size worded enc-word
+worded-later v (writing s w n l f) = record { mended = λ e. e; longer = omega arith }
+
+more-later : (limit : ℕ) → Later (more limit)
+unfolding good size more
+more-later limit (writing s [] n l f) = record { mended = no-mending; longer = omega arith }
+more-later limit (writing s (c ∷ w) n l f) = record { mended = λ e. both-true f (ltb c limit) e .0; longer = omega arith }
+
+opened-later : Later opened
+unfolding good size opened
+opened-later (writing s w n l f) = record { mended = λ e. e; longer = omega arith }
+
+counted-later : Later counted
+unfolding good size counted
+counted-later (writing s [] n l f) = record { mended = no-mending; longer = omega arith }
+counted-later (writing s (c ∷ w) n l f) = record { mended = λ e. e; longer = omega arith }
+
+poured-later : Later poured
+unfolding good size poured
+poured-later (writing s [] n l f) = record { mended = no-mending; longer = omega arith }
+poured-later (writing s (c ∷ w) n l f) = go (eqb c 0) refl
+  where
+    go : (t : Bool) → eqb c 0 ≡ t → Grows (writing s (c ∷ w) n l f) (poured (writing s (c ∷ w) n l f))
+    go true e = rw (poured, e) (record { mended = λ e. e; longer = omega arith })
+    go false e = rw (poured, e) (record { mended = λ e. e; longer = omega arith })
+
+operated-later : (o : ℕ) → Later (operated o)
+unfolding good size operated
+operated-later o (writing s [] n l f) = record { mended = no-mending; longer = omega arith }
+operated-later o (writing s (c ∷ w) n l f) = record { mended = λ e. e; longer = omega arith }
+
+formed-later : (b : ℕ) → Later (formed b)
+unfolding formed
+formed-later b x = go (eqb b 0) refl
+  where
+    go : (t : Bool) → eqb b 0 ≡ t → Grows x (formed b x)
+    go true e = rw (formed, e) (same-later x)
+    go false e = rw (formed, e) (wrote-later b x)
+
+then-later : (g h : Writing → Writing) → Later g → Later h → Later (λ x. h (g x))
+then-later g h p q x = grows-on x (g x) (h (g x)) (p x) (q (g x))
+
+-- One role ---------------------------------------------------------------------------------------------
+
+data AllLater : List (Writing → Writing) → Type 0 where
+  none-later : AllLater []
+  and-later : {h : Writing → Writing} {l : List (Writing → Writing)} → Later h → AllLater l → AllLater (h ∷ l)
+
+picked-later : (l : List (Writing → Writing)) → AllLater l → (i : ℕ) → Later (getD l i (λ x. x))
+picked-later [] none-later i = same-later
+picked-later (h ∷ l) (and-later p q) zero = p
+picked-later (h ∷ l) (and-later p q) (suc i) = picked-later l q i
+
+behinds-later : (v : ℕ) → AllLater (behinds v)
+unfolding behinds
+behinds-later v =
+    and-later same-later
+    (and-later numbered-later
+    (and-later (then-later numbered lengthened numbered-later lengthened-later)
+    (and-later (then-later numbered pathed numbered-later pathed-later)
+    (and-later (worded-later v) (and-later (wrote-later 1) (and-later (wrote-later 0) none-later))))))
+
+stackings-later : (o : ℕ) → AllLater (stackings o)
+unfolding stackings
+stackings-later o =
+    and-later same-later
+    (and-later (more-later max-statements)
+    (and-later (more-later max-steps)
+    (and-later opened-later
+    (and-later counted-later
+    (and-later poured-later
+    (and-later (then-later counted opened counted-later opened-later) (and-later (operated-later o) none-later)))))))
+
+put-later : (c v : ℕ) → Later (put c v)
+unfolding put
+put-later c v x =
+    let b : Writing → Writing = getD (behinds v) (getD behind-marks c 0) (λ w. w) in
+    let m : Writing → Writing = formed (getD forms c 0) in
+    then-later (λ y. m (b y)) (getD (stackings (c + 9)) (getD stack-marks c 0) (λ w. w))
+    (then-later b m (picked-later (behinds v) (behinds-later v) (getD behind-marks c 0)) (formed-later (getD forms c 0)))
+    (picked-later (stackings (c + 9)) (stackings-later (c + 9)) (getD stack-marks c 0)) x
+
+-- Two that are kept alike ------------------------------------------------------------------------------
+
+stays-bad : (h : Writing → Writing) → Later h → (x : Writing) → good x ≡ false → good (h x) ≡ false
+stays-bad h p x e = go (good (h x)) refl
+  where
+    go : (t : Bool) → good (h x) ≡ t → good (h x) ≡ false
+    go true f = absurd (false≢true (sym e ∙ p x .mended f))
+    go false f = f
+
+kept-bad : (x : Writing) → good x ≡ false → kept x ≡ writing [] [] [] 0 false
+unfolding good kept
+kept-bad (writing s w n l true) e = absurd (false≢true (sym e))
+kept-bad (writing s w n l false) e = refl
+
+alike-later : (h : Writing → Writing) → Later h → (x y : Writing) → kept x ≡ kept y → kept (h x) ≡ kept (h y)
+unfolding good kept
+alike-later h p (writing s w n l true) (writing s' w' n' l' true) k = ap (λ z. kept (h z)) k
+alike-later h p (writing s w n l true) (writing s' w' n' l' false) k = absurd (false≢true (cc k))
+alike-later h p (writing s w n l false) (writing s' w' n' l' true) k = absurd (false≢true (cc k))
+alike-later h p (writing s w n l false) (writing s' w' n' l' false) k =
+    kept-bad (h (writing s w n l false)) (stays-bad h p (writing s w n l false) refl)
+    ∙ sym (kept-bad (h (writing s' w' n' l' false)) (stays-bad h p (writing s' w' n' l' false) refl))
+
+pub formed-alike : (b : ℕ) (x y : Writing) → kept x ≡ kept y → kept (formed b x) ≡ kept (formed b y)
+formed-alike b x y k = alike-later (formed b) (formed-later b) x y k
+
+pub stacked-alike : (o m : ℕ) (x y : Writing) → kept x ≡ kept y → kept (getD (stackings o) m (λ w. w) x) ≡ kept (getD (stackings o) m (λ w. w) y)
+stacked-alike o m x y k = alike-later (getD (stackings o) m (λ w. w)) (picked-later (stackings o) (stackings-later o) m) x y k
+
+-- What does not fit -------------------------------------------------------------------------------------
+
+grown-unfit : (room : ℕ) (x y : Writing) → Grows x y → fits room x ≡ false → fits room y ≡ false
+unfolding fits good size
+grown-unfit room (writing s w n l f) (writing s' w' n' l' f') g e = go f' (leb (length s') room) refl refl
+  where
+    go : (t u : Bool) → f' ≡ t → leb (length s') room ≡ u → (f' && leb (length s') room) ≡ false
+    go false u p q = rw p refl
+    go true false p q = rw (p, q) refl
+    go true true p q =
+        let h : leb (length s) room ≡ true = le-leb (length s) room (le-trans (g .longer) (leb-true (length s') room q)) in
+        let b : f ≡ true = g .mended p in
+        absurd (false≢true (sym (rw (b, h) at e)))
+
+pub put-unfit : (room c v : ℕ) (x : Writing) → fits room x ≡ false → fits room (put c v x) ≡ false
+put-unfit room c v x e = grown-unfit room x (put c v x) (put-later c v x) e
+
+-- The number of a literal -------------------------------------------------------------------------------
+
+module _ (text : List ℕ) (i c : ℕ) where
+  pub value-int : c ≡ 37 → word-value (int-at text i) ≡ value-at text i c
+  unfolding value-at
+  value-int e = rw (value-at, eq-eqb c 37 e) refl
+
+  module _ (n : c ≡ 37 → ⊥) where
+    pub value-nat : c ≡ 38 → word-value (nat-at text i) ≡ value-at text i c
+    unfolding value-at
+    value-nat e = rw (value-at, ne-eqb c 37 n, eq-eqb c 38 e) refl
+
+    pub value-none : (c ≡ 38 → ⊥) → 0 ≡ value-at text i c
+    unfolding value-at
+    value-none m = rw (value-at, ne-eqb c 37 n, ne-eqb c 38 m) refl

@@ -1,0 +1,223 @@
+-- The loop over the places of a text from its end: memory stands as the fold over what stands there, as long as that fits.
+use Prim.Native.Nat.{ℕ, zero, suc, _+_, _-_, _<_, _≤_}
+use native.Mathlib.Omega.{arith}
+use native.Mathlib.Numerals.{sub-one}
+use mathlib.Core.Path.{_≡_, refl, sym, ap, _∙_}
+use mathlib.Core.Bool.{Bool, true, false, _&&_, false≢true}
+use mathlib.Core.List.{List, []}
+use lib.ListN.{length, getD, set, drop, length-drop, length-set}
+use lib.Seq.{drop-cons, drop-length, getD-set-same}
+use lib.Dec.{eqb, leb}
+use borrow.Author.Tests.{eqb-true, eqb-false, ne-eqb, leb-true, leb-false, le-leb, lt-leb}
+use Rattle.tokens.specs.ByteLaws.{both-true}
+use Rattle.derive.specs.Held.{held}
+use Rattle.compose.specs.Writing.{Writing, Writing.writing, put, start}
+use Rattle.composing.specs.Pens.{stands, Near}
+use Rattle.compose.specs.Fits.{kept}
+use Rattle.compose.specs.Fits.{value-at, writes-at, fits, within}
+use Rattle.compose.specs.FitsLaws.{put-unfit}
+use Rattle.composing.specs.declared.Pen.{Pen}
+
+-- Whether it fits ---------------------------------------------------------------------------------
+
+fits-kept : (room : ℕ) (x : Writing) → fits room (kept x) ≡ fits room x
+unfolding fits kept
+fits-kept room (writing s w n l true) = refl
+fits-kept room (writing s w n l false) = refl
+
+fits-alike : (room : ℕ) (x y : Writing) → kept x ≡ kept y → fits room x ≡ fits room y
+fits-alike room x y e = sym (fits-kept room x) ∙ ap (fits room) e ∙ fits-kept room y
+
+within-fits : (room : ℕ) (x : Writing) → fits room x ≡ true → within room x ≡ kept x
+unfolding fits within kept
+within-fits room (writing s w n l true) e = rw e refl
+within-fits room (writing s w n l false) e = refl
+
+within-unfit : (room : ℕ) (x : Writing) → fits room x ≡ false → within room x ≡ writing [] [] [] 0 false
+unfolding fits within kept
+within-unfit room (writing s w n l f) e = rw e refl
+
+kept-spoilt : (out stack numbers : List ℕ) (p : Pen) → p .fits ≡ false → kept (stands out stack numbers p) ≡ writing [] [] [] 0 false
+unfolding stands kept
+kept-spoilt out stack numbers p e = rw e refl
+
+-- two that are kept alike are one where the first fits
+kept-one : (room : ℕ) (x y : Writing) → fits room x ≡ true → kept x ≡ kept y → x ≡ y
+unfolding fits kept
+kept-one room (writing s w n l true) (writing s' w' n' l' true) e k = k
+kept-one room (writing s w n l true) (writing s' w' n' l' false) e k = absurd (false≢true (cc k))
+kept-one room (writing s w n l false) y e k = absurd (false≢true e)
+
+-- the room is six bytes less than there are, since a role writes so many at the most
+room-left : (out : List ℕ) (k : ℕ) → 6 ≤ length out → k ≤ length out → leb 6 k ≡ leb (length (drop k out)) (length out - 6)
+room-left out k a b = go (leb 6 k) refl
+  where
+    go : (t : Bool) → leb 6 k ≡ t → t ≡ leb (length (drop k out)) (length out - 6)
+    go true e = let h = leb-true 6 k e in sym (le-leb (length (drop k out)) (length out - 6) (rw (length-drop k out) (omega (arith, h))))
+    go false e = let h = leb-false 6 k e in sym (lt-leb (length (drop k out)) (length out - 6) (rw (length-drop k out) (omega (arith, h))))
+
+-- what is tested of a pen is whether what it stands for fits
+pub tested : (out stack numbers : List ℕ) (p : Pen) (x : Writing) → 6 ≤ length out → p .place ≤ length out → kept (stands out stack numbers p) ≡ kept x
+    → (p .fits && leb 6 (p .place)) ≡ fits (length out - 6) x
+unfolding stands fits
+tested out stack numbers p x a b e =
+    rw (room-left out (p .place) a b) (fits-alike (length out - 6) (stands out stack numbers p) x e)
+
+-- One place -----------------------------------------------------------------------------------------
+
+module _ (text roles : List ℕ) (z : Writing) where
+  abbrev from : ℕ → Writing
+  from i = writes-at text i (drop i roles) z
+
+  module _ (i : ℕ) (l : i < length roles) where
+    pub from-past : getD roles i 0 ≡ 0 → from i ≡ from (suc i)
+    unfolding writes-at
+    from-past e = rw (drop-cons roles i 0 l, e) refl
+
+    pub from-next : (getD roles i 0 ≡ 0 → ⊥) → from i ≡ put (getD roles i 0) (value-at text i (getD roles i 0)) (from (suc i))
+    unfolding writes-at
+    from-next n = rw (drop-cons roles i 0 l, writes-at, ne-eqb (getD roles i 0) 0 n) refl
+
+    unfit-next : (room : ℕ) → fits room (from (suc i)) ≡ false → fits room (from i) ≡ false
+    unfit-next room e = go (eqb (getD roles i 0) 0) refl
+      where
+        go : (t : Bool) → eqb (getD roles i 0) 0 ≡ t → fits room (from i) ≡ false
+        go true f = ap (fits room) (from-past (eqb-true (getD roles i 0) 0 f)) ∙ e
+        go false f =
+            ap (fits room) (from-next (eqb-false (getD roles i 0) 0 f))
+            ∙ put-unfit room (getD roles i 0) (value-at text i (getD roles i 0)) (from (suc i)) e
+
+  pub unfit-all : (room i : ℕ) → i ≤ length roles → fits room (from i) ≡ false → fits room (from 0) ≡ false
+  unfit-all room zero l e = e
+  unfit-all room (suc i) l e = unfit-all room i (omega arith) (unfit-next i (omega arith) room e)
+
+-- The loop ------------------------------------------------------------------------------------------
+
+-- of the roles, from place i on, with the numbers, and the memory before the loop and now
+pub record Reached (text roles numbers out₀ stack₀ out stack : List ℕ) (p : Pen) (i : ℕ) : Type 0 where
+  pub inner : i ≤ length roles
+  pub state : stands out stack numbers p ≡ writes-at text i (drop i roles) (start (held numbers (length numbers)))
+  pub good : p .fits ≡ true
+  pub front : 6 ≤ p .place
+  pub behind : p .place ≤ length out
+  pub low : p .height + i ≤ length roles + 1
+  pub high : length roles < length stack
+  pub rest : p .left ≤ length numbers
+  pub short : p .later + i ≤ length roles
+  pub room : length out ≡ length out₀
+  pub tall : length stack ≡ length stack₀
+
+-- before the first place: nothing is written, the schedule's count waits
+abbrev pub first-pen : List ℕ → List ℕ → Pen
+first-pen out numbers = record { place = length out; height = 1; left = length numbers; later = 0; fits = true }
+
+pub reached-start : (text roles numbers out stack : List ℕ) → length roles < length stack → 6 ≤ length out
+    → Reached text roles numbers out (set stack 0 0) out (set stack 0 0) (first-pen out numbers) (length roles)
+unfolding stands writes-at held
+reached-start text roles numbers out stack l m =
+    let e : stands out (set stack 0 0) numbers (first-pen out numbers)
+    ≡ writing (drop (length out) out) (held (set stack 0 0) 1) (held numbers (length numbers)) 0 true = refl in
+    record {
+      inner = omega arith;
+      state = e ∙ rw (drop-length out, drop-length roles, getD-set-same stack 0 0 0 (omega arith)) refl;
+      good = refl;
+      front = m;
+      behind = omega arith;
+      low = omega arith;
+      high = rw (length-set stack 0 0) l;
+      rest = omega arith;
+      short = omega arith;
+      room = refl;
+      tall = refl;
+    }
+
+abbrev pub at-end : List ℕ → Writing
+at-end numbers = start (held numbers (length numbers))
+
+module _ (text roles numbers out₀ stack₀ out stack : List ℕ) (p : Pen) where
+  past : (j : ℕ) → Reached text roles numbers out₀ stack₀ out stack p (suc j) → getD roles j 0 ≡ 0 → Reached text roles numbers out₀ stack₀ out stack p j
+  past j r e =
+      record {
+        inner = omega (arith, r .inner);
+        state = r .state ∙ sym (from-past text roles (at-end numbers) j (omega (arith, r .inner)) e);
+        good = r .good;
+        front = r .front;
+        behind = r .behind;
+        low = omega (arith, r .low);
+        high = r .high;
+        rest = r .rest;
+        short = omega (arith, r .short);
+        room = r .room;
+        tall = r .tall;
+      }
+
+  pub reached-past : (i : ℕ) → Reached text roles numbers out₀ stack₀ out stack p i → 0 < i → getD roles (i - 1) 0 ≡ 0
+      → Reached text roles numbers out₀ stack₀ out stack p (i - 1)
+  reached-past zero r l e = absurd (omega arith)
+  reached-past (suc j) r l e = rw sub-one (past j r (rw sub-one at e))
+
+  -- a role and what it leaves
+  module _ (out₁ stack₁ : List ℕ) (q : Pen) (near : Near 6 1 1 p q) (a : length out₁ ≡ length out) (b : length stack₁ ≡ length stack) where
+    module _ (j : ℕ) (r : Reached text roles numbers out₀ stack₀ out stack p (suc j)) (n : getD roles j 0 ≡ 0 → ⊥)
+        (k : kept (stands out₁ stack₁ numbers q) ≡ kept (put (getD roles j 0) (value-at text j (getD roles j 0)) (stands out stack numbers p))) where
+      is-left : put (getD roles j 0) (value-at text j (getD roles j 0)) (stands out stack numbers p) ≡ writes-at text j (drop j roles) (at-end numbers)
+      is-left =
+          ap (put (getD roles j 0) (value-at text j (getD roles j 0))) (r .state) ∙ sym (from-next text roles (at-end numbers) j (omega (arith, r .inner)) n)
+
+      fits-left : (q .fits && leb 6 (q .place)) ≡ fits (length out₁ - 6) (put (getD roles j 0) (value-at text j (getD roles j 0)) (stands out stack numbers p))
+      fits-left =
+          tested out₁ stack₁ numbers q (put (getD roles j 0) (value-at text j (getD roles j 0)) (stands out stack numbers p))
+          (omega (arith, r .front, r .behind, a)) (omega (arith, near .behind, r .behind, a)) k
+
+      token : (q .fits && leb 6 (q .place)) ≡ true → Reached text roles numbers out₀ stack₀ out₁ stack₁ q j
+      token t =
+          let two = both-true (q .fits) (leb 6 (q .place)) t in
+          let f : fits (length out₁ - 6) (stands out₁ stack₁ numbers q) ≡ true =
+          fits-alike (length out₁ - 6) (stands out₁ stack₁ numbers q)
+          (put (getD roles j 0) (value-at text j (getD roles j 0)) (stands out stack numbers p)) k ∙ sym fits-left ∙ t in
+          record {
+            inner = omega (arith, r .inner);
+            state = kept-one (length out₁ - 6) (stands out₁ stack₁ numbers q)
+                (put (getD roles j 0) (value-at text j (getD roles j 0)) (stands out stack numbers p)) f k ∙ is-left;
+            good = two .0;
+            front = leb-true 6 (q .place) (two .1);
+            behind = omega (arith, near .behind, r .behind, a);
+            low = omega (arith, near .height, r .low);
+            high = omega (arith, r .high, b);
+            rest = omega (arith, near .left, r .rest);
+            short = omega (arith, near .later, r .short);
+            room = a ∙ r .room;
+            tall = b ∙ r .tall;
+          }
+
+      refused : (q .fits && leb 6 (q .place)) ≡ false → within (length out₀ - 6) (writes-at text 0 roles (at-end numbers)) ≡ writing [] [] [] 0 false
+      refused t =
+          let f : fits (length out₁ - 6) (writes-at text j (drop j roles) (at-end numbers)) ≡ false =
+          ap (fits (length out₁ - 6)) (sym is-left) ∙ sym fits-left ∙ t in
+          within-unfit (length out₀ - 6) (writes-at text 0 roles (at-end numbers))
+          (rw (a ∙ r .room) at (unfit-all text roles (at-end numbers) (length out₁ - 6) j (omega (arith, r .inner)) f))
+
+    pub reached-token : (i : ℕ) → Reached text roles numbers out₀ stack₀ out stack p i → 0 < i → (getD roles (i - 1) 0 ≡ 0 → ⊥)
+        → (v : ℕ) → v ≡ value-at text (i - 1) (getD roles (i - 1) 0)
+        → kept (stands out₁ stack₁ numbers q) ≡ kept (put (getD roles (i - 1) 0) v (stands out stack numbers p))
+        → (q .fits && leb 6 (q .place)) ≡ true → Reached text roles numbers out₀ stack₀ out₁ stack₁ q (i - 1)
+    reached-token zero r l n v e k t = absurd (omega arith)
+    reached-token (suc j) r l n v e k t = rw sub-one (token j r (rw sub-one at n) (rw sub-one at (rw e at k)) t)
+
+    pub reached-refused : (i : ℕ) → Reached text roles numbers out₀ stack₀ out stack p i → 0 < i → (getD roles (i - 1) 0 ≡ 0 → ⊥)
+        → (v : ℕ) → v ≡ value-at text (i - 1) (getD roles (i - 1) 0)
+        → kept (stands out₁ stack₁ numbers q) ≡ kept (put (getD roles (i - 1) 0) v (stands out stack numbers p))
+        → (q .fits && leb 6 (q .place)) ≡ false → (s : Pen) → s .fits ≡ false
+        → kept (stands out₁ stack₁ numbers s) ≡ within (length out₀ - 6) (writes-at text 0 roles (at-end numbers))
+    reached-refused zero r l n v e k t s f = absurd (omega arith)
+    reached-refused (suc j) r l n v e k t s f = kept-spoilt out₁ stack₁ numbers s f ∙ sym (refused j r (rw sub-one at n) (rw sub-one at (rw e at k)) t)
+
+  pub reached-end : (i : ℕ) → Reached text roles numbers out₀ stack₀ out stack p i → i ≡ 0
+      → kept (stands out stack numbers p) ≡ within (length out₀ - 6) (writes-at text 0 roles (at-end numbers))
+  reached-end i r e =
+      let s : stands out stack numbers p ≡ writes-at text 0 roles (at-end numbers) = rw e at (r .state) in
+      let f : (p .fits && leb 6 (p .place)) ≡ fits (length out - 6) (stands out stack numbers p) =
+      tested out stack numbers p (stands out stack numbers p) (omega (arith, r .front, r .behind)) (r .behind) refl in
+      let t : (p .fits && leb 6 (p .place)) ≡ true = rw (r .good, le-leb 6 (p .place) (r .front)) refl in
+      let g : fits (length out₀ - 6) (writes-at text 0 roles (at-end numbers)) ≡ true = rw (← r .room, ← s) (sym f ∙ t) in
+      ap kept s ∙ sym (within-fits (length out₀ - 6) (writes-at text 0 roles (at-end numbers)) g)

@@ -1,0 +1,118 @@
+// The pass over uses, place by place (02 §1; `resolve/specs/UsingAt.antt`).
+use crate::Numbered;
+use crate::Passed;
+use crate::Scope;
+use crate::parts;
+use crate::passing;
+ghost use mathlib.Core.Path.{_≡_};
+ghost use Prim.Native.Nat.{ℕ, _+_, _≤_, _<_};
+ghost use mathlib.Core.List.{List};
+ghost use mathlib.Core.Option.{some};
+ghost use lib.ListN.{length, drop};
+ghost use lib.Dec.{eqb};
+ghost use Rattle.resolve.specs.Using.{chosen, use-start};
+ghost use Rattle.resolve.specs.UsingAt.{use-at, uses-at};
+ghost use Rattle.uses.specs.Lent.{book-in, Booked, use-in, Roomy, passed-in, Next, numbered-in, used-out, Counted};
+ghost use Rattle.uses.specs.Stopping.{stops-at, stop-in};
+
+// One place where a token begins.
+fn use_at(
+    text: &[u8],
+    tables: &[usize],
+    locals: &mut [usize],
+    stack: &mut [u8],
+    at: usize,
+    role: u8,
+    c: Scope,
+) -> Passed
+    requires { ⌜ Booked (now tables) × Roomy (now tables) (now locals) c × (c .dues + c .bodies < length (now stack)) × (at < length (now text)) ⌝ }
+    ensures { λ r. ⌜ ((o : List ℕ) → passed-in (now (text .entry)) (now (locals .exit)) (now (stack .exit)) r o
+        ≡ use-at (book-in (now (text .entry)) (now (tables .entry))) role (drop at (now (text .entry)))
+        (use-in (now (text .entry)) (now (locals .entry)) (now (stack .entry)) c o)) ⌝ }
+    ensures { λ r. ⌜ Next (now (tables .entry)) (now (locals .exit)) c r ⌝ }
+    ensures { λ _. ⌜ (length (now (stack .exit)) ≡ length (now (stack .entry))) × (length (now (locals .exit)) ≡ length (now (locals .entry))) ⌝ }
+{
+    if role < 39 {
+        return parts::kind_role(text, at, role, c);
+    }
+    if role < 51 {
+        return passing::name_role(text, tables, locals, stack, at, role, c);
+    }
+    if role < 63 {
+        return passing::type_role(text, tables, at, role, c);
+    }
+    parts::part_role(stack, role, c)
+}
+
+// One place: 0 stands where no token begins.
+fn turn(
+    text: &[u8],
+    tables: &[usize],
+    locals: &mut [usize],
+    stack: &mut [u8],
+    at: usize,
+    role: u8,
+    c: Scope,
+) -> Passed
+    requires { ⌜ Booked (now tables) × Roomy (now tables) (now locals) c × (c .dues + c .bodies < length (now stack)) × (at < length (now text)) ⌝ }
+    ensures { λ r. ⌜ ((o : List ℕ) → passed-in (now (text .entry)) (now (locals .exit)) (now (stack .exit)) r o
+        ≡ chosen (eqb role 0) (some (use-in (now (text .entry)) (now (locals .entry)) (now (stack .entry)) c o))
+        (use-at (book-in (now (text .entry)) (now (tables .entry))) role (drop at (now (text .entry)))
+        (use-in (now (text .entry)) (now (locals .entry)) (now (stack .entry)) c o))) ⌝ }
+    ensures { λ r. ⌜ Next (now (tables .entry)) (now (locals .exit)) c r ⌝ }
+    ensures { λ _. ⌜ (length (now (stack .exit)) ≡ length (now (stack .entry))) × (length (now (locals .exit)) ≡ length (now (locals .entry))) ⌝ }
+{
+    if role == 0 {
+        return Passed::On(c);
+    }
+    use_at(text, tables, locals, stack, at, role, c)
+}
+
+// The numbers of a text's uses, in order; or that there are none (17), and the place of the token at which that is told.
+pub(crate) fn uses(
+    text: &[u8],
+    roles: &[u8],
+    tables: &[usize],
+    locals: &mut [usize],
+    stack: &mut [u8],
+    numbers: &mut [u8],
+) -> Numbered
+    requires { ⌜ Booked (now tables) × (length (now locals) ≡ 32) ⌝ }
+    requires { ⌜ (length (now roles) ≡ length (now text)) × (length (now roles) < length (now stack)) × (length (now roles) ≤ length (now numbers)) ⌝ }
+    ensures { λ r. ⌜ numbered-in (now (numbers .exit)) r
+        ≡ used-out (uses-at (book-in (now (text .entry)) (now (tables .entry))) (now (text .entry)) (now (roles .entry)) use-start) ⌝ }
+    ensures { λ r. ⌜ Counted (now (numbers .exit)) r (Unit {0}) ⌝ }
+    ensures { λ r. ⌜ (stop-in r (length (now (roles .entry)))
+        ≡ stops-at (book-in (now (text .entry)) (now (tables .entry))) (now (text .entry)) (now (roles .entry)) use-start)
+        × (stop-in r (length (now (roles .entry))) ≤ length (now (roles .entry))) ⌝ }
+    ensures { λ _. ⌜ (length (now (stack .exit)) ≡ length (now (stack .entry))) × (length (now (locals .exit)) ≡ length (now (locals .entry)))
+        × (length (now (numbers .exit)) ≡ length (now (numbers .entry))) ⌝ }
+{
+    let mut c = Scope {
+        begun: 0,
+        met: 0,
+        living: 0,
+        fresh: 0,
+        typ: 0,
+        dues: 0,
+        bodies: 0,
+    };
+    let mut n = 0;
+    let mut i = 0;
+    while i < roles.len() {
+        let at = i;
+        i += 1;
+        match turn(text, tables, locals, stack, at, roles[at], c) {
+            Passed::Stop => return Numbered::Nothing(at),
+            Passed::On(d) => {
+                c = d;
+            }
+            Passed::Left(d, m) => {
+                numbers[n] = m;
+                n += 1;
+                c = d;
+            }
+        }
+    }
+    Numbered::Count(n)
+}
