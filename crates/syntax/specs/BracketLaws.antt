@@ -1,9 +1,8 @@
 -- What 02 §2 leaves of 02 §1: fully bracketed text keeps its derivation. And no two comparisons stand in a row without brackets.
-use Prim.Native.Nat.{ℕ, zero, suc, _≤_}
+use Prim.Native.Nat.{ℕ, suc, _≤_}
 use native.Mathlib.Omega.{arith}
-use mathlib.Core.Path.{_≡_, refl}
+use mathlib.Core.Path.{_≡_}
 use mathlib.Core.List.{List, [], _∷_}
-use lib.Dec.{eqb}
 use borrow.Author.Tests.{eq-eqb}
 use Rattle.program.specs.Tree.{Op}
 use Rattle.tokens.specs.Tokens.{Token}

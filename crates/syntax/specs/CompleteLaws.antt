@@ -1,5 +1,4 @@
 -- Reading is complete: what a derivation yields is read as it. With it, tokens have one derivation at most.
-use Prim.Native.Nat.{ℕ, suc, _≤_}
 use native.Mathlib.Omega.{arith}
 use mathlib.Core.Path.{_≡_, refl, ap, _∙_}
 use mathlib.Core.List.{List, [], _∷_, reverseAux}

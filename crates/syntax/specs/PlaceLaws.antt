@@ -28,7 +28,7 @@ use Rattle.syntax.specs.Reading.{closed, least, extended, tighter, behin
 use Rattle.syntax.specs.Expecting.{on-op}
 use Rattle.syntax.specs.ExpectingLaws.{on-word-law, on-sign-law, on-name-law, on-op-law, on-less-law, on-literal-law}
 use Rattle.syntax.specs.RowLaws.{exps-yield, defs-yield, sched-yield, exps-fit, defs-fit}
-use Rattle.syntax.specs.LevelLaws.{level-most, left-from, least-most, room-most, fits-down}
+use Rattle.syntax.specs.LevelLaws.{left-from, least-most, room-most, fits-down}
 use Rattle.syntax.specs.Unfold.{sitting}
 
 -- a state that keeps to the brackets and whose tokens are given; nothing is said of a dead one
