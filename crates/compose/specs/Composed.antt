@@ -12,7 +12,7 @@ use Rattle.resolve.specs.Named.{names-at}
 use Rattle.resolve.specs.Tables.{struct-byte, places, offsets}
 use Rattle.resolve.specs.Checks.{types-at}
 use Rattle.resolve.specs.WellDeclared.{par-byte}
-use Rattle.compose.specs.Writing.{Writing, Writing.writing, start}
+use Rattle.compose.specs.Writing.{Writing, Writing.writing, counted, start}
 use Rattle.compose.specs.Fits.{writes-at}
 use Rattle.compose.specs.Header.{header}
 
@@ -20,10 +20,11 @@ unfoldable pub of-writing : List ℕ → Writing → Option (List ℕ)
 unfolding provided
 of-writing head (writing s w n l f) = provided (f && leb (length (head ++ s)) max-stream) (some (head ++ s))
 
--- by the offsets of structs' parameters, the bytes of their types and the numbers of names, the last one first
+-- by the offsets of structs' parameters, the bytes of their types and the numbers of names, the last one first; the count of the first struct's steps still
+-- waits where its steps are written
 unfoldable pub composed-by : List ℕ → List ℕ → List ℕ → List ℕ → List ℕ → Option (List ℕ)
-unfolding of-writing writes-at
-composed-by offsets types text roles numbers = of-writing (header offsets types) (writes-at text 0 roles (start numbers))
+unfolding of-writing counted writes-at
+composed-by offsets types text roles numbers = of-writing (header offsets types) (counted (writes-at text 0 roles (start numbers)))
 
 -- the bytes of the types of a text's parameters
 abbrev pub type-bytes : List ℕ → List ℕ → List ℕ

@@ -7,13 +7,14 @@ use mathlib.Core.Bool.{Bool, true, false, _&&_, false≢true}
 use mathlib.Core.List.{List, [], _∷_}
 use lib.ListN.{length, getD}
 use lib.Dec.{eqb, leb, ltb}
-use borrow.Author.Tests.{leb-true, le-leb}
+use borrow.Author.Tests.{eq-eqb, ne-eqb, leb-true, le-leb}
 use Rattle.types.specs.Limits.{max-statements, max-steps}
 use Rattle.program.specs.Encoding.{enc-word}
 use Rattle.tokens.specs.ByteLaws.{both-true}
+use Rattle.resolve.specs.Digits.{nat-at, int-at}
 use Rattle.compose.specs.Writing.{Writing, Writing.writing, wrote, numbered, lengthened, pathed, worded, more, opened, counted, poured, operated, behinds}
 use Rattle.compose.specs.Writing.{stackings, behind-marks, forms, stack-marks, formed, put, max-later}
-use Rattle.compose.specs.Fits.{fits, kept}
+use Rattle.compose.specs.Fits.{word-value, value-at, fits, kept}
 
 unfoldable good : Writing → Bool
 good (writing s w n l f) = f
@@ -186,3 +187,19 @@ grown-unfit room (writing s w n l f) (writing s' w' n' l' f') g e = go f' (leb (
 
 pub put-unfit : (room c v : ℕ) (x : Writing) → fits room x ≡ false → fits room (put c v x) ≡ false
 put-unfit room c v x e = grown-unfit room x (put c v x) (put-later c v x) e
+
+-- The number of a literal -------------------------------------------------------------------------------
+
+module _ (text : List ℕ) (i c : ℕ) where
+  pub value-int : c ≡ 37 → word-value (int-at text i) ≡ value-at text i c
+  unfolding value-at
+  value-int e = rw (value-at, eq-eqb c 37 e) refl
+
+  module _ (n : c ≡ 37 → ⊥) where
+    pub value-nat : c ≡ 38 → word-value (nat-at text i) ≡ value-at text i c
+    unfolding value-at
+    value-nat e = rw (value-at, ne-eqb c 37 n, eq-eqb c 38 e) refl
+
+    pub value-none : (c ≡ 38 → ⊥) → 0 ≡ value-at text i c
+    unfolding value-at
+    value-none m = rw (value-at, ne-eqb c 37 n, ne-eqb c 38 m) refl

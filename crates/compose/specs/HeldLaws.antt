@@ -1,10 +1,10 @@
--- Whatever a stream holds is written: no count is over, and its bytes fit. So what does not fit is no program's stream (17).
-use Prim.Native.Nat.{ℕ, suc, _+_, _≤_, _<_}
+-- Of whatever a stream holds no count is over where it is written (02 §1, 17); and a stream is the parameters' types in front of the rest.
+use Prim.Native.Nat.{ℕ, _≤_}
 use native.Mathlib.Omega.{arith}
-use mathlib.Core.Path.{_≡_, refl, sym, ap, _∙_}
-use mathlib.Core.Bool.{Bool, true, false, _&&_, false≢true}
+use mathlib.Core.Path.{_≡_, refl, _∙_}
+use mathlib.Core.Bool.{Bool, true, false, _&&_}
 use mathlib.Core.List.{List, [], _∷_, _++_, map, append-assoc}
-use lib.ListN.{length, length-append}
+use lib.ListN.{length}
 use lib.Dec.{leb, ltb}
 use borrow.Author.Tests.{lt-ltb, le-leb}
 use Rattle.types.specs.Limits.{max-statements, max-steps, max-items, max-path}
@@ -15,13 +15,10 @@ use Rattle.program.specs.Tree.{Stmt, Stmt.when, Stmt.declare, Stmt.update, Stmt
 use Rattle.program.specs.Tree.{Items, Items.stop, Items.item, Step, Program, size, items}
 use Rattle.program.specs.Encoding.{flat, enc-list, enc-step, enc-items, enc-program}
 use Rattle.program.specs.Counts.{All, Few, IsPath, CountsExpr, CountsExprs, CountsItem, CountsItems}
-use Rattle.meaning.specs.Holds.{max-stream, HoldsStmt, HoldsStmts, HoldsStep, HoldsSchedule, Counted, Holds}
-use Rattle.derive.specs.Held.{held}
-use Rattle.compose.specs.Writing.{max-later, start}
+use Rattle.meaning.specs.Holds.{HoldsStmt, HoldsStmts, HoldsStep, HoldsSchedule, Counted, Holds}
+use Rattle.compose.specs.Writing.{max-later}
 use Rattle.compose.specs.Checks.{checks-expr, checks-exprs, checks-stmt, checks-stmts, checks-steps, checks-item, checks-items, checks-structs, checks}
 use Rattle.compose.specs.Checks.{stream-behind}
-use Rattle.compose.specs.Fits.{fits, writes-at}
-use Rattle.compose.specs.StandingLaws.{WritesText}
 
 and-kept : (f t : Bool) → t ≡ true → (f && t) ≡ f
 and-kept true t e = e
@@ -107,18 +104,3 @@ pub stream-split : (p : Program) → enc-program p ≡ enc-list (enc-list (λ t.
 unfolding enc-program stream-behind
 stream-split p =
     append-assoc (enc-list (enc-list (λ t. code t ∷ [])) (p .params)) (flat (enc-list enc-step) (p .steps)) (items (p .schedule) ∷ enc-items (p .schedule))
-
-behind-shorter : (p : Program) → length (stream-behind p) ≤ length (enc-program p)
-behind-shorter p =
-    let n : length (enc-program p) ≡ length (enc-list (enc-list (λ t. code t ∷ [])) (p .params)) + length (stream-behind p) =
-    ap length (stream-split p) ∙ length-append (enc-list (enc-list (λ t. code t ∷ [])) (p .params)) (stream-behind p) in
-    omega (arith, n)
-
--- what a stream holds fits
-pub held-fits : (text cs numbers : List ℕ) (p : Program) (room : ℕ) → WritesText text cs numbers p → max-stream ≤ room → Holds p
-    → fits room (writes-at text 0 cs (start (held numbers (length numbers)))) ≡ true
-unfolding fits
-held-fits text cs numbers p room w l h =
-    let n : suc (length (w .bytes)) ≡ length (stream-behind p) = ap length (w .are) in
-    let short : leb (length (w .bytes)) room ≡ true = le-leb (length (w .bytes)) room (omega (arith, n, behind-shorter p, h .fits)) in
-    ap (fits room) (w .all) ∙ rw (held-checks p h, short) refl

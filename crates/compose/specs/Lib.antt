@@ -1,5 +1,7 @@
 pub mod Writing
 pub mod Checks
+pub mod WritingExpLaws
+pub mod WritingLaws
 pub mod Fits
 pub mod FitsLaws
 pub mod Standing
@@ -11,5 +13,5 @@ pub mod MeantRangedLaws
 pub mod Header
 pub mod HeaderLaws
 pub mod Composed
-pub mod WritingExpLaws
-pub mod WritingLaws
+pub mod RowsLaws
+pub mod StreamLaws

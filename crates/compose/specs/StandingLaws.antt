@@ -1,6 +1,6 @@
 -- What stands in the places of a text is written as its roles are, where every literal is of its type, which the pass over uses has seen; so that the stream of
 -- what the text means is left, its first byte still waiting.
-use Prim.Native.Nat.{ℕ, zero, suc, _+_, _<_, _≤_}
+use Prim.Native.Nat.{ℕ, suc, _+_, _<_}
 use native.Mathlib.Omega.{arith}
 use native.Mathlib.Nat.{add-zero}
 use native.Mathlib.Numerals.{add-one}
@@ -9,8 +9,8 @@ use mathlib.Core.Bool.{Bool, true, false}
 use mathlib.Core.Logic.{_⊎_, inl, inr}
 use mathlib.Core.List.{List, [], _∷_}
 use mathlib.Core.Option.{Option, none, some}
-use lib.ListN.{length, getD, take, drop}
-use lib.Seq.{getD-drop, drop-drop, take-suc, take-length}
+use lib.ListN.{getD, drop}
+use lib.Seq.{getD-drop, drop-drop}
 use lib.Dec.{eqb, ltb}
 use borrow.Author.Tests.{ne-eqb}
 use Rattle.types.specs.Limits.{nat-end}
@@ -29,9 +29,8 @@ use Rattle.meaning.specs.Means.{Means}
 use Rattle.derive.specs.Roles.{Naming, Naming.new-struct, Naming.new-par, Naming.new-step, Naming.new-local, Naming.first-read, Naming.first-written}
 use Rattle.derive.specs.Roles.{Naming.later-variable, Naming.made, Naming.made-statement, Naming.called, Naming.called-struct, Naming.called-step}
 use Rattle.derive.specs.Roles.{Role, Role.plain, Role.naming, Role.typed, Role.part, naming-code, typed-code, type-number, part-code, code, token-of, roles}
-use Rattle.derive.specs.Held.{held}
 use Rattle.resolve.specs.Digits.{digits-of, word-of, nat-at, int-at}
-use Rattle.resolve.specs.Outcomes.{onto, onto-both}
+use Rattle.resolve.specs.Outcomes.{onto}
 use Rattle.resolve.specs.Passing.{Pass, pass, pass-token, passes}
 use Rattle.resolve.specs.RowLaws.{typed-far, part-far}
 use Rattle.resolve.specs.Standing.{Spelt, Stood, Stood.at-end, Stood.no-token, Stood.a-role}
@@ -40,7 +39,6 @@ use Rattle.compose.specs.Checks.{checks, stream-behind, numbers-of}
 use Rattle.compose.specs.WritingExpLaws.{written, left}
 use Rattle.compose.specs.WritingLaws.{program-left}
 use Rattle.compose.specs.Fits.{word-value, value-at, writes-at}
-use Rattle.compose.specs.PutLaws.{value-int, value-nat, value-none}
 use Rattle.compose.specs.Standing.{InsideToken, Inside}
 
 -- Every literal that is passed is of its type ---------------------------------------------------------
@@ -73,11 +71,12 @@ module _ (ds : List Struct) (names : List Id) where
   pub passed-inside : (k : List Role) (p q : Pass) → passes ds names k p ≡ some q → All Inside k
   unfolding passes then
   passed-inside [] p q e = tt
-  passed-inside (r ∷ k) p q e = go (pass ds names r p) refl e
+  passed-inside (r ∷ k) p q e = go (pass ds names r p) refl e (λ s g. passed-inside k s q g)
     where
-      go : (o : Option Pass) → pass ds names r p ≡ o → then o (passes ds names k) ≡ some q → All Inside (r ∷ k)
-      go none f g = absurd (never g)
-      go (some s) f g = (role-inside r p s f, passed-inside k s q g)
+      go : (o : Option Pass) → pass ds names r p ≡ o → then o (passes ds names k) ≡ some q
+          → ((s : Pass) → passes ds names k s ≡ some q → All Inside k) → All Inside (r ∷ k)
+      go none f g rec = absurd (never g)
+      go (some s) f g rec = (role-inside r p s f, rec s g)
 
 -- the bytes of names stand behind those of literals
 naming-far : (n : Naming) → 38 < naming-code n
@@ -113,17 +112,18 @@ module _ (text : List ℕ) (i : ℕ) where
 
   -- any other role has none
   no-value : (c : ℕ) → (c < 37) ⊎ (38 < c) → value-at text i c ≡ 0
-  no-value c (inl l) = sym (value-none text i c (λ e. omega arith) (λ e. omega arith))
-  no-value c (inr l) = sym (value-none text i c (λ e. omega arith) (λ e. omega arith))
+  unfolding value-at
+  no-value c (inl l) = rw (value-at, ne-eqb c 37 (λ e. omega arith), ne-eqb c 38 (λ e. omega arith)) refl
+  no-value c (inr l) = rw (value-at, ne-eqb c 37 (λ e. omega arith), ne-eqb c 38 (λ e. omega arith)) refl
 
   token-here : (t : Token) → Spelt t (drop i text) → InsideToken t → value-at text i (kind t) ≡ token-value t
-  unfolding kind token-value InsideToken
+  unfolding kind token-value InsideToken value-at
   token-here (word w) p h = let b = word-within w in no-value (kind (word w)) (inl (omega (arith, b)))
   token-here (sign g) p h = let b = sign-within g in no-value (kind (sign g)) (inl (omega (arith, b)))
   token-here (op o) p h = let b = op-within o in no-value (kind (op o)) (inl (omega (arith, b)))
   token-here (name x) p h = no-value 36 (inl (omega arith))
-  token-here (int g l) p h = sym (value-int text i 37 refl) ∙ signed-here g l p h
-  token-here (nat l) p h = sym (value-nat text i 38 (λ e. omega arith) refl) ∙ digits-here l p h
+  token-here (int g l) p h = signed-here g l p h
+  token-here (nat l) p h = digits-here l p h
 
   value-here : (r : Role) → Spelt (token-of r) (drop i text) → Inside r → value-at text i (code r) ≡ value r
   unfolding code token-of value Inside
@@ -157,36 +157,18 @@ stood-writes text z i e (a-role {b = b} {s = s} {cs = cs} {rs = rs} r p st) h =
 
 -- The stream ----------------------------------------------------------------------------------------------
 
--- numbers in the order of the text, the last one first
-held-onto : (l : List ℕ) (h : ℕ) → h ≤ length l → held l h ≡ onto (take h l) []
-unfolding held onto
-held-onto l zero b = refl
-held-onto l (suc h) b =
-    ap (λ k. getD l h 0 ∷ k) (held-onto l h (omega arith))
-    ∙ onto-both (take h l) (getD l h 0 ∷ []) []
-    ∙ ap (λ k. onto k []) (sym (take-suc l h 0 (omega arith)))
-
-pub held-all : (l : List ℕ) → held l (length l) ≡ onto l []
-held-all l = held-onto l (length l) (omega arith) ∙ ap (λ k. onto k []) (take-length l)
-
-pub record WritesText (text cs numbers : List ℕ) (p : Program) : Type 0 where
+pub record WritesText (text cs : List ℕ) (p : Program) : Type 0 where
   pub count : ℕ
   pub bytes : List ℕ
-  pub all : writes-at text 0 cs (start (held numbers (length numbers))) ≡ writing bytes (count ∷ []) [] 0 (checks p)
+  pub all : writes-at text 0 cs (start (onto (numbers-of p) [])) ≡ writing bytes (count ∷ []) [] 0 (checks p)
   pub are : count ∷ bytes ≡ stream-behind p
 
--- from the numbers of what a text means
-pub text-writes : (text cs numbers : List ℕ) (c : Derivation) → FitsProgram c → {p : Program} → Means c p → Stood text cs (roles c) → All Inside (roles c)
-    → numbers ≡ numbers-of p → WritesText text cs numbers p
+-- from the numbers of what a text means, the last one first
+pub text-writes : (text cs : List ℕ) (c : Derivation) → FitsProgram c → {p : Program} → Means c p → Stood text cs (roles c) → All Inside (roles c)
+    → WritesText text cs p
 unfolding written
-text-writes text cs numbers c f {p} m st h e =
+text-writes text cs c f {p} m st h =
     let w = program-left c f m in
-    let ready : held numbers (length numbers) ≡ onto (numbers-of p) [] = held-all numbers ∙ ap (λ l. onto l []) e in
-    let stood : writes-at text 0 cs (start (held numbers (length numbers))) ≡ writes (roles c) (start (held numbers (length numbers))) =
-    stood-writes text (start (held numbers (length numbers))) 0 refl st h in
-    record {
-      count = w .count;
-      bytes = w .bytes;
-      all = stood ∙ ap (λ l. writes (roles c) (start l)) ready ∙ left (w .all);
-      are = w .are;
-    }
+    let stood : writes-at text 0 cs (start (onto (numbers-of p) [])) ≡ writes (roles c) (start (onto (numbers-of p) [])) =
+    stood-writes text (start (onto (numbers-of p) [])) 0 refl st h in
+    record { count = w .count; bytes = w .bytes; all = stood ∙ left (w .all); are = w .are }

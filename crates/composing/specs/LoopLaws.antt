@@ -4,7 +4,7 @@ use native.Mathlib.Omega.{arith}
 use native.Mathlib.Numerals.{sub-one}
 use mathlib.Core.Path.{_≡_, refl, sym, ap, _∙_}
 use mathlib.Core.Bool.{Bool, true, false, _&&_, false≢true}
-use mathlib.Core.List.{List, [], _∷_}
+use mathlib.Core.List.{List, []}
 use lib.ListN.{length, getD, set, drop, length-drop, length-set}
 use lib.Seq.{drop-cons, drop-length, getD-set-same}
 use lib.Dec.{eqb, leb}
@@ -198,17 +198,19 @@ module _ (text roles numbers out₀ stack₀ out stack : List ℕ) (p : Pen) whe
           (rw (a ∙ r .room) at (unfit-all text roles (at-end numbers) (length out₁ - 6) j (omega (arith, r .inner)) f))
 
     pub reached-token : (i : ℕ) → Reached text roles numbers out₀ stack₀ out stack p i → 0 < i → (getD roles (i - 1) 0 ≡ 0 → ⊥)
-        → kept (stands out₁ stack₁ numbers q) ≡ kept (put (getD roles (i - 1) 0) (value-at text (i - 1) (getD roles (i - 1) 0)) (stands out stack numbers p))
+        → (v : ℕ) → v ≡ value-at text (i - 1) (getD roles (i - 1) 0)
+        → kept (stands out₁ stack₁ numbers q) ≡ kept (put (getD roles (i - 1) 0) v (stands out stack numbers p))
         → (q .fits && leb 6 (q .place)) ≡ true → Reached text roles numbers out₀ stack₀ out₁ stack₁ q (i - 1)
-    reached-token zero r l n k t = absurd (omega arith)
-    reached-token (suc j) r l n k t = rw sub-one (token j r (rw sub-one at n) (rw sub-one at k) t)
+    reached-token zero r l n v e k t = absurd (omega arith)
+    reached-token (suc j) r l n v e k t = rw sub-one (token j r (rw sub-one at n) (rw sub-one at (rw e at k)) t)
 
     pub reached-refused : (i : ℕ) → Reached text roles numbers out₀ stack₀ out stack p i → 0 < i → (getD roles (i - 1) 0 ≡ 0 → ⊥)
-        → kept (stands out₁ stack₁ numbers q) ≡ kept (put (getD roles (i - 1) 0) (value-at text (i - 1) (getD roles (i - 1) 0)) (stands out stack numbers p))
+        → (v : ℕ) → v ≡ value-at text (i - 1) (getD roles (i - 1) 0)
+        → kept (stands out₁ stack₁ numbers q) ≡ kept (put (getD roles (i - 1) 0) v (stands out stack numbers p))
         → (q .fits && leb 6 (q .place)) ≡ false → (s : Pen) → s .fits ≡ false
         → kept (stands out₁ stack₁ numbers s) ≡ within (length out₀ - 6) (writes-at text 0 roles (at-end numbers))
-    reached-refused zero r l n k t s e = absurd (omega arith)
-    reached-refused (suc j) r l n k t s e = kept-spoilt out₁ stack₁ numbers s e ∙ sym (refused j r (rw sub-one at n) (rw sub-one at k) t)
+    reached-refused zero r l n v e k t s f = absurd (omega arith)
+    reached-refused (suc j) r l n v e k t s f = kept-spoilt out₁ stack₁ numbers s f ∙ sym (refused j r (rw sub-one at n) (rw sub-one at (rw e at k)) t)
 
   pub reached-end : (i : ℕ) → Reached text roles numbers out₀ stack₀ out stack p i → i ≡ 0
       → kept (stands out stack numbers p) ≡ within (length out₀ - 6) (writes-at text 0 roles (at-end numbers))

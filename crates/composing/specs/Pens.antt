@@ -1,6 +1,7 @@
 -- How writing stands in memory: bytes from a place of the output on, what waits as the front of a stack, the numbers left as the front of theirs.
 use Prim.Native.Nat.{ℕ, _+_, _≤_}
 use mathlib.Core.Path.{_≡_}
+use mathlib.Core.Bool.{false}
 use mathlib.Core.List.{List}
 use lib.ListN.{drop}
 use Rattle.derive.specs.Held.{held}

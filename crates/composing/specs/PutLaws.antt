@@ -4,13 +4,10 @@ use mathlib.Core.Path.{_≡_, refl, sym, ap, _∙_}
 use mathlib.Core.Bool.{Bool, true, _&&_}
 use mathlib.Core.List.{List}
 use lib.ListN.{getD, List·getD-eq-default}
-use borrow.Author.Tests.{eq-eqb, ne-eqb}
-use Rattle.resolve.specs.Digits.{nat-at, int-at}
 use Rattle.resolve.specs.declared.Word.{Word}
 use Rattle.resolve.specs.declared.Word.the-variants.{Of, Outside}
 use Rattle.compose.specs.Writing.{Writing, formed, behinds, stackings, behind-marks, forms, stack-marks, put}
-use Rattle.compose.specs.Fits.{kept}
-use Rattle.compose.specs.Fits.{word-value, value-at}
+use Rattle.compose.specs.Fits.{kept, word-value}
 use Rattle.compose.specs.FitsLaws.{formed-alike, stacked-alike}
 
 -- By a mark ------------------------------------------------------------------------------------------
@@ -82,20 +79,6 @@ word-is w n e = rw e refl
 pub word-outside : (w : Word) → w ≡ Outside → 0 ≡ word-value w
 unfolding word-value
 word-outside w e = rw e refl
-
-module _ (text : List ℕ) (i c : ℕ) where
-  pub value-int : c ≡ 37 → word-value (int-at text i) ≡ value-at text i c
-  unfolding value-at
-  value-int e = rw (value-at, eq-eqb c 37 e) refl
-
-  module _ (n : c ≡ 37 → ⊥) where
-    pub value-nat : c ≡ 38 → word-value (nat-at text i) ≡ value-at text i c
-    unfolding value-at
-    value-nat e = rw (value-at, ne-eqb c 37 n, eq-eqb c 38 e) refl
-
-    pub value-none : (c ≡ 38 → ⊥) → 0 ≡ value-at text i c
-    unfolding value-at
-    value-none m = rw (value-at, ne-eqb c 37 n, ne-eqb c 38 m) refl
 
 pub both-on : (f g : Bool) → f ≡ true → g ≡ (f && g)
 both-on f g e = rw e refl

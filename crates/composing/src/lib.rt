@@ -15,11 +15,16 @@ ghost use lib.Dec.{leb};
 ghost use Rattle.derive.specs.Held.{held};
 ghost use Rattle.compose.specs.Writing.{start};
 ghost use Rattle.composing.specs.Pens.{stands};
-ghost use Rattle.compose.specs.Fits.{kept};
-ghost use Rattle.compose.specs.Fits.{word-value, value-at, writes-at, within};
+ghost use Rattle.composing.specs.Placing.{placed-in};
+ghost use Rattle.compose.specs.Fits.{word-value, value-at, writes-at, kept, within};
+ghost use Rattle.compose.specs.Header.{Rows};
+ghost use Rattle.compose.specs.Composed.{composed-by};
 
 // The bytes that a role writes at the most.
 const MARGIN: usize = 6;
+
+// The bytes in front of the longest stream: as many as there are to the output that `stream` writes to, less those of a stream at the most.
+const FRONT: usize = 146;
 
 // The roles of literals.
 const INT: u8 = 37;
@@ -34,6 +39,12 @@ pub struct Pen {
     pub left: usize,
     pub later: usize,
     pub fits: bool,
+}
+
+// Where a stream begins, or that it is more than a stream holds.
+pub enum Placed {
+    At(usize),
+    Over,
 }
 
 fn number(w: Word) -> u32
@@ -75,6 +86,7 @@ pub fn write(text: &[u8], roles: &[u8], numbers: &[u8], stack: &mut [u8], out: &
     ensures { λ r. ⌜ kept (stands (now (out .exit)) (now (stack .exit)) (now (numbers .entry)) r)
         ≡ within (length (now (out .entry)) - 6)
         (writes-at (now (text .entry)) 0 (now (roles .entry)) (start (held (now (numbers .entry)) (length (now (numbers .entry)))))) ⌝ }
+    ensures { λ r. ⌜ (r .place ≤ length (now (out .entry))) × (r .height ≤ length (now (stack .entry))) ⌝ }
 {
     stack[0] = 0;
     let mut p = Pen {
@@ -96,4 +108,41 @@ pub fn write(text: &[u8], roles: &[u8], numbers: &[u8], stack: &mut [u8], out: &
         }
     }
     p
+}
+
+// The whole stream of a text at the end of the output: the types of parameters in front of what its roles write.
+pub fn stream(
+    text: &[u8],
+    roles: &[u8],
+    numbers: &[u8],
+    offsets: &[usize],
+    types: &[usize],
+    stack: &mut [u8],
+    out: &mut [u8],
+) -> Placed
+    requires { ⌜ (length (now roles) ≤ length (now text)) × (length (now roles) < length (now stack)) × (length (now out) ≡ 32402) ⌝ }
+    requires { ⌜ Rows (now offsets) (now types) ⌝ }
+    ensures { λ r. ⌜ placed-in (now (out .exit)) r
+        ≡ composed-by (now (offsets .entry)) (now (types .entry)) (now (text .entry)) (now (roles .entry))
+        (held (now (numbers .entry)) (length (now (numbers .entry)))) ⌝ }
+{
+    let w = write(text, roles, numbers, stack, out);
+    let front = w.place;
+    if !w.fits {
+        return Placed::Over;
+    }
+    if front <= FRONT {
+        return Placed::Over;
+    }
+    // The count of the first struct's steps still waits.
+    let p = waiting::counted(out, stack, w);
+    let place = p.place;
+    if !p.fits {
+        return Placed::Over;
+    }
+    let at = header::write_header(out, types, offsets, place);
+    if at < FRONT {
+        return Placed::Over;
+    }
+    Placed::At(at)
 }

@@ -64,7 +64,7 @@ fn popped(p: Pen) -> Pen
 }
 
 // A row begins: its count is written.
-fn counted(out: &mut [u8], stack: &[u8], p: Pen) -> Pen
+pub(crate) fn counted(out: &mut [u8], stack: &[u8], p: Pen) -> Pen
     requires { ⌜ (0 < p .place) × (p .place ≤ length (now out)) × (p .height ≤ length (now stack)) ⌝ }
     ensures { λ r. ⌜ ((n : List ℕ) → stands (now (out .exit)) (now (stack .entry)) n r ≡ counted (stands (now (out .entry)) (now (stack .entry)) n p)) ⌝ }
     ensures { λ r. ⌜ (r .height ≤ p .height) × Near 1 0 0 p r ⌝ }

@@ -7,15 +7,13 @@ use mathlib.Core.List.{List, [], _∷_, _++_, map}
 use mathlib.Core.Option.{Option, none, some}
 use lib.ListN.{length, take, drop, length-map}
 use lib.Seq.{drop-drop, take-at, drop-at}
-use lib.Dec.{leb}
-use Rattle.types.specs.Limits.{max-structs}
 use Rattle.types.specs.Types.{Ty, code as type-code}
 use Rattle.program.specs.Tree.{Program}
 use Rattle.syntax.specs.Syntax.{Id, Par, Struct, Defs, Sched, Program.program}
 use Rattle.meaning.specs.Scope.{par-id, par-type, struct-id, pars-of, structs-of}
 use Rattle.meaning.specs.StepNames.{once, step-names}
 use Rattle.meaning.specs.Finding.{distinct}
-use Rattle.meaning.specs.HoldsDecide.{all}
+use Rattle.meaning.specs.HoldsDecide.{all, holds, decides-holds}
 use Rattle.meaning.specs.Holds.{Holds}
 use Rattle.meaning.specs.Meant.{then, provided, each, pars-meaning, meant}
 use Rattle.meaning.specs.Means.{Means}
@@ -25,7 +23,8 @@ use Rattle.derive.specs.Roles.{naming-code, roles}
 use Rattle.resolve.specs.Named.{names-at}
 use Rattle.resolve.specs.Numbers.{few-steps}
 use Rattle.resolve.specs.Outcomes.{onto}
-use Rattle.resolve.specs.Uses.{used, Uses, uses-meaning, uses-numbers, few-uses}
+use Rattle.resolve.specs.Passing.{Pass, passes}
+use Rattle.resolve.specs.Uses.{pass-start, used, Uses, uses-meaning, uses-numbers, few-uses}
 use Rattle.resolve.specs.UsesLaws.{used-exactly, meant-by-uses, held-few}
 use Rattle.resolve.specs.Tables.{struct-byte, places, offsets}
 use Rattle.resolve.specs.Declares.{named, all-pars, sums}
@@ -33,11 +32,10 @@ use Rattle.resolve.specs.DeclaresLaws.{map-pars, types-declared, steps-d
 use Rattle.resolve.specs.RowLaws.{par-rows-declared}
 use Rattle.resolve.specs.Checks.{part-of, byte-of, types-at, firsts}
 use Rattle.resolve.specs.Standing.{Stood}
-use Rattle.resolve.specs.StandingLaws.{both-parts}
 use Rattle.resolve.specs.PlacesLaws.{names-stand, rows-stand, types-stand}
 use Rattle.resolve.specs.DeclarationLaws.{row-bytes, firsts-once}
 use Rattle.resolve.specs.WellDeclared.{par-byte, step-byte, well-declared}
-use Rattle.resolve.specs.WellDeclaredLaws.{struct-names, par-names, tables-tested, held-declared, params-meant}
+use Rattle.resolve.specs.WellDeclaredLaws.{Declared, struct-names, par-names, tables-tested, held-declared, declared-few, params-meant}
 use Rattle.resolve.specs.Using.{Book, book-of, use-start}
 use Rattle.resolve.specs.UsingLaws.{pair}
 use Rattle.resolve.specs.UsingTextLaws.{used-by-tables}
@@ -124,6 +122,17 @@ module _ (x cs : List ℕ) (d : Defs) (s : Sched) (st : Stood x cs (roles (progr
 
 -- Meaning ------------------------------------------------------------------------------------------
 
+-- where a text has numbers: the program that its derivation means has them, and the types of its parameters by their bytes; its declarations and the locals of
+-- its steps are few; the pass over its uses came to the end
+pub record Resolves (d : Defs) (s : Sched) (ns : List ℕ) (p : Program) : Type 0 where
+  pub means : Means (program d s) p
+  pub numbers : onto (program-numbers p) [] ≡ ns
+  pub types : map (λ u. map type-code u) (p .params) ≡ map (row-bytes (structs-of d)) (structs-of d)
+  pub declared : Declared (structs-of d)
+  pub locals : all few-steps (p .steps) ≡ true
+  pub behind : Pass
+  pub passed : passes (structs-of d) (step-names (structs-of d)) (roles (program d s)) (pass-start (structs-of d)) ≡ some behind
+
 abbrev of : List (List Ty) → Uses → Program
 of us u = record { params = us; steps = u .steps; schedule = u .schedule }
 
@@ -135,6 +144,11 @@ meant-parts false o v p e = absurd (let z : _≡_ {A = ℕ} 0 1 = cc in omega ar
 meant-parts true none v p e = absurd (let z : _≡_ {A = ℕ} 0 1 = cc in omega arith)
 meant-parts true (some us) none p e = absurd (let z : _≡_ {A = ℕ} 0 1 = cc in omega arith)
 meant-parts true (some us) (some u) p e = (u, refl, (let f : of us u ≡ p = cc in ap (λ q. q .steps) f))
+
+meant-from : (t : Bool) (o : Option (List (List Ty))) (v : Option Uses) (us : List (List Ty)) (u : Uses) → t ≡ true → o ≡ some us → v ≡ some u
+    → provided t (then o (λ us. then v (λ u. some (of us u)))) ≡ some (of us u)
+unfolding provided then
+meant-from t o v us u e f g = rw (e, f, g) refl
 
 module _ (d : Defs) (s : Sched) where
   abbrev structs : List Struct
@@ -159,13 +173,13 @@ module _ (d : Defs) (s : Sched) where
 
   -- and what leaves numbers is meant
   numbers-of : (o : Option Uses) (l : List ℕ) → then o (λ u. provided (few-uses u) (some (onto (uses-numbers u) []))) ≡ some l
-      → (u : Uses) × (o ≡ some u) × (onto (uses-numbers u) [] ≡ l)
+      → (u : Uses) × (o ≡ some u) × (onto (uses-numbers u) [] ≡ l) × (few-uses u ≡ true)
   unfolding then provided
   numbers-of none l e = absurd (let z : _≡_ {A = ℕ} 0 1 = cc in omega arith)
-  numbers-of (some u) l e = (u, refl, go (few-uses u) e)
+  numbers-of (some u) l e = let k = go (few-uses u) e in (u, refl, k .0, k .1)
     where
-      go : (t : Bool) → provided t (some (onto (uses-numbers u) [])) ≡ some l → onto (uses-numbers u) [] ≡ l
-      go true f = cc
+      go : (t : Bool) → provided t (some (onto (uses-numbers u) [])) ≡ some l → (onto (uses-numbers u) [] ≡ l) × (t ≡ true)
+      go true f = ((cc), refl)
       go false f = absurd (let z : _≡_ {A = ℕ} 0 1 = cc in omega arith)
 
   rows-of : (o : Option (List (List Ty))) (k : List (List ℕ)) → then o (λ us. some (map (λ u. map type-code u) us)) ≡ some k
@@ -174,16 +188,33 @@ module _ (d : Defs) (s : Sched) where
   rows-of none k e = absurd (let z : _≡_ {A = ℕ} 0 1 = cc in omega arith)
   rows-of (some us) k e = (us, refl, cc)
 
-  used-meant : (l : List ℕ) → well-declared structs ≡ true → used (program d s) ≡ some l
-      → (p : Program) × (Means (program d s) p) × (onto (program-numbers p) [] ≡ l) × (map (λ u. map type-code u) (p .params) ≡ map (row-bytes structs) structs)
-  unfolding well-declared program-numbers uses-numbers then provided
+  -- the pass that leaves numbers came to the end
+  passed-of : (o : Option Pass) (l : List ℕ) → then o (λ q. some (q .out)) ≡ some l → (q : Pass) × (o ≡ some q)
+  unfolding then
+  passed-of none l e = absurd (let z : _≡_ {A = ℕ} 0 1 = cc in omega arith)
+  passed-of (some q) l e = (q, refl)
+
+  used-meant : (l : List ℕ) → well-declared structs ≡ true → used (program d s) ≡ some l → (p : Program) × (Resolves d s l p)
+  unfolding program-numbers uses-numbers used then provided
   used-meant l w e =
       let n = numbers-of told l (sym (used-exactly d s) ∙ e) in
       let r = rows-of (each (pars-meaning structs) structs) (map (row-bytes structs) structs) (params-meant structs w) in
-      let a = both-parts (leb (length structs) max-structs) _ w in
-      let b = both-parts (distinct (map struct-id structs)) _ (a .1) in
-      let f : meant (program d s) ≡ some (of (r .0) (n .0)) = meant-by-uses d s ∙ rw (b .0, r .1, n .1) refl in
-      (of (r .0) (n .0), meant-means (program d s) (of (r .0) (n .0)) f, n .2, r .2)
+      let g = passed-of (passes structs (step-names structs) (roles (program d s)) (pass-start structs)) l e in
+      let f = declared-few structs w in
+      let m : meant (program d s) ≡ some (of (r .0) (n .0)) =
+      meant-by-uses d s
+      ∙ meant-from (distinct (map struct-id structs)) (each (pars-meaning structs) structs) told (r .0) (n .0) (f .different) (r .1) (n .1) in (
+        of (r .0) (n .0),
+        record {
+          means = meant-means (program d s) (of (r .0) (n .0)) m;
+          numbers = n .2;
+          types = r .2;
+          declared = f;
+          locals = n .3;
+          behind = g .0;
+          passed = g .1;
+        },
+      )
 
 -- Texts ----------------------------------------------------------------------------------------------
 
@@ -194,15 +225,26 @@ module _ (x cs : List ℕ) (d : Defs) (s : Sched) (st : Stood x cs (roles (progr
   resolved-refuses {p} e m h =
       used-held d s p m h (sym (ap (λ t. provided t (used (program d s))) (held-declared m h)) ∙ sym (resolved-used x cs d s st) ∙ e)
 
-  -- a text with numbers means the program that has them, and the types of its parameters by their bytes
-  pub resolved-means : (l : List ℕ) → resolved x cs ≡ some l
-      → (p : Program) × (Means (program d s) p) × (onto (program-numbers p) [] ≡ l)
-      × (map (λ u. map type-code u) (p .params) ≡ map (row-bytes (structs-of d)) (structs-of d))
-  unfolding provided
-  resolved-means l e =
-      let g = so (well-declared (structs-of d)) (used (program d s)) (sym (resolved-used x cs d s st) ∙ e) in
-      used-meant d s l (g .0) (g .1)
+  -- in terms of what is meant
+  pub resolved-none : {A : Type 0} (f : Program → Option A) → resolved x cs ≡ none → then (meant (program d s)) (λ p. provided (holds p) (f p)) ≡ none
+  unfolding then provided
+  resolved-none f e = go (meant (program d s)) refl
     where
-      so : (t : Bool) (o : Option (List ℕ)) → provided t o ≡ some l → (t ≡ true) × (o ≡ some l)
+      held : (p : Program) (t : Bool) → Means (program d s) p → holds p ≡ t → provided t (f p) ≡ none
+      held p true m h = absurd (resolved-refuses e m (decides-holds p .holds h))
+      held p false m h = refl
+
+      go : (o : Option Program) → meant (program d s) ≡ o → then o (λ p. provided (holds p) (f p)) ≡ none
+      go none g = refl
+      go (some p) g = held p (holds p) (meant-means (program d s) p g) refl
+
+  -- a text with numbers means the program that has them
+  pub resolved-means : (ns : List ℕ) → resolved x cs ≡ some ns → (p : Program) × (Resolves d s ns p)
+  unfolding provided
+  resolved-means ns e =
+      let g = so (well-declared (structs-of d)) (used (program d s)) (sym (resolved-used x cs d s st) ∙ e) in
+      used-meant d s ns (g .0) (g .1)
+    where
+      so : (t : Bool) (o : Option (List ℕ)) → provided t o ≡ some ns → (t ≡ true) × (o ≡ some ns)
       so true o g = (refl, g)
       so false o g = absurd (let z : _≡_ {A = ℕ} 0 1 = cc in omega arith)

@@ -8,8 +8,12 @@ use Rattle.tokens.specs.Tokens.{Sign.semicolon, Token.sign, Token.int, Token.na
 use Rattle.tokens.specs.Scanning.{polarity}
 use Rattle.lexer.specs.Kinds.{int-kind, nat-kind, kinds}
 use Rattle.meaning.specs.Meant.{then}
-use Rattle.derive.specs.Roles.{Typed, Typed.of-par, Typed.of-local, Typed.of-null, Naming, Naming.new-struct, Naming.new-par, Naming.new-step, Naming.new-local, Naming.first-read, Naming.first-written, Naming.later-variable, Naming.made, Naming.made-statement, Naming.called, Naming.called-struct, Naming.called-step}
-use Rattle.derive.specs.Roles.{Part, Part.brackets-open, Part.brackets-close, Part.args-open, Part.args-close, Part.no-args-close, Part.pars-open, Part.pars-close, Part.fix-open, Part.fix-close, Part.steps-open, Part.steps-close, Part.body-open, Part.body-close, Part.then-open, Part.then-close, Part.par-comma, Part.arg-comma, Part.barrier-sign}
+use Rattle.derive.specs.Roles.{Typed, Typed.of-par, Typed.of-local, Typed.of-null, Naming, Naming.new-struct, Naming.new-par, Naming.new-step}
+use Rattle.derive.specs.Roles.{Naming.new-local, Naming.first-read, Naming.first-written, Naming.later-variable, Naming.made, Naming.made-statement}
+use Rattle.derive.specs.Roles.{Naming.called, Naming.called-struct, Naming.called-step}
+use Rattle.derive.specs.Roles.{Part, Part.brackets-open, Part.brackets-close, Part.args-open, Part.args-close, Part.no-args-close, Part.pars-open}
+use Rattle.derive.specs.Roles.{Part.pars-close, Part.fix-open, Part.fix-close, Part.steps-open, Part.steps-close, Part.body-open, Part.body-close}
+use Rattle.derive.specs.Roles.{Part.then-open, Part.then-close, Part.par-comma, Part.arg-comma, Part.barrier-sign}
 use Rattle.resolve.specs.Named.{name-of}
 use Rattle.resolve.specs.Digits.{digits-of}
 use Rattle.resolve.specs.Tables.{struct-byte}

@@ -6,7 +6,8 @@ use mathlib.Core.List.{List, _∷_}
 use mathlib.Core.Option.{Option, none, some}
 use lib.ListN.{getD, drop}
 use borrow.Author.Tests.{lt-ltb, le-ltb, ne-eqb}
-use Rattle.tokens.specs.Tokens.{Sign, Sign.lpar, Sign.rpar, Sign.lbrace, Sign.rbrace, Sign.comma, Sign.colon, Sign.semicolon, Sign.assign, Sign.dot, Sign.bang, Polarity, Token, Token.word, Token.sign, Token.op, Token.name, Token.int, Token.nat}
+use Rattle.tokens.specs.Tokens.{Sign, Sign.lpar, Sign.rpar, Sign.lbrace, Sign.rbrace, Sign.comma, Sign.colon, Sign.semicolon, Sign.assign, Sign.dot}
+use Rattle.tokens.specs.Tokens.{Sign.bang, Polarity, Token, Token.word, Token.sign, Token.op, Token.name, Token.int, Token.nat}
 use Rattle.tokens.specs.TokenNumbers.{sign-number}
 use Rattle.tokens.specs.Scanning.{polarity}
 use Rattle.lexer.specs.Kinds.{name-kind, int-kind, nat-kind, kinds, kind, word-kind, op-kind, sign-kind}
@@ -14,8 +15,13 @@ use Rattle.lexer.specs.KindLaws.{kind-within, word-within, op-within}
 use Rattle.syntax.specs.Syntax.{TypeName, TypeName.int-type, TypeName.nat-type, TypeName.bool-type, TypeName.id-type}
 use Rattle.syntax.specs.Yield.{type-token}
 use Rattle.meaning.specs.Meant.{then}
-use Rattle.derive.specs.Roles.{Typed, Typed.of-par, Typed.of-local, Typed.of-null, Naming, Naming.new-struct, Naming.new-par, Naming.new-step, Naming.new-local, Naming.first-read, Naming.first-written, Naming.later-variable, Naming.made, Naming.made-statement, Naming.called, Naming.called-struct, Naming.called-step}
-use Rattle.derive.specs.Roles.{Part, Part.brackets-open, Part.brackets-close, Part.args-open, Part.args-close, Part.no-args-close, Part.pars-open, Part.pars-close, Part.fix-open, Part.fix-close, Part.steps-open, Part.steps-close, Part.body-open, Part.body-close, Part.then-open, Part.then-close, Part.par-comma, Part.arg-comma, Part.barrier-sign, Role, Role.plain, Role.naming, Role.typed, Role.part, naming-code, typed-code, type-number, part-code, code, token-of}
+use Rattle.derive.specs.Roles.{Typed, Typed.of-par, Typed.of-local, Typed.of-null, Naming, Naming.new-struct, Naming.new-par, Naming.new-step}
+use Rattle.derive.specs.Roles.{Naming.new-local, Naming.first-read, Naming.first-written, Naming.later-variable, Naming.made, Naming.made-statement}
+use Rattle.derive.specs.Roles.{Naming.called, Naming.called-struct, Naming.called-step}
+use Rattle.derive.specs.Roles.{Part, Part.brackets-open, Part.brackets-close, Part.args-open, Part.args-close, Part.no-args-close, Part.pars-open}
+use Rattle.derive.specs.Roles.{Part.pars-close, Part.fix-open, Part.fix-close, Part.steps-open, Part.steps-close, Part.body-open, Part.body-close}
+use Rattle.derive.specs.Roles.{Part.then-open, Part.then-close, Part.par-comma, Part.arg-comma, Part.barrier-sign, Role, Role.plain, Role.naming, Role.typed}
+use Rattle.derive.specs.Roles.{Role.part, naming-code, typed-code, type-number, part-code, code, token-of}
 use Rattle.resolve.specs.Named.{name-of}
 use Rattle.resolve.specs.Digits.{digits-of}
 use Rattle.resolve.specs.Checks.{first-type, type-here}

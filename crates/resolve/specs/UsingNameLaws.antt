@@ -18,15 +18,19 @@ use Rattle.syntax.specs.Syntax.{Id, TypeName, TypeName.int-type, TypeName.nat-t
 use Rattle.meaning.specs.Scope.{par-id, par-type, struct-id, pars-of, Local, local-id, local-number, local-type}
 use Rattle.meaning.specs.Finding.{Place, find, absent}
 use Rattle.meaning.specs.Meant.{then, provided, type-meaning, referred, Start, started, start}
-use Rattle.derive.specs.Roles.{Naming, Naming.new-struct, Naming.new-par, Naming.new-step, Naming.new-local, Naming.first-read, Naming.first-written, Naming.later-variable, Naming.made, Naming.made-statement, Naming.called, Naming.called-struct, Naming.called-step, Typed, Typed.of-par, Typed.of-local, Typed.of-null}
+use Rattle.derive.specs.Roles.{Naming, Naming.new-struct, Naming.new-par, Naming.new-step, Naming.new-local, Naming.first-read, Naming.first-written}
+use Rattle.derive.specs.Roles.{Naming.later-variable, Naming.made, Naming.made-statement, Naming.called, Naming.called-struct, Naming.called-step, Typed}
+use Rattle.derive.specs.Roles.{Typed.of-par, Typed.of-local, Typed.of-null}
 use Rattle.resolve.specs.Named.{sought}
 use Rattle.resolve.specs.Checks.{byte-of}
 use Rattle.resolve.specs.DeclarationLaws.{type-known}
 use Rattle.resolve.specs.NamedLaws.{same-names}
 use Rattle.resolve.specs.SoughtLaws.{missing, present, at-place, absent-not, absent-so, absent-sought, at-front}
 use Rattle.resolve.specs.Passing.{Pass, leaves, begins, makes, starts, numbered, declares, pass-name, pass-type}
-use Rattle.resolve.specs.Using.{Book, book-of, Use, leave, begin, own-row, chosen, use-listed, use-par, use-local, use-made, use-first, use-behind, use-new, use-name, use-type}
-use Rattle.resolve.specs.UsingLaws.{Agrees, Both, Both.neither, Both.both, pair, both-if, names-alive, numbers-alive, bytes-alive, agree-leave, agree-due, agree-new}
+use Rattle.resolve.specs.Using.{Book, book-of, Use, leave, begin, own-row, chosen, use-listed, use-par, use-local, use-made, use-first, use-behind}
+use Rattle.resolve.specs.Using.{use-new, use-name, use-type}
+use Rattle.resolve.specs.UsingLaws.{Agrees, Both, Both.neither, Both.both, pair, both-if, names-alive, numbers-alive, bytes-alive, agree-leave}
+use Rattle.resolve.specs.UsingLaws.{agree-due, agree-new}
 
 module _ (ds : List Struct) (names : List Id) where
   abbrev byte : TypeName → ℕ
@@ -124,6 +128,9 @@ module _ (ds : List Struct) (names : List Id) where
         start-of : Place Local → Start
         start-of f = record { variable-of = loc (local-number (f .element)); type-of = local-type (f .element) }
 
+        living : Option Use
+        living = use-local (drop (u .fresh) (u .living)) (drop (u .fresh) (u .numbers)) (drop (u .fresh) (u .bytes)) x u
+
         by-local : (o : Option (Place Local))
             → then (then o (λ f. some (start-of f)))
             (λ s. some (leaves p (s .type-of) (var-code (s .variable-of))))
@@ -143,7 +150,8 @@ module _ (ds : List Struct) (names : List Id) where
             (sym (by-local (find local-id x (p .alive)))) b)
         go (some q) f a b =
             let c : Both ds names (some (leaves p (par-type (q .element)) (q .at))) (use-par own own-bytes x u) = rw f at a in
-            rw (absent-not par-id x (p .own) q f, f, present par-id x (p .own) own (s .own) q f .0) c
+            subst (λ t. Both ds names (starts ds names x p) (chosen t (use-par own own-bytes x u) living)) (sym (present par-id x (p .own) own (s .own) q f .0))
+            (rw (absent-not par-id x (p .own) q f, f) c)
 
     -- a later variable, by the byte of the type before it
     behind-none : (c : ℕ) (x : Id) → c < struct-code → use-behind book c x u ≡ none

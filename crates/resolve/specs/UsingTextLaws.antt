@@ -5,17 +5,22 @@ use mathlib.Core.List.{List, [], _∷_}
 use mathlib.Core.Option.{Option, none, some}
 use lib.Dec.{eqb}
 use Rattle.program.specs.Tree.{Expr}
-use Rattle.tokens.specs.Tokens.{Sign, Sign.lpar, Sign.rpar, Sign.lbrace, Sign.rbrace, Sign.comma, Sign.colon, Sign.semicolon, Sign.assign, Sign.dot, Sign.bang, Token, Token.word, Token.sign, Token.op, Token.name, Token.int, Token.nat}
+use Rattle.tokens.specs.Tokens.{Sign, Sign.lpar, Sign.rpar, Sign.lbrace, Sign.rbrace, Sign.comma, Sign.colon, Sign.semicolon, Sign.assign, Sign.dot}
+use Rattle.tokens.specs.Tokens.{Sign.bang, Token, Token.word, Token.sign, Token.op, Token.name, Token.int, Token.nat}
 use Rattle.syntax.specs.Syntax.{Id, Struct, Defs, Sched, Program.program, Literal.int-literal, Literal.nat-literal}
 use Rattle.meaning.specs.Scope.{structs-of, Local}
 use Rattle.meaning.specs.StepNames.{step-names}
 use Rattle.meaning.specs.Meant.{then, provided, literal-meaning}
-use Rattle.derive.specs.Roles.{Part, Part.brackets-open, Part.brackets-close, Part.args-open, Part.args-close, Part.no-args-close, Part.pars-open, Part.pars-close, Part.fix-open, Part.fix-close, Part.steps-open, Part.steps-close, Part.body-open, Part.body-close, Part.then-open, Part.then-close, Part.par-comma, Part.arg-comma, Part.barrier-sign, Role, Role.plain, Role.naming, Role.typed, Role.part, roles}
+use Rattle.derive.specs.Roles.{Part, Part.brackets-open, Part.brackets-close, Part.args-open, Part.args-close, Part.no-args-close, Part.pars-open}
+use Rattle.derive.specs.Roles.{Part.pars-close, Part.fix-open, Part.fix-close, Part.steps-open, Part.steps-close, Part.body-open, Part.body-close}
+use Rattle.derive.specs.Roles.{Part.then-open, Part.then-close, Part.par-comma, Part.arg-comma, Part.barrier-sign, Role, Role.plain, Role.naming, Role.typed}
+use Rattle.derive.specs.Roles.{Role.part, roles}
 use Rattle.resolve.specs.Checks.{byte-of}
 use Rattle.resolve.specs.Passing.{Pass, goes-on, closes, dies, pass-part, pass-token, pass, passes}
 use Rattle.resolve.specs.Uses.{pass-start, used}
 use Rattle.resolve.specs.Using.{book-of, Use, use-start, own-row, use-goes, use-closes, use-dies, use-part, use-token, use-role, uses}
-use Rattle.resolve.specs.UsingLaws.{Behind, Opened, Opened.none-open, Opened.one-open, Agrees, Both, Both.neither, Both.both, both-if, agree-due, agree-none, agree-alive, agree-opened, agree-closed}
+use Rattle.resolve.specs.UsingLaws.{Behind, Opened, Opened.none-open, Opened.one-open, Agrees, Both, Both.neither, Both.both, both-if, agree-due}
+use Rattle.resolve.specs.UsingLaws.{agree-none, agree-alive, agree-opened, agree-closed}
 use Rattle.resolve.specs.UsingNameLaws.{name-both, type-both}
 
 module _ (ds : List Struct) (names : List Id) where

@@ -1,5 +1,5 @@
 -- 17 for declarations (02 §1): the tables of a text are tested as its derivation's structs are; where a test fails, no program that a stream holds is meant.
-use Prim.Native.Nat.{ℕ, suc, _+_, _<_}
+use Prim.Native.Nat.{ℕ, suc, _+_, _<_, _≤_}
 use native.Mathlib.Omega.{arith}
 use mathlib.Core.Path.{_≡_, refl, sym, ap, _∙_}
 use mathlib.Core.Bool.{Bool, true, false, _&&_, false≢true}
@@ -8,7 +8,7 @@ use mathlib.Core.Option.{some}
 use lib.ListN.{length, length-map}
 use lib.Dec.{leb, ltb}
 use borrow.Author.Tests.{le-leb, lt-ltb}
-use Rattle.types.specs.Decides.{is-true}
+use Rattle.types.specs.Decides.{decides-leb, is-true}
 use Rattle.types.specs.Limits.{max-structs, max-params, max-steps, step-names as max-names}
 use Rattle.types.specs.Types.{Ty, struct-code, code as type-code}
 use Rattle.program.specs.Tree.{Step as Named, Program}
@@ -20,7 +20,8 @@ use Rattle.meaning.specs.Finding.{distinct, decides-distinct, find-complete}
 use Rattle.meaning.specs.HoldsDecide.{all}
 use Rattle.meaning.specs.Holds.{HoldsStep, Counted, Holds}
 use Rattle.meaning.specs.Meant.{then, provided, each, pars-meaning}
-use Rattle.meaning.specs.Means.{TypeMeans, TypeMeans.int-is, TypeMeans.nat-is, TypeMeans.bool-is, TypeMeans.struct-is, ParMeans, ParMeans.par-means, ParsMean, ParsMean.pars-mean, StepMeans, StepMeans.step-means, StepsMean, StepsMean.steps-mean, Means, Means.means}
+use Rattle.meaning.specs.Means.{TypeMeans, TypeMeans.int-is, TypeMeans.nat-is, TypeMeans.bool-is, TypeMeans.struct-is, ParMeans, ParMeans.par-means, ParsMean}
+use Rattle.meaning.specs.Means.{ParsMean.pars-mean, StepMeans, StepMeans.step-means, StepsMean, StepsMean.steps-mean, Means, Means.means}
 use Rattle.derive.specs.Roles.{naming-code, roles}
 use Rattle.resolve.specs.Named.{names-at, sought}
 use Rattle.resolve.specs.NamedLaws.{found-where-sought, same-names}
@@ -188,6 +189,57 @@ pub declarations-refused : {d : Defs} {s : Sched} {p : Program} (x cs : List ℕ
     → Means (program d s) p → Holds p → ⊥
 declarations-refused {d = d} {s = s} x cs st e m h = false≢true (sym e ∙ tables-tested x cs d s st ∙ held-declared m h)
 
+-- What is well declared is few ----------------------------------------------------------------------
+
+pub record Declared (ds : List Struct) : Type 0 where
+  pub structs : length ds ≤ max-structs
+  pub different : distinct (map struct-id ds) ≡ true
+  pub params : All (λ d. length (pars-of d) ≤ max-params) ds
+  pub steps : All (λ d. length (steps-of d) ≤ max-steps) ds
+  pub names : length (step-names ds) ≤ max-names
+
+few-params : (l : List Struct) → all few-named l ≡ true → All (λ d. length (pars-of d) ≤ max-params) l
+unfolding all few-named
+few-params [] e = tt
+few-params (d ∷ l) e =
+    let h = both-parts (few-named d) (all few-named l) e in
+    let g = both-parts (leb (length (pars-of d)) max-params) (distinct (map par-id (pars-of d))) (h .0) in
+    (decides-leb (length (pars-of d)) max-params .holds (g .0), few-params l (h .1))
+
+few-rows : (l : List Struct) → all few-stepped l ≡ true → All (λ d. length (steps-of d) ≤ max-steps) l
+unfolding all few-stepped
+few-rows [] e = tt
+few-rows (d ∷ l) e =
+    let h = both-parts (few-stepped d) (all few-stepped l) e in (decides-leb (length (steps-of d)) max-steps .holds (h .0), few-rows l (h .1))
+
+-- the parts of the test
+module _ (ds : List Struct) where
+  abbrev TypesKnown : Type 0
+  TypesKnown = known (length ds) (map (byte-of (map struct-id ds)) (map par-type (all-pars ds))) ≡ true
+
+  parts-declared : well-declared ds ≡ true
+      → (leb (length ds) max-structs ≡ true) × (distinct (map struct-id ds) ≡ true) × (all few-named ds ≡ true) × TypesKnown × (all few-stepped ds ≡ true)
+      × (leb (length (step-names ds)) max-names ≡ true)
+  unfolding well-declared
+  parts-declared e =
+      let a = both-parts (leb (length ds) max-structs) _ e in
+      let b = both-parts (distinct (map struct-id ds)) _ (a .1) in
+      let c = both-parts (all few-named ds) _ (b .1) in
+      let f = both-parts (known (length ds) (map (byte-of (map struct-id ds)) (map par-type (all-pars ds)))) _ (c .1) in
+      let g = both-parts (all few-stepped ds) _ (f .1) in
+      (a .0, b .0, c .0, f .0, g .0, g .1)
+
+  pub declared-few : well-declared ds ≡ true → Declared ds
+  declared-few e =
+      let h = parts-declared e in
+      record {
+        structs = decides-leb (length ds) max-structs .holds (h .0);
+        different = h .1;
+        params = few-params ds (h .2);
+        steps = few-rows ds (h .4);
+        names = decides-leb (length (step-names ds)) max-names .holds (h .5);
+      }
+
 -- What is well declared means its parameters -----------------------------------------------------
 
 module _ (ds : List Struct) where
@@ -215,10 +267,7 @@ module _ (ds : List Struct) where
 
   pub params-meant : well-declared ds ≡ true
       → then (each (pars-meaning ds) ds) (λ us. some (map (λ u. map type-code u) us)) ≡ some (map (row-bytes ds) ds)
-  unfolding well-declared known provided
+  unfolding known provided
   params-meant e =
-      let a = both-parts (leb (length ds) max-structs) _ e in
-      let b = both-parts (distinct (map struct-id ds)) _ (a .1) in
-      let c = both-parts (all few-named ds) _ (b .1) in
-      let f = both-parts (all (one-known ds) (map (byte ds) (map par-type (all-pars ds)))) _ (c .1) in
-      pars-known ds ds ∙ ap (λ t. provided t (some (map (row-bytes ds) ds))) (all-sound ds (c .0) (f .0))
+      let h = parts-declared ds e in
+      pars-known ds ds ∙ ap (λ t. provided t (some (map (row-bytes ds) ds))) (all-sound ds (h .2) (h .3))

@@ -1,12 +1,8 @@
 -- `write` meets its contract: the loop's invariant is `Reached`, its measure the place.
-use Prim.Native.Nat.{_-_}
 use native.Mathlib.Omega.{arith}
-use mathlib.Core.Path.{sym, ap, _∙_}
-use lib.ListN.{getD, set, length-set}
+use mathlib.Core.Path.{sym, _∙_}
+use lib.ListN.{set, length-set}
 use borrow.Author.Tests.{not-true, not-false}
-use Rattle.compose.specs.Writing.{put}
-use Rattle.composing.specs.Pens.{stands}
-use Rattle.compose.specs.Fits.{kept}
 use Rattle.composing.specs.LoopLaws.{Reached, reached-start, reached-past, reached-token, reached-refused, reached-end}
 use Rattle.composing.proofs.write.Statement.{statement}
 use Rattle.composing.proofs.write.Tie as tie
@@ -82,13 +78,17 @@ returns c =
     let args = at-slice .before .before .args in
     let here = at-loop .loop in
     let q = at-put .put in
-    reached-refused (args .text .now) (args .roles .now) (args .numbers .now) (args .out .now) (set (args .stack .now) 0 0)
-    (here .out) (here .stack) (here .p) (q .last .0) (q .last .1 .0) (q .result) (q .ensures .1) (q .kept .0) (q .kept .1 .0)
-    (here .i) (here .inv) (at-test .loop-test .taken) (at-if .if1 .taken)
-    (q .ensures .0
-    ∙ ap (λ v. kept (put (getD (args .roles .now) (here .i - 1) 0) v (stands (here .out) (here .stack) (args .numbers .now) (here .p))))
-    (at-lit .literal .ensures))
-    (sym (at-roomy .roomy .ensures) ∙ not-true _ (at-if2 .if2 .taken)) (c .spoilt .result) (c .spoilt .ensures .4)
+    let long = length-set (args .stack .now) 0 0 in (
+      reached-refused (args .text .now) (args .roles .now) (args .numbers .now) (args .out .now) (set (args .stack .now) 0 0)
+          (here .out) (here .stack) (here .p) (q .last .0) (q .last .1 .0) (q .result) (q .ensures .1) (q .kept .0) (q .kept .1 .0)
+          (here .i) (here .inv) (at-test .loop-test .taken) (at-if .if1 .taken)
+          (at-lit .literal .result) (at-lit .literal .ensures) (q .ensures .0)
+          (sym (at-roomy .roomy .ensures) ∙ not-true _ (at-if2 .if2 .taken)) (c .spoilt .result) (c .spoilt .ensures .4),
+      (
+        omega (arith, c .spoilt .ensures .0, q .ensures .1 .behind, here .inv .behind, here .inv .room),
+        omega (arith, c .spoilt .ensures .1, q .ensures .1 .height, here .inv .low, here .inv .high, here .inv .tall, long),
+      ),
+    )
 
 loop-less : tie.Need-loop-less Inv-loop μ-loop
 loop-less c =
@@ -114,9 +114,7 @@ loop-again c =
     reached-token (args .text .now) (args .roles .now) (args .numbers .now) (args .out .now) (set (args .stack .now) 0 0)
     (here .out) (here .stack) (here .p) (q .last .0) (q .last .1 .0) (q .result) (q .ensures .1) (q .kept .0) (q .kept .1 .0)
     (here .i) (here .inv) (at-test .loop-test .taken) (at-if .if1 .taken)
-    (q .ensures .0
-    ∙ ap (λ v. kept (put (getD (args .roles .now) (here .i - 1) 0) v (stands (here .out) (here .stack) (args .numbers .now) (here .p))))
-    (at-lit .literal .ensures))
+    (at-lit .literal .result) (at-lit .literal .ensures) (q .ensures .0)
     (sym (at-roomy .roomy .ensures) ∙ not-false _ (c .if2 .left))
 
 loop-less-2 : tie.Need-loop-less-2 Inv-loop μ-loop
@@ -148,9 +146,12 @@ returns-2 c =
     let at-slice = at-loop .before .before .before .before in
     let args = at-slice .before .before .args in
     let here = at-loop .loop in
-    reached-end (args .text .now) (args .roles .now) (args .numbers .now) (args .out .now) (set (args .stack .now) 0 0)
-    (here .out) (here .stack) (here .p) (here .i) (here .inv)
-    (omega (arith, c .loop-test .left))
+    let long = length-set (args .stack .now) 0 0 in (
+      reached-end (args .text .now) (args .roles .now) (args .numbers .now) (args .out .now) (set (args .stack .now) 0 0)
+          (here .out) (here .stack) (here .p) (here .i) (here .inv)
+          (omega (arith, c .loop-test .left)),
+      (omega (arith, here .inv .behind, here .inv .room), omega (arith, here .inv .low, here .inv .high, here .inv .tall, long)),
+    )
 
 pub write-spec : {M : Type 1} → statement M
 write-spec =
