@@ -1,18 +1,18 @@
 -- What does not fit does not fit later: bytes only grow, and no count is mended. And what is kept alike is kept alike by what a role does.
-use Prim.Native.Nat.{ℕ, zero, suc, _≤_, _+_}
+use Prim.Native.Nat.{ℕ, zero, suc, _≤_, _<_, _+_}
 use native.Mathlib.Omega.{arith}
 use native.Mathlib.Nat.{le-trans}
 use mathlib.Core.Path.{_≡_, refl, sym, ap, _∙_}
-use mathlib.Core.Bool.{Bool, true, false, _&&_, false≢true}
+use mathlib.Core.Bool.{Bool, true, false, _&&_, and-false, false≢true}
 use mathlib.Core.List.{List, [], _∷_}
 use lib.ListN.{length, getD}
 use lib.Dec.{eqb, leb, ltb}
-use borrow.Author.Tests.{eq-eqb, ne-eqb, leb-true, le-leb}
+use borrow.Author.Tests.{eq-eqb, ne-eqb, leb-true, le-leb, lt-leb}
 use Rattle.types.specs.Limits.{max-statements, max-steps}
 use Rattle.program.specs.Encoding.{enc-word}
 use Rattle.tokens.specs.ByteLaws.{both-true}
 use Rattle.resolve.specs.Digits.{nat-at, int-at}
-use Rattle.compose.specs.Writing.{Writing, Writing.writing, wrote, numbered, lengthened, pathed, worded, more, opened, counted, operated, behinds}
+use Rattle.compose.specs.Writing.{Writing, Writing.writing, wrote, numbered, lengthened, pathed, worded, more, opened, counted, behinds}
 use Rattle.compose.specs.Writing.{tightness, pour, poured, passed, begun, pourings, pour-marks, spelt}
 use Rattle.compose.specs.Writing.{stackings, behind-marks, forms, stack-marks, formed, put, max-later}
 use Rattle.compose.specs.Fits.{word-value, value-at, fits, kept, within}
@@ -69,25 +69,21 @@ unfolding good size more
 more-later limit (writing s [] n l f) = record { mended = no-mending; longer = omega arith }
 more-later limit (writing s (c ∷ w) n l f) = record { mended = λ e. both-true f (ltb c limit) e .0; longer = omega arith }
 
-opened-later : Later opened
+opened-later : (c : ℕ) → Later (opened c)
 unfolding good size opened
-opened-later (writing s w n l f) = record { mended = λ e. e; longer = omega arith }
+opened-later c (writing s w n l f) = record { mended = λ e. e; longer = omega arith }
 
 counted-later : Later counted
 unfolding good size counted
 counted-later (writing s [] n l f) = record { mended = no-mending; longer = omega arith }
 counted-later (writing s (c ∷ w) n l f) = record { mended = λ e. e; longer = omega arith }
 
-operated-later : (o : ℕ) → Later (operated o)
-unfolding good size operated
-operated-later o (writing s w n l f) = record { mended = λ e. e; longer = omega arith }
-
 pour-later : (t : ℕ) (s₀ w₀ s w n : List ℕ) (l : ℕ) (f : Bool) → length s₀ ≤ length s → Grows (writing s₀ w₀ n l f) (pour t s w n l f)
 unfolding good size pour
 pour-later t s₀ w₀ s [] n l f h = record { mended = λ e. e; longer = h }
-pour-later t s₀ w₀ s (c ∷ w) n l f h = go (leb t (tightness c)) refl (pour-later t s₀ w₀ (c ∷ s) w n l f (omega arith))
+pour-later t s₀ w₀ s (c ∷ w) n l f h = go (ltb t (tightness c)) refl (pour-later t s₀ w₀ (c ∷ s) w n l f (omega arith))
   where
-    go : (b : Bool) → leb t (tightness c) ≡ b → Grows (writing s₀ w₀ n l f) (pour t (c ∷ s) w n l f) → Grows (writing s₀ w₀ n l f) (pour t s (c ∷ w) n l f)
+    go : (b : Bool) → ltb t (tightness c) ≡ b → Grows (writing s₀ w₀ n l f) (pour t (c ∷ s) w n l f) → Grows (writing s₀ w₀ n l f) (pour t s (c ∷ w) n l f)
     go true e g = rw (pour, e) g
     go false e g = rw (pour, e) (record { mended = λ e. e; longer = h })
 
@@ -137,15 +133,15 @@ stackings-later o =
     and-later same-later
     (and-later (more-later max-statements)
     (and-later (more-later max-steps)
-    (and-later opened-later
+    (and-later (opened-later 0)
     (and-later counted-later
-    (and-later (operated-later o) (and-later (then-later counted opened counted-later opened-later) none-later))))))
+    (and-later (opened-later o) (and-later (then-later counted (opened 0) counted-later (opened-later 0)) none-later))))))
 
 pourings-later : (o : ℕ) → AllLater (pourings o)
 unfolding pourings begun
 pourings-later o =
     and-later same-later
-    (and-later (then-later (poured 1) passed (poured-later 1) passed-later) (and-later (poured-later (suc (tightness o))) none-later))
+    (and-later (then-later (poured 0) passed (poured-later 0) passed-later) (and-later (poured-later (tightness o)) none-later))
 
 spelt-later : (c v : ℕ) → Later (spelt c v)
 unfolding spelt
@@ -241,14 +237,27 @@ within-kept room (writing s w n l false) = refl
 pub kept-within : (room : ℕ) (x y : Writing) → kept x ≡ kept y → within room x ≡ within room y
 kept-within room x y e = sym (within-kept room x) ∙ ap (within room) e ∙ within-kept room y
 
-pub spelt-within : (room c v : ℕ) (x y : Writing) → within room x ≡ within room y → within room (spelt c v x) ≡ within room (spelt c v y)
-spelt-within room c v x y k = go (fits room x) refl
+within-later : (h : Writing → Writing) → Later h → (room : ℕ) (x y : Writing) → within room x ≡ within room y → within room (h x) ≡ within room (h y)
+within-later h p room x y k = go (fits room x) refl
   where
-    go : (t : Bool) → fits room x ≡ t → within room (spelt c v x) ≡ within room (spelt c v y)
-    go true e = ap (λ z. within room (spelt c v z)) (within-one room x y e k)
+    go : (t : Bool) → fits room x ≡ t → within room (h x) ≡ within room (h y)
+    go true e = ap (λ z. within room (h z)) (within-one room x y e k)
     go false e =
-        within-unfit room (spelt c v x) (grown-unfit room x (spelt c v x) (spelt-later c v x) e)
-        ∙ sym (within-unfit room (spelt c v y) (grown-unfit room y (spelt c v y) (spelt-later c v y) (sym (fits-within room x y k) ∙ e)))
+        within-unfit room (h x) (grown-unfit room x (h x) (p x) e)
+        ∙ sym (within-unfit room (h y) (grown-unfit room y (h y) (p y) (sym (fits-within room x y k) ∙ e)))
+
+pub passed-within : (room : ℕ) (x y : Writing) → within room x ≡ within room y → within room (passed x) ≡ within room (passed y)
+passed-within room x y k = within-later passed passed-later room x y k
+
+pub spelt-within : (room c v : ℕ) (x y : Writing) → within room x ≡ within room y → within room (spelt c v x) ≡ within room (spelt c v y)
+spelt-within room c v x y k = within-later (spelt c v) (spelt-later c v) room x y k
+
+-- what is poured over more bytes than there is room for is more
+pub pour-unfit : (room t : ℕ) (s w n : List ℕ) (l : ℕ) (f : Bool) → room < length s → fits room (pour t s w n l f) ≡ false
+unfolding fits
+pour-unfit room t s w n l f h =
+    grown-unfit room (writing s w n l f) (pour t s w n l f) (pour-later t s w s w n l f (omega arith))
+    (rw (lt-leb (length s) room h) (and-false f))
 
 -- The number of a literal -------------------------------------------------------------------------------
 

@@ -4,7 +4,7 @@ use native.Mathlib.Omega.{arith}
 use mathlib.Core.Path.{_≡_, refl, ap, _∙_}
 use mathlib.Core.Bool.{Bool}
 use mathlib.Core.List.{List, [], _∷_, _++_}
-use borrow.Author.Tests.{le-leb, lt-leb}
+use borrow.Author.Tests.{lt-ltb, le-ltb}
 use Rattle.program.specs.Tree.{Op, Op.op-eq, Op.op-ne, Op.op-le, Op.op-ge, Op.op-lt, Op.op-gt, Op.op-mul, Op.op-div, Op.op-rem, Op.op-add, Op.op-sub, Op.op-and}
 use Rattle.program.specs.Tree.{Op.op-or}
 use Rattle.program.specs.Encoding.{op-code}
@@ -82,19 +82,19 @@ upto-up l m (c ∷ w) h u = omega arith
 
 module _ (n : List ℕ) (k : ℕ) (f : Bool) where
   -- an operator lets tighter ones go first, and what is looser or none waits on
-  stays : (l : ℕ) (s w : List ℕ) → Upto l w → pour (suc (suc l)) s w n k f ≡ writing s w n k f
+  stays : (l : ℕ) (s w : List ℕ) → Upto l w → pour (suc l) s w n k f ≡ writing s w n k f
   unfolding pour Upto
   stays l s [] u = refl
-  stays l s (c ∷ w) u = rw (lt-leb (suc (suc l)) (tightness c) (omega arith), pour) refl
+  stays l s (c ∷ w) u = rw (le-ltb (suc l) (tightness c) u, pour) refl
 
-  pour-row : (t : ℕ) (os : List Op) (s w : List ℕ) → From t os → pour (suc t) s (waiting os w) n k f ≡ pour (suc t) (spilt os s) w n k f
+  pour-row : (t : ℕ) (os : List Op) (s w : List ℕ) → From t os → pour t s (waiting os w) n k f ≡ pour t (spilt os s) w n k f
   unfolding pour From waiting spilt
   pour-row t [] s w g = refl
   pour-row t (o ∷ os) s w g =
-      rw (le-leb (suc t) (tightness (op-code o)) (omega (arith, tight-op o, g .0)), pour) (pour-row t os (op-code o ∷ s) w (g .1))
+      rw (lt-ltb t (tightness (op-code o)) (omega (arith, tight-op o, g .0)), pour) (pour-row t os (op-code o ∷ s) w (g .1))
 
   pub pours-tighter : (l : ℕ) (os : List Op) (s w : List ℕ) → From (suc l) os → Upto l w
-      → poured (suc (suc l)) (writing s (waiting os w) n k f) ≡ writing (spilt os s) w n k f
+      → poured (suc l) (writing s (waiting os w) n k f) ≡ writing (spilt os s) w n k f
   unfolding poured
   pours-tighter l os s w g u = pour-row (suc l) os s w g ∙ stays l (spilt os s) w u
 

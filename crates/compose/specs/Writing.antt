@@ -46,16 +46,14 @@ unfoldable pub more : ℕ → Writing → Writing
 more limit (writing s [] n l f) = writing s [] n l false
 more limit (writing s (c ∷ w) n l f) = writing s (suc c ∷ w) n l (f && ltb c limit)
 
-unfoldable pub opened : Writing → Writing
-opened (writing s w n l f) = writing s (0 ∷ w) n l f
+-- one more waits: an operator, the end of an expression, or the count of a row that ends
+unfoldable pub opened : ℕ → Writing → Writing
+opened c (writing s w n l f) = writing s (c ∷ w) n l f
 
 -- a count is written
 unfoldable pub counted : Writing → Writing
 counted (writing s [] n l f) = writing s [] n l false
 counted (writing s (c ∷ w) n l f) = writing (c ∷ s) w n l f
-
-unfoldable pub operated : ℕ → Writing → Writing
-operated o (writing s w n l f) = writing s (o ∷ w) n l f
 
 -- how tight an operator binds, by its byte, above 0: or, and, comparisons, sums, products
 unfoldable pub tightness : ℕ → ℕ
@@ -71,11 +69,11 @@ tightness c =
       ]
     ]
 
--- the operators that wait are written, the last one first, down to one that is not so tight
+-- the operators that wait are written, the last one first, down to one that is not tighter than t
 unfoldable pub pour : ℕ → List ℕ → List ℕ → List ℕ → ℕ → Bool → Writing
 unfolding tightness
 pour t s [] n l f = writing s [] n l f
-pour t s (c ∷ w) n l f = elim (leb t (tightness c)) [ true ↦ pour t (c ∷ s) w n l f | false ↦ writing s (c ∷ w) n l f ]
+pour t s (c ∷ w) n l f = elim (ltb t (tightness c)) [ true ↦ pour t (c ∷ s) w n l f | false ↦ writing s (c ∷ w) n l f ]
 
 unfoldable pub poured : ℕ → Writing → Writing
 unfolding pour
@@ -88,7 +86,7 @@ passed (writing s (c ∷ w) n l f) = writing s w n l f
 
 unfoldable pub begun : Writing → Writing
 unfolding poured passed
-begun x = passed (poured 1 x)
+begun x = passed (poured 0 x)
 
 -- What each role does, by its byte ---------------------------------------------------------------
 
@@ -108,20 +106,20 @@ behinds v =
 -- what waits is written first: nothing; where an expression begins; what is tighter than an operator
 unfoldable pub pourings : ℕ → List (Writing → Writing)
 unfolding begun poured
-pourings o = (λ w. w) ∷ begun ∷ poured (suc (tightness o)) ∷ []
+pourings o = (λ w. w) ∷ begun ∷ poured (tightness o) ∷ []
 
 -- what waits: nothing changes; one more in a row of statements or items; one more step; a row or an expression ends; a row begins; an operator; a row begins
 -- and another ends
 unfoldable pub stackings : ℕ → List (Writing → Writing)
-unfolding more opened counted operated
+unfolding more opened counted
 stackings o =
     (λ w. w)
     ∷ more max-statements
     ∷ more max-steps
-    ∷ opened
+    ∷ opened 0
     ∷ counted
-    ∷ operated o
-    ∷ (λ w. opened (counted w))
+    ∷ opened o
+    ∷ (λ w. opened 0 (counted w))
     ∷ []
 
 -- words, signs, operators, other tokens, names, types, parts

@@ -32,7 +32,7 @@ use Rattle.derive.specs.Roles.{type-number, part-code, code, roles-later, roles
 use Rattle.resolve.specs.Numbers.{expr-numbers, exprs-numbers}
 use Rattle.resolve.specs.Outcomes.{onto, onto-both}
 use Rattle.compose.specs.Writing.{Writing, Writing.writing}
-use Rattle.compose.specs.Writing.{opened, tightness, poured, begun, operated, put, writes}
+use Rattle.compose.specs.Writing.{opened, tightness, poured, begun, put, writes}
 use Rattle.compose.specs.WaitingLaws.{tight-op, From, Upto, waiting, spilt, from-down, from-end, waiting-end, spilt-end, from-tightest, upto-up}
 use Rattle.compose.specs.WaitingLaws.{pours-tighter, pours-all}
 use Rattle.compose.specs.Checks.{checks-expr, checks-exprs}
@@ -150,7 +150,7 @@ negation-left : {e : Exp} {c : Expr} → LeavesExp tightest e c → (l : ℕ) �
 unfolding roles-exp expr-numbers enc-expr checks-expr written
 negation-left q l m = record { there = λ {w = w} a h. none-wait l (leaves (ap (put 22 0) (none-waits (q .there (upto-up l tightest w m a) h)))) }
 
-operator-left : (o : Op) (x : Writing) → put (op-kind o) 0 x ≡ operated (op-code o) (poured (suc (tightness (op-code o))) x)
+operator-left : (o : Op) (x : Writing) → put (op-kind o) 0 x ≡ opened (op-code o) (poured (tightness (op-code o)) x)
 unfolding put op-kind op-code
 operator-left op-eq x = refl
 operator-left op-ne x = refl
@@ -169,13 +169,13 @@ operator-left op-or x = refl
 -- it waits where no tighter one does
 operator-waits : (l : ℕ) (o : Op) {k : List Role} {z : Writing} {t w n : List ℕ} {f : Bool} → l ≤ level o → Upto l w
     → Waits (suc (level o)) k z t w n f → Leaves (plain (op o) ∷ k) z (writing t (op-code o ∷ w) n 0 f)
-unfolding operated written
+unfolding opened written
 operator-waits l o {k} {z} {t} {w} {n} {f} m u h =
     leaves
     (operator-left o (written k z)
-    ∙ ap (λ x. operated (op-code o) (poured (suc (tightness (op-code o))) x)) (left (h .all))
-    ∙ ap (λ i. operated (op-code o) (poured (suc i) (writing (h .bytes) (waiting (h .ops) w) n 0 f))) (tight-op o)
-    ∙ ap (operated (op-code o)) (pours-tighter n 0 f (level o) (h .ops) (h .bytes) w (h .tight) (upto-up l (level o) w m u))
+    ∙ ap (λ x. opened (op-code o) (poured (tightness (op-code o)) x)) (left (h .all))
+    ∙ ap (λ i. opened (op-code o) (poured i (writing (h .bytes) (waiting (h .ops) w) n 0 f))) (tight-op o)
+    ∙ ap (opened (op-code o)) (pours-tighter n 0 f (level o) (h .ops) (h .bytes) w (h .tight) (upto-up l (level o) w m u))
     ∙ ap (λ b. writing b (op-code o ∷ w) n 0 f) (h .are))
 
 -- and what waits in its left operand stands before it
@@ -236,7 +236,7 @@ list-some {c = c} {es = es} {cs = cs} p q =
     record {
       all = λ {k} {z} {s} {w} {n} {f} h.
           let g = q .all (first-then (expr-numbers c) (exprs-numbers cs) n h) in
-          as-one (enc-expr c) (enc-exprs cs) s (leaves (ap opened (ended p g)));
+          as-one (enc-expr c) (enc-exprs cs) s (leaves (ap (opened 0) (ended p g)));
     }
 
 args-none : LeavesExps no-exps none
