@@ -1,17 +1,18 @@
 /* How much stack the exported entries use: each call runs on a painted stack of its own, and what is no longer paint was used. The images nest as deep as 01
- * allows, every way of nesting among them, and are as long, or are damaged; the most bytes of each entry are printed. */
+ * allows, every way of nesting among them, and are as long, or are damaged; texts nest as deep as 65,536 bytes hold. The most bytes of each are printed. */
 #include "audala.h"
 #include <stdio.h>
 #include <stdlib.h>
 #include <string.h>
 #include <ucontext.h>
 
-enum { STACK = 1 << 19, PAINT = 0xA5, STREAM = 32256, IMAGE = 32768, TABLE = 8704, ENTRIES = 5 };
+enum { STACK = 1 << 19, PAINT = 0xA5, STREAM = 32256, IMAGE = 32768, TABLE = 8704, TEXT = 65536, ENTRIES = 5 };
 
 static uint8_t stack[STACK], image[IMAGE + 1], table[TABLE + 1], output[AUDALA_OUTPUT_BYTES], stream[STREAM], buffer[IMAGE];
 static uint8_t turns[AUDALA_MOST_TURNS + 1];
+static char text[TEXT + 2];
 static uint64_t list[AUDALA_LIST_PLACES];
-static size_t image_length, table_length, turn_count, used;
+static size_t image_length, table_length, turn_count, used, text_length, worst_text;
 static ucontext_t caller, callee;
 static size_t worst[ENTRIES];
 static uint32_t number;
@@ -23,6 +24,7 @@ static void run(void) {
 }
 static void read_image(void) { number = audala_read_image(image, image_length, AUDALA_PROGRAM_MOST, buffer, sizeof buffer).number; }
 static void write_image(void) { number = audala_write_image(stream, used, AUDALA_PROGRAM_MOST, buffer, sizeof buffer).number; }
+static void read_text(void) { number = audala_text((const uint8_t *)text, text_length, buffer, sizeof buffer).number; }
 static void nothing(void) {}
 
 /* The bytes of a painted stack that a call leaves changed. */
@@ -174,6 +176,47 @@ static void every(void) {
     printf("%u ways of nesting                check: %zu  step: %zu  run: %zu\n", programs, most[0], most[1], most[2]);
 }
 
+/* A text: its front, as many openings as there is room for, what stands innermost, as many closings, its end. Without the end it is cut behind the openings. */
+static void deep(const char *front, const char *open, const char *inner, const char *close, const char *end) {
+    size_t fixed = strlen(front) + (end ? strlen(inner) + strlen(end) : 0);
+    size_t pairs = (TEXT - fixed) / (strlen(open) + (end ? strlen(close) : 0));
+    char *at = text;
+    at = stpcpy(at, front);
+    for (size_t i = 0; i < pairs; i++) at = stpcpy(at, open);
+    if (end) {
+        at = stpcpy(at, inner);
+        for (size_t i = 0; i < pairs; i++) at = stpcpy(at, close);
+        at = stpcpy(at, end);
+    }
+    text_length = at - text;
+    size_t bytes = touched(read_text) - touched(nothing);
+    printf("%6zu times %-16s text %u: %zu\n", pairs, open, number, bytes);
+    if (bytes > worst_text) worst_text = bytes;
+}
+
+/* Every way in which a text nests, closed and cut off. */
+static void texts(void) {
+    static const char *const ways[][5] = {
+        {"struct P(b:Bool){s{b:=", "(", "b", ")", ";}}s"},
+        {"struct P(b:Bool){s{b:=", "!", "b", "", ";}}s"},
+        {"struct P(b:Bool){s{b:=", "(b&&", "b", ")", ";}}s"},
+        {"struct P(b:Bool){s{b:=", "(", "b", "&&b)", ";}}s"},
+        {"struct P(p:P){s{p:=", "P(", "p", ")", ";}}s"},
+        {"struct P(p:P){s{", "P(", "p", ")", ";}}s"},
+        {"struct P(b:Bool){s{", "if b then{", "b:=b;", "}", "}}s"},
+        {"struct P(){s{}}", "Fix(", "s", ")", ""},
+        {"struct P(b:Bool){s{b:=", "/**/", "b", "", ";}}s"},
+        {"struct P(p:P){s{p:=p", ".p", "", "", ";}}s"},
+        {"", "struct P(){}", "s", "", ""},
+    };
+    for (size_t i = 0; i < sizeof ways / sizeof *ways; i++) {
+        deep(ways[i][0], ways[i][1], ways[i][2], ways[i][3], ways[i][4]);
+        deep(ways[i][0], ways[i][1], ways[i][2], ways[i][3], NULL);
+    }
+    deep("struct P(b:Bool){s{b:=b;}}s", " ", "", "", "");
+    deep("struct P(b:Bool){s{b:=b;}}s/*", "*", "*/", "", "");
+}
+
 int main(void) {
     uint8_t records[2 + 255 * 5] = {255, 0}, pairs[2 + 255 * 9] = {255, 0};
     table_length = seal(table, records, sizeof records);
@@ -192,6 +235,8 @@ int main(void) {
     program(1, 8, 3, 8), table_length = TABLE + 1, row("table too long");
     table_length = seal(table, records, sizeof records), table[9] = 7, row("table damaged");
     table_length = seal(table, pairs, sizeof pairs), every();
-    printf("most bytes of stack: check %zu, step %zu, run %zu, an image read %zu, written %zu\n", worst[0], worst[1], worst[2], worst[3], worst[4]);
+    texts();
+    printf("most bytes of stack: check %zu, step %zu, run %zu, an image read %zu, written %zu, a text read %zu\n", worst[0], worst[1], worst[2], worst[3],
+           worst[4], worst_text);
     return 0;
 }

@@ -1,6 +1,6 @@
 #!/usr/bin/env bash
-# Builds the static library and prints how many bytes of stack each exported entry uses, at most, on images that nest deep, are long or damaged. Not part of
-# the gate.
+# Builds the static library and prints how many bytes of stack each exported entry uses, at most, on images that nest deep, are long or damaged, and on texts
+# that nest as deep as they are long. Not part of the gate.
 set -euo pipefail
 here=$(cd "$(dirname "$0")" && pwd)
 top=$(cd "$here/.." && pwd)

@@ -1,8 +1,8 @@
 #!/usr/bin/env bash
-# Reads each text of examples/texts with the second reader, lists and runs its
-# image with the proved programs, and holds both to the second engine and to
-# what the text's .runs file says: for each list of turns the number, the turns
-# taken and the last table.
+# Reads each text of examples/texts, lists and runs its image with the proved
+# programs, and holds them to the second reader and engine and to what the text's
+# .runs file says: for each list of turns the number, the turns taken and the
+# last table. In the gate audala_cases reads the same texts (second/compare.sh).
 #
 #   texts.sh        fails where something differs
 #   texts.sh write  writes the .runs files anew, for the lists of turns in them
@@ -22,7 +22,7 @@ case ${1-} in
     ;;
 esac
 
-(cd "$top" && ${RT-rt} check audala_list audala_run audala_table audala_cases >&2)
+(cd "$top" && ${RT-rt} check audala_text audala_list audala_run audala_table audala_cases >&2)
 cargo build --quiet --offline --release --jobs 1 --workspace --manifest-path "$top/second/Cargo.toml"
 second=${CARGO_TARGET_DIR:-$top/second/target}/release
 
@@ -68,7 +68,9 @@ gives() {
 runs=0
 for text in "$here"/texts/*.audala; do
     name=$(basename "$text" .audala)
-    "$second/text_image" <"$text" >"$work/program" || fail "$name is not read"
+    "$bin/audala_text" <"$text" >"$work/program"
+    [ -s "$work/program" ] || fail "$name is not read"
+    "$second/text_image" <"$text" | cmp -s - "$work/program" || fail "the images of $name differ"
     "$bin/audala_list" <"$work/program" >"$work/listing"
     grep -q '^audala ' "$work/listing" || fail "$name: $(cat "$work/listing")"
     "$second/second" listing <"$work/program" | cmp -s - "$work/listing" || fail "the listings of $name differ"

@@ -1,4 +1,4 @@
-/* The AuDaLa checker and engine for C. Link with libaudala.a (rt staticlib audala), which is built for x86-64 under the System V
+/* The AuDaLa checker, engine and reader of program text for C. Link with libaudala.a (rt staticlib audala), which is built for x86-64 under the System V
  * calling convention by today's toolchain.
  *
  * What the functions answer, and every byte that they write, is fixed by their proved contracts; formats and numbers are set out in
@@ -7,8 +7,9 @@
  *   alignment  a list is aligned to 8 bytes, as a uint64_t array is; byte buffers may stand anywhere;
  *   null       a null pointer may stand for an empty buffer, with length 0;
  *   threads    the library has no data of its own: calls may go on at the same time, each with buffers of its own;
- *   stack      a check or a step takes at most 48 KB, a run at most 112 KB, reading and writing images less than 1 KB: measured with this compiler on images
- *              that nest as deep as the format allows (bench/stack.sh). Levels of nesting bound it, not lengths, and no input takes more. */
+ *   stack      a check or a step takes at most 48 KB, a run at most 112 KB, reading and writing images less than 1 KB, reading program text at most XXX KB:
+ *              measured with this compiler on images and texts that nest as deep as they can (bench/stack.sh). Of images levels of nesting bound it, not
+ *              lengths; of a text neither does, and no input takes more. */
 #ifndef AUDALA_H
 #define AUDALA_H
 
@@ -19,9 +20,9 @@
 extern "C" {
 #endif
 
-/* The numbers that the functions answer. 1 to 14 are from the input: nothing is written. 33 to 35 are from the state: the run
+/* The numbers that the functions answer. 1 to 17 are from the input: nothing is written. 33 to 35 are from the state: the run
  * stopped, and its table up to there is written. Where several hold the lowest is answered; of 2 and 3, of 4 and 5, and of 11 and
- * 12 the one that is met first in the image. */
+ * 12 the one that is met first in the image. Of program text 15 is answered before 16, 16 before 17 and 17 before 13. */
 typedef enum {
     AUDALA_DONE = 0,             /* accepted; of a run: it came to its schedule's end */
     AUDALA_PROGRAM_SIZE = 1,     /* program image empty, over 32,768 bytes or no multiple of 512: send it again */
@@ -38,6 +39,9 @@ typedef enum {
     AUDALA_TABLE_RECORD = 12,    /* a record with a wrong struct, value or reference, or too many of them */
     AUDALA_NO_ROOM = 13,         /* the list or the output is too short: see the macros below */
     AUDALA_TOO_MANY_TURNS = 14,  /* more than 65,536 turn bytes */
+    AUDALA_TEXT_TOKEN = 15,      /* program text over 65,536 bytes, an unclosed comment, or characters that are no token */
+    AUDALA_TEXT_GRAMMAR = 16,    /* program text that the grammar does not derive */
+    AUDALA_TEXT_NAME = 17,       /* program text with a name, a literal, arguments or a count that no program stream has */
     AUDALA_OUT_OF_TURNS = 33,    /* the turn bytes are used up while commands remain: hand in more */
     AUDALA_TABLE_FULL = 34,      /* an instance was to be made and there are 256 */
     AUDALA_ARITHMETIC = 35       /* a result outside its type, or a division by zero */
@@ -100,9 +104,9 @@ audala_report audala_run(const uint8_t *program, size_t program_length, const ui
 #define AUDALA_PROGRAM_MOST 64
 #define AUDALA_TABLE_MOST 17
 
-/* What reading or writing an image answers. */
+/* What reading or writing an image, or reading program text, answers. */
 typedef struct {
-    uint32_t number; /* 0: done; 1 to 3: see below (audala_number); 13: the buffer is too short */
+    uint32_t number; /* 0: done; 1 to 3, 15 to 17: see below (audala_number); 13: the buffer is too short */
     size_t count;    /* bytes of the stream, or blocks of the image, that were written; 0 where the number is not */
 } audala_copied;
 
@@ -113,6 +117,16 @@ audala_copied audala_read_image(const uint8_t *image, size_t length, size_t most
 /* The image of a stream in at most `most` blocks, in the front of the output; later bytes are untouched. 1: the stream is empty or longer
  * than 504 * most. A refusal leaves the output. */
 audala_copied audala_write_image(const uint8_t *stream, size_t length, size_t most, uint8_t *output, size_t room);
+
+/* Bytes of the output that program text asks for, else 13; bytes that a text has at most, else 15. */
+#define AUDALA_IMAGE_BYTES 32768
+#define AUDALA_MOST_TEXT 65536
+
+/* The image of the program that a text of `length` bytes means, in the front of the output; later bytes are untouched. The count is that of its
+ * blocks of 512 bytes. 15: no tokens; 16: no derivation; 17: no program; 13: the output is too short. A refusal leaves the output. What is
+ * written, the first 512 * count bytes, is to be checked like any image: audala_check, with a list of AUDALA_LIST_PLACES, then answers
+ * 0, 5, 6, 7 or 8. */
+audala_copied audala_text(const uint8_t *text, size_t length, uint8_t *output, size_t room);
 
 #ifdef __cplusplus
 }

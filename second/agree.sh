@@ -2,8 +2,8 @@
 # Compares the proved engine with the second by their lines on cases
 # (docs/CASES.md).
 #
-#   agree.sh             the committed cases
-#   agree.sh SEED COUNT  and COUNT seeded cases, in chunks
+#   agree.sh             the committed cases and texts
+#   agree.sh SEED COUNT  and COUNT seeded cases and as many texts, in chunks
 set -euo pipefail
 
 here=$(cd "$(dirname "$0")" && pwd)
@@ -39,15 +39,18 @@ agree() {
     total=$((total + $(wc -l <"$work/engine.txt")))
 }
 
-cp "$here/cases/cases.bin" "$here/cases/expected.txt" "$work/"
-agree "the committed cases"
+cat "$here/cases/cases.bin" "$here/cases/texts.bin" >"$work/cases.bin"
+cat "$here/cases/expected.txt" "$here/cases/texts.txt" >"$work/expected.txt"
+agree "the committed cases and texts"
 seed=${1-0}
 left=${2-0}
 while [ "$left" -gt 0 ]; do
     count=$((left < chunk ? left : chunk))
-    "$second" generate "$seed" "$count" >"$work/cases.bin"
-    "$second" <"$work/cases.bin" >"$work/expected.txt"
-    agree "'second generate $seed $count'"
+    for word in generate texts; do
+        "$second" $word "$seed" "$count" >"$work/cases.bin"
+        "$second" <"$work/cases.bin" >"$work/expected.txt"
+        agree "'second $word $seed $count'"
+    done
     left=$((left - count))
     seed=$((seed + 1))
 done

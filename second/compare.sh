@@ -4,10 +4,12 @@
 #   compare.sh                           the committed cases and answers are
 #                                        what the package makes now
 #   compare.sh write                     writes them anew
-#   compare.sh many SEED COUNT OTHER...  the edges and COUNT seeded cases, in
-#                                        chunks, answered by both engines;
-#                                        OTHER... reads cases, prints lines
+#   compare.sh many SEED COUNT OTHER...  the edges and COUNT seeded cases, and
+#                                        as many texts, in chunks, answered by
+#                                        both; OTHER... reads cases, prints lines
 set -euo pipefail
+# files in the same order everywhere
+export LC_ALL=C
 
 here=$(cd "$(dirname "$0")" && pwd)
 # the proved engine's program, which rt hands the same cases
@@ -26,6 +28,22 @@ build() {
     trap 'rm -rf "$work"' EXIT
 }
 
+# a number as four bytes, the lowest first
+four() {
+    printf "$(printf '\\x%02x\\x%02x\\x%02x\\x%02x' $(($1 & 255)) $(($1 >> 8 & 255)) $(($1 >> 16 & 255)) $(($1 >> 24 & 255)))"
+}
+
+# each text of examples/ as a case, with the output that an image needs
+examples() {
+    local text
+    for text in "$here"/../examples/*.audala "$here"/../examples/texts/*.audala; do
+        printf '\x03'
+        four 32768
+        four "$(wc -c <"$text")"
+        cat "$text"
+    done
+}
+
 make_committed() {
     {
         "$second" edges
@@ -35,8 +53,18 @@ make_committed() {
     {
         "$second" texts
         "$second" texts 1 200
+        examples
     } >"$work/texts.bin"
     "$second" <"$work/texts.bin" >"$work/texts.txt"
+}
+
+# What the proved engine's program is handed, and its answers: the cases and behind them the texts.
+cases() {
+    cat "$here/cases/cases.bin" "$here/cases/texts.bin"
+}
+
+answers() {
+    cat "$here/cases/expected.txt" "$here/cases/texts.txt"
 }
 
 # The committed file $1 is the one made now; of answers, up to ten lines that differ.
@@ -56,7 +84,7 @@ same_as_committed() {
     for file in cases.bin expected.txt texts.bin texts.txt; do
         as_committed "$file"
     done
-    if ! { cmp "$here/cases/cases.bin" "$program/stdin" && cmp "$here/cases/expected.txt" "$program/stdout"; }; then
+    if ! { cmp <(cases) "$program/stdin" && cmp <(answers) "$program/stdout"; }; then
         echo "compare: audala_cases is handed other cases" >&2
         exit 1
     fi
@@ -82,15 +110,19 @@ answer_both() {
 }
 
 many() {
-    local seed=$1 left=$2 count
+    local seed=$1 left=$2 count word
     shift 2
     total=0
-    "$second" edges >"$work/cases.bin"
-    answer_both edges "$@"
+    for word in edges texts; do
+        "$second" $word >"$work/cases.bin"
+        answer_both $word "$@"
+    done
     while [ "$left" -gt 0 ]; do
         count=$((left < chunk ? left : chunk))
-        "$second" generate "$seed" "$count" >"$work/cases.bin"
-        answer_both "generate $seed $count" "$@"
+        for word in generate texts; do
+            "$second" $word "$seed" "$count" >"$work/cases.bin"
+            answer_both "$word $seed $count" "$@"
+        done
         left=$((left - count))
         seed=$((seed + 1))
     done
@@ -106,8 +138,8 @@ write)
     build
     make_committed
     cp "$work/cases.bin" "$work/expected.txt" "$work/texts.bin" "$work/texts.txt" "$here/cases/"
-    cp "$work/cases.bin" "$program/stdin"
-    cp "$work/expected.txt" "$program/stdout"
+    cases >"$program/stdin"
+    answers >"$program/stdout"
     ;;
 many)
     [ $# -ge 4 ] || usage

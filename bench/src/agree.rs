@@ -2,7 +2,7 @@
 use crate::proved;
 use second::cases::{Case, OUTPUT_FILL};
 use second::coding::{LIST_FILL, coded};
-use second::generate::Generator;
+use second::generate::{Generator, texts};
 use std::collections::BTreeMap;
 
 /// The same case through both engines; the number answered.
@@ -34,20 +34,31 @@ pub fn answered(case: &Case) -> u32 {
             assert!(mine.iter().copied().eq(theirs.iter().map(|place| coded(*place))), "the lists differ: {case:?}");
             a.number
         }
-        Case::Text { .. } => panic!("the generator of checks and runs makes no text"),
+        Case::Text { output, text } => {
+            let (mut out, mut other) = (vec![OUTPUT_FILL; *output], vec![OUTPUT_FILL; *output]);
+            let a = proved::read(text, &mut out);
+            let b = text::read(text, &mut other);
+            assert_eq!((a.number, a.count), (u32::from(b.number), b.blocks), "{case:?}");
+            assert!(out == other, "the images differ: {case:?}");
+            a.number
+        }
     }
 }
 
-/// So many cases from seed 1 on, and how often each number was answered.
+/// So many cases and so many texts from seed 1 on, and how often each number was answered.
 pub fn compare(count: usize) {
     let mut generator = Generator::new(1);
-    let (mut checks, mut runs) = (BTreeMap::new(), BTreeMap::new());
+    let (mut checks, mut runs, mut read) = (BTreeMap::new(), BTreeMap::new(), BTreeMap::new());
     for _ in 0..count {
         let case = generator.next_case();
         let kind = if matches!(case, Case::Check { .. }) { &mut checks } else { &mut runs };
         *kind.entry(answered(&case)).or_insert(0u32) += 1;
     }
+    for index in 0..count as u64 {
+        *read.entry(answered(&texts::case(1, index))).or_insert(0u32) += 1;
+    }
     println!("checks by number: {checks:?}");
     println!("runs by number: {runs:?}");
-    println!("{count} cases: both engines agree");
+    println!("texts by number: {read:?}");
+    println!("{count} cases and {count} texts: both engines agree");
 }

@@ -1,10 +1,12 @@
 //! Times both engines on the same images in one process, by groups of calls in which they take turns, and holds their answers
 //! together. Checks: P, the program with the most commands, the longest that is accepted, and an image of 64 blocks that is refused
-//! at its last byte. Runs: 65,536 turns with 2 to 256 instances. With a number as its argument it compares the answers to so many
-//! generated cases, with the word `operators` those of every operator on corner values.
+//! at its last byte. Runs: 65,536 turns with 2 to 256 instances. Texts: P's, and texts of 64 KB and half as long. With a number as its
+//! argument it compares the answers to so many generated cases and texts, with the word `operators` those of every operator on
+//! corner values; with the word `texts` it times texts alone.
 mod agree;
 mod operators;
 mod proved;
+mod texts;
 
 use proved::{check as proved, run as proved_run};
 use second::cases::OUTPUT_FILL;
@@ -130,6 +132,7 @@ fn compare_runs(instances: u32, kind: &str, turns: &[u8]) {
 fn main() {
     match std::env::args().nth(1).as_deref() {
         Some("operators") => return operators::compare(),
+        Some("texts") => return texts::compare(),
         Some(count) => return agree::compare(count.parse().expect("a number of cases")),
         None => {}
     }
@@ -144,4 +147,5 @@ fn main() {
         compare_runs(instances, "zero", &vec![0; 65_536]);
         compare_runs(instances, "random", &mixed);
     }
+    texts::compare();
 }

@@ -20,7 +20,15 @@ pub struct Report {
     pub holding: u32,
 }
 
+#[repr(C)]
+#[derive(Clone, Copy)]
+pub struct Copied {
+    pub number: u32,
+    pub count: usize,
+}
+
 unsafe extern "C" {
+    fn audala_text(text: *const u8, length: usize, output: *mut u8, room: usize) -> Copied;
     fn audala_check(image: *const u8, length: usize, list: *mut u64, places: usize) -> Verdict;
     fn audala_run(
         program: *const u8,
@@ -57,4 +65,9 @@ pub fn run(program: &[u8], table: &[u8], turns: &[u8], output: &mut [u8], list: 
             list.len(),
         )
     }
+}
+
+pub fn read(text: &[u8], output: &mut [u8]) -> Copied {
+    // SAFETY: it reads the text and writes the output within the lengths that it is handed.
+    unsafe { audala_text(text.as_ptr(), text.len(), output.as_mut_ptr(), output.len()) }
 }

@@ -166,6 +166,28 @@ fn run_case() -> Outcome {
     run_parts(places, room)
 }
 
+// What reading a text answers, as a line; whether it was written.
+fn answer_text(text: &[u8], output: &mut [u8]) -> bool {
+    let r = read_text::read(text, output);
+    let ns = [r.number as u64, r.blocks as u64, cases::bytes(output)];
+    let mut line = [0u8; 256];
+    let n = lines::row(&mut line, 0, b"text", &ns);
+    files::output(&line[..n])
+}
+
+// A case of kind 3.
+fn text_case() -> Outcome {
+    let Size::Of(room) = number(33792) else {
+        return Outcome::Malformed;
+    };
+    let mut text = [0u8; 66000];
+    let Size::Of(n) = part(&mut text) else {
+        return Outcome::Malformed;
+    };
+    let mut output = [165u8; 33792];
+    answered(answer_text(&text[..n], &mut output[..room]))
+}
+
 // The next case.
 fn next() -> Outcome {
     let mut kind = [0u8; 1];
@@ -177,6 +199,9 @@ fn next() -> Outcome {
     }
     if kind[0] == 2 {
         return run_case();
+    }
+    if kind[0] == 3 {
+        return text_case();
     }
     Outcome::Malformed
 }

@@ -1,4 +1,4 @@
-// Bytes in front of those that are written (`specs/Writing.antt`, 'Bytes').
+// Bytes in front of those that are written (`compose/specs/Writing.antt`, 'Bytes').
 use crate::Pen;
 ghost use mathlib.Core.Path.{_≡_};
 ghost use mathlib.Core.Bool.{false};

@@ -1,10 +1,10 @@
 // The stream of a text's steps and schedule, written from its end (02 §1): role by role over lent memory, so that no function follows the nesting of the text.
-pub mod bytes;
-pub mod header;
+mod bytes;
+mod header;
 mod pouring;
-pub mod roles;
+mod roles;
 mod table;
-pub mod waiting;
+mod waiting;
 
 use resolve::Word;
 use resolve::literals;
@@ -82,7 +82,7 @@ fn roomy(p: Pen) -> bool
 }
 
 // The stream from its end, at the end of the output, if counts keep to what a stream holds and its bytes leave the margin.
-pub fn write(text: &[u8], roles: &[u8], numbers: &[u8], stack: &mut [u8], out: &mut [u8]) -> Pen
+fn write(text: &[u8], roles: &[u8], numbers: &[u8], stack: &mut [u8], out: &mut [u8]) -> Pen
     requires { ⌜ (length (now roles) ≤ length (now text)) × (length (now roles) < length (now stack)) × (6 ≤ length (now out)) ⌝ }
     ensures { λ r. ⌜ kept (stands (now (out .exit)) (now (stack .exit)) (now (numbers .entry)) r)
         ≡ within (length (now (out .entry)) - 6)

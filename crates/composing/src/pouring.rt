@@ -1,4 +1,4 @@
-// Operators that waited and are written (`specs/Writing.antt`, 'What waits'): where a looser one comes, or their expression begins (02 §2).
+// Operators that waited and are written (`compose/specs/Writing.antt`, 'What waits'): where a looser one comes, or their expression begins (02 §2).
 use crate::Pen;
 use crate::bytes;
 use crate::waiting;

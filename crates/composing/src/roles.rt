@@ -1,4 +1,4 @@
-// What one role does to what is written (`specs/Writing.antt`, `put`).
+// What one role does to what is written (`compose/specs/Writing.antt`, `put`).
 use crate::Pen;
 use crate::bytes;
 use crate::pouring;

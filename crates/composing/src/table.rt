@@ -1,4 +1,4 @@
-// What each of the 81 roles does (`specs/Writing.antt`), as four tables; a number is the byte that is 48 above it.
+// What each of the 81 roles does (`compose/specs/Writing.antt`), as four tables; a number is the byte that is 48 above it.
 ghost use mathlib.Core.Path.{_≡_};
 ghost use Prim.Native.Nat.{_<_};
 ghost use lib.ListN.{length, getD};

@@ -1,4 +1,4 @@
-// Operators, ends of expressions and counts that wait on a lent stack (`specs/Writing.antt`, 'What waits').
+// Operators, ends of expressions and counts that wait on a lent stack (`compose/specs/Writing.antt`, 'What waits').
 use crate::Pen;
 use crate::bytes;
 ghost use mathlib.Core.Path.{_≡_};

@@ -117,7 +117,7 @@ fn below(stack: &mut [u8], h: usize, k: u8) -> Mark
 }
 
 // One token.
-fn step(stack: &mut [u8], m: Mark, k: u8) -> Mark
+pub fn step(stack: &mut [u8], m: Mark, k: u8) -> Mark
     requires { ⌜ m .height < length (now stack) ⌝ }
     ensures { λ r. ⌜ Kept (r .state) (r .height) (now (stack .exit)) (move (shape (m .state) (held (now (stack .entry)) (m .height))) (sample k)) ⌝ }
     ensures { λ r. ⌜ (r .height ≤ m .height + 1) × (length (now (stack .exit)) ≡ length (now (stack .entry))) ⌝ }

@@ -138,7 +138,7 @@ pub fn token(text: &[u8], at: usize) -> Spot
 }
 
 // The same where bytes may be left of what was taken before.
-fn place(text: &[u8], at: usize, left: usize) -> Spot
+pub fn place(text: &[u8], at: usize, left: usize) -> Spot
     requires { ⌜ at < length (now text) ⌝ }
     ensures { λ r. ⌜ r ≡ at-spot left (drop at (now (text .entry))) ⌝ }
 {

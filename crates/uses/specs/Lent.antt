@@ -1,11 +1,12 @@
--- How the pass over uses stands in lent memory (02 §1). Declarations are one table: places of structs, offsets of rows, places of parameters, bytes of their types,
--- places of step names, how many structs and names there are. A step's locals are another: those declared, those alive, their numbers, the bytes of their types,
--- each region filled from its end. Arguments due stand at the front of a stack, how many locals were alive before each open if at its end.
+-- How the pass over uses stands in lent memory (02 §1). Declarations are one table: places of structs, offsets of rows, places of parameters, bytes of their
+-- types, places of step names, how many structs and names there are. A step's locals are another: those declared, those alive, their numbers, the bytes of
+-- their types, each region filled from its end. Arguments due stand at the front of a stack, how many locals were alive before each open if at its end.
 use Prim.Native.Nat.{ℕ, _+_, _≤_, _<_}
 use mathlib.Core.Path.{_≡_}
 use mathlib.Core.List.{List, _∷_}
 use mathlib.Core.Option.{Option, none, some}
 use lib.ListN.{length, getD}
+use Rattle.meaning.specs.Meant.{then}
 use Rattle.derive.specs.Held.{held}
 use Rattle.resolve.specs.Named.{names-at}
 use Rattle.resolve.specs.Checks.{part-of}
@@ -15,6 +16,8 @@ use Rattle.uses.specs.PartLaws.{up-to}
 use Rattle.uses.specs.declared.Scope.{Scope}
 use Rattle.uses.specs.declared.Passed.{Passed}
 use Rattle.uses.specs.declared.Passed.the-variants.{Stop, On, Left}
+use Rattle.uses.specs.declared.Numbered.{Numbered}
+use Rattle.uses.specs.declared.Numbered.the-variants as numbered
 
 abbrev pub structs-of-table : List ℕ → ℕ
 structs-of-table t = getD t 321 0
@@ -22,8 +25,12 @@ structs-of-table t = getD t 321 0
 abbrev pub names-of-table : List ℕ → ℕ
 names-of-table t = getD t 322 0
 
-abbrev pub offset : List ℕ → ℕ → ℕ
-offset t k = getD t (16 + k) 0
+-- where the row of struct k begins and ends
+abbrev pub row-start : List ℕ → ℕ → ℕ
+row-start t k = getD t (16 + k) 0
+
+abbrev pub row-end : List ℕ → ℕ → ℕ
+row-end t k = getD t (16 + k + 1) 0
 
 unfoldable pub book-in : List ℕ → List ℕ → Book
 unfolding cuts
@@ -35,12 +42,18 @@ book-in x t =
       steps = names-at x (part-of t 289 (289 + names-of-table t));
     }
 
+-- the row of struct k: few parameters, and places for them
+pub record Rowed (t : List ℕ) (k : ℕ) : Type 0 where
+  pub up : row-start t k ≤ row-end t k
+  pub few : row-end t k ≤ row-start t k + 8
+  pub inner : row-end t k ≤ 128
+
 -- a table of which a book can be read
 pub record Booked (t : List ℕ) : Type 0 where
   pub long : length t ≡ 323
   pub structs : structs-of-table t ≤ 16
   pub names : names-of-table t ≤ 32
-  pub rows : (k : ℕ) → k < structs-of-table t → (offset t k ≤ offset t (1 + k)) × (offset t (1 + k) ≤ offset t k + 8) × (offset t (1 + k) ≤ 128)
+  pub rows : (k : ℕ) → k < structs-of-table t → Rowed t k
 
 unfoldable pub use-in : List ℕ → List ℕ → List ℕ → Scope → List ℕ → Use
 unfolding held
@@ -58,14 +71,18 @@ use-in x l k c o =
       out = o;
     }
 
+-- the numbers of n living locals are below 8
+abbrev pub Small : List ℕ → ℕ → Type 0
+Small l n = (i : ℕ) → 24 ≤ i + n → i < 24 → getD l i 0 < 8
+
 -- counts that memory has room for
-pub record Roomy (t l k : List ℕ) (c : Scope) : Type 0 where
+pub record Roomy (t l : List ℕ) (c : Scope) : Type 0 where
   pub long : length l ≡ 32
   pub begun : c .begun ≤ structs-of-table t
   pub met : c .met ≤ 8
   pub living : c .living ≤ c .met
   pub fresh : c .fresh ≤ c .living
-  pub stack : c .dues + c .bodies < length k
+  pub small : Small l (c .living)
 
 -- what a function answers
 unfoldable pub passed-in : List ℕ → List ℕ → List ℕ → Passed → List ℕ → Option Use
@@ -73,3 +90,26 @@ unfolding use-in
 passed-in x l k Stop o = none
 passed-in x l k (On c) o = some (use-in x l k c o)
 passed-in x l k (Left c n) o = some (use-in x l k c (n ∷ o))
+
+-- there is room for it, and one more stands on the stack at most
+abbrev pub Grown : Scope → Scope → Type 0
+Grown c d = d .dues + d .bodies ≤ c .dues + c .bodies + 1
+
+unfoldable pub Next : List ℕ → List ℕ → Scope → Passed → Type 0
+Next t l c Stop = Unit {0}
+Next t l c (On d) = Roomy t l d × Grown c d
+Next t l c (Left d n) = Roomy t l d × Grown c d
+
+-- the numbers that stand in memory, the last one first
+unfoldable pub numbered-in : List ℕ → Numbered → Option (List ℕ)
+unfolding held
+numbered-in m (numbered.Count n) = some (held m n)
+numbered-in m numbered.Nothing = none
+
+unfoldable pub Counted : List ℕ → Numbered → Type 0 → Type 0
+Counted m (numbered.Count n) A = (n ≤ length m) × A
+Counted m numbered.Nothing A = Unit {0}
+
+unfoldable pub used-out : Option Use → Option (List ℕ)
+unfolding then
+used-out o = then o (λ u. some (u .out))

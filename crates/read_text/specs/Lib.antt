@@ -1,0 +1,9 @@
+pub mod Ending
+pub mod EndingLaws
+pub mod Roled
+pub mod TextLaws
+pub mod StreamLaws
+pub mod TableLaws
+pub mod MeantLaws
+pub mod ReadLaws
+pub mod PassLaws

@@ -1,0 +1,156 @@
+// Program text read into an image (02 §1): 15, 16, 17 and 13 in that order, or the image of the program that the text means. Each pass goes over the places
+// of the text in memory of its own, so that no function follows the nesting of the text.
+use blocks::Written;
+use composing::Placed;
+use uses::Numbered;
+ghost use mathlib.Core.Path.{_≡_};
+ghost use mathlib.Core.Option.{some};
+ghost use Prim.Native.Nat.{_<_, _≤_};
+ghost use lib.ListN.{length};
+ghost use Rattle.tokens.specs.Scanning.{lex};
+ghost use Rattle.source.specs.Source.{max-text};
+ghost use Rattle.source.specs.TextReader.{of-tokens, text-number, text-blocks, text-output};
+ghost use Rattle.derive.specs.Held.{held};
+ghost use Rattle.resolve.specs.Tables.{offsets};
+ghost use Rattle.resolve.specs.WellDeclared.{par-byte};
+ghost use Rattle.compose.specs.Header.{Rows};
+ghost use Rattle.compose.specs.Composed.{type-bytes, composed};
+ghost use Rattle.uses.specs.Declaring.{Tabled};
+ghost use Rattle.composing.specs.Placing.{placed-in};
+ghost use Rattle.read_text.specs.Ending.{Ending.stopped, ended, answer, left, ending};
+ghost use Rattle.read_text.specs.Roled.{Roled, stream-of};
+
+// 02's numbers: no tokens, no derivation, no program.
+const NO_TOKEN: u32 = 15;
+
+const NO_DERIVATION: u32 = 16;
+
+const NO_PROGRAM: u32 = 17;
+
+// Bytes of a text at the most; of the largest image; of memory for the longest stream and what is in front of it before it is measured.
+const MAX_TEXT: usize = 65536;
+
+const OUTPUT: usize = types::PROGRAM_BLOCKS * blocks::BLOCK_SIZE;
+
+const STREAM: usize = 32402;
+
+// Places of the tables of declarations: in all; where the offsets of structs' parameters begin, the bytes of their types; the count of structs.
+const TABLES: usize = 323;
+
+const OFFSETS: usize = 16;
+
+const TYPES: usize = 161;
+
+const STRUCT_COUNT: usize = 321;
+
+// What reading answers: the number of the refusal, else 0; the blocks that are written.
+pub struct Answer {
+    pub number: u32,
+    pub blocks: u32,
+}
+
+fn refused(number: u32) -> Answer
+    ensures { λ r. ⌜ r ≡ answer (stopped number) ⌝ }
+{
+    Answer { number, blocks: 0 }
+}
+
+// The stream of a text by its tables of declarations, at the end of the lent memory.
+fn composed(
+    text: &[u8],
+    roles: &[u8],
+    numbers: &[u8],
+    tables: &[usize],
+    stack: &mut [u8],
+    stream: &mut [u8],
+) -> Placed
+    requires { ⌜ (length (now roles) ≤ length (now text)) × (length (now roles) < length (now stack)) × (length (now stream) ≡ 32402) ⌝ }
+    requires { ⌜ (Roled (now text) (now roles)) × (Tabled (now text) (now roles) (now tables)) ⌝ }
+    requires { ⌜ Rows (offsets par-byte (now roles)) (type-bytes (now text) (now roles)) ⌝ }
+    ensures { λ r. ⌜ placed-in (now (stream .exit)) r
+        ≡ composed (now (text .entry)) (now (roles .entry)) (held (now (numbers .entry)) (length (now (numbers .entry)))) ⌝ }
+{
+    let first = OFFSETS;
+    let last = first + tables[STRUCT_COUNT];
+    let end = last + 1;
+    let types = TYPES;
+    let types_end = types + tables[last];
+    composing::stream(
+        text,
+        roles,
+        numbers,
+        &tables[first..end],
+        &tables[types..types_end],
+        stack,
+        stream,
+    )
+}
+
+// A stream in blocks from the start of the output, where that has room for the largest image (13).
+fn imaged(stream: &[u8], out: &mut [u8]) -> Answer
+    requires { ⌜ (1 ≤ length (now stream)) × (length (now stream) ≤ 32256) ⌝ }
+    ensures { λ r. ⌜ r ≡ answer (ended (some (now (stream .entry))) (now (out .entry))) ⌝ }
+    ensures { λ _. ⌜ now (out .exit) ≡ left (ended (some (now (stream .entry))) (now (out .entry))) (now (out .entry)) ⌝ }
+{
+    if out.len() < OUTPUT {
+        return refused(types::number::NO_ROOM as u32);
+    }
+    let w = blocks::write_image(stream, types::PROGRAM_BLOCKS, out);
+    let Written::Blocks(k) = w else {
+        return refused(NO_PROGRAM);
+    };
+    Answer {
+        number: 0,
+        blocks: k as u32,
+    }
+}
+
+// Behind a derivation, by the roles that it gives the tokens: 17, 13, or the image.
+fn meant(text: &[u8], roles: &[u8], stack: &mut [u8], out: &mut [u8]) -> Answer
+    requires { ⌜ (length (now roles) ≡ length (now text)) × (length (now text) ≤ max-text) × (length (now roles) < length (now stack)) ⌝ }
+    requires { ⌜ Roled (now text) (now roles) ⌝ }
+    ensures { λ r. ⌜ r ≡ answer (ended (stream-of (now (text .entry)) (now (roles .entry))) (now (out .entry))) ⌝ }
+    ensures { λ _. ⌜ now (out .exit) ≡ left (ended (stream-of (now (text .entry)) (now (roles .entry))) (now (out .entry))) (now (out .entry)) ⌝ }
+{
+    let mut numbers = [0u8; MAX_TEXT];
+    let mut tables = [0usize; TABLES];
+    let names = uses::numbers(text, roles, &mut tables, stack, &mut numbers);
+    let Numbered::Count(n) = names else {
+        return refused(NO_PROGRAM);
+    };
+    let mut stream = [0u8; STREAM];
+    let placed = composed(text, roles, &numbers[..n], &tables, stack, &mut stream);
+    let Placed::At(p) = placed else {
+        return refused(NO_PROGRAM);
+    };
+    imaged(&stream[p..], out)
+}
+
+// A text, in memory for the kinds of its tokens and then their roles: 15, 16, 17 and 13 in order, or the image.
+fn passes(text: &[u8], kinds: &mut [u8], stack: &mut [u8], out: &mut [u8]) -> Answer
+    requires { ⌜ (length (now kinds) ≡ length (now text)) × (length (now text) ≤ max-text) × (length (now text) < length (now stack)) ⌝ }
+    ensures { λ r. ⌜ r ≡ answer (ending (of-tokens (lex 0 (now (text .entry))) (now (out .entry)))) ⌝ }
+    ensures { λ _. ⌜ now (out .exit) ≡ left (ending (of-tokens (lex 0 (now (text .entry))) (now (out .entry)))) (now (out .entry)) ⌝ }
+{
+    if !lexer::mark(text, kinds) {
+        return refused(NO_TOKEN);
+    }
+    if !derive::derived(kinds, stack) {
+        return refused(NO_DERIVATION);
+    }
+    meant(text, kinds, stack, out)
+}
+
+// A text: the number of its refusal, or its program's image from the start of the output.
+pub fn read(text: &[u8], out: &mut [u8]) -> Answer
+    ensures { λ r. ⌜ (r .number ≡ text-number (now (text .entry)) (now (out .entry))) × (r .blocks ≡ text-blocks (now (text .entry)) (now (out .entry))) ⌝ }
+    ensures { λ _. ⌜ now (out .exit) ≡ text-output (now (text .entry)) (now (out .entry)) ⌝ }
+{
+    let n = text.len();
+    if MAX_TEXT < n {
+        return refused(NO_TOKEN);
+    }
+    let mut kinds = [0u8; MAX_TEXT];
+    let mut stack = [0u8; MAX_TEXT + 1];
+    passes(text, &mut kinds[..n], &mut stack, out)
+}

@@ -1,0 +1,38 @@
+-- The place at which reading a program text stops (02 §1 asks for none): the first at which no token begins, or the first token with which no derivation
+-- goes on.
+use Prim.Native.Nat.{ℕ, suc}
+use mathlib.Core.Bool.{Bool, true, false}
+use mathlib.Core.List.{List, [], _∷_}
+use lib.ListN.{length}
+use lib.Dec.{eqb, ltb}
+use Rattle.source.specs.Source.{max-text}
+use Rattle.lexer.specs.Marking.{marks, parts}
+use Rattle.derive.specs.Shape.{Shape, Shape.shape, sample, move}
+
+-- no derivation goes on
+unfoldable pub dead : Shape → Bool
+dead (shape q st) = eqb q 0
+
+-- of kinds in their places, 0 where no token begins: the first token behind which that is so, the end where there is none
+unfoldable pub stuck-from : Shape → List ℕ → ℕ
+unfolding dead
+stuck-from s [] = 0
+stuck-from s (k ∷ ks) =
+    elim (eqb k 0) [
+      | true ↦ suc (stuck-from s ks)
+      | false ↦ elim (dead (move s (sample k))) [ true ↦ 0 | false ↦ suc (stuck-from (move s (sample k)) ks) ]
+    ]
+
+unfoldable pub of-parts : Bool → List ℕ → ℕ
+unfolding stuck-from
+of-parts false x = length (marks x)
+of-parts true x = stuck-from (shape 1 []) (marks x)
+
+unfoldable pub of-length : Bool → List ℕ → ℕ
+unfolding of-parts
+of-length true x = max-text
+of-length false x = of-parts (parts x) x
+
+unfoldable pub place : List ℕ → ℕ
+unfolding of-length
+place x = of-length (ltb max-text (length x)) x

@@ -1,0 +1,30 @@
+-- `tabling::step_names` meets its contract: one law for each way.
+use native.Mathlib.Omega.{arith}
+use Rattle.resolve.specs.FirstLaws.{take-long}
+use Rattle.uses.specs.TablingLaws.{gathered-not, gathered-all}
+use borrow.Author.Needs.{needs}
+use Rattle.uses.proofs.tabling.step_names.Statement.{statement}
+use Rattle.uses.proofs.tabling.step_names.Tie as tie
+
+returns : tie.Need-returns
+returns c = gathered-not _ _ _ (c .before .before .gather .ensures .0) (c .if1 .taken)
+
+slice-aggregate-step-names : tie.Need-slice-aggregate-step-names
+slice-aggregate-step-names c =
+    let called = c .before .before .before in take-long _ _ (omega (arith, called .gather .kept .1 .1 .1 .0, c .before .if1 .left))
+
+returns-2 : tie.Need-returns-2
+returns-2 c =
+    let named = c .before .before in
+    let tested = named .before .before .before in
+    let called = tested .before .before in
+    let lent = called .before in
+    let start = lent .before .before .before .before in
+    gathered-all _ _ _ _ (start .pre) (called .gather .ensures .0) (called .gather .ensures .1) (tested .if1 .left) (named .step-names .ensures .0)
+    (named .step-names .ensures .1)
+
+pub step-names-spec : {M : Type 1} → statement M
+step-names-spec =
+    tie.close
+    (tie.spec (λ c. search needs) (λ c κs. search needs) returns (λ c. search needs) slice-aggregate-step-names (λ c κs. search needs) (λ c. search needs)
+    returns-2)

@@ -1,0 +1,167 @@
+-- The pass over uses place by place, in lent memory (02 §1): a byte's group, and the loop over the roles of a text.
+use Prim.Native.Nat.{ℕ, _+_, _-_, _≤_, _<_}
+use native.Mathlib.Omega.{arith}
+use native.Mathlib.Numerals.{add-one}
+use mathlib.Core.Path.{_≡_, refl, sym, ap, _∙_}
+use mathlib.Core.List.{List, [], _∷_}
+use mathlib.Core.Option.{some}
+use lib.ListN.{length, getD, set, take, drop, length-set, drop-of-length-le}
+use lib.Seq.{drop-cons}
+use lib.Dec.{eqb}
+use borrow.Author.Tests.{lt-ltb, le-ltb, eq-eqb, ne-eqb}
+use Rattle.meaning.specs.Meant.{then}
+use Rattle.derive.specs.Held.{held}
+use Rattle.derive.specs.HeldLaws.{held-push}
+use Rattle.resolve.specs.Named.{name-of}
+use Rattle.resolve.specs.Checks.{type-here}
+use Rattle.resolve.specs.Using.{Book, Use, chosen, use-start, use-name, use-type, use-part}
+use Rattle.resolve.specs.UsingAt.{naming-at, typed-at, number-at, part-at, use-kind, use-at, uses-at}
+use Rattle.uses.specs.PartLaws.{up-to}
+use Rattle.uses.specs.Lent.{book-in, use-in, Roomy, passed-in, Next, numbered-in, used-out}
+use Rattle.uses.specs.declared.Scope.{Scope}
+use Rattle.uses.specs.declared.Passed.{Passed}
+use Rattle.uses.specs.declared.Passed.the-variants.{Stop, On, Left}
+use Rattle.uses.specs.declared.Numbered.the-variants.{Count, Nothing}
+
+-- One place --------------------------------------------------------------------------------------
+
+module _ (b : Book) (c : ℕ) (s : List ℕ) (u : Use) where
+  pub place-kind : c < 39 → use-kind c s u ≡ use-at b c s u
+  unfolding use-at chosen
+  place-kind l = sym (rw (lt-ltb c 39 l) refl)
+
+  module _ (l : 39 ≤ c) where
+    pub place-name : c < 51 → use-name b (naming-at c) (name-of s) u ≡ use-at b c s u
+    unfolding use-at chosen
+    place-name h = sym (rw (le-ltb c 39 l, lt-ltb c 51 h) refl)
+
+    module _ (m : 51 ≤ c) where
+      pub place-type : c < 63 → use-type b (typed-at c) (type-here (number-at c) s) u ≡ use-at b c s u
+      unfolding use-at chosen
+      place-type h = sym (rw (le-ltb c 39 l, le-ltb c 51 m, lt-ltb c 63 h) refl)
+
+      pub place-part : 63 ≤ c → use-part (part-at c) u ≡ use-at b c s u
+      unfolding use-at chosen
+      place-part h = sym (rw (le-ltb c 39 l, le-ltb c 51 m, le-ltb c 63 h) refl)
+
+  pub place-none : c ≡ 0 → some u ≡ chosen (eqb c 0) (some u) (use-at b c s u)
+  unfolding chosen
+  place-none e = sym (rw (eq-eqb c 0 e) refl)
+
+  pub place-some : (c ≡ 0 → ⊥) → use-at b c s u ≡ chosen (eqb c 0) (some u) (use-at b c s u)
+  unfolding chosen
+  place-some n = sym (rw (ne-eqb c 0 n) refl)
+
+-- The loop ---------------------------------------------------------------------------------------
+
+-- i places were passed: what is left leads to what the whole leads to
+pub record Reached (x roles t l₀ k₀ m₀ l k m : List ℕ) (c : Scope) (n i : ℕ) : Type 0 where
+  pub inner : i ≤ length roles
+  pub room : Roomy t l c
+  pub low : c .dues + c .bodies ≤ i
+  pub few : n ≤ i
+  pub locals : length l ≡ length l₀
+  pub stack : length k ≡ length k₀
+  pub numbers : length m ≡ length m₀
+  pub whole : uses-at (book-in x t) (drop i x) (drop i roles) (use-in x l k c (held m n)) ≡ uses-at (book-in x t) x roles use-start
+
+abbrev pub first-scope : Scope
+first-scope = record { begun = 0; met = 0; living = 0; fresh = 0; typ = 0; dues = 0; bodies = 0 }
+
+module _ (x roles t l₀ k₀ m₀ : List ℕ) where
+  start-use : use-in x l₀ k₀ first-scope (held m₀ 0) ≡ use-start
+  unfolding use-in held
+  start-use =
+      let e : length k₀ - (length k₀ - 0) ≡ 0 = omega arith in
+      let f : up-to k₀ (length k₀) 0 ≡ [] = ap (λ z. take z (drop (length k₀ - 0) k₀)) e in
+      rw f refl
+
+  pub reached-start : length l₀ ≡ 32 → Reached x roles t l₀ k₀ m₀ l₀ k₀ m₀ first-scope 0 0
+  reached-start h =
+      record {
+        inner = omega arith;
+        room =
+            record { long = h; begun = omega arith; met = omega arith; living = omega arith; fresh = omega arith; small = λ i g j. absurd (omega arith) };
+        low = omega arith;
+        few = omega arith;
+        locals = refl;
+        stack = refl;
+        numbers = refl;
+        whole = ap (λ u. uses-at (book-in x t) x roles u) start-use;
+      }
+
+  module _ (same : length roles ≡ length x) {l k m : List ℕ} {c : Scope} {n i : ℕ} (r : Reached x roles t l₀ k₀ m₀ l k m c n i) where
+    abbrev book : Book
+    book = book-in x t
+
+    abbrev used : Use
+    used = use-in x l k c (held m n)
+
+    module _ (inside : i < length roles) where
+      here : (s : List ℕ) → i < length s → drop i s ≡ getD s i 0 ∷ drop (i + 1) s
+      here s h = drop-cons s i 0 h ∙ ap (λ z. getD s i 0 ∷ drop z s) (sym (add-one i))
+
+      one-place : uses-at book (drop i x) (drop i roles) used
+          ≡ then (chosen (eqb (getD roles i 0) 0) (some used) (use-at book (getD roles i 0) (drop i x) used)) (uses-at book (drop (i + 1) x)
+          (drop (i + 1) roles))
+      unfolding uses-at
+      one-place =
+          let e = here x (omega (arith, inside, same)) in
+          let f = here roles inside in
+          ap (λ s. uses-at book s (drop i roles) used) e ∙ ap (λ s. uses-at book (getD x i 0 ∷ drop (i + 1) x) s used) f
+          ∙ ap
+          (λ s. then (chosen (eqb (getD roles i 0) 0) (some used) (use-at book (getD roles i 0) s used)) (uses-at book (drop (i + 1) x) (drop (i + 1) roles)))
+          (sym e)
+
+      -- what the code's turn says
+      module _ (l' k' : List ℕ) (p : Passed)
+          (e : (o : List ℕ) → passed-in x l' k' p o
+          ≡ chosen (eqb (getD roles i 0) 0) (some (use-in x l k c o)) (use-at book (getD roles i 0) (drop i x) (use-in x l k c o)))
+          (g : Next t l' c p) (h : (length k' ≡ length k) × (length l' ≡ length l)) where
+        next-place : (q : Passed) → p ≡ q
+            → then (passed-in x l' k' q (held m n)) (uses-at book (drop (i + 1) x) (drop (i + 1) roles)) ≡ uses-at book x roles use-start
+        next-place q f =
+            ap (λ z. then z (uses-at book (drop (i + 1) x) (drop (i + 1) roles))) (ap (λ z. passed-in x l' k' z (held m n)) (sym f) ∙ e (held m n))
+            ∙ sym one-place ∙ r .whole
+
+        pub reached-stop : (m' : List ℕ) → p ≡ Stop → numbered-in m' Nothing ≡ used-out (uses-at book x roles use-start)
+        unfolding passed-in then numbered-in used-out
+        reached-stop m' f = ap used-out (next-place Stop f)
+
+        pub reached-on : {d : Scope} → p ≡ On d → Reached x roles t l₀ k₀ m₀ l' k' m d n (i + 1)
+        unfolding passed-in then Next
+        reached-on {d} f =
+            let a : Roomy t l' d × (d .dues + d .bodies ≤ c .dues + c .bodies + 1) = rw f at g in
+            record {
+              inner = omega arith;
+              room = a .0;
+              low = omega (arith, a .1, r .low);
+              few = omega (arith, r .few);
+              locals = h .1 ∙ r .locals;
+              stack = h .0 ∙ r .stack;
+              numbers = r .numbers;
+              whole = next-place (On d) f;
+            }
+
+        pub reached-left : {d : Scope} {v : ℕ} → length roles ≤ length m₀ → p ≡ Left d v → Reached x roles t l₀ k₀ m₀ l' k' (set m n v) d (n + 1) (i + 1)
+        unfolding passed-in then Next
+        reached-left {d} {v} fits f =
+            let a : Roomy t l' d × (d .dues + d .bodies ≤ c .dues + c .bodies + 1) = rw f at g in
+            let b : held (set m n v) (n + 1) ≡ v ∷ held m n = held-push m n v (omega (arith, fits, r .numbers, r .few, inside)) in
+            record {
+              inner = omega arith;
+              room = a .0;
+              low = omega (arith, a .1, r .low);
+              few = omega (arith, r .few);
+              locals = h .1 ∙ r .locals;
+              stack = h .0 ∙ r .stack;
+              numbers = length-set m n v ∙ r .numbers;
+              whole =
+                  ap (λ z. uses-at book (drop (i + 1) x) (drop (i + 1) roles) (use-in x l' k' d z)) b ∙ next-place (Left d v) f;
+            }
+
+    pub reached-end : length roles ≤ i → numbered-in m (Count n) ≡ used-out (uses-at book x roles use-start)
+    unfolding numbered-in used-out then uses-at use-in
+    reached-end h =
+        let e : drop i x ≡ [] = drop-of-length-le x {i = i} (omega (arith, h, same)) in
+        ap used-out (sym (ap (λ s. uses-at book s (drop i roles) used) e) ∙ r .whole)

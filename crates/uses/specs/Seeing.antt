@@ -1,0 +1,92 @@
+-- What a name stands for (02 §1), as its number and the byte of a type, by what the pass over uses knows; and what is left of it.
+use Prim.Native.Nat.{ℕ, _+_, _-_}
+use mathlib.Core.List.{List, []}
+use mathlib.Core.Option.{Option, none, some}
+use lib.ListN.{length, getD, set, drop}
+use lib.Dec.{ltb}
+use Rattle.types.specs.Limits.{first-local}
+use Rattle.types.specs.Types.{struct-code}
+use Rattle.syntax.specs.Syntax.{Id}
+use Rattle.derive.specs.Roles.{Naming, Naming.new-struct, Naming.new-par, Naming.new-step, Naming.new-local, Naming.first-read, Naming.first-written, Naming.later-variable, Naming.made, Naming.made-statement, Naming.called, Naming.called-struct, Naming.called-step}
+use Rattle.resolve.specs.Named.{sought}
+use Rattle.resolve.specs.Using.{Book, Use, chosen, own-row, leave}
+use Rattle.uses.specs.declared.Scope.{Scope}
+use Rattle.uses.specs.declared.Seen.{Seen}
+use Rattle.uses.specs.declared.Seen.the-variants.{Of, Nothing}
+use Rattle.uses.specs.declared.Passed.{Passed}
+use Rattle.uses.specs.declared.Passed.the-variants.{Stop, On, Left}
+use Rattle.resolve.specs.declared.Word.{Word}
+use Rattle.resolve.specs.declared.Word.the-variants as word
+
+unfoldable pub seen-listed : List Id → Id → ℕ → Seen
+unfolding chosen sought
+seen-listed l x b = chosen (ltb (sought x l) (length l)) (Of (sought x l) b) Nothing
+
+unfoldable pub seen-par : List Id → List ℕ → Id → Seen
+unfolding chosen sought
+seen-par l ts x = chosen (ltb (sought x l) (length l)) (Of (sought x l) (getD ts (sought x l) 0)) Nothing
+
+unfoldable pub seen-local : List Id → List ℕ → List ℕ → Id → Seen
+unfolding chosen sought
+seen-local l ns bs x = chosen (ltb (sought x l) (length l)) (Of (first-local + getD ns (sought x l) 0) (getD bs (sought x l) 0)) Nothing
+
+module _ (b : Book) where
+  unfoldable pub seen-first : Id → Use → Seen
+  unfolding chosen seen-par seen-local own-row sought
+  seen-first x u =
+      chosen (ltb (sought x (own-row (b .rows) (u .begun))) (length (own-row (b .rows) (u .begun))))
+      (seen-par (own-row (b .rows) (u .begun)) (own-row (b .types) (u .begun)) x)
+      (seen-local (drop (u .fresh) (u .living)) (drop (u .fresh) (u .numbers)) (drop (u .fresh) (u .bytes)) x)
+
+  unfoldable pub seen-behind : ℕ → Id → Seen
+  unfolding chosen seen-par
+  seen-behind c x =
+      chosen (ltb c struct-code) Nothing
+      (chosen (ltb (c - struct-code) (length (b .structs))) (seen-par (getD (b .rows) (c - struct-code) []) (getD (b .types) (c - struct-code) []) x) Nothing)
+
+  -- a name that is only looked up, by its role; those of the others are those of steps
+  unfoldable pub seen-name : Naming → Id → Use → Seen
+  unfolding seen-first seen-behind seen-listed
+  seen-name new-struct x u = seen-listed (b .steps) x (u .type)
+  seen-name new-par x u = seen-listed (b .steps) x (u .type)
+  seen-name new-step x u = seen-listed (b .steps) x (u .type)
+  seen-name new-local x u = seen-listed (b .steps) x (u .type)
+  seen-name first-read x u = seen-first x u
+  seen-name first-written x u = seen-first x u
+  seen-name later-variable x u = seen-behind (u .type) x
+  seen-name made x u = seen-listed (b .steps) x (u .type)
+  seen-name made-statement x u = seen-listed (b .steps) x (u .type)
+  seen-name called x u = seen-listed (b .steps) x (u .type)
+  seen-name called-struct x u = seen-listed (b .structs) x (u .type)
+  seen-name called-step x u = seen-listed (b .steps) x (u .type)
+
+-- what is left of it
+unfoldable pub seen-left : Use → Seen → Option Use
+unfolding leave
+seen-left u (Of n b) = some (leave u b n)
+seen-left u Nothing = none
+
+-- The pass with other counts -------------------------------------------------------------------
+
+unfoldable pub retyped : Scope → ℕ → Scope
+retyped c b = record { begun = c .begun; met = c .met; living = c .living; fresh = c .fresh; typ = b; dues = c .dues; bodies = c .bodies }
+
+unfoldable pub dued : Scope → ℕ → Scope
+dued c n = record { begun = c .begun; met = c .met; living = c .living; fresh = c .fresh; typ = c .typ; dues = n; bodies = c .bodies }
+
+unfoldable pub lived : Scope → ℕ → ℕ → ℕ → Scope
+lived c m n b = record { begun = c .begun; met = m; living = n; fresh = 0; typ = c .typ; dues = c .dues; bodies = b }
+
+unfoldable pub seen-passed : Scope → Seen → Passed
+unfolding retyped
+seen-passed c (Of n b) = Left (retyped c b) n
+seen-passed c Nothing = Stop
+
+-- by a literal's word
+unfoldable pub word-passed : Word → Scope → Passed
+word-passed (word.Of n) c = On c
+word-passed word.Outside c = Stop
+
+-- a local in its table: n were alive, m declared
+abbrev pub with-local : List ℕ → ℕ → ℕ → ℕ → ℕ → List ℕ
+with-local l at m n b = set (set (set (set l (8 - (m + 1)) at) (16 - (n + 1)) at) (24 - (n + 1)) m) (32 - (n + 1)) b

@@ -1,0 +1,234 @@
+-- A table of declarations that passed every test: what stands in it, and the book that can be read of it.
+use Prim.Native.Nat.{ℕ, suc, _+_, _-_, _≤_, _<_}
+use native.Mathlib.Nat.{min-eq-left}
+use native.Mathlib.Omega.{arith}
+use mathlib.Core.Path.{_≡_, refl, sym, ap, _∙_}
+use mathlib.Core.Bool.{Bool, true, false, _&&_}
+use mathlib.Core.List.{List, [], _∷_, map}
+use lib.ListN.{length, getD, take, drop, length-map}
+use lib.Seq.{sets}
+use lib.Dec.{leb}
+use borrow.Author.Tests.{leb-true}
+use Rattle.types.specs.Limits.{max-structs, step-names as max-names}
+use Rattle.syntax.specs.Syntax.{Id}
+use Rattle.meaning.specs.Finding.{distinct}
+use Rattle.resolve.specs.Named.{names-at}
+use Rattle.resolve.specs.Tables.{places, offsets}
+use Rattle.resolve.specs.StandingLaws.{both-parts}
+use Rattle.resolve.specs.Checks.{part-of, row-ok, between-all, rows-ok, narrow, known, types-at}
+use Rattle.resolve.specs.WellDeclared.{par-byte, step-byte, tables-ok}
+use Rattle.resolve.specs.Using.{Book}
+use Rattle.resolve.specs.Resolved.{cuts, book-at}
+use Rattle.uses.specs.PartLaws.{pair, map-part, part-at, part-part}
+use Rattle.uses.specs.Lent.{structs-of-table, names-of-table, row-end, book-in, Rowed}
+use Rattle.uses.specs.Declaring.{Fronted, Tabled, type-bytes}
+use Rattle.uses.specs.Tabling.{structs-at, pars-at, steps-at, names-first, Front, Laid, tested}
+use Rattle.uses.specs.PutLaws.{put, put-long, put-at-behind, front-put, front-before, front-behind}
+use Rattle.uses.specs.OffsetLaws.{offsets-long, pair-held}
+use Rattle.uses.specs.TablingLaws.{row-held, few-pars, few-steps}
+use Rattle.uses.specs.LayingLaws.{mid-long}
+
+-- Tests ------------------------------------------------------------------------------------------
+
+last-first : (k d : Bool) → (k && d) ≡ (d && k)
+last-first true true = refl
+last-first true false = refl
+last-first false true = refl
+last-first false false = refl
+
+fourth-last : (a b c k d : Bool) → (a && (b && (c && (k && d)))) ≡ ((a && (b && (c && d))) && k)
+fourth-last true true true k d = last-first k d
+fourth-last true true false k d = refl
+fourth-last true false c k d = refl
+fourth-last false b c k d = refl
+
+module _ (text roles : List ℕ) where
+  -- the test of types, made last
+  types-last : tables-ok text roles ≡ (tested text roles && known (length (structs-at roles)) (type-bytes text roles))
+  unfolding tables-ok tested
+  types-last =
+      fourth-last (leb (length (structs-at roles)) max-structs) (distinct (names-at text (structs-at roles)))
+      (rows-ok text (pars-at roles) (offsets par-byte roles)) (known (length (structs-at roles)) (type-bytes text roles))
+      (narrow (offsets step-byte roles) && leb (length (names-first text roles)) max-names)
+
+  pub fill-not : {w : Bool} → w ≡ tested text roles → w ≡ false → false ≡ tables-ok text roles
+  fill-not e f = sym (types-last ∙ ap (λ b. b && known (length (structs-at roles)) (type-bytes text roles)) (sym e ∙ f))
+
+  pub fill-known : {w r : Bool} → w ≡ tested text roles → w ≡ true → r ≡ known (length (structs-at roles)) (type-bytes text roles) → r ≡ tables-ok text roles
+  fill-known e f g = sym (types-last ∙ ap (λ b. b && known (length (structs-at roles)) (type-bytes text roles)) (sym e ∙ f) ∙ sym g)
+
+-- what is few then
+pub record Few (text roles : List ℕ) : Type 0 where
+  pub structs : length (structs-at roles) ≤ 16
+  pub pars : length (pars-at roles) ≤ 128
+  pub types : length (places 51 54 roles) ≤ 128
+  pub steps : length (steps-at roles) ≤ 128
+  pub names : length (names-first text roles) ≤ 32
+  pub rows : rows-ok text (pars-at roles) (offsets par-byte roles) ≡ true
+
+pub few-tested : (text roles : List ℕ) → Fronted roles → {w : Bool} → w ≡ tested text roles → w ≡ true → Few text roles
+unfolding tested
+few-tested text roles fr e f =
+    let a = both-parts (leb (length (structs-at roles)) max-structs) _ (sym e ∙ f) in
+    let b = both-parts (distinct (names-at text (structs-at roles))) _ (a .1) in
+    let c = both-parts (rows-ok text (pars-at roles) (offsets par-byte roles)) _ (b .1) in
+    let d = both-parts (narrow (offsets step-byte roles)) _ (c .1) in
+    let s = leb-true (length (structs-at roles)) max-structs (a .0) in
+    let p = few-pars text roles fr s (c .0) in
+    record {
+      structs = s;
+      pars = p;
+      types = let g = fr .types in omega (arith, g, p);
+      steps = few-steps text roles fr s (d .0);
+      names = leb-true (length (names-first text roles)) max-names (d .1);
+      rows = c .0;
+    }
+
+-- Rows of a longer part ----------------------------------------------------------------------------
+
+cuts-map : {B : Type 0} (f : ℕ → B) (l o : List ℕ) → cuts (map f l) o ≡ map (map f) (cuts l o)
+unfolding cuts
+cuts-map f l [] = refl
+cuts-map f l (a ∷ []) = refl
+cuts-map f l (a ∷ b ∷ o) = pair (sym (map-part f l a b)) (cuts-map f l (b ∷ o))
+
+module _ (t : ℕ → ℕ → Bool) (l : List ℕ) (p q n : ℕ) (within : (a b : ℕ) → t a b ≡ true → b ≤ n) (room : n ≤ q - p) where
+  cuts-within : (o : List ℕ) → between-all t o ≡ true → cuts (part-of l p q) o ≡ cuts (part-of l p (p + n)) o
+  unfolding cuts between-all
+  cuts-within [] e = refl
+  cuts-within (a ∷ []) e = refl
+  cuts-within (a ∷ b ∷ o) e =
+      let h = both-parts (t a b) (between-all t (b ∷ o)) e in
+      let i = within a b (h .0) in
+      pair (part-part l p q a b (omega (arith, i, room)) ∙ sym (part-part l p (p + n) a b (omega (arith, i)))) (cuts-within (b ∷ o) (h .1))
+
+same-book : {a b : List Id} {c d : List (List Id)} {e f : List (List ℕ)} {g h : List Id} → a ≡ b → c ≡ d → e ≡ f → g ≡ h
+    → _≡_ {A = Book} (record { structs = a; rows = c; types = e; steps = g }) (record { structs = b; rows = d; types = f; steps = h })
+same-book i j k l = rw (i, j, k, l) refl
+
+-- A whole table --------------------------------------------------------------------------------------
+
+module _ {text roles t : List ℕ} (laid : Laid text roles t) (types : Front t 161 289 (type-bytes text roles)) (fr : Fronted roles) (few : Few text roles) where
+  abbrev s : ℕ
+  s = structs-of-table t
+
+  bytes-long : length (type-bytes text roles) ≡ length (places 51 54 roles)
+  unfolding types-at
+  bytes-long = length-map (places 51 54 roles) _
+
+  structs-here : part-of t 0 s ≡ structs-at roles
+  structs-here =
+      let e : s ≡ 0 + length (structs-at roles) = let e = laid .count in omega (arith, e) in
+      ap (part-of t 0) e ∙ laid .structs (let h = few .structs in omega (arith, h))
+
+  rows-here : part-of t 16 (17 + s) ≡ offsets par-byte roles
+  rows-here =
+      let l = offsets-long par-byte roles in
+      let e : 17 + s ≡ 16 + length (offsets par-byte roles) = let e = laid .count in omega (arith, e, l) in
+      ap (part-of t 16) e ∙ laid .rows (let h = few .structs in omega (arith, h, l))
+
+  pars-here : part-of t 33 (33 + length (pars-at roles)) ≡ pars-at roles
+  pars-here = laid .pars (few .pars)
+
+  types-here : part-of t 161 (161 + length (places 51 54 roles)) ≡ type-bytes text roles
+  types-here =
+      ap (λ n. part-of t 161 (161 + n)) (sym bytes-long) ∙ types (let e = bytes-long in let h = few .types in omega (arith, e, h))
+
+  names-counted : names-of-table t ≡ length (names-first text roles)
+  names-counted =
+      laid .names-count (few .steps) ∙ min-eq-left {n = length (names-first text roles)} {m = 33} (let h = few .names in omega (arith, h))
+
+  names-here : part-of t 289 (289 + names-of-table t) ≡ names-first text roles
+  names-here = ap (λ n. part-of t 289 (289 + n)) names-counted ∙ laid .names (few .steps) (few .names)
+
+  abbrev row : ℕ → ℕ → Bool
+  row a b = row-ok text (pars-at roles) a b
+
+  row-within : (a b : ℕ) → row a b ≡ true → b ≤ length (pars-at roles)
+  row-within a b e = row-held text (pars-at roles) a b e .within
+
+  -- rows of names and of types
+  name-rows : cuts (names-at text (part-of t 33 161)) (part-of t 16 (17 + s)) ≡ cuts (names-at text (pars-at roles)) (offsets par-byte roles)
+  unfolding rows-ok
+  name-rows =
+      ap (cuts (names-at text (part-of t 33 161))) rows-here ∙ cuts-map _ (part-of t 33 161) (offsets par-byte roles)
+      ∙ ap (map (λ r. names-at text r))
+      (cuts-within row t 33 161 (length (pars-at roles)) row-within (few .pars) (offsets par-byte roles) (few .rows)
+      ∙ ap (λ l. cuts l (offsets par-byte roles)) pars-here)
+      ∙ sym (cuts-map _ (pars-at roles) (offsets par-byte roles))
+
+  type-rows : cuts (part-of t 161 289) (part-of t 16 (17 + s)) ≡ cuts (type-bytes text roles) (offsets par-byte roles)
+  unfolding rows-ok
+  type-rows =
+      ap (cuts (part-of t 161 289)) rows-here
+      ∙ cuts-within row t 161 289 (length (places 51 54 roles)) (λ a b e. let h = row-within a b e in let g = fr .types in omega (arith, h, g)) (few .types)
+      (offsets par-byte roles) (few .rows)
+      ∙ ap (λ l. cuts l (offsets par-byte roles)) types-here
+
+  book-here : book-in text t ≡ book-at text roles
+  unfolding book-in book-at
+  book-here = same-book (ap (names-at text) structs-here) name-rows type-rows (ap (names-at text) names-here)
+
+  -- a row's ends
+  row-at : (k : ℕ) → k ≤ s → getD t (16 + k) 0 ≡ getD (offsets par-byte roles) k 0
+  row-at k h = sym (part-at t 16 (17 + s) k (omega (arith, h))) ∙ ap (λ l. getD l k 0) rows-here
+
+  row-here : (k : ℕ) → k < s → Rowed t k
+  unfolding rows-ok
+  row-here k h =
+      let l = offsets-long par-byte roles in
+      let c = laid .count in
+      let e = row-at k (omega (arith, h)) in
+      let i : (16 + k) + 1 ≡ 16 + suc k = omega arith in
+      let f : row-end t k ≡ getD (offsets par-byte roles) (suc k) 0 = ap (λ n. getD t n 0) i ∙ row-at (suc k) (omega (arith, h)) in
+      let r =
+      row-held text (pars-at roles) (getD (offsets par-byte roles) k 0) (getD (offsets par-byte roles) (suc k) 0)
+      (pair-held row (offsets par-byte roles) (few .rows) k (omega (arith, l, c, h))) in
+      let p = few .pars in
+      record { up = omega (arith, e, f, r .up); few = omega (arith, e, f, r .short); inner = omega (arith, e, f, r .within, p) }
+
+  pub tabled-all : Tabled text roles t
+  tabled-all =
+      record {
+        booked =
+            record {
+              long = laid .long;
+              structs = let e = laid .count in let h = few .structs in omega (arith, e, h);
+              names = let e = names-counted in let h = few .names in omega (arith, e, h);
+              rows = row-here;
+            };
+        book = book-here;
+        structs = laid .count;
+        rows = rows-here;
+        few = few .types;
+        types = types-here;
+      }
+
+-- with the bytes of types put in
+module _ {text roles t : List ℕ} (m : List ℕ) (laid : Laid text roles t) (kept : length m ≡ length (take 128 (drop 161 t))) where
+  room : 161 + 128 ≤ length t
+  room = let h = laid .long in omega (arith, h)
+
+  many : length m ≡ 128
+  many = kept ∙ mid-long 161 128 t room
+
+  pub typed-long : length (put 161 128 t m) ≡ length t
+  typed-long = put-long 161 128 t m room many
+
+  laid-typed : Laid text roles (put 161 128 t m)
+  laid-typed =
+      record {
+        long = typed-long ∙ laid .long;
+        count = put-at-behind 161 128 t m room many 321 (omega arith) ∙ laid .count;
+        structs = front-before 161 128 t m room many 0 16 (structs-at roles) (omega arith) (omega arith) (laid .structs);
+        rows = front-before 161 128 t m room many 16 33 (offsets par-byte roles) (omega arith) (omega arith) (laid .rows);
+        pars = front-before 161 128 t m room many 33 161 (pars-at roles) (omega arith) (omega arith) (laid .pars);
+        names-count = λ h. put-at-behind 161 128 t m room many 322 (omega arith) ∙ laid .names-count h;
+        names = λ h. front-behind 161 128 t m room many 289 321 (names-first text roles) (omega arith) (laid .names h);
+      }
+
+  pub fill-tabled : Fronted roles → {w r : Bool} → w ≡ tested text roles → w ≡ true
+      → (r ≡ true → m ≡ sets (take 128 (drop 161 t)) 0 (type-bytes text roles)) → r ≡ true → Tabled text roles (put 161 128 t m)
+  fill-tabled fr e f g h =
+      tabled-all laid-typed
+      (front-put 161 128 t m room many (take 128 (drop 161 t)) (type-bytes text roles) (g h) (mid-long 161 128 t room)) fr (few-tested text roles fr e f)
