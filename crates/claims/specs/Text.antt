@@ -1,4 +1,4 @@
--- Program text (02 §1): what has one reading at most, which number a text is refused with, what is written otherwise, and what the checker says to it.
+-- Program text (02 §1, §2): what has one reading at most, which number a text is refused with, what is written otherwise, and what the checker says to it.
 use Prim.Native.Nat.{ℕ, _≤_}
 use mathlib.Core.Path.{_≡_}
 use mathlib.Core.Logic.{_↔_}
@@ -7,16 +7,19 @@ use lib.ListN.{length}
 use Rattle.types.specs.Limits.{max-commands}
 use Rattle.types.specs.Numbers.{wrong-byte, wrong-names}
 use Rattle.blocks.specs.Images.{image}
-use Rattle.program.specs.Tree.{Program}
+use Rattle.program.specs.Tree.{Op, Program}
 use Rattle.program.specs.Encoding.{enc-program}
 use Rattle.commands.specs.Numbers.{NoneOf, Foremost}
 use Rattle.verdict.specs.Verdict.{Checked.refused as checked-refused, checked, refusal, check-verdict}
 use Rattle.tokens.specs.Tokens.{Token}
 use Rattle.tokens.specs.Lexing.{Lexed}
 use Rattle.tokens.specs.LexingLaws.{lexed-one as lexed-law}
-use Rattle.syntax.specs.Syntax.{Program as Derivation}
-use Rattle.syntax.specs.Bracketing.{Derives}
+use Rattle.syntax.specs.Syntax.{Exp, Exp.binary, Program as Derivation}
+use Rattle.syntax.specs.Yield.{yield}
+use Rattle.syntax.specs.Bracketing.{level, comparisons, Fits, Derives}
+use Rattle.syntax.specs.Bracketed.{BracketedProgram}
 use Rattle.syntax.specs.CompleteLaws.{one-derivation as derivation-law}
+use Rattle.syntax.specs.BracketLaws.{NoComparison, brackets-kept as brackets-law, no-two-comparisons as comparisons-law}
 use Rattle.meaning.specs.Nesting.{Shallow}
 use Rattle.source.specs.Source.{no-derivation, Derived, Reading, NoTokens, text-order, Outcome.written, Outcome.refused}
 use Rattle.source.specs.TextReader.{outcome, text-output}
@@ -33,6 +36,14 @@ lexed-one a b = lexed-law a b
 -- tokens have one derivation at most,
 pub one-derivation : (ts : List Token) (c d : Derivation) → Derives ts c → Derives ts d → c ≡ d
 one-derivation ts c d a b = derivation-law ts c d a b
+
+-- "Fully bracketed text keeps its stream" (02 §2): where each binary expression stands in brackets, a derivation is one as before, and the only one,
+pub brackets-kept : (ts : List Token) (c : Derivation) → BracketedProgram c → yield c ≡ ts → Derives ts c
+brackets-kept ts c f y = brackets-law ts c f y
+
+-- "Two comparisons in a row without brackets give 16": the operands of a bare comparison are none
+pub no-two-comparisons : (l : ℕ) (o : Op) (a b : Exp) → level o ≡ comparisons → Fits l (binary o a b) → (NoComparison a) × (NoComparison b)
+no-two-comparisons l o a b q f = comparisons-law l o a b q f
 
 -- "and then has one reading"
 pub one-reading : {x : List ℕ} {p q : Program} → Reading x p → Reading x q → p ≡ q
