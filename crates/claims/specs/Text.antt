@@ -20,6 +20,7 @@ use Rattle.syntax.specs.Bracketing.{level, comparisons, Fits, Derives}
 use Rattle.syntax.specs.Bracketed.{BracketedProgram}
 use Rattle.syntax.specs.CompleteLaws.{one-derivation as derivation-law}
 use Rattle.syntax.specs.BracketLaws.{NoComparison, brackets-kept as brackets-law, no-two-comparisons as comparisons-law}
+use Rattle.meaning.specs.Means.{Means}
 use Rattle.meaning.specs.Nesting.{Shallow}
 use Rattle.source.specs.Source.{no-derivation, Derived, Reading, NoTokens, text-order, Outcome.written, Outcome.refused}
 use Rattle.source.specs.TextReader.{outcome, text-output}
@@ -37,10 +38,6 @@ lexed-one a b = lexed-law a b
 pub one-derivation : (ts : List Token) (c d : Derivation) → Derives ts c → Derives ts d → c ≡ d
 one-derivation ts c d a b = derivation-law ts c d a b
 
--- "Fully bracketed text keeps its stream" (02 §2): where each binary expression stands in brackets, a derivation is one as before, and the only one,
-pub brackets-kept : (ts : List Token) (c : Derivation) → BracketedProgram c → yield c ≡ ts → Derives ts c
-brackets-kept ts c f y = brackets-law ts c f y
-
 -- "Two comparisons in a row without brackets give 16": the operands of a bare comparison are none
 pub no-two-comparisons : (l : ℕ) (o : Op) (a b : Exp) → level o ≡ comparisons → Fits l (binary o a b) → (NoComparison a) × (NoComparison b)
 no-two-comparisons l o a b q f = comparisons-law l o a b q f
@@ -48,6 +45,11 @@ no-two-comparisons l o a b q f = comparisons-law l o a b q f
 -- "and then has one reading"
 pub one-reading : {x : List ℕ} {p q : Program} → Reading x p → Reading x q → p ≡ q
 one-reading a b = reading-law a b
+
+-- "Fully bracketed text keeps its stream" (02 §2): what is read as a program by a derivation in which each binary expression stands in brackets, is read so
+pub brackets-kept : {x : List ℕ} {ts : List Token} {c : Derivation} {p : Program} → Lexed x ts → BracketedProgram c → yield c ≡ ts → Means c p → Reading x p
+brackets-kept {ts = ts} {c = c} l f y m =
+    record { derivation = c; derived = record { tokens = ts; lexed = l; derives = brackets-law ts c f y }; means = m }
 
 module _ (x out : List ℕ) where
   -- "Text free of 15 escapes 16 precisely when the grammar, written without the reader, derives it"
