@@ -7,7 +7,7 @@
  *   alignment  a list is aligned to 8 bytes, as a uint64_t array is; byte buffers may stand anywhere;
  *   null       a null pointer may stand for an empty buffer, with length 0;
  *   threads    the library has no data of its own: calls may go on at the same time, each with buffers of its own;
- *   stack      a check or a step takes at most 48 KB, a run at most 112 KB, reading and writing images less than 1 KB, reading program text at most XXX KB:
+ *   stack      a check or a step takes at most 48 KB, a run at most 112 KB, reading and writing images less than 1 KB, reading program text at most 232 KB:
  *              measured with this compiler on images and texts that nest as deep as they can (bench/stack.sh). Of images levels of nesting bound it, not
  *              lengths; of a text neither does, and no input takes more. */
 #ifndef AUDALA_H

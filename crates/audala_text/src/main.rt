@@ -1,5 +1,5 @@
 // Reads program text on standard input and writes its image on standard output (02 §1; docs/FORMAT.md, 'Program text'). A text that is refused is told on
-// standard error with its number and, of 15 and 16, the place at which reading stopped; nothing is written.
+// standard error with its number and, of 15, 16 and 17, the place at which reading stopped; nothing is written.
 
 ghost use Prim.Native.Nat.{_+_, _≤_, _<_};
 
@@ -8,8 +8,8 @@ const TEXT: usize = 65537;
 
 const IMAGE: usize = types::PROGRAM_BLOCKS * blocks::BLOCK_SIZE;
 
-// The first number that has no place: 17.
-const NO_PROGRAM: u32 = 17;
+// The least number that has a place: 15.
+const NO_TOKEN: u32 = 15;
 
 const LINE_END: u8 = 10;
 
@@ -20,8 +20,8 @@ fn help() {
         Reads a program as text and writes its image: blocks of 512 bytes. A text\n\
         that is refused is told on standard error as 'refused' and the number, and\n\
         nothing is written: 15 no token, or a text over 65536 bytes; 16 no\n\
-        derivation, both with the line and the column where reading stopped; 17 a\n\
-        name, a literal, an argument list or a count. The checker says whether the\n\
+        derivation; 17 a name, a literal, an argument list or a count; each with\n\
+        the line and the column where reading stopped. The checker says whether the\n\
         program is one to run: audala_text < TEXT | audala_list.\n\
         docs/FORMAT.md has the text's grammar, and says what each number means.\n",
     );
@@ -88,11 +88,11 @@ fn tell_place(text: &[u8]) {
     files::tell_number(s.column);
 }
 
-// Why there is no image: of 15 and 16 with the place.
+// Why there is no image: of 15, 16 and 17 with the place.
 fn refuse(text: &[u8], n: u32) {
     files::tell(b"refused ");
     files::tell_number(n as u64);
-    if n < NO_PROGRAM {
+    if NO_TOKEN <= n {
         tell_place(text);
     }
     files::tell(b"\n");

@@ -1,14 +1,16 @@
 -- Program text (02 §1, §2): what has one reading at most, which number a text is refused with, what is written otherwise, and what the checker says to it.
-use Prim.Native.Nat.{ℕ, _≤_}
+use Prim.Native.Nat.{ℕ, _*_, _≤_}
 use mathlib.Core.Path.{_≡_}
 use mathlib.Core.Logic.{_↔_}
-use mathlib.Core.List.{List}
-use lib.ListN.{length}
-use Rattle.types.specs.Limits.{max-commands}
+use mathlib.Core.List.{List, _++_}
+use lib.ListN.{length, drop}
+use Rattle.types.specs.Limits.{program-blocks, max-commands}
 use Rattle.types.specs.Numbers.{wrong-byte, wrong-names}
-use Rattle.blocks.specs.Images.{image}
+use Rattle.block.specs.Block.{block-size}
+use Rattle.blocks.specs.Images.{image, pieces}
 use Rattle.program.specs.Tree.{Op, Program}
 use Rattle.program.specs.Encoding.{enc-program}
+use Rattle.commands.specs.Bounds.{Within}
 use Rattle.commands.specs.Numbers.{NoneOf, Foremost}
 use Rattle.verdict.specs.Verdict.{Checked.refused as checked-refused, checked, refusal, check-verdict}
 use Rattle.tokens.specs.Tokens.{Token}
@@ -21,14 +23,16 @@ use Rattle.syntax.specs.Bracketed.{BracketedProgram}
 use Rattle.syntax.specs.CompleteLaws.{one-derivation as derivation-law}
 use Rattle.syntax.specs.BracketLaws.{NoComparison, brackets-kept as brackets-law, no-two-comparisons as comparisons-law}
 use Rattle.meaning.specs.Means.{Means}
+use Rattle.meaning.specs.Holds.{max-stream}
 use Rattle.meaning.specs.Nesting.{Shallow}
 use Rattle.source.specs.Source.{no-derivation, Derived, Reading, NoTokens, text-order, Outcome.written, Outcome.refused}
-use Rattle.source.specs.TextReader.{outcome, text-output}
-use Rattle.source.specs.SourceLaws.{one-reading as reading-law, text-refused-exactly as refused-law, text-written as written-law}
+use Rattle.source.specs.TextReader.{outcome, text-number, text-blocks, text-output}
+use Rattle.source.specs.SourceLaws.{derived-one as derived-law, one-reading as reading-law, text-refused-exactly as refused-law, text-written as written-law}
 use Rattle.source.specs.SourceLaws.{text-untouched as untouched-law, escapes-16 as escapes-law}
 use Rattle.source.specs.Stepping.{StepsRight}
 use Rattle.source.specs.Checking.{Answers, written-image, text-verdict, both-order}
-use Rattle.source.specs.CheckingLaws.{image-written, deep-exactly, seven-for-steps, text-checked as checked-law, text-order-exact as order-law}
+use Rattle.source.specs.CheckingLaws.{bytes-blocks, image-written, text-answered as answered-law, deep-exactly, seven-for-steps}
+use Rattle.source.specs.CheckingLaws.{text-checked as checked-law, text-order-exact as order-law}
 
 -- "The longest token is taken first": a text parts into tokens in one way at most,
 pub lexed-one : {x : List ℕ} {ts us : List Token} → Lexed x ts → Lexed x us → ts ≡ us
@@ -38,11 +42,15 @@ lexed-one a b = lexed-law a b
 pub one-derivation : (ts : List Token) (c d : Derivation) → Derives ts c → Derives ts d → c ≡ d
 one-derivation ts c d a b = derivation-law ts c d a b
 
--- "Two comparisons in a row without brackets give 16": the operands of a bare comparison are none
+-- "Two comparisons in a row without brackets give 16" (02 §2): the operands of a bare comparison are none
 pub no-two-comparisons : (l : ℕ) (o : Op) (a b : Exp) → level o ≡ comparisons → Fits l (binary o a b) → (NoComparison a) × (NoComparison b)
 no-two-comparisons l o a b q f = comparisons-law l o a b q f
 
--- "and then has one reading"
+-- "and then has one reading": one derivation of the text,
+pub derived-one : {x : List ℕ} {c d : Derivation} → Derived x c → Derived x d → c ≡ d
+derived-one a b = derived-law a b
+
+-- and one program at most that it means
 pub one-reading : {x : List ℕ} {p q : Program} → Reading x p → Reading x q → p ≡ q
 one-reading a b = reading-law a b
 
@@ -50,6 +58,10 @@ one-reading a b = reading-law a b
 pub brackets-kept : {x : List ℕ} {ts : List Token} {c : Derivation} {p : Program} → Lexed x ts → BracketedProgram c → yield c ≡ ts → Means c p → Reading x p
 brackets-kept {ts = ts} {c = c} l f y m =
     record { derivation = c; derived = record { tokens = ts; lexed = l; derives = brackets-law ts c f y }; means = m }
+
+-- "more .. than the stream's .. bytes hold": as many bytes as the 64 blocks of the largest image have room for
+pub text-bytes : (p : Program) → (length (enc-program p) ≤ max-stream) ↔ (pieces (length (enc-program p)) ≤ program-blocks)
+text-bytes p = bytes-blocks (length (enc-program p))
 
 module _ (x out : List ℕ) where
   -- "Text free of 15 escapes 16 precisely when the grammar, written without the reader, derives it"
@@ -68,17 +80,23 @@ module _ (x out : List ℕ) where
   pub text-image : (p : Program) → outcome x out ≡ written p → written-image x out ≡ image (enc-program p)
   text-image p e = image-written x out p e
 
-  -- and a refusal leaves the output
-  pub text-untouched : (n : ℕ) → outcome x out ≡ refused n → text-output x out ≡ out
+  -- with number 0, in front of the output, and all later bytes as they were;
+  pub text-answered : (p : Program) → outcome x out ≡ written p
+      → (text-number x out ≡ 0) × (text-output x out ≡ image (enc-program p) ++ drop (block-size * text-blocks x out) out)
+  text-answered p e = answered-law x out p e
+
+  -- and a refusal answers its number and 0 blocks, and leaves the output
+  pub text-untouched : (n : ℕ) → outcome x out ≡ refused n → (text-number x out ≡ n) × (text-blocks x out ≡ 0) × (text-output x out ≡ out)
   text-untouched n e = untouched-law x out n e
 
   -- "nesting apart": to what was written the checker says 5 exactly where it nests deeper than 01's levels,
   pub text-nesting : (p : Program) → outcome x out ≡ written p → (checked (written-image x out) ≡ checked-refused wrong-byte) ↔ (Shallow p → ⊥)
   text-nesting p e = deep-exactly x out p e
 
-  -- 7 for steps alone, since 17 has judged all other names: one twice in its struct, or a typed call of one that its struct has not,
-  pub text-steps : (p : Program) → outcome x out ≡ written p → checked (written-image x out) ≡ checked-refused wrong-names → StepsRight p → ⊥
-  text-steps p e q r = seven-for-steps x out p e q r
+  -- 7 exactly for steps, since 17 has judged all other names: one twice in its struct, or a typed call of one that its struct has not,
+  pub text-steps : (p : Program) → outcome x out ≡ written p
+      → (checked (written-image x out) ≡ checked-refused wrong-names) ↔ ((Shallow p) × (Within p) × (StepsRight p → ⊥))
+  text-steps p e = seven-for-steps x out p e
 
   -- and 0, 5, 6, 7 or 8, no other number
   pub text-checked : (p : Program) → outcome x out ≡ written p → (list : List ℕ) → max-commands ≤ length list

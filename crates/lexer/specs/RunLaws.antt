@@ -10,7 +10,8 @@ use lib.Seq.{drop-cons, getD-drop}
 use lib.Dec.{eqb}
 use borrow.Author.Tests.{eqb-true, eqb-false, eq-eqb, ne-eqb}
 use Rattle.tokens.specs.Lexing.{slash, star, close}
-use Rattle.tokens.specs.Scanning.{span, same, begins, one-more, closing}
+use Rattle.tokens.specs.Tokens.{same}
+use Rattle.tokens.specs.Scanning.{span, begins, one-more, closing}
 
 -- the byte at a place and those behind it
 pub next-byte : (s : List ℕ) (i : ℕ) → i < length s → drop i s ≡ getD s i 0 ∷ drop (i + 1) s

@@ -7,9 +7,9 @@ use mathlib.Core.Bool.{true, false}
 use mathlib.Core.List.{List, [], _∷_, _++_}
 use lib.ListN.{length, getD, take, drop, length-append, length-drop}
 use lib.Seq.{drop-drop, take-at, drop-at, getD-drop}
-use Rattle.tokens.specs.Tokens.{Word, Token.word, word-spelling}
+use Rattle.tokens.specs.Tokens.{Word, Token.word, word-spelling, same}
 use Rattle.tokens.specs.TokenNumbers.{word-number}
-use Rattle.tokens.specs.Scanning.{same, words, find-word}
+use Rattle.tokens.specs.Scanning.{words, find-word}
 use Rattle.lexer.specs.Kinds.{name-kind, kind, word-kind}
 use Rattle.lexer.specs.WordTable.{laid}
 

@@ -1,7 +1,8 @@
 // Whether some letters are one of the grammar's words (02 §1), and which: by a table of the words.
 use little_endian::index;
 ghost use mathlib.Core.Path.{_≡_};
-ghost use Rattle.tokens.specs.Scanning.{same, words, find-word, named};
+ghost use Rattle.tokens.specs.Tokens.{same};
+ghost use Rattle.tokens.specs.Scanning.{words, find-word, named};
 ghost use Rattle.lexer.specs.Kinds.{kind as kind-of};
 ghost use Rattle.lexer.specs.WordTable.{laid};
 

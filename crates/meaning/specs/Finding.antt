@@ -7,7 +7,7 @@ use mathlib.Core.List.{List, [], _∷_, map}
 use mathlib.Core.Option.{Option, none, some}
 use borrow.Author.Tests.{eq-eqb, not-true, not-false}
 use Rattle.types.specs.Decides.{Decides, decides-both}
-use Rattle.tokens.specs.Scanning.{same}
+use Rattle.tokens.specs.Tokens.{same}
 use Rattle.tokens.specs.ByteLaws.{same-true}
 use Rattle.syntax.specs.Syntax.{Id}
 use Rattle.meaning.specs.Scope.{Found, Found.here, Found.later, Absent, Distinct}

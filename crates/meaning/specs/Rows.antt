@@ -7,7 +7,7 @@ use mathlib.Core.Option.{Option, none, some}
 use Rattle.program.specs.Tree.{Op.op-add, Program as Tree}
 use Rattle.program.specs.Encoding.{enc-program}
 use Rattle.tokens.specs.Tokens.{Polarity.plus, Polarity.minus}
-use Rattle.syntax.specs.Syntax.{TypeName.int-type, TypeName.nat-type, TypeName.id-type, Literal.int-literal, Literal.nat-literal}
+use Rattle.syntax.specs.Syntax.{TypeName.int-type, TypeName.nat-type, TypeName.bool-type, TypeName.id-type, Literal.int-literal, Literal.nat-literal}
 use Rattle.syntax.specs.Syntax.{Literal.bool-literal, Var.id as one-id, Var.dot, Exp.binary, Exp.brackets, Exp.constructor, Exp.variable, Exp.literal}
 use Rattle.syntax.specs.Syntax.{Exp.null, Exp.this, Exps.no-exps, Exps.exps, Stat.if-then, Stat.assignment, Stat.update, Stat.construct}
 use Rattle.syntax.specs.Syntax.{Stats.no-stats, Stats.stats, Par.par, Step.step, Struct.struct, Defs.last-struct, Defs.defs, Item.execution}
@@ -73,6 +73,24 @@ rows =
     -- struct A() { s { } } struct B() { t { } } A.t
     ∷ row (program (defs (struct A ([]) (step s no-stats ∷ [])) (last-struct (struct B ([]) (step t no-stats ∷ [])))) (last-item
     (typed-execution A t))) (some (2 ∷ 0 ∷ 0 ∷ 1 ∷ 0 ∷ 0 ∷ 1 ∷ 1 ∷ 0 ∷ 1 ∷ 2 ∷ 0 ∷ 1 ∷ []))
+    -- struct A(a: Int, b: A) { s { a := true; b := 1n; if a then { } } } s:
+    -- types are the checker's: a Bool for an Int, a Nat for a reference, an if over an Int
+    ∷ row (program (last-struct (struct A (par a int-type ∷ par b (id-type A) ∷ []) (step s (stats (update (one-id a) (literal (bool-literal true))) (stats
+    (update (one-id b) (literal (nat-literal (49 ∷ [])))) (stats (if-then (variable (one-id a)) no-stats) no-stats))) ∷ []))) (last-item (execution s)))
+    (some (1 ∷ 2 ∷ 0 ∷ 16 ∷ 1 ∷ 0 ∷ 3 ∷ 3 ∷ 1 ∷ 0 ∷ 21 ∷ 1 ∷ 3 ∷ 1 ∷ 1 ∷ 20 ∷ 1 ∷ 0 ∷ 0 ∷ 0 ∷ 1 ∷ 18 ∷ 1 ∷ 0 ∷ 0 ∷ 1 ∷ 1 ∷ 0 ∷ []))
+    -- struct A(a: Int) { s { Int x := +1; } t { Nat x := 2n; } } struct B(c: Bool) { s { Int a := +3; } } s:
+    -- locals are numbered anew in each step, a name stands again in another step, and a local is named as another struct's parameter
+    ∷ row (program (defs (struct A (par a int-type ∷ []) (step s (stats (assignment int-type x (literal (int-literal plus (49 ∷ [])))) no-stats) ∷ step t
+    (stats (assignment nat-type x (literal (nat-literal (50 ∷ [])))) no-stats) ∷ [])) (last-struct (struct B (par c bool-type ∷ []) (step s (stats
+    (assignment int-type a (literal (int-literal plus (51 ∷ [])))) no-stats) ∷ [])))) (last-item (execution s))) (some (2 ∷ 1 ∷ 0 ∷ 1 ∷ 2 ∷ 2 ∷ 0 ∷ 1 ∷ 2 ∷
+    0 ∷ 8 ∷ 19 ∷ 1 ∷ 0 ∷ 0 ∷ 0 ∷ 1 ∷ 1 ∷ 2 ∷ 1 ∷ 8 ∷ 20 ∷ 2 ∷ 0 ∷ 0 ∷ 0 ∷ 1 ∷ 0 ∷ 1 ∷ 2 ∷ 0 ∷ 8 ∷ 19 ∷ 3 ∷ 0 ∷ 0 ∷ 0 ∷ 1 ∷ 1 ∷ 0 ∷ []))
+    -- struct A(a: Int) { s { } } struct B(a: Int) { s { } } s: one parameter name in two structs
+    ∷ row (program (defs (struct A (par a int-type ∷ []) (step s no-stats ∷ [])) (last-struct (struct B (par a int-type ∷ []) (step s no-stats ∷ []))))
+    (last-item (execution s))) (some (2 ∷ 1 ∷ 0 ∷ 1 ∷ 0 ∷ 1 ∷ 0 ∷ 0 ∷ 1 ∷ 0 ∷ 0 ∷ 1 ∷ 1 ∷ 0 ∷ []))
+    -- struct A(a: Int, b: A) { s { a := +2147483647; } } s: the largest Int
+    ∷ row (program (last-struct (struct A (par a int-type ∷ par b (id-type A) ∷ []) (step s (stats (update (one-id a) (literal (int-literal plus (50 ∷ 49 ∷
+    52 ∷ 55 ∷ 52 ∷ 56 ∷ 51 ∷ 54 ∷ 52 ∷ 55 ∷ [])))) no-stats) ∷ []))) (last-item (execution s))) (some (1 ∷ 2 ∷ 0 ∷ 16 ∷ 1 ∷ 0 ∷ 1 ∷ 3 ∷ 1 ∷ 0 ∷ 19 ∷ 255 ∷
+    255 ∷ 255 ∷ 127 ∷ 1 ∷ 1 ∷ 0 ∷ []))
     -- struct A(a: Int, b: A) { s { Int x := x; } } s
     ∷ row (program (last-struct (struct A (par a int-type ∷ par b (id-type A) ∷ []) (step s (stats (assignment int-type x (variable
     (one-id x))) no-stats) ∷ []))) (last-item (execution s))) none
@@ -102,6 +120,9 @@ rows =
     -- struct A(a: Int, b: A) { s { a := +2147483648; } } s
     ∷ row (program (last-struct (struct A (par a int-type ∷ par b (id-type A) ∷ []) (step s (stats (update (one-id a) (literal (int-literal plus
     (50 ∷ 49 ∷ 52 ∷ 55 ∷ 52 ∷ 56 ∷ 51 ∷ 54 ∷ 52 ∷ 56 ∷ [])))) no-stats) ∷ []))) (last-item (execution s))) none
+    -- struct A(a: Int, b: A) { s { a := -2147483649; } } s: below the smallest Int
+    ∷ row (program (last-struct (struct A (par a int-type ∷ par b (id-type A) ∷ []) (step s (stats (update (one-id a) (literal (int-literal minus (50 ∷ 49 ∷
+    52 ∷ 55 ∷ 52 ∷ 56 ∷ 51 ∷ 54 ∷ 52 ∷ 57 ∷ [])))) no-stats) ∷ []))) (last-item (execution s))) none
     -- struct A(a: Int, b: A) { s { Nat x := 4294967296n; } } s
     ∷ row (program (last-struct (struct A (par a int-type ∷ par b (id-type A) ∷ []) (step s (stats (assignment nat-type x (literal (nat-literal
     (52 ∷ 50 ∷ 57 ∷ 52 ∷ 57 ∷ 54 ∷ 55 ∷ 50 ∷ 57 ∷ 54 ∷ [])))) no-stats) ∷ []))) (last-item (execution s))) none
@@ -120,4 +141,5 @@ unfolding rows meanings stream encodings
 rows-hold =
     (and-then refl (and-then refl (and-then refl (and-then refl (and-then refl (and-then refl (and-then refl (and-then refl
     (and-then refl (and-then refl (and-then refl (and-then refl (and-then refl (and-then refl (and-then refl (and-then refl
-    (and-then refl (and-then refl (and-then refl (and-then refl (and-then refl (and-then refl (and-then refl (and-then refl no-more))))))))))))))))))))))))
+    (and-then refl (and-then refl (and-then refl (and-then refl (and-then refl (and-then refl (and-then refl (and-then refl
+    (and-then refl (and-then refl (and-then refl (and-then refl (and-then refl no-more)))))))))))))))))))))))))))))

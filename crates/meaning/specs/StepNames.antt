@@ -1,7 +1,7 @@
 -- Step names get numbers in order of first declaration, over the whole text (02 §1): the names of all steps in order, each once.
 use mathlib.Core.Bool.{Bool, true, false}
 use mathlib.Core.List.{List, [], _∷_, _++_, map}
-use Rattle.tokens.specs.Scanning.{same}
+use Rattle.tokens.specs.Tokens.{same}
 use Rattle.syntax.specs.Syntax.{Id, Struct}
 use Rattle.meaning.specs.Scope.{step-id, steps-of}
 

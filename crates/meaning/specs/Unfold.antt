@@ -1,6 +1,6 @@
 -- Groups of definitions that rows and proofs look into together: where an `unfolding` line has the name of a group, all of the group unfolds.
 use Rattle.types.specs.Values.{in-int, int-word}
-use Rattle.tokens.specs.Scanning.{same}
+use Rattle.tokens.specs.Tokens.{same}
 use Rattle.meaning.specs.Scope.{par-id, par-type, step-id, struct-id, pars-of, steps-of, structs-of, local-id, local-number, local-type}
 use Rattle.meaning.specs.StepNames.{among, once, all-steps, step-names}
 use Rattle.meaning.specs.Values.{decimal-from, decimal, signed}

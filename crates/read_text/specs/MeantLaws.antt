@@ -74,13 +74,13 @@ unfolding ended left
 none-ends x cs out e a f = rw (e, f) (refl, refl)
 
 module _ (x cs out l : List ℕ) (r : Numbered) (e : numbered-in l r ≡ resolved x cs) where
-  unnamed : r ≡ Nothing → stream-of x cs ≡ none
+  unnamed : (p : ℕ) → r ≡ Nothing p → stream-of x cs ≡ none
   unfolding numbered-in then
-  unnamed f = rw (← e, f) refl
+  unnamed p f = rw (← e, f) refl
 
-  pub unnamed-ends : r ≡ Nothing → (a : Answer) → a ≡ answer (stopped no-program)
+  pub unnamed-ends : (p : ℕ) → r ≡ Nothing p → (a : Answer) → a ≡ answer (stopped no-program)
       → (a ≡ answer (ended (stream-of x cs) out)) × (out ≡ left (ended (stream-of x cs) out) out)
-  unnamed-ends f = none-ends x cs out (unnamed f)
+  unnamed-ends p f = none-ends x cs out (unnamed p f)
 
   module _ (n : ℕ) (f : r ≡ Count n) where
     named : resolved x cs ≡ some (held l n)

@@ -1,25 +1,21 @@
--- What a derivation says of the tables of its text (02 §1): nothing is declared before the first struct, each parameter has a type, and the last offset is
--- the count of types.
-use Prim.Native.Nat.{ℕ, zero, suc, _+_}
+-- What a derivation says of the tables of its text (02 §1): the last offset is the count of types.
+use Prim.Native.Nat.{ℕ, suc, _+_}
 use native.Mathlib.Omega.{arith}
 use native.Mathlib.Nat.{add-zero, add-assoc}
 use mathlib.Core.Path.{_≡_, refl, sym, ap, _∙_}
 use mathlib.Core.List.{List, [], _∷_, map}
 use lib.ListN.{length, getD, length-append, length-map}
 use Rattle.syntax.specs.Syntax.{Struct, Defs, Sched, Program as Derivation, Program.program}
-use Rattle.meaning.specs.Scope.{struct-id, par-id, par-type, pars-of, steps-of, structs-of}
+use Rattle.meaning.specs.Scope.{par-id, pars-of, structs-of}
 use Rattle.derive.specs.Roles.{roles}
-use Rattle.resolve.specs.Named.{names-at}
-use Rattle.resolve.specs.Tables.{struct-byte, places, offsets}
+use Rattle.resolve.specs.Tables.{places, offsets}
 use Rattle.resolve.specs.Declares.{all-pars, sums}
-use Rattle.resolve.specs.DeclaresLaws.{types-declared}
-use Rattle.resolve.specs.RowLaws.{par-rows-declared, step-rows-declared}
-use Rattle.resolve.specs.PlacesLaws.{rows-stand, types-stand}
-use Rattle.resolve.specs.Checks.{byte-of, types-at}
+use Rattle.resolve.specs.RowLaws.{par-rows-declared}
+use Rattle.resolve.specs.PlacesLaws.{rows-stand}
 use Rattle.resolve.specs.Standing.{Stood}
-use Rattle.resolve.specs.WellDeclared.{par-byte, step-byte}
-use Rattle.resolve.specs.WellDeclaredLaws.{struct-names, par-names}
-use Rattle.uses.specs.Declaring.{Fronted}
+use Rattle.resolve.specs.WellDeclared.{par-byte}
+use Rattle.resolve.specs.WellDeclaredLaws.{par-names}
+use Rattle.uses.specs.DeclaringLaws.{roles-fronted}
 
 -- Sums ------------------------------------------------------------------------------------------------
 
@@ -31,11 +27,6 @@ sums-last : (l : List ℕ) (n : ℕ) → (getD (sums n l) (length l) 0 ≡ n + t
 unfolding sums total
 sums-last [] n = (sym (add-zero n), refl)
 sums-last (a ∷ l) n = let h = sums-last l (n + a) in (h .0 ∙ add-assoc n a (total l), ap suc (h .1))
-
-sums-first : (l : List ℕ) (n : ℕ) → getD (sums n l) 0 0 ≡ n
-unfolding sums
-sums-first [] n = refl
-sums-first (a ∷ l) n = refl
 
 counted-pars : (ds : List Struct) → total (map (λ e. length (pars-of e)) ds) ≡ length (all-pars ds)
 unfolding all-pars total
@@ -54,40 +45,17 @@ module _ (x cs : List ℕ) (d : Defs) (s : Sched) (st : Stood x cs (roles (progr
   offsets-are : offsets par-byte cs ≡ sums 0 counts
   offsets-are = rows-stand par-byte 0 (omega arith) st ∙ par-rows-declared d s
 
-  types-are : types-at x cs (names-at x (places struct-byte struct-byte cs)) (places 51 54 cs)
-      ≡ map (byte-of (map struct-id ds)) (map par-type (all-pars ds))
-  types-are =
-      ap (λ l. types-at x cs l (places 51 54 cs)) (struct-names x cs d s st)
-      ∙ types-stand x cs (map struct-id ds) 0 refl refl st
-      ∙ ap (map (byte-of (map struct-id ds))) (types-declared d s)
-
-  types-counted : length (places 51 54 cs) ≡ length (all-pars ds)
-  unfolding types-at
-  types-counted =
-      sym (length-map (places 51 54 cs) _)
-      ∙ ap length types-are
-      ∙ length-map (map par-type (all-pars ds)) (byte-of (map struct-id ds))
-      ∙ length-map (all-pars ds) par-type
-
   pars-counted : length (places par-byte par-byte cs) ≡ length (all-pars ds)
   pars-counted = sym (length-map (places par-byte par-byte cs) _) ∙ ap length (par-names x cs d s st) ∙ length-map (all-pars ds) par-id
 
-  front-there : Fronted cs
-  front-there =
-      record {
-        pars = ap (λ l. getD l 0 0) offsets-are ∙ sums-first counts 0;
-        steps = ap (λ l. getD l 0 0) (rows-stand step-byte 0 (omega arith) st ∙ step-rows-declared d s) ∙ sums-first (map (λ e. length (steps-of e)) ds) 0;
-        types = types-counted ∙ sym pars-counted;
-      }
+  types-counted : length (places 51 54 cs) ≡ length (all-pars ds)
+  types-counted = roles-fronted (program d s) st .types ∙ pars-counted
 
   last-there : (n : ℕ) → length (offsets par-byte cs) ≡ suc n → getD (offsets par-byte cs) n 0 ≡ length (places 51 54 cs)
   last-there n e =
       let h = sums-last counts 0 in
       let m : n ≡ length counts = omega (arith, ap length offsets-are, h .1) in
       ap (λ l. getD l n 0) offsets-are ∙ ap (λ k. getD (sums 0 counts) k 0) m ∙ h .0 ∙ omega (arith, counted-pars ds, types-counted)
-
-pub fronted : (x cs : List ℕ) (c : Derivation) → Stood x cs (roles c) → Fronted cs
-fronted x cs (program d s) st = front-there x cs d s st
 
 pub last-offset : (x cs : List ℕ) (c : Derivation) → Stood x cs (roles c) → (n : ℕ) → length (offsets par-byte cs) ≡ suc n
     → getD (offsets par-byte cs) n 0 ≡ length (places 51 54 cs)

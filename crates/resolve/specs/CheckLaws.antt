@@ -10,7 +10,7 @@ use lib.Seq.{sets}
 use borrow.Author.Tests.{le-leb, lt-leb, lt-ltb, le-ltb}
 use Rattle.types.specs.Limits.{max-params}
 use Rattle.types.specs.Types.{struct-code}
-use Rattle.tokens.specs.Scanning.{same}
+use Rattle.tokens.specs.Tokens.{same}
 use Rattle.syntax.specs.Syntax.{Id, TypeName.id-type}
 use Rattle.lexer.specs.RunLaws.{next-byte}
 use Rattle.meaning.specs.Finding.{distinct}

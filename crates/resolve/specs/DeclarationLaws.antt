@@ -13,7 +13,7 @@ use borrow.Author.Tests.{lt-ltb, le-ltb, le-leb, ltb-true, ltb-false}
 use Rattle.types.specs.Limits.{max-params, max-steps}
 use Rattle.types.specs.Types.{struct-code, code}
 use Rattle.syntax.specs.Syntax.{Id, TypeName, TypeName.int-type, TypeName.nat-type, TypeName.bool-type, TypeName.id-type, Par, Struct}
-use Rattle.tokens.specs.Scanning.{same}
+use Rattle.tokens.specs.Tokens.{same}
 use Rattle.meaning.specs.Scope.{par-id, par-type, struct-id, pars-of}
 use Rattle.meaning.specs.StepNames.{among, once}
 use Rattle.meaning.specs.Finding.{Place, find, distinct}

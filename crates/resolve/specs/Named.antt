@@ -3,8 +3,8 @@ use Prim.Native.Nat.{ℕ, suc}
 use mathlib.Core.Bool.{true, false}
 use mathlib.Core.List.{List, [], _∷_, map}
 use lib.ListN.{take, drop}
-use Rattle.tokens.specs.Tokens.{name-byte}
-use Rattle.tokens.specs.Scanning.{span, same}
+use Rattle.tokens.specs.Tokens.{name-byte, same}
+use Rattle.tokens.specs.Scanning.{span}
 use Rattle.syntax.specs.Syntax.{Id}
 
 -- the name that bytes begin with; the one at a place of a text; those at some places

@@ -8,8 +8,8 @@ use mathlib.Core.Option.{Option, none, some}
 use lib.ListN.{length, getD, take, drop, drop-of-length-le}
 use lib.Dec.{eqb, ltb}
 use borrow.Author.Tests.{eq-eqb, ne-eqb, ltb-true, ltb-false}
-use Rattle.tokens.specs.Tokens.{name-byte, letter, digit, between}
-use Rattle.tokens.specs.Scanning.{span, same}
+use Rattle.tokens.specs.Tokens.{name-byte, letter, digit, between, same}
+use Rattle.tokens.specs.Scanning.{span}
 use Rattle.lexer.specs.RunLaws.{next-byte, inside}
 use Rattle.syntax.specs.Syntax.{Id}
 use Rattle.meaning.specs.Finding.{Place, find, one-later}

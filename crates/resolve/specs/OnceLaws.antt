@@ -7,7 +7,7 @@ use mathlib.Core.List.{List, [], _∷_, _++_}
 use lib.ListN.{length}
 use Rattle.types.specs.Decides.{is-true}
 use Rattle.program.specs.Counts.{All}
-use Rattle.tokens.specs.Scanning.{same}
+use Rattle.tokens.specs.Tokens.{same}
 use Rattle.syntax.specs.Syntax.{Id}
 use Rattle.meaning.specs.Scope.{Absent, Distinct}
 use Rattle.meaning.specs.StepNames.{among, once}

@@ -8,7 +8,7 @@ use mathlib.Core.Option.{Option, none, some}
 use lib.ListN.{length, getD, drop, length-map}
 use lib.Dec.{leb, ltb, leb·suc-suc}
 use borrow.Author.Tests.{le-leb, lt-leb, lt-ltb, le-ltb}
-use Rattle.tokens.specs.Scanning.{same}
+use Rattle.tokens.specs.Tokens.{same}
 use Rattle.syntax.specs.Syntax.{Id}
 use Rattle.meaning.specs.Finding.{Place, find, one-later, absent, decides-absent, is-not, find-sound, found-there}
 use Rattle.resolve.specs.Named.{sought}

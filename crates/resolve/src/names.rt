@@ -2,7 +2,7 @@
 use lexer::bytes;
 ghost use mathlib.Core.Path.{_≡_};
 ghost use lib.ListN.{getD};
-ghost use Rattle.tokens.specs.Scanning.{same};
+ghost use Rattle.tokens.specs.Tokens.{same};
 ghost use Rattle.resolve.specs.Named.{name-at, names-at, name-letter, sought};
 
 // The byte at a place if it is one of a name, 0 if not.

@@ -5,8 +5,8 @@ use native.Mathlib.Omega.{arith}
 use mathlib.Core.Path.{_≡_, refl, sym, ap, _∙_}
 use mathlib.Core.Logic.{_↔_, _⊎_, inl, inr}
 use mathlib.Core.Bool.{Bool, true, false, not}
-use mathlib.Core.List.{List, [], _∷_}
-use lib.ListN.{length, take}
+use mathlib.Core.List.{List, [], _∷_, _++_}
+use lib.ListN.{length, take, drop}
 use lib.Seq.{take-append-seam}
 use lib.Dec.{ltb}
 use borrow.Author.Tests.{le-ltb}
@@ -26,6 +26,7 @@ use Rattle.commands.specs.Decide.BoundsDecide.{within}
 use Rattle.commands.specs.Decide.NamesDecide.{names-right}
 use Rattle.commands.specs.Decide.TypingDecide.{types-right}
 use Rattle.commands.specs.Numbers.{NoneOf, Foremost, over-limits, wrong-names, wrong-types, first, breach-tests, breach-number}
+use Rattle.commands.specs.Bounds.{Within}
 use Rattle.commands.specs.Names.{NamesRight}
 use Rattle.commands.specs.Laws.NumbersLaws.{behind-first, foremost-unique, foremost-some, number-names}
 use Rattle.verdict.specs.Verdict.{Checked, Checked.accepted, Checked.refused as checked-refused, judge, of-read, checked}
@@ -34,13 +35,13 @@ use Rattle.verdict.specs.VerdictLaws.{checked-image}
 use Rattle.verdict.specs.ProgramInput.{ShortList, program-order, check-order}
 use Rattle.verdict.specs.InputOrder.{foremost-front, none-behind}
 use Rattle.verdict.specs.ProgramInputLaws.{checked-accepted, accepted-none, verdict-number}
-use Rattle.meaning.specs.Holds.{Holds}
+use Rattle.meaning.specs.Holds.{max-stream, Holds}
 use Rattle.meaning.specs.Nesting.{Shallow}
-use Rattle.source.specs.Source.{Outcome, Outcome.written, Outcome.refused, blocks-of, output-of, text-order}
-use Rattle.source.specs.TextReader.{outcome, text-blocks, text-output}
+use Rattle.source.specs.Source.{Outcome, Outcome.written, Outcome.refused, number-of, blocks-of, output-of, text-order}
+use Rattle.source.specs.TextReader.{outcome, text-number, text-blocks, text-output}
 use Rattle.source.specs.SourceLaws.{text-refused-exactly, text-written, written-held, written-read}
 use Rattle.source.specs.Stepping.{StepsRight}
-use Rattle.source.specs.SteppingLaws.{steps-left}
+use Rattle.source.specs.SteppingLaws.{steps-left, names-steps}
 use Rattle.source.specs.Kept.{Kept, Kept.kept, Kept.too-deep}
 use Rattle.source.specs.KeptLaws.{program-keeps}
 use Rattle.source.specs.Checking.{Answers, written-image, checked-next, text-verdict, both-order}
@@ -64,6 +65,10 @@ judged-number : (p : Program) (list : List ℕ) → max-commands ≤ length list
 unfolding verdict-of judge
 judged-number p list h zero = rw (le-ltb (length list) max-commands h, verdict-of) refl
 judged-number p list h (suc n) = refl
+
+-- what fits the largest image, in bytes and in blocks
+pub bytes-blocks : (n : ℕ) → (n ≤ max-stream) ↔ (pieces n ≤ program-blocks)
+bytes-blocks n = (λ h. omega (arith, h), λ h. omega (arith, h))
 
 ltb-self : (n : ℕ) → ltb n n ≡ false
 ltb-self n = le-ltb n n (omega arith)
@@ -93,6 +98,11 @@ module _ (x out : List ℕ) (p : Program) (e : outcome x out ≡ written p) wher
   pub text-put : written-into (Blocks (text-blocks x out)) s out ≡ text-output x out
   unfolding written-into text-blocks blocks-of text-output output-of image
   text-put = rw (e, image-length s (pieces (length s))) refl
+
+  -- it answers 0, and its image stands in front of the output, all later bytes as they were
+  pub text-answered : (text-number x out ≡ 0) × (text-output x out ≡ image s ++ drop (block-size * text-blocks x out) out)
+  unfolding text-number number-of text-blocks blocks-of text-output output-of image
+  text-answered = (rw e refl, rw (e, image-length s (pieces (length s))) refl)
 
   -- the blocks written are the stream's image
   pub image-written : written-image x out ≡ image s
@@ -146,23 +156,31 @@ module _ (x out : List ℕ) (p : Program) (e : outcome x out ≡ written p) wher
       go (inl q) = rw (q, judged-number p list h (breach-number p)) (answers (breach-one p))
       go (inr q) = rw (q .1) (inr (omega arith, omega arith))
 
-  -- 7 is said for a step alone: one that stands twice in its struct, or a typed call of one that its struct has not
-  pub seven-for-steps : checked (written-image x out) ≡ checked-refused wrong-names → StepsRight p → ⊥
+  -- 7 is said for a step alone: one that stands twice in its struct, or a typed call of one that its struct has not, where the nesting keeps to its levels
+  -- and the program to its bounds
+  pub seven-for-steps : (checked (written-image x out) ≡ checked-refused wrong-names) ↔ ((Shallow p) × (Within p) × (StepsRight p → ⊥))
   unfolding judge of-read
-  seven-for-steps q r = go read-or-deep
+  seven-for-steps = (λ q. forth q read-or-deep, λ h. back h)
     where
-      named : NamesRight p
-      named = steps-left (text-written x out p .0 e .1 .means) r
+      named : StepsRight p → NamesRight p
+      named r = steps-left (text-written x out p .0 e .1 .means) r
 
-      judged : (n : ℕ) → breach-number p ≡ n → judge p n ≡ checked-refused wrong-names → ⊥
-      judged zero b k = let z : _≡_ {A = ℕ} 0 1 = cc in omega arith
-      judged (suc n) b k = let z : suc n ≡ wrong-names = cc in number-names p .0 (b ∙ z) .1 named
+      numbered : (n : ℕ) → judge p n ≡ checked-refused wrong-names → n ≡ wrong-names
+      numbered zero k = let z : _≡_ {A = ℕ} 0 1 = cc in absurd (omega arith)
+      numbered (suc n) k = cc
 
-      go : (read-stream s ≡ ok p (length s)) ⊎ ((at : ℕ) × (read-stream s ≡ bad at wrong-byte)) → ⊥
-      go (inl k) = judged (breach-number p) refl (sym (shallow-judged (written-read x out p e .0 k)) ∙ q)
-      go (inr k) =
+      judged : Shallow p → judge p (breach-number p) ≡ checked-refused wrong-names → (Shallow p) × (Within p) × (StepsRight p → ⊥)
+      judged h k = let b = number-names p .0 (numbered (breach-number p) k) in (h, b .0, λ r. b .1 (named r))
+
+      forth : checked (written-image x out) ≡ checked-refused wrong-names
+          → (read-stream s ≡ ok p (length s)) ⊎ ((at : ℕ) × (read-stream s ≡ bad at wrong-byte)) → (Shallow p) × (Within p) × (StepsRight p → ⊥)
+      forth q (inl k) = let h = written-read x out p e .0 k in judged h (sym (shallow-judged h) ∙ q)
+      forth q (inr k) =
           let d = checked-written ∙ ap of-read (k .1) in
-          let z : _≡_ {A = ℕ} wrong-byte wrong-names = cc in omega arith
+          let z : _≡_ {A = ℕ} wrong-byte wrong-names = cc in absurd (omega arith)
+
+      back : (Shallow p) × (Within p) × (StepsRight p → ⊥) → checked (written-image x out) ≡ checked-refused wrong-names
+      back h = shallow-judged (h .0) ∙ ap (judge p) (number-names p .1 (h .1, λ n. h .2 (names-steps p n)))
 
 -- Reading and then checking ---------------------------------------------------------------------------
 

@@ -9,3 +9,6 @@ pub mod SteppingLaws
 pub mod Checking
 pub mod CheckingLaws
 pub mod Rows
+pub mod Streamed
+pub mod TextRows
+pub mod DeepRows

@@ -20,6 +20,8 @@ use Rattle.syntax.specs.Rows.{P-derived}
 use Rattle.source.specs.Source.{no-derivation, Outcome.written, Outcome.refused}
 use Rattle.source.specs.TextReader.{of-room, of-held, of-program, of-derivation, of-tokens, of-length, outcome}
 use Rattle.program.specs.Unfold.{encodings}
+use Rattle.tokens.specs.Unfold.{scanning}
+use Rattle.syntax.specs.Unfold.{reading}
 use Rattle.meaning.specs.Unfold.{meanings, holding}
 
 unfoldable pub program-P : Program
@@ -47,3 +49,29 @@ P-text out h = rw (short-P, P-lexed, P-derived, le-ltb (length out) (block-size 
 pub empty-text : (out : List ℕ) → outcome [] out ≡ refused no-derivation
 unfolding outcome of-length of-tokens of-derivation lex run ended read
 empty-text out = refl
+
+-- The order, all with an output of no bytes: each text is refused with the first number whose condition holds --------------
+
+-- #
+pub token-first : outcome (35 ∷ []) [] ≡ refused 15
+unfolding outcome of-length of-tokens scanning
+token-first = refl
+
+-- s
+pub derivation-next : outcome (115 ∷ []) [] ≡ refused 16
+unfolding outcome of-length of-tokens of-derivation scanning reading
+derivation-next = refl
+
+-- struct A() { } s
+unfoldable pub text-uncalled : List ℕ
+text-uncalled =
+    115 ∷ 116 ∷ 114 ∷ 117 ∷ 99 ∷ 116 ∷ 32 ∷ 65 ∷ 40 ∷ 41 ∷ 32 ∷ 123 ∷ 32 ∷ 125 ∷ 32 ∷ 115 ∷ []
+
+pub program-next : outcome text-uncalled [] ≡ refused 17
+unfolding text-uncalled outcome of-length of-tokens of-derivation of-program scanning reading meanings
+program-next = refl
+
+-- P itself
+pub room-last : outcome text-P [] ≡ refused 13
+unfolding outcome of-length of-tokens of-derivation of-program of-held of-room holding meanings encodings
+room-last = rw (short-P, P-lexed, P-derived) refl

@@ -35,8 +35,9 @@ use Rattle.meaning.specs.Nesting.{Shallow}
 use Rattle.meaning.specs.NestingLaws.{counts-split}
 use Rattle.meaning.specs.HoldsDecide.{holds, decides-holds}
 use Rattle.source.specs.Source.{max-text, no-derivation, no-program, Derived, Reading, NoTokens, NoDerivation, NoProgram, ShortOutput, text-order}
-use Rattle.source.specs.Source.{Outcome, Outcome.written, Outcome.refused, output-of}
-use Rattle.source.specs.TextReader.{of-room, of-held, of-program, of-derivation, of-tokens, of-length, outcome, text-output}
+use Rattle.source.specs.Source.{Outcome, Outcome.written, Outcome.refused, number-of, blocks-of, output-of}
+use Rattle.source.specs.TextReader.{of-room, of-held, of-program, of-derivation, of-tokens, of-length, outcome, text-number}
+use Rattle.source.specs.TextReader.{text-blocks, text-output}
 
 -- One reading --------------------------------------------------------------------------------
 
@@ -144,10 +145,10 @@ module _ (x out : List ℕ) where
       held : Tells x (text-order x out) (written p) → Holds p
       held (writes f r h) = h
 
-  -- a refusal leaves the output
-  pub text-untouched : (n : ℕ) → outcome x out ≡ refused n → text-output x out ≡ out
-  unfolding text-output output-of
-  text-untouched n e = rw e refl
+  -- a refusal answers its number and no blocks, and leaves the output
+  pub text-untouched : (n : ℕ) → outcome x out ≡ refused n → (text-number x out ≡ n) × (text-blocks x out ≡ 0) × (text-output x out ≡ out)
+  unfolding text-number number-of text-blocks blocks-of text-output output-of
+  text-untouched n e = (rw e refl, rw e refl, rw e refl)
 
   -- the checker reads the stream that is written back as the program, exactly where its nesting keeps to 01's levels
   pub written-read : (p : Program) → outcome x out ≡ written p → (read-stream (enc-program p) ≡ ok p (length (enc-program p))) ↔ Shallow p

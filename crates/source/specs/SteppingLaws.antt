@@ -8,7 +8,7 @@ use mathlib.Core.Logic.{_⊎_, inl, inr}
 use mathlib.Core.List.{List, [], _∷_, _++_, map, List·Memᴰ, List·Memᴰ·head, List·Memᴰ·tail, List·Memᴰ·not-nil, List·Memᴰ·cases-cons}
 use lib.ListN.{length, getD}
 use Rattle.types.specs.Types.{Ty}
-use Rattle.program.specs.Tree.{Item as Call, Items, Step as Named-step, Program}
+use Rattle.program.specs.Tree.{Item as Call, Item.call, Item.call-in, Item.fix, Items, Items.stop, Items.item, Step as Named-step, Program}
 use Rattle.program.specs.Counts.{All}
 use Rattle.commands.specs.Names.{Once, Named, names-of-steps, NamedSteps, Had, Scheduled-item, Scheduled, NamesRight}
 use Rattle.syntax.specs.Syntax.{Id, Par, Step, Struct, Item, Sched, Program as Derivation}
@@ -110,3 +110,25 @@ steps-left {p = p} (means {d = d} {ts = ts} o us ss s) r =
     let names = step-names ds in
     let called : (x y : Id) (n : ℕ) → Found (λ z. z) x n y names → Had n ts = λ x y n f. had ds names f ss (once-member [] (all-steps ds) (found-member f)) in
     (structs-named ds names p 0 (λ j. rw zero-add refl) us ss (r .once), sched-named ds names ts called s (r .there))
+
+-- The other way: where names are right, so are steps -----------------------------------------------
+
+once-each : (p : Program) (k : ℕ) (tss : List (List Named-step)) → NamedSteps p k tss → All (λ ts. Once (names-of-steps ts)) tss
+once-each p k [] h = tt
+once-each p k (ts ∷ tss) h = (h .0, once-each p (suc k) tss (h .2))
+
+mutual
+  unfolding Scheduled TypedThere
+
+  typed-item : (c : Call) (tss : List (List Named-step)) → Scheduled-item c tss → TypedThere-item c tss
+  typed-item (call n) tss h = tt
+  typed-item (call-in k n) tss h = h
+  typed-item (fix is) tss h = typed-items is tss h
+
+  typed-items : (is : Items) (tss : List (List Named-step)) → Scheduled is tss → TypedThere is tss
+  typed-items stop tss h = tt
+  typed-items (item c is) tss h = (typed-item c tss (h .0), typed-items is tss (h .1))
+
+pub names-steps : (p : Program) → NamesRight p → StepsRight p
+unfolding NamesRight
+names-steps p h = record { once = once-each p 0 (p .steps) (h .0); there = typed-items (p .schedule) (p .steps) (h .1) }

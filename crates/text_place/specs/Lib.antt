@@ -1,3 +1,4 @@
 pub mod Place
+pub mod NamedLaws
 pub mod PlaceLaws
 pub mod DeadLaws

@@ -1,13 +1,15 @@
--- The place at which reading a program text stops (02 §1 asks for none): the first at which no token begins, or the first token with which no derivation
--- goes on.
+-- The place at which reading a program text stops (02 §1 asks for none): the first at which no token begins; the first token with which no derivation goes on;
+-- behind a derivation, the place at which the pass over names stops, the text's end where it does not.
 use Prim.Native.Nat.{ℕ, suc}
 use mathlib.Core.Bool.{Bool, true, false}
 use mathlib.Core.List.{List, [], _∷_}
 use lib.ListN.{length}
 use lib.Dec.{eqb, ltb}
 use Rattle.source.specs.Source.{max-text}
-use Rattle.lexer.specs.Marking.{marks, parts}
-use Rattle.derive.specs.Shape.{Shape, Shape.shape, sample, move}
+use Rattle.lexer.specs.Marking.{marks, parts, kinds-in}
+use Rattle.derive.specs.Shape.{Shape, Shape.shape, sample, move, derived}
+use Rattle.derive.specs.RoleMarks.{role-codes, placed}
+use Rattle.uses.specs.Stopping.{stops}
 
 -- no derivation goes on
 unfoldable pub dead : Shape → Bool
@@ -23,10 +25,20 @@ stuck-from s (k ∷ ks) =
       | false ↦ elim (dead (move s (sample k))) [ true ↦ 0 | false ↦ suc (stuck-from (move s (sample k)) ks) ]
     ]
 
+-- the roles of a text's tokens in their places
+unfoldable pub roles-in : List ℕ → List ℕ
+unfolding placed role-codes
+roles-in ks = placed ks (role-codes (shape 1 []) (kinds-in ks))
+
+unfoldable pub of-derived : Bool → List ℕ → ℕ
+unfolding stuck-from roles-in stops
+of-derived false x = stuck-from (shape 1 []) (marks x)
+of-derived true x = stops x (roles-in (marks x))
+
 unfoldable pub of-parts : Bool → List ℕ → ℕ
-unfolding stuck-from
+unfolding of-derived
 of-parts false x = length (marks x)
-of-parts true x = stuck-from (shape 1 []) (marks x)
+of-parts true x = of-derived (derived (kinds-in (marks x))) x
 
 unfoldable pub of-length : Bool → List ℕ → ℕ
 unfolding of-parts

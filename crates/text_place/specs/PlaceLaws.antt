@@ -13,15 +13,20 @@ use borrow.Author.Tests.{not-true, not-false, ne-eqb, lt-ltb, le-ltb}
 use Rattle.source.specs.Source.{max-text}
 use Rattle.tokens.specs.Tokens.{Token}
 use Rattle.tokens.specs.Scanning.{lex}
-use Rattle.lexer.specs.Marking.{at-spot, marks-of, marks-from, marks, found, parts}
+use Rattle.lexer.specs.Marking.{at-spot, marks-of, marks-from, marks, found, parts, kinds-in}
 use Rattle.lexer.specs.MarkingLaws.{marks-tell}
 use Rattle.lexer.specs.RunLaws.{next-byte}
 use Rattle.lexer.specs.declared.Spot.{Spot}
 use Rattle.lexer.specs.declared.Spot.the-variants.{Marked, Stray}
-use Rattle.derive.specs.Shape.{Shape, Shape.shape, sample, move}
+use Rattle.derive.specs.Shape.{Shape, Shape.shape, sample, move, derived}
+use Rattle.derive.specs.RoleMarks.{role-codes, placed}
 use Rattle.derive.specs.Held.{held, Kept}
 use Rattle.derive.specs.HeldLaws.{kept-shape}
-use Rattle.text_place.specs.Place.{dead, stuck-from, of-parts, of-length, place}
+use Rattle.uses.specs.Declaring.{Fronted}
+use Rattle.uses.specs.DeclaringLaws.{roles-fronted}
+use Rattle.uses.specs.Stopping.{stops}
+use Rattle.read_text.specs.PassLaws.{roled-there}
+use Rattle.text_place.specs.Place.{dead, stuck-from, roles-in, of-derived, of-parts, of-length, place}
 
 -- Where no token begins ------------------------------------------------------------------------------
 
@@ -174,12 +179,33 @@ module _ (x ks₀ ks : List ℕ) (short : length x ≤ max-text) (long : length 
       let w : place x ≡ length (marks x) = by-parts ∙ rw (not-true p h) refl in
       (g ∙ sym w, let b = marks-within 0 x in omega arith)
 
-  pub stuck-place : not p ≡ false → (r : ℕ) → r ≡ stuck-from (shape 1 []) ks → (r ≡ place x) × (r ≤ length x)
-  unfolding of-parts
-  stuck-place h r g =
-      let w : place x ≡ stuck-from (shape 1 []) (marks x) = by-parts ∙ rw (not-false p h) refl in
-      let l = marks-long x (sym (not-false p h) ∙ e) in
-      let m : ks ≡ marks x = f ∙ set-whole ks₀ (marks x) (omega arith) in
-      let b = stuck-within (shape 1 []) (marks x) in
-      let v : r ≡ stuck-from (shape 1 []) (marks x) = g ∙ ap (stuck-from (shape 1 [])) m in
-      (v ∙ sym w, omega arith)
+  -- a text that parts into tokens, its kinds, and then its roles, in lent memory
+  module _ (parted : not p ≡ false) (cs : List ℕ) (q : Bool) (d : q ≡ derived (kinds-in ks)) (k : cs ≡ placed ks (role-codes (shape 1 []) (kinds-in ks))) where
+    marks-all : length (marks x) ≡ length x
+    marks-all = marks-long x (sym (not-false p parted) ∙ e)
+
+    marks-are : ks ≡ marks x
+    marks-are = f ∙ set-whole ks₀ (marks x) (marks-all ∙ sym long)
+
+    by-derived : place x ≡ of-derived q x
+    unfolding of-parts
+    by-derived = by-parts ∙ rw (not-false p parted, d, marks-are) refl
+
+    pub stuck-place : not q ≡ true → (r : ℕ) → r ≡ stuck-from (shape 1 []) ks → (r ≡ place x) × (r ≤ length x)
+    unfolding of-derived
+    stuck-place h r g =
+        let w : place x ≡ stuck-from (shape 1 []) (marks x) = by-derived ∙ rw (not-true q h) refl in
+        let b = stuck-within (shape 1 []) (marks x) in
+        let v : r ≡ stuck-from (shape 1 []) (marks x) = g ∙ ap (stuck-from (shape 1 [])) marks-are in
+        (v ∙ sym w, omega (arith, v, b, marks-all))
+
+    module _ (h : not q ≡ false) where
+      pub fronted-there : Fronted cs
+      fronted-there = let r = roled-there x ks₀ ks long p e f [] parted cs q d k h in roles-fronted (r .derivation) (r .stands)
+
+      pub names-place : length cs ≡ length x → (r : ℕ) → (r ≡ stops x cs) × (r ≤ length cs) → (r ≡ place x) × (r ≤ length x)
+      unfolding of-derived roles-in
+      names-place same r (g, b) =
+          let w : place x ≡ stops x (roles-in (marks x)) = by-derived ∙ rw (not-false q h) refl in
+          let v : cs ≡ roles-in (marks x) = k ∙ ap roles-in marks-are in
+          (g ∙ ap (stops x) v ∙ sym w, omega (arith, b, same))

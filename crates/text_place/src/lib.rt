@@ -1,17 +1,24 @@
-// The place at which reading a program text stops, for a message beside 02's 15 and 16: the first place at which no token begins, or the first token with which
-// no derivation goes on, the text's end where the text ends too early. 02 asks for no place.
+// The place at which reading a program text stops, for a message beside 02's 15, 16 and 17: the first place at which no token begins; the first token with
+// which no derivation goes on, the text's end where the text ends too early; the first place where declarations have no numbers, the token at which the pass
+// over names stops, the text's end where there are too many counts or bytes. 02 asks for no place.
 use derive::Mark;
 use lexer::Spot;
+use uses::Numbered;
 ghost use mathlib.Core.Path.{_≡_};
 ghost use mathlib.Core.List.{[]};
-ghost use Prim.Native.Nat.{_≤_};
+ghost use Prim.Native.Nat.{_≤_, _<_};
 ghost use lib.ListN.{length};
 ghost use Rattle.source.specs.Source.{max-text};
 ghost use Rattle.lexer.specs.Marking.{marks};
 ghost use Rattle.derive.specs.Shape.{Shape.shape};
+ghost use Rattle.uses.specs.Declaring.{Fronted};
+ghost use Rattle.uses.specs.Stopping.{stops};
 ghost use Rattle.text_place.specs.Place.{stuck-from, place};
 
 const MAX_TEXT: usize = 65536;
+
+// Places of the tables of declarations.
+const TABLES: usize = 323;
 
 // The state before the first struct; the one in which no derivation goes on.
 const START: u8 = 1;
@@ -60,15 +67,33 @@ fn stuck(kinds: &[u8], stack: &mut [u8]) -> usize
     i
 }
 
-// The place at which reading a text of that many bytes at the most stops, in memory for the kinds of its tokens.
+// Behind a derivation, by the roles that it gives the tokens: where the pass over names stops; the end where it does not.
+fn unnamed(text: &[u8], roles: &[u8], stack: &mut [u8]) -> usize
+    requires { ⌜ (length (now roles) ≡ length (now text)) × (length (now text) ≤ max-text) × (length (now roles) < length (now stack)) ⌝ }
+    requires { ⌜ Fronted (now roles) ⌝ }
+    ensures { λ r. ⌜ (r ≡ stops (now (text .entry)) (now (roles .entry))) × (r ≤ length (now (roles .entry))) ⌝ }
+{
+    let mut numbers = [0u8; MAX_TEXT];
+    let mut tables = [0usize; TABLES];
+    match uses::numbers(text, roles, &mut tables, stack, &mut numbers) {
+        Numbered::Count(_) => roles.len(),
+        Numbered::Nothing(p) => p,
+    }
+}
+
+// The place at which reading a text of that many bytes at the most stops, in memory for the kinds of its tokens and then their roles.
 fn stopped(text: &[u8], kinds: &mut [u8], stack: &mut [u8]) -> usize
-    requires { ⌜ (length (now kinds) ≡ length (now text)) × (length (now text) ≤ max-text) × (length (now kinds) ≤ length (now stack)) ⌝ }
+    requires { ⌜ (length (now kinds) ≡ length (now text)) × (length (now text) ≤ max-text) × (length (now kinds) < length (now stack)) ⌝ }
     ensures { λ r. ⌜ (r ≡ place (now (text .entry))) × (r ≤ length (now (text .entry))) ⌝ }
 {
     if !lexer::mark(text, kinds) {
         return unmarked(text);
     }
-    stuck(kinds, stack)
+    let p = stuck(kinds, stack);
+    if !derive::derived(kinds, stack) {
+        return p;
+    }
+    unnamed(text, kinds, stack)
 }
 
 // The place at which reading a text stops.
@@ -80,6 +105,6 @@ pub fn place(text: &[u8]) -> usize
         return MAX_TEXT;
     }
     let mut kinds = [0u8; MAX_TEXT];
-    let mut stack = [0u8; MAX_TEXT];
+    let mut stack = [0u8; MAX_TEXT + 1];
     stopped(text, &mut kinds[..n], &mut stack)
 }

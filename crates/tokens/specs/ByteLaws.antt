@@ -7,9 +7,9 @@ use mathlib.Core.List.{List, [], _∷_, _++_, append-assoc}
 use lib.ListN.{length, take, drop, length-append}
 use lib.Dec.{eqb, leb}
 use borrow.Author.Tests.{eqb-true, eq-eqb, leb-true, lt-leb}
-use Rattle.tokens.specs.Tokens.{between, letter, digit, blank, every}
+use Rattle.tokens.specs.Tokens.{between, letter, digit, blank, every, same}
 use Rattle.tokens.specs.Lexing.{slash, star, close, Closes}
-use Rattle.tokens.specs.Scanning.{span, same, begins, one-more, closing, Class, Class.letters, Class.digits, Class.blanks, Class.others, class}
+use Rattle.tokens.specs.Scanning.{span, begins, one-more, closing, Class, Class.letters, Class.digits, Class.blanks, Class.others, class}
 
 -- Tests ------------------------------------------------------------------------------
 

@@ -5,11 +5,11 @@ use mathlib.Core.Path.{_≡_, refl, sym, ap, _∙_}
 use mathlib.Core.Bool.{Bool, true, false, _&&_, false≢true}
 use mathlib.Core.List.{List, [], _∷_, _++_}
 use lib.ListN.{length, drop}
-use Rattle.tokens.specs.Tokens.{Word, Word.w-struct, Word.w-if, Word.w-then, Word.w-null, Word.w-this, Word.w-fix, Word.w-int, Word.w-nat}
+use Rattle.tokens.specs.Tokens.{Word, Word.w-struct, Word.w-if, Word.w-then, Word.w-null, Word.w-this, Word.w-fix, Word.w-int, Word.w-nat, same}
 use Rattle.tokens.specs.Tokens.{Word.w-bool, Word.w-string, Word.w-true, Word.w-false}
 use Rattle.tokens.specs.Tokens.{Token, Token.word, Token.sign, Token.op, Token.name, Token.int, Token.nat, word-spelling, sign-spelling}
 use Rattle.tokens.specs.Tokens.{op-spelling, spelling, Name, Proper}
-use Rattle.tokens.specs.Scanning.{Front, Front.token, Front.nothing, same, begins, words, find-word, named, doubles, singles, signs}
+use Rattle.tokens.specs.Scanning.{Front, Front.token, Front.nothing, begins, words, find-word, named, doubles, singles, signs}
 use Rattle.tokens.specs.Scanning.{behind-first, find-sign}
 use Rattle.tokens.specs.ByteLaws.{both-true, same-true, begins-true}
 

@@ -3,8 +3,10 @@ use Prim.Native.Nat.{ℕ}
 use mathlib.Core.Path.{_≡_, refl}
 use mathlib.Core.List.{List, [], _∷_}
 use mathlib.Core.Option.{Option, none, some}
-use Rattle.program.specs.Tree.{Op.op-eq, Op.op-ne, Op.op-le, Op.op-lt, Op.op-mul, Op.op-div, Op.op-add, Op.op-sub, Op.op-and, Op.op-or}
-use Rattle.tokens.specs.Tokens.{Word.w-struct, Word.w-then, Word.w-int, Word.w-string}
+use Rattle.program.specs.Tree.{Op.op-eq, Op.op-ne, Op.op-le, Op.op-ge, Op.op-lt, Op.op-gt, Op.op-mul, Op.op-div, Op.op-rem, Op.op-add, Op.op-sub}
+use Rattle.program.specs.Tree.{Op.op-and, Op.op-or}
+use Rattle.tokens.specs.Tokens.{Word.w-struct, Word.w-if, Word.w-then, Word.w-null, Word.w-this, Word.w-fix, Word.w-int, Word.w-nat, Word.w-bool}
+use Rattle.tokens.specs.Tokens.{Word.w-string, Word.w-true, Word.w-false}
 use Rattle.tokens.specs.Tokens.{Sign.lpar, Sign.rpar, Sign.lbrace, Sign.rbrace, Sign.comma, Sign.colon, Sign.semicolon, Sign.assign, Sign.dot}
 use Rattle.tokens.specs.Tokens.{Sign.bang, Polarity.plus, Polarity.minus}
 use Rattle.tokens.specs.Tokens.{Token, Token.word, Token.sign, Token.op, Token.name, Token.int, Token.nat}
@@ -71,6 +73,18 @@ rows =
     ∷ row (9 ∷ 97 ∷ 13 ∷ 10 ∷ 98 ∷ []) (some (name (97 ∷ []) ∷ name (98 ∷ []) ∷ []))
     -- the empty text
     ∷ row ([]) (some ([]))
+    -- AZaz_09, the ends of the ranges of a name's bytes
+    ∷ row (65 ∷ 90 ∷ 97 ∷ 122 ∷ 95 ∷ 48 ∷ 57 ∷ []) (some (name (65 ∷ 90 ∷ 97 ∷ 122 ∷ 95 ∷ 48 ∷ 57 ∷ []) ∷ []))
+    -- +09, the ends of the digits
+    ∷ row (43 ∷ 48 ∷ 57 ∷ []) (some (int plus (48 ∷ 57 ∷ []) ∷ []))
+    -- if null this Fix Nat Bool true false
+    ∷ row (105 ∷ 102 ∷ 32 ∷ 110 ∷ 117 ∷ 108 ∷ 108 ∷ 32 ∷ 116 ∷ 104 ∷ 105 ∷ 115 ∷ 32 ∷ 70 ∷ 105 ∷ 120 ∷ 32 ∷ 78 ∷ 97 ∷ 116 ∷ 32 ∷
+    66 ∷ 111 ∷ 111 ∷ 108 ∷ 32 ∷ 116 ∷ 114 ∷ 117 ∷ 101 ∷ 32 ∷ 102 ∷ 97 ∷ 108 ∷ 115 ∷ 101 ∷ []) (some (word w-if ∷ word w-null ∷ word w-this ∷ word w-fix
+    ∷ word w-nat ∷ word w-bool ∷ word w-true ∷ word w-false ∷ []))
+    -- >=>%
+    ∷ row (62 ∷ 61 ∷ 62 ∷ 37 ∷ []) (some (op op-ge ∷ op op-gt ∷ op op-rem ∷ []))
+    -- a/**/b/**/c: a comment ends at the first close
+    ∷ row (97 ∷ 47 ∷ 42 ∷ 42 ∷ 47 ∷ 98 ∷ 47 ∷ 42 ∷ 42 ∷ 47 ∷ 99 ∷ []) (some (name (97 ∷ []) ∷ name (98 ∷ []) ∷ name (99 ∷ []) ∷ []))
     -- - 1
     ∷ row (45 ∷ 32 ∷ 49 ∷ []) none
     -- 3
@@ -95,6 +109,13 @@ rows =
     ∷ row (195 ∷ 169 ∷ []) none
     -- #
     ∷ row (35 ∷ []) none
+    -- \x0b, no blank
+    ∷ row (11 ∷ []) none
+    -- @ and [, next to the capitals
+    ∷ row (64 ∷ []) none
+    ∷ row (91 ∷ []) none
+    -- `, next to the small letters
+    ∷ row (96 ∷ []) none
     ∷ []
 
 pub rows-hold : Rows rows
@@ -104,7 +125,8 @@ rows-hold =
     (and-then refl (and-then refl (and-then refl (and-then refl (and-then refl (and-then refl (and-then refl (and-then refl
     (and-then refl (and-then refl (and-then refl (and-then refl (and-then refl (and-then refl (and-then refl (and-then refl
     (and-then refl (and-then refl (and-then refl (and-then refl (and-then refl (and-then refl (and-then refl (and-then refl
-    (and-then refl (and-then refl no-more))))))))))))))))))))))))))))))))))
+    (and-then refl (and-then refl (and-then refl (and-then refl (and-then refl (and-then refl (and-then refl (and-then refl
+    (and-then refl (and-then refl (and-then refl no-more)))))))))))))))))))))))))))))))))))))))))))
 
 -- struct Deck(load: Int, prev: Deck) { add { load := (load + prev.load); } } add
 unfoldable pub text-P : List ℕ

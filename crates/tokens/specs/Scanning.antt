@@ -12,7 +12,7 @@ use Rattle.tokens.specs.Tokens.{Word.w-bool, Word.w-string, Word.w-true,
 use Rattle.tokens.specs.Tokens.{Sign.lpar, Sign.rpar, Sign.lbrace, Sign.rbrace, Sign.comma, Sign.colon, Sign.semicolon, Sign.assign, Sign.dot}
 use Rattle.tokens.specs.Tokens.{Sign.bang, Polarity, Polarity.plus, Polarity.minus}
 use Rattle.tokens.specs.Tokens.{Token, Token.word, Token.sign, Token.op, Token.name, Token.int, Token.nat, letter, digit, name-byte, blank}
-use Rattle.tokens.specs.Tokens.{word-spelling, spelling, nat-end-byte}
+use Rattle.tokens.specs.Tokens.{same, word-spelling, spelling, nat-end-byte}
 use Rattle.tokens.specs.Lexing.{slash, star, close}
 
 -- what stands at the front, with the count of its bytes behind the first
@@ -25,12 +25,6 @@ pub data Front : Type 0 where
 unfoldable pub span : (ℕ → Bool) → List ℕ → ℕ
 span p [] = 0
 span p (b ∷ s) = elim (p b) [ true ↦ suc (span p s) | false ↦ 0 ]
-
-unfoldable pub same : List ℕ → List ℕ → Bool
-same [] [] = true
-same [] (b ∷ t) = false
-same (a ∷ s) [] = false
-same (a ∷ s) (b ∷ t) = eqb a b && same s t
 
 -- whether u is a front of x
 unfoldable pub begins : List ℕ → List ℕ → Bool

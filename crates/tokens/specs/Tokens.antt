@@ -52,6 +52,13 @@ unfoldable pub every : (ℕ → Bool) → List ℕ → Bool
 every p [] = true
 every p (b ∷ s) = p b && every p s
 
+-- whether two are one
+unfoldable pub same : List ℕ → List ℕ → Bool
+same [] [] = true
+same [] (b ∷ t) = false
+same (a ∷ s) [] = false
+same (a ∷ s) (b ∷ t) = eqb a b && same s t
+
 -- Spelling -----------------------------------------------------------------------
 
 unfoldable pub word-spelling : Word → List ℕ

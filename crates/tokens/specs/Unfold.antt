@@ -1,6 +1,6 @@
 -- Groups of definitions that rows and proofs look into together: where an `unfolding` line has the name of a group, all of the group unfolds.
-use Rattle.tokens.specs.Tokens.{between, letter, digit, name-byte, blank, word-spelling, sign-spelling, op-spelling, spelling}
-use Rattle.tokens.specs.Scanning.{span, same, begins, one-more, closing, words, find-word, named, doubles, singles, signs, behind-first, find-sign, class}
+use Rattle.tokens.specs.Tokens.{between, letter, digit, name-byte, blank, word-spelling, sign-spelling, op-spelling, spelling, same}
+use Rattle.tokens.specs.Scanning.{span, begins, one-more, closing, words, find-word, named, doubles, singles, signs, behind-first, find-sign, class}
 use Rattle.tokens.specs.Scanning.{polarity, signed, opens, nat-front, comment-front, after-star, other-front, front-of, front, added, taken, lex}
 
 -- classes of bytes

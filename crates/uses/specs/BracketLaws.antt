@@ -17,7 +17,9 @@ use Rattle.types.specs.Values.{in-int, int-word}
 use Rattle.meaning.specs.Values.{signed, decimal}
 use Rattle.types.specs.Limits.{nat-end}
 use Rattle.meaning.specs.Meant.{then, provided, literal-meaning}
-use Rattle.derive.specs.Roles.{Part.brackets-open, Part.brackets-close, Part.args-open, Part.args-close, Part.no-args-close, Part.pars-open, Part.pars-close, Part.fix-open, Part.fix-close, Part.steps-open, Part.steps-close, Part.body-open, Part.body-close, Part.then-open, Part.then-close, Part.par-comma, Part.arg-comma, Part.barrier-sign}
+use Rattle.derive.specs.Roles.{Part.brackets-open, Part.brackets-close, Part.args-open, Part.args-close, Part.no-args-close, Part.pars-open, Part.pars-close}
+use Rattle.derive.specs.Roles.{Part.fix-open, Part.fix-close, Part.steps-open, Part.steps-close, Part.body-open, Part.body-close, Part.then-open}
+use Rattle.derive.specs.Roles.{Part.then-close, Part.par-comma, Part.arg-comma, Part.barrier-sign}
 use Rattle.resolve.specs.Digits.{digits-of, word-of, nat-at, int-at}
 use Rattle.resolve.specs.Using.{Use, live, chosen, use-goes, use-closes, use-dies, use-opens, use-part, use-token}
 use Rattle.resolve.specs.UsingAt.{part-at, use-kind}

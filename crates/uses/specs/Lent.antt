@@ -104,11 +104,11 @@ Next t l c (Left d n) = Roomy t l d × Grown c d
 unfoldable pub numbered-in : List ℕ → Numbered → Option (List ℕ)
 unfolding held
 numbered-in m (numbered.Count n) = some (held m n)
-numbered-in m numbered.Nothing = none
+numbered-in m (numbered.Nothing p) = none
 
 unfoldable pub Counted : List ℕ → Numbered → Type 0 → Type 0
 Counted m (numbered.Count n) A = (n ≤ length m) × A
-Counted m numbered.Nothing A = Unit {0}
+Counted m (numbered.Nothing p) A = Unit {0}
 
 unfoldable pub used-out : Option Use → Option (List ℕ)
 unfolding then

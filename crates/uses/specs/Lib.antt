@@ -1,5 +1,6 @@
 pub mod PartLaws
 pub mod Lent
+pub mod Stopping
 pub mod Declaring
 pub mod Seeing
 pub mod SeeingLaws

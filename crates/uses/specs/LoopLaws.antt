@@ -1,5 +1,5 @@
 -- The pass over uses place by place, in lent memory (02 §1): a byte's group, and the loop over the roles of a text.
-use Prim.Native.Nat.{ℕ, _+_, _-_, _≤_, _<_}
+use Prim.Native.Nat.{ℕ, suc, _+_, _-_, _≤_, _<_}
 use native.Mathlib.Omega.{arith}
 use native.Mathlib.Numerals.{add-one}
 use mathlib.Core.Path.{_≡_, refl, sym, ap, _∙_}
@@ -18,6 +18,7 @@ use Rattle.resolve.specs.Using.{Book, Use, chosen, use-start, use-name, use-typ
 use Rattle.resolve.specs.UsingAt.{naming-at, typed-at, number-at, part-at, use-kind, use-at, uses-at}
 use Rattle.uses.specs.PartLaws.{up-to}
 use Rattle.uses.specs.Lent.{book-in, use-in, Roomy, passed-in, Next, numbered-in, used-out}
+use Rattle.uses.specs.Stopping.{counts-on, stops-at}
 use Rattle.uses.specs.declared.Scope.{Scope}
 use Rattle.uses.specs.declared.Passed.{Passed}
 use Rattle.uses.specs.declared.Passed.the-variants.{Stop, On, Left}
@@ -64,6 +65,7 @@ pub record Reached (x roles t l₀ k₀ m₀ l k m : List ℕ) (c : Scope) (n i 
   pub stack : length k ≡ length k₀
   pub numbers : length m ≡ length m₀
   pub whole : uses-at (book-in x t) (drop i x) (drop i roles) (use-in x l k c (held m n)) ≡ uses-at (book-in x t) x roles use-start
+  pub stop : i + stops-at (book-in x t) (drop i x) (drop i roles) (use-in x l k c (held m n)) ≡ stops-at (book-in x t) x roles use-start
 
 abbrev pub first-scope : Scope
 first-scope = record { begun = 0; met = 0; living = 0; fresh = 0; typ = 0; dues = 0; bodies = 0 }
@@ -88,6 +90,10 @@ module _ (x roles t l₀ k₀ m₀ : List ℕ) where
         stack = refl;
         numbers = refl;
         whole = ap (λ u. uses-at (book-in x t) x roles u) start-use;
+        stop =
+            let w : stops-at (book-in x t) (drop 0 x) (drop 0 roles) (use-in x l₀ k₀ first-scope (held m₀ 0)) ≡ stops-at (book-in x t) x roles use-start =
+            ap (λ u. stops-at (book-in x t) x roles u) start-use in
+            omega (arith, w);
       }
 
   module _ (same : length roles ≡ length x) {l k m : List ℕ} {c : Scope} {n i : ℕ} (r : Reached x roles t l₀ k₀ m₀ l k m c n i) where
@@ -113,6 +119,19 @@ module _ (x roles t l₀ k₀ m₀ : List ℕ) where
           (λ s. then (chosen (eqb (getD roles i 0) 0) (some used) (use-at book (getD roles i 0) s used)) (uses-at book (drop (i + 1) x) (drop (i + 1) roles)))
           (sym e)
 
+      one-stop : stops-at book (drop i x) (drop i roles) used
+          ≡ counts-on (chosen (eqb (getD roles i 0) 0) (some used) (use-at book (getD roles i 0) (drop i x) used)) (stops-at book (drop (i + 1) x)
+          (drop (i + 1) roles))
+      unfolding stops-at
+      one-stop =
+          let e = here x (omega (arith, inside, same)) in
+          let f = here roles inside in
+          ap (λ s. stops-at book s (drop i roles) used) e ∙ ap (λ s. stops-at book (getD x i 0 ∷ drop (i + 1) x) s used) f
+          ∙ ap
+          (λ s. counts-on (chosen (eqb (getD roles i 0) 0) (some used) (use-at book (getD roles i 0) s used))
+          (stops-at book (drop (i + 1) x) (drop (i + 1) roles)))
+          (sym e)
+
       -- what the code's turn says
       module _ (l' k' : List ℕ) (p : Passed)
           (e : (o : List ℕ) → passed-in x l' k' p o
@@ -124,12 +143,23 @@ module _ (x roles t l₀ k₀ m₀ : List ℕ) where
             ap (λ z. then z (uses-at book (drop (i + 1) x) (drop (i + 1) roles))) (ap (λ z. passed-in x l' k' z (held m n)) (sym f) ∙ e (held m n))
             ∙ sym one-place ∙ r .whole
 
-        pub reached-stop : (m' : List ℕ) → p ≡ Stop → numbered-in m' Nothing ≡ used-out (uses-at book x roles use-start)
+        next-stop : (q : Passed) → p ≡ q
+            → i + counts-on (passed-in x l' k' q (held m n)) (stops-at book (drop (i + 1) x) (drop (i + 1) roles)) ≡ stops-at book x roles use-start
+        next-stop q f =
+            ap (λ z. i + counts-on z (stops-at book (drop (i + 1) x) (drop (i + 1) roles)))
+            (ap (λ z. passed-in x l' k' z (held m n)) (sym f) ∙ e (held m n))
+            ∙ ap (λ z. i + z) (sym one-stop) ∙ r .stop
+
+        pub stopped-here : p ≡ Stop → i ≡ stops-at book x roles use-start
+        unfolding passed-in counts-on
+        stopped-here f = let w : i + 0 ≡ stops-at book x roles use-start = next-stop Stop f in omega (arith, w)
+
+        pub reached-stop : (m' : List ℕ) (o : ℕ) → p ≡ Stop → numbered-in m' (Nothing o) ≡ used-out (uses-at book x roles use-start)
         unfolding passed-in then numbered-in used-out
-        reached-stop m' f = ap used-out (next-place Stop f)
+        reached-stop m' o f = ap used-out (next-place Stop f)
 
         pub reached-on : {d : Scope} → p ≡ On d → Reached x roles t l₀ k₀ m₀ l' k' m d n (i + 1)
-        unfolding passed-in then Next
+        unfolding passed-in then Next counts-on
         reached-on {d} f =
             let a : Roomy t l' d × (d .dues + d .bodies ≤ c .dues + c .bodies + 1) = rw f at g in
             record {
@@ -141,10 +171,14 @@ module _ (x roles t l₀ k₀ m₀ : List ℕ) where
               stack = h .0 ∙ r .stack;
               numbers = r .numbers;
               whole = next-place (On d) f;
+              stop =
+                  let w : i + suc (stops-at book (drop (i + 1) x) (drop (i + 1) roles) (use-in x l' k' d (held m n))) ≡ stops-at book x roles use-start =
+                  next-stop (On d) f in
+                  omega (arith, w);
             }
 
         pub reached-left : {d : Scope} {v : ℕ} → length roles ≤ length m₀ → p ≡ Left d v → Reached x roles t l₀ k₀ m₀ l' k' (set m n v) d (n + 1) (i + 1)
-        unfolding passed-in then Next
+        unfolding passed-in then Next counts-on
         reached-left {d} {v} fits f =
             let a : Roomy t l' d × (d .dues + d .bodies ≤ c .dues + c .bodies + 1) = rw f at g in
             let b : held (set m n v) (n + 1) ≡ v ∷ held m n = held-push m n v (omega (arith, fits, r .numbers, r .few, inside)) in
@@ -158,6 +192,11 @@ module _ (x roles t l₀ k₀ m₀ : List ℕ) where
               numbers = length-set m n v ∙ r .numbers;
               whole =
                   ap (λ z. uses-at book (drop (i + 1) x) (drop (i + 1) roles) (use-in x l' k' d z)) b ∙ next-place (Left d v) f;
+              stop =
+                  let w : i + suc (stops-at book (drop (i + 1) x) (drop (i + 1) roles) (use-in x l' k' d (v ∷ held m n))) ≡ stops-at book x roles use-start =
+                  next-stop (Left d v) f in
+                  let s = ap (λ z. stops-at book (drop (i + 1) x) (drop (i + 1) roles) (use-in x l' k' d z)) b in
+                  omega (arith, w, s);
             }
 
     pub reached-end : length roles ≤ i → numbered-in m (Count n) ≡ used-out (uses-at book x roles use-start)
@@ -165,3 +204,11 @@ module _ (x roles t l₀ k₀ m₀ : List ℕ) where
     reached-end h =
         let e : drop i x ≡ [] = drop-of-length-le x {i = i} (omega (arith, h, same)) in
         ap used-out (sym (ap (λ s. uses-at book s (drop i roles) used) e) ∙ r .whole)
+
+    pub stopped-end : length roles ≤ i → length roles ≡ stops-at book x roles use-start
+    unfolding stops-at
+    stopped-end h =
+        let e : drop i x ≡ [] = drop-of-length-le x {i = i} (omega (arith, h, same)) in
+        let w : i + stops-at book [] (drop i roles) used ≡ stops-at book x roles use-start =
+        ap (λ s. i + stops-at book s (drop i roles) used) (sym e) ∙ r .stop in
+        omega (arith, w, h, r .inner)

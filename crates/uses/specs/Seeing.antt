@@ -7,7 +7,8 @@ use lib.Dec.{ltb}
 use Rattle.types.specs.Limits.{first-local}
 use Rattle.types.specs.Types.{struct-code}
 use Rattle.syntax.specs.Syntax.{Id}
-use Rattle.derive.specs.Roles.{Naming, Naming.new-struct, Naming.new-par, Naming.new-step, Naming.new-local, Naming.first-read, Naming.first-written, Naming.later-variable, Naming.made, Naming.made-statement, Naming.called, Naming.called-struct, Naming.called-step}
+use Rattle.derive.specs.Roles.{Naming, Naming.new-struct, Naming.new-par, Naming.new-step, Naming.new-local, Naming.first-read, Naming.first-written}
+use Rattle.derive.specs.Roles.{Naming.later-variable, Naming.made, Naming.made-statement, Naming.called, Naming.called-struct, Naming.called-step}
 use Rattle.resolve.specs.Named.{sought}
 use Rattle.resolve.specs.Using.{Book, Use, chosen, own-row, leave}
 use Rattle.uses.specs.declared.Scope.{Scope}

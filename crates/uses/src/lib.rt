@@ -11,6 +11,7 @@ ghost use lib.ListN.{length};
 ghost use Rattle.resolve.specs.Resolved.{resolved};
 ghost use Rattle.uses.specs.Declaring.{Fronted, Tabled};
 ghost use Rattle.uses.specs.Lent.{numbered-in, Counted};
+ghost use Rattle.uses.specs.Stopping.{stops, stop-in};
 
 // Where the pass stands: structs begun, locals declared, those alive with the one that is not alive yet, whether there is such a one, the byte of the type
 // passed last, argument lists open, ifs open.
@@ -37,10 +38,10 @@ pub enum Passed {
     Left(Scope, u8),
 }
 
-// How many numbers a text's names have; or 17.
+// How many numbers a text's names have; or 17, and the place at which the pass stopped.
 pub enum Numbered {
     Count(usize),
-    Nothing,
+    Nothing(usize),
 }
 
 // The numbers of a text's names, in order; or that 17 holds for names or declarations. The tables of declarations stay.
@@ -56,9 +57,11 @@ pub fn numbers(
     requires { ⌜ Fronted (now roles) ⌝ }
     ensures { λ r. ⌜ numbered-in (now (numbers .exit)) r ≡ resolved (now (text .entry)) (now (roles .entry)) ⌝ }
     ensures { λ r. ⌜ Counted (now (numbers .exit)) r (Tabled (now (text .entry)) (now (roles .entry)) (now (tables .exit))) ⌝ }
+    ensures { λ r. ⌜ (stop-in r (length (now (roles .entry))) ≡ stops (now (text .entry)) (now (roles .entry)))
+        × (stop-in r (length (now (roles .entry))) ≤ length (now (roles .entry))) ⌝ }
 {
     if !tabling::fill(text, roles, tables) {
-        return Numbered::Nothing;
+        return Numbered::Nothing(0);
     }
     let mut locals: [usize; 32] = [0; 32];
     pass::uses(text, roles, tables, &mut locals, stack, numbers)

@@ -13,6 +13,7 @@ ghost use lib.Dec.{eqb};
 ghost use Rattle.resolve.specs.Using.{chosen, use-start};
 ghost use Rattle.resolve.specs.UsingAt.{use-at, uses-at};
 ghost use Rattle.uses.specs.Lent.{book-in, Booked, use-in, Roomy, passed-in, Next, numbered-in, used-out, Counted};
+ghost use Rattle.uses.specs.Stopping.{stops-at, stop-in};
 
 // One place where a token begins.
 fn use_at(
@@ -67,7 +68,7 @@ fn turn(
     use_at(text, tables, locals, stack, at, role, c)
 }
 
-// The numbers of a text's uses, in order; or that there are none (17).
+// The numbers of a text's uses, in order; or that there are none (17), and the place of the token at which that is told.
 pub(crate) fn uses(
     text: &[u8],
     roles: &[u8],
@@ -81,6 +82,9 @@ pub(crate) fn uses(
     ensures { λ r. ⌜ numbered-in (now (numbers .exit)) r
         ≡ used-out (uses-at (book-in (now (text .entry)) (now (tables .entry))) (now (text .entry)) (now (roles .entry)) use-start) ⌝ }
     ensures { λ r. ⌜ Counted (now (numbers .exit)) r (Unit {0}) ⌝ }
+    ensures { λ r. ⌜ (stop-in r (length (now (roles .entry)))
+        ≡ stops-at (book-in (now (text .entry)) (now (tables .entry))) (now (text .entry)) (now (roles .entry)) use-start)
+        × (stop-in r (length (now (roles .entry))) ≤ length (now (roles .entry))) ⌝ }
     ensures { λ _. ⌜ (length (now (stack .exit)) ≡ length (now (stack .entry))) × (length (now (locals .exit)) ≡ length (now (locals .entry)))
         × (length (now (numbers .exit)) ≡ length (now (numbers .entry))) ⌝ }
 {
@@ -99,7 +103,7 @@ pub(crate) fn uses(
         let at = i;
         i += 1;
         match turn(text, tables, locals, stack, at, roles[at], c) {
-            Passed::Stop => return Numbered::Nothing,
+            Passed::Stop => return Numbered::Nothing(at),
             Passed::On(d) => {
                 c = d;
             }

@@ -4,8 +4,7 @@ use native.Mathlib.Omega.{arith}
 use mathlib.Core.Path.{_≡_, sym, _∙_}
 use lib.ListN.{length, length-replicate}
 use lib.Seq.{length-take-le}
-use Rattle.uses.specs.declared.Numbered.the-variants.{Count}
-use Rattle.read_text.specs.TableLaws.{fronted}
+use Rattle.uses.specs.DeclaringLaws.{roles-fronted}
 use Rattle.read_text.specs.MeantLaws.{unnamed-ends, rows-there, count-told, over-ends, at-ends, stream-long, inside}
 use borrow.Author.Needs.{needs}
 use Rattle.read_text.proofs.meant.Statement.{statement}
@@ -33,21 +32,21 @@ numbers-requires c κs =
       (pre .0, pre .2),
       (
         (simp length-replicate (omega (arith, pre .0, pre .1)), length-replicate {A = ℕ} 323 0),
-        fronted (args .text .now) (args .roles .now) (r .derivation) (r .stands),
+        roles-fronted (r .derivation) (r .stands),
       ),
     )
 
 returns : tie.Need-returns
 returns c =
     let at-told = c .before in let n = at-numbers (at-told .before .before) in let args = entry (n .before) .args in
-    unnamed-ends (args .text .now) (args .roles .now) (args .out .now) _ (n .numbers2 .result) (n .numbers2 .ensures .0) (at-told .enum-told .given .1) _
+    unnamed-ends (args .text .now) (args .roles .now) (args .out .now) _ (n .numbers2 .result) (n .numbers2 .ensures .0) _ (at-told .enum-told .given .1) _
     (c .refused .ensures)
 
 array-share-prefix-numbers : tie.Need-array-share-prefix-numbers
 array-share-prefix-numbers c =
     let at-names = c .before in let n = at-numbers (at-names .before .before) in let args = entry (n .before) .args in
     count-told (args .text .now) (args .roles .now) (args .out .now) _ (n .numbers2 .result) (n .numbers2 .ensures .0) _ (at-names .names .given .1)
-    (n .numbers2 .ensures .1) .0
+    (n .numbers2 .ensures .1 .0) .0
 
 slice-aggregate-composed : tie.Need-slice-aggregate-composed
 slice-aggregate-composed c = sym (length-take-le _ _ (array-share-prefix-numbers (c .before)))
@@ -60,7 +59,7 @@ composed-requires c κs =
       (
         (
           s .pre .1,
-          count-told (args .text .now) (args .roles .now) (args .out .now) _ (r .result) (r .ensures .0) _ (at-names .names .given .1) (r .ensures .1) .1,
+          count-told (args .text .now) (args .roles .now) (args .out .now) _ (r .result) (r .ensures .0) _ (at-names .names .given .1) (r .ensures .1 .0) .1,
         ),
         rows-there (args .text .now) (args .roles .now) (args .out .now) _ (r .result) (r .ensures .0) _ (at-names .names .given .1) (s .pre .1),
       ),

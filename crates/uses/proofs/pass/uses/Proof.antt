@@ -5,7 +5,8 @@ use native.Mathlib.Omega.{arith}
 use lib.ListN.{length}
 use borrow.Author.Needs.{needs}
 use Rattle.uses.specs.Lent.{Counted}
-use Rattle.uses.specs.LoopLaws.{Reached, reached-start, reached-stop, reached-on, reached-left, reached-end}
+use Rattle.uses.specs.Stopping.{stop-in}
+use Rattle.uses.specs.LoopLaws.{Reached, reached-start, reached-stop, reached-on, reached-left, reached-end, stopped-here, stopped-end}
 use Rattle.uses.proofs.pass.uses.Statement.{statement}
 use Rattle.uses.proofs.pass.uses.Tie as tie
 
@@ -64,7 +65,7 @@ same-length-3 c =
     at-8 .before .before .before .loop .inv .numbers
 
 returns : tie.Need-returns Inv-loop μ-loop
-unfolding Counted
+unfolding Counted stop-in
 returns c =
     let at-4 = c .before .before .before .before in
     let at-8 = at-4 .before .before .before .before in
@@ -74,9 +75,21 @@ returns c =
     let inv = at-8 .before .before .before .loop .inv in (
       reached-stop (a .text .now) (a .roles .now) (a .tables .now) (a .locals .now) (a .stack .now) (a .numbers .now) (at-16 .before .before .pre .1 .0) inv
           (at-8 .before .before .loop-test .taken)
-          _ _ _ (at-4 .before .before .turn .ensures .0) (at-4 .before .before .turn .ensures .1 .0) (at-4 .before .before .turn .ensures .1 .1) _
+          _ _ _ (at-4 .before .before .turn .ensures .0) (at-4 .before .before .turn .ensures .1 .0) (at-4 .before .before .turn .ensures .1 .1) _ _
           (c .enum-told .given .1),
-      (tt, (at-4 .before .before .turn .ensures .1 .1 .0 ∙ inv .stack, at-4 .before .before .turn .ensures .1 .1 .1 ∙ inv .locals, inv .numbers)),
+      (
+        tt,
+        (
+          (
+            stopped-here (a .text .now) (a .roles .now) (a .tables .now) (a .locals .now) (a .stack .now) (a .numbers .now)
+                (at-16 .before .before .pre .1 .0) inv (at-8 .before .before .loop-test .taken)
+                _ _ _ (at-4 .before .before .turn .ensures .0) (at-4 .before .before .turn .ensures .1 .0) (at-4 .before .before .turn .ensures .1 .1)
+                (c .enum-told .given .1),
+            omega (arith, at-8 .before .before .loop-test .taken),
+          ),
+          (at-4 .before .before .turn .ensures .1 .1 .0 ∙ inv .stack, at-4 .before .before .turn .ensures .1 .1 .1 ∙ inv .locals, inv .numbers),
+        ),
+      ),
     )
 
 loop-less : tie.Need-loop-less Inv-loop μ-loop
@@ -148,14 +161,23 @@ same-length-6 : tie.Need-same-length-6 Inv-loop μ-loop
 same-length-6 c = c .before .loop .inv .numbers
 
 returns-2 : tie.Need-returns-2 Inv-loop μ-loop
-unfolding Counted
+unfolding Counted stop-in
 returns-2 c =
     let at-4 = c .before .before .before .before in
     let at-8 = at-4 .before .before .before .before in
     let a = at-8 .args in
-    let inv = c .before .loop .inv in (
-      reached-end (a .text .now) (a .roles .now) (a .tables .now) (a .locals .now) (a .stack .now) (a .numbers .now) (at-8 .pre .1 .0) inv (c .loop-test .left),
-      ((omega (arith, inv .few, inv .inner, inv .numbers, at-8 .pre .1 .2), tt), (inv .stack, inv .locals, inv .numbers)),
+    let inv = c .before .loop .inv in let same = at-8 .pre .1 .0 in (
+      reached-end (a .text .now) (a .roles .now) (a .tables .now) (a .locals .now) (a .stack .now) (a .numbers .now) same inv (c .loop-test .left),
+      (
+        (omega (arith, inv .few, inv .inner, inv .numbers, at-8 .pre .1 .2), tt),
+        (
+          (
+            stopped-end (a .text .now) (a .roles .now) (a .tables .now) (a .locals .now) (a .stack .now) (a .numbers .now) same inv (c .loop-test .left),
+            omega arith,
+          ),
+          (inv .stack, inv .locals, inv .numbers),
+        ),
+      ),
     )
 
 pub uses-spec : {M : Type 1} → statement M

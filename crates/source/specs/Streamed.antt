@@ -1,0 +1,10 @@
+-- The stream of what a text is written as, for the rows that pin it.
+use Prim.Native.Nat.{ℕ}
+use mathlib.Core.List.{List}
+use mathlib.Core.Option.{Option, none, some}
+use Rattle.program.specs.Encoding.{enc-program}
+use Rattle.source.specs.Source.{Outcome, Outcome.written, Outcome.refused}
+
+unfoldable pub streamed : Outcome → Option (List ℕ)
+streamed (written p) = some (enc-program p)
+streamed (refused n) = none
