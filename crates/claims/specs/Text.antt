@@ -42,7 +42,7 @@ lexed-one a b = lexed-law a b
 pub one-derivation : (ts : List Token) (c d : Derivation) → Derives ts c → Derives ts d → c ≡ d
 one-derivation ts c d a b = derivation-law ts c d a b
 
--- "Two comparisons in a row without brackets give 16": the operands of a bare comparison are none
+-- "Two comparisons in a row without brackets give 16" (02 §2): the operands of a bare comparison are none
 pub no-two-comparisons : (l : ℕ) (o : Op) (a b : Exp) → level o ≡ comparisons → Fits l (binary o a b) → (NoComparison a) × (NoComparison b)
 no-two-comparisons l o a b q f = comparisons-law l o a b q f
 
