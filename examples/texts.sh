@@ -2,7 +2,9 @@
 # Reads each text of examples/texts, lists and runs its image with the proved
 # programs, and holds them to the second reader and engine and to what the text's
 # .runs file says: for each list of turns the number, the turns taken and the
-# last table. In the gate audala_cases reads the same texts (second/compare.sh).
+# last table. The text of the same name in examples/texts/bare, with no bracket
+# that is not needed (02 §2), gives the same image. In the gate audala_cases reads
+# the same texts (second/compare.sh).
 #
 #   texts.sh        fails where something differs
 #   texts.sh write  writes the .runs files anew, for the lists of turns in them
@@ -70,7 +72,8 @@ for text in "$here"/texts/*.audala; do
     name=$(basename "$text" .audala)
     "$bin/audala_text" <"$text" >"$work/program"
     [ -s "$work/program" ] || fail "$name is not read"
-    "$second/text_image" <"$text" | cmp -s - "$work/program" || fail "the images of $name differ"
+    "$second/text_image" --bare <"$text" | cmp -s - "$work/program" || fail "the images of $name differ"
+    "$bin/audala_text" <"$here/texts/bare/$name.audala" | cmp -s - "$work/program" || fail "$name without its brackets is another"
     "$bin/audala_list" <"$work/program" >"$work/listing"
     grep -q '^audala ' "$work/listing" || fail "$name: $(cat "$work/listing")"
     "$second/second" listing <"$work/program" | cmp -s - "$work/listing" || fail "the listings of $name differ"

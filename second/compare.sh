@@ -36,7 +36,7 @@ four() {
 # each text of examples/ as a case, with the output that an image needs
 examples() {
     local text
-    for text in "$here"/../examples/*.audala "$here"/../examples/texts/*.audala; do
+    for text in "$here"/../examples/*.audala "$here"/../examples/texts/*.audala "$here"/../examples/texts/bare/*.audala; do
         printf '\x03'
         four 32768
         four "$(wc -c <"$text")"
@@ -52,7 +52,7 @@ make_committed() {
     "$second" <"$work/cases.bin" >"$work/expected.txt"
     {
         "$second" texts
-        "$second" texts 1 200
+        "$second" texts 1 400
         examples
     } >"$work/texts.bin"
     "$second" <"$work/texts.bin" >"$work/texts.txt"

@@ -321,8 +321,11 @@ mutant "text: digits alone are a literal" token.rs "s/\(text\.get\(end\) == Some
 mutant "text: String is a name" token.rs '/b"String"\)/d'
 mutant "text: form feed parts tokens" token.rs "s/b' ' \| b'.t'/b' ' | 12 | b'\\\\t'/"
 mutant "text: shorter sign first" token.rs "s/b'<' => longer\(Kind::AtMost, b'=', Kind::Less\)/b'<' => (Kind::Less, 1)/"
-mutant "text: bare sums" expression.rs 's/self\.within == Within::Brackets && !self\.full/!self.full/'
-mutant "text: three operands in brackets" expression.rs 's/self\.within == Within::Brackets && !self\.full/self.within == Within::Brackets/'
+mutant "text: two comparisons in a row" expression.rs 's/Binary::Bare => level != COMPARISON \|\| !self\.full/Binary::Bare => true/'
+mutant "text: one comparison in all" expression.rs 's/\(self\.full && level > COMPARISON\)/self.full/'
+mutant "text: and as loose as or" expression.rs 's/Kind::And => 1/Kind::And => 0/'
+mutant "text: sums as tight as products" expression.rs 's/Kind::Minus => 3/Kind::Minus => 4/'
+mutant "text: from right to left" expression.rs 's/(self\.tree\.insert_after\(frame\.before\[level\], Node::Operator\(kind as u8\)\);)/\1 frame.before[level] = self.tree.last();/'
 mutant "text: null without its type" expression.rs 's/self\.type_name\(\)\?;/self.type_name();/'
 mutant "text: more behind the schedule" grammar.rs 's/self\.expect\(Kind::End\)\.map\(\|_\| \(\)\)/Some(())/'
 mutant "text: statement without its end" grammar.rs '/fn update/,/^    }/ s/self\.expect\(Kind::Semicolon\)\.map\(\|_\| \(\)\)/{ self.goes_on(Kind::Semicolon); Some(()) }/'

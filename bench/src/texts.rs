@@ -47,7 +47,7 @@ fn texts(most: usize) -> Vec<(&'static str, String)> {
 fn time(name: &str, text: &[u8], calls: u32) {
     let (mut mine, mut theirs) = (vec![0; IMAGE_BYTES], vec![0; IMAGE_BYTES]);
     let a = read(text, &mut mine);
-    let b = text::read(text, &mut theirs);
+    let b = text::read_bare(text, &mut theirs);
     assert_eq!((a.number, a.count), (u32::from(b.number), b.blocks), "{name}");
     assert!(mine == theirs, "the images of {name} differ");
     let (first, other) = best(
@@ -56,7 +56,7 @@ fn time(name: &str, text: &[u8], calls: u32) {
             black_box(read(black_box(text), &mut mine));
         },
         || {
-            black_box(text::read(black_box(text), &mut theirs));
+            black_box(text::read_bare(black_box(text), &mut theirs));
         },
     );
     println!(

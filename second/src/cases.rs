@@ -4,7 +4,7 @@
 use crate::coding::coded;
 use engine::{Command, check, run};
 use std::io::{self, Read};
-use text::read;
+use text::read_bare;
 
 pub const OUTPUT_FILL: u8 = 0xA5;
 
@@ -118,7 +118,7 @@ fn run_line(places: usize, output: usize, program: &[u8], table: &[u8], turns: &
 
 fn text_line(output: usize, text: &[u8]) -> String {
     let mut output = vec![OUTPUT_FILL; output];
-    let answer = read(text, &mut output);
+    let answer = read_bare(text, &mut output);
     format!("text {} {} {}", answer.number, answer.blocks, digest(output.iter().copied()))
 }
 

@@ -1,4 +1,4 @@
--- Program text (02 §1): what has one reading at most, which number a text is refused with, what is written otherwise, and what the checker says to it.
+-- Program text (02 §1, §2): what has one reading at most, which number a text is refused with, what is written otherwise, and what the checker says to it.
 use Prim.Native.Nat.{ℕ, _*_, _≤_}
 use mathlib.Core.Path.{_≡_}
 use mathlib.Core.Logic.{_↔_}
@@ -8,7 +8,7 @@ use Rattle.types.specs.Limits.{program-blocks, max-commands}
 use Rattle.types.specs.Numbers.{wrong-byte, wrong-names}
 use Rattle.block.specs.Block.{block-size}
 use Rattle.blocks.specs.Images.{image, pieces}
-use Rattle.program.specs.Tree.{Program}
+use Rattle.program.specs.Tree.{Op, Program}
 use Rattle.program.specs.Encoding.{enc-program}
 use Rattle.commands.specs.Bounds.{Within}
 use Rattle.commands.specs.Numbers.{NoneOf, Foremost}
@@ -16,10 +16,14 @@ use Rattle.verdict.specs.Verdict.{Checked.refused as checked-refused, checked, 
 use Rattle.tokens.specs.Tokens.{Token}
 use Rattle.tokens.specs.Lexing.{Lexed}
 use Rattle.tokens.specs.LexingLaws.{lexed-one as lexed-law}
-use Rattle.syntax.specs.Syntax.{Program as Derivation}
-use Rattle.syntax.specs.Bracketing.{Derives}
+use Rattle.syntax.specs.Syntax.{Exp, Exp.binary, Program as Derivation}
+use Rattle.syntax.specs.Yield.{yield}
+use Rattle.syntax.specs.Bracketing.{level, comparisons, Fits, Derives}
+use Rattle.syntax.specs.Bracketed.{BracketedProgram, NoComparison}
 use Rattle.syntax.specs.CompleteLaws.{one-derivation as derivation-law}
+use Rattle.syntax.specs.BracketLaws.{brackets-kept as brackets-law, no-two-comparisons as comparisons-law}
 use Rattle.meaning.specs.Holds.{max-stream}
+use Rattle.meaning.specs.Means.{Means}
 use Rattle.meaning.specs.Nesting.{Shallow}
 use Rattle.source.specs.Source.{no-derivation, Derived, Reading, NoTokens, text-order, Outcome.written, Outcome.refused}
 use Rattle.source.specs.TextReader.{outcome, text-number, text-blocks, text-output}
@@ -38,6 +42,10 @@ lexed-one a b = lexed-law a b
 pub one-derivation : (ts : List Token) (c d : Derivation) → Derives ts c → Derives ts d → c ≡ d
 one-derivation ts c d a b = derivation-law ts c d a b
 
+-- "Two comparisons in a row without brackets give 16" (02 §2): the operands of a bare comparison are none
+pub no-two-comparisons : (l : ℕ) (o : Op) (a b : Exp) → level o ≡ comparisons → Fits l (binary o a b) → (NoComparison a) × (NoComparison b)
+no-two-comparisons l o a b q f = comparisons-law l o a b q f
+
 -- "and then has one reading": one derivation of the text,
 pub derived-one : {x : List ℕ} {c d : Derivation} → Derived x c → Derived x d → c ≡ d
 derived-one a b = derived-law a b
@@ -49,6 +57,11 @@ one-reading a b = reading-law a b
 -- "more .. than the stream's .. bytes hold": as many bytes as the 64 blocks of the largest image have room for
 pub text-bytes : (p : Program) → (length (enc-program p) ≤ max-stream) ↔ (pieces (length (enc-program p)) ≤ program-blocks)
 text-bytes p = bytes-blocks (length (enc-program p))
+
+-- "Fully bracketed text keeps its stream" (02 §2): what is read as a program by a derivation in which each binary expression stands in brackets, is read so
+pub brackets-kept : {x : List ℕ} {ts : List Token} {c : Derivation} {p : Program} → Lexed x ts → BracketedProgram c → yield c ≡ ts → Means c p → Reading x p
+brackets-kept {ts = ts} {c = c} l f y m =
+    record { derivation = c; derived = record { tokens = ts; lexed = l; derives = brackets-law ts c f y }; means = m }
 
 module _ (x out : List ℕ) where
   -- "Text free of 15 escapes 16 precisely when the grammar, written without the reader, derives it"

@@ -1,20 +1,21 @@
 -- What does not fit does not fit later: bytes only grow, and no count is mended. And what is kept alike is kept alike by what a role does.
-use Prim.Native.Nat.{ℕ, zero, suc, _≤_, _+_}
+use Prim.Native.Nat.{ℕ, zero, suc, _≤_, _<_, _+_}
 use native.Mathlib.Omega.{arith}
 use native.Mathlib.Nat.{le-trans}
 use mathlib.Core.Path.{_≡_, refl, sym, ap, _∙_}
-use mathlib.Core.Bool.{Bool, true, false, _&&_, false≢true}
+use mathlib.Core.Bool.{Bool, true, false, _&&_, and-false, false≢true}
 use mathlib.Core.List.{List, [], _∷_}
 use lib.ListN.{length, getD}
 use lib.Dec.{eqb, leb, ltb}
-use borrow.Author.Tests.{eq-eqb, ne-eqb, leb-true, le-leb}
+use borrow.Author.Tests.{eq-eqb, ne-eqb, leb-true, le-leb, lt-leb}
 use Rattle.types.specs.Limits.{max-statements, max-steps}
 use Rattle.program.specs.Encoding.{enc-word}
 use Rattle.tokens.specs.ByteLaws.{both-true}
 use Rattle.resolve.specs.Digits.{nat-at, int-at}
-use Rattle.compose.specs.Writing.{Writing, Writing.writing, wrote, numbered, lengthened, pathed, worded, more, opened, counted, poured, operated, behinds}
+use Rattle.compose.specs.Writing.{Writing, Writing.writing, wrote, numbered, lengthened, pathed, worded, more, opened, counted, behinds}
+use Rattle.compose.specs.Writing.{tightness, pour, poured, passed, begun, pourings, pour-marks, spelt}
 use Rattle.compose.specs.Writing.{stackings, behind-marks, forms, stack-marks, formed, put, max-later}
-use Rattle.compose.specs.Fits.{word-value, value-at, fits, kept}
+use Rattle.compose.specs.Fits.{word-value, value-at, fits, kept, within}
 
 unfoldable good : Writing → Bool
 good (writing s w n l f) = f
@@ -68,28 +69,32 @@ unfolding good size more
 more-later limit (writing s [] n l f) = record { mended = no-mending; longer = omega arith }
 more-later limit (writing s (c ∷ w) n l f) = record { mended = λ e. both-true f (ltb c limit) e .0; longer = omega arith }
 
-opened-later : Later opened
+opened-later : (c : ℕ) → Later (opened c)
 unfolding good size opened
-opened-later (writing s w n l f) = record { mended = λ e. e; longer = omega arith }
+opened-later c (writing s w n l f) = record { mended = λ e. e; longer = omega arith }
 
 counted-later : Later counted
 unfolding good size counted
 counted-later (writing s [] n l f) = record { mended = no-mending; longer = omega arith }
 counted-later (writing s (c ∷ w) n l f) = record { mended = λ e. e; longer = omega arith }
 
-poured-later : Later poured
-unfolding good size poured
-poured-later (writing s [] n l f) = record { mended = no-mending; longer = omega arith }
-poured-later (writing s (c ∷ w) n l f) = go (eqb c 0) refl
+pour-later : (t : ℕ) (s₀ w₀ s w n : List ℕ) (l : ℕ) (f : Bool) → length s₀ ≤ length s → Grows (writing s₀ w₀ n l f) (pour t s w n l f)
+unfolding good size pour
+pour-later t s₀ w₀ s [] n l f h = record { mended = λ e. e; longer = h }
+pour-later t s₀ w₀ s (c ∷ w) n l f h = go (ltb t (tightness c)) refl (pour-later t s₀ w₀ (c ∷ s) w n l f (omega arith))
   where
-    go : (t : Bool) → eqb c 0 ≡ t → Grows (writing s (c ∷ w) n l f) (poured (writing s (c ∷ w) n l f))
-    go true e = rw (poured, e) (record { mended = λ e. e; longer = omega arith })
-    go false e = rw (poured, e) (record { mended = λ e. e; longer = omega arith })
+    go : (b : Bool) → ltb t (tightness c) ≡ b → Grows (writing s₀ w₀ n l f) (pour t (c ∷ s) w n l f) → Grows (writing s₀ w₀ n l f) (pour t s (c ∷ w) n l f)
+    go true e g = rw (pour, e) g
+    go false e g = rw (pour, e) (record { mended = λ e. e; longer = h })
 
-operated-later : (o : ℕ) → Later (operated o)
-unfolding good size operated
-operated-later o (writing s [] n l f) = record { mended = no-mending; longer = omega arith }
-operated-later o (writing s (c ∷ w) n l f) = record { mended = λ e. e; longer = omega arith }
+poured-later : (t : ℕ) → Later (poured t)
+unfolding poured
+poured-later t (writing s w n l f) = pour-later t s w s w n l f (omega arith)
+
+passed-later : Later passed
+unfolding good size passed
+passed-later (writing s [] n l f) = record { mended = no-mending; longer = omega arith }
+passed-later (writing s (c ∷ w) n l f) = record { mended = λ e. e; longer = omega arith }
 
 formed-later : (b : ℕ) → Later (formed b)
 unfolding formed
@@ -128,19 +133,30 @@ stackings-later o =
     and-later same-later
     (and-later (more-later max-statements)
     (and-later (more-later max-steps)
-    (and-later opened-later
+    (and-later (opened-later 0)
     (and-later counted-later
-    (and-later poured-later
-    (and-later (then-later counted opened counted-later opened-later) (and-later (operated-later o) none-later)))))))
+    (and-later (opened-later o) (and-later (then-later counted (opened 0) counted-later (opened-later 0)) none-later))))))
 
-put-later : (c v : ℕ) → Later (put c v)
-unfolding put
-put-later c v x =
+pourings-later : (o : ℕ) → AllLater (pourings o)
+unfolding pourings begun
+pourings-later o =
+    and-later same-later
+    (and-later (then-later (poured 0) passed (poured-later 0) passed-later) (and-later (poured-later (tightness o)) none-later))
+
+spelt-later : (c v : ℕ) → Later (spelt c v)
+unfolding spelt
+spelt-later c v x =
     let b : Writing → Writing = getD (behinds v) (getD behind-marks c 0) (λ w. w) in
     let m : Writing → Writing = formed (getD forms c 0) in
     then-later (λ y. m (b y)) (getD (stackings (c + 9)) (getD stack-marks c 0) (λ w. w))
     (then-later b m (picked-later (behinds v) (behinds-later v) (getD behind-marks c 0)) (formed-later (getD forms c 0)))
     (picked-later (stackings (c + 9)) (stackings-later (c + 9)) (getD stack-marks c 0)) x
+
+put-later : (c v : ℕ) → Later (put c v)
+unfolding put
+put-later c v x =
+    then-later (getD (pourings (c + 9)) (getD pour-marks c 0) (λ w. w)) (spelt c v)
+    (picked-later (pourings (c + 9)) (pourings-later (c + 9)) (getD pour-marks c 0)) (spelt-later c v) x
 
 -- Two that are kept alike ------------------------------------------------------------------------------
 
@@ -187,6 +203,61 @@ grown-unfit room (writing s w n l f) (writing s' w' n' l' f') g e = go f' (leb (
 
 pub put-unfit : (room c v : ℕ) (x : Writing) → fits room x ≡ false → fits room (put c v x) ≡ false
 put-unfit room c v x e = grown-unfit room x (put c v x) (put-later c v x) e
+
+-- two that are alike as far as there is room, what each role's own bytes make of them is
+within-fit : (room : ℕ) (x : Writing) → fits room x ≡ true → within room x ≡ x
+unfolding within fits kept
+within-fit room (writing s w n l true) e = rw e refl
+within-fit room (writing s w n l false) e = absurd (false≢true e)
+
+pub within-unfit : (room : ℕ) (x : Writing) → fits room x ≡ false → within room x ≡ writing [] [] [] 0 false
+unfolding fits within kept
+within-unfit room (writing s w n l f) e = rw e refl
+
+good-within : (room : ℕ) (x : Writing) → good (within room x) ≡ fits room x
+unfolding good within fits kept
+good-within room (writing s w n l f) = go (f && leb (length s) room) refl
+  where
+    go : (t : Bool) → (f && leb (length s) room) ≡ t → good (kept (writing s w n l (f && leb (length s) room))) ≡ (f && leb (length s) room)
+    go true e = rw e refl
+    go false e = rw e refl
+
+pub fits-within : (room : ℕ) (x y : Writing) → within room x ≡ within room y → fits room x ≡ fits room y
+fits-within room x y e = sym (good-within room x) ∙ ap good e ∙ good-within room y
+
+-- and where one fits, they are one
+pub within-one : (room : ℕ) (x y : Writing) → fits room x ≡ true → within room x ≡ within room y → x ≡ y
+within-one room x y e k = sym (within-fit room x e) ∙ k ∙ within-fit room y (sym (fits-within room x y k) ∙ e)
+
+within-kept : (room : ℕ) (x : Writing) → within room (kept x) ≡ within room x
+unfolding within kept
+within-kept room (writing s w n l true) = refl
+within-kept room (writing s w n l false) = refl
+
+pub kept-within : (room : ℕ) (x y : Writing) → kept x ≡ kept y → within room x ≡ within room y
+kept-within room x y e = sym (within-kept room x) ∙ ap (within room) e ∙ within-kept room y
+
+within-later : (h : Writing → Writing) → Later h → (room : ℕ) (x y : Writing) → within room x ≡ within room y → within room (h x) ≡ within room (h y)
+within-later h p room x y k = go (fits room x) refl
+  where
+    go : (t : Bool) → fits room x ≡ t → within room (h x) ≡ within room (h y)
+    go true e = ap (λ z. within room (h z)) (within-one room x y e k)
+    go false e =
+        within-unfit room (h x) (grown-unfit room x (h x) (p x) e)
+        ∙ sym (within-unfit room (h y) (grown-unfit room y (h y) (p y) (sym (fits-within room x y k) ∙ e)))
+
+pub passed-within : (room : ℕ) (x y : Writing) → within room x ≡ within room y → within room (passed x) ≡ within room (passed y)
+passed-within room x y k = within-later passed passed-later room x y k
+
+pub spelt-within : (room c v : ℕ) (x y : Writing) → within room x ≡ within room y → within room (spelt c v x) ≡ within room (spelt c v y)
+spelt-within room c v x y k = within-later (spelt c v) (spelt-later c v) room x y k
+
+-- what is poured over more bytes than there is room for is more
+pub pour-unfit : (room t : ℕ) (s w n : List ℕ) (l : ℕ) (f : Bool) → room < length s → fits room (pour t s w n l f) ≡ false
+unfolding fits
+pour-unfit room t s w n l f h =
+    grown-unfit room (writing s w n l f) (pour t s w n l f) (pour-later t s w s w n l f (omega arith))
+    (rw (lt-leb (length s) room h) (and-false f))
 
 -- The number of a literal -------------------------------------------------------------------------------
 

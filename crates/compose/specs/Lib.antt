@@ -1,5 +1,6 @@
 pub mod Writing
 pub mod Checks
+pub mod WaitingLaws
 pub mod WritingExpLaws
 pub mod WritingLaws
 pub mod Fits

@@ -1,5 +1,6 @@
 -- The stream of a text's steps and schedule, written from its end: what each role does to what is written so far, from the last role to the first. An operator
--- waits until its brackets open, a count until its row begins. A role is taken by its byte (`derive/specs/Roles.antt`), a literal with the number that it is.
+-- waits until a looser one comes or its expression begins (02 §2), a count until its row begins. A role is taken by its byte (`derive/specs/Roles.antt`), a
+-- literal with the number that it is.
 use Prim.Native.Nat.{ℕ, suc, _+_}
 use mathlib.Core.Bool.{Bool, true, false, _&&_}
 use mathlib.Core.List.{List, [], _∷_, _++_}
@@ -12,8 +13,8 @@ use Rattle.tokens.specs.Tokens.{Token, Token.word, Token.sign, Token.op, Token.
 use Rattle.meaning.specs.Values.{decimal, signed}
 use Rattle.derive.specs.Roles.{Role, Role.plain, Role.naming, Role.typed, Role.part, code}
 
--- the bytes; what waits, the last one first: operators (0 for none) and counts; the numbers that are left, the last one first; the later variables of the path
--- at hand; whether counts keep to what a stream holds
+-- the bytes; what waits, the last one first: operators, 0 at the end of each expression that has not begun, and counts; the numbers that are left, the last one
+-- first; the later variables of the path at hand; whether counts keep to what a stream holds
 pub data Writing : Type 0 where
   writing : List ℕ → List ℕ → List ℕ → ℕ → Bool → Writing
 
@@ -45,21 +46,47 @@ unfoldable pub more : ℕ → Writing → Writing
 more limit (writing s [] n l f) = writing s [] n l false
 more limit (writing s (c ∷ w) n l f) = writing s (suc c ∷ w) n l (f && ltb c limit)
 
-unfoldable pub opened : Writing → Writing
-opened (writing s w n l f) = writing s (0 ∷ w) n l f
+-- one more waits: an operator, the end of an expression, or the count of a row that ends
+unfoldable pub opened : ℕ → Writing → Writing
+opened c (writing s w n l f) = writing s (c ∷ w) n l f
 
--- a count is written; an operator is, where there is one
+-- a count is written
 unfoldable pub counted : Writing → Writing
 counted (writing s [] n l f) = writing s [] n l false
 counted (writing s (c ∷ w) n l f) = writing (c ∷ s) w n l f
 
-unfoldable pub poured : Writing → Writing
-poured (writing s [] n l f) = writing s [] n l false
-poured (writing s (c ∷ w) n l f) = writing (elim (eqb c 0) [ true ↦ s | false ↦ c ∷ s ]) w n l f
+-- how tight an operator binds, by its byte, above 0: or, and, comparisons, sums, products
+unfoldable pub tightness : ℕ → ℕ
+tightness c =
+    elim (eqb c 0) [
+      | true ↦ 0
+      | false ↦ elim (ltb c 38) [
+        | true ↦ 3
+        | false ↦ elim (ltb c 41) [
+          | true ↦ 5
+          | false ↦ elim (ltb c 43) [ true ↦ 4 | false ↦ elim (ltb c 44) [ true ↦ 2 | false ↦ 1 ] ]
+        ]
+      ]
+    ]
 
-unfoldable pub operated : ℕ → Writing → Writing
-operated o (writing s [] n l f) = writing s [] n l false
-operated o (writing s (c ∷ w) n l f) = writing s (o ∷ w) n l f
+-- the operators that wait are written, the last one first, down to one that is not tighter than t
+unfoldable pub pour : ℕ → List ℕ → List ℕ → List ℕ → ℕ → Bool → Writing
+unfolding tightness
+pour t s [] n l f = writing s [] n l f
+pour t s (c ∷ w) n l f = elim (ltb t (tightness c)) [ true ↦ pour t (c ∷ s) w n l f | false ↦ writing s (c ∷ w) n l f ]
+
+unfoldable pub poured : ℕ → Writing → Writing
+unfolding pour
+poured t (writing s w n l f) = pour t s w n l f
+
+-- an expression begins: all that wait behind its end are
+unfoldable pub passed : Writing → Writing
+passed (writing s [] n l f) = writing s [] n l false
+passed (writing s (c ∷ w) n l f) = writing s w n l f
+
+unfoldable pub begun : Writing → Writing
+unfolding poured passed
+begun x = passed (poured 0 x)
 
 -- What each role does, by its byte ---------------------------------------------------------------
 
@@ -76,19 +103,23 @@ behinds v =
     ∷ wrote 0
     ∷ []
 
--- what waits: nothing changes; one more in a row of statements or items; one more step; a row or brackets end; a row begins; brackets begin; a row begins and
--- another ends; an operator
+-- what waits is written first: nothing; where an expression begins; what is tighter than an operator
+unfoldable pub pourings : ℕ → List (Writing → Writing)
+unfolding begun poured
+pourings o = (λ w. w) ∷ begun ∷ poured (tightness o) ∷ []
+
+-- what waits: nothing changes; one more in a row of statements or items; one more step; a row or an expression ends; a row begins; an operator; a row begins
+-- and another ends
 unfoldable pub stackings : ℕ → List (Writing → Writing)
-unfolding more opened counted poured operated
+unfolding more opened counted
 stackings o =
     (λ w. w)
     ∷ more max-statements
     ∷ more max-steps
-    ∷ opened
+    ∷ opened 0
     ∷ counted
-    ∷ poured
-    ∷ (λ w. opened (counted w))
-    ∷ operated o
+    ∷ opened o
+    ∷ (λ w. opened 0 (counted w))
     ∷ []
 
 -- words, signs, operators, other tokens, names, types, parts
@@ -119,24 +150,40 @@ forms =
 unfoldable pub stack-marks : List ℕ
 stack-marks =
     0 ∷
-    0 ∷ 1 ∷ 0 ∷ 0 ∷ 0 ∷ 1 ∷ 0 ∷ 0 ∷ 0 ∷ 0 ∷ 0 ∷ 0 ∷
-    0 ∷ 0 ∷ 0 ∷ 0 ∷ 0 ∷ 0 ∷ 0 ∷ 0 ∷ 0 ∷ 0 ∷
-    7 ∷ 7 ∷ 7 ∷ 7 ∷ 7 ∷ 7 ∷ 7 ∷ 7 ∷ 7 ∷ 7 ∷ 7 ∷ 7 ∷ 7 ∷
+    0 ∷ 1 ∷ 3 ∷ 0 ∷ 0 ∷ 1 ∷ 0 ∷ 0 ∷ 0 ∷ 0 ∷ 0 ∷ 0 ∷
+    0 ∷ 0 ∷ 0 ∷ 0 ∷ 0 ∷ 0 ∷ 3 ∷ 0 ∷ 0 ∷ 0 ∷
+    5 ∷ 5 ∷ 5 ∷ 5 ∷ 5 ∷ 5 ∷ 5 ∷ 5 ∷ 5 ∷ 5 ∷ 5 ∷ 5 ∷ 5 ∷
     0 ∷ 0 ∷ 0 ∷
     0 ∷ 0 ∷ 2 ∷ 0 ∷ 0 ∷ 1 ∷ 0 ∷ 0 ∷ 1 ∷ 1 ∷ 1 ∷ 0 ∷
     0 ∷ 0 ∷ 0 ∷ 0 ∷ 1 ∷ 1 ∷ 1 ∷ 1 ∷ 0 ∷ 0 ∷ 0 ∷ 0 ∷
-    5 ∷ 3 ∷ 0 ∷ 0 ∷ 0 ∷ 0 ∷ 0 ∷ 4 ∷ 3 ∷
-    0 ∷ 6 ∷ 4 ∷ 3 ∷ 4 ∷ 3 ∷ 0 ∷ 0 ∷ 0 ∷ []
+    0 ∷ 3 ∷ 0 ∷ 3 ∷ 3 ∷ 0 ∷ 0 ∷ 4 ∷ 3 ∷
+    0 ∷ 6 ∷ 4 ∷ 3 ∷ 4 ∷ 3 ∷ 0 ∷ 3 ∷ 0 ∷ []
+
+unfoldable pub pour-marks : List ℕ
+pour-marks =
+    0 ∷
+    0 ∷ 1 ∷ 0 ∷ 0 ∷ 0 ∷ 0 ∷ 0 ∷ 0 ∷ 0 ∷ 0 ∷ 0 ∷ 0 ∷
+    0 ∷ 0 ∷ 0 ∷ 0 ∷ 0 ∷ 0 ∷ 0 ∷ 1 ∷ 0 ∷ 0 ∷
+    2 ∷ 2 ∷ 2 ∷ 2 ∷ 2 ∷ 2 ∷ 2 ∷ 2 ∷ 2 ∷ 2 ∷ 2 ∷ 2 ∷ 2 ∷
+    0 ∷ 0 ∷ 0 ∷
+    0 ∷ 0 ∷ 0 ∷ 0 ∷ 0 ∷ 0 ∷ 0 ∷ 0 ∷ 1 ∷ 0 ∷ 0 ∷ 0 ∷
+    0 ∷ 0 ∷ 0 ∷ 0 ∷ 0 ∷ 0 ∷ 0 ∷ 0 ∷ 0 ∷ 0 ∷ 0 ∷ 0 ∷
+    1 ∷ 0 ∷ 1 ∷ 0 ∷ 0 ∷ 0 ∷ 0 ∷ 0 ∷ 0 ∷
+    0 ∷ 0 ∷ 0 ∷ 0 ∷ 0 ∷ 0 ∷ 0 ∷ 1 ∷ 0 ∷ []
 
 unfoldable pub formed : ℕ → Writing → Writing
 unfolding wrote
 formed b w = elim (eqb b 0) [ true ↦ w | false ↦ wrote b w ]
 
--- the byte of an operator is 9 above its kind
-unfoldable pub put : ℕ → ℕ → Writing → Writing
+-- a role's own bytes, and what waits behind them; the byte of an operator is 9 above its kind
+unfoldable pub spelt : ℕ → ℕ → Writing → Writing
 unfolding behinds stackings behind-marks forms stack-marks formed
-put c v w =
+spelt c v w =
     getD (stackings (c + 9)) (getD stack-marks c 0) (λ w. w) (formed (getD forms c 0) (getD (behinds v) (getD behind-marks c 0) (λ w. w) w))
+
+unfoldable pub put : ℕ → ℕ → Writing → Writing
+unfolding spelt pourings pour-marks
+put c v w = spelt c v (getD (pourings (c + 9)) (getD pour-marks c 0) (λ w. w) w)
 
 -- Role by role, from the last one -----------------------------------------------------------------
 

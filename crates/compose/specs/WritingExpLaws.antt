@@ -1,8 +1,9 @@
 -- What is written of expressions: the bytes of what they mean, in front of those that were there; by the derivation and its meaning.
-use Prim.Native.Nat.{ℕ, _+_}
-use mathlib.Core.Path.{_≡_, refl, ap, _∙_}
+use Prim.Native.Nat.{ℕ, suc, _≤_}
+use native.Mathlib.Omega.{arith}
+use mathlib.Core.Path.{_≡_, refl, sym, ap, _∙_}
 use mathlib.Core.Bool.{Bool}
-use mathlib.Core.List.{List, _∷_, _++_, append-assoc}
+use mathlib.Core.List.{List, [], _∷_, _++_, append-assoc}
 use lib.ListN.{length}
 use Rattle.types.specs.Types.{Ty}
 use Rattle.program.specs.Tree.{Op, Op.op-eq, Op.op-ne, Op.op-le, Op.op-ge, Op.op-lt, Op.op-gt, Op.op-mul, Op.op-div, Op.op-rem, Op.op-add, Op.op-sub, Op.op-and}
@@ -17,7 +18,8 @@ use Rattle.syntax.specs.Syntax.{Var}
 use Rattle.syntax.specs.Syntax.{Exp, Exp.binary, Exp.brackets, Exp.negation, Exp.constructor, Exp.variable, Exp.literal, Exp.null, Exp.this, Exps, Exps.no-exps}
 use Rattle.syntax.specs.Syntax.{Exps.exps, Par, Struct}
 use Rattle.syntax.specs.Yield.{literal-token}
-use Rattle.syntax.specs.Bracketing.{Spot.bracketed, Spot.bare, Fits, FitsExps}
+use Rattle.syntax.specs.Bracketing.{level, loosest, tightest, left as left-level, Fits, FitsExps}
+use Rattle.syntax.specs.LevelLaws.{level-most, left-from}
 use Rattle.lexer.specs.Kinds.{word-kind, sign-kind, op-kind, kind}
 use Rattle.meaning.specs.Scope.{Local}
 use Rattle.meaning.specs.Means.{LiteralMeans, LiteralMeans.int-means, LiteralMeans.nat-means, LiteralMeans.true-means, LiteralMeans.false-means}
@@ -25,12 +27,14 @@ use Rattle.meaning.specs.Means.{Further, Further.last, Further.goes-on, PathMea
 use Rattle.meaning.specs.Means.{ExpMeans, ExpMeans.binary-means, ExpMeans.brackets-mean, ExpMeans.negation-means, ExpMeans.constructor-means}
 use Rattle.meaning.specs.Means.{ExpMeans.variable-means, ExpMeans.literal-means, ExpMeans.null-means, ExpMeans.this-means, ExpsMean, ExpsMean.no-exps-mean}
 use Rattle.meaning.specs.Means.{ExpsMean.exps-mean}
-use Rattle.derive.specs.Roles.{Naming, Naming.first-read, Part.brackets-close, Role, Role.plain, Role.part, naming-code, typed-code}
+use Rattle.derive.specs.Roles.{Naming, Naming.first-read, Part.brackets-close, Part.args-open, Role, Role.plain, Role.part, naming-code, typed-code}
 use Rattle.derive.specs.Roles.{type-number, part-code, code, roles-later, roles-var, close-of, roles-exp, roles-exps, roles-exp-list}
 use Rattle.resolve.specs.Numbers.{expr-numbers, exprs-numbers}
 use Rattle.resolve.specs.Outcomes.{onto, onto-both}
 use Rattle.compose.specs.Writing.{Writing, Writing.writing}
-use Rattle.compose.specs.Writing.{operated, put, writes}
+use Rattle.compose.specs.Writing.{opened, tightness, poured, begun, put, writes}
+use Rattle.compose.specs.WaitingLaws.{tight-op, From, Upto, waiting, spilt, from-down, from-end, waiting-end, spilt-end, from-tightest, upto-up}
+use Rattle.compose.specs.WaitingLaws.{pours-tighter, pours-all}
 use Rattle.compose.specs.Checks.{checks-expr, checks-exprs}
 
 -- `writes`, with all that it computes with
@@ -70,50 +74,83 @@ module _ {ds : List Struct} where
   path-left (alone p) r n h = ap (put (naming-code r) 0) (left h)
   path-left (path-behind p q t) r n h = ap (λ x. put (naming-code r) 0 (put 21 0 x)) (left (later-left t h))
 
--- what e yields is written as the bytes of c
-pub record LeavesExp (e : Exp) (c : Expr) : Type 0 where
-  pub there : {k : List Role} {z : Writing} {s w n : List ℕ} {f : Bool} → Leaves k z (writing s w (onto (expr-numbers c) n) 0 f)
-      → Leaves (roles-exp e k) z (writing (enc-expr c ++ s) w n 0 (checks-expr c f))
+-- the roles k leave the bytes t of z, but that operators of level l and tighter still wait
+pub record Waits (l : ℕ) (k : List Role) (z : Writing) (t w n : List ℕ) (f : Bool) : Type 0 where
+  pub ops : List Op
+  pub bytes : List ℕ
+  pub tight : From l ops
+  pub all : Leaves k z (writing bytes (waiting ops w) n 0 f)
+  pub are : spilt ops bytes ≡ t
 
--- in brackets
-record LeavesIn (e : Exp) (c : Expr) : Type 0 where
-  inside : {k : List Role} {z : Writing} {s w n : List ℕ} {f : Bool} → Leaves k z (writing s w (onto (expr-numbers c) n) 0 f)
-      → Leaves (roles-exp (brackets e) k) z (writing (enc-expr c ++ s) w n 0 (checks-expr c f))
+none-wait : (l : ℕ) {k : List Role} {z : Writing} {t w n : List ℕ} {f : Bool} → Leaves k z (writing t w n 0 f) → Waits l k z t w n f
+unfolding From waiting spilt
+none-wait l {t = t} h = record { ops = []; bytes = t; tight = tt; all = h; are = refl }
 
+-- where an expression begins, none waits
+pub begins : (l : ℕ) {k : List Role} {z : Writing} {t w n : List ℕ} {f : Bool} → Waits l k z t (0 ∷ w) n f → begun (written k z) ≡ writing t w n 0 f
+begins l {w = w} {n = n} {f = f} h =
+    ap begun (left (h .all))
+    ∙ pours-all n 0 f (h .ops) (h .bytes) w (from-down 0 l (h .ops) (omega arith) (h .tight))
+    ∙ ap (λ b. writing b w n 0 f) (h .are)
+
+-- what e yields is written as the bytes of c, where operators of level l may stand bare
+pub record LeavesExp (l : ℕ) (e : Exp) (c : Expr) : Type 0 where
+  pub there : {k : List Role} {z : Writing} {s w n : List ℕ} {f : Bool} → Upto l w → Leaves k z (writing s w (onto (expr-numbers c) n) 0 f)
+      → Waits l (roles-exp e k) z (enc-expr c ++ s) w n (checks-expr c f)
+
+-- behind its end
+pub ended : {l : ℕ} {e : Exp} {c : Expr} → LeavesExp l e c → {k : List Role} {z : Writing} {s w n : List ℕ} {f : Bool}
+    → Leaves k z (writing s (0 ∷ w) (onto (expr-numbers c) n) 0 f) → begun (written (roles-exp e k) z) ≡ writing (enc-expr c ++ s) w n 0 (checks-expr c f)
+unfolding Upto tightness
+ended {l} p h = begins l (p .there (omega arith) h)
+
+-- arguments with their ( before them, behind their )
 pub record LeavesExps (es : Exps) (cs : Exprs) : Type 0 where
-  pub all : {k : List Role} {z : Writing} {s w n : List ℕ} {f : Bool} → Leaves k z (writing s w (onto (exprs-numbers cs) n) 0 f)
-      → Leaves (roles-exps es k) z (writing (enc-exprs cs ++ s) w n 0 (checks-exprs cs f))
+  pub all : {k : List Role} {z : Writing} {s w n : List ℕ} {f : Bool} → Leaves k z (writing s (0 ∷ w) (onto (exprs-numbers cs) n) 0 f)
+      → Leaves (part args-open ∷ roles-exps es k) z (writing (enc-exprs cs ++ s) w n 0 (checks-exprs cs f))
+
+-- arguments behind one, each with a comma before it
+record LeavesList (es : Exps) (cs : Exprs) : Type 0 where
+  all : {k : List Role} {z : Writing} {s w n : List ℕ} {f : Bool} → Leaves k z (writing s (0 ∷ w) (onto (exprs-numbers cs) n) 0 f)
+      → Leaves (roles-exp-list es k) z (writing (enc-exprs cs ++ s) (0 ∷ w) n 0 (checks-exprs cs f))
 
 var-left : {ds : List Struct} {own : List Par} {alive : List Local} {v : Var} {u : Variable} {vs : List ℕ} → PathMeans ds own alive v u vs
-    → LeavesExp (variable v) (path-of u vs)
+    → (l : ℕ) → LeavesExp l (variable v) (path-of u vs)
 unfolding roles-exp expr-numbers enc-expr enc-path checks-expr written
-var-left p = record { there = λ {n = n} h. leaves (path-left p first-read n h) }
+var-left p l = record { there = λ {n = n} a h. none-wait l (leaves (path-left p first-read n h)) }
 
-literal-left : {l : Literal} {c : Expr} → LiteralMeans l c → LeavesExp (literal l) c
+literal-left : {a : Literal} {c : Expr} → LiteralMeans a c → (l : ℕ) → LeavesExp l (literal a) c
 unfolding roles-exp literal-token expr-numbers onto enc-expr checks-expr written
-literal-left (int-means p) = record { there = λ h. leaves (ap (put 37 _) (left h)) }
-literal-left (nat-means p) = record { there = λ h. leaves (ap (put 38 _) (left h)) }
-literal-left true-means = record { there = λ h. leaves (ap (put 11 0) (left h)) }
-literal-left false-means = record { there = λ h. leaves (ap (put 12 0) (left h)) }
+literal-left (int-means p) l = record { there = λ a h. none-wait l (leaves (ap (put 37 _) (left h))) }
+literal-left (nat-means p) l = record { there = λ a h. none-wait l (leaves (ap (put 38 _) (left h))) }
+literal-left true-means l = record { there = λ a h. none-wait l (leaves (ap (put 11 0) (left h))) }
+literal-left false-means l = record { there = λ a h. none-wait l (leaves (ap (put 12 0) (left h))) }
 
-null-left : (t : TypeName) (u : Ty) → LeavesExp (null t) (null-of u)
+null-left : (t : TypeName) (u : Ty) (l : ℕ) → LeavesExp l (null t) (null-of u)
 unfolding roles-exp expr-numbers onto enc-expr checks-expr written
-null-left int-type u = record { there = λ h. leaves (ap (λ x. put 4 0 (put 59 0 x)) (left h)) }
-null-left nat-type u = record { there = λ h. leaves (ap (λ x. put 4 0 (put 60 0 x)) (left h)) }
-null-left bool-type u = record { there = λ h. leaves (ap (λ x. put 4 0 (put 61 0 x)) (left h)) }
-null-left (id-type y) u = record { there = λ h. leaves (ap (λ x. put 4 0 (put 62 0 x)) (left h)) }
+null-left int-type u l = record { there = λ a h. none-wait l (leaves (ap (λ x. put 4 0 (put 59 0 x)) (left h))) }
+null-left nat-type u l = record { there = λ a h. none-wait l (leaves (ap (λ x. put 4 0 (put 60 0 x)) (left h))) }
+null-left bool-type u l = record { there = λ a h. none-wait l (leaves (ap (λ x. put 4 0 (put 61 0 x)) (left h))) }
+null-left (id-type y) u l = record { there = λ a h. none-wait l (leaves (ap (λ x. put 4 0 (put 62 0 x)) (left h))) }
 
-this-left : LeavesExp this self
+this-left : (l : ℕ) → LeavesExp l this self
 unfolding roles-exp expr-numbers onto enc-expr checks-expr written
-this-left = record { there = λ h. leaves (ap (put 5 0) (left h)) }
+this-left l = record { there = λ a h. none-wait l (leaves (ap (put 5 0) (left h))) }
 
-negation-left : {e : Exp} {c : Expr} → LeavesExp e c → LeavesExp (negation e) (inv c)
+-- Operators ---------------------------------------------------------------------------------------
+
+-- an operator stands bare in nothing that a not stands before
+none-waits : {k : List Role} {z : Writing} {t w n : List ℕ} {f : Bool} → Waits tightest k z t w n f → written k z ≡ writing t w n 0 f
+unfolding waiting spilt
+none-waits {w = w} {n = n} {f = f} h =
+    let none : h .ops ≡ [] = from-tightest (h .ops) (h .tight) in
+    left (h .all) ∙ ap (λ os. writing (h .bytes) (waiting os w) n 0 f) none ∙ ap (λ b. writing b w n 0 f) (sym (ap (λ os. spilt os (h .bytes)) none) ∙ h .are)
+
+negation-left : {e : Exp} {c : Expr} → LeavesExp tightest e c → (l : ℕ) → l ≤ tightest → LeavesExp l (negation e) (inv c)
 unfolding roles-exp expr-numbers enc-expr checks-expr written
-negation-left q = record { there = λ h. leaves (ap (put 22 0) (left (q .there h))) }
+negation-left q l m = record { there = λ {w = w} a h. none-wait l (leaves (ap (put 22 0) (none-waits (q .there (upto-up l tightest w m a) h)))) }
 
--- Brackets ---------------------------------------------------------------------------------------
-
-operator-left : (o : Op) (x : Writing) → put (op-kind o) 0 x ≡ operated (op-code o) x
+operator-left : (o : Op) (x : Writing) → put (op-kind o) 0 x ≡ opened (op-code o) (poured (tightness (op-code o)) x)
 unfolding put op-kind op-code
 operator-left op-eq x = refl
 operator-left op-ne x = refl
@@ -129,84 +166,95 @@ operator-left op-sub x = refl
 operator-left op-and x = refl
 operator-left op-or x = refl
 
-module _ (s w n : List ℕ) (f : Bool) where
-  pours : (o : Op) → put 63 0 (writing s (op-code o ∷ w) n 0 f) ≡ writing (op-code o ∷ s) w n 0 f
-  unfolding put op-code
-  pours op-eq = refl
-  pours op-ne = refl
-  pours op-le = refl
-  pours op-ge = refl
-  pours op-lt = refl
-  pours op-gt = refl
-  pours op-mul = refl
-  pours op-div = refl
-  pours op-rem = refl
-  pours op-add = refl
-  pours op-sub = refl
-  pours op-and = refl
-  pours op-or = refl
+-- it waits where no tighter one does
+operator-waits : (l : ℕ) (o : Op) {k : List Role} {z : Writing} {t w n : List ℕ} {f : Bool} → l ≤ level o → Upto l w
+    → Waits (suc (level o)) k z t w n f → Leaves (plain (op o) ∷ k) z (writing t (op-code o ∷ w) n 0 f)
+unfolding opened written
+operator-waits l o {k} {z} {t} {w} {n} {f} m u h =
+    leaves
+    (operator-left o (written k z)
+    ∙ ap (λ x. opened (op-code o) (poured (tightness (op-code o)) x)) (left (h .all))
+    ∙ ap (λ i. opened (op-code o) (poured i (writing (h .bytes) (waiting (h .ops) w) n 0 f))) (tight-op o)
+    ∙ ap (opened (op-code o)) (pours-tighter n 0 f (level o) (h .ops) (h .bytes) w (h .tight) (upto-up l (level o) w m u))
+    ∙ ap (λ b. writing b (op-code o ∷ w) n 0 f) (h .are))
 
-within : {e : Exp} {c : Expr} → LeavesExp e c → LeavesIn e c
+-- and what waits in its left operand stands before it
+left-waits : (l : ℕ) (o : Op) {k : List Role} {z : Writing} {t w n : List ℕ} {f : Bool} → l ≤ level o → Waits (left-level o) k z t (op-code o ∷ w) n f
+    → Waits l k z (op-code o ∷ t) w n f
+left-waits l o {w = w} m h =
+    record {
+      ops = h .ops ++ (o ∷ []);
+      bytes = h .bytes;
+      tight = from-end l (h .ops) o (from-down l (left-level o) (h .ops) (omega (arith, left-from o)) (h .tight)) m;
+      all = rw (waiting-end (h .ops) o w) (h .all);
+      are = spilt-end (h .ops) o (h .bytes) ∙ ap (λ b. op-code o ∷ b) (h .are);
+    }
+
+binary-left : (l : ℕ) (o : Op) {a b : Exp} {c d : Expr} → l ≤ level o → LeavesExp (left-level o) a c → LeavesExp (suc (level o)) b d
+    → LeavesExp l (binary o a b) (op-of o c d)
+unfolding roles-exp expr-numbers enc-expr checks-expr Upto
+binary-left l o {a} {b} {c} {d} m p q =
+    record {
+      there = λ {k} {z} {s} {w} {n} {f} u h.
+          let g = q .there (upto-up l (suc (level o)) w (omega arith) u) (first-then (expr-numbers c) (expr-numbers d) n h) in
+          let i = operator-waits l o m u g in
+          let j = left-waits l o m (p .there (omega (arith, tight-op o, left-from o)) i) in
+          record {
+            ops = j .ops;
+            bytes = j .bytes;
+            tight = j .tight;
+            all = j .all;
+            are = j .are ∙ ap (λ x. op-code o ∷ x) (sym (append-assoc (enc-expr c) (enc-expr d) s));
+          };
+    }
+
+brackets-left : {e : Exp} {c : Expr} → LeavesExp loosest e c → (l : ℕ) → LeavesExp l (brackets e) c
 unfolding roles-exp written
-within {c = c} q =
+brackets-left {c = c} q l =
     record {
-      inside = λ {k} {z} {s} {w} {n} {f} h.
+      there = λ {k} {z} {s} {w} {n} {f} u h.
           let g : Leaves (part brackets-close ∷ k) z (writing s (0 ∷ w) (onto (expr-numbers c) n) 0 f) = leaves (ap (put 64 0) (left h)) in
-          leaves (ap (put 63 0) (left (q .there g)));
+          none-wait l (leaves (ended q g));
     }
-
-binary-left : (o : Op) {a b : Exp} {c d : Expr} → LeavesExp a c → LeavesExp b d → LeavesIn (binary o a b) (op-of o c d)
-unfolding roles-exp expr-numbers enc-expr checks-expr written
-binary-left o {a} {b} {c} {d} p q =
-    record {
-      inside = λ {k} {z} {s} {w} {n} {f} h.
-          let closed : List Role = roles-exp b (part brackets-close ∷ k) in
-          let g : Leaves (part brackets-close ∷ k) z (writing s (0 ∷ w) (onto (expr-numbers d) (onto (expr-numbers c) n)) 0 f) =
-          leaves (ap (put 64 0) (left (first-then (expr-numbers c) (expr-numbers d) n h))) in
-          let i : Leaves (plain (op o) ∷ closed) z (writing (enc-expr d ++ s) (op-code o ∷ w) (onto (expr-numbers c) n) 0 (checks-expr d f)) =
-          leaves (operator-left o (written closed z) ∙ ap (operated (op-code o)) (left (q .there g))) in
-          as-one (op-code o ∷ enc-expr c) (enc-expr d) s
-          (leaves (ap (put 63 0) (left (p .there i)) ∙ pours (enc-expr c ++ (enc-expr d ++ s)) w n (checks-expr c (checks-expr d f)) o));
-    }
-
-brackets-left : {e : Exp} {c : Expr} → LeavesIn e c → LeavesExp (brackets e) c
-brackets-left q = record { there = λ h. q .inside h }
 
 -- Arguments ---------------------------------------------------------------------------------------
 
--- what ends arguments, and the comma before all but the first, leave nothing
-pub close-left : (es : Exps) (k : List Role) (z : Writing) → written (close-of es ∷ k) z ≡ written k z
+-- what ends arguments ends the last one, or that there is none
+pub close-left : (es : Exps) {k : List Role} {z : Writing} {s w n : List ℕ} {f : Bool} → Leaves k z (writing s w n 0 f)
+    → Leaves (close-of es ∷ k) z (writing s (0 ∷ w) n 0 f)
 unfolding close-of written
-close-left no-exps k z = refl
-close-left (exps e es) k z = refl
+close-left no-exps h = leaves (ap (put 67 0) (left h))
+close-left (exps e es) h = leaves (ap (put 66 0) (left h))
 
-list-left : (es : Exps) (k : List Role) (z : Writing) → written (roles-exp-list es k) z ≡ written (roles-exps es k) z
-unfolding roles-exp-list roles-exps written
-list-left no-exps k z = refl
-list-left (exps e es) k z = refl
+list-none : LeavesList no-exps none
+unfolding roles-exp-list exprs-numbers onto enc-exprs checks-exprs
+list-none = record { all = λ h. h }
+
+list-some : {e : Exp} {c : Expr} {es : Exps} {cs : Exprs} → LeavesExp loosest e c → LeavesList es cs → LeavesList (exps e es) (more-of c cs)
+unfolding roles-exp-list exprs-numbers enc-exprs checks-exprs written
+list-some {c = c} {es = es} {cs = cs} p q =
+    record {
+      all = λ {k} {z} {s} {w} {n} {f} h.
+          let g = q .all (first-then (expr-numbers c) (exprs-numbers cs) n h) in
+          as-one (enc-expr c) (enc-exprs cs) s (leaves (ap (opened 0) (ended p g)));
+    }
 
 args-none : LeavesExps no-exps none
-unfolding roles-exps exprs-numbers onto enc-exprs checks-exprs
-args-none = record { all = λ h. h }
+unfolding roles-exps exprs-numbers onto enc-exprs checks-exprs written
+args-none = record { all = λ h. leaves (ap (put 65 0) (left h)) }
 
-args-some : {e : Exp} {c : Expr} {es : Exps} {cs : Exprs} → LeavesExp e c → LeavesExps es cs → LeavesExps (exps e es) (more-of c cs)
-unfolding roles-exps exprs-numbers enc-exprs checks-exprs
+args-some : {e : Exp} {c : Expr} {es : Exps} {cs : Exprs} → LeavesExp loosest e c → LeavesList es cs → LeavesExps (exps e es) (more-of c cs)
+unfolding roles-exps exprs-numbers enc-exprs checks-exprs written
 args-some {c = c} {es = es} {cs = cs} p q =
     record {
       all = λ {k} {z} {s} {w} {n} {f} h.
-          let g : Leaves (roles-exp-list es k) z (writing (enc-exprs cs ++ s) w (onto (expr-numbers c) n) 0 (checks-exprs cs f)) =
-          leaves (list-left es k z ∙ left (q .all (first-then (expr-numbers c) (exprs-numbers cs) n h))) in
-          as-one (enc-expr c) (enc-exprs cs) s (p .there g);
+          let g = q .all (first-then (expr-numbers c) (exprs-numbers cs) n h) in
+          as-one (enc-expr c) (enc-exprs cs) s (leaves (ended p g));
     }
 
-constructor-left : (x : Id) (j : ℕ) {es : Exps} {cs : Exprs} → LeavesExps es cs → LeavesExp (constructor x es) (make j cs)
+constructor-left : (x : Id) (j : ℕ) {es : Exps} {cs : Exprs} → LeavesExps es cs → (l : ℕ) → LeavesExp l (constructor x es) (make j cs)
 unfolding roles-exp expr-numbers onto enc-expr checks-expr written
-constructor-left x j {es} {cs} q =
-    record {
-      there = λ {k} {z} {s} {w} {n} {f} h.
-          let g : Leaves (close-of es ∷ k) z (writing s w (onto (exprs-numbers cs) (j ∷ n)) 0 f) = leaves (close-left es k z ∙ left h) in
-          leaves (ap (λ y. put 46 0 (put 65 0 y)) (left (q .all g)));
-    }
+constructor-left x j {es} {cs} q l = record { there = λ u h. none-wait l (leaves (ap (put 46 0) (left (q .all (close-left es h))))) }
 
 -- Every expression ---------------------------------------------------------------------------------
 
@@ -214,26 +262,22 @@ module _ {ds : List Struct} {own : List Par} {alive : List Local} where
   mutual
     unfolding Fits FitsExps
 
-    pub exp-left : (e : Exp) → Fits bare e → (c : Expr) → ExpMeans ds own alive e c → LeavesExp e c
-    exp-left (binary o a b) f c m = absurd f
-    exp-left (brackets e) f c (brackets-mean m) = brackets-left (in-left e f c m)
-    exp-left (negation e) f c (negation-means m) = negation-left (exp-left e f _ m)
-    exp-left (constructor x es) f c (constructor-means p m q) = constructor-left x _ (exps-left es f _ m)
-    exp-left (variable v) f c (variable-means p) = var-left p
-    exp-left (literal l) f c (literal-means p) = literal-left p
-    exp-left (null t) f c (null-means {u = u} p) = null-left t u
-    exp-left this f c this-means = this-left
-
-    in-left : (e : Exp) → Fits bracketed e → (c : Expr) → ExpMeans ds own alive e c → LeavesIn e c
-    in-left (binary o a b) f c (binary-means m q) = binary-left o (exp-left a (f .0) _ m) (exp-left b (f .1) _ q)
-    in-left (brackets e) f c (brackets-mean m) = within (brackets-left (in-left e f c m))
-    in-left (negation e) f c (negation-means m) = within (negation-left (exp-left e f _ m))
-    in-left (constructor x es) f c (constructor-means p m q) = within (constructor-left x _ (exps-left es f _ m))
-    in-left (variable v) f c (variable-means p) = within (var-left p)
-    in-left (literal l) f c (literal-means p) = within (literal-left p)
-    in-left (null t) f c (null-means {u = u} p) = within (null-left t u)
-    in-left this f c this-means = within this-left
+    pub exp-left : (e : Exp) (l : ℕ) → l ≤ tightest → Fits l e → (c : Expr) → ExpMeans ds own alive e c → LeavesExp l e c
+    exp-left (binary o a b) l t f c (binary-means m q) =
+        binary-left l o (f .0) (exp-left a (left-level o) (omega (arith, left-from o, level-most o)) (f .1) _ m)
+        (exp-left b (suc (level o)) (level-most o) (f .2) _ q)
+    exp-left (brackets e) l t f c (brackets-mean m) = brackets-left (exp-left e loosest (omega arith) f c m) l
+    exp-left (negation e) l t f c (negation-means m) = negation-left (exp-left e tightest (omega arith) f _ m) l t
+    exp-left (constructor x es) l t f c (constructor-means p m q) = constructor-left x _ (exps-left es f _ m) l
+    exp-left (variable v) l t f c (variable-means p) = var-left p l
+    exp-left (literal a) l t f c (literal-means p) = literal-left p l
+    exp-left (null a) l t f c (null-means {u = u} p) = null-left a u l
+    exp-left this l t f c this-means = this-left l
 
     pub exps-left : (es : Exps) → FitsExps es → (cs : Exprs) → ExpsMean ds own alive es cs → LeavesExps es cs
     exps-left no-exps f cs no-exps-mean = args-none
-    exps-left (exps e es) f cs (exps-mean m q) = args-some (exp-left e (f .0) _ m) (exps-left es (f .1) _ q)
+    exps-left (exps e es) f cs (exps-mean m q) = args-some (exp-left e loosest (omega arith) (f .0) _ m) (list-left es (f .1) _ q)
+
+    list-left : (es : Exps) → FitsExps es → (cs : Exprs) → ExpsMean ds own alive es cs → LeavesList es cs
+    list-left no-exps f cs no-exps-mean = list-none
+    list-left (exps e es) f cs (exps-mean m q) = list-some (exp-left e loosest (omega arith) (f .0) _ m) (list-left es (f .1) _ q)

@@ -1,5 +1,6 @@
 -- What is written of a text's steps and schedule: the bytes of what they mean; by the derivation and its meaning.
-use Prim.Native.Nat.{ℕ, suc, _+_}
+use Prim.Native.Nat.{ℕ, suc}
+use native.Mathlib.Omega.{arith}
 use mathlib.Core.Path.{_≡_, refl, sym, ap, _∙_}
 use mathlib.Core.Bool.{Bool, true, _&&_}
 use mathlib.Core.List.{List, [], _∷_, _++_, append-nil, append-assoc}
@@ -16,23 +17,23 @@ use Rattle.syntax.specs.Syntax.{Id, TypeName, TypeName.int-type, TypeName.nat-t
 use Rattle.syntax.specs.Syntax.{Exp, Exps, Stat, Stat.if-then, Stat.assignment, Stat.update, Stat.construct, Stats, Stats.no-stats, Stats.stats}
 use Rattle.syntax.specs.Syntax.{Par, Par.par, Step, Step.step, Struct, Struct.struct, Defs, Defs.last-struct, Defs.defs, Item, Item.execution}
 use Rattle.syntax.specs.Syntax.{Item.typed-execution, Item.fixpoint, Sched, Sched.last-item, Sched.barrier, Program as Derivation, Program.program}
-use Rattle.syntax.specs.Bracketing.{FitsStat, FitsStats, FitsSteps, FitsStruct, FitsDefs, FitsProgram}
+use Rattle.syntax.specs.Bracketing.{loosest, FitsStat, FitsStats, FitsSteps, FitsStruct, FitsDefs, FitsProgram}
 use Rattle.meaning.specs.Scope.{steps-of, structs-of, Local, Each, Each.no-more, Each.and-then}
 use Rattle.meaning.specs.Means.{PathMeans, StatMeans, StatMeans.if-means, StatMeans.assignment-means, StatMeans.update-means, StatMeans.construct-means}
 use Rattle.meaning.specs.Means.{StatsMean, StatsMean.no-stats-mean, StatsMean.stats-mean}
 use Rattle.meaning.specs.Means.{StepMeans, StepMeans.step-means, StepsMean, StepsMean.steps-mean, ItemMeans, ItemMeans.execution-means, ItemMeans.typed-means}
 use Rattle.meaning.specs.Means.{ItemMeans.fix-means, SchedMeans, SchedMeans.last-means, SchedMeans.barrier-means, Means, Means.means}
 use Rattle.derive.specs.Roles.{Naming.first-written, Part.then-open, Part.then-close, Part.body-close, Part.pars-close, Part.steps-open, Part.steps-close}
-use Rattle.derive.specs.Roles.{Part.fix-close, Part.barrier-sign, Role, Role.plain, Role.part, close-of, roles-exp, roles-stat}
+use Rattle.derive.specs.Roles.{Part.fix-close, Part.barrier-sign, Role, Role.plain, Role.part, roles-exp, roles-stat}
 use Rattle.derive.specs.Roles.{roles-stats, roles-par, roles-par-list, roles-pars, roles-step, roles-steps, roles-struct, roles-defs, roles-item, roles-sched}
 use Rattle.derive.specs.Roles.{roles}
 use Rattle.resolve.specs.Numbers.{expr-numbers, exprs-numbers, stmt-numbers, stmts-numbers, step-numbers, steps-numbers, item-numbers, items-numbers}
 use Rattle.resolve.specs.Outcomes.{onto}
-use Rattle.compose.specs.Writing.{Writing, Writing.writing, put, start}
+use Rattle.compose.specs.Writing.{Writing, Writing.writing, spelt, put, start}
 use Rattle.compose.specs.Checks.{stream-behind, numbers-of, checks, checks-expr, checks-stmt, checks-stmts, checks-steps, checks-item, checks-items}
 use Rattle.compose.specs.Checks.{checks-structs}
-use Rattle.compose.specs.WritingExpLaws.{written, Leaves, Leaves.leaves, left, first-then, as-one, path-left, LeavesExp, LeavesExps, exp-left, exps-left}
-use Rattle.compose.specs.WritingExpLaws.{close-left}
+use Rattle.compose.specs.WritingExpLaws.{written, Leaves, Leaves.leaves, left, first-then, as-one, path-left, ended, LeavesExp, LeavesExps, exp-left}
+use Rattle.compose.specs.WritingExpLaws.{exps-left, close-left}
 
 -- Statements --------------------------------------------------------------------------------------
 
@@ -45,7 +46,7 @@ record LeavesStats (b : Stats) (t : Stmts) : Type 0 where
   all : {k : List Role} {z : Writing} {s w n : List ℕ} {f : Bool} → Leaves k z (writing s (0 ∷ w) (onto (stmts-numbers t) n) 0 f)
       → Leaves (roles-stats b k) z (writing (enc-stmts t ++ s) (size t ∷ w) n 0 (checks-stmts t f))
 
-if-left : {e : Exp} {d : Expr} {b : Stats} {t : Stmts} → LeavesExp e d → LeavesStats b t → LeavesStat (if-then e b) (when d t)
+if-left : {e : Exp} {d : Expr} {b : Stats} {t : Stmts} → LeavesExp loosest e d → LeavesStats b t → LeavesStat (if-then e b) (when d t)
 unfolding roles-stat stmt-numbers enc-stmt checks-stmt written
 if-left {e} {d} {b} {t} p q =
     record {
@@ -53,21 +54,21 @@ if-left {e} {d} {b} {t} p q =
           let g : Leaves (part then-close ∷ k) z (writing s (0 ∷ c ∷ w) (onto (stmts-numbers t) (onto (expr-numbers d) n)) 0 f) =
           leaves (ap (put 77 0) (left (first-then (expr-numbers d) (stmts-numbers t) n h))) in
           let i : Leaves (plain (word w-then) ∷ part then-open ∷ roles-stats b (part then-close ∷ k)) z
-          (writing (size t ∷ (enc-stmts t ++ s)) (c ∷ w) (onto (expr-numbers d) n) 0 (checks-stmts t f)) =
+          (writing (size t ∷ (enc-stmts t ++ s)) (0 ∷ c ∷ w) (onto (expr-numbers d) n) 0 (checks-stmts t f)) =
           leaves (ap (λ x. put 3 0 (put 76 0 x)) (left (q .all g))) in
-          as-one (1 ∷ enc-expr d) (size t ∷ enc-stmts t) s (leaves (ap (put 2 0) (left (p .there i))));
+          as-one (1 ∷ enc-expr d) (size t ∷ enc-stmts t) s (leaves (ap (spelt 2 0) (ended p i)));
     }
 
 -- the value of an assignment or an update, behind its sign
-value-left : {e : Exp} {d : Expr} → LeavesExp e d → {k : List Role} {z : Writing} {s w n : List ℕ} {f : Bool}
+value-left : {e : Exp} {d : Expr} → LeavesExp loosest e d → {k : List Role} {z : Writing} {s w n : List ℕ} {f : Bool}
     → Leaves k z (writing s w (onto (expr-numbers d) n) 0 f)
     → Leaves (plain (sign assign) ∷ roles-exp e (plain (sign semicolon) ∷ k)) z (writing (enc-expr d ++ s) w n 0 (checks-expr d f))
 unfolding written
 value-left {e} {d} p {k} {z} {s} {w} {n} {f} h =
-    let g : Leaves (plain (sign semicolon) ∷ k) z (writing s w (onto (expr-numbers d) n) 0 f) = leaves (ap (put 19 0) (left h)) in
-    leaves (ap (put 20 0) (left (p .there g)))
+    let g : Leaves (plain (sign semicolon) ∷ k) z (writing s (0 ∷ w) (onto (expr-numbers d) n) 0 f) = leaves (ap (put 19 0) (left h)) in
+    leaves (ended p g)
 
-assignment-left : (a : TypeName) (x : Id) (u : Ty) (m : ℕ) {e : Exp} {d : Expr} → LeavesExp e d → LeavesStat (assignment a x e) (declare u m d)
+assignment-left : (a : TypeName) (x : Id) (u : Ty) (m : ℕ) {e : Exp} {d : Expr} → LeavesExp loosest e d → LeavesStat (assignment a x e) (declare u m d)
 unfolding roles-stat stmt-numbers onto enc-stmt checks-stmt written
 assignment-left int-type x u m p = record { there = λ h. leaves (ap (λ y. put 55 0 (put 42 0 y)) (left (value-left p h))) }
 assignment-left nat-type x u m p = record { there = λ h. leaves (ap (λ y. put 56 0 (put 42 0 y)) (left (value-left p h))) }
@@ -75,7 +76,7 @@ assignment-left bool-type x u m p = record { there = λ h. leaves (ap (λ y. put
 assignment-left (id-type i) x u m p = record { there = λ h. leaves (ap (λ y. put 58 0 (put 42 0 y)) (left (value-left p h))) }
 
 update-left : {ds : List Struct} {own : List Par} {alive : List Local} {v : Var} {u : Variable} {vs : List ℕ} → PathMeans ds own alive v u vs
-    → {e : Exp} {d : Expr} → LeavesExp e d → LeavesStat (update v e) (update-of u vs d)
+    → {e : Exp} {d : Expr} → LeavesExp loosest e d → LeavesStat (update v e) (update-of u vs d)
 unfolding roles-stat stmt-numbers enc-stmt enc-path checks-stmt written
 update-left {u = u} {vs = vs} q {e} {d} p =
     record {
@@ -88,9 +89,8 @@ unfolding roles-stat stmt-numbers onto enc-stmt checks-stmt written
 construct-left x j {es} {cs} q =
     record {
       there = λ {k} {z} {s} {w} {n} {c} {f} h.
-          let g : Leaves (close-of es ∷ plain (sign semicolon) ∷ k) z (writing s (c ∷ w) (onto (exprs-numbers cs) (j ∷ n)) 0 f) =
-          leaves (close-left es (plain (sign semicolon) ∷ k) z ∙ ap (put 19 0) (left h)) in
-          leaves (ap (λ y. put 47 0 (put 65 0 y)) (left (q .all g)));
+          let g : Leaves (plain (sign semicolon) ∷ k) z (writing s (0 ∷ c ∷ w) (onto (exprs-numbers cs) (j ∷ n)) 0 f) = leaves (ap (put 19 0) (left h)) in
+          leaves (ap (put 47 0) (left (q .all (close-left es g))));
     }
 
 stats-end : LeavesStats no-stats end
@@ -108,9 +108,9 @@ module _ {ds : List Struct} {own : List Par} where
 
     stat-left : (t : Stat) → FitsStat t → {alive after : List Local} {met met' : List Id} {u : Stmt} → StatMeans ds own alive met t u after met'
         → LeavesStat t u
-    stat-left (if-then e b) f (if-means m q) = if-left (exp-left e (f .0) _ m) (stats-left b (f .1) q)
-    stat-left (assignment a x e) f (assignment-means {u = u} {n = n} p y z r m) = assignment-left a x u n (exp-left e f _ m)
-    stat-left (update v e) f (update-means p m) = update-left p (exp-left e f _ m)
+    stat-left (if-then e b) f (if-means m q) = if-left (exp-left e loosest (omega arith) (f .0) _ m) (stats-left b (f .1) q)
+    stat-left (assignment a x e) f (assignment-means {u = u} {n = n} p y z r m) = assignment-left a x u n (exp-left e loosest (omega arith) f _ m)
+    stat-left (update v e) f (update-means p m) = update-left p (exp-left e loosest (omega arith) f _ m)
     stat-left (construct x es) f (construct-means {k = k} p m r) = construct-left x k (exps-left es f _ m)
 
     stats-left : (b : Stats) → FitsStats b → {alive after : List Local} {met met' : List Id} {t : Stmts} → StatsMean ds own alive met b t after met'

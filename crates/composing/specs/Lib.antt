@@ -1,5 +1,6 @@
 pub mod Pens
 pub mod PenLaws
+pub mod PouringLaws
 pub mod PutLaws
 pub mod LoopLaws
 pub mod TableLaws

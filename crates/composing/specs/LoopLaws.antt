@@ -3,7 +3,7 @@ use Prim.Native.Nat.{ℕ, zero, suc, _+_, _-_, _<_, _≤_}
 use native.Mathlib.Omega.{arith}
 use native.Mathlib.Numerals.{sub-one}
 use mathlib.Core.Path.{_≡_, refl, sym, ap, _∙_}
-use mathlib.Core.Bool.{Bool, true, false, _&&_, false≢true}
+use mathlib.Core.Bool.{Bool, true, false, _&&_}
 use mathlib.Core.List.{List, []}
 use lib.ListN.{length, getD, set, drop, length-drop, length-set}
 use lib.Seq.{drop-cons, drop-length, getD-set-same}
@@ -15,40 +15,21 @@ use Rattle.compose.specs.Writing.{Writing, Writing.writing, put, start}
 use Rattle.composing.specs.Pens.{stands, Near}
 use Rattle.compose.specs.Fits.{kept}
 use Rattle.compose.specs.Fits.{value-at, writes-at, fits, within}
-use Rattle.compose.specs.FitsLaws.{put-unfit}
+use Rattle.compose.specs.FitsLaws.{put-unfit, within-unfit, fits-within, within-one}
 use Rattle.composing.specs.declared.Pen.{Pen}
 
 -- Whether it fits ---------------------------------------------------------------------------------
-
-fits-kept : (room : ℕ) (x : Writing) → fits room (kept x) ≡ fits room x
-unfolding fits kept
-fits-kept room (writing s w n l true) = refl
-fits-kept room (writing s w n l false) = refl
-
-fits-alike : (room : ℕ) (x y : Writing) → kept x ≡ kept y → fits room x ≡ fits room y
-fits-alike room x y e = sym (fits-kept room x) ∙ ap (fits room) e ∙ fits-kept room y
 
 within-fits : (room : ℕ) (x : Writing) → fits room x ≡ true → within room x ≡ kept x
 unfolding fits within kept
 within-fits room (writing s w n l true) e = rw e refl
 within-fits room (writing s w n l false) e = refl
 
-within-unfit : (room : ℕ) (x : Writing) → fits room x ≡ false → within room x ≡ writing [] [] [] 0 false
-unfolding fits within kept
-within-unfit room (writing s w n l f) e = rw e refl
-
 kept-spoilt : (out stack numbers : List ℕ) (p : Pen) → p .fits ≡ false → kept (stands out stack numbers p) ≡ writing [] [] [] 0 false
 unfolding stands kept
 kept-spoilt out stack numbers p e = rw e refl
 
--- two that are kept alike are one where the first fits
-kept-one : (room : ℕ) (x y : Writing) → fits room x ≡ true → kept x ≡ kept y → x ≡ y
-unfolding fits kept
-kept-one room (writing s w n l true) (writing s' w' n' l' true) e k = k
-kept-one room (writing s w n l true) (writing s' w' n' l' false) e k = absurd (false≢true (cc k))
-kept-one room (writing s w n l false) y e k = absurd (false≢true e)
-
--- the room is six bytes less than there are, since a role writes so many at the most
+-- the room is six bytes less than there are, since a role writes so many at the most, but for operators that waited
 room-left : (out : List ℕ) (k : ℕ) → 6 ≤ length out → k ≤ length out → leb 6 k ≡ leb (length (drop k out)) (length out - 6)
 room-left out k a b = go (leb 6 k) refl
   where
@@ -57,11 +38,11 @@ room-left out k a b = go (leb 6 k) refl
     go false e = let h = leb-false 6 k e in sym (lt-leb (length (drop k out)) (length out - 6) (rw (length-drop k out) (omega (arith, h))))
 
 -- what is tested of a pen is whether what it stands for fits
-pub tested : (out stack numbers : List ℕ) (p : Pen) (x : Writing) → 6 ≤ length out → p .place ≤ length out → kept (stands out stack numbers p) ≡ kept x
-    → (p .fits && leb 6 (p .place)) ≡ fits (length out - 6) x
+pub tested : (out stack numbers : List ℕ) (p : Pen) (x : Writing) → 6 ≤ length out → p .place ≤ length out
+    → within (length out - 6) (stands out stack numbers p) ≡ within (length out - 6) x → (p .fits && leb 6 (p .place)) ≡ fits (length out - 6) x
 unfolding stands fits
 tested out stack numbers p x a b e =
-    rw (room-left out (p .place) a b) (fits-alike (length out - 6) (stands out stack numbers p) x e)
+    rw (room-left out (p .place) a b) (fits-within (length out - 6) (stands out stack numbers p) x e)
 
 -- One place -----------------------------------------------------------------------------------------
 
@@ -157,9 +138,10 @@ module _ (text roles numbers out₀ stack₀ out stack : List ℕ) (p : Pen) whe
   reached-past (suc j) r l e = rw sub-one (past j r (rw sub-one at e))
 
   -- a role and what it leaves
-  module _ (out₁ stack₁ : List ℕ) (q : Pen) (near : Near 6 1 1 p q) (a : length out₁ ≡ length out) (b : length stack₁ ≡ length stack) where
+  module _ (out₁ stack₁ : List ℕ) (q : Pen) (near : Near (p .place) 1 1 p q) (a : length out₁ ≡ length out) (b : length stack₁ ≡ length stack) where
     module _ (j : ℕ) (r : Reached text roles numbers out₀ stack₀ out stack p (suc j)) (n : getD roles j 0 ≡ 0 → ⊥)
-        (k : kept (stands out₁ stack₁ numbers q) ≡ kept (put (getD roles j 0) (value-at text j (getD roles j 0)) (stands out stack numbers p))) where
+        (k : within (length out₁ - 6) (stands out₁ stack₁ numbers q)
+        ≡ within (length out₁ - 6) (put (getD roles j 0) (value-at text j (getD roles j 0)) (stands out stack numbers p))) where
       is-left : put (getD roles j 0) (value-at text j (getD roles j 0)) (stands out stack numbers p) ≡ writes-at text j (drop j roles) (at-end numbers)
       is-left =
           ap (put (getD roles j 0) (value-at text j (getD roles j 0))) (r .state) ∙ sym (from-next text roles (at-end numbers) j (omega (arith, r .inner)) n)
@@ -173,11 +155,11 @@ module _ (text roles numbers out₀ stack₀ out stack : List ℕ) (p : Pen) whe
       token t =
           let two = both-true (q .fits) (leb 6 (q .place)) t in
           let f : fits (length out₁ - 6) (stands out₁ stack₁ numbers q) ≡ true =
-          fits-alike (length out₁ - 6) (stands out₁ stack₁ numbers q)
+          fits-within (length out₁ - 6) (stands out₁ stack₁ numbers q)
           (put (getD roles j 0) (value-at text j (getD roles j 0)) (stands out stack numbers p)) k ∙ sym fits-left ∙ t in
           record {
             inner = omega (arith, r .inner);
-            state = kept-one (length out₁ - 6) (stands out₁ stack₁ numbers q)
+            state = within-one (length out₁ - 6) (stands out₁ stack₁ numbers q)
                 (put (getD roles j 0) (value-at text j (getD roles j 0)) (stands out stack numbers p)) f k ∙ is-left;
             good = two .0;
             front = leb-true 6 (q .place) (two .1);
@@ -199,18 +181,18 @@ module _ (text roles numbers out₀ stack₀ out stack : List ℕ) (p : Pen) whe
 
     pub reached-token : (i : ℕ) → Reached text roles numbers out₀ stack₀ out stack p i → 0 < i → (getD roles (i - 1) 0 ≡ 0 → ⊥)
         → (v : ℕ) → v ≡ value-at text (i - 1) (getD roles (i - 1) 0)
-        → kept (stands out₁ stack₁ numbers q) ≡ kept (put (getD roles (i - 1) 0) v (stands out stack numbers p))
+        → within (length out - 6) (stands out₁ stack₁ numbers q) ≡ within (length out - 6) (put (getD roles (i - 1) 0) v (stands out stack numbers p))
         → (q .fits && leb 6 (q .place)) ≡ true → Reached text roles numbers out₀ stack₀ out₁ stack₁ q (i - 1)
     reached-token zero r l n v e k t = absurd (omega arith)
-    reached-token (suc j) r l n v e k t = rw sub-one (token j r (rw sub-one at n) (rw sub-one at (rw e at k)) t)
+    reached-token (suc j) r l n v e k t = rw sub-one (token j r (rw sub-one at n) (rw a (rw sub-one at (rw e at k))) t)
 
     pub reached-refused : (i : ℕ) → Reached text roles numbers out₀ stack₀ out stack p i → 0 < i → (getD roles (i - 1) 0 ≡ 0 → ⊥)
         → (v : ℕ) → v ≡ value-at text (i - 1) (getD roles (i - 1) 0)
-        → kept (stands out₁ stack₁ numbers q) ≡ kept (put (getD roles (i - 1) 0) v (stands out stack numbers p))
+        → within (length out - 6) (stands out₁ stack₁ numbers q) ≡ within (length out - 6) (put (getD roles (i - 1) 0) v (stands out stack numbers p))
         → (q .fits && leb 6 (q .place)) ≡ false → (s : Pen) → s .fits ≡ false
         → kept (stands out₁ stack₁ numbers s) ≡ within (length out₀ - 6) (writes-at text 0 roles (at-end numbers))
     reached-refused zero r l n v e k t s f = absurd (omega arith)
-    reached-refused (suc j) r l n v e k t s f = kept-spoilt out₁ stack₁ numbers s f ∙ sym (refused j r (rw sub-one at n) (rw sub-one at (rw e at k)) t)
+    reached-refused (suc j) r l n v e k t s f = kept-spoilt out₁ stack₁ numbers s f ∙ sym (refused j r (rw sub-one at n) (rw a (rw sub-one at (rw e at k))) t)
 
   pub reached-end : (i : ℕ) → Reached text roles numbers out₀ stack₀ out stack p i → i ≡ 0
       → kept (stands out stack numbers p) ≡ within (length out₀ - 6) (writes-at text 0 roles (at-end numbers))

@@ -2,17 +2,16 @@
 use Prim.Native.Nat.{ℕ, zero, suc, _+_, _-_, _/_, _%_, _<_, _≤_}
 use native.Mathlib.Omega.{arith}
 use native.Mathlib.Numerals.{add-one, sub-one}
-use mathlib.Core.Path.{_≡_, refl, sym, ap, _∙_}
-use mathlib.Core.Bool.{Bool, true, false, and-true, and-false}
+use mathlib.Core.Path.{_≡_, refl, ap, _∙_}
+use mathlib.Core.Bool.{Bool, false, and-true, and-false}
 use mathlib.Core.List.{List, [], _∷_}
 use lib.ListN.{length, getD, set, drop}
 use lib.Seq.{getD-set-same, drop-cons, drop-set-lt, lt-length-set}
-use lib.Dec.{eqb}
 use borrow.Author.Tests.{eq-eqb, ne-eqb, lt-ltb, le-ltb, le-leb, lt-leb}
 use Rattle.program.specs.Encoding.{enc-word}
 use Rattle.derive.specs.Held.{held}
 use Rattle.derive.specs.HeldLaws.{held-push}
-use Rattle.compose.specs.Writing.{Writing, Writing.writing, wrote, numbered, pathed, worded, more, opened, counted, poured, operated, formed, max-later}
+use Rattle.compose.specs.Writing.{Writing, Writing.writing, wrote, numbered, pathed, worded, more, opened, counted, formed, max-later}
 use Rattle.composing.specs.Pens.{stands, Spoilt, Popped, Near}
 use Rattle.compose.specs.Fits.{kept}
 use Rattle.composing.specs.declared.Pen.{Pen}
@@ -132,14 +131,6 @@ pathed-within s w n l f x h e = rw (e, le-leb l max-later h, and-true f, add-one
 
 -- What waits -------------------------------------------------------------------------------------------
 
-poured-by : (b : ℕ) (s w n : List ℕ) (l : ℕ) (f : Bool) → formed b (writing s w n l f) ≡ poured (writing s (b ∷ w) n l f)
-unfolding formed wrote poured
-poured-by b s w n l f = go (eqb b 0) refl
-  where
-    go : (t : Bool) → eqb b 0 ≡ t → formed b (writing s w n l f) ≡ poured (writing s (b ∷ w) n l f)
-    go true e = rw (formed, poured, e) refl
-    go false e = rw (formed, poured, e) refl
-
 module _ (s stack n : List ℕ) (h l : ℕ) (f : Bool) where
   pub more-none : (limit : ℕ) → h ≡ 0 → writing s (held stack h) n l false ≡ more limit (writing s (held stack h) n l f)
   unfolding more
@@ -149,17 +140,9 @@ module _ (s stack n : List ℕ) (h l : ℕ) (f : Bool) where
   unfolding counted
   counted-none e = rw (held-none stack h e) refl
 
-  pub poured-none : h ≡ 0 → writing s (held stack h) n l false ≡ poured (writing s (held stack h) n l f)
-  unfolding poured
-  poured-none e = rw (held-none stack h e) refl
-
-  pub operated-none : (o : ℕ) → h ≡ 0 → writing s (held stack h) n l false ≡ operated o (writing s (held stack h) n l f)
-  unfolding operated
-  operated-none o e = rw (held-none stack h e) refl
-
-  pub opened-on : h < length stack → writing s (held (set stack h 0) (h + 1)) n l f ≡ opened (writing s (held stack h) n l f)
+  pub opened-on : (c : ℕ) → h < length stack → writing s (held (set stack h c) (h + 1)) n l f ≡ opened c (writing s (held stack h) n l f)
   unfolding opened
-  opened-on a = rw (held-push stack h 0 a) refl
+  opened-on c a = rw (held-push stack h c a) refl
 
   module _ (c : h ≡ 0 → ⊥) where
     pub more-over : (limit : ℕ) → limit ≤ getD stack (h - 1) 0 → kept (writing s (held stack h) n l false) ≡ kept (more limit (writing s (held stack h) n l f))
@@ -178,13 +161,6 @@ module _ (s stack n : List ℕ) (h l : ℕ) (f : Bool) where
           add-one (getD stack (h - 1) 0),
         ) refl
 
-    pub operated-on : (o : ℕ) → h ≤ length stack → writing s (held (set stack (h - 1) o) h) n l f ≡ operated o (writing s (held stack h) n l f)
-    unfolding operated
-    operated-on o a = rw (held-changed stack h o c a, held-top stack h c) refl
-
     pub counted-on : wrote (getD stack (h - 1) 0) (writing s (held stack (h - 1)) n l f) ≡ counted (writing s (held stack h) n l f)
     unfolding counted wrote
     counted-on = rw (held-top stack h c) refl
-
-    pub poured-on : formed (getD stack (h - 1) 0) (writing s (held stack (h - 1)) n l f) ≡ poured (writing s (held stack h) n l f)
-    poured-on = poured-by (getD stack (h - 1) 0) s (held stack (h - 1)) n l f ∙ ap (λ w. poured (writing s w n l f)) (sym (held-top stack h c))

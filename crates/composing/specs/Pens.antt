@@ -26,3 +26,11 @@ pub record Near (b h l : ℕ) (p r : Pen) : Type 0 where
   pub height : r .height ≤ p .height + h
   pub left : r .left ≤ p .left
   pub later : r .later ≤ p .later + l
+
+-- a pen behind operators that were written: with room for a role's own bytes, and with no more that wait
+pub record Poured (p r : Pen) : Type 0 where
+  pub front : 6 ≤ r .place
+  pub behind : r .place ≤ p .place
+  pub height : r .height ≤ p .height
+  pub left : r .left ≡ p .left
+  pub later : r .later ≡ p .later

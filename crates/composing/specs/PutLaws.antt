@@ -6,9 +6,9 @@ use mathlib.Core.List.{List}
 use lib.ListN.{getD, List·getD-eq-default}
 use Rattle.resolve.specs.declared.Word.{Word}
 use Rattle.resolve.specs.declared.Word.the-variants.{Of, Outside}
-use Rattle.compose.specs.Writing.{Writing, formed, behinds, stackings, behind-marks, forms, stack-marks, put}
-use Rattle.compose.specs.Fits.{kept, word-value}
-use Rattle.compose.specs.FitsLaws.{formed-alike, stacked-alike}
+use Rattle.compose.specs.Writing.{Writing, formed, behinds, pourings, stackings, behind-marks, forms, stack-marks, pour-marks, spelt, put}
+use Rattle.compose.specs.Fits.{kept, word-value, within}
+use Rattle.compose.specs.FitsLaws.{formed-alike, stacked-alike, kept-within, spelt-within}
 
 -- By a mark ------------------------------------------------------------------------------------------
 
@@ -27,31 +27,40 @@ behind-rest v (suc (suc (suc (suc (suc zero))))) y a b c d e f = absurd (e refl)
 behind-rest v (suc (suc (suc (suc (suc (suc zero)))))) y a b c d e f = absurd (f refl)
 behind-rest v (suc (suc (suc (suc (suc (suc (suc m))))))) y a b c d e f = refl
 
-pub stacked-rest : (o m : ℕ) (y : Writing) → (m ≡ 1 → ⊥) → (m ≡ 2 → ⊥) → (m ≡ 3 → ⊥) → (m ≡ 4 → ⊥) → (m ≡ 5 → ⊥) → (m ≡ 6 → ⊥) → (m ≡ 7 → ⊥)
+pub stacked-rest : (o m : ℕ) (y : Writing) → (m ≡ 1 → ⊥) → (m ≡ 2 → ⊥) → (m ≡ 3 → ⊥) → (m ≡ 4 → ⊥) → (m ≡ 5 → ⊥) → (m ≡ 6 → ⊥)
     → kept y ≡ kept (getD (stackings o) m (λ x. x) y)
 unfolding stackings
-stacked-rest o zero y a b c d e f g = refl
-stacked-rest o (suc zero) y a b c d e f g = absurd (a refl)
-stacked-rest o (suc (suc zero)) y a b c d e f g = absurd (b refl)
-stacked-rest o (suc (suc (suc zero))) y a b c d e f g = absurd (c refl)
-stacked-rest o (suc (suc (suc (suc zero)))) y a b c d e f g = absurd (d refl)
-stacked-rest o (suc (suc (suc (suc (suc zero))))) y a b c d e f g = absurd (e refl)
-stacked-rest o (suc (suc (suc (suc (suc (suc zero)))))) y a b c d e f g = absurd (f refl)
-stacked-rest o (suc (suc (suc (suc (suc (suc (suc zero))))))) y a b c d e f g = absurd (g refl)
-stacked-rest o (suc (suc (suc (suc (suc (suc (suc (suc m)))))))) y a b c d e f g = refl
+stacked-rest o zero y a b c d e f = refl
+stacked-rest o (suc zero) y a b c d e f = absurd (a refl)
+stacked-rest o (suc (suc zero)) y a b c d e f = absurd (b refl)
+stacked-rest o (suc (suc (suc zero))) y a b c d e f = absurd (c refl)
+stacked-rest o (suc (suc (suc (suc zero)))) y a b c d e f = absurd (d refl)
+stacked-rest o (suc (suc (suc (suc (suc zero))))) y a b c d e f = absurd (e refl)
+stacked-rest o (suc (suc (suc (suc (suc (suc zero)))))) y a b c d e f = absurd (f refl)
+stacked-rest o (suc (suc (suc (suc (suc (suc (suc m))))))) y a b c d e f = refl
 
 -- A role ----------------------------------------------------------------------------------------------
 
--- by its three marks, one after the other
-pub put-by : (c v m b k : ℕ) (x₀ x₁ x₂ x₃ : Writing) → m ≡ getD behind-marks c 0 → b ≡ getD forms c 0 → k ≡ getD stack-marks c 0
+-- its own bytes by three marks, one after the other
+spelt-by : (c v m b k : ℕ) (x₀ x₁ x₂ x₃ : Writing) → m ≡ getD behind-marks c 0 → b ≡ getD forms c 0 → k ≡ getD stack-marks c 0
     → kept x₁ ≡ kept (getD (behinds v) m (λ x. x) x₀) → x₂ ≡ formed b x₁ → kept x₃ ≡ kept (getD (stackings (c + 9)) k (λ x. x) x₂)
-    → kept x₃ ≡ kept (put c v x₀)
-unfolding put
-put-by c v m b k x₀ x₁ x₂ x₃ e f g p q r =
+    → kept x₃ ≡ kept (spelt c v x₀)
+unfolding spelt
+spelt-by c v m b k x₀ x₁ x₂ x₃ e f g p q r =
     let t : kept x₂ ≡ kept (formed b (getD (behinds v) m (λ x. x) x₀)) = ap kept q ∙ formed-alike b x₁ (getD (behinds v) m (λ x. x) x₀) p in
     let u : kept x₃ ≡ kept (getD (stackings (c + 9)) k (λ x. x) (formed b (getD (behinds v) m (λ x. x) x₀))) =
     r ∙ stacked-alike (c + 9) k x₂ (formed b (getD (behinds v) m (λ x. x) x₀)) t in
     rw (e, f, g) at u
+
+-- behind what it lets go first, as far as there is room
+pub put-by : (room c v a m b k : ℕ) (x y x₁ x₂ x₃ : Writing) → a ≡ getD pour-marks c 0 → m ≡ getD behind-marks c 0 → b ≡ getD forms c 0
+    → k ≡ getD stack-marks c 0 → within room y ≡ within room (getD (pourings (c + 9)) a (λ x. x) x) → kept x₁ ≡ kept (getD (behinds v) m (λ x. x) y)
+    → x₂ ≡ formed b x₁ → kept x₃ ≡ kept (getD (stackings (c + 9)) k (λ x. x) x₂) → within room x₃ ≡ within room (put c v x)
+unfolding put
+put-by room c v a m b k x y x₁ x₂ x₃ d e f g w p q r =
+    kept-within room x₃ (spelt c v y) (spelt-by c v m b k y x₁ x₂ x₃ e f g p q r)
+    ∙ spelt-within room c v y (getD (pourings (c + 9)) a (λ x. x) x) w
+    ∙ ap (λ i. within room (spelt c v (getD (pourings (c + 9)) i (λ x. x) x))) d
 
 -- a byte that is no role's does nothing
 behind-none : (c : ℕ) → 81 ≤ c → getD behind-marks c 0 ≡ 0
@@ -66,9 +75,14 @@ stack-none : (c : ℕ) → 81 ≤ c → getD stack-marks c 0 ≡ 0
 unfolding stack-marks
 stack-none c l = List·getD-eq-default stack-marks 0 {n = c} l
 
-pub put-none : (c v : ℕ) (x : Writing) → 81 ≤ c → kept x ≡ kept (put c v x)
-unfolding behinds formed stackings
-put-none c v x l = put-by c v 0 0 0 x x x x (sym (behind-none c l)) (sym (form-none c l)) (sym (stack-none c l)) refl refl refl
+pour-none : (c : ℕ) → 81 ≤ c → getD pour-marks c 0 ≡ 0
+unfolding pour-marks
+pour-none c l = List·getD-eq-default pour-marks 0 {n = c} l
+
+pub put-none : (room c v : ℕ) (x : Writing) → 81 ≤ c → within room x ≡ within room (put c v x)
+unfolding behinds formed stackings pourings
+put-none room c v x l =
+    put-by room c v 0 0 0 0 x x x x x (sym (pour-none c l)) (sym (behind-none c l)) (sym (form-none c l)) (sym (stack-none c l)) refl refl refl refl
 
 -- Literals and room -----------------------------------------------------------------------------------
 

@@ -1,6 +1,7 @@
 // The stream of a text's steps and schedule, written from its end (02 §1): role by role over lent memory, so that no function follows the nesting of the text.
 mod bytes;
 mod header;
+mod pouring;
 mod roles;
 mod table;
 mod waiting;
@@ -20,7 +21,7 @@ ghost use Rattle.compose.specs.Fits.{word-value, value-at, writes-at, kept, wit
 ghost use Rattle.compose.specs.Header.{Rows};
 ghost use Rattle.compose.specs.Composed.{composed-by};
 
-// The bytes that a role writes at the most.
+// The bytes that a role writes at the most, but for operators that waited.
 const MARGIN: usize = 6;
 
 // The bytes in front of the longest stream: as many as there are to the output that `stream` writes to, less those of a stream at the most.

@@ -1,14 +1,15 @@
 // What one role does to what is written (`compose/specs/Writing.antt`, `put`).
 use crate::Pen;
 use crate::bytes;
+use crate::pouring;
 use crate::table;
 use crate::waiting;
 ghost use mathlib.Core.Path.{_≡_};
-ghost use Prim.Native.Nat.{_+_, _≤_, _<_};
+ghost use Prim.Native.Nat.{_+_, _-_, _≤_, _<_};
 ghost use lib.ListN.{length};
 ghost use Rattle.compose.specs.Writing.{put};
 ghost use Rattle.composing.specs.Pens.{stands, Near};
-ghost use Rattle.compose.specs.Fits.{kept};
+ghost use Rattle.compose.specs.Fits.{within};
 
 // How many bytes there are of roles.
 const ROLES: u8 = 81;
@@ -17,15 +18,16 @@ const ROLES: u8 = 81;
 pub fn put(out: &mut [u8], stack: &mut [u8], numbers: &[u8], p: Pen, c: u8, v: u32) -> Pen
     requires { ⌜ (6 ≤ p .place) × (p .place ≤ length (now out)) × (p .height < length (now stack)) ⌝ }
     requires { ⌜ (p .left ≤ length (now numbers)) × (p .later + 1 < 18446744073709551616) ⌝ }
-    ensures { λ r. ⌜ kept (stands (now (out .exit)) (now (stack .exit)) (now (numbers .entry)) r)
-        ≡ kept (put c v (stands (now (out .entry)) (now (stack .entry)) (now (numbers .entry)) p)) ⌝ }
-    ensures { λ r. ⌜ Near 6 1 1 p r ⌝ }
+    ensures { λ r. ⌜ within (length (now (out .entry)) - 6) (stands (now (out .exit)) (now (stack .exit)) (now (numbers .entry)) r)
+        ≡ within (length (now (out .entry)) - 6) (put c v (stands (now (out .entry)) (now (stack .entry)) (now (numbers .entry)) p)) ⌝ }
+    ensures { λ r. ⌜ Near (p .place) 1 1 p r ⌝ }
 {
     if c >= ROLES {
         return p;
     }
     let i = c as usize;
-    let q = bytes::behind(out, numbers, p, table::behind(i), v);
+    let a = pouring::first(out, stack, p, table::pouring(i), c + 9);
+    let q = bytes::behind(out, numbers, a, table::behind(i), v);
     let r = bytes::formed(out, q, table::form(i));
     waiting::stacked(out, stack, r, table::stacking(i), c + 9)
 }

@@ -1,8 +1,8 @@
-// What each of the 81 roles does (`compose/specs/Writing.antt`), as three tables; a number is the byte that is 48 above it.
+// What each of the 81 roles does (`compose/specs/Writing.antt`), as four tables; a number is the byte that is 48 above it.
 ghost use mathlib.Core.Path.{_≡_};
 ghost use Prim.Native.Nat.{_<_};
 ghost use lib.ListN.{length, getD};
-ghost use Rattle.compose.specs.Writing.{behind-marks, forms, stack-marks};
+ghost use Rattle.compose.specs.Writing.{behind-marks, forms, stack-marks, pour-marks};
 
 fn pick(t: &[u8], i: usize) -> u8
     requires { ⌜ i < length (now t) ⌝ }
@@ -38,7 +38,18 @@ pub(crate) fn stacking(c: usize) -> u8
     ensures { λ r. ⌜ r ≡ getD stack-marks c 0 ⌝ }
 {
     let b = pick(
-        b"001000100000000000000007777777777777000002001001110000011110000530000043064343000",
+        b"001300100000000000030005555555555555000002001001110000011110000030330043064343030",
+        c,
+    );
+    b - 48
+}
+
+pub(crate) fn pouring(c: usize) -> u8
+    requires { ⌜ c < 81 ⌝ }
+    ensures { λ r. ⌜ r ≡ getD pour-marks c 0 ⌝ }
+{
+    let b = pick(
+        b"001000000000000000001002222222222222000000000001000000000000000101000000000000010",
         c,
     );
     b - 48

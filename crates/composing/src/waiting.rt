@@ -1,11 +1,11 @@
-// Operators and counts that wait on a lent stack (`compose/specs/Writing.antt`, 'What waits').
+// Operators, ends of expressions and counts that wait on a lent stack (`compose/specs/Writing.antt`, 'What waits').
 use crate::Pen;
 use crate::bytes;
 ghost use mathlib.Core.Path.{_≡_};
 ghost use mathlib.Core.List.{List};
 ghost use Prim.Native.Nat.{ℕ, _+_, _≤_, _<_};
 ghost use lib.ListN.{length, getD};
-ghost use Rattle.compose.specs.Writing.{more, opened, counted, poured, operated, stackings};
+ghost use Rattle.compose.specs.Writing.{more, opened, counted, stackings};
 ghost use Rattle.composing.specs.Pens.{stands, Near};
 ghost use Rattle.compose.specs.Fits.{kept};
 
@@ -32,14 +32,14 @@ fn more(stack: &mut [u8], p: Pen, limit: u8) -> Pen
     p
 }
 
-// A row or brackets end.
-fn opened(stack: &mut [u8], p: Pen) -> Pen
+// One more waits.
+fn opened(stack: &mut [u8], p: Pen, c: u8) -> Pen
     requires { ⌜ p .height < length (now stack) ⌝ }
-    ensures { λ r. ⌜ ((s n : List ℕ) → stands s (now (stack .exit)) n r ≡ opened (stands s (now (stack .entry)) n p)) ⌝ }
+    ensures { λ r. ⌜ ((s n : List ℕ) → stands s (now (stack .exit)) n r ≡ opened c (stands s (now (stack .entry)) n p)) ⌝ }
     ensures { λ r. ⌜ (r .place ≡ p .place) × Near 0 1 0 p r ⌝ }
 {
     let h = p.height;
-    stack[h] = 0;
+    stack[h] = c;
     Pen {
         place: p.place,
         height: h + 1,
@@ -50,7 +50,7 @@ fn opened(stack: &mut [u8], p: Pen) -> Pen
 }
 
 // What waits last is taken off.
-fn popped(p: Pen) -> Pen
+pub(crate) fn popped(p: Pen) -> Pen
     requires { ⌜ 0 < p .height ⌝ }
     ensures { λ r. ⌜ (r .place ≡ p .place) × (r .height + 1 ≡ p .height) × (r .left ≡ p .left) × (r .later ≡ p .later) × (r .fits ≡ p .fits) ⌝ }
 {
@@ -77,35 +77,6 @@ pub(crate) fn counted(out: &mut [u8], stack: &[u8], p: Pen) -> Pen
     bytes::wrote(out, popped(p), stack[i])
 }
 
-// Brackets begin: their operator is written, where there is one.
-fn poured(out: &mut [u8], stack: &[u8], p: Pen) -> Pen
-    requires { ⌜ (0 < p .place) × (p .place ≤ length (now out)) × (p .height ≤ length (now stack)) ⌝ }
-    ensures { λ r. ⌜ ((n : List ℕ) → stands (now (out .exit)) (now (stack .entry)) n r ≡ poured (stands (now (out .entry)) (now (stack .entry)) n p)) ⌝ }
-    ensures { λ r. ⌜ Near 1 0 0 p r ⌝ }
-{
-    let h = p.height;
-    if h == 0 {
-        return bytes::spoilt(p);
-    }
-    let i = h - 1;
-    bytes::formed(out, popped(p), stack[i])
-}
-
-// An operator waits for its brackets.
-fn operated(stack: &mut [u8], p: Pen, o: u8) -> Pen
-    requires { ⌜ p .height ≤ length (now stack) ⌝ }
-    ensures { λ r. ⌜ ((s n : List ℕ) → stands s (now (stack .exit)) n r ≡ operated o (stands s (now (stack .entry)) n p)) ⌝ }
-    ensures { λ r. ⌜ Near 0 0 0 p r ⌝ }
-{
-    let h = p.height;
-    if h == 0 {
-        return bytes::spoilt(p);
-    }
-    let i = h - 1;
-    stack[i] = o;
-    p
-}
-
 // What a role does to what waits.
 pub(crate) fn stacked(out: &mut [u8], stack: &mut [u8], p: Pen, mark: u8, o: u8) -> Pen
     requires { ⌜ (0 < p .place) × (p .place ≤ length (now out)) × (p .height < length (now stack)) ⌝ }
@@ -116,14 +87,13 @@ pub(crate) fn stacked(out: &mut [u8], stack: &mut [u8], p: Pen, mark: u8, o: u8)
     match mark {
         1 => more(stack, p, MAX_STATEMENTS),
         2 => more(stack, p, MAX_STEPS),
-        3 => opened(stack, p),
+        3 => opened(stack, p, 0),
         4 => counted(out, stack, p),
-        5 => poured(out, stack, p),
+        5 => opened(stack, p, o),
         6 => {
             let q = counted(out, stack, p);
-            opened(stack, q)
+            opened(stack, q, 0)
         }
-        7 => operated(stack, p, o),
         _ => p,
     }
 }

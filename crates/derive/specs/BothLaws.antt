@@ -60,7 +60,8 @@ module _ (P : Token → State → Act → Type 0) where
   name-both (int r ds) p q = q
   name-both (nat ds) p q = q
 
-  pub op-both : {f : Op → State} {z : State} {a b : Act} (t : Token) → ((o : Op) → P (op o) (f o) a) → P t z b → P t (on-op f z t) (on-op (λ o. a) b t)
+  pub op-both : {f : Op → State} {z : State} {a : Op → Act} {b : Act} (t : Token) → ((o : Op) → P (op o) (f o) (a o)) → P t z b
+      → P t (on-op f z t) (on-op a b t)
   unfolding on-op
   op-both (word v) p q = q
   op-both (sign g) p q = q

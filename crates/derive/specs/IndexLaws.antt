@@ -32,7 +32,7 @@ module _ {A : Type 0} (f : ℕ → Token → A) (q k : ℕ) where
       first = refl
 
 -- what no code is does nothing and says nothing
-module _ (q k : ℕ) (h : 43 ≤ q) where
+module _ (q k : ℕ) (h : 47 ≤ q) where
   pub act-out : act-at 0 ≡ act q (sample k)
   unfolding act-at act acts
   act-out = sym (List·getD-eq-default (acts (sample k)) Stop {n = q} h)

@@ -87,7 +87,7 @@ sample-moved Below [] t = refl
 sample-moved Below (r ∷ st) t = ap (λ a. acted a st) (sample-act r t)
 sample-moved Stop st t = refl
 
-sample-move : (s : Shape) (t : Token) → move s (sample (kind t)) ≡ move s t
+pub sample-move : (s : Shape) (t : Token) → move s (sample (kind t)) ≡ move s t
 unfolding move
 sample-move (shape q st) t = sample-moved (act q (sample (kind t))) st t ∙ ap (λ a. moved a st t) (sample-act q t)
 

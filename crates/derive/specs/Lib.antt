@@ -2,6 +2,7 @@ pub mod Roles
 pub mod RoleLaws
 pub mod Shape
 pub mod BothLaws
+pub mod SiteLaws
 pub mod ShapeLaws
 pub mod KindShapeLaws
 pub mod RoleMarks

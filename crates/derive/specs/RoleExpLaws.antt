@@ -1,7 +1,8 @@
 -- The roles from codes and kinds are those that the grammar gives: expressions, by the derivation alone.
-use Prim.Native.Nat.{ℕ}
-use mathlib.Core.Path.{_≡_, refl, ap, _∙_}
-use mathlib.Core.Bool.{true, false}
+use Prim.Native.Nat.{ℕ, suc, _<_, _≤_}
+use native.Mathlib.Omega.{arith}
+use mathlib.Core.Path.{_≡_, refl, sym, ap, _∙_}
+use mathlib.Core.Bool.{Bool, true, false, false≢true}
 use mathlib.Core.List.{List, _∷_, map}
 use Rattle.program.specs.Tree.{Op, Op.op-eq, Op.op-ne, Op.op-le, Op.op-ge, Op.op-lt, Op.op-gt, Op.op-mul, Op.op-div, Op.op-rem, Op.op-add, Op.op-sub, Op.op-and}
 use Rattle.program.specs.Tree.{Op.op-or}
@@ -10,14 +11,20 @@ use Rattle.syntax.specs.Syntax.{Id, TypeName, TypeName.int-type, TypeName.nat-t
 use Rattle.syntax.specs.Syntax.{Literal.nat-literal, Literal.bool-literal, Var, Var.id, Var.dot}
 use Rattle.syntax.specs.Syntax.{Exp, Exp.binary, Exp.brackets, Exp.negation, Exp.constructor, Exp.variable, Exp.literal, Exp.null, Exp.this, Exps, Exps.no-exps}
 use Rattle.syntax.specs.Syntax.{Exps.exps}
-use Rattle.syntax.specs.Expecting.{sign-number, word-number, on-word, literal-word, on-literal}
+use Rattle.syntax.specs.Expecting.{sign-number, word-number, on-word, on-op, literal-word, on-literal}
 use Rattle.syntax.specs.Yield.{type-token, literal-token, yield-var, yield-exp, yield-exps, yield-exp-list}
-use Rattle.syntax.specs.Bracketing.{Spot.bracketed, Spot.bare, Fits, FitsExps}
+use Rattle.syntax.specs.Bracketing.{level, loosest, comparisons, tightest, left, Fits, FitsExps}
+use Rattle.syntax.specs.Reading.{least}
+use Rattle.syntax.specs.LevelLaws.{left-from, least-most}
 use Rattle.lexer.specs.Kinds.{word-kind, sign-kind, op-kind, kind}
-use Rattle.derive.specs.Roles.{Part.brackets-close, Part.args-close, Role, Role.part, naming-code, code, roles-later}
+use Rattle.derive.specs.Roles.{Part.args-close, Role, Role.part, naming-code, code, roles-later}
 use Rattle.derive.specs.Roles.{roles-var, close-of, roles-exp, roles-exps, roles-exp-list}
 use Rattle.derive.specs.Shape.{Shape, Shape.shape, on-exp, on-item, past-item, acts, act, acted, acted-below, moved, move, samples, sample}
-use Rattle.derive.specs.RoleMarks.{mark, said, said-below, role, waits, other-role, kept-or}
+use Rattle.derive.specs.Shape.{turn, spot, clash}
+use Rattle.derive.specs.KindShapeLaws.{sample-move}
+use Rattle.derive.specs.SiteLaws.{Site, Site.brackets-site, Site.args-site, Site.statement-site, Site.if-site, Site.value-site, turn-tight, clash-tight}
+use Rattle.derive.specs.SiteLaws.{below-goes, below-same}
+use Rattle.derive.specs.RoleMarks.{by-kind, mark, said, said-below, role, waits, other-role, kept-or}
 use Rattle.derive.specs.RoleMarks.{by-next, settled, role-codes}
 
 -- `role-codes`, with all that it computes with
@@ -64,26 +71,95 @@ pub follows-then : Follows 3
 unfolding found
 follows-then = record { behind-name = λ st ks. refl; behind-later = λ st ks. refl; keeps = refl }
 
--- an operator follows, and in brackets it opens the right side
-record Between (k : ℕ) : Type 0 where
-  follows : Follows k
-  opens : (st ks : List ℕ) → found (shape 23 (34 ∷ st)) (k ∷ ks) ≡ k ∷ found (shape 22 (35 ∷ st)) ks
-
-between : (o : Op) → Between (op-kind o)
+pub follows-op : (o : Op) → Follows (op-kind o)
 unfolding found
-between op-eq = record { follows = record { behind-name = λ st ks. refl; behind-later = λ st ks. refl; keeps = refl }; opens = λ st ks. refl }
-between op-ne = record { follows = record { behind-name = λ st ks. refl; behind-later = λ st ks. refl; keeps = refl }; opens = λ st ks. refl }
-between op-le = record { follows = record { behind-name = λ st ks. refl; behind-later = λ st ks. refl; keeps = refl }; opens = λ st ks. refl }
-between op-ge = record { follows = record { behind-name = λ st ks. refl; behind-later = λ st ks. refl; keeps = refl }; opens = λ st ks. refl }
-between op-lt = record { follows = record { behind-name = λ st ks. refl; behind-later = λ st ks. refl; keeps = refl }; opens = λ st ks. refl }
-between op-gt = record { follows = record { behind-name = λ st ks. refl; behind-later = λ st ks. refl; keeps = refl }; opens = λ st ks. refl }
-between op-mul = record { follows = record { behind-name = λ st ks. refl; behind-later = λ st ks. refl; keeps = refl }; opens = λ st ks. refl }
-between op-div = record { follows = record { behind-name = λ st ks. refl; behind-later = λ st ks. refl; keeps = refl }; opens = λ st ks. refl }
-between op-rem = record { follows = record { behind-name = λ st ks. refl; behind-later = λ st ks. refl; keeps = refl }; opens = λ st ks. refl }
-between op-add = record { follows = record { behind-name = λ st ks. refl; behind-later = λ st ks. refl; keeps = refl }; opens = λ st ks. refl }
-between op-sub = record { follows = record { behind-name = λ st ks. refl; behind-later = λ st ks. refl; keeps = refl }; opens = λ st ks. refl }
-between op-and = record { follows = record { behind-name = λ st ks. refl; behind-later = λ st ks. refl; keeps = refl }; opens = λ st ks. refl }
-between op-or = record { follows = record { behind-name = λ st ks. refl; behind-later = λ st ks. refl; keeps = refl }; opens = λ st ks. refl }
+follows-op op-eq = record { behind-name = λ st ks. refl; behind-later = λ st ks. refl; keeps = refl }
+follows-op op-ne = record { behind-name = λ st ks. refl; behind-later = λ st ks. refl; keeps = refl }
+follows-op op-le = record { behind-name = λ st ks. refl; behind-later = λ st ks. refl; keeps = refl }
+follows-op op-ge = record { behind-name = λ st ks. refl; behind-later = λ st ks. refl; keeps = refl }
+follows-op op-lt = record { behind-name = λ st ks. refl; behind-later = λ st ks. refl; keeps = refl }
+follows-op op-gt = record { behind-name = λ st ks. refl; behind-later = λ st ks. refl; keeps = refl }
+follows-op op-mul = record { behind-name = λ st ks. refl; behind-later = λ st ks. refl; keeps = refl }
+follows-op op-div = record { behind-name = λ st ks. refl; behind-later = λ st ks. refl; keeps = refl }
+follows-op op-rem = record { behind-name = λ st ks. refl; behind-later = λ st ks. refl; keeps = refl }
+follows-op op-add = record { behind-name = λ st ks. refl; behind-later = λ st ks. refl; keeps = refl }
+follows-op op-sub = record { behind-name = λ st ks. refl; behind-later = λ st ks. refl; keeps = refl }
+follows-op op-and = record { behind-name = λ st ks. refl; behind-later = λ st ks. refl; keeps = refl }
+follows-op op-or = record { behind-name = λ st ks. refl; behind-later = λ st ks. refl; keeps = refl }
+
+-- Places -------------------------------------------------------------------------------------------
+
+-- a place that has code r, where operators of level l may stand bare: with a comparison before them, they are tighter
+pub data At (l : ℕ) : ℕ → Type 0 where
+  at : {c : ℕ} → Site c → (b : Bool) → (b ≡ true → comparisons < l) → At l (spot b c)
+
+pub at-first : {c : ℕ} → Site c → (l : ℕ) → At l c
+unfolding spot
+at-first s l = at s false (λ e. absurd (false≢true e))
+
+-- one token, by its role and where it leads
+found-on : (s z : Shape) (k r : ℕ) (ks : List ℕ) → role s k ≡ r → move s (sample k) ≡ z → found s (k ∷ ks) ≡ settled r z ks ∷ found z ks
+unfolding found
+found-on s z k r ks d e = rw (← d, ← e) refl
+
+site-mark : {c : ℕ} → Site c → (b : Bool) (t : Token) → mark (spot b c) t ≡ mark c t
+unfolding mark spot
+site-mark brackets-site false t = refl
+site-mark brackets-site true t = refl
+site-mark args-site false t = refl
+site-mark args-site true t = refl
+site-mark statement-site false t = refl
+site-mark statement-site true t = refl
+site-mark if-site false t = refl
+site-mark if-site true t = refl
+site-mark value-site false t = refl
+site-mark value-site true t = refl
+
+site-plain : {c : ℕ} → Site c → (o : Op) → mark c (op o) ≡ by-kind
+unfolding mark
+site-plain brackets-site o = refl
+site-plain args-site o = refl
+site-plain statement-site o = refl
+site-plain if-site o = refl
+site-plain value-site o = refl
+
+sample-op : (o : Op) → sample (op-kind o) ≡ op o
+unfolding sample samples op-kind
+sample-op op-eq = refl
+sample-op op-ne = refl
+sample-op op-le = refl
+sample-op op-ge = refl
+sample-op op-lt = refl
+sample-op op-gt = refl
+sample-op op-mul = refl
+sample-op op-div = refl
+sample-op op-rem = refl
+sample-op op-add = refl
+sample-op op-sub = refl
+sample-op op-and = refl
+sample-op op-or = refl
+
+module _ {c : ℕ} (s : Site c) (b : Bool) (st : List ℕ) where
+  -- an operator leads to its right operand
+  goes-on : (o : Op) (ks : List ℕ) → clash b o ≡ false
+      → found (shape 23 (spot b c ∷ st)) (op-kind o ∷ ks) ≡ op-kind o ∷ found (shape 22 (spot (turn b o) c ∷ st)) ks
+  unfolding role said-below said mark move moved act acts settled waits
+  goes-on o ks h =
+      let m : mark (spot b c) (sample (op-kind o)) ≡ by-kind = rw (sample-op o) (site-mark s b (op o) ∙ site-plain s o) in
+      found-on (shape 23 (spot b c ∷ st)) (shape 22 (spot (turn b o) c ∷ st)) (op-kind o) (op-kind o) ks (rw m refl) (rw (sample-op o) (below-goes s st b o h))
+
+  -- once an operator that waited took its operand, a token that is no tighter is met as before
+  found-same : (o : Op) (t : Token) (ks : List ℕ) → least t ≤ level o
+      → found (shape 23 (spot (turn b o) c ∷ st)) (kind t ∷ ks) ≡ found (shape 23 (spot b c ∷ st)) (kind t ∷ ks)
+  unfolding role said-below mark move moved act acts
+  found-same o t ks h =
+      let x : Shape = shape 23 (spot (turn b o) c ∷ st) in
+      let y : Shape = shape 23 (spot b c ∷ st) in
+      let u = site-mark s (turn b o) (sample (kind t)) ∙ sym (site-mark s b (sample (kind t))) in
+      let m : role x (kind t) ≡ role y (kind t) = ap (λ v. said v (kind t)) u in
+      let n : move x (sample (kind t)) ≡ move y (sample (kind t)) = sample-move x t ∙ below-same s st b o t h ∙ sym (sample-move y t) in
+      let z : Shape = move y (sample (kind t)) in
+      found-on x z (kind t) (role y (kind t)) ks m n ∙ sym (found-on y z (kind t) (role y (kind t)) ks refl refl)
 
 -- Variables ----------------------------------------------------------------------------------------
 
@@ -102,72 +178,71 @@ dots-read : Dots 25 26
 unfolding found
 dots-read = record { a-variable = λ st ks. refl; a-dot = λ st ks. refl }
 
--- what e yields has the roles of e
-pub record ComesExp (e : Exp) : Type 0 where
-  pub there : {st : List ℕ} {t : Token} {ts : List Token} {rs : List Role} → Follows (kind t) → Comes 23 st (t ∷ ts) rs
-      → Comes 22 st (yield-exp e (t ∷ ts)) (roles-exp e rs)
+-- what e yields has the roles of e, where operators of level l may stand bare
+pub record ComesExp (l : ℕ) (e : Exp) : Type 0 where
+  pub there : {r : ℕ} → At l r → {st : List ℕ} {t : Token} {ts : List Token} {rs : List Role} → Follows (kind t) → least t ≤ l
+      → Comes 23 (r ∷ st) (t ∷ ts) rs → Comes 22 (r ∷ st) (yield-exp e (t ∷ ts)) (roles-exp e rs)
 
--- directly in brackets
-record ComesIn (e : Exp) : Type 0 where
-  inside : {st : List ℕ} {ts : List Token} {rs : List Role} → Comes 23 st ts rs
-      → Comes 22 (34 ∷ st) (yield-exp e (sign rpar ∷ ts)) (roles-exp e (part brackets-close ∷ rs))
-
-var-comes : (v : Var) → ComesExp (variable v)
+var-comes : (l : ℕ) (v : Var) → ComesExp l (variable v)
 unfolding yield-exp roles-exp yield-var roles-var found
-var-comes (id x) = record { there = λ {st} f h. comes (rw (f .keeps) (onto 43 (f .behind-name st _ ∙ codes h))) }
-var-comes (dot x v) =
-    record { there = λ {st} f h. comes (onto 43 (onto 21 (codes (later-comes dots-read v (comes (f .behind-later st _ ∙ codes h)))))) }
+var-comes l (id x) = record { there = λ {r} a {st} f m h. comes (rw (f .keeps) (onto 43 (f .behind-name (r ∷ st) _ ∙ codes h))) }
+var-comes l (dot x v) =
+    record { there = λ {r} a {st} f m h. comes (onto 43 (onto 21 (codes (later-comes dots-read v (comes (f .behind-later (r ∷ st) _ ∙ codes h)))))) }
 
-literal-comes : (l : Literal) → ComesExp (literal l)
+literal-comes : (l : ℕ) (a : Literal) → ComesExp l (literal a)
 unfolding yield-exp roles-exp literal-token found
-literal-comes (int-literal p ds) = record { there = λ f h. comes (onto 37 (codes h)) }
-literal-comes (nat-literal ds) = record { there = λ f h. comes (onto 38 (codes h)) }
-literal-comes (bool-literal true) = record { there = λ f h. comes (onto 11 (codes h)) }
-literal-comes (bool-literal false) = record { there = λ f h. comes (onto 12 (codes h)) }
+literal-comes l (int-literal p ds) = record { there = λ a f m h. comes (onto 37 (codes h)) }
+literal-comes l (nat-literal ds) = record { there = λ a f m h. comes (onto 38 (codes h)) }
+literal-comes l (bool-literal true) = record { there = λ a f m h. comes (onto 11 (codes h)) }
+literal-comes l (bool-literal false) = record { there = λ a f m h. comes (onto 12 (codes h)) }
 
-null-comes : (a : TypeName) → ComesExp (null a)
+null-comes : (l : ℕ) (a : TypeName) → ComesExp l (null a)
 unfolding yield-exp roles-exp type-token found
-null-comes int-type = record { there = λ f h. comes (onto 4 (onto 59 (codes h))) }
-null-comes nat-type = record { there = λ f h. comes (onto 4 (onto 60 (codes h))) }
-null-comes bool-type = record { there = λ f h. comes (onto 4 (onto 61 (codes h))) }
-null-comes (id-type x) = record { there = λ f h. comes (onto 4 (onto 62 (codes h))) }
+null-comes l int-type = record { there = λ a f m h. comes (onto 4 (onto 59 (codes h))) }
+null-comes l nat-type = record { there = λ a f m h. comes (onto 4 (onto 60 (codes h))) }
+null-comes l bool-type = record { there = λ a f m h. comes (onto 4 (onto 61 (codes h))) }
+null-comes l (id-type x) = record { there = λ a f m h. comes (onto 4 (onto 62 (codes h))) }
 
-this-comes : ComesExp this
+this-comes : (l : ℕ) → ComesExp l this
 unfolding yield-exp roles-exp found
-this-comes = record { there = λ f h. comes (onto 5 (codes h)) }
+this-comes l = record { there = λ a f m h. comes (onto 5 (codes h)) }
 
-brackets-come : {e : Exp} → ComesIn e → ComesExp (brackets e)
+brackets-come : (l : ℕ) {e : Exp} → ComesExp loosest e → ComesExp l (brackets e)
+unfolding yield-exp roles-exp least on-op found
+brackets-come l c =
+    record { there = λ a f m h. comes (onto 63 (codes (c .there (at-first brackets-site loosest) follows-rpar (omega arith) (comes (onto 64 (codes h)))))) }
+
+negation-comes : (l : ℕ) {e : Exp} → ComesExp tightest e → ComesExp l (negation e)
 unfolding yield-exp roles-exp found
-brackets-come c = record { there = λ f h. comes (onto 63 (codes (c .inside h))) }
+negation-comes l c = record { there = λ a {st} {t} f m h. comes (onto 22 (codes (c .there (tighter-at a) f (least-most t) h))) }
+  where
+    tighter-at : {r : ℕ} → At l r → At tightest r
+    tighter-at (at s b g) = at s b (λ e. omega arith)
 
-negation-comes : {e : Exp} → ComesExp e → ComesExp (negation e)
-unfolding yield-exp roles-exp found
-negation-comes c = record { there = λ f h. comes (onto 22 (codes (c .there f h))) }
-
--- the ) behind an expression in brackets, behind the right side of an operator
-within : {e : Exp} → ComesExp e → ComesIn e
-unfolding found
-within c = record { inside = λ h. c .there follows-rpar (comes (onto 64 (codes h))) }
-
-binary-comes : (o : Op) {a b : Exp} → ComesExp a → ComesExp b → ComesIn (binary o a b)
-unfolding yield-exp roles-exp found
-binary-comes o c d =
-    record {
-      inside = λ {st} h. c .there (between o .follows)
-          (comes (between o .opens st _ ∙ onto (op-kind o) (codes (d .there {st = 35 ∷ st} follows-rpar (comes (onto 64 (codes h)))))));
-    }
+binary-comes : (l : ℕ) (o : Op) {a b : Exp} → l ≤ level o → ComesExp (left o) a → ComesExp (suc (level o)) b → ComesExp l (binary o a b)
+unfolding yield-exp roles-exp least on-op kind code
+binary-comes l o {a} {b} n c d = record { there = go }
+  where
+    go : {r : ℕ} → At l r → {st : List ℕ} {t : Token} {ts : List Token} {rs : List Role} → Follows (kind t) → least t ≤ l
+        → Comes 23 (r ∷ st) (t ∷ ts) rs → Comes 22 (r ∷ st) (yield-exp (binary o a b) (t ∷ ts)) (roles-exp (binary o a b) rs)
+    go (at s x g) {st} {t} {ts} {rs} f m h =
+        let behind : Comes 23 (spot (turn x o) _ ∷ st) (t ∷ ts) rs = comes (found-same s x st o t _ (omega arith) ∙ codes h) in
+        let right = d .there (at s (turn x o) (λ e. omega (arith, turn-tight x o e))) f (omega arith) behind in
+        c .there (at s x (λ e. omega (arith, g e, left-from o))) (follows-op o) (omega arith)
+        (comes (goes-on s x st o _ (clash-tight x o (λ e. omega (arith, g e))) ∙ onto (op-kind o) (codes right)))
 
 -- Arguments ------------------------------------------------------------------------------------------
 
 -- arguments that opened r and end in state p
 pub record Args (r p : ℕ) : Type 0 where
+  pub site : Site r
   pub empty : (st ks : List ℕ) → found (shape 27 (r ∷ st)) (14 ∷ ks) ≡ 67 ∷ found (shape p st) ks
   pub more : (st ks : List ℕ) → found (shape 23 (r ∷ st)) (17 ∷ ks) ≡ 79 ∷ found (shape 22 (r ∷ st)) ks
   pub last : (st ks : List ℕ) → found (shape 23 (r ∷ st)) (14 ∷ ks) ≡ 66 ∷ found (shape p st) ks
 
 constructor-args : Args 36 23
 unfolding found
-constructor-args = record { empty = λ st ks. refl; more = λ st ks. refl; last = λ st ks. refl }
+constructor-args = record { site = args-site; empty = λ st ks. refl; more = λ st ks. refl; last = λ st ks. refl }
 
 -- the first argument is met as any expression
 first-argument : (e : Exp) (st : List ℕ) (k : List Token) → found (shape 27 st) (map kind (yield-exp e k)) ≡ found (shape 22 st) (map kind
@@ -193,58 +268,51 @@ pub record ComesArgs (es : Exps) : Type 0 where
 
 -- behind an argument e
 record ComesList (es : Exps) : Type 0 where
-  behind : {e : Exp} → ComesExp e → {r p : ℕ} → Args r p → {st : List ℕ} {ts : List Token} {rs : List Role} → Comes p st ts rs
+  behind : {e : Exp} → ComesExp loosest e → {r p : ℕ} → Args r p → {st : List ℕ} {ts : List Token} {rs : List Role} → Comes p st ts rs
       → Comes 22 (r ∷ st) (yield-exp e (yield-exp-list es (sign rpar ∷ ts))) (roles-exp e (roles-exp-list es (part args-close ∷ rs)))
 
 list-ends : ComesList no-exps
-unfolding yield-exp-list roles-exp-list found
-list-ends = record { behind = λ c a {st} h. c .there follows-rpar (comes (a .last st _ ∙ onto 66 (codes h))) }
+unfolding yield-exp-list roles-exp-list least on-op found
+list-ends = record { behind = λ c a {st} h. c .there (at-first (a .site) loosest) follows-rpar (omega arith) (comes (a .last st _ ∙ onto 66 (codes h))) }
 
-list-goes-on : {e : Exp} {es : Exps} → ComesExp e → ComesList es → ComesList (exps e es)
-unfolding yield-exp-list roles-exp-list found
-list-goes-on d l = record { behind = λ c a {st} h. c .there follows-comma (comes (a .more st _ ∙ onto 79 (codes (l .behind d a h)))) }
+list-goes-on : {e : Exp} {es : Exps} → ComesExp loosest e → ComesList es → ComesList (exps e es)
+unfolding yield-exp-list roles-exp-list least on-op found
+list-goes-on d l =
+    record {
+      behind = λ c a {st} h. c .there (at-first (a .site) loosest) follows-comma (omega arith) (comes (a .more st _ ∙ onto 79 (codes (l .behind d a h))));
+    }
 
 args-none : ComesArgs no-exps
 unfolding yield-exps roles-exps close-of found
 args-none = record { all = λ a {st} h. comes (a .empty st _ ∙ onto 67 (codes h)) }
 
-args-some : {e : Exp} {es : Exps} → ComesExp e → ComesList es → ComesArgs (exps e es)
+args-some : {e : Exp} {es : Exps} → ComesExp loosest e → ComesList es → ComesArgs (exps e es)
 unfolding yield-exps roles-exps close-of
 args-some {e} c l = record { all = λ {r} a {st} h. comes (first-argument e (r ∷ st) _ ∙ codes (l .behind c a h)) }
 
-constructor-comes : (x : Id) {es : Exps} → ComesArgs es → ComesExp (constructor x es)
+constructor-comes : (l : ℕ) (x : Id) {es : Exps} → ComesArgs es → ComesExp l (constructor x es)
 unfolding yield-exp roles-exp found
-constructor-comes x c = record { there = λ f h. comes (onto 46 (onto 65 (codes (c .all constructor-args h)))) }
+constructor-comes l x c = record { there = λ a f m h. comes (onto 46 (onto 65 (codes (c .all constructor-args h)))) }
 
 -- Every expression -----------------------------------------------------------------------------------
 
 mutual
   unfolding Fits FitsExps
 
-  pub exp-comes : (e : Exp) → Fits bare e → ComesExp e
-  exp-comes (binary o a b) f = absurd f
-  exp-comes (brackets e) f = brackets-come (in-comes e f)
-  exp-comes (negation e) f = negation-comes (exp-comes e f)
-  exp-comes (constructor x es) f = constructor-comes x (args-come es f)
-  exp-comes (variable v) f = var-comes v
-  exp-comes (literal l) f = literal-comes l
-  exp-comes (null a) f = null-comes a
-  exp-comes this f = this-comes
-
-  in-comes : (e : Exp) → Fits bracketed e → ComesIn e
-  in-comes (binary o a b) f = binary-comes o (exp-comes a (f .0)) (exp-comes b (f .1))
-  in-comes (brackets e) f = within (brackets-come (in-comes e f))
-  in-comes (negation e) f = within (negation-comes (exp-comes e f))
-  in-comes (constructor x es) f = within (constructor-comes x (args-come es f))
-  in-comes (variable v) f = within (var-comes v)
-  in-comes (literal l) f = within (literal-comes l)
-  in-comes (null a) f = within (null-comes a)
-  in-comes this f = within this-comes
+  pub exp-comes : (e : Exp) (l : ℕ) → Fits l e → ComesExp l e
+  exp-comes (binary o a b) l f = binary-comes l o (f .0) (exp-comes a (left o) (f .1)) (exp-comes b (suc (level o)) (f .2))
+  exp-comes (brackets e) l f = brackets-come l (exp-comes e loosest f)
+  exp-comes (negation e) l f = negation-comes l (exp-comes e tightest f)
+  exp-comes (constructor x es) l f = constructor-comes l x (args-come es f)
+  exp-comes (variable v) l f = var-comes l v
+  exp-comes (literal a) l f = literal-comes l a
+  exp-comes (null a) l f = null-comes l a
+  exp-comes this l f = this-comes l
 
   pub args-come : (es : Exps) → FitsExps es → ComesArgs es
   args-come no-exps f = args-none
-  args-come (exps e es) f = args-some (exp-comes e (f .0)) (list-comes es (f .1))
+  args-come (exps e es) f = args-some (exp-comes e loosest (f .0)) (list-comes es (f .1))
 
   list-comes : (es : Exps) → FitsExps es → ComesList es
   list-comes no-exps f = list-ends
-  list-comes (exps e es) f = list-goes-on (exp-comes e (f .0)) (list-comes es (f .1))
+  list-comes (exps e es) f = list-goes-on (exp-comes e loosest (f .0)) (list-comes es (f .1))

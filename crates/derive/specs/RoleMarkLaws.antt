@@ -1,5 +1,6 @@
 -- The roles from codes and kinds are those that the grammar gives: statements, structs, the schedule and the program, by the derivation alone.
 use Prim.Native.Nat.{ℕ}
+use native.Mathlib.Omega.{arith}
 use mathlib.Core.Path.{_≡_, refl, ap, _∙_}
 use mathlib.Core.List.{List, [], _∷_, map}
 use mathlib.Core.Option.{some}
@@ -11,7 +12,9 @@ use Rattle.syntax.specs.Syntax.{Par, Par.par, Step, Step.step, Struct, Struct.s
 use Rattle.syntax.specs.Syntax.{Item.typed-execution, Item.fixpoint, Sched, Sched.last-item, Sched.barrier, Program, Program.program}
 use Rattle.syntax.specs.Yield.{type-token, yield-var, yield-exp, yield-exps, yield-stat, yield-stats, yield-par, yield-par-list, yield-pars, yield-step}
 use Rattle.syntax.specs.Yield.{yield-steps, yield-struct, yield-defs, yield-item, yield-sched, yield}
-use Rattle.syntax.specs.Bracketing.{FitsStat, FitsStats, FitsSteps, FitsStruct, FitsDefs, FitsProgram, Derives}
+use Rattle.syntax.specs.Bracketing.{loosest, FitsStat, FitsStats, FitsSteps, FitsStruct, FitsDefs, FitsProgram, Derives}
+use Rattle.syntax.specs.Expecting.{on-op}
+use Rattle.syntax.specs.Reading.{least}
 use Rattle.tokens.specs.Scanning.{lex}
 use Rattle.lexer.specs.Marking.{marks as marks-in, kinds-in}
 use Rattle.lexer.specs.MarkingLaws.{marks-tell}
@@ -20,7 +23,8 @@ use Rattle.derive.specs.Roles.{Part.pars-close, Part.steps-close, Role, 
 use Rattle.derive.specs.Roles.{roles-par, roles-par-list, roles-pars, roles-step, roles-steps, roles-struct, roles-defs, roles-item, roles-sched, roles}
 use Rattle.derive.specs.Shape.{Shape.shape}
 use Rattle.derive.specs.RoleMarks.{by-next, role-codes, placed}
-use Rattle.derive.specs.RoleExpLaws.{found, Comes, Comes.comes, codes, onto, follows-semicolon, follows-then, Dots, later-comes, Args, ComesExp}
+use Rattle.derive.specs.SiteLaws.{Site.statement-site, Site.if-site, Site.value-site}
+use Rattle.derive.specs.RoleExpLaws.{at-first, found, Comes, Comes.comes, codes, onto, follows-semicolon, follows-then, Dots, later-comes, Args, ComesExp}
 use Rattle.derive.specs.RoleExpLaws.{ComesArgs, exp-comes, args-come}
 
 -- Statements -----------------------------------------------------------------------------------
@@ -32,21 +36,21 @@ record ComesStat (s : Stat) : Type 0 where
 record ComesStats (b : Stats) : Type 0 where
   all : {st : List ℕ} {ts : List Token} {rs : List Role} → Comes 13 st ts rs → Comes 13 st (yield-stats b ts) (roles-stats b rs)
 
-if-comes : {e : Exp} {b : Stats} → ComesExp e → ComesStats b → ComesStat (if-then e b)
-unfolding yield-stat roles-stat found
+if-comes : {e : Exp} {b : Stats} → ComesExp loosest e → ComesStats b → ComesStat (if-then e b)
+unfolding yield-stat roles-stat least on-op found
 if-comes c d =
     record {
-      there = λ {st} h. comes (onto 2 (codes (c .there {st = 38 ∷ st} follows-then (comes (onto 3 (onto 76 (codes
+      there = λ {st} h. comes (onto 2 (codes (c .there (at-first if-site loosest) {st = st} follows-then (omega arith) (comes (onto 3 (onto 76 (codes
           (d .all {st = 41 ∷ st} (comes (onto 77 (codes h)))))))))));
     }
 
 -- the value of an assignment or an update, and the semicolon
-value-comes : {e : Exp} → ComesExp e → {st : List ℕ} {ts : List Token} {rs : List Role} → Comes 13 st ts rs
+value-comes : {e : Exp} → ComesExp loosest e → {st : List ℕ} {ts : List Token} {rs : List Role} → Comes 13 st ts rs
     → Comes 22 (39 ∷ st) (yield-exp e (sign semicolon ∷ ts)) (roles-exp e (plain (sign semicolon) ∷ rs))
-unfolding found
-value-comes c {st} h = c .there {st = 39 ∷ st} follows-semicolon (comes (onto 19 (codes h)))
+unfolding least on-op found
+value-comes c {st} h = c .there (at-first value-site loosest) {st = st} follows-semicolon (omega arith) (comes (onto 19 (codes h)))
 
-assignment-comes : (a : TypeName) (x : Id) {e : Exp} → ComesExp e → ComesStat (assignment a x e)
+assignment-comes : (a : TypeName) (x : Id) {e : Exp} → ComesExp loosest e → ComesStat (assignment a x e)
 unfolding yield-stat roles-stat type-token found
 assignment-comes int-type x c = record { there = λ h. comes (onto 55 (onto 42 (onto 20 (codes (value-comes c h))))) }
 assignment-comes nat-type x c = record { there = λ h. comes (onto 56 (onto 42 (onto 20 (codes (value-comes c h))))) }
@@ -57,7 +61,7 @@ dots-written : Dots 15 16
 unfolding found
 dots-written = record { a-variable = λ st ks. refl; a-dot = λ st ks. refl }
 
-update-comes : (v : Var) {e : Exp} → ComesExp e → ComesStat (update v e)
+update-comes : (v : Var) {e : Exp} → ComesExp loosest e → ComesStat (update v e)
 unfolding yield-stat roles-stat yield-var roles-var found
 update-comes (id x) c = record { there = λ h. comes (onto 44 (onto 20 (codes (value-comes c h)))) }
 update-comes (dot x v) c =
@@ -66,7 +70,7 @@ update-comes (dot x v) c =
 -- arguments of a construct statement are met as those of a constructor
 statement-args : Args 37 20
 unfolding found
-statement-args = record { empty = λ st ks. refl; more = λ st ks. refl; last = λ st ks. refl }
+statement-args = record { site = statement-site; empty = λ st ks. refl; more = λ st ks. refl; last = λ st ks. refl }
 
 as-args : (st ks : List ℕ) → found (shape 19 st) ks ≡ found (shape 27 st) ks
 unfolding found
@@ -93,9 +97,9 @@ mutual
   unfolding FitsStat FitsStats
 
   stat-comes : (t : Stat) → FitsStat t → ComesStat t
-  stat-comes (if-then e b) f = if-comes (exp-comes e (f .0)) (stats-come b (f .1))
-  stat-comes (assignment a x e) f = assignment-comes a x (exp-comes e f)
-  stat-comes (update v e) f = update-comes v (exp-comes e f)
+  stat-comes (if-then e b) f = if-comes (exp-comes e loosest (f .0)) (stats-come b (f .1))
+  stat-comes (assignment a x e) f = assignment-comes a x (exp-comes e loosest f)
+  stat-comes (update v e) f = update-comes v (exp-comes e loosest f)
   stat-comes (construct x es) f = construct-comes x (args-come es f)
 
   stats-come : (b : Stats) → FitsStats b → ComesStats b
@@ -185,7 +189,7 @@ typed-comes x y = record { there = λ f h. comes (onto 49 (onto 21 (onto 50 (cod
 
 fix-comes : {s : Sched} → ComesSched s → ComesItem (fixpoint s)
 unfolding yield-item roles-item found
-fix-comes c = record { there = λ {st} f h. comes (onto 6 (onto 70 (codes (c .all {st = 42 ∷ st} (fix-item _) (comes (onto 71 (codes h))))))) }
+fix-comes c = record { there = λ {st} f h. comes (onto 6 (onto 70 (codes (c .all {st = 34 ∷ st} (fix-item _) (comes (onto 71 (codes h))))))) }
 
 last-comes : {i : Item} → ComesItem i → ComesSched (last-item i)
 unfolding yield-sched roles-sched

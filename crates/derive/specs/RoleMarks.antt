@@ -48,9 +48,14 @@ unfoldable pub argument-mark : Token → ℕ
 unfolding on-sign sign-number part-code
 argument-mark t = on-sign comma (part-code arg-comma) (on-sign rpar (part-code args-close) by-kind t) t
 
+-- behind an expression, by what was opened last
+unfoldable pub past-marks : Token → List ℕ → List ℕ
+unfolding argument-mark on-sign sign-number part-code
+past-marks t k = on-sign rpar (part-code brackets-close) by-kind t ∷ argument-mark t ∷ argument-mark t ∷ by-kind ∷ by-kind ∷ k
+
 -- by the codes, from 0 on, as `acts`; a name that waits has the role that most tokens behind it leave it
 unfoldable pub marks : Token → List ℕ
-unfolding a-name exp-mark args-mark past-mark argument-mark on-type on-type-word type-word typed-code type-number
+unfolding a-name exp-mark args-mark past-mark past-marks on-type on-type-word type-word typed-code type-number
 marks t =
     by-kind
     ∷ by-kind
@@ -87,16 +92,8 @@ marks t =
     ∷ on-sign lpar (part-code fix-open) by-kind t
     ∷ past-mark t
     -- from 34 on: what was opened last says it
-    ∷ on-sign rpar (part-code brackets-close) by-kind t
-    ∷ on-sign rpar (part-code brackets-close) by-kind t
-    ∷ argument-mark t
-    ∷ argument-mark t
-    ∷ by-kind
-    ∷ by-kind
-    ∷ on-sign rbrace (part-code body-close) by-kind t
-    ∷ on-sign rbrace (part-code then-close) by-kind t
     ∷ on-sign rpar (part-code fix-close) by-kind t
-    ∷ []
+    ∷ past-marks t (on-sign rbrace (part-code body-close) by-kind t ∷ on-sign rbrace (part-code then-close) by-kind t ∷ past-marks t [])
 
 unfoldable pub mark : ℕ → Token → ℕ
 unfolding marks

@@ -1,17 +1,18 @@
 -- What the code keeps of a derivation in progress: a code for its state, and the codes of the places that are open, the last one first; trees are
 -- forgotten. And what a token does to that, state by state, in the tests of `syntax/specs/Reading.antt`.
-use Prim.Native.Nat.{ℕ}
-use mathlib.Core.Bool.{Bool, false, _||_}
+use Prim.Native.Nat.{ℕ, _+_}
+use mathlib.Core.Bool.{Bool, true, false, _||_}
 use mathlib.Core.List.{List, [], _∷_}
 use lib.ListN.{getD}
-use lib.Dec.{eqb}
-use Rattle.program.specs.Tree.{Op.op-eq, Op.op-ne, Op.op-le, Op.op-ge, Op.op-lt, Op.op-gt, Op.op-mul, Op.op-div, Op.op-rem, Op.op-add, Op.op-sub, Op.op-and}
+use lib.Dec.{leb, eqb}
+use Rattle.program.specs.Tree.{Op, Op.op-eq, Op.op-ne, Op.op-le, Op.op-ge, Op.op-lt, Op.op-gt, Op.op-mul, Op.op-div, Op.op-rem, Op.op-add, Op.op-sub, Op.op-and}
 use Rattle.program.specs.Tree.{Op.op-or}
 use Rattle.tokens.specs.Tokens.{Word.w-struct, Word.w-if, Word.w-then, Word.w-null, Word.w-this, Word.w-fix, Word.w-int, Word.w-nat, Word.w-bool, Word.w-string}
 use Rattle.tokens.specs.Tokens.{Word.w-true, Word.w-false, Polarity.plus}
 use Rattle.tokens.specs.Tokens.{Sign.lpar, Sign.rpar, Sign.lbrace, Sign.rbrace, Sign.comma, Sign.colon, Sign.semicolon, Sign.assign, Sign.dot as dot-sign}
 use Rattle.tokens.specs.Tokens.{Sign.bang, Token, Token.word, Token.sign, Token.op, Token.name, Token.int, Token.nat}
 use Rattle.syntax.specs.Syntax.{Struct}
+use Rattle.syntax.specs.Bracketing.{level, comparisons}
 use Rattle.syntax.specs.Expecting.{on-word, on-sign, on-name, on-op, on-less, on-literal, on-type-word, on-type}
 use Rattle.syntax.specs.Places.{Body, Body.in-step, Body.in-then, Place, Place.in-brackets, Place.in-negation, Place.in-right, Place.in-constructor}
 use Rattle.syntax.specs.Places.{Place.in-construct, Place.in-if, Place.in-assignment, Place.in-update, Row, Row.in-program, Row.in-fix}
@@ -66,24 +67,48 @@ code-of (at-fix-open l r) = 32
 code-of (behind-item l r i) = 33
 code-of dead = 0
 
--- what is open, from 34 on; a negation leaves nothing
+-- what is open, from 34 on; a negation and an operator that waits leave nothing
+unfoldable pub open-row : Row → List ℕ
+open-row (in-program d) = []
+open-row (in-fix l r) = 34 ∷ open-row r
+
 unfoldable pub open-body : Body → List ℕ
 open-body (in-step ds n ps ts x) = 40 ∷ []
 open-body (in-then e l c) = 41 ∷ open-body c
 
-unfoldable pub open-place : Place → List ℕ
-open-place (in-brackets p) = 34 ∷ open-place p
-open-place (in-negation p) = open-place p
-open-place (in-right o a p) = 35 ∷ open-place p
-open-place (in-constructor x es p) = 36 ∷ open-place p
-open-place (in-construct x es l c) = 37 ∷ open-body c
-open-place (in-if l c) = 38 ∷ open-body c
-open-place (in-assignment a x l c) = 39 ∷ open-body c
-open-place (in-update v l c) = 39 ∷ open-body c
+-- whether a comparison stands bare in the conjunct that is read: behind an operator; at a place
+unfoldable pub turn : Bool → Op → Bool
+unfolding level
+turn b o = elim (eqb (level o) comparisons) [ true ↦ true | false ↦ elim (leb comparisons (level o)) [ true ↦ b | false ↦ false ] ]
 
-unfoldable pub open-row : Row → List ℕ
-open-row (in-program d) = []
-open-row (in-fix l r) = 42 ∷ open-row r
+unfoldable pub compared : Place → Bool
+compared (in-brackets p) = false
+compared (in-negation p) = compared p
+compared (in-right o a p) = turn (compared p) o
+compared (in-constructor x es p) = false
+compared (in-construct x es l c) = false
+compared (in-if l c) = false
+compared (in-assignment a x l c) = false
+compared (in-update v l c) = false
+
+-- there, a place has a second code
+unfoldable pub spot : Bool → ℕ → ℕ
+spot b c = elim b [ true ↦ c + 7 | false ↦ c ]
+
+unfoldable pub open-at : Bool → Place → List ℕ
+unfolding spot compared
+open-at b (in-brackets p) = spot b 35 ∷ open-at (compared p) p
+open-at b (in-negation p) = open-at b p
+open-at b (in-right o a p) = open-at b p
+open-at b (in-constructor x es p) = spot b 36 ∷ open-at (compared p) p
+open-at b (in-construct x es l c) = spot b 37 ∷ open-body c
+open-at b (in-if l c) = spot b 38 ∷ open-body c
+open-at b (in-assignment a x l c) = spot b 39 ∷ open-body c
+open-at b (in-update v l c) = spot b 39 ∷ open-body c
+
+unfoldable pub open-place : Place → List ℕ
+unfolding open-at
+open-place p = open-at (compared p) p
 
 unfoldable pub open-of : State → List ℕ
 open-of (at-defs ds) = []
@@ -134,7 +159,7 @@ shape-of s = shape (code-of s) (open-of s)
 unfoldable pub on-exp : Token → Act
 on-exp t =
     on-name (λ x. Go 24)
-    (on-sign lpar (Open 22 34)
+    (on-sign lpar (Open 22 35)
     (on-sign bang (Go 22) (on-literal (λ l. Go 23) (on-word w-null (Go 28) (on-word w-this (Go 23) Stop t) t) t) t) t) t
 
 unfoldable pub on-item : Token → Act
@@ -143,8 +168,34 @@ on-item t = on-name (λ x. Go 30) (on-word w-fix (Go 32) Stop t) t
 unfoldable pub past-item : Token → Act
 past-item t = on-less (Go 29) (on-sign rpar Below Stop t) t
 
+-- behind an expression at a place of code c: an operator leads to its right operand, unless it is the second comparison
+unfoldable pub clash : Bool → Op → Bool
+unfolding level
+clash false o = false
+clash true o = eqb (level o) comparisons
+
+unfoldable pub right-of : Bool → ℕ → Op → Act
+unfolding clash turn spot
+right-of b c o = elim (clash b o) [ true ↦ Stop | false ↦ Open 22 (spot (turn b o) c) ]
+
+unfoldable pub on-operator : Bool → ℕ → Act → Token → Act
+unfolding right-of
+on-operator b c z t = on-op (right-of b c) z t
+
+-- behind one in brackets, in an expression's arguments, in a statement's, in an if, at a statement's end
+unfoldable pub past-exp : Bool → Token → List Act → List Act
+unfolding on-operator
+past-exp b t k =
+    on-operator b 35 (on-sign rpar (Go 23) Stop t) t
+    ∷ on-operator b 36 (on-sign comma (Open 22 36) (on-sign rpar (Go 23) Stop t) t) t
+    ∷ on-operator b 37 (on-sign comma (Open 22 37) (on-sign rpar (Go 20) Stop t) t) t
+    ∷ on-operator b 38 (on-word w-then (Go 21) Stop t) t
+    ∷ on-operator b 39 (on-sign semicolon (Go 13) Stop t) t
+    ∷ k
+
 -- by the codes, from 0 on
 unfoldable pub acts : Token → List Act
+unfolding past-exp
 acts t =
     Stop
     ∷ on-word w-struct (Go 3) Stop t
@@ -178,20 +229,11 @@ acts t =
     ∷ on-item t
     ∷ on-sign dot-sign (Go 31) (past-item t) t
     ∷ on-name (λ y. Go 33) Stop t
-    ∷ on-sign lpar (Open 29 42) Stop t
+    ∷ on-sign lpar (Open 29 34) Stop t
     ∷ past-item t
-    -- from 34 on: behind an expression in brackets, right of an operator, in an expression's arguments, in a statement's, in an if, at a statement's end
-    ∷ on-sign rpar (Go 23) (on-op (λ o. Open 22 35) Stop t) t
-    ∷ on-sign rpar (Go 23) Stop t
-    ∷ on-sign comma (Open 22 36) (on-sign rpar (Go 23) Stop t) t
-    ∷ on-sign comma (Open 22 37) (on-sign rpar (Go 20) Stop t) t
-    ∷ on-word w-then (Go 21) Stop t
-    ∷ on-sign semicolon (Go 13) Stop t
-    -- behind the statements of a step, of an if, behind the items of a Fix
-    ∷ on-sign rbrace (Go 11) Stop t
-    ∷ on-sign rbrace (Go 13) Stop t
+    -- from 34 on: behind the items of a Fix, an expression, the statements of a step, of an if, an expression with a comparison
     ∷ on-sign rpar (Go 33) Stop t
-    ∷ []
+    ∷ past-exp false t (on-sign rbrace (Go 11) Stop t ∷ on-sign rbrace (Go 13) Stop t ∷ past-exp true t [])
 
 unfoldable pub act : ℕ → Token → Act
 act q t = getD (acts t) q Stop

@@ -1,15 +1,20 @@
 -- The shape of a state moves as the state does, and the kinds of tokens are enough to tell: reading comes to a derivation exactly where the shape ends.
-use Prim.Native.Nat.{ℕ}
-use mathlib.Core.Path.{_≡_, refl}
+use Prim.Native.Nat.{ℕ, _<_, _≤_}
+use native.Mathlib.Omega.{arith}
+use mathlib.Core.Path.{_≡_, refl, sym, _∙_}
 use mathlib.Core.Bool.{Bool, true, false}
 use mathlib.Core.List.{List, [], _∷_}
-use lib.Dec.{eqb}
+use lib.Dec.{leb, eqb}
+use borrow.Author.Tests.{leb-true, leb-false, eqb-true, eqb-false}
+use Rattle.program.specs.Tree.{Op}
 use Rattle.tokens.specs.Tokens.{Word.w-struct, Word.w-if, Word.w-then, Word.w-null, Word.w-this, Word.w-fix}
 use Rattle.tokens.specs.Tokens.{Sign.lpar, Sign.rpar, Sign.lbrace, Sign.rbrace, Sign.comma, Sign.colon, Sign.semicolon, Sign.assign, Sign.dot as dot-sign}
 use Rattle.tokens.specs.Tokens.{Sign.bang, Token, Token.word, Token.sign, Token.op, Token.name, Token.int, Token.nat}
 use Rattle.syntax.specs.Syntax.{Var.id}
-use Rattle.syntax.specs.Syntax.{Exp, Exp.negation, Exp.variable, Stats, Stats.no-stats, Item, Item.execution, Defs.last-struct}
-use Rattle.syntax.specs.Expecting.{sign-number, on-sign}
+use Rattle.syntax.specs.Syntax.{Exp, Exp.binary, Exp.negation, Exp.variable, Stats, Stats.no-stats, Item, Item.execution, Defs.last-struct}
+use Rattle.syntax.specs.Bracketing.{level, left}
+use Rattle.syntax.specs.Expecting.{sign-number, on-sign, on-op}
+use Rattle.syntax.specs.LevelLaws.{left-from}
 use Rattle.syntax.specs.Places.{Body, Body.in-step, Body.in-then, Place, Place.in-brackets, Place.in-negation, Place.in-right, Place.in-constructor}
 use Rattle.syntax.specs.Places.{Place.in-construct, Place.in-if, Place.in-assignment, Place.in-update, Row, Row.in-program, Row.in-fix}
 use Rattle.syntax.specs.Places.{State, State.at-defs, State.at-struct, State.at-struct-open, State.at-pars, State.at-par, State.at-colon, State.at-par-type}
@@ -19,10 +24,12 @@ use Rattle.syntax.specs.Places.{State.at-construct, State.at-semicolon, State.a
 use Rattle.syntax.specs.Places.{State.want, State.after, State.behind-id, State.at-dot-id, State.behind-dot-id, State.at-args, State.at-null-type}
 use Rattle.syntax.specs.Places.{State.at-item, State.behind-execution, State.at-step-name, State.at-fix-open, State.behind-item, State.dead}
 use Rattle.syntax.specs.Places.{var-onto, stats-onto, defs-onto}
-use Rattle.syntax.specs.Reading.{closed, behind, wanted, item-wanted, item-behind, begun, step}
-use Rattle.derive.specs.Shape.{defs-code, code-of, open-body, open-place, open-row, open-of, Shape.shape, shape-of, on-exp, on-item, past-item, acts, act}
+use Rattle.syntax.specs.Reading.{closed, least, extended, tighter, behind, wanted, item-wanted, item-behind, begun, step}
+use Rattle.derive.specs.Shape.{defs-code, code-of, open-body, turn, compared, open-at, open-place, open-row, open-of, Shape.shape, shape-of, on-exp}
+use Rattle.derive.specs.Shape.{on-item, past-item, acts, act}
 use Rattle.derive.specs.Shape.{acted, acted-below, moved, move}
 use Rattle.derive.specs.BothLaws.{word-both, sign-both, name-both, op-both, less-both, literal-both, type-word-both, type-both}
+use Rattle.derive.specs.SiteLaws.{clash-none, clash-two, below-goes, below-stops, below-same, Sited, sited}
 use Rattle.derive.specs.declared.Act.{Act}
 use Rattle.derive.specs.declared.Act.the-variants.{Go, Open, Below, Stop}
 
@@ -72,27 +79,71 @@ gone = does-stop refl
 
 -- What was opened last -----------------------------------------------------------------------------------
 
+-- behind an operator that waits: it takes its operand, or the token is a tighter operator
+module _ (o : Op) (a : Exp) (p : Place) (e : Exp) (s : Sited p) where
+  abbrev bit : Bool
+  bit = turn (compared p) o
+
+  took-below : (t : Token) → least t ≤ level o → acted-below (open-at (compared p) p) t ≡ acted-below (open-at bit p) t
+  took-below t l = rw (s .opened (compared p), s .opened bit) (sym (below-same (s .site) (s .rest) (compared p) o t l))
+
+  tight-below : (r : Op) → level o < left r → shape-of (tighter o r (want (in-right r e (in-right o a p)))) ≡ acted-below (open-at bit p) (op r)
+  unfolding tighter code-of open-of open-place
+  tight-below r l = go (eqb (level o) (level r)) refl
+    where
+      go : (x : Bool) → eqb (level o) (level r) ≡ x
+          → shape-of (tighter o r (want (in-right r e (in-right o a p)))) ≡ acted-below (open-at bit p) (op r)
+      go true u =
+          rw (u, tighter, s .opened bit) (sym (below-stops (s .site) (s .rest) bit r (clash-two (compared p) o r (eqb-true (level o) (level r) u) l)))
+      go false u =
+          rw (u, tighter, s .opened bit, s .opened (turn bit r))
+          (sym (below-goes (s .site) (s .rest) bit r
+          (clash-none (compared p) o r (omega (arith, left-from r, eqb-false (level o) (level r) u)))))
+
+  tighter-below : (t : Token) → level o < least t
+      → shape-of (on-op (λ r. tighter o r (want (in-right r e (in-right o a p)))) dead t) ≡ acted-below (open-at bit p) t
+  unfolding least on-op
+  tighter-below (op r) l = tight-below r l
+  tighter-below (word v) l = absurd (omega arith)
+  tighter-below (sign g) l = absurd (omega arith)
+  tighter-below (name x) l = absurd (omega arith)
+  tighter-below (int r ds) l = absurd (omega arith)
+  tighter-below (nat ds) l = absurd (omega arith)
+
+  waits-below : (t : Token) → shape-of (behind p (binary o a e) t) ≡ acted-below (open-place p) t
+      → shape-of (behind (in-right o a p) e t) ≡ acted-below (open-place (in-right o a p)) t
+  unfolding behind open-place
+  waits-below t h = go (leb (least t) (level o)) refl
+    where
+      go : (x : Bool) → leb (least t) (level o) ≡ x → shape-of (behind (in-right o a p) e t) ≡ acted-below (open-at bit p) t
+      go true u = rw (u, behind) (h ∙ took-below t (leb-true (least t) (level o) u))
+      go false u = rw (u, behind) (tighter-below t (leb-false (least t) (level o) u))
+
 -- a token behind an expression goes to it
 behind-below : (p : Place) (e : Exp) (t : Token) → shape-of (behind p e t) ≡ acted-below (open-place p) t
-unfolding behind open-place acted-below act acts code-of open-of
+unfolding behind extended open-place acted-below act acts code-of open-of
 behind-below (in-brackets p) e t =
-    does-acted (behind (in-brackets p) e t) (act 34 t) (open-place p)
-    (sign-both (DoesAt (open-place p)) rpar t (does-go refl refl) (op-both (DoesAt (open-place p)) t (λ o. does-open refl refl) gone))
+    does-acted (behind (in-brackets p) e t) (act 35 t) (open-place p)
+    (op-both (DoesAt (open-place p)) t (λ o. does-open refl refl) (sign-both (DoesAt (open-place p)) rpar t (does-go refl refl) gone))
 behind-below (in-negation p) e t = behind-below p (negation e) t
-behind-below (in-right o a p) e t =
-    does-acted (behind (in-right o a p) e t) (act 35 t) (open-place p) (sign-both (DoesAt (open-place p)) rpar t (does-go refl refl) gone)
+behind-below (in-right o a p) e t = waits-below o a p e (sited p) t (behind-below p (binary o a e) t)
 behind-below (in-constructor x es p) e t =
     does-acted (behind (in-constructor x es p) e t) (act 36 t) (open-place p)
-    (sign-both (DoesAt (open-place p)) comma t (does-open refl refl) (sign-both (DoesAt (open-place p)) rpar t (does-go refl refl) gone))
+    (op-both (DoesAt (open-place p)) t (λ o. does-open refl refl)
+    (sign-both (DoesAt (open-place p)) comma t (does-open refl refl) (sign-both (DoesAt (open-place p)) rpar t (does-go refl refl) gone)))
 behind-below (in-construct x es l c) e t =
     does-acted (behind (in-construct x es l c) e t) (act 37 t) (open-body c)
-    (sign-both (DoesAt (open-body c)) comma t (does-open refl refl) (sign-both (DoesAt (open-body c)) rpar t (does-go refl refl) gone))
+    (op-both (DoesAt (open-body c)) t (λ o. does-open refl refl)
+    (sign-both (DoesAt (open-body c)) comma t (does-open refl refl) (sign-both (DoesAt (open-body c)) rpar t (does-go refl refl) gone)))
 behind-below (in-if l c) e t =
-    does-acted (behind (in-if l c) e t) (act 38 t) (open-body c) (word-both (DoesAt (open-body c)) w-then t (does-go refl refl) gone)
+    does-acted (behind (in-if l c) e t) (act 38 t) (open-body c)
+    (op-both (DoesAt (open-body c)) t (λ o. does-open refl refl) (word-both (DoesAt (open-body c)) w-then t (does-go refl refl) gone))
 behind-below (in-assignment a x l c) e t =
-    does-acted (behind (in-assignment a x l c) e t) (act 39 t) (open-body c) (sign-both (DoesAt (open-body c)) semicolon t (does-go refl refl) gone)
+    does-acted (behind (in-assignment a x l c) e t) (act 39 t) (open-body c)
+    (op-both (DoesAt (open-body c)) t (λ o. does-open refl refl) (sign-both (DoesAt (open-body c)) semicolon t (does-go refl refl) gone))
 behind-below (in-update v l c) e t =
-    does-acted (behind (in-update v l c) e t) (act 39 t) (open-body c) (sign-both (DoesAt (open-body c)) semicolon t (does-go refl refl) gone)
+    does-acted (behind (in-update v l c) e t) (act 39 t) (open-body c)
+    (op-both (DoesAt (open-body c)) t (λ o. does-open refl refl) (sign-both (DoesAt (open-body c)) semicolon t (does-go refl refl) gone))
 
 -- a body is closed; arguments and a Fix too
 closed-below : (b : Stats) (c : Body) → shape-of (closed b c) ≡ acted-below (open-body c) (sign rbrace)
@@ -102,14 +153,14 @@ closed-below b (in-then e l c) = refl
 
 module _ (st : List ℕ) where
   args-below : shape 23 st ≡ acted-below (36 ∷ st) (sign rpar)
-  unfolding acted-below act acts acted on-sign sign-number
+  unfolding acted-below act acts acted on-op on-sign sign-number
   args-below = refl
 
   statement-args-below : shape 20 st ≡ acted-below (37 ∷ st) (sign rpar)
-  unfolding acted-below act acts acted on-sign sign-number
+  unfolding acted-below act acts acted on-op on-sign sign-number
   statement-args-below = refl
 
-  fix-below : shape 33 st ≡ acted-below (42 ∷ st) (sign rpar)
+  fix-below : shape 33 st ≡ acted-below (34 ∷ st) (sign rpar)
   unfolding acted-below act acts acted on-sign sign-number
   fix-below = refl
 
@@ -146,7 +197,7 @@ past-leads : (l : List Item) (r : Row) (i : Item) (t : Token) → Leads (open-ro
 unfolding item-behind past-item code-of open-of open-row
 past-leads l (in-program d) i t = less-both (LeadsAt []) t (goes refl refl) (none-open t)
 past-leads l (in-fix m r) i t =
-    less-both (LeadsAt (42 ∷ open-row r)) t (goes refl refl) (sign-both (LeadsAt (42 ∷ open-row r)) rpar t (sinks (fix-below (open-row r))) lost)
+    less-both (LeadsAt (34 ∷ open-row r)) t (goes refl refl) (sign-both (LeadsAt (34 ∷ open-row r)) rpar t (sinks (fix-below (open-row r))) lost)
 
 step-leads : (s : State) (t : Token) → Leads (open-of s) t (step s t) (act (code-of s) t)
 unfolding step act acts code-of open-of open-place open-body open-row begun defs-code

@@ -10,7 +10,7 @@ use Rattle.derive.specs.declared.Act.{Act}
 use Rattle.derive.specs.declared.Act.the-variants.{Go, Open, Below, Stop}
 
 abbrev pub entries : ℕ
-entries = 1677
+entries = 1833
 
 unfoldable pub act-at : ℕ → Act
 act-at i = act (i / kinds) (sample (i % kinds))

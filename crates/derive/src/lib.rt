@@ -1,4 +1,4 @@
-// Whether a text's tokens have a derivation (02 §1), and the role that it gives each of them: token by token over a lent stack, so that no function follows
+// Whether a text's tokens have a derivation (02 §1, §2), and the role that it gives each of them: token by token over a lent stack, so that no function follows
 // the nesting of the text.
 pub mod roles;
 pub mod table;
@@ -14,7 +14,7 @@ ghost use Rattle.derive.specs.Table.{entries, act-at, mark-at};
 ghost use Rattle.derive.specs.Held.{held, Kept, ends};
 
 // The codes of states and of what is open; the kinds, with 0.
-const CODES: u8 = 43;
+const CODES: u8 = 47;
 
 const KINDS: u8 = 39;
 

@@ -1,4 +1,5 @@
 -- Reading is complete: what a derivation yields is read as it. With it, tokens have one derivation at most.
+use native.Mathlib.Omega.{arith}
 use mathlib.Core.Path.{_≡_, refl, ap, _∙_}
 use mathlib.Core.List.{List, [], _∷_, reverseAux}
 use mathlib.Core.Option.{some}
@@ -20,20 +21,22 @@ use Rattle.syntax.specs.Places.{var-onto, stats-onto, defs-onto, sched-o
 use Rattle.syntax.specs.Expecting.{on-sign}
 use Rattle.syntax.specs.Yield.{yield-var, yield-exp, yield-stat, yield-stats, yield-par, yield-par-list, yield-pars}
 use Rattle.syntax.specs.Yield.{yield-step, yield-steps, yield-struct, yield-defs, yield-item, yield-sched, yield}
-use Rattle.syntax.specs.Bracketing.{Spot.bare, Fits, FitsExps, FitsStat, FitsStats, FitsSteps, FitsStruct, FitsDefs, FitsProgram, Derives}
-use Rattle.syntax.specs.Reading.{closed, behind, item-wanted, item-behind, begun, step, run, whole, ended, read}
+use Rattle.syntax.specs.Bracketing.{loosest, Fits, FitsExps, FitsStat, FitsStats, FitsSteps, FitsStruct, FitsDefs, FitsProgram, Derives}
+use Rattle.syntax.specs.Reading.{closed, least, extended, behind, item-wanted, item-behind, begun, step, run, whole, ended, read}
 use Rattle.syntax.specs.ExpLaws.{follows-semicolon, follows-then, Args, reads, reads-args}
+use Rattle.syntax.specs.SoFar.{room}
 use Rattle.syntax.specs.SoundLaws.{read-derives}
 use Rattle.syntax.specs.Unfold.{expecting, leaf-tokens}
 
 -- Statements -----------------------------------------------------------------------------------
 
 construct-args : Id → List Stat → Body → Args
-unfolding step behind expecting leaf-tokens
+unfolding step extended behind room expecting leaf-tokens
 construct-args x l c =
     record {
       start = at-construct l c x;
       place = λ es. in-construct x es l c;
+      outer = λ es. refl;
       finish = λ es. at-semicolon l c x es;
       empty = refl;
       enter = λ t n. n _ _;
@@ -47,28 +50,28 @@ ReadsStat t = (l : List Stat) (c : Body) (k : List Token) → run (at-stats l c)
 abbrev ReadsStats : Stats → Type 0
 ReadsStats b = (l : List Stat) (c : Body) (k : List Token) → run (at-stats l c) (yield-stats b (sign rbrace ∷ k)) ≡ run (closed (stats-onto l b) c) k
 
-reads-if : (e : Exp) (b : Stats) → Fits bare e → ReadsStats b → ReadsStat (if-then e b)
-unfolding yield-stat run step behind closed stats-onto expecting leaf-tokens
+reads-if : (e : Exp) (b : Stats) → Fits loosest e → ReadsStats b → ReadsStat (if-then e b)
+unfolding yield-stat run step extended behind room least closed stats-onto expecting leaf-tokens
 reads-if e b f r l c k =
-    reads e f (in-if l c) (word w-then) (sign lbrace ∷ yield-stats b (sign rbrace ∷ k)) follows-then
+    reads e loosest f (in-if l c) (word w-then) (sign lbrace ∷ yield-stats b (sign rbrace ∷ k)) follows-then (omega arith) (omega arith)
     ∙ r [] (in-then e l c) k
 
-reads-value : (a : TypeName) (x : Id) (e : Exp) → Fits bare e → (l : List Stat) (c : Body) (k : List Token)
+reads-value : (a : TypeName) (x : Id) (e : Exp) → Fits loosest e → (l : List Stat) (c : Body) (k : List Token)
     → run (want (in-assignment a x l c)) (yield-exp e (sign semicolon ∷ k)) ≡ run (at-stats (assignment a x e ∷ l) c) k
-unfolding run step behind expecting leaf-tokens
-reads-value a x e f l c k = reads e f (in-assignment a x l c) (sign semicolon) k follows-semicolon
+unfolding run step extended behind room least expecting leaf-tokens
+reads-value a x e f l c k = reads e loosest f (in-assignment a x l c) (sign semicolon) k follows-semicolon (omega arith) (omega arith)
 
-reads-assignment : (a : TypeName) (x : Id) (e : Exp) → Fits bare e → ReadsStat (assignment a x e)
+reads-assignment : (a : TypeName) (x : Id) (e : Exp) → Fits loosest e → ReadsStat (assignment a x e)
 unfolding yield-stat run step expecting leaf-tokens
 reads-assignment int-type x e f l c k = reads-value int-type x e f l c k
 reads-assignment nat-type x e f l c k = reads-value nat-type x e f l c k
 reads-assignment bool-type x e f l c k = reads-value bool-type x e f l c k
 reads-assignment (id-type y) x e f l c k = reads-value (id-type y) x e f l c k
 
-reads-new : (v : Var) (e : Exp) → Fits bare e → (l : List Stat) (c : Body) (k : List Token)
+reads-new : (v : Var) (e : Exp) → Fits loosest e → (l : List Stat) (c : Body) (k : List Token)
     → run (want (in-update v l c)) (yield-exp e (sign semicolon ∷ k)) ≡ run (at-stats (update v e ∷ l) c) k
-unfolding run step behind expecting leaf-tokens
-reads-new v e f l c k = reads e f (in-update v l c) (sign semicolon) k follows-semicolon
+unfolding run step extended behind room least expecting leaf-tokens
+reads-new v e f l c k = reads e loosest f (in-update v l c) (sign semicolon) k follows-semicolon (omega arith) (omega arith)
 
 reads-path : (v : Var) (xs : List Id) (l : List Stat) (c : Body) (k : List Token)
     → run (at-dot-name l c xs) (yield-var v (sign assign ∷ k)) ≡ run (want (in-update (var-onto xs v) l c)) k
@@ -76,7 +79,7 @@ unfolding yield-var run step var-onto expecting leaf-tokens
 reads-path (id x) xs l c k = refl
 reads-path (dot x v) xs l c k = reads-path v (x ∷ xs) l c k
 
-reads-update : (v : Var) (e : Exp) → Fits bare e → ReadsStat (update v e)
+reads-update : (v : Var) (e : Exp) → Fits loosest e → ReadsStat (update v e)
 unfolding yield-stat yield-var run step var-onto expecting leaf-tokens
 reads-update (id x) e f l c k = reads-new (id x) e f l c k
 reads-update (dot x v) e f l c k = reads-path v (x ∷ []) l c (yield-exp e (sign semicolon ∷ k)) ∙ reads-new (dot x v) e f l c k

@@ -1,6 +1,7 @@
 pub mod Syntax
 pub mod Yield
 pub mod Bracketing
+pub mod Bracketed
 pub mod Expecting
 pub mod Places
 pub mod Reading
@@ -8,9 +9,12 @@ pub mod ExpectingLaws
 pub mod SoFar
 pub mod Unfold
 pub mod RowLaws
+pub mod LevelLaws
 pub mod PlaceLaws
 pub mod SoundLaws
 pub mod ExpLaws
 pub mod CompleteLaws
+pub mod BracketLaws
 pub mod Letters
 pub mod Rows
+pub mod LevelRows

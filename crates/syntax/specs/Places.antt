@@ -14,7 +14,7 @@ pub data Body : Type 0 where
 -- where an expression stands
 pub data Place : Type 0 where
   in-brackets in-negation : Place → Place
-  -- in brackets, behind an operand and its operator
+  -- behind an operand and its operator, which waits for this one
   in-right : Op → Exp → Place → Place
   -- behind some arguments
   in-constructor : Id → List Exp → Place → Place

@@ -1,6 +1,10 @@
 -- Reading, one token at a time and with no recursion over the text: what a token makes of a derivation in progress.
+use Prim.Native.Nat.{ℕ}
+use mathlib.Core.Bool.{true, false}
 use mathlib.Core.List.{List, [], _∷_, reverseAux}
 use mathlib.Core.Option.{Option, none, some}
+use lib.Dec.{leb, eqb}
+use Rattle.program.specs.Tree.{Op}
 use Rattle.tokens.specs.Tokens.{Word.w-struct, Word.w-if, Word.w-then, Word.w-null, Word.w-this, Word.w-fix, Sign.lpar, Sign.rpar, Sign.lbrace}
 use Rattle.tokens.specs.Tokens.{Sign.rbrace, Sign.comma, Sign.colon, Sign.semicolon, Sign.assign, Sign.dot as dot-sign, Sign.bang, Token}
 use Rattle.syntax.specs.Syntax.{TypeName.id-type, Var.id}
@@ -8,6 +12,7 @@ use Rattle.syntax.specs.Syntax.{Exp, Exp.binary, Exp.brackets, Exp.negat
 use Rattle.syntax.specs.Syntax.{Exps.no-exps, Exps.exps, Stat.if-then, Stat.assignment, Stat.update, Stat.construct, Stats, Stats.no-stats}
 use Rattle.syntax.specs.Syntax.{Par.par, Step.step as a-step, Struct, Struct.struct, Defs.last-struct, Item, Item.execution}
 use Rattle.syntax.specs.Syntax.{Item.typed-execution, Item.fixpoint, Sched.last-item, Program, Program.program}
+use Rattle.syntax.specs.Bracketing.{level, loosest, left}
 use Rattle.syntax.specs.Expecting.{on-word, on-sign, on-name, on-op, on-less, on-literal, on-type-word, on-type}
 use Rattle.syntax.specs.Places.{Body, Body.in-step, Body.in-then, Place, Place.in-brackets, Place.in-negation, Place.in-right}
 use Rattle.syntax.specs.Places.{Place.in-constructor, Place.in-construct, Place.in-if, Place.in-assignment, Place.in-update, Row}
@@ -26,18 +31,36 @@ unfoldable pub closed : Stats → Body → State
 closed b (in-step ds n ps ts x) = at-steps ds n ps (a-step x b ∷ ts)
 closed b (in-then e l c) = at-stats (if-then e b ∷ l) c
 
--- a token behind an expression at its place
+-- the level of what may stand bare before a token
+unfoldable pub least : Token → ℕ
+least t = on-op (λ o. left o) loosest t
+
+-- an operator behind an expression waits for its right operand
+unfoldable pub extended : Place → Exp → State → Token → State
+extended p e z t = on-op (λ o. want (in-right o e p)) z t
+
+-- behind an operator that waits and its right operand, one that is tighter; at the same level these are two comparisons
+unfoldable pub tighter : Op → Op → State → State
+tighter o r s = elim (eqb (level o) (level r)) [ true ↦ dead | false ↦ s ]
+
+-- a token behind an expression at its place; an operator that waits takes the expression, unless the token is a tighter one
 unfoldable pub behind : Place → Exp → Token → State
-behind (in-brackets p) e t = on-sign rpar (after p (brackets e)) (on-op (λ o. want (in-right o e p)) dead t) t
+behind (in-brackets p) e t = extended (in-brackets p) e (on-sign rpar (after p (brackets e)) dead t) t
 behind (in-negation p) e t = behind p (negation e) t
-behind (in-right o a p) e t = on-sign rpar (after p (brackets (binary o a e))) dead t
+behind (in-right o a p) e t =
+    elim (leb (least t) (level o)) [
+      | true ↦ behind p (binary o a e) t
+      | false ↦ on-op (λ r. tighter o r (want (in-right r e (in-right o a p)))) dead t
+    ]
 behind (in-constructor x es p) e t =
-    on-sign comma (want (in-constructor x (e ∷ es) p)) (on-sign rpar (after p (constructor x (exps-onto es (exps e no-exps)))) dead t) t
+    extended (in-constructor x es p) e
+    (on-sign comma (want (in-constructor x (e ∷ es) p)) (on-sign rpar (after p (constructor x (exps-onto es (exps e no-exps)))) dead t) t) t
 behind (in-construct x es l c) e t =
-    on-sign comma (want (in-construct x (e ∷ es) l c)) (on-sign rpar (at-semicolon l c x (exps-onto es (exps e no-exps))) dead t) t
-behind (in-if l c) e t = on-word w-then (at-then-open l c e) dead t
-behind (in-assignment a x l c) e t = on-sign semicolon (at-stats (assignment a x e ∷ l) c) dead t
-behind (in-update v l c) e t = on-sign semicolon (at-stats (update v e ∷ l) c) dead t
+    extended (in-construct x es l c) e
+    (on-sign comma (want (in-construct x (e ∷ es) l c)) (on-sign rpar (at-semicolon l c x (exps-onto es (exps e no-exps))) dead t) t) t
+behind (in-if l c) e t = extended (in-if l c) e (on-word w-then (at-then-open l c e) dead t) t
+behind (in-assignment a x l c) e t = extended (in-assignment a x l c) e (on-sign semicolon (at-stats (assignment a x e ∷ l) c) dead t) t
+behind (in-update v l c) e t = extended (in-update v l c) e (on-sign semicolon (at-stats (update v e ∷ l) c) dead t) t
 
 -- a token where an expression is wanted
 unfoldable pub wanted : Place → Token → State

@@ -3,12 +3,11 @@ use mathlib.Core.Path.{_≡_, refl}
 use mathlib.Core.List.{List, [], _∷_, reverseAux}
 use Rattle.tokens.specs.Tokens.{Token}
 use Rattle.syntax.specs.Syntax.{Id, Var, Var.dot}
-use Rattle.syntax.specs.Syntax.{Exp, Exp.binary, Exp.brackets, Exp.negation, Exp.constructor, Exp.variable, Exp.literal, Exp.null, Exp.this}
-use Rattle.syntax.specs.Syntax.{Exps, Exps.exps, Stat, Stats, Stats.stats}
+use Rattle.syntax.specs.Syntax.{Exp, Exps, Exps.exps, Stat, Stats, Stats.stats}
 use Rattle.syntax.specs.Syntax.{Par, Step, Step.step as a-step, Struct, Defs, Defs.defs, Item, Sched, Sched.barrier}
 use Rattle.syntax.specs.Places.{var-onto, exps-onto, stats-onto, defs-onto, sched-onto}
 use Rattle.syntax.specs.Yield.{yield-var, yield-exps, yield-exp-list, yield-stats, yield-par-list, yield-pars, yield-steps, yield-defs, yield-sched}
-use Rattle.syntax.specs.Bracketing.{Spot.bracketed, Spot.bare, Fits, FitsExps, FitsStats, FitsSteps, FitsDefs}
+use Rattle.syntax.specs.Bracketing.{FitsExps, FitsStats, FitsSteps, FitsDefs}
 use Rattle.syntax.specs.SoFar.{structs-rev, pars-rev, steps-rev, ids-rev, exps-rev, stats-rev, items-rev, FitsAll, FitsBefore, FitsStructs}
 
 pub var-yield : (xs : List Id) (v : Var) (k : List Token) → yield-var (var-onto xs v) k ≡ ids-rev xs (yield-var v k)
@@ -67,15 +66,3 @@ pub defs-fit : (l : List Struct) (d : Defs) → FitsStructs l → FitsDefs d →
 unfolding defs-onto FitsStructs FitsDefs
 defs-fit [] d f g = g
 defs-fit (s ∷ l) d f g = defs-fit l (defs s d) (f .1) (f .0, g)
-
--- what stands bare may stand in brackets
-pub fits-in : (e : Exp) → Fits bare e → Fits bracketed e
-unfolding Fits
-fits-in (binary o a b) f = absurd f
-fits-in (brackets e) f = f
-fits-in (negation e) f = f
-fits-in (constructor x es) f = f
-fits-in (variable v) f = f
-fits-in (literal l) f = f
-fits-in (null t) f = f
-fits-in this f = f

@@ -24,7 +24,7 @@ pub record Row : Type 0 where
   pub tokens : List Token
   pub derived : Bool
 
-abbrev row : Bool → List Token → Row
+abbrev pub row : Bool → List Token → Row
 row b ts = record { tokens = ts; derived = b }
 
 pub data Rows : List Row → Type 0 where
@@ -32,7 +32,7 @@ pub data Rows : List Row → Type 0 where
   and-then : {r : Row} {rs : List Row} → derivable (read (r .tokens)) ≡ r .derived → Rows rs → Rows (r ∷ rs)
 
 -- a program with one step, of the given statements
-abbrev stepped : List Token → List Token
+abbrev pub stepped : List Token → List Token
 stepped ts =
     word w-struct ∷ name A ∷ sign lpar ∷ sign rpar ∷ sign lbrace ∷ name s ∷ sign lbrace ∷ []
     ++ (ts ++ (sign rbrace ∷ sign rbrace ∷ name s ∷ []))
@@ -42,7 +42,7 @@ statements =
     -- a := (b + a);
     row true (stepped (name a ∷ sign assign ∷ sign lpar ∷ name b ∷ op op-add ∷ name a ∷ sign rpar ∷ sign semicolon ∷ []))
     -- a := b + a;
-    ∷ row false (stepped (name a ∷ sign assign ∷ name b ∷ op op-add ∷ name a ∷ sign semicolon ∷ []))
+    ∷ row true (stepped (name a ∷ sign assign ∷ name b ∷ op op-add ∷ name a ∷ sign semicolon ∷ []))
     -- a := ((b + a));
     ∷ row true (stepped (name a ∷ sign assign ∷ sign lpar ∷ sign lpar ∷ name b ∷ op op-add ∷ name a ∷ sign rpar ∷ sign rpar ∷ sign semicolon ∷ []))
     -- a := (b);
@@ -50,11 +50,11 @@ statements =
     -- a := !(b);
     ∷ row true (stepped (name a ∷ sign assign ∷ sign bang ∷ sign lpar ∷ name b ∷ sign rpar ∷ sign semicolon ∷ []))
     -- a := !b + a;
-    ∷ row false (stepped (name a ∷ sign assign ∷ sign bang ∷ name b ∷ op op-add ∷ name a ∷ sign semicolon ∷ []))
+    ∷ row true (stepped (name a ∷ sign assign ∷ sign bang ∷ name b ∷ op op-add ∷ name a ∷ sign semicolon ∷ []))
     -- a := (!b && a);
     ∷ row true (stepped (name a ∷ sign assign ∷ sign lpar ∷ sign bang ∷ name b ∷ op op-and ∷ name a ∷ sign rpar ∷ sign semicolon ∷ []))
     -- a := (b + a + b);
-    ∷ row false (stepped (name a ∷ sign assign ∷ sign lpar ∷ name b ∷ op op-add ∷ name a ∷ op op-add ∷ name b ∷ sign rpar ∷ sign semicolon ∷ []))
+    ∷ row true (stepped (name a ∷ sign assign ∷ sign lpar ∷ name b ∷ op op-add ∷ name a ∷ op op-add ∷ name b ∷ sign rpar ∷ sign semicolon ∷ []))
     -- a := ((b + a) + b);
     ∷ row true (stepped (name a ∷ sign assign ∷ sign lpar ∷ sign lpar ∷ name b ∷ op op-add ∷ name a ∷ sign rpar ∷ op op-add ∷ name b ∷ sign rpar
     ∷ sign semicolon ∷ []))
@@ -92,7 +92,7 @@ statements =
     -- if a { }
     ∷ row false (stepped (word w-if ∷ name a ∷ sign lbrace ∷ sign rbrace ∷ []))
     -- if a = b then { }
-    ∷ row false (stepped (word w-if ∷ name a ∷ op op-eq ∷ name b ∷ word w-then ∷ sign lbrace ∷ sign rbrace ∷ []))
+    ∷ row true (stepped (word w-if ∷ name a ∷ op op-eq ∷ name b ∷ word w-then ∷ sign lbrace ∷ sign rbrace ∷ []))
     -- a := b
     ∷ row false (stepped (name a ∷ sign assign ∷ name b ∷ []))
     -- (a) := b;

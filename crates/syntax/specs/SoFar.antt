@@ -1,4 +1,5 @@
 -- What was read in a state: the tokens before it, in front of some tokens k; and that its trees keep to the brackets.
+use Prim.Native.Nat.{ℕ, suc, _≤_}
 use mathlib.Core.List.{List, [], _∷_}
 use Rattle.program.specs.Tree.{Op.op-lt}
 use Rattle.tokens.specs.Tokens.{Word.w-struct, Word.w-if, Word.w-then, Word.w-null, Word.w-fix, Sign.lpar, Sign.rpar, Sign.lbrace, Sign.comma}
@@ -18,7 +19,7 @@ use Rattle.syntax.specs.Places.{State.at-null-type, State.at-item, State
 use Rattle.syntax.specs.Places.{State.behind-item, State.dead}
 use Rattle.syntax.specs.Yield.{type-token, yield-var, yield-exp, yield-exps, yield-stat, yield-par, yield-pars, yield-step, yield-struct}
 use Rattle.syntax.specs.Yield.{yield-defs, yield-item}
-use Rattle.syntax.specs.Bracketing.{Spot.bare, Fits, FitsExps, FitsStat, FitsSteps, FitsStruct, FitsDefs}
+use Rattle.syntax.specs.Bracketing.{level, loosest, tightest, left, Fits, FitsExps, FitsStat, FitsSteps, FitsStruct, FitsDefs}
 
 -- Tokens ----------------------------------------------------------------------------------------
 
@@ -71,7 +72,7 @@ before-stat l c k = before-body c (stats-rev l k)
 unfoldable pub before : Place → List Token → List Token
 before (in-brackets p) k = before p (sign lpar ∷ k)
 before (in-negation p) k = before p (sign bang ∷ k)
-before (in-right o a p) k = before p (sign lpar ∷ yield-exp a (op o ∷ k))
+before (in-right o a p) k = before p (yield-exp a (op o ∷ k))
 before (in-constructor x es p) k = before p (name x ∷ sign lpar ∷ exps-rev es k)
 before (in-construct x es l c) k = before-stat l c (name x ∷ sign lpar ∷ exps-rev es k)
 before (in-if l c) k = before-stat l c (word w-if ∷ k)
@@ -124,7 +125,7 @@ so-far dead k = []
 
 unfoldable pub FitsAll : List Exp → Type 0
 FitsAll [] = Unit {0}
-FitsAll (e ∷ es) = (Fits bare e) × (FitsAll es)
+FitsAll (e ∷ es) = (Fits loosest e) × (FitsAll es)
 
 unfoldable pub FitsBefore : List Stat → Type 0
 FitsBefore [] = Unit {0}
@@ -136,12 +137,23 @@ FitsStructs (d ∷ ds) = (FitsStruct d) × (FitsStructs ds)
 
 unfoldable pub SitsBody : Body → Type 0
 SitsBody (in-step ds n ps ts x) = (FitsStructs ds) × (FitsSteps ts)
-SitsBody (in-then e l c) = (Fits bare e) × (FitsBefore l) × (SitsBody c)
+SitsBody (in-then e l c) = (Fits loosest e) × (FitsBefore l) × (SitsBody c)
+
+-- the level of what may stand bare at a place; the operators that wait grow tighter
+unfoldable pub room : Place → ℕ
+room (in-brackets p) = loosest
+room (in-negation p) = tightest
+room (in-right o a p) = suc (level o)
+room (in-constructor x es p) = loosest
+room (in-construct x es l c) = loosest
+room (in-if l c) = loosest
+room (in-assignment a x l c) = loosest
+room (in-update v l c) = loosest
 
 unfoldable pub SitsPlace : Place → Type 0
 SitsPlace (in-brackets p) = SitsPlace p
 SitsPlace (in-negation p) = SitsPlace p
-SitsPlace (in-right o a p) = (Fits bare a) × (SitsPlace p)
+SitsPlace (in-right o a p) = (Fits (left o) a) × (room p ≤ level o) × (SitsPlace p)
 SitsPlace (in-constructor x es p) = (FitsAll es) × (SitsPlace p)
 SitsPlace (in-construct x es l c) = (FitsAll es) × (FitsBefore l) × (SitsBody c)
 SitsPlace (in-if l c) = (FitsBefore l) × (SitsBody c)
@@ -172,9 +184,9 @@ Sits (at-local l c a) = (FitsBefore l) × (SitsBody c)
 Sits (at-assign l c a x) = (FitsBefore l) × (SitsBody c)
 Sits (at-construct l c x) = (FitsBefore l) × (SitsBody c)
 Sits (at-semicolon l c x es) = (FitsExps es) × (FitsBefore l) × (SitsBody c)
-Sits (at-then-open l c e) = (Fits bare e) × (FitsBefore l) × (SitsBody c)
+Sits (at-then-open l c e) = (Fits loosest e) × (FitsBefore l) × (SitsBody c)
 Sits (want p) = SitsPlace p
-Sits (after p e) = (Fits bare e) × (SitsPlace p)
+Sits (after p e) = (Fits tightest e) × (SitsPlace p)
 Sits (behind-id p x) = SitsPlace p
 Sits (at-dot-id p xs) = SitsPlace p
 Sits (behind-dot-id p xs y) = SitsPlace p

@@ -20,7 +20,7 @@ use Rattle.syntax.specs.Places.{State.behind-item, State.dead}
 use Rattle.syntax.specs.Places.{var-onto, stats-onto, sched-onto}
 use Rattle.syntax.specs.Yield.{yield-var, yield-stats}
 use Rattle.syntax.specs.Yield.{yield-defs, yield-item, yield-sched, yield}
-use Rattle.syntax.specs.Bracketing.{FitsProgram, Derives}
+use Rattle.syntax.specs.Bracketing.{tightest, FitsProgram, Derives}
 use Rattle.syntax.specs.SoFar.{structs-rev, ids-rev, items-rev, before-pars}
 use Rattle.syntax.specs.SoFar.{before-steps, before-body, before-stat, before, before-row, before-item, so-far}
 use Rattle.syntax.specs.SoFar.{FitsStructs, SitsRow, Sits}
@@ -29,6 +29,7 @@ use Rattle.syntax.specs.ExpectingLaws.{on-word-law, on-sign-law, on-name
 use Rattle.syntax.specs.RowLaws.{var-yield, stats-yield, pars-yield, steps-yield, sched-yield, stats-fit, steps-fit}
 use Rattle.syntax.specs.PlaceLaws.{Kept, Kept.kept, Kept.lost, Goes, closed-kept, behind-kept, wanted-kept, item-wanted-kept, item-behind-kept}
 use Rattle.syntax.specs.PlaceLaws.{begun-kept}
+use Rattle.syntax.specs.LevelLaws.{least-most, room-most}
 use Rattle.syntax.specs.Unfold.{sitting}
 
 steps-kept : (u : State) (t : Token) → Sits u → Goes (so-far u) t (step u t)
@@ -73,13 +74,14 @@ steps-kept (at-construct l c x) t s = on-sign-law (Goes (so-far (at-construct l 
 steps-kept (at-semicolon l c x es) t s = on-sign-law (Goes (so-far (at-semicolon l c x es))) semicolon _ _ t (kept ((s .0, s .1), s .2) (λ k. refl)) lost
 steps-kept (at-then-open l c e) t s = on-sign-law (Goes (so-far (at-then-open l c e))) lbrace _ _ t (kept (tt, s) (λ k. refl)) lost
 steps-kept (want p) t s = wanted-kept p t s
-steps-kept (after p e) t s = behind-kept p e t (s .0) (s .1)
+steps-kept (after p e) t s = behind-kept p e tightest t (s .0) (room-most p) (least-most t) (s .1)
 steps-kept (behind-id p x) t s =
     on-sign-law (Goes (so-far (behind-id p x))) lpar _ _ t (kept s (λ k. refl)) (on-sign-law (Goes (so-far (behind-id p x))) dot-sign _ _ t
-    (kept s (λ k. refl)) (behind-kept p (variable (id x)) t tt s))
+    (kept s (λ k. refl)) (behind-kept p (variable (id x)) tightest t tt (room-most p) (least-most t) s))
 steps-kept (at-dot-id p xs) t s = on-name-law (Goes (so-far (at-dot-id p xs))) _ _ t (λ y. kept s (λ k. refl)) lost
 steps-kept (behind-dot-id p xs y) t s =
-    on-sign-law (Goes (so-far (behind-dot-id p xs y))) dot-sign _ _ t (kept s (λ k. refl)) (said (behind-kept p (variable (var-onto xs (id y))) t tt s))
+    on-sign-law (Goes (so-far (behind-dot-id p xs y))) dot-sign _ _ t (kept s (λ k. refl))
+    (said (behind-kept p (variable (var-onto xs (id y))) tightest t tt (room-most p) (least-most t) s))
   where
     said : {u : State} → Goes (λ k. before p (yield-var (var-onto xs (id y)) k)) t u → Goes (λ k. before p (ids-rev xs (name y ∷ k))) t u
     said (kept h e) = kept h (λ k. e k ∙ ap (before p) (var-yield xs (id y) (t ∷ k)))

@@ -11,10 +11,11 @@ const IMAGE: usize = 32_768;
 const ORDER: [&str; 4] =
     ["struct P(){s{}}s", "struct P(){s{}}s $", "struct P(){s{}}s s", "struct P(){s{}}t"];
 
-/// The case of this seed and index; a text past the bound of a case is cut
-/// there, where it is refused for its length as before.
+/// The case of this seed and index, in turn with brackets round every binary
+/// expression and with bare ones; a text past the bound of a case is cut there,
+/// where it is refused for its length as before.
 pub fn case(seed: u64, index: u64) -> Case {
-    let generate::Case { mut text, output, .. } = generate::case(seed, index, false);
+    let generate::Case { mut text, output, .. } = generate::case(seed, index / 2, index % 2 == 1);
     text.truncate(MOST_TEXT);
     Case::Text { output, text }
 }

@@ -224,6 +224,37 @@ pub const RULES: [&str; 54] = [
     "struct P ( x : Int ) { s { } } Fix ( )",
 ];
 
+/// Bare expressions (02 §2).
+pub const BARE: [&str; 18] = [
+    "struct P ( b : Bool , x : Int ) { s { b := x + x * x < x - x % x && ! b || b ; } } s",
+    "struct P ( b : Bool , x : Int ) { s { b := b || ! b && x = x / x + x ; } } s",
+    "struct P ( b : Bool , x : Int ) { s { x := x - x - x + x ; x := x / x * x % x ; } } s",
+    "struct P ( b : Bool , x : Int ) { s { b := b || b || b ; b := b && b && b ; } } s",
+    "struct P ( b : Bool , x : Int ) { s { x := ( x + x ) * ( x - x ) ; } } s",
+    "struct P ( b : Bool , x : Int ) { s { b := ! b = b ; b := ! ( b = b ) ; } } s",
+    "struct P ( b : Bool , x : Int ) { s { b := x < x < x ; } } s",
+    "struct P ( b : Bool , x : Int ) { s { b := x = x != x ; } } s",
+    "struct P ( b : Bool , x : Int ) { s { b := ( x >= x <= x ) ; } } s",
+    "struct P ( b : Bool , x : Int ) { s { b := ( x > x ) = b ; b := b = ( x > x ) ; } } s",
+    "struct P ( b : Bool , x : Int ) { s { b := x < x && x < x || x < x ; } } s",
+    "struct P ( b : Bool , x : Int ) { s { if x < x + x then { P ( b && b , x * x ) ; } } } s",
+    "struct P ( b : Bool , x : Int ) { s { P ( x < x , x < x ) ; P ( x < x < x , x ) ; } } s",
+    "struct P ( b : Bool , x : Int ) { s { b := P ( b || b , x + x ) = P ( b , x ) && b ; } } s",
+    "struct P ( b : Bool , x : Int ) { s { x := x + ; } } s",
+    "struct P ( b : Bool , x : Int ) { s { x := * x ; } } s",
+    "struct P ( b : Bool , x : Int ) { s { x := x * * x ; } } s",
+    "struct P ( b : Bool , x : Int ) { s { x := x ! x ; } } s",
+];
+
+/// Operators in a row, near as many as the stream holds; the right ones are
+/// tighter or not.
+pub fn row(random: &mut Random) -> String {
+    let operators = near(random, 8060);
+    let pair = random.pick(&["b+b+", "b*b+", "b+b*", "b||b&&"]);
+    let row = pair.repeat(operators / 2) + if operators % 2 == 1 { "b-" } else { "" };
+    format!("struct P(b:Bool,p:P){{s{{b:={row}b;}}}}s")
+}
+
 /// Texts whose bytes matter, comments above all.
 pub const RAW: [&str; 19] = [
     "struct P(){s{}}s/**/",

@@ -3,7 +3,7 @@
 //! holds.
 
 use super::TEXT_BYTES;
-use super::edge::{COUNTED, RAW, RULES, padded, stream_bytes};
+use super::edge::{BARE, COUNTED, RAW, RULES, padded, row, stream_bytes};
 use super::random::Random;
 use std::collections::BTreeSet;
 
@@ -47,5 +47,8 @@ pub fn edges() -> Vec<Vec<u8>> {
     texts.extend(drawn(stream_bytes));
     texts.extend(drawn(|random| padded(random, "struct P(){s{}}s".to_string())));
     texts.extend(deep());
+    texts.extend(BARE.iter().map(|text| text.to_string()));
+    texts.extend(drawn(row));
+    texts.push(nested("struct P(b:Bool,p:P){s{b:=", "b+", "b", "", ";}}s"));
     texts.into_iter().map(String::into_bytes).collect()
 }

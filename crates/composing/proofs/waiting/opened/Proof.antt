@@ -14,7 +14,7 @@ unfolding stands
 returns c =
     let args = c .args in
     let p = args .p in (
-      λ s n. opened-on (drop (p .place) s) (args .stack .now) (held n (p .left)) (p .height) (p .later) (p .fits) (omega arith),
+      λ s n. opened-on (drop (p .place) s) (args .stack .now) (held n (p .left)) (p .height) (p .later) (p .fits) (args .c) (omega arith),
       (refl, record { front = omega arith; behind = omega arith; height = omega arith; left = omega arith; later = omega arith }),
     )
 

@@ -58,11 +58,11 @@ returns-5 : tie.Need-returns-5
 unfolding stackings
 returns-5 c =
     let at-call = c .before .before in
-    let at-match = at-call .before .before .before in
+    let at-match = at-call .before .before in
     let args = at-match .before .before .before .args in (
-      λ n. ap kept (at-call .poured .ensures .0 n)
+      λ n. ap kept (at-call .opened2 .ensures .0 (args .out .now) n)
           ∙ ap (λ f. kept (f (stands (args .out .now) (args .stack .now) n (args .p)))) (chosen (stackings (args .o)) (args .mark) 5 (at-match .match .keys5)),
-      near-within 1 1 0 (at-call .poured .ensures .1) (omega arith) (omega arith) (omega arith),
+      near-within 1 1 0 (at-call .opened2 .ensures .1 .1) (omega arith) (omega arith) (omega arith),
     )
 
 returns-6 : tie.Need-returns-6
@@ -72,28 +72,17 @@ returns-6 c =
     let at-call = at-open .before .before .before .before in
     let at-match = at-call .before .before .before in
     let args = at-match .before .before .before .args in (
-      λ n. ap kept (at-open .opened2 .ensures .0 (at-call .counted2 .last .0) n ∙ ap opened (at-call .counted2 .ensures .0 n))
+      λ n. ap kept (at-open .opened3 .ensures .0 (at-call .counted2 .last .0) n ∙ ap (opened 0) (at-call .counted2 .ensures .0 n))
           ∙ ap (λ f. kept (f (stands (args .out .now) (args .stack .now) n (args .p)))) (chosen (stackings (args .o)) (args .mark) 6 (at-match .match .keys6)),
-      near-then 1 1 0 (at-call .counted2 .ensures .1 .1) (at-open .opened2 .ensures .1 .1) (omega arith) (omega arith) (omega arith),
+      near-then 1 1 0 (at-call .counted2 .ensures .1 .1) (at-open .opened3 .ensures .1 .1) (omega arith) (omega arith) (omega arith),
     )
 
 returns-7 : tie.Need-returns-7
-unfolding stackings
 returns-7 c =
-    let at-call = c .before .before in
-    let at-match = at-call .before .before in
-    let args = at-match .before .before .before .args in (
-      λ n. ap kept (at-call .operated .ensures .0 (args .out .now) n)
-          ∙ ap (λ f. kept (f (stands (args .out .now) (args .stack .now) n (args .p)))) (chosen (stackings (args .o)) (args .mark) 7 (at-match .match .keys7)),
-      near-within 1 1 0 (at-call .operated .ensures .1) (omega arith) (omega arith) (omega arith),
-    )
-
-returns-8 : tie.Need-returns-8
-returns-8 c =
     let args = c .before .before .before .args in
     let none = c .match .rest in (
-      λ n. stacked-rest (args .o) (args .mark) (stands (args .out .now) (args .stack .now) n (args .p)) (none .0 .0 .0 .0 .0 .0 .1) (none .0 .0 .0 .0 .0 .1)
-          (none .0 .0 .0 .0 .1) (none .0 .0 .0 .1) (none .0 .0 .1) (none .0 .1) (none .1),
+      λ n. stacked-rest (args .o) (args .mark) (stands (args .out .now) (args .stack .now) n (args .p)) (none .0 .0 .0 .0 .0 .1) (none .0 .0 .0 .0 .1)
+          (none .0 .0 .0 .1) (none .0 .0 .1) (none .0 .1) (none .1),
       near-within 1 1 0 (near-same (args .p)) (omega arith) (omega arith) (omega arith),
     )
 
@@ -101,6 +90,5 @@ pub stacked-spec : {M : Type 1} → statement M
 stacked-spec =
     tie.close
     (tie.spec (λ c κs. search needs) (λ c κs. search needs) (λ c κs. search needs) (λ c κs. search needs) (λ c κs. search needs)
-    (λ c κs. search needs) (λ c κs. search needs) (λ c κs. search needs) (λ c. search needs) returns (λ c. search needs) returns-2
-    (λ c. search needs) returns-3 (λ c. search needs) (λ c. search needs) returns-4 (λ c. search needs) (λ c. search needs) returns-5
-    (λ c. search needs) (λ c. search needs) returns-6 (λ c. search needs) returns-7 returns-8)
+    (λ c κs. search needs) (λ c κs. search needs) (λ c. search needs) returns (λ c. search needs) returns-2 (λ c. search needs) returns-3
+    (λ c. search needs) (λ c. search needs) returns-4 (λ c. search needs) returns-5 (λ c. search needs) (λ c. search needs) returns-6 returns-7)

@@ -1,0 +1,32 @@
+-- `pouring::begun` meets its contract: no end of an expression waits, or the last one is taken off.
+use Prim.Native.Nat.{_-_}
+use lib.ListN.{length}
+use borrow.Author.Needs.{needs}
+use Rattle.composing.specs.PouringLaws.{begun-none, begun-some, poured-then-spoilt, poured-then-popped}
+use Rattle.composing.proofs.pouring.begun.Statement.{statement}
+use Rattle.composing.proofs.pouring.begun.Tie as tie
+
+returns : tie.Need-returns
+returns c =
+    let at-call = c .before .before .before .before in
+    let args = at-call .before .before .before .before .args in
+    let q = at-call .poured in (
+      λ n. begun-none (args .out .now) (q .last .0) (args .stack .now) n (length (args .out .now) - 6) (args .p) (q .result) (q .ensures .0 n)
+          (c .before .if1 .taken) (c .spoilt .result) (c .spoilt .ensures),
+      poured-then-spoilt (args .p) (q .result) (c .spoilt .result) (q .ensures .1) (c .spoilt .ensures),
+    )
+
+returns-2 : tie.Need-returns-2
+returns-2 c =
+    let at-call = c .before .before .before .before in
+    let args = at-call .before .before .before .before .args in
+    let q = at-call .poured in (
+      λ n. begun-some (args .out .now) (q .last .0) (args .stack .now) n (length (args .out .now) - 6) (args .p) (q .result) (q .ensures .0 n)
+          (c .before .if1 .left) (c .popped .result) (c .popped .ensures),
+      poured-then-popped (args .p) (q .result) (c .popped .result) (q .ensures .1) (c .popped .ensures),
+    )
+
+pub begun-spec : {M : Type 1} → statement M
+begun-spec =
+    tie.close
+    (tie.spec (λ c κs. search needs) (λ c κs. search needs) (λ c. search needs) returns (λ c κs. search needs) (λ c. search needs) returns-2)
