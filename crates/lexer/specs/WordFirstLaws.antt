@@ -6,7 +6,8 @@ use mathlib.Core.List.{List, [], _∷_}
 use lib.ListN.{getD}
 use borrow.Author.Tests.{ne-eqb}
 use Rattle.tokens.specs.Tokens.{Word, Token.name, word-spelling}
-use Rattle.tokens.specs.Scanning.{same, words, find-word, named}
+use Rattle.tokens.specs.Tokens.{same}
+use Rattle.tokens.specs.Scanning.{words, find-word, named}
 use Rattle.lexer.specs.Kinds.{name-kind, kind}
 use Rattle.lexer.specs.SpotLaws.{Misses}
 

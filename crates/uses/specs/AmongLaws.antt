@@ -170,7 +170,8 @@ module _ {x at table₀ table : List ℕ} {lo hi n i : ℕ} (r : Picks x at tabl
           stored = ap (sets table n) (sym f) ∙ r .stored;
         }
 
-    pub picks-on : {t : Bool} {table' : List ℕ} {m : ℕ} → t ≡ between lo hi (getD x (getD at i 0) 0) → m ≡ with-one t n → table' ≡ with-place t table n (getD at i 0)
+    pub picks-on : {t : Bool} {table' : List ℕ} {m : ℕ} → t ≡ between lo hi (getD x (getD at i 0) 0) → m ≡ with-one t n
+        → table' ≡ with-place t table n (getD at i 0)
         → Picks x at table₀ table' lo hi m (i + 1)
     unfolding with-one with-place
     picks-on {t} {table'} {m} e f g = go t e f g
@@ -229,7 +230,8 @@ three-kinds i (b ∷ s) = go (eqb b 39) refl (eqb b 40) refl (eqb b 41) refl (th
         test false e = e
 
     go : (t : Bool) → eqb b 39 ≡ t → (u : Bool) → eqb b 40 ≡ u → (v : Bool) → eqb b 41 ≡ v → rec-type
-        → length (places-from 39 41 i (b ∷ s)) ≡ length (places-from 39 39 i (b ∷ s)) + length (places-from 40 40 i (b ∷ s)) + length (places-from 41 41 i (b ∷ s))
+        → length (places-from 39 41 i (b ∷ s))
+        ≡ length (places-from 39 39 i (b ∷ s)) + length (places-from 40 40 i (b ∷ s)) + length (places-from 41 41 i (b ∷ s))
     go true e u f v g rec =
         let h = eqb-true b 39 e in
         let w = ap length (placed-in 39 41 i b s (within 39 41 b (omega (arith, h)) (omega (arith, h)))) in

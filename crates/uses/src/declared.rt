@@ -1,48 +1,15 @@
 // Tables of declarations from the places of all declarations (02 §1), which are few where a text has many places.
 use lexer::bytes;
+use resolve::tables;
 ghost use mathlib.Core.Path.{_≡_};
-ghost use Prim.Native.Nat.{_+_, _<_, _≤_};
-ghost use lib.ListN.{length, set};
+ghost use Prim.Native.Nat.{_≤_};
+ghost use lib.ListN.{length};
 ghost use lib.Seq.{sets};
-ghost use Rattle.resolve.specs.Tables.{places, with-place, with-one, offsets};
+ghost use Rattle.resolve.specs.Tables.{places, offsets};
 ghost use Rattle.uses.specs.Among.{declared-at};
 
 // The byte of a name that declares a struct.
 const NEW_STRUCT: u8 = 39;
-
-// A number at an index of a table, if the table has it.
-fn put(table: &mut [usize], n: usize, i: usize)
-    ensures { λ _. ⌜ now (table .exit) ≡ set (now (table .entry)) n i ⌝ }
-{
-    if n >= table.len() {
-        return;
-    }
-    table[n] = i;
-}
-
-// One more number of a table's n, if it is one; and their count.
-fn add(table: &mut [usize], n: usize, i: usize, is: bool) -> usize
-    requires { ⌜ n + 1 < 18446744073709551616 ⌝ }
-    ensures { λ r. ⌜ r ≡ with-one is n ⌝ }
-    ensures { λ _. ⌜ now (table .exit) ≡ with-place is (now (table .entry)) n i ⌝ }
-{
-    if is {
-        put(table, n, i);
-        return n + 1;
-    }
-    n
-}
-
-// One more, if it is one.
-fn counted(n: usize, is: bool) -> usize
-    requires { ⌜ n + 1 < 18446744073709551616 ⌝ }
-    ensures { λ r. ⌜ r ≡ with-one is n ⌝ }
-{
-    if is {
-        return n + 1;
-    }
-    n
-}
 
 // The places of a role, of structs, of parameters or of steps, into a table, as many as it has; and how many there are.
 pub(crate) fn gather(roles: &[u8], declared: &[usize], role: u8, table: &mut [usize]) -> usize
@@ -55,7 +22,7 @@ pub(crate) fn gather(roles: &[u8], declared: &[usize], role: u8, table: &mut [us
     while i < declared.len() {
         let at = declared[i];
         let is = bytes::between(role, role, bytes::byte(roles, at));
-        n = add(table, n, at, is);
+        n = tables::add(table, n, at, is);
         i += 1;
     }
     n
@@ -72,9 +39,9 @@ pub(crate) fn rows(roles: &[u8], declared: &[usize], role: u8, table: &mut [usiz
     while i < declared.len() {
         let at = declared[i];
         let b = bytes::byte(roles, at);
-        k = add(table, k, n, b == NEW_STRUCT);
-        n = counted(n, b == role);
+        k = tables::add(table, k, n, b == NEW_STRUCT);
+        n = tables::counted(n, b == role);
         i += 1;
     }
-    put(table, k, n);
+    tables::put(table, k, n);
 }

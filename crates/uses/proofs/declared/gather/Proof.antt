@@ -63,5 +63,6 @@ returns c =
 pub gather-spec : {M : Type 1} → statement M
 gather-spec =
     tie.close
-    (tie.spec Inv-loop μ-loop loop-holds (λ c. search needs) shared-slice-read-at (λ c κs. search needs) (λ c κs. search needs) add-requires add-i loop-less loop-again
+    (tie.spec Inv-loop μ-loop loop-holds (λ c. search needs) shared-slice-read-at (λ c κs. search needs) (λ c κs. search needs) add-requires add-i loop-less
+    loop-again
     same-length returns)

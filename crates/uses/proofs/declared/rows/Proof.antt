@@ -71,5 +71,6 @@ returns c =
 pub rows-spec : {M : Type 1} → statement M
 rows-spec =
     tie.close
-    (tie.spec Inv-loop μ-loop loop-holds (λ c. search needs) shared-slice-read-at (λ c κs. search needs) add-requires counted-requires add-i loop-less loop-again
+    (tie.spec Inv-loop μ-loop loop-holds (λ c. search needs) shared-slice-read-at (λ c κs. search needs) add-requires counted-requires add-i loop-less
+    loop-again
     (λ c κs. search needs) same-length returns)
