@@ -16,6 +16,7 @@ ghost use lib.Dec.{leb};
 ghost use Rattle.derive.specs.Held.{held};
 ghost use Rattle.compose.specs.Writing.{start};
 ghost use Rattle.composing.specs.Pens.{stands};
+ghost use Rattle.composing.specs.RoleTable.{mark-bytes};
 ghost use Rattle.composing.specs.Placing.{placed-in};
 ghost use Rattle.compose.specs.Fits.{word-value, value-at, writes-at, kept, within};
 ghost use Rattle.compose.specs.Header.{Rows};
@@ -81,8 +82,16 @@ fn roomy(p: Pen) -> bool
     false
 }
 
-// The stream from its end, at the end of the output, if counts keep to what a stream holds and its bytes leave the margin.
-fn write(text: &[u8], roles: &[u8], numbers: &[u8], stack: &mut [u8], out: &mut [u8]) -> Pen
+// The stream from its end, at the end of the output, if counts keep to what a stream holds and its bytes leave the margin, by the tables of roles.
+fn written(
+    marks: &[u8],
+    text: &[u8],
+    roles: &[u8],
+    numbers: &[u8],
+    stack: &mut [u8],
+    out: &mut [u8],
+) -> Pen
+    requires { ⌜ now marks ≡ mark-bytes ⌝ }
     requires { ⌜ (length (now roles) ≤ length (now text)) × (length (now roles) < length (now stack)) × (6 ≤ length (now out)) ⌝ }
     ensures { λ r. ⌜ kept (stands (now (out .exit)) (now (stack .exit)) (now (numbers .entry)) r)
         ≡ within (length (now (out .entry)) - 6)
@@ -102,13 +111,24 @@ fn write(text: &[u8], roles: &[u8], numbers: &[u8], stack: &mut [u8], out: &mut 
         i -= 1;
         let c = roles[i];
         if c != 0 {
-            p = roles::put(out, stack, numbers, p, c, literal(text, i, c));
+            p = roles::put(out, stack, numbers, marks, p, c, literal(text, i, c));
             if !roomy(p) {
                 return bytes::spoilt(p);
             }
         }
     }
     p
+}
+
+// The same, by tables that are lent once.
+fn write(text: &[u8], roles: &[u8], numbers: &[u8], stack: &mut [u8], out: &mut [u8]) -> Pen
+    requires { ⌜ (length (now roles) ≤ length (now text)) × (length (now roles) < length (now stack)) × (6 ≤ length (now out)) ⌝ }
+    ensures { λ r. ⌜ kept (stands (now (out .exit)) (now (stack .exit)) (now (numbers .entry)) r)
+        ≡ within (length (now (out .entry)) - 6)
+        (writes-at (now (text .entry)) 0 (now (roles .entry)) (start (held (now (numbers .entry)) (length (now (numbers .entry)))))) ⌝ }
+    ensures { λ r. ⌜ (r .place ≤ length (now (out .entry))) × (r .height ≤ length (now (stack .entry))) ⌝ }
+{
+    written(&table::MARKS, text, roles, numbers, stack, out)
 }
 
 // The whole stream of a text at the end of the output: the types of parameters in front of what its roles write.

@@ -9,13 +9,23 @@ ghost use Prim.Native.Nat.{_+_, _-_, _≤_, _<_};
 ghost use lib.ListN.{length};
 ghost use Rattle.compose.specs.Writing.{put};
 ghost use Rattle.composing.specs.Pens.{stands, Near};
+ghost use Rattle.composing.specs.RoleTable.{mark-bytes};
 ghost use Rattle.compose.specs.Fits.{within};
 
 // How many bytes there are of roles.
 const ROLES: u8 = 81;
 
-// One role by its byte, a literal with the number that it is.
-pub fn put(out: &mut [u8], stack: &mut [u8], numbers: &[u8], p: Pen, c: u8, v: u32) -> Pen
+// One role by its byte and the tables, a literal with the number that it is.
+pub fn put(
+    out: &mut [u8],
+    stack: &mut [u8],
+    numbers: &[u8],
+    marks: &[u8],
+    p: Pen,
+    c: u8,
+    v: u32,
+) -> Pen
+    requires { ⌜ now marks ≡ mark-bytes ⌝ }
     requires { ⌜ (6 ≤ p .place) × (p .place ≤ length (now out)) × (p .height < length (now stack)) ⌝ }
     requires { ⌜ (p .left ≤ length (now numbers)) × (p .later + 1 < 18446744073709551616) ⌝ }
     ensures { λ r. ⌜ within (length (now (out .entry)) - 6) (stands (now (out .exit)) (now (stack .exit)) (now (numbers .entry)) r)
@@ -26,8 +36,8 @@ pub fn put(out: &mut [u8], stack: &mut [u8], numbers: &[u8], p: Pen, c: u8, v: u
         return p;
     }
     let i = c as usize;
-    let a = pouring::first(out, stack, p, table::pouring(i), c + 9);
-    let q = bytes::behind(out, numbers, a, table::behind(i), v);
-    let r = bytes::formed(out, q, table::form(i));
-    waiting::stacked(out, stack, r, table::stacking(i), c + 9)
+    let a = pouring::first(out, stack, p, table::pouring(marks, i), c + 9);
+    let q = bytes::behind(out, numbers, a, table::behind(marks, i), v);
+    let r = bytes::formed(out, q, table::form(marks, i));
+    waiting::stacked(out, stack, r, table::stacking(marks, i), c + 9)
 }

@@ -4,7 +4,8 @@ use native.Mathlib.Omega.{arith}
 use native.Mathlib.Nat.{add-zero, zero-add, add-suc, suc-add, le-of-suc-le-suc, not-suc-le-zero}
 use mathlib.Core.Path.{_≡_, refl, sym, ap, _∙_}
 use mathlib.Core.Bool.{Bool, true, false}
-use lib.ListN.{getD}
+use mathlib.Core.List.{List}
+use lib.ListN.{length, getD}
 use lib.Dec.{T, eqb}
 use borrow.Author.Tests.{eqb-true, eqb-false}
 use Rattle.syntax.specs.Expecting.{word-number, sign-number, on-word, on-sign, on-name, on-op, less, on-less, literal-word, on-literal, type-word, on-type-word}
@@ -22,17 +23,45 @@ values-at f i zero k h = absurd (not-suc-le-zero h)
 values-at f i (suc n) zero h = ap f (sym (add-zero i))
 values-at f i (suc n) (suc k) h = values-at f (suc i) n k (le-of-suc-le-suc h) ∙ ap f (suc-add i k ∙ sym (add-suc i k))
 
-pub next-byte : (i : ℕ) → i < entries → getD next-bytes i 0 ≡ 48 + next-of (act-at i)
+values-length : (f : ℕ → ℕ) (i n : ℕ) → length (values f i n) ≡ n
+unfolding values
+values-length f i zero = refl
+values-length f i (suc n) = ap suc (values-length f (suc i) n)
+
+next-byte : (i : ℕ) → i < entries → getD next-bytes i 0 ≡ 48 + next-of (act-at i)
 unfolding next-bytes
 next-byte i h = values-at (λ j. 48 + next-of (act-at j)) 0 entries i h ∙ ap (λ j. 48 + next-of (act-at j)) (zero-add i)
 
-pub opened-byte : (i : ℕ) → i < entries → getD opened-bytes i 0 ≡ 48 + opened-of (act-at i)
+opened-byte : (i : ℕ) → i < entries → getD opened-bytes i 0 ≡ 48 + opened-of (act-at i)
 unfolding opened-bytes
 opened-byte i h = values-at (λ j. 48 + opened-of (act-at j)) 0 entries i h ∙ ap (λ j. 48 + opened-of (act-at j)) (zero-add i)
 
-pub mark-byte : (i : ℕ) → i < entries → getD mark-bytes i 0 ≡ mark-at i
+mark-byte : (i : ℕ) → i < entries → getD mark-bytes i 0 ≡ mark-at i
 unfolding mark-bytes
 mark-byte i h = values-at mark-at 0 entries i h ∙ ap mark-at (zero-add i)
+
+-- of a table that was lent
+module _ {t : List ℕ} {i : ℕ} where
+  pub next-in : t ≡ next-bytes → i < entries → i < length t
+  unfolding next-bytes
+  next-in e h = let l = values-length (λ j. 48 + next-of (act-at j)) 0 entries in omega (arith, ap length e ∙ l)
+
+  pub next-here : t ≡ next-bytes → i < entries → getD t i 0 ≡ 48 + next-of (act-at i)
+  next-here e h = ap (λ l. getD l i 0) e ∙ next-byte i h
+
+  pub opened-in : t ≡ opened-bytes → i < entries → i < length t
+  unfolding opened-bytes
+  opened-in e h = let l = values-length (λ j. 48 + opened-of (act-at j)) 0 entries in omega (arith, ap length e ∙ l)
+
+  pub opened-here : t ≡ opened-bytes → i < entries → getD t i 0 ≡ 48 + opened-of (act-at i)
+  opened-here e h = ap (λ l. getD l i 0) e ∙ opened-byte i h
+
+  pub mark-in : t ≡ mark-bytes → i < entries → i < length t
+  unfolding mark-bytes
+  mark-in e h = let l = values-length mark-at 0 entries in omega (arith, ap length e ∙ l)
+
+  pub mark-here : t ≡ mark-bytes → i < entries → getD t i 0 ≡ mark-at i
+  mark-here e h = ap (λ l. getD l i 0) e ∙ mark-byte i h
 
 -- Two numbers tell an act ---------------------------------------------------------------------------
 

@@ -10,7 +10,7 @@ ghost use lib.ListN.{length, set};
 ghost use Rattle.lexer.specs.Marking.{kinds-in};
 ghost use Rattle.derive.specs.Shape.{Shape.shape, act, acted-below, move, sample, derived};
 ghost use Rattle.derive.specs.RoleMarks.{mark, role-codes, placed};
-ghost use Rattle.derive.specs.Table.{entries, act-at, mark-at};
+ghost use Rattle.derive.specs.Table.{entries, act-at, mark-at, next-bytes, opened-bytes, mark-bytes};
 ghost use Rattle.derive.specs.Held.{held, Kept, ends};
 
 // The codes of states and of what is open; the kinds, with 0.
@@ -62,19 +62,20 @@ pub(crate) fn index(q: u8, k: u8) -> usize
     row + k as usize
 }
 
-// What a token of kind k does in state q.
-fn act_of(q: u8, k: u8) -> Act
+// What a token of kind k does in state q, by the tables.
+fn act_of(next: &[u8], opened: &[u8], q: u8, k: u8) -> Act
+    requires { ⌜ (now next ≡ next-bytes) × (now opened ≡ opened-bytes) ⌝ }
     ensures { λ r. ⌜ r ≡ act q (sample k) ⌝ }
 {
     let i = index(q, k);
-    let n = table::next(i);
+    let n = table::next(next, i);
     if n == 0 {
         return Act::Stop;
     }
     if n == 63 {
         return Act::Below;
     }
-    let o = table::opened(i);
+    let o = table::opened(opened, i);
     if o == 0 {
         return Act::Go(n);
     }
@@ -95,8 +96,8 @@ fn pushed(stack: &mut [u8], h: usize, q: u8, place: u8) -> Mark
 }
 
 // What was opened last takes a token.
-fn below(stack: &mut [u8], h: usize, k: u8) -> Mark
-    requires { ⌜ h ≤ length (now stack) ⌝ }
+fn below(next: &[u8], opened: &[u8], stack: &mut [u8], h: usize, k: u8) -> Mark
+    requires { ⌜ (now next ≡ next-bytes) × (now opened ≡ opened-bytes) × (h ≤ length (now stack)) ⌝ }
     ensures { λ r. ⌜ Kept (r .state) (r .height) (now (stack .exit)) (acted-below (held (now (stack .entry)) h) (sample k)) ⌝ }
     ensures { λ r. ⌜ (r .height ≤ h) × (length (now (stack .exit)) ≡ length (now (stack .entry))) ⌝ }
 {
@@ -105,7 +106,7 @@ fn below(stack: &mut [u8], h: usize, k: u8) -> Mark
     }
     let i = h - 1;
     let q = stack[i];
-    match act_of(q, k) {
+    match act_of(next, opened, q, k) {
         Act::Go(p) => Mark {
             state: p,
             height: i,
@@ -116,23 +117,32 @@ fn below(stack: &mut [u8], h: usize, k: u8) -> Mark
     }
 }
 
+// One token, by the tables.
+fn moved(next: &[u8], opened: &[u8], stack: &mut [u8], m: Mark, k: u8) -> Mark
+    requires { ⌜ (now next ≡ next-bytes) × (now opened ≡ opened-bytes) × (m .height < length (now stack)) ⌝ }
+    ensures { λ r. ⌜ Kept (r .state) (r .height) (now (stack .exit)) (move (shape (m .state) (held (now (stack .entry)) (m .height))) (sample k)) ⌝ }
+    ensures { λ r. ⌜ (r .height ≤ m .height + 1) × (length (now (stack .exit)) ≡ length (now (stack .entry))) ⌝ }
+{
+    let q = m.state;
+    let h = m.height;
+    match act_of(next, opened, q, k) {
+        Act::Go(p) => Mark {
+            state: p,
+            height: h,
+        },
+        Act::Open(p, place) => pushed(stack, h, p, place),
+        Act::Below => below(next, opened, stack, h, k),
+        Act::Stop => dead(),
+    }
+}
+
 // One token.
 pub fn step(stack: &mut [u8], m: Mark, k: u8) -> Mark
     requires { ⌜ m .height < length (now stack) ⌝ }
     ensures { λ r. ⌜ Kept (r .state) (r .height) (now (stack .exit)) (move (shape (m .state) (held (now (stack .entry)) (m .height))) (sample k)) ⌝ }
     ensures { λ r. ⌜ (r .height ≤ m .height + 1) × (length (now (stack .exit)) ≡ length (now (stack .entry))) ⌝ }
 {
-    let q = m.state;
-    let h = m.height;
-    match act_of(q, k) {
-        Act::Go(p) => Mark {
-            state: p,
-            height: h,
-        },
-        Act::Open(p, place) => pushed(stack, h, p, place),
-        Act::Below => below(stack, h, k),
-        Act::Stop => dead(),
-    }
+    moved(&table::NEXT, &table::OPENED, stack, m, k)
 }
 
 // Behind an item of the schedule itself.
@@ -148,9 +158,9 @@ fn ends(q: u8, h: usize) -> bool
     q == BEHIND_ITEM
 }
 
-// Whether the tokens have a derivation. A kind stands at each place where a token begins, 0 at the others; each kind gives way to the token's role.
-pub fn derived(kinds: &mut [u8], stack: &mut [u8]) -> bool
-    requires { ⌜ length (now kinds) ≤ length (now stack) ⌝ }
+// Whether the tokens have a derivation, by the tables, each kind giving way to its token's role.
+fn walk(next: &[u8], opened: &[u8], marks: &[u8], kinds: &mut [u8], stack: &mut [u8]) -> bool
+    requires { ⌜ (now next ≡ next-bytes) × (now opened ≡ opened-bytes) × (now marks ≡ mark-bytes) × (length (now kinds) ≤ length (now stack)) ⌝ }
     ensures { λ r. ⌜ r ≡ derived (kinds-in (now (kinds .entry))) ⌝ }
     ensures { λ _. ⌜ now (kinds .exit) ≡ placed (now (kinds .entry)) (role-codes (shape 1 []) (kinds-in (now (kinds .entry)))) ⌝ }
 {
@@ -168,10 +178,10 @@ pub fn derived(kinds: &mut [u8], stack: &mut [u8]) -> bool
                 kinds,
                 i,
                 last,
-                roles::role(stack, m, k),
+                roles::role(marks, stack, m, k),
                 roles::renamed(q, k),
             );
-            m = step(stack, m, k);
+            m = moved(next, opened, stack, m, k);
             last = i;
         }
         i += 1;
@@ -179,4 +189,13 @@ pub fn derived(kinds: &mut [u8], stack: &mut [u8]) -> bool
     let q = m.state;
     let h = m.height;
     ends(q, h)
+}
+
+// Whether the tokens have a derivation. A kind stands at each place where a token begins, 0 at the others; each kind gives way to the token's role.
+pub fn derived(kinds: &mut [u8], stack: &mut [u8]) -> bool
+    requires { ⌜ length (now kinds) ≤ length (now stack) ⌝ }
+    ensures { λ r. ⌜ r ≡ derived (kinds-in (now (kinds .entry))) ⌝ }
+    ensures { λ _. ⌜ now (kinds .exit) ≡ placed (now (kinds .entry)) (role-codes (shape 1 []) (kinds-in (now (kinds .entry)))) ⌝ }
+{
+    walk(&table::NEXT, &table::OPENED, &table::MARKS, kinds, stack)
 }

@@ -7,6 +7,7 @@ ghost use Prim.Native.Nat.{_<_, _≤_};
 ghost use lib.ListN.{length};
 ghost use Rattle.derive.specs.Shape.{Shape.shape, sample};
 ghost use Rattle.derive.specs.RoleMarks.{mark, said, role, renamed};
+ghost use Rattle.derive.specs.Table.{mark-bytes};
 ghost use Rattle.derive.specs.Held.{held};
 ghost use Rattle.derive.specs.Leaving.{amended, left};
 
@@ -48,20 +49,21 @@ fn said(m: u8, k: u8) -> u8
 }
 
 // The same, of the row of a code.
-fn said_by(q: u8, k: u8) -> u8
+fn said_by(marks: &[u8], q: u8, k: u8) -> u8
+    requires { ⌜ now marks ≡ mark-bytes ⌝ }
     ensures { λ r. ⌜ r ≡ said (mark q (sample k)) k ⌝ }
 {
-    said(table::mark(index(q, k)), k)
+    said(table::mark(marks, index(q, k)), k)
 }
 
 // The role of a token by the state that it meets, or by what was opened last.
-pub(crate) fn role(stack: &[u8], m: Mark, k: u8) -> u8
-    requires { ⌜ m .height ≤ length (now stack) ⌝ }
+pub(crate) fn role(marks: &[u8], stack: &[u8], m: Mark, k: u8) -> u8
+    requires { ⌜ (now marks ≡ mark-bytes) × (m .height ≤ length (now stack)) ⌝ }
     ensures { λ r. ⌜ r ≡ role (shape (m .state) (held (now (stack .entry)) (m .height))) k ⌝ }
 {
     let q = m.state;
     let h = m.height;
-    let b = table::mark(index(q, k));
+    let b = table::mark(marks, index(q, k));
     if b != BY_OPENED {
         return said(b, k);
     }
@@ -69,7 +71,7 @@ pub(crate) fn role(stack: &[u8], m: Mark, k: u8) -> u8
         return k;
     }
     let i = h - 1;
-    said_by(stack[i], k)
+    said_by(marks, stack[i], k)
 }
 
 // The other role of a name that waits, by the kind behind it; 0 where it keeps its role.

@@ -6,3 +6,4 @@ pub mod Marking
 pub mod RunLaws
 pub mod MarkingLaws
 pub mod SpotLaws
+pub mod WordFirstLaws

@@ -74,17 +74,17 @@ module _ {s : List ℕ} {a b p q c : ℕ} (r : Alike s a b p q c) where
   alike-inside n = inside s p (let g = letter-of (getD s p 0) c (r .at-hand) n in omega (arith, g .1, n))
 
   module _ {d : ℕ} (e : d ≡ name-letter (getD s q 0)) where
-    pub alike-on : (c ≡ 0 → ⊥) → d ≡ c → same (name-at s (p + 1)) (name-at s (q + 1)) ≡ same (name-at s a) (name-at s b)
+    alike-on : (c ≡ 0 → ⊥) → d ≡ c → same (name-at s (p + 1)) (name-at s (q + 1)) ≡ same (name-at s a) (name-at s b)
     unfolding same
     alike-on n f =
         let g : same (name-at s p) (name-at s q) ≡ same (name-at s (p + 1)) (name-at s (q + 1)) =
         rw (name-goes-on s p (r .at-hand) n, name-goes-on s q {c = c} (sym f ∙ e) n, same, eq-eqb c c refl) refl in
         sym g ∙ r .rest
 
-    pub alike-other-inside : (c ≡ 0 → ⊥) → d ≡ c → q < length s
+    alike-other-inside : (c ≡ 0 → ⊥) → d ≡ c → q < length s
     alike-other-inside n f = inside s q (let g = letter-of (getD s q 0) c (sym f ∙ e) n in omega (arith, g .1, n))
 
-    pub alike-not : (c ≡ 0 → ⊥) → (d ≡ c → ⊥) → false ≡ same (name-at s a) (name-at s b)
+    alike-not : (c ≡ 0 → ⊥) → (d ≡ c → ⊥) → false ≡ same (name-at s a) (name-at s b)
     unfolding same
     alike-not n m = sym (go d refl) ∙ r .rest
       where
@@ -105,6 +105,20 @@ module _ {s : List ℕ} {a b p q c : ℕ} (r : Alike s a b p q c) where
         go (suc k) f =
             let h : d ≡ 0 → ⊥ = λ g. omega (arith, f, g) in
             rw (none-left, name-goes-on s q e h, ne-eqb d 0 h) refl
+
+  -- a byte at q that is the letter at p is a letter
+  module _ {d : ℕ} (e : d ≡ getD s q 0) (n : c ≡ 0 → ⊥) where
+    byte-letter : d ≡ c → c ≡ name-letter (getD s q 0)
+    byte-letter f = let g = letter-of (getD s p 0) c (r .at-hand) n in letter-kept (sym f ∙ e) (ap name-byte (g .1) ∙ g .0)
+
+    pub byte-on : d ≡ c → same (name-at s (p + 1)) (name-at s (q + 1)) ≡ same (name-at s a) (name-at s b)
+    byte-on f = alike-on {d = c} (byte-letter f) n refl
+
+    pub byte-inside : d ≡ c → q < length s
+    byte-inside f = alike-other-inside {d = c} (byte-letter f) n refl
+
+    pub byte-not : (d ≡ c → ⊥) → false ≡ same (name-at s a) (name-at s b)
+    byte-not m = alike-not {d = name-letter (getD s q 0)} refl n (λ h. m (e ∙ sym (letter-of (getD s q 0) c (sym h) n .1)))
 
 -- Lookups ------------------------------------------------------------------------------------
 

@@ -24,7 +24,7 @@ pub fn same_name(text: &[u8], a: usize, b: usize) -> bool
     let mut q = b;
     let mut c = letter(text, p);
     while c != 0 {
-        if letter(text, q) != c {
+        if bytes::byte(text, q) != c {
             return false;
         }
         p += 1;

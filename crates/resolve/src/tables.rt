@@ -7,13 +7,10 @@ ghost use lib.ListN.{length, set};
 ghost use lib.Seq.{sets};
 ghost use Rattle.meaning.specs.Finding.{distinct};
 ghost use Rattle.resolve.specs.Named.{names-at};
-ghost use Rattle.resolve.specs.Tables.{places, with-place, with-one, offsets};
-
-// The byte of a name that declares a struct.
-const NEW_STRUCT: u8 = 39;
+ghost use Rattle.resolve.specs.Tables.{places, with-place, with-one};
 
 // A place at an index of a table, if the table has it.
-pub(crate) fn put(table: &mut [usize], n: usize, i: usize)
+pub fn put(table: &mut [usize], n: usize, i: usize)
     ensures { λ _. ⌜ now (table .exit) ≡ set (now (table .entry)) n i ⌝ }
 {
     if n >= table.len() {
@@ -23,7 +20,7 @@ pub(crate) fn put(table: &mut [usize], n: usize, i: usize)
 }
 
 // One more place of a table's n, if it is one; and their count.
-pub(crate) fn add(table: &mut [usize], n: usize, i: usize, is: bool) -> usize
+pub fn add(table: &mut [usize], n: usize, i: usize, is: bool) -> usize
     requires { ⌜ n + 1 < 18446744073709551616 ⌝ }
     ensures { λ r. ⌜ r ≡ with-one is n ⌝ }
     ensures { λ _. ⌜ now (table .exit) ≡ with-place is (now (table .entry)) n i ⌝ }
@@ -50,7 +47,7 @@ pub fn gather(roles: &[u8], low: u8, high: u8, table: &mut [usize]) -> usize
 }
 
 // One more, if it is one.
-fn counted(n: usize, is: bool) -> usize
+pub fn counted(n: usize, is: bool) -> usize
     requires { ⌜ n + 1 < 18446744073709551616 ⌝ }
     ensures { λ r. ⌜ r ≡ with-one is n ⌝ }
 {
@@ -58,24 +55,6 @@ fn counted(n: usize, is: bool) -> usize
         return n + 1;
     }
     n
-}
-
-// How many of a role stand before each struct, and in all, into a table, as many as it has; and how many numbers these are.
-pub fn rows(roles: &[u8], role: u8, table: &mut [usize]) -> usize
-    ensures { λ r. ⌜ r ≡ length (offsets role (now (roles .entry))) ⌝ }
-    ensures { λ _. ⌜ now (table .exit) ≡ sets (now (table .entry)) 0 (offsets role (now (roles .entry))) ⌝ }
-{
-    let mut n = 0;
-    let mut k = 0;
-    let mut i = 0;
-    while i < roles.len() {
-        let b = roles[i];
-        k = add(table, k, n, b == NEW_STRUCT);
-        n = counted(n, b == role);
-        i += 1;
-    }
-    put(table, k, n);
-    k + 1
 }
 
 // Whether the names at a table's places are all different.

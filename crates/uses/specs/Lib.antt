@@ -12,6 +12,8 @@ pub mod TypeLaws
 pub mod LoopLaws
 pub mod NumberedLaws
 pub mod Tabling
+pub mod Among
+pub mod AmongLaws
 pub mod PutLaws
 pub mod OffsetLaws
 pub mod LayingLaws

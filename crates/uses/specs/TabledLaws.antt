@@ -23,6 +23,8 @@ use Rattle.uses.specs.PartLaws.{pair, map-part, part-at, part-part}
 use Rattle.uses.specs.Lent.{structs-of-table, names-of-table, row-end, book-in, Rowed}
 use Rattle.uses.specs.Declaring.{Fronted, Tabled, type-bytes}
 use Rattle.uses.specs.Tabling.{structs-at, pars-at, steps-at, names-first, Front, Laid, tested}
+use Rattle.uses.specs.Among.{declared-at}
+use Rattle.uses.specs.AmongLaws.{declared-count}
 use Rattle.uses.specs.PutLaws.{put, put-long, put-at-behind, front-put, front-before, front-behind}
 use Rattle.uses.specs.OffsetLaws.{offsets-long, pair-held}
 use Rattle.uses.specs.TablingLaws.{row-held, few-pars, few-steps}
@@ -83,6 +85,17 @@ few-tested text roles fr e f =
       names = leb-true (length (names-first text roles)) max-names (d .1);
       rows = c .0;
     }
+
+-- more declarations than these
+pub fill-many : (text roles : List ℕ) → Fronted roles → {n : ℕ} → n ≡ length (declared-at roles) → 272 < n → false ≡ tables-ok text roles
+fill-many text roles fr {n} e l = go (tested text roles) refl
+  where
+    go : (t : Bool) → tested text roles ≡ t → false ≡ tables-ok text roles
+    go true f =
+        let few = few-tested text roles fr {w = tested text roles} refl f in
+        let c = declared-count roles in
+        absurd (omega (arith, e, l, c, few .structs, few .pars, few .steps))
+    go false f = fill-not text roles {w = tested text roles} refl f
 
 -- Rows of a longer part ----------------------------------------------------------------------------
 

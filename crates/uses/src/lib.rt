@@ -1,4 +1,5 @@
 // What the names of a text's steps and schedule stand for (02 §1), in code: tables of declarations, and the pass over the places of a text by them.
+mod declared;
 pub mod looked;
 pub mod parts;
 pub mod pass;

@@ -5,7 +5,7 @@ use Rattle.derive.proofs.act_of.Statement.{statement}
 use Rattle.derive.proofs.act_of.Tie as tie
 
 next-requires : tie.Need-next-requires
-next-requires c κs = (c .index .ensures .0)
+next-requires c κs = let start = c .before .before .before in (start .pre .0, c .index .ensures .0)
 
 returns : tie.Need-returns
 returns c = told-stop (c .before .before .index .ensures .0) (c .before .next .ensures) (c .before .before .index .ensures .1) (c .if1 .taken)
@@ -16,7 +16,9 @@ returns-2 c =
     (c .before .if1 .left) (c .if2 .taken)
 
 opened-requires : tie.Need-opened-requires
-opened-requires c κs = (c .before .before .before .index .ensures .0)
+opened-requires c κs =
+    let at-index = c .before .before .before in
+    let start = at-index .before .before .before in (start .pre .1, at-index .index .ensures .0)
 
 returns-3 : tie.Need-returns-3
 returns-3 c =

@@ -1,26 +1,18 @@
--- `table::stacking` meets its contract: the bytes of the source are 48 above the table's.
-use Prim.Native.Nat.{_+_, _<_}
+-- `table::stacking` meets its contract: the bytes of the tables are 48 above their numbers.
 use native.Mathlib.Omega.{arith}
-use mathlib.Core.Path.{_≡_, _∙_}
-use lib.ListN.{getD}
 use borrow.Author.Needs.{needs}
-use Rattle.compose.specs.Writing.{stack-marks}
-use Rattle.composing.specs.TableLaws.{shifted-at}
+use Rattle.composing.specs.TableLaws.{marks-in}
 use Rattle.composing.proofs.table.stacking.Statement.{statement}
 use Rattle.composing.proofs.table.stacking.Tie as tie
 
--- the byte that was read
-read : (c : tie.After-pick) → c .pick .result ≡ 48 + getD stack-marks (c .before .before .args .c) 0
-unfolding stack-marks
-read c =
-    let inside : c .before .before .args .c < 81 = omega arith in
-    c .pick .ensures ∙ shifted-at stack-marks (c .before .before .args .c) inside
+shared-slice-read-b : tie.Need-shared-slice-read-b
+shared-slice-read-b c = let pre = c .before .pre in omega (arith, marks-in (pre .0) (pre .1) .inside)
 
 sub-result : tie.Need-sub-result
-sub-result c = omega (arith, read c)
+sub-result c = let pre = c .before .pre in omega (arith, marks-in (pre .0) (pre .1) .stack)
 
 returns : tie.Need-returns
-returns c = omega (arith, read c)
+returns c = let pre = c .before .pre in omega (arith, marks-in (pre .0) (pre .1) .stack)
 
 pub stacking-spec : {M : Type 1} → statement M
-stacking-spec = tie.close (tie.spec (λ c. search needs) (λ c κs. search needs) sub-result returns)
+stacking-spec = tie.close (tie.spec (λ c. search needs) shared-slice-read-b sub-result returns)

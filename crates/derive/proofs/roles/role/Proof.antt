@@ -5,10 +5,18 @@ use Rattle.derive.specs.RoleWays.{role-own, role-none, role-top}
 use Rattle.derive.proofs.roles.role.Statement.{statement}
 use Rattle.derive.proofs.roles.role.Tie as tie
 
+mark-requires : tie.Need-mark-requires
+mark-requires c κs = (c .before .before .before .pre .0, c .index .ensures .0)
+
+said-by-requires : tie.Need-said-by-requires
+said-by-requires c κs =
+    let at-mark = c .before .before .before in
+    at-mark .before .before .before .before .pre .0
+
 returns : tie.Need-returns
 returns c =
     let at-mark = c .before .before in
-    let args = at-mark .before .before .before .args in
+    let args = at-mark .before .before .before .before .args in
     c .said .ensures
     ∙ role-own (args .m .state) (args .k) (args .m .height) (args .stack .now) (at-mark .mark .ensures ∙ at-mark .before .index .ensures .2)
     (c .before .if1 .taken)
@@ -16,14 +24,14 @@ returns c =
 returns-2 : tie.Need-returns-2
 returns-2 c =
     let at-mark = c .before .before in
-    let args = at-mark .before .before .before .args in
+    let args = at-mark .before .before .before .before .args in
     role-none (args .m .state) (args .k) (args .m .height) (args .stack .now) (at-mark .mark .ensures ∙ at-mark .before .index .ensures .2)
     (c .before .if1 .left) (c .if2 .taken)
 
 returns-3 : tie.Need-returns-3
 returns-3 c =
     let at-mark = c .before .before .before .before in
-    let args = at-mark .before .before .before .args in
+    let args = at-mark .before .before .before .before .args in
     c .said-by .ensures
     ∙ role-top (args .m .state) (args .k) (args .m .height) (args .stack .now) (at-mark .mark .ensures ∙ at-mark .before .index .ensures .2)
     (c .before .before .before .if1 .left) (c .before .before .if2 .left)
@@ -31,5 +39,5 @@ returns-3 c =
 pub role-spec : {M : Type 1} → statement M
 role-spec =
     tie.close
-    (tie.spec (λ c κs. search needs) (λ c κs. search needs) (λ c κs. search needs) returns returns-2 (λ c. search needs) (λ c. search needs)
-    (λ c κs. search needs) returns-3)
+    (tie.spec (λ c κs. search needs) mark-requires (λ c κs. search needs) returns returns-2 (λ c. search needs) (λ c. search needs)
+    said-by-requires returns-3)

@@ -1,17 +1,13 @@
--- `table::mark` meets its contract: the bytes of the source are the roles, one by one.
-use native.Mathlib.Omega.{arith}
-use mathlib.Core.Path.{_∙_}
-use borrow.Author.Needs.{needs}
-use Rattle.derive.specs.Shape.{samples, sample}
-use Rattle.derive.specs.RoleMarks.{mark}
-use Rattle.derive.specs.Table.{values, mark-at, mark-bytes}
-use Rattle.derive.specs.TableLaws.{mark-byte}
+-- `table::mark` meets its contract: a table that was lent has the roles, one by one.
+use Rattle.derive.specs.TableLaws.{mark-in, mark-here}
 use Rattle.derive.proofs.table.mark.Statement.{statement}
 use Rattle.derive.proofs.table.mark.Tie as tie
 
+shared-slice-read-b : tie.Need-shared-slice-read-b
+shared-slice-read-b c = mark-in (c .before .pre .0) (c .before .pre .1)
+
 returns : tie.Need-returns
-unfolding values mark-bytes mark-at mark samples sample
-returns c = c .pick .ensures ∙ mark-byte (c .before .before .args .i) (omega arith)
+returns c = mark-here (c .before .pre .0) (c .before .pre .1)
 
 pub mark-spec : {M : Type 1} → statement M
-mark-spec = tie.close (tie.spec (λ c. search needs) (λ c κs. search needs) returns)
+mark-spec = tie.close (tie.spec shared-slice-read-b returns)

@@ -2,7 +2,8 @@
 use Rattle.tokens.specs.Tokens.{word-spelling}
 use Rattle.tokens.specs.Scanning.{words, named}
 use Rattle.lexer.specs.WordTable.{laid}
-use mathlib.Core.Path.{refl}
+use Rattle.lexer.specs.WordFirstLaws.{no-name}
+use mathlib.Core.Path.{refl, sym, ap, _∙_}
 use borrow.Author.Needs.{needs}
 use Rattle.lexer.proofs.words.kind.Statement.{statement}
 use Rattle.lexer.proofs.words.kind.Tie as tie
@@ -15,5 +16,11 @@ returns : tie.Need-returns
 unfolding named
 returns c = c .find .ensures
 
+returns-2 : tie.Need-returns-2
+returns-2 c =
+    let at-begins = c .before in
+    let first = at-begins .before in
+    no-name _ (rw (first .byte .ensures) at (at-begins .begins-word .ensures (c .if1 .left)))
+
 pub kind-spec : {M : Type 1} → statement M
-kind-spec = tie.close (tie.spec (λ c. search needs) find-requires returns)
+kind-spec = tie.close (tie.spec (λ c κs. search needs) (λ c κs. search needs) (λ c. search needs) find-requires returns returns-2)

@@ -11,14 +11,14 @@ use Rattle.uses.proofs.tabling.few_steps.Tie as tie
 slice-aggregate-narrow : tie.Need-slice-aggregate-narrow
 slice-aggregate-narrow c =
     let called = c .before .before in
-    let start = called .before .before .before in
-    take-long _ _ (omega (arith, called .rows2 .kept .1 .1 .0, start .pre .1))
+    let start = called .before .before .before .before in
+    take-long _ _ (omega (arith, called .rows2 .kept .1 .1 .1 .0, start .pre .1 .1))
 
 returns : tie.Need-returns
 returns c =
     let called = c .before .before .before in
-    let start = called .before .before .before in
-    c .narrow .ensures ∙ ap narrow (steps-narrowed _ _ (start .pre .0) (start .pre .1) refl (called .rows2 .ensures .1))
+    let start = called .before .before .before .before in
+    c .narrow .ensures ∙ ap narrow (steps-narrowed _ _ (start .pre .1 .0) (start .pre .1 .1) refl (called .rows2 .ensures))
 
 pub few-steps-spec : {M : Type 1} → statement M
 few-steps-spec =

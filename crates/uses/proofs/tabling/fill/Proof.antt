@@ -1,50 +1,36 @@
--- `tabling::fill` meets its contract: one law for each way.
-use mathlib.Core.Path.{_∙_}
+-- `tabling::fill` meets its contract: more declarations than a stream has numbers for, or all of them.
+use mathlib.Core.Path.{refl}
 use mathlib.Core.Bool.{false≢true}
-use borrow.Author.Tests.{not-true, not-false}
-use Rattle.uses.specs.TabledLaws.{fill-not, fill-known, few-tested, typed-long, fill-tabled}
+use native.Mathlib.Omega.{arith}
+use Rattle.resolve.specs.FirstLaws.{take-long}
+use Rattle.uses.specs.TablingLaws.{front-held}
+use Rattle.uses.specs.TabledLaws.{fill-many}
 use borrow.Author.Needs.{needs}
 use Rattle.uses.proofs.tabling.fill.Statement.{statement}
 use Rattle.uses.proofs.tabling.fill.Tie as tie
 
--- where the table was laid, and where the function began
-abbrev at-lay : tie.After-well → tie.After-lay
-at-lay c = c .before .before .before .before
-
-abbrev lent : tie.After-lay → tie.After-lay-arg
-lent c = c .before
-
-abbrev start : tie.After-lay → tie.Start
-start c = lent c .before .before .before .before
+-- where the function began
+abbrev start : tie.After-gather → tie.Start
+start c = let lent = c .before in lent .before .before .before .before
 
 returns : tie.Need-returns
 returns c =
-    let tested = c .before in
-    let lay = at-lay tested in
-    (fill-not _ _ (tested .well .ensures) (not-true _ (c .if1 .taken)), (λ e. absurd (false≢true e), lay .lay .kept .1 .1 .0))
+    let called = c .before .before in
+    (fill-many _ _ (start called .pre .1) (called .gather .ensures .0) (c .if1 .taken), (λ e. absurd (false≢true e), refl))
 
-par-types-requires : tie.Need-par-types-requires
-par-types-requires c κs =
+slice-aggregate-filled : tie.Need-slice-aggregate-filled
+slice-aggregate-filled c =
+    let called = c .before .before .before in take-long _ _ (omega (arith, called .gather .kept .1 .1 .1 .0, c .before .if1 .left))
+
+filled-requires : tie.Need-filled-requires
+filled-requires c κs =
     let tested = c .before .before in
-    let few = few-tested _ _ (start (at-lay tested) .pre .1) (tested .well .ensures) (not-false _ (c .before .if1 .left)) in
-    (few .structs, few .types)
-
-returns-2 : tie.Need-returns-2
-returns-2 c =
-    let typed = c .before .before in
-    let tested = typed .before .before .before in
-    let lay = at-lay tested in
-    let m = typed .par-types .last .1 .1 .0 in
-    let is = not-false _ (typed .before .before .if1 .left) in (
-      fill-known _ _ (tested .well .ensures) is (typed .par-types .ensures .0),
-      (
-        fill-tabled m (lay .lay .ensures) (typed .par-types .kept .1 .1 .0) (start lay .pre .1) (tested .well .ensures) is (typed .par-types .ensures .1),
-        typed-long m (lay .lay .ensures) (typed .par-types .kept .1 .1 .0) ∙ lay .lay .kept .1 .1 .0,
-      ),
-    )
+    let called = tested .before .before in
+    let pre = start called .pre in
+    (pre .0, pre .1, front-held _ _ (called .gather .ensures .0) (called .gather .ensures .1) (tested .if1 .left))
 
 pub fill-spec : {M : Type 1} → statement M
 fill-spec =
     tie.close
-    (tie.spec (λ c κs. search needs) (λ c κs. search needs) (λ c. search needs) returns (λ c. search needs) (λ c. search needs) (λ c. search needs)
-    par-types-requires (λ c. search needs) returns-2)
+    (tie.spec (λ c. search needs) (λ c κs. search needs) returns (λ c. search needs) slice-aggregate-filled filled-requires (λ c. search needs)
+    (λ c. search needs))

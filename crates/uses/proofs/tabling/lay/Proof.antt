@@ -15,29 +15,29 @@ abbrev lent : tie.After-gather2 → tie.After-gather-arg
 lent c = of-structs c .before
 
 abbrev start : tie.After-gather2 → tie.Start
-start c = lent c .before .before .before .before
+start c = let known = lent c .before in known .before .before .before .before
 
 slice-write-table-2 : tie.Need-slice-write-table-2
 slice-write-table-2 c =
     let names = c .before .before in
     let pars = names .before .before .before .before in
-    room-counted (start pars .args .table .now) _ _ _ (names .step-names .last .1 .1 .0) (of-structs pars .gather .result) 0 (start pars .args .text .now) _
-    (start pars .pre) (of-structs pars .gather .ensures .1) (of-rows pars .rows .ensures .1) (pars .gather2 .ensures .1) (names .step-names .kept .1 .1 .0)
+    room-counted (start pars .args .table .now) _ _ _ (names .step-names .last .1 .1 .1 .0) (of-structs pars .gather .result) 0 (start pars .args .text .now) _
+    (start pars .pre .0) (of-structs pars .gather .ensures .1) (of-rows pars .rows .ensures) (pars .gather2 .ensures .1) (names .step-names .kept .1 .1 .1 .0)
 
 same-length : tie.Need-same-length
 same-length c =
     let names = c .before .before in
     let pars = names .before .before .before .before in
-    laid-long (start pars .args .table .now) _ _ _ (names .step-names .last .1 .1 .0) (of-structs pars .gather .result) (names .step-names .result)
-    (start pars .args .text .now) _ (start pars .pre) (of-structs pars .gather .ensures .1) (of-rows pars .rows .ensures .1) (pars .gather2 .ensures .1)
-    (names .step-names .kept .1 .1 .0)
+    laid-long (start pars .args .table .now) _ _ _ (names .step-names .last .1 .1 .1 .0) (of-structs pars .gather .result) (names .step-names .result)
+    (start pars .args .text .now) _ (start pars .pre .0) (of-structs pars .gather .ensures .1) (of-rows pars .rows .ensures) (pars .gather2 .ensures .1)
+    (names .step-names .kept .1 .1 .1 .0)
 
 returns : tie.Need-returns
 returns c =
     let names = c .before .before in
     let pars = names .before .before .before .before in
-    laid-all (start pars .args .table .now) _ _ _ (names .step-names .last .1 .1 .0) (of-structs pars .gather .result) (names .step-names .result) _ _
-    (start pars .pre) (of-structs pars .gather .ensures .1) (of-rows pars .rows .ensures .1) (pars .gather2 .ensures .1) (names .step-names .kept .1 .1 .0)
+    laid-all (start pars .args .table .now) _ _ _ (names .step-names .last .1 .1 .1 .0) (of-structs pars .gather .result) (names .step-names .result) _ _
+    (start pars .pre .0) (of-structs pars .gather .ensures .1) (of-rows pars .rows .ensures) (pars .gather2 .ensures .1) (names .step-names .kept .1 .1 .1 .0)
     (of-structs pars .gather .ensures .0) (names .step-names .ensures)
 
 pub lay-spec : {M : Type 1} → statement M

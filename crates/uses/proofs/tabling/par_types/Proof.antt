@@ -15,23 +15,23 @@ abbrev lent : tie.After-gather → tie.After-structs
 lent c = c .before
 
 abbrev start : tie.After-gather → tie.Start
-start c = lent c .before .before .before .before
+start c = let known = lent c .before in known .before .before .before .before
 
 slice-aggregate-types : tie.Need-slice-aggregate-types
 slice-aggregate-types c =
     let structs = at-structs (c .before .before) in
-    take-long _ _ (omega (arith, structs .gather .kept .1 .1 .1 .0, structs .gather .ensures .0, start structs .pre .0))
+    take-long _ _ (omega (arith, structs .gather .kept .1 .1 .1 .0, structs .gather .ensures .0, start structs .pre .1 .0))
 
 slice-aggregate-types-2 : tie.Need-slice-aggregate-types-2
 slice-aggregate-types-2 c =
     let places = c .before .before .before in
-    take-long _ _ (omega (arith, places .gather2 .kept .1 .1 .1 .0, places .gather2 .ensures .0, start (at-structs places) .pre .1))
+    take-long _ _ (omega (arith, places .gather2 .kept .1 .1 .1 .0, places .gather2 .ensures .0, start (at-structs places) .pre .1 .1))
 
 types-requires : tie.Need-types-requires
 types-requires c κs =
     let places = c .before .before .before .before in
     let structs = at-structs places in
-    let pre = start structs .pre in
+    let pre = start structs .pre .1 in
     structs-few (start structs .args .text .now) _ _ _ (pre .0) (pre .1) (structs .gather .ensures .0) (structs .gather .ensures .1) refl
     (places .gather2 .ensures .0) (places .gather2 .ensures .1) refl
 
@@ -40,7 +40,7 @@ returns c =
     let typed = c .before .before in
     let lent-places = typed .before .before in
     let places = lent-places .before .before .before in
-    let pre = start (at-structs places) .pre in
+    let pre = start (at-structs places) .pre .1 in
     let g = at-structs places .gather .ensures in
     let h = places .gather2 .ensures in (
       types-tested _ _ _ _ (pre .0) (pre .1) (g .0) (g .1) refl (h .0) (h .1) refl (typed .types .ensures .0),

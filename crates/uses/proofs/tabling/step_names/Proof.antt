@@ -19,8 +19,9 @@ returns-2 c =
     let tested = named .before .before .before in
     let called = tested .before .before in
     let lent = called .before in
-    let start = lent .before .before .before .before in
-    gathered-all _ _ _ _ (start .pre) (called .gather .ensures .0) (called .gather .ensures .1) (tested .if1 .left) (named .step-names .ensures .0)
+    let known = lent .before in
+    let start = known .before .before .before .before in
+    gathered-all _ _ _ _ (start .pre .0) (called .gather .ensures .0) (called .gather .ensures .1) (tested .if1 .left) (named .step-names .ensures .0)
     (named .step-names .ensures .1)
 
 pub step-names-spec : {M : Type 1} → statement M
