@@ -1,6 +1,7 @@
 pub mod PartLaws
 pub mod Lent
 pub mod Stopping
+pub mod Gaps
 pub mod Declaring
 pub mod Seeing
 pub mod SeeingLaws
@@ -10,6 +11,7 @@ pub mod ChangeLaws
 pub mod NameLaws
 pub mod TypeLaws
 pub mod LoopLaws
+pub mod GapLaws
 pub mod NumberedLaws
 pub mod Tabling
 pub mod Among

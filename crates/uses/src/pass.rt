@@ -7,12 +7,11 @@ use crate::passing;
 ghost use mathlib.Core.Path.{_≡_};
 ghost use Prim.Native.Nat.{ℕ, _+_, _≤_, _<_};
 ghost use mathlib.Core.List.{List};
-ghost use mathlib.Core.Option.{some};
 ghost use lib.ListN.{length, drop};
-ghost use lib.Dec.{eqb};
-ghost use Rattle.resolve.specs.Using.{chosen, use-start};
+ghost use Rattle.resolve.specs.Using.{use-start};
 ghost use Rattle.resolve.specs.UsingAt.{use-at, uses-at};
 ghost use Rattle.uses.specs.Lent.{book-in, Booked, use-in, Roomy, passed-in, Next, numbered-in, used-out, Counted};
+ghost use Rattle.uses.specs.Gaps.{Gap, Token};
 ghost use Rattle.uses.specs.Stopping.{stops-at, stop-in};
 
 // One place where a token begins.
@@ -44,28 +43,19 @@ fn use_at(
     parts::part_role(stack, role, c)
 }
 
-// One place: 0 stands where no token begins.
-fn turn(
-    text: &[u8],
-    tables: &[usize],
-    locals: &mut [usize],
-    stack: &mut [u8],
-    at: usize,
-    role: u8,
-    c: Scope,
-) -> Passed
-    requires { ⌜ Booked (now tables) × Roomy (now tables) (now locals) c × (c .dues + c .bodies < length (now stack)) × (at < length (now text)) ⌝ }
-    ensures { λ r. ⌜ ((o : List ℕ) → passed-in (now (text .entry)) (now (locals .exit)) (now (stack .exit)) r o
-        ≡ chosen (eqb role 0) (some (use-in (now (text .entry)) (now (locals .entry)) (now (stack .entry)) c o))
-        (use-at (book-in (now (text .entry)) (now (tables .entry))) role (drop at (now (text .entry)))
-        (use-in (now (text .entry)) (now (locals .entry)) (now (stack .entry)) c o))) ⌝ }
-    ensures { λ r. ⌜ Next (now (tables .entry)) (now (locals .exit)) c r ⌝ }
-    ensures { λ _. ⌜ (length (now (stack .exit)) ≡ length (now (stack .entry))) × (length (now (locals .exit)) ≡ length (now (locals .entry))) ⌝ }
+// The first place from one on at which a token begins, or the end: 0 stands where none begins.
+fn next_role(roles: &[u8], from: usize) -> usize
+    requires { ⌜ from ≤ length (now roles) ⌝ }
+    ensures { λ r. ⌜ Gap (now (roles .entry)) from r × Token (now (roles .entry)) r ⌝ }
 {
-    if role == 0 {
-        return Passed::On(c);
+    let mut i = from;
+    while i < roles.len() {
+        if roles[i] != 0 {
+            return i;
+        }
+        i += 1;
     }
-    use_at(text, tables, locals, stack, at, role, c)
+    i
 }
 
 // The numbers of a text's uses, in order; or that there are none (17), and the place of the token at which that is told.
@@ -98,11 +88,11 @@ pub(crate) fn uses(
         bodies: 0,
     };
     let mut n = 0;
-    let mut i = 0;
+    let mut i = next_role(roles, 0);
     while i < roles.len() {
         let at = i;
-        i += 1;
-        match turn(text, tables, locals, stack, at, roles[at], c) {
+        i = next_role(roles, at + 1);
+        match use_at(text, tables, locals, stack, at, roles[at], c) {
             Passed::Stop => return Numbered::Nothing(at),
             Passed::On(d) => {
                 c = d;
