@@ -3,6 +3,7 @@ pub mod PenLaws
 pub mod PouringLaws
 pub mod PutLaws
 pub mod LoopLaws
+pub mod Gaps
 pub mod RoleTable
 pub mod TableLaws
 pub mod RowLaws

@@ -116,7 +116,7 @@ abbrev pub at-end : List ℕ → Writing
 at-end numbers = start (held numbers (length numbers))
 
 module _ (text roles numbers out₀ stack₀ out stack : List ℕ) (p : Pen) where
-  past : (j : ℕ) → Reached text roles numbers out₀ stack₀ out stack p (suc j) → getD roles j 0 ≡ 0 → Reached text roles numbers out₀ stack₀ out stack p j
+  pub past : (j : ℕ) → Reached text roles numbers out₀ stack₀ out stack p (suc j) → getD roles j 0 ≡ 0 → Reached text roles numbers out₀ stack₀ out stack p j
   past j r e =
       record {
         inner = omega (arith, r .inner);

@@ -16,6 +16,7 @@ ghost use lib.Dec.{leb};
 ghost use Rattle.derive.specs.Held.{held};
 ghost use Rattle.compose.specs.Writing.{start};
 ghost use Rattle.composing.specs.Pens.{stands};
+ghost use Rattle.composing.specs.Gaps.{Gap};
 ghost use Rattle.composing.specs.RoleTable.{mark-bytes};
 ghost use Rattle.composing.specs.Placing.{placed-in};
 ghost use Rattle.compose.specs.Fits.{word-value, value-at, writes-at, kept, within};
@@ -82,6 +83,22 @@ fn roomy(p: Pen) -> bool
     false
 }
 
+// Where the gap begins that ends at a place: 0 stands where no token begins.
+fn gap_start(roles: &[u8], end: usize) -> usize
+    requires { ⌜ end ≤ length (now roles) ⌝ }
+    ensures { λ r. ⌜ Gap (now (roles .entry)) r end ⌝ }
+{
+    let mut i = end;
+    while i > 0 {
+        let at = i - 1;
+        if roles[at] != 0 {
+            return i;
+        }
+        i = at;
+    }
+    i
+}
+
 // The stream from its end, at the end of the output, if counts keep to what a stream holds and its bytes leave the margin, by the tables of roles.
 fn written(
     marks: &[u8],
@@ -115,6 +132,8 @@ fn written(
             if !roomy(p) {
                 return bytes::spoilt(p);
             }
+        } else {
+            i = gap_start(roles, i);
         }
     }
     p
