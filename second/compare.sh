@@ -106,9 +106,20 @@ runs_as_written() {
     done
 }
 
+# The example texts are the last ones, first as they are, then with no bracket that is not needed (02 §2): both give the same image.
+bare_as_bracketed() {
+    local count
+    count=$(find "$texts" -maxdepth 1 -name '*.audala' | wc -l)
+    if ! diff <(tail -n $((2 * count)) "$work/texts.txt" | head -n "$count") <(tail -n "$count" "$work/texts.txt") >&2; then
+        echo "compare: a text of examples/texts/bare gives another image than the text of its name" >&2
+        exit 1
+    fi
+}
+
 same_as_committed() {
     runs_as_written
     make_committed
+    bare_as_bracketed
     for file in "${committed[@]}"; do
         as_committed "$file"
     done
