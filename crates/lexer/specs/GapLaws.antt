@@ -1,13 +1,24 @@
--- Gaps in a row are one gap; what goes on from place to place of a gap goes on from one end of it to the other, either way (02 §1).
+-- Gaps in a row are one gap; what goes on from place to place of a gap goes on from one end of it to the other, either way (02 §1). Where nothing was written
+-- yet there is a gap.
 use Prim.Native.Nat.{ℕ, zero, suc, _+_, _-_, _≤_, _<_}
 use native.Mathlib.Omega.{arith}
 use mathlib.Core.Path.{_≡_, refl}
 use mathlib.Core.Bool.{Bool, true, false}
 use mathlib.Core.List.{List}
-use lib.ListN.{length, getD}
+use lib.ListN.{length, getD, take, replicate}
 use lib.Dec.{leb}
 use borrow.Author.Tests.{leb-true, leb-false}
 use Rattle.lexer.specs.Gaps.{Gap}
+
+zero-fresh : (n m p : ℕ) → getD {A = ℕ} (take n (replicate m 0)) p 0 ≡ 0
+zero-fresh zero m p = refl
+zero-fresh (suc n) zero p = refl
+zero-fresh (suc n) (suc m) zero = refl
+zero-fresh (suc n) (suc m) (suc p) = zero-fresh n m p
+
+-- the front of an array of zeros
+pub gap-fresh : (n m : ℕ) → Gap (take n (replicate m 0)) 0 (length {A = ℕ} (take n (replicate m 0)))
+gap-fresh n m = record { behind = omega arith; inner = omega arith; zeros = λ p a b. zero-fresh n m p }
 
 module _ {kinds : List ℕ} where
   pub gap-none : {i : ℕ} → i ≤ length kinds → Gap kinds i i
