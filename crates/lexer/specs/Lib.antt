@@ -7,3 +7,5 @@ pub mod RunLaws
 pub mod MarkingLaws
 pub mod SpotLaws
 pub mod WordFirstLaws
+pub mod Gaps
+pub mod GapLaws
