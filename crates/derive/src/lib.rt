@@ -3,6 +3,7 @@
 pub mod roles;
 pub mod table;
 
+use lexer::gaps;
 ghost use mathlib.Core.Path.{_≡_};
 ghost use mathlib.Core.List.{[]};
 ghost use Prim.Native.Nat.{_+_, _<_, _≤_};
@@ -169,22 +170,21 @@ fn walk(next: &[u8], opened: &[u8], marks: &[u8], kinds: &mut [u8], stack: &mut 
         height: 0,
     };
     let mut last = 0;
-    let mut i = 0;
+    let mut i = gaps::next(kinds, 0);
     while i < kinds.len() {
-        let k = kinds[i];
-        if k != 0 {
-            let q = m.state;
-            roles::leave(
-                kinds,
-                i,
-                last,
-                roles::role(marks, stack, m, k),
-                roles::renamed(q, k),
-            );
-            m = moved(next, opened, stack, m, k);
-            last = i;
-        }
-        i += 1;
+        let at = i;
+        let k = kinds[at];
+        let q = m.state;
+        roles::leave(
+            kinds,
+            at,
+            last,
+            roles::role(marks, stack, m, k),
+            roles::renamed(q, k),
+        );
+        m = moved(next, opened, stack, m, k);
+        last = at;
+        i = gaps::next(kinds, at + 1);
     }
     let q = m.state;
     let h = m.height;
