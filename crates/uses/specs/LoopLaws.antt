@@ -132,7 +132,7 @@ module _ (x roles t l₀ k₀ m₀ : List ℕ) where
           (stops-at book (drop (i + 1) x) (drop (i + 1) roles)))
           (sym e)
 
-      -- what the code's turn says
+      -- what is passed at a place, as the code says it
       module _ (l' k' : List ℕ) (p : Passed)
           (e : (o : List ℕ) → passed-in x l' k' p o
           ≡ chosen (eqb (getD roles i 0) 0) (some (use-in x l k c o)) (use-at book (getD roles i 0) (drop i x) (use-in x l k c o)))
