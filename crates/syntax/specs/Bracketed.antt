@@ -6,7 +6,7 @@ use Rattle.program.specs.Tree.{Op}
 use Rattle.syntax.specs.Syntax.{Exp, Exp.binary, Exp.brackets, Exp.negation, Exp.constructor, Exp.variable, Exp.literal, Exp.null, Exp.this, Program}
 use Rattle.syntax.specs.Bracketing.{loosest, comparisons, StandsProgram, level}
 
--- all operators are of one level: directly in brackets each may stand bare, as every level may; but none beside another, and none that stands in no brackets
+-- all operators are of one level: directly in brackets each may stand bare, as every level may; but none beside another, and none in a whole expression
 abbrev pub one-level : Op → ℕ
 one-level o = loosest
 

@@ -26,8 +26,8 @@ tightest = 5
 
 -- By any levels --------------------------------------------------------------------------------------
 
--- the level of each operator; the loosest level that may stand bare left of it, and in no other expression
-module _ (of left-of : Op → ℕ) (free : ℕ) where
+-- the level of each operator; the loosest level that may stand bare left of it; and in a whole expression: an argument, a condition, what is assigned
+module _ (of left-of : Op → ℕ) (whole : ℕ) where
   -- an expression in which no operator stands bare that is looser than l
   abbrev mutual
     pub Stands : ℕ → Exp → Type 0
@@ -42,13 +42,13 @@ module _ (of left-of : Op → ℕ) (free : ℕ) where
 
     pub StandsExps : Exps → Type 0
     StandsExps no-exps = Unit {0}
-    StandsExps (exps e es) = (Stands free e) × (StandsExps es)
+    StandsExps (exps e es) = (Stands whole e) × (StandsExps es)
 
   abbrev mutual
     pub StandsStat : Stat → Type 0
-    StandsStat (if-then e b) = (Stands free e) × (StandsStats b)
-    StandsStat (assignment t x e) = Stands free e
-    StandsStat (update v e) = Stands free e
+    StandsStat (if-then e b) = (Stands whole e) × (StandsStats b)
+    StandsStat (assignment t x e) = Stands whole e
+    StandsStat (update v e) = Stands whole e
     StandsStat (construct x es) = StandsExps es
 
     pub StandsStats : Stats → Type 0
@@ -91,7 +91,7 @@ level op-rem = 4
 unfoldable pub left : Op → ℕ
 left o = elim (eqb (level o) comparisons) [ true ↦ suc (level o) | false ↦ level o ]
 
--- in no other expression every operator may stand bare
+-- in a whole expression every operator may stand bare
 abbrev pub Fits : ℕ → Exp → Type 0
 Fits = Stands level left loosest
 
