@@ -12,6 +12,7 @@ use Rattle.types.specs.Types.{struct-code}
 use Rattle.syntax.specs.Syntax.{Id}
 use Rattle.derive.specs.Roles.{Naming, Naming.new-struct, Naming.new-par, Naming.new-step, Naming.new-local, Naming.first-read, Naming.first-written}
 use Rattle.derive.specs.Roles.{Naming.later-variable, Naming.made, Naming.made-statement, Naming.called, Naming.called-struct, Naming.called-step}
+use Rattle.derive.specs.Roles.{naming-number}
 use Rattle.meaning.specs.Meant.{provided}
 use Rattle.resolve.specs.Named.{sought}
 use Rattle.resolve.specs.Using.{Book, Use, chosen, own-row, leave, use-listed, use-par, use-local, use-made, use-first, use-behind, use-new, use-name}
@@ -114,21 +115,6 @@ same-seen b y x l k o c called-struct = refl
 same-seen b y x l k o c called-step = refl
 
 -- The roles of names by their bytes ----------------------------------------------------------------
-
--- by its place among the roles of names
-unfoldable naming-number : Naming → ℕ
-naming-number new-struct = 0
-naming-number new-par = 1
-naming-number new-step = 2
-naming-number new-local = 3
-naming-number first-read = 4
-naming-number first-written = 5
-naming-number later-variable = 6
-naming-number made = 7
-naming-number made-statement = 8
-naming-number called = 9
-naming-number called-struct = 10
-naming-number called-step = 11
 
 numbered : (n : ℕ) → n < 12
     → naming-number (getD (new-struct ∷ new-par ∷ new-step ∷ new-local ∷ first-read ∷ first-written ∷ later-variable ∷ made ∷ made-statement ∷ called
