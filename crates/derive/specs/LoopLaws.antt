@@ -14,14 +14,17 @@ use Rattle.lexer.specs.Gaps.{Gap}
 use Rattle.lexer.specs.GapLaws.{gap-over}
 use Rattle.derive.specs.Shape.{Shape, Shape.shape, sample, move, moves, derived}
 use Rattle.derive.specs.RoleMarks.{role, renamed, role-codes, placed}
+use Rattle.derive.specs.Table.{codes}
 use Rattle.derive.specs.Held.{held, Kept, passed, ends}
 use Rattle.derive.specs.HeldLaws.{kept-shape, passed-none, passed-token, loop-start, loop-past, loop-token, loop-end}
+use Rattle.derive.specs.CodeLaws.{move-code}
 use Rattle.derive.specs.Leaving.{amended, left, renames, leaves}
 use Rattle.derive.specs.LeavingLaws.{length-amended, left-all}
 
 -- of the kinds ks, with what stands in their places now, the stack, a state and its height, the place of the last token, and the next place
 pub record Reached (ks now stack₀ stack : List ℕ) (q h last i : ℕ) : Type 0 where
   pub inner : i ≤ length ks
+  pub code : q < codes
   pub low : h ≤ i
   pub before : last ≤ i
   pub fits : length ks ≤ length stack
@@ -65,6 +68,7 @@ unfolding passed kinds-in moves
 reached-start ks stack l =
     record {
       inner = omega arith;
+      code = omega arith;
       low = omega arith;
       before = omega arith;
       fits = l;
@@ -94,6 +98,7 @@ module _ {ks now stack₀ stack : List ℕ} {q h last i : ℕ} (r : Reached ks n
     reached-past e =
         record {
           inner = omega arith;
+          code = r .code;
           low = omega (arith, r .low);
           before = omega (arith, r .before);
           fits = r .fits;
@@ -115,6 +120,7 @@ module _ {ks now stack₀ stack : List ℕ} {q h last i : ℕ} (r : Reached ks n
         let passed-on : passed ks (i + 1) ≡ move (passed ks i) (sample (getD now i 0)) = rw at-kind (passed-token ks i l (λ z. n (at-kind ∙ z))) in
         record {
           inner = omega arith;
+          code = move-code _ _ k;
           low = omega (arith, r .low);
           before = omega arith;
           fits = omega (arith, r .fits);

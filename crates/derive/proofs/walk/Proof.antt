@@ -20,8 +20,11 @@ abbrev μ-loop : tie.MeasureT-loop
 abbrev start : tie.At-loop Inv-loop μ-loop → tie.Start Inv-loop μ-loop
 start c = let at-marks = c .before .before .before .before in at-marks .before .before .before .before
 
-abbrev at-test : tie.After-role Inv-loop μ-loop → tie.In-loop Inv-loop μ-loop
-at-test c = c .before .before .before .before
+abbrev at-test : tie.After-entry Inv-loop μ-loop → tie.In-loop Inv-loop μ-loop
+at-test c = c .before .before
+
+abbrev at-entry : tie.After-role Inv-loop μ-loop → tie.After-entry Inv-loop μ-loop
+at-entry c = c .before .before .before
 
 abbrev at-leave : tie.After-moved Inv-loop μ-loop → tie.After-leave Inv-loop μ-loop
 at-leave c = c .before .before .before .before
@@ -38,45 +41,52 @@ loop-holds c =
 slice-read-k : tie.Need-slice-read-k Inv-loop μ-loop
 slice-read-k c = omega (arith, c .before .loop-test .taken)
 
+entry-requires : tie.Need-entry-requires Inv-loop μ-loop
+entry-requires c κs = c .before .before .loop .inv .0 .code
+
 role-requires : tie.Need-role-requires Inv-loop μ-loop
 role-requires c κs =
-    let at-loop = c .before .before .before .before in
+    let at-e = c .before .before in
+    let at-loop = at-test at-e .before in
     let r = at-loop .loop .inv .0 in
-    (start at-loop .pre .2, omega (arith, r .low, r .inner, r .fits))
+    let e = at-e .entry .ensures in
+    (start at-loop .pre .2, omega (arith, r .low, r .inner, r .fits), e .0, e .2)
 
 leave-requires : tie.Need-leave-requires Inv-loop μ-loop
 leave-requires c κs =
-    let t = at-test (c .before) in
+    let t = at-test (at-entry (c .before)) in
     (omega (arith, t .loop-test .taken), omega (arith, t .before .loop .inv .0 .before, t .loop-test .taken))
 
 moved-requires : tie.Need-moved-requires Inv-loop μ-loop
 moved-requires c κs =
     let at-renamed = c .before .before .before .before in
-    let t = at-test (at-renamed .before) in
+    let at-e = at-entry (at-renamed .before) in
+    let t = at-test at-e in
     let r = t .before .loop .inv .0 in
     let s = start (t .before) in
-    (s .pre .0, s .pre .1, omega (arith, r .low, r .fits, r .kept, t .loop-test .taken))
+    let e = at-e .entry .ensures in
+    ((s .pre .0, s .pre .1, omega (arith, r .low, r .fits, r .kept, t .loop-test .taken)), (e .0, e .1))
 
 add-next : tie.Need-add-next Inv-loop μ-loop
 add-next c =
-    let t = at-test (at-leave (at-moved c) .before .before) in
+    let t = at-test (at-entry (at-leave (at-moved c) .before .before)) in
     omega (arith, t .loop-test .taken, t .before .loop .inv .0 .kept, start (t .before) .good .1 .1 .1 .0 .0)
 
 next-requires-2 : tie.Need-next-requires-2 Inv-loop μ-loop
 next-requires-2 c κs =
     let l = at-leave (at-moved c) in
-    omega (arith, at-test (l .before .before) .loop-test .taken, ap length (l .leave .ensures) ∙ length-left _ _ _ _ _)
+    omega (arith, at-test (at-entry (l .before .before)) .loop-test .taken, ap length (l .leave .ensures) ∙ length-left _ _ _ _ _)
 
 loop-less : tie.Need-loop-less Inv-loop μ-loop
 loop-less c =
-    let t = at-test (at-leave (at-moved (c .before)) .before .before) in
+    let t = at-test (at-entry (at-leave (at-moved (c .before)) .before .before)) in
     omega (arith, t .loop-test .taken, t .before .loop .inv .0 .kept, c .next2 .ensures .0 .behind)
 
 loop-again : tie.Need-loop-again Inv-loop μ-loop
 loop-again c =
     let m = at-moved (c .before) in
     let l = at-leave m in
-    let t = at-test (l .before .before) in
+    let t = at-test (at-entry (l .before .before)) in
     let inv = t .before .loop .inv in
     let less : t .before .loop .i < length (start (t .before) .args .kinds .now) = omega (arith, t .loop-test .taken, inv .0 .kept) in
     let on =
@@ -99,5 +109,5 @@ returns c =
 pub walk-spec : {M : Type 1} → statement M
 walk-spec =
     tie.close
-    (tie.spec Inv-loop μ-loop (λ c κs. search needs) loop-holds slice-read-k role-requires (λ c κs. search needs) leave-requires moved-requires add-next
+    (tie.spec Inv-loop μ-loop (λ c κs. search needs) loop-holds slice-read-k entry-requires role-requires (λ c κs. search needs) leave-requires moved-requires add-next
     next-requires-2 loop-less loop-again (λ c κs. search needs) same-length same-length-2 returns)
