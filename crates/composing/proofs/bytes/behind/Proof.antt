@@ -14,8 +14,8 @@ returns : tie.Need-returns
 unfolding behinds
 returns c =
     let x = c .before .before in
-    let made = x .numbered .ensures in
-    (λ w. picked kept (behinds _) _ (x .before .before .match .keys1) (ap kept (made .0 w)), near-within 4 0 1 (made .1 .1) (omega arith) (omega arith) (omega arith))
+    let e = x .numbered .ensures in
+    (λ w. picked kept (behinds _) _ (x .before .before .match .keys1) (ap kept (e .0 w)), near-within 4 0 1 (e .1 .1) (omega arith) (omega arith) (omega arith))
 
 returns-2 : tie.Need-returns-2
 unfolding behinds
@@ -42,22 +42,22 @@ returns-4 : tie.Need-returns-4
 unfolding behinds
 returns-4 c =
     let x = c .before .before in
-    let made = x .worded .ensures in
-    (λ w. picked kept (behinds _) _ (x .before .before .match .keys4) (ap kept (made .0 w _)), near-within 4 0 1 (made .1) (omega arith) (omega arith) (omega arith))
+    let e = x .worded .ensures in
+    (λ w. picked kept (behinds _) _ (x .before .before .match .keys4) (ap kept (e .0 w _)), near-within 4 0 1 (e .1) (omega arith) (omega arith) (omega arith))
 
 returns-5 : tie.Need-returns-5
 unfolding behinds
 returns-5 c =
     let x = c .before .before in
-    let made = x .wrote .ensures in
-    (λ w. picked kept (behinds _) _ (x .before .before .match .keys5) (ap kept (made .0 w _)), near-within 4 0 1 (made .1 .1) (omega arith) (omega arith) (omega arith))
+    let e = x .wrote .ensures in
+    (λ w. picked kept (behinds _) _ (x .before .before .match .keys5) (ap kept (e .0 w _)), near-within 4 0 1 (e .1 .1) (omega arith) (omega arith) (omega arith))
 
 returns-6 : tie.Need-returns-6
 unfolding behinds
 returns-6 c =
     let x = c .before .before in
-    let made = x .wrote2 .ensures in
-    (λ w. picked kept (behinds _) _ (x .before .before .match .keys6) (ap kept (made .0 w _)), near-within 4 0 1 (made .1 .1) (omega arith) (omega arith) (omega arith))
+    let e = x .wrote2 .ensures in
+    (λ w. picked kept (behinds _) _ (x .before .before .match .keys6) (ap kept (e .0 w _)), near-within 4 0 1 (e .1 .1) (omega arith) (omega arith) (omega arith))
 
 returns-7 : tie.Need-returns-7
 unfolding behinds

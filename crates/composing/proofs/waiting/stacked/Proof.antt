@@ -26,22 +26,22 @@ returns-3 : tie.Need-returns-3
 unfolding stackings
 returns-3 c =
     let x = c .before .before in
-    let made = x .opened .ensures in
-    (λ n. picked kept (stackings _) _ (x .before .before .match .keys3) (ap kept (made .0 _ n)), near-within 1 1 0 (made .1 .1) (omega arith) (omega arith) (omega arith))
+    let e = x .opened .ensures in
+    (λ n. picked kept (stackings _) _ (x .before .before .match .keys3) (ap kept (e .0 _ n)), near-within 1 1 0 (e .1 .1) (omega arith) (omega arith) (omega arith))
 
 returns-4 : tie.Need-returns-4
 unfolding stackings
 returns-4 c =
     let x = c .before .before in
-    let made = x .counted .ensures in
-    (λ n. picked kept (stackings _) _ (x .before .before .before .match .keys4) (ap kept (made .0 n)), near-within 1 1 0 (made .1 .1) (omega arith) (omega arith) (omega arith))
+    let e = x .counted .ensures in
+    (λ n. picked kept (stackings _) _ (x .before .before .before .match .keys4) (ap kept (e .0 n)), near-within 1 1 0 (e .1 .1) (omega arith) (omega arith) (omega arith))
 
 returns-5 : tie.Need-returns-5
 unfolding stackings
 returns-5 c =
     let x = c .before .before in
-    let made = x .opened2 .ensures in
-    (λ n. picked kept (stackings _) _ (x .before .before .match .keys5) (ap kept (made .0 _ n)), near-within 1 1 0 (made .1 .1) (omega arith) (omega arith) (omega arith))
+    let e = x .opened2 .ensures in
+    (λ n. picked kept (stackings _) _ (x .before .before .match .keys5) (ap kept (e .0 _ n)), near-within 1 1 0 (e .1 .1) (omega arith) (omega arith) (omega arith))
 
 returns-6 : tie.Need-returns-6
 unfolding stackings
