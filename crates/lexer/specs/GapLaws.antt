@@ -7,8 +7,16 @@ use mathlib.Core.Bool.{Bool, true, false}
 use mathlib.Core.List.{List}
 use lib.ListN.{length, getD, take, replicate}
 use lib.Dec.{leb}
+use lib.Bits.{bitAnd, bitOr, or-add-and, and-le-l, and-le-r}
 use borrow.Author.Tests.{leb-true, leb-false}
 use Rattle.lexer.specs.Gaps.{Gap}
+
+-- what is 0 together is 0
+pub or-none : (a b : ℕ) → bitOr a b ≡ 0 → (a ≡ 0) × (b ≡ 0)
+or-none a b e = go (bitOr a b) (bitAnd a b) (or-add-and a b) (and-le-l a b) (and-le-r a b) e
+  where
+    go : (o n : ℕ) → o + n ≡ a + b → n ≤ a → n ≤ b → o ≡ 0 → (a ≡ 0) × (b ≡ 0)
+    go o n s l m e = (omega arith, omega arith)
 
 zero-fresh : (n m p : ℕ) → getD {A = ℕ} (take n (replicate m 0)) p 0 ≡ 0
 zero-fresh zero m p = refl
@@ -42,6 +50,21 @@ module _ {kinds : List ℕ} where
 
     pub gap-join : Gap kinds i k
     gap-join = record { behind = omega (arith, g .behind, h .behind); inner = h .inner; zeros = zero-at }
+
+  -- one place more; four places by the kinds of all, and eight
+  gap-on : {i j k : ℕ} → Gap kinds i j → j < length kinds → getD kinds j 0 ≡ 0 → j + 1 ≡ k → Gap kinds i k
+  gap-on g h z e = rw e at (gap-join g (gap-one h z))
+
+  pub gap-four : {i : ℕ} → i + 4 ≤ length kinds
+      → bitOr (bitOr (bitOr (getD kinds i 0) (getD kinds (i + 1) 0)) (getD kinds (i + 2) 0)) (getD kinds (i + 3) 0) ≡ 0 → Gap kinds i (i + 4)
+  gap-four {i} h e =
+      let (x, d) = or-none _ (getD kinds (i + 3) 0) e in let (y, c) = or-none _ (getD kinds (i + 2) 0) x in
+      let (a, b) = or-none (getD kinds i 0) (getD kinds (i + 1) 0) y in
+      let two : Gap kinds i (i + 2) = gap-on (gap-one (omega arith) a) (omega arith) b (omega arith) in
+      gap-on {j = i + 3} (gap-on two (omega arith) c (omega arith)) (omega arith) d (omega arith)
+
+  pub gap-eight : {i : ℕ} → Gap kinds i (i + 4) → Gap kinds (i + 4) (i + 4 + 4) → Gap kinds i (i + 8)
+  gap-eight {i} g h = let w : i + 4 + 4 ≡ i + 8 = omega arith in rw w at (gap-join g h)
 
   -- one place more in front
   pub gap-front : {i j : ℕ} → 0 < i → getD kinds (i - 1) 0 ≡ 0 → Gap kinds i j → Gap kinds (i - 1) j

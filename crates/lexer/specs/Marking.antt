@@ -4,7 +4,7 @@ use mathlib.Core.Bool.{Bool, true, false, _&&_, _||_}
 use mathlib.Core.List.{List, [], _∷_}
 use mathlib.Core.Option.{Option, none, some}
 use lib.Dec.{eqb}
-use Rattle.tokens.specs.Tokens.{Token, digit}
+use Rattle.tokens.specs.Tokens.{Token, digit, name-byte}
 use Rattle.tokens.specs.Scanning.{Front, Front.token, Front.gap, Front.nothing, front, lex}
 use Rattle.lexer.specs.Kinds.{kind}
 use Rattle.lexer.specs.declared.Spot.{Spot}
@@ -50,6 +50,11 @@ kinds-in (k ∷ ks) = elim (eqb k 0) [ true ↦ kinds-in ks | false ↦ k ∷ ki
 -- two bytes where d follows, else one of its own, if there is one
 unfoldable pub followed : ℕ → ℕ → ℕ → ℕ → Spot
 followed c d two one = elim (eqb c d) [ true ↦ Marked two 1 | false ↦ elim (eqb one 0) [ true ↦ Stray | false ↦ Marked one 0 ] ]
+
+-- what a run goes on with: a name's, or else that of a number
+abbrev pub run-byte : Bool → ℕ → Bool
+run-byte true = name-byte
+run-byte false = digit
 
 -- a sign with a digit behind it
 abbrev pub signs-digit : ℕ → ℕ → Bool

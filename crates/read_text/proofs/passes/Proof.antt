@@ -40,8 +40,8 @@ meant-requires c κs =
     let at-e = at-else-2 c in let k = at-e .before in let d = at-derived k .derived in let e = at-else k in let m = at-mark (e .before) in
     let s = entry m in let args = s .args in let r = m .mark in (
       (d .kept .0 ∙ r .kept .1 .0 ∙ s .pre .0 .0, s .pre .0 .1, omega (arith, s .pre .0 .0, s .pre .0 .2, r .kept .1 .0, d .kept .0, d .kept .1 .0)),
-      roled-there (args .text .now) (args .kinds .now) _ (s .pre .0 .0) (r .result) (r .ensures .0) (r .ensures .1) (args .out .now) (e .if1 .left) _ (d .result)
-          (d .ensures .0) (d .ensures .1) (at-e .if2 .left),
+      roled-there (args .text .now) (args .kinds .now) _ (s .pre .0 .0) (r .result) (r .ensures .0) (r .ensures .1) (args .out .now) (e .if1 .left) _
+          (d .result) (d .ensures .0) (d .ensures .1) (at-e .if2 .left),
     )
 
 returns-3 : tie.Need-returns-3

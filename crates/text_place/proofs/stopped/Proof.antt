@@ -44,8 +44,8 @@ unnamed-requires c κs =
         s .pre .0 .1,
         omega (arith, s .pre .0 .2, r .kept .1 .0, at-s .stuck .kept .1 .0, d .kept .0, d .kept .1 .0),
       ),
-      fronted-there (args .text .now) (args .kinds .now) _ (s .pre .0 .1) (s .pre .0 .0) (r .result) (r .ensures .0) (r .ensures .1) (e .if1 .left) _ (d .result)
-          (d .ensures .0) (d .ensures .1) (at-e .if2 .left),
+      fronted-there (args .text .now) (args .kinds .now) _ (s .pre .0 .1) (s .pre .0 .0) (r .result) (r .ensures .0) (r .ensures .1) (e .if1 .left) _
+          (d .result) (d .ensures .0) (d .ensures .1) (at-e .if2 .left),
     )
 
 returns-3 : tie.Need-returns-3

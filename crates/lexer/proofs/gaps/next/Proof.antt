@@ -1,36 +1,19 @@
--- `gaps::next` meets its contract. The loop's invariant: no token began so far. The measure is what is left of the kinds.
-use Prim.Native.Nat.{_-_}
-use native.Mathlib.Omega.{arith}
-use lib.ListN.{length}
+-- `gaps::next` meets its contract: a few places one by one, then eights, then the rest.
+use Rattle.lexer.specs.GapLaws.{gap-join}
 use borrow.Author.Needs.{needs}
-use Rattle.lexer.specs.Gaps.{Gap}
-use Rattle.lexer.specs.GapLaws.{gap-none, gap-one, gap-join}
 use Rattle.lexer.proofs.gaps.next.Statement.{statement}
 use Rattle.lexer.proofs.gaps.next.Tie as tie
 
-abbrev Inv-loop : tie.InvT-loop
-Inv-loop kinds from i₀ i = Gap kinds from i
+returns : tie.Need-returns
+returns c = (c .within .ensures .0 .0, λ h. c .within .ensures .1 h h)
 
-abbrev μ-loop : tie.MeasureT-loop
-μ-loop kinds from i₀ i = length kinds - i
-
-loop-holds : tie.Need-loop-holds Inv-loop μ-loop
-loop-holds c = gap-none (omega arith)
-
-returns : tie.Need-returns Inv-loop μ-loop
-returns c = (c .before .before .before .loop .inv, λ h. c .if1 .taken)
-
-add-i : tie.Need-add-i Inv-loop μ-loop
-add-i c = omega (arith, c .before .before .loop-test .taken)
-
-loop-less : tie.Need-loop-less Inv-loop μ-loop
-loop-less c = omega (arith, c .before .before .loop-test .taken)
-
-loop-again : tie.Need-loop-again Inv-loop μ-loop
-loop-again c = gap-join (c .before .before .before .loop .inv) (gap-one (c .before .before .loop-test .taken) (c .if1 .left))
-
-returns-2 : tie.Need-returns-2 Inv-loop μ-loop
-returns-2 c = (c .before .loop .inv, λ h. absurd (omega (arith, h, c .loop-test .left)))
+returns-3 : tie.Need-returns-3
+returns-3 c =
+    let near = c .before .before .before .before in
+    (gap-join (near .within2 .ensures .0 .0) (gap-join (c .before .eights .ensures) (c .within3 .ensures .0 .0)), λ h. c .within3 .ensures .1 h h)
 
 pub next-spec : {M : Type 1} → statement M
-next-spec = tie.close (tie.spec Inv-loop μ-loop loop-holds (λ c. search needs) returns add-i loop-less loop-again returns-2)
+next-spec =
+    tie.close
+    (tie.spec (λ c. search needs) (λ c κs. search needs) returns (λ c. search needs) (λ c κs. search needs) (λ c. search needs) (λ c. search needs)
+    (λ c κs. search needs) (λ c κs. search needs) returns-3)

@@ -1,38 +1,16 @@
--- `gaps::start` meets its contract. The loop's invariant: no token began so far. The measure is the place.
-use native.Mathlib.Omega.{arith}
-use Rattle.lexer.specs.Gaps.{Gap}
-use Rattle.lexer.specs.GapLaws.{gap-none, gap-front}
+-- `gaps::start` meets its contract: a few places one by one, then eights, then the rest.
+use Rattle.lexer.specs.GapLaws.{gap-join}
+use borrow.Author.Needs.{needs}
 use Rattle.lexer.proofs.gaps.start.Statement.{statement}
 use Rattle.lexer.proofs.gaps.start.Tie as tie
 
-abbrev Inv-loop : tie.InvT-loop
-Inv-loop kinds end i₀ i = Gap kinds i end
-
-abbrev μ-loop : tie.MeasureT-loop
-μ-loop kinds end i₀ i = i
-
-loop-holds : tie.Need-loop-holds Inv-loop μ-loop
-loop-holds c = gap-none (omega arith)
-
-sub-at : tie.Need-sub-at Inv-loop μ-loop
-sub-at c = omega (arith, c .loop-test .taken)
-
-shared-slice-read-if1 : tie.Need-shared-slice-read-if1 Inv-loop μ-loop
-shared-slice-read-if1 c =
-    let at-loop = c .before .before in
-    omega (arith, c .before .loop-test .taken, at-loop .loop .inv .behind, at-loop .loop .inv .inner)
-
-returns : tie.Need-returns Inv-loop μ-loop
-returns c = c .before .before .before .loop .inv
-
-loop-less : tie.Need-loop-less Inv-loop μ-loop
-loop-less c = omega (arith, c .before .before .loop-test .taken)
-
-loop-again : tie.Need-loop-again Inv-loop μ-loop
-loop-again c = gap-front (c .before .before .loop-test .taken) (c .if1 .left) (c .before .before .before .loop .inv)
-
-returns-2 : tie.Need-returns-2 Inv-loop μ-loop
-returns-2 c = c .before .loop .inv
+returns-3 : tie.Need-returns-3
+returns-3 c =
+    let near = c .before .before .before in
+    gap-join (c .back-within3 .ensures .0) (gap-join (c .before .eights-back .ensures) (near .back-within2 .ensures .0))
 
 pub start-spec : {M : Type 1} → statement M
-start-spec = tie.close (tie.spec Inv-loop μ-loop loop-holds sub-at shared-slice-read-if1 returns loop-less loop-again returns-2)
+start-spec =
+    tie.close
+    (tie.spec (λ c κs. search needs) (λ c. search needs) (λ c. search needs) (λ c κs. search needs) (λ c. search needs) (λ c κs. search needs)
+    (λ c κs. search needs) returns-3)
