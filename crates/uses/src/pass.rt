@@ -7,12 +7,30 @@ use crate::passing;
 use lexer::gaps;
 ghost use mathlib.Core.Path.{_≡_};
 ghost use Prim.Native.Nat.{ℕ, _+_, _≤_, _<_};
+ghost use mathlib.Core.Bool.{true};
 ghost use mathlib.Core.List.{List};
 ghost use lib.ListN.{length, drop};
 ghost use Rattle.resolve.specs.Using.{use-start};
 ghost use Rattle.resolve.specs.UsingAt.{use-at, uses-at};
 ghost use Rattle.uses.specs.Lent.{book-in, Booked, use-in, Roomy, passed-in, Next, numbered-in, used-out, Counted};
+ghost use Rattle.uses.specs.Seeing.{Quiet};
 ghost use Rattle.uses.specs.Stopping.{stops-at, stop-in};
+
+// Whether a token by its role leaves the pass as it is: a word, a sign but for the semicolon, an operator; the most of the brackets.
+fn quiet(role: u8) -> bool
+    ensures { λ r. ⌜ (r ≡ true → Quiet role) ⌝ }
+{
+    if role < 37 {
+        return role != 19;
+    }
+    if role < 63 {
+        return false;
+    }
+    if role < 66 {
+        return true;
+    }
+    role > 67 && role < 75
+}
 
 // One place where a token begins.
 fn use_at(
@@ -31,11 +49,17 @@ fn use_at(
     ensures { λ r. ⌜ Next (now (tables .entry)) (now (locals .exit)) c r ⌝ }
     ensures { λ _. ⌜ (length (now (stack .exit)) ≡ length (now (stack .entry))) × (length (now (locals .exit)) ≡ length (now (locals .entry))) ⌝ }
 {
+    if quiet(role) {
+        return Passed::On(c);
+    }
     if role < 39 {
         return parts::kind_role(text, at, role, c);
     }
+    if role < 43 {
+        return passing::declared_name(text, tables, locals, at, role, c);
+    }
     if role < 51 {
-        return passing::name_role(text, tables, locals, stack, at, role, c);
+        return passing::used_name(text, tables, locals, stack, at, role, c);
     }
     if role < 63 {
         return passing::type_role(text, tables, at, role, c);

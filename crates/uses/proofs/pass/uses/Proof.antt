@@ -5,11 +5,11 @@ use mathlib.Core.Path.{_∙_}
 use native.Mathlib.Omega.{arith}
 use lib.ListN.{length}
 use borrow.Author.Needs.{needs}
-use Rattle.uses.specs.Lent.{Counted}
 use Rattle.lexer.specs.Gaps.{Token}
+use Rattle.uses.specs.Lent.{Counted}
 use Rattle.uses.specs.Stopping.{stop-in}
-use Rattle.uses.specs.LoopLaws.{Reached, reached-start, reached-stop, reached-on, reached-left, reached-end, stopped-here, stopped-end}
-use Rattle.uses.specs.GapLaws.{reached-gap, at-token}
+use Rattle.uses.specs.LoopLaws.{Reached, reached-start, reached-end, stopped-end}
+use Rattle.uses.specs.GapLaws.{reached-gap, token-here, token-stop, token-on, token-left}
 use Rattle.uses.proofs.pass.uses.Statement.{statement}
 use Rattle.uses.proofs.pass.uses.Tie as tie
 
@@ -20,15 +20,26 @@ Inv-loop text roles tables locals₀ stack₀ numbers₀ c₀ n₀ i₀ locals s
 abbrev μ-loop : tie.MeasureT-loop
 μ-loop text roles tables locals₀ stack₀ numbers₀ c₀ n₀ i₀ locals stack numbers c n i = length roles - i
 
+-- the places that proofs look back to
+abbrev start : tie.After-next Inv-loop μ-loop → tie.Start Inv-loop μ-loop
+start c =
+    let at-4 = c .before .before .before .before in
+    at-4 .before .before .before
+
+abbrev inside : tie.After-use-at Inv-loop μ-loop → tie.In-loop Inv-loop μ-loop
+inside c =
+    let at-4 = c .before .before .before .before in
+    at-4 .before
+
+abbrev at-token : tie.After-slice-known5 Inv-loop μ-loop → tie.After-use-at Inv-loop μ-loop
+at-token c = c .before .before .before .before
+
 loop-holds : tie.Need-loop-holds Inv-loop μ-loop
 loop-holds c =
-    let at-4 = c .before .before .before .before in
-    let at-7 = at-4 .before .before .before in
-    let a = at-7 .args in
-    let first = reached-start (a .text .now) (a .roles .now) (a .tables .now) (a .locals .now) (a .stack .now) (a .numbers .now) (at-7 .pre .0 .1) in
-    let there = reached-gap (a .text .now) (a .roles .now) (a .tables .now) (a .locals .now) (a .stack .now) (a .numbers .now) (at-7 .pre .1 .0)
-    (c .next .ensures .0) first in
-    (there, c .next .ensures .1)
+    let s = start c in
+    let a = s .args in
+    let first = reached-start (a .text .now) (a .roles .now) (a .tables .now) (a .locals .now) (a .stack .now) (a .numbers .now) (s .pre .0 .1) in
+    (reached-gap (s .pre .1 .0) (c .next .ensures .0) first, c .next .ensures .1)
 
 add-next : tie.Need-add-next Inv-loop μ-loop
 add-next c = omega (arith, c .loop-test .taken)
@@ -43,130 +54,94 @@ shared-slice-read-use-at c =
 
 use-at-requires : tie.Need-use-at-requires Inv-loop μ-loop
 use-at-requires c κs =
-    let at-4 = c .before .before .before .before in
-    let at-8 = at-4 .before .before .before .before in
-    let pre = at-8 .before .before .before .before .before .pre in
-    let inv = at-4 .before .loop .inv .0 in (
+    let w = c .before .before .before .before in
+    let pre = start (w .before .before) .pre in
+    let inv = w .before .loop .inv .0 in (
       pre .0 .0,
       inv .room,
-      omega (arith, inv .low, inv .stack, at-4 .loop-test .taken, pre .1 .1),
-      omega (arith, at-4 .loop-test .taken, pre .1 .0),
+      omega (arith, inv .low, inv .stack, w .loop-test .taken, pre .1 .1),
+      omega (arith, w .loop-test .taken, pre .1 .0),
     )
 
 same-length : tie.Need-same-length Inv-loop μ-loop
 same-length c =
-    let at-4 = c .before .before .before .before in
-    let at-8 = at-4 .before .before .before .before in
-    at-4 .before .before .use-at .ensures .1 .1 .1 ∙ at-8 .before .before .before .before .loop .inv .0 .locals
+    let u = at-token (c .before .before) in
+    u .use-at .ensures .1 .1 .1 ∙ inside u .before .loop .inv .0 .locals
 
 same-length-2 : tie.Need-same-length-2 Inv-loop μ-loop
 same-length-2 c =
-    let at-4 = c .before .before .before .before in
-    let at-8 = at-4 .before .before .before .before in
-    at-4 .before .before .use-at .ensures .1 .1 .0 ∙ at-8 .before .before .before .before .loop .inv .0 .stack
+    let u = at-token (c .before .before) in
+    u .use-at .ensures .1 .1 .0 ∙ inside u .before .loop .inv .0 .stack
 
 same-length-3 : tie.Need-same-length-3 Inv-loop μ-loop
-same-length-3 c =
-    let at-4 = c .before .before .before .before in
-    let at-8 = at-4 .before .before .before .before in
-    at-8 .before .before .before .before .loop .inv .0 .numbers
+same-length-3 c = inside (at-token (c .before .before)) .before .loop .inv .0 .numbers
 
 returns : tie.Need-returns Inv-loop μ-loop
 unfolding Counted stop-in
 returns c =
-    let at-4 = c .before .before .before .before in
-    let at-8 = at-4 .before .before .before .before in
-    let at-12 = at-8 .before .before .before .before in
-    let at-16 = at-12 .before .before .before .before in
-    let at-20 = at-16 .before .before .before .before in
-    let a = at-20 .args in
-    let same = at-20 .pre .1 .0 in
-    let inv = at-12 .loop .inv .0 in
-    let inside = at-8 .before .before .before .loop-test .taken in
-    let used = at-4 .before .before .use-at .ensures in
-    let told = at-token (a .text .now) (a .roles .now) (a .tables .now) (a .locals .now) (a .stack .now) (a .numbers .now) same inv
-    _ _ _ (at-12 .loop .inv .1 inside) (used .0) in (
-      reached-stop (a .text .now) (a .roles .now) (a .tables .now) (a .locals .now) (a .stack .now) (a .numbers .now) same inv inside
-          _ _ _ told (used .1 .0) (used .1 .1) _ _ (c .enum-told .given .1),
+    let u = at-token (c .before .before) in
+    let w = inside u in
+    let inv = w .before .loop .inv in
+    let same = start (w .before .before) .pre .1 .0 in
+    let used = u .use-at .ensures in
+    let stop = c .enum-told .given .1 in (
+      token-stop same (inv .0) (inv .1) (w .loop-test .taken) _ _ _ (used .0) (used .1 .0) (used .1 .1) _ _ stop,
       (
         tt,
         (
           (
-            stopped-here (a .text .now) (a .roles .now) (a .tables .now) (a .locals .now) (a .stack .now) (a .numbers .now) same inv inside
-                _ _ _ told (used .1 .0) (used .1 .1) (c .enum-told .given .1),
-            omega (arith, inside),
+            token-here same (inv .0) (inv .1) (w .loop-test .taken) _ _ _ (used .0) (used .1 .0) (used .1 .1) stop,
+            omega (arith, w .loop-test .taken),
           ),
-          (used .1 .1 .0 ∙ inv .stack, used .1 .1 .1 ∙ inv .locals, inv .numbers),
+          (used .1 .1 .0 ∙ inv .0 .stack, used .1 .1 .1 ∙ inv .0 .locals, inv .0 .numbers),
         ),
       ),
     )
 
 loop-less : tie.Need-loop-less Inv-loop μ-loop
 loop-less c =
-    let at-4 = c .before .before .before .before in
-    let at-8 = at-4 .before .before .before .before in
-    omega (arith, at-8 .before .before .before .before .loop-test .taken, at-8 .before .before .before .next2 .ensures .0 .behind)
+    let u = at-token (c .before .before .before) in
+    omega (arith, inside u .loop-test .taken, u .before .before .before .before .next2 .ensures .0 .behind)
 
 loop-again : tie.Need-loop-again Inv-loop μ-loop
 loop-again c =
-    let at-4 = c .before .before .before .before in
-    let at-8 = at-4 .before .before .before .before in
-    let at-12 = at-8 .before .before .before .before in
-    let at-16 = at-12 .before .before .before .before in
-    let at-20 = at-16 .before .before .before .before in
-    let a = at-20 .before .args in
-    let same = at-20 .before .pre .1 .0 in
-    let inv = at-12 .before .loop .inv .0 in
-    let inside = at-12 .loop-test .taken in
-    let used = at-4 .before .before .before .use-at .ensures in
-    let skipped = at-8 .before .before .before .next2 .ensures in
-    let told = at-token (a .text .now) (a .roles .now) (a .tables .now) (a .locals .now) (a .stack .now) (a .numbers .now) same inv
-    _ _ _ (at-12 .before .loop .inv .1 inside) (used .0) in
-    let next = reached-on (a .text .now) (a .roles .now) (a .tables .now) (a .locals .now) (a .stack .now) (a .numbers .now) same inv inside
-    _ _ _ told (used .1 .0) (used .1 .1) (c .before .d .given .1) in
-    (reached-gap (a .text .now) (a .roles .now) (a .tables .now) (a .locals .now) (a .stack .now) (a .numbers .now) same (skipped .0) next, skipped .1)
+    let u = at-token (c .before .before .before) in
+    let w = inside u in
+    let inv = w .before .loop .inv in
+    let used = u .use-at .ensures in
+    let next = u .before .before .before .before .next2 .ensures in (
+      token-on (start (w .before .before) .pre .1 .0) (inv .0) (inv .1) (w .loop-test .taken) _ _ _ (used .0) (used .1 .0) (used .1 .1)
+          (c .before .d .given .1) (next .0),
+      next .1,
+    )
 
 slice-write-numbers : tie.Need-slice-write-numbers Inv-loop μ-loop
 slice-write-numbers c =
-    let at-4 = c .before .before .before .before in
-    let at-8 = at-4 .before .before .before .before in
-    let at-12 = at-8 .before .before .before .before in
-    let at-16 = at-12 .before .before .before .before in
-    let at-20 = at-16 .before .before .before .before in
-    let inv = at-12 .before .loop .inv .0 in
-    omega (arith, inv .few, inv .numbers, at-12 .loop-test .taken, at-20 .before .pre .1 .2)
+    let w = inside (at-token (c .before .before .before)) in
+    let inv = w .before .loop .inv .0 in
+    omega (arith, inv .few, inv .numbers, w .loop-test .taken, start (w .before .before) .pre .1 .2)
 
 add-n : tie.Need-add-n Inv-loop μ-loop
 add-n c =
-    let at-4 = c .before .before .before .before in
-    let at-8 = at-4 .before .before .before .before in
-    let at-12 = at-8 .before .before .before .before in
-    let inv = at-12 .before .loop .inv .0 in omega (arith, inv .few, at-12 .loop-test .taken)
+    let w = inside (at-token (c .before .before .before)) in
+    omega (arith, w .before .loop .inv .0 .few, w .loop-test .taken)
 
 loop-less-2 : tie.Need-loop-less-2 Inv-loop μ-loop
 loop-less-2 c =
-    let at-4 = c .before .before .before .before in
-    let at-8 = at-4 .before .before .before .before in
-    omega (arith, at-8 .before .before .before .before .loop-test .taken, at-8 .before .before .before .next2 .ensures .0 .behind)
+    let u = at-token (c .before .before .before) in
+    omega (arith, inside u .loop-test .taken, u .before .before .before .before .next2 .ensures .0 .behind)
 
 loop-again-2 : tie.Need-loop-again-2 Inv-loop μ-loop
 loop-again-2 c =
-    let at-4 = c .before .before .before .before in
-    let at-8 = at-4 .before .before .before .before in
-    let at-12 = at-8 .before .before .before .before in
-    let at-16 = at-12 .before .before .before .before in
-    let at-20 = at-16 .before .before .before .before in
-    let a = at-20 .before .args in
-    let same = at-20 .before .pre .1 .0 in
-    let inv = at-12 .before .loop .inv .0 in
-    let inside = at-12 .loop-test .taken in
-    let used = at-4 .before .before .before .use-at .ensures in
-    let skipped = at-8 .before .before .before .next2 .ensures in
-    let told = at-token (a .text .now) (a .roles .now) (a .tables .now) (a .locals .now) (a .stack .now) (a .numbers .now) same inv
-    _ _ _ (at-12 .before .loop .inv .1 inside) (used .0) in
-    let next = reached-left (a .text .now) (a .roles .now) (a .tables .now) (a .locals .now) (a .stack .now) (a .numbers .now) same inv inside
-    _ _ _ told (used .1 .0) (used .1 .1) (at-20 .before .pre .1 .2) (c .before .d2 .given .1) in
-    (reached-gap (a .text .now) (a .roles .now) (a .tables .now) (a .locals .now) (a .stack .now) (a .numbers .now) same (skipped .0) next, skipped .1)
+    let u = at-token (c .before .before .before) in
+    let w = inside u in
+    let pre = start (w .before .before) .pre .1 in
+    let inv = w .before .loop .inv in
+    let used = u .use-at .ensures in
+    let next = u .before .before .before .before .next2 .ensures in (
+      token-left (pre .0) (inv .0) (inv .1) (w .loop-test .taken) _ _ _ (used .0) (used .1 .0) (used .1 .1) (c .before .d2 .given .1) (next .0) (pre .2),
+      next .1,
+    )
 
 same-length-4 : tie.Need-same-length-4 Inv-loop μ-loop
 same-length-4 c = c .before .loop .inv .0 .locals
@@ -180,10 +155,10 @@ same-length-6 c = c .before .loop .inv .0 .numbers
 returns-2 : tie.Need-returns-2 Inv-loop μ-loop
 unfolding Counted stop-in
 returns-2 c =
-    let at-4 = c .before .before .before .before in
-    let at-8 = at-4 .before .before .before .before in
-    let a = at-8 .before .args in
-    let inv = c .before .loop .inv .0 in let pre = at-8 .before .pre .1 in (
+    let s = start (c .before .before) in
+    let a = s .args in
+    let inv = c .before .loop .inv .0 in
+    let pre = s .pre .1 in (
       reached-end (a .text .now) (a .roles .now) (a .tables .now) (a .locals .now) (a .stack .now) (a .numbers .now) (pre .0) inv (c .loop-test .left),
       (
         (omega (arith, inv .few, inv .inner, inv .numbers, pre .2), tt),
@@ -200,29 +175,6 @@ returns-2 c =
 pub uses-spec : {M : Type 1} → statement M
 uses-spec =
     tie.close
-    (tie.spec
-    Inv-loop
-    μ-loop
-    (λ c κs. search needs)
-    loop-holds
-    add-next
-    next-requires-2
-    shared-slice-read-use-at
-    use-at-requires
-    (λ c. search needs)
-    same-length
-    same-length-2
-    same-length-3
-    returns
-    (λ c. search needs)
-    loop-less
-    loop-again
-    (λ c. search needs)
-    slice-write-numbers
-    add-n
-    loop-less-2
-    loop-again-2
-    same-length-4
-    same-length-5
-    same-length-6
-    returns-2)
+    (tie.spec Inv-loop μ-loop (λ c κs. search needs) loop-holds add-next next-requires-2 shared-slice-read-use-at use-at-requires (λ c. search needs)
+    same-length same-length-2 same-length-3 returns (λ c. search needs) loop-less loop-again (λ c. search needs) slice-write-numbers add-n loop-less-2
+    loop-again-2 same-length-4 same-length-5 same-length-6 returns-2)
