@@ -93,15 +93,7 @@ begun x = passed (poured 0 x)
 -- what stands behind the form's byte: nothing; a number; that of a later variable, of a first one; a word; true; false
 unfoldable pub behinds : ℕ → List (Writing → Writing)
 unfolding numbered lengthened pathed worded wrote
-behinds v =
-    (λ w. w)
-    ∷ numbered
-    ∷ (λ w. lengthened (numbered w))
-    ∷ (λ w. pathed (numbered w))
-    ∷ worded v
-    ∷ wrote 1
-    ∷ wrote 0
-    ∷ []
+behinds v = (λ w. w) ∷ numbered ∷ (λ w. lengthened (numbered w)) ∷ (λ w. pathed (numbered w)) ∷ worded v ∷ wrote 1 ∷ wrote 0 ∷ []
 
 -- which of them, by a role's byte: 0 and words; signs; operators and other tokens; names and types; parts
 unfoldable pub behind-marks : List ℕ

@@ -39,7 +39,8 @@ row-at [] k c a h i = absurd (omega arith)
 row-at (l ∷ ls) zero c a h i =
     let here = shifted-long l in
     let e : 81 * 0 + c ≡ c = omega arith in
-    ap (λ n. getD (shifted l ++ in-a-row ls) n 0) e ∙ List·getD-append (shifted l) (in-a-row ls) 0 c (omega (arith, here, a .0, i)) ∙ shifted-at l c (omega (arith, a .0, i))
+    ap (λ n. getD (shifted l ++ in-a-row ls) n 0) e
+    ∙ List·getD-append (shifted l) (in-a-row ls) 0 c (omega (arith, here, a .0, i)) ∙ shifted-at l c (omega (arith, a .0, i))
 row-at (l ∷ ls) (suc k) c a h i =
     let here = shifted-long l in
     let e : 81 * suc k + c ≡ length (shifted l) + (81 * k + c) = omega (arith, here, a .0) in
