@@ -178,7 +178,7 @@ fn walk(next: &[u8], opened: &[u8], marks: &[u8], kinds: &mut [u8], stack: &mut 
         height: 0,
     };
     let mut last = 0;
-    let mut i = gaps::next(kinds, 0);
+    let mut i = gaps::first(kinds);
     while i < kinds.len() {
         let at = i;
         let k = kinds[at];

@@ -56,8 +56,8 @@ fn within(kinds: &[u8], from: usize, end: usize) -> usize
     i
 }
 
-// The first place from one on at which a token begins, or the end.
-pub fn next(kinds: &[u8], from: usize) -> usize
+// The first place from one on at which a token begins, or the end: a few places one by one, then by eights.
+fn beyond(kinds: &[u8], from: usize) -> usize
     requires { ⌜ from ≤ length (now kinds) ⌝ }
     ensures { λ r. ⌜ Gap (now (kinds .entry)) from r × Token (now (kinds .entry)) r ⌝ }
 {
@@ -69,6 +69,26 @@ pub fn next(kinds: &[u8], from: usize) -> usize
         return i;
     }
     within(kinds, eights(kinds, i), kinds.len())
+}
+
+// The place of the first token, or the end.
+pub fn first(kinds: &[u8]) -> usize
+    ensures { λ r. ⌜ Gap (now (kinds .entry)) 0 r × Token (now (kinds .entry)) r ⌝ }
+{
+    beyond(kinds, 0)
+}
+
+// The first place from one on at which a token begins, or the end. Signs stand in a row, so the place itself is looked at first.
+pub fn next(kinds: &[u8], from: usize) -> usize
+    requires { ⌜ from ≤ length (now kinds) ⌝ }
+    ensures { λ r. ⌜ Gap (now (kinds .entry)) from r × Token (now (kinds .entry)) r ⌝ }
+{
+    if from < kinds.len() {
+        if kinds[from] == 0 {
+            return beyond(kinds, from);
+        }
+    }
+    from
 }
 
 // Back from a place while no token begins in eight.

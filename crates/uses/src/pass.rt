@@ -97,7 +97,7 @@ pub(crate) fn uses(
         bodies: 0,
     };
     let mut n = 0;
-    let mut i = gaps::next(roles, 0);
+    let mut i = gaps::first(roles);
     while i < roles.len() {
         let at = i;
         i = gaps::next(roles, at + 1);

@@ -29,14 +29,14 @@ at-entry c = c .before .before .before
 abbrev at-leave : tie.After-moved Inv-loop μ-loop → tie.After-leave Inv-loop μ-loop
 at-leave c = c .before .before .before .before
 
-abbrev at-moved : tie.After-next-arg2 Inv-loop μ-loop → tie.After-moved Inv-loop μ-loop
+abbrev at-moved : tie.After-next-arg Inv-loop μ-loop → tie.After-moved Inv-loop μ-loop
 at-moved c = c .before .before .before
 
 loop-holds : tie.Need-loop-holds Inv-loop μ-loop
 loop-holds c =
     let at-known = c .before .before .before .before in
     let s = at-known .before .before .before in
-    (reached-gap (c .next .ensures .0) (reached-start (s .args .kinds .now) (s .args .stack .now) (s .pre .3)), c .next .ensures .1)
+    (reached-gap (c .first .ensures .0) (reached-start (s .args .kinds .now) (s .args .stack .now) (s .pre .3)), c .first .ensures .1)
 
 slice-read-k : tie.Need-slice-read-k Inv-loop μ-loop
 slice-read-k c = omega (arith, c .before .loop-test .taken)
@@ -72,15 +72,15 @@ add-next c =
     let t = at-test (at-entry (at-leave (at-moved c) .before .before)) in
     omega (arith, t .loop-test .taken, t .before .loop .inv .0 .kept, start (t .before) .good .1 .1 .1 .0 .0)
 
-next-requires-2 : tie.Need-next-requires-2 Inv-loop μ-loop
-next-requires-2 c κs =
+next-requires : tie.Need-next-requires Inv-loop μ-loop
+next-requires c κs =
     let l = at-leave (at-moved c) in
     omega (arith, at-test (at-entry (l .before .before)) .loop-test .taken, ap length (l .leave .ensures) ∙ length-left _ _ _ _ _)
 
 loop-less : tie.Need-loop-less Inv-loop μ-loop
 loop-less c =
     let t = at-test (at-entry (at-leave (at-moved (c .before)) .before .before)) in
-    omega (arith, t .loop-test .taken, t .before .loop .inv .0 .kept, c .next2 .ensures .0 .behind)
+    omega (arith, t .loop-test .taken, t .before .loop .inv .0 .kept, c .next .ensures .0 .behind)
 
 loop-again : tie.Need-loop-again Inv-loop μ-loop
 loop-again c =
@@ -92,7 +92,7 @@ loop-again c =
     let on =
     reached-token (inv .0) less (inv .1 (t .loop-test .taken)) (l .before .before .role .ensures) (l .before .renamed .ensures) (l .leave .ensures)
     (m .moved .ensures .0) (m .moved .ensures .1 .0) (m .moved .ensures .1 .1) in
-    (reached-gap (c .next2 .ensures .0) on, c .next2 .ensures .1)
+    (reached-gap (c .next .ensures .0) on, c .next .ensures .1)
 
 same-length : tie.Need-same-length Inv-loop μ-loop
 same-length c = c .before .before .loop .inv .0 .kept
@@ -110,4 +110,4 @@ pub walk-spec : {M : Type 1} → statement M
 walk-spec =
     tie.close
     (tie.spec Inv-loop μ-loop (λ c κs. search needs) loop-holds slice-read-k entry-requires role-requires (λ c κs. search needs) leave-requires moved-requires add-next
-    next-requires-2 loop-less loop-again (λ c κs. search needs) same-length same-length-2 returns)
+    next-requires loop-less loop-again (λ c κs. search needs) same-length same-length-2 returns)

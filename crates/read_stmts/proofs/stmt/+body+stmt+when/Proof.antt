@@ -233,5 +233,5 @@ pub +body+stmt+when-spec : {M : Type 1} → statement M
     (stmt-returns-4 t))
     λ t. when-lts.spec (when-claims t) (when-at t) when.Post (λ c κs. c .before .before .before .pre .1) (λ c. search needs) (λ c. search needs)
     (λ c κs. search needs) (when-returns t)
-    (λ c κs. let p = when-start₂ t c .pre in let ahead = rw (c .before .r .given .1) at (c .before .before .before .expr .ensures .1) in (omega (arith, p), p .1))
+    (λ c κs. let p = when-start₂ t c .pre in let h = rw (c .before .r .given .1) at (c .before .before .before .expr .ensures .1) in (omega (arith, p), p .1))
     (when-branched-requires t) (when-returns-2 t)

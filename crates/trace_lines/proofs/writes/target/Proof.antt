@@ -7,7 +7,7 @@ use Rattle.trace_lines.specs.PartsLaws.{target-other, target-local, targ
 use Rattle.trace_lines.proofs.writes.target.Statement.{statement}
 use Rattle.trace_lines.proofs.writes.target.Tie as tie
 
--- the places that proofs look back to: the first, and the one that the command's word is read at
+-- the place that proofs look back to
 abbrev start : tie.Else1 → tie.Start
 start c = let at-word = c .before .before .before .before in at-word .before .before .before
 
@@ -29,6 +29,11 @@ returns-3 c =
     let at-if2 = at-if3 .before .before .before in
     let at-if1 = at-if2 .before in
     c .nothing3 .ensures ∙ target-null _ _ _ _ (at-if1 .if1 .left) (at-if2 .if2 .left) (at-if3 .if3 .taken)
+
+shared-slice-read-t18 : tie.Need-shared-slice-read-t18
+shared-slice-read-t18 c =
+    let at-if2 = c .before .before .before .before in let at-if1 = at-if2 .before in
+    omega (arith, fit-write (start at-if1 .pre) (at-if1 .if1 .left), fit-rows (start at-if1 .pre))
 
 returns-4 : tie.Need-returns-4
 unfolding target
@@ -58,5 +63,5 @@ target-spec =
     returns-3 (λ c. let at = c .before .before .before .before in omega (arith, fit-write (start at .pre) (at .if1 .left), fit-rows (start at .pre)))
     (λ c. let at = c .before .before .before .before in omega (arith, fit-write (start at .pre) (at .if1 .left), fit-rows (start at .pre)))
     (λ c. let at = c .before .before .before .before in omega (arith, fit-write (start at .pre) (at .if1 .left), fit-rows (start at .pre)))
-    (λ c. let at = c .before .before .before .before in let at-if1 = at .before in omega (arith, fit-write (start at-if1 .pre) (at-if1 .if1 .left), fit-rows (start at-if1 .pre)))
+    shared-slice-read-t18
     returns-4)

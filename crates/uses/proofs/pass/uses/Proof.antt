@@ -21,7 +21,7 @@ abbrev μ-loop : tie.MeasureT-loop
 μ-loop text roles tables locals₀ stack₀ numbers₀ c₀ n₀ i₀ locals stack numbers c n i = length roles - i
 
 -- the places that proofs look back to
-abbrev start : tie.After-next Inv-loop μ-loop → tie.Start Inv-loop μ-loop
+abbrev start : tie.After-first Inv-loop μ-loop → tie.Start Inv-loop μ-loop
 start c =
     let at-4 = c .before .before .before .before in
     at-4 .before .before .before
@@ -39,13 +39,13 @@ loop-holds c =
     let s = start c in
     let a = s .args in
     let first = reached-start (a .text .now) (a .roles .now) (a .tables .now) (a .locals .now) (a .stack .now) (a .numbers .now) (s .pre .0 .1) in
-    (reached-gap (s .pre .1 .0) (c .next .ensures .0) first, c .next .ensures .1)
+    (reached-gap (s .pre .1 .0) (c .first .ensures .0) first, c .first .ensures .1)
 
 add-next : tie.Need-add-next Inv-loop μ-loop
 add-next c = omega (arith, c .loop-test .taken)
 
-next-requires-2 : tie.Need-next-requires-2 Inv-loop μ-loop
-next-requires-2 c κs = omega (arith, c .loop-test .taken)
+next-requires : tie.Need-next-requires Inv-loop μ-loop
+next-requires c κs = omega (arith, c .loop-test .taken)
 
 shared-slice-read-use-at : tie.Need-shared-slice-read-use-at Inv-loop μ-loop
 shared-slice-read-use-at c =
@@ -101,7 +101,7 @@ returns c =
 loop-less : tie.Need-loop-less Inv-loop μ-loop
 loop-less c =
     let u = at-token (c .before .before .before) in
-    omega (arith, inside u .loop-test .taken, u .before .before .before .before .next2 .ensures .0 .behind)
+    omega (arith, inside u .loop-test .taken, u .before .before .before .before .next .ensures .0 .behind)
 
 loop-again : tie.Need-loop-again Inv-loop μ-loop
 loop-again c =
@@ -109,7 +109,7 @@ loop-again c =
     let w = inside u in
     let inv = w .before .loop .inv in
     let used = u .use-at .ensures in
-    let next = u .before .before .before .before .next2 .ensures in (
+    let next = u .before .before .before .before .next .ensures in (
       token-on (start (w .before .before) .pre .1 .0) (inv .0) (inv .1) (w .loop-test .taken) _ _ _ (used .0) (used .1 .0) (used .1 .1)
           (c .before .d .given .1) (next .0),
       next .1,
@@ -129,7 +129,7 @@ add-n c =
 loop-less-2 : tie.Need-loop-less-2 Inv-loop μ-loop
 loop-less-2 c =
     let u = at-token (c .before .before .before) in
-    omega (arith, inside u .loop-test .taken, u .before .before .before .before .next2 .ensures .0 .behind)
+    omega (arith, inside u .loop-test .taken, u .before .before .before .before .next .ensures .0 .behind)
 
 loop-again-2 : tie.Need-loop-again-2 Inv-loop μ-loop
 loop-again-2 c =
@@ -138,7 +138,7 @@ loop-again-2 c =
     let pre = start (w .before .before) .pre .1 in
     let inv = w .before .loop .inv in
     let used = u .use-at .ensures in
-    let next = u .before .before .before .before .next2 .ensures in (
+    let next = u .before .before .before .before .next .ensures in (
       token-left (pre .0) (inv .0) (inv .1) (w .loop-test .taken) _ _ _ (used .0) (used .1 .0) (used .1 .1) (c .before .d2 .given .1) (next .0) (pre .2),
       next .1,
     )
@@ -175,6 +175,6 @@ returns-2 c =
 pub uses-spec : {M : Type 1} → statement M
 uses-spec =
     tie.close
-    (tie.spec Inv-loop μ-loop (λ c κs. search needs) loop-holds add-next next-requires-2 shared-slice-read-use-at use-at-requires (λ c. search needs)
+    (tie.spec Inv-loop μ-loop (λ c κs. search needs) loop-holds add-next next-requires shared-slice-read-use-at use-at-requires (λ c. search needs)
     same-length same-length-2 same-length-3 returns (λ c. search needs) loop-less loop-again (λ c. search needs) slice-write-numbers add-n loop-less-2
     loop-again-2 same-length-4 same-length-5 same-length-6 returns-2)
