@@ -109,5 +109,5 @@ returns c =
 pub walk-spec : {M : Type 1} → statement M
 walk-spec =
     tie.close
-    (tie.spec Inv-loop μ-loop (λ c κs. search needs) loop-holds slice-read-k entry-requires role-requires (λ c κs. search needs) leave-requires moved-requires add-next
-    next-requires loop-less loop-again (λ c κs. search needs) same-length same-length-2 returns)
+    (tie.spec Inv-loop μ-loop (λ c κs. search needs) loop-holds slice-read-k entry-requires role-requires (λ c κs. search needs) leave-requires moved-requires
+    add-next next-requires loop-less loop-again (λ c κs. search needs) same-length same-length-2 returns)

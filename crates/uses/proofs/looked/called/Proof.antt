@@ -11,18 +11,20 @@ use Rattle.uses.proofs.looked.called.Tie as tie
 returns : tie.Need-returns
 unfolding book-in
 returns c =
-    let a = c .before .before .before .before .before .args in
+    let at-test = c .before .before in
+    let a = at-test .before .before .before .args in
     c .listed .ensures
     ∙ ap (λ l. seen-listed l (name-at (a .text .now) (a .at)) (a .typ))
-    (among-structs (book-in (a .text .now) (a .tables .now)) (a .role) (c .before .before .if1 .taken))
+    (among-structs (book-in (a .text .now) (a .tables .now)) (a .role) (at-test .if1 .taken))
 
 returns-2 : tie.Need-returns-2
 unfolding book-in
 returns-2 c =
-    let a = c .before .before .before .before .before .args in
+    let at-test = c .before .before in
+    let a = at-test .before .before .before .args in
     c .listed2 .ensures
     ∙ ap (λ l. seen-listed l (name-at (a .text .now) (a .at)) (a .typ))
-    (among-steps (book-in (a .text .now) (a .tables .now)) (a .role) (c .before .before .if1 .left))
+    (among-steps (book-in (a .text .now) (a .tables .now)) (a .role) (at-test .if1 .left))
 
 pub called-spec : {M : Type 1} → statement M
 called-spec =
