@@ -1,5 +1,6 @@
 -- What stands in each place of a text: the kind of the token that begins there, 0 where none does; and whether the text parts into tokens.
 use Prim.Native.Nat.{ℕ, zero, suc}
+use mathlib.Core.Path.{_≡_}
 use mathlib.Core.Bool.{Bool, true, false, _&&_, _||_}
 use mathlib.Core.List.{List, [], _∷_}
 use mathlib.Core.Option.{Option, none, some}
@@ -14,6 +15,10 @@ unfoldable pub spot-of : Front → Spot
 spot-of (token t n) = Marked (kind t) n
 spot-of (gap n) = Marked 0 n
 spot-of nothing = Stray
+
+-- a byte is a token of kind k, whatever stands behind it
+abbrev pub Lone : ℕ → ℕ → Type 0
+Lone b k = (t : List ℕ) → Marked k 0 ≡ spot-of (front (b ∷ t))
 
 -- k bytes belong to what was taken before
 unfoldable pub at-spot : ℕ → List ℕ → Spot

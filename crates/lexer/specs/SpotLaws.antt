@@ -127,6 +127,10 @@ module _ (s : List ℕ) (at : ℕ) where
     unfolding front
     front-here = rw (next-byte s at l) refl
 
+    -- whatever stands behind the byte
+    pub alone-spot : {r : Spot} → ((t : List ℕ) → r ≡ spot-of (front (b ∷ t))) → r ≡ spot-of (front (drop at s))
+    alone-spot f = rw (next-byte s at l) (f rest)
+
     pub letter-spot : {r : Spot} → letter b ≡ true → r ≡ spot-of (front-of letters b rest) → r ≡ spot-of (front (drop at s))
     unfolding class
     letter-spot e g = g ∙ rw (front-here, e, class) refl

@@ -10,7 +10,7 @@ ghost use Prim.Native.Nat.{_+_, _≤_, _<_};
 ghost use lib.ListN.{length, getD, drop};
 ghost use lib.Seq.{sets};
 ghost use Rattle.tokens.specs.Scanning.{Class.letters, Class.digits, nat-front, closing, comment-front, other-front, front-of, find-sign, signs, front};
-ghost use Rattle.lexer.specs.Marking.{followed, spot-of, parts, marks};
+ghost use Rattle.lexer.specs.Marking.{followed, spot-of, Lone, parts, marks};
 ghost use Rattle.lexer.specs.Gaps.{Gap};
 
 // The kinds of literals; a place that is passed over.
@@ -121,8 +121,8 @@ fn other(text: &[u8], at: usize) -> Spot
     sign(b, c)
 }
 
-// The longest token at a place, or a gap.
-pub fn token(text: &[u8], at: usize) -> Spot
+// The longest token at a place, or a gap, by the class of its first byte.
+fn longer(text: &[u8], at: usize) -> Spot
     requires { ⌜ at < length (now text) ⌝ }
     ensures { λ r. ⌜ r ≡ spot-of (front (drop at (now (text .entry)))) ⌝ }
 {
@@ -137,6 +137,37 @@ pub fn token(text: &[u8], at: usize) -> Spot
         return Spot::Marked(GAP, 0);
     }
     other(text, at)
+}
+
+// The kind of a byte that is a token whatever stands behind it, 0 of any other.
+fn alone(b: u8) -> u8
+    ensures { λ r. ⌜ ((r ≡ 0 → ⊥) → Lone b r) ⌝ }
+{
+    match b {
+        b'(' => 13,
+        b')' => 14,
+        b'{' => 15,
+        b'}' => 16,
+        b',' => 17,
+        b';' => 19,
+        b'.' => 21,
+        b'=' => 23,
+        b'*' => 29,
+        b'%' => 31,
+        _ => 0,
+    }
+}
+
+// The longest token at a place, or a gap. Every second token is a byte alone, so these are told first.
+pub fn token(text: &[u8], at: usize) -> Spot
+    requires { ⌜ at < length (now text) ⌝ }
+    ensures { λ r. ⌜ r ≡ spot-of (front (drop at (now (text .entry)))) ⌝ }
+{
+    let kind = alone(text[at]);
+    if kind != 0 {
+        return Spot::Marked(kind, 0);
+    }
+    longer(text, at)
 }
 
 // The kinds of a text's tokens, each in its place, and whether the text parts into tokens: up to a place where it does not. No token begins among the kinds
