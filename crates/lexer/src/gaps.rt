@@ -56,43 +56,39 @@ fn within(kinds: &[u8], from: usize, end: usize) -> usize
     i
 }
 
-// The first place from one on at which a token begins, or the end, by eights.
-fn far(kinds: &[u8], from: usize) -> usize
+// The first place from one on at which a token begins, or the end: a few places one by one, then by eights.
+fn beyond(kinds: &[u8], from: usize) -> usize
     requires { ⌜ from ≤ length (now kinds) ⌝ }
     ensures { λ r. ⌜ Gap (now (kinds .entry)) from r × Token (now (kinds .entry)) r ⌝ }
 {
-    within(kinds, eights(kinds, from), kinds.len())
+    if kinds.len() - from <= MANY {
+        return within(kinds, from, kinds.len());
+    }
+    let i = within(kinds, from, from + MANY);
+    if kinds[i] != 0 {
+        return i;
+    }
+    within(kinds, eights(kinds, i), kinds.len())
 }
 
 // The place of the first token, or the end.
 pub fn first(kinds: &[u8]) -> usize
     ensures { λ r. ⌜ Gap (now (kinds .entry)) 0 r × Token (now (kinds .entry)) r ⌝ }
 {
-    far(kinds, 0)
+    beyond(kinds, 0)
 }
 
-// The end of the places that are passed one by one.
-fn near_end(from: usize, end: usize) -> usize
-    requires { ⌜ from ≤ end ⌝ }
-    ensures { λ r. ⌜ (from ≤ r) × (r ≤ end) ⌝ }
-{
-    if end - from <= MANY {
-        return end;
-    }
-    from + MANY
-}
-
-// The first place from one on at which a token begins, or the end: near it one by one, then by eights.
+// The first place from one on at which a token begins, or the end. Signs stand in a row, so the place itself is looked at first.
 pub fn next(kinds: &[u8], from: usize) -> usize
     requires { ⌜ from ≤ length (now kinds) ⌝ }
     ensures { λ r. ⌜ Gap (now (kinds .entry)) from r × Token (now (kinds .entry)) r ⌝ }
 {
-    let near = near_end(from, kinds.len());
-    let i = within(kinds, from, near);
-    if i < near {
-        return i;
+    if from < kinds.len() {
+        if kinds[from] == 0 {
+            return beyond(kinds, from);
+        }
     }
-    far(kinds, i)
+    from
 }
 
 // Back from a place while no token begins in eight.
