@@ -3,8 +3,10 @@
 # programs, and holds them to the second reader and engine and to what the text's
 # .runs file says: for each list of turns the number, the turns taken and the
 # last table. The text of the same name in examples/texts/bare, with no bracket
-# that is not needed (02 §2), gives the same image. In the gate audala_cases reads
-# the same texts (second/compare.sh).
+# that is not needed (02 §2), gives the same image. In the gate audala_cases reads,
+# checks and runs the same texts, and the .runs files are held to the second engine
+# (second/compare.sh); here each proved program has a part, and what it makes is
+# compared byte by byte.
 #
 #   texts.sh        fails where something differs
 #   texts.sh write  writes the .runs files anew, for the lists of turns in them
@@ -78,6 +80,9 @@ for text in "$here"/texts/*.audala; do
     grep -q '^audala ' "$work/listing" || fail "$name: $(cat "$work/listing")"
     "$second/second" listing <"$work/program" | cmp -s - "$work/listing" || fail "the listings of $name differ"
     "$bin/audala_table" "$work/program" "${text%.audala}.table" "$work/table"
+    "$second/second" table "$work/program" "${text%.audala}.table" | cmp -s - "$work/table" || fail "the tables of $name differ"
+    "$second/second" table-text "$work/program" "$work/table" | cmp -s - <("$bin/audala_table" "$work/program" "$work/table") ||
+        fail "the table of $name is printed otherwise"
     : >"$work/runs"
     while read -r list; do
         turns "$list" >"$work/turns"

@@ -2,7 +2,7 @@
 # Compares the proved engine with the second by their lines on cases
 # (docs/CASES.md).
 #
-#   agree.sh             the committed cases and texts
+#   agree.sh             the committed cases, texts and examples
 #   agree.sh SEED COUNT  and COUNT seeded cases and as many texts, in chunks
 set -euo pipefail
 
@@ -39,9 +39,9 @@ agree() {
     total=$((total + $(wc -l <"$work/engine.txt")))
 }
 
-cat "$here/cases/cases.bin" "$here/cases/texts.bin" >"$work/cases.bin"
-cat "$here/cases/expected.txt" "$here/cases/texts.txt" >"$work/expected.txt"
-agree "the committed cases and texts"
+cat "$here/cases/cases.bin" "$here/cases/texts.bin" "$here/cases/examples.bin" >"$work/cases.bin"
+cat "$here/cases/expected.txt" "$here/cases/texts.txt" "$here/cases/examples.txt" >"$work/expected.txt"
+agree "the committed cases, texts and examples"
 seed=${1-0}
 left=${2-0}
 while [ "$left" -gt 0 ]; do

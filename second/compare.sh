@@ -2,8 +2,10 @@
 # Compares engines by cases; the format stands in docs/CASES.md.
 #
 #   compare.sh                           the committed cases and answers are
-#                                        what the package makes now
-#   compare.sh write                     writes them anew
+#                                        what the package makes now, and the
+#                                        .runs files of examples/texts say
+#                                        what the second engine gives
+#   compare.sh write                     writes the cases and answers anew
 #   compare.sh many SEED COUNT OTHER...  the edges and COUNT seeded cases, and
 #                                        as many texts, in chunks, answered by
 #                                        both; OTHER... reads cases, prints lines
@@ -14,6 +16,8 @@ export LC_ALL=C
 here=$(cd "$(dirname "$0")" && pwd)
 # the proved engine's program, which rt hands the same cases
 program=$here/../crates/audala_cases
+texts=$here/../examples/texts
+committed=(cases.bin expected.txt texts.bin texts.txt examples.bin examples.txt)
 chunk=2000
 
 usage() {
@@ -34,13 +38,21 @@ four() {
 }
 
 # each text of examples/ as a case, with the output that an image needs
-examples() {
+example_texts() {
     local text
-    for text in "$here"/../examples/*.audala "$here"/../examples/texts/*.audala "$here"/../examples/texts/bare/*.audala; do
+    for text in "$here"/../examples/*.audala "$texts"/*.audala "$texts"/bare/*.audala; do
         printf '\x03'
         four 32768
         four "$(wc -c <"$text")"
         cat "$text"
+    done
+}
+
+# the check and the runs of each text of examples/texts as cases
+example_runs() {
+    local text
+    for text in "$texts"/*.audala; do
+        "$second" example "${text%.audala}"
     done
 }
 
@@ -53,18 +65,20 @@ make_committed() {
     {
         "$second" texts
         "$second" texts 1 400
-        examples
+        example_texts
     } >"$work/texts.bin"
     "$second" <"$work/texts.bin" >"$work/texts.txt"
+    example_runs >"$work/examples.bin"
+    "$second" <"$work/examples.bin" >"$work/examples.txt"
 }
 
-# What the proved engine's program is handed, and its answers: the cases and behind them the texts.
+# What the proved engine's program is handed, and its answers: the cases, behind them the texts and the examples' runs.
 cases() {
-    cat "$here/cases/cases.bin" "$here/cases/texts.bin"
+    cat "$here/cases/cases.bin" "$here/cases/texts.bin" "$here/cases/examples.bin"
 }
 
 answers() {
-    cat "$here/cases/expected.txt" "$here/cases/texts.txt"
+    cat "$here/cases/expected.txt" "$here/cases/texts.txt" "$here/cases/examples.txt"
 }
 
 # The committed file $1 is the one made now; of answers, up to ten lines that differ.
@@ -79,16 +93,42 @@ as_committed() {
     exit 1
 }
 
+# Each .runs file says what the second engine gives: numbers, turns taken and last tables.
+runs_as_written() {
+    local text name
+    for text in "$texts"/*.audala; do
+        name=${text%.audala}
+        "$second" runs "$name" >"$work/runs"
+        if ! diff "$name.runs" "$work/runs" >&2; then
+            echo "compare: the second engine gives otherwise than ${name##*/}.runs says" >&2
+            exit 1
+        fi
+    done
+}
+
+# The example texts are the last ones, first as they are, then with no bracket that is not needed (02 §2): both give the same image.
+bare_as_bracketed() {
+    local count
+    count=$(find "$texts" -maxdepth 1 -name '*.audala' | wc -l)
+    if ! diff <(tail -n $((2 * count)) "$work/texts.txt" | head -n "$count") <(tail -n "$count" "$work/texts.txt") >&2; then
+        echo "compare: a text of examples/texts/bare gives another image than the text of its name" >&2
+        exit 1
+    fi
+}
+
 same_as_committed() {
+    runs_as_written
     make_committed
-    for file in cases.bin expected.txt texts.bin texts.txt; do
+    bare_as_bracketed
+    for file in "${committed[@]}"; do
         as_committed "$file"
     done
     if ! { cmp <(cases) "$program/stdin" && cmp <(answers) "$program/stdout"; }; then
         echo "compare: audala_cases is handed other cases" >&2
         exit 1
     fi
-    echo "compare: $(wc -l <"$work/expected.txt") committed cases and $(wc -l <"$work/texts.txt") texts agree"
+    echo "compare: $(wc -l <"$work/expected.txt") committed cases, $(wc -l <"$work/texts.txt") texts and" \
+        "$(wc -l <"$work/examples.txt") checks and runs of examples agree"
 }
 
 # Answers $work/cases.bin by both; $1 says how to make it again.
@@ -137,7 +177,7 @@ case ${1-} in
 write)
     build
     make_committed
-    cp "$work/cases.bin" "$work/expected.txt" "$work/texts.bin" "$work/texts.txt" "$here/cases/"
+    (cd "$work" && cp "${committed[@]}" "$here/cases/")
     cases >"$program/stdin"
     answers >"$program/stdout"
     ;;

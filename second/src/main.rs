@@ -1,16 +1,23 @@
 //! The second engine as a program. Without a word it answers cases, one line
 //! each; the other words are `listing`, `edges`, `generate SEED COUNT`, `texts`
-//! (the edges of program texts), `texts SEED COUNT` and `bench`.
+//! (the edges of program texts), `texts SEED COUNT` and `bench`. `table PROGRAM
+//! TEXT` writes the table image of a text, `table-text PROGRAM TABLE` the text of
+//! an image. `example NAME` writes the cases of the example in `NAME.audala`,
+//! `NAME.table` and `NAME.runs`, `runs NAME` what `NAME.runs` has to say.
 #![forbid(unsafe_code)]
 
 use second::bench::bench;
 use second::cases::Case;
+use second::examples::Example;
 use second::generate::{Generator, edges::edges, texts};
 use second::listing;
+use second::tables::{table_image, table_text};
+use std::fs;
 use std::io::{self, BufReader, BufWriter, Read, Write};
 use std::process::ExitCode;
 
-const USAGE: &str = "second [listing | edges | generate SEED COUNT | texts [SEED COUNT] | bench]";
+const USAGE: &str = "second [listing | edges | generate SEED COUNT | texts [SEED COUNT] | bench \
+    | table PROGRAM TEXT | table-text PROGRAM TABLE | example NAME | runs NAME]";
 
 fn main() -> ExitCode {
     let words: Vec<String> = std::env::args().skip(1).collect();
@@ -29,6 +36,10 @@ fn main() -> ExitCode {
             _ => Err(io::Error::other(USAGE)),
         },
         ["bench"] => io::stdout().write_all(bench().as_bytes()),
+        ["table", program, text] => table(program, text),
+        ["table-text", program, table] => print_table(program, table),
+        ["example", name] => example(name).and_then(|read| write_cases(read.cases().into_iter())),
+        ["runs", name] => example(name).and_then(|read| write_text(read.runs())),
         _ => Err(io::Error::other(USAGE)),
     };
     match done {
@@ -58,6 +69,28 @@ fn list_image() -> io::Result<()> {
 fn generate(seed: u64, count: usize) -> io::Result<()> {
     let mut generator = Generator::new(seed);
     write_cases((0..count).map(|_| generator.next_case()))
+}
+
+fn table(program: &str, text: &str) -> io::Result<()> {
+    let image = table_image(&fs::read(program)?, &fs::read_to_string(text)?);
+    io::stdout().write_all(&image.map_err(io::Error::other)?)
+}
+
+fn print_table(program: &str, table: &str) -> io::Result<()> {
+    write_text(table_text(&fs::read(program)?, &fs::read(table)?))
+}
+
+fn write_text(text: Result<String, String>) -> io::Result<()> {
+    io::stdout().write_all(text.map_err(io::Error::other)?.as_bytes())
+}
+
+fn example(name: &str) -> io::Result<Example> {
+    let file = |ending: &str| {
+        let path = format!("{name}.{ending}");
+        fs::read_to_string(&path).map_err(|error| io::Error::other(format!("{path}: {error}")))
+    };
+    Example::read(file("audala")?.as_bytes(), &file("table")?, &file("runs")?)
+        .map_err(|refused| io::Error::other(format!("{name}: {refused}")))
 }
 
 fn write_cases(cases: impl Iterator<Item = Case>) -> io::Result<()> {

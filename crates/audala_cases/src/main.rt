@@ -92,11 +92,10 @@ fn answered(written: bool) -> Outcome {
     }
 }
 
-// A case of kind 1.
-fn check_case() -> Outcome {
-    let Size::Of(places) = number(1100) else {
-        return Outcome::Malformed;
-    };
+// What stands behind the number of list places in a case of kind 1.
+fn check_case(places: usize) -> Outcome
+    requires { ⌜ places ≤ 1100 ⌝ }
+{
     let mut image = [0u8; 33792];
     let Size::Of(n) = part(&mut image) else {
         return Outcome::Malformed;
@@ -155,11 +154,10 @@ fn run_parts(places: usize, room: usize) -> Outcome
     ))
 }
 
-// A case of kind 2.
-fn run_case() -> Outcome {
-    let Size::Of(places) = number(1100) else {
-        return Outcome::Malformed;
-    };
+// What stands behind the number of list places in a case of kind 2.
+fn run_case(places: usize) -> Outcome
+    requires { ⌜ places ≤ 1100 ⌝ }
+{
     let Size::Of(room) = number(9216) else {
         return Outcome::Malformed;
     };
@@ -175,7 +173,7 @@ fn answer_text(text: &[u8], output: &mut [u8]) -> bool {
     files::output(&line[..n])
 }
 
-// A case of kind 3.
+// What stands behind the kind in a case of kind 3.
 fn text_case() -> Outcome {
     let Size::Of(room) = number(33792) else {
         return Outcome::Malformed;
@@ -194,14 +192,17 @@ fn next() -> Outcome {
     if !fetch(&mut kind, 1) {
         return Outcome::Over;
     }
-    if kind[0] == 1 {
-        return check_case();
-    }
-    if kind[0] == 2 {
-        return run_case();
-    }
     if kind[0] == 3 {
         return text_case();
+    }
+    let Size::Of(places) = number(1100) else {
+        return Outcome::Malformed;
+    };
+    if kind[0] == 1 {
+        return check_case(places);
+    }
+    if kind[0] == 2 {
+        return run_case(places);
     }
     Outcome::Malformed
 }

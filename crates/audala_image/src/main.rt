@@ -11,19 +11,6 @@ const STREAM: usize = types::PROGRAM_BLOCKS * blocks::PAYLOAD_SIZE;
 
 const IMAGE: usize = types::PROGRAM_BLOCKS * blocks::BLOCK_SIZE;
 
-fn help() {
-    files::tell(
-        b"audala_image < NUMBERS > IMAGE\n\
-        \n\
-        Reads the stream of a program or of a table as decimal numbers from 0 to\n\
-        255, parted by blanks, commas or line ends, and writes its image: blocks\n\
-        of 512 bytes. Where a number is over 255, a byte is no digit and parts no\n\
-        numbers, or there are no numbers or more than 32256, nothing is written\n\
-        and a line on standard error says so.\n\
-        docs/FORMAT.md has the streams byte by byte.\n",
-    );
-}
-
 // A line on standard error: a text, a number, a text.
 fn refuse(before: &[u8], n: usize, behind: &[u8]) {
     files::tell(before);
@@ -88,12 +75,18 @@ fn answer(text: &[u8]) {
 }
 
 fn main() {
-    if os::arg_count() != 1 {
-        help();
-        return;
-    }
     let mut text = [0u8; TEXT];
-    let r = files::input(&mut text);
+    let r = files::input(
+        b"audala_image < NUMBERS > IMAGE\n\
+        \n\
+        Reads the stream of a program or of a table as decimal numbers from 0 to\n\
+        255, parted by blanks, commas or line ends, and writes its image: blocks\n\
+        of 512 bytes. Where a number is over 255, a byte is no digit and parts no\n\
+        numbers, or there are no numbers or more than 32256, nothing is written\n\
+        and a line on standard error says so.\n\
+        docs/FORMAT.md has the streams byte by byte.\n",
+        &mut text,
+    );
     if !r.done {
         return;
     }

@@ -11,20 +11,6 @@ const TURNS: usize = types::MAX_TURNS + 1;
 
 const OUTPUT: usize = types::TABLE_BLOCKS * blocks::BLOCK_SIZE;
 
-fn help() {
-    files::tell(
-        b"audala_run PROGRAM TABLE TURNS OUTPUT\n\
-        \n\
-        Runs the program image in the file PROGRAM on the table image in TABLE,\n\
-        taking a turn for each byte of TURNS, and writes the last table's image\n\
-        to OUTPUT. Prints one line: number, turns, blocks, depth, and how many\n\
-        instances hold commands. A number from 1 to 14 is a refusal: nothing is\n\
-        written. 0 is the ended run; 33 to 35 are stops, after which OUTPUT holds\n\
-        the table as it stood then.\n\
-        docs/FORMAT.md says what each number means.\n",
-    );
-}
-
 // The line of a report.
 fn report(r: Report) {
     let mut line = [0u8; 128];
@@ -61,19 +47,25 @@ fn run(program: &[u8], table: &[u8], turns: &[u8]) {
 }
 
 fn main() {
-    if os::arg_count() != 5 {
-        help();
-        return;
-    }
     let mut program = [0u8; PROGRAM];
     let mut table = [0u8; TABLE];
     let mut turns = [0u8; TURNS];
-    let got = files::load_inputs(&mut program, &mut table, &mut turns);
-    if !got.done {
-        return;
+    let r = files::load_inputs(
+        5,
+        b"audala_run PROGRAM TABLE TURNS OUTPUT\n\
+        \n\
+        Runs the program image in the file PROGRAM on the table image in TABLE,\n\
+        taking a turn for each byte of TURNS, and writes the last table's image\n\
+        to OUTPUT. Prints one line: number, turns, blocks, depth, and how many\n\
+        instances hold commands. A number from 1 to 14 is a refusal: nothing is\n\
+        written. 0 is the ended run; 33 to 35 are stops, after which OUTPUT holds\n\
+        the table as it stood then.\n\
+        docs/FORMAT.md says what each number means.\n",
+        &mut program,
+        &mut table,
+        &mut turns,
+    );
+    if r.done {
+        run(&program[..r.program], &table[..r.table], &turns[..r.turns]);
     }
-    let m = got.program;
-    let n = got.table;
-    let k = got.turns;
-    run(&program[..m], &table[..n], &turns[..k]);
 }

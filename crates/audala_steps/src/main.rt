@@ -4,17 +4,6 @@ use text::lines;
 
 const NAMES: u8 = types::STEP_NAMES as u8;
 
-fn help() {
-    files::tell(
-        b"audala_steps < IMAGE\n\
-        \n\
-        Reads a program image and prints the commands of each step, a line for each\n\
-        command: struct, step name, position in the step, command. Prints 'refused'\n\
-        and the number for an image that is refused.\n\
-        docs/FORMAT.md has the image byte by byte, and says what each number means.\n",
-    );
-}
-
 // The line of a command; whether it was written.
 fn print(of: u8, name: u8, position: usize, word: u64) -> bool {
     let mut text = [0u8; 128];
@@ -74,13 +63,17 @@ fn answer(image: &[u8]) {
 }
 
 fn main() {
-    if os::arg_count() != 1 {
-        help();
-        return;
-    }
     // One byte more than an image may have, so that a longer one is told from the longest.
     let mut input = [0u8; 32769];
-    let r = files::input(&mut input);
+    let r = files::input(
+        b"audala_steps < IMAGE\n\
+        \n\
+        Reads a program image and prints the commands of each step, a line for each\n\
+        command: struct, step name, position in the step, command. Prints 'refused'\n\
+        and the number for an image that is refused.\n\
+        docs/FORMAT.md has the image byte by byte, and says what each number means.\n",
+        &mut input,
+    );
     if !r.done {
         return;
     }

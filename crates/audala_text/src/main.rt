@@ -13,20 +13,6 @@ const NO_TOKEN: u32 = 15;
 
 const LINE_END: u8 = 10;
 
-fn help() {
-    files::tell(
-        b"audala_text < TEXT > IMAGE\n\
-        \n\
-        Reads a program as text and writes its image: blocks of 512 bytes. A text\n\
-        that is refused is told on standard error as 'refused' and the number, and\n\
-        nothing is written: 15 no token, or a text over 65536 bytes; 16 no\n\
-        derivation; 17 a name, a literal, an argument list or a count; each with\n\
-        the line and the column where reading stopped. The checker says whether the\n\
-        program is one to run: audala_text < TEXT | audala_list.\n\
-        docs/FORMAT.md has the text's grammar, and says what each number means.\n",
-    );
-}
-
 // The first n blocks of the image, of which there are at most 64.
 fn put(image: &[u8], n: u32) {
     if n <= 64 {
@@ -110,12 +96,19 @@ fn answer(text: &[u8]) {
 }
 
 fn main() {
-    if os::arg_count() != 1 {
-        help();
-        return;
-    }
     let mut text = [0u8; TEXT];
-    let r = files::input(&mut text);
+    let r = files::input(
+        b"audala_text < TEXT > IMAGE\n\
+        \n\
+        Reads a program as text and writes its image: blocks of 512 bytes. A text\n\
+        that is refused is told on standard error as 'refused' and the number, and\n\
+        nothing is written: 15 no token, or a text over 65536 bytes; 16 no\n\
+        derivation; 17 a name, a literal, an argument list or a count; each with\n\
+        the line and the column where reading stopped. The checker says whether the\n\
+        program is one to run: audala_text < TEXT | audala_list.\n\
+        docs/FORMAT.md has the text's grammar, and says what each number means.\n",
+        &mut text,
+    );
     if !r.done {
         return;
     }

@@ -28,26 +28,6 @@ const TURNS: usize = types::MAX_TURNS + 1;
 // What is written at once.
 const OUT: usize = 16 * LINE;
 
-fn help() {
-    files::tell(
-        b"audala_trace PROGRAM TABLE TURNS\n\
-        \n\
-        Runs the program image in the file PROGRAM on the table image in TABLE,\n\
-        taking a turn for each byte of TURNS, and prints a line for each move of\n\
-        the schedule, and for each turn:\n\
-        \n\
-        move sENTRIES\n\
-        turn byte label struct step position command [ type:value .. ]\n\
-        label.parameter old new sENTRIES\n\
-        \n\
-        The stack is the one behind the command, its top last; the parameter\n\
-        stands there where one was written; the entries are those of stability,\n\
-        the top one first. The last line is `end` with the run's number and its\n\
-        turns. A number from 1 to 14 is a refusal.\n\
-        docs/FORMAT.md says what each number means.\n",
-    );
-}
-
 // 1 to 12 and 14 in order, or a run that is told: the buffer ends with the text, and what does not stand there was handed over before.
 fn trace(program: &[u8], table: &[u8], turns: &[u8], out: &mut [u8]) -> Page
     requires { ⌜ line-most ≤ length (now out) ⌝ }
@@ -92,19 +72,31 @@ fn tell(program: &[u8], table: &[u8], turns: &[u8]) {
 }
 
 fn main() {
-    if os::arg_count() != 4 {
-        help();
-        return;
-    }
     let mut program = [0u8; PROGRAM];
     let mut table = [0u8; TABLE];
     let mut turns = [0u8; TURNS];
-    let got = files::load_inputs(&mut program, &mut table, &mut turns);
-    if !got.done {
-        return;
+    let r = files::load_inputs(
+        4,
+        b"audala_trace PROGRAM TABLE TURNS\n\
+        \n\
+        Runs the program image in the file PROGRAM on the table image in TABLE,\n\
+        taking a turn for each byte of TURNS, and prints a line for each move of\n\
+        the schedule, and for each turn:\n\
+        \n\
+        move sENTRIES\n\
+        turn byte label struct step position command [ type:value .. ]\n\
+        label.parameter old new sENTRIES\n\
+        \n\
+        The stack is the one behind the command, its top last; the parameter\n\
+        stands there where one was written; the entries are those of stability,\n\
+        the top one first. The last line is `end` with the run's number and its\n\
+        turns. A number from 1 to 14 is a refusal.\n\
+        docs/FORMAT.md says what each number means.\n",
+        &mut program,
+        &mut table,
+        &mut turns,
+    );
+    if r.done {
+        tell(&program[..r.program], &table[..r.table], &turns[..r.turns]);
     }
-    let m = got.program;
-    let n = got.table;
-    let k = got.turns;
-    tell(&program[..m], &table[..n], &turns[..k]);
 }

@@ -2,16 +2,6 @@
 use blocks::Read;
 use libc::STDOUT_FILENO;
 
-fn help() {
-    files::tell(
-        b"blocks_main < IMAGE > STREAM\n\
-        \n\
-        Reads a program image, blocks of 512 bytes, and writes its stream. Prints\n\
-        'refused' and the number where a block or the image's length is wrong.\n\
-        docs/FORMAT.md has the blocks byte by byte, and says what each number means.\n",
-    );
-}
-
 fn refuse(number: u8) {
     if files::output(b"refused ") {
         io::print_decimal(STDOUT_FILENO, number as u64);
@@ -32,13 +22,16 @@ fn answer(image: &[u8]) {
 }
 
 fn main() {
-    if os::arg_count() != 1 {
-        help();
-        return;
-    }
     // One byte more than an image may have, so that a longer one is told from the longest.
     let mut input = [0u8; 32769];
-    let r = files::input(&mut input);
+    let r = files::input(
+        b"blocks_main < IMAGE > STREAM\n\
+        \n\
+        Reads a program image, blocks of 512 bytes, and writes its stream. Prints\n\
+        'refused' and the number where a block or the image's length is wrong.\n\
+        docs/FORMAT.md has the blocks byte by byte, and says what each number means.\n",
+        &mut input,
+    );
     if !r.done {
         return;
     }

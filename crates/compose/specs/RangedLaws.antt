@@ -2,7 +2,7 @@
 use Prim.Native.Nat.{ℕ, suc, _<_, _≤_}
 use native.Mathlib.Omega.{arith}
 use mathlib.Core.Path.{_≡_}
-use mathlib.Core.Bool.{Bool, true}
+use mathlib.Core.Bool.{Bool, true, _&&_}
 use mathlib.Core.List.{List, [], _∷_, map}
 use lib.ListN.{length}
 use lib.Dec.{leb, ltb}
@@ -19,6 +19,10 @@ use Rattle.meaning.specs.Holds.{max-stream, HoldsStmt, HoldsStmts, HoldsStep, H
 use Rattle.compose.specs.Writing.{max-later}
 use Rattle.compose.specs.Checks.{checks-expr, checks-exprs, checks-stmt, checks-stmts, checks-steps, checks-item, checks-items, checks-structs, checks}
 use Rattle.compose.specs.Ranged.{RangedPath, RangedExpr, RangedExprs, RangedStmt, RangedStmts, RangedStep, RangedItem, RangedItems, Ranged}
+
+-- a count that was tested
+below : (f : Bool) (n m : ℕ) → (f && ltb n m) ≡ true → (f ≡ true) × (n < m)
+below f n m h = let q = both-true f (ltb n m) h in (q .0, ltb-true n m (q .1))
 
 module _ (ar : List ℕ) where
   mutual
@@ -67,21 +71,19 @@ module _ (ar : List ℕ) where
     stmts-hold : (b : Stmts) (f : Bool) → RangedStmts ar b → checks-stmts b f ≡ true → ((size b ≤ max-statements) × (HoldsStmts ar b)) × (f ≡ true)
     stmts-hold end f r h = ((omega arith, tt), h)
     stmts-hold (next t b) f r h =
-        let c = both-true (checks-stmt t (checks-stmts b f)) (ltb (size b) max-statements) h in
-        let l : size b < max-statements = ltb-true (size b) max-statements (c .1) in
+        let c = below (checks-stmt t (checks-stmts b f)) (size b) max-statements h in
         let p = stmt-holds t (checks-stmts b f) (r .0) (c .0) in
         let q = stmts-hold b f (r .1) (p .1) in
-        ((omega (arith, l), (p .0, q .0 .1)), q .1)
+        ((omega (arith, c .1), (p .0, q .0 .1)), q .1)
 
   steps-hold : (l : List Step) (f : Bool) → All (RangedStep ar) l → checks-steps l f ≡ true → ((length l ≤ max-steps) × (All (HoldsStep ar) l)) × (f ≡ true)
   unfolding RangedStep HoldsStep checks-steps
   steps-hold [] f r h = ((omega arith, tt), h)
   steps-hold (t ∷ l) f r h =
-      let c = both-true (checks-stmts (t .body) (checks-steps l f)) (ltb (length l) max-steps) h in
-      let b : length l < max-steps = ltb-true (length l) max-steps (c .1) in
+      let c = below (checks-stmts (t .body) (checks-steps l f)) (length l) max-steps h in
       let p = stmts-hold (t .body) (checks-steps l f) (r .0 .1) (c .0) in
       let q = steps-hold l f (r .1) (p .1) in
-      ((omega (arith, b), ((r .0 .0, p .0 .0, p .0 .1), q .0 .1)), q .1)
+      ((omega (arith, c .1), ((r .0 .0, p .0 .0, p .0 .1), q .0 .1)), q .1)
 
   structs-hold : (ls : List (List Step)) (f : Bool) → All (All (RangedStep ar)) ls → checks-structs ls f ≡ true
       → (All (Few 0 max-steps (HoldsStep ar)) ls) × (f ≡ true)
@@ -103,11 +105,10 @@ module _ (ar : List ℕ) where
     items-hold : (is : Items) (f : Bool) → RangedItems ar is → checks-items is f ≡ true → ((items is ≤ max-items) × (CountsItems ar is)) × (f ≡ true)
     items-hold stop f r h = ((omega arith, tt), h)
     items-hold (item i is) f r h =
-        let c = both-true (checks-item i (checks-items is f)) (ltb (items is) max-statements) h in
-        let l : items is < max-statements = ltb-true (items is) max-statements (c .1) in
+        let c = below (checks-item i (checks-items is f)) (items is) max-statements h in
         let p = item-holds i (checks-items is f) (r .0) (c .0) in
         let q = items-hold is f (r .1) (p .1) in
-        ((omega (arith, l), (p .0, q .0 .1)), q .1)
+        ((omega (arith, c .1), (p .0, q .0 .1)), q .1)
 
 pub ranged-holds : (p : Program) → Ranged p → checks p ≡ true → length (enc-program p) ≤ max-stream → Holds p
 unfolding Counted HoldsSchedule checks

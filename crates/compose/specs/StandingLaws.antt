@@ -26,12 +26,11 @@ use Rattle.lexer.specs.KindLaws.{word-within, sign-within, op-within, kind-with
 use Rattle.meaning.specs.Values.{decimal, signed}
 use Rattle.meaning.specs.Meant.{then, provided, literal-meaning}
 use Rattle.meaning.specs.Means.{Means}
-use Rattle.derive.specs.Roles.{Naming, Naming.new-struct, Naming.new-par, Naming.new-step, Naming.new-local, Naming.first-read, Naming.first-written}
-use Rattle.derive.specs.Roles.{Naming.later-variable, Naming.made, Naming.made-statement, Naming.called, Naming.called-struct, Naming.called-step}
 use Rattle.derive.specs.Roles.{Role, Role.plain, Role.naming, Role.typed, Role.part, naming-code, typed-code, type-number, part-code, code, token-of, roles}
 use Rattle.resolve.specs.Digits.{digits-of, word-of, nat-at, int-at}
 use Rattle.resolve.specs.Outcomes.{onto}
 use Rattle.resolve.specs.Passing.{Pass, pass, pass-token, passes}
+use Rattle.resolve.specs.PlacesLaws.{naming-near}
 use Rattle.resolve.specs.RowLaws.{typed-far, part-far}
 use Rattle.resolve.specs.Standing.{Spelt, Stood, Stood.at-end, Stood.no-token, Stood.a-role}
 use Rattle.compose.specs.Writing.{Writing, Writing.writing, token-value, value, writes, start}
@@ -78,22 +77,6 @@ module _ (ds : List Struct) (names : List Id) where
       go none f g rec = absurd (never g)
       go (some s) f g rec = (role-inside r p s f, rec s g)
 
--- the bytes of names stand behind those of literals
-naming-far : (n : Naming) → 38 < naming-code n
-unfolding naming-code
-naming-far new-struct = omega arith
-naming-far new-par = omega arith
-naming-far new-step = omega arith
-naming-far new-local = omega arith
-naming-far first-read = omega arith
-naming-far first-written = omega arith
-naming-far later-variable = omega arith
-naming-far made = omega arith
-naming-far made-statement = omega arith
-naming-far called = omega arith
-naming-far called-struct = omega arith
-naming-far called-step = omega arith
-
 -- The number of a literal where it stands -------------------------------------------------------------
 
 module _ (text : List ℕ) (i : ℕ) where
@@ -128,7 +111,7 @@ module _ (text : List ℕ) (i : ℕ) where
   value-here : (r : Role) → Spelt (token-of r) (drop i text) → Inside r → value-at text i (code r) ≡ value r
   unfolding code token-of value Inside
   value-here (plain t) p h = token-here t p h
-  value-here (naming n x) p h = no-value (naming-code n) (inr (naming-far n))
+  value-here (naming n x) p h = no-value (naming-code n) (inr (naming-near n .0))
   value-here (typed u t) p h = no-value (typed-code u + type-number t) (inr (omega (arith, typed-far u)))
   value-here (part g) p h = no-value (part-code g) (inr (omega (arith, part-far g)))
 
@@ -138,7 +121,7 @@ module _ (text : List ℕ) (i : ℕ) where
 code-more : (r : Role) → 0 < code r
 unfolding code
 code-more (plain t) = kind-within t .0
-code-more (naming n x) = omega (arith, naming-far n)
+code-more (naming n x) = omega (arith, naming-near n .0)
 code-more (typed u t) = omega (arith, typed-far u)
 code-more (part g) = omega (arith, part-far g)
 

@@ -260,8 +260,6 @@ constructor-left x j {es} {cs} q l = record { there = λ u h. none-wait l (leave
 
 module _ {ds : List Struct} {own : List Par} {alive : List Local} where
   mutual
-    unfolding Fits FitsExps
-
     pub exp-left : (e : Exp) (l : ℕ) → l ≤ tightest → Fits l e → (c : Expr) → ExpMeans ds own alive e c → LeavesExp l e c
     exp-left (binary o a b) l t f c (binary-means m q) =
         binary-left l o (f .0) (exp-left a (left-level o) (omega (arith, left-from o, level-most o)) (f .1) _ m)

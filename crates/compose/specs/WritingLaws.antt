@@ -104,8 +104,6 @@ stats-go-on {u = u} {c = c} p q =
 
 module _ {ds : List Struct} {own : List Par} where
   mutual
-    unfolding FitsStat FitsStats
-
     stat-left : (t : Stat) → FitsStat t → {alive after : List Local} {met met' : List Id} {u : Stmt} → StatMeans ds own alive met t u after met'
         → LeavesStat t u
     stat-left (if-then e b) f (if-means m q) = if-left (exp-left e loosest (omega arith) (f .0) _ m) (stats-left b (f .1) q)
@@ -157,7 +155,7 @@ module _ {ds : List Struct} {names : List Id} where
   steps-left : {own : List Par} (ss : List Step) → FitsSteps ss → {us : List Named} → Each (StepMeans ds names own) ss us
       → {k : List Role} {z : Writing} {s w n : List ℕ} {f : Bool} → Leaves k z (writing s (0 ∷ w) (onto (steps-numbers us) n) 0 f)
       → Leaves (roles-steps ss k) z (writing (flat enc-step us ++ s) (length us ∷ w) n 0 (checks-steps us f))
-  unfolding FitsSteps roles-steps flat step-numbers enc-step checks-steps onto
+  unfolding roles-steps flat step-numbers enc-step checks-steps onto
   steps-left [] f no-more h = h
   steps-left (step x b ∷ ss) f (and-then {b = u} {m = us} (step-means p q) r) {s = s} {n = n} h =
       as-one (enc-step u) (flat enc-step us) s
@@ -167,7 +165,7 @@ module _ {ds : List Struct} {names : List Id} where
   struct-left : (d : Struct) → FitsStruct d → {us : List Named} → StepsMean ds names d us
       → {k : List Role} {z : Writing} {s w n : List ℕ} {c : ℕ} {f : Bool} → Leaves k z (writing s (c ∷ w) (onto (steps-numbers us) n) 0 f)
       → Leaves (roles-struct d k) z (writing (flat enc-step us ++ (c ∷ s)) (length us ∷ w) n 0 (checks-steps us f))
-  unfolding FitsStruct steps-of roles-struct written
+  unfolding steps-of roles-struct written
   struct-left (struct x ps ss) f {us} (steps-mean m) {k} {z} {s} {w} {n} {c} {f = g} h =
       let i : Leaves (part steps-close ∷ k) z (writing (c ∷ s) (0 ∷ w) (onto (steps-numbers us) n) 0 g) = leaves (ap (put 73 0) (left h)) in
       leaves (pars-left ps (part pars-close ∷ part steps-open ∷ roles-steps ss (part steps-close ∷ k)) z ∙ left (steps-left ss f m i))
@@ -176,7 +174,7 @@ module _ {ds : List Struct} {names : List Id} where
   defs-left : (d : Defs) → FitsDefs d → {uss : List (List Named)} → Each (StepsMean ds names) (structs-of d) uss
       → {k : List Role} {z : Writing} (s n : List ℕ) (c : ℕ) {f : Bool} → Leaves k z (writing s (c ∷ []) (onto (flat steps-numbers uss) n) 0 f)
       → LeavesRow (roles-defs d k) z (flat (enc-list enc-step) uss ++ (c ∷ s)) n (checks-structs uss f)
-  unfolding FitsDefs structs-of roles-defs flat checks-structs onto
+  unfolding structs-of roles-defs flat checks-structs onto
   defs-left (last-struct d) f (and-then {b = us} m no-more) s n c h =
       record {
         count = length us;
@@ -250,7 +248,7 @@ module _ {ds : List Struct} {names : List Id} where
 -- what is written of a derivation, from the numbers of what it means
 pub program-left : (c : Derivation) → FitsProgram c → {p : Program} → Means c p
     → LeavesRow (roles c) (start (onto (numbers-of p) [])) (stream-behind p) [] (checks p)
-unfolding FitsProgram roles stream-behind checks numbers-of written
+unfolding roles stream-behind checks numbers-of written
 program-left (program d t) f {p} (means {ts = ts} {is = is} x y m r) =
     let z : Writing = start (onto (numbers-of p) []) in
     let g : Leaves [] z (writing [] (0 ∷ []) (onto (items-numbers is) (onto (flat steps-numbers ts) [])) 0 true) =

@@ -1,20 +1,21 @@
 -- The loop over the places of a text from its end: memory stands as the fold over what stands there, as long as that fits.
 use Prim.Native.Nat.{ℕ, zero, suc, _+_, _-_, _<_, _≤_}
 use native.Mathlib.Omega.{arith}
-use native.Mathlib.Numerals.{sub-one}
+use native.Mathlib.Numerals.{add-one}
 use mathlib.Core.Path.{_≡_, refl, sym, ap, _∙_}
 use mathlib.Core.Bool.{Bool, true, false, _&&_}
 use mathlib.Core.List.{List, []}
 use lib.ListN.{length, getD, set, drop, length-drop, length-set}
 use lib.Seq.{drop-cons, drop-length, getD-set-same}
 use lib.Dec.{eqb, leb}
-use borrow.Author.Tests.{eqb-true, eqb-false, ne-eqb, leb-true, leb-false, le-leb, lt-leb}
+use borrow.Author.Tests.{eqb-true, leb-true, leb-false, le-leb, lt-leb}
 use Rattle.tokens.specs.ByteLaws.{both-true}
 use Rattle.derive.specs.Held.{held}
-use Rattle.compose.specs.Writing.{Writing, Writing.writing, put, start}
+use Rattle.lexer.specs.Gaps.{Gap}
+use Rattle.lexer.specs.GapLaws.{gap-back}
+use Rattle.compose.specs.Writing.{Writing, Writing.writing, behinds, pourings, stackings, formed, spelt, put, start}
 use Rattle.composing.specs.Pens.{stands, Near}
-use Rattle.compose.specs.Fits.{kept}
-use Rattle.compose.specs.Fits.{value-at, writes-at, fits, within}
+use Rattle.compose.specs.Fits.{kept, value-at, writes-at, fits, within}
 use Rattle.compose.specs.FitsLaws.{put-unfit, within-unfit, fits-within, within-one}
 use Rattle.composing.specs.declared.Pen.{Pen}
 
@@ -46,6 +47,10 @@ tested out stack numbers p x a b e =
 
 -- One place -----------------------------------------------------------------------------------------
 
+put-nothing : (v : ℕ) (x : Writing) → put 0 v x ≡ x
+unfolding put spelt pourings behinds formed stackings
+put-nothing v x = refl
+
 module _ (text roles : List ℕ) (z : Writing) where
   abbrev from : ℕ → Writing
   from i = writes-at text i (drop i roles) z
@@ -55,18 +60,18 @@ module _ (text roles : List ℕ) (z : Writing) where
     unfolding writes-at
     from-past e = rw (drop-cons roles i 0 l, e) refl
 
-    pub from-next : (getD roles i 0 ≡ 0 → ⊥) → from i ≡ put (getD roles i 0) (value-at text i (getD roles i 0)) (from (suc i))
+    -- 0 is no role's byte, and does nothing
+    pub from-next : from i ≡ put (getD roles i 0) (value-at text i (getD roles i 0)) (from (suc i))
     unfolding writes-at
-    from-next n = rw (drop-cons roles i 0 l, writes-at, ne-eqb (getD roles i 0) 0 n) refl
+    from-next = go (eqb (getD roles i 0) 0) refl
+      where
+        go : (t : Bool) → eqb (getD roles i 0) 0 ≡ t → from i ≡ put (getD roles i 0) (value-at text i (getD roles i 0)) (from (suc i))
+        go true f = let e = eqb-true (getD roles i 0) 0 f in from-past e ∙ rw e (sym (put-nothing (value-at text i 0) (from (suc i))))
+        go false f = rw (drop-cons roles i 0 l, writes-at, f) refl
 
     unfit-next : (room : ℕ) → fits room (from (suc i)) ≡ false → fits room (from i) ≡ false
-    unfit-next room e = go (eqb (getD roles i 0) 0) refl
-      where
-        go : (t : Bool) → eqb (getD roles i 0) 0 ≡ t → fits room (from i) ≡ false
-        go true f = ap (fits room) (from-past (eqb-true (getD roles i 0) 0 f)) ∙ e
-        go false f =
-            ap (fits room) (from-next (eqb-false (getD roles i 0) 0 f))
-            ∙ put-unfit room (getD roles i 0) (value-at text i (getD roles i 0)) (from (suc i)) e
+    unfit-next room e =
+        ap (fits room) from-next ∙ put-unfit room (getD roles i 0) (value-at text i (getD roles i 0)) (from (suc i)) e
 
   pub unfit-all : (room i : ℕ) → i ≤ length roles → fits room (from i) ≡ false → fits room (from 0) ≡ false
   unfit-all room zero l e = e
@@ -132,67 +137,9 @@ module _ (text roles numbers out₀ stack₀ out stack : List ℕ) (p : Pen) whe
         tall = r .tall;
       }
 
-  pub reached-past : (i : ℕ) → Reached text roles numbers out₀ stack₀ out stack p i → 0 < i → getD roles (i - 1) 0 ≡ 0
-      → Reached text roles numbers out₀ stack₀ out stack p (i - 1)
-  reached-past zero r l e = absurd (omega arith)
-  reached-past (suc j) r l e = rw sub-one (past j r (rw sub-one at e))
-
-  -- a role and what it leaves
-  module _ (out₁ stack₁ : List ℕ) (q : Pen) (near : Near (p .place) 1 1 p q) (a : length out₁ ≡ length out) (b : length stack₁ ≡ length stack) where
-    module _ (j : ℕ) (r : Reached text roles numbers out₀ stack₀ out stack p (suc j)) (n : getD roles j 0 ≡ 0 → ⊥)
-        (k : within (length out₁ - 6) (stands out₁ stack₁ numbers q)
-        ≡ within (length out₁ - 6) (put (getD roles j 0) (value-at text j (getD roles j 0)) (stands out stack numbers p))) where
-      is-left : put (getD roles j 0) (value-at text j (getD roles j 0)) (stands out stack numbers p) ≡ writes-at text j (drop j roles) (at-end numbers)
-      is-left =
-          ap (put (getD roles j 0) (value-at text j (getD roles j 0))) (r .state) ∙ sym (from-next text roles (at-end numbers) j (omega (arith, r .inner)) n)
-
-      fits-left : (q .fits && leb 6 (q .place)) ≡ fits (length out₁ - 6) (put (getD roles j 0) (value-at text j (getD roles j 0)) (stands out stack numbers p))
-      fits-left =
-          tested out₁ stack₁ numbers q (put (getD roles j 0) (value-at text j (getD roles j 0)) (stands out stack numbers p))
-          (omega (arith, r .front, r .behind, a)) (omega (arith, near .behind, r .behind, a)) k
-
-      token : (q .fits && leb 6 (q .place)) ≡ true → Reached text roles numbers out₀ stack₀ out₁ stack₁ q j
-      token t =
-          let two = both-true (q .fits) (leb 6 (q .place)) t in
-          let f : fits (length out₁ - 6) (stands out₁ stack₁ numbers q) ≡ true =
-          fits-within (length out₁ - 6) (stands out₁ stack₁ numbers q)
-          (put (getD roles j 0) (value-at text j (getD roles j 0)) (stands out stack numbers p)) k ∙ sym fits-left ∙ t in
-          record {
-            inner = omega (arith, r .inner);
-            state = within-one (length out₁ - 6) (stands out₁ stack₁ numbers q)
-                (put (getD roles j 0) (value-at text j (getD roles j 0)) (stands out stack numbers p)) f k ∙ is-left;
-            good = two .0;
-            front = leb-true 6 (q .place) (two .1);
-            behind = omega (arith, near .behind, r .behind, a);
-            low = omega (arith, near .height, r .low);
-            high = omega (arith, r .high, b);
-            rest = omega (arith, near .left, r .rest);
-            short = omega (arith, near .later, r .short);
-            room = a ∙ r .room;
-            tall = b ∙ r .tall;
-          }
-
-      refused : (q .fits && leb 6 (q .place)) ≡ false → within (length out₀ - 6) (writes-at text 0 roles (at-end numbers)) ≡ writing [] [] [] 0 false
-      refused t =
-          let f : fits (length out₁ - 6) (writes-at text j (drop j roles) (at-end numbers)) ≡ false =
-          ap (fits (length out₁ - 6)) (sym is-left) ∙ sym fits-left ∙ t in
-          within-unfit (length out₀ - 6) (writes-at text 0 roles (at-end numbers))
-          (rw (a ∙ r .room) at (unfit-all text roles (at-end numbers) (length out₁ - 6) j (omega (arith, r .inner)) f))
-
-    pub reached-token : (i : ℕ) → Reached text roles numbers out₀ stack₀ out stack p i → 0 < i → (getD roles (i - 1) 0 ≡ 0 → ⊥)
-        → (v : ℕ) → v ≡ value-at text (i - 1) (getD roles (i - 1) 0)
-        → within (length out - 6) (stands out₁ stack₁ numbers q) ≡ within (length out - 6) (put (getD roles (i - 1) 0) v (stands out stack numbers p))
-        → (q .fits && leb 6 (q .place)) ≡ true → Reached text roles numbers out₀ stack₀ out₁ stack₁ q (i - 1)
-    reached-token zero r l n v e k t = absurd (omega arith)
-    reached-token (suc j) r l n v e k t = rw sub-one (token j r (rw sub-one at n) (rw a (rw sub-one at (rw e at k))) t)
-
-    pub reached-refused : (i : ℕ) → Reached text roles numbers out₀ stack₀ out stack p i → 0 < i → (getD roles (i - 1) 0 ≡ 0 → ⊥)
-        → (v : ℕ) → v ≡ value-at text (i - 1) (getD roles (i - 1) 0)
-        → within (length out - 6) (stands out₁ stack₁ numbers q) ≡ within (length out - 6) (put (getD roles (i - 1) 0) v (stands out stack numbers p))
-        → (q .fits && leb 6 (q .place)) ≡ false → (s : Pen) → s .fits ≡ false
-        → kept (stands out₁ stack₁ numbers s) ≡ within (length out₀ - 6) (writes-at text 0 roles (at-end numbers))
-    reached-refused zero r l n v e k t s f = absurd (omega arith)
-    reached-refused (suc j) r l n v e k t s f = kept-spoilt out₁ stack₁ numbers s f ∙ sym (refused j r (rw sub-one at n) (rw a (rw sub-one at (rw e at k))) t)
+  -- nothing is written where no token begins
+  pub reached-gap : {i j : ℕ} → Gap roles i j → Reached text roles numbers out₀ stack₀ out stack p j → Reached text roles numbers out₀ stack₀ out stack p i
+  reached-gap g r = gap-back (Reached text roles numbers out₀ stack₀ out stack p) (λ k l e t. past k (rw add-one at t) e) g r
 
   pub reached-end : (i : ℕ) → Reached text roles numbers out₀ stack₀ out stack p i → i ≡ 0
       → kept (stands out stack numbers p) ≡ within (length out₀ - 6) (writes-at text 0 roles (at-end numbers))
@@ -203,3 +150,70 @@ module _ (text roles numbers out₀ stack₀ out stack : List ℕ) (p : Pen) whe
       let t : (p .fits && leb 6 (p .place)) ≡ true = rw (r .good, le-leb 6 (p .place) (r .front)) refl in
       let g : fits (length out₀ - 6) (writes-at text 0 roles (at-end numbers)) ≡ true = rw (← r .room, ← s) (sym f ∙ t) in
       ap kept s ∙ sym (within-fits (length out₀ - 6) (writes-at text 0 roles (at-end numbers)) g)
+
+-- A role ----------------------------------------------------------------------------------------------
+
+-- the role in front of place i, and what it leaves
+pub record Took (text roles numbers out₀ stack₀ out stack : List ℕ) (p : Pen) (out₁ stack₁ : List ℕ) (q : Pen) (i : ℕ) : Type 0 where
+  pub reached : Reached text roles numbers out₀ stack₀ out stack p i
+  pub more : 0 < i
+  pub near : Near (p .place) 1 1 p q
+  pub same-out : length out₁ ≡ length out
+  pub same-stack : length stack₁ ≡ length stack
+  pub v : ℕ
+  pub value : v ≡ value-at text (i - 1) (getD roles (i - 1) 0)
+  pub made : within (length out - 6) (stands out₁ stack₁ numbers q) ≡ within (length out - 6) (put (getD roles (i - 1) 0) v (stands out stack numbers p))
+
+module _ {text roles numbers out₀ stack₀ out stack : List ℕ} {p : Pen} {out₁ stack₁ : List ℕ} {q : Pen} {i : ℕ}
+    (k : Took text roles numbers out₀ stack₀ out stack p out₁ stack₁ q i) where
+  abbrev r : Reached text roles numbers out₀ stack₀ out stack p i
+  r = k .reached
+
+  abbrev role : Writing
+  role = put (getD roles (i - 1) 0) (k .v) (stands out stack numbers p)
+
+  made-here : within (length out₁ - 6) (stands out₁ stack₁ numbers q) ≡ within (length out₁ - 6) role
+  made-here = rw (k .same-out) (k .made)
+
+  is-left : role ≡ writes-at text (i - 1) (drop (i - 1) roles) (at-end numbers)
+  is-left =
+      let e : i ≡ suc (i - 1) = omega (arith, k .more) in
+      let s : stands out stack numbers p ≡ writes-at text (suc (i - 1)) (drop (suc (i - 1)) roles) (at-end numbers) =
+      r .state ∙ ap (λ j. writes-at text j (drop j roles) (at-end numbers)) e in
+      ap (λ v. put (getD roles (i - 1) 0) v (stands out stack numbers p)) (k .value)
+      ∙ ap (put (getD roles (i - 1) 0) (value-at text (i - 1) (getD roles (i - 1) 0))) s
+      ∙ sym (from-next text roles (at-end numbers) (i - 1) (omega (arith, k .more, r .inner)))
+
+  fits-left : (q .fits && leb 6 (q .place)) ≡ fits (length out₁ - 6) role
+  fits-left =
+      tested out₁ stack₁ numbers q role (omega (arith, r .front, r .behind, k .same-out)) (omega (arith, k .near .behind, r .behind, k .same-out)) made-here
+
+  pub reached-token : (q .fits && leb 6 (q .place)) ≡ true → Reached text roles numbers out₀ stack₀ out₁ stack₁ q (i - 1)
+  reached-token t =
+      let two = both-true (q .fits) (leb 6 (q .place)) t in
+      let f : fits (length out₁ - 6) (stands out₁ stack₁ numbers q) ≡ true =
+      fits-within (length out₁ - 6) (stands out₁ stack₁ numbers q) role made-here ∙ sym fits-left ∙ t in
+      record {
+        inner = omega (arith, r .inner);
+        state = within-one (length out₁ - 6) (stands out₁ stack₁ numbers q) role f made-here ∙ is-left;
+        good = two .0;
+        front = leb-true 6 (q .place) (two .1);
+        behind = omega (arith, k .near .behind, r .behind, k .same-out);
+        low = omega (arith, k .near .height, r .low, k .more);
+        high = omega (arith, r .high, k .same-stack);
+        rest = omega (arith, k .near .left, r .rest);
+        short = omega (arith, k .near .later, r .short, k .more);
+        room = k .same-out ∙ r .room;
+        tall = k .same-stack ∙ r .tall;
+      }
+
+  refused : (q .fits && leb 6 (q .place)) ≡ false → within (length out₀ - 6) (writes-at text 0 roles (at-end numbers)) ≡ writing [] [] [] 0 false
+  refused t =
+      let f : fits (length out₁ - 6) (writes-at text (i - 1) (drop (i - 1) roles) (at-end numbers)) ≡ false =
+      ap (fits (length out₁ - 6)) (sym is-left) ∙ sym fits-left ∙ t in
+      within-unfit (length out₀ - 6) (writes-at text 0 roles (at-end numbers))
+      (rw (k .same-out ∙ r .room) at (unfit-all text roles (at-end numbers) (length out₁ - 6) (i - 1) (omega (arith, r .inner)) f))
+
+  pub reached-refused : (q .fits && leb 6 (q .place)) ≡ false → (s : Pen) → s .fits ≡ false
+      → kept (stands out₁ stack₁ numbers s) ≡ within (length out₀ - 6) (writes-at text 0 roles (at-end numbers))
+  reached-refused t s f = kept-spoilt out₁ stack₁ numbers s f ∙ sym (refused t)

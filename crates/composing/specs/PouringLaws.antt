@@ -166,24 +166,15 @@ module _ (out₀ out stack n : List ℕ) (room : ℕ) (p q : Pen)
       let here : stands out stack n r ≡ passed (stands out stack n q) = popped-stands out stack n q r s ∙ rw (held-top stack (q .height) e) refl in
       ap (within room) here ∙ passed-within room (stands out stack n q) (poured 0 (stands out₀ stack n p)) k
 
-pub poured-then-spoilt : (p q r : Pen) → Poured p q → Spoilt q r → Poured p r
-poured-then-spoilt p q r a s =
+-- and then what leaves the bytes and no more that wait
+pub poured-then : (p q r : Pen) → Poured p q → r .place ≡ q .place → r .height ≤ q .height → r .left ≡ q .left → r .later ≡ q .later → Poured p r
+poured-then p q r a e h f g =
     record {
-      front = omega (arith, a .front, s .0);
-      behind = omega (arith, a .behind, s .0);
-      height = omega (arith, a .height, s .1);
-      left = s .2 ∙ a .left;
-      later = s .3 ∙ a .later;
-    }
-
-pub poured-then-popped : (p q r : Pen) → Poured p q → Popped q r → Poured p r
-poured-then-popped p q r a s =
-    record {
-      front = omega (arith, a .front, s .0);
-      behind = omega (arith, a .behind, s .0);
-      height = omega (arith, a .height, s .1);
-      left = s .2 ∙ a .left;
-      later = s .3 ∙ a .later;
+      front = omega (arith, a .front, e);
+      behind = omega (arith, a .behind, e);
+      height = omega (arith, a .height, h);
+      left = f ∙ a .left;
+      later = g ∙ a .later;
     }
 
 pub near-poured : {b h l : ℕ} {p q r : Pen} → Poured p q → Near b h l q r → Near (p .place) h l p r
@@ -199,10 +190,3 @@ near-poured a n =
 -- what is not poured
 pub poured-same : (p : Pen) → 6 ≤ p .place → Poured p p
 poured-same p h = record { front = h; behind = omega arith; height = omega arith; left = refl; later = refl }
-
-pub first-rest : (o m : ℕ) (y : Writing) → (m ≡ 1 → ⊥) → (m ≡ 2 → ⊥) → y ≡ getD (pourings o) m (λ x. x) y
-unfolding pourings
-first-rest o zero y a b = refl
-first-rest o (suc zero) y a b = absurd (a refl)
-first-rest o (suc (suc zero)) y a b = absurd (b refl)
-first-rest o (suc (suc (suc m))) y a b = refl

@@ -1,9 +1,10 @@
 -- One role in memory: what each of its marks picks, and the three in a row; the number of a literal.
-use Prim.Native.Nat.{ℕ, zero, suc, _+_, _≤_}
+use Prim.Native.Nat.{ℕ, zero, suc, _+_, _≤_, _<_}
+use native.Mathlib.Omega.{arith}
 use mathlib.Core.Path.{_≡_, refl, sym, ap, _∙_}
 use mathlib.Core.Bool.{Bool, true, _&&_}
 use mathlib.Core.List.{List}
-use lib.ListN.{getD, List·getD-eq-default}
+use lib.ListN.{length, getD, List·getD-eq-default}
 use Rattle.resolve.specs.declared.Word.{Word}
 use Rattle.resolve.specs.declared.Word.the-variants.{Of, Outside}
 use Rattle.compose.specs.Writing.{Writing, formed, behinds, pourings, stackings, behind-marks, forms, stack-marks, pour-marks, spelt, put}
@@ -12,32 +13,15 @@ use Rattle.compose.specs.FitsLaws.{formed-alike, stacked-alike, kept-within, sp
 
 -- By a mark ------------------------------------------------------------------------------------------
 
-pub chosen : (l : List (Writing → Writing)) (m k : ℕ) → m ≡ k → getD l k (λ x. x) ≡ getD l m (λ x. x)
-chosen l m k e = rw e refl
+-- the one that a mark names
+pub picked : (g : Writing → Writing) (l : List (Writing → Writing)) (y : Writing) {m k : ℕ} {x : Writing} → m ≡ k → x ≡ g (getD l k (λ x. x) y)
+    → x ≡ g (getD l m (λ x. x) y)
+picked g l y e f = rw e f
 
-pub behind-rest : (v m : ℕ) (y : Writing) → (m ≡ 1 → ⊥) → (m ≡ 2 → ⊥) → (m ≡ 3 → ⊥) → (m ≡ 4 → ⊥) → (m ≡ 5 → ⊥) → (m ≡ 6 → ⊥)
-    → kept y ≡ kept (getD (behinds v) m (λ x. x) y)
-unfolding behinds
-behind-rest v zero y a b c d e f = refl
-behind-rest v (suc zero) y a b c d e f = absurd (a refl)
-behind-rest v (suc (suc zero)) y a b c d e f = absurd (b refl)
-behind-rest v (suc (suc (suc zero))) y a b c d e f = absurd (c refl)
-behind-rest v (suc (suc (suc (suc zero)))) y a b c d e f = absurd (d refl)
-behind-rest v (suc (suc (suc (suc (suc zero))))) y a b c d e f = absurd (e refl)
-behind-rest v (suc (suc (suc (suc (suc (suc zero)))))) y a b c d e f = absurd (f refl)
-behind-rest v (suc (suc (suc (suc (suc (suc (suc m))))))) y a b c d e f = refl
-
-pub stacked-rest : (o m : ℕ) (y : Writing) → (m ≡ 1 → ⊥) → (m ≡ 2 → ⊥) → (m ≡ 3 → ⊥) → (m ≡ 4 → ⊥) → (m ≡ 5 → ⊥) → (m ≡ 6 → ⊥)
-    → kept y ≡ kept (getD (stackings o) m (λ x. x) y)
-unfolding stackings
-stacked-rest o zero y a b c d e f = refl
-stacked-rest o (suc zero) y a b c d e f = absurd (a refl)
-stacked-rest o (suc (suc zero)) y a b c d e f = absurd (b refl)
-stacked-rest o (suc (suc (suc zero))) y a b c d e f = absurd (c refl)
-stacked-rest o (suc (suc (suc (suc zero)))) y a b c d e f = absurd (d refl)
-stacked-rest o (suc (suc (suc (suc (suc zero))))) y a b c d e f = absurd (e refl)
-stacked-rest o (suc (suc (suc (suc (suc (suc zero)))))) y a b c d e f = absurd (f refl)
-stacked-rest o (suc (suc (suc (suc (suc (suc (suc m))))))) y a b c d e f = refl
+-- nothing, by a mark that names none of the others
+pub picked-none : (l : List (Writing → Writing)) (m : ℕ) (y : Writing) → getD l 0 (λ x. x) y ≡ y → (0 < m → length l ≤ m) → y ≡ getD l m (λ x. x) y
+picked-none l zero y e h = sym e
+picked-none l (suc m) y e h = ap (λ f. f y) (sym (List·getD-eq-default l (λ x. x) {n = suc m} (h (omega arith))))
 
 -- A role ----------------------------------------------------------------------------------------------
 

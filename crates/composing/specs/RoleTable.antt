@@ -7,6 +7,15 @@ unfoldable pub shifted : List ℕ → List ℕ
 shifted [] = []
 shifted (b ∷ l) = (48 + b) ∷ shifted l
 
-unfoldable pub mark-bytes : List ℕ
+unfoldable pub in-a-row : List (List ℕ) → List ℕ
 unfolding shifted
-mark-bytes = shifted pour-marks ++ (shifted behind-marks ++ (shifted forms ++ shifted stack-marks))
+in-a-row [] = []
+in-a-row (l ∷ ls) = shifted l ++ in-a-row ls
+
+-- what a role lets go first, what stands behind its form's byte, the form's byte, what it does to what waits
+abbrev pub mark-tables : List (List ℕ)
+mark-tables = pour-marks ∷ behind-marks ∷ forms ∷ stack-marks ∷ []
+
+unfoldable pub mark-bytes : List ℕ
+unfolding in-a-row
+mark-bytes = in-a-row mark-tables

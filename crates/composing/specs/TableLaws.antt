@@ -1,12 +1,13 @@
 -- What the tables of roles say, in a row as they are lent.
-use Prim.Native.Nat.{ℕ, zero, suc, _+_, _<_}
+use Prim.Native.Nat.{ℕ, zero, suc, _+_, _*_, _<_}
 use native.Mathlib.Omega.{arith}
 use mathlib.Core.Path.{_≡_, refl, sym, ap, _∙_}
 use mathlib.Core.List.{List, [], _∷_, _++_}
 use lib.ListN.{length, getD, length-append, List·getD-append}
 use lib.Seq.{getD-append-add}
+use Rattle.program.specs.Counts.{All}
 use Rattle.compose.specs.Writing.{behind-marks, forms, stack-marks, pour-marks}
-use Rattle.composing.specs.RoleTable.{shifted, mark-bytes}
+use Rattle.composing.specs.RoleTable.{shifted, in-a-row, mark-tables, mark-bytes}
 
 shifted-long : (l : List ℕ) → length (shifted l) ≡ length l
 unfolding shifted
@@ -19,86 +20,45 @@ shifted-at [] i h = absurd (omega arith)
 shifted-at (b ∷ l) zero h = refl
 shifted-at (b ∷ l) (suc i) h = shifted-at l i (omega arith)
 
-pour-long : length pour-marks ≡ 81
-unfolding pour-marks
-pour-long = refl
+-- there are 81 roles
+abbrev Long : List (List ℕ) → Type 0
+Long ls = All (λ l. length l ≡ 81) ls
 
-behind-long : length behind-marks ≡ 81
-unfolding behind-marks
-behind-long = refl
+row-long : (ls : List (List ℕ)) → Long ls → length (in-a-row ls) ≡ 81 * length ls
+unfolding in-a-row
+row-long [] a = refl
+row-long (l ∷ ls) a =
+    let b = length-append (shifted l) (in-a-row ls) in
+    let here = shifted-long l in
+    let rest = row-long ls (a .1) in
+    omega (arith, a .0, b, here, rest)
 
-forms-long : length forms ≡ 81
-unfolding forms
-forms-long = refl
+row-at : (ls : List (List ℕ)) (k c : ℕ) → Long ls → k < length ls → c < 81 → getD (in-a-row ls) (81 * k + c) 0 ≡ 48 + getD (getD ls k []) c 0
+unfolding in-a-row
+row-at [] k c a h i = absurd (omega arith)
+row-at (l ∷ ls) zero c a h i =
+    let here = shifted-long l in
+    let e : 81 * 0 + c ≡ c = omega arith in
+    ap (λ n. getD (shifted l ++ in-a-row ls) n 0) e
+    ∙ List·getD-append (shifted l) (in-a-row ls) 0 c (omega (arith, here, a .0, i)) ∙ shifted-at l c (omega (arith, a .0, i))
+row-at (l ∷ ls) (suc k) c a h i =
+    let here = shifted-long l in
+    let e : 81 * suc k + c ≡ length (shifted l) + (81 * k + c) = omega (arith, here, a .0) in
+    ap (λ n. getD (shifted l ++ in-a-row ls) n 0) e ∙ getD-append-add (shifted l) (in-a-row ls) (81 * k + c) 0 ∙ row-at ls k c (a .1) (omega arith) i
 
-stack-long : length stack-marks ≡ 81
-unfolding stack-marks
-stack-long = refl
+tables-long : Long mark-tables
+unfolding pour-marks behind-marks forms stack-marks
+tables-long = (refl, (refl, (refl, (refl, tt))))
 
--- in a row of tables
-here : (l m : List ℕ) (c : ℕ) → length l ≡ 81 → c < 81 → getD (shifted l ++ m) c 0 ≡ 48 + getD l c 0
-here l m c e h =
-    List·getD-append (shifted l) m 0 c (let k = shifted-long l in omega (arith, k, e, h)) ∙ shifted-at l c (omega (arith, e, h))
+-- what the row that was lent says of a role
+pub record Marks (t : List ℕ) (k c : ℕ) : Type 0 where
+  pub inside : 81 * k + c < length t
+  pub says : getD t (81 * k + c) 0 ≡ 48 + getD (getD mark-tables k []) c 0
 
-past : (l m : List ℕ) (n : ℕ) → length l ≡ 81 → getD (shifted l ++ m) (81 + n) 0 ≡ getD m n 0
-past l m n e = ap (λ k. getD (shifted l ++ m) (k + n) 0) (sym (shifted-long l ∙ e)) ∙ getD-append-add (shifted l) m n 0
-
--- what a table that was lent says of a role
-pub record Marks (t : List ℕ) (c : ℕ) : Type 0 where
-  pub inside : 243 + c < length t
-  pub pour : getD t c 0 ≡ 48 + getD pour-marks c 0
-  pub behind : getD t (81 + c) 0 ≡ 48 + getD behind-marks c 0
-  pub form : getD t (162 + c) 0 ≡ 48 + getD forms c 0
-  pub stack : getD t (243 + c) 0 ≡ 48 + getD stack-marks c 0
-
-abbrev last-two : List ℕ
-last-two = shifted forms ++ shifted stack-marks
-
-abbrev last-three : List ℕ
-last-three = shifted behind-marks ++ last-two
-
-row-long : length mark-bytes ≡ 324
+pub marks-in : {t : List ℕ} {k c : ℕ} → t ≡ mark-bytes → k < 4 → c < 81 → Marks t k c
 unfolding mark-bytes
-row-long =
-    let a = length-append (shifted pour-marks) last-three in
-    let b = length-append (shifted behind-marks) last-two in
-    let d = length-append (shifted forms) (shifted stack-marks) in
-    let p = shifted-long pour-marks ∙ pour-long in
-    let q = shifted-long behind-marks ∙ behind-long in
-    let r = shifted-long forms ∙ forms-long in
-    let s = shifted-long stack-marks ∙ stack-long in
-    omega (arith, a, b, d, p, q, r, s)
-
-module _ (c : ℕ) (h : c < 81) where
-  pour-here : getD mark-bytes c 0 ≡ 48 + getD pour-marks c 0
-  unfolding mark-bytes
-  pour-here = here pour-marks last-three c pour-long h
-
-  behind-here : getD mark-bytes (81 + c) 0 ≡ 48 + getD behind-marks c 0
-  unfolding mark-bytes
-  behind-here = past pour-marks last-three c pour-long ∙ here behind-marks last-two c behind-long h
-
-  form-here : getD mark-bytes (162 + c) 0 ≡ 48 + getD forms c 0
-  unfolding mark-bytes
-  form-here =
-      let e : 162 + c ≡ 81 + (81 + c) = omega arith in
-      ap (λ k. getD (shifted pour-marks ++ last-three) k 0) e ∙ past pour-marks last-three (81 + c) pour-long
-      ∙ past behind-marks last-two c behind-long ∙ here forms (shifted stack-marks) c forms-long h
-
-  stack-here : getD mark-bytes (243 + c) 0 ≡ 48 + getD stack-marks c 0
-  unfolding mark-bytes
-  stack-here =
-      let e : 243 + c ≡ 81 + (81 + (81 + c)) = omega arith in
-      ap (λ k. getD (shifted pour-marks ++ last-three) k 0) e ∙ past pour-marks last-three (81 + (81 + c)) pour-long
-      ∙ past behind-marks last-two (81 + c) behind-long ∙ past forms (shifted stack-marks) c forms-long
-      ∙ shifted-at stack-marks c (let s = stack-long in omega (arith, s, h))
-
-pub marks-in : {t : List ℕ} {c : ℕ} → t ≡ mark-bytes → c < 81 → Marks t c
-marks-in {t} {c} e h =
+marks-in {t} {k} {c} e h i =
     record {
-      inside = let l = ap length e ∙ row-long in omega (arith, l, h);
-      pour = ap (λ l. getD l c 0) e ∙ pour-here c h;
-      behind = ap (λ l. getD l (81 + c) 0) e ∙ behind-here c h;
-      form = ap (λ l. getD l (162 + c) 0) e ∙ form-here c h;
-      stack = ap (λ l. getD l (243 + c) 0) e ∙ stack-here c h;
+      inside = let l : length t ≡ 324 = ap length e ∙ row-long mark-tables tables-long in omega (arith, l, h, i);
+      says = ap (λ l. getD l (81 * k + c) 0) e ∙ row-at mark-tables k c tables-long h i;
     }

@@ -6,6 +6,7 @@ mod roles;
 mod table;
 mod waiting;
 
+use lexer::gaps;
 use resolve::Word;
 use resolve::literals;
 ghost use mathlib.Core.Path.{_≡_};
@@ -106,16 +107,16 @@ fn written(
         later: 0,
         fits: true,
     };
-    let mut i = roles.len();
+    // What stands behind the last token, and in front of each, writes nothing.
+    let mut i = gaps::start(roles, roles.len());
     while i > 0 {
         i -= 1;
         let c = roles[i];
-        if c != 0 {
-            p = roles::put(out, stack, numbers, marks, p, c, literal(text, i, c));
-            if !roomy(p) {
-                return bytes::spoilt(p);
-            }
+        p = roles::put(out, stack, numbers, marks, p, c, literal(text, i, c));
+        if !roomy(p) {
+            return bytes::spoilt(p);
         }
+        i = gaps::start(roles, i);
     }
     p
 }

@@ -36,8 +36,8 @@ pub fn put(
         return p;
     }
     let i = c as usize;
-    let a = pouring::first(out, stack, p, table::pouring(marks, i), c + 9);
-    let q = bytes::behind(out, numbers, a, table::behind(marks, i), v);
-    let r = bytes::formed(out, q, table::form(marks, i));
-    waiting::stacked(out, stack, r, table::stacking(marks, i), c + 9)
+    let a = pouring::first(out, stack, p, table::mark(marks, table::POURING, i), c + 9);
+    let q = bytes::behind(out, numbers, a, table::mark(marks, table::BEHIND, i), v);
+    let r = bytes::formed(out, q, table::mark(marks, table::FORM, i));
+    waiting::stacked(out, stack, r, table::mark(marks, table::STACKING, i), c + 9)
 }

@@ -1,10 +1,10 @@
 // What each of the 81 roles does (`compose/specs/Writing.antt`), as four tables in a row; a number is the byte that is 48 above it. `write` lends them once
 // for a text: a constant is laid down anew wherever it is lent.
 ghost use mathlib.Core.Path.{_≡_};
+ghost use mathlib.Core.List.{[]};
 ghost use Prim.Native.Nat.{_<_};
 ghost use lib.ListN.{getD};
-ghost use Rattle.compose.specs.Writing.{behind-marks, forms, stack-marks, pour-marks};
-ghost use Rattle.composing.specs.RoleTable.{mark-bytes};
+ghost use Rattle.composing.specs.RoleTable.{mark-tables, mark-bytes};
 
 // What a role lets go first, what stands behind its form's byte, the form's byte, what it does to what waits.
 pub(crate) const MARKS: [u8; 324] =
@@ -13,37 +13,20 @@ pub(crate) const MARKS: [u8; 324] =
     0010FG30000EE000000000@00000000000000CD0000B30A4120000022220000000000000000000000\
     001300100000000000030005555555555555000002001001110000011110000030330043064343030";
 
-pub(crate) fn pouring(t: &[u8], c: usize) -> u8
-    requires { ⌜ (now t ≡ mark-bytes) × (c < 81) ⌝ }
-    ensures { λ r. ⌜ r ≡ getD pour-marks c 0 ⌝ }
-{
-    let b = t[c];
-    b - 48
-}
+pub(crate) const POURING: usize = 0;
 
-pub(crate) fn behind(t: &[u8], c: usize) -> u8
-    requires { ⌜ (now t ≡ mark-bytes) × (c < 81) ⌝ }
-    ensures { λ r. ⌜ r ≡ getD behind-marks c 0 ⌝ }
-{
-    let i = 81 + c;
-    let b = t[i];
-    b - 48
-}
+pub(crate) const BEHIND: usize = 1;
 
-pub(crate) fn form(t: &[u8], c: usize) -> u8
-    requires { ⌜ (now t ≡ mark-bytes) × (c < 81) ⌝ }
-    ensures { λ r. ⌜ r ≡ getD forms c 0 ⌝ }
-{
-    let i = 162 + c;
-    let b = t[i];
-    b - 48
-}
+pub(crate) const FORM: usize = 2;
 
-pub(crate) fn stacking(t: &[u8], c: usize) -> u8
-    requires { ⌜ (now t ≡ mark-bytes) × (c < 81) ⌝ }
-    ensures { λ r. ⌜ r ≡ getD stack-marks c 0 ⌝ }
+pub(crate) const STACKING: usize = 3;
+
+// What one of the tables says of a role.
+pub(crate) fn mark(t: &[u8], table: usize, c: usize) -> u8
+    requires { ⌜ (now t ≡ mark-bytes) × (table < 4) × (c < 81) ⌝ }
+    ensures { λ r. ⌜ r ≡ getD (getD mark-tables table []) c 0 ⌝ }
 {
-    let i = 243 + c;
+    let i = 81 * table + c;
     let b = t[i];
     b - 48
 }

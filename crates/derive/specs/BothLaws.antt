@@ -25,13 +25,15 @@ unfolding on-sign
 sign-is g h e = on-sign-law (λ t b. b ≡ true → t ≡ sign g) g true false (sign h) (λ f. refl) (λ f. absurd (false≢true f)) (rw (e, on-sign) refl)
 
 module _ (P : Token → State → Act → Type 0) where
+  -- by the test's value
+  test-both : {s z : State} {a b : Act} {t u : Token} (x : Bool) → (x ≡ true → t ≡ u) → P u s a → P t z b
+      → P t (elim x [ true ↦ s | false ↦ z ]) (elim x [ true ↦ a | false ↦ b ])
+  test-both true e p q = rw (e refl) p
+  test-both false e p q = q
+
   pub word-both : (w : Word) {s z : State} {a b : Act} (t : Token) → P (word w) s a → P t z b → P t (on-word w s z t) (on-word w a b t)
   unfolding on-word
-  word-both w {s} {z} {a} {b} (word v) p q = go (eqb (word-number w) (word-number v)) refl
-    where
-      go : (x : Bool) → eqb (word-number w) (word-number v) ≡ x → P (word v) (on-word w s z (word v)) (on-word w a b (word v))
-      go true e = rw (e, on-word) (rw (word-is w v e) p)
-      go false e = rw (e, on-word) q
+  word-both w (word v) p q = test-both (eqb (word-number w) (word-number v)) (word-is w v) p q
   word-both w (sign g) p q = q
   word-both w (op o) p q = q
   word-both w (name x) p q = q
@@ -40,12 +42,8 @@ module _ (P : Token → State → Act → Type 0) where
 
   pub sign-both : (g : Sign) {s z : State} {a b : Act} (t : Token) → P (sign g) s a → P t z b → P t (on-sign g s z t) (on-sign g a b t)
   unfolding on-sign
-  sign-both g {s} {z} {a} {b} (sign h) p q = go (eqb (sign-number g) (sign-number h)) refl
-    where
-      go : (x : Bool) → eqb (sign-number g) (sign-number h) ≡ x → P (sign h) (on-sign g s z (sign h)) (on-sign g a b (sign h))
-      go true e = rw (e, on-sign) (rw (sign-is g h e) p)
-      go false e = rw (e, on-sign) q
   sign-both g (word v) p q = q
+  sign-both g (sign h) p q = test-both (eqb (sign-number g) (sign-number h)) (sign-is g h) p q
   sign-both g (op o) p q = q
   sign-both g (name x) p q = q
   sign-both g (int r ds) p q = q

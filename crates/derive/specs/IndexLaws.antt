@@ -9,7 +9,6 @@ use Rattle.derive.specs.Shape.{acts, act, samples, sample}
 use Rattle.derive.specs.RoleMarks.{by-kind, marks, mark}
 use Rattle.derive.specs.Table.{entries, act-at, mark-at, next-of, opened-of, told}
 use Rattle.derive.specs.TableLaws.{entry-told}
-use Rattle.derive.specs.declared.Act.{Act}
 use Rattle.derive.specs.declared.Act.the-variants.{Go, Open, Below, Stop}
 use borrow.Author.Tests.{eq-eqb, ne-eqb}
 
@@ -42,26 +41,26 @@ module _ (q k : ℕ) (h : 47 ≤ q) where
   mark-out = sym (List·getD-eq-default (marks (sample k)) by-kind {n = q} h)
 
 -- the act of an entry by its numbers
-module _ {i n : ℕ} {a : Act} (l : i < entries) (e : n ≡ next-of (act-at i)) (f : act-at i ≡ a) where
-  by-next : told n (opened-of (act-at i)) ≡ a
-  by-next = ap (λ m. told m (opened-of (act-at i))) e ∙ entry-told i l ∙ f
+module _ {i n : ℕ} (l : i < entries) (e : n ≡ next-of (act-at i)) where
+  by-next : told n (opened-of (act-at i)) ≡ act-at i
+  by-next = ap (λ m. told m (opened-of (act-at i))) e ∙ entry-told i l
 
-  pub told-stop : n ≡ 0 → Stop ≡ a
+  pub told-stop : n ≡ 0 → Stop ≡ act-at i
   unfolding told
   told-stop z = let h : told n (opened-of (act-at i)) ≡ Stop = rw (eq-eqb n 0 z, told) refl in sym h ∙ by-next
 
-  pub told-below : (n ≡ 0 → ⊥) → n ≡ 63 → Below ≡ a
+  pub told-below : (n ≡ 0 → ⊥) → n ≡ 63 → Below ≡ act-at i
   unfolding told
   told-below y z = let h : told n (opened-of (act-at i)) ≡ Below = rw (ne-eqb n 0 y, eq-eqb n 63 z, told) refl in sym h ∙ by-next
 
   module _ {o : ℕ} (y : n ≡ 0 → ⊥) (z : n ≡ 63 → ⊥) (g : o ≡ opened-of (act-at i)) where
-    pub told-go : o ≡ 0 → Go n ≡ a
+    pub told-go : o ≡ 0 → Go n ≡ act-at i
     unfolding told
     told-go w =
         let h : told n (opened-of (act-at i)) ≡ Go n = rw (ne-eqb n 0 y, ne-eqb n 63 z, eq-eqb (opened-of (act-at i)) 0 (sym g ∙ w), told) refl in
         sym h ∙ by-next
 
-    pub told-open : (o ≡ 0 → ⊥) → Open n o ≡ a
+    pub told-open : (o ≡ 0 → ⊥) → Open n o ≡ act-at i
     unfolding told
     told-open w =
         let h : told n (opened-of (act-at i)) ≡ Open n (opened-of (act-at i)) =

@@ -13,6 +13,7 @@ pub mod TableLaws
 pub mod IndexLaws
 pub mod Held
 pub mod HeldLaws
+pub mod CodeLaws
 pub mod RoleWays
 pub mod Leaving
 pub mod LeavingLaws

@@ -1,4 +1,4 @@
--- The loop over the kinds, place by place: its state and stack are the shape over the kinds passed, and what is left leads to the roles of the whole.
+-- The loop over the kinds, from token to token: its state and stack are the shape over the kinds passed, and what is left leads to the roles of the whole.
 use Prim.Native.Nat.{ℕ, _+_, _≤_, _<_}
 use native.Mathlib.Omega.{arith}
 use native.Mathlib.Numerals.{add-one}
@@ -10,16 +10,21 @@ use lib.Seq.{drop-cons, drop-set-lt}
 use lib.Dec.{eqb}
 use borrow.Author.Tests.{ne-eqb}
 use Rattle.lexer.specs.Marking.{kinds-in}
+use Rattle.lexer.specs.Gaps.{Gap}
+use Rattle.lexer.specs.GapLaws.{gap-over}
 use Rattle.derive.specs.Shape.{Shape, Shape.shape, sample, move, moves, derived}
 use Rattle.derive.specs.RoleMarks.{role, renamed, role-codes, placed}
+use Rattle.derive.specs.Table.{codes}
 use Rattle.derive.specs.Held.{held, Kept, passed, ends}
 use Rattle.derive.specs.HeldLaws.{kept-shape, passed-none, passed-token, loop-start, loop-past, loop-token, loop-end}
+use Rattle.derive.specs.CodeLaws.{move-code}
 use Rattle.derive.specs.Leaving.{amended, left, renames, leaves}
 use Rattle.derive.specs.LeavingLaws.{length-amended, left-all}
 
 -- of the kinds ks, with what stands in their places now, the stack, a state and its height, the place of the last token, and the next place
 pub record Reached (ks now stack₀ stack : List ℕ) (q h last i : ℕ) : Type 0 where
   pub inner : i ≤ length ks
+  pub code : q < codes
   pub low : h ≤ i
   pub before : last ≤ i
   pub fits : length ks ≤ length stack
@@ -39,7 +44,7 @@ leaves-next : (s : Shape) (last i k : ℕ) (ks m : List ℕ) → (k ≡ 0 → �
 unfolding leaves
 leaves-next s last i k ks m n = rw (ne-eqb k 0 n, leaves)
 
-length-left : (m : List ℕ) (i last r w : ℕ) → length (left m i last r w) ≡ length m
+pub length-left : (m : List ℕ) (i last r w : ℕ) → length (left m i last r w) ≡ length m
 unfolding left
 length-left m i last r w = length-set (amended m last w) i r ∙ length-amended m last w
 
@@ -63,6 +68,7 @@ unfolding passed kinds-in moves
 reached-start ks stack l =
     record {
       inner = omega arith;
+      code = omega arith;
       low = omega arith;
       before = omega arith;
       fits = l;
@@ -92,6 +98,7 @@ module _ {ks now stack₀ stack : List ℕ} {q h last i : ℕ} (r : Reached ks n
     reached-past e =
         record {
           inner = omega arith;
+          code = r .code;
           low = omega (arith, r .low);
           before = omega (arith, r .before);
           fits = r .fits;
@@ -102,17 +109,18 @@ module _ {ks now stack₀ stack : List ℕ} {q h last i : ℕ} (r : Reached ks n
           whole = rw (passed-none ks i l (sym at-kind ∙ e)) (sym (leaves-past (passed ks i) last i (getD now i 0) (drop (i + 1) ks) now e) ∙ whole-here);
         }
 
-    pub reached-token : {now₁ stack₁ : List ℕ} {q₁ h₁ : ℕ} → (getD now i 0 ≡ 0 → ⊥)
-        → now₁ ≡ left now i last (role (shape q (held stack h)) (getD now i 0)) (renamed q (getD now i 0))
+    pub reached-token : {now₁ stack₁ : List ℕ} {q₁ h₁ own other : ℕ} → (getD now i 0 ≡ 0 → ⊥)
+        → own ≡ role (shape q (held stack h)) (getD now i 0) → other ≡ renamed q (getD now i 0) → now₁ ≡ left now i last own other
         → Kept q₁ h₁ stack₁ (move (shape q (held stack h)) (sample (getD now i 0))) → h₁ ≤ h + 1 → length stack₁ ≡ length stack
         → Reached ks now₁ stack₀ stack₁ q₁ h₁ i (i + 1)
     unfolding renames
-    reached-token {now₁} {stack₁} {q₁} {h₁} n e k b c =
+    reached-token {now₁} {stack₁} {q₁} {h₁} n a w e k b c =
         let s : passed ks i ≡ shape q (held stack h) = kept-shape (r .state) in
-        let amended-on : now₁ ≡ left now i last (role (passed ks i) (getD now i 0)) (renames (passed ks i) (getD now i 0)) = rw s e in
+        let amended-on : now₁ ≡ left now i last (role (passed ks i) (getD now i 0)) (renames (passed ks i) (getD now i 0)) = rw (s, ← a, ← w) e in
         let passed-on : passed ks (i + 1) ≡ move (passed ks i) (sample (getD now i 0)) = rw at-kind (passed-token ks i l (λ z. n (at-kind ∙ z))) in
         record {
           inner = omega arith;
+          code = move-code _ _ k;
           low = omega (arith, r .low);
           before = omega arith;
           fits = omega (arith, r .fits);
@@ -129,3 +137,9 @@ module _ {ks now stack₀ stack : List ℕ} {q h last i : ℕ} (r : Reached ks n
       let e : i ≡ length ks = omega (arith, r .inner) in
       let d = drop-of-length-le ks {i = i} l in
       (loop-end ks stack q h i e (r .state), rw d at (r .whole) ∙ left-all ks)
+
+-- over a gap of the kinds as they are now
+pub reached-gap : {ks now stack₀ stack : List ℕ} {q h last i j : ℕ} → Gap now i j → Reached ks now stack₀ stack q h last i
+    → Reached ks now stack₀ stack q h last j
+reached-gap {ks} {now} {stack₀} {stack} {q} {h} {last} =
+    gap-over (Reached ks now stack₀ stack q h last) (λ p l e r. reached-past r (omega (arith, r .kept, l)) e)

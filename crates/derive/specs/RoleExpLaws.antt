@@ -297,8 +297,6 @@ constructor-comes l x c = record { there = λ a f m h. comes (onto 46 (onto 65 (
 -- Every expression -----------------------------------------------------------------------------------
 
 mutual
-  unfolding Fits FitsExps
-
   pub exp-comes : (e : Exp) (l : ℕ) → Fits l e → ComesExp l e
   exp-comes (binary o a b) l f = binary-comes l o (f .0) (exp-comes a (left o) (f .1)) (exp-comes b (suc (level o)) (f .2))
   exp-comes (brackets e) l f = brackets-come l (exp-comes e loosest f)

@@ -94,8 +94,6 @@ unfolding yield-stats roles-stats
 stats-go-on c d = record { all = λ h. c .there (d .all h) }
 
 mutual
-  unfolding FitsStat FitsStats
-
   stat-comes : (t : Stat) → FitsStat t → ComesStat t
   stat-comes (if-then e b) f = if-comes (exp-comes e loosest (f .0)) (stats-come b (f .1))
   stat-comes (assignment a x e) f = assignment-comes a x (exp-comes e loosest f)
@@ -134,17 +132,17 @@ pars-come (q ∷ ps) h = comes (first-par q _ ∙ codes (par-comes q (par-list-c
 
 steps-come : (ss : List Step) → FitsSteps ss → {ts : List Token} {rs : List Role} → Comes 2 [] ts rs
     → Comes 11 [] (yield-steps ss (sign rbrace ∷ ts)) (roles-steps ss (part steps-close ∷ rs))
-unfolding FitsSteps yield-steps roles-steps yield-step roles-step found
+unfolding yield-steps roles-steps yield-step roles-step found
 steps-come [] f h = comes (onto 73 (codes h))
 steps-come (step x b ∷ ss) f h =
     comes (onto 41 (onto 74 (codes (stats-come b (f .0) .all {st = 40 ∷ []} (comes (onto 75 (codes (steps-come ss (f .1) h))))))))
 
 struct-comes : (d : Struct) → FitsStruct d → {ts : List Token} {rs : List Role} → Comes 2 [] ts rs → Comes 2 [] (yield-struct d ts) (roles-struct d rs)
-unfolding FitsStruct yield-struct roles-struct found
+unfolding yield-struct roles-struct found
 struct-comes (struct x ps ss) f h = comes (onto 1 (onto 39 (onto 68 (codes (pars-come ps (comes (onto 72 (codes (steps-come ss f h)))))))))
 
 defs-come : (d : Defs) → FitsDefs d → {ts : List Token} {rs : List Role} → Comes 2 [] ts rs → Comes 2 [] (yield-defs d ts) (roles-defs d rs)
-unfolding FitsDefs yield-defs roles-defs
+unfolding yield-defs roles-defs
 defs-come (last-struct d) f h = struct-comes d f h
 defs-come (defs d ds) f h = struct-comes d (f .0) (defs-come ds (f .1) h)
 
@@ -224,7 +222,7 @@ begins (barrier i s) k = first-item i (op op-lt ∷ yield-sched s k)
 -- The program ------------------------------------------------------------------------------------------
 
 program-comes : (c : Program) → FitsProgram c → Comes 1 [] (yield c) (roles c)
-unfolding FitsProgram yield roles found
+unfolding yield roles found
 program-comes (program d s) f =
     comes (first-struct d _ ∙ codes (defs-come d f (comes (begins s [] ∙ codes (sched-comes s .all ends-item (comes refl))))))
 

@@ -12,7 +12,7 @@ use Rattle.syntax.specs.Syntax.{Exps.exps, Stat, Stat.if-then, Stat.assignment,
 use Rattle.syntax.specs.Syntax.{Par, Par.par, Step, Step.step, Struct, Struct.struct, Defs, Defs.last-struct, Defs.defs, Item, Item.execution}
 use Rattle.syntax.specs.Syntax.{Item.typed-execution, Item.fixpoint, Sched, Sched.last-item, Sched.barrier, Program, Program.program}
 use Rattle.syntax.specs.Yield.{type-token, literal-token}
-use Rattle.lexer.specs.Kinds.{kind}
+use Rattle.lexer.specs.Kinds.{kinds, kind}
 
 -- what a type is that of: a parameter, a local where it is declared, null
 pub data Typed : Type 0 where
@@ -45,19 +45,24 @@ pub data Role : Type 0 where
 
 -- As bytes -------------------------------------------------------------------------------
 
+unfoldable pub naming-number : Naming → ℕ
+naming-number new-struct = 0
+naming-number new-par = 1
+naming-number new-step = 2
+naming-number new-local = 3
+naming-number first-read = 4
+naming-number first-written = 5
+naming-number later-variable = 6
+naming-number made = 7
+naming-number made-statement = 8
+naming-number called = 9
+naming-number called-struct = 10
+naming-number called-step = 11
+
+-- behind the kinds of tokens
 unfoldable pub naming-code : Naming → ℕ
-naming-code new-struct = 39
-naming-code new-par = 40
-naming-code new-step = 41
-naming-code new-local = 42
-naming-code first-read = 43
-naming-code first-written = 44
-naming-code later-variable = 45
-naming-code made = 46
-naming-code made-statement = 47
-naming-code called = 48
-naming-code called-struct = 49
-naming-code called-step = 50
+unfolding naming-number
+naming-code n = kinds + naming-number n
 
 -- Int, Nat, Bool and a name behind each of these
 unfoldable pub typed-code : Typed → ℕ
@@ -71,25 +76,30 @@ type-number nat-type = 1
 type-number bool-type = 2
 type-number (id-type x) = 3
 
+unfoldable pub part-number : Part → ℕ
+part-number brackets-open = 0
+part-number brackets-close = 1
+part-number args-open = 2
+part-number args-close = 3
+part-number no-args-close = 4
+part-number pars-open = 5
+part-number pars-close = 6
+part-number fix-open = 7
+part-number fix-close = 8
+part-number steps-open = 9
+part-number steps-close = 10
+part-number body-open = 11
+part-number body-close = 12
+part-number then-open = 13
+part-number then-close = 14
+part-number par-comma = 15
+part-number arg-comma = 16
+part-number barrier-sign = 17
+
+-- behind the types
 unfoldable pub part-code : Part → ℕ
-part-code brackets-open = 63
-part-code brackets-close = 64
-part-code args-open = 65
-part-code args-close = 66
-part-code no-args-close = 67
-part-code pars-open = 68
-part-code pars-close = 69
-part-code fix-open = 70
-part-code fix-close = 71
-part-code steps-open = 72
-part-code steps-close = 73
-part-code body-open = 74
-part-code body-close = 75
-part-code then-open = 76
-part-code then-close = 77
-part-code par-comma = 78
-part-code arg-comma = 79
-part-code barrier-sign = 80
+unfolding part-number
+part-code g = 63 + part-number g
 
 unfoldable pub code : Role → ℕ
 code (plain t) = kind t

@@ -9,6 +9,9 @@ use Rattle.derive.specs.RoleMarks.{mark}
 use Rattle.derive.specs.declared.Act.{Act}
 use Rattle.derive.specs.declared.Act.the-variants.{Go, Open, Below, Stop}
 
+abbrev pub codes : ℕ
+codes = 47
+
 abbrev pub entries : ℕ
 entries = 1833
 

@@ -49,12 +49,18 @@ module _ {t : List ℕ} {i : ℕ} where
   pub next-here : t ≡ next-bytes → i < entries → getD t i 0 ≡ 48 + next-of (act-at i)
   next-here e h = ap (λ l. getD l i 0) e ∙ next-byte i h
 
+  pub next-number : {n : ℕ} → t ≡ next-bytes → i < entries → getD t i 0 ≡ 48 + n → n ≡ next-of (act-at i)
+  next-number e h g = omega (arith, next-here e h, g)
+
   pub opened-in : t ≡ opened-bytes → i < entries → i < length t
   unfolding opened-bytes
   opened-in e h = let l = values-length (λ j. 48 + opened-of (act-at j)) 0 entries in omega (arith, ap length e ∙ l)
 
   pub opened-here : t ≡ opened-bytes → i < entries → getD t i 0 ≡ 48 + opened-of (act-at i)
   opened-here e h = ap (λ l. getD l i 0) e ∙ opened-byte i h
+
+  pub opened-number : {n : ℕ} → t ≡ opened-bytes → i < entries → getD t i 0 ≡ 48 + n → n ≡ opened-of (act-at i)
+  opened-number e h g = omega (arith, opened-here e h, g)
 
   pub mark-in : t ≡ mark-bytes → i < entries → i < length t
   unfolding mark-bytes
@@ -120,11 +126,11 @@ same-acts Stop Below t = absurd t
 same-acts Stop Stop t = refl
 
 -- a test of each number below n
-each : (ℕ → Bool) → ℕ → Bool
+unfoldable pub each : (ℕ → Bool) → ℕ → Bool
 each f zero = true
 each f (suc n) = both (f n) (each f n)
 
-each-below : (f : ℕ → Bool) (n : ℕ) → T (each f n) → (i : ℕ) → i < n → T (f i)
+pub each-below : (f : ℕ → Bool) (n : ℕ) → T (each f n) → (i : ℕ) → i < n → T (f i)
 unfolding each
 each-below f zero t i h = absurd (not-suc-le-zero h)
 each-below f (suc n) t i h = go (eqb i n) refl (λ l. each-below f n (both-right (f n) (each f n) t) i l)

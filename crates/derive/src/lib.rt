@@ -3,6 +3,7 @@
 pub mod roles;
 pub mod table;
 
+use lexer::gaps;
 ghost use mathlib.Core.Path.{_≡_};
 ghost use mathlib.Core.List.{[]};
 ghost use Prim.Native.Nat.{_+_, _<_, _≤_};
@@ -10,7 +11,7 @@ ghost use lib.ListN.{length, set};
 ghost use Rattle.lexer.specs.Marking.{kinds-in};
 ghost use Rattle.derive.specs.Shape.{Shape.shape, act, acted-below, move, sample, derived};
 ghost use Rattle.derive.specs.RoleMarks.{mark, role-codes, placed};
-ghost use Rattle.derive.specs.Table.{entries, act-at, mark-at, next-bytes, opened-bytes, mark-bytes};
+ghost use Rattle.derive.specs.Table.{codes, entries, act-at, mark-at, next-bytes, opened-bytes, mark-bytes};
 ghost use Rattle.derive.specs.Held.{held, Kept, ends};
 
 // The codes of states and of what is open; the kinds, with 0.
@@ -48,13 +49,11 @@ fn dead() -> Mark
     }
 }
 
-// The place of an act and of a role in the tables.
-pub(crate) fn index(q: u8, k: u8) -> usize
+// The place of an act and of a role in the tables, of a code.
+fn entry(q: u8, k: u8) -> usize
+    requires { ⌜ q < codes ⌝ }
     ensures { λ r. ⌜ (r < entries) × (act-at r ≡ act q (sample k)) × (mark-at r ≡ mark q (sample k)) ⌝ }
 {
-    if q >= CODES {
-        return 0;
-    }
     let row = q as usize * 39;
     if k >= KINDS {
         return row;
@@ -62,20 +61,29 @@ pub(crate) fn index(q: u8, k: u8) -> usize
     row + k as usize
 }
 
-// What a token of kind k does in state q, by the tables.
-fn act_of(next: &[u8], opened: &[u8], q: u8, k: u8) -> Act
-    requires { ⌜ (now next ≡ next-bytes) × (now opened ≡ opened-bytes) ⌝ }
-    ensures { λ r. ⌜ r ≡ act q (sample k) ⌝ }
+// The same, of a byte.
+pub(crate) fn index(q: u8, k: u8) -> usize
+    ensures { λ r. ⌜ (r < entries) × (act-at r ≡ act q (sample k)) × (mark-at r ≡ mark q (sample k)) ⌝ }
 {
-    let i = index(q, k);
-    let n = table::next(next, i);
+    if q >= CODES {
+        return 0;
+    }
+    entry(q, k)
+}
+
+// The act at a place of the tables.
+fn act_at(next: &[u8], opened: &[u8], i: usize) -> Act
+    requires { ⌜ (now next ≡ next-bytes) × (now opened ≡ opened-bytes) × (i < entries) ⌝ }
+    ensures { λ r. ⌜ r ≡ act-at i ⌝ }
+{
+    let n = table::number(next, i);
     if n == 0 {
         return Act::Stop;
     }
     if n == 63 {
         return Act::Below;
     }
-    let o = table::opened(opened, i);
+    let o = table::number(opened, i);
     if o == 0 {
         return Act::Go(n);
     }
@@ -106,7 +114,7 @@ fn below(next: &[u8], opened: &[u8], stack: &mut [u8], h: usize, k: u8) -> Mark
     }
     let i = h - 1;
     let q = stack[i];
-    match act_of(next, opened, q, k) {
+    match act_at(next, opened, index(q, k)) {
         Act::Go(p) => Mark {
             state: p,
             height: i,
@@ -117,15 +125,15 @@ fn below(next: &[u8], opened: &[u8], stack: &mut [u8], h: usize, k: u8) -> Mark
     }
 }
 
-// One token, by the tables.
-fn moved(next: &[u8], opened: &[u8], stack: &mut [u8], m: Mark, k: u8) -> Mark
+// One token, by the tables, with its place in them.
+fn moved(next: &[u8], opened: &[u8], stack: &mut [u8], m: Mark, k: u8, i: usize) -> Mark
     requires { ⌜ (now next ≡ next-bytes) × (now opened ≡ opened-bytes) × (m .height < length (now stack)) ⌝ }
+    requires { ⌜ (i < entries) × (act-at i ≡ act (m .state) (sample k)) ⌝ }
     ensures { λ r. ⌜ Kept (r .state) (r .height) (now (stack .exit)) (move (shape (m .state) (held (now (stack .entry)) (m .height))) (sample k)) ⌝ }
     ensures { λ r. ⌜ (r .height ≤ m .height + 1) × (length (now (stack .exit)) ≡ length (now (stack .entry))) ⌝ }
 {
-    let q = m.state;
     let h = m.height;
-    match act_of(next, opened, q, k) {
+    match act_at(next, opened, i) {
         Act::Go(p) => Mark {
             state: p,
             height: h,
@@ -142,7 +150,8 @@ pub fn step(stack: &mut [u8], m: Mark, k: u8) -> Mark
     ensures { λ r. ⌜ Kept (r .state) (r .height) (now (stack .exit)) (move (shape (m .state) (held (now (stack .entry)) (m .height))) (sample k)) ⌝ }
     ensures { λ r. ⌜ (r .height ≤ m .height + 1) × (length (now (stack .exit)) ≡ length (now (stack .entry))) ⌝ }
 {
-    moved(&table::NEXT, &table::OPENED, stack, m, k)
+    let q = m.state;
+    moved(&table::NEXT, &table::OPENED, stack, m, k, index(q, k))
 }
 
 // Behind an item of the schedule itself.
@@ -169,22 +178,22 @@ fn walk(next: &[u8], opened: &[u8], marks: &[u8], kinds: &mut [u8], stack: &mut 
         height: 0,
     };
     let mut last = 0;
-    let mut i = 0;
+    let mut i = gaps::first(kinds);
     while i < kinds.len() {
-        let k = kinds[i];
-        if k != 0 {
-            let q = m.state;
-            roles::leave(
-                kinds,
-                i,
-                last,
-                roles::role(marks, stack, m, k),
-                roles::renamed(q, k),
-            );
-            m = moved(next, opened, stack, m, k);
-            last = i;
-        }
-        i += 1;
+        let at = i;
+        let k = kinds[at];
+        let q = m.state;
+        let e = entry(q, k);
+        roles::leave(
+            kinds,
+            at,
+            last,
+            roles::role(marks, stack, m, k, e),
+            roles::renamed(q, k),
+        );
+        m = moved(next, opened, stack, m, k, e);
+        last = at;
+        i = gaps::next(kinds, at + 1);
     }
     let q = m.state;
     let h = m.height;

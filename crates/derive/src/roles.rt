@@ -7,7 +7,7 @@ ghost use Prim.Native.Nat.{_<_, _≤_};
 ghost use lib.ListN.{length};
 ghost use Rattle.derive.specs.Shape.{Shape.shape, sample};
 ghost use Rattle.derive.specs.RoleMarks.{mark, said, role, renamed};
-ghost use Rattle.derive.specs.Table.{mark-bytes};
+ghost use Rattle.derive.specs.Table.{entries, mark-at, mark-bytes};
 ghost use Rattle.derive.specs.Held.{held};
 ghost use Rattle.derive.specs.Leaving.{amended, left};
 
@@ -56,14 +56,13 @@ fn said_by(marks: &[u8], q: u8, k: u8) -> u8
     said(table::mark(marks, index(q, k)), k)
 }
 
-// The role of a token by the state that it meets, or by what was opened last.
-pub(crate) fn role(marks: &[u8], stack: &[u8], m: Mark, k: u8) -> u8
-    requires { ⌜ (now marks ≡ mark-bytes) × (m .height ≤ length (now stack)) ⌝ }
+// The role of a token, with its place in the tables, by the state that it meets, or by what was opened last.
+pub(crate) fn role(marks: &[u8], stack: &[u8], m: Mark, k: u8, e: usize) -> u8
+    requires { ⌜ (now marks ≡ mark-bytes) × (m .height ≤ length (now stack)) × (e < entries) × (mark-at e ≡ mark (m .state) (sample k)) ⌝ }
     ensures { λ r. ⌜ r ≡ role (shape (m .state) (held (now (stack .entry)) (m .height))) k ⌝ }
 {
-    let q = m.state;
     let h = m.height;
-    let b = table::mark(marks, index(q, k));
+    let b = table::mark(marks, e);
     if b != BY_OPENED {
         return said(b, k);
     }

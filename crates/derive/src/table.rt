@@ -2,8 +2,9 @@
 // what was opened last takes the token), and what it opens (0: nothing); a number is the byte that is 48 above it. The roles (`specs/RoleMarks.antt`).
 // A constant is laid down anew wherever it is lent: the functions that walk a text lend each once, and lend what was lent to them.
 ghost use mathlib.Core.Path.{_≡_};
-ghost use Prim.Native.Nat.{_<_};
-ghost use Rattle.derive.specs.Table.{entries, next-of, opened-of, act-at, mark-at, next-bytes, opened-bytes, mark-bytes};
+ghost use Prim.Native.Nat.{_+_, _<_, _≤_};
+ghost use lib.ListN.{length, getD};
+ghost use Rattle.derive.specs.Table.{entries, mark-at, mark-bytes};
 
 pub(crate) const NEXT: [u8; 1833] =
     *b"000000000000000000000000000000000000000030000000000000000000000000000000000000\
@@ -84,17 +85,10 @@ pub(crate) const MARKS: [u8; 1833] =
     ______________B__O____________________________________________________________\
     _______________________________________";
 
-pub(crate) fn next(t: &[u8], i: usize) -> u8
-    requires { ⌜ (now t ≡ next-bytes) × (i < entries) ⌝ }
-    ensures { λ r. ⌜ r ≡ next-of (act-at i) ⌝ }
-{
-    let b = t[i];
-    b - 48
-}
-
-pub(crate) fn opened(t: &[u8], i: usize) -> u8
-    requires { ⌜ (now t ≡ opened-bytes) × (i < entries) ⌝ }
-    ensures { λ r. ⌜ r ≡ opened-of (act-at i) ⌝ }
+// The number of a byte.
+pub(crate) fn number(t: &[u8], i: usize) -> u8
+    requires { ⌜ (i < length (now t)) × (48 ≤ getD (now t) i 0) ⌝ }
+    ensures { λ r. ⌜ getD (now (t .entry)) i 0 ≡ 48 + r ⌝ }
 {
     let b = t[i];
     b - 48

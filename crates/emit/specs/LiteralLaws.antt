@@ -11,15 +11,14 @@ use Rattle.types.specs.Limits.{nat-end, int-half}
 use Rattle.types.specs.Types.{Ty, code}
 use Rattle.types.specs.TypeLaws.{type-of-code}
 use Rattle.types.specs.Values.{int-word, word-int, word, value-of}
-use Rattle.program.specs.Tree.{Op, Op.op-eq, Op.op-ne, Op.op-le, Op.op-ge, Op.op-lt, Op.op-gt, Op.op-mul, Op.op-div, Op.op-rem, Op.op-add, Op.op-sub}
-use Rattle.program.specs.Tree.{Op.op-and, Op.op-or, Expr, Expr.int-lit, Expr.nat-lit, Expr.bool-lit, Expr.null, Expr.self}
-use Rattle.program.specs.Encoding.{op-code, enc-word}
+use Rattle.program.specs.Tree.{Expr, Expr.int-lit, Expr.nat-lit, Expr.bool-lit, Expr.null, Expr.self}
+use Rattle.program.specs.Encoding.{enc-word}
 use Rattle.program.specs.Reader.{Result.ok, Result.bad, wrong-byte, made, Form, Form.form-inv, Form.form-make, Form.form-path, Form.form-int}
 use Rattle.program.specs.Reader.{Form.form-nat, Form.form-bool, Form.form-null, Form.form-self, Form.form-op, Form.form-none, form, bool-end}
 use Rattle.program.specs.Reader.{word-bytes, ranged, read-word, read-type, rule-expr, read-expr}
 use Rattle.program.specs.Exact.{Stands, Stands.done, Stands.letter}
 use Rattle.program.specs.Laws.PartLaws.{told-is, made-ok}
-use Rattle.program.specs.Laws.ExprLaws.{Opens, opens}
+use Rattle.program.specs.Laws.ExprLaws.{Opens, opens, op-range}
 use Rattle.program.specs.Laws.WordLaws.{word-exact, type-exact}
 use Rattle.commands.specs.Commands.{expr-coms, flatten}
 use Rattle.commands.specs.Coding.{coded, com-word, command-word, words}
@@ -70,23 +69,6 @@ null-words t = rw (type-of-code t)
 this-words : expr-words self ≡ coded 2 0 0 ∷ []
 unfolding expr-words expr-coms flatten words command-word com-word
 this-words = refl
-
--- operators have the higher bytes
-op-high : (o : Op) → 24 ≤ op-code o
-unfolding op-code
-op-high op-eq = omega arith
-op-high op-ne = omega arith
-op-high op-le = omega arith
-op-high op-ge = omega arith
-op-high op-lt = omega arith
-op-high op-gt = omega arith
-op-high op-mul = omega arith
-op-high op-div = omega arith
-op-high op-rem = omega arith
-op-high op-add = omega arith
-op-high op-sub = omega arith
-op-high op-and = omega arith
-op-high op-or = omega arith
 
 -- what the code has of the form that the byte b opens
 pub record LeafFacts (ar s : List ℕ) (d at b : ℕ) : Type 0 where
@@ -150,7 +132,7 @@ module _ (ar s : List ℕ) (d at : ℕ) (g : Good (read-expr ar s d at)) where
       go form-bool e o = rw o (truth (expr-step ar s d at g .2 ∙ rw e refl))
       go form-null e o = rw o (nothing (expr-step ar s d at g .2 ∙ rw e refl))
       go form-self e o = rw o (this (expr-step ar s d at g .2 ∙ rw e refl))
-      go (form-op c) e o = absurd (omega (arith, op-high c))
+      go (form-op c) e o = absurd (omega (arith, op-range c))
       go form-none e o =
           let p : read-expr ar s d at ≡ bad at wrong-byte = expr-step ar s d at g .2 ∙ rw e refl in
           absurd (rw p at g)

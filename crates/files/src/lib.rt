@@ -13,16 +13,24 @@ pub struct Loaded {
     pub len: usize,
 }
 
+// Nothing, where all was not read.
+fn none(buf: &[u8]) -> Loaded
+    ensures { λ r. ⌜ Counts (r .len) (now (buf .entry)) ⌝ }
+    ensures { λ r. ⌜ (r .done ≡ false) × (r .len ≡ 0) ⌝ }
+{
+    Loaded {
+        done: false,
+        len: io::count(0, buf),
+    }
+}
+
 // What was not read, which is told.
 fn unread(buf: &[u8], what: &[u8]) -> Loaded
     ensures { λ r. ⌜ Counts (r .len) (now (buf .entry)) ⌝ }
     ensures { λ r. ⌜ (r .done ≡ false) × (r .len ≡ 0) ⌝ }
 {
     os::fail(what);
-    Loaded {
-        done: false,
-        len: io::count(0, buf),
-    }
+    none(buf)
 }
 
 // What is left to read of an open file: as many bytes as the buffer has places for. A read that failed is told from the end by asking once more.
@@ -42,11 +50,23 @@ fn read(fd: i32, buf: &mut [u8], what: &[u8]) -> Loaded
     }
 }
 
-// Standard input.
-pub fn input(buf: &mut [u8]) -> Loaded
+// Whether a program was called with so many words, its own name among them; if not, its help is told.
+fn called(words: usize, help: &[u8]) -> bool {
+    let right = os::arg_count() == words;
+    if !right {
+        tell(help);
+    }
+    right
+}
+
+// Standard input, for a program that takes no arguments. Where it was given any, its help is told, and nothing is read.
+pub fn input(help: &[u8], buf: &mut [u8]) -> Loaded
     ensures { λ r. ⌜ Counts (r .len) (now (buf .exit)) ⌝ }
     ensures { λ r. ⌜ AllOrNone (r .done) (r .len) ⌝ }
 {
+    if !called(1, help) {
+        return none(buf);
+    }
     read(STDIN_FILENO, buf, b"standard input")
 }
 
@@ -77,12 +97,27 @@ pub struct Inputs {
     pub turns: usize,
 }
 
-// A program image, a table image and turn bytes from the files that arguments 1 to 3 name. Each that cannot be read is told.
-pub fn load_inputs(program: &mut [u8], table: &mut [u8], turns: &mut [u8]) -> Inputs
+// A program image, a table image and turn bytes from the files that arguments 1 to 3 name, for a program that is called with so many words.
+// Each that cannot be read is told; where the words are more or fewer, the program's help is, and nothing is read.
+pub fn load_inputs(
+    words: usize,
+    help: &[u8],
+    program: &mut [u8],
+    table: &mut [u8],
+    turns: &mut [u8],
+) -> Inputs
     ensures { λ r. ⌜ Counts (r .program) (now (program .exit)) ⌝ }
     ensures { λ r. ⌜ Counts (r .table) (now (table .exit)) ⌝ }
     ensures { λ r. ⌜ Counts (r .turns) (now (turns .exit)) ⌝ }
 {
+    if !called(words, help) {
+        return Inputs {
+            done: false,
+            program: io::count(0, program),
+            table: io::count(0, table),
+            turns: io::count(0, turns),
+        };
+    }
     let p = load(1, program);
     let t = load(2, table);
     let e = load(3, turns);

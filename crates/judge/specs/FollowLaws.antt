@@ -7,14 +7,16 @@ use mathlib.Core.Path.{_≡_, refl, sym, _∙_}
 use mathlib.Core.List.{List}
 use lib.Dec.{eqb, ltb}
 use borrow.Author.Tests.{eqb-true, eqb-false, ltb-true, ltb-false}
-use Rattle.program.specs.Tree.{Expr, Expr.inv, Expr.make, Expr.path, Expr.int-lit, Expr.nat-lit, Expr.bool-lit, Expr.null, Expr.self, Expr.op, Exprs}
+use Rattle.program.specs.Tree.{Expr, Exprs}
 use Rattle.program.specs.Tree.{Exprs.none, Exprs.more, Stmt, Stmt.when, Stmt.declare, Stmt.update, Stmt.create, Stmts, Stmts.end, Stmts.next}
+use Rattle.commands.specs.Laws.DepthLaws.{peak-pos}
 use Rattle.judge.specs.declared.Facts.{Facts}
 use Rattle.judge.specs.declared.Scope.{Scope}
 use Rattle.judge.specs.declared.Done.{Done}
 use Rattle.judge.specs.ProgramFacts.{Planned, plan, joined}
 use Rattle.judge.specs.Facts.{facts, demand, negated, combined, travelled, no-args, argued, appended, constructed, expr-facts, args-facts}
 use Rattle.judge.specs.Facts.{worst, result, nothing, branched, declared, updated, created, followed, stmt-facts, body-facts}
+use Rattle.judge.specs.SizeFactsLaws.{expr-facts-peak}
 
 -- the worse of two faults, by which of them are there
 module _ (a b : ℕ) where
@@ -138,16 +140,7 @@ module _ (ar types : List ℕ) (own w : ℕ) where
   args-typ (more e es) k x = refl
 
   pub expr-high : (e : Expr) → 1 ≤ expr-facts ar types own w e .peak
-  unfolding expr-facts negated constructed travelled combined
-  expr-high (inv e) = expr-high e
-  expr-high (make k es) = omega arith
-  expr-high (path v vs) = omega arith
-  expr-high (int-lit n) = omega arith
-  expr-high (nat-lit n) = omega arith
-  expr-high (bool-lit n) = omega arith
-  expr-high (null t) = omega arith
-  expr-high self = omega arith
-  expr-high (op o a b) = let h = expr-high a in omega arith
+  expr-high e = rw (expr-facts-peak ar types own w e) (peak-pos e)
 
 -- Items -----------------------------------------------------------------------------
 

@@ -1,9 +1,10 @@
 pub mod Kinds
-pub mod WordTable
-pub mod WordTableLaws
 pub mod KindLaws
 pub mod Marking
 pub mod RunLaws
 pub mod MarkingLaws
 pub mod SpotLaws
+pub mod WordFirst
 pub mod WordFirstLaws
+pub mod Gaps
+pub mod GapLaws

@@ -1,10 +1,11 @@
 -- What stands in each place of a text: the kind of the token that begins there, 0 where none does; and whether the text parts into tokens.
 use Prim.Native.Nat.{ℕ, zero, suc}
+use mathlib.Core.Path.{_≡_}
 use mathlib.Core.Bool.{Bool, true, false, _&&_, _||_}
 use mathlib.Core.List.{List, [], _∷_}
 use mathlib.Core.Option.{Option, none, some}
 use lib.Dec.{eqb}
-use Rattle.tokens.specs.Tokens.{Token, digit}
+use Rattle.tokens.specs.Tokens.{Token, digit, name-byte}
 use Rattle.tokens.specs.Scanning.{Front, Front.token, Front.gap, Front.nothing, front, lex}
 use Rattle.lexer.specs.Kinds.{kind}
 use Rattle.lexer.specs.declared.Spot.{Spot}
@@ -14,6 +15,10 @@ unfoldable pub spot-of : Front → Spot
 spot-of (token t n) = Marked (kind t) n
 spot-of (gap n) = Marked 0 n
 spot-of nothing = Stray
+
+-- a byte is a token of kind k, whatever stands behind it
+abbrev pub Lone : ℕ → ℕ → Type 0
+Lone b k = (t : List ℕ) → Marked k 0 ≡ spot-of (front (b ∷ t))
 
 -- k bytes belong to what was taken before
 unfoldable pub at-spot : ℕ → List ℕ → Spot
@@ -50,6 +55,11 @@ kinds-in (k ∷ ks) = elim (eqb k 0) [ true ↦ kinds-in ks | false ↦ k ∷ ki
 -- two bytes where d follows, else one of its own, if there is one
 unfoldable pub followed : ℕ → ℕ → ℕ → ℕ → Spot
 followed c d two one = elim (eqb c d) [ true ↦ Marked two 1 | false ↦ elim (eqb one 0) [ true ↦ Stray | false ↦ Marked one 0 ] ]
+
+-- what a run goes on with: a name's, or else that of a number
+abbrev pub run-byte : Bool → ℕ → Bool
+run-byte true = name-byte
+run-byte false = digit
 
 -- a sign with a digit behind it
 abbrev pub signs-digit : ℕ → ℕ → Bool

@@ -5,7 +5,7 @@ use native.Mathlib.Numerals.{add-one}
 use mathlib.Core.Path.{_≡_, refl, sym, ap, _∙_}
 use mathlib.Core.Bool.{Bool, true, false, _&&_}
 use mathlib.Core.List.{List, [], _∷_}
-use lib.ListN.{length, getD, drop, drop-of-length-le}
+use lib.ListN.{length, getD, drop, length-drop, drop-of-length-le}
 use lib.Seq.{drop-cons, getD-drop}
 use lib.Dec.{eqb}
 use borrow.Author.Tests.{eqb-true, eqb-false, eq-eqb, ne-eqb}
@@ -111,15 +111,28 @@ module _ (s : List ℕ) (i : ℕ) (l : i < length s) where
   second-byte : getD (drop (i + 1) s) 0 0 ≡ getD s (i + 1) 0
   second-byte = getD-drop (i + 1) s 0 0 ∙ ap (λ n. getD s n 0) (omega arith)
 
-  pub closes-here : getD s i 0 ≡ star → eqb (getD s (i + 1) 0) slash ≡ begins close (drop i s)
+  close-at : begins close (drop i s) ≡ (eqb star (getD s i 0) && eqb (getD s (i + 1) 0) slash)
   unfolding begins
-  closes-here e =
-      rw (next-byte s i l, begins, e)
-      (ap (λ n. eqb n slash) (sym second-byte) ∙ sym (begins-one slash (drop (i + 1) s) (omega arith)))
+  close-at =
+      rw (next-byte s i l, begins)
+      (ap (λ t. eqb star (getD s i 0) && t) (begins-one slash (drop (i + 1) s) (omega arith) ∙ ap (λ n. eqb n slash) second-byte))
 
-  pub closes-not : (getD s i 0 ≡ star → ⊥) → false ≡ begins close (drop i s)
-  unfolding begins
-  closes-not n = rw (next-byte s i l, begins, ne-eqb star (getD s i 0) (λ e. n (sym e))) refl
+  pub closes-here : getD s (i + 1) 0 ≡ slash → eqb (getD s i 0) star ≡ begins close (drop i s)
+  closes-here e =
+      let both = ap (λ t. eqb star (getD s i 0) && t) (eq-eqb (getD s (i + 1) 0) slash e) in
+      sym (close-at ∙ both ∙ and-true (eqb star (getD s i 0)) ∙ eqb-turned star (getD s i 0))
+
+  pub closes-not : (getD s (i + 1) 0 ≡ slash → ⊥) → false ≡ begins close (drop i s)
+  closes-not n =
+      let not-both = ap (λ t. eqb star (getD s i 0) && t) (ne-eqb (getD s (i + 1) 0) slash n) in
+      sym (close-at ∙ not-both ∙ and-false (eqb star (getD s i 0)))
+
+-- one byte closes nothing
+short-open : (u : List ℕ) → length u ≤ 1 → closing u ≡ 0
+unfolding closing begins one-more
+short-open [] h = refl
+short-open (b ∷ []) h = rw (closing, and-false (eqb star b)) refl
+short-open (b ∷ c ∷ u) h = absurd (omega arith)
 
 -- no close from at up to i
 pub record Opened (s : List ℕ) (at i : ℕ) : Type 0 where
@@ -132,9 +145,8 @@ pub opened-start : (s : List ℕ) (at : ℕ) → at ≤ length s → Opened s at
 opened-start s at l = record { behind = omega arith; inner = l; none = λ e. e; some = λ n e. e ∙ omega arith }
 
 module _ {s : List ℕ} {at i : ℕ} (r : Opened s at i) where
-  pub opened-out : length s ≤ i → 0 ≡ closing (drop at s)
-  unfolding closing
-  opened-out l = sym (r .none (rw (drop-of-length-le s {i = i} l) refl))
+  pub opened-out : length s ≤ i + 1 → 0 ≡ closing (drop at s)
+  opened-out l = sym (r .none (short-open (drop i s) (omega (arith, length-drop i s))))
 
   module _ (l : i < length s) where
     pub opened-close : begins close (drop i s) ≡ true → (i - at) + 2 ≡ closing (drop at s)

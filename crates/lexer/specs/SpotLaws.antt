@@ -1,7 +1,7 @@
 -- What stands at a place, by its first bytes: one law for each way.
 use Prim.Native.Nat.{ℕ, zero, suc, _+_, _-_, _≤_, _<_}
 use native.Mathlib.Omega.{arith}
-use native.Mathlib.Numerals.{add-one, sub-one}
+use native.Mathlib.Numerals.{add-one}
 use mathlib.Core.Path.{_≡_, refl, sym, ap, _∙_}
 use mathlib.Core.Bool.{Bool, true, false, _&&_, _||_}
 use mathlib.Core.List.{List, [], _∷_}
@@ -19,7 +19,7 @@ use Rattle.tokens.specs.Scanning.{Class.letters, Class.digits, class, polarity,
 use Rattle.tokens.specs.Scanning.{front-of, front}
 use Rattle.tokens.specs.TokenNumbers.{sign-number}
 use Rattle.lexer.specs.Kinds.{int-kind, nat-kind, sign-kind, op-kind, kind}
-use Rattle.lexer.specs.Marking.{spot-of, at-spot, signs-digit, followed}
+use Rattle.lexer.specs.Marking.{spot-of, signs-digit, followed}
 use Rattle.lexer.specs.RunLaws.{next-byte, inside, eqb-turned}
 use Rattle.lexer.specs.declared.Spot.{Spot}
 use Rattle.lexer.specs.declared.Spot.the-variants.{Marked, Stray}
@@ -127,6 +127,10 @@ module _ (s : List ℕ) (at : ℕ) where
     unfolding front
     front-here = rw (next-byte s at l) refl
 
+    -- whatever stands behind the byte
+    pub alone-spot : {r : Spot} → ((t : List ℕ) → r ≡ spot-of (front (b ∷ t))) → r ≡ spot-of (front (drop at s))
+    alone-spot f = rw (next-byte s at l) (f rest)
+
     pub letter-spot : {r : Spot} → letter b ≡ true → r ≡ spot-of (front-of letters b rest) → r ≡ spot-of (front (drop at s))
     unfolding class
     letter-spot e g = g ∙ rw (front-here, e, class) refl
@@ -144,11 +148,6 @@ module _ (s : List ℕ) (at : ℕ) where
     other-spot e f h g = g ∙ rw (front-here, e, f, h, class) refl
 
 -- a place inside what was taken before
-pub inner-spot : (left : ℕ) (x : List ℕ) → (left ≡ 0 → ⊥) → Marked 0 (left - 1) ≡ at-spot left x
-unfolding at-spot
-inner-spot zero x n = absurd (n refl)
-inner-spot (suc k) x n = rw sub-one refl
-
 pub comment-none : (n : ℕ) → n ≡ 0 → Stray ≡ spot-of (comment-front n)
 unfolding comment-front spot-of
 comment-none n e = rw e refl

@@ -7,7 +7,7 @@ ghost use lib.Dec.{eqb};
 ghost use Rattle.tokens.specs.Tokens.{between, letter, digit, name-byte, blank};
 ghost use Rattle.tokens.specs.Lexing.{slash, star, close};
 ghost use Rattle.tokens.specs.Scanning.{span, begins, closing};
-ghost use Rattle.lexer.specs.Marking.{signs-digit};
+ghost use Rattle.lexer.specs.Marking.{signs-digit, run-byte};
 
 const SLASH: u8 = 47;
 
@@ -99,21 +99,40 @@ pub(crate) fn signed(b: u8, c: u8) -> bool
     false
 }
 
-// The place behind the name bytes from a place on.
-pub(crate) fn name_end(text: &[u8], at: usize) -> usize
+// Whether a run goes on with a byte: of name bytes, or else of digits.
+fn goes_on(names: bool, b: u8) -> bool
+    ensures { λ r. ⌜ r ≡ run-byte names b ⌝ }
+{
+    if names {
+        return is_name_byte(b);
+    }
+    is_digit(b)
+}
+
+// The place behind a run from a place on.
+fn run_end(text: &[u8], at: usize, names: bool) -> usize
     requires { ⌜ at ≤ length (now text) ⌝ }
-    ensures { λ r. ⌜ r ≡ at + span name-byte (drop at (now (text .entry))) ⌝ }
+    ensures { λ r. ⌜ r ≡ at + span (run-byte names) (drop at (now (text .entry))) ⌝ }
     ensures { λ r. ⌜ r ≤ length (now (text .entry)) ⌝ }
 {
     let mut i = at;
     while i < text.len() {
-        if is_name_byte(text[i]) {
+        if goes_on(names, text[i]) {
             i += 1;
         } else {
             return i;
         }
     }
     i
+}
+
+// The place behind the name bytes.
+pub(crate) fn name_end(text: &[u8], at: usize) -> usize
+    requires { ⌜ at ≤ length (now text) ⌝ }
+    ensures { λ r. ⌜ r ≡ at + span name-byte (drop at (now (text .entry))) ⌝ }
+    ensures { λ r. ⌜ r ≤ length (now (text .entry)) ⌝ }
+{
+    run_end(text, at, true)
 }
 
 // The place behind the digits.
@@ -122,35 +141,28 @@ pub(crate) fn digits_end(text: &[u8], at: usize) -> usize
     ensures { λ r. ⌜ r ≡ at + span digit (drop at (now (text .entry))) ⌝ }
     ensures { λ r. ⌜ r ≤ length (now (text .entry)) ⌝ }
 {
-    let mut i = at;
-    while i < text.len() {
-        if is_digit(text[i]) {
-            i += 1;
-        } else {
-            return i;
-        }
-    }
-    i
+    run_end(text, at, false)
 }
 
-// Whether a comment closes at a place.
+// Whether a comment closes at a place with one behind it.
 fn closes(text: &[u8], at: usize) -> bool
-    requires { ⌜ at < length (now text) ⌝ }
+    requires { ⌜ at + 1 < length (now text) ⌝ }
     ensures { λ r. ⌜ r ≡ begins close (drop at (now (text .entry))) ⌝ }
 {
-    if text[at] == STAR {
-        return byte(text, at + 1) == SLASH;
+    if text[at + 1] == SLASH {
+        return text[at] == STAR;
     }
     false
 }
 
-// The bytes up to the first close from a place on, and with it; 0 where there is none.
+// The bytes up to the first close from a place on, and with it; 0 where there is none. The last byte of a text closes nothing by itself.
 pub(crate) fn closing(text: &[u8], at: usize) -> usize
     requires { ⌜ (0 < at) × (at ≤ length (now text)) ⌝ }
     ensures { λ r. ⌜ r ≡ closing (drop at (now (text .entry))) ⌝ }
 {
+    let last = text.len() - 1;
     let mut i = at;
-    while i < text.len() {
+    while i < last {
         if closes(text, i) {
             return i - at + 2;
         }

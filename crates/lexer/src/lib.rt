@@ -1,5 +1,6 @@
 // Tokens of program text by their kinds (02 §1): for each place of a text the kind of the token that begins there, 0 where none does.
 pub mod bytes;
+pub mod gaps;
 pub mod words;
 
 use bytes::byte;
@@ -9,7 +10,8 @@ ghost use Prim.Native.Nat.{_+_, _≤_, _<_};
 ghost use lib.ListN.{length, getD, drop};
 ghost use lib.Seq.{sets};
 ghost use Rattle.tokens.specs.Scanning.{Class.letters, Class.digits, nat-front, closing, comment-front, other-front, front-of, find-sign, signs, front};
-ghost use Rattle.lexer.specs.Marking.{followed, spot-of, at-spot, parts, marks};
+ghost use Rattle.lexer.specs.Marking.{followed, spot-of, Lone, parts, marks};
+ghost use Rattle.lexer.specs.Gaps.{Gap};
 
 // The kinds of literals; a place that is passed over.
 const INT: u8 = 37;
@@ -119,8 +121,8 @@ fn other(text: &[u8], at: usize) -> Spot
     sign(b, c)
 }
 
-// The longest token at a place, or a gap.
-pub fn token(text: &[u8], at: usize) -> Spot
+// The longest token at a place, or a gap, by the class of its first byte.
+fn longer(text: &[u8], at: usize) -> Spot
     requires { ⌜ at < length (now text) ⌝ }
     ensures { λ r. ⌜ r ≡ spot-of (front (drop at (now (text .entry)))) ⌝ }
 {
@@ -137,31 +139,50 @@ pub fn token(text: &[u8], at: usize) -> Spot
     other(text, at)
 }
 
-// The same where bytes may be left of what was taken before.
-pub fn place(text: &[u8], at: usize, left: usize) -> Spot
-    requires { ⌜ at < length (now text) ⌝ }
-    ensures { λ r. ⌜ r ≡ at-spot left (drop at (now (text .entry))) ⌝ }
+// The kind of a byte that is a token whatever stands behind it, 0 of any other.
+fn alone(b: u8) -> u8
+    ensures { λ r. ⌜ ((r ≡ 0 → ⊥) → Lone b r) ⌝ }
 {
-    if left == 0 {
-        return token(text, at);
+    match b {
+        b'(' => 13,
+        b')' => 14,
+        b'{' => 15,
+        b'}' => 16,
+        b',' => 17,
+        b';' => 19,
+        b'.' => 21,
+        b'=' => 23,
+        b'*' => 29,
+        b'%' => 31,
+        _ => 0,
     }
-    Spot::Marked(GAP, left - 1)
 }
 
-// The kinds of a text's tokens, each in its place, and whether the text parts into tokens: up to a place where it does not.
+// The longest token at a place, or a gap. Every second token is a byte alone, so these are told first.
+pub fn token(text: &[u8], at: usize) -> Spot
+    requires { ⌜ at < length (now text) ⌝ }
+    ensures { λ r. ⌜ r ≡ spot-of (front (drop at (now (text .entry)))) ⌝ }
+{
+    let kind = alone(text[at]);
+    if kind != 0 {
+        return Spot::Marked(kind, 0);
+    }
+    longer(text, at)
+}
+
+// The kinds of a text's tokens, each in its place, and whether the text parts into tokens: up to a place where it does not. No token begins among the kinds
+// before, so that nothing is written inside a token or a comment.
 pub fn mark(text: &[u8], kinds: &mut [u8]) -> bool
-    requires { ⌜ length (now text) ≤ length (now kinds) ⌝ }
+    requires { ⌜ (length (now text) ≤ length (now kinds)) × (Gap (now kinds) 0 (length (now kinds))) ⌝ }
     ensures { λ r. ⌜ r ≡ parts (now (text .entry)) ⌝ }
     ensures { λ r. ⌜ now (kinds .exit) ≡ sets (now (kinds .entry)) 0 (marks (now (text .entry))) ⌝ }
 {
-    let mut left = 0;
     let mut i = 0;
     while i < text.len() {
-        match place(text, i, left) {
+        match token(text, i) {
             Spot::Marked(k, n) => {
                 kinds[i] = k;
-                left = n;
-                i += 1;
+                i += n + 1;
             }
             Spot::Stray => return false,
         }

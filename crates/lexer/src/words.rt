@@ -1,15 +1,12 @@
-// Whether some letters are one of the grammar's words (02 §1), and which: by a table of the words.
+// Whether some letters are one of the grammar's words (02 §1), and which: the first letter leaves one word, or the three with a t.
 use crate::bytes;
-use little_endian::index;
 ghost use mathlib.Core.Path.{_≡_};
-ghost use mathlib.Core.Bool.{false};
-ghost use mathlib.Core.List.{List, _∷_};
-ghost use Prim.Native.Nat.{ℕ};
 ghost use Rattle.tokens.specs.Tokens.{same};
-ghost use Rattle.tokens.specs.Scanning.{words, find-word, named};
-ghost use Rattle.lexer.specs.Kinds.{name-kind, kind as kind-of};
-ghost use Rattle.lexer.specs.WordTable.{laid};
+ghost use Rattle.tokens.specs.Scanning.{named};
+ghost use Rattle.lexer.specs.Kinds.{kind as kind-of};
+ghost use Rattle.lexer.specs.WordFirst.{one-word, t-word};
 
+// The kinds of words go from 1 to 12: struct, if, then, null, this, Fix, Int, Nat, Bool, String, true, false.
 const NAME: u8 = 36;
 
 fn same(s: &[u8], t: &[u8]) -> bool
@@ -28,53 +25,44 @@ fn same(s: &[u8], t: &[u8]) -> bool
     true
 }
 
-// The kind of a word or a name by a table that has each word behind the count of its letters, in the order of their kinds.
-fn find(table: &[u8], s: &[u8]) -> u8
-    requires { ⌜ now table ≡ laid words ⌝ }
-    ensures { λ r. ⌜ r ≡ kind-of (find-word words (now (s .entry))) ⌝ }
+// The kind of a word if it stands there, or else a name's.
+fn only(word: &[u8], kind: u8, s: &[u8]) -> u8
+    ensures { λ r. ⌜ r ≡ one-word (now (word .entry)) kind (now (s .entry)) ⌝ }
 {
-    let mut kind = 1;
-    let mut at = 0;
-    while at < table.len() {
-        let first = at + 1;
-        let end = first + index(table[at]);
-        if same(&table[first..end], s) {
-            return kind;
-        }
-        kind += 1;
-        at = end;
+    if same(word, s) {
+        return kind;
     }
     NAME
 }
 
-// Whether a word of the grammar may begin with a byte: the first letters of all words.
-fn begins_word(b: u8) -> bool
-    ensures { λ r. ⌜ (r ≡ false → (t : List ℕ) → name-kind ≡ kind-of (find-word words (b ∷ t))) ⌝ }
+// The kind of a word that begins with a t, or else a name's.
+fn with_t(s: &[u8]) -> u8
+    ensures { λ r. ⌜ r ≡ t-word (now (s .entry)) ⌝ }
 {
-    match b {
-        66 => true,
-        70 => true,
-        73 => true,
-        78 => true,
-        83 => true,
-        102 => true,
-        105 => true,
-        110 => true,
-        115 => true,
-        116 => true,
-        _ => false,
+    if same(b"then", s) {
+        return 3;
     }
+    if same(b"this", s) {
+        return 5;
+    }
+    only(b"true", 11, s)
 }
 
-// The kind of a word or a name by its bytes: what begins as no word does is a name.
+// The kind of a word or a name by its bytes: by the first letter, which but for the t belongs to one word alone.
 pub(crate) fn kind(s: &[u8]) -> u8
     ensures { λ r. ⌜ r ≡ kind-of (named (now (s .entry))) ⌝ }
 {
-    if begins_word(bytes::byte(s, 0)) {
-        return find(
-            b"\x06struct\x02if\x04then\x04null\x04this\x03Fix\x03Int\x03Nat\x04Bool\x06String\x04true\x05false",
-            s,
-        );
+    match bytes::byte(s, 0) {
+        b'B' => only(b"Bool", 9, s),
+        b'F' => only(b"Fix", 6, s),
+        b'I' => only(b"Int", 7, s),
+        b'N' => only(b"Nat", 8, s),
+        b'S' => only(b"String", 10, s),
+        b'f' => only(b"false", 12, s),
+        b'i' => only(b"if", 2, s),
+        b'n' => only(b"null", 4, s),
+        b's' => only(b"struct", 1, s),
+        b't' => with_t(s),
+        _ => NAME,
     }
-    NAME
 }

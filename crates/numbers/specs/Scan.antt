@@ -19,6 +19,14 @@ use Rattle.numbers.specs.declared.Scanned.the-variants.{Numbers, Strange
 use Rattle.numbers.specs.declared.Bytes.{Bytes}
 use Rattle.numbers.specs.declared.Bytes.the-variants.{Count, Large as Large-byte, Long as Long-bytes}
 
+-- a digit, and any other byte
+abbrev pub digit-of : ℕ → Char
+digit-of c = elim (ltb c 48) [ true ↦ Other | false ↦ elim (ltb c 58) [ true ↦ Digit (c - 48) | false ↦ Other ] ]
+
+-- carriage return and comma part numbers
+abbrev pub comma-of : ℕ → Char
+comma-of c = elim (eqb c 13) [ true ↦ Blank | false ↦ elim (eqb c 44) [ true ↦ Blank | false ↦ digit-of c ] ]
+
 -- a line feed ends a line; blank, tab, carriage return and comma part numbers; a minus sign; a digit
 unfoldable pub char-of : ℕ → Char
 char-of c =
@@ -27,28 +35,7 @@ char-of c =
       | false ↦
           elim (eqb c 45) [
             | true ↦ Minus
-            | false ↦
-                elim (eqb c 32) [
-                  | true ↦ Blank
-                  | false ↦
-                      elim (eqb c 9) [
-                        | true ↦ Blank
-                        | false ↦
-                            elim (eqb c 13) [
-                              | true ↦ Blank
-                              | false ↦
-                                  elim (eqb c 44) [
-                                    | true ↦ Blank
-                                    | false ↦
-                                        elim (ltb c 48) [
-                                          | true ↦ Other
-                                          | false ↦
-                                              elim (ltb c 58) [ true ↦ Digit (c - 48) | false ↦ Other ]
-                                        ]
-                                  ]
-                            ]
-                      ]
-                ]
+            | false ↦ elim (eqb c 32) [ true ↦ Blank | false ↦ elim (eqb c 9) [ true ↦ Blank | false ↦ comma-of c ] ]
           ]
     ]
 

@@ -145,21 +145,21 @@ labels-say op-or l m = tt
 says : (o : Op) (x y : Val) → Says o x y (apply o x y)
 unfolding Says apply
 says o (int-val x) (int-val y) = int-says (compute o x y) (tells o x y)
+says o (nat-val m) (nat-val n) = nat-says (compute o (pos m) (pos n)) (tells o (pos m) (pos n))
+says o (bool-val s) (bool-val t) = truths-say o s t
+says o (label l) (label m) = labels-say o l m
 says o (int-val x) (nat-val n) = tt
 says o (int-val x) (bool-val t) = tt
 says o (int-val x) (label l) = tt
 says o (nat-val m) (int-val y) = tt
-says o (nat-val m) (nat-val n) = nat-says (compute o (pos m) (pos n)) (tells o (pos m) (pos n))
 says o (nat-val m) (bool-val t) = tt
 says o (nat-val m) (label l) = tt
 says o (bool-val s) (int-val y) = tt
 says o (bool-val s) (nat-val n) = tt
-says o (bool-val s) (bool-val t) = truths-say o s t
 says o (bool-val s) (label l) = tt
 says o (label l) (int-val y) = tt
 says o (label l) (nat-val n) = tt
 says o (label l) (bool-val t) = tt
-says o (label l) (label m) = labels-say o l m
 
 -- what holds the function says ----------------------------------------------------
 

@@ -167,15 +167,12 @@ module _ (ar types s : List ℕ) (own w : ℕ) where
         go (bad u i) = refl
 
   -- an expression of at most d levels: past the end, at the level below, and by the form of its byte
-  module _ (d at : ℕ) where
-    pub expr-out : length s ≤ at → told E (read-expr ar s d at) ≡ Refused 4
-    unfolding read-expr opened then
-    expr-out h = go d
-      where
-        go : (d : ℕ) → told E (read-expr ar s d at) ≡ Refused 4
-        go zero = rw (byte-out s at h)
-        go (suc d) = rw (byte-out s at h)
+  pub expr-out : (d at : ℕ) → length s ≤ at → told E (read-expr ar s d at) ≡ Refused 4
+  unfolding read-expr opened then
+  expr-out zero at h = rw (byte-out s at h)
+  expr-out (suc d) at h = rw (byte-out s at h)
 
+  module _ (d at : ℕ) where
     pub expr-deep : d ≡ 0 → at < length s → told E (read-expr ar s d at) ≡ Refused 5
     unfolding read-expr then
     expr-deep z h = rw (z, byte-in s at h)

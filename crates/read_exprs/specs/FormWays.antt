@@ -4,26 +4,9 @@ use native.Mathlib.Omega.{arith}
 use mathlib.Core.Path.{_≡_, refl}
 use Rattle.program.specs.Tree.{Op, Op.op-eq, Op.op-ne, Op.op-le, Op.op-ge, Op.op-lt, Op.op-gt, Op.op-mul, Op.op-div, Op.op-rem, Op.op-add, Op.op-sub}
 use Rattle.program.specs.Tree.{Op.op-and, Op.op-or}
-use Rattle.program.specs.Encoding.{op-code}
 use Rattle.program.specs.Reader.{lookup, Form, Form.form-inv, Form.form-make, Form.form-path, Form.form-int, Form.form-nat, Form.form-bool}
 use Rattle.program.specs.Reader.{Form.form-null, Form.form-self, Form.form-op, Form.form-none, form}
-use Rattle.program.specs.Laws.ExprLaws.{Opens, opens}
-
-op-bounds : (o : Op) → (32 ≤ op-code o) × (op-code o ≤ 44)
-unfolding op-code
-op-bounds op-eq = omega arith
-op-bounds op-ne = omega arith
-op-bounds op-le = omega arith
-op-bounds op-ge = omega arith
-op-bounds op-lt = omega arith
-op-bounds op-gt = omega arith
-op-bounds op-mul = omega arith
-op-bounds op-div = omega arith
-op-bounds op-rem = omega arith
-op-bounds op-add = omega arith
-op-bounds op-sub = omega arith
-op-bounds op-and = omega arith
-op-bounds op-or = omega arith
+use Rattle.program.specs.Laws.ExprLaws.{Opens, opens, op-range}
 
 -- the bytes from 32 to 44 open operators
 pub op-form : (b : ℕ) → 32 ≤ b → b ≤ 44 → (o : Op) × (form b ≡ form-op o)
@@ -62,5 +45,5 @@ no-form b n k = go (form b) (opens b)
     go form-bool o = absurd (n .5 o)
     go form-null o = absurd (n .6 o)
     go form-self o = absurd (n .7 o)
-    go (form-op p) o = absurd (k (rw o (op-bounds p)))
+    go (form-op p) o = absurd (k (rw o (op-range p)))
     go form-none o = refl

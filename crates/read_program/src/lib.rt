@@ -33,16 +33,6 @@ pub enum ProgramRead {
     Refused(u8),
 }
 
-// The number of a refusal, for a caller whose own answer is of another type; 0 where a value was read.
-pub fn program_refusal(r: ProgramRead) -> u8
-    ensures { λ n. ⌜ n ≡ program-refusal r ⌝ }
-{
-    let ProgramRead::Refused(n) = r else {
-        return 0;
-    };
-    n
-}
-
 // 6 where a limit is passed; else the worse fault.
 fn number(t: Totals, p: Planned) -> u8
     ensures { λ r. ⌜ r ≡ totals-number (with t []) (plan (p .count) (p .fault)) ⌝ }
@@ -113,4 +103,14 @@ pub fn program(s: &[u8], counts: &mut [u8], types: &mut [u8]) -> ProgramRead
     let n = structs as usize;
     let end = types::MAX_PARAMS * n;
     rest(s, &counts[..n], &types[..end], structs, at)
+}
+
+// The number of a refusal, for a caller whose own answer is of another type; 0 where a value was read.
+pub fn program_refusal(r: ProgramRead) -> u8
+    ensures { λ n. ⌜ n ≡ program-refusal r ⌝ }
+{
+    let ProgramRead::Refused(n) = r else {
+        return 0;
+    };
+    n
 }

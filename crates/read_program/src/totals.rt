@@ -25,12 +25,6 @@ pub struct Totals {
     pub fault: u8,
 }
 
-// The next place, and what is totalled up.
-pub enum TotalsRead {
-    Value(usize, Totals),
-    Refused(u8),
-}
-
 // The number of a refusal, for a reader whose own answer is of another type; 0 where a value was read.
 pub fn stmt_refusal(r: StmtRead) -> u8
     ensures { λ n. ⌜ n ≡ stmt-refusal r ⌝ }
@@ -41,6 +35,13 @@ pub fn stmt_refusal(r: StmtRead) -> u8
     n
 }
 
+// The next place, and what is totalled up.
+pub enum TotalsRead {
+    Value(usize, Totals),
+    Refused(u8),
+}
+
+// The same of what is totalled up.
 pub(crate) fn totals_refusal(r: TotalsRead) -> u8
     ensures { λ n. ⌜ n ≡ totals-refusal r ⌝ }
 {

@@ -179,15 +179,12 @@ module _ (ar types s : List ℕ) (own : ℕ) (c : Scope) where
     body-is n m e = rw (byte-is (ranged s 0 33 at) n m e)
 
   -- a statement with at most d levels of if: past the end, with no if, with an if at the level below, with an if
-  module _ (d at : ℕ) where
-    pub stmt-out : length s ≤ at → done S (read-stmt ar s d at) ≡ Refused 4
-    unfolding read-stmt opened then
-    stmt-out h = go d
-      where
-        go : (d : ℕ) → done S (read-stmt ar s d at) ≡ Refused 4
-        go zero = rw (byte-out s at h)
-        go (suc d) = rw (byte-out s at h)
+  pub stmt-out : (d at : ℕ) → length s ≤ at → done S (read-stmt ar s d at) ≡ Refused 4
+  unfolding read-stmt opened then
+  stmt-out zero at h = rw (byte-out s at h)
+  stmt-out (suc d) at h = rw (byte-out s at h)
 
+  module _ (d at : ℕ) where
     pub stmt-simple : at < length s → (q : StmtRead)
         → ((w : ℕ → ℕ → Result (Expr × Stmts)) (p : ℕ) → q ≡ done S (rule-stmt ar s w p (at + 1) (kind (getD s at 0))))
         → q ≡ done S (read-stmt ar s d at)

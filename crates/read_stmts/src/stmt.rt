@@ -17,15 +17,7 @@ ghost use Rattle.judge.specs.Facts.{stmt-facts, body-facts};
 ghost use Rattle.read_stmts.specs.Done.{done, when-facts, DoneAhead, DoneBody, DoneBehind};
 
 // A statement with at most depth levels of if.
-pub fn stmt(
-    s: &[u8],
-    ar: &[u8],
-    types: &[u8],
-    own: u8,
-    c: Scope,
-    at: usize,
-    depth: usize,
-) -> StmtRead
+fn stmt(s: &[u8], ar: &[u8], types: &[u8], own: u8, c: Scope, at: usize, depth: usize) -> StmtRead
     requires { ⌜ (length (now ar) ≤ 16) × (own < 16) ⌝ }
     ensures { λ r. ⌜ r ≡ done (λ t. stmt-facts (now (ar .entry)) (now (types .entry)) own t c) (read-stmt (now (ar .entry)) (now (s .entry)) depth at) ⌝ }
     ensures { λ r. ⌜ DoneAhead (now (s .entry)) at r ⌝ }
@@ -45,15 +37,7 @@ pub fn stmt(
 }
 
 // An if's condition, and its body with at most depth levels of if.
-pub fn when(
-    s: &[u8],
-    ar: &[u8],
-    types: &[u8],
-    own: u8,
-    c: Scope,
-    at: usize,
-    depth: usize,
-) -> StmtRead
+fn when(s: &[u8], ar: &[u8], types: &[u8], own: u8, c: Scope, at: usize, depth: usize) -> StmtRead
     requires { ⌜ (length (now ar) ≤ 16) × (own < 16) ⌝ }
     ensures { λ r. ⌜ r ≡ done (when-facts (now (ar .entry)) (now (types .entry)) own c)
         (read-when (now (ar .entry)) (now (s .entry)) (read-stmt (now (ar .entry)) (now (s .entry)) depth) at) ⌝ }

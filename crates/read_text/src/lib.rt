@@ -10,6 +10,7 @@ ghost use lib.ListN.{length};
 ghost use Rattle.tokens.specs.Scanning.{lex};
 ghost use Rattle.source.specs.Source.{max-text};
 ghost use Rattle.source.specs.TextReader.{of-tokens, text-number, text-blocks, text-output};
+ghost use Rattle.lexer.specs.Gaps.{Gap};
 ghost use Rattle.derive.specs.Held.{held};
 ghost use Rattle.resolve.specs.Tables.{offsets};
 ghost use Rattle.resolve.specs.WellDeclared.{par-byte};
@@ -126,9 +127,10 @@ fn meant(text: &[u8], roles: &[u8], stack: &mut [u8], out: &mut [u8]) -> Answer
     imaged(&stream[p..], out)
 }
 
-// A text, in memory for the kinds of its tokens and then their roles: 15, 16, 17 and 13 in order, or the image.
+// A text, in fresh memory for the kinds of its tokens and then their roles: 15, 16, 17 and 13 in order, or the image.
 fn passes(text: &[u8], kinds: &mut [u8], stack: &mut [u8], out: &mut [u8]) -> Answer
     requires { ⌜ (length (now kinds) ≡ length (now text)) × (length (now text) ≤ max-text) × (length (now text) < length (now stack)) ⌝ }
+    requires { ⌜ Gap (now kinds) 0 (length (now kinds)) ⌝ }
     ensures { λ r. ⌜ r ≡ answer (ending (of-tokens (lex 0 (now (text .entry))) (now (out .entry)))) ⌝ }
     ensures { λ _. ⌜ now (out .exit) ≡ left (ending (of-tokens (lex 0 (now (text .entry))) (now (out .entry)))) (now (out .entry)) ⌝ }
 {

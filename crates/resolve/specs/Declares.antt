@@ -2,12 +2,11 @@
 use Prim.Native.Nat.{ℕ, _+_}
 use mathlib.Core.Bool.{Bool, true, false}
 use mathlib.Core.List.{List, [], _∷_, _++_}
-use lib.Dec.{eqb}
+use lib.Dec.{eqb, ltb}
 use Rattle.syntax.specs.Syntax.{Id, TypeName, Par, Struct}
 use Rattle.meaning.specs.Scope.{pars-of}
-use Rattle.derive.specs.Roles.{Typed, Typed.of-par, Typed.of-local, Typed.of-null, Naming, Naming.new-struct, Naming.new-par, Naming.new-step, Naming.new-local}
-use Rattle.derive.specs.Roles.{Naming.first-read, Naming.first-written, Naming.later-variable, Naming.made, Naming.made-statement, Naming.called}
-use Rattle.derive.specs.Roles.{Naming.called-struct, Naming.called-step, Role, Role.plain, Role.naming, Role.typed, Role.part, naming-code}
+use Rattle.derive.specs.Roles.{Typed, Typed.of-par, Typed.of-local, Typed.of-null, Naming, Role, Role.plain, Role.naming, Role.typed, Role.part, naming-number}
+use Rattle.derive.specs.Roles.{naming-code}
 
 unfoldable pub named : ℕ → List Role → List Id
 named n [] = []
@@ -16,20 +15,10 @@ named n (naming m x ∷ k) = elim (eqb (naming-code m) n) [ true ↦ x ∷ named
 named n (typed u t ∷ k) = named n k
 named n (part g ∷ k) = named n k
 
--- what declares no struct, no parameter and no step
+-- what declares no struct, no parameter and no step: all namings but the first three
 unfoldable pub inner-name : Naming → Bool
-inner-name new-struct = false
-inner-name new-par = false
-inner-name new-step = false
-inner-name new-local = true
-inner-name first-read = true
-inner-name first-written = true
-inner-name later-variable = true
-inner-name made = true
-inner-name made-statement = true
-inner-name called = true
-inner-name called-struct = true
-inner-name called-step = true
+unfolding naming-number
+inner-name n = ltb 2 (naming-number n)
 
 -- the types of parameters are not among it
 unfoldable pub inner-type : Typed → Bool

@@ -5,15 +5,14 @@ use native.Mathlib.Omega.{arith}
 use mathlib.Core.Path.{_≡_, refl, sym, ap, _∙_}
 use mathlib.Core.Bool.{true, false≢true}
 use mathlib.Core.List.{List, [], _∷_, _++_, map, append-assoc, append-nil}
-use borrow.Author.Tests.{ne-eqb}
+use borrow.Author.Tests.{ne-eqb, ltb-true}
 use Rattle.syntax.specs.Syntax.{TypeName}
 use Rattle.syntax.specs.Syntax.{Par, Par.par, Struct, Struct.struct, Defs, Defs.last-struct, Defs.defs, Sched, Program.program}
 use Rattle.meaning.specs.Scope.{par-id, par-type, step-id, struct-id, pars-of, steps-of, structs-of}
 use Rattle.meaning.specs.StepNames.{all-steps}
-use Rattle.derive.specs.Roles.{Naming, Naming.new-struct, Naming.new-par, Naming.new-step, Naming.new-local, Naming.first-read, Naming.first-written}
-use Rattle.derive.specs.Roles.{Naming.later-variable, Naming.made, Naming.made-statement, Naming.called, Naming.called-struct, Naming.called-step}
+use Rattle.derive.specs.Roles.{Naming, Naming.new-struct, Naming.new-par, Naming.new-step}
 use Rattle.derive.specs.Roles.{Part.pars-close, Part.steps-open, Part.steps-close, Role, Role.plain, Role.naming, Role.typed, Role.part, Typed.of-par}
-use Rattle.derive.specs.Roles.{Typed.of-local, Typed.of-null, naming-code}
+use Rattle.derive.specs.Roles.{Typed.of-local, Typed.of-null, naming-number, naming-code}
 use Rattle.derive.specs.Roles.{roles-par, roles-steps, roles-struct, roles-defs, roles-sched, roles}
 use Rattle.resolve.specs.Declares.{named, inner, inner-name, inner-type, par-types, all-pars}
 use Rattle.resolve.specs.QuietLaws.{pars-quiet, steps-quiet, pars-each, steps-each, sched-quiet}
@@ -22,18 +21,7 @@ use Rattle.resolve.specs.QuietLaws.{pars-quiet, steps-quiet, pars-each, 
 
 pub inner-code : (m : Naming) → inner-name m ≡ true → 41 < naming-code m
 unfolding inner-name naming-code
-inner-code new-struct e = absurd (false≢true e)
-inner-code new-par e = absurd (false≢true e)
-inner-code new-step e = absurd (false≢true e)
-inner-code new-local e = omega arith
-inner-code first-read e = omega arith
-inner-code first-written e = omega arith
-inner-code later-variable e = omega arith
-inner-code made e = omega arith
-inner-code made-statement e = omega arith
-inner-code called e = omega arith
-inner-code called-struct e = omega arith
-inner-code called-step e = omega arith
+inner-code m e = let h = ltb-true 2 (naming-number m) e in omega (arith, h)
 
 passed : (n : ℕ) (m : Naming) (x : List ℕ) (k : List Role) → (naming-code m ≡ n → ⊥) → named n (naming m x ∷ k) ≡ named n k
 unfolding named

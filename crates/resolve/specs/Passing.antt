@@ -9,8 +9,8 @@ use lib.Dec.{eqb, ltb}
 use Rattle.types.specs.Limits.{first-local, max-locals}
 use Rattle.types.specs.Types.{code}
 use Rattle.program.specs.Encoding.{var-code}
-use Rattle.tokens.specs.Tokens.{Sign.lpar, Sign.rpar, Sign.lbrace, Sign.rbrace, Sign.comma, Sign.colon, Sign.semicolon, Sign.assign, Sign.dot, Sign.bang, Token}
-use Rattle.tokens.specs.Tokens.{Token.word, Token.sign, Token.op, Token.name, Token.int, Token.nat}
+use Rattle.tokens.specs.Tokens.{Sign, Sign.lpar, Sign.rpar, Sign.lbrace, Sign.rbrace, Sign.comma, Sign.colon, Sign.semicolon, Sign.assign, Sign.dot, Sign.bang}
+use Rattle.tokens.specs.Tokens.{Token, Token.word, Token.sign, Token.op, Token.name, Token.int, Token.nat}
 use Rattle.syntax.specs.Syntax.{Id, TypeName, Par, Struct, Literal.int-literal, Literal.nat-literal}
 use Rattle.meaning.specs.Scope.{par-id, par-type, struct-id, pars-of, Local, Local.declared}
 use Rattle.meaning.specs.Finding.{find, absent}
@@ -41,63 +41,25 @@ pub record Pass : Type 0 where
 
 -- A number is left; argument lists, locals, structs change ----------------------------------------
 
+-- all but the locals
+abbrev pub moves : Pass → List Struct → List Par → TypeName → List ℕ → List ℕ → Pass
+moves p ds ps t l o =
+    record { left = ds; own = ps; alive = p .alive; fresh = p .fresh; met = p .met; type = t; dues = l; bodies = p .bodies; out = o }
+
 unfoldable pub leaves : Pass → TypeName → ℕ → Pass
-leaves p t n =
-    record {
-      left = p .left;
-      own = p .own;
-      alive = p .alive;
-      fresh = p .fresh;
-      met = p .met;
-      type = t;
-      dues = p .dues;
-      bodies = p .bodies;
-      out = n ∷ p .out;
-    }
+leaves p t n = moves p (p .left) (p .own) t (p .dues) (n ∷ p .out)
 
 unfoldable pub opens : Pass → List ℕ → Pass
-opens p l =
-    record {
-      left = p .left;
-      own = p .own;
-      alive = p .alive;
-      fresh = p .fresh;
-      met = p .met;
-      type = p .type;
-      dues = l;
-      bodies = p .bodies;
-      out = p .out;
-    }
-
-unfoldable pub lives : Pass → List Local → List Local → List Id → List (List Local) → Pass
-lives p l f m b =
-    record {
-      left = p .left;
-      own = p .own;
-      alive = l;
-      fresh = f;
-      met = m;
-      type = p .type;
-      dues = p .dues;
-      bodies = b;
-      out = p .out;
-    }
+opens p l = moves p (p .left) (p .own) (p .type) l (p .out)
 
 unfoldable pub begins : Pass → List Struct → Option Pass
 begins p [] = none
-begins p (d ∷ ds) =
-    some
-    (record {
-      left = ds;
-      own = pars-of d;
-      alive = p .alive;
-      fresh = p .fresh;
-      met = p .met;
-      type = p .type;
-      dues = p .dues;
-      bodies = p .bodies;
-      out = p .out;
-    })
+begins p (d ∷ ds) = some (moves p ds (pars-of d) (p .type) (p .dues) (p .out))
+
+-- the locals
+unfoldable pub lives : Pass → List Local → List Local → List Id → List (List Local) → Pass
+lives p l f m b =
+    record { left = p .left; own = p .own; alive = l; fresh = f; met = m; type = p .type; dues = p .dues; bodies = b; out = p .out }
 
 -- an argument is at its end, and another follows; the last one is, or there is none
 unfoldable pub goes-on : Pass → List ℕ → Option Pass
@@ -118,6 +80,19 @@ dies p [] = none
 dies p (l ∷ b) = some (lives p l [] (p .met) b)
 
 -- Role by role ------------------------------------------------------------------------------------
+
+-- one at a semicolon, the other at any other sign
+abbrev pub at-semicolon : {A : Type 0} → Sign → A → A → A
+at-semicolon lpar a b = b
+at-semicolon rpar a b = b
+at-semicolon lbrace a b = b
+at-semicolon rbrace a b = b
+at-semicolon comma a b = b
+at-semicolon colon a b = b
+at-semicolon semicolon a b = a
+at-semicolon assign a b = b
+at-semicolon dot a b = b
+at-semicolon bang a b = b
 
 module _ (ds : List Struct) (names : List Id) where
   unfoldable pub makes : Id → Pass → Option Pass
@@ -180,18 +155,7 @@ module _ (ds : List Struct) (names : List Id) where
   unfoldable pub pass-token : Token → Pass → Option Pass
   unfolding then lives
   pass-token (word w) p = some p
-  pass-token (sign g) p = elim g [
-    | lpar ↦ some p
-    | rpar ↦ some p
-    | lbrace ↦ some p
-    | rbrace ↦ some p
-    | comma ↦ some p
-    | colon ↦ some p
-    | semicolon ↦ some (lives p (p .fresh ++ p .alive) [] (p .met) (p .bodies))
-    | assign ↦ some p
-    | dot ↦ some p
-    | bang ↦ some p
-  ]
+  pass-token (sign g) p = at-semicolon g (some (lives p (p .fresh ++ p .alive) [] (p .met) (p .bodies))) (some p)
   pass-token (op o) p = some p
   pass-token (name x) p = some p
   pass-token (int g l) p = then (literal-meaning (int-literal g l)) (λ c. some p)

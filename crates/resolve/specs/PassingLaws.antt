@@ -26,7 +26,7 @@ use Rattle.meaning.specs.Meant.{then, provided, literal-meaning, type-meaning, 
 use Rattle.meaning.specs.Meant.{exps-meaning}
 use Rattle.derive.specs.Roles.{Naming, Naming.first-read, Naming.made, Part.brackets-close, Part.args-open, Part.args-close, Part.no-args-close, Role}
 use Rattle.derive.specs.Roles.{Role.plain, Role.naming, Role.part, roles-later, roles-var, close-of, roles-exp, roles-exps, roles-exp-list}
-use Rattle.resolve.specs.Passing.{Pass, leaves, opens, goes-on, closes, makes, starts, pass, passes, pass-part, pass-name, pass-token, pass-type}
+use Rattle.resolve.specs.Passing.{Pass, moves, leaves, opens, goes-on, closes, makes, starts, pass, passes, pass-part, pass-name, pass-token, pass-type}
 use Rattle.resolve.specs.Numbers.{expr-numbers, exprs-numbers}
 use Rattle.resolve.specs.Outcomes.{onto, onto-both, Outcome, Outcome.fails, Outcome.refuses, Outcome.goes, as-well, by-test, never, followed, made-of}
 use Rattle.resolve.specs.Outcomes.{made-if, past}
@@ -34,27 +34,14 @@ use Rattle.resolve.specs.Outcomes.{made-if, past}
 -- numbers are told, and argument lists are closed
 unfoldable pub told-to : Pass → List ℕ → List ℕ → TypeName → Pass
 unfolding onto
-told-to p l ns t =
-    record {
-      left = p .left;
-      own = p .own;
-      alive = p .alive;
-      fresh = p .fresh;
-      met = p .met;
-      type = t;
-      dues = l;
-      bodies = p .bodies;
-      out = onto ns (p .out);
-    }
+told-to p l ns t = moves p (p .left) (p .own) t l (onto ns (p .out))
 
 abbrev pub told : Pass → List ℕ → TypeName → Pass
 told p ns t = told-to p (p .dues) ns t
 
 pub told-both : (p : Pass) (l m a b : List ℕ) (t u : TypeName) → told-to (told-to p l a t) m b u ≡ told-to p m (a ++ b) u
 unfolding told-to
-told-both p l m a b t u =
-    ap (λ o. record { left = p .left; own = p .own; alive = p .alive; fresh = p .fresh; met = p .met; type = u; dues = m; bodies = p .bodies; out = o })
-    (onto-both a b (p .out))
+told-both p l m a b t u = ap (λ o. moves p (p .left) (p .own) u m o) (onto-both a b (p .out))
 
 module _ (ds : List Struct) (names : List Id) where
   -- an expression from a state: what it means, with its numbers told

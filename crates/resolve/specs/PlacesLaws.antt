@@ -31,13 +31,13 @@ module _ (x : List ℕ) (i b : ℕ) (s : List ℕ) (e : drop i x ≡ b ∷ s) wh
   inside : i < length x
   inside = let h = length-drop i x in omega (arith, h, ap length e)
 
-  next-of : drop (suc i) x ≡ s
+  pub next-of : drop (suc i) x ≡ s
   next-of =
       let f : getD x i 0 ∷ drop (i + 1) x ≡ b ∷ s = sym (next-byte x i inside) ∙ e in
       let g : drop (i + 1) x ≡ s = cc in
       ap (λ k. drop k x) (sym (add-one i)) ∙ g
 
-  first-of : getD x i 0 ≡ b
+  pub first-of : getD x i 0 ≡ b
   first-of = let f : getD x i 0 ∷ drop (i + 1) x ≡ b ∷ s = sym (next-byte x i inside) ∙ e in cc
 
 -- one byte
@@ -57,18 +57,21 @@ one-byte q b = go (eqb b q) refl (leb q b) refl
 
 pub naming-near : (m : Naming) → (38 < naming-code m) × (naming-code m < 51)
 unfolding naming-code
-naming-near new-struct = omega arith
-naming-near new-par = omega arith
-naming-near new-step = omega arith
-naming-near new-local = omega arith
-naming-near first-read = omega arith
-naming-near first-written = omega arith
-naming-near later-variable = omega arith
-naming-near made = omega arith
-naming-near made-statement = omega arith
-naming-near called = omega arith
-naming-near called-struct = omega arith
-naming-near called-step = omega arith
+naming-near m =
+    elim m [
+      | new-struct ↦ omega arith
+      | new-par ↦ omega arith
+      | new-step ↦ omega arith
+      | new-local ↦ omega arith
+      | first-read ↦ omega arith
+      | first-written ↦ omega arith
+      | later-variable ↦ omega arith
+      | made ↦ omega arith
+      | made-statement ↦ omega arith
+      | called ↦ omega arith
+      | called-struct ↦ omega arith
+      | called-step ↦ omega arith
+    ]
 
 module _ (x : List ℕ) (q : ℕ) (low : 38 < q) (high : q < 51) where
   other-byte : (i c : ℕ) (cs : List ℕ) → (c ≡ q → ⊥) → names-at x (places-from q q i (c ∷ cs)) ≡ names-at x (places-from q q (suc i) cs)

@@ -12,11 +12,9 @@ use Rattle.tokens.specs.Tokens.{Sign.colon, Word.w-struct, Token.sign, Token.wo
 use Rattle.syntax.specs.Syntax.{Par, Par.par, Struct, Struct.struct, Defs, Defs.last-struct, Defs.defs, Sched, Program.program}
 use Rattle.meaning.specs.Scope.{pars-of, steps-of, structs-of}
 use Rattle.lexer.specs.KindLaws.{kind-within}
-use Rattle.derive.specs.Roles.{Naming.new-struct, Naming.new-par, Naming.new-step, Typed, Typed.of-par, Typed.of-local, Typed.of-null, Part, Part.brackets-open}
-use Rattle.derive.specs.Roles.{Part.brackets-close, Part.args-open, Part.args-close, Part.no-args-close, Part.pars-open, Part.pars-close, Part.fix-open}
-use Rattle.derive.specs.Roles.{Part.fix-close, Part.steps-open, Part.steps-close, Part.body-open, Part.body-close, Part.then-open, Part.then-close}
-use Rattle.derive.specs.Roles.{Part.par-comma, Part.arg-comma, Part.barrier-sign, Role, Role.plain, Role.naming, Role.typed, Role.part, naming-code, typed-code}
-use Rattle.derive.specs.Roles.{part-code, code}
+use Rattle.derive.specs.Roles.{Naming.new-struct, Naming.new-par, Naming.new-step, Typed, Typed.of-par, Typed.of-local, Typed.of-null, Part, Part.pars-open}
+use Rattle.derive.specs.Roles.{Part.pars-close, Part.steps-open, Part.steps-close, Role, Role.plain, Role.naming, Role.typed, Role.part, naming-code}
+use Rattle.derive.specs.Roles.{typed-code, part-code, code}
 use Rattle.derive.specs.Roles.{roles-par, roles-pars, roles-steps, roles-struct, roles-defs, roles-sched, roles}
 use Rattle.resolve.specs.Declares.{inner, sums}
 use Rattle.resolve.specs.DeclaresLaws.{inner-code}
@@ -32,24 +30,7 @@ typed-far of-null = omega arith
 
 pub part-far : (g : Part) → 62 < part-code g
 unfolding part-code
-part-far brackets-open = omega arith
-part-far brackets-close = omega arith
-part-far args-open = omega arith
-part-far args-close = omega arith
-part-far no-args-close = omega arith
-part-far pars-open = omega arith
-part-far pars-close = omega arith
-part-far fix-open = omega arith
-part-far fix-close = omega arith
-part-far steps-open = omega arith
-part-far steps-close = omega arith
-part-far body-open = omega arith
-part-far body-close = omega arith
-part-far then-open = omega arith
-part-far then-close = omega arith
-part-far par-comma = omega arith
-part-far arg-comma = omega arith
-part-far barrier-sign = omega arith
+part-far g = omega arith
 
 inner-byte : (r : Role) → inner r ≡ true → (code r < 39) ⊎ (41 < code r)
 unfolding code inner

@@ -8,12 +8,12 @@ use mathlib.Core.List.{List, [], _∷_}
 use lib.ListN.{length, getD, set, length-set, take, drop, length-drop, drop-of-length-le}
 use lib.Seq.{sets, take-all}
 use lib.Dec.{eqb}
-use Rattle.tokens.specs.Tokens.{between, same}
+use Rattle.tokens.specs.Tokens.{same}
 use Rattle.lexer.specs.RunLaws.{next-byte}
 use Rattle.syntax.specs.Syntax.{Id}
 use Rattle.meaning.specs.Finding.{absent, distinct}
 use Rattle.resolve.specs.Named.{name-at, names-at, sought}
-use Rattle.resolve.specs.Tables.{struct-byte, places-from, places, with-place, with-one, offsets-from, offsets}
+use Rattle.resolve.specs.Tables.{struct-byte, with-place, with-one, offsets-from, offsets}
 
 -- One place ---------------------------------------------------------------------------------
 
@@ -37,65 +37,50 @@ module _ {t : Bool} (table : List ℕ) (n i : ℕ) where
 
 -- Gathering ----------------------------------------------------------------------------------
 
--- the places from i on, stored behind the n before them, complete the table
-pub record Gathers (s table₀ table : List ℕ) (lo hi n i : ℕ) : Type 0 where
-  pub inner : i ≤ length s
+-- what a loop still gathers in its turn i and behind it, stored behind the n places before, completes the table
+pub record Gathers (rest : ℕ → List ℕ) (table₀ table : List ℕ) (n i : ℕ) : Type 0 where
   pub few : n ≤ i
   pub kept : length table ≡ length table₀
-  pub count : n + length (places-from lo hi i (drop i s)) ≡ length (places lo hi s)
-  pub stored : sets table n (places-from lo hi i (drop i s)) ≡ sets table₀ 0 (places lo hi s)
+  pub count : n + length (rest i) ≡ length (rest 0)
+  pub stored : sets table n (rest i) ≡ sets table₀ 0 (rest 0)
 
-pub gathers-start : (s table : List ℕ) (lo hi : ℕ) → Gathers s table table lo hi 0 0
-gathers-start s table lo hi = record { inner = omega arith; few = omega arith; kept = refl; count = omega arith; stored = refl }
+pub gathers-start : (rest : ℕ → List ℕ) (table : List ℕ) → Gathers rest table table 0 0
+gathers-start rest table = record { few = omega arith; kept = refl; count = omega arith; stored = refl }
 
-module _ {s table₀ table : List ℕ} {lo hi n i : ℕ} (r : Gathers s table₀ table lo hi n i) where
-  module _ (l : i < length s) where
-    gathers-one : between lo hi (getD s i 0) ≡ true → Gathers s table₀ (set table n i) lo hi (n + 1) (i + 1)
-    unfolding places-from
-    gathers-one e =
-        let f : places-from lo hi i (drop i s) ≡ i ∷ places-from lo hi (i + 1) (drop (i + 1) s) =
-        rw (next-byte s i l, places-from, e) (ap (λ k. i ∷ places-from lo hi k (drop (i + 1) s)) (sym (add-one i))) in
-        record {
-          inner = omega arith;
-          few = let h = r .few in omega arith;
-          kept = length-set table n i ∙ r .kept;
-          count = omega (arith, ap length f, r .count);
-          stored = ap (λ k. sets (set table n i) k (places-from lo hi (i + 1) (drop (i + 1) s))) (add-one n) ∙ ap (sets table n) (sym f) ∙ r .stored;
-        }
+module _ {rest : ℕ → List ℕ} {table₀ table : List ℕ} {n i : ℕ} (r : Gathers rest table₀ table n i) where
+  gathers-one : (p : ℕ) → rest i ≡ p ∷ rest (i + 1) → Gathers rest table₀ (set table n p) (n + 1) (i + 1)
+  gathers-one p e =
+      record {
+        few = let h = r .few in omega arith;
+        kept = length-set table n p ∙ r .kept;
+        count = omega (arith, ap length e, r .count);
+        stored = ap (λ k. sets (set table n p) k (rest (i + 1))) (add-one n) ∙ ap (sets table n) (sym e) ∙ r .stored;
+      }
 
-    gathers-none : between lo hi (getD s i 0) ≡ false → Gathers s table₀ table lo hi n (i + 1)
-    unfolding places-from
-    gathers-none e =
-        let f : places-from lo hi i (drop i s) ≡ places-from lo hi (i + 1) (drop (i + 1) s) =
-        rw (next-byte s i l, places-from, e) (ap (λ k. places-from lo hi k (drop (i + 1) s)) (sym (add-one i))) in
-        record {
-          inner = omega arith;
-          few = let h = r .few in omega arith;
-          kept = r .kept;
-          count = omega (arith, ap length f, r .count);
-          stored = ap (sets table n) (sym f) ∙ r .stored;
-        }
+  gathers-none : rest i ≡ rest (i + 1) → Gathers rest table₀ table n (i + 1)
+  gathers-none e =
+      record {
+        few = let h = r .few in omega arith;
+        kept = r .kept;
+        count = omega (arith, ap length e, r .count);
+        stored = ap (sets table n) (sym e) ∙ r .stored;
+      }
 
-    pub gathers-on : {t : Bool} {table' : List ℕ} {m : ℕ} → t ≡ between lo hi (getD s i 0) → m ≡ with-one t n → table' ≡ with-place t table n i
-        → Gathers s table₀ table' lo hi m (i + 1)
-    unfolding with-one with-place
-    gathers-on {t} {table'} {m} e f g = go t e f g
-      where
-        go : (u : Bool) → u ≡ between lo hi (getD s i 0) → m ≡ with-one u n → table' ≡ with-place u table n i → Gathers s table₀ table' lo hi m (i + 1)
-        go true a b d = rw (b, d) (gathers-one (sym a))
-        go false a b d = rw (b, d) (gathers-none (sym a))
+  pub gathers-on : {t : Bool} {table' : List ℕ} {m p : ℕ} → (t ≡ true → rest i ≡ p ∷ rest (i + 1)) → (t ≡ false → rest i ≡ rest (i + 1))
+      → m ≡ with-one t n → table' ≡ with-place t table n p → Gathers rest table₀ table' m (i + 1)
+  unfolding with-one with-place
+  gathers-on {t} {table'} {m} {p} e f = go t e f
+    where
+      go : (u : Bool) → (u ≡ true → rest i ≡ p ∷ rest (i + 1)) → (u ≡ false → rest i ≡ rest (i + 1)) → m ≡ with-one u n → table' ≡ with-place u table n p
+          → Gathers rest table₀ table' m (i + 1)
+      go true a b c d = rw (c, d) (gathers-one p (a refl))
+      go false a b c d = rw (c, d) (gathers-none (b refl))
 
-  pub gathers-count : length s ≤ i → n ≡ length (places lo hi s)
-  unfolding places-from
-  gathers-count l =
-      let f : places-from lo hi i (drop i s) ≡ [] = rw (drop-of-length-le s {i = i} l) refl in
-      omega (arith, ap length f, r .count)
+  pub gathers-count : rest i ≡ [] → n ≡ length (rest 0)
+  gathers-count e = omega (arith, ap length e, r .count)
 
-  pub gathers-stored : length s ≤ i → table ≡ sets table₀ 0 (places lo hi s)
-  unfolding places-from
-  gathers-stored l =
-      let f : places-from lo hi i (drop i s) ≡ [] = rw (drop-of-length-le s {i = i} l) refl in
-      ap (sets table n) (sym f) ∙ r .stored
+  pub gathers-stored : rest i ≡ [] → table ≡ sets table₀ 0 (rest 0)
+  gathers-stored e = ap (sets table n) (sym e) ∙ r .stored
 
 -- Rows ---------------------------------------------------------------------------------------------
 

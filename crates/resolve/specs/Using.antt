@@ -8,7 +8,6 @@ use lib.ListN.{length, getD, drop}
 use lib.Dec.{eqb, leb, ltb}
 use Rattle.types.specs.Limits.{first-local, max-locals}
 use Rattle.types.specs.Types.{struct-code}
-use Rattle.tokens.specs.Tokens.{Sign.lpar, Sign.rpar, Sign.lbrace, Sign.rbrace, Sign.comma, Sign.colon, Sign.semicolon, Sign.assign, Sign.dot, Sign.bang}
 use Rattle.tokens.specs.Tokens.{Token, Token.word, Token.sign, Token.op, Token.name, Token.int, Token.nat}
 use Rattle.syntax.specs.Syntax.{Id, TypeName, Struct, Literal.int-literal, Literal.nat-literal}
 use Rattle.meaning.specs.Scope.{par-id, par-type, struct-id, pars-of}
@@ -22,6 +21,7 @@ use Rattle.derive.specs.Roles.{Part.then-open, Part.then-close, Part.par-comma,
 use Rattle.derive.specs.Roles.{Role.part}
 use Rattle.resolve.specs.Named.{sought}
 use Rattle.resolve.specs.Checks.{byte-of}
+use Rattle.resolve.specs.Passing.{at-semicolon}
 
 -- the names of structs, of each the names of its parameters and the bytes of their types; the names of steps
 pub record Book : Type 0 where
@@ -63,65 +63,35 @@ use-start = record { begun = 0; met = []; living = []; numbers = []; bytes = [];
 
 -- A number is left; argument lists, locals, structs change ----------------------------------------
 
-unfoldable pub leave : Use → ℕ → ℕ → Use
-leave u t n =
+-- all but the locals
+abbrev pub move : Use → ℕ → ℕ → List ℕ → List ℕ → Use
+move u k t l o =
     record {
-      begun = u .begun;
+      begun = k;
       met = u .met;
       living = u .living;
       numbers = u .numbers;
       bytes = u .bytes;
       fresh = u .fresh;
       type = t;
-      dues = u .dues;
-      heights = u .heights;
-      out = n ∷ u .out;
-    }
-
-unfoldable pub due : Use → List ℕ → Use
-due u l =
-    record {
-      begun = u .begun;
-      met = u .met;
-      living = u .living;
-      numbers = u .numbers;
-      bytes = u .bytes;
-      fresh = u .fresh;
-      type = u .type;
       dues = l;
       heights = u .heights;
-      out = u .out;
+      out = o;
     }
 
-unfoldable pub live : Use → List Id → List ℕ → List ℕ → ℕ → List Id → List ℕ → Use
-live u l ns bs f m h =
-    record {
-      begun = u .begun;
-      met = m;
-      living = l;
-      numbers = ns;
-      bytes = bs;
-      fresh = f;
-      type = u .type;
-      dues = u .dues;
-      heights = h;
-      out = u .out;
-    }
+unfoldable pub leave : Use → ℕ → ℕ → Use
+leave u t n = move u (u .begun) t (u .dues) (n ∷ u .out)
+
+unfoldable pub due : Use → List ℕ → Use
+due u l = move u (u .begun) (u .type) l (u .out)
 
 unfoldable pub begin : Use → Use
-begin u =
-    record {
-      begun = suc (u .begun);
-      met = u .met;
-      living = u .living;
-      numbers = u .numbers;
-      bytes = u .bytes;
-      fresh = u .fresh;
-      type = u .type;
-      dues = u .dues;
-      heights = u .heights;
-      out = u .out;
-    }
+begin u = move u (suc (u .begun)) (u .type) (u .dues) (u .out)
+
+-- the locals
+unfoldable pub live : Use → List Id → List ℕ → List ℕ → ℕ → List Id → List ℕ → Use
+live u l ns bs f m h =
+    record { begun = u .begun; met = m; living = l; numbers = ns; bytes = bs; fresh = f; type = u .type; dues = u .dues; heights = h; out = u .out }
 
 -- the row of the struct begun last; the last h of a list; one of two
 unfoldable pub own-row : {A : Type 0} → List (List A) → ℕ → List A
@@ -255,18 +225,7 @@ use-part barrier-sign u = some u
 unfoldable pub use-token : Token → Use → Option Use
 unfolding then live
 use-token (word w) u = some u
-use-token (sign g) u = elim g [
-  | lpar ↦ some u
-  | rpar ↦ some u
-  | lbrace ↦ some u
-  | rbrace ↦ some u
-  | comma ↦ some u
-  | colon ↦ some u
-  | semicolon ↦ some (live u (u .living) (u .numbers) (u .bytes) 0 (u .met) (u .heights))
-  | assign ↦ some u
-  | dot ↦ some u
-  | bang ↦ some u
-]
+use-token (sign g) u = at-semicolon g (some (live u (u .living) (u .numbers) (u .bytes) 0 (u .met) (u .heights))) (some u)
 use-token (op o) u = some u
 use-token (name x) u = some u
 use-token (int g l) u = then (literal-meaning (int-literal g l)) (λ c. some u)

@@ -7,12 +7,12 @@ use mathlib.Core.List.{List, [], _∷_, _++_, map}
 use mathlib.Core.Option.{Option, none, some}
 use lib.ListN.{length, drop, length-map}
 use Rattle.types.specs.Limits.{first-local}
-use Rattle.syntax.specs.Syntax.{Id, TypeName, Struct}
+use Rattle.syntax.specs.Syntax.{Id, TypeName, Par, Struct}
 use Rattle.meaning.specs.Scope.{par-id, par-type, struct-id, Local, Local.declared, local-id, local-number, local-type}
 use Rattle.meaning.specs.Meant.{provided}
 use Rattle.resolve.specs.Checks.{byte-of}
-use Rattle.resolve.specs.Passing.{Pass, leaves, opens, lives}
-use Rattle.resolve.specs.Using.{book-of, Use, leave, due, live, own-row, last-of, use-opens}
+use Rattle.resolve.specs.Passing.{Pass, moves, leaves, opens, lives}
+use Rattle.resolve.specs.Using.{book-of, Use, move, leave, due, live, own-row, last-of, use-opens}
 
 -- Open ifs ---------------------------------------------------------------------------------------
 
@@ -64,15 +64,16 @@ pub record Agrees (ds : List Struct) (names : List Id) (p : Pass) (u : Use) : Ty
   pub left : p .left ≡ drop (u .begun) ds
   pub own : map par-id (p .own) ≡ own-row (book-of ds names .rows) (u .begun)
   pub types : map (λ q. byte-of (map struct-id ds) (par-type q)) (p .own) ≡ own-row (book-of ds names .types) (u .begun)
+  pub type : byte-of (map struct-id ds) (p .type) ≡ u .type
+  pub dues : p .dues ≡ u .dues
+  pub out : p .out ≡ u .out
+  -- the locals
   pub met : p .met ≡ u .met
   pub living : map local-id (p .fresh ++ p .alive) ≡ u .living
   pub numbers : map local-number (p .fresh ++ p .alive) ≡ u .numbers
   pub bytes : map (λ l. byte-of (map struct-id ds) (local-type l)) (p .fresh ++ p .alive) ≡ u .bytes
   pub fresh : length (p .fresh) ≡ u .fresh
-  pub type : byte-of (map struct-id ds) (p .type) ≡ u .type
-  pub dues : p .dues ≡ u .dues
   pub bodies : Opened (p .alive) (p .bodies) (u .heights)
-  pub out : p .out ≡ u .out
 
 -- both find nothing, or both go on and agree
 pub data Both (ds : List Struct) (names : List Id) : Option Pass → Option Use → Type 0 where
@@ -105,144 +106,92 @@ module _ (ds : List Struct) (names : List Id) where
     pub bytes-alive : map (λ l. byte (local-type l)) (p .alive) ≡ drop (u .fresh) (u .bytes)
     bytes-alive = alive-part (λ l. byte (local-type l)) (p .fresh) (p .alive) (u .bytes) (u .fresh) (s .bytes) (s .fresh)
 
-    -- a number is left
-    pub agree-leave : (t : TypeName) (n c m : ℕ) → byte t ≡ c → n ≡ m → Agrees ds names (leaves p t n) (leave u c m)
-    unfolding leaves leave
-    agree-leave t n c m e f =
+    -- all but the locals changes, on both sides
+    pub agree-moves : (l : List Struct) (ps : List Par) (t : TypeName) (n : ℕ) {c : ℕ} {d e o q : List ℕ} → l ≡ drop n ds
+        → map par-id ps ≡ own-row (book-of ds names .rows) n → map (λ r. byte (par-type r)) ps ≡ own-row (book-of ds names .types) n
+        → byte t ≡ c → d ≡ e → o ≡ q → Agrees ds names (moves p l ps t d o) (move u n c e q)
+    agree-moves l ps t n left own types type dues out =
         record {
-          left = s .left;
-          own = s .own;
-          types = s .types;
+          left = left;
+          own = own;
+          types = types;
+          type = type;
+          dues = dues;
+          out = out;
           met = s .met;
           living = s .living;
           numbers = s .numbers;
           bytes = s .bytes;
           fresh = s .fresh;
-          type = e;
-          dues = s .dues;
           bodies = s .bodies;
-          out = pair f (s .out);
         }
+
+    -- a number is left
+    pub agree-leave : (t : TypeName) (n c m : ℕ) → byte t ≡ c → n ≡ m → Agrees ds names (leaves p t n) (leave u c m)
+    unfolding leaves leave
+    agree-leave t n c m e f = agree-moves (p .left) (p .own) t (u .begun) (s .left) (s .own) (s .types) e (s .dues) (pair f (s .out))
 
     -- argument lists change
     pub agree-due : (k l : List ℕ) → k ≡ l → Agrees ds names (opens p k) (due u l)
     unfolding opens due
-    agree-due k l e =
+    agree-due k l e = agree-moves (p .left) (p .own) (p .type) (u .begun) (s .left) (s .own) (s .types) (s .type) e (s .out)
+
+    -- the locals change: those not alive yet, those alive before each open if
+    pub agree-lives : (r : List Local) {l : List Local} {b : List (List Local)} {m m′ k : List Id} {ns bs h : List ℕ} {n : ℕ} → m ≡ m′
+        → map local-id (r ++ l) ≡ k → map local-number (r ++ l) ≡ ns → map (λ a. byte (local-type a)) (r ++ l) ≡ bs → length r ≡ n → Opened l b h
+        → Agrees ds names (lives p l r m b) (live u k ns bs n m′ h)
+    unfolding lives live
+    agree-lives r met living numbers bytes fresh bodies =
         record {
           left = s .left;
           own = s .own;
           types = s .types;
-          met = s .met;
-          living = s .living;
-          numbers = s .numbers;
-          bytes = s .bytes;
-          fresh = s .fresh;
           type = s .type;
-          dues = e;
-          bodies = s .bodies;
+          dues = s .dues;
           out = s .out;
+          met = met;
+          living = living;
+          numbers = numbers;
+          bytes = bytes;
+          fresh = fresh;
+          bodies = bodies;
         }
 
     -- the locals of a step end
     pub agree-none : Agrees ds names (lives p [] [] [] []) (live u [] [] [] 0 [] [])
-    unfolding lives live
-    agree-none =
-        record {
-          left = s .left;
-          own = s .own;
-          types = s .types;
-          met = refl;
-          living = refl;
-          numbers = refl;
-          bytes = refl;
-          fresh = refl;
-          type = s .type;
-          dues = s .dues;
-          bodies = none-open;
-          out = s .out;
-        }
+    agree-none = agree-lives [] refl refl refl refl refl none-open
 
     -- a local comes alive
     pub agree-alive : Agrees ds names (lives p (p .fresh ++ p .alive) [] (p .met) (p .bodies))
         (live u (u .living) (u .numbers) (u .bytes) 0 (u .met) (u .heights))
-    unfolding lives live
-    agree-alive =
-        record {
-          left = s .left;
-          own = s .own;
-          types = s .types;
-          met = s .met;
-          living = s .living;
-          numbers = s .numbers;
-          bytes = s .bytes;
-          fresh = refl;
-          type = s .type;
-          dues = s .dues;
-          bodies = opened-more (p .fresh) (s .bodies);
-          out = s .out;
-        }
+    agree-alive = agree-lives [] (s .met) (s .living) (s .numbers) (s .bytes) refl (opened-more (p .fresh) (s .bodies))
 
     -- an if is opened
     pub agree-opened : Agrees ds names (lives p (p .alive) [] (p .met) (p .alive ∷ p .bodies)) (use-opens u)
-    unfolding lives live use-opens
+    unfolding use-opens
     agree-opened =
-        record {
-          left = s .left;
-          own = s .own;
-          types = s .types;
-          met = s .met;
-          living = names-alive;
-          numbers = numbers-alive;
-          bytes = bytes-alive;
-          fresh = refl;
-          type = s .type;
-          dues = s .dues;
-          bodies =
-              subst (λ n. Opened (p .alive) (p .alive ∷ p .bodies) (n ∷ u .heights)) (sym (length-map (p .alive) local-id) ∙ ap length names-alive)
-              (one-open at-it (s .bodies));
-          out = s .out;
-        }
+        agree-lives [] (s .met) names-alive numbers-alive bytes-alive refl
+        (subst (λ n. Opened (p .alive) (p .alive ∷ p .bodies) (n ∷ u .heights)) (sym (length-map (p .alive) local-id) ∙ ap length names-alive)
+        (one-open at-it (s .bodies)))
 
     -- an if is closed: the locals l were alive before it
     pub agree-closed : {b : List (List Local)} {h : List ℕ} (l : List Local) → Behind l (p .alive) → Opened l b h
         → Agrees ds names (lives p l [] (p .met) b)
         (live u (last-of (length l) (u .living)) (last-of (length l) (u .numbers)) (last-of (length l) (u .bytes)) 0 (u .met) h)
-    unfolding lives live
     agree-closed l k o =
-        record {
-          left = s .left;
-          own = s .own;
-          types = s .types;
-          met = s .met;
-          living = sym (last-behind local-id (behind-more (p .fresh) k)) ∙ ap (last-of (length l)) (s .living);
-          numbers = sym (last-behind local-number (behind-more (p .fresh) k)) ∙ ap (last-of (length l)) (s .numbers);
-          bytes = sym (last-behind (λ m. byte (local-type m)) (behind-more (p .fresh) k)) ∙ ap (last-of (length l)) (s .bytes);
-          fresh = refl;
-          type = s .type;
-          dues = s .dues;
-          bodies = o;
-          out = s .out;
-        }
+        agree-lives [] (s .met) (sym (last-behind local-id (behind-more (p .fresh) k)) ∙ ap (last-of (length l)) (s .living))
+        (sym (last-behind local-number (behind-more (p .fresh) k)) ∙ ap (last-of (length l)) (s .numbers))
+        (sym (last-behind (λ m. byte (local-type m)) (behind-more (p .fresh) k)) ∙ ap (last-of (length l)) (s .bytes)) refl o
 
-    -- a local is declared
+  -- a local is declared
+  module _ {p : Pass} {u : Use} (s : Agrees ds names p u) where
     pub agree-new : (x : Id)
         → Agrees ds names
         (lives (leaves p (p .type) (first-local + length (p .met))) (p .alive) (declared x (length (p .met)) (p .type) ∷ []) (x ∷ p .met) (p .bodies))
         (live (leave u (u .type) (first-local + length (u .met))) (x ∷ drop (u .fresh) (u .living)) (length (u .met) ∷ drop (u .fresh) (u .numbers))
         (u .type ∷ drop (u .fresh) (u .bytes)) 1 (x ∷ u .met) (u .heights))
-    unfolding lives live leaves leave local-id local-number local-type
+    unfolding local-id local-number local-type
     agree-new x =
-        record {
-          left = s .left;
-          own = s .own;
-          types = s .types;
-          met = ap (λ m. x ∷ m) (s .met);
-          living = ap (λ m. x ∷ m) names-alive;
-          numbers = pair (ap length (s .met)) numbers-alive;
-          bytes = pair (s .type) bytes-alive;
-          fresh = refl;
-          type = s .type;
-          dues = s .dues;
-          bodies = s .bodies;
-          out = pair (ap (λ m. first-local + length m) (s .met)) (s .out);
-        }
+        agree-lives (agree-leave s (p .type) _ (u .type) _ (s .type) (ap (λ m. first-local + length m) (s .met)))
+        (declared x (length (p .met)) (p .type) ∷ []) (ap (λ m. x ∷ m) (s .met)) (ap (λ m. x ∷ m) (names-alive s))
+        (pair (ap length (s .met)) (numbers-alive s)) (pair (s .type) (bytes-alive s)) refl (s .bodies)

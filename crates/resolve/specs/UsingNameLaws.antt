@@ -1,5 +1,5 @@
 -- The pass over uses and the pass with its trees forgotten agree on names and types.
-use Prim.Native.Nat.{ℕ, _+_, _-_, _<_}
+use Prim.Native.Nat.{ℕ, suc, _+_, _-_, _<_}
 use native.Mathlib.Omega.{arith}
 use native.Mathlib.Numerals.{add-one}
 use mathlib.Core.Path.{_≡_, refl, sym, ap, subst, _∙_}
@@ -29,8 +29,8 @@ use Rattle.resolve.specs.SoughtLaws.{missing, present, at-place, absent-
 use Rattle.resolve.specs.Passing.{Pass, leaves, begins, makes, starts, numbered, declares, pass-name, pass-type}
 use Rattle.resolve.specs.Using.{Book, book-of, Use, leave, begin, own-row, chosen, use-listed, use-par, use-local, use-made, use-first, use-behind}
 use Rattle.resolve.specs.Using.{use-new, use-name, use-type}
-use Rattle.resolve.specs.UsingLaws.{Agrees, Both, Both.neither, Both.both, pair, both-if, names-alive, numbers-alive, bytes-alive, agree-leave}
-use Rattle.resolve.specs.UsingLaws.{agree-due, agree-new}
+use Rattle.resolve.specs.UsingLaws.{Agrees, Both, Both.neither, Both.both, pair, both-if, names-alive, numbers-alive, bytes-alive, agree-moves}
+use Rattle.resolve.specs.UsingLaws.{agree-leave, agree-due, agree-new}
 
 module _ (ds : List Struct) (names : List Id) where
   abbrev byte : TypeName → ℕ
@@ -214,20 +214,10 @@ module _ (ds : List Struct) (names : List Id) where
             let n = length-drop (u .begun) ds in
             rw (e, lt-ltb (u .begun) (length structs) (omega (arith, n, ap length g, length-map ds struct-id)))
             (both
-            (record {
-              left = sym (ap (drop 1) g) ∙ drop-drop 1 (u .begun) ds ∙ ap (λ n. drop n ds) (add-one (u .begun));
-              own = sym (at-front (λ d. map par-id (pars-of d)) [] (u .begun) ds d l g);
-              types = sym (at-front (λ d. map (λ q. byte (par-type q)) (pars-of d)) [] (u .begun) ds d l g);
-              met = s .met;
-              living = s .living;
-              numbers = s .numbers;
-              bytes = s .bytes;
-              fresh = s .fresh;
-              type = s .type;
-              dues = s .dues;
-              bodies = s .bodies;
-              out = s .out;
-            }))
+            (agree-moves ds names s l (pars-of d) (p .type) (suc (u .begun))
+            (sym (ap (drop 1) g) ∙ drop-drop 1 (u .begun) ds ∙ ap (λ n. drop n ds) (add-one (u .begun)))
+            (sym (at-front (λ d. map par-id (pars-of d)) [] (u .begun) ds d l g))
+            (sym (at-front (λ d. map (λ q. byte (par-type q)) (pars-of d)) [] (u .begun) ds d l g)) (s .type) (s .dues) (s .out)))
 
     pub name-both : (n : Naming) (x : Id) → Both ds names (pass-name ds names n x p) (use-name book n x u)
     unfolding pass-name use-name numbered

@@ -1,13 +1,11 @@
-// Tables of places: those where a role stands, and whether the names there are all different.
+// Tables of places: one place after the other into a table, and whether the names at its places are all different.
 use crate::names;
-use lexer::bytes;
 ghost use mathlib.Core.Path.{_≡_};
 ghost use Prim.Native.Nat.{_+_, _<_};
-ghost use lib.ListN.{length, set};
-ghost use lib.Seq.{sets};
+ghost use lib.ListN.{set};
 ghost use Rattle.meaning.specs.Finding.{distinct};
 ghost use Rattle.resolve.specs.Named.{names-at};
-ghost use Rattle.resolve.specs.Tables.{places, with-place, with-one};
+ghost use Rattle.resolve.specs.Tables.{with-place, with-one};
 
 // A place at an index of a table, if the table has it.
 pub fn put(table: &mut [usize], n: usize, i: usize)
@@ -28,20 +26,6 @@ pub fn add(table: &mut [usize], n: usize, i: usize, is: bool) -> usize
     if is {
         put(table, n, i);
         return n + 1;
-    }
-    n
-}
-
-// The places of the roles from low to high, in order, into a table, as many as it has; and how many there are.
-pub fn gather(roles: &[u8], low: u8, high: u8, table: &mut [usize]) -> usize
-    ensures { λ r. ⌜ r ≡ length (places low high (now (roles .entry))) ⌝ }
-    ensures { λ _. ⌜ now (table .exit) ≡ sets (now (table .entry)) 0 (places low high (now (roles .entry))) ⌝ }
-{
-    let mut n = 0;
-    let mut i = 0;
-    while i < roles.len() {
-        n = add(table, n, i, bytes::between(low, high, roles[i]));
-        i += 1;
     }
     n
 }

@@ -1,24 +1,21 @@
 -- "Nesting apart" (02 §1, 17): texts that nest deeper than 01's levels by one, each way, are written, from their bytes to their streams; the checker says 5.
 use Prim.Native.Nat.{ℕ, _*_, _≤_}
 use mathlib.Core.Path.{_≡_, refl}
-use mathlib.Core.Bool.{true, false}
 use mathlib.Core.List.{List, [], _∷_}
-use mathlib.Core.Option.{Option, none, some}
+use mathlib.Core.Option.{some}
 use lib.ListN.{length}
-use lib.Dec.{ltb}
 use borrow.Author.Tests.{le-ltb}
 use Rattle.types.specs.Limits.{program-blocks}
 use Rattle.block.specs.Block.{block-size}
 use Rattle.tokens.specs.Tokens.{Word.w-struct, Word.w-if, Word.w-then, Word.w-fix, Word.w-bool, Sign.lpar, Sign.rpar, Sign.lbrace, Sign.rbrace}
 use Rattle.tokens.specs.Tokens.{Sign.colon, Sign.semicolon, Sign.assign, Sign.bang, Token, Token.word, Token.sign, Token.name}
-use Rattle.tokens.specs.Scanning.{lex}
 use Rattle.syntax.specs.Syntax.{TypeName.bool-type, Var.id as one-id, Exp.negation, Exp.variable, Stat.if-then, Stat.update, Stats.no-stats, Stats.stats}
 use Rattle.syntax.specs.Syntax.{Par.par, Step.step, Struct.struct, Defs.last-struct, Item.execution, Item.fixpoint, Sched.last-item}
 use Rattle.syntax.specs.Syntax.{Program as Derivation, Program.program}
 use Rattle.syntax.specs.Letters.{A, a, s}
-use Rattle.syntax.specs.Reading.{read}
-use Rattle.source.specs.TextReader.{of-room, of-held, of-program, of-derivation, of-tokens, of-length, outcome}
+use Rattle.source.specs.TextReader.{of-room, of-held, of-program, of-derivation, outcome}
 use Rattle.source.specs.Streamed.{streamed}
+use Rattle.source.specs.StreamedLaws.{Reads, streams}
 use Rattle.program.specs.Unfold.{encodings}
 use Rattle.tokens.specs.Unfold.{scanning}
 use Rattle.syntax.specs.Unfold.{reading}
@@ -42,22 +39,14 @@ derivation-nots =
     (negation (negation (negation (negation (negation (negation (negation (negation (negation (negation (variable (one-id a))))))))))))))))))) no-stats) ∷
     []))) (last-item (execution s))
 
-pub nots-lexed : lex 0 text-nots ≡ some tokens-nots
-unfolding text-nots tokens-nots scanning
-nots-lexed = refl
-
-pub nots-derived : read tokens-nots ≡ some derivation-nots
-unfolding tokens-nots derivation-nots reading
-nots-derived = refl
-
-short-nots : ltb 65536 (length text-nots) ≡ false
-unfolding text-nots
-short-nots = refl
+pub nots-read : Reads text-nots tokens-nots derivation-nots
+unfolding text-nots tokens-nots derivation-nots scanning reading
+nots-read = (refl, refl)
 
 pub nots-text : (out : List ℕ) → block-size * program-blocks ≤ length out → streamed (outcome text-nots out) ≡ some
     (1 ∷ 1 ∷ 2 ∷ 1 ∷ 0 ∷ 1 ∷ 3 ∷ 1 ∷ 0 ∷ 16 ∷ 16 ∷ 16 ∷ 16 ∷ 16 ∷ 16 ∷ 16 ∷ 16 ∷ 16 ∷ 16 ∷ 16 ∷ 16 ∷ 16 ∷ 16 ∷ 16 ∷ 16 ∷ 18 ∷ 1 ∷ 0 ∷ 1 ∷ 1 ∷ 0 ∷ [])
-unfolding derivation-nots streamed outcome of-length of-tokens of-derivation of-program of-held of-room holding meanings encodings
-nots-text out h = rw (short-nots, nots-lexed, nots-derived, le-ltb (length out) (block-size * program-blocks) h) refl
+unfolding text-nots derivation-nots streamed of-derivation of-program of-held of-room holding meanings encodings
+nots-text out h = streams text-nots out refl nots-read (rw (le-ltb (length out) (block-size * program-blocks) h) refl)
 
 -- nine ifs, each in the one before: struct A(a:Bool){s{if a then{..}}}s
 unfoldable pub text-ifs : List ℕ
@@ -83,23 +72,15 @@ derivation-ifs =
     (if-then (variable (one-id a)) (stats (if-then (variable (one-id a)) (stats (if-then (variable (one-id a)) no-stats) no-stats)) no-stats)) no-stats))
     no-stats)) no-stats)) no-stats)) no-stats)) no-stats)) no-stats) ∷ []))) (last-item (execution s))
 
-pub ifs-lexed : lex 0 text-ifs ≡ some tokens-ifs
-unfolding text-ifs tokens-ifs scanning
-ifs-lexed = refl
-
-pub ifs-derived : read tokens-ifs ≡ some derivation-ifs
-unfolding tokens-ifs derivation-ifs reading
-ifs-derived = refl
-
-short-ifs : ltb 65536 (length text-ifs) ≡ false
-unfolding text-ifs
-short-ifs = refl
+pub ifs-read : Reads text-ifs tokens-ifs derivation-ifs
+unfolding text-ifs tokens-ifs derivation-ifs scanning reading
+ifs-read = (refl, refl)
 
 pub ifs-text : (out : List ℕ) → block-size * program-blocks ≤ length out → streamed (outcome text-ifs out) ≡ some
     (1 ∷ 1 ∷ 2 ∷ 1 ∷ 0 ∷ 1 ∷ 1 ∷ 18 ∷ 1 ∷ 0 ∷ 1 ∷ 1 ∷ 18 ∷ 1 ∷ 0 ∷ 1 ∷ 1 ∷ 18 ∷ 1 ∷ 0 ∷ 1 ∷ 1 ∷ 18 ∷ 1 ∷ 0 ∷ 1 ∷ 1 ∷ 18 ∷ 1 ∷ 0 ∷ 1 ∷ 1 ∷ 18 ∷ 1 ∷ 0 ∷ 1 ∷ 1
     ∷ 18 ∷ 1 ∷ 0 ∷ 1 ∷ 1 ∷ 18 ∷ 1 ∷ 0 ∷ 1 ∷ 1 ∷ 18 ∷ 1 ∷ 0 ∷ 0 ∷ 1 ∷ 1 ∷ 0 ∷ [])
-unfolding derivation-ifs streamed outcome of-length of-tokens of-derivation of-program of-held of-room holding meanings encodings
-ifs-text out h = rw (short-ifs, ifs-lexed, ifs-derived, le-ltb (length out) (block-size * program-blocks) h) refl
+unfolding text-ifs derivation-ifs streamed of-derivation of-program of-held of-room holding meanings encodings
+ifs-text out h = streams text-ifs out refl ifs-read (rw (le-ltb (length out) (block-size * program-blocks) h) refl)
 
 -- nine fixpoints, each in the one before: struct A(){s{}}Fix(..Fix(s)..)
 unfoldable pub text-fixes : List ℕ
@@ -120,19 +101,11 @@ derivation-fixes =
     program (last-struct (struct A ([]) (step s no-stats ∷ []))) (last-item (fixpoint (last-item (fixpoint (last-item (fixpoint (last-item (fixpoint
     (last-item (fixpoint (last-item (fixpoint (last-item (fixpoint (last-item (fixpoint (last-item (fixpoint (last-item (execution s))))))))))))))))))))
 
-pub fixes-lexed : lex 0 text-fixes ≡ some tokens-fixes
-unfolding text-fixes tokens-fixes scanning
-fixes-lexed = refl
-
-pub fixes-derived : read tokens-fixes ≡ some derivation-fixes
-unfolding tokens-fixes derivation-fixes reading
-fixes-derived = refl
-
-short-fixes : ltb 65536 (length text-fixes) ≡ false
-unfolding text-fixes
-short-fixes = refl
+pub fixes-read : Reads text-fixes tokens-fixes derivation-fixes
+unfolding text-fixes tokens-fixes derivation-fixes scanning reading
+fixes-read = (refl, refl)
 
 pub fixes-text : (out : List ℕ) → block-size * program-blocks ≤ length out → streamed (outcome text-fixes out) ≡ some
     (1 ∷ 0 ∷ 1 ∷ 0 ∷ 0 ∷ 1 ∷ 3 ∷ 1 ∷ 3 ∷ 1 ∷ 3 ∷ 1 ∷ 3 ∷ 1 ∷ 3 ∷ 1 ∷ 3 ∷ 1 ∷ 3 ∷ 1 ∷ 3 ∷ 1 ∷ 3 ∷ 1 ∷ 1 ∷ 0 ∷ [])
-unfolding derivation-fixes streamed outcome of-length of-tokens of-derivation of-program of-held of-room holding meanings encodings
-fixes-text out h = rw (short-fixes, fixes-lexed, fixes-derived, le-ltb (length out) (block-size * program-blocks) h) refl
+unfolding text-fixes derivation-fixes streamed of-derivation of-program of-held of-room holding meanings encodings
+fixes-text out h = streams text-fixes out refl fixes-read (rw (le-ltb (length out) (block-size * program-blocks) h) refl)

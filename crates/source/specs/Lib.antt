@@ -10,5 +10,6 @@ pub mod Checking
 pub mod CheckingLaws
 pub mod Rows
 pub mod Streamed
+pub mod StreamedLaws
 pub mod TextRows
 pub mod DeepRows

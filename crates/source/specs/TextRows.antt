@@ -3,9 +3,8 @@ use Prim.Native.Nat.{ℕ, _*_, _≤_}
 use mathlib.Core.Path.{_≡_, refl}
 use mathlib.Core.Bool.{true, false}
 use mathlib.Core.List.{List, [], _∷_}
-use mathlib.Core.Option.{Option, none, some}
+use mathlib.Core.Option.{some}
 use lib.ListN.{length}
-use lib.Dec.{ltb}
 use borrow.Author.Tests.{le-ltb}
 use Rattle.types.specs.Limits.{program-blocks}
 use Rattle.block.specs.Block.{block-size}
@@ -14,16 +13,15 @@ use Rattle.tokens.specs.Tokens.{Word.w-struct, Word.w-if, Word.w-then, Word.w-n
 use Rattle.tokens.specs.Tokens.{Word.w-true, Word.w-false, Sign.lpar, Sign.rpar, Sign.lbrace, Sign.rbrace, Sign.comma, Sign.colon, Sign.semicolon}
 use Rattle.tokens.specs.Tokens.{Sign.assign, Sign.dot as dot-sign, Sign.bang, Polarity.plus, Polarity.minus, Token, Token.word, Token.sign, Token.op}
 use Rattle.tokens.specs.Tokens.{Token.name, Token.int, Token.nat}
-use Rattle.tokens.specs.Scanning.{lex}
 use Rattle.syntax.specs.Syntax.{TypeName.int-type, TypeName.nat-type, TypeName.bool-type, TypeName.id-type, Literal.int-literal, Literal.nat-literal}
 use Rattle.syntax.specs.Syntax.{Literal.bool-literal, Var.id as one-id, Var.dot, Exp.binary, Exp.brackets, Exp.negation, Exp.constructor, Exp.variable}
 use Rattle.syntax.specs.Syntax.{Exp.literal, Exp.null, Exp.this, Exps.no-exps, Exps.exps, Stat.if-then, Stat.assignment, Stat.update, Stat.construct}
 use Rattle.syntax.specs.Syntax.{Stats.no-stats, Stats.stats, Par.par, Step.step, Struct.struct, Defs.last-struct, Defs.defs, Item.execution}
 use Rattle.syntax.specs.Syntax.{Item.typed-execution, Item.fixpoint, Sched.last-item, Sched.barrier, Program as Derivation, Program.program}
 use Rattle.syntax.specs.Letters.{A, B, c, s, t, x, y}
-use Rattle.syntax.specs.Reading.{read}
-use Rattle.source.specs.TextReader.{of-room, of-held, of-program, of-derivation, of-tokens, of-length, outcome}
+use Rattle.source.specs.TextReader.{of-room, of-held, of-program, of-derivation, outcome}
 use Rattle.source.specs.Streamed.{streamed}
+use Rattle.source.specs.StreamedLaws.{Reads, streams}
 use Rattle.program.specs.Unfold.{encodings}
 use Rattle.tokens.specs.Unfold.{scanning}
 use Rattle.syntax.specs.Unfold.{reading}
@@ -73,22 +71,14 @@ derivation-Q =
     []))) (variable (one-id (105 ∷ []))))) (exps (null (id-type B)) no-exps))))) no-stats) ∷ [])))) (barrier (typed-execution B s) (barrier (execution t)
     (last-item (fixpoint (barrier (execution s) (last-item (typed-execution A s)))))))
 
-pub Q-lexed : lex 0 text-Q ≡ some tokens-Q
-unfolding text-Q tokens-Q scanning
-Q-lexed = refl
-
-pub Q-derived : read tokens-Q ≡ some derivation-Q
-unfolding tokens-Q derivation-Q reading
-Q-derived = refl
-
-short-Q : ltb 65536 (length text-Q) ≡ false
-unfolding text-Q
-short-Q = refl
+pub Q-read : Reads text-Q tokens-Q derivation-Q
+unfolding text-Q tokens-Q derivation-Q scanning reading
+Q-read = (refl, refl)
 
 pub Q-text : (out : List ℕ) → block-size * program-blocks ≤ length out → streamed (outcome text-Q out) ≡ some
     (2 ∷ 3 ∷ 1 ∷ 2 ∷ 17 ∷ 2 ∷ 0 ∷ 16 ∷ 2 ∷ 0 ∷ 3 ∷ 2 ∷ 2 ∷ 8 ∷ 16 ∷ 21 ∷ 0 ∷ 1 ∷ 43 ∷ 18 ∷ 1 ∷ 8 ∷ 35 ∷ 18 ∷ 1 ∷ 0 ∷ 20 ∷ 2 ∷ 0 ∷ 0 ∷ 0 ∷ 2 ∷ 2 ∷ 17 ∷ 9 ∷
     22 ∷ 17 ∷ 3 ∷ 2 ∷ 9 ∷ 0 ∷ 19 ∷ 7 ∷ 0 ∷ 0 ∷ 0 ∷ 3 ∷ 3 ∷ 2 ∷ 1 ∷ 1 ∷ 21 ∷ 1 ∷ 1 ∷ 2 ∷ 2 ∷ 1 ∷ 8 ∷ 40 ∷ 18 ∷ 1 ∷ 0 ∷ 20 ∷ 9 ∷ 0 ∷ 0 ∷ 0 ∷ 4 ∷ 1 ∷ 19 ∷ 255
     ∷ 255 ∷ 255 ∷ 255 ∷ 23 ∷ 1 ∷ 0 ∷ 1 ∷ 3 ∷ 1 ∷ 1 ∷ 17 ∷ 0 ∷ 20 ∷ 0 ∷ 0 ∷ 0 ∷ 0 ∷ 37 ∷ 18 ∷ 1 ∷ 0 ∷ 18 ∷ 1 ∷ 0 ∷ 22 ∷ 17 ∷ 3 ∷ 2 ∷ 1 ∷ 0 ∷ 1 ∷ 1 ∷ 3 ∷ 2 ∷
     1 ∷ 0 ∷ 2 ∷ 0 ∷ 0 ∷ [])
-unfolding derivation-Q streamed outcome of-length of-tokens of-derivation of-program of-held of-room holding meanings encodings
-Q-text out h = rw (short-Q, Q-lexed, Q-derived, le-ltb (length out) (block-size * program-blocks) h) refl
+unfolding text-Q derivation-Q streamed of-derivation of-program of-held of-room holding meanings encodings
+Q-text out h = streams text-Q out refl Q-read (rw (le-ltb (length out) (block-size * program-blocks) h) refl)

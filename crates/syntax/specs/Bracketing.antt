@@ -1,4 +1,4 @@
--- Where a binary expression may stand (02 §2): bare, by the levels of the operators, or in brackets. And what it is to derive tokens. Nothing here
+-- Where a binary expression may stand: bare, by levels of the operators, or in brackets. The levels are 02 §2's. And what it is to derive tokens. Nothing here
 -- speaks of reading.
 use Prim.Native.Nat.{ℕ, suc, _≤_}
 use mathlib.Core.Path.{_≡_}
@@ -14,7 +14,64 @@ use Rattle.syntax.specs.Syntax.{Stats.no-stats, Stats.stats}
 use Rattle.syntax.specs.Syntax.{Step, Step.step, Struct, Struct.struct, Defs, Defs.last-struct, Defs.defs, Program, Program.program}
 use Rattle.syntax.specs.Yield.{yield}
 
--- the level of each operator, from the loosest up
+-- every operator may stand bare; the level of the comparisons; no operator may, as in what a not stands before
+abbrev pub loosest : ℕ
+loosest = 0
+
+abbrev pub comparisons : ℕ
+comparisons = 2
+
+abbrev pub tightest : ℕ
+tightest = 5
+
+-- By any levels --------------------------------------------------------------------------------------
+
+-- the level of each operator; the loosest level that may stand bare left of it; and in a whole expression: an argument, a condition, what is assigned
+module _ (of left-of : Op → ℕ) (whole : ℕ) where
+  -- an expression in which no operator stands bare that is looser than l
+  abbrev mutual
+    pub Stands : ℕ → Exp → Type 0
+    Stands l (binary o a b) = (l ≤ of o) × (Stands (left-of o) a) × (Stands (suc (of o)) b)
+    Stands l (brackets e) = Stands loosest e
+    Stands l (negation e) = Stands tightest e
+    Stands l (constructor x es) = StandsExps es
+    Stands l (variable v) = Unit {0}
+    Stands l (literal a) = Unit {0}
+    Stands l (null t) = Unit {0}
+    Stands l this = Unit {0}
+
+    pub StandsExps : Exps → Type 0
+    StandsExps no-exps = Unit {0}
+    StandsExps (exps e es) = (Stands whole e) × (StandsExps es)
+
+  abbrev mutual
+    pub StandsStat : Stat → Type 0
+    StandsStat (if-then e b) = (Stands whole e) × (StandsStats b)
+    StandsStat (assignment t x e) = Stands whole e
+    StandsStat (update v e) = Stands whole e
+    StandsStat (construct x es) = StandsExps es
+
+    pub StandsStats : Stats → Type 0
+    StandsStats no-stats = Unit {0}
+    StandsStats (stats t b) = (StandsStat t) × (StandsStats b)
+
+  abbrev pub StandsSteps : List Step → Type 0
+  StandsSteps [] = Unit {0}
+  StandsSteps (step x b ∷ ts) = (StandsStats b) × (StandsSteps ts)
+
+  abbrev pub StandsStruct : Struct → Type 0
+  StandsStruct (struct x ps ts) = StandsSteps ts
+
+  abbrev pub StandsDefs : Defs → Type 0
+  StandsDefs (last-struct d) = StandsStruct d
+  StandsDefs (defs d ds) = (StandsStruct d) × (StandsDefs ds)
+
+  abbrev pub StandsProgram : Program → Type 0
+  StandsProgram (program d s) = StandsDefs d
+
+-- By 02 §2's --------------------------------------------------------------------------------------------
+
+-- from the loosest up
 unfoldable pub level : Op → ℕ
 level op-or = 0
 level op-and = 1
@@ -30,60 +87,34 @@ level op-mul = 4
 level op-div = 4
 level op-rem = 4
 
--- every operator may stand bare; the level of the comparisons; no operator may, as in what a not stands before
-abbrev pub loosest : ℕ
-loosest = 0
-
-abbrev pub comparisons : ℕ
-comparisons = 2
-
-abbrev pub tightest : ℕ
-tightest = 5
-
 -- the loosest level that may stand bare left of an operator: its own, as each level goes from left to right, but no comparison left of one
 unfoldable pub left : Op → ℕ
 left o = elim (eqb (level o) comparisons) [ true ↦ suc (level o) | false ↦ level o ]
 
--- an expression in which no operator stands bare that is looser than l
-unfoldable mutual
-  pub Fits : ℕ → Exp → Type 0
-  Fits l (binary o a b) = (l ≤ level o) × (Fits (left o) a) × (Fits (suc (level o)) b)
-  Fits l (brackets e) = Fits loosest e
-  Fits l (negation e) = Fits tightest e
-  Fits l (constructor x es) = FitsExps es
-  Fits l (variable v) = Unit {0}
-  Fits l (literal a) = Unit {0}
-  Fits l (null t) = Unit {0}
-  Fits l this = Unit {0}
+-- in a whole expression every operator may stand bare
+abbrev pub Fits : ℕ → Exp → Type 0
+Fits = Stands level left loosest
 
-  pub FitsExps : Exps → Type 0
-  FitsExps no-exps = Unit {0}
-  FitsExps (exps e es) = (Fits loosest e) × (FitsExps es)
+abbrev pub FitsExps : Exps → Type 0
+FitsExps = StandsExps level left loosest
 
-unfoldable mutual
-  pub FitsStat : Stat → Type 0
-  FitsStat (if-then e b) = (Fits loosest e) × (FitsStats b)
-  FitsStat (assignment t x e) = Fits loosest e
-  FitsStat (update v e) = Fits loosest e
-  FitsStat (construct x es) = FitsExps es
+abbrev pub FitsStat : Stat → Type 0
+FitsStat = StandsStat level left loosest
 
-  pub FitsStats : Stats → Type 0
-  FitsStats no-stats = Unit {0}
-  FitsStats (stats t b) = (FitsStat t) × (FitsStats b)
+abbrev pub FitsStats : Stats → Type 0
+FitsStats = StandsStats level left loosest
 
-unfoldable pub FitsSteps : List Step → Type 0
-FitsSteps [] = Unit {0}
-FitsSteps (step x b ∷ ts) = (FitsStats b) × (FitsSteps ts)
+abbrev pub FitsSteps : List Step → Type 0
+FitsSteps = StandsSteps level left loosest
 
-unfoldable pub FitsStruct : Struct → Type 0
-FitsStruct (struct x ps ts) = FitsSteps ts
+abbrev pub FitsStruct : Struct → Type 0
+FitsStruct = StandsStruct level left loosest
 
-unfoldable pub FitsDefs : Defs → Type 0
-FitsDefs (last-struct d) = FitsStruct d
-FitsDefs (defs d ds) = (FitsStruct d) × (FitsDefs ds)
+abbrev pub FitsDefs : Defs → Type 0
+FitsDefs = StandsDefs level left loosest
 
-unfoldable pub FitsProgram : Program → Type 0
-FitsProgram (program d s) = FitsDefs d
+abbrev pub FitsProgram : Program → Type 0
+FitsProgram = StandsProgram level left loosest
 
 -- a derivation of the tokens
 pub record Derives (ts : List Token) (c : Program) : Type 0 where

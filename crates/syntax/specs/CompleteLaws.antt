@@ -89,7 +89,7 @@ unfolding yield-stat run step construct-args expecting leaf-tokens
 reads-construct x es f l c k = reads-args es f (construct-args x l c) (sign semicolon ∷ k)
 
 mutual
-  unfolding FitsStat FitsStats yield-stats run step stats-onto expecting leaf-tokens
+  unfolding yield-stats run step stats-onto expecting leaf-tokens
 
   reads-stat : (t : Stat) → FitsStat t → ReadsStat t
   reads-stat (if-then e b) f = reads-if e b (f .0) (λ l c k. reads-stats b (f .1) l c k)
@@ -126,14 +126,14 @@ reads-pars (par x a ∷ ps) ds n k = reads-par-list ps x a ds n [] k
 
 reads-steps : (ts : List Step) → FitsSteps ts → (ds : List Struct) (n : Id) (ps : List Par) (l : List Step) (k : List Token)
     → run (at-steps ds n ps l) (yield-steps ts (sign rbrace ∷ k)) ≡ run (at-defs (struct n ps (reverseAux l ts) ∷ ds)) k
-unfolding FitsSteps yield-steps yield-step run step closed stats-onto expecting leaf-tokens
+unfolding yield-steps yield-step run step closed stats-onto expecting leaf-tokens
 reads-steps [] f ds n ps l k = refl
 reads-steps (a-step x b ∷ ts) f ds n ps l k =
     reads-stats b (f .0) [] (in-step ds n ps l x) (yield-steps ts (sign rbrace ∷ k))
     ∙ reads-steps ts (f .1) ds n ps (a-step x b ∷ l) k
 
 reads-struct : (d : Struct) → FitsStruct d → (ds : List Struct) (k : List Token) → run (at-defs ds) (yield-struct d k) ≡ run (at-defs (d ∷ ds)) k
-unfolding FitsStruct yield-struct run step begun expecting leaf-tokens
+unfolding yield-struct run step begun expecting leaf-tokens
 reads-struct (struct x ps ts) f ds k =
     begins ds
     ∙ reads-pars ps ds x (sign lbrace ∷ yield-steps ts (sign rbrace ∷ k))
@@ -160,7 +160,7 @@ begins-sched (barrier i s) d ds k = begins-item i d ds (op op-lt ∷ yield-sched
 
 reads-defs : (e : Defs) → FitsDefs e → (ds : List Struct) (s : Sched)
     → run (at-defs ds) (yield-defs e (yield-sched s [])) ≡ run (at-item [] (in-program (defs-onto ds e))) (yield-sched s [])
-unfolding FitsDefs yield-defs defs-onto
+unfolding yield-defs defs-onto
 reads-defs (last-struct d) f ds s = reads-struct d f ds (yield-sched s []) ∙ begins-sched s d ds []
 reads-defs (defs d e) f ds s = reads-struct d (f .0) ds (yield-defs e (yield-sched s [])) ∙ reads-defs e (f .1) (d ∷ ds) s
 
@@ -197,7 +197,7 @@ ends-sched (barrier i s) l d = ap ended (reads-item i l (in-program d) (op op-lt
 -- The statements ------------------------------------------------------------------------------------------
 
 read-yield : (c : Program) → FitsProgram c → read (yield c) ≡ some c
-unfolding FitsProgram read yield defs-onto sched-onto
+unfolding read yield defs-onto sched-onto
 read-yield (program d s) f = ap ended (reads-defs d f [] s) ∙ ends-sched s [] d
 
 pub derives-read : (ts : List Token) (c : Program) → Derives ts c → read ts ≡ some c

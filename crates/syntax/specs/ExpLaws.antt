@@ -203,8 +203,6 @@ reads-constructor l x es r p t k f h g = r (args-of x p) (t ∷ k)
 -- Every expression -----------------------------------------------------------------------------
 
 mutual
-  unfolding Fits FitsExps
-
   pub reads : (e : Exp) (l : ℕ) → Fits l e → Reads l e
   reads (binary o a b) l f = reads-binary l o a b (f .0) (reads a (left o) (f .1)) (reads b (suc (level o)) (f .2))
   reads (brackets e) l f = reads-brackets l e (reads e loosest f)

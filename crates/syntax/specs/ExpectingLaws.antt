@@ -60,13 +60,14 @@ sign-same g h e = sym (sign-back g) ∙ ap (λ n. getD all-signs n bang) (eqb-tr
 -- The laws ------------------------------------------------------------------------------------
 
 module _ {S : Type 0} (P : Token → S → Type 0) where
+  -- by a test
+  tested : (t : Token) (s z : S) (b : Bool) → (b ≡ true → P t s) → P t z → P t (elim b [ true ↦ s | false ↦ z ])
+  tested t s z true p q = p refl
+  tested t s z false p q = q
+
   pub on-word-law : (w : Word) (s z : S) (t : Token) → P (word w) s → P t z → P t (on-word w s z t)
   unfolding on-word
-  on-word-law w s z (word v) p q = go (eqb (word-number w) (word-number v)) refl
-    where
-      go : (b : Bool) → eqb (word-number w) (word-number v) ≡ b → P (word v) (on-word w s z (word v))
-      go true e = rw (e, on-word) (rw (word-same w v e) at p)
-      go false e = rw (e, on-word) q
+  on-word-law w s z (word v) p q = tested (word v) s z (eqb (word-number w) (word-number v)) (λ e. rw (word-same w v e) at p) q
   on-word-law w s z (sign g) p q = q
   on-word-law w s z (op o) p q = q
   on-word-law w s z (name x) p q = q
@@ -75,12 +76,8 @@ module _ {S : Type 0} (P : Token → S → Type 0) where
 
   pub on-sign-law : (g : Sign) (s z : S) (t : Token) → P (sign g) s → P t z → P t (on-sign g s z t)
   unfolding on-sign
-  on-sign-law g s z (sign h) p q = go (eqb (sign-number g) (sign-number h)) refl
-    where
-      go : (b : Bool) → eqb (sign-number g) (sign-number h) ≡ b → P (sign h) (on-sign g s z (sign h))
-      go true e = rw (e, on-sign) (rw (sign-same g h e) at p)
-      go false e = rw (e, on-sign) q
   on-sign-law g s z (word v) p q = q
+  on-sign-law g s z (sign h) p q = tested (sign h) s z (eqb (sign-number g) (sign-number h)) (λ e. rw (sign-same g h e) at p) q
   on-sign-law g s z (op o) p q = q
   on-sign-law g s z (name x) p q = q
   on-sign-law g s z (int r ds) p q = q
@@ -131,6 +128,8 @@ module _ {S : Type 0} (P : Token → S → Type 0) where
 
   literal-word-law : (f : Literal → S) (z : S) (w : Word) → ((l : Literal) → P (literal-token l) (f l)) → P (word w) z → P (word w) (literal-word f z w)
   unfolding literal-word literal-token
+  literal-word-law f z w-true p q = p (bool-literal true)
+  literal-word-law f z w-false p q = p (bool-literal false)
   literal-word-law f z w-struct p q = q
   literal-word-law f z w-if p q = q
   literal-word-law f z w-then p q = q
@@ -141,8 +140,6 @@ module _ {S : Type 0} (P : Token → S → Type 0) where
   literal-word-law f z w-nat p q = q
   literal-word-law f z w-bool p q = q
   literal-word-law f z w-string p q = q
-  literal-word-law f z w-true p q = p (bool-literal true)
-  literal-word-law f z w-false p q = p (bool-literal false)
 
   pub on-literal-law : (f : Literal → S) (z : S) (t : Token) → ((l : Literal) → P (literal-token l) (f l)) → P t z → P t (on-literal f z t)
   unfolding on-literal literal-token

@@ -60,7 +60,6 @@ room-most (in-assignment a x l c) = omega arith
 room-most (in-update v l c) = omega arith
 
 pub fits-down : (n m : ℕ) (e : Exp) → n ≤ m → Fits m e → Fits n e
-unfolding Fits
 fits-down n m (binary o a b) h f = (omega (arith, f .0), f .1, f .2)
 fits-down n m (brackets e) h f = f
 fits-down n m (negation e) h f = f

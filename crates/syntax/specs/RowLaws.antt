@@ -48,21 +48,20 @@ sched-yield (i ∷ l) s k = sched-yield l (barrier i s) k
 -- Brackets ---------------------------------------------------------------------------------------
 
 pub exps-fit : (l : List Exp) (es : Exps) → FitsAll l → FitsExps es → FitsExps (exps-onto l es)
-unfolding exps-onto FitsAll FitsExps
+unfolding exps-onto FitsAll
 exps-fit [] es f g = g
 exps-fit (e ∷ l) es f g = exps-fit l (exps e es) (f .1) (f .0, g)
 
 pub stats-fit : (l : List Stat) (b : Stats) → FitsBefore l → FitsStats b → FitsStats (stats-onto l b)
-unfolding stats-onto FitsBefore FitsStats
+unfolding stats-onto FitsBefore
 stats-fit [] b f g = g
 stats-fit (t ∷ l) b f g = stats-fit l (stats t b) (f .1) (f .0, g)
 
 pub steps-fit : (l ts : List Step) → FitsSteps l → FitsSteps ts → FitsSteps (reverseAux l ts)
-unfolding FitsSteps
 steps-fit [] ts f g = g
 steps-fit (a-step x b ∷ l) ts f g = steps-fit l (a-step x b ∷ ts) (f .1) (f .0, g)
 
 pub defs-fit : (l : List Struct) (d : Defs) → FitsStructs l → FitsDefs d → FitsDefs (defs-onto l d)
-unfolding defs-onto FitsStructs FitsDefs
+unfolding defs-onto FitsStructs
 defs-fit [] d f g = g
 defs-fit (s ∷ l) d f g = defs-fit l (defs s d) (f .1) (f .0, g)

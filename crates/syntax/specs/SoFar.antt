@@ -23,34 +23,32 @@ use Rattle.syntax.specs.Bracketing.{level, loosest, tightest, left, Fits
 
 -- Tokens ----------------------------------------------------------------------------------------
 
--- rows, the last one first; what parts their elements stands behind each
+-- rows, the last one first, by the tokens of an element before others
+abbrev rev : {A : Type 0} → (A → List Token → List Token) → List A → List Token → List Token
+rev f [] k = k
+rev f (a ∷ l) k = rev f l (f a k)
+
+-- what parts the elements stands behind each
 unfoldable pub structs-rev : List Struct → List Token → List Token
-structs-rev [] k = k
-structs-rev (d ∷ ds) k = structs-rev ds (yield-struct d k)
+structs-rev = rev yield-struct
 
 unfoldable pub pars-rev : List Par → List Token → List Token
-pars-rev [] k = k
-pars-rev (p ∷ ps) k = pars-rev ps (yield-par p (sign comma ∷ k))
+pars-rev = rev (λ p k. yield-par p (sign comma ∷ k))
 
 unfoldable pub steps-rev : List Step → List Token → List Token
-steps-rev [] k = k
-steps-rev (t ∷ ts) k = steps-rev ts (yield-step t k)
+steps-rev = rev yield-step
 
 unfoldable pub ids-rev : List Id → List Token → List Token
-ids-rev [] k = k
-ids-rev (x ∷ xs) k = ids-rev xs (name x ∷ sign dot-sign ∷ k)
+ids-rev = rev (λ x k. name x ∷ sign dot-sign ∷ k)
 
 unfoldable pub exps-rev : List Exp → List Token → List Token
-exps-rev [] k = k
-exps-rev (e ∷ es) k = exps-rev es (yield-exp e (sign comma ∷ k))
+exps-rev = rev (λ e k. yield-exp e (sign comma ∷ k))
 
 unfoldable pub stats-rev : List Stat → List Token → List Token
-stats-rev [] k = k
-stats-rev (t ∷ ts) k = stats-rev ts (yield-stat t k)
+stats-rev = rev yield-stat
 
 unfoldable pub items-rev : List Item → List Token → List Token
-items-rev [] k = k
-items-rev (i ∷ is) k = items-rev is (yield-item i (op op-lt ∷ k))
+items-rev = rev (λ i k. yield-item i (op op-lt ∷ k))
 
 -- before a struct's name, parameters, steps
 unfoldable pub before-name : List Struct → List Token → List Token

@@ -20,7 +20,7 @@ use Rattle.syntax.specs.Places.{State.behind-item, State.dead}
 use Rattle.syntax.specs.Places.{var-onto, stats-onto, sched-onto}
 use Rattle.syntax.specs.Yield.{yield-var, yield-stats}
 use Rattle.syntax.specs.Yield.{yield-defs, yield-item, yield-sched, yield}
-use Rattle.syntax.specs.Bracketing.{tightest, FitsProgram, Derives}
+use Rattle.syntax.specs.Bracketing.{tightest, Derives}
 use Rattle.syntax.specs.SoFar.{structs-rev, ids-rev, items-rev, before-pars}
 use Rattle.syntax.specs.SoFar.{before-steps, before-body, before-stat, before, before-row, before-item, so-far}
 use Rattle.syntax.specs.SoFar.{FitsStructs, SitsRow, Sits}
@@ -118,7 +118,7 @@ runs-kept u (t ∷ ts) s = go (step u t) (steps-kept u t s) (λ h. runs-kept (st
 -- what the last item makes of a schedule
 whole-sound : (ts : List Token) (c : Program) (l : List Item) (r : Row) (i : Item) → SitsRow r → before-item l r (yield-item i []) ≡ ts
     → whole l r i ≡ some c → Derives ts c
-unfolding whole SitsRow before-item before-row yield yield-sched FitsProgram
+unfolding whole SitsRow before-item before-row yield yield-sched
 whole-sound ts c l (in-program d) i s e q =
     let w : program d (sched-onto l (last-item i)) ≡ c = cc in
     rw (← w) record { fits = s; yields = ap (yield-defs d) (sched-yield l (last-item i) []) ∙ e }

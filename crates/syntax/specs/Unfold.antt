@@ -1,5 +1,5 @@
 -- Groups of definitions that proofs look into together: where an `unfolding` line has the name of a group, all of the group unfolds.
-use Rattle.syntax.specs.Bracketing.{level, left, Fits, FitsExps, FitsStat, FitsStats, FitsSteps, FitsStruct, FitsDefs}
+use Rattle.syntax.specs.Bracketing.{level, left}
 use Rattle.syntax.specs.Yield.{type-token, literal-token, yield-var, yield-exp, yield-exps, yield-exp-list, yield-stat, yield-stats, yield-par}
 use Rattle.syntax.specs.Yield.{yield-par-list, yield-pars, yield-step, yield-steps, yield-struct, yield-defs, yield-item, yield-sched}
 use Rattle.syntax.specs.Expecting.{word-number, sign-number, on-word, on-sign, on-name, on-op, less, on-less, literal-word, on-literal}
@@ -37,7 +37,7 @@ yields = Unit {0}
 
 -- where brackets stand
 unfoldable pub fitting : Type 0
-unfolding FitsAll FitsBefore FitsStructs Fits FitsExps FitsStat FitsStats FitsSteps FitsStruct FitsDefs
+unfolding FitsAll FitsBefore FitsStructs
 fitting = Unit {0}
 
 -- what was read so far

@@ -6,16 +6,15 @@ use mathlib.Core.Path.{_≡_, refl, sym, ap, _∙_}
 use mathlib.Core.Bool.{Bool, true, false, not, false≢true}
 use mathlib.Core.List.{List, [], _∷_, _++_, append-nil}
 use mathlib.Core.Option.{Option, none, some}
-use lib.ListN.{length, getD, drop, drop-of-length-le}
-use lib.Seq.{sets, sets-eq, drop-cons}
+use lib.ListN.{length, getD, drop, replicate, length-drop, length-append, length-replicate, drop-of-length-le}
+use lib.Seq.{sets, sets-eq, drop-cons, drop-drop}
 use lib.Dec.{eqb}
 use borrow.Author.Tests.{not-true, not-false, ne-eqb, lt-ltb, le-ltb}
 use Rattle.source.specs.Source.{max-text}
 use Rattle.tokens.specs.Tokens.{Token}
-use Rattle.tokens.specs.Scanning.{lex}
-use Rattle.lexer.specs.Marking.{at-spot, marks-of, marks-from, marks, found, parts, kinds-in}
-use Rattle.lexer.specs.MarkingLaws.{marks-tell}
-use Rattle.lexer.specs.RunLaws.{next-byte}
+use Rattle.tokens.specs.Scanning.{front, lex}
+use Rattle.lexer.specs.Marking.{spot-of, at-spot, marks-of, marks-from, marks, found, parts, kinds-in}
+use Rattle.lexer.specs.MarkingLaws.{marks-tell, spot-inside, marks-taken, marks-stray}
 use Rattle.lexer.specs.declared.Spot.{Spot}
 use Rattle.lexer.specs.declared.Spot.the-variants.{Marked, Stray}
 use Rattle.derive.specs.Shape.{Shape, Shape.shape, sample, move, derived}
@@ -30,33 +29,31 @@ use Rattle.text_place.specs.Place.{dead, stuck-from, roles-in, of-derive
 
 -- Where no token begins ------------------------------------------------------------------------------
 
--- i places were marked, with so many left of what was taken
-pub record Marked-to (x : List ℕ) (left i : ℕ) : Type 0 where
+-- i places were marked
+pub record Marked-to (x : List ℕ) (i : ℕ) : Type 0 where
   pub inner : i ≤ length x
-  pub whole : i + length (marks-from left (drop i x)) ≡ length (marks x)
+  pub whole : i + length (marks (drop i x)) ≡ length (marks x)
 
-pub marked-start : (x : List ℕ) → Marked-to x 0 0
+pub marked-start : (x : List ℕ) → Marked-to x 0
 marked-start x = record { inner = omega arith; whole = omega arith }
 
-module _ {x : List ℕ} {left i : ℕ} (r : Marked-to x left i) where
+module _ {x : List ℕ} {i : ℕ} (r : Marked-to x i) where
   pub marked-end : length x ≤ i → i ≡ length (marks x)
   unfolding marks-from
-  marked-end h = let e = drop-of-length-le x {i = i} h in let w : i + length (marks-from left []) ≡ length (marks x) = rw e at (r .whole) in omega (arith, w)
+  marked-end h = let e = drop-of-length-le x {i = i} h in let w : i + length (marks []) ≡ length (marks x) = rw e at (r .whole) in omega (arith, w)
 
-  module _ (l : i < length x) where
-    here : i + length (marks-of (at-spot left (drop i x)) (λ n. marks-from n (drop (i + 1) x))) ≡ length (marks x)
-    unfolding marks-from
-    here = rw (next-byte x i l) (rw (next-byte x i l) at (r .whole))
+  pub marked-stray : Stray ≡ spot-of (front (drop i x)) → i ≡ length (marks x)
+  marked-stray e = let w : i + 0 ≡ length (marks x) = rw (marks-stray (drop i x) e) at (r .whole) in omega (arith, w)
 
-    pub marked-stray : Stray ≡ at-spot left (drop i x) → i ≡ length (marks x)
-    unfolding marks-of
-    marked-stray e = let w : i + 0 ≡ length (marks x) = rw (← e) at here in omega arith
+  module _ {k n : ℕ} (e : Marked k n ≡ spot-of (front (drop i x))) where
+    pub marked-inside : i + (n + 1) ≤ length x
+    marked-inside = let h = spot-inside (drop i x) e in omega (arith, length-drop i x)
 
-    pub marked-next : {k n : ℕ} → Marked k n ≡ at-spot left (drop i x) → Marked-to x n (i + 1)
-    unfolding marks-of
-    marked-next {k} {n} e =
-        let w : i + suc (length (marks-from n (drop (i + 1) x))) ≡ length (marks x) = rw (← e) at here in
-        record { inner = omega arith; whole = omega arith }
+    pub marked-next : Marked-to x (i + (n + 1))
+    marked-next =
+        let rest = marks (drop (i + (n + 1)) x) in
+        let w : i + suc (length (replicate n 0 ++ rest)) ≡ length (marks x) = rw (marks-taken (drop i x) e, drop-drop (n + 1) i x) at (r .whole) in
+        record { inner = marked-inside; whole = omega (arith, w, length-append (replicate n 0) rest, length-replicate {A = ℕ} n 0) }
 
 -- no more places are marked than there are
 marks-within : (k : ℕ) (s : List ℕ) → length (marks-from k s) ≤ length s

@@ -10,6 +10,7 @@ ghost use Prim.Native.Nat.{_≤_, _<_};
 ghost use lib.ListN.{length};
 ghost use Rattle.source.specs.Source.{max-text};
 ghost use Rattle.lexer.specs.Marking.{marks};
+ghost use Rattle.lexer.specs.Gaps.{Gap};
 ghost use Rattle.derive.specs.Shape.{Shape.shape};
 ghost use Rattle.uses.specs.Declaring.{Fronted};
 ghost use Rattle.uses.specs.Stopping.{stops};
@@ -29,14 +30,10 @@ const DEAD: u8 = 0;
 fn unmarked(text: &[u8]) -> usize
     ensures { λ r. ⌜ r ≡ length (marks (now (text .entry))) ⌝ }
 {
-    let mut left = 0;
     let mut i = 0;
     while i < text.len() {
-        match lexer::place(text, i, left) {
-            Spot::Marked(_, n) => {
-                left = n;
-                i += 1;
-            }
+        match lexer::token(text, i) {
+            Spot::Marked(_, n) => i += n + 1,
             Spot::Stray => return i,
         }
     }
@@ -81,9 +78,10 @@ fn unnamed(text: &[u8], roles: &[u8], stack: &mut [u8]) -> usize
     }
 }
 
-// The place at which reading a text of that many bytes at the most stops, in memory for the kinds of its tokens and then their roles.
+// The place at which reading a text of that many bytes at the most stops, in fresh memory for the kinds of its tokens and then their roles.
 fn stopped(text: &[u8], kinds: &mut [u8], stack: &mut [u8]) -> usize
     requires { ⌜ (length (now kinds) ≡ length (now text)) × (length (now text) ≤ max-text) × (length (now kinds) < length (now stack)) ⌝ }
+    requires { ⌜ Gap (now kinds) 0 (length (now kinds)) ⌝ }
     ensures { λ r. ⌜ (r ≡ place (now (text .entry))) × (r ≤ length (now (text .entry))) ⌝ }
 {
     if !lexer::mark(text, kinds) {

@@ -141,20 +141,20 @@ module _ {p : Program} {counts list items spans : List ℕ} {m : Machine} {z : S
       → tag-of (z .heads) (code u) (word v) ≡ code t
   unfolding tag-of code word
   typed int (of-int h) a b = refl
-  typed nat (of-int h) a b = absurd b
-  typed bool (of-int h) a b = absurd b
-  typed (ref k) (of-int h) a b = absurd b
   typed int (of-nat h) a b = absurd b
-  typed nat (of-nat h) a b = refl
-  typed bool (of-nat h) a b = absurd b
-  typed (ref k) (of-nat h) a b = absurd b
   typed int of-bool a b = absurd b
-  typed nat of-bool a b = absurd b
-  typed bool of-bool a b = refl
-  typed (ref k) of-bool a b = absurd b
   typed int of-ref a b = absurd b
+  typed nat (of-int h) a b = absurd b
+  typed nat (of-nat h) a b = refl
+  typed nat of-bool a b = absurd b
   typed nat of-ref a b = absurd b
+  typed bool (of-int h) a b = absurd b
+  typed bool (of-nat h) a b = absurd b
+  typed bool of-bool a b = refl
   typed bool of-ref a b = absurd b
+  typed (ref k) (of-int h) a b = absurd b
+  typed (ref k) (of-nat h) a b = absurd b
+  typed (ref k) of-bool a b = absurd b
   typed (ref k) (of-ref {l = l}) (i, at, s) b =
       rw (tag-of, le-ltb (struct-code + k) struct-code (omega arith)) (ap (λ (n : ℕ). struct-code + n) (r .stands .each l i at .struct ∙ s))
 

@@ -69,18 +69,6 @@ fn place(out: &mut [u8], k: usize, q: usize, x: usize) -> usize
     text::decimal(out, c, x as u64)
 }
 
-// The values of two cells.
-fn values(out: &mut [u8], k: usize, old: u64, new: u64) -> usize
-    requires { ⌜ k + 44 ≤ length (now out) ⌝ }
-    ensures { λ r. ⌜ Placed (values-text old new) (now (out .entry)) k r (now (out .exit)) ⌝ }
-    ensures { λ r. ⌜ r ≤ k + 44 ⌝ }
-{
-    let a = text::put(out, k, b" ");
-    let b = worth(out, a, old);
-    let c = text::put(out, b, b" ");
-    worth(out, c, new)
-}
-
 // A parameter that was written: its place, its value before and its value now.
 pub(crate) fn written(out: &mut [u8], k: usize, w: Write, cells: &[u64]) -> usize
     requires { ⌜ WriteFits (now cells) w ⌝ }
@@ -91,8 +79,12 @@ pub(crate) fn written(out: &mut [u8], k: usize, w: Write, cells: &[u64]) -> usiz
     if w.some {
         let q = w.label;
         let x = w.variable;
+        let new = cells[layout::ROW_SIZE * q + x];
         let a = place(out, k, q, x);
-        return values(out, a, w.old, cells[layout::ROW_SIZE * q + x]);
+        let b = text::put(out, a, b" ");
+        let c = worth(out, b, w.old);
+        let d = text::put(out, c, b" ");
+        return worth(out, d, new);
     }
     k
 }

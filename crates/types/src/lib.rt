@@ -63,80 +63,6 @@ pub const BOOL: u8 = 2;
 
 pub const STRUCT: u8 = 16;
 
-// Every limit, so that a contract can tie each constant to its definition.
-pub struct Limits {
-    pub max_structs: usize,
-    pub max_params: usize,
-    pub max_steps: usize,
-    pub step_names: usize,
-    pub max_statements: usize,
-    pub max_items: usize,
-    pub int_half: u64,
-    pub nat_end: u64,
-    pub first_local: usize,
-    pub variables: usize,
-    pub max_path: usize,
-    pub fix_levels: usize,
-    pub if_levels: usize,
-    pub expr_levels: usize,
-    pub max_instances: usize,
-    pub program_blocks: usize,
-    pub table_blocks: usize,
-    pub step_commands: usize,
-    pub max_commands: usize,
-    pub max_depth: usize,
-    pub schedule_items: usize,
-    pub max_turns: usize,
-}
-
-// Every byte of a type, likewise.
-pub struct Codes {
-    pub int: u8,
-    pub nat: u8,
-    pub bool_type: u8,
-    pub struct_0: u8,
-}
-
-pub fn all_limits() -> Limits
-    ensures { λ r. ⌜ r ≡ limits ⌝ }
-{
-    Limits {
-        max_structs: MAX_STRUCTS,
-        max_params: MAX_PARAMS,
-        max_steps: MAX_STEPS,
-        step_names: STEP_NAMES,
-        max_statements: MAX_STATEMENTS,
-        max_items: MAX_ITEMS,
-        int_half: INT_HALF,
-        nat_end: NAT_END,
-        first_local: FIRST_LOCAL,
-        variables: VARIABLES,
-        max_path: MAX_PATH,
-        fix_levels: FIX_LEVELS,
-        if_levels: IF_LEVELS,
-        expr_levels: EXPR_LEVELS,
-        max_instances: MAX_INSTANCES,
-        program_blocks: PROGRAM_BLOCKS,
-        table_blocks: TABLE_BLOCKS,
-        step_commands: STEP_COMMANDS,
-        max_commands: MAX_COMMANDS,
-        max_depth: MAX_DEPTH,
-        schedule_items: SCHEDULE_ITEMS,
-        max_turns: MAX_TURNS,
-    }
-}
-
-pub fn all_codes() -> Codes
-    ensures { λ r. ⌜ r ≡ codes ⌝ }
-{
-    Codes {
-        int: INT,
-        nat: NAT,
-        bool_type: BOOL,
-        struct_0: STRUCT,
-    }
-}
-
 // Whether a byte is a type of a program with that many structs.
 pub fn is_type(structs: u8, code: u8) -> bool
     ensures { λ r. ⌜ r ≡ is-type structs code ⌝ }
@@ -172,4 +98,40 @@ pub fn default_word(code: u8) -> u32
     ensures { λ r. ⌜ r ≡ word (default (type-of code)) ⌝ }
 {
     struct_of(code) as u32
+}
+
+// Every limit, in order, so that a contract can tie each constant to its definition; every byte of a type, likewise.
+pub fn all_limits() -> [u64; 22]
+    ensures { λ r. ⌜ r ≡ limits ⌝ }
+{
+    [
+        MAX_STRUCTS as u64,
+        MAX_PARAMS as u64,
+        MAX_STEPS as u64,
+        STEP_NAMES as u64,
+        MAX_STATEMENTS as u64,
+        MAX_ITEMS as u64,
+        INT_HALF,
+        NAT_END,
+        FIRST_LOCAL as u64,
+        VARIABLES as u64,
+        MAX_PATH as u64,
+        FIX_LEVELS as u64,
+        IF_LEVELS as u64,
+        EXPR_LEVELS as u64,
+        MAX_INSTANCES as u64,
+        PROGRAM_BLOCKS as u64,
+        TABLE_BLOCKS as u64,
+        STEP_COMMANDS as u64,
+        MAX_COMMANDS as u64,
+        MAX_DEPTH as u64,
+        SCHEDULE_ITEMS as u64,
+        MAX_TURNS as u64,
+    ]
+}
+
+pub fn all_codes() -> [u8; 4]
+    ensures { λ r. ⌜ r ≡ codes ⌝ }
+{
+    [INT, NAT, BOOL, STRUCT]
 }

@@ -40,47 +40,27 @@ pub const FULL: u8 = 34;
 
 pub const EXCEEDED: u8 = 35;
 
-// Every number, so that a contract can tie each constant to its definition.
-pub struct Numbers {
-    pub program_length: u8,
-    pub block_sums: u8,
-    pub block_layout: u8,
-    pub wrong_end: u8,
-    pub wrong_byte: u8,
-    pub over_limits: u8,
-    pub wrong_names: u8,
-    pub wrong_types: u8,
-    pub table_length: u8,
-    pub table_block: u8,
-    pub table_end: u8,
-    pub table_value: u8,
-    pub no_room: u8,
-    pub many_turns: u8,
-    pub out_of_turns: u8,
-    pub full: u8,
-    pub exceeded: u8,
-}
-
-pub fn all_numbers() -> Numbers
+// Every number, in order, so that a contract can tie each constant to its definition.
+pub fn all_numbers() -> [u8; 17]
     ensures { λ r. ⌜ r ≡ numbers ⌝ }
 {
-    Numbers {
-        program_length: PROGRAM_LENGTH,
-        block_sums: BLOCK_SUMS,
-        block_layout: BLOCK_LAYOUT,
-        wrong_end: WRONG_END,
-        wrong_byte: WRONG_BYTE,
-        over_limits: OVER_LIMITS,
-        wrong_names: WRONG_NAMES,
-        wrong_types: WRONG_TYPES,
-        table_length: TABLE_LENGTH,
-        table_block: TABLE_BLOCK,
-        table_end: TABLE_END,
-        table_value: TABLE_VALUE,
-        no_room: NO_ROOM,
-        many_turns: MANY_TURNS,
-        out_of_turns: OUT_OF_TURNS,
-        full: FULL,
-        exceeded: EXCEEDED,
-    }
+    [
+        PROGRAM_LENGTH,
+        BLOCK_SUMS,
+        BLOCK_LAYOUT,
+        WRONG_END,
+        WRONG_BYTE,
+        OVER_LIMITS,
+        WRONG_NAMES,
+        WRONG_TYPES,
+        TABLE_LENGTH,
+        TABLE_BLOCK,
+        TABLE_END,
+        TABLE_VALUE,
+        NO_ROOM,
+        MANY_TURNS,
+        OUT_OF_TURNS,
+        FULL,
+        EXCEEDED,
+    ]
 }

@@ -1,14 +1,26 @@
 -- Some places of a text, and those among them where roles stand (02 §1): what code has that looks through places once.
-use Prim.Native.Nat.{ℕ}
-use mathlib.Core.Bool.{true, false}
+use Prim.Native.Nat.{ℕ, suc}
+use mathlib.Core.Path.{_≡_}
+use mathlib.Core.Bool.{Bool, true, false, _||_}
 use mathlib.Core.List.{List, [], _∷_, map}
 use lib.ListN.{getD}
 use Rattle.tokens.specs.Tokens.{between}
-use Rattle.resolve.specs.Tables.{places}
 
--- the places of structs, parameters and steps
+-- the bytes of structs, parameters and steps, and of the types of parameters
+unfoldable pub declares : ℕ → Bool
+declares b = between 39 41 b || between 51 54 b
+
+-- the places of these bytes, counted from i
+unfoldable pub declared-from : ℕ → List ℕ → List ℕ
+declared-from i [] = []
+declared-from i (b ∷ s) = elim (declares b) [ true ↦ i ∷ declared-from (suc i) s | false ↦ declared-from (suc i) s ]
+
 abbrev pub declared-at : List ℕ → List ℕ
-declared-at x = places 39 41 x
+declared-at x = declared-from 0 x
+
+-- every byte from lo to hi is such a one
+abbrev pub AllDeclare : ℕ → ℕ → Type 0
+AllDeclare lo hi = (b : ℕ) → between lo hi b ≡ true → declares b ≡ true
 
 -- those of some places where bytes from lo to hi stand
 unfoldable pub among : ℕ → ℕ → List ℕ → List ℕ → List ℕ

@@ -1,23 +1,23 @@
 -- What names and types do to the pass over uses, in lent memory (02 §1): one law for each way through the code.
-use Prim.Native.Nat.{ℕ, zero, suc, _+_, _-_, _≤_, _<_}
+use Prim.Native.Nat.{ℕ, _+_, _-_, _≤_, _<_}
 use native.Mathlib.Omega.{arith}
 use mathlib.Core.Path.{_≡_, refl, ap, _∙_}
 use mathlib.Core.Bool.{Bool, true, false}
-use mathlib.Core.List.{List, [], _∷_}
+use mathlib.Core.List.{List, []}
 use mathlib.Core.Option.{Option, none, some}
 use lib.ListN.{length, getD, drop}
-use lib.Dec.{ltb}
+use lib.Dec.{eqb, ltb}
+use borrow.Author.Tests.{eqb-true, eqb-false}
 use Rattle.types.specs.Limits.{first-local}
 use Rattle.types.specs.Types.{struct-code}
 use Rattle.syntax.specs.Syntax.{Id}
-use Rattle.derive.specs.Roles.{Naming, Naming.new-struct, Naming.new-par, Naming.new-step, Naming.new-local, Naming.first-read, Naming.first-written}
-use Rattle.derive.specs.Roles.{Naming.later-variable, Naming.made, Naming.made-statement, Naming.called, Naming.called-struct, Naming.called-step}
+use Rattle.derive.specs.Roles.{Naming.new-struct}
 use Rattle.meaning.specs.Meant.{provided}
 use Rattle.resolve.specs.Named.{sought}
 use Rattle.resolve.specs.Using.{Book, Use, chosen, own-row, leave, use-listed, use-par, use-local, use-made, use-first, use-behind, use-new, use-name}
 use Rattle.resolve.specs.UsingAt.{naming-at}
 use Rattle.uses.specs.Lent.{book-in, use-in, Roomy, passed-in, Next}
-use Rattle.uses.specs.Seeing.{seen-listed, seen-par, seen-local, seen-first, seen-behind, seen-name, seen-left, seen-passed, retyped}
+use Rattle.uses.specs.Seeing.{called-among, seen-listed, seen-par, seen-local, seen-first, seen-behind, seen-left, seen-passed, retyped}
 use Rattle.uses.specs.declared.Scope.{Scope}
 use Rattle.uses.specs.declared.Seen.{Seen}
 use Rattle.uses.specs.declared.Seen.the-variants.{Of, Nothing}
@@ -81,115 +81,87 @@ module _ (u : Use) where
         (left-only (ltb (c - struct-code) (length (b .structs))) _ _
         (left-par (getD (b .rows) (c - struct-code) []) (getD (b .types) (c - struct-code) []) y))
 
-    left-name : (n : Naming) → (n ≡ new-struct → ⊥) → (n ≡ new-par → ⊥) → (n ≡ new-local → ⊥) → (n ≡ made → ⊥) → (n ≡ made-statement → ⊥)
-        → seen-left u (seen-name b n y u) ≡ use-name b n y u
-    unfolding seen-name use-name
-    left-name new-struct f g h i j = absurd (f refl)
-    left-name new-par f g h i j = absurd (g refl)
-    left-name new-step f g h i j = left-listed (b .steps) y
-    left-name new-local f g h i j = absurd (h refl)
-    left-name first-read f g h i j = left-first
-    left-name first-written f g h i j = left-first
-    left-name later-variable f g h i j = left-behind (u .type)
-    left-name made f g h i j = absurd (i refl)
-    left-name made-statement f g h i j = absurd (j refl)
-    left-name called f g h i j = left-listed (b .steps) y
-    left-name called-struct f g h i j = left-listed (b .structs) y
-    left-name called-step f g h i j = left-listed (b .steps) y
-
 -- what is seen does not hang on the stack and on what was left
-same-seen : (b : Book) (y : Id) (x l k o : List ℕ) (c : Scope) (n : Naming) → seen-name b n y (use-in x l [] c []) ≡ seen-name b n y (use-in x l k c o)
-unfolding seen-name seen-first use-in
-same-seen b y x l k o c new-struct = refl
-same-seen b y x l k o c new-par = refl
-same-seen b y x l k o c new-step = refl
-same-seen b y x l k o c new-local = refl
-same-seen b y x l k o c first-read = refl
-same-seen b y x l k o c first-written = refl
-same-seen b y x l k o c later-variable = refl
-same-seen b y x l k o c made = refl
-same-seen b y x l k o c made-statement = refl
-same-seen b y x l k o c called = refl
-same-seen b y x l k o c called-struct = refl
-same-seen b y x l k o c called-step = refl
+same-first : (b : Book) (y : Id) (x l k o : List ℕ) (c : Scope) → seen-first b y (use-in x l [] c []) ≡ seen-first b y (use-in x l k c o)
+unfolding seen-first use-in
+same-first b y x l k o c = refl
 
 -- The roles of names by their bytes ----------------------------------------------------------------
 
--- by its place among the roles of names
-unfoldable naming-number : Naming → ℕ
-naming-number new-struct = 0
-naming-number new-par = 1
-naming-number new-step = 2
-naming-number new-local = 3
-naming-number first-read = 4
-naming-number first-written = 5
-naming-number later-variable = 6
-naming-number made = 7
-naming-number made-statement = 8
-naming-number called = 9
-naming-number called-struct = 10
-naming-number called-step = 11
+-- a number from a on is a, or one from the next on
+next-or : (P : ℕ → Type 0) (a c : ℕ) → a ≤ c → P a → (a + 1 ≤ c → P c) → P c
+next-or P a c h p q = go (eqb a c) refl
+  where
+    go : (t : Bool) → eqb a c ≡ t → P c
+    go true e = let w : a ≡ c = eqb-true a c e in rw w at p
+    go false e = let w : a ≡ c → ⊥ = eqb-false a c e in q (omega (arith, w))
 
-numbered : (n : ℕ) → n < 12
-    → naming-number (getD (new-struct ∷ new-par ∷ new-step ∷ new-local ∷ first-read ∷ first-written ∷ later-variable ∷ made ∷ made-statement ∷ called
-    ∷ called-struct ∷ called-step ∷ []) n new-par) ≡ n
-unfolding naming-number
-numbered zero h = refl
-numbered (suc zero) h = refl
-numbered (suc (suc zero)) h = refl
-numbered (suc (suc (suc zero))) h = refl
-numbered (suc (suc (suc (suc zero)))) h = refl
-numbered (suc (suc (suc (suc (suc zero))))) h = refl
-numbered (suc (suc (suc (suc (suc (suc zero)))))) h = refl
-numbered (suc (suc (suc (suc (suc (suc (suc zero))))))) h = refl
-numbered (suc (suc (suc (suc (suc (suc (suc (suc zero)))))))) h = refl
-numbered (suc (suc (suc (suc (suc (suc (suc (suc (suc zero))))))))) h = refl
-numbered (suc (suc (suc (suc (suc (suc (suc (suc (suc (suc zero)))))))))) h = refl
-numbered (suc (suc (suc (suc (suc (suc (suc (suc (suc (suc (suc zero))))))))))) h = refl
-numbered (suc (suc (suc (suc (suc (suc (suc (suc (suc (suc (suc (suc n)))))))))))) h = absurd (omega arith)
-
-named-at : (c : ℕ) → 39 ≤ c → c < 51 → naming-number (naming-at c) ≡ c - 39
-unfolding naming-at
-named-at c g h = numbered (c - 39) (omega (arith, g, h))
-
-apart : (c n : ℕ) → 39 ≤ c → n ≡ c - 39 → (m : ℕ) → (c ≡ 39 + m → ⊥) → n ≡ m → ⊥
-apart c n g e m f h = f (omega (arith, g, e, h))
-
-other-than : (c : ℕ) (n : Naming) (m : ℕ) → 39 ≤ c → c < 51 → naming-number n ≡ m → (c ≡ 39 + m → ⊥) → naming-at c ≡ n → ⊥
-other-than c n m g h e f q = apart c (naming-number (naming-at c)) g (named-at c g h) m f (ap naming-number q ∙ e)
-
-module _ (x t l k o : List ℕ) (c : Scope) (y : Id) (role : ℕ) (low : 39 ≤ role) (high : role < 51) where
+module _ (x t l k o : List ℕ) (c : Scope) (y : Id) (role : ℕ) where
   abbrev book : Book
   book = book-in x t
 
   abbrev used : Use
   used = use-in x l k c o
 
-  pub name-seen : {s : Seen} {r : Passed} → (role ≡ 39 → ⊥) → (role ≡ 40 → ⊥) → (role ≡ 42 → ⊥) → (role ≡ 46 → ⊥) → (role ≡ 47 → ⊥)
-      → s ≡ seen-name book (naming-at role) y (use-in x l [] c []) → r ≡ seen-passed c s → passed-in x l k r o ≡ use-name book (naming-at role) y used
-  unfolding naming-number
-  name-seen {s} {r} p q v w z e f =
-      ap (λ m. passed-in x l k m o) f ∙ seen-pass x l k o c s
-      ∙ ap (seen-left used) (e ∙ same-seen book y x l k o c (naming-at role))
-      ∙ left-name used book y (naming-at role) (other-than role new-struct 0 low high refl p) (other-than role new-par 1 low high refl q)
-      (other-than role new-local 3 low high refl v) (other-than role made 7 low high refl w) (other-than role made-statement 8 low high refl z)
+  abbrev named : ℕ → Option Use
+  named z = use-name book (naming-at z) y used
 
-  pub name-39 : role ≡ 39 → use-name book new-struct y used ≡ use-name book (naming-at role) y used
+  -- what was looked up is left
+  looked-up : {s v : Seen} {r : Passed} → s ≡ v → r ≡ seen-passed c s → seen-left used v ≡ named role → passed-in x l k r o ≡ named role
+  looked-up {s} e f g = ap (λ m. passed-in x l k m o) f ∙ seen-pass x l k o c s ∙ ap (seen-left used) e ∙ g
+
+  pub name-39 : role ≡ 39 → use-name book new-struct y used ≡ named role
   unfolding naming-at
   name-39 e = rw e refl
 
-  pub name-40 : role ≡ 40 → passed-in x l k (On c) o ≡ use-name book (naming-at role) y used
+  pub name-40 : role ≡ 40 → passed-in x l k (On c) o ≡ named role
   unfolding naming-at use-name passed-in
   name-40 e = rw e refl
 
-  pub name-42 : role ≡ 42 → use-new book y used ≡ use-name book (naming-at role) y used
+  -- the names of structs and steps are looked up among those that the role says
+  abbrev Left-at : ℕ → Type 0
+  Left-at z = seen-left used (seen-listed (called-among book z) y (c .typ)) ≡ named z
+
+  left-at-41 : (z : ℕ) → z ≡ 41 → Left-at z
+  unfolding naming-at use-name called-among chosen use-in
+  left-at-41 z w = rw w (left-listed used (book .steps) y)
+
+  left-from-48 : 48 ≤ role → role < 51 → Left-at role
+  unfolding naming-at use-name called-among chosen use-in
+  left-from-48 low high =
+      next-or Left-at 48 role low (left-listed used (book .steps) y)
+      (λ h. next-or Left-at 49 role h (left-listed used (book .structs) y)
+      (λ h. next-or Left-at 50 role h (left-listed used (book .steps) y) (λ h. absurd (omega (arith, h, high)))))
+
+  pub name-41 : {s : Seen} {r : Passed} → role ≡ 41 → s ≡ seen-listed (called-among book role) y (c .typ) → r ≡ seen-passed c s
+      → passed-in x l k r o ≡ named role
+  name-41 w e f = looked-up e f (left-at-41 role w)
+
+  pub name-42 : role ≡ 42 → use-new book y used ≡ named role
   unfolding naming-at use-name
   name-42 e = rw e refl
 
-  pub name-46 : role ≡ 46 → use-made book y used ≡ use-name book (naming-at role) y used
+  pub name-first : {s : Seen} {r : Passed} → 43 ≤ role → role < 45 → s ≡ seen-first book y (use-in x l [] c []) → r ≡ seen-passed c s
+      → passed-in x l k r o ≡ named role
   unfolding naming-at use-name
-  name-46 e = rw e refl
+  name-first low high e f =
+      looked-up (e ∙ same-first book y x l k o c) f
+      (left-first used book y
+      ∙ next-or (λ z. use-first book y used ≡ named z) 43 role low refl
+      (λ h. next-or (λ z. use-first book y used ≡ named z) 44 role h refl (λ h. absurd (omega (arith, h, high)))))
 
-  pub name-47 : role ≡ 47 → use-made book y used ≡ use-name book (naming-at role) y used
+  pub name-later : {s : Seen} {r : Passed} → 45 ≤ role → role < 46 → s ≡ seen-behind book (c .typ) y → r ≡ seen-passed c s → passed-in x l k r o ≡ named role
+  unfolding naming-at use-name use-in
+  name-later low high e f =
+      let w : role ≡ 45 = omega (arith, low, high) in
+      looked-up e f (rw w (left-behind used book y (c .typ)))
+
+  pub name-made : 46 ≤ role → role < 48 → use-made book y used ≡ named role
   unfolding naming-at use-name
-  name-47 e = rw e refl
+  name-made low high =
+      next-or (λ z. use-made book y used ≡ named z) 46 role low refl
+      (λ h. next-or (λ z. use-made book y used ≡ named z) 47 role h refl (λ h. absurd (omega (arith, h, high))))
+
+  pub name-called : {s : Seen} {r : Passed} → 48 ≤ role → role < 51 → s ≡ seen-listed (called-among book role) y (c .typ) → r ≡ seen-passed c s
+      → passed-in x l k r o ≡ named role
+  name-called low high e f = looked-up e f (left-from-48 low high)

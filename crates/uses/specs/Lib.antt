@@ -10,6 +10,7 @@ pub mod ChangeLaws
 pub mod NameLaws
 pub mod TypeLaws
 pub mod LoopLaws
+pub mod GapLaws
 pub mod NumberedLaws
 pub mod Tabling
 pub mod Among

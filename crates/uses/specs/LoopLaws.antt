@@ -18,6 +18,8 @@ use Rattle.resolve.specs.Using.{Book, Use, chosen, use-start, use-name, use-typ
 use Rattle.resolve.specs.UsingAt.{naming-at, typed-at, number-at, part-at, use-kind, use-at, uses-at}
 use Rattle.uses.specs.PartLaws.{up-to}
 use Rattle.uses.specs.Lent.{book-in, use-in, Roomy, passed-in, Next, numbered-in, used-out}
+use Rattle.uses.specs.Seeing.{Quiet}
+use Rattle.uses.specs.BracketLaws.{part-quiet}
 use Rattle.uses.specs.Stopping.{counts-on, stops-at}
 use Rattle.uses.specs.declared.Scope.{Scope}
 use Rattle.uses.specs.declared.Passed.{Passed}
@@ -52,6 +54,21 @@ module _ (b : Book) (c : ℕ) (s : List ℕ) (u : Use) where
   pub place-some : (c ≡ 0 → ⊥) → use-at b c s u ≡ chosen (eqb c 0) (some u) (use-at b c s u)
   unfolding chosen
   place-some n = sym (rw (ne-eqb c 0 n) refl)
+
+-- Roles that leave the pass as it is ---------------------------------------------------------------
+
+pub quiet-kind : (c : ℕ) → c < 37 → (c ≡ 19 → ⊥) → Quiet c
+unfolding use-kind chosen
+quiet-kind c h n b s u =
+    let i : c ≡ 37 → ⊥ = λ e. omega (arith, e, h) in
+    let j : c ≡ 38 → ⊥ = λ e. omega (arith, e, h) in
+    let k : some u ≡ use-kind c s u = sym (rw (ne-eqb c 19 n, ne-eqb c 37 i, ne-eqb c 38 j) refl) in
+    k ∙ place-kind b c s u (omega (arith, h))
+
+pub quiet-part : (c : ℕ) → 63 ≤ c → c < 75 → (c ≡ 66 → ⊥) → (c ≡ 67 → ⊥) → Quiet c
+quiet-part c h k m n b s u =
+    part-quiet u c h m n (λ e. omega (arith, e, k)) (λ e. omega (arith, e, k)) (λ e. omega (arith, e, k)) (λ e. omega (arith, e, k))
+    ∙ place-part b c s u (omega (arith, h)) (omega (arith, h)) h
 
 -- The loop ---------------------------------------------------------------------------------------
 
@@ -132,7 +149,7 @@ module _ (x roles t l₀ k₀ m₀ : List ℕ) where
           (stops-at book (drop (i + 1) x) (drop (i + 1) roles)))
           (sym e)
 
-      -- what the code's turn says
+      -- what is passed at a place, as the code says it
       module _ (l' k' : List ℕ) (p : Passed)
           (e : (o : List ℕ) → passed-in x l' k' p o
           ≡ chosen (eqb (getD roles i 0) 0) (some (use-in x l k c o)) (use-at book (getD roles i 0) (drop i x) (use-in x l k c o)))

@@ -1,15 +1,15 @@
 -- What a name stands for (02 §1), as its number and the byte of a type, by what the pass over uses knows; and what is left of it.
 use Prim.Native.Nat.{ℕ, _+_, _-_}
+use mathlib.Core.Path.{_≡_}
 use mathlib.Core.List.{List, []}
 use mathlib.Core.Option.{Option, none, some}
 use lib.ListN.{length, getD, set, drop}
-use lib.Dec.{ltb}
+use lib.Dec.{eqb, ltb}
 use Rattle.types.specs.Limits.{first-local}
 use Rattle.types.specs.Types.{struct-code}
 use Rattle.syntax.specs.Syntax.{Id}
-use Rattle.derive.specs.Roles.{Naming, Naming.new-struct, Naming.new-par, Naming.new-step, Naming.new-local, Naming.first-read, Naming.first-written}
-use Rattle.derive.specs.Roles.{Naming.later-variable, Naming.made, Naming.made-statement, Naming.called, Naming.called-struct, Naming.called-step}
 use Rattle.resolve.specs.Named.{sought}
+use Rattle.resolve.specs.UsingAt.{use-at}
 use Rattle.resolve.specs.Using.{Book, Use, chosen, own-row, leave}
 use Rattle.uses.specs.declared.Scope.{Scope}
 use Rattle.uses.specs.declared.Seen.{Seen}
@@ -18,6 +18,11 @@ use Rattle.uses.specs.declared.Passed.{Passed}
 use Rattle.uses.specs.declared.Passed.the-variants.{Stop, On, Left}
 use Rattle.resolve.specs.declared.Word.{Word}
 use Rattle.resolve.specs.declared.Word.the-variants as word
+
+-- the names among which that of a struct or of a step is looked up, by its role
+unfoldable pub called-among : Book → ℕ → List Id
+unfolding chosen
+called-among b c = chosen (eqb c 49) (b .structs) (b .steps)
 
 unfoldable pub seen-listed : List Id → Id → ℕ → Seen
 unfolding chosen sought
@@ -44,22 +49,6 @@ module _ (b : Book) where
   seen-behind c x =
       chosen (ltb c struct-code) Nothing
       (chosen (ltb (c - struct-code) (length (b .structs))) (seen-par (getD (b .rows) (c - struct-code) []) (getD (b .types) (c - struct-code) []) x) Nothing)
-
-  -- a name that is only looked up, by its role; those of the others are those of steps
-  unfoldable pub seen-name : Naming → Id → Use → Seen
-  unfolding seen-first seen-behind seen-listed
-  seen-name new-struct x u = seen-listed (b .steps) x (u .type)
-  seen-name new-par x u = seen-listed (b .steps) x (u .type)
-  seen-name new-step x u = seen-listed (b .steps) x (u .type)
-  seen-name new-local x u = seen-listed (b .steps) x (u .type)
-  seen-name first-read x u = seen-first x u
-  seen-name first-written x u = seen-first x u
-  seen-name later-variable x u = seen-behind (u .type) x
-  seen-name made x u = seen-listed (b .steps) x (u .type)
-  seen-name made-statement x u = seen-listed (b .steps) x (u .type)
-  seen-name called x u = seen-listed (b .steps) x (u .type)
-  seen-name called-struct x u = seen-listed (b .structs) x (u .type)
-  seen-name called-step x u = seen-listed (b .steps) x (u .type)
 
 -- what is left of it
 unfoldable pub seen-left : Use → Seen → Option Use
@@ -91,3 +80,7 @@ word-passed word.Outside c = Stop
 -- a local in its table: n were alive, m declared
 abbrev pub with-local : List ℕ → ℕ → ℕ → ℕ → ℕ → List ℕ
 with-local l at m n b = set (set (set (set l (8 - (m + 1)) at) (16 - (n + 1)) at) (24 - (n + 1)) m) (32 - (n + 1)) b
+
+-- a role that leaves the pass as it is
+abbrev pub Quiet : ℕ → Type 0
+Quiet c = (b : Book) (s : List ℕ) (u : Use) → some u ≡ use-at b c s u

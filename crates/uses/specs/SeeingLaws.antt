@@ -4,23 +4,20 @@ use native.Mathlib.Omega.{arith}
 use native.Mathlib.Numerals.{sub-one}
 use mathlib.Core.Path.{_≡_, refl, sym, ap, _∙_}
 use mathlib.Core.Bool.{Bool, true, false, _&&_}
-use mathlib.Core.List.{List, [], _∷_}
+use mathlib.Core.List.{List, []}
 use lib.ListN.{length, getD, drop}
 use lib.Dec.{leb, ltb}
-use borrow.Author.Tests.{ltb-true, ltb-false, lt-ltb, le-ltb, le-leb, lt-leb}
+use borrow.Author.Tests.{ltb-true, ltb-false, lt-ltb, le-ltb, le-leb, lt-leb, eq-eqb, ne-eqb}
 use Rattle.types.specs.Limits.{first-local}
 use Rattle.types.specs.Types.{struct-code}
 use Rattle.syntax.specs.Syntax.{Id}
-use Rattle.derive.specs.Roles.{Naming.new-struct, Naming.new-par, Naming.new-step, Naming.new-local, Naming.first-read, Naming.first-written}
-use Rattle.derive.specs.Roles.{Naming.later-variable, Naming.made, Naming.made-statement, Naming.called, Naming.called-struct, Naming.called-step}
 use Rattle.resolve.specs.Named.{name-at, names-at, sought}
 use Rattle.resolve.specs.Checks.{part-of}
 use Rattle.resolve.specs.Using.{Book, Use, chosen, own-row}
-use Rattle.resolve.specs.UsingAt.{naming-at}
 use Rattle.resolve.specs.Resolved.{cuts}
 use Rattle.uses.specs.PartLaws.{up-to, map-drop, map-part, cuts-at, part-at, part-long, mapped-long, part-part, drop-up-to}
 use Rattle.uses.specs.Lent.{structs-of-table, row-start, row-end, book-in, Booked, use-in, Roomy}
-use Rattle.uses.specs.Seeing.{seen-listed, seen-par, seen-local, seen-first, seen-behind, seen-name}
+use Rattle.uses.specs.Seeing.{called-among, seen-listed, seen-par, seen-local, seen-first, seen-behind}
 use Rattle.uses.specs.declared.Scope.{Scope}
 use Rattle.uses.specs.declared.Seen.{Seen}
 use Rattle.uses.specs.declared.Seen.the-variants.{Of, Nothing}
@@ -262,47 +259,11 @@ met-none m k n q r e h f = rw (le-leb m k (omega arith)) f
 
 -- By roles ----------------------------------------------------------------------------------------
 
-module _ (b : Book) (y : Id) (u : Use) where
-  other-name : (n : ℕ) → (n ≡ 4 → ⊥) → (n ≡ 5 → ⊥) → (n ≡ 6 → ⊥) → (n ≡ 10 → ⊥)
-      → seen-name b (getD (new-struct ∷ new-par ∷ new-step ∷ new-local ∷ first-read ∷ first-written ∷ later-variable ∷ made ∷ made-statement ∷ called
-      ∷ called-struct ∷ called-step ∷ []) n new-par) y u ≡ seen-listed (b .steps) y (u .type)
-  unfolding seen-name
-  other-name zero g h i j = refl
-  other-name (suc zero) g h i j = refl
-  other-name (suc (suc zero)) g h i j = refl
-  other-name (suc (suc (suc zero))) g h i j = refl
-  other-name (suc (suc (suc (suc zero)))) g h i j = absurd (g refl)
-  other-name (suc (suc (suc (suc (suc zero))))) g h i j = absurd (h refl)
-  other-name (suc (suc (suc (suc (suc (suc zero)))))) g h i j = absurd (i refl)
-  other-name (suc (suc (suc (suc (suc (suc (suc zero))))))) g h i j = refl
-  other-name (suc (suc (suc (suc (suc (suc (suc (suc zero)))))))) g h i j = refl
-  other-name (suc (suc (suc (suc (suc (suc (suc (suc (suc zero))))))))) g h i j = refl
-  other-name (suc (suc (suc (suc (suc (suc (suc (suc (suc (suc zero)))))))))) g h i j = absurd (j refl)
-  other-name (suc (suc (suc (suc (suc (suc (suc (suc (suc (suc (suc n))))))))))) g h i j = rest n
-    where
-      rest : (n : ℕ) → seen-name b (getD (called-step ∷ []) n new-par) y u ≡ seen-listed (b .steps) y (u .type)
-      rest zero = refl
-      rest (suc n) = refl
+module _ (b : Book) (c : ℕ) where
+  pub among-structs : c ≡ 49 → b .structs ≡ called-among b c
+  unfolding called-among chosen
+  among-structs e = sym (rw (eq-eqb c 49 e) refl)
 
-  module _ (c : ℕ) where
-    pub seen-read : c ≡ 43 → seen-first b y u ≡ seen-name b (naming-at c) y u
-    unfolding seen-name naming-at
-    seen-read e = rw e refl
-
-    pub seen-written : c ≡ 44 → seen-first b y u ≡ seen-name b (naming-at c) y u
-    unfolding seen-name naming-at
-    seen-written e = rw e refl
-
-    pub seen-later : c ≡ 45 → seen-behind b (u .type) y ≡ seen-name b (naming-at c) y u
-    unfolding seen-name naming-at
-    seen-later e = rw e refl
-
-    pub seen-struct : c ≡ 49 → seen-listed (b .structs) y (u .type) ≡ seen-name b (naming-at c) y u
-    unfolding seen-name naming-at
-    seen-struct e = rw e refl
-
-    pub seen-step : (c ≡ 43 → ⊥) → (c ≡ 44 → ⊥) → (c ≡ 45 → ⊥) → (c ≡ 49 → ⊥) → seen-listed (b .steps) y (u .type) ≡ seen-name b (naming-at c) y u
-    unfolding naming-at
-    seen-step g h i j =
-        sym
-        (other-name (c - 39) (λ e. g (omega (arith, e))) (λ e. h (omega (arith, e))) (λ e. i (omega (arith, e))) (λ e. j (omega (arith, e))))
+  pub among-steps : (c ≡ 49 → ⊥) → b .steps ≡ called-among b c
+  unfolding called-among chosen
+  among-steps h = sym (rw (ne-eqb c 49 h) refl)

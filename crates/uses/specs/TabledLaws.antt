@@ -87,14 +87,14 @@ few-tested text roles fr e f =
     }
 
 -- more declarations than these
-pub fill-many : (text roles : List ℕ) → Fronted roles → {n : ℕ} → n ≡ length (declared-at roles) → 272 < n → false ≡ tables-ok text roles
+pub fill-many : (text roles : List ℕ) → Fronted roles → {n : ℕ} → n ≡ length (declared-at roles) → 400 < n → false ≡ tables-ok text roles
 fill-many text roles fr {n} e l = go (tested text roles) refl
   where
     go : (t : Bool) → tested text roles ≡ t → false ≡ tables-ok text roles
     go true f =
         let few = few-tested text roles fr {w = tested text roles} refl f in
         let c = declared-count roles in
-        absurd (omega (arith, e, l, c, few .structs, few .pars, few .steps))
+        absurd (omega (arith, e, l, c, few .structs, few .pars, few .steps, few .types))
     go false f = fill-not text roles {w = tested text roles} refl f
 
 -- Rows of a longer part ----------------------------------------------------------------------------

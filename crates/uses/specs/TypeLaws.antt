@@ -24,33 +24,24 @@ use Rattle.uses.specs.declared.Seen.the-variants.{Of}
 use Rattle.uses.specs.declared.Passed.{Passed}
 use Rattle.uses.specs.declared.Passed.the-variants.{Stop}
 
+abbrev numbers : List ℕ
+numbers = 0 ∷ 1 ∷ 2 ∷ 3 ∷ 0 ∷ 1 ∷ 2 ∷ 3 ∷ 0 ∷ 1 ∷ 2 ∷ 3 ∷ []
+
+-- each four of them are the numbers of the types
+four : (n : ℕ) → n < 4 → (n ≡ getD numbers (4 + n) 0) × (n ≡ getD numbers (8 + n) 0)
+four zero h = (refl, refl)
+four (suc zero) h = (refl, refl)
+four (suc (suc zero)) h = (refl, refl)
+four (suc (suc (suc zero))) h = (refl, refl)
+four (suc (suc (suc (suc n)))) h = absurd (omega arith)
+
 pub number-local : (c : ℕ) → 55 ≤ c → c < 59 → c - 55 ≡ number-at c
 unfolding number-at
-number-local c g h = go (c - 55) (omega (arith, h)) ∙ ap (λ z. getD (0 ∷ 1 ∷ 2 ∷ 3 ∷ 0 ∷ 1 ∷ 2 ∷ 3 ∷ 0 ∷ 1 ∷ 2 ∷ 3 ∷ []) z 0) (away c g)
-  where
-    away : (c : ℕ) → 55 ≤ c → 4 + (c - 55) ≡ c - 51
-    away c g = omega (arith, g)
-
-    go : (n : ℕ) → n < 4 → n ≡ getD (0 ∷ 1 ∷ 2 ∷ 3 ∷ 0 ∷ 1 ∷ 2 ∷ 3 ∷ 0 ∷ 1 ∷ 2 ∷ 3 ∷ []) (4 + n) 0
-    go zero h = refl
-    go (suc zero) h = refl
-    go (suc (suc zero)) h = refl
-    go (suc (suc (suc zero))) h = refl
-    go (suc (suc (suc (suc n)))) h = absurd (omega arith)
+number-local c g h = let e : 4 + (c - 55) ≡ c - 51 = omega (arith, g) in four (c - 55) (omega (arith, h)) .0 ∙ ap (λ z. getD numbers z 0) e
 
 pub number-null : (c : ℕ) → 59 ≤ c → c < 63 → c - 59 ≡ number-at c
 unfolding number-at
-number-null c g h = go (c - 59) (omega (arith, h)) ∙ ap (λ z. getD (0 ∷ 1 ∷ 2 ∷ 3 ∷ 0 ∷ 1 ∷ 2 ∷ 3 ∷ 0 ∷ 1 ∷ 2 ∷ 3 ∷ []) z 0) (away c g)
-  where
-    away : (c : ℕ) → 59 ≤ c → 8 + (c - 59) ≡ c - 51
-    away c g = omega (arith, g)
-
-    go : (n : ℕ) → n < 4 → n ≡ getD (0 ∷ 1 ∷ 2 ∷ 3 ∷ 0 ∷ 1 ∷ 2 ∷ 3 ∷ 0 ∷ 1 ∷ 2 ∷ 3 ∷ []) (8 + n) 0
-    go zero h = refl
-    go (suc zero) h = refl
-    go (suc (suc zero)) h = refl
-    go (suc (suc (suc zero))) h = refl
-    go (suc (suc (suc (suc n)))) h = absurd (omega arith)
+number-null c g h = let e : 8 + (c - 59) ≡ c - 51 = omega (arith, g) in four (c - 59) (omega (arith, h)) .1 ∙ ap (λ z. getD numbers z 0) e
 
 module _ (b : Book) (v : TypeName) (u : Use) where
   abbrev typeds : List Typed

@@ -1,4 +1,4 @@
-// Tables of declarations from the places of all declarations (02 §1), which are few where a text has many places.
+// The places of a text's declarations, which are few where a text has many places (02 §1), and tables of declarations from them.
 use lexer::bytes;
 use resolve::tables;
 ghost use mathlib.Core.Path.{_≡_};
@@ -6,22 +6,60 @@ ghost use Prim.Native.Nat.{_≤_};
 ghost use lib.ListN.{length};
 ghost use lib.Seq.{sets};
 ghost use Rattle.resolve.specs.Tables.{places, offsets};
-ghost use Rattle.uses.specs.Among.{declared-at};
+ghost use Rattle.uses.specs.Among.{declares, declared-at, AllDeclare};
 
-// The byte of a name that declares a struct.
-const NEW_STRUCT: u8 = 39;
+// The bytes of names that declare a struct, a parameter, a step; those of the types of parameters.
+pub(crate) const NEW_STRUCT: u8 = 39;
 
-// The places of a role, of structs, of parameters or of steps, into a table, as many as it has; and how many there are.
-pub(crate) fn gather(roles: &[u8], declared: &[usize], role: u8, table: &mut [usize]) -> usize
-    requires { ⌜ (now declared ≡ declared-at (now roles)) × (39 ≤ role) × (role ≤ 41) ⌝ }
-    ensures { λ r. ⌜ r ≡ length (places role role (now (roles .entry))) ⌝ }
-    ensures { λ _. ⌜ now (table .exit) ≡ sets (now (table .entry)) 0 (places role role (now (roles .entry))) ⌝ }
+pub(crate) const NEW_PAR: u8 = 40;
+
+pub(crate) const NEW_STEP: u8 = 41;
+
+pub(crate) const FIRST_TYPE: u8 = 51;
+
+pub(crate) const LAST_TYPE: u8 = 54;
+
+// Whether a role is that of a struct, a parameter, a step or the type of a parameter.
+fn declares(role: u8) -> bool
+    ensures { λ r. ⌜ r ≡ declares role ⌝ }
+{
+    if bytes::between(NEW_STRUCT, NEW_STEP, role) {
+        return true;
+    }
+    bytes::between(FIRST_TYPE, LAST_TYPE, role)
+}
+
+// The places of all declarations into a table, as many as it has; and how many there are.
+pub(crate) fn all(roles: &[u8], table: &mut [usize]) -> usize
+    ensures { λ r. ⌜ r ≡ length (declared-at (now (roles .entry))) ⌝ }
+    ensures { λ _. ⌜ now (table .exit) ≡ sets (now (table .entry)) 0 (declared-at (now (roles .entry))) ⌝ }
+{
+    let mut n = 0;
+    let mut i = 0;
+    while i < roles.len() {
+        n = tables::add(table, n, i, declares(roles[i]));
+        i += 1;
+    }
+    n
+}
+
+// The places of the roles from low to high, of one declaration or of types, into a table, as many as it has; and how many there are.
+pub(crate) fn gather(
+    roles: &[u8],
+    declared: &[usize],
+    low: u8,
+    high: u8,
+    table: &mut [usize],
+) -> usize
+    requires { ⌜ (now declared ≡ declared-at (now roles)) × AllDeclare low high ⌝ }
+    ensures { λ r. ⌜ r ≡ length (places low high (now (roles .entry))) ⌝ }
+    ensures { λ _. ⌜ now (table .exit) ≡ sets (now (table .entry)) 0 (places low high (now (roles .entry))) ⌝ }
 {
     let mut n = 0;
     let mut i = 0;
     while i < declared.len() {
         let at = declared[i];
-        let is = bytes::between(role, role, bytes::byte(roles, at));
+        let is = bytes::between(low, high, bytes::byte(roles, at));
         n = tables::add(table, n, at, is);
         i += 1;
     }

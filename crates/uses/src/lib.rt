@@ -7,7 +7,7 @@ pub mod passing;
 pub mod tabling;
 
 ghost use mathlib.Core.Path.{_≡_};
-ghost use Prim.Native.Nat.{_+_, _<_, _≤_};
+ghost use Prim.Native.Nat.{_<_, _≤_};
 ghost use lib.ListN.{length};
 ghost use Rattle.resolve.specs.Resolved.{resolved};
 ghost use Rattle.uses.specs.Declaring.{Fronted, Tabled};

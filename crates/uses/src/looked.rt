@@ -5,18 +5,17 @@ use crate::Scope;
 use crate::Seen;
 use resolve::names;
 ghost use mathlib.Core.Path.{_≡_};
-ghost use Prim.Native.Nat.{ℕ, _+_, _-_, _≤_, _<_};
+ghost use Prim.Native.Nat.{_+_, _-_, _≤_, _<_};
 ghost use mathlib.Core.Bool.{_&&_};
-ghost use mathlib.Core.List.{List, []};
+ghost use mathlib.Core.List.{[]};
 ghost use lib.ListN.{length, getD};
 ghost use lib.Dec.{leb};
 ghost use Rattle.resolve.specs.Named.{name-at, names-at, sought};
 ghost use Rattle.resolve.specs.Checks.{part-of};
 ghost use Rattle.resolve.specs.Using.{own-row};
-ghost use Rattle.resolve.specs.UsingAt.{naming-at};
 ghost use Rattle.uses.specs.PartLaws.{up-to};
 ghost use Rattle.uses.specs.Lent.{structs-of-table, book-in, Booked, Rowed, use-in, Small, Roomy};
-ghost use Rattle.uses.specs.Seeing.{seen-listed, seen-par, seen-local, seen-first, seen-behind, seen-name};
+ghost use Rattle.uses.specs.Seeing.{called-among, seen-listed, seen-par, seen-local, seen-first, seen-behind};
 
 const OFFSETS: usize = 16;
 
@@ -112,29 +111,11 @@ pub(crate) fn later(text: &[u8], tables: &[usize], at: usize, typ: usize) -> See
     parameter(text, tables, k, at)
 }
 
-// What the name in a role stands for: the first or a later variable, a struct, a step.
-pub(crate) fn seen(
-    text: &[u8],
-    tables: &[usize],
-    locals: &[usize],
-    at: usize,
-    role: u8,
-    c: Scope,
-) -> Seen
-    requires { ⌜ Booked (now tables) × Roomy (now tables) (now locals) c ⌝ }
-    ensures { λ r. ⌜ r ≡ seen-name (book-in (now (text .entry)) (now (tables .entry))) (naming-at role) (name-at (now (text .entry)) at)
-        (use-in (now (text .entry)) (now (locals .entry)) [] c []) ⌝ }
+// A struct or a step, by the role of its name.
+pub(crate) fn called(text: &[u8], tables: &[usize], at: usize, role: u8, typ: usize) -> Seen
+    requires { ⌜ Booked (now tables) ⌝ }
+    ensures { λ r. ⌜ r ≡ seen-listed (called-among (book-in (now (text .entry)) (now (tables .entry))) role) (name-at (now (text .entry)) at) typ ⌝ }
 {
-    let typ = c.typ;
-    if role == 43 {
-        return first(text, tables, locals, at, c);
-    }
-    if role == 44 {
-        return first(text, tables, locals, at, c);
-    }
-    if role == 45 {
-        return later(text, tables, at, typ);
-    }
     if role == 49 {
         return listed(text, tables, 0, tables[STRUCT_COUNT], at, typ);
     }

@@ -4,16 +4,33 @@ use crate::Passed;
 use crate::Scope;
 use crate::parts;
 use crate::passing;
+use lexer::gaps;
 ghost use mathlib.Core.Path.{_≡_};
 ghost use Prim.Native.Nat.{ℕ, _+_, _≤_, _<_};
+ghost use mathlib.Core.Bool.{true};
 ghost use mathlib.Core.List.{List};
-ghost use mathlib.Core.Option.{some};
 ghost use lib.ListN.{length, drop};
-ghost use lib.Dec.{eqb};
-ghost use Rattle.resolve.specs.Using.{chosen, use-start};
+ghost use Rattle.resolve.specs.Using.{use-start};
 ghost use Rattle.resolve.specs.UsingAt.{use-at, uses-at};
 ghost use Rattle.uses.specs.Lent.{book-in, Booked, use-in, Roomy, passed-in, Next, numbered-in, used-out, Counted};
+ghost use Rattle.uses.specs.Seeing.{Quiet};
 ghost use Rattle.uses.specs.Stopping.{stops-at, stop-in};
+
+// Whether a token by its role leaves the pass as it is: a word, a sign but for the semicolon, an operator; the most of the brackets.
+fn quiet(role: u8) -> bool
+    ensures { λ r. ⌜ (r ≡ true → Quiet role) ⌝ }
+{
+    if role < 37 {
+        return role != 19;
+    }
+    if role < 63 {
+        return false;
+    }
+    if role < 66 {
+        return true;
+    }
+    role > 67 && role < 75
+}
 
 // One place where a token begins.
 fn use_at(
@@ -32,40 +49,22 @@ fn use_at(
     ensures { λ r. ⌜ Next (now (tables .entry)) (now (locals .exit)) c r ⌝ }
     ensures { λ _. ⌜ (length (now (stack .exit)) ≡ length (now (stack .entry))) × (length (now (locals .exit)) ≡ length (now (locals .entry))) ⌝ }
 {
+    if quiet(role) {
+        return Passed::On(c);
+    }
     if role < 39 {
         return parts::kind_role(text, at, role, c);
     }
+    if role < 43 {
+        return passing::declared_name(text, tables, locals, at, role, c);
+    }
     if role < 51 {
-        return passing::name_role(text, tables, locals, stack, at, role, c);
+        return passing::used_name(text, tables, locals, stack, at, role, c);
     }
     if role < 63 {
         return passing::type_role(text, tables, at, role, c);
     }
     parts::part_role(stack, role, c)
-}
-
-// One place: 0 stands where no token begins.
-fn turn(
-    text: &[u8],
-    tables: &[usize],
-    locals: &mut [usize],
-    stack: &mut [u8],
-    at: usize,
-    role: u8,
-    c: Scope,
-) -> Passed
-    requires { ⌜ Booked (now tables) × Roomy (now tables) (now locals) c × (c .dues + c .bodies < length (now stack)) × (at < length (now text)) ⌝ }
-    ensures { λ r. ⌜ ((o : List ℕ) → passed-in (now (text .entry)) (now (locals .exit)) (now (stack .exit)) r o
-        ≡ chosen (eqb role 0) (some (use-in (now (text .entry)) (now (locals .entry)) (now (stack .entry)) c o))
-        (use-at (book-in (now (text .entry)) (now (tables .entry))) role (drop at (now (text .entry)))
-        (use-in (now (text .entry)) (now (locals .entry)) (now (stack .entry)) c o))) ⌝ }
-    ensures { λ r. ⌜ Next (now (tables .entry)) (now (locals .exit)) c r ⌝ }
-    ensures { λ _. ⌜ (length (now (stack .exit)) ≡ length (now (stack .entry))) × (length (now (locals .exit)) ≡ length (now (locals .entry))) ⌝ }
-{
-    if role == 0 {
-        return Passed::On(c);
-    }
-    use_at(text, tables, locals, stack, at, role, c)
 }
 
 // The numbers of a text's uses, in order; or that there are none (17), and the place of the token at which that is told.
@@ -98,11 +97,11 @@ pub(crate) fn uses(
         bodies: 0,
     };
     let mut n = 0;
-    let mut i = 0;
+    let mut i = gaps::first(roles);
     while i < roles.len() {
         let at = i;
-        i += 1;
-        match turn(text, tables, locals, stack, at, roles[at], c) {
+        i = gaps::next(roles, at + 1);
+        match use_at(text, tables, locals, stack, at, roles[at], c) {
             Passed::Stop => return Numbered::Nothing(at),
             Passed::On(d) => {
                 c = d;

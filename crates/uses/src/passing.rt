@@ -144,39 +144,57 @@ fn declare(text: &[u8], tables: &[usize], locals: &mut [usize], at: usize, c: Sc
     )
 }
 
-// A name, by its role.
-pub(crate) fn name_role(
+// A name that declares, by its role: a struct, a parameter, a step, a local.
+pub(crate) fn declared_name(
     text: &[u8],
     tables: &[usize],
     locals: &mut [usize],
+    at: usize,
+    role: u8,
+    c: Scope,
+) -> Passed
+    requires { ⌜ Booked (now tables) × Roomy (now tables) (now locals) c × (39 ≤ role) × (role < 43) ⌝ }
+    ensures { λ r. ⌜ ((k o : List ℕ) → passed-in (now (text .entry)) (now (locals .exit)) k r o
+        ≡ use-name (book-in (now (text .entry)) (now (tables .entry))) (naming-at role) (name-at (now (text .entry)) at)
+        (use-in (now (text .entry)) (now (locals .entry)) k c o)) ⌝ }
+    ensures { λ r. ⌜ Next (now (tables .entry)) (now (locals .exit)) c r ⌝ }
+    ensures { λ _. ⌜ length (now (locals .exit)) ≡ length (now (locals .entry)) ⌝ }
+{
+    match role {
+        39 => begin(tables, c),
+        40 => Passed::On(c),
+        41 => left(c, looked::called(text, tables, at, role, c.typ)),
+        _ => declare(text, tables, locals, at, c),
+    }
+}
+
+// A name that is used, by its role: the first variable of a path, a later one, the struct of a constructor, a struct or a step in the schedule.
+pub(crate) fn used_name(
+    text: &[u8],
+    tables: &[usize],
+    locals: &[usize],
     stack: &mut [u8],
     at: usize,
     role: u8,
     c: Scope,
 ) -> Passed
-    requires { ⌜ Booked (now tables) × Roomy (now tables) (now locals) c × (c .dues + c .bodies < length (now stack)) × (39 ≤ role) × (role < 51) ⌝ }
-    ensures { λ r. ⌜ ((o : List ℕ) → passed-in (now (text .entry)) (now (locals .exit)) (now (stack .exit)) r o
+    requires { ⌜ Booked (now tables) × Roomy (now tables) (now locals) c × (c .dues + c .bodies < length (now stack)) × (43 ≤ role) × (role < 51) ⌝ }
+    ensures { λ r. ⌜ ((o : List ℕ) → passed-in (now (text .entry)) (now (locals .entry)) (now (stack .exit)) r o
         ≡ use-name (book-in (now (text .entry)) (now (tables .entry))) (naming-at role) (name-at (now (text .entry)) at)
         (use-in (now (text .entry)) (now (locals .entry)) (now (stack .entry)) c o)) ⌝ }
-    ensures { λ r. ⌜ Next (now (tables .entry)) (now (locals .exit)) c r ⌝ }
-    ensures { λ _. ⌜ (length (now (stack .exit)) ≡ length (now (stack .entry))) × (length (now (locals .exit)) ≡ length (now (locals .entry))) ⌝ }
+    ensures { λ r. ⌜ Next (now (tables .entry)) (now (locals .entry)) c r ⌝ }
+    ensures { λ _. ⌜ length (now (stack .exit)) ≡ length (now (stack .entry)) ⌝ }
 {
-    if role == 39 {
-        return begin(tables, c);
+    if role < 45 {
+        return left(c, looked::first(text, tables, locals, at, c));
     }
-    if role == 40 {
-        return Passed::On(c);
+    if role < 46 {
+        return left(c, looked::later(text, tables, at, c.typ));
     }
-    if role == 42 {
-        return declare(text, tables, locals, at, c);
-    }
-    if role == 46 {
+    if role < 48 {
         return made(text, tables, stack, at, c);
     }
-    if role == 47 {
-        return made(text, tables, stack, at, c);
-    }
-    left(c, looked::seen(text, tables, locals, at, role, c))
+    left(c, looked::called(text, tables, at, role, c.typ))
 }
 
 // The number of a type among the four kinds, by its role behind a declaration or null.

@@ -2,6 +2,11 @@
 // (`resolve/specs/WellDeclared.antt`). Places of structs from 0 on, offsets of parameters from 16 on, places of parameters from 33 on, bytes of their types
 // from 161 on, places of step names from 289 on, the count of structs at 321, the count of step names at 322.
 use crate::declared;
+use crate::declared::FIRST_TYPE;
+use crate::declared::LAST_TYPE;
+use crate::declared::NEW_PAR;
+use crate::declared::NEW_STEP;
+use crate::declared::NEW_STRUCT;
 use resolve::declarations;
 use resolve::tables;
 ghost use mathlib.Core.Path.{_≡_};
@@ -16,16 +21,6 @@ ghost use Rattle.uses.specs.Among.{declared-at};
 ghost use Rattle.uses.specs.Declaring.{Fronted, Tabled, type-bytes};
 ghost use Rattle.uses.specs.Tabling.{Gathered, Laid, tested};
 
-const NEW_STRUCT: u8 = 39;
-
-const NEW_PAR: u8 = 40;
-
-const NEW_STEP: u8 = 41;
-
-const FIRST_TYPE: u8 = 51;
-
-const LAST_TYPE: u8 = 54;
-
 const OFFSETS: usize = 16;
 
 const PARS: usize = 33;
@@ -38,10 +33,10 @@ const STRUCT_COUNT: usize = 321;
 
 const NAME_COUNT: usize = 322;
 
-// Parameters, or steps, of all structs; and these with the structs themselves.
+// Parameters, their types, or steps, of all structs; and all of these with the structs themselves.
 const MANY: usize = 128;
 
-const ALL: usize = 272;
+const ALL: usize = 400;
 
 // The places of step names into a table, and how many there are; none of it where there are more steps than a stream has room for.
 fn step_names(text: &[u8], roles: &[u8], declared: &[usize], table: &mut [usize]) -> usize
@@ -49,7 +44,7 @@ fn step_names(text: &[u8], roles: &[u8], declared: &[usize], table: &mut [usize]
     ensures { λ r. ⌜ Gathered (now (text .entry)) (now (roles .entry)) (now (table .entry)) (now (table .exit)) r ⌝ }
 {
     let mut places: [usize; 128] = [0; 128];
-    let n = declared::gather(roles, declared, NEW_STEP, &mut places);
+    let n = declared::gather(roles, declared, NEW_STEP, NEW_STEP, &mut places);
     if n > MANY {
         return 0;
     }
@@ -61,9 +56,15 @@ fn lay(text: &[u8], roles: &[u8], declared: &[usize], table: &mut [usize])
     requires { ⌜ (length (now table) ≡ 323) × (now declared ≡ declared-at (now roles)) ⌝ }
     ensures { λ _. ⌜ Laid (now (text .entry)) (now (roles .entry)) (now (table .exit)) ⌝ }
 {
-    let s = declared::gather(roles, declared, NEW_STRUCT, &mut table[0..OFFSETS]);
+    let s = declared::gather(
+        roles,
+        declared,
+        NEW_STRUCT,
+        NEW_STRUCT,
+        &mut table[0..OFFSETS],
+    );
     declared::rows(roles, declared, NEW_PAR, &mut table[OFFSETS..PARS]);
-    declared::gather(roles, declared, NEW_PAR, &mut table[PARS..TYPES]);
+    declared::gather(roles, declared, NEW_PAR, NEW_PAR, &mut table[PARS..TYPES]);
     let k = step_names(text, roles, declared, &mut table[NAMES..STRUCT_COUNT]);
     table[STRUCT_COUNT] = s;
     table[NAME_COUNT] = k;
@@ -118,9 +119,9 @@ fn par_types(text: &[u8], roles: &[u8], declared: &[usize], table: &mut [usize])
     ensures { λ r. ⌜ (r ≡ true → now (table .exit) ≡ sets (now (table .entry)) 0 (type-bytes (now (text .entry)) (now (roles .entry)))) ⌝ }
 {
     let mut structs: [usize; 16] = [0; 16];
-    let s = declared::gather(roles, declared, NEW_STRUCT, &mut structs);
+    let s = declared::gather(roles, declared, NEW_STRUCT, NEW_STRUCT, &mut structs);
     let mut places: [usize; 128] = [0; 128];
-    let n = tables::gather(roles, FIRST_TYPE, LAST_TYPE, &mut places);
+    let n = declared::gather(roles, declared, FIRST_TYPE, LAST_TYPE, &mut places);
     declarations::types(text, roles, &structs[..s], &places[..n], table)
 }
 
@@ -145,8 +146,8 @@ pub(crate) fn fill(text: &[u8], roles: &[u8], table: &mut [usize]) -> bool
     ensures { λ r. ⌜ (r ≡ true → Tabled (now (text .entry)) (now (roles .entry)) (now (table .exit))) ⌝ }
     ensures { λ _. ⌜ length (now (table .exit)) ≡ length (now (table .entry)) ⌝ }
 {
-    let mut places: [usize; 272] = [0; 272];
-    let n = tables::gather(roles, NEW_STRUCT, NEW_STEP, &mut places);
+    let mut places: [usize; 400] = [0; 400];
+    let n = declared::all(roles, &mut places);
     if n > ALL {
         return false;
     }

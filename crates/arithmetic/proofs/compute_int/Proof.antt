@@ -101,10 +101,9 @@ returns-8 c =
 
 returns-9 : tie.Need-returns-9
 returns-9 c =
-    let at-if3 = c .before .before .before in
-    numbers-unfit int-answer _ _
-    (past-computing (at-if3 .before .before .if1 .left) (at-if3 .before .if2 .left) (at-if3 .if3 .left) (c .before .before .if5 .left)
-    (c .before .if7 .left) (c .if8 .left))
+    let at-if3 = c .before .before .before in let at-if2 = at-if3 .before in
+    let past = past-computing (at-if2 .before .if1 .left) (at-if2 .if2 .left) (at-if3 .if3 .left) (c .before .before .if5 .left) in
+    numbers-unfit int-answer _ _ (past (c .before .if7 .left) (c .if8 .left))
 
 pub compute-int-spec : {M : Type 1} → statement M
 compute-int-spec =

@@ -10,15 +10,11 @@ array-share-prefix-image : tie.Need-array-share-prefix-image
 array-share-prefix-image c = subst (Within _) (c .before .n .given .1) (c .before .before .before .before .part .ensures)
 
 array-borrow-prefix-list : tie.Need-array-borrow-prefix-list
-array-borrow-prefix-list c =
-    let at-n = c .before .before in let at-part = at-n .before .before .before in
-    let at-places = at-part .before .before .before in
-    subst (Within _) (at-places .places .given .1) (at-places .before .before .number .ensures)
+array-borrow-prefix-list c = search needs
 
 pub check-case-spec : {M : Type 1} → statement M
 check-case-spec =
     tie.close
-    (tie.spec (λ c κs. search needs) (λ c. search needs) (λ c. search needs) (λ c. search needs) (λ c. search needs) (λ c κs. search needs)
-    (λ c. search needs) (λ c. search needs) (λ c. search needs) array-share-prefix-image
+    (tie.spec (λ c. search needs) (λ c κs. search needs) (λ c. search needs) (λ c. search needs) (λ c. search needs) array-share-prefix-image
     (λ c. sym (length-take-le _ _ (array-share-prefix-image (c .before)))) array-borrow-prefix-list
     (λ c. sym (length-take-le _ _ (array-borrow-prefix-list (c .before)))) (λ c κs. search needs) (λ c κs. search needs) (λ c. search needs))

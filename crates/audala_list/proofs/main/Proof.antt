@@ -14,6 +14,6 @@ array-share-prefix-text c = let e = placed-kept ((c .listing) .ensures .0) in om
 pub main-spec : {M : Type 1} → statement M
 main-spec =
     tie.close
-    (tie.spec (λ c κs. search needs) (λ c κs. search needs) (λ c. search needs) (λ c. search needs) (λ c κs. search needs) (λ c. search needs)
-    (λ c. search needs) (λ c. search needs) (λ c κs. search needs) array-share-prefix-text
-    (λ c. sym (length-take-le _ _ (array-share-prefix-text (c .before)))) (λ c κs. search needs) (λ c. search needs))
+    (tie.spec (λ c. search needs) (λ c. search needs) (λ c κs. search needs) (λ c. search needs) (λ c. search needs) (λ c. search needs)
+    (λ c κs. search needs) array-share-prefix-text (λ c. sym (length-take-le _ _ (array-share-prefix-text (c .before)))) (λ c κs. search needs)
+    (λ c. search needs))

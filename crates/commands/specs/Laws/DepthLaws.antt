@@ -80,7 +80,8 @@ module _ (ar : List ℕ) where
 
 -- Of trees -----------------------------------------------------------------------
 
-peak-pos : (e : Expr) → 1 ≤ peak e
+-- an expression pushes its value
+pub peak-pos : (e : Expr) → 1 ≤ peak e
 unfolding peak
 peak-pos (inv e) = peak-pos e
 peak-pos (make k es) = omega arith

@@ -2,12 +2,12 @@
 use mathlib.Core.Path.{refl}
 use borrow.Author.Needs.{needs}
 use Rattle.compose.specs.Writing.{behind-marks, forms, stack-marks, pour-marks}
-use Rattle.composing.specs.RoleTable.{shifted, mark-bytes}
+use Rattle.composing.specs.RoleTable.{shifted, in-a-row, mark-bytes}
 use Rattle.composing.proofs.write.Statement.{statement}
 use Rattle.composing.proofs.write.Tie as tie
 
 written-requires : tie.Need-written-requires
-unfolding mark-bytes shifted behind-marks forms stack-marks pour-marks
+unfolding mark-bytes in-a-row shifted behind-marks forms stack-marks pour-marks
 written-requires c κs = (refl, search needs)
 
 pub write-spec : {M : Type 1} → statement M

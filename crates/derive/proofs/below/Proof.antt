@@ -7,6 +7,13 @@ use borrow.Author.Needs.{needs}
 use Rattle.derive.proofs.below.Statement.{statement}
 use Rattle.derive.proofs.below.Tie as tie
 
+-- the places that proofs look back to
+abbrev at-open : tie.After-act-at → tie.Else1
+at-open c = c .before .before .before
+
+abbrev start : tie.Else1 → tie.Start
+start c = c .before .before .before .before
+
 returns : tie.Need-returns
 returns c =
     let at-if = c .before in
@@ -15,23 +22,21 @@ returns c =
       (omega (arith, (c .dead .ensures)), refl),
     )
 
-act-of-requires : tie.Need-act-of-requires
-act-of-requires c κs =
-    let at-if = c .before in
-    let pre = at-if .before .before .before .before .pre in (pre .0, pre .1)
+act-at-requires : tie.Need-act-at-requires
+act-at-requires c κs = let pre = start (c .before .before) .pre in (pre .0, pre .1, c .index .ensures .0)
 
 pushed-requires : tie.Need-pushed-requires
-pushed-requires c κs = let at-act-of = c .before .before .before .before in omega (arith, (at-act-of .before .before .if1 .left))
+pushed-requires c κs =
+    let at-act = c .before .before .before .before in
+    omega (arith, at-open at-act .if1 .left)
 
 returns-2 : tie.Need-returns-2
 returns-2 c =
-    let at-slice-known2 = c .before .before .before .before in
-    let at-if = at-slice-known2 .before in
-    let args = at-if .before .before .before .before .args in (
-      below-go (args .k) (args .h)
-          (args .stack .now) (at-if .if1 .left) _ (sym (c .before .p .given .1) ∙
-          (c .before .before .before .act-of .ensures)),
-      (omega (arith, (at-if .if1 .left)), refl),
+    let at-act = c .before .before .before in
+    let some = at-open at-act .if1 .left in
+    let args = start (at-open at-act) .args in (
+      below-go (args .k) (args .h) (args .stack .now) some _ (sym (c .before .p .given .1) ∙ at-act .act-at .ensures ∙ at-act .before .index .ensures .1),
+      (omega (arith, some), refl),
     )
 
 same-length : tie.Need-same-length
@@ -39,51 +44,37 @@ same-length c = ap length (c .before .before .pushed .ensures .1) ∙ simp lengt
 
 returns-3 : tie.Need-returns-3
 returns-3 c =
-    let at-known-told2 = c .before .before .before .before in
-    let at-slice-known2 = at-known-told2 .before .before .before .before in
-    let at-if = at-slice-known2 .before in
-    let args = at-if .before .before .before .before .args in (
-      below-open (args .k) (args .h)
-          (args .stack .now) (at-if .if1 .left) _ _ _ (sym
-          (at-known-told2 .before .p2 .given .1) ∙ (at-known-told2 .before .before .before .act-of .ensures)) (omega arith)
-          (c .before .before .pushed .ensures .0) (c .before .before .pushed .ensures .1),
-      (
-        omega (
-          arith,
-          (c .before .before .pushed .ensures .0),
-          (at-if .if1 .left),
-        ),
-        ap length (c .before .before .pushed .ensures .1) ∙ simp length-set,
-      ),
+    let at-told = c .before .before .before .before in
+    let at-act = at-told .before .before .before in
+    let some = at-open at-act .if1 .left in
+    let pushed = c .before .before .pushed .ensures in
+    let args = start (at-open at-act) .args in (
+      below-open (args .k) (args .h) (args .stack .now) some _ _ _
+          (sym (at-told .before .p2 .given .1) ∙ at-act .act-at .ensures ∙ at-act .before .index .ensures .1) (omega arith) (pushed .0) (pushed .1),
+      (omega (arith, pushed .0, some), ap length (pushed .1) ∙ simp length-set),
     )
 
 returns-4 : tie.Need-returns-4
 returns-4 c =
-    let at-slice-known2 = c .before .before .before .before in
-    let at-if = at-slice-known2 .before in
-    let args = at-if .before .before .before .before .args in (
-      below-below (args .k) (args .h)
-          (args .stack .now) (at-if .if1 .left)
-          (args .stack .now) (sym (c .before .enum-told .given .1) ∙ (c .before .before .before .act-of .ensures))
-          (c .dead2 .ensures),
-      (omega (arith, (c .dead2 .ensures)), refl),
+    let at-act = c .before .before .before in
+    let args = start (at-open at-act) .args in (
+      below-below (args .k) (args .h) (args .stack .now) (at-open at-act .if1 .left) (args .stack .now)
+          (sym (c .before .enum-told .given .1) ∙ at-act .act-at .ensures ∙ at-act .before .index .ensures .1) (c .dead2 .ensures),
+      (omega (arith, c .dead2 .ensures), refl),
     )
 
 returns-5 : tie.Need-returns-5
 returns-5 c =
-    let at-slice-known2 = c .before .before .before .before in
-    let at-if = at-slice-known2 .before in
-    let args = at-if .before .before .before .before .args in (
-      below-stop (args .k) (args .h)
-          (args .stack .now) (at-if .if1 .left)
-          (args .stack .now) (sym (c .before .enum-told2 .given .1) ∙ (c .before .before .before .act-of .ensures))
-          (c .dead3 .ensures),
-      (omega (arith, (c .dead3 .ensures)), refl),
+    let at-act = c .before .before .before in
+    let args = start (at-open at-act) .args in (
+      below-stop (args .k) (args .h) (args .stack .now) (at-open at-act .if1 .left) (args .stack .now)
+          (sym (c .before .enum-told2 .given .1) ∙ at-act .act-at .ensures ∙ at-act .before .index .ensures .1) (c .dead3 .ensures),
+      (omega (arith, c .dead3 .ensures), refl),
     )
 
 pub below-spec : {M : Type 1} → statement M
 below-spec =
     tie.close
-    (tie.spec (λ c κs. search needs) returns (λ c. search needs) (λ c. search needs) act-of-requires (λ c. search needs)
+    (tie.spec (λ c κs. search needs) returns (λ c. search needs) (λ c. search needs) (λ c κs. search needs) act-at-requires (λ c. search needs)
     (λ c. search needs) pushed-requires (λ c. search needs) (λ c κs. search needs) (λ c. search needs) (λ c κs. search needs) returns-2
     same-length returns-3 returns-4 returns-5)

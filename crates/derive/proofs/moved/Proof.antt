@@ -7,20 +7,22 @@ use borrow.Author.Needs.{needs}
 use Rattle.derive.proofs.moved.Statement.{statement}
 use Rattle.derive.proofs.moved.Tie as tie
 
-act-of-requires : tie.Need-act-of-requires
-act-of-requires c κs = let pre = c .before .before .before .pre in (pre .0, pre .1)
+-- the places that proofs look back to
+abbrev start : tie.After-act-at → tie.Start
+start c = c .before .before .before .before
+
+act-at-requires : tie.Need-act-at-requires
+act-at-requires c κs = let pre = c .before .before .before .pre in (pre .0 .0, pre .0 .1, pre .1 .0)
 
 below-requires : tie.Need-below-requires
-below-requires c κs =
-    let at-act-of = c .before .before .before in
-    let pre = at-act-of .before .before .before .before .pre in (pre .0, pre .1, omega arith)
+below-requires c κs = let pre = start (c .before .before .before) .pre .0 in (pre .0, pre .1, omega arith)
 
 returns : tie.Need-returns
 returns c =
-    let at-slice-known = c .before .before .before .before in
-    let args = at-slice-known .before .before .before .args in (
-      step-go (args .m .state) (args .k) (args .m .height)
-          (args .stack .now) _ (sym (c .before .p .given .1) ∙ (c .before .before .before .act-of .ensures)),
+    let at-act = c .before .before .before in
+    let s = start at-act in (
+      step-go (s .args .m .state) (s .args .k) (s .args .m .height) (s .args .stack .now) _
+          (sym (c .before .p .given .1) ∙ at-act .act-at .ensures ∙ s .pre .1 .1),
       (omega arith, refl),
     )
 
@@ -29,46 +31,40 @@ same-length c = ap length (c .before .before .pushed .ensures .1) ∙ simp lengt
 
 returns-2 : tie.Need-returns-2
 returns-2 c =
-    let at-known-told2 = c .before .before .before .before in
-    let at-slice-known = at-known-told2 .before .before .before .before in
-    let args = at-slice-known .before .before .before .args in (
-      step-open (args .m .state) (args .k) (args .m .height)
-          (args .stack .now) _ _ _ (sym (at-known-told2 .before .p2 .given .1) ∙
-          (at-known-told2 .before .before .before .act-of .ensures)) (omega arith) (c .before .before .pushed .ensures .0)
-          (c .before .before .pushed .ensures .1),
-      (
-        omega (arith, (c .before .before .pushed .ensures .0)),
-        ap length
-            (c .before .before .pushed .ensures .1) ∙ simp length-set,
-      ),
+    let at-told = c .before .before .before .before in
+    let at-act = at-told .before .before .before in
+    let s = start at-act in
+    let pushed = c .before .before .pushed .ensures in (
+      step-open (s .args .m .state) (s .args .k) (s .args .m .height) (s .args .stack .now) _ _ _
+          (sym (at-told .before .p2 .given .1) ∙ at-act .act-at .ensures ∙ s .pre .1 .1) (omega arith) (pushed .0) (pushed .1),
+      (omega (arith, pushed .0), ap length (pushed .1) ∙ simp length-set),
     )
 
 same-length-2 : tie.Need-same-length-2
-same-length-2 c = (c .before .before .below .ensures .1 .1)
+same-length-2 c = c .before .before .below .ensures .1 .1
 
 returns-3 : tie.Need-returns-3
 returns-3 c =
-    let at-enum-told = c .before .before .before .before in
-    let at-slice-known = at-enum-told .before .before .before in
-    let args = at-slice-known .before .before .before .args in (
-      step-below (args .m .state) (args .k)
-          (args .m .height) (args .stack .now) _ (sym
-          (c .before .before .before .before .enum-told .given .1) ∙ (at-enum-told .before .before .act-of .ensures)) (c .before .before .below .ensures .0),
-      (omega (arith, (c .before .before .below .ensures .1 .0)), (c .before .before .below .ensures .1 .1)),
+    let at-told = c .before .before .before .before in
+    let at-act = at-told .before .before in
+    let s = start at-act in
+    let below = c .before .before .below .ensures in (
+      step-below (s .args .m .state) (s .args .k) (s .args .m .height) (s .args .stack .now) _
+          (sym (at-told .enum-told .given .1) ∙ at-act .act-at .ensures ∙ s .pre .1 .1) (below .0),
+      (omega (arith, below .1 .0), below .1 .1),
     )
 
 returns-4 : tie.Need-returns-4
 returns-4 c =
-    let at-slice-known = c .before .before .before .before in
-    let args = at-slice-known .before .before .before .args in (
-      step-stop (args .m .state) (args .k) (args .m .height)
-          (args .stack .now) (args .stack .now) (sym (c .before .enum-told2 .given .1) ∙
-          (c .before .before .before .act-of .ensures)) (c .dead .ensures),
-      (omega (arith, (c .dead .ensures)), refl),
+    let at-act = c .before .before .before in
+    let s = start at-act in (
+      step-stop (s .args .m .state) (s .args .k) (s .args .m .height) (s .args .stack .now) (s .args .stack .now)
+          (sym (c .before .enum-told2 .given .1) ∙ at-act .act-at .ensures ∙ s .pre .1 .1) (c .dead .ensures),
+      (omega (arith, c .dead .ensures), refl),
     )
 
 pub moved-spec : {M : Type 1} → statement M
 moved-spec =
     tie.close
-    (tie.spec act-of-requires (λ c. search needs) (λ c. search needs) (λ c κs. search needs) (λ c. search needs) below-requires
+    (tie.spec act-at-requires (λ c. search needs) (λ c. search needs) (λ c κs. search needs) (λ c. search needs) below-requires
     (λ c. search needs) (λ c κs. search needs) returns same-length returns-2 same-length-2 returns-3 returns-4)

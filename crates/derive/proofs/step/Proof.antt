@@ -11,8 +11,8 @@ use Rattle.derive.proofs.step.Tie as tie
 moved-requires : tie.Need-moved-requires
 unfolding values next-bytes opened-bytes next-of opened-of act-at act acts on-exp on-item past-item samples sample word-number sign-number on-word on-sign
     on-name on-op less on-less literal-word on-literal type-word on-type-word on-type
-moved-requires c κs = (refl, refl, search needs)
+moved-requires c κs = ((refl, refl, search needs), (c .index .ensures .0, c .index .ensures .1))
 
 pub step-spec : {M : Type 1} → statement M
 step-spec =
-    tie.close (tie.spec (λ c. search needs) (λ c. search needs) moved-requires (λ c. search needs) (λ c. search needs))
+    tie.close (tie.spec (λ c. search needs) (λ c. search needs) (λ c κs. search needs) moved-requires (λ c. search needs) (λ c. search needs))

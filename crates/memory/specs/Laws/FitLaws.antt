@@ -9,9 +9,9 @@ use lib.ListN.{length, getD, getElem?, length-append, length-reverse}
 use Rattle.types.specs.Limits.{nat-end, max-structs, max-depth, first-local, max-locals, variables}
 use Rattle.types.specs.Types.{Ty, Ty.int, Ty.nat, Ty.bool}
 use Rattle.types.specs.Values.{Val, Val.int-val, Val.nat-val, Val.bool-val, Val.label, word}
-use Rattle.program.specs.Tree.{Op, Op.op-eq, Op.op-ne, Op.op-le, Op.op-ge, Op.op-lt, Op.op-gt, Op.op-mul, Op.op-div, Op.op-rem, Op.op-add, Op.op-sub}
-use Rattle.program.specs.Tree.{Op.op-and, Op.op-or, Program}
+use Rattle.program.specs.Tree.{Op, Program}
 use Rattle.program.specs.Encoding.{op-code}
+use Rattle.program.specs.Laws.ExprLaws.{op-range}
 use Rattle.commands.specs.Context.{params-of}
 use Rattle.commands.specs.Typing.{Sort, sort, Takes, Takes.any-equal, Takes.order-int, Takes.order-nat, Takes.arith-int, Takes.arith-nat, Takes.logic-bool}
 use Rattle.commands.specs.Noted.{Note, Note.n-push, Note.n-this, Note.n-not, Note.n-rd, Note.n-wr, Note.n-get, Note.n-set, Note.n-cons, Note.n-op, Note.n-if}
@@ -42,22 +42,6 @@ use Rattle.memory.specs.Laws.VarActs.{own-local}
 use Rattle.memory.specs.Laws.Acts.{kind-bounds, word-says}
 
 -- Words of results --------------------------------------------------------------------
-
-op-byte : (o : Op) → op-code o < 256
-unfolding op-code
-op-byte op-eq = omega arith
-op-byte op-ne = omega arith
-op-byte op-le = omega arith
-op-byte op-ge = omega arith
-op-byte op-lt = omega arith
-op-byte op-gt = omega arith
-op-byte op-mul = omega arith
-op-byte op-div = omega arith
-op-byte op-rem = omega arith
-op-byte op-add = omega arith
-op-byte op-sub = omega arith
-op-byte op-and = omega arith
-op-byte op-or = omega arith
 
 truth-word : (b : Bool) → word (bool-val b) ≤ 1
 unfolding word
@@ -147,7 +131,7 @@ module _ {p : Program} {counts : List ℕ} (firm : Firm p) (bound : Bounded p co
       record {
         two = omega arith;
         low = stack-low;
-        byte = op-byte o;
+        byte = omega (arith, op-range o);
         left = shown-below (beneath counts l z) (x .is) sx;
         right = shown-below (top counts l z) (y .is) sy;
         result = λ v e. answer-below k (apply o (x .is) (y .is)) (apply-fits o k rx ry) v (sym q ∙ e);

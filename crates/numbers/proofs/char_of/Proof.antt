@@ -1,5 +1,6 @@
 -- `numbers::char_of` meets its contract: test by test.
-use Rattle.numbers.specs.Scan.{char-of}
+use mathlib.Core.Path.{_≡_}
+use Rattle.numbers.specs.Scan.{char-of, comma-of, digit-of}
 use borrow.Author.Tests.{eq-eqb, ne-eqb, lt-ltb, le-ltb}
 use Rattle.numbers.proofs.char_of.Statement.{statement}
 use Rattle.numbers.proofs.char_of.Tie as tie
@@ -26,79 +27,31 @@ returns-4 c = rw (
   eq-eqb _ 9 (c .if4 .taken),
 )
 
-returns-5 : tie.Need-returns-5
+-- what the byte is behind the first four tests
+late : (c : tie.Else4) → let b = c .before .before .before .before .args .c in char-of b ≡ comma-of b
 unfolding char-of
-returns-5 c =
-    let at-if4 = c .before in
-    rw (
-      char-of,
-      ne-eqb _ 10 (at-if4 .before .before .before .if1 .left),
-      ne-eqb _ 45 (at-if4 .before .before .if2 .left),
-      ne-eqb _ 32 (at-if4 .before .if3 .left),
-      ne-eqb _ 9 (at-if4 .if4 .left),
-      eq-eqb _ 13 (c .if5 .taken),
-    )
+late c =
+    let e = ne-eqb _ 10 (c .before .before .before .if1 .left) in
+    rw (char-of, e, ne-eqb _ 45 (c .before .before .if2 .left), ne-eqb _ 32 (c .before .if3 .left), ne-eqb _ 9 (c .if4 .left))
+
+-- and behind the first six
+later : (c : tie.Else6) → let at-if4 = c .before .before in let b = at-if4 .before .before .before .before .args .c in char-of b ≡ digit-of b
+later c = rw (late (c .before .before), comma-of, ne-eqb _ 13 (c .before .if5 .left), ne-eqb _ 44 (c .if6 .left))
+
+returns-5 : tie.Need-returns-5
+returns-5 c = rw (late (c .before), comma-of, eq-eqb _ 13 (c .if5 .taken))
 
 returns-6 : tie.Need-returns-6
-unfolding char-of
-returns-6 c =
-    let at-if4 = c .before .before in
-    rw (
-      char-of,
-      ne-eqb _ 10 (at-if4 .before .before .before .if1 .left),
-      ne-eqb _ 45 (at-if4 .before .before .if2 .left),
-      ne-eqb _ 32 (at-if4 .before .if3 .left),
-      ne-eqb _ 9 (at-if4 .if4 .left),
-      ne-eqb _ 13 (c .before .if5 .left),
-      eq-eqb _ 44 (c .if6 .taken),
-    )
+returns-6 c = rw (late (c .before .before), comma-of, ne-eqb _ 13 (c .before .if5 .left), eq-eqb _ 44 (c .if6 .taken))
 
 returns-7 : tie.Need-returns-7
-unfolding char-of
-returns-7 c =
-    let at-if4 = c .before .before .before in
-    rw (
-      char-of,
-      ne-eqb _ 10 (at-if4 .before .before .before .if1 .left),
-      ne-eqb _ 45 (at-if4 .before .before .if2 .left),
-      ne-eqb _ 32 (at-if4 .before .if3 .left),
-      ne-eqb _ 9 (at-if4 .if4 .left),
-      ne-eqb _ 13 (c .before .before .if5 .left),
-      ne-eqb _ 44 (c .before .if6 .left),
-      lt-ltb _ 48 (c .if7 .taken),
-    )
+returns-7 c = rw (later (c .before), digit-of, lt-ltb _ 48 (c .if7 .taken))
 
 returns-8 : tie.Need-returns-8
-unfolding char-of
-returns-8 c =
-    let at-if4 = c .before .before .before .before in
-    rw (
-      char-of,
-      ne-eqb _ 10 (at-if4 .before .before .before .if1 .left),
-      ne-eqb _ 45 (at-if4 .before .before .if2 .left),
-      ne-eqb _ 32 (at-if4 .before .if3 .left),
-      ne-eqb _ 9 (at-if4 .if4 .left),
-      ne-eqb _ 13 (c .before .before .before .if5 .left),
-      ne-eqb _ 44 (c .before .before .if6 .left),
-      le-ltb _ 48 (c .before .if7 .left),
-      lt-ltb _ 58 (c .if8 .taken),
-    )
+returns-8 c = rw (later (c .before .before), digit-of, le-ltb _ 48 (c .before .if7 .left), lt-ltb _ 58 (c .if8 .taken))
 
 returns-9 : tie.Need-returns-9
-unfolding char-of
-returns-9 c =
-    let at-if4 = c .before .before .before .before in
-    rw (
-      char-of,
-      ne-eqb _ 10 (at-if4 .before .before .before .if1 .left),
-      ne-eqb _ 45 (at-if4 .before .before .if2 .left),
-      ne-eqb _ 32 (at-if4 .before .if3 .left),
-      ne-eqb _ 9 (at-if4 .if4 .left),
-      ne-eqb _ 13 (c .before .before .before .if5 .left),
-      ne-eqb _ 44 (c .before .before .if6 .left),
-      le-ltb _ 48 (c .before .if7 .left),
-      le-ltb _ 58 (c .if8 .left),
-    )
+returns-9 c = rw (later (c .before .before), digit-of, le-ltb _ 48 (c .before .if7 .left), le-ltb _ 58 (c .if8 .left))
 
 pub char-of-spec : {M : Type 1} → statement M
 char-of-spec = tie.close (tie.spec returns returns-2 returns-3 returns-4 returns-5 returns-6 returns-7 returns-8 returns-9)

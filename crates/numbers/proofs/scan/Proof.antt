@@ -1,10 +1,15 @@
 -- `numbers::scan` meets its contract. The loop's invariant: the bytes left lead to the answer and the words of the whole. The measure is what is left.
 use Prim.Native.Nat.{ℕ, _+_, _-_}
-use mathlib.Core.Path.{_≡_, _∙_, sym, refl}
+use mathlib.Core.Path.{_≡_, _∙_, sym, ap, refl}
 use native.Mathlib.Omega.{arith}
 use borrow.Author.Needs.{needs}
 use lib.ListN.{length}
-use Rattle.numbers.specs.Scan.{go-on}
+use lib.Seq.{sets}
+use Rattle.numbers.specs.Scan.{go-on, scanned, words}
+use Rattle.numbers.specs.declared.State.{State}
+use Rattle.numbers.specs.declared.Turn.{Turn}
+use Rattle.numbers.specs.declared.Turn.the-variants.{Next}
+use Rattle.numbers.specs.declared.Scanned.{Scanned}
 use Rattle.numbers.specs.ScanLaws.{Reached, reached-end, reached-next, reached-stop}
 use Rattle.numbers.proofs.scan.Statement.{statement}
 use Rattle.numbers.proofs.scan.Tie as tie
@@ -32,32 +37,28 @@ loop-again c =
     (in-char .before .byte-at .ensures (in-char .before .before .loop-test .taken)) (in-char .char-of .ensures)
     (sym (told .t .given .1) ∙ at .turned .ensures .0) (at .turned .ensures .1) (at .turned .kept .1 .1 .1 .0)
 
-returns : tie.Need-returns Inv-loop μ-loop
-unfolding go-on
-returns c =
-    let at = at-turned (c .before .before) in let in-char = at .before .before in
-    let e = sym (c .enum-told .given .1) ∙ at .turned .ensures .0 in
+-- a turn that leads to no number
+stop : (at : tie.After-turned Inv-loop μ-loop) {v : Turn} → at .turned .result ≡ v → ((u : State) (m : ℕ) → Next u m ≡ v → ⊥) → {a : Scanned}
+    → ((rest : State → ℕ → Scanned) → a ≡ go-on (at-loop at .loop .i) v rest)
+    → let args = at-loop at .before .before .before .args in let text = args .text .now in let out = args .out .now in
+    (a ≡ scanned (length out) text) × (at .turned .last .1 .1 .1 .0 ≡ sets out 0 (words text))
+stop at e h f =
+    let in-char = at .before .before in let r = sym e ∙ at .turned .ensures .0 in
     reached-stop (at-loop at .loop .inv) (in-char .before .before .loop-test .taken)
     (in-char .before .byte-at .ensures (in-char .before .before .loop-test .taken)) (in-char .char-of .ensures)
-    (λ u m f. let z : _≡_ {A = ℕ} 0 1 = cc in omega arith) (λ rest. rw (← e)) (at .turned .ensures .1)
+    (λ u m g. h u m (g ∙ sym r)) (λ rest. f rest ∙ ap (λ v. go-on (at-loop at .loop .i) v rest) r) (at .turned .ensures .1)
+
+returns : tie.Need-returns Inv-loop μ-loop
+unfolding go-on
+returns c = stop (at-turned (c .before .before)) (c .enum-told .given .1) (λ u m f. let z : _≡_ {A = ℕ} 0 1 = cc in omega arith) (λ rest. refl)
 
 returns-2 : tie.Need-returns-2 Inv-loop μ-loop
 unfolding go-on
-returns-2 c =
-    let at = at-turned (c .before .before) in let in-char = at .before .before in
-    let e = sym (c .enum-told2 .given .1) ∙ at .turned .ensures .0 in
-    reached-stop (at-loop at .loop .inv) (in-char .before .before .loop-test .taken)
-    (in-char .before .byte-at .ensures (in-char .before .before .loop-test .taken)) (in-char .char-of .ensures)
-    (λ u m f. let z : _≡_ {A = ℕ} 0 1 = cc in omega arith) (λ rest. rw (← e)) (at .turned .ensures .1)
+returns-2 c = stop (at-turned (c .before .before)) (c .enum-told2 .given .1) (λ u m f. let z : _≡_ {A = ℕ} 0 1 = cc in omega arith) (λ rest. refl)
 
 returns-3 : tie.Need-returns-3 Inv-loop μ-loop
 unfolding go-on
-returns-3 c =
-    let at = at-turned (c .before .before) in let in-char = at .before .before in
-    let e = sym (c .enum-told3 .given .1) ∙ at .turned .ensures .0 in
-    reached-stop (at-loop at .loop .inv) (in-char .before .before .loop-test .taken)
-    (in-char .before .byte-at .ensures (in-char .before .before .loop-test .taken)) (in-char .char-of .ensures)
-    (λ u m f. let z : _≡_ {A = ℕ} 0 1 = cc in omega arith) (λ rest. rw (← e)) (at .turned .ensures .1)
+returns-3 c = stop (at-turned (c .before .before)) (c .enum-told3 .given .1) (λ u m f. let z : _≡_ {A = ℕ} 0 1 = cc in omega arith) (λ rest. refl)
 
 returns-4 : tie.Need-returns-4 Inv-loop μ-loop
 returns-4 c = reached-end (c .before .loop .inv) (c .loop-test .left)

@@ -53,10 +53,31 @@ form-code op-sub = refl
 form-code op-and = refl
 form-code op-or = refl
 
+-- the bytes of operators
+pub op-range : (o : Op) → (32 ≤ op-code o) × (op-code o ≤ 44)
+unfolding op-code
+op-range o =
+    elim o as (λ x. (32 ≤ op-code x) × (op-code x ≤ 44)) [
+      | op-eq ↦ omega arith
+      | op-ne ↦ omega arith
+      | op-le ↦ omega arith
+      | op-ge ↦ omega arith
+      | op-lt ↦ omega arith
+      | op-gt ↦ omega arith
+      | op-mul ↦ omega arith
+      | op-div ↦ omega arith
+      | op-rem ↦ omega arith
+      | op-add ↦ omega arith
+      | op-sub ↦ omega arith
+      | op-and ↦ omega arith
+      | op-or ↦ omega arith
+    ]
+
 -- an expression has a level
 pub height-pos : (e : Expr) → 1 ≤ expr-height e
 unfolding expr-height
 height-pos (inv e) = omega arith
+height-pos (op o a b) = omega arith
 height-pos (make k es) = omega arith
 height-pos (path v vs) = omega arith
 height-pos (int-lit w) = omega arith
@@ -64,7 +85,6 @@ height-pos (nat-lit w) = omega arith
 height-pos (bool-lit w) = omega arith
 height-pos (null t) = omega arith
 height-pos self = omega arith
-height-pos (op o a b) = omega arith
 
 module _ (ar : List ℕ) where
   -- within the counts, of at most d levels; a row of i such expressions

@@ -83,20 +83,7 @@ returns-2 c =
 pub lists-spec : {M : Type 1} → statement M
 lists-spec =
     tie.close
-    (tie.spec
-    Inv-loop
-    μ-loop
-    loop-holds
-    list-requires
-    (λ c. search needs)
-    (λ c. search needs)
+    (tie.spec Inv-loop μ-loop loop-holds list-requires (λ c. search needs) (λ c. search needs)
     (λ c. stopped c .list .kept .1 .0 ∙ inside (stopped c) .before .loop .inv .3)
-    (λ c. stopped c .list .kept .1 .1 .0 ∙ inside (stopped c) .before .loop .inv .4)
-    returns
-    (λ c. omega (arith, inside (read c) .loop-test .taken))
-    add-j
-    (λ c. omega (arith, inside (read c) .loop-test .taken))
-    loop-again
-    (λ c. c .before .loop .inv .3)
-    (λ c. c .before .loop .inv .4)
-    returns-2)
+    (λ c. stopped c .list .kept .1 .1 .0 ∙ inside (stopped c) .before .loop .inv .4) returns (λ c. omega (arith, inside (read c) .loop-test .taken)) add-j
+    (λ c. omega (arith, inside (read c) .loop-test .taken)) loop-again (λ c. c .before .loop .inv .3) (λ c. c .before .loop .inv .4) returns-2)

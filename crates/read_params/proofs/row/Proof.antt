@@ -82,22 +82,7 @@ returns-2 c =
 pub row-spec : {M : Type 1} → statement M
 row-spec =
     tie.close
-    (tie.spec
-    Inv-loop
-    μ-loop
-    loop-holds
-    (λ c κs. search needs)
-    (λ c. search needs)
-    (λ c. search needs)
-    (λ c κs. search needs)
-    (λ c. let within = c .before .before .before .before in within .before .loop .inv .4)
-    returns
-    (λ c. omega (arith, known (inside c)))
-    (λ c. omega (arith, inside c .loop-test .taken))
-    (λ c. omega (arith, inside c .loop-test .taken, inside c .before .loop .inv .0))
-    (λ c. omega (arith, known (inside c)))
-    (λ c. omega (arith, inside c .loop-test .taken))
-    loop-again
-    clear-requires
-    same-length-2
-    returns-2)
+    (tie.spec Inv-loop μ-loop loop-holds (λ c κs. search needs) (λ c. search needs) (λ c. search needs) (λ c κs. search needs)
+    (λ c. let within = c .before .before .before .before in within .before .loop .inv .4) returns (λ c. omega (arith, known (inside c)))
+    (λ c. omega (arith, inside c .loop-test .taken)) (λ c. omega (arith, inside c .loop-test .taken, inside c .before .loop .inv .0))
+    (λ c. omega (arith, known (inside c))) (λ c. omega (arith, inside c .loop-test .taken)) loop-again clear-requires same-length-2 returns-2)

@@ -12,19 +12,19 @@ use Rattle.read_schedule.specs.PlanTold.{plan-of, plan-read, told}
 use Rattle.read_schedule.specs.PlanWays.{fix-around, row, row-ends, row-refused, row-goes, items-stop, items-row, item-out, item-call, item-call-in}
 use Rattle.read_schedule.specs.PlanWays.{item-none, item-deep, item-fix, span-less, span-fixed, span-joined, room}
 use borrow.Fn.Kinds.{In}
-use borrow.Fn.PlainCycle.{Measures, is, falls, and}
+use borrow.Fn.PlainCycle.{Measures}
 use Rattle.read_schedule.proofs.item.Reads as item
 use Rattle.read_schedule.proofs.item.Kinds as item-kinds
 use Rattle.read_schedule.proofs.+item+items.Lts-item as item-lts
 use Rattle.read_schedule.proofs.items.Reads as items
 use Rattle.read_schedule.proofs.items.Kinds as items-kinds
 use Rattle.read_schedule.proofs.+item+items.Lts-items as items-lts
-use Rattle.read_exprs.proofs.read.byte_refusal.Reads as byte-refusal-reads
-use Rattle.read_exprs.proofs.read.ranged.Reads as ranged-reads
-use Rattle.read_schedule.proofs.around.Reads as around-reads
-use Rattle.read_schedule.proofs.call.Reads as call-reads
-use Rattle.read_schedule.proofs.call_in.Reads as call-in-reads
-use Rattle.read_schedule.proofs.joined.Reads as joined-reads
+use Rattle.read_exprs.proofs.read.byte_refusal.Reads as byte-refusal
+use Rattle.read_exprs.proofs.read.ranged.Reads as ranged
+use Rattle.read_schedule.proofs.around.Reads as around
+use Rattle.read_schedule.proofs.call.Reads as call
+use Rattle.read_schedule.proofs.call_in.Reads as call-in
+use Rattle.read_schedule.proofs.joined.Reads as joined
 use Rattle.read_schedule.proofs.+item+items.{statement}
 use Rattle.read_schedule.proofs.+item+items.Tie.{close}
 
@@ -35,41 +35,19 @@ abbrev μ-items : Measures 2 items-kinds.ps ℕ
 μ-items κs a = length (a .0 .now) - a .1 .1 .1 .0
 
 abbrev item-at : ℕ → In 2 item-kinds.ps
-item-at t = and 2 item-kinds.ps (is 2 item-kinds.ps μ-item t) item.Pre
-
-abbrev item-below : ℕ → In 2 item-kinds.ps
-item-below t = and 2 item-kinds.ps (falls 2 item-kinds.ps _<_ μ-item t) item.Pre
+item-at t κs a = (μ-item κs a ≡ t) × item.Pre κs a
 
 abbrev items-at : ℕ → In 2 items-kinds.ps
-items-at t = and 2 items-kinds.ps (is 2 items-kinds.ps μ-items t) items.Pre
-
-abbrev items-below : ℕ → In 2 items-kinds.ps
-items-below t = and 2 items-kinds.ps (falls 2 items-kinds.ps _<_ μ-items t) items.Pre
+items-at t κs a = (μ-items κs a ≡ t) × items.Pre κs a
 
 -- what the functions that each calls ask and give
 abbrev item-claims : ℕ → item-lts.Claims
-item-claims t = (
-  call-reads.Asked,
-  call-reads.Learnt,
-  call-in-reads.Asked,
-  call-in-reads.Learnt,
-  items-below t,
-  items.Post,
-  around-reads.Asked,
-  around-reads.Learnt,
-)
+item-claims t =
+    (call.Asked, call.Learnt, call-in.Asked, call-in.Learnt, λ κs a. (μ-items κs a < t) × items.Pre κs a, items.Post, around.Asked, around.Learnt)
 
 abbrev items-claims : ℕ → items-lts.Claims
-items-claims t = (
-  ranged-reads.Asked,
-  ranged-reads.Learnt,
-  byte-refusal-reads.Asked,
-  byte-refusal-reads.Learnt,
-  item-below t,
-  item.Post,
-  joined-reads.Asked,
-  joined-reads.Learnt,
-)
+items-claims t =
+    (ranged.Asked, ranged.Learnt, byte-refusal.Asked, byte-refusal.Learnt, λ κs a. (μ-item κs a < t) × item.Pre κs a, item.Post, joined.Asked, joined.Learnt)
 
 -- the places of `item` that proofs look back to
 abbrev item-at-if1 : (t : ℕ) → item-lts.Else3 (item-claims t) (item-at t) item.Post → item-lts.Else1 (item-claims t) (item-at t) item.Post

@@ -25,23 +25,23 @@ at-else-2 c = c .before .before .before
 returns : tie.Need-returns
 returns c =
     let at-then = c .before in let m = at-mark (at-then .before) in let s = entry m in let args = s .args in let r = m .mark in
-    way-15 (args .text .now) (args .kinds .now) _ (s .pre .0) (r .result) (r .ensures .0) (r .ensures .1) (args .out .now) (at-then .if1 .taken) _
+    way-15 (args .text .now) (args .kinds .now) _ (s .pre .0 .0) (r .result) (r .ensures .0) (r .ensures .1) (args .out .now) (at-then .if1 .taken) _
     (c .refused .ensures)
 
 returns-2 : tie.Need-returns-2
 returns-2 c =
     let at-then = c .before in let k = at-then .before in let d = at-derived k .derived in let e = at-else k in let m = at-mark (e .before) in
     let s = entry m in let args = s .args in let r = m .mark in
-    way-16 (args .text .now) (args .kinds .now) _ (s .pre .0) (r .result) (r .ensures .0) (r .ensures .1) (args .out .now) (e .if1 .left) _ (d .result)
+    way-16 (args .text .now) (args .kinds .now) _ (s .pre .0 .0) (r .result) (r .ensures .0) (r .ensures .1) (args .out .now) (e .if1 .left) _ (d .result)
     (d .ensures .0) (d .ensures .1) (at-then .if2 .taken) _ (c .refused2 .ensures)
 
 meant-requires : tie.Need-meant-requires
 meant-requires c κs =
     let at-e = at-else-2 c in let k = at-e .before in let d = at-derived k .derived in let e = at-else k in let m = at-mark (e .before) in
     let s = entry m in let args = s .args in let r = m .mark in (
-      (d .kept .0 ∙ r .kept .1 .0 ∙ s .pre .0, s .pre .1, omega (arith, s .pre .0, s .pre .2, r .kept .1 .0, d .kept .0, d .kept .1 .0)),
-      roled-there (args .text .now) (args .kinds .now) _ (s .pre .0) (r .result) (r .ensures .0) (r .ensures .1) (args .out .now) (e .if1 .left) _ (d .result)
-          (d .ensures .0) (d .ensures .1) (at-e .if2 .left),
+      (d .kept .0 ∙ r .kept .1 .0 ∙ s .pre .0 .0, s .pre .0 .1, omega (arith, s .pre .0 .0, s .pre .0 .2, r .kept .1 .0, d .kept .0, d .kept .1 .0)),
+      roled-there (args .text .now) (args .kinds .now) _ (s .pre .0 .0) (r .result) (r .ensures .0) (r .ensures .1) (args .out .now) (e .if1 .left) _
+          (d .result) (d .ensures .0) (d .ensures .1) (at-e .if2 .left),
     )
 
 returns-3 : tie.Need-returns-3
@@ -49,7 +49,7 @@ returns-3 c =
     let at-meant = c .before .before .before .before in
     let at-e = at-else-2 (at-meant .before) in let k = at-e .before in let d = at-derived k .derived in let e = at-else k in let m = at-mark (e .before) in
     let s = entry m in let args = s .args in let r = m .mark in
-    way-on (args .text .now) (args .kinds .now) _ (s .pre .0) (r .result) (r .ensures .0) (r .ensures .1) (args .out .now) (e .if1 .left) _ (d .result)
+    way-on (args .text .now) (args .kinds .now) _ (s .pre .0 .0) (r .result) (r .ensures .0) (r .ensures .1) (args .out .now) (e .if1 .left) _ (d .result)
     (d .ensures .0) (d .ensures .1) (at-e .if2 .left) _ _ (at-meant .meant .ensures)
 
 pub passes-spec : {M : Type 1} → statement M

@@ -1,7 +1,9 @@
 -- `read` meets its contract: a text that is too long is refused, any other goes through the passes.
 use native.Mathlib.Omega.{arith}
 use mathlib.Core.Path.{sym}
+use lib.ListN.{length}
 use lib.Seq.{length-take-le}
+use Rattle.lexer.specs.GapLaws.{gap-fresh}
 use Rattle.read_text.specs.PassLaws.{read-long, read-on}
 use borrow.Author.Needs.{needs}
 use Rattle.read_text.proofs.read.Statement.{statement}
@@ -17,7 +19,10 @@ slice-aggregate-passes c = sym (length-take-le _ _ (c .before .if1 .left))
 
 passes-requires : tie.Need-passes-requires
 passes-requires c κs =
-    let at-else = c .before .before .before in (length-take-le _ _ (at-else .if1 .left), at-else .if1 .left, omega (arith, at-else .if1 .left))
+    let at-else = c .before .before .before in let args = at-else .before .before .before .args in (
+      (length-take-le _ _ (at-else .if1 .left), at-else .if1 .left, omega (arith, at-else .if1 .left)),
+      gap-fresh (length (args .text .now)) 65536,
+    )
 
 returns-2 : tie.Need-returns-2
 returns-2 c =

@@ -13,11 +13,7 @@ use Rattle.types.specs.Values.{Val.int-val, Val.bool-val, Val.label}
 use Rattle.program.specs.Tree.{Var.par, Expr.path, Expr.int-lit, Expr.bool-lit, Expr.self, Exprs.none, Exprs.more, Stmt.when, Stmt.update, Stmt.create, Stmts}
 use Rattle.program.specs.Tree.{Stmts.end, Stmts.next, Item.call, Item.fix, Items.stop, Items.item, Program, args, size, items}
 use Rattle.program.specs.Encoding.{enc-path, enc-expr, enc-exprs, enc-stmt, enc-stmts, enc-item, enc-items, enc-step, enc-program}
-use Rattle.program.specs.Reader.{Result.ok, read}
-use Rattle.program.specs.Laws.ProgramLaws.{program-law}
 use Rattle.commands.specs.Noted.{Note, Note.n-push, Note.n-this, Note.n-wr, Note.n-cons, Note.n-if}
-use Rattle.commands.specs.Numbers.{no-breach, breach-number}
-use Rattle.commands.specs.Laws.NumbersLaws.{number-accepted}
 use Rattle.table.specs.Table.{Record, struct-at, HeldTable, References, TableRight}
 use Rattle.machine.specs.Published.{fresh-env, StepCall.global, Sched.done, Sched.start, Sched.active}
 use Rattle.machine.specs.Machine.{tagged, Instance, Machine, Moved.next, move}
@@ -31,7 +27,7 @@ use Rattle.commands.specs.Accepted.{Accepted}
 use Rattle.sound.specs.NeverStuck.{Demand3}
 use Rattle.sound.specs.Laws.NeverStuckLaws.{demand3}
 use Rattle.sound.specs.After.{onward, act-on, after, after-visited}
-use Rattle.sound.specs.Exhibits.ExhibitTurns.{code-at, stack-at, value-at, Turn, at-act, turn-at}
+use Rattle.sound.specs.Exhibits.ExhibitTurns.{by-stream, code-at, stack-at, value-at, Turn, at-act, turn-at}
 
 -- The run --------------------------------------------------------------------------
 
@@ -67,11 +63,7 @@ start-machine = begin settling table
 -- its stream is read to it, so its counts are right; no number of its limits, names and types comes out
 pub settling-accepted : Accepted settling
 unfolding running args size items enc-path enc-expr enc-exprs enc-stmt enc-stmts enc-item enc-items enc-step enc-program
-settling-accepted =
-    let n : breach-number settling ≡ no-breach = refl in
-    let r : read (enc-program settling) ≡ ok settling (length (enc-program settling)) = refl in
-    let a = number-accepted settling .0 n in
-    (program-law (enc-program settling) settling (length (enc-program settling)) .0 r .0, a .0, a .1, a .2)
+settling-accepted = by-stream settling refl refl
 
 -- the table is right for it
 pub table-right : TableRight (settling .params) table

@@ -17,8 +17,7 @@ use Rattle.program.specs.Encoding.{enc-path, enc-expr, enc-exprs, enc-stmt, enc
 use Rattle.program.specs.Reader.{Result.ok, read}
 use Rattle.program.specs.Laws.ProgramLaws.{program-law}
 use Rattle.commands.specs.Noted.{Note.n-this, Note.n-not, Note.n-rd, Note.n-wr, Note.n-get, Note.n-op}
-use Rattle.commands.specs.Numbers.{no-breach, wrong-names, wrong-types, breach-number}
-use Rattle.commands.specs.Laws.NumbersLaws.{number-accepted}
+use Rattle.commands.specs.Numbers.{wrong-names, wrong-types}
 use Rattle.commands.specs.Exhibits.{program, negated, refused-8}
 use Rattle.table.specs.Table.{Record, struct-at, HeldTable, References, TableRight}
 use Rattle.machine.specs.Published.{Env.env, fresh-env}
@@ -32,6 +31,7 @@ use Rattle.commands.specs.Accepted.{Accepted}
 use Rattle.sound.specs.NeverStuck.{Demand3}
 use Rattle.sound.specs.After.{onward, act-on, after, after-visited}
 use Rattle.sound.specs.Exhibits.{Lacks, lacks-refutes, no-record, Fails, negating, not-of-int}
+use Rattle.sound.specs.Exhibits.ExhibitTurns.{by-stream}
 
 -- a run comes to a number after so many turns
 abbrev pub Stops : Program → List Record → List ℕ → ℕ → ℕ → Type 0
@@ -157,6 +157,16 @@ pub loose-stops : Stops chain loose eight out-of-turns 8
 unfolding running onward act-on after
 loose-stops = (after chain 9 (begin chain loose) eight, refl)
 
+-- the record, where it follows the label
+abbrev following : Instance
+following = record {
+  struct = 0;
+  code = n-rd 0 0 ∷ n-op op-add ∷ n-this ∷ n-wr 0 0 ∷ [];
+  stack = tagged (ref 0) (label 9) ∷ tagged int (int-val (pos 5)) ∷ [];
+  env = fresh-env (int-val (pos 5) ∷ label 9 ∷ []);
+  written = [];
+}
+
 -- label 9 is a reference to struct 0 by what put it there, and names no instance
 pub loose-lacks : Lacks chain loose eight
 unfolding running onward act-on after
@@ -165,13 +175,7 @@ loose-lacks = record {
   left = after-visited chain 9 (begin chain loose) eight .0;
   visited = after-visited chain 9 (begin chain loose) eight .1;
   holder = 1;
-  instance = record {
-    struct = 0;
-    code = n-rd 0 0 ∷ n-op op-add ∷ n-this ∷ n-wr 0 0 ∷ [];
-    stack = tagged (ref 0) (label 9) ∷ tagged int (int-val (pos 5)) ∷ [];
-    env = fresh-env (int-val (pos 5) ∷ label 9 ∷ []);
-    written = [];
-  };
+  instance = following;
   there = refl;
   command = n-rd 0 0;
   rest = n-op op-add ∷ n-this ∷ n-wr 0 0 ∷ [];
@@ -198,11 +202,7 @@ loose-lacks = record {
 -- the program is accepted
 pub chain-accepted : Accepted chain
 unfolding running args size items enc-path enc-expr enc-exprs enc-stmt enc-stmts enc-item enc-items enc-step enc-program
-chain-accepted =
-    let n : breach-number chain ≡ no-breach = refl in
-    let r : read (enc-program chain) ≡ ok chain (length (enc-program chain)) = refl in
-    let a = number-accepted chain .0 n in
-    (program-law (enc-program chain) chain (length (enc-program chain)) .0 r .0, a .0, a .1, a .2)
+chain-accepted = by-stream chain refl refl
 
 -- and the table is not right for it; the run comes to 33, and demand 3 fails of it
 pub fails-table : Accepted chain × (TableRight (chain .params) loose → ⊥) × (Demand3 chain loose eight → ⊥)

@@ -14,11 +14,7 @@ use Rattle.types.specs.Values.{Val, Val.int-val, Val.bool-val, Val.label}
 use Rattle.program.specs.Tree.{Var.par, Var.loc, Op.op-lt, Op.op-add, Expr.path, Expr.int-lit, Expr.op, Stmt.when, Stmt.declare, Stmt.update, Stmts}
 use Rattle.program.specs.Tree.{Stmts.end, Stmts.next, Item.call, Items.stop, Items.item, Program, args, size, items}
 use Rattle.program.specs.Encoding.{enc-path, enc-expr, enc-exprs, enc-stmt, enc-stmts, enc-item, enc-items, enc-step, enc-program}
-use Rattle.program.specs.Reader.{Result.ok, read}
-use Rattle.program.specs.Laws.ProgramLaws.{program-law}
 use Rattle.commands.specs.Noted.{Note, Note.n-push, Note.n-this, Note.n-rd, Note.n-wr, Note.n-get, Note.n-set, Note.n-op, Note.n-if}
-use Rattle.commands.specs.Numbers.{no-breach, breach-number}
-use Rattle.commands.specs.Laws.NumbersLaws.{number-accepted}
 use Rattle.table.specs.Table.{Record, struct-at, HeldTable, References, TableRight}
 use Rattle.machine.specs.Published.{Env.env}
 use Rattle.machine.specs.Machine.{Tagged, tagged, Instance, Machine}
@@ -31,7 +27,7 @@ use Rattle.commands.specs.Accepted.{Accepted}
 use Rattle.sound.specs.NeverStuck.{Demand3}
 use Rattle.sound.specs.Laws.NeverStuckLaws.{demand3}
 use Rattle.sound.specs.After.{onward, act-on, after, after-visited}
-use Rattle.sound.specs.Exhibits.ExhibitTurns.{code-at, stack-at, value-at, Turn, at-act, turn-at}
+use Rattle.sound.specs.Exhibits.ExhibitTurns.{by-stream, code-at, stack-at, value-at, Turn, at-act, turn-at}
 
 -- The run --------------------------------------------------------------------------
 
@@ -50,6 +46,11 @@ adding = record {
   schedule = item (call 0) stop;
 }
 
+-- it is accepted
+pub adding-accepted : Accepted adding
+unfolding running args size items enc-path enc-expr enc-exprs enc-stmt enc-stmts enc-item enc-items enc-step enc-program
+adding-accepted = by-stream adding refl refl
+
 -- label 2 is of struct 1 and holds 4; label 3 is of struct 0, holds 3 and refers to it
 abbrev pub table : List Record
 table = record { struct = 1; values = int-val (pos 4) ∷ [] } ∷ record { struct = 0; values = int-val (pos 3) ∷ label 2 ∷ [] } ∷ []
@@ -61,16 +62,7 @@ turns = replicate 46 1
 abbrev pub start-machine : Machine
 start-machine = begin adding table
 
--- It is accepted -------------------------------------------------------------------
-
-pub adding-accepted : Accepted adding
-unfolding running args size items enc-path enc-expr enc-exprs enc-stmt enc-stmts enc-item enc-items enc-step enc-program
-adding-accepted =
-    let n : breach-number adding ≡ no-breach = refl in
-    let r : read (enc-program adding) ≡ ok adding (length (enc-program adding)) = refl in
-    let a = number-accepted adding .0 n in
-    (program-law (enc-program adding) adding (length (enc-program adding)) .0 r .0, a .0, a .1, a .2)
-
+-- the table is right for it
 pub table-right : TableRight (adding .params) table
 unfolding HeldTable References struct-at TableRight
 table-right = (

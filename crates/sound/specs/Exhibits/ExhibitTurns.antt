@@ -1,17 +1,27 @@
--- Turns as the exhibits show them (01, 'The words of demand 3'): a machine that a run passes through, where an instance holds a
--- command, and the one that this command leads to.
+-- What the exhibits share (01, 'The words of demand 3'). Their programs are accepted, by what they are read to. Turns as they show them: a machine
+-- that a run passes through, where an instance holds a command, and the one that this command leads to.
 use Prim.Native.Nat.{ℕ, suc}
 use mathlib.Core.Path.{_≡_}
 use mathlib.Core.Option.{Option, some}
 use mathlib.Core.List.{List, _∷_, map}
-use lib.ListN.{getElem?}
+use lib.ListN.{length, getElem?}
 use Rattle.types.specs.Values.{Val}
 use Rattle.program.specs.Tree.{Program}
+use Rattle.program.specs.Encoding.{enc-program}
+use Rattle.program.specs.Reader.{Result.ok, read}
+use Rattle.program.specs.Laws.ProgramLaws.{program-law}
 use Rattle.commands.specs.Noted.{Note}
+use Rattle.commands.specs.Accepted.{Accepted}
+use Rattle.commands.specs.Numbers.{no-breach, breach-number}
+use Rattle.commands.specs.Laws.NumbersLaws.{number-accepted}
 use Rattle.machine.specs.Published.{lookup}
 use Rattle.machine.specs.Machine.{Tagged, Instance, Machine, Out.next, command}
 use Rattle.run.specs.Visits.{Visits}
 use Rattle.sound.specs.After.{after, after-visited}
+
+-- a program that its stream is read to has the right counts; of its limits, names and types no number comes out
+pub by-stream : (p : Program) → breach-number p ≡ no-breach → read (enc-program p) ≡ ok p (length (enc-program p)) → Accepted p
+by-stream p n r = let a = number-accepted p .0 n in (program-law (enc-program p) p (length (enc-program p)) .0 r .0, a .0, a .1, a .2)
 
 -- what stands at an instance of a machine
 abbrev pub code-at : Machine → ℕ → Option (List Note)

@@ -1,7 +1,9 @@
 -- `place` meets its contract: a text that is too long stops behind its 65,536 bytes, any other is looked through.
 use native.Mathlib.Omega.{arith}
 use mathlib.Core.Path.{sym}
+use lib.ListN.{length}
 use lib.Seq.{length-take-le}
+use Rattle.lexer.specs.GapLaws.{gap-fresh}
 use Rattle.text_place.specs.PlaceLaws.{long-place}
 use borrow.Author.Needs.{needs}
 use Rattle.text_place.proofs.place.Statement.{statement}
@@ -15,7 +17,8 @@ slice-aggregate-stopped c = sym (length-take-le _ _ (c .before .if1 .left))
 
 stopped-requires : tie.Need-stopped-requires
 stopped-requires c κs =
-    let less = c .before .before .if1 .left in let same = length-take-le _ _ less in (same, less, omega (arith, same, less))
+    let at-else = c .before .before in let less = at-else .if1 .left in let same = length-take-le _ _ less in
+    ((same, less, omega (arith, same, less)), gap-fresh (length (at-else .before .before .args .text .now)) 65536)
 
 pub place-spec : {M : Type 1} → statement M
 place-spec =

@@ -25,14 +25,14 @@ at-else c = c .before .before .before
 returns : tie.Need-returns
 returns c =
     let at-then = c .before in let m = at-mark (at-then .before) in let s = entry m in let args = s .args in let r = m .mark in
-    stray-place (args .text .now) (args .kinds .now) _ (s .pre .1) (s .pre .0) (r .result) (r .ensures .0) (r .ensures .1) (at-then .if1 .taken)
+    stray-place (args .text .now) (args .kinds .now) _ (s .pre .0 .1) (s .pre .0 .0) (r .result) (r .ensures .0) (r .ensures .1) (at-then .if1 .taken)
     (c .unmarked .result) (c .unmarked .ensures)
 
 returns-2 : tie.Need-returns-2
 returns-2 c =
     let at-d = at-derived (c .before) in let d = at-d .derived in let at-s = at-stuck at-d in let e = at-else at-s in let m = at-mark (e .before) in
     let s = entry m in let args = s .args in let r = m .mark in
-    stuck-place (args .text .now) (args .kinds .now) _ (s .pre .1) (s .pre .0) (r .result) (r .ensures .0) (r .ensures .1) (e .if1 .left) _ (d .result)
+    stuck-place (args .text .now) (args .kinds .now) _ (s .pre .0 .1) (s .pre .0 .0) (r .result) (r .ensures .0) (r .ensures .1) (e .if1 .left) _ (d .result)
     (d .ensures .0) (d .ensures .1) (c .if2 .taken) (at-s .stuck .result) (at-s .stuck .ensures)
 
 unnamed-requires : tie.Need-unnamed-requires
@@ -40,20 +40,20 @@ unnamed-requires c κs =
     let at-e = c .before .before in let at-d = at-derived (at-e .before) in let d = at-d .derived in let at-s = at-stuck at-d in
     let e = at-else at-s in let m = at-mark (e .before) in let s = entry m in let args = s .args in let r = m .mark in (
       (
-        d .kept .0 ∙ r .kept .1 .0 ∙ s .pre .0,
-        s .pre .1,
-        omega (arith, s .pre .2, r .kept .1 .0, at-s .stuck .kept .1 .0, d .kept .0, d .kept .1 .0),
+        d .kept .0 ∙ r .kept .1 .0 ∙ s .pre .0 .0,
+        s .pre .0 .1,
+        omega (arith, s .pre .0 .2, r .kept .1 .0, at-s .stuck .kept .1 .0, d .kept .0, d .kept .1 .0),
       ),
-      fronted-there (args .text .now) (args .kinds .now) _ (s .pre .1) (s .pre .0) (r .result) (r .ensures .0) (r .ensures .1) (e .if1 .left) _ (d .result)
-          (d .ensures .0) (d .ensures .1) (at-e .if2 .left),
+      fronted-there (args .text .now) (args .kinds .now) _ (s .pre .0 .1) (s .pre .0 .0) (r .result) (r .ensures .0) (r .ensures .1) (e .if1 .left) _
+          (d .result) (d .ensures .0) (d .ensures .1) (at-e .if2 .left),
     )
 
 returns-3 : tie.Need-returns-3
 returns-3 c =
     let at-u = c .before .before in let at-e = at-u .before .before .before in let at-d = at-derived (at-e .before) in let d = at-d .derived in
     let e = at-else (at-stuck at-d) in let m = at-mark (e .before) in let s = entry m in let args = s .args in let r = m .mark in
-    names-place (args .text .now) (args .kinds .now) _ (s .pre .1) (s .pre .0) (r .result) (r .ensures .0) (r .ensures .1) (e .if1 .left) _ (d .result)
-    (d .ensures .0) (d .ensures .1) (at-e .if2 .left) (d .kept .0 ∙ r .kept .1 .0 ∙ s .pre .0) (at-u .unnamed .result) (at-u .unnamed .ensures)
+    names-place (args .text .now) (args .kinds .now) _ (s .pre .0 .1) (s .pre .0 .0) (r .result) (r .ensures .0) (r .ensures .1) (e .if1 .left) _ (d .result)
+    (d .ensures .0) (d .ensures .1) (at-e .if2 .left) (d .kept .0 ∙ r .kept .1 .0 ∙ s .pre .0 .0) (at-u .unnamed .result) (at-u .unnamed .ensures)
 
 pub stopped-spec : {M : Type 1} → statement M
 stopped-spec =

@@ -3,21 +3,21 @@
 use lib.ListN.{length}
 use Prim.Native.Nat.{ℕ, _<_, _+_, _*_}
 use borrow.Fn.Kinds.{In}
-use borrow.Fn.PlainCycle.{Measures, is, falls, and}
+use borrow.Fn.PlainCycle.{Measures}
 use Rattle.compile.proofs.items.item.Reads as item
 use Rattle.compile.proofs.items.item.Kinds as item-kinds
 use Rattle.compile.proofs.items.+item+items.Lts-item as item-lts
 use Rattle.compile.proofs.items.items.Reads as items
 use Rattle.compile.proofs.items.items.Kinds as items-kinds
 use Rattle.compile.proofs.items.+item+items.Lts-items as items-lts
-use Rattle.little_endian.proofs.index.Reads as index-reads
-use Rattle.compile.proofs.items.add.Reads as add-reads
-use Rattle.compile.proofs.store.Reads as store-reads
+use Rattle.little_endian.proofs.index.Reads as index
+use Rattle.compile.proofs.items.add.Reads as add
+use Rattle.compile.proofs.store.Reads as store
 use Rattle.compile.proofs.items.+item+items.{statement}
 use Rattle.compile.proofs.items.+item+items.Tie.{close}
 use native.Mathlib.Omega.{arith}
 use borrow.Author.Needs.{needs}
-use mathlib.Core.Path.{_∙_}
+use mathlib.Core.Path.{_≡_, _∙_}
 use Rattle.emit.specs.PartsLaws.{part-ready, part-same}
 use Rattle.compile.specs.Codes.{row-at, Left}
 use Rattle.compile.specs.WalkLaws.{one-room, one-wrote, item-in, call-one, call-in-one, fix-facts, fix-room, fix-ready, fix-end, fix-wrote}
@@ -30,23 +30,18 @@ abbrev μ-items : Measures 2 items-kinds.ps ℕ
 μ-items κs a = 2 * a .1 .1 .0 + 1
 
 abbrev item-at : ℕ → In 2 item-kinds.ps
-item-at t = and 2 item-kinds.ps (is 2 item-kinds.ps μ-item t) item.Pre
-
-abbrev item-below : ℕ → In 2 item-kinds.ps
-item-below t = and 2 item-kinds.ps (falls 2 item-kinds.ps _<_ μ-item t) item.Pre
+item-at t κs a = (μ-item κs a ≡ t) × item.Pre κs a
 
 abbrev items-at : ℕ → In 2 items-kinds.ps
-items-at t = and 2 items-kinds.ps (is 2 items-kinds.ps μ-items t) items.Pre
-
-abbrev items-below : ℕ → In 2 items-kinds.ps
-items-below t = and 2 items-kinds.ps (falls 2 items-kinds.ps _<_ μ-items t) items.Pre
+items-at t κs a = (μ-items κs a ≡ t) × items.Pre κs a
 
 -- what the functions that each calls ask and give
 abbrev item-claims : ℕ → item-lts.Claims
-item-claims t = (index-reads.Asked, index-reads.Learnt, add-reads.Asked, add-reads.Learnt, store-reads.Asked, store-reads.Learnt, items-below t, items.Post)
+item-claims t =
+    (index.Asked, index.Learnt, add.Asked, add.Learnt, store.Asked, store.Learnt, λ κs a. (μ-items κs a < t) × items.Pre κs a, items.Post)
 
 abbrev items-claims : ℕ → items-lts.Claims
-items-claims t = (item-below t, item.Post)
+items-claims t = (λ κs a. (μ-item κs a < t) × item.Pre κs a, item.Post)
 
 -- the places of `item` that proofs look back to
 abbrev item-start : (t : ℕ) → item-lts.Else1 (item-claims t) (item-at t) item.Post → item-lts.Start (item-claims t) (item-at t) item.Post

@@ -1,13 +1,14 @@
 -- `pouring::first` meets its contract: one law for each mark.
 use Prim.Native.Nat.{_-_}
-use mathlib.Core.Path.{ap, _∙_}
+use native.Mathlib.Omega.{arith}
+use mathlib.Core.Path.{refl, ap, _∙_}
 use lib.ListN.{length}
 use borrow.Author.Needs.{needs}
 use Rattle.compose.specs.Writing.{poured, pourings}
 use Rattle.compose.specs.Fits.{within}
 use Rattle.composing.specs.Pens.{stands}
-use Rattle.composing.specs.PutLaws.{chosen}
-use Rattle.composing.specs.PouringLaws.{poured-same, first-rest}
+use Rattle.composing.specs.PutLaws.{picked, picked-none}
+use Rattle.composing.specs.PouringLaws.{poured-same}
 use Rattle.composing.proofs.pouring.first.Statement.{statement}
 use Rattle.composing.proofs.pouring.first.Tie as tie
 
@@ -17,9 +18,8 @@ returns c =
     let at-call = c .before .before in
     let at-match = at-call .before .before in
     let args = at-match .before .before .before .args in (
-      λ n. at-call .begun .ensures .0 n
-          ∙ ap (λ f. within (length (args .out .now) - 6) (f (stands (args .out .now) (args .stack .now) n (args .p))))
-          (chosen (pourings (args .o)) (args .mark) 1 (at-match .match .keys1)),
+      λ n. picked (within (length (args .out .now) - 6)) (pourings (args .o)) (stands (args .out .now) (args .stack .now) n (args .p))
+          (at-match .match .keys1) (at-call .begun .ensures .0 n),
       at-call .begun .ensures .1,
     )
 
@@ -29,21 +29,20 @@ returns-2 c =
     let at-call = c .before .before in
     let at-match = at-call .before .before .before in
     let args = at-match .before .before .before .args in (
-      λ n. at-call .poured .ensures .0 n
-          ∙ ap (λ t. within (length (args .out .now) - 6) (poured t (stands (args .out .now) (args .stack .now) n (args .p))))
-          (at-call .before .tightness .ensures)
-          ∙ ap (λ f. within (length (args .out .now) - 6) (f (stands (args .out .now) (args .stack .now) n (args .p))))
-          (chosen (pourings (args .o)) (args .mark) 2 (at-match .match .keys2)),
+      λ n. picked (within (length (args .out .now) - 6)) (pourings (args .o)) (stands (args .out .now) (args .stack .now) n (args .p))
+          (at-match .match .keys2) (rw (at-call .before .tightness .ensures) at (at-call .poured .ensures .0 n)),
       at-call .poured .ensures .1,
     )
 
 returns-3 : tie.Need-returns-3
+unfolding pourings
 returns-3 c =
     let start = c .before .before .before in
     let args = start .args in
     let none = c .match .rest in (
       λ n. ap (within (length (args .out .now) - 6))
-          (first-rest (args .o) (args .mark) (stands (args .out .now) (args .stack .now) n (args .p)) (none .0 .1) (none .1)),
+          (picked-none (pourings (args .o)) (args .mark) (stands (args .out .now) (args .stack .now) n (args .p)) refl
+          (λ l. omega (arith, l, none .0 .1, none .1))),
       poured-same (args .p) (start .pre .0),
     )
 

@@ -3,11 +3,11 @@
 use lib.ListN.{length, getD}
 use Prim.Native.Nat.{ℕ, _<_, _+_, _*_}
 use borrow.Fn.Kinds.{In}
-use borrow.Fn.PlainCycle.{Measures, is, falls, and}
+use borrow.Fn.PlainCycle.{Measures}
 use Rattle.emit.proofs.exprs.+expr+make.{statement}
 use Rattle.emit.proofs.exprs.+expr+make.Tie.{close}
 use native.Mathlib.Omega.{arith}
-use mathlib.Core.Path.{refl, ap, _∙_}
+use mathlib.Core.Path.{_≡_, refl, ap, _∙_}
 use Rattle.program.specs.Tree.{Exprs}
 use Rattle.program.specs.Reader.{Result}
 use Rattle.emit.specs.Written.{Wrote, args-words, args-at}
@@ -38,27 +38,21 @@ abbrev μ-make : Measures 3 make-kinds.ps ℕ
 μ-make κs a = 2 * a .1 .1 .1 .0 + 1
 
 abbrev expr-at : ℕ → In 3 expr-kinds.ps
-expr-at t = and 3 expr-kinds.ps (is 3 expr-kinds.ps μ-expr t) expr.Pre
-
-abbrev expr-below : ℕ → In 3 expr-kinds.ps
-expr-below t = and 3 expr-kinds.ps (falls 3 expr-kinds.ps _<_ μ-expr t) expr.Pre
+expr-at t κs a = (μ-expr κs a ≡ t) × expr.Pre κs a
 
 abbrev make-at : ℕ → In 3 make-kinds.ps
-make-at t = and 3 make-kinds.ps (is 3 make-kinds.ps μ-make t) make.Pre
-
-abbrev make-below : ℕ → In 3 make-kinds.ps
-make-below t = and 3 make-kinds.ps (falls 3 make-kinds.ps _<_ μ-make t) make.Pre
+make-at t κs a = (μ-make κs a ≡ t) × make.Pre κs a
 
 -- what the functions that each calls ask and give
 abbrev expr-claims : ℕ → expr-lts.Claims
 expr-claims t = (
-  expr-below t,
+  λ κs a. (μ-expr κs a < t) × expr.Pre κs a,
   expr.Post,
   coded.Asked,
   coded.Learnt,
   add.Asked,
   add.Learnt,
-  make-below t,
+  λ κs a. (μ-make κs a < t) × make.Pre κs a,
   make.Post,
   path.Asked,
   path.Learnt,
@@ -73,7 +67,9 @@ expr-claims t = (
 )
 
 abbrev make-claims : ℕ → make-lts.Claims
-make-claims t = (index.Asked, index.Learnt, expr-below t, expr.Post, wide.Asked, wide.Learnt, coded.Asked, coded.Learnt, add.Asked, add.Learnt)
+make-claims t =
+    let below : In 3 expr-kinds.ps = λ κs a. (μ-expr κs a < t) × expr.Pre κs a in
+    (index.Asked, index.Learnt, below, expr.Post, wide.Asked, wide.Learnt, coded.Asked, coded.Learnt, add.Asked, add.Learnt)
 
 -- the places of `expr` that proofs look back to
 abbrev expr-start : (t : ℕ) → expr-lts.After-shared-slice-known3 (expr-claims t) (expr-at t) expr.Post → expr-lts.Start (expr-claims t) (expr-at t) expr.Post

@@ -21,11 +21,6 @@ known c = path-facts _ _ (c .pre .good)
 room : (c : tie.Start) → c .args .k + 1 + getD (c .args .s .now) (c .args .at) 0 ≤ length (c .args .out .now)
 room c = path-room _ _ _ _ (c .pre)
 
-reads-requires : tie.Need-reads-requires
-reads-requires c κs =
-    let f = known (start₂ (c .before)) in let h = room (start₂ (c .before)) in
-    (omega arith, omega (arith, c .before .before .before .store .kept .0))
-
 returns : tie.Need-returns
 returns c =
     let at-reads = c .before .before in let at-store = at-reads .before .before .before .before in
@@ -38,4 +33,6 @@ path-spec =
     tie.close
     (tie.spec (λ c. omega (arith, known (c .before .before .before))) (λ c κs. search needs)
     (λ c κs. omega (arith, known (start (c .before)), room (start (c .before)))) (λ c. omega (arith, known (start₂ c), room (start₂ c)))
-    (λ c. search needs) reads-requires (λ c. search needs) returns)
+    (λ c. search needs)
+    (λ c κs. let f = known (start₂ (c .before)) in let h = room (start₂ (c .before)) in (omega arith, omega (arith, c .before .before .before .store .kept .0)))
+    (λ c. search needs) returns)

@@ -34,46 +34,20 @@ known c = path-facts _ _ (c .pre .good)
 room : (c : tie.Start) → c .args .k + 1 + getD (c .args .s .now) (c .args .at) 0 ≤ length (c .args .out .now)
 room c = target-room _ _ _ _ (c .pre)
 
-reads-requires : tie.Need-reads-requires
-reads-requires c κs =
-    let f = known (start₂ (c .before)) in let h = room (start₂ (c .before)) in
-    (omega arith, omega (arith, c .before .before .before .store .kept .0))
-
 shared-slice-read-wide : tie.Need-shared-slice-read-wide
 shared-slice-read-wide c =
-    omega (
-      arith,
-      known (start₃ (c .before .before .before)),
-      room (start₃ (c .before .before .before)),
-      at-store (c .before .before .before) .store .kept .0,
-      c .before .before .before .reads .ensures .0,
-      c .before .before .before .reads .ensures .1,
-      c .before .before .before .reads .kept .1 .1 .1 .0,
-    )
+    let r = c .before .before .before in
+    omega (arith, known (start₃ r), room (start₃ r), at-store r .store .kept .0, r .reads .ensures .0, r .reads .ensures .1, r .reads .kept .1 .1 .1 .0)
 
 store-requires-2 : tie.Need-store-requires-2
 store-requires-2 c κs =
-    omega (
-      arith,
-      known (start₃ (at-reads₂ c)),
-      room (start₃ (at-reads₂ c)),
-      at-store (at-reads₂ c) .store .kept .0,
-      at-reads₂ c .reads .ensures .0,
-      at-reads₂ c .reads .ensures .1,
-      at-reads₂ c .reads .kept .1 .1 .1 .0,
-    )
+    let r = at-reads₂ c in
+    omega (arith, known (start₃ r), room (start₃ r), at-store r .store .kept .0, r .reads .ensures .0, r .reads .ensures .1, r .reads .kept .1 .1 .1 .0)
 
 add-t16 : tie.Need-add-t16
 add-t16 c =
-    omega (
-      arith,
-      known (start₃ (at-reads₂ (c .before .before .before))),
-      room (start₃ (at-reads₂ (c .before .before .before))),
-      at-store (at-reads₂ (c .before .before .before)) .store .kept .0,
-      at-reads₂ (c .before .before .before) .reads .ensures .0,
-      at-reads₂ (c .before .before .before) .reads .ensures .1,
-      at-reads₂ (c .before .before .before) .reads .kept .1 .1 .1 .0,
-    )
+    let r = at-reads₂ (c .before .before .before) in
+    omega (arith, known (start₃ r), room (start₃ r), at-store r .store .kept .0, r .reads .ensures .0, r .reads .ensures .1, r .reads .kept .1 .1 .1 .0)
 
 add-t19 : tie.Need-add-t19
 add-t19 c =
@@ -100,5 +74,7 @@ target-spec =
     tie.close
     (tie.spec (λ c. omega (arith, known (c .before .before .before))) (λ c κs. search needs)
     (λ c κs. omega (arith, known (start (c .before)), room (start (c .before)))) (λ c. omega (arith, known (start₂ c), room (start₂ c)))
-    (λ c. omega (arith, known (start₂ c), room (start₂ c))) (λ c. search needs) reads-requires shared-slice-read-wide (λ c κs. search needs)
+    (λ c. omega (arith, known (start₂ c), room (start₂ c))) (λ c. search needs)
+    (λ c κs. let f = known (start₂ (c .before)) in let h = room (start₂ (c .before)) in (omega arith, omega (arith, c .before .before .before .store .kept .0)))
+    shared-slice-read-wide (λ c κs. search needs)
     (λ c κs. search needs) store-requires-2 add-t16 add-t19 (λ c. search needs) returns)

@@ -14,7 +14,7 @@ use Rattle.read_exprs.specs.ExprWays.{is-leaf, is-none, is-stop, is-op}
 use Rattle.read_exprs.specs.SpanWays.{span-room, behind-ahead, span-not, no-args-read, span-make, span-op}
 use borrow.Author.Needs.{needs}
 use borrow.Fn.Kinds.{In}
-use borrow.Fn.PlainCycle.{Measures, is, falls, and}
+use borrow.Fn.PlainCycle.{Measures}
 use Rattle.read_exprs.proofs.expr.construct.Reads as construct
 use Rattle.read_exprs.proofs.expr.construct.Kinds as construct-kinds
 use Rattle.read_exprs.proofs.expr.+construct+expr.Lts-construct as construct-lts
@@ -42,17 +42,10 @@ abbrev μ-expr : Measures 3 expr-kinds.ps ℕ
 μ-expr κs a = length (a .0 .now) - a .1 .1 .1 .1 .1 .0
 
 abbrev construct-at : ℕ → In 3 construct-kinds.ps
-construct-at t = and 3 construct-kinds.ps (is 3 construct-kinds.ps μ-construct t) construct.Pre
-
-abbrev construct-below : ℕ → In 3 construct-kinds.ps
-construct-below t =
-    and 3 construct-kinds.ps (falls 3 construct-kinds.ps _<_ μ-construct t) construct.Pre
+construct-at t κs a = (μ-construct κs a ≡ t) × construct.Pre κs a
 
 abbrev expr-at : ℕ → In 3 expr-kinds.ps
-expr-at t = and 3 expr-kinds.ps (is 3 expr-kinds.ps μ-expr t) expr.Pre
-
-abbrev expr-below : ℕ → In 3 expr-kinds.ps
-expr-below t = and 3 expr-kinds.ps (falls 3 expr-kinds.ps _<_ μ-expr t) expr.Pre
+expr-at t κs a = (μ-expr κs a ≡ t) × expr.Pre κs a
 
 abbrev construct-claims : ℕ → construct-lts.Claims
 construct-claims t = (
@@ -64,7 +57,7 @@ construct-claims t = (
   look.Learnt,
   no-args-reads.Asked,
   no-args-reads.Learnt,
-  expr-below t,
+  λ κs a. (μ-expr κs a < t) × expr.Pre κs a,
   expr.Post,
   type-at.Asked,
   type-at.Learnt,
@@ -76,11 +69,11 @@ construct-claims t = (
 
 abbrev expr-claims : ℕ → expr-lts.Claims
 expr-claims t = (
-  expr-below t,
+  λ κs a. (μ-expr κs a < t) × expr.Pre κs a,
   expr.Post,
   around.Asked,
   around.Learnt,
-  construct-below t,
+  λ κs a. (μ-construct κs a < t) × construct.Pre κs a,
   construct.Post,
   anew.Asked,
   anew.Learnt,

@@ -12,8 +12,7 @@ use Rattle.read_stmts.proofs.simple.local.Tie as tie
 
 returns : tie.Need-returns
 returns c =
-    let at-ranged = c .before .before .before in
-    let a = at-ranged .before .before .before .before .args in
+    let at-ranged = c .before .before .before in let a = at-ranged .before .before .before .before .args in
     let e = sym (at-ranged .ranged .ensures .0) ∙ c .before .enum-told .given .1 in
     rw (c .byte-refusal .ensures, c .before .enum-told .given .1)
     (sym (local-stop (a .ar .now) (a .types .now) (a .s .now) (a .own) (a .c) (a .at) (a .t) _ e), tt)

@@ -11,7 +11,7 @@ use Rattle.read_stmts.specs.RowWays.{Read, row, row-ends, row-refused, r
 use Rattle.read_stmts.specs.DoneWays.{done-room, behind-ahead, span-branched}
 use borrow.Author.Needs.{needs}
 use borrow.Fn.Kinds.{In}
-use borrow.Fn.PlainCycle.{Measures, is, falls, and}
+use borrow.Fn.PlainCycle.{Measures}
 use Rattle.read_stmts.proofs.stmt.body.Reads as body
 use Rattle.read_stmts.proofs.stmt.body.Kinds as body-kinds
 use Rattle.read_stmts.proofs.stmt.+body+stmt+when.Lts-body as body-lts
@@ -35,49 +35,32 @@ use Rattle.read_stmts.proofs.stmt.+body+stmt+when.Tie.{close}
 abbrev μ-body : Measures 3 body-kinds.ps ℕ
 μ-body κs a = length (a .0 .now) - a .1 .1 .1 .1 .1 .0
 
+abbrev body-at : ℕ → In 3 body-kinds.ps
+body-at t κs a = (μ-body κs a ≡ t) × body.Pre κs a
+
 abbrev μ-stmt : Measures 3 stmt-kinds.ps ℕ
 μ-stmt κs a = length (a .0 .now) - a .1 .1 .1 .1 .1 .0
+
+abbrev stmt-at : ℕ → In 3 stmt-kinds.ps
+stmt-at t κs a = (μ-stmt κs a ≡ t) × stmt.Pre κs a
 
 abbrev μ-when : Measures 3 when-kinds.ps ℕ
 μ-when κs a = length (a .0 .now) - a .1 .1 .1 .1 .1 .0
 
-abbrev body-at : ℕ → In 3 body-kinds.ps
-body-at t = and 3 body-kinds.ps (is 3 body-kinds.ps μ-body t) body.Pre
-
-abbrev body-below : ℕ → In 3 body-kinds.ps
-body-below t = and 3 body-kinds.ps (falls 3 body-kinds.ps _<_ μ-body t) body.Pre
-
-abbrev stmt-at : ℕ → In 3 stmt-kinds.ps
-stmt-at t = and 3 stmt-kinds.ps (is 3 stmt-kinds.ps μ-stmt t) stmt.Pre
-
-abbrev stmt-below : ℕ → In 3 stmt-kinds.ps
-stmt-below t = and 3 stmt-kinds.ps (falls 3 stmt-kinds.ps _<_ μ-stmt t) stmt.Pre
-
 abbrev when-at : ℕ → In 3 when-kinds.ps
-when-at t = and 3 when-kinds.ps (is 3 when-kinds.ps μ-when t) when.Pre
-
-abbrev when-below : ℕ → In 3 when-kinds.ps
-when-below t = and 3 when-kinds.ps (falls 3 when-kinds.ps _<_ μ-when t) when.Pre
+when-at t κs a = (μ-when κs a ≡ t) × when.Pre κs a
 
 abbrev body-claims : ℕ → body-lts.Claims
-body-claims t = (
-  ranged.Asked,
-  ranged.Learnt,
-  byte-refusal.Asked,
-  byte-refusal.Learnt,
-  nothing.Asked,
-  nothing.Learnt,
-  stmt-below t,
-  stmt.Post,
-  followed.Asked,
-  followed.Learnt,
-)
+body-claims t =
+    let below : In 3 stmt-kinds.ps = λ κs a. (μ-stmt κs a < t) × stmt.Pre κs a in
+    (ranged.Asked, ranged.Learnt, byte-refusal.Asked, byte-refusal.Learnt, nothing.Asked, nothing.Learnt, below, stmt.Post, followed.Asked, followed.Learnt)
 
 abbrev stmt-claims : ℕ → stmt-lts.Claims
-stmt-claims t = (simple.Asked, simple.Learnt, when-below t, when.Post)
+stmt-claims t = (simple.Asked, simple.Learnt, λ κs a. (μ-when κs a < t) × when.Pre κs a, when.Post)
 
 abbrev when-claims : ℕ → when-lts.Claims
-when-claims t = (expr.Asked, expr.Learnt, expr-refusal.Asked, expr-refusal.Learnt, body-below t, body.Post, branched.Asked, branched.Learnt)
+when-claims t =
+    (expr.Asked, expr.Learnt, expr-refusal.Asked, expr-refusal.Learnt, λ κs a. (μ-body κs a < t) × body.Pre κs a, body.Post, branched.Asked, branched.Learnt)
 
 abbrev body-Inv-loop : body-lts.InvT-loop
 body-Inv-loop s ar types own at depth n m done₀ next₀ left₀ done next left =
@@ -222,17 +205,11 @@ when-returns t c =
     rw (c .expr-refusal .ensures, c .before .enum-told .given .1)
     (sym (when-stop (a .ar .now) (a .types .now) s (a .own) (a .c) (read-stmt (a .ar .now) s (a .depth)) (a .at) _ e), tt)
 
-when-body-requires : (t : ℕ) → when-lts.Need-body-requires (when-claims t) (when-at t) when.Post
-when-body-requires t c κs =
-    let ahead = rw (c .before .r .given .1) at (c .before .before .before .expr .ensures .1) in
-    (omega (arith, when-start₂ t c .pre), when-start₂ t c .pre .1)
-
 when-branched-requires : (t : ℕ) → when-lts.Need-branched-requires (when-claims t) (when-at t) when.Post
 when-branched-requires t c κs =
-    let start = when-start₂ t (c .before) in let a = start .args in
-    let small : length (a .s .now) < 2 ^ 63 = omega (arith, start .good .0) in
+    let start = when-start₂ t (c .before) in let small : length (start .args .s .now) < 2 ^ 63 = omega (arith, start .good .0) in
     let ahead = rw (c .before .before .r .given .1) at (c .before .before .before .before .expr .ensures .1) in
-    (omega arith, done-room (a .s .now) _ _ (c .body .result) small (c .body .ensures .1))
+    (omega arith, done-room (start .args .s .now) _ _ (c .body .result) small (c .body .ensures .1))
 
 when-returns-2 : (t : ℕ) → when-lts.Need-returns-2 (when-claims t) (when-at t) when.Post
 when-returns-2 t c =
@@ -255,4 +232,6 @@ pub +body+stmt+when-spec : {M : Type 1} → statement M
     (λ c κs. (stmt-start₂ t (c .before) .pre .1, c .if2 .taken)) (stmt-returns-2 t) (stmt-returns-3 t) (λ c. search needs) (stmt-when-requires t)
     (stmt-returns-4 t))
     λ t. when-lts.spec (when-claims t) (when-at t) when.Post (λ c κs. c .before .before .before .pre .1) (λ c. search needs) (λ c. search needs)
-    (λ c κs. search needs) (when-returns t) (when-body-requires t) (when-branched-requires t) (when-returns-2 t)
+    (λ c κs. search needs) (when-returns t)
+    (λ c κs. let p = when-start₂ t c .pre in let h = rw (c .before .r .given .1) at (c .before .before .before .expr .ensures .1) in (omega (arith, p), p .1))
+    (when-branched-requires t) (when-returns-2 t)

@@ -5,22 +5,23 @@ use mathlib.Core.Path.{ap, _∙_}
 use lib.ListN.{length}
 use lib.Seq.{sets}
 use Rattle.tokens.specs.Tokens.{between}
+use Rattle.resolve.specs.TableLaws.{Gathers, gathers-start, gathers-count, gathers-stored}
 use Rattle.uses.specs.Among.{among}
-use Rattle.uses.specs.AmongLaws.{Picks, picks-start, picks-on, picks-count, picks-stored, among-declared}
+use Rattle.uses.specs.AmongLaws.{among-behind, picks-left, picks-on, among-declared}
 use borrow.Author.Needs.{needs}
 use Rattle.uses.proofs.declared.gather.Statement.{statement}
 use Rattle.uses.proofs.declared.gather.Tie as tie
 
 abbrev Inv-loop : tie.InvT-loop
-Inv-loop roles declared role table₀ n₀ i₀ table n i = Picks roles declared table₀ table role role n i
+Inv-loop roles declared low high table₀ n₀ i₀ table n i = Gathers (among-behind low high roles declared) table₀ table n i
 
 abbrev μ-loop : tie.MeasureT-loop
-μ-loop roles declared role table₀ n₀ i₀ table n i = length declared - i
+μ-loop roles declared low high table₀ n₀ i₀ table n i = length declared - i
 
 loop-holds : tie.Need-loop-holds Inv-loop μ-loop
 loop-holds c =
     let args = c .before .before .before .args in
-    picks-start (args .roles .now) (args .declared .now) (args .table .now) (args .role) (args .role)
+    gathers-start (among-behind (args .low) (args .high) (args .roles .now) (args .declared .now)) (args .table .now)
 
 shared-slice-read-at : tie.Need-shared-slice-read-at Inv-loop μ-loop
 shared-slice-read-at c = omega (arith, c .before .loop-test .taken)
@@ -46,7 +47,7 @@ loop-again c =
     let at-add = c .before .before in
     let at-between = at-add .before .before in
     let at-test = at-between .before .before .before in
-    picks-on (at-test .before .loop .inv) (at-test .loop-test .taken)
+    picks-on _ _ _ _ (at-test .before .loop .inv) (at-test .loop-test .taken)
     (at-between .between .ensures ∙ ap (between _ _) (at-between .before .byte .ensures)) (at-add .add .ensures .0) (at-add .add .ensures .1)
 
 same-length : tie.Need-same-length Inv-loop μ-loop
@@ -56,9 +57,9 @@ returns : tie.Need-returns Inv-loop μ-loop
 returns c =
     let at-loop = c .before in
     let start = at-loop .before .before .before .before in
-    let e = ap (among _ _ _) (start .pre .0) ∙ among-declared _ _ (start .pre .1) (start .pre .2) in
+    let e = ap (among _ _ _) (start .pre .0) ∙ among-declared _ _ _ (start .pre .1) in
     let inv = at-loop .loop .inv in
-    (picks-count inv (c .loop-test .left) ∙ ap length e, picks-stored inv (c .loop-test .left) ∙ ap (sets _ 0) e)
+    let left = picks-left _ _ _ _ (c .loop-test .left) in (gathers-count inv left ∙ ap length e, gathers-stored inv left ∙ ap (sets _ 0) e)
 
 pub gather-spec : {M : Type 1} → statement M
 gather-spec =

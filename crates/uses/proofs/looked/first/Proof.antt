@@ -56,14 +56,5 @@ returns-3 c =
 pub first-spec : {M : Type 1} → statement M
 first-spec =
     tie.close
-    (tie.spec
-    (λ c. search needs)
-    local-requires
-    returns
-    (λ c. search needs)
-    parameter-requires
-    (λ c. search needs)
-    (λ c. search needs)
-    local-requires-2
-    returns-2
-    returns-3)
+    (tie.spec (λ c. search needs) local-requires returns (λ c. search needs) parameter-requires (λ c. search needs) (λ c. search needs) local-requires-2
+    returns-2 returns-3)

@@ -29,12 +29,4 @@ returns-3 c =
 pub later-spec : {M : Type 1} → statement M
 later-spec =
     tie.close
-    (tie.spec
-    (λ c. search needs)
-    returns
-    (λ c. search needs)
-    (λ c. search needs)
-    (λ c. search needs)
-    returns-2
-    parameter-requires
-    returns-3)
+    (tie.spec (λ c. search needs) returns (λ c. search needs) (λ c. search needs) (λ c. search needs) returns-2 parameter-requires returns-3)

@@ -10,79 +10,66 @@ use Rattle.uses.proofs.parts.part_role.Statement.{statement}
 use Rattle.uses.proofs.parts.part_role.Tie as tie
 
 returns : tie.Need-returns
-returns c = (
-  λ x t l o r. c .close .ensures .0 x l o ∙ part-66 (c .before .before .before .before .args .role)
-      (use-in x l (c .before .before .before .before .args .stack .now) (c .before .before .before .before .args .c) o) (c .before .before .match .keys1),
-  (c .close .ensures .1, refl),
-)
+returns c =
+    let a = c .before .before .before .before .args in (
+      λ x t l o r. c .close .ensures .0 x l o ∙ part-66 (a .role) (use-in x l (a .stack .now) (a .c) o) (c .before .before .match .keys1),
+      (c .close .ensures .1, refl),
+    )
 
 returns-2 : tie.Need-returns-2
-returns-2 c = (
-  λ x t l o r. c .close2 .ensures .0 x l o ∙ part-67 (c .before .before .before .before .args .role)
-      (use-in x l (c .before .before .before .before .args .stack .now) (c .before .before .before .before .args .c) o) (c .before .before .match .keys2),
-  (c .close2 .ensures .1, refl),
-)
+returns-2 c =
+    let a = c .before .before .before .before .args in (
+      λ x t l o r. c .close2 .ensures .0 x l o ∙ part-67 (a .role) (use-in x l (a .stack .now) (a .c) o) (c .before .before .match .keys2),
+      (c .close2 .ensures .1, refl),
+    )
 
 returns-3 : tie.Need-returns-3
 returns-3 c =
-    let k = c .before .before .before .args .stack .now in
-    let s = c .before .before .before .args .c in (
-      λ x t l o r. ap (λ d. passed-in x l k (On d) o) (c .lived .ensures) ∙ body-shut x l k o s ∙ part-75 (c .before .before .before .args .role)
-          (use-in x l k s o) (c .before .match .keys3),
+    let a = c .before .before .before .args in
+    let k = a .stack .now in
+    let s = a .c in (
+      λ x t l o r. ap (λ d. passed-in x l k (On d) o) (c .lived .ensures) ∙ body-shut x l k o s
+          ∙ part-75 (a .role) (use-in x l k s o) (c .before .match .keys3),
       (λ t l r. rw (c .lived .ensures) (next-lived t l s r 0 0 0 (omega arith) (omega arith) (omega arith) (omega arith)), refl),
     )
 
 returns-4 : tie.Need-returns-4
 returns-4 c =
-    let at-4 = c .before .before .before .before in (
-      λ x t l o r. c .before .before .open-if .ensures .0 x t l o r ∙ part-76 (at-4 .before .before .args .role)
-          (use-in x l (at-4 .before .before .args .stack .now) (at-4 .before .before .args .c) o) (at-4 .match .keys4),
+    let at-4 = c .before .before .before .before in
+    let a = at-4 .before .before .args in (
+      λ x t l o r. c .before .before .open-if .ensures .0 x t l o r ∙ part-76 (a .role) (use-in x l (a .stack .now) (a .c) o) (at-4 .match .keys4),
       c .before .before .open-if .ensures .1,
     )
 
 returns-5 : tie.Need-returns-5
-returns-5 c = (
-  λ x t l o r. c .close-if .ensures .0 x t l o r ∙ part-77 (c .before .before .before .before .args .role)
-      (use-in x l (c .before .before .before .before .args .stack .now) (c .before .before .before .before .args .c) o) (c .before .before .match .keys5),
-  (c .close-if .ensures .1, refl),
-)
+returns-5 c =
+    let a = c .before .before .before .before .args in (
+      λ x t l o r. c .close-if .ensures .0 x t l o r ∙ part-77 (a .role) (use-in x l (a .stack .now) (a .c) o) (c .before .before .match .keys5),
+      (c .close-if .ensures .1, refl),
+    )
 
 returns-6 : tie.Need-returns-6
 returns-6 c =
-    let at-4 = c .before .before .before .before in (
-      λ x t l o r. c .before .before .go-on .ensures .0 x l o ∙ part-79 (at-4 .before .before .args .role)
-          (use-in x l (at-4 .before .before .args .stack .now) (at-4 .before .before .args .c) o) (at-4 .match .keys6),
+    let at-4 = c .before .before .before .before in
+    let a = at-4 .before .before .args in (
+      λ x t l o r. c .before .before .go-on .ensures .0 x l o ∙ part-79 (a .role) (use-in x l (a .stack .now) (a .c) o) (at-4 .match .keys6),
       c .before .before .go-on .ensures .1,
     )
 
 returns-7 : tie.Need-returns-7
 unfolding passed-in
 returns-7 c =
+    let a = c .before .before .args in
+    let p = c .before .before .pre in
     let rest = c .match .rest in (
-      λ x t l o r. part-quiet (use-in x l (c .before .before .args .stack .now) (c .before .before .args .c) o) (c .before .before .args .role)
-          (c .before .before .pre .3) (rest .0 .0 .0 .0 .0 .1) (rest .0 .0 .0 .0 .1) (rest .0 .0 .0 .1) (rest .0 .0 .1) (rest .0 .1) (rest .1),
-      (λ t l r. next-same t l (c .before .before .args .c) r, refl),
+      λ x t l o r. part-quiet (use-in x l (a .stack .now) (a .c) o) (a .role) (p .3) (rest .0 .0 .0 .0 .0 .1) (rest .0 .0 .0 .0 .1) (rest .0 .0 .0 .1)
+          (rest .0 .0 .1) (rest .0 .1) (rest .1),
+      (λ t l r. next-same t l (a .c) r, refl),
     )
 
 pub part-role-spec : {M : Type 1} → statement M
 part-role-spec =
     tie.close
-    (tie.spec
-    (λ c κs. search needs)
-    (λ c κs. search needs)
-    (λ c κs. search needs)
-    (λ c κs. search needs)
-    (λ c κs. search needs)
-    (λ c κs. search needs)
-    (λ c. search needs)
-    returns
-    (λ c. search needs)
-    returns-2
-    returns-3
-    (λ c. search needs)
-    returns-4
-    (λ c. search needs)
-    returns-5
-    (λ c. search needs)
-    returns-6
-    returns-7)
+    (tie.spec (λ c κs. search needs) (λ c κs. search needs) (λ c κs. search needs) (λ c κs. search needs) (λ c κs. search needs)
+    (λ c κs. search needs) (λ c. search needs) returns (λ c. search needs) returns-2 returns-3 (λ c. search needs) returns-4 (λ c. search needs) returns-5
+    (λ c. search needs) returns-6 returns-7)

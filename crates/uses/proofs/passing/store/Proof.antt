@@ -17,22 +17,6 @@ slice-write-locals-4 c = simp length-set (omega arith)
 pub store-spec : {M : Type 1} → statement M
 store-spec =
     tie.close
-    (tie.spec
-    (λ c. search needs)
-    (λ c. search needs)
-    (λ c. search needs)
-    (λ c. search needs)
-    (λ c. search needs)
-    (λ c. search needs)
-    (λ c. search needs)
-    slice-write-locals-2
-    (λ c. search needs)
-    (λ c. search needs)
-    (λ c. search needs)
-    slice-write-locals-3
-    (λ c. search needs)
-    (λ c. search needs)
-    (λ c. search needs)
-    slice-write-locals-4
-    (λ c. search needs)
-    (λ c. search needs))
+    (tie.spec (λ c. search needs) (λ c. search needs) (λ c. search needs) (λ c. search needs) (λ c. search needs) (λ c. search needs) (λ c. search needs)
+    slice-write-locals-2 (λ c. search needs) (λ c. search needs) (λ c. search needs) slice-write-locals-3 (λ c. search needs) (λ c. search needs)
+    (λ c. search needs) slice-write-locals-4 (λ c. search needs) (λ c. search needs))

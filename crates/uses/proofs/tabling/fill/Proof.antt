@@ -10,24 +10,24 @@ use Rattle.uses.proofs.tabling.fill.Statement.{statement}
 use Rattle.uses.proofs.tabling.fill.Tie as tie
 
 -- where the function began
-abbrev start : tie.After-gather → tie.Start
+abbrev start : tie.After-all → tie.Start
 start c = let lent = c .before in lent .before .before .before .before
 
 returns : tie.Need-returns
 returns c =
     let called = c .before .before in
-    (fill-many _ _ (start called .pre .1) (called .gather .ensures .0) (c .if1 .taken), (λ e. absurd (false≢true e), refl))
+    (fill-many _ _ (start called .pre .1) (called .all .ensures .0) (c .if1 .taken), (λ e. absurd (false≢true e), refl))
 
 slice-aggregate-filled : tie.Need-slice-aggregate-filled
 slice-aggregate-filled c =
-    let called = c .before .before .before in take-long _ _ (omega (arith, called .gather .kept .1 .1 .1 .0, c .before .if1 .left))
+    let called = c .before .before .before in take-long _ _ (omega (arith, called .all .kept .1 .0, c .before .if1 .left))
 
 filled-requires : tie.Need-filled-requires
 filled-requires c κs =
     let tested = c .before .before in
     let called = tested .before .before in
     let pre = start called .pre in
-    (pre .0, pre .1, front-held _ _ (called .gather .ensures .0) (called .gather .ensures .1) (tested .if1 .left))
+    (pre .0, pre .1, front-held _ _ (called .all .ensures .0) (called .all .ensures .1) (tested .if1 .left))
 
 pub fill-spec : {M : Type 1} → statement M
 fill-spec =

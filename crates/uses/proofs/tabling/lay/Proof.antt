@@ -1,4 +1,6 @@
 -- `tabling::lay` meets its contract: each part of the table is lent, filled and back before the next.
+use native.Mathlib.Omega.{arith}
+use Rattle.uses.specs.AmongLaws.{one-declares}
 use Rattle.uses.specs.LayingLaws.{room-counted, laid-long, laid-all}
 use borrow.Author.Needs.{needs}
 use Rattle.uses.proofs.tabling.lay.Statement.{statement}
@@ -16,6 +18,12 @@ lent c = of-structs c .before
 
 abbrev start : tie.After-gather2 → tie.Start
 start c = let known = lent c .before in known .before .before .before .before
+
+gather-requires : tie.Need-gather-requires
+gather-requires c κs = (search needs, one-declares 39 (omega arith) (omega arith))
+
+gather-requires-2 : tie.Need-gather-requires-2
+gather-requires-2 c κs = (search needs, one-declares 40 (omega arith) (omega arith))
 
 slice-write-table-2 : tie.Need-slice-write-table-2
 slice-write-table-2 c =
@@ -43,6 +51,6 @@ returns c =
 pub lay-spec : {M : Type 1} → statement M
 lay-spec =
     tie.close
-    (tie.spec (λ c. search needs) (λ c. search needs) (λ c. search needs) (λ c κs. search needs) (λ c. search needs) (λ c. search needs) (λ c. search needs)
-    (λ c κs. search needs) (λ c. search needs) (λ c. search needs) (λ c. search needs) (λ c κs. search needs) (λ c. search needs) (λ c. search needs)
+    (tie.spec (λ c. search needs) (λ c. search needs) (λ c. search needs) gather-requires (λ c. search needs) (λ c. search needs) (λ c. search needs)
+    (λ c κs. search needs) (λ c. search needs) (λ c. search needs) (λ c. search needs) gather-requires-2 (λ c. search needs) (λ c. search needs)
     (λ c. search needs) (λ c κs. search needs) (λ c. search needs) slice-write-table-2 same-length returns)

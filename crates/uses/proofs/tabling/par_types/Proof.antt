@@ -2,6 +2,7 @@
 use mathlib.Core.Path.{refl}
 use native.Mathlib.Omega.{arith}
 use Rattle.resolve.specs.FirstLaws.{take-long}
+use Rattle.uses.specs.AmongLaws.{one-declares, types-declare}
 use Rattle.uses.specs.TablingLaws.{structs-few, types-tested, types-stored}
 use borrow.Author.Needs.{needs}
 use Rattle.uses.proofs.tabling.par_types.Statement.{statement}
@@ -17,15 +18,21 @@ lent c = c .before
 abbrev start : tie.After-gather → tie.Start
 start c = let known = lent c .before in known .before .before .before .before
 
+gather-requires : tie.Need-gather-requires
+gather-requires c κs = (search needs, one-declares 39 (omega arith) (omega arith))
+
+gather-requires-2 : tie.Need-gather-requires-2
+gather-requires-2 c κs = (search needs, types-declare)
+
 slice-aggregate-types : tie.Need-slice-aggregate-types
 slice-aggregate-types c =
     let structs = at-structs (c .before .before) in
-    take-long _ _ (omega (arith, structs .gather .kept .1 .1 .1 .0, structs .gather .ensures .0, start structs .pre .1 .0))
+    take-long _ _ (omega (arith, structs .gather .kept .1 .1 .1 .1 .0, structs .gather .ensures .0, start structs .pre .1 .0))
 
 slice-aggregate-types-2 : tie.Need-slice-aggregate-types-2
 slice-aggregate-types-2 c =
     let places = c .before .before .before in
-    take-long _ _ (omega (arith, places .gather2 .kept .1 .1 .1 .0, places .gather2 .ensures .0, start (at-structs places) .pre .1 .1))
+    take-long _ _ (omega (arith, places .gather2 .kept .1 .1 .1 .1 .0, places .gather2 .ensures .0, start (at-structs places) .pre .1 .1))
 
 types-requires : tie.Need-types-requires
 types-requires c κs =
@@ -50,5 +57,5 @@ returns c =
 pub par-types-spec : {M : Type 1} → statement M
 par-types-spec =
     tie.close
-    (tie.spec (λ c. search needs) (λ c κs. search needs) (λ c. search needs) (λ c κs. search needs) (λ c. search needs) slice-aggregate-types
+    (tie.spec (λ c. search needs) gather-requires (λ c. search needs) gather-requires-2 (λ c. search needs) slice-aggregate-types
     (λ c. search needs) slice-aggregate-types-2 types-requires (λ c. search needs) returns)
