@@ -32,6 +32,7 @@ use Rattle.program.specs.Levels.{levels-program}
 use Rattle.program.specs.Reader.{Result.bad, read, wrong-end}
 use Rattle.program.specs.Fronts.{Front, EndsAt, OffendsAt}
 use Rattle.program.specs.Laws.FrontLaws.{program-viable, ends-unique, offends-unique, levels-exactly}
+use Rattle.commands.specs.Accepted.{Accepted}
 use Rattle.commands.specs.Commands.{Coms, Coms.if-then, Flat.if-n, then, flatten}
 use Rattle.commands.specs.Laws.CommandLaws.{if-true, if-false}
 use Rattle.commands.specs.Context.{Ctx}
@@ -52,7 +53,7 @@ use Rattle.table.specs.TableLaws.{table-back, table-injective}
 use Rattle.table.specs.SizeLaws.{Bytes, table-bytes}
 use Rattle.table.specs.TableFaults.{Field, field-bytes, Allowed, Front as TableFront}
 use Rattle.table.specs.TableViable.{Viable, front-viable, offending-final}
-use Rattle.machine.specs.Published.{State, structs}
+use Rattle.machine.specs.Published.{StepCall, Sched, Sched.start, Inst, State, State.state, structs}
 use Rattle.machine.specs.Rules.{meet, Actor, Actor.instance, Actor.schedule, Rule}
 use Rattle.machine.specs.RulesLaws.{meet-each}
 use Rattle.machine.specs.RuleUnique.{rule-unique, full-not-exceeded}
@@ -71,6 +72,12 @@ use Rattle.run.specs.Run.{Outcome.jammed, run}
 use Rattle.run.specs.Begin.{begin}
 use Rattle.run.specs.Initial.{idle, of-record, first-insts, Comes}
 use Rattle.run.specs.Laws.BeginLaws.{null-at, record-at, first-length, jammed-exact}
+use Rattle.sound.specs.Invariant.{Good}
+use Rattle.orders.specs.Orders.{Completes}
+use Rattle.orders.specs.Touches.{Apart}
+use Rattle.orders.specs.Constructing.{ConstructsNothing}
+use Rattle.orders.specs.OrderFree.{OrderFree}
+use Rattle.orders.specs.Laws.OrderFreeLaws.{free-after}
 use Rattle.step_part.specs.StepPart.{step-place, step-part}
 use Rattle.step_part.specs.StepPartLaws.{place-fits, place-part}
 use Rattle.text.specs.Listing.{decimal, int-text}
@@ -245,6 +252,13 @@ labels-in-order = labels-ascend
 pub holder-picked : (m : Machine) (l : ℕ) {i : Instance} → getElem? (m .instances) l ≡ some i → (i .code ≡ [] → ⊥)
     → (e : ℕ) × (e < length (holders m)) × (chosen (holders m) e ≡ l)
 holder-picked m l g n = holder-chosen m l g n
+
+-- where one order of a started step touches apart, its order does not matter (02 §11): from every machine with the invariant, so from wherever a
+-- run may come to begin. `run-order-free` of Orders says it of the states of a run, by the published rules alone
+pub order-free : {p : Program} → Accepted p → {m : Machine} → Good p m → {a : StepCall} {s : Sched} {σ : List Inst} {b : List Bool} {st z : State}
+    → Represents m (state (start a s) σ b) → Rule p schedule (state (start a s) σ b) st → ConstructsNothing p a
+    → {ls : List ℕ} → Completes p st ls z → Apart p st ls → OrderFree p st (length ls) z
+order-free acc good R r makes c apart = free-after acc good R r makes c apart
 
 -- Listings --------------------------------------------------------------------------------
 

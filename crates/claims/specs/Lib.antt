@@ -9,3 +9,4 @@ pub mod Free
 pub mod Exact
 pub mod Memory
 pub mod Rounds
+pub mod Orders

@@ -54,6 +54,12 @@ impl Stack {
         (self.values[height - 2], self.values[height - 1])
     }
 
+    /// The values from below, for tests that look at a whole state.
+    #[cfg(test)]
+    pub fn values(&self) -> &[u32] {
+        &self.values[..usize::from(self.height)]
+    }
+
     /// Takes the topmost values off, as they stand from below.
     pub fn pop_many(&mut self, count: usize) -> &[u32] {
         let from = usize::from(self.height) - count;

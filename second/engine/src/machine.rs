@@ -204,12 +204,15 @@ impl<'p> Machine<'p> {
 }
 
 #[cfg(test)]
+mod orders;
+
+#[cfg(test)]
 mod tests {
     use super::*;
     use crate::blocks;
     use crate::table;
 
-    fn image(stream: &[u8]) -> Vec<u8> {
+    pub fn image(stream: &[u8]) -> Vec<u8> {
         let mut image = vec![0; 512 * stream.len().div_ceil(504)];
         blocks::write(stream, &mut image);
         image

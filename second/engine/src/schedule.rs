@@ -31,6 +31,12 @@ impl Stability {
         stable
     }
 
+    /// The entries from below, for tests that look at a whole state.
+    #[cfg(test)]
+    pub fn entries(&self) -> impl Iterator<Item = u32> {
+        (0..self.count).map(|at| u32::from(self.entries >> at & 1))
+    }
+
     /// A parameter changed or an instance is new: every entry becomes false.
     pub fn disturb(&mut self) {
         self.entries = 0;
@@ -44,6 +50,7 @@ pub enum Moved<'p> {
     Empty,
 }
 
+#[derive(Clone)]
 pub struct Schedule<'p> {
     moves: &'p [Move],
     position: usize,
