@@ -6,6 +6,7 @@ pub mod GoodLaws
 pub mod SizedLaws
 pub mod AcceptedLaws
 pub mod PassageLaws
+pub mod ArriveLaws
 pub mod ReadyLaws
 pub mod Outcomes
 pub mod EnvLaws

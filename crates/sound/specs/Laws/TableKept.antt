@@ -24,7 +24,7 @@ use Rattle.commands.specs.Context.{params-of}
 use Rattle.table.specs.Table.{Record, enc-table, Each, Held, HeldRecord, HeldTable, struct-at, Refers, RefersRecord, References, TableRight}
 use Rattle.table.specs.Sizes.{table-size}
 use Rattle.table.specs.SizeLaws.{table-length, program-table-fits}
-use Rattle.machine.specs.Published.{StepCall, Env, Env.env, structs}
+use Rattle.machine.specs.Published.{Env, Env.env, structs}
 use Rattle.machine.specs.Machine.{Instance, Machine}
 use Rattle.run.specs.Visits.{Visits}
 use Rattle.run.specs.Begin.{params-in, begin, record-of, table-of}
@@ -35,7 +35,7 @@ use Rattle.run.specs.Entry.{Begun, Begun.begun, Begun.not-begun, begins, output
 use Rattle.run.specs.Input.{TableAccepted}
 use Rattle.run.specs.Laws.InputLaws.{begins-ready}
 use Rattle.sound.specs.Needs.{ValueAmong}
-use Rattle.sound.specs.Invariant.{Fitted, GoodAll, Good}
+use Rattle.sound.specs.Invariant.{Job, Fitted, GoodAll, Good}
 use Rattle.commands.specs.Accepted.{Accepted}
 use Rattle.sound.specs.Laws.AcceptedLaws.{ready-accepted, accepted-firm}
 use Rattle.sound.specs.Tabled.{Tabled}
@@ -50,7 +50,7 @@ use Rattle.sound.specs.Laws.TabledLaws.{visits-tabled, begin-tabled}
 fitted-each : (is : List Instance) (ts : List Ty) (ξ : Env) → Fitted is ts ξ → Each (ValueAmong is) ts (params-in ξ)
 fitted-each is ts (env ps ls) f = f .0
 
-module _ (p : Program) {r : Option StepCall} {is : List Instance} (good : GoodAll p r is) (t : Tabled p is) where
+module _ (p : Program) {r : Option Job} {is : List Instance} (good : GoodAll p r is) (t : Tabled p is) where
   abbrev rows : List Record
   rows = map record-of (drop (structs p) is)
 

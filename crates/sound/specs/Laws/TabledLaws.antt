@@ -35,7 +35,7 @@ use Rattle.sound.specs.Firm.{Firm}
 use Rattle.sound.specs.Tabled.{TabledInst, Tabled}
 use Rattle.sound.specs.Laws.ElemLaws.{some-is, at-set-same, at-set-other, at-snoc, at-joined, at-below, map-at, all-elem}
 use Rattle.sound.specs.Laws.Keeps.{at-env-same, at-env-other}
-use Rattle.sound.specs.Laws.PassageLaws.{holder-passage, next-sized}
+use Rattle.sound.specs.Laws.PassageLaws.{holder-passage, first-held, next-sized}
 use Rattle.sound.specs.Laws.CommandKept.{turning-good}
 use Rattle.sound.specs.Laws.WriteKept.{same-env}
 use Rattle.sound.specs.Laws.BeginGood.{nulls-length, null-at}
@@ -137,7 +137,7 @@ Comes-to p stuck = Unit {0}
 module _ {p : Program} (firm : Firm p) {m : Machine} (good : Good p m) (t : Tabled p (m .instances)) (l : ℕ) where
   -- a holder's cons names a struct of the program
   cons-below : (i : Instance) {k : ℕ} {r : List Note} → i .code ≡ n-cons k ∷ r → Place p (good .runs) (m .instances) l i → k < structs p
-  cons-below i {k} {r} e h = let (a, q, g) = holder-passage h e in next-sized g firm (n-cons k) r e
+  cons-below i {k} {r} e h = let (a, q, g) = holder-passage h e in let (d, f, _) = first-held g e in next-sized g firm (n-cons k) d f
 
   performed-tabled : (i : Instance) (n : Note) (r : List Note) (o : Out) → getElem? (m .instances) l ≡ some i → i .code ≡ n ∷ r
       → Performed p m l (with-written i (now-written n (i .written))) r n o
