@@ -72,6 +72,7 @@ use Rattle.run.specs.Begin.{begin}
 use Rattle.run.specs.Initial.{idle, of-record, first-insts, initially}
 use Rattle.run.specs.Comes.{Comes}
 use Rattle.run.specs.Laws.BeginLaws.{null-at, record-at, first-length, begin-stands}
+use Rattle.claims.specs.AnyRun.{run-jammed-exactly}
 use Rattle.step_part.specs.StepPart.{step-place, step-part}
 use Rattle.step_part.specs.StepPartLaws.{place-fits, place-part}
 use Rattle.text.specs.Listing.{decimal, int-text}
