@@ -154,7 +154,7 @@ types-tested = types-exact
 pub type-one : {G : Ctx} {e : Expr} {t u : Ty} → Types G e t → Types G e u → t ≡ u
 type-one h l = types-unique h l
 
--- ComIfT and ComIfF on the list: behind `if n` stand the body and then the rest, and without the n commands behind it the rest
+-- ComIfT and ComIfF on the list: after `if n` stand the body and then the rest, and without the n commands after it the rest
 pub if-taken : (b c : Coms) → flatten (if-then b c) ≡ if-n (length (flatten b)) ∷ flatten (then b c)
 if-taken = if-true
 
@@ -184,7 +184,7 @@ module _ (pss : List (List Ty)) where
   pub table-bytes-small : (rs : List Record) → HeldTable pss rs → Bytes (enc-table rs)
   table-bytes-small = table-bytes pss
 
-  -- fields that are whole and allowed begin a table, and with one behind them that is not allowed no table goes on
+  -- fields that are whole and allowed begin a table, and with one after them that is not allowed no table goes on
   pub fields-begin : 0 < length pss → length pss ≤ max-instances → {u : List ℕ} {f : Field} → TableFront pss u f → Viable pss u
   fields-begin s l h = front-viable pss s l h
 

@@ -1,4 +1,4 @@
--- What holds of every machine of a run of an accepted program: the invariant behind demand 3 (01, 'The words of demand 3'), stated
+-- What holds of every machine of a run of an accepted program: the invariant for demand 3 (01, 'The words of demand 3'), stated
 -- from any machine, so that runs may begin elsewhere than with a fresh table.
 use Prim.Native.Nat.{ℕ, suc, _+_, _<_}
 use mathlib.Core.Path.{_≡_}

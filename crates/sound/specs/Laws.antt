@@ -1,4 +1,4 @@
--- Laws behind 'never stuck': what each command and move keeps of the invariant, and what follows from it (01, 'The run').
+-- Laws for 'never stuck': what each command and move keeps of the invariant, and what follows from it (01, 'The run').
 pub mod ElemLaws
 pub mod EachLaws
 pub mod Keeps

@@ -172,7 +172,7 @@ module _ (p : Program) where
   unfolding run turn
   run-turn e es m g c = ap (turn (λ m′. run p m′ es) p e) (settled (holds g)) ∙ ap (taken (λ m′. run p m′ es) m) c
 
-  -- what a run of a machine on its way comes to, the whole run comes to, behind the turns taken
+  -- what a run of a machine on its way comes to, the whole run comes to, after the turns taken
   pub steps-stopped : {m z w : Machine} {es fs : List ℕ} {n t k : ℕ} → Steps (Acts p) m es t z fs → run p z fs ≡ stopped n k w
       → run p m es ≡ stopped n (t + k) w
   unfolding taken later

@@ -48,7 +48,7 @@ settling = record {
   schedule = item (fix (item (call 0) stop)) stop;
 }
 
--- one record, label 2, behind the null instances 0 and 1
+-- one record, label 2, after the null instances 0 and 1
 abbrev pub table : List Record
 table = record { struct = 0; values = int-val (pos 5) ∷ bool-val true ∷ [] } ∷ []
 

@@ -83,7 +83,7 @@ twice = record {
   schedule = item (call 0) (item (call 0) stop);
 }
 
--- one record, label 1, behind the null instance 0
+-- one record, label 1, after the null instance 0
 abbrev pub single : List Record
 single = record { struct = 0; values = int-val (pos 5) ∷ bool-val false ∷ [] } ∷ []
 

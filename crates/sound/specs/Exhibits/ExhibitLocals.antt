@@ -56,7 +56,7 @@ adding-accepted = by-stream adding refl refl
 abbrev pub table : List Record
 table = record { struct = 1; values = int-val (pos 4) ∷ [] } ∷ record { struct = 0; values = int-val (pos 3) ∷ label 2 ∷ [] } ∷ []
 
--- the second of the two holders, label 3, takes the first turns, and the null instance 0 those behind
+-- the second of the two holders, label 3, takes the first turns, and the null instance 0 those after
 abbrev pub turns : List ℕ
 turns = replicate 46 1
 
@@ -121,7 +121,7 @@ pub adds : (t : Taken (n-op op-add))
 unfolding running onward act-on after
 adds = (turn-at adding start-machine turns 6 3 {i = record-at 5 (an-int 3 ∷ an-int 4 ∷ []) none []} refl refl refl, refl, refl)
 
--- the declaration's wr: the local has no value before it, and 7 behind it
+-- the declaration's wr: the local has no value before it, and 7 after it
 pub declares : (t : Taken (n-set true int 0))
     × (value-at (t .before) 3 first-local ≡ some none)
     × (value-at (t .behind) 3 first-local ≡ some (holding 7))

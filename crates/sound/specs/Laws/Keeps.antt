@@ -49,7 +49,7 @@ env-set (x ∷ is) (suc n) ξ i = ap (λ js. x ∷ js) (env-set is n ξ i)
 pub record Keeps (is js : List Instance) : Type 0 where
   pub at : (l : ℕ) (i : Instance) → getElem? is l ≡ some i → (j : Instance) × (getElem? js l ≡ some j) × (j .struct ≡ i .struct)
 
--- kept in two changes, one behind the other
+-- kept in two changes, one after the other
 pub keeps-then : {is js ks : List Instance} → Keeps is js → Keeps js ks → Keeps is ks
 keeps-then f g = record {
   at = λ l i e.
@@ -74,7 +74,7 @@ keeps-env is n ξ = record { at = λ l k h. go l k h (ℕ-discrete l n) }
     go l k h (yes q) = (with-env k ξ, rw q (at-env-same is n ξ k (rw q at h)), refl)
     go l k h (no q) = (k, at-env-other is n l ξ q ∙ h, refl)
 
--- more instances behind
+-- more instances after them
 pub keeps-append : (is js : List Instance) → Keeps is (is ++ js)
 keeps-append is js = record { at = λ l i h. (i, at-append is js l i h, refl) }
 

@@ -95,7 +95,7 @@ module _ (p : Program) {r : Option Job} {is : List Instance} (good : GoodAll p r
         each-map refers-value ts (params-in (i .env)) f,
       )
 
-  -- the instances behind the null ones are a right table
+  -- the instances after the null ones are a right table
   rows-right : TableRight (p .params) rows
   unfolding TableRight HeldTable References
   rows-right =

@@ -71,7 +71,7 @@ module _ (p : Program) {is : List Instance} (t : Tabled p is) where
       go n x e (yes q) = let w : with-env i ξ ≡ x = some-is (sym (at-env-same is l ξ i at) ∙ rw q at e) in rw (q, ← w) h
       go n x e (no q) = t .each n x (sym (at-env-other is l n ξ q) ∙ e)
 
-  -- one more behind
+  -- one more after them
   tabled-more : (j : Instance) → length is < max-instances → j .struct < structs p → Tabled p (is ++ j ∷ [])
   tabled-more j room below =
       let few = t .null-ones in

@@ -18,7 +18,7 @@ use Rattle.run.specs.Holders.{flag, flags, holders, due}
 use Rattle.run.specs.Steps.{Steps, Steps.here, Steps.reads}
 use Rattle.run.specs.Visits.{Acts, Acts.takes}
 use Rattle.run.specs.Laws.Settles.{Rests.fails}
-use Rattle.run.specs.Laws.RoundLaws.{kept, round-behind, round-idle}
+use Rattle.run.specs.Laws.RoundLaws.{kept, round-after, round-idle}
 use Rattle.run.specs.Laws.RunAgrees.{rests-halts}
 use Rattle.run.specs.Laws.TurnLaws.{chosen-place, holder-chosen, some-due}
 use Rattle.sound.specs.Firm.{Firm}
@@ -31,13 +31,13 @@ use Rattle.sound.specs.Laws.FlagLaws.{Idle, flags-behind}
 use Rattle.sound.specs.Laws.GoodStands.{good-stands}
 use Rattle.sound.specs.Laws.NeverStuckLaws.{taken-kept, acts-good}
 
--- Behind a turn ------------------------------------------------------------------------
+-- After a turn ------------------------------------------------------------------------
 
 idle-more : (s : ℕ) (fs more : List Bool) → Idle more → s ≤ length fs → round-from s (fs ++ more) ≡ round-from s fs
 idle-more s fs more (inl e) h = rw (e, append-nil fs)
 idle-more s fs more (inr e) h = rw e (round-idle s fs h)
 
--- behind a command of the first holder the others come first, in their order, and it comes last, where it has commands left
+-- after a command of the first holder the others come first, in their order, and it comes last, where it has commands left
 pub holders-turned : (p : Program) (m : Machine) {m′ : Machine} {h : ℕ} {hs : List ℕ} → holders m ≡ h ∷ hs → command p h m ≡ next m′
     → (b : Bool) × (holders m′ ≡ hs ++ kept b h)
 unfolding holders
@@ -45,7 +45,7 @@ holders-turned p m {m′} {h} {hs} e c =
     let f = flags-behind p h m c in
     let fs = flags (m .instances) in
     let b = flag (f .actor) in
-    let (within, turned) = round-behind (m .from) fs b e in
+    let (within, turned) = round-after (m .from) fs b e in
     let long : suc h ≤ length (set fs h b) = rw (length-set fs h b) within in (
       b,
       ap (λ (n : ℕ). round-from n (flags (m′ .instances))) (command-from p h m c) ∙ ap (round-from (suc h)) (f .others)
@@ -76,14 +76,14 @@ module _ {p : Program} (firm : Firm p) (l : ℕ) where
         left = a .left;
         waited = reads s (a .waited);
         own = a .own;
-        behind = a .behind;
+        after = a .after;
         acts = a .acts;
       })
   passed s (inr a) =
       let h = a .few in
       inr (record { turns = suc (a .turns); few = omega arith; place = a .place; left = a .left; waited = reads s (a .waited); stops = a .stops })
 
-  -- the first holder h, whose command comes to o; whoever waits behind it has its place, by `on`
+  -- the first holder h, whose command comes to o; whoever waits after it has its place, by `on`
   module _ (n : ℕ) (m : Machine) (es : List ℕ) (good : Good p m) (d : due m ≡ false) (h : ℕ) (is : chosen (holders m) 0 ≡ h)
       (on : (h ≡ l → ⊥) → (m′ : Machine) → Acts p m (some 0) m′ → command p h m ≡ next m′ → Waits n m′ es) where
     goes : {m′ : Machine} → command p h m ≡ next m′ → Acts p m (some 0) m′
@@ -91,7 +91,7 @@ module _ {p : Program} (firm : Firm p) (l : ℕ) where
 
     turned : (m′ : Machine) → command p h m ≡ next m′ → Dec (h ≡ l) → Waits (suc n) m (0 ∷ es)
     turned m′ q (yes e) =
-        inl (record { turns = 0; few = omega arith; place = m; byte = 0; left = es; waited = here; own = is ∙ e; behind = m′; acts = goes q })
+        inl (record { turns = 0; few = omega arith; place = m; byte = 0; left = es; waited = here; own = is ∙ e; after = m′; acts = goes q })
     turned m′ q (no e) = passed (record { acts = goes q; other = λ x a b. e (sym is ∙ own x a b) }) (on e m′ (goes q) q)
       where
         own : (x : ℕ) → some 0 ≡ some x → chosen (holders m) x ≡ l → chosen (holders m) 0 ≡ l
@@ -160,7 +160,7 @@ module _ {p : Program} (firm : Firm p) (l : ℕ) where
         left = a .left;
         waited = a .waited;
         own = a .own;
-        behind = a .behind;
+        after = a .after;
         acts = a .acts;
       })
   longer q (inr a) =
