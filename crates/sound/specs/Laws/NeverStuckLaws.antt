@@ -150,4 +150,3 @@ never-stuck a g es = firm-never-stuck (accepted-firm a) g es
 -- Demand 3: so is one on a right table, whatever the turn bytes
 pub demand3 : {p : Program} → Accepted p → (rs : List Record) → TableRight (p .params) rs → (es : List ℕ) → Demand3 p rs es
 demand3 {p} a rs t es = never-stuck a (begin-good p (a .0) rs t) es
-
