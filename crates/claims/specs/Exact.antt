@@ -70,14 +70,16 @@ use Rattle.run.specs.Runs.{Config, Runs, Passes}
 use Rattle.run.specs.Laws.RunAgreesVisits.{passes-bounded, all-taken}
 use Rattle.run.specs.Run.{Outcome.jammed, run}
 use Rattle.run.specs.Begin.{begin}
-use Rattle.run.specs.Initial.{idle, of-record, first-insts, Comes}
-use Rattle.run.specs.Laws.BeginLaws.{null-at, record-at, first-length, jammed-exact}
+use Rattle.run.specs.Initial.{idle, of-record, first-insts, initially}
+use Rattle.run.specs.Comes.{Comes}
+use Rattle.run.specs.Laws.BeginLaws.{null-at, record-at, first-length, begin-stands}
 use Rattle.sound.specs.Invariant.{Good}
 use Rattle.orders.specs.Orders.{Completes}
 use Rattle.orders.specs.Touches.{Apart}
 use Rattle.orders.specs.Constructing.{ConstructsNothing}
 use Rattle.orders.specs.OrderFree.{OrderFree}
 use Rattle.orders.specs.Laws.OrderFreeLaws.{free-after}
+use Rattle.claims.specs.AnyRun.{run-jammed-exactly}
 use Rattle.step_part.specs.StepPart.{step-place, step-part}
 use Rattle.step_part.specs.StepPartLaws.{place-fits, place-part}
 use Rattle.text.specs.Listing.{decimal, int-text}
@@ -159,7 +161,7 @@ types-tested = types-exact
 pub type-one : {G : Ctx} {e : Expr} {t u : Ty} → Types G e t → Types G e u → t ≡ u
 type-one h l = types-unique h l
 
--- ComIfT and ComIfF on the list: behind `if n` stand the body and then the rest, and without the n commands behind it the rest
+-- ComIfT and ComIfF on the list: after `if n` stand the body and then the rest, and without the n commands after it the rest
 pub if-taken : (b c : Coms) → flatten (if-then b c) ≡ if-n (length (flatten b)) ∷ flatten (then b c)
 if-taken = if-true
 
@@ -189,7 +191,7 @@ module _ (pss : List (List Ty)) where
   pub table-bytes-small : (rs : List Record) → HeldTable pss rs → Bytes (enc-table rs)
   table-bytes-small = table-bytes pss
 
-  -- fields that are whole and allowed begin a table, and with one behind them that is not allowed no table goes on
+  -- fields that are whole and allowed begin a table, and with one after them that is not allowed no table goes on
   pub fields-begin : 0 < length pss → length pss ≤ max-instances → {u : List ℕ} {f : Field} → TableFront pss u f → Viable pss u
   fields-begin s l h = front-viable pss s l h
 
@@ -233,8 +235,8 @@ module _ (p : Program) where
 
   -- a run is jammed exactly where the published rules come to nothing
   pub jammed-exactly : (rs : List Record) (es : List ℕ)
-      → (run p (begin p rs) es ≡ jammed) ↔ ((n t k : ℕ) (rs′ : List Record) → Comes p rs es n t k rs′ → ⊥)
-  jammed-exactly rs es = jammed-exact p rs es
+      → (run p (begin p rs) es ≡ jammed) ↔ ((n t k : ℕ) (rs′ : List Record) → Comes p (initially p rs) es n t k rs′ → ⊥)
+  jammed-exactly rs es = run-jammed-exactly p (begin p rs) (begin-stands p rs) es
 
   -- a command is taken for each byte at most, and at 33 for every one
   pub turns-within : {c c′ : Config} {es : List ℕ} {t : ℕ} → Passes p c es t c′ → t ≤ length es

@@ -30,7 +30,7 @@ pub list-determines : (p q : Program) → Counts p → Within p → Counts q →
     → structs-list (p .steps) ≡ structs-list (q .steps)
 list-determines p q c w d v e = words-determine p c w q d v e
 
--- read off the list behind a check, they are those commands
+-- read off the list after a check, they are those commands
 pub list-decoded : (p : Program) → Counts p → Within p → (list : List ℕ)
     → map decode (take (length (program-words p)) (listed p list)) ≡ map some (structs-list (p .steps))
 list-decoded p c w list = listed-decoded p c w list

@@ -21,7 +21,7 @@ use Rattle.interpreter.specs.Running.{cleared, Moving, Running, Ended}
 use Rattle.claims.specs.MemoryLaws.{running-visited, ended-visited}
 
 module _ (p : Program) (counts list items spans : List ℕ) (m : Machine) {es : List ℕ} {z : State} where
-  -- after i turns and the schedule moves behind them: `Running` is the invariant of the loop over the turn bytes. The number of holders that the
+  -- after i turns and the schedule moves after them: `Running` is the invariant of the loop over the turn bytes. The number of holders that the
   -- machine keeps is the one counted from its instances (02, 'Holders kept as a number'), and its turns are counted from the machine's label (02, 'Turns
   -- that go round')
   pub memory-visited : {i : ℕ} → Running p counts list items spans m es i z
@@ -36,7 +36,7 @@ module _ (p : Program) (counts list items spans : List ℕ) (m : Machine) {es : 
       × (run p m es ≡ stopped number taken m′)
   memory-last r = ended-visited p counts list items spans m r
 
--- so it is behind every move of the schedule: `Moving` is the invariant of the loop over the moves
+-- so it is after every move of the schedule: `Moving` is the invariant of the loop over the moves
 pub memory-moved : (p : Program) (counts list items spans : List ℕ) (m : Machine) {z : State} → Moving p counts list items spans m z
     → (m′ : Machine) × (Stands list (At items) m′ z) × (z .machine .holding ≡ length (holders m′)) × (z .machine .from ≡ m′ .from)
     × ((es : List ℕ) → Visits p m es m′ es)

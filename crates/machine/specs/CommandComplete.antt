@@ -229,7 +229,7 @@ module _ (p : Program) (m : Machine) (l : ℕ) (s : Sched) (σ : List Inst) (b :
       λ t χ′ f. put-leads (with-code i (drop (length (flatten d)) r) χ′) (inst k c χ ξ)
       (ek, rw (map-drop erase, ec) (drop-append-seam (flatten d) (flatten c)), f, eξ)
 
--- Of a command, by which counting goes on behind its actor
+-- Of a command, by which counting goes on after its actor
 module _ (p : Program) (m : Machine) (l : ℕ) (s : Sched) (σ : List Inst) (b : List Bool) (R : Represents m (state s σ b)) where
   -- what holds of performing the next command of instance l holds of the command
   taken : (P : Out → Type 0) {k : ℕ} {c : Coms} {χ : List Val} {ξ : Env} {f : Flat} {fs : List Flat}

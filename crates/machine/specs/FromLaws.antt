@@ -1,4 +1,4 @@
--- Counting of turns goes on behind the instance that acts, and a move of the schedule leaves it where it was (02, 'Turns that go round').
+-- Counting of turns goes on after the instance that acts, and a move of the schedule leaves it where it was (02, 'Turns that go round').
 use Prim.Native.Nat.{ℕ, suc}
 use mathlib.Core.Path.{_≡_, refl}
 use mathlib.Core.Bool.{Bool, true, false}
@@ -33,7 +33,7 @@ counts p m l i r (filled u) = tt
 counts p m l i r (branched x) = refl
 counts p m l i r no-way = tt
 
--- behind an act of l the next turn is counted from the label after l
+-- after an act of l the next turn is counted from the label after l
 pub command-from : (p : Program) (l : ℕ) (m : Machine) {m′ : Machine} → command p l m ≡ next m′ → m′ .from ≡ suc l
 command-from p l m e =
     rw e at (by-ways (Counts (suc l)) p m l tt λ i n r o g f h. counts p (acting l m) l (with-written i (now-written n (i .written))) r h)
@@ -51,6 +51,6 @@ moved-by p (active f s) is [] n = tt
 moved-by p (active f s) is (true ∷ b) n = refl
 moved-by p (active f s) is (false ∷ b) n = refl
 
--- behind a move it is counted from where it was before
+-- after a move it is counted from where it was before
 pub move-from : (p : Program) (m : Machine) {m′ : Machine} → move p m ≡ next m′ → m′ .from ≡ m .from
 move-from p m e = rw e at (moved-by p (m .sched) (m .instances) (m .stability) (m .from))

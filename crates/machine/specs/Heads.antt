@@ -23,7 +23,7 @@ plain-head nil f r e = (nil, cc, cc)
 plain-head (act g c) f r e = (c, cc, cc)
 plain-head (if-then b c) f r e = (nil, cc, cc)
 
--- and so is an if, with its body and the rest behind it
+-- and so is an if, with its body and the rest after it
 pub if-head : (d : Coms) (n : ℕ) (r : List Flat) → if-n n ∷ r ≡ flatten d
     → (b c : Coms) × (d ≡ if-then b c) × (n ≡ length (flatten b)) × (r ≡ flatten b ++ flatten c)
 unfolding flatten

@@ -106,7 +106,7 @@ put m l i = with-instances m (set (m .instances) l i)
 abbrev pub with-stability : Machine → List Bool → Machine
 with-stability m b = record { sched = m .sched; instances = m .instances; stability = b; from = m .from }
 
--- instance l acts, and counting goes on behind it
+-- instance l acts, and counting goes on after it
 abbrev pub acting : ℕ → Machine → Machine
 acting l m = record { sched = m .sched; instances = m .instances; stability = m .stability; from = suc l }
 
@@ -118,7 +118,7 @@ leaves-stable p k v x none = true
 leaves-stable p k v x (some y) = elim (ltb v (arity p k)) [ true ↦ same-val y x | false ↦ true ]
 
 module _ (p : Program) (m : Machine) (l : ℕ) (i : Instance) where
-  -- the code behind, with the value x on the stack χ, which came from s
+  -- the code after it, with the value x on the stack χ, which came from s
   abbrev pub laid : List Note → List Tagged → Source → Val → Out
   laid c χ s x = next (put m l (with-code i c (tagged (given-by p s) x ∷ χ)))
 
@@ -232,7 +232,7 @@ module _ (p : Program) (m : Machine) (l : ℕ) (i : Instance) where
         | false ↦ refused full
       ]
 
-  -- one command, the rest of the code behind it
+  -- one command, the rest of the code after it
   unfoldable pub perform : Note → List Note → Out
   perform (n-push t v) c = laid c (i .stack) (literal t) v
   perform n-this c = laid c (i .stack) (this (i .struct)) (label l)

@@ -85,7 +85,7 @@ Fewer n (next m) = codes (m .instances) < n
 Fewer n (refused k) = Unit {0}
 Fewer n stuck = Unit {0}
 
--- every way through a command with r behind it leaves r or less
+-- every way through a command with r after it leaves r or less
 module _ (p : Program) (m : Machine) (l : ℕ) {i₀ : Instance} (g : getElem? (m .instances) l ≡ some i₀) (i : Instance) (r : List Note)
     (h : length r < length (i₀ .code)) where
   kept : (r′ : List Note) (χ : List Tagged) → length r′ ≤ length r → codes (set (m .instances) l (with-code i r′ χ)) < codes (m .instances)

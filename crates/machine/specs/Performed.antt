@@ -29,7 +29,7 @@ pub data Writes : Note → ℕ → Type 0 where
   to-parameter : {k x : ℕ} → Writes (n-wr k x) x
   to-local : {d : Bool} {t : Ty} {x : ℕ} → Writes (n-set d t x) (first-local + x)
 
--- instance l, which is i, takes a command with r behind it
+-- instance l, which is i, takes a command with r after it
 pub data Performed (p : Program) (m : Machine) (l : ℕ) (i : Instance) (r : List Note) : Note → Out → Type 0 where
   pushed : {t : Ty} {v : Val} → Performed p m l i r (n-push t v) (next (put m l (with-code i r (tagged t v ∷ i .stack))))
   pushed-this : Performed p m l i r n-this (next (put m l (with-code i r (tagged (ref (i .struct)) (label l) ∷ i .stack))))

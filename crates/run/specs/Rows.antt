@@ -39,12 +39,12 @@ rows =
     row (P-with 1 twice) (two 5 0 7 1) (zeros 25) (ok 1 1 8 2) (summary 33 25 2 3 (two 5 0 12 1))
     ∷ row (P-with 1 twice) (two 1 0 2147483646 1) (zeros 48) (ok 1 1 8 2) (summary 35 41 2 3 (two 1 0 2147483647 1))
     ∷ of-P (two 1 0 2147483647 1) (zeros 17) 33 17 3 (two 1 0 2147483647 1)
-    -- the schedule moves on behind the last byte
+    -- the schedule moves on after the last byte
     ∷ row (P-with 1 twice) (two 5 0 7 1) (zeros 24) (ok 1 1 8 2) (summary 33 24 2 3 (two 5 0 12 1))
     ∷ row nothing empty [] (ok 1 1 0 0) (summary 0 0 0 0 empty)
     -- bytes above the number of holders
     ∷ of-P (two 5 2 7 1) (replicate 8 254 ++ replicate 8 3 ++ replicate 8 200) 0 24 0 (two 17 2 12 1)
-    -- counting goes on where it was when a step starts; behind the highest label comes the one that its own command made
+    -- counting goes on where it was when a step starts; after the highest label comes the one that its own command made
     ∷ row makers (2 ∷ 0 ∷ 0 ∷ 1 ∷ []) (replicate 8 1) (ok 4 2 2 1) (summary 0 8 1 0 (10 ∷ 0 ∷ 0 ∷ 1 ∷ 3 ∷ 3 ∷ 2 ∷ 2 ∷ 2 ∷ 2 ∷ 3 ∷ 3 ∷ []))
     ∷ row chained empty (zeros 11) (ok 2 2 8 2) (summary 0 11 2 0 (cells 3 (1 ∷ enc-word 4 10 ++ single 10 ++ single 0)))
     -- a null instance runs, and a write to its parameter is dropped and leaves stability; its locals are written

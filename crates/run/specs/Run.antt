@@ -9,7 +9,7 @@ use Rattle.machine.specs.Published.{Sched, Sched.done, Sched.start, Sched.fixpo
 use Rattle.machine.specs.Machine.{Machine, Out, Out.next, Out.refused, Out.stuck, Moved, Moved.next, Moved.stuck, command, move}
 use Rattle.machine.specs.Measure.{weight, bound}
 use Rattle.run.specs.Turns.{chosen}
-use Rattle.run.specs.Holders.{holders}
+use Rattle.run.specs.Holders.{holders, due}
 use Rattle.machine.specs.Stops.{ended, out-of-turns}
 
 pub data Outcome : Type 0 where
@@ -22,9 +22,9 @@ unfoldable pub later : Outcome → Outcome
 later (stopped n t m) = stopped n (suc t) m
 later jammed = jammed
 
--- where the schedule's moves lead: a machine whose holders are h and hs, or an outcome
+-- where the schedule's moves lead: a machine in which none is due, or an outcome
 pub data Settled : Type 0 where
-  hold : Machine → ℕ → List ℕ → Settled
+  hold : Machine → Settled
   stop : Outcome → Settled
 
 unfoldable pub is-done : Sched → Bool
@@ -38,14 +38,14 @@ unfoldable pub moved : (Machine → Settled) → Moved → Settled
 moved k (next m′) = k m′
 moved k stuck = stop jammed
 
--- a move that is due (`due` of Holders) is made, and no turn is asked for before it
-unfoldable pub settle-by : (Machine → Settled) → Program → Machine → List ℕ → Settled
-settle-by k p m (h ∷ hs) = hold m h hs
-settle-by k p m [] = elim (is-done (m .sched)) [ true ↦ stop (stopped ended 0 m) | false ↦ moved k (move p m) ]
+-- a move that is due is made, and no turn is asked for before it
+unfoldable pub settle-by : (Machine → Settled) → Program → Machine → Bool → Settled
+settle-by k p m false = hold m
+settle-by k p m true = elim (is-done (m .sched)) [ true ↦ stop (stopped ended 0 m) | false ↦ moved k (move p m) ]
 
 unfoldable pub settle : Program → ℕ → Machine → Settled
 settle p zero m = stop jammed
-settle p (suc f) m = settle-by (λ m′. settle p f m′) p m (holders m)
+settle p (suc f) m = settle-by (λ m′. settle p f m′) p m (due m)
 
 -- more moves than any machine can make without a turn (law `fuel-enough`)
 unfoldable pub fuel : Machine → ℕ
@@ -58,12 +58,12 @@ taken k m (refused n) = stopped n 0 m
 taken k m stuck = jammed
 
 unfoldable pub turn : (Machine → Outcome) → Program → ℕ → Settled → Outcome
-turn k p e (hold m h hs) = taken k m (command p (chosen (h ∷ hs) e) m)
+turn k p e (hold m) = taken k m (command p (chosen (holders m) e) m)
 turn k p e (stop o) = o
 
 -- no byte is left
 unfoldable pub at-last : Settled → Outcome
-at-last (hold m h hs) = stopped out-of-turns 0 m
+at-last (hold m) = stopped out-of-turns 0 m
 at-last (stop o) = o
 
 unfoldable pub run : Program → Machine → List ℕ → Outcome

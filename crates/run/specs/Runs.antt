@@ -48,7 +48,7 @@ pub data Step (p : Program) : Config → Option ℕ → Config → Type 0 where
   takes : {n e : ℕ} {st st′ : State} → (Due st → ⊥) → Rule p (instance (picked n e st)) st st′
       → Step p (config n st) (some e) (config (suc (picked n e st)) st′)
 
--- from a configuration, with these bytes, a run passes through another, its beginning or one behind a step, with so many commands taken by then
+-- from a configuration, with these bytes, a run passes through another, its beginning or one after a step, with so many commands taken by then
 abbrev pub Passes : Program → Config → List ℕ → ℕ → Config → Type 0
 Passes p c es t z = (fs : List ℕ) × Steps (Step p) c es t z fs
 

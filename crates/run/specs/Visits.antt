@@ -1,4 +1,4 @@
--- The machines of a run (01, 'The words of demand 3'): its beginning, and behind each command and each schedule move. A refused act changes
+-- The machines of a run (01, 'The words of demand 3'): its beginning, and after each command and each schedule move. A refused act changes
 -- nothing, so the machine before it is the last.
 use Prim.Native.Nat.{ℕ}
 use mathlib.Core.Path.{_≡_}

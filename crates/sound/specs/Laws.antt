@@ -1,4 +1,4 @@
--- Laws behind 'never stuck': what each command and move keeps of the invariant, and what follows from it (01, 'The run').
+-- Laws for 'never stuck': what each command and move keeps of the invariant, and what follows from it (01, 'The run').
 pub mod ElemLaws
 pub mod EachLaws
 pub mod Keeps
@@ -6,6 +6,7 @@ pub mod GoodLaws
 pub mod SizedLaws
 pub mod AcceptedLaws
 pub mod PassageLaws
+pub mod ArriveLaws
 pub mod ReadyLaws
 pub mod Outcomes
 pub mod EnvLaws
@@ -19,9 +20,12 @@ pub mod BeginGood
 pub mod ShallowLaws
 pub mod HolderLaws
 pub mod FlagLaws
+pub mod GoodStands
 pub mod ConditionLaws
 pub mod NeverStuckLaws
 pub mod WaitLaws
 pub mod StartedLaws
 pub mod TabledLaws
+pub mod LastLaws
+pub mod StartableLaws
 pub mod TableKept

@@ -21,7 +21,7 @@ pub record NeverStuck (p : Program) (m : Machine) (es : List ℕ) : Type 0 where
   pub turns : ℕ
   pub last : Machine
   pub returns : run p m es ≡ stopped number turns last
-  -- it has come to that machine by those turns, with the bytes behind them left
+  -- it has come to that machine by those turns, with the bytes after them left
   pub counted : turns ≤ length es
   pub visited : Visits p m es last (drop turns es)
   -- in every machine that the run passes through, that one included, every next command finds what it needs, every parameter holds
@@ -32,7 +32,7 @@ pub record NeverStuck (p : Program) (m : Machine) (es : List ℕ) : Type 0 where
   -- the number is returned exactly at its condition: it holds there, no other number's does, and none does at an earlier machine
   pub exactly : (z : Machine) (fs : List ℕ) → Visits p m es z fs
       → (k : ℕ) → Condition z fs k ↔ ((z ≡ last) × (fs ≡ drop turns es) × (k ≡ number))
-  -- nothing is visited behind it: a refused act changes nothing and is the last
+  -- nothing is visited after it: a refused act changes nothing and is the last
   pub final : (z : Machine) (fs : List ℕ) → Visits p last (drop turns es) z fs → (z ≡ last) × (fs ≡ drop turns es)
 
 -- of a run that begins with a table and the whole schedule

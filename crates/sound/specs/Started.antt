@@ -19,7 +19,7 @@ pub data Left (r : Sched) : Sched → Type 0 where
   again : {f s : Sched} → Left r (active f s) → Left r (before f (active f s))
   out : {f s : Sched} → Left r (active f s) → Left r s
 
--- the schedule s is what a run of p has left behind the step call a
+-- the schedule s is what a run of p has left after the step call a
 abbrev pub Started : Program → StepCall → Sched → Type 0
 Started p a s = Left (of-items (p .schedule)) (start a s)
 

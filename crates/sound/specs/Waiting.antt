@@ -18,7 +18,7 @@ pub record Passes (p : Program) (l : ℕ) (m : Machine) (a : Option ℕ) (m′ :
   pub acts : Acts p m a m′
   pub other : (e : ℕ) → a ≡ some e → chosen (holders m) e ≡ l → ⊥
 
--- from a machine, with these bytes, instance l takes a command within n turns: fewer than n pass it by, and the byte behind them is its own
+-- from a machine, with these bytes, instance l takes a command within n turns: fewer than n pass it by, and the byte after them is its own
 pub record ActsWithin (p : Program) (l n : ℕ) (m : Machine) (es : List ℕ) : Type 0 where
   pub turns : ℕ
   pub few : turns < n
@@ -27,8 +27,8 @@ pub record ActsWithin (p : Program) (l n : ℕ) (m : Machine) (es : List ℕ) : 
   pub left : List ℕ
   pub waited : Steps (Passes p l) m es turns place (byte ∷ left)
   pub own : chosen (holders place) byte ≡ l
-  pub behind : Machine
-  pub acts : Acts p place (some byte) behind
+  pub after : Machine
+  pub acts : Acts p place (some byte) after
 
 -- the run stops with 34 or 35 before: fewer than n turns pass l by, and there the condition of that number holds
 pub record StopsBefore (p : Program) (l n : ℕ) (m : Machine) (es : List ℕ) : Type 0 where

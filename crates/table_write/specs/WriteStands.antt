@@ -16,11 +16,11 @@ use Rattle.program.specs.Counts.{Counts}
 use Rattle.commands.specs.Context.{params-of}
 use Rattle.table.specs.Table.{value-bytes, count-bytes, enc-value, enc-record, enc-table}
 use Rattle.table.specs.SizeLaws.{each-length, few-params}
-use Rattle.machine.specs.Published.{StepCall, Sched, Env, Env.env, lookup, structs}
+use Rattle.machine.specs.Published.{Sched, Env, Env.env, lookup, structs}
 use Rattle.machine.specs.Machine.{Instance, Machine}
 use Rattle.run.specs.Begin.{params-in, record-of, table-of}
 use Rattle.sound.specs.Needs.{ValueAmong}
-use Rattle.sound.specs.Invariant.{Fitted, GoodAll}
+use Rattle.sound.specs.Invariant.{Job, Fitted, GoodAll}
 use Rattle.sound.specs.Tabled.{Tabled}
 use Rattle.sound.specs.Laws.ElemLaws.{at-below, at-drop}
 use Rattle.sound.specs.Laws.EnvLaws.{param-at}
@@ -66,7 +66,7 @@ module _ (cs h c : List ℕ) where
       (rows-are (suc l) is λ j k e. let w : l + suc j ≡ suc l + j = omega arith in rw w at (f (suc j) k e)))
 
 module _ (p : Program) (counts : Counts p) (list : List ℕ) (P : ℕ → Sched → Type 0) (m : Machine) (z : State) (st : Stands list P m z)
-    {r : Option StepCall} (good : GoodAll p r (m .instances)) (tabled : Tabled p (m .instances)) where
+    {r : Option Job} (good : GoodAll p r (m .instances)) (tabled : Tabled p (m .instances)) where
   abbrev cs : List ℕ
   cs = map length (p .params)
 

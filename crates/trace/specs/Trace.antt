@@ -1,12 +1,12 @@
 -- The trace of a run (01, 'Table and turns', 'The words of demand 3'): a line for each move of the schedule and each turn, with the machine before it and
--- the one behind it. A refused command has no line: it changes nothing.
+-- the one after it. A refused command has no line: it changes nothing.
 use Prim.Native.Nat.{ℕ, zero, suc}
-use mathlib.Core.Bool.{true, false}
+use mathlib.Core.Bool.{Bool, true, false}
 use mathlib.Core.List.{List, [], _∷_, _++_}
 use Rattle.program.specs.Tree.{Program}
 use Rattle.machine.specs.Machine.{Machine, Out, Out.next, Out.refused, Out.stuck, Moved, Moved.next, Moved.stuck, command, move}
 use Rattle.run.specs.Turns.{chosen}
-use Rattle.run.specs.Holders.{holders}
+use Rattle.run.specs.Holders.{holders, due}
 use Rattle.run.specs.Steps.{Steps, Steps.here, Steps.silent, Steps.reads}
 use Rattle.run.specs.Visits.{Acts}
 use Rattle.run.specs.Run.{Settled, Settled.hold, Settled.stop, is-done, settle, fuel}
@@ -29,14 +29,14 @@ unfoldable pub move-line : (Machine → List Line) → Machine → Moved → Lis
 move-line k m (next m′) = moved m m′ ∷ k m′
 move-line k m stuck = []
 
-unfoldable pub moves-by : (Machine → List Line) → Program → Machine → List ℕ → List Line
-moves-by k p m (h ∷ hs) = []
-moves-by k p m [] = elim (is-done (m .sched)) [ true ↦ [] | false ↦ move-line k m (move p m) ]
+unfoldable pub moves-by : (Machine → List Line) → Program → Machine → Bool → List Line
+moves-by k p m false = []
+moves-by k p m true = elim (is-done (m .sched)) [ true ↦ [] | false ↦ move-line k m (move p m) ]
 
 -- the schedule's moves, as `settle` makes them
 unfoldable pub moves : Program → ℕ → Machine → List Line
 moves p zero m = []
-moves p (suc f) m = moves-by (λ m′. moves p f m′) p m (holders m)
+moves p (suc f) m = moves-by (λ m′. moves p f m′) p m (due m)
 
 -- a turn, and on by k
 unfoldable pub turn-line : (Machine → List Line) → ℕ → ℕ → Machine → Out → List Line
@@ -45,7 +45,7 @@ turn-line k e l m (refused n) = []
 turn-line k e l m stuck = []
 
 unfoldable pub turn-lines : (Machine → List Line) → Program → ℕ → Settled → List Line
-turn-lines k p e (hold m h hs) = turn-line k e (chosen (h ∷ hs) e) m (command p (chosen (h ∷ hs) e) m)
+turn-lines k p e (hold m) = turn-line k e (chosen (holders m) e) m (command p (chosen (holders m) e) m)
 turn-lines k p e (stop o) = []
 
 -- of a whole list of bytes, as `run` takes them

@@ -8,7 +8,7 @@ use mathlib.Core.List.{List, [], _∷_, _++_, append-nil}
 use Rattle.program.specs.Tree.{Program}
 use Rattle.machine.specs.Machine.{Machine, Out, Out.next, Out.refused, Out.stuck, Moved, Moved.next, Moved.stuck, command, move}
 use Rattle.run.specs.Turns.{chosen}
-use Rattle.run.specs.Holders.{holders, none-of, due}
+use Rattle.run.specs.Holders.{holders, due}
 use Rattle.run.specs.Steps.{Steps, Steps.here, Steps.silent, Steps.reads}
 use Rattle.run.specs.Visits.{Acts, Acts.moves as by-move, Acts.takes as by-turn}
 use Rattle.run.specs.Run.{Outcome, Outcome.stopped, Outcome.jammed, later, Settled, Settled.hold, Settled.stop, is-done, moved as moved-on, settle-by}
@@ -25,7 +25,7 @@ Leads p m z ls = (es fs : List ℕ) (t : ℕ) (w : Machine) (ks : List Line) →
 
 -- of the moves up to where a machine settles
 abbrev MovesSay : Program → Machine → List Line → Settled → Type 0
-MovesSay p m ls (hold z h hs) = (Leads p m z ls) × (holders z ≡ h ∷ hs)
+MovesSay p m ls (hold z) = (Leads p m z ls) × (due z ≡ false)
 MovesSay p m ls (stop (stopped n t z)) = (t ≡ 0) × (Leads p m z ls)
 MovesSay p m ls (stop jammed) = Unit {0}
 
@@ -48,7 +48,7 @@ module _ (p : Program) where
   move-first m m′ z ls d e h es fs t w ks x = let (v, q) = h es fs t w ks x in (silent (by-move d e) v, ap {B = List Line} (λ l. moved m m′ ∷ l) q)
 
   say-first : (m m′ : Machine) (ls : List Line) (x : Settled) → due m ≡ true → move p m ≡ next m′ → MovesSay p m′ ls x → MovesSay p m (moved m m′ ∷ ls) x
-  say-first m m′ ls (hold z h hs) d e (w, q) = (move-first m m′ z ls d e w, q)
+  say-first m m′ ls (hold z) d e (w, q) = (move-first m m′ z ls d e w, q)
   say-first m m′ ls (stop (stopped n t z)) d e (q, w) = (q, move-first m m′ z ls d e w)
   say-first m m′ ls (stop jammed) d e u = tt
 
@@ -60,9 +60,9 @@ module _ (p : Program) where
   here-way m es = (here, refl)
 
   moves-say : (f : ℕ) (m : Machine) → MovesSay p m (moves p f m) (settle p f m)
-  unfolding moves moves-by move-line settle settle-by moved-on due none-of
+  unfolding moves moves-by move-line settle settle-by moved-on
   moves-say zero m = tt
-  moves-say (suc f) m = by (holders m) refl λ m′. moves-say f m′
+  moves-say (suc f) m = by (due m) refl λ m′. moves-say f m′
     where
       of-move : (o : Moved) → due m ≡ true → move p m ≡ o → Before p f → MovesSay p m (move-line (λ m′. moves p f m′) m o) (moved-on (λ m′. settle p f m′) o)
       of-move (next m′) d e r = say-first m m′ (moves p f m′) (settle p f m′) d e (r m′)
@@ -74,18 +74,15 @@ module _ (p : Program) where
       at-done true d r = (refl, here-leads m)
       at-done false d r = of-move (move p m) d refl r
 
-      by : (hs : List ℕ) → holders m ≡ hs → Before p f → MovesSay p m (moves-by (λ m′. moves p f m′) p m hs) (settle-by (λ m′. settle p f m′) p m hs)
-      by (h ∷ hs) e r = (here-leads m, e)
-      by [] e r = at-done (is-done (m .sched)) (rw e) r
+      by : (t : Bool) → due m ≡ t → Before p f → MovesSay p m (moves-by (λ m′. moves p f m′) p m t) (settle-by (λ m′. settle p f m′) p m t)
+      by false e r = (here-leads m, e)
+      by true e r = at-done (is-done (m .sched)) e r
 
   -- a turn before a way
-  turn-first : (m m′ : Machine) {z : Machine} (e h : ℕ) {es fs : List ℕ} (hs : List ℕ) {t : ℕ} {ls : List Line} → holders m ≡ h ∷ hs
-      → command p (chosen (h ∷ hs) e) m ≡ next m′ → Way p m′ es t z fs ls → Way p m (e ∷ es) (suc t) z fs (acted e (chosen (h ∷ hs) e) m m′ ∷ ls)
-  unfolding lines-of due none-of
-  turn-first m m′ e h hs q c (v, r) =
-      let a : command p (chosen (holders m) e) m ≡ next m′ = rw q c in
-      let b : due m ≡ false = rw q in
-      (reads (by-turn {m = m} {m′ = m′} {e = e} b a) v, rw (q, r))
+  turn-first : (m m′ : Machine) {z : Machine} (e : ℕ) {es fs : List ℕ} {t : ℕ} {ls : List Line} → due m ≡ false
+      → command p (chosen (holders m) e) m ≡ next m′ → Way p m′ es t z fs ls → Way p m (e ∷ es) (suc t) z fs (acted e (chosen (holders m) e) m m′ ∷ ls)
+  unfolding lines-of
+  turn-first m m′ e q c (v, r) = (reads (by-turn {m = m} {m′ = m′} {e = e} q c) v, rw r)
 
   -- the last moves of all
   ending : (m z : Machine) (es : List ℕ) (ls : List Line) → Leads p m z ls → Way p m es 0 z es ls
@@ -96,22 +93,22 @@ module _ (p : Program) where
   trace-says [] m = at-end (settle p (fuel m) m) (moves-say (fuel m) m)
     where
       at-end : (x : Settled) → MovesSay p m (moves p (fuel m) m) x → RunSays p m [] (moves p (fuel m) m) (at-last x)
-      at-end (hold z h hs) (w, q) = ([], ending m z [] (moves p (fuel m) m) w)
+      at-end (hold z) (w, q) = ([], ending m z [] (moves p (fuel m) m) w)
       at-end (stop (stopped n t z)) (q, w) = ([], rw q (ending m z [] (moves p (fuel m) m) w))
       at-end (stop jammed) u = tt
   trace-says (e ∷ es) m = by (settle p (fuel m) m) (moves-say (fuel m) m) λ m′. trace-says es m′
     where
-      behind : (z m′ : Machine) (h : ℕ) (hs : List ℕ) (o : Outcome) → holders z ≡ h ∷ hs → command p (chosen (h ∷ hs) e) z ≡ next m′
-          → RunSays p m′ es (trace p m′ es) o → RunSays p z (e ∷ es) (acted e (chosen (h ∷ hs) e) z m′ ∷ trace p m′ es) (later o)
-      behind z m′ h hs (stopped n t w) q c (fs, v) = (fs, turn-first z m′ e h hs q c v)
-      behind z m′ h hs jammed q c u = tt
+      after : (z m′ : Machine) (o : Outcome) → due z ≡ false → command p (chosen (holders z) e) z ≡ next m′
+          → RunSays p m′ es (trace p m′ es) o → RunSays p z (e ∷ es) (acted e (chosen (holders z) e) z m′ ∷ trace p m′ es) (later o)
+      after z m′ (stopped n t w) q c (fs, v) = (fs, turn-first z m′ e q c v)
+      after z m′ jammed q c u = tt
 
       -- the turn of a machine with holders
-      of-turn : (z : Machine) (h : ℕ) (hs : List ℕ) (o : Out) → holders z ≡ h ∷ hs → command p (chosen (h ∷ hs) e) z ≡ o → Rest p es
-          → RunSays p z (e ∷ es) (turn-line (λ m′. trace p m′ es) e (chosen (h ∷ hs) e) z o) (taken (λ m′. run p m′ es) z o)
-      of-turn z h hs (next m′) q c r = behind z m′ h hs (run p m′ es) q c (r m′)
-      of-turn z h hs (refused n) q c r = (e ∷ es, here-way z (e ∷ es))
-      of-turn z h hs stuck q c r = tt
+      of-turn : (z : Machine) (o : Out) → due z ≡ false → command p (chosen (holders z) e) z ≡ o → Rest p es
+          → RunSays p z (e ∷ es) (turn-line (λ m′. trace p m′ es) e (chosen (holders z) e) z o) (taken (λ m′. run p m′ es) z o)
+      of-turn z (next m′) q c r = after z m′ (run p m′ es) q c (r m′)
+      of-turn z (refused n) q c r = (e ∷ es, here-way z (e ∷ es))
+      of-turn z stuck q c r = tt
 
       with-moves : (z : Machine) (o : Outcome) (ls : List Line) → Leads p m z (moves p (fuel m) m) → RunSays p z (e ∷ es) ls o
           → RunSays p m (e ∷ es) (moves p (fuel m) m ++ ls) o
@@ -120,9 +117,9 @@ module _ (p : Program) where
 
       by : (x : Settled) → MovesSay p m (moves p (fuel m) m) x → Rest p es
           → RunSays p m (e ∷ es) (moves p (fuel m) m ++ turn-lines (λ m′. trace p m′ es) p e x) (turn (λ m′. run p m′ es) p e x)
-      by (hold z h hs) (w, q) r =
-          with-moves z (taken (λ m′. run p m′ es) z (command p (chosen (h ∷ hs) e) z)) _ w
-          (of-turn z h hs (command p (chosen (h ∷ hs) e) z) q refl r)
+      by (hold z) (w, q) r =
+          with-moves z (taken (λ m′. run p m′ es) z (command p (chosen (holders z) e) z)) _ w
+          (of-turn z (command p (chosen (holders z) e) z) q refl r)
       by (stop (stopped n t z)) (q, w) r = (e ∷ es, rw q (w (e ∷ es) (e ∷ es) 0 z [] (here-way z (e ∷ es))))
       by (stop jammed) u r = tt
 
@@ -133,7 +130,7 @@ module _ (p : Program) where
       let h : RunSays p m es (trace p m es) (stopped n t z) = rw e at (trace-says es m) in
       (h .0, h .1 .0, h .1 .1)
 
--- the machine behind the last line of a way is its last, and its turns are counted
+-- the machine after the last line of a way is its last, and its turns are counted
 pub lines-last : {p : Program} {m z : Machine} {es fs : List ℕ} {t : ℕ} (v : Steps (Acts p) m es t z fs) → last-of m (lines-of v) ≡ z
 unfolding lines-of last-of
 lines-last here = refl

@@ -12,7 +12,6 @@ use Rattle.machine.specs.Measure.{bound}
 use Rattle.machine.specs.MeasureLaws.{move-falls}
 use Rattle.run.specs.Turns.{chosen}
 use Rattle.run.specs.Holders.{holders, due}
-use Rattle.run.specs.Laws.TurnLaws.{due-none, due-some}
 use Rattle.run.specs.Laws.Settles.{Settles.holds, Settles.ends as settles-end, Settles.moves as settles-move}
 use Rattle.run.specs.Laws.FuelLaws.{Enough, fuel-suffices, fuel-settles, settled}
 use Rattle.run.specs.Run.{Settled, Settled.hold, Settled.stop, is-done, settle, fuel}
@@ -24,7 +23,7 @@ module _ (p : Program) where
   unfolding moves moves-by move-line
   moves-fuel B C zero g m h k = absurd (omega arith)
   moves-fuel B C (suc f) zero m h k = absurd (omega arith)
-  moves-fuel B C (suc f) (suc g) m h k = by (holders m) λ m′ a b. moves-fuel B C f g m′ a b
+  moves-fuel B C (suc f) (suc g) m h k = by (due m) λ m′ a b. moves-fuel B C f g m′ a b
     where
       of-move : (o : Moved) → move p m ≡ o → ((m′ : Machine) → Enough B f m′ → Enough C g m′ → moves p f m′ ≡ moves p g m′)
           → move-line (λ m′. moves p f m′) m o ≡ move-line (λ m′. moves p g m′) m o
@@ -40,10 +39,10 @@ module _ (p : Program) where
       at-done true r = refl
       at-done false r = of-move (move p m) refl r
 
-      by : (hs : List ℕ) → ((m′ : Machine) → Enough B f m′ → Enough C g m′ → moves p f m′ ≡ moves p g m′)
-          → moves-by (λ m′. moves p f m′) p m hs ≡ moves-by (λ m′. moves p g m′) p m hs
-      by (h ∷ hs) r = refl
-      by [] r = at-done (is-done (m .sched)) r
+      by : (t : Bool) → ((m′ : Machine) → Enough B f m′ → Enough C g m′ → moves p f m′ ≡ moves p g m′)
+          → moves-by (λ m′. moves p f m′) p m t ≡ moves-by (λ m′. moves p g m′) p m t
+      by false r = refl
+      by true r = at-done (is-done (m .sched)) r
 
   -- a schedule that moves is not at its end
   undone : (s : Sched) (is : List Instance) (b : List Bool) (n : ℕ) {m′ : Machine} → move-by p s is b n ≡ next m′ → is-done s ≡ false
@@ -60,7 +59,7 @@ module _ (p : Program) where
       moves-first zero h = absurd (omega arith)
       moves-first (suc f) h =
           let (a, b) = move-falls p (bound (m .sched)) m (h .0) q in
-          rw (due-none m .0 d, undone (m .sched) (m .instances) (m .stability) (m .from) q, moves-by, q)
+          rw (d, undone (m .sched) (m .instances) (m .stability) (m .from) q, moves-by, q)
           (ap {B = List Line} (λ ls. moved m m′ ∷ ls) (moves-fuel (bound (m .sched)) (bound (m′ .sched)) f (fuel m′) m′ (b, omega arith) (fuel-suffices m′)))
 
       -- a move that is due
@@ -73,13 +72,13 @@ module _ (p : Program) where
       moves-none : (f : ℕ) → moves p f m ≡ []
       unfolding moves moves-by
       moves-none zero = refl
-      moves-none (suc f) = let (h, hs, g) = due-some m d in rw g
+      moves-none (suc f) = rw d
 
       -- a turn, refused or not
       pub trace-turn : (e : ℕ) (es : List ℕ)
           → trace p m (e ∷ es) ≡ turn-line (λ m′. trace p m′ es) e (chosen (holders m) e) m (command p (chosen (holders m) e) m)
       unfolding trace turn-lines
-      trace-turn e es = let (h, hs, g) = due-some m d in rw (moves-none (fuel m), settled p (holds g), g)
+      trace-turn e es = rw (moves-none (fuel m), settled p (holds d))
 
       -- no byte is left
       pub trace-lasts : trace p m [] ≡ []
@@ -90,7 +89,7 @@ module _ (p : Program) where
       moves-ended : (f : ℕ) → moves p f m ≡ []
       unfolding moves moves-by is-done
       moves-ended zero = refl
-      moves-ended (suc f) = rw (due-none m .0 d, q)
+      moves-ended (suc f) = rw (d, q)
 
       -- the schedule is at its end
       pub trace-ends : (es : List ℕ) → trace p m es ≡ []

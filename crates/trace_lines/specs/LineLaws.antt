@@ -25,10 +25,10 @@ use Rattle.commands.specs.Noted.{Note.n-if, erase, noted}
 use Rattle.commands.specs.Laws.NotedLaws.{erased}
 use Rattle.operators.specs.Ranges.{Of as Range, Of.of-int, Of.of-nat, Of.of-bool, Of.of-ref}
 use Rattle.table.specs.Table.{Each}
-use Rattle.machine.specs.Published.{StepCall, Sched, structs}
+use Rattle.machine.specs.Published.{Sched, structs}
 use Rattle.machine.specs.Machine.{Tagged, Instance, Machine}
 use Rattle.sound.specs.Needs.{ValueAmong}
-use Rattle.sound.specs.Invariant.{Fits, Place, Place.resting, Place.passing}
+use Rattle.sound.specs.Invariant.{Job, Fits, Place, Place.resting, Place.passing}
 use Rattle.sound.specs.Sized.{Lasting, Lasting.an-int, Lasting.a-nat, Lasting.a-bool, Lasting.a-null, Sized}
 use Rattle.sound.specs.Laws.ValueLaws.{ranges}
 use Rattle.layout.specs.Layout.{head, struct-of, height-of, next-of, end-of, stacked, cell, type-byte, operand}
@@ -118,7 +118,7 @@ each-among is [] (x ∷ χ) e = absurd e
 each-among is (t ∷ ts) [] e = absurd e
 each-among is (t ∷ ts) (x ∷ χ) (f, e) = (rw (f .0) (f .1), each-among is ts χ e)
 
-place-among : {p : Program} {r : Option StepCall} {is : List Instance} {l : ℕ} (i : Instance) → Place p r is l i → All (Among is) (i .stack)
+place-among : {p : Program} {r : Option Job} {is : List Instance} {l : ℕ} (i : Instance) → Place p r is l i → All (Among is) (i .stack)
 place-among i (resting c s) = rw s tt
 place-among {is = is} i (passing g e) = each-among is (g .place .stack) (i .stack) (g .stacked)
 

@@ -5,8 +5,8 @@ use native.Mathlib.Omega.{arith}
 use mathlib.Core.Path.{_≡_, refl, ap, _∙_}
 use mathlib.Core.Bool.{Bool, true, false}
 use mathlib.Core.Option.{some}
-use mathlib.Core.List.{List, [], _∷_}
-use lib.ListN.{length, getD, getElem?, drop, length-map, length-drop, List·getD-map, List·getD-eq-default}
+use mathlib.Core.List.{List, [], _∷_, _++_}
+use lib.ListN.{length, getD, getElem?, drop, length-map, length-drop, length-append, List·getD-map, List·getD-eq-default}
 use lib.Dec.{ltb}
 use borrow.Author.Tests.{ltb-true, ltb-false}
 use Rattle.types.specs.Limits.{max-depth, variables}
@@ -18,13 +18,13 @@ use Rattle.commands.specs.Bounds.{program-depth}
 use Rattle.commands.specs.Noted.{Note, Note.n-push, Note.n-this, Note.n-cons}
 use Rattle.commands.specs.Tags.{stack-after, jump, Way.on}
 use Rattle.commands.specs.Laws.SecureWays.{behind, way-secure}
-use Rattle.machine.specs.Published.{StepCall, Env, Env.env, lookup, structs, arity}
+use Rattle.machine.specs.Published.{Env, Env.env, lookup, structs, arity}
 use Rattle.machine.specs.Machine.{Instance, Machine}
 use Rattle.sound.specs.Needs.{Needs}
-use Rattle.sound.specs.Invariant.{Fits, Fitted, Passage, Good}
+use Rattle.sound.specs.Invariant.{Job, Fits, Fitted, Passage, Good}
 use Rattle.sound.specs.Firm.{Firm}
 use Rattle.sound.specs.Laws.ReadyLaws.{good-right}
-use Rattle.sound.specs.Laws.PassageLaws.{holder-passage, has-step as step-had, ctx, way-at, next-sized}
+use Rattle.sound.specs.Laws.PassageLaws.{holder-passage, first-held, has-step as step-had, ctx, way-at, next-sized}
 use Rattle.sound.specs.Laws.EachLaws.{each-length}
 use Rattle.sound.specs.Laws.ElemLaws.{none-some}
 use Rattle.sound.specs.Sized.{Sized}
@@ -76,23 +76,30 @@ good-slim {p} firm bound {m} good l i at =
 
 module _ {p : Program} {counts : List ℕ} (firm : Firm p) (bound : Bounded p counts) {m : Machine} (good : Good p m) (l : ℕ) (i : Instance)
     (at : getElem? (m .instances) l ≡ some i) (n : Note) (c : List Note) (e : i .code ≡ n ∷ c) where
-  runs : StepCall
+  runs : Job
   runs = holder-passage (good .all .each l i at .place) e .0
 
   passage : Passage p runs (m .instances) l i
   unfolding runs
   passage = holder-passage (good .all .each l i at .place) e .2
 
+  -- the next command is the first of the step's that are left
+  next-one : (d : List Note) × (passage .held ≡ n ∷ d) × (c ≡ d ++ passage .rest)
+  next-one = first-held passage e
+
   -- the command finds what it needs, and carries what is in its range
   pub actor-needs : Needs p m l i n
   actor-needs = rw e at (good-right firm good .ready l i at)
 
   pub actor-sized : Sized (structs p) n
-  actor-sized = next-sized passage firm n c e
+  actor-sized = next-sized passage firm n (next-one .0) (next-one .1)
 
   -- an if's body stands before the end of the actor's commands
   pub actor-jump : jump n ≤ length c
-  actor-jump = behind (way-secure (firm .secure (i .struct) (step-had passage .0) (step-had passage .1) .1) (way-at passage firm n c e)) .within
+  actor-jump =
+      let secure = firm .secure (i .struct) (step-had passage .0) (step-had passage .1) .1 in
+      let h = behind (way-secure secure (way-at passage firm n (next-one .0) (next-one .1))) .within in
+      omega (arith, ap length (next-one .2), length-append (next-one .0) (passage .rest))
 
   -- the actor's struct is one of the program's
   pub actor-struct : i .struct < structs p
@@ -105,7 +112,7 @@ module _ {p : Program} {counts : List ℕ} (firm : Firm p) (bound : Bounded p co
   actor-room : length (stack-after (ctx passage) n (passage .place .stack)) ≤ max-depth
   actor-room =
       let a : length (stack-after (ctx passage) n (passage .place .stack)) ≤ program-depth p =
-      firm .low (i .struct) (step-had passage .0) (step-had passage .1) (on (way-at passage firm n c e)) in
+      firm .low (i .struct) (step-had passage .0) (step-had passage .1) (on (way-at passage firm n (next-one .0) (next-one .1))) in
       let b : program-depth p ≤ max-depth = bound .deep in
       omega arith
 

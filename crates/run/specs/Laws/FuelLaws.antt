@@ -15,7 +15,6 @@ use Rattle.machine.specs.Measure.{bound, passages, measure}
 use Rattle.machine.specs.MeasureLaws.{move-falls}
 use Rattle.run.specs.Turns.{chosen}
 use Rattle.run.specs.Holders.{holders, due}
-use Rattle.run.specs.Laws.TurnLaws.{due-none, due-some, some-due}
 use Rattle.machine.specs.Stops.{ended}
 use Rattle.run.specs.Run.{Outcome, Outcome.stopped, Outcome.jammed, later, Settled, Settled.hold, Settled.stop, is-done, moved, settle-by, settle, fuel}
 use Rattle.run.specs.Run.{taken, turn, at-last, run}
@@ -51,9 +50,9 @@ module _ (p : Program) (m : Machine) where
   done-stuck e = ap (λ s. move-by p s (m .instances) (m .stability) (m .from)) e
 
   -- where a move is due and the schedule is not empty, it is made
-  settle-moves : (k : Machine → Settled) → due m ≡ true → (m .sched ≡ done → ⊥) → settle-by k p m (holders m) ≡ moved k (move p m)
+  settle-moves : (k : Machine → Settled) → due m ≡ true → (m .sched ≡ done → ⊥) → settle-by k p m (due m) ≡ moved k (move p m)
   unfolding settle-by
-  settle-moves k g n = rw (due-none m .0 g, not-done (m .sched) n, settle-by)
+  settle-moves k g n = rw (g, not-done (m .sched) n, settle-by)
 
 module _ (p : Program) (B : ℕ) where
   -- by the cases of a move, where more than f moves cannot be made, and f are enough for the machine after it
@@ -69,23 +68,23 @@ module _ (p : Program) (B : ℕ) where
     by-done g false e =
         by-move g (λ d. let a = is-done-done (m .sched) .1 d in let z : true ≡ false = cc in let y : _≡_ {A = ℕ} 0 1 = cc in omega arith) (move p m) refl
 
-    by-holders : (hs : List ℕ) → holders m ≡ hs → Settles p m (settle-by (λ m′. settle p f m′) p m hs)
+    by-due : (t : Bool) → due m ≡ t → Settles p m (settle-by (λ m′. settle p f m′) p m t)
     unfolding settle-by
-    by-holders [] g = by-done (due-none m .1 g) (is-done (m .sched)) refl
-    by-holders (h ∷ hs) g = holds g
+    by-due true g = by-done g (is-done (m .sched)) refl
+    by-due false g = holds g
 
   -- with enough fuel, the moves lead where they lead without any
   pub settle-settles : (f : ℕ) (m : Machine) → Enough B f m → Settles p m (settle p f m)
   unfolding settle
   settle-settles zero m h = absurd (omega arith)
-  settle-settles (suc f) m h = by-holders f m h (λ m′ k. settle-settles f m′ k) (holders m) refl
+  settle-settles (suc f) m h = by-due f m h (λ m′ k. settle-settles f m′ k) (due m) refl
 
   -- and where they lead, they lead with any fuel that is enough
   pub settles-settle : (f : ℕ) {m : Machine} {x : Settled} → Settles p m x → Enough B f m → settle p f m ≡ x
   unfolding settle settle-by moved is-done
   settles-settle zero s h = absurd (omega arith)
   settles-settle (suc f) (holds g) h = rw g
-  settles-settle (suc f) {m} (ends g e) h = rw (due-none m .0 g, e)
+  settles-settle (suc f) {m} (ends g e) h = rw (g, e)
   settles-settle (suc f) {m} (sticks g n e) h = settle-moves p m (λ m′. settle p f m′) g n ∙ ap (λ (o : Moved). moved (λ m′. settle p f m′) o) e
   settles-settle (suc f) {m} (moves g e s) h =
       let (a, b) = move-falls p B m (h .0) e in
@@ -126,8 +125,8 @@ module _ (p : Program) where
 
   -- a way F to go on from where the moves lead
   settles-ran : {m : Machine} {x : Settled} → Settles p m x → (es : List ℕ) (F : Settled → Outcome) → ((o : Outcome) → F (stop o) ≡ o)
-      → ((z : Machine) (h : ℕ) (hs : List ℕ) → holders z ≡ h ∷ hs → Ran p z es (F (hold z h hs))) → Ran p m es (F x)
-  settles-ran (holds {m = m} {h = h} {hs = hs} g) es F s k = k m h hs g
+      → ((z : Machine) → due z ≡ false → Ran p z es (F (hold z))) → Ran p m es (F x)
+  settles-ran (holds {m = m} g) es F s k = k m g
   settles-ran (ends {m = m} g d) es F s k = rw (s (stopped ended 0 m)) (rests here (at-rest g d))
   settles-ran (sticks g n q) es F s k = rw (s jammed) (stays here (stuck-at g n q))
   settles-ran (moves g q x) es F s k = ran-silent (acts-move g q) (settles-ran x es F s k)
@@ -142,10 +141,10 @@ module _ (p : Program) where
   -- a run does what it does without fuel
   pub run-ran : (es : List ℕ) (m : Machine) → Ran p m es (run p m es)
   unfolding run at-last turn
-  run-ran [] m = settles-ran (fuel-settles m) [] at-last (λ o. refl) (λ z h hs g. rests here (lasts (some-due z g)))
+  run-ran [] m = settles-ran (fuel-settles m) [] at-last (λ o. refl) (λ z g. rests here (lasts g))
   run-ran (e ∷ es) m =
       settles-ran (fuel-settles m) (e ∷ es) (turn (λ m′. run p m′ es) p e) (λ o. refl)
-      λ z h hs g. by-command es e z (λ m′. run-ran es m′) (some-due z g) (command p (chosen (h ∷ hs) e) z) (ap (λ l. command p (chosen l e) z) g)
+      λ z g. by-command es e z (λ m′. run-ran es m′) g (command p (chosen (holders z) e) z) refl
 
   -- so it has come to its number where its steps lead
   pub run-rests : (es : List ℕ) (m : Machine) {z : Machine} {n t : ℕ} → run p m es ≡ stopped n t z
@@ -171,11 +170,9 @@ module _ (p : Program) where
   run-turn : (e : ℕ) (es : List ℕ) (m : Machine) {o : Out} → due m ≡ false → command p (chosen (holders m) e) m ≡ o
       → run p m (e ∷ es) ≡ taken (λ m′. run p m′ es) m o
   unfolding run turn
-  run-turn e es m g c =
-      let (h, hs, q) = due-some m g in
-      ap (turn (λ m′. run p m′ es) p e) (settled (holds q)) ∙ ap (taken (λ m′. run p m′ es) m) (ap (λ l. command p (chosen l e) m) (sym q) ∙ c)
+  run-turn e es m g c = ap (turn (λ m′. run p m′ es) p e) (settled (holds g)) ∙ ap (taken (λ m′. run p m′ es) m) c
 
-  -- what a run of a machine on its way comes to, the whole run comes to, behind the turns taken
+  -- what a run of a machine on its way comes to, the whole run comes to, after the turns taken
   pub steps-stopped : {m z w : Machine} {es fs : List ℕ} {n t k : ℕ} → Steps (Acts p) m es t z fs → run p z fs ≡ stopped n k w
       → run p m es ≡ stopped n (t + k) w
   unfolding taken later
@@ -188,5 +185,5 @@ module _ (p : Program) where
   pub rests-run : {m : Machine} {es : List ℕ} {n : ℕ} → Rests p m es n → run p m es ≡ stopped n 0 m
   unfolding run at-last taken
   rests-run {es = es} (at-rest g d) = run-stop es (ends g d)
-  rests-run {m} (lasts g) = let (h, hs, q) = due-some m g in ap at-last (settled (holds q))
+  rests-run {m} (lasts g) = ap at-last (settled (holds g))
   rests-run {m} (fails {e = e} {es = es} g c) = run-turn e es m g c

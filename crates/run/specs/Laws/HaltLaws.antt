@@ -54,6 +54,6 @@ module _ (p : Program) where
   pub halts-one : {c : Config} {es : List ℕ} {n k : ℕ} → Halts c es n → Halts c es k → n ≡ k
   halts-one {es = es} a b = runs-unique p (es, here, a) (es, here, b) .0
 
-  -- a run has come to its number in its last configuration, with the bytes behind its turns left
+  -- a run has come to its number in its last configuration, with the bytes after its turns left
   pub runs-halts : {c z : Config} {es : List ℕ} {n t : ℕ} → Runs p c es n t z → Halts z (drop t es) n
   runs-halts {z = z} {n = n} (fs, v, h) = subst (λ gs. Halts z gs n) (sym (steps-left v)) h

@@ -1,4 +1,4 @@
--- Laws of counting that goes round (02, 'Turns that go round'): it is the label order, turned; and behind an act of the first holder the others
+-- Laws of counting that goes round (02, 'Turns that go round'): it is the label order, turned; and after an act of the first holder the others
 -- come first, in their order, and the actor last.
 use Prim.Native.Nat.{ℕ, zero, suc, _+_, _-_, _<_, _≤_, min}
 use native.Mathlib.Omega.{arith}
@@ -89,13 +89,13 @@ module _ (s : ℕ) (fs : List Bool) where
 
 -- The first of them ----------------------------------------------------------------
 
--- before the first label stands nothing true, and the others are those behind it
+-- before the first label stands nothing true, and the others are those after it
 pub record First (l : ℕ) (fs : List Bool) (h : ℕ) (t : List ℕ) : Type 0 where
   pub place : ℕ
   pub is : h ≡ l + place
   pub within : place < length fs
   pub before : labels-from l (take place fs) ≡ []
-  pub behind : t ≡ labels-from (suc h) (drop (suc place) fs)
+  pub after : t ≡ labels-from (suc h) (drop (suc place) fs)
 
 pub first : (l : ℕ) (fs : List Bool) {h : ℕ} {t : List ℕ} → labels-from l fs ≡ h ∷ t → First l fs h t
 unfolding labels-from
@@ -103,14 +103,14 @@ first l [] e = let z : _≡_ {A = ℕ} 0 1 = cc in absurd (omega arith)
 first l (true ∷ fs) {h} {t} e =
     let q : l ≡ h = cc in
     let r : labels-from (suc l) fs ≡ t = cc in
-    record { place = 0; is = omega arith; within = omega arith; before = refl; behind = sym r ∙ ap (λ (x : ℕ). labels-from (suc x) fs) q }
+    record { place = 0; is = omega arith; within = omega arith; before = refl; after = sym r ∙ ap (λ (x : ℕ). labels-from (suc x) fs) q }
 first l (false ∷ fs) e =
     let f = first (suc l) fs e in
     let a = f .is in
     let b = f .within in
-    record { place = suc (f .place); is = omega arith; within = omega arith; before = f .before; behind = f .behind }
+    record { place = suc (f .place); is = omega arith; within = omega arith; before = f .before; after = f .after }
 
--- what stands behind k: up to s, and from s on
+-- what comes after k: up to s, and from s on
 take-drop : (k s : ℕ) (fs : List Bool) → k ≤ s → drop k (take s fs) ≡ take (s - k) (drop k fs)
 take-drop zero s fs h = let z : s ≡ s - 0 = omega arith in ap (λ (x : ℕ). take x fs) z
 take-drop (suc k) zero fs h = absurd (omega arith)
@@ -131,14 +131,14 @@ unfoldable pub kept : Bool → ℕ → List ℕ
 kept true h = h ∷ []
 kept false h = []
 
--- Behind an act --------------------------------------------------------------------
+-- After an act --------------------------------------------------------------------
 
 one-label : (l : ℕ) (b : Bool) → labels-from l (b ∷ []) ≡ kept b l
 unfolding labels-from kept
 one-label l true = refl
 one-label l false = refl
 
--- with b at label h: those behind h, those before it, and h where b is true
+-- with b at label h: those after h, those before it, and h where b is true
 pub round-at : (fs : List Bool) (h : ℕ) (b : Bool) → h < length fs
     → round-from (suc h) (set fs h b) ≡ labels-from (suc h) (drop (suc h) fs) ++ (labels-from 0 (take h fs) ++ kept b h)
 unfolding round-from
@@ -153,7 +153,7 @@ round-at fs h b w =
     ∙ ap (λ (r : List ℕ). labels-from (suc h) (drop (suc h) fs) ++ r) q
 
 module _ (s : ℕ) (fs : List Bool) (b : Bool) where
-  -- the first holder stands at s or behind it
+  -- the first holder stands at s or after it
   from-on : {h : ℕ} {t : List ℕ} → labels-from s (drop s fs) ≡ h ∷ t
       → (h < length fs) × (round-from (suc h) (set fs h b) ≡ (t ++ labels-from 0 (take s fs)) ++ kept b h)
   from-on {h} {t} e =
@@ -166,7 +166,7 @@ module _ (s : ℕ) (fs : List Bool) (b : Bool) where
       let u : 0 + length (take s fs) ≡ s = omega (arith, length-take-le s fs (omega arith)) in
       let z : s + suc k ≡ suc h = omega arith in
       let g : t ≡ labels-from (suc h) (drop (suc h) fs) =
-      f .behind ∙ ap (labels-from (suc h)) (drop-drop (suc k) s fs ∙ ap (λ (x : ℕ). drop x fs) z) in
+      f .after ∙ ap (labels-from (suc h)) (drop-drop (suc k) s fs ∙ ap (λ (x : ℕ). drop x fs) z) in
       let c : labels-from 0 (take h fs) ≡ labels-from 0 (take s fs) =
       ap (λ (x : ℕ). labels-from 0 (take x fs)) a ∙ ap (labels-from 0) (take-add s k fs) ∙ labels-append 0 (take s fs) (take k (drop s fs))
       ∙ ap (λ (x : ℕ). labels-from 0 (take s fs) ++ labels-from x (take k (drop s fs))) u
@@ -191,23 +191,23 @@ module _ (s : ℕ) (fs : List Bool) (b : Bool) where
       let c : labels-from 0 (take h fs) ≡ [] =
       ap (labels-from 0) (sym (take-take h s fs (omega arith))) ∙ ap (λ (x : ℕ). labels-from 0 (take x (take s fs))) (sym p) ∙ f .before in
       let g : labels-from (suc h) (drop (suc h) fs) ≡ t =
-      behind-split h j ∙ ap (λ (r : List ℕ). labels-from (suc h) (drop (suc h) (take s fs)) ++ r) o
+      after-split h j ∙ ap (λ (r : List ℕ). labels-from (suc h) (drop (suc h) (take s fs)) ++ r) o
       ∙ append-nil (labels-from (suc h) (drop (suc h) (take s fs)))
-      ∙ ap (λ (x : ℕ). labels-from (suc h) (drop (suc x) (take s fs))) (sym p) ∙ sym (f .behind) in (
+      ∙ ap (λ (x : ℕ). labels-from (suc h) (drop (suc x) (take s fs))) (sym p) ∙ sym (f .after) in (
         i,
         round-at fs h b i ∙ ap (λ (r : List ℕ). r ++ (labels-from 0 (take h fs) ++ kept b h)) g
             ∙ ap (λ (r : List ℕ). t ++ (r ++ kept b h)) c,
       )
     where
-      behind-split : (h : ℕ) → h < s
+      after-split : (h : ℕ) → h < s
           → labels-from (suc h) (drop (suc h) fs) ≡ labels-from (suc h) (drop (suc h) (take s fs)) ++ labels-from s (drop s fs)
-      behind-split h j = dropped (suc h) s fs (omega arith)
+      after-split h j = dropped (suc h) s fs (omega arith)
 
-  -- behind an act of the first holder: the others in their order, then the actor, where it has commands left
-  pub round-behind : {h : ℕ} {hs : List ℕ} → round-from s fs ≡ h ∷ hs
+  -- after an act of the first holder: the others in their order, then the actor, where it has commands left
+  pub round-after : {h : ℕ} {hs : List ℕ} → round-from s fs ≡ h ∷ hs
       → (h < length fs) × (round-from (suc h) (set fs h b) ≡ hs ++ kept b h)
   unfolding round-from
-  round-behind {h} {hs} e = go (labels-from s (drop s fs)) refl
+  round-after {h} {hs} e = go (labels-from s (drop s fs)) refl
     where
       go : (r : List ℕ) → labels-from s (drop s fs) ≡ r → (h < length fs) × (round-from (suc h) (set fs h b) ≡ hs ++ kept b h)
       go [] q = past-highest q (sym (ap (λ (r : List ℕ). r ++ labels-from 0 (take s fs)) q) ∙ e)

@@ -16,7 +16,7 @@ use Rattle.run.specs.Run.{Outcome, Outcome.stopped, Outcome.jammed, Sett
 
 -- moves until none is due, the schedule is empty or no rule fits
 pub data Settles (p : Program) : Machine → Settled → Type 0 where
-  holds : {m : Machine} {h : ℕ} {hs : List ℕ} → holders m ≡ h ∷ hs → Settles p m (hold m h hs)
+  holds : {m : Machine} → due m ≡ false → Settles p m (hold m)
   ends : {m : Machine} → due m ≡ true → m .sched ≡ done → Settles p m (stop (stopped ended 0 m))
   sticks : {m : Machine} → due m ≡ true → (m .sched ≡ done → ⊥) → move p m ≡ stuck → Settles p m (stop jammed)
   moves : {m m′ : Machine} {x : Settled} → due m ≡ true → move p m ≡ next m′ → Settles p m′ x → Settles p m x

@@ -9,7 +9,7 @@ use lib.ListN.{length, drop}
 use Rattle.run.specs.Steps.{Steps, Steps.here, Steps.silent, Steps.reads}
 
 module _ {C : Type 0} {S : C → Option ℕ → C → Type 0} where
-  -- the bytes left are those behind the turns,
+  -- the bytes left are those after the turns,
   pub steps-left : {c z : C} {es fs : List ℕ} {t : ℕ} → Steps S c es t z fs → drop t es ≡ fs
   steps-left here = refl
   steps-left (silent s v) = steps-left v
@@ -21,7 +21,7 @@ module _ {C : Type 0} {S : C → Option ℕ → C → Type 0} where
   steps-turns (silent s v) = steps-turns v
   steps-turns (reads s v) = omega (arith, steps-turns v)
 
-  -- one way behind another
+  -- one way after another
   pub steps-on : {c z w : C} {es fs gs : List ℕ} {t u : ℕ} → Steps S c es t z fs → Steps S z fs u w gs → (n : ℕ) × Steps S c es n w gs
   steps-on {u = u} here v = (u, v)
   steps-on (silent s x) v = let (n, y) = steps-on x v in (n, silent s y)

@@ -20,7 +20,7 @@ use Rattle.machine.specs.Measure.{weight, bound}
 use Rattle.machine.specs.Machine.{update-env, leaves-stable, read-from, read-at, read as read-variable, write-to, write-parameter, write-at, write, negate}
 use Rattle.machine.specs.Machine.{branch, operated, operate, construct, perform, command-of, command-at, command, given, started, repeat, move-by}
 use Rattle.run.specs.Turns.{labels-from, round-from, chosen}
-use Rattle.run.specs.Holders.{holds-code, holders}
+use Rattle.run.specs.Holders.{holds-code, holders, none-of, due}
 use Rattle.run.specs.Run.{later, is-done, moved, settle-by, settle, fuel, taken, turn, at-last, run}
 use Rattle.run.specs.Begin.{nulls, first-instances, begin, record-of, table-of}
 use Rattle.commands.specs.ProgramWords.{steps-list, structs-list, structs-words, program-words}
@@ -35,7 +35,7 @@ unfolding checking word-end var-code coded com-word command-word words steps-lis
     same-bool same-val int-answer nat-answer by-nonzero compute answer on-truths on-labels apply struct-at enc-value enc-record enc-table read-value read-values
     read-record read-count read-table is-struct refers refers-each references table-number table-answer table-of-stream before of-item of-items lookup assign
     find-step meet weight bound update-env leaves-stable read-from read-at read-variable write-to write-parameter write-at write negate branch operated operate
-    construct perform now-written command-of command-at command called given started repeat move-by labels-from round-from chosen holds-code holders later
-    is-done moved settle-by settle fuel taken turn at-last run nulls first-instances begin record-of table-of of-table with-room of-outcome summed table-read
+    construct perform now-written command-of command-at command called given started repeat move-by labels-from round-from chosen holds-code holders none-of
+    due later is-done moved settle-by settle fuel taken turn at-last run nulls first-instances begin record-of table-of of-table with-room of-outcome summed table-read
     begins-streams
 running s t es = summed (begins-streams s t es) es

@@ -26,8 +26,9 @@ use Rattle.run.specs.Rows.RowsOpen.{running}
 use Rattle.commands.specs.Accepted.{Accepted}
 use Rattle.sound.specs.NeverStuck.{Demand3}
 use Rattle.sound.specs.Laws.NeverStuckLaws.{demand3}
+use Rattle.run.specs.Laws.RunAgreesVisits.{run-visits}
 use Rattle.sound.specs.After.{onward, act-on, after, after-visited}
-use Rattle.sound.specs.Exhibits.ExhibitTurns.{by-stream, code-at, stack-at, value-at, Turn, at-act, turn-at}
+use Rattle.sound.specs.Exhibits.ExhibitTurns.{by-stream, code-at, stack-at, value-at, came-stopped, Turn, at-act, turn-at}
 
 -- The run --------------------------------------------------------------------------
 
@@ -47,7 +48,7 @@ settling = record {
   schedule = item (fix (item (call 0) stop)) stop;
 }
 
--- one record, label 2, behind the null instances 0 and 1
+-- one record, label 2, after the null instances 0 and 1
 abbrev pub table : List Record
 table = record { struct = 0; values = int-val (pos 5) ∷ bool-val true ∷ [] } ∷ []
 
@@ -151,15 +152,19 @@ goes-round = (
   refl,
 )
 
--- the run ends with 0 after 30 turns; what it leaves is the record, settled, and the instance that it constructed
+-- the record, settled, and the instance that the run constructs
+abbrev settled-table : List Record
+settled-table =
+    record { struct = 0; values = int-val (pos 2) ∷ bool-val false ∷ [] } ∷ record { struct = 1; values = int-val (pos 7) ∷ label 2 ∷ [] } ∷ []
+
+-- the run ends with 0 after 30 turns, and leaves that table
 pub ends : (z : Machine) × ((fs : List ℕ) × Visits settling start-machine turns z fs)
     × (run settling start-machine turns ≡ stopped ended 30 z)
-    × (table-of settling z
-    ≡ record { struct = 0; values = int-val (pos 2) ∷ bool-val false ∷ [] }
-    ∷ record { struct = 1; values = int-val (pos 7) ∷ label 2 ∷ [] }
-    ∷ [])
-unfolding running onward act-on after
-ends = (after-acts 35, after-visited settling 35 start-machine turns, refl, refl)
+    × (table-of settling z ≡ settled-table)
+unfolding running
+ends =
+    let (z, e, q) = came-stopped settling (run settling start-machine turns) {n = ended} {t = 30} {rs = settled-table} refl in
+    (z, (drop 30 turns, run-visits settling start-machine turns e .0), e, q)
 
 -- so these are the number and the turns that demand 3 speaks of
 pub ends-never-stuck : (accepted-never-stuck .number ≡ ended) × (accepted-never-stuck .turns ≡ 30) × (accepted-never-stuck .last ≡ ends .0)

@@ -31,7 +31,7 @@ use Rattle.commands.specs.Accepted.{Accepted}
 use Rattle.sound.specs.NeverStuck.{Demand3}
 use Rattle.sound.specs.After.{onward, act-on, after, after-visited}
 use Rattle.sound.specs.Exhibits.{Lacks, lacks-refutes, no-record, Fails, negating, not-of-int}
-use Rattle.sound.specs.Exhibits.ExhibitTurns.{by-stream}
+use Rattle.sound.specs.Exhibits.ExhibitTurns.{by-stream, came-stopped}
 
 -- a run comes to a number after so many turns
 abbrev pub Stops : Program → List Record → List ℕ → ℕ → ℕ → Type 0
@@ -83,7 +83,7 @@ twice = record {
   schedule = item (call 0) (item (call 0) stop);
 }
 
--- one record, label 1, behind the null instance 0
+-- one record, label 1, after the null instance 0
 abbrev pub single : List Record
 single = record { struct = 0; values = int-val (pos 5) ∷ bool-val false ∷ [] } ∷ []
 
@@ -92,8 +92,11 @@ fifty = replicate 50 0
 
 -- the null instance writes its local in each passage, the record in the first alone
 pub outlasting-stops : Stops twice single fifty ended 50
-unfolding running onward act-on after
-outlasting-stops = (after twice 52 (begin twice single) fifty, refl)
+unfolding running
+outlasting-stops =
+    let left : List Record = record { struct = 0; values = int-val (pos 1) ∷ bool-val true ∷ [] } ∷ [] in
+    let (z, e, q) = came-stopped twice (run twice (begin twice single) fifty) {n = ended} {t = 50} {rs = left} refl in
+    (z, e)
 
 -- in its second passage the record's rd of the local finds the value of its first
 pub outlasting-lacks : Lacks twice single fifty

@@ -26,8 +26,9 @@ use Rattle.run.specs.Rows.RowsOpen.{running}
 use Rattle.commands.specs.Accepted.{Accepted}
 use Rattle.sound.specs.NeverStuck.{Demand3}
 use Rattle.sound.specs.Laws.NeverStuckLaws.{demand3}
+use Rattle.run.specs.Laws.RunAgreesVisits.{run-visits}
 use Rattle.sound.specs.After.{onward, act-on, after, after-visited}
-use Rattle.sound.specs.Exhibits.ExhibitTurns.{by-stream, code-at, stack-at, value-at, Turn, at-act, turn-at}
+use Rattle.sound.specs.Exhibits.ExhibitTurns.{by-stream, code-at, stack-at, value-at, came-stopped, Turn, at-act, turn-at}
 
 -- The run --------------------------------------------------------------------------
 
@@ -55,7 +56,7 @@ adding-accepted = by-stream adding refl refl
 abbrev pub table : List Record
 table = record { struct = 1; values = int-val (pos 4) ∷ [] } ∷ record { struct = 0; values = int-val (pos 3) ∷ label 2 ∷ [] } ∷ []
 
--- the second of the two holders, label 3, takes the first turns, and the null instance 0 those behind
+-- the second of the two holders, label 3, takes the first turns, and the null instance 0 those after
 abbrev pub turns : List ℕ
 turns = replicate 46 1
 
@@ -120,7 +121,7 @@ pub adds : (t : Taken (n-op op-add))
 unfolding running onward act-on after
 adds = (turn-at adding start-machine turns 6 3 {i = record-at 5 (an-int 3 ∷ an-int 4 ∷ []) none []} refl refl refl, refl, refl)
 
--- the declaration's wr: the local has no value before it, and 7 behind it
+-- the declaration's wr: the local has no value before it, and 7 after it
 pub declares : (t : Taken (n-set true int 0))
     × (value-at (t .before) 3 first-local ≡ some none)
     × (value-at (t .behind) 3 first-local ≡ some (holding 7))
@@ -148,12 +149,15 @@ pub goes-in : (t : Taken (n-if 4)) × (code-at (t .behind) 3 ≡ some (t .rest))
 unfolding running onward act-on after
 goes-in = (turn-at adding start-machine turns 19 3 {i = record-at 18 (tagged bool (bool-val true) ∷ []) (holding 8) (0 ∷ [])} refl refl refl, refl)
 
--- the run ends with 0 after 46 turns, with 8 in the record
+-- the record of struct 1, and the other with 8
+abbrev added-table : List Record
+added-table = record { struct = 1; values = int-val (pos 4) ∷ [] } ∷ record { struct = 0; values = int-val (pos 8) ∷ label 2 ∷ [] } ∷ []
+
+-- the run ends with 0 after 46 turns, and leaves that table
 pub ends : (z : Machine) × ((fs : List ℕ) × Visits adding start-machine turns z fs)
     × (run adding start-machine turns ≡ stopped ended 46 z)
-    × (table-of adding z
-    ≡ record { struct = 1; values = int-val (pos 4) ∷ [] }
-    ∷ record { struct = 0; values = int-val (pos 8) ∷ label 2 ∷ [] }
-    ∷ [])
-unfolding running onward act-on after
-ends = (at-act adding start-machine turns 47, after-visited adding 47 start-machine turns, refl, refl)
+    × (table-of adding z ≡ added-table)
+unfolding running
+ends =
+    let (z, e, q) = came-stopped adding (run adding start-machine turns) {n = ended} {t = 46} {rs = added-table} refl in
+    (z, (drop 46 turns, run-visits adding start-machine turns e .0), e, q)

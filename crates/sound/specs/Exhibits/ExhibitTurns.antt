@@ -1,8 +1,8 @@
 -- What the exhibits share (01, 'The words of demand 3'). Their programs are accepted, by what they are read to. Turns as they show them: a machine
 -- that a run passes through, where an instance holds a command, and the one that this command leads to.
 use Prim.Native.Nat.{ℕ, suc}
-use mathlib.Core.Path.{_≡_}
-use mathlib.Core.Option.{Option, some}
+use mathlib.Core.Path.{_≡_, ap}
+use mathlib.Core.Option.{Option, none, some}
 use mathlib.Core.List.{List, _∷_, map}
 use lib.ListN.{length, getElem?}
 use Rattle.types.specs.Values.{Val}
@@ -16,7 +16,11 @@ use Rattle.commands.specs.Numbers.{no-breach, breach-number}
 use Rattle.commands.specs.Laws.NumbersLaws.{number-accepted}
 use Rattle.machine.specs.Published.{lookup}
 use Rattle.machine.specs.Machine.{Tagged, Instance, Machine, Out.next, command}
+use Rattle.table.specs.Table.{Record}
+use Rattle.run.specs.Begin.{table-of}
+use Rattle.run.specs.Run.{Outcome, Outcome.stopped, Outcome.jammed}
 use Rattle.run.specs.Visits.{Visits}
+use Rattle.sound.specs.Laws.ElemLaws.{none-some, some-is}
 use Rattle.sound.specs.After.{after, after-visited}
 
 -- a program that its stream is read to has the right counts; of its limits, names and types no number comes out
@@ -32,6 +36,21 @@ stack-at m l = getElem? (map (λ (i : Instance). i .stack) (m .instances)) l
 
 abbrev pub value-at : Machine → ℕ → ℕ → Option (Option Val)
 value-at m l v = getElem? (map (λ (i : Instance). lookup (i .env) v) (m .instances)) l
+
+-- number, turns and table of an outcome; a row computes them, and the last machine is the outcome's own
+abbrev pub came : Program → Outcome → Option (ℕ × ℕ × List Record)
+came p (stopped n t z) = some (n, t, table-of p z)
+came p jammed = none
+
+pub came-stopped : (p : Program) (o : Outcome) {n t : ℕ} {rs : List Record} → came p o ≡ some (n, t, rs)
+    → (z : Machine) × (o ≡ stopped n t z) × (table-of p z ≡ rs)
+came-stopped p (stopped k u z) {n} {t} {rs} e =
+    let q = some-is e in
+    let a : k ≡ n = ap (λ (x : ℕ × ℕ × List Record). x .0) q in
+    let b : u ≡ t = ap (λ (x : ℕ × ℕ × List Record). x .1) q in
+    let c : table-of p z ≡ rs = ap (λ (x : ℕ × ℕ × List Record). x .2) q in
+    (z, cc, c)
+came-stopped p jammed e = none-some e
 
 module _ (p : Program) (m : Machine) (es : List ℕ) where
   -- a run from m with these bytes comes to the instance l with the command n, which is taken

@@ -1,4 +1,4 @@
--- The conditions of the numbers exclude one another, and behind them nothing is visited (01, 'The words of demand 3').
+-- The conditions of the numbers exclude one another, and after them nothing is visited (01, 'The words of demand 3').
 use Prim.Native.Nat.{ℕ}
 use mathlib.Core.Path.{_≡_, refl, sym, _∙_, subst}
 use mathlib.Core.Logic.{_↔_}
@@ -27,7 +27,7 @@ condition-halts m c S es n = (
 pub condition-one : Program → {m : Machine} {es : List ℕ} {n k : ℕ} → Condition m es n → Condition m es k → n ≡ k
 condition-one p {m} {es} {n} {k} (a, S, h) c = halts-one p h (condition-halts m a S es k .0 c)
 
--- no machine is visited behind one at which a condition holds
+-- no machine is visited after one at which a condition holds
 pub condition-last : {p : Program} {m z : Machine} {es fs : List ℕ} {n : ℕ} → Condition m es n → Visits p m es z fs → (z ≡ m) × (fs ≡ es)
 condition-last c (t, here) = (refl, refl)
 condition-last {p} (config n st, S, h) (t, silent (moves {m = m} g e) v) =

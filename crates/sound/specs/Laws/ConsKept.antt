@@ -14,26 +14,25 @@ use Rattle.program.specs.Tree.{Program}
 use Rattle.commands.specs.Context.{params-of}
 use Rattle.commands.specs.Noted.{Note}
 use Rattle.table.specs.Table.{Each}
-use Rattle.machine.specs.Published.{StepCall}
 use Rattle.machine.specs.Rules.{meet}
 use Rattle.machine.specs.Machine.{Tagged, Instance, Machine, with-instances, with-stability}
 use Rattle.run.specs.Begin.{resting as at-rest}
 use Rattle.sound.specs.Needs.{ValueAmong}
-use Rattle.sound.specs.Invariant.{Passage, Place.resting, Place.passing, GoodInst, Good}
+use Rattle.sound.specs.Invariant.{Job, Place, Place.resting, GoodInst, Good}
 use Rattle.sound.specs.Laws.Keeps.{Keeps, keeps-then, keeps-set, keeps-append}
 use Rattle.sound.specs.Laws.ElemLaws.{at-set-same, at-set-other, at-snoc, at-last, some-is}
 use Rattle.sound.specs.Laws.GoodLaws.{fitted-kept, good-change, meet-length}
 use Rattle.sound.specs.Laws.Advance.{after}
 
 -- an instance at rest with parameters of their types
-pub rests : (p : Program) {r : Option StepCall} (is : List Instance) (l k : ℕ) (vs : List Val) → Each (ValueAmong is) (params-of p k) vs
+pub rests : (p : Program) {r : Option Job} (is : List Instance) (l k : ℕ) (vs : List Val) → Each (ValueAmong is) (params-of p k) vs
     → GoodInst p r is l (at-rest k vs)
 rests p is l k vs f = record { fitted = (f, length-replicate {A = Option Val} max-locals none); place = resting refl refl }
 
 module _ {p : Program} {m : Machine} (good : Good p m) (l : ℕ) (i : Instance) (at : getElem? (m .instances) l ≡ some i)
-    (n : Note) (c : List Note) (χ : List Tagged) (k : ℕ) (vs : List Val) where
+    (w : List ℕ) (n : Note) (c : List Note) (χ : List Tagged) (k : ℕ) (vs : List Val) where
   abbrev actor : Instance
-  actor = after i n c χ (i .env)
+  actor = after i w n c χ (i .env)
 
   abbrev all-after : List Instance
   all-after = set (m .instances) l actor ++ at-rest k vs ∷ []
@@ -47,7 +46,7 @@ module _ {p : Program} {m : Machine} (good : Good p m) (l : ℕ) (i : Instance) 
   new-label = (at-rest k vs, rw (length-set (m .instances) l actor) at (at-last (set (m .instances) l actor) (at-rest k vs)), refl)
 
   -- all of them are good
-  pub cons-kept : Each (ValueAmong all-after) (params-of p k) vs → {a : StepCall} → good .runs ≡ some a → Passage p a all-after l actor
+  pub cons-kept : Each (ValueAmong all-after) (params-of p k) vs → {a : Job} → good .runs ≡ some a → Place p (some a) all-after l actor
       → Good p (with-stability (with-instances m all-after) (meet false (m .stability)))
   cons-kept f runs g = record {
     runs = good .runs;
@@ -65,7 +64,7 @@ module _ {p : Program} {m : Machine} (good : Good p m) (l : ℕ) (i : Instance) 
           (rw (q, ← h)
           (record {
             fitted = fitted-kept p cons-keeps (params-of p (i .struct)) (i .env) (good .all .each l i at .fitted);
-            place = passing g (inr runs);
+            place = rw runs g;
           }))
       old r x e (no q) = inl (sym (at-set-other (m .instances) l r actor q) ∙ e)
 

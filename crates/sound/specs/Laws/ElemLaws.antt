@@ -38,7 +38,7 @@ module _ {A : Type 0} where
   at-append (x ∷ l) r zero a e = e
   at-append (x ∷ l) r (suc n) a e = at-append l r n a e
 
-  -- an element of a list with one more behind it
+  -- an element of a list with one more after it
   pub at-snoc : (l : List A) (b : A) (n : ℕ) (a : A) → getElem? (l ++ b ∷ []) n ≡ some a
       → (getElem? l n ≡ some a) ⊎ ((n ≡ length l) × (b ≡ a))
   at-snoc [] b zero a e = inr (refl, some-is e)
@@ -70,7 +70,7 @@ module _ {A : Type 0} where
   at-below (x ∷ l) zero a e = omega arith
   at-below (x ∷ l) (suc n) a e = omega (arith, at-below l n a e)
 
-  -- behind the first n
+  -- after the first n
   pub at-drop : (n : ℕ) (l : List A) (k : ℕ) → getElem? (drop n l) k ≡ getElem? l (n + k)
   at-drop zero l k = ap (getElem? l) (sym (zero-add k))
   at-drop (suc n) [] k = refl

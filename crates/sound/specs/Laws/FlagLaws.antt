@@ -1,4 +1,4 @@
--- Which instances hold commands behind a command (01, 'Table and turns'): the actor by what it has left, all others as before it, and a
+-- Which instances hold commands after a command (01, 'Table and turns'): the actor by what it has left, all others as before it, and a
 -- new instance not.
 use Prim.Native.Nat.{ℕ, zero, suc}
 use mathlib.Core.Path.{_≡_, refl, ap, sym, _∙_, subst}
@@ -50,7 +50,7 @@ env-code (x ∷ is) (suc q) ξ (suc l) e = env-code is q ξ l e
 abbrev pub Idle : List Bool → Type 0
 Idle more = (more ≡ []) ⊎ (more ≡ false ∷ [])
 
--- the instances behind a command of l: l is there, and the flags are those before it with l's own put in, and of a new instance
+-- the instances after a command of l: l is there, and the flags are those before it with l's own put in, and of a new instance
 pub record Flagged (l : ℕ) (fs : List Bool) (is : List Instance) : Type 0 where
   pub actor : Instance
   pub there : getElem? is l ≡ some actor
@@ -113,6 +113,6 @@ command-leaves p l m =
     by-ways (Leaves l (flags (m .instances))) p m l tt
     λ i n r o g e w. leaves p (acting l m) l g (with-written i (now-written n (i .written))) r w
 
--- the flags behind a command of instance l
+-- the flags after a command of instance l
 pub flags-behind : (p : Program) (l : ℕ) (m : Machine) {m′ : Machine} → command p l m ≡ next m′ → Flagged l (flags (m .instances)) (m′ .instances)
 flags-behind p l m c = subst (Leaves l (flags (m .instances))) c (command-leaves p l m)

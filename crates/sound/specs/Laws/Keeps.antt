@@ -4,7 +4,7 @@ use native.Mathlib.Decide.{ℕ-discrete}
 use mathlib.Core.Path.{_≡_, refl, sym, ap, _∙_}
 use mathlib.Core.Option.{some}
 use mathlib.Core.List.{List, [], _∷_, _++_}
-use lib.ListN.{getElem?, set}
+use lib.ListN.{length, getElem?, set}
 use Rattle.types.specs.Types.{Ty}
 use Rattle.types.specs.Values.{Val}
 use Rattle.types.specs.ValueLaws.{value-as}
@@ -31,6 +31,13 @@ at-env-other (x ∷ is) zero (suc k) ξ h = refl
 at-env-other (x ∷ is) (suc n) zero ξ h = refl
 at-env-other (x ∷ is) (suc n) (suc k) ξ h = at-env-other is n k ξ (λ e. h (ap suc e))
 
+-- instances stay as many
+pub env-length : (is : List Instance) (n : ℕ) (ξ : Env) → length (update-env is n ξ) ≡ length is
+unfolding update-env
+env-length [] n ξ = refl
+env-length (x ∷ is) zero ξ = refl
+env-length (x ∷ is) (suc n) ξ = ap suc (env-length is n ξ)
+
 -- of the instance put there
 pub env-set : (is : List Instance) (n : ℕ) (ξ : Env) (i : Instance) → update-env (set is n i) n ξ ≡ set is n (with-env i ξ)
 unfolding update-env
@@ -42,7 +49,7 @@ env-set (x ∷ is) (suc n) ξ i = ap (λ js. x ∷ js) (env-set is n ξ i)
 pub record Keeps (is js : List Instance) : Type 0 where
   pub at : (l : ℕ) (i : Instance) → getElem? is l ≡ some i → (j : Instance) × (getElem? js l ≡ some j) × (j .struct ≡ i .struct)
 
--- kept in two changes, one behind the other
+-- kept in two changes, one after the other
 pub keeps-then : {is js ks : List Instance} → Keeps is js → Keeps js ks → Keeps is ks
 keeps-then f g = record {
   at = λ l i e.
@@ -67,7 +74,7 @@ keeps-env is n ξ = record { at = λ l k h. go l k h (ℕ-discrete l n) }
     go l k h (yes q) = (with-env k ξ, rw q (at-env-same is n ξ k (rw q at h)), refl)
     go l k h (no q) = (k, at-env-other is n l ξ q ∙ h, refl)
 
--- more instances behind
+-- more instances after them
 pub keeps-append : (is js : List Instance) → Keeps is (is ++ js)
 keeps-append is js = record { at = λ l i h. (i, at-append is js l i h, refl) }
 

@@ -1,11 +1,11 @@
 -- A move of a schedule that is not empty keeps the invariant; it never lacks a rule.
-use Prim.Native.Nat.{ℕ, suc, _-_, _≤_}
+use Prim.Native.Nat.{ℕ, suc, _-_}
 use native.Mathlib.Omega.{arith}
-use mathlib.Core.Path.{_≡_, refl, ap, _∙_}
+use mathlib.Core.Path.{_≡_, refl, ap, sym, _∙_}
 use mathlib.Core.Bool.{Bool, true, false, false≢true}
 use mathlib.Core.Option.{Option, none, some}
-use mathlib.Core.Logic.{_⊎_, inl, inr}
-use mathlib.Core.List.{List, [], _∷_, map, List·Memᴰ·not-nil}
+use mathlib.Core.Logic.{inl, inr}
+use mathlib.Core.List.{List, [], _∷_, map, append-nil, List·Memᴰ·not-nil}
 use lib.ListN.{length, getElem?}
 use Rattle.program.specs.Tree.{Stmts, Program}
 use Rattle.machine.specs.Published.{StepCall, called, Sched, Sched.done, Sched.start, Sched.fixpoint, Sched.active, before, of-items}
@@ -13,8 +13,8 @@ use Rattle.machine.specs.Machine.{Instance, Machine, Moved, Moved.next, Moved.s
 use Rattle.machine.specs.CallLaws.{called-step}
 use Rattle.machine.specs.RepresentsLaws.{Still}
 use Rattle.commands.specs.Tags.{at-start, Way.start as begins}
-use Rattle.sound.specs.Invariant.{Place, Place.resting, Place.passing, GoodInst, GoodAll, Good, Unbegun, Open, Open.open-start, Open.open-fix}
-use Rattle.sound.specs.Invariant.{Open.open-active}
+use Rattle.sound.specs.Invariant.{Job, Job.call, InJob.in-call, Place, Place.resting, Place.passing, GoodInst, GoodAll, Good}
+use Rattle.sound.specs.Invariant.{Unbegun, Open, Open.open-start, Open.open-fix, Open.open-active}
 use Rattle.sound.specs.Started.{Left, Left.past, Left.into, Left.again, Left.out}
 use Rattle.sound.specs.Laws.Keeps.{Keeps}
 use Rattle.sound.specs.Laws.ElemLaws.{none-some, at-map, map-at, all-elem}
@@ -56,8 +56,8 @@ open-before (active f r) u o = absurd u
 -- Instances ----------------------------------------------------------------------
 
 module _ (p : Program) (is : List Instance) where
-  -- where no call runs, one may
-  idle-good : {r : Option StepCall} (l : ℕ) (i : Instance) → GoodInst p none is l i → GoodInst p r is l i
+  -- where no job runs, one may
+  idle-good : {r : Option Job} (l : ℕ) (i : Instance) → GoodInst p none is l i → GoodInst p r is l i
   idle-good {r} l i g = record { fitted = g .fitted; place = go (g .place) }
     where
       go : Place p none is l i → Place p r is l i
@@ -66,15 +66,15 @@ module _ (p : Program) (is : List Instance) where
       go (passing w (inr e)) = none-some e
 
   -- where no instance holds commands, none need run
-  pub still-good : {r : Option StepCall} → Still is → GoodAll p r is → GoodAll p none is
+  pub still-good : {r : Option Job} → Still is → GoodAll p r is → GoodAll p none is
   still-good {r} t a = record { nulls = a .nulls; each = λ l i e. go l i e (a .each l i e .place) }
     where
       go : (l : ℕ) (i : Instance) → getElem? is l ≡ some i → Place p r is l i → GoodInst p none is l i
       go l i e (resting c χ) = record { fitted = a .each l i e .fitted; place = resting c χ }
       go l i e (passing w h) = record { fitted = a .each l i e .fitted; place = passing w (inl (all-elem (λ i. i .code ≡ []) is l i t e)) }
 
--- each instance changed in a way that keeps its struct and keeps it good, under calls that run
-good-map : (p : Program) {r q : Option StepCall} (f : Instance → Instance) → ((i : Instance) → f i .struct ≡ i .struct)
+-- each instance changed in a way that keeps its struct and keeps it good, under jobs that run
+good-map : (p : Program) {r q : Option Job} (f : Instance → Instance) → ((i : Instance) → f i .struct ≡ i .struct)
     → ((is : List Instance) (l : ℕ) (i : Instance) → GoodInst p r is l i → GoodInst p q is l (f i))
     → (is : List Instance) → GoodAll p r is → GoodAll p q (map f is)
 good-map p f s h is a = record {
@@ -100,7 +100,7 @@ module _ {p : Program} (firm : Firm p) where
 
   -- an instance that begins a step stands at its start
   given-good : (a : StepCall) (is : List Instance) (l : ℕ) (i : Instance) (o : Option Stmts) → called p a (i .struct) ≡ o → GoodInst p none is l i
-      → GoodInst p (some a) is l (given p o i)
+      → GoodInst p (some (call a)) is l (given p o i)
   unfolding given
   given-good a is l i none e g = idle-good p is l i g
   given-good a is l i (some b) e g =
@@ -109,7 +109,11 @@ module _ {p : Program} (firm : Firm p) where
         fitted = g .fitted;
         place = passing (record {
           body = b;
-          has = e;
+          rest = [];
+          has = in-call e;
+          held = noted (context p (i .struct) b) b;
+          code = sym (append-nil (noted (context p (i .struct) b) b));
+          full = λ q. refl;
           place = at-start;
           way = begins;
           kept = begins-kept (i .struct) n h;
@@ -124,7 +128,7 @@ module _ {p : Program} (firm : Firm p) where
   started-struct a i = given-struct (called p a (i .struct)) i
 
   started-good : (a : StepCall) (is : List Instance) (l : ℕ) (i : Instance) → GoodInst p none is l i
-      → GoodInst p (some a) is l (started p a i)
+      → GoodInst p (some (call a)) is l (started p a i)
   unfolding started
   started-good a is l i g = given-good a is l i (called p a (i .struct)) refl g
 
@@ -137,7 +141,7 @@ unfolding move-by repeat
 move-kept firm done is b n a o l h = absurd (h refl)
 move-kept {p} firm (start c s) is b n a o l h =
     record {
-      runs = some c;
+      runs = some (call c);
       all = good-map p (started p c) (started-struct firm c) (started-good firm c) is a;
       running = l;
       opened = past-start o;

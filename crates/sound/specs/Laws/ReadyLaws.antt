@@ -11,16 +11,20 @@ use Rattle.program.specs.Tree.{Program}
 use Rattle.commands.specs.Context.{params-of, typ}
 use Rattle.commands.specs.Noted.{Note, Note.n-push, Note.n-this, Note.n-not, Note.n-rd, Note.n-wr, Note.n-get, Note.n-set, Note.n-cons, Note.n-op, Note.n-if}
 use Rattle.commands.specs.Bounds.{program-depth}
-use Rattle.machine.specs.Published.{StepCall, Env, Env.env}
+use Rattle.machine.specs.Published.{Env, Env.env}
 use Rattle.machine.specs.Machine.{Instance, Machine}
 use Rattle.commands.specs.Tags.{Asks}
 use Rattle.sound.specs.Needs.{Needs, NextReady, Typed-params, Right}
-use Rattle.sound.specs.Invariant.{Fits, Fitted, Passage, Place, Place.resting, Place.passing, Good}
+use Rattle.sound.specs.Invariant.{Fits, Fitted, Job, Job.call, written-in, Passage, Place, Place.resting, Place.passing, Good}
 use Rattle.sound.specs.Laws.EachLaws.{each-length, each-reverse}
 use Rattle.sound.specs.Firm.{Firm}
-use Rattle.sound.specs.Laws.PassageLaws.{has-step, ctx, here, tops, top-one, top-two, own-top, local-value, asks}
+use Rattle.sound.specs.Laws.PassageLaws.{has-step, first-held, ctx, here, tops, top-one, top-two, own-top, local-value, asks}
 
-module _ {p : Program} (m : Machine) {a : StepCall} {l : ℕ} {i : Instance} (g : Passage p a (m .instances) l i) where
+-- the locals that the machine has as written are those of the passage
+pub written-now : (p : Program) (a : Job) (i : Instance) → i .written ≡ written-in p a i
+written-now p (call a) i = refl
+
+module _ {p : Program} (m : Machine) {a : Job} {l : ℕ} {i : Instance} (g : Passage p a (m .instances) l i) (now : i .written ≡ written-in p a i) where
   -- what commands ask is what they need
   asked : (n : Note) → Asks (ctx g) n (here g) → Needs p m l i n
   asked (n-push t v) a = tt
@@ -39,21 +43,22 @@ module _ {p : Program} (m : Machine) {a : StepCall} {l : ℕ} {i : Instance} (g 
   asked (n-get t v) a =
       let (x, χ, e, f, r) = top-one g (ref (i .struct)) (a .3) in
       let (w, q, o) = local-value g v (a .2) in
-      (x, (χ, e), (f .0, own-top g (a .0) x χ e), (a .2, w, q, rw (a .1) o))
+      (x, (χ, e), (f .0, own-top g (a .0) x χ e), (rw now (a .2), w, q, rw (a .1) o))
   asked (n-set true t v) a =
       let (y, x, χ, e, f, f′, r) = top-two g (ref (i .struct)) t (a .2) in
       (x, y, (χ, e), (f .0, own-top g (a .0) y (x ∷ χ) e), f′)
   asked (n-set false t v) a =
       let (y, x, χ, e, f, f′, r) = top-two g (ref (i .struct)) t (a .3) in
       let (w, q, o) = local-value g v (a .2) in
-      (x, y, (χ, e), (f .0, own-top g (a .0) y (x ∷ χ) e), f′, (a .2, w, q, rw (a .1) o))
+      (x, y, (χ, e), (f .0, own-top g (a .0) y (x ∷ χ) e), f′, (rw now (a .2), w, q, rw (a .1) o))
 
-module _ {p : Program} (firm : Firm p) (m : Machine) (r : Option StepCall) (l : ℕ) (i : Instance) where
+module _ {p : Program} (firm : Firm p) (m : Machine) (r : Option Job) (l : ℕ) (i : Instance) where
   is-ready : Place p r (m .instances) l i → (c : List Note) → i .code ≡ c → NextReady p m l i c
   is-ready (resting e χ) [] q = tt
   is-ready (resting e χ) (n ∷ c) q = let z : _≡_ {A = ℕ} 0 1 = cc in absurd (omega arith)
   is-ready (passing g h) [] q = tt
-  is-ready (passing g h) (n ∷ c) q = asked m g n (asks g firm n c q)
+  is-ready (passing {a = a} g h) (n ∷ c) q =
+      let (d, f, _) = first-held g q in asked m g (written-now p a i) n (asks g firm n d f)
 
   is-typed : (ξ : Env) → Fitted (m .instances) (params-of p (i .struct)) ξ → Typed-params p m l i ξ
   is-typed (env ps ls) f = f .0

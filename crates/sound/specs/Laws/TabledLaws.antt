@@ -34,20 +34,14 @@ use Rattle.sound.specs.Invariant.{Place, Good}
 use Rattle.sound.specs.Firm.{Firm}
 use Rattle.sound.specs.Tabled.{TabledInst, Tabled}
 use Rattle.sound.specs.Laws.ElemLaws.{some-is, at-set-same, at-set-other, at-snoc, at-joined, at-below, map-at, all-elem}
-use Rattle.sound.specs.Laws.Keeps.{at-env-same, at-env-other}
-use Rattle.sound.specs.Laws.PassageLaws.{holder-passage, next-sized}
+use Rattle.sound.specs.Laws.Keeps.{env-length, at-env-same, at-env-other}
+use Rattle.sound.specs.Laws.PassageLaws.{holder-passage, first-held, next-sized}
 use Rattle.sound.specs.Laws.CommandKept.{turning-good}
 use Rattle.sound.specs.Laws.WriteKept.{same-env}
 use Rattle.sound.specs.Laws.BeginGood.{nulls-length, null-at}
 use Rattle.sound.specs.Laws.NeverStuckLaws.{acts-good}
 
 -- Changes of the instances ---------------------------------------------------------
-
-env-length : (is : List Instance) (l : ℕ) (ξ : Env) → length (update-env is l ξ) ≡ length is
-unfolding update-env
-env-length [] l ξ = refl
-env-length (i ∷ is) zero ξ = refl
-env-length (i ∷ is) (suc l) ξ = ap suc (env-length is l ξ)
 
 -- a write past the parameters leaves them
 past-params : (ξ : Env) (v : ℕ) (x : Val) → length (params-in ξ) ≤ v → params-in (assign ξ v x) ≡ params-in ξ
@@ -77,7 +71,7 @@ module _ (p : Program) {is : List Instance} (t : Tabled p is) where
       go n x e (yes q) = let w : with-env i ξ ≡ x = some-is (sym (at-env-same is l ξ i at) ∙ rw q at e) in rw (q, ← w) h
       go n x e (no q) = t .each n x (sym (at-env-other is l n ξ q) ∙ e)
 
-  -- one more behind
+  -- one more after them
   tabled-more : (j : Instance) → length is < max-instances → j .struct < structs p → Tabled p (is ++ j ∷ [])
   tabled-more j room below =
       let few = t .null-ones in
@@ -137,7 +131,7 @@ Comes-to p stuck = Unit {0}
 module _ {p : Program} (firm : Firm p) {m : Machine} (good : Good p m) (t : Tabled p (m .instances)) (l : ℕ) where
   -- a holder's cons names a struct of the program
   cons-below : (i : Instance) {k : ℕ} {r : List Note} → i .code ≡ n-cons k ∷ r → Place p (good .runs) (m .instances) l i → k < structs p
-  cons-below i {k} {r} e h = let (a, q, g) = holder-passage h e in next-sized g firm (n-cons k) r e
+  cons-below i {k} {r} e h = let (a, q, g) = holder-passage h e in let (d, f, _) = first-held g e in next-sized g firm (n-cons k) d f
 
   performed-tabled : (i : Instance) (n : Note) (r : List Note) (o : Out) → getElem? (m .instances) l ≡ some i → i .code ≡ n ∷ r
       → Performed p m l (with-written i (now-written n (i .written))) r n o

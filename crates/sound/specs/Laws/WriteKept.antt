@@ -1,12 +1,12 @@
 -- Writes keep the invariant: a parameter takes a value of its type, and a local's wr goes to the actor itself.
-use Prim.Native.Nat.{ℕ, _+_, _<_}
+use Prim.Native.Nat.{ℕ, _+_, _<_, _≤_}
 use native.Mathlib.Omega.{arith}
 use native.Mathlib.Decide.{ℕ-discrete}
-use mathlib.Core.Path.{_≡_, refl, ap, sym, _∙_}
+use mathlib.Core.Path.{_≡_, refl, ap, sym, _∙_, subst}
 use mathlib.Core.Bool.{Bool, true, false, false≢true}
 use mathlib.Core.Option.{Option, some}
 use mathlib.Core.Logic.{_⊎_, inl, inr}
-use mathlib.Core.List.{List, List·Memᴰ, List·Memᴰ·cases-cons}
+use mathlib.Core.List.{List, _∷_, _++_, List·Memᴰ, List·Memᴰ·cases-cons}
 use lib.ListN.{length, getD, getElem?, set}
 use Rattle.types.specs.Limits.{first-local, max-locals}
 use Rattle.types.specs.Types.{Ty, Ty.int}
@@ -15,12 +15,12 @@ use Rattle.program.specs.Tree.{Program}
 use Rattle.commands.specs.Context.{body-local, params-of}
 use Rattle.commands.specs.Noted.{Note, Note.n-set, noted, now-written}
 use Rattle.table.specs.Table.{Each}
-use Rattle.machine.specs.Published.{StepCall, Env, lookup, assign}
+use Rattle.machine.specs.Published.{Env, lookup, assign}
 use Rattle.machine.specs.Machine.{Tagged, Instance, Machine, with-env, with-instances, with-stability, put, update-env}
 use Rattle.machine.specs.Rules.{meet}
 use Rattle.commands.specs.Tags.{stack-after, next as leads, at-start, Way}
 use Rattle.sound.specs.Needs.{ValueAmong}
-use Rattle.sound.specs.Invariant.{Fits, Fitted, Passage, Place, Place.resting, Place.passing, GoodInst, Good}
+use Rattle.sound.specs.Invariant.{Fits, Fitted, Job, Job.call, written-in, Passage, Place, Place.resting, Place.passing, GoodInst, Good}
 use Rattle.sound.specs.Laws.Keeps.{Keeps, keeps-set, of-kept, fits-kept, env-set}
 use Rattle.sound.specs.Laws.ElemLaws.{at-set-same, at-set-other, some-is}
 use Rattle.sound.specs.Laws.EachLaws.{each-map}
@@ -28,13 +28,17 @@ use Rattle.sound.specs.Laws.EnvLaws.{other-kept, local-kept, local-holds
 use Rattle.sound.specs.Laws.GoodLaws.{fitted-kept, good-set, good-env, meet-length}
 use Rattle.sound.specs.Laws.PassageLaws.{ctx, Living-on}
 use Rattle.sound.specs.Firm.{Firm}
-use Rattle.sound.specs.Laws.Advance.{after, advance}
+use Rattle.sound.specs.Laws.Advance.{running-job, after, advance}
+
+-- another environment leaves the locals written as they were
+env-written : (p : Program) (a : Job) (j : Instance) (ξ : Env) → written-in p a (with-env j ξ) ≡ written-in p a j
+env-written p (call a) j ξ = refl
 
 -- an instance of struct k with environment ξ, after a parameter of it is written
 param-written : (p : Program) → Firm p → (is : List Instance) (r : ℕ) (j : Instance) (k : ℕ) (ξ : Env) → j .struct ≡ k → j .env ≡ ξ
     → (v : ℕ) (x : Val) → v < length (params-of p k)
     → ValueAmong is (getD (params-of p k) v int) x
-    → {c : Option StepCall}
+    → {c : Option Job}
     → GoodInst p c is r j
     → GoodInst p c is r (with-env j (assign ξ v x))
 param-written p firm is r j k ξ s e v x h o {c} g =
@@ -47,16 +51,22 @@ param-written p firm is r j k ξ s e v x h o {c} g =
   where
     go : v < first-local → Place p c is r j → Place p c is r (with-env j (assign ξ v x))
     go b (resting c χ) = resting c χ
-    go b (passing w q) =
+    go b (passing {a = a} w q) =
+        let now = env-written p a j (assign ξ v x) in
         passing (record {
           body = w .body;
+          rest = w .rest;
           has = w .has;
+          held = w .held;
+          code = w .code;
+          full = w .full;
           place = w .place;
           way = w .way;
-          kept = w .kept;
+          kept = λ y m. subst (λ r. List·Memᴰ y r) (sym now) (w .kept y m);
           stacked = w .stacked;
           own = w .own;
-          locals = λ y m. let (u, q, t) = w .locals y m in (u, other-kept ξ v y x b ∙ ap (λ η. lookup η (first-local + y)) (sym e) ∙ q, t);
+          locals = λ y m.
+              let (u, q, t) = w .locals y (subst (λ r. List·Memᴰ y r) now m) in (u, other-kept ξ v y x b ∙ ap (λ η. lookup η (first-local + y)) (sym e) ∙ q, t);
         }) q
 
 -- the instance at a place, after another was put back with its struct and environment
@@ -110,35 +120,39 @@ module _ {p : Program} (firm : Firm p) (m : Machine) (l : ℕ) (i : Instance) (a
         left = good .left;
       }
 
-  module _ (good : Good p m) {a : StepCall} (runs : good .runs ≡ some a) (g : Passage p a (m .instances) l i) (d : Bool) (t : Ty) (y : ℕ)
+  module _ (good : Good p m) {a : Job} (runs : good .runs ≡ some a) (g : Passage p a (m .instances) l i) (d : Bool) (t : Ty) (y : ℕ)
       (small : y < max-locals) (same : t ≡ body-local (g .body) y int) where
     -- a local of the actor
-    pub local-kept-good : (c : List Note) → Way (ctx g) (noted (ctx g) (g .body)) at-start c (leads (ctx g) (n-set d t y) (g .place))
+    pub local-kept-good : {b₀ : List Note} → g .held ≡ n-set d t y ∷ b₀ → (c : List Note) → length c ≤ length b₀
+        → Way (ctx g) (noted (ctx g) (g .body)) at-start c (leads (ctx g) (n-set d t y) (g .place))
         → Living-on g (n-set d t y) c
         → (ts : List Ty) → stack-after (ctx g) (n-set d t y) (g .place .stack) ≡ ts
         → (χ : List Tagged) → Each (Fits (m .instances)) ts χ
         → (x : Val) (b : Bool) → ValueAmong (m .instances) t x
         → Good p
         (with-stability
-        (with-instances m (update-env (set (m .instances) l (after i (n-set d t y) c χ (i .env))) l (assign (i .env) (first-local + y) x)))
+        (with-instances m (update-env (set (m .instances) l (after i (written-in p a i) (n-set d t y) (c ++ g .rest) χ (i .env))) l
+        (assign (i .env) (first-local + y) x)))
         (meet b (m .stability)))
-    local-kept-good c w sf ts q χ f x b o =
+    local-kept-good e c h w sf ts q χ f x b o =
         let ξ = assign (i .env) (first-local + y) x in
-        let a = after i (n-set d t y) c χ ξ in
-        let js = set (m .instances) l a in
-        let k = keeps-set (m .instances) l i a at refl in
+        let j = after i (written-in p a i) (n-set d t y) (c ++ g .rest) χ ξ in
+        let js = set (m .instances) l j in
+        let k = keeps-set (m .instances) l i j at refl in
         let fits = good .all .each l i at .fitted in
+        let same-list = env-set (m .instances) l ξ (after i (written-in p a i) (n-set d t y) (c ++ g .rest) χ (i .env)) in
         record {
           runs = good .runs;
           all =
-              rw (env-set (m .instances) l ξ (after i (n-set d t y) c χ (i .env)))
-              (good-set p (m .instances) l i a at refl (good .all)
+              rw same-list
+              (good-set p (m .instances) l i j at refl (good .all)
               (record {
                 fitted = fitted-kept p k (params-of p (i .struct)) ξ (local-fitted (m .instances) (params-of p (i .struct)) (i .env) y x fits);
-                place = passing (advance g (n-set d t y) w sf js ts q χ (each-map (fits-kept k) ts χ f) (λ q. absurd (false≢true q)) ξ
+                place = rw runs (advance firm (m .sched) (running-job good runs) g (n-set d t y) e c h w sf js ts q χ
+                    (each-map (fits-kept k) ts χ f) (λ q. absurd (false≢true q)) ξ
                     (λ z h.
-                    locals-after k (params-of p (i .struct)) (i .env) fits (λ z. body-local (g .body) z int) y small x (rw same at o) (i .written)
-                    (g .locals) z (ℕ-discrete z y) (is-written d t y (i .written) z h))) (inr runs);
+                    locals-after k (params-of p (i .struct)) (i .env) fits (λ z. body-local (g .body) z int) y small x (rw same at o) (written-in p a i)
+                    (g .locals) z (ℕ-discrete z y) (is-written d t y (written-in p a i) z h)));
               }));
           running = good .running;
           opened = rw (meet-length b (m .stability)) (good .opened);
