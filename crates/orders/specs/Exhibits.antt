@@ -26,10 +26,12 @@ use Rattle.machine.specs.Represents.{Represents}
 use Rattle.machine.specs.RepresentsLaws.{Still, still-done}
 use Rattle.machine.specs.MoveAgrees.{move-follows}
 use Rattle.run.specs.Begin.{begin, first-instances, table-of}
-use Rattle.run.specs.Initial.{initial, first-insts, table-in}
+use Rattle.run.specs.Initial.{initial, first-insts}
+use Rattle.run.specs.Comes.{table-in}
 use Rattle.run.specs.Runs.{Due}
 use Rattle.run.specs.Rows.RowsOpen.{running}
-use Rattle.run.specs.Laws.BeginLaws.{begin-stands, table-represents}
+use Rattle.run.specs.Laws.BeginLaws.{begin-stands}
+use Rattle.run.specs.Laws.OutcomeLaws.{table-represents}
 use Rattle.sound.specs.Laws.BeginGood.{begin-good}
 use Rattle.sound.specs.Laws.ElemLaws.{none-some, some-is}
 use Rattle.sound.specs.Exhibits.ExhibitTurns.{by-stream}
