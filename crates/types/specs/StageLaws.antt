@@ -2,7 +2,7 @@
 -- exactly where that number is foremost, and goes to its end exactly where no condition holds.
 use Prim.Native.Nat.{ℕ}
 use native.Mathlib.Omega.{arith}
-use mathlib.Core.Path.{_≡_, refl, ap, _∙_}
+use mathlib.Core.Path.{_≡_, refl, sym, ap, subst, _∙_}
 use mathlib.Core.Logic.{_↔_}
 use mathlib.Core.Bool.{Bool}
 use mathlib.Core.Option.{Option, none, some}
@@ -38,6 +38,12 @@ stage-given {E} {l} {C} {k} n o lacks has t = go o refl
     go none e = here refl (lacks e)
     go (some a) e = past (has a e) (t a e)
 
+-- what goes on alike comes to the same
+pub on-same : {A B : Type 0} (s : Stage A) {k m : A → Stage B} → ((a : A) → k a ≡ m a) → on s k ≡ on s m
+unfolding on
+on-same (went a) h = h a
+on-same (stopped n) h = refl
+
 -- Any entry ------------------------------------------------------------------------------
 
 module _ {A : Type 0} {D : A → Type 0} {l : Order} {s : Stage A} (t : Stages D l s) where
@@ -67,13 +73,13 @@ module _ {A : Type 0} {D : A → Type 0} {l : Order} {s : Stage A} (t : Stages D
       back (refuses e q) d = absurd (foremost-some q (free a d))
       back (passes f (b, e, d)) g = e ∙ ap went (one b a d g)
 
-  -- what is answered of it tells the same
-  pub stage-answer : {B : Type 0} (f : Stage A → B) → Tells (λ n. f (stopped n)) (λ b. (a : A) × (b ≡ f (went a)) × D a) l (f s)
-  stage-answer f = go t
+  -- what is answered of it tells the same, where E holds of the answers to what D holds of
+  pub stage-answer : {B : Type 0} {E : B → Type 0} (f : Stage A → B) → ((a : A) → D a → E (f (went a))) → Tells (λ n. f (stopped n)) E l (f s)
+  stage-answer {E} f h = go t
     where
-      go : Stages D l s → Tells (λ n. f (stopped n)) (λ b. (a : A) × (b ≡ f (went a)) × D a) l (f s)
+      go : Stages D l s → Tells (λ n. f (stopped n)) E l (f s)
       go (refuses e q) = refuses (ap f e) q
-      go (passes g (a, e, d)) = passes g (a, ap f e, d)
+      go (passes g (a, e, d)) = passes g (subst E (sym (ap f e)) (h a d))
 
   -- and a refusal is answered as its number is, whatever is answered
   pub stage-refused : {B : Type 0} (f : Stage A → B) (n : ℕ) → Foremost l n → f s ≡ f (stopped n)
