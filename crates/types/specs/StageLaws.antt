@@ -44,6 +44,12 @@ unfolding on
 on-same (went a) h = h a
 on-same (stopped n) h = refl
 
+-- what goes on with its own value is as it was
+pub on-went : {A : Type 0} (s : Stage A) → on s went ≡ s
+unfolding on
+on-went (went a) = refl
+on-went (stopped n) = refl
+
 -- Any entry ------------------------------------------------------------------------------
 
 module _ {A : Type 0} {D : A → Type 0} {l : Order} {s : Stage A} (t : Stages D l s) where
@@ -61,14 +67,18 @@ module _ {A : Type 0} {D : A → Type 0} {l : Order} {s : Stage A} (t : Stages D
   pub stage-none : Went D s ↔ NoneOf l
   stage-none = tells-none stopped-same stopped-apart t
 
+  -- where it went to its end with a, none holds and D holds of a
+  pub stage-past : (a : A) → s ≡ went a → (NoneOf l) × D a
+  stage-past a = go t
+    where
+      go : Stages D l s → s ≡ went a → (NoneOf l) × D a
+      go (refuses d q) e = let z : _≡_ {A = ℕ} 0 1 = cc in absurd (omega arith)
+      go (passes f (b, e, d)) g = let q : b ≡ a = cc in (f, rw (← q) d)
+
   -- so it goes to its end with a exactly where D holds of a, if none holds where D does and D holds of one value
   pub stage-went : ((a : A) → D a → NoneOf l) → ((a b : A) → D a → D b → a ≡ b) → (a : A) → (s ≡ went a) ↔ D a
-  stage-went free one a = (forth t, back t)
+  stage-went free one a = (λ e. stage-past a e .1, back t)
     where
-      forth : Stages D l s → s ≡ went a → D a
-      forth (refuses d q) e = let z : _≡_ {A = ℕ} 0 1 = cc in absurd (omega arith)
-      forth (passes f (b, e, d)) g = let q : b ≡ a = cc in rw (← q) d
-
       back : Stages D l s → D a → s ≡ went a
       back (refuses e q) d = absurd (foremost-some q (free a d))
       back (passes f (b, e, d)) g = e ∙ ap went (one b a d g)

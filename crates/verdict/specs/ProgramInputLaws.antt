@@ -157,7 +157,7 @@ module _ (x : List ℕ) where
 
 module _ (x list : List ℕ) where
   -- an accepted program, and room
-  abbrev Checks : Program → Type 0
+  abbrev pub Checks : Program → Type 0
   Checks p = (AcceptedImage x p) × (max-commands ≤ length list)
 
   pub tell-checks : Stages Checks (check-order x list) (checks x list)
@@ -165,15 +165,19 @@ module _ (x list : List ℕ) where
   tell-checks = stage-on (tell-checked x) λ p a. stage-asked no-room (lt-reflects (length list) max-commands) λ f. passes tt (p, refl, (a, omega arith))
 
   -- what is answered of it
+  pub approves : (p : Program) → Checks p → Approved x list (verdict-of (accepted p))
+  unfolding verdict-of
+  approves p d = (p, refl, d .0, d .1)
+
   tell-verdict : Tells refusal (Approved x list) (check-order x list) (check-verdict x list)
   unfolding check-verdict verdict-of
-  tell-verdict = stage-answer tell-checks verdict-of (λ p d. (p, refl, d .0, d .1))
+  tell-verdict = stage-answer tell-checks verdict-of approves
 
-  refusal-same : (n m : ℕ) → refusal n ≡ refusal m → n ≡ m
+  pub refusal-same : (n m : ℕ) → refusal n ≡ refusal m → n ≡ m
   refusal-same n m e = ap (λ (v : Verdict). v .number) e
 
   -- a program has a struct, and a refusal counts none
-  refusal-apart : (n : ℕ) → Approved x list (refusal n) → ⊥
+  pub refusal-apart : (n : ℕ) → Approved x list (refusal n) → ⊥
   unfolding Counts
   refusal-apart n d = omega (arith, d .2 .program .0 .0 .0, ap (λ (v : Verdict). v .structs) (d .1))
 

@@ -5,9 +5,8 @@ use native.Mathlib.Omega.{arith}
 use mathlib.Core.Path.{_≡_, refl, ap, _∙_}
 use mathlib.Core.List.{List, [], _∷_, _++_}
 use lib.ListN.{length, drop}
-use borrow.Author.Tests.{le-ltb}
 use Rattle.types.specs.Limits.{max-commands}
-use Rattle.types.specs.Stages.{Stage.went as accepted, Stage.stopped as refused, on, asked}
+use Rattle.types.specs.Stages.{Stage.went as accepted, Stage.stopped as refused}
 use Rattle.blocks.specs.Images.{image}
 use Rattle.program.specs.Reader.{read}
 use Rattle.program.specs.Rows.{reading}
@@ -15,8 +14,8 @@ use Rattle.commands.specs.Commands.{commands}
 use Rattle.commands.specs.Decide.{every}
 use Rattle.commands.specs.Numbers.{first}
 use Rattle.commands.specs.ProgramWords.{program-words}
-use Rattle.verdict.specs.Verdict.{Checked, judge, of-read, checked, listed, list-of, checks, check-list}
-use Rattle.verdict.specs.VerdictLaws.{checked-image}
+use Rattle.verdict.specs.Verdict.{Checked, judge, of-read, listed, list-of, check-list}
+use Rattle.verdict.specs.VerdictLaws.{checked-image, checks-room}
 use Rattle.commands.specs.Unfold.{judging, coding}
 
 -- P: load := load + prev.load, run once
@@ -34,13 +33,10 @@ abbrev words-by : Checked → List ℕ
 words-by (accepted p) = program-words p
 words-by (refused n) = []
 
-list-room : (x list : List ℕ) → max-commands ≤ length list → check-list x list ≡ words-by (checked x) ++ drop (length (words-by (checked x))) list
-unfolding check-list checks on asked list-of listed
-list-room x list h = rw (le-ltb (length list) max-commands h) (go (checked x))
-  where
-    go : (c : Checked) → list-of (on c (λ p. accepted p)) list ≡ words-by c ++ drop (length (words-by c)) list
-    go (refused n) = refl
-    go (accepted p) = refl
+list-words : (c : Checked) (list : List ℕ) → list-of c list ≡ words-by c ++ drop (length (words-by c)) list
+unfolding list-of listed
+list-words (refused n) list = refl
+list-words (accepted p) list = refl
 
 words-P : words-by (of-read (read P)) ≡ 2 ∷ 3 ∷ 2 ∷ 4294967299 ∷ 3 ∷ 176093659144 ∷ 2 ∷ 4 ∷ []
 unfolding checking P coding
@@ -50,8 +46,8 @@ words-P = refl
 -- op 41, push this, wr 0
 pub listed-P : (list : List ℕ) → max-commands ≤ length list
     → check-list (image P) list ≡ 2 ∷ 3 ∷ 2 ∷ 4294967299 ∷ 3 ∷ 176093659144 ∷ 2 ∷ 4 ∷ drop 8 list
-unfolding P
+unfolding check-list P
 listed-P list h =
-    list-room (image P) list h
-    ∙ ap (λ (c : Checked). words-by c ++ drop (length (words-by c)) list) (checked-image P (omega arith) (omega arith))
+    ap (λ (c : Checked). list-of c list) (checks-room (image P) list h ∙ checked-image P (omega arith) (omega arith))
+    ∙ list-words (of-read (read P)) list
     ∙ ap (λ (w : List ℕ). w ++ drop (length w) list) words-P

@@ -7,11 +7,10 @@ use mathlib.Core.Option.{Option}
 use mathlib.Core.List.{List, [], _∷_, _++_, map}
 use lib.ListN.{length, drop, replicate}
 use lib.Dec.{leb}
-use borrow.Author.Tests.{le-ltb}
 use Rattle.types.specs.Limits.{program-blocks, table-blocks, max-commands, first-local}
 use Rattle.types.specs.Values.{Val}
 use Rattle.types.specs.Reflects.{Reflects, reflects-iff, reflects-both, le-reflects}
-use Rattle.types.specs.Stages.{Stage.went, Stage.stopped, Stage.went as accepted, Stage.stopped as refused, on, asked}
+use Rattle.types.specs.Stages.{Stage.went, Stage.stopped, on}
 use Rattle.block.specs.Block.{block-size, payload-size, block-of}
 use Rattle.blocks.specs.Images.{image, pieces}
 use Rattle.block.specs.declared.Found.{Found}
@@ -20,12 +19,12 @@ use Rattle.program.specs.Reader.{read}
 use Rattle.machine.specs.Published.{lookup}
 use Rattle.run.specs.Run.{Outcome, Outcome.stopped as ended, Outcome.jammed, run}
 use Rattle.run.specs.Begin.{begin}
-use Rattle.verdict.specs.Verdict.{Checked, Verdict, checks, verdict-of, check-verdict, of-read, of-image, checked}
+use Rattle.verdict.specs.Verdict.{Verdict, verdict-of, check-verdict, of-read, of-image, checked}
 use Rattle.run.specs.Entry.{Begun, begun, of-table-image, images, with-room, begins, Report, run-report-by}
 use Rattle.run.specs.Entry.{run-output-by, run-report, run-output}
 use Rattle.run.specs.EntryStreams.{Summary, summed, reported, begins-streams}
 use Rattle.run.specs.Laws.EntryStreamLaws.{report-summed, output-summed, begins-image}
-use Rattle.verdict.specs.VerdictLaws.{checked-image}
+use Rattle.verdict.specs.VerdictLaws.{checked-image, checks-room}
 use Rattle.run.specs.Rows.Swept.{swept-block, block-is, swept, fault-is}
 
 -- of every element of a list P holds, where it follows from an equation of two functions, and these are equal on the list
@@ -75,20 +74,12 @@ computed r = record {
 abbrev pub said : Row → Computed
 said r = record { verdict = r .verdict; comes-to = r .comes-to; fit = true }
 
-verdict-room : (x list : List ℕ) → max-commands ≤ length list → check-verdict x list ≡ verdict-of (checked x)
-unfolding check-verdict checks on asked
-verdict-room x list h = rw (le-ltb (length list) max-commands h) (go (checked x))
-  where
-    go : (c : Checked) → verdict-of (on c (λ p. accepted p)) ≡ verdict-of c
-    go (refused n) = refl
-    go (accepted p) = refl
-
 fits-reflects : (blocks : ℕ) (s : List ℕ) → Reflects ((1 ≤ length s) × (length s ≤ payload-size * blocks)) (fits blocks s)
 fits-reflects blocks s = reflects-both (le-reflects 1 (length s)) (le-reflects (length s) (payload-size * blocks))
 
 -- what is computed of a row's streams holds of the entries on its images
 row-right : (r : Row) → computed r ≡ said r → RowRight r
-unfolding run-report run-output
+unfolding check-verdict run-report run-output
 row-right r e =
     let s = r .program in
     let t = r .table in
@@ -97,8 +88,7 @@ row-right r e =
     let begun = begins-image s t (fit .0 .0) (fit .0 .1) (fit .1 .0) (fit .1 .1) es in
     record {
       checked = λ list h.
-          verdict-room (image s) list h
-          ∙ ap verdict-of (checked-image s (fit .0 .0) (fit .0 .1))
+          ap verdict-of (checks-room (image s) list h ∙ checked-image s (fit .0 .0) (fit .0 .1))
           ∙ ap (λ (c : Computed). c .verdict) e;
       report = λ out list h k.
           ap (λ (b : Begun). run-report-by b es) (begun out list h k)
