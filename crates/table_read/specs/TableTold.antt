@@ -26,14 +26,6 @@ table-told S (no-table n) = Refused n
 unfoldable pub behind-count : List (List Ty) → List ℕ → ℕ → TableAnswer
 behind-count pss s n = table-answer pss (then (many [] _∷_ (read-record pss s) n count-bytes) (ended s))
 
--- what a table image comes to: its blocks before its stream
-unfoldable pub answer-of : List (List Ty) → Found → List ℕ → TableAnswer
-answer-of pss (Wrong f) y = no-table (table-number f)
-answer-of pss Right y = table-of-stream pss (stream y)
-
-abbrev pub image-answer : List (List Ty) → List ℕ → TableAnswer
-image-answer pss y = answer-of pss (fault table-blocks y) y
-
 -- memory after it, by what it held before: the null instances and the records of an accepted table; after a refusal, anything
 abbrev pub TableLaid : List ℕ → List ℕ → List ℕ → List ℕ → TableAnswer → List ℕ → List ℕ → Type 0
 TableLaid cs ts h c (table rs) h′ c′ = (h′ ≡ heads-laid h 0 (all-records (lists-of cs ts) rs)) × (c′ ≡ rows-laid ts c 0 (all-records (lists-of cs ts) rs))
