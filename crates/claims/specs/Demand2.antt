@@ -30,7 +30,7 @@ use Rattle.run.specs.Begin.{params-in, begin, table-of}
 use Rattle.run.specs.Initial.{initially, Comes}
 use Rattle.run.specs.Runs.{Config, StandsFor, Passes}
 use Rattle.verdict.specs.Verdict.{checked, listed, approval, check-verdict, check-list}
-use Rattle.run.specs.Entry.{Begun.begun, begins, run-output}
+use Rattle.run.specs.Entry.{begun, begins, run-output}
 use Rattle.verdict.specs.ProgramInput.{check-order, AcceptedImage, Approved}
 use Rattle.run.specs.Input.{run-order, TableAccepted, Runnable, Began}
 use Rattle.verdict.specs.ProgramInputLaws.{checked-accepted, verdict-approved, check-approved}

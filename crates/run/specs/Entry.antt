@@ -45,9 +45,12 @@ begun p rs = went (p, rs)
 abbrev pub not-begun : ℕ → Begun
 not-begun n = stopped n
 
+unfoldable pub with-table : List ℕ → Program → Begun
+with-table y p = on (tabled (p .params) y) λ rs. begun p rs
+
 -- 1 to 12: program image and table image
 unfoldable pub images : List ℕ → List ℕ → Begun
-images x y = on (checked x) λ p. on (tabled (p .params) y) λ rs. begun p rs
+images x y = on (checked x) (with-table y)
 
 -- 13 of output and list and 14 of the turn bytes, after a program and its table
 unfoldable pub with-room : List ℕ → List ℕ → List ℕ → Program × List Record → Begun

@@ -35,7 +35,8 @@ use Rattle.table_read.specs.Refer.{Structs, rows-refer}
 use Rattle.table_read.specs.ReferLaws.{laid-refers, laid-structs}
 use Rattle.little_endian.specs.Numbers.{number-at}
 use Rattle.table_read.specs.Told.{count-told, RecordsLaid}
-use Rattle.table_read.specs.TableTold.{behind-count, table-told, answer-of, image-answer, TableLaid}
+use Rattle.table_read.specs.TableTold.{behind-count, table-told, TableLaid}
+use Rattle.run.specs.Entry.{of-table-image, tabled}
 use Rattle.table_read.specs.ToldLaws.{laid-is, laid-stops}
 use Rattle.table_read.specs.ValueWays.{word-in, word-out}
 
@@ -177,10 +178,10 @@ module _ (s : List ℕ) (pss : List (List Ty)) where
 -- An image -------------------------------------------------------------------------
 
 module _ (y : List ℕ) (pss : List (List Ty)) where
-  pub image-refused : (f : Fault) → fault table-blocks y ≡ Wrong f → image-answer pss y ≡ no-table (block-number f)
-  unfolding answer-of
+  pub image-refused : (f : Fault) → fault table-blocks y ≡ Wrong f → tabled pss y ≡ no-table (block-number f)
+  unfolding of-table-image
   image-refused f e = rw e
 
-  pub image-read : fault table-blocks y ≡ Right → image-answer pss y ≡ table-of-stream pss (stream y)
-  unfolding answer-of
+  pub image-read : fault table-blocks y ≡ Right → tabled pss y ≡ table-of-stream pss (stream y)
+  unfolding of-table-image
   image-read e = rw e

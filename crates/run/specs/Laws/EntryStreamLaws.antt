@@ -13,7 +13,9 @@ use Rattle.blocks.specs.Images.{image, image-of, pieces}
 use Rattle.blocks.specs.ImageRoundTrip.{image-accepted, image-stream}
 use Rattle.run.specs.Run.{Outcome, Outcome.stopped as ended, Outcome.jammed, run}
 use Rattle.run.specs.Begin.{begin}
-use Rattle.run.specs.Entry.{Begun, of-table-image, images, with-room, begins, report-of, output-of, run-report-by, run-output-by}
+use Rattle.run.specs.Entry.{Begun, of-table-image, with-table, images, with-room, begins, report-of, output-of, run-report-by, run-output-by}
+use Rattle.program.specs.Reader.{read}
+use Rattle.verdict.specs.Verdict.{Checked, of-read}
 use Rattle.verdict.specs.VerdictLaws.{checked-image}
 use Rattle.run.specs.EntryStreams.{of-outcome, summed, reported, streams, begins-streams}
 
@@ -41,8 +43,10 @@ output-summed (went (p, rs)) es out = go (run p (begin p rs) es)
 module _ (s t : List ℕ) (some : 1 ≤ length s) (fits : length s ≤ payload-size * program-blocks) (has : 1 ≤ length t)
     (small : length t ≤ payload-size * table-blocks) where
   images-streams : images (image s) (image t) ≡ streams s t
-  unfolding images of-table-image streams
-  images-streams = rw (checked-image s some fits, image-accepted t has table-blocks (omega arith), of-table-image, image-stream t has)
+  unfolding images with-table of-table-image streams
+  images-streams =
+      ap (λ (c : Checked). on c (with-table (image t))) (checked-image s some fits)
+      ∙ on-same (of-read (read s)) (λ p. rw (image-accepted t has table-blocks (omega arith), of-table-image, image-stream t has))
 
   pub begins-image : (es out list : List ℕ) → block-size * table-blocks ≤ length out → max-commands ≤ length list
       → begins (image s) (image t) es out list ≡ begins-streams s t es

@@ -28,7 +28,7 @@ use Rattle.table.specs.TableFaultLaws.{table-ends-exactly, table-offends-exactl
 use Rattle.run.specs.Run.{run}
 use Rattle.run.specs.Begin.{begin}
 use Rattle.verdict.specs.Verdict.{listed}
-use Rattle.run.specs.Entry.{of-table-image, tabled, begun, not-begun, images, with-room, begins, report, report-of}
+use Rattle.run.specs.Entry.{of-table-image, tabled, begun, not-begun, with-table, images, with-room, begins, report, report-of}
 use Rattle.run.specs.Entry.{Begun, output-of, run-report-by, run-output-by, run-list-by, run-report, run-output, run-list}
 use Rattle.verdict.specs.ProgramInput.{ImageRight, Reads, AcceptedImage, reads-of, program-order}
 use Rattle.run.specs.Input.{TableAccepted, Runnable, Began, TableWrongEnd, TableWrongValue, table-order, room-order, run-order}
@@ -84,7 +84,7 @@ module _ (x y : List ℕ) where
   Tabled q = (AcceptedImage x (q .0)) × (TableAccepted (q .0) y (q .1))
 
   pub tell-images : Stages Tabled (program-order x ++ table-order x y) (images x y)
-  unfolding images
+  unfolding images with-table
   tell-images = stage-on (tell-checked x) λ p a. stage-on (tell-tabled p a) λ rs t. passes tt ((p, rs), refl, (a, t))
 
   -- an accepted table meets no condition

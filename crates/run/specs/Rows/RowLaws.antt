@@ -20,7 +20,7 @@ use Rattle.machine.specs.Published.{lookup}
 use Rattle.run.specs.Run.{Outcome, Outcome.stopped as ended, Outcome.jammed, run}
 use Rattle.run.specs.Begin.{begin}
 use Rattle.verdict.specs.Verdict.{Verdict, verdict-of, check-verdict, of-read, of-image, checked}
-use Rattle.run.specs.Entry.{Begun, begun, of-table-image, images, with-room, begins, Report, run-report-by}
+use Rattle.run.specs.Entry.{Begun, begun, of-table-image, with-table, images, with-room, begins, Report, run-report-by}
 use Rattle.run.specs.Entry.{run-output-by, run-report, run-output}
 use Rattle.run.specs.EntryStreams.{Summary, summed, reported, begins-streams}
 use Rattle.run.specs.Laws.EntryStreamLaws.{report-summed, output-summed, begins-image}
@@ -135,7 +135,7 @@ unfoldable pub swept-number : ImageRow → ℕ
 swept-number r = number-by r (found r (swept program-blocks (r .program)) (swept table-blocks (r .table)))
 
 number-is : (r : ImageRow) → reports r .number ≡ swept-number r
-unfolding run-report begins images checked swept-number
+unfolding run-report begins images with-table checked swept-number
 number-is r = ap (number-by r) (ap₂ (found r) (fault-is program-blocks (r .program)) (fault-is table-blocks (r .table)))
 
 -- rows over the images of two streams and a second block, whose sums are swept up
