@@ -1,22 +1,19 @@
 -- What the claims say in one line and the crates below in two: a step by its name, a call with the run that it makes.
 use Prim.Native.Nat.{ℕ, _<_, _≤_}
 use native.Mathlib.Omega.{arith}
-use mathlib.Core.Path.{_≡_, refl, sym, ap, _∙_, subst₂}
-use mathlib.Core.Bool.{Bool, true, false}
-use mathlib.Core.Option.{Option, none, some}
-use mathlib.Core.List.{List, [], _∷_, _++_, map, List·Memᴰ, List·Memᴰ·head, List·Memᴰ·tail, List·Memᴰ·not-nil}
-use lib.ListN.{length, getD}
-use lib.Dec.{eqb, ltb}
-use borrow.Author.Tests.{eqb-true, eqb-false, ltb-true, ltb-false}
+use mathlib.Core.Path.{_≡_, ap, subst₂}
+use mathlib.Core.Bool.{Bool}
+use mathlib.Core.Option.{none, some}
+use mathlib.Core.List.{List, [], _∷_, _++_, map}
+use lib.ListN.{length}
 use Rattle.types.specs.Limits.{max-commands, fix-levels}
 use Rattle.types.specs.Orders.{Foremost}
 use Rattle.types.specs.StageLaws.{stage-number}
-use Rattle.program.specs.Tree.{Stmts, Step, Program}
+use Rattle.program.specs.Tree.{Stmts, Program}
 use Rattle.commands.specs.Bounds.{program-depth}
 use Rattle.commands.specs.Coding.{words}
 use Rattle.commands.specs.Commands.{commands}
-use Rattle.commands.specs.Context.{context, find-step, step-of}
-use Rattle.commands.specs.Names.{names-of-steps}
+use Rattle.commands.specs.Context.{context, step-of}
 use Rattle.commands.specs.Noted.{erase, noted}
 use Rattle.commands.specs.Laws.NotedLaws.{erased}
 use Rattle.table.specs.Table.{Record}

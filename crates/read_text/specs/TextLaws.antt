@@ -28,7 +28,7 @@ use Rattle.derive.specs.RoleMarkLaws.{text-roles}
 use Rattle.derive.specs.Roles.{code, roles}
 use Rattle.resolve.specs.Standing.{Stood}
 use Rattle.resolve.specs.StandingLaws.{derivation-stands}
-use Rattle.source.specs.Source.{max-text, Outcome}
+use Rattle.source.specs.Source.{max-text}
 use Rattle.source.specs.TextReader.{of-program, of-derivation, of-tokens, outcome}
 use Rattle.read_text.specs.Roled.{Roled}
 

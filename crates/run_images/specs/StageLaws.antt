@@ -18,6 +18,13 @@ use Rattle.run_images.specs.declared.Report.{Report}
 use Rattle.run_images.specs.Answer.{answer}
 use Rattle.run_images.specs.Stages.{Answers, Came}
 
+-- program and table begin a run, and there is room for everything
+room-is : (es out list : List ℕ) {b : Begun} {p : Program} {rs : List Record} → b ≡ begun p rs → block-size * table-blocks ≤ length out
+    → max-commands ≤ length list → length es ≤ max-turns → on b (with-room es out list) ≡ begun p rs
+unfolding on with-room asked
+room-is es out list begins long places few =
+    rw (begins, le-ltb (length out) (block-size * table-blocks) long, le-ltb (length list) max-commands places, le-ltb max-turns (length es) few)
+
 module _ {es out list : List ℕ} where
   -- what comes to a refusal is answered by it
   refused-by : {b : Begun} {r : Report} {n : ℕ} → on b (with-room es out list) ≡ not-begun n → r ≡ answer (report n 0 0 0 0)
@@ -48,19 +55,16 @@ module _ {es out list : List ℕ} where
             (rw (begins, le-ltb (length out) (block-size * table-blocks) long, le-ltb (length list) max-commands places, lt-ltb max-turns (length es) h)) e
 
         module _ (few : length es ≤ max-turns) where
-          -- there is room for everything
-          room-is : on b (with-room es out list) ≡ begun p rs
-          unfolding on with-room asked
-          room-is = rw (begins, le-ltb (length out) (block-size * table-blocks) long, le-ltb (length list) max-commands places, le-ltb max-turns (length es) few)
-
           -- a run of the machine that the table begins with is answered
           pub came-answers : {out′ list′ : List ℕ} → Came p (begin p rs) es out r out′ → list′ ≡ listed p list → Answers b es out list r out′ list′
           unfolding run-report-by run-output-by run-list-by
-          came-answers c g = record {
-            reported = rw (room-is, run-report-by) (c .reported);
-            written = rw (room-is, run-output-by) (c .written);
-            listed = rw (room-is, run-list-by) g;
-          }
+          came-answers c g =
+              let q : on b (with-room es out list) ≡ begun p rs = room-is es out list begins long places few in
+              record {
+                reported = rw (q, run-report-by) (c .reported);
+                written = rw (q, run-output-by) (c .written);
+                listed = rw (q, run-list-by) g;
+              }
 
 -- The whole call ------------------------------------------------------------------------
 

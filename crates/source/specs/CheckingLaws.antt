@@ -11,10 +11,9 @@ use lib.Seq.{take-append-seam}
 use lib.Dec.{ltb}
 use borrow.Author.Tests.{le-ltb}
 use Rattle.types.specs.Limits.{program-blocks, max-commands}
-use Rattle.types.specs.Numbers.{no-room}
 use Rattle.types.specs.Orders.{Foremost}
 use Rattle.types.specs.OrderLaws.{tells-number}
-use Rattle.types.specs.Stages.{Stage.went as accepted, Stage.stopped as checked-refused, Stage.went as written, Stage.stopped as refused, on, asked, Stages}
+use Rattle.types.specs.Stages.{Stage.stopped as checked-refused, Stage.went as written, Stages}
 use Rattle.types.specs.StageLaws.{stage-on, stage-answer}
 use Rattle.block.specs.Block.{block-size}
 use Rattle.blocks.specs.declared.Written.the-variants.{Blocks}
@@ -32,8 +31,8 @@ use Rattle.commands.specs.Numbers.{over-limits, wrong-names, wrong-types, first
 use Rattle.commands.specs.Bounds.{Within}
 use Rattle.commands.specs.Names.{NamesRight}
 use Rattle.commands.specs.Laws.NumbersLaws.{number-names}
-use Rattle.verdict.specs.Verdict.{Checked, judge, of-read, checked}
-use Rattle.verdict.specs.Verdict.{Verdict, refusal, approval, verdict-of, check-verdict}
+use Rattle.verdict.specs.Verdict.{judge, of-read, checked}
+use Rattle.verdict.specs.Verdict.{refusal, verdict-of, check-verdict}
 use Rattle.verdict.specs.VerdictLaws.{checked-image, checks-room}
 use Rattle.verdict.specs.ProgramInput.{Approved}
 use Rattle.verdict.specs.ProgramInputLaws.{Checks, tell-checks, approves, refusal-same, refusal-apart}

@@ -5,7 +5,6 @@ use mathlib.Core.Option.{Option, none, some}
 use mathlib.Core.List.{List}
 use lib.ListN.{take, drop}
 use Rattle.types.specs.Stages.{Stage.went as accepted, Stage.stopped as refused}
-use Rattle.program.specs.Tree.{Program}
 use Rattle.directory.specs.declared.Row.{Row}
 use Rattle.directory.specs.Directory.{directory, find-row}
 use Rattle.verdict.specs.Verdict.{Checked, checks}

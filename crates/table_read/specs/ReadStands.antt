@@ -2,7 +2,7 @@
 -- (01, 'Table and turns'): the answer is the program's, and memory stands for the machine that a run begins with.
 use Prim.Native.Nat.{ℕ, _+_, _*_}
 use native.Mathlib.Omega.{arith}
-use mathlib.Core.Path.{_≡_, refl, ap, _∙_}
+use mathlib.Core.Path.{_≡_, ap, _∙_}
 use mathlib.Core.List.{List, map}
 use lib.ListN.{length, length-map}
 use Rattle.types.specs.Limits.{max-instances, table-blocks}

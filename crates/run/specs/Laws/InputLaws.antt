@@ -10,7 +10,7 @@ use Rattle.types.specs.Limits.{table-blocks, max-commands, max-turns}
 use Rattle.types.specs.Numbers.{no-room, many-turns}
 use Rattle.types.specs.Reflects.{lt-reflects}
 use Rattle.types.specs.Orders.{Order, NoneOf, Foremost, Tells.passes}
-use Rattle.types.specs.OrderLaws.{none-joined, here, past, past-all}
+use Rattle.types.specs.OrderLaws.{none-joined, here, past}
 use Rattle.types.specs.Stages.{Stage.went as table, Stage.stopped as no-table, Stages}
 use Rattle.types.specs.StageLaws.{stage-asked, stage-on, stage-number, stage-none, stage-went, stage-refused}
 use Rattle.block.specs.Block.{block-size}

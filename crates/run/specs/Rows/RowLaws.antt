@@ -1,7 +1,7 @@
 -- How a row by computation becomes a fact of the entries (01, 'Bench rows'): of the images of streams, of damaged images, of what a
 -- run leaves in memory.
 use Prim.Native.Nat.{ℕ, _*_, _≤_}
-use mathlib.Core.Path.{_≡_, refl, ap, ap₂, _∙_}
+use mathlib.Core.Path.{_≡_, ap, ap₂, _∙_}
 use mathlib.Core.Bool.{Bool, true, _&&_}
 use mathlib.Core.Option.{Option}
 use mathlib.Core.List.{List, [], _∷_, _++_, map}
