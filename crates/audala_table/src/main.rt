@@ -1,8 +1,10 @@
 // A table image as text, and text as a table image (docs/FORMAT.md, 'Tables as text'). Program, table and text are in files that arguments name.
 use blocks::Read;
 use blocks::Written;
+use load::Load;
 use numbers::Scanned;
 use read_params::ParamsRead;
+use seating::SeatRead;
 use table_stream::Made;
 
 // One byte more than each may have, so that a longer one is told from the longest.
@@ -41,20 +43,33 @@ fn refuse(text: &[u8], n: usize) {
     files::tell(b"\n");
 }
 
-// Whether a program is accepted and its table too; where one is not, the number is told. It is a run without turns that judges both.
-fn accepted(program: &[u8], table: &[u8]) -> bool {
-    let mut output = [0u8; OUTPUT];
-    let mut list = [0u64; types::MAX_COMMANDS];
-    let r = run_images::run(program, table, b"", &mut output, &mut list);
-    let n = r.number;
-    if n == 0 {
-        return true;
-    }
-    if n > 14 {
-        return true;
-    }
+// The number of a refusal on standard error: nothing is accepted with it.
+fn told(n: u8) -> bool {
     refuse(b"audala_table: refused ", n as usize);
     false
+}
+
+// Whether a program is accepted and its table too (1 to 12); where one is not, the number is told. Nothing is run.
+fn accepted(program: &[u8], table: &[u8]) -> bool {
+    let mut stream = [0u8; seating::SHORT];
+    let mut counts = [0u8; types::MAX_STRUCTS];
+    let mut types = [0u8; types::MAX_STRUCTS * types::MAX_PARAMS];
+    let mut rows = [0u8; STREAM];
+    let mut heads = [0usize; layout::HEADS];
+    let mut cells = [0u64; layout::CELLS];
+    let loaded = seating::admit(program, &mut stream, &mut counts, &mut types);
+    let Load::Program(p) = loaded else {
+        return told(load::refusal(loaded));
+    };
+    let k = p.structs as usize;
+    let end = types::MAX_PARAMS * k;
+    let cs = &counts[..k];
+    let ts = &types[..end];
+    let seated = seating::seat_table(p.at, cs, ts, table, &mut rows, &mut heads, &mut cells);
+    let SeatRead::Taken(_) = seated else {
+        return told(seating::refusal(seated));
+    };
+    true
 }
 
 // The parameters of the program whose stream is the first n bytes; how many structs it has.

@@ -8,9 +8,6 @@ const TEXT: usize = 65537;
 
 const IMAGE: usize = types::PROGRAM_BLOCKS * blocks::BLOCK_SIZE;
 
-// The least number that has a place: 15.
-const NO_TOKEN: u32 = 15;
-
 const LINE_END: u8 = 10;
 
 // The first n blocks of the image, of which there are at most 64.
@@ -78,7 +75,8 @@ fn tell_place(text: &[u8]) {
 fn refuse(text: &[u8], n: u32) {
     files::tell(b"refused ");
     files::tell_number(n as u64);
-    if NO_TOKEN <= n {
+    // the least number that has a place
+    if types::number::NO_TOKEN as u32 <= n {
         tell_place(text);
     }
     files::tell(b"\n");

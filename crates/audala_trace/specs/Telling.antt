@@ -19,8 +19,8 @@ use Rattle.layout.specs.State.{State, state-of}
 use Rattle.memory.specs.Move.{move}
 use Rattle.scheduler.specs.Ready.{Movable}
 use Rattle.interpreter.specs.Ready.{Ready}
-use Rattle.run_images.specs.declared.Seat.{Seat}
-use Rattle.run_images.specs.Stages.{Seated}
+use Rattle.seating.specs.declared.Seat.{Seat}
+use Rattle.seating.specs.Seated.{Seated}
 use Rattle.trace.specs.Trace.{trace}
 use Rattle.trace.specs.LineText.{lines-text, trace-lines}
 use Rattle.trace_lines.specs.declared.Coming.{Coming}

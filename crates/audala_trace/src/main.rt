@@ -10,8 +10,7 @@ use crate::pages::hand;
 use crate::pages::refused;
 use crate::telling::play;
 use load::Load;
-use run_images::Seat;
-use table_read::TableRead;
+use seating::SeatRead;
 ghost use Prim.Native.Nat.{_≤_};
 ghost use lib.ListN.{length};
 ghost use Rattle.trace.specs.TraceText.{trace-text};
@@ -34,13 +33,13 @@ fn trace(program: &[u8], table: &[u8], turns: &[u8], out: &mut [u8]) -> Page
     ensures { λ r. ⌜ Paged (trace-text (now (program .entry)) (now (table .entry)) (now (turns .entry))) r (now (out .exit)) ⌝ }
     ensures { λ r. ⌜ r .length ≤ length (now (out .exit)) ⌝ }
 {
-    let mut stream = [0u8; types::PROGRAM_BLOCKS * blocks::PAYLOAD_SIZE];
+    let mut stream = [0u8; seating::SHORT];
     let mut counts = [0u8; types::MAX_STRUCTS];
     let mut types = [0u8; types::MAX_STRUCTS * types::MAX_PARAMS];
     let mut rows = [0u8; types::TABLE_BLOCKS * blocks::PAYLOAD_SIZE];
     let mut heads = [0usize; layout::HEADS];
     let mut cells = [0u64; layout::CELLS];
-    let loaded = load::program(program, &mut stream, &mut counts, &mut types);
+    let loaded = seating::admit(program, &mut stream, &mut counts, &mut types);
     let Load::Program(p) = loaded else {
         return refused(load::refusal(loaded), out);
     };
@@ -49,15 +48,13 @@ fn trace(program: &[u8], table: &[u8], turns: &[u8], out: &mut [u8]) -> Page
     let end = types::MAX_PARAMS * k;
     let cs = &counts[..k];
     let ts = &types[..end];
-    let read = table_read::read_image(table, cs, ts, &mut rows, &mut heads, &mut cells);
-    let TableRead::Instances(count) = read else {
-        return refused(run_images::table_refusal(read), out);
+    let seated = seating::seat_table(p.at, cs, ts, table, &mut rows, &mut heads, &mut cells);
+    let SeatRead::Taken(seat) = seated else {
+        return refused(seating::refusal(seated), out);
     };
     if types::MAX_TURNS < turns.len() {
         return refused(types::number::MANY_TURNS, out);
     }
-    let numbers = layout::fresh(count);
-    let seat = Seat { at: p.at, numbers };
     let s = &stream[..n];
     let r = play(s, cs, seat, &mut heads, &mut cells, turns, out);
     let last = r.coming;

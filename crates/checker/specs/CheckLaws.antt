@@ -4,9 +4,10 @@ use native.Mathlib.Omega.{arith}
 use mathlib.Core.Path.{_≡_, refl, ap, _∙_}
 use mathlib.Core.List.{List}
 use lib.ListN.{length, length-map}
-use borrow.Author.Tests.{lt-ltb, le-ltb}
+use borrow.Author.Tests.{lt-ltb}
 use Rattle.types.specs.Limits.{max-structs, max-commands}
 use Rattle.types.specs.Numbers.{no-room}
+use Rattle.types.specs.Stages.{Stage.went as accepted, Stage.stopped as refused, on, asked}
 use Rattle.program.specs.Tree.{Program}
 use Rattle.commands.specs.Bounds.{program-size, Within}
 use Rattle.commands.specs.ProgramWords.{structs-words, program-words}
@@ -19,7 +20,8 @@ use Rattle.emit_steps.specs.Emitted.{from-place, stand, Fits, Emitted, EmittedP
 use Rattle.emit_steps.specs.ProgramLaws.{program-fits}
 use Rattle.directory.specs.Directory.{structs-rows}
 use Rattle.directory.specs.Rows.{directory-places}
-use Rattle.verdict.specs.Verdict.{Checked, Checked.accepted, Checked.refused, listed, Verdict as Judgement, refusal, approval, verdict-of, list-of}
+use Rattle.verdict.specs.Verdict.{Checked, checked, listed, Verdict as Judgement, refusal, approval, checks, verdict-of, list-of, check-verdict, check-list}
+use Rattle.verdict.specs.VerdictLaws.{checks-room}
 use Rattle.load.specs.declared.Loaded.{Loaded}
 use Rattle.load.specs.Load.{Admitted}
 use Rattle.load.specs.LoadLaws.{LoadedAs, accepted-source, structs-are, structs-few}
@@ -28,20 +30,26 @@ use Rattle.checker.specs.Answer.{answer, approved}
 -- Refusals -----------------------------------------------------------------------------
 
 -- a verdict with its list
-abbrev pub Answers : Checked → List ℕ → Judgement → List ℕ → Type 0
-Answers c list v after = (v ≡ verdict-of c list) × (after ≡ list-of c list)
+abbrev pub Answers : List ℕ → List ℕ → Judgement → List ℕ → Type 0
+Answers x list v after = (v ≡ check-verdict x list) × (after ≡ check-list x list)
 
-pub refused-answers : (c : Checked) (n : ℕ) (list : List ℕ) → c ≡ refused n → Answers c list (refusal n) list
-unfolding verdict-of list-of
-refused-answers c n list e = rw e (refl, refl)
+module _ (x list : List ℕ) where
+  -- what is answered of what the stages come to
+  answers-of : {c : Checked} → checks x list ≡ c → Answers x list (verdict-of c) (list-of c list)
+  unfolding check-verdict check-list
+  answers-of e = rw e (refl, refl)
 
-pub short-answers : (c : Checked) (p : Program) (list : List ℕ) → c ≡ accepted p → length list < max-commands → Answers c list (refusal no-room) list
-unfolding verdict-of list-of
-short-answers c p list e l = rw e (rw (verdict-of, list-of, lt-ltb (length list) max-commands l) (refl, refl))
+  pub refused-answers : (n : ℕ) → checked x ≡ refused n → Answers x list (refusal n) list
+  unfolding checks on verdict-of list-of
+  refused-answers n e = answers-of {c = refused n} (rw e)
 
-pub room-answers : (c : Checked) (p : Program) (list : List ℕ) → c ≡ accepted p → max-commands ≤ length list → Answers c list (approval p) (listed p list)
-unfolding verdict-of list-of
-room-answers c p list e l = rw e (rw (verdict-of, list-of, le-ltb (length list) max-commands l) (refl, refl))
+  pub short-answers : (p : Program) → checked x ≡ accepted p → length list < max-commands → Answers x list (refusal no-room) list
+  unfolding checks on asked verdict-of list-of
+  short-answers p e l = answers-of {c = refused no-room} (rw (e, lt-ltb (length list) max-commands l))
+
+  pub room-answers : (p : Program) → checked x ≡ accepted p → max-commands ≤ length list → Answers x list (approval p) (listed p list)
+  unfolding verdict-of list-of
+  room-answers p e l = answers-of (checks-room x list l ∙ e)
 
 -- A loaded program -----------------------------------------------------------------------
 

@@ -1,25 +1,22 @@
 -- What the claims say in one line and the crates below in two: a step by its name, a call with the run that it makes.
 use Prim.Native.Nat.{ℕ, _<_, _≤_}
 use native.Mathlib.Omega.{arith}
-use mathlib.Core.Path.{_≡_, refl, sym, ap, _∙_, subst₂}
-use mathlib.Core.Bool.{Bool, true, false}
-use mathlib.Core.Option.{Option, none, some}
-use mathlib.Core.List.{List, [], _∷_, _++_, map, List·Memᴰ, List·Memᴰ·head, List·Memᴰ·tail, List·Memᴰ·not-nil}
-use lib.ListN.{length, getD}
-use lib.Dec.{eqb, ltb}
-use borrow.Author.Tests.{eqb-true, eqb-false, ltb-true, ltb-false}
+use mathlib.Core.Path.{_≡_, ap, subst₂}
+use mathlib.Core.Bool.{Bool}
+use mathlib.Core.Option.{none, some}
+use mathlib.Core.List.{List, [], _∷_, _++_, map}
+use lib.ListN.{length}
 use Rattle.types.specs.Limits.{max-commands, fix-levels}
-use Rattle.program.specs.Tree.{Stmts, Step, Program}
+use Rattle.types.specs.Orders.{Foremost}
+use Rattle.types.specs.StageLaws.{stage-number}
+use Rattle.program.specs.Tree.{Stmts, Program}
 use Rattle.commands.specs.Accepted.{Accepted}
 use Rattle.commands.specs.Bounds.{program-depth}
 use Rattle.commands.specs.Coding.{words}
 use Rattle.commands.specs.Commands.{commands}
-use Rattle.commands.specs.Context.{context, find-step, step-of}
-use Rattle.commands.specs.Names.{names-of-steps}
+use Rattle.commands.specs.Context.{context, step-of}
 use Rattle.commands.specs.Noted.{erase, noted}
 use Rattle.commands.specs.Laws.NotedLaws.{erased}
-use Rattle.commands.specs.Numbers.{Foremost}
-use Rattle.commands.specs.Laws.NumbersLaws.{foremost-some}
 use Rattle.table.specs.Table.{Record}
 use Rattle.machine.specs.Published.{Sched, Sched.fixpoint, Inst, State.state}
 use Rattle.machine.specs.Machine.{Machine}
@@ -31,10 +28,10 @@ use Rattle.run.specs.Laws.BeginLaws.{begin-stands}
 use Rattle.run.specs.Laws.OutcomeLaws.{outcome-exact}
 use Rattle.run.specs.Runs.{Config, Config.config, StandsFor, Passes}
 use Rattle.run.specs.Laws.RunAgreesVisits.{passes-visits}
-use Rattle.verdict.specs.Verdict.{Checked, Checked.accepted, Checked.refused, checked, Verdict, check-list}
+use Rattle.verdict.specs.Verdict.{check-list}
 use Rattle.verdict.specs.ProgramInput.{AcceptedImage, program-order, check-order}
 use Rattle.run.specs.Input.{Runnable}
-use Rattle.verdict.specs.ProgramInputLaws.{checked-accepted, checked-number, verdict-number, verdict-approved, check-approved}
+use Rattle.verdict.specs.ProgramInputLaws.{checked-accepted, checked-number, tell-checks}
 use Rattle.run.specs.Laws.InputLaws.{begins-ready}
 use Rattle.run.specs.Laws.AnsweredLaws.{comes-answered}
 use Rattle.sound.specs.Needs.{Right}
@@ -44,8 +41,7 @@ use Rattle.sound.specs.Laws.NeverStuckLaws.{visits-good, visits-right, never-st
 use Rattle.sound.specs.Laws.StartableLaws.{begin-startable}
 use Rattle.sound.specs.Laws.ShallowLaws.{good-entries}
 use Rattle.step_part.specs.StepPart.{step-place, step-part}
-use Rattle.step_part.specs.StepPartLaws.{place-number}
-use Rattle.step_part.specs.StepPartWords.{step-words, step-absent, step-refused, step-short}
+use Rattle.step_part.specs.StepPartWords.{step-words, step-absent, step-refused}
 use Rattle.text.specs.Listing.{row}
 use Rattle.step_lines.specs.Lines.{program-lines}
 use Rattle.listing.specs.Listings.{refused-word, head, listing, listing-of}
@@ -70,16 +66,7 @@ module _ (x list : List ℕ) (p : Program) (a : AcceptedImage x p) (h : max-comm
 -- where the check refuses, so does the step entry: the same number, and an empty part
 pub step-numbered : (x list : List ℕ) (k s n : ℕ) → Foremost (check-order x list) n
     → (step-place x list k s .number ≡ n) × (step-part x list k s ≡ [])
-step-numbered x list k s n q =
-    (place-number x list k s ∙ ap (λ (v : Verdict). v .number) (verdict-number x list n .1 q), go (checked x) refl (ltb (length list) max-commands) refl)
-  where
-    go : (c : Checked) → checked x ≡ c → (t : Bool) → ltb (length list) max-commands ≡ t → step-part x list k s ≡ []
-    go (refused m) e t l = step-refused x list k s m e .1
-    go (accepted p) e true l = step-short x list k s p e (ltb-true _ _ l) .1
-    go (accepted p) e false l =
-        let a = checked-accepted x p .0 e in
-        let h = ltb-false _ _ l in
-        absurd (foremost-some q (verdict-approved x list .0 (p, check-approved x list p a h .0, a, h)))
+step-numbered x list k s n q = step-refused x list k s n (stage-number (tell-checks x list) n .1 q)
 
 -- Listings -----------------------------------------------------------------------------
 

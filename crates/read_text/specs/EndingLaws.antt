@@ -2,14 +2,15 @@
 use Prim.Native.Nat.{ℕ, _+_, _*_, _/_, _<_, _≤_}
 use native.Mathlib.Omega.{arith}
 use mathlib.Core.Path.{_≡_, refl, sym, ap, _∙_}
-use mathlib.Core.Bool.{Bool, true, false}
+use mathlib.Core.Bool.{Bool, true, false, not}
 use mathlib.Core.List.{List, _++_}
 use mathlib.Core.Option.{Option, none, some}
 use lib.ListN.{length, drop}
 use lib.Dec.{ltb}
 use borrow.Author.Tests.{le-leb, lt-ltb, le-ltb}
 use Rattle.types.specs.Limits.{program-blocks}
-use Rattle.types.specs.Numbers.{no-room}
+use Rattle.types.specs.Numbers.{no-room, no-program}
+use Rattle.types.specs.Stages.{Stage.went as written, Stage.stopped as refused, on, asked, given}
 use Rattle.block.specs.Block.{block-size}
 use Rattle.blocks.specs.Images.{image, pieces, stream-right, write, written-into}
 use Rattle.blocks.specs.ImageLaws.{image-length}
@@ -20,8 +21,8 @@ use Rattle.program.specs.Tree.{Program}
 use Rattle.program.specs.Encoding.{enc-program}
 use Rattle.meaning.specs.Meant.{then, provided}
 use Rattle.meaning.specs.HoldsDecide.{holds}
-use Rattle.source.specs.Source.{Outcome, Outcome.written, Outcome.refused, number-of, blocks-of, output-of}
-use Rattle.source.specs.TextReader.{of-room, of-held, of-program}
+use Rattle.source.specs.Source.{Outcome, number-of, blocks-of, output-of}
+use Rattle.source.specs.TextReader.{of-program}
 use Rattle.read_text.specs.Ending.{Ending, Ending.wrote, Ending.stopped, with-room, ended, answer, left, ending}
 use Rattle.read_text.specs.declared.Answer.{Answer}
 
@@ -39,15 +40,16 @@ output-left (refused n) out = refl
 
 -- a program ends as its stream does, where a stream holds it
 pub program-ends : (o : Option Program) (out : List ℕ) → ended (then o (λ p. provided (holds p) (some (enc-program p)))) out ≡ ending (of-program o out)
-unfolding then provided ended ending with-room of-program of-held of-room
+unfolding then provided ended ending with-room of-program on asked given
 program-ends none out = refl
 program-ends (some p) out = held (holds p)
   where
-    roomy : (b : Bool) → with-room b (enc-program p) ≡ ending (of-room b p)
+    roomy : (b : Bool) → with-room b (enc-program p) ≡ ending (asked b no-room (written p))
     roomy true = refl
     roomy false = refl
 
-    held : (b : Bool) → ended (provided b (some (enc-program p))) out ≡ ending (of-held b p out)
+    held : (b : Bool) → ended (provided b (some (enc-program p))) out
+        ≡ ending (asked (not b) no-program (asked (ltb (length out) (block-size * program-blocks)) no-room (written p)))
     held true = roomy (ltb (length out) (block-size * program-blocks))
     held false = refl
 

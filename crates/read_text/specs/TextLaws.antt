@@ -9,6 +9,8 @@ use lib.ListN.{length, drop, drop-of-length-le}
 use lib.Seq.{sets, sets-eq}
 use lib.Dec.{ltb}
 use borrow.Author.Tests.{lt-ltb, le-ltb}
+use Rattle.types.specs.Numbers.{no-token, no-derivation}
+use Rattle.types.specs.Stages.{Stage.stopped as refused, on, asked, given}
 use Rattle.tokens.specs.Tokens.{Token}
 use Rattle.tokens.specs.Scanning.{lex}
 use Rattle.syntax.specs.Syntax.{Program as Derivation}
@@ -26,21 +28,21 @@ use Rattle.derive.specs.RoleMarkLaws.{text-roles}
 use Rattle.derive.specs.Roles.{code, roles}
 use Rattle.resolve.specs.Standing.{Stood}
 use Rattle.resolve.specs.StandingLaws.{derivation-stands}
-use Rattle.source.specs.Source.{max-text, no-token, no-derivation, Outcome, Outcome.refused}
-use Rattle.source.specs.TextReader.{of-program, of-derivation, of-tokens, of-length, outcome}
+use Rattle.source.specs.Source.{max-text}
+use Rattle.source.specs.TextReader.{of-program, of-derivation, of-tokens, outcome}
 use Rattle.read_text.specs.Roled.{Roled}
 
 module _ (x out : List ℕ) where
   pub too-long : max-text < length x → outcome x out ≡ refused no-token
-  unfolding outcome of-length
-  too-long h = rw (lt-ltb max-text (length x) h, of-length) refl
+  unfolding outcome asked
+  too-long h = rw (lt-ltb max-text (length x) h, asked) refl
 
   pub not-long : length x ≤ max-text → outcome x out ≡ of-tokens (lex 0 x) out
-  unfolding outcome of-length
-  not-long h = rw (le-ltb max-text (length x) h, of-length) refl
+  unfolding outcome asked
+  not-long h = rw (le-ltb max-text (length x) h, asked) refl
 
   pub no-parts : false ≡ parts x → of-tokens (lex 0 x) out ≡ refused no-token
-  unfolding found of-tokens
+  unfolding found of-tokens on given
   no-parts e = go (lex 0 x) e
     where
       go : (o : Option (List Token)) → false ≡ found o → of-tokens o out ≡ refused no-token
@@ -76,7 +78,7 @@ module _ (x ks₀ ks : List ℕ) (long : length ks₀ ≡ length x) (p : true �
   kinds-are = ap kinds-in marks-are ∙ marks-tell x tokens lexed .0
 
   pub underived : false ≡ derived (kinds-in ks) → (out : List ℕ) → of-tokens (lex 0 x) out ≡ refused no-derivation
-  unfolding of-tokens of-derivation
+  unfolding of-tokens of-derivation on given
   underived f out = rw (lexed, of-tokens) (go (read tokens) refl)
     where
       go : (o : Option Derivation) → read tokens ≡ o → of-derivation o out ≡ refused no-derivation
@@ -100,5 +102,5 @@ module _ (x ks₀ ks : List ℕ) (long : length ks₀ ≡ length x) (p : true �
         }
 
     pub roled-reads : (out : List ℕ) → of-tokens (lex 0 x) out ≡ of-program (meant (roled .derivation)) out
-    unfolding of-tokens of-derivation roled
+    unfolding of-tokens of-derivation on given roled
     roled-reads out = rw (lexed, of-tokens, derives-read tokens (derives .0) (derives .1)) refl

@@ -21,13 +21,6 @@ ghost use Rattle.composing.specs.Placing.{placed-in};
 ghost use Rattle.read_text.specs.Ending.{Ending.stopped, ended, answer, left, ending};
 ghost use Rattle.read_text.specs.Roled.{Roled, stream-of};
 
-// 02's numbers: no tokens, no derivation, no program.
-const NO_TOKEN: u32 = 15;
-
-const NO_DERIVATION: u32 = 16;
-
-const NO_PROGRAM: u32 = 17;
-
 // Bytes of a text at the most; of the largest image; of memory for the longest stream and what is in front of it before it is measured.
 const MAX_TEXT: usize = 65536;
 
@@ -50,9 +43,10 @@ pub struct Answer {
     pub blocks: u32,
 }
 
-fn refused(number: u32) -> Answer
+fn refused(number: u8) -> Answer
     ensures { λ r. ⌜ r ≡ answer (stopped number) ⌝ }
 {
+    let number = number as u32;
     Answer { number, blocks: 0 }
 }
 
@@ -94,11 +88,11 @@ fn imaged(stream: &[u8], out: &mut [u8]) -> Answer
     ensures { λ _. ⌜ now (out .exit) ≡ left (ended (some (now (stream .entry))) (now (out .entry))) (now (out .entry)) ⌝ }
 {
     if out.len() < OUTPUT {
-        return refused(types::number::NO_ROOM as u32);
+        return refused(types::number::NO_ROOM);
     }
     let w = blocks::write_image(stream, types::PROGRAM_BLOCKS, out);
     let Written::Blocks(k) = w else {
-        return refused(NO_PROGRAM);
+        return refused(types::number::NO_PROGRAM);
     };
     Answer {
         number: 0,
@@ -117,12 +111,12 @@ fn meant(text: &[u8], roles: &[u8], stack: &mut [u8], out: &mut [u8]) -> Answer
     let mut tables = [0usize; TABLES];
     let names = uses::numbers(text, roles, &mut tables, stack, &mut numbers);
     let Numbered::Count(n) = names else {
-        return refused(NO_PROGRAM);
+        return refused(types::number::NO_PROGRAM);
     };
     let mut stream = [0u8; STREAM];
     let placed = composed(text, roles, &numbers[..n], &tables, stack, &mut stream);
     let Placed::At(p) = placed else {
-        return refused(NO_PROGRAM);
+        return refused(types::number::NO_PROGRAM);
     };
     imaged(&stream[p..], out)
 }
@@ -135,10 +129,10 @@ fn passes(text: &[u8], kinds: &mut [u8], stack: &mut [u8], out: &mut [u8]) -> An
     ensures { λ _. ⌜ now (out .exit) ≡ left (ending (of-tokens (lex 0 (now (text .entry))) (now (out .entry)))) (now (out .entry)) ⌝ }
 {
     if !lexer::mark(text, kinds) {
-        return refused(NO_TOKEN);
+        return refused(types::number::NO_TOKEN);
     }
     if !derive::derived(kinds, stack) {
-        return refused(NO_DERIVATION);
+        return refused(types::number::NO_DERIVATION);
     }
     meant(text, kinds, stack, out)
 }
@@ -150,7 +144,7 @@ pub fn read(text: &[u8], out: &mut [u8]) -> Answer
 {
     let n = text.len();
     if MAX_TEXT < n {
-        return refused(NO_TOKEN);
+        return refused(types::number::NO_TOKEN);
     }
     let mut kinds = [0u8; MAX_TEXT];
     let mut stack = [0u8; MAX_TEXT + 1];

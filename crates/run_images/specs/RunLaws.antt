@@ -31,10 +31,11 @@ use Rattle.interpreter.specs.Ready.{Ready}
 use Rattle.interpreter.specs.TurnLaws.{held-count}
 use Rattle.interpreter.specs.Running.{cleared, Ended}
 use Rattle.run_images.specs.declared.Report.{Report}
-use Rattle.run_images.specs.declared.Seat.{Seat}
+use Rattle.seating.specs.declared.Seat.{Seat}
+use Rattle.seating.specs.Seated.{Seated}
+use Rattle.seating.specs.SeatLaws.{admitted-counts}
 use Rattle.run_images.specs.Answer.{answer}
-use Rattle.run_images.specs.Stages.{Seated, Played, Came}
-use Rattle.run_images.specs.SeatLaws.{admitted-counts}
+use Rattle.run_images.specs.Stages.{Played, Came}
 
 -- Preparation ----------------------------------------------------------------------------
 

@@ -4,31 +4,24 @@ use compile::items::CODES;
 use compile::spans::SPANS;
 use engine::Machine;
 use interpreter::turns::Ran;
-use layout::Numbers;
 use load::Load;
 use load::Loaded;
-use table_read::TableRead;
+use seating::Params;
+use seating::Seat;
+use seating::SeatRead;
 ghost use mathlib.Core.Path.{_≡_};
 ghost use Prim.Native.Nat.{_*_, _≤_};
 ghost use lib.ListN.{length};
-ghost use Rattle.types.specs.Limits.{max-structs, max-params, table-blocks, max-commands, max-turns, max-instances};
+ghost use Rattle.types.specs.Limits.{table-blocks, max-commands, max-turns, max-instances};
 ghost use Rattle.block.specs.Block.{block-size, payload-size};
-ghost use Rattle.blocks.specs.Images.{stream};
-ghost use Rattle.verdict.specs.Verdict.{checked};
-ghost use Rattle.load.specs.Load.{load-told, Held};
 ghost use Rattle.run.specs.Entry.{report, run-report, run-output, run-list};
 ghost use Rattle.table_write.specs.Written.{Filled, memory-blocks, memory-image};
-ghost use Rattle.run_images.specs.Answer.{answer, table-refusal};
-ghost use Rattle.run_images.specs.Stages.{most-bytes, Opening, Seating, Plays, Begins};
+ghost use Rattle.seating.specs.Seated.{Opening, Seating};
+ghost use Rattle.run_images.specs.Answer.{answer};
+ghost use Rattle.run_images.specs.Stages.{Plays, Begins};
 
 // Output bytes that a run asks for.
 const OUTPUT: usize = types::TABLE_BLOCKS * blocks::BLOCK_SIZE;
-
-// Bytes that the stream of an accepted program has at most: five for a command, three for a scheduled item, and what structs and steps take.
-const SHORT: usize = 2
-    + 26 * types::MAX_STRUCTS
-    + 5 * types::MAX_COMMANDS
-    + 3 * types::SCHEDULE_ITEMS;
 
 // What a run answers: the number, the commands taken, the blocks written, the program's depth, and how many instances hold commands where it
 // ends, before the turn that would come next (02, 'Holders kept as a number').
@@ -38,18 +31,6 @@ pub struct Report {
     pub blocks: u8,
     pub depth: u8,
     pub holding: u16,
-}
-
-// A program's parameters: for each struct how many there are, and eight places with the bytes of their types.
-struct Params {
-    counts: [u8; types::MAX_STRUCTS],
-    types: [u8; types::MAX_STRUCTS * types::MAX_PARAMS],
-}
-
-// Of a machine in lent memory: where the steps of its program begin, and its numbers.
-pub struct Seat {
-    pub at: usize,
-    pub numbers: Numbers,
 }
 
 // An input refusal: no turns, no blocks, no depth, no holders.
@@ -63,16 +44,6 @@ fn refused(number: u8) -> Report
         depth: 0,
         holding: 0,
     }
-}
-
-// The number of a table that is refused; 0 where it is not.
-pub fn table_refusal(r: TableRead) -> u8
-    ensures { λ n. ⌜ n ≡ table-refusal r ⌝ }
-{
-    let TableRead::Refused(n) = r else {
-        return 0;
-    };
-    n
 }
 
 // The run of a machine that is seated: the commands of its program are written into the list, and the turns are taken.
@@ -129,26 +100,7 @@ fn reported(
     }
 }
 
-// A program image, as `load::program` has it, into a buffer that the stream of an accepted program fits: the room for a longer one is given back before
-// a run's own memory is asked for.
-fn kept(image: &[u8], buffer: &mut [u8], counts: &mut [u8], types: &mut [u8]) -> Load
-    requires { ⌜ most-bytes ≤ length (now buffer) ⌝ }
-    requires { ⌜ (length (now counts) ≡ max-structs) × (length (now types) ≡ max-structs * max-params) ⌝ }
-    ensures { λ r. ⌜ r ≡ load-told (checked (now (image .entry))) (stream (now (image .entry))) ⌝ }
-    ensures { λ _. ⌜ Held (checked (now (image .entry))) (stream (now (image .entry))) (now (buffer .entry)) (now (buffer .exit))
-        (now (counts .entry)) (now (counts .exit)) (now (types .entry)) (now (types .exit)) ⌝ }
-{
-    let mut stream = [0u8; types::PROGRAM_BLOCKS * blocks::PAYLOAD_SIZE];
-    let r = load::program(image, &mut stream, counts, types);
-    let Load::Program(p) = r else {
-        return r;
-    };
-    let n = p.length;
-    block::put::copy(buffer, 0, &stream[..n]);
-    r
-}
-
-// Behind an accepted program: 9 to 14 in order, or a run.
+// After an accepted program: 9 to 14 in order, or a run.
 fn begun(
     p: Loaded,
     q: Params,
@@ -172,9 +124,9 @@ fn begun(
     let mut heads = [0usize; layout::HEADS];
     let mut cells = [0u64; layout::CELLS];
     // 9 to 12
-    let read = table_read::read_image(table, cs, ts, &mut buffer, &mut heads, &mut cells);
-    let TableRead::Instances(count) = read else {
-        return refused(table_refusal(read));
+    let seated = seating::seat_table(p.at, cs, ts, table, &mut buffer, &mut heads, &mut cells);
+    let SeatRead::Taken(seat) = seated else {
+        return refused(seating::refusal(seated));
     };
     // 13
     if output.len() < OUTPUT {
@@ -187,8 +139,6 @@ fn begun(
     if types::MAX_TURNS < turns.len() {
         return refused(types::number::MANY_TURNS);
     }
-    let numbers = layout::fresh(count);
-    let seat = Seat { at: p.at, numbers };
     let ran = played(s, cs, seat, &mut heads, &mut cells, turns, list);
     reported(cs, &heads, &cells, ran, p.depth, &mut buffer, output)
 }
@@ -207,11 +157,11 @@ pub fn run(
         (now (list .entry)) ⌝ }
     ensures { λ _. ⌜ now (list .exit) ≡ run-list (now (program .entry)) (now (table .entry)) (now (turns .entry)) (now (output .entry)) (now (list .entry)) ⌝ }
 {
-    let mut stream = [0u8; SHORT];
+    let mut stream = [0u8; seating::SHORT];
     let mut counts = [0u8; types::MAX_STRUCTS];
     let mut types = [0u8; types::MAX_STRUCTS * types::MAX_PARAMS];
     // 1 to 8
-    let loaded = kept(program, &mut stream, &mut counts, &mut types);
+    let loaded = seating::admit(program, &mut stream, &mut counts, &mut types);
     let Load::Program(p) = loaded else {
         return refused(load::refusal(loaded));
     };

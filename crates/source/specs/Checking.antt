@@ -5,11 +5,12 @@ use mathlib.Core.Path.{_≡_}
 use mathlib.Core.Logic.{_⊎_}
 use mathlib.Core.List.{List, _++_}
 use lib.ListN.{take}
+use Rattle.types.specs.Orders.{Order}
+use Rattle.types.specs.Stages.{on}
 use Rattle.block.specs.Block.{block-size}
-use Rattle.commands.specs.Numbers.{Order}
-use Rattle.verdict.specs.Verdict.{Verdict, refusal, check-verdict}
+use Rattle.verdict.specs.Verdict.{Checked, checks, Verdict, verdict-of}
 use Rattle.verdict.specs.ProgramInput.{check-order}
-use Rattle.source.specs.Source.{Outcome, Outcome.written, Outcome.refused, text-order}
+use Rattle.source.specs.Source.{text-order}
 use Rattle.source.specs.TextReader.{outcome, text-blocks, text-output}
 
 -- the blocks written, none after a refusal
@@ -21,13 +22,11 @@ abbrev pub Answers : ℕ → Type 0
 Answers n = (n ≡ 0) ⊎ ((5 ≤ n) × (n ≤ 8))
 
 -- what was written is checked; a text that was refused is not
-unfoldable pub checked-next : Outcome → List ℕ → List ℕ → Verdict
-checked-next (written p) y list = check-verdict y list
-checked-next (refused n) y list = refusal n
+unfoldable pub text-checks : List ℕ → List ℕ → List ℕ → Checked
+text-checks x out list = on (outcome x out) λ p. checks (written-image x out) list
 
 unfoldable pub text-verdict : List ℕ → List ℕ → List ℕ → Verdict
-unfolding checked-next
-text-verdict x out list = checked-next (outcome x out) (written-image x out) list
+text-verdict x out list = verdict-of (text-checks x out list)
 
 -- the conditions of reading and then those of checking
 abbrev pub both-order : List ℕ → List ℕ → List ℕ → Order

@@ -11,8 +11,10 @@ use lib.Seq.{take-append-seam}
 use lib.Dec.{ltb}
 use borrow.Author.Tests.{le-ltb}
 use Rattle.types.specs.Limits.{program-blocks, max-commands}
-use Rattle.types.specs.Numbers.{no-room}
-use Rattle.types.specs.Reflects.{Reflects, Reflects.holds, Reflects.fails, lt-reflects}
+use Rattle.types.specs.Orders.{Foremost}
+use Rattle.types.specs.OrderLaws.{tells-number}
+use Rattle.types.specs.Stages.{Stage.stopped as checked-refused, Stage.went as written, Stages}
+use Rattle.types.specs.StageLaws.{stage-on, stage-answer}
 use Rattle.block.specs.Block.{block-size}
 use Rattle.blocks.specs.declared.Written.the-variants.{Blocks}
 use Rattle.blocks.specs.Images.{image, pieces, write, written-into}
@@ -25,26 +27,25 @@ use Rattle.program.specs.Laws.StandsLaws.{stands-self}
 use Rattle.commands.specs.Decide.BoundsDecide.{within}
 use Rattle.commands.specs.Decide.NamesDecide.{names-right}
 use Rattle.commands.specs.Decide.TypingDecide.{types-right}
-use Rattle.commands.specs.Numbers.{NoneOf, Foremost, over-limits, wrong-names, wrong-types, first, breach-tests, breach-number}
+use Rattle.commands.specs.Numbers.{over-limits, wrong-names, wrong-types, first, breach-tests, breach-number}
 use Rattle.commands.specs.Bounds.{Within}
 use Rattle.commands.specs.Names.{NamesRight}
-use Rattle.commands.specs.Laws.NumbersLaws.{behind-first, foremost-unique, foremost-some, number-names}
-use Rattle.verdict.specs.Verdict.{Checked, Checked.accepted, Checked.refused as checked-refused, judge, of-read, checked}
-use Rattle.verdict.specs.Verdict.{Verdict, refusal, approval, verdict-of, check-verdict}
-use Rattle.verdict.specs.VerdictLaws.{checked-image}
-use Rattle.verdict.specs.ProgramInput.{ShortList, program-order, check-order}
-use Rattle.verdict.specs.InputOrder.{foremost-front, none-behind}
-use Rattle.verdict.specs.ProgramInputLaws.{checked-accepted, accepted-none, verdict-number}
+use Rattle.commands.specs.Laws.NumbersLaws.{number-names}
+use Rattle.verdict.specs.Verdict.{judge, of-read, checked}
+use Rattle.verdict.specs.Verdict.{refusal, verdict-of, check-verdict}
+use Rattle.verdict.specs.VerdictLaws.{checked-image, checks-room}
+use Rattle.verdict.specs.ProgramInput.{Approved}
+use Rattle.verdict.specs.ProgramInputLaws.{Checks, tell-checks, approves, refusal-same, refusal-apart}
 use Rattle.meaning.specs.Holds.{max-stream, Holds}
 use Rattle.meaning.specs.Nesting.{Shallow}
-use Rattle.source.specs.Source.{Outcome, Outcome.written, Outcome.refused, number-of, blocks-of, output-of, text-order}
+use Rattle.source.specs.Source.{number-of, blocks-of, output-of}
 use Rattle.source.specs.TextReader.{outcome, text-number, text-blocks, text-output}
-use Rattle.source.specs.SourceLaws.{text-refused-exactly, text-written, written-held, written-read}
+use Rattle.source.specs.SourceLaws.{tells, text-written, written-held, written-read}
 use Rattle.source.specs.Stepping.{StepsRight}
 use Rattle.source.specs.SteppingLaws.{steps-left, names-steps}
 use Rattle.source.specs.Kept.{Kept, Kept.kept, Kept.too-deep}
 use Rattle.source.specs.KeptLaws.{program-keeps}
-use Rattle.source.specs.Checking.{Answers, written-image, checked-next, text-verdict, both-order}
+use Rattle.source.specs.Checking.{Answers, written-image, text-checks, text-verdict, both-order}
 
 -- 6, 7, 8 or no breach
 breach-one : (p : Program) → (breach-number p ≡ 0) ⊎ ((6 ≤ breach-number p) × (breach-number p ≤ 8))
@@ -60,11 +61,11 @@ breach-one p = go (not (within p)) (not (names-right p)) (not (types-right p))
     go false false true = inr (omega arith, omega arith)
     go false false false = inl refl
 
--- a list with room leaves a breach its number
-judged-number : (p : Program) (list : List ℕ) → max-commands ≤ length list → (n : ℕ) → verdict-of (judge p n) list .number ≡ n
+-- a breach keeps its number
+judged-number : (p : Program) (n : ℕ) → verdict-of (judge p n) .number ≡ n
 unfolding verdict-of judge
-judged-number p list h zero = rw (le-ltb (length list) max-commands h, verdict-of) refl
-judged-number p list h (suc n) = refl
+judged-number p zero = refl
+judged-number p (suc n) = refl
 
 -- what fits the largest image, in bytes and in blocks
 pub bytes-blocks : (n : ℕ) → (n ≤ max-stream) ↔ (pieces n ≤ program-blocks)
@@ -146,14 +147,14 @@ module _ (x out : List ℕ) (p : Program) (e : outcome x out ≡ written p) wher
   -- so it answers 0, 5, 6, 7 or 8 and no other number
   pub text-checked : (list : List ℕ) → max-commands ≤ length list → Answers (check-verdict (written-image x out) list .number)
   unfolding check-verdict verdict-of of-read
-  text-checked list h = rw checked-written (go read-or-deep)
+  text-checked list h = rw (checks-room (written-image x out) list h, checked-written) (go read-or-deep)
     where
       answers : {n : ℕ} → (n ≡ 0) ⊎ ((6 ≤ n) × (n ≤ 8)) → Answers n
       answers (inl e) = inl e
       answers (inr h) = inr (omega arith, omega arith)
 
-      go : (read-stream s ≡ ok p (length s)) ⊎ ((at : ℕ) × (read-stream s ≡ bad at wrong-byte)) → Answers (verdict-of (of-read (read-stream s)) list .number)
-      go (inl q) = rw (q, judged-number p list h (breach-number p)) (answers (breach-one p))
+      go : (read-stream s ≡ ok p (length s)) ⊎ ((at : ℕ) × (read-stream s ≡ bad at wrong-byte)) → Answers (verdict-of (of-read (read-stream s)) .number)
+      go (inl q) = rw (q, judged-number p (breach-number p)) (answers (breach-one p))
       go (inr q) = rw (q .1) (inr (omega arith, omega arith))
 
   -- 7 is said for a step alone: one that stands twice in its struct, or a typed call of one that its struct has not, where the nesting keeps to its levels
@@ -188,40 +189,11 @@ module _ (x out list : List ℕ) where
   abbrev y : List ℕ
   y = written-image x out
 
-  -- the foremost of checking is the foremost of both, where none of reading holds
-  behind-reading : {n : ℕ} → NoneOf (text-order x out) → Foremost (check-order y list) n → Foremost (both-order x out list) n
-  behind-reading f q = behind-first (f .0) (behind-first (f .1 .0) (behind-first (f .1 .1 .0) (behind-first (f .1 .1 .1 .0) q)))
-
-  -- a verdict on what was written is a refusal, or no condition of checking holds
-  refuses-or-none : ((n : ℕ) × (check-verdict y list ≡ refusal n)) ⊎ NoneOf (check-order y list)
-  unfolding check-verdict verdict-of
-  refuses-or-none = go (checked y) refl
-    where
-      room : (p : Program) → checked y ≡ accepted p → {t : Bool} → Reflects (ShortList list) t
-          → ((n : ℕ) × ((elim t [ true ↦ refusal no-room | false ↦ approval p ]) ≡ refusal n)) ⊎ NoneOf (check-order y list)
-      room p e (holds h) = inl (no-room, refl)
-      room p e (fails f) = inr (none-behind (program-order y) ((13, ShortList list) ∷ []) (accepted-none y (checked-accepted y p .0 e)) (f, tt))
-
-      go : (c : Checked) → checked y ≡ c → ((n : ℕ) × (verdict-of c list ≡ refusal n)) ⊎ NoneOf (check-order y list)
-      go (checked-refused n) e = inl (n, refl)
-      go (accepted p) e = room p e (lt-reflects (length list) max-commands)
+  tells-both : Stages (Checks y list) (both-order x out list) (text-checks x out list)
+  unfolding text-checks
+  tells-both = stage-on (tells x out) λ p d. tell-checks y list
 
   -- which number reading and then checking gives: that of the first condition that holds, 15, 16, 17, 13 of reading and then the checker's
   pub text-order-exact : (n : ℕ) → (text-verdict x out list ≡ refusal n) ↔ Foremost (both-order x out list) n
-  unfolding text-verdict checked-next
-  text-order-exact n = (forth (outcome x out) refl, back (outcome x out) refl)
-    where
-      forth : (o : Outcome) → outcome x out ≡ o → checked-next o y list ≡ refusal n → Foremost (both-order x out list) n
-      forth (refused m) q e =
-          let same : m ≡ n = ap (λ (v : Verdict). v .number) e in
-          foremost-front (check-order y list) (text-refused-exactly x out n .0 (q ∙ ap refused same))
-      forth (written p) q e = behind-reading (text-written x out p .0 q .0) (verdict-number y list n .0 e)
-
-      next : NoneOf (text-order x out) → ((m : ℕ) × (check-verdict y list ≡ refusal m)) ⊎ NoneOf (check-order y list)
-          → Foremost (both-order x out list) n → check-verdict y list ≡ refusal n
-      next f (inl q) h = q .1 ∙ ap refusal (foremost-unique (behind-reading f (verdict-number y list (q .0) .0 (q .1))) h)
-      next f (inr g) h = absurd (foremost-some h (none-behind (text-order x out) (check-order y list) f g))
-
-      back : (o : Outcome) → outcome x out ≡ o → Foremost (both-order x out list) n → checked-next o y list ≡ refusal n
-      back (refused m) q h = ap refusal (foremost-unique (foremost-front (check-order y list) (text-refused-exactly x out m .0 q)) h)
-      back (written p) q h = next (text-written x out p .0 q .0) refuses-or-none h
+  unfolding text-verdict verdict-of
+  text-order-exact = tells-number {D = Approved y list} (refusal-same y list) (refusal-apart y list) (stage-answer tells-both verdict-of (approves y list))

@@ -5,6 +5,7 @@ use mathlib.Core.List.{List, [], _∷_}
 use mathlib.Core.Option.{some}
 use lib.ListN.{length}
 use borrow.Author.Tests.{le-ltb}
+use Rattle.types.specs.Stages.{on, asked, given}
 use Rattle.types.specs.Limits.{program-blocks}
 use Rattle.block.specs.Block.{block-size}
 use Rattle.tokens.specs.Tokens.{Word.w-struct, Word.w-if, Word.w-then, Word.w-fix, Word.w-bool, Sign.lpar, Sign.rpar, Sign.lbrace, Sign.rbrace}
@@ -13,7 +14,7 @@ use Rattle.syntax.specs.Syntax.{TypeName.bool-type, Var.id as one-id, Exp.negat
 use Rattle.syntax.specs.Syntax.{Par.par, Step.step, Struct.struct, Defs.last-struct, Item.execution, Item.fixpoint, Sched.last-item}
 use Rattle.syntax.specs.Syntax.{Program as Derivation, Program.program}
 use Rattle.syntax.specs.Letters.{A, a, s}
-use Rattle.source.specs.TextReader.{of-room, of-held, of-program, of-derivation, outcome}
+use Rattle.source.specs.TextReader.{of-program, of-derivation, outcome}
 use Rattle.source.specs.Streamed.{streamed}
 use Rattle.source.specs.StreamedLaws.{Reads, streams}
 use Rattle.program.specs.Unfold.{encodings}
@@ -45,7 +46,7 @@ nots-read = (refl, refl)
 
 pub nots-text : (out : List ℕ) → block-size * program-blocks ≤ length out → streamed (outcome text-nots out) ≡ some
     (1 ∷ 1 ∷ 2 ∷ 1 ∷ 0 ∷ 1 ∷ 3 ∷ 1 ∷ 0 ∷ 16 ∷ 16 ∷ 16 ∷ 16 ∷ 16 ∷ 16 ∷ 16 ∷ 16 ∷ 16 ∷ 16 ∷ 16 ∷ 16 ∷ 16 ∷ 16 ∷ 16 ∷ 16 ∷ 18 ∷ 1 ∷ 0 ∷ 1 ∷ 1 ∷ 0 ∷ [])
-unfolding text-nots derivation-nots streamed of-derivation of-program of-held of-room holding meanings encodings
+unfolding text-nots derivation-nots streamed of-derivation of-program holding meanings encodings on asked given
 nots-text out h = streams text-nots out refl nots-read (rw (le-ltb (length out) (block-size * program-blocks) h) refl)
 
 -- nine ifs, each in the one before: struct A(a:Bool){s{if a then{..}}}s
@@ -79,7 +80,7 @@ ifs-read = (refl, refl)
 pub ifs-text : (out : List ℕ) → block-size * program-blocks ≤ length out → streamed (outcome text-ifs out) ≡ some
     (1 ∷ 1 ∷ 2 ∷ 1 ∷ 0 ∷ 1 ∷ 1 ∷ 18 ∷ 1 ∷ 0 ∷ 1 ∷ 1 ∷ 18 ∷ 1 ∷ 0 ∷ 1 ∷ 1 ∷ 18 ∷ 1 ∷ 0 ∷ 1 ∷ 1 ∷ 18 ∷ 1 ∷ 0 ∷ 1 ∷ 1 ∷ 18 ∷ 1 ∷ 0 ∷ 1 ∷ 1 ∷ 18 ∷ 1 ∷ 0 ∷ 1 ∷ 1
     ∷ 18 ∷ 1 ∷ 0 ∷ 1 ∷ 1 ∷ 18 ∷ 1 ∷ 0 ∷ 1 ∷ 1 ∷ 18 ∷ 1 ∷ 0 ∷ 0 ∷ 1 ∷ 1 ∷ 0 ∷ [])
-unfolding text-ifs derivation-ifs streamed of-derivation of-program of-held of-room holding meanings encodings
+unfolding text-ifs derivation-ifs streamed of-derivation of-program holding meanings encodings on asked given
 ifs-text out h = streams text-ifs out refl ifs-read (rw (le-ltb (length out) (block-size * program-blocks) h) refl)
 
 -- nine fixpoints, each in the one before: struct A(){s{}}Fix(..Fix(s)..)
@@ -107,5 +108,5 @@ fixes-read = (refl, refl)
 
 pub fixes-text : (out : List ℕ) → block-size * program-blocks ≤ length out → streamed (outcome text-fixes out) ≡ some
     (1 ∷ 0 ∷ 1 ∷ 0 ∷ 0 ∷ 1 ∷ 3 ∷ 1 ∷ 3 ∷ 1 ∷ 3 ∷ 1 ∷ 3 ∷ 1 ∷ 3 ∷ 1 ∷ 3 ∷ 1 ∷ 3 ∷ 1 ∷ 3 ∷ 1 ∷ 3 ∷ 1 ∷ 1 ∷ 0 ∷ [])
-unfolding text-fixes derivation-fixes streamed of-derivation of-program of-held of-room holding meanings encodings
+unfolding text-fixes derivation-fixes streamed of-derivation of-program holding meanings encodings on asked given
 fixes-text out h = streams text-fixes out refl fixes-read (rw (le-ltb (length out) (block-size * program-blocks) h) refl)

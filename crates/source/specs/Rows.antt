@@ -8,6 +8,8 @@ use lib.Dec.{ltb}
 use borrow.Author.Tests.{le-ltb}
 use Rattle.types.specs.Limits.{program-blocks}
 use Rattle.types.specs.Types.{Ty.int, Ty.ref, code}
+use Rattle.types.specs.Numbers.{no-derivation}
+use Rattle.types.specs.Stages.{Stage.went as written, Stage.stopped as refused, on, asked, given}
 use Rattle.block.specs.Block.{block-size}
 use Rattle.program.specs.Tree.{Var.par as parameter, Op.op-add, Expr.path, Expr.op, Stmt.update, Stmts.end, Stmts.next, Item.call, Items.stop}
 use Rattle.program.specs.Tree.{Items.item, Program, size, items}
@@ -17,8 +19,7 @@ use Rattle.tokens.specs.Scanning.{lex}
 use Rattle.tokens.specs.Rows.{text-P, P-lexed}
 use Rattle.syntax.specs.Reading.{run, ended, read}
 use Rattle.syntax.specs.Rows.{P-derived}
-use Rattle.source.specs.Source.{no-derivation, Outcome.written, Outcome.refused}
-use Rattle.source.specs.TextReader.{of-room, of-held, of-program, of-derivation, of-tokens, of-length, outcome}
+use Rattle.source.specs.TextReader.{of-program, of-derivation, of-tokens, outcome}
 use Rattle.program.specs.Unfold.{encodings}
 use Rattle.tokens.specs.Unfold.{scanning}
 use Rattle.syntax.specs.Unfold.{reading}
@@ -42,24 +43,24 @@ unfolding text-P
 short-P = refl
 
 pub P-text : (out : List ℕ) → block-size * program-blocks ≤ length out → outcome text-P out ≡ written program-P
-unfolding program-P outcome of-length of-tokens of-derivation of-program of-held of-room holding meanings encodings
+unfolding program-P outcome of-tokens of-derivation of-program holding meanings encodings on asked given
 P-text out h = rw (short-P, P-lexed, P-derived, le-ltb (length out) (block-size * program-blocks) h) refl
 
 -- an empty text has no derivation
 pub empty-text : (out : List ℕ) → outcome [] out ≡ refused no-derivation
-unfolding outcome of-length of-tokens of-derivation lex run ended read
+unfolding outcome of-tokens of-derivation lex run ended read on asked given
 empty-text out = refl
 
 -- The order, all with an output of no bytes: each text is refused with the first number whose condition holds --------------
 
 -- #
 pub token-first : outcome (35 ∷ []) [] ≡ refused 15
-unfolding outcome of-length of-tokens scanning
+unfolding outcome of-tokens scanning on asked given
 token-first = refl
 
 -- s
 pub derivation-next : outcome (115 ∷ []) [] ≡ refused 16
-unfolding outcome of-length of-tokens of-derivation scanning reading
+unfolding outcome of-tokens of-derivation scanning reading on asked given
 derivation-next = refl
 
 -- struct A() { } s
@@ -68,10 +69,10 @@ text-uncalled =
     115 ∷ 116 ∷ 114 ∷ 117 ∷ 99 ∷ 116 ∷ 32 ∷ 65 ∷ 40 ∷ 41 ∷ 32 ∷ 123 ∷ 32 ∷ 125 ∷ 32 ∷ 115 ∷ []
 
 pub program-next : outcome text-uncalled [] ≡ refused 17
-unfolding text-uncalled outcome of-length of-tokens of-derivation of-program scanning reading meanings
+unfolding text-uncalled outcome of-tokens of-derivation of-program scanning reading meanings on asked given
 program-next = refl
 
 -- P itself
 pub room-last : outcome text-P [] ≡ refused 13
-unfolding outcome of-length of-tokens of-derivation of-program of-held of-room holding meanings encodings
+unfolding outcome of-tokens of-derivation of-program holding meanings encodings on asked given
 room-last = rw (short-P, P-lexed, P-derived) refl

@@ -4,12 +4,13 @@ use mathlib.Core.Logic.{_⊎_}
 use mathlib.Core.List.{List, [], _∷_, _++_}
 use lib.ListN.{length, drop}
 use Rattle.types.specs.Limits.{program-blocks}
-use Rattle.types.specs.Numbers.{no-room}
+use Rattle.types.specs.Numbers.{no-room, no-token, no-derivation, no-program}
+use Rattle.types.specs.Orders.{Order}
+use Rattle.types.specs.Stages.{Stage, Stage.went as written, Stage.stopped as refused}
 use Rattle.block.specs.Block.{block-size}
 use Rattle.blocks.specs.Images.{image, pieces}
 use Rattle.program.specs.Tree.{Program}
 use Rattle.program.specs.Encoding.{enc-program}
-use Rattle.commands.specs.Numbers.{Order}
 use Rattle.tokens.specs.Tokens.{Token}
 use Rattle.tokens.specs.Lexing.{Lexed}
 use Rattle.syntax.specs.Syntax.{Program as Derivation}
@@ -19,15 +20,6 @@ use Rattle.meaning.specs.Holds.{Holds}
 
 abbrev pub max-text : ℕ
 max-text = 65536
-
-abbrev pub no-token : ℕ
-no-token = 15
-
-abbrev pub no-derivation : ℕ
-no-derivation = 16
-
-abbrev pub no-program : ℕ
-no-program = 17
 
 -- a text parts into tokens that a derivation yields
 pub record Derived (x : List ℕ) (c : Derivation) : Type 0 where
@@ -65,9 +57,9 @@ text-order x out = (no-token, NoTokens x) ∷ (no-derivation, NoDerivation x) �
 
 -- The answer ------------------------------------------------------------------------------------
 
-pub data Outcome : Type 0 where
-  written : Program → Outcome
-  refused : ℕ → Outcome
+-- a program that is written, or the number of a refusal
+abbrev pub Outcome : Type 0
+Outcome = Stage Program
 
 -- 0 or the number of the refusal; the blocks that are written
 unfoldable pub number-of : Outcome → ℕ

@@ -6,12 +6,13 @@ use mathlib.Core.List.{List}
 use mathlib.Core.Option.{Option, some}
 use lib.ListN.{length}
 use lib.Dec.{ltb}
+use Rattle.types.specs.Stages.{on, asked, given}
 use Rattle.tokens.specs.Tokens.{Token}
 use Rattle.tokens.specs.Scanning.{lex}
 use Rattle.syntax.specs.Syntax.{Program as Derivation}
 use Rattle.syntax.specs.Reading.{read}
 use Rattle.source.specs.Source.{max-text}
-use Rattle.source.specs.TextReader.{of-derivation, of-tokens, of-length, outcome}
+use Rattle.source.specs.TextReader.{of-derivation, of-tokens, outcome}
 use Rattle.source.specs.Streamed.{streamed}
 
 -- from its bytes to its derivation
@@ -20,5 +21,5 @@ Reads x ts c = (lex 0 x ≡ some ts) × (read ts ≡ some c)
 
 pub streams : (x out : List ℕ) {ts : List Token} {c : Derivation} {s : Option (List ℕ)} → ltb max-text (length x) ≡ false → Reads x ts c
     → streamed (of-derivation (some c) out) ≡ s → streamed (outcome x out) ≡ s
-unfolding outcome of-length of-tokens
+unfolding outcome of-tokens on asked given
 streams x out e r h = rw (e, r .0, r .1) h

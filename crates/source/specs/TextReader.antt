@@ -1,12 +1,13 @@
 -- What a text is read as, computed: its tokens, their derivation, the program that it means.
 use Prim.Native.Nat.{ℕ, _*_}
-use mathlib.Core.Bool.{Bool, true, false}
+use mathlib.Core.Bool.{not}
 use mathlib.Core.List.{List}
-use mathlib.Core.Option.{Option, none, some}
+use mathlib.Core.Option.{Option}
 use lib.ListN.{length}
 use lib.Dec.{ltb}
 use Rattle.types.specs.Limits.{program-blocks}
-use Rattle.types.specs.Numbers.{no-room}
+use Rattle.types.specs.Numbers.{no-room, no-token, no-derivation, no-program}
+use Rattle.types.specs.Stages.{Stage.went as written, on, asked, given}
 use Rattle.block.specs.Block.{block-size}
 use Rattle.program.specs.Tree.{Program}
 use Rattle.tokens.specs.Tokens.{Token}
@@ -15,43 +16,27 @@ use Rattle.syntax.specs.Syntax.{Program as Derivation}
 use Rattle.syntax.specs.Reading.{read}
 use Rattle.meaning.specs.Meant.{meant}
 use Rattle.meaning.specs.HoldsDecide.{holds}
-use Rattle.source.specs.Source.{max-text, no-token, no-derivation, no-program, Outcome, Outcome.written, Outcome.refused, number-of, blocks-of, output-of}
+use Rattle.source.specs.Source.{max-text, Outcome, number-of, blocks-of, output-of}
 
--- with room for the output, or without
-unfoldable pub of-room : Bool → Program → Outcome
-of-room true p = refused no-room
-of-room false p = written p
-
-unfoldable pub of-held : Bool → Program → List ℕ → Outcome
-unfolding of-room
-of-held true p out = of-room (ltb (length out) (block-size * program-blocks)) p
-of-held false p out = refused no-program
-
+-- 17 and 13, from the program that a derivation means
 unfoldable pub of-program : Option Program → List ℕ → Outcome
-unfolding of-held
-of-program none out = refused no-program
-of-program (some p) out = of-held (holds p) p out
+of-program o out =
+    on (given o no-program) λ p.
+    asked (not (holds p)) no-program (asked (ltb (length out) (block-size * program-blocks)) no-room (written p))
 
+-- 16, from the derivation of the tokens
 unfoldable pub of-derivation : Option Derivation → List ℕ → Outcome
-unfolding of-program
-of-derivation none out = refused no-derivation
-of-derivation (some c) out = of-program (meant c) out
+of-derivation o out = on (given o no-derivation) λ c. of-program (meant c) out
 
+-- 15, from the tokens
 unfoldable pub of-tokens : Option (List Token) → List ℕ → Outcome
-unfolding of-derivation
-of-tokens none out = refused no-token
-of-tokens (some ts) out = of-derivation (read ts) out
+of-tokens o out = on (given o no-token) λ ts. of-derivation (read ts) out
 
-unfoldable pub of-length : Bool → List ℕ → List ℕ → Outcome
-unfolding of-tokens
-of-length true x out = refused no-token
-of-length false x out = of-tokens (lex 0 x) out
-
+-- a text and the output that is lent
 unfoldable pub outcome : List ℕ → List ℕ → Outcome
-unfolding of-length
-outcome x out = of-length (ltb max-text (length x)) x out
+outcome x out = asked (ltb max-text (length x)) no-token (of-tokens (lex 0 x) out)
 
--- the number, the blocks and the output behind reading
+-- the number, the blocks and the output after reading
 unfoldable pub text-number : List ℕ → List ℕ → ℕ
 unfolding outcome number-of
 text-number x out = number-of (outcome x out)

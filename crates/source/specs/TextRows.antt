@@ -6,6 +6,7 @@ use mathlib.Core.List.{List, [], _∷_}
 use mathlib.Core.Option.{some}
 use lib.ListN.{length}
 use borrow.Author.Tests.{le-ltb}
+use Rattle.types.specs.Stages.{on, asked, given}
 use Rattle.types.specs.Limits.{program-blocks}
 use Rattle.block.specs.Block.{block-size}
 use Rattle.program.specs.Tree.{Op.op-ge, Op.op-lt, Op.op-gt, Op.op-rem, Op.op-and}
@@ -19,7 +20,7 @@ use Rattle.syntax.specs.Syntax.{Exp.literal, Exp.null, Exp.this, Exps.no-exps, 
 use Rattle.syntax.specs.Syntax.{Stats.no-stats, Stats.stats, Par.par, Step.step, Struct.struct, Defs.last-struct, Defs.defs, Item.execution}
 use Rattle.syntax.specs.Syntax.{Item.typed-execution, Item.fixpoint, Sched.last-item, Sched.barrier, Program as Derivation, Program.program}
 use Rattle.syntax.specs.Letters.{A, B, c, s, t, x, y}
-use Rattle.source.specs.TextReader.{of-room, of-held, of-program, of-derivation, outcome}
+use Rattle.source.specs.TextReader.{of-program, of-derivation, outcome}
 use Rattle.source.specs.Streamed.{streamed}
 use Rattle.source.specs.StreamedLaws.{Reads, streams}
 use Rattle.program.specs.Unfold.{encodings}
@@ -80,5 +81,5 @@ pub Q-text : (out : List ℕ) → block-size * program-blocks ≤ length out →
     22 ∷ 17 ∷ 3 ∷ 2 ∷ 9 ∷ 0 ∷ 19 ∷ 7 ∷ 0 ∷ 0 ∷ 0 ∷ 3 ∷ 3 ∷ 2 ∷ 1 ∷ 1 ∷ 21 ∷ 1 ∷ 1 ∷ 2 ∷ 2 ∷ 1 ∷ 8 ∷ 40 ∷ 18 ∷ 1 ∷ 0 ∷ 20 ∷ 9 ∷ 0 ∷ 0 ∷ 0 ∷ 4 ∷ 1 ∷ 19 ∷ 255
     ∷ 255 ∷ 255 ∷ 255 ∷ 23 ∷ 1 ∷ 0 ∷ 1 ∷ 3 ∷ 1 ∷ 1 ∷ 17 ∷ 0 ∷ 20 ∷ 0 ∷ 0 ∷ 0 ∷ 0 ∷ 37 ∷ 18 ∷ 1 ∷ 0 ∷ 18 ∷ 1 ∷ 0 ∷ 22 ∷ 17 ∷ 3 ∷ 2 ∷ 1 ∷ 0 ∷ 1 ∷ 1 ∷ 3 ∷ 2 ∷
     1 ∷ 0 ∷ 2 ∷ 0 ∷ 0 ∷ [])
-unfolding text-Q derivation-Q streamed of-derivation of-program of-held of-room holding meanings encodings
+unfolding text-Q derivation-Q streamed of-derivation of-program holding meanings encodings on asked given
 Q-text out h = streams text-Q out refl Q-read (rw (le-ltb (length out) (block-size * program-blocks) h) refl)

@@ -2,26 +2,29 @@
 use Prim.Native.Nat.{ℕ, _+_, _<_, _≤_}
 use native.Mathlib.Omega.{arith}
 use mathlib.Core.Path.{_≡_, refl, ap, sym, _∙_}
-use mathlib.Core.Bool.{Bool, true, false}
+use mathlib.Core.Bool.{Bool}
 use mathlib.Core.Option.{Option, none, some}
 use mathlib.Core.List.{List}
 use lib.ListN.{length, take, drop}
-use lib.Dec.{ltb}
-use borrow.Author.Tests.{lt-ltb, le-ltb, ltb-true, ltb-false}
+use borrow.Author.Tests.{lt-ltb}
 use Rattle.types.specs.Limits.{max-commands}
 use Rattle.types.specs.Numbers.{no-room}
+use Rattle.types.specs.Reflects.{Reflects, Reflects.holds, Reflects.fails, lt-reflects}
+use Rattle.types.specs.Orders.{Numbered}
+use Rattle.types.specs.OrderLaws.{foremost-numbered}
+use Rattle.types.specs.Stages.{Stage.went as accepted, Stage.stopped as refused, on, asked}
 use Rattle.program.specs.Tree.{Program}
 use Rattle.commands.specs.Bounds.{Within}
 use Rattle.directory.specs.declared.Row.{Row}
 use Rattle.directory.specs.Directory.{directory, find-row}
 use Rattle.directory.specs.DirectoryLaws.{directory-inside}
 use Rattle.directory.specs.FindLaws.{IfFound, find-all}
-use Rattle.verdict.specs.Verdict.{Checked, Checked.accepted, Checked.refused, checked, verdict-of, check-verdict}
+use Rattle.verdict.specs.Verdict.{Checked, checked, checks, verdict-of, check-verdict}
+use Rattle.verdict.specs.VerdictLaws.{checks-room}
 use Rattle.verdict.specs.ProgramInput.{program-order}
-use Rattle.verdict.specs.InputOrder.{Numbered, foremost-numbered}
 use Rattle.verdict.specs.ProgramInputLaws.{checked-number, checked-accepted}
 use Rattle.step_part.specs.declared.Spot.{Spot}
-use Rattle.step_part.specs.StepPart.{nowhere, spot-of, spot-by, place-by, step-place, step-part}
+use Rattle.step_part.specs.StepPart.{nowhere, spot-of, spot-by, step-place, step-part}
 
 -- Bounds -------------------------------------------------------------------------------
 
@@ -63,33 +66,21 @@ module _ (c : Checked) (k n : ℕ) where
 
 -- The place ----------------------------------------------------------------------------
 
-module _ (c : Checked) (list : List ℕ) (k n : ℕ) where
-  -- a program that is refused, and one that is accepted, with a list that is too short or has room
-  pub by-refused : (m : ℕ) → c ≡ refused m → place-by c list k n ≡ nowhere m
-  unfolding place-by
-  by-refused m e = rw e
+-- a check stops at its image, or at a list that is too short for a program that is accepted
+module _ (x list : List ℕ) where
+  checks-refused : (m : ℕ) → checked x ≡ refused m → checks x list ≡ refused m
+  unfolding checks on
+  checks-refused m e = rw e
 
-  pub by-short : (p : Program) → c ≡ accepted p → length list < max-commands → place-by c list k n ≡ nowhere no-room
-  unfolding place-by
-  by-short p e l = rw e (rw (place-by, lt-ltb (length list) max-commands l))
+  checks-short : (p : Program) → checked x ≡ accepted p → length list < max-commands → checks x list ≡ refused no-room
+  unfolding checks on asked
+  checks-short p e l = rw (e, lt-ltb (length list) max-commands l)
 
-  pub by-room : (p : Program) → c ≡ accepted p → max-commands ≤ length list → place-by c list k n ≡ spot-by c k n
-  unfolding place-by
-  by-room p e l = rw e (rw (place-by, le-ltb (length list) max-commands l))
-
-  -- the number is that of the verdict
-  pub by-number : place-by c list k n .number ≡ verdict-of c list .number
-  unfolding verdict-of
-  by-number = go c refl
-    where
-      room : (p : Program) → c ≡ accepted p → (t : Bool) → ltb (length list) max-commands ≡ t
-          → place-by c list k n .number ≡ verdict-of (accepted p) list .number
-      room p e true i = ap (λ (y : Spot). y .number) (by-short p e (ltb-true _ _ i)) ∙ rw (verdict-of, i)
-      room p e false i = ap (λ (y : Spot). y .number) (by-room p e (ltb-false _ _ i)) ∙ spot-number c k n p e ∙ rw (verdict-of, i)
-
-      go : (d : Checked) → c ≡ d → place-by c list k n .number ≡ verdict-of d list .number
-      go (refused m) e = ap (λ (y : Spot). y .number) (by-refused m e)
-      go (accepted p) e = room p e (ltb (length list) max-commands) refl
+-- the number is that of the verdict
+spot-verdict : (c : Checked) (k n : ℕ) → spot-by c k n .number ≡ verdict-of c .number
+unfolding spot-by verdict-of
+spot-verdict (refused m) k n = refl
+spot-verdict (accepted p) k n = spot-number (accepted p) k n p refl
 
 -- no refusal has the number 0
 nonzero : (x : List ℕ) → Numbered (λ n. 1 ≤ n) (program-order x)
@@ -105,13 +96,13 @@ module _ (x list : List ℕ) (k n : ℕ) where
   abbrev y : Spot
   y = spot-by (checked x) k n
 
-  -- a number that is not 0 is that of the image; behind it the list is asked for
+  -- a number that is not 0 is that of the image; after it the list is asked for
   pub place-numbered : (y .number ≡ 0 → ⊥) → y ≡ z
   unfolding step-place
   place-numbered h = go (checked x) refl
     where
-      go : (c : Checked) → checked x ≡ c → y ≡ place-by (checked x) list k n
-      go (refused m) e = sym (spot-refused (checked x) k n m e) ∙ sym (by-refused (checked x) list k n m e)
+      go : (c : Checked) → checked x ≡ c → y ≡ spot-by (checks x list) k n
+      go (refused m) e = rw (e, checks-refused x list m e)
       go (accepted p) e = absurd (h (spot-number (checked x) k n p e))
 
   module _ (none : y .number ≡ 0) where
@@ -123,31 +114,31 @@ module _ (x list : List ℕ) (k n : ℕ) where
         go (accepted p) e = (p, e)
 
     pub place-short : length list < max-commands → nowhere no-room ≡ z
-    unfolding step-place
-    place-short l = sym (by-short (checked x) list k n (sound .0) (sound .1) l)
+    unfolding step-place spot-by
+    place-short l = rw (checks-short x list (sound .0) (sound .1) l)
 
     pub place-room : max-commands ≤ length list → y ≡ z
     unfolding step-place
-    place-room l = sym (by-room (checked x) list k n (sound .0) (sound .1) l)
+    place-room l = rw (checks-room x list l)
 
   -- the number is that of a check of this image with this list
   pub place-number : z .number ≡ check-verdict x list .number
   unfolding step-place check-verdict
-  place-number = by-number (checked x) list k n
+  place-number = spot-verdict (checks x list) k n
 
   -- the place lies in the list's first 1,024 places, and the list has them
   pub place-fits : (z .start + z .len ≤ max-commands) × (z .start + z .len ≤ length list)
-  unfolding step-place
+  unfolding step-place spot-by
   place-fits = go (checked x) refl
     where
-      room : (p : Program) → checked x ≡ accepted p → (t : Bool) → ltb (length list) max-commands ≡ t
+      room : (p : Program) → checked x ≡ accepted p → {t : Bool} → Reflects (length list < max-commands) t
           → (z .start + z .len ≤ max-commands) × (z .start + z .len ≤ length list)
-      room p e true i = rw (by-short (checked x) list k n p e (ltb-true _ _ i)) (omega arith, omega arith)
-      room p e false i = let l = ltb-false _ _ i in rw (by-room (checked x) list k n p e l) (spot-fits x k n, omega (arith, spot-fits x k n, l))
+      room p e (holds l) = rw (checks-short x list p e l) (omega arith, omega arith)
+      room p e (fails f) = rw (checks-room x list (omega arith)) (spot-fits x k n, omega (arith, spot-fits x k n))
 
       go : (c : Checked) → checked x ≡ c → (z .start + z .len ≤ max-commands) × (z .start + z .len ≤ length list)
-      go (refused m) e = rw (by-refused (checked x) list k n m e) (omega arith, omega arith)
-      go (accepted p) e = room p e (ltb (length list) max-commands) refl
+      go (refused m) e = rw (checks-refused x list m e) (omega arith, omega arith)
+      go (accepted p) e = room p e (lt-reflects (length list) max-commands)
 
   -- and the part is what stands there
   pub place-part : take (z .len) (drop (z .start) list) ≡ step-part x list k n

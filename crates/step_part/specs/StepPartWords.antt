@@ -1,13 +1,13 @@
 -- The part of the list that a step has is the words of its commands, and is empty where there is no such step (01, 'Names, types, commands': "The
 -- commands of one step are handed out as that part of the lent command list; a step that isn't there gives an empty part").
-use Prim.Native.Nat.{ℕ, _≤_, _<_}
+use Prim.Native.Nat.{ℕ, _≤_}
 use native.Mathlib.Omega.{arith}
 use mathlib.Core.Path.{_≡_, refl, ap, sym, _∙_}
 use mathlib.Core.Option.{Option, none, some}
 use mathlib.Core.List.{List, [], _∷_, _++_}
 use lib.ListN.{length, take, drop, length-append, length-drop}
 use Rattle.types.specs.Limits.{max-commands}
-use Rattle.types.specs.Numbers.{no-room}
+use Rattle.types.specs.Stages.{Stage.went as accepted, Stage.stopped as refused}
 use Rattle.blocks.specs.Images.{image}
 use Rattle.program.specs.Tree.{Stmts, Program}
 use Rattle.program.specs.Reader.{read}
@@ -19,13 +19,13 @@ use Rattle.directory.specs.declared.Row.{Row}
 use Rattle.directory.specs.Directory.{steps-rows, structs-rows, directory, is-row, find-row}
 use Rattle.directory.specs.Held.{Marks}
 use Rattle.directory.specs.FindLaws.{directory-marks}
-use Rattle.verdict.specs.Verdict.{Checked, Checked.accepted, Checked.refused, of-read, checked, listed, check-list}
-use Rattle.verdict.specs.VerdictLaws.{checked-image}
+use Rattle.verdict.specs.Verdict.{Checked, of-read, checked, listed, checks, check-list}
+use Rattle.verdict.specs.VerdictLaws.{checked-image, checks-room}
 use Rattle.verdict.specs.ProgramInputLaws.{checked-accepted, check-approved}
 use Rattle.verdict.specs.Rows.{P, listed-P, checking}
 use Rattle.step_part.specs.declared.Spot.{Spot}
 use Rattle.step_part.specs.StepPart.{nowhere, spot-of, spot-by, step-place, step-part}
-use Rattle.step_part.specs.StepPartLaws.{spot-accepted, spot-number, by-refused, by-short, by-room}
+use Rattle.step_part.specs.StepPartLaws.{spot-refused, spot-accepted, spot-number}
 
 -- the part of a list that a place marks
 abbrev marked : Spot → List ℕ → List ℕ
@@ -66,23 +66,18 @@ module _ (x list : List ℕ) (k n : ℕ) where
   handed-room : (p : Program) → checked x ≡ accepted p → max-commands ≤ length list → Handed 0 (marked (spot-by (checked x) k n) list)
   unfolding step-place step-part
   handed-room p e h =
-      let q = by-room (checked x) list k n p e h in
+      let q = ap (λ (c : Checked). spot-by c k n) (checks-room x list h) in
       (ap (λ (z : Spot). z .number) q ∙ spot-number (checked x) k n p e, ap (λ (z : Spot). marked z list) q)
 
-  -- an image that is refused gives its number and an empty part
-  pub step-refused : (m : ℕ) → checked x ≡ refused m → Handed m []
+  -- a check that refuses gives its number and an empty part
+  pub step-refused : (m : ℕ) → checks x list ≡ refused m → Handed m []
   unfolding step-place
-  step-refused m e = handed-none m (by-refused (checked x) list k n m e)
-
-  -- a list with places for fewer than 1,024 commands gives 13 where the image is accepted
-  pub step-short : (p : Program) → checked x ≡ accepted p → length list < max-commands → Handed no-room []
-  unfolding step-place
-  step-short p e h = handed-none no-room (by-short (checked x) list k n p e h)
+  step-refused m e = handed-none m (sym (spot-refused (checks x list) k n m e))
 
   -- and a step that is not there, for want of the struct or of the name, no number and an empty part
   pub step-absent : (p : Program) → checked x ≡ accepted p → max-commands ≤ length list → step-of p k n ≡ none → Handed 0 []
   unfolding step-place
-  step-absent p e h f = handed-none 0 (by-room (checked x) list k n p e h ∙ spot-none (checked x) p k n e f)
+  step-absent p e h f = handed-none 0 (ap (λ (c : Checked). spot-by c k n) (checks-room x list h) ∙ spot-none (checked x) p k n e f)
 
 -- of the list that the checker hands out, the part of a step that a struct has is the words of that step's commands
 pub step-words : (x list : List ℕ) (p : Program) (k n : ℕ) {b : Stmts} → checked x ≡ accepted p → max-commands ≤ length list → step-of p k n ≡ some b

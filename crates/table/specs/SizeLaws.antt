@@ -16,7 +16,7 @@ use Rattle.table.specs.Sizes.{record-size, records-size, table-size}
 
 -- Lengths ------------------------------------------------------------------------
 
-word-length : (i v : ℕ) → length (enc-word i v) ≡ i
+pub word-length : (i v : ℕ) → length (enc-word i v) ≡ i
 unfolding enc-word
 word-length zero v = refl
 word-length (suc i) v = ap suc (word-length i (v / 256))

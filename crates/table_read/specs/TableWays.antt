@@ -10,6 +10,7 @@ use borrow.Author.Tests.{lt-ltb, le-ltb, le-leb, lt-leb}
 use Rattle.types.specs.Limits.{max-instances, max-params, table-blocks}
 use Rattle.types.specs.Numbers.{table-end, table-value}
 use Rattle.types.specs.Types.{Ty}
+use Rattle.types.specs.Stages.{Stage.went as table, Stage.stopped as no-table}
 use Rattle.blocks.specs.Images.{fault, stream, table-number as block-number}
 use Rattle.block.specs.declared.Fault.{Fault}
 use Rattle.block.specs.declared.Found.the-variants.{Right, Wrong}
@@ -18,7 +19,7 @@ use Rattle.program.specs.Reader.{Result, Result.ok, Result.bad, then, many, gua
 use Rattle.program.specs.Laws.PartLaws.{told-is}
 use Rattle.program.specs.Laws.JoinLaws.{row-exact, flat-row}
 use Rattle.table.specs.Table.{Record, count-bytes, enc-record, HeldRecord}
-use Rattle.table.specs.TableReader.{read-record, read-count, read-table, references, TableAnswer.table, TableAnswer.no-table, table-number}
+use Rattle.table.specs.TableReader.{read-record, read-count, read-table, references, table-number}
 use Rattle.table.specs.TableReader.{table-answer, table-of-stream}
 use Rattle.table.specs.TableExact.{record-exact}
 use Rattle.layout.specs.Layout.{head-size, row-size}
@@ -34,7 +35,8 @@ use Rattle.table_read.specs.Refer.{Structs, rows-refer}
 use Rattle.table_read.specs.ReferLaws.{laid-refers, laid-structs}
 use Rattle.little_endian.specs.Numbers.{number-at}
 use Rattle.table_read.specs.Told.{count-told, RecordsLaid}
-use Rattle.table_read.specs.TableTold.{behind-count, table-told, answer-of, image-answer, TableLaid}
+use Rattle.table_read.specs.TableTold.{behind-count, table-told, TableLaid}
+use Rattle.run.specs.Entry.{of-table-image, tabled}
 use Rattle.table_read.specs.ToldLaws.{laid-is, laid-stops}
 use Rattle.table_read.specs.ValueWays.{word-in, word-out}
 
@@ -176,10 +178,10 @@ module _ (s : List ℕ) (pss : List (List Ty)) where
 -- An image -------------------------------------------------------------------------
 
 module _ (y : List ℕ) (pss : List (List Ty)) where
-  pub image-refused : (f : Fault) → fault table-blocks y ≡ Wrong f → image-answer pss y ≡ no-table (block-number f)
-  unfolding answer-of
+  pub image-refused : (f : Fault) → fault table-blocks y ≡ Wrong f → tabled pss y ≡ no-table (block-number f)
+  unfolding of-table-image
   image-refused f e = rw e
 
-  pub image-read : fault table-blocks y ≡ Right → image-answer pss y ≡ table-of-stream pss (stream y)
-  unfolding answer-of
+  pub image-read : fault table-blocks y ≡ Right → tabled pss y ≡ table-of-stream pss (stream y)
+  unfolding of-table-image
   image-read e = rw e

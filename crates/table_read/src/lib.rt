@@ -16,7 +16,8 @@ ghost use Rattle.block.specs.Block.{payload-size};
 ghost use Rattle.table.specs.TableReader.{table-of-stream};
 ghost use Rattle.layout.specs.Layout.{head-size, row-size};
 ghost use Rattle.table_read.specs.Params.{Tables, lists-of};
-ghost use Rattle.table_read.specs.TableTold.{behind-count, table-told, image-answer, TableLaid};
+ghost use Rattle.run.specs.Entry.{tabled};
+ghost use Rattle.table_read.specs.TableTold.{behind-count, table-told, TableLaid};
 
 // How many instances a table has, the null ones among them, with all of them in memory; or the number of a refusal, and memory anyhow.
 pub enum TableRead {
@@ -84,9 +85,9 @@ pub fn read_image(
     requires { ⌜ Tables (now counts) (now types) ⌝ }
     requires { ⌜ (length (now heads) ≡ head-size * max-instances) × (length (now cells) ≡ row-size * max-instances) ⌝ }
     requires { ⌜ payload-size * table-blocks ≤ length (now buffer) ⌝ }
-    ensures { λ r. ⌜ r ≡ table-told (length (now (counts .entry))) (image-answer (lists-of (now (counts .entry)) (now (types .entry))) (now (image .entry))) ⌝ }
+    ensures { λ r. ⌜ r ≡ table-told (length (now (counts .entry))) (tabled (lists-of (now (counts .entry)) (now (types .entry))) (now (image .entry))) ⌝ }
     ensures { λ _. ⌜ TableLaid (now (counts .entry)) (now (types .entry)) (now (heads .entry)) (now (cells .entry))
-        (image-answer (lists-of (now (counts .entry)) (now (types .entry))) (now (image .entry))) (now (heads .exit)) (now (cells .exit)) ⌝ }
+        (tabled (lists-of (now (counts .entry)) (now (types .entry))) (now (image .entry))) (now (heads .exit)) (now (cells .exit)) ⌝ }
 {
     let r = blocks::open_image(image, types::TABLE_BLOCKS, buffer);
     let Opened::Stream(n) = r else {

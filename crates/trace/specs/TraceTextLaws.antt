@@ -9,19 +9,19 @@ use lib.ListN.{length}
 use borrow.Author.Tests.{lt-ltb, le-ltb}
 use Rattle.types.specs.Limits.{max-turns}
 use Rattle.types.specs.Numbers.{many-turns}
+use Rattle.types.specs.Stages.{on, asked}
 use Rattle.program.specs.Tree.{Program}
 use Rattle.table.specs.Table.{Record}
 use Rattle.machine.specs.Published.{Sched.done}
 use Rattle.machine.specs.Machine.{Machine, Out, Out.next as taken-to, Out.refused, Out.stuck, Moved.next as moved-to, command, move}
-use Rattle.verdict.specs.Verdict.{checked}
 use Rattle.run.specs.Begin.{begin}
-use Rattle.run.specs.Entry.{Begun, Begun.begun, Begun.not-begun, of-checked, with-room}
+use Rattle.run.specs.Entry.{begun, not-begun, images}
 use Rattle.run.specs.Turns.{chosen}
 use Rattle.run.specs.Holders.{holders, due}
 use Rattle.run.specs.Run.{Outcome.stopped, run}
 use Rattle.trace.specs.Trace.{Line, Line.moved, Line.acted, alone, move-line, turn-line, trace, turn-count}
 use Rattle.trace.specs.LineText.{step-name, line-text, step-behind, turn-behind, lines-text, trace-lines, end-text}
-use Rattle.trace.specs.TraceText.{end-of, run-text, begun-text, allowed, trace-text}
+use Rattle.trace.specs.TraceText.{end-of, run-text, begun-text, traces, trace-text}
 use Rattle.trace.specs.TraceLaws.{trace-turns}
 use Rattle.trace.specs.TraceStepLaws.{trace-move, trace-turn, trace-lasts, trace-ends}
 
@@ -85,17 +85,17 @@ module _ (p : Program) (m : Machine) (n t : ℕ) where
 
 module _ (x y es : List ℕ) where
   -- what is refused before the number of turns is looked at
-  pub refused-text : {k : ℕ} → of-checked (checked x) y ≡ not-begun k → trace-text x y es ≡ end-text k 0
-  unfolding trace-text begun-text with-room
+  pub refused-text : {k : ℕ} → images x y ≡ not-begun k → trace-text x y es ≡ end-text k 0
+  unfolding trace-text traces begun-text on asked
   refused-text e = rw e
 
-  module _ {p : Program} {rs : List Record} (b : of-checked (checked x) y ≡ begun p rs) where
+  module _ {p : Program} {rs : List Record} (b : images x y ≡ begun p rs) where
     pub many-text : max-turns < length es → trace-text x y es ≡ end-text many-turns 0
-    unfolding trace-text begun-text with-room
+    unfolding trace-text traces begun-text on asked
     many-text h = rw (b, lt-ltb max-turns (length es) h)
 
     -- a run
     pub begun-run-text : length es ≤ max-turns → {k t : ℕ} {z : Machine} → run p (begin p rs) es ≡ stopped k t z
         → trace-text x y es ≡ trace-lines p (trace p (begin p rs) es) ++ end-text k t
-    unfolding trace-text begun-text with-room run-text end-of
+    unfolding trace-text traces begun-text on asked run-text end-of
     begun-run-text h q = rw (b, le-ltb max-turns (length es) h, q)

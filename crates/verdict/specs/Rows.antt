@@ -5,8 +5,8 @@ use native.Mathlib.Omega.{arith}
 use mathlib.Core.Path.{_≡_, refl, ap, _∙_}
 use mathlib.Core.List.{List, [], _∷_, _++_}
 use lib.ListN.{length, drop}
-use borrow.Author.Tests.{le-ltb}
 use Rattle.types.specs.Limits.{max-commands}
+use Rattle.types.specs.Stages.{Stage.went as accepted, Stage.stopped as refused}
 use Rattle.blocks.specs.Images.{image}
 use Rattle.program.specs.Reader.{read}
 use Rattle.program.specs.Rows.{reading}
@@ -14,8 +14,8 @@ use Rattle.commands.specs.Commands.{commands}
 use Rattle.commands.specs.Decide.{every}
 use Rattle.commands.specs.Numbers.{first}
 use Rattle.commands.specs.ProgramWords.{program-words}
-use Rattle.verdict.specs.Verdict.{Checked, Checked.accepted, Checked.refused, judge, of-read, listed, list-of, check-list}
-use Rattle.verdict.specs.VerdictLaws.{checked-image}
+use Rattle.verdict.specs.Verdict.{Checked, judge, of-read, listed, list-of, check-list}
+use Rattle.verdict.specs.VerdictLaws.{checked-image, checks-room}
 use Rattle.commands.specs.Unfold.{judging, coding}
 
 -- P: load := load + prev.load, run once
@@ -33,10 +33,10 @@ abbrev words-by : Checked → List ℕ
 words-by (accepted p) = program-words p
 words-by (refused n) = []
 
-list-room : (c : Checked) (list : List ℕ) → max-commands ≤ length list → list-of c list ≡ words-by c ++ drop (length (words-by c)) list
+list-words : (c : Checked) (list : List ℕ) → list-of c list ≡ words-by c ++ drop (length (words-by c)) list
 unfolding list-of listed
-list-room (refused n) list h = refl
-list-room (accepted p) list h = rw (le-ltb (length list) max-commands h, list-of)
+list-words (refused n) list = refl
+list-words (accepted p) list = refl
 
 words-P : words-by (of-read (read P)) ≡ 2 ∷ 3 ∷ 2 ∷ 4294967299 ∷ 3 ∷ 176093659144 ∷ 2 ∷ 4 ∷ []
 unfolding checking P coding
@@ -48,6 +48,6 @@ pub listed-P : (list : List ℕ) → max-commands ≤ length list
     → check-list (image P) list ≡ 2 ∷ 3 ∷ 2 ∷ 4294967299 ∷ 3 ∷ 176093659144 ∷ 2 ∷ 4 ∷ drop 8 list
 unfolding check-list P
 listed-P list h =
-    ap (λ (c : Checked). list-of c list) (checked-image P (omega arith) (omega arith))
-    ∙ list-room (of-read (read P)) list h
+    ap (λ (c : Checked). list-of c list) (checks-room (image P) list h ∙ checked-image P (omega arith) (omega arith))
+    ∙ list-words (of-read (read P)) list
     ∙ ap (λ (w : List ℕ). w ++ drop (length w) list) words-P

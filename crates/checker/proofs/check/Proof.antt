@@ -3,7 +3,6 @@ use native.Mathlib.Omega.{arith}
 use mathlib.Core.Path.{_≡_, sym, ap, _∙_}
 use lib.ListN.{length-replicate}
 use lib.Seq.{length-take-le}
-use Rattle.verdict.specs.Verdict.{checked, check-verdict, check-list}
 use Rattle.load.specs.declared.Loaded.{Loaded}
 use Rattle.load.specs.LoadLaws.{LoadedAs, load-refused, load-value, length-fits, structs-few, admitted}
 use Rattle.checker.specs.Answer.{answer}
@@ -27,18 +26,16 @@ loads : (c : tie.After-r) → LoadedAs (start (at-program c) .args .image .now) 
 loads c = load-value _ _ (sym (at-program c .program .ensures .0) ∙ c .r .given .1)
 
 returns : tie.Need-returns
-unfolding check-verdict check-list
 returns c =
     let at-told = c .before .before in let at-back = at-told .before .before in let at-program′ = at-back .before .before .before in
     let args = start at-program′ .args in let x = args .image .now in let told = at-told .enum-told .given .1 in
-    let w = refused-answers (checked x) _ (args .list .now) (load-refused x _ (sym (at-program′ .program .ensures .0) ∙ told)) in
+    let w = refused-answers x (args .list .now) _ (load-refused x _ (sym (at-program′ .program .ensures .0) ∙ told)) in
     ((rw (c .before .refusal .ensures, told) at (c .refused .ensures)) ∙ ap answer (w .0), w .1)
 
 returns-2 : tie.Need-returns-2
-unfolding check-verdict check-list
 returns-2 c =
     let at-r = c .before .before .before in let args = start (at-program at-r) .args in
-    let w = short-answers (checked (args .image .now)) _ (args .list .now) (loads at-r .accepts) (c .before .if1 .taken) in
+    let w = short-answers (args .image .now) (args .list .now) _ (loads at-r .accepts) (c .before .if1 .taken) in
     (c .refused2 .ensures ∙ ap answer (w .0), w .1)
 
 array-share-prefix-stream : tie.Need-array-share-prefix-stream
@@ -63,12 +60,11 @@ program-requires-2 c κs =
     (fits _ _ l _ _ a list (at-if1 .if1 .left) _ (simp length-replicate (omega arith)), counts-few _ _ l _ _ a)
 
 returns-3 : tie.Need-returns-3
-unfolding check-verdict check-list
 returns-3 c =
     let written = c .before .before .before .before in
     let at-if1 = at-else (written .before .before) in let at-r = at-if1 .before .before in let l = loads at-r in
     let args = start (at-program at-r) .args in let a = admitted _ _ l _ _ _ _ _ _ (at-program at-r .program .ensures .1) in
-    let w = room-answers (checked (args .image .now)) _ (args .list .now) (l .accepts) (at-if1 .if1 .left) in (
+    let w = room-answers (args .image .now) (args .list .now) _ (l .accepts) (at-if1 .if1 .left) in (
       c .accepted .ensures ∙ approved-is _ _ l ∙ ap answer (w .0),
       wrote _ _ l _ _ a (args .list .now) (at-if1 .if1 .left) _ _ _ (written .program2 .ensures) ∙ w .1,
     )

@@ -31,8 +31,8 @@ returns c =
 returns-2 : tie.Need-returns-2
 returns-2 c = absurd (⊎-elim (λ e. omega arith) (λ e. omega arith) (rw (blocks (c .before .before)) at (c .before .match .keys2)))
 
-cast-t10 : tie.Need-cast-t10
-cast-t10 c =
+cast-t9 : tie.Need-cast-t9
+cast-t9 c =
     let at-w = c .before in let at-known = at-w .before .before in let e = at-else at-known in let s = entry e in let args = s .args in
     let w = at-known .before .before .write-image in
     let few = few-written (args .stream .now) (args .out .now) (e .if1 .left) (s .pre .0) (s .pre .1) (w .result) _ (w .ensures .0) (at-w .w .given .1) in
@@ -47,5 +47,5 @@ returns-3 c =
 pub imaged-spec : {M : Type 1} → statement M
 imaged-spec =
     tie.close
-    (tie.spec (λ c. search needs) (λ c κs. search needs) returns (λ c κs. search needs) (λ c. search needs) (λ c κs. search needs) (λ c. search needs)
-    returns-2 cast-t10 (λ c. search needs) returns-3)
+    (tie.spec (λ c κs. search needs) returns (λ c κs. search needs) (λ c. search needs) (λ c κs. search needs) (λ c. search needs)
+    returns-2 cast-t9 (λ c. search needs) returns-3)

@@ -1,17 +1,20 @@
 -- `begun` meets its contract: the table is refused, there is no room, or the machine that the table begins with is seated, played and reported.
 use Prim.Native.Nat.{ℕ}
 use native.Mathlib.Omega.{arith}
-use mathlib.Core.Path.{refl, sym, _∙_}
+use mathlib.Core.Path.{_≡_, sym}
 use mathlib.Core.List.{List}
 use lib.ListN.{take, length-replicate}
 use lib.Seq.{length-take-le}
 use Rattle.program.specs.Tree.{Program}
-use Rattle.verdict.specs.Verdict.{Checked.accepted}
 use Rattle.run.specs.Begin.{begin}
+use Rattle.run.specs.Entry.{begun, with-table}
 use Rattle.layout.specs.State.{state-of}
-use Rattle.run_images.specs.Stages.{Opens, Played}
+use Rattle.seating.specs.Seated.{Opens, SeatedTable}
+use Rattle.seating.specs.declared.SeatRead.the-variants.{Taken}
+use Rattle.seating.specs.AdmitLaws.{opens-admits}
+use Rattle.seating.specs.SeatLaws.{with-refused, with-begun}
+use Rattle.run_images.specs.Stages.{Played}
 use Rattle.run_images.specs.StageLaws.{refused-answers, output-short, list-short, turns-many, came-answers}
-use Rattle.run_images.specs.SeatLaws.{admitted-tables, image-refused, SeatedTable, image-seated}
 use Rattle.run_images.specs.RunLaws.{played-filled, played-nulls, played-holders, played-turns, played-came}
 use borrow.Author.Needs.{needs}
 use Rattle.run_images.proofs.begun.Statement.{statement}
@@ -44,115 +47,119 @@ slice-aggregate-ts c = sym (length-take-le _ _ (array-share-prefix-types (c .bef
 abbrev before-table : tie.After-cells → tie.After-struct-known
 before-table c = let at-types = c .before .before .before in at-types .before .before
 
-read-image-requires : tie.Need-read-image-requires
-read-image-requires c κs =
-    let o = start (before-table c) .pre .1 in (
-      admitted-tables (o .admitted) (o .typed),
+seat-table-requires : tie.Need-seat-table-requires
+seat-table-requires c κs =
+    let s = start (before-table c) in (
+      (s .args .s .now, s .pre .0, opens-admits (s .pre .1)),
       ((simp length-replicate (omega arith), simp length-replicate (omega arith)), simp length-replicate (omega arith)),
     )
 
 returns : tie.Need-returns
 returns c =
-    let at-told = c .before .before in let at-back = at-told .before .before in let at-read = at-back .before .before .before in
-    let s = start (before-table (at-read .before)) in let told = at-told .enum-told .given .1 in
+    let at-told = c .before .before in let at-back = at-told .before .before in let at-seat = at-back .before .before .before in
+    let s = start (before-table (at-seat .before)) in let told = at-told .enum-told .given .1 in
     λ p o.
-    refused-answers
-    (image-refused (o .admitted) (o .typed) refl (s .args .table .now) _ (sym (at-read .read-image .ensures .0) ∙ told))
-    (rw (c .before .table-refusal .ensures, told) at (c .refused .ensures))
+    refused-answers (with-refused (s .args .table .now) p (rw told at (at-seat .seat-table .ensures (s .args .s .now) p (opens-admits o))))
+    (rw (c .before .refusal .ensures, told) at (c .refused .ensures))
 
-abbrev at-read : tie.After-read → tie.After-read-image
-at-read c = let at-back = c .before .before in at-back .before .before .before
+abbrev at-seat : tie.After-seated → tie.After-seat-table
+at-seat c = let at-back = c .before .before in at-back .before .before .before
 
-abbrev the-start : tie.After-read → tie.Start
-the-start c = start (before-table (at-read c .before))
+abbrev the-start : tie.After-seated → tie.Start
+the-start c = start (before-table (at-seat c .before))
 
-abbrev heads-of : tie.After-read → List ℕ
-heads-of c = at-read c .read-image .last .1 .1 .1 .1 .0
+abbrev counts-of : tie.After-seated → List ℕ
+counts-of c = take (the-start c .args .p .structs) (the-start c .args .q .counts)
 
-abbrev cells-of : tie.After-read → List ℕ
-cells-of c = at-read c .read-image .last .1 .1 .1 .1 .1 .0
+abbrev heads-of : tie.After-seated → List ℕ
+heads-of c = at-seat c .seat-table .last .1 .1 .1 .1 .1 .0
+
+abbrev cells-of : tie.After-seated → List ℕ
+cells-of c = at-seat c .seat-table .last .1 .1 .1 .1 .1 .1 .0
 
 -- the machine that the table begins with is seated
-seated : (c : tie.After-read) (p : Program) (o : OpensAt (the-start c) p)
-    → SeatedTable (o .admitted) (o .typed) {c = accepted p} refl (the-start c .args .table .now) (c .read .given .0 .0) (heads-of c) (cells-of c)
-seated c p o =
-    image-seated (o .admitted) (o .typed) refl (the-start c .args .table .now) _ _ _ _ (simp length-replicate (omega arith))
-    (simp length-replicate (omega arith)) (at-read c .read-image .ensures .1) (sym (at-read c .read-image .ensures .0) ∙ c .read .given .1)
+seated : (c : tie.After-seated) (p : Program) (o : OpensAt (the-start c) p)
+    → SeatedTable (the-start c .args .s .now) (counts-of c) p (the-start c .args .table .now) (Taken (c .seated .given .0 .0)) (heads-of c) (cells-of c)
+seated c p o = rw (c .seated .given .1) at (at-seat c .seat-table .ensures (the-start c .args .s .now) p (opens-admits o))
+
+-- and a run begins with it
+begins : (c : tie.After-seated) (p : Program) (o : OpensAt (the-start c) p) → with-table (the-start c .args .table .now) p ≡ begun p (seated c p o .0)
+begins c p o = with-begun (the-start c .args .table .now) p (seated c p o .1)
 
 -- The room that is lent ----------------------------------------------------------------------
 
+-- the table, from before 13 and after it
+abbrev of-then : tie.Then1 → tie.After-seated
+of-then c = c .before .before
+
+abbrev of-else : tie.Else1 → tie.After-seated
+of-else c = c .before .before
+
 returns-2 : tie.Need-returns-2
-returns-2 c =
-    let at-then = c .before in let r = at-then .before .before in
-    λ p o. output-short (seated r p o .1) (at-then .if1 .taken) (c .refused2 .ensures)
+returns-2 c = let at-then = c .before in λ p o. output-short (begins (of-then at-then) p o) (at-then .if1 .taken) (c .refused2 .ensures)
 
 returns-3 : tie.Need-returns-3
 returns-3 c =
-    let at-then = c .before in let at-else = at-then .before in let r = at-else .before .before in
-    λ p o. list-short (seated r p o .1) (at-else .if1 .left) (at-then .if2 .taken) (c .refused3 .ensures)
+    let at-then = c .before in let at-else = at-then .before in
+    λ p o. list-short (begins (of-else at-else) p o) (at-else .if1 .left) (at-then .if2 .taken) (c .refused3 .ensures)
 
 returns-4 : tie.Need-returns-4
 returns-4 c =
-    let at-then = c .before in let at-else2 = at-then .before in let at-else = at-else2 .before in let r = at-else .before .before in
-    λ p o. turns-many (seated r p o .1) (at-else .if1 .left) (at-else2 .if2 .left) (at-then .if3 .taken) (c .refused4 .ensures)
+    let at-then = c .before in let at-else2 = at-then .before in let at-else = at-else2 .before in
+    λ p o. turns-many (begins (of-else at-else) p o) (at-else .if1 .left) (at-else2 .if2 .left) (at-then .if3 .taken) (c .refused4 .ensures)
 
 -- The run ------------------------------------------------------------------------------------
 
--- the table, from behind 14
-abbrev the-read : tie.After-fresh → tie.After-read
-the-read c = let at-else = c .before .before .before in at-else .before .before
+-- the table, from after 14
+abbrev the-seated : tie.Else3 → tie.After-seated
+the-seated c = of-else (c .before .before)
 
 -- what was opened before it
-abbrev opened : (c : tie.After-fresh) → OpensAt (the-start (the-read c)) (the-start (the-read c) .pre .0)
-opened c = the-start (the-read c) .pre .1
+abbrev opened : (c : tie.Else3) → OpensAt (the-start (the-seated c)) (the-start (the-seated c) .pre .0)
+opened c = the-start (the-seated c) .pre .1
 
-abbrev at-fresh : tie.After-played-arg → tie.After-fresh
-at-fresh c = c .before .before .before
+abbrev after-14 : tie.After-played-arg → tie.Else3
+after-14 c = c .before .before .before
 
 played-requires : tie.Need-played-requires
 played-requires c κs =
-    let f = at-fresh c in let w = seated (the-read f) _ (opened f) in
-    ((the-start (the-read f) .pre .0, begin _ (w .0), w .2 (f .fresh .result) (f .fresh .ensures)), f .before .before .if2 .left)
-
-abbrev the-fresh : tie.After-played → tie.After-fresh
-the-fresh c = at-fresh (c .before)
+    let e = after-14 c in let r = the-seated e in let w = seated r _ (opened e) in
+    ((the-start r .pre .0, begin _ (w .0), w .2), e .before .if2 .left)
 
 -- what was played, of any program that is opened
-plays : (c : tie.After-played) (p : Program) (o : OpensAt (the-start (the-read (the-fresh c))) p)
-    → Played (take (the-start (the-read (the-fresh c)) .args .p .structs) (the-start (the-read (the-fresh c)) .args .q .counts))
-    (the-start (the-read (the-fresh c)) .args .turns .now) (the-start (the-read (the-fresh c)) .args .list .now) p
-    (begin p (seated (the-read (the-fresh c)) p o .0)) (c .played .result .number) (c .played .result .taken)
+plays : (c : tie.After-played) (p : Program) (o : OpensAt (the-start (the-seated (after-14 (c .before)))) p)
+    → Played (counts-of (the-seated (after-14 (c .before)))) (the-start (the-seated (after-14 (c .before))) .args .turns .now)
+    (the-start (the-seated (after-14 (c .before))) .args .list .now) p (begin p (seated (the-seated (after-14 (c .before))) p o .0))
+    (c .played .result .number) (c .played .result .taken)
     (state-of (c .played .result .machine .numbers) (c .played .last .1 .1 .1 .0) (c .played .last .1 .1 .1 .1 .0)) (c .played .last .1 .1 .1 .1 .1 .1 .0)
-plays c p o =
-    let f = the-fresh c in let w = seated (the-read f) p o in c .played .ensures p (begin p (w .0)) (w .2 (f .fresh .result) (f .fresh .ensures))
+plays c p o = let w = seated (the-seated (after-14 (c .before))) p o in c .played .ensures p (begin p (w .0)) (w .2)
 
 abbrev at-played : tie.After-cells5 → tie.After-played
 at-played c = let at-list = c .before .before .before in at-list .before .before .before
 
 reported-requires : tie.Need-reported-requires
 reported-requires c κs =
-    let d = at-played (c .before .before) in let f = the-fresh d in let at-else = f .before in let o = opened f in let w = plays d _ o in
+    let d = at-played (c .before .before) in let e = after-14 (d .before) in let o = opened e in let w = plays d _ o in
     let a = o .admitted in (
       played-filled a w,
       (
-        (played-nulls a w, omega (arith, played-turns a w, at-else .if3 .left), played-holders a w),
-        (omega (arith, at-read (the-read f) .read-image .kept .1 .1 .1 .0), at-else .before .before .if1 .left),
+        (played-nulls a w, omega (arith, played-turns a w, e .if3 .left), played-holders a w),
+        (omega (arith, at-seat (the-seated e) .seat-table .kept .1 .1 .1 .1 .0), e .before .before .if1 .left),
       ),
     )
 
 returns-5 : tie.Need-returns-5
 returns-5 c =
-    let at-reported = c .before .before .before in let d = at-played (at-reported .before .before .before) in let at-else = the-fresh d .before in
-    let r = the-read (the-fresh d) in
+    let at-reported = c .before .before .before in let d = at-played (at-reported .before .before .before) in let e = after-14 (d .before) in
     λ p o. let w = plays d p o in
     let came = played-came (o .admitted) w (o .deep) _ _ (at-reported .reported .ensures .0) (at-reported .reported .ensures .1) in
-    came-answers (seated r p o .1) (at-else .before .before .if1 .left) (at-else .before .if2 .left) (at-else .if3 .left) came (w .listed)
+    came-answers (begins (the-seated e) p o) (e .before .before .if1 .left) (e .before .if2 .left) (e .if3 .left) came (w .listed)
 
 pub begun-spec : {M : Type 1} → statement M
 begun-spec =
     tie.close
     (tie.spec (λ c. search needs) (λ c. search needs) array-share-prefix-counts slice-aggregate-cs array-share-prefix-types slice-aggregate-ts
-    (λ c. search needs) (λ c. search needs) (λ c. search needs) read-image-requires (λ c. search needs) (λ c. search needs) (λ c κs. search needs)
+    (λ c. search needs) (λ c. search needs) (λ c. search needs) seat-table-requires (λ c. search needs) (λ c. search needs) (λ c κs. search needs)
     (λ c κs. search needs) returns (λ c κs. search needs) returns-2 (λ c κs. search needs) returns-3 (λ c κs. search needs) returns-4
-    (λ c κs. search needs) (λ c. search needs) (λ c. search needs) played-requires (λ c. search needs) (λ c. search needs) (λ c. search needs)
+    (λ c. search needs) (λ c. search needs) played-requires (λ c. search needs) (λ c. search needs) (λ c. search needs)
     reported-requires (λ c. search needs) (λ c. search needs) returns-5)

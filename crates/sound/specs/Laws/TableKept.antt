@@ -27,12 +27,13 @@ use Rattle.table.specs.SizeLaws.{table-length, program-table-fits}
 use Rattle.machine.specs.Published.{Env, Env.env, structs}
 use Rattle.machine.specs.Machine.{Instance, Machine}
 use Rattle.run.specs.Visits.{Visits}
+use Rattle.types.specs.Stages.{Stage.went, Stage.stopped as not-begun}
 use Rattle.run.specs.Begin.{params-in, record-of, table-of}
 use Rattle.run.specs.Runs.{Config, StandsFor}
 use Rattle.run.specs.Comes.{Comes}
 use Rattle.run.specs.Laws.OutcomeLaws.{outcome-complete}
 use Rattle.run.specs.Laws.RunAgreesVisits.{run-visits}
-use Rattle.run.specs.Entry.{Begun, Begun.begun, Begun.not-begun, begins, output-of, run-output-by, run-output}
+use Rattle.run.specs.Entry.{Begun, begins, output-of, run-output-by, run-output}
 use Rattle.run.specs.Input.{TableAccepted}
 use Rattle.run.specs.Laws.InputLaws.{begins-ready}
 use Rattle.sound.specs.Needs.{ValueAmong}
@@ -165,7 +166,7 @@ output-length x y es out list = go (begins x y es out list) refl
   where
     go : (b : Begun) → begins x y es out list ≡ b → length (run-output-by b es out) ≡ length out
     go (not-begun n) e = refl
-    go (begun p rs) e =
+    go (went (p, rs)) e =
         let r = begins-ready x y es out list p rs .0 e in
         let ok = ready-accepted r in
         let d = demand3 ok rs (r .table .right) es in

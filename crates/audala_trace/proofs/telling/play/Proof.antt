@@ -12,7 +12,7 @@ use Rattle.machine.specs.Machine.{Machine}
 use Rattle.layout.specs.State.{state-of}
 use Rattle.compile.specs.Spans.{span-places}
 use Rattle.interpreter.specs.Ready.{Ready}
-use Rattle.run_images.specs.Stages.{Seated}
+use Rattle.seating.specs.Seated.{Seated}
 use Rattle.run_images.specs.RunLaws.{seated-preparable, seated-ready}
 use Rattle.audala_trace.specs.Pages.{Lies}
 use Rattle.audala_trace.specs.PlayWays.{turns-left, Goes, goes-takeable, refused-goes, taken-standing, taken-goes, first-goes, goes-ran}

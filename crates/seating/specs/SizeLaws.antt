@@ -19,8 +19,8 @@ use Rattle.commands.specs.Bounds.{total, item-count, items-count, Within}
 use Rattle.commands.specs.Laws.NumbersLaws.{number-accepts}
 use Rattle.load.specs.declared.Loaded.{Loaded}
 use Rattle.load.specs.LoadLaws.{LoadedAs, accepted-source}
-use Rattle.table_write.specs.WrittenWays.{word-length}
-use Rattle.run_images.specs.Stages.{most-bytes}
+use Rattle.table.specs.SizeLaws.{word-length}
+use Rattle.seating.specs.Seated.{most-bytes}
 
 -- at most five bytes for a command
 mutual

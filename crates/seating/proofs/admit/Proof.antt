@@ -1,13 +1,13 @@
--- `kept` meets its contract: the image is refused, or its stream, which is short, is moved.
+-- `admit` meets its contract: the image is refused, or its stream, which is short, is moved.
 use native.Mathlib.Omega.{arith}
 use mathlib.Core.Path.{sym, _∙_}
 use lib.Seq.{length-take-le}
 use Rattle.load.specs.LoadLaws.{LoadedAs, load-refused, load-value, length-fits, refused-held}
-use Rattle.run_images.specs.SizeLaws.{loaded-short}
-use Rattle.run_images.specs.KeptLaws.{kept-held}
+use Rattle.seating.specs.SizeLaws.{loaded-short}
+use Rattle.seating.specs.AdmitLaws.{kept-held}
 use borrow.Author.Needs.{needs}
-use Rattle.run_images.proofs.kept.Statement.{statement}
-use Rattle.run_images.proofs.kept.Tie as tie
+use Rattle.seating.proofs.admit.Statement.{statement}
+use Rattle.seating.proofs.admit.Tie as tie
 
 -- the places that proofs look back to
 abbrev start : tie.After-program → tie.Start
@@ -50,8 +50,8 @@ returns-2 c =
     let at-copy = c .before .before in let at-told = at-copy .before .before .before in let at-r = at-told .before in let p = the-program at-r in
     (sym (at-r .r .given .1) ∙ p .program .ensures .0, kept-held _ _ (loads at-r) _ _ _ _ _ _ _ _ (p .program .ensures .1) (at-copy .copy .ensures))
 
-pub kept-spec : {M : Type 1} → statement M
-kept-spec =
+pub admit-spec : {M : Type 1} → statement M
+admit-spec =
     tie.close
     (tie.spec (λ c. search needs) (λ c κs. search needs) (λ c. search needs) (λ c. search needs) (λ c. search needs) (λ c. search needs) returns
     array-share-prefix-stream slice-aggregate-copy copy-requires (λ c. search needs) (λ c. search needs) (λ c. search needs) returns-2)

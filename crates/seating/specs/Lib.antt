@@ -1,0 +1,4 @@
+pub mod Seated
+pub mod SizeLaws
+pub mod AdmitLaws
+pub mod SeatLaws
