@@ -111,7 +111,7 @@ fn behind(made: Told, step: usize, taken: usize, page: Page) -> Telling
 }
 
 // A move of the schedule, with its line.
-fn moved(s: Telling, items: &[usize], spans: &[u16], heads: &mut [usize], out: &mut [u8]) -> Telling
+fn moved(s: Telling, items: &[usize], spans: &[u16], heads: &mut [u16], out: &mut [u8]) -> Telling
     requires { ⌜ Moveable (now items) (now spans) (now heads) s ⌝ }
     requires { ⌜ Lies (s .page) (now out) ⌝ }
     ensures { λ r. ⌜ Moves (now (items .entry)) (now (spans .entry)) s (now (heads .entry)) (now (out .entry)) r (now (heads .exit)) (now (out .exit)) ⌝ }
@@ -130,7 +130,7 @@ fn settle(
     s: Telling,
     items: &[usize],
     spans: &[u16],
-    heads: &mut [usize],
+    heads: &mut [u16],
     out: &mut [u8],
 ) -> Telling
     requires { ⌜ Standing (now items) (now spans) (now heads) (s .coming .machine .numbers) × (s .coming .step < step-names) ⌝ }
@@ -154,7 +154,7 @@ fn turn(
     list: &[u64],
     counts: &[u8],
     spans: &[u16],
-    heads: &mut [usize],
+    heads: &mut [u16],
     cells: &mut [u64],
     out: &mut [u8],
 ) -> Telling
@@ -180,7 +180,7 @@ pub(crate) fn play(
     s: &[u8],
     counts: &[u8],
     seat: Seat,
-    heads: &mut [usize],
+    heads: &mut [u16],
     cells: &mut [u64],
     turns: &[u8],
     out: &mut [u8],

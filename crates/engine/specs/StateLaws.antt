@@ -1,11 +1,11 @@
 -- The answer of a command makes the machine's next state, with the number of its holders and the label that turns are counted from (01, 'Table
 -- and turns'; 02, 'Holders kept as a number', 'Turns that go round').
-use Prim.Native.Nat.{ℕ, suc, _-_, _%_, _<_, _≤_}
+use Prim.Native.Nat.{ℕ, suc, _-_, _%_}
 use mathlib.Core.Path.{_≡_, refl, ap, _∙_}
+use mathlib.Core.Bool.{true, false}
 use mathlib.Core.List.{List}
-use lib.ListN.{getD}
-use borrow.Author.Tests.{lt-ltb, le-ltb, eq-eqb, ne-eqb}
-use Rattle.layout.specs.Layout.{operand, head, next-of, end-of, holds}
+use borrow.Author.Tests.{eq-eqb, ne-eqb}
+use Rattle.layout.specs.Layout.{operand, holds}
 use Rattle.layout.specs.declared.Numbers.{Numbers}
 use Rattle.layout.specs.State.{state-of, set-holding, set-from}
 use Rattle.memory.specs.Choose.{fewer}
@@ -31,13 +31,13 @@ module _ (list counts h c : List ℕ) (l : ℕ) (m : Numbers) where
 -- The count behind a command of instance l ------------------------------------------
 
 module _ (heads : List ℕ) (l n : ℕ) where
-  pub actor-holds : getD heads (head l next-of) 0 < getD heads (head l end-of) 0 → n ≡ fewer (holds heads l) n
+  pub actor-holds : holds heads l ≡ true → n ≡ fewer (holds heads l) n
   unfolding fewer
-  actor-holds h = rw (lt-ltb (getD heads (head l next-of) 0) (getD heads (head l end-of) 0) h)
+  actor-holds h = rw h
 
-  pub actor-ended : getD heads (head l end-of) 0 ≤ getD heads (head l next-of) 0 → n - 1 ≡ fewer (holds heads l) n
+  pub actor-ended : holds heads l ≡ false → n - 1 ≡ fewer (holds heads l) n
   unfolding fewer
-  actor-ended h = rw (le-ltb (getD heads (head l next-of) 0) (getD heads (head l end-of) 0) h)
+  actor-ended h = rw h
 
 -- The label that turns are counted from ---------------------------------------------
 

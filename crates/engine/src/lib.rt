@@ -44,12 +44,11 @@ fn after(numbers: Numbers, acted: Acted) -> Numbers
 }
 
 // How many hold commands behind a command of instance l, where n did before it: the others hold what they held.
-fn left_holding(heads: &[usize], l: usize, n: usize) -> usize
+fn left_holding(heads: &[u16], l: usize, n: usize) -> usize
     requires { ⌜ (head l end-of < length (now heads)) × (0 < n) ⌝ }
     ensures { λ r. ⌜ r ≡ fewer (holds (now (heads .entry)) l) n ⌝ }
 {
-    let at = layout::HEAD_SIZE * l;
-    if heads[at + layout::NEXT] < heads[at + layout::END] {
+    if layout::holds(heads, l) {
         return n;
     }
     n - 1
@@ -74,7 +73,7 @@ impl Machine {
         mut self,
         list: &[u64],
         counts: &[u8],
-        heads: &mut [usize],
+        heads: &mut [u16],
         cells: &mut [u64],
         l: usize,
     ) -> Machine
@@ -83,7 +82,7 @@ impl Machine {
         ensures { λ r. ⌜ state-of (r .numbers) (now (heads .exit)) (now (cells .exit)) ≡ act (now (list .entry)) (now (counts .entry)) l
             (state-of (self .numbers) (now (heads .entry)) (now (cells .entry))) ⌝ }
     {
-        let at = heads[layout::HEAD_SIZE * l + layout::NEXT];
+        let at = layout::head(heads, l, layout::NEXT);
         let numbers = self.numbers;
         let acted = perform(counts, heads, cells, l, numbers.count, list[at]);
         let mut next = after(numbers, acted);
@@ -93,7 +92,7 @@ impl Machine {
     }
 
     // One move of the schedule, where no instance holds commands.
-    pub fn advance(mut self, items: &[usize], spans: &[u16], heads: &mut [usize]) -> Machine
+    pub fn advance(mut self, items: &[usize], spans: &[u16], heads: &mut [u16]) -> Machine
         requires { ⌜ Movable (now items) (now spans) (now heads) (self .numbers) ⌝ }
         ensures { λ r. ⌜ ((cells : List ℕ) → state-of (r .numbers) (now (heads .exit)) cells ≡ move (now (items .entry)) (now (spans .entry))
             (state-of (self .numbers) (now (heads .entry)) cells)) ⌝ }

@@ -1,33 +1,41 @@
 -- A command by its kind: what its function needs, and that its answer is the command's (01, 'Table and turns').
-use Prim.Native.Nat.{ℕ, suc, _+_, _%_, _^_, _<_, _≤_}
+use Prim.Native.Nat.{ℕ, suc, _+_, _%_, _<_, _≤_}
 use native.Mathlib.Omega.{arith}
 use mathlib.Core.Path.{_≡_, refl, subst, _∙_}
 use mathlib.Core.List.{List}
 use lib.ListN.{getD}
-use Rattle.layout.specs.Layout.{head, next-of, end-of, operand}
+use Rattle.layout.specs.Layout.{head, head-end, height-of, next-of, end-of, operand}
 use Rattle.layout.specs.State.{State}
 use Rattle.memory.specs.Act.{perform}
 use Rattle.memory.specs.Fit.{Needed}
+use Rattle.execute_stack.specs.declared.Actor.{Actor}
 use Rattle.execute_stack.specs.declared.Acted.{Acted}
 use Rattle.execute_stack.specs.Answers.{seen, Acting, on, DoesWith}
 use Rattle.execute.specs.Ready.{Room, memory, Ready}
 
--- the actor as memory has it may act: behind its command there is a place, where the end of its commands is a number of the machine's
-pub acting : {h c : List ℕ} {l : ℕ} → Room h c l → getD h (head l end-of) 0 < 2 ^ 64 → Acting h c (seen h l)
+-- the actor as memory has it may act: behind its command there is a place, where the end of its commands is a number of two bytes
+pub acting : {h c : List ℕ} {l : ℕ} → Room h c l → getD h (head l end-of) 0 < head-end → Acting h c (seen h l)
 acting {h} {c} {l} r f =
     let q : getD h (head l next-of) 0 < getD h (head l end-of) 0 = r .next in
     record { chosen = r .chosen; heads-long = r .heads-long; cells-long = r .cells-long; height = refl; next = refl; more = omega arith }
 
-module _ (counts h c : List ℕ) (l n w k : ℕ) (e : w % 256 ≡ k) where
+-- what holds of the actor as memory has it holds of one with its numbers as they were read
+pub handed : (h : List ℕ) (l : ℕ) {x y : ℕ} → x ≡ getD h (head l height-of) 0 → y ≡ getD h (head l next-of) 0 → (P : Actor → Type 0) → P (seen h l)
+    → P (record { label = l; height = x; next = y })
+handed h l {x} {y} d e P =
+    let same : seen h l ≡ record { label = l; height = x; next = y } = rw (d, e) in
+    subst P same
+
+module _ (counts h c : List ℕ) (l n w k : ℕ) (e : w % 256 ≡ k) {v : ℕ} (o : v ≡ operand w) where
   -- what a command of kind k needs
-  pub needed-by : Ready counts h c l n w → Needed counts l (memory h c) k (operand w)
-  needed-by r = subst (λ (x : ℕ). Needed counts l (memory h c) x (operand w)) e (r .needed)
+  pub needed-by : Ready counts h c l n w → Needed counts l (memory h c) k v
+  needed-by r = rw (o) (subst (λ (x : ℕ). Needed counts l (memory h c) x (operand w)) e (r .needed))
 
   -- where f is the command of kind k, what does f does the command
-  pub performs : (f : State → State) → ((z : State) → f z ≡ perform counts l z k w (operand w)) → (r : Acted) (h′ c′ : List ℕ)
+  pub performs : (f : State → State) → ((z : State) → f z ≡ perform counts l z k w v) → (r : Acted) (h′ c′ : List ℕ)
       → DoesWith n f r h c h′ c′
       → DoesWith n (λ z. perform counts l z (w % 256) w (operand w)) r h c h′ c′
-  performs f g r h′ c′ d z q = rw e (d z q ∙ g (on z h c))
+  performs f g r h′ c′ d z q = rw (e, ← o) (d z q ∙ g (on z h c))
 
 -- The last kind ---------------------------------------------------------------------
 

@@ -19,7 +19,7 @@ ghost use Rattle.execute.specs.Ready.{Ready};
 // Instance l, one of count, takes the command w: its kind is the lowest byte, its operand the upper half.
 pub fn perform(
     counts: &[u8],
-    heads: &mut [usize],
+    heads: &mut [u16],
     cells: &mut [u64],
     l: usize,
     count: usize,
@@ -31,11 +31,11 @@ pub fn perform(
 {
     let a = Actor {
         label: l,
-        height: heads[layout::HEAD_SIZE * l + layout::HEIGHT],
-        next: heads[layout::HEAD_SIZE * l + layout::NEXT],
+        height: layout::head(heads, l, layout::HEIGHT),
+        next: layout::head(heads, l, layout::NEXT),
     };
     let kind = w % 256;
-    let v = w / types::NAT_END;
+    let v = layout::operand(w);
     match kind {
         1 => push(heads, cells, a, w),
         2 => push_this(heads, cells, a),

@@ -25,7 +25,7 @@ fn copy(cells: &mut [u64], from: usize, to: usize, n: usize)
 // cons k: the values on top become the parameters of the new instance, whose label takes their place.
 pub fn construct(
     counts: &[u8],
-    heads: &mut [usize],
+    heads: &mut [u16],
     cells: &mut [u64],
     a: Actor,
     count: usize,

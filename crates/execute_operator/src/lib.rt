@@ -29,7 +29,7 @@ fn result_byte(o: u8, t: u8) -> u8
 }
 
 // op o: the value beneath is the left operand.
-pub fn operate(heads: &mut [usize], cells: &mut [u64], a: Actor, o: u8) -> Acted
+pub fn operate(heads: &mut [u16], cells: &mut [u64], a: Actor, o: u8) -> Acted
     requires { ⌜ Acting (now heads) (now cells) a ⌝ }
     requires { ⌜ OpFit (a .height) (second (now cells) a) (topmost (now cells) a) o ⌝ }
     ensures { λ r. ⌜ Does (λ z. do-op [] (a .label) z o) r (now (heads .entry)) (now (cells .entry)) (now (heads .exit)) (now (cells .exit)) ⌝ }
@@ -38,12 +38,12 @@ pub fn operate(heads: &mut [usize], cells: &mut [u64], a: Actor, o: u8) -> Acted
     let h = a.height;
     let x = cells[layout::ROW_SIZE * l + types::VARIABLES + (h - 2)];
     let y = cells[layout::ROW_SIZE * l + types::VARIABLES + (h - 1)];
-    let t = (x / 256 % 256) as u8;
+    let t = layout::type_byte(x);
     let answer = apply_word(
         o,
         t,
-        (x / types::NAT_END) as u32,
-        (y / types::NAT_END) as u32,
+        layout::operand(x) as u32,
+        layout::operand(y) as u32,
     );
     match answer {
         Answered::Value(v) => {

@@ -1,11 +1,11 @@
 -- What the code of a command is handed, and what its answer says (01, 'Table and turns'): the code holds heads and cells alone, and
 -- tells by its answer what becomes of the rest of the state.
-use Prim.Native.Nat.{ℕ, suc, _+_, _-_, _*_, _^_, _<_}
+use Prim.Native.Nat.{ℕ, suc, _+_, _-_, _*_, _<_}
 use mathlib.Core.Path.{_≡_}
 use mathlib.Core.List.{List}
 use lib.ListN.{length, getD}
 use Rattle.types.specs.Limits.{max-instances}
-use Rattle.layout.specs.Layout.{head-size, row-size, head, height-of, next-of, stacked}
+use Rattle.layout.specs.Layout.{head-size, head-end, row-size, head, height-of, next-of, stacked}
 use Rattle.layout.specs.State.{State, with-heads, with-cells, with-count, times, unstable, refused}
 use Rattle.execute_stack.specs.declared.Actor.{Actor}
 use Rattle.execute_stack.specs.declared.Acted.{Acted}
@@ -22,7 +22,7 @@ pub record Acting (h c : List ℕ) (a : Actor) : Type 0 where
   pub cells-long : length c ≡ row-size * max-instances
   pub height : a .height ≡ getD h (head (a .label) height-of) 0
   pub next : a .next ≡ getD h (head (a .label) next-of) 0
-  pub more : a .next + 1 < 2 ^ 64
+  pub more : a .next + 1 < head-end
 
 -- the cell on top of the actor's stack, and the one beneath it
 abbrev pub topmost : List ℕ → Actor → ℕ

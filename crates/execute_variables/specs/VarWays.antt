@@ -1,7 +1,7 @@
 -- Each way through the commands on variables, over plain values (01, 'Table and turns').
 use Prim.Native.Nat.{ℕ, _+_, _-_, _<_, _≤_}
 use native.Mathlib.Numerals.{add-one}
-use mathlib.Core.Path.{_≡_, refl, _∙_}
+use mathlib.Core.Path.{_≡_, refl, ap, _∙_}
 use mathlib.Core.Bool.{true}
 use mathlib.Core.List.{List, []}
 use lib.ListN.{length, getD, set}
@@ -22,6 +22,10 @@ target c a = operand (topmost c a)
 
 abbrev own : List ℕ → List ℕ → List ℕ → Actor → ℕ
 own counts h c a = getD counts (getD h (head (target c a) struct-of) 0) 0
+
+-- its struct, by the label and the number as they were read
+pub struct-read : (h c : List ℕ) (a : Actor) {r k : ℕ} → r ≡ target c a → k ≡ getD h (head r struct-of) 0 → k ≡ getD h (head (target c a) struct-of) 0
+struct-read h c a e f = f ∙ ap (λ (r : ℕ). getD h (head r struct-of) 0) e
 
 -- what every write leaves of the actor's numbers
 abbrev Gone : List ℕ → Actor → List ℕ → Type 0

@@ -14,7 +14,7 @@ ghost use Rattle.execute_stack.specs.Answers.{Acting, topmost, Does};
 ghost use Rattle.execute_variables.specs.Change.{change};
 
 // rd x: the variable of the instance whose label is on top.
-pub fn read(heads: &mut [usize], cells: &mut [u64], a: Actor, x: usize) -> Acted
+pub fn read(heads: &mut [u16], cells: &mut [u64], a: Actor, x: usize) -> Acted
     requires { ⌜ Acting (now heads) (now cells) a ⌝ }
     requires { ⌜ RdFit (a .height) (topmost (now cells) a) max-instances x ⌝ }
     ensures { λ r. ⌜ Does (λ z. do-rd [] (a .label) z x) r (now (heads .entry)) (now (cells .entry)) (now (heads .exit)) (now (cells .exit)) ⌝ }
@@ -22,7 +22,7 @@ pub fn read(heads: &mut [usize], cells: &mut [u64], a: Actor, x: usize) -> Acted
     let l = a.label;
     let low = a.height - 1;
     let t = cells[layout::ROW_SIZE * l + types::VARIABLES + low];
-    let r = (t / types::NAT_END) as usize;
+    let r = layout::operand(t) as usize;
     let c = cells[layout::ROW_SIZE * r + x];
     put(heads, cells, l, low, c, a.next + 1);
     Acted::Kept
@@ -34,13 +34,13 @@ fn replace(cells: &mut [u64], at: usize, c: u64) -> Acted
     ensures { λ r. ⌜ r ≡ change (getD (now (cells .entry)) at 0) c ⌝ }
     ensures { λ _. ⌜ now (cells .exit) ≡ set (now (cells .entry)) at c ⌝ }
 {
-    let old = cells[at] / types::NAT_END;
+    let old = layout::operand(cells[at]);
     cells[at] = c;
-    Acted::Wrote(old == c / types::NAT_END)
+    Acted::Wrote(old == layout::operand(c))
 }
 
 // wr x: the value beneath the label on top. A parameter of a null instance stays as it is; a local's write multiplies by 1.
-pub fn write(counts: &[u8], heads: &mut [usize], cells: &mut [u64], a: Actor, x: usize) -> Acted
+pub fn write(counts: &[u8], heads: &mut [u16], cells: &mut [u64], a: Actor, x: usize) -> Acted
     requires { ⌜ Acting (now heads) (now cells) a ⌝ }
     requires { ⌜ WrFit (a .height) (topmost (now cells) a) max-instances x (getD (now heads) (head (operand (topmost (now cells) a)) struct-of) 0)
         (length (now counts)) ⌝ }
@@ -51,8 +51,8 @@ pub fn write(counts: &[u8], heads: &mut [usize], cells: &mut [u64], a: Actor, x:
     let h = a.height;
     let t = cells[layout::ROW_SIZE * l + types::VARIABLES + (h - 1)];
     let c = cells[layout::ROW_SIZE * l + types::VARIABLES + (h - 2)];
-    let r = (t / types::NAT_END) as usize;
-    let k = heads[layout::HEAD_SIZE * r + layout::STRUCT];
+    let r = layout::operand(t) as usize;
+    let k = layout::head(heads, r, layout::STRUCT);
     layout::go(heads, l, h - 2, a.next + 1);
     if x < counts[k] as usize {
         if r < counts.len() {

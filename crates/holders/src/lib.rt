@@ -45,7 +45,7 @@ pub fn holder_of(rs: [Record; types::MAX_INSTANCES], n: usize, from: usize, r: u
 }
 
 // The records of n instances; behind them those of nobody.
-pub fn records(heads: &[usize], n: usize) -> [Record; types::MAX_INSTANCES]
+pub fn records(heads: &[u16], n: usize) -> [Record; types::MAX_INSTANCES]
     requires { ⌜ (head-size * n ≤ length (now heads)) × (n ≤ max-instances) ⌝ }
     ensures { λ rs. ⌜ Recorded (now (heads .entry)) n rs ⌝ }
 {

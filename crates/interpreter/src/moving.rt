@@ -8,7 +8,7 @@ ghost use Rattle.interpreter.specs.Running.{Standing, Settling};
 
 // Where the moves of a machine lead: where no instance holds commands then, the schedule is at its end. Memory is free up to the machine that
 // it stands for: nothing is said of cells above a stack, nor where an instance without commands has its next one.
-pub fn settle(machine: Machine, items: &[usize], spans: &[u16], heads: &mut [usize]) -> Machine
+pub fn settle(machine: Machine, items: &[usize], spans: &[u16], heads: &mut [u16]) -> Machine
     requires { ⌜ Standing (now items) (now spans) (now heads) (machine .numbers) ⌝ }
     ensures { λ r. ⌜ ((cells : List ℕ) → Settling (now (items .entry)) (now (spans .entry)) (state-of (machine .numbers) (now (heads .entry)) cells)
         (state-of (r .numbers) (now (heads .exit)) cells)) ⌝ }

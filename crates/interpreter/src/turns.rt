@@ -73,7 +73,7 @@ fn turn(
     l: usize,
     list: &[u64],
     counts: &[u8],
-    heads: &mut [usize],
+    heads: &mut [u16],
     cells: &mut [u64],
     turns: &[u8],
 ) -> Going
@@ -97,7 +97,7 @@ fn take_turns(
     rs: [Record; types::MAX_INSTANCES],
     list: &[u64],
     counts: &[u8],
-    heads: &mut [usize],
+    heads: &mut [u16],
     cells: &mut [u64],
     turns: &[u8],
 ) -> Going
@@ -128,7 +128,7 @@ pub fn run(
     counts: &[u8],
     items: &[usize],
     spans: &[u16],
-    heads: &mut [usize],
+    heads: &mut [u16],
     cells: &mut [u64],
     turns: &[u8],
 ) -> Ran

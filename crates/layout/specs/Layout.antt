@@ -1,4 +1,4 @@
--- How a machine stands in the memory that a run is lent (01, 'Table and turns'): four numbers for each instance in `heads`, and
+-- How a machine stands in the memory that a run is lent (01, 'Table and turns'): six numbers for each instance in `heads`, and
 -- thirty-two cells, sixteen for its variables and sixteen for its stack, in `cells`. A cell holds a value as the command list holds
 -- `push T V`, so that a push copies.
 use Prim.Native.Nat.{ℕ, _+_, _*_, _/_, _%_}
@@ -10,9 +10,13 @@ use Rattle.types.specs.Limits.{nat-end, variables}
 use Rattle.types.specs.Types.{struct-code}
 use Rattle.commands.specs.Coding.{coded}
 
--- the numbers of an instance: its struct, the height of its stack, the place of its next command, the end of its commands
+-- the numbers of an instance, two bytes each: its struct, the height of its stack, the place of its next command, the end of its commands;
+-- its owner (02, section 12) and its mark of an iterator (02, section 10)
 abbrev pub head-size : ℕ
-head-size = 4
+head-size = 6
+
+abbrev pub head-end : ℕ
+head-end = 65536
 
 abbrev pub struct-of : ℕ
 struct-of = 0
@@ -25,6 +29,12 @@ next-of = 2
 
 abbrev pub end-of : ℕ
 end-of = 3
+
+abbrev pub owner-of : ℕ
+owner-of = 4
+
+abbrev pub pending-of : ℕ
+pending-of = 5
 
 -- number f of instance l
 abbrev pub head : ℕ → ℕ → ℕ
@@ -60,9 +70,9 @@ holds heads l = ltb (getD heads (head l next-of) 0) (getD heads (head l end-of) 
 
 -- What is written to the numbers of an instance -------------------------------------
 
--- those of a new instance of struct k: an empty stack, no commands
+-- those of a new instance of struct k: an empty stack, no commands, no owner, no mark
 abbrev pub new-head : ℕ → List ℕ
-new-head k = k ∷ 0 ∷ 0 ∷ 0 ∷ []
+new-head k = k ∷ 0 ∷ 0 ∷ 0 ∷ 0 ∷ 0 ∷ []
 
 -- instance l goes on at the command n, with h values on its stack
 abbrev pub going : List ℕ → ℕ → ℕ → ℕ → List ℕ

@@ -4,6 +4,7 @@ use Prim.Native.Nat.{ℕ, _*_}
 use mathlib.Core.Bool.{Bool, true, false}
 use mathlib.Core.List.{List}
 use lib.ListN.{getD}
+use lib.Dec.{ltb}
 use Rattle.layout.specs.declared.Numbers.{Numbers}
 use Rattle.layout.specs.Layout.{head}
 
@@ -35,6 +36,10 @@ module _ (m : Numbers) (x : ℕ) where
   abbrev pub set-from : Numbers
   set-from =
       record { count = m .count; place = m .place; fixes = m .fixes; stable = m .stable; number = m .number; holding = m .holding; from = x }
+
+-- a turn is due: some instance holds commands
+abbrev pub due-in : Numbers → Bool
+due-in m = ltb 0 (m .holding)
 
 -- place, open Fixes and their entries
 abbrev pub placed : Numbers → ℕ → ℕ → ℕ → Numbers

@@ -4,14 +4,15 @@ pub mod codes;
 
 ghost use mathlib.Core.Path.{_≡_};
 ghost use Prim.Native.Nat.{_+_, _*_, _<_, _≤_};
-ghost use lib.ListN.{length};
+ghost use lib.ListN.{length, getD};
 ghost use lib.Seq.{sets};
 ghost use Rattle.types.specs.Limits.{nat-end};
-ghost use Rattle.layout.specs.Layout.{head-size, height-of, next-of, end-of, head, cell, holds, new-head, going, begun};
-ghost use Rattle.layout.specs.State.{fresh};
+ghost use Rattle.layout.specs.Layout.{head-size, head-end, next-of, end-of, head, cell, type-byte, operand, holds, new-head, going, begun};
+ghost use Rattle.layout.specs.State.{fresh, due-in};
 
-// The numbers of an instance in `heads`: its struct, the height of its stack, the place of its next command, the end of its commands.
-pub const HEAD_SIZE: usize = 4;
+// The numbers of an instance in `heads`, two bytes each: its struct, the height of its stack, the place of its next command, the end of its
+// commands; its owner (02, section 12) and its mark of an iterator (02, section 10), which are 0 from its beginning on.
+pub const HEAD_SIZE: usize = 6;
 
 pub const STRUCT: usize = 0;
 
@@ -20,6 +21,10 @@ pub const HEIGHT: usize = 1;
 pub const NEXT: usize = 2;
 
 pub const END: usize = 3;
+
+pub const OWNER: usize = 4;
+
+pub const PENDING: usize = 5;
 
 // The cells of an instance in `cells`: its variables, and behind them its stack.
 pub const ROW_SIZE: usize = 32;
@@ -57,8 +62,23 @@ pub fn fresh(count: usize) -> Numbers
     }
 }
 
+// Whether a turn is due: some instance holds commands.
+pub fn due(numbers: Numbers) -> bool
+    ensures { λ r. ⌜ r ≡ due-in numbers ⌝ }
+{
+    0 < numbers.holding
+}
+
+// Number f of instance l.
+pub fn head(heads: &[u16], l: usize, f: usize) -> usize
+    requires { ⌜ head l f < length (now heads) ⌝ }
+    ensures { λ r. ⌜ (r ≡ getD (now (heads .entry)) (head l f) 0) × (r < head-end) ⌝ }
+{
+    heads[HEAD_SIZE * l + f] as usize
+}
+
 // Whether instance l holds commands.
-pub fn holds(heads: &[usize], l: usize) -> bool
+pub fn holds(heads: &[u16], l: usize) -> bool
     requires { ⌜ head l end-of < length (now heads) ⌝ }
     ensures { λ r. ⌜ r ≡ holds (now (heads .entry)) l ⌝ }
 {
@@ -67,28 +87,30 @@ pub fn holds(heads: &[usize], l: usize) -> bool
 }
 
 // Instance l, new, of struct k: an empty stack and no commands.
-pub fn seat(heads: &mut [usize], l: usize, k: usize)
-    requires { ⌜ head-size * l + head-size ≤ length (now heads) ⌝ }
+pub fn seat(heads: &mut [u16], l: usize, k: usize)
+    requires { ⌜ (head-size * l + head-size ≤ length (now heads)) × (k < head-end) ⌝ }
     ensures { λ _. ⌜ now (heads .exit) ≡ sets (now (heads .entry)) (head-size * l) (new-head k) ⌝ }
 {
     let at = HEAD_SIZE * l;
-    heads[at] = k;
-    heads[at + 1] = 0;
-    heads[at + 2] = 0;
-    heads[at + 3] = 0;
+    heads[at + STRUCT] = k as u16;
+    heads[at + HEIGHT] = 0;
+    heads[at + NEXT] = 0;
+    heads[at + END] = 0;
+    heads[at + OWNER] = 0;
+    heads[at + PENDING] = 0;
 }
 
 // Instance l goes on at the command n, with h values on its stack.
-pub fn go(heads: &mut [usize], l: usize, h: usize, n: usize)
-    requires { ⌜ head l next-of < length (now heads) ⌝ }
+pub fn go(heads: &mut [u16], l: usize, h: usize, n: usize)
+    requires { ⌜ (head l next-of < length (now heads)) × (h < head-end) × (n < head-end) ⌝ }
     ensures { λ _. ⌜ now (heads .exit) ≡ going (now (heads .entry)) l h n ⌝ }
 {
-    heads[HEAD_SIZE * l + HEIGHT] = h;
-    heads[HEAD_SIZE * l + NEXT] = n;
+    heads[HEAD_SIZE * l + HEIGHT] = h as u16;
+    heads[HEAD_SIZE * l + NEXT] = n as u16;
 }
 
 // Instance l has an empty stack and the commands from a to e.
-pub fn begin(heads: &mut [usize], l: usize, a: usize, e: usize)
+pub fn begin(heads: &mut [u16], l: usize, a: u16, e: u16)
     requires { ⌜ head l end-of < length (now heads) ⌝ }
     ensures { λ _. ⌜ now (heads .exit) ≡ begun (now (heads .entry)) l a e ⌝ }
 {
@@ -104,4 +126,17 @@ pub fn cell(t: u8, w: u64) -> u64
     ensures { λ r. ⌜ r ≡ cell t w ⌝ }
 {
     1 + 256 * (t as u64) + types::NAT_END * w
+}
+
+// The parts of a cell, and of a command: the byte of its type and its operand.
+pub fn type_byte(c: u64) -> u8
+    ensures { λ r. ⌜ r ≡ type-byte c ⌝ }
+{
+    (c / 256 % 256) as u8
+}
+
+pub fn operand(c: u64) -> u64
+    ensures { λ r. ⌜ (r ≡ operand c) × (r < nat-end) ⌝ }
+{
+    c / types::NAT_END
 }

@@ -1,6 +1,6 @@
--- Numbers of several bytes that stand at a place, the lowest byte first (01: "numbers of several bytes are little-endian").
-use Prim.Native.Nat.{ℕ, zero, suc, _+_, _*_}
-use mathlib.Core.List.{List}
+-- Numbers of several bytes, as they stand at a place and as bytes, the lowest first (01: "numbers of several bytes are little-endian").
+use Prim.Native.Nat.{ℕ, zero, suc, _+_, _*_, _/_, _%_}
+use mathlib.Core.List.{List, [], _∷_}
 use lib.ListN.{getD}
 
 -- of so many bytes
@@ -14,3 +14,8 @@ pair-at s at = getD s at 0 + 256 * getD s (at + 1) 0
 
 unfoldable pub word-at : List ℕ → ℕ → ℕ
 word-at s at = getD s at 0 + 256 * getD s (at + 1) 0 + 65536 * getD s (at + 2) 0 + 16777216 * getD s (at + 3) 0
+
+-- the bytes of a number: so many of its lowest
+unfoldable pub bytes-of : ℕ → ℕ → List ℕ
+bytes-of zero v = []
+bytes-of (suc i) v = v % 256 ∷ bytes-of i (v / 256)

@@ -51,7 +51,7 @@ fn played(
     s: &[u8],
     counts: &[u8],
     seat: Seat,
-    heads: &mut [usize],
+    heads: &mut [u16],
     cells: &mut [u64],
     turns: &[u8],
     list: &mut [u64],
@@ -72,7 +72,7 @@ fn played(
 // What a run answers; the table as it stands then is written into the output, its stream into the buffer before.
 fn reported(
     counts: &[u8],
-    heads: &[usize],
+    heads: &[u16],
     cells: &[u64],
     ran: Ran,
     depth: u8,

@@ -28,38 +28,36 @@ module _ (spans : List ℕ) (c : ℕ) (heads : List ℕ) (l : ℕ) where
   abbrev k₀ : ℕ
   k₀ = getD heads (head l struct-of) 0
 
-  abbrev a₀ : ℕ
-  a₀ = from spans k₀ (c % step-names)
+  -- its struct, as it was read
+  module _ {k : ℕ} (read : k ≡ k₀) where
+    abbrev a₀ : ℕ
+    a₀ = from spans k (c % step-names)
 
-  abbrev e₀ : ℕ
-  e₀ = getD spans (span-of k₀ (c % step-names) + 1) 0
+    abbrev e₀ : ℕ
+    e₀ = getD spans (span-of k (c % step-names) + 1) 0
 
-  ends : e₀ ≡ to spans k₀ (c % step-names)
-  ends = rw add-one
+    ends : e₀ ≡ to spans k (c % step-names)
+    ends = rw add-one
 
-  pub one-not-meant : means c k₀ ≡ false → begin-one spans c heads l ≡ heads
-  one-not-meant m = one-stays spans c heads l refl (rw m)
+    pub one-not-meant : means c k ≡ false → begin-one spans c heads l ≡ heads
+    one-not-meant m = one-stays spans c heads l (sym read) (rw m)
 
-  -- its two numbers, as they were read
-  module _ {a e : ℕ} (first : a ≡ a₀) (last : e ≡ e₀) where
-    pub one-without : means c k₀ ≡ true → e < a → begin-one spans c heads l ≡ heads
+    pub one-without : means c k ≡ true → e₀ < a₀ → begin-one spans c heads l ≡ heads
     one-without m h =
-        let g : e₀ < a₀ = omega (arith, h, first, last) in
-        let t = lt-leb a₀ (to spans k₀ (c % step-names)) (rw ends at g) in
-        one-stays spans c heads l refl (rw (m, t))
+        let t = lt-leb a₀ (to spans k (c % step-names)) (rw ends at h) in
+        one-stays spans c heads l (sym read) (rw (m, t))
 
-    pub one-with : means c k₀ ≡ true → a ≤ e → begin-one spans c heads l ≡ begun heads l a e
+    pub one-with : means c k ≡ true → a₀ ≤ e₀ → begin-one spans c heads l ≡ begun heads l a₀ e₀
     one-with m h =
-        let g : a₀ ≤ e₀ = omega (arith, h, first, last) in
-        let t = le-leb a₀ (to spans k₀ (c % step-names)) (rw ends at g) in
-        one-begins spans c heads l refl (rw (m, t)) ∙ rw (first, last, ends)
+        let t = le-leb a₀ (to spans k (c % step-names)) (rw ends at h) in
+        one-begins spans c heads l (sym read) (rw (m, t)) ∙ rw ends
 
   -- no instance changes its struct
   one-struct : (j : ℕ) → getD (begin-one spans c heads l) (head j struct-of) 0 ≡ getD heads (head j struct-of) 0
   one-struct j = go (eqb j l) refl
     where
       own : (t : Bool) → begins spans c k₀ ≡ t → getD (begin-one spans c heads l) (head l struct-of) 0 ≡ k₀
-      own true t = rw (one-begins spans c heads l refl t) (begun-struct heads l a₀ (to spans k₀ (c % step-names)))
+      own true t = rw (one-begins spans c heads l refl t) (begun-struct heads l (from spans k₀ (c % step-names)) (to spans k₀ (c % step-names)))
       own false t = rw (one-stays spans c heads l refl t)
 
       go : (t : Bool) → eqb j l ≡ t → getD (begin-one spans c heads l) (head j struct-of) 0 ≡ getD heads (head j struct-of) 0

@@ -19,33 +19,26 @@ fn means(c: usize, k: usize) -> bool
     named == k + 1
 }
 
-// A place of the command list.
-fn place(n: u16) -> usize
-    ensures { λ r. ⌜ r ≡ n ⌝ }
-{
-    n as usize
-}
-
 // Instance l begins the step of the code c, where its struct has it.
-pub fn begin_one(spans: &[u16], heads: &mut [usize], c: usize, l: usize)
+pub fn begin_one(spans: &[u16], heads: &mut [u16], c: usize, l: usize)
     requires { ⌜ spans-size ≤ length (now spans) ⌝ }
     requires { ⌜ Row (now heads) l ⌝ }
     ensures { λ _. ⌜ now (heads .exit) ≡ begin-one (now (spans .entry)) c (now (heads .entry)) l ⌝ }
 {
-    let k = heads[layout::HEAD_SIZE * l + layout::STRUCT];
+    let k = layout::head(heads, l, layout::STRUCT);
     if !means(c, k) {
         return;
     }
     let at = 2 * (types::STEP_NAMES * k + c % types::STEP_NAMES);
-    let a = place(spans[at]);
-    let e = place(spans[at + 1]);
+    let a = spans[at];
+    let e = spans[at + 1];
     if a <= e {
         layout::begin(heads, l, a, e);
     }
 }
 
 // All n instances, from the lowest label up.
-pub fn begin_all(spans: &[u16], heads: &mut [usize], c: usize, n: usize)
+pub fn begin_all(spans: &[u16], heads: &mut [u16], c: usize, n: usize)
     requires { ⌜ spans-size ≤ length (now spans) ⌝ }
     requires { ⌜ Rows (now heads) n ⌝ }
     ensures { λ _. ⌜ now (heads .exit) ≡ begin-all (now (spans .entry)) c (now (heads .entry)) 0 n ⌝ }

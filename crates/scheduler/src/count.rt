@@ -7,7 +7,7 @@ ghost use Rattle.layout.specs.Layout.{head-size};
 ghost use Rattle.memory.specs.Choose.{holding};
 
 // How many of n instances hold commands.
-pub fn holding(heads: &[usize], n: usize) -> usize
+pub fn holding(heads: &[u16], n: usize) -> usize
     requires { ⌜ head-size * n ≤ length (now heads) ⌝ }
     ensures { λ r. ⌜ r ≡ holding (now (heads .entry)) 0 n ⌝ }
 {

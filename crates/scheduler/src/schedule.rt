@@ -40,7 +40,7 @@ fn round(t: usize, numbers: Numbers) -> Numbers
 }
 
 // The item at the place of a machine with these numbers.
-pub fn advance(numbers: Numbers, items: &[usize], spans: &[u16], heads: &mut [usize]) -> Numbers
+pub fn advance(numbers: Numbers, items: &[usize], spans: &[u16], heads: &mut [u16]) -> Numbers
     requires { ⌜ Movable (now items) (now spans) (now heads) numbers ⌝ }
     ensures { λ r. ⌜ Moves (now (items .entry)) (now (spans .entry)) (now (heads .entry)) numbers r (now (heads .exit)) ⌝ }
 {

@@ -1,10 +1,11 @@
 -- A table stream is as long as its records say, fits its blocks, and is made of bytes (01, 'Table and turns').
-use Prim.Native.Nat.{ℕ, zero, suc, _*_, _/_, _<_, _≤_}
+use Prim.Native.Nat.{ℕ, zero, suc, _*_, _/_, _%_, _<_, _≤_}
 use native.Mathlib.Omega.{arith}
 use mathlib.Core.Path.{_≡_, refl, ap}
 use mathlib.Core.List.{List, [], _∷_, _++_}
 use lib.ListN.{length, getD, length-append}
 use Rattle.types.specs.Limits.{max-params}
+use Rattle.little_endian.specs.Numbers.{bytes-of}
 use Rattle.types.specs.Types.{Ty, IsType}
 use Rattle.types.specs.Values.{Val, word}
 use Rattle.program.specs.Tree.{Program}
@@ -12,7 +13,7 @@ use Rattle.program.specs.Encoding.{enc-word, flat}
 use Rattle.program.specs.Counts.{All, Few, Counts}
 use Rattle.program.specs.Reader.{byte-end}
 use Rattle.table.specs.Table.{Record, value-bytes, count-bytes, enc-value, enc-record, enc-table, Each, Held, HeldRecord, HeldTable}
-use Rattle.table.specs.Sizes.{record-size, records-size, table-size}
+use Rattle.table.specs.Sizes.{most-record, most-stream, record-size, records-size, table-size}
 
 -- Lengths ------------------------------------------------------------------------
 
@@ -20,6 +21,12 @@ pub word-length : (i v : ℕ) → length (enc-word i v) ≡ i
 unfolding enc-word
 word-length zero v = refl
 word-length (suc i) v = ap suc (word-length i (v / 256))
+
+-- the bytes of a number as they are stored
+pub stored-word : (i v : ℕ) → bytes-of i v ≡ enc-word i v
+unfolding bytes-of enc-word
+stored-word zero v = refl
+stored-word (suc i) v = ap (λ (bs : List ℕ). v % 256 ∷ bs) (stored-word i (v / 256))
 
 values-length : (vs : List Val) → length (flat enc-value vs) ≡ value-bytes * length vs
 unfolding flat enc-value
@@ -53,13 +60,13 @@ module _ (pss : List (List Ty)) where
   table-length rs h = simp length-append (omega (arith, word-length count-bytes (length rs), records-length rs (h .1)))
 
   module _ (few : All (λ ps. length ps ≤ max-params) pss) where
-    records-bound : (rs : List Record) → records-size pss rs ≤ length rs * 33
+    records-bound : (rs : List Record) → records-size pss rs ≤ length rs * most-record
     unfolding records-size record-size
     records-bound [] = omega arith
     records-bound (r ∷ rs) = omega (arith, few-params max-params pss few (r .struct), records-bound rs)
 
-    -- at most 256 records of 33 bytes, and N
-    pub table-bound : (rs : List Record) → HeldTable pss rs → length (enc-table rs) ≤ 8450
+    -- at most 256 of the longest records, and N
+    pub table-bound : (rs : List Record) → HeldTable pss rs → length (enc-table rs) ≤ most-stream
     unfolding table-size HeldTable
     table-bound rs h = omega (arith, table-length rs h, records-bound rs)
 

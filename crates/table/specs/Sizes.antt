@@ -2,13 +2,25 @@
 use Prim.Native.Nat.{ℕ, _+_, _*_}
 use mathlib.Core.List.{List, [], _∷_}
 use lib.ListN.{length, getD}
+use Rattle.types.specs.Limits.{max-params, max-instances}
 use Rattle.types.specs.Types.{Ty}
 use Rattle.table.specs.Table.{Record, value-bytes, count-bytes}
 
+-- what stands before the values of a record: its struct byte
+abbrev pub head-bytes : ℕ
+head-bytes = 1
+
+-- the longest record, and the longest stream
+abbrev pub most-record : ℕ
+most-record = head-bytes + value-bytes * max-params
+
+abbrev pub most-stream : ℕ
+most-stream = count-bytes + most-record * max-instances
+
 module _ (pss : List (List Ty)) where
-  -- a struct byte and four bytes for each parameter of the struct
+  -- what stands before the values, and four bytes for each parameter of the struct
   unfoldable pub record-size : Record → ℕ
-  record-size r = 1 + value-bytes * length (getD pss (r .struct) [])
+  record-size r = head-bytes + value-bytes * length (getD pss (r .struct) [])
 
   unfoldable pub records-size : List Record → ℕ
   records-size [] = 0

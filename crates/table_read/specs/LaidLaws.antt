@@ -12,7 +12,7 @@ use Rattle.types.specs.Types.{Ty}
 use Rattle.types.specs.Values.{Val}
 use Rattle.table.specs.Table.{Record}
 use Rattle.sound.specs.Laws.ElemLaws.{none-some, some-is}
-use Rattle.layout.specs.Layout.{head-size, row-size, new-head}
+use Rattle.layout.specs.Layout.{head-size, head, struct-of, row-size, new-head}
 use Rattle.memory.specs.Laws.RowLaws.{sets-other, sets-at}
 use Rattle.table_read.specs.Laid.{cells-of, head-laid, row-laid, heads-laid, rows-laid, null-records}
 use Rattle.table_read.specs.Refer.{struct-in}
@@ -38,10 +38,10 @@ pub struct-laid : (h : List ℕ) (l : ℕ) (qs : List Record) (i : ℕ) (q : Rec
 unfolding heads-laid
 struct-laid h l [] i q e b = none-some e
 struct-laid h l (p ∷ qs) zero q e b =
-    let z : head-size * (l + 0) ≡ head-size * l + 0 = omega arith in
+    let z : head (l + 0) struct-of ≡ head l struct-of = omega arith in
     ap (λ a. getD (heads-laid h l (p ∷ qs)) a 0) z
-    ∙ heads-before (head-laid h l p) (suc l) qs (head-size * l + 0) (omega arith)
-    ∙ sets-at h (head-size * l) (new-head (p .struct)) 0 (omega arith) (omega arith)
+    ∙ heads-before (head-laid h l p) (suc l) qs (head l struct-of) (omega arith)
+    ∙ sets-at h (head-size * l) (new-head (p .struct)) struct-of (omega arith) (omega arith)
     ∙ ap (λ (r : Record). r .struct) (some-is e)
 struct-laid h l (p ∷ qs) (suc i) q e b =
     let z : l + suc i ≡ suc l + i = omega arith in

@@ -7,11 +7,11 @@ use lib.Dec.{ltb, eqb}
 use Rattle.types.specs.Limits.{max-params}
 use Rattle.types.specs.Types.{type-of}
 use Rattle.types.specs.TypeBytes.{is-ref, struct-of as type-struct}
-use Rattle.layout.specs.Layout.{head-size, row-size, operand}
+use Rattle.layout.specs.Layout.{head, struct-of, row-size, operand}
 
--- the struct of instance l, the first of its numbers
+-- the struct of instance l
 abbrev pub struct-in : List ℕ → ℕ → ℕ
-struct-in h l = getD h (head-size * l) 0
+struct-in h l = getD h (head l struct-of) 0
 
 -- the first n instances are of structs below S
 abbrev pub Structs : List ℕ → ℕ → ℕ → Type 0

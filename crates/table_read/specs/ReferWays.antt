@@ -57,14 +57,14 @@ module _ (h : List ℕ) (n : ℕ) (ts : List ℕ) (i : ℕ) (c : List ℕ) (a m 
   unfolding row-refers
   row-end x l = let e : m - x ≡ 0 = omega arith in rw e
 
-module _ (cs ts h c : List ℕ) (n l m : ℕ) (b : l < n) (e : m ≡ getD cs (struct-in h l) 0) where
-  -- the m parameters of instance l, and those of the instances behind it
+module _ (cs ts h c : List ℕ) (n l k m : ℕ) (b : l < n) (d : k ≡ struct-in h l) (e : m ≡ getD cs k 0) where
+  -- the m parameters of instance l, whose struct was read as k, and those of the instances behind it
   rows-more : rows-refer cs ts h c n l (n - l)
-      ≡ (row-refers h n ts (max-params * struct-in h l) c (row-size * l) m && rows-refer cs ts h c n (l + 1) (n - (l + 1)))
+      ≡ (row-refers h n ts (max-params * k) c (row-size * l) m && rows-refer cs ts h c n (l + 1) (n - (l + 1)))
   unfolding rows-refer
-  rows-more = let q : n - l ≡ suc (n - (l + 1)) = omega arith in rw (q, add-one l, e)
+  rows-more = let q : n - l ≡ suc (n - (l + 1)) = omega arith in rw (q, add-one l, e, d)
 
-  module _ (r : Bool) (f : r ≡ row-refers h n ts (max-params * struct-in h l) c (row-size * l) m) where
+  module _ (r : Bool) (f : r ≡ row-refers h n ts (max-params * k) c (row-size * l) m) where
     pub rows-turn : r ≡ true → rows-refer cs ts h c n (l + 1) (n - (l + 1)) ≡ rows-refer cs ts h c n l (n - l)
     rows-turn t = rw (rows-more, ← f, t)
 

@@ -31,7 +31,7 @@ fn behind(
     counts: &[u8],
     types: &[u8],
     n: usize,
-    heads: &mut [usize],
+    heads: &mut [u16],
     cells: &mut [u64],
 ) -> TableRead
     requires { ⌜ Tables (now counts) (now types) ⌝ }
@@ -58,7 +58,7 @@ fn behind(
 }
 
 // A table stream, whose instances stand in memory where it is accepted. After a refusal memory is free, of the lengths that it had.
-fn read(s: &[u8], counts: &[u8], types: &[u8], heads: &mut [usize], cells: &mut [u64]) -> TableRead
+fn read(s: &[u8], counts: &[u8], types: &[u8], heads: &mut [u16], cells: &mut [u64]) -> TableRead
     requires { ⌜ Tables (now counts) (now types) ⌝ }
     requires { ⌜ (length (now heads) ≡ head-size * max-instances) × (length (now cells) ≡ row-size * max-instances) ⌝ }
     ensures { λ r. ⌜ r ≡ table-told (length (now (counts .entry))) (table-of-stream (lists-of (now (counts .entry)) (now (types .entry))) (now (s .entry))) ⌝ }
@@ -79,7 +79,7 @@ pub fn read_image(
     counts: &[u8],
     types: &[u8],
     buffer: &mut [u8],
-    heads: &mut [usize],
+    heads: &mut [u16],
     cells: &mut [u64],
 ) -> TableRead
     requires { ⌜ Tables (now counts) (now types) ⌝ }

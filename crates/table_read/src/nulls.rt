@@ -31,7 +31,7 @@ fn defaults(types: &[u8], from: usize, n: usize, cells: &mut [u64], place: usize
 }
 
 // The null instances of all structs, as the first instances.
-pub(crate) fn nulls(counts: &[u8], types: &[u8], heads: &mut [usize], cells: &mut [u64])
+pub(crate) fn nulls(counts: &[u8], types: &[u8], heads: &mut [u16], cells: &mut [u64])
     requires { ⌜ Tables (now counts) (now types) ⌝ }
     requires { ⌜ (head-size * length (now counts) ≤ length (now heads)) × (row-size * length (now counts) ≤ length (now cells)) ⌝ }
     ensures { λ _. ⌜ now (heads .exit) ≡ heads-laid (now (heads .entry)) 0 (null-records 0 (lists-of (now (counts .entry)) (now (types .entry)))) ⌝ }

@@ -123,7 +123,7 @@ fn one_record(
     counts: &[u8],
     types: &[u8],
     at: usize,
-    heads: &mut [usize],
+    heads: &mut [u16],
     cells: &mut [u64],
     l: usize,
 ) -> PlaceRead
@@ -159,7 +159,7 @@ pub(crate) fn records(
     types: &[u8],
     n: usize,
     at: usize,
-    heads: &mut [usize],
+    heads: &mut [u16],
     cells: &mut [u64],
 ) -> PlaceRead
     requires { ⌜ Tables (now counts) (now types) ⌝ }

@@ -7,23 +7,23 @@ ghost use Rattle.table_read.specs.Params.{Tables};
 ghost use Rattle.table_read.specs.Refer.{cell-refers, row-refers, rows-refer, Structs};
 
 // Whether a cell of the type t names one of the first n instances, of the type's struct; a cell of another type names none.
-fn cell_refers(heads: &[usize], n: usize, t: u8, c: u64) -> bool
+fn cell_refers(heads: &[u16], n: usize, t: u8, c: u64) -> bool
     requires { ⌜ head-size * n ≤ length (now heads) ⌝ }
     ensures { λ r. ⌜ r ≡ cell-refers (now (heads .entry)) n t c ⌝ }
 {
     if !types::is_reference(t) {
         return true;
     }
-    let l = (c / types::NAT_END) as usize;
+    let l = layout::operand(c) as usize;
     if n <= l {
         return false;
     }
-    heads[layout::HEAD_SIZE * l] == little_endian::index(types::struct_of(t))
+    layout::head(heads, l, layout::STRUCT) == little_endian::index(types::struct_of(t))
 }
 
 // The m cells from a place on, whose types stand from another.
 fn row_refers(
-    heads: &[usize],
+    heads: &[u16],
     n: usize,
     types: &[u8],
     from: usize,
@@ -48,7 +48,7 @@ fn row_refers(
 pub(crate) fn rows_refer(
     counts: &[u8],
     types: &[u8],
-    heads: &[usize],
+    heads: &[u16],
     cells: &[u64],
     first: usize,
     n: usize,
@@ -59,7 +59,7 @@ pub(crate) fn rows_refer(
 {
     let mut l = first;
     while l < n {
-        let k = heads[layout::HEAD_SIZE * l];
+        let k = layout::head(heads, l, layout::STRUCT);
         let m = little_endian::index(counts[k]);
         if !row_refers(
             heads,

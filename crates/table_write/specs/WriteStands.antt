@@ -2,7 +2,6 @@
 -- of the machine's table, in the blocks that a run is to leave in its output.
 use Prim.Native.Nat.{ℕ, suc, _+_, _-_, _*_, _<_, _≤_}
 use native.Mathlib.Omega.{arith}
-use native.Mathlib.Nat.{add-zero}
 use mathlib.Core.Path.{_≡_, refl, ap, sym, _∙_}
 use mathlib.Core.Option.{Option, some}
 use mathlib.Core.List.{List, [], _∷_, _++_, map}
@@ -71,7 +70,7 @@ module _ (p : Program) (counts : Counts p) (list : List ℕ) (P : ℕ → Sched 
   cs = map length (p .params)
 
   struct-is : (l : ℕ) (i : Instance) → getElem? (m .instances) l ≡ some i → struct-in (z .heads) l ≡ i .struct
-  struct-is l i e = rw add-zero at (st .each l i e .struct)
+  struct-is l i e = st .each l i e .struct
 
   -- the parameters of an instance
   params-are : (l : ℕ) (i : Instance) → getElem? (m .instances) l ≡ some i

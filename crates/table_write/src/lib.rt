@@ -14,7 +14,7 @@ ghost use Rattle.table_write.specs.Written.{Filled, memory-blocks, memor
 // allowed; afterwards it is free, of the length that it had.
 pub fn write(
     counts: &[u8],
-    heads: &[usize],
+    heads: &[u16],
     cells: &[u64],
     n: usize,
     buffer: &mut [u8],

@@ -9,7 +9,7 @@ ghost use Rattle.layout.specs.Layout.{head-size};
 ghost use Rattle.memory.specs.Choose.{holding, picked};
 
 // Of n instances, counted from the label `from`, where it is known how many hold commands.
-pub(crate) fn picked_of(heads: &[usize], n: usize, from: usize, count: usize, turn: u8) -> usize
+pub(crate) fn picked_of(heads: &[u16], n: usize, from: usize, count: usize, turn: u8) -> usize
     requires { ⌜ (head-size * n ≤ length (now heads)) × (n ≤ max-instances) × (count ≡ holding (now heads) 0 n) × (0 < count) ⌝ }
     ensures { λ l. ⌜ l ≡ picked (now (heads .entry)) from n turn ⌝ }
 {

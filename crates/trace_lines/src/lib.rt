@@ -74,18 +74,18 @@ fn wide(n: u16) -> usize
 }
 
 // The position of instance l's next command among those of the step.
-fn position(spans: &[u16], heads: &[usize], l: usize, step: usize) -> usize
+fn position(spans: &[u16], heads: &[u16], l: usize, step: usize) -> usize
     requires { ⌜ (spans-size ≤ length (now spans)) × (head l end-of < length (now heads)) ⌝ }
     requires { ⌜ (getD (now heads) (head l struct-of) 0 < max-structs) × (step < step-names) ⌝ }
     ensures { λ r. ⌜ r ≡ position-of (now (spans .entry)) (now (heads .entry)) l step ⌝ }
 {
     let at = layout::HEAD_SIZE * l;
-    let k = heads[at + layout::STRUCT];
+    let k = heads[at + layout::STRUCT] as usize;
     let s = 2 * (types::STEP_NAMES * k + step);
     let from = wide(spans[s]);
     let to = wide(spans[s + 1]);
     let size = minus(to, from);
-    let left = minus(heads[at + layout::END], heads[at + layout::NEXT]);
+    let left = minus(wide(heads[at + layout::END]), wide(heads[at + layout::NEXT]));
     minus(size, left)
 }
 
@@ -120,7 +120,7 @@ fn back(
     l: usize,
     w: Write,
     numbers: Numbers,
-    heads: &[usize],
+    heads: &[u16],
     cells: &[u64],
 ) -> usize
     requires { ⌜ BackFits (now heads) (now cells) l w (numbers .fixes) ⌝ }
@@ -142,7 +142,7 @@ pub fn turn(
     list: &[u64],
     counts: &[u8],
     spans: &[u16],
-    heads: &mut [usize],
+    heads: &mut [u16],
     cells: &mut [u64],
     out: &mut [u8],
 ) -> Told
@@ -161,12 +161,12 @@ pub fn turn(
     let l = picked_of(heads, count, numbers.from, numbers.holding, turn.byte);
     let w = target(list, counts, heads, cells, l);
     let at = layout::HEAD_SIZE * l;
-    let next = heads[at + layout::NEXT];
+    let next = heads[at + layout::NEXT] as usize;
     let f = Acting {
         taken: turn.taken,
         byte: turn.byte,
         label: l,
-        structure: heads[at + layout::STRUCT],
+        structure: heads[at + layout::STRUCT] as usize,
         step: turn.step,
         position: position(spans, heads, l, turn.step),
         word: list[next],
@@ -216,7 +216,7 @@ pub fn advance(
     step: usize,
     items: &[usize],
     spans: &[u16],
-    heads: &mut [usize],
+    heads: &mut [u16],
     out: &mut [u8],
 ) -> Told
     requires { ⌜ Movable (now items) (now spans) (now heads) (machine .numbers) ⌝ }

@@ -10,7 +10,7 @@ ghost use Rattle.trace_lines.specs.Parts.{CellFits, StackFits, cell-most
 const STRUCT: u64 = types::STRUCT as u64;
 
 // The type byte of a cell; of a label, that of its instance's struct.
-fn tag(heads: &[usize], c: u64) -> u64
+fn tag(heads: &[u16], c: u64) -> u64
     requires { ⌜ CellFits (now heads) c ⌝ }
     ensures { λ r. ⌜ r ≡ tag (now (heads .entry)) c ⌝ }
 {
@@ -19,7 +19,7 @@ fn tag(heads: &[usize], c: u64) -> u64
         return t;
     }
     let q = (c / types::NAT_END) as usize;
-    let k = heads[layout::HEAD_SIZE * q + layout::STRUCT];
+    let k = heads[layout::HEAD_SIZE * q + layout::STRUCT] as usize;
     STRUCT + k as u64
 }
 
@@ -33,7 +33,7 @@ pub(crate) fn worth(out: &mut [u8], k: usize, c: u64) -> usize
 }
 
 // A value behind its type.
-fn cell(out: &mut [u8], k: usize, heads: &[usize], c: u64) -> usize
+fn cell(out: &mut [u8], k: usize, heads: &[u16], c: u64) -> usize
     requires { ⌜ CellFits (now heads) c ⌝ }
     requires { ⌜ k + cell-most ≤ length (now out) ⌝ }
     ensures { λ r. ⌜ Placed (cell-text (now (heads .entry)) c) (now (out .entry)) k r (now (out .exit)) ⌝ }
@@ -46,14 +46,14 @@ fn cell(out: &mut [u8], k: usize, heads: &[usize], c: u64) -> usize
 }
 
 // The stack of instance l, the top last.
-pub(crate) fn stack(out: &mut [u8], k: usize, heads: &[usize], cells: &[u64], l: usize) -> usize
+pub(crate) fn stack(out: &mut [u8], k: usize, heads: &[u16], cells: &[u64], l: usize) -> usize
     requires { ⌜ StackFits (now heads) (now cells) l ⌝ }
     requires { ⌜ k + cell-most * max-depth ≤ length (now out) ⌝ }
     ensures { λ r. ⌜ Placed (cells-text (now (heads .entry)) (now (cells .entry)) l (getD (now (heads .entry)) (head l height-of) 0))
         (now (out .entry)) k r (now (out .exit)) ⌝ }
     ensures { λ r. ⌜ r ≤ k + cell-most * max-depth ⌝ }
 {
-    let high = heads[layout::HEAD_SIZE * l + layout::HEIGHT];
+    let high = heads[layout::HEAD_SIZE * l + layout::HEIGHT] as usize;
     let bottom = layout::ROW_SIZE * l + types::VARIABLES;
     let mut h = 0;
     let mut at = k;

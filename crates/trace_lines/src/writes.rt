@@ -29,12 +29,12 @@ fn nothing() -> Write
 }
 
 // What the next command of instance l will write: nothing, but where it is a `wr` of a parameter of an instance that is not null.
-pub(crate) fn target(list: &[u64], counts: &[u8], heads: &[usize], cells: &[u64], l: usize) -> Write
+pub(crate) fn target(list: &[u64], counts: &[u8], heads: &[u16], cells: &[u64], l: usize) -> Write
     requires { ⌜ Fitting (now list) (now counts) (now heads) (now cells) l ⌝ }
     ensures { λ r. ⌜ r ≡ target (now (list .entry)) (length (now (counts .entry))) (now (heads .entry)) (now (cells .entry)) l ⌝ }
 {
     let at = layout::HEAD_SIZE * l;
-    let next = heads[at + layout::NEXT];
+    let next = heads[at + layout::NEXT] as usize;
     let w = list[next];
     if w % 256 != WR {
         return nothing();
@@ -43,7 +43,7 @@ pub(crate) fn target(list: &[u64], counts: &[u8], heads: &[usize], cells: &[u64]
     if types::FIRST_LOCAL <= x {
         return nothing();
     }
-    let under = heads[at + layout::HEIGHT] - 1;
+    let under = heads[at + layout::HEIGHT] as usize - 1;
     let top = cells[layout::ROW_SIZE * l + types::VARIABLES + under];
     let q = (top / types::NAT_END) as usize;
     if q < counts.len() {

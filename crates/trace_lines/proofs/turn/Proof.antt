@@ -2,6 +2,7 @@
 use borrow.Author.Needs.{needs}
 use native.Mathlib.Omega.{arith}
 use mathlib.Core.Path.{_≡_}
+use Rattle.layout.specs.Layout.{head, struct-of, next-of}
 use Rattle.trace_lines.specs.PartsLaws.{fit-rows}
 use Rattle.trace_lines.specs.TellLaws.{turnable-rows, turnable-few, turnable-fit, turnable-fits, turnable-row, turnable-spans, picked-refused}
 use Rattle.trace_lines.specs.TellLaws.{picked-back, picked-told}
@@ -52,24 +53,30 @@ slice-read-next c =
     let at-pre = start at-picked-of in
     omega (arith, fit-rows (turnable-fits (at-pre .pre .0) (at-pre .args .turn .byte) (at-picked-of .picked-of .ensures)))
 
+cast-next : tie.Need-cast-next
+cast-next c = let l = c .before .before .before .before .picked-of .result in omega (arith, c .slice-known4 .given (head l next-of))
+
 add-t26 : tie.Need-add-t26
 add-t26 c =
     let at-picked-of = c .before .before .before .before in
     let at-pre = start at-picked-of in
     omega (arith, fit-rows (turnable-fits (at-pre .pre .0) (at-pre .args .turn .byte) (at-picked-of .picked-of .ensures)))
 
-mul-t29 : tie.Need-mul-t29
-mul-t29 c =
+mul-t27 : tie.Need-mul-t27
+mul-t27 c =
     let at-picked-of = c .before .before .before .before in
     let at-pre = start at-picked-of in
     omega (arith, fit-rows (turnable-fits (at-pre .pre .0) (at-pre .args .turn .byte) (at-picked-of .picked-of .ensures)))
 
-slice-read-t27 : tie.Need-slice-read-t27
-slice-read-t27 c =
+slice-read-t29 : tie.Need-slice-read-t29
+slice-read-t29 c =
     let at-target-arg = c .before .before .before .before in
     let at-picked-of = at-target-arg .before in
     let at-pre = start at-picked-of in
     omega (arith, fit-rows (turnable-fits (at-pre .pre .0) (at-pre .args .turn .byte) (at-picked-of .picked-of .ensures)))
+
+cast-t31 : tie.Need-cast-t31
+cast-t31 c = let l = c .before .before .before .before .before .picked-of .result in omega (arith, c .slice-known5 .given (head l struct-of))
 
 position-requires : tie.Need-position-requires
 position-requires c κs =
@@ -91,15 +98,15 @@ position-requires c κs =
       ),
     )
 
-mul-t34 : tie.Need-mul-t34
-mul-t34 c =
+mul-t35 : tie.Need-mul-t35
+mul-t35 c =
     let at-target = c .before .before .before .before in
     let at-picked-of = at-target .before .before .before in
     let at-pre = start at-picked-of in
     omega (arith, fit-rows (turnable-fits (at-pre .pre .0) (at-pre .args .turn .byte) (at-picked-of .picked-of .ensures)))
 
-shared-slice-read-t36 : tie.Need-shared-slice-read-t36
-shared-slice-read-t36 c =
+shared-slice-read-t37 : tie.Need-shared-slice-read-t37
+shared-slice-read-t37 c =
     let at-slice-known4 = c .before .before .before .before in
     let at-picked-of = at-slice-known4 .before .before .before .before in
     let at-pre = start at-picked-of in
@@ -175,6 +182,6 @@ returns-2 c =
 pub turn-spec : {M : Type 1} → statement M
 turn-spec =
     tie.close
-    (tie.spec picked-of-requires target-requires mul-at add-next mul-next slice-read-next add-t26 mul-t29 slice-read-t27
-    position-requires mul-t34 shared-slice-read-t36 (λ c κs. search needs) command-requires (λ c. search needs) (λ c. search needs)
+    (tie.spec picked-of-requires target-requires mul-at add-next mul-next slice-read-next cast-next add-t26 mul-t27 slice-read-t29
+    cast-t31 position-requires mul-t35 shared-slice-read-t37 (λ c κs. search needs) command-requires (λ c. search needs) (λ c. search needs)
     (λ c. search needs) returns back-requires (λ c. search needs) (λ c. search needs) (λ c. search needs) returns-2)

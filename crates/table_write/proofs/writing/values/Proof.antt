@@ -5,6 +5,7 @@ use mathlib.Core.Path.{_≡_, _∙_, refl}
 use native.Mathlib.Omega.{arith}
 use lib.ListN.{length}
 use lib.Seq.{sets}
+use borrow.Author.Needs.{needs}
 use Rattle.table_write.specs.Written.{cells-bytes}
 use Rattle.table_write.specs.WrittenWays.{cells-left, cells-begin, cells-turn, cells-end}
 use Rattle.table_write.proofs.writing.values.Statement.{statement}
@@ -24,11 +25,11 @@ loop-holds c =
 
 loop-again : tie.Need-loop-again Inv-loop μ-loop
 loop-again c =
-    let at-word = c .before .before in let in-loop = at-word .before .before .before in
+    let at-word = c .before .before in let at-operand = at-word .before in let in-loop = at-operand .before .before .before in
     let loop = in-loop .before .loop in let args = in-loop .before .before .before .before .args in (
-      (omega arith, at-word .word .kept .0 ∙ loop .inv .0 .1),
-      cells-turn (args .at) (args .cells .now) (args .place) (args .m) (loop .out) (at-word .word .last .0) (loop .x) (in-loop .loop-test .taken)
-          (at-word .word .ensures) ∙ loop .inv .1,
+      (omega arith, at-word .put-word .kept .0 ∙ loop .inv .0 .1),
+      cells-turn (args .at) (args .cells .now) (args .place) (args .m) (loop .out) (at-word .put-word .last .0) (loop .x) (in-loop .loop-test .taken)
+          (at-operand .operand .ensures .0) (at-word .put-word .ensures) ∙ loop .inv .1,
     )
 
 returns : tie.Need-returns Inv-loop μ-loop
@@ -40,4 +41,4 @@ pub values-spec : {M : Type 1} → statement M
 values-spec =
     tie.close
     (tie.spec Inv-loop μ-loop loop-holds (λ c. omega arith) (λ c. omega arith) (λ c. omega arith) (λ c. omega arith) (λ c. omega arith)
-    (λ c κs. omega arith) (λ c. omega arith) (λ c. omega arith) loop-again (λ c. c .before .loop .inv .0 .1) returns)
+    (λ c κs. search needs) (λ c κs. omega arith) (λ c. omega arith) (λ c. omega arith) loop-again (λ c. c .before .loop .inv .0 .1) returns)

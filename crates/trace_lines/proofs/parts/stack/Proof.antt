@@ -4,6 +4,7 @@ use native.Mathlib.Omega.{arith}
 use Prim.Native.Nat.{_+_, _-_, _*_, _≤_}
 use mathlib.Core.Path.{_≡_, refl, _∙_}
 use lib.ListN.{length}
+use Rattle.layout.specs.Layout.{head, height-of}
 use Rattle.text.specs.Listing.{Placed}
 use Rattle.trace_lines.specs.Parts.{cell-most, cells-text}
 use Rattle.trace_lines.specs.PartsLaws.{cells-none, cells-more, cells-all}
@@ -16,6 +17,11 @@ Inv-loop out₀ k heads cells l high bottom h₀ at₀ out h at =
 
 abbrev μ-loop : tie.MeasureT-loop
 μ-loop out₀ k heads cells l high bottom h₀ at₀ out h at = high - h
+
+cast-high : tie.Need-cast-high Inv-loop μ-loop
+cast-high c =
+    let at-pre = c .before .before .before .before in
+    omega (arith, c .shared-slice-known3 .given (head (at-pre .args .l) height-of))
 
 loop-holds : tie.Need-loop-holds Inv-loop μ-loop
 loop-holds c =
@@ -64,6 +70,6 @@ returns c =
 pub stack-spec : {M : Type 1} → statement M
 stack-spec =
     tie.close
-    (tie.spec Inv-loop μ-loop (λ c. search needs) (λ c. search needs) (λ c. search needs) (λ c. search needs) (λ c. search needs) (λ c. search needs)
-    loop-holds (λ c. search needs) (λ c. search needs) shared-slice-read-cell cell-requires (λ c. search needs) (λ c. search needs) loop-again
+    (tie.spec Inv-loop μ-loop (λ c. search needs) (λ c. search needs) (λ c. search needs) (λ c. search needs) cast-high (λ c. search needs)
+    (λ c. search needs) loop-holds (λ c. search needs) (λ c. search needs) shared-slice-read-cell cell-requires (λ c. search needs) (λ c. search needs) loop-again
     (λ c. search needs) returns)

@@ -2,6 +2,7 @@
 use borrow.Author.Needs.{needs}
 use native.Mathlib.Omega.{arith}
 use mathlib.Core.Path.{_≡_, _∙_}
+use Rattle.layout.specs.Layout.{head, height-of, next-of}
 use Rattle.trace_lines.specs.Parts.{target}
 use Rattle.trace_lines.specs.PartsLaws.{target-other, target-local, target-null, target-found, fit-rows, fit-write}
 use Rattle.trace_lines.proofs.writes.target.Statement.{statement}
@@ -10,6 +11,16 @@ use Rattle.trace_lines.proofs.writes.target.Tie as tie
 -- the place that proofs look back to
 abbrev start : tie.Else1 → tie.Start
 start c = let at-word = c .before .before .before .before in at-word .before .before .before
+
+cast-next : tie.Need-cast-next
+cast-next c =
+    let begin = c .before .before .before .before .before in
+    omega (arith, c .shared-slice-known5 .given (head (begin .args .l) next-of))
+
+cast-under : tie.Need-cast-under
+cast-under c =
+    let begin = start (c .before .before) in
+    omega (arith, c .shared-slice-known7 .given (head (begin .args .l) height-of))
 
 returns : tie.Need-returns
 unfolding target
@@ -48,12 +59,12 @@ target-spec =
     tie.close
     (tie.spec (λ c. omega (arith, fit-rows (c .before .before .before .before .pre))) (λ c. omega (arith, fit-rows (c .before .before .before .before .pre)))
     (λ c. omega (arith, fit-rows (c .before .before .before .before .pre)))
-    (λ c. let at = c .before .before .before .before in omega (arith, fit-rows (at .before .pre)))
+    (λ c. let at = c .before .before .before .before in omega (arith, fit-rows (at .before .pre))) cast-next
     (λ c. let at = c .before .before .before .before in omega (arith, fit-rows (at .before .pre)))
     (λ c. let at = c .before .before .before .before in omega (arith, fit-rows (at .before .before .pre))) (λ c κs. search needs) returns
     (λ c κs. search needs) returns-2 (λ c. let at = c .before in omega (arith, fit-write (start at .pre) (at .if1 .left), fit-rows (start at .pre)))
     (λ c. let at = c .before in omega (arith, fit-write (start at .pre) (at .if1 .left), fit-rows (start at .pre)))
-    (λ c. let at = c .before .before in omega (arith, fit-write (start at .pre) (at .if1 .left), fit-rows (start at .pre)))
+    (λ c. let at = c .before .before in omega (arith, fit-write (start at .pre) (at .if1 .left), fit-rows (start at .pre))) cast-under
     (λ c. let at = c .before .before in omega (arith, fit-write (start at .pre) (at .if1 .left), fit-rows (start at .pre)))
     (λ c. let at = c .before .before in omega (arith, fit-write (start at .pre) (at .if1 .left), fit-rows (start at .pre)))
     (λ c. let at = c .before .before in omega (arith, fit-write (start at .pre) (at .if1 .left), fit-rows (start at .pre)))
