@@ -101,7 +101,7 @@ module _ (p : Program) {cs ar types : List ℕ} (tables : (k : ℕ) (t : Step) �
       (b && (well-typed k t && true))
   unfolding added CountsStep
   added-says k t ns T c H s = says-both s
-      (says-both (step-says p k (t .body) (tables k t) few (c .2)) (rw (H (t .name)) (says-named (not (member (t .name) ns)))))
+      (says-both (step-says p k (t .body) (tables k t) few (c .2)) (rw (H .holds-at (t .name)) (says-named (not (member (t .name) ns)))))
 
   struct-says : (ts : List Step) → All (CountsStep cs) ts → {a b : Bool} (k : ℕ) (ns : List ℕ) (T : Totals) → Holds (T .rows) k ns → Says (T .fault) a b
       → Says (struct-totals ar types k ts T .fault) (a && (fresh ns (names ts) && every (well-named k) ts)) (b && every (well-typed k) ts)

@@ -57,7 +57,7 @@ module _ (rs : List Row) (tss : List (List Step)) (cs : List ℕ) (same : length
     -- the fault is 7 where a scheduled step is not there
     pub item-says : (i : Item) → CountsItem cs i → Says (item-plan rs (length tss) i .fault) (item-stepped i tss) true
     item-says (call n) c = rw (had-is rs n tss 0 (λ j l. rw zero-add (held j l))) (says-named (stepped n tss))
-    item-says (call-in k n) c = rw (held k (omega arith) n) (says-named (member n (names (getD tss k []))))
+    item-says (call-in k n) c = rw (held k (omega arith) .holds-at n) (says-named (member n (names (getD tss k []))))
     item-says (fix is) c = items-say is (c .2)
 
     pub items-say : (is : Items) → CountsItems cs is → Says (items-plan rs (length tss) is .fault) (items-stepped is tss) true

@@ -68,31 +68,31 @@ tables-of p a k b = record {
 -- Steps ----------------------------------------------------------------------------
 
 -- the rows have for struct k exactly these names
-abbrev pub Holds : List Row → ℕ → List ℕ → Type 0
-Holds rs k ns = (n : ℕ) → there rs k n ≡ member n ns
+pub record Holds (rs : List Row) (k : ℕ) (ns : List ℕ) : Type 0 where
+  pub holds-at : (n : ℕ) → there rs k n ≡ member n ns
 
 -- with one name more for struct k; as before for every other
 pub holds-more : {rs : List Row} {k : ℕ} {ns : List ℕ} (m a z : ℕ) → Holds rs k ns → Holds (rs ++ step-row k m a z ∷ []) k (m ∷ ns)
 unfolding member is-row
-holds-more {rs} {k} {ns} m a z H n =
-    there-last rs (step-row k m a z) k n ∙ rw (H n) (go (eqb n m) refl)
+holds-more {rs} {k} {ns} m a z H =
+    record { holds-at = λ n. there-last rs (step-row k m a z) k n ∙ rw (H .holds-at n) (go n (eqb n m) refl) }
   where
-    go : (q : Bool) → eqb n m ≡ q → (is-row k n (step-row k m a z) || member n ns) ≡ (q || member n ns)
-    go true e = rw (is-row, eq-eqb k k refl, eq-eqb m n (sym (eqb-true n m e)))
-    go false e = rw (is-row, eq-eqb k k refl, ne-eqb m n (λ q. eqb-false n m e (sym q)))
+    go : (n : ℕ) (q : Bool) → eqb n m ≡ q → (is-row k n (step-row k m a z) || member n ns) ≡ (q || member n ns)
+    go n true e = rw (is-row, eq-eqb k k refl, eq-eqb m n (sym (eqb-true n m e)))
+    go n false e = rw (is-row, eq-eqb k k refl, ne-eqb m n (λ q. eqb-false n m e (sym q)))
 
 pub holds-other : {rs : List Row} {j : ℕ} {ns : List ℕ} (k m a z : ℕ) → (j ≡ k → ⊥) → Holds rs j ns → Holds (rs ++ step-row k m a z ∷ []) j ns
 unfolding is-row
-holds-other {rs} {j} {ns} k m a z d H n =
-    there-last rs (step-row k m a z) j n ∙ rw (is-row, ne-eqb k j (λ e. d (sym e))) (H n)
+holds-other {rs} {j} {ns} k m a z d H =
+    record { holds-at = λ n. there-last rs (step-row k m a z) j n ∙ rw (is-row, ne-eqb k j (λ e. d (sym e))) (H .holds-at n) }
 
 pub holds-none : (k : ℕ) → Holds [] k []
 unfolding member
-holds-none k n = there-none k n
+holds-none k = record { holds-at = λ n. there-none k n }
 
 -- only membership counts
 holds-as : {rs : List Row} {k : ℕ} {ns ms : List ℕ} → ((n : ℕ) → member n ns ≡ member n ms) → Holds rs k ns → Holds rs k ms
-holds-as e H n = H n ∙ e n
+holds-as e H = record { holds-at = λ n. H .holds-at n ∙ e n }
 
 module _ (ar types : List ℕ) where
   -- behind a struct's steps the rows have their names too
@@ -170,5 +170,5 @@ unfolding had stepped
 had-is rs n [] k h = refl
 had-is rs n (ts ∷ tss) k h =
     let e : k + 0 ≡ k = omega arith in
-    let here : there rs k n ≡ member n (names ts) = rw e at (h 0 (omega arith) n) in
+    let here : there rs k n ≡ member n (names ts) = rw e at (h 0 (omega arith)) .holds-at n in
     rw (here, had-is rs n tss (suc k) (λ j l. let q : k + suc j ≡ suc k + j = omega arith in rw q at (h (suc j) (omega arith)))) refl
