@@ -1,4 +1,4 @@
--- What a checker totals up over a program gives its number, its commands, its depth and its steps (01, numbers 6 to 8).
+-- What a checker totals up over a program gives its number, its commands and its depth (01, numbers 6 to 8).
 use Prim.Native.Nat.{ℕ, suc, _+_, _≤_, _<_}
 use native.Mathlib.Omega.{arith}
 use native.Mathlib.Nat.{zero-add}
@@ -123,11 +123,6 @@ module _ (p : Program) (c : Counts p) where
         (greatest (greatest (λ t. height (t .body))) (p .steps)) (every (every step-fits) (p .steps))
     grown = steps-grown ar types (p .steps) 0 no-totals
 
-    -- the steps are counted
-    pub totals-steps : totals .steps ≡ total length (p .steps)
-    unfolding no-totals
-    totals-steps = grown .steps ∙ zero-add (total length (p .steps))
-
     -- the commands are the program's
     pub totals-commands : totals .commands ≡ program-size p
     unfolding no-totals
@@ -195,7 +190,7 @@ module _ (p : Program) (c : Counts p) where
   unfolding checked-number program-totals program-plan
   checked-law = totals-law own-tables
 
-  -- and so are its commands, its depth and its steps
+  -- and so are its commands and its depth
   pub checked-commands : program-totals p .commands ≡ program-size p
   unfolding program-totals
   checked-commands = totals-commands own-tables
@@ -203,7 +198,3 @@ module _ (p : Program) (c : Counts p) where
   pub checked-depth : program-totals p .depth ≡ program-depth p
   unfolding program-totals
   checked-depth = totals-depth own-tables
-
-  pub checked-steps : program-totals p .steps ≡ total length (p .steps)
-  unfolding program-totals
-  checked-steps = totals-steps own-tables

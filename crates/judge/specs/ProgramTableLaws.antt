@@ -1,6 +1,7 @@
 -- The table of a program's types and the rows of its steps hold what they are to (for 01, numbers 7 and 8).
 use Prim.Native.Nat.{ℕ, zero, suc, _+_, _*_, _<_, _≤_}
 use native.Mathlib.Omega.{arith}
+use native.Mathlib.Nat.{zero-add}
 use mathlib.Core.Bool.{Bool, true, false, _||_}
 use mathlib.Core.List.{List, [], _∷_, _++_, append-nil, append-assoc}
 use mathlib.Core.Path.{_≡_, refl, ap, sym, _∙_}
@@ -23,6 +24,7 @@ use Rattle.directory.specs.Directory.{row as step-row, is-row, there, steps-row
 use Rattle.directory.specs.FindLaws.{there-none, there-last}
 use Rattle.judge.specs.Verdicts.{Tables}
 use Rattle.judge.specs.SizeFactsLaws.{body-facts-size}
+use Rattle.judge.specs.TotalLaws.{steps-grown}
 use Rattle.judge.specs.ProgramFacts.{row, types-table, Totals, no-totals, added, struct-totals, step-totals, had, program-totals}
 use Rattle.judge.specs.Facts.{no-locals, body-facts}
 use Rattle.judge.specs.ScopeLaws.{swapped}
@@ -160,6 +162,11 @@ module _ (ar types : List ℕ) where
 pub totals-listed : (p : Program) → program-totals p .rows ≡ directory p
 unfolding program-totals no-totals directory
 totals-listed p = steps-listed (arities p) (types-table (p .params)) (p .steps) 0 no-totals
+
+-- a row for each step
+pub totals-count : (p : Program) → program-totals p .steps ≡ total length (p .steps)
+unfolding program-totals no-totals
+totals-count p = steps-grown (arities p) (types-table (p .params)) (p .steps) 0 no-totals .steps ∙ zero-add _
 
 -- Looking a step up ------------------------------------------------------------------
 

@@ -17,7 +17,7 @@ pub use Rattle.read_stmts.specs.StmtWays.{done-is, done-stops}
 use Rattle.answers.specs.Answers.{Answer, Answer.value, Answer.refused, answer}
 use Rattle.answers.specs.AnswerLaws.{answer-is, answer-stops, row-none, row-stop, row-more}
 use Rattle.directory.specs.Directory.{row, there}
-use Rattle.directory.specs.Rows.{rows-from}
+use Rattle.directory.specs.Rows.{put-row, rows-from}
 use Rattle.judge.specs.declared.Done.{Done}
 use Rattle.judge.specs.Facts.{no-locals, body-facts}
 use Rattle.judge.specs.ProgramFacts.{Totals as Sum, added, struct-totals, step-totals}
@@ -107,6 +107,10 @@ module _ (ar types s : List ℕ) (k at : ℕ) (T : Sum) where
       told-ok (step-total ar types k T) (read-step ar s at) (record { name = n; body = q .0 }) i _ _
       (step-whole ar s at n m i (q .0) (byte-is (ranged s 0 32 at) n m e) (q .1))
       (ap (λ (x : Done). plus (less T) x (not (there (T .rows) k n))) (sym (q .2))) (w ∙ rw (q .2) refl)
+
+-- its row, by numbers that are its struct and its name
+pub row-noted : (h h′ : List ℕ) (i k n a z k′ n′ : ℕ) → k′ ≡ k → n′ ≡ n → h′ ≡ put-row h i (row k′ n′ a z) → h′ ≡ put-row h i (row k n a z)
+row-noted h h′ i k n a z k′ n′ e f w = w ∙ rw (e, f)
 
 -- a step has a byte of its own, and its commands one each
 pub step-low : (s : List ℕ) (t : Totals) (d : Done) (new : Bool) (at m i : ℕ) → Low t at → m ≡ at + 1 → DoneBody s m (StmtValue i d)
