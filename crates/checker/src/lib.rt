@@ -1,5 +1,5 @@
 // The checker: a program image to a number, counts and depth, and its commands to a lent list (01, numbers 1 to 8 and 13).
-use emit_steps::rows::ROWS;
+use directory::rows::ROWS;
 use load::Load;
 use load::Loaded;
 ghost use mathlib.Core.Path.{_≡_};

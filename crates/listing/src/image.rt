@@ -1,5 +1,5 @@
 // What the listing program prints of an input: the listing of a program image, or its refusal (01, 'Bench rows').
-use emit_steps::rows::ROWS;
+use directory::rows::ROWS;
 use load::Load;
 use step_lines::program;
 use text::lines::row;

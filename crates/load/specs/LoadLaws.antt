@@ -182,7 +182,7 @@ module _ (x : List ℕ) (z : Loaded) (l : LoadedAs x z) where
   pub rows-are : (h : List ℕ) → RowsHeld (checked x) h → rows-from h 0 (z .steps) ≡ directory loaded-program
   rows-are h w =
       let n : z .steps ≡ length (directory loaded-program) = ap (λ (y : Loaded). y .steps) (l .is) ∙ sym (directory-count loaded-program) in
-      rw n (rw (l .accepts) at w)
+      ap (λ (i : ℕ). rows-from h 0 i) n ∙ rw (l .accepts) at w
 
   -- what stands in front of lent memory
   module _ (b b′ cs cs′ ts ts′ : List ℕ) (held : Held (checked x) (stream x) b b′ cs cs′ ts ts′) where
