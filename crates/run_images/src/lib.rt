@@ -129,7 +129,7 @@ fn reported(
     }
 }
 
-// A program image, as `load::program` has it, into a buffer that the stream of an accepted program fits: the room for a longer one is given back before
+// A program image, as `load::tables` has it, into a buffer that the stream of an accepted program fits: the room for a longer one is given back before
 // a run's own memory is asked for.
 fn kept(image: &[u8], buffer: &mut [u8], counts: &mut [u8], types: &mut [u8]) -> Load
     requires { ⌜ most-bytes ≤ length (now buffer) ⌝ }
@@ -139,7 +139,7 @@ fn kept(image: &[u8], buffer: &mut [u8], counts: &mut [u8], types: &mut [u8]) ->
         (now (counts .entry)) (now (counts .exit)) (now (types .entry)) (now (types .exit)) ⌝ }
 {
     let mut stream = [0u8; types::PROGRAM_BLOCKS * blocks::PAYLOAD_SIZE];
-    let r = load::program(image, &mut stream, counts, types);
+    let r = load::tables(image, &mut stream, counts, types);
     let Load::Program(p) = r else {
         return r;
     };

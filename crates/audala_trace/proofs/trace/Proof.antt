@@ -23,55 +23,55 @@ use Rattle.audala_trace.proofs.trace.Tie as tie
 
 -- The program ----------------------------------------------------------------------------
 
-abbrev start : tie.After-program → tie.Start
+abbrev start : tie.After-tables → tie.Start
 start c = let at-known = c .before .before .before .before in at-known .before .before .before .before
 
 returns : tie.Need-returns
 returns c =
     let at-refused = c .before .before in let at-refusal = at-refused .before .before in let at-told = at-refusal .before in
     let at-match = at-told .before in let p = at-match .before .before .before .before in let a = start p .args in
-    let told = at-told .enum-told .given .1 in let e = load-refused (a .program .now) _ (sym (p .program .ensures .0) ∙ told) in (
+    let told = at-told .enum-told .given .1 in let e = load-refused (a .program .now) _ (sym (p .tables .ensures .0) ∙ told) in (
       rw (refused-text (a .program .now) (a .table .now) (a .turns .now) (checked-refused e (a .table .now)))
           (rw (at-refusal .refusal .ensures, told) at (at-refused .refused .ensures .0)),
       at-refused .refused .ensures .1,
     )
 
-abbrev at-program : tie.After-loaded → tie.After-program
+abbrev at-program : tie.After-loaded → tie.After-tables
 at-program c = let at-match = c .before in at-match .before .before .before .before
 
 abbrev answered : tie.After-loaded → Loaded
 answered c = c .loaded .given .0 .0
 
 loads : (c : tie.After-loaded) → LoadedAs (start (at-program c) .args .program .now) (answered c)
-loads c = load-value _ _ (sym (at-program c .program .ensures .0) ∙ c .loaded .given .1)
+loads c = load-value _ _ (sym (at-program c .tables .ensures .0) ∙ c .loaded .given .1)
 
 -- what stands in the program's memory: the stream, and the tables of the parameters
 abbrev stream-of : tie.After-loaded → List ℕ
-stream-of c = take (answered c .length) (at-program c .program .last .1 .0)
+stream-of c = take (answered c .length) (at-program c .tables .last .1 .0)
 
 abbrev counts-of : tie.After-loaded → List ℕ
-counts-of c = take (answered c .structs) (at-program c .program .last .1 .1 .0)
+counts-of c = take (answered c .structs) (at-program c .tables .last .1 .1 .0)
 
 abbrev types-of : tie.After-loaded → List ℕ
-types-of c = take (max-params * answered c .structs) (at-program c .program .last .1 .1 .1 .0)
+types-of c = take (max-params * answered c .structs) (at-program c .tables .last .1 .1 .1 .0)
 
 admits : (c : tie.After-loaded) → Admitted (stream-of c) (counts-of c) (answered c .at) (loads c .program)
-admits c = admitted _ _ (loads c) _ _ _ _ _ _ (at-program c .program .ensures .1)
+admits c = admitted _ _ (loads c) _ _ _ _ _ _ (at-program c .tables .ensures .1)
 
 typed : (c : tie.After-loaded) → types-of c ≡ types-table (loads c .program .params)
-typed c = types-are _ _ (loads c) _ _ _ _ _ _ (at-program c .program .ensures .1)
+typed c = types-are _ _ (loads c) _ _ _ _ _ _ (at-program c .tables .ensures .1)
 
 abbrev at-loaded : tie.After-struct-known → tie.After-loaded
 at-loaded c = c .before .before
 
 array-share-prefix-counts : tie.Need-array-share-prefix-counts
-array-share-prefix-counts c = let l = at-loaded c in omega (arith, structs-few _ _ (loads l), at-program l .program .kept .1 .1 .0)
+array-share-prefix-counts c = let l = at-loaded c in omega (arith, structs-few _ _ (loads l), at-program l .tables .kept .1 .1 .0)
 
 slice-aggregate-cs : tie.Need-slice-aggregate-cs
 slice-aggregate-cs c = sym (length-take-le _ _ (array-share-prefix-counts (c .before)))
 
 array-share-prefix-types : tie.Need-array-share-prefix-types
-array-share-prefix-types c = let l = at-loaded (c .before) in omega (arith, structs-few _ _ (loads l), at-program l .program .kept .1 .1 .1 .0)
+array-share-prefix-types c = let l = at-loaded (c .before) in omega (arith, structs-few _ _ (loads l), at-program l .tables .kept .1 .1 .1 .0)
 
 slice-aggregate-ts : tie.Need-slice-aggregate-ts
 slice-aggregate-ts c = sym (length-take-le _ _ (array-share-prefix-types (c .before)))
@@ -140,7 +140,7 @@ abbrev the-read : tie.After-fresh → tie.After-read
 the-read c = c .before .before .before
 
 array-share-prefix-stream : tie.Need-array-share-prefix-stream
-array-share-prefix-stream c = let l = the-loaded (the-read c) in omega (arith, length-fits _ _ (loads l), at-program l .program .kept .1 .0)
+array-share-prefix-stream c = let l = the-loaded (the-read c) in omega (arith, length-fits _ _ (loads l), at-program l .tables .kept .1 .0)
 
 slice-aggregate-s : tie.Need-slice-aggregate-s
 slice-aggregate-s c = sym (length-take-le _ _ (array-share-prefix-stream (c .before)))
