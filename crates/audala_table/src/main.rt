@@ -55,7 +55,7 @@ fn accepted(program: &[u8], table: &[u8]) -> bool {
     let mut counts = [0u8; types::MAX_STRUCTS];
     let mut types = [0u8; types::MAX_STRUCTS * types::MAX_PARAMS];
     let mut rows = [0u8; STREAM];
-    let mut heads = [0usize; layout::HEADS];
+    let mut heads = [0u16; layout::HEADS];
     let mut cells = [0u64; layout::CELLS];
     let loaded = seating::admit(program, &mut stream, &mut counts, &mut types);
     let Load::Program(p) = loaded else {

@@ -1,5 +1,5 @@
 // The checker: a program image to a number, counts and depth, and its commands to a lent list (01, numbers 1 to 8 and 13).
-use emit_steps::rows::ROWS;
+use directory::rows::ROWS;
 use load::Load;
 use load::Loaded;
 ghost use mathlib.Core.Path.{_≡_};
@@ -51,7 +51,8 @@ pub fn check(image: &[u8], list: &mut [u64]) -> Verdict
     let mut stream = [0u8; types::PROGRAM_BLOCKS * blocks::PAYLOAD_SIZE];
     let mut counts = [0u8; types::MAX_STRUCTS];
     let mut types = [0u8; types::MAX_STRUCTS * types::MAX_PARAMS];
-    let r = load::program(image, &mut stream, &mut counts, &mut types);
+    let mut rows = [0u16; ROWS];
+    let r = load::program(image, &mut stream, &mut counts, &mut types, &mut rows);
     let Load::Program(p) = r else {
         return refused(load::refusal(r));
     };
@@ -60,7 +61,6 @@ pub fn check(image: &[u8], list: &mut [u64]) -> Verdict
     }
     let n = p.length;
     let k = p.structs as usize;
-    let mut rows = [0u16; ROWS];
     emit_steps::program(&stream[..n], &counts[..k], p.at, list, &mut rows);
     accepted(p)
 }

@@ -3,7 +3,7 @@
 pub mod items;
 pub mod spans;
 
-use emit_steps::rows::ROWS;
+use directory::rows::ROWS;
 ghost use mathlib.Core.Path.{_≡_};
 ghost use Prim.Native.Nat.{_<_};
 ghost use lib.ListN.{length, set};

@@ -1,7 +1,7 @@
 // Where the commands of each step stand in the list, by struct and name, noted off the step directory (01, 'Table and turns').
 use directory::Row;
-use emit_steps::rows::place;
-use emit_steps::rows::row_at;
+use directory::rows::place;
+use directory::rows::row_at;
 ghost use mathlib.Core.Path.{_≡_};
 ghost use Prim.Native.Nat.{_+_, _*_, _<_, _≤_};
 ghost use lib.ListN.{length, set};

@@ -32,3 +32,11 @@ is-row k n r = elim (eqb (r .structure) k) [ true ↦ eqb (r .name) n | false �
 unfoldable pub find-row : List Row → ℕ → ℕ → Option Row
 find-row [] k n = none
 find-row (r ∷ rs) k n = elim (is-row k n r) [ true ↦ some r | false ↦ find-row rs k n ]
+
+-- whether there is one
+abbrev pub found : Option Row → Bool
+found none = false
+found (some r) = true
+
+unfoldable pub there : List Row → ℕ → ℕ → Bool
+there rs k n = found (find-row rs k n)

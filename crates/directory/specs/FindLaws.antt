@@ -1,9 +1,9 @@
 -- The first row of a struct and a name is that of the step which `find-step` gives, and there is none where it gives none (01, 'Names,
 -- types, commands'; 000's S).
-use Prim.Native.Nat.{ℕ, zero, suc, _+_, _<_}
+use Prim.Native.Nat.{ℕ, zero, suc, _+_, _-_, _<_, _≤_}
 use native.Mathlib.Omega.{arith}
-use mathlib.Core.Path.{_≡_, refl, _∙_}
-use mathlib.Core.Bool.{Bool, true, false}
+use mathlib.Core.Path.{_≡_, refl, ap, _∙_}
+use mathlib.Core.Bool.{Bool, true, false, _||_}
 use mathlib.Core.Option.{Option, none, some}
 use mathlib.Core.List.{List, [], _∷_, _++_}
 use lib.ListN.{getD}
@@ -15,7 +15,10 @@ use Rattle.commands.specs.Bounds.{total, step-size}
 use Rattle.commands.specs.Context.{find-step, step-of}
 use Rattle.commands.specs.ProgramWords.{step-words, steps-words, structs-words, program-words}
 use Rattle.directory.specs.declared.Row.{Row}
-use Rattle.directory.specs.Directory.{row, steps-rows, structs-rows, directory, is-row, find-row}
+use Rattle.directory.specs.declared.rows.Sought.the-variants.{Here, Nowhere}
+use Rattle.directory.specs.Directory.{row, steps-rows, structs-rows, directory, is-row, find-row, found, there}
+use Rattle.directory.specs.Rows.{row-at, rows-from, sought}
+use Rattle.directory.specs.RowsLaws.{rows-none, rows-next}
 use Rattle.directory.specs.Held.{Holds, Marks}
 use Rattle.directory.specs.HeldLaws.{holds-program, holds-step, holds-struct, holds-words, holds-size}
 
@@ -42,6 +45,60 @@ module _ (r : Row) (rs : List Row) (k n : ℕ) where
 pub find-none : (k n : ℕ) → find-row [] k n ≡ none
 unfolding find-row
 find-none k n = refl
+
+-- of the rows from i on: none is left, the first is the row, or it is not
+module _ (l : List ℕ) (i n k m : ℕ) where
+  pub find-end : n ≤ i → find-row (rows-from l i (n - i)) k m ≡ none
+  find-end h = ap (λ (x : List Row). find-row x k m) (rows-none l i (n - i) (omega arith)) ∙ find-none k m
+
+  module _ (h : i < n) (r : Row) (e : r ≡ row-at l i) where
+    pub find-at : is-row k m r ≡ true → find-row (rows-from l i (n - i)) k m ≡ some r
+    unfolding find-row
+    find-at b = ap (λ (x : List Row). find-row x k m) (rows-next l i n r e h) ∙ rw (find-row, b)
+
+    pub find-on : is-row k m r ≡ false → find-row (rows-from l i (n - i)) k m ≡ find-row (rows-from l (i + 1) (n - (i + 1))) k m
+    unfolding find-row
+    find-on b = ap (λ (x : List Row). find-row x k m) (rows-next l i n r e h) ∙ rw (find-row, b)
+
+-- no row; one more at the end
+pub there-none : (k n : ℕ) → there [] k n ≡ false
+unfolding there
+there-none k n = ap found (find-none k n)
+
+pub there-last : (rs : List Row) (r : Row) (k n : ℕ) → there (rs ++ r ∷ []) k n ≡ (is-row k n r || there rs k n)
+unfolding there find-row
+there-last [] r k n = go (is-row k n r) refl
+  where
+    go : (b : Bool) → is-row k n r ≡ b → found (find-row (r ∷ []) k n) ≡ (b || found (find-row [] k n))
+    go true e = rw (find-row, e)
+    go false e = rw (find-row, e)
+there-last (x ∷ rs) r k n = go (is-row k n x) refl (there-last rs r k n)
+  where
+    true-or : (b : Bool) → true ≡ (b || true)
+    true-or true = refl
+    true-or false = refl
+
+    go : (b : Bool) → is-row k n x ≡ b → there (rs ++ r ∷ []) k n ≡ (is-row k n r || there rs k n)
+        → found (find-row (x ∷ (rs ++ r ∷ [])) k n) ≡ (is-row k n r || found (find-row (x ∷ rs) k n))
+    go true e h = rw (find-row, e) (true-or (is-row k n r))
+    go false e h = rw (find-row, e) h
+
+-- what the search answers tells whether there is a row
+pub there-nowhere : (rs : List Row) (k n : ℕ) → sought (find-row rs k n) ≡ Nowhere → there rs k n ≡ false
+unfolding there
+there-nowhere rs k n e = go (find-row rs k n) e
+  where
+    go : (o : Option Row) → sought o ≡ Nowhere → found o ≡ false
+    go none e = refl
+    go (some r) e = let z : _≡_ {A = ℕ} 0 1 = cc in absurd (omega arith)
+
+pub there-here : (rs : List Row) (k n : ℕ) (r : Row) → sought (find-row rs k n) ≡ Here r → there rs k n ≡ true
+unfolding there
+there-here rs k n r e = go (find-row rs k n) e
+  where
+    go : (o : Option Row) → sought o ≡ Here r → found o ≡ true
+    go none e = let z : _≡_ {A = ℕ} 0 1 = cc in absurd (omega arith)
+    go (some x) e = refl
 
 -- what all rows have, the row that is found has
 abbrev pub IfFound : (Row → Type 0) → Option Row → Type 0

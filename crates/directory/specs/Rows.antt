@@ -1,11 +1,16 @@
 -- How rows of the directory stand in lent memory: four numbers for each, one row behind the other.
 use Prim.Native.Nat.{ℕ, zero, suc, _+_, _*_}
+use mathlib.Core.Path.{_≡_}
+use mathlib.Core.Option.{Option, none, some}
 use mathlib.Core.List.{List, [], _∷_}
-use lib.ListN.{getD}
+use lib.ListN.{length, getD}
 use lib.Seq.{sets}
 use Rattle.types.specs.Limits.{max-structs, max-steps}
+use Rattle.program.specs.Tree.{Program}
 use Rattle.directory.specs.declared.Row.{Row}
-use Rattle.directory.specs.Directory.{row}
+use Rattle.directory.specs.declared.rows.Sought.{Sought}
+use Rattle.directory.specs.declared.rows.Sought.the-variants.{Here, Nowhere}
+use Rattle.directory.specs.Directory.{row, directory}
 
 -- numbers of a row, and of as many rows as a program may have
 abbrev pub row-places : ℕ
@@ -29,3 +34,12 @@ row-at l i = row (getD l (row-places * i) 0) (getD l (row-places * i + 1) 0) (ge
 unfoldable pub rows-from : List ℕ → ℕ → ℕ → List Row
 rows-from l i zero = []
 rows-from l i (suc n) = row-at l i ∷ rows-from l (suc i) n
+
+-- the directory of a program stands in front
+abbrev pub Listed : List ℕ → Program → Type 0
+Listed l p = rows-from l 0 (length (directory p)) ≡ directory p
+
+-- a row that is found, as the code has it
+abbrev pub sought : Option Row → Sought
+sought none = Nowhere
+sought (some r) = Here r

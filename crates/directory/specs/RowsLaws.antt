@@ -108,6 +108,22 @@ rows-more l i (suc n) h = rw (add-one, sub-one)
 pub rows-next : (l : List ℕ) (i n : ℕ) (x : Row) → x ≡ row-at l i → i < n → rows-from l i (n - i) ≡ x ∷ rows-from l (i + 1) (n - (i + 1))
 rows-next l i n x e h = let a : n - i - 1 ≡ n - (i + 1) = omega arith in rows-more l i (n - i) (λ z. omega arith) ∙ rw (a, e) refl
 
+-- one more behind n
+pub rows-last : (l : List ℕ) (i n : ℕ) → rows-from l i (suc n) ≡ rows-from l i n ++ row-at l (i + n) ∷ []
+unfolding rows-from
+rows-last l i zero = rw add-zero
+rows-last l i (suc n) = rw (add-suc, ← suc-add) (ap (λ (x : List Row). row-at l i ∷ x) (rows-last l (suc i) n))
+
+-- rows before the one that was written
+rows-kept : (l : List ℕ) (i j n : ℕ) (r : Row) → j + n ≤ i → rows-from (put-row l i r) j n ≡ rows-from l j n
+unfolding rows-from
+rows-kept l i j zero r h = refl
+rows-kept l i j (suc n) r h = rw (put-row-before l i j r (omega arith), rows-kept l i (suc j) n r (omega arith))
+
+-- and one is written behind n
+pub rows-added : (l : List ℕ) (n : ℕ) (r : Row) → row-places * suc n ≤ length l → rows-from (put-row l n r) 0 (suc n) ≡ rows-from l 0 n ++ r ∷ []
+rows-added l n r h = rows-last (put-row l n r) 0 n ∙ rw (zero-add, rows-kept l n 0 n r (omega arith), put-row-at l n r h)
+
 -- what all rows have, each has
 rows-all : (C : Row → Type 0) (l : List ℕ) (i n : ℕ) → All C (rows-from l i n) → (j : ℕ) → j < n → C (row-at l (i + j))
 unfolding rows-from

@@ -1,9 +1,7 @@
 // The commands of a program's steps in the lent list, and the step directory in lent memory, in one walk (01, 'Names, types, commands').
-pub mod rows;
-
 use directory::Row;
-use rows::number;
-use rows::put_row;
+use directory::rows::number;
+use directory::rows::put_row;
 ghost use mathlib.Core.Path.{_≡_};
 ghost use Prim.Native.Nat.{_≤_};
 ghost use lib.ListN.{length};

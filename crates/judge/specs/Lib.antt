@@ -10,8 +10,8 @@ pub mod ScopeLaws
 pub mod BodyFactsLaws
 pub mod ProgramFacts
 pub mod FollowLaws
-pub mod ProgramTableLaws
 pub mod TotalLaws
+pub mod ProgramTableLaws
 pub mod NameTotalLaws
 pub mod ProgramFactsLaws
 pub mod ByteBoundLaws

@@ -16,11 +16,11 @@ use Rattle.commands.specs.Decide.{every, member, distinct}
 use Rattle.commands.specs.Decide.NamesDecide.{body-named, steps-named}
 use Rattle.commands.specs.Decide.TypingDecide.{body-typed, steps-typed}
 use Rattle.judge.specs.Facts.{named, no-locals, body-facts}
-use Rattle.judge.specs.Verdicts.{Says, Tables, flag}
+use Rattle.judge.specs.Verdicts.{Says, Tables}
 use Rattle.judge.specs.FaultLaws.{says-as, says-both, says-named}
 use Rattle.judge.specs.BodyFactsLaws.{step-says}
 use Rattle.judge.specs.ProgramFacts.{Totals, added, struct-totals, step-totals}
-use Rattle.judge.specs.ProgramTableLaws.{Holds, holds-more, Low, struct-other}
+use Rattle.judge.specs.ProgramTableLaws.{Holds, holds-more, struct-other}
 
 -- Names that stand once --------------------------------------------------------------
 
@@ -88,12 +88,6 @@ types-order false y z = refl
 types-order true true z = refl
 types-order true false z = refl
 
--- the names of steps within the counts are names
-pub low : (cs : List ℕ) (ts : List Step) → All (CountsStep cs) ts → Low ts
-unfolding CountsStep
-low cs [] c = tt
-low cs (t ∷ ts) c = (c .0 .0, low cs ts (c .1))
-
 module _ (p : Program) {cs ar types : List ℕ} (tables : (k : ℕ) (t : Step) → Tables cs ar types (context p k (t .body))) (few : length cs ≤ max-structs) where
   -- a body of struct k is named right, typed right
   abbrev well-named : ℕ → Step → Bool
@@ -102,41 +96,34 @@ module _ (p : Program) {cs ar types : List ℕ} (tables : (k : ℕ) (t : Step) �
   abbrev well-typed : ℕ → Step → Bool
   well-typed k t = body-typed (context p k (t .body)) (t .body)
 
-  added-says : {a b : Bool} (k : ℕ) (t : Step) (ns : List ℕ) (T : Totals) → CountsStep cs t → Holds (T .has) k ns → Says (T .fault) a b
+  added-says : {a b : Bool} (k : ℕ) (t : Step) (ns : List ℕ) (T : Totals) → CountsStep cs t → Holds (T .rows) k ns → Says (T .fault) a b
       → Says (added k (t .name) (body-facts ar types k (t .body) no-locals) T .fault) (a && (well-named k t && not (member (t .name) ns)))
       (b && (well-typed k t && true))
   unfolding added CountsStep
   added-says k t ns T c H s = says-both s
-      (says-both (step-says p k (t .body) (tables k t) few (c .2)) (rw (H .holds-at (t .name) (c .0)) (go (member (t .name) ns))))
-    where
-      go : (m : Bool) → Says (named (eqb (flag m) 0)) (not m) true
-      go true = says-named false
-      go false = says-named true
+      (says-both (step-says p k (t .body) (tables k t) few (c .2)) (rw (H .holds-at (t .name)) (says-named (not (member (t .name) ns)))))
 
-  struct-says : (ts : List Step) → All (CountsStep cs) ts → {a b : Bool} (k : ℕ) (ns : List ℕ) (T : Totals) → k < max-structs → Holds (T .has) k ns
-      → Says (T .fault) a b
+  struct-says : (ts : List Step) → All (CountsStep cs) ts → {a b : Bool} (k : ℕ) (ns : List ℕ) (T : Totals) → Holds (T .rows) k ns → Says (T .fault) a b
       → Says (struct-totals ar types k ts T .fault) (a && (fresh ns (names ts) && every (well-named k) ts)) (b && every (well-typed k) ts)
   unfolding struct-totals added fresh names every CountsStep
-  struct-says [] c {a} {b} k ns T l H s = says-as (sym (and-true a)) (sym (and-true b)) s
-  struct-says (t ∷ ts) c {a} {b} k ns T l H s =
+  struct-says [] c {a} {b} k ns T H s = says-as (sym (and-true a)) (sym (and-true b)) s
+  struct-says (t ∷ ts) c {a} {b} k ns T H s =
       says-as
       (names-order a (well-named k t) (not (member (t .name) ns)) (fresh (t .name ∷ ns) (names ts)) (every (well-named k) ts))
       (types-order b (well-typed k t) (every (well-typed k) ts))
-      (struct-says ts (c .1) k (t .name ∷ ns) (added k (t .name) (body-facts ar types k (t .body) no-locals) T) l (holds-more (t .name) l (c .0 .0) H)
+      (struct-says ts (c .1) k (t .name ∷ ns) (added k (t .name) (body-facts ar types k (t .body) no-locals) T) (holds-more (t .name) _ _ H)
       (added-says k t ns T (c .0) H s))
 
   -- over the steps of each struct the fault is 7 where a name is wrong, else 8 where a type is, else 0
-  pub steps-say : (tss : List (List Step)) → All (All (CountsStep cs)) tss → {a b : Bool} (k : ℕ) (T : Totals) → k + length tss ≤ max-structs
-      → ((j : ℕ) → k ≤ j → j < max-structs → Holds (T .has) j [])
+  pub steps-say : (tss : List (List Step)) → All (All (CountsStep cs)) tss → {a b : Bool} (k : ℕ) (T : Totals) → ((j : ℕ) → k ≤ j → Holds (T .rows) j [])
       → Says (T .fault) a b → Says (step-totals ar types k tss T .fault) (a && steps-named p k tss) (b && steps-typed p k tss)
   unfolding step-totals steps-named steps-typed
-  steps-say [] c {a} {b} k T l H s = says-as (sym (and-true a)) (sym (and-true b)) s
-  steps-say (ts ∷ tss) c {a} {b} k T l H s =
+  steps-say [] c {a} {b} k T H s = says-as (sym (and-true a)) (sym (and-true b)) s
+  steps-say (ts ∷ tss) c {a} {b} k T H s =
       says-as
       (ap (λ q. (a && (q && every (well-named k) ts)) && steps-named p (suc k) tss) (fresh-distinct (names ts))
       ∙ and-assoc a (distinct (names ts) && every (well-named k) ts) (steps-named p (suc k) tss)
       ∙ ap (λ q. a && q) (and-assoc (distinct (names ts)) (every (well-named k) ts) (steps-named p (suc k) tss)))
       (and-assoc b (every (well-typed k) ts) (steps-typed p (suc k) tss))
-      (steps-say tss (c .1) (suc k) (struct-totals ar types k ts T) (omega arith)
-      (λ j m n. struct-other ar types ts (low cs ts (c .0)) k T (λ e. omega arith) (H j (omega arith) n))
-      (struct-says ts (c .0) k [] T (omega arith) (H k (omega arith) (omega arith)) s))
+      (steps-say tss (c .1) (suc k) (struct-totals ar types k ts T) (λ j m. struct-other ar types ts k T (λ e. omega arith) (H j (omega arith)))
+      (struct-says ts (c .0) k [] T (H k (omega arith)) s))

@@ -1,15 +1,17 @@
--- What a checker totals up over a program in one walk over its stream (01, numbers 6 to 8): steps, commands, depth, faults, which
--- steps each struct has, and the items of the schedule; and the number that comes of it. Laws are in ProgramFactsLaws.
+-- What a checker totals up over a program in one walk over its stream (01, numbers 6 to 8): steps, commands, depth, faults, the step
+-- directory, and the items of the schedule; and the number that comes of it. Laws are in ProgramFactsLaws.
 use Prim.Native.Nat.{ℕ, zero, suc, _+_, _*_, max}
 use mathlib.Core.Bool.{Bool, true, false, not, _||_}
 use mathlib.Core.List.{List, [], _∷_, _++_}
-use lib.ListN.{length, getD, set, replicate}
+use lib.ListN.{length}
 use lib.Dec.{ltb, eqb}
-use Rattle.types.specs.Limits.{max-structs, max-params, step-names, step-commands, max-commands, max-depth, schedule-items}
+use Rattle.types.specs.Limits.{max-params, step-commands, max-commands, max-depth, schedule-items}
 use Rattle.types.specs.Types.{Ty, code}
 use Rattle.program.specs.Tree.{Item, Item.call, Item.call-in, Item.fix, Items, Items.stop, Items.item, Step, Program}
 use Rattle.commands.specs.Bounds.{arities}
 use Rattle.commands.specs.Numbers.{over-limits}
+use Rattle.directory.specs.declared.Row.{Row}
+use Rattle.directory.specs.Directory.{row as step-row, there}
 use Rattle.judge.specs.Facts.{worst, named, no-locals, body-facts}
 use Rattle.judge.specs.declared.Done.{Done}
 
@@ -26,16 +28,6 @@ unfoldable pub types-table : List (List Ty) → List ℕ
 types-table [] = []
 types-table (ts ∷ tss) = row max-params ts ++ types-table tss
 
--- the place of step name n of struct k among 32 for each struct; 1 stands there once the struct has the step
-abbrev pub place : ℕ → ℕ → ℕ
-place k n = step-names * k + n
-
-abbrev pub places : ℕ
-places = step-names * max-structs
-
-unfoldable pub no-steps : List ℕ
-no-steps = replicate places 0
-
 -- Steps ----------------------------------------------------------------------------
 
 pub record Totals : Type 0 where
@@ -45,10 +37,11 @@ pub record Totals : Type 0 where
   -- 1 once a step has too many commands or goes too deep
   pub over : ℕ
   pub fault : ℕ
-  pub has : List ℕ
+  -- the step directory so far
+  pub rows : List Row
 
 unfoldable pub no-totals : Totals
-no-totals = record { steps = 0; commands = 0; depth = 0; over = 0; fault = 0; has = no-steps }
+no-totals = record { steps = 0; commands = 0; depth = 0; over = 0; fault = 0; rows = [] }
 
 -- one step more: its struct, its name, what was computed of its body
 unfoldable pub added : ℕ → ℕ → Done → Totals → Totals
@@ -57,8 +50,8 @@ added k n d T = record {
   commands = T .commands + d .size;
   depth = max (T .depth) (d .height);
   over = elim (ltb step-commands (d .size) || ltb max-depth (d .height)) [ true ↦ 1 | false ↦ T .over ];
-  fault = worst (T .fault) (worst (d .fault) (named (eqb (getD (T .has) (place k n) 0) 0)));
-  has = set (T .has) (place k n) 1;
+  fault = worst (T .fault) (worst (d .fault) (named (not (there (T .rows) k n))));
+  rows = T .rows ++ step-row k n (T .commands) (d .size) ∷ [];
 }
 
 module _ (ar types : List ℕ) where
@@ -75,9 +68,9 @@ module _ (ar types : List ℕ) where
 -- The schedule ---------------------------------------------------------------------
 
 -- whether some of the c structs from struct k on has the step n
-unfoldable pub had : List ℕ → ℕ → ℕ → ℕ → Bool
-had hs n k zero = false
-had hs n k (suc c) = elim (eqb (getD hs (place k n) 0) 0) [ false ↦ true | true ↦ had hs n (suc k) c ]
+unfoldable pub had : List Row → ℕ → ℕ → ℕ → Bool
+had rs n k zero = false
+had rs n k (suc c) = there rs k n || had rs n (suc k) c
 
 pub record Planned : Type 0 where
   pub count : ℕ
@@ -90,11 +83,11 @@ unfoldable pub joined : Planned → Planned → Planned
 joined a b = plan (a .count + b .count) (worst (a .fault) (b .fault))
 
 -- of a program with S structs
-module _ (hs : List ℕ) (S : ℕ) where
+module _ (rs : List Row) (S : ℕ) where
   unfoldable mutual
     pub item-plan : Item → Planned
-    item-plan (call n) = plan 1 (named (had hs n 0 S))
-    item-plan (call-in k n) = plan 1 (named (not (eqb (getD hs (place k n) 0) 0)))
+    item-plan (call n) = plan 1 (named (had rs n 0 S))
+    item-plan (call-in k n) = plan 1 (named (there rs k n))
     item-plan (fix is) = plan (suc (items-plan is .count)) (items-plan is .fault)
 
     pub items-plan : Items → Planned
@@ -115,7 +108,7 @@ unfoldable pub program-totals : Program → Totals
 program-totals p = step-totals (arities p) (types-table (p .params)) 0 (p .steps) no-totals
 
 unfoldable pub program-plan : Program → Planned
-program-plan p = items-plan (program-totals p .has) (length (p .steps)) (p .schedule)
+program-plan p = items-plan (program-totals p .rows) (length (p .steps)) (p .schedule)
 
 unfoldable pub checked-number : Program → ℕ
 checked-number p = totals-number (program-totals p) (program-plan p)

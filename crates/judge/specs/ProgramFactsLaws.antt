@@ -1,4 +1,4 @@
--- What a checker totals up over a program gives its number, its commands, its depth and its steps (01, numbers 6 to 8).
+-- What a checker totals up over a program gives its number, its commands and its depth (01, numbers 6 to 8).
 use Prim.Native.Nat.{ℕ, suc, _+_, _≤_, _<_}
 use native.Mathlib.Omega.{arith}
 use native.Mathlib.Nat.{zero-add}
@@ -7,7 +7,7 @@ use mathlib.Core.List.{List, [], _∷_}
 use mathlib.Core.Path.{_≡_, refl, ap, _∙_, sym}
 use lib.ListN.{length, getD, length-map}
 use lib.Dec.{leb, eqb}
-use Rattle.types.specs.Limits.{max-structs, step-names, step-commands, max-commands, max-depth, schedule-items}
+use Rattle.types.specs.Limits.{max-structs, step-commands, max-commands, max-depth, schedule-items}
 use Rattle.program.specs.Tree.{Item, Item.call, Item.call-in, Item.fix, Items, Items.stop, Items.item, Step, Program}
 use Rattle.program.specs.Counts.{All, Few, CountsItem, CountsItems, CountsStep, CountsSchedule, Counts}
 use Rattle.commands.specs.Context.{context}
@@ -23,47 +23,44 @@ use Rattle.commands.specs.Decide.BoundsDecide.{within}
 use Rattle.commands.specs.Decide.NamesDecide.{stepped, item-stepped, items-stepped, names-right}
 use Rattle.commands.specs.Decide.TypingDecide.{types-right}
 use Rattle.commands.specs.Numbers.{first, breach-tests, breach-number}
-use Rattle.judge.specs.Facts.{worst, named}
+use Rattle.directory.specs.declared.Row.{Row}
+use Rattle.judge.specs.Facts.{worst}
 use Rattle.judge.specs.Verdicts.{Says, Says.right, Tables, flag}
 use Rattle.judge.specs.FaultLaws.{says-as, says-both, says-named, says-number}
-use Rattle.judge.specs.ProgramFacts.{place, Totals, Planned, no-totals, step-totals, joined, item-plan, items-plan, exceeded, totals-number}
+use Rattle.judge.specs.ProgramFacts.{Totals, Planned, no-totals, step-totals, joined, item-plan, items-plan, exceeded, totals-number}
 use Rattle.judge.specs.ProgramFacts.{types-table, program-totals, program-plan, checked-number}
-use Rattle.judge.specs.ProgramTableLaws.{tables-of, holds-none, steps-hold, had-is}
+use Rattle.judge.specs.ProgramTableLaws.{tables-of, Holds, holds-none, steps-hold, had-is}
 use Rattle.judge.specs.TotalLaws.{Grown, above, step-fits, steps-grown}
-use Rattle.judge.specs.NameTotalLaws.{low, steps-say}
+use Rattle.judge.specs.NameTotalLaws.{steps-say}
 
 -- The schedule ---------------------------------------------------------------------
 
-module _ (hs : List ℕ) (S : ℕ) where
+module _ (rs : List Row) (S : ℕ) where
   mutual
     unfolding item-plan items-plan joined item-count items-count
 
     -- the items are counted as on the tree
-    pub item-plan-count : (i : Item) → item-plan hs S i .count ≡ item-count i
+    pub item-plan-count : (i : Item) → item-plan rs S i .count ≡ item-count i
     item-plan-count (call n) = refl
     item-plan-count (call-in k n) = refl
     item-plan-count (fix is) = ap suc (items-plan-count is)
 
-    pub items-plan-count : (is : Items) → items-plan hs S is .count ≡ items-count is
+    pub items-plan-count : (is : Items) → items-plan rs S is .count ≡ items-count is
     items-plan-count stop = refl
     items-plan-count (item i is) = rw (item-plan-count i, items-plan-count is)
 
-module _ (hs : List ℕ) (tss : List (List Step)) (cs : List ℕ) (same : length cs ≡ length tss)
-    (held : (k : ℕ) → k < length tss → (n : ℕ) → n < step-names → getD hs (place k n) 0 ≡ flag (member n (names (getD tss k [])))) where
+module _ (rs : List Row) (tss : List (List Step)) (cs : List ℕ) (same : length cs ≡ length tss)
+    (held : (k : ℕ) → k < length tss → Holds rs k (names (getD tss k []))) where
   mutual
     unfolding item-plan items-plan joined item-stepped items-stepped CountsItem CountsItems
 
     -- the fault is 7 where a scheduled step is not there
-    pub item-says : (i : Item) → CountsItem cs i → Says (item-plan hs (length tss) i .fault) (item-stepped i tss) true
-    item-says (call n) c = rw (had-is hs n tss 0 (λ j l. rw zero-add (held j l n c))) (says-named (stepped n tss))
-    item-says (call-in k n) c = rw (held k (omega arith) n (c .1)) (go (member n (names (getD tss k []))))
-      where
-        go : (b : Bool) → Says (named (not (eqb (flag b) 0))) b true
-        go true = says-named true
-        go false = says-named false
+    pub item-says : (i : Item) → CountsItem cs i → Says (item-plan rs (length tss) i .fault) (item-stepped i tss) true
+    item-says (call n) c = rw (had-is rs n tss 0 (λ j l. rw zero-add (held j l))) (says-named (stepped n tss))
+    item-says (call-in k n) c = rw (held k (omega arith) .holds-at n) (says-named (member n (names (getD tss k []))))
     item-says (fix is) c = items-say is (c .2)
 
-    pub items-say : (is : Items) → CountsItems cs is → Says (items-plan hs (length tss) is .fault) (items-stepped is tss) true
+    pub items-say : (is : Items) → CountsItems cs is → Says (items-plan rs (length tss) is .fault) (items-stepped is tss) true
     items-say stop c = right refl
     items-say (item i is) c = says-both (item-says i (c .0)) (items-say is (c .1))
 
@@ -120,16 +117,11 @@ module _ (p : Program) (c : Counts p) where
     totals = step-totals ar types 0 (p .steps) no-totals
 
     abbrev pub planned : Planned
-    planned = items-plan (totals .has) (length (p .steps)) (p .schedule)
+    planned = items-plan (totals .rows) (length (p .steps)) (p .schedule)
 
     grown : Grown no-totals totals (total length (p .steps)) (total (total (λ t. body-size (t .body))) (p .steps))
         (greatest (greatest (λ t. height (t .body))) (p .steps)) (every (every step-fits) (p .steps))
     grown = steps-grown ar types (p .steps) 0 no-totals
-
-    -- the steps are counted
-    pub totals-steps : totals .steps ≡ total length (p .steps)
-    unfolding no-totals
-    totals-steps = grown .steps ∙ zero-add (total length (p .steps))
 
     -- the commands are the program's
     pub totals-commands : totals .commands ≡ program-size p
@@ -164,7 +156,7 @@ module _ (p : Program) (c : Counts p) where
         rw (
           grown .over true refl,
           totals-commands,
-          items-plan-count (totals .has) (length (p .steps)) (p .schedule),
+          items-plan-count (totals .rows) (length (p .steps)) (p .schedule),
           above (program-size p) max-commands,
           above (items-count (p .schedule)) schedule-items,
           fits-is,
@@ -179,16 +171,14 @@ module _ (p : Program) (c : Counts p) where
         ap {B = ℕ} (λ q. elim q [ true ↦ 6 | false ↦ worst (totals .fault) (planned .fault) ]) exceeded-is
         ∙ ap {B = ℕ} (λ n. elim (not (within p)) [ true ↦ 6 | false ↦ n ]) (says-number said)
       where
-        held : (k : ℕ) → k < length (p .steps) → (n : ℕ) → n < step-names
-            → getD (totals .has) (place k n) 0 ≡ flag (member n (names (getD (p .steps) k [])))
-        held k l n i = rw zero-add at (steps-hold ar types (p .steps) (all-map (low (arities p)) (p .steps) steps-counts) 0 no-totals few
-            (λ j a b. holds-none j b) k l n i)
+        held : (k : ℕ) → k < length (p .steps) → Holds (totals .rows) k (names (getD (p .steps) k []))
+        held k l = rw zero-add at (steps-hold ar types (p .steps) 0 no-totals (λ j a. holds-none j) k l)
 
         said : Says (worst (totals .fault) (planned .fault)) (names-right p) (types-right p)
         said =
             says-as refl (and-true (types-right p))
-            (says-both (steps-say p tables (omega (arith, few, same)) (p .steps) steps-counts 0 no-totals few (λ j a b. holds-none j b) (right refl))
-            (items-say (totals .has) (p .steps) (arities p) same held (p .schedule) items-counts))
+            (says-both (steps-say p tables (omega (arith, few, same)) (p .steps) steps-counts 0 no-totals (λ j a. holds-none j) (right refl))
+            (items-say (totals .rows) (p .steps) (arities p) same held (p .schedule) items-counts))
 
   -- over the tables that a program's parameters give
   own-tables : (k : ℕ) (t : Step) → Tables (arities p) (arities p) (types-table (p .params)) (context p k (t .body))
@@ -200,7 +190,7 @@ module _ (p : Program) (c : Counts p) where
   unfolding checked-number program-totals program-plan
   checked-law = totals-law own-tables
 
-  -- and so are its commands, its depth and its steps
+  -- and so are its commands and its depth
   pub checked-commands : program-totals p .commands ≡ program-size p
   unfolding program-totals
   checked-commands = totals-commands own-tables
@@ -208,7 +198,3 @@ module _ (p : Program) (c : Counts p) where
   pub checked-depth : program-totals p .depth ≡ program-depth p
   unfolding program-totals
   checked-depth = totals-depth own-tables
-
-  pub checked-steps : program-totals p .steps ≡ total length (p .steps)
-  unfolding program-totals
-  checked-steps = totals-steps own-tables

@@ -1,24 +1,31 @@
--- The tables of a program's types and steps hold what they are to (for 01, numbers 7 and 8).
+-- The table of a program's types and the rows of its steps hold what they are to (for 01, numbers 7 and 8).
 use Prim.Native.Nat.{ℕ, zero, suc, _+_, _*_, _<_, _≤_}
 use native.Mathlib.Omega.{arith}
+use native.Mathlib.Nat.{zero-add}
 use mathlib.Core.Bool.{Bool, true, false, _||_}
-use mathlib.Core.List.{List, [], _∷_, _++_, append-nil}
-use mathlib.Core.Path.{_≡_, refl, ap, _∙_}
-use lib.ListN.{length, getD, set, length-set, length-replicate, getD-replicate, List·getD-map, List·getD-append}
-use lib.Seq.{getD-append-add, getD-set-same, getD-set-other}
+use mathlib.Core.List.{List, [], _∷_, _++_, append-nil, append-assoc}
+use mathlib.Core.Path.{_≡_, refl, ap, sym, _∙_}
+use lib.ListN.{length, getD, List·getD-map, List·getD-append}
+use lib.Seq.{getD-append-add}
 use lib.Dec.{eqb}
-use borrow.Author.Tests.{eqb-true, eqb-false}
-use Rattle.types.specs.Limits.{max-structs, max-params, step-names}
+use borrow.Author.Tests.{eqb-true, eqb-false, eq-eqb, ne-eqb}
+use Rattle.types.specs.Limits.{max-params}
 use Rattle.types.specs.Types.{Ty, Ty.int, code}
 use Rattle.program.specs.Tree.{Stmts, Step, Program}
 use Rattle.program.specs.Counts.{All}
 use Rattle.commands.specs.Context.{context}
-use Rattle.commands.specs.Bounds.{arities}
+use Rattle.commands.specs.Bounds.{arities, total, step-size}
+use Rattle.commands.specs.Laws.SizeLaws.{body-length}
 use Rattle.commands.specs.Names.{names-of-steps as names}
 use Rattle.commands.specs.Decide.{member}
 use Rattle.commands.specs.Decide.NamesDecide.{stepped}
-use Rattle.judge.specs.Verdicts.{Tables, flag}
-use Rattle.judge.specs.ProgramFacts.{row, types-table, place, places, no-steps, Totals, added, struct-totals, step-totals, had}
+use Rattle.directory.specs.declared.Row.{Row}
+use Rattle.directory.specs.Directory.{row as step-row, is-row, there, steps-rows, structs-rows, directory}
+use Rattle.directory.specs.FindLaws.{there-none, there-last}
+use Rattle.judge.specs.Verdicts.{Tables}
+use Rattle.judge.specs.SizeFactsLaws.{body-facts-size}
+use Rattle.judge.specs.TotalLaws.{steps-grown}
+use Rattle.judge.specs.ProgramFacts.{row, types-table, Totals, no-totals, added, struct-totals, step-totals, had, program-totals}
 use Rattle.judge.specs.Facts.{no-locals, body-facts}
 use Rattle.judge.specs.ScopeLaws.{swapped}
 
@@ -62,102 +69,113 @@ tables-of p a k b = record {
 
 -- Steps ----------------------------------------------------------------------------
 
--- the table has for struct k exactly these names
-pub record Holds (hs : List ℕ) (k : ℕ) (ns : List ℕ) : Type 0 where
-  pub long : length hs ≡ places
-  pub holds-at : (n : ℕ) → n < step-names → getD hs (place k n) 0 ≡ flag (member n ns)
+-- the rows have for struct k exactly these names
+pub record Holds (rs : List Row) (k : ℕ) (ns : List ℕ) : Type 0 where
+  pub holds-at : (n : ℕ) → there rs k n ≡ member n ns
 
 -- with one name more for struct k; as before for every other
-pub holds-more : {hs : List ℕ} {k : ℕ} {ns : List ℕ} (m : ℕ) → k < max-structs → m < step-names → Holds hs k ns → Holds (set hs (place k m) 1) k (m ∷ ns)
-unfolding member
-holds-more {hs} {k} {ns} m l h H = record {
-  long = length-set hs (place k m) 1 ∙ H .long;
-  holds-at = λ n i. go n i (eqb n m) refl;
-}
+pub holds-more : {rs : List Row} {k : ℕ} {ns : List ℕ} (m a z : ℕ) → Holds rs k ns → Holds (rs ++ step-row k m a z ∷ []) k (m ∷ ns)
+unfolding member is-row
+holds-more {rs} {k} {ns} m a z H =
+    record { holds-at = λ n. there-last rs (step-row k m a z) k n ∙ rw (H .holds-at n) (go n (eqb n m) refl) }
   where
-    go : (n : ℕ) → n < step-names → (q : Bool) → eqb n m ≡ q → getD (set hs (place k m) 1) (place k n) 0 ≡ flag (q || member n ns)
-    go n i true q = rw (eqb-true n m q) (getD-set-same hs (place k m) 1 0 (omega (arith, H .long)))
-    go n i false q = getD-set-other hs (place k m) (place k n) 1 0 (λ e. eqb-false n m q (omega arith)) ∙ H .holds-at n i
+    go : (n : ℕ) (q : Bool) → eqb n m ≡ q → (is-row k n (step-row k m a z) || member n ns) ≡ (q || member n ns)
+    go n true e = rw (is-row, eq-eqb k k refl, eq-eqb m n (sym (eqb-true n m e)))
+    go n false e = rw (is-row, eq-eqb k k refl, ne-eqb m n (λ q. eqb-false n m e (sym q)))
 
-pub holds-other : {hs : List ℕ} {j : ℕ} {ns : List ℕ} (k m : ℕ) → (j ≡ k → ⊥) → m < step-names → Holds hs j ns → Holds (set hs (place k m) 1) j ns
-holds-other {hs} {j} {ns} k m d h H = record {
-  long = length-set hs (place k m) 1 ∙ H .long;
-  holds-at = λ n i. getD-set-other hs (place k m) (place j n) 1 0 (λ e. d (omega arith)) ∙ H .holds-at n i;
-}
+pub holds-other : {rs : List Row} {j : ℕ} {ns : List ℕ} (k m a z : ℕ) → (j ≡ k → ⊥) → Holds rs j ns → Holds (rs ++ step-row k m a z ∷ []) j ns
+unfolding is-row
+holds-other {rs} {j} {ns} k m a z d H =
+    record { holds-at = λ n. there-last rs (step-row k m a z) j n ∙ rw (is-row, ne-eqb k j (λ e. d (sym e))) (H .holds-at n) }
 
-pub holds-none : (k : ℕ) → k < max-structs → Holds no-steps k []
-unfolding no-steps member
-holds-none k l = record {
-  long = length-replicate {A = ℕ} places 0;
-  holds-at = λ n i. getD-replicate {A = ℕ} places (place k n) 0 0 (omega arith);
-}
+pub holds-none : (k : ℕ) → Holds [] k []
+unfolding member
+holds-none k = record { holds-at = λ n. there-none k n }
 
 -- only membership counts
-holds-as : {hs : List ℕ} {k : ℕ} {ns ms : List ℕ} → ((n : ℕ) → member n ns ≡ member n ms) → Holds hs k ns → Holds hs k ms
-holds-as e H = record { long = H .long; holds-at = λ n i. H .holds-at n i ∙ ap flag (e n) }
-
--- the names of a struct's steps are names
-abbrev pub Low : List Step → Type 0
-Low = All (λ t. t .name < step-names)
+holds-as : {rs : List Row} {k : ℕ} {ns ms : List ℕ} → ((n : ℕ) → member n ns ≡ member n ms) → Holds rs k ns → Holds rs k ms
+holds-as e H = record { holds-at = λ n. H .holds-at n ∙ e n }
 
 module _ (ar types : List ℕ) where
-  -- behind a struct's steps the table has their names too
-  pub struct-holds : (ts : List Step) → Low ts → {k : ℕ} {ns : List ℕ} (T : Totals) → k < max-structs → Holds (T .has) k ns
-      → Holds (struct-totals ar types k ts T .has) k (names ts ++ ns)
+  -- behind a struct's steps the rows have their names too
+  pub struct-holds : (ts : List Step) {k : ℕ} {ns : List ℕ} (T : Totals) → Holds (T .rows) k ns
+      → Holds (struct-totals ar types k ts T .rows) k (names ts ++ ns)
   unfolding struct-totals added names
-  struct-holds [] a T l H = H
-  struct-holds (t ∷ ts) a {k} {ns} T l H =
+  struct-holds [] T H = H
+  struct-holds (t ∷ ts) {k} {ns} T H =
       holds-as (λ n. swapped n (t .name ∷ []) (names ts) ns)
-      (struct-holds ts (a .1) (added k (t .name) (body-facts ar types k (t .body) no-locals) T) l (holds-more (t .name) l (a .0) H))
+      (struct-holds ts (added k (t .name) (body-facts ar types k (t .body) no-locals) T) (holds-more (t .name) _ _ H))
 
-  -- and for another struct what it had
-  pub struct-other : (ts : List Step) → Low ts → {j : ℕ} {ns : List ℕ} (k : ℕ) (T : Totals) → (j ≡ k → ⊥) → Holds (T .has) j ns
-      → Holds (struct-totals ar types k ts T .has) j ns
+  -- and for another struct what they had
+  pub struct-other : (ts : List Step) {j : ℕ} {ns : List ℕ} (k : ℕ) (T : Totals) → (j ≡ k → ⊥) → Holds (T .rows) j ns
+      → Holds (struct-totals ar types k ts T .rows) j ns
   unfolding struct-totals added
-  struct-other [] a k T d H = H
-  struct-other (t ∷ ts) a k T d H =
-      struct-other ts (a .1) k (added k (t .name) (body-facts ar types k (t .body) no-locals) T) d (holds-other k (t .name) d (a .0) H)
+  struct-other [] k T d H = H
+  struct-other (t ∷ ts) k T d H =
+      struct-other ts k (added k (t .name) (body-facts ar types k (t .body) no-locals) T) d (holds-other k (t .name) _ _ d H)
 
-  steps-other : (tss : List (List Step)) → All Low tss → {j : ℕ} {ns : List ℕ} (k : ℕ) (T : Totals) → j < k → Holds (T .has) j ns
-      → Holds (step-totals ar types k tss T .has) j ns
+  steps-other : (tss : List (List Step)) {j : ℕ} {ns : List ℕ} (k : ℕ) (T : Totals) → j < k → Holds (T .rows) j ns
+      → Holds (step-totals ar types k tss T .rows) j ns
   unfolding step-totals
-  steps-other [] a k T l H = H
-  steps-other (ts ∷ tss) a k T l H =
-      steps-other tss (a .1) (suc k) (struct-totals ar types k ts T) (omega arith) (struct-other ts (a .0) k T (λ e. omega arith) H)
+  steps-other [] k T l H = H
+  steps-other (ts ∷ tss) k T l H =
+      steps-other tss (suc k) (struct-totals ar types k ts T) (omega arith) (struct-other ts k T (λ e. omega arith) H)
 
-  -- behind all steps it has each struct's names
-  pub steps-hold : (tss : List (List Step)) → All Low tss → (k : ℕ) (T : Totals) → k + length tss ≤ max-structs
-      → ((j : ℕ) → k ≤ j → j < max-structs → Holds (T .has) j [])
-      → (j : ℕ) → j < length tss → (n : ℕ) → n < step-names
-      → getD (step-totals ar types k tss T .has) (place (k + j) n) 0 ≡ flag (member n (names (getD tss j [])))
-  unfolding step-totals member
-  steps-hold [] a k T l H j h n i = absurd (omega arith)
-  steps-hold (ts ∷ tss) a k T l H zero h n i =
+  -- behind all steps they have each struct's names
+  pub steps-hold : (tss : List (List Step)) (k : ℕ) (T : Totals) → ((j : ℕ) → k ≤ j → Holds (T .rows) j [])
+      → (j : ℕ) → j < length tss → Holds (step-totals ar types k tss T .rows) (k + j) (names (getD tss j []))
+  unfolding step-totals
+  steps-hold [] k T H j h = absurd (omega arith)
+  steps-hold (ts ∷ tss) k T H zero h =
       let e : k + 0 ≡ k = omega arith in
-      let here : Holds (struct-totals ar types k ts T .has) k (names ts) =
-      holds-as (λ m. ap (member m) (append-nil (names ts))) (struct-holds ts (a .0) T (omega arith) (H k (omega arith) (omega arith)))
+      let here : Holds (struct-totals ar types k ts T .rows) k (names ts) =
+      holds-as (λ m. ap (member m) (append-nil (names ts))) (struct-holds ts T (H k (omega arith)))
       in
-      rw e (steps-other tss (a .1) (suc k) (struct-totals ar types k ts T) (omega arith) here .holds-at n i)
-  steps-hold (ts ∷ tss) a k T l H (suc j) h n i =
+      rw e (steps-other tss (suc k) (struct-totals ar types k ts T) (omega arith) here)
+  steps-hold (ts ∷ tss) k T H (suc j) h =
       let e : k + suc j ≡ suc k + j = omega arith in
-      rw e (steps-hold tss (a .1) (suc k) (struct-totals ar types k ts T) (omega arith)
-      (λ m b c. struct-other ts (a .0) k T (λ q. omega arith) (H m (omega arith) c)) j (omega arith) n i)
+      rw e (steps-hold tss (suc k) (struct-totals ar types k ts T) (λ m b. struct-other ts k T (λ q. omega arith) (H m (omega arith))) j (omega arith))
+
+  -- and are those of the directory
+  struct-rows : (ts : List Step) (k : ℕ) (T : Totals) → struct-totals ar types k ts T .rows ≡ T .rows ++ steps-rows k (T .commands) ts
+  unfolding struct-totals added steps-rows
+  struct-rows [] k T = sym (append-nil (T .rows))
+  struct-rows (t ∷ ts) k T =
+      let e : body-facts ar types k (t .body) no-locals .size ≡ step-size t = body-facts-size ar types k (t .body) no-locals ∙ sym (body-length (t .body)) in
+      struct-rows ts k (added k (t .name) (body-facts ar types k (t .body) no-locals) T) ∙ rw e (append-assoc (T .rows) _ _)
+
+  struct-commands : (ts : List Step) (k : ℕ) (T : Totals) → struct-totals ar types k ts T .commands ≡ T .commands + total step-size ts
+  unfolding struct-totals added total
+  struct-commands [] k T = omega arith
+  struct-commands (t ∷ ts) k T =
+      let e : body-facts ar types k (t .body) no-locals .size ≡ step-size t = body-facts-size ar types k (t .body) no-locals ∙ sym (body-length (t .body)) in
+      omega (arith, struct-commands ts k (added k (t .name) (body-facts ar types k (t .body) no-locals) T), e)
+
+  steps-listed : (tss : List (List Step)) (k : ℕ) (T : Totals) → step-totals ar types k tss T .rows ≡ T .rows ++ structs-rows k (T .commands) tss
+  unfolding step-totals structs-rows
+  steps-listed [] k T = sym (append-nil (T .rows))
+  steps-listed (ts ∷ tss) k T =
+      steps-listed tss (suc k) (struct-totals ar types k ts T)
+      ∙ rw (struct-rows ts k T, struct-commands ts k T) (append-assoc (T .rows) (steps-rows k (T .commands) ts) _)
+
+-- what is totalled up over a program has its directory
+pub totals-listed : (p : Program) → program-totals p .rows ≡ directory p
+unfolding program-totals no-totals directory
+totals-listed p = steps-listed (arities p) (types-table (p .params)) (p .steps) 0 no-totals
+
+-- a row for each step
+pub totals-count : (p : Program) → program-totals p .steps ≡ total length (p .steps)
+unfolding program-totals no-totals
+totals-count p = steps-grown (arities p) (types-table (p .params)) (p .steps) 0 no-totals .steps ∙ zero-add _
 
 -- Looking a step up ------------------------------------------------------------------
 
--- over a table with the names of these structs' steps, some struct has a step as on the tree
-pub had-is : (hs : List ℕ) (n : ℕ) (tss : List (List Step)) (k : ℕ)
-    → ((j : ℕ) → j < length tss → getD hs (place (k + j) n) 0 ≡ flag (member n (names (getD tss j []))))
-    → had hs n k (length tss) ≡ stepped n tss
+-- over rows with the names of these structs' steps, some struct has a step as on the tree
+pub had-is : (rs : List Row) (n : ℕ) (tss : List (List Step)) (k : ℕ) → ((j : ℕ) → j < length tss → Holds rs (k + j) (names (getD tss j [])))
+    → had rs n k (length tss) ≡ stepped n tss
 unfolding had stepped
-had-is hs n [] k h = refl
-had-is hs n (ts ∷ tss) k h =
+had-is rs n [] k h = refl
+had-is rs n (ts ∷ tss) k h =
     let e : k + 0 ≡ k = omega arith in
-    let here : getD hs (place k n) 0 ≡ flag (member n (names ts)) = rw e at (h 0 (omega arith)) in
-    ap {B = Bool} (λ v. elim (eqb v 0) [ false ↦ true | true ↦ had hs n (suc k) (length tss) ]) here
-    ∙ go (member n (names ts)) (had-is hs n tss (suc k) (λ j l. let q : k + suc j ≡ suc k + j = omega arith in rw q at (h (suc j) (omega arith))))
-  where
-    go : (b : Bool) → had hs n (suc k) (length tss) ≡ stepped n tss
-        → _≡_ {A = Bool} (elim (eqb (flag b) 0) [ false ↦ true | true ↦ had hs n (suc k) (length tss) ]) (b || stepped n tss)
-    go true e = refl
-    go false e = e
+    let here : there rs k n ≡ member n (names ts) = rw e at (h 0 (omega arith)) .holds-at n in
+    rw (here, had-is rs n tss (suc k) (λ j l. let q : k + suc j ≡ suc k + j = omega arith in rw q at (h (suc j) (omega arith)))) refl

@@ -1,5 +1,5 @@
 // What the listing program prints of an input: the listing of a program image, or its refusal (01, 'Bench rows').
-use emit_steps::rows::ROWS;
+use directory::rows::ROWS;
 use load::Load;
 use step_lines::program;
 use text::lines::row;
@@ -15,14 +15,14 @@ pub fn listing(image: &[u8], text: &mut [u8; 131072]) -> usize
     let mut stream = [0u8; types::PROGRAM_BLOCKS * blocks::PAYLOAD_SIZE];
     let mut counts = [0u8; types::MAX_STRUCTS];
     let mut types = [0u8; types::MAX_STRUCTS * types::MAX_PARAMS];
-    let r = load::program(image, &mut stream, &mut counts, &mut types);
+    let mut rows = [0u16; ROWS];
+    let r = load::program(image, &mut stream, &mut counts, &mut types, &mut rows);
     let Load::Program(p) = r else {
         return row(text, 0, b"refused", &[load::refusal(r) as u64]);
     };
     let n = p.length;
     let structs = p.structs as usize;
     let mut list = [0u64; types::MAX_COMMANDS];
-    let mut rows = [0u16; ROWS];
     let z = emit_steps::program(&stream[..n], &counts[..structs], p.at, &mut list, &mut rows);
     let steps = z.rows;
     let head = [

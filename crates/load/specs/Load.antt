@@ -12,23 +12,25 @@ use Rattle.commands.specs.Bounds.{total, arities, program-size, program-depth}
 use Rattle.commands.specs.Numbers.{breach-number}
 use Rattle.verdict.specs.Verdict.{Checked}
 use Rattle.judge.specs.ProgramFacts.{types-table}
-use Rattle.read_program.specs.Whole.{place-of}
+use Rattle.directory.specs.Rows.{Listed}
+use Rattle.read_program.specs.Whole.{steps-place, schedule-place}
 use Rattle.read_program.specs.declared.Summary.{Summary}
 use Rattle.load.specs.declared.Loaded.{Loaded}
 use Rattle.load.specs.declared.Load.{Load as Answer}
 use Rattle.load.specs.declared.Load.the-variants.{Program as Accepts, Refused as Refuses}
 
 -- by its numbers
-abbrev pub loaded-of : ℕ → ℕ → ℕ → ℕ → ℕ → ℕ → Loaded
-loaded-of n at a b c d = record { length = n; at = at; structs = a; steps = b; commands = c; depth = d }
+abbrev pub loaded-of : ℕ → ℕ → ℕ → ℕ → ℕ → ℕ → ℕ → Loaded
+loaded-of n at plan a b c d = record { length = n; at = at; plan = plan; structs = a; steps = b; commands = c; depth = d }
 
 -- what the reader of a stream of n bytes found
 abbrev pub loaded-by : ℕ → ℕ → Summary → Loaded
-loaded-by n at z = loaded-of n at (z .structs) (z .steps) (z .commands) (z .depth)
+loaded-by n at z = loaded-of n at (z .plan) (z .structs) (z .steps) (z .commands) (z .depth)
 
--- a program whose stream is s; its steps begin behind the parameters
+-- a program whose stream is s; its steps begin behind the parameters, its schedule behind the steps
 abbrev pub loaded : Program → List ℕ → Loaded
-loaded p s = loaded-of (length s) (place-of (read-params s 0)) (length (p .params)) (total length (p .steps)) (program-size p) (program-depth p)
+loaded p s =
+    loaded-of (length s) (steps-place s) (schedule-place s p) (length (p .params)) (total length (p .steps)) (program-size p) (program-depth p)
 
 abbrev pub load-told : Checked → List ℕ → Answer
 load-told (accepted p) s = Accepts (loaded p s)
@@ -51,6 +53,11 @@ TablesHeld (refused n) cs cs′ ts ts′ = Unit {0}
 abbrev pub Held : Checked → List ℕ → List ℕ → List ℕ → List ℕ → List ℕ → List ℕ → List ℕ → Type 0
 Held (accepted p) s b b′ cs cs′ ts ts′ = (b′ ≡ s ++ drop (length s) b) × TablesHeld (accepted p) cs cs′ ts ts′
 Held (refused n) s b b′ cs cs′ ts ts′ = Unit {0}
+
+-- in front of the rows the step directory
+abbrev pub RowsHeld : Checked → List ℕ → Type 0
+RowsHeld (accepted p) h = Listed h p
+RowsHeld (refused n) h = Unit {0}
 
 -- What a caller goes on with -------------------------------------------------------------------
 

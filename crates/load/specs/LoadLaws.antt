@@ -24,13 +24,17 @@ use Rattle.verdict.specs.Verdict.{Checked, judge, of-read, of-image, checked}
 use Rattle.judge.specs.ProgramFacts.{types-table}
 use Rattle.read_params.specs.ParamsTold.{ParamsKept}
 use Rattle.read_params.specs.ParamsWays.{table-length}
+use Rattle.directory.specs.Directory.{directory}
+use Rattle.directory.specs.DirectoryLaws.{directory-count}
+use Rattle.directory.specs.Rows.{rows-from}
+use Rattle.emit.specs.Written.{structs-at}
 use Rattle.emit.specs.ProgramLaws.{program-steps, whole-program}
 use Rattle.read_program.specs.declared.Summary.{Summary}
-use Rattle.read_program.specs.Whole.{place-of}
+use Rattle.read_program.specs.Whole.{place-of, schedule-place, ReadListed}
 use Rattle.load.specs.declared.Loaded.{Loaded}
 use Rattle.load.specs.declared.Load.the-variants.{Program as Accepts, Refused as Refuses}
-use Rattle.load.specs.Load.{loaded-of, loaded-by, loaded, load-told, TablesHeld, Held, Admitted}
-use Rattle.load.specs.StreamLaws.{Behind, numbered, passed, counted, here}
+use Rattle.load.specs.Load.{loaded-of, loaded-by, loaded, load-told, TablesHeld, RowsHeld, Held, Admitted}
+use Rattle.load.specs.StreamLaws.{Behind, numbered, passed, counted, here, plan-is, listed-is}
 
 -- A stream -----------------------------------------------------------------------------------
 
@@ -41,8 +45,9 @@ refused-told s e = rw e
 pub refused-tables : {c : Checked} {n : ℕ} (cs cs′ ts ts′ : List ℕ) → c ≡ refused n → TablesHeld c cs cs′ ts ts′
 refused-tables cs cs′ ts ts′ e = rw e tt
 
-same-loaded : (n at a b c d a′ b′ c′ d′ at′ : ℕ) → at ≡ at′ → a ≡ a′ → b ≡ b′ → c ≡ c′ → d ≡ d′ → loaded-of n at a b c d ≡ loaded-of n at′ a′ b′ c′ d′
-same-loaded n at a b c d a′ b′ c′ d′ at′ i e f g h = rw (i, e, f, g, h)
+same-loaded : (n at l a b c d at′ l′ a′ b′ c′ d′ : ℕ) → at ≡ at′ → l ≡ l′ → a ≡ a′ → b ≡ b′ → c ≡ c′ → d ≡ d′
+    → loaded-of n at l a b c d ≡ loaded-of n at′ l′ a′ b′ c′ d′
+same-loaded n at l a b c d at′ l′ a′ b′ c′ d′ i j e f g h = rw (i, j, e, f, g, h)
 
 module _ (s : List ℕ) (k : ℕ) (z : Summary) (b : Behind s k z) (zero-number : z .number ≡ 0) where
   abbrev p : Program
@@ -52,10 +57,16 @@ module _ (s : List ℕ) (k : ℕ) (z : Summary) (b : Behind s k z) (zero-number 
   value-told =
       let n = counted s k z b in
       rw (passed s k z b zero-number)
-      (ap Accepts (same-loaded (length s) k (z .structs) (z .steps) (z .commands) (z .depth) _ _ _ _ _ (sym (b .place)) (n .3) (n .0) (n .1) (n .2)))
+      (ap Accepts (same-loaded (length s) k (z .plan) (z .structs) (z .steps) (z .commands) (z .depth) _ _ _ _ _ _ (sym (b .place)) (plan-is s k z b) (n .3) (n .0) (n .1) (n .2)))
 
   pub value-tables : (cs cs′ ts ts′ : List ℕ) → ParamsKept cs cs′ ts ts′ (read-params s 0) → TablesHeld (of-read (read s)) cs cs′ ts ts′
   value-tables cs cs′ ts ts′ kept = rw (passed s k z b zero-number) (rw (here s k z b) at kept)
+
+  pub value-rows : (h : List ℕ) → ReadListed (read s) h → RowsHeld (of-read (read s)) h
+  value-rows h w = rw (passed s k z b zero-number) (listed-is s k z b h w)
+
+pub refused-rows : {c : Checked} {n : ℕ} (h : List ℕ) → c ≡ refused n → RowsHeld c h
+refused-rows h e = rw e tt
 
 -- An image -----------------------------------------------------------------------------------
 
@@ -156,6 +167,23 @@ module _ (x : List ℕ) (z : Loaded) (l : LoadedAs x z) where
   place-is =
       let d = program-steps (stream x) 0 loaded-program (source .end) (whole-program (stream x) loaded-program (source .end) (source .reads)) in
       d .params ∙ ap (λ (i : ℕ). ok (loaded-program .params) i) (sym (ap place-of (d .params)) ∙ sym (ap (λ (y : Loaded). y .at) (l .is)))
+
+  -- behind the steps stands the schedule
+  pub plan-place : structs-at (arities loaded-program) (stream x) (length (arities loaded-program)) (z .at) ≡ ok (loaded-program .steps) (z .plan)
+  plan-place =
+      let d = program-steps (stream x) 0 loaded-program (source .end) (whole-program (stream x) loaded-program (source .end) (source .reads)) in
+      let e : d .behind ≡ z .at = sym (ap place-of (d .params)) ∙ sym (ap (λ (y : Loaded). y .at) (l .is)) in
+      let f = rw e at (d .steps) in
+      let g : schedule-place (stream x) loaded-program ≡ d .last =
+      ap (λ (i : ℕ). place-of (structs-at (arities loaded-program) (stream x) (length (arities loaded-program)) i))
+      (ap place-of (d .params)) ∙ ap place-of (d .steps) in
+      f ∙ ap (λ (i : ℕ). ok (loaded-program .steps) i) (sym g ∙ sym (ap (λ (y : Loaded). y .plan) (l .is)))
+
+  -- the rows are its step directory
+  pub rows-are : (h : List ℕ) → RowsHeld (checked x) h → rows-from h 0 (z .steps) ≡ directory loaded-program
+  rows-are h w =
+      let n : z .steps ≡ length (directory loaded-program) = ap (λ (y : Loaded). y .steps) (l .is) ∙ sym (directory-count loaded-program) in
+      ap (λ (i : ℕ). rows-from h 0 i) n ∙ rw (l .accepts) at w
 
   -- what stands in front of lent memory
   module _ (b b′ cs cs′ ts ts′ : List ℕ) (held : Held (checked x) (stream x) b b′ cs cs′ ts ts′) where

@@ -17,12 +17,14 @@ use Rattle.commands.specs.Numbers.{breach-number}
 use Rattle.commands.specs.Laws.NumbersLaws.{number-accepted}
 use Rattle.verdict.specs.Verdict.{judge, of-read}
 use Rattle.judge.specs.ProgramFacts.{program-totals, program-plan, checked-number}
-use Rattle.judge.specs.ProgramFactsLaws.{checked-law, checked-commands, checked-depth, checked-steps}
+use Rattle.judge.specs.ProgramFactsLaws.{checked-law, checked-commands, checked-depth}
+use Rattle.judge.specs.ProgramTableLaws.{totals-count}
+use Rattle.directory.specs.Rows.{Listed}
 use Rattle.read_params.specs.ParamsTold.{ParamsKept}
 use Rattle.emit.specs.ProgramLaws.{Standing, program-steps, whole-program}
 use Rattle.read_program.specs.declared.Summary.{Summary}
 use Rattle.read_program.specs.declared.ProgramRead.the-variants.{Value, Refused}
-use Rattle.read_program.specs.Whole.{summary, place-of, program-told}
+use Rattle.read_program.specs.Whole.{summary, place-of, steps-place, schedule-place, program-told, ReadListed}
 
 total-few : {A : Type 0} (C : A → Type 0) (l : List (List A)) → All (Few 0 max-steps C) l → total length l ≤ max-steps * length l
 unfolding total
@@ -37,11 +39,11 @@ greatest-most f (a ∷ l) h = omega (arith, h .0, greatest-most f l (h .1))
 -- What was read, from what was answered ------------------------------------------------
 
 module _ (s : List ℕ) where
-  pub stream-stops : (e : ℕ) → program-told (read-params s 0) (read s) ≡ Refused e → of-read (read s) ≡ refused e
+  pub stream-stops : (e : ℕ) → program-told s (read s) ≡ Refused e → of-read (read s) ≡ refused e
   unfolding of-read
   stream-stops e i = go (read s) i
     where
-      go : (q : Result Program) → program-told (read-params s 0) q ≡ Refused e → of-read q ≡ refused e
+      go : (q : Result Program) → program-told s q ≡ Refused e → of-read q ≡ refused e
       go (ok p m) i = let z : _≡_ {A = ℕ} 0 1 = cc in absurd (omega arith)
       go (bad p n) i = let j : n ≡ e = cc in ap refused j
 
@@ -51,13 +53,13 @@ module _ (s : List ℕ) where
     pub end : ℕ
     pub reads : read s ≡ ok program end
     pub counts : Counts program
-    pub place : place-of (read-params s 0) ≡ k
-    pub summed : z ≡ summary (length (program .params)) (program-totals program) (program-plan program)
+    pub place : steps-place s ≡ k
+    pub summed : z ≡ summary (length (program .params)) (schedule-place s program) (program-totals program) (program-plan program)
 
-  pub stream-value : (k : ℕ) (z : Summary) → program-told (read-params s 0) (read s) ≡ Value k z → Behind k z
+  pub stream-value : (k : ℕ) (z : Summary) → program-told s (read s) ≡ Value k z → Behind k z
   stream-value k z i = go (read s) refl i
     where
-      go : (q : Result Program) → read s ≡ q → program-told (read-params s 0) q ≡ Value k z → Behind k z
+      go : (q : Result Program) → read s ≡ q → program-told s q ≡ Value k z → Behind k z
       go (ok p m) e i = record { program = p; end = m; reads = e; counts = program-law s p m .0 e .0; place = cc; summed = cc }
       go (bad p n) e i = let x : _≡_ {A = ℕ} 0 1 = cc in absurd (omega arith)
 
@@ -93,7 +95,7 @@ module _ (s : List ℕ) where
     pub counted : (z .steps ≡ total length (p .steps)) × (z .commands ≡ program-size p) × (z .depth ≡ program-depth p) × (z .structs ≡ length (p .params))
     counted =
         let e = b .summed in (
-          ap (λ (x : Summary). x .steps) e ∙ checked-steps p (b .counts),
+          ap (λ (x : Summary). x .steps) e ∙ totals-count p,
           ap (λ (x : Summary). x .commands) e ∙ checked-commands p (b .counts),
           ap (λ (x : Summary). x .depth) e ∙ checked-depth p (b .counts),
           ap (λ (x : Summary). x .structs) e,
@@ -116,6 +118,12 @@ module _ (s : List ℕ) where
         depths : (tss : List (List Step)) → All (All (λ t. step-depth p t ≤ max-depth)) tss → All (λ ts. greatest (step-depth p) ts ≤ max-depth) tss
         depths [] h = tt
         depths (ts ∷ tss) h = (greatest-most (step-depth p) ts (h .0), depths tss (h .1))
+
+    pub plan-is : z .plan ≡ schedule-place s p
+    plan-is = ap (λ (x : Summary). x .plan) (b .summed)
+
+    pub listed-is : (h : List ℕ) → ReadListed (read s) h → Listed h p
+    listed-is h w = rw (b .reads) at w
 
     pub structs-are : z .structs ≡ length (p .steps)
     unfolding Counts

@@ -1,6 +1,7 @@
-// The loader: a program image to its accepted program, or to the number of its refusal (01, numbers 1 to 8). The stream and the tables of the parameters
-// stand in memory that the caller lends. Every entry that takes a program begins here.
+// The loader: a program image to its accepted program, or to the number of its refusal (01, numbers 1 to 8). The stream, the tables of the parameters and the
+// rows of the step directory stand in memory that the caller lends. Every entry that takes a program begins here.
 use blocks::Opened;
+use directory::rows::ROWS;
 use read_program::ProgramRead;
 use read_program::Summary;
 ghost use mathlib.Core.Path.{_≡_};
@@ -10,13 +11,16 @@ ghost use Rattle.types.specs.Limits.{program-blocks, max-structs, max-params};
 ghost use Rattle.block.specs.Block.{payload-size};
 ghost use Rattle.blocks.specs.Images.{stream};
 ghost use Rattle.program.specs.Reader.{read};
+ghost use Rattle.directory.specs.Rows.{directory-places};
 ghost use Rattle.verdict.specs.Verdict.{of-read, checked};
-ghost use Rattle.load.specs.Load.{loaded-by, load-told, load-refusal, TablesHeld, Held};
+ghost use Rattle.load.specs.Load.{loaded-by, load-told, load-refusal, TablesHeld, RowsHeld, Held};
 
-// What an accepted program is loaded as: how long its stream is, where its steps begin, how many structs, steps and commands it has, and its depth.
+// What an accepted program is loaded as: how long its stream is, where its steps begin and where its schedule does, how many structs, steps and commands it
+// has, and its depth.
 pub struct Loaded {
     pub length: usize,
     pub at: usize,
+    pub plan: usize,
     pub structs: u8,
     pub steps: u8,
     pub commands: u16,
@@ -45,6 +49,7 @@ fn summed(length: usize, at: usize, p: Summary) -> Loaded
     Loaded {
         length,
         at,
+        plan: p.plan,
         structs: p.structs,
         steps: p.steps as u8,
         commands: p.commands as u16,
@@ -53,12 +58,14 @@ fn summed(length: usize, at: usize, p: Summary) -> Loaded
 }
 
 // A program stream: 4 to 8.
-fn of_stream(s: &[u8], counts: &mut [u8], types: &mut [u8]) -> Load
+fn of_stream(s: &[u8], counts: &mut [u8], types: &mut [u8], rows: &mut [u16]) -> Load
     requires { ⌜ (length (now counts) ≡ max-structs) × (length (now types) ≡ max-structs * max-params) ⌝ }
+    requires { ⌜ (length (now s) < 65536) × (directory-places ≤ length (now rows)) ⌝ }
     ensures { λ r. ⌜ r ≡ load-told (of-read (read (now (s .entry)))) (now (s .entry)) ⌝ }
     ensures { λ _. ⌜ TablesHeld (of-read (read (now (s .entry)))) (now (counts .entry)) (now (counts .exit)) (now (types .entry)) (now (types .exit)) ⌝ }
+    ensures { λ _. ⌜ RowsHeld (of-read (read (now (s .entry)))) (now (rows .exit)) ⌝ }
 {
-    let r = read_program::program(s, counts, types);
+    let r = read_program::program(s, counts, types, rows);
     let ProgramRead::Value(at, p) = r else {
         return Load::Refused(read_program::program_refusal(r));
     };
@@ -69,16 +76,36 @@ fn of_stream(s: &[u8], counts: &mut [u8], types: &mut [u8]) -> Load
 }
 
 // A program image: 1 to 8. The buffer has room for the payloads of 64 blocks. After a refusal what was lent is free, of the lengths that it had.
-pub fn program(image: &[u8], buffer: &mut [u8], counts: &mut [u8], types: &mut [u8]) -> Load
+pub fn program(
+    image: &[u8],
+    buffer: &mut [u8],
+    counts: &mut [u8],
+    types: &mut [u8],
+    rows: &mut [u16],
+) -> Load
+    requires { ⌜ payload-size * program-blocks ≤ length (now buffer) ⌝ }
+    requires { ⌜ (length (now counts) ≡ max-structs) × (length (now types) ≡ max-structs * max-params) ⌝ }
+    requires { ⌜ directory-places ≤ length (now rows) ⌝ }
+    ensures { λ r. ⌜ r ≡ load-told (checked (now (image .entry))) (stream (now (image .entry))) ⌝ }
+    ensures { λ _. ⌜ Held (checked (now (image .entry))) (stream (now (image .entry))) (now (buffer .entry)) (now (buffer .exit)) (now (counts .entry))
+        (now (counts .exit)) (now (types .entry)) (now (types .exit)) ⌝ }
+    ensures { λ _. ⌜ RowsHeld (checked (now (image .entry))) (now (rows .exit)) ⌝ }
+{
+    let r = blocks::open_image(image, types::PROGRAM_BLOCKS, buffer);
+    let Opened::Stream(n) = r else {
+        return Load::Refused(blocks::program_number(blocks::fault_of(r)));
+    };
+    of_stream(&buffer[..n], counts, types, rows)
+}
+
+// The same for a caller that asks for no rows: they have room of their own, which is given back.
+pub fn tables(image: &[u8], buffer: &mut [u8], counts: &mut [u8], types: &mut [u8]) -> Load
     requires { ⌜ payload-size * program-blocks ≤ length (now buffer) ⌝ }
     requires { ⌜ (length (now counts) ≡ max-structs) × (length (now types) ≡ max-structs * max-params) ⌝ }
     ensures { λ r. ⌜ r ≡ load-told (checked (now (image .entry))) (stream (now (image .entry))) ⌝ }
     ensures { λ _. ⌜ Held (checked (now (image .entry))) (stream (now (image .entry))) (now (buffer .entry)) (now (buffer .exit)) (now (counts .entry))
         (now (counts .exit)) (now (types .entry)) (now (types .exit)) ⌝ }
 {
-    let r = blocks::open_image(image, types::PROGRAM_BLOCKS, buffer);
-    let Opened::Stream(n) = r else {
-        return Load::Refused(blocks::program_number(blocks::fault_of(r)));
-    };
-    of_stream(&buffer[..n], counts, types)
+    let mut rows = [0u16; ROWS];
+    program(image, buffer, counts, types, &mut rows)
 }

@@ -1,6 +1,6 @@
 -- What the readers of steps answer for what is read (01, 4 to 8 of 'Numbers from the input'): a value goes with the totals over it,
--- a refusal with its number. The code has the totals apart from the table of names, which it is lent.
-use Prim.Native.Nat.{ℕ, suc, _+_, _≤_, max}
+-- a refusal with its number. The code has the totals apart from the rows of the step directory, which it is lent.
+use Prim.Native.Nat.{ℕ, suc, _+_, _*_, _<_, _≤_, max}
 use mathlib.Core.Path.{_≡_}
 use mathlib.Core.Bool.{Bool, true, false, _||_}
 use mathlib.Core.List.{List}
@@ -10,6 +10,7 @@ use Rattle.types.specs.Limits.{step-commands, max-depth}
 use Rattle.program.specs.Tree.{Step}
 use Rattle.program.specs.Reader.{Result}
 use Rattle.answers.specs.Answers.{Answer, Answer.value, Answer.refused, answer}
+use Rattle.directory.specs.Rows.{row-places, rows-from}
 use Rattle.judge.specs.declared.Done.{Done}
 use Rattle.judge.specs.Facts.{worst, named, no-locals, body-facts}
 use Rattle.judge.specs.ProgramFacts.{Totals as Sum, added}
@@ -19,9 +20,9 @@ use Rattle.read_program.specs.declared.totals.Totals.{Totals}
 use Rattle.read_program.specs.declared.totals.TotalsRead.{TotalsRead}
 use Rattle.read_program.specs.declared.totals.TotalsRead.the-variants.{Value, Refused}
 
--- totals with a table of names, and without it
+-- totals with the rows in lent memory, one for each step so far, and without them
 abbrev pub with : Totals → List ℕ → Sum
-with t h = record { steps = t .steps; commands = t .commands; depth = t .depth; over = t .over; fault = t .fault; has = h }
+with t h = record { steps = t .steps; commands = t .commands; depth = t .depth; over = t .over; fault = t .fault; rows = rows-from h 0 (t .steps) }
 
 abbrev pub less : Sum → Totals
 less T = record { steps = T .steps; commands = T .commands; depth = T .depth; over = T .over; fault = T .fault }
@@ -60,12 +61,12 @@ abbrev pub totals-refusal : TotalsRead → ℕ
 totals-refusal (Value m t) = 0
 totals-refusal (Refused n) = n
 
--- the table of names after it
+-- the rows after it
 abbrev pub Kept : Answer Sum → List ℕ → Type 0
-Kept (value m T) h = h ≡ T .has
+Kept (value m T) h = rows-from h 0 (T .steps) ≡ T .rows
 Kept (refused n) h = Unit {0}
 
--- what a reader answers, and the table after it
+-- what a reader answers, and the rows after it
 abbrev pub Told : {A : Type 0} → (A → Sum) → Result A → TotalsRead → List ℕ → Type 0
 Told f q r h = (r ≡ told f q) × Kept (answer f q) h
 
@@ -73,6 +74,11 @@ Told f q r h = (r ≡ told f q) × Kept (answer f q) h
 abbrev pub Low : Totals → ℕ → Type 0
 Low t at = (t .steps ≤ at) × (t .commands ≤ at)
 
-abbrev pub Bounded : List ℕ → TotalsRead → Type 0
-Bounded s (Value m t) = (Low t m) × (m ≤ length s)
-Bounded s (Refused k) = Unit {0}
+-- nor more steps than there may be
+abbrev pub Bounded : List ℕ → ℕ → TotalsRead → Type 0
+Bounded s n (Value m t) = (Low t m) × (m ≤ length s) × (t .steps ≤ n)
+Bounded s n (Refused k) = Unit {0}
+
+-- there is room for the rows of n steps more, and they are few
+abbrev pub Free : List ℕ → Totals → ℕ → Type 0
+Free h t n = (row-places * (t .steps + n) ≤ length h) × (t .steps + n < 256)

@@ -3,10 +3,9 @@ use Prim.Native.Nat.{ℕ, suc, _+_, _-_, _<_, _≤_}
 use native.Mathlib.Omega.{arith}
 use native.Mathlib.Numerals.{add-one}
 use mathlib.Core.Path.{_≡_, refl, ap, sym, _∙_}
-use mathlib.Core.Bool.{Bool, true, false}
-use mathlib.Core.List.{List, [], _∷_}
-use lib.ListN.{length, getD, set}
-use lib.Dec.{eqb}
+use mathlib.Core.Bool.{Bool, true, false, not}
+use mathlib.Core.List.{List, [], _∷_, _++_}
+use lib.ListN.{length}
 use Rattle.program.specs.Tree.{Step, Stmts}
 use Rattle.program.specs.Reader.{Result, Result.ok, Result.bad, then, pair, made, many, ranged, counted, read-body, read-stmt, read-step, read-steps}
 use Rattle.read_exprs.specs.declared.read.ByteRead.the-variants.{Byte, NoByte}
@@ -17,9 +16,11 @@ use Rattle.read_stmts.specs.Done.{done, DoneBody}
 pub use Rattle.read_stmts.specs.StmtWays.{done-is, done-stops}
 use Rattle.answers.specs.Answers.{Answer, Answer.value, Answer.refused, answer}
 use Rattle.answers.specs.AnswerLaws.{answer-is, answer-stops, row-none, row-stop, row-more}
+use Rattle.directory.specs.Directory.{row, there}
+use Rattle.directory.specs.Rows.{put-row, rows-from}
 use Rattle.judge.specs.declared.Done.{Done}
 use Rattle.judge.specs.Facts.{no-locals, body-facts}
-use Rattle.judge.specs.ProgramFacts.{Totals as Sum, place, added, struct-totals, step-totals}
+use Rattle.judge.specs.ProgramFacts.{Totals as Sum, added, struct-totals, step-totals}
 use Rattle.read_program.specs.declared.totals.Totals.{Totals}
 use Rattle.read_program.specs.declared.totals.TotalsRead.{TotalsRead}
 use Rattle.read_program.specs.declared.totals.TotalsRead.the-variants.{Value, Refused}
@@ -27,9 +28,9 @@ use Rattle.read_program.specs.Total.{with, less, over-by, plus, step-tot
 
 -- What was read, from what was answered ------------------------------------------------
 
--- what was answered, from the enum that holds it and the table
+-- what was answered, from the enum that holds it and the rows
 totals-value : (x : Answer Sum) (m : ℕ) (u : Totals) (h : List ℕ) → totals-read x ≡ Value m u → Kept x h → x ≡ value m (with u h)
-totals-value (value k T) m u h e p = let i : k ≡ m = cc in let j : less T ≡ u = cc in rw (i, p, ← j) refl
+totals-value (value k T) m u h e p = let i : k ≡ m = cc in let j : less T ≡ u = cc in rw (i, ← j, p) refl
 totals-value (refused k) m u h e p = let z : _≡_ {A = ℕ} 0 1 = cc in absurd (omega arith)
 
 totals-refused : (x : Answer Sum) (n : ℕ) → totals-read x ≡ Refused n → x ≡ refused n
@@ -53,8 +54,8 @@ module _ {A : Type 0} (f : A → Sum) (q : Result A) where
   pub refused-told : (n : ℕ) (h : List ℕ) → answer f q ≡ refused n → Told f q (Refused n) h
   refused-told n h e = rw e (refl, tt)
 
-told-ok : {A : Type 0} (f : A → Sum) (q : Result A) (a : A) (m : ℕ) (u : Totals) (h : List ℕ) → q ≡ ok a m → u ≡ less (f a) → h ≡ f a .has
-    → Told f q (Value m u) h
+told-ok : {A : Type 0} (f : A → Sum) (q : Result A) (a : A) (m : ℕ) (u : Totals) (h : List ℕ) → q ≡ ok a m → u ≡ less (f a)
+    → rows-from h 0 (f a .steps) ≡ f a .rows → Told f q (Value m u) h
 told-ok f q a m u h e i j = rw (e, i) (refl, j)
 
 told-bad : {A : Type 0} (f : A → Sum) (q : Result A) (p n : ℕ) (h : List ℕ) → q ≡ bad p n → Told f q (Refused n) h
@@ -98,17 +99,22 @@ module _ (ar types s : List ℕ) (k at : ℕ) (T : Sum) where
 
   pub step-read : (n m i : ℕ) (d : Done) → byte-told (ranged s 0 32 at) ≡ Byte n m
       → done (λ b. body-facts ar types k b no-locals) (body-of ar s at m) ≡ StmtValue i d
-      → Told (step-total ar types k T) (read-step ar s at) (Value i (plus (less T) d (eqb (getD (T .has) (place k n) 0) 0))) (set (T .has) (place k n) 1)
+      → (h : List ℕ) → rows-from h 0 (suc (T .steps)) ≡ T .rows ++ row k n (T .commands) (d .size) ∷ []
+      → Told (step-total ar types k T) (read-step ar s at) (Value i (plus (less T) d (not (there (T .rows) k n)))) h
   unfolding added plus over-by
-  step-read n m i d e j =
+  step-read n m i d e j h w =
       let q = done-is (λ b. body-facts ar types k b no-locals) (body-of ar s at m) i d j in
       told-ok (step-total ar types k T) (read-step ar s at) (record { name = n; body = q .0 }) i _ _
       (step-whole ar s at n m i (q .0) (byte-is (ranged s 0 32 at) n m e) (q .1))
-      (ap (λ (x : Done). plus (less T) x (eqb (getD (T .has) (place k n) 0) 0)) (sym (q .2))) refl
+      (ap (λ (x : Done). plus (less T) x (not (there (T .rows) k n))) (sym (q .2))) (w ∙ rw (q .2) refl)
+
+-- its row, by numbers that are its struct and its name
+pub row-noted : (h h′ : List ℕ) (i k n a z k′ n′ : ℕ) → k′ ≡ k → n′ ≡ n → h′ ≡ put-row h i (row k′ n′ a z) → h′ ≡ put-row h i (row k n a z)
+row-noted h h′ i k n a z k′ n′ e f w = w ∙ rw (e, f)
 
 -- a step has a byte of its own, and its commands one each
 pub step-low : (s : List ℕ) (t : Totals) (d : Done) (new : Bool) (at m i : ℕ) → Low t at → m ≡ at + 1 → DoneBody s m (StmtValue i d)
-    → Bounded s (Value i (plus t d new))
+    → Bounded s (t .steps + 1) (Value i (plus t d new))
 unfolding plus
 step-low s t d new at m i l e h = omega arith
 
@@ -129,7 +135,7 @@ module _ (ar types s : List ℕ) (k at : ℕ) (T : Sum) where
       → answer (λ ts. struct-totals ar types k ts T) (read-steps ar s at) ≡ answer (λ ts. struct-totals ar types k ts T) (many [] _∷_ (read-step ar s) n m)
   steps-all n m e = ap (answer λ ts. struct-totals ar types k ts T) (steps-read n m e)
 
--- steps in a row, behind those that the totals t and the table h are of: none left; the next is not read; it is
+-- steps in a row, behind those that the totals t and the rows h are of: none left; the next is not read; it is
 module _ (ar types s : List ℕ) (k : ℕ) where
   abbrev pub steps-row : Totals → List ℕ → ℕ → ℕ → Answer Sum
   steps-row t h n at = answer (λ ts. struct-totals ar types k ts (with t h)) (many [] _∷_ (read-step ar s) n at)

@@ -1,4 +1,8 @@
 // The steps of all structs, read and totalled up in one walk (01, 'Program stream', and numbers 4 to 8).
+use directory::Row;
+use directory::rows::number;
+use directory::rows::put_row;
+use directory::rows::there;
 use judge::Done;
 use judge::Scope;
 use judging::expression;
@@ -8,13 +12,16 @@ use read_exprs::read::ByteRead;
 use read_stmts::StmtRead;
 use read_stmts::stmt;
 ghost use mathlib.Core.Path.{_≡_};
+ghost use mathlib.Core.Bool.{not};
 ghost use mathlib.Core.List.{[], _∷_};
-ghost use Prim.Native.Nat.{_+_, _<_, _≤_, _^_};
-ghost use lib.ListN.{length, getD, set};
-ghost use lib.Dec.{eqb};
+ghost use Prim.Native.Nat.{_+_, _*_, _<_, _≤_, _^_};
+ghost use lib.ListN.{length};
+ghost use Rattle.types.specs.Limits.{max-structs, max-steps};
 ghost use Rattle.program.specs.Reader.{many, read-step, read-steps};
-ghost use Rattle.judge.specs.ProgramFacts.{place, no-totals, struct-totals, step-totals};
-ghost use Rattle.read_program.specs.Total.{with, less, over-by, plus, step-total, stmt-refusal, totals-refusal, Told, Low, Bounded};
+ghost use Rattle.directory.specs.Directory.{row, there};
+ghost use Rattle.directory.specs.Rows.{row-places, put-row, rows-from};
+ghost use Rattle.judge.specs.ProgramFacts.{no-totals, struct-totals, step-totals};
+ghost use Rattle.read_program.specs.Total.{with, less, over-by, plus, step-total, stmt-refusal, totals-refusal, Told, Low, Free, Bounded};
 
 // Of the steps so far: how many, their commands, the greatest depth, 1 once a limit of a step is passed, and a fault.
 pub struct Totals {
@@ -64,16 +71,23 @@ pub fn none() -> Totals
     }
 }
 
-// The step n of the struct k noted; whether it is new.
-fn noted(has: &mut [u8], k: u8, n: u8) -> bool
-    requires { ⌜ (length (now has) ≡ 512) × (k < 16) × (n < 32) ⌝ }
-    ensures { λ r. ⌜ r ≡ eqb (getD (now (has .entry)) (place k n) 0) 0 ⌝ }
-    ensures { λ _. ⌜ now (has .exit) ≡ set (now (has .entry)) (place k n) 1 ⌝ }
+// Whether the step n of the struct k is new; its row is written behind those of the steps so far.
+fn noted(rows: &mut [u16], k: u8, n: u8, t: Totals, d: Done) -> bool
+    requires { ⌜ (row-places * (t .steps + 1) ≤ length (now rows)) × (t .steps < 256) ⌝ }
+    requires { ⌜ (t .commands < 65536) × (d .size < 65536) ⌝ }
+    ensures { λ r. ⌜ r ≡ not (there (rows-from (now (rows .entry)) 0 (t .steps)) k n) ⌝ }
+    ensures { λ _. ⌜ now (rows .exit) ≡ put-row (now (rows .entry)) (t .steps) (row k n (t .commands) (d .size)) ⌝ }
 {
-    let i = types::STEP_NAMES * k as usize + n as usize;
-    let new = has[i] == 0;
-    has[i] = 1;
-    new
+    let i = t.steps;
+    let old = there(rows, i as u8, k, n);
+    let r = Row {
+        structure: number(k),
+        name: number(n),
+        start: t.commands as u16,
+        size: d.size as u16,
+    };
+    put_row(rows, i, r);
+    !old
 }
 
 // 1 where a step has too many commands or goes too deep.
@@ -109,16 +123,16 @@ fn step(
     s: &[u8],
     ar: &[u8],
     types: &[u8],
-    has: &mut [u8],
+    rows: &mut [u16],
     k: u8,
     t: Totals,
     at: usize,
 ) -> TotalsRead
-    requires { ⌜ (length (now ar) ≤ 16) × (length (now has) ≡ 512) × (k < 16) ⌝ }
-    requires { ⌜ Low t at ⌝ }
-    ensures { λ r. ⌜ Told (step-total (now (ar .entry)) (now (types .entry)) k (with t (now (has .entry))))
-        (read-step (now (ar .entry)) (now (s .entry)) at) r (now (has .exit)) ⌝ }
-    ensures { λ r. ⌜ Bounded (now (s .entry)) r ⌝ }
+    requires { ⌜ (length (now ar) ≤ max-structs) × (length (now s) < 65536) × (k < max-structs) ⌝ }
+    requires { ⌜ Low t at × Free (now rows) t 1 ⌝ }
+    ensures { λ r. ⌜ Told (step-total (now (ar .entry)) (now (types .entry)) k (with t (now (rows .entry))))
+        (read-step (now (ar .entry)) (now (s .entry)) at) r (now (rows .exit)) ⌝ }
+    ensures { λ r. ⌜ Bounded (now (s .entry)) (t .steps + 1) r ⌝ }
 {
     let r = read::ranged(s, 0, types::STEP_NAMES, at);
     let ByteRead::Byte(n, m) = r else {
@@ -136,7 +150,7 @@ fn step(
     let StmtRead::Value(next, d) = q else {
         return TotalsRead::Refused(stmt_refusal(q));
     };
-    let new = noted(has, k, n);
+    let new = noted(rows, k, n, t, d);
     TotalsRead::Value(next, plus(t, d, new))
 }
 
@@ -145,16 +159,16 @@ fn of_struct(
     s: &[u8],
     ar: &[u8],
     types: &[u8],
-    has: &mut [u8],
+    rows: &mut [u16],
     k: u8,
     t: Totals,
     at: usize,
 ) -> TotalsRead
-    requires { ⌜ (length (now ar) ≤ 16) × (length (now has) ≡ 512) × (k < 16) ⌝ }
-    requires { ⌜ Low t at ⌝ }
-    ensures { λ r. ⌜ Told (λ ts. struct-totals (now (ar .entry)) (now (types .entry)) k ts (with t (now (has .entry))))
-        (read-steps (now (ar .entry)) (now (s .entry)) at) r (now (has .exit)) ⌝ }
-    ensures { λ r. ⌜ Bounded (now (s .entry)) r ⌝ }
+    requires { ⌜ (length (now ar) ≤ max-structs) × (length (now s) < 65536) × (k < max-structs) ⌝ }
+    requires { ⌜ Low t at × Free (now rows) t max-steps ⌝ }
+    ensures { λ r. ⌜ Told (λ ts. struct-totals (now (ar .entry)) (now (types .entry)) k ts (with t (now (rows .entry))))
+        (read-steps (now (ar .entry)) (now (s .entry)) at) r (now (rows .exit)) ⌝ }
+    ensures { λ r. ⌜ Bounded (now (s .entry)) (t .steps + max-steps) r ⌝ }
 {
     let r = read::ranged(s, 0, types::MAX_STEPS + 1, at);
     let ByteRead::Byte(n, m) = r else {
@@ -164,7 +178,7 @@ fn of_struct(
     let mut next = m;
     let mut left = n;
     while 0 < left {
-        let q = step(s, ar, types, has, k, all, next);
+        let q = step(s, ar, types, rows, k, all, next);
         let TotalsRead::Value(behind, u) = q else {
             return q;
         };
@@ -175,28 +189,28 @@ fn of_struct(
     TotalsRead::Value(next, all)
 }
 
-// The steps of n structs. After a refusal the table of names is free, of the length that it had.
+// The steps of n structs. After a refusal the rows are free, as many as there were.
 pub fn structs(
     s: &[u8],
     ar: &[u8],
     types: &[u8],
-    has: &mut [u8],
+    rows: &mut [u16],
     n: u8,
     t: Totals,
     at: usize,
 ) -> TotalsRead
-    requires { ⌜ (length (now ar) ≤ 16) × (length (now has) ≡ 512) × (n ≤ 16) ⌝ }
-    requires { ⌜ Low t at × (at ≤ length (now s)) ⌝ }
-    ensures { λ r. ⌜ Told (λ tss. step-totals (now (ar .entry)) (now (types .entry)) 0 tss (with t (now (has .entry))))
-        (many [] _∷_ (read-steps (now (ar .entry)) (now (s .entry))) n at) r (now (has .exit)) ⌝ }
-    ensures { λ r. ⌜ Bounded (now (s .entry)) r ⌝ }
+    requires { ⌜ (length (now ar) ≤ max-structs) × (length (now s) < 65536) × (n ≤ max-structs) ⌝ }
+    requires { ⌜ Low t at × (at ≤ length (now s)) × Free (now rows) t (max-steps * n) ⌝ }
+    ensures { λ r. ⌜ Told (λ tss. step-totals (now (ar .entry)) (now (types .entry)) 0 tss (with t (now (rows .entry))))
+        (many [] _∷_ (read-steps (now (ar .entry)) (now (s .entry))) n at) r (now (rows .exit)) ⌝ }
+    ensures { λ r. ⌜ Bounded (now (s .entry)) (t .steps + max-steps * n) r ⌝ }
 {
     let mut all = t;
     let mut next = at;
     let mut own = 0;
     let mut left = n;
     while 0 < left {
-        let r = of_struct(s, ar, types, has, own, all, next);
+        let r = of_struct(s, ar, types, rows, own, all, next);
         let TotalsRead::Value(behind, u) = r else {
             return r;
         };

@@ -3,18 +3,18 @@ use Prim.Native.Nat.{ℕ, zero, suc, _+_, _-_, _<_, _≤_, _^_}
 use native.Mathlib.Omega.{arith}
 use native.Mathlib.Numerals.{sub-one, add-one}
 use mathlib.Core.Path.{_≡_, refl, ap, sym, subst, _∙_}
-use mathlib.Core.Bool.{true, false, not}
+use mathlib.Core.Bool.{true, false}
 use mathlib.Core.List.{List}
 use lib.ListN.{length, getD}
-use lib.Dec.{eqb}
-use borrow.Author.Tests.{eq-eqb, ne-eqb}
 use Rattle.program.specs.Tree.{Item, Item.call, Item.fix, Items, Items.stop, Items.item}
 use Rattle.program.specs.Reader.{Result, Result.ok, Result.bad, then, pair, made, many, opened, counted, lookup, item-sort, ItemSort}
 use Rattle.program.specs.Reader.{ItemSort.sort-call, ItemSort.sort-call-in, ItemSort.sort-fix, ItemSort.sort-none, ranged, rule-item, read-item}
 use Rattle.program.specs.Reader.{read-items}
 use Rattle.program.specs.Laws.ItemLaws.{OpensItem, opens-item}
+use Rattle.directory.specs.declared.Row.{Row}
+use Rattle.directory.specs.Directory.{there}
 use Rattle.judge.specs.Facts.{named}
-use Rattle.judge.specs.ProgramFacts.{Planned as Plan, plan, place, had, joined, item-plan, items-plan}
+use Rattle.judge.specs.ProgramFacts.{Planned as Plan, plan, had, joined, item-plan, items-plan}
 use Rattle.judge.specs.FollowLaws.{joined-assoc, none-joined, joined-none}
 use Rattle.answers.specs.Answers.{Answer, Answer.value, Answer.refused, answer}
 use Rattle.answers.specs.AnswerLaws.{row-none, row-stop, row-more}
@@ -27,18 +27,18 @@ use Rattle.read_exprs.specs.ByteWays.{byte-is, byte-stops, byte-in, byte-out}
 use Rattle.read_schedule.specs.PlanTold.{planned, plan-of, plan-read, told, after, fixed, read-call-in, Span, Room}
 
 -- among the structs from struct k on: none is left, the first has the step, it has not
-module _ (hs : List ℕ) (n k c : ℕ) where
-  pub had-none : c ≤ k → had hs n k (c - k) ≡ false
+module _ (rs : List Row) (n k c : ℕ) where
+  pub had-none : c ≤ k → had rs n k (c - k) ≡ false
   unfolding had
   had-none h = let z : c - k ≡ 0 = omega arith in rw z
 
-  pub had-here : k < c → (getD hs (place k n) 0 ≡ 0 → ⊥) → had hs n k (c - k) ≡ true
+  pub had-here : k < c → there rs k n ≡ true → had rs n k (c - k) ≡ true
   unfolding had
-  had-here h e = let s : c - k ≡ suc (c - suc k) = omega arith in rw s (simp (had, ne-eqb _ _ e))
+  had-here h e = let s : c - k ≡ suc (c - suc k) = omega arith in rw s (rw (had, e))
 
-  pub had-on : k < c → getD hs (place k n) 0 ≡ 0 → had hs n k (c - k) ≡ had hs n (k + 1) (c - (k + 1))
+  pub had-on : k < c → there rs k n ≡ false → had rs n k (c - k) ≡ had rs n (k + 1) (c - (k + 1))
   unfolding had
-  had-on h e = let s : c - k ≡ suc (c - (k + 1)) = omega arith in rw (s, add-one) (simp (had, eq-eqb _ _ e))
+  had-on h e = let s : c - k ≡ suc (c - (k + 1)) = omega arith in rw (s, add-one) (rw (had, e))
 
 -- what was answered, from the enum that holds it
 pub plan-value : (x : Answer Plan) (m : ℕ) (p : Planned) → plan-read x ≡ Value m p → x ≡ value m (plan-of p)
@@ -52,35 +52,35 @@ pub plan-refused : (x : Answer Plan) (n : ℕ) → plan-read x ≡ Refused n →
 plan-refused (value k q) n e = let z : _≡_ {A = ℕ} 0 1 = cc in absurd (omega arith)
 plan-refused (refused k) n e = cc
 
-module _ (hs : List ℕ) (S : ℕ) where
+module _ (rs : List Row) (S : ℕ) where
   -- a step of every struct: its name is not read, or is
   module _ (s : List ℕ) (at : ℕ) where
-    pub call-stop : (e : ℕ) → byte-told (ranged s 0 32 at) ≡ NoByte e → told (item-plan hs S) (made call (ranged s 0 32 at)) ≡ Refused e
+    pub call-stop : (e : ℕ) → byte-told (ranged s 0 32 at) ≡ NoByte e → told (item-plan rs S) (made call (ranged s 0 32 at)) ≡ Refused e
     unfolding made then
     call-stop e p = rw (byte-stops (ranged s 0 32 at) e p .1)
 
     pub call-read : (n m : ℕ) → byte-told (ranged s 0 32 at) ≡ Byte n m
-        → told (item-plan hs S) (made call (ranged s 0 32 at)) ≡ Value m (planned (plan 1 (named (had hs n 0 S))))
+        → told (item-plan rs S) (made call (ranged s 0 32 at)) ≡ Value m (planned (plan 1 (named (had rs n 0 S))))
     unfolding made then item-plan
     call-read n m p = rw (byte-is (ranged s 0 32 at) n m p)
 
     -- a step of one struct: the struct is not read, or is and its name is not, or both are
-    pub call-in-stop : (e : ℕ) → byte-told (ranged s 0 S at) ≡ NoByte e → told (item-plan hs S) (read-call-in s S at) ≡ Refused e
+    pub call-in-stop : (e : ℕ) → byte-told (ranged s 0 S at) ≡ NoByte e → told (item-plan rs S) (read-call-in s S at) ≡ Refused e
     unfolding read-call-in made pair then
     call-in-stop e p = rw (byte-stops (ranged s 0 S at) e p .1)
 
     pub call-in-cut : (k m e : ℕ) → byte-told (ranged s 0 S at) ≡ Byte k m → byte-told (ranged s 0 32 m) ≡ NoByte e
-        → told (item-plan hs S) (read-call-in s S at) ≡ Refused e
+        → told (item-plan rs S) (read-call-in s S at) ≡ Refused e
     unfolding read-call-in made pair then
     call-in-cut k m e p q = rw (byte-is (ranged s 0 S at) k m p, byte-stops (ranged s 0 32 m) e q .1)
 
     pub call-in-read : (k m n i : ℕ) → byte-told (ranged s 0 S at) ≡ Byte k m → byte-told (ranged s 0 32 m) ≡ Byte n i
-        → told (item-plan hs S) (read-call-in s S at) ≡ Value i (planned (plan 1 (named (not (eqb (getD hs (place k n) 0) 0)))))
+        → told (item-plan rs S) (read-call-in s S at) ≡ Value i (planned (plan 1 (named (there rs k n))))
     unfolding read-call-in made pair then item-plan
     call-in-read k m n i p q = rw (byte-is (ranged s 0 S at) k m p, byte-is (ranged s 0 32 m) n i q)
 
   -- what is planned of a Fix, from what is planned of its items
-  pub fix-around : (r : Result Items) → told (item-plan hs S) (made fix r) ≡ after fixed (told (items-plan hs S) r)
+  pub fix-around : (r : Result Items) → told (item-plan rs S) (made fix r) ≡ after fixed (told (items-plan rs S) r)
   unfolding made then item-plan fixed
   fix-around (ok is m) = refl
   fix-around (bad p n) = refl
@@ -88,29 +88,29 @@ module _ (hs : List ℕ) (S : ℕ) where
   -- items in a row, each read by r, behind those of which p is planned: none yet; none left; the next is not read; it is
   module _ (r : ℕ → Result Item) where
     abbrev pub row : Plan → ℕ → ℕ → Answer Plan
-    row p n at = answer (λ is. joined p (items-plan hs S is)) (many stop item r n at)
+    row p n at = answer (λ is. joined p (items-plan rs S is)) (many stop item r n at)
 
-    goes : (p : Plan) (i : Item) (is : Items) → joined p (items-plan hs S (item i is)) ≡ joined (joined p (item-plan hs S i)) (items-plan hs S is)
+    goes : (p : Plan) (i : Item) (is : Items) → joined p (items-plan rs S (item i is)) ≡ joined (joined p (item-plan rs S i)) (items-plan rs S is)
     unfolding items-plan
-    goes p i is = sym (joined-assoc p (item-plan hs S i) (items-plan hs S is))
+    goes p i is = sym (joined-assoc p (item-plan rs S i) (items-plan rs S is))
 
-    pub row-begins : (n at : ℕ) → row (plan 0 0) n at ≡ answer (items-plan hs S) (many stop item r n at)
+    pub row-begins : (n at : ℕ) → row (plan 0 0) n at ≡ answer (items-plan rs S) (many stop item r n at)
     row-begins n at = go (many stop item r n at)
       where
-        go : (q : Result Items) → answer (λ is. joined (plan 0 0) (items-plan hs S is)) q ≡ answer (items-plan hs S) q
-        go (ok is m) = ap (value m) (none-joined (items-plan hs S is))
+        go : (q : Result Items) → answer (λ is. joined (plan 0 0) (items-plan rs S is)) q ≡ answer (items-plan rs S) q
+        go (ok is m) = ap (value m) (none-joined (items-plan rs S is))
         go (bad p k) = refl
 
     module _ (p : Plan) (n at : ℕ) where
       pub row-ends : n ≡ 0 → row p n at ≡ value at p
       unfolding items-plan
-      row-ends e = row-none stop item r (λ p. item-plan hs S) joined (λ p is. joined p (items-plan hs S is)) goes p n at e ∙ ap (value at) (joined-none p)
+      row-ends e = row-none stop item r (λ p. item-plan rs S) joined (λ p is. joined p (items-plan rs S is)) goes p n at e ∙ ap (value at) (joined-none p)
 
-      pub row-refused : (n ≡ 0 → ⊥) → (e : ℕ) → told (item-plan hs S) (r at) ≡ Refused e → row p n at ≡ refused e
-      row-refused z e h = row-stop stop item r (λ p. item-plan hs S) joined (λ p is. joined p (items-plan hs S is)) goes p n at z e (plan-refused _ e h)
+      pub row-refused : (n ≡ 0 → ⊥) → (e : ℕ) → told (item-plan rs S) (r at) ≡ Refused e → row p n at ≡ refused e
+      row-refused z e h = row-stop stop item r (λ p. item-plan rs S) joined (λ p is. joined p (items-plan rs S is)) goes p n at z e (plan-refused _ e h)
 
-      pub row-goes : (n ≡ 0 → ⊥) → (m : ℕ) (q : Planned) → told (item-plan hs S) (r at) ≡ Value m q → row p n at ≡ row (joined p (plan-of q)) (n - 1) m
-      row-goes z m q h = row-more stop item r (λ p. item-plan hs S) joined (λ p is. joined p (items-plan hs S is)) goes p n at z m _ (plan-value _ m q h)
+      pub row-goes : (n ≡ 0 → ⊥) → (m : ℕ) (q : Planned) → told (item-plan rs S) (r at) ≡ Value m q → row p n at ≡ row (joined p (plan-of q)) (n - 1) m
+      row-goes z m q h = row-more stop item r (λ p. item-plan rs S) joined (λ p is. joined p (items-plan rs S is)) goes p n at z m _ (plan-value _ m q h)
 
 -- an item more than those inside
 pub fix-value : (n : ℕ) (p : Planned) → _≡_ {A = PlanRead} (Value n (record { count = p .count + 1; fault = p .fault })) (after fixed (Value n p))
@@ -127,9 +127,9 @@ module _ (ar s : List ℕ) (r : ℕ → Result Item) (at : ℕ) where
   unfolding read-items counted then
   items-more n m p = rw (byte-is (ranged s 1 33 at) n m p)
 
-  pub items-row : (hs : List ℕ) (S n m : ℕ) → byte-told (ranged s 1 33 at) ≡ Byte n m
-      → plan-read (row hs S r (plan 0 0) n m) ≡ told (items-plan hs S) (read-items ar s r at)
-  items-row hs S n m e = ap plan-read (row-begins hs S r n m) ∙ ap (told (items-plan hs S)) (sym (items-more n m e))
+  pub items-row : (rs : List Row) (S n m : ℕ) → byte-told (ranged s 1 33 at) ≡ Byte n m
+      → plan-read (row rs S r (plan 0 0) n m) ≡ told (items-plan rs S) (read-items ar s r at)
+  items-row rs S n m e = ap plan-read (row-begins rs S r n m) ∙ ap (told (items-plan rs S)) (sym (items-more n m e))
 
 -- an item: no byte, a step, a step of a struct, no item, one Fix too many, a Fix
 module _ (ar s : List ℕ) (d at : ℕ) where

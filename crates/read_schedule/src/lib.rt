@@ -1,4 +1,5 @@
 // The schedule, read and planned in one walk (01, 'Program stream', and number 7): how many items, and whether each step is there.
+use directory::rows::there;
 use judging::fault;
 use read_exprs::read;
 use read_exprs::read::ByteRead;
@@ -9,6 +10,7 @@ ghost use Prim.Native.Nat.{ℕ, _+_, _<_, _^_};
 ghost use lib.ListN.{length};
 ghost use Rattle.program.specs.Tree.{Item.call};
 ghost use Rattle.program.specs.Reader.{made, ranged, read-items, read-item};
+ghost use Rattle.directory.specs.Rows.{rows-from};
 ghost use Rattle.judge.specs.Facts.{named};
 ghost use Rattle.judge.specs.ProgramFacts.{plan, joined, had, item-plan, items-plan};
 ghost use Rattle.read_schedule.specs.PlanTold.{planned, told, plan-refusal, fixed, read-call-in, after, Ahead, Room};
@@ -36,12 +38,12 @@ pub fn plan_refusal(r: PlanRead) -> u8
 }
 
 // Whether some struct has the step n.
-fn had(has: &[u8], n: u8, structs: u8) -> bool
-    ensures { λ r. ⌜ r ≡ had (now (has .entry)) n 0 structs ⌝ }
+fn had(rows: &[u16], steps: u8, n: u8, structs: u8) -> bool
+    ensures { λ r. ⌜ r ≡ had (rows-from (now (rows .entry)) 0 steps) n 0 structs ⌝ }
 {
     let mut k = 0;
     while k < structs {
-        if judging::path::look(has, types::STEP_NAMES * k as usize + n as usize) != 0 {
+        if there(rows, steps, k, n) {
             return true;
         }
         k = k + 1;
@@ -60,20 +62,20 @@ fn one(there: bool) -> Planned
 }
 
 // A step of every struct that has it.
-fn call(s: &[u8], has: &[u8], structs: u8, at: usize) -> PlanRead
-    ensures { λ r. ⌜ r ≡ told (item-plan (now (has .entry)) structs) (made call (ranged (now (s .entry)) 0 32 at)) ⌝ }
+fn call(s: &[u8], rows: &[u16], steps: u8, structs: u8, at: usize) -> PlanRead
+    ensures { λ r. ⌜ r ≡ told (item-plan (rows-from (now (rows .entry)) 0 steps) structs) (made call (ranged (now (s .entry)) 0 32 at)) ⌝ }
     ensures { λ r. ⌜ Ahead (now (s .entry)) at r ⌝ }
 {
     let r = read::ranged(s, 0, types::STEP_NAMES, at);
     let ByteRead::Byte(n, m) = r else {
         return PlanRead::Refused(read::byte_refusal(r));
     };
-    PlanRead::Value(m, one(had(has, n, structs)))
+    PlanRead::Value(m, one(had(rows, steps, n, structs)))
 }
 
 // A step of one struct.
-fn call_in(s: &[u8], has: &[u8], structs: u8, at: usize) -> PlanRead
-    ensures { λ r. ⌜ r ≡ told (item-plan (now (has .entry)) structs) (read-call-in (now (s .entry)) structs at) ⌝ }
+fn call_in(s: &[u8], rows: &[u16], steps: u8, structs: u8, at: usize) -> PlanRead
+    ensures { λ r. ⌜ r ≡ told (item-plan (rows-from (now (rows .entry)) 0 steps) structs) (read-call-in (now (s .entry)) structs at) ⌝ }
     ensures { λ r. ⌜ Ahead (now (s .entry)) at r ⌝ }
 {
     let r = read::ranged(s, 0, structs as usize, at);
@@ -84,8 +86,7 @@ fn call_in(s: &[u8], has: &[u8], structs: u8, at: usize) -> PlanRead
     let ByteRead::Byte(n, next) = q else {
         return PlanRead::Refused(read::byte_refusal(q));
     };
-    let there = judging::path::look(has, types::STEP_NAMES * k as usize + n as usize);
-    PlanRead::Value(next, one(there != 0))
+    PlanRead::Value(next, one(there(rows, steps, k, n)))
 }
 
 // A Fix around what was read.
@@ -117,8 +118,8 @@ fn joined(p: Planned, q: Planned) -> Planned
 }
 
 // An item with at most depth levels of Fix.
-fn item(s: &[u8], has: &[u8], structs: u8, at: usize, depth: usize) -> PlanRead
-    ensures { λ r. ⌜ ((ar : List ℕ) → length ar ≡ structs → r ≡ told (item-plan (now (has .entry)) structs) (read-item ar (now (s .entry)) depth at)) ⌝ }
+fn item(s: &[u8], rows: &[u16], steps: u8, structs: u8, at: usize, depth: usize) -> PlanRead
+    ensures { λ r. ⌜ ((ar : List ℕ) → length ar ≡ structs → r ≡ told (item-plan (rows-from (now (rows .entry)) 0 steps) structs) (read-item ar (now (s .entry)) depth at)) ⌝ }
     ensures { λ r. ⌜ Ahead (now (s .entry)) at r ⌝ }
 {
     if s.len() <= at {
@@ -127,10 +128,10 @@ fn item(s: &[u8], has: &[u8], structs: u8, at: usize, depth: usize) -> PlanRead
     let b = s[at];
     let k = at + 1;
     if b == 1 {
-        return call(s, has, structs, k);
+        return call(s, rows, steps, structs, k);
     }
     if b == 2 {
-        return call_in(s, has, structs, k);
+        return call_in(s, rows, steps, structs, k);
     }
     if b != 3 {
         return PlanRead::Refused(number::WRONG_BYTE);
@@ -138,13 +139,13 @@ fn item(s: &[u8], has: &[u8], structs: u8, at: usize, depth: usize) -> PlanRead
     if depth == 0 {
         return PlanRead::Refused(number::WRONG_BYTE);
     }
-    around(items(s, has, structs, k, depth - 1))
+    around(items(s, rows, steps, structs, k, depth - 1))
 }
 
-// The items of the schedule or of a Fix, with at most depth levels of Fix inside; has tells which steps the structs have.
-pub fn items(s: &[u8], has: &[u8], structs: u8, at: usize, depth: usize) -> PlanRead
+// The items of the schedule or of a Fix, with at most depth levels of Fix inside; the rows, one for each step, tell which steps the structs have.
+pub fn items(s: &[u8], rows: &[u16], steps: u8, structs: u8, at: usize, depth: usize) -> PlanRead
     ensures { λ r. ⌜ ((ar : List ℕ) → length ar ≡ structs
-        → r ≡ told (items-plan (now (has .entry)) structs) (read-items ar (now (s .entry)) (read-item ar (now (s .entry)) depth) at)) ⌝ }
+        → r ≡ told (items-plan (rows-from (now (rows .entry)) 0 steps) structs) (read-items ar (now (s .entry)) (read-item ar (now (s .entry)) depth) at)) ⌝ }
     ensures { λ r. ⌜ Ahead (now (s .entry)) at r ⌝ }
 {
     let r = read::ranged(s, 1, types::MAX_ITEMS + 1, at);
@@ -155,7 +156,7 @@ pub fn items(s: &[u8], has: &[u8], structs: u8, at: usize, depth: usize) -> Plan
     let mut next = m;
     let mut left = n;
     while 0 < left {
-        let q = item(s, has, structs, next, depth);
+        let q = item(s, rows, steps, structs, next, depth);
         let PlanRead::Value(behind, p) = q else {
             return q;
         };

@@ -57,7 +57,7 @@ fn table_refusal(r: TableRead) -> u8
     n
 }
 
-// A program image, as `load::program` has it, into a buffer that the stream of an accepted program fits: the room for a longer one is given back before
+// A program image, as `load::tables` has it, into a buffer that the stream of an accepted program fits: the room for a longer one is given back before
 // an entry's own memory is asked for.
 pub fn admit(image: &[u8], buffer: &mut [u8], counts: &mut [u8], types: &mut [u8]) -> Load
     requires { ⌜ most-bytes ≤ length (now buffer) ⌝ }
@@ -67,7 +67,7 @@ pub fn admit(image: &[u8], buffer: &mut [u8], counts: &mut [u8], types: &mut [u8
         (now (counts .entry)) (now (counts .exit)) (now (types .entry)) (now (types .exit)) ⌝ }
 {
     let mut stream = [0u8; types::PROGRAM_BLOCKS * blocks::PAYLOAD_SIZE];
-    let r = load::program(image, &mut stream, counts, types);
+    let r = load::tables(image, &mut stream, counts, types);
     let Load::Program(p) = r else {
         return r;
     };
@@ -83,7 +83,7 @@ pub fn seat_table(
     types: &[u8],
     table: &[u8],
     buffer: &mut [u8],
-    heads: &mut [usize],
+    heads: &mut [u16],
     cells: &mut [u64],
 ) -> SeatRead
     requires { ⌜ Admitting (now counts) (now types) at ⌝ }

@@ -1,5 +1,5 @@
 -- Lines that are written one behind the other: those of a row by its commands, and those of rows.
-use Prim.Native.Nat.{ℕ, zero, suc, _+_, _-_, _*_, _<_, _≤_}
+use Prim.Native.Nat.{ℕ, suc, _+_, _-_, _*_, _<_, _≤_}
 use native.Mathlib.Omega.{arith}
 use native.Mathlib.Nat.{zero-add, add-suc, suc-add, add-zero}
 use native.Mathlib.Numerals.{add-one}
@@ -11,11 +11,11 @@ use Rattle.program.specs.Encoding.{flat}
 use Rattle.commands.specs.Bounds.{total}
 use Rattle.directory.specs.declared.Row.{Row}
 use Rattle.directory.specs.Rows.{row-at, rows-from}
-use Rattle.directory.specs.RowsLaws.{rows-next}
+use Rattle.directory.specs.RowsLaws.{rows-next, rows-last}
 use Rattle.directory.specs.DirectoryLaws.{sizes}
 use Rattle.text.specs.Listing.{Placed, line}
 use Rattle.text.specs.ListingLaws.{placed-none, placed-as, placed-on}
-use Rattle.step_lines.specs.RowLines.{line-most, word-lines, row-lines, rows-lines}
+use Rattle.step_lines.specs.RowLines.{word-lines, row-lines, rows-lines}
 
 -- Commands of a row --------------------------------------------------------------------
 
@@ -49,11 +49,6 @@ unfolding row-lines
 row-placed list r k n start i size a b c d e p = placed-as (rw (e, a, b, c, d) refl) p
 
 -- Rows ---------------------------------------------------------------------------------
-
-rows-last : (l : List ℕ) (j n : ℕ) → rows-from l j (suc n) ≡ rows-from l j n ++ row-at l (j + n) ∷ []
-unfolding rows-from
-rows-last l j zero = rw add-zero
-rows-last l j (suc n) = rw (add-suc, ← suc-add) (ap (λ (x : List Row). row-at l j ∷ x) (rows-last l (suc j) n))
 
 pub flat-append : (f : Row → List ℕ) (xs ys : List Row) → flat f (xs ++ ys) ≡ flat f xs ++ flat f ys
 unfolding flat

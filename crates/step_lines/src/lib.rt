@@ -1,7 +1,7 @@
 // The lines of a program's steps: the directory gives each step's struct, name and place, the list its commands (01, 'Bench rows').
 use directory::Row;
-use emit_steps::rows::place;
-use emit_steps::rows::row_at;
+use directory::rows::place;
+use directory::rows::row_at;
 use text::lines::line;
 ghost use mathlib.Core.Path.{_≡_};
 ghost use Prim.Native.Nat.{_+_, _*_, _<_, _≤_};

@@ -6,6 +6,8 @@ use mathlib.Core.List.{List}
 use lib.ListN.{take, drop}
 use Rattle.types.specs.Stages.{Stage.went as accepted, Stage.stopped as refused}
 use Rattle.directory.specs.declared.Row.{Row}
+use Rattle.directory.specs.declared.rows.Sought.{Sought}
+use Rattle.directory.specs.declared.rows.Sought.the-variants.{Here, Nowhere}
 use Rattle.directory.specs.Directory.{directory, find-row}
 use Rattle.verdict.specs.Verdict.{Checked, checks}
 use Rattle.step_part.specs.declared.Spot.{Spot}
@@ -18,6 +20,11 @@ nowhere m = record { number = m; start = 0; len = 0 }
 abbrev pub spot-of : Option Row → Spot
 spot-of none = nowhere 0
 spot-of (some r) = record { number = 0; start = r .start; len = r .size }
+
+-- as the search for it answers
+abbrev pub spot-at : Sought → Spot
+spot-at Nowhere = nowhere 0
+spot-at (Here r) = spot-of (some r)
 
 unfoldable pub spot-by : Checked → ℕ → ℕ → Spot
 spot-by (refused m) k n = nowhere m

@@ -17,6 +17,7 @@ use Rattle.program.specs.Tree.{Program}
 use Rattle.commands.specs.Bounds.{Within}
 use Rattle.directory.specs.declared.Row.{Row}
 use Rattle.directory.specs.Directory.{directory, find-row}
+use Rattle.directory.specs.Rows.{sought}
 use Rattle.directory.specs.DirectoryLaws.{directory-inside}
 use Rattle.directory.specs.FindLaws.{IfFound, find-all}
 use Rattle.verdict.specs.Verdict.{Checked, checked, checks, verdict-of, check-verdict}
@@ -24,7 +25,7 @@ use Rattle.verdict.specs.VerdictLaws.{checks-room}
 use Rattle.verdict.specs.ProgramInput.{program-order}
 use Rattle.verdict.specs.ProgramInputLaws.{checked-number, checked-accepted}
 use Rattle.step_part.specs.declared.Spot.{Spot}
-use Rattle.step_part.specs.StepPart.{nowhere, spot-of, spot-by, step-place, step-part}
+use Rattle.step_part.specs.StepPart.{nowhere, spot-of, spot-at, spot-by, step-place, step-part}
 
 -- Bounds -------------------------------------------------------------------------------
 
@@ -44,6 +45,18 @@ spot-fits x k n = go (checked x) refl
     go : (c : Checked) → checked x ≡ c → spot-by c k n .start + spot-by c k n .len ≤ max-commands
     go (refused m) e = omega arith
     go (accepted p) e = accepted-fits p k n (checked-accepted x p .0 e .program .1)
+
+-- equal numbers make equal places
+pub same-spot : (a b a′ b′ : ℕ) → a ≡ a′ → b ≡ b′ → _≡_ {A = Spot} (record { number = 0; start = a; len = b }) (record { number = 0; start = a′; len = b′ })
+same-spot a b a′ b′ e f = rw (e, f)
+
+-- a search among the rows of the directory
+pub spot-sought : (p : Program) (rs : List Row) (k n : ℕ) → rs ≡ directory p → spot-at (sought (find-row rs k n)) ≡ spot-of (find-row (directory p) k n)
+spot-sought p rs k n e = rw e (go (find-row (directory p) k n))
+  where
+    go : (o : Option Row) → spot-at (sought o) ≡ spot-of o
+    go none = refl
+    go (some r) = refl
 
 -- A program ----------------------------------------------------------------------------
 

@@ -1,13 +1,12 @@
 // The commands of one step, as that part of the lent list (01, 'Names, types, commands').
-mod search;
-
+use directory::rows::ROWS;
+use directory::rows::Sought;
+use directory::rows::find;
+use directory::rows::place;
 use load::Load;
-use search::Search;
-use search::Wanted;
 ghost use mathlib.Core.Path.{_≡_};
 ghost use Rattle.verdict.specs.Verdict.{checked};
-ghost use Rattle.step_part.specs.StepPart.{nowhere, spot-by, step-place, step-part};
-ghost use Rattle.step_part.specs.Search.{ended};
+ghost use Rattle.step_part.specs.StepPart.{nowhere, spot-at, spot-by, step-place, step-part};
 
 // 01's number of a refused image or of a short list, else 0; the place of the step's first command, and how many it has.
 pub struct Spot {
@@ -27,32 +26,33 @@ fn nowhere(number: u8) -> Spot
     }
 }
 
-// Where a search ended.
-fn ended(r: Search) -> Spot
-    ensures { λ z. ⌜ z ≡ ended r ⌝ }
+// Where the commands of a row stand, if one was found.
+fn spotted(r: Sought) -> Spot
+    ensures { λ z. ⌜ z ≡ spot-at r ⌝ }
 {
-    let Search::Here(z) = r else {
+    let Sought::Here(found) = r else {
         return nowhere(0);
     };
-    z
+    Spot {
+        number: 0,
+        start: place(found.start),
+        len: place(found.size),
+    }
 }
 
-// The step of a struct and a name in a program image. What the caller lends is not changed, and one step's commands at a time need little room.
+// The step of a struct and a name in a program image: it is checked, and its row is looked up. Nothing is written into what the caller lends.
 fn locate(image: &[u8], structure: u8, name: u8) -> Spot
     ensures { λ r. ⌜ r ≡ spot-by (checked (now (image .entry))) structure name ⌝ }
 {
     let mut stream = [0u8; types::PROGRAM_BLOCKS * blocks::PAYLOAD_SIZE];
     let mut counts = [0u8; types::MAX_STRUCTS];
     let mut types = [0u8; types::MAX_STRUCTS * types::MAX_PARAMS];
-    let r = load::program(image, &mut stream, &mut counts, &mut types);
+    let mut rows = [0u16; ROWS];
+    let r = load::program(image, &mut stream, &mut counts, &mut types, &mut rows);
     let Load::Program(p) = r else {
         return nowhere(load::refusal(r));
     };
-    let n = p.length;
-    let structs = p.structs as usize;
-    let w = Wanted { structure, name };
-    let mut room = [0u64; types::STEP_COMMANDS];
-    ended(search::structs(&stream[..n], &counts[..structs], w, p.at, &mut room))
+    spotted(find(&rows, p.steps, structure, name))
 }
 
 // Where the commands of a step begin in the list, and how many it has: 0 and 0 where the image is not accepted, the list is too short

@@ -7,6 +7,7 @@ use mathlib.Core.Path.{_≡_, refl, ap, sym, _∙_}
 use mathlib.Core.List.{List}
 use lib.ListN.{length}
 use Rattle.program.specs.Reader.{read-item, read-items}
+use Rattle.directory.specs.Rows.{rows-from}
 use Rattle.judge.specs.ProgramFacts.{plan, item-plan, items-plan}
 use Rattle.read_schedule.specs.PlanTold.{plan-of, plan-read, told}
 use Rattle.read_schedule.specs.PlanWays.{fix-around, row, row-ends, row-refused, row-goes, items-stop, items-row, item-out, item-call, item-call-in}
@@ -29,10 +30,10 @@ use Rattle.read_schedule.proofs.+item+items.{statement}
 use Rattle.read_schedule.proofs.+item+items.Tie.{close}
 
 abbrev μ-item : Measures 2 item-kinds.ps ℕ
-μ-item κs a = length (a .0 .now) - a .1 .1 .1 .0
+μ-item κs a = length (a .0 .now) - a .1 .1 .1 .1 .0
 
 abbrev μ-items : Measures 2 items-kinds.ps ℕ
-μ-items κs a = length (a .0 .now) - a .1 .1 .1 .0
+μ-items κs a = length (a .0 .now) - a .1 .1 .1 .1 .0
 
 abbrev item-at : ℕ → In 2 item-kinds.ps
 item-at t κs a = (μ-item κs a ≡ t) × item.Pre κs a
@@ -56,7 +57,7 @@ item-at-if1 t c = c .before .before .before
 item-returns : (t : ℕ) → item-lts.Need-returns (item-claims t) (item-at t) item.Post
 item-returns t c =
     let a = c .before .before .before .args in
-    (λ ar l. ap (told (item-plan (a .has .now) (a .structs))) (sym (item-out ar (a .s .now) (a .depth) (a .at) (c .if1 .taken))), tt)
+    (λ ar l. ap (told (item-plan (rows-from (a .rows .now) 0 (a .steps)) (a .structs))) (sym (item-out ar (a .s .now) (a .depth) (a .at) (c .if1 .taken))), tt)
 
 item-returns-2 : (t : ℕ) → item-lts.Need-returns-2 (item-claims t) (item-at t) item.Post
 item-returns-2 t c =
@@ -76,7 +77,7 @@ item-returns-4 : (t : ℕ) → item-lts.Need-returns-4 (item-claims t) (item-at 
 item-returns-4 t c =
     let at-if2 = c .before .before in let at-if1 = at-if2 .before .before in
     let a = at-if1 .before .before .before .args in (
-      λ ar l. ap (told (item-plan (a .has .now) (a .structs)))
+      λ ar l. ap (told (item-plan (rows-from (a .rows .now) 0 (a .steps)) (a .structs)))
           (sym (item-none ar (a .s .now) (a .depth) (a .at) (at-if1 .if1 .left) (at-if2 .if2 .left) (c .before .if3 .left) (c .if4 .taken))),
       tt,
     )
@@ -84,7 +85,7 @@ item-returns-4 t c =
 item-returns-5 : (t : ℕ) → item-lts.Need-returns-5 (item-claims t) (item-at t) item.Post
 item-returns-5 t c =
     let at-if1 = item-at-if1 t (c .before .before) in let a = at-if1 .before .before .before .args in (
-      λ ar l. ap (told (item-plan (a .has .now) (a .structs)))
+      λ ar l. ap (told (item-plan (rows-from (a .rows .now) 0 (a .steps)) (a .structs)))
           (sym (item-deep ar (a .s .now) (a .depth) (a .at) (at-if1 .if1 .left) (c .before .if4 .left) (c .if5 .taken))),
       tt,
     )
@@ -104,18 +105,18 @@ item-returns-6 t c =
         c .before .items .ensures .0 ar l,
         item-fix ar (a .s .now) (a .depth) (a .at) (at-if1 .if1 .left) (at-if5 .before .if4 .left) (at-if5 .if5 .left),
       )
-          (sym (fix-around (a .has .now) (a .structs) (read-items ar (a .s .now) (read-item ar (a .s .now) (a .depth - 1)) (a .at + 1)))),
+          (sym (fix-around (rows-from (a .rows .now) 0 (a .steps)) (a .structs) (read-items ar (a .s .now) (read-item ar (a .s .now) (a .depth - 1)) (a .at + 1)))),
       span-fixed (a .s .now) (a .at) (c .before .items .result) (c .before .items .ensures .1),
     )
 
 abbrev items-Inv-loop : items-lts.InvT-loop
-items-Inv-loop s has structs at depth n m all₀ next₀ left₀ all next left =
+items-Inv-loop s rows steps structs at depth n m all₀ next₀ left₀ all next left =
     ((at + 1 ≤ next) × (next ≤ length s) × (all .count + at ≤ next))
     × ((ar : List ℕ) → length ar ≡ structs
-    → row has structs (read-item ar s depth) (plan-of all₀) left₀ next₀ ≡ row has structs (read-item ar s depth) (plan-of all) left next)
+    → row (rows-from rows 0 steps) structs (read-item ar s depth) (plan-of all₀) left₀ next₀ ≡ row (rows-from rows 0 steps) structs (read-item ar s depth) (plan-of all) left next)
 
 abbrev items-μ-loop : items-lts.MeasureT-loop
-items-μ-loop s has structs at depth n m all₀ next₀ left₀ all next left = left
+items-μ-loop s rows steps structs at depth n m all₀ next₀ left₀ all next left = left
 
 -- the places of `items` that proofs look back to
 abbrev items-at-ranged :
@@ -138,7 +139,7 @@ items-returns t c =
     let at-ranged = c .before .before .before in let a = items-start t at-ranged .args in
     let e = sym (at-ranged .ranged .ensures .0) ∙ c .before .enum-told .given .1 in
     rw (c .byte-refusal .ensures, c .before .enum-told .given .1)
-    (λ ar l. sym (items-stop ar (a .s .now) (read-item ar (a .s .now) (a .depth)) (a .at) (items-plan (a .has .now) (a .structs)) _ e), tt)
+    (λ ar l. sym (items-stop ar (a .s .now) (read-item ar (a .s .now) (a .depth)) (a .at) (items-plan (rows-from (a .rows .now) 0 (a .steps)) (a .structs)) _ e), tt)
 
 items-loop-holds : (t : ℕ) → items-lts.Need-loop-holds (items-claims t) (items-at t) items.Post items-Inv-loop items-μ-loop
 items-loop-holds t c =
@@ -158,9 +159,9 @@ items-returns-2 t c =
     let e = c .enum-told2 .given .1 in (
       λ ar l. e
           ∙ ap plan-read (sym (loop .inv .1 ar l
-          ∙ row-refused (a .has .now) (a .structs) (read-item ar (a .s .now) (a .depth)) (plan-of (loop .all)) (loop .left) (loop .next) more _
+          ∙ row-refused (rows-from (a .rows .now) 0 (a .steps)) (a .structs) (read-item ar (a .s .now) (a .depth)) (plan-of (loop .all)) (loop .left) (loop .next) more _
           (sym (at-item .item .ensures .0 ar l) ∙ e)))
-          ∙ items-row ar (a .s .now) (read-item ar (a .s .now) (a .depth)) (a .at) (a .has .now) (a .structs) _ _ counted,
+          ∙ items-row ar (a .s .now) (read-item ar (a .s .now) (a .depth)) (a .at) (rows-from (a .rows .now) 0 (a .steps)) (a .structs) _ _ counted,
       rw e tt,
     )
 
@@ -183,7 +184,7 @@ items-loop-again t c =
         span-joined (a .s .now) (a .at) (loop .next) _ (loop .all) _ (loop .inv .0 .2) span,
       ),
       λ ar l. loop .inv .1 ar l
-          ∙ row-goes (a .has .now) (a .structs) (read-item ar (a .s .now) (a .depth)) (plan-of (loop .all)) (loop .left) (loop .next) more _ _
+          ∙ row-goes (rows-from (a .rows .now) 0 (a .steps)) (a .structs) (read-item ar (a .s .now) (a .depth)) (plan-of (loop .all)) (loop .left) (loop .next) more _ _
           (sym (at-item .item .ensures .0 ar l) ∙ at-q .q .given .1),
     )
 
@@ -194,8 +195,8 @@ items-returns-3 t c =
     let counted = sym (at-ranged .ranged .ensures .0) ∙ at-count .before .r .given .1 in
     let none : loop .left ≡ 0 = omega arith in (
       λ ar l. ap plan-read (sym (loop .inv .1 ar l
-          ∙ row-ends (a .has .now) (a .structs) (read-item ar (a .s .now) (a .depth)) (plan-of (loop .all)) (loop .left) (loop .next) none))
-          ∙ items-row ar (a .s .now) (read-item ar (a .s .now) (a .depth)) (a .at) (a .has .now) (a .structs) _ _ counted,
+          ∙ row-ends (rows-from (a .rows .now) 0 (a .steps)) (a .structs) (read-item ar (a .s .now) (a .depth)) (plan-of (loop .all)) (loop .left) (loop .next) none))
+          ∙ items-row ar (a .s .now) (read-item ar (a .s .now) (a .depth)) (a .at) (rows-from (a .rows .now) 0 (a .steps)) (a .structs) _ _ counted,
       loop .inv .0,
     )
 

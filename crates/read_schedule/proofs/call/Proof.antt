@@ -2,6 +2,7 @@
 use borrow.Author.Needs.{needs}
 use native.Mathlib.Omega.{arith}
 use mathlib.Core.Path.{sym, _∙_}
+use Rattle.directory.specs.Rows.{rows-from}
 use Rattle.read_schedule.specs.PlanWays.{call-stop, call-read}
 use Rattle.read_schedule.proofs.call.Statement.{statement}
 use Rattle.read_schedule.proofs.call.Tie as tie
@@ -17,7 +18,7 @@ returns : tie.Need-returns
 returns c =
     let at-ranged = c .before .before .before in let a = at-ranged .before .before .before .args in
     let e = sym (at-ranged .ranged .ensures .0) ∙ c .before .enum-told .given .1 in
-    rw (c .byte-refusal .ensures, c .before .enum-told .given .1) (sym (call-stop (a .has .now) (a .structs) (a .s .now) (a .at) _ e), tt)
+    rw (c .byte-refusal .ensures, c .before .enum-told .given .1) (sym (call-stop (rows-from (a .rows .now) 0 (a .steps)) (a .structs) (a .s .now) (a .at) _ e), tt)
 
 returns-2 : tie.Need-returns-2
 returns-2 c =
@@ -25,7 +26,7 @@ returns-2 c =
     let a = at-ranged .before .before .before .args in
     let span = rw (at-r .r .given .1) at (at-ranged .ranged .ensures .1) in
     rw (c .one .ensures, c .before .had .ensures)
-    (sym (call-read (a .has .now) (a .structs) (a .s .now) (a .at) _ _ (sym (at-ranged .ranged .ensures .0) ∙ at-r .r .given .1)), omega arith)
+    (sym (call-read (rows-from (a .rows .now) 0 (a .steps)) (a .structs) (a .s .now) (a .at) _ _ (sym (at-ranged .ranged .ensures .0) ∙ at-r .r .given .1)), omega arith)
 
 pub call-spec : {M : Type 1} → statement M
 call-spec =

@@ -38,7 +38,7 @@ loop-holds c =
     (omega arith, refl, rw z (s .pre .room), no-rows (s .args .list .now) (s .args .rows .now) _ _)
 
 row-at-requires : tie.Need-row-at-requires Inv-loop μ-loop
-row-at-requires c κs = omega (arith, c .loop-test .taken, start (c .before) .pre .numbers)
+row-at-requires c κs = let s = start (c .before) in omega (arith, c .loop-test .taken, s .pre .numbers, s .good .0)
 
 step-requires : tie.Need-step-requires Inv-loop μ-loop
 step-requires c κs =

@@ -34,7 +34,9 @@ sub-i : tie.Need-sub-i Inv-loop μ-loop
 sub-i c = omega (arith, c .loop-test .taken)
 
 row-at-requires : tie.Need-row-at-requires Inv-loop μ-loop
-row-at-requires c κs = let inside = c .before in omega (arith, inside .loop-test .taken, inside .before .loop .inv .0, start (inside .before) .pre .0)
+row-at-requires c κs =
+    let inside = c .before in let s = start (inside .before) in
+    omega (arith, inside .loop-test .taken, inside .before .loop .inv .0, s .pre .0, s .good .0)
 
 note-row-requires : tie.Need-note-row-requires Inv-loop μ-loop
 note-row-requires c κs =

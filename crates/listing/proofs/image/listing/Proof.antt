@@ -14,10 +14,10 @@ use Rattle.listing.proofs.image.listing.Tie as tie
 
 -- the places that proofs look back to
 abbrev start : tie.After-program → tie.Start
-start c = let at-lent = c .before .before .before in at-lent .before .before
+start c = let at-lent = c .before .before .before .before in at-lent .before .before
 
 abbrev at-program : tie.After-r → tie.After-program
-at-program c = let at-back = c .before .before in at-back .before .before .before
+at-program c = let at-back = c .before .before in at-back .before .before .before .before
 
 abbrev at-emit : tie.After-row2 → tie.After-program2
 at-emit c = let at-head = c .before .before .before .before in let at-cast = at-head .before .before .before .before in at-cast .before .before
@@ -32,7 +32,7 @@ loads c = load-value _ _ (sym (at-program c .program .ensures .0) ∙ c .r .give
 returns : tie.Need-returns
 returns c =
     let at-refusal = c .before .before in let at-told = at-refusal .before .before .before in
-    let at-back = at-told .before .before in let at-program′ = at-back .before .before .before in
+    let at-back = at-told .before .before in let at-program′ = at-back .before .before .before .before in
     let x = start at-program′ .args .image .now in let told = at-told .enum-told .given .1 in
     let e = load-refused x _ (sym (at-program′ .program .ensures .0) ∙ told) in
     (placed-as (image-listing x _ _ (at-refusal .refusal .ensures ∙ ap load-refusal told) e) (c .row .ensures .0), omega (arith, c .row .ensures .1))
@@ -41,33 +41,33 @@ array-share-prefix-stream : tie.Need-array-share-prefix-stream
 array-share-prefix-stream c =
     let here = c .before .before in omega (arith, length-fits _ _ (loads here), at-program here .program .kept .1 .0)
 
-slice-aggregate-program-4 : tie.Need-slice-aggregate-program-4
-slice-aggregate-program-4 c = sym (length-take-le _ _ (array-share-prefix-stream (c .before)))
+slice-aggregate-program-5 : tie.Need-slice-aggregate-program-5
+slice-aggregate-program-5 c = sym (length-take-le _ _ (array-share-prefix-stream (c .before)))
 
 array-share-prefix-counts : tie.Need-array-share-prefix-counts
 array-share-prefix-counts c =
     let here = c .before .before .before in omega (arith, structs-few _ _ (loads here), at-program here .program .kept .1 .1 .0)
 
-slice-aggregate-program-5 : tie.Need-slice-aggregate-program-5
-slice-aggregate-program-5 c = sym (length-take-le _ _ (array-share-prefix-counts (c .before)))
+slice-aggregate-program-6 : tie.Need-slice-aggregate-program-6
+slice-aggregate-program-6 c = sym (length-take-le _ _ (array-share-prefix-counts (c .before)))
 
 program-requires-2 : tie.Need-program-requires-2
 program-requires-2 c κs =
-    let here = at-r (c .before) in let l = loads here in let a = admitted _ _ l _ _ _ _ _ _ (at-program here .program .ensures .1) in
-    (fits _ _ l _ _ a _ (simp length-replicate (omega arith)) _ (simp length-replicate (omega arith)), counts-few _ _ l _ _ a)
+    let here = at-r (c .before) in let l = loads here in let a = admitted _ _ l _ _ _ _ _ _ (at-program here .program .ensures .1 .0) in
+    (fits _ _ l _ _ a _ (simp length-replicate (omega arith)) _ (omega (arith, at-program here .program .kept .1 .1 .1 .1 .0)), counts-few _ _ l _ _ a)
 
 program-requires-3 : tie.Need-program-requires-3
 program-requires-3 c κs =
     let at-row = c .before .before .before in let written = at-emit at-row in let here = at-r (written .before .before) in
-    let l = loads here in let a = admitted _ _ l _ _ _ _ _ _ (at-program here .program .ensures .1) in
+    let l = loads here in let a = admitted _ _ l _ _ _ _ _ _ (at-program here .program .ensures .1 .0) in
     let w = emitted _ _ l _ _ a _ (simp length-replicate (omega arith)) _ _ _ (written .program2 .ensures) in
-    accepted-listable _ _ l (simp length-replicate (omega arith)) w _ _ (rw length-replicate at (written .program2 .kept .1 .1 .1 .1 .0))
+    accepted-listable _ _ l (simp length-replicate (omega arith)) w _ _ (written .program2 .kept .1 .1 .1 .1 .0 ∙ at-program here .program .kept .1 .1 .1 .1 .0)
     (omega (arith, at-row .row2 .ensures .1, at-row .row2 .kept .0))
 
 returns-2 : tie.Need-returns-2
 returns-2 c =
     let at-row = c .before .before .before .before in let written = at-emit at-row in let here = at-r (written .before .before) in
-    let l = loads here in let a = admitted _ _ l _ _ _ _ _ _ (at-program here .program .ensures .1) in
+    let l = loads here in let a = admitted _ _ l _ _ _ _ _ _ (at-program here .program .ensures .1 .0) in
     let w = emitted _ _ l _ _ a _ (simp length-replicate (omega arith)) _ _ _ (written .program2 .ensures) in
     let e = accepted-lines _ _ l (simp length-replicate (omega arith)) w in (
       placed-as (accepted-listing _ _ l) (placed-on (at-row .row2 .ensures .0) (placed-as (sym e) (c .program3 .ensures .0))),
@@ -77,8 +77,8 @@ returns-2 c =
 pub listing-spec : {M : Type 1} → statement M
 listing-spec =
     tie.close
-    (tie.spec (λ c. search needs) (λ c. search needs) (λ c. search needs) (λ c κs. search needs) (λ c. search needs) (λ c. search needs)
+    (tie.spec (λ c. search needs) (λ c. search needs) (λ c. search needs) (λ c. search needs) (λ c κs. search needs) (λ c. search needs) (λ c. search needs)
     (λ c. search needs) (λ c κs. search needs) (λ c. search needs) (λ c. search needs) (λ c κs. search needs) returns (λ c. search needs)
-    array-share-prefix-stream slice-aggregate-program-4 array-share-prefix-counts slice-aggregate-program-5 (λ c. search needs) (λ c. search needs)
+    array-share-prefix-stream slice-aggregate-program-5 array-share-prefix-counts slice-aggregate-program-6 (λ c. search needs) (λ c. search needs)
     program-requires-2 (λ c. search needs) (λ c. search needs) (λ c. search needs) (λ c. search needs) (λ c. search needs) (λ c. search needs)
     (λ c κs. search needs) (λ c. search needs) (λ c. search needs) program-requires-3 returns-2)

@@ -1,6 +1,8 @@
 -- `totals::step` meets its contract: its name is not read, its body is not, or both are.
 use native.Mathlib.Omega.{arith}
 use mathlib.Core.Path.{sym, _∙_}
+use Rattle.directory.specs.Directory.{row}
+use Rattle.directory.specs.RowsLaws.{rows-added}
 use Rattle.read_program.specs.Total.{with}
 use Rattle.read_program.specs.TotalWays.{step-stop, step-cut, step-read, step-low}
 use borrow.Author.Needs.{needs}
@@ -16,7 +18,7 @@ returns c =
     let at-ranged = c .before .before .before in let a = start (at-ranged .before) .args in
     let e = sym (at-ranged .ranged .ensures .0) ∙ c .before .enum-told .given .1 in
     rw (c .byte-refusal .ensures, c .before .enum-told .given .1)
-    (step-stop (a .ar .now) (a .types .now) (a .s .now) (a .k) (a .at) (with (a .t) (a .has .now)) _ _ e, tt)
+    (step-stop (a .ar .now) (a .types .now) (a .s .now) (a .k) (a .at) (with (a .t) (a .rows .now)) _ _ e, tt)
 
 returns-2 : tie.Need-returns-2
 returns-2 c =
@@ -25,14 +27,16 @@ returns-2 c =
     let name = sym (at-ranged .ranged .ensures .0) ∙ at-r .r .given .1 in
     let body = sym (at-body .body .ensures .0) ∙ c .before .enum-told2 .given .1 in
     rw (c .stmt-refusal .ensures, c .before .enum-told2 .given .1)
-    (step-cut (a .ar .now) (a .types .now) (a .s .now) (a .k) (a .at) (with (a .t) (a .has .now)) _ _ _ _ name body, tt)
+    (step-cut (a .ar .now) (a .types .now) (a .s .now) (a .k) (a .at) (with (a .t) (a .rows .now)) _ _ _ _ name body, tt)
 
 noted-requires : tie.Need-noted-requires
 noted-requires c κs =
     let at-body = c .before .before .before .before in let at-r = at-body .before .before in
     let at-ranged = at-r .before .before in let start′ = start (at-ranged .before) in
     let span = rw (at-r .r .given .1) at (at-ranged .ranged .ensures .1) in
-    (start′ .pre .0 .1, start′ .pre .0 .2, span .3)
+    let body = rw (c .before .before .q .given .1) at (at-body .body .ensures .1) in
+    let pre = start′ .pre in
+    ((omega (arith, pre .1), omega (arith, pre .1)), (omega (arith, pre, span, body), omega (arith, pre, span, body)))
 
 plus-requires : tie.Need-plus-requires
 plus-requires c κs =
@@ -43,7 +47,7 @@ plus-requires c κs =
       arith,
       rw (at-r .r .given .1) at (at-ranged .ranged .ensures .1),
       rw (at-q .q .given .1) at (at-body .body .ensures .1),
-      start′ .pre .1,
+      start′ .pre .1 .0,
       start′ .good .0,
     )
 
@@ -54,10 +58,11 @@ returns-3 c =
     let at-ranged = at-r .before .before in let start′ = start (at-ranged .before) in
     let a = start′ .args in let span = rw (at-r .r .given .1) at (at-ranged .ranged .ensures .1) in
     let body = rw (at-q .q .given .1) at (at-body .body .ensures .1) in
-    let read = step-read (a .ar .now) (a .types .now) (a .s .now) (a .k) (a .at) (with (a .t) (a .has .now)) _ _ _ _
-    (sym (at-ranged .ranged .ensures .0) ∙ at-r .r .given .1) (sym (at-body .body .ensures .0) ∙ at-q .q .given .1) in (
+    let read = step-read (a .ar .now) (a .types .now) (a .s .now) (a .k) (a .at) (with (a .t) (a .rows .now)) _ _ _ _
+    (sym (at-ranged .ranged .ensures .0) ∙ at-r .r .given .1) (sym (at-body .body .ensures .0) ∙ at-q .q .given .1) _
+    (rows-added (a .rows .now) (a .t .steps) (row (a .k) _ (a .t .commands) _) (omega (arith, start′ .pre .1 .1))) in (
       rw (c .plus .ensures, at-noted .noted .ensures .0, at-noted .noted .ensures .1) read,
-      rw (c .plus .ensures) (step-low (a .s .now) (a .t) _ _ (a .at) _ _ (start′ .pre .1) (span .0) body),
+      rw (c .plus .ensures) (step-low (a .s .now) (a .t) _ _ (a .at) _ _ (start′ .pre .1 .0) (span .0) body),
     )
 
 pub step-spec : {M : Type 1} → statement M

@@ -1,10 +1,11 @@
 -- `totals::structs` meets its contract. The loop's invariant: the steps of the structs left, behind what was totalled up of the others, come
 -- to what all of them do. The measure is how many structs are left.
-use Prim.Native.Nat.{_+_, _≤_}
+use Prim.Native.Nat.{_+_, _*_, _≤_}
 use native.Mathlib.Omega.{arith}
 use mathlib.Core.Path.{_≡_, refl, sym, _∙_}
 use mathlib.Core.List.{[], _∷_}
 use lib.ListN.{length}
+use Rattle.types.specs.Limits.{max-steps}
 use Rattle.program.specs.Reader.{many, read-steps}
 use Rattle.judge.specs.ProgramFacts.{step-totals}
 use Rattle.read_program.specs.Total.{with, Low}
@@ -14,12 +15,12 @@ use Rattle.read_program.proofs.totals.structs.Statement.{statement}
 use Rattle.read_program.proofs.totals.structs.Tie as tie
 
 abbrev Inv-loop : tie.InvT-loop
-Inv-loop s ar types has₀ n at all₀ next₀ own₀ left₀ has all next own left =
-    ((own + left ≡ n) × ((length has ≡ length has₀) × (Low all next × (next ≤ length s))))
-    × (structs-row ar types s own₀ all₀ has₀ left₀ next₀ ≡ structs-row ar types s own all has left next)
+Inv-loop s ar types rows₀ n at all₀ next₀ own₀ left₀ rows all next own left =
+    ((own + left ≡ n) × ((length rows ≡ length rows₀) × (Low all next × (next ≤ length s)) × (all .steps + max-steps * left ≤ all₀ .steps + max-steps * n)))
+    × (structs-row ar types s own₀ all₀ rows₀ left₀ next₀ ≡ structs-row ar types s own all rows left next)
 
 abbrev μ-loop : tie.MeasureT-loop
-μ-loop s ar types has₀ n at all₀ next₀ own₀ left₀ has all next own left = left
+μ-loop s ar types rows₀ n at all₀ next₀ own₀ left₀ rows all next own left = left
 
 -- the places that proofs look back to
 abbrev begin : tie.After-slice-known Inv-loop μ-loop → tie.Start Inv-loop μ-loop
@@ -29,12 +30,15 @@ abbrev start : tie.At-loop Inv-loop μ-loop → tie.Start Inv-loop μ-loop
 start c = begin (c .before)
 
 loop-holds : tie.Need-loop-holds Inv-loop μ-loop
-loop-holds c = ((omega arith, (refl, c .before .before .before .before .pre .1)), refl)
+loop-holds c = let pre = c .before .before .before .before .pre .1 in ((omega arith, (refl, (pre .0, pre .1), omega arith)), refl)
 
 of-struct-requires : tie.Need-of-struct-requires Inv-loop μ-loop
 of-struct-requires c κs =
-    let at-loop = c .before .before in let pre = start at-loop .pre .0 in let inv = at-loop .loop .inv .0 in
-    ((pre .0, inv .1 .0 ∙ pre .1, omega (arith, inv .0, pre .2)), inv .1 .1 .0)
+    let at-loop = c .before .before in let pre = start at-loop .pre in let inv = at-loop .loop .inv .0 in
+    let free = pre .1 .2 in (
+      (pre .0 .0, pre .0 .1, omega (arith, inv .0, pre .0 .2)),
+      (inv .1 .1 .0, (omega (arith, inv .1 .0, inv .1 .2, free), omega (arith, inv .1 .2, free))),
+    )
 
 same-length : tie.Need-same-length Inv-loop μ-loop
 same-length c =
@@ -47,10 +51,10 @@ returns c =
     let a = start at-loop .args in let s = a .s .now in let loop = at-loop .loop in
     let e = c .enum-told .given .1 in
     let more : loop .left ≡ 0 → ⊥ = λ z. omega arith in
-    let law = structs-refused (a .ar .now) (a .types .now) s (loop .own) (loop .all) (loop .has) (loop .left) (loop .next) more _
+    let law = structs-refused (a .ar .now) (a .types .now) s (loop .own) (loop .all) (loop .rows) (loop .left) (loop .next) more _
     (sym (at-of-struct .of-struct .ensures .0 .0) ∙ e) in
     rw e (
-      refused-told (λ tss. step-totals (a .ar .now) (a .types .now) 0 tss (with (a .t) (a .has .now)))
+      refused-told (λ tss. step-totals (a .ar .now) (a .types .now) 0 tss (with (a .t) (a .rows .now)))
           (many [] _∷_ (read-steps (a .ar .now) s) (a .n) (a .at)) _ _ (loop .inv .1 ∙ law),
       tt,
     )
@@ -68,19 +72,19 @@ loop-again c =
     let more : loop .left ≡ 0 → ⊥ = λ z. omega arith in
     let told = rw (at-r .r .given .1) at (at-of-struct .of-struct .ensures .0) in
     let bounded = rw (at-r .r .given .1) at (at-of-struct .of-struct .ensures .1) in (
-      (omega (arith, loop .inv .0 .0), (at-of-struct .of-struct .kept .1 .1 .1 .0 ∙ loop .inv .0 .1 .0, bounded)),
+      (omega (arith, loop .inv .0 .0), (at-of-struct .of-struct .kept .1 .1 .1 .0 ∙ loop .inv .0 .1 .0, (bounded .0, bounded .1), omega (arith, bounded .2, loop .inv .0 .1 .2))),
       loop .inv .1
-          ∙ structs-more (a .ar .now) (a .types .now) (a .s .now) (loop .own) (loop .all) (loop .has) (loop .left) (loop .next) more _ _ _ told,
+          ∙ structs-more (a .ar .now) (a .types .now) (a .s .now) (loop .own) (loop .all) (loop .rows) (loop .left) (loop .next) more _ _ _ told,
     )
 
 returns-2 : tie.Need-returns-2 Inv-loop μ-loop
 returns-2 c =
     let at-loop = c .before in let a = start at-loop .args in let s = a .s .now in let loop = at-loop .loop in
     let none : loop .left ≡ 0 = omega arith in
-    let law = structs-end (a .ar .now) (a .types .now) s (loop .own) (loop .all) (loop .has) (loop .left) (loop .next) none in (
-      value-told (λ tss. step-totals (a .ar .now) (a .types .now) 0 tss (with (a .t) (a .has .now)))
+    let law = structs-end (a .ar .now) (a .types .now) s (loop .own) (loop .all) (loop .rows) (loop .left) (loop .next) none in (
+      value-told (λ tss. step-totals (a .ar .now) (a .types .now) 0 tss (with (a .t) (a .rows .now)))
           (many [] _∷_ (read-steps (a .ar .now) s) (a .n) (a .at)) _ _ _ (loop .inv .1 ∙ law),
-      loop .inv .0 .1 .1,
+      (loop .inv .0 .1 .1 .0, loop .inv .0 .1 .1 .1, omega (arith, loop .inv .0 .1 .2)),
     )
 
 pub structs-spec : {M : Type 1} → statement M

@@ -1,8 +1,8 @@
 -- `rows::put_row` meets its contract: four numbers side by side.
 use Rattle.directory.specs.RowsLaws.{put-row-is}
 use borrow.Author.Needs.{needs}
-use Rattle.emit_steps.proofs.rows.put_row.Statement.{statement}
-use Rattle.emit_steps.proofs.rows.put_row.Tie as tie
+use Rattle.directory.proofs.rows.put_row.Statement.{statement}
+use Rattle.directory.proofs.rows.put_row.Tie as tie
 
 -- the places that proofs look back to
 abbrev at-store3 : tie.After-store4 → tie.After-store3
