@@ -1,5 +1,5 @@
 -- The stream of a text's steps and schedule, written from its end: what each role does to what is written so far, from the last role to the first. An operator
--- waits until a looser one comes or its expression begins (02 §2), a count until its row begins. A role is taken by its byte (`derive/specs/Roles.antt`), a
+-- waits until a looser one comes or its expression begins (02 §2), a count until its row begins. A role is taken by its byte (`text_shape/specs/Roles.antt`), a
 -- literal with the number that it is.
 use Prim.Native.Nat.{ℕ, suc, _+_}
 use mathlib.Core.Bool.{Bool, true, false, _&&_}
@@ -11,7 +11,7 @@ use Rattle.types.specs.Values.{int-word}
 use Rattle.program.specs.Encoding.{enc-word}
 use Rattle.tokens.specs.Tokens.{Token, Token.word, Token.sign, Token.op, Token.name, Token.int, Token.nat}
 use Rattle.meaning.specs.Values.{decimal, signed}
-use Rattle.derive.specs.Roles.{Role, Role.plain, Role.naming, Role.typed, Role.part, code}
+use Rattle.text_shape.specs.Roles.{Role, Role.plain, Role.naming, Role.typed, Role.part, code}
 
 -- the bytes; what waits, the last one first: operators, 0 at the end of each expression that has not begun, and counts; the numbers that are left, the last one
 -- first; the later variables of the path at hand; whether counts keep to what a stream holds
@@ -152,15 +152,19 @@ stack-marks =
     0 ∷ 0 ∷ 2 ∷ 0 ∷ 0 ∷ 1 ∷ 0 ∷ 0 ∷ 1 ∷ 1 ∷ 1 ∷ 0 ∷ 0 ∷ 0 ∷ 0 ∷ 0 ∷ 1 ∷ 1 ∷ 1 ∷ 1 ∷ 0 ∷ 0 ∷ 0 ∷ 0 ∷
     0 ∷ 3 ∷ 0 ∷ 3 ∷ 3 ∷ 0 ∷ 0 ∷ 4 ∷ 3 ∷ 0 ∷ 6 ∷ 4 ∷ 3 ∷ 4 ∷ 3 ∷ 0 ∷ 3 ∷ 0 ∷ []
 
--- a role's own bytes, and what waits behind them; the byte of an operator is 9 above its kind
+-- how far the byte of an operator in a stream is above its kind
+abbrev pub op-shift : ℕ
+op-shift = 9
+
+-- a role's own bytes, and what waits behind them
 unfoldable pub spelt : ℕ → ℕ → Writing → Writing
 unfolding behinds stackings behind-marks forms stack-marks formed
 spelt c v w =
-    getD (stackings (c + 9)) (getD stack-marks c 0) (λ w. w) (formed (getD forms c 0) (getD (behinds v) (getD behind-marks c 0) (λ w. w) w))
+    getD (stackings (c + op-shift)) (getD stack-marks c 0) (λ w. w) (formed (getD forms c 0) (getD (behinds v) (getD behind-marks c 0) (λ w. w) w))
 
 unfoldable pub put : ℕ → ℕ → Writing → Writing
 unfolding spelt pourings pour-marks
-put c v w = spelt c v (getD (pourings (c + 9)) (getD pour-marks c 0) (λ w. w) w)
+put c v w = spelt c v (getD (pourings (c + op-shift)) (getD pour-marks c 0) (λ w. w) w)
 
 -- Role by role, from the last one -----------------------------------------------------------------
 

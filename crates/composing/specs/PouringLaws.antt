@@ -9,10 +9,11 @@ use borrow.Author.Tests.{eq-eqb, ne-eqb, lt-ltb, le-ltb}
 use Rattle.derive.specs.Held.{held}
 use Rattle.compose.specs.Writing.{Writing, Writing.writing, tightness, pour, poured, passed, begun, pourings}
 use Rattle.compose.specs.Fits.{kept, within}
-use Rattle.compose.specs.FitsLaws.{within-unfit, passed-within, pour-unfit}
+use Rattle.compose.specs.Laws.FitsLaws.{within-unfit, passed-within, pour-unfit}
 use Rattle.composing.specs.Pens.{stands, Spoilt, Popped, Near, Poured}
 use Rattle.composing.specs.PenLaws.{drop-front, held-top, held-none, spoilt-stands, popped-stands}
 use Rattle.composing.specs.declared.Pen.{Pen}
+use Rattle.composing.specs.Sizes.{margin}
 
 -- How tight a byte binds ---------------------------------------------------------------------------
 
@@ -58,7 +59,7 @@ module _ (t c : ℕ) (s w n : List ℕ) (l : ℕ) (f : Bool) where
 
 -- from the pen p, with the output before the loop and now, the next place and how many still wait
 pub record Pouring (out₀ stack : List ℕ) (p : Pen) (t : ℕ) (out : List ℕ) (at h : ℕ) : Type 0 where
-  pub front : 6 ≤ at
+  pub front : margin ≤ at
   pub behind : at ≤ p .place
   pub low : h ≤ p .height
   pub tall : p .height ≤ length stack
@@ -67,7 +68,7 @@ pub record Pouring (out₀ stack : List ℕ) (p : Pen) (t : ℕ) (out : List ℕ
   pub state : (n : List ℕ) → pour t (drop at out) (held stack h) n (p .later) (p .fits)
       ≡ pour t (drop (p .place) out₀) (held stack (p .height)) n (p .later) (p .fits)
 
-pub pouring-start : (out stack : List ℕ) (p : Pen) (t : ℕ) → 6 ≤ p .place → p .place ≤ length out → p .height ≤ length stack
+pub pouring-start : (out stack : List ℕ) (p : Pen) (t : ℕ) → margin ≤ p .place → p .place ≤ length out → p .height ≤ length stack
     → Pouring out stack p t out (p .place) (p .height)
 pouring-start out stack p t a b c =
     record { front = a; behind = omega arith; low = omega arith; tall = c; inner = b; same = refl; state = λ n. refl }
@@ -78,7 +79,7 @@ pen-at p at h = record { place = at; height = h; left = p .left; later = p .late
 
 module _ {out₀ stack : List ℕ} {p : Pen} {t : ℕ} {out : List ℕ} {at h : ℕ} (r : Pouring out₀ stack p t out at h) where
   abbrev room : ℕ
-  room = length out₀ - 6
+  room = length out₀ - margin
 
   abbrev top : ℕ
   top = getD stack (h - 1) 0
@@ -127,7 +128,7 @@ module _ {out₀ stack : List ℕ} {p : Pen} {t : ℕ} {out : List ℕ} {at h : 
           rw above (pour-tighter t top (drop at out) (held stack (h - 1)) n (p .later) (p .fits) l) in
           sym here ∙ r .state n
 
-      pub pouring-next : 6 < at → Pouring out₀ stack p t (set out (at - 1) top) (at - 1) (h - 1)
+      pub pouring-next : margin < at → Pouring out₀ stack p t (set out (at - 1) top) (at - 1) (h - 1)
       pouring-next a =
           record {
             front = omega arith;
@@ -140,7 +141,7 @@ module _ {out₀ stack : List ℕ} {p : Pen} {t : ℕ} {out : List ℕ} {at h : 
           }
 
       -- one more than there is room for
-      pub pouring-over : at ≤ 6 → (q : Pen) → Spoilt p q → (n : List ℕ)
+      pub pouring-over : at ≤ margin → (q : Pen) → Spoilt p q → (n : List ℕ)
           → within room (stands out stack n q) ≡ within room (poured t (stands out₀ stack n p))
       unfolding stands poured within kept
       pouring-over a q e n =
@@ -188,5 +189,5 @@ near-poured a n =
     }
 
 -- what is not poured
-pub poured-same : (p : Pen) → 6 ≤ p .place → Poured p p
+pub poured-same : (p : Pen) → margin ≤ p .place → Poured p p
 poured-same p h = record { front = h; behind = omega arith; height = omega arith; left = refl; later = refl }

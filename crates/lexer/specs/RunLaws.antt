@@ -9,9 +9,10 @@ use lib.ListN.{length, getD, drop, length-drop, drop-of-length-le}
 use lib.Seq.{drop-cons, getD-drop}
 use lib.Dec.{eqb}
 use borrow.Author.Tests.{eqb-true, eqb-false, eq-eqb, ne-eqb}
-use Rattle.tokens.specs.Lexing.{slash, star, close}
+use Rattle.tokens.specs.Lexing.{close}
 use Rattle.tokens.specs.Tokens.{same}
 use Rattle.tokens.specs.Scanning.{span, begins, one-more, closing}
+use Rattle.tokens.specs.Bytes.{star, slash}
 
 -- the byte at a place and those behind it
 pub next-byte : (s : List ℕ) (i : ℕ) → i < length s → drop i s ≡ getD s i 0 ∷ drop (i + 1) s

@@ -14,21 +14,22 @@ use Rattle.tokens.specs.Scanning.{lex}
 use Rattle.syntax.specs.Syntax.{Program as Derivation}
 use Rattle.syntax.specs.Bracketing.{Derives}
 use Rattle.syntax.specs.Reading.{read}
-use Rattle.syntax.specs.CompleteLaws.{derives-read, derived-exact}
+use Rattle.syntax.specs.Laws.CompleteLaws.{derives-read, derived-exact}
 use Rattle.meaning.specs.Meant.{meant}
-use Rattle.lexer.specs.Kinds.{kind}
-use Rattle.lexer.specs.Marking.{marks, found, parts, kinds-in}
-use Rattle.lexer.specs.MarkingLaws.{marks-tell}
-use Rattle.derive.specs.Shape.{Shape.shape, derived}
-use Rattle.derive.specs.KindShapeLaws.{derived-derives}
-use Rattle.derive.specs.RoleMarks.{role-codes, placed}
-use Rattle.derive.specs.RoleMarkLaws.{text-roles}
-use Rattle.derive.specs.Roles.{code, roles}
+use Rattle.tokens.specs.Kinds.{kind}
+use Rattle.tokens.specs.Marking.{marks, found, parts, kinds-in}
+use Rattle.tokens.specs.Laws.MarkingLaws.{marks-tell}
+use Rattle.text_shape.specs.Shape.{Shape.shape, derived}
+use Rattle.text_shape.specs.Laws.KindShapeLaws.{derived-derives}
+use Rattle.text_shape.specs.RoleMarks.{role-codes, placed}
+use Rattle.text_shape.specs.Laws.RoleMarkLaws.{text-roles}
+use Rattle.text_shape.specs.Roles.{code, roles}
 use Rattle.resolve.specs.Standing.{Stood}
-use Rattle.resolve.specs.StandingLaws.{derivation-stands}
+use Rattle.resolve.specs.Laws.StandingLaws.{derivation-stands}
 use Rattle.source.specs.Source.{max-text, no-token, no-derivation, Outcome, Outcome.refused}
 use Rattle.source.specs.TextReader.{of-program, of-derivation, of-tokens, of-length, outcome}
 use Rattle.read_text.specs.Roled.{Roled}
+use Rattle.text_shape.specs.CodeNames.{first-defs-code}
 
 module _ (x out : List ℕ) where
   pub too-long : max-text < length x → outcome x out ≡ refused no-token
@@ -83,15 +84,15 @@ module _ (x ks₀ ks : List ℕ) (long : length ks₀ ≡ length x) (p : true �
       go none g = refl
       go (some c) g = absurd (false≢true (f ∙ ap derived kinds-are ∙ derived-derives tokens .1 (c, derived-exact tokens c .0 g)))
 
-  module _ (cs : List ℕ) (f : cs ≡ placed ks (role-codes (shape 1 []) (kinds-in ks))) (d : true ≡ derived (kinds-in ks)) where
+  module _ (cs : List ℕ) (f : cs ≡ placed ks (role-codes (shape first-defs-code []) (kinds-in ks))) (d : true ≡ derived (kinds-in ks)) where
     derives : (c : Derivation) × Derives tokens c
     derives = derived-derives tokens .0 (ap derived (sym kinds-are) ∙ sym d)
 
     pub roled : Roled x cs
     roled =
         let c = derives .0 in
-        let g : cs ≡ placed (marks x) (role-codes (shape 1 []) (kinds-in (marks x))) =
-        f ∙ ap (λ l. placed l (role-codes (shape 1 []) (kinds-in l))) marks-are in
+        let g : cs ≡ placed (marks x) (role-codes (shape first-defs-code []) (kinds-in (marks x))) =
+        f ∙ ap (λ l. placed l (role-codes (shape first-defs-code []) (kinds-in l))) marks-are in
         let h : cs ≡ placed (marks x) (map code (roles c)) = g ∙ text-roles x tokens c lexed (derives .1) in
         record {
           derivation = c;
