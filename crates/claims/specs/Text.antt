@@ -27,7 +27,8 @@ use Rattle.meaning.specs.Means.{Means}
 use Rattle.meaning.specs.Nesting.{Shallow}
 use Rattle.source.specs.Source.{no-derivation, Derived, Reading, NoTokens, text-order, Outcome.written, Outcome.refused}
 use Rattle.source.specs.TextReader.{outcome, text-number, text-blocks, text-output}
-use Rattle.source.specs.Laws.SourceLaws.{derived-one as derived-law, one-reading as reading-law, text-refused-exactly as refused-law, text-written as written-law}
+use Rattle.source.specs.Laws.SourceLaws.{derived-one as derived-law, one-reading as reading-law, text-refused-exactly as refused-law}
+use Rattle.source.specs.Laws.SourceLaws.{text-written as written-law}
 use Rattle.source.specs.Laws.SourceLaws.{text-untouched as untouched-law, escapes-16 as escapes-law}
 use Rattle.source.specs.Stepping.{StepsRight}
 use Rattle.source.specs.Checking.{Answers, written-image, text-verdict, both-order}

@@ -41,7 +41,8 @@ room-left out k a b = go (leb margin k) refl
 
 -- what is tested of a pen is whether what it stands for fits
 pub tested : (out stack numbers : List ℕ) (p : Pen) (x : Writing) → margin ≤ length out → p .place ≤ length out
-    → within (length out - margin) (stands out stack numbers p) ≡ within (length out - margin) x → (p .fits && leb margin (p .place)) ≡ fits (length out - margin) x
+    → within (length out - margin) (stands out stack numbers p) ≡ within (length out - margin) x
+    → (p .fits && leb margin (p .place)) ≡ fits (length out - margin) x
 unfolding stands fits
 tested out stack numbers p x a b e =
     rw (room-left out (p .place) a b) (fits-within (length out - margin) (stands out stack numbers p) x e)
@@ -163,7 +164,8 @@ pub record Took (text roles numbers out₀ stack₀ out stack : List ℕ) (p : P
   pub same-stack : length stack₁ ≡ length stack
   pub v : ℕ
   pub value : v ≡ value-at text (i - 1) (getD roles (i - 1) 0)
-  pub made : within (length out - margin) (stands out₁ stack₁ numbers q) ≡ within (length out - margin) (put (getD roles (i - 1) 0) v (stands out stack numbers p))
+  pub made : within (length out - margin) (stands out₁ stack₁ numbers q)
+      ≡ within (length out - margin) (put (getD roles (i - 1) 0) v (stands out stack numbers p))
 
 module _ {text roles numbers out₀ stack₀ out stack : List ℕ} {p : Pen} {out₁ stack₁ : List ℕ} {q : Pen} {i : ℕ}
     (k : Took text roles numbers out₀ stack₀ out stack p out₁ stack₁ q i) where

@@ -1,19 +1,20 @@
 -- Operators that waited and are written in memory (02 §2): how tight a byte binds, the loop over what waits, and where an expression begins.
-use Prim.Native.Nat.{ℕ, zero, suc, _-_, _<_, _≤_}
+use Prim.Native.Nat.{ℕ, _-_, _<_, _≤_}
 use native.Mathlib.Omega.{arith}
 use mathlib.Core.Path.{_≡_, refl, sym, ap, _∙_}
 use mathlib.Core.Bool.{Bool}
-use mathlib.Core.List.{List, [], _∷_}
+use mathlib.Core.List.{List, _∷_}
 use lib.ListN.{length, getD, set, drop, length-drop, length-set}
 use borrow.Author.Tests.{eq-eqb, ne-eqb, lt-ltb, le-ltb}
 use Rattle.derive.specs.Held.{held}
-use Rattle.compose.specs.Writing.{Writing, Writing.writing, tightness, pour, poured, passed, begun, pourings}
+use Rattle.compose.specs.Writing.{Writing.writing, tightness, pour, poured, passed, begun}
 use Rattle.compose.specs.Fits.{kept, within}
 use Rattle.compose.specs.Laws.FitsLaws.{within-unfit, passed-within, pour-unfit}
 use Rattle.composing.specs.Pens.{stands, Spoilt, Popped, Near, Poured}
 use Rattle.composing.specs.PenLaws.{drop-front, held-top, held-none, spoilt-stands, popped-stands}
 use Rattle.composing.specs.declared.Pen.{Pen}
 use Rattle.composing.specs.Sizes.{margin}
+use Rattle.program.specs.Forms.{mul-form, add-form, and-form, or-form}
 
 -- How tight a byte binds ---------------------------------------------------------------------------
 
@@ -23,26 +24,26 @@ module _ (c : ℕ) where
   tight-none e = rw (eq-eqb c 0 e, tightness) refl
 
   module _ (n : c ≡ 0 → ⊥) where
-    pub tight-comparison : c < 38 → 3 ≡ tightness c
+    pub tight-comparison : c < mul-form → 3 ≡ tightness c
     unfolding tightness
-    tight-comparison h = rw (ne-eqb c 0 n, lt-ltb c 38 h, tightness) refl
+    tight-comparison h = rw (ne-eqb c 0 n, lt-ltb c mul-form h, tightness) refl
 
-    pub tight-product : 38 ≤ c → c < 41 → 5 ≡ tightness c
+    pub tight-product : mul-form ≤ c → c < add-form → 5 ≡ tightness c
     unfolding tightness
-    tight-product a h = rw (ne-eqb c 0 n, le-ltb c 38 a, lt-ltb c 41 h, tightness) refl
+    tight-product a h = rw (ne-eqb c 0 n, le-ltb c mul-form a, lt-ltb c add-form h, tightness) refl
 
-    pub tight-sum : 41 ≤ c → c < 43 → 4 ≡ tightness c
+    pub tight-sum : add-form ≤ c → c < and-form → 4 ≡ tightness c
     unfolding tightness
-    tight-sum a h = rw (ne-eqb c 0 n, le-ltb c 38 (omega arith), le-ltb c 41 a, lt-ltb c 43 h, tightness) refl
+    tight-sum a h = rw (ne-eqb c 0 n, le-ltb c mul-form (omega arith), le-ltb c add-form a, lt-ltb c and-form h, tightness) refl
 
-    pub tight-and : 43 ≤ c → c < 44 → 2 ≡ tightness c
+    pub tight-and : and-form ≤ c → c < or-form → 2 ≡ tightness c
     unfolding tightness
-    tight-and a h = rw (ne-eqb c 0 n, le-ltb c 38 (omega arith), le-ltb c 41 (omega arith), le-ltb c 43 a, lt-ltb c 44 h, tightness) refl
+    tight-and a h = rw (ne-eqb c 0 n, le-ltb c mul-form (omega arith), le-ltb c add-form (omega arith), le-ltb c and-form a, lt-ltb c or-form h, tightness) refl
 
-    pub tight-or : 44 ≤ c → 1 ≡ tightness c
+    pub tight-or : or-form ≤ c → 1 ≡ tightness c
     unfolding tightness
     tight-or a =
-        rw (ne-eqb c 0 n, le-ltb c 38 (omega arith), le-ltb c 41 (omega arith), le-ltb c 43 (omega arith), le-ltb c 44 a, tightness) refl
+        rw (ne-eqb c 0 n, le-ltb c mul-form (omega arith), le-ltb c add-form (omega arith), le-ltb c and-form (omega arith), le-ltb c or-form a, tightness) refl
 
 -- One that waits -----------------------------------------------------------------------------------
 

@@ -1,7 +1,7 @@
 -- What the tables of roles say, in a row as they are lent.
 use Prim.Native.Nat.{ℕ, zero, suc, _+_, _*_, _<_}
 use native.Mathlib.Omega.{arith}
-use mathlib.Core.Path.{_≡_, refl, sym, ap, _∙_}
+use mathlib.Core.Path.{_≡_, refl, ap, _∙_}
 use mathlib.Core.List.{List, [], _∷_, _++_}
 use lib.ListN.{length, getD, length-append, List·getD-append}
 use lib.Seq.{getD-append-add}
@@ -35,7 +35,8 @@ row-long (l ∷ ls) a =
     let rest = row-long ls (a .1) in
     omega (arith, a .0, b, here, rest)
 
-row-at : (ls : List (List ℕ)) (k c : ℕ) → Long ls → k < length ls → c < role-count → getD (in-a-row ls) (role-count * k + c) 0 ≡ zero-byte + getD (getD ls k []) c 0
+row-at : (ls : List (List ℕ)) (k c : ℕ) → Long ls → k < length ls → c < role-count
+    → getD (in-a-row ls) (role-count * k + c) 0 ≡ zero-byte + getD (getD ls k []) c 0
 unfolding in-a-row
 row-at [] k c a h i = absurd (omega arith)
 row-at (l ∷ ls) zero c a h i =

@@ -3,6 +3,7 @@ use crate::Pen;
 use crate::bytes;
 use crate::sizes;
 use crate::waiting;
+use program::form;
 ghost use mathlib.Core.Path.{_≡_};
 ghost use mathlib.Core.List.{List};
 ghost use Prim.Native.Nat.{ℕ, _-_, _≤_};
@@ -19,16 +20,16 @@ fn tightness(c: u8) -> u8
     if c == 0 {
         return 0;
     }
-    if c < 38 {
+    if c < form::MUL {
         return 3;
     }
-    if c < 41 {
+    if c < form::ADD {
         return 5;
     }
-    if c < 43 {
+    if c < form::AND {
         return 4;
     }
-    if c < 44 {
+    if c < form::OR {
         return 2;
     }
     1

@@ -4,7 +4,9 @@ use crate::bytes;
 use crate::pouring;
 use crate::table;
 use crate::waiting;
+use program::form;
 use text_shape::role;
+use tokens::kind;
 ghost use mathlib.Core.Path.{_≡_};
 ghost use Prim.Native.Nat.{_+_, _-_, _≤_, _<_};
 ghost use lib.ListN.{length};
@@ -15,7 +17,7 @@ ghost use Rattle.compose.specs.Fits.{within};
 ghost use Rattle.composing.specs.Sizes.{margin};
 
 // How far the byte of an operator in a stream is above its kind.
-const OP_SHIFT: u8 = 9;
+const OP_SHIFT: u8 = form::EQ - kind::EQ;
 
 // One role by its byte and the tables, a literal with the number that it is.
 pub fn put(

@@ -1,4 +1,5 @@
-// What each of the 81 roles does (`compose/specs/Writing.antt`), as four tables in a row, a number as the byte of a digit's place above `ZERO`. `write` lends them once
+// What each of the 81 roles does (`compose/specs/Writing.antt`), as four tables in a row, a number as the byte of a digit's place above `ZERO`. `write`
+// lends them once
 // for a text: a constant is laid down anew wherever it is lent.
 use text_shape::role;
 ghost use mathlib.Core.Path.{_≡_};

@@ -149,6 +149,7 @@ pub left-all : (ks : List ℕ) → leaves (shape first-defs-code []) 0 0 ks ks �
 unfolding awaits amended renames renamed waits
 left-all ks = leaves-all ks (shape first-defs-code []) 0 0 [] (quiet (λ k. refl)) refl ∙ front (kinds-in ks)
   where
-    front : (l : List ℕ) → awaits (shape first-defs-code []) 0 l [] ++ placed ks (role-codes (shape first-defs-code []) (kinds-in ks)) ≡ placed ks (role-codes (shape first-defs-code []) (kinds-in ks))
+    front : (l : List ℕ) → awaits (shape first-defs-code []) 0 l [] ++ placed ks (role-codes (shape first-defs-code []) (kinds-in ks))
+        ≡ placed ks (role-codes (shape first-defs-code []) (kinds-in ks))
     front [] = refl
     front (k ∷ l) = refl

@@ -9,6 +9,7 @@ use lib.ListN.{length, getD, take, drop}
 use lib.Seq.{getD-drop, drop-drop}
 use lib.Dec.{eqb}
 use borrow.Author.Tests.{eqb-true, eq-eqb, ne-eqb}
+use Rattle.types.specs.ListLaws.{drop-next, eqb-sym}
 use Rattle.tokens.specs.Laws.ByteLaws.{both-true}
 use Rattle.program.specs.Tree.{Op.op-ne, Op.op-le, Op.op-ge, Op.op-lt, Op.op-gt, Op.op-and, Op.op-or}
 use Rattle.tokens.specs.Tokens.{Sign.colon, Sign.assign, Sign.bang, Token, Token.sign, Token.op, Token.int, Token.nat, nat-end-byte, letter, digit}
@@ -19,7 +20,7 @@ use Rattle.tokens.specs.Scanning.{front-of, front}
 use Rattle.tokens.specs.TokenNumbers.{sign-number}
 use Rattle.tokens.specs.Kinds.{sign-kind, op-kind, kind}
 use Rattle.tokens.specs.Marking.{spot-of, signs-digit, followed}
-use Rattle.lexer.specs.RunLaws.{next-byte, inside, eqb-turned}
+use Rattle.lexer.specs.RunLaws.{inside}
 use Rattle.tokens.specs.declared.Spot.{Spot}
 use Rattle.tokens.specs.declared.Spot.the-variants.{Marked, Stray}
 use Rattle.tokens.specs.Unfold.{sign-scan}
@@ -49,7 +50,7 @@ module _ (s : List ℕ) (at : ℕ) where
 
   -- the bytes up to the end of a run behind the first
   pub front-taken : (e : ℕ) → at < length s → at + 1 ≤ e → take (e - at) (drop at s) ≡ b ∷ take (e - (at + 1)) rest
-  front-taken e l h = rw (next-byte s at l, let m : e - at ≡ suc (e - (at + 1)) = omega arith in m) refl
+  front-taken e l h = rw (drop-next s at l, let m : e - at ≡ suc (e - (at + 1)) = omega arith in m) refl
 
   pub name-spot : (e k : ℕ) → at < length s → e ≡ at + 1 + span name-byte rest → k ≡ kind (named (take (e - at) (drop at s)))
       → Marked k (e - (at + 1)) ≡ spot-of (front-of letters b rest)
@@ -128,11 +129,11 @@ module _ (s : List ℕ) (at : ℕ) where
   module _ (l : at < length s) where
     front-here : front (drop at s) ≡ front-of (class b) b rest
     unfolding front
-    front-here = rw (next-byte s at l) refl
+    front-here = rw (drop-next s at l) refl
 
     -- whatever stands behind the byte
     pub alone-spot : {r : Spot} → ((t : List ℕ) → r ≡ spot-of (front (b ∷ t))) → r ≡ spot-of (front (drop at s))
-    alone-spot f = rw (next-byte s at l) (f rest)
+    alone-spot f = rw (drop-next s at l) (f rest)
 
     pub letter-spot : {r : Spot} → letter b ≡ true → r ≡ spot-of (front-of letters b rest) → r ≡ spot-of (front (drop at s))
     unfolding class
@@ -170,7 +171,8 @@ Misses (k ∷ ks) b = (Misses ks b) × (b ≡ k → ⊥)
 -- the first bytes of the signs, from the highest down
 abbrev pub firsts : List ℕ
 firsts =
-    rbrace-byte ∷ bar-byte ∷ lbrace-byte ∷ more-byte ∷ equals-byte ∷ less-byte ∷ semicolon-byte ∷ colon-byte ∷ slash ∷ dot-byte ∷ minus-byte ∷ comma-byte ∷ plus-byte ∷ star ∷ rpar-byte ∷ lpar-byte ∷ ampersand-byte ∷ percent-byte ∷ bang-byte ∷ []
+    rbrace-byte ∷ bar-byte ∷ lbrace-byte ∷ more-byte ∷ equals-byte ∷ less-byte ∷ semicolon-byte ∷ colon-byte ∷ slash ∷ dot-byte ∷ minus-byte ∷ comma-byte
+    ∷ plus-byte ∷ star ∷ rpar-byte ∷ lpar-byte ∷ ampersand-byte ∷ percent-byte ∷ bang-byte ∷ []
 
 -- none of some signs stands there
 abbrev Passed : List Token → List ℕ → Type 0
@@ -184,7 +186,28 @@ none-of (t ∷ ts) x h = rw (h .0, find-sign) (none-of ts x (h .1))
 
 pub sign-none : (b c : ℕ) → Misses firsts b → Stray ≡ spot-of (find-sign signs (b ∷ c ∷ []))
 unfolding signs doubles singles begins spelling sign-spelling op-spelling spot-of
-sign-none b c (((((((((((((((((((u, n-bang), n-percent), n-amp), n-lpar), n-rpar), n-star), n-plus), n-comma), n-minus), n-dot), n-slash), n-colon), n-semi), n-less), n-equals), n-more), n-lbrace), n-bar), n-rbrace) =
+sign-none b c (
+  (
+    (
+      (
+        (
+          (
+            (
+              ((((((((((((u, n-bang), n-percent), n-amp), n-lpar), n-rpar), n-star), n-plus), n-comma), n-minus), n-dot), n-slash), n-colon),
+              n-semi,
+            ),
+            n-less,
+          ),
+          n-equals,
+        ),
+        n-more,
+      ),
+      n-lbrace,
+    ),
+    n-bar,
+  ),
+  n-rbrace,
+) =
     ap spot-of (sym (none-of signs (b ∷ c ∷ []) (
       off colon-byte (equals-byte ∷ []) n-colon,
       (
@@ -257,8 +280,8 @@ unfolding followed
 by-second c d two one f p q = go (eqb d c) refl
   where
     go : (t : Bool) → eqb d c ≡ t → followed c d two one ≡ f t
-    go true e = rw (eqb-turned c d, e, followed) (sym p)
-    go false e = rw (eqb-turned c d, e, followed) (sym q)
+    go true e = rw (eqb-sym c d, e, followed) (sym p)
+    go false e = rw (eqb-sym c d, e, followed) (sym q)
 
 either : Front → Front → Bool → Spot
 either x y t = spot-of (elim (t && true) [ true ↦ x | false ↦ y ])

@@ -1,11 +1,11 @@
 -- Each way to the end of reading: what is answered and what is left in the output are those of the text's outcome (02 §1).
-use Prim.Native.Nat.{ℕ, _+_, _*_, _/_, _<_, _≤_}
+use Prim.Native.Nat.{ℕ, _*_, _<_, _≤_}
 use native.Mathlib.Omega.{arith}
-use mathlib.Core.Path.{_≡_, refl, sym, ap, _∙_}
+use mathlib.Core.Path.{_≡_, refl, sym, _∙_}
 use mathlib.Core.Bool.{Bool, true, false}
-use mathlib.Core.List.{List, _++_}
+use mathlib.Core.List.{List}
 use mathlib.Core.Option.{Option, none, some}
-use lib.ListN.{length, drop}
+use lib.ListN.{length}
 use lib.Dec.{ltb}
 use borrow.Author.Tests.{le-leb, lt-ltb, le-ltb}
 use Rattle.types.specs.Limits.{program-blocks}
@@ -22,8 +22,7 @@ use Rattle.meaning.specs.Meant.{then, provided}
 use Rattle.meaning.specs.HoldsDecide.{holds}
 use Rattle.source.specs.Source.{Outcome, Outcome.written, Outcome.refused, number-of, blocks-of, output-of}
 use Rattle.source.specs.TextReader.{of-room, of-held, of-program}
-use Rattle.read_text.specs.Ending.{Ending, Ending.wrote, Ending.stopped, with-room, ended, answer, left, ending}
-use Rattle.read_text.specs.declared.Answer.{Answer}
+use Rattle.read_text.specs.Ending.{Ending.wrote, Ending.stopped, with-room, ended, answer, left, ending}
 use Rattle.meaning.specs.Holds.{max-stream}
 use Rattle.meaning.specs.Holds.{block-bytes}
 
@@ -72,7 +71,8 @@ module _ (s out : List ℕ) where
     pub blocks-are : write program-blocks (length s) (length out) ≡ Blocks (pieces (length s))
     unfolding stream-right
     blocks-are =
-        sym (write-done program-blocks (length s) (length out) true (rw (le-leb 1 (length s) one, le-leb (length s) (block-bytes * program-blocks) (omega arith))) refl (omega arith))
+        sym (write-done program-blocks (length s) (length out) true
+        (rw (le-leb 1 (length s) one, le-leb (length s) (block-bytes * program-blocks) (omega arith))) refl (omega arith))
 
     pub few-written : (w : Written) (k : ℕ) → w ≡ write program-blocks (length s) (length out) → w ≡ Blocks k → k ≤ program-blocks
     few-written w k e f = let b : k ≡ pieces (length s) = cc blocks-are in omega arith

@@ -3,7 +3,7 @@ use Prim.Native.Nat.{ℕ, _+_, _-_, _<_, _≤_}
 use native.Mathlib.Omega.{arith}
 use mathlib.Core.Path.{_≡_, refl, sym, ap, _∙_}
 use mathlib.Core.List.{List}
-use mathlib.Core.Option.{Option, none, some}
+use mathlib.Core.Option.{none, some}
 use lib.ListN.{length, getD, take, drop, length-drop, length-take}
 use lib.Seq.{getD-take, getD-drop, take-all}
 use Rattle.meaning.specs.Meant.{then}
@@ -63,7 +63,8 @@ module _ (x cs t : List ℕ) (r : Roled x cs) (ok : Rows (offsets new-par-role c
   pub rows-lent : Rows (part-of t offsets-place (offsets-place + structs + 1)) (part-of t types-place (types-place + count))
   rows-lent = rw (offsets-lent, types-lent) ok
 
-  pub composed-lent : (ns : List ℕ) → composed-by (part-of t offsets-place (offsets-place + structs + 1)) (part-of t types-place (types-place + count)) x cs ns ≡ composed x cs ns
+  pub composed-lent : (ns : List ℕ) → composed-by (part-of t offsets-place (offsets-place + structs + 1))
+      (part-of t types-place (types-place + count)) x cs ns ≡ composed x cs ns
   unfolding composed
   composed-lent ns = rw (offsets-lent, types-lent) refl
 

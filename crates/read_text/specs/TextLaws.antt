@@ -1,14 +1,14 @@
 -- 15 and 16 (02 §1): a text that is too long, that does not part into tokens, or whose tokens no derivation yields is refused so; else its roles stand in it.
-use Prim.Native.Nat.{ℕ, _+_, _<_, _≤_}
+use Prim.Native.Nat.{ℕ, _<_, _≤_}
 use native.Mathlib.Omega.{arith}
 use mathlib.Core.Path.{_≡_, refl, sym, ap, subst, _∙_}
-use mathlib.Core.Bool.{Bool, true, false, false≢true}
-use mathlib.Core.List.{List, [], _∷_, _++_, map, append-nil}
+use mathlib.Core.Bool.{true, false, false≢true}
+use mathlib.Core.List.{List, [], map}
 use mathlib.Core.Option.{Option, none, some}
-use lib.ListN.{length, drop, drop-of-length-le}
-use lib.Seq.{sets, sets-eq}
-use lib.Dec.{ltb}
+use lib.ListN.{length}
+use lib.Seq.{sets}
 use borrow.Author.Tests.{lt-ltb, le-ltb}
+use Rattle.types.specs.ListLaws.{sets-whole}
 use Rattle.tokens.specs.Tokens.{Token}
 use Rattle.tokens.specs.Scanning.{lex}
 use Rattle.syntax.specs.Syntax.{Program as Derivation}
@@ -26,7 +26,7 @@ use Rattle.text_shape.specs.Laws.RoleMarkLaws.{text-roles}
 use Rattle.text_shape.specs.Roles.{code, roles}
 use Rattle.resolve.specs.Standing.{Stood}
 use Rattle.resolve.specs.Laws.StandingLaws.{derivation-stands}
-use Rattle.source.specs.Source.{max-text, no-token, no-derivation, Outcome, Outcome.refused}
+use Rattle.source.specs.Source.{max-text, no-token, no-derivation, Outcome.refused}
 use Rattle.source.specs.TextReader.{of-program, of-derivation, of-tokens, of-length, outcome}
 use Rattle.read_text.specs.Roled.{Roled}
 use Rattle.text_shape.specs.CodeNames.{first-defs-code}
@@ -57,10 +57,6 @@ parted x e = go (lex 0 x) refl e
     go none f e = absurd (false≢true (sym e))
     go (some ts) f e = (ts, f)
 
-set-whole : (ks ms : List ℕ) → length ms ≡ length ks → sets ks 0 ms ≡ ms
-set-whole ks ms e =
-    sets-eq ms ks 0 (omega arith) ∙ ap (λ l. ms ++ l) (drop-of-length-le ks {i = 0 + length ms} (omega arith)) ∙ append-nil ms
-
 -- the kinds of its tokens in their places, in lent memory
 module _ (x ks₀ ks : List ℕ) (long : length ks₀ ≡ length x) (p : true ≡ parts x) (e : ks ≡ sets ks₀ 0 (marks x)) where
   tokens : List Token
@@ -71,7 +67,7 @@ module _ (x ks₀ ks : List ℕ) (long : length ks₀ ≡ length x) (p : true �
   lexed = parted x p .1
 
   marks-are : ks ≡ marks x
-  marks-are = let h = marks-tell x tokens lexed .1 in e ∙ set-whole ks₀ (marks x) (omega arith)
+  marks-are = let h = marks-tell x tokens lexed .1 in e ∙ sets-whole ks₀ (marks x) (omega arith)
 
   kinds-are : kinds-in ks ≡ map kind tokens
   kinds-are = ap kinds-in marks-are ∙ marks-tell x tokens lexed .0

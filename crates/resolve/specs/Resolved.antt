@@ -27,7 +27,8 @@ book-at text roles =
     record {
       structs = names-at text (places new-struct-role new-struct-role roles);
       rows = cuts (names-at text (places new-par-role new-par-role roles)) (offsets new-par-role roles);
-      types = cuts (types-at text roles (names-at text (places new-struct-role new-struct-role roles)) (places first-type-role last-par-type-role roles)) (offsets new-par-role roles);
+      types = cuts (types-at text roles (names-at text (places new-struct-role new-struct-role roles)) (places first-type-role last-par-type-role roles))
+          (offsets new-par-role roles);
       steps = names-at text (firsts text [] (places new-step-role new-step-role roles));
     }
 

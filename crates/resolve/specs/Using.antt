@@ -17,7 +17,8 @@ use Rattle.text_shape.specs.Roles.{Naming.new-local, Naming.first-read, Naming.
 use Rattle.text_shape.specs.Roles.{Naming.called, Naming.called-struct, Naming.called-step}
 use Rattle.text_shape.specs.Roles.{Part, Part.brackets-open, Part.brackets-close, Part.args-open, Part.args-close, Part.no-args-close, Part.pars-open}
 use Rattle.text_shape.specs.Roles.{Part.pars-close, Part.fix-open, Part.fix-close, Part.steps-open, Part.steps-close, Part.body-open, Part.body-close}
-use Rattle.text_shape.specs.Roles.{Part.then-open, Part.then-close, Part.par-comma, Part.arg-comma, Part.barrier-sign, Role, Role.plain, Role.naming, Role.typed}
+use Rattle.text_shape.specs.Roles.{Part.then-open, Part.then-close, Part.par-comma, Part.arg-comma, Part.barrier-sign, Role, Role.plain, Role.naming}
+use Rattle.text_shape.specs.Roles.{Role.typed}
 use Rattle.text_shape.specs.Roles.{Role.part}
 use Rattle.resolve.specs.Named.{sought}
 use Rattle.resolve.specs.Checks.{byte-of}

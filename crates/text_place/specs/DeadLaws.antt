@@ -1,7 +1,7 @@
 -- Behind the token that `stuck-from` finds no derivation goes on: no text that begins with the tokens up to it, and with it, is derived (02 §1, 16).
-use Prim.Native.Nat.{ℕ, zero, suc, _<_}
+use Prim.Native.Nat.{ℕ, suc, _<_}
 use native.Mathlib.Omega.{arith}
-use mathlib.Core.Path.{_≡_, refl, sym, ap, _∙_}
+use mathlib.Core.Path.{_≡_, refl, ap, _∙_}
 use mathlib.Core.Bool.{Bool, true, false}
 use mathlib.Core.List.{List, [], _∷_, _++_}
 use lib.ListN.{length, take}
@@ -70,4 +70,5 @@ pub stuck-underived : (ks more : List ℕ) → stuck-from (shape first-defs-code
 unfolding derived
 stuck-underived ks more l =
     let front = kinds-in (take (suc (stuck-from (shape first-defs-code []) ks)) ks) in
-    ap at-end (moves-both (shape first-defs-code []) front more) ∙ dead-end _ (dead-moves (moves (shape first-defs-code []) front) more (stuck-dead (shape first-defs-code []) ks l))
+    ap at-end (moves-both (shape first-defs-code []) front more)
+    ∙ dead-end _ (dead-moves (moves (shape first-defs-code []) front) more (stuck-dead (shape first-defs-code []) ks l))

@@ -1,15 +1,16 @@
 -- The loops that look for the place at which reading stops, place by place; each way to it; and that behind a token with which no derivation goes on none does.
-use Prim.Native.Nat.{ℕ, zero, suc, _+_, _≤_, _<_}
+use Prim.Native.Nat.{ℕ, suc, _+_, _≤_, _<_}
 use native.Mathlib.Omega.{arith}
 use native.Mathlib.Numerals.{add-one}
 use mathlib.Core.Path.{_≡_, refl, sym, ap, _∙_}
 use mathlib.Core.Bool.{Bool, true, false, not, false≢true}
-use mathlib.Core.List.{List, [], _∷_, _++_, append-nil}
+use mathlib.Core.List.{List, [], _∷_, _++_}
 use mathlib.Core.Option.{Option, none, some}
 use lib.ListN.{length, getD, drop, replicate, length-drop, length-append, length-replicate, drop-of-length-le}
-use lib.Seq.{sets, sets-eq, drop-cons, drop-drop}
+use lib.Seq.{sets, drop-cons, drop-drop}
 use lib.Dec.{eqb}
 use borrow.Author.Tests.{not-true, not-false, ne-eqb, lt-ltb, le-ltb}
+use Rattle.types.specs.ListLaws.{sets-whole}
 use Rattle.source.specs.Source.{max-text}
 use Rattle.tokens.specs.Tokens.{Token}
 use Rattle.tokens.specs.Scanning.{front, lex}
@@ -162,10 +163,6 @@ pub long-place : (x : List ℕ) → max-text < length x → (max-text ≡ place 
 unfolding place of-length
 long-place x h = (rw (lt-ltb max-text (length x) h, of-length) refl, omega arith)
 
-set-whole : (ks ms : List ℕ) → length ms ≡ length ks → sets ks 0 ms ≡ ms
-set-whole ks ms e =
-    sets-eq ms ks 0 (omega arith) ∙ ap (λ l. ms ++ l) (drop-of-length-le ks {i = 0 + length ms} (omega arith)) ∙ append-nil ms
-
 module _ (x ks₀ ks : List ℕ) (short : length x ≤ max-text) (long : length ks₀ ≡ length x) (p : Bool) (e : p ≡ parts x) (f : ks ≡ sets ks₀ 0 (marks x)) where
   by-parts : place x ≡ of-parts p x
   unfolding place of-length
@@ -178,12 +175,13 @@ module _ (x ks₀ ks : List ℕ) (short : length x ≤ max-text) (long : length 
       (g ∙ sym w, let b = marks-within 0 x in omega arith)
 
   -- a text that parts into tokens, its kinds, and then its roles, in lent memory
-  module _ (parted : not p ≡ false) (cs : List ℕ) (q : Bool) (d : q ≡ derived (kinds-in ks)) (k : cs ≡ placed ks (role-codes (shape first-defs-code []) (kinds-in ks))) where
+  module _ (parted : not p ≡ false) (cs : List ℕ) (q : Bool) (d : q ≡ derived (kinds-in ks))
+      (k : cs ≡ placed ks (role-codes (shape first-defs-code []) (kinds-in ks))) where
     marks-all : length (marks x) ≡ length x
     marks-all = marks-long x (sym (not-false p parted) ∙ e)
 
     marks-are : ks ≡ marks x
-    marks-are = f ∙ set-whole ks₀ (marks x) (marks-all ∙ sym long)
+    marks-are = f ∙ sets-whole ks₀ (marks x) (marks-all ∙ sym long)
 
     by-derived : place x ≡ of-derived q x
     unfolding of-parts

@@ -1,4 +1,5 @@
--- The codes of what a derivation in progress is at, by name (02 §1, §2): one for each state, in the order of `syntax/specs/Places.antt`, and from `in-fix-code` on
+-- The codes of what a derivation in progress is at, by name (02 §1, §2): one for each state, in the order of `syntax/specs/Places.antt`, and from
+-- `in-fix-code` on
 -- one for each place that is open. `Shape.antt` gives each state and each place its own.
 use Prim.Native.Nat.{ℕ, _+_}
 

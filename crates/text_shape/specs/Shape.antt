@@ -219,7 +219,8 @@ acts t =
     ∷ on-name (λ x. Go at-step-open-code) (on-sign rbrace (Go more-defs-code) Stop t) t
     ∷ on-sign lbrace (Open at-stats-code in-step-code) Stop t
     ∷ on-word w-if (Open want-code in-if-code) (on-type-word (λ a. Go at-local-code) (on-name (λ x. Go behind-name-code) (on-sign rbrace Below Stop t) t) t) t
-    ∷ on-name (λ y. Go at-assign-code) (on-sign assign (Open want-code in-value-code) (on-sign dot-sign (Go at-dot-name-code) (on-sign lpar (Open at-construct-code in-construct-code) Stop t) t) t) t
+    ∷ on-name (λ y. Go at-assign-code) (on-sign assign (Open want-code in-value-code)
+    (on-sign dot-sign (Go at-dot-name-code) (on-sign lpar (Open at-construct-code in-construct-code) Stop t) t) t) t
     ∷ on-name (λ y. Go behind-dot-name-code) Stop t
     ∷ on-sign dot-sign (Go at-dot-name-code) (on-sign assign (Open want-code in-value-code) Stop t) t
     ∷ on-name (λ x. Go at-assign-code) Stop t

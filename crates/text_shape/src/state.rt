@@ -1,7 +1,8 @@
 // The codes of states that the code names (`specs/CodeNames.antt`), and how many codes there are.
 ghost use mathlib.Core.Path.{_≡_};
 ghost use mathlib.Core.List.{[], _∷_};
-ghost use Rattle.text_shape.specs.CodeNames.{dead-code, first-defs-code, behind-name-code, behind-id-code, behind-execution-code, behind-item-code, codes};
+ghost use Rattle.text_shape.specs.CodeNames.{dead-code, first-defs-code, behind-name-code, behind-id-code, behind-execution-code};
+ghost use Rattle.text_shape.specs.CodeNames.{behind-item-code, codes};
 
 // No derivation goes on; before the first struct.
 pub const DEAD: u8 = 0;

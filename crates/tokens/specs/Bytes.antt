@@ -1,4 +1,5 @@
--- The bytes of program text by name (02 §1; ASCII): what parts tokens, the bounds of digits and letters, and every sign. Words are spelled out in `Tokens.antt`.
+-- The bytes of program text by name (02 §1; ASCII): what parts tokens, the bounds of digits and letters, and every sign. Words are spelled out in
+-- `Tokens.antt`.
 use Prim.Native.Nat.{ℕ}
 
 -- what parts tokens: a tab, the two bytes of line ends, a blank

@@ -9,3 +9,4 @@ pub mod Values
 pub mod ValueLaws
 pub mod Constants
 pub mod SetsLaws
+pub mod ListLaws

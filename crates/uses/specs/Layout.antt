@@ -1,4 +1,5 @@
--- The tables that the pass over uses is lent (02 §1), by name. Declarations stand in one table: places of structs, offsets of their rows of parameters, places of
+-- The tables that the pass over uses is lent (02 §1), by name. Declarations stand in one table: places of structs, offsets of their rows of parameters,
+-- places of
 -- parameters, bytes of their types, places of step names, the counts of structs and of names. A step's locals stand in another: those declared, those alive,
 -- their numbers, the bytes of their types, each part filled from its end.
 use Prim.Native.Nat.{ℕ, _+_, _*_}
@@ -59,5 +60,6 @@ bytes-end = numbers-end + max-locals
 
 abbrev pub layout : List ℕ
 layout =
-    offsets-room ∷ rows-room ∷ offsets-place ∷ pars-place ∷ types-place ∷ names-place ∷ struct-count-place ∷ name-count-place ∷ table-size ∷ all-many ∷ declared-end
+    offsets-room ∷ rows-room ∷ offsets-place ∷ pars-place ∷ types-place ∷ names-place ∷ struct-count-place ∷ name-count-place ∷ table-size ∷ all-many
+    ∷ declared-end
     ∷ living-end ∷ numbers-end ∷ bytes-end ∷ []

@@ -171,7 +171,8 @@ pub(crate) fn used_name(
     role: u8,
     c: Scope,
 ) -> Passed
-    requires { ⌜ Booked (now tables) × Roomy (now tables) (now locals) c × (c .dues + c .bodies < length (now stack)) × (first-use-role ≤ role) × (role < first-type-role) ⌝ }
+    requires { ⌜ Booked (now tables) × Roomy (now tables) (now locals) c × (c .dues + c .bodies < length (now stack)) × (first-use-role ≤ role)
+        × (role < first-type-role) ⌝ }
     ensures { λ r. ⌜ ((o : List ℕ) → passed-in (now (text .entry)) (now (locals .entry)) (now (stack .exit)) r o
         ≡ use-name (book-in (now (text .entry)) (now (tables .entry))) (naming-at role) (name-at (now (text .entry)) at)
         (use-in (now (text .entry)) (now (locals .entry)) (now (stack .entry)) c o)) ⌝ }

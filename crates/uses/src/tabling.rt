@@ -112,7 +112,8 @@ fn well(text: &[u8], roles: &[u8], declared: &[usize], table: &[usize]) -> bool
 // The bytes of the types of parameters into a table, and whether each is one.
 fn par_types(text: &[u8], roles: &[u8], declared: &[usize], table: &mut [usize]) -> bool
     requires { ⌜ now declared ≡ declared-at (now roles) ⌝ }
-    requires { ⌜ (length (places new-struct-role new-struct-role (now roles)) ≤ max-structs) × (length (places first-type-role last-par-type-role (now roles)) ≤ rows-room) ⌝ }
+    requires { ⌜ (length (places new-struct-role new-struct-role (now roles)) ≤ max-structs)
+        × (length (places first-type-role last-par-type-role (now roles)) ≤ rows-room) ⌝ }
     ensures { λ r. ⌜ r ≡ known (length (places new-struct-role new-struct-role (now (roles .entry)))) (type-bytes (now (text .entry)) (now (roles .entry))) ⌝ }
     ensures { λ r. ⌜ (r ≡ true → now (table .exit) ≡ sets (now (table .entry)) 0 (type-bytes (now (text .entry)) (now (roles .entry)))) ⌝ }
 {

@@ -5,20 +5,21 @@ use native.Mathlib.Omega.{arith}
 use native.Mathlib.Nat.{zero-add, suc-add}
 use native.Mathlib.Numerals.{add-one}
 use mathlib.Core.Path.{_≡_, refl, sym, ap, _∙_}
-use mathlib.Core.Bool.{Bool, true, false, _&&_}
+use mathlib.Core.Bool.{true}
 use mathlib.Core.List.{List, [], _∷_, _++_, map}
 use mathlib.Core.Option.{some}
 use lib.ListN.{length, getD, take, drop, length-append, length-map}
 use lib.Seq.{slice, take-nil, drop-drop, take-at, drop-at}
 use lib.Dec.{leb, ltb}
 use borrow.Author.Tests.{ltb-true}
+use Rattle.types.specs.ListLaws.{cons-eq, map-twice}
 use Rattle.types.specs.Limits.{max-structs, max-params}
 use Rattle.types.specs.Types.{Ty, code, struct-code}
 use Rattle.program.specs.Counts.{All}
 use Rattle.program.specs.Encoding.{flat, enc-list}
 use Rattle.tokens.specs.Laws.ByteLaws.{both-true}
-use Rattle.syntax.specs.Syntax.{Id, TypeName, Par, Struct, Defs, Sched, Program.program}
-use Rattle.meaning.specs.Scope.{par-id, par-type, struct-id, pars-of, structs-of}
+use Rattle.syntax.specs.Syntax.{Par, Struct, Defs, Sched, Program.program}
+use Rattle.meaning.specs.Scope.{par-type, struct-id, pars-of, structs-of}
 use Rattle.meaning.specs.Finding.{distinct}
 use Rattle.meaning.specs.HoldsDecide.{all}
 use Rattle.text_shape.specs.Roles.{roles}
@@ -138,9 +139,6 @@ unfolding parts sums
 parts-front l n m [] = refl
 parts-front l n m (a ∷ k) = refl
 
-both : {A : Type 0} {a b : A} {k l : List A} → a ≡ b → k ≡ l → a ∷ k ≡ b ∷ l
-both e f = cc
-
 -- what is said of each parameter, by the rows of structs
 module _ (h : Par → ℕ) (l : List ℕ) where
   parts-of : (ds : List Struct) (n : ℕ) → drop n l ≡ map h (all-pars ds) → parts (sums n (counts ds)) l ≡ map (λ d. map h (pars-of d)) ds
@@ -153,7 +151,7 @@ module _ (h : Par → ℕ) (l : List ℕ) where
       let b : drop (n + count d) l ≡ map h (all-pars ds) =
       sym (drop-drop (count d) n l) ∙ ap (drop (count d)) f
       ∙ drop-at (map h (pars-of d)) (map h (all-pars ds)) (count d) (length-map (pars-of d) h) in
-      parts-front l n (n + count d) (counts ds) ∙ both a (parts-of ds (n + count d) b)
+      parts-front l n (n + count d) (counts ds) ∙ cons-eq a (parts-of ds (n + count d) b)
 
 flat-map : {A B : Type 0} (E : B → List ℕ) (h : A → B) (F : A → List ℕ) → ((a : A) → E (h a) ≡ F a) → (l : List A) → flat E (map h l) ≡ flat F l
 unfolding flat
@@ -165,7 +163,7 @@ flat-map E h F e (a ∷ l) = joined (e a) (flat-map E h F e l)
 
 list-map : {A B : Type 0} (E : B → List ℕ) (h : A → B) (F : A → List ℕ) → ((a : A) → E (h a) ≡ F a) → (l : List A)
     → enc-list E (map h l) ≡ enc-list F l
-list-map E h F e l = both (length-map l h) (flat-map E h F e l)
+list-map E h F e l = cons-eq (length-map l h) (flat-map E h F e l)
 
 -- rows of types by their bytes
 rows-coded : (us : List (List Ty)) → enc-list row-of (map (λ u. map code u) us) ≡ enc-list (enc-list (λ t. code t ∷ [])) us
@@ -173,10 +171,6 @@ rows-coded us =
     list-map row-of (λ u. map code u) (enc-list (λ t. code t ∷ [])) (λ u. list-map (λ t. t ∷ []) code (λ t. code t ∷ []) (λ t. refl) u) us
 
 -- Of a text ------------------------------------------------------------------------------------------------------
-
-map-twice : {A B C : Type 0} (f : B → C) (g : A → B) (l : List A) → map f (map g l) ≡ map (λ a. f (g a)) l
-map-twice f g [] = refl
-map-twice f g (a ∷ l) = ap (λ m. f (g a) ∷ m) (map-twice f g l)
 
 module _ (x cs : List ℕ) (d : Defs) (s : Sched) (st : Stood x cs (roles (program d s))) where
   abbrev ds : List Struct

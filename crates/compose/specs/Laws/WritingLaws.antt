@@ -25,7 +25,8 @@ use Rattle.meaning.specs.Means.{StepMeans, StepMeans.step-means, StepsMean, Ste
 use Rattle.meaning.specs.Means.{ItemMeans.fix-means, SchedMeans, SchedMeans.last-means, SchedMeans.barrier-means, Means, Means.means}
 use Rattle.text_shape.specs.Roles.{Naming.first-written, Part.then-open, Part.then-close, Part.body-close, Part.pars-close, Part.steps-open, Part.steps-close}
 use Rattle.text_shape.specs.Roles.{Part.fix-close, Part.barrier-sign, Role, Role.plain, Role.part, roles-exp, roles-stat}
-use Rattle.text_shape.specs.Roles.{roles-stats, roles-par, roles-par-list, roles-pars, roles-step, roles-steps, roles-struct, roles-defs, roles-item, roles-sched}
+use Rattle.text_shape.specs.Roles.{roles-stats, roles-par, roles-par-list, roles-pars, roles-step, roles-steps, roles-struct, roles-defs, roles-item}
+use Rattle.text_shape.specs.Roles.{roles-sched}
 use Rattle.text_shape.specs.Roles.{roles}
 use Rattle.resolve.specs.Numbers.{expr-numbers, exprs-numbers, stmt-numbers, stmts-numbers, step-numbers, steps-numbers, item-numbers, items-numbers}
 use Rattle.resolve.specs.Outcomes.{onto}
@@ -38,6 +39,7 @@ use Rattle.text_shape.specs.RoleNames.{new-step-role, new-local-role, made-stat
 use Rattle.text_shape.specs.RoleNames.{local-int-role, local-nat-role, local-bool-role, local-struct-role, fix-open-role, fix-close-role}
 use Rattle.text_shape.specs.RoleNames.{steps-close-role, body-open-role, body-close-role, then-open-role, then-close-role, barrier-role}
 use Rattle.tokens.specs.KindNames.{if-kind, then-kind, fix-kind, semicolon-kind, dot-kind}
+use Rattle.program.specs.Forms.{when-form, update-form}
 
 -- Statements --------------------------------------------------------------------------------------
 
@@ -60,7 +62,7 @@ if-left {e} {d} {b} {t} p q =
           let i : Leaves (plain (word w-then) ∷ part then-open ∷ roles-stats b (part then-close ∷ k)) z
           (writing (size t ∷ (enc-stmts t ++ s)) (0 ∷ c ∷ w) (onto (expr-numbers d) n) 0 (checks-stmts t f)) =
           leaves (ap (λ x. put then-kind 0 (put then-open-role 0 x)) (left (q .all g))) in
-          as-one (1 ∷ enc-expr d) (size t ∷ enc-stmts t) s (leaves (ap (spelt if-kind 0) (ended p i)));
+          as-one (when-form ∷ enc-expr d) (size t ∷ enc-stmts t) s (leaves (ap (spelt if-kind 0) (ended p i)));
     }
 
 -- the value of an assignment or an update, behind its sign
@@ -84,7 +86,7 @@ update-left : {ds : List Struct} {own : List Par} {alive : List Local} {v : Var}
 unfolding roles-stat stmt-numbers enc-stmt enc-path checks-stmt written
 update-left {u = u} {vs = vs} q {e} {d} p =
     record {
-      there = λ {s = s} {n = n} h. as-one (3 ∷ enc-path u vs) (enc-expr d) s
+      there = λ {s = s} {n = n} h. as-one (update-form ∷ enc-path u vs) (enc-expr d) s
           (leaves (path-left q first-written n (value-left p (first-then (var-code u ∷ vs) (expr-numbers d) n h))));
     }
 
@@ -93,7 +95,8 @@ unfolding roles-stat stmt-numbers onto enc-stmt checks-stmt written
 construct-left x j {es} {cs} q =
     record {
       there = λ {k} {z} {s} {w} {n} {c} {f} h.
-          let g : Leaves (plain (sign semicolon) ∷ k) z (writing s (0 ∷ c ∷ w) (onto (exprs-numbers cs) (j ∷ n)) 0 f) = leaves (ap (put semicolon-kind 0) (left h)) in
+          let g : Leaves (plain (sign semicolon) ∷ k) z (writing s (0 ∷ c ∷ w) (onto (exprs-numbers cs) (j ∷ n)) 0 f) =
+          leaves (ap (put semicolon-kind 0) (left h)) in
           leaves (ap (put made-statement-role 0) (left (q .all (close-left es g))));
     }
 

@@ -8,11 +8,11 @@ use mathlib.Core.List.{List, [], _∷_}
 use lib.ListN.{length, getD, set, drop, length-set, length-drop, drop-of-length-le}
 use lib.Seq.{sets}
 use borrow.Author.Tests.{le-leb, lt-leb, lt-ltb, le-ltb}
+use Rattle.types.specs.ListLaws.{drop-next}
 use Rattle.types.specs.Limits.{max-params}
 use Rattle.types.specs.Types.{struct-code}
 use Rattle.tokens.specs.Tokens.{same}
 use Rattle.syntax.specs.Syntax.{Id, TypeName.id-type}
-use Rattle.lexer.specs.RunLaws.{next-byte}
 use Rattle.meaning.specs.Finding.{distinct}
 use Rattle.meaning.specs.HoldsDecide.{all}
 use Rattle.resolve.specs.Named.{name-of, name-at, names-at, sought}
@@ -56,8 +56,8 @@ module _ (t : ℕ → ℕ → Bool) (l : List ℕ) where
       here : drop (i - 1) l ≡ getD l (i - 1) 0 ∷ getD l i 0 ∷ drop (i + 1) l
       here =
           let f : (i - 1) + 1 ≡ i = let h = r .begun in omega (arith, h) in
-          next-byte l (i - 1) (omega arith) ∙ ap (λ k. getD l (i - 1) 0 ∷ drop k l) f
-          ∙ ap (λ m. getD l (i - 1) 0 ∷ m) (next-byte l i inside)
+          drop-next l (i - 1) (omega arith) ∙ ap (λ k. getD l (i - 1) 0 ∷ drop k l) f
+          ∙ ap (λ m. getD l (i - 1) 0 ∷ m) (drop-next l i inside)
 
       pub paired-not : false ≡ t (getD l (i - 1) 0) (getD l i 0) → false ≡ between-all t l
       unfolding between-all
@@ -68,7 +68,7 @@ module _ (t : ℕ → ℕ → Bool) (l : List ℕ) where
       paired-on e =
           let f : between-all t (drop (i - 1) l) ≡ between-all t (getD l i 0 ∷ drop (i + 1) l) = rw (here, between-all, ← e) refl in
           let k : (i + 1) - 1 ≡ i = omega arith in
-          let g : drop ((i + 1) - 1) l ≡ getD l i 0 ∷ drop (i + 1) l = ap (λ k. drop k l) k ∙ next-byte l i inside in
+          let g : drop ((i + 1) - 1) l ≡ getD l i 0 ∷ drop (i + 1) l = ap (λ k. drop k l) k ∙ drop-next l i inside in
           record { begun = omega arith; rest = ap (between-all t) g ∙ sym f ∙ r .rest }
 
     pub paired-end : length l ≤ i → true ≡ between-all t l
@@ -133,7 +133,7 @@ module _ (text roles : List ℕ) (names : List Id) (structs : ℕ) (places table
         (e : b ≡ byte-of names (type-here (getD roles (getD places i 0) 0 - first-type-role) (drop (getD places i 0) text))) where
       here-typed : types-at text roles names (drop i places) ≡ b ∷ types-at text roles names (drop (i + 1) places)
       unfolding types-at
-      here-typed = rw (next-byte places i inside) (ap (λ c. c ∷ types-at text roles names (drop (i + 1) places)) (sym e))
+      here-typed = rw (drop-next places i inside) (ap (λ c. c ∷ types-at text roles names (drop (i + 1) places)) (sym e))
 
       pub typing-not : struct-code + structs ≤ b → false ≡ known structs (types-at text roles names places)
       unfolding known all

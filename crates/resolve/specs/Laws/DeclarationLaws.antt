@@ -10,6 +10,7 @@ use lib.ListN.{length, take, drop, length-drop, length-append}
 use lib.Seq.{drop-drop}
 use lib.Dec.{leb, ltb}
 use borrow.Author.Tests.{lt-ltb, le-ltb, le-leb, ltb-true, ltb-false}
+use Rattle.types.specs.ListLaws.{cons-eq}
 use Rattle.types.specs.Limits.{max-params, max-steps}
 use Rattle.types.specs.Types.{struct-code, code}
 use Rattle.syntax.specs.Syntax.{Id, TypeName, TypeName.int-type, TypeName.nat-type, TypeName.bool-type, TypeName.id-type, Par, Struct}
@@ -108,10 +109,6 @@ module _ (ds : List Struct) where
 
 -- Rows -----------------------------------------------------------------------------------------------
 
--- the names of a row are those of its parameters, and behind it are the others
-both : {A : Type 0} {a b : A} {k l : List A} → a ≡ b → k ≡ l → a ∷ k ≡ b ∷ l
-both e f = cc
-
 module _ (x : List ℕ) where
   front-names : (table : List ℕ) (ps : List Par) (rest : List Id) → names-at x table ≡ map par-id ps ++ rest
       → names-at x (take (length ps) table) ≡ map par-id ps
@@ -120,7 +117,7 @@ module _ (x : List ℕ) where
   front-names (i ∷ table) (p ∷ ps) rest e =
       let f : name-at x i ≡ par-id p = cc in
       let g : names-at x table ≡ map par-id ps ++ rest = cc in
-      both f (front-names table ps rest g)
+      cons-eq f (front-names table ps rest g)
 
   behind-names : (table : List ℕ) (ps : List Par) (rest : List Id) → names-at x table ≡ map par-id ps ++ rest → names-at x (drop (length ps) table) ≡ rest
   behind-names table [] rest e = e
@@ -147,7 +144,7 @@ map-both d ds = go (pars-of d)
   where
     go : (l : List Par) → map par-id (l ++ all-pars ds) ≡ map par-id l ++ map par-id (all-pars ds)
     go [] = refl
-    go (p ∷ l) = both refl (go l)
+    go (p ∷ l) = cons-eq refl (go l)
 
 module _ (x pars : List ℕ) where
   row-exact : (d : Struct) (n : ℕ) (rest : List Id) → n ≤ length pars → names-at x (drop n pars) ≡ map par-id (pars-of d) ++ rest
@@ -234,7 +231,7 @@ module _ (x : List ℕ) where
 
   names-append : (l m : List ℕ) → names-at x (l ++ m) ≡ names-at x l ++ names-at x m
   names-append [] m = refl
-  names-append (p ∷ l) m = both refl (names-append l m)
+  names-append (p ∷ l) m = cons-eq refl (names-append l m)
 
   -- places and names, the last one first, say the same of what was met
   abbrev Same : List ℕ → List Id → Type 0
@@ -264,7 +261,7 @@ module _ (x : List ℕ) where
           → ((m : List ℕ) (k : List Id) → Same m k → names-at x (firsts x m places) ≡ once k (names-at x places))
           → names-at x (firsts x met (p ∷ places)) ≡ once l (name-at x p ∷ names-at x places)
       go true e rec = rw (firsts, e, once, h (name-at x p) ∙ e) (rec met l h)
-      go false e rec = rw (firsts, e, once, h (name-at x p) ∙ e) (both refl (rec (met ++ (p ∷ [])) (name-at x p ∷ l) (same-on met l p h)))
+      go false e rec = rw (firsts, e, once, h (name-at x p) ∙ e) (cons-eq refl (rec (met ++ (p ∷ [])) (name-at x p ∷ l) (same-on met l p h)))
 
   -- the names of steps, each once
   pub firsts-once : (places : List ℕ) → names-at x (firsts x [] places) ≡ once [] (names-at x places)

@@ -2,20 +2,20 @@
 use Prim.Native.Nat.{ℕ, zero, suc, _+_, _*_, _-_, _≤_, _<_}
 use native.Mathlib.Omega.{arith}
 use mathlib.Core.Path.{_≡_, refl, sym, ap, _∙_}
-use mathlib.Core.Bool.{Bool, true, false, _&&_}
+use mathlib.Core.Bool.{Bool, true, false}
 use mathlib.Core.List.{List, [], _∷_}
-use mathlib.Core.Option.{Option, none, some}
-use lib.ListN.{length, getD, take, drop, drop-of-length-le}
+use mathlib.Core.Option.{some}
+use lib.ListN.{length, getD, drop, drop-of-length-le}
 use lib.Dec.{eqb, ltb, leb}
-use lib.IntN.{ℤ, pos, negsuc}
 use borrow.Author.Tests.{lt-ltb, le-ltb, ltb-true, ltb-false, leb-true}
+use Rattle.types.specs.ListLaws.{drop-next}
 use Rattle.types.specs.Limits.{nat-end, int-half}
 use Rattle.types.specs.Values.{in-int, int-word}
 use Rattle.program.specs.Tree.{Expr.int-lit}
 use Rattle.tokens.specs.Tokens.{digit, between, Polarity.plus, Polarity.minus}
 use Rattle.tokens.specs.Scanning.{span, polarity}
-use Rattle.lexer.specs.RunLaws.{next-byte, inside}
-use Rattle.syntax.specs.Syntax.{Literal.int-literal, Literal.nat-literal}
+use Rattle.lexer.specs.RunLaws.{inside}
+use Rattle.syntax.specs.Syntax.{Literal.int-literal}
 use Rattle.meaning.specs.Values.{decimal-from, decimal, signed}
 use Rattle.meaning.specs.Meant.{provided, literal-meaning}
 use Rattle.resolve.specs.Digits.{digits-of, digits-at, capped, word-of, nat-at, int-at, signed-word}
@@ -72,7 +72,7 @@ digit-inside s i e = inside s i (go (getD s i 0) e)
 digits-on : (s : List ℕ) (i : ℕ) → digit (getD s i 0) ≡ true → digits-at s i ≡ getD s i 0 ∷ digits-at s (i + 1)
 unfolding digits-of span
 digits-on s i e =
-    let g : drop i s ≡ getD s i 0 ∷ drop (i + 1) s = next-byte s i (digit-inside s i e) in
+    let g : drop i s ≡ getD s i 0 ∷ drop (i + 1) s = drop-next s i (digit-inside s i e) in
     rw (g, digits-of, span, e) refl
 
 digits-end : (s : List ℕ) (i : ℕ) → digit (getD s i 0) ≡ false → digits-at s i ≡ []
@@ -81,7 +81,7 @@ digits-end s i e = go (ltb i (length s)) refl
   where
     go : (t : Bool) → ltb i (length s) ≡ t → digits-at s i ≡ []
     go true f =
-        let g : drop i s ≡ getD s i 0 ∷ drop (i + 1) s = next-byte s i (ltb-true i (length s) f) in
+        let g : drop i s ≡ getD s i 0 ∷ drop (i + 1) s = drop-next s i (ltb-true i (length s) f) in
         rw (g, digits-of, span, e) refl
     go false f = rw (drop-of-length-le s {i = i} (ltb-false i (length s) f)) refl
 

@@ -9,7 +9,7 @@ use lib.ListN.{length, getD, set, take, drop, length-set, length-take, drop-of-l
 use lib.Seq.{sets, set-out, take-suc-set}
 use lib.Dec.{leb, ltb}
 use borrow.Author.Tests.{not-true, not-false, ltb-true, ltb-false, le-leb, lt-leb}
-use Rattle.lexer.specs.RunLaws.{next-byte}
+use Rattle.types.specs.ListLaws.{drop-next}
 use Rattle.resolve.specs.Named.{name-at, names-at, sought}
 use Rattle.resolve.specs.Tables.{with-one, with-place}
 use Rattle.resolve.specs.Checks.{firsts}
@@ -56,7 +56,7 @@ module _ (text places table₀ : List ℕ) where
       old-here f =
           let g : ltb (sought (name-at text (getD places i 0)) (names-at text (take n table))) (length (take n table)) ≡ true =
           ap (ltb (sought (name-at text (getD places i 0)) (names-at text (take n table)))) long ∙ not-false _ (sym e ∙ f) in
-          rw (next-byte places i inside, firsts, g) refl
+          rw (drop-next places i inside, firsts, g) refl
 
       new-here : b ≡ true
           → firsts text (take n table) (drop i places) ≡ getD places i 0 ∷ firsts text (take n table ++ (getD places i 0 ∷ [])) (drop (i + 1) places)
@@ -64,7 +64,7 @@ module _ (text places table₀ : List ℕ) where
       new-here f =
           let g : ltb (sought (name-at text (getD places i 0)) (names-at text (take n table))) (length (take n table)) ≡ false =
           ap (ltb (sought (name-at text (getD places i 0)) (names-at text (take n table)))) long ∙ not-true _ (sym e ∙ f) in
-          rw (next-byte places i inside, firsts, g) refl
+          rw (drop-next places i inside, firsts, g) refl
 
       pub firsting-old : b ≡ false → Firsting text places table₀ table n (i + 1)
       firsting-old f =

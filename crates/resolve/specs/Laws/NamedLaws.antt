@@ -2,15 +2,16 @@
 use Prim.Native.Nat.{ℕ, zero, suc, _+_, _≤_, _<_}
 use native.Mathlib.Omega.{arith}
 use mathlib.Core.Path.{_≡_, refl, sym, ap, _∙_}
-use mathlib.Core.Bool.{Bool, true, false, _&&_}
+use mathlib.Core.Bool.{Bool, true, false}
 use mathlib.Core.List.{List, [], _∷_, map}
 use mathlib.Core.Option.{Option, none, some}
-use lib.ListN.{length, getD, take, drop, drop-of-length-le}
+use lib.ListN.{length, getD, drop, drop-of-length-le}
 use lib.Dec.{eqb, ltb}
 use borrow.Author.Tests.{eq-eqb, ne-eqb, ltb-true, ltb-false}
+use Rattle.types.specs.ListLaws.{drop-next}
 use Rattle.tokens.specs.Tokens.{name-byte, letter, digit, between, same}
 use Rattle.tokens.specs.Scanning.{span}
-use Rattle.lexer.specs.RunLaws.{next-byte, inside}
+use Rattle.lexer.specs.RunLaws.{inside}
 use Rattle.syntax.specs.Syntax.{Id}
 use Rattle.meaning.specs.Finding.{Place, find, one-later}
 use Rattle.resolve.specs.Named.{name-of, name-at, names-at, name-letter, sought}
@@ -49,7 +50,7 @@ module _ (s : List ℕ) (i : ℕ) where
   name-goes-on {c} e n =
       let f = letter-of (getD s i 0) c e n in
       let l : i < length s = inside s i (let g = f .1 in omega (arith, n)) in
-      let g : drop i s ≡ getD s i 0 ∷ drop (i + 1) s = next-byte s i l in
+      let g : drop i s ≡ getD s i 0 ∷ drop (i + 1) s = drop-next s i l in
       rw (g, name-of, span, f .0, f .1) refl
 
   name-ends : name-letter (getD s i 0) ≡ 0 → name-at s i ≡ []
@@ -58,7 +59,7 @@ module _ (s : List ℕ) (i : ℕ) where
     where
       go : (t : Bool) → ltb i (length s) ≡ t → name-at s i ≡ []
       go true f =
-          let g : drop i s ≡ getD s i 0 ∷ drop (i + 1) s = next-byte s i (ltb-true i (length s) f) in
+          let g : drop i s ≡ getD s i 0 ∷ drop (i + 1) s = drop-next s i (ltb-true i (length s) f) in
           rw (g, name-of, span, no-letter (getD s i 0) e) refl
       go false f = rw (drop-of-length-le s {i = i} (ltb-false i (length s) f)) refl
 
@@ -132,13 +133,13 @@ module _ {s table : List ℕ} {x : Id} {i : ℕ} (r : Seeks s table x i) where
     pub seeks-here : same (name-at s (getD table i 0)) x ≡ true → i ≡ sought x (names-at s table)
     unfolding sought
     seeks-here e =
-        let f : sought x (names-at s (drop i table)) ≡ 0 = rw (next-byte table i l, sought, e) refl in
+        let f : sought x (names-at s (drop i table)) ≡ 0 = rw (drop-next table i l, sought, e) refl in
         omega (arith, f, r .same-place)
 
     pub seeks-on : same (name-at s (getD table i 0)) x ≡ false → Seeks s table x (i + 1)
     unfolding sought
     seeks-on e =
-        let f : sought x (names-at s (drop i table)) ≡ suc (sought x (names-at s (drop (i + 1) table))) = rw (next-byte table i l, sought, e) refl in
+        let f : sought x (names-at s (drop i table)) ≡ suc (sought x (names-at s (drop (i + 1) table))) = rw (drop-next table i l, sought, e) refl in
         record { inner = omega arith; same-place = omega (arith, f, r .same-place) }
 
   pub seeks-out : length table ≤ i → i ≡ sought x (names-at s table)

@@ -10,13 +10,14 @@ use mathlib.Core.List.{List, _∷_, map}
 use lib.ListN.{length, getD, drop, length-drop}
 use lib.Dec.{eqb, leb}
 use borrow.Author.Tests.{ne-eqb, eqb-true, eqb-false, le-leb, lt-leb, leb-true}
+use Rattle.types.specs.ListLaws.{drop-next}
 use Rattle.tokens.specs.Tokens.{between}
 use Rattle.syntax.specs.Syntax.{Id, TypeName, TypeName.int-type, TypeName.nat-type, TypeName.bool-type, TypeName.id-type}
 use Rattle.syntax.specs.Yield.{type-token}
 use Rattle.tokens.specs.Laws.KindLaws.{kind-within}
-use Rattle.lexer.specs.RunLaws.{next-byte}
 use Rattle.text_shape.specs.Roles.{Naming, Naming.new-struct, Naming.new-par, Naming.new-step, Naming.new-local, Naming.first-read, Naming.first-written}
-use Rattle.text_shape.specs.Roles.{Naming.later-variable, Naming.made, Naming.made-statement, Naming.called, Naming.called-struct, Naming.called-step, Typed.of-par}
+use Rattle.text_shape.specs.Roles.{Naming.later-variable, Naming.made, Naming.made-statement, Naming.called, Naming.called-struct}
+use Rattle.text_shape.specs.Roles.{Naming.called-step, Typed.of-par}
 use Rattle.text_shape.specs.Roles.{Typed.of-local, Typed.of-null, Role, Role.plain, Role.naming, Role.typed, Role.part, naming-code, typed-code, type-number}
 use Rattle.text_shape.specs.Roles.{part-code, code, token-of}
 use Rattle.resolve.specs.Named.{name-of, names-at}
@@ -35,12 +36,12 @@ module _ (x : List ℕ) (i b : ℕ) (s : List ℕ) (e : drop i x ≡ b ∷ s) wh
 
   pub next-of : drop (suc i) x ≡ s
   next-of =
-      let f : getD x i 0 ∷ drop (i + 1) x ≡ b ∷ s = sym (next-byte x i inside) ∙ e in
+      let f : getD x i 0 ∷ drop (i + 1) x ≡ b ∷ s = sym (drop-next x i inside) ∙ e in
       let g : drop (i + 1) x ≡ s = cc in
       ap (λ k. drop k x) (sym (add-one i)) ∙ g
 
   pub first-of : getD x i 0 ≡ b
-  first-of = let f : getD x i 0 ∷ drop (i + 1) x ≡ b ∷ s = sym (next-byte x i inside) ∙ e in cc
+  first-of = let f : getD x i 0 ∷ drop (i + 1) x ≡ b ∷ s = sym (drop-next x i inside) ∙ e in cc
 
 -- one byte
 one-byte : (q b : ℕ) → between q q b ≡ eqb b q
@@ -142,7 +143,8 @@ module _ (x codes : List ℕ) (names : List Id) where
   abbrev bytes : List ℕ → List ℕ
   bytes l = types-at x codes names l
 
-  no-type : (i c : ℕ) (cs : List ℕ) → (c < first-type-role) ⊎ (last-par-type-role < c) → bytes (places-from first-type-role last-par-type-role i (c ∷ cs)) ≡ bytes (places-from first-type-role last-par-type-role (suc i) cs)
+  no-type : (i c : ℕ) (cs : List ℕ) → (c < first-type-role) ⊎ (last-par-type-role < c)
+      → bytes (places-from first-type-role last-par-type-role i (c ∷ cs)) ≡ bytes (places-from first-type-role last-par-type-role (suc i) cs)
   unfolding places-from between
   no-type i c cs (inl l) = rw (places-from, lt-leb first-type-role c l) refl
   no-type i c cs (inr l) = rw (places-from, le-leb first-type-role c (omega arith), lt-leb c last-par-type-role l) refl
@@ -156,7 +158,11 @@ module _ (x codes : List ℕ) (names : List Id) where
       let g : (getD codes i 0 - first-type-role) ≡ type-number t = let h = first-of codes i (first-type-role + type-number t) cs f in omega (arith, h) in
       let k : type-here (getD codes i 0 - first-type-role) (drop i x) ≡ t =
       ap (λ m. type-here m (drop i x)) g ∙ ap (type-here (type-number t)) e ∙ type-spelt t (b ∷ s) p in
-      rw (places-from, le-leb first-type-role (first-type-role + type-number t) (omega arith), le-leb (first-type-role + type-number t) last-par-type-role (omega (arith, n)))
+      rw (
+        places-from,
+        le-leb first-type-role (first-type-role + type-number t) (omega arith),
+        le-leb (first-type-role + type-number t) last-par-type-role (omega (arith, n)),
+      )
       (both _ _ _ _ (ap (byte-of names) k) rec)
     where
       both : (a c : ℕ) (k l : List ℕ) → a ≡ c → k ≡ l → a ∷ k ≡ c ∷ l

@@ -17,7 +17,8 @@ use Rattle.meaning.specs.Scope.{step-id}
 use Rattle.text_shape.specs.Roles.{Naming, Naming.new-step, Naming.new-local, Naming.first-read, Naming.first-written, Naming.later-variable, Naming.made}
 use Rattle.text_shape.specs.Roles.{Naming.made-statement, Naming.called, Naming.called-struct, Naming.called-step, Part.args-open, Part.args-close}
 use Rattle.text_shape.specs.Roles.{Part.no-args-close, Part.arg-comma, Part.par-comma, Part.body-open, Part.brackets-open, Part.brackets-close, Part.fix-open}
-use Rattle.text_shape.specs.Roles.{Part.then-open, Part.then-close, Part.body-close, Part.fix-close, Part.barrier-sign, Role, Role.plain, Role.naming, Role.typed}
+use Rattle.text_shape.specs.Roles.{Part.then-open, Part.then-close, Part.body-close, Part.fix-close, Part.barrier-sign, Role, Role.plain}
+use Rattle.text_shape.specs.Roles.{Role.naming, Role.typed}
 use Rattle.text_shape.specs.Roles.{Role.part, Typed.of-local, Typed.of-null}
 use Rattle.text_shape.specs.Roles.{roles-later, roles-var, close-of, roles-exp, roles-exps, roles-exp-list, roles-stat, roles-stats, roles-par, roles-par-list}
 use Rattle.text_shape.specs.Roles.{roles-pars, roles-step, roles-steps, roles-item, roles-sched}

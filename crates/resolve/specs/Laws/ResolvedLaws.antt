@@ -7,6 +7,7 @@ use mathlib.Core.List.{List, [], _∷_, _++_, map}
 use mathlib.Core.Option.{Option, none, some}
 use lib.ListN.{length, take, drop, length-map}
 use lib.Seq.{drop-drop, take-at, drop-at}
+use Rattle.types.specs.ListLaws.{cons-eq, map-twice}
 use Rattle.types.specs.Types.{Ty, code as type-code}
 use Rattle.program.specs.Tree.{Program}
 use Rattle.syntax.specs.Syntax.{Id, Par, Struct, Defs, Sched, Program.program}
@@ -37,7 +38,6 @@ use Rattle.resolve.specs.Laws.DeclarationLaws.{row-bytes, firsts-once}
 use Rattle.resolve.specs.WellDeclared.{well-declared}
 use Rattle.resolve.specs.Laws.WellDeclaredLaws.{Declared, struct-names, par-names, tables-tested, held-declared, declared-few, params-meant}
 use Rattle.resolve.specs.Using.{Book, book-of, use-start}
-use Rattle.resolve.specs.Laws.UsingLaws.{pair}
 use Rattle.resolve.specs.Laws.UsingTextLaws.{used-by-tables}
 use Rattle.resolve.specs.UsingAt.{uses-at}
 use Rattle.resolve.specs.Laws.UsingAtLaws.{uses-stand}
@@ -66,11 +66,7 @@ module _ {B : Type 0} (h : Par → B) (l : List B) where
       let b : drop (n + length (pars-of d)) l ≡ map h (all-pars ds) =
       sym (drop-drop (length (pars-of d)) n l) ∙ ap (drop (length (pars-of d))) f
       ∙ drop-at (map h (pars-of d)) (map h (all-pars ds)) (length (pars-of d)) (length-map (pars-of d) h) in
-      cuts-front l n (n + length (pars-of d)) (map (λ e. length (pars-of e)) ds) ∙ pair a (cuts-of ds (n + length (pars-of d)) b)
-
-map-twice : {A B C : Type 0} (f : B → C) (g : A → B) (l : List A) → map f (map g l) ≡ map (λ a. f (g a)) l
-map-twice f g [] = refl
-map-twice f g (a ∷ l) = ap (λ m. f (g a) ∷ m) (map-twice f g l)
+      cuts-front l n (n + length (pars-of d)) (map (λ e. length (pars-of e)) ds) ∙ cons-eq a (cuts-of ds (n + length (pars-of d)) b)
 
 same-book : {a b : List Id} {c d : List (List Id)} {e f : List (List ℕ)} {g h : List Id} → a ≡ b → c ≡ d → e ≡ f → g ≡ h
     → _≡_ {A = Book} (record { structs = a; rows = c; types = e; steps = g }) (record { structs = b; rows = d; types = f; steps = h })
@@ -89,7 +85,8 @@ module _ (x cs : List ℕ) (d : Defs) (s : Sched) (st : Stood x cs (roles (progr
       firsts-once x (places new-step-role new-step-role cs)
       ∙ ap (once []) (names-stand x new-step-role (omega arith) (omega arith) 0 refl st ∙ steps-declared d s)
 
-  types-told : types-at x cs (map struct-id ds) (places first-type-role last-par-type-role cs) ≡ map (λ q. byte-of (map struct-id ds) (par-type q)) (all-pars ds)
+  types-told : types-at x cs (map struct-id ds) (places first-type-role last-par-type-role cs)
+      ≡ map (λ q. byte-of (map struct-id ds) (par-type q)) (all-pars ds)
   types-told =
       types-stand x cs (map struct-id ds) 0 refl refl st ∙ ap (map (byte-of (map struct-id ds))) (types-declared d s)
       ∙ map-twice (byte-of (map struct-id ds)) par-type (all-pars ds)
@@ -99,7 +96,8 @@ module _ (x cs : List ℕ) (d : Defs) (s : Sched) (st : Stood x cs (roles (progr
       ap (cuts (names-at x (places new-par-role new-par-role cs))) par-rows
       ∙ cuts-of par-id (names-at x (places new-par-role new-par-role cs)) ds 0 (par-names x cs d s st)
 
-  type-rows-told : cuts (types-at x cs (names-at x (places new-struct-role new-struct-role cs)) (places first-type-role last-par-type-role cs)) (offsets new-par-role cs)
+  type-rows-told : cuts (types-at x cs (names-at x (places new-struct-role new-struct-role cs)) (places first-type-role last-par-type-role cs))
+      (offsets new-par-role cs)
       ≡ map (λ e. map (λ q. byte-of (map struct-id ds) (par-type q)) (pars-of e)) ds
   type-rows-told =
       ap (λ l. cuts (types-at x cs l (places first-type-role last-par-type-role cs)) (offsets new-par-role cs)) (struct-names x cs d s st)

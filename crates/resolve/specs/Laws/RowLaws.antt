@@ -127,10 +127,12 @@ module _ (q : ℕ) (low : new-struct-role < q) (high : q < new-local-role) where
       ∙ rows-quiet n (part pars-close) (part steps-open ∷ roles-steps (steps-of d) k) refl ∙ rows-quiet n (part steps-open) (roles-steps (steps-of d) k) refl
       ∙ steps-counted rows-in rows-quiet (λ m y i. counted-in m (naming new-step y) i (sym e)) (steps-of d) n k
 
-pub par-rows-declared : (d : Defs) (s : Sched) → offsets-from new-par-role 0 (map code (roles (program d s))) ≡ sums 0 (map (λ e. length (pars-of e)) (structs-of d))
+pub par-rows-declared : (d : Defs) (s : Sched) → offsets-from new-par-role 0 (map code (roles (program d s)))
+    ≡ sums 0 (map (λ e. length (pars-of e)) (structs-of d))
 par-rows-declared =
     rows-declared new-par-role (omega arith) (omega arith) (λ e. length (pars-of e)) (pars-inside new-par-role (omega arith) (omega arith) refl)
 
-pub step-rows-declared : (d : Defs) (s : Sched) → offsets-from new-step-role 0 (map code (roles (program d s))) ≡ sums 0 (map (λ e. length (steps-of e)) (structs-of d))
+pub step-rows-declared : (d : Defs) (s : Sched) → offsets-from new-step-role 0 (map code (roles (program d s)))
+    ≡ sums 0 (map (λ e. length (steps-of e)) (structs-of d))
 step-rows-declared =
     rows-declared new-step-role (omega arith) (omega arith) (λ e. length (steps-of e)) (steps-inside new-step-role (omega arith) (omega arith) refl)

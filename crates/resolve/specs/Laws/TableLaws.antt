@@ -8,8 +8,8 @@ use mathlib.Core.List.{List, [], _∷_}
 use lib.ListN.{length, getD, set, length-set, take, drop, length-drop, drop-of-length-le}
 use lib.Seq.{sets, take-all}
 use lib.Dec.{eqb}
+use Rattle.types.specs.ListLaws.{drop-next}
 use Rattle.tokens.specs.Tokens.{same}
-use Rattle.lexer.specs.RunLaws.{next-byte}
 use Rattle.syntax.specs.Syntax.{Id}
 use Rattle.meaning.specs.Finding.{absent, distinct}
 use Rattle.resolve.specs.Named.{name-at, names-at, sought}
@@ -99,7 +99,8 @@ lays-start s table q = record { inner = omega arith; few = omega arith; less = o
 
 module _ {s table₀ table : List ℕ} {q n k i : ℕ} (r : Lays s table₀ table q n k i) where
   module _ (l : i < length s) where
-    pub lays-on : {table' : List ℕ} {m j : ℕ} → j ≡ with-one (eqb (getD s i 0) new-struct-role) k → table' ≡ with-place (eqb (getD s i 0) new-struct-role) table k n
+    pub lays-on : {table' : List ℕ} {m j : ℕ} → j ≡ with-one (eqb (getD s i 0) new-struct-role) k
+        → table' ≡ with-place (eqb (getD s i 0) new-struct-role) table k n
         → m ≡ with-one (eqb (getD s i 0) q) n → Lays s table₀ table' q m j (i + 1)
     unfolding with-one with-place offsets-from
     lays-on {table'} {m} {j} a b d = go (eqb (getD s i 0) new-struct-role) refl
@@ -113,7 +114,7 @@ module _ {s table₀ table : List ℕ} {q n k i : ℕ} (r : Lays s table₀ tabl
 
         go : (t : Bool) → eqb (getD s i 0) new-struct-role ≡ t → Lays s table₀ table' q m j (i + 1)
         go true e =
-            let f : offsets-from q n (drop i s) ≡ n ∷ rest = rw (next-byte s i l, offsets-from, e) (ap (λ v. n ∷ offsets-from q v (drop (i + 1) s)) (sym d)) in
+            let f : offsets-from q n (drop i s) ≡ n ∷ rest = rw (drop-next s i l, offsets-from, e) (ap (λ v. n ∷ offsets-from q v (drop (i + 1) s)) (sym d)) in
             let g : j ≡ k + 1 = rw (e, with-one) at a in
             let h : table' ≡ set table k n = rw (e, with-place) at b in
             record {
@@ -125,7 +126,7 @@ module _ {s table₀ table : List ℕ} {q n k i : ℕ} (r : Lays s table₀ tabl
               stored = ap (λ v. sets table' v rest) (g ∙ add-one k) ∙ ap (λ v. sets v (suc k) rest) h ∙ ap (sets table k) (sym f) ∙ r .stored;
             }
         go false e =
-            let f : offsets-from q n (drop i s) ≡ rest = rw (next-byte s i l, offsets-from, e) (ap (λ v. offsets-from q v (drop (i + 1) s)) (sym d)) in
+            let f : offsets-from q n (drop i s) ≡ rest = rw (drop-next s i l, offsets-from, e) (ap (λ v. offsets-from q v (drop (i + 1) s)) (sym d)) in
             let g : j ≡ k = rw (e, with-one) at a in
             let h : table' ≡ table = rw (e, with-place) at b in
             record {
@@ -145,12 +146,6 @@ module _ {s table₀ table : List ℕ} {q n k i : ℕ} (r : Lays s table₀ tabl
 
   pub lays-kept : {table' : List ℕ} → table' ≡ set table k n → length table' ≡ length table₀
   lays-kept e = ap length e ∙ length-set table k n ∙ r .kept
-
-  pub lays-count : length s ≤ i → k + 1 ≡ length (offsets q s)
-  unfolding offsets-from
-  lays-count l =
-      let f : offsets-from q n (drop i s) ≡ n ∷ [] = rw (drop-of-length-le s {i = i} l) refl in
-      omega (arith, ap length f, r .count)
 
 -- Names that are all different -----------------------------------------------------------------
 
@@ -196,14 +191,14 @@ module _ {s table : List ℕ} {i : ℕ} (r : Differ s table i) (l : i < length t
     unfolding distinct
     differ-not h =
         let f : distinct (names-at s (drop i table)) ≡ false =
-        rw (next-byte table i l, distinct, present (name-at s (getD table i 0)) (names-at s (drop (i + 1) table)) (omega (arith, e, count-behind))) refl in
+        rw (drop-next table i l, distinct, present (name-at s (getD table i 0)) (names-at s (drop (i + 1) table)) (omega (arith, e, count-behind))) refl in
         sym f ∙ r .rest
 
     pub differ-on : length table - (i + 1) ≤ k → Differ s table (i + 1)
     unfolding distinct
     differ-on h =
         let f : distinct (names-at s (drop i table)) ≡ distinct (names-at s (drop (i + 1) table)) =
-        rw (next-byte table i l, distinct, missing (name-at s (getD table i 0)) (names-at s (drop (i + 1) table)) (omega (arith, e, count-behind))) refl in
+        rw (drop-next table i l, distinct, missing (name-at s (getD table i 0)) (names-at s (drop (i + 1) table)) (omega (arith, e, count-behind))) refl in
         record { inner = omega arith; rest = sym f ∙ r .rest }
 
 module _ {s table : List ℕ} {i : ℕ} (r : Differ s table i) where

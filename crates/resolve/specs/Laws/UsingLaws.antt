@@ -6,6 +6,7 @@ use mathlib.Core.Bool.{Bool, true, false}
 use mathlib.Core.List.{List, [], _∷_, _++_, map}
 use mathlib.Core.Option.{Option, none, some}
 use lib.ListN.{length, drop, length-map}
+use Rattle.types.specs.ListLaws.{cons-eq}
 use Rattle.types.specs.Limits.{first-local}
 use Rattle.syntax.specs.Syntax.{Id, TypeName, Par, Struct}
 use Rattle.meaning.specs.Scope.{par-id, par-type, struct-id, Local, Local.declared, local-id, local-number, local-type}
@@ -80,9 +81,6 @@ pub data Both (ds : List Struct) (names : List Id) : Option Pass → Option Use 
   neither : Both ds names none none
   both : {p : Pass} {u : Use} → Agrees ds names p u → Both ds names (some p) (some u)
 
-pub pair : {A : Type 0} {a b : A} {k l : List A} → a ≡ b → k ≡ l → a ∷ k ≡ b ∷ l
-pair e f = cc
-
 module _ (ds : List Struct) (names : List Id) where
   abbrev byte : TypeName → ℕ
   byte t = byte-of (map struct-id ds) t
@@ -129,7 +127,7 @@ module _ (ds : List Struct) (names : List Id) where
     -- a number is left
     pub agree-leave : (t : TypeName) (n c m : ℕ) → byte t ≡ c → n ≡ m → Agrees ds names (leaves p t n) (leave u c m)
     unfolding leaves leave
-    agree-leave t n c m e f = agree-moves (p .left) (p .own) t (u .begun) (s .left) (s .own) (s .types) e (s .dues) (pair f (s .out))
+    agree-leave t n c m e f = agree-moves (p .left) (p .own) t (u .begun) (s .left) (s .own) (s .types) e (s .dues) (cons-eq f (s .out))
 
     -- argument lists change
     pub agree-due : (k l : List ℕ) → k ≡ l → Agrees ds names (opens p k) (due u l)
@@ -194,4 +192,4 @@ module _ (ds : List Struct) (names : List Id) where
     agree-new x =
         agree-lives (agree-leave s (p .type) _ (u .type) _ (s .type) (ap (λ m. first-local + length m) (s .met)))
         (declared x (length (p .met)) (p .type) ∷ []) (ap (λ m. x ∷ m) (s .met)) (ap (λ m. x ∷ m) (names-alive s))
-        (pair (ap length (s .met)) (numbers-alive s)) (pair (s .type) (bytes-alive s)) refl (s .bodies)
+        (cons-eq (ap length (s .met)) (numbers-alive s)) (cons-eq (s .type) (bytes-alive s)) refl (s .bodies)

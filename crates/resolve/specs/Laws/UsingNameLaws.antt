@@ -10,6 +10,7 @@ use lib.ListN.{length, getD, drop, length-map, length-drop}
 use lib.Seq.{drop-drop}
 use lib.Dec.{leb, ltb}
 use borrow.Author.Tests.{lt-ltb, le-ltb}
+use Rattle.types.specs.ListLaws.{cons-eq}
 use Rattle.types.specs.Limits.{first-local, max-locals}
 use Rattle.types.specs.Types.{Ty, struct-code, code}
 use Rattle.program.specs.Tree.{Var.loc}
@@ -29,7 +30,7 @@ use Rattle.resolve.specs.Laws.SoughtLaws.{missing, present, at-place, ab
 use Rattle.resolve.specs.Passing.{Pass, leaves, begins, makes, starts, numbered, declares, pass-name, pass-type}
 use Rattle.resolve.specs.Using.{Book, book-of, Use, leave, begin, own-row, chosen, use-listed, use-par, use-local, use-made, use-first, use-behind}
 use Rattle.resolve.specs.Using.{use-new, use-name, use-type}
-use Rattle.resolve.specs.Laws.UsingLaws.{Agrees, Both, Both.neither, Both.both, pair, both-if, names-alive, numbers-alive, bytes-alive, agree-moves}
+use Rattle.resolve.specs.Laws.UsingLaws.{Agrees, Both, Both.neither, Both.both, both-if, names-alive, numbers-alive, bytes-alive, agree-moves}
 use Rattle.resolve.specs.Laws.UsingLaws.{agree-leave, agree-due, agree-new}
 
 module _ (ds : List Struct) (names : List Id) where
@@ -77,7 +78,7 @@ module _ (ds : List Struct) (names : List Id) where
             rw (f, h .0)
             (both
             (agree-due ds names (agree-leave ds names s (p .type) (q .at) (u .type) (sought x structs) (s .type) (sym (h .1)))
-            (length (pars-of (q .element)) ∷ p .dues) (length (getD (book .rows) (sought x structs) []) ∷ u .dues) (pair n (s .dues))))
+            (length (pars-of (q .element)) ∷ p .dues) (length (getD (book .rows) (sought x structs) []) ∷ u .dues) (cons-eq n (s .dues))))
 
     -- a parameter of a row
     par-both : (ps : List Par) (k : List Id) (bs : List ℕ) → map par-id ps ≡ k → map (λ q. byte (par-type q)) ps ≡ bs → (x : Id)

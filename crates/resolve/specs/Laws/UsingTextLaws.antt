@@ -13,7 +13,8 @@ use Rattle.meaning.specs.StepNames.{step-names}
 use Rattle.meaning.specs.Meant.{then, provided, literal-meaning}
 use Rattle.text_shape.specs.Roles.{Part, Part.brackets-open, Part.brackets-close, Part.args-open, Part.args-close, Part.no-args-close, Part.pars-open}
 use Rattle.text_shape.specs.Roles.{Part.pars-close, Part.fix-open, Part.fix-close, Part.steps-open, Part.steps-close, Part.body-open, Part.body-close}
-use Rattle.text_shape.specs.Roles.{Part.then-open, Part.then-close, Part.par-comma, Part.arg-comma, Part.barrier-sign, Role, Role.plain, Role.naming, Role.typed}
+use Rattle.text_shape.specs.Roles.{Part.then-open, Part.then-close, Part.par-comma, Part.arg-comma, Part.barrier-sign, Role, Role.plain, Role.naming}
+use Rattle.text_shape.specs.Roles.{Role.typed}
 use Rattle.text_shape.specs.Roles.{Role.part, roles}
 use Rattle.resolve.specs.Checks.{byte-of}
 use Rattle.resolve.specs.Passing.{Pass, goes-on, closes, dies, pass-part, pass-token, pass, passes}

@@ -64,7 +64,8 @@ module _ (x cs : List ℕ) (d : Defs) (s : Sched) (st : Stood x cs (roles (progr
       ap (rows-ok x (places new-par-role new-par-role cs)) (rows-stand new-par-role 0 (omega arith) st ∙ par-rows-declared d s)
       ∙ rows-exact x (places new-par-role new-par-role cs) ds par-names
 
-  types-tested : known (length (places new-struct-role new-struct-role cs)) (types-at x cs (names-at x (places new-struct-role new-struct-role cs)) (places first-type-role last-par-type-role cs))
+  types-tested : known (length (places new-struct-role new-struct-role cs))
+      (types-at x cs (names-at x (places new-struct-role new-struct-role cs)) (places first-type-role last-par-type-role cs))
       ≡ known (length ds) (map (byte-of (map struct-id ds)) (map par-type (all-pars ds)))
   types-tested =
       ap (λ n. known n (types-at x cs (names-at x (places new-struct-role new-struct-role cs)) (places first-type-role last-par-type-role cs))) struct-count
@@ -184,11 +185,6 @@ held-declared (means {d = d} n us ts is) h =
 
     names : List Id
     names = step-names (structs-of d)
-
--- a test that fails: no program that a stream holds is meant (17)
-pub declarations-refused : {d : Defs} {s : Sched} {p : Program} (x cs : List ℕ) → Stood x cs (roles (program d s)) → tables-ok x cs ≡ false
-    → Means (program d s) p → Holds p → ⊥
-declarations-refused {d = d} {s = s} x cs st e m h = false≢true (sym e ∙ tables-tested x cs d s st ∙ held-declared m h)
 
 -- What is well declared is few ----------------------------------------------------------------------
 

@@ -22,7 +22,8 @@ use Rattle.text_shape.specs.Roles.{roles-var, close-of, roles-exp, roles
 use Rattle.text_shape.specs.Shape.{Shape, Shape.shape, on-exp, on-item, past-item, acts, act, acted, acted-below, moved, move, samples, sample}
 use Rattle.text_shape.specs.Shape.{turn, spot, clash}
 use Rattle.text_shape.specs.Laws.KindShapeLaws.{sample-move}
-use Rattle.text_shape.specs.Laws.SiteLaws.{Site, Site.brackets-site, Site.args-site, Site.statement-site, Site.if-site, Site.value-site, turn-tight, clash-tight}
+use Rattle.text_shape.specs.Laws.SiteLaws.{Site, Site.brackets-site, Site.args-site, Site.statement-site, Site.if-site, Site.value-site}
+use Rattle.text_shape.specs.Laws.SiteLaws.{turn-tight, clash-tight}
 use Rattle.text_shape.specs.Laws.SiteLaws.{below-goes, below-same}
 use Rattle.text_shape.specs.RoleMarks.{by-kind, mark, said, said-below, role, waits, other-role, kept-or}
 use Rattle.text_shape.specs.RoleMarks.{by-next, settled, role-codes}
@@ -153,7 +154,8 @@ module _ {c : ℕ} (s : Site c) (b : Bool) (st : List ℕ) where
   unfolding role said-below said mark move moved act acts settled waits
   goes-on o ks h =
       let m : mark (spot b c) (sample (op-kind o)) ≡ by-kind = rw (sample-op o) (site-mark s b (op o) ∙ site-plain s o) in
-      found-on (shape after-code (spot b c ∷ st)) (shape want-code (spot (turn b o) c ∷ st)) (op-kind o) (op-kind o) ks (rw m refl) (rw (sample-op o) (below-goes s st b o h))
+      found-on (shape after-code (spot b c ∷ st)) (shape want-code (spot (turn b o) c ∷ st)) (op-kind o) (op-kind o) ks (rw m refl)
+      (rw (sample-op o) (below-goes s st b o h))
 
   -- once an operator that waited took its operand, a token that is no tighter is met as before
   found-same : (o : Op) (t : Token) (ks : List ℕ) → least t ≤ level o
@@ -194,7 +196,10 @@ var-comes : (l : ℕ) (v : Var) → ComesExp l (variable v)
 unfolding yield-exp roles-exp yield-var roles-var found
 var-comes l (id x) = record { there = λ {r} a {st} f m h. comes (rw (f .keeps) (onto first-read-role (f .behind-name (r ∷ st) _ ∙ codes h))) }
 var-comes l (dot x v) =
-    record { there = λ {r} a {st} f m h. comes (onto first-read-role (onto dot-kind (codes (later-comes dots-read v (comes (f .behind-later (r ∷ st) _ ∙ codes h)))))) }
+    record {
+      there = λ {r} a {st} f m h. comes (onto first-read-role
+          (onto dot-kind (codes (later-comes dots-read v (comes (f .behind-later (r ∷ st) _ ∙ codes h))))));
+    }
 
 literal-comes : (l : ℕ) (a : Literal) → ComesExp l (literal a)
 unfolding yield-exp roles-exp literal-token found
@@ -217,7 +222,10 @@ this-comes l = record { there = λ a f m h. comes (onto this-kind (codes h)) }
 brackets-come : (l : ℕ) {e : Exp} → ComesExp loosest e → ComesExp l (brackets e)
 unfolding yield-exp roles-exp least on-op found
 brackets-come l c =
-    record { there = λ a f m h. comes (onto brackets-open-role (codes (c .there (at-first brackets-site loosest) follows-rpar (omega arith) (comes (onto brackets-close-role (codes h)))))) }
+    record {
+      there = λ a f m h. comes (onto brackets-open-role
+          (codes (c .there (at-first brackets-site loosest) follows-rpar (omega arith) (comes (onto brackets-close-role (codes h))))));
+    }
 
 negation-comes : (l : ℕ) {e : Exp} → ComesExp tightest e → ComesExp l (negation e)
 unfolding yield-exp roles-exp found
@@ -280,13 +288,17 @@ record ComesList (es : Exps) : Type 0 where
 
 list-ends : ComesList no-exps
 unfolding yield-exp-list roles-exp-list least on-op found
-list-ends = record { behind = λ c a {st} h. c .there (at-first (a .site) loosest) follows-rpar (omega arith) (comes (a .last st _ ∙ onto args-close-role (codes h))) }
+list-ends = record {
+  behind = λ c a {st} h. c .there (at-first (a .site) loosest) follows-rpar (omega arith)
+      (comes (a .last st _ ∙ onto args-close-role (codes h)));
+}
 
 list-goes-on : {e : Exp} {es : Exps} → ComesExp loosest e → ComesList es → ComesList (exps e es)
 unfolding yield-exp-list roles-exp-list least on-op found
 list-goes-on d l =
     record {
-      behind = λ c a {st} h. c .there (at-first (a .site) loosest) follows-comma (omega arith) (comes (a .more st _ ∙ onto arg-comma-role (codes (l .behind d a h))));
+      behind = λ c a {st} h. c .there (at-first (a .site) loosest) follows-comma (omega arith)
+          (comes (a .more st _ ∙ onto arg-comma-role (codes (l .behind d a h))));
     }
 
 args-none : ComesArgs no-exps

@@ -14,7 +14,8 @@ use Rattle.syntax.specs.Yield.{yield-step, yield-steps, yield-struct, yield-def
 use Rattle.text_shape.specs.Roles.{Naming, Naming.first-read, Naming.first-written, Part.brackets-close, Part.then-open, Part.then-close, Part.body-close}
 use Rattle.text_shape.specs.Roles.{Part.pars-close, Part.steps-open, Part.steps-close, Part.fix-close, Part.barrier-sign, Role, Role.plain, Role.part}
 use Rattle.text_shape.specs.Roles.{part-token, token-of, roles-later, roles-var, close-of, roles-exp, roles-exps, roles-exp-list, roles-stat, roles-stats}
-use Rattle.text_shape.specs.Roles.{roles-par, roles-par-list, roles-pars, roles-step, roles-steps, roles-struct, roles-defs, roles-item, roles-sched, roles}
+use Rattle.text_shape.specs.Roles.{roles-par, roles-par-list, roles-pars, roles-step, roles-steps, roles-struct, roles-defs, roles-item}
+use Rattle.text_shape.specs.Roles.{roles-sched, roles}
 
 abbrev pub tokens-of : List Role → List Token
 tokens-of k = map token-of k

@@ -20,11 +20,13 @@ use Rattle.tokens.specs.Marking.{marks as marks-in, kinds-in}
 use Rattle.tokens.specs.Laws.MarkingLaws.{marks-tell}
 use Rattle.tokens.specs.Kinds.{kind}
 use Rattle.text_shape.specs.Roles.{Part.pars-close, Part.steps-close, Role, Role.plain, Role.part, code, roles-var, roles-exp, roles-stat, roles-stats}
-use Rattle.text_shape.specs.Roles.{roles-par, roles-par-list, roles-pars, roles-step, roles-steps, roles-struct, roles-defs, roles-item, roles-sched, roles}
+use Rattle.text_shape.specs.Roles.{roles-par, roles-par-list, roles-pars, roles-step, roles-steps, roles-struct, roles-defs, roles-item}
+use Rattle.text_shape.specs.Roles.{roles-sched, roles}
 use Rattle.text_shape.specs.Shape.{Shape.shape}
 use Rattle.text_shape.specs.RoleMarks.{by-next, role-codes, placed}
 use Rattle.text_shape.specs.Laws.SiteLaws.{Site.statement-site, Site.if-site, Site.value-site}
-use Rattle.text_shape.specs.Laws.RoleExpLaws.{at-first, found, Comes, Comes.comes, codes, onto, follows-semicolon, follows-then, Dots, later-comes, Args, ComesExp}
+use Rattle.text_shape.specs.Laws.RoleExpLaws.{at-first, found, Comes, Comes.comes, codes, onto, follows-semicolon, follows-then, Dots}
+use Rattle.text_shape.specs.Laws.RoleExpLaws.{later-comes, Args, ComesExp}
 use Rattle.text_shape.specs.Laws.RoleExpLaws.{ComesArgs, exp-comes, args-come}
 use Rattle.text_shape.specs.CodeNames.{first-defs-code, more-defs-code, at-pars-code, at-par-code, behind-par-code, at-steps-open-code}
 use Rattle.text_shape.specs.CodeNames.{at-steps-code, at-stats-code, at-dot-name-code, behind-dot-name-code, at-construct-code}
@@ -50,7 +52,8 @@ if-comes : {e : Exp} {b : Stats} → ComesExp loosest e → ComesStats b → Com
 unfolding yield-stat roles-stat least on-op found
 if-comes c d =
     record {
-      there = λ {st} h. comes (onto if-kind (codes (c .there (at-first if-site loosest) {st = st} follows-then (omega arith) (comes (onto then-kind (onto then-open-role (codes
+      there = λ {st} h. comes (onto if-kind (codes (c .there (at-first if-site loosest) {st = st} follows-then (omega arith)
+          (comes (onto then-kind (onto then-open-role (codes
           (d .all {st = in-then-code ∷ st} (comes (onto then-close-role (codes h)))))))))));
     }
 
@@ -75,7 +78,10 @@ update-comes : (v : Var) {e : Exp} → ComesExp loosest e → ComesStat (update 
 unfolding yield-stat roles-stat yield-var roles-var found
 update-comes (id x) c = record { there = λ h. comes (onto first-written-role (onto assign-kind (codes (value-comes c h)))) }
 update-comes (dot x v) c =
-    record { there = λ {st} h. comes (onto first-written-role (onto dot-kind (codes (later-comes dots-written v {st = st} (comes (onto assign-kind (codes (value-comes c h)))))))) }
+    record {
+      there = λ {st} h. comes (onto first-written-role
+          (onto dot-kind (codes (later-comes dots-written v {st = st} (comes (onto assign-kind (codes (value-comes c h))))))));
+    }
 
 -- arguments of a construct statement are met as those of a constructor
 statement-args : Args in-construct-code at-semicolon-code
@@ -91,7 +97,8 @@ construct-comes : (x : Id) {es : Exps} → ComesArgs es → ComesStat (construct
 unfolding yield-stat roles-stat found
 construct-comes x {es} c =
     record {
-      there = λ {st} {ts} h. comes (onto made-statement-role (onto args-open-role (as-args (in-construct-code ∷ st) (map kind (yield-exps es (sign rpar ∷ sign semicolon ∷ ts)))
+      there = λ {st} {ts} h. comes (onto made-statement-role
+          (onto args-open-role (as-args (in-construct-code ∷ st) (map kind (yield-exps es (sign rpar ∷ sign semicolon ∷ ts)))
           ∙ codes (c .all statement-args {st = st} (comes (onto semicolon-kind (codes h)))))));
     }
 
@@ -145,19 +152,24 @@ steps-come : (ss : List Step) → FitsSteps ss → {ts : List Token} {rs : List 
 unfolding yield-steps roles-steps yield-step roles-step found
 steps-come [] f h = comes (onto steps-close-role (codes h))
 steps-come (step x b ∷ ss) f h =
-    comes (onto new-step-role (onto body-open-role (codes (stats-come b (f .0) .all {st = in-step-code ∷ []} (comes (onto body-close-role (codes (steps-come ss (f .1) h))))))))
+    comes (onto new-step-role (onto body-open-role (codes (stats-come b (f .0) .all {st = in-step-code ∷ []}
+    (comes (onto body-close-role (codes (steps-come ss (f .1) h))))))))
 
-struct-comes : (d : Struct) → FitsStruct d → {ts : List Token} {rs : List Role} → Comes more-defs-code [] ts rs → Comes more-defs-code [] (yield-struct d ts) (roles-struct d rs)
+struct-comes : (d : Struct) → FitsStruct d → {ts : List Token} {rs : List Role} → Comes more-defs-code [] ts rs
+    → Comes more-defs-code [] (yield-struct d ts) (roles-struct d rs)
 unfolding yield-struct roles-struct found
-struct-comes (struct x ps ss) f h = comes (onto struct-kind (onto new-struct-role (onto pars-open-role (codes (pars-come ps (comes (onto steps-open-role (codes (steps-come ss f h)))))))))
+struct-comes (struct x ps ss) f h = comes (onto struct-kind (onto new-struct-role
+    (onto pars-open-role (codes (pars-come ps (comes (onto steps-open-role (codes (steps-come ss f h)))))))))
 
-defs-come : (d : Defs) → FitsDefs d → {ts : List Token} {rs : List Role} → Comes more-defs-code [] ts rs → Comes more-defs-code [] (yield-defs d ts) (roles-defs d rs)
+defs-come : (d : Defs) → FitsDefs d → {ts : List Token} {rs : List Role} → Comes more-defs-code [] ts rs
+    → Comes more-defs-code [] (yield-defs d ts) (roles-defs d rs)
 unfolding yield-defs roles-defs
 defs-come (last-struct d) f h = struct-comes d f h
 defs-come (defs d ds) f h = struct-comes d (f .0) (defs-come ds (f .1) h)
 
 -- the first struct is met as any other
-first-struct : (d : Defs) (k : List Token) → found (shape first-defs-code []) (map kind (yield-defs d k)) ≡ found (shape more-defs-code []) (map kind (yield-defs d k))
+first-struct : (d : Defs) (k : List Token) → found (shape first-defs-code []) (map kind (yield-defs d k))
+    ≡ found (shape more-defs-code []) (map kind (yield-defs d k))
 unfolding yield-defs yield-struct found
 first-struct (last-struct (struct x ps ss)) k = refl
 first-struct (defs (struct x ps ss) ds) k = refl
@@ -182,10 +194,12 @@ unfolding found
 fix-item ks = record { behind-step = λ st. refl; keeps = refl }
 
 record ComesItem (i : Item) : Type 0 where
-  there : {st : List ℕ} {ts : List Token} {rs : List Role} → FollowsItem (map kind ts) → Comes behind-item-code st ts rs → Comes at-item-code st (yield-item i ts) (roles-item i rs)
+  there : {st : List ℕ} {ts : List Token} {rs : List Role} → FollowsItem (map kind ts) → Comes behind-item-code st ts rs
+      → Comes at-item-code st (yield-item i ts) (roles-item i rs)
 
 record ComesSched (s : Sched) : Type 0 where
-  all : {st : List ℕ} {ts : List Token} {rs : List Role} → FollowsItem (map kind ts) → Comes behind-item-code st ts rs → Comes at-item-code st (yield-sched s ts) (roles-sched s rs)
+  all : {st : List ℕ} {ts : List Token} {rs : List Role} → FollowsItem (map kind ts) → Comes behind-item-code st ts rs
+      → Comes at-item-code st (yield-sched s ts) (roles-sched s rs)
 
 execution-comes : (x : Id) → ComesItem (execution x)
 unfolding yield-item roles-item found
@@ -197,7 +211,10 @@ typed-comes x y = record { there = λ f h. comes (onto called-struct-role (onto 
 
 fix-comes : {s : Sched} → ComesSched s → ComesItem (fixpoint s)
 unfolding yield-item roles-item found
-fix-comes c = record { there = λ {st} f h. comes (onto fix-kind (onto fix-open-role (codes (c .all {st = in-fix-code ∷ st} (fix-item _) (comes (onto fix-close-role (codes h))))))) }
+fix-comes c = record {
+  there = λ {st} f h. comes (onto fix-kind
+      (onto fix-open-role (codes (c .all {st = in-fix-code ∷ st} (fix-item _) (comes (onto fix-close-role (codes h)))))));
+}
 
 last-comes : {i : Item} → ComesItem i → ComesSched (last-item i)
 unfolding yield-sched roles-sched
@@ -218,13 +235,15 @@ mutual
   sched-comes (barrier i s) = barrier-comes (item-comes i) (sched-comes s)
 
 -- the first item, behind the last struct, is met as any other
-first-item : (i : Item) (k : List Token) → found (shape more-defs-code []) (map kind (yield-item i k)) ≡ found (shape at-item-code []) (map kind (yield-item i k))
+first-item : (i : Item) (k : List Token) → found (shape more-defs-code []) (map kind (yield-item i k))
+    ≡ found (shape at-item-code []) (map kind (yield-item i k))
 unfolding yield-item found
 first-item (execution x) k = refl
 first-item (typed-execution x y) k = refl
 first-item (fixpoint s) k = refl
 
-begins : (s : Sched) (k : List Token) → found (shape more-defs-code []) (map kind (yield-sched s k)) ≡ found (shape at-item-code []) (map kind (yield-sched s k))
+begins : (s : Sched) (k : List Token) → found (shape more-defs-code []) (map kind (yield-sched s k))
+    ≡ found (shape at-item-code []) (map kind (yield-sched s k))
 unfolding yield-sched
 begins (last-item i) k = first-item i k
 begins (barrier i s) k = first-item i (op op-lt ∷ yield-sched s k)

@@ -199,7 +199,8 @@ past-leads : (l : List Item) (r : Row) (i : Item) (t : Token) → Leads (open-ro
 unfolding item-behind past-item code-of open-of open-row
 past-leads l (in-program d) i t = less-both (LeadsAt []) t (goes refl refl) (none-open t)
 past-leads l (in-fix m r) i t =
-    less-both (LeadsAt (in-fix-code ∷ open-row r)) t (goes refl refl) (sign-both (LeadsAt (in-fix-code ∷ open-row r)) rpar t (sinks (fix-below (open-row r))) lost)
+    less-both (LeadsAt (in-fix-code ∷ open-row r)) t (goes refl refl)
+    (sign-both (LeadsAt (in-fix-code ∷ open-row r)) rpar t (sinks (fix-below (open-row r))) lost)
 
 step-leads : (s : State) (t : Token) → Leads (open-of s) t (step s t) (act (code-of s) t)
 unfolding step act acts code-of open-of open-place open-body open-row begun defs-code

@@ -9,8 +9,8 @@ use mathlib.Core.List.{List, [], _∷_, map}
 use lib.ListN.{length, getD, drop, length-map, drop-of-length-le}
 use lib.Dec.{eqb, leb}
 use borrow.Author.Tests.{ne-eqb, eqb-true, eqb-false, le-leb, leb-true}
+use Rattle.types.specs.ListLaws.{drop-next}
 use Rattle.tokens.specs.Tokens.{between}
-use Rattle.lexer.specs.RunLaws.{next-byte}
 use Rattle.resolve.specs.Laws.StandingLaws.{both-parts}
 use Rattle.resolve.specs.Tables.{places-from, places, with-place, with-one, offsets-from, offsets}
 use Rattle.resolve.specs.Laws.TableLaws.{Gathers, gathers-on, Lays, lays-on}
@@ -157,7 +157,7 @@ module _ (x : List ℕ) where
         (λ h. here ∙ declared-out i (getD x i 0) (drop (i + 1) x) (sym e ∙ h) ∙ ap (λ k. declared-from k (drop (i + 1) x)) (sym (add-one i))) f g
       where
         here : declared-behind i ≡ declared-from i (getD x i 0 ∷ drop (i + 1) x)
-        here = ap (declared-from i) (next-byte x i l)
+        here = ap (declared-from i) (drop-next x i l)
 
 -- over places: those of some roles from one on
 module _ (lo hi : ℕ) (x at : List ℕ) where
@@ -176,7 +176,7 @@ module _ (lo hi : ℕ) (x at : List ℕ) where
         (λ h. here ∙ among-out lo hi x (getD at i 0) (drop (i + 1) at) (sym e ∙ h)) f g
       where
         here : among-behind i ≡ among lo hi x (getD at i 0 ∷ drop (i + 1) at)
-        here = ap (among lo hi x) (next-byte at i l)
+        here = ap (among lo hi x) (drop-next at i l)
 
 -- rows over the bytes at places
 mapped : (f : ℕ → ℕ) (l : List ℕ) (i : ℕ) → i < length l → getD (map f l) i 0 ≡ f (getD l i 0)
@@ -211,16 +211,24 @@ module _ (i b : ℕ) (s : List ℕ) where
 
 -- of each kind
 abbrev kinds : ℕ → List ℕ → ℕ
-kinds i s = length (places-from new-struct-role new-struct-role i s) + length (places-from new-par-role new-par-role i s) + length (places-from new-step-role new-step-role i s) + length (places-from first-type-role last-par-type-role i s)
+kinds i s = length (places-from new-struct-role new-struct-role i s) + length (places-from new-par-role new-par-role i s)
+    + length (places-from new-step-role new-step-role i s) + length (places-from first-type-role last-par-type-role i s)
 
 module _ (i b : ℕ) (s : List ℕ) where
   kinds-grown : kinds (suc i) s ≤ kinds i (b ∷ s)
-  kinds-grown = omega (arith, grown i b s new-struct-role new-struct-role, grown i b s new-par-role new-par-role, grown i b s new-step-role new-step-role, grown i b s first-type-role last-par-type-role)
+  kinds-grown = omega (
+    arith,
+    grown i b s new-struct-role new-struct-role,
+    grown i b s new-par-role new-par-role,
+    grown i b s new-step-role new-step-role,
+    grown i b s first-type-role last-par-type-role,
+  )
 
   kinds-more : declares b ≡ true → suc (kinds (suc i) s) ≤ kinds i (b ∷ s)
   kinds-more e = go (eqb b new-struct-role) refl (eqb b new-par-role) refl (between new-struct-role new-step-role b) refl
     where
-      go : (t : Bool) → eqb b new-struct-role ≡ t → (u : Bool) → eqb b new-par-role ≡ u → (v : Bool) → between new-struct-role new-step-role b ≡ v → suc (kinds (suc i) s) ≤ kinds i (b ∷ s)
+      go : (t : Bool) → eqb b new-struct-role ≡ t → (u : Bool) → eqb b new-par-role ≡ u → (v : Bool) → between new-struct-role new-step-role b ≡ v
+          → suc (kinds (suc i) s) ≤ kinds i (b ∷ s)
       go true f u g v h =
           let w = eqb-true b new-struct-role f in
           let m = one-more i b s new-struct-role new-struct-role (within new-struct-role new-struct-role b (omega (arith, w)) (omega (arith, w))) in
@@ -231,7 +239,8 @@ module _ (i b : ℕ) (s : List ℕ) where
           omega (arith, m, grown i b s new-struct-role new-struct-role, grown i b s new-step-role new-step-role, grown i b s first-type-role last-par-type-role)
       go false f false g true h =
           let w = bounds new-struct-role new-step-role b h in
-          let m = one-more i b s new-step-role new-step-role (within new-step-role new-step-role b (omega (arith, eqb-false b new-struct-role f, eqb-false b new-par-role g, w .low)) (w .high)) in
+          let m = one-more i b s new-step-role new-step-role
+          (within new-step-role new-step-role b (omega (arith, eqb-false b new-struct-role f, eqb-false b new-par-role g, w .low)) (w .high)) in
           omega (arith, m, grown i b s new-struct-role new-struct-role, grown i b s new-par-role new-par-role, grown i b s first-type-role last-par-type-role)
       go false f false g false h =
           let m = one-more i b s first-type-role last-par-type-role (typed-declares b h ∙ e) in
@@ -247,5 +256,6 @@ few-kinds i (b ∷ s) = go (declares b) refl (few-kinds (suc i) s)
     go false e rec = let h = ap length (declared-out i b s e) in omega (arith, h, rec, kinds-grown i b s)
 
 pub declared-count : (x : List ℕ)
-    → length (declared-at x) ≤ length (places new-struct-role new-struct-role x) + length (places new-par-role new-par-role x) + length (places new-step-role new-step-role x) + length (places first-type-role last-par-type-role x)
+    → length (declared-at x) ≤ length (places new-struct-role new-struct-role x) + length (places new-par-role new-par-role x)
+    + length (places new-step-role new-step-role x) + length (places first-type-role last-par-type-role x)
 declared-count x = few-kinds 0 x

@@ -17,7 +17,8 @@ use Rattle.types.specs.Values.{in-int, int-word}
 use Rattle.meaning.specs.Values.{signed, decimal}
 use Rattle.types.specs.Limits.{nat-end}
 use Rattle.meaning.specs.Meant.{then, provided, literal-meaning}
-use Rattle.text_shape.specs.Roles.{Part.brackets-open, Part.brackets-close, Part.args-open, Part.args-close, Part.no-args-close, Part.pars-open, Part.pars-close}
+use Rattle.text_shape.specs.Roles.{Part.brackets-open, Part.brackets-close, Part.args-open, Part.args-close, Part.no-args-close, Part.pars-open}
+use Rattle.text_shape.specs.Roles.{Part.pars-close}
 use Rattle.text_shape.specs.Roles.{Part.fix-open, Part.fix-close, Part.steps-open, Part.steps-close, Part.body-open, Part.body-close, Part.then-open}
 use Rattle.text_shape.specs.Roles.{Part.then-close, Part.par-comma, Part.arg-comma, Part.barrier-sign}
 use Rattle.resolve.specs.Digits.{digits-of, word-of, nat-at, int-at}
@@ -103,7 +104,8 @@ module _ (u : Use) where
   from-none (suc (suc (suc (suc (suc (suc n)))))) h i j k p q =
       from-six n (λ e. j (six e)) (λ e. k (six e)) (λ e. p (six e)) (λ e. q (six e))
 
-  pub part-quiet : (c : ℕ) → first-part-role ≤ c → (c ≡ args-close-role → ⊥) → (c ≡ no-args-close-role → ⊥) → (c ≡ body-close-role → ⊥) → (c ≡ then-open-role → ⊥) → (c ≡ then-close-role → ⊥) → (c ≡ arg-comma-role → ⊥) → some u ≡ use-part (part-at c) u
+  pub part-quiet : (c : ℕ) → first-part-role ≤ c → (c ≡ args-close-role → ⊥) → (c ≡ no-args-close-role → ⊥) → (c ≡ body-close-role → ⊥)
+      → (c ≡ then-open-role → ⊥) → (c ≡ then-close-role → ⊥) → (c ≡ arg-comma-role → ⊥) → some u ≡ use-part (part-at c) u
   unfolding part-at
   part-quiet c le h i j k p q =
       sym

@@ -144,7 +144,8 @@ module _ (x t l k o : List ℕ) (c : Scope) (y : Id) (role : ℕ) where
   unfolding naming-at use-name
   name-local e = rw e refl
 
-  pub name-first : {s : Seen} {r : Passed} → first-read-role ≤ role → role < later-variable-role → s ≡ seen-first book y (use-in x l [] c []) → r ≡ seen-passed c s
+  pub name-first : {s : Seen} {r : Passed} → first-read-role ≤ role → role < later-variable-role → s ≡ seen-first book y (use-in x l [] c [])
+      → r ≡ seen-passed c s
       → passed-in x l k r o ≡ named role
   unfolding naming-at use-name
   name-first low high e f =
@@ -153,7 +154,8 @@ module _ (x t l k o : List ℕ) (c : Scope) (y : Id) (role : ℕ) where
       ∙ next-or (λ z. use-first book y used ≡ named z) first-read-role role low refl
       (λ h. next-or (λ z. use-first book y used ≡ named z) first-written-role role h refl (λ h. absurd (omega (arith, h, high)))))
 
-  pub name-later : {s : Seen} {r : Passed} → later-variable-role ≤ role → role < made-role → s ≡ seen-behind book (c .typ) y → r ≡ seen-passed c s → passed-in x l k r o ≡ named role
+  pub name-later : {s : Seen} {r : Passed} → later-variable-role ≤ role → role < made-role → s ≡ seen-behind book (c .typ) y → r ≡ seen-passed c s
+      → passed-in x l k r o ≡ named role
   unfolding naming-at use-name use-in
   name-later low high e f =
       let w : role ≡ later-variable-role = omega (arith, low, high) in
@@ -165,6 +167,7 @@ module _ (x t l k o : List ℕ) (c : Scope) (y : Id) (role : ℕ) where
       next-or (λ z. use-made book y used ≡ named z) made-role role low refl
       (λ h. next-or (λ z. use-made book y used ≡ named z) made-statement-role role h refl (λ h. absurd (omega (arith, h, high))))
 
-  pub name-called : {s : Seen} {r : Passed} → called-role ≤ role → role < par-int-role → s ≡ seen-listed (called-among book role) y (c .typ) → r ≡ seen-passed c s
+  pub name-called : {s : Seen} {r : Passed} → called-role ≤ role → role < par-int-role → s ≡ seen-listed (called-among book role) y (c .typ)
+      → r ≡ seen-passed c s
       → passed-in x l k r o ≡ named role
   name-called low high e f = looked-up e f (left-from-called low high)

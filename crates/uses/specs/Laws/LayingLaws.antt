@@ -36,7 +36,8 @@ module _ (t p₁ p₂ p₃ p₄ : List ℕ) (s k : ℕ) where
   with-counts = set (set with-names struct-count-place s) name-count-place k
 
   module _ (text roles : List ℕ) (long : length t ≡ table-size) (e₁ : p₁ ≡ sets (take max-structs (drop 0 t)) 0 (structs-at roles))
-      (e₂ : p₂ ≡ sets (take offsets-room (drop offsets-place with-structs)) 0 (offsets new-par-role roles)) (e₃ : p₃ ≡ sets (take rows-room (drop pars-place with-rows)) 0 (pars-at roles))
+      (e₂ : p₂ ≡ sets (take offsets-room (drop offsets-place with-structs)) 0 (offsets new-par-role roles))
+      (e₃ : p₃ ≡ sets (take rows-room (drop pars-place with-rows)) 0 (pars-at roles))
       (e₄ : length p₄ ≡ length (take step-names (drop names-place with-pars))) where
     m₁ : length (take max-structs (drop 0 t)) ≡ max-structs
     m₁ = mid-long 0 max-structs t (omega (arith, long))
@@ -85,7 +86,8 @@ module _ (t p₁ p₂ p₃ p₄ : List ℕ) (s k : ℕ) where
 
     -- what stands before the counts stays, and what stands before the names
     counted : (c d : ℕ) (v : List ℕ) → c ≤ d → d ≤ struct-count-place → Front with-names c d v → Front with-counts c d v
-    counted c d v h i f = front-set (set with-names struct-count-place s) name-count-place k c d v h (omega (arith, i)) (front-set with-names struct-count-place s c d v h i f)
+    counted c d v h i f = front-set (set with-names struct-count-place s) name-count-place k c d v h (omega (arith, i))
+        (front-set with-names struct-count-place s c d v h i f)
 
     stays : (c d : ℕ) (v : List ℕ) → c ≤ d → d ≤ names-place → Front with-pars c d v → Front with-counts c d v
     stays c d v h i f = counted c d v h (omega (arith, i)) (front-before names-place step-names with-pars p₄ (omega (arith, long₃)) n₄ c d v h i f)
@@ -100,8 +102,10 @@ module _ (t p₁ p₂ p₃ p₄ : List ℕ) (s k : ℕ) where
     laid-rows : Front with-counts offsets-place pars-place (offsets new-par-role roles)
     laid-rows =
         stays offsets-place pars-place (offsets new-par-role roles) (omega arith) (omega arith)
-        (front-before pars-place rows-room with-rows p₃ (omega (arith, long₂)) n₃ offsets-place pars-place (offsets new-par-role roles) (omega arith) (omega arith)
-        (front-put offsets-place offsets-room with-structs p₂ (omega (arith, long₁)) n₂ (take offsets-room (drop offsets-place with-structs)) (offsets new-par-role roles) e₂ m₂))
+        (front-before pars-place rows-room with-rows p₃ (omega (arith, long₂)) n₃ offsets-place pars-place (offsets new-par-role roles) (omega arith)
+        (omega arith)
+        (front-put offsets-place offsets-room with-structs p₂ (omega (arith, long₁)) n₂ (take offsets-room (drop offsets-place with-structs))
+        (offsets new-par-role roles) e₂ m₂))
 
     laid-pars : Front with-counts pars-place types-place (pars-at roles)
     laid-pars =
@@ -112,14 +116,16 @@ module _ (t p₁ p₂ p₃ p₄ : List ℕ) (s k : ℕ) where
       laid-names : length (steps-at roles) ≤ rows-room → Front with-counts names-place struct-count-place (names-first text roles)
       laid-names h =
           counted names-place struct-count-place (names-first text roles) (omega arith) (omega arith)
-          (front-put names-place step-names with-pars p₄ (omega (arith, long₃)) n₄ (take step-names (drop names-place with-pars)) (names-first text roles) (g .stored h) m₄)
+          (front-put names-place step-names with-pars p₄ (omega (arith, long₃)) n₄ (take step-names (drop names-place with-pars)) (names-first text roles)
+          (g .stored h) m₄)
 
       pub laid-all : Laid text roles with-counts
       laid-all =
           record {
             long = laid-long ∙ long;
             count =
-                getD-set-other (set with-names struct-count-place s) name-count-place struct-count-place k 0 (λ e. omega (arith, e)) ∙ getD-set-same with-names struct-count-place s 0 (omega (arith, long₄)) ∙ c;
+                getD-set-other (set with-names struct-count-place s) name-count-place struct-count-place k 0 (λ e. omega (arith, e))
+                ∙ getD-set-same with-names struct-count-place s 0 (omega (arith, long₄)) ∙ c;
             structs = laid-structs;
             rows = laid-rows;
             pars = laid-pars;

@@ -147,13 +147,15 @@ module _ (l : List ℕ) (long : length l ≡ bytes-end) (at m n b : ℕ) (few : 
       part-before l₃ (bytes-end - (n + 1)) b (numbers-end - (n + 1)) numbers-end (omega arith) (omega (arith, less))
       ∙ up-to-more l₂ numbers-end n m (omega (arith, less)) (omega (arith, long₂))
       ∙ ap (λ z. m ∷ z)
-      (part-behind l₁ (living-end - (n + 1)) at (numbers-end - n) numbers-end (omega (arith, less)) ∙ part-behind l (declared-end - (m + 1)) at (numbers-end - n) numbers-end (omega (arith, less)))
+      (part-behind l₁ (living-end - (n + 1)) at (numbers-end - n) numbers-end (omega (arith, less))
+      ∙ part-behind l (declared-end - (m + 1)) at (numbers-end - n) numbers-end (omega (arith, less)))
 
   pub bytes-stored : up-to (with-local l at m n b) bytes-end (n + 1) ≡ b ∷ up-to l bytes-end n
   bytes-stored =
       up-to-more l₃ bytes-end n b (omega (arith, less)) (omega (arith, long₃))
       ∙ ap (λ z. b ∷ z)
-      (part-behind l₂ (numbers-end - (n + 1)) m (bytes-end - n) bytes-end (omega (arith, less)) ∙ part-behind l₁ (living-end - (n + 1)) at (bytes-end - n) bytes-end (omega (arith, less))
+      (part-behind l₂ (numbers-end - (n + 1)) m (bytes-end - n) bytes-end (omega (arith, less))
+      ∙ part-behind l₁ (living-end - (n + 1)) at (bytes-end - n) bytes-end (omega (arith, less))
       ∙ part-behind l (declared-end - (m + 1)) at (bytes-end - n) bytes-end (omega (arith, less)))
 
   pub small-stored : Small l n → Small (with-local l at m n b) (n + 1)

@@ -5,24 +5,12 @@ use mathlib.Core.Path.{_≡_, refl, sym, ap, _∙_}
 use mathlib.Core.List.{List, [], _∷_, map}
 use lib.ListN.{length, getD, set, take, drop, length-take, length-drop, length-map}
 use lib.Seq.{lt-length-set, take-nil, drop-cons, drop-drop, take-take, getD-take, getD-drop, getD-set-same, take-set-le, drop-set-lt, drop-set-add}
+use Rattle.types.specs.ListLaws.{cons-eq, map-drop, map-take}
 use Rattle.resolve.specs.Checks.{part-of}
 use Rattle.resolve.specs.Using.{last-of}
 use Rattle.resolve.specs.Resolved.{cuts}
 
-pub pair : {A : Type 0} {a b : A} {k l : List A} → a ≡ b → k ≡ l → a ∷ k ≡ b ∷ l
-pair e f = cc
-
 -- Rows -------------------------------------------------------------------------------------------
-
-map-take : {A B : Type 0} (f : A → B) (n : ℕ) (l : List A) → map f (take n l) ≡ take n (map f l)
-map-take f zero l = refl
-map-take f (suc n) [] = refl
-map-take f (suc n) (a ∷ l) = ap (λ m. f a ∷ m) (map-take f n l)
-
-pub map-drop : {A B : Type 0} (f : A → B) (n : ℕ) (l : List A) → map f (drop n l) ≡ drop n (map f l)
-map-drop f zero l = refl
-map-drop f (suc n) [] = refl
-map-drop f (suc n) (a ∷ l) = map-drop f n l
 
 -- what is said of a part is that part of what is said
 pub map-part : {A B : Type 0} (f : A → B) (l : List A) (a b : ℕ) → map f (part-of l a b) ≡ part-of (map f l) a b
@@ -68,7 +56,7 @@ up-to l e n = part-of l (e - n) e
 filled : (l : List ℕ) (i n a : ℕ) → i < length l → take (suc n) (drop i (set l i a)) ≡ a ∷ take n (drop (suc i) l)
 filled l i n a h =
     ap (take (suc n))
-    (drop-cons (set l i a) i a (lt-length-set l i a h) ∙ pair (getD-set-same l i a a h) (drop-set-lt (suc i) l i a (omega arith)))
+    (drop-cons (set l i a) i a (lt-length-set l i a h) ∙ cons-eq (getD-set-same l i a a h) (drop-set-lt (suc i) l i a (omega arith)))
 
 -- one more in front
 pub up-to-more : (l : List ℕ) (e n a : ℕ) → n < e → e ≤ length l → up-to (set l (e - (n + 1)) a) e (n + 1) ≡ a ∷ up-to l e n

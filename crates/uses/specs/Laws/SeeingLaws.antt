@@ -8,6 +8,7 @@ use mathlib.Core.List.{List, []}
 use lib.ListN.{length, getD, drop}
 use lib.Dec.{leb, ltb}
 use borrow.Author.Tests.{ltb-true, ltb-false, lt-ltb, le-ltb, le-leb, lt-leb, eq-eqb, ne-eqb}
+use Rattle.types.specs.ListLaws.{map-drop}
 use Rattle.types.specs.Limits.{first-local}
 use Rattle.types.specs.Types.{struct-code}
 use Rattle.syntax.specs.Syntax.{Id}
@@ -15,7 +16,7 @@ use Rattle.resolve.specs.Named.{name-at, names-at, sought}
 use Rattle.resolve.specs.Checks.{part-of}
 use Rattle.resolve.specs.Using.{Book, Use, chosen, own-row}
 use Rattle.resolve.specs.Resolved.{cuts}
-use Rattle.uses.specs.Laws.PartLaws.{up-to, map-drop, map-part, cuts-at, part-at, part-long, mapped-long, part-part, drop-up-to}
+use Rattle.uses.specs.Laws.PartLaws.{up-to, map-part, cuts-at, part-at, part-long, mapped-long, part-part, drop-up-to}
 use Rattle.uses.specs.Lent.{structs-of-table, row-start, row-end, book-in, Booked, use-in, Roomy}
 use Rattle.uses.specs.Seeing.{called-among, seen-listed, seen-par, seen-local, seen-first, seen-behind}
 use Rattle.uses.specs.declared.Scope.{Scope}
@@ -66,10 +67,12 @@ module _ (x t : List ℕ) (b : Booked t) (k : ℕ) (inside : k < structs-of-tabl
   many : suc k < length (part-of t offsets-place (offsets-place + 1 + structs-of-table t))
   many = let h = part-long t offsets-place (offsets-place + 1 + structs-of-table t) (omega (arith, b .long, b .structs)) in omega (arith, h)
 
-  cut-at : {A : Type 0} (l : List A) → getD (cuts l (part-of t offsets-place (offsets-place + 1 + structs-of-table t))) k [] ≡ part-of l (row-start t k) (row-end t k)
+  cut-at : {A : Type 0} (l : List A) → getD (cuts l (part-of t offsets-place (offsets-place + 1 + structs-of-table t))) k []
+      ≡ part-of l (row-start t k) (row-end t k)
   cut-at l =
       cuts-at l (part-of t offsets-place (offsets-place + 1 + structs-of-table t)) k many
-      ∙ ap (λ z. part-of l z (getD (part-of t offsets-place (offsets-place + 1 + structs-of-table t)) (suc k) 0)) start-at ∙ ap (part-of l (row-start t k)) end-at
+      ∙ ap (λ z. part-of l z (getD (part-of t offsets-place (offsets-place + 1 + structs-of-table t)) (suc k) 0)) start-at
+      ∙ ap (part-of l (row-start t k)) end-at
 
   -- the names of struct k's parameters, and the bytes of their types
   pub row-in : names-at x (part-of t (pars-place + row-start t k) (pars-place + row-end t k)) ≡ getD (book-in x t .rows) k []
@@ -97,7 +100,8 @@ module _ (x t : List ℕ) (b : Booked t) (k : ℕ) (inside : k < structs-of-tabl
     found : n ≡ sought y (getD (book-in x t .rows) k [])
     found = e ∙ ap (sought y) row-in
 
-    pub parameter-none : (pars-place + row-end t k) - (pars-place + row-start t k) ≤ n → Nothing ≡ seen-par (getD (book-in x t .rows) k []) (getD (book-in x t .types) k []) y
+    pub parameter-none : (pars-place + row-end t k) - (pars-place + row-start t k) ≤ n
+        → Nothing ≡ seen-par (getD (book-in x t .rows) k []) (getD (book-in x t .types) k []) y
     parameter-none h = par-none (getD (book-in x t .rows) k []) y found row-long (getD (book-in x t .types) k []) (omega (arith, h))
 
     pub parameter-one : n < (pars-place + row-end t k) - (pars-place + row-start t k)
@@ -105,7 +109,8 @@ module _ (x t : List ℕ) (b : Booked t) (k : ℕ) (inside : k < structs-of-tabl
     parameter-one h =
         let i : pars-place + row-start t k + n + rows-room ≡ types-place + row-start t k + n = omega arith in
         let v : getD t (pars-place + row-start t k + n + rows-room) 0 ≡ getD (getD (book-in x t .types) k []) n 0 =
-        ap (λ z. getD t z 0) i ∙ sym (part-at t (types-place + row-start t k) (types-place + row-end t k) n (omega (arith, h))) ∙ ap (λ l. getD l n 0) types-in in
+        ap (λ z. getD t z 0) i ∙ sym (part-at t (types-place + row-start t k) (types-place + row-end t k) n (omega (arith, h)))
+        ∙ ap (λ l. getD l n 0) types-in in
         par-one (getD (book-in x t .rows) k []) y found row-long (getD (book-in x t .types) k []) (omega (arith, h)) v
 
 -- Counts of a book --------------------------------------------------------------------------------
@@ -119,7 +124,8 @@ module _ (x t : List ℕ) (b : Booked t) where
 
 -- Locals ------------------------------------------------------------------------------------------
 
-module _ (x l : List ℕ) (n : ℕ) (long : length l ≡ bytes-end) (few : n ≤ max-locals) (y : Id) {k : ℕ} (e : k ≡ sought y (names-at x (part-of l (living-end - n) living-end))) where
+module _ (x l : List ℕ) (n : ℕ) (long : length l ≡ bytes-end) (few : n ≤ max-locals) (y : Id) {k : ℕ}
+    (e : k ≡ sought y (names-at x (part-of l (living-end - n) living-end))) where
   alive-long : length (names-at x (up-to l living-end n)) ≡ n
   alive-long =
       let e : living-end - (living-end - n) ≡ n = omega (arith, few) in
@@ -129,7 +135,8 @@ module _ (x l : List ℕ) (n : ℕ) (long : length l ≡ bytes-end) (few : n ≤
   alive-none h = local-none (names-at x (up-to l living-end n)) y e alive-long (up-to l numbers-end n) (up-to l bytes-end n) h
 
   pub alive-one : k < n
-      → Of (first-local + getD l (living-end - n + k + max-locals) 0) (getD l (living-end - n + k + living-end) 0) ≡ seen-local (names-at x (up-to l living-end n)) (up-to l numbers-end n) (up-to l bytes-end n) y
+      → Of (first-local + getD l (living-end - n + k + max-locals) 0) (getD l (living-end - n + k + living-end) 0)
+      ≡ seen-local (names-at x (up-to l living-end n)) (up-to l numbers-end n) (up-to l bytes-end n) y
   alive-one h =
       let i : living-end - n + k + max-locals ≡ numbers-end - n + k = omega (arith, few) in
       let j : living-end - n + k + living-end ≡ bytes-end - n + k = omega (arith, few) in
@@ -168,7 +175,8 @@ module _ (x t l : List ℕ) (c : Scope) (r : Roomy t l c) (y : Id) where
       ap (λ m. seen-local m (up-to l numbers-end alive) (up-to l bytes-end alive) y)
       (ap (names-at x) (rest living-end (omega arith)) ∙ map-drop (name-at x) (c .fresh) (up-to l living-end (c .living)))
       ∙ ap (λ m. seen-local (drop (c .fresh) (names-at x (up-to l living-end (c .living)))) m (up-to l bytes-end alive) y) (rest numbers-end (omega arith))
-      ∙ ap (λ m. seen-local (drop (c .fresh) (names-at x (up-to l living-end (c .living)))) (drop (c .fresh) (up-to l numbers-end (c .living))) m y) (rest bytes-end (omega arith))
+      ∙ ap (λ m. seen-local (drop (c .fresh) (names-at x (up-to l living-end (c .living)))) (drop (c .fresh) (up-to l numbers-end (c .living))) m y)
+      (rest bytes-end (omega arith))
 
   module _ (b : Book) where
     -- no struct is begun

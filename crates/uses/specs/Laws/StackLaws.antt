@@ -8,12 +8,13 @@ use mathlib.Core.Option.{some}
 use lib.ListN.{length, getD, set, take, drop, length-set, length-map}
 use lib.Seq.{drop-cons}
 use borrow.Author.Tests.{eq-eqb, ne-eqb}
+use Rattle.types.specs.ListLaws.{map-drop}
 use Rattle.derive.specs.Held.{held}
 use Rattle.derive.specs.HeldLaws.{held-set, held-push}
 use Rattle.meaning.specs.Meant.{provided}
 use Rattle.resolve.specs.Named.{name-at, names-at}
 use Rattle.resolve.specs.Using.{Use, due, live, last-of, use-goes, use-closes, use-dies, use-opens}
-use Rattle.uses.specs.Laws.PartLaws.{up-to, map-drop, mapped-long, part-behind, up-to-more, up-to-long, drop-up-to, last-up-to, last-all}
+use Rattle.uses.specs.Laws.PartLaws.{up-to, mapped-long, part-behind, up-to-more, up-to-long, drop-up-to, last-up-to, last-all}
 use Rattle.uses.specs.Lent.{use-in, Roomy, passed-in, Next}
 use Rattle.uses.specs.Seeing.{dued, lived}
 use Rattle.uses.specs.declared.Scope.{Scope}

@@ -9,6 +9,7 @@ use lib.ListN.{length, getD, take, drop, length-map}
 use lib.Seq.{sets}
 use lib.Dec.{leb}
 use borrow.Author.Tests.{leb-true}
+use Rattle.types.specs.ListLaws.{cons-eq}
 use Rattle.types.specs.Limits.{max-structs, step-names as max-names}
 use Rattle.syntax.specs.Syntax.{Id}
 use Rattle.meaning.specs.Finding.{distinct}
@@ -19,7 +20,7 @@ use Rattle.resolve.specs.Checks.{part-of, row-ok, between-all, rows-ok, narrow,
 use Rattle.resolve.specs.WellDeclared.{tables-ok}
 use Rattle.resolve.specs.Using.{Book}
 use Rattle.resolve.specs.Resolved.{cuts, book-at}
-use Rattle.uses.specs.Laws.PartLaws.{pair, map-part, part-at, part-part}
+use Rattle.uses.specs.Laws.PartLaws.{map-part, part-at, part-part}
 use Rattle.uses.specs.Lent.{structs-of-table, names-of-table, row-end, book-in, Rowed}
 use Rattle.uses.specs.Declaring.{Fronted, Tabled, type-bytes}
 use Rattle.uses.specs.Tabling.{structs-at, pars-at, steps-at, names-first, Front, Laid, tested}
@@ -105,7 +106,7 @@ cuts-map : {B : Type 0} (f : ℕ → B) (l o : List ℕ) → cuts (map f l) o �
 unfolding cuts
 cuts-map f l [] = refl
 cuts-map f l (a ∷ []) = refl
-cuts-map f l (a ∷ b ∷ o) = pair (sym (map-part f l a b)) (cuts-map f l (b ∷ o))
+cuts-map f l (a ∷ b ∷ o) = cons-eq (sym (map-part f l a b)) (cuts-map f l (b ∷ o))
 
 module _ (t : ℕ → ℕ → Bool) (l : List ℕ) (p q n : ℕ) (within : (a b : ℕ) → t a b ≡ true → b ≤ n) (room : n ≤ q - p) where
   cuts-within : (o : List ℕ) → between-all t o ≡ true → cuts (part-of l p q) o ≡ cuts (part-of l p (p + n)) o
@@ -115,7 +116,7 @@ module _ (t : ℕ → ℕ → Bool) (l : List ℕ) (p q n : ℕ) (within : (a b 
   cuts-within (a ∷ b ∷ o) e =
       let h = both-parts (t a b) (between-all t (b ∷ o)) e in
       let i = within a b (h .0) in
-      pair (part-part l p q a b (omega (arith, i, room)) ∙ sym (part-part l p (p + n) a b (omega (arith, i)))) (cuts-within (b ∷ o) (h .1))
+      cons-eq (part-part l p q a b (omega (arith, i, room)) ∙ sym (part-part l p (p + n) a b (omega (arith, i)))) (cuts-within (b ∷ o) (h .1))
 
 same-book : {a b : List Id} {c d : List (List Id)} {e f : List (List ℕ)} {g h : List Id} → a ≡ b → c ≡ d → e ≡ f → g ≡ h
     → _≡_ {A = Book} (record { structs = a; rows = c; types = e; steps = g }) (record { structs = b; rows = d; types = f; steps = h })
@@ -123,7 +124,8 @@ same-book i j k l = rw (i, j, k, l) refl
 
 -- A whole table --------------------------------------------------------------------------------------
 
-module _ {text roles t : List ℕ} (laid : Laid text roles t) (types : Front t types-place names-place (type-bytes text roles)) (fr : Fronted roles) (few : Few text roles) where
+module _ {text roles t : List ℕ} (laid : Laid text roles t) (types : Front t types-place names-place (type-bytes text roles)) (fr : Fronted roles)
+    (few : Few text roles) where
   abbrev s : ℕ
   s = structs-of-table t
 
@@ -163,7 +165,8 @@ module _ {text roles t : List ℕ} (laid : Laid text roles t) (types : Front t t
   row-within a b e = row-held text (pars-at roles) a b e .within
 
   -- rows of names and of types
-  name-rows : cuts (names-at text (part-of t pars-place types-place)) (part-of t offsets-place (offsets-place + 1 + s)) ≡ cuts (names-at text (pars-at roles)) (offsets new-par-role roles)
+  name-rows : cuts (names-at text (part-of t pars-place types-place)) (part-of t offsets-place (offsets-place + 1 + s))
+      ≡ cuts (names-at text (pars-at roles)) (offsets new-par-role roles)
   unfolding rows-ok
   name-rows =
       ap (cuts (names-at text (part-of t pars-place types-place))) rows-here ∙ cuts-map _ (part-of t pars-place types-place) (offsets new-par-role roles)
@@ -172,11 +175,13 @@ module _ {text roles t : List ℕ} (laid : Laid text roles t) (types : Front t t
       ∙ ap (λ l. cuts l (offsets new-par-role roles)) pars-here)
       ∙ sym (cuts-map _ (pars-at roles) (offsets new-par-role roles))
 
-  type-rows : cuts (part-of t types-place names-place) (part-of t offsets-place (offsets-place + 1 + s)) ≡ cuts (type-bytes text roles) (offsets new-par-role roles)
+  type-rows : cuts (part-of t types-place names-place) (part-of t offsets-place (offsets-place + 1 + s))
+      ≡ cuts (type-bytes text roles) (offsets new-par-role roles)
   unfolding rows-ok
   type-rows =
       ap (cuts (part-of t types-place names-place)) rows-here
-      ∙ cuts-within row t types-place names-place (length (places first-type-role last-par-type-role roles)) (λ a b e. let h = row-within a b e in let g = fr .types in omega (arith, h, g)) (few .types)
+      ∙ cuts-within row t types-place names-place (length (places first-type-role last-par-type-role roles))
+      (λ a b e. let h = row-within a b e in let g = fr .types in omega (arith, h, g)) (few .types)
       (offsets new-par-role roles) (few .rows)
       ∙ ap (λ l. cuts l (offsets new-par-role roles)) types-here
 
@@ -246,4 +251,5 @@ module _ {text roles t : List ℕ} (m : List ℕ) (laid : Laid text roles t) (ke
       → (r ≡ true → m ≡ sets (take rows-room (drop types-place t)) 0 (type-bytes text roles)) → r ≡ true → Tabled text roles (put types-place rows-room t m)
   fill-tabled fr e f g h =
       tabled-all laid-typed
-      (front-put types-place rows-room t m room many (take rows-room (drop types-place t)) (type-bytes text roles) (g h) (mid-long types-place rows-room t room)) fr (few-tested text roles fr e f)
+      (front-put types-place rows-room t m room many (take rows-room (drop types-place t)) (type-bytes text roles) (g h)
+      (mid-long types-place rows-room t room)) fr (few-tested text roles fr e f)

@@ -44,8 +44,10 @@ gathered-all text roles t₀ z {t} {p} {n} {k} long e f h c s =
     }
 
 -- the types of parameters, by places in tables of their own
-module _ (text roles z₁ z₂ : List ℕ) {n₁ n₂ : ℕ} {p₁ p₂ : List ℕ} (few : length (structs-at roles) ≤ max-structs) (slim : length (places first-type-role last-par-type-role roles) ≤ rows-room)
-    (e₁ : n₁ ≡ length (structs-at roles)) (f₁ : p₁ ≡ sets z₁ 0 (structs-at roles)) (m₁ : length z₁ ≡ max-structs) (e₂ : n₂ ≡ length (places first-type-role last-par-type-role roles))
+module _ (text roles z₁ z₂ : List ℕ) {n₁ n₂ : ℕ} {p₁ p₂ : List ℕ} (few : length (structs-at roles) ≤ max-structs)
+    (slim : length (places first-type-role last-par-type-role roles) ≤ rows-room)
+    (e₁ : n₁ ≡ length (structs-at roles)) (f₁ : p₁ ≡ sets z₁ 0 (structs-at roles)) (m₁ : length z₁ ≡ max-structs)
+    (e₂ : n₂ ≡ length (places first-type-role last-par-type-role roles))
     (f₂ : p₂ ≡ sets z₂ 0 (places first-type-role last-par-type-role roles)) (m₂ : length z₂ ≡ rows-room) where
   structs-held : take n₁ p₁ ≡ structs-at roles
   structs-held = front-held z₁ (structs-at roles) e₁ f₁ (omega (arith, e₁, few, m₁))
@@ -72,7 +74,8 @@ module _ (text roles z₁ z₂ : List ℕ) {n₁ n₂ : ℕ} {p₁ p₂ : List �
 -- Tests ------------------------------------------------------------------------------------------
 
 -- steps of few structs
-pub steps-narrowed : (roles z : List ℕ) {s : ℕ} {p : List ℕ} → s ≡ length (structs-at roles) → s ≤ max-structs → length z ≡ offsets-room → p ≡ sets z 0 (offsets new-step-role roles)
+pub steps-narrowed : (roles z : List ℕ) {s : ℕ} {p : List ℕ} → s ≡ length (structs-at roles) → s ≤ max-structs → length z ≡ offsets-room
+    → p ≡ sets z 0 (offsets new-step-role roles)
     → take (s + 1) p ≡ offsets new-step-role roles
 steps-narrowed roles z {s} {p} e h l f =
     let i = offsets-long new-step-role roles in
@@ -140,7 +143,8 @@ module _ {text roles t : List ℕ} (laid : Laid text roles t) (fr : Fronted role
 
     pub count-here : n ≡ length (pars-at roles)
     count-here =
-        sym (part-at t offsets-place (offsets-place + 1 + s) s (omega arith)) ∙ ap (λ l. getD l s 0) rows-here ∙ ap (λ k. getD (offsets new-par-role roles) k 0) (laid .count)
+        sym (part-at t offsets-place (offsets-place + 1 + s) s (omega arith)) ∙ ap (λ l. getD l s 0) rows-here
+        ∙ ap (λ k. getD (offsets new-par-role roles) k 0) (laid .count)
         ∙ offsets-last new-par-role roles
 
     different : {b : Bool} → b ≡ distinct (names-at text (take s t)) → b ≡ distinct (names-at text (structs-at roles))
@@ -164,14 +168,17 @@ module _ {text roles t : List ℕ} (laid : Laid text roles t) (fr : Fronted role
         pars-here : part-of t pars-place (pars-place + n) ≡ pars-at roles
         pars-here = ap (λ k. part-of t pars-place (pars-place + k)) count-here ∙ laid .pars (let e = count-here in omega (arith, e, slim))
 
-        rowed : {r : Bool} → r ≡ rows-ok text (part-of t pars-place (pars-place + n)) (part-of t offsets-place (offsets-place + 1 + s)) → r ≡ rows-ok text (pars-at roles) (offsets new-par-role roles)
+        rowed : {r : Bool} → r ≡ rows-ok text (part-of t pars-place (pars-place + n)) (part-of t offsets-place (offsets-place + 1 + s))
+            → r ≡ rows-ok text (pars-at roles) (offsets new-par-role roles)
         rowed e = e ∙ ap (λ l. rows-ok text l (part-of t offsets-place (offsets-place + 1 + s))) pars-here ∙ ap (rows-ok text (pars-at roles)) rows-here
 
-        pub well-rowless : {r : Bool} → r ≡ rows-ok text (part-of t pars-place (pars-place + n)) (part-of t offsets-place (offsets-place + 1 + s)) → r ≡ false → false ≡ tested text roles
+        pub well-rowless : {r : Bool} → r ≡ rows-ok text (part-of t pars-place (pars-place + n)) (part-of t offsets-place (offsets-place + 1 + s))
+            → r ≡ false → false ≡ tested text roles
         unfolding tested
         well-rowless e f = rw (tested, le-leb (length (structs-at roles)) max-structs at-most, ← different e₁, f₁, ← rowed e, f) refl
 
-        module _ {r : Bool} (e₂ : r ≡ rows-ok text (part-of t pars-place (pars-place + n)) (part-of t offsets-place (offsets-place + 1 + s))) (f₂ : r ≡ true) {u : Bool}
+        module _ {r : Bool} (e₂ : r ≡ rows-ok text (part-of t pars-place (pars-place + n)) (part-of t offsets-place (offsets-place + 1 + s)))
+            (f₂ : r ≡ true) {u : Bool}
             (e₃ : u ≡ narrow (offsets new-step-role roles)) where
           pub well-long : u ≡ false → false ≡ tested text roles
           unfolding tested

@@ -38,11 +38,13 @@ four (suc (suc (suc (suc n)))) h = absurd (omega arith)
 
 pub number-local : (c : ℕ) → local-int-role ≤ c → c < null-int-role → c - local-int-role ≡ number-at c
 unfolding number-at
-number-local c g h = let e : 4 + (c - local-int-role) ≡ c - first-type-role = omega (arith, g) in four (c - local-int-role) (omega (arith, h)) .0 ∙ ap (λ z. getD numbers z 0) e
+number-local c g h = let e : 4 + (c - local-int-role) ≡ c - first-type-role = omega (arith, g) in four (c - local-int-role) (omega (arith, h)) .0
+    ∙ ap (λ z. getD numbers z 0) e
 
 pub number-null : (c : ℕ) → null-int-role ≤ c → c < first-part-role → c - null-int-role ≡ number-at c
 unfolding number-at
-number-null c g h = let e : 8 + (c - null-int-role) ≡ c - first-type-role = omega (arith, g) in four (c - null-int-role) (omega (arith, h)) .1 ∙ ap (λ z. getD numbers z 0) e
+number-null c g h = let e : 8 + (c - null-int-role) ≡ c - first-type-role = omega (arith, g) in four (c - null-int-role) (omega (arith, h)) .1
+    ∙ ap (λ z. getD numbers z 0) e
 
 module _ (b : Book) (v : TypeName) (u : Use) where
   abbrev typeds : List Typed

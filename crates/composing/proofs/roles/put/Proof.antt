@@ -32,7 +32,8 @@ returns : tie.Need-returns
 returns c =
     let at-known = c .before in
     let args = at-known .before .before .before .before .args in (
-      put-none (length (args .out .now) - margin) (args .c) (args .v) (stands (args .out .now) (args .stack .now) (args .numbers .now) (args .p)) (c .if1 .taken),
+      put-none (length (args .out .now) - margin) (args .c) (args .v) (stands (args .out .now) (args .stack .now) (args .numbers .now) (args .p))
+          (c .if1 .taken),
       near-within (args .p .place) 1 1 (near-same (args .p)) (omega arith) (omega arith) (omega arith),
     )
 
