@@ -3,7 +3,7 @@
 use Prim.Native.Nat.{ℕ, suc, _+_, _*_, _^_, _<_, _≤_}
 use mathlib.Core.Path.{_≡_}
 use mathlib.Core.Logic.{_↔_}
-use mathlib.Core.Bool.{Bool, true, _&&_}
+use mathlib.Core.Bool.{Bool, true, false, _&&_}
 use mathlib.Core.Option.{some}
 use mathlib.Core.List.{List, [], _∷_, _++_, map}
 use lib.IntN.{ℤ}
@@ -83,6 +83,15 @@ use Rattle.orders.specs.Laws.OrderFreeLaws.{free-after}
 use Rattle.claims.specs.AnyRun.{run-jammed-exactly}
 use Rattle.step_part.specs.StepPart.{step-place, step-part}
 use Rattle.step_part.specs.StepPartLaws.{place-fits, place-part}
+use Rattle.tokens.specs.Marking.{kinds-in}
+use Rattle.text_shape.specs.CodeNames.{first-defs-code}
+use Rattle.text_shape.specs.Shape.{Shape.shape, derived}
+use Rattle.text_place.specs.Place.{stuck-from}
+use Rattle.text_place.specs.DeadLaws.{stuck-underived}
+use Rattle.table_words.specs.TableWords.{table-words}
+use Rattle.table_stream.specs.TableStream.{stream-of}
+use Rattle.table_stream.specs.StreamAgain.{Bytes as SmallBytes}
+use Rattle.table_stream.specs.TableAgain.{table-again}
 use Rattle.text.specs.Listing.{decimal, int-text}
 use Rattle.text.specs.Decimals.{InDecimal, integer}
 use Rattle.text.specs.DecimalLaws.{decimal-right, int-right}
@@ -271,3 +280,15 @@ number-listed = decimal-right
 
 pub int-listed : (z : ℤ) → IntRange z → integer (int-text (int-word z)) ≡ z
 int-listed = int-right
+
+-- Messages, and inputs as numbers ------------------------------------------------------------
+
+-- the place that is told beside 16 (02 asks for none): no derivation goes on with the token that stands there, whatever follows
+pub stuck-told : (kinds more : List ℕ) → stuck-from (shape first-defs-code []) kinds < length kinds
+    → derived (kinds-in (take (suc (stuck-from (shape first-defs-code []) kinds)) kinds) ++ more) ≡ false
+stuck-told = stuck-underived
+
+-- a table that is accepted, as numbers and these as a stream, is the stream that it was; cs are the counts of the structs' parameters
+pub numbers-read-back : (pss : List (List Ty)) (cs ts : List ℕ) → ((k : ℕ) → k < length pss → getD cs k 0 ≡ length (getD pss k []))
+    → (S : ℕ) (s : List ℕ) (rs : List Record) → SmallBytes s → table-of-stream pss s ≡ table rs → stream-of (table-words cs ts S s) ≡ s
+numbers-read-back = table-again

@@ -16,24 +16,25 @@ use Rattle.commands.specs.Bounds.{Within}
 use Rattle.verdict.specs.Verdict.{checked, refusal, check-verdict}
 use Rattle.tokens.specs.Tokens.{Token}
 use Rattle.tokens.specs.Lexing.{Lexed}
-use Rattle.tokens.specs.LexingLaws.{lexed-one as lexed-law}
+use Rattle.tokens.specs.Laws.LexingLaws.{lexed-one as lexed-law}
 use Rattle.syntax.specs.Syntax.{Exp, Exp.binary, Program as Derivation}
 use Rattle.syntax.specs.Yield.{yield}
 use Rattle.syntax.specs.Bracketing.{level, comparisons, Fits, Derives}
 use Rattle.syntax.specs.Bracketed.{BracketedProgram, NoComparison}
-use Rattle.syntax.specs.CompleteLaws.{one-derivation as derivation-law}
-use Rattle.syntax.specs.BracketLaws.{brackets-kept as brackets-law, no-two-comparisons as comparisons-law}
+use Rattle.syntax.specs.Laws.CompleteLaws.{one-derivation as derivation-law}
+use Rattle.syntax.specs.Laws.BracketLaws.{brackets-kept as brackets-law, no-two-comparisons as comparisons-law}
 use Rattle.meaning.specs.Holds.{max-stream}
 use Rattle.meaning.specs.Means.{Means}
 use Rattle.meaning.specs.Nesting.{Shallow}
 use Rattle.source.specs.Source.{Derived, Reading, NoTokens, text-order}
 use Rattle.source.specs.TextReader.{outcome, text-number, text-blocks, text-output}
-use Rattle.source.specs.SourceLaws.{derived-one as derived-law, one-reading as reading-law, text-refused-exactly as refused-law, text-written as written-law}
-use Rattle.source.specs.SourceLaws.{text-untouched as untouched-law, escapes-16 as escapes-law}
+use Rattle.source.specs.Laws.SourceLaws.{derived-one as derived-law, one-reading as reading-law, text-refused-exactly as refused-law}
+use Rattle.source.specs.Laws.SourceLaws.{text-written as written-law}
+use Rattle.source.specs.Laws.SourceLaws.{text-untouched as untouched-law, escapes-16 as escapes-law}
 use Rattle.source.specs.Stepping.{StepsRight}
 use Rattle.source.specs.Checking.{Answers, written-image, text-verdict, both-order}
-use Rattle.source.specs.CheckingLaws.{bytes-blocks, image-written, text-answered as answered-law, deep-exactly, seven-for-steps}
-use Rattle.source.specs.CheckingLaws.{text-checked as checked-law, text-order-exact as order-law}
+use Rattle.source.specs.Laws.CheckingLaws.{bytes-blocks, image-written, text-answered as answered-law, deep-exactly, seven-for-steps}
+use Rattle.source.specs.Laws.CheckingLaws.{text-checked as checked-law, text-order-exact as order-law}
 
 -- "The longest token is taken first": a text parts into tokens in one way at most,
 pub lexed-one : {x : List ℕ} {ts us : List Token} → Lexed x ts → Lexed x us → ts ≡ us

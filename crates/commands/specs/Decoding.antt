@@ -10,6 +10,7 @@ use Rattle.types.specs.Values.{value-of}
 use Rattle.program.specs.Reader.{Row.row, lookup, Form, Form.form-inv, Form.form-make, Form.form-path, Form.form-int, Form.form-nat, Form.form-bool}
 use Rattle.program.specs.Reader.{Form.form-null, Form.form-self, Form.form-op, Form.form-none, form}
 use Rattle.commands.specs.Commands.{Com.push, Com.push-this, Com.rd, Com.wr, Com.cons, Com.not, Com.oper, Flat, Flat.plain, Flat.if-n}
+use Rattle.commands.specs.CommandKinds.{if-kind, this-kind, push-kind, not-kind, cons-kind, op-kind, rd-kind, wr-kind}
 
 -- an operator, where its byte is one
 unfoldable pub operator : Form → Option Flat
@@ -28,14 +29,14 @@ operator form-none = none
 unfoldable pub command-of : ℕ → ℕ → ℕ → Option Flat
 command-of k t v =
     lookup (
-    row 8 (operator (form v))
-    ∷ row 7 (some (plain not))
-    ∷ row 6 (some (if-n v))
-    ∷ row 5 (some (plain (cons v)))
-    ∷ row 4 (some (plain (wr v)))
-    ∷ row 3 (some (plain (rd v)))
-    ∷ row 2 (some (plain push-this))
-    ∷ row 1 (some (plain (push (type-of t) (value-of (type-of t) v))))
+    row op-kind (operator (form v))
+    ∷ row not-kind (some (plain not))
+    ∷ row if-kind (some (if-n v))
+    ∷ row cons-kind (some (plain (cons v)))
+    ∷ row wr-kind (some (plain (wr v)))
+    ∷ row rd-kind (some (plain (rd v)))
+    ∷ row this-kind (some (plain push-this))
+    ∷ row push-kind (some (plain (push (type-of t) (value-of (type-of t) v))))
     ∷ []
     ) none k
 

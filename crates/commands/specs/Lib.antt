@@ -2,6 +2,7 @@ pub mod Commands
 pub mod Context
 pub mod Names
 pub mod Typing
+pub mod CommandKinds
 pub mod Coding
 pub mod Decoding
 pub mod Depth

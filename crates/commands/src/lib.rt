@@ -1,1 +1,2 @@
-// The definitions and laws of names, types, commands and depth stand in specs/.
+// The definitions and laws of names, types, commands and depth stand in specs/, the kinds of commands by name in `kind`.
+pub mod kind;

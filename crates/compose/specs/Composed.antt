@@ -9,12 +9,12 @@ use lib.Dec.{leb}
 use Rattle.meaning.specs.Holds.{max-stream}
 use Rattle.meaning.specs.Meant.{provided}
 use Rattle.resolve.specs.Named.{names-at}
-use Rattle.resolve.specs.Tables.{struct-byte, places, offsets}
+use Rattle.resolve.specs.Tables.{places, offsets}
 use Rattle.resolve.specs.Checks.{types-at}
-use Rattle.resolve.specs.WellDeclared.{par-byte}
 use Rattle.compose.specs.Writing.{Writing, Writing.writing, counted, start}
 use Rattle.compose.specs.Fits.{writes-at}
 use Rattle.compose.specs.Header.{header}
+use Rattle.text_shape.specs.RoleNames.{new-struct-role, new-par-role, first-type-role, last-par-type-role}
 
 unfoldable pub of-writing : List ℕ → Writing → Option (List ℕ)
 unfolding provided
@@ -28,8 +28,8 @@ composed-by offsets types text roles numbers = of-writing (header offsets types)
 
 -- the bytes of the types of a text's parameters
 abbrev pub type-bytes : List ℕ → List ℕ → List ℕ
-type-bytes text roles = types-at text roles (names-at text (places struct-byte struct-byte roles)) (places 51 54 roles)
+type-bytes text roles = types-at text roles (names-at text (places new-struct-role new-struct-role roles)) (places first-type-role last-par-type-role roles)
 
 unfoldable pub composed : List ℕ → List ℕ → List ℕ → Option (List ℕ)
 unfolding composed-by
-composed text roles numbers = composed-by (offsets par-byte roles) (type-bytes text roles) text roles numbers
+composed text roles numbers = composed-by (offsets new-par-role roles) (type-bytes text roles) text roles numbers

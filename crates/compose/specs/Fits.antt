@@ -9,6 +9,7 @@ use Rattle.resolve.specs.Digits.{nat-at, int-at}
 use Rattle.resolve.specs.declared.Word.{Word}
 use Rattle.resolve.specs.declared.Word.the-variants.{Of, Outside}
 use Rattle.compose.specs.Writing.{Writing, Writing.writing, put}
+use Rattle.tokens.specs.KindNames.{int-kind, nat-kind}
 
 unfoldable pub word-value : Word → ℕ
 word-value (Of n) = n
@@ -17,7 +18,7 @@ word-value Outside = 0
 -- the number of a literal at a place, by its role's byte; 0 of any other
 unfoldable pub value-at : List ℕ → ℕ → ℕ → ℕ
 value-at text i c =
-    elim (eqb c 37) [ true ↦ word-value (int-at text i) | false ↦ elim (eqb c 38) [ true ↦ word-value (nat-at text i) | false ↦ 0 ] ]
+    elim (eqb c int-kind) [ true ↦ word-value (int-at text i) | false ↦ elim (eqb c nat-kind) [ true ↦ word-value (nat-at text i) | false ↦ 0 ] ]
 
 -- of what stands in the places from i on
 unfoldable pub writes-at : List ℕ → ℕ → List ℕ → Writing → Writing

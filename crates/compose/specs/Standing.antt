@@ -6,7 +6,7 @@ use Rattle.types.specs.Limits.{nat-end}
 use Rattle.types.specs.Values.{in-int}
 use Rattle.tokens.specs.Tokens.{Token, Token.word, Token.sign, Token.op, Token.name, Token.int, Token.nat}
 use Rattle.meaning.specs.Values.{decimal, signed}
-use Rattle.derive.specs.Roles.{Role, Role.plain, Role.naming, Role.typed, Role.part}
+use Rattle.text_shape.specs.Roles.{Role, Role.plain, Role.naming, Role.typed, Role.part}
 
 unfoldable pub InsideToken : Token → Type 0
 InsideToken (word w) = Unit {0}

@@ -1,7 +1,7 @@
 -- The stream of a text's steps and schedule, written from its end: what each role does to what is written so far, from the last role to the first. An operator
--- waits until a looser one comes or its expression begins (02 §2), a count until its row begins. A role is taken by its byte (`derive/specs/Roles.antt`), a
+-- waits until a looser one comes or its expression begins (02 §2), a count until its row begins. A role is taken by its byte (`text_shape/specs/Roles.antt`), a
 -- literal with the number that it is.
-use Prim.Native.Nat.{ℕ, suc, _+_}
+use Prim.Native.Nat.{ℕ, suc, _+_, _-_}
 use mathlib.Core.Bool.{Bool, true, false, _&&_}
 use mathlib.Core.List.{List, [], _∷_, _++_}
 use lib.ListN.{getD}
@@ -11,7 +11,10 @@ use Rattle.types.specs.Values.{int-word}
 use Rattle.program.specs.Encoding.{enc-word}
 use Rattle.tokens.specs.Tokens.{Token, Token.word, Token.sign, Token.op, Token.name, Token.int, Token.nat}
 use Rattle.meaning.specs.Values.{decimal, signed}
-use Rattle.derive.specs.Roles.{Role, Role.plain, Role.naming, Role.typed, Role.part, code}
+use Rattle.text_shape.specs.Roles.{Role, Role.plain, Role.naming, Role.typed, Role.part, code}
+use Rattle.program.specs.Forms.{when-form, declare-form, update-form, create-form, inv-form, make-form, path-form, int-form, nat-form, bool-form}
+use Rattle.program.specs.Forms.{null-form, this-form, eq-form, mul-form, add-form, and-form, or-form, call-form, call-in-form, fix-form}
+use Rattle.tokens.specs.KindNames.{eq-kind}
 
 -- the bytes; what waits, the last one first: operators, 0 at the end of each expression that has not begun, and counts; the numbers that are left, the last one
 -- first; the later variables of the path at hand; whether counts keep to what a stream holds
@@ -60,11 +63,11 @@ unfoldable pub tightness : ℕ → ℕ
 tightness c =
     elim (eqb c 0) [
       | true ↦ 0
-      | false ↦ elim (ltb c 38) [
+      | false ↦ elim (ltb c mul-form) [
         | true ↦ 3
-        | false ↦ elim (ltb c 41) [
+        | false ↦ elim (ltb c add-form) [
           | true ↦ 5
-          | false ↦ elim (ltb c 43) [ true ↦ 4 | false ↦ elim (ltb c 44) [ true ↦ 2 | false ↦ 1 ] ]
+          | false ↦ elim (ltb c and-form) [ true ↦ 4 | false ↦ elim (ltb c or-form) [ true ↦ 2 | false ↦ 1 ] ]
         ]
       ]
     ]
@@ -107,10 +110,11 @@ behind-marks =
 -- the form's byte, 0 where there is none
 unfoldable pub forms : List ℕ
 forms =
-    0 ∷ 0 ∷ 1 ∷ 0 ∷ 22 ∷ 23 ∷ 3 ∷ 0 ∷ 0 ∷ 0 ∷ 0 ∷ 21 ∷ 21 ∷
-    0 ∷ 0 ∷ 0 ∷ 0 ∷ 0 ∷ 0 ∷ 0 ∷ 0 ∷ 0 ∷ 16 ∷
-    0 ∷ 0 ∷ 0 ∷ 0 ∷ 0 ∷ 0 ∷ 0 ∷ 0 ∷ 0 ∷ 0 ∷ 0 ∷ 0 ∷ 0 ∷ 0 ∷ 19 ∷ 20 ∷
-    0 ∷ 0 ∷ 0 ∷ 0 ∷ 18 ∷ 3 ∷ 0 ∷ 17 ∷ 4 ∷ 1 ∷ 2 ∷ 0 ∷ 0 ∷ 0 ∷ 0 ∷ 0 ∷ 2 ∷ 2 ∷ 2 ∷ 2 ∷ 0 ∷ 0 ∷ 0 ∷ 0 ∷
+    0 ∷ 0 ∷ when-form ∷ 0 ∷ null-form ∷ this-form ∷ fix-form ∷ 0 ∷ 0 ∷ 0 ∷ 0 ∷ bool-form ∷ bool-form ∷
+    0 ∷ 0 ∷ 0 ∷ 0 ∷ 0 ∷ 0 ∷ 0 ∷ 0 ∷ 0 ∷ inv-form ∷
+    0 ∷ 0 ∷ 0 ∷ 0 ∷ 0 ∷ 0 ∷ 0 ∷ 0 ∷ 0 ∷ 0 ∷ 0 ∷ 0 ∷ 0 ∷ 0 ∷ int-form ∷ nat-form ∷
+    0 ∷ 0 ∷ 0 ∷ 0 ∷ path-form ∷ update-form ∷ 0 ∷ make-form ∷ create-form ∷ call-form ∷ call-in-form ∷ 0 ∷ 0 ∷ 0 ∷ 0 ∷ 0 ∷
+    declare-form ∷ declare-form ∷ declare-form ∷ declare-form ∷ 0 ∷ 0 ∷ 0 ∷ 0 ∷
     0 ∷ 0 ∷ 0 ∷ 0 ∷ 0 ∷ 0 ∷ 0 ∷ 0 ∷ 0 ∷ 0 ∷ 0 ∷ 0 ∷ 0 ∷ 0 ∷ 0 ∷ 0 ∷ 0 ∷ 0 ∷ []
 
 unfoldable pub formed : ℕ → Writing → Writing
@@ -152,15 +156,19 @@ stack-marks =
     0 ∷ 0 ∷ 2 ∷ 0 ∷ 0 ∷ 1 ∷ 0 ∷ 0 ∷ 1 ∷ 1 ∷ 1 ∷ 0 ∷ 0 ∷ 0 ∷ 0 ∷ 0 ∷ 1 ∷ 1 ∷ 1 ∷ 1 ∷ 0 ∷ 0 ∷ 0 ∷ 0 ∷
     0 ∷ 3 ∷ 0 ∷ 3 ∷ 3 ∷ 0 ∷ 0 ∷ 4 ∷ 3 ∷ 0 ∷ 6 ∷ 4 ∷ 3 ∷ 4 ∷ 3 ∷ 0 ∷ 3 ∷ 0 ∷ []
 
--- a role's own bytes, and what waits behind them; the byte of an operator is 9 above its kind
+-- how far the byte of an operator in a stream is above its kind
+abbrev pub op-shift : ℕ
+op-shift = eq-form - eq-kind
+
+-- a role's own bytes, and what waits behind them
 unfoldable pub spelt : ℕ → ℕ → Writing → Writing
 unfolding behinds stackings behind-marks forms stack-marks formed
 spelt c v w =
-    getD (stackings (c + 9)) (getD stack-marks c 0) (λ w. w) (formed (getD forms c 0) (getD (behinds v) (getD behind-marks c 0) (λ w. w) w))
+    getD (stackings (c + op-shift)) (getD stack-marks c 0) (λ w. w) (formed (getD forms c 0) (getD (behinds v) (getD behind-marks c 0) (λ w. w) w))
 
 unfoldable pub put : ℕ → ℕ → Writing → Writing
 unfolding spelt pourings pour-marks
-put c v w = spelt c v (getD (pourings (c + 9)) (getD pour-marks c 0) (λ w. w) w)
+put c v w = spelt c v (getD (pourings (c + op-shift)) (getD pour-marks c 0) (λ w. w) w)
 
 -- Role by role, from the last one -----------------------------------------------------------------
 

@@ -1,3 +1,4 @@
+pub mod Sizes
 pub mod Pens
 pub mod PenLaws
 pub mod PouringLaws

@@ -9,15 +9,16 @@ use lib.ListN.{length, getD, set, drop, length-drop, length-set}
 use lib.Seq.{drop-cons, drop-length, getD-set-same}
 use lib.Dec.{eqb, leb}
 use borrow.Author.Tests.{eqb-true, leb-true, leb-false, le-leb, lt-leb}
-use Rattle.tokens.specs.ByteLaws.{both-true}
+use Rattle.tokens.specs.Laws.ByteLaws.{both-true}
 use Rattle.derive.specs.Held.{held}
 use Rattle.lexer.specs.Gaps.{Gap}
 use Rattle.lexer.specs.GapLaws.{gap-back}
 use Rattle.compose.specs.Writing.{Writing, Writing.writing, behinds, pourings, stackings, formed, spelt, put, start}
 use Rattle.composing.specs.Pens.{stands, Near}
 use Rattle.compose.specs.Fits.{kept, value-at, writes-at, fits, within}
-use Rattle.compose.specs.FitsLaws.{put-unfit, within-unfit, fits-within, within-one}
+use Rattle.compose.specs.Laws.FitsLaws.{put-unfit, within-unfit, fits-within, within-one}
 use Rattle.composing.specs.declared.Pen.{Pen}
+use Rattle.composing.specs.Sizes.{margin}
 
 -- Whether it fits ---------------------------------------------------------------------------------
 
@@ -31,19 +32,20 @@ unfolding stands kept
 kept-spoilt out stack numbers p e = rw e refl
 
 -- the room is six bytes less than there are, since a role writes so many at the most, but for operators that waited
-room-left : (out : List ℕ) (k : ℕ) → 6 ≤ length out → k ≤ length out → leb 6 k ≡ leb (length (drop k out)) (length out - 6)
-room-left out k a b = go (leb 6 k) refl
+room-left : (out : List ℕ) (k : ℕ) → margin ≤ length out → k ≤ length out → leb margin k ≡ leb (length (drop k out)) (length out - margin)
+room-left out k a b = go (leb margin k) refl
   where
-    go : (t : Bool) → leb 6 k ≡ t → t ≡ leb (length (drop k out)) (length out - 6)
-    go true e = let h = leb-true 6 k e in sym (le-leb (length (drop k out)) (length out - 6) (rw (length-drop k out) (omega (arith, h))))
-    go false e = let h = leb-false 6 k e in sym (lt-leb (length (drop k out)) (length out - 6) (rw (length-drop k out) (omega (arith, h))))
+    go : (t : Bool) → leb margin k ≡ t → t ≡ leb (length (drop k out)) (length out - margin)
+    go true e = let h = leb-true margin k e in sym (le-leb (length (drop k out)) (length out - margin) (rw (length-drop k out) (omega (arith, h))))
+    go false e = let h = leb-false margin k e in sym (lt-leb (length (drop k out)) (length out - margin) (rw (length-drop k out) (omega (arith, h))))
 
 -- what is tested of a pen is whether what it stands for fits
-pub tested : (out stack numbers : List ℕ) (p : Pen) (x : Writing) → 6 ≤ length out → p .place ≤ length out
-    → within (length out - 6) (stands out stack numbers p) ≡ within (length out - 6) x → (p .fits && leb 6 (p .place)) ≡ fits (length out - 6) x
+pub tested : (out stack numbers : List ℕ) (p : Pen) (x : Writing) → margin ≤ length out → p .place ≤ length out
+    → within (length out - margin) (stands out stack numbers p) ≡ within (length out - margin) x
+    → (p .fits && leb margin (p .place)) ≡ fits (length out - margin) x
 unfolding stands fits
 tested out stack numbers p x a b e =
-    rw (room-left out (p .place) a b) (fits-within (length out - 6) (stands out stack numbers p) x e)
+    rw (room-left out (p .place) a b) (fits-within (length out - margin) (stands out stack numbers p) x e)
 
 -- One place -----------------------------------------------------------------------------------------
 
@@ -84,7 +86,7 @@ pub record Reached (text roles numbers out₀ stack₀ out stack : List ℕ) (p 
   pub inner : i ≤ length roles
   pub state : stands out stack numbers p ≡ writes-at text i (drop i roles) (start (held numbers (length numbers)))
   pub good : p .fits ≡ true
-  pub front : 6 ≤ p .place
+  pub front : margin ≤ p .place
   pub behind : p .place ≤ length out
   pub low : p .height + i ≤ length roles + 1
   pub high : length roles < length stack
@@ -97,7 +99,7 @@ pub record Reached (text roles numbers out₀ stack₀ out stack : List ℕ) (p 
 abbrev pub first-pen : List ℕ → List ℕ → Pen
 first-pen out numbers = record { place = length out; height = 1; left = length numbers; later = 0; fits = true }
 
-pub reached-start : (text roles numbers out stack : List ℕ) → length roles < length stack → 6 ≤ length out
+pub reached-start : (text roles numbers out stack : List ℕ) → length roles < length stack → margin ≤ length out
     → Reached text roles numbers out (set stack 0 0) out (set stack 0 0) (first-pen out numbers) (length roles)
 unfolding stands writes-at held
 reached-start text roles numbers out stack l m =
@@ -142,14 +144,14 @@ module _ (text roles numbers out₀ stack₀ out stack : List ℕ) (p : Pen) whe
   reached-gap g r = gap-back (Reached text roles numbers out₀ stack₀ out stack p) (λ k l e t. past k (rw add-one at t) e) g r
 
   pub reached-end : (i : ℕ) → Reached text roles numbers out₀ stack₀ out stack p i → i ≡ 0
-      → kept (stands out stack numbers p) ≡ within (length out₀ - 6) (writes-at text 0 roles (at-end numbers))
+      → kept (stands out stack numbers p) ≡ within (length out₀ - margin) (writes-at text 0 roles (at-end numbers))
   reached-end i r e =
       let s : stands out stack numbers p ≡ writes-at text 0 roles (at-end numbers) = rw e at (r .state) in
-      let f : (p .fits && leb 6 (p .place)) ≡ fits (length out - 6) (stands out stack numbers p) =
+      let f : (p .fits && leb margin (p .place)) ≡ fits (length out - margin) (stands out stack numbers p) =
       tested out stack numbers p (stands out stack numbers p) (omega (arith, r .front, r .behind)) (r .behind) refl in
-      let t : (p .fits && leb 6 (p .place)) ≡ true = rw (r .good, le-leb 6 (p .place) (r .front)) refl in
-      let g : fits (length out₀ - 6) (writes-at text 0 roles (at-end numbers)) ≡ true = rw (← r .room, ← s) (sym f ∙ t) in
-      ap kept s ∙ sym (within-fits (length out₀ - 6) (writes-at text 0 roles (at-end numbers)) g)
+      let t : (p .fits && leb margin (p .place)) ≡ true = rw (r .good, le-leb margin (p .place) (r .front)) refl in
+      let g : fits (length out₀ - margin) (writes-at text 0 roles (at-end numbers)) ≡ true = rw (← r .room, ← s) (sym f ∙ t) in
+      ap kept s ∙ sym (within-fits (length out₀ - margin) (writes-at text 0 roles (at-end numbers)) g)
 
 -- A role ----------------------------------------------------------------------------------------------
 
@@ -162,7 +164,8 @@ pub record Took (text roles numbers out₀ stack₀ out stack : List ℕ) (p : P
   pub same-stack : length stack₁ ≡ length stack
   pub v : ℕ
   pub value : v ≡ value-at text (i - 1) (getD roles (i - 1) 0)
-  pub made : within (length out - 6) (stands out₁ stack₁ numbers q) ≡ within (length out - 6) (put (getD roles (i - 1) 0) v (stands out stack numbers p))
+  pub made : within (length out - margin) (stands out₁ stack₁ numbers q)
+      ≡ within (length out - margin) (put (getD roles (i - 1) 0) v (stands out stack numbers p))
 
 module _ {text roles numbers out₀ stack₀ out stack : List ℕ} {p : Pen} {out₁ stack₁ : List ℕ} {q : Pen} {i : ℕ}
     (k : Took text roles numbers out₀ stack₀ out stack p out₁ stack₁ q i) where
@@ -172,7 +175,7 @@ module _ {text roles numbers out₀ stack₀ out stack : List ℕ} {p : Pen} {ou
   abbrev role : Writing
   role = put (getD roles (i - 1) 0) (k .v) (stands out stack numbers p)
 
-  made-here : within (length out₁ - 6) (stands out₁ stack₁ numbers q) ≡ within (length out₁ - 6) role
+  made-here : within (length out₁ - margin) (stands out₁ stack₁ numbers q) ≡ within (length out₁ - margin) role
   made-here = rw (k .same-out) (k .made)
 
   is-left : role ≡ writes-at text (i - 1) (drop (i - 1) roles) (at-end numbers)
@@ -184,20 +187,20 @@ module _ {text roles numbers out₀ stack₀ out stack : List ℕ} {p : Pen} {ou
       ∙ ap (put (getD roles (i - 1) 0) (value-at text (i - 1) (getD roles (i - 1) 0))) s
       ∙ sym (from-next text roles (at-end numbers) (i - 1) (omega (arith, k .more, r .inner)))
 
-  fits-left : (q .fits && leb 6 (q .place)) ≡ fits (length out₁ - 6) role
+  fits-left : (q .fits && leb margin (q .place)) ≡ fits (length out₁ - margin) role
   fits-left =
       tested out₁ stack₁ numbers q role (omega (arith, r .front, r .behind, k .same-out)) (omega (arith, k .near .behind, r .behind, k .same-out)) made-here
 
-  pub reached-token : (q .fits && leb 6 (q .place)) ≡ true → Reached text roles numbers out₀ stack₀ out₁ stack₁ q (i - 1)
+  pub reached-token : (q .fits && leb margin (q .place)) ≡ true → Reached text roles numbers out₀ stack₀ out₁ stack₁ q (i - 1)
   reached-token t =
-      let two = both-true (q .fits) (leb 6 (q .place)) t in
-      let f : fits (length out₁ - 6) (stands out₁ stack₁ numbers q) ≡ true =
-      fits-within (length out₁ - 6) (stands out₁ stack₁ numbers q) role made-here ∙ sym fits-left ∙ t in
+      let two = both-true (q .fits) (leb margin (q .place)) t in
+      let f : fits (length out₁ - margin) (stands out₁ stack₁ numbers q) ≡ true =
+      fits-within (length out₁ - margin) (stands out₁ stack₁ numbers q) role made-here ∙ sym fits-left ∙ t in
       record {
         inner = omega (arith, r .inner);
-        state = within-one (length out₁ - 6) (stands out₁ stack₁ numbers q) role f made-here ∙ is-left;
+        state = within-one (length out₁ - margin) (stands out₁ stack₁ numbers q) role f made-here ∙ is-left;
         good = two .0;
-        front = leb-true 6 (q .place) (two .1);
+        front = leb-true margin (q .place) (two .1);
         behind = omega (arith, k .near .behind, r .behind, k .same-out);
         low = omega (arith, k .near .height, r .low, k .more);
         high = omega (arith, r .high, k .same-stack);
@@ -207,13 +210,13 @@ module _ {text roles numbers out₀ stack₀ out stack : List ℕ} {p : Pen} {ou
         tall = k .same-stack ∙ r .tall;
       }
 
-  refused : (q .fits && leb 6 (q .place)) ≡ false → within (length out₀ - 6) (writes-at text 0 roles (at-end numbers)) ≡ writing [] [] [] 0 false
+  refused : (q .fits && leb margin (q .place)) ≡ false → within (length out₀ - margin) (writes-at text 0 roles (at-end numbers)) ≡ writing [] [] [] 0 false
   refused t =
-      let f : fits (length out₁ - 6) (writes-at text (i - 1) (drop (i - 1) roles) (at-end numbers)) ≡ false =
-      ap (fits (length out₁ - 6)) (sym is-left) ∙ sym fits-left ∙ t in
-      within-unfit (length out₀ - 6) (writes-at text 0 roles (at-end numbers))
-      (rw (k .same-out ∙ r .room) at (unfit-all text roles (at-end numbers) (length out₁ - 6) (i - 1) (omega (arith, r .inner)) f))
+      let f : fits (length out₁ - margin) (writes-at text (i - 1) (drop (i - 1) roles) (at-end numbers)) ≡ false =
+      ap (fits (length out₁ - margin)) (sym is-left) ∙ sym fits-left ∙ t in
+      within-unfit (length out₀ - margin) (writes-at text 0 roles (at-end numbers))
+      (rw (k .same-out ∙ r .room) at (unfit-all text roles (at-end numbers) (length out₁ - margin) (i - 1) (omega (arith, r .inner)) f))
 
-  pub reached-refused : (q .fits && leb 6 (q .place)) ≡ false → (s : Pen) → s .fits ≡ false
-      → kept (stands out₁ stack₁ numbers s) ≡ within (length out₀ - 6) (writes-at text 0 roles (at-end numbers))
+  pub reached-refused : (q .fits && leb margin (q .place)) ≡ false → (s : Pen) → s .fits ≡ false
+      → kept (stands out₁ stack₁ numbers s) ≡ within (length out₀ - margin) (writes-at text 0 roles (at-end numbers))
   reached-refused t s f = kept-spoilt out₁ stack₁ numbers s f ∙ sym (refused t)

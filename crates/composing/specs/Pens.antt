@@ -7,6 +7,7 @@ use lib.ListN.{drop}
 use Rattle.derive.specs.Held.{held}
 use Rattle.compose.specs.Writing.{Writing, Writing.writing}
 use Rattle.composing.specs.declared.Pen.{Pen}
+use Rattle.composing.specs.Sizes.{margin}
 
 unfoldable pub stands : List ℕ → List ℕ → List ℕ → Pen → Writing
 stands out stack numbers p = writing (drop (p .place) out) (held stack (p .height)) (held numbers (p .left)) (p .later) (p .fits)
@@ -29,7 +30,7 @@ pub record Near (b h l : ℕ) (p r : Pen) : Type 0 where
 
 -- a pen behind operators that were written: with room for a role's own bytes, and with no more that wait
 pub record Poured (p r : Pen) : Type 0 where
-  pub front : 6 ≤ r .place
+  pub front : margin ≤ r .place
   pub behind : r .place ≤ p .place
   pub height : r .height ≤ p .height
   pub left : r .left ≡ p .left

@@ -1,4 +1,4 @@
--- The whole stream in memory: one law for each way through `stream`. The output has 146 bytes more than a stream at the most, so every test is exact.
+-- The whole stream in memory: one law for each way through `stream`. The output has `front-most` bytes more than a stream at the most, so every test is exact.
 use Prim.Native.Nat.{ℕ, _+_, _-_, _<_, _≤_}
 use native.Mathlib.Omega.{arith}
 use mathlib.Core.Path.{_≡_, refl, sym, ap, _∙_}
@@ -16,6 +16,7 @@ use Rattle.compose.specs.Fits.{kept, within}
 use Rattle.compose.specs.Composed.{of-writing}
 use Rattle.composing.specs.Pens.{stands}
 use Rattle.composing.specs.declared.Pen.{Pen}
+use Rattle.composing.specs.Sizes.{margin, front-most, output-size}
 
 -- what is written is more than a stream holds
 long-none : (head s w n : List ℕ) (l : ℕ) (f : Bool) → max-stream < length (head ++ s) → none ≡ of-writing head (writing s w n l f)
@@ -59,11 +60,11 @@ fit-is s w n l room (writing s' w' n' l' f) e = go f (leb (length s') room) refl
     go true true p q = rw p (rw (p, q) at e)
 
 -- what is written as far as it fits, by a pen in an output as it was and as it is
-module _ (head out₀ out stack numbers : List ℕ) (p : Pen) (x : Writing) (size : length out₀ ≡ 32402) (same : length out ≡ length out₀)
-    (state : kept (stands out stack numbers p) ≡ within (length out₀ - 6) x) where
+module _ (head out₀ out stack numbers : List ℕ) (p : Pen) (x : Writing) (size : length out₀ ≡ output-size) (same : length out ≡ length out₀)
+    (state : kept (stands out stack numbers p) ≡ within (length out₀ - margin) x) where
   pub placed-unfit : p .fits ≡ false → none ≡ of-writing head (counted x)
   unfolding stands kept
-  placed-unfit e = unfit-none head (length out₀ - 6) x (omega (arith, size)) (sym state ∙ rw e refl)
+  placed-unfit e = unfit-none head (length out₀ - margin) x (omega (arith, size)) (sym state ∙ rw e refl)
 
   module _ (fit : p .fits ≡ true) where
     pub fit-stands : x ≡ stands out stack numbers p
@@ -72,11 +73,11 @@ module _ (head out₀ out stack numbers : List ℕ) (p : Pen) (x : Writing) (siz
         let whole : kept (stands out stack numbers p) ≡ stands out stack numbers p = rw fit refl in
         let as-it-is : stands out stack numbers p
         ≡ writing (drop (p .place) out) (held stack (p .height)) (held numbers (p .left)) (p .later) true = rw fit refl in
-        let found : within (length out₀ - 6) x ≡ writing (drop (p .place) out) (held stack (p .height)) (held numbers (p .left)) (p .later) true =
+        let found : within (length out₀ - margin) x ≡ writing (drop (p .place) out) (held stack (p .height)) (held numbers (p .left)) (p .later) true =
         sym state ∙ whole ∙ as-it-is in
-        fit-is (drop (p .place) out) (held stack (p .height)) (held numbers (p .left)) (p .later) (length out₀ - 6) x found ∙ sym as-it-is
+        fit-is (drop (p .place) out) (held stack (p .height)) (held numbers (p .left)) (p .later) (length out₀ - margin) x found ∙ sym as-it-is
 
-    pub placed-long : p .place ≤ length out → p .place ≤ 146 → none ≡ of-writing head (counted x)
+    pub placed-long : p .place ≤ length out → p .place ≤ front-most → none ≡ of-writing head (counted x)
     unfolding stands
     placed-long inner h =
         long-counted head (drop (p .place) out) (held stack (p .height)) (held numbers (p .left)) (p .later) (p .fits)
@@ -91,17 +92,17 @@ module _ (head out stack numbers : List ℕ) (p : Pen) (y : Writing) (state : st
       bad-none head (drop (p .place) out) (held stack (p .height)) (held numbers (p .left)) (p .later) (p .fits) e ∙ ap (of-writing head) state
 
   -- with the header in front
-  module _ (out₁ : List ℕ) (at : ℕ) (size : length out₁ ≡ 32402) (bytes : drop at out₁ ≡ head ++ drop (p .place) out) where
-    in-all : length (head ++ drop (p .place) out) ≡ 32402 - at
+  module _ (out₁ : List ℕ) (at : ℕ) (size : length out₁ ≡ output-size) (bytes : drop at out₁ ≡ head ++ drop (p .place) out) where
+    in-all : length (head ++ drop (p .place) out) ≡ output-size - at
     in-all = ap length (sym bytes) ∙ length-drop at out₁ ∙ ap (λ n. n - at) size
 
-    pub placed-over : at < 146 → none ≡ of-writing head y
+    pub placed-over : at < front-most → none ≡ of-writing head y
     unfolding stands
     placed-over h =
         long-none head (drop (p .place) out) (held stack (p .height)) (held numbers (p .left)) (p .later) (p .fits) (omega (arith, h, in-all))
         ∙ ap (of-writing head) state
 
-    pub placed-at : p .fits ≡ true → 146 ≤ at → some (drop at out₁) ≡ of-writing head y
+    pub placed-at : p .fits ≡ true → front-most ≤ at → some (drop at out₁) ≡ of-writing head y
     unfolding stands of-writing provided
     placed-at fit h =
         let l : leb (length (head ++ drop (p .place) out)) max-stream ≡ true =

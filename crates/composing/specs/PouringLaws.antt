@@ -1,18 +1,20 @@
 -- Operators that waited and are written in memory (02 §2): how tight a byte binds, the loop over what waits, and where an expression begins.
-use Prim.Native.Nat.{ℕ, zero, suc, _-_, _<_, _≤_}
+use Prim.Native.Nat.{ℕ, _-_, _<_, _≤_}
 use native.Mathlib.Omega.{arith}
 use mathlib.Core.Path.{_≡_, refl, sym, ap, _∙_}
 use mathlib.Core.Bool.{Bool}
-use mathlib.Core.List.{List, [], _∷_}
+use mathlib.Core.List.{List, _∷_}
 use lib.ListN.{length, getD, set, drop, length-drop, length-set}
 use borrow.Author.Tests.{eq-eqb, ne-eqb, lt-ltb, le-ltb}
 use Rattle.derive.specs.Held.{held}
-use Rattle.compose.specs.Writing.{Writing, Writing.writing, tightness, pour, poured, passed, begun, pourings}
+use Rattle.compose.specs.Writing.{Writing.writing, tightness, pour, poured, passed, begun}
 use Rattle.compose.specs.Fits.{kept, within}
-use Rattle.compose.specs.FitsLaws.{within-unfit, passed-within, pour-unfit}
+use Rattle.compose.specs.Laws.FitsLaws.{within-unfit, passed-within, pour-unfit}
 use Rattle.composing.specs.Pens.{stands, Spoilt, Popped, Near, Poured}
 use Rattle.composing.specs.PenLaws.{drop-front, held-top, held-none, spoilt-stands, popped-stands}
 use Rattle.composing.specs.declared.Pen.{Pen}
+use Rattle.composing.specs.Sizes.{margin}
+use Rattle.program.specs.Forms.{mul-form, add-form, and-form, or-form}
 
 -- How tight a byte binds ---------------------------------------------------------------------------
 
@@ -22,26 +24,26 @@ module _ (c : ℕ) where
   tight-none e = rw (eq-eqb c 0 e, tightness) refl
 
   module _ (n : c ≡ 0 → ⊥) where
-    pub tight-comparison : c < 38 → 3 ≡ tightness c
+    pub tight-comparison : c < mul-form → 3 ≡ tightness c
     unfolding tightness
-    tight-comparison h = rw (ne-eqb c 0 n, lt-ltb c 38 h, tightness) refl
+    tight-comparison h = rw (ne-eqb c 0 n, lt-ltb c mul-form h, tightness) refl
 
-    pub tight-product : 38 ≤ c → c < 41 → 5 ≡ tightness c
+    pub tight-product : mul-form ≤ c → c < add-form → 5 ≡ tightness c
     unfolding tightness
-    tight-product a h = rw (ne-eqb c 0 n, le-ltb c 38 a, lt-ltb c 41 h, tightness) refl
+    tight-product a h = rw (ne-eqb c 0 n, le-ltb c mul-form a, lt-ltb c add-form h, tightness) refl
 
-    pub tight-sum : 41 ≤ c → c < 43 → 4 ≡ tightness c
+    pub tight-sum : add-form ≤ c → c < and-form → 4 ≡ tightness c
     unfolding tightness
-    tight-sum a h = rw (ne-eqb c 0 n, le-ltb c 38 (omega arith), le-ltb c 41 a, lt-ltb c 43 h, tightness) refl
+    tight-sum a h = rw (ne-eqb c 0 n, le-ltb c mul-form (omega arith), le-ltb c add-form a, lt-ltb c and-form h, tightness) refl
 
-    pub tight-and : 43 ≤ c → c < 44 → 2 ≡ tightness c
+    pub tight-and : and-form ≤ c → c < or-form → 2 ≡ tightness c
     unfolding tightness
-    tight-and a h = rw (ne-eqb c 0 n, le-ltb c 38 (omega arith), le-ltb c 41 (omega arith), le-ltb c 43 a, lt-ltb c 44 h, tightness) refl
+    tight-and a h = rw (ne-eqb c 0 n, le-ltb c mul-form (omega arith), le-ltb c add-form (omega arith), le-ltb c and-form a, lt-ltb c or-form h, tightness) refl
 
-    pub tight-or : 44 ≤ c → 1 ≡ tightness c
+    pub tight-or : or-form ≤ c → 1 ≡ tightness c
     unfolding tightness
     tight-or a =
-        rw (ne-eqb c 0 n, le-ltb c 38 (omega arith), le-ltb c 41 (omega arith), le-ltb c 43 (omega arith), le-ltb c 44 a, tightness) refl
+        rw (ne-eqb c 0 n, le-ltb c mul-form (omega arith), le-ltb c add-form (omega arith), le-ltb c and-form (omega arith), le-ltb c or-form a, tightness) refl
 
 -- One that waits -----------------------------------------------------------------------------------
 
@@ -58,7 +60,7 @@ module _ (t c : ℕ) (s w n : List ℕ) (l : ℕ) (f : Bool) where
 
 -- from the pen p, with the output before the loop and now, the next place and how many still wait
 pub record Pouring (out₀ stack : List ℕ) (p : Pen) (t : ℕ) (out : List ℕ) (at h : ℕ) : Type 0 where
-  pub front : 6 ≤ at
+  pub front : margin ≤ at
   pub behind : at ≤ p .place
   pub low : h ≤ p .height
   pub tall : p .height ≤ length stack
@@ -67,7 +69,7 @@ pub record Pouring (out₀ stack : List ℕ) (p : Pen) (t : ℕ) (out : List ℕ
   pub state : (n : List ℕ) → pour t (drop at out) (held stack h) n (p .later) (p .fits)
       ≡ pour t (drop (p .place) out₀) (held stack (p .height)) n (p .later) (p .fits)
 
-pub pouring-start : (out stack : List ℕ) (p : Pen) (t : ℕ) → 6 ≤ p .place → p .place ≤ length out → p .height ≤ length stack
+pub pouring-start : (out stack : List ℕ) (p : Pen) (t : ℕ) → margin ≤ p .place → p .place ≤ length out → p .height ≤ length stack
     → Pouring out stack p t out (p .place) (p .height)
 pouring-start out stack p t a b c =
     record { front = a; behind = omega arith; low = omega arith; tall = c; inner = b; same = refl; state = λ n. refl }
@@ -78,7 +80,7 @@ pen-at p at h = record { place = at; height = h; left = p .left; later = p .late
 
 module _ {out₀ stack : List ℕ} {p : Pen} {t : ℕ} {out : List ℕ} {at h : ℕ} (r : Pouring out₀ stack p t out at h) where
   abbrev room : ℕ
-  room = length out₀ - 6
+  room = length out₀ - margin
 
   abbrev top : ℕ
   top = getD stack (h - 1) 0
@@ -127,7 +129,7 @@ module _ {out₀ stack : List ℕ} {p : Pen} {t : ℕ} {out : List ℕ} {at h : 
           rw above (pour-tighter t top (drop at out) (held stack (h - 1)) n (p .later) (p .fits) l) in
           sym here ∙ r .state n
 
-      pub pouring-next : 6 < at → Pouring out₀ stack p t (set out (at - 1) top) (at - 1) (h - 1)
+      pub pouring-next : margin < at → Pouring out₀ stack p t (set out (at - 1) top) (at - 1) (h - 1)
       pouring-next a =
           record {
             front = omega arith;
@@ -140,7 +142,7 @@ module _ {out₀ stack : List ℕ} {p : Pen} {t : ℕ} {out : List ℕ} {at h : 
           }
 
       -- one more than there is room for
-      pub pouring-over : at ≤ 6 → (q : Pen) → Spoilt p q → (n : List ℕ)
+      pub pouring-over : at ≤ margin → (q : Pen) → Spoilt p q → (n : List ℕ)
           → within room (stands out stack n q) ≡ within room (poured t (stands out₀ stack n p))
       unfolding stands poured within kept
       pouring-over a q e n =
@@ -188,5 +190,5 @@ near-poured a n =
     }
 
 -- what is not poured
-pub poured-same : (p : Pen) → 6 ≤ p .place → Poured p p
+pub poured-same : (p : Pen) → margin ≤ p .place → Poured p p
 poured-same p h = record { front = h; behind = omega arith; height = omega arith; left = refl; later = refl }

@@ -1,11 +1,12 @@
--- The tables of what roles do (`compose/specs/Writing.antt`) in a row: a number is the byte that is 48 above it.
+-- The tables of what roles do (`compose/specs/Writing.antt`) in a row: a number is the byte of a digit's place above that of 0.
 use Prim.Native.Nat.{ℕ, _+_}
 use mathlib.Core.List.{List, [], _∷_, _++_}
 use Rattle.compose.specs.Writing.{behind-marks, forms, stack-marks, pour-marks}
+use Rattle.tokens.specs.Bytes.{zero-byte}
 
 unfoldable pub shifted : List ℕ → List ℕ
 shifted [] = []
-shifted (b ∷ l) = (48 + b) ∷ shifted l
+shifted (b ∷ l) = (zero-byte + b) ∷ shifted l
 
 unfoldable pub in-a-row : List (List ℕ) → List ℕ
 unfolding shifted

@@ -7,8 +7,9 @@ use mathlib.Core.List.{List, _∷_, _++_, append-assoc}
 use lib.ListN.{length, getD, set, drop, length-set}
 use lib.Seq.{slice, slice-empty, slice-cons}
 use Rattle.compose.specs.Header.{row-of, header, Rows}
-use Rattle.compose.specs.HeaderLaws.{row-is, rest, none-left, parts-on, parts-count}
+use Rattle.compose.specs.Laws.HeaderLaws.{row-is, rest, none-left, parts-on, parts-count}
 use Rattle.composing.specs.PenLaws.{drop-front}
+use Rattle.composing.specs.Sizes.{front-most}
 
 -- A row ----------------------------------------------------------------------------------------------
 
@@ -97,7 +98,7 @@ module _ (out₀ offsets types out : List ℕ) (place p : ℕ) where
   rows-on out₁ q (suc j) r l rows e f s = rw sub-one (before out₁ q j r rows (rw sub-one at e) (rw sub-one at f) s)
 
   -- what a row asks: its offsets, room in front
-  pub row-fits : (k : ℕ) → RowsReached out₀ offsets types out place p k → 0 < k → Rows offsets types → 146 ≤ place → place ≤ length out₀
+  pub row-fits : (k : ℕ) → RowsReached out₀ offsets types out place p k → 0 < k → Rows offsets types → front-most ≤ place → place ≤ length out₀
       → (getD offsets (k - 1) 0 ≤ getD offsets k 0) × (getD offsets k 0 ≤ getD offsets (k - 1) 0 + 8) × (getD offsets k 0 ≤ length types)
       × (getD offsets k 0 + 1 ≤ p + getD offsets (k - 1) 0) × (p ≤ length out)
   row-fits zero r l rows m n = absurd (omega arith)

@@ -6,6 +6,7 @@ ghost use Prim.Native.Nat.{ℕ, _+_, _≤_, _<_};
 ghost use lib.ListN.{length, getD, drop};
 ghost use lib.Seq.{slice};
 ghost use Rattle.compose.specs.Header.{row-of, header, Rows};
+ghost use Rattle.composing.specs.Sizes.{front-most};
 
 // The bytes of a table from a to b and their count, in front of a place.
 fn row(out: &mut [u8], types: &[usize], a: usize, b: usize, place: usize) -> usize
@@ -28,9 +29,9 @@ fn row(out: &mut [u8], types: &[usize], a: usize, b: usize, place: usize) -> usi
 
 // Every row and their count, in front of a place.
 pub fn write_header(out: &mut [u8], types: &[usize], offsets: &[usize], place: usize) -> usize
-    requires { ⌜ (146 ≤ place) × (place ≤ length (now out)) × Rows (now offsets) (now types) ⌝ }
+    requires { ⌜ (front-most ≤ place) × (place ≤ length (now out)) × Rows (now offsets) (now types) ⌝ }
     ensures { λ r. ⌜ drop r (now (out .exit)) ≡ (header (now (offsets .entry)) (now (types .entry)) ++ drop place (now (out .entry))) ⌝ }
-    ensures { λ r. ⌜ (r ≤ place) × (place ≤ r + 146) ⌝ }
+    ensures { λ r. ⌜ (r ≤ place) × (place ≤ r + front-most) ⌝ }
 {
     let mut p = place;
     let mut k = offsets.len() - 1;

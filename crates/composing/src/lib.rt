@@ -3,12 +3,14 @@ mod bytes;
 mod header;
 mod pouring;
 mod roles;
+pub mod sizes;
 mod table;
 mod waiting;
 
 use lexer::gaps;
 use resolve::Word;
 use resolve::literals;
+use tokens::kind;
 ghost use mathlib.Core.Path.{_≡_};
 ghost use mathlib.Core.Bool.{_&&_};
 ghost use Prim.Native.Nat.{_-_, _≤_, _<_};
@@ -22,17 +24,7 @@ ghost use Rattle.composing.specs.Placing.{placed-in};
 ghost use Rattle.compose.specs.Fits.{word-value, value-at, writes-at, kept, within};
 ghost use Rattle.compose.specs.Header.{Rows};
 ghost use Rattle.compose.specs.Composed.{composed-by};
-
-// The bytes that a role writes at the most, but for operators that waited.
-const MARGIN: usize = 6;
-
-// The bytes in front of the longest stream: as many as there are to the output that `stream` writes to, less those of a stream at the most.
-const FRONT: usize = 146;
-
-// The roles of literals.
-const INT: u8 = 37;
-
-const NAT: u8 = 38;
+ghost use Rattle.composing.specs.Sizes.{margin, output-size};
 
 // Where writing stands: the place of the first byte written, how many operators and counts wait, how many numbers are left, the later variables of the path at
 // hand, and whether counts keep to what a stream holds.
@@ -64,10 +56,10 @@ fn literal(text: &[u8], i: usize, c: u8) -> u32
     requires { ⌜ i < length (now text) ⌝ }
     ensures { λ r. ⌜ r ≡ value-at (now (text .entry)) i c ⌝ }
 {
-    if c == INT {
+    if c == kind::INT {
         return number(literals::int_word(text, i));
     }
-    if c == NAT {
+    if c == kind::NAT {
         return number(literals::nat_word(text, i));
     }
     0
@@ -75,10 +67,10 @@ fn literal(text: &[u8], i: usize, c: u8) -> u32
 
 // Whether another role has room, too.
 fn roomy(p: Pen) -> bool
-    ensures { λ r. ⌜ r ≡ (p .fits && leb 6 (p .place)) ⌝ }
+    ensures { λ r. ⌜ r ≡ (p .fits && leb margin (p .place)) ⌝ }
 {
     if p.fits {
-        return p.place >= MARGIN;
+        return p.place >= sizes::MARGIN;
     }
     false
 }
@@ -93,7 +85,7 @@ fn written(
     out: &mut [u8],
 ) -> Pen
     requires { ⌜ now marks ≡ mark-bytes ⌝ }
-    requires { ⌜ (length (now roles) ≤ length (now text)) × (length (now roles) < length (now stack)) × (6 ≤ length (now out)) ⌝ }
+    requires { ⌜ (length (now roles) ≤ length (now text)) × (length (now roles) < length (now stack)) × (margin ≤ length (now out)) ⌝ }
     ensures { λ r. ⌜ kept (stands (now (out .exit)) (now (stack .exit)) (now (numbers .entry)) r)
         ≡ within (length (now (out .entry)) - 6)
         (writes-at (now (text .entry)) 0 (now (roles .entry)) (start (held (now (numbers .entry)) (length (now (numbers .entry)))))) ⌝ }
@@ -123,7 +115,7 @@ fn written(
 
 // The same, by tables that are lent once.
 fn write(text: &[u8], roles: &[u8], numbers: &[u8], stack: &mut [u8], out: &mut [u8]) -> Pen
-    requires { ⌜ (length (now roles) ≤ length (now text)) × (length (now roles) < length (now stack)) × (6 ≤ length (now out)) ⌝ }
+    requires { ⌜ (length (now roles) ≤ length (now text)) × (length (now roles) < length (now stack)) × (margin ≤ length (now out)) ⌝ }
     ensures { λ r. ⌜ kept (stands (now (out .exit)) (now (stack .exit)) (now (numbers .entry)) r)
         ≡ within (length (now (out .entry)) - 6)
         (writes-at (now (text .entry)) 0 (now (roles .entry)) (start (held (now (numbers .entry)) (length (now (numbers .entry)))))) ⌝ }
@@ -142,7 +134,7 @@ pub fn stream(
     stack: &mut [u8],
     out: &mut [u8],
 ) -> Placed
-    requires { ⌜ (length (now roles) ≤ length (now text)) × (length (now roles) < length (now stack)) × (length (now out) ≡ 32402) ⌝ }
+    requires { ⌜ (length (now roles) ≤ length (now text)) × (length (now roles) < length (now stack)) × (length (now out) ≡ output-size) ⌝ }
     requires { ⌜ Rows (now offsets) (now types) ⌝ }
     ensures { λ r. ⌜ placed-in (now (out .exit)) r
         ≡ composed-by (now (offsets .entry)) (now (types .entry)) (now (text .entry)) (now (roles .entry))
@@ -153,7 +145,7 @@ pub fn stream(
     if !w.fits {
         return Placed::Over;
     }
-    if front <= FRONT {
+    if front <= sizes::FRONT {
         return Placed::Over;
     }
     // The count of the first struct's steps still waits.
@@ -163,7 +155,7 @@ pub fn stream(
         return Placed::Over;
     }
     let at = header::write_header(out, types, offsets, place);
-    if at < FRONT {
+    if at < sizes::FRONT {
         return Placed::Over;
     }
     Placed::At(at)

@@ -1,7 +1,9 @@
 // Operators that waited and are written (`compose/specs/Writing.antt`, 'What waits'): where a looser one comes, or their expression begins (02 §2).
 use crate::Pen;
 use crate::bytes;
+use crate::sizes;
 use crate::waiting;
+use program::form;
 ghost use mathlib.Core.Path.{_≡_};
 ghost use mathlib.Core.List.{List};
 ghost use Prim.Native.Nat.{ℕ, _-_, _≤_};
@@ -9,9 +11,7 @@ ghost use lib.ListN.{length, getD};
 ghost use Rattle.compose.specs.Writing.{tightness, poured, begun, pourings};
 ghost use Rattle.compose.specs.Fits.{within};
 ghost use Rattle.composing.specs.Pens.{stands, Poured};
-
-// The bytes that are left in front for a role's own.
-const MARGIN: usize = 6;
+ghost use Rattle.composing.specs.Sizes.{margin};
 
 // How tight an operator binds, by its byte; what is none does not bind.
 fn tightness(c: u8) -> u8
@@ -20,16 +20,16 @@ fn tightness(c: u8) -> u8
     if c == 0 {
         return 0;
     }
-    if c < 38 {
+    if c < form::MUL {
         return 3;
     }
-    if c < 41 {
+    if c < form::ADD {
         return 5;
     }
-    if c < 43 {
+    if c < form::AND {
         return 4;
     }
-    if c < 44 {
+    if c < form::OR {
         return 2;
     }
     1
@@ -37,9 +37,9 @@ fn tightness(c: u8) -> u8
 
 // The operators that wait are written, the last one first, down to one that is not tighter than t, as far as there is room.
 fn poured(out: &mut [u8], stack: &[u8], p: Pen, t: u8) -> Pen
-    requires { ⌜ (6 ≤ p .place) × (p .place ≤ length (now out)) × (p .height ≤ length (now stack)) ⌝ }
-    ensures { λ r. ⌜ ((n : List ℕ) → within (length (now (out .entry)) - 6) (stands (now (out .exit)) (now (stack .entry)) n r)
-        ≡ within (length (now (out .entry)) - 6) (poured t (stands (now (out .entry)) (now (stack .entry)) n p))) ⌝ }
+    requires { ⌜ (margin ≤ p .place) × (p .place ≤ length (now out)) × (p .height ≤ length (now stack)) ⌝ }
+    ensures { λ r. ⌜ ((n : List ℕ) → within (length (now (out .entry)) - margin) (stands (now (out .exit)) (now (stack .entry)) n r)
+        ≡ within (length (now (out .entry)) - margin) (poured t (stands (now (out .entry)) (now (stack .entry)) n p))) ⌝ }
     ensures { λ r. ⌜ Poured p r ⌝ }
 {
     let mut at = p.place;
@@ -56,7 +56,7 @@ fn poured(out: &mut [u8], stack: &[u8], p: Pen, t: u8) -> Pen
                 fits: p.fits,
             };
         }
-        if at <= MARGIN {
+        if at <= sizes::MARGIN {
             return bytes::spoilt(p);
         }
         at -= 1;
@@ -74,9 +74,9 @@ fn poured(out: &mut [u8], stack: &[u8], p: Pen, t: u8) -> Pen
 
 // An expression begins.
 fn begun(out: &mut [u8], stack: &[u8], p: Pen) -> Pen
-    requires { ⌜ (6 ≤ p .place) × (p .place ≤ length (now out)) × (p .height ≤ length (now stack)) ⌝ }
-    ensures { λ r. ⌜ ((n : List ℕ) → within (length (now (out .entry)) - 6) (stands (now (out .exit)) (now (stack .entry)) n r)
-        ≡ within (length (now (out .entry)) - 6) (begun (stands (now (out .entry)) (now (stack .entry)) n p))) ⌝ }
+    requires { ⌜ (margin ≤ p .place) × (p .place ≤ length (now out)) × (p .height ≤ length (now stack)) ⌝ }
+    ensures { λ r. ⌜ ((n : List ℕ) → within (length (now (out .entry)) - margin) (stands (now (out .exit)) (now (stack .entry)) n r)
+        ≡ within (length (now (out .entry)) - margin) (begun (stands (now (out .entry)) (now (stack .entry)) n p))) ⌝ }
     ensures { λ r. ⌜ Poured p r ⌝ }
 {
     let q = poured(out, stack, p, 0);
@@ -89,9 +89,9 @@ fn begun(out: &mut [u8], stack: &[u8], p: Pen) -> Pen
 
 // What a role lets go first of what waits.
 pub(crate) fn first(out: &mut [u8], stack: &[u8], p: Pen, mark: u8, o: u8) -> Pen
-    requires { ⌜ (6 ≤ p .place) × (p .place ≤ length (now out)) × (p .height ≤ length (now stack)) ⌝ }
-    ensures { λ r. ⌜ ((n : List ℕ) → within (length (now (out .entry)) - 6) (stands (now (out .exit)) (now (stack .entry)) n r)
-        ≡ within (length (now (out .entry)) - 6) (getD (pourings o) mark (λ x. x) (stands (now (out .entry)) (now (stack .entry)) n p))) ⌝ }
+    requires { ⌜ (margin ≤ p .place) × (p .place ≤ length (now out)) × (p .height ≤ length (now stack)) ⌝ }
+    ensures { λ r. ⌜ ((n : List ℕ) → within (length (now (out .entry)) - margin) (stands (now (out .exit)) (now (stack .entry)) n r)
+        ≡ within (length (now (out .entry)) - margin) (getD (pourings o) mark (λ x. x) (stands (now (out .entry)) (now (stack .entry)) n p))) ⌝ }
     ensures { λ r. ⌜ Poured p r ⌝ }
 {
     match mark {

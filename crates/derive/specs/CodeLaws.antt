@@ -8,14 +8,15 @@ use lib.Dec.{T, leb, ltb, ltb→lt}
 use borrow.Author.Tests.{leb-true, leb-false}
 use Rattle.syntax.specs.Expecting.{word-number, sign-number, on-word, on-sign, on-name, on-op, less, on-less, literal-word, on-literal, type-word, on-type-word}
 use Rattle.syntax.specs.Expecting.{on-type}
-use Rattle.lexer.specs.Kinds.{kinds}
-use Rattle.derive.specs.Shape.{Shape, Shape.shape, on-exp, on-item, past-item, acts, act, acted, acted-below, moved, move, samples, sample}
-use Rattle.derive.specs.Table.{codes, entries, act-at}
+use Rattle.text_shape.specs.Shape.{Shape, Shape.shape, on-exp, on-item, past-item, acts, act, acted, acted-below, moved, move, samples, sample}
+use Rattle.derive.specs.Table.{entries, act-at}
+use Rattle.text_shape.specs.CodeNames.{codes}
 use Rattle.derive.specs.TableLaws.{each, each-below}
 use Rattle.derive.specs.IndexLaws.{index-in, index-row, act-out}
 use Rattle.derive.specs.Held.{Kept, Kept.kept}
-use Rattle.derive.specs.declared.Act.{Act}
-use Rattle.derive.specs.declared.Act.the-variants.{Go, Open, Below, Stop}
+use Rattle.text_shape.specs.declared.Act.{Act}
+use Rattle.text_shape.specs.declared.Act.the-variants.{Go, Open, Below, Stop}
+use Rattle.tokens.specs.KindNames.{kinds}
 
 -- what an act goes to is a code
 goes : Act → Bool

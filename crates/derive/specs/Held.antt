@@ -5,8 +5,9 @@ use mathlib.Core.Bool.{Bool, true, false, _||_}
 use mathlib.Core.List.{List, [], _∷_}
 use lib.ListN.{getD, take}
 use lib.Dec.{eqb}
-use Rattle.lexer.specs.Marking.{kinds-in}
-use Rattle.derive.specs.Shape.{Shape, Shape.shape, moves}
+use Rattle.tokens.specs.Marking.{kinds-in}
+use Rattle.text_shape.specs.Shape.{Shape, Shape.shape, moves}
+use Rattle.text_shape.specs.CodeNames.{first-defs-code, behind-execution-code, behind-item-code}
 
 -- what the front h places of memory hold, the last one first
 unfoldable pub held : List ℕ → ℕ → List ℕ
@@ -19,8 +20,8 @@ pub data Kept (q h : ℕ) (s : List ℕ) : Shape → Type 0 where
 
 -- the shape over the kinds up to a place
 unfoldable pub passed : List ℕ → ℕ → Shape
-passed ks i = moves (shape 1 []) (kinds-in (take i ks))
+passed ks i = moves (shape first-defs-code []) (kinds-in (take i ks))
 
 -- by code and height
 unfoldable pub ends : ℕ → ℕ → Bool
-ends q h = elim (eqb h 0) [ true ↦ eqb q 30 || eqb q 33 | false ↦ false ]
+ends q h = elim (eqb h 0) [ true ↦ eqb q behind-execution-code || eqb q behind-item-code | false ↦ false ]

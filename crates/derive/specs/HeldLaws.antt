@@ -9,11 +9,12 @@ use lib.ListN.{length, getD, set, take}
 use lib.Seq.{getD-set-same, getD-set-other, take-suc, take-length}
 use lib.Dec.{eqb}
 use borrow.Author.Tests.{ne-eqb}
-use Rattle.lexer.specs.Marking.{kinds-in}
-use Rattle.derive.specs.Shape.{Shape, Shape.shape, act, acted, acted-below, moved, move, sample, moves, at-end, derived}
+use Rattle.tokens.specs.Marking.{kinds-in}
+use Rattle.text_shape.specs.Shape.{Shape, Shape.shape, act, acted, acted-below, moved, move, sample, moves, at-end, derived}
 use Rattle.derive.specs.Held.{held, Kept, Kept.kept, passed, ends}
-use Rattle.derive.specs.declared.Act.{Act}
-use Rattle.derive.specs.declared.Act.the-variants.{Go, Open, Below, Stop}
+use Rattle.text_shape.specs.declared.Act.{Act}
+use Rattle.text_shape.specs.declared.Act.the-variants.{Go, Open, Below, Stop}
+use Rattle.text_shape.specs.CodeNames.{dead-code, first-defs-code}
 
 -- a store from the height on leaves what is held; one at the height is held on top
 pub held-set : (s : List ℕ) (i v h : ℕ) → h ≤ i → held (set s i v) h ≡ held s h
@@ -27,9 +28,9 @@ held-push s h v l = rw (add-one h, getD-set-same s h v 0 l, held-set s h v h (om
 
 -- what a function answers: nothing goes on; a place was opened
 abbrev pub Dead : ℕ → ℕ → Type 0
-Dead x y = (x ≡ 0) × (y ≡ 0)
+Dead x y = (x ≡ dead-code) × (y ≡ 0)
 
-kept-dead : {x y : ℕ} (t : List ℕ) → Dead x y → Kept x y t (shape 0 [])
+kept-dead : {x y : ℕ} (t : List ℕ) → Dead x y → Kept x y t (shape dead-code [])
 unfolding held
 kept-dead t (a, b) = rw (a, b) (kept refl)
 
@@ -122,18 +123,18 @@ module _ (ks : List ℕ) (i : ℕ) (l : i < length ks) where
 
   pub passed-none : getD ks i 0 ≡ 0 → passed ks (i + 1) ≡ passed ks i
   unfolding passed kinds-in
-  passed-none e = ap (moves (shape 1 [])) (kinds-next ∙ rw e (append-nil (kinds-in (take i ks))))
+  passed-none e = ap (moves (shape first-defs-code [])) (kinds-next ∙ rw e (append-nil (kinds-in (take i ks))))
 
   pub passed-token : (getD ks i 0 ≡ 0 → ⊥) → passed ks (i + 1) ≡ move (passed ks i) (sample (getD ks i 0))
   unfolding passed
   passed-token n =
-      ap (moves (shape 1 [])) (kinds-next ∙ ap (λ u. kinds-in (take i ks) ++ u) (kinds-one (getD ks i 0) n))
-      ∙ moves-append (shape 1 []) (kinds-in (take i ks)) (getD ks i 0)
+      ap (moves (shape first-defs-code [])) (kinds-next ∙ ap (λ u. kinds-in (take i ks) ++ u) (kinds-one (getD ks i 0) n))
+      ∙ moves-append (shape first-defs-code []) (kinds-in (take i ks)) (getD ks i 0)
 
 pub kept-shape : {q h : ℕ} {s : List ℕ} {x : Shape} → Kept q h s x → x ≡ shape q (held s h)
 kept-shape (kept e) = rw (← e) refl
 
-pub loop-start : (ks s : List ℕ) → Kept 1 0 s (passed ks 0)
+pub loop-start : (ks s : List ℕ) → Kept first-defs-code 0 s (passed ks 0)
 unfolding passed kinds-in moves held
 loop-start ks s = kept refl
 
@@ -149,13 +150,13 @@ unfolding at-end held ends
 at-height q zero s = refl
 at-height q (suc h) s = rw (ne-eqb (suc h) 0 (λ e. omega arith), ends) refl
 
-passed-all : (ks : List ℕ) → passed ks (length ks) ≡ moves (shape 1 []) (kinds-in ks)
+passed-all : (ks : List ℕ) → passed ks (length ks) ≡ moves (shape first-defs-code []) (kinds-in ks)
 unfolding passed
-passed-all ks = ap (λ u. moves (shape 1 []) (kinds-in u)) (take-length ks)
+passed-all ks = ap (λ u. moves (shape first-defs-code []) (kinds-in u)) (take-length ks)
 
 pub loop-end : (ks s : List ℕ) (q h i : ℕ) → i ≡ length ks → Kept q h s (passed ks i) → ends q h ≡ derived (kinds-in ks)
 unfolding derived
 loop-end ks s q h i e k =
     let f : shape q (held s h) ≡ passed ks i = sym (kept-shape k) in
-    let g : passed ks i ≡ moves (shape 1 []) (kinds-in ks) = ap (passed ks) e ∙ passed-all ks in
+    let g : passed ks i ≡ moves (shape first-defs-code []) (kinds-in ks) = ap (passed ks) e ∙ passed-all ks in
     at-height q h s ∙ ap at-end (f ∙ g)

@@ -4,12 +4,13 @@ use native.Mathlib.Omega.{arith}
 use mathlib.Core.Path.{_≡_, refl, sym, ap, _∙_}
 use lib.ListN.{getD, List·getD-eq-default}
 use Rattle.tokens.specs.Tokens.{Word.w-string, Token, Token.word}
-use Rattle.lexer.specs.Kinds.{kinds}
-use Rattle.derive.specs.Shape.{acts, act, samples, sample}
-use Rattle.derive.specs.RoleMarks.{by-kind, marks, mark}
-use Rattle.derive.specs.Table.{entries, act-at, mark-at, next-of, opened-of, told}
+use Rattle.text_shape.specs.CodeNames.{codes}
+use Rattle.text_shape.specs.Shape.{acts, act, samples, sample}
+use Rattle.text_shape.specs.RoleMarks.{by-kind, marks, mark}
+use Rattle.derive.specs.Table.{below-number, entries, act-at, mark-at, next-of, opened-of, told}
 use Rattle.derive.specs.TableLaws.{entry-told}
-use Rattle.derive.specs.declared.Act.the-variants.{Go, Open, Below, Stop}
+use Rattle.text_shape.specs.declared.Act.the-variants.{Go, Open, Below, Stop}
+use Rattle.tokens.specs.KindNames.{kinds}
 use borrow.Author.Tests.{eq-eqb, ne-eqb}
 
 -- of every table of rows
@@ -31,7 +32,7 @@ module _ {A : Type 0} (f : ℕ → Token → A) (q k : ℕ) where
       first = refl
 
 -- what no code is does nothing and says nothing
-module _ (q k : ℕ) (h : 47 ≤ q) where
+module _ (q k : ℕ) (h : codes ≤ q) where
   pub act-out : act-at 0 ≡ act q (sample k)
   unfolding act-at act acts
   act-out = sym (List·getD-eq-default (acts (sample k)) Stop {n = q} h)
@@ -49,20 +50,20 @@ module _ {i n : ℕ} (l : i < entries) (e : n ≡ next-of (act-at i)) where
   unfolding told
   told-stop z = let h : told n (opened-of (act-at i)) ≡ Stop = rw (eq-eqb n 0 z, told) refl in sym h ∙ by-next
 
-  pub told-below : (n ≡ 0 → ⊥) → n ≡ 63 → Below ≡ act-at i
+  pub told-below : (n ≡ 0 → ⊥) → n ≡ below-number → Below ≡ act-at i
   unfolding told
-  told-below y z = let h : told n (opened-of (act-at i)) ≡ Below = rw (ne-eqb n 0 y, eq-eqb n 63 z, told) refl in sym h ∙ by-next
+  told-below y z = let h : told n (opened-of (act-at i)) ≡ Below = rw (ne-eqb n 0 y, eq-eqb n below-number z, told) refl in sym h ∙ by-next
 
-  module _ {o : ℕ} (y : n ≡ 0 → ⊥) (z : n ≡ 63 → ⊥) (g : o ≡ opened-of (act-at i)) where
+  module _ {o : ℕ} (y : n ≡ 0 → ⊥) (z : n ≡ below-number → ⊥) (g : o ≡ opened-of (act-at i)) where
     pub told-go : o ≡ 0 → Go n ≡ act-at i
     unfolding told
     told-go w =
-        let h : told n (opened-of (act-at i)) ≡ Go n = rw (ne-eqb n 0 y, ne-eqb n 63 z, eq-eqb (opened-of (act-at i)) 0 (sym g ∙ w), told) refl in
+        let h : told n (opened-of (act-at i)) ≡ Go n = rw (ne-eqb n 0 y, ne-eqb n below-number z, eq-eqb (opened-of (act-at i)) 0 (sym g ∙ w), told) refl in
         sym h ∙ by-next
 
     pub told-open : (o ≡ 0 → ⊥) → Open n o ≡ act-at i
     unfolding told
     told-open w =
         let h : told n (opened-of (act-at i)) ≡ Open n (opened-of (act-at i)) =
-        rw (ne-eqb n 0 y, ne-eqb n 63 z, ne-eqb (opened-of (act-at i)) 0 (λ v. w (g ∙ v)), told) refl in
+        rw (ne-eqb n 0 y, ne-eqb n below-number z, ne-eqb (opened-of (act-at i)) 0 (λ v. w (g ∙ v)), told) refl in
         ap (λ m. Open n m) g ∙ sym h ∙ by-next

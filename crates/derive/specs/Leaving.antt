@@ -5,8 +5,8 @@ use mathlib.Core.Bool.{true, false}
 use mathlib.Core.List.{List, [], _∷_}
 use lib.ListN.{set}
 use lib.Dec.{eqb}
-use Rattle.derive.specs.Shape.{Shape, Shape.shape, sample, move}
-use Rattle.derive.specs.RoleMarks.{role, renamed}
+use Rattle.text_shape.specs.Shape.{Shape, Shape.shape, sample, move}
+use Rattle.text_shape.specs.RoleMarks.{role, renamed}
 
 -- the name at a place gets another role, or keeps its own
 unfoldable pub amended : List ℕ → ℕ → ℕ → List ℕ

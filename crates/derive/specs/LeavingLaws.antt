@@ -8,10 +8,11 @@ use lib.ListN.{length, set, length-set, length-append}
 use lib.Seq.{set-append-left, set-at}
 use lib.Dec.{eqb}
 use borrow.Author.Tests.{eqb-true}
-use Rattle.lexer.specs.Marking.{kinds-in}
-use Rattle.derive.specs.Shape.{Shape, Shape.shape, sample, move}
-use Rattle.derive.specs.RoleMarks.{role, waits, renamed, kept-or, by-next, settled, role-codes, placed}
+use Rattle.tokens.specs.Marking.{kinds-in}
+use Rattle.text_shape.specs.Shape.{Shape, Shape.shape, sample, move}
+use Rattle.text_shape.specs.RoleMarks.{role, waits, renamed, kept-or, by-next, settled, role-codes, placed}
 use Rattle.derive.specs.Leaving.{amended, left, renames, leaves}
+use Rattle.text_shape.specs.CodeNames.{first-defs-code}
 
 -- a name's role by what follows it
 settled-last : (r : ℕ) (s : Shape) → settled r s [] ≡ r
@@ -144,10 +145,11 @@ leaves-all (k ∷ ks) s last i d p h = go (eqb k 0) refl (λ s last i d p h. lea
     go false e rec = leaves-token ks k e rec s last i d p h
 
 -- from the first place on
-pub left-all : (ks : List ℕ) → leaves (shape 1 []) 0 0 ks ks ≡ placed ks (role-codes (shape 1 []) (kinds-in ks))
+pub left-all : (ks : List ℕ) → leaves (shape first-defs-code []) 0 0 ks ks ≡ placed ks (role-codes (shape first-defs-code []) (kinds-in ks))
 unfolding awaits amended renames renamed waits
-left-all ks = leaves-all ks (shape 1 []) 0 0 [] (quiet (λ k. refl)) refl ∙ front (kinds-in ks)
+left-all ks = leaves-all ks (shape first-defs-code []) 0 0 [] (quiet (λ k. refl)) refl ∙ front (kinds-in ks)
   where
-    front : (l : List ℕ) → awaits (shape 1 []) 0 l [] ++ placed ks (role-codes (shape 1 []) (kinds-in ks)) ≡ placed ks (role-codes (shape 1 []) (kinds-in ks))
+    front : (l : List ℕ) → awaits (shape first-defs-code []) 0 l [] ++ placed ks (role-codes (shape first-defs-code []) (kinds-in ks))
+        ≡ placed ks (role-codes (shape first-defs-code []) (kinds-in ks))
     front [] = refl
     front (k ∷ l) = refl

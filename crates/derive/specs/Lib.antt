@@ -1,13 +1,3 @@
-pub mod Roles
-pub mod RoleLaws
-pub mod Shape
-pub mod BothLaws
-pub mod SiteLaws
-pub mod ShapeLaws
-pub mod KindShapeLaws
-pub mod RoleMarks
-pub mod RoleExpLaws
-pub mod RoleMarkLaws
 pub mod Table
 pub mod TableLaws
 pub mod IndexLaws

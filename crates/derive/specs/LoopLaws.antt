@@ -1,25 +1,26 @@
 -- The loop over the kinds, from token to token: its state and stack are the shape over the kinds passed, and what is left leads to the roles of the whole.
 use Prim.Native.Nat.{ℕ, _+_, _≤_, _<_}
 use native.Mathlib.Omega.{arith}
-use native.Mathlib.Numerals.{add-one}
 use mathlib.Core.Path.{_≡_, refl, sym, _∙_}
 use mathlib.Core.Bool.{Bool, true, false}
 use mathlib.Core.List.{List, [], _∷_}
 use lib.ListN.{length, getD, drop, length-set, drop-of-length-le}
-use lib.Seq.{drop-cons, drop-set-lt}
+use lib.Seq.{drop-set-lt}
 use lib.Dec.{eqb}
 use borrow.Author.Tests.{ne-eqb}
-use Rattle.lexer.specs.Marking.{kinds-in}
+use Rattle.types.specs.ListLaws.{drop-next}
+use Rattle.tokens.specs.Marking.{kinds-in}
 use Rattle.lexer.specs.Gaps.{Gap}
 use Rattle.lexer.specs.GapLaws.{gap-over}
-use Rattle.derive.specs.Shape.{Shape, Shape.shape, sample, move, moves, derived}
-use Rattle.derive.specs.RoleMarks.{role, renamed, role-codes, placed}
-use Rattle.derive.specs.Table.{codes}
+use Rattle.text_shape.specs.Shape.{Shape, Shape.shape, sample, move, moves, derived}
+use Rattle.text_shape.specs.RoleMarks.{role, renamed, role-codes, placed}
+use Rattle.text_shape.specs.CodeNames.{codes}
 use Rattle.derive.specs.Held.{held, Kept, passed, ends}
 use Rattle.derive.specs.HeldLaws.{kept-shape, passed-none, passed-token, loop-start, loop-past, loop-token, loop-end}
 use Rattle.derive.specs.CodeLaws.{move-code}
 use Rattle.derive.specs.Leaving.{amended, left, renames, leaves}
 use Rattle.derive.specs.LeavingLaws.{length-amended, left-all}
+use Rattle.text_shape.specs.CodeNames.{first-defs-code}
 
 -- of the kinds ks, with what stands in their places now, the stack, a state and its height, the place of the last token, and the next place
 pub record Reached (ks now stack₀ stack : List ℕ) (q h last i : ℕ) : Type 0 where
@@ -32,7 +33,7 @@ pub record Reached (ks now stack₀ stack : List ℕ) (q h last i : ℕ) : Type 
   pub kept : length now ≡ length ks
   pub rest : drop i now ≡ drop i ks
   pub state : Kept q h stack (passed ks i)
-  pub whole : leaves (passed ks i) last i (drop i ks) now ≡ leaves (shape 1 []) 0 0 ks ks
+  pub whole : leaves (passed ks i) last i (drop i ks) now ≡ leaves (shape first-defs-code []) 0 0 ks ks
 
 -- one place of what the loop leaves
 leaves-past : (s : Shape) (last i k : ℕ) (ks m : List ℕ) → k ≡ 0 → leaves s last i (k ∷ ks) m ≡ leaves s last (i + 1) ks m
@@ -60,10 +61,7 @@ drop-left : (m : List ℕ) (i last r w : ℕ) → last ≤ i → drop (i + 1) (l
 unfolding left
 drop-left m i last r w l = drop-set-lt (i + 1) (amended m last w) i r (omega arith) ∙ drop-amended m (i + 1) last w (omega arith)
 
-here : (ks : List ℕ) (i : ℕ) → i < length ks → drop i ks ≡ getD ks i 0 ∷ drop (i + 1) ks
-here ks i l = rw (add-one i) (drop-cons ks i 0 l)
-
-pub reached-start : (ks stack : List ℕ) → length ks ≤ length stack → Reached ks ks stack stack 1 0 0 0
+pub reached-start : (ks stack : List ℕ) → length ks ≤ length stack → Reached ks ks stack stack first-defs-code 0 0 0
 unfolding passed kinds-in moves
 reached-start ks stack l =
     record {
@@ -82,7 +80,7 @@ reached-start ks stack l =
 module _ {ks now stack₀ stack : List ℕ} {q h last i : ℕ} (r : Reached ks now stack₀ stack q h last i) where
   module _ (l : i < length ks) where
     rest-here : _≡_ {A = List ℕ} (getD now i 0 ∷ drop (i + 1) now) (getD ks i 0 ∷ drop (i + 1) ks)
-    rest-here = sym (here now i (omega (arith, r .kept))) ∙ r .rest ∙ here ks i l
+    rest-here = sym (drop-next now i (omega (arith, r .kept))) ∙ r .rest ∙ drop-next ks i l
 
     -- a kind that was not passed stands where it stood
     at-kind : getD now i 0 ≡ getD ks i 0
@@ -91,8 +89,8 @@ module _ {ks now stack₀ stack : List ℕ} {q h last i : ℕ} (r : Reached ks n
     rest-on : drop (i + 1) now ≡ drop (i + 1) ks
     rest-on = cc rest-here
 
-    whole-here : leaves (passed ks i) last i (getD now i 0 ∷ drop (i + 1) ks) now ≡ leaves (shape 1 []) 0 0 ks ks
-    whole-here = rw (at-kind, ← here ks i l) (r .whole)
+    whole-here : leaves (passed ks i) last i (getD now i 0 ∷ drop (i + 1) ks) now ≡ leaves (shape first-defs-code []) 0 0 ks ks
+    whole-here = rw (at-kind, ← drop-next ks i l) (r .whole)
 
     pub reached-past : getD now i 0 ≡ 0 → Reached ks now stack₀ stack q h last (i + 1)
     reached-past e =
@@ -131,7 +129,7 @@ module _ {ks now stack₀ stack : List ℕ} {q h last i : ℕ} (r : Reached ks n
           whole = rw (passed-on, amended-on) (sym (leaves-next (passed ks i) last i (getD now i 0) (drop (i + 1) ks) now n) ∙ whole-here);
         }
 
-  pub reached-end : length ks ≤ i → (ends q h ≡ derived (kinds-in ks)) × (now ≡ placed ks (role-codes (shape 1 []) (kinds-in ks)))
+  pub reached-end : length ks ≤ i → (ends q h ≡ derived (kinds-in ks)) × (now ≡ placed ks (role-codes (shape first-defs-code []) (kinds-in ks)))
   unfolding leaves
   reached-end l =
       let e : i ≡ length ks = omega (arith, r .inner) in

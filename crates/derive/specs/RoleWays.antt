@@ -5,9 +5,12 @@ use mathlib.Core.Path.{_≡_, refl, sym, ap, _∙_}
 use mathlib.Core.List.{List}
 use lib.ListN.{getD}
 use borrow.Author.Tests.{ne-eqb}
-use Rattle.derive.specs.Shape.{Shape.shape, sample}
-use Rattle.derive.specs.RoleMarks.{by-opened, mark, said, said-below, role, waits, other-role, renamed}
+use Rattle.text_shape.specs.Shape.{Shape.shape, sample}
+use Rattle.text_shape.specs.RoleMarks.{by-opened, mark, said, said-below, role, waits, other-role, renamed}
 use Rattle.derive.specs.Held.{held}
+use Rattle.text_shape.specs.CodeNames.{behind-name-code, behind-id-code, behind-execution-code}
+use Rattle.text_shape.specs.RoleNames.{made-role, made-statement-role, called-struct-role, local-struct-role}
+use Rattle.tokens.specs.KindNames.{lpar-kind, dot-kind, name-kind}
 
 module _ (q k h : ℕ) (s : List ℕ) {b : ℕ} (e : b ≡ mark q (sample k)) where
   -- by the state that a token meets
@@ -38,34 +41,34 @@ module _ (q k h : ℕ) (s : List ℕ) {b : ℕ} (e : b ≡ mark q (sample k)) wh
 -- A name that waits, by its state and the kind behind it -------------------------------------------
 
 module _ {q k : ℕ} where
-  pub name-type : q ≡ 14 → k ≡ 36 → 58 ≡ renamed q k
+  pub name-type : q ≡ behind-name-code → k ≡ name-kind → local-struct-role ≡ renamed q k
   unfolding renamed waits other-role
   name-type e f = rw (e, f) refl
 
-  pub name-made : q ≡ 14 → (k ≡ 36 → ⊥) → k ≡ 13 → 47 ≡ renamed q k
+  pub name-made : q ≡ behind-name-code → (k ≡ name-kind → ⊥) → k ≡ lpar-kind → made-statement-role ≡ renamed q k
   unfolding renamed waits other-role
   name-made e n f = rw (e, f) refl
 
-  pub name-kept : q ≡ 14 → (k ≡ 36 → ⊥) → (k ≡ 13 → ⊥) → 0 ≡ renamed q k
+  pub name-kept : q ≡ behind-name-code → (k ≡ name-kind → ⊥) → (k ≡ lpar-kind → ⊥) → 0 ≡ renamed q k
   unfolding renamed waits other-role
-  name-kept e n f = rw (e, other-role, ne-eqb k 36 n, ne-eqb k 13 f) refl
+  name-kept e n f = rw (e, other-role, ne-eqb k name-kind n, ne-eqb k lpar-kind f) refl
 
-  pub id-made : q ≡ 24 → k ≡ 13 → 46 ≡ renamed q k
+  pub id-made : q ≡ behind-id-code → k ≡ lpar-kind → made-role ≡ renamed q k
   unfolding renamed waits other-role
   id-made e f = rw (e, f) refl
 
-  pub id-kept : q ≡ 24 → (k ≡ 13 → ⊥) → 0 ≡ renamed q k
+  pub id-kept : q ≡ behind-id-code → (k ≡ lpar-kind → ⊥) → 0 ≡ renamed q k
   unfolding renamed waits other-role
-  id-kept e f = rw (e, other-role, ne-eqb k 13 f) refl
+  id-kept e f = rw (e, other-role, ne-eqb k lpar-kind f) refl
 
-  pub step-struct : q ≡ 30 → k ≡ 21 → 49 ≡ renamed q k
+  pub step-struct : q ≡ behind-execution-code → k ≡ dot-kind → called-struct-role ≡ renamed q k
   unfolding renamed waits other-role
   step-struct e f = rw (e, f) refl
 
-  pub step-kept : q ≡ 30 → (k ≡ 21 → ⊥) → 0 ≡ renamed q k
+  pub step-kept : q ≡ behind-execution-code → (k ≡ dot-kind → ⊥) → 0 ≡ renamed q k
   unfolding renamed waits other-role
-  step-kept e f = rw (e, other-role, ne-eqb k 21 f) refl
+  step-kept e f = rw (e, other-role, ne-eqb k dot-kind f) refl
 
-pub none-waits : (q k : ℕ) → (q ≡ 14 → ⊥) → (q ≡ 24 → ⊥) → (q ≡ 30 → ⊥) → 0 ≡ renamed q k
+pub none-waits : (q k : ℕ) → (q ≡ behind-name-code → ⊥) → (q ≡ behind-id-code → ⊥) → (q ≡ behind-execution-code → ⊥) → 0 ≡ renamed q k
 unfolding renamed waits
-none-waits q k e f g = rw (renamed, ne-eqb q 14 e, ne-eqb q 24 f, ne-eqb q 30 g) refl
+none-waits q k e f g = rw (renamed, ne-eqb q behind-name-code e, ne-eqb q behind-id-code f, ne-eqb q behind-execution-code g) refl

@@ -10,10 +10,10 @@ use lib.Dec.{T, eqb}
 use borrow.Author.Tests.{eqb-true, eqb-false}
 use Rattle.syntax.specs.Expecting.{word-number, sign-number, on-word, on-sign, on-name, on-op, less, on-less, literal-word, on-literal, type-word, on-type-word}
 use Rattle.syntax.specs.Expecting.{on-type}
-use Rattle.derive.specs.Shape.{on-exp, on-item, past-item, acts, act, samples, sample}
-use Rattle.derive.specs.Table.{entries, act-at, next-of, opened-of, told, values, next-bytes, opened-bytes, mark-at, mark-bytes}
-use Rattle.derive.specs.declared.Act.{Act}
-use Rattle.derive.specs.declared.Act.the-variants.{Go, Open, Below, Stop}
+use Rattle.text_shape.specs.Shape.{on-exp, on-item, past-item, acts, act, samples, sample}
+use Rattle.derive.specs.Table.{digits-from, entries, act-at, next-of, opened-of, told, values, next-bytes, opened-bytes, mark-at, mark-bytes}
+use Rattle.text_shape.specs.declared.Act.{Act}
+use Rattle.text_shape.specs.declared.Act.the-variants.{Go, Open, Below, Stop}
 
 -- Values in a row ----------------------------------------------------------------------------
 
@@ -28,13 +28,13 @@ unfolding values
 values-length f i zero = refl
 values-length f i (suc n) = ap suc (values-length f (suc i) n)
 
-next-byte : (i : ℕ) → i < entries → getD next-bytes i 0 ≡ 48 + next-of (act-at i)
+next-byte : (i : ℕ) → i < entries → getD next-bytes i 0 ≡ digits-from + next-of (act-at i)
 unfolding next-bytes
-next-byte i h = values-at (λ j. 48 + next-of (act-at j)) 0 entries i h ∙ ap (λ j. 48 + next-of (act-at j)) (zero-add i)
+next-byte i h = values-at (λ j. digits-from + next-of (act-at j)) 0 entries i h ∙ ap (λ j. digits-from + next-of (act-at j)) (zero-add i)
 
-opened-byte : (i : ℕ) → i < entries → getD opened-bytes i 0 ≡ 48 + opened-of (act-at i)
+opened-byte : (i : ℕ) → i < entries → getD opened-bytes i 0 ≡ digits-from + opened-of (act-at i)
 unfolding opened-bytes
-opened-byte i h = values-at (λ j. 48 + opened-of (act-at j)) 0 entries i h ∙ ap (λ j. 48 + opened-of (act-at j)) (zero-add i)
+opened-byte i h = values-at (λ j. digits-from + opened-of (act-at j)) 0 entries i h ∙ ap (λ j. digits-from + opened-of (act-at j)) (zero-add i)
 
 mark-byte : (i : ℕ) → i < entries → getD mark-bytes i 0 ≡ mark-at i
 unfolding mark-bytes
@@ -44,22 +44,22 @@ mark-byte i h = values-at mark-at 0 entries i h ∙ ap mark-at (zero-add i)
 module _ {t : List ℕ} {i : ℕ} where
   pub next-in : t ≡ next-bytes → i < entries → i < length t
   unfolding next-bytes
-  next-in e h = let l = values-length (λ j. 48 + next-of (act-at j)) 0 entries in omega (arith, ap length e ∙ l)
+  next-in e h = let l = values-length (λ j. digits-from + next-of (act-at j)) 0 entries in omega (arith, ap length e ∙ l)
 
-  pub next-here : t ≡ next-bytes → i < entries → getD t i 0 ≡ 48 + next-of (act-at i)
+  pub next-here : t ≡ next-bytes → i < entries → getD t i 0 ≡ digits-from + next-of (act-at i)
   next-here e h = ap (λ l. getD l i 0) e ∙ next-byte i h
 
-  pub next-number : {n : ℕ} → t ≡ next-bytes → i < entries → getD t i 0 ≡ 48 + n → n ≡ next-of (act-at i)
+  pub next-number : {n : ℕ} → t ≡ next-bytes → i < entries → getD t i 0 ≡ digits-from + n → n ≡ next-of (act-at i)
   next-number e h g = omega (arith, next-here e h, g)
 
   pub opened-in : t ≡ opened-bytes → i < entries → i < length t
   unfolding opened-bytes
-  opened-in e h = let l = values-length (λ j. 48 + opened-of (act-at j)) 0 entries in omega (arith, ap length e ∙ l)
+  opened-in e h = let l = values-length (λ j. digits-from + opened-of (act-at j)) 0 entries in omega (arith, ap length e ∙ l)
 
-  pub opened-here : t ≡ opened-bytes → i < entries → getD t i 0 ≡ 48 + opened-of (act-at i)
+  pub opened-here : t ≡ opened-bytes → i < entries → getD t i 0 ≡ digits-from + opened-of (act-at i)
   opened-here e h = ap (λ l. getD l i 0) e ∙ opened-byte i h
 
-  pub opened-number : {n : ℕ} → t ≡ opened-bytes → i < entries → getD t i 0 ≡ 48 + n → n ≡ opened-of (act-at i)
+  pub opened-number : {n : ℕ} → t ≡ opened-bytes → i < entries → getD t i 0 ≡ digits-from + n → n ≡ opened-of (act-at i)
   opened-number e h g = omega (arith, opened-here e h, g)
 
   pub mark-in : t ≡ mark-bytes → i < entries → i < length t

@@ -4,35 +4,23 @@ pub mod roles;
 pub mod table;
 
 use lexer::gaps;
+use text_shape::Act;
+use text_shape::state;
+use tokens::kind;
 ghost use mathlib.Core.Path.{_≡_};
 ghost use mathlib.Core.List.{[]};
 ghost use Prim.Native.Nat.{_+_, _<_, _≤_};
 ghost use lib.ListN.{length, set};
-ghost use Rattle.lexer.specs.Marking.{kinds-in};
-ghost use Rattle.derive.specs.Shape.{Shape.shape, act, acted-below, move, sample, derived};
-ghost use Rattle.derive.specs.RoleMarks.{mark, role-codes, placed};
-ghost use Rattle.derive.specs.Table.{codes, entries, act-at, mark-at, next-bytes, opened-bytes, mark-bytes};
+ghost use Rattle.tokens.specs.Marking.{kinds-in};
+ghost use Rattle.text_shape.specs.Shape.{Shape.shape, act, acted-below, move, sample, derived};
+ghost use Rattle.text_shape.specs.RoleMarks.{mark, role-codes, placed};
+ghost use Rattle.derive.specs.Table.{entries, act-at, mark-at, next-bytes, opened-bytes, mark-bytes};
+ghost use Rattle.text_shape.specs.CodeNames.{codes};
 ghost use Rattle.derive.specs.Held.{held, Kept, ends};
+ghost use Rattle.text_shape.specs.CodeNames.{dead-code, first-defs-code};
 
-// The codes of states and of what is open; the kinds, with 0.
-const CODES: u8 = 47;
-
-const KINDS: u8 = 39;
-
-// Before the first struct; where the tokens may end.
-const START: u8 = 1;
-
-const BEHIND_STEP: u8 = 30;
-
-const BEHIND_ITEM: u8 = 33;
-
-// What a token does: to a state; to a state, with a place opened; what was opened last takes it; no derivation goes on.
-pub enum Act {
-    Go(u8),
-    Open(u8, u8),
-    Below,
-    Stop,
-}
+// The kinds in a row of the tables.
+const KINDS: usize = kind::COUNT as usize;
 
 // A state, and how many places are open on the stack.
 pub struct Mark {
@@ -41,10 +29,10 @@ pub struct Mark {
 }
 
 fn dead() -> Mark
-    ensures { λ r. ⌜ (r .state ≡ 0) × (r .height ≡ 0) ⌝ }
+    ensures { λ r. ⌜ (r .state ≡ dead-code) × (r .height ≡ 0) ⌝ }
 {
     Mark {
-        state: 0,
+        state: state::DEAD,
         height: 0,
     }
 }
@@ -54,8 +42,8 @@ fn entry(q: u8, k: u8) -> usize
     requires { ⌜ q < codes ⌝ }
     ensures { λ r. ⌜ (r < entries) × (act-at r ≡ act q (sample k)) × (mark-at r ≡ mark q (sample k)) ⌝ }
 {
-    let row = q as usize * 39;
-    if k >= KINDS {
+    let row = q as usize * KINDS;
+    if k >= kind::COUNT {
         return row;
     }
     row + k as usize
@@ -65,7 +53,7 @@ fn entry(q: u8, k: u8) -> usize
 pub(crate) fn index(q: u8, k: u8) -> usize
     ensures { λ r. ⌜ (r < entries) × (act-at r ≡ act q (sample k)) × (mark-at r ≡ mark q (sample k)) ⌝ }
 {
-    if q >= CODES {
+    if q >= state::COUNT {
         return 0;
     }
     entry(q, k)
@@ -80,7 +68,7 @@ fn act_at(next: &[u8], opened: &[u8], i: usize) -> Act
     if n == 0 {
         return Act::Stop;
     }
-    if n == 63 {
+    if n == table::BELOW {
         return Act::Below;
     }
     let o = table::number(opened, i);
@@ -161,20 +149,20 @@ fn ends(q: u8, h: usize) -> bool
     if h != 0 {
         return false;
     }
-    if q == BEHIND_STEP {
+    if q == state::BEHIND_EXECUTION {
         return true;
     }
-    q == BEHIND_ITEM
+    q == state::BEHIND_ITEM
 }
 
 // Whether the tokens have a derivation, by the tables, each kind giving way to its token's role.
 fn walk(next: &[u8], opened: &[u8], marks: &[u8], kinds: &mut [u8], stack: &mut [u8]) -> bool
     requires { ⌜ (now next ≡ next-bytes) × (now opened ≡ opened-bytes) × (now marks ≡ mark-bytes) × (length (now kinds) ≤ length (now stack)) ⌝ }
     ensures { λ r. ⌜ r ≡ derived (kinds-in (now (kinds .entry))) ⌝ }
-    ensures { λ _. ⌜ now (kinds .exit) ≡ placed (now (kinds .entry)) (role-codes (shape 1 []) (kinds-in (now (kinds .entry)))) ⌝ }
+    ensures { λ _. ⌜ now (kinds .exit) ≡ placed (now (kinds .entry)) (role-codes (shape first-defs-code []) (kinds-in (now (kinds .entry)))) ⌝ }
 {
     let mut m = Mark {
-        state: START,
+        state: state::START,
         height: 0,
     };
     let mut last = 0;
@@ -204,7 +192,7 @@ fn walk(next: &[u8], opened: &[u8], marks: &[u8], kinds: &mut [u8], stack: &mut 
 pub fn derived(kinds: &mut [u8], stack: &mut [u8]) -> bool
     requires { ⌜ length (now kinds) ≤ length (now stack) ⌝ }
     ensures { λ r. ⌜ r ≡ derived (kinds-in (now (kinds .entry))) ⌝ }
-    ensures { λ _. ⌜ now (kinds .exit) ≡ placed (now (kinds .entry)) (role-codes (shape 1 []) (kinds-in (now (kinds .entry)))) ⌝ }
+    ensures { λ _. ⌜ now (kinds .exit) ≡ placed (now (kinds .entry)) (role-codes (shape first-defs-code []) (kinds-in (now (kinds .entry)))) ⌝ }
 {
     walk(&table::NEXT, &table::OPENED, &table::MARKS, kinds, stack)
 }

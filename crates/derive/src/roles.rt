@@ -2,41 +2,22 @@
 use crate::Mark;
 use crate::index;
 use crate::table;
+use text_shape::role;
+use text_shape::state;
+use tokens::kind;
 ghost use mathlib.Core.Path.{_≡_};
 ghost use Prim.Native.Nat.{_<_, _≤_};
 ghost use lib.ListN.{length};
-ghost use Rattle.derive.specs.Shape.{Shape.shape, sample};
-ghost use Rattle.derive.specs.RoleMarks.{mark, said, role, renamed};
+ghost use Rattle.text_shape.specs.Shape.{Shape.shape, sample};
+ghost use Rattle.text_shape.specs.RoleMarks.{mark, said, role, renamed};
 ghost use Rattle.derive.specs.Table.{entries, mark-at, mark-bytes};
 ghost use Rattle.derive.specs.Held.{held};
 ghost use Rattle.derive.specs.Leaving.{amended, left};
-
-// Behind a name that begins a statement, an expression, an item.
-const BEHIND_NAME: u8 = 14;
-
-const BEHIND_ID: u8 = 24;
-
-const BEHIND_STEP: u8 = 30;
 
 // Two bytes of the table that are no role: the kind says it all; what was opened last says it.
 const BY_KIND: u8 = 95;
 
 const BY_OPENED: u8 = 94;
-
-// Kinds behind a name that tell its role, and the roles that they tell: a local's type, and names of structs.
-const LPAR: u8 = 13;
-
-const DOT: u8 = 21;
-
-const NAME: u8 = 36;
-
-const LOCAL_TYPE: u8 = 58;
-
-const MADE: u8 = 46;
-
-const MADE_STATEMENT: u8 = 47;
-
-const CALLED_STRUCT: u8 = 49;
 
 // What a byte of the table says of a token of kind k.
 fn said(m: u8, k: u8) -> u8
@@ -77,24 +58,24 @@ pub(crate) fn role(marks: &[u8], stack: &[u8], m: Mark, k: u8, e: usize) -> u8
 pub(crate) fn renamed(q: u8, k: u8) -> u8
     ensures { λ r. ⌜ r ≡ renamed q k ⌝ }
 {
-    if q == BEHIND_NAME {
-        if k == NAME {
-            return LOCAL_TYPE;
+    if q == state::BEHIND_NAME {
+        if k == kind::NAME {
+            return role::LOCAL_STRUCT;
         }
-        if k == LPAR {
-            return MADE_STATEMENT;
-        }
-        return 0;
-    }
-    if q == BEHIND_ID {
-        if k == LPAR {
-            return MADE;
+        if k == kind::LPAR {
+            return role::MADE_STATEMENT;
         }
         return 0;
     }
-    if q == BEHIND_STEP {
-        if k == DOT {
-            return CALLED_STRUCT;
+    if q == state::BEHIND_ID {
+        if k == kind::LPAR {
+            return role::MADE;
+        }
+        return 0;
+    }
+    if q == state::BEHIND_EXECUTION {
+        if k == kind::DOT {
+            return role::CALLED_STRUCT;
         }
     }
     0

@@ -1,10 +1,15 @@
-// The derivation's machine as three tables, 39 kinds for each code, two codes to a line. The acts (`specs/Shape.antt`): where one goes to (0: nowhere, 63:
-// what was opened last takes the token), and what it opens (0: nothing); a number is the byte that is 48 above it. The roles (`specs/RoleMarks.antt`).
+// The derivation's machine as three tables, 39 kinds for each code, two codes to a line. The acts (`text_shape/specs/Shape.antt`): where one goes to (0:
+// nowhere, `BELOW`: what was opened last takes the token), and what it opens (0: nothing). The roles (`text_shape/specs/RoleMarks.antt`).
 // A constant is laid down anew wherever it is lent: the functions that walk a text lend each once, and lend what was lent to them.
 ghost use mathlib.Core.Path.{_≡_};
 ghost use Prim.Native.Nat.{_+_, _<_, _≤_};
 ghost use lib.ListN.{length, getD};
-ghost use Rattle.derive.specs.Table.{entries, mark-at, mark-bytes};
+ghost use Rattle.derive.specs.Table.{entries, digits-from, mark-at, mark-bytes};
+
+// A number is the byte that is so far above it.
+const ZERO: u8 = b'0';
+
+pub(crate) const BELOW: u8 = 63;
 
 pub(crate) const NEXT: [u8; 1833] =
     *b"000000000000000000000000000000000000000030000000000000000000000000000000000000\
@@ -87,11 +92,11 @@ pub(crate) const MARKS: [u8; 1833] =
 
 // The number of a byte.
 pub(crate) fn number(t: &[u8], i: usize) -> u8
-    requires { ⌜ (i < length (now t)) × (48 ≤ getD (now t) i 0) ⌝ }
-    ensures { λ r. ⌜ getD (now (t .entry)) i 0 ≡ 48 + r ⌝ }
+    requires { ⌜ (i < length (now t)) × (digits-from ≤ getD (now t) i 0) ⌝ }
+    ensures { λ r. ⌜ getD (now (t .entry)) i 0 ≡ digits-from + r ⌝ }
 {
     let b = t[i];
-    b - 48
+    b - ZERO
 }
 
 pub(crate) fn mark(t: &[u8], i: usize) -> u8

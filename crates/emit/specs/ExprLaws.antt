@@ -17,6 +17,8 @@ use Rattle.emit.specs.WordLaws.{inv-words, make-is, cons-words, path-is,
 use Rattle.emit.specs.ReadLaws.{then-value, pair-value, ranged-value, opened-value}
 use Rattle.emit.specs.Parts.{Part, Parts, Rest}
 use Rattle.emit.specs.PartsLaws.{part-of, made-part, pair-parts, rest-ready, rest-next, rest-none}
+use Rattle.commands.specs.CommandKinds.{not-kind, cons-kind, op-kind}
+use Rattle.program.specs.Forms.{inv-form, make-form, path-form, this-form}
 
 -- an expression has a byte and a level, and its byte's form says what is read
 pub expr-step : (ar s : List ℕ) (d at : ℕ) → Good (read-expr ar s d at)
@@ -36,32 +38,32 @@ module _ (ar s : List ℕ) (d at : ℕ) (g : Good (read-expr ar s d at)) where
   expr-in = let p = expr-step ar s d at g in (p .0, p .1)
 
   -- not
-  pub inv-part : getD s at 0 ≡ 16 → Part expr-words (read-expr ar s d at) expr-words (deeper (at + 1)) (coded 7 0 0 ∷ [])
+  pub inv-part : getD s at 0 ≡ inv-form → Part expr-words (read-expr ar s d at) expr-words (deeper (at + 1)) (coded not-kind 0 0 ∷ [])
   unfolding rule-expr form lookup
   inv-part e = made-part expr-words expr-words inv (deeper (at + 1)) (expr-step ar s d at g .2 ∙ rw e refl) g inv-words
 
   -- construct
-  pub make-part : getD s at 0 ≡ 17 → Part expr-words (read-expr ar s d at) make-words (make-at ar s (d - 1) (at + 1)) []
+  pub make-part : getD s at 0 ≡ make-form → Part expr-words (read-expr ar s d at) make-words (make-at ar s (d - 1) (at + 1)) []
   unfolding rule-expr form lookup
   make-part e =
       made-part expr-words make-words (λ p. make (p .0) (p .1)) (make-at ar s (d - 1) (at + 1)) (expr-step ar s d at g .2 ∙ rw e refl) g
       (λ p. make-is (p .0) (p .1) ∙ sym (append-nil _))
 
   -- a path
-  pub path-part : getD s at 0 ≡ 18 → Part expr-words (read-expr ar s d at) path-words (read-path s (at + 1)) []
+  pub path-part : getD s at 0 ≡ path-form → Part expr-words (read-expr ar s d at) path-words (read-path s (at + 1)) []
   unfolding rule-expr form lookup
   path-part e =
       made-part expr-words path-words (λ p. path (p .0) (p .1)) (read-path s (at + 1)) (expr-step ar s d at g .2 ∙ rw e refl) g
       (λ p. path-is (p .0) (p .1) ∙ sym (append-nil _))
 
   -- an operator
-  pub op-parts : 24 ≤ getD s at 0
-      → Parts expr-words (read-expr ar s d at) expr-words (deeper (at + 1)) expr-words deeper (coded 8 0 (getD s at 0) ∷ [])
+  pub op-parts : this-form + 1 ≤ getD s at 0
+      → Parts expr-words (read-expr ar s d at) expr-words (deeper (at + 1)) expr-words deeper (coded op-kind 0 (getD s at 0) ∷ [])
   unfolding rule-expr
   op-parts h = go (form (getD s at 0)) refl (opens (getD s at 0))
     where
       go : (f : Form) → form (getD s at 0) ≡ f → Opens (getD s at 0) f
-          → Parts expr-words (read-expr ar s d at) expr-words (deeper (at + 1)) expr-words deeper (coded 8 0 (getD s at 0) ∷ [])
+          → Parts expr-words (read-expr ar s d at) expr-words (deeper (at + 1)) expr-words deeper (coded op-kind 0 (getD s at 0) ∷ [])
       go form-inv e o = absurd (omega arith)
       go form-make e o = absurd (omega arith)
       go form-path e o = absurd (omega arith)
@@ -82,7 +84,7 @@ module _ (ar s : List ℕ) (d at : ℕ) (g : Good (read-expr ar s d at)) where
 pub record MakeFacts (ar s : List ℕ) (d at : ℕ) : Type 0 where
   pub inside : at < length s
   pub struct : getD s at 0 < length ar
-  pub part : Part make-words (make-at ar s d at) args-words (args-at ar s d (getD ar (getD s at 0) 0) (at + 1)) (coded 5 0 (getD s at 0) ∷ [])
+  pub part : Part make-words (make-at ar s d at) args-words (args-at ar s d (getD ar (getD s at 0) 0) (at + 1)) (coded cons-kind 0 (getD s at 0) ∷ [])
 
 -- arguments that were read have it
 pub make-facts : (ar s : List ℕ) (d at : ℕ) → Good (make-at ar s d at) → MakeFacts ar s d at

@@ -1,5 +1,5 @@
 -- What the code has of a literal, a null or this that was read (01, 'Program stream'; 000, definition 2).
-use Prim.Native.Nat.{ℕ, zero, suc, _+_, _-_, _*_, _/_, _%_, _^_, _<_, _≤_}
+use Prim.Native.Nat.{ℕ, zero, suc, _+_, _*_, _/_, _%_, _^_, _<_, _≤_}
 use native.Mathlib.Omega.{arith}
 use native.Mathlib.Decide.{decLt}
 use mathlib.Core.Path.{_≡_, refl, _∙_}
@@ -26,6 +26,7 @@ use Rattle.emit.specs.Written.{Good, next-of, code-of, expr-words}
 use Rattle.emit.specs.Leaf.{null-word, leaf-size, leaf-of, byte-word}
 use Rattle.emit.specs.ReadLaws.{made-value, ranged-value}
 use Rattle.emit.specs.ExprLaws.{expr-step, expr-in}
+use Rattle.commands.specs.CommandKinds.{this-kind, push-kind}
 
 -- a number of four bytes off its bytes
 pub word-off : (s : List ℕ) (n v m : ℕ) → v < 256 ^ 4 → Stands s n (enc-word 4 v) m → (word-at s n ≡ v) × (m ≡ n + 4) × (n + 4 ≤ length s)
@@ -48,15 +49,15 @@ int-back w h = go (decLt w int-half)
     go (no l) = rw (word-int, le-ltb w int-half (omega arith)) (omega arith)
 
 -- the words of each literal, of null and of this
-int-words : (w : ℕ) → w < nat-end → expr-words (int-lit w) ≡ coded 1 0 w ∷ []
+int-words : (w : ℕ) → w < nat-end → expr-words (int-lit w) ≡ coded push-kind 0 w ∷ []
 unfolding expr-words expr-coms flatten words command-word com-word code word value-of
 int-words w h = rw (int-back w h)
 
-nat-words : (w : ℕ) → expr-words (nat-lit w) ≡ coded 1 1 w ∷ []
+nat-words : (w : ℕ) → expr-words (nat-lit w) ≡ coded push-kind 1 w ∷ []
 unfolding expr-words expr-coms flatten words command-word com-word code word value-of
 nat-words w = refl
 
-bool-words : (w : ℕ) → w < 2 → expr-words (bool-lit w) ≡ coded 1 2 w ∷ []
+bool-words : (w : ℕ) → w < 2 → expr-words (bool-lit w) ≡ coded push-kind 2 w ∷ []
 unfolding expr-words expr-coms flatten words command-word com-word code word value-of
 bool-words zero h = refl
 bool-words (suc zero) h = refl
@@ -66,7 +67,7 @@ null-words : (t : Ty) → expr-words (null t) ≡ null-word (code t) ∷ []
 unfolding expr-words expr-coms flatten words command-word com-word null-word
 null-words t = rw (type-of-code t)
 
-this-words : expr-words self ≡ coded 2 0 0 ∷ []
+this-words : expr-words self ≡ coded this-kind 0 0 ∷ []
 unfolding expr-words expr-coms flatten words command-word com-word
 this-words = refl
 
@@ -85,8 +86,8 @@ module _ (ar s : List ℕ) (d at : ℕ) (g : Good (read-expr ar s d at)) where
   leaf-by b m e p l n i w = record { low = l; fits = rw n at i; code = rw p w; next = rw p n }
 
   -- an Int or a Nat
-  number : (c : ℕ → Expr) (b t : ℕ) → 19 ≤ b → leaf-size b ≡ 5 → leaf-of s at b ≡ coded 1 t (word-at s (at + 1))
-      → read-expr ar s d at ≡ made c (read-word s word-bytes (at + 1)) → ((w : ℕ) → w < nat-end → expr-words (c w) ≡ coded 1 t w ∷ [])
+  number : (c : ℕ → Expr) (b t : ℕ) → 19 ≤ b → leaf-size b ≡ 5 → leaf-of s at b ≡ coded push-kind t (word-at s (at + 1))
+      → read-expr ar s d at ≡ made c (read-word s word-bytes (at + 1)) → ((w : ℕ) → w < nat-end → expr-words (c w) ≡ coded push-kind t w ∷ [])
       → LeafFacts ar s d at b
   number c b t l z f p w =
       let v = made-value c (read-word s word-bytes (at + 1)) (rw p at g) in

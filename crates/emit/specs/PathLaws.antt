@@ -19,14 +19,16 @@ use Rattle.emit.specs.WordLaws.{path-off, target-off}
 use Rattle.emit.specs.Leaf.{rd-words}
 use Rattle.emit.specs.LeafLaws.{Reads}
 use Rattle.emit.specs.ReadLaws.{value}
+use Rattle.commands.specs.CommandKinds.{this-kind, wr-kind}
 
 -- what the code has of a path of n variables
 pub record PathFacts (s : List ℕ) (at n : ℕ) : Type 0 where
   pub inside : at < length s
   pub some : 0 < n
   pub fits : at + 1 + n ≤ length s
-  pub code : code-of path-words (read-path s at) ≡ coded 2 0 0 ∷ rd-words s (at + 1) n
-  pub target : code-of target-words (read-path s at) ≡ coded 2 0 0 ∷ (rd-words s (at + 1) (n - 1) ++ (coded 4 0 (getD s (at + 1 + (n - 1)) 0) ∷ []))
+  pub code : code-of path-words (read-path s at) ≡ coded this-kind 0 0 ∷ rd-words s (at + 1) n
+  pub target : code-of target-words (read-path s at) ≡ coded this-kind 0 0
+      ∷ (rd-words s (at + 1) (n - 1) ++ (coded wr-kind 0 (getD s (at + 1 + (n - 1)) 0) ∷ []))
   pub next : next-of (read-path s at) ≡ at + 1 + n
 
 -- a path that was read has them
@@ -72,15 +74,15 @@ module _ (s : List ℕ) (at k : ℕ) (out : List ℕ) where
       omega (arith, rd-length s (at + 1) (getD s at 0 - 1), rw (f .target, length-append) at (p .room))
 
   -- push this and the reads are the path that is read
-  pub path-wrote : Good (read-path s at) → {v : ℕ} {p : Put} {out1 out2 : List ℕ} → v ≡ coded 2 0 0 → out1 ≡ set out k v
+  pub path-wrote : Good (read-path s at) → {v : ℕ} {p : Put} {out1 out2 : List ℕ} → v ≡ coded this-kind 0 0 → out1 ≡ set out k v
       → Reads s (at + 1) (getD s at 0) out1 (k + 1) p out2 → Wrote path-words (read-path s at) out k p out2
   path-wrote g e h r =
       let f = path-facts s at g in
       placed-as (placed-first h (reads-placed s (at + 1) (getD s at 0) r)) (f .code ∙ rw e) (f .next)
 
   -- push this, the reads of all but the last and the write of the last are the path that is written
-  pub target-wrote : Good (read-path s at) → {v w b : ℕ} {p q : Put} {out1 out2 out3 : List ℕ} → v ≡ coded 2 0 0 → out1 ≡ set out k v
-      → Reads s (at + 1) (getD s at 0 - 1) out1 (k + 1) p out2 → b ≡ getD s (p .next) 0 → w ≡ coded 4 0 b → out3 ≡ set out2 (p .at) w
+  pub target-wrote : Good (read-path s at) → {v w b : ℕ} {p q : Put} {out1 out2 out3 : List ℕ} → v ≡ coded this-kind 0 0 → out1 ≡ set out k v
+      → Reads s (at + 1) (getD s at 0 - 1) out1 (k + 1) p out2 → b ≡ getD s (p .next) 0 → w ≡ coded wr-kind 0 b → out3 ≡ set out2 (p .at) w
       → q .next ≡ p .next + 1 → q .at ≡ p .at + 1 → Wrote target-words (read-path s at) out k q out3
   target-wrote g {p = p} {q = q} e h r bb ww o n a =
       let f = path-facts s at g in

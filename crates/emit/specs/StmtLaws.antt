@@ -25,11 +25,12 @@ use Rattle.emit.specs.ReadLaws.{value, pair-value, pair-ok, one-stands, 
 use Rattle.emit.specs.PathLaws.{path-facts}
 use Rattle.emit.specs.Parts.{Part, Parts, Rest}
 use Rattle.emit.specs.PartsLaws.{part-of, part-wrote, same-part, made-part, parts-of, rest-ready, rest-next, rest-none}
+use Rattle.commands.specs.CommandKinds.{if-kind, this-kind, wr-kind}
 
 -- a declaration: its type's byte and its local stand before the expression
 pub record DeclareFacts (ar s : List ℕ) (at : ℕ) : Type 0 where
   pub inside : at + 1 < length s
-  pub part : Part declare-words (read-declare ar s at) expr-words (read-expr ar s 16 (at + 2)) (coded 2 0 0 ∷ coded 4 0 (getD s (at + 1) 0) ∷ [])
+  pub part : Part declare-words (read-declare ar s at) expr-words (read-expr ar s 16 (at + 2)) (coded this-kind 0 0 ∷ coded wr-kind 0 (getD s (at + 1) 0) ∷ [])
 
 -- a declaration that was read has them
 pub declare-facts : (ar s : List ℕ) (at : ℕ) → Good (read-declare ar s at) → DeclareFacts ar s at
@@ -77,7 +78,7 @@ when-parts ar s d at g =
 
 module _ (r : Result Stmts) (g : Good r) where
   -- the words of a block
-  block-code : code-of block-words r ≡ coded 6 0 (length (code-of body-words r)) ∷ code-of body-words r
+  block-code : code-of block-words r ≡ coded if-kind 0 (length (code-of body-words r)) ∷ code-of body-words r
   unfolding code-of block-words
   block-code = let v = value r g in rw (v .2)
 
@@ -90,10 +91,10 @@ module _ (r : Result Stmts) (g : Good r) where
 
   -- and `if n` before it
   pub block-wrote : {out : List ℕ} {k : ℕ} {p : Put} {out1 out2 : List ℕ} {v : ℕ} → Wrote body-words r out (k + 1) p out1
-      → v ≡ coded 6 0 (p .at - k - 1) → out2 ≡ set out1 k v → Wrote block-words r out k p out2
+      → v ≡ coded if-kind 0 (p .at - k - 1) → out2 ≡ set out1 k v → Wrote block-words r out k p out2
   block-wrote {out} {k} {p} {out2 = out2} {v = v} w e h =
       let n : p .at - k - 1 ≡ length (code-of body-words r) = omega (arith, w .at) in
-      let e' : v ≡ coded 6 0 (length (code-of body-words r)) = e ∙ rw n in
+      let e' : v ≡ coded if-kind 0 (length (code-of body-words r)) = e ∙ rw n in
       let l : out2 ≡ sets (set out k v) (k + 1) (code-of body-words r) =
       h ∙ rw (w .list) (set-sets out k (k + 1) v (code-of body-words r) (omega arith)) in
       placed-as {ws = v ∷ code-of body-words r} (record { next = w .next; at = omega (arith, w .at); list = rw (add-one k) at l })

@@ -18,13 +18,14 @@ use Rattle.commands.specs.ProgramWordsLaws.{words-append, words-length}
 use Rattle.emit.specs.Written.{coms-words, expr-words, args-words, make-words, path-words, target-words, stmt-words, body-words, when-words}
 use Rattle.emit.specs.Written.{block-words, declare-words, update-words}
 use Rattle.emit.specs.Leaf.{rd-words}
+use Rattle.commands.specs.CommandKinds.{this-kind, not-kind, cons-kind, op-kind, rd-kind, wr-kind}
 
 -- the words of commands in a row
 pub words-then : (c d : Coms) → coms-words (then c d) ≡ coms-words c ++ coms-words d
 words-then c d = rw flatten-then (words-append (flatten c) (flatten d))
 
 -- not stands behind its expression
-pub inv-words : (e : Expr) → expr-words (inv e) ≡ expr-words e ++ (coded 7 0 0 ∷ [])
+pub inv-words : (e : Expr) → expr-words (inv e) ≡ expr-words e ++ (coded not-kind 0 0 ∷ [])
 unfolding expr-words expr-coms flatten words command-word com-word
 inv-words e = words-then (expr-coms e) _
 
@@ -34,7 +35,7 @@ unfolding expr-words expr-coms make-words
 make-is k es = refl
 
 -- cons stands behind the arguments
-pub cons-words : (k : ℕ) (es : Exprs) → make-words (k, es) ≡ args-words es ++ (coded 5 0 k ∷ [])
+pub cons-words : (k : ℕ) (es : Exprs) → make-words (k, es) ≡ args-words es ++ (coded cons-kind 0 k ∷ [])
 unfolding make-words args-words flatten words command-word com-word
 cons-words k es = words-then (args-coms es) _
 
@@ -43,7 +44,7 @@ unfolding expr-words expr-coms path-words
 path-is v vs = refl
 
 -- an operator stands behind its operands
-pub op-words : (o : Op) (a b : Expr) → expr-words (op o a b) ≡ expr-words a ++ (expr-words b ++ (coded 8 0 (op-code o) ∷ []))
+pub op-words : (o : Op) (a b : Expr) → expr-words (op o a b) ≡ expr-words a ++ (expr-words b ++ (coded op-kind 0 (op-code o) ∷ []))
 unfolding expr-words expr-coms flatten words command-word com-word
 op-words o a b = words-then (expr-coms a) _ ∙ ap (λ l. coms-words (expr-coms a) ++ l) (words-then (expr-coms b) _)
 
@@ -69,7 +70,7 @@ unfolding update-words stmt-words expr-words target-words stmt-coms update-coms
 updating-words v vs e = words-then (expr-coms e) _
 
 -- the expression, push this, a wr of the local
-pub declaring-words : (t : Ty) (x : ℕ) (e : Expr) → declare-words (t, (x, e)) ≡ expr-words e ++ (coded 2 0 0 ∷ coded 4 0 (first-local + x) ∷ [])
+pub declaring-words : (t : Ty) (x : ℕ) (e : Expr) → declare-words (t, (x, e)) ≡ expr-words e ++ (coded this-kind 0 0 ∷ coded wr-kind 0 (first-local + x) ∷ [])
 unfolding declare-words stmt-words expr-words stmt-coms update-coms front last reads then flatten words command-word com-word var-code
 declaring-words t x e = words-then (expr-coms e) _
 
@@ -101,12 +102,12 @@ more-stmts t b = words-then (stmt-coms t) (body-coms b)
 
 -- an rd of each variable
 abbrev rds : List ℕ → List ℕ
-rds xs = map (coded 3 0) xs
+rds xs = map (coded rd-kind 0) xs
 
 reads-words : (xs : List ℕ) → coms-words (reads xs) ≡ rds xs
 unfolding reads flatten words command-word com-word
 reads-words [] = refl
-reads-words (x ∷ xs) = ap (λ l. coded 3 0 x ∷ l) (reads-words xs)
+reads-words (x ∷ xs) = ap (λ l. coded rd-kind 0 x ∷ l) (reads-words xs)
 
 -- off the bytes
 pub rds-of : {s xs : List ℕ} {n m : ℕ} → Stands s n xs m → rd-words s n (length xs) ≡ rds xs
@@ -126,16 +127,16 @@ front-of x (y ∷ ys) (letter {n = n} h e p) =
 
 -- a path that is read, off its bytes
 pub path-off : (v : Var) (vs : List ℕ) {s : List ℕ} {n m : ℕ} → Stands s n (var-code v ∷ vs) m
-    → path-words (v, vs) ≡ coded 2 0 0 ∷ rd-words s n (suc (length vs))
+    → path-words (v, vs) ≡ coded this-kind 0 0 ∷ rd-words s n (suc (length vs))
 unfolding path-words flatten words command-word com-word
-path-off v vs w = ap (λ l. coded 2 0 0 ∷ l) (reads-words (var-code v ∷ vs) ∙ sym (rds-of w))
+path-off v vs w = ap (λ l. coded this-kind 0 0 ∷ l) (reads-words (var-code v ∷ vs) ∙ sym (rds-of w))
 
 target-split : (v : Var) (vs : List ℕ)
-    → target-words (v, vs) ≡ coded 2 0 0 ∷ (rds (front (var-code v) vs) ++ (coded 4 0 (last (var-code v) vs) ∷ []))
+    → target-words (v, vs) ≡ coded this-kind 0 0 ∷ (rds (front (var-code v) vs) ++ (coded wr-kind 0 (last (var-code v) vs) ∷ []))
 unfolding target-words then flatten words command-word com-word
-target-split v vs = ap (λ l. coded 2 0 0 ∷ l) (words-then (reads (front (var-code v) vs)) _ ∙ rw (reads-words (front (var-code v) vs)))
+target-split v vs = ap (λ l. coded this-kind 0 0 ∷ l) (words-then (reads (front (var-code v) vs)) _ ∙ rw (reads-words (front (var-code v) vs)))
 
 -- a path that is written, off its bytes
 pub target-off : (v : Var) (vs : List ℕ) {s : List ℕ} {n m : ℕ} → Stands s n (var-code v ∷ vs) m
-    → target-words (v, vs) ≡ coded 2 0 0 ∷ (rd-words s n (length vs) ++ (coded 4 0 (getD s (n + length vs) 0) ∷ []))
+    → target-words (v, vs) ≡ coded this-kind 0 0 ∷ (rd-words s n (length vs) ++ (coded wr-kind 0 (getD s (n + length vs) 0) ∷ []))
 target-off v vs w = let q = front-of (var-code v) vs w in target-split v vs ∙ rw (q .0, q .1)

@@ -13,6 +13,7 @@ use Rattle.program.specs.Reader.{Result, Result.ok, Result.bad, many, read-expr
 use Rattle.commands.specs.Commands.{Com.wr, Com.cons, one, then, path-coms, front, last, expr-coms, args-coms, stmt-coms, flatten, Coms, commands}
 use Rattle.commands.specs.Coding.{coded, words}
 use Rattle.emit.specs.declared.Put.{Put}
+use Rattle.commands.specs.CommandKinds.{if-kind}
 
 -- the reader gave a value
 abbrev pub Good : {A : Type 0} → Result A → Type 0
@@ -75,7 +76,7 @@ unfoldable pub when-words : Expr × Stmts → List ℕ
 when-words p = stmt-words (when (p .0) (p .1))
 
 unfoldable pub block-words : Stmts → List ℕ
-block-words b = coded 6 0 (length (body-words b)) ∷ body-words b
+block-words b = coded if-kind 0 (length (body-words b)) ∷ body-words b
 
 unfoldable pub declare-words : Ty × (ℕ × Expr) → List ℕ
 declare-words p = stmt-words (declare (p .0) (p .1 .0) (p .1 .1))

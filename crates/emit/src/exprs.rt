@@ -6,10 +6,15 @@ use crate::words::leaf;
 use crate::words::leaf_size;
 use crate::words::path;
 use crate::words::store;
+use commands::kind;
 use little_endian::index;
 use little_endian::wide;
+use program::form;
 ghost use Rattle.program.specs.Reader.{read-expr};
 ghost use Rattle.emit.specs.Written.{Ready, Wrote, expr-words, make-words, make-at};
+
+// The forms with no expression inside end behind that of this.
+const LEAVES_END: u8 = form::THIS + 1;
 
 // The commands of the expression at a place, from k on.
 pub(crate) fn expr(s: &[u8], ar: &[u8], at: usize, depth: usize, out: &mut [u64], k: usize) -> Put
@@ -17,18 +22,18 @@ pub(crate) fn expr(s: &[u8], ar: &[u8], at: usize, depth: usize, out: &mut [u64]
     ensures { λ r. ⌜ Wrote expr-words (read-expr (now (ar .entry)) (now (s .entry)) depth at) (now (out .entry)) k r (now (out .exit)) ⌝ }
 {
     let tag = s[at];
-    if tag == 16 {
+    if tag == form::INV {
         let p = expr(s, ar, at + 1, depth - 1, out, k);
-        let v = coded(7, 0, 0);
+        let v = coded(kind::NOT, 0, 0);
         return add(out, p, v);
     }
-    if tag == 17 {
+    if tag == form::MAKE {
         return make(s, ar, at + 1, depth - 1, out, k);
     }
-    if tag == 18 {
+    if tag == form::PATH {
         return path(s, at + 1, out, k);
     }
-    if tag < 24 {
+    if tag < LEAVES_END {
         let v = leaf(s, at);
         store(out, k, v);
         return Put {
@@ -40,7 +45,7 @@ pub(crate) fn expr(s: &[u8], ar: &[u8], at: usize, depth: usize, out: &mut [u64]
     let next = p.next;
     let i = p.at;
     let q = expr(s, ar, next, depth - 1, out, i);
-    let v = coded(8, 0, wide(tag));
+    let v = coded(kind::OP, 0, wide(tag));
     add(out, q, v)
 }
 
@@ -62,6 +67,6 @@ pub(crate) fn make(s: &[u8], ar: &[u8], at: usize, depth: usize, out: &mut [u64]
         p = expr(s, ar, next, depth, out, j);
         left -= 1;
     }
-    let v = coded(5, 0, wide(b));
+    let v = coded(kind::CONS, 0, wide(b));
     add(out, p, v)
 }

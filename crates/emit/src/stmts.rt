@@ -6,8 +6,10 @@ use crate::words::add;
 use crate::words::coded;
 use crate::words::store;
 use crate::words::target;
+use commands::kind;
 use little_endian::index;
 use little_endian::wide;
+use program::form;
 ghost use Rattle.program.specs.Reader.{read-stmt, read-declare, read-update};
 ghost use Rattle.emit.specs.Written.{Ready, Wrote, stmt-words, body-words, when-words, block-words, declare-words, update-words, body-at, when-at};
 
@@ -17,9 +19,9 @@ fn declare(s: &[u8], ar: &[u8], at: usize, out: &mut [u64], k: usize) -> Put
     ensures { λ r. ⌜ Wrote declare-words (read-declare (now (ar .entry)) (now (s .entry)) at) (now (out .entry)) k r (now (out .exit)) ⌝ }
 {
     let p = expr(s, ar, at + 2, types::EXPR_LEVELS, out, k);
-    let v = coded(2, 0, 0);
+    let v = coded(kind::THIS, 0, 0);
     let q = add(out, p, v);
-    let w = coded(4, 0, wide(s[at + 1]));
+    let w = coded(kind::WR, 0, wide(s[at + 1]));
     add(out, q, w)
 }
 
@@ -44,13 +46,13 @@ fn stmt(s: &[u8], ar: &[u8], at: usize, depth: usize, out: &mut [u64], k: usize)
     ensures { λ r. ⌜ Wrote stmt-words (read-stmt (now (ar .entry)) (now (s .entry)) depth at) (now (out .entry)) k r (now (out .exit)) ⌝ }
 {
     let tag = s[at];
-    if tag == 1 {
+    if tag == form::WHEN {
         return when(s, ar, at + 1, depth - 1, out, k);
     }
-    if tag == 2 {
+    if tag == form::DECLARE {
         return declare(s, ar, at + 1, out, k);
     }
-    if tag == 3 {
+    if tag == form::UPDATE {
         return update(s, ar, at + 1, out, k);
     }
     make(s, ar, at + 1, types::EXPR_LEVELS, out, k)
@@ -75,7 +77,7 @@ fn block(s: &[u8], ar: &[u8], at: usize, depth: usize, out: &mut [u64], k: usize
     let p = body(s, ar, at, depth, out, k + 1);
     let j = p.at;
     let n = j - k - 1;
-    let v = coded(6, 0, n as u64);
+    let v = coded(kind::IF, 0, n as u64);
     store(out, k, v);
     p
 }

@@ -1,7 +1,9 @@
 // A command's word, and the words of the forms that hold no other expression.
 use crate::Put;
+use commands::kind;
 use little_endian::wide;
 use little_endian::word_at;
+use program::form;
 ghost use mathlib.Core.Path.{_≡_};
 ghost use Prim.Native.Nat.{ℕ, _+_, _<_, _≤_};
 ghost use lib.ListN.{length, getD, set};
@@ -11,6 +13,7 @@ ghost use Rattle.commands.specs.Coding.{coded};
 ghost use Rattle.program.specs.Reader.{read-path};
 ghost use Rattle.emit.specs.Written.{Ready, Wrote, path-words, target-words};
 ghost use Rattle.emit.specs.Leaf.{leaf-size, leaf-word, null-word, rd-words};
+ghost use Rattle.program.specs.Forms.{int-form};
 
 // The word of a command: its kind, the type byte of a push, its operand.
 pub(crate) fn coded(kind: u64, typ: u64, operand: u64) -> u64
@@ -45,16 +48,16 @@ fn null_word(b: u8) -> u64
     ensures { λ r. ⌜ r ≡ null-word b ⌝ }
 {
     let v = types::default_word(b);
-    coded(1, wide(b), v as u64)
+    coded(kind::PUSH, wide(b), v as u64)
 }
 
 pub(crate) fn leaf_size(tag: u8) -> usize
     ensures { λ r. ⌜ r ≡ leaf-size tag ⌝ }
 {
-    if tag < 21 {
+    if tag < form::BOOL {
         return 5;
     }
-    if tag < 23 {
+    if tag < form::THIS {
         return 2;
     }
     1
@@ -62,22 +65,22 @@ pub(crate) fn leaf_size(tag: u8) -> usize
 
 // The word of a literal, of a null or of this.
 pub(crate) fn leaf(s: &[u8], at: usize) -> u64
-    requires { ⌜ (19 ≤ getD (now s) at 0) × (at + leaf-size (getD (now s) at 0) ≤ length (now s)) ⌝ }
+    requires { ⌜ (int-form ≤ getD (now s) at 0) × (at + leaf-size (getD (now s) at 0) ≤ length (now s)) ⌝ }
     ensures { λ r. ⌜ r ≡ leaf-word (now (s .entry)) at ⌝ }
 {
     let tag = s[at];
-    if tag < 21 {
+    if tag < form::BOOL {
         let v = word_at(s, at + 1);
-        return coded(1, wide(tag - 19), v);
+        return coded(kind::PUSH, wide(tag - form::INT), v);
     }
-    if tag < 23 {
+    if tag < form::THIS {
         let b = s[at + 1];
-        if tag < 22 {
-            return coded(1, types::BOOL as u64, wide(b));
+        if tag < form::NULL {
+            return coded(kind::PUSH, types::BOOL as u64, wide(b));
         }
         return null_word(b);
     }
-    coded(2, 0, 0)
+    coded(kind::THIS, 0, 0)
 }
 
 // An rd of each of n variables.
@@ -89,7 +92,7 @@ fn reads(s: &[u8], at: usize, n: u8, out: &mut [u64], k: usize) -> Put
     let mut i = k;
     let mut left = n;
     while left != 0 {
-        let v = coded(3, 0, wide(s[next]));
+        let v = coded(kind::RD, 0, wide(s[next]));
         store(out, i, v);
         next += 1;
         i += 1;
@@ -104,7 +107,7 @@ pub(crate) fn path(s: &[u8], at: usize, out: &mut [u64], k: usize) -> Put
     ensures { λ r. ⌜ Wrote path-words (read-path (now (s .entry)) at) (now (out .entry)) k r (now (out .exit)) ⌝ }
 {
     let n = s[at];
-    let v = coded(2, 0, 0);
+    let v = coded(kind::THIS, 0, 0);
     store(out, k, v);
     reads(s, at + 1, n, out, k + 1)
 }
@@ -115,12 +118,12 @@ pub(crate) fn target(s: &[u8], at: usize, out: &mut [u64], k: usize) -> Put
     ensures { λ r. ⌜ Wrote target-words (read-path (now (s .entry)) at) (now (out .entry)) k r (now (out .exit)) ⌝ }
 {
     let n = s[at];
-    let v = coded(2, 0, 0);
+    let v = coded(kind::THIS, 0, 0);
     store(out, k, v);
     let p = reads(s, at + 1, n - 1, out, k + 1);
     let last = p.next;
     let i = p.at;
-    let w = coded(4, 0, wide(s[last]));
+    let w = coded(kind::WR, 0, wide(s[last]));
     store(out, i, w);
     Put {
         next: last + 1,

@@ -6,7 +6,7 @@ use mathlib.Core.List.{List, [], _∷_}
 use mathlib.Core.Path.{_≡_, refl, ap, _∙_, sym}
 use lib.ListN.{length, getD}
 use lib.Dec.{eqb}
-use borrow.Author.Tests.{eqb-true, eqb-false, eq-eqb, ne-eqb}
+use Rattle.types.specs.ListLaws.{eqb-sym}
 use Rattle.types.specs.Limits.{max-structs}
 use Rattle.program.specs.Tree.{Step, Program}
 use Rattle.program.specs.Counts.{All, CountsStep}
@@ -31,13 +31,6 @@ fresh ns (x ∷ l) = not (member x ns) && fresh (x ∷ ns) l
 
 unfoldable outside : List ℕ → List ℕ → Bool
 outside ns l = every (λ x. not (member x ns)) l
-
-eqb-sym : (x y : ℕ) → eqb x y ≡ eqb y x
-eqb-sym x y = go (eqb x y) refl
-  where
-    go : (t : Bool) → eqb x y ≡ t → t ≡ eqb y x
-    go true e = sym (eq-eqb y x (sym (eqb-true x y e)))
-    go false e = sym (ne-eqb y x (λ q. eqb-false x y e (sym q)))
 
 outside-more : (x : ℕ) (ns l : List ℕ) → outside (x ∷ ns) l ≡ (not (member x l) && outside ns l)
 unfolding outside every member

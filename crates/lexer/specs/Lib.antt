@@ -1,8 +1,4 @@
-pub mod Kinds
-pub mod KindLaws
-pub mod Marking
 pub mod RunLaws
-pub mod MarkingLaws
 pub mod SpotLaws
 pub mod WordFirst
 pub mod WordFirstLaws

@@ -1,21 +1,18 @@
 -- Laws of the loops over bytes, one byte after the other: a run, two lists of bytes, the first close.
 use Prim.Native.Nat.{ℕ, zero, suc, _+_, _-_, _≤_, _<_}
 use native.Mathlib.Omega.{arith}
-use native.Mathlib.Numerals.{add-one}
 use mathlib.Core.Path.{_≡_, refl, sym, ap, _∙_}
 use mathlib.Core.Bool.{Bool, true, false, _&&_}
 use mathlib.Core.List.{List, [], _∷_}
 use lib.ListN.{length, getD, drop, length-drop, drop-of-length-le}
-use lib.Seq.{drop-cons, getD-drop}
+use lib.Seq.{getD-drop}
 use lib.Dec.{eqb}
-use borrow.Author.Tests.{eqb-true, eqb-false, eq-eqb, ne-eqb}
-use Rattle.tokens.specs.Lexing.{slash, star, close}
+use borrow.Author.Tests.{eq-eqb, ne-eqb}
+use Rattle.types.specs.ListLaws.{drop-next, eqb-sym}
+use Rattle.tokens.specs.Lexing.{close}
 use Rattle.tokens.specs.Tokens.{same}
 use Rattle.tokens.specs.Scanning.{span, begins, one-more, closing}
-
--- the byte at a place and those behind it
-pub next-byte : (s : List ℕ) (i : ℕ) → i < length s → drop i s ≡ getD s i 0 ∷ drop (i + 1) s
-next-byte s i h = rw (add-one, drop-cons s i 0)
+use Rattle.tokens.specs.Bytes.{star, slash}
 
 -- a byte that is not 0 stands inside
 pub inside : (s : List ℕ) (i : ℕ) → 0 < getD s i 0 → i < length s
@@ -35,12 +32,12 @@ module _ {p : ℕ → Bool} {s : List ℕ} {at i : ℕ} (r : Runs p s at i) wher
   pub runs-on : i < length s → p (getD s i 0) ≡ true → Runs p s at (i + 1)
   unfolding span
   runs-on l e =
-      let f : span p (drop i s) ≡ suc (span p (drop (i + 1) s)) = rw (next-byte s i l, span, e) refl in
+      let f : span p (drop i s) ≡ suc (span p (drop (i + 1) s)) = rw (drop-next s i l, span, e) refl in
       record { inner = omega arith; same-end = omega (arith, f, r .same-end) }
 
   pub runs-stop : i < length s → p (getD s i 0) ≡ false → i ≡ at + span p (drop at s)
   unfolding span
-  runs-stop l e = let f : span p (drop i s) ≡ 0 = rw (next-byte s i l, span, e) refl in omega (arith, f, r .same-end)
+  runs-stop l e = let f : span p (drop i s) ≡ 0 = rw (drop-next s i l, span, e) refl in omega (arith, f, r .same-end)
 
   pub runs-out : length s ≤ i → i ≡ at + span p (drop at s)
   unfolding span
@@ -75,14 +72,14 @@ module _ {s t : List ℕ} {i : ℕ} (r : Agree s t i) where
   agree-on l e =
       let h : i < length t = omega (arith, r .long) in
       let f : same (drop i s) (drop i t) ≡ same (drop (i + 1) s) (drop (i + 1) t) =
-      rw (next-byte s i l, next-byte t i h, same, eq-eqb (getD s i 0) (getD t i 0) e) refl in
+      rw (drop-next s i l, drop-next t i h, same, eq-eqb (getD s i 0) (getD t i 0) e) refl in
       record { inner = omega arith; long = r .long; rest = sym f ∙ r .rest }
 
   pub agree-not : i < length s → (getD s i 0 ≡ getD t i 0 → ⊥) → false ≡ same s t
   unfolding same
   agree-not l e =
       let h : i < length t = omega (arith, r .long) in
-      let f : same (drop i s) (drop i t) ≡ false = rw (next-byte s i l, next-byte t i h, same, ne-eqb (getD s i 0) (getD t i 0) e) refl in
+      let f : same (drop i s) (drop i t) ≡ false = rw (drop-next s i l, drop-next t i h, same, ne-eqb (getD s i 0) (getD t i 0) e) refl in
       sym f ∙ r .rest
 
   pub agree-out : length s ≤ i → true ≡ same s t
@@ -94,18 +91,11 @@ module _ {s t : List ℕ} {i : ℕ} (r : Agree s t i) where
 
 -- The first close ------------------------------------------------------------------------------
 
-pub eqb-turned : (a b : ℕ) → eqb a b ≡ eqb b a
-eqb-turned a b = go (eqb a b) refl
-  where
-    go : (t : Bool) → eqb a b ≡ t → eqb a b ≡ eqb b a
-    go true e = e ∙ sym (eq-eqb b a (sym (eqb-true a b e)))
-    go false e = e ∙ sym (ne-eqb b a (λ h. eqb-false a b e (sym h)))
-
 -- one byte tells whether a list begins with it
 begins-one : (d : ℕ) (u : List ℕ) → 0 < d → begins (d ∷ []) u ≡ eqb (getD u 0 0) d
 unfolding begins
 begins-one d [] h = sym (ne-eqb 0 d (λ e. omega arith))
-begins-one d (c ∷ u) h = and-true (eqb d c) ∙ eqb-turned d c
+begins-one d (c ∷ u) h = and-true (eqb d c) ∙ eqb-sym d c
 
 module _ (s : List ℕ) (i : ℕ) (l : i < length s) where
   second-byte : getD (drop (i + 1) s) 0 0 ≡ getD s (i + 1) 0
@@ -114,13 +104,13 @@ module _ (s : List ℕ) (i : ℕ) (l : i < length s) where
   close-at : begins close (drop i s) ≡ (eqb star (getD s i 0) && eqb (getD s (i + 1) 0) slash)
   unfolding begins
   close-at =
-      rw (next-byte s i l, begins)
+      rw (drop-next s i l, begins)
       (ap (λ t. eqb star (getD s i 0) && t) (begins-one slash (drop (i + 1) s) (omega arith) ∙ ap (λ n. eqb n slash) second-byte))
 
   pub closes-here : getD s (i + 1) 0 ≡ slash → eqb (getD s i 0) star ≡ begins close (drop i s)
   closes-here e =
       let both = ap (λ t. eqb star (getD s i 0) && t) (eq-eqb (getD s (i + 1) 0) slash e) in
-      sym (close-at ∙ both ∙ and-true (eqb star (getD s i 0)) ∙ eqb-turned star (getD s i 0))
+      sym (close-at ∙ both ∙ and-true (eqb star (getD s i 0)) ∙ eqb-sym star (getD s i 0))
 
   pub closes-not : (getD s (i + 1) 0 ≡ slash → ⊥) → false ≡ begins close (drop i s)
   closes-not n =
@@ -151,12 +141,12 @@ module _ {s : List ℕ} {at i : ℕ} (r : Opened s at i) where
   module _ (l : i < length s) where
     pub opened-close : begins close (drop i s) ≡ true → (i - at) + 2 ≡ closing (drop at s)
     unfolding closing
-    opened-close e = sym (r .some 1 (rw (next-byte s i l, closing) (rw (rw (next-byte s i l) at e) refl)))
+    opened-close e = sym (r .some 1 (rw (drop-next s i l, closing) (rw (rw (drop-next s i l) at e) refl)))
 
     module _ (e : begins close (drop i s) ≡ false) where
       goes-on : closing (drop i s) ≡ one-more (closing (drop (i + 1) s))
       unfolding closing
-      goes-on = rw (next-byte s i l, closing) (rw (rw (next-byte s i l) at e) refl)
+      goes-on = rw (drop-next s i l, closing) (rw (rw (drop-next s i l) at e) refl)
 
       pub opened-on : Opened s at (i + 1)
       unfolding one-more

@@ -9,21 +9,25 @@ use lib.ListN.{length, getD, take, drop}
 use lib.Seq.{getD-drop, drop-drop}
 use lib.Dec.{eqb}
 use borrow.Author.Tests.{eqb-true, eq-eqb, ne-eqb}
-use Rattle.tokens.specs.ByteLaws.{both-true}
+use Rattle.types.specs.ListLaws.{drop-next, eqb-sym}
+use Rattle.tokens.specs.Laws.ByteLaws.{both-true}
 use Rattle.program.specs.Tree.{Op.op-ne, Op.op-le, Op.op-ge, Op.op-lt, Op.op-gt, Op.op-and, Op.op-or}
 use Rattle.tokens.specs.Tokens.{Sign.colon, Sign.assign, Sign.bang, Token, Token.sign, Token.op, Token.int, Token.nat, nat-end-byte, letter, digit}
 use Rattle.tokens.specs.Tokens.{name-byte, blank, op-spelling, sign-spelling, spelling}
-use Rattle.tokens.specs.Lexing.{slash, star}
 use Rattle.tokens.specs.Scanning.{Front, Front.token, Front.nothing, span, begins, closing, named, doubles, singles, signs, find-sign}
 use Rattle.tokens.specs.Scanning.{Class.letters, Class.digits, class, polarity, signed, opens, nat-front, comment-front, after-star, other-front}
 use Rattle.tokens.specs.Scanning.{front-of, front}
 use Rattle.tokens.specs.TokenNumbers.{sign-number}
-use Rattle.lexer.specs.Kinds.{int-kind, nat-kind, sign-kind, op-kind, kind}
-use Rattle.lexer.specs.Marking.{spot-of, signs-digit, followed}
-use Rattle.lexer.specs.RunLaws.{next-byte, inside, eqb-turned}
-use Rattle.lexer.specs.declared.Spot.{Spot}
-use Rattle.lexer.specs.declared.Spot.the-variants.{Marked, Stray}
+use Rattle.tokens.specs.Kinds.{sign-kind, op-kind, kind}
+use Rattle.tokens.specs.Marking.{spot-of, signs-digit, followed}
+use Rattle.lexer.specs.RunLaws.{inside}
+use Rattle.tokens.specs.declared.Spot.{Spot}
+use Rattle.tokens.specs.declared.Spot.the-variants.{Marked, Stray}
 use Rattle.tokens.specs.Unfold.{sign-scan}
+use Rattle.tokens.specs.Bytes.{bang-byte, percent-byte, ampersand-byte, lpar-byte, rpar-byte, star, plus-byte, comma-byte, minus-byte, dot-byte}
+use Rattle.tokens.specs.Bytes.{slash, colon-byte, semicolon-byte, less-byte, equals-byte, more-byte, lbrace-byte, bar-byte, rbrace-byte}
+use Rattle.tokens.specs.KindNames.{no-kind, colon-kind, assign-kind, bang-kind, ne-kind, le-kind, ge-kind, lt-kind, gt-kind, and-kind, or-kind}
+use Rattle.tokens.specs.KindNames.{int-kind, nat-kind}
 
 -- the byte behind a place
 pub behind-byte : (s : List ℕ) (i n : ℕ) → getD (drop (i + 1) s) n 0 ≡ getD s (i + 1 + n) 0
@@ -46,7 +50,7 @@ module _ (s : List ℕ) (at : ℕ) where
 
   -- the bytes up to the end of a run behind the first
   pub front-taken : (e : ℕ) → at < length s → at + 1 ≤ e → take (e - at) (drop at s) ≡ b ∷ take (e - (at + 1)) rest
-  front-taken e l h = rw (next-byte s at l, let m : e - at ≡ suc (e - (at + 1)) = omega arith in m) refl
+  front-taken e l h = rw (drop-next s at l, let m : e - at ≡ suc (e - (at + 1)) = omega arith in m) refl
 
   pub name-spot : (e k : ℕ) → at < length s → e ≡ at + 1 + span name-byte rest → k ≡ kind (named (take (e - at) (drop at s)))
       → Marked k (e - (at + 1)) ≡ spot-of (front-of letters b rest)
@@ -81,7 +85,7 @@ module _ (s : List ℕ) (at : ℕ) where
 
   signed-here : signed b rest ≡ signs-digit b c
   unfolding signed
-  signed-here = ap (λ n. (eqb b 43 || eqb b 45) && digit n) first-behind
+  signed-here = ap (λ n. (eqb b plus-byte || eqb b minus-byte) && digit n) first-behind
 
   star-passed : after-star rest ≡ drop (at + 1 + 1) s
   unfolding after-star
@@ -125,11 +129,11 @@ module _ (s : List ℕ) (at : ℕ) where
   module _ (l : at < length s) where
     front-here : front (drop at s) ≡ front-of (class b) b rest
     unfolding front
-    front-here = rw (next-byte s at l) refl
+    front-here = rw (drop-next s at l) refl
 
     -- whatever stands behind the byte
     pub alone-spot : {r : Spot} → ((t : List ℕ) → r ≡ spot-of (front (b ∷ t))) → r ≡ spot-of (front (drop at s))
-    alone-spot f = rw (next-byte s at l) (f rest)
+    alone-spot f = rw (drop-next s at l) (f rest)
 
     pub letter-spot : {r : Spot} → letter b ≡ true → r ≡ spot-of (front-of letters b rest) → r ≡ spot-of (front (drop at s))
     unfolding class
@@ -166,7 +170,9 @@ Misses (k ∷ ks) b = (Misses ks b) × (b ≡ k → ⊥)
 
 -- the first bytes of the signs, from the highest down
 abbrev pub firsts : List ℕ
-firsts = 125 ∷ 124 ∷ 123 ∷ 62 ∷ 61 ∷ 60 ∷ 59 ∷ 58 ∷ 47 ∷ 46 ∷ 45 ∷ 44 ∷ 43 ∷ 42 ∷ 41 ∷ 40 ∷ 38 ∷ 37 ∷ 33 ∷ []
+firsts =
+    rbrace-byte ∷ bar-byte ∷ lbrace-byte ∷ more-byte ∷ equals-byte ∷ less-byte ∷ semicolon-byte ∷ colon-byte ∷ slash ∷ dot-byte ∷ minus-byte ∷ comma-byte
+    ∷ plus-byte ∷ star ∷ rpar-byte ∷ lpar-byte ∷ ampersand-byte ∷ percent-byte ∷ bang-byte ∷ []
 
 -- none of some signs stands there
 abbrev Passed : List Token → List ℕ → Type 0
@@ -180,48 +186,69 @@ none-of (t ∷ ts) x h = rw (h .0, find-sign) (none-of ts x (h .1))
 
 pub sign-none : (b c : ℕ) → Misses firsts b → Stray ≡ spot-of (find-sign signs (b ∷ c ∷ []))
 unfolding signs doubles singles begins spelling sign-spelling op-spelling spot-of
-sign-none b c (((((((((((((((((((u, n33), n37), n38), n40), n41), n42), n43), n44), n45), n46), n47), n58), n59), n60), n61), n62), n123), n124), n125) =
-    ap spot-of (sym (none-of signs (b ∷ c ∷ []) (
-      off 58 (61 ∷ []) n58,
+sign-none b c (
+  (
+    (
       (
-        off 33 (61 ∷ []) n33,
         (
-          off 60 (61 ∷ []) n60,
           (
-            off 62 (61 ∷ []) n62,
             (
-              off 38 (38 ∷ []) n38,
+              ((((((((((((u, n-bang), n-percent), n-amp), n-lpar), n-rpar), n-star), n-plus), n-comma), n-minus), n-dot), n-slash), n-colon),
+              n-semi,
+            ),
+            n-less,
+          ),
+          n-equals,
+        ),
+        n-more,
+      ),
+      n-lbrace,
+    ),
+    n-bar,
+  ),
+  n-rbrace,
+) =
+    ap spot-of (sym (none-of signs (b ∷ c ∷ []) (
+      off colon-byte (equals-byte ∷ []) n-colon,
+      (
+        off bang-byte (equals-byte ∷ []) n-bang,
+        (
+          off less-byte (equals-byte ∷ []) n-less,
+          (
+            off more-byte (equals-byte ∷ []) n-more,
+            (
+              off ampersand-byte (ampersand-byte ∷ []) n-amp,
               (
-                off 124 (124 ∷ []) n124,
+                off bar-byte (bar-byte ∷ []) n-bar,
                 (
-                  off 40 ([]) n40,
+                  off lpar-byte [] n-lpar,
                   (
-                    off 41 ([]) n41,
+                    off rpar-byte [] n-rpar,
                     (
-                      off 123 ([]) n123,
+                      off lbrace-byte [] n-lbrace,
                       (
-                        off 125 ([]) n125,
+                        off rbrace-byte [] n-rbrace,
                         (
-                          off 44 ([]) n44,
+                          off comma-byte [] n-comma,
                           (
-                            off 58 ([]) n58,
+                            off colon-byte [] n-colon,
                             (
-                              off 59 ([]) n59,
+                              off semicolon-byte [] n-semi,
                               (
-                                off 46 ([]) n46,
+                                off dot-byte [] n-dot,
                                 (
-                                  off 33 ([]) n33,
+                                  off bang-byte [] n-bang,
                                   (
-                                    off 61 ([]) n61,
+                                    off equals-byte [] n-equals,
                                     (
-                                      off 60 ([]) n60,
+                                      off less-byte [] n-less,
                                       (
-                                        off 62 ([]) n62,
+                                        off more-byte [] n-more,
                                         (
-                                          off 42 ([]) n42,
+                                          off star [] n-star,
                                           (
-                                            off 47 ([]) n47,
-                                            (off 37 ([]) n37, (off 43 ([]) n43, (off 45 ([]) n45, tt))),
+                                            off slash [] n-slash,
+                                            (off percent-byte [] n-percent, (off plus-byte [] n-plus, (off minus-byte [] n-minus, tt))),
                                           ),
                                         ),
                                       ),
@@ -253,36 +280,36 @@ unfolding followed
 by-second c d two one f p q = go (eqb d c) refl
   where
     go : (t : Bool) → eqb d c ≡ t → followed c d two one ≡ f t
-    go true e = rw (eqb-turned c d, e, followed) (sym p)
-    go false e = rw (eqb-turned c d, e, followed) (sym q)
+    go true e = rw (eqb-sym c d, e, followed) (sym p)
+    go false e = rw (eqb-sym c d, e, followed) (sym q)
 
 either : Front → Front → Bool → Spot
 either x y t = spot-of (elim (t && true) [ true ↦ x | false ↦ y ])
 
 module _ (c : ℕ) where
-  pub bang-spot : followed c 61 24 22 ≡ spot-of (find-sign signs (33 ∷ c ∷ []))
+  pub bang-spot : followed c equals-byte ne-kind bang-kind ≡ spot-of (find-sign signs (bang-byte ∷ c ∷ []))
   unfolding either sign-scan spot-of kind sign-kind sign-number op-kind
-  bang-spot = by-second c 61 24 22 (either (token (op op-ne) 1) (token (sign bang) 0)) refl refl
+  bang-spot = by-second c equals-byte ne-kind bang-kind (either (token (op op-ne) 1) (token (sign bang) 0)) refl refl
 
-  pub and-spot : followed c 38 34 0 ≡ spot-of (find-sign signs (38 ∷ c ∷ []))
+  pub and-spot : followed c ampersand-byte and-kind no-kind ≡ spot-of (find-sign signs (ampersand-byte ∷ c ∷ []))
   unfolding either sign-scan spot-of kind sign-kind sign-number op-kind
-  and-spot = by-second c 38 34 0 (either (token (op op-and) 1) nothing) refl refl
+  and-spot = by-second c ampersand-byte and-kind no-kind (either (token (op op-and) 1) nothing) refl refl
 
-  pub colon-spot : followed c 61 20 18 ≡ spot-of (find-sign signs (58 ∷ c ∷ []))
+  pub colon-spot : followed c equals-byte assign-kind colon-kind ≡ spot-of (find-sign signs (colon-byte ∷ c ∷ []))
   unfolding either sign-scan spot-of kind sign-kind sign-number op-kind
-  colon-spot = by-second c 61 20 18 (either (token (sign assign) 1) (token (sign colon) 0)) refl refl
+  colon-spot = by-second c equals-byte assign-kind colon-kind (either (token (sign assign) 1) (token (sign colon) 0)) refl refl
 
-  pub less-spot : followed c 61 25 27 ≡ spot-of (find-sign signs (60 ∷ c ∷ []))
+  pub less-spot : followed c equals-byte le-kind lt-kind ≡ spot-of (find-sign signs (less-byte ∷ c ∷ []))
   unfolding either sign-scan spot-of kind sign-kind sign-number op-kind
-  less-spot = by-second c 61 25 27 (either (token (op op-le) 1) (token (op op-lt) 0)) refl refl
+  less-spot = by-second c equals-byte le-kind lt-kind (either (token (op op-le) 1) (token (op op-lt) 0)) refl refl
 
-  pub more-spot : followed c 61 26 28 ≡ spot-of (find-sign signs (62 ∷ c ∷ []))
+  pub more-spot : followed c equals-byte ge-kind gt-kind ≡ spot-of (find-sign signs (more-byte ∷ c ∷ []))
   unfolding either sign-scan spot-of kind sign-kind sign-number op-kind
-  more-spot = by-second c 61 26 28 (either (token (op op-ge) 1) (token (op op-gt) 0)) refl refl
+  more-spot = by-second c equals-byte ge-kind gt-kind (either (token (op op-ge) 1) (token (op op-gt) 0)) refl refl
 
-  pub or-spot : followed c 124 35 0 ≡ spot-of (find-sign signs (124 ∷ c ∷ []))
+  pub or-spot : followed c bar-byte or-kind no-kind ≡ spot-of (find-sign signs (bar-byte ∷ c ∷ []))
   unfolding either sign-scan spot-of kind sign-kind sign-number op-kind
-  or-spot = by-second c 124 35 0 (either (token (op op-or) 1) nothing) refl refl
+  or-spot = by-second c bar-byte or-kind no-kind (either (token (op op-or) 1) nothing) refl refl
 
 -- what opens a comment has a byte behind it
 pub opens-inside : (s : List ℕ) (i : ℕ) (b : ℕ) → (eqb b slash && eqb (getD s i 0) star) ≡ true → i < length s

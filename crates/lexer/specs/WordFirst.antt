@@ -4,7 +4,8 @@ use mathlib.Core.Bool.{true, false}
 use mathlib.Core.List.{List}
 use Rattle.tokens.specs.Tokens.{Word, Word.w-struct, Word.w-if, Word.w-then, Word.w-null, Word.w-this, Word.w-fix, Word.w-int, Word.w-nat}
 use Rattle.tokens.specs.Tokens.{Word.w-bool, Word.w-string, Word.w-true, Word.w-false, word-spelling, same}
-use Rattle.lexer.specs.Kinds.{name-kind, word-kind}
+use Rattle.tokens.specs.Kinds.{word-kind}
+use Rattle.tokens.specs.KindNames.{name-kind}
 
 -- one word, by its letters and its kind
 unfoldable pub one-word : List ℕ → ℕ → List ℕ → ℕ

@@ -10,9 +10,10 @@ use Rattle.tokens.specs.Tokens.{Word, Word.w-struct, Word.w-if, Word.w-then, Wo
 use Rattle.tokens.specs.Tokens.{Word.w-bool, Word.w-string, Word.w-true, Word.w-false, Token.word, Token.name, word-spelling}
 use Rattle.tokens.specs.Tokens.{same}
 use Rattle.tokens.specs.Scanning.{words, find-word, named}
-use Rattle.lexer.specs.Kinds.{name-kind, kind, word-kind}
+use Rattle.tokens.specs.Kinds.{kind, word-kind}
 use Rattle.lexer.specs.WordFirst.{one-word, lone, t-word}
 use Rattle.lexer.specs.SpotLaws.{Misses}
+use Rattle.tokens.specs.KindNames.{name-kind}
 
 -- Names --------------------------------------------------------------------------------------------
 

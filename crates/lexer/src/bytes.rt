@@ -5,19 +5,20 @@ ghost use Prim.Native.Nat.{_+_, _≤_, _<_};
 ghost use lib.ListN.{length, getD, drop};
 ghost use lib.Dec.{eqb};
 ghost use Rattle.tokens.specs.Tokens.{between, letter, digit, name-byte, blank};
-ghost use Rattle.tokens.specs.Lexing.{slash, star, close};
+ghost use Rattle.tokens.specs.Lexing.{close};
 ghost use Rattle.tokens.specs.Scanning.{span, begins, closing};
-ghost use Rattle.lexer.specs.Marking.{signs-digit, run-byte};
+ghost use Rattle.tokens.specs.Marking.{signs-digit, run-byte};
+ghost use Rattle.tokens.specs.Bytes.{star, slash};
 
-const SLASH: u8 = 47;
+const SLASH: u8 = b'/';
 
-const STAR: u8 = 42;
+const STAR: u8 = b'*';
 
-const PLUS: u8 = 43;
+const PLUS: u8 = b'+';
 
-const MINUS: u8 = 45;
+const MINUS: u8 = b'-';
 
-const UNDERSCORE: u8 = 95;
+const UNDERSCORE: u8 = b'_';
 
 // The byte at a place, 0 behind the last.
 pub fn byte(text: &[u8], i: usize) -> u8
@@ -38,16 +39,16 @@ pub fn between(lo: u8, hi: u8, b: u8) -> bool
 pub(crate) fn is_letter(b: u8) -> bool
     ensures { λ r. ⌜ r ≡ letter b ⌝ }
 {
-    if between(65, 90, b) {
+    if between(b'A', b'Z', b) {
         return true;
     }
-    between(97, 122, b)
+    between(b'a', b'z', b)
 }
 
 pub fn is_digit(b: u8) -> bool
     ensures { λ r. ⌜ r ≡ digit b ⌝ }
 {
-    between(48, 57, b)
+    between(b'0', b'9', b)
 }
 
 pub fn is_name_byte(b: u8) -> bool
@@ -65,16 +66,16 @@ pub fn is_name_byte(b: u8) -> bool
 pub(crate) fn is_blank(b: u8) -> bool
     ensures { λ r. ⌜ r ≡ blank b ⌝ }
 {
-    if b == 32 {
+    if b == b' ' {
         return true;
     }
-    if b == 9 {
+    if b == b'\t' {
         return true;
     }
-    if b == 10 {
+    if b == b'\n' {
         return true;
     }
-    b == 13
+    b == b'\r'
 }
 
 // Whether two bytes open a comment; whether they are a sign and a digit.

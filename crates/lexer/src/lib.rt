@@ -4,30 +4,19 @@ pub mod gaps;
 pub mod words;
 
 use bytes::byte;
+use tokens::Spot;
+use tokens::kind;
 ghost use mathlib.Core.Path.{_≡_};
 ghost use mathlib.Core.List.{[], _∷_};
 ghost use Prim.Native.Nat.{_+_, _≤_, _<_};
 ghost use lib.ListN.{length, getD, drop};
 ghost use lib.Seq.{sets};
 ghost use Rattle.tokens.specs.Scanning.{Class.letters, Class.digits, nat-front, closing, comment-front, other-front, front-of, find-sign, signs, front};
-ghost use Rattle.lexer.specs.Marking.{followed, spot-of, Lone, parts, marks};
+ghost use Rattle.tokens.specs.Marking.{followed, spot-of, Lone, parts, marks};
 ghost use Rattle.lexer.specs.Gaps.{Gap};
 
-// The kinds of literals; a place that is passed over.
-const INT: u8 = 37;
-
-const NAT: u8 = 38;
-
-const GAP: u8 = 0;
-
 // The n that ends a Nat literal.
-const NAT_END: u8 = 110;
-
-// What stands at a place: the kind of a token, or 0 for a gap, with the count of its bytes behind the first; or no part of a text.
-pub enum Spot {
-    Marked(u8, usize),
-    Stray,
-}
+const NAT_END: u8 = b'n';
 
 // A word or a name.
 fn name(text: &[u8], at: usize) -> Spot
@@ -47,7 +36,7 @@ fn nat(text: &[u8], at: usize) -> Spot
 {
     let end = bytes::digits_end(text, at + 1);
     if byte(text, end) == NAT_END {
-        return Spot::Marked(NAT, end - at);
+        return Spot::Marked(kind::NAT, end - at);
     }
     Spot::Stray
 }
@@ -60,7 +49,7 @@ fn comment(n: usize) -> Spot
     if n == 0 {
         return Spot::Stray;
     }
-    Spot::Marked(GAP, n + 1)
+    Spot::Marked(kind::NONE, n + 1)
 }
 
 // A byte that is two with another, or else one.
@@ -70,7 +59,7 @@ fn followed(c: u8, d: u8, two: u8, one: u8) -> Spot
     if c == d {
         return Spot::Marked(two, 1);
     }
-    if one == 0 {
+    if one == kind::NONE {
         return Spot::Stray;
     }
     Spot::Marked(one, 0)
@@ -81,25 +70,25 @@ fn sign(b: u8, c: u8) -> Spot
     ensures { λ r. ⌜ r ≡ spot-of (find-sign signs (b ∷ c ∷ [])) ⌝ }
 {
     match b {
-        33 => followed(c, 61, 24, 22),
-        37 => Spot::Marked(31, 0),
-        38 => followed(c, 38, 34, 0),
-        40 => Spot::Marked(13, 0),
-        41 => Spot::Marked(14, 0),
-        42 => Spot::Marked(29, 0),
-        43 => Spot::Marked(32, 0),
-        44 => Spot::Marked(17, 0),
-        45 => Spot::Marked(33, 0),
-        46 => Spot::Marked(21, 0),
-        47 => Spot::Marked(30, 0),
-        58 => followed(c, 61, 20, 18),
-        59 => Spot::Marked(19, 0),
-        60 => followed(c, 61, 25, 27),
-        61 => Spot::Marked(23, 0),
-        62 => followed(c, 61, 26, 28),
-        123 => Spot::Marked(15, 0),
-        124 => followed(c, 124, 35, 0),
-        125 => Spot::Marked(16, 0),
+        b'!' => followed(c, b'=', kind::NE, kind::BANG),
+        b'%' => Spot::Marked(kind::REM, 0),
+        b'&' => followed(c, b'&', kind::AND, kind::NONE),
+        b'(' => Spot::Marked(kind::LPAR, 0),
+        b')' => Spot::Marked(kind::RPAR, 0),
+        b'*' => Spot::Marked(kind::MUL, 0),
+        b'+' => Spot::Marked(kind::ADD, 0),
+        b',' => Spot::Marked(kind::COMMA, 0),
+        b'-' => Spot::Marked(kind::SUB, 0),
+        b'.' => Spot::Marked(kind::DOT, 0),
+        b'/' => Spot::Marked(kind::DIV, 0),
+        b':' => followed(c, b'=', kind::ASSIGN, kind::COLON),
+        b';' => Spot::Marked(kind::SEMICOLON, 0),
+        b'<' => followed(c, b'=', kind::LE, kind::LT),
+        b'=' => Spot::Marked(kind::EQ, 0),
+        b'>' => followed(c, b'=', kind::GE, kind::GT),
+        b'{' => Spot::Marked(kind::LBRACE, 0),
+        b'|' => followed(c, b'|', kind::OR, kind::NONE),
+        b'}' => Spot::Marked(kind::RBRACE, 0),
         _ => Spot::Stray,
     }
 }
@@ -116,7 +105,7 @@ fn other(text: &[u8], at: usize) -> Spot
         return comment(bytes::closing(text, next + 1));
     }
     if bytes::signed(b, c) {
-        return Spot::Marked(INT, bytes::digits_end(text, next) - next);
+        return Spot::Marked(kind::INT, bytes::digits_end(text, next) - next);
     }
     sign(b, c)
 }
@@ -134,7 +123,7 @@ fn longer(text: &[u8], at: usize) -> Spot
         return nat(text, at);
     }
     if bytes::is_blank(b) {
-        return Spot::Marked(GAP, 0);
+        return Spot::Marked(kind::NONE, 0);
     }
     other(text, at)
 }
@@ -144,17 +133,17 @@ fn alone(b: u8) -> u8
     ensures { λ r. ⌜ ((r ≡ 0 → ⊥) → Lone b r) ⌝ }
 {
     match b {
-        b'(' => 13,
-        b')' => 14,
-        b'{' => 15,
-        b'}' => 16,
-        b',' => 17,
-        b';' => 19,
-        b'.' => 21,
-        b'=' => 23,
-        b'*' => 29,
-        b'%' => 31,
-        _ => 0,
+        b'(' => kind::LPAR,
+        b')' => kind::RPAR,
+        b'{' => kind::LBRACE,
+        b'}' => kind::RBRACE,
+        b',' => kind::COMMA,
+        b';' => kind::SEMICOLON,
+        b'.' => kind::DOT,
+        b'=' => kind::EQ,
+        b'*' => kind::MUL,
+        b'%' => kind::REM,
+        _ => kind::NONE,
     }
 }
 
@@ -163,9 +152,9 @@ pub fn token(text: &[u8], at: usize) -> Spot
     requires { ⌜ at < length (now text) ⌝ }
     ensures { λ r. ⌜ r ≡ spot-of (front (drop at (now (text .entry)))) ⌝ }
 {
-    let kind = alone(text[at]);
-    if kind != 0 {
-        return Spot::Marked(kind, 0);
+    let k = alone(text[at]);
+    if k != kind::NONE {
+        return Spot::Marked(k, 0);
     }
     longer(text, at)
 }

@@ -9,6 +9,7 @@ use lib.ListN.{length, getElem?, set, take, drop, length-append, length-reverse}
 use lib.Seq.{take-at, drop-at, drop-append-seam}
 use lib.Dec.{ltb}
 use borrow.Author.Tests.{ltb-true, lt-ltb, le-ltb, le-leb}
+use Rattle.types.specs.ListLaws.{map-drop, map-take}
 use Rattle.types.specs.Limits.{max-instances}
 use Rattle.types.specs.Types.{Ty, Ty.bool, Ty.ref}
 use Rattle.types.specs.Values.{Val, Val.bool-val, Val.label}
@@ -30,7 +31,7 @@ use Rattle.machine.specs.Machine.{Tagged, tagged, Source, Source.variabl
 use Rattle.machine.specs.Machine.{Out.refused, Out.stuck, with-code, with-written, acting, put, leaves-stable, read-from, read-at, read, write-to}
 use Rattle.machine.specs.Machine.{write-parameter, write-at, write, negate, branch, operated, operate, made, construct, perform, command}
 use Rattle.machine.specs.Represents.{values, Represents-inst, Represents}
-use Rattle.machine.specs.RepresentsLaws.{instance-at, values-length, map-drop, map-take, top, represents-length, represents-set, represents-env}
+use Rattle.machine.specs.RepresentsLaws.{instance-at, values-length, top, represents-length, represents-set, represents-env}
 use Rattle.machine.specs.RepresentsLaws.{represents-append}
 use Rattle.machine.specs.PerformedLaws.{performs}
 use Rattle.machine.specs.Heads.{Means, Means.m-push, Means.m-this, Means.m-not, Means.m-rd, Means.m-get, Means.m-wr, Means.m-set, Means.m-cons}

@@ -10,6 +10,7 @@ use lib.ListN.{length, getElem?, set, take, drop, length-reverse, take-append-dr
 use lib.Seq.{length-take-le, drop-at}
 use lib.Dec.{ltb}
 use borrow.Author.Tests.{ltb-true, ltb-false}
+use Rattle.types.specs.ListLaws.{map-drop}
 use Rattle.types.specs.Types.{Ty.bool, Ty.ref}
 use Rattle.types.specs.Values.{Val, Val.bool-val, Val.label}
 use Rattle.program.specs.Tree.{Program}
@@ -28,7 +29,7 @@ use Rattle.machine.specs.Stops.{Full, Full.no-label, Exceeded, Exceeded.
 use Rattle.machine.specs.Machine.{Tagged, tagged, given-by, Instance, Machine, Out, Out.next, Out.refused, Out.stuck, with-code, with-written, acting}
 use Rattle.machine.specs.Machine.{put, leaves-stable, made, command}
 use Rattle.machine.specs.Represents.{values, Represents-inst, Represents}
-use Rattle.machine.specs.RepresentsLaws.{inst-at, values-length, map-drop, represents-length, represents-set, represents-env, represents-append}
+use Rattle.machine.specs.RepresentsLaws.{inst-at, values-length, represents-length, represents-set, represents-env, represents-append}
 use Rattle.machine.specs.Performed.{Performed, Performed.pushed, Performed.pushed-this, Performed.negated, Performed.read-one, Performed.skipped}
 use Rattle.machine.specs.Performed.{Performed.wrote, Performed.calculated, Performed.exceeding, Performed.constructed, Performed.filled}
 use Rattle.machine.specs.Performed.{Performed.branched, Performed.no-way}

@@ -5,7 +5,7 @@ use native.Mathlib.Omega.{arith}
 use mathlib.Core.Logic.{_↔_}
 use mathlib.Core.Option.{Option, none, some}
 use mathlib.Core.List.{List, [], _∷_, _++_, map}
-use lib.ListN.{length, getElem?, set, take, drop, length-map}
+use lib.ListN.{length, getElem?, set, length-map}
 use Rattle.types.specs.Types.{Ty}
 use Rattle.types.specs.Values.{Val}
 use Rattle.program.specs.Counts.{All}
@@ -101,12 +101,6 @@ pub values-length : (χ : List Tagged) → length (values χ) ≡ length χ
 unfolding values
 values-length χ = length-map χ (λ x. x .is)
 
--- leaving n elements out before and after a map is one
-pub map-drop : {A B : Type 0} (f : A → B) (n : ℕ) (l : List A) → map f (drop n l) ≡ drop n (map f l)
-map-drop f ℕ.zero l = refl
-map-drop f (ℕ.suc n) [] = refl
-map-drop f (ℕ.suc n) (x ∷ l) = map-drop f n l
-
 -- a stack that stands for one with a value on top has it on top, under some tag
 pub top : (P : List Tagged → Type 0) {v : Val} {ψ : List Val} (χ : List Tagged) → values χ ≡ v ∷ ψ
     → ((t : Ty) (χ′ : List Tagged) → values χ′ ≡ ψ → P (tagged t v ∷ χ′)) → P χ
@@ -114,11 +108,6 @@ unfolding values
 top P [] e h = let z : _≡_ {A = ℕ} 0 1 = cc in absurd (omega arith)
 top P {v} (x ∷ χ) e h =
     let f : x .is ≡ v = cc in subst (λ u. P (tagged (x .by) u ∷ χ)) (sym f) (h (x .by) χ cc)
-
-pub map-take : {A B : Type 0} (f : A → B) (n : ℕ) (l : List A) → map f (take n l) ≡ take n (map f l)
-map-take f zero l = refl
-map-take f (suc n) [] = refl
-map-take f (suc n) (x ∷ l) = ap {B = List _} (λ r. f x ∷ r) (map-take f n l)
 
 -- No commands --------------------------------------------------------------------
 

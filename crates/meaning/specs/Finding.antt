@@ -8,7 +8,7 @@ use mathlib.Core.Option.{Option, none, some}
 use borrow.Author.Tests.{eq-eqb, not-true, not-false}
 use Rattle.types.specs.Decides.{Decides, decides-both}
 use Rattle.tokens.specs.Tokens.{same}
-use Rattle.tokens.specs.ByteLaws.{same-true}
+use Rattle.tokens.specs.Laws.ByteLaws.{same-true}
 use Rattle.syntax.specs.Syntax.{Id}
 use Rattle.meaning.specs.Scope.{Found, Found.here, Found.later, Absent, Distinct}
 

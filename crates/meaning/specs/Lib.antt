@@ -5,10 +5,8 @@ pub mod Means
 pub mod Holds
 pub mod HoldsDecide
 pub mod Nesting
-pub mod NestingLaws
 pub mod Finding
 pub mod Meant
-pub mod MeantComplete
-pub mod MeantLaws
 pub mod Unfold
 pub mod Rows
+pub mod Laws

@@ -1,14 +1,17 @@
 -- The stream of a program (01, 'Program stream'): each tree's bytes, outermost first. Nothing here speaks of reading.
 use Prim.Native.Nat.{ℕ, zero, suc, _+_, _/_, _%_}
-use mathlib.Core.List.{List, [], _∷_, _++_, map}
+use mathlib.Core.List.{List, [], _∷_, _++_}
 use lib.ListN.{length}
 use Rattle.types.specs.Limits.{first-local}
-use Rattle.types.specs.Types.{Ty, code}
+use Rattle.types.specs.Types.{code}
 use Rattle.program.specs.Tree.{Var, Var.par, Var.loc, Op, Op.op-eq, Op.op-ne, Op.op-le, Op.op-ge, Op.op-lt, Op.op-gt, Op.op-mul, Op.op-div}
 use Rattle.program.specs.Tree.{Op.op-rem, Op.op-add, Op.op-sub, Op.op-and, Op.op-or, Expr, Expr.inv, Expr.make, Expr.path, Expr.int-lit}
 use Rattle.program.specs.Tree.{Expr.nat-lit, Expr.bool-lit, Expr.null, Expr.self, Expr.op, Exprs, Exprs.none, Exprs.more, Stmt, Stmt.when}
 use Rattle.program.specs.Tree.{Stmt.declare, Stmt.update, Stmt.create, Stmts, Stmts.end, Stmts.next, Item, Item.call, Item.call-in, Item.fix}
 use Rattle.program.specs.Tree.{Items, Items.stop, Items.item, Step, Program, size, items}
+use Rattle.program.specs.Forms.{when-form, declare-form, update-form, create-form, inv-form, make-form, path-form, int-form, nat-form}
+use Rattle.program.specs.Forms.{bool-form, null-form, this-form, eq-form, ne-form, le-form, ge-form, lt-form, gt-form, mul-form, div-form}
+use Rattle.program.specs.Forms.{rem-form, add-form, sub-form, and-form, or-form, call-form, call-in-form, fix-form}
 
 -- a number of i bytes, the lowest first
 unfoldable pub enc-word : ℕ → ℕ → List ℕ
@@ -25,19 +28,19 @@ enc-list E l = length l ∷ flat E l
 
 -- the byte that opens each form
 unfoldable pub op-code : Op → ℕ
-op-code op-eq = 32
-op-code op-ne = 33
-op-code op-le = 34
-op-code op-ge = 35
-op-code op-lt = 36
-op-code op-gt = 37
-op-code op-mul = 38
-op-code op-div = 39
-op-code op-rem = 40
-op-code op-add = 41
-op-code op-sub = 42
-op-code op-and = 43
-op-code op-or = 44
+op-code op-eq = eq-form
+op-code op-ne = ne-form
+op-code op-le = le-form
+op-code op-ge = ge-form
+op-code op-lt = lt-form
+op-code op-gt = gt-form
+op-code op-mul = mul-form
+op-code op-div = div-form
+op-code op-rem = rem-form
+op-code op-add = add-form
+op-code op-sub = sub-form
+op-code op-and = and-form
+op-code op-or = or-form
 
 unfoldable pub var-code : Var → ℕ
 var-code (par x) = x
@@ -49,14 +52,14 @@ enc-path v vs = suc (length vs) ∷ var-code v ∷ vs
 
 unfoldable mutual
   pub enc-expr : Expr → List ℕ
-  enc-expr (inv e) = 16 ∷ enc-expr e
-  enc-expr (make k es) = 17 ∷ k ∷ enc-exprs es
-  enc-expr (path v vs) = 18 ∷ enc-path v vs
-  enc-expr (int-lit w) = 19 ∷ enc-word 4 w
-  enc-expr (nat-lit w) = 20 ∷ enc-word 4 w
-  enc-expr (bool-lit w) = 21 ∷ w ∷ []
-  enc-expr (null t) = 22 ∷ code t ∷ []
-  enc-expr self = 23 ∷ []
+  enc-expr (inv e) = inv-form ∷ enc-expr e
+  enc-expr (make k es) = make-form ∷ k ∷ enc-exprs es
+  enc-expr (path v vs) = path-form ∷ enc-path v vs
+  enc-expr (int-lit w) = int-form ∷ enc-word 4 w
+  enc-expr (nat-lit w) = nat-form ∷ enc-word 4 w
+  enc-expr (bool-lit w) = bool-form ∷ w ∷ []
+  enc-expr (null t) = null-form ∷ code t ∷ []
+  enc-expr self = this-form ∷ []
   enc-expr (op o a b) = op-code o ∷ enc-expr a ++ enc-expr b
 
   pub enc-exprs : Exprs → List ℕ
@@ -65,10 +68,10 @@ unfoldable mutual
 
 unfoldable mutual
   pub enc-stmt : Stmt → List ℕ
-  enc-stmt (when e b) = 1 ∷ enc-expr e ++ size b ∷ enc-stmts b
-  enc-stmt (declare t x e) = 2 ∷ code t ∷ (first-local + x) ∷ enc-expr e
-  enc-stmt (update v vs e) = 3 ∷ enc-path v vs ++ enc-expr e
-  enc-stmt (create k es) = 4 ∷ k ∷ enc-exprs es
+  enc-stmt (when e b) = when-form ∷ enc-expr e ++ size b ∷ enc-stmts b
+  enc-stmt (declare t x e) = declare-form ∷ code t ∷ (first-local + x) ∷ enc-expr e
+  enc-stmt (update v vs e) = update-form ∷ enc-path v vs ++ enc-expr e
+  enc-stmt (create k es) = create-form ∷ k ∷ enc-exprs es
 
   pub enc-stmts : Stmts → List ℕ
   enc-stmts end = []
@@ -76,9 +79,9 @@ unfoldable mutual
 
 unfoldable mutual
   pub enc-item : Item → List ℕ
-  enc-item (call n) = 1 ∷ n ∷ []
-  enc-item (call-in k n) = 2 ∷ k ∷ n ∷ []
-  enc-item (fix is) = 3 ∷ items is ∷ enc-items is
+  enc-item (call n) = call-form ∷ n ∷ []
+  enc-item (call-in k n) = call-in-form ∷ k ∷ n ∷ []
+  enc-item (fix is) = fix-form ∷ items is ∷ enc-items is
 
   pub enc-items : Items → List ℕ
   enc-items stop = []

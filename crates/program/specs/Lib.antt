@@ -1,4 +1,5 @@
 pub mod Tree
+pub mod Forms
 pub mod Encoding
 pub mod Counts
 pub mod Levels

@@ -15,6 +15,9 @@ use Rattle.program.specs.Tree.{Op.op-rem, Op.op-add, Op.op-sub, Op.op-an
 use Rattle.program.specs.Tree.{Expr.nat-lit, Expr.bool-lit, Expr.null, Expr.self, Expr.op, Exprs, Exprs.none, Exprs.more, Stmt, Stmt.when}
 use Rattle.program.specs.Tree.{Stmt.declare, Stmt.update, Stmt.create, Stmts, Stmts.end, Stmts.next, Item, Item.call, Item.call-in, Item.fix}
 use Rattle.program.specs.Tree.{Items, Items.stop, Items.item, Step, Program}
+use Rattle.program.specs.Forms.{when-form, declare-form, update-form, create-form, inv-form, make-form, path-form, int-form, nat-form}
+use Rattle.program.specs.Forms.{bool-form, null-form, this-form, eq-form, ne-form, le-form, ge-form, lt-form, gt-form, mul-form, div-form}
+use Rattle.program.specs.Forms.{rem-form, add-form, sub-form, and-form, or-form, call-form, call-in-form, fix-form}
 
 -- a value with the next place, or a refusal with its place and number
 pub data Result (A : Type 0) : Type 0 where
@@ -64,27 +67,27 @@ pub data Form : Type 0 where
 
 abbrev pub forms : List (Row Form)
 forms =
-    row 44 (form-op op-or)
-    ∷ row 43 (form-op op-and)
-    ∷ row 42 (form-op op-sub)
-    ∷ row 41 (form-op op-add)
-    ∷ row 40 (form-op op-rem)
-    ∷ row 39 (form-op op-div)
-    ∷ row 38 (form-op op-mul)
-    ∷ row 37 (form-op op-gt)
-    ∷ row 36 (form-op op-lt)
-    ∷ row 35 (form-op op-ge)
-    ∷ row 34 (form-op op-le)
-    ∷ row 33 (form-op op-ne)
-    ∷ row 32 (form-op op-eq)
-    ∷ row 23 form-self
-    ∷ row 22 form-null
-    ∷ row 21 form-bool
-    ∷ row 20 form-nat
-    ∷ row 19 form-int
-    ∷ row 18 form-path
-    ∷ row 17 form-make
-    ∷ row 16 form-inv
+    row or-form (form-op op-or)
+    ∷ row and-form (form-op op-and)
+    ∷ row sub-form (form-op op-sub)
+    ∷ row add-form (form-op op-add)
+    ∷ row rem-form (form-op op-rem)
+    ∷ row div-form (form-op op-div)
+    ∷ row mul-form (form-op op-mul)
+    ∷ row gt-form (form-op op-gt)
+    ∷ row lt-form (form-op op-lt)
+    ∷ row ge-form (form-op op-ge)
+    ∷ row le-form (form-op op-le)
+    ∷ row ne-form (form-op op-ne)
+    ∷ row eq-form (form-op op-eq)
+    ∷ row this-form form-self
+    ∷ row null-form form-null
+    ∷ row bool-form form-bool
+    ∷ row nat-form form-nat
+    ∷ row int-form form-int
+    ∷ row path-form form-path
+    ∷ row make-form form-make
+    ∷ row inv-form form-inv
     ∷ []
 
 unfoldable pub form : ℕ → Form
@@ -94,7 +97,7 @@ pub data Kind : Type 0 where
   kind-when kind-declare kind-update kind-create kind-none : Kind
 
 abbrev pub kinds : List (Row Kind)
-kinds = row 4 kind-create ∷ row 3 kind-update ∷ row 2 kind-declare ∷ row 1 kind-when ∷ []
+kinds = row create-form kind-create ∷ row update-form kind-update ∷ row declare-form kind-declare ∷ row when-form kind-when ∷ []
 
 unfoldable pub kind : ℕ → Kind
 kind b = lookup kinds kind-none b
@@ -103,7 +106,7 @@ pub data ItemSort : Type 0 where
   sort-call sort-call-in sort-fix sort-none : ItemSort
 
 abbrev pub item-sorts : List (Row ItemSort)
-item-sorts = row 3 sort-fix ∷ row 2 sort-call-in ∷ row 1 sort-call ∷ []
+item-sorts = row fix-form sort-fix ∷ row call-in-form sort-call-in ∷ row call-form sort-call ∷ []
 
 unfoldable pub item-sort : ℕ → ItemSort
 item-sort b = lookup item-sorts sort-none b

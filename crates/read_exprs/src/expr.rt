@@ -5,6 +5,7 @@ use crate::read::ByteRead;
 use crate::read::ExprRead;
 use judge::Facts;
 use judging::expression;
+use program::form;
 use types::number;
 ghost use mathlib.Core.Path.{_≡_};
 ghost use Prim.Native.Nat.{_<_, _≤_, _^_};
@@ -71,16 +72,16 @@ pub fn expr(
     let rest = s;
     let k = at + 1;
     let d = depth - 1;
-    if b == 16 {
+    if b == form::INV {
         return around(expr(rest, ar, types, own, live, k, d));
     }
-    if b == 17 {
+    if b == form::MAKE {
         return anew(construct(rest, ar, types, own, live, k, d));
     }
-    if b < 32 {
+    if b < form::EQ {
         return leaf::leaf(rest, ar, types, own, live, b, k);
     }
-    if 44 < b {
+    if form::OR < b {
         return ExprRead::Refused(number::WRONG_BYTE);
     }
     let first = expr(rest, ar, types, own, live, k, d);

@@ -5,6 +5,7 @@ use crate::read::ByteRead;
 use crate::read::ExprRead;
 use crate::read::PathRead;
 use judging::expression;
+use program::form;
 use types::number;
 ghost use mathlib.Core.Path.{_≡_};
 ghost use Prim.Native.Nat.{ℕ, suc, _<_, _≤_};
@@ -14,6 +15,7 @@ ghost use Rattle.program.specs.Tree.{Expr};
 ghost use Rattle.program.specs.Reader.{Result, form, ranged, read-word, read-path, read-type, rule-expr};
 ghost use Rattle.judge.specs.Facts.{pushed, travelled, path-of, expr-facts};
 ghost use Rattle.read_exprs.specs.Told.{told, Behind};
+ghost use Rattle.program.specs.Forms.{inv-form, make-form, eq-form};
 
 // A number of four bytes, pushed as a value of type t.
 fn word(s: &[u8], t: u8, at: usize) -> ExprRead
@@ -68,27 +70,27 @@ fn travel(s: &[u8], ar: &[u8], types: &[u8], own: u8, live: u64, at: usize) -> E
 // What stands behind a byte that opens no form with an expression inside.
 pub fn leaf(s: &[u8], ar: &[u8], types: &[u8], own: u8, live: u64, b: u8, at: usize) -> ExprRead
     requires { ⌜ (at ≤ length (now s)) × (own < 16) ⌝ }
-    requires { ⌜ ((b ≡ 16 → ⊥) × (b ≡ 17 → ⊥)) × (b < 32) ⌝ }
+    requires { ⌜ ((b ≡ inv-form → ⊥) × (b ≡ make-form → ⊥)) × (b < eq-form) ⌝ }
     ensures { λ r. ⌜ ((rec : ℕ → Result Expr) (p : ℕ)
         → r ≡ told (expr-facts (now (ar .entry)) (now (types .entry)) own live) (rule-expr (now (ar .entry)) (now (s .entry)) rec p at (form b))) ⌝ }
     ensures { λ r. ⌜ Behind (now (s .entry)) at r ⌝ }
 {
-    if b == 18 {
+    if b == form::PATH {
         return travel(s, ar, types, own, live, at);
     }
-    if b == 19 {
+    if b == form::INT {
         return word(s, types::INT, at);
     }
-    if b == 20 {
+    if b == form::NAT {
         return word(s, types::NAT, at);
     }
-    if b == 21 {
+    if b == form::BOOL {
         return bool_byte(s, at);
     }
-    if b == 22 {
+    if b == form::NULL {
         return null(s, ar.len(), at);
     }
-    if b == 23 {
+    if b == form::THIS {
         return ExprRead::Value(at, expression::pushed(types::STRUCT + own));
     }
     ExprRead::Refused(number::WRONG_BYTE)

@@ -1,6 +1,7 @@
 // The schedule, read and planned in one walk (01, 'Program stream', and number 7): how many items, and whether each step is there.
 use directory::rows::there;
 use judging::fault;
+use program::form;
 use read_exprs::read;
 use read_exprs::read::ByteRead;
 use types::number;
@@ -127,13 +128,13 @@ fn item(s: &[u8], rows: &[u16], steps: u8, structs: u8, at: usize, depth: usize)
     }
     let b = s[at];
     let k = at + 1;
-    if b == 1 {
+    if b == form::CALL {
         return call(s, rows, steps, structs, k);
     }
-    if b == 2 {
+    if b == form::CALL_IN {
         return call_in(s, rows, steps, structs, k);
     }
-    if b != 3 {
+    if b != form::FIX {
         return PlanRead::Refused(number::WRONG_BYTE);
     }
     if depth == 0 {

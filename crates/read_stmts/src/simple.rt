@@ -2,6 +2,7 @@
 use crate::StmtRead;
 use crate::made;
 use judge::Scope;
+use program::form;
 use read_exprs::expr;
 use read_exprs::path;
 use read_exprs::read;
@@ -15,6 +16,7 @@ ghost use Rattle.program.specs.Tree.{Expr, Stmts};
 ghost use Rattle.program.specs.Reader.{Result, kind, read-expr, read-make, read-declare, read-update, rule-stmt};
 ghost use Rattle.judge.specs.Facts.{stmt-facts};
 ghost use Rattle.read_stmts.specs.Done.{done, declare-facts, update-facts, create-facts, local-facts, read-named, DoneBehind};
+ghost use Rattle.program.specs.Forms.{when-form};
 
 // The local of a declaration with type t, and its value.
 fn local(s: &[u8], ar: &[u8], types: &[u8], own: u8, c: Scope, t: u8, at: usize) -> StmtRead
@@ -81,18 +83,18 @@ fn create(s: &[u8], ar: &[u8], types: &[u8], own: u8, c: Scope, at: usize) -> St
 // What stands behind a byte that opens no if.
 pub fn simple(s: &[u8], ar: &[u8], types: &[u8], own: u8, c: Scope, b: u8, at: usize) -> StmtRead
     requires { ⌜ (length (now ar) ≤ 16) × (own < 16) ⌝ }
-    requires { ⌜ (b ≡ 1 → ⊥) ⌝ }
+    requires { ⌜ (b ≡ when-form → ⊥) ⌝ }
     ensures { λ r. ⌜ ((w : ℕ → ℕ → Result (Expr × Stmts)) (p : ℕ)
         → r ≡ done (λ t. stmt-facts (now (ar .entry)) (now (types .entry)) own t c) (rule-stmt (now (ar .entry)) (now (s .entry)) w p at (kind b))) ⌝ }
     ensures { λ r. ⌜ DoneBehind (now (s .entry)) at r ⌝ }
 {
-    if b == 2 {
+    if b == form::DECLARE {
         return declare(s, ar, types, own, c, at);
     }
-    if b == 3 {
+    if b == form::UPDATE {
         return update(s, ar, types, own, c, at);
     }
-    if b == 4 {
+    if b == form::CREATE {
         return create(s, ar, types, own, c, at);
     }
     StmtRead::Refused(number::WRONG_BYTE)

@@ -4,6 +4,7 @@ use crate::made;
 use crate::simple;
 use judge::Scope;
 use judging::statement;
+use program::form;
 use read_exprs::expr;
 use read_exprs::read;
 use read_exprs::read::ByteRead;
@@ -27,7 +28,7 @@ fn stmt(s: &[u8], ar: &[u8], types: &[u8], own: u8, c: Scope, at: usize, depth: 
     }
     let b = s[at];
     let k = at + 1;
-    if b != 1 {
+    if b != form::WHEN {
         return simple::simple(s, ar, types, own, c, b, k);
     }
     if depth == 0 {

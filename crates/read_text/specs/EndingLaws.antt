@@ -1,11 +1,11 @@
 -- Each way to the end of reading: what is answered and what is left in the output are those of the text's outcome (02 §1).
-use Prim.Native.Nat.{ℕ, _+_, _*_, _/_, _<_, _≤_}
+use Prim.Native.Nat.{ℕ, _*_, _<_, _≤_}
 use native.Mathlib.Omega.{arith}
 use mathlib.Core.Path.{_≡_, refl, sym, ap, _∙_}
 use mathlib.Core.Bool.{Bool, true, false, not}
 use mathlib.Core.List.{List, _++_}
 use mathlib.Core.Option.{Option, none, some}
-use lib.ListN.{length, drop}
+use lib.ListN.{length}
 use lib.Dec.{ltb}
 use borrow.Author.Tests.{le-leb, lt-ltb, le-ltb}
 use Rattle.types.specs.Limits.{program-blocks}
@@ -25,6 +25,7 @@ use Rattle.source.specs.Source.{Outcome, number-of, blocks-of, output-of}
 use Rattle.source.specs.TextReader.{of-program}
 use Rattle.read_text.specs.Ending.{Ending, Ending.wrote, Ending.stopped, with-room, ended, answer, left, ending}
 use Rattle.read_text.specs.declared.Answer.{Answer}
+use Rattle.meaning.specs.Holds.{max-stream, block-bytes}
 
 -- Of an outcome ----------------------------------------------------------------------------------
 
@@ -56,29 +57,30 @@ program-ends (some p) out = held (holds p)
 -- Of a stream ------------------------------------------------------------------------------------
 
 module _ (s out : List ℕ) where
-  short-ends : length out < 32768 → ended (some s) out ≡ stopped no-room
+  short-ends : length out < block-size * program-blocks → ended (some s) out ≡ stopped no-room
   unfolding ended with-room
-  short-ends h = rw (lt-ltb (length out) 32768 h, with-room) refl
+  short-ends h = rw (lt-ltb (length out) (block-size * program-blocks) h, with-room) refl
 
-  pub short-told : length out < 32768 → (answer (stopped no-room) ≡ answer (ended (some s) out)) × (out ≡ left (ended (some s) out) out)
+  pub short-told : length out < block-size * program-blocks → (answer (stopped no-room) ≡ answer (ended (some s) out)) × (out ≡ left (ended (some s) out) out)
   unfolding left
   short-told h = rw (short-ends h) (refl, refl)
 
-  module _ (room : 32768 ≤ length out) (one : 1 ≤ length s) (fits : length s ≤ 32256) where
+  module _ (room : block-size * program-blocks ≤ length out) (one : 1 ≤ length s) (fits : length s ≤ max-stream) where
     room-ends : ended (some s) out ≡ wrote s
     unfolding ended with-room
-    room-ends = rw (le-ltb (length out) 32768 room, with-room) refl
+    room-ends = rw (le-ltb (length out) (block-size * program-blocks) room, with-room) refl
 
-    pub blocks-are : write 64 (length s) (length out) ≡ Blocks (pieces (length s))
+    pub blocks-are : write program-blocks (length s) (length out) ≡ Blocks (pieces (length s))
     unfolding stream-right
     blocks-are =
-        sym (write-done 64 (length s) (length out) true (rw (le-leb 1 (length s) one, le-leb (length s) (504 * 64) (omega arith))) refl (omega arith))
+        sym (write-done program-blocks (length s) (length out) true
+        (rw (le-leb 1 (length s) one, le-leb (length s) (block-bytes * program-blocks) (omega arith))) refl (omega arith))
 
-    pub few-written : (w : Written) (k : ℕ) → w ≡ write 64 (length s) (length out) → w ≡ Blocks k → k ≤ 64
+    pub few-written : (w : Written) (k : ℕ) → w ≡ write program-blocks (length s) (length out) → w ≡ Blocks k → k ≤ program-blocks
     few-written w k e f = let b : k ≡ pieces (length s) = cc blocks-are in omega arith
 
     -- what writing the image answers and leaves
-    pub image-ends : (w : Written) (k : ℕ) (o : List ℕ) → w ≡ write 64 (length s) (length out) → w ≡ Blocks k → o ≡ written-into w s out
+    pub image-ends : (w : Written) (k : ℕ) (o : List ℕ) → w ≡ write program-blocks (length s) (length out) → w ≡ Blocks k → o ≡ written-into w s out
         → (record { number = 0; blocks = k } ≡ answer (ended (some s) out)) × (o ≡ left (ended (some s) out) out)
     unfolding left written-into image
     image-ends w k o e f g =

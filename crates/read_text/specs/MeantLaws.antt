@@ -3,7 +3,7 @@ use Prim.Native.Nat.{ℕ, _+_, _-_, _<_, _≤_}
 use native.Mathlib.Omega.{arith}
 use mathlib.Core.Path.{_≡_, refl, sym, ap, _∙_}
 use mathlib.Core.List.{List}
-use mathlib.Core.Option.{Option, none, some}
+use mathlib.Core.Option.{none, some}
 use lib.ListN.{length, getD, take, drop, length-drop, length-take}
 use lib.Seq.{getD-take, getD-drop, take-all}
 use Rattle.types.specs.Numbers.{no-program}
@@ -11,11 +11,10 @@ use Rattle.meaning.specs.Meant.{then}
 use Rattle.derive.specs.Held.{held}
 use Rattle.resolve.specs.Tables.{places, offsets}
 use Rattle.resolve.specs.Checks.{part-of}
-use Rattle.resolve.specs.WellDeclared.{par-byte}
 use Rattle.resolve.specs.Resolved.{resolved}
 use Rattle.compose.specs.Header.{Rows}
 use Rattle.compose.specs.Composed.{composed, composed-by, type-bytes}
-use Rattle.compose.specs.StreamLaws.{resolved-rows}
+use Rattle.compose.specs.Laws.StreamLaws.{resolved-rows}
 use Rattle.uses.specs.Declaring.{Tabled}
 use Rattle.uses.specs.Lent.{numbered-in, Counted}
 use Rattle.uses.specs.declared.Numbered.{Numbered}
@@ -28,40 +27,44 @@ use Rattle.read_text.specs.declared.Answer.{Answer}
 use Rattle.read_text.specs.Roled.{Roled, stream-of}
 use Rattle.read_text.specs.StreamLaws.{held-front, composed-long}
 use Rattle.read_text.specs.TableLaws.{last-offset}
+use Rattle.text_shape.specs.RoleNames.{new-par-role, first-type-role, last-par-type-role}
+use Rattle.meaning.specs.Holds.{max-stream}
+use Rattle.uses.specs.Layout.{offsets-place, types-place, struct-count-place, table-size}
 
 -- The tables that are lent -------------------------------------------------------------------------
 
 -- the offsets and the bytes of types, as parts of one table
-module _ (x cs t : List ℕ) (r : Roled x cs) (ok : Rows (offsets par-byte cs) (type-bytes x cs)) (b : Tabled x cs t) where
+module _ (x cs t : List ℕ) (r : Roled x cs) (ok : Rows (offsets new-par-role cs) (type-bytes x cs)) (b : Tabled x cs t) where
   abbrev structs : ℕ
-  structs = getD t 321 0
+  structs = getD t struct-count-place 0
 
   abbrev count : ℕ
-  count = getD t (16 + structs) 0
+  count = getD t (offsets-place + structs) 0
 
-  offsets-lent : part-of t 16 (16 + structs + 1) ≡ offsets par-byte cs
-  offsets-lent = ap (λ n. part-of t 16 n) (let e : 16 + structs + 1 ≡ 17 + structs = omega arith in e) ∙ b .rows
+  offsets-lent : part-of t offsets-place (offsets-place + structs + 1) ≡ offsets new-par-role cs
+  offsets-lent = ap (λ n. part-of t offsets-place n) (let e : offsets-place + structs + 1 ≡ offsets-place + 1 + structs = omega arith in e) ∙ b .rows
 
-  offsets-long : length (offsets par-byte cs) ≡ structs + 1
+  offsets-long : length (offsets new-par-role cs) ≡ structs + 1
   offsets-long = sym (ap length offsets-lent) ∙ simp (length-take, length-drop) (omega (arith, b .booked .long, b .booked .structs))
 
-  counted : count ≡ length (places 51 54 cs)
+  counted : count ≡ length (places first-type-role last-par-type-role cs)
   counted =
-      let e : getD (part-of t 16 (16 + structs + 1)) structs 0 ≡ count =
-      getD-take (16 + structs + 1 - 16) (drop 16 t) structs 0 (omega arith) ∙ getD-drop 16 t structs 0 in
+      let e : getD (part-of t offsets-place (offsets-place + structs + 1)) structs 0 ≡ count =
+      getD-take (offsets-place + structs + 1 - offsets-place) (drop offsets-place t) structs 0 (omega arith) ∙ getD-drop offsets-place t structs 0 in
       sym e ∙ ap (λ l. getD l structs 0) offsets-lent ∙ last-offset x cs (r .derivation) (r .stands) structs (omega (arith, offsets-long))
 
-  types-lent : part-of t 161 (161 + count) ≡ type-bytes x cs
-  types-lent = ap (λ n. part-of t 161 (161 + n)) counted ∙ b .types
+  types-lent : part-of t types-place (types-place + count) ≡ type-bytes x cs
+  types-lent = ap (λ n. part-of t types-place (types-place + n)) counted ∙ b .types
 
   -- they stand in the table
-  pub within : (16 + structs + 1 ≤ 323) × (161 + count ≤ 323)
+  pub within : (offsets-place + structs + 1 ≤ table-size) × (types-place + count ≤ table-size)
   within = (omega (arith, b .booked .structs), omega (arith, counted, b .few))
 
-  pub rows-lent : Rows (part-of t 16 (16 + structs + 1)) (part-of t 161 (161 + count))
+  pub rows-lent : Rows (part-of t offsets-place (offsets-place + structs + 1)) (part-of t types-place (types-place + count))
   rows-lent = rw (offsets-lent, types-lent) ok
 
-  pub composed-lent : (ns : List ℕ) → composed-by (part-of t 16 (16 + structs + 1)) (part-of t 161 (161 + count)) x cs ns ≡ composed x cs ns
+  pub composed-lent : (ns : List ℕ) → composed-by (part-of t offsets-place (offsets-place + structs + 1))
+      (part-of t types-place (types-place + count)) x cs ns ≡ composed x cs ns
   unfolding composed
   composed-lent ns = rw (offsets-lent, types-lent) refl
 
@@ -87,7 +90,7 @@ module _ (x cs out l : List ℕ) (r : Numbered) (e : numbered-in l r ≡ resolve
     unfolding numbered-in
     named = sym e ∙ rw f refl
 
-    pub rows-there : Roled x cs → Rows (offsets par-byte cs) (type-bytes x cs)
+    pub rows-there : Roled x cs → Rows (offsets new-par-role cs) (type-bytes x cs)
     rows-there s = resolved-rows x cs (held l n) (s .derivation) (s .stands) named
 
     pub count-told : {A : Type 0} → Counted l r A → (n ≤ length l) × A
@@ -112,9 +115,9 @@ module _ (x cs out l : List ℕ) (r : Numbered) (e : numbered-in l r ≡ resolve
         unfolding placed-in
         at-place = streamed ∙ rw h refl
 
-        long : (1 ≤ length (drop p o)) × (length (drop p o) ≤ 32256)
+        long : (1 ≤ length (drop p o)) × (length (drop p o) ≤ max-stream)
         unfolding composed placed-in
-        long = composed-long (offsets par-byte cs) (type-bytes x cs) x cs (held (take n l) (length (take n l))) (drop p o) (sym g ∙ rw h refl)
+        long = composed-long (offsets new-par-role cs) (type-bytes x cs) x cs (held (take n l) (length (take n l))) (drop p o) (sym g ∙ rw h refl)
 
         pub inside : p < length o
         inside = let k = length-drop p o in omega (arith, long .0)
@@ -124,7 +127,7 @@ module _ (x cs out l : List ℕ) (r : Numbered) (e : numbered-in l r ≡ resolve
           part-is : take (m - p) (drop p o) ≡ drop p o
           part-is = take-all (m - p) (drop p o) (let d = length-drop p o in omega arith)
 
-          pub stream-long : (1 ≤ length (take (m - p) (drop p o))) × (length (take (m - p) (drop p o)) ≤ 32256)
+          pub stream-long : (1 ≤ length (take (m - p) (drop p o))) × (length (take (m - p) (drop p o)) ≤ max-stream)
           stream-long = rw part-is long
 
           pub at-ends : (a : Answer) (u : List ℕ)

@@ -9,9 +9,9 @@ use borrow.Author.Tests.{not-true, not-false}
 use Rattle.types.specs.Numbers.{no-token, no-derivation}
 use Rattle.types.specs.Stages.{Stage.stopped as refused}
 use Rattle.tokens.specs.Scanning.{lex}
-use Rattle.lexer.specs.Marking.{marks, parts, kinds-in}
-use Rattle.derive.specs.Shape.{Shape.shape, derived}
-use Rattle.derive.specs.RoleMarks.{role-codes, placed}
+use Rattle.tokens.specs.Marking.{marks, parts, kinds-in}
+use Rattle.text_shape.specs.Shape.{Shape.shape, derived}
+use Rattle.text_shape.specs.RoleMarks.{role-codes, placed}
 use Rattle.source.specs.Source.{max-text, Outcome}
 use Rattle.source.specs.TextReader.{of-tokens, outcome, text-number, text-blocks, text-output}
 use Rattle.read_text.specs.Ending.{Ending, Ending.stopped, ended, answer, left, ending}
@@ -20,6 +20,7 @@ use Rattle.read_text.specs.Roled.{Roled, stream-of}
 use Rattle.read_text.specs.TextLaws.{too-long, not-long, no-parts, underived, roled, roled-reads}
 use Rattle.read_text.specs.ReadLaws.{roled-ends}
 use Rattle.read_text.specs.declared.Answer.{Answer}
+use Rattle.text_shape.specs.CodeNames.{first-defs-code}
 
 -- what an answer and an output say of how reading ends
 abbrev pub Ends : Answer → List ℕ → List ℕ → Ending → Type 0
@@ -35,7 +36,7 @@ module _ (x ks₀ ks : List ℕ) (long : length ks₀ ≡ length x) (p : Bool) (
   way-15 h a g = stops no-token out (of-tokens (lex 0 x) out) (no-parts x out (sym (not-true p h) ∙ e)) a g
 
   module _ (parted : not p ≡ false) (cs : List ℕ) (q : Bool) (d : q ≡ derived (kinds-in ks))
-      (k : cs ≡ placed ks (role-codes (shape 1 []) (kinds-in ks))) where
+      (k : cs ≡ placed ks (role-codes (shape first-defs-code []) (kinds-in ks))) where
     there : true ≡ parts x
     there = sym (not-false p parted) ∙ e
 

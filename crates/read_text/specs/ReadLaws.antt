@@ -4,7 +4,7 @@ use mathlib.Core.Path.{_≡_, ap, _∙_}
 use mathlib.Core.List.{List}
 use Rattle.meaning.specs.Meant.{meant}
 use Rattle.source.specs.TextReader.{of-program}
-use Rattle.compose.specs.StreamLaws.{stream-meant}
+use Rattle.compose.specs.Laws.StreamLaws.{stream-meant}
 use Rattle.read_text.specs.Ending.{ended, ending}
 use Rattle.read_text.specs.EndingLaws.{program-ends}
 use Rattle.read_text.specs.Roled.{Roled, stream-of}

@@ -5,7 +5,7 @@ use mathlib.Core.Option.{Option}
 use Rattle.syntax.specs.Syntax.{Program as Derivation}
 use Rattle.syntax.specs.Bracketing.{FitsProgram}
 use Rattle.meaning.specs.Meant.{then}
-use Rattle.derive.specs.Roles.{roles}
+use Rattle.text_shape.specs.Roles.{roles}
 use Rattle.resolve.specs.Standing.{Stood}
 use Rattle.resolve.specs.Resolved.{resolved}
 use Rattle.compose.specs.Composed.{composed}

@@ -40,7 +40,7 @@ second : (s t : Bool) → (s && t) ≡ true → t ≡ true
 second true t e = e
 second false t e = absurd (false≢true e)
 
-writing-long : (head : List ℕ) (w : Writing) (s : List ℕ) → of-writing head w ≡ some s → (length head ≤ length s) × (length s ≤ 32256)
+writing-long : (head : List ℕ) (w : Writing) (s : List ℕ) → of-writing head w ≡ some s → (length head ≤ length s) × (length s ≤ max-stream)
 unfolding of-writing
 writing-long head (writing b w n l f) s e =
     let h = provided-some (f && leb (length (head ++ b)) max-stream) (head ++ b) s e in
@@ -49,6 +49,6 @@ writing-long head (writing b w n l f) s e =
     let m = length-append head b in
     (omega arith, omega arith)
 
-pub composed-long : (os ts x cs ns s : List ℕ) → composed-by os ts x cs ns ≡ some s → (1 ≤ length s) × (length s ≤ 32256)
+pub composed-long : (os ts x cs ns s : List ℕ) → composed-by os ts x cs ns ≡ some s → (1 ≤ length s) × (length s ≤ max-stream)
 unfolding composed-by writes-at counted
 composed-long os ts x cs ns s e = let h = writing-long (header os ts) (counted (writes-at x 0 cs (start ns))) s e in (omega (arith, h .0), h .1)

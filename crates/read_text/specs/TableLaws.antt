@@ -7,15 +7,15 @@ use mathlib.Core.List.{List, [], _∷_, map}
 use lib.ListN.{length, getD, length-append, length-map}
 use Rattle.syntax.specs.Syntax.{Struct, Defs, Sched, Program as Derivation, Program.program}
 use Rattle.meaning.specs.Scope.{par-id, pars-of, structs-of}
-use Rattle.derive.specs.Roles.{roles}
+use Rattle.text_shape.specs.Roles.{roles}
 use Rattle.resolve.specs.Tables.{places, offsets}
 use Rattle.resolve.specs.Declares.{all-pars, sums}
-use Rattle.resolve.specs.RowLaws.{par-rows-declared}
-use Rattle.resolve.specs.PlacesLaws.{rows-stand}
+use Rattle.resolve.specs.Laws.RowLaws.{par-rows-declared}
+use Rattle.resolve.specs.Laws.PlacesLaws.{rows-stand}
 use Rattle.resolve.specs.Standing.{Stood}
-use Rattle.resolve.specs.WellDeclared.{par-byte}
-use Rattle.resolve.specs.WellDeclaredLaws.{par-names}
-use Rattle.uses.specs.DeclaringLaws.{roles-fronted}
+use Rattle.resolve.specs.Laws.WellDeclaredLaws.{par-names}
+use Rattle.uses.specs.Laws.DeclaringLaws.{roles-fronted}
+use Rattle.text_shape.specs.RoleNames.{new-par-role, first-type-role, last-par-type-role}
 
 -- Sums ------------------------------------------------------------------------------------------------
 
@@ -42,21 +42,21 @@ module _ (x cs : List ℕ) (d : Defs) (s : Sched) (st : Stood x cs (roles (progr
   abbrev counts : List ℕ
   counts = map (λ e. length (pars-of e)) ds
 
-  offsets-are : offsets par-byte cs ≡ sums 0 counts
-  offsets-are = rows-stand par-byte 0 (omega arith) st ∙ par-rows-declared d s
+  offsets-are : offsets new-par-role cs ≡ sums 0 counts
+  offsets-are = rows-stand new-par-role 0 (omega arith) st ∙ par-rows-declared d s
 
-  pars-counted : length (places par-byte par-byte cs) ≡ length (all-pars ds)
-  pars-counted = sym (length-map (places par-byte par-byte cs) _) ∙ ap length (par-names x cs d s st) ∙ length-map (all-pars ds) par-id
+  pars-counted : length (places new-par-role new-par-role cs) ≡ length (all-pars ds)
+  pars-counted = sym (length-map (places new-par-role new-par-role cs) _) ∙ ap length (par-names x cs d s st) ∙ length-map (all-pars ds) par-id
 
-  types-counted : length (places 51 54 cs) ≡ length (all-pars ds)
+  types-counted : length (places first-type-role last-par-type-role cs) ≡ length (all-pars ds)
   types-counted = roles-fronted (program d s) st .types ∙ pars-counted
 
-  last-there : (n : ℕ) → length (offsets par-byte cs) ≡ suc n → getD (offsets par-byte cs) n 0 ≡ length (places 51 54 cs)
+  last-there : (n : ℕ) → length (offsets new-par-role cs) ≡ suc n → getD (offsets new-par-role cs) n 0 ≡ length (places first-type-role last-par-type-role cs)
   last-there n e =
       let h = sums-last counts 0 in
       let m : n ≡ length counts = omega (arith, ap length offsets-are, h .1) in
       ap (λ l. getD l n 0) offsets-are ∙ ap (λ k. getD (sums 0 counts) k 0) m ∙ h .0 ∙ omega (arith, counted-pars ds, types-counted)
 
-pub last-offset : (x cs : List ℕ) (c : Derivation) → Stood x cs (roles c) → (n : ℕ) → length (offsets par-byte cs) ≡ suc n
-    → getD (offsets par-byte cs) n 0 ≡ length (places 51 54 cs)
+pub last-offset : (x cs : List ℕ) (c : Derivation) → Stood x cs (roles c) → (n : ℕ) → length (offsets new-par-role cs) ≡ suc n
+    → getD (offsets new-par-role cs) n 0 ≡ length (places first-type-role last-par-type-role cs)
 last-offset x cs (program d s) st n e = last-there x cs d s st n e

@@ -1,36 +1,37 @@
 -- 15 and 16 (02 §1): a text that is too long, that does not part into tokens, or whose tokens no derivation yields is refused so; else its roles stand in it.
-use Prim.Native.Nat.{ℕ, _+_, _<_, _≤_}
+use Prim.Native.Nat.{ℕ, _<_, _≤_}
 use native.Mathlib.Omega.{arith}
 use mathlib.Core.Path.{_≡_, refl, sym, ap, subst, _∙_}
-use mathlib.Core.Bool.{Bool, true, false, false≢true}
-use mathlib.Core.List.{List, [], _∷_, _++_, map, append-nil}
+use mathlib.Core.Bool.{true, false, false≢true}
+use mathlib.Core.List.{List, [], map}
 use mathlib.Core.Option.{Option, none, some}
-use lib.ListN.{length, drop, drop-of-length-le}
-use lib.Seq.{sets, sets-eq}
-use lib.Dec.{ltb}
+use lib.ListN.{length}
+use lib.Seq.{sets}
 use borrow.Author.Tests.{lt-ltb, le-ltb}
 use Rattle.types.specs.Numbers.{no-token, no-derivation}
 use Rattle.types.specs.Stages.{Stage.stopped as refused, on, asked, given}
+use Rattle.types.specs.ListLaws.{sets-whole}
 use Rattle.tokens.specs.Tokens.{Token}
 use Rattle.tokens.specs.Scanning.{lex}
 use Rattle.syntax.specs.Syntax.{Program as Derivation}
 use Rattle.syntax.specs.Bracketing.{Derives}
 use Rattle.syntax.specs.Reading.{read}
-use Rattle.syntax.specs.CompleteLaws.{derives-read, derived-exact}
+use Rattle.syntax.specs.Laws.CompleteLaws.{derives-read, derived-exact}
 use Rattle.meaning.specs.Meant.{meant}
-use Rattle.lexer.specs.Kinds.{kind}
-use Rattle.lexer.specs.Marking.{marks, found, parts, kinds-in}
-use Rattle.lexer.specs.MarkingLaws.{marks-tell}
-use Rattle.derive.specs.Shape.{Shape.shape, derived}
-use Rattle.derive.specs.KindShapeLaws.{derived-derives}
-use Rattle.derive.specs.RoleMarks.{role-codes, placed}
-use Rattle.derive.specs.RoleMarkLaws.{text-roles}
-use Rattle.derive.specs.Roles.{code, roles}
+use Rattle.tokens.specs.Kinds.{kind}
+use Rattle.tokens.specs.Marking.{marks, found, parts, kinds-in}
+use Rattle.tokens.specs.Laws.MarkingLaws.{marks-tell}
+use Rattle.text_shape.specs.Shape.{Shape.shape, derived}
+use Rattle.text_shape.specs.Laws.KindShapeLaws.{derived-derives}
+use Rattle.text_shape.specs.RoleMarks.{role-codes, placed}
+use Rattle.text_shape.specs.Laws.RoleMarkLaws.{text-roles}
+use Rattle.text_shape.specs.Roles.{code, roles}
 use Rattle.resolve.specs.Standing.{Stood}
-use Rattle.resolve.specs.StandingLaws.{derivation-stands}
+use Rattle.resolve.specs.Laws.StandingLaws.{derivation-stands}
 use Rattle.source.specs.Source.{max-text}
 use Rattle.source.specs.TextReader.{of-program, of-derivation, of-tokens, outcome}
 use Rattle.read_text.specs.Roled.{Roled}
+use Rattle.text_shape.specs.CodeNames.{first-defs-code}
 
 module _ (x out : List ℕ) where
   pub too-long : max-text < length x → outcome x out ≡ refused no-token
@@ -58,10 +59,6 @@ parted x e = go (lex 0 x) refl e
     go none f e = absurd (false≢true (sym e))
     go (some ts) f e = (ts, f)
 
-set-whole : (ks ms : List ℕ) → length ms ≡ length ks → sets ks 0 ms ≡ ms
-set-whole ks ms e =
-    sets-eq ms ks 0 (omega arith) ∙ ap (λ l. ms ++ l) (drop-of-length-le ks {i = 0 + length ms} (omega arith)) ∙ append-nil ms
-
 -- the kinds of its tokens in their places, in lent memory
 module _ (x ks₀ ks : List ℕ) (long : length ks₀ ≡ length x) (p : true ≡ parts x) (e : ks ≡ sets ks₀ 0 (marks x)) where
   tokens : List Token
@@ -72,7 +69,7 @@ module _ (x ks₀ ks : List ℕ) (long : length ks₀ ≡ length x) (p : true �
   lexed = parted x p .1
 
   marks-are : ks ≡ marks x
-  marks-are = let h = marks-tell x tokens lexed .1 in e ∙ set-whole ks₀ (marks x) (omega arith)
+  marks-are = let h = marks-tell x tokens lexed .1 in e ∙ sets-whole ks₀ (marks x) (omega arith)
 
   kinds-are : kinds-in ks ≡ map kind tokens
   kinds-are = ap kinds-in marks-are ∙ marks-tell x tokens lexed .0
@@ -85,15 +82,15 @@ module _ (x ks₀ ks : List ℕ) (long : length ks₀ ≡ length x) (p : true �
       go none g = refl
       go (some c) g = absurd (false≢true (f ∙ ap derived kinds-are ∙ derived-derives tokens .1 (c, derived-exact tokens c .0 g)))
 
-  module _ (cs : List ℕ) (f : cs ≡ placed ks (role-codes (shape 1 []) (kinds-in ks))) (d : true ≡ derived (kinds-in ks)) where
+  module _ (cs : List ℕ) (f : cs ≡ placed ks (role-codes (shape first-defs-code []) (kinds-in ks))) (d : true ≡ derived (kinds-in ks)) where
     derives : (c : Derivation) × Derives tokens c
     derives = derived-derives tokens .0 (ap derived (sym kinds-are) ∙ sym d)
 
     pub roled : Roled x cs
     roled =
         let c = derives .0 in
-        let g : cs ≡ placed (marks x) (role-codes (shape 1 []) (kinds-in (marks x))) =
-        f ∙ ap (λ l. placed l (role-codes (shape 1 []) (kinds-in l))) marks-are in
+        let g : cs ≡ placed (marks x) (role-codes (shape first-defs-code []) (kinds-in (marks x))) =
+        f ∙ ap (λ l. placed l (role-codes (shape first-defs-code []) (kinds-in l))) marks-are in
         let h : cs ≡ placed (marks x) (map code (roles c)) = g ∙ text-roles x tokens c lexed (derives .1) in
         record {
           derivation = c;

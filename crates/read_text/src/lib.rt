@@ -2,7 +2,9 @@
 // of the text in memory of its own, so that no function follows the nesting of the text.
 use blocks::Written;
 use composing::Placed;
+use composing::sizes;
 use uses::Numbered;
+use uses::layout;
 ghost use mathlib.Core.Path.{_≡_};
 ghost use mathlib.Core.Option.{some};
 ghost use Prim.Native.Nat.{_<_, _≤_};
@@ -13,29 +15,20 @@ ghost use Rattle.source.specs.TextReader.{of-tokens, text-number, text-blocks, 
 ghost use Rattle.lexer.specs.Gaps.{Gap};
 ghost use Rattle.derive.specs.Held.{held};
 ghost use Rattle.resolve.specs.Tables.{offsets};
-ghost use Rattle.resolve.specs.WellDeclared.{par-byte};
 ghost use Rattle.compose.specs.Header.{Rows};
 ghost use Rattle.compose.specs.Composed.{type-bytes, composed};
 ghost use Rattle.uses.specs.Declaring.{Tabled};
 ghost use Rattle.composing.specs.Placing.{placed-in};
 ghost use Rattle.read_text.specs.Ending.{Ending.stopped, ended, answer, left, ending};
 ghost use Rattle.read_text.specs.Roled.{Roled, stream-of};
+ghost use Rattle.text_shape.specs.RoleNames.{new-par-role};
+ghost use Rattle.composing.specs.Sizes.{output-size};
+ghost use Rattle.meaning.specs.Holds.{max-stream};
 
-// Bytes of a text at the most; of the largest image; of memory for the longest stream and what is in front of it before it is measured.
-const MAX_TEXT: usize = 65536;
+// Bytes of a text at the most; of the largest image.
+pub const MAX_TEXT: usize = 65536;
 
 const OUTPUT: usize = types::PROGRAM_BLOCKS * blocks::BLOCK_SIZE;
-
-const STREAM: usize = 32402;
-
-// Places of the tables of declarations: in all; where the offsets of structs' parameters begin, the bytes of their types; the count of structs.
-const TABLES: usize = 323;
-
-const OFFSETS: usize = 16;
-
-const TYPES: usize = 161;
-
-const STRUCT_COUNT: usize = 321;
 
 // What reading answers: the number of the refusal, else 0; the blocks that are written.
 pub struct Answer {
@@ -59,16 +52,16 @@ fn composed(
     stack: &mut [u8],
     stream: &mut [u8],
 ) -> Placed
-    requires { ⌜ (length (now roles) ≤ length (now text)) × (length (now roles) < length (now stack)) × (length (now stream) ≡ 32402) ⌝ }
+    requires { ⌜ (length (now roles) ≤ length (now text)) × (length (now roles) < length (now stack)) × (length (now stream) ≡ output-size) ⌝ }
     requires { ⌜ (Roled (now text) (now roles)) × (Tabled (now text) (now roles) (now tables)) ⌝ }
-    requires { ⌜ Rows (offsets par-byte (now roles)) (type-bytes (now text) (now roles)) ⌝ }
+    requires { ⌜ Rows (offsets new-par-role (now roles)) (type-bytes (now text) (now roles)) ⌝ }
     ensures { λ r. ⌜ placed-in (now (stream .exit)) r
         ≡ composed (now (text .entry)) (now (roles .entry)) (held (now (numbers .entry)) (length (now (numbers .entry)))) ⌝ }
 {
-    let first = OFFSETS;
-    let last = first + tables[STRUCT_COUNT];
+    let first = layout::OFFSETS;
+    let last = first + tables[layout::STRUCT_COUNT];
     let end = last + 1;
-    let types = TYPES;
+    let types = layout::TYPES;
     let types_end = types + tables[last];
     composing::stream(
         text,
@@ -83,7 +76,7 @@ fn composed(
 
 // A stream in blocks from the start of the output, where that has room for the largest image (13).
 fn imaged(stream: &[u8], out: &mut [u8]) -> Answer
-    requires { ⌜ (1 ≤ length (now stream)) × (length (now stream) ≤ 32256) ⌝ }
+    requires { ⌜ (1 ≤ length (now stream)) × (length (now stream) ≤ max-stream) ⌝ }
     ensures { λ r. ⌜ r ≡ answer (ended (some (now (stream .entry))) (now (out .entry))) ⌝ }
     ensures { λ _. ⌜ now (out .exit) ≡ left (ended (some (now (stream .entry))) (now (out .entry))) (now (out .entry)) ⌝ }
 {
@@ -108,12 +101,12 @@ fn meant(text: &[u8], roles: &[u8], stack: &mut [u8], out: &mut [u8]) -> Answer
     ensures { λ _. ⌜ now (out .exit) ≡ left (ended (stream-of (now (text .entry)) (now (roles .entry))) (now (out .entry))) (now (out .entry)) ⌝ }
 {
     let mut numbers = [0u8; MAX_TEXT];
-    let mut tables = [0usize; TABLES];
+    let mut tables = [0usize; layout::TABLE_SIZE];
     let names = uses::numbers(text, roles, &mut tables, stack, &mut numbers);
     let Numbered::Count(n) = names else {
         return refused(types::number::NO_PROGRAM);
     };
-    let mut stream = [0u8; STREAM];
+    let mut stream = [0u8; sizes::OUTPUT];
     let placed = composed(text, roles, &numbers[..n], &tables, stack, &mut stream);
     let Placed::At(p) = placed else {
         return refused(types::number::NO_PROGRAM);

@@ -11,6 +11,7 @@ use Rattle.syntax.specs.Syntax.{Id, TypeName, TypeName.int-type, TypeName.nat-t
 use Rattle.meaning.specs.Finding.{distinct}
 use Rattle.meaning.specs.HoldsDecide.{all}
 use Rattle.resolve.specs.Named.{name-of, name-at, names-at, sought}
+use Rattle.text_shape.specs.RoleNames.{first-type-role}
 
 -- Rows ----------------------------------------------------------------------------------------
 
@@ -54,13 +55,9 @@ byte-of names nat-type = 1
 byte-of names bool-type = 2
 byte-of names (id-type x) = struct-code + sought x names
 
--- the bytes of the types at some places, where those of parameters stand
-abbrev pub first-type : ℕ
-first-type = 51
-
 unfoldable pub types-at : List ℕ → List ℕ → List Id → List ℕ → List ℕ
 unfolding byte-of type-here
-types-at text roles names places = map (λ i. byte-of names (type-here (getD roles i 0 - first-type) (drop i text))) places
+types-at text roles names places = map (λ i. byte-of names (type-here (getD roles i 0 - first-type-role) (drop i text))) places
 
 -- every type is one
 unfoldable pub known : ℕ → List ℕ → Bool

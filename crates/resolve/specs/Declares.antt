@@ -5,8 +5,9 @@ use mathlib.Core.List.{List, [], _∷_, _++_}
 use lib.Dec.{eqb, ltb}
 use Rattle.syntax.specs.Syntax.{Id, TypeName, Par, Struct}
 use Rattle.meaning.specs.Scope.{pars-of}
-use Rattle.derive.specs.Roles.{Typed, Typed.of-par, Typed.of-local, Typed.of-null, Naming, Role, Role.plain, Role.naming, Role.typed, Role.part, naming-number}
-use Rattle.derive.specs.Roles.{naming-code}
+use Rattle.text_shape.specs.Roles.{Typed, Typed.of-par, Typed.of-local, Typed.of-null, Naming, Role, Role.plain, Role.naming, Role.typed, Role.part}
+use Rattle.text_shape.specs.Roles.{naming-number}
+use Rattle.text_shape.specs.Roles.{naming-code}
 
 unfoldable pub named : ℕ → List Role → List Id
 named n [] = []

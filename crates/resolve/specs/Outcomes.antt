@@ -8,7 +8,7 @@ use mathlib.Core.List.{List, [], _∷_, _++_}
 use mathlib.Core.Option.{Option, none, some}
 use Rattle.syntax.specs.Syntax.{Id, TypeName, Struct}
 use Rattle.meaning.specs.Meant.{then, provided}
-use Rattle.derive.specs.Roles.{Role}
+use Rattle.text_shape.specs.Roles.{Role}
 use Rattle.resolve.specs.Passing.{Pass, pass, passes}
 
 -- numbers onto those that were left before, each before the one behind it

@@ -15,13 +15,15 @@ use Rattle.syntax.specs.Syntax.{Id, TypeName, Par, Struct, Literal.int-literal,
 use Rattle.meaning.specs.Scope.{par-id, par-type, struct-id, pars-of, Local, Local.declared}
 use Rattle.meaning.specs.Finding.{find, absent}
 use Rattle.meaning.specs.Meant.{then, provided, literal-meaning, type-meaning, referred, start}
-use Rattle.derive.specs.Roles.{Typed, Typed.of-par, Typed.of-local, Typed.of-null, Naming, Naming.new-struct, Naming.new-par, Naming.new-step, Naming.new-local}
-use Rattle.derive.specs.Roles.{Naming.first-read, Naming.first-written, Naming.later-variable, Naming.made, Naming.made-statement, Naming.called}
-use Rattle.derive.specs.Roles.{Naming.called-struct, Naming.called-step}
-use Rattle.derive.specs.Roles.{Part, Part.brackets-open, Part.brackets-close, Part.args-open, Part.args-close, Part.no-args-close, Part.pars-open}
-use Rattle.derive.specs.Roles.{Part.pars-close, Part.fix-open, Part.fix-close, Part.steps-open, Part.steps-close, Part.body-open, Part.body-close}
-use Rattle.derive.specs.Roles.{Part.then-open, Part.then-close, Part.par-comma, Part.arg-comma, Part.barrier-sign, Role, Role.plain, Role.naming, Role.typed}
-use Rattle.derive.specs.Roles.{Role.part}
+use Rattle.text_shape.specs.Roles.{Typed, Typed.of-par, Typed.of-local, Typed.of-null, Naming, Naming.new-struct, Naming.new-par, Naming.new-step}
+use Rattle.text_shape.specs.Roles.{Naming.new-local}
+use Rattle.text_shape.specs.Roles.{Naming.first-read, Naming.first-written, Naming.later-variable, Naming.made, Naming.made-statement, Naming.called}
+use Rattle.text_shape.specs.Roles.{Naming.called-struct, Naming.called-step}
+use Rattle.text_shape.specs.Roles.{Part, Part.brackets-open, Part.brackets-close, Part.args-open, Part.args-close, Part.no-args-close, Part.pars-open}
+use Rattle.text_shape.specs.Roles.{Part.pars-close, Part.fix-open, Part.fix-close, Part.steps-open, Part.steps-close, Part.body-open, Part.body-close}
+use Rattle.text_shape.specs.Roles.{Part.then-open, Part.then-close, Part.par-comma, Part.arg-comma, Part.barrier-sign, Role, Role.plain, Role.naming}
+use Rattle.text_shape.specs.Roles.{Role.typed}
+use Rattle.text_shape.specs.Roles.{Role.part}
 
 pub record Pass : Type 0 where
   -- the structs that are not begun; the parameters of the struct at hand

@@ -7,11 +7,12 @@ use Rattle.program.specs.Encoding.{flat}
 use Rattle.meaning.specs.Meant.{then, provided}
 use Rattle.resolve.specs.Named.{names-at}
 use Rattle.resolve.specs.Numbers.{steps-numbers, items-numbers}
-use Rattle.resolve.specs.Tables.{struct-byte, places, offsets}
+use Rattle.resolve.specs.Tables.{places, offsets}
 use Rattle.resolve.specs.Checks.{part-of, types-at, firsts}
-use Rattle.resolve.specs.WellDeclared.{par-byte, step-byte, tables-ok}
+use Rattle.resolve.specs.WellDeclared.{tables-ok}
 use Rattle.resolve.specs.Using.{Book, use-start}
 use Rattle.resolve.specs.UsingAt.{uses-at}
+use Rattle.text_shape.specs.RoleNames.{new-struct-role, new-par-role, new-step-role, first-type-role, last-par-type-role}
 
 -- the parts of a list between each of some numbers and the next
 unfoldable pub cuts : {A : Type 0} → List A → List ℕ → List (List A)
@@ -24,10 +25,11 @@ unfoldable pub book-at : List ℕ → List ℕ → Book
 unfolding cuts types-at firsts
 book-at text roles =
     record {
-      structs = names-at text (places struct-byte struct-byte roles);
-      rows = cuts (names-at text (places par-byte par-byte roles)) (offsets par-byte roles);
-      types = cuts (types-at text roles (names-at text (places struct-byte struct-byte roles)) (places 51 54 roles)) (offsets par-byte roles);
-      steps = names-at text (firsts text [] (places step-byte step-byte roles));
+      structs = names-at text (places new-struct-role new-struct-role roles);
+      rows = cuts (names-at text (places new-par-role new-par-role roles)) (offsets new-par-role roles);
+      types = cuts (types-at text roles (names-at text (places new-struct-role new-struct-role roles)) (places first-type-role last-par-type-role roles))
+          (offsets new-par-role roles);
+      steps = names-at text (firsts text [] (places new-step-role new-step-role roles));
     }
 
 -- the numbers of its uses, the last one first

@@ -5,7 +5,7 @@ use mathlib.Core.List.{List, [], _∷_}
 use lib.ListN.{getD, drop}
 use Rattle.tokens.specs.Tokens.{Token, Token.word, Token.sign, Token.op, Token.name, Token.int, Token.nat}
 use Rattle.tokens.specs.Scanning.{polarity}
-use Rattle.derive.specs.Roles.{Role, code, token-of}
+use Rattle.text_shape.specs.Roles.{Role, code, token-of}
 use Rattle.resolve.specs.Named.{name-of}
 use Rattle.resolve.specs.Digits.{digits-of}
 

@@ -6,10 +6,7 @@ use mathlib.Core.List.{List, [], _∷_}
 use lib.ListN.{set}
 use lib.Dec.{eqb}
 use Rattle.tokens.specs.Tokens.{between}
-
--- the byte of a name that declares a struct
-abbrev pub struct-byte : ℕ
-struct-byte = 39
+use Rattle.text_shape.specs.RoleNames.{new-struct-role}
 
 -- the places of bytes from lo to hi, counted from i
 unfoldable pub places-from : ℕ → ℕ → ℕ → List ℕ → List ℕ
@@ -33,7 +30,7 @@ unfoldable pub offsets-from : ℕ → ℕ → List ℕ → List ℕ
 unfolding with-one
 offsets-from q n [] = n ∷ []
 offsets-from q n (b ∷ s) =
-    elim (eqb b struct-byte) [ true ↦ n ∷ offsets-from q (with-one (eqb b q) n) s | false ↦ offsets-from q (with-one (eqb b q) n) s ]
+    elim (eqb b new-struct-role) [ true ↦ n ∷ offsets-from q (with-one (eqb b q) n) s | false ↦ offsets-from q (with-one (eqb b q) n) s ]
 
 abbrev pub offsets : ℕ → List ℕ → List ℕ
 offsets q s = offsets-from q 0 s

@@ -10,7 +10,7 @@ use Rattle.meaning.specs.Scope.{structs-of}
 use Rattle.meaning.specs.StepNames.{step-names}
 use Rattle.meaning.specs.HoldsDecide.{all}
 use Rattle.meaning.specs.Meant.{then, each, steps-meaning, sched-meaning}
-use Rattle.derive.specs.Roles.{roles}
+use Rattle.text_shape.specs.Roles.{roles}
 use Rattle.resolve.specs.Passing.{Pass, passes}
 use Rattle.resolve.specs.Numbers.{steps-numbers, items-numbers, few-steps}
 

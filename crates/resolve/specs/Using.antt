@@ -12,13 +12,14 @@ use Rattle.tokens.specs.Tokens.{Token, Token.word, Token.sign, Token.op, Token.
 use Rattle.syntax.specs.Syntax.{Id, TypeName, Struct, Literal.int-literal, Literal.nat-literal}
 use Rattle.meaning.specs.Scope.{par-id, par-type, struct-id, pars-of}
 use Rattle.meaning.specs.Meant.{then, provided, literal-meaning}
-use Rattle.derive.specs.Roles.{Typed, Typed.of-par, Typed.of-local, Typed.of-null, Naming, Naming.new-struct, Naming.new-par, Naming.new-step}
-use Rattle.derive.specs.Roles.{Naming.new-local, Naming.first-read, Naming.first-written, Naming.later-variable, Naming.made, Naming.made-statement}
-use Rattle.derive.specs.Roles.{Naming.called, Naming.called-struct, Naming.called-step}
-use Rattle.derive.specs.Roles.{Part, Part.brackets-open, Part.brackets-close, Part.args-open, Part.args-close, Part.no-args-close, Part.pars-open}
-use Rattle.derive.specs.Roles.{Part.pars-close, Part.fix-open, Part.fix-close, Part.steps-open, Part.steps-close, Part.body-open, Part.body-close}
-use Rattle.derive.specs.Roles.{Part.then-open, Part.then-close, Part.par-comma, Part.arg-comma, Part.barrier-sign, Role, Role.plain, Role.naming, Role.typed}
-use Rattle.derive.specs.Roles.{Role.part}
+use Rattle.text_shape.specs.Roles.{Typed, Typed.of-par, Typed.of-local, Typed.of-null, Naming, Naming.new-struct, Naming.new-par, Naming.new-step}
+use Rattle.text_shape.specs.Roles.{Naming.new-local, Naming.first-read, Naming.first-written, Naming.later-variable, Naming.made, Naming.made-statement}
+use Rattle.text_shape.specs.Roles.{Naming.called, Naming.called-struct, Naming.called-step}
+use Rattle.text_shape.specs.Roles.{Part, Part.brackets-open, Part.brackets-close, Part.args-open, Part.args-close, Part.no-args-close, Part.pars-open}
+use Rattle.text_shape.specs.Roles.{Part.pars-close, Part.fix-open, Part.fix-close, Part.steps-open, Part.steps-close, Part.body-open, Part.body-close}
+use Rattle.text_shape.specs.Roles.{Part.then-open, Part.then-close, Part.par-comma, Part.arg-comma, Part.barrier-sign, Role, Role.plain, Role.naming}
+use Rattle.text_shape.specs.Roles.{Role.typed}
+use Rattle.text_shape.specs.Roles.{Role.part}
 use Rattle.resolve.specs.Named.{sought}
 use Rattle.resolve.specs.Checks.{byte-of}
 use Rattle.resolve.specs.Passing.{at-semicolon}

@@ -11,9 +11,10 @@ use Rattle.meaning.specs.StepNames.{step-names}
 use Rattle.meaning.specs.Finding.{distinct}
 use Rattle.meaning.specs.HoldsDecide.{all}
 use Rattle.resolve.specs.Named.{names-at}
-use Rattle.resolve.specs.Tables.{struct-byte, places, offsets}
+use Rattle.resolve.specs.Tables.{places, offsets}
 use Rattle.resolve.specs.Declares.{all-pars}
 use Rattle.resolve.specs.Checks.{rows-ok, narrow, byte-of, types-at, known, firsts}
+use Rattle.text_shape.specs.RoleNames.{new-struct-role, new-par-role, new-step-role, first-type-role, last-par-type-role}
 
 -- few parameters with different names; few steps
 unfoldable pub few-named : Struct → Bool
@@ -32,20 +33,13 @@ well-declared ds =
     && (known (length ds) (map (byte-of (map struct-id ds)) (map par-type (all-pars ds)))
     && (all few-stepped ds && leb (length (step-names ds)) max-names))))
 
--- the bytes of names that declare parameters and steps
-abbrev pub par-byte : ℕ
-par-byte = 40
-
-abbrev pub step-byte : ℕ
-step-byte = 41
-
 -- of tables
 unfoldable pub tables-ok : List ℕ → List ℕ → Bool
 unfolding rows-ok narrow types-at known firsts distinct
 tables-ok text roles =
-    leb (length (places struct-byte struct-byte roles)) max-structs
-    && (distinct (names-at text (places struct-byte struct-byte roles))
-    && (rows-ok text (places par-byte par-byte roles) (offsets par-byte roles)
-    && (known (length (places struct-byte struct-byte roles))
-    (types-at text roles (names-at text (places struct-byte struct-byte roles)) (places 51 54 roles))
-    && (narrow (offsets step-byte roles) && leb (length (firsts text [] (places step-byte step-byte roles))) max-names))))
+    leb (length (places new-struct-role new-struct-role roles)) max-structs
+    && (distinct (names-at text (places new-struct-role new-struct-role roles))
+    && (rows-ok text (places new-par-role new-par-role roles) (offsets new-par-role roles)
+    && (known (length (places new-struct-role new-struct-role roles))
+    (types-at text roles (names-at text (places new-struct-role new-struct-role roles)) (places first-type-role last-par-type-role roles))
+    && (narrow (offsets new-step-role roles) && leb (length (firsts text [] (places new-step-role new-step-role roles))) max-names))))

@@ -2,6 +2,7 @@
 use crate::names;
 use crate::tables;
 use lexer::bytes;
+use text_shape::role;
 ghost use mathlib.Core.Path.{_≡_};
 ghost use mathlib.Core.Bool.{true, not};
 ghost use Prim.Native.Nat.{_+_, _-_, _≤_, min};
@@ -11,10 +12,8 @@ ghost use lib.Seq.{sets};
 ghost use lib.Dec.{leb, ltb};
 ghost use Rattle.types.specs.Limits.{max-steps};
 ghost use Rattle.resolve.specs.Named.{name-at, names-at, sought};
-ghost use Rattle.resolve.specs.Checks.{row-ok, rows-ok, narrow, type-here, byte-of, first-type, types-at, known, firsts};
-
-// The role of a parameter's type Int; those of the others follow.
-const FIRST_TYPE: u8 = 51;
+ghost use Rattle.resolve.specs.Checks.{row-ok, rows-ok, narrow, type-here, byte-of, types-at, known, firsts};
+ghost use Rattle.text_shape.specs.RoleNames.{first-type-role};
 
 // Whether a row of parameters, from a to b, is one of few with different names.
 fn row_ok(text: &[u8], pars: &[usize], a: usize, b: usize) -> bool
@@ -83,12 +82,12 @@ pub fn type_byte(text: &[u8], structs: &[usize], n: u8, at: usize) -> usize
 
 // The number of a type among the four kinds, by the role of a parameter's type.
 fn type_kind(role: u8) -> u8
-    ensures { λ r. ⌜ r ≡ role - first-type ⌝ }
+    ensures { λ r. ⌜ r ≡ role - first-type-role ⌝ }
 {
-    if role < FIRST_TYPE {
+    if role < role::FIRST_TYPE {
         return 0;
     }
-    role - FIRST_TYPE
+    role - role::FIRST_TYPE
 }
 
 // The bytes of the types at some places into a table, as many as it has, and whether each is one: up to one that is none.

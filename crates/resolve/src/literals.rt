@@ -9,17 +9,18 @@ ghost use Rattle.types.specs.Limits.{nat-end};
 ghost use Rattle.tokens.specs.Tokens.{digit};
 ghost use Rattle.meaning.specs.Values.{decimal};
 ghost use Rattle.resolve.specs.Digits.{capped, digits-at, nat-at, int-at, signed-word};
+ghost use Rattle.tokens.specs.Bytes.{zero-byte};
 
-const PLUS: u8 = 43;
+const PLUS: u8 = b'+';
 
 // The byte of the digit zero.
-const ZERO: u8 = 48;
+const ZERO: u8 = b'0';
 
 const BASE: u64 = 10;
 
 fn digit_value(b: u8) -> u64
     requires { ⌜ digit b ≡ true ⌝ }
-    ensures { λ r. ⌜ (r ≡ b - 48) × (r < 10) ⌝ }
+    ensures { λ r. ⌜ (r ≡ b - zero-byte) × (r < 10) ⌝ }
 {
     (b - ZERO) as u64
 }
@@ -27,7 +28,7 @@ fn digit_value(b: u8) -> u64
 // A number with one more digit, up to the bound of Nat.
 fn longer(n: u64, b: u8) -> u64
     requires { ⌜ (n ≤ nat-end) × (digit b ≡ true) ⌝ }
-    ensures { λ r. ⌜ r ≡ capped (n * 10 + (b - 48)) ⌝ }
+    ensures { λ r. ⌜ r ≡ capped (n * 10 + (b - zero-byte)) ⌝ }
 {
     let m = n * BASE + digit_value(b);
     if m < types::NAT_END {

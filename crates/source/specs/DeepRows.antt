@@ -16,7 +16,7 @@ use Rattle.syntax.specs.Syntax.{Program as Derivation, Program.program}
 use Rattle.syntax.specs.Letters.{A, a, s}
 use Rattle.source.specs.TextReader.{of-program, of-derivation, outcome}
 use Rattle.source.specs.Streamed.{streamed}
-use Rattle.source.specs.StreamedLaws.{Reads, streams}
+use Rattle.source.specs.Laws.StreamedLaws.{Reads, streams}
 use Rattle.program.specs.Unfold.{encodings}
 use Rattle.tokens.specs.Unfold.{scanning}
 use Rattle.syntax.specs.Unfold.{reading}

@@ -1,15 +1,10 @@
 pub mod Source
 pub mod TextReader
-pub mod SourceLaws
 pub mod Kept
-pub mod KeptLaws
-pub mod NamingLaws
 pub mod Stepping
-pub mod SteppingLaws
 pub mod Checking
-pub mod CheckingLaws
 pub mod Rows
 pub mod Streamed
-pub mod StreamedLaws
 pub mod TextRows
 pub mod DeepRows
+pub mod Laws

@@ -22,7 +22,7 @@ use Rattle.syntax.specs.Syntax.{Item.typed-execution, Item.fixpoint, Sched.last
 use Rattle.syntax.specs.Letters.{A, B, c, s, t, x, y}
 use Rattle.source.specs.TextReader.{of-program, of-derivation, outcome}
 use Rattle.source.specs.Streamed.{streamed}
-use Rattle.source.specs.StreamedLaws.{Reads, streams}
+use Rattle.source.specs.Laws.StreamedLaws.{Reads, streams}
 use Rattle.program.specs.Unfold.{encodings}
 use Rattle.tokens.specs.Unfold.{scanning}
 use Rattle.syntax.specs.Unfold.{reading}

@@ -5,16 +5,9 @@ pub mod Bracketed
 pub mod Expecting
 pub mod Places
 pub mod Reading
-pub mod ExpectingLaws
 pub mod SoFar
 pub mod Unfold
-pub mod RowLaws
-pub mod LevelLaws
-pub mod PlaceLaws
-pub mod SoundLaws
-pub mod ExpLaws
-pub mod CompleteLaws
-pub mod BracketLaws
 pub mod Letters
 pub mod Rows
 pub mod LevelRows
+pub mod Laws

@@ -1,19 +1,18 @@
 -- The other way round: a table's stream as numbers, and these as a stream, is that stream.
 use Prim.Native.Nat.{ℕ, zero, suc, _+_, _*_, _-_, _/_, _%_, _≤_, _<_}
 use native.Mathlib.Omega.{arith}
-use native.Mathlib.Numerals.{add-one}
 use mathlib.Core.Path.{_≡_, refl, sym, ap, _∙_}
 use mathlib.Core.Bool.{Bool, true, false}
-use mathlib.Core.List.{List, [], _∷_, _++_, append-assoc}
+use mathlib.Core.List.{List, [], _∷_, _++_}
 use lib.Dec.{eqb, ltb}
-use lib.ListN.{length, getD, take, drop, drop-of-length-le}
-use lib.Seq.{drop-cons}
-use borrow.Author.Tests.{lt-ltb, le-ltb, lt-leb, le-leb, ltb-true, ltb-false}
+use lib.ListN.{length, getD, drop, drop-of-length-le}
+use borrow.Author.Tests.{lt-ltb, le-ltb, lt-leb, le-leb, ltb-false}
+use Rattle.types.specs.ListLaws.{drop-next}
 use Rattle.types.specs.Limits.{int-half, nat-end, max-params}
 use Rattle.program.specs.Encoding.{enc-word}
 use Rattle.numbers.specs.Scan.{minus-mark, first-mark}
 use Rattle.table_words.specs.TableWords.{quad, value-word, values-words, arity-at, row-words, rows-words, table-words}
-use Rattle.table_stream.specs.TableStream.{value-number, word-bytes, begins, item-bytes, records-bytes, one-line, line-count, stream-of}
+use Rattle.table_stream.specs.TableStream.{value-number, word-bytes, item-bytes, records-bytes, one-line, line-count, stream-of}
 
 abbrev pub Bytes : List ℕ → Type 0
 Bytes s = (i : ℕ) → getD s i 0 < 256
@@ -90,18 +89,15 @@ word-counts w ws h = rw (one-line, lt-leb (first-mark true) w h) (omega arith)
 
 -- Records ------------------------------------------------------------------------------------
 
-one-off : (s : List ℕ) (i : ℕ) → i < length s → drop i s ≡ getD s i 0 ∷ drop (i + 1) s
-one-off s i h = rw (add-one, drop-cons s i 0)
-
 four-off : (s : List ℕ) (at : ℕ) → at + 4 ≤ length s
     → drop at s ≡ getD s at 0 ∷ getD s (at + 1) 0 ∷ getD s (at + 2) 0 ∷ getD s (at + 3) 0 ∷ drop (at + 4) s
 four-off s at h =
     let a : at + 1 + 1 ≡ at + 2 = omega arith in
     let b : at + 2 + 1 ≡ at + 3 = omega arith in
     let c : at + 3 + 1 ≡ at + 4 = omega arith in
-    one-off s at (omega arith) ∙ ap (λ l. getD s at 0 ∷ l)
-    (one-off s (at + 1) (omega arith) ∙ rw a (ap (λ l. getD s (at + 1) 0 ∷ l)
-    (one-off s (at + 2) (omega arith) ∙ rw b (ap (λ l. getD s (at + 2) 0 ∷ l) (one-off s (at + 3) (omega arith) ∙ rw c refl)))))
+    drop-next s at (omega arith) ∙ ap (λ l. getD s at 0 ∷ l)
+    (drop-next s (at + 1) (omega arith) ∙ rw a (ap (λ l. getD s (at + 1) 0 ∷ l)
+    (drop-next s (at + 2) (omega arith) ∙ rw b (ap (λ l. getD s (at + 2) 0 ∷ l) (drop-next s (at + 3) (omega arith) ∙ rw c refl)))))
 
 module _ (cs ts s : List ℕ) (small : Bytes s) where
   -- values in front of words whose bytes stand behind them
@@ -134,7 +130,7 @@ module _ (cs ts s : List ℕ) (small : Bytes s) where
       let v = values-again (max-params * k) c (at + 1) rest (omega (arith, e .0)) (r .0) in
       let b : k < first-mark true = omega (arith, small at) in
       let m : k % 256 ≡ k = omega (arith, small at) in (
-        label-none false l (k ∷ vs ++ rest) ∙ word-some true k (vs ++ rest) b ∙ rw (word-bytes, m, v .0) (sym (one-off s at (omega (arith, e .0)))),
+        label-none false l (k ∷ vs ++ rest) ∙ word-some true k (vs ++ rest) b ∙ rw (word-bytes, m, v .0) (sym (drop-next s at (omega (arith, e .0)))),
         label-counts l (k ∷ vs ++ rest) ∙ ap suc (word-counts k (vs ++ rest) b ∙ v .1 ∙ r .1),
       )
 
@@ -147,4 +143,4 @@ module _ (cs ts s : List ℕ) (small : Bytes s) where
       let a : n % 256 ≡ getD s 0 0 = omega (arith, small 0, small 1) in
       let d : n / 256 ≡ getD s 1 0 = omega (arith, small 0, small 1) in
       let b : getD s 1 0 % 256 ≡ getD s 1 0 = omega (arith, small 1) in
-      rw (stream-of, r .0, r .1, a, d, b) (sym (one-off s 0 (omega arith) ∙ ap (λ l. getD s 0 0 ∷ l) (one-off s 1 (omega arith))))
+      rw (stream-of, r .0, r .1, a, d, b) (sym (drop-next s 0 (omega arith) ∙ ap (λ l. getD s 0 0 ∷ l) (drop-next s 1 (omega arith))))

@@ -1,12 +1,12 @@
 -- Laws of the text of a listing: digits by their number, and texts placed one behind the other.
 use Prim.Native.Nat.{ℕ, zero, suc, _+_, _-_, _/_, _%_, _≤_, _<_}
 use native.Mathlib.Omega.{arith}
-use native.Mathlib.Numerals.{add-one}
 use mathlib.Core.Path.{_≡_, refl, sym, ap, _∙_}
 use mathlib.Core.List.{List, [], _∷_, _++_}
 use lib.ListN.{length, drop, getD, length-append, drop-of-length-le}
-use lib.Seq.{length-sets, drop-cons}
+use lib.Seq.{length-sets}
 use borrow.Author.Tests.{lt-ltb, le-ltb}
+use Rattle.types.specs.ListLaws.{drop-next}
 use Rattle.emit.specs.WrittenLaws.{sets-append}
 use Rattle.text.specs.Listing.{digits, decimal, tail, Placed}
 
@@ -28,9 +28,6 @@ digits-more zero n e h = absurd (e refl)
 digits-more (suc w) n e h = let f : suc w - 1 ≡ w = omega arith in rw (digits, le-ltb n 10 h, f)
 
 -- Elements ---------------------------------------------------------------------
-
-pub drop-next : (t : List ℕ) (i : ℕ) → i < length t → drop i t ≡ getD t i 0 ∷ drop (i + 1) t
-drop-next t i h = rw (add-one, drop-cons t i 0)
 
 pub drop-end : (t : List ℕ) (i : ℕ) → length t ≤ i → drop i t ≡ []
 drop-end t i h = drop-of-length-le t h

@@ -1,17 +1,18 @@
 -- Behind the token that `stuck-from` finds no derivation goes on: no text that begins with the tokens up to it, and with it, is derived (02 §1, 16).
-use Prim.Native.Nat.{ℕ, zero, suc, _<_}
+use Prim.Native.Nat.{ℕ, suc, _<_}
 use native.Mathlib.Omega.{arith}
-use mathlib.Core.Path.{_≡_, refl, sym, ap, _∙_}
+use mathlib.Core.Path.{_≡_, refl, ap, _∙_}
 use mathlib.Core.Bool.{Bool, true, false}
 use mathlib.Core.List.{List, [], _∷_, _++_}
 use lib.ListN.{length, take}
 use lib.Dec.{eqb}
 use borrow.Author.Tests.{eqb-true, eqb-false, ne-eqb}
 use Rattle.tokens.specs.Tokens.{Token}
-use Rattle.lexer.specs.Marking.{kinds-in}
-use Rattle.derive.specs.Shape.{Shape, Shape.shape, acts, act, moved, move, sample, moves, at-end, derived}
+use Rattle.tokens.specs.Marking.{kinds-in}
+use Rattle.text_shape.specs.Shape.{Shape, Shape.shape, acts, act, moved, move, sample, moves, at-end, derived}
 use Rattle.text_place.specs.Place.{dead, stuck-from}
 use Rattle.text_place.specs.PlaceLaws.{stuck-past, stuck-here, stuck-on}
+use Rattle.text_shape.specs.CodeNames.{first-defs-code}
 
 -- what is dead stays so, and is not the end of a derivation
 dead-move : (s : Shape) (t : Token) → dead s ≡ true → dead (move s t) ≡ true
@@ -64,9 +65,10 @@ stuck-dead s (k ∷ ks) l = go (eqb k 0) refl (dead (move s (sample k))) refl (s
         rw (w, kinds-on k (take (suc (stuck-from (move s (sample k)) ks)) ks) n) (h (omega (arith, w)))
 
 -- no derivation goes on with that token
-pub stuck-underived : (ks more : List ℕ) → stuck-from (shape 1 []) ks < length ks
-    → derived (kinds-in (take (suc (stuck-from (shape 1 []) ks)) ks) ++ more) ≡ false
+pub stuck-underived : (ks more : List ℕ) → stuck-from (shape first-defs-code []) ks < length ks
+    → derived (kinds-in (take (suc (stuck-from (shape first-defs-code []) ks)) ks) ++ more) ≡ false
 unfolding derived
 stuck-underived ks more l =
-    let front = kinds-in (take (suc (stuck-from (shape 1 []) ks)) ks) in
-    ap at-end (moves-both (shape 1 []) front more) ∙ dead-end _ (dead-moves (moves (shape 1 []) front) more (stuck-dead (shape 1 []) ks l))
+    let front = kinds-in (take (suc (stuck-from (shape first-defs-code []) ks)) ks) in
+    ap at-end (moves-both (shape first-defs-code []) front more)
+    ∙ dead-end _ (dead-moves (moves (shape first-defs-code []) front) more (stuck-dead (shape first-defs-code []) ks l))

@@ -6,14 +6,16 @@ use mathlib.Core.List.{List, [], _∷_}
 use lib.ListN.{length}
 use lib.Dec.{eqb, ltb}
 use Rattle.source.specs.Source.{max-text}
-use Rattle.lexer.specs.Marking.{marks, parts, kinds-in}
-use Rattle.derive.specs.Shape.{Shape, Shape.shape, sample, move, derived}
-use Rattle.derive.specs.RoleMarks.{role-codes, placed}
+use Rattle.tokens.specs.Marking.{marks, parts, kinds-in}
+use Rattle.text_shape.specs.Shape.{Shape, Shape.shape, sample, move, derived}
+use Rattle.text_shape.specs.RoleMarks.{role-codes, placed}
 use Rattle.uses.specs.Stopping.{stops}
+use Rattle.text_shape.specs.CodeNames.{first-defs-code}
+use Rattle.text_shape.specs.CodeNames.{dead-code}
 
 -- no derivation goes on
 unfoldable pub dead : Shape → Bool
-dead (shape q st) = eqb q 0
+dead (shape q st) = eqb q dead-code
 
 -- of kinds in their places, 0 where no token begins: the first token behind which that is so, the end where there is none
 unfoldable pub stuck-from : Shape → List ℕ → ℕ
@@ -28,11 +30,11 @@ stuck-from s (k ∷ ks) =
 -- the roles of a text's tokens in their places
 unfoldable pub roles-in : List ℕ → List ℕ
 unfolding placed role-codes
-roles-in ks = placed ks (role-codes (shape 1 []) (kinds-in ks))
+roles-in ks = placed ks (role-codes (shape first-defs-code []) (kinds-in ks))
 
 unfoldable pub of-derived : Bool → List ℕ → ℕ
 unfolding stuck-from roles-in stops
-of-derived false x = stuck-from (shape 1 []) (marks x)
+of-derived false x = stuck-from (shape first-defs-code []) (marks x)
 of-derived true x = stops x (roles-in (marks x))
 
 unfoldable pub of-parts : Bool → List ℕ → ℕ

@@ -1,31 +1,33 @@
 -- The loops that look for the place at which reading stops, place by place; each way to it; and that behind a token with which no derivation goes on none does.
-use Prim.Native.Nat.{ℕ, zero, suc, _+_, _≤_, _<_}
+use Prim.Native.Nat.{ℕ, suc, _+_, _≤_, _<_}
 use native.Mathlib.Omega.{arith}
 use native.Mathlib.Numerals.{add-one}
 use mathlib.Core.Path.{_≡_, refl, sym, ap, _∙_}
 use mathlib.Core.Bool.{Bool, true, false, not, false≢true}
-use mathlib.Core.List.{List, [], _∷_, _++_, append-nil}
+use mathlib.Core.List.{List, [], _∷_, _++_}
 use mathlib.Core.Option.{Option, none, some}
 use lib.ListN.{length, getD, drop, replicate, length-drop, length-append, length-replicate, drop-of-length-le}
-use lib.Seq.{sets, sets-eq, drop-cons, drop-drop}
+use lib.Seq.{sets, drop-cons, drop-drop}
 use lib.Dec.{eqb}
 use borrow.Author.Tests.{not-true, not-false, ne-eqb, lt-ltb, le-ltb}
+use Rattle.types.specs.ListLaws.{sets-whole}
 use Rattle.source.specs.Source.{max-text}
 use Rattle.tokens.specs.Tokens.{Token}
 use Rattle.tokens.specs.Scanning.{front, lex}
-use Rattle.lexer.specs.Marking.{spot-of, at-spot, marks-of, marks-from, marks, found, parts, kinds-in}
-use Rattle.lexer.specs.MarkingLaws.{marks-tell, spot-inside, marks-taken, marks-stray}
-use Rattle.lexer.specs.declared.Spot.{Spot}
-use Rattle.lexer.specs.declared.Spot.the-variants.{Marked, Stray}
-use Rattle.derive.specs.Shape.{Shape, Shape.shape, sample, move, derived}
-use Rattle.derive.specs.RoleMarks.{role-codes, placed}
+use Rattle.tokens.specs.Marking.{spot-of, at-spot, marks-of, marks-from, marks, found, parts, kinds-in}
+use Rattle.tokens.specs.Laws.MarkingLaws.{marks-tell, spot-inside, marks-taken, marks-stray}
+use Rattle.tokens.specs.declared.Spot.{Spot}
+use Rattle.tokens.specs.declared.Spot.the-variants.{Marked, Stray}
+use Rattle.text_shape.specs.Shape.{Shape, Shape.shape, sample, move, derived}
+use Rattle.text_shape.specs.RoleMarks.{role-codes, placed}
 use Rattle.derive.specs.Held.{held, Kept}
 use Rattle.derive.specs.HeldLaws.{kept-shape}
 use Rattle.uses.specs.Declaring.{Fronted}
-use Rattle.uses.specs.DeclaringLaws.{roles-fronted}
+use Rattle.uses.specs.Laws.DeclaringLaws.{roles-fronted}
 use Rattle.uses.specs.Stopping.{stops}
 use Rattle.read_text.specs.PassLaws.{roled-there}
 use Rattle.text_place.specs.Place.{dead, stuck-from, roles-in, of-derived, of-parts, of-length, place}
+use Rattle.text_shape.specs.CodeNames.{first-defs-code}
 
 -- Where no token begins ------------------------------------------------------------------------------
 
@@ -98,21 +100,21 @@ pub record Goes (ks stack₀ stack : List ℕ) (q h i : ℕ) : Type 0 where
   pub low : h ≤ i
   pub fits : length ks ≤ length stack
   pub room : length stack ≡ length stack₀
-  pub whole : i + stuck-from (shape q (held stack h)) (drop i ks) ≡ stuck-from (shape 1 []) ks
+  pub whole : i + stuck-from (shape q (held stack h)) (drop i ks) ≡ stuck-from (shape first-defs-code []) ks
 
 pub goes-start : (ks stack : List ℕ) → length ks ≤ length stack → Goes ks stack stack 1 0 0
 unfolding held
 goes-start ks stack l = record { inner = omega arith; low = omega arith; fits = l; room = refl; whole = omega arith }
 
 module _ {ks stack₀ stack : List ℕ} {q h i : ℕ} (r : Goes ks stack₀ stack q h i) where
-  pub goes-end : length ks ≤ i → i ≡ stuck-from (shape 1 []) ks
+  pub goes-end : length ks ≤ i → i ≡ stuck-from (shape first-defs-code []) ks
   unfolding stuck-from
   goes-end l =
       let e = drop-of-length-le ks {i = i} l in
-      let w : i + stuck-from (shape q (held stack h)) [] ≡ stuck-from (shape 1 []) ks = rw e at (r .whole) in omega (arith, w)
+      let w : i + stuck-from (shape q (held stack h)) [] ≡ stuck-from (shape first-defs-code []) ks = rw e at (r .whole) in omega (arith, w)
 
   module _ (l : i < length ks) where
-    at-here : i + stuck-from (shape q (held stack h)) (getD ks i 0 ∷ drop (i + 1) ks) ≡ stuck-from (shape 1 []) ks
+    at-here : i + stuck-from (shape q (held stack h)) (getD ks i 0 ∷ drop (i + 1) ks) ≡ stuck-from (shape first-defs-code []) ks
     at-here = let e : drop i ks ≡ getD ks i 0 ∷ drop (i + 1) ks = rw (add-one i) (drop-cons ks i 0 l) in rw e at (r .whole)
 
     pub goes-past : getD ks i 0 ≡ 0 → Goes ks stack₀ stack q h (i + 1)
@@ -126,7 +128,7 @@ module _ {ks stack₀ stack : List ℕ} {q h i : ℕ} (r : Goes ks stack₀ stac
       behind : move (shape q (held stack h)) (sample (getD ks i 0)) ≡ shape q₁ (held stack₁ h₁)
       behind = kept-shape k
 
-      pub goes-dead : q₁ ≡ 0 → i ≡ stuck-from (shape 1 []) ks
+      pub goes-dead : q₁ ≡ 0 → i ≡ stuck-from (shape first-defs-code []) ks
       unfolding dead
       goes-dead e =
           let d : dead (move (shape q (held stack h)) (sample (getD ks i 0))) ≡ true = rw (behind, e) refl in
@@ -161,10 +163,6 @@ pub long-place : (x : List ℕ) → max-text < length x → (max-text ≡ place 
 unfolding place of-length
 long-place x h = (rw (lt-ltb max-text (length x) h, of-length) refl, omega arith)
 
-set-whole : (ks ms : List ℕ) → length ms ≡ length ks → sets ks 0 ms ≡ ms
-set-whole ks ms e =
-    sets-eq ms ks 0 (omega arith) ∙ ap (λ l. ms ++ l) (drop-of-length-le ks {i = 0 + length ms} (omega arith)) ∙ append-nil ms
-
 module _ (x ks₀ ks : List ℕ) (short : length x ≤ max-text) (long : length ks₀ ≡ length x) (p : Bool) (e : p ≡ parts x) (f : ks ≡ sets ks₀ 0 (marks x)) where
   by-parts : place x ≡ of-parts p x
   unfolding place of-length
@@ -177,23 +175,24 @@ module _ (x ks₀ ks : List ℕ) (short : length x ≤ max-text) (long : length 
       (g ∙ sym w, let b = marks-within 0 x in omega arith)
 
   -- a text that parts into tokens, its kinds, and then its roles, in lent memory
-  module _ (parted : not p ≡ false) (cs : List ℕ) (q : Bool) (d : q ≡ derived (kinds-in ks)) (k : cs ≡ placed ks (role-codes (shape 1 []) (kinds-in ks))) where
+  module _ (parted : not p ≡ false) (cs : List ℕ) (q : Bool) (d : q ≡ derived (kinds-in ks))
+      (k : cs ≡ placed ks (role-codes (shape first-defs-code []) (kinds-in ks))) where
     marks-all : length (marks x) ≡ length x
     marks-all = marks-long x (sym (not-false p parted) ∙ e)
 
     marks-are : ks ≡ marks x
-    marks-are = f ∙ set-whole ks₀ (marks x) (marks-all ∙ sym long)
+    marks-are = f ∙ sets-whole ks₀ (marks x) (marks-all ∙ sym long)
 
     by-derived : place x ≡ of-derived q x
     unfolding of-parts
     by-derived = by-parts ∙ rw (not-false p parted, d, marks-are) refl
 
-    pub stuck-place : not q ≡ true → (r : ℕ) → r ≡ stuck-from (shape 1 []) ks → (r ≡ place x) × (r ≤ length x)
+    pub stuck-place : not q ≡ true → (r : ℕ) → r ≡ stuck-from (shape first-defs-code []) ks → (r ≡ place x) × (r ≤ length x)
     unfolding of-derived
     stuck-place h r g =
-        let w : place x ≡ stuck-from (shape 1 []) (marks x) = by-derived ∙ rw (not-true q h) refl in
-        let b = stuck-within (shape 1 []) (marks x) in
-        let v : r ≡ stuck-from (shape 1 []) (marks x) = g ∙ ap (stuck-from (shape 1 [])) marks-are in
+        let w : place x ≡ stuck-from (shape first-defs-code []) (marks x) = by-derived ∙ rw (not-true q h) refl in
+        let b = stuck-within (shape first-defs-code []) (marks x) in
+        let v : r ≡ stuck-from (shape first-defs-code []) (marks x) = g ∙ ap (stuck-from (shape first-defs-code [])) marks-are in
         (v ∙ sym w, omega (arith, v, b, marks-all))
 
     module _ (h : not q ≡ false) where

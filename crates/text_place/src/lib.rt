@@ -2,29 +2,23 @@
 // which no derivation goes on, the text's end where the text ends too early; the first place where declarations have no numbers, the token at which the pass
 // over names stops, the text's end where there are too many counts or bytes. 02 asks for no place.
 use derive::Mark;
-use lexer::Spot;
+use read_text::MAX_TEXT;
+use text_shape::state;
+use tokens::Spot;
 use uses::Numbered;
+use uses::layout;
 ghost use mathlib.Core.Path.{_≡_};
 ghost use mathlib.Core.List.{[]};
 ghost use Prim.Native.Nat.{_≤_, _<_};
 ghost use lib.ListN.{length};
 ghost use Rattle.source.specs.Source.{max-text};
-ghost use Rattle.lexer.specs.Marking.{marks};
+ghost use Rattle.tokens.specs.Marking.{marks};
 ghost use Rattle.lexer.specs.Gaps.{Gap};
-ghost use Rattle.derive.specs.Shape.{Shape.shape};
+ghost use Rattle.text_shape.specs.Shape.{Shape.shape};
 ghost use Rattle.uses.specs.Declaring.{Fronted};
 ghost use Rattle.uses.specs.Stopping.{stops};
 ghost use Rattle.text_place.specs.Place.{stuck-from, place};
-
-const MAX_TEXT: usize = 65536;
-
-// Places of the tables of declarations.
-const TABLES: usize = 323;
-
-// The state before the first struct; the one in which no derivation goes on.
-const START: u8 = 1;
-
-const DEAD: u8 = 0;
+ghost use Rattle.text_shape.specs.CodeNames.{first-defs-code};
 
 // The first place at which neither a token nor a gap begins; the text's end where there is none.
 fn unmarked(text: &[u8]) -> usize
@@ -43,10 +37,10 @@ fn unmarked(text: &[u8]) -> usize
 // The first token with which no derivation goes on, of kinds in their places; the end where there is none.
 fn stuck(kinds: &[u8], stack: &mut [u8]) -> usize
     requires { ⌜ length (now kinds) ≤ length (now stack) ⌝ }
-    ensures { λ r. ⌜ r ≡ stuck-from (shape 1 []) (now (kinds .entry)) ⌝ }
+    ensures { λ r. ⌜ r ≡ stuck-from (shape first-defs-code []) (now (kinds .entry)) ⌝ }
 {
     let mut m = Mark {
-        state: START,
+        state: state::START,
         height: 0,
     };
     let mut i = 0;
@@ -55,7 +49,7 @@ fn stuck(kinds: &[u8], stack: &mut [u8]) -> usize
         if k != 0 {
             m = derive::step(stack, m, k);
             let q = m.state;
-            if q == DEAD {
+            if q == state::DEAD {
                 return i;
             }
         }
@@ -71,7 +65,7 @@ fn unnamed(text: &[u8], roles: &[u8], stack: &mut [u8]) -> usize
     ensures { λ r. ⌜ (r ≡ stops (now (text .entry)) (now (roles .entry))) × (r ≤ length (now (roles .entry))) ⌝ }
 {
     let mut numbers = [0u8; MAX_TEXT];
-    let mut tables = [0usize; TABLES];
+    let mut tables = [0usize; layout::TABLE_SIZE];
     match uses::numbers(text, roles, &mut tables, stack, &mut numbers) {
         Numbered::Count(_) => roles.len(),
         Numbered::Nothing(p) => p,

@@ -5,13 +5,8 @@ use mathlib.Core.Path.{_≡_}
 use mathlib.Core.Bool.{true}
 use mathlib.Core.List.{List, [], _∷_, _++_}
 use lib.ListN.{length}
+use Rattle.tokens.specs.Bytes.{star, slash}
 use Rattle.tokens.specs.Tokens.{Token, spelling, Proper, blank}
-
-abbrev pub slash : ℕ
-slash = 47
-
-abbrev pub star : ℕ
-star = 42
 
 abbrev pub close : List ℕ
 close = star ∷ slash ∷ []

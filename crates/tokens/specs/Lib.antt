@@ -1,11 +1,11 @@
+pub mod Bytes
 pub mod Tokens
 pub mod TokenNumbers
+pub mod KindNames
+pub mod Kinds
 pub mod Lexing
 pub mod Scanning
-pub mod ByteLaws
-pub mod NamedLaws
-pub mod FrontLaws
-pub mod CoverLaws
-pub mod LexingLaws
+pub mod Marking
 pub mod Unfold
 pub mod Rows
+pub mod Laws

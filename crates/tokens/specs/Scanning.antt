@@ -13,7 +13,8 @@ use Rattle.tokens.specs.Tokens.{Sign.lpar, Sign.rpar, Sign.lbrace, Sign.
 use Rattle.tokens.specs.Tokens.{Sign.bang, Polarity, Polarity.plus, Polarity.minus}
 use Rattle.tokens.specs.Tokens.{Token, Token.word, Token.sign, Token.op, Token.name, Token.int, Token.nat, letter, digit, name-byte, blank}
 use Rattle.tokens.specs.Tokens.{same, word-spelling, spelling, nat-end-byte}
-use Rattle.tokens.specs.Lexing.{slash, star, close}
+use Rattle.tokens.specs.Lexing.{close}
+use Rattle.tokens.specs.Bytes.{star, plus-byte, minus-byte, slash}
 
 -- what stands at the front, with the count of its bytes behind the first
 pub data Front : Type 0 where
@@ -83,11 +84,11 @@ unfoldable pub class : ℕ → Class
 class b = elim (letter b) [ true ↦ letters | false ↦ elim (digit b) [ true ↦ digits | false ↦ elim (blank b) [ true ↦ blanks | false ↦ others ] ] ]
 
 unfoldable pub polarity : ℕ → Polarity
-polarity b = elim (eqb b 43) [ true ↦ plus | false ↦ minus ]
+polarity b = elim (eqb b plus-byte) [ true ↦ plus | false ↦ minus ]
 
 -- a sign with a digit directly behind it; the front of a comment
 unfoldable pub signed : ℕ → List ℕ → Bool
-signed b s = (eqb b 43 || eqb b 45) && digit (getD s 0 0)
+signed b s = (eqb b plus-byte || eqb b minus-byte) && digit (getD s 0 0)
 
 unfoldable pub opens : ℕ → List ℕ → Bool
 opens b s = eqb b slash && eqb (getD s 0 0) star

@@ -6,6 +6,10 @@ use mathlib.Core.List.{List, [], _∷_, _++_}
 use lib.Dec.{eqb, leb}
 use Rattle.program.specs.Tree.{Op, Op.op-eq, Op.op-ne, Op.op-le, Op.op-ge, Op.op-lt, Op.op-gt, Op.op-mul, Op.op-div, Op.op-rem, Op.op-add, Op.op-sub}
 use Rattle.program.specs.Tree.{Op.op-and, Op.op-or}
+use Rattle.tokens.specs.Bytes.{tab-byte, line-byte, return-byte, space-byte, underscore-byte, zero-byte, nine-byte, upper-a-byte, upper-z-byte}
+use Rattle.tokens.specs.Bytes.{lower-a-byte, lower-z-byte, bang-byte, percent-byte, ampersand-byte, lpar-byte, rpar-byte, plus-byte, comma-byte}
+use Rattle.tokens.specs.Bytes.{minus-byte, dot-byte, colon-byte, semicolon-byte, less-byte, equals-byte, more-byte, lbrace-byte, bar-byte}
+use Rattle.tokens.specs.Bytes.{rbrace-byte, star, slash}
 
 -- the grammar's own words: struct, if, then, null, this, Fix, Int, Nat, Bool, String, true, false
 pub data Word : Type 0 where
@@ -35,18 +39,18 @@ between lo hi b = leb lo b && leb b hi
 
 -- A to Z and a to z; 0 to 9
 unfoldable pub letter : ℕ → Bool
-letter b = between 65 90 b || between 97 122 b
+letter b = between upper-a-byte upper-z-byte b || between lower-a-byte lower-z-byte b
 
 unfoldable pub digit : ℕ → Bool
-digit b = between 48 57 b
+digit b = between zero-byte nine-byte b
 
 -- what stands in a name behind its first letter: a letter, a digit or _
 unfoldable pub name-byte : ℕ → Bool
-name-byte b = letter b || (digit b || eqb b 95)
+name-byte b = letter b || (digit b || eqb b underscore-byte)
 
 -- a blank, a tab, the two bytes of line ends
 unfoldable pub blank : ℕ → Bool
-blank b = eqb b 32 || (eqb b 9 || (eqb b 10 || eqb b 13))
+blank b = eqb b space-byte || (eqb b tab-byte || (eqb b line-byte || eqb b return-byte))
 
 unfoldable pub every : (ℕ → Bool) → List ℕ → Bool
 every p [] = true
@@ -76,36 +80,36 @@ word-spelling w-true = 116 ∷ 114 ∷ 117 ∷ 101 ∷ []
 word-spelling w-false = 102 ∷ 97 ∷ 108 ∷ 115 ∷ 101 ∷ []
 
 unfoldable pub sign-spelling : Sign → List ℕ
-sign-spelling lpar = 40 ∷ []
-sign-spelling rpar = 41 ∷ []
-sign-spelling lbrace = 123 ∷ []
-sign-spelling rbrace = 125 ∷ []
-sign-spelling comma = 44 ∷ []
-sign-spelling colon = 58 ∷ []
-sign-spelling semicolon = 59 ∷ []
-sign-spelling assign = 58 ∷ 61 ∷ []
-sign-spelling dot = 46 ∷ []
-sign-spelling bang = 33 ∷ []
+sign-spelling lpar = lpar-byte ∷ []
+sign-spelling rpar = rpar-byte ∷ []
+sign-spelling lbrace = lbrace-byte ∷ []
+sign-spelling rbrace = rbrace-byte ∷ []
+sign-spelling comma = comma-byte ∷ []
+sign-spelling colon = colon-byte ∷ []
+sign-spelling semicolon = semicolon-byte ∷ []
+sign-spelling assign = colon-byte ∷ equals-byte ∷ []
+sign-spelling dot = dot-byte ∷ []
+sign-spelling bang = bang-byte ∷ []
 
 -- = != <= >= < > * / % + - && ||
 unfoldable pub op-spelling : Op → List ℕ
-op-spelling op-eq = 61 ∷ []
-op-spelling op-ne = 33 ∷ 61 ∷ []
-op-spelling op-le = 60 ∷ 61 ∷ []
-op-spelling op-ge = 62 ∷ 61 ∷ []
-op-spelling op-lt = 60 ∷ []
-op-spelling op-gt = 62 ∷ []
-op-spelling op-mul = 42 ∷ []
-op-spelling op-div = 47 ∷ []
-op-spelling op-rem = 37 ∷ []
-op-spelling op-add = 43 ∷ []
-op-spelling op-sub = 45 ∷ []
-op-spelling op-and = 38 ∷ 38 ∷ []
-op-spelling op-or = 124 ∷ 124 ∷ []
+op-spelling op-eq = equals-byte ∷ []
+op-spelling op-ne = bang-byte ∷ equals-byte ∷ []
+op-spelling op-le = less-byte ∷ equals-byte ∷ []
+op-spelling op-ge = more-byte ∷ equals-byte ∷ []
+op-spelling op-lt = less-byte ∷ []
+op-spelling op-gt = more-byte ∷ []
+op-spelling op-mul = star ∷ []
+op-spelling op-div = slash ∷ []
+op-spelling op-rem = percent-byte ∷ []
+op-spelling op-add = plus-byte ∷ []
+op-spelling op-sub = minus-byte ∷ []
+op-spelling op-and = ampersand-byte ∷ ampersand-byte ∷ []
+op-spelling op-or = bar-byte ∷ bar-byte ∷ []
 
 unfoldable pub polarity-byte : Polarity → ℕ
-polarity-byte plus = 43
-polarity-byte minus = 45
+polarity-byte plus = plus-byte
+polarity-byte minus = minus-byte
 
 -- the n that ends a Nat literal
 abbrev pub nat-end-byte : ℕ

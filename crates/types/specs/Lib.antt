@@ -13,3 +13,4 @@ pub mod Orders
 pub mod OrderLaws
 pub mod Stages
 pub mod StageLaws
+pub mod ListLaws

@@ -5,10 +5,11 @@ use mathlib.Core.Bool.{Bool, true, false, _||_}
 use mathlib.Core.List.{List, [], _∷_, map}
 use lib.ListN.{getD}
 use Rattle.tokens.specs.Tokens.{between}
+use Rattle.text_shape.specs.RoleNames.{new-struct-role, new-step-role, first-type-role, last-par-type-role}
 
 -- the bytes of structs, parameters and steps, and of the types of parameters
 unfoldable pub declares : ℕ → Bool
-declares b = between 39 41 b || between 51 54 b
+declares b = between new-struct-role new-step-role b || between first-type-role last-par-type-role b
 
 -- the places of these bytes, counted from i
 unfoldable pub declared-from : ℕ → List ℕ → List ℕ

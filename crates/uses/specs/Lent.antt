@@ -12,47 +12,50 @@ use Rattle.resolve.specs.Named.{names-at}
 use Rattle.resolve.specs.Checks.{part-of}
 use Rattle.resolve.specs.Using.{Book, Use}
 use Rattle.resolve.specs.Resolved.{cuts}
-use Rattle.uses.specs.PartLaws.{up-to}
+use Rattle.uses.specs.Laws.PartLaws.{up-to}
 use Rattle.uses.specs.declared.Scope.{Scope}
 use Rattle.uses.specs.declared.Passed.{Passed}
 use Rattle.uses.specs.declared.Passed.the-variants.{Stop, On, Left}
 use Rattle.uses.specs.declared.Numbered.{Numbered}
+use Rattle.types.specs.Limits.{max-structs, max-params, step-names, max-locals}
+use Rattle.uses.specs.Layout.{rows-room, offsets-place, pars-place, types-place, names-place, struct-count-place, name-count-place, table-size}
+use Rattle.uses.specs.Layout.{declared-end, living-end, numbers-end, bytes-end}
 use Rattle.uses.specs.declared.Numbered.the-variants as numbered
 
 abbrev pub structs-of-table : List ℕ → ℕ
-structs-of-table t = getD t 321 0
+structs-of-table t = getD t struct-count-place 0
 
 abbrev pub names-of-table : List ℕ → ℕ
-names-of-table t = getD t 322 0
+names-of-table t = getD t name-count-place 0
 
 -- where the row of struct k begins and ends
 abbrev pub row-start : List ℕ → ℕ → ℕ
-row-start t k = getD t (16 + k) 0
+row-start t k = getD t (offsets-place + k) 0
 
 abbrev pub row-end : List ℕ → ℕ → ℕ
-row-end t k = getD t (16 + k + 1) 0
+row-end t k = getD t (offsets-place + k + 1) 0
 
 unfoldable pub book-in : List ℕ → List ℕ → Book
 unfolding cuts
 book-in x t =
     record {
       structs = names-at x (part-of t 0 (structs-of-table t));
-      rows = cuts (names-at x (part-of t 33 161)) (part-of t 16 (17 + structs-of-table t));
-      types = cuts (part-of t 161 289) (part-of t 16 (17 + structs-of-table t));
-      steps = names-at x (part-of t 289 (289 + names-of-table t));
+      rows = cuts (names-at x (part-of t pars-place types-place)) (part-of t offsets-place (offsets-place + 1 + structs-of-table t));
+      types = cuts (part-of t types-place names-place) (part-of t offsets-place (offsets-place + 1 + structs-of-table t));
+      steps = names-at x (part-of t names-place (names-place + names-of-table t));
     }
 
 -- the row of struct k: few parameters, and places for them
 pub record Rowed (t : List ℕ) (k : ℕ) : Type 0 where
   pub up : row-start t k ≤ row-end t k
-  pub few : row-end t k ≤ row-start t k + 8
-  pub inner : row-end t k ≤ 128
+  pub few : row-end t k ≤ row-start t k + max-params
+  pub inner : row-end t k ≤ rows-room
 
 -- a table of which a book can be read
 pub record Booked (t : List ℕ) : Type 0 where
-  pub long : length t ≡ 323
-  pub structs : structs-of-table t ≤ 16
-  pub names : names-of-table t ≤ 32
+  pub long : length t ≡ table-size
+  pub structs : structs-of-table t ≤ max-structs
+  pub names : names-of-table t ≤ step-names
   pub rows : (k : ℕ) → k < structs-of-table t → Rowed t k
 
 unfoldable pub use-in : List ℕ → List ℕ → List ℕ → Scope → List ℕ → Use
@@ -60,10 +63,10 @@ unfolding held
 use-in x l k c o =
     record {
       begun = c .begun;
-      met = names-at x (up-to l 8 (c .met));
-      living = names-at x (up-to l 16 (c .living));
-      numbers = up-to l 24 (c .living);
-      bytes = up-to l 32 (c .living);
+      met = names-at x (up-to l declared-end (c .met));
+      living = names-at x (up-to l living-end (c .living));
+      numbers = up-to l numbers-end (c .living);
+      bytes = up-to l bytes-end (c .living);
       fresh = c .fresh;
       type = c .typ;
       dues = held k (c .dues);
@@ -73,13 +76,13 @@ use-in x l k c o =
 
 -- the numbers of n living locals are below 8
 abbrev pub Small : List ℕ → ℕ → Type 0
-Small l n = (i : ℕ) → 24 ≤ i + n → i < 24 → getD l i 0 < 8
+Small l n = (i : ℕ) → numbers-end ≤ i + n → i < numbers-end → getD l i 0 < max-locals
 
 -- counts that memory has room for
 pub record Roomy (t l : List ℕ) (c : Scope) : Type 0 where
-  pub long : length l ≡ 32
+  pub long : length l ≡ bytes-end
   pub begun : c .begun ≤ structs-of-table t
-  pub met : c .met ≤ 8
+  pub met : c .met ≤ max-locals
   pub living : c .living ≤ c .met
   pub fresh : c .fresh ≤ c .living
   pub small : Small l (c .living)

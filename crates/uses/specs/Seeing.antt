@@ -17,12 +17,14 @@ use Rattle.uses.specs.declared.Seen.the-variants.{Of, Nothing}
 use Rattle.uses.specs.declared.Passed.{Passed}
 use Rattle.uses.specs.declared.Passed.the-variants.{Stop, On, Left}
 use Rattle.resolve.specs.declared.Word.{Word}
+use Rattle.text_shape.specs.RoleNames.{called-struct-role}
+use Rattle.uses.specs.Layout.{declared-end, living-end, numbers-end, bytes-end}
 use Rattle.resolve.specs.declared.Word.the-variants as word
 
 -- the names among which that of a struct or of a step is looked up, by its role
 unfoldable pub called-among : Book → ℕ → List Id
 unfolding chosen
-called-among b c = chosen (eqb c 49) (b .structs) (b .steps)
+called-among b c = chosen (eqb c called-struct-role) (b .structs) (b .steps)
 
 unfoldable pub seen-listed : List Id → Id → ℕ → Seen
 unfolding chosen sought
@@ -79,7 +81,7 @@ word-passed word.Outside c = Stop
 
 -- a local in its table: n were alive, m declared
 abbrev pub with-local : List ℕ → ℕ → ℕ → ℕ → ℕ → List ℕ
-with-local l at m n b = set (set (set (set l (8 - (m + 1)) at) (16 - (n + 1)) at) (24 - (n + 1)) m) (32 - (n + 1)) b
+with-local l at m n b = set (set (set (set l (declared-end - (m + 1)) at) (living-end - (n + 1)) at) (numbers-end - (n + 1)) m) (bytes-end - (n + 1)) b
 
 -- a role that leaves the pass as it is
 abbrev pub Quiet : ℕ → Type 0

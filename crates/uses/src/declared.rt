@@ -1,32 +1,23 @@
 // The places of a text's declarations, which are few where a text has many places (02 §1), and tables of declarations from them.
 use lexer::bytes;
 use resolve::tables;
+use text_shape::role;
 ghost use mathlib.Core.Path.{_≡_};
 ghost use Prim.Native.Nat.{_≤_};
 ghost use lib.ListN.{length};
 ghost use lib.Seq.{sets};
 ghost use Rattle.resolve.specs.Tables.{places, offsets};
 ghost use Rattle.uses.specs.Among.{declares, declared-at, AllDeclare};
-
-// The bytes of names that declare a struct, a parameter, a step; those of the types of parameters.
-pub(crate) const NEW_STRUCT: u8 = 39;
-
-pub(crate) const NEW_PAR: u8 = 40;
-
-pub(crate) const NEW_STEP: u8 = 41;
-
-pub(crate) const FIRST_TYPE: u8 = 51;
-
-pub(crate) const LAST_TYPE: u8 = 54;
+ghost use Rattle.text_shape.specs.RoleNames.{new-struct-role, new-step-role};
 
 // Whether a role is that of a struct, a parameter, a step or the type of a parameter.
 fn declares(role: u8) -> bool
     ensures { λ r. ⌜ r ≡ declares role ⌝ }
 {
-    if bytes::between(NEW_STRUCT, NEW_STEP, role) {
+    if bytes::between(role::NEW_STRUCT, role::NEW_STEP, role) {
         return true;
     }
-    bytes::between(FIRST_TYPE, LAST_TYPE, role)
+    bytes::between(role::FIRST_TYPE, role::LAST_PAR_TYPE, role)
 }
 
 // The places of all declarations into a table, as many as it has; and how many there are.
@@ -68,7 +59,7 @@ pub(crate) fn gather(
 
 // How many of a role stand before each struct, and in all, into a table, as many as it has.
 pub(crate) fn rows(roles: &[u8], declared: &[usize], role: u8, table: &mut [usize])
-    requires { ⌜ (now declared ≡ declared-at (now roles)) × (39 ≤ role) × (role ≤ 41) ⌝ }
+    requires { ⌜ (now declared ≡ declared-at (now roles)) × (new-struct-role ≤ role) × (role ≤ new-step-role) ⌝ }
     ensures { λ _. ⌜ now (table .exit) ≡ sets (now (table .entry)) 0 (offsets role (now (roles .entry))) ⌝ }
 {
     let mut n = 0;
@@ -77,7 +68,7 @@ pub(crate) fn rows(roles: &[u8], declared: &[usize], role: u8, table: &mut [usiz
     while i < declared.len() {
         let at = declared[i];
         let b = bytes::byte(roles, at);
-        k = tables::add(table, k, n, b == NEW_STRUCT);
+        k = tables::add(table, k, n, b == role::NEW_STRUCT);
         n = tables::counted(n, b == role);
         i += 1;
     }

@@ -1,5 +1,6 @@
 // What the names of a text's steps and schedule stand for (02 §1), in code: tables of declarations, and the pass over the places of a text by them.
 mod declared;
+pub mod layout;
 pub mod looked;
 pub mod parts;
 pub mod pass;
@@ -13,6 +14,7 @@ ghost use Rattle.resolve.specs.Resolved.{resolved};
 ghost use Rattle.uses.specs.Declaring.{Fronted, Tabled};
 ghost use Rattle.uses.specs.Lent.{numbered-in, Counted};
 ghost use Rattle.uses.specs.Stopping.{stops, stop-in};
+ghost use Rattle.uses.specs.Layout.{table-size};
 
 // Where the pass stands: structs begun, locals declared, those alive with the one that is not alive yet, whether there is such a one, the byte of the type
 // passed last, argument lists open, ifs open.
@@ -54,7 +56,7 @@ pub fn numbers(
     numbers: &mut [u8],
 ) -> Numbered
     requires { ⌜ (length (now roles) ≡ length (now text)) × (length (now roles) < length (now stack)) ⌝ }
-    requires { ⌜ (length (now roles) ≤ length (now numbers)) × (length (now tables) ≡ 323) ⌝ }
+    requires { ⌜ (length (now roles) ≤ length (now numbers)) × (length (now tables) ≡ table-size) ⌝ }
     requires { ⌜ Fronted (now roles) ⌝ }
     ensures { λ r. ⌜ numbered-in (now (numbers .exit)) r ≡ resolved (now (text .entry)) (now (roles .entry)) ⌝ }
     ensures { λ r. ⌜ Counted (now (numbers .exit)) r (Tabled (now (text .entry)) (now (roles .entry)) (now (tables .exit))) ⌝ }
@@ -64,6 +66,6 @@ pub fn numbers(
     if !tabling::fill(text, roles, tables) {
         return Numbered::Nothing(0);
     }
-    let mut locals: [usize; 32] = [0; 32];
+    let mut locals = [0usize; layout::BYTES_END];
     pass::uses(text, roles, tables, &mut locals, stack, numbers)
 }

@@ -1,9 +1,9 @@
-// What a name stands for (02 §1), by tables: a struct or a step, a parameter, a living local (`specs/Seeing.antt`). Declarations stand in one table: places of
-// structs, offsets of rows, places of parameters, bytes of their types, places of step names, the counts of structs and of names. A step's locals stand in
-// another: those declared, those alive, their numbers, the bytes of their types, eight of each, filled from the end.
+// What a name stands for (02 §1), by the tables of `layout`: a struct or a step, a parameter, a living local (`specs/Seeing.antt`).
 use crate::Scope;
 use crate::Seen;
+use crate::layout;
 use resolve::names;
+use text_shape::role;
 ghost use mathlib.Core.Path.{_≡_};
 ghost use Prim.Native.Nat.{_+_, _-_, _≤_, _<_};
 ghost use mathlib.Core.Bool.{_&&_};
@@ -13,21 +13,11 @@ ghost use lib.Dec.{leb};
 ghost use Rattle.resolve.specs.Named.{name-at, names-at, sought};
 ghost use Rattle.resolve.specs.Checks.{part-of};
 ghost use Rattle.resolve.specs.Using.{own-row};
-ghost use Rattle.uses.specs.PartLaws.{up-to};
+ghost use Rattle.uses.specs.Laws.PartLaws.{up-to};
 ghost use Rattle.uses.specs.Lent.{structs-of-table, book-in, Booked, Rowed, use-in, Small, Roomy};
 ghost use Rattle.uses.specs.Seeing.{called-among, seen-listed, seen-par, seen-local, seen-first, seen-behind};
-
-const OFFSETS: usize = 16;
-
-const PARS: usize = 33;
-
-const NAMES: usize = 289;
-
-const STRUCT_COUNT: usize = 321;
-
-const NAME_COUNT: usize = 322;
-
-const LIVING: usize = 16;
+ghost use Rattle.types.specs.Limits.{step-names, max-locals};
+ghost use Rattle.uses.specs.Layout.{declared-end, living-end, numbers-end, bytes-end};
 
 // The number of a name among those from a to b of a table, and a type's byte.
 pub(crate) fn listed(
@@ -38,7 +28,7 @@ pub(crate) fn listed(
     at: usize,
     typ: usize,
 ) -> Seen
-    requires { ⌜ (a ≤ b) × (b ≤ a + 32) × (b ≤ length (now table)) ⌝ }
+    requires { ⌜ (a ≤ b) × (b ≤ a + step-names) × (b ≤ length (now table)) ⌝ }
     ensures { λ r. ⌜ r ≡ seen-listed (names-at (now (text .entry)) (part-of (now (table .entry)) a b)) (name-at (now (text .entry)) at) typ ⌝ }
 {
     let n = names::lookup(text, &table[a..b], at);
@@ -54,29 +44,29 @@ pub(crate) fn parameter(text: &[u8], tables: &[usize], k: usize, at: usize) -> S
     ensures { λ r. ⌜ r ≡ seen-par (getD (book-in (now (text .entry)) (now (tables .entry)) .rows) k [])
         (getD (book-in (now (text .entry)) (now (tables .entry)) .types) k []) (name-at (now (text .entry)) at) ⌝ }
 {
-    let a = PARS + tables[OFFSETS + k];
-    let b = PARS + tables[OFFSETS + k + 1];
+    let a = layout::PARS + tables[layout::OFFSETS + k];
+    let b = layout::PARS + tables[layout::OFFSETS + k + 1];
     let n = names::lookup(text, &tables[a..b], at);
     if n >= b - a {
         return Seen::Nothing;
     }
-    Seen::Of(n as u8, tables[a + n + 128])
+    Seen::Of(n as u8, tables[a + n + layout::ROWS_ROOM])
 }
 
 // One of the n locals that are alive, and the byte of its type.
 pub(crate) fn local(text: &[u8], locals: &[usize], n: usize, at: usize) -> Seen
-    requires { ⌜ (length (now locals) ≡ 32) × (n ≤ 8) × Small (now locals) n ⌝ }
-    ensures { λ r. ⌜ r ≡ seen-local (names-at (now (text .entry)) (up-to (now (locals .entry)) 16 n)) (up-to (now (locals .entry)) 24 n)
-        (up-to (now (locals .entry)) 32 n) (name-at (now (text .entry)) at) ⌝ }
+    requires { ⌜ (length (now locals) ≡ bytes-end) × (n ≤ max-locals) × Small (now locals) n ⌝ }
+    ensures { λ r. ⌜ r ≡ seen-local (names-at (now (text .entry)) (up-to (now (locals .entry)) living-end n)) (up-to (now (locals .entry)) numbers-end n)
+        (up-to (now (locals .entry)) bytes-end n) (name-at (now (text .entry)) at) ⌝ }
 {
-    let a = LIVING - n;
-    let k = names::lookup(text, &locals[a..LIVING], at);
+    let a = layout::LIVING_END - n;
+    let k = names::lookup(text, &locals[a..layout::LIVING_END], at);
     if k >= n {
         return Seen::Nothing;
     }
     Seen::Of(
-        (types::FIRST_LOCAL + locals[a + k + 8]) as u8,
-        locals[a + k + 16],
+        (types::FIRST_LOCAL + locals[a + k + layout::DECLARED_END]) as u8,
+        locals[a + k + layout::LIVING_END],
     )
 }
 
@@ -105,7 +95,7 @@ pub(crate) fn later(text: &[u8], tables: &[usize], at: usize, typ: usize) -> See
         return Seen::Nothing;
     }
     let k = typ - types::STRUCT as usize;
-    if k >= tables[STRUCT_COUNT] {
+    if k >= tables[layout::STRUCT_COUNT] {
         return Seen::Nothing;
     }
     parameter(text, tables, k, at)
@@ -116,10 +106,17 @@ pub(crate) fn called(text: &[u8], tables: &[usize], at: usize, role: u8, typ: us
     requires { ⌜ Booked (now tables) ⌝ }
     ensures { λ r. ⌜ r ≡ seen-listed (called-among (book-in (now (text .entry)) (now (tables .entry))) role) (name-at (now (text .entry)) at) typ ⌝ }
 {
-    if role == 49 {
-        return listed(text, tables, 0, tables[STRUCT_COUNT], at, typ);
+    if role == role::CALLED_STRUCT {
+        return listed(text, tables, 0, tables[layout::STRUCT_COUNT], at, typ);
     }
-    listed(text, tables, NAMES, NAMES + tables[NAME_COUNT], at, typ)
+    listed(
+        text,
+        tables,
+        layout::NAMES,
+        layout::NAMES + tables[layout::NAME_COUNT],
+        at,
+        typ,
+    )
 }
 
 // Whether a name is none of a struct's parameters.
@@ -147,13 +144,13 @@ pub(crate) fn unused(
     begun: usize,
 ) -> bool
     requires { ⌜ Booked (now tables) × (begun ≤ structs-of-table (now tables)) ⌝ }
-    requires { ⌜ (length (now locals) ≡ 32) × (met ≤ 8) ⌝ }
-    ensures { λ r. ⌜ r ≡ (leb met (sought (name-at (now (text .entry)) at) (names-at (now (text .entry)) (up-to (now (locals .entry)) 8 met)))
+    requires { ⌜ (length (now locals) ≡ bytes-end) × (met ≤ max-locals) ⌝ }
+    ensures { λ r. ⌜ r ≡ (leb met (sought (name-at (now (text .entry)) at) (names-at (now (text .entry)) (up-to (now (locals .entry)) declared-end met)))
         && leb (length (own-row (book-in (now (text .entry)) (now (tables .entry)) .rows) begun))
         (sought (name-at (now (text .entry)) at) (own-row (book-in (now (text .entry)) (now (tables .entry)) .rows) begun))) ⌝ }
 {
-    let a = 8 - met;
-    if names::lookup(text, &locals[a..8], at) < met {
+    let a = layout::DECLARED_END - met;
+    if names::lookup(text, &locals[a..layout::DECLARED_END], at) < met {
         return false;
     }
     no_parameter(text, tables, begun, at)

@@ -4,6 +4,8 @@ use crate::Passed;
 use crate::Scope;
 use resolve::Word;
 use resolve::literals;
+use text_shape::role;
+use tokens::kind;
 ghost use mathlib.Core.Path.{_≡_};
 ghost use Prim.Native.Nat.{ℕ, _+_, _-_, _≤_, _<_};
 ghost use mathlib.Core.List.{List};
@@ -13,6 +15,8 @@ ghost use Rattle.resolve.specs.UsingAt.{part-at, use-kind};
 ghost use mathlib.Core.Option.{some};
 ghost use Rattle.uses.specs.Lent.{use-in, Roomy, passed-in, Next};
 ghost use Rattle.uses.specs.Seeing.{dued, lived, word-passed};
+ghost use Rattle.text_shape.specs.RoleNames.{first-part-role};
+ghost use Rattle.types.specs.Limits.{max-locals};
 
 // With so many argument lists open.
 fn dued(c: Scope, n: usize) -> Scope
@@ -86,7 +90,7 @@ fn go_on(stack: &mut [u8], c: Scope) -> Passed
 
 // An if is opened.
 fn open_if(stack: &mut [u8], c: Scope) -> Passed
-    requires { ⌜ (c .dues + c .bodies < length (now stack)) × (c .living ≤ 8) × (c .fresh ≤ c .living) ⌝ }
+    requires { ⌜ (c .dues + c .bodies < length (now stack)) × (c .living ≤ max-locals) × (c .fresh ≤ c .living) ⌝ }
     ensures { λ r. ⌜ ((x t l o : List ℕ) → Roomy t l c → passed-in x l (now (stack .exit)) r o ≡ some (use-opens (use-in x l (now (stack .entry)) c o))) ⌝ }
     ensures { λ r. ⌜ ((t l : List ℕ) → Roomy t l c → Next t l c r) ⌝ }
     ensures { λ _. ⌜ length (now (stack .exit)) ≡ length (now (stack .entry)) ⌝ }
@@ -120,19 +124,19 @@ fn close_if(stack: &[u8], c: Scope) -> Passed
 
 // Brackets, braces and commas.
 pub(crate) fn part_role(stack: &mut [u8], role: u8, c: Scope) -> Passed
-    requires { ⌜ (c .dues + c .bodies < length (now stack)) × (c .living ≤ 8) × (c .fresh ≤ c .living) × (63 ≤ role) ⌝ }
+    requires { ⌜ (c .dues + c .bodies < length (now stack)) × (c .living ≤ max-locals) × (c .fresh ≤ c .living) × (first-part-role ≤ role) ⌝ }
     ensures { λ r. ⌜ ((x t l o : List ℕ) → Roomy t l c → passed-in x l (now (stack .exit)) r o
         ≡ use-part (part-at role) (use-in x l (now (stack .entry)) c o)) ⌝ }
     ensures { λ r. ⌜ ((t l : List ℕ) → Roomy t l c → Next t l c r) ⌝ }
     ensures { λ _. ⌜ length (now (stack .exit)) ≡ length (now (stack .entry)) ⌝ }
 {
     match role {
-        66 => close(stack, 1, c),
-        67 => close(stack, 0, c),
-        75 => Passed::On(lived(c, 0, 0, 0)),
-        76 => open_if(stack, c),
-        77 => close_if(stack, c),
-        79 => go_on(stack, c),
+        role::ARGS_CLOSE => close(stack, 1, c),
+        role::NO_ARGS_CLOSE => close(stack, 0, c),
+        role::BODY_CLOSE => Passed::On(lived(c, 0, 0, 0)),
+        role::THEN_OPEN => open_if(stack, c),
+        role::THEN_CLOSE => close_if(stack, c),
+        role::ARG_COMMA => go_on(stack, c),
         _ => Passed::On(c),
     }
 }
@@ -155,9 +159,9 @@ pub(crate) fn kind_role(text: &[u8], at: usize, kind: u8, c: Scope) -> Passed
     ensures { λ r. ⌜ ((t l : List ℕ) → Roomy t l c → Next t l c r) ⌝ }
 {
     match kind {
-        19 => Passed::On(lived(c, c.met, c.living, c.bodies)),
-        37 => of_type(literals::int_word(text, at), c),
-        38 => of_type(literals::nat_word(text, at), c),
+        kind::SEMICOLON => Passed::On(lived(c, c.met, c.living, c.bodies)),
+        kind::INT => of_type(literals::int_word(text, at), c),
+        kind::NAT => of_type(literals::nat_word(text, at), c),
         _ => Passed::On(c),
     }
 }

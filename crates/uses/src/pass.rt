@@ -5,6 +5,8 @@ use crate::Scope;
 use crate::parts;
 use crate::passing;
 use lexer::gaps;
+use text_shape::role;
+use tokens::kind;
 ghost use mathlib.Core.Path.{_≡_};
 ghost use Prim.Native.Nat.{ℕ, _+_, _≤_, _<_};
 ghost use mathlib.Core.Bool.{true};
@@ -15,21 +17,22 @@ ghost use Rattle.resolve.specs.UsingAt.{use-at, uses-at};
 ghost use Rattle.uses.specs.Lent.{book-in, Booked, use-in, Roomy, passed-in, Next, numbered-in, used-out, Counted};
 ghost use Rattle.uses.specs.Seeing.{Quiet};
 ghost use Rattle.uses.specs.Stopping.{stops-at, stop-in};
+ghost use Rattle.uses.specs.Layout.{bytes-end};
 
 // Whether a token by its role leaves the pass as it is: a word, a sign but for the semicolon, an operator; the most of the brackets.
 fn quiet(role: u8) -> bool
     ensures { λ r. ⌜ (r ≡ true → Quiet role) ⌝ }
 {
-    if role < 37 {
-        return role != 19;
+    if role < kind::INT {
+        return role != kind::SEMICOLON;
     }
-    if role < 63 {
+    if role < role::FIRST_PART {
         return false;
     }
-    if role < 66 {
+    if role < role::ARGS_CLOSE {
         return true;
     }
-    role > 67 && role < 75
+    role > role::NO_ARGS_CLOSE && role < role::BODY_CLOSE
 }
 
 // One place where a token begins.
@@ -52,16 +55,16 @@ fn use_at(
     if quiet(role) {
         return Passed::On(c);
     }
-    if role < 39 {
+    if role < role::FIRST_NAME {
         return parts::kind_role(text, at, role, c);
     }
-    if role < 43 {
+    if role < role::FIRST_USE {
         return passing::declared_name(text, tables, locals, at, role, c);
     }
-    if role < 51 {
+    if role < role::FIRST_TYPE {
         return passing::used_name(text, tables, locals, stack, at, role, c);
     }
-    if role < 63 {
+    if role < role::FIRST_PART {
         return passing::type_role(text, tables, at, role, c);
     }
     parts::part_role(stack, role, c)
@@ -76,7 +79,7 @@ pub(crate) fn uses(
     stack: &mut [u8],
     numbers: &mut [u8],
 ) -> Numbered
-    requires { ⌜ Booked (now tables) × (length (now locals) ≡ 32) ⌝ }
+    requires { ⌜ Booked (now tables) × (length (now locals) ≡ bytes-end) ⌝ }
     requires { ⌜ (length (now roles) ≡ length (now text)) × (length (now roles) < length (now stack)) × (length (now roles) ≤ length (now numbers)) ⌝ }
     ensures { λ r. ⌜ numbered-in (now (numbers .exit)) r
         ≡ used-out (uses-at (book-in (now (text .entry)) (now (tables .entry))) (now (text .entry)) (now (roles .entry)) use-start) ⌝ }

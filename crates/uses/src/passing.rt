@@ -2,32 +2,25 @@
 use crate::Passed;
 use crate::Scope;
 use crate::Seen;
+use crate::layout;
 use crate::looked;
 use resolve::declarations;
 use resolve::names;
+use text_shape::role;
 ghost use mathlib.Core.Path.{_≡_};
 ghost use Prim.Native.Nat.{ℕ, _+_, _-_, _≤_, _<_};
 ghost use mathlib.Core.List.{List};
 ghost use lib.ListN.{length, drop};
 ghost use Rattle.resolve.specs.Named.{name-at};
 ghost use Rattle.resolve.specs.Using.{use-made, use-new, use-name, use-type};
-ghost use Rattle.derive.specs.Roles.{Naming.new-struct};
+ghost use Rattle.text_shape.specs.Roles.{Naming.new-struct};
 ghost use Rattle.resolve.specs.Checks.{type-here};
 ghost use Rattle.resolve.specs.UsingAt.{naming-at, typed-at, number-at};
 ghost use Rattle.uses.specs.Lent.{book-in, Booked, use-in, Roomy, passed-in, Next};
 ghost use Rattle.uses.specs.Seeing.{seen-passed, with-local};
-
-const OFFSETS: usize = 16;
-
-const STRUCT_COUNT: usize = 321;
-
-const DECLARED: usize = 8;
-
-const LIVING: usize = 16;
-
-const NUMBERS: usize = 24;
-
-const BYTES: usize = 32;
+ghost use Rattle.text_shape.specs.RoleNames.{local-int-role, first-name-role, first-use-role, first-type-role, first-part-role};
+ghost use Rattle.types.specs.Limits.{max-locals};
+ghost use Rattle.uses.specs.Layout.{bytes-end};
 
 // A number is left, with a type; nothing stops the pass.
 fn left(c: Scope, s: Seen) -> Passed
@@ -57,7 +50,7 @@ fn begin(tables: &[usize], c: Scope) -> Passed
     ensures { λ r. ⌜ ((l : List ℕ) → Roomy (now (tables .entry)) l c → Next (now (tables .entry)) l c r) ⌝ }
 {
     let begun = c.begun;
-    if begun >= tables[STRUCT_COUNT] {
+    if begun >= tables[layout::STRUCT_COUNT] {
         return Passed::Stop;
     }
     Passed::On(Scope {
@@ -80,13 +73,13 @@ fn made(text: &[u8], tables: &[usize], stack: &mut [u8], at: usize, c: Scope) ->
     ensures { λ r. ⌜ ((l : List ℕ) → Roomy (now (tables .entry)) l c → Next (now (tables .entry)) l c r) ⌝ }
     ensures { λ _. ⌜ length (now (stack .exit)) ≡ length (now (stack .entry)) ⌝ }
 {
-    let s = tables[STRUCT_COUNT];
+    let s = tables[layout::STRUCT_COUNT];
     let n = names::lookup(text, &tables[0..s], at);
     if n >= s {
         return Passed::Stop;
     }
     let h = c.dues;
-    stack[h] = (tables[OFFSETS + n + 1] - tables[OFFSETS + n]) as u8;
+    stack[h] = (tables[layout::OFFSETS + n + 1] - tables[layout::OFFSETS + n]) as u8;
     Passed::Left(
         Scope {
             begun: c.begun,
@@ -103,13 +96,13 @@ fn made(text: &[u8], tables: &[usize], stack: &mut [u8], at: usize, c: Scope) ->
 
 // A local into its table: its place, its number and the byte of its type.
 fn store(locals: &mut [usize], at: usize, met: usize, n: usize, typ: usize)
-    requires { ⌜ (length (now locals) ≡ 32) × (met < 8) × (n < 8) ⌝ }
+    requires { ⌜ (length (now locals) ≡ bytes-end) × (met < max-locals) × (n < max-locals) ⌝ }
     ensures { λ _. ⌜ now (locals .exit) ≡ with-local (now (locals .entry)) at met n typ ⌝ }
 {
-    locals[DECLARED - (met + 1)] = at;
-    locals[LIVING - (n + 1)] = at;
-    locals[NUMBERS - (n + 1)] = met;
-    locals[BYTES - (n + 1)] = typ;
+    locals[layout::DECLARED_END - (met + 1)] = at;
+    locals[layout::LIVING_END - (n + 1)] = at;
+    locals[layout::NUMBERS_END - (n + 1)] = met;
+    locals[layout::BYTES_END - (n + 1)] = typ;
 }
 
 // A local is declared: it comes alive behind its declaration.
@@ -153,7 +146,7 @@ pub(crate) fn declared_name(
     role: u8,
     c: Scope,
 ) -> Passed
-    requires { ⌜ Booked (now tables) × Roomy (now tables) (now locals) c × (39 ≤ role) × (role < 43) ⌝ }
+    requires { ⌜ Booked (now tables) × Roomy (now tables) (now locals) c × (first-name-role ≤ role) × (role < first-use-role) ⌝ }
     ensures { λ r. ⌜ ((k o : List ℕ) → passed-in (now (text .entry)) (now (locals .exit)) k r o
         ≡ use-name (book-in (now (text .entry)) (now (tables .entry))) (naming-at role) (name-at (now (text .entry)) at)
         (use-in (now (text .entry)) (now (locals .entry)) k c o)) ⌝ }
@@ -161,9 +154,9 @@ pub(crate) fn declared_name(
     ensures { λ _. ⌜ length (now (locals .exit)) ≡ length (now (locals .entry)) ⌝ }
 {
     match role {
-        39 => begin(tables, c),
-        40 => Passed::On(c),
-        41 => left(c, looked::called(text, tables, at, role, c.typ)),
+        role::NEW_STRUCT => begin(tables, c),
+        role::NEW_PAR => Passed::On(c),
+        role::NEW_STEP => left(c, looked::called(text, tables, at, role, c.typ)),
         _ => declare(text, tables, locals, at, c),
     }
 }
@@ -178,20 +171,21 @@ pub(crate) fn used_name(
     role: u8,
     c: Scope,
 ) -> Passed
-    requires { ⌜ Booked (now tables) × Roomy (now tables) (now locals) c × (c .dues + c .bodies < length (now stack)) × (43 ≤ role) × (role < 51) ⌝ }
+    requires { ⌜ Booked (now tables) × Roomy (now tables) (now locals) c × (c .dues + c .bodies < length (now stack)) × (first-use-role ≤ role)
+        × (role < first-type-role) ⌝ }
     ensures { λ r. ⌜ ((o : List ℕ) → passed-in (now (text .entry)) (now (locals .entry)) (now (stack .exit)) r o
         ≡ use-name (book-in (now (text .entry)) (now (tables .entry))) (naming-at role) (name-at (now (text .entry)) at)
         (use-in (now (text .entry)) (now (locals .entry)) (now (stack .entry)) c o)) ⌝ }
     ensures { λ r. ⌜ Next (now (tables .entry)) (now (locals .entry)) c r ⌝ }
     ensures { λ _. ⌜ length (now (stack .exit)) ≡ length (now (stack .entry)) ⌝ }
 {
-    if role < 45 {
+    if role < role::LATER_VARIABLE {
         return left(c, looked::first(text, tables, locals, at, c));
     }
-    if role < 46 {
+    if role < role::MADE {
         return left(c, looked::later(text, tables, at, c.typ));
     }
-    if role < 48 {
+    if role < role::CALLED {
         return made(text, tables, stack, at, c);
     }
     left(c, looked::called(text, tables, at, role, c.typ))
@@ -199,27 +193,27 @@ pub(crate) fn used_name(
 
 // The number of a type among the four kinds, by its role behind a declaration or null.
 fn type_number(role: u8) -> u8
-    requires { ⌜ (55 ≤ role) × (role < 63) ⌝ }
+    requires { ⌜ (local-int-role ≤ role) × (role < first-part-role) ⌝ }
     ensures { λ r. ⌜ r ≡ number-at role ⌝ }
 {
-    if role < 59 {
-        return role - 55;
+    if role < role::NULL_INT {
+        return role - role::LOCAL_INT;
     }
-    role - 59
+    role - role::NULL_INT
 }
 
-// A type behind a declaration or null: from 55 on and from 59 on.
+// A type behind a declaration or null.
 pub(crate) fn type_role(text: &[u8], tables: &[usize], at: usize, role: u8, c: Scope) -> Passed
-    requires { ⌜ Booked (now tables) × (51 ≤ role) × (role < 63) ⌝ }
+    requires { ⌜ Booked (now tables) × (first-type-role ≤ role) × (role < first-part-role) ⌝ }
     ensures { λ r. ⌜ ((l k o : List ℕ) → passed-in (now (text .entry)) l k r o
         ≡ use-type (book-in (now (text .entry)) (now (tables .entry))) (typed-at role) (type-here (number-at role) (drop at (now (text .entry))))
         (use-in (now (text .entry)) l k c o)) ⌝ }
     ensures { λ r. ⌜ ((l : List ℕ) → Roomy (now (tables .entry)) l c → Next (now (tables .entry)) l c r) ⌝ }
 {
-    if role < 55 {
+    if role < role::LOCAL_INT {
         return Passed::On(c);
     }
-    let s = tables[STRUCT_COUNT];
+    let s = tables[layout::STRUCT_COUNT];
     let b = declarations::type_byte(text, &tables[0..s], type_number(role), at);
     if b >= types::STRUCT as usize + s {
         return Passed::Stop;

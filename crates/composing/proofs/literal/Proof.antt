@@ -2,7 +2,7 @@
 use mathlib.Core.Path.{ap, _∙_}
 use borrow.Author.Needs.{needs}
 use Rattle.compose.specs.Fits.{word-value}
-use Rattle.compose.specs.FitsLaws.{value-int, value-nat, value-none}
+use Rattle.compose.specs.Laws.FitsLaws.{value-int, value-nat, value-none}
 use Rattle.composing.proofs.literal.Statement.{statement}
 use Rattle.composing.proofs.literal.Tie as tie
 

@@ -13,6 +13,7 @@ use Rattle.compose.specs.Composed.{composed-by}
 use Rattle.composing.specs.Pens.{stands}
 use Rattle.composing.specs.Placing.{placed-in}
 use Rattle.composing.specs.PlacingLaws.{fit-stands, placed-unfit, placed-long, placed-bad, placed-over, placed-at}
+use Rattle.composing.specs.Sizes.{output-size}
 use Rattle.composing.proofs.stream.Statement.{statement}
 use Rattle.composing.proofs.stream.Tie as tie
 
@@ -59,7 +60,7 @@ stood c =
     (not-false (w .result .fits) (tested c .before .if1 .left))))
 
 -- the output keeps its length
-long : (c : tie.After-counted) → length (c .counted .last .0) ≡ 32402
+long : (c : tie.After-counted) → length (c .counted .last .0) ≡ output-size
 long c = let at-write = left c in c .counted .kept .0 ∙ at-write .write .kept .1 .1 .1 .1 .0 ∙ entry at-write .pre .0 .2
 
 returns : tie.Need-returns

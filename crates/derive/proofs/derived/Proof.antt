@@ -3,8 +3,8 @@ use mathlib.Core.Path.{_≡_, refl}
 use borrow.Author.Needs.{needs}
 use Rattle.syntax.specs.Expecting.{word-number, sign-number, on-word, on-sign, on-name, on-op, less, on-less, literal-word, on-literal, type-word, on-type-word}
 use Rattle.syntax.specs.Expecting.{on-type}
-use Rattle.derive.specs.Shape.{on-exp, on-item, past-item, acts, act, samples, sample}
-use Rattle.derive.specs.RoleMarks.{mark}
+use Rattle.text_shape.specs.Shape.{on-exp, on-item, past-item, acts, act, samples, sample}
+use Rattle.text_shape.specs.RoleMarks.{mark}
 use Rattle.derive.specs.Table.{act-at, mark-at, next-of, opened-of, values, next-bytes, opened-bytes, mark-bytes}
 use Rattle.derive.proofs.derived.Statement.{statement}
 use Rattle.derive.proofs.derived.Tie as tie

@@ -1,7 +1,7 @@
 -- `entry` meets its contract.
 use native.Mathlib.Omega.{arith}
-use Rattle.derive.specs.Shape.{act}
-use Rattle.derive.specs.RoleMarks.{mark}
+use Rattle.text_shape.specs.Shape.{act}
+use Rattle.text_shape.specs.RoleMarks.{mark}
 use Rattle.derive.specs.Table.{act-at, mark-at}
 use Rattle.derive.specs.IndexLaws.{index-in, index-row}
 use borrow.Author.Needs.{needs}

@@ -3,7 +3,7 @@ use mathlib.Core.Path.{_≡_, refl}
 use borrow.Author.Needs.{needs}
 use Rattle.syntax.specs.Expecting.{word-number, sign-number, on-word, on-sign, on-name, on-op, less, on-less, literal-word, on-literal, type-word, on-type-word}
 use Rattle.syntax.specs.Expecting.{on-type}
-use Rattle.derive.specs.Shape.{on-exp, on-item, past-item, acts, act, samples, sample}
+use Rattle.text_shape.specs.Shape.{on-exp, on-item, past-item, acts, act, samples, sample}
 use Rattle.derive.specs.Table.{act-at, next-of, opened-of, values, next-bytes, opened-bytes}
 use Rattle.derive.proofs.step.Statement.{statement}
 use Rattle.derive.proofs.step.Tie as tie

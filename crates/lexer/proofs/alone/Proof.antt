@@ -2,8 +2,8 @@
 use mathlib.Core.Path.{refl}
 use Rattle.tokens.specs.TokenNumbers.{sign-number}
 use Rattle.tokens.specs.Unfold.{fronts}
-use Rattle.lexer.specs.Kinds.{kind, sign-kind, op-kind}
-use Rattle.lexer.specs.Marking.{spot-of}
+use Rattle.tokens.specs.Kinds.{kind, sign-kind, op-kind}
+use Rattle.tokens.specs.Marking.{spot-of}
 use Rattle.lexer.proofs.alone.Statement.{statement}
 use Rattle.lexer.proofs.alone.Tie as tie
 

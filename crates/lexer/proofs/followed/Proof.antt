@@ -1,6 +1,6 @@
 -- `followed` meets its contract.
 use borrow.Author.Tests.{eq-eqb, ne-eqb}
-use Rattle.lexer.specs.Marking.{followed}
+use Rattle.tokens.specs.Marking.{followed}
 use Rattle.lexer.proofs.followed.Statement.{statement}
 use Rattle.lexer.proofs.followed.Tie as tie
 

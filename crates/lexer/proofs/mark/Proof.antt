@@ -3,7 +3,7 @@ use Prim.Native.Nat.{_+_, _-_, _≤_}
 use mathlib.Core.Path.{refl, sym, _∙_}
 use native.Mathlib.Omega.{arith}
 use lib.ListN.{length}
-use Rattle.lexer.specs.MarkingLaws.{Reached, reached-end, reached-stray, reached-next, ends-inside}
+use Rattle.tokens.specs.Laws.MarkingLaws.{Reached, reached-end, reached-stray, reached-next, ends-inside}
 use borrow.Author.Needs.{needs}
 use Rattle.lexer.proofs.mark.Statement.{statement}
 use Rattle.lexer.proofs.mark.Tie as tie

@@ -2,8 +2,8 @@
 use mathlib.Core.Path.{_∙_}
 use Rattle.tokens.specs.TokenNumbers.{sign-number}
 use Rattle.tokens.specs.Unfold.{sign-scan}
-use Rattle.lexer.specs.Kinds.{kind, sign-kind, op-kind}
-use Rattle.lexer.specs.Marking.{spot-of}
+use Rattle.tokens.specs.Kinds.{kind, sign-kind, op-kind}
+use Rattle.tokens.specs.Marking.{spot-of}
 use Rattle.lexer.specs.SpotLaws.{sign-none, bang-spot, and-spot, colon-spot, less-spot, more-spot, or-spot}
 use borrow.Author.Needs.{needs}
 use Rattle.lexer.proofs.sign.Statement.{statement}

@@ -4,6 +4,7 @@ use native.Mathlib.Omega.{arith}
 use mathlib.Core.Path.{_≡_, _∙_}
 use lib.ListN.{getD}
 use Rattle.read_text.specs.MeantLaws.{within, rows-lent, composed-lent}
+use Rattle.uses.specs.Layout.{offsets-place, types-place, struct-count-place, table-size}
 use borrow.Author.Needs.{needs}
 use Rattle.read_text.proofs.composed.Statement.{statement}
 use Rattle.read_text.proofs.composed.Tie as tie
@@ -16,7 +17,7 @@ abbrev at-types : tie.After-stream-arg4 → tie.After-shared-slice-known6
 at-types c = c .before .before .before .before
 
 -- the types stand in the table
-inside : (c : tie.Start) → 161 + getD (c .args .tables .now) (16 + getD (c .args .tables .now) 321 0) 0 ≤ 323
+inside : (c : tie.Start) → types-place + getD (c .args .tables .now) (offsets-place + getD (c .args .tables .now) struct-count-place 0) 0 ≤ table-size
 inside c = within (c .args .text .now) (c .args .roles .now) (c .args .tables .now) (c .pre .1 .0 .0) (c .pre .1 .1) (c .pre .1 .0 .1) .1
 
 add-types-end : tie.Need-add-types-end

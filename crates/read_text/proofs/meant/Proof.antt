@@ -4,8 +4,10 @@ use native.Mathlib.Omega.{arith}
 use mathlib.Core.Path.{_≡_, sym, _∙_}
 use lib.ListN.{length, length-replicate}
 use lib.Seq.{length-take-le}
-use Rattle.uses.specs.DeclaringLaws.{roles-fronted}
+use Rattle.uses.specs.Laws.DeclaringLaws.{roles-fronted}
 use Rattle.read_text.specs.MeantLaws.{unnamed-ends, rows-there, count-told, over-ends, at-ends, stream-long, inside}
+use Rattle.composing.specs.Sizes.{output-size}
+use Rattle.uses.specs.Layout.{table-size}
 use borrow.Author.Needs.{needs}
 use Rattle.read_text.proofs.meant.Statement.{statement}
 use Rattle.read_text.proofs.meant.Tie as tie
@@ -31,7 +33,7 @@ numbers-requires c κs =
     let s = entry c in let args = s .args in let pre = s .pre .0 in let r = s .pre .1 in (
       (pre .0, pre .2),
       (
-        (simp length-replicate (omega (arith, pre .0, pre .1)), length-replicate {A = ℕ} 323 0),
+        (simp length-replicate (omega (arith, pre .0, pre .1)), length-replicate {A = ℕ} table-size 0),
         roles-fronted (r .derivation) (r .stands),
       ),
     )
@@ -55,7 +57,7 @@ composed-requires : tie.Need-composed-requires
 composed-requires c κs =
     let at-names = at-known c .before in let n = at-numbers (at-names .before .before) in let s = entry (n .before) in let args = s .args in
     let pre = s .pre .0 in let r = n .numbers2 in let kept = r .kept .1 .1 in (
-      (omega (arith, pre .0), omega (arith, pre .2, kept .1 .0), length-replicate {A = ℕ} 32402 0),
+      (omega (arith, pre .0), omega (arith, pre .2, kept .1 .0), length-replicate {A = ℕ} output-size 0),
       (
         (
           s .pre .1,
@@ -73,8 +75,8 @@ returns-2 c =
     (array-share-prefix-numbers known) _ (m .composed .result) (m .composed .ensures) (at-told .enum-told2 .given .1) _ (c .refused2 .ensures)
 
 -- the memory of the stream keeps its length
-same : (c : tie.After-composed) → length (c .composed .last .1 .1 .1 .1 .1 .0) ≡ 32402
-same c = c .composed .kept .1 .1 .1 .1 .1 .0 ∙ length-replicate {A = ℕ} 32402 0
+same : (c : tie.After-composed) → length (c .composed .last .1 .1 .1 .1 .1 .0) ≡ output-size
+same c = c .composed .kept .1 .1 .1 .1 .1 .0 ∙ length-replicate {A = ℕ} output-size 0
 
 sub-imaged : tie.Need-sub-imaged
 sub-imaged c =
@@ -92,7 +94,7 @@ imaged-requires c κs =
     let at-placed = c .before .before .before .before in let m = at-composed (at-placed .before .before) in let known = at-known (m .before) in
     let at-names = known .before in let n = at-numbers (at-names .before .before) in let args = entry (n .before) .args in let r = n .numbers2 in
     stream-long (args .text .now) (args .roles .now) (args .out .now) _ (r .result) (r .ensures .0) _ (at-names .names .given .1)
-    (array-share-prefix-numbers known) _ (m .composed .result) (m .composed .ensures) _ (at-placed .placed .given .1) 32402 (same m)
+    (array-share-prefix-numbers known) _ (m .composed .result) (m .composed .ensures) _ (at-placed .placed .given .1) output-size (same m)
 
 returns-3 : tie.Need-returns-3
 returns-3 c =
@@ -100,7 +102,7 @@ returns-3 c =
     let m = at-composed (at-placed .before .before) in let known = at-known (m .before) in
     let at-names = known .before in let n = at-numbers (at-names .before .before) in let args = entry (n .before) .args in let r = n .numbers2 in
     at-ends (args .text .now) (args .roles .now) (args .out .now) _ (r .result) (r .ensures .0) _ (at-names .names .given .1)
-    (array-share-prefix-numbers known) _ (m .composed .result) (m .composed .ensures) _ (at-placed .placed .given .1) 32402 (same m) _ _
+    (array-share-prefix-numbers known) _ (m .composed .result) (m .composed .ensures) _ (at-placed .placed .given .1) output-size (same m) _ _
     (at-imaged .imaged .ensures)
 
 pub meant-spec : {M : Type 1} → statement M

@@ -5,6 +5,7 @@ use lib.ListN.{length}
 use lib.Seq.{length-take-le}
 use Rattle.lexer.specs.GapLaws.{gap-fresh}
 use Rattle.read_text.specs.PassLaws.{read-long, read-on}
+use Rattle.source.specs.Source.{max-text}
 use borrow.Author.Needs.{needs}
 use Rattle.read_text.proofs.read.Statement.{statement}
 use Rattle.read_text.proofs.read.Tie as tie
@@ -21,7 +22,7 @@ passes-requires : tie.Need-passes-requires
 passes-requires c κs =
     let at-else = c .before .before .before in let args = at-else .before .before .before .args in (
       (length-take-le _ _ (at-else .if1 .left), at-else .if1 .left, omega (arith, at-else .if1 .left)),
-      gap-fresh (length (args .text .now)) 65536,
+      gap-fresh (length (args .text .now)) max-text,
     )
 
 returns-2 : tie.Need-returns-2

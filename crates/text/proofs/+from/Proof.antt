@@ -3,6 +3,7 @@ use Prim.Native.Nat.{ℕ, _<_, _-_}
 use lib.ListN.{length}
 use borrow.Fn.Kinds.{In}
 use borrow.Fn.PlainCycle.{Measures, is, falls, and}
+use Rattle.types.specs.ListLaws.{drop-next}
 use Rattle.text.proofs.from.Reads as from
 use Rattle.text.proofs.from.Kinds as from-kinds
 use Rattle.text.proofs.+from.Lts-from as from-lts
@@ -11,7 +12,7 @@ use Rattle.text.proofs.+from.{statement}
 use Rattle.text.proofs.+from.Tie.{close}
 use native.Mathlib.Omega.{arith}
 use mathlib.Core.Path.{_∙_, ap}
-use Rattle.text.specs.ListingLaws.{drop-next, drop-end, placed-none, placed-as, placed-on}
+use Rattle.text.specs.ListingLaws.{drop-end, placed-none, placed-as, placed-on}
 
 abbrev μ-from : Measures 2 from-kinds.ps ℕ
 μ-from κs a = length (a .1 .1 .0 .now) - a .1 .1 .1 .0

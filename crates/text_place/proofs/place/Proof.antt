@@ -5,6 +5,7 @@ use lib.ListN.{length}
 use lib.Seq.{length-take-le}
 use Rattle.lexer.specs.GapLaws.{gap-fresh}
 use Rattle.text_place.specs.PlaceLaws.{long-place}
+use Rattle.source.specs.Source.{max-text}
 use borrow.Author.Needs.{needs}
 use Rattle.text_place.proofs.place.Statement.{statement}
 use Rattle.text_place.proofs.place.Tie as tie
@@ -18,7 +19,7 @@ slice-aggregate-stopped c = sym (length-take-le _ _ (c .before .if1 .left))
 stopped-requires : tie.Need-stopped-requires
 stopped-requires c κs =
     let at-else = c .before .before in let less = at-else .if1 .left in let same = length-take-le _ _ less in
-    ((same, less, omega (arith, same, less)), gap-fresh (length (at-else .before .before .args .text .now)) 65536)
+    ((same, less, omega (arith, same, less)), gap-fresh (length (at-else .before .before .args .text .now)) max-text)
 
 pub place-spec : {M : Type 1} → statement M
 place-spec =

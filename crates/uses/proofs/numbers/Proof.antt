@@ -3,7 +3,7 @@ use native.Mathlib.Omega.{arith}
 use mathlib.Core.Path.{refl}
 use borrow.Author.Tests.{not-true, not-false}
 use Rattle.uses.specs.Lent.{Counted}
-use Rattle.uses.specs.NumberedLaws.{numbers-none, numbers-passed, stops-first, stops-passed, counted-with}
+use Rattle.uses.specs.Laws.NumberedLaws.{numbers-none, numbers-passed, stops-first, stops-passed, counted-with}
 use Rattle.uses.specs.Stopping.{stop-in}
 use borrow.Author.Needs.{needs}
 use Rattle.uses.proofs.numbers.Statement.{statement}

@@ -4,6 +4,7 @@ use native.Mathlib.Omega.{arith}
 use lib.ListN.{length}
 use borrow.Author.Needs.{needs}
 use Rattle.composing.specs.PouringLaws.{begun-none, begun-some, poured-then}
+use Rattle.composing.specs.Sizes.{margin}
 use Rattle.composing.proofs.pouring.begun.Statement.{statement}
 use Rattle.composing.proofs.pouring.begun.Tie as tie
 
@@ -12,7 +13,7 @@ returns c =
     let at-call = c .before .before .before .before in
     let args = at-call .before .before .before .before .args in
     let q = at-call .poured in (
-      λ n. begun-none (args .out .now) (q .last .0) (args .stack .now) n (length (args .out .now) - 6) (args .p) (q .result) (q .ensures .0 n)
+      λ n. begun-none (args .out .now) (q .last .0) (args .stack .now) n (length (args .out .now) - margin) (args .p) (q .result) (q .ensures .0 n)
           (c .before .if1 .taken) (c .spoilt .result) (c .spoilt .ensures),
       (let e = c .spoilt .ensures in poured-then (args .p) (q .result) (c .spoilt .result) (q .ensures .1) (e .0) (omega (arith, e .1)) (e .2) (e .3)),
     )
@@ -22,7 +23,7 @@ returns-2 c =
     let at-call = c .before .before .before .before in
     let args = at-call .before .before .before .before .args in
     let q = at-call .poured in (
-      λ n. begun-some (args .out .now) (q .last .0) (args .stack .now) n (length (args .out .now) - 6) (args .p) (q .result) (q .ensures .0 n)
+      λ n. begun-some (args .out .now) (q .last .0) (args .stack .now) n (length (args .out .now) - margin) (args .p) (q .result) (q .ensures .0 n)
           (c .before .if1 .left) (c .popped .result) (c .popped .ensures),
       (let e = c .popped .ensures in poured-then (args .p) (q .result) (c .popped .result) (q .ensures .1) (e .0) (omega (arith, e .1)) (e .2) (e .3)),
     )

@@ -8,6 +8,7 @@ use Rattle.composing.specs.Pens.{stands}
 use Rattle.composing.specs.PenLaws.{near-same, near-within, near-then}
 use Rattle.composing.specs.PouringLaws.{near-poured}
 use Rattle.composing.specs.PutLaws.{put-by, put-none}
+use Rattle.composing.specs.Sizes.{margin}
 use Rattle.composing.proofs.roles.put.Statement.{statement}
 use Rattle.composing.proofs.roles.put.Tie as tie
 
@@ -31,7 +32,8 @@ returns : tie.Need-returns
 returns c =
     let at-known = c .before in
     let args = at-known .before .before .before .before .args in (
-      put-none (length (args .out .now) - 6) (args .c) (args .v) (stands (args .out .now) (args .stack .now) (args .numbers .now) (args .p)) (c .if1 .taken),
+      put-none (length (args .out .now) - margin) (args .c) (args .v) (stands (args .out .now) (args .stack .now) (args .numbers .now) (args .p))
+          (c .if1 .taken),
       near-within (args .p .place) 1 1 (near-same (args .p)) (omega arith) (omega arith) (omega arith),
     )
 
@@ -74,7 +76,7 @@ returns-2 c =
     let at-first = first-of (at-behind .before) in
     let args = start-of at-first .args in
     let near-2 = near-then 5 0 1 (at-behind .behind .ensures .1) (at-formed .formed .ensures .1) (omega arith) (omega arith) (omega arith) in (
-      put-by (length (args .out .now) - 6) (args .c) (args .v) (at-first .before .mark .result) (at-behind .before .mark2 .result)
+      put-by (length (args .out .now) - margin) (args .c) (args .v) (at-first .before .mark .result) (at-behind .before .mark2 .result)
           (at-formed .before .mark3 .result) (at-stacked .before .mark4 .result)
           (stands (args .out .now) (args .stack .now) (args .numbers .now) (args .p))
           (stands (at-first .first .last .0) (args .stack .now) (args .numbers .now) (at-first .first .result))

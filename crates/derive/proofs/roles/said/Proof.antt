@@ -1,6 +1,6 @@
 -- `roles::said` meets its contract.
 use borrow.Author.Tests.{eq-eqb, ne-eqb}
-use Rattle.derive.specs.RoleMarks.{said}
+use Rattle.text_shape.specs.RoleMarks.{said}
 use Rattle.derive.proofs.roles.said.Statement.{statement}
 use Rattle.derive.proofs.roles.said.Tie as tie
 

@@ -1,7 +1,7 @@
 -- `roles::said_by` meets its contract: the byte at the place of a code and a kind.
 use mathlib.Core.Path.{ap, _∙_}
 use borrow.Author.Needs.{needs}
-use Rattle.derive.specs.RoleMarks.{said}
+use Rattle.text_shape.specs.RoleMarks.{said}
 use Rattle.derive.proofs.roles.said_by.Statement.{statement}
 use Rattle.derive.proofs.roles.said_by.Tie as tie
 

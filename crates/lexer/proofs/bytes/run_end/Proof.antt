@@ -3,7 +3,7 @@ use Prim.Native.Nat.{_-_}
 use mathlib.Core.Path.{refl, sym, _∙_}
 use native.Mathlib.Omega.{arith}
 use lib.ListN.{length}
-use Rattle.lexer.specs.Marking.{run-byte}
+use Rattle.tokens.specs.Marking.{run-byte}
 use Rattle.lexer.specs.RunLaws.{Runs, runs-on, runs-stop, runs-out}
 use borrow.Author.Needs.{needs}
 use Rattle.lexer.proofs.bytes.run_end.Statement.{statement}

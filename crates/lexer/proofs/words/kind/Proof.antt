@@ -3,7 +3,7 @@ use native.Mathlib.Omega.{arith}
 use Rattle.tokens.specs.Tokens.{Word.w-struct, Word.w-if, Word.w-null, Word.w-fix, Word.w-int, Word.w-nat, Word.w-bool, Word.w-string, Word.w-false}
 use Rattle.tokens.specs.Tokens.{word-spelling}
 use Rattle.tokens.specs.TokenNumbers.{word-number}
-use Rattle.lexer.specs.Kinds.{word-kind}
+use Rattle.tokens.specs.Kinds.{word-kind}
 use Rattle.lexer.specs.WordFirst.{lone}
 use Rattle.lexer.specs.WordFirstLaws.{by-first, by-t, no-name}
 use borrow.Author.Needs.{needs}

@@ -2,7 +2,7 @@
 use mathlib.Core.Path.{sym, _∙_}
 use Rattle.tokens.specs.Tokens.{word-spelling}
 use Rattle.tokens.specs.TokenNumbers.{word-number}
-use Rattle.lexer.specs.Kinds.{word-kind}
+use Rattle.tokens.specs.Kinds.{word-kind}
 use Rattle.lexer.specs.WordFirst.{t-word}
 use borrow.Author.Needs.{needs}
 use Rattle.lexer.proofs.words.with_t.Statement.{statement}

@@ -1,5 +1,5 @@
 -- `declarations::is_new` meets its contract.
-use Rattle.resolve.specs.FirstLaws.{not-below, take-long}
+use Rattle.resolve.specs.Laws.FirstLaws.{not-below, take-long}
 use borrow.Author.Needs.{needs}
 use Rattle.resolve.proofs.declarations.is_new.Statement.{statement}
 use Rattle.resolve.proofs.declarations.is_new.Tie as tie

@@ -6,7 +6,7 @@ use borrow.Author.Tests.{not-true, not-false}
 use lib.ListN.{length}
 use lib.Dec.{leb}
 use Rattle.types.specs.Limits.{max-steps}
-use Rattle.resolve.specs.CheckLaws.{Paired, paired-start, paired-not, paired-on, paired-end}
+use Rattle.resolve.specs.Laws.CheckLaws.{Paired, paired-start, paired-not, paired-on, paired-end}
 use Rattle.resolve.specs.Checks.{narrow}
 use borrow.Author.Needs.{needs}
 use Rattle.resolve.proofs.declarations.narrow.Statement.{statement}

@@ -1,6 +1,6 @@
 -- `declarations::row_ok` meets its contract: one law for each way.
 use mathlib.Core.Path.{_∙_}
-use Rattle.resolve.specs.CheckLaws.{row-turned, row-out, row-long, row-short}
+use Rattle.resolve.specs.Laws.CheckLaws.{row-turned, row-out, row-long, row-short}
 use borrow.Author.Needs.{needs}
 use Rattle.resolve.proofs.declarations.row_ok.Statement.{statement}
 use Rattle.resolve.proofs.declarations.row_ok.Tie as tie

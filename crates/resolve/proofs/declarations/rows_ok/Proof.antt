@@ -5,7 +5,7 @@ use mathlib.Core.Path.{sym, _∙_}
 use native.Mathlib.Omega.{arith}
 use borrow.Author.Tests.{not-true, not-false}
 use lib.ListN.{length}
-use Rattle.resolve.specs.CheckLaws.{Paired, paired-start, paired-not, paired-on, paired-end}
+use Rattle.resolve.specs.Laws.CheckLaws.{Paired, paired-start, paired-not, paired-on, paired-end}
 use Rattle.resolve.specs.Checks.{row-ok, rows-ok}
 use borrow.Author.Needs.{needs}
 use Rattle.resolve.proofs.declarations.rows_ok.Statement.{statement}

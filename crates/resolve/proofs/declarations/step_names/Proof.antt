@@ -2,7 +2,7 @@
 use Prim.Native.Nat.{_-_}
 use native.Mathlib.Omega.{arith}
 use lib.ListN.{length}
-use Rattle.resolve.specs.FirstLaws.{Firsting, firsting-start, firsting-on, firsting-kept, firsting-over, firsting-end}
+use Rattle.resolve.specs.Laws.FirstLaws.{Firsting, firsting-start, firsting-on, firsting-kept, firsting-over, firsting-end}
 use borrow.Author.Needs.{needs}
 use Rattle.resolve.proofs.declarations.step_names.Statement.{statement}
 use Rattle.resolve.proofs.declarations.step_names.Tie as tie

@@ -1,7 +1,7 @@
 -- `declarations::type_byte` meets its contract.
 use native.Mathlib.Omega.{arith}
 use Rattle.resolve.specs.Named.{name-at}
-use Rattle.resolve.specs.CheckLaws.{byte-small, byte-named, sought-within}
+use Rattle.resolve.specs.Laws.CheckLaws.{byte-small, byte-named, sought-within}
 use borrow.Author.Needs.{needs}
 use Rattle.resolve.proofs.declarations.type_byte.Statement.{statement}
 use Rattle.resolve.proofs.declarations.type_byte.Tie as tie

@@ -4,7 +4,7 @@ use mathlib.Core.Bool.{false≢true}
 use native.Mathlib.Omega.{arith}
 use lib.ListN.{length}
 use Rattle.resolve.specs.Named.{names-at}
-use Rattle.resolve.specs.CheckLaws.{Typing, typing-start, typing-not, typing-on, typing-end, typing-stored, of-type}
+use Rattle.resolve.specs.Laws.CheckLaws.{Typing, typing-start, typing-not, typing-on, typing-end, typing-stored, of-type}
 use borrow.Author.Needs.{needs}
 use Rattle.resolve.proofs.declarations.types.Statement.{statement}
 use Rattle.resolve.proofs.declarations.types.Tie as tie

@@ -1,6 +1,6 @@
 -- `literals::digit_value` meets its contract.
 use native.Mathlib.Omega.{arith}
-use Rattle.resolve.specs.DigitLaws.{digit-range}
+use Rattle.resolve.specs.Laws.DigitLaws.{digit-range}
 use borrow.Author.Needs.{needs}
 use Rattle.resolve.proofs.literals.digit_value.Statement.{statement}
 use Rattle.resolve.proofs.literals.digit_value.Tie as tie

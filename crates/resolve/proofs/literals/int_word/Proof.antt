@@ -1,6 +1,6 @@
 -- `literals::int_word` meets its contract.
 use mathlib.Core.Path.{refl, _∙_}
-use Rattle.resolve.specs.DigitLaws.{int-here}
+use Rattle.resolve.specs.Laws.DigitLaws.{int-here}
 use borrow.Author.Needs.{needs}
 use Rattle.resolve.proofs.literals.int_word.Statement.{statement}
 use Rattle.resolve.proofs.literals.int_word.Tie as tie

@@ -1,5 +1,5 @@
 -- `literals::longer` meets its contract.
-use Rattle.resolve.specs.DigitLaws.{longer-under, longer-over}
+use Rattle.resolve.specs.Laws.DigitLaws.{longer-under, longer-over}
 use borrow.Author.Needs.{needs}
 use Rattle.resolve.proofs.literals.longer.Statement.{statement}
 use Rattle.resolve.proofs.literals.longer.Tie as tie

@@ -1,5 +1,5 @@
 -- `literals::nat_word` meets its contract.
-use Rattle.resolve.specs.DigitLaws.{nat-inside, nat-outside}
+use Rattle.resolve.specs.Laws.DigitLaws.{nat-inside, nat-outside}
 use borrow.Author.Needs.{needs}
 use Rattle.resolve.proofs.literals.nat_word.Statement.{statement}
 use Rattle.resolve.proofs.literals.nat_word.Tie as tie

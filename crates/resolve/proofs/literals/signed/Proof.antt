@@ -1,7 +1,7 @@
 -- `literals::signed` meets its contract: above zero, at zero, below it.
 use mathlib.Core.Path.{sym}
 use native.Mathlib.Omega.{arith}
-use Rattle.resolve.specs.DigitLaws.{above-inside, above-outside, below-zero, below-inside, below-outside}
+use Rattle.resolve.specs.Laws.DigitLaws.{above-inside, above-outside, below-zero, below-inside, below-outside}
 use borrow.Author.Needs.{needs}
 use Rattle.resolve.proofs.literals.signed.Statement.{statement}
 use Rattle.resolve.proofs.literals.signed.Tie as tie

@@ -4,7 +4,7 @@ use mathlib.Core.Path.{refl, sym, _∙_}
 use native.Mathlib.Omega.{arith}
 use lib.ListN.{length}
 use Rattle.meaning.specs.Values.{decimal}
-use Rattle.resolve.specs.DigitLaws.{Added, added-on, added-end, digit-told}
+use Rattle.resolve.specs.Laws.DigitLaws.{Added, added-on, added-end, digit-told}
 use borrow.Author.Needs.{needs}
 use Rattle.resolve.proofs.literals.value.Statement.{statement}
 use Rattle.resolve.proofs.literals.value.Tie as tie

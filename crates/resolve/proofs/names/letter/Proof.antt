@@ -1,6 +1,6 @@
 -- `names::letter` meets its contract.
 use mathlib.Core.Path.{sym, ap, _∙_}
-use Rattle.resolve.specs.NamedLaws.{letter-kept, letter-none}
+use Rattle.resolve.specs.Laws.NamedLaws.{letter-kept, letter-none}
 use borrow.Author.Needs.{needs}
 use Rattle.resolve.proofs.names.letter.Statement.{statement}
 use Rattle.resolve.proofs.names.letter.Tie as tie

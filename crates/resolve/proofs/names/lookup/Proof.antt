@@ -4,7 +4,7 @@ use mathlib.Core.Path.{sym, _∙_}
 use native.Mathlib.Omega.{arith}
 use lib.ListN.{length}
 use Rattle.resolve.specs.Named.{name-at}
-use Rattle.resolve.specs.NamedLaws.{Seeks, seeks-here, seeks-on, seeks-out}
+use Rattle.resolve.specs.Laws.NamedLaws.{Seeks, seeks-here, seeks-on, seeks-out}
 use borrow.Author.Needs.{needs}
 use Rattle.resolve.proofs.names.lookup.Statement.{statement}
 use Rattle.resolve.proofs.names.lookup.Tie as tie

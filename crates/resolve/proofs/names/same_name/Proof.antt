@@ -3,7 +3,7 @@ use Prim.Native.Nat.{_-_}
 use mathlib.Core.Path.{refl, sym, ap, _∙_}
 use native.Mathlib.Omega.{arith}
 use lib.ListN.{length}
-use Rattle.resolve.specs.NamedLaws.{Alike, alike-inside, alike-end, byte-on, byte-inside, byte-not}
+use Rattle.resolve.specs.Laws.NamedLaws.{Alike, alike-inside, alike-end, byte-on, byte-inside, byte-not}
 use borrow.Author.Needs.{needs}
 use Rattle.resolve.proofs.names.same_name.Statement.{statement}
 use Rattle.resolve.proofs.names.same_name.Tie as tie

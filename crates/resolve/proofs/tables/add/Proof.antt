@@ -1,5 +1,5 @@
 -- `tables::add` meets its contract.
-use Rattle.resolve.specs.TableLaws.{one-counted, none-counted, one-placed, none-placed}
+use Rattle.resolve.specs.Laws.TableLaws.{one-counted, none-counted, one-placed, none-placed}
 use borrow.Author.Needs.{needs}
 use Rattle.resolve.proofs.tables.add.Statement.{statement}
 use Rattle.resolve.proofs.tables.add.Tie as tie

@@ -1,5 +1,5 @@
 -- `tables::counted` meets its contract.
-use Rattle.resolve.specs.TableLaws.{one-counted, none-counted}
+use Rattle.resolve.specs.Laws.TableLaws.{one-counted, none-counted}
 use borrow.Author.Needs.{needs}
 use Rattle.resolve.proofs.tables.counted.Statement.{statement}
 use Rattle.resolve.proofs.tables.counted.Tie as tie

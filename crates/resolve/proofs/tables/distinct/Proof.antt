@@ -3,7 +3,7 @@ use Prim.Native.Nat.{_-_}
 use mathlib.Core.Path.{refl}
 use native.Mathlib.Omega.{arith}
 use lib.ListN.{length}
-use Rattle.resolve.specs.TableLaws.{Differ, differ-not, differ-on, differ-end}
+use Rattle.resolve.specs.Laws.TableLaws.{Differ, differ-not, differ-on, differ-end}
 use borrow.Author.Needs.{needs}
 use Rattle.resolve.proofs.tables.distinct.Statement.{statement}
 use Rattle.resolve.proofs.tables.distinct.Tie as tie

@@ -2,6 +2,7 @@
 use Prim.Native.Nat.{ℕ, _<_, _-_}
 use borrow.Fn.Kinds.{In}
 use borrow.Fn.PlainCycle.{Measures, is, falls, and}
+use Rattle.types.specs.ListLaws.{drop-next}
 use Rattle.text.proofs.lines.tail.Reads as tail
 use Rattle.text.proofs.lines.tail.Kinds as tail-kinds
 use Rattle.text.proofs.lines.+tail.Lts-tail as tail-lts
@@ -13,7 +14,7 @@ use borrow.Author.Needs.{needs}
 use native.Mathlib.Omega.{arith}
 use mathlib.Core.Path.{_∙_, ap}
 use lib.ListN.{length}
-use Rattle.text.specs.ListingLaws.{drop-next, tail-end, tail-next, placed-as, placed-on}
+use Rattle.text.specs.ListingLaws.{tail-end, tail-next, placed-as, placed-on}
 
 abbrev μ-tail : Measures 2 tail-kinds.ps ℕ
 μ-tail κs a = length (a .1 .1 .0 .now) - a .1 .1 .1 .0

@@ -2,8 +2,8 @@
 use Prim.Native.Nat.{_-_}
 use native.Mathlib.Omega.{arith}
 use lib.ListN.{length}
-use Rattle.resolve.specs.TableLaws.{Gathers, gathers-start, gathers-count, gathers-stored}
-use Rattle.uses.specs.AmongLaws.{declared-behind, all-left, all-on}
+use Rattle.resolve.specs.Laws.TableLaws.{Gathers, gathers-start, gathers-count, gathers-stored}
+use Rattle.uses.specs.Laws.AmongLaws.{declared-behind, all-left, all-on}
 use borrow.Author.Needs.{needs}
 use Rattle.uses.proofs.declared.all.Statement.{statement}
 use Rattle.uses.proofs.declared.all.Tie as tie

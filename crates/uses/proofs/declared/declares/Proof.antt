@@ -1,6 +1,6 @@
 -- `declared::declares` meets its contract.
 use mathlib.Core.Path.{sym, _∙_}
-use Rattle.uses.specs.AmongLaws.{named-declares, typed-declares}
+use Rattle.uses.specs.Laws.AmongLaws.{named-declares, typed-declares}
 use borrow.Author.Needs.{needs}
 use Rattle.uses.proofs.declared.declares.Statement.{statement}
 use Rattle.uses.proofs.declared.declares.Tie as tie

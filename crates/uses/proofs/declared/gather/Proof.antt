@@ -5,9 +5,9 @@ use mathlib.Core.Path.{ap, _∙_}
 use lib.ListN.{length}
 use lib.Seq.{sets}
 use Rattle.tokens.specs.Tokens.{between}
-use Rattle.resolve.specs.TableLaws.{Gathers, gathers-start, gathers-count, gathers-stored}
+use Rattle.resolve.specs.Laws.TableLaws.{Gathers, gathers-start, gathers-count, gathers-stored}
 use Rattle.uses.specs.Among.{among}
-use Rattle.uses.specs.AmongLaws.{among-behind, picks-left, picks-on, among-declared}
+use Rattle.uses.specs.Laws.AmongLaws.{among-behind, picks-left, picks-on, among-declared}
 use borrow.Author.Needs.{needs}
 use Rattle.uses.proofs.declared.gather.Statement.{statement}
 use Rattle.uses.proofs.declared.gather.Tie as tie

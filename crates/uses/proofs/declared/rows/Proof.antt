@@ -5,9 +5,9 @@ use mathlib.Core.Path.{ap, _∙_}
 use lib.ListN.{length}
 use lib.Seq.{sets}
 use Rattle.resolve.specs.Tables.{offsets}
-use Rattle.resolve.specs.TableLaws.{Lays, lays-start, lays-end, lays-kept}
+use Rattle.resolve.specs.Laws.TableLaws.{Lays, lays-start, lays-end, lays-kept}
 use Rattle.uses.specs.Among.{bytes-at}
-use Rattle.uses.specs.AmongLaws.{bytes-long, lays-byte, offsets-declared}
+use Rattle.uses.specs.Laws.AmongLaws.{bytes-long, lays-byte, offsets-declared}
 use borrow.Author.Needs.{needs}
 use Rattle.uses.proofs.declared.rows.Statement.{statement}
 use Rattle.uses.proofs.declared.rows.Tie as tie

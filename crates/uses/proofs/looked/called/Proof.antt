@@ -3,7 +3,7 @@ use mathlib.Core.Path.{ap, _∙_}
 use Rattle.resolve.specs.Named.{name-at}
 use Rattle.uses.specs.Lent.{book-in}
 use Rattle.uses.specs.Seeing.{seen-listed}
-use Rattle.uses.specs.SeeingLaws.{among-structs, among-steps}
+use Rattle.uses.specs.Laws.SeeingLaws.{among-structs, among-steps}
 use borrow.Author.Needs.{needs}
 use Rattle.uses.proofs.looked.called.Statement.{statement}
 use Rattle.uses.proofs.looked.called.Tie as tie

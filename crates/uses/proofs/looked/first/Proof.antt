@@ -3,7 +3,7 @@ use Prim.Native.Nat.{_-_, _<_}
 use mathlib.Core.Path.{sym, _∙_}
 use native.Mathlib.Omega.{arith}
 use Rattle.uses.specs.Lent.{structs-of-table}
-use Rattle.uses.specs.SeeingLaws.{first-none, first-own, first-alive}
+use Rattle.uses.specs.Laws.SeeingLaws.{first-none, first-own, first-alive}
 use borrow.Author.Needs.{needs}
 use Rattle.uses.proofs.looked.first.Statement.{statement}
 use Rattle.uses.proofs.looked.first.Tie as tie

@@ -1,7 +1,7 @@
 -- `looked::later` meets its contract.
 use Prim.Native.Nat.{_-_}
 use mathlib.Core.Path.{_∙_}
-use Rattle.uses.specs.SeeingLaws.{structs-long, later-basic, later-none, later-one}
+use Rattle.uses.specs.Laws.SeeingLaws.{structs-long, later-basic, later-none, later-one}
 use borrow.Author.Needs.{needs}
 use Rattle.uses.proofs.looked.later.Statement.{statement}
 use Rattle.uses.proofs.looked.later.Tie as tie

@@ -1,7 +1,7 @@
 -- `looked::listed` meets its contract.
 use Rattle.resolve.specs.Named.{name-at}
-use Rattle.uses.specs.PartLaws.{mapped-long}
-use Rattle.uses.specs.SeeingLaws.{listed-none, listed-one}
+use Rattle.uses.specs.Laws.PartLaws.{mapped-long}
+use Rattle.uses.specs.Laws.SeeingLaws.{listed-none, listed-one}
 use borrow.Author.Needs.{needs}
 use Rattle.uses.proofs.looked.listed.Statement.{statement}
 use Rattle.uses.proofs.looked.listed.Tie as tie

@@ -1,7 +1,9 @@
 -- `looked::local` meets its contract.
 use native.Mathlib.Omega.{arith}
 use Prim.Native.Nat.{_+_, _-_}
-use Rattle.uses.specs.SeeingLaws.{alive-none, alive-one}
+use Rattle.uses.specs.Laws.SeeingLaws.{alive-none, alive-one}
+use Rattle.types.specs.Limits.{max-locals}
+use Rattle.uses.specs.Layout.{living-end}
 use borrow.Author.Needs.{needs}
 use Rattle.uses.proofs.looked.local.Statement.{statement}
 use Rattle.uses.proofs.looked.local.Tie as tie
@@ -17,7 +19,7 @@ add-t16 c =
     let at-4 = c .before .before .before .before in
     omega (
       arith,
-      at-4 .before .before .pre .2 (16 - at-4 .before .before .args .n + c .before .before .lookup .result + 8)
+      at-4 .before .before .pre .2 (living-end - at-4 .before .before .args .n + c .before .before .lookup .result + max-locals)
           (omega (arith, at-4 .before .before .pre .1)) (omega (arith, at-4 .before .before .pre .1, c .before .if1 .left)),
     )
 
@@ -26,7 +28,7 @@ cast-t17 c =
     let at-4 = c .before .before .before .before in
     omega (
       arith,
-      at-4 .before .before .pre .2 (16 - at-4 .before .before .args .n + c .before .before .lookup .result + 8)
+      at-4 .before .before .pre .2 (living-end - at-4 .before .before .args .n + c .before .before .lookup .result + max-locals)
           (omega (arith, at-4 .before .before .pre .1)) (omega (arith, at-4 .before .before .pre .1, c .before .if1 .left)),
     )
 

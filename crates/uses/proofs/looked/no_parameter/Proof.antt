@@ -3,7 +3,7 @@ use Prim.Native.Nat.{_-_, _<_}
 use mathlib.Core.Path.{sym, _∙_}
 use native.Mathlib.Omega.{arith}
 use Rattle.uses.specs.Lent.{structs-of-table, book-in}
-use Rattle.uses.specs.SeeingLaws.{no-row, in-row, out-row}
+use Rattle.uses.specs.Laws.SeeingLaws.{no-row, in-row, out-row}
 use borrow.Author.Needs.{needs}
 use Rattle.uses.proofs.looked.no_parameter.Statement.{statement}
 use Rattle.uses.proofs.looked.no_parameter.Tie as tie

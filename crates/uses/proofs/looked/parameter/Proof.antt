@@ -1,5 +1,5 @@
 -- `looked::parameter` meets its contract.
-use Rattle.uses.specs.SeeingLaws.{parameter-none, parameter-one}
+use Rattle.uses.specs.Laws.SeeingLaws.{parameter-none, parameter-one}
 use borrow.Author.Needs.{needs}
 use Rattle.uses.proofs.looked.parameter.Statement.{statement}
 use Rattle.uses.proofs.looked.parameter.Tie as tie

@@ -1,5 +1,5 @@
 -- `looked::unused` meets its contract.
-use Rattle.uses.specs.SeeingLaws.{met-one, met-none}
+use Rattle.uses.specs.Laws.SeeingLaws.{met-one, met-none}
 use borrow.Author.Needs.{needs}
 use Rattle.uses.proofs.looked.unused.Statement.{statement}
 use Rattle.uses.proofs.looked.unused.Tie as tie

@@ -4,7 +4,7 @@ use mathlib.Core.Path.{ap, _∙_}
 use native.Mathlib.Omega.{arith}
 use Rattle.uses.specs.declared.Passed.the-variants.{On}
 use Rattle.uses.specs.Lent.{passed-in}
-use Rattle.uses.specs.StackLaws.{close-none, close-other, close-one, next-stop, next-dued}
+use Rattle.uses.specs.Laws.StackLaws.{close-none, close-other, close-one, next-stop, next-dued}
 use borrow.Author.Needs.{needs}
 use Rattle.uses.proofs.parts.close.Statement.{statement}
 use Rattle.uses.proofs.parts.close.Tie as tie

@@ -5,7 +5,7 @@ use native.Mathlib.Omega.{arith}
 use lib.ListN.{length, getD}
 use Rattle.uses.specs.declared.Passed.the-variants.{On}
 use Rattle.uses.specs.Lent.{passed-in}
-use Rattle.uses.specs.StackLaws.{shut-none, shut-less, shut-all, next-stop, next-lived}
+use Rattle.uses.specs.Laws.StackLaws.{shut-none, shut-less, shut-all, next-stop, next-lived}
 use borrow.Author.Needs.{needs}
 use Rattle.uses.proofs.parts.close_if.Statement.{statement}
 use Rattle.uses.proofs.parts.close_if.Tie as tie

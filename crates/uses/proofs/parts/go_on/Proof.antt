@@ -2,7 +2,7 @@
 use mathlib.Core.Path.{refl}
 use Prim.Native.Nat.{_-_}
 use lib.ListN.{getD, length-set}
-use Rattle.uses.specs.StackLaws.{go-none, go-zero, go-one, next-stop, next-same}
+use Rattle.uses.specs.Laws.StackLaws.{go-none, go-zero, go-one, next-stop, next-same}
 use borrow.Author.Needs.{needs}
 use Rattle.uses.proofs.parts.go_on.Statement.{statement}
 use Rattle.uses.proofs.parts.go_on.Tie as tie

@@ -5,7 +5,7 @@ use native.Mathlib.Omega.{arith}
 use lib.ListN.{length, set, length-set}
 use Rattle.uses.specs.declared.Passed.the-variants.{On}
 use Rattle.uses.specs.Lent.{passed-in}
-use Rattle.uses.specs.StackLaws.{opened, next-lived}
+use Rattle.uses.specs.Laws.StackLaws.{opened, next-lived}
 use borrow.Author.Needs.{needs}
 use Rattle.uses.proofs.parts.open_if.Statement.{statement}
 use Rattle.uses.proofs.parts.open_if.Tie as tie

@@ -3,8 +3,8 @@ use mathlib.Core.Path.{refl, ap, _∙_}
 use native.Mathlib.Omega.{arith}
 use Rattle.uses.specs.declared.Passed.the-variants.{On}
 use Rattle.uses.specs.Lent.{use-in, passed-in}
-use Rattle.uses.specs.StackLaws.{next-same, next-lived}
-use Rattle.uses.specs.BracketLaws.{part-66, part-67, part-75, part-76, part-77, part-79, part-quiet, body-shut}
+use Rattle.uses.specs.Laws.StackLaws.{next-same, next-lived}
+use Rattle.uses.specs.Laws.BracketLaws.{part-args, part-no-args, part-body, part-if, part-end-if, part-comma, part-quiet, body-shut}
 use borrow.Author.Needs.{needs}
 use Rattle.uses.proofs.parts.part_role.Statement.{statement}
 use Rattle.uses.proofs.parts.part_role.Tie as tie
@@ -12,14 +12,14 @@ use Rattle.uses.proofs.parts.part_role.Tie as tie
 returns : tie.Need-returns
 returns c =
     let a = c .before .before .before .before .args in (
-      λ x t l o r. c .close .ensures .0 x l o ∙ part-66 (a .role) (use-in x l (a .stack .now) (a .c) o) (c .before .before .match .keys1),
+      λ x t l o r. c .close .ensures .0 x l o ∙ part-args (a .role) (use-in x l (a .stack .now) (a .c) o) (c .before .before .match .keys1),
       (c .close .ensures .1, refl),
     )
 
 returns-2 : tie.Need-returns-2
 returns-2 c =
     let a = c .before .before .before .before .args in (
-      λ x t l o r. c .close2 .ensures .0 x l o ∙ part-67 (a .role) (use-in x l (a .stack .now) (a .c) o) (c .before .before .match .keys2),
+      λ x t l o r. c .close2 .ensures .0 x l o ∙ part-no-args (a .role) (use-in x l (a .stack .now) (a .c) o) (c .before .before .match .keys2),
       (c .close2 .ensures .1, refl),
     )
 
@@ -29,7 +29,7 @@ returns-3 c =
     let k = a .stack .now in
     let s = a .c in (
       λ x t l o r. ap (λ d. passed-in x l k (On d) o) (c .lived .ensures) ∙ body-shut x l k o s
-          ∙ part-75 (a .role) (use-in x l k s o) (c .before .match .keys3),
+          ∙ part-body (a .role) (use-in x l k s o) (c .before .match .keys3),
       (λ t l r. rw (c .lived .ensures) (next-lived t l s r 0 0 0 (omega arith) (omega arith) (omega arith) (omega arith)), refl),
     )
 
@@ -37,14 +37,14 @@ returns-4 : tie.Need-returns-4
 returns-4 c =
     let at-4 = c .before .before .before .before in
     let a = at-4 .before .before .args in (
-      λ x t l o r. c .before .before .open-if .ensures .0 x t l o r ∙ part-76 (a .role) (use-in x l (a .stack .now) (a .c) o) (at-4 .match .keys4),
+      λ x t l o r. c .before .before .open-if .ensures .0 x t l o r ∙ part-if (a .role) (use-in x l (a .stack .now) (a .c) o) (at-4 .match .keys4),
       c .before .before .open-if .ensures .1,
     )
 
 returns-5 : tie.Need-returns-5
 returns-5 c =
     let a = c .before .before .before .before .args in (
-      λ x t l o r. c .close-if .ensures .0 x t l o r ∙ part-77 (a .role) (use-in x l (a .stack .now) (a .c) o) (c .before .before .match .keys5),
+      λ x t l o r. c .close-if .ensures .0 x t l o r ∙ part-end-if (a .role) (use-in x l (a .stack .now) (a .c) o) (c .before .before .match .keys5),
       (c .close-if .ensures .1, refl),
     )
 
@@ -52,7 +52,7 @@ returns-6 : tie.Need-returns-6
 returns-6 c =
     let at-4 = c .before .before .before .before in
     let a = at-4 .before .before .args in (
-      λ x t l o r. c .before .before .go-on .ensures .0 x l o ∙ part-79 (a .role) (use-in x l (a .stack .now) (a .c) o) (at-4 .match .keys6),
+      λ x t l o r. c .before .before .go-on .ensures .0 x l o ∙ part-comma (a .role) (use-in x l (a .stack .now) (a .c) o) (at-4 .match .keys6),
       c .before .before .go-on .ensures .1,
     )
 

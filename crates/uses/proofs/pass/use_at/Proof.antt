@@ -3,8 +3,8 @@ use mathlib.Core.Path.{refl, _∙_}
 use native.Mathlib.Omega.{arith}
 use lib.ListN.{drop}
 use Rattle.uses.specs.Lent.{book-in, use-in, passed-in}
-use Rattle.uses.specs.StackLaws.{next-same}
-use Rattle.uses.specs.LoopLaws.{place-kind, place-name, place-type, place-part}
+use Rattle.uses.specs.Laws.StackLaws.{next-same}
+use Rattle.uses.specs.Laws.LoopLaws.{place-kind, place-name, place-type, place-part}
 use borrow.Author.Needs.{needs}
 use Rattle.uses.proofs.pass.use_at.Statement.{statement}
 use Rattle.uses.proofs.pass.use_at.Tie as tie

@@ -8,8 +8,8 @@ use borrow.Author.Needs.{needs}
 use Rattle.lexer.specs.Gaps.{Token}
 use Rattle.uses.specs.Lent.{Counted}
 use Rattle.uses.specs.Stopping.{stop-in}
-use Rattle.uses.specs.LoopLaws.{Reached, reached-start, reached-end, stopped-end}
-use Rattle.uses.specs.GapLaws.{reached-gap, token-here, token-stop, token-on, token-left}
+use Rattle.uses.specs.Laws.LoopLaws.{Reached, reached-start, reached-end, stopped-end}
+use Rattle.uses.specs.Laws.GapLaws.{reached-gap, token-here, token-stop, token-on, token-left}
 use Rattle.uses.proofs.pass.uses.Statement.{statement}
 use Rattle.uses.proofs.pass.uses.Tie as tie
 

@@ -1,6 +1,6 @@
 -- `passing::begin` meets its contract.
-use Rattle.uses.specs.StackLaws.{next-stop}
-use Rattle.uses.specs.NameLaws.{begin-none, begin-one, next-begun}
+use Rattle.uses.specs.Laws.StackLaws.{next-stop}
+use Rattle.uses.specs.Laws.NameLaws.{begin-none, begin-one, next-begun}
 use borrow.Author.Needs.{needs}
 use Rattle.uses.proofs.passing.begin.Statement.{statement}
 use Rattle.uses.proofs.passing.begin.Tie as tie

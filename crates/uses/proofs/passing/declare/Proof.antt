@@ -6,8 +6,8 @@ use borrow.Author.Tests.{not-true, not-false}
 use native.Mathlib.Omega.{arith}
 use Rattle.uses.specs.declared.Passed.the-variants.{Left}
 use Rattle.uses.specs.Lent.{passed-in}
-use Rattle.uses.specs.StackLaws.{next-stop}
-use Rattle.uses.specs.NameLaws.{declaring, declare-not, declare-full, declare-one, next-declared, long-stored}
+use Rattle.uses.specs.Laws.StackLaws.{next-stop}
+use Rattle.uses.specs.Laws.NameLaws.{declaring, declare-not, declare-full, declare-one, next-declared, long-stored}
 use borrow.Author.Needs.{needs}
 use Rattle.uses.proofs.passing.declare.Statement.{statement}
 use Rattle.uses.proofs.passing.declare.Tie as tie

@@ -5,8 +5,8 @@ use lib.ListN.{length-set}
 use Prim.Native.Nat.{_-_}
 use Rattle.resolve.specs.Named.{name-at}
 use Rattle.uses.specs.Lent.{row-start, row-end}
-use Rattle.uses.specs.StackLaws.{next-stop}
-use Rattle.uses.specs.NameLaws.{made-none, made-one, next-made}
+use Rattle.uses.specs.Laws.StackLaws.{next-stop}
+use Rattle.uses.specs.Laws.NameLaws.{made-none, made-one, next-made}
 use Rattle.uses.specs.Seeing.{dued}
 use borrow.Author.Needs.{needs}
 use Rattle.uses.proofs.passing.made.Statement.{statement}

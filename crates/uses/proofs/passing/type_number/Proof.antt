@@ -1,5 +1,5 @@
 -- `passing::type_number` meets its contract.
-use Rattle.uses.specs.TypeLaws.{number-local, number-null}
+use Rattle.uses.specs.Laws.TypeLaws.{number-local, number-null}
 use borrow.Author.Needs.{needs}
 use Rattle.uses.proofs.passing.type_number.Statement.{statement}
 use Rattle.uses.proofs.passing.type_number.Tie as tie

@@ -4,9 +4,9 @@ use Rattle.resolve.specs.Checks.{type-here}
 use Rattle.resolve.specs.UsingAt.{number-at}
 use Rattle.uses.specs.declared.Seen.the-variants.{Of}
 use Rattle.uses.specs.Lent.{book-in, use-in, passed-in}
-use Rattle.uses.specs.StackLaws.{next-stop, next-same}
-use Rattle.uses.specs.ChangeLaws.{next-seen}
-use Rattle.uses.specs.TypeLaws.{type-par, type-none, type-one}
+use Rattle.uses.specs.Laws.StackLaws.{next-stop, next-same}
+use Rattle.uses.specs.Laws.ChangeLaws.{next-seen}
+use Rattle.uses.specs.Laws.TypeLaws.{type-par, type-none, type-one}
 use borrow.Author.Needs.{needs}
 use Rattle.uses.proofs.passing.type_role.Statement.{statement}
 use Rattle.uses.proofs.passing.type_role.Tie as tie

@@ -1,7 +1,7 @@
 -- `passing::used_name` meets its contract: one law for each group of roles.
 use mathlib.Core.Path.{refl, _∙_}
 use Rattle.resolve.specs.Named.{name-at}
-use Rattle.uses.specs.ChangeLaws.{next-seen, name-first, name-later, name-made, name-called}
+use Rattle.uses.specs.Laws.ChangeLaws.{next-seen, name-first, name-later, name-made, name-called}
 use borrow.Author.Needs.{needs}
 use Rattle.uses.proofs.passing.used_name.Statement.{statement}
 use Rattle.uses.proofs.passing.used_name.Tie as tie

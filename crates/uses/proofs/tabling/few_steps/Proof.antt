@@ -2,8 +2,8 @@
 use mathlib.Core.Path.{refl, ap, _∙_}
 use native.Mathlib.Omega.{arith}
 use Rattle.resolve.specs.Checks.{narrow}
-use Rattle.resolve.specs.FirstLaws.{take-long}
-use Rattle.uses.specs.TablingLaws.{steps-narrowed}
+use Rattle.resolve.specs.Laws.FirstLaws.{take-long}
+use Rattle.uses.specs.Laws.TablingLaws.{steps-narrowed}
 use borrow.Author.Needs.{needs}
 use Rattle.uses.proofs.tabling.few_steps.Statement.{statement}
 use Rattle.uses.proofs.tabling.few_steps.Tie as tie

@@ -2,9 +2,9 @@
 use mathlib.Core.Path.{refl}
 use mathlib.Core.Bool.{false≢true}
 use native.Mathlib.Omega.{arith}
-use Rattle.resolve.specs.FirstLaws.{take-long}
-use Rattle.uses.specs.TablingLaws.{front-held}
-use Rattle.uses.specs.TabledLaws.{fill-many}
+use Rattle.resolve.specs.Laws.FirstLaws.{take-long}
+use Rattle.uses.specs.Laws.TablingLaws.{front-held}
+use Rattle.uses.specs.Laws.TabledLaws.{fill-many}
 use borrow.Author.Needs.{needs}
 use Rattle.uses.proofs.tabling.fill.Statement.{statement}
 use Rattle.uses.proofs.tabling.fill.Tie as tie

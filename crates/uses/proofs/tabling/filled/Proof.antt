@@ -2,7 +2,7 @@
 use mathlib.Core.Path.{_∙_}
 use mathlib.Core.Bool.{false≢true}
 use borrow.Author.Tests.{not-true, not-false}
-use Rattle.uses.specs.TabledLaws.{fill-not, fill-known, few-tested, typed-long, fill-tabled}
+use Rattle.uses.specs.Laws.TabledLaws.{fill-not, fill-known, few-tested, typed-long, fill-tabled}
 use borrow.Author.Needs.{needs}
 use Rattle.uses.proofs.tabling.filled.Statement.{statement}
 use Rattle.uses.proofs.tabling.filled.Tie as tie

@@ -1,7 +1,9 @@
 -- `tabling::lay` meets its contract: each part of the table is lent, filled and back before the next.
 use native.Mathlib.Omega.{arith}
-use Rattle.uses.specs.AmongLaws.{one-declares}
-use Rattle.uses.specs.LayingLaws.{room-counted, laid-long, laid-all}
+use Rattle.uses.specs.Laws.AmongLaws.{one-declares}
+use Rattle.uses.specs.Laws.LayingLaws.{room-counted, laid-long, laid-all}
+use Rattle.text_shape.specs.RoleNames.{new-struct-role, new-par-role}
+use Rattle.types.specs.Limits.{step-names}
 use borrow.Author.Needs.{needs}
 use Rattle.uses.proofs.tabling.lay.Statement.{statement}
 use Rattle.uses.proofs.tabling.lay.Tie as tie
@@ -20,10 +22,10 @@ abbrev start : tie.After-gather2 → tie.Start
 start c = let known = lent c .before in known .before .before .before .before
 
 gather-requires : tie.Need-gather-requires
-gather-requires c κs = (search needs, one-declares 39 (omega arith) (omega arith))
+gather-requires c κs = (search needs, one-declares new-struct-role (omega arith) (omega arith))
 
 gather-requires-2 : tie.Need-gather-requires-2
-gather-requires-2 c κs = (search needs, one-declares 40 (omega arith) (omega arith))
+gather-requires-2 c κs = (search needs, one-declares new-par-role (omega arith) (omega arith))
 
 slice-write-table-2 : tie.Need-slice-write-table-2
 slice-write-table-2 c =

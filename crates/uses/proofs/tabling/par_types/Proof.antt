@@ -1,9 +1,10 @@
 -- `tabling::par_types` meets its contract: places gathered in tables that have room for them.
 use mathlib.Core.Path.{refl}
 use native.Mathlib.Omega.{arith}
-use Rattle.resolve.specs.FirstLaws.{take-long}
-use Rattle.uses.specs.AmongLaws.{one-declares, types-declare}
-use Rattle.uses.specs.TablingLaws.{structs-few, types-tested, types-stored}
+use Rattle.resolve.specs.Laws.FirstLaws.{take-long}
+use Rattle.uses.specs.Laws.AmongLaws.{one-declares, types-declare}
+use Rattle.uses.specs.Laws.TablingLaws.{structs-few, types-tested, types-stored}
+use Rattle.text_shape.specs.RoleNames.{new-struct-role}
 use borrow.Author.Needs.{needs}
 use Rattle.uses.proofs.tabling.par_types.Statement.{statement}
 use Rattle.uses.proofs.tabling.par_types.Tie as tie
@@ -19,7 +20,7 @@ abbrev start : tie.After-gather → tie.Start
 start c = let known = lent c .before in known .before .before .before .before
 
 gather-requires : tie.Need-gather-requires
-gather-requires c κs = (search needs, one-declares 39 (omega arith) (omega arith))
+gather-requires c κs = (search needs, one-declares new-struct-role (omega arith) (omega arith))
 
 gather-requires-2 : tie.Need-gather-requires-2
 gather-requires-2 c κs = (search needs, types-declare)

@@ -1,14 +1,16 @@
 -- `tabling::step_names` meets its contract: one law for each way.
 use native.Mathlib.Omega.{arith}
-use Rattle.resolve.specs.FirstLaws.{take-long}
-use Rattle.uses.specs.AmongLaws.{one-declares}
-use Rattle.uses.specs.TablingLaws.{gathered-not, gathered-all}
+use Rattle.resolve.specs.Laws.FirstLaws.{take-long}
+use Rattle.uses.specs.Laws.AmongLaws.{one-declares}
+use Rattle.uses.specs.Laws.TablingLaws.{gathered-not, gathered-all}
+use Rattle.text_shape.specs.RoleNames.{new-step-role}
+use Rattle.types.specs.Limits.{step-names}
 use borrow.Author.Needs.{needs}
 use Rattle.uses.proofs.tabling.step_names.Statement.{statement}
 use Rattle.uses.proofs.tabling.step_names.Tie as tie
 
 gather-requires : tie.Need-gather-requires
-gather-requires c κs = (search needs, one-declares 41 (omega arith) (omega arith))
+gather-requires c κs = (search needs, one-declares new-step-role (omega arith) (omega arith))
 
 returns : tie.Need-returns
 returns c = gathered-not _ _ _ (c .before .before .gather .ensures .0) (c .if1 .taken)

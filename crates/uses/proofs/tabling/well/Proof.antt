@@ -1,8 +1,8 @@
 -- `tabling::well` meets its contract: one law for each test that fails, and one for the last.
 use native.Mathlib.Omega.{arith}
 use borrow.Author.Tests.{not-true, not-false}
-use Rattle.resolve.specs.FirstLaws.{take-long}
-use Rattle.uses.specs.TablingLaws.{well-many, well-same, well-wide, well-rowless, well-long, well-named}
+use Rattle.resolve.specs.Laws.FirstLaws.{take-long}
+use Rattle.uses.specs.Laws.TablingLaws.{well-many, well-same, well-wide, well-rowless, well-long, well-named}
 use borrow.Author.Needs.{needs}
 use Rattle.uses.proofs.tabling.well.Statement.{statement}
 use Rattle.uses.proofs.tabling.well.Tie as tie

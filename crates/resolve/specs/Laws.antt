@@ -1,0 +1,24 @@
+-- Laws about names and literals of program text: tables, passes over roles and places, and the numbers that they leave (02 §1).
+pub mod NamedLaws
+pub mod DigitLaws
+pub mod TableLaws
+pub mod QuietLaws
+pub mod DeclaresLaws
+pub mod RowLaws
+pub mod CheckLaws
+pub mod FirstLaws
+pub mod PassingLaws
+pub mod PassingStatLaws
+pub mod PassingTextLaws
+pub mod UsesLaws
+pub mod StandingLaws
+pub mod PlacesLaws
+pub mod DeclarationLaws
+pub mod OnceLaws
+pub mod WellDeclaredLaws
+pub mod SoughtLaws
+pub mod UsingLaws
+pub mod UsingNameLaws
+pub mod UsingTextLaws
+pub mod UsingAtLaws
+pub mod ResolvedLaws
