@@ -9,15 +9,48 @@ class Body(Values):
     def __init__(self, name, functions, shapes):
         super().__init__([local["ty"] for local in functions[name]["locals"]], shapes)
         self.name, self.functions, self.function = name, functions, functions[name]
-        self.tables, self.lines, self.loops = [], [], 0
+        self.tables, self.lines, self.loops, self.constants = [], [], 0, {}
         self.read = set(range(len(self.locals)))
         while self.reads() != self.read:
             self.read = self.reads()
+        self.constants = {i: self.constant(i) for i in sorted(self.unchanging())}
+
+    def unchanging(self):
+        """The arrays that are constants: assigned once, from numbers alone, and lent to shared references alone. They need no place on the stack."""
+        assigned, lent, out = {}, set(), set()
+        for s in self.function["body"]:
+            word = next(iter(s)) if isinstance(s, dict) else None
+            if word in ("Assign", "Call"):
+                target = s[word][0 if word == "Assign" else 2]
+                assigned.setdefault(target["local"], []).append(s)
+                if word == "Assign" and "AddrOf" in s[word][1] and not self.shared(target):
+                    lent.add(s[word][1]["AddrOf"]["local"])
+        for i in range(self.function["params"] + 1, len(self.locals)):
+            made = assigned.get(i, [])
+            if i not in lent and len(made) == 1 and isinstance(self.locals[i], dict) and "Array" in self.locals[i] and made[0].get("Assign"):
+                target, value = made[0]["Assign"]
+                if not target["steps"] and "Aggregate" in value and all("Int" in o for o in value["Aggregate"] if isinstance(o, dict)):
+                    out.add(i)
+        return out & self.read
+
+    def shared(self, target):
+        """Whether a place that is assigned holds shared references."""
+        t = self.locals[target["local"]]
+        return not target["steps"] and isinstance(t, dict) and "Ref" in t and t["Ref"][1] == "Imm"
+
+    def constant(self, i):
+        """The name of a constant array, which is written before the function."""
+        made = next(s["Assign"][1]["Aggregate"] for s in self.function["body"] if isinstance(s, dict) and "Assign" in s and s["Assign"][0]["local"] == i)
+        texts, c = [self.operand(o)[0] for o in made], self.shapes.c(self.locals[i])
+        self.same(len(texts), self.locals[i]["Array"][1].get("Lit"), "elements")
+        name = f"{c_name(self.name)}__l{i}"
+        self.tables.append(f"static const {c} {name} = {{ {{ {', '.join(texts)} }} }};")
+        return name
 
     def kept(self, target):
         """Whether an assignment to this place is written: not to a local that nothing reads, nor to one that holds nothing."""
         i = target["local"]
-        return not self.unit(i) and (i == 0 or i in self.read)
+        return not self.unit(i) and (i == 0 or i in self.read) and i not in self.constants
 
     def reads(self):
         """The locals that are read by what is written: in operands and addresses, and where a place that is assigned goes through one."""
@@ -61,7 +94,8 @@ class Body(Values):
         c, word = self.shapes.c(t), one(t, "aggregate")[0]
         given = [self.operand(o) for o in parts]
         if word == "Array":
-            self.array(target, c, t["Array"], parts, [text for text, _ in given])
+            self.same(len(given), t["Array"][1].get("Lit"), "elements")
+            self.lines.append(f"{target} = ({c}){{ {{ {', '.join(text for text, _ in given)} }} }};")
             return
         names, types = self.members(t, parts)
         self.same([g for _, g in given], types, "aggregate")
@@ -82,17 +116,6 @@ class Body(Values):
         k = one(parts[0], "tag")[1]["value"]
         places = self.shapes.slots(of["name"])[1][k]
         return ["tag"] + [f"s{j}" for j in places], ["uint8_t"] + [self.shapes.c(f) for f in held[k]]
-
-    def array(self, target, c, of, parts, texts):
-        """An array; one of numbers known beforehand is a constant, copied from there."""
-        self.same(len(texts), of[1]["Lit"], "elements")
-        inside = ", ".join(texts)
-        if len(texts) > 4 and all(not isinstance(o, dict) or "Int" in o for o in parts):
-            table = f"{c_name(self.name)}__table{len(self.tables)}"
-            self.tables.append(f"static const {c} {table} = {{ {{ {inside} }} }};")
-            self.lines.append(f"{target} = {table};")
-        else:
-            self.lines.append(f"{target} = ({c}){{ {{ {inside} }} }};")
 
     def repeat(self, target, t, of):
         """One value in every place of an array."""
@@ -211,7 +234,7 @@ class Body(Values):
         if next(walk, None) is not None:
             raise Unknown("more behind the body")
         own = [i for i in range(len(self.locals)) if (i == 0 or i > self.function["params"]) and not self.unit(i)]
-        held = [f"{self.shapes.c(self.locals[i])} l{i};".replace("* ", "*") for i in own if i == 0 or i in self.read]
+        held = [f"{self.shapes.c(self.locals[i])} l{i};".replace("* ", "*") for i in own if i == 0 or i in self.read and i not in self.constants]
         unread = [f"(void)l{i};" for i in range(1, self.function["params"] + 1) if i not in self.read]
         return self.tables + [self.signature(), "{"] + indented(held + unread + self.lines) + ["}"]
 

@@ -65,7 +65,7 @@ class Values:
     """What the locals of a function make of places and values."""
 
     def __init__(self, locals_, shapes):
-        self.locals, self.shapes = locals_, shapes
+        self.locals, self.shapes, self.constants = locals_, shapes, {}
 
     def same(self, a, b, where):
         if a != b:
@@ -74,7 +74,7 @@ class Values:
     # Places and operands: their C text and their type
 
     def place(self, p):
-        text, t, variant = f"l{p['local']}", self.locals[p["local"]], None
+        text, t, variant = self.constants.get(p["local"], f"l{p['local']}"), self.locals[p["local"]], None
         for step in p["steps"]:
             word, of = one(step, "step")
             if word == "Variant" and variant is None:
