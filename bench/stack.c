@@ -6,11 +6,12 @@
 #include <string.h>
 #include <ucontext.h>
 
-enum { STACK = 1 << 19, PAINT = 0xA5, STREAM = 32256, IMAGE = 32768, TABLE = 8704, TEXT = 65536, ENTRIES = 5 };
+enum { STACK = 1 << 19, PAINT = 0xA5, STREAM = 32256, IMAGE = 32768, TABLE = 8704, TEXT = 65536, ENTRIES = 6 };
 
 static uint8_t stack[STACK], image[IMAGE + 1], table[TABLE + 1], output[AUDALA_OUTPUT_BYTES], stream[STREAM], buffer[IMAGE];
 static uint8_t turns[AUDALA_MOST_TURNS + 1];
 static char text[TEXT + 2];
+static uint8_t lines[AUDALA_LISTING_BYTES];
 static uint64_t list[AUDALA_LIST_PLACES];
 static size_t image_length, table_length, turn_count, used, text_length, worst_text;
 static ucontext_t caller, callee;
@@ -24,6 +25,7 @@ static void run(void) {
 }
 static void read_image(void) { number = audala_read_image(image, image_length, AUDALA_PROGRAM_MOST, buffer, sizeof buffer).number; }
 static void write_image(void) { number = audala_write_image(stream, used, AUDALA_PROGRAM_MOST, buffer, sizeof buffer).number; }
+static void listing(void) { number = audala_listing(image, image_length, lines, sizeof lines).number; }
 static void read_text(void) { number = audala_text((const uint8_t *)text, text_length, buffer, sizeof buffer).number; }
 static void nothing(void) {}
 
@@ -147,7 +149,7 @@ static size_t bytes[ENTRIES];
 static uint32_t numbers[ENTRIES];
 
 static void measure(void) {
-    static void (*const entries[ENTRIES])(void) = {check, step, run, read_image, write_image};
+    static void (*const entries[ENTRIES])(void) = {check, step, run, read_image, write_image, listing};
     size_t base = touched(nothing);
     for (int i = 0; i < ENTRIES; i++) {
         bytes[i] = touched(entries[i]) - base;
@@ -236,7 +238,7 @@ int main(void) {
     table_length = seal(table, records, sizeof records), table[9] = 7, row("table damaged");
     table_length = seal(table, pairs, sizeof pairs), every();
     texts();
-    printf("most bytes of stack: check %zu, step %zu, run %zu, an image read %zu, written %zu, a text read %zu\n", worst[0], worst[1], worst[2], worst[3],
-           worst[4], worst_text);
+    printf("most bytes of stack: check %zu, step %zu, run %zu, an image read %zu, written %zu, a listing %zu, a text read %zu\n", worst[0], worst[1], worst[2],
+           worst[3], worst[4], worst[5], worst_text);
     return 0;
 }

@@ -4,12 +4,12 @@
 
 static void print(const uint64_t *list, uint32_t count) {
     for (uint32_t i = 0; i < count; i++) {
-        printf("kind %u operand %u\n", (unsigned)(list[i] & 255), (unsigned)(list[i] >> 32));
+        printf("kind %u operand %u\n", audala_kind_of(list[i]), audala_operand_of(list[i]));
     }
 }
 
 int main(void) {
-    static uint8_t image[32769];
+    static uint8_t image[AUDALA_PROGRAM_BYTES + 1];
     static uint64_t list[AUDALA_LIST_PLACES];
     size_t length = fread(image, 1, sizeof image, stdin);
     audala_verdict v = audala_check(image, length, list, AUDALA_LIST_PLACES);

@@ -3,36 +3,24 @@
 #include "audala.h"
 #include <stdio.h>
 
-/* One block around a stream of at most 504 bytes, which stand at its byte 4 already. */
-static void seal(uint8_t *block, uint16_t used) {
-    uint16_t a = 0, b = 0;
-    block[2] = used & 255;
-    block[3] = used >> 8;
-    for (int i = 0; i < 508; i++) {
-        a += block[i];
-        b += a;
-    }
-    block[508] = a & 255;
-    block[509] = a >> 8;
-    block[510] = b & 255;
-    block[511] = b >> 8;
-}
-
 int main(void) {
-    static uint8_t image[32769], output[8704], table[512] = {
-        0, 0, 0, 0, 2, 0, /* index and used bytes; two records */
-        0, 5, 0, 0, 0, 2, 0, 0, 0, /* struct 0: load 5, prev label 2 */
-        0, 7, 0, 0, 0, 1, 0, 0, 0, /* struct 0: load 7, prev label 1 */
-    };
+    static uint8_t image[AUDALA_PROGRAM_BYTES + 1], table[AUDALA_TABLE_BYTES], output[AUDALA_OUTPUT_BYTES], stream[AUDALA_TABLE_STREAM];
     static const uint8_t turns[24];
     static uint64_t list[AUDALA_LIST_PLACES];
+    const uint32_t first[] = {5, 2}, second[] = {7, 1};
     size_t length = fread(image, 1, sizeof image, stdin);
-    seal(table, 20);
-    audala_report r = audala_run(image, length, table, sizeof table, turns, sizeof turns, output, sizeof output, list,
-                                 AUDALA_LIST_PLACES);
+    audala_put_count(stream, 2);
+    size_t at = audala_put_record(stream, sizeof stream, AUDALA_FIRST_RECORD, 0, first, 2);
+    at = audala_put_record(stream, sizeof stream, at, 0, second, 2);
+    audala_copied w = audala_write_image(stream, at, AUDALA_TABLE_MOST, table, sizeof table);
+    audala_report r = audala_run(image, length, table, AUDALA_BLOCK_BYTES * w.count, turns, sizeof turns, output, sizeof output, list, AUDALA_LIST_PLACES);
     printf("number %u, %u turns, %u blocks, depth %u, %u hold commands\n", r.number, r.turns, r.blocks, r.depth, r.holding);
-    if (r.blocks > 0) {
-        printf("loads %u and %u\n", output[7], output[16]);
+    audala_copied s = audala_read_image(output, AUDALA_BLOCK_BYTES * (size_t)r.blocks, AUDALA_TABLE_MOST, stream, sizeof stream);
+    if (s.number == 0) {
+        uint32_t one[2], two[2];
+        at = audala_get_record(stream, s.count, AUDALA_FIRST_RECORD, one, 2);
+        audala_get_record(stream, s.count, at, two, 2);
+        printf("loads %ld and %ld\n", (long)audala_to_int(one[0]), (long)audala_to_int(two[0]));
     }
     return 0;
 }

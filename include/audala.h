@@ -1,15 +1,13 @@
-/* The AuDaLa checker, engine and reader of program text for C. Link with libaudala.a (rt staticlib audala), which is built for x86-64 under the System V
- * calling convention by today's toolchain.
+/* The AuDaLa checker, engine and reader of program text for C and C++. Compile dist/audala.c beside it with any C99 compiler, or link with libaudala.a
+ * (rt staticlib audala), which is built for x86-64 under the System V calling convention by today's toolchain. include/audala.rs is the same for Rust.
  *
  * What the functions answer, and every byte that they write, is fixed by their proved contracts; formats and numbers are set out in
- * docs/FORMAT.md. What a caller has to keep, and what no contract speaks of:
+ * docs/FORMAT.md, what a controller needs in docs/CONTROLLER.md. What a caller has to keep, and what no contract speaks of:
  *   overlap    a list or output that is written overlaps nothing else that is handed to the call; read buffers may overlap each other;
- *   alignment  a list is aligned to 8 bytes, as a uint64_t array is; byte buffers may stand anywhere;
+ *   alignment  a list is aligned as a uint64_t array is; byte buffers may stand anywhere;
  *   null       a null pointer may stand for an empty buffer, with length 0;
  *   threads    the library has no data of its own: calls may go on at the same time, each with buffers of its own;
- *   stack      a check or a step takes at most 48 KB, a run at most 112 KB, reading and writing images less than 1 KB, reading program text at most 232 KB:
- *              measured with this compiler on images and texts that nest as deep as they can (bench/stack.sh). Of images levels of nesting bound it, not
- *              lengths; of a text neither does, and no input takes more. */
+ *   stack      see AUDALA_CHECK_STACK and the macros after it. Levels of nesting bound it, not lengths, and no input takes more. */
 #ifndef AUDALA_H
 #define AUDALA_H
 
@@ -19,6 +17,9 @@
 #ifdef __cplusplus
 extern "C" {
 #endif
+
+/* The version of this header and of what it declares. */
+#define AUDALA_VERSION "0.1.0"
 
 /* The numbers that the functions answer. 1 to 17 are from the input: nothing is written. 33 to 35 are from the state: the run
  * stopped, and its table up to there is written. Where several hold the lowest is answered; of 2 and 3, of 4 and 5, and of 11 and
@@ -42,17 +43,187 @@ typedef enum {
     AUDALA_TEXT_TOKEN = 15,      /* program text over 65,536 bytes, an unclosed comment, or characters that are no token */
     AUDALA_TEXT_GRAMMAR = 16,    /* program text that the grammar does not derive */
     AUDALA_TEXT_NAME = 17,       /* program text with a name, a literal, arguments or a count that no program stream has */
-    AUDALA_OUT_OF_TURNS = 33,    /* the turn bytes are used up while commands remain: hand in more */
+    AUDALA_OUT_OF_TURNS = 33,    /* the turn bytes are used up while commands remain: run again from the first table with all these turns and more after them */
     AUDALA_TABLE_FULL = 34,      /* an instance was to be made and there are 256 */
     AUDALA_ARITHMETIC = 35       /* a result outside its type, or a division by zero */
 } audala_number;
 
+/* A number in words, for a display or a log; "an unknown number" for one that no function answers. */
+static inline const char *audala_message(uint32_t number) {
+    switch (number) {
+    case AUDALA_DONE: return "done";
+    case AUDALA_PROGRAM_SIZE: return "the program image is empty, too long or no multiple of 512 bytes";
+    case AUDALA_PROGRAM_SUMS: return "a sum of a program block is wrong";
+    case AUDALA_PROGRAM_BLOCKS: return "a program block has a wrong index, used count or unused byte";
+    case AUDALA_PROGRAM_END: return "the program stream ends too early or too late";
+    case AUDALA_PROGRAM_BYTE: return "a byte of the program stream is not allowed at its place";
+    case AUDALA_PROGRAM_LIMIT: return "the program has too many commands or schedule items, or too deep a stack";
+    case AUDALA_PROGRAM_NAME: return "a name of the program is not declared, declared twice or not alive";
+    case AUDALA_PROGRAM_TYPE: return "an expression of the program has the wrong type";
+    case AUDALA_TABLE_SIZE: return "the table image is empty, too long or no multiple of 512 bytes";
+    case AUDALA_TABLE_BLOCKS: return "a table block has a wrong sum, index, used count or unused byte";
+    case AUDALA_TABLE_END: return "the table stream ends too early or too late";
+    case AUDALA_TABLE_RECORD: return "a record has a wrong struct, value or reference, or there are too many";
+    case AUDALA_NO_ROOM: return "the list or the output is too short";
+    case AUDALA_TOO_MANY_TURNS: return "there are more than 65536 turn bytes";
+    case AUDALA_TEXT_TOKEN: return "the text is too long, has an unclosed comment or characters that are no token";
+    case AUDALA_TEXT_GRAMMAR: return "the grammar does not derive the text";
+    case AUDALA_TEXT_NAME: return "a name, a literal, arguments or a count of the text is wrong";
+    case AUDALA_OUT_OF_TURNS: return "the turn bytes are used up while commands remain";
+    case AUDALA_TABLE_FULL: return "an instance was to be made and there are 256";
+    case AUDALA_ARITHMETIC: return "a result lies outside its type, or a divisor is zero";
+    default: return "an unknown number";
+    }
+}
+
+/* Sizes and limits ------------------------------------------------------------------------------------------------------------------------------------- */
+
+/* A block of an image, and the bytes of the stream that it holds. */
+#define AUDALA_BLOCK_BYTES 512
+#define AUDALA_PAYLOAD_BYTES 504
+
+/* Blocks that an image has at most, of a program and of a table; their bytes, and those of their streams. */
+#define AUDALA_PROGRAM_MOST 64
+#define AUDALA_TABLE_MOST 17
+#define AUDALA_PROGRAM_BYTES (AUDALA_PROGRAM_MOST * AUDALA_BLOCK_BYTES)
+#define AUDALA_TABLE_BYTES (AUDALA_TABLE_MOST * AUDALA_BLOCK_BYTES)
+#define AUDALA_PROGRAM_STREAM (AUDALA_PROGRAM_MOST * AUDALA_PAYLOAD_BYTES)
+#define AUDALA_TABLE_STREAM (AUDALA_TABLE_MOST * AUDALA_PAYLOAD_BYTES)
+
 /* Places of the command list that a check or a run asks for, else 13. */
 #define AUDALA_LIST_PLACES 1024
 
-/* Bytes of the output that a run asks for, else 13; turn bytes that it takes at most, else 14. */
-#define AUDALA_OUTPUT_BYTES 8704
+/* Bytes of the output that a run asks for, that program text asks for and that a listing asks for, else 13. */
+#define AUDALA_OUTPUT_BYTES AUDALA_TABLE_BYTES
+#define AUDALA_IMAGE_BYTES AUDALA_PROGRAM_BYTES
+#define AUDALA_LISTING_BYTES 131072
+
+/* Turn bytes that a run takes at most, else 14; bytes that a text has at most, else 15. */
 #define AUDALA_MOST_TURNS 65536
+#define AUDALA_MOST_TEXT 65536
+
+/* What a program has at most: structs; parameters and steps of a struct; locals and commands of a step; names of steps; depth of a stack. Instances that there
+ * are at most, the null one of each struct among them: a table has AUDALA_MOST_INSTANCES records less one for each struct. */
+#define AUDALA_MOST_STRUCTS 16
+#define AUDALA_MOST_PARAMETERS 8
+#define AUDALA_MOST_STEPS 8
+#define AUDALA_MOST_LOCALS 8
+#define AUDALA_MOST_STEP_COMMANDS 64
+#define AUDALA_MOST_STEP_NAMES 32
+#define AUDALA_MOST_DEPTH 16
+#define AUDALA_MOST_INSTANCES 256
+
+/* Bytes of stack that a call takes at most: of libaudala.a as measured (bench/stack.sh), of dist/audala.c for 32-bit ARM as computed (bench/arm.sh), the greater of
+ * both, rounded up. With other compilers and options compute it anew, in the same way. */
+#define AUDALA_CHECK_STACK 57344
+#define AUDALA_STEP_STACK 57344
+#define AUDALA_RUN_STACK 131072
+#define AUDALA_READ_IMAGE_STACK 1024
+#define AUDALA_WRITE_IMAGE_STACK 1024
+#define AUDALA_TEXT_STACK 237568
+#define AUDALA_LISTING_STACK 65536
+
+/* Types, values and records ---------------------------------------------------------------------------------------------------------------------------- */
+
+/* Type bytes: Int, Nat, Bool, a reference to an instance of struct k. */
+#define AUDALA_INT 0
+#define AUDALA_NAT 1
+#define AUDALA_BOOL 2
+#define AUDALA_REFERENCE(k) (16 + (k))
+
+/* A value takes four bytes, as a number of 32 bits: a Nat, a label or a Bool as it is, an Int in two's complement. */
+static inline uint32_t audala_of_int(int32_t value) {
+    return (uint32_t)value;
+}
+
+static inline int32_t audala_to_int(uint32_t value) {
+    return value <= INT32_MAX ? (int32_t)value : -(int32_t)(UINT32_MAX - value) - 1;
+}
+
+/* A table's stream begins with the count of its records, at most 255, in two bytes; the records follow. */
+#define AUDALA_FIRST_RECORD 2
+
+static inline void audala_put_count(uint8_t *stream, uint32_t records) {
+    stream[0] = (uint8_t)(records & 255);
+    stream[1] = (uint8_t)(records >> 8 & 255);
+}
+
+static inline uint32_t audala_get_count(const uint8_t *stream) {
+    return stream[0] | (uint32_t)stream[1] << 8;
+}
+
+/* Packs a record of a struct with so many parameters at the place `at` of a table's stream. Answers the place of the next record; 0, and writes nothing, where it
+ * would pass the end of the room. */
+static inline size_t audala_put_record(uint8_t *stream, size_t room, size_t at, uint8_t structure, const uint32_t *values, size_t parameters) {
+    size_t next = at + 1 + 4 * parameters, i;
+    if (parameters > AUDALA_MOST_PARAMETERS || at > room || next > room) {
+        return 0;
+    }
+    stream[at] = structure;
+    for (i = 0; i < 4 * parameters; i++) {
+        stream[at + 1 + i] = (uint8_t)(values[i / 4] >> 8 * (i % 4) & 255);
+    }
+    return next;
+}
+
+/* Unpacks the record at the place `at` of a table's stream of `length` bytes: its struct is stream[at], which tells how many parameters it has. Answers the place of
+ * the next record; 0, and leaves the values, where the record would pass the end of the stream. */
+static inline size_t audala_get_record(const uint8_t *stream, size_t length, size_t at, uint32_t *values, size_t parameters) {
+    size_t next = at + 1 + 4 * parameters, i;
+    if (parameters > AUDALA_MOST_PARAMETERS || at > length || next > length) {
+        return 0;
+    }
+    for (i = 0; i < parameters; i++) {
+        const uint8_t *bytes = stream + at + 1 + 4 * i;
+        values[i] = bytes[0] | (uint32_t)bytes[1] << 8 | (uint32_t)bytes[2] << 16 | (uint32_t)bytes[3] << 24;
+    }
+    return next;
+}
+
+/* Commands --------------------------------------------------------------------------------------------------------------------------------------------- */
+
+/* What a place of the list holds: kind + 256 * type byte + 2^32 * operand. The operand of push T V is the value, of rd and wr the variable (0 to 7 a parameter, 8 to 15
+ * a local), of cons the struct, of if the count of body commands, of op the operator. */
+typedef enum {
+    AUDALA_PUSH = 1,
+    AUDALA_PUSH_THIS = 2,
+    AUDALA_RD = 3,
+    AUDALA_WR = 4,
+    AUDALA_CONS = 5,
+    AUDALA_IF = 6,
+    AUDALA_NOT = 7,
+    AUDALA_OP = 8
+} audala_kind;
+
+typedef enum {
+    AUDALA_EQUAL = 32,
+    AUDALA_NOT_EQUAL = 33,
+    AUDALA_AT_MOST = 34,
+    AUDALA_AT_LEAST = 35,
+    AUDALA_LESS = 36,
+    AUDALA_GREATER = 37,
+    AUDALA_TIMES = 38,
+    AUDALA_DIVIDED = 39,
+    AUDALA_REMAINDER = 40,
+    AUDALA_PLUS = 41,
+    AUDALA_MINUS = 42,
+    AUDALA_AND = 43,
+    AUDALA_OR = 44
+} audala_operator;
+
+static inline uint32_t audala_kind_of(uint64_t place) {
+    return (uint32_t)(place & 255);
+}
+
+static inline uint32_t audala_type_of(uint64_t place) {
+    return (uint32_t)(place >> 8 & 255);
+}
+
+static inline uint32_t audala_operand_of(uint64_t place) {
+    return (uint32_t)(place >> 32);
+}
+
+/* What a caller calls ---------------------------------------------------------------------------------------------------------------------------------- */
 
 /* What a check answers. After a refusal all but the number are 0. */
 typedef struct {
@@ -65,8 +236,7 @@ typedef struct {
 
 /* Checks a program image of `length` bytes. Where it is accepted, its commands stand in the list from the first place on:
  * structs in order, each struct's steps in stream order; further places are untouched. A refusal leaves the whole list as it
- * was. A command's place holds kind + 256 * type byte + 2^32 * operand; the kinds are
- *   1 push T V   2 push this   3 rd x   4 wr x   5 cons k   6 if n   7 not   8 op o */
+ * was. */
 audala_verdict audala_check(const uint8_t *image, size_t length, uint64_t *list, size_t places);
 
 /* Where the commands of one step stand in the list. */
@@ -95,14 +265,11 @@ typedef struct {
 
 /* Runs a program image on a table image with these turn bytes. A number from the input leaves output and list as they were.
  * Otherwise the output begins with the blocks of the last table, after 34 and 35 the one before the refused command, and later bytes
- * are untouched; and the list holds the commands as after a check. */
+ * are untouched; and the list holds the commands as after a check. After 33 the written table alone does not carry the run on: stacks and positions are not in
+ * it. Run again from the first table, with all turns from the first on and more after them. */
 audala_report audala_run(const uint8_t *program, size_t program_length, const uint8_t *table, size_t table_length,
                          const uint8_t *turns, size_t turn_count, uint8_t *output, size_t output_length, uint64_t *list,
                          size_t places);
-
-/* Blocks that an image has at most: of a program, of a table. A block holds 504 bytes of the stream in 512. */
-#define AUDALA_PROGRAM_MOST 64
-#define AUDALA_TABLE_MOST 17
 
 /* What reading or writing an image, or reading program text, answers. */
 typedef struct {
@@ -118,15 +285,16 @@ audala_copied audala_read_image(const uint8_t *image, size_t length, size_t most
  * than 504 * most. A refusal leaves the output. */
 audala_copied audala_write_image(const uint8_t *stream, size_t length, size_t most, uint8_t *output, size_t room);
 
-/* Bytes of the output that program text asks for, else 13; bytes that a text has at most, else 15. */
-#define AUDALA_IMAGE_BYTES 32768
-#define AUDALA_MOST_TEXT 65536
-
 /* The image of the program that a text of `length` bytes means, in the front of the output; later bytes are untouched. The count is that of its
  * blocks of 512 bytes. 15: no tokens; 16: no derivation; 17: no program; 13: the output is too short. A refusal leaves the output. What is
  * written, the first 512 * count bytes, is to be checked like any image: audala_check, with a list of AUDALA_LIST_PLACES, then answers
  * 0, 5, 6, 7 or 8. */
 audala_copied audala_text(const uint8_t *text, size_t length, uint8_t *output, size_t room);
+
+/* The listing of a program image in the front of the output, lines of ASCII that end in a line feed; later bytes are untouched. The count is that of its bytes. Of
+ * an accepted image: `audala`, its structs, steps, commands and depth, then a line for each command: struct, step, position, command. Of a refused one the single
+ * line `refused` and the number; what is answered is 0 then, too. 13: the output is too short, and stays as it was. */
+audala_copied audala_listing(const uint8_t *image, size_t length, uint8_t *output, size_t room);
 
 #ifdef __cplusplus
 }

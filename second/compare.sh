@@ -17,7 +17,7 @@ here=$(cd "$(dirname "$0")" && pwd)
 # the proved engine's program, which rt hands the same cases
 program=$here/../crates/audala_cases
 texts=$here/../examples/texts
-committed=(cases.bin expected.txt texts.bin texts.txt examples.bin examples.txt)
+committed=(cases.bin expected.txt texts.bin texts.txt examples.bin examples.txt exports.bin exports.txt)
 chunk=2000
 
 usage() {
@@ -70,9 +70,12 @@ make_committed() {
     "$second" <"$work/texts.bin" >"$work/texts.txt"
     example_runs >"$work/examples.bin"
     "$second" <"$work/examples.bin" >"$work/examples.txt"
+    "$second" exports >"$work/exports.bin"
+    "$second" exports answers <"$work/exports.bin" >"$work/exports.txt"
 }
 
-# What the proved engine's program is handed, and its answers: the cases, behind them the texts and the examples' runs.
+# What the proved engine's program is handed, and its answers: the cases, behind them the texts and the examples' runs. The cases of exports are
+# answered through the C header alone (tools/answer.sh).
 cases() {
     cat "$here/cases/cases.bin" "$here/cases/texts.bin" "$here/cases/examples.bin"
 }
@@ -127,8 +130,8 @@ same_as_committed() {
         echo "compare: audala_cases is handed other cases" >&2
         exit 1
     fi
-    echo "compare: $(wc -l <"$work/expected.txt") committed cases, $(wc -l <"$work/texts.txt") texts and" \
-        "$(wc -l <"$work/examples.txt") checks and runs of examples agree"
+    echo "compare: $(wc -l <"$work/expected.txt") committed cases, $(wc -l <"$work/texts.txt") texts," \
+        "$(wc -l <"$work/examples.txt") checks and runs of examples and $(wc -l <"$work/exports.txt") cases of exports agree"
 }
 
 # Answers $work/cases.bin by both; $1 says how to make it again.

@@ -36,7 +36,7 @@ pub fn answered(case: &Case) -> u32 {
         }
         Case::Text { output, text } => {
             let (mut out, mut other) = (vec![OUTPUT_FILL; *output], vec![OUTPUT_FILL; *output]);
-            let a = proved::read(text, &mut out);
+            let a = proved::text(text, &mut out);
             let b = text::read_bare(text, &mut other);
             assert_eq!((a.number, a.count), (u32::from(b.number), b.blocks), "{case:?}");
             assert!(out == other, "the images differ: {case:?}");

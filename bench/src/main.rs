@@ -5,6 +5,7 @@
 //! corner values; with the word `texts` it times texts alone.
 mod agree;
 mod operators;
+#[path = "../../include/audala.rs"]
 mod proved;
 mod texts;
 

@@ -1,7 +1,7 @@
 //! Both readers of program text on the same texts in one process, their images held together: P's text; statements, names, brackets and
 //! nesting in 64 KB and in half of it, so that the times of both lengths tell whether a reading is linear.
 use crate::best;
-use crate::proved::read;
+use crate::proved::text as read;
 use std::hint::black_box;
 
 const TEXT_BYTES: usize = 65_536;

@@ -131,16 +131,16 @@ pub fn digest(bytes: impl Iterator<Item = u8>) -> u64 {
     bytes.fold(0, |h, byte| (h * 65_599 + u64::from(byte) + 1) % 4_294_967_291)
 }
 
-fn put_number(file: &mut Vec<u8>, number: usize) {
+pub(crate) fn put_number(file: &mut Vec<u8>, number: usize) {
     file.extend_from_slice(&(number as u32).to_le_bytes());
 }
 
-fn put_bytes(file: &mut Vec<u8>, bytes: &[u8]) {
+pub(crate) fn put_bytes(file: &mut Vec<u8>, bytes: &[u8]) {
     put_number(file, bytes.len());
     file.extend_from_slice(bytes);
 }
 
-fn take_number(file: &mut impl Read, most: usize) -> io::Result<usize> {
+pub(crate) fn take_number(file: &mut impl Read, most: usize) -> io::Result<usize> {
     let mut bytes = [0; 4];
     file.read_exact(&mut bytes)?;
     match usize::try_from(u32::from_le_bytes(bytes)) {
@@ -149,7 +149,7 @@ fn take_number(file: &mut impl Read, most: usize) -> io::Result<usize> {
     }
 }
 
-fn take_bytes(file: &mut impl Read, most: usize) -> io::Result<Vec<u8>> {
+pub(crate) fn take_bytes(file: &mut impl Read, most: usize) -> io::Result<Vec<u8>> {
     let mut bytes = vec![0; take_number(file, most)?];
     file.read_exact(&mut bytes)?;
     Ok(bytes)

@@ -4,11 +4,14 @@
 //! TEXT` writes the table image of a text, `table-text PROGRAM TABLE` the text of
 //! an image. `example NAME` writes the cases of the example in `NAME.audala`,
 //! `NAME.table` and `NAME.runs`, `runs NAME` what `NAME.runs` has to say.
+//! `exports` writes the cases of the library's further entries, `exports answers`
+//! answers such cases.
 #![forbid(unsafe_code)]
 
 use second::bench::bench;
 use second::cases::Case;
 use second::examples::Example;
+use second::exports::{self, Export};
 use second::generate::{Generator, edges::edges, texts};
 use second::listing;
 use second::tables::{table_image, table_text};
@@ -17,7 +20,7 @@ use std::io::{self, BufReader, BufWriter, Read, Write};
 use std::process::ExitCode;
 
 const USAGE: &str = "second [listing | edges | generate SEED COUNT | texts [SEED COUNT] | bench \
-    | table PROGRAM TEXT | table-text PROGRAM TABLE | example NAME | runs NAME]";
+    | table PROGRAM TEXT | table-text PROGRAM TABLE | example NAME | runs NAME | exports [answers]]";
 
 fn main() -> ExitCode {
     let words: Vec<String> = std::env::args().skip(1).collect();
@@ -35,6 +38,8 @@ fn main() -> ExitCode {
             (Ok(seed), Ok(count)) => write_cases((0..count).map(|index| texts::case(seed, index))),
             _ => Err(io::Error::other(USAGE)),
         },
+        ["exports"] => write_exports(),
+        ["exports", "answers"] => answer_exports(),
         ["bench"] => io::stdout().write_all(bench().as_bytes()),
         ["table", program, text] => table(program, text),
         ["table-text", program, table] => print_table(program, table),
@@ -55,6 +60,21 @@ fn answer_cases() -> io::Result<()> {
     let mut input = BufReader::new(io::stdin().lock());
     let mut output = BufWriter::new(io::stdout().lock());
     while let Some(case) = Case::read(&mut input)? {
+        writeln!(output, "{}", case.answer())?;
+    }
+    output.flush()
+}
+
+fn write_exports() -> io::Result<()> {
+    let mut bytes = Vec::new();
+    exports::cases().iter().for_each(|case| case.write(&mut bytes));
+    io::stdout().write_all(&bytes)
+}
+
+fn answer_exports() -> io::Result<()> {
+    let mut input = BufReader::new(io::stdin().lock());
+    let mut output = BufWriter::new(io::stdout().lock());
+    while let Some(case) = Export::read(&mut input)? {
         writeln!(output, "{}", case.answer())?;
     }
     output.flush()

@@ -1,6 +1,7 @@
 // The checker, the run and the reader of program text as a static library for C and Rust (01, 'Numbers from the input', 'Numbers from the state';
 // 02 §1); include/audala.h declares it.
 pub mod images;
+pub mod listings;
 pub mod texts;
 
 ghost use mathlib.Core.Path.{_≡_};

@@ -10,6 +10,10 @@ use Rattle.verdict.specs.Verdict.{Checked, checked}
 use Rattle.text.specs.Listing.{row}
 use Rattle.step_lines.specs.Lines.{program-lines}
 
+-- bytes that hold any listing: a head and a line for each of 1,024 commands
+abbrev pub listing-bytes : ℕ
+listing-bytes = 131072
+
 -- `audala` and `refused`
 abbrev pub audala : List ℕ
 audala = 97 ∷ 117 ∷ 100 ∷ 97 ∷ 108 ∷ 97 ∷ []

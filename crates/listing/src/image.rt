@@ -4,13 +4,18 @@ use load::Load;
 use step_lines::program;
 use text::lines::row;
 ghost use Prim.Native.Nat.{_≤_};
+ghost use lib.ListN.{length};
 ghost use Rattle.text.specs.Listing.{Placed};
-ghost use Rattle.listing.specs.Listings.{listing-of};
+ghost use Rattle.listing.specs.Listings.{listing-bytes, listing-of};
 
-// The listing of an image, in the front of the text. 131,072 bytes hold a head and a line for each of 1,024 commands.
-pub fn listing(image: &[u8], text: &mut [u8; 131072]) -> usize
+// Bytes that hold any listing: a head and a line for each of 1,024 commands.
+pub const LISTING_BYTES: usize = 131072;
+
+// The listing of an image, in the front of the text.
+pub fn listing(image: &[u8], text: &mut [u8]) -> usize
+    requires { ⌜ listing-bytes ≤ length (now text) ⌝ }
     ensures { λ r. ⌜ Placed (listing-of (now (image .entry))) (now (text .entry)) 0 r (now (text .exit)) ⌝ }
-    ensures { λ r. ⌜ r ≤ 131072 ⌝ }
+    ensures { λ r. ⌜ r ≤ length (now (text .entry)) ⌝ }
 {
     let mut stream = [0u8; types::PROGRAM_BLOCKS * blocks::PAYLOAD_SIZE];
     let mut counts = [0u8; types::MAX_STRUCTS];

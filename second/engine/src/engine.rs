@@ -2,9 +2,9 @@
 //! (01, "Numbers from the input", "Numbers from the state").
 
 use crate::command::Command;
-use crate::limits::{TABLE_BYTES, TURNS};
+use crate::limits::{COMMANDS, TABLE_BYTES, TURNS};
 use crate::machine::{Ending, Machine};
-use crate::program::{Program, has_places};
+use crate::program::{CompiledStep, Program, has_places};
 use crate::refusal::Refusal;
 use crate::table;
 
@@ -51,6 +51,33 @@ fn accept(image: &[u8], list: &mut [Option<Command>]) -> Result<CheckAnswer, Ref
         steps: program.steps.len(),
         commands: program.commands.len(),
         depth: program.depth,
+    })
+}
+
+/// Where a step's commands stand in the list; both places are 0 after a refusal
+/// and where the step isn't there.
+#[derive(Clone, Copy, PartialEq, Eq, Debug, Default)]
+pub struct PartAnswer {
+    pub number: u8,
+    pub start: usize,
+    pub length: usize,
+}
+
+/// The part of a lent list of so many places that holds the commands of a step,
+/// once the image was checked with it.
+pub fn part(image: &[u8], places: usize, structure: u8, name: u8) -> PartAnswer {
+    let refused = |refusal: Refusal| PartAnswer { number: refusal.number(), ..Default::default() };
+    let program = match Program::accept(image) {
+        Ok(program) => program,
+        Err(refusal) => return refused(refusal),
+    };
+    if places < COMMANDS {
+        return refused(Refusal::Room);
+    }
+    let named = |step: &&CompiledStep| step.structure == structure && step.name == name;
+    program.steps.iter().find(named).map_or(PartAnswer::default(), |step| {
+        let (first, end) = (usize::from(step.part.first), usize::from(step.part.end));
+        PartAnswer { number: 0, start: first, length: end - first }
     })
 }
 

@@ -20,8 +20,9 @@ mod table;
 mod types;
 mod typing;
 
+pub use blocks::{BlockFault, stream, write};
 pub use command::Command;
-pub use engine::{CheckAnswer, RunAnswer, check, run};
+pub use engine::{CheckAnswer, PartAnswer, RunAnswer, check, part, run};
 pub use listing::listing;
 pub use operators::Operator;
 pub use types::Type;
