@@ -14,11 +14,7 @@ use Rattle.listing.proofs.image.listing.Tie as tie
 
 -- the places that proofs look back to
 abbrev start : tie.After-program → tie.Start
-<<<<<<< HEAD
-start c = let at-lent = c .before .before .before .before in at-lent .before .before
-=======
-start c = let at-lent = c .before .before .before in at-lent .before .before .before
->>>>>>> controller
+start c = let at-lent = c .before .before .before .before in at-lent .before .before .before
 
 abbrev at-program : tie.After-r → tie.After-program
 at-program c = let at-back = c .before .before in at-back .before .before .before .before
@@ -35,13 +31,8 @@ loads c = load-value _ _ (sym (at-program c .program .ensures .0) ∙ c .r .give
 
 returns : tie.Need-returns
 returns c =
-<<<<<<< HEAD
-    let at-refusal = c .before .before in let at-told = at-refusal .before .before .before in
-    let at-back = at-told .before .before in let at-program′ = at-back .before .before .before .before in
-=======
     let at-row = c .before .before in let at-refusal = at-row .before .before in let at-told = at-refusal .before .before .before in
-    let at-back = at-told .before .before in let at-program′ = at-back .before .before .before in
->>>>>>> controller
+    let at-back = at-told .before .before in let at-program′ = at-back .before .before .before .before in
     let x = start at-program′ .args .image .now in let told = at-told .enum-told .given .1 in
     let e = load-refused x _ (sym (at-program′ .program .ensures .0) ∙ told) in
     (placed-as (image-listing x _ _ (at-refusal .refusal .ensures ∙ ap load-refusal told) e) (at-row .row .ensures .0), omega (arith, at-row .row .ensures .1, start at-program′ .pre))
@@ -70,30 +61,17 @@ row-requires-2 c κs = let written = at-emit c in let here = at-r (written .befo
 
 program-requires-3 : tie.Need-program-requires-3
 program-requires-3 c κs =
-<<<<<<< HEAD
-    let at-row = c .before .before .before in let written = at-emit at-row in let here = at-r (written .before .before) in
+    let at-row = c .before .before .before .before .before in let written = at-emit (at-row .before) in let here = at-r (written .before .before) in
     let l = loads here in let a = admitted _ _ l _ _ _ _ _ _ (at-program here .program .ensures .1 .0) in
     let w = emitted _ _ l _ _ a _ (simp length-replicate (omega arith)) _ _ _ (written .program2 .ensures) in
     accepted-listable _ _ l (simp length-replicate (omega arith)) w _ _ (written .program2 .kept .1 .1 .1 .1 .0 ∙ at-program here .program .kept .1 .1 .1 .1 .0)
-    (omega (arith, at-row .row2 .ensures .1, at-row .row2 .kept .0))
-
-returns-2 : tie.Need-returns-2
-returns-2 c =
-    let at-row = c .before .before .before .before in let written = at-emit at-row in let here = at-r (written .before .before) in
-    let l = loads here in let a = admitted _ _ l _ _ _ _ _ _ (at-program here .program .ensures .1 .0) in
-=======
-    let at-row = c .before .before .before .before .before in let written = at-emit (at-row .before) in let here = at-r (written .before .before) in
-    let l = loads here in let a = admitted _ _ l _ _ _ _ _ _ (at-program here .program .ensures .1) in
-    let w = emitted _ _ l _ _ a _ (simp length-replicate (omega arith)) _ _ _ (written .program2 .ensures) in
-    accepted-listable _ _ l (simp length-replicate (omega arith)) w _ _ (rw length-replicate at (written .program2 .kept .1 .1 .1 .1 .0))
     (omega (arith, at-row .row2 .ensures .1, at-row .row2 .kept .0, start (at-program here) .pre))
 
 returns-2 : tie.Need-returns-2
 returns-2 c =
     let at-lines = c .before .before in let at-row = at-lines .before .before .before .before .before .before in
     let written = at-emit (at-row .before) in let here = at-r (written .before .before) in
-    let l = loads here in let a = admitted _ _ l _ _ _ _ _ _ (at-program here .program .ensures .1) in
->>>>>>> controller
+    let l = loads here in let a = admitted _ _ l _ _ _ _ _ _ (at-program here .program .ensures .1 .0) in
     let w = emitted _ _ l _ _ a _ (simp length-replicate (omega arith)) _ _ _ (written .program2 .ensures) in
     let e = accepted-lines _ _ l (simp length-replicate (omega arith)) w in (
       placed-as (accepted-listing _ _ l) (placed-on (at-row .row2 .ensures .0) (placed-as (sym e) (at-lines .program3 .ensures .0))),
@@ -103,14 +81,8 @@ returns-2 c =
 pub listing-spec : {M : Type 1} → statement M
 listing-spec =
     tie.close
-<<<<<<< HEAD
     (tie.spec (λ c. search needs) (λ c. search needs) (λ c. search needs) (λ c. search needs) (λ c κs. search needs) (λ c. search needs) (λ c. search needs)
-    (λ c. search needs) (λ c κs. search needs) (λ c. search needs) (λ c. search needs) (λ c κs. search needs) returns (λ c. search needs)
-    array-share-prefix-stream slice-aggregate-program-5 array-share-prefix-counts slice-aggregate-program-6 (λ c. search needs) (λ c. search needs)
-=======
-    (tie.spec (λ c. search needs) (λ c. search needs) (λ c. search needs) (λ c κs. search needs) (λ c. search needs) (λ c. search needs)
     (λ c. search needs) (λ c κs. search needs) (λ c. search needs) (λ c. search needs) (λ c κs. search needs) (λ c. search needs) returns
-    (λ c. search needs) array-share-prefix-stream slice-aggregate-program-4 array-share-prefix-counts slice-aggregate-program-5 (λ c. search needs) (λ c. search needs)
->>>>>>> controller
+    (λ c. search needs) array-share-prefix-stream slice-aggregate-program-5 array-share-prefix-counts slice-aggregate-program-6 (λ c. search needs) (λ c. search needs)
     program-requires-2 (λ c. search needs) (λ c. search needs) (λ c. search needs) (λ c. search needs) (λ c. search needs) (λ c. search needs)
     row-requires-2 (λ c. search needs) (λ c. search needs) program-requires-3 (λ c. search needs) returns-2)
