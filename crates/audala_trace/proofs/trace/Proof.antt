@@ -1,7 +1,7 @@
 -- `trace` meets its contract: an image is refused, there are too many turns, or the machine that the table begins with is seated and its run is told.
 use Prim.Native.Nat.{ℕ, _*_}
 use native.Mathlib.Omega.{arith}
-use mathlib.Core.Path.{_≡_, sym, _∙_}
+use mathlib.Core.Path.{_≡_, sym, subst, _∙_}
 use mathlib.Core.List.{List}
 use lib.ListN.{length, take, length-replicate}
 use lib.Seq.{length-take-le}
@@ -14,6 +14,7 @@ use Rattle.run.specs.Entry.{begun, images}
 use Rattle.load.specs.declared.Loaded.{Loaded}
 use Rattle.load.specs.LoadLaws.{LoadedAs, load-refused, load-value, structs-few, types-are, admitted}
 use Rattle.seating.specs.Seated.{Admits, SeatedTable}
+use Rattle.seating.specs.declared.SeatRead.{SeatRead}
 use Rattle.seating.specs.declared.SeatRead.the-variants.{Taken}
 use Rattle.seating.specs.SizeLaws.{loaded-short}
 use Rattle.seating.specs.SeatLaws.{images-refused, images-with, with-refused, with-begun}
@@ -120,7 +121,10 @@ seated : (c : tie.After-seated)
     → SeatedTable (stream-of (the-loaded c)) (counts-of (the-loaded c)) (loads (the-loaded c) .program) (the-start c .args .table .now)
     (Taken (c .seated .given .0 .0)) (at-seat c .seat-table .last .1 .1 .1 .1 .1 .0) (at-seat c .seat-table .last .1 .1 .1 .1 .1 .1 .0)
 seated c =
-    let l = the-loaded c in rw (c .seated .given .1) at (at-seat c .seat-table .ensures (stream-of l) (loads l .program) (admits l))
+    let l = the-loaded c in
+    subst (λ (r : SeatRead). SeatedTable (stream-of l) (counts-of l) (loads l .program) (the-start c .args .table .now) r
+    (at-seat c .seat-table .last .1 .1 .1 .1 .1 .0) (at-seat c .seat-table .last .1 .1 .1 .1 .1 .1 .0)) (c .seated .given .1)
+    (at-seat c .seat-table .ensures (stream-of l) (loads l .program) (admits l))
 
 -- and a run begins with it
 begins : (c : tie.After-seated) → images (the-start c .args .program .now) (the-start c .args .table .now) ≡ begun (loads (the-loaded c) .program) (seated c .0)

@@ -1,7 +1,7 @@
 -- `begun` meets its contract: the table is refused, there is no room, or the machine that the table begins with is seated, played and reported.
 use Prim.Native.Nat.{ℕ}
 use native.Mathlib.Omega.{arith}
-use mathlib.Core.Path.{_≡_, sym}
+use mathlib.Core.Path.{_≡_, sym, subst}
 use mathlib.Core.List.{List}
 use lib.ListN.{take, length-replicate}
 use lib.Seq.{length-take-le}
@@ -10,6 +10,7 @@ use Rattle.run.specs.Begin.{begin}
 use Rattle.run.specs.Entry.{begun, with-table}
 use Rattle.layout.specs.State.{state-of}
 use Rattle.seating.specs.Seated.{Opens, SeatedTable}
+use Rattle.seating.specs.declared.SeatRead.{SeatRead}
 use Rattle.seating.specs.declared.SeatRead.the-variants.{Taken}
 use Rattle.seating.specs.AdmitLaws.{opens-admits}
 use Rattle.seating.specs.SeatLaws.{with-refused, with-begun}
@@ -80,7 +81,10 @@ cells-of c = at-seat c .seat-table .last .1 .1 .1 .1 .1 .1 .0
 -- the machine that the table begins with is seated
 seated : (c : tie.After-seated) (p : Program) (o : OpensAt (the-start c) p)
     → SeatedTable (the-start c .args .s .now) (counts-of c) p (the-start c .args .table .now) (Taken (c .seated .given .0 .0)) (heads-of c) (cells-of c)
-seated c p o = rw (c .seated .given .1) at (at-seat c .seat-table .ensures (the-start c .args .s .now) p (opens-admits o))
+seated c p o =
+    let a = the-start c .args in
+    subst (λ (r : SeatRead). SeatedTable (a .s .now) (counts-of c) p (a .table .now) r (heads-of c) (cells-of c)) (c .seated .given .1)
+    (at-seat c .seat-table .ensures (a .s .now) p (opens-admits o))
 
 -- and a run begins with it
 begins : (c : tie.After-seated) (p : Program) (o : OpensAt (the-start c) p) → with-table (the-start c .args .table .now) p ≡ begun p (seated c p o .0)
