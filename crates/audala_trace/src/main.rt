@@ -38,7 +38,7 @@ fn trace(program: &[u8], table: &[u8], turns: &[u8], out: &mut [u8]) -> Page
     let mut counts = [0u8; types::MAX_STRUCTS];
     let mut types = [0u8; types::MAX_STRUCTS * types::MAX_PARAMS];
     let mut rows = [0u8; types::TABLE_BLOCKS * blocks::PAYLOAD_SIZE];
-    let mut heads = [0usize; layout::HEADS];
+    let mut heads = [0u16; layout::HEADS];
     let mut cells = [0u64; layout::CELLS];
     let loaded = load::program(program, &mut stream, &mut counts, &mut types);
     let Load::Program(p) = loaded else {

@@ -169,7 +169,7 @@ fn begun(
     let cs = &counts[..k];
     let ts = &types[..end];
     let mut buffer = [0u8; types::TABLE_BLOCKS * blocks::PAYLOAD_SIZE];
-    let mut heads = [0usize; layout::HEADS];
+    let mut heads = [0u16; layout::HEADS];
     let mut cells = [0u64; layout::CELLS];
     // 9 to 12
     let read = table_read::read_image(table, cs, ts, &mut buffer, &mut heads, &mut cells);
