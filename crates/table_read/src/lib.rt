@@ -1,5 +1,5 @@
 // Tables of instances, from an image into lent memory (01, 'Table and turns'). Memory holds them as `memory` lays a machine
-// out: four numbers for each instance in `heads`, thirty-two cells for each in `cells`. Of a program's parameters `counts` has for each
+// out: six numbers for each instance in `heads`, thirty-two cells for each in `cells`. Of a program's parameters `counts` has for each
 // struct how many there are, and `types` eight places with the bytes of their types.
 mod nulls;
 mod reading;
