@@ -19,7 +19,14 @@ for name in check turns image text; do
     "$work/rs" <"$input" >"$work/rs.txt"
     cmp "$work/c.txt" "$work/rs.txt"
 done
-gcc -std=c99 -Wall -Wextra -Werror -O2 -I"$top/include" "$top/dist/audala.c" "$here/first.c" -o "$work/first"
+gcc -std=c99 -O2 -I"$top/include" "$top/dist/audala.c" "$here/first.c" -o "$work/first"
 (cd "$top" && "$work/first" examples/sum.audala examples/two.table examples/zeros.turns) | tee "$work/first.txt"
 cmp "$work/first.txt" "$here/first.txt"
+gcc -std=c99 -Wall -Wextra -Werror -O2 -I"$top/include" "$here/loop.c" "$lib/libaudala.a" -o "$work/loop"
+if "$work/loop" <"$here/sum.program" >"$work/loop.txt"; then
+    echo "examples: the loop does not come to its stop" >&2
+    exit 1
+fi
+tail -n 1 "$work/loop.txt" | tee "$work/stop.txt"
+grep -q '^round 28: a result lies outside its type' "$work/stop.txt"
 echo "examples: both agree, and the first command prints what README says"

@@ -43,7 +43,7 @@ typedef enum {
     AUDALA_TEXT_TOKEN = 15,      /* program text over 65,536 bytes, an unclosed comment, or characters that are no token */
     AUDALA_TEXT_GRAMMAR = 16,    /* program text that the grammar does not derive */
     AUDALA_TEXT_NAME = 17,       /* program text with a name, a literal, arguments or a count that no program stream has */
-    AUDALA_OUT_OF_TURNS = 33,    /* the turn bytes are used up while commands remain: run again from the first table with all these turns and more after them */
+    AUDALA_OUT_OF_TURNS = 33,    /* the turn bytes are used up while commands remain: run again from the first table, with more turns (see audala_run) */
     AUDALA_TABLE_FULL = 34,      /* an instance was to be made and there are 256 */
     AUDALA_ARITHMETIC = 35       /* a result outside its type, or a division by zero */
 } audala_number;
@@ -113,11 +113,11 @@ static inline const char *audala_message(uint32_t number) {
 #define AUDALA_MOST_DEPTH 16
 #define AUDALA_MOST_INSTANCES 256
 
-/* Bytes of stack that a call takes at most: of libaudala.a as measured (bench/stack.sh), of dist/audala.c for 32-bit ARM as computed (bench/arm.sh), the greater of
- * both, rounded up. With other compilers and options compute it anew, in the same way. */
+/* Bytes of stack that a call takes at most: of libaudala.a as measured (bench/stack.sh), of dist/audala.c as computed with gcc for 32-bit ARM and x86-64
+ * (bench/arm.sh), the greatest of all, rounded up. With other compilers and options compute it anew, in the same way. */
 #define AUDALA_CHECK_STACK 57344
 #define AUDALA_STEP_STACK 57344
-#define AUDALA_RUN_STACK 131072
+#define AUDALA_RUN_STACK 133120
 #define AUDALA_READ_IMAGE_STACK 1024
 #define AUDALA_WRITE_IMAGE_STACK 1024
 #define AUDALA_TEXT_STACK 237568
@@ -152,8 +152,8 @@ static inline uint32_t audala_get_count(const uint8_t *stream) {
     return stream[0] | (uint32_t)stream[1] << 8;
 }
 
-/* Packs a record of a struct with so many parameters at the place `at` of a table's stream. Answers the place of the next record; 0, and writes nothing, where it
- * would pass the end of the room. */
+/* Packs a record of a struct with so many parameters at the place `at` of a table's stream. Answers the place of the next record; 0, and writes nothing,
+ * where it would pass the end of the room. */
 static inline size_t audala_put_record(uint8_t *stream, size_t room, size_t at, uint8_t structure, const uint32_t *values, size_t parameters) {
     size_t next = at + 1 + 4 * parameters, i;
     if (parameters > AUDALA_MOST_PARAMETERS || at > room || next > room) {
@@ -166,8 +166,8 @@ static inline size_t audala_put_record(uint8_t *stream, size_t room, size_t at, 
     return next;
 }
 
-/* Unpacks the record at the place `at` of a table's stream of `length` bytes: its struct is stream[at], which tells how many parameters it has. Answers the place of
- * the next record; 0, and leaves the values, where the record would pass the end of the stream. */
+/* Unpacks the record at the place `at` of a table's stream of `length` bytes: its struct is stream[at], which tells how many parameters it has. Answers the
+ * place of the next record; 0, and leaves the values, where the record would pass the end of the stream. */
 static inline size_t audala_get_record(const uint8_t *stream, size_t length, size_t at, uint32_t *values, size_t parameters) {
     size_t next = at + 1 + 4 * parameters, i;
     if (parameters > AUDALA_MOST_PARAMETERS || at > length || next > length) {
@@ -182,8 +182,8 @@ static inline size_t audala_get_record(const uint8_t *stream, size_t length, siz
 
 /* Commands --------------------------------------------------------------------------------------------------------------------------------------------- */
 
-/* What a place of the list holds: kind + 256 * type byte + 2^32 * operand. The operand of push T V is the value, of rd and wr the variable (0 to 7 a parameter, 8 to 15
- * a local), of cons the struct, of if the count of body commands, of op the operator. */
+/* What a place of the list holds: kind + 256 * type byte + 2^32 * operand. The operand of push T V is the value, of rd and wr the variable (0 to 7 a
+ * parameter, 8 to 15 a local), of cons the struct, of if the count of body commands, of op the operator. */
 typedef enum {
     AUDALA_PUSH = 1,
     AUDALA_PUSH_THIS = 2,
@@ -291,9 +291,9 @@ audala_copied audala_write_image(const uint8_t *stream, size_t length, size_t mo
  * 0, 5, 6, 7 or 8. */
 audala_copied audala_text(const uint8_t *text, size_t length, uint8_t *output, size_t room);
 
-/* The listing of a program image in the front of the output, lines of ASCII that end in a line feed; later bytes are untouched. The count is that of its bytes. Of
- * an accepted image: `audala`, its structs, steps, commands and depth, then a line for each command: struct, step, position, command. Of a refused one the single
- * line `refused` and the number; what is answered is 0 then, too. 13: the output is too short, and stays as it was. */
+/* The listing of a program image in the front of the output, lines of ASCII that end in a line feed; later bytes are untouched. The count is that of its
+ * bytes. Of an accepted image: `audala`, its structs, steps, commands and depth, then a line for each command: struct, step, position, command. Of a refused
+ * one the single line `refused` and the number; what is answered is 0 then, too. 13: the output is too short, and stays as it was. */
 audala_copied audala_listing(const uint8_t *image, size_t length, uint8_t *output, size_t room);
 
 #ifdef __cplusplus

@@ -1,5 +1,5 @@
-//! The AuDaLa checker, engine and reader of program text for Rust: what audala.h declares, over slices. Link with libaudala.a (`rt staticlib audala`, or dist/audala.c
-//! compiled), and take this file as a module: `#[path = "../include/audala.rs"] mod audala;`. What numbers and fields mean stands in audala.h.
+//! The AuDaLa checker, engine and reader of program text for Rust: what audala.h declares, over slices. Link with libaudala.a (`rt staticlib audala`, or
+//! dist/audala.c compiled), and take this file as a module: `#[path = "../include/audala.rs"] mod audala;`. What numbers and fields mean stands in audala.h.
 #![allow(dead_code)]
 
 pub const VERSION: &str = "0.1.0";
@@ -84,7 +84,7 @@ mod entries {
     }
 }
 
-// Each call below reads what it is lent and writes what it is lent mutably, within the lengths that it is handed, for any contents: so it is safe on any slices.
+// Each call below reads what it is lent and writes what it is lent mutably, within the lengths that it is handed, for any contents: it is safe on any slices.
 
 /// Checks a program image; the commands of an accepted one stand in the list.
 pub fn check(image: &[u8], list: &mut [u64]) -> Verdict {

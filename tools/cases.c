@@ -1,5 +1,5 @@
-/* Answers the cases of docs/CASES.md, of every kind, through the functions of audala.h: cases on standard input, a line for each on standard output. Every buffer has
- * exactly the size that its case says, so that a sanitizer sees a byte outside of it; an empty one is a null pointer. */
+/* Answers the cases of docs/CASES.md, of every kind, through the functions of audala.h: cases on standard input, a line for each on standard output. Every
+ * buffer has exactly the size that its case says, so that a sanitizer sees a byte outside of it; an empty one is a null pointer. */
 #include "audala.h"
 
 #include <stdio.h>

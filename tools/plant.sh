@@ -17,7 +17,7 @@ verdict() {
     python3 "$work/mir2c/test.py" >"$work/said" 2>&1 || by="its tests"
     if ! python3 "$work/mir2c" "$version" include/audala.h audala target/rlib "$kit/on/x86_64/rlib" >"$work/audala.c" 2>"$work/said"; then
         by="$by${by:+, }the translator"
-    elif ! gcc -std=c99 -Wall -Wextra -Werror -pedantic -O1 -fsanitize=address,undefined -fno-sanitize-recover=all -Iinclude tools/cases.c "$work/audala.c" \
+    elif ! gcc -std=c99 -Wall -Wextra -Werror -Wno-maybe-uninitialized -pedantic -O1 -fsanitize=address,undefined -fno-sanitize-recover=all -Iinclude tools/cases.c "$work/audala.c" \
         -o "$work/cases" 2>"$work/said"; then
         by="$by${by:+, }the compiler"
     elif ! tools/answer.sh planted "$work/cases" >"$work/said" 2>&1; then

@@ -4,6 +4,7 @@
 use second::cases::{Case, digest};
 use second::check;
 use second::coding::{LIST_FILL, coded};
+use second::exports::{self, Export};
 use second::generate::edges::{P, edges};
 use second::generate::encode::{image, program_stream};
 use second::generate::programs::random_program;
@@ -188,4 +189,30 @@ fn the_committed_cases_have_the_committed_answers() {
     let expected = include_str!("../cases/expected.txt");
     let answers: Vec<String> = cases_of(file).iter().map(Case::answer).collect();
     assert!(answers.iter().map(String::as_str).eq(expected.lines()));
+}
+
+/// Cases of exports come back from a file; their answers tell the fields of an answer apart.
+#[test]
+fn exports_are_written_and_answered() {
+    let cases = exports::cases();
+    let mut file = Vec::new();
+    cases.iter().for_each(|case| case.write(&mut file));
+    let mut rest = &file[..];
+    for case in &cases {
+        assert_eq!(Export::read(&mut rest).expect("a whole case").as_ref(), Some(case));
+    }
+    assert!(Export::read(&mut rest).expect("the end").is_none());
+    assert!(Export::read(&mut &[3u8, 0, 0, 0, 0][..]).is_err());
+    let answers: Vec<String> = cases.iter().map(Export::answer).collect();
+    for word in [
+        "step 0", "step 13", "read 0", "read 1", "read 2", "read 3", "read 13", "write 0",
+        "write 1", "write 13", "list 0", "list 13",
+    ] {
+        assert!(answers.iter().any(|line| line.starts_with(&format!("{word} "))), "{word}");
+    }
+    let apart = |line: &&String| {
+        let words: Vec<&str> = line.split(' ').collect();
+        words[0] == "step" && words[2] != "0" && words[2] != words[3]
+    };
+    assert!(answers.iter().filter(apart).count() > 20);
 }

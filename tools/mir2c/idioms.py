@@ -1,7 +1,7 @@
 """A function that C says in one expression, known by its whole MIR: gcc does not see through it, and it stands in the inner loop of a block's sums.
 
-The kit's wrapping sum of two numbers a and b of w bits, with m = 2^w - 1, is a + b where a <= m - b, else a - (m - b) - 1. Modulo 2^w both are a + b, which is what
-the unsigned sum of C is. A function with any other body is translated as it stands."""
+The kit's wrapping sum of two numbers a and b of w bits, with m = 2^w - 1, is a + b where a <= m - b, else a - (m - b) - 1. Modulo 2^w both are a + b, which is
+what the unsigned sum of C is. A function with any other body is translated as it stands."""
 
 
 def local(i):

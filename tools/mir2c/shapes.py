@@ -1,8 +1,8 @@
 """Types of the MIR as C types: definitions of structs, enums and arrays, and assertions for every size and offset that the code relies on.
 
 Integers are unsigned in C, whatever their sign in the MIR: a signed one is kept in two's complement, and what reads its sign says so. References and raw
-pointers are byte pointers, a slice is one with a length of 64 bits, an enum its tag and slots for the fields of its variants: a slot serves one field of each variant,
-all of one type, so that no union hides from a compiler what is where."""
+pointers are byte pointers, a slice is one with a length of 64 bits, an enum its tag and slots for the fields of its variants: a slot serves one field of each
+variant, all of one type, so that no union hides from a compiler what is where."""
 
 
 class Unknown(Exception):

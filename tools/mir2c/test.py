@@ -199,9 +199,18 @@ def forms():
                      put(4, op2("Offset", copy_of(4), copy_of(5))), put(5, {"Opd": copy_of(4, {"Deref": U64})}),
                      put(4, {"AddrOf": {"local": 6, "steps": []}}), put(5, op2({"Add": "Unsigned"}, copy_of(5), copy_of(4, {"Deref": U64}))),
                      answer(copy_of(5)))  # fmt: skip
-    functions = {"t_negated": negated, "t_swapped": swapped, "t_looped": looped, "t_chosen": chosen, "t_table": table}
+    # an array made of constants whose first element is written, the same as one lent shared, which is a constant of the C text
+    changed = function([U64, U64], [ARRAY, "Ptr", U64], put(3, {"Aggregate": [const(k) for k in range(6)]}), put(4, {"AddrOf": {"local": 3, "steps": []}}),
+                       put(4, {"Opd": copy_of(1)}, {"Deref": U64}), put(5, op2({"Add": "Unsigned"}, copy_of(4, {"Deref": U64}), copy_of(2))),
+                       answer(copy_of(5)))  # fmt: skip
+    reference = {"Ref": ["Erased", "Imm", ARRAY]}
+    lent = function([U64, U64], [ARRAY, reference, slice_of(U64), "Ptr", U64, U64], put(3, {"Aggregate": [const(k * 3) for k in range(6)]}),
+                    put(4, {"AddrOf": {"local": 3, "steps": []}}), put(5, {"Aggregate": [copy_of(4), const(6)]}),
+                    put(7, op2({"Mul": "Unsigned"}, copy_of(1), const(8))), put(6, op2("Offset", copy_of(5, {"Field": 0}), copy_of(7))),
+                    put(8, op2({"Add": "Unsigned"}, copy_of(6, {"Deref": U64}), copy_of(2))), answer(copy_of(8)))  # fmt: skip
+    functions = {"t_changed": changed, "t_lent": lent, "t_negated": negated, "t_swapped": swapped, "t_looped": looped, "t_chosen": chosen, "t_table": table}
     calls = [("t_negated", 0, 0, 0), ("t_negated", 3, 0, 1), ("t_swapped", 3, 10, 7), ("t_looped", 5, 3, 15), ("t_looped", 0, 3, 0), ("t_table", 4, 100, 116)]
-    calls += [("t_chosen", 0, 9, 1000), ("t_chosen", 1, 9, 9), ("t_chosen", 7, 8, 8), ("t_chosen", 5, 9, 10)]
+    calls += [("t_changed", 70, 7, 77), ("t_lent", 5, 100, 115), ("t_chosen", 0, 9, 1000), ("t_chosen", 1, 9, 9), ("t_chosen", 7, 8, 8), ("t_chosen", 5, 9, 10)]
     return functions, calls
 
 
@@ -251,7 +260,10 @@ class Runs(unittest.TestCase):
                 self.assertIn(f"(uint{w}_t)((uint32_t)l3 {sign} l4);", text)
 
     def test_forms(self):
-        self.compared(*forms())
+        functions, calls = forms()
+        text = written(functions)
+        self.assertEqual(("t__t_lent__l3 = {" in text, "t__t_changed__l3 = {" in text), (True, False))
+        self.compared(functions, calls)
 
     def test_sums(self):
         functions, calls = sums()

@@ -24,8 +24,7 @@ module _ (t out : List ℕ) where
       → (copied 0 r ≡ exported-listing t out) × (out′ ≡ listed t out)
   unfolding exported-listing listed
   placed-listed {r = r} h few p =
-      rw (le-ltb (length out) listing-bytes h, exported-listing, listed)
-      (
+      rw (le-ltb (length out) listing-bytes h, exported-listing, listed) (
         ap (copied 0) (p .end ∙ zero-add (length t)),
         p .list ∙ sets-eq t out 0 (omega (arith, p .end, few)) ∙ ap (λ n. t ++ drop n out) (zero-add (length t)),
       )

@@ -18,5 +18,8 @@ pub extern "C" fn audala_listing(image: &[u8], output: &mut [u8]) -> Copied
         };
     }
     let n = image::listing(image, output);
-    Copied { number: 0, count: n }
+    Copied {
+        number: 0,
+        count: n,
+    }
 }
