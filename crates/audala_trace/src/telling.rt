@@ -126,13 +126,7 @@ fn moved(s: Telling, items: &[usize], spans: &[u16], heads: &mut [u16], out: &mu
 }
 
 // The moves of the schedule until some instance holds commands, each with its line.
-fn settle(
-    s: Telling,
-    items: &[usize],
-    spans: &[u16],
-    heads: &mut [u16],
-    out: &mut [u8],
-) -> Telling
+fn settle(s: Telling, items: &[usize], spans: &[u16], heads: &mut [u16], out: &mut [u8]) -> Telling
     requires { ⌜ Standing (now items) (now spans) (now heads) (s .coming .machine .numbers) × (s .coming .step < step-names) ⌝ }
     requires { ⌜ Lies (s .page) (now out) ⌝ }
     ensures { λ r. ⌜ Settles (now (items .entry)) (now (spans .entry)) s (now (heads .entry)) (now (out .entry)) r (now (heads .exit)) (now (out .exit)) ⌝ }

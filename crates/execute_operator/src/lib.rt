@@ -39,12 +39,7 @@ pub fn operate(heads: &mut [u16], cells: &mut [u64], a: Actor, o: u8) -> Acted
     let x = cells[layout::ROW_SIZE * l + types::VARIABLES + (h - 2)];
     let y = cells[layout::ROW_SIZE * l + types::VARIABLES + (h - 1)];
     let t = layout::type_byte(x);
-    let answer = apply_word(
-        o,
-        t,
-        layout::operand(x) as u32,
-        layout::operand(y) as u32,
-    );
+    let answer = apply_word(o, t, layout::operand(x) as u32, layout::operand(y) as u32);
     match answer {
         Answered::Value(v) => {
             let c = layout::cell(result_byte(o, t), v as u64);

@@ -82,14 +82,7 @@ fn end(s: &[u8], rows: &[u16], structs: u8, behind: usize, t: Totals, at: usize)
 }
 
 // The steps of all structs, and the schedule.
-fn rest(
-    s: &[u8],
-    ar: &[u8],
-    types: &[u8],
-    rows: &mut [u16],
-    structs: u8,
-    at: usize,
-) -> ProgramRead
+fn rest(s: &[u8], ar: &[u8], types: &[u8], rows: &mut [u16], structs: u8, at: usize) -> ProgramRead
     requires { ⌜ (length (now ar) ≡ structs) × (structs ≤ max-structs) × (at ≤ length (now s)) ⌝ }
     requires { ⌜ (length (now s) < 65536) × (directory-places ≤ length (now rows)) ⌝ }
     ensures { λ r. ⌜ r ≡ rest-told at (now (ar .entry)) (now (types .entry)) (now (s .entry)) (read-rest (now (ar .entry)) (now (s .entry)) at) ⌝ }

@@ -85,7 +85,10 @@ fn position(spans: &[u16], heads: &[u16], l: usize, step: usize) -> usize
     let from = wide(spans[s]);
     let to = wide(spans[s + 1]);
     let size = minus(to, from);
-    let left = minus(wide(heads[at + layout::END]), wide(heads[at + layout::NEXT]));
+    let left = minus(
+        wide(heads[at + layout::END]),
+        wide(heads[at + layout::NEXT]),
+    );
     minus(size, left)
 }
 

@@ -100,7 +100,9 @@ returns-2 c =
     let at-refused = c .before .before in let at-refusal = at-refused .before .before in let at-told = at-refusal .before in
     let i = at-image (at-told .before) in let l = before-table (i .before) in let a = start (at-admit l) .args in
     let told = at-told .enum-told2 .given .1 in
-    let n = rw told at (i .seat-table .ensures (stream-of l) (loads l .program) (admits l)) in
+    let n =
+    subst (λ (r : SeatRead). SeatedTable (stream-of l) (counts-of l) (loads l .program) (a .table .now) r (i .seat-table .last .1 .1 .1 .1 .1 .0)
+    (i .seat-table .last .1 .1 .1 .1 .1 .1 .0)) told (i .seat-table .ensures (stream-of l) (loads l .program) (admits l)) in
     let e = images-with (a .program .now) (a .table .now) (loads l .accepts) ∙ with-refused (a .table .now) (loads l .program) n in (
       rw (refused-text (a .program .now) (a .table .now) (a .turns .now) e)
           (rw (at-refusal .refusal2 .ensures, told) at (at-refused .refused2 .ensures .0)),

@@ -52,8 +52,8 @@ does : (c : tie.After-operand) (k : ℕ) → start c .args .w % 256 ≡ k → (f
     → ((z : State) → f z ≡ perform (start c .args .counts .now) (start c .args .l) z k (start c .args .w) (c .operand .result))
     → (r : Acted) (h′ c′ : List ℕ) → DoesWith (start c .args .count) f r (start c .args .heads .now) (start c .args .cells .now) h′ c′
     → DoesWith (start c .args .count)
-        (λ z. perform (start c .args .counts .now) (start c .args .l) z (start c .args .w % 256) (start c .args .w) (operand (start c .args .w)))
-        r (start c .args .heads .now) (start c .args .cells .now) h′ c′
+    (λ z. perform (start c .args .counts .now) (start c .args .l) z (start c .args .w % 256) (start c .args .w) (operand (start c .args .w)))
+    r (start c .args .heads .now) (start c .args .cells .now) h′ c′
 does c k e = let a = start c .args in performs (a .counts .now) (a .heads .now) (a .cells .now) (a .l) (a .count) (a .w) k e (c .operand .ensures .0)
 
 -- none of the first seven kinds

@@ -21,8 +21,15 @@ returns c =
     let at-wide2 = at-minus .before in
     let at-wide = at-wide2 .before .before in
     c .minus3 .ensures
-    ∙ rw (at-minus .minus .ensures, at-minus2 .minus2 .ensures, at-wide .wide .ensures, at-wide2 .wide2 .ensures, at-end .wide3 .ensures,
-    at-next .wide4 .ensures, add-one)
+    ∙ rw (
+      at-minus .minus .ensures,
+      at-minus2 .minus2 .ensures,
+      at-wide .wide .ensures,
+      at-wide2 .wide2 .ensures,
+      at-end .wide3 .ensures,
+      at-next .wide4 .ensures,
+      add-one,
+    )
 
 pub position-spec : {M : Type 1} → statement M
 position-spec =
