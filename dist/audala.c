@@ -1,6 +1,6 @@
 /* The AuDaLa engine as one C99 file, to be compiled beside audala.h. It needs memcpy and memset and nothing else, keeps no data and allocates nothing.
  *
- * Written by tools/mir2c: do not edit. 440 functions, from the MIR that the libraries of the proved crates carry.
+ * Written by tools/mir2c: do not edit. 447 functions, from the MIR that the libraries of the proved crates carry.
  * Kit: rattle-kit-5b-plain logic 097e4c862dff5811
  *
  * Proved, of the MIR: that each function meets its contract for every input, and so reads and writes nothing outside of what it is lent, overflows nothing and
@@ -156,10 +156,11 @@ struct blocks__Opened {
 struct load__Loaded {
     uint64_t f0;
     uint64_t f1;
-    uint8_t f2;
+    uint64_t f2;
     uint8_t f3;
-    uint16_t f4;
-    uint8_t f5;
+    uint8_t f4;
+    uint16_t f5;
+    uint8_t f6;
 };
 struct load__Load {
     uint8_t tag;
@@ -212,7 +213,7 @@ struct composing__Placed {
     uint8_t tag;
     uint64_t s0;
 };
-struct derive__Act {
+struct text_shape__Act {
     uint8_t tag;
     uint8_t s0;
     uint8_t s1;
@@ -220,6 +221,10 @@ struct derive__Act {
 struct derive__Mark {
     uint8_t f0;
     uint64_t f1;
+};
+struct directory__rows__Sought {
+    uint8_t tag;
+    struct directory__Row s0;
 };
 struct layout__Numbers {
     uint64_t f0;
@@ -284,7 +289,7 @@ struct judge__Done {
     uint8_t f3;
     struct judge__Scope f4;
 };
-struct lexer__Spot {
+struct tokens__Spot {
     uint8_t tag;
     uint8_t s0;
     uint64_t s1;
@@ -303,10 +308,11 @@ struct rt_array_uint64_1024 {
 RT_ASSERT(rt_array_uint64_1024, sizeof(struct rt_array_uint64_1024) == 8192 && offsetof(struct rt_array_uint64_1024, a) == 0);
 struct read_program__Summary {
     uint8_t f0;
-    uint8_t f1;
-    uint64_t f2;
+    uint64_t f1;
+    uint8_t f2;
     uint64_t f3;
     uint64_t f4;
+    uint64_t f5;
 };
 struct read_program__ProgramRead {
     uint8_t tag;
@@ -364,10 +370,6 @@ struct read_program__totals__TotalsRead {
     struct read_program__totals__Totals s1;
     uint8_t s2;
 };
-struct rt_array_uint8_512 {
-    uint8_t a[512];
-};
-RT_ASSERT(rt_array_uint8_512, sizeof(struct rt_array_uint8_512) == 512 && offsetof(struct rt_array_uint8_512, a) == 0);
 struct read_stmts__StmtRead {
     uint8_t tag;
     uint64_t s0;
@@ -394,24 +396,28 @@ struct rt_array_uint8_65537 {
     uint8_t a[65537];
 };
 RT_ASSERT(rt_array_uint8_65537, sizeof(struct rt_array_uint8_65537) == 65537 && offsetof(struct rt_array_uint8_65537, a) == 0);
-struct table_read__TableRead {
-    uint8_t tag;
-    uint64_t s0;
-    uint8_t s1;
-};
-struct run_images__Seat {
+struct seating__Seat {
     uint64_t f0;
     struct layout__Numbers f1;
+};
+struct seating__SeatRead {
+    uint8_t tag;
+    struct seating__Seat s0;
+    uint8_t s1;
 };
 struct rt_array_uint8_8568 {
     uint8_t a[8568];
 };
 RT_ASSERT(rt_array_uint8_8568, sizeof(struct rt_array_uint8_8568) == 8568 && offsetof(struct rt_array_uint8_8568, a) == 0);
+struct rt_array_uint16_1536 {
+    uint16_t a[1536];
+};
+RT_ASSERT(rt_array_uint16_1536, sizeof(struct rt_array_uint16_1536) == 3072 && offsetof(struct rt_array_uint16_1536, a) == 0);
 struct rt_array_uint64_8192 {
     uint64_t a[8192];
 };
 RT_ASSERT(rt_array_uint64_8192, sizeof(struct rt_array_uint64_8192) == 65536 && offsetof(struct rt_array_uint64_8192, a) == 0);
-struct run_images__Params {
+struct seating__Params {
     struct rt_array_uint8_16 f0;
     struct rt_array_uint8_128 f1;
 };
@@ -427,19 +433,11 @@ struct rt_array_uint8_5730 {
     uint8_t a[5730];
 };
 RT_ASSERT(rt_array_uint8_5730, sizeof(struct rt_array_uint8_5730) == 5730 && offsetof(struct rt_array_uint8_5730, a) == 0);
-struct step_part__search__Search {
+struct table_read__TableRead {
     uint8_t tag;
-    struct emit__Put s0;
-    struct step_part__Spot s1;
+    uint64_t s0;
+    uint8_t s1;
 };
-struct step_part__search__Wanted {
-    uint8_t f0;
-    uint8_t f1;
-};
-struct rt_array_uint64_64 {
-    uint64_t a[64];
-};
-RT_ASSERT(rt_array_uint64_64, sizeof(struct rt_array_uint64_64) == 512 && offsetof(struct rt_array_uint64_64, a) == 0);
 struct table_read__reading__PlaceRead {
     uint8_t tag;
     uint64_t s0;
@@ -591,7 +589,7 @@ static inline struct composing__Pen composing__waiting__popped(struct composing_
 static inline struct composing__Pen composing__waiting__stacked(rt_slice l1, rt_slice l2, struct composing__Pen l3, uint8_t l4, uint8_t l5);
 static inline struct composing__Pen composing__write(rt_slice l1, rt_slice l2, rt_slice l3, rt_slice l4, rt_slice l5);
 static inline struct composing__Pen composing__written(rt_slice l1, rt_slice l2, rt_slice l3, rt_slice l4, rt_slice l5, rt_slice l6);
-static inline struct derive__Act derive__act_at(rt_slice l1, rt_slice l2, uint64_t l3);
+static inline struct text_shape__Act derive__act_at(rt_slice l1, rt_slice l2, uint64_t l3);
 static inline struct derive__Mark derive__below(rt_slice l1, rt_slice l2, rt_slice l3, uint64_t l4, uint8_t l5);
 static inline struct derive__Mark derive__dead(void);
 static inline uint8_t derive__derived(rt_slice l1, rt_slice l2);
@@ -609,6 +607,15 @@ static inline uint8_t derive__roles__said_by(rt_slice l1, uint8_t l2, uint8_t l3
 static inline uint8_t derive__table__mark(rt_slice l1, uint64_t l2);
 static inline uint8_t derive__table__number(rt_slice l1, uint64_t l2);
 static inline uint8_t derive__walk(rt_slice l1, rt_slice l2, rt_slice l3, rt_slice l4, rt_slice l5);
+static inline struct directory__rows__Sought directory__rows__find(rt_slice l1, uint8_t l2, uint8_t l3, uint8_t l4);
+static inline uint8_t directory__rows__is_row(struct directory__Row l1, uint16_t l2, uint16_t l3);
+static inline uint16_t directory__rows__look(rt_slice l1, uint64_t l2);
+static inline uint16_t directory__rows__number(uint8_t l1);
+static inline uint64_t directory__rows__place(uint16_t l1);
+static inline void directory__rows__put_row(rt_slice l1, uint64_t l2, struct directory__Row l3);
+static inline struct directory__Row directory__rows__row_at(rt_slice l1, uint64_t l2);
+static inline void directory__rows__store(rt_slice l1, uint64_t l2, uint16_t l3);
+static inline uint8_t directory__rows__there(rt_slice l1, uint8_t l2, uint8_t l3, uint8_t l4);
 static inline struct emit__Put emit__exprs__expr(rt_slice l1, rt_slice l2, uint64_t l3, uint64_t l4, rt_slice l5, uint64_t l6);
 static inline struct emit__Put emit__exprs__make(rt_slice l1, rt_slice l2, uint64_t l3, uint64_t l4, rt_slice l5, uint64_t l6);
 static inline struct emit__Put emit__steps__step(rt_slice l1, rt_slice l2, uint64_t l3, rt_slice l4, uint64_t l5);
@@ -629,11 +636,6 @@ static inline void emit__words__store(rt_slice l1, uint64_t l2, uint64_t l3);
 static inline struct emit__Put emit__words__target(rt_slice l1, uint64_t l2, rt_slice l3, uint64_t l4);
 static inline struct emit_steps__Place emit_steps__of_struct(rt_slice l1, rt_slice l2, uint16_t l3, struct emit_steps__Place l4, rt_slice l5, rt_slice l6);
 static inline struct emit_steps__Place emit_steps__program(rt_slice l1, rt_slice l2, uint64_t l3, rt_slice l4, rt_slice l5);
-static inline uint16_t emit_steps__rows__number(uint8_t l1);
-static inline uint64_t emit_steps__rows__place(uint16_t l1);
-static inline void emit_steps__rows__put_row(rt_slice l1, uint64_t l2, struct directory__Row l3);
-static inline struct directory__Row emit_steps__rows__row_at(rt_slice l1, uint64_t l2);
-static inline void emit_steps__rows__store(rt_slice l1, uint64_t l2, uint16_t l3);
 static inline struct emit_steps__Place emit_steps__step(rt_slice l1, rt_slice l2, uint16_t l3, struct emit_steps__Place l4, rt_slice l5, rt_slice l6);
 static inline struct engine__Machine engine__Machine__advance(struct engine__Machine l1, rt_slice l2, rt_slice l3, rt_slice l4);
 static inline struct engine__Machine engine__Machine__command(struct engine__Machine l1, rt_slice l2, rt_slice l3, rt_slice l4, rt_slice l5, uint64_t l6);
@@ -688,12 +690,15 @@ static inline struct judge__Done judging__statement__declared(struct judge__Scop
 static inline struct judge__Done judging__statement__followed(struct judge__Done l1, struct judge__Done l2);
 static inline struct judge__Done judging__statement__nothing(struct judge__Scope l1);
 static inline struct judge__Done judging__statement__updated(struct judge__Scope l1, uint8_t l2, struct judge__Judged l3, struct judge__Facts l4);
-static inline void layout__begin(rt_slice l1, uint64_t l2, uint64_t l3, uint64_t l4);
+static inline void layout__begin(rt_slice l1, uint64_t l2, uint16_t l3, uint16_t l4);
 static inline uint64_t layout__cell(uint8_t l1, uint64_t l2);
 static inline struct layout__Numbers layout__fresh(uint64_t l1);
 static inline void layout__go(rt_slice l1, uint64_t l2, uint64_t l3, uint64_t l4);
+static inline uint64_t layout__head(rt_slice l1, uint64_t l2, uint64_t l3);
 static inline uint8_t layout__holds(rt_slice l1, uint64_t l2);
+static inline uint64_t layout__operand(uint64_t l1);
 static inline void layout__seat(rt_slice l1, uint64_t l2, uint64_t l3);
+static inline uint8_t layout__type_byte(uint64_t l1);
 static inline uint8_t lexer__alone(uint8_t l1);
 static inline uint8_t lexer__bytes__between(uint8_t l1, uint8_t l2, uint8_t l3);
 static inline uint8_t lexer__bytes__byte(rt_slice l1, uint64_t l2);
@@ -709,8 +714,8 @@ static inline uint64_t lexer__bytes__name_end(rt_slice l1, uint64_t l2);
 static inline uint8_t lexer__bytes__opens(uint8_t l1, uint8_t l2);
 static inline uint64_t lexer__bytes__run_end(rt_slice l1, uint64_t l2, uint8_t l3);
 static inline uint8_t lexer__bytes__signed(uint8_t l1, uint8_t l2);
-static inline struct lexer__Spot lexer__comment(uint64_t l1);
-static inline struct lexer__Spot lexer__followed(uint8_t l1, uint8_t l2, uint8_t l3, uint8_t l4);
+static inline struct tokens__Spot lexer__comment(uint64_t l1);
+static inline struct tokens__Spot lexer__followed(uint8_t l1, uint8_t l2, uint8_t l3, uint8_t l4);
 static inline uint64_t lexer__gaps__back_within(rt_slice l1, uint64_t l2, uint64_t l3);
 static inline uint64_t lexer__gaps__beyond(rt_slice l1, uint64_t l2);
 static inline uint8_t lexer__gaps__eight(rt_slice l1, uint64_t l2);
@@ -721,13 +726,13 @@ static inline uint8_t lexer__gaps__four(rt_slice l1, uint64_t l2);
 static inline uint64_t lexer__gaps__next(rt_slice l1, uint64_t l2);
 static inline uint64_t lexer__gaps__start(rt_slice l1, uint64_t l2);
 static inline uint64_t lexer__gaps__within(rt_slice l1, uint64_t l2, uint64_t l3);
-static inline struct lexer__Spot lexer__longer(rt_slice l1, uint64_t l2);
+static inline struct tokens__Spot lexer__longer(rt_slice l1, uint64_t l2);
 static inline uint8_t lexer__mark(rt_slice l1, rt_slice l2);
-static inline struct lexer__Spot lexer__name(rt_slice l1, uint64_t l2);
-static inline struct lexer__Spot lexer__nat(rt_slice l1, uint64_t l2);
-static inline struct lexer__Spot lexer__other(rt_slice l1, uint64_t l2);
-static inline struct lexer__Spot lexer__sign(uint8_t l1, uint8_t l2);
-static inline struct lexer__Spot lexer__token(rt_slice l1, uint64_t l2);
+static inline struct tokens__Spot lexer__name(rt_slice l1, uint64_t l2);
+static inline struct tokens__Spot lexer__nat(rt_slice l1, uint64_t l2);
+static inline struct tokens__Spot lexer__other(rt_slice l1, uint64_t l2);
+static inline struct tokens__Spot lexer__sign(uint8_t l1, uint8_t l2);
+static inline struct tokens__Spot lexer__token(rt_slice l1, uint64_t l2);
 static inline uint8_t lexer__words__kind(rt_slice l1);
 static inline uint8_t lexer__words__only(rt_slice l1, uint8_t l2, rt_slice l3);
 static inline uint8_t lexer__words__same(rt_slice l1, rt_slice l2);
@@ -735,12 +740,15 @@ static inline uint8_t lexer__words__with_t(rt_slice l1);
 static inline uint64_t listing__image__listing(rt_slice l1, rt_slice l2);
 static inline uint64_t little_endian__index(uint8_t l1);
 static inline uint64_t little_endian__pair_at(rt_slice l1, uint64_t l2);
+static inline void little_endian__put_pair(rt_slice l1, uint64_t l2, uint64_t l3);
+static inline void little_endian__put_word(rt_slice l1, uint64_t l2, uint64_t l3);
 static inline uint64_t little_endian__wide(uint8_t l1);
 static inline uint64_t little_endian__word_at(rt_slice l1, uint64_t l2);
-static inline struct load__Load load__of_stream(rt_slice l1, rt_slice l2, rt_slice l3);
-static inline struct load__Load load__program(rt_slice l1, rt_slice l2, rt_slice l3, rt_slice l4);
+static inline struct load__Load load__of_stream(rt_slice l1, rt_slice l2, rt_slice l3, rt_slice l4);
+static inline struct load__Load load__program(rt_slice l1, rt_slice l2, rt_slice l3, rt_slice l4, rt_slice l5);
 static inline uint8_t load__refusal(struct load__Load l1);
 static inline struct load__Loaded load__summed(uint64_t l1, uint64_t l2, struct read_program__Summary l3);
+static inline struct load__Load load__tables(rt_slice l1, rt_slice l2, rt_slice l3, rt_slice l4);
 static inline struct read_exprs__read__ExprRead read_exprs__expr__anew(struct read_exprs__read__ExprRead l1);
 static inline struct read_exprs__read__ExprRead read_exprs__expr__around(struct read_exprs__read__ExprRead l1);
 static inline struct read_exprs__read__ExprRead read_exprs__expr__beside(uint8_t l1, struct judge__Facts l2, struct read_exprs__read__ExprRead l3);
@@ -769,12 +777,12 @@ static inline uint8_t read_params__place_refusal(struct read_params__PlaceRead l
 static inline struct read_params__PlaceRead read_params__row(rt_slice l1, rt_slice l2, uint8_t l3, uint8_t l4, uint8_t l5, uint64_t l6, uint64_t l7);
 static inline struct read_program__ProgramRead read_program__end(rt_slice l1, rt_slice l2, uint8_t l3, uint64_t l4, struct read_program__totals__Totals l5, uint64_t l6);
 static inline uint8_t read_program__number(struct read_program__totals__Totals l1, struct read_schedule__Planned l2);
-static inline struct read_program__ProgramRead read_program__program(rt_slice l1, rt_slice l2, rt_slice l3);
+static inline struct read_program__ProgramRead read_program__program(rt_slice l1, rt_slice l2, rt_slice l3, rt_slice l4);
 static inline uint8_t read_program__program_refusal(struct read_program__ProgramRead l1);
-static inline struct read_program__ProgramRead read_program__rest(rt_slice l1, rt_slice l2, rt_slice l3, uint8_t l4, uint64_t l5);
-static inline struct read_program__Summary read_program__summed(uint8_t l1, struct read_program__totals__Totals l2, struct read_schedule__Planned l3);
+static inline struct read_program__ProgramRead read_program__rest(rt_slice l1, rt_slice l2, rt_slice l3, rt_slice l4, uint8_t l5, uint64_t l6);
+static inline struct read_program__Summary read_program__summed(uint8_t l1, uint64_t l2, struct read_program__totals__Totals l3, struct read_schedule__Planned l4);
 static inline struct read_program__totals__Totals read_program__totals__none(void);
-static inline uint8_t read_program__totals__noted(rt_slice l1, uint8_t l2, uint8_t l3);
+static inline uint8_t read_program__totals__noted(rt_slice l1, uint8_t l2, uint8_t l3, struct read_program__totals__Totals l4, struct judge__Done l5);
 static inline struct read_program__totals__TotalsRead read_program__totals__of_struct(rt_slice l1, rt_slice l2, rt_slice l3, rt_slice l4, uint8_t l5, struct read_program__totals__Totals l6, uint64_t l7);
 static inline uint8_t read_program__totals__over(uint8_t l1, struct judge__Done l2);
 static inline struct read_program__totals__Totals read_program__totals__plus(struct read_program__totals__Totals l1, struct judge__Done l2, uint8_t l3);
@@ -783,11 +791,11 @@ static inline uint8_t read_program__totals__stmt_refusal(struct read_stmts__Stmt
 static inline struct read_program__totals__TotalsRead read_program__totals__structs(rt_slice l1, rt_slice l2, rt_slice l3, rt_slice l4, uint8_t l5, struct read_program__totals__Totals l6, uint64_t l7);
 static inline uint8_t read_program__totals__totals_refusal(struct read_program__totals__TotalsRead l1);
 static inline struct read_schedule__PlanRead read_schedule__around(struct read_schedule__PlanRead l1);
-static inline struct read_schedule__PlanRead read_schedule__call(rt_slice l1, rt_slice l2, uint8_t l3, uint64_t l4);
-static inline struct read_schedule__PlanRead read_schedule__call_in(rt_slice l1, rt_slice l2, uint8_t l3, uint64_t l4);
-static inline uint8_t read_schedule__had(rt_slice l1, uint8_t l2, uint8_t l3);
-static inline struct read_schedule__PlanRead read_schedule__item(rt_slice l1, rt_slice l2, uint8_t l3, uint64_t l4, uint64_t l5);
-static inline struct read_schedule__PlanRead read_schedule__items(rt_slice l1, rt_slice l2, uint8_t l3, uint64_t l4, uint64_t l5);
+static inline struct read_schedule__PlanRead read_schedule__call(rt_slice l1, rt_slice l2, uint8_t l3, uint8_t l4, uint64_t l5);
+static inline struct read_schedule__PlanRead read_schedule__call_in(rt_slice l1, rt_slice l2, uint8_t l3, uint8_t l4, uint64_t l5);
+static inline uint8_t read_schedule__had(rt_slice l1, uint8_t l2, uint8_t l3, uint8_t l4);
+static inline struct read_schedule__PlanRead read_schedule__item(rt_slice l1, rt_slice l2, uint8_t l3, uint8_t l4, uint64_t l5, uint64_t l6);
+static inline struct read_schedule__PlanRead read_schedule__items(rt_slice l1, rt_slice l2, uint8_t l3, uint8_t l4, uint64_t l5, uint64_t l6);
 static inline struct read_schedule__Planned read_schedule__joined(struct read_schedule__Planned l1, struct read_schedule__Planned l2);
 static inline struct read_schedule__Planned read_schedule__one(uint8_t l1);
 static inline uint8_t read_schedule__plan_refusal(struct read_schedule__PlanRead l1);
@@ -808,7 +816,7 @@ static inline struct read_text__Answer read_text__imaged(rt_slice l1, rt_slice l
 static inline struct read_text__Answer read_text__meant(rt_slice l1, rt_slice l2, rt_slice l3, rt_slice l4);
 static inline struct read_text__Answer read_text__passes(rt_slice l1, rt_slice l2, rt_slice l3, rt_slice l4);
 static inline struct read_text__Answer read_text__read(rt_slice l1, rt_slice l2);
-static inline struct read_text__Answer read_text__refused(uint32_t l1);
+static inline struct read_text__Answer read_text__refused(uint8_t l1);
 static inline uint8_t resolve__declarations__few(uint64_t l1, uint64_t l2);
 static inline uint8_t resolve__declarations__is_new(rt_slice l1, rt_slice l2, uint64_t l3, uint64_t l4);
 static inline uint8_t resolve__declarations__narrow(rt_slice l1);
@@ -831,31 +839,29 @@ static inline uint64_t resolve__tables__add(rt_slice l1, uint64_t l2, uint64_t l
 static inline uint64_t resolve__tables__counted(uint64_t l1, uint8_t l2);
 static inline uint8_t resolve__tables__distinct(rt_slice l1, rt_slice l2);
 static inline void resolve__tables__put(rt_slice l1, uint64_t l2, uint64_t l3);
-static inline struct run_images__Report run_images__begun(struct load__Loaded l1, struct run_images__Params l2, rt_slice l3, rt_slice l4, rt_slice l5, rt_slice l6, rt_slice l7);
-static inline struct load__Load run_images__kept(rt_slice l1, rt_slice l2, rt_slice l3, rt_slice l4);
-static inline struct interpreter__turns__Ran run_images__played(rt_slice l1, rt_slice l2, struct run_images__Seat l3, rt_slice l4, rt_slice l5, rt_slice l6, rt_slice l7);
+static inline struct run_images__Report run_images__begun(struct load__Loaded l1, struct seating__Params l2, rt_slice l3, rt_slice l4, rt_slice l5, rt_slice l6, rt_slice l7);
+static inline struct interpreter__turns__Ran run_images__played(rt_slice l1, rt_slice l2, struct seating__Seat l3, rt_slice l4, rt_slice l5, rt_slice l6, rt_slice l7);
 static inline struct run_images__Report run_images__refused(uint8_t l1);
 static inline struct run_images__Report run_images__reported(rt_slice l1, rt_slice l2, rt_slice l3, struct interpreter__turns__Ran l4, uint8_t l5, rt_slice l6, rt_slice l7);
 static inline struct run_images__Report run_images__run(rt_slice l1, rt_slice l2, rt_slice l3, rt_slice l4, rt_slice l5);
-static inline uint8_t run_images__table_refusal(struct table_read__TableRead l1);
 static inline void scheduler__begin__begin_all(rt_slice l1, rt_slice l2, uint64_t l3, uint64_t l4);
 static inline void scheduler__begin__begin_one(rt_slice l1, rt_slice l2, uint64_t l3, uint64_t l4);
 static inline uint8_t scheduler__begin__means(uint64_t l1, uint64_t l2);
-static inline uint64_t scheduler__begin__place(uint16_t l1);
 static inline uint64_t scheduler__count__holding(rt_slice l1, uint64_t l2);
 static inline struct layout__Numbers scheduler__schedule__advance(struct layout__Numbers l1, rt_slice l2, rt_slice l3, rt_slice l4);
 static inline struct layout__Numbers scheduler__schedule__fix(struct layout__Numbers l1);
 static inline struct layout__Numbers scheduler__schedule__round(uint64_t l1, struct layout__Numbers l2);
+static inline struct load__Load seating__admit(rt_slice l1, rt_slice l2, rt_slice l3, rt_slice l4);
+static inline uint8_t seating__refusal(struct seating__SeatRead l1);
+static inline struct seating__SeatRead seating__seat_table(uint64_t l1, rt_slice l2, rt_slice l3, rt_slice l4, rt_slice l5, rt_slice l6, rt_slice l7);
+static inline uint8_t seating__table_refusal(struct table_read__TableRead l1);
 static inline uint16_t std__num__wrapping_add_u16(uint16_t l1, uint16_t l2);
 static inline uint8_t step_lines__byte(uint16_t l1);
 static inline uint64_t step_lines__program(rt_slice l1, uint64_t l2, rt_slice l3, rt_slice l4, uint64_t l5);
 static inline uint64_t step_lines__step(rt_slice l1, struct directory__Row l2, rt_slice l3, uint64_t l4);
-static inline struct step_part__Spot step_part__ended(struct step_part__search__Search l1);
 static inline struct step_part__Spot step_part__locate(rt_slice l1, uint8_t l2, uint8_t l3);
 static inline struct step_part__Spot step_part__nowhere(uint8_t l1);
-static inline struct step_part__search__Search step_part__search__step(rt_slice l1, rt_slice l2, uint8_t l3, struct step_part__search__Wanted l4, struct emit__Put l5, rt_slice l6);
-static inline struct step_part__search__Search step_part__search__steps(rt_slice l1, rt_slice l2, uint8_t l3, struct step_part__search__Wanted l4, struct emit__Put l5, rt_slice l6);
-static inline struct step_part__search__Search step_part__search__structs(rt_slice l1, rt_slice l2, struct step_part__search__Wanted l3, uint64_t l4, rt_slice l5);
+static inline struct step_part__Spot step_part__spotted(struct directory__rows__Sought l1);
 static inline struct step_part__Spot step_part__step_place(rt_slice l1, rt_slice l2, uint8_t l3, uint8_t l4);
 static inline struct table_read__TableRead table_read__behind(rt_slice l1, rt_slice l2, rt_slice l3, uint64_t l4, rt_slice l5, rt_slice l6);
 static inline void table_read__nulls__defaults(rt_slice l1, uint64_t l2, uint64_t l3, rt_slice l4, uint64_t l5);
@@ -878,7 +884,6 @@ static inline uint64_t table_write__write(rt_slice l1, rt_slice l2, rt_slice l3,
 static inline uint64_t table_write__writing__instances(rt_slice l1, uint64_t l2, rt_slice l3, rt_slice l4, rt_slice l5, uint64_t l6, uint64_t l7);
 static inline uint64_t table_write__writing__stream(rt_slice l1, rt_slice l2, rt_slice l3, uint64_t l4, rt_slice l5);
 static inline void table_write__writing__values(rt_slice l1, uint64_t l2, rt_slice l3, uint64_t l4, uint64_t l5);
-static inline void table_write__writing__word(rt_slice l1, uint64_t l2, uint64_t l3);
 static inline uint64_t text__byte(rt_slice l1, uint64_t l2, uint8_t l3);
 static inline uint64_t text__command(rt_slice l1, uint64_t l2, uint64_t l3);
 static inline uint64_t text__decimal(rt_slice l1, uint64_t l2, uint64_t l3);
@@ -2303,10 +2308,10 @@ static inline struct checker__Verdict checker__accepted(struct load__Loaded l1)
 {
     struct checker__Verdict l0;
     l0.f0 = UINT8_C(0);
-    l0.f1 = l1.f2;
-    l0.f2 = l1.f3;
-    l0.f3 = l1.f4;
-    l0.f4 = l1.f5;
+    l0.f1 = l1.f3;
+    l0.f2 = l1.f4;
+    l0.f3 = l1.f5;
+    l0.f4 = l1.f6;
     return l0;
 }
 
@@ -2316,31 +2321,34 @@ static inline struct checker__Verdict checker__check(rt_slice l1, rt_slice l2)
     struct rt_array_uint8_32256 l3;
     struct rt_array_uint8_16 l4;
     struct rt_array_uint8_128 l5;
-    struct load__Load l6;
-    struct load__Loaded l7;
-    uint64_t l8;
+    struct rt_array_uint16_512 l6;
+    struct load__Load l7;
+    struct load__Loaded l8;
     uint64_t l9;
-    struct rt_array_uint16_512 l10;
+    uint64_t l10;
     uint8_t *l11;
     rt_slice l12;
     uint8_t *l13;
     rt_slice l14;
     uint8_t *l15;
     rt_slice l16;
-    uint8_t l17;
-    uint64_t l18;
+    uint8_t *l17;
+    rt_slice l18;
     uint8_t l19;
-    uint8_t *l21;
-    rt_slice l22;
+    uint64_t l20;
+    uint8_t l21;
     uint8_t *l23;
     rt_slice l24;
     uint8_t *l25;
     rt_slice l26;
     uint8_t *l27;
     rt_slice l28;
+    uint8_t *l29;
+    rt_slice l30;
     memset(&l3, 0, sizeof l3);
     memset(&l4, 0, sizeof l4);
     memset(&l5, 0, sizeof l5);
+    memset(&l6, 0, sizeof l6);
     l11 = (uint8_t *)&l3;
     l12.p = l11;
     l12.n = UINT64_C(32256);
@@ -2350,42 +2358,44 @@ static inline struct checker__Verdict checker__check(rt_slice l1, rt_slice l2)
     l15 = (uint8_t *)&l5;
     l16.p = l15;
     l16.n = UINT64_C(128);
-    l6 = load__program(l1, l12, l14, l16);
-    switch (l6.tag) {
+    l17 = (uint8_t *)&l6;
+    l18.p = l17;
+    l18.n = UINT64_C(512);
+    l7 = load__program(l1, l12, l14, l16, l18);
+    switch (l7.tag) {
         case UINT8_C(0): {
-            l7 = l6.s0;
+            l8 = l7.s0;
             break;
         }
         case UINT8_C(1): default: {
-            l17 = load__refusal(l6);
-            l0 = checker__refused(l17);
+            l19 = load__refusal(l7);
+            l0 = checker__refused(l19);
             return l0;
             break;
         }
     }
-    l18 = l2.n;
-    l19 = (uint8_t)(l18 < UINT64_C(1024));
-    if (l19) {
+    l20 = l2.n;
+    l21 = (uint8_t)(l20 < UINT64_C(1024));
+    if (l21) {
         l0 = checker__refused(UINT8_C(13));
         return l0;
     }
-    l8 = l7.f0;
-    l9 = (uint64_t)l7.f2;
-    memset(&l10, 0, sizeof l10);
-    l21 = (uint8_t *)&l3;
-    l22.p = l21;
-    l22.n = l8;
-    l23 = (uint8_t *)&l4;
+    l9 = l8.f0;
+    l10 = (uint64_t)l8.f3;
+    l23 = (uint8_t *)&l3;
     l24.p = l23;
     l24.n = l9;
-    l25 = (uint8_t *)&(*(uint64_t *)l2.p);
+    l25 = (uint8_t *)&l4;
     l26.p = l25;
-    l26.n = l2.n;
-    l27 = (uint8_t *)&l10;
+    l26.n = l10;
+    l27 = (uint8_t *)&(*(uint64_t *)l2.p);
     l28.p = l27;
-    l28.n = UINT64_C(512);
-    (void)emit_steps__program(l22, l24, l7.f1, l26, l28);
-    l0 = checker__accepted(l7);
+    l28.n = l2.n;
+    l29 = (uint8_t *)&l6;
+    l30.p = l29;
+    l30.n = UINT64_C(512);
+    (void)emit_steps__program(l24, l26, l8.f1, l28, l30);
+    l0 = checker__accepted(l8);
     return l0;
 }
 
@@ -2657,7 +2667,7 @@ static inline void compile__spans__note(rt_slice l1, uint64_t l2, rt_slice l3)
         l7 = (uint8_t *)&(*(uint16_t *)l3.p);
         l8.p = l7;
         l8.n = l3.n;
-        l9 = emit_steps__rows__row_at(l1, l4);
+        l9 = directory__rows__row_at(l1, l4);
         compile__spans__note_row(l8, l9);
     }
 end1:;
@@ -2674,9 +2684,9 @@ static inline void compile__spans__note_row(rt_slice l1, struct directory__Row l
     uint8_t *l9;
     rt_slice l10;
     uint16_t l11;
-    l4 = emit_steps__rows__place(l2.f0);
+    l4 = directory__rows__place(l2.f0);
     l5 = (uint64_t)((uint64_t)UINT64_C(32) * (uint64_t)l4);
-    l6 = emit_steps__rows__place(l2.f1);
+    l6 = directory__rows__place(l2.f1);
     l7 = (uint64_t)((uint64_t)l5 + (uint64_t)l6);
     l3 = (uint64_t)((uint64_t)UINT64_C(2) * (uint64_t)l7);
     l9 = (uint8_t *)&(*(uint16_t *)l1.p);
@@ -3677,9 +3687,9 @@ end1:;
     return l0;
 }
 
-static inline struct derive__Act derive__act_at(rt_slice l1, rt_slice l2, uint64_t l3)
+static inline struct text_shape__Act derive__act_at(rt_slice l1, rt_slice l2, uint64_t l3)
 {
-    struct derive__Act l0;
+    struct text_shape__Act l0;
     uint8_t l4;
     uint8_t l5;
     uint8_t l6;
@@ -3718,7 +3728,7 @@ static inline struct derive__Mark derive__below(rt_slice l1, rt_slice l2, rt_sli
     uint8_t l11;
     uint8_t *l12;
     uint8_t l13;
-    struct derive__Act l14;
+    struct text_shape__Act l14;
     uint64_t l15;
     struct derive__Mark l16;
     uint8_t *l17;
@@ -3862,7 +3872,7 @@ static inline struct derive__Mark derive__moved(rt_slice l1, rt_slice l2, rt_sli
     uint8_t l8;
     uint8_t l9;
     uint8_t l10;
-    struct derive__Act l11;
+    struct text_shape__Act l11;
     struct derive__Mark l12;
     uint8_t *l13;
     rt_slice l14;
@@ -4135,6 +4145,180 @@ end1:;
     l13 = l6.f0;
     l14 = l6.f1;
     l0 = derive__ends(l13, l14);
+    return l0;
+}
+
+static inline struct directory__rows__Sought directory__rows__find(rt_slice l1, uint8_t l2, uint8_t l3, uint8_t l4)
+{
+    struct directory__rows__Sought l0;
+    uint64_t l5;
+    uint64_t l6;
+    struct directory__Row l7;
+    uint16_t l8;
+    uint8_t l9;
+    uint8_t l10;
+    uint16_t l11;
+    uint16_t l12;
+    l8 = directory__rows__number(l2);
+    l5 = directory__rows__place(l8);
+    l6 = UINT64_C(0);
+    for (;;) {
+        l9 = (uint8_t)(l6 < l5);
+        if (l9) {
+        } else {
+            goto end1;
+        }
+        l7 = directory__rows__row_at(l1, l6);
+        l11 = directory__rows__number(l3);
+        l12 = directory__rows__number(l4);
+        l10 = directory__rows__is_row(l7, l11, l12);
+        if (l10) {
+            l0.tag = UINT8_C(0);
+            l0.s0 = l7;
+            return l0;
+        }
+        l6 = (uint64_t)((uint64_t)l6 + (uint64_t)UINT64_C(1));
+    }
+end1:;
+    l0.tag = UINT8_C(1);
+    return l0;
+}
+
+static inline uint8_t directory__rows__is_row(struct directory__Row l1, uint16_t l2, uint16_t l3)
+{
+    uint8_t l0;
+    uint8_t l4;
+    l4 = (uint8_t)(l1.f0 == l2);
+    if (l4) {
+        l0 = (uint8_t)(l1.f1 == l3);
+        return l0;
+    }
+    l0 = 0;
+    return l0;
+}
+
+static inline uint16_t directory__rows__look(rt_slice l1, uint64_t l2)
+{
+    uint16_t l0;
+    uint64_t l3;
+    uint8_t l4;
+    uint64_t l5;
+    uint8_t *l6;
+    uint16_t l7;
+    l3 = l1.n;
+    l4 = (uint8_t)(l2 < l3);
+    if (l4) {
+        l5 = (uint64_t)((uint64_t)l2 * (uint64_t)UINT64_C(2));
+        l6 = l1.p + (size_t)l5;
+        l7 = (*(uint16_t *)l6);
+        l0 = l7;
+        return l0;
+    }
+    l0 = UINT16_C(0);
+    return l0;
+}
+
+static inline uint16_t directory__rows__number(uint8_t l1)
+{
+    uint16_t l0;
+    l0 = (uint16_t)l1;
+    return l0;
+}
+
+static inline uint64_t directory__rows__place(uint16_t l1)
+{
+    uint64_t l0;
+    l0 = (uint64_t)l1;
+    return l0;
+}
+
+static inline void directory__rows__put_row(rt_slice l1, uint64_t l2, struct directory__Row l3)
+{
+    uint64_t l4;
+    uint8_t *l6;
+    rt_slice l7;
+    uint8_t *l8;
+    rt_slice l9;
+    uint64_t l10;
+    uint8_t *l11;
+    rt_slice l12;
+    uint8_t *l13;
+    rt_slice l14;
+    l4 = (uint64_t)((uint64_t)UINT64_C(4) * (uint64_t)l2);
+    l6 = (uint8_t *)&(*(uint16_t *)l1.p);
+    l7.p = l6;
+    l7.n = l1.n;
+    directory__rows__store(l7, l4, l3.f0);
+    l8 = (uint8_t *)&(*(uint16_t *)l1.p);
+    l9.p = l8;
+    l9.n = l1.n;
+    l10 = (uint64_t)((uint64_t)l4 + (uint64_t)UINT64_C(1));
+    directory__rows__store(l9, l10, l3.f1);
+    l11 = (uint8_t *)&(*(uint16_t *)l1.p);
+    l12.p = l11;
+    l12.n = l1.n;
+    l10 = (uint64_t)((uint64_t)l4 + (uint64_t)UINT64_C(2));
+    directory__rows__store(l12, l10, l3.f2);
+    l13 = (uint8_t *)&(*(uint16_t *)l1.p);
+    l14.p = l13;
+    l14.n = l1.n;
+    l10 = (uint64_t)((uint64_t)l4 + (uint64_t)UINT64_C(3));
+    directory__rows__store(l14, l10, l3.f3);
+    return;
+}
+
+static inline struct directory__Row directory__rows__row_at(rt_slice l1, uint64_t l2)
+{
+    struct directory__Row l0;
+    uint64_t l3;
+    uint16_t l4;
+    uint16_t l5;
+    uint64_t l6;
+    uint16_t l7;
+    uint64_t l8;
+    uint16_t l9;
+    uint64_t l10;
+    l3 = (uint64_t)((uint64_t)UINT64_C(4) * (uint64_t)l2);
+    l4 = directory__rows__look(l1, l3);
+    l6 = (uint64_t)((uint64_t)l3 + (uint64_t)UINT64_C(1));
+    l5 = directory__rows__look(l1, l6);
+    l8 = (uint64_t)((uint64_t)l3 + (uint64_t)UINT64_C(2));
+    l7 = directory__rows__look(l1, l8);
+    l10 = (uint64_t)((uint64_t)l3 + (uint64_t)UINT64_C(3));
+    l9 = directory__rows__look(l1, l10);
+    l0.f0 = l4;
+    l0.f1 = l5;
+    l0.f2 = l7;
+    l0.f3 = l9;
+    return l0;
+}
+
+static inline void directory__rows__store(rt_slice l1, uint64_t l2, uint16_t l3)
+{
+    uint64_t l4;
+    uint8_t *l5;
+    l4 = (uint64_t)((uint64_t)l2 * (uint64_t)UINT64_C(2));
+    l5 = l1.p + (size_t)l4;
+    (*(uint16_t *)l5) = l3;
+    return;
+}
+
+static inline uint8_t directory__rows__there(rt_slice l1, uint8_t l2, uint8_t l3, uint8_t l4)
+{
+    uint8_t l0;
+    struct directory__rows__Sought l6;
+    l6 = directory__rows__find(l1, l2, l3, l4);
+    switch (l6.tag) {
+        case UINT8_C(0): {
+            break;
+        }
+        case UINT8_C(1): default: {
+            l0 = 0;
+            return l0;
+            break;
+        }
+    }
+    l0 = 1;
     return l0;
 }
 
@@ -4869,107 +5053,6 @@ end1:;
     return l0;
 }
 
-static inline uint16_t emit_steps__rows__number(uint8_t l1)
-{
-    uint16_t l0;
-    l0 = (uint16_t)l1;
-    return l0;
-}
-
-static inline uint64_t emit_steps__rows__place(uint16_t l1)
-{
-    uint64_t l0;
-    l0 = (uint64_t)l1;
-    return l0;
-}
-
-static inline void emit_steps__rows__put_row(rt_slice l1, uint64_t l2, struct directory__Row l3)
-{
-    uint64_t l4;
-    uint8_t *l6;
-    rt_slice l7;
-    uint8_t *l8;
-    rt_slice l9;
-    uint64_t l10;
-    uint8_t *l11;
-    rt_slice l12;
-    uint8_t *l13;
-    rt_slice l14;
-    l4 = (uint64_t)((uint64_t)UINT64_C(4) * (uint64_t)l2);
-    l6 = (uint8_t *)&(*(uint16_t *)l1.p);
-    l7.p = l6;
-    l7.n = l1.n;
-    emit_steps__rows__store(l7, l4, l3.f0);
-    l8 = (uint8_t *)&(*(uint16_t *)l1.p);
-    l9.p = l8;
-    l9.n = l1.n;
-    l10 = (uint64_t)((uint64_t)l4 + (uint64_t)UINT64_C(1));
-    emit_steps__rows__store(l9, l10, l3.f1);
-    l11 = (uint8_t *)&(*(uint16_t *)l1.p);
-    l12.p = l11;
-    l12.n = l1.n;
-    l10 = (uint64_t)((uint64_t)l4 + (uint64_t)UINT64_C(2));
-    emit_steps__rows__store(l12, l10, l3.f2);
-    l13 = (uint8_t *)&(*(uint16_t *)l1.p);
-    l14.p = l13;
-    l14.n = l1.n;
-    l10 = (uint64_t)((uint64_t)l4 + (uint64_t)UINT64_C(3));
-    emit_steps__rows__store(l14, l10, l3.f3);
-    return;
-}
-
-static inline struct directory__Row emit_steps__rows__row_at(rt_slice l1, uint64_t l2)
-{
-    struct directory__Row l0;
-    uint64_t l3;
-    uint64_t l4;
-    uint8_t *l5;
-    uint16_t l6;
-    uint64_t l7;
-    uint64_t l8;
-    uint8_t *l9;
-    uint16_t l10;
-    uint64_t l11;
-    uint64_t l12;
-    uint8_t *l13;
-    uint16_t l14;
-    uint64_t l15;
-    uint64_t l16;
-    uint8_t *l17;
-    uint16_t l18;
-    l3 = (uint64_t)((uint64_t)UINT64_C(4) * (uint64_t)l2);
-    l4 = (uint64_t)((uint64_t)l3 * (uint64_t)UINT64_C(2));
-    l5 = l1.p + (size_t)l4;
-    l6 = (*(uint16_t *)l5);
-    l7 = (uint64_t)((uint64_t)l3 + (uint64_t)UINT64_C(1));
-    l8 = (uint64_t)((uint64_t)l7 * (uint64_t)UINT64_C(2));
-    l9 = l1.p + (size_t)l8;
-    l10 = (*(uint16_t *)l9);
-    l11 = (uint64_t)((uint64_t)l3 + (uint64_t)UINT64_C(2));
-    l12 = (uint64_t)((uint64_t)l11 * (uint64_t)UINT64_C(2));
-    l13 = l1.p + (size_t)l12;
-    l14 = (*(uint16_t *)l13);
-    l15 = (uint64_t)((uint64_t)l3 + (uint64_t)UINT64_C(3));
-    l16 = (uint64_t)((uint64_t)l15 * (uint64_t)UINT64_C(2));
-    l17 = l1.p + (size_t)l16;
-    l18 = (*(uint16_t *)l17);
-    l0.f0 = l6;
-    l0.f1 = l10;
-    l0.f2 = l14;
-    l0.f3 = l18;
-    return l0;
-}
-
-static inline void emit_steps__rows__store(rt_slice l1, uint64_t l2, uint16_t l3)
-{
-    uint64_t l4;
-    uint8_t *l5;
-    l4 = (uint64_t)((uint64_t)l2 * (uint64_t)UINT64_C(2));
-    l5 = l1.p + (size_t)l4;
-    (*(uint16_t *)l5) = l3;
-    return;
-}
-
 static inline struct emit_steps__Place emit_steps__step(rt_slice l1, rt_slice l2, uint16_t l3, struct emit_steps__Place l4, rt_slice l5, rt_slice l6)
 {
     struct emit_steps__Place l0;
@@ -4999,7 +5082,7 @@ static inline struct emit_steps__Place emit_steps__step(rt_slice l1, rt_slice l2
     l11 = l10.f1;
     l16 = l1.p + (size_t)l7;
     l17 = (*(uint8_t *)l16);
-    l15 = emit_steps__rows__number(l17);
+    l15 = directory__rows__number(l17);
     l18 = (uint16_t)l8;
     l19 = (uint64_t)((uint64_t)l11 - (uint64_t)l8);
     l20 = (uint16_t)l19;
@@ -5010,7 +5093,7 @@ static inline struct emit_steps__Place emit_steps__step(rt_slice l1, rt_slice l2
     l22 = (uint8_t *)&(*(uint16_t *)l6.p);
     l23.p = l22;
     l23.n = l6.n;
-    emit_steps__rows__put_row(l23, l9, l12);
+    directory__rows__put_row(l23, l9, l12);
     l19 = (uint64_t)((uint64_t)l9 + (uint64_t)UINT64_C(1));
     l0.f0 = l10.f0;
     l0.f1 = l11;
@@ -5025,7 +5108,7 @@ static inline struct engine__Machine engine__Machine__advance(struct engine__Mac
     uint8_t *l6;
     rt_slice l7;
     l5 = l1.f0;
-    l6 = (uint8_t *)&(*(uint64_t *)l4.p);
+    l6 = (uint8_t *)&(*(uint16_t *)l4.p);
     l7.p = l6;
     l7.n = l4.n;
     l1.f0 = scheduler__schedule__advance(l5, l2, l3, l7);
@@ -5040,41 +5123,37 @@ static inline struct engine__Machine engine__Machine__command(struct engine__Mac
     struct layout__Numbers l8;
     struct execute_stack__Acted l9;
     struct layout__Numbers l10;
-    uint64_t l11;
-    uint64_t l12;
-    uint64_t l13;
-    uint8_t *l14;
-    uint64_t l15;
-    uint8_t *l16;
-    rt_slice l17;
+    uint8_t *l11;
+    rt_slice l12;
+    uint8_t *l13;
+    rt_slice l14;
+    uint8_t *l15;
+    rt_slice l16;
+    uint64_t l17;
     uint8_t *l18;
-    rt_slice l19;
+    uint64_t l19;
     uint8_t *l20;
-    uint64_t l21;
-    uint8_t *l22;
-    rt_slice l23;
-    l11 = (uint64_t)((uint64_t)UINT64_C(4) * (uint64_t)l6);
-    l12 = (uint64_t)((uint64_t)l11 + (uint64_t)UINT64_C(2));
-    l13 = (uint64_t)((uint64_t)l12 * (uint64_t)UINT64_C(8));
-    l14 = l4.p + (size_t)l13;
-    l15 = (*(uint64_t *)l14);
-    l7 = l15;
+    rt_slice l21;
+    l11 = (uint8_t *)&(*(uint16_t *)l4.p);
+    l12.p = l11;
+    l12.n = l4.n;
+    l7 = layout__head(l12, l6, UINT64_C(2));
     l8 = l1.f0;
-    l16 = (uint8_t *)&(*(uint64_t *)l4.p);
-    l17.p = l16;
-    l17.n = l4.n;
-    l18 = (uint8_t *)&(*(uint64_t *)l5.p);
-    l19.p = l18;
-    l19.n = l5.n;
-    l11 = (uint64_t)((uint64_t)l7 * (uint64_t)UINT64_C(8));
-    l20 = l2.p + (size_t)l11;
-    l21 = (*(uint64_t *)l20);
-    l9 = execute__perform(l3, l17, l19, l6, l8.f0, l21);
+    l13 = (uint8_t *)&(*(uint16_t *)l4.p);
+    l14.p = l13;
+    l14.n = l4.n;
+    l15 = (uint8_t *)&(*(uint64_t *)l5.p);
+    l16.p = l15;
+    l16.n = l5.n;
+    l17 = (uint64_t)((uint64_t)l7 * (uint64_t)UINT64_C(8));
+    l18 = l2.p + (size_t)l17;
+    l19 = (*(uint64_t *)l18);
+    l9 = execute__perform(l3, l14, l16, l6, l8.f0, l19);
     l10 = engine__after(l8, l9);
-    l22 = (uint8_t *)&(*(uint64_t *)l4.p);
-    l23.p = l22;
-    l23.n = l4.n;
-    l10.f5 = engine__left_holding(l23, l6, l8.f5);
+    l20 = (uint8_t *)&(*(uint16_t *)l4.p);
+    l21.p = l20;
+    l21.n = l4.n;
+    l10.f5 = engine__left_holding(l21, l6, l8.f5);
     l1.f0 = engine__turned(l10, l6);
     l0 = l1;
     return l0;
@@ -5118,27 +5197,9 @@ static inline struct layout__Numbers engine__after(struct layout__Numbers l1, st
 static inline uint64_t engine__left_holding(rt_slice l1, uint64_t l2, uint64_t l3)
 {
     uint64_t l0;
-    uint64_t l4;
-    uint64_t l5;
-    uint64_t l6;
-    uint8_t *l7;
-    uint64_t l8;
-    uint64_t l9;
-    uint64_t l10;
-    uint8_t *l11;
-    uint64_t l12;
-    uint8_t l13;
-    l4 = (uint64_t)((uint64_t)UINT64_C(4) * (uint64_t)l2);
-    l5 = (uint64_t)((uint64_t)l4 + (uint64_t)UINT64_C(2));
-    l6 = (uint64_t)((uint64_t)l5 * (uint64_t)UINT64_C(8));
-    l7 = l1.p + (size_t)l6;
-    l8 = (*(uint64_t *)l7);
-    l9 = (uint64_t)((uint64_t)l4 + (uint64_t)UINT64_C(3));
-    l10 = (uint64_t)((uint64_t)l9 * (uint64_t)UINT64_C(8));
-    l11 = l1.p + (size_t)l10;
-    l12 = (*(uint64_t *)l11);
-    l13 = (uint8_t)(l8 < l12);
-    if (l13) {
+    uint8_t l4;
+    l4 = layout__holds(l1, l2);
+    if (l4) {
         l0 = l3;
         return l0;
     }
@@ -5169,16 +5230,16 @@ static inline struct execute_stack__Acted execute__perform(rt_slice l1, rt_slice
     uint64_t l8;
     uint64_t l9;
     uint64_t l10;
-    uint64_t l11;
-    uint64_t l12;
-    uint8_t *l13;
-    uint64_t l14;
-    uint64_t l15;
-    uint64_t l16;
-    uint64_t l17;
-    uint8_t *l18;
-    uint64_t l19;
-    struct execute_stack__Acted l20;
+    uint8_t *l11;
+    rt_slice l12;
+    uint64_t l13;
+    uint8_t *l14;
+    rt_slice l15;
+    struct execute_stack__Acted l16;
+    uint8_t *l17;
+    rt_slice l18;
+    uint8_t *l19;
+    rt_slice l20;
     uint8_t *l21;
     rt_slice l22;
     uint8_t *l23;
@@ -5187,138 +5248,132 @@ static inline struct execute_stack__Acted execute__perform(rt_slice l1, rt_slice
     rt_slice l26;
     uint8_t *l27;
     rt_slice l28;
-    uint8_t *l29;
-    rt_slice l30;
-    uint8_t *l31;
-    rt_slice l32;
-    uint64_t l33;
-    uint8_t *l34;
-    rt_slice l35;
-    uint8_t *l36;
-    rt_slice l37;
-    uint64_t l38;
-    uint8_t *l39;
-    rt_slice l40;
-    uint8_t *l41;
-    rt_slice l42;
-    uint64_t l43;
-    uint8_t *l44;
-    rt_slice l45;
-    uint8_t *l46;
-    rt_slice l47;
-    uint64_t l48;
+    uint64_t l29;
+    uint8_t *l30;
+    rt_slice l31;
+    uint8_t *l32;
+    rt_slice l33;
+    uint64_t l34;
+    uint8_t *l35;
+    rt_slice l36;
+    uint8_t *l37;
+    rt_slice l38;
+    uint64_t l39;
+    uint8_t *l40;
+    rt_slice l41;
+    uint8_t *l42;
+    rt_slice l43;
+    uint64_t l44;
+    uint8_t *l45;
+    rt_slice l46;
+    uint8_t *l47;
+    rt_slice l48;
     uint8_t *l49;
     rt_slice l50;
     uint8_t *l51;
     rt_slice l52;
-    uint8_t *l53;
-    rt_slice l54;
-    uint8_t *l55;
-    rt_slice l56;
-    uint8_t l57;
-    l10 = (uint64_t)((uint64_t)UINT64_C(4) * (uint64_t)l4);
-    l11 = (uint64_t)((uint64_t)l10 + (uint64_t)UINT64_C(1));
-    l12 = (uint64_t)((uint64_t)l11 * (uint64_t)UINT64_C(8));
-    l13 = l2.p + (size_t)l12;
-    l14 = (*(uint64_t *)l13);
-    l15 = (uint64_t)((uint64_t)UINT64_C(4) * (uint64_t)l4);
-    l16 = (uint64_t)((uint64_t)l15 + (uint64_t)UINT64_C(2));
-    l17 = (uint64_t)((uint64_t)l16 * (uint64_t)UINT64_C(8));
-    l18 = l2.p + (size_t)l17;
-    l19 = (*(uint64_t *)l18);
+    uint8_t l53;
+    l11 = (uint8_t *)&(*(uint16_t *)l2.p);
+    l12.p = l11;
+    l12.n = l2.n;
+    l10 = layout__head(l12, l4, UINT64_C(1));
+    l14 = (uint8_t *)&(*(uint16_t *)l2.p);
+    l15.p = l14;
+    l15.n = l2.n;
+    l13 = layout__head(l15, l4, UINT64_C(2));
     l7.f0 = l4;
-    l7.f1 = l14;
-    l7.f2 = l19;
+    l7.f1 = l10;
+    l7.f2 = l13;
     l8 = (uint64_t)((uint64_t)l6 % (uint64_t)UINT64_C(256));
-    l9 = (uint64_t)((uint64_t)l6 / (uint64_t)UINT64_C(4294967296));
+    l9 = layout__operand(l6);
     switch (l8) {
         case UINT64_C(1): {
-            l21 = (uint8_t *)&(*(uint64_t *)l2.p);
+            l17 = (uint8_t *)&(*(uint16_t *)l2.p);
+            l18.p = l17;
+            l18.n = l2.n;
+            l19 = (uint8_t *)&(*(uint64_t *)l3.p);
+            l20.p = l19;
+            l20.n = l3.n;
+            l16 = execute_stack__push(l18, l20, l7, l6);
+            break;
+        }
+        case UINT64_C(2): {
+            l21 = (uint8_t *)&(*(uint16_t *)l2.p);
             l22.p = l21;
             l22.n = l2.n;
             l23 = (uint8_t *)&(*(uint64_t *)l3.p);
             l24.p = l23;
             l24.n = l3.n;
-            l20 = execute_stack__push(l22, l24, l7, l6);
+            l16 = execute_stack__push_this(l22, l24, l7);
             break;
         }
-        case UINT64_C(2): {
-            l25 = (uint8_t *)&(*(uint64_t *)l2.p);
+        case UINT64_C(3): {
+            l25 = (uint8_t *)&(*(uint16_t *)l2.p);
             l26.p = l25;
             l26.n = l2.n;
             l27 = (uint8_t *)&(*(uint64_t *)l3.p);
             l28.p = l27;
             l28.n = l3.n;
-            l20 = execute_stack__push_this(l26, l28, l7);
-            break;
-        }
-        case UINT64_C(3): {
-            l29 = (uint8_t *)&(*(uint64_t *)l2.p);
-            l30.p = l29;
-            l30.n = l2.n;
-            l31 = (uint8_t *)&(*(uint64_t *)l3.p);
-            l32.p = l31;
-            l32.n = l3.n;
-            l33 = l9;
-            l20 = execute_variables__read(l30, l32, l7, l33);
+            l29 = l9;
+            l16 = execute_variables__read(l26, l28, l7, l29);
             break;
         }
         case UINT64_C(4): {
-            l34 = (uint8_t *)&(*(uint64_t *)l2.p);
-            l35.p = l34;
-            l35.n = l2.n;
-            l36 = (uint8_t *)&(*(uint64_t *)l3.p);
-            l37.p = l36;
-            l37.n = l3.n;
-            l38 = l9;
-            l20 = execute_variables__write(l1, l35, l37, l7, l38);
+            l30 = (uint8_t *)&(*(uint16_t *)l2.p);
+            l31.p = l30;
+            l31.n = l2.n;
+            l32 = (uint8_t *)&(*(uint64_t *)l3.p);
+            l33.p = l32;
+            l33.n = l3.n;
+            l34 = l9;
+            l16 = execute_variables__write(l1, l31, l33, l7, l34);
             break;
         }
         case UINT64_C(5): {
-            l39 = (uint8_t *)&(*(uint64_t *)l2.p);
-            l40.p = l39;
-            l40.n = l2.n;
-            l41 = (uint8_t *)&(*(uint64_t *)l3.p);
-            l42.p = l41;
-            l42.n = l3.n;
-            l43 = l9;
-            l20 = execute_construct__construct(l1, l40, l42, l7, l5, l43);
+            l35 = (uint8_t *)&(*(uint16_t *)l2.p);
+            l36.p = l35;
+            l36.n = l2.n;
+            l37 = (uint8_t *)&(*(uint64_t *)l3.p);
+            l38.p = l37;
+            l38.n = l3.n;
+            l39 = l9;
+            l16 = execute_construct__construct(l1, l36, l38, l7, l5, l39);
             break;
         }
         case UINT64_C(6): {
-            l44 = (uint8_t *)&(*(uint64_t *)l2.p);
-            l45.p = l44;
-            l45.n = l2.n;
-            l46 = (uint8_t *)&(*(uint64_t *)l3.p);
-            l47.p = l46;
-            l47.n = l3.n;
-            l48 = l9;
-            l20 = execute_stack__branch(l45, l47, l7, l48);
+            l40 = (uint8_t *)&(*(uint16_t *)l2.p);
+            l41.p = l40;
+            l41.n = l2.n;
+            l42 = (uint8_t *)&(*(uint64_t *)l3.p);
+            l43.p = l42;
+            l43.n = l3.n;
+            l44 = l9;
+            l16 = execute_stack__branch(l41, l43, l7, l44);
             break;
         }
         case UINT64_C(7): {
-            l49 = (uint8_t *)&(*(uint64_t *)l2.p);
+            l45 = (uint8_t *)&(*(uint16_t *)l2.p);
+            l46.p = l45;
+            l46.n = l2.n;
+            l47 = (uint8_t *)&(*(uint64_t *)l3.p);
+            l48.p = l47;
+            l48.n = l3.n;
+            l16 = execute_stack__negate(l46, l48, l7);
+            break;
+        }
+        default: {
+            l49 = (uint8_t *)&(*(uint16_t *)l2.p);
             l50.p = l49;
             l50.n = l2.n;
             l51 = (uint8_t *)&(*(uint64_t *)l3.p);
             l52.p = l51;
             l52.n = l3.n;
-            l20 = execute_stack__negate(l50, l52, l7);
-            break;
-        }
-        default: {
-            l53 = (uint8_t *)&(*(uint64_t *)l2.p);
-            l54.p = l53;
-            l54.n = l2.n;
-            l55 = (uint8_t *)&(*(uint64_t *)l3.p);
-            l56.p = l55;
-            l56.n = l3.n;
-            l57 = (uint8_t)l9;
-            l20 = execute_operator__operate(l54, l56, l7, l57);
+            l53 = (uint8_t)l9;
+            l16 = execute_operator__operate(l50, l52, l7, l53);
             break;
         }
     }
-    l0 = l20;
+    l0 = l16;
     return l0;
 }
 
@@ -5365,7 +5420,7 @@ static inline struct execute_stack__Acted execute_construct__construct(rt_slice 
     l19 = (uint64_t)((uint64_t)l18 + (uint64_t)l9);
     l20 = (uint64_t)((uint64_t)UINT64_C(32) * (uint64_t)l5);
     execute_construct__copy(l16, l19, l20, l8);
-    l21 = (uint8_t *)&(*(uint64_t *)l2.p);
+    l21 = (uint8_t *)&(*(uint16_t *)l2.p);
     l22.p = l21;
     l22.n = l2.n;
     layout__seat(l22, l5, l6);
@@ -5373,7 +5428,7 @@ static inline struct execute_stack__Acted execute_construct__construct(rt_slice 
     l23 = (uint8_t)((uint32_t)UINT8_C(16) + (uint32_t)l13);
     l24 = l5;
     l10 = layout__cell(l23, l24);
-    l25 = (uint8_t *)&(*(uint64_t *)l2.p);
+    l25 = (uint8_t *)&(*(uint16_t *)l2.p);
     l26.p = l25;
     l26.n = l2.n;
     l27 = (uint8_t *)&(*(uint64_t *)l3.p);
@@ -5436,8 +5491,8 @@ static inline struct execute_stack__Acted execute_operator__operate(rt_slice l1,
     uint8_t *l18;
     uint64_t l19;
     uint8_t *l20;
-    uint64_t l21;
-    uint32_t l22;
+    uint32_t l21;
+    uint64_t l22;
     uint32_t l23;
     struct execute_stack__Acted l24;
     uint8_t l25;
@@ -5466,21 +5521,19 @@ static inline struct execute_stack__Acted execute_operator__operate(rt_slice l1,
     l20 = l2.p + (size_t)l15;
     l19 = (*(uint64_t *)l20);
     l8 = l19;
-    l19 = (uint64_t)((uint64_t)l7 / (uint64_t)UINT64_C(256));
-    l21 = (uint64_t)((uint64_t)l19 % (uint64_t)UINT64_C(256));
-    l9 = (uint8_t)l21;
-    l19 = (uint64_t)((uint64_t)l7 / (uint64_t)UINT64_C(4294967296));
-    l22 = (uint32_t)l19;
-    l21 = (uint64_t)((uint64_t)l8 / (uint64_t)UINT64_C(4294967296));
-    l23 = (uint32_t)l21;
-    l10 = arithmetic__apply_word(l4, l9, l22, l23);
+    l9 = layout__type_byte(l7);
+    l19 = layout__operand(l7);
+    l21 = (uint32_t)l19;
+    l22 = layout__operand(l8);
+    l23 = (uint32_t)l22;
+    l10 = arithmetic__apply_word(l4, l9, l21, l23);
     switch (l10.tag) {
         case UINT8_C(0): {
             l11 = l10.s0;
             l25 = execute_operator__result_byte(l4, l9);
             l26 = (uint64_t)l11;
             l12 = layout__cell(l25, l26);
-            l28 = (uint8_t *)&(*(uint64_t *)l1.p);
+            l28 = (uint8_t *)&(*(uint16_t *)l1.p);
             l29.p = l28;
             l29.n = l1.n;
             l30 = (uint8_t *)&(*(uint64_t *)l2.p);
@@ -5552,10 +5605,10 @@ static inline struct execute_stack__Acted execute_stack__branch(rt_slice l1, rt_
     l12 = l2.p + (size_t)l11;
     l13 = (*(uint64_t *)l12);
     l7 = l13;
-    l13 = (uint64_t)((uint64_t)l7 / (uint64_t)UINT64_C(4294967296));
+    l13 = layout__operand(l7);
     l14 = (uint8_t)(l13 == UINT64_C(0));
     if (l14) {
-        l16 = (uint8_t *)&(*(uint64_t *)l1.p);
+        l16 = (uint8_t *)&(*(uint16_t *)l1.p);
         l17.p = l16;
         l17.n = l1.n;
         l18 = (uint64_t)((uint64_t)l3.f2 + (uint64_t)UINT64_C(1));
@@ -5564,7 +5617,7 @@ static inline struct execute_stack__Acted execute_stack__branch(rt_slice l1, rt_
         l0.tag = UINT8_C(0);
         return l0;
     }
-    l21 = (uint8_t *)&(*(uint64_t *)l1.p);
+    l21 = (uint8_t *)&(*(uint16_t *)l1.p);
     l22.p = l21;
     l22.n = l1.n;
     l8 = (uint64_t)((uint64_t)l3.f2 + (uint64_t)UINT64_C(1));
@@ -5600,10 +5653,10 @@ static inline struct execute_stack__Acted execute_stack__negate(rt_slice l1, rt_
     l12 = l2.p + (size_t)l11;
     l13 = (*(uint64_t *)l12);
     l6 = l13;
-    l13 = (uint64_t)((uint64_t)l6 / (uint64_t)UINT64_C(4294967296));
+    l13 = layout__operand(l6);
     l14 = (uint64_t)((uint64_t)UINT64_C(1) - (uint64_t)l13);
     l7 = layout__cell(UINT8_C(2), l14);
-    l16 = (uint8_t *)&(*(uint64_t *)l1.p);
+    l16 = (uint8_t *)&(*(uint16_t *)l1.p);
     l17.p = l16;
     l17.n = l1.n;
     l18 = (uint8_t *)&(*(uint64_t *)l2.p);
@@ -5623,7 +5676,7 @@ static inline struct execute_stack__Acted execute_stack__push(rt_slice l1, rt_sl
     uint8_t *l8;
     rt_slice l9;
     uint64_t l10;
-    l6 = (uint8_t *)&(*(uint64_t *)l1.p);
+    l6 = (uint8_t *)&(*(uint16_t *)l1.p);
     l7.p = l6;
     l7.n = l1.n;
     l8 = (uint8_t *)&(*(uint64_t *)l2.p);
@@ -5641,37 +5694,33 @@ static inline struct execute_stack__Acted execute_stack__push_this(rt_slice l1, 
     uint64_t l4;
     uint64_t l5;
     uint64_t l6;
-    uint64_t l7;
-    uint64_t l8;
-    uint64_t l9;
-    uint8_t *l10;
+    uint8_t *l7;
+    rt_slice l8;
+    uint8_t l9;
+    uint8_t l10;
     uint64_t l11;
-    uint8_t l12;
-    uint8_t l13;
-    uint64_t l14;
-    uint8_t *l16;
-    rt_slice l17;
-    uint8_t *l18;
-    rt_slice l19;
+    uint8_t *l13;
+    rt_slice l14;
+    uint8_t *l15;
+    rt_slice l16;
+    uint64_t l17;
     l4 = l3.f0;
-    l7 = (uint64_t)((uint64_t)UINT64_C(4) * (uint64_t)l4);
-    l8 = (uint64_t)((uint64_t)l7 + (uint64_t)UINT64_C(0));
-    l9 = (uint64_t)((uint64_t)l8 * (uint64_t)UINT64_C(8));
-    l10 = l1.p + (size_t)l9;
-    l11 = (*(uint64_t *)l10);
-    l5 = l11;
-    l12 = (uint8_t)l5;
-    l13 = (uint8_t)((uint32_t)UINT8_C(16) + (uint32_t)l12);
-    l14 = l4;
-    l6 = layout__cell(l13, l14);
-    l16 = (uint8_t *)&(*(uint64_t *)l1.p);
-    l17.p = l16;
-    l17.n = l1.n;
-    l18 = (uint8_t *)&(*(uint64_t *)l2.p);
-    l19.p = l18;
-    l19.n = l2.n;
-    l7 = (uint64_t)((uint64_t)l3.f2 + (uint64_t)UINT64_C(1));
-    execute_stack__put(l17, l19, l4, l3.f1, l6, l7);
+    l7 = (uint8_t *)&(*(uint16_t *)l1.p);
+    l8.p = l7;
+    l8.n = l1.n;
+    l5 = layout__head(l8, l4, UINT64_C(0));
+    l9 = (uint8_t)l5;
+    l10 = (uint8_t)((uint32_t)UINT8_C(16) + (uint32_t)l9);
+    l11 = l4;
+    l6 = layout__cell(l10, l11);
+    l13 = (uint8_t *)&(*(uint16_t *)l1.p);
+    l14.p = l13;
+    l14.n = l1.n;
+    l15 = (uint8_t *)&(*(uint64_t *)l2.p);
+    l16.p = l15;
+    l16.n = l2.n;
+    l17 = (uint64_t)((uint64_t)l3.f2 + (uint64_t)UINT64_C(1));
+    execute_stack__put(l14, l16, l4, l3.f1, l6, l17);
     l0.tag = UINT8_C(0);
     return l0;
 }
@@ -5691,7 +5740,7 @@ static inline void execute_stack__put(rt_slice l1, rt_slice l2, uint64_t l3, uin
     l10 = (uint64_t)((uint64_t)l9 * (uint64_t)UINT64_C(8));
     l11 = l2.p + (size_t)l10;
     (*(uint64_t *)l11) = l5;
-    l13 = (uint8_t *)&(*(uint64_t *)l1.p);
+    l13 = (uint8_t *)&(*(uint16_t *)l1.p);
     l14.p = l13;
     l14.n = l1.n;
     l7 = (uint64_t)((uint64_t)l4 + (uint64_t)UINT64_C(1));
@@ -5727,7 +5776,7 @@ static inline struct execute_stack__Acted execute_variables__read(rt_slice l1, r
     l14 = l2.p + (size_t)l13;
     l15 = (*(uint64_t *)l14);
     l7 = l15;
-    l15 = (uint64_t)((uint64_t)l7 / (uint64_t)UINT64_C(4294967296));
+    l15 = layout__operand(l7);
     l8 = l15;
     l10 = (uint64_t)((uint64_t)UINT64_C(32) * (uint64_t)l8);
     l11 = (uint64_t)((uint64_t)l10 + (uint64_t)l4);
@@ -5735,7 +5784,7 @@ static inline struct execute_stack__Acted execute_variables__read(rt_slice l1, r
     l16 = l2.p + (size_t)l13;
     l15 = (*(uint64_t *)l16);
     l9 = l15;
-    l18 = (uint8_t *)&(*(uint64_t *)l1.p);
+    l18 = (uint8_t *)&(*(uint16_t *)l1.p);
     l19.p = l18;
     l19.n = l1.n;
     l20 = (uint8_t *)&(*(uint64_t *)l2.p);
@@ -5759,11 +5808,11 @@ static inline struct execute_stack__Acted execute_variables__replace(rt_slice l1
     l5 = (uint64_t)((uint64_t)l2 * (uint64_t)UINT64_C(8));
     l6 = l1.p + (size_t)l5;
     l7 = (*(uint64_t *)l6);
-    l4 = (uint64_t)((uint64_t)l7 / (uint64_t)UINT64_C(4294967296));
+    l4 = layout__operand(l7);
     l5 = (uint64_t)((uint64_t)l2 * (uint64_t)UINT64_C(8));
     l8 = l1.p + (size_t)l5;
     (*(uint64_t *)l8) = l3;
-    l7 = (uint64_t)((uint64_t)l3 / (uint64_t)UINT64_C(4294967296));
+    l7 = layout__operand(l3);
     l9 = (uint8_t)(l4 == l7);
     l0.tag = UINT8_C(1);
     l0.s0 = l9;
@@ -5788,17 +5837,18 @@ static inline struct execute_stack__Acted execute_variables__write(rt_slice l1, 
     uint64_t l18;
     uint8_t *l19;
     uint8_t *l20;
-    uint8_t *l22;
-    rt_slice l23;
-    uint8_t *l24;
-    uint8_t l25;
+    rt_slice l21;
+    uint8_t *l23;
+    rt_slice l24;
+    uint8_t *l25;
     uint8_t l26;
-    uint64_t l27;
-    uint8_t l28;
-    uint8_t *l29;
-    rt_slice l30;
-    uint64_t l31;
-    uint8_t *l32;
+    uint8_t l27;
+    uint64_t l28;
+    uint8_t l29;
+    uint8_t *l30;
+    rt_slice l31;
+    uint64_t l32;
+    uint8_t *l33;
     l6 = l4.f0;
     l7 = l4.f1;
     l12 = (uint64_t)((uint64_t)UINT64_C(32) * (uint64_t)l6);
@@ -5817,44 +5867,42 @@ static inline struct execute_stack__Acted execute_variables__write(rt_slice l1, 
     l19 = l3.p + (size_t)l14;
     l18 = (*(uint64_t *)l19);
     l9 = l18;
-    l18 = (uint64_t)((uint64_t)l8 / (uint64_t)UINT64_C(4294967296));
+    l18 = layout__operand(l8);
     l10 = l18;
-    l12 = (uint64_t)((uint64_t)UINT64_C(4) * (uint64_t)l10);
-    l13 = (uint64_t)((uint64_t)l12 + (uint64_t)UINT64_C(0));
-    l14 = (uint64_t)((uint64_t)l13 * (uint64_t)UINT64_C(8));
-    l20 = l2.p + (size_t)l14;
-    l15 = (*(uint64_t *)l20);
-    l11 = l15;
-    l22 = (uint8_t *)&(*(uint64_t *)l2.p);
-    l23.p = l22;
-    l23.n = l2.n;
-    l16 = (uint64_t)((uint64_t)l7 - (uint64_t)UINT64_C(2));
-    l15 = (uint64_t)((uint64_t)l4.f2 + (uint64_t)UINT64_C(1));
-    layout__go(l23, l6, l16, l15);
-    l24 = l1.p + (size_t)l11;
-    l25 = (*(uint8_t *)l24);
-    l14 = (uint64_t)l25;
-    l26 = (uint8_t)(l5 < l14);
-    if (l26) {
-        l27 = l1.n;
-        l28 = (uint8_t)(l10 < l27);
-        if (l28) {
+    l20 = (uint8_t *)&(*(uint16_t *)l2.p);
+    l21.p = l20;
+    l21.n = l2.n;
+    l11 = layout__head(l21, l10, UINT64_C(0));
+    l23 = (uint8_t *)&(*(uint16_t *)l2.p);
+    l24.p = l23;
+    l24.n = l2.n;
+    l12 = (uint64_t)((uint64_t)l7 - (uint64_t)UINT64_C(2));
+    l13 = (uint64_t)((uint64_t)l4.f2 + (uint64_t)UINT64_C(1));
+    layout__go(l24, l6, l12, l13);
+    l25 = l1.p + (size_t)l11;
+    l26 = (*(uint8_t *)l25);
+    l14 = (uint64_t)l26;
+    l27 = (uint8_t)(l5 < l14);
+    if (l27) {
+        l28 = l1.n;
+        l29 = (uint8_t)(l10 < l28);
+        if (l29) {
             l0.tag = UINT8_C(0);
             return l0;
         }
-        l29 = (uint8_t *)&(*(uint64_t *)l3.p);
-        l30.p = l29;
-        l30.n = l3.n;
-        l27 = (uint64_t)((uint64_t)UINT64_C(32) * (uint64_t)l10);
-        l31 = (uint64_t)((uint64_t)l27 + (uint64_t)l5);
-        l0 = execute_variables__replace(l30, l31, l9);
+        l30 = (uint8_t *)&(*(uint64_t *)l3.p);
+        l31.p = l30;
+        l31.n = l3.n;
+        l28 = (uint64_t)((uint64_t)UINT64_C(32) * (uint64_t)l10);
+        l32 = (uint64_t)((uint64_t)l28 + (uint64_t)l5);
+        l0 = execute_variables__replace(l31, l32, l9);
         return l0;
     }
-    l15 = (uint64_t)((uint64_t)UINT64_C(32) * (uint64_t)l10);
-    l12 = (uint64_t)((uint64_t)l15 + (uint64_t)l5);
-    l13 = (uint64_t)((uint64_t)l12 * (uint64_t)UINT64_C(8));
-    l32 = l3.p + (size_t)l13;
-    (*(uint64_t *)l32) = l9;
+    l13 = (uint64_t)((uint64_t)UINT64_C(32) * (uint64_t)l10);
+    l16 = (uint64_t)((uint64_t)l13 + (uint64_t)l5);
+    l15 = (uint64_t)((uint64_t)l16 * (uint64_t)UINT64_C(8));
+    l33 = l3.p + (size_t)l15;
+    (*(uint64_t *)l33) = l9;
     l0.tag = UINT8_C(1);
     l0.s0 = 1;
     return l0;
@@ -5958,7 +6006,7 @@ static inline struct engine__Machine interpreter__moving__settle(struct engine__
             l0 = l5;
             return l0;
         }
-        l11 = (uint8_t *)&(*(uint64_t *)l4.p);
+        l11 = (uint8_t *)&(*(uint16_t *)l4.p);
         l12.p = l11;
         l12.n = l4.n;
         l5 = engine__Machine__advance(l5, l2, l3, l12);
@@ -6036,7 +6084,7 @@ static inline struct interpreter__turns__Ran interpreter__turns__run(struct engi
     uint8_t *l25;
     rt_slice l26;
     l9.f0 = 0;
-    l16 = (uint8_t *)&(*(uint64_t *)l6.p);
+    l16 = (uint8_t *)&(*(uint16_t *)l6.p);
     l17.p = l16;
     l17.n = l6.n;
     l10 = interpreter__moving__settle(l1, l4, l5, l17);
@@ -6047,11 +6095,11 @@ static inline struct interpreter__turns__Ran interpreter__turns__run(struct engi
         } else {
             goto end1;
         }
-        l19 = (uint8_t *)&(*(uint64_t *)l6.p);
+        l19 = (uint8_t *)&(*(uint16_t *)l6.p);
         l20.p = l19;
         l20.n = l6.n;
         l12 = holders__records(l20, l11.f0.f0.f0);
-        l21 = (uint8_t *)&(*(uint64_t *)l6.p);
+        l21 = (uint8_t *)&(*(uint16_t *)l6.p);
         l22.p = l21;
         l22.n = l6.n;
         l23 = (uint8_t *)&(*(uint64_t *)l7.p);
@@ -6061,7 +6109,7 @@ static inline struct interpreter__turns__Ran interpreter__turns__run(struct engi
         l18 = (uint8_t)(l11.f2 == UINT8_C(0));
         if (l18) {
             l13 = l11.f0;
-            l25 = (uint8_t *)&(*(uint64_t *)l6.p);
+            l25 = (uint8_t *)&(*(uint16_t *)l6.p);
             l26.p = l25;
             l26.n = l6.n;
             l14 = interpreter__moving__settle(l13, l4, l5, l26);
@@ -6103,7 +6151,7 @@ static inline struct interpreter__turns__Going interpreter__turns__take_turns(st
         l13.p = l12;
         l13.n = UINT64_C(256);
         l10 = holders__holder(l13, l8.f0.f0.f0, l8.f0.f0.f6, l8.f4);
-        l14 = (uint8_t *)&(*(uint64_t *)l5.p);
+        l14 = (uint8_t *)&(*(uint16_t *)l5.p);
         l15.p = l14;
         l15.n = l5.n;
         l16 = (uint8_t *)&(*(uint64_t *)l6.p);
@@ -6136,7 +6184,7 @@ static inline struct interpreter__turns__Going interpreter__turns__turn(struct i
     uint64_t l19;
     struct holders__Record l20;
     l8 = l1.f0;
-    l12 = (uint8_t *)&(*(uint64_t *)l5.p);
+    l12 = (uint8_t *)&(*(uint16_t *)l5.p);
     l13.p = l12;
     l13.n = l5.n;
     l14 = (uint8_t *)&(*(uint64_t *)l6.p);
@@ -6149,7 +6197,7 @@ static inline struct interpreter__turns__Going interpreter__turns__turn(struct i
         l0 = interpreter__turns__resting(l9, l1.f1, l1.f5, l10);
         return l0;
     }
-    l17 = (uint8_t *)&(*(uint64_t *)l5.p);
+    l17 = (uint8_t *)&(*(uint16_t *)l5.p);
     l18.p = l17;
     l18.n = l5.n;
     l11 = layout__holds(l18, l2);
@@ -6690,7 +6738,7 @@ static inline struct judge__Done judging__statement__updated(struct judge__Scope
     return l0;
 }
 
-static inline void layout__begin(rt_slice l1, uint64_t l2, uint64_t l3, uint64_t l4)
+static inline void layout__begin(rt_slice l1, uint64_t l2, uint16_t l3, uint16_t l4)
 {
     uint64_t l5;
     uint64_t l6;
@@ -6698,19 +6746,19 @@ static inline void layout__begin(rt_slice l1, uint64_t l2, uint64_t l3, uint64_t
     uint8_t *l8;
     uint8_t *l9;
     uint8_t *l10;
-    l5 = (uint64_t)((uint64_t)UINT64_C(4) * (uint64_t)l2);
+    l5 = (uint64_t)((uint64_t)UINT64_C(6) * (uint64_t)l2);
     l6 = (uint64_t)((uint64_t)l5 + (uint64_t)UINT64_C(1));
-    l7 = (uint64_t)((uint64_t)l6 * (uint64_t)UINT64_C(8));
+    l7 = (uint64_t)((uint64_t)l6 * (uint64_t)UINT64_C(2));
     l8 = l1.p + (size_t)l7;
-    (*(uint64_t *)l8) = UINT64_C(0);
+    (*(uint16_t *)l8) = UINT16_C(0);
     l6 = (uint64_t)((uint64_t)l5 + (uint64_t)UINT64_C(2));
-    l7 = (uint64_t)((uint64_t)l6 * (uint64_t)UINT64_C(8));
+    l7 = (uint64_t)((uint64_t)l6 * (uint64_t)UINT64_C(2));
     l9 = l1.p + (size_t)l7;
-    (*(uint64_t *)l9) = l3;
+    (*(uint16_t *)l9) = l3;
     l6 = (uint64_t)((uint64_t)l5 + (uint64_t)UINT64_C(3));
-    l7 = (uint64_t)((uint64_t)l6 * (uint64_t)UINT64_C(8));
+    l7 = (uint64_t)((uint64_t)l6 * (uint64_t)UINT64_C(2));
     l10 = l1.p + (size_t)l7;
-    (*(uint64_t *)l10) = l4;
+    (*(uint16_t *)l10) = l4;
     return;
 }
 
@@ -6744,22 +6792,42 @@ static inline struct layout__Numbers layout__fresh(uint64_t l1)
 
 static inline void layout__go(rt_slice l1, uint64_t l2, uint64_t l3, uint64_t l4)
 {
-    uint64_t l5;
+    uint16_t l5;
     uint64_t l6;
     uint64_t l7;
-    uint8_t *l8;
+    uint64_t l8;
     uint8_t *l9;
-    l5 = (uint64_t)((uint64_t)UINT64_C(4) * (uint64_t)l2);
-    l6 = (uint64_t)((uint64_t)l5 + (uint64_t)UINT64_C(1));
-    l7 = (uint64_t)((uint64_t)l6 * (uint64_t)UINT64_C(8));
-    l8 = l1.p + (size_t)l7;
-    (*(uint64_t *)l8) = l3;
-    l5 = (uint64_t)((uint64_t)UINT64_C(4) * (uint64_t)l2);
-    l7 = (uint64_t)((uint64_t)l5 + (uint64_t)UINT64_C(2));
-    l6 = (uint64_t)((uint64_t)l7 * (uint64_t)UINT64_C(8));
-    l9 = l1.p + (size_t)l6;
-    (*(uint64_t *)l9) = l4;
+    uint8_t *l10;
+    l5 = (uint16_t)l3;
+    l6 = (uint64_t)((uint64_t)UINT64_C(6) * (uint64_t)l2);
+    l7 = (uint64_t)((uint64_t)l6 + (uint64_t)UINT64_C(1));
+    l8 = (uint64_t)((uint64_t)l7 * (uint64_t)UINT64_C(2));
+    l9 = l1.p + (size_t)l8;
+    (*(uint16_t *)l9) = l5;
+    l5 = (uint16_t)l4;
+    l8 = (uint64_t)((uint64_t)UINT64_C(6) * (uint64_t)l2);
+    l7 = (uint64_t)((uint64_t)l8 + (uint64_t)UINT64_C(2));
+    l6 = (uint64_t)((uint64_t)l7 * (uint64_t)UINT64_C(2));
+    l10 = l1.p + (size_t)l6;
+    (*(uint16_t *)l10) = l5;
     return;
+}
+
+static inline uint64_t layout__head(rt_slice l1, uint64_t l2, uint64_t l3)
+{
+    uint64_t l0;
+    uint64_t l4;
+    uint64_t l5;
+    uint64_t l6;
+    uint8_t *l7;
+    uint16_t l8;
+    l4 = (uint64_t)((uint64_t)UINT64_C(6) * (uint64_t)l2);
+    l5 = (uint64_t)((uint64_t)l4 + (uint64_t)l3);
+    l6 = (uint64_t)((uint64_t)l5 * (uint64_t)UINT64_C(2));
+    l7 = l1.p + (size_t)l6;
+    l8 = (*(uint16_t *)l7);
+    l0 = (uint64_t)l8;
+    return l0;
 }
 
 static inline uint8_t layout__holds(rt_slice l1, uint64_t l2)
@@ -6769,50 +6837,81 @@ static inline uint8_t layout__holds(rt_slice l1, uint64_t l2)
     uint64_t l4;
     uint64_t l5;
     uint8_t *l6;
-    uint64_t l7;
+    uint16_t l7;
     uint64_t l8;
     uint64_t l9;
     uint8_t *l10;
-    uint64_t l11;
-    l3 = (uint64_t)((uint64_t)UINT64_C(4) * (uint64_t)l2);
+    uint16_t l11;
+    l3 = (uint64_t)((uint64_t)UINT64_C(6) * (uint64_t)l2);
     l4 = (uint64_t)((uint64_t)l3 + (uint64_t)UINT64_C(2));
-    l5 = (uint64_t)((uint64_t)l4 * (uint64_t)UINT64_C(8));
+    l5 = (uint64_t)((uint64_t)l4 * (uint64_t)UINT64_C(2));
     l6 = l1.p + (size_t)l5;
-    l7 = (*(uint64_t *)l6);
+    l7 = (*(uint16_t *)l6);
     l8 = (uint64_t)((uint64_t)l3 + (uint64_t)UINT64_C(3));
-    l9 = (uint64_t)((uint64_t)l8 * (uint64_t)UINT64_C(8));
+    l9 = (uint64_t)((uint64_t)l8 * (uint64_t)UINT64_C(2));
     l10 = l1.p + (size_t)l9;
-    l11 = (*(uint64_t *)l10);
+    l11 = (*(uint16_t *)l10);
     l0 = (uint8_t)(l7 < l11);
+    return l0;
+}
+
+static inline uint64_t layout__operand(uint64_t l1)
+{
+    uint64_t l0;
+    l0 = (uint64_t)((uint64_t)l1 / (uint64_t)UINT64_C(4294967296));
     return l0;
 }
 
 static inline void layout__seat(rt_slice l1, uint64_t l2, uint64_t l3)
 {
     uint64_t l4;
-    uint64_t l5;
-    uint8_t *l6;
+    uint16_t l5;
+    uint64_t l6;
     uint64_t l7;
     uint8_t *l8;
     uint8_t *l9;
     uint8_t *l10;
-    l4 = (uint64_t)((uint64_t)UINT64_C(4) * (uint64_t)l2);
-    l5 = (uint64_t)((uint64_t)l4 * (uint64_t)UINT64_C(8));
-    l6 = l1.p + (size_t)l5;
-    (*(uint64_t *)l6) = l3;
-    l5 = (uint64_t)((uint64_t)l4 + (uint64_t)UINT64_C(1));
-    l7 = (uint64_t)((uint64_t)l5 * (uint64_t)UINT64_C(8));
+    uint8_t *l11;
+    uint8_t *l12;
+    uint8_t *l13;
+    l4 = (uint64_t)((uint64_t)UINT64_C(6) * (uint64_t)l2);
+    l5 = (uint16_t)l3;
+    l6 = (uint64_t)((uint64_t)l4 + (uint64_t)UINT64_C(0));
+    l7 = (uint64_t)((uint64_t)l6 * (uint64_t)UINT64_C(2));
     l8 = l1.p + (size_t)l7;
-    (*(uint64_t *)l8) = UINT64_C(0);
-    l5 = (uint64_t)((uint64_t)l4 + (uint64_t)UINT64_C(2));
-    l7 = (uint64_t)((uint64_t)l5 * (uint64_t)UINT64_C(8));
+    (*(uint16_t *)l8) = l5;
+    l6 = (uint64_t)((uint64_t)l4 + (uint64_t)UINT64_C(1));
+    l7 = (uint64_t)((uint64_t)l6 * (uint64_t)UINT64_C(2));
     l9 = l1.p + (size_t)l7;
-    (*(uint64_t *)l9) = UINT64_C(0);
-    l5 = (uint64_t)((uint64_t)l4 + (uint64_t)UINT64_C(3));
-    l7 = (uint64_t)((uint64_t)l5 * (uint64_t)UINT64_C(8));
+    (*(uint16_t *)l9) = UINT16_C(0);
+    l6 = (uint64_t)((uint64_t)l4 + (uint64_t)UINT64_C(2));
+    l7 = (uint64_t)((uint64_t)l6 * (uint64_t)UINT64_C(2));
     l10 = l1.p + (size_t)l7;
-    (*(uint64_t *)l10) = UINT64_C(0);
+    (*(uint16_t *)l10) = UINT16_C(0);
+    l6 = (uint64_t)((uint64_t)l4 + (uint64_t)UINT64_C(3));
+    l7 = (uint64_t)((uint64_t)l6 * (uint64_t)UINT64_C(2));
+    l11 = l1.p + (size_t)l7;
+    (*(uint16_t *)l11) = UINT16_C(0);
+    l6 = (uint64_t)((uint64_t)l4 + (uint64_t)UINT64_C(4));
+    l7 = (uint64_t)((uint64_t)l6 * (uint64_t)UINT64_C(2));
+    l12 = l1.p + (size_t)l7;
+    (*(uint16_t *)l12) = UINT16_C(0);
+    l6 = (uint64_t)((uint64_t)l4 + (uint64_t)UINT64_C(5));
+    l7 = (uint64_t)((uint64_t)l6 * (uint64_t)UINT64_C(2));
+    l13 = l1.p + (size_t)l7;
+    (*(uint16_t *)l13) = UINT16_C(0);
     return;
+}
+
+static inline uint8_t layout__type_byte(uint64_t l1)
+{
+    uint8_t l0;
+    uint64_t l2;
+    uint64_t l3;
+    l2 = (uint64_t)((uint64_t)l1 / (uint64_t)UINT64_C(256));
+    l3 = (uint64_t)((uint64_t)l2 % (uint64_t)UINT64_C(256));
+    l0 = (uint8_t)l3;
+    return l0;
 }
 
 static inline uint8_t lexer__alone(uint8_t l1)
@@ -7109,9 +7208,9 @@ static inline uint8_t lexer__bytes__signed(uint8_t l1, uint8_t l2)
     return l0;
 }
 
-static inline struct lexer__Spot lexer__comment(uint64_t l1)
+static inline struct tokens__Spot lexer__comment(uint64_t l1)
 {
-    struct lexer__Spot l0;
+    struct tokens__Spot l0;
     uint8_t l2;
     uint64_t l3;
     l2 = (uint8_t)(l1 == UINT64_C(0));
@@ -7126,9 +7225,9 @@ static inline struct lexer__Spot lexer__comment(uint64_t l1)
     return l0;
 }
 
-static inline struct lexer__Spot lexer__followed(uint8_t l1, uint8_t l2, uint8_t l3, uint8_t l4)
+static inline struct tokens__Spot lexer__followed(uint8_t l1, uint8_t l2, uint8_t l3, uint8_t l4)
 {
-    struct lexer__Spot l0;
+    struct tokens__Spot l0;
     uint8_t l5;
     l5 = (uint8_t)(l1 == l2);
     if (l5) {
@@ -7399,9 +7498,9 @@ end1:;
     return l0;
 }
 
-static inline struct lexer__Spot lexer__longer(rt_slice l1, uint64_t l2)
+static inline struct tokens__Spot lexer__longer(rt_slice l1, uint64_t l2)
 {
-    struct lexer__Spot l0;
+    struct tokens__Spot l0;
     uint8_t l3;
     uint8_t *l4;
     uint8_t l5;
@@ -7440,7 +7539,7 @@ static inline uint8_t lexer__mark(rt_slice l1, rt_slice l2)
     uint64_t l5;
     uint64_t l6;
     uint8_t l7;
-    struct lexer__Spot l8;
+    struct tokens__Spot l8;
     uint8_t *l9;
     uint64_t l10;
     l3 = UINT64_C(0);
@@ -7474,9 +7573,9 @@ end1:;
     return l0;
 }
 
-static inline struct lexer__Spot lexer__name(rt_slice l1, uint64_t l2)
+static inline struct tokens__Spot lexer__name(rt_slice l1, uint64_t l2)
 {
-    struct lexer__Spot l0;
+    struct tokens__Spot l0;
     uint64_t l3;
     uint64_t l4;
     uint8_t l5;
@@ -7499,9 +7598,9 @@ static inline struct lexer__Spot lexer__name(rt_slice l1, uint64_t l2)
     return l0;
 }
 
-static inline struct lexer__Spot lexer__nat(rt_slice l1, uint64_t l2)
+static inline struct tokens__Spot lexer__nat(rt_slice l1, uint64_t l2)
 {
-    struct lexer__Spot l0;
+    struct tokens__Spot l0;
     uint64_t l3;
     uint64_t l4;
     uint8_t l5;
@@ -7522,9 +7621,9 @@ static inline struct lexer__Spot lexer__nat(rt_slice l1, uint64_t l2)
     return l0;
 }
 
-static inline struct lexer__Spot lexer__other(rt_slice l1, uint64_t l2)
+static inline struct tokens__Spot lexer__other(rt_slice l1, uint64_t l2)
 {
-    struct lexer__Spot l0;
+    struct tokens__Spot l0;
     uint8_t l3;
     uint64_t l4;
     uint8_t l5;
@@ -7561,10 +7660,10 @@ static inline struct lexer__Spot lexer__other(rt_slice l1, uint64_t l2)
     return l0;
 }
 
-static inline struct lexer__Spot lexer__sign(uint8_t l1, uint8_t l2)
+static inline struct tokens__Spot lexer__sign(uint8_t l1, uint8_t l2)
 {
-    struct lexer__Spot l0;
-    struct lexer__Spot l3;
+    struct tokens__Spot l0;
+    struct tokens__Spot l3;
     switch (l1) {
         case UINT8_C(33): {
             l3 = lexer__followed(l2, UINT8_C(61), UINT8_C(24), UINT8_C(22));
@@ -7677,9 +7776,9 @@ static inline struct lexer__Spot lexer__sign(uint8_t l1, uint8_t l2)
     return l0;
 }
 
-static inline struct lexer__Spot lexer__token(rt_slice l1, uint64_t l2)
+static inline struct tokens__Spot lexer__token(rt_slice l1, uint64_t l2)
 {
-    struct lexer__Spot l0;
+    struct tokens__Spot l0;
     uint8_t l3;
     uint8_t *l4;
     uint8_t l5;
@@ -7910,12 +8009,12 @@ static inline uint64_t listing__image__listing(rt_slice l1, rt_slice l2)
     struct rt_array_uint8_32256 l3;
     struct rt_array_uint8_16 l4;
     struct rt_array_uint8_128 l5;
-    struct load__Load l6;
-    struct load__Loaded l7;
-    uint64_t l8;
+    struct rt_array_uint16_512 l6;
+    struct load__Load l7;
+    struct load__Loaded l8;
     uint64_t l9;
-    struct rt_array_uint64_1024 l10;
-    struct rt_array_uint16_512 l11;
+    uint64_t l10;
+    struct rt_array_uint64_1024 l11;
     struct emit_steps__Place l12;
     uint64_t l13;
     struct rt_array_uint64_4 l14;
@@ -7930,11 +8029,11 @@ static inline uint64_t listing__image__listing(rt_slice l1, rt_slice l2)
     rt_slice l25;
     uint8_t *l26;
     rt_slice l27;
-    struct rt_array_uint64_1 l28;
-    uint8_t l29;
-    uint64_t l30;
-    uint8_t *l31;
-    rt_slice l32;
+    uint8_t *l28;
+    rt_slice l29;
+    struct rt_array_uint64_1 l30;
+    uint8_t l31;
+    uint64_t l32;
     uint8_t *l33;
     rt_slice l34;
     uint8_t *l35;
@@ -7943,12 +8042,12 @@ static inline uint64_t listing__image__listing(rt_slice l1, rt_slice l2)
     rt_slice l38;
     uint8_t *l39;
     rt_slice l40;
-    uint64_t l41;
-    uint64_t l42;
+    uint8_t *l41;
+    rt_slice l42;
     uint64_t l43;
     uint64_t l44;
-    uint8_t *l45;
-    rt_slice l46;
+    uint64_t l45;
+    uint64_t l46;
     uint8_t *l47;
     rt_slice l48;
     uint8_t *l49;
@@ -7959,9 +8058,12 @@ static inline uint64_t listing__image__listing(rt_slice l1, rt_slice l2)
     rt_slice l54;
     uint8_t *l55;
     rt_slice l56;
+    uint8_t *l57;
+    rt_slice l58;
     memset(&l3, 0, sizeof l3);
     memset(&l4, 0, sizeof l4);
     memset(&l5, 0, sizeof l5);
+    memset(&l6, 0, sizeof l6);
     l18 = (uint8_t *)&l3;
     l19.p = l18;
     l19.n = UINT64_C(32256);
@@ -7971,73 +8073,75 @@ static inline uint64_t listing__image__listing(rt_slice l1, rt_slice l2)
     l22 = (uint8_t *)&l5;
     l23.p = l22;
     l23.n = UINT64_C(128);
-    l6 = load__program(l1, l19, l21, l23);
-    switch (l6.tag) {
+    l24 = (uint8_t *)&l6;
+    l25.p = l24;
+    l25.n = UINT64_C(512);
+    l7 = load__program(l1, l19, l21, l23, l25);
+    switch (l7.tag) {
         case UINT8_C(0): {
-            l7 = l6.s0;
+            l8 = l7.s0;
             break;
         }
         case UINT8_C(1): default: {
-            l24 = (uint8_t *)&(*(uint8_t *)l2.p);
-            l25.p = l24;
-            l25.n = l2.n;
-            l26 = (uint8_t *)&listing__image__listing__l16;
+            l26 = (uint8_t *)&(*(uint8_t *)l2.p);
             l27.p = l26;
-            l27.n = UINT64_C(7);
-            l29 = load__refusal(l6);
-            l30 = (uint64_t)l29;
-            l28 = (struct rt_array_uint64_1){ { l30 } };
-            l31 = (uint8_t *)&l28;
-            l32.p = l31;
-            l32.n = UINT64_C(1);
-            l0 = text__lines__row(l25, UINT64_C(0), l27, l32);
+            l27.n = l2.n;
+            l28 = (uint8_t *)&listing__image__listing__l16;
+            l29.p = l28;
+            l29.n = UINT64_C(7);
+            l31 = load__refusal(l7);
+            l32 = (uint64_t)l31;
+            l30 = (struct rt_array_uint64_1){ { l32 } };
+            l33 = (uint8_t *)&l30;
+            l34.p = l33;
+            l34.n = UINT64_C(1);
+            l0 = text__lines__row(l27, UINT64_C(0), l29, l34);
             return l0;
             break;
         }
     }
-    l8 = l7.f0;
-    l9 = (uint64_t)l7.f2;
-    memset(&l10, 0, sizeof l10);
+    l9 = l8.f0;
+    l10 = (uint64_t)l8.f3;
     memset(&l11, 0, sizeof l11);
-    l33 = (uint8_t *)&l3;
-    l34.p = l33;
-    l34.n = l8;
-    l35 = (uint8_t *)&l4;
+    l35 = (uint8_t *)&l3;
     l36.p = l35;
     l36.n = l9;
-    l37 = (uint8_t *)&l10;
+    l37 = (uint8_t *)&l4;
     l38.p = l37;
-    l38.n = UINT64_C(1024);
+    l38.n = l10;
     l39 = (uint8_t *)&l11;
     l40.p = l39;
-    l40.n = UINT64_C(512);
-    l12 = emit_steps__program(l34, l36, l7.f1, l38, l40);
+    l40.n = UINT64_C(1024);
+    l41 = (uint8_t *)&l6;
+    l42.p = l41;
+    l42.n = UINT64_C(512);
+    l12 = emit_steps__program(l36, l38, l8.f1, l40, l42);
     l13 = l12.f2;
-    l41 = (uint64_t)l7.f2;
-    l42 = (uint64_t)l7.f3;
-    l43 = (uint64_t)l7.f4;
-    l44 = (uint64_t)l7.f5;
-    l14 = (struct rt_array_uint64_4){ { l41, l42, l43, l44 } };
-    l45 = (uint8_t *)&(*(uint8_t *)l2.p);
-    l46.p = l45;
-    l46.n = l2.n;
-    l47 = (uint8_t *)&listing__image__listing__l17;
+    l43 = (uint64_t)l8.f3;
+    l44 = (uint64_t)l8.f4;
+    l45 = (uint64_t)l8.f5;
+    l46 = (uint64_t)l8.f6;
+    l14 = (struct rt_array_uint64_4){ { l43, l44, l45, l46 } };
+    l47 = (uint8_t *)&(*(uint8_t *)l2.p);
     l48.p = l47;
-    l48.n = UINT64_C(6);
-    l49 = (uint8_t *)&l14;
+    l48.n = l2.n;
+    l49 = (uint8_t *)&listing__image__listing__l17;
     l50.p = l49;
-    l50.n = UINT64_C(4);
-    l15 = text__lines__row(l46, UINT64_C(0), l48, l50);
-    l51 = (uint8_t *)&l11;
+    l50.n = UINT64_C(6);
+    l51 = (uint8_t *)&l14;
     l52.p = l51;
-    l52.n = UINT64_C(512);
-    l53 = (uint8_t *)&l10;
+    l52.n = UINT64_C(4);
+    l15 = text__lines__row(l48, UINT64_C(0), l50, l52);
+    l53 = (uint8_t *)&l6;
     l54.p = l53;
-    l54.n = UINT64_C(1024);
-    l55 = (uint8_t *)&(*(uint8_t *)l2.p);
+    l54.n = UINT64_C(512);
+    l55 = (uint8_t *)&l11;
     l56.p = l55;
-    l56.n = l2.n;
-    l0 = step_lines__program(l52, l13, l54, l56, l15);
+    l56.n = UINT64_C(1024);
+    l57 = (uint8_t *)&(*(uint8_t *)l2.p);
+    l58.p = l57;
+    l58.n = l2.n;
+    l0 = step_lines__program(l54, l13, l56, l58, l15);
     return l0;
 }
 
@@ -8069,6 +8173,64 @@ static inline uint64_t little_endian__pair_at(rt_slice l1, uint64_t l2)
     l10 = (uint64_t)((uint64_t)UINT64_C(256) * (uint64_t)l6);
     l0 = (uint64_t)((uint64_t)l3 + (uint64_t)l10);
     return l0;
+}
+
+static inline void little_endian__put_pair(rt_slice l1, uint64_t l2, uint64_t l3)
+{
+    uint64_t l4;
+    uint64_t l5;
+    uint8_t l6;
+    uint8_t *l7;
+    uint64_t l8;
+    uint8_t *l9;
+    l4 = (uint64_t)((uint64_t)l3 / (uint64_t)UINT64_C(256));
+    l5 = (uint64_t)((uint64_t)l3 % (uint64_t)UINT64_C(256));
+    l6 = (uint8_t)l5;
+    l7 = l1.p + (size_t)l2;
+    (*(uint8_t *)l7) = l6;
+    l5 = (uint64_t)((uint64_t)l4 % (uint64_t)UINT64_C(256));
+    l6 = (uint8_t)l5;
+    l8 = (uint64_t)((uint64_t)l2 + (uint64_t)UINT64_C(1));
+    l9 = l1.p + (size_t)l8;
+    (*(uint8_t *)l9) = l6;
+    return;
+}
+
+static inline void little_endian__put_word(rt_slice l1, uint64_t l2, uint64_t l3)
+{
+    uint64_t l4;
+    uint64_t l5;
+    uint64_t l6;
+    uint64_t l7;
+    uint8_t l8;
+    uint8_t *l9;
+    uint64_t l10;
+    uint8_t *l11;
+    uint8_t *l12;
+    uint8_t *l13;
+    l4 = (uint64_t)((uint64_t)l3 / (uint64_t)UINT64_C(256));
+    l5 = (uint64_t)((uint64_t)l4 / (uint64_t)UINT64_C(256));
+    l6 = (uint64_t)((uint64_t)l5 / (uint64_t)UINT64_C(256));
+    l7 = (uint64_t)((uint64_t)l3 % (uint64_t)UINT64_C(256));
+    l8 = (uint8_t)l7;
+    l9 = l1.p + (size_t)l2;
+    (*(uint8_t *)l9) = l8;
+    l7 = (uint64_t)((uint64_t)l4 % (uint64_t)UINT64_C(256));
+    l8 = (uint8_t)l7;
+    l10 = (uint64_t)((uint64_t)l2 + (uint64_t)UINT64_C(1));
+    l11 = l1.p + (size_t)l10;
+    (*(uint8_t *)l11) = l8;
+    l7 = (uint64_t)((uint64_t)l5 % (uint64_t)UINT64_C(256));
+    l8 = (uint8_t)l7;
+    l10 = (uint64_t)((uint64_t)l2 + (uint64_t)UINT64_C(2));
+    l12 = l1.p + (size_t)l10;
+    (*(uint8_t *)l12) = l8;
+    l7 = (uint64_t)((uint64_t)l6 % (uint64_t)UINT64_C(256));
+    l8 = (uint8_t)l7;
+    l10 = (uint64_t)((uint64_t)l2 + (uint64_t)UINT64_C(3));
+    l13 = l1.p + (size_t)l10;
+    (*(uint8_t *)l13) = l8;
+    return;
 }
 
 static inline uint64_t little_endian__wide(uint8_t l1)
@@ -8125,97 +8287,107 @@ static inline uint64_t little_endian__word_at(rt_slice l1, uint64_t l2)
     return l0;
 }
 
-static inline struct load__Load load__of_stream(rt_slice l1, rt_slice l2, rt_slice l3)
+static inline struct load__Load load__of_stream(rt_slice l1, rt_slice l2, rt_slice l3, rt_slice l4)
 {
     struct load__Load l0;
-    struct read_program__ProgramRead l4;
-    uint64_t l5;
-    struct read_program__Summary l6;
-    uint8_t *l7;
-    rt_slice l8;
-    uint8_t *l9;
-    rt_slice l10;
-    uint8_t l11;
-    uint8_t l12;
-    struct load__Loaded l13;
-    uint64_t l14;
-    l7 = (uint8_t *)&(*(uint8_t *)l2.p);
-    l8.p = l7;
-    l8.n = l2.n;
-    l9 = (uint8_t *)&(*(uint8_t *)l3.p);
-    l10.p = l9;
-    l10.n = l3.n;
-    l4 = read_program__program(l1, l8, l10);
-    switch (l4.tag) {
-        case UINT8_C(0): {
-            l5 = l4.s0;
-            l6 = l4.s1;
-            break;
-        }
-        case UINT8_C(1): default: {
-            l11 = read_program__program_refusal(l4);
-            l0.tag = UINT8_C(1);
-            l0.s1 = l11;
-            return l0;
-            break;
-        }
-    }
-    l12 = (uint8_t)(l6.f0 != UINT8_C(0));
-    if (l12) {
-        l0.tag = UINT8_C(1);
-        l0.s1 = l6.f0;
-        return l0;
-    }
-    l14 = l1.n;
-    l13 = load__summed(l14, l5, l6);
-    l0.tag = UINT8_C(0);
-    l0.s0 = l13;
-    return l0;
-}
-
-static inline struct load__Load load__program(rt_slice l1, rt_slice l2, rt_slice l3, rt_slice l4)
-{
-    struct load__Load l0;
-    struct blocks__Opened l5;
+    struct read_program__ProgramRead l5;
     uint64_t l6;
-    uint8_t *l7;
-    rt_slice l8;
-    uint8_t l9;
-    struct block__Fault l10;
-    uint8_t *l11;
-    rt_slice l12;
-    uint8_t *l13;
-    rt_slice l14;
-    uint8_t *l15;
-    rt_slice l16;
-    l7 = (uint8_t *)&(*(uint8_t *)l2.p);
-    l8.p = l7;
-    l8.n = l2.n;
-    l5 = blocks__open_image(l1, UINT64_C(64), l8);
+    struct read_program__Summary l7;
+    uint8_t *l8;
+    rt_slice l9;
+    uint8_t *l10;
+    rt_slice l11;
+    uint8_t *l12;
+    rt_slice l13;
+    uint8_t l14;
+    uint8_t l15;
+    struct load__Loaded l16;
+    uint64_t l17;
+    l8 = (uint8_t *)&(*(uint8_t *)l2.p);
+    l9.p = l8;
+    l9.n = l2.n;
+    l10 = (uint8_t *)&(*(uint8_t *)l3.p);
+    l11.p = l10;
+    l11.n = l3.n;
+    l12 = (uint8_t *)&(*(uint16_t *)l4.p);
+    l13.p = l12;
+    l13.n = l4.n;
+    l5 = read_program__program(l1, l9, l11, l13);
     switch (l5.tag) {
         case UINT8_C(0): {
             l6 = l5.s0;
+            l7 = l5.s1;
             break;
         }
         case UINT8_C(1): default: {
-            l10 = blocks__fault_of(l5);
-            l9 = blocks__program_number(l10);
+            l14 = read_program__program_refusal(l5);
             l0.tag = UINT8_C(1);
-            l0.s1 = l9;
+            l0.s1 = l14;
             return l0;
             break;
         }
     }
-    l11 = (uint8_t *)&(*(uint8_t *)l2.p);
-    l12.p = l11;
-    l12.n = l6;
-    l13 = (uint8_t *)&(*(uint8_t *)l3.p);
-    l14.p = l13;
-    l14.n = l3.n;
-    l15 = (uint8_t *)&(*(uint8_t *)l4.p);
-    l16.p = l15;
-    l16.n = l4.n;
-    l0 = load__of_stream(l12, l14, l16);
+    l15 = (uint8_t)(l7.f0 != UINT8_C(0));
+    if (l15) {
+        l0.tag = UINT8_C(1);
+        l0.s1 = l7.f0;
+        return l0;
+    }
+    l17 = l1.n;
+    l16 = load__summed(l17, l6, l7);
+    l0.tag = UINT8_C(0);
+    l0.s0 = l16;
+    return l0;
+}
+
+static inline struct load__Load load__program(rt_slice l1, rt_slice l2, rt_slice l3, rt_slice l4, rt_slice l5)
+{
+    struct load__Load l0;
+    struct blocks__Opened l6;
+    uint64_t l7;
+    uint8_t *l8;
+    rt_slice l9;
+    uint8_t l10;
+    struct block__Fault l11;
+    uint8_t *l12;
+    rt_slice l13;
+    uint8_t *l14;
+    rt_slice l15;
+    uint8_t *l16;
+    rt_slice l17;
+    uint8_t *l18;
+    rt_slice l19;
+    l8 = (uint8_t *)&(*(uint8_t *)l2.p);
+    l9.p = l8;
+    l9.n = l2.n;
+    l6 = blocks__open_image(l1, UINT64_C(64), l9);
+    switch (l6.tag) {
+        case UINT8_C(0): {
+            l7 = l6.s0;
+            break;
+        }
+        case UINT8_C(1): default: {
+            l11 = blocks__fault_of(l6);
+            l10 = blocks__program_number(l11);
+            l0.tag = UINT8_C(1);
+            l0.s1 = l10;
+            return l0;
+            break;
+        }
+    }
+    l12 = (uint8_t *)&(*(uint8_t *)l2.p);
+    l13.p = l12;
+    l13.n = l7;
+    l14 = (uint8_t *)&(*(uint8_t *)l3.p);
+    l15.p = l14;
+    l15.n = l3.n;
+    l16 = (uint8_t *)&(*(uint8_t *)l4.p);
+    l17.p = l16;
+    l17.n = l4.n;
+    l18 = (uint8_t *)&(*(uint16_t *)l5.p);
+    l19.p = l18;
+    l19.n = l5.n;
+    l0 = load__of_stream(l13, l15, l17, l19);
     return l0;
 }
 
@@ -8244,15 +8416,45 @@ static inline struct load__Loaded load__summed(uint64_t l1, uint64_t l2, struct 
     uint8_t l4;
     uint16_t l5;
     uint8_t l6;
-    l4 = (uint8_t)l3.f2;
-    l5 = (uint16_t)l3.f3;
-    l6 = (uint8_t)l3.f4;
+    l4 = (uint8_t)l3.f3;
+    l5 = (uint16_t)l3.f4;
+    l6 = (uint8_t)l3.f5;
     l0.f0 = l1;
     l0.f1 = l2;
     l0.f2 = l3.f1;
-    l0.f3 = l4;
-    l0.f4 = l5;
-    l0.f5 = l6;
+    l0.f3 = l3.f2;
+    l0.f4 = l4;
+    l0.f5 = l5;
+    l0.f6 = l6;
+    return l0;
+}
+
+static inline struct load__Load load__tables(rt_slice l1, rt_slice l2, rt_slice l3, rt_slice l4)
+{
+    struct load__Load l0;
+    struct rt_array_uint16_512 l5;
+    uint8_t *l6;
+    rt_slice l7;
+    uint8_t *l8;
+    rt_slice l9;
+    uint8_t *l10;
+    rt_slice l11;
+    uint8_t *l12;
+    rt_slice l13;
+    memset(&l5, 0, sizeof l5);
+    l6 = (uint8_t *)&(*(uint8_t *)l2.p);
+    l7.p = l6;
+    l7.n = l2.n;
+    l8 = (uint8_t *)&(*(uint8_t *)l3.p);
+    l9.p = l8;
+    l9.n = l3.n;
+    l10 = (uint8_t *)&(*(uint8_t *)l4.p);
+    l11.p = l10;
+    l11.n = l4.n;
+    l12 = (uint8_t *)&l5;
+    l13.p = l12;
+    l13.n = UINT64_C(512);
+    l0 = load__program(l1, l7, l9, l11, l13);
     return l0;
 }
 
@@ -9167,10 +9369,12 @@ static inline struct read_program__ProgramRead read_program__end(rt_slice l1, rt
     uint64_t l8;
     struct read_schedule__Planned l9;
     uint8_t l10;
-    uint64_t l11;
-    uint8_t l12;
-    struct read_program__Summary l13;
-    l7 = read_schedule__items(l1, l2, l3, l6, UINT64_C(8));
+    uint8_t l11;
+    uint64_t l12;
+    uint8_t l13;
+    struct read_program__Summary l14;
+    l10 = (uint8_t)l5.f0;
+    l7 = read_schedule__items(l1, l2, l10, l3, l6, UINT64_C(8));
     switch (l7.tag) {
         case UINT8_C(0): {
             l8 = l7.s0;
@@ -9178,24 +9382,24 @@ static inline struct read_program__ProgramRead read_program__end(rt_slice l1, rt
             break;
         }
         case UINT8_C(1): default: {
-            l10 = read_schedule__plan_refusal(l7);
+            l11 = read_schedule__plan_refusal(l7);
             l0.tag = UINT8_C(1);
-            l0.s2 = l10;
+            l0.s2 = l11;
             return l0;
             break;
         }
     }
-    l11 = l1.n;
-    l12 = (uint8_t)(l8 < l11);
-    if (l12) {
+    l12 = l1.n;
+    l13 = (uint8_t)(l8 < l12);
+    if (l13) {
         l0.tag = UINT8_C(1);
         l0.s2 = UINT8_C(4);
         return l0;
     }
-    l13 = read_program__summed(l3, l5, l9);
+    l14 = read_program__summed(l3, l6, l5, l9);
     l0.tag = UINT8_C(0);
     l0.s0 = l4;
-    l0.s1 = l13;
+    l0.s1 = l14;
     return l0;
 }
 
@@ -9222,53 +9426,58 @@ static inline uint8_t read_program__number(struct read_program__totals__Totals l
     return l0;
 }
 
-static inline struct read_program__ProgramRead read_program__program(rt_slice l1, rt_slice l2, rt_slice l3)
+static inline struct read_program__ProgramRead read_program__program(rt_slice l1, rt_slice l2, rt_slice l3, rt_slice l4)
 {
     struct read_program__ProgramRead l0;
-    struct read_params__ParamsRead l4;
-    uint64_t l5;
-    uint8_t l6;
-    uint64_t l7;
+    struct read_params__ParamsRead l5;
+    uint64_t l6;
+    uint8_t l7;
     uint64_t l8;
-    uint8_t *l9;
-    rt_slice l10;
-    uint8_t *l11;
-    rt_slice l12;
-    uint8_t l13;
-    uint8_t *l14;
-    rt_slice l15;
-    uint8_t *l16;
-    rt_slice l17;
-    l9 = (uint8_t *)&(*(uint8_t *)l2.p);
-    l10.p = l9;
-    l10.n = l2.n;
-    l11 = (uint8_t *)&(*(uint8_t *)l3.p);
-    l12.p = l11;
-    l12.n = l3.n;
-    l4 = read_params__params(l1, l10, l12);
-    switch (l4.tag) {
+    uint64_t l9;
+    uint8_t *l10;
+    rt_slice l11;
+    uint8_t *l12;
+    rt_slice l13;
+    uint8_t l14;
+    uint8_t *l15;
+    rt_slice l16;
+    uint8_t *l17;
+    rt_slice l18;
+    uint8_t *l19;
+    rt_slice l20;
+    l10 = (uint8_t *)&(*(uint8_t *)l2.p);
+    l11.p = l10;
+    l11.n = l2.n;
+    l12 = (uint8_t *)&(*(uint8_t *)l3.p);
+    l13.p = l12;
+    l13.n = l3.n;
+    l5 = read_params__params(l1, l11, l13);
+    switch (l5.tag) {
         case UINT8_C(0): {
-            l5 = l4.s0;
-            l6 = l4.s1;
+            l6 = l5.s0;
+            l7 = l5.s1;
             break;
         }
         case UINT8_C(1): default: {
-            l13 = read_params__params_refusal(l4);
+            l14 = read_params__params_refusal(l5);
             l0.tag = UINT8_C(1);
-            l0.s2 = l13;
+            l0.s2 = l14;
             return l0;
             break;
         }
     }
-    l7 = (uint64_t)l6;
-    l8 = (uint64_t)((uint64_t)UINT64_C(8) * (uint64_t)l7);
-    l14 = (uint8_t *)&(*(uint8_t *)l2.p);
-    l15.p = l14;
-    l15.n = l7;
-    l16 = (uint8_t *)&(*(uint8_t *)l3.p);
-    l17.p = l16;
-    l17.n = l8;
-    l0 = read_program__rest(l1, l15, l17, l6, l5);
+    l8 = (uint64_t)l7;
+    l9 = (uint64_t)((uint64_t)UINT64_C(8) * (uint64_t)l8);
+    l15 = (uint8_t *)&(*(uint8_t *)l2.p);
+    l16.p = l15;
+    l16.n = l8;
+    l17 = (uint8_t *)&(*(uint8_t *)l3.p);
+    l18.p = l17;
+    l18.n = l9;
+    l19 = (uint8_t *)&(*(uint16_t *)l4.p);
+    l20.p = l19;
+    l20.n = l4.n;
+    l0 = read_program__rest(l1, l16, l18, l20, l7, l6);
     return l0;
 }
 
@@ -9291,10 +9500,9 @@ static inline uint8_t read_program__program_refusal(struct read_program__Program
     return l0;
 }
 
-static inline struct read_program__ProgramRead read_program__rest(rt_slice l1, rt_slice l2, rt_slice l3, uint8_t l4, uint64_t l5)
+static inline struct read_program__ProgramRead read_program__rest(rt_slice l1, rt_slice l2, rt_slice l3, rt_slice l4, uint8_t l5, uint64_t l6)
 {
     struct read_program__ProgramRead l0;
-    struct rt_array_uint8_512 l6;
     struct read_program__totals__TotalsRead l7;
     uint64_t l8;
     struct read_program__totals__Totals l9;
@@ -9304,12 +9512,11 @@ static inline struct read_program__ProgramRead read_program__rest(rt_slice l1, r
     uint8_t l13;
     uint8_t *l14;
     rt_slice l15;
-    memset(&l6, 0, sizeof l6);
-    l10 = (uint8_t *)&l6;
+    l10 = (uint8_t *)&(*(uint16_t *)l4.p);
     l11.p = l10;
-    l11.n = UINT64_C(512);
+    l11.n = l4.n;
     l12 = read_program__totals__none();
-    l7 = read_program__totals__structs(l1, l2, l3, l11, l4, l12, l5);
+    l7 = read_program__totals__structs(l1, l2, l3, l11, l5, l12, l6);
     switch (l7.tag) {
         case UINT8_C(0): {
             l8 = l7.s0;
@@ -9324,23 +9531,24 @@ static inline struct read_program__ProgramRead read_program__rest(rt_slice l1, r
             break;
         }
     }
-    l14 = (uint8_t *)&l6;
+    l14 = (uint8_t *)&(*(uint16_t *)l4.p);
     l15.p = l14;
-    l15.n = UINT64_C(512);
-    l0 = read_program__end(l1, l15, l4, l5, l9, l8);
+    l15.n = l4.n;
+    l0 = read_program__end(l1, l15, l5, l6, l9, l8);
     return l0;
 }
 
-static inline struct read_program__Summary read_program__summed(uint8_t l1, struct read_program__totals__Totals l2, struct read_schedule__Planned l3)
+static inline struct read_program__Summary read_program__summed(uint8_t l1, uint64_t l2, struct read_program__totals__Totals l3, struct read_schedule__Planned l4)
 {
     struct read_program__Summary l0;
-    uint8_t l4;
-    l4 = read_program__number(l2, l3);
-    l0.f0 = l4;
-    l0.f1 = l1;
-    l0.f2 = l2.f0;
-    l0.f3 = l2.f1;
-    l0.f4 = l2.f2;
+    uint8_t l5;
+    l5 = read_program__number(l3, l4);
+    l0.f0 = l5;
+    l0.f1 = l2;
+    l0.f2 = l1;
+    l0.f3 = l3.f0;
+    l0.f4 = l3.f1;
+    l0.f5 = l3.f2;
     return l0;
 }
 
@@ -9355,27 +9563,40 @@ static inline struct read_program__totals__Totals read_program__totals__none(voi
     return l0;
 }
 
-static inline uint8_t read_program__totals__noted(rt_slice l1, uint8_t l2, uint8_t l3)
+static inline uint8_t read_program__totals__noted(rt_slice l1, uint8_t l2, uint8_t l3, struct read_program__totals__Totals l4, struct judge__Done l5)
 {
     uint8_t l0;
-    uint64_t l4;
-    uint8_t l5;
     uint64_t l6;
-    uint64_t l7;
-    uint64_t l8;
+    uint8_t l7;
+    struct directory__Row l8;
     uint8_t *l9;
-    uint8_t l10;
-    uint8_t *l11;
-    l6 = (uint64_t)l2;
-    l7 = (uint64_t)((uint64_t)UINT64_C(32) * (uint64_t)l6);
-    l8 = (uint64_t)l3;
-    l4 = (uint64_t)((uint64_t)l7 + (uint64_t)l8);
-    l9 = l1.p + (size_t)l4;
-    l10 = (*(uint8_t *)l9);
-    l5 = (uint8_t)(l10 == UINT8_C(0));
-    l11 = l1.p + (size_t)l4;
-    (*(uint8_t *)l11) = UINT8_C(1);
-    l0 = l5;
+    rt_slice l10;
+    uint8_t l11;
+    uint16_t l12;
+    uint16_t l13;
+    uint16_t l14;
+    uint16_t l15;
+    uint8_t *l17;
+    rt_slice l18;
+    l6 = l4.f0;
+    l9 = (uint8_t *)&(*(uint16_t *)l1.p);
+    l10.p = l9;
+    l10.n = l1.n;
+    l11 = (uint8_t)l6;
+    l7 = directory__rows__there(l10, l11, l2, l3);
+    l12 = directory__rows__number(l2);
+    l13 = directory__rows__number(l3);
+    l14 = (uint16_t)l4.f1;
+    l15 = (uint16_t)l5.f0;
+    l8.f0 = l12;
+    l8.f1 = l13;
+    l8.f2 = l14;
+    l8.f3 = l15;
+    l17 = (uint8_t *)&(*(uint16_t *)l1.p);
+    l18.p = l17;
+    l18.n = l1.n;
+    directory__rows__put_row(l18, l6, l8);
+    l0 = (uint8_t)!l7;
     return l0;
 }
 
@@ -9421,7 +9642,7 @@ static inline struct read_program__totals__TotalsRead read_program__totals__of_s
         } else {
             goto end1;
         }
-        l20 = (uint8_t *)&(*(uint8_t *)l4.p);
+        l20 = (uint8_t *)&(*(uint16_t *)l4.p);
         l21.p = l20;
         l21.n = l4.n;
         l14 = read_program__totals__step(l1, l2, l3, l21, l5, l11, l12);
@@ -9538,10 +9759,10 @@ static inline struct read_program__totals__TotalsRead read_program__totals__step
             break;
         }
     }
-    l18 = (uint8_t *)&(*(uint8_t *)l4.p);
+    l18 = (uint8_t *)&(*(uint16_t *)l4.p);
     l19.p = l18;
     l19.n = l4.n;
-    l14 = read_program__totals__noted(l19, l5, l9);
+    l14 = read_program__totals__noted(l19, l5, l9, l6, l13);
     l20 = read_program__totals__plus(l6, l13, l14);
     l0.tag = UINT8_C(0);
     l0.s0 = l12;
@@ -9591,7 +9812,7 @@ static inline struct read_program__totals__TotalsRead read_program__totals__stru
         } else {
             goto end1;
         }
-        l16 = (uint8_t *)&(*(uint8_t *)l4.p);
+        l16 = (uint8_t *)&(*(uint16_t *)l4.p);
         l17.p = l16;
         l17.n = l4.n;
         l12 = read_program__totals__of_struct(l1, l2, l3, l17, l10, l8, l9);
@@ -9666,200 +9887,16 @@ static inline struct read_schedule__PlanRead read_schedule__around(struct read_s
     return l0;
 }
 
-static inline struct read_schedule__PlanRead read_schedule__call(rt_slice l1, rt_slice l2, uint8_t l3, uint64_t l4)
-{
-    struct read_schedule__PlanRead l0;
-    struct read_exprs__read__ByteRead l5;
-    uint8_t l6;
-    uint64_t l7;
-    uint8_t l8;
-    struct read_schedule__Planned l9;
-    uint8_t l10;
-    l5 = read_exprs__read__ranged(l1, UINT64_C(0), UINT64_C(32), l4);
-    switch (l5.tag) {
-        case UINT8_C(0): {
-            l6 = l5.s0;
-            l7 = l5.s1;
-            break;
-        }
-        case UINT8_C(1): default: {
-            l8 = read_exprs__read__byte_refusal(l5);
-            l0.tag = UINT8_C(1);
-            l0.s2 = l8;
-            return l0;
-            break;
-        }
-    }
-    l10 = read_schedule__had(l2, l6, l3);
-    l9 = read_schedule__one(l10);
-    l0.tag = UINT8_C(0);
-    l0.s0 = l7;
-    l0.s1 = l9;
-    return l0;
-}
-
-static inline struct read_schedule__PlanRead read_schedule__call_in(rt_slice l1, rt_slice l2, uint8_t l3, uint64_t l4)
-{
-    struct read_schedule__PlanRead l0;
-    struct read_exprs__read__ByteRead l5;
-    uint8_t l6;
-    uint64_t l7;
-    struct read_exprs__read__ByteRead l8;
-    uint8_t l9;
-    uint64_t l10;
-    uint8_t l11;
-    uint64_t l12;
-    uint8_t l13;
-    uint8_t l14;
-    uint64_t l15;
-    uint64_t l16;
-    uint64_t l17;
-    struct read_schedule__Planned l18;
-    uint8_t l19;
-    l12 = (uint64_t)l3;
-    l5 = read_exprs__read__ranged(l1, UINT64_C(0), l12, l4);
-    switch (l5.tag) {
-        case UINT8_C(0): {
-            l6 = l5.s0;
-            l7 = l5.s1;
-            break;
-        }
-        case UINT8_C(1): default: {
-            l13 = read_exprs__read__byte_refusal(l5);
-            l0.tag = UINT8_C(1);
-            l0.s2 = l13;
-            return l0;
-            break;
-        }
-    }
-    l8 = read_exprs__read__ranged(l1, UINT64_C(0), UINT64_C(32), l7);
-    switch (l8.tag) {
-        case UINT8_C(0): {
-            l9 = l8.s0;
-            l10 = l8.s1;
-            break;
-        }
-        case UINT8_C(1): default: {
-            l14 = read_exprs__read__byte_refusal(l8);
-            l0.tag = UINT8_C(1);
-            l0.s2 = l14;
-            return l0;
-            break;
-        }
-    }
-    l12 = (uint64_t)l6;
-    l15 = (uint64_t)((uint64_t)UINT64_C(32) * (uint64_t)l12);
-    l16 = (uint64_t)l9;
-    l17 = (uint64_t)((uint64_t)l15 + (uint64_t)l16);
-    l11 = judging__path__look(l2, l17);
-    l19 = (uint8_t)(l11 != UINT8_C(0));
-    l18 = read_schedule__one(l19);
-    l0.tag = UINT8_C(0);
-    l0.s0 = l10;
-    l0.s1 = l18;
-    return l0;
-}
-
-static inline uint8_t read_schedule__had(rt_slice l1, uint8_t l2, uint8_t l3)
-{
-    uint8_t l0;
-    uint8_t l4;
-    uint8_t l5;
-    uint8_t l6;
-    uint64_t l7;
-    uint64_t l8;
-    uint64_t l9;
-    uint64_t l10;
-    l4 = UINT8_C(0);
-    for (;;) {
-        l5 = (uint8_t)(l4 < l3);
-        if (l5) {
-        } else {
-            goto end1;
-        }
-        l7 = (uint64_t)l4;
-        l8 = (uint64_t)((uint64_t)UINT64_C(32) * (uint64_t)l7);
-        l9 = (uint64_t)l2;
-        l10 = (uint64_t)((uint64_t)l8 + (uint64_t)l9);
-        l6 = judging__path__look(l1, l10);
-        l5 = (uint8_t)(l6 != UINT8_C(0));
-        if (l5) {
-            l0 = 1;
-            return l0;
-        }
-        l4 = (uint8_t)((uint32_t)l4 + (uint32_t)UINT8_C(1));
-    }
-end1:;
-    l0 = 0;
-    return l0;
-}
-
-static inline struct read_schedule__PlanRead read_schedule__item(rt_slice l1, rt_slice l2, uint8_t l3, uint64_t l4, uint64_t l5)
-{
-    struct read_schedule__PlanRead l0;
-    uint8_t l6;
-    uint64_t l7;
-    uint64_t l8;
-    uint8_t l9;
-    uint8_t *l10;
-    uint8_t l11;
-    struct read_schedule__PlanRead l12;
-    l8 = l1.n;
-    l9 = (uint8_t)(l8 <= l4);
-    if (l9) {
-        l0.tag = UINT8_C(1);
-        l0.s2 = UINT8_C(4);
-        return l0;
-    }
-    l10 = l1.p + (size_t)l4;
-    l11 = (*(uint8_t *)l10);
-    l6 = l11;
-    l7 = (uint64_t)((uint64_t)l4 + (uint64_t)UINT64_C(1));
-    l9 = (uint8_t)(l6 == UINT8_C(1));
-    if (l9) {
-        l0 = read_schedule__call(l1, l2, l3, l7);
-        return l0;
-    }
-    l9 = (uint8_t)(l6 == UINT8_C(2));
-    if (l9) {
-        l0 = read_schedule__call_in(l1, l2, l3, l7);
-        return l0;
-    }
-    l9 = (uint8_t)(l6 != UINT8_C(3));
-    if (l9) {
-        l0.tag = UINT8_C(1);
-        l0.s2 = UINT8_C(5);
-        return l0;
-    }
-    l9 = (uint8_t)(l5 == UINT64_C(0));
-    if (l9) {
-        l0.tag = UINT8_C(1);
-        l0.s2 = UINT8_C(5);
-        return l0;
-    }
-    l8 = (uint64_t)((uint64_t)l5 - (uint64_t)UINT64_C(1));
-    l12 = read_schedule__items(l1, l2, l3, l7, l8);
-    l0 = read_schedule__around(l12);
-    return l0;
-}
-
-static inline struct read_schedule__PlanRead read_schedule__items(rt_slice l1, rt_slice l2, uint8_t l3, uint64_t l4, uint64_t l5)
+static inline struct read_schedule__PlanRead read_schedule__call(rt_slice l1, rt_slice l2, uint8_t l3, uint8_t l4, uint64_t l5)
 {
     struct read_schedule__PlanRead l0;
     struct read_exprs__read__ByteRead l6;
     uint8_t l7;
     uint64_t l8;
-    struct read_schedule__Planned l9;
-    uint64_t l10;
+    uint8_t l9;
+    struct read_schedule__Planned l10;
     uint8_t l11;
-    struct read_schedule__PlanRead l12;
-    uint64_t l13;
-    struct read_schedule__Planned l14;
-    uint64_t l15;
-    uint8_t l16;
-    uint8_t l17;
-    l15 = (uint64_t)((uint64_t)UINT64_C(32) + (uint64_t)UINT64_C(1));
-    l6 = read_exprs__read__ranged(l1, UINT64_C(1), l15, l4);
+    l6 = read_exprs__read__ranged(l1, UINT64_C(0), UINT64_C(32), l5);
     switch (l6.tag) {
         case UINT8_C(0): {
             l7 = l6.s0;
@@ -9867,44 +9904,210 @@ static inline struct read_schedule__PlanRead read_schedule__items(rt_slice l1, r
             break;
         }
         case UINT8_C(1): default: {
-            l16 = read_exprs__read__byte_refusal(l6);
+            l9 = read_exprs__read__byte_refusal(l6);
             l0.tag = UINT8_C(1);
-            l0.s2 = l16;
+            l0.s2 = l9;
             return l0;
             break;
         }
     }
-    l9.f0 = UINT64_C(0);
-    l9.f1 = UINT8_C(0);
-    l10 = l8;
-    l11 = l7;
+    l11 = read_schedule__had(l2, l3, l7, l4);
+    l10 = read_schedule__one(l11);
+    l0.tag = UINT8_C(0);
+    l0.s0 = l8;
+    l0.s1 = l10;
+    return l0;
+}
+
+static inline struct read_schedule__PlanRead read_schedule__call_in(rt_slice l1, rt_slice l2, uint8_t l3, uint8_t l4, uint64_t l5)
+{
+    struct read_schedule__PlanRead l0;
+    struct read_exprs__read__ByteRead l6;
+    uint8_t l7;
+    uint64_t l8;
+    struct read_exprs__read__ByteRead l9;
+    uint8_t l10;
+    uint64_t l11;
+    uint64_t l12;
+    uint8_t l13;
+    uint8_t l14;
+    struct read_schedule__Planned l15;
+    uint8_t l16;
+    l12 = (uint64_t)l4;
+    l6 = read_exprs__read__ranged(l1, UINT64_C(0), l12, l5);
+    switch (l6.tag) {
+        case UINT8_C(0): {
+            l7 = l6.s0;
+            l8 = l6.s1;
+            break;
+        }
+        case UINT8_C(1): default: {
+            l13 = read_exprs__read__byte_refusal(l6);
+            l0.tag = UINT8_C(1);
+            l0.s2 = l13;
+            return l0;
+            break;
+        }
+    }
+    l9 = read_exprs__read__ranged(l1, UINT64_C(0), UINT64_C(32), l8);
+    switch (l9.tag) {
+        case UINT8_C(0): {
+            l10 = l9.s0;
+            l11 = l9.s1;
+            break;
+        }
+        case UINT8_C(1): default: {
+            l14 = read_exprs__read__byte_refusal(l9);
+            l0.tag = UINT8_C(1);
+            l0.s2 = l14;
+            return l0;
+            break;
+        }
+    }
+    l16 = directory__rows__there(l2, l3, l7, l10);
+    l15 = read_schedule__one(l16);
+    l0.tag = UINT8_C(0);
+    l0.s0 = l11;
+    l0.s1 = l15;
+    return l0;
+}
+
+static inline uint8_t read_schedule__had(rt_slice l1, uint8_t l2, uint8_t l3, uint8_t l4)
+{
+    uint8_t l0;
+    uint8_t l5;
+    uint8_t l6;
+    uint8_t l7;
+    l5 = UINT8_C(0);
     for (;;) {
-        l17 = (uint8_t)(UINT8_C(0) < l11);
-        if (l17) {
+        l6 = (uint8_t)(l5 < l4);
+        if (l6) {
         } else {
             goto end1;
         }
-        l12 = read_schedule__item(l1, l2, l3, l10, l5);
-        switch (l12.tag) {
+        l7 = directory__rows__there(l1, l2, l5, l3);
+        if (l7) {
+            l0 = 1;
+            return l0;
+        }
+        l5 = (uint8_t)((uint32_t)l5 + (uint32_t)UINT8_C(1));
+    }
+end1:;
+    l0 = 0;
+    return l0;
+}
+
+static inline struct read_schedule__PlanRead read_schedule__item(rt_slice l1, rt_slice l2, uint8_t l3, uint8_t l4, uint64_t l5, uint64_t l6)
+{
+    struct read_schedule__PlanRead l0;
+    uint8_t l7;
+    uint64_t l8;
+    uint64_t l9;
+    uint8_t l10;
+    uint8_t *l11;
+    uint8_t l12;
+    struct read_schedule__PlanRead l13;
+    l9 = l1.n;
+    l10 = (uint8_t)(l9 <= l5);
+    if (l10) {
+        l0.tag = UINT8_C(1);
+        l0.s2 = UINT8_C(4);
+        return l0;
+    }
+    l11 = l1.p + (size_t)l5;
+    l12 = (*(uint8_t *)l11);
+    l7 = l12;
+    l8 = (uint64_t)((uint64_t)l5 + (uint64_t)UINT64_C(1));
+    l10 = (uint8_t)(l7 == UINT8_C(1));
+    if (l10) {
+        l0 = read_schedule__call(l1, l2, l3, l4, l8);
+        return l0;
+    }
+    l10 = (uint8_t)(l7 == UINT8_C(2));
+    if (l10) {
+        l0 = read_schedule__call_in(l1, l2, l3, l4, l8);
+        return l0;
+    }
+    l10 = (uint8_t)(l7 != UINT8_C(3));
+    if (l10) {
+        l0.tag = UINT8_C(1);
+        l0.s2 = UINT8_C(5);
+        return l0;
+    }
+    l10 = (uint8_t)(l6 == UINT64_C(0));
+    if (l10) {
+        l0.tag = UINT8_C(1);
+        l0.s2 = UINT8_C(5);
+        return l0;
+    }
+    l9 = (uint64_t)((uint64_t)l6 - (uint64_t)UINT64_C(1));
+    l13 = read_schedule__items(l1, l2, l3, l4, l8, l9);
+    l0 = read_schedule__around(l13);
+    return l0;
+}
+
+static inline struct read_schedule__PlanRead read_schedule__items(rt_slice l1, rt_slice l2, uint8_t l3, uint8_t l4, uint64_t l5, uint64_t l6)
+{
+    struct read_schedule__PlanRead l0;
+    struct read_exprs__read__ByteRead l7;
+    uint8_t l8;
+    uint64_t l9;
+    struct read_schedule__Planned l10;
+    uint64_t l11;
+    uint8_t l12;
+    struct read_schedule__PlanRead l13;
+    uint64_t l14;
+    struct read_schedule__Planned l15;
+    uint64_t l16;
+    uint8_t l17;
+    uint8_t l18;
+    l16 = (uint64_t)((uint64_t)UINT64_C(32) + (uint64_t)UINT64_C(1));
+    l7 = read_exprs__read__ranged(l1, UINT64_C(1), l16, l5);
+    switch (l7.tag) {
+        case UINT8_C(0): {
+            l8 = l7.s0;
+            l9 = l7.s1;
+            break;
+        }
+        case UINT8_C(1): default: {
+            l17 = read_exprs__read__byte_refusal(l7);
+            l0.tag = UINT8_C(1);
+            l0.s2 = l17;
+            return l0;
+            break;
+        }
+    }
+    l10.f0 = UINT64_C(0);
+    l10.f1 = UINT8_C(0);
+    l11 = l9;
+    l12 = l8;
+    for (;;) {
+        l18 = (uint8_t)(UINT8_C(0) < l12);
+        if (l18) {
+        } else {
+            goto end1;
+        }
+        l13 = read_schedule__item(l1, l2, l3, l4, l11, l6);
+        switch (l13.tag) {
             case UINT8_C(0): {
-                l13 = l12.s0;
-                l14 = l12.s1;
+                l14 = l13.s0;
+                l15 = l13.s1;
                 break;
             }
             case UINT8_C(1): default: {
-                l0 = l12;
+                l0 = l13;
                 return l0;
                 break;
             }
         }
-        l9 = read_schedule__joined(l9, l14);
-        l10 = l13;
-        l11 = (uint8_t)((uint32_t)l11 - (uint32_t)UINT8_C(1));
+        l10 = read_schedule__joined(l10, l15);
+        l11 = l14;
+        l12 = (uint8_t)((uint32_t)l12 - (uint32_t)UINT8_C(1));
     }
 end1:;
     l0.tag = UINT8_C(0);
-    l0.s0 = l10;
-    l0.s1 = l9;
+    l0.s0 = l11;
+    l0.s1 = l10;
     return l0;
 }
 
@@ -10384,35 +10587,33 @@ static inline struct read_text__Answer read_text__imaged(rt_slice l1, rt_slice l
     uint64_t l4;
     uint64_t l5;
     uint8_t l6;
-    uint32_t l7;
-    uint8_t *l8;
-    rt_slice l9;
-    uint32_t l10;
+    uint8_t *l7;
+    rt_slice l8;
+    uint32_t l9;
     l5 = l2.n;
     l6 = (uint8_t)(l5 < UINT64_C(32768));
     if (l6) {
-        l7 = (uint32_t)UINT8_C(13);
-        l0 = read_text__refused(l7);
+        l0 = read_text__refused(UINT8_C(13));
         return l0;
     }
-    l8 = (uint8_t *)&(*(uint8_t *)l2.p);
-    l9.p = l8;
-    l9.n = l2.n;
-    l3 = blocks__write_image(l1, UINT64_C(64), l9);
+    l7 = (uint8_t *)&(*(uint8_t *)l2.p);
+    l8.p = l7;
+    l8.n = l2.n;
+    l3 = blocks__write_image(l1, UINT64_C(64), l8);
     switch (l3.tag) {
         case UINT8_C(0): {
             l4 = l3.s0;
             break;
         }
         case UINT8_C(1): case UINT8_C(2): default: {
-            l0 = read_text__refused(UINT32_C(17));
+            l0 = read_text__refused(UINT8_C(17));
             return l0;
             break;
         }
     }
-    l10 = (uint32_t)l4;
+    l9 = (uint32_t)l4;
     l0.f0 = UINT32_C(0);
-    l0.f1 = l10;
+    l0.f1 = l9;
     return l0;
 }
 
@@ -10465,7 +10666,7 @@ static inline struct read_text__Answer read_text__meant(rt_slice l1, rt_slice l2
             break;
         }
         case UINT8_C(1): default: {
-            l0 = read_text__refused(UINT32_C(17));
+            l0 = read_text__refused(UINT8_C(17));
             return l0;
             break;
         }
@@ -10490,7 +10691,7 @@ static inline struct read_text__Answer read_text__meant(rt_slice l1, rt_slice l2
             break;
         }
         case UINT8_C(1): default: {
-            l0 = read_text__refused(UINT32_C(17));
+            l0 = read_text__refused(UINT8_C(17));
             return l0;
             break;
         }
@@ -10531,7 +10732,7 @@ static inline struct read_text__Answer read_text__passes(rt_slice l1, rt_slice l
     l5 = lexer__mark(l1, l7);
     l8 = (uint8_t)!l5;
     if (l8) {
-        l0 = read_text__refused(UINT32_C(15));
+        l0 = read_text__refused(UINT8_C(15));
         return l0;
     }
     l9 = (uint8_t *)&(*(uint8_t *)l2.p);
@@ -10543,7 +10744,7 @@ static inline struct read_text__Answer read_text__passes(rt_slice l1, rt_slice l
     l5 = derive__derived(l10, l12);
     l8 = (uint8_t)!l5;
     if (l8) {
-        l0 = read_text__refused(UINT32_C(16));
+        l0 = read_text__refused(UINT8_C(16));
         return l0;
     }
     l13 = (uint8_t *)&(*(uint8_t *)l2.p);
@@ -10575,7 +10776,7 @@ static inline struct read_text__Answer read_text__read(rt_slice l1, rt_slice l2)
     l3 = l1.n;
     l6 = (uint8_t)(UINT64_C(65536) < l3);
     if (l6) {
-        l0 = read_text__refused(UINT32_C(15));
+        l0 = read_text__refused(UINT8_C(15));
         return l0;
     }
     memset(&l4, 0, sizeof l4);
@@ -10593,10 +10794,12 @@ static inline struct read_text__Answer read_text__read(rt_slice l1, rt_slice l2)
     return l0;
 }
 
-static inline struct read_text__Answer read_text__refused(uint32_t l1)
+static inline struct read_text__Answer read_text__refused(uint8_t l1)
 {
     struct read_text__Answer l0;
-    l0.f0 = l1;
+    uint32_t l2;
+    l2 = (uint32_t)l1;
+    l0.f0 = l2;
     l0.f1 = UINT32_C(0);
     return l0;
 }
@@ -11181,7 +11384,7 @@ static inline void resolve__tables__put(rt_slice l1, uint64_t l2, uint64_t l3)
     return;
 }
 
-static inline struct run_images__Report run_images__begun(struct load__Loaded l1, struct run_images__Params l2, rt_slice l3, rt_slice l4, rt_slice l5, rt_slice l6, rt_slice l7)
+static inline struct run_images__Report run_images__begun(struct load__Loaded l1, struct seating__Params l2, rt_slice l3, rt_slice l4, rt_slice l5, rt_slice l6, rt_slice l7)
 {
     struct run_images__Report l0;
     struct rt_array_uint8_16 l8;
@@ -11191,24 +11394,24 @@ static inline struct run_images__Report run_images__begun(struct load__Loaded l1
     rt_slice l12;
     rt_slice l13;
     struct rt_array_uint8_8568 l14;
-    struct rt_array_uint64_1024 l15;
+    struct rt_array_uint16_1536 l15;
     struct rt_array_uint64_8192 l16;
-    struct table_read__TableRead l17;
-    uint64_t l18;
-    struct layout__Numbers l19;
-    struct run_images__Seat l20;
-    struct interpreter__turns__Ran l21;
+    struct seating__SeatRead l17;
+    struct seating__Seat l18;
+    struct interpreter__turns__Ran l19;
+    uint8_t *l20;
+    uint8_t *l21;
     uint8_t *l22;
-    uint8_t *l23;
+    rt_slice l23;
     uint8_t *l24;
     rt_slice l25;
     uint8_t *l26;
     rt_slice l27;
-    uint8_t *l28;
-    rt_slice l29;
+    uint8_t l28;
+    uint64_t l29;
     uint8_t l30;
-    uint64_t l31;
-    uint8_t l32;
+    uint8_t *l31;
+    rt_slice l32;
     uint8_t *l33;
     rt_slice l34;
     uint8_t *l35;
@@ -11221,142 +11424,86 @@ static inline struct run_images__Report run_images__begun(struct load__Loaded l1
     rt_slice l42;
     uint8_t *l43;
     rt_slice l44;
-    uint8_t *l45;
-    rt_slice l46;
     l8 = l2.f0;
     l9 = l2.f1;
-    l10 = (uint64_t)l1.f2;
+    l10 = (uint64_t)l1.f3;
     l11 = (uint64_t)((uint64_t)UINT64_C(8) * (uint64_t)l10);
-    l22 = (uint8_t *)&l8;
-    l12.p = l22;
+    l20 = (uint8_t *)&l8;
+    l12.p = l20;
     l12.n = l10;
-    l23 = (uint8_t *)&l9;
-    l13.p = l23;
+    l21 = (uint8_t *)&l9;
+    l13.p = l21;
     l13.n = l11;
     memset(&l14, 0, sizeof l14);
     memset(&l15, 0, sizeof l15);
     memset(&l16, 0, sizeof l16);
-    l24 = (uint8_t *)&l14;
+    l22 = (uint8_t *)&l14;
+    l23.p = l22;
+    l23.n = UINT64_C(8568);
+    l24 = (uint8_t *)&l15;
     l25.p = l24;
-    l25.n = UINT64_C(8568);
-    l26 = (uint8_t *)&l15;
+    l25.n = UINT64_C(1536);
+    l26 = (uint8_t *)&l16;
     l27.p = l26;
-    l27.n = UINT64_C(1024);
-    l28 = (uint8_t *)&l16;
-    l29.p = l28;
-    l29.n = UINT64_C(8192);
-    l17 = table_read__read_image(l4, l12, l13, l25, l27, l29);
+    l27.n = UINT64_C(8192);
+    l17 = seating__seat_table(l1.f1, l12, l13, l4, l23, l25, l27);
     switch (l17.tag) {
         case UINT8_C(0): {
             l18 = l17.s0;
             break;
         }
         case UINT8_C(1): default: {
-            l30 = run_images__table_refusal(l17);
-            l0 = run_images__refused(l30);
+            l28 = seating__refusal(l17);
+            l0 = run_images__refused(l28);
             return l0;
             break;
         }
     }
-    l31 = l6.n;
-    l32 = (uint8_t)(l31 < UINT64_C(8704));
-    if (l32) {
+    l29 = l6.n;
+    l30 = (uint8_t)(l29 < UINT64_C(8704));
+    if (l30) {
         l0 = run_images__refused(UINT8_C(13));
         return l0;
     }
-    l31 = l7.n;
-    l32 = (uint8_t)(l31 < UINT64_C(1024));
-    if (l32) {
+    l29 = l7.n;
+    l30 = (uint8_t)(l29 < UINT64_C(1024));
+    if (l30) {
         l0 = run_images__refused(UINT8_C(13));
         return l0;
     }
-    l31 = l5.n;
-    l32 = (uint8_t)(UINT64_C(65536) < l31);
-    if (l32) {
+    l29 = l5.n;
+    l30 = (uint8_t)(UINT64_C(65536) < l29);
+    if (l30) {
         l0 = run_images__refused(UINT8_C(14));
         return l0;
     }
-    l19 = layout__fresh(l18);
-    l20.f0 = l1.f1;
-    l20.f1 = l19;
-    l33 = (uint8_t *)&l15;
+    l31 = (uint8_t *)&l15;
+    l32.p = l31;
+    l32.n = UINT64_C(1536);
+    l33 = (uint8_t *)&l16;
     l34.p = l33;
-    l34.n = UINT64_C(1024);
-    l35 = (uint8_t *)&l16;
+    l34.n = UINT64_C(8192);
+    l35 = (uint8_t *)&(*(uint64_t *)l7.p);
     l36.p = l35;
-    l36.n = UINT64_C(8192);
-    l37 = (uint8_t *)&(*(uint64_t *)l7.p);
+    l36.n = l7.n;
+    l19 = run_images__played(l3, l12, l18, l32, l34, l5, l36);
+    l37 = (uint8_t *)&l15;
     l38.p = l37;
-    l38.n = l7.n;
-    l21 = run_images__played(l3, l12, l20, l34, l36, l5, l38);
-    l39 = (uint8_t *)&l15;
+    l38.n = UINT64_C(1536);
+    l39 = (uint8_t *)&l16;
     l40.p = l39;
-    l40.n = UINT64_C(1024);
-    l41 = (uint8_t *)&l16;
+    l40.n = UINT64_C(8192);
+    l41 = (uint8_t *)&l14;
     l42.p = l41;
-    l42.n = UINT64_C(8192);
-    l43 = (uint8_t *)&l14;
+    l42.n = UINT64_C(8568);
+    l43 = (uint8_t *)&(*(uint8_t *)l6.p);
     l44.p = l43;
-    l44.n = UINT64_C(8568);
-    l45 = (uint8_t *)&(*(uint8_t *)l6.p);
-    l46.p = l45;
-    l46.n = l6.n;
-    l0 = run_images__reported(l12, l40, l42, l21, l1.f5, l44, l46);
+    l44.n = l6.n;
+    l0 = run_images__reported(l12, l38, l40, l19, l1.f6, l42, l44);
     return l0;
 }
 
-static inline struct load__Load run_images__kept(rt_slice l1, rt_slice l2, rt_slice l3, rt_slice l4)
-{
-    struct load__Load l0;
-    struct rt_array_uint8_32256 l5;
-    struct load__Load l6;
-    struct load__Loaded l7;
-    uint64_t l8;
-    uint8_t *l9;
-    rt_slice l10;
-    uint8_t *l11;
-    rt_slice l12;
-    uint8_t *l13;
-    rt_slice l14;
-    uint8_t *l16;
-    rt_slice l17;
-    uint8_t *l18;
-    rt_slice l19;
-    memset(&l5, 0, sizeof l5);
-    l9 = (uint8_t *)&l5;
-    l10.p = l9;
-    l10.n = UINT64_C(32256);
-    l11 = (uint8_t *)&(*(uint8_t *)l3.p);
-    l12.p = l11;
-    l12.n = l3.n;
-    l13 = (uint8_t *)&(*(uint8_t *)l4.p);
-    l14.p = l13;
-    l14.n = l4.n;
-    l6 = load__program(l1, l10, l12, l14);
-    switch (l6.tag) {
-        case UINT8_C(0): {
-            l7 = l6.s0;
-            break;
-        }
-        case UINT8_C(1): default: {
-            l0 = l6;
-            return l0;
-            break;
-        }
-    }
-    l8 = l7.f0;
-    l16 = (uint8_t *)&(*(uint8_t *)l2.p);
-    l17.p = l16;
-    l17.n = l2.n;
-    l18 = (uint8_t *)&l5;
-    l19.p = l18;
-    l19.n = l8;
-    block__put__copy(l17, UINT64_C(0), l19);
-    l0 = l6;
-    return l0;
-}
-
-static inline struct interpreter__turns__Ran run_images__played(rt_slice l1, rt_slice l2, struct run_images__Seat l3, rt_slice l4, rt_slice l5, rt_slice l6, rt_slice l7)
+static inline struct interpreter__turns__Ran run_images__played(rt_slice l1, rt_slice l2, struct seating__Seat l3, rt_slice l4, rt_slice l5, rt_slice l6, rt_slice l7)
 {
     struct interpreter__turns__Ran l0;
     struct rt_array_uint16_1024 l8;
@@ -11402,7 +11549,7 @@ static inline struct interpreter__turns__Ran run_images__played(rt_slice l1, rt_
     l23 = (uint8_t *)&l8;
     l24.p = l23;
     l24.n = UINT64_C(1024);
-    l25 = (uint8_t *)&(*(uint64_t *)l4.p);
+    l25 = (uint8_t *)&(*(uint16_t *)l4.p);
     l26.p = l25;
     l26.n = l4.n;
     l27 = (uint8_t *)&(*(uint64_t *)l5.p);
@@ -11465,7 +11612,7 @@ static inline struct run_images__Report run_images__run(rt_slice l1, rt_slice l2
     struct load__Load l9;
     struct load__Loaded l10;
     uint64_t l11;
-    struct run_images__Params l12;
+    struct seating__Params l12;
     uint8_t *l13;
     rt_slice l14;
     uint8_t *l15;
@@ -11493,7 +11640,7 @@ static inline struct run_images__Report run_images__run(rt_slice l1, rt_slice l2
     l17 = (uint8_t *)&l8;
     l18.p = l17;
     l18.n = UINT64_C(128);
-    l9 = run_images__kept(l1, l14, l16, l18);
+    l9 = seating__admit(l1, l14, l16, l18);
     switch (l9.tag) {
         case UINT8_C(0): {
             l10 = l9.s0;
@@ -11524,25 +11671,6 @@ static inline struct run_images__Report run_images__run(rt_slice l1, rt_slice l2
     return l0;
 }
 
-static inline uint8_t run_images__table_refusal(struct table_read__TableRead l1)
-{
-    uint8_t l0;
-    uint8_t l2;
-    switch (l1.tag) {
-        case UINT8_C(1): {
-            l2 = l1.s1;
-            break;
-        }
-        case UINT8_C(0): default: {
-            l0 = UINT8_C(0);
-            return l0;
-            break;
-        }
-    }
-    l0 = l2;
-    return l0;
-}
-
 static inline void scheduler__begin__begin_all(rt_slice l1, rt_slice l2, uint64_t l3, uint64_t l4)
 {
     uint64_t l5;
@@ -11556,7 +11684,7 @@ static inline void scheduler__begin__begin_all(rt_slice l1, rt_slice l2, uint64_
         } else {
             goto end1;
         }
-        l8 = (uint8_t *)&(*(uint64_t *)l2.p);
+        l8 = (uint8_t *)&(*(uint16_t *)l2.p);
         l9.p = l8;
         l9.n = l2.n;
         scheduler__begin__begin_one(l1, l9, l3, l5);
@@ -11570,47 +11698,45 @@ static inline void scheduler__begin__begin_one(rt_slice l1, rt_slice l2, uint64_
 {
     uint64_t l5;
     uint64_t l6;
-    uint64_t l7;
-    uint64_t l8;
-    uint64_t l9;
-    uint64_t l10;
-    uint64_t l11;
-    uint8_t *l12;
+    uint16_t l7;
+    uint16_t l8;
+    uint8_t *l9;
+    rt_slice l10;
+    uint8_t l11;
+    uint8_t l12;
     uint64_t l13;
-    uint8_t l14;
-    uint8_t l15;
+    uint64_t l14;
+    uint64_t l15;
     uint8_t *l16;
     uint16_t l17;
     uint8_t *l18;
     uint8_t *l20;
     rt_slice l21;
-    l9 = (uint64_t)((uint64_t)UINT64_C(4) * (uint64_t)l4);
-    l10 = (uint64_t)((uint64_t)l9 + (uint64_t)UINT64_C(0));
-    l11 = (uint64_t)((uint64_t)l10 * (uint64_t)UINT64_C(8));
-    l12 = l2.p + (size_t)l11;
-    l13 = (*(uint64_t *)l12);
-    l5 = l13;
-    l14 = scheduler__begin__means(l3, l5);
-    l15 = (uint8_t)!l14;
-    if (l15) {
+    l9 = (uint8_t *)&(*(uint16_t *)l2.p);
+    l10.p = l9;
+    l10.n = l2.n;
+    l5 = layout__head(l10, l4, UINT64_C(0));
+    l11 = scheduler__begin__means(l3, l5);
+    l12 = (uint8_t)!l11;
+    if (l12) {
         return;
     }
-    l9 = (uint64_t)((uint64_t)UINT64_C(32) * (uint64_t)l5);
-    l10 = (uint64_t)((uint64_t)l3 % (uint64_t)UINT64_C(32));
-    l11 = (uint64_t)((uint64_t)l9 + (uint64_t)l10);
-    l6 = (uint64_t)((uint64_t)UINT64_C(2) * (uint64_t)l11);
+    l13 = (uint64_t)((uint64_t)UINT64_C(32) * (uint64_t)l5);
+    l14 = (uint64_t)((uint64_t)l3 % (uint64_t)UINT64_C(32));
+    l15 = (uint64_t)((uint64_t)l13 + (uint64_t)l14);
+    l6 = (uint64_t)((uint64_t)UINT64_C(2) * (uint64_t)l15);
     l13 = (uint64_t)((uint64_t)l6 * (uint64_t)UINT64_C(2));
     l16 = l1.p + (size_t)l13;
     l17 = (*(uint16_t *)l16);
-    l7 = scheduler__begin__place(l17);
-    l11 = (uint64_t)((uint64_t)l6 + (uint64_t)UINT64_C(1));
-    l9 = (uint64_t)((uint64_t)l11 * (uint64_t)UINT64_C(2));
-    l18 = l1.p + (size_t)l9;
+    l7 = l17;
+    l15 = (uint64_t)((uint64_t)l6 + (uint64_t)UINT64_C(1));
+    l14 = (uint64_t)((uint64_t)l15 * (uint64_t)UINT64_C(2));
+    l18 = l1.p + (size_t)l14;
     l17 = (*(uint16_t *)l18);
-    l8 = scheduler__begin__place(l17);
-    l15 = (uint8_t)(l7 <= l8);
-    if (l15) {
-        l20 = (uint8_t *)&(*(uint64_t *)l2.p);
+    l8 = l17;
+    l11 = (uint8_t)(l7 <= l8);
+    if (l11) {
+        l20 = (uint8_t *)&(*(uint16_t *)l2.p);
         l21.p = l20;
         l21.n = l2.n;
         layout__begin(l21, l4, l7, l8);
@@ -11632,13 +11758,6 @@ static inline uint8_t scheduler__begin__means(uint64_t l1, uint64_t l2)
     }
     l5 = (uint64_t)((uint64_t)l2 + (uint64_t)UINT64_C(1));
     l0 = (uint8_t)(l3 == l5);
-    return l0;
-}
-
-static inline uint64_t scheduler__begin__place(uint16_t l1)
-{
-    uint64_t l0;
-    l0 = (uint64_t)l1;
     return l0;
 }
 
@@ -11689,13 +11808,13 @@ static inline struct layout__Numbers scheduler__schedule__advance(struct layout_
     l6 = l10;
     l11 = (uint8_t)(l6 < UINT64_C(1024));
     if (l11) {
-        l13 = (uint8_t *)&(*(uint64_t *)l4.p);
+        l13 = (uint8_t *)&(*(uint16_t *)l4.p);
         l14.p = l13;
         l14.n = l4.n;
         scheduler__begin__begin_all(l3, l14, l6, l1.f0);
         l7 = l1;
         l7.f1 = (uint64_t)((uint64_t)l5 + (uint64_t)UINT64_C(1));
-        l15 = (uint8_t *)&(*(uint64_t *)l4.p);
+        l15 = (uint8_t *)&(*(uint16_t *)l4.p);
         l16.p = l15;
         l16.n = l4.n;
         l7.f5 = scheduler__count__holding(l16, l1.f0);
@@ -11748,6 +11867,140 @@ static inline struct layout__Numbers scheduler__schedule__round(uint64_t l1, str
     return l0;
 }
 
+static inline struct load__Load seating__admit(rt_slice l1, rt_slice l2, rt_slice l3, rt_slice l4)
+{
+    struct load__Load l0;
+    struct rt_array_uint8_32256 l5;
+    struct load__Load l6;
+    struct load__Loaded l7;
+    uint64_t l8;
+    uint8_t *l9;
+    rt_slice l10;
+    uint8_t *l11;
+    rt_slice l12;
+    uint8_t *l13;
+    rt_slice l14;
+    uint8_t *l16;
+    rt_slice l17;
+    uint8_t *l18;
+    rt_slice l19;
+    memset(&l5, 0, sizeof l5);
+    l9 = (uint8_t *)&l5;
+    l10.p = l9;
+    l10.n = UINT64_C(32256);
+    l11 = (uint8_t *)&(*(uint8_t *)l3.p);
+    l12.p = l11;
+    l12.n = l3.n;
+    l13 = (uint8_t *)&(*(uint8_t *)l4.p);
+    l14.p = l13;
+    l14.n = l4.n;
+    l6 = load__tables(l1, l10, l12, l14);
+    switch (l6.tag) {
+        case UINT8_C(0): {
+            l7 = l6.s0;
+            break;
+        }
+        case UINT8_C(1): default: {
+            l0 = l6;
+            return l0;
+            break;
+        }
+    }
+    l8 = l7.f0;
+    l16 = (uint8_t *)&(*(uint8_t *)l2.p);
+    l17.p = l16;
+    l17.n = l2.n;
+    l18 = (uint8_t *)&l5;
+    l19.p = l18;
+    l19.n = l8;
+    block__put__copy(l17, UINT64_C(0), l19);
+    l0 = l6;
+    return l0;
+}
+
+static inline uint8_t seating__refusal(struct seating__SeatRead l1)
+{
+    uint8_t l0;
+    uint8_t l2;
+    switch (l1.tag) {
+        case UINT8_C(1): {
+            l2 = l1.s1;
+            break;
+        }
+        case UINT8_C(0): default: {
+            l0 = UINT8_C(0);
+            return l0;
+            break;
+        }
+    }
+    l0 = l2;
+    return l0;
+}
+
+static inline struct seating__SeatRead seating__seat_table(uint64_t l1, rt_slice l2, rt_slice l3, rt_slice l4, rt_slice l5, rt_slice l6, rt_slice l7)
+{
+    struct seating__SeatRead l0;
+    struct table_read__TableRead l8;
+    uint64_t l9;
+    struct layout__Numbers l10;
+    struct seating__Seat l11;
+    uint8_t *l12;
+    rt_slice l13;
+    uint8_t *l14;
+    rt_slice l15;
+    uint8_t *l16;
+    rt_slice l17;
+    uint8_t l18;
+    l12 = (uint8_t *)&(*(uint8_t *)l5.p);
+    l13.p = l12;
+    l13.n = l5.n;
+    l14 = (uint8_t *)&(*(uint16_t *)l6.p);
+    l15.p = l14;
+    l15.n = l6.n;
+    l16 = (uint8_t *)&(*(uint64_t *)l7.p);
+    l17.p = l16;
+    l17.n = l7.n;
+    l8 = table_read__read_image(l4, l2, l3, l13, l15, l17);
+    switch (l8.tag) {
+        case UINT8_C(0): {
+            l9 = l8.s0;
+            break;
+        }
+        case UINT8_C(1): default: {
+            l18 = seating__table_refusal(l8);
+            l0.tag = UINT8_C(1);
+            l0.s1 = l18;
+            return l0;
+            break;
+        }
+    }
+    l10 = layout__fresh(l9);
+    l11.f0 = l1;
+    l11.f1 = l10;
+    l0.tag = UINT8_C(0);
+    l0.s0 = l11;
+    return l0;
+}
+
+static inline uint8_t seating__table_refusal(struct table_read__TableRead l1)
+{
+    uint8_t l0;
+    uint8_t l2;
+    switch (l1.tag) {
+        case UINT8_C(1): {
+            l2 = l1.s1;
+            break;
+        }
+        case UINT8_C(0): default: {
+            l0 = UINT8_C(0);
+            return l0;
+            break;
+        }
+    }
+    l0 = l2;
+    return l0;
+}
+
 static inline uint16_t std__num__wrapping_add_u16(uint16_t l1, uint16_t l2)
 {
     uint16_t l0;
@@ -11779,7 +12032,7 @@ static inline uint64_t step_lines__program(rt_slice l1, uint64_t l2, rt_slice l3
         } else {
             goto end1;
         }
-        l9 = emit_steps__rows__row_at(l1, l6);
+        l9 = directory__rows__row_at(l1, l6);
         l10 = (uint8_t *)&(*(uint8_t *)l4.p);
         l11.p = l10;
         l11.n = l4.n;
@@ -11810,8 +12063,8 @@ static inline uint64_t step_lines__step(rt_slice l1, struct directory__Row l2, r
     uint64_t l18;
     l5 = step_lines__byte(l2.f0);
     l6 = step_lines__byte(l2.f1);
-    l7 = emit_steps__rows__place(l2.f2);
-    l8 = emit_steps__rows__place(l2.f3);
+    l7 = directory__rows__place(l2.f2);
+    l8 = directory__rows__place(l2.f3);
     l9 = UINT64_C(0);
     l10 = l4;
     for (;;) {
@@ -11836,92 +12089,61 @@ end1:;
     return l0;
 }
 
-static inline struct step_part__Spot step_part__ended(struct step_part__search__Search l1)
-{
-    struct step_part__Spot l0;
-    struct step_part__Spot l2;
-    switch (l1.tag) {
-        case UINT8_C(1): {
-            l2 = l1.s1;
-            break;
-        }
-        case UINT8_C(0): default: {
-            l0 = step_part__nowhere(UINT8_C(0));
-            return l0;
-            break;
-        }
-    }
-    l0 = l2;
-    return l0;
-}
-
 static inline struct step_part__Spot step_part__locate(rt_slice l1, uint8_t l2, uint8_t l3)
 {
     struct step_part__Spot l0;
     struct rt_array_uint8_32256 l4;
     struct rt_array_uint8_16 l5;
     struct rt_array_uint8_128 l6;
-    struct load__Load l7;
-    struct load__Loaded l8;
-    uint64_t l9;
-    uint64_t l10;
-    struct step_part__search__Wanted l11;
-    struct rt_array_uint64_64 l12;
-    uint8_t *l13;
-    rt_slice l14;
-    uint8_t *l15;
-    rt_slice l16;
-    uint8_t *l17;
-    rt_slice l18;
-    uint8_t l19;
-    struct step_part__search__Search l20;
-    uint8_t *l21;
-    rt_slice l22;
-    uint8_t *l23;
-    rt_slice l24;
-    uint8_t *l25;
-    rt_slice l26;
+    struct rt_array_uint16_512 l7;
+    struct load__Load l8;
+    struct load__Loaded l9;
+    uint8_t *l10;
+    rt_slice l11;
+    uint8_t *l12;
+    rt_slice l13;
+    uint8_t *l14;
+    rt_slice l15;
+    uint8_t *l16;
+    rt_slice l17;
+    uint8_t l18;
+    struct directory__rows__Sought l19;
+    uint8_t *l20;
+    rt_slice l21;
     memset(&l4, 0, sizeof l4);
     memset(&l5, 0, sizeof l5);
     memset(&l6, 0, sizeof l6);
-    l13 = (uint8_t *)&l4;
-    l14.p = l13;
-    l14.n = UINT64_C(32256);
-    l15 = (uint8_t *)&l5;
-    l16.p = l15;
-    l16.n = UINT64_C(16);
-    l17 = (uint8_t *)&l6;
-    l18.p = l17;
-    l18.n = UINT64_C(128);
-    l7 = load__program(l1, l14, l16, l18);
-    switch (l7.tag) {
+    memset(&l7, 0, sizeof l7);
+    l10 = (uint8_t *)&l4;
+    l11.p = l10;
+    l11.n = UINT64_C(32256);
+    l12 = (uint8_t *)&l5;
+    l13.p = l12;
+    l13.n = UINT64_C(16);
+    l14 = (uint8_t *)&l6;
+    l15.p = l14;
+    l15.n = UINT64_C(128);
+    l16 = (uint8_t *)&l7;
+    l17.p = l16;
+    l17.n = UINT64_C(512);
+    l8 = load__program(l1, l11, l13, l15, l17);
+    switch (l8.tag) {
         case UINT8_C(0): {
-            l8 = l7.s0;
+            l9 = l8.s0;
             break;
         }
         case UINT8_C(1): default: {
-            l19 = load__refusal(l7);
-            l0 = step_part__nowhere(l19);
+            l18 = load__refusal(l8);
+            l0 = step_part__nowhere(l18);
             return l0;
             break;
         }
     }
-    l9 = l8.f0;
-    l10 = (uint64_t)l8.f2;
-    l11.f0 = l2;
-    l11.f1 = l3;
-    memset(&l12, 0, sizeof l12);
-    l21 = (uint8_t *)&l4;
-    l22.p = l21;
-    l22.n = l9;
-    l23 = (uint8_t *)&l5;
-    l24.p = l23;
-    l24.n = l10;
-    l25 = (uint8_t *)&l12;
-    l26.p = l25;
-    l26.n = UINT64_C(64);
-    l20 = step_part__search__structs(l22, l24, l11, l8.f1, l26);
-    l0 = step_part__ended(l20);
+    l20 = (uint8_t *)&l7;
+    l21.p = l20;
+    l21.n = UINT64_C(512);
+    l19 = directory__rows__find(l21, l9.f4, l2, l3);
+    l0 = step_part__spotted(l19);
     return l0;
 }
 
@@ -11934,145 +12156,28 @@ static inline struct step_part__Spot step_part__nowhere(uint8_t l1)
     return l0;
 }
 
-static inline struct step_part__search__Search step_part__search__step(rt_slice l1, rt_slice l2, uint8_t l3, struct step_part__search__Wanted l4, struct emit__Put l5, rt_slice l6)
+static inline struct step_part__Spot step_part__spotted(struct directory__rows__Sought l1)
 {
-    struct step_part__search__Search l0;
-    uint64_t l7;
-    uint64_t l8;
-    struct emit__Put l9;
-    uint64_t l10;
-    uint8_t *l11;
-    rt_slice l12;
-    uint8_t l13;
-    uint8_t *l14;
-    uint8_t l15;
-    uint8_t l16;
-    struct step_part__Spot l17;
-    uint64_t l18;
-    struct emit__Put l19;
-    l7 = l5.f0;
-    l8 = l5.f1;
-    l11 = (uint8_t *)&(*(uint64_t *)l6.p);
-    l12.p = l11;
-    l12.n = l6.n;
-    l9 = emit__steps__step(l1, l2, l7, l12, UINT64_C(0));
-    l10 = l9.f1;
-    l13 = (uint8_t)(l3 == l4.f0);
-    if (l13) {
-        l14 = l1.p + (size_t)l7;
-        l15 = (*(uint8_t *)l14);
-        l16 = (uint8_t)(l15 == l4.f1);
-        if (l16) {
-            l17.f0 = UINT8_C(0);
-            l17.f1 = l8;
-            l17.f2 = l10;
-            l0.tag = UINT8_C(1);
-            l0.s1 = l17;
+    struct step_part__Spot l0;
+    struct directory__Row l2;
+    uint64_t l3;
+    uint64_t l4;
+    switch (l1.tag) {
+        case UINT8_C(0): {
+            l2 = l1.s0;
+            break;
+        }
+        case UINT8_C(1): default: {
+            l0 = step_part__nowhere(UINT8_C(0));
             return l0;
+            break;
         }
     }
-    l18 = (uint64_t)((uint64_t)l8 + (uint64_t)l10);
-    l19.f0 = l9.f0;
-    l19.f1 = l18;
-    l0.tag = UINT8_C(0);
-    l0.s0 = l19;
-    return l0;
-}
-
-static inline struct step_part__search__Search step_part__search__steps(rt_slice l1, rt_slice l2, uint8_t l3, struct step_part__search__Wanted l4, struct emit__Put l5, rt_slice l6)
-{
-    struct step_part__search__Search l0;
-    uint64_t l7;
-    uint8_t l8;
-    struct emit__Put l9;
-    struct step_part__search__Search l10;
-    struct emit__Put l11;
-    uint8_t *l12;
-    uint8_t l13;
-    uint64_t l14;
-    uint8_t l15;
-    uint8_t *l16;
-    rt_slice l17;
-    l7 = l5.f0;
-    l12 = l1.p + (size_t)l7;
-    l13 = (*(uint8_t *)l12);
-    l8 = l13;
-    l14 = (uint64_t)((uint64_t)l7 + (uint64_t)UINT64_C(1));
-    l9.f0 = l14;
-    l9.f1 = l5.f1;
-    for (;;) {
-        l15 = (uint8_t)(l8 != UINT8_C(0));
-        if (l15) {
-        } else {
-            goto end1;
-        }
-        l16 = (uint8_t *)&(*(uint64_t *)l6.p);
-        l17.p = l16;
-        l17.n = l6.n;
-        l10 = step_part__search__step(l1, l2, l3, l4, l9, l17);
-        switch (l10.tag) {
-            case UINT8_C(0): {
-                l11 = l10.s0;
-                break;
-            }
-            case UINT8_C(1): default: {
-                l0 = l10;
-                return l0;
-                break;
-            }
-        }
-        l9 = l11;
-        l8 = (uint8_t)((uint32_t)l8 - (uint32_t)UINT8_C(1));
-    }
-end1:;
-    l0.tag = UINT8_C(0);
-    l0.s0 = l9;
-    return l0;
-}
-
-static inline struct step_part__search__Search step_part__search__structs(rt_slice l1, rt_slice l2, struct step_part__search__Wanted l3, uint64_t l4, rt_slice l5)
-{
-    struct step_part__search__Search l0;
-    uint8_t l6;
-    uint64_t l7;
-    struct emit__Put l8;
-    struct step_part__search__Search l9;
-    struct emit__Put l10;
-    uint8_t l11;
-    uint8_t *l12;
-    rt_slice l13;
-    l6 = UINT8_C(0);
-    l7 = l2.n;
-    l8.f0 = l4;
-    l8.f1 = UINT64_C(0);
-    for (;;) {
-        l11 = (uint8_t)(l7 != UINT64_C(0));
-        if (l11) {
-        } else {
-            goto end1;
-        }
-        l12 = (uint8_t *)&(*(uint64_t *)l5.p);
-        l13.p = l12;
-        l13.n = l5.n;
-        l9 = step_part__search__steps(l1, l2, l6, l3, l8, l13);
-        switch (l9.tag) {
-            case UINT8_C(0): {
-                l10 = l9.s0;
-                break;
-            }
-            case UINT8_C(1): default: {
-                l0 = l9;
-                return l0;
-                break;
-            }
-        }
-        l8 = l10;
-        l6 = (uint8_t)((uint32_t)l6 + (uint32_t)UINT8_C(1));
-        l7 = (uint64_t)((uint64_t)l7 - (uint64_t)UINT64_C(1));
-    }
-end1:;
-    l0.tag = UINT8_C(0);
-    l0.s0 = l8;
+    l3 = directory__rows__place(l2.f2);
+    l4 = directory__rows__place(l2.f3);
+    l0.f0 = UINT8_C(0);
+    l0.f1 = l3;
+    l0.f2 = l4;
     return l0;
 }
 
@@ -12122,14 +12227,14 @@ static inline struct table_read__TableRead table_read__behind(rt_slice l1, rt_sl
     rt_slice l26;
     uint8_t l27;
     l7 = l2.n;
-    l12 = (uint8_t *)&(*(uint64_t *)l5.p);
+    l12 = (uint8_t *)&(*(uint16_t *)l5.p);
     l13.p = l12;
     l13.n = l5.n;
     l14 = (uint8_t *)&(*(uint64_t *)l6.p);
     l15.p = l14;
     l15.n = l6.n;
     table_read__nulls__nulls(l2, l3, l13, l15);
-    l16 = (uint8_t *)&(*(uint64_t *)l5.p);
+    l16 = (uint8_t *)&(*(uint16_t *)l5.p);
     l17.p = l16;
     l17.n = l5.n;
     l18 = (uint8_t *)&(*(uint64_t *)l6.p);
@@ -12157,7 +12262,7 @@ static inline struct table_read__TableRead table_read__behind(rt_slice l1, rt_sl
         return l0;
     }
     l10 = (uint64_t)((uint64_t)l7 + (uint64_t)l4);
-    l23 = (uint8_t *)&(*(uint64_t *)l5.p);
+    l23 = (uint8_t *)&(*(uint16_t *)l5.p);
     l24.p = l23;
     l24.n = l5.n;
     l25 = (uint8_t *)&(*(uint64_t *)l6.p);
@@ -12239,7 +12344,7 @@ static inline void table_read__nulls__nulls(rt_slice l1, rt_slice l2, rt_slice l
         } else {
             goto end1;
         }
-        l9 = (uint8_t *)&(*(uint64_t *)l3.p);
+        l9 = (uint8_t *)&(*(uint16_t *)l3.p);
         l10.p = l9;
         l10.n = l3.n;
         layout__seat(l10, l5, l5);
@@ -12284,7 +12389,7 @@ static inline struct table_read__TableRead table_read__read(rt_slice l1, rt_slic
             break;
         }
     }
-    l10 = (uint8_t *)&(*(uint64_t *)l4.p);
+    l10 = (uint8_t *)&(*(uint16_t *)l4.p);
     l11.p = l10;
     l11.n = l4.n;
     l12 = (uint8_t *)&(*(uint64_t *)l5.p);
@@ -12330,7 +12435,7 @@ static inline struct table_read__TableRead table_read__read_image(rt_slice l1, r
     l13 = (uint8_t *)&(*(uint8_t *)l4.p);
     l14.p = l13;
     l14.n = l8;
-    l15 = (uint8_t *)&(*(uint64_t *)l5.p);
+    l15 = (uint8_t *)&(*(uint16_t *)l5.p);
     l16.p = l15;
     l16.n = l5.n;
     l17 = (uint8_t *)&(*(uint64_t *)l6.p);
@@ -12431,7 +12536,7 @@ static inline struct table_read__reading__PlaceRead table_read__reading__one_rec
         l0.s1 = UINT8_C(12);
         return l0;
     }
-    l14 = (uint8_t *)&(*(uint64_t *)l5.p);
+    l14 = (uint8_t *)&(*(uint16_t *)l5.p);
     l15.p = l14;
     l15.n = l5.n;
     layout__seat(l15, l7, l8);
@@ -12489,7 +12594,7 @@ static inline struct table_read__reading__PlaceRead table_read__reading__records
         } else {
             goto end1;
         }
-        l13 = (uint8_t *)&(*(uint64_t *)l6.p);
+        l13 = (uint8_t *)&(*(uint16_t *)l6.p);
         l14.p = l13;
         l14.n = l6.n;
         l15 = (uint8_t *)&(*(uint64_t *)l7.p);
@@ -12613,30 +12718,24 @@ static inline uint8_t table_read__refer__cell_refers(rt_slice l1, uint64_t l2, u
     uint64_t l8;
     uint64_t l9;
     uint64_t l10;
-    uint8_t *l11;
-    uint64_t l12;
-    uint64_t l13;
-    uint8_t l14;
+    uint8_t l11;
     l6 = types__is_reference(l3);
     l7 = (uint8_t)!l6;
     if (l7) {
         l0 = 1;
         return l0;
     }
-    l8 = (uint64_t)((uint64_t)l4 / (uint64_t)UINT64_C(4294967296));
+    l8 = layout__operand(l4);
     l5 = l8;
     l6 = (uint8_t)(l2 <= l5);
     if (l6) {
         l0 = 0;
         return l0;
     }
-    l9 = (uint64_t)((uint64_t)UINT64_C(4) * (uint64_t)l5);
-    l10 = (uint64_t)((uint64_t)l9 * (uint64_t)UINT64_C(8));
-    l11 = l1.p + (size_t)l10;
-    l12 = (*(uint64_t *)l11);
-    l14 = types__struct_of(l3);
-    l13 = little_endian__index(l14);
-    l0 = (uint8_t)(l12 == l13);
+    l9 = layout__head(l1, l5, UINT64_C(0));
+    l11 = types__struct_of(l3);
+    l10 = little_endian__index(l11);
+    l0 = (uint8_t)(l9 == l10);
     return l0;
 }
 
@@ -12687,13 +12786,11 @@ static inline uint8_t table_read__refer__rows_refer(rt_slice l1, rt_slice l2, rt
     uint64_t l8;
     uint64_t l9;
     uint8_t l10;
-    uint64_t l11;
-    uint64_t l12;
-    uint8_t *l13;
+    uint8_t *l11;
+    uint8_t l12;
+    uint64_t l13;
     uint64_t l14;
-    uint8_t *l15;
-    uint8_t l16;
-    uint8_t l17;
+    uint8_t l15;
     l7 = l5;
     for (;;) {
         l10 = (uint8_t)(l7 < l6);
@@ -12701,19 +12798,15 @@ static inline uint8_t table_read__refer__rows_refer(rt_slice l1, rt_slice l2, rt
         } else {
             goto end1;
         }
-        l11 = (uint64_t)((uint64_t)UINT64_C(4) * (uint64_t)l7);
-        l12 = (uint64_t)((uint64_t)l11 * (uint64_t)UINT64_C(8));
-        l13 = l3.p + (size_t)l12;
-        l14 = (*(uint64_t *)l13);
-        l8 = l14;
-        l15 = l1.p + (size_t)l8;
-        l16 = (*(uint8_t *)l15);
-        l9 = little_endian__index(l16);
-        l11 = (uint64_t)((uint64_t)UINT64_C(8) * (uint64_t)l8);
+        l8 = layout__head(l3, l7, UINT64_C(0));
+        l11 = l1.p + (size_t)l8;
+        l12 = (*(uint8_t *)l11);
+        l9 = little_endian__index(l12);
+        l13 = (uint64_t)((uint64_t)UINT64_C(8) * (uint64_t)l8);
         l14 = (uint64_t)((uint64_t)UINT64_C(32) * (uint64_t)l7);
-        l10 = table_read__refer__row_refers(l3, l6, l2, l11, l4, l14, l9);
-        l17 = (uint8_t)!l10;
-        if (l17) {
+        l10 = table_read__refer__row_refers(l3, l6, l2, l13, l4, l14, l9);
+        l15 = (uint8_t)!l10;
+        if (l15) {
             l0 = 0;
             return l0;
         }
@@ -12769,44 +12862,37 @@ static inline uint64_t table_write__writing__instances(rt_slice l1, uint64_t l2,
     uint64_t l9;
     uint64_t l10;
     uint64_t l11;
-    uint8_t l12;
-    uint64_t l13;
-    uint64_t l14;
-    uint8_t *l15;
-    uint64_t l16;
-    uint8_t *l17;
-    uint8_t l18;
-    uint8_t *l19;
-    uint8_t *l21;
-    rt_slice l22;
+    uint64_t l12;
+    uint8_t l13;
+    uint8_t *l14;
+    uint8_t l15;
+    uint8_t *l16;
+    uint8_t *l18;
+    rt_slice l19;
+    uint64_t l20;
     l8 = l2;
     l9 = l6;
     for (;;) {
-        l12 = (uint8_t)(l9 < l7);
-        if (l12) {
+        l13 = (uint8_t)(l9 < l7);
+        if (l13) {
         } else {
             goto end1;
         }
-        l13 = (uint64_t)((uint64_t)UINT64_C(4) * (uint64_t)l9);
-        l14 = (uint64_t)((uint64_t)l13 * (uint64_t)UINT64_C(8));
-        l15 = l4.p + (size_t)l14;
-        l16 = (*(uint64_t *)l15);
-        l10 = l16;
-        l17 = l3.p + (size_t)l10;
-        l18 = (*(uint8_t *)l17);
-        l11 = little_endian__index(l18);
-        l18 = (uint8_t)l10;
-        l19 = l1.p + (size_t)l8;
-        (*(uint8_t *)l19) = l18;
-        l21 = (uint8_t *)&(*(uint8_t *)l1.p);
-        l22.p = l21;
-        l22.n = l1.n;
-        l13 = (uint64_t)((uint64_t)l8 + (uint64_t)UINT64_C(1));
-        l14 = (uint64_t)((uint64_t)UINT64_C(32) * (uint64_t)l9);
-        table_write__writing__values(l22, l13, l5, l14, l11);
-        l16 = (uint64_t)((uint64_t)l8 + (uint64_t)UINT64_C(1));
-        l14 = (uint64_t)((uint64_t)UINT64_C(4) * (uint64_t)l11);
-        l8 = (uint64_t)((uint64_t)l16 + (uint64_t)l14);
+        l10 = layout__head(l4, l9, UINT64_C(0));
+        l14 = l3.p + (size_t)l10;
+        l15 = (*(uint8_t *)l14);
+        l11 = little_endian__index(l15);
+        l15 = (uint8_t)l10;
+        l16 = l1.p + (size_t)l8;
+        (*(uint8_t *)l16) = l15;
+        l12 = (uint64_t)((uint64_t)l8 + (uint64_t)UINT64_C(1));
+        l18 = (uint8_t *)&(*(uint8_t *)l1.p);
+        l19.p = l18;
+        l19.n = l1.n;
+        l20 = (uint64_t)((uint64_t)UINT64_C(32) * (uint64_t)l9);
+        table_write__writing__values(l19, l12, l5, l20, l11);
+        l20 = (uint64_t)((uint64_t)UINT64_C(4) * (uint64_t)l11);
+        l8 = (uint64_t)((uint64_t)l12 + (uint64_t)l20);
         l9 = (uint64_t)((uint64_t)l9 + (uint64_t)UINT64_C(1));
     }
 end1:;
@@ -12818,29 +12904,21 @@ static inline uint64_t table_write__writing__stream(rt_slice l1, rt_slice l2, rt
 {
     uint64_t l0;
     uint64_t l6;
-    uint64_t l7;
-    uint64_t l8;
-    uint8_t l9;
-    uint8_t *l10;
-    uint64_t l11;
-    uint8_t *l12;
-    uint8_t *l13;
-    rt_slice l14;
+    uint8_t *l8;
+    rt_slice l9;
+    uint64_t l10;
+    uint8_t *l11;
+    rt_slice l12;
     l6 = l1.n;
-    l7 = (uint64_t)((uint64_t)l4 - (uint64_t)l6);
-    l8 = (uint64_t)((uint64_t)l7 % (uint64_t)UINT64_C(256));
-    l9 = (uint8_t)l8;
-    l10 = l5.p + (size_t)UINT64_C(0);
-    (*(uint8_t *)l10) = l9;
-    l8 = (uint64_t)((uint64_t)l7 / (uint64_t)UINT64_C(256));
-    l11 = (uint64_t)((uint64_t)l8 % (uint64_t)UINT64_C(256));
-    l9 = (uint8_t)l11;
-    l12 = l5.p + (size_t)UINT64_C(1);
-    (*(uint8_t *)l12) = l9;
-    l13 = (uint8_t *)&(*(uint8_t *)l5.p);
-    l14.p = l13;
-    l14.n = l5.n;
-    l0 = table_write__writing__instances(l14, UINT64_C(2), l1, l2, l3, l6, l4);
+    l8 = (uint8_t *)&(*(uint8_t *)l5.p);
+    l9.p = l8;
+    l9.n = l5.n;
+    l10 = (uint64_t)((uint64_t)l4 - (uint64_t)l6);
+    little_endian__put_pair(l9, UINT64_C(0), l10);
+    l11 = (uint8_t *)&(*(uint8_t *)l5.p);
+    l12.p = l11;
+    l12.n = l5.n;
+    l0 = table_write__writing__instances(l12, UINT64_C(2), l1, l2, l3, l6, l4);
     return l0;
 }
 
@@ -12854,8 +12932,8 @@ static inline void table_write__writing__values(rt_slice l1, uint64_t l2, rt_sli
     uint64_t l12;
     uint64_t l13;
     uint64_t l14;
-    uint8_t *l15;
-    uint64_t l16;
+    uint64_t l15;
+    uint8_t *l16;
     uint64_t l17;
     l6 = UINT64_C(0);
     for (;;) {
@@ -12869,52 +12947,15 @@ static inline void table_write__writing__values(rt_slice l1, uint64_t l2, rt_sli
         l10.n = l1.n;
         l11 = (uint64_t)((uint64_t)UINT64_C(4) * (uint64_t)l6);
         l12 = (uint64_t)((uint64_t)l2 + (uint64_t)l11);
-        l13 = (uint64_t)((uint64_t)l4 + (uint64_t)l6);
-        l14 = (uint64_t)((uint64_t)l13 * (uint64_t)UINT64_C(8));
-        l15 = l3.p + (size_t)l14;
-        l16 = (*(uint64_t *)l15);
-        l17 = (uint64_t)((uint64_t)l16 / (uint64_t)UINT64_C(4294967296));
-        table_write__writing__word(l10, l12, l17);
+        l14 = (uint64_t)((uint64_t)l4 + (uint64_t)l6);
+        l15 = (uint64_t)((uint64_t)l14 * (uint64_t)UINT64_C(8));
+        l16 = l3.p + (size_t)l15;
+        l17 = (*(uint64_t *)l16);
+        l13 = layout__operand(l17);
+        little_endian__put_word(l10, l12, l13);
         l6 = (uint64_t)((uint64_t)l6 + (uint64_t)UINT64_C(1));
     }
 end1:;
-    return;
-}
-
-static inline void table_write__writing__word(rt_slice l1, uint64_t l2, uint64_t l3)
-{
-    uint64_t l4;
-    uint64_t l5;
-    uint64_t l6;
-    uint64_t l7;
-    uint8_t l8;
-    uint8_t *l9;
-    uint64_t l10;
-    uint8_t *l11;
-    uint8_t *l12;
-    uint8_t *l13;
-    l4 = (uint64_t)((uint64_t)l3 / (uint64_t)UINT64_C(256));
-    l5 = (uint64_t)((uint64_t)l4 / (uint64_t)UINT64_C(256));
-    l6 = (uint64_t)((uint64_t)l5 / (uint64_t)UINT64_C(256));
-    l7 = (uint64_t)((uint64_t)l3 % (uint64_t)UINT64_C(256));
-    l8 = (uint8_t)l7;
-    l9 = l1.p + (size_t)l2;
-    (*(uint8_t *)l9) = l8;
-    l7 = (uint64_t)((uint64_t)l4 % (uint64_t)UINT64_C(256));
-    l8 = (uint8_t)l7;
-    l10 = (uint64_t)((uint64_t)l2 + (uint64_t)UINT64_C(1));
-    l11 = l1.p + (size_t)l10;
-    (*(uint8_t *)l11) = l8;
-    l7 = (uint64_t)((uint64_t)l5 % (uint64_t)UINT64_C(256));
-    l8 = (uint8_t)l7;
-    l10 = (uint64_t)((uint64_t)l2 + (uint64_t)UINT64_C(2));
-    l12 = l1.p + (size_t)l10;
-    (*(uint8_t *)l12) = l8;
-    l7 = (uint64_t)((uint64_t)l6 % (uint64_t)UINT64_C(256));
-    l8 = (uint8_t)l7;
-    l10 = (uint64_t)((uint64_t)l2 + (uint64_t)UINT64_C(3));
-    l13 = l1.p + (size_t)l10;
-    (*(uint8_t *)l13) = l8;
     return;
 }
 
