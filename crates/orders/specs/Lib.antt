@@ -4,5 +4,7 @@ pub mod Constructing
 pub mod OrderFree
 pub mod Deeds
 pub mod Following
+pub mod Marks
+pub mod ZeroTurns
 pub mod Exhibits
 pub mod Laws
