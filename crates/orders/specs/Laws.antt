@@ -15,3 +15,6 @@ pub mod FollowingLaws
 pub mod MarkLaws
 pub mod ZeroTurnLaws
 pub mod ApartLaws
+pub mod MeetingLaws
+pub mod AloneLaws
+pub mod StepAnswerLaws

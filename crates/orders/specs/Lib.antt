@@ -6,5 +6,8 @@ pub mod Deeds
 pub mod Following
 pub mod Marks
 pub mod ZeroTurns
+pub mod StepAnswer
+pub mod Meeting
 pub mod Exhibits
+pub mod AnswerRows
 pub mod Laws

@@ -10,7 +10,7 @@ use Rattle.run.specs.Turns.{chosen}
 use Rattle.run.specs.Holders.{holders, due}
 use Rattle.orders.specs.Deeds.{Deed}
 use Rattle.orders.specs.Following.{deed-at}
-use Rattle.orders.specs.Marks.{Marks, clean, Noted, Noted.noted, Noted.met, note}
+use Rattle.orders.specs.Marks.{Marks, Noted, Noted.noted, Noted.met, note}
 
 -- the instance that a zero byte picks
 abbrev pub next-label : Machine → ℕ

@@ -1,35 +1,34 @@
 -- Following zero bytes answers 'apart' exactly where their order completes the step and touches apart, and then the step is free of order (02 §11).
-use Prim.Native.Nat.{ℕ, suc, _+_, _≤_}
+use Prim.Native.Nat.{ℕ, suc, _≤_}
 use native.Mathlib.Omega.{arith}
 use mathlib.Core.Path.{_≡_, refl, sym, ap, subst, _∙_}
-use mathlib.Core.Bool.{Bool, true, false}
-use mathlib.Core.Logic.{_⊎_, inl, inr, _↔_, ⊎-elim}
-use mathlib.Core.Option.{some}
-use mathlib.Core.List.{List, [], _∷_, List·Memᴰ, List·Memᴰ·not-nil, List·Memᴰ·cases-cons}
+use mathlib.Core.Bool.{true, false}
+use mathlib.Core.Logic.{_⊎_, inl, inr}
+use mathlib.Core.List.{List, _∷_, List·Memᴰ, List·Memᴰ·not-nil, List·Memᴰ·cases-cons}
 use lib.ListN.{length, getElem?, replicate}
 use borrow.Author.Tests.{lt-ltb, le-ltb}
 use Rattle.program.specs.Tree.{Program}
 use Rattle.machine.specs.Published.{State, State.state, structs}
 use Rattle.machine.specs.Rules.{Actor.instance, Rule}
-use Rattle.machine.specs.Machine.{Instance, Machine, Out.next, Out.refused, acting, command}
+use Rattle.machine.specs.Machine.{Instance, Machine, Out.next, acting, command}
 use Rattle.machine.specs.FromLaws.{command-from}
 use Rattle.machine.specs.Represents.{Represents}
 use Rattle.machine.specs.RepresentsLaws.{still-done}
 use Rattle.machine.specs.CommandAgrees.{command-follows}
-use Rattle.run.specs.Turns.{chosen, holders-of}
-use Rattle.run.specs.Holders.{holders, due}
+use Rattle.run.specs.Turns.{chosen}
+use Rattle.run.specs.Holders.{due}
 use Rattle.run.specs.Runs.{Due, Config.config, picked}
 use Rattle.run.specs.Laws.TurnLaws.{holders-still, due-none, due-still, holders-represent}
 use Rattle.sound.specs.Firm.{Firm}
 use Rattle.sound.specs.Invariant.{Good}
 use Rattle.orders.specs.Orders.{Ordered, Ordered.no-turn, Ordered.a-turn, Turns, Turns.no-byte, Turns.a-byte}
-use Rattle.orders.specs.Touches.{Use, Use.reading, Use.writing, Does, Apart}
+use Rattle.orders.specs.Touches.{Use, Use.reading, Use.writing, Apart}
 use Rattle.orders.specs.OrderFree.{OrderFree}
 use Rattle.orders.specs.Deeds.{Deed, Deed.nothing, Deed.reads, Deed.writes, Act, Clash}
 use Rattle.orders.specs.Following.{top-deed, write-deed, code-deed, deed-at, deeds-of, used}
-use Rattle.orders.specs.Marks.{Marks, clean}
-use Rattle.orders.specs.ZeroTurns.{next-label, next-deed, Zeros, Zeros.no-turn as no-zero, Zeros.a-turn as a-zero, Answer, Answer.apart, Answer.together}
-use Rattle.orders.specs.ZeroTurns.{Answer.stops, Answer.unfinished, follow}
+use Rattle.orders.specs.Marks.{clean}
+use Rattle.orders.specs.ZeroTurns.{next-label, next-deed, Zeros, Zeros.no-turn as no-zero, Zeros.a-turn as a-zero, Answer, Answer.apart}
+use Rattle.orders.specs.ZeroTurns.{follow}
 use Rattle.orders.specs.Laws.Plans.{Plan, Plans, Plans.p-push, Plans.p-this, Plans.p-not, Plans.p-if, Plans.p-op, Plans.p-rd, Plans.p-get, Plans.p-set}
 use Rattle.orders.specs.Laws.Plans.{Plans.p-skip, Plans.p-wr}
 use Rattle.orders.specs.Laws.Swap.{Step}
@@ -38,7 +37,7 @@ use Rattle.orders.specs.Laws.Holding.{MakesNone, free-kept, heads-free, 
 use Rattle.orders.specs.Laws.OrderSteps.{Stood, Touched, Did, plan-touched, did-first, did-later, clashing}
 use Rattle.orders.specs.Laws.StoodFree.{stood-free}
 use Rattle.orders.specs.Laws.FollowingLaws.{does-listed}
-use Rattle.orders.specs.Laws.MarkLaws.{by, Past, Tell, clean-tells, tell-apart}
+use Rattle.orders.specs.Laws.MarkLaws.{by, clean-tells, tell-apart}
 use Rattle.orders.specs.Laws.ZeroTurnLaws.{within, Comes, Comes.comes-apart, Comes.comes-together, Comes.comes-stops, Comes.comes-unfinished}
 use Rattle.orders.specs.Laws.ZeroTurnLaws.{deeds-next, follow-comes, NoClash, follow-complete}
 
@@ -54,9 +53,11 @@ plan-deed {p} i (p-rd {v = v} a b c e f g s) = ap (code-deed p (i .stack)) a ∙
 plan-deed i (p-get a b c e) = rw (a, code-deed)
 plan-deed i (p-set a b c) = rw (a, code-deed)
 plan-deed {p} i (p-skip {v = v} {q = q} a b c e f g) =
-    ap (code-deed p (i .stack)) a ∙ ap (top-deed (write-deed p v)) b ∙ ap {B = Deed} (λ t. elim t [ true ↦ nothing | false ↦ writes q v ]) (lt-ltb q (structs p) f)
+    ap (code-deed p (i .stack)) a ∙ ap (top-deed (write-deed p v)) b
+    ∙ ap {B = Deed} (λ t. elim t [ true ↦ nothing | false ↦ writes q v ]) (lt-ltb q (structs p) f)
 plan-deed {p} i (p-wr {v = v} {q = q} a b c e f g h k s) =
-    ap (code-deed p (i .stack)) a ∙ ap (top-deed (write-deed p v)) b ∙ ap {B = Deed} (λ t. elim t [ true ↦ nothing | false ↦ writes q v ]) (le-ltb q (structs p) f)
+    ap (code-deed p (i .stack)) a ∙ ap (top-deed (write-deed p v)) b
+    ∙ ap {B = Deed} (λ t. elim t [ true ↦ nothing | false ↦ writes q v ]) (le-ltb q (structs p) f)
 
 step-deed : {p : Program} {l : ℕ} {m n : Machine} {d : Deed} → Step p l m d n → deed-at p (getElem? (m .instances) l) ≡ d
 unfolding deed-at
@@ -89,15 +90,18 @@ pub record ZeroOrder (p : Program) (m : Machine) (st : State) (ls : List ℕ) (z
 
 module _ {p : Program} (firm : Firm p) where
   -- a turn of the machine, on states
-  turn-stood : {m m′ : Machine} {st : State} {l : ℕ} → Stood p m st → command p l m ≡ next m′
+  pub turn-stood : {m m′ : Machine} {st : State} {l : ℕ} → Stood p m st → command p l m ≡ next m′
       → (st′ : State) × (Rule p (instance l) st st′) × (Stood p m′ st′) × (Touched p l st (deed-at p (getElem? (m .instances) l)))
   turn-stood {m} {m′} {st} {l} S e =
       let (d, n, s, q) = command-step firm (S .good) l e (λ i k c. heads-free firm m (S .free) l i k c) in
       let (st′, r, R) = command-follows p l m st (S .stands) e in
       let good = subst (Good p) (sym q) (counted-good l n (good-kept firm (S .good) s)) in
-      let none : MakesNone (acting l n) = free-kept firm s (S .free) in
-      (st′, r, record { good = good; free = subst MakesNone (sym q) none; stands = R },
-      subst (Touched p l st) (sym (step-deed s)) (plan-touched m (s .at) st (S .stands) (s .plans)))
+      let none : MakesNone (acting l n) = free-kept firm s (S .free) in (
+        st′,
+        r,
+        record { good = good; free = subst MakesNone (sym q) none; stands = R },
+        subst (Touched p l st) (sym (step-deed s)) (plan-touched m (s .at) st (S .stands) (s .plans)),
+      )
 
   pub zero-order : {m z : Machine} {st : State} {ls : List ℕ} → Stood p m st → Zeros p m ls z → ZeroOrder p m st ls z
   unfolding deeds-of
@@ -162,14 +166,16 @@ module _ {p : Program} (firm : Firm p) {m : Machine} {st : State} (S : Stood p m
   went : follow p k 0 clean m ≡ apart n → Went p m n
   went e = came-apart (follow-comes p k (λ x. ⊥) 0 clean m clean-tells) e
 
-  -- 'apart' after n turns, exactly where zero bytes complete the step in n turns by an order that touches apart
-  pub apart-exact : n ≤ k
-      → (follow p k 0 clean m ≡ apart n) ↔ ((ls : List ℕ) × (z : Machine) × (Zeros p m ls z) × (due z ≡ true) × (length ls ≡ n) × (Apart p st ls))
-  apart-exact h =
-      (λ e. let (ls, z, t, d, q, c) = went e in (ls, z, t, d, q, clear-apart m ls (S .stands) c),
-      λ (ls, z, t, d, q, a).
-          follow-complete p k (λ x. ⊥) 0 clean clean-tells t d (omega (arith, q, h)) (apart-clear (zero-order firm S t) a)
-          ∙ ap apart (omega (arith, q)))
+  -- 'apart' after n turns is answered only where zero bytes complete the step in n turns by an order that touches apart,
+  pub apart-then : follow p k 0 clean m ≡ apart n
+      → (ls : List ℕ) × (z : Machine) × (Zeros p m ls z) × (due z ≡ true) × (length ls ≡ n) × (Apart p st ls)
+  apart-then e = let (ls, z, t, d, q, c) = went e in (ls, z, t, d, q, clear-apart m ls (S .stands) c)
+
+  -- and wherever they do, if so many turns are allowed
+  pub apart-where : n ≤ k → {ls : List ℕ} {z : Machine} → Zeros p m ls z → due z ≡ true → length ls ≡ n → Apart p st ls
+      → follow p k 0 clean m ≡ apart n
+  apart-where h t d q a =
+      follow-complete p k (λ x. ⊥) 0 clean clean-tells t d (omega (arith, q, h)) (apart-clear (zero-order firm S t) a) ∙ ap apart (omega (arith, q))
 
   -- then the step is free of order
   pub apart-free : follow p k 0 clean m ≡ apart n
@@ -177,6 +183,9 @@ module _ {p : Program} (firm : Firm p) {m : Machine} {st : State} (S : Stood p m
   apart-free e =
       let (ls, z, t, d, q, c) = went e in
       let o = zero-order firm S t in
-      let free = clear-apart m ls (S .stands) c in
-      (o .last, z .from, subst (λ i. Turns p (config (m .from) st) (replicate i 0) (config (z .from) (o .last))) q (o .turns),
-      subst (λ i. OrderFree p st i (o .last)) q (stood-free firm S (o .ordered) (due-there z (o .last) (o .stood .stands) d) free))
+      let free = clear-apart m ls (S .stands) c in (
+        o .last,
+        z .from,
+        subst (λ i. Turns p (config (m .from) st) (replicate i 0) (config (z .from) (o .last))) q (o .turns),
+        subst (λ i. OrderFree p st i (o .last)) q (stood-free firm S (o .ordered) (due-there z (o .last) (o .stood .stands) d) free),
+      )

@@ -108,7 +108,7 @@ unfolding all-clear
 apart-clear p m st ls R e l l′ q v u x y =
     let ds = deeds-of p m ls in
     let f = every-one (λ (x : Act Deed). every (λ y. clear-by (x .actor) (x .deed) y) ds) ds e (record { actor = l; deed = writes q v })
-        (does-listed p m st ls R x) in
+    (does-listed p m st ls R x) in
     let g = every-one (λ (y : Act Deed). clear-by l (writes q v) y) ds f (record { actor = l′; deed = used u q v }) (does-listed p m st ls R y) in
     eqb-true l l′ (sym (cleared l q v u l′) ∙ g)
 

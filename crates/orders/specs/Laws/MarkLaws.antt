@@ -5,10 +5,10 @@ use mathlib.Core.Path.{_≡_, refl, sym, ap, subst, _∙_}
 use mathlib.Core.Bool.{Bool, true, false, _&&_}
 use mathlib.Core.Logic.{_⊎_, inl, inr, ⊎-elim}
 use lib.Dec.{eqb}
-use borrow.Author.Tests.{eq-eqb, eqb-true, eqb-false}
+use borrow.Author.Tests.{eqb-true, eqb-false}
 use Rattle.orders.specs.Deeds.{Deed, Deed.nothing, Deed.reads, Deed.writes, Act, Clash}
 use Rattle.orders.specs.Marks.{Mark, Mark.untouched, Mark.read-by, Mark.read-by-two, Mark.written-by, Met, Met.passes, Met.meets, read-at, write-at}
-use Rattle.orders.specs.Marks.{Marks, marked, clean, Noted, Noted.noted, Noted.met, placed, note}
+use Rattle.orders.specs.Marks.{Marks, marked, clean, Noted.noted, Noted.met, placed, note}
 
 abbrev pub by : ℕ → Deed → Act Deed
 by l d = record { actor = l; deed = d }
@@ -169,7 +169,8 @@ nothing-on (inl e) = let z : _≡_ {A = ℕ} 0 1 = cc in omega arith
 nothing-on (inr e) = let z : _≡_ {A = ℕ} 0 1 = cc in omega arith
 
 -- one mark changed by a deed on its parameter, the others as they were
-tell-marked : (T : Past) (ms : Marks) (q v : ℕ) (k : Mark) (y : Act Deed) → Tell T ms → On q v (y .deed) → Says (also T y) q v k → Tell (also T y) (marked ms q v k)
+tell-marked : (T : Past) (ms : Marks) (q v : ℕ) (k : Mark) (y : Act Deed) → Tell T ms → On q v (y .deed) → Says (also T y) q v k
+    → Tell (also T y) (marked ms q v k)
 unfolding marked
 tell-marked T ms q v k y tell o s r w = go (eqb q r) (eqb v w) refl refl
   where

@@ -105,7 +105,8 @@ does-later {k = k} r d = record {
   touches = d .touches;
 }
 
-pub did-later : {p : Program} {st st′ : State} {k : ℕ} (ls : List ℕ) (l : ℕ) (d : Deed) → Rule p (instance k) st st′ → Did p st′ ls l d → Did p st (k ∷ ls) l d
+pub did-later : {p : Program} {st st′ : State} {k : ℕ} (ls : List ℕ) (l : ℕ) (d : Deed) → Rule p (instance k) st st′ → Did p st′ ls l d
+    → Did p st (k ∷ ls) l d
 did-later ls l nothing r h = tt
 did-later ls l (reads q v) r h = does-later r h
 did-later ls l (writes q v) r h = does-later r h

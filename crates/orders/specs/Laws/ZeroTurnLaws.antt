@@ -8,8 +8,18 @@ use mathlib.Core.Logic.{_⊎_, inl, inr, ⊎-elim}
 use mathlib.Core.List.{List, [], _∷_, List·Memᴰ, List·Memᴰ·head, List·Memᴰ·tail, List·Memᴰ·not-nil, List·Memᴰ·cases-cons}
 use lib.ListN.{length, getElem?}
 use Rattle.program.specs.Tree.{Program}
-use Rattle.machine.specs.Machine.{Machine, Out, Out.next, Out.refused, Out.stuck, command}
+use Rattle.commands.specs.Noted.{Note}
+use Rattle.machine.specs.Machine.{Instance, Machine, Out, Out.next, Out.refused, Out.stuck, command}
+use Rattle.machine.specs.RepresentsLaws.{Still}
+use Rattle.machine.specs.Measure.{total, codes}
+use Rattle.machine.specs.MeasureLaws.{command-shortens}
 use Rattle.run.specs.Holders.{due}
+use Rattle.run.specs.Laws.TurnLaws.{holders-still, due-none}
+use Rattle.sound.specs.Firm.{Firm}
+use Rattle.sound.specs.Invariant.{Good}
+use Rattle.sound.specs.Laws.Advance.{Kept}
+use Rattle.sound.specs.Laws.CommandKept.{Refused}
+use Rattle.sound.specs.Laws.NeverStuckLaws.{taken-kept}
 use Rattle.orders.specs.Deeds.{Deed, Deed.reads, Deed.writes, Act, Clash}
 use Rattle.orders.specs.Following.{deed-at, deeds-of, onto}
 use Rattle.orders.specs.Marks.{Mark, Mark.untouched, Mark.read-by, Mark.read-by-two, Mark.written-by, Marks, Noted, Noted.noted, Noted.met, note}
@@ -73,8 +83,9 @@ module _ (p : Program) where
     earlier {m′} h c A (comes-apart {n = c′} {ls = ls} z d n ns s) =
         let y = by (next-label m) (next-deed p m) in
         let w = tell-same (within (also T y) (deeds-of p m′ ls)) (within T (y ∷ deeds-of p m′ ls))
-            (λ x u. sooner T y (deeds-of p m′ ls) x u) (λ x u. later T y (deeds-of p m′ ls) x u) ns s in
-        comes-apart {n = c′} {ls = next-label m ∷ ls} (a-turn h c z) d (omega (arith, n)) ns (subst (λ ds. Tell (within T ds) ns) (sym (deeds-next (next-label m) ls m c)) w)
+        (λ x u. sooner T y (deeds-of p m′ ls) x u) (λ x u. later T y (deeds-of p m′ ls) x u) ns s in
+        comes-apart {n = c′} {ls = next-label m ∷ ls} (a-turn h c z) d (omega (arith, n)) ns
+        (subst (λ ds. Tell (within T ds) ns) (sym (deeds-next (next-label m) ls m c)) w)
     earlier {m′} h c A (comes-together {n = c′} {a = a} {ls = ls} {e = e} z d n l u o r k f) =
         let y = by (next-label m) (next-deed p m) in
         comes-together {n = c′} {ls = next-label m ∷ ls} (a-turn h c z) d (omega (arith, n)) l
@@ -85,7 +96,7 @@ module _ (p : Program) where
     -- a turn, and on by f
     comes-turned : (ms : Marks) → Tell T ms → (f : Marks → Machine → Answer) → due m ≡ false
         → ((ns : Marks) (m′ : Machine) → Tell (also T (by (next-label m) (next-deed p m))) ns
-            → Comes p (also T (by (next-label m) (next-deed p m))) (suc t) m′ (f ns m′))
+        → Comes p (also T (by (next-label m) (next-deed p m))) (suc t) m′ (f ns m′))
         → (o : Noted) → note ms (next-label m) (next-deed p m) ≡ o → (r : Out) → command p (next-label m) m ≡ r
         → Comes p T t m (turned f t (next-label m) o r)
     unfolding turned
@@ -114,7 +125,7 @@ module _ (p : Program) where
     where
       go : (f : Marks → Machine → Answer)
           → ((ns : Marks) (m′ : Machine) → Tell (also T (by (next-label m) (next-deed p m))) ns
-              → Comes p (also T (by (next-label m) (next-deed p m))) (suc t) m′ (f ns m′))
+          → Comes p (also T (by (next-label m) (next-deed p m))) (suc t) m′ (f ns m′))
           → (b : Bool) → due m ≡ b
           → Comes p T t m (unless-due b t (turned f t (next-label m) (note ms (next-label m) (next-deed p m)) (command p (next-label m) m)))
       go f on true h = comes-idle T t m ms s h
@@ -132,7 +143,7 @@ module _ (p : Program) where
   follow-idle (suc k) t ms m h =
       ap
       (λ b. unless-due b t
-          (turned (λ ns z. follow p k (suc t) ns z) t (next-label m) (note ms (next-label m) (next-deed p m)) (command p (next-label m) m)))
+      (turned (λ ns z. follow p k (suc t) ns z) t (next-label m) (note ms (next-label m) (next-deed p m)) (command p (next-label m) m)))
       h
 
   follow-turn : (k t : ℕ) (ms : Marks) (m : Machine) {m′ : Machine} {ns : Marks} → due m ≡ false → note ms (next-label m) (next-deed p m) ≡ noted ns
@@ -151,8 +162,8 @@ module _ (p : Program) where
   follow-complete (suc k) T t ms {m} s (a-turn {m′ = m′} {ls = ls} d c z) h b n =
       go
       (λ ns e.
-          follow-complete k (also T y) (suc t) ns (note-tells T ms s (next-label m) (next-deed p m) ns e) z h (omega (arith, b))
-          (λ x w i j. clear x w (sooner T y (deeds-of p m′ ls) x i) (sooner T y (deeds-of p m′ ls) w j)))
+      follow-complete k (also T y) (suc t) ns (note-tells T ms s (next-label m) (next-deed p m) ns e) z h (omega (arith, b))
+      (λ x w i j. clear x w (sooner T y (deeds-of p m′ ls) x i) (sooner T y (deeds-of p m′ ls) w j)))
       (note ms (next-label m) (next-deed p m)) refl
     where
       y : Act Deed
@@ -167,3 +178,51 @@ module _ (p : Program) where
           let (e′, u, o, o′, cl, ne) = note-meets T ms s (next-label m) (next-deed p m) e in
           absurd (ne (clear y (by a e′) (inr (List·Memᴰ·head refl)) (inl u) cl))
       go on (noted ns) e = follow-turn k t ms m d e c ∙ on ns e ∙ ap apart (omega arith)
+
+-- The end ---------------------------------------------------------------------------------------------
+
+-- an order of zero bytes has no more turns than there are commands
+pub zeros-long : {p : Program} {m z : Machine} {ls : List ℕ} → Zeros p m ls z → length ls ≤ codes (m .instances)
+zeros-long no-turn = omega arith
+zeros-long {p} {m} (a-turn h c t) = let i = zeros-long t in omega (arith, i, command-shortens p (next-label m) m c)
+
+no-codes : (c : List Note) → length c ≡ 0 → c ≡ []
+no-codes [] e = refl
+no-codes (n ∷ c) e = absurd (omega (arith, e))
+
+codes-none : (is : List Instance) → codes is ≡ 0 → Still is
+unfolding codes total
+codes-none [] e = tt
+codes-none (i ∷ is) e = (no-codes (i .code) (omega (arith, e)), codes-none is (omega (arith, e)))
+
+apart-unfinished {ℓ} : {X : Type ℓ} {n : ℕ} → apart n ≡ unfinished → X
+apart-unfinished e = let z : _≡_ {A = ℕ} 0 1 = cc in absurd (omega arith)
+
+module _ {p : Program} (firm : Firm p) where
+  turned-ends : (f : Marks → Machine → Answer) (t l : ℕ) (o : Noted) (r : Out) → Kept p Refused r
+      → ((ns : Marks) (m′ : Machine) → r ≡ next m′ → f ns m′ ≡ unfinished → ⊥) → turned f t l o r ≡ unfinished → ⊥
+  unfolding turned
+  turned-ends f t l (met a q v) r k h e = let z : _≡_ {A = ℕ} 0 1 = cc in omega arith
+  turned-ends f t l (noted ns) (next m′) k h e = h ns m′ refl e
+  turned-ends f t l (noted ns) (refused n) k h e = let z : _≡_ {A = ℕ} 0 1 = cc in omega arith
+  turned-ends f t l (noted ns) stuck k h e = k
+
+  -- from a machine with the invariant, for as many turns as there are commands
+  pub follow-ends : (k t : ℕ) (ms : Marks) (m : Machine) → Good p m → codes (m .instances) ≤ k → follow p k t ms m ≡ unfinished → ⊥
+  unfolding follow unless-due
+  follow-ends zero t ms m g h e =
+      apart-unfinished
+      (sym (ap (λ b. unless-due b t unfinished) (due-none m .1 (holders-still m .1 (codes-none (m .instances) (omega (arith, h)))))) ∙ e)
+  follow-ends (suc k) t ms m g h e =
+      go (λ ns z. follow p k (suc t) ns z)
+      (λ ns m′ c kept e. follow-ends k (suc t) ns m′ (subst (Kept p Refused) c kept) (omega (arith, h, command-shortens p (next-label m) m c)) e)
+      (due m) refl e
+    where
+      go : (f : Marks → Machine → Answer)
+          → ((ns : Marks) (m′ : Machine) → command p (next-label m) m ≡ next m′ → Kept p Refused (command p (next-label m) m) → f ns m′ ≡ unfinished → ⊥)
+          → (b : Bool) → due m ≡ b
+          → unless-due b t (turned f t (next-label m) (note ms (next-label m) (next-deed p m)) (command p (next-label m) m)) ≡ unfinished → ⊥
+      go f on true d e = apart-unfinished e
+      go f on false d e =
+          let (i, a, kept) = taken-kept firm 0 g d in
+          turned-ends f t (next-label m) (note ms (next-label m) (next-deed p m)) (command p (next-label m) m) kept (λ ns m′ c x. on ns m′ c kept x) e
