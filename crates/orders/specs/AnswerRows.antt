@@ -1,8 +1,8 @@
 -- What is answered of the exhibits' steps (02 §11), by computation.
 use Prim.Native.Nat.{ℕ}
 use mathlib.Core.Path.{_≡_, refl}
-use mathlib.Core.List.{List}
-use Rattle.program.specs.Tree.{Program}
+use mathlib.Core.List.{List, [], _∷_}
+use Rattle.program.specs.Tree.{Var.par, Expr.path, Expr.int-lit, Exprs.none, Exprs.more, Stmt.update, Stmt.create, Stmts.end, Stmts.next, Program}
 use Rattle.commands.specs.Decide.{member}
 use Rattle.commands.specs.Decide.NamesDecide.{stepped}
 use Rattle.commands.specs.Names.{names-of-steps}
@@ -13,8 +13,8 @@ use Rattle.run.specs.Rows.RowsOpen.{running}
 use Rattle.orders.specs.Following.{top-deed, write-deed, code-deed, deed-at}
 use Rattle.orders.specs.Marks.{read-at, write-at, marked, placed, note}
 use Rattle.orders.specs.ZeroTurns.{Answer.apart, Answer.together, turned, unless-due, follow}
-use Rattle.orders.specs.StepAnswer.{step-machine, conses, constructing, StepAnswer, StepAnswer.no-step, StepAnswer.followed, begun-answer, had-answer}
-use Rattle.orders.specs.StepAnswer.{step-answer}
+use Rattle.orders.specs.StepAnswer.{step-machine, conses, constructing, StepAnswer, StepAnswer.no-step, StepAnswer.constructs, StepAnswer.followed}
+use Rattle.orders.specs.StepAnswer.{begun-answer, had-answer, step-answer}
 use Rattle.orders.specs.Exhibits.{P, Q, two}
 
 -- the answer with every definition open that it computes through
@@ -37,6 +37,26 @@ P-together = refl
 pub Q-together : answering Q (two 5 1 5 1) 0 ≡ followed (together 11 2 1 1 0)
 unfolding running answering
 Q-together = refl
+
+-- load := 5; load := prev.load, and a step that constructs, with the same parameters as P
+abbrev pub R : Program
+R = record {
+  params = P .params;
+  steps =
+      (record { name = 0; body = next (update (par 0) [] (int-lit 5)) (next (update (par 0) [] (path (par 1) (0 ∷ []))) end) }
+      ∷ record { name = 1; body = next (create 0 (more (int-lit 5) (more (path (par 1) []) none))) end } ∷ [])
+      ∷ [];
+  schedule = P .schedule;
+}
+
+-- after 16 turns instance 1 would read the load of instance 2, which instance 2 has written
+pub R-together : answering R (two 5 2 7 1) 0 ≡ followed (together 16 1 2 2 0)
+unfolding running answering
+R-together = refl
+
+pub R-constructs : answering R (two 5 2 7 1) 1 ≡ constructs
+unfolding running answering
+R-constructs = refl
 
 -- writes that are dropped on a null instance
 pub Q-apart : answering Q (two 5 0 7 0) 0 ≡ followed (apart 12)

@@ -33,7 +33,7 @@ use Rattle.orders.specs.Laws.Plans.{Plan, Plans, Plans.p-push, Plans.p-t
 use Rattle.orders.specs.Laws.Plans.{Plans.p-skip, Plans.p-wr}
 use Rattle.orders.specs.Laws.Swap.{Step}
 use Rattle.orders.specs.Laws.CommandPlan.{command-step}
-use Rattle.orders.specs.Laws.Holding.{MakesNone, free-kept, heads-free, good-kept}
+use Rattle.orders.specs.Laws.Holding.{MakesNone, free-kept, heads-free, good-kept, good-counted}
 use Rattle.orders.specs.Laws.OrderSteps.{Stood, Touched, Did, plan-touched, did-first, did-later, clashing}
 use Rattle.orders.specs.Laws.StoodFree.{stood-free}
 use Rattle.orders.specs.Laws.FollowingLaws.{does-listed}
@@ -63,10 +63,6 @@ step-deed : {p : Program} {l : ℕ} {m n : Machine} {d : Deed} → Step p l m d 
 unfolding deed-at
 step-deed {p} s = ap (deed-at p) (s .at) ∙ plan-deed (s .actor) (s .plans)
 
--- where turns are counted from is no part of the invariant
-counted-good : {p : Program} (l : ℕ) (m : Machine) → Good p m → Good p (acting l m)
-counted-good l m g = record { runs = g .runs; all = g .all; running = g .running; opened = g .opened; left = g .left }
-
 -- nobody holds commands in the state where nobody does in the machine, and the other way round
 due-there : (m : Machine) (st : State) → Represents m st → due m ≡ true → Due st
 due-there m (state s σ b) R e = still-done (m .instances) σ (R .1) .0 (due-still m e)
@@ -95,7 +91,7 @@ module _ {p : Program} (firm : Firm p) where
   turn-stood {m} {m′} {st} {l} S e =
       let (d, n, s, q) = command-step firm (S .good) l e (λ i k c. heads-free firm m (S .free) l i k c) in
       let (st′, r, R) = command-follows p l m st (S .stands) e in
-      let good = subst (Good p) (sym q) (counted-good l n (good-kept firm (S .good) s)) in
+      let good = subst (Good p) (sym q) (good-counted (suc l) n (good-kept firm (S .good) s)) in
       let none : MakesNone (acting l n) = free-kept firm s (S .free) in (
         st′,
         r,
