@@ -7,7 +7,7 @@ use mathlib.Core.Bool.{Bool, true, false, _&&_}
 use mathlib.Core.Option.{some}
 use mathlib.Core.List.{List, [], _∷_, _++_, map}
 use lib.IntN.{ℤ}
-use lib.ListN.{length, getD, getElem?, take, drop}
+use lib.ListN.{length, getD, getElem?, take, drop, replicate}
 use Rattle.types.specs.Limits.{max-instances, max-commands, expr-levels}
 use Rattle.types.specs.Reflects.{Reflects}
 use Rattle.types.specs.Types.{Ty}
@@ -41,7 +41,7 @@ use Rattle.commands.specs.Bounds.{Within}
 use Rattle.commands.specs.Decide.BoundsDecide.{within}
 use Rattle.commands.specs.Decide.BoundsDecideLaws.{within-exact}
 use Rattle.commands.specs.Names.{NamesRight}
-use Rattle.commands.specs.Decide.NamesDecide.{names-right}
+use Rattle.commands.specs.Decide.NamesDecide.{stepped, names-right}
 use Rattle.commands.specs.Decide.NamesDecideLaws.{names-exact}
 use Rattle.commands.specs.Typing.{Types, TypesRight}
 use Rattle.commands.specs.Decide.TypingDecide.{types-right}
@@ -65,9 +65,9 @@ use Rattle.machine.specs.RepresentsLaws.{Still}
 use Rattle.machine.specs.CommandAgrees.{command-stuck}
 use Rattle.machine.specs.MoveAgrees.{move-stuck}
 use Rattle.run.specs.Turns.{labels-from, chosen}
-use Rattle.run.specs.Holders.{holders}
+use Rattle.run.specs.Holders.{holders, due}
 use Rattle.run.specs.Laws.TurnLaws.{labels-ascend, holder-chosen}
-use Rattle.run.specs.Runs.{Config, Runs, Passes}
+use Rattle.run.specs.Runs.{Config, Config.config, Runs, Passes}
 use Rattle.run.specs.Laws.RunAgreesVisits.{passes-bounded, all-taken}
 use Rattle.run.specs.Run.{Outcome.jammed, run}
 use Rattle.run.specs.Begin.{begin}
@@ -75,10 +75,14 @@ use Rattle.run.specs.Initial.{idle, of-record, first-insts, initially}
 use Rattle.run.specs.Comes.{Comes}
 use Rattle.run.specs.Laws.BeginLaws.{null-at, record-at, first-length, begin-stands}
 use Rattle.sound.specs.Invariant.{Good}
-use Rattle.orders.specs.Orders.{Completes}
+use Rattle.orders.specs.Orders.{Completes, Turns}
 use Rattle.orders.specs.Touches.{Apart}
 use Rattle.orders.specs.Constructing.{ConstructsNothing}
 use Rattle.orders.specs.OrderFree.{OrderFree}
+use Rattle.orders.specs.Meeting.{Meeting}
+use Rattle.orders.specs.ZeroTurns.{Zeros, Answer.apart, Answer.together, Answer.unfinished}
+use Rattle.orders.specs.StepAnswer.{alone, step-state, step-machine, constructing, StepAnswer.followed, step-answer}
+use Rattle.orders.specs.Laws.StepAnswerLaws.{step-apart-exact, step-free, step-meets, step-ends}
 use Rattle.orders.specs.Laws.OrderFreeLaws.{free-after}
 use Rattle.claims.specs.AnyRun.{run-jammed-exactly}
 use Rattle.step_part.specs.StepPart.{step-place, step-part}
@@ -270,7 +274,28 @@ holder-picked m l g n = holder-chosen m l g n
 pub order-free : {p : Program} → Accepted p → {m : Machine} → Good p m → {a : StepCall} {s : Sched} {σ : List Inst} {b : List Bool} {st z : State}
     → Represents m (state (start a s) σ b) → Rule p schedule (state (start a s) σ b) st → ConstructsNothing p a
     → {ls : List ℕ} → Completes p st ls z → Apart p st ls → OrderFree p st (length ls) z
-order-free acc good R r makes c apart = free-after acc good R r makes c apart
+order-free acc good R r makes c touch = free-after acc good R r makes c touch
+
+-- whether a step is free of order on a table, as zero turn bytes show it (02 §11): 'apart' is answered exactly where some struct has the step, it
+-- constructs nothing, and the order of zero bytes completes it and touches apart; then the step is free of order,
+module _ (p : Program) (acc : Accepted p) (rs : List Record) (right : TableRight (p .params) rs) (n : ℕ) where
+  pub step-apart-exactly : (t : ℕ)
+      → (step-answer p rs n ≡ followed (apart t))
+      ↔ ((stepped n (p .steps) ≡ true) × (constructing (step-machine (alone p n) rs n .instances) ≡ false) × (ls : List ℕ) × (z : Machine)
+      × (Zeros (alone p n) (step-machine (alone p n) rs n) ls z) × (due z ≡ true) × (length ls ≡ t) × (Apart p (step-state p rs n) ls))
+  step-apart-exactly t = step-apart-exact p rs n acc right t
+
+  pub step-apart-free : (t : ℕ) → step-answer p rs n ≡ followed (apart t)
+      → (z : State) × (a : ℕ) × (Turns p (config 0 (step-state p rs n)) (replicate t 0) (config a z)) × (OrderFree p (step-state p rs n) t z)
+  step-apart-free t e = step-free p rs n acc right t e
+
+  -- where 'together' is answered two different instances meet, one of them by a write,
+  pub step-together-meets : (t l a q v : ℕ) → step-answer p rs n ≡ followed (together t l a q v) → Meeting p (step-state p rs n) 0 t l a q v
+  step-together-meets t l a q v e = step-meets p rs n acc right t l a q v e
+
+  -- and following comes to an end
+  pub step-followed : step-answer p rs n ≡ followed unfinished → ⊥
+  step-followed e = step-ends p rs n acc right e
 
 -- Listings --------------------------------------------------------------------------------
 

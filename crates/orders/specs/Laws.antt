@@ -12,3 +12,9 @@ pub mod OrderSteps
 pub mod StoodFree
 pub mod OrderFreeLaws
 pub mod FollowingLaws
+pub mod MarkLaws
+pub mod ZeroTurnLaws
+pub mod ApartLaws
+pub mod MeetingLaws
+pub mod AloneLaws
+pub mod StepAnswerLaws

@@ -4,5 +4,10 @@ pub mod Constructing
 pub mod OrderFree
 pub mod Deeds
 pub mod Following
+pub mod Marks
+pub mod ZeroTurns
+pub mod StepAnswer
+pub mod Meeting
 pub mod Exhibits
+pub mod AnswerRows
 pub mod Laws

@@ -95,18 +95,24 @@ cleared : (a q v : ℕ) (u : Use) (b : ℕ) → clear-by a (writes q v) (record 
 unfolding clear-by
 cleared a q v u b = ap (λ t. elim t [ true ↦ eqb a b | false ↦ true ]) (touching-used u q v)
 
+-- whatever an order does is among its deeds
+pub does-listed : (p : Program) (m : Machine) (st : State) (ls : List ℕ) → Represents m st → {l : ℕ} {u : Use} {q v : ℕ} → Does p st ls l u q v
+    → List·Memᴰ (record { actor = l; deed = used u q v }) (deeds-of p m ls)
+does-listed p m st ls R {l} {u} {q} {v} d =
+    subst (λ xs. List·Memᴰ (record { actor = l; deed = used u q v }) (deeds-of p m xs)) (sym (d .parts))
+    (listed p m st (d .place) (d .before) l (d .after) R (d .reached) (d .touches))
+
 -- an order whose deeds are all clear is apart
 pub apart-clear : (p : Program) (m : Machine) (st : State) (ls : List ℕ) → Represents m st → all-clear (deeds-of p m ls) ≡ true → Apart p st ls
 unfolding all-clear
 apart-clear p m st ls R e l l′ q v u x y =
     let ds = deeds-of p m ls in
-    let f = every-one (λ (x : Act Deed). every (λ y. clear-by (x .actor) (x .deed) y) ds) ds e (record { actor = l; deed = writes q v }) (found x) in
-    let g = every-one (λ (y : Act Deed). clear-by l (writes q v) y) ds f (record { actor = l′; deed = used u q v }) (found y) in
+    let f = every-one (λ (x : Act Deed). every (λ y. clear-by (x .actor) (x .deed) y) ds) ds e (record { actor = l; deed = writes q v })
+    (does-listed p m st ls R x) in
+    let g = every-one (λ (y : Act Deed). clear-by l (writes q v) y) ds f (record { actor = l′; deed = used u q v }) (does-listed p m st ls R y) in
     eqb-true l l′ (sym (cleared l q v u l′) ∙ g)
-  where
-    found : {l : ℕ} {u : Use} → Does p st ls l u q v → List·Memᴰ (record { actor = l; deed = used u q v }) (deeds-of p m ls)
-    found {l} {u} d = subst (λ xs. List·Memᴰ (record { actor = l; deed = used u q v }) (deeds-of p m xs)) (sym (d .parts))
-        (listed p m st (d .place) (d .before) l (d .after) R (d .reached) (d .touches))
+
+-- Where an order leads -------------------------------------------------------------------------
 
 led-some : (f : Machine → Option Machine) (o : Out) {z : Machine} → led f o ≡ some z → (m : Machine) × (o ≡ next m) × (f m ≡ some z)
 unfolding led

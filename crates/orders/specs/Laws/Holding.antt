@@ -28,6 +28,13 @@ use Rattle.orders.specs.Laws.CommandPlan.{next-is}
 abbrev pub Holds : ℕ → Machine → Type 0
 Holds l m = (i : Instance) × (getElem? (m .instances) l ≡ some i) × (i .code ≡ [] → ⊥)
 
+-- the machine with its counting from n; the invariant does not see it
+abbrev pub counted : ℕ → Machine → Machine
+counted n m = record { sched = m .sched; instances = m .instances; stability = m .stability; from = n }
+
+pub good-counted : {p : Program} (n : ℕ) (m : Machine) → Good p m → Good p (counted n m)
+good-counted n m g = record { runs = g .runs; all = g .all; running = g .running; opened = g .opened; left = g .left }
+
 -- nothing is asked of the machines between: a step says what it found
 abbrev pub Any : Machine → Type 0
 Any m = Unit {0}
@@ -53,10 +60,6 @@ module _ {p : Program} (firm : Firm p) where
   holds-on {m} {m₁} {a} {l} {d} (i, e, h) q s =
       let (j, f, c) = near-made (s .plans) .there l i e in
       (j, ap (λ x. getElem? (x .instances) l) (s .is) ∙ f, λ z. h (c .code (λ r. q (sym r)) ∙ z))
-
-  -- the machine with its counting from n
-  abbrev counted : ℕ → Machine → Machine
-  counted n m = record { sched = m .sched; instances = m .instances; stability = m .stability; from = n }
 
   one-next : {m m₁ m₂ : Machine} {a : ℕ} {d e : Deed} → Step p a m d m₁ → Step p a m e m₂ → m₁ ≡ m₂
   one-next {m} {a = a} s t =
@@ -144,10 +147,10 @@ module _ {p : Program} (firm : Firm p) where
   unfolding NoCons
   heads-free m h l i k c at e = let r : NoCons (n-cons k ∷ c) = subst NoCons e (h l i at) in r .0 k refl
 
-  -- and keeps the invariant, which does not see from where turns are counted
+  -- and keeps the invariant
   pub good-kept : {m m′ : Machine} {l : ℕ} {d : Deed} → Good p m → Step p l m d m′ → Good p m′
   good-kept {m} {m′} {l} good s =
       let (n, c, f) = some-code (s .plans) in
       let k = command-kept firm good l (s .actor) (s .at) n c f in
       let g : Good p (acting l m′) = subst (Kept p Refused) (step-command firm s) k in
-      record { runs = g .runs; all = g .all; running = g .running; opened = g .opened; left = g .left }
+      good-counted (m′ .from) (acting l m′) g

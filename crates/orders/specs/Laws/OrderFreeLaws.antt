@@ -50,8 +50,8 @@ use Rattle.run.specs.Runs.{picked}
 use Rattle.run.specs.Laws.TurnLaws.{holder-chosen, holders-represent}
 use Rattle.orders.specs.Orders.{Ordered.no-turn, Ordered.a-turn, Turns, Turns.no-byte, Turns.a-byte}
 use Rattle.orders.specs.Laws.CommandPlan.{stuck-next}
-use Rattle.orders.specs.Laws.Holding.{Holds, filled-code}
-use Rattle.orders.specs.Laws.StoodFree.{holds-due, counted}
+use Rattle.orders.specs.Laws.Holding.{Holds, filled-code, counted}
+use Rattle.orders.specs.Laws.StoodFree.{holds-due}
 use Rattle.orders.specs.Laws.StoodFree.{stood-free, turns-run}
 
 -- The start -------------------------------------------------------------------------------------

@@ -40,10 +40,10 @@ pub record Stood (p : Program) (m : Machine) (st : State) : Type 0 where
 -- what is touched --------------------------------------------------------------------
 
 -- the next command of instance l does this deed
-abbrev pub Marks : Program → ℕ → State → Deed → Type 0
-Marks p l st nothing = Unit {0}
-Marks p l st (reads q v) = Touches p l st reading q v
-Marks p l st (writes q v) = Touches p l st writing q v
+abbrev pub Touched : Program → ℕ → State → Deed → Type 0
+Touched p l st nothing = Unit {0}
+Touched p l st (reads q v) = Touches p l st reading q v
+Touched p l st (writes q v) = Touches p l st writing q v
 
 -- somewhere in an order it does
 abbrev pub Did : Program → State → List ℕ → ℕ → Deed → Type 0
@@ -76,20 +76,20 @@ module _ {p : Program} (m : Machine) {l : ℕ} {i : Instance} (at : getElem? (m 
       let (d, g) = head-at m s σ b l i (n-wr k v) (wr v) c (tagged t (label q) ∷ y ∷ χ) R at e refl h in by-wr g low here
 
   -- a plan's deed is what its command touches
-  plan-marks : (st : State) {d : Deed} {P : Plan} → Represents m st → Plans p (m .instances) l i d P → Marks p l st d
-  plan-marks st R (p-push a b c) = tt
-  plan-marks st R (p-this a b c e) = tt
-  plan-marks st R (p-not a b c) = tt
-  plan-marks st R (p-if a b c) = tt
-  plan-marks st R (p-op a b c e) = tt
-  plan-marks st R (p-rd a b c e f g s) = rd-touches st R a b g
-  plan-marks st R (p-get a b c e) = tt
-  plan-marks st R (p-set a b c) = tt
-  plan-marks st R (p-skip a b c e f g) = tt
-  plan-marks st R (p-wr a b c e f g h k s) = wr-touches st R a b h f
+  pub plan-touched : (st : State) {d : Deed} {P : Plan} → Represents m st → Plans p (m .instances) l i d P → Touched p l st d
+  plan-touched st R (p-push a b c) = tt
+  plan-touched st R (p-this a b c e) = tt
+  plan-touched st R (p-not a b c) = tt
+  plan-touched st R (p-if a b c) = tt
+  plan-touched st R (p-op a b c e) = tt
+  plan-touched st R (p-rd a b c e f g s) = rd-touches st R a b g
+  plan-touched st R (p-get a b c e) = tt
+  plan-touched st R (p-set a b c) = tt
+  plan-touched st R (p-skip a b c e f g) = tt
+  plan-touched st R (p-wr a b c e f g h k s) = wr-touches st R a b h f
 
 -- at the front of an order; one label later
-did-first : (p : Program) (st : State) (l : ℕ) (ls : List ℕ) (d : Deed) → Marks p l st d → Did p st (l ∷ ls) l d
+pub did-first : (p : Program) (st : State) (l : ℕ) (ls : List ℕ) (d : Deed) → Touched p l st d → Did p st (l ∷ ls) l d
 did-first p st l ls nothing h = tt
 did-first p st l ls (reads q v) h = record { before = []; after = ls; place = st; parts = refl; reached = no-turn; touches = h }
 did-first p st l ls (writes q v) h = record { before = []; after = ls; place = st; parts = refl; reached = no-turn; touches = h }
@@ -105,7 +105,8 @@ does-later {k = k} r d = record {
   touches = d .touches;
 }
 
-did-later : {p : Program} {st st′ : State} {k : ℕ} (ls : List ℕ) (l : ℕ) (d : Deed) → Rule p (instance k) st st′ → Did p st′ ls l d → Did p st (k ∷ ls) l d
+pub did-later : {p : Program} {st st′ : State} {k : ℕ} (ls : List ℕ) (l : ℕ) (d : Deed) → Rule p (instance k) st st′ → Did p st′ ls l d
+    → Did p st (k ∷ ls) l d
 did-later ls l nothing r h = tt
 did-later ls l (reads q v) r h = does-later r h
 did-later ls l (writes q v) r h = does-later r h
@@ -116,7 +117,7 @@ module _ {p : Program} {st : State} {ls : List ℕ} (apart : Apart p st ls) wher
   moved : {a : ℕ} {u : Use} {q v r w : ℕ} → (q ≡ r) × (v ≡ w) → Does p st ls a u q v → Does p st ls a u r w
   moved {a} {u} {q} {v} {r} {w} (f, g) x = subst (λ k. Does p st ls a u r k) g (subst (λ k. Does p st ls a u k v) f x)
 
-  clashing : (a b : ℕ) (d e : Deed) → Did p st ls a d → Did p st ls b e → Clash d e → a ≡ b
+  pub clashing : (a b : ℕ) (d e : Deed) → Did p st ls a d → Did p st ls b e → Clash d e → a ≡ b
   clashing a b nothing e x y c = absurd c
   clashing a b (reads q v) nothing x y c = absurd c
   clashing a b (reads q v) (reads r w) x y c = absurd c
@@ -182,7 +183,7 @@ module _ {p : Program} (firm : Firm p) where
           → ((x : Act Deed) → List·Memᴰ x ds → Did p st′ ls (x .actor) (x .deed))
           → (x : Act Deed) → (x ≡ record { actor = l; deed = d }) ⊎ List·Memᴰ x ds → Did p st (l ∷ ls) (x .actor) (x .deed)
       pick d s r h x (inl e) =
-          subst (λ (y : Act Deed). Did p st (l ∷ ls) (y .actor) (y .deed)) (sym e) (did-first p st l ls d (plan-marks m (s .at) st (S .stands) (s .plans)))
+          subst (λ (y : Act Deed). Did p st (l ∷ ls) (y .actor) (y .deed)) (sym e) (did-first p st l ls d (plan-touched m (s .at) st (S .stands) (s .plans)))
       pick d s r h x (inr u) = did-later ls (x .actor) (x .deed) r (h x u)
 
   -- and where the order is apart, its deeds are

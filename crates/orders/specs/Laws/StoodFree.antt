@@ -32,7 +32,7 @@ use Rattle.orders.specs.Laws.Commuting.{Traced, Traced.stay, Traced.go-o
 use Rattle.orders.specs.Laws.Swap.{Step}
 use Rattle.orders.specs.Laws.PlanCommand.{step-command}
 use Rattle.orders.specs.Laws.CommandPlan.{refused-next}
-use Rattle.orders.specs.Laws.Holding.{Holds, Any, commuting}
+use Rattle.orders.specs.Laws.Holding.{Holds, Any, commuting, counted}
 use Rattle.orders.specs.Laws.OrderSteps.{Stood, Order, step-rule, ordered-traced, order-apart}
 
 -- Holders --------------------------------------------------------------------------------
@@ -51,10 +51,6 @@ holds-at m s σ b R l {c = c} g h =
 pub holds-due : (m : Machine) (st : State) (l : ℕ) → Represents m st → Holds l m → Due st → ⊥
 holds-due m (state s σ b) l R (i, e, h) d =
     h (all-elem (λ (x : Instance). x .code ≡ []) (m .instances) l i (still-done (m .instances) σ (R .1) .1 d) e)
-
--- the machine with its counting from a
-abbrev pub counted : ℕ → Machine → Machine
-counted a m = record { sched = m .sched; instances = m .instances; stability = m .stability; from = a }
 
 some-false : (m : Machine) → ((Still (m .instances)) → ⊥) → due m ≡ false
 some-false m h = go (due m) refl
