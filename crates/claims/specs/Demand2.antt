@@ -26,7 +26,8 @@ use Rattle.run.specs.Visits.{Visits, turns-of}
 use Rattle.run.specs.StepTurns.{Spends}
 use Rattle.run.specs.Laws.StepTurnsLaws.{step-turns as start-turns}
 use Rattle.run.specs.Begin.{params-in, begin, table-of}
-use Rattle.run.specs.Initial.{initially, Comes}
+use Rattle.run.specs.Initial.{initially}
+use Rattle.run.specs.Comes.{Comes}
 use Rattle.run.specs.Runs.{Config, StandsFor, Passes}
 use Rattle.verdict.specs.Verdict.{Checked.accepted, checked, listed, approval, check-verdict, check-list}
 use Rattle.run.specs.Entry.{Begun.begun, begins, run-output}
@@ -34,22 +35,20 @@ use Rattle.verdict.specs.ProgramInput.{check-order, AcceptedImage, Approved}
 use Rattle.run.specs.Input.{run-order, TableAccepted, Runnable, Began}
 use Rattle.verdict.specs.ProgramInputLaws.{checked-accepted, verdict-approved, check-approved}
 use Rattle.run.specs.Laws.InputLaws.{begins-ready, begins-none}
-use Rattle.run.specs.Laws.RunAgreesVisits.{visits-passes, passes-visits}
-use Rattle.run.specs.Laws.BeginLaws.{begin-stands, outcome-exact, comes-unique, comes-holding, comes-stopped}
+use Rattle.run.specs.Laws.BeginLaws.{begin-stands}
 use Rattle.run.specs.Answered.{Answered}
 use Rattle.run.specs.Laws.AnsweredLaws.{comes-answered}
 use Rattle.commands.specs.Accepted.{Accepted}
-use Rattle.sound.specs.Laws.AcceptedLaws.{accepted-firm, ready-accepted}
-use Rattle.sound.specs.Laws.BeginGood.{begin-good}
-use Rattle.sound.specs.Laws.NeverStuckLaws.{visits-good, demand3, demand3-comes}
+use Rattle.sound.specs.Laws.AcceptedLaws.{ready-accepted}
 use Rattle.sound.specs.Started.{OneStep}
-use Rattle.sound.specs.Laws.StartedLaws.{good-one-step}
-use Rattle.sound.specs.Laws.TabledLaws.{begin-tabled}
-use Rattle.sound.specs.Laws.TableKept.{table-kept, table-written, nulls-kept, comes-written, output-length}
+use Rattle.sound.specs.Laws.TableKept.{output-length}
 use Rattle.step_part.specs.StepPart.{step-place, step-part}
 use Rattle.step_lines.specs.Lines.{program-lines}
 use Rattle.listing.specs.Listings.{head, listing-of}
 use Rattle.claims.specs.JoinLaws.{step-handed, step-not-there, listing-accepted}
+use Rattle.claims.specs.AnyRun.{table-startable, run-states-published, run-states-visited, run-outcome-published, run-outcome-one}
+use Rattle.claims.specs.AnyRun.{run-holders-ended, run-holders-stopped, run-comes-to, run-written-accepted, run-one-step, run-tables-right}
+use Rattle.claims.specs.AnyRun.{run-tables-written, run-nulls-default}
 
 -- The checker ----------------------------------------------------------------------------
 
@@ -107,19 +106,20 @@ module _ (x y es out list : List ℕ) where
 
   -- where a run begins, number, turns, blocks, depth, holders, every output byte and the list are those that the published rules come to
   pub run-published : (p : Program) (rs : List Record) → begins x y es out list ≡ begun p rs
-      → {n t k : ℕ} {rs′ : List Record} → Comes p rs es n t k rs′ → Answered x y es out list p n t k rs′
+      → {n t k : ℕ} {rs′ : List Record} → Comes p (initially p rs) es n t k rs′ → Answered x y es out list p n t k rs′
   run-published p rs e c = comes-answered x y es out list p rs e c
 
   -- and they come to a number
   pub run-comes : (p : Program) (rs : List Record) → begins x y es out list ≡ begun p rs
-      → (n : ℕ) × (t : ℕ) × (k : ℕ) × (rs′ : List Record) × Comes p rs es n t k rs′
-  run-comes p rs e = let r = begun-exactly p rs .0 e in demand3-comes p rs es (demand3 (ready-accepted r) rs (r .table .right) es)
+      → (n : ℕ) × (t : ℕ) × (k : ℕ) × (rs′ : List Record) × Comes p (initially p rs) es n t k rs′
+  run-comes p rs e = let r = begun-exactly p rs .0 e in run-comes-to (ready-accepted r) (table-startable (ready-accepted r) rs (r .table .right)) (begin-stands p rs)
 
   -- the table written is one that a run may begin with: its image fits its blocks and is accepted as that table
   pub written-accepted : (p : Program) (rs : List Record) → Runnable x y es out list p rs
-      → {n t k : ℕ} {rs′ : List Record} → Comes p rs es n t k rs′
+      → {n t k : ℕ} {rs′ : List Record} → Comes p (initially p rs) es n t k rs′
       → (pieces (length (enc-table rs′)) ≤ table-blocks) × (TableAccepted p (image (enc-table rs′)) rs′)
-  written-accepted p rs r c = comes-written (ready-accepted r) rs (r .table .right) c
+  written-accepted p rs r c =
+      run-written-accepted (ready-accepted r) (table-startable (ready-accepted r) rs (r .table .right)) (begin-stands p rs) c
 
   -- a run leaves as many bytes in the output as it was lent, whatever it is given
   pub output-as-long : length (run-output x y es out list) ≡ length out
@@ -131,41 +131,41 @@ module _ (p : Program) (rs : List Record) (es : List ℕ) where
   -- a run passes through the states that the published rules give for those turns, with the label that turns are counted from,
   pub states-published : {z : Machine} {fs : List ℕ} (v : Visits p (begin p rs) es z fs)
       → (c : Config) × (Passes p (initially p rs) es (turns-of p v) c) × (StandsFor z c)
-  states-published v = visits-passes p (initially p rs) (begin-stands p rs) v
+  states-published v = run-states-published p (begin p rs) (begin-stands p rs) es v
 
   -- and through each of them
   pub states-visited : {c : Config} {t : ℕ} → Passes p (initially p rs) es t c
       → (z : Machine) × (fs : List ℕ) × (v : Visits p (begin p rs) es z fs) × (turns-of p v ≡ t) × (StandsFor z c)
-  states-visited w = passes-visits p (begin p rs) (begin-stands p rs) w
+  states-visited w = run-states-visited p (begin p rs) (begin-stands p rs) es w
 
   -- it comes to the one number, turns, holders and last table that they give
-  pub outcome-published : {n t : ℕ} {z : Machine} → run p (begin p rs) es ≡ stopped n t z → Comes p rs es n t (length (holders z)) (table-of p z)
-  outcome-published = outcome-exact p rs es
+  pub outcome-published : {n t : ℕ} {z : Machine} → run p (begin p rs) es ≡ stopped n t z → Comes p (initially p rs) es n t (length (holders z)) (table-of p z)
+  outcome-published = run-outcome-published p (begin p rs) (begin-stands p rs) es
 
-  pub outcome-one : {n n′ t t′ k k′ : ℕ} {rs′ rs″ : List Record} → Comes p rs es n t k rs′ → Comes p rs es n′ t′ k′ rs″
+  pub outcome-one : {n n′ t t′ k k′ : ℕ} {rs′ rs″ : List Record} → Comes p (initially p rs) es n t k rs′ → Comes p (initially p rs) es n′ t′ k′ rs″
       → (n ≡ n′) × (t ≡ t′) × (k ≡ k′) × (rs′ ≡ rs″)
-  outcome-one = comes-unique p rs es
+  outcome-one = run-outcome-one p es
 
   -- "the count of instances holding commands before each turn" (02, 'Holders kept as a number'), where a run ends: 0 exactly at 0,
-  pub holders-ended : {n t k : ℕ} {rs′ : List Record} → Comes p rs es n t k rs′ → (n ≡ ended) ↔ (k ≡ 0)
-  holders-ended = comes-holding p rs es
+  pub holders-ended : {n t k : ℕ} {rs′ : List Record} → Comes p (initially p rs) es n t k rs′ → (n ≡ ended) ↔ (k ≡ 0)
+  holders-ended = run-holders-ended p es
 
   -- and so at least 1 at 33, 34 and 35
-  pub holders-stopped : {n t k : ℕ} {rs′ : List Record} → Comes p rs es n t k rs′ → (n ≡ out-of-turns) ⊎ (n ≡ full) ⊎ (n ≡ exceeded) → 1 ≤ k
-  holders-stopped = comes-stopped p rs es
+  pub holders-stopped : {n t k : ℕ} {rs′ : List Record} → Comes p (initially p rs) es n t k rs′ → (n ≡ out-of-turns) ⊎ (n ≡ full) ⊎ (n ≡ exceeded) → 1 ≤ k
+  holders-stopped = run-holders-stopped p es
 
 module _ (p : Program) where
-  -- "A started step takes at most the sum of its command counts, each over its instances, in turns": wherever a run goes behind a move of
+  -- "A started step takes at most the sum of its command counts, each over its instances, in turns": wherever a run goes after a move of
   -- the schedule, it takes no more turns than that before nobody holds commands
   pub step-turns : (m : Machine) {m′ z : Machine} {es fs : List ℕ} → holders m ≡ [] → move p m ≡ next m′ → Visits p m′ es z fs
       → Spends p (total (share-of p (m .sched)) (m .instances)) m′ es z fs
   step-turns m g e v = start-turns p m g e v
 
 -- "When no instance holds commands the schedule moves": in every machine of a run nobody holds commands, or one step call was started
--- last, the schedule left is what stands behind it, and each holder holds a rest of the commands that the call gave it
+-- last, the schedule left is what comes after it, and each holder holds a rest of the commands that the call gave it
 pub one-step : {p : Program} → Accepted p → (rs : List Record) → TableRight (p .params) rs → {es fs : List ℕ} {z : Machine}
     → Visits p (begin p rs) es z fs → OneStep p z
-one-step {p} a rs right v = good-one-step (visits-good (accepted-firm a) (begin-good p (a .0) rs right) v)
+one-step a rs right v = run-one-step a (table-startable a rs right) v
 
 -- Its tables -------------------------------------------------------------------------------
 
@@ -173,13 +173,13 @@ module _ {p : Program} (a : Accepted p) (rs : List Record) (right : TableRight (
     (v : Visits p (begin p rs) es z fs) where
   -- every machine of a run stands at a table that a run may begin with; written, it fits its blocks and is accepted as that table
   pub tables-right : TableRight (p .params) (table-of p z)
-  tables-right = table-kept a (begin-good p (a .0) rs right) (begin-tabled p rs right) v
+  tables-right = run-tables-right a (table-startable a rs right) v
 
   pub tables-written : (pieces (length (enc-table (table-of p z))) ≤ table-blocks)
       × (TableAccepted p (image (enc-table (table-of p z))) (table-of p z))
-  tables-written = table-written a (begin-good p (a .0) rs right) (begin-tabled p rs right) v
+  tables-written = run-tables-written a (table-startable a rs right) v
 
   -- "Labels 0 to S − 1 are the null instances, holding defaults"
   pub nulls-default : (k : ℕ) → k < structs p
       → (i : Instance) × (getElem? (z .instances) k ≡ some i) × (i .struct ≡ k) × (params-in (i .env) ≡ map default (params-of p k))
-  nulls-default = nulls-kept a (begin-good p (a .0) rs right) (begin-tabled p rs right) v
+  nulls-default = run-nulls-default a (table-startable a rs right) v

@@ -12,15 +12,24 @@ use Rattle.commands.specs.Numbers.{NoneOf}
 use Rattle.table.specs.Table.{Record}
 use Rattle.machine.specs.Published.{Sched, Sched.fixpoint, Inst, State.state}
 use Rattle.machine.specs.Machine.{Machine}
+use Rattle.run.specs.Begin.{begin}
 use Rattle.run.specs.Initial.{initially}
 use Rattle.run.specs.Runs.{Config, Config.config, StandsFor, Passes}
 use Rattle.run.specs.Input.{run-order, Runnable}
+use Rattle.run.specs.Laws.BeginLaws.{begin-stands}
 use Rattle.run.specs.Laws.InputLaws.{begins-none}
 use Rattle.sound.specs.Needs.{Right}
 use Rattle.sound.specs.NeverStuck.{Demand3}
+use Rattle.sound.specs.Startable.{Startable}
+use Rattle.sound.specs.Laws.AcceptedLaws.{ready-accepted}
 use Rattle.sound.specs.Laws.NeverStuckLaws.{never-stuck-numbers}
 use Rattle.claims.specs.Call.{Call}
-use Rattle.claims.specs.JoinLaws.{ready-call, passes-right, passes-entries}
+use Rattle.claims.specs.JoinLaws.{ready-call}
+use Rattle.claims.specs.AnyRun.{table-startable, run-states-right, run-entries-within}
+
+-- the machine that a call on a table begins its run with
+first : (x y es out list : List ℕ) (p : Program) (rs : List Record) → Runnable x y es out list p rs → Startable p (begin p rs)
+first x y es out list p rs r = table-startable (ready-accepted r) rs (r .table .right)
 
 module _ (x y es out list : List ℕ) where
   module _ (p : Program) (rs : List Record) (r : Runnable x y es out list p rs) where
@@ -37,13 +46,13 @@ module _ (x y es out list : List ℕ) where
     -- is one of a machine in which each next command finds what it needs
     pub states-right : {c : Config} {t : ℕ} → Passes p (initially p rs) es t c
         → (z : Machine) × (StandsFor z c) × (Right p (program-depth p) z)
-    states-right w = passes-right x y es out list p rs r w
+    states-right w = run-states-right (ready-accepted r) (first x y es out list p rs r) (begin-stands p rs) w
 
     -- "As Fix nests at most 8 deep, none is ever met with eight entries" (02 §9): no state that the published rules pass through has more
     -- than 8 stability entries, and where a Fix comes next there are fewer
     pub entries-within : {n : ℕ} {s : Sched} {σ : List Inst} {b : List Bool} {t : ℕ} → Passes p (initially p rs) es t (config n (state s σ b))
         → (length b ≤ 8) × ((f q : Sched) → s ≡ fixpoint f q → length b < 8)
-    entries-within w = passes-entries x y es out list p rs r w
+    entries-within w = run-entries-within (ready-accepted r) (first x y es out list p rs r) (begin-stands p rs) w
 
   -- "A run is a call to run a program on a table and a list of turns, where no condition of a number from the input holds"
   pub call-none : NoneOf (run-order x y es out list)

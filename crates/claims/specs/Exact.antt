@@ -69,8 +69,9 @@ use Rattle.run.specs.Runs.{Config, Runs, Passes}
 use Rattle.run.specs.Laws.RunAgreesVisits.{passes-bounded, all-taken}
 use Rattle.run.specs.Run.{Outcome.jammed, run}
 use Rattle.run.specs.Begin.{begin}
-use Rattle.run.specs.Initial.{idle, of-record, first-insts, Comes}
-use Rattle.run.specs.Laws.BeginLaws.{null-at, record-at, first-length, jammed-exact}
+use Rattle.run.specs.Initial.{idle, of-record, first-insts, initially}
+use Rattle.run.specs.Comes.{Comes}
+use Rattle.run.specs.Laws.BeginLaws.{null-at, record-at, first-length, begin-stands}
 use Rattle.step_part.specs.StepPart.{step-place, step-part}
 use Rattle.step_part.specs.StepPartLaws.{place-fits, place-part}
 use Rattle.text.specs.Listing.{decimal, int-text}
@@ -226,8 +227,8 @@ module _ (p : Program) where
 
   -- a run is jammed exactly where the published rules come to nothing
   pub jammed-exactly : (rs : List Record) (es : List ℕ)
-      → (run p (begin p rs) es ≡ jammed) ↔ ((n t k : ℕ) (rs′ : List Record) → Comes p rs es n t k rs′ → ⊥)
-  jammed-exactly rs es = jammed-exact p rs es
+      → (run p (begin p rs) es ≡ jammed) ↔ ((n t k : ℕ) (rs′ : List Record) → Comes p (initially p rs) es n t k rs′ → ⊥)
+  jammed-exactly rs es = run-jammed-exactly p (begin p rs) (begin-stands p rs) es
 
   -- a command is taken for each byte at most, and at 33 for every one
   pub turns-within : {c c′ : Config} {es : List ℕ} {t : ℕ} → Passes p c es t c′ → t ≤ length es

@@ -10,6 +10,7 @@ use lib.Dec.{eqb, ltb}
 use borrow.Author.Tests.{eqb-true, eqb-false, ltb-true, ltb-false}
 use Rattle.types.specs.Limits.{max-commands, fix-levels}
 use Rattle.program.specs.Tree.{Stmts, Step, Program}
+use Rattle.commands.specs.Accepted.{Accepted}
 use Rattle.commands.specs.Bounds.{program-depth}
 use Rattle.commands.specs.Coding.{words}
 use Rattle.commands.specs.Commands.{commands}
@@ -22,9 +23,12 @@ use Rattle.commands.specs.Laws.NumbersLaws.{foremost-some}
 use Rattle.table.specs.Table.{Record}
 use Rattle.machine.specs.Published.{Sched, Sched.fixpoint, Inst, State.state}
 use Rattle.machine.specs.Machine.{Machine}
-use Rattle.run.specs.Begin.{begin}
-use Rattle.run.specs.Initial.{initially}
-use Rattle.run.specs.Laws.BeginLaws.{begin-stands, outcome-exact}
+use Rattle.run.specs.Begin.{table-of}
+use Rattle.run.specs.Holders.{holders}
+use Rattle.run.specs.Run.{Outcome.stopped, run}
+use Rattle.run.specs.Comes.{Comes}
+use Rattle.run.specs.Laws.BeginLaws.{begin-stands}
+use Rattle.run.specs.Laws.OutcomeLaws.{outcome-exact}
 use Rattle.run.specs.Runs.{Config, Config.config, StandsFor, Passes}
 use Rattle.run.specs.Laws.RunAgreesVisits.{passes-visits}
 use Rattle.verdict.specs.Verdict.{Checked, Checked.accepted, Checked.refused, checked, Verdict, check-list}
@@ -35,8 +39,9 @@ use Rattle.run.specs.Laws.InputLaws.{begins-ready}
 use Rattle.run.specs.Laws.AnsweredLaws.{comes-answered}
 use Rattle.sound.specs.Needs.{Right}
 use Rattle.sound.specs.Laws.AcceptedLaws.{ready-accepted, accepted-firm}
-use Rattle.sound.specs.Laws.NeverStuckLaws.{visits-good, demand3}
-use Rattle.sound.specs.Laws.BeginGood.{begin-good}
+use Rattle.sound.specs.Startable.{Startable}
+use Rattle.sound.specs.Laws.NeverStuckLaws.{visits-good, visits-right, never-stuck}
+use Rattle.sound.specs.Laws.StartableLaws.{begin-startable}
 use Rattle.sound.specs.Laws.ShallowLaws.{good-entries}
 use Rattle.step_part.specs.StepPart.{step-place, step-part}
 use Rattle.step_part.specs.StepPartLaws.{place-number}
@@ -44,7 +49,7 @@ use Rattle.step_part.specs.StepPartWords.{step-words, step-absent, step-refused
 use Rattle.text.specs.Listing.{row}
 use Rattle.step_lines.specs.Lines.{program-lines}
 use Rattle.listing.specs.Listings.{refused-word, head, listing, listing-of}
-use Rattle.claims.specs.Call.{Call}
+use Rattle.claims.specs.Call.{Called, Call}
 
 -- Steps --------------------------------------------------------------------------------
 
@@ -87,28 +92,37 @@ pub listing-numbered : (x : List ℕ) (n : ℕ) → Foremost (program-order x) n
 unfolding listing-of listing
 listing-numbered x n q = ap listing (checked-number x n .1 q)
 
--- Calls --------------------------------------------------------------------------------
+-- Runs ---------------------------------------------------------------------------------
 
-module _ (x y es out list : List ℕ) (p : Program) (rs : List Record) (r : Runnable x y es out list p rs) where
-  -- a call that begins is one run, which is never stuck, whose outcome the published rules come to and the entry answers
-  pub ready-call : Call x y es out list p rs
-  ready-call =
-      let d = demand3 (ready-accepted r) rs (r .table .right) es in
-      let c = outcome-exact p rs es (d .returns) in
-      record { never-stuck = d; comes = c; answered = comes-answered x y es out list p rs (begins-ready x y es out list p rs .1 r) c }
+module _ {p : Program} (a : Accepted p) {m : Machine} (start : Startable p m) {c : Config} (stands : StandsFor m c) {es : List ℕ} where
+  -- a call that begins a run with such a machine is never stuck, comes to what the published rules come to, and answers it
+  pub called : {Answer : ℕ → ℕ → Machine → Type 0}
+      → ((n t : ℕ) (z : Machine) → run p m es ≡ stopped n t z → Comes p c es n t (length (holders z)) (table-of p z) → Answer n t z)
+      → Called p m c es Answer
+  called f =
+      let d = never-stuck a (start .good) es in
+      let come = outcome-exact p m stands es (d .returns) in
+      record { never-stuck = d; comes = come; answered = f (d .number) (d .turns) (d .last) (d .returns) come }
 
   -- every configuration that the published rules pass through is one of a right machine
-  pub passes-right : {c : Config} {t : ℕ} → Passes p (initially p rs) es t c → (z : Machine) × (StandsFor z c) × (Right p (program-depth p) z)
+  pub passes-right : {d : Config} {t : ℕ} → Passes p c es t d → (z : Machine) × (StandsFor z d) × (Right p (program-depth p) z)
   passes-right w =
-      let (z, fs, v, e, S) = passes-visits p (begin p rs) (begin-stands p rs) w in
-      (z, S, ready-call .never-stuck .right z fs v)
+      let (z, fs, v, e, S) = passes-visits p m stands w in
+      (z, S, visits-right (accepted-firm a) (start .good) v)
 
   -- none has more stability entries than Fixes may nest, and where a Fix comes next there are fewer
-  pub passes-entries : {n : ℕ} {s : Sched} {σ : List Inst} {b : List Bool} {t : ℕ} → Passes p (initially p rs) es t (config n (state s σ b))
+  pub passes-entries : {n : ℕ} {s : Sched} {σ : List Inst} {b : List Bool} {t : ℕ} → Passes p c es t (config n (state s σ b))
       → (length b ≤ fix-levels) × ((f q : Sched) → s ≡ fixpoint f q → length b < fix-levels)
   passes-entries w =
-      let (z, fs, v, e, S) = passes-visits p (begin p rs) (begin-stands p rs) w in
-      let a = ready-accepted r in
+      let (z, fs, v, e, S) = passes-visits p m stands w in
       let firm = accepted-firm a in
       subst₂ (λ s b. (length b ≤ fix-levels) × ((f q : Sched) → s ≡ fixpoint f q → length b < fix-levels)) (S .1 .0) (S .1 .2)
-      (good-entries firm (visits-good firm (begin-good p (a .0) rs (r .table .right)) v))
+      (good-entries firm (visits-good firm (start .good) v))
+
+-- Calls --------------------------------------------------------------------------------
+
+-- a call on a table that begins is one
+pub ready-call : (x y es out list : List ℕ) (p : Program) (rs : List Record) → Runnable x y es out list p rs → Call x y es out list p rs
+ready-call x y es out list p rs r =
+    called (ready-accepted r) (begin-startable (ready-accepted r) rs (r .table .right)) (begin-stands p rs)
+    λ n t z e c. comes-answered x y es out list p rs (begins-ready x y es out list p rs .1 r) c

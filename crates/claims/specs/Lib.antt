@@ -1,6 +1,7 @@
 pub mod Call
 pub mod JoinLaws
 pub mod MemoryLaws
+pub mod AnyRun
 pub mod Demand1
 pub mod Demand2
 pub mod Demand3

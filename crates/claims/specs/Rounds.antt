@@ -1,7 +1,6 @@
 -- Turns that go round (02 §5): from where a turn is counted, and how long an instance waits for its turn.
 use Prim.Native.Nat.{ℕ, suc}
 use mathlib.Core.Path.{_≡_}
-use mathlib.Core.Logic.{_⊎_, inl, inr}
 use mathlib.Core.Option.{some}
 use mathlib.Core.List.{List, []}
 use lib.ListN.{length, getElem?, take, replicate}
@@ -12,15 +11,10 @@ use Rattle.machine.specs.Machine.{Instance, Machine, Out.next, Moved.next, comm
 use Rattle.machine.specs.FromLaws.{command-from, move-from}
 use Rattle.run.specs.Holders.{holders}
 use Rattle.run.specs.Begin.{begin}
-use Rattle.run.specs.Initial.{initially}
 use Rattle.run.specs.Visits.{Visits}
-use Rattle.run.specs.Laws.BeginLaws.{begin-from, begin-stands}
-use Rattle.run.specs.Laws.RunAgreesVisits.{visits-passes}
+use Rattle.run.specs.Laws.BeginLaws.{begin-from}
 use Rattle.sound.specs.Waiting.{ActsWithin, StopsBefore}
-use Rattle.sound.specs.Laws.AcceptedLaws.{accepted-firm}
-use Rattle.sound.specs.Laws.BeginGood.{begin-good}
-use Rattle.sound.specs.Laws.NeverStuckLaws.{visits-good}
-use Rattle.sound.specs.Laws.WaitLaws.{holder-waits}
+use Rattle.claims.specs.AnyRun.{table-startable, run-acts-in-turn}
 
 -- "a run starts counting at label 0",
 pub counts-first : (p : Program) (rs : List Record) → begin p rs .from ≡ 0
@@ -43,11 +37,4 @@ pub acts-in-turn : {p : Program} → Accepted p → (rs : List Record) → Table
     → take (length (holders z)) fs ≡ replicate (length (holders z)) 0
     → (StopsBefore p l (length (holders z)) z fs → ⊥)
     → ActsWithin p l (length (holders z)) z fs
-acts-in-turn {p} a rs right {fs = fs} {z = z} v l g held zeros on =
-    let firm = accepted-firm a in
-    let (c, w, S) = visits-passes p (initially p rs) (begin-stands p rs) v in
-    go (holder-waits firm l z fs (visits-good firm (begin-good p (a .0) rs right) v) c S g held zeros)
-  where
-    go : (ActsWithin p l (length (holders z)) z fs) ⊎ (StopsBefore p l (length (holders z)) z fs) → ActsWithin p l (length (holders z)) z fs
-    go (inl w) = w
-    go (inr s) = absurd (on s)
+acts-in-turn a rs right v = run-acts-in-turn a (table-startable a rs right) v

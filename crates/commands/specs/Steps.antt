@@ -46,16 +46,26 @@ found (t ∷ ts) n {b = b} e = go (eqb (t .name) n) e (λ e. found ts n e)
     go true e k = (t, List·Memᴰ·head refl, cc)
     go false e k = let (u, m, q) = k e in (u, List·Memᴰ·tail m, q)
 
+module _ (p : Program) (types : TypesRight p) (k : ℕ) where
+  -- every step of a program with right types is typed,
+  program-typed : (t : Step) → List·Memᴰ t (getD (p .steps) k []) → Typed (context p k (t .body)) (t .body)
+  unfolding TypesRight
+  program-typed t m =
+      rw zero-add at (each-step (λ j t. Typed (context p j (t .body)) (t .body)) (TypedSteps p) (λ j ts tss q. q) 0 (p .steps) k types m)
+
+  -- so is the step n of struct k
+  pub step-typed : (n : ℕ) {b : Stmts} → step-of p k n ≡ some b → Typed (context p k b) b
+  step-typed n e = let (t, m, q) = found (getD (p .steps) k []) n e in rw q at (program-typed t m)
+
 module _ (p : Program) (names : NamesRight p) (types : TypesRight p) (k : ℕ) where
-  -- every step of a program with right names and types is secure, with nothing alive at its start,
+  -- every step of a program with right names too is secure, with nothing alive at its start,
   pub program-secure : (t : Step) → List·Memᴰ t (getD (p .steps) k [])
       → (Among (alive (lives (t .body))) []) × (Secure (context p k (t .body)) (noted (context p k (t .body)) (t .body)) (lives (t .body)) [] false)
-  unfolding NamesRight TypesRight
+  unfolding NamesRight
   program-secure t m =
-      let d = each-step (λ j t. Typed (context p j (t .body)) (t .body)) (TypedSteps p) (λ j ts tss q. q) 0 (p .steps) k types m in
       let n =
       each-step (λ j t. Named (t .body) (length (params-of p j)) [] []) (NamedSteps p) (λ j ts tss q. (q .1, q .2)) 0 (p .steps) k (names .0) m in
-      secure-step p k (t .body) (rw zero-add at d) (rw zero-add at n)
+      secure-step p k (t .body) (program-typed p types k t m) (rw zero-add at n)
 
   -- as are the commands that the step n of struct k gives its instances
   pub step-secure : (n : ℕ) {b : Stmts} → step-of p k n ≡ some b

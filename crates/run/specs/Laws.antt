@@ -13,4 +13,5 @@ pub mod HaltLaws
 pub mod RunAgreesVisits
 pub mod StepTurnsLaws
 pub mod BeginLaws
+pub mod OutcomeLaws
 pub mod AnsweredLaws

@@ -11,5 +11,6 @@ pub mod Rows
 pub mod Input
 pub mod StepTurns
 pub mod Initial
+pub mod Comes
 pub mod Answered
 pub mod Laws

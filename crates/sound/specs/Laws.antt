@@ -20,9 +20,12 @@ pub mod BeginGood
 pub mod ShallowLaws
 pub mod HolderLaws
 pub mod FlagLaws
+pub mod GoodStands
 pub mod ConditionLaws
 pub mod NeverStuckLaws
 pub mod WaitLaws
 pub mod StartedLaws
 pub mod TabledLaws
+pub mod LastLaws
+pub mod StartableLaws
 pub mod TableKept

@@ -6,6 +6,7 @@ pub mod Invariant
 pub mod Shallow
 pub mod Conditions
 pub mod Tabled
+pub mod Startable
 pub mod NeverStuck
 pub mod Waiting
 pub mod After

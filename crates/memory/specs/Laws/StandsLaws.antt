@@ -16,7 +16,7 @@ use Rattle.machine.specs.Published.{Sched, lookup, assign}
 use Rattle.machine.specs.Rules.{meet}
 use Rattle.machine.specs.Machine.{Tagged, Instance, Machine, with-env, update-env, with-instances, with-stability, put}
 use Rattle.sound.specs.Laws.ElemLaws.{some-is, at-set-same, at-set-other, at-below}
-use Rattle.sound.specs.Laws.Keeps.{at-env-same, at-env-other}
+use Rattle.sound.specs.Laws.Keeps.{env-length, at-env-same, at-env-other}
 use Rattle.sound.specs.Laws.GoodLaws.{meet-length}
 use Rattle.layout.specs.Layout.{end-of, row-size, variable, stacked}
 use Rattle.layout.specs.State.{State, of-head, of-cell, with-cells, with-from, with-holding, bit, times}
@@ -24,7 +24,7 @@ use Rattle.memory.specs.Act.{gone, pushed}
 use Rattle.memory.specs.Stands.{Shows, Stack, note-words, Held, Stands}
 use Rattle.memory.specs.Frame.{AllSlim, moved}
 use Rattle.memory.specs.Laws.RowLaws.{going-other, going-length}
-use Rattle.memory.specs.Laws.VarLaws.{assigned-same, assigned-other, env-length}
+use Rattle.memory.specs.Laws.VarLaws.{assigned-same, assigned-other}
 use Rattle.memory.specs.Laws.HeldLaws.{stack-kept, held-same, held-on, held-numbers}
 use Rattle.memory.specs.Laws.EntriesLaws.{meet-times}
 

@@ -12,7 +12,6 @@ use borrow.Author.Tests.{ltb-true, ltb-false}
 use Rattle.types.specs.Limits.{first-local, max-locals, variables}
 use Rattle.types.specs.Values.{Val}
 use Rattle.machine.specs.Published.{Env, Env.env, lookup, assign, fresh-env}
-use Rattle.machine.specs.Machine.{Instance, update-env}
 use Rattle.sound.specs.Laws.ElemLaws.{none-some, some-is, at-set-other, at-below}
 use Rattle.sound.specs.Laws.EnvLaws.{param-at, local-at, param-set, local-set, other-kept, local-kept}
 
@@ -92,10 +91,3 @@ fresh-var vs v x e = go (side v) e
     go (inr h) e =
         let (w, q) = h in
         none-some (sym (none-there max-locals w) ∙ sym (local-at vs (replicate max-locals none) w) ∙ rw q at e)
-
--- instances stay as many
-pub env-length : (is : List Instance) (r : ℕ) (ξ : Env) → length (update-env is r ξ) ≡ length is
-unfolding update-env
-env-length [] r ξ = refl
-env-length (i ∷ is) zero ξ = refl
-env-length (i ∷ is) (suc r) ξ = ap suc (env-length is r ξ)

@@ -10,17 +10,20 @@ use Rattle.commands.specs.Bounds.{program-depth}
 use Rattle.table.specs.Table.{Record, enc-table}
 use Rattle.run.specs.Entry.{Begun.begun, begins, report, report-of, output-of}
 use Rattle.run.specs.Holders.{holders}
-use Rattle.run.specs.Initial.{Comes}
-use Rattle.run.specs.Laws.BeginLaws.{outcome-complete}
+use Rattle.run.specs.Begin.{begin}
+use Rattle.run.specs.Initial.{initially}
+use Rattle.run.specs.Comes.{Comes}
+use Rattle.run.specs.Laws.BeginLaws.{begin-stands}
+use Rattle.run.specs.Laws.OutcomeLaws.{outcome-complete}
 use Rattle.run.specs.Laws.InputLaws.{begins-ready, ready-runs}
 use Rattle.run.specs.Answered.{Answered}
 
 -- number, turns, holders and last table of the rules are those of the answers
 pub comes-answered : (x y es out list : List ℕ) (p : Program) (rs : List Record) → begins x y es out list ≡ begun p rs
-    → {n t k : ℕ} {rs′ : List Record} → Comes p rs es n t k rs′ → Answered x y es out list p n t k rs′
+    → {n t k : ℕ} {rs′ : List Record} → Comes p (initially p rs) es n t k rs′ → Answered x y es out list p n t k rs′
 unfolding report-of output-of
 comes-answered x y es out list p rs e {n} {t} {k} {rs′} c =
-    let (z, q, h, w) = outcome-complete p rs es c in
+    let (z, q, h, w) = outcome-complete p (begin p rs) (begin-stands p rs) es c in
     let (a, b, d) = ready-runs x y es out list p rs (begins-ready x y es out list p rs .0 e) in
     record {
       reported = a ∙ ap (report-of p) q ∙ ap (λ r. report n t (pieces (length (enc-table r))) (program-depth p) (length (holders z))) w

@@ -4,7 +4,7 @@ use native.Mathlib.Decide.{ℕ-discrete}
 use mathlib.Core.Path.{_≡_, refl, sym, ap, _∙_}
 use mathlib.Core.Option.{some}
 use mathlib.Core.List.{List, [], _∷_, _++_}
-use lib.ListN.{getElem?, set}
+use lib.ListN.{length, getElem?, set}
 use Rattle.types.specs.Types.{Ty}
 use Rattle.types.specs.Values.{Val}
 use Rattle.types.specs.ValueLaws.{value-as}
@@ -30,6 +30,13 @@ at-env-other (x ∷ is) zero zero ξ h = absurd (h refl)
 at-env-other (x ∷ is) zero (suc k) ξ h = refl
 at-env-other (x ∷ is) (suc n) zero ξ h = refl
 at-env-other (x ∷ is) (suc n) (suc k) ξ h = at-env-other is n k ξ (λ e. h (ap suc e))
+
+-- instances stay as many
+pub env-length : (is : List Instance) (n : ℕ) (ξ : Env) → length (update-env is n ξ) ≡ length is
+unfolding update-env
+env-length [] n ξ = refl
+env-length (x ∷ is) zero ξ = refl
+env-length (x ∷ is) (suc n) ξ = ap suc (env-length is n ξ)
 
 -- of the instance put there
 pub env-set : (is : List Instance) (n : ℕ) (ξ : Env) (i : Instance) → update-env (set is n i) n ξ ≡ set is n (with-env i ξ)

@@ -27,9 +27,9 @@ use Rattle.run.specs.Laws.RunAgrees.{run-follows}
 use Rattle.run.specs.Laws.RunAgreesVisits.{run-visits, run-turns}
 use Rattle.run.specs.Laws.HaltLaws.{halts-numbers, runs-halts}
 use Rattle.run.specs.Begin.{table-of}
-use Rattle.run.specs.Initial.{initially, Comes}
 use Rattle.run.specs.Runs.{Config, StandsFor}
-use Rattle.run.specs.Laws.BeginLaws.{begin-stands, outcome-exact}
+use Rattle.run.specs.Comes.{Comes}
+use Rattle.run.specs.Laws.OutcomeLaws.{outcome-exact}
 use Rattle.sound.specs.Needs.{Right}
 use Rattle.sound.specs.Invariant.{Good}
 use Rattle.commands.specs.Accepted.{Accepted}
@@ -42,6 +42,7 @@ use Rattle.sound.specs.Laws.Advance.{Kept}
 use Rattle.sound.specs.Laws.CommandKept.{Refused, command-kept}
 use Rattle.sound.specs.Laws.MoveKept.{MoveKept, still-good, move-kept, done-stops}
 use Rattle.sound.specs.Laws.BeginGood.{begin-good}
+use Rattle.sound.specs.Laws.GoodStands.{good-stands}
 use Rattle.sound.specs.Laws.HolderLaws.{chosen-holds}
 use Rattle.sound.specs.NeverStuck.{NeverStuck, Demand3}
 
@@ -108,12 +109,13 @@ module _ {p : Program} {m z : Machine} {es gs : List ℕ} {n : ℕ} (at : Visits
 
 module _ {p : Program} (firm : Firm p) where
   -- a run of a program with firm ground under it, from any machine with the invariant, is never stuck
-  firm-never-stuck : {m : Machine} → Good p m → (c : Config) → StandsFor m c → (es : List ℕ) → NeverStuck p m es
-  firm-never-stuck {m} g c₀ S es = go (run p m es) refl (ran-ends firm g (run-ran p es m))
+  firm-never-stuck : {m : Machine} → Good p m → (es : List ℕ) → NeverStuck p m es
+  firm-never-stuck {m} g es = go (run p m es) refl (ran-ends firm g (run-ran p es m))
     where
       go : (o : Outcome) → run p m es ≡ o → Ends o → NeverStuck p m es
       go (stopped n t z) e s =
           let at = run-visits p m es e .0 in
+          let (c₀, S) = good-stands g in
           let (c′, r, Q) = run-follows p m c₀ es S e in
           let c : Condition z (drop t es) n = (c′, Q, runs-halts p r) in
           record {
@@ -136,15 +138,16 @@ pub never-stuck-numbers : {p : Program} {m : Machine} {es : List ℕ} (d : Never
 never-stuck-numbers {es = es} d =
     let (c, S, h) = d .exactly (d .last) (drop (d .turns) es) (d .visited) (d .number) .1 (refl, refl, refl) in halts-numbers h
 
--- a run of an accepted program from any machine with the invariant that stands for a configuration is never stuck
-pub never-stuck : {p : Program} → Accepted p → {m : Machine} → Good p m → (c : Config) → StandsFor m c → (es : List ℕ) → NeverStuck p m es
-never-stuck a g c S es = firm-never-stuck (accepted-firm a) g c S es
+-- the published rules come to that number, from the configuration that the machine stands for, with a last table
+pub never-stuck-comes : (p : Program) (m : Machine) {c : Config} → StandsFor m c → (es : List ℕ) → NeverStuck p m es
+    → (n : ℕ) × (t : ℕ) × (k : ℕ) × (rs : List Record) × Comes p c es n t k rs
+never-stuck-comes p m S es d = (d .number, d .turns, length (holders (d .last)), table-of p (d .last), outcome-exact p m S es (d .returns))
+
+-- a run of an accepted program from any machine with the invariant is never stuck
+pub never-stuck : {p : Program} → Accepted p → {m : Machine} → Good p m → (es : List ℕ) → NeverStuck p m es
+never-stuck a g es = firm-never-stuck (accepted-firm a) g es
 
 -- Demand 3: so is one on a right table, whatever the turn bytes
 pub demand3 : {p : Program} → Accepted p → (rs : List Record) → TableRight (p .params) rs → (es : List ℕ) → Demand3 p rs es
-demand3 {p} a rs t es = never-stuck a (begin-good p (a .0) rs t) (initially p rs) (begin-stands p rs) es
+demand3 {p} a rs t es = never-stuck a (begin-good p (a .0) rs t) es
 
--- so the published rules come to a number, turns and a last table
-pub demand3-comes : (p : Program) (rs : List Record) (es : List ℕ) → Demand3 p rs es
-    → (n : ℕ) × (t : ℕ) × (k : ℕ) × (rs′ : List Record) × Comes p rs es n t k rs′
-demand3-comes p rs es d = (d .number, d .turns, length (holders (d .last)), table-of p (d .last), outcome-exact p rs es (d .returns))

@@ -27,23 +27,24 @@ use Rattle.table.specs.SizeLaws.{table-length, program-table-fits}
 use Rattle.machine.specs.Published.{Env, Env.env, structs}
 use Rattle.machine.specs.Machine.{Instance, Machine}
 use Rattle.run.specs.Visits.{Visits}
-use Rattle.run.specs.Begin.{params-in, begin, record-of, table-of}
-use Rattle.run.specs.Initial.{Comes}
-use Rattle.run.specs.Laws.BeginLaws.{outcome-complete}
+use Rattle.run.specs.Begin.{params-in, record-of, table-of}
+use Rattle.run.specs.Runs.{Config, StandsFor}
+use Rattle.run.specs.Comes.{Comes}
+use Rattle.run.specs.Laws.OutcomeLaws.{outcome-complete}
 use Rattle.run.specs.Laws.RunAgreesVisits.{run-visits}
 use Rattle.run.specs.Entry.{Begun, Begun.begun, Begun.not-begun, begins, output-of, run-output-by, run-output}
 use Rattle.run.specs.Input.{TableAccepted}
 use Rattle.run.specs.Laws.InputLaws.{begins-ready}
 use Rattle.sound.specs.Needs.{ValueAmong}
-use Rattle.sound.specs.Invariant.{Job, Fitted, GoodAll, Good}
+use Rattle.sound.specs.Invariant.{Job, Fitted, GoodAll}
 use Rattle.commands.specs.Accepted.{Accepted}
-use Rattle.sound.specs.Laws.AcceptedLaws.{ready-accepted, accepted-firm}
+use Rattle.sound.specs.Laws.AcceptedLaws.{ready-accepted}
 use Rattle.sound.specs.Tabled.{Tabled}
+use Rattle.sound.specs.Startable.{Startable}
 use Rattle.sound.specs.Laws.ElemLaws.{some-is, at-below, at-drop, at-map, map-at, elem-all}
 use Rattle.sound.specs.Laws.EachLaws.{each-map}
-use Rattle.sound.specs.Laws.BeginGood.{begin-good}
-use Rattle.sound.specs.Laws.NeverStuckLaws.{visits-good, demand3}
-use Rattle.sound.specs.Laws.TabledLaws.{visits-tabled, begin-tabled}
+use Rattle.sound.specs.Laws.NeverStuckLaws.{demand3}
+use Rattle.sound.specs.Laws.StartableLaws.{begin-startable, visits-startable}
 
 -- The table of a machine -----------------------------------------------------------
 
@@ -126,19 +127,15 @@ image-table p a rs right =
 
 -- Runs -----------------------------------------------------------------------------
 
--- from any machine with the invariant, in the shape of a table
-module _ {p : Program} (a : Accepted p) {m : Machine} (good : Good p m) (tabled : Tabled p (m .instances)) {es fs : List ℕ} {z : Machine}
-    (v : Visits p m es z fs) where
-  last-good : Good p z
-  last-good = visits-good (accepted-firm a) good v
-
-  all-tabled : Tabled p (z .instances)
-  all-tabled = visits-tabled (accepted-firm a) good tabled v
+-- from any machine that a run may begin with
+module _ {p : Program} (a : Accepted p) {m : Machine} (start : Startable p m) {es fs : List ℕ} {z : Machine} (v : Visits p m es z fs) where
+  here : Startable p z
+  here = visits-startable a start v
 
   -- every machine of a run stands at a right table
   pub table-kept : TableRight (p .params) (table-of p z)
   unfolding table-of
-  table-kept = rows-right p (last-good .all) all-tabled
+  table-kept = rows-right p (here .good .all) (here .tabled)
 
   -- whose image fits its blocks and is accepted as that table
   pub table-written : (pieces (length (enc-table (table-of p z))) ≤ table-blocks) × (TableAccepted p (image (enc-table (table-of p z))) (table-of p z))
@@ -148,16 +145,16 @@ module _ {p : Program} (a : Accepted p) {m : Machine} (good : Good p m) (tabled 
   pub nulls-kept : (k : ℕ) → k < structs p
       → (i : Instance) × (getElem? (z .instances) k ≡ some i) × (i .struct ≡ k) × (params-in (i .env) ≡ map default (params-of p k))
   nulls-kept k h =
-      let (i, e, s) = last-good .all .nulls k h in
-      (i, e, s, all-tabled .each k i e .1 h ∙ ap (λ j. map default (params-of p j)) s)
+      let (i, e, s) = here .good .all .nulls k h in
+      (i, e, s, here .tabled .each k i e .1 h ∙ ap (λ j. map default (params-of p j)) s)
 
 -- so is the image of the table that the published rules come to
-pub comes-written : {p : Program} → Accepted p → (rs : List Record) → TableRight (p .params) rs → {es : List ℕ} {n t k : ℕ} {rs′ : List Record}
-    → Comes p rs es n t k rs′
-    → (pieces (length (enc-table rs′)) ≤ table-blocks) × (TableAccepted p (image (enc-table rs′)) rs′)
-comes-written {p} a rs right {es} c =
-    let (z, q, h, w) = outcome-complete p rs es c in
-    rw w at (table-written a (begin-good p (a .0) rs right) (begin-tabled p rs right) (run-visits p (begin p rs) es q .0))
+pub comes-written : {p : Program} → Accepted p → (m : Machine) → Startable p m → {c : Config} → StandsFor m c
+    → {es : List ℕ} {n t k : ℕ} {rs : List Record} → Comes p c es n t k rs
+    → (pieces (length (enc-table rs)) ≤ table-blocks) × (TableAccepted p (image (enc-table rs)) rs)
+comes-written {p} a m start stands {es} c =
+    let (z, q, h, w) = outcome-complete p m stands es c in
+    rw w at (table-written a start (run-visits p m es q .0))
 
 -- Output -----------------------------------------------------------------------------
 
@@ -173,8 +170,7 @@ output-length x y es out list = go (begins x y es out list) refl
         let ok = ready-accepted r in
         let d = demand3 ok rs (r .table .right) es in
         let s = enc-table (table-of p (d .last)) in
-        let right = r .table .right in
-        let few = table-written ok (begin-good p (ok .0) rs right) (begin-tabled p rs right) (d .visited) .0 in
+        let few = table-written ok (begin-startable ok rs (r .table .right)) (d .visited) .0 in
         let room = r .output-room in
         rw (d .returns)
         (omega (

@@ -34,7 +34,7 @@ use Rattle.sound.specs.Invariant.{Place, Good}
 use Rattle.sound.specs.Firm.{Firm}
 use Rattle.sound.specs.Tabled.{TabledInst, Tabled}
 use Rattle.sound.specs.Laws.ElemLaws.{some-is, at-set-same, at-set-other, at-snoc, at-joined, at-below, map-at, all-elem}
-use Rattle.sound.specs.Laws.Keeps.{at-env-same, at-env-other}
+use Rattle.sound.specs.Laws.Keeps.{env-length, at-env-same, at-env-other}
 use Rattle.sound.specs.Laws.PassageLaws.{holder-passage, first-held, next-sized}
 use Rattle.sound.specs.Laws.CommandKept.{turning-good}
 use Rattle.sound.specs.Laws.WriteKept.{same-env}
@@ -42,12 +42,6 @@ use Rattle.sound.specs.Laws.BeginGood.{nulls-length, null-at}
 use Rattle.sound.specs.Laws.NeverStuckLaws.{acts-good}
 
 -- Changes of the instances ---------------------------------------------------------
-
-env-length : (is : List Instance) (l : ℕ) (ξ : Env) → length (update-env is l ξ) ≡ length is
-unfolding update-env
-env-length [] l ξ = refl
-env-length (i ∷ is) zero ξ = refl
-env-length (i ∷ is) (suc l) ξ = ap suc (env-length is l ξ)
 
 -- a write past the parameters leaves them
 past-params : (ξ : Env) (v : ℕ) (x : Val) → length (params-in ξ) ≤ v → params-in (assign ξ v x) ≡ params-in ξ

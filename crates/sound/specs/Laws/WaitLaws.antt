@@ -15,12 +15,11 @@ use Rattle.machine.specs.FromLaws.{command-from}
 use Rattle.machine.specs.Stops.{full, exceeded}
 use Rattle.run.specs.Turns.{round-from, chosen}
 use Rattle.run.specs.Holders.{flag, flags, holders, due}
-use Rattle.run.specs.Runs.{Config, StandsFor}
 use Rattle.run.specs.Steps.{Steps, Steps.here, Steps.reads}
 use Rattle.run.specs.Visits.{Acts, Acts.takes}
 use Rattle.run.specs.Laws.Settles.{Rests.fails}
 use Rattle.run.specs.Laws.RoundLaws.{kept, round-behind, round-idle}
-use Rattle.run.specs.Laws.RunAgrees.{rests-halts, steps-follow}
+use Rattle.run.specs.Laws.RunAgrees.{rests-halts}
 use Rattle.run.specs.Laws.TurnLaws.{chosen-place, holder-chosen, some-due}
 use Rattle.sound.specs.Firm.{Firm}
 use Rattle.sound.specs.Invariant.{Good}
@@ -29,6 +28,7 @@ use Rattle.sound.specs.Waiting.{Passes, ActsWithin, StopsBefore}
 use Rattle.sound.specs.Laws.Advance.{Kept}
 use Rattle.sound.specs.Laws.CommandKept.{Refused}
 use Rattle.sound.specs.Laws.FlagLaws.{Idle, flags-behind}
+use Rattle.sound.specs.Laws.GoodStands.{good-stands}
 use Rattle.sound.specs.Laws.NeverStuckLaws.{taken-kept, acts-good}
 
 -- Behind a turn ------------------------------------------------------------------------
@@ -84,7 +84,7 @@ module _ {p : Program} (firm : Firm p) (l : ℕ) where
       inr (record { turns = suc (a .turns); few = omega arith; place = a .place; left = a .left; waited = reads s (a .waited); stops = a .stops })
 
   -- the first holder h, whose command comes to o; whoever waits behind it has its place, by `on`
-  module _ (n : ℕ) (m : Machine) (es : List ℕ) (c : Config) (stands : StandsFor m c) (d : due m ≡ false) (h : ℕ) (is : chosen (holders m) 0 ≡ h)
+  module _ (n : ℕ) (m : Machine) (es : List ℕ) (good : Good p m) (d : due m ≡ false) (h : ℕ) (is : chosen (holders m) 0 ≡ h)
       (on : (h ≡ l → ⊥) → (m′ : Machine) → Acts p m (some 0) m′ → command p h m ≡ next m′ → Waits n m′ es) where
     goes : {m′ : Machine} → command p h m ≡ next m′ → Acts p m (some 0) m′
     goes q = takes d (ap (λ x. command p x m) is ∙ q)
@@ -99,6 +99,7 @@ module _ {p : Program} (firm : Firm p) (l : ℕ) where
 
     stopped : {k : ℕ} → command p h m ≡ refused k → Refused k → Waits (suc n) m (0 ∷ es)
     stopped {k} q r =
+        let (c, stands) = good-stands good in
         let halts = rests-halts p c stands (fails {n = k} {es = es} d (ap (λ x. command p x m) is ∙ q)) in
         inr (record { turns = 0; few = omega arith; place = m; left = 0 ∷ es; waited = here; stops = go r (c, stands, halts) })
       where
@@ -112,13 +113,13 @@ module _ {p : Program} (firm : Firm p) (l : ℕ) where
     first-turn stuck q k = absurd k
 
   -- a first turn with a byte of zero
-  one-turn : (k : ℕ) (m : Machine) (es : List ℕ) → Good p m → (c : Config) → StandsFor m c → 0 < length (holders m)
+  one-turn : (k : ℕ) (m : Machine) (es : List ℕ) → Good p m → 0 < length (holders m)
       → take (suc k) es ≡ replicate (suc k) 0
       → ((h : ℕ) (hs fs : List ℕ) → holders m ≡ h ∷ hs → take k fs ≡ replicate k 0 → (h ≡ l → ⊥)
       → (m′ : Machine) → Acts p m (some 0) m′ → command p h m ≡ next m′ → Waits k m′ fs)
       → Waits (suc k) m es
-  one-turn k m [] good c stands busy zeros on = let z : _≡_ {A = ℕ} 0 1 = cc in absurd (omega arith)
-  one-turn k m (x ∷ es) good c stands busy zeros on = go (holders m) refl
+  one-turn k m [] good busy zeros on = let z : _≡_ {A = ℕ} 0 1 = cc in absurd (omega arith)
+  one-turn k m (x ∷ es) good busy zeros on = go (holders m) refl
     where
       go : (hs : List ℕ) → holders m ≡ hs → Waits (suc k) m (x ∷ es)
       go [] q = absurd (omega (arith, ap length q))
@@ -129,23 +130,22 @@ module _ {p : Program} (firm : Firm p) (l : ℕ) where
           let z : 0 ≡ x = cc in
           let rest : take k es ≡ replicate k 0 = cc in
           subst (λ (y : ℕ). Waits (suc k) m (y ∷ es)) z
-          (first-turn k m es c stands d h is (λ other m′ a e. on h hs es q rest other m′ a e) (command p h m) refl (rw is at outcome))
+          (first-turn k m es good d h is (λ other m′ a e. on h hs es q rest other m′ a e) (command p h m) refl (rw is at outcome))
 
   -- the holder at place k acts within k + 1 turns
-  waits : (k : ℕ) (m : Machine) (es : List ℕ) → Good p m → (c : Config) → StandsFor m c → k < length (holders m) → getD (holders m) k 0 ≡ l
+  waits : (k : ℕ) (m : Machine) (es : List ℕ) → Good p m → k < length (holders m) → getD (holders m) k 0 ≡ l
       → take (suc k) es ≡ replicate (suc k) 0 → Waits (suc k) m es
-  waits zero m es good c stands within at zeros =
-      one-turn 0 m es good c stands within zeros
+  waits zero m es good within at zeros =
+      one-turn 0 m es good within zeros
       λ h hs fs q rest other m′ a e. absurd (other (ap (λ (r : List ℕ). getD r 0 0) (sym q) ∙ at))
-  waits (suc k) m es good c stands within at zeros =
-      one-turn (suc k) m es good c stands (omega arith) zeros
+  waits (suc k) m es good within at zeros =
+      one-turn (suc k) m es good (omega arith) zeros
       λ h hs fs q rest other m′ a e.
       let (b, turned) = holders-turned p m q e in
-      let (c′, steps, stands′) = steps-follow p c stands (reads {es = fs} a here) in
       let long : length (holders m) ≡ suc (length hs) = ap length q in
       let near : k < length hs = omega arith in
       let whole : length (holders m′) ≡ length hs + length (kept b h) = ap length turned ∙ length-append hs (kept b h) in
-      waits k m′ fs (acts-good firm a good) c′ stands′ (omega arith)
+      waits k m′ fs (acts-good firm a good) (omega arith)
       (ap (λ (r : List ℕ). getD r k 0) turned ∙ List·getD-append hs (kept b h) 0 k near ∙ ap (λ (r : List ℕ). getD r (suc k) 0) (sym q) ∙ at)
       rest
 
@@ -169,12 +169,11 @@ module _ {p : Program} (firm : Firm p) (l : ℕ) where
 
   -- an instance that holds commands acts within as many turns as there are holders, where that many bytes are zero, or 34 or 35 stops the
   -- run before
-  pub holder-waits : (m : Machine) (es : List ℕ) → Good p m → (c : Config) → StandsFor m c
-      → {i : Instance} → getElem? (m .instances) l ≡ some i → (i .code ≡ [] → ⊥)
+  pub holder-waits : (m : Machine) (es : List ℕ) → Good p m → {i : Instance} → getElem? (m .instances) l ≡ some i → (i .code ≡ [] → ⊥)
       → take (length (holders m)) es ≡ replicate (length (holders m)) 0
       → Waits (length (holders m)) m es
-  holder-waits m es good c stands g held zeros =
+  holder-waits m es good g held zeros =
       let (k, within, at) = holder-chosen m l g held in
       let fewer : take (suc k) es ≡ replicate (suc k) 0 =
       sym (take-take (suc k) (length (holders m)) es within) ∙ ap (take (suc k)) zeros ∙ take-replicate (suc k) (length (holders m)) within in
-      longer within (waits k m es good c stands within (sym (chosen-place (holders m) k within) ∙ at) fewer)
+      longer within (waits k m es good within (sym (chosen-place (holders m) k within) ∙ at) fewer)
