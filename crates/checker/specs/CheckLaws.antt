@@ -7,6 +7,7 @@ use lib.ListN.{length, length-map}
 use borrow.Author.Tests.{lt-ltb, le-ltb}
 use Rattle.types.specs.Limits.{max-structs, max-commands}
 use Rattle.types.specs.Numbers.{no-room}
+use Rattle.types.specs.Stages.{Stage.went as accepted, Stage.stopped as refused}
 use Rattle.program.specs.Tree.{Program}
 use Rattle.commands.specs.Bounds.{program-size, Within}
 use Rattle.commands.specs.ProgramWords.{structs-words, program-words}
@@ -19,7 +20,7 @@ use Rattle.emit_steps.specs.Emitted.{from-place, stand, Fits, Emitted, EmittedP
 use Rattle.emit_steps.specs.ProgramLaws.{program-fits}
 use Rattle.directory.specs.Directory.{structs-rows}
 use Rattle.directory.specs.Rows.{directory-places}
-use Rattle.verdict.specs.Verdict.{Checked, Checked.accepted, Checked.refused, listed, Verdict as Judgement, refusal, approval, verdict-of, list-of}
+use Rattle.verdict.specs.Verdict.{Checked, listed, Verdict as Judgement, refusal, approval, verdict-of, list-of}
 use Rattle.load.specs.declared.Loaded.{Loaded}
 use Rattle.load.specs.Load.{Admitted}
 use Rattle.load.specs.LoadLaws.{LoadedAs, accepted-source, structs-are, structs-few}

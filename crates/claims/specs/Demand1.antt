@@ -5,8 +5,9 @@ use Prim.Native.Nat.{ℕ}
 use mathlib.Core.Path.{_≡_}
 use mathlib.Core.Logic.{_↔_}
 use mathlib.Core.List.{List, [], _∷_}
-use Rattle.commands.specs.Numbers.{Foremost}
-use Rattle.verdict.specs.Verdict.{Checked.refused, checked, refusal, check-verdict, check-list}
+use Rattle.types.specs.Orders.{Foremost}
+use Rattle.types.specs.Stages.{Stage.stopped as refused}
+use Rattle.verdict.specs.Verdict.{checked, refusal, check-verdict, check-list}
 use Rattle.run.specs.Entry.{Begun.not-begun, begins, report, run-report, run-output, run-list}
 use Rattle.verdict.specs.ProgramInput.{program-order, check-order}
 use Rattle.run.specs.Input.{run-order}

@@ -7,6 +7,8 @@ use mathlib.Core.List.{List, [], _++_, map}
 use lib.ListN.{length, getElem?}
 use Rattle.types.specs.Limits.{table-blocks, max-commands}
 use Rattle.types.specs.Values.{default}
+use Rattle.types.specs.Orders.{NoneOf}
+use Rattle.types.specs.Stages.{Stage.went as accepted}
 use Rattle.blocks.specs.Images.{image, pieces}
 use Rattle.program.specs.Tree.{Stmts, Program}
 use Rattle.commands.specs.Coding.{words}
@@ -14,7 +16,6 @@ use Rattle.commands.specs.Commands.{commands}
 use Rattle.commands.specs.Context.{Ctx, context, params-of, step-of}
 use Rattle.commands.specs.Noted.{erase, noted}
 use Rattle.commands.specs.Laws.NotedLaws.{erased}
-use Rattle.commands.specs.Numbers.{NoneOf}
 use Rattle.table.specs.Table.{Record, enc-table, TableRight}
 use Rattle.machine.specs.Published.{structs}
 use Rattle.machine.specs.Machine.{Instance, Machine, Moved.next, move}
@@ -29,7 +30,7 @@ use Rattle.run.specs.Begin.{params-in, begin, table-of}
 use Rattle.run.specs.Initial.{initially}
 use Rattle.run.specs.Comes.{Comes}
 use Rattle.run.specs.Runs.{Config, StandsFor, Passes}
-use Rattle.verdict.specs.Verdict.{Checked.accepted, checked, listed, approval, check-verdict, check-list}
+use Rattle.verdict.specs.Verdict.{checked, listed, approval, check-verdict, check-list}
 use Rattle.run.specs.Entry.{Begun.begun, begins, run-output}
 use Rattle.verdict.specs.ProgramInput.{check-order, AcceptedImage, Approved}
 use Rattle.run.specs.Input.{run-order, TableAccepted, Runnable, Began}

@@ -6,9 +6,9 @@ use mathlib.Core.Logic.{_⊎_}
 use mathlib.Core.Bool.{Bool}
 use mathlib.Core.List.{List}
 use lib.ListN.{length}
+use Rattle.types.specs.Orders.{NoneOf}
 use Rattle.program.specs.Tree.{Program}
 use Rattle.commands.specs.Bounds.{program-depth}
-use Rattle.commands.specs.Numbers.{NoneOf}
 use Rattle.table.specs.Table.{Record}
 use Rattle.machine.specs.Published.{Sched, Sched.fixpoint, Inst, State.state}
 use Rattle.machine.specs.Machine.{Machine}

@@ -25,6 +25,7 @@ use Rattle.types.specs.TypeBytes.{TypeByte, is-type}
 use Rattle.types.specs.TypeLaws.{type-exact}
 use Rattle.types.specs.Values.{Val, IntRange, in-int, int-word, default}
 use Rattle.types.specs.ValueLaws.{int-exact}
+use Rattle.types.specs.Stages.{Stage.went as table}
 use Rattle.program.specs.Tree.{Op, Expr, Program}
 use Rattle.program.specs.Encoding.{enc-word, enc-program}
 use Rattle.program.specs.Counts.{Counts, CountsTo}
@@ -47,7 +48,7 @@ use Rattle.commands.specs.Decide.TypingDecideLaws.{types-unique, types-exact}
 use Rattle.operators.specs.Operators.{Applies, Exceeds}
 use Rattle.operators.specs.ApplyLaws.{applies-unique, applies-not-exceeds}
 use Rattle.table.specs.Table.{Record, enc-table, HeldTable, TableRight}
-use Rattle.table.specs.TableReader.{TableAnswer.table, table-of-stream}
+use Rattle.table.specs.TableReader.{table-of-stream}
 use Rattle.table.specs.TableLaws.{table-back, table-injective}
 use Rattle.table.specs.SizeLaws.{Bytes, table-bytes}
 use Rattle.table.specs.TableFaults.{Field, field-bytes, Allowed, Front as TableFront}

@@ -9,6 +9,9 @@ use lib.ListN.{length, getD}
 use lib.Dec.{eqb, ltb}
 use borrow.Author.Tests.{eqb-true, eqb-false, ltb-true, ltb-false}
 use Rattle.types.specs.Limits.{max-commands, fix-levels}
+use Rattle.types.specs.Orders.{Foremost}
+use Rattle.types.specs.OrderLaws.{foremost-some}
+use Rattle.types.specs.Stages.{Stage.went as accepted, Stage.stopped as refused}
 use Rattle.program.specs.Tree.{Stmts, Step, Program}
 use Rattle.commands.specs.Accepted.{Accepted}
 use Rattle.commands.specs.Bounds.{program-depth}
@@ -18,8 +21,6 @@ use Rattle.commands.specs.Context.{context, find-step, step-of}
 use Rattle.commands.specs.Names.{names-of-steps}
 use Rattle.commands.specs.Noted.{erase, noted}
 use Rattle.commands.specs.Laws.NotedLaws.{erased}
-use Rattle.commands.specs.Numbers.{Foremost}
-use Rattle.commands.specs.Laws.NumbersLaws.{foremost-some}
 use Rattle.table.specs.Table.{Record}
 use Rattle.machine.specs.Published.{Sched, Sched.fixpoint, Inst, State.state}
 use Rattle.machine.specs.Machine.{Machine}
@@ -31,7 +32,7 @@ use Rattle.run.specs.Laws.BeginLaws.{begin-stands}
 use Rattle.run.specs.Laws.OutcomeLaws.{outcome-exact}
 use Rattle.run.specs.Runs.{Config, Config.config, StandsFor, Passes}
 use Rattle.run.specs.Laws.RunAgreesVisits.{passes-visits}
-use Rattle.verdict.specs.Verdict.{Checked, Checked.accepted, Checked.refused, checked, Verdict, check-list}
+use Rattle.verdict.specs.Verdict.{Checked, checked, Verdict, check-list}
 use Rattle.verdict.specs.ProgramInput.{AcceptedImage, program-order, check-order}
 use Rattle.run.specs.Input.{Runnable}
 use Rattle.verdict.specs.ProgramInputLaws.{checked-accepted, checked-number, verdict-number, verdict-approved, check-approved}

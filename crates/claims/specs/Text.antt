@@ -5,14 +5,15 @@ use mathlib.Core.Logic.{_↔_}
 use mathlib.Core.List.{List, _++_}
 use lib.ListN.{length, drop}
 use Rattle.types.specs.Limits.{program-blocks, max-commands}
-use Rattle.types.specs.Numbers.{wrong-byte, wrong-names}
+use Rattle.types.specs.Numbers.{wrong-byte, wrong-names, no-derivation}
+use Rattle.types.specs.Orders.{NoneOf, Foremost}
+use Rattle.types.specs.Stages.{Stage.stopped as checked-refused, Stage.went as written, Stage.stopped as refused}
 use Rattle.block.specs.Block.{block-size}
 use Rattle.blocks.specs.Images.{image, pieces}
 use Rattle.program.specs.Tree.{Op, Program}
 use Rattle.program.specs.Encoding.{enc-program}
 use Rattle.commands.specs.Bounds.{Within}
-use Rattle.commands.specs.Numbers.{NoneOf, Foremost}
-use Rattle.verdict.specs.Verdict.{Checked.refused as checked-refused, checked, refusal, check-verdict}
+use Rattle.verdict.specs.Verdict.{checked, refusal, check-verdict}
 use Rattle.tokens.specs.Tokens.{Token}
 use Rattle.tokens.specs.Lexing.{Lexed}
 use Rattle.tokens.specs.LexingLaws.{lexed-one as lexed-law}
@@ -25,7 +26,7 @@ use Rattle.syntax.specs.BracketLaws.{brackets-kept as brackets-law, no-two-comp
 use Rattle.meaning.specs.Holds.{max-stream}
 use Rattle.meaning.specs.Means.{Means}
 use Rattle.meaning.specs.Nesting.{Shallow}
-use Rattle.source.specs.Source.{no-derivation, Derived, Reading, NoTokens, text-order, Outcome.written, Outcome.refused}
+use Rattle.source.specs.Source.{Derived, Reading, NoTokens, text-order}
 use Rattle.source.specs.TextReader.{outcome, text-number, text-blocks, text-output}
 use Rattle.source.specs.SourceLaws.{derived-one as derived-law, one-reading as reading-law, text-refused-exactly as refused-law, text-written as written-law}
 use Rattle.source.specs.SourceLaws.{text-untouched as untouched-law, escapes-16 as escapes-law}

@@ -6,6 +6,7 @@ use mathlib.Core.List.{List, [], _∷_, _++_}
 use lib.ListN.{length}
 use lib.Seq.{sets-eq, length-sets}
 use Rattle.types.specs.Limits.{max-commands}
+use Rattle.types.specs.Stages.{Stage.stopped as refused}
 use Rattle.program.specs.Tree.{Program}
 use Rattle.commands.specs.Bounds.{Within}
 use Rattle.commands.specs.Laws.NumbersLaws.{number-accepted}
@@ -15,7 +16,7 @@ use Rattle.commands.specs.ProgramWords.{program-words}
 use Rattle.commands.specs.ProgramWordsLaws.{program-length}
 use Rattle.emit_steps.specs.declared.Place.{Place}
 use Rattle.emit_steps.specs.Emitted.{Emitted}
-use Rattle.verdict.specs.Verdict.{Checked.refused, checked}
+use Rattle.verdict.specs.Verdict.{checked}
 use Rattle.load.specs.declared.Loaded.{Loaded}
 use Rattle.load.specs.LoadLaws.{LoadedAs, Source, accepted-source, loaded-counts}
 use Rattle.text.specs.Listing.{row}

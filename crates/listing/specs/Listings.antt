@@ -3,9 +3,10 @@
 use Prim.Native.Nat.{ℕ}
 use mathlib.Core.List.{List, [], _∷_, _++_}
 use lib.ListN.{length}
+use Rattle.types.specs.Stages.{Stage.went as accepted, Stage.stopped as refused}
 use Rattle.program.specs.Tree.{Program}
 use Rattle.commands.specs.Bounds.{total, program-size, program-depth}
-use Rattle.verdict.specs.Verdict.{Checked, Checked.accepted, Checked.refused, checked}
+use Rattle.verdict.specs.Verdict.{Checked, checked}
 use Rattle.text.specs.Listing.{row}
 use Rattle.step_lines.specs.Lines.{program-lines}
 

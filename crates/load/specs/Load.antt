@@ -5,11 +5,12 @@ use mathlib.Core.Path.{_≡_}
 use mathlib.Core.List.{List, _++_}
 use lib.ListN.{length, drop}
 use Rattle.types.specs.Limits.{max-params}
+use Rattle.types.specs.Stages.{Stage.went as accepted, Stage.stopped as refused}
 use Rattle.program.specs.Tree.{Program}
 use Rattle.program.specs.Reader.{Result.ok, read-params, read}
 use Rattle.commands.specs.Bounds.{total, arities, program-size, program-depth}
 use Rattle.commands.specs.Numbers.{breach-number}
-use Rattle.verdict.specs.Verdict.{Checked, Checked.accepted, Checked.refused}
+use Rattle.verdict.specs.Verdict.{Checked}
 use Rattle.judge.specs.ProgramFacts.{types-table}
 use Rattle.read_program.specs.Whole.{place-of}
 use Rattle.read_program.specs.declared.Summary.{Summary}

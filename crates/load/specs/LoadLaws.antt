@@ -7,6 +7,7 @@ use mathlib.Core.List.{List}
 use lib.ListN.{length, take, length-map}
 use lib.Seq.{take-at}
 use Rattle.types.specs.Limits.{program-blocks, max-params}
+use Rattle.types.specs.Stages.{Stage.went as accepted, Stage.stopped as refused}
 use Rattle.block.specs.declared.Fault.{Fault}
 use Rattle.block.specs.declared.Found.{Found}
 use Rattle.block.specs.declared.Found.the-variants.{Right, Wrong}
@@ -19,7 +20,7 @@ use Rattle.program.specs.Reader.{Result, Result.ok, Result.bad, read-params, re
 use Rattle.program.specs.Laws.ProgramLaws.{program-law}
 use Rattle.commands.specs.Bounds.{arities, program-depth}
 use Rattle.commands.specs.Numbers.{breach-number}
-use Rattle.verdict.specs.Verdict.{Checked, Checked.accepted, Checked.refused, judge, of-read, of-image, checked}
+use Rattle.verdict.specs.Verdict.{Checked, judge, of-read, of-image, checked}
 use Rattle.judge.specs.ProgramFacts.{types-table}
 use Rattle.read_params.specs.ParamsTold.{ParamsKept}
 use Rattle.read_params.specs.ParamsWays.{table-length}

@@ -7,6 +7,7 @@ use mathlib.Core.List.{List, [], _∷_, _++_, map}
 use lib.ListN.{length, take, drop, length-map}
 use lib.Seq.{take-at}
 use Rattle.types.specs.Limits.{max-depth, max-steps}
+use Rattle.types.specs.Stages.{Stage.went as accepted, Stage.stopped as refused}
 use Rattle.program.specs.Tree.{Step, Program}
 use Rattle.program.specs.Counts.{All, Few, CountsStep, Counts}
 use Rattle.program.specs.Reader.{Result, Result.ok, Result.bad, read-params, read}
@@ -14,7 +15,7 @@ use Rattle.program.specs.Laws.ProgramLaws.{program-law}
 use Rattle.commands.specs.Bounds.{total, greatest, step-depth, arities, program-size, program-depth, Within}
 use Rattle.commands.specs.Numbers.{breach-number}
 use Rattle.commands.specs.Laws.NumbersLaws.{number-accepted}
-use Rattle.verdict.specs.Verdict.{Checked.accepted, Checked.refused, judge, of-read}
+use Rattle.verdict.specs.Verdict.{judge, of-read}
 use Rattle.judge.specs.ProgramFacts.{program-totals, program-plan, checked-number}
 use Rattle.judge.specs.ProgramFactsLaws.{checked-law, checked-commands, checked-depth, checked-steps}
 use Rattle.read_params.specs.ParamsTold.{ParamsKept}

@@ -7,11 +7,12 @@ use mathlib.Core.Option.{Option, none, some}
 use lib.ListN.{length, drop}
 use lib.Dec.{ltb}
 use Rattle.types.specs.Limits.{program-blocks}
-use Rattle.types.specs.Numbers.{no-room}
+use Rattle.types.specs.Numbers.{no-room, no-program}
+use Rattle.types.specs.Stages.{Stage.went as written, Stage.stopped as refused}
 use Rattle.block.specs.Block.{block-size}
 use Rattle.blocks.specs.Images.{image, pieces}
 use Rattle.program.specs.Encoding.{enc-program}
-use Rattle.source.specs.Source.{no-program, Outcome, Outcome.written, Outcome.refused}
+use Rattle.source.specs.Source.{Outcome}
 use Rattle.read_text.specs.declared.Answer.{Answer}
 
 pub data Ending : Type 0 where

@@ -10,6 +10,7 @@ use lib.Dec.{ltb}
 use borrow.Author.Tests.{le-leb, lt-ltb, le-ltb}
 use Rattle.types.specs.Limits.{program-blocks}
 use Rattle.types.specs.Numbers.{no-room}
+use Rattle.types.specs.Stages.{Stage.went as written, Stage.stopped as refused}
 use Rattle.block.specs.Block.{block-size}
 use Rattle.blocks.specs.Images.{image, pieces, stream-right, write, written-into}
 use Rattle.blocks.specs.ImageLaws.{image-length}
@@ -20,7 +21,7 @@ use Rattle.program.specs.Tree.{Program}
 use Rattle.program.specs.Encoding.{enc-program}
 use Rattle.meaning.specs.Meant.{then, provided}
 use Rattle.meaning.specs.HoldsDecide.{holds}
-use Rattle.source.specs.Source.{Outcome, Outcome.written, Outcome.refused, number-of, blocks-of, output-of}
+use Rattle.source.specs.Source.{Outcome, number-of, blocks-of, output-of}
 use Rattle.source.specs.TextReader.{of-room, of-held, of-program}
 use Rattle.read_text.specs.Ending.{Ending, Ending.wrote, Ending.stopped, with-room, ended, answer, left, ending}
 use Rattle.read_text.specs.declared.Answer.{Answer}

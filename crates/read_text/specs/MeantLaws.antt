@@ -6,6 +6,7 @@ use mathlib.Core.List.{List}
 use mathlib.Core.Option.{Option, none, some}
 use lib.ListN.{length, getD, take, drop, length-drop, length-take}
 use lib.Seq.{getD-take, getD-drop, take-all}
+use Rattle.types.specs.Numbers.{no-program}
 use Rattle.meaning.specs.Meant.{then}
 use Rattle.derive.specs.Held.{held}
 use Rattle.resolve.specs.Tables.{places, offsets}
@@ -22,7 +23,6 @@ use Rattle.uses.specs.declared.Numbered.the-variants.{Count, Nothing}
 use Rattle.composing.specs.Placing.{placed-in}
 use Rattle.composing.specs.declared.Placed.{Placed}
 use Rattle.composing.specs.declared.Placed.the-variants.{At, Over}
-use Rattle.source.specs.Source.{no-program}
 use Rattle.read_text.specs.Ending.{Ending.stopped, ended, answer, left}
 use Rattle.read_text.specs.declared.Answer.{Answer}
 use Rattle.read_text.specs.Roled.{Roled, stream-of}

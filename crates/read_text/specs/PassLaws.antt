@@ -6,11 +6,13 @@ use mathlib.Core.List.{List, []}
 use lib.ListN.{length}
 use lib.Seq.{sets}
 use borrow.Author.Tests.{not-true, not-false}
+use Rattle.types.specs.Numbers.{no-token, no-derivation}
+use Rattle.types.specs.Stages.{Stage.stopped as refused}
 use Rattle.tokens.specs.Scanning.{lex}
 use Rattle.lexer.specs.Marking.{marks, parts, kinds-in}
 use Rattle.derive.specs.Shape.{Shape.shape, derived}
 use Rattle.derive.specs.RoleMarks.{role-codes, placed}
-use Rattle.source.specs.Source.{max-text, no-token, no-derivation, Outcome, Outcome.refused}
+use Rattle.source.specs.Source.{max-text, Outcome}
 use Rattle.source.specs.TextReader.{of-tokens, outcome, text-number, text-blocks, text-output}
 use Rattle.read_text.specs.Ending.{Ending, Ending.stopped, ended, answer, left, ending}
 use Rattle.read_text.specs.EndingLaws.{answered, output-left}

@@ -9,6 +9,8 @@ use lib.ListN.{length, drop, drop-of-length-le}
 use lib.Seq.{sets, sets-eq}
 use lib.Dec.{ltb}
 use borrow.Author.Tests.{lt-ltb, le-ltb}
+use Rattle.types.specs.Numbers.{no-token, no-derivation}
+use Rattle.types.specs.Stages.{Stage.stopped as refused}
 use Rattle.tokens.specs.Tokens.{Token}
 use Rattle.tokens.specs.Scanning.{lex}
 use Rattle.syntax.specs.Syntax.{Program as Derivation}
@@ -26,7 +28,7 @@ use Rattle.derive.specs.RoleMarkLaws.{text-roles}
 use Rattle.derive.specs.Roles.{code, roles}
 use Rattle.resolve.specs.Standing.{Stood}
 use Rattle.resolve.specs.StandingLaws.{derivation-stands}
-use Rattle.source.specs.Source.{max-text, no-token, no-derivation, Outcome, Outcome.refused}
+use Rattle.source.specs.Source.{max-text, Outcome}
 use Rattle.source.specs.TextReader.{of-program, of-derivation, of-tokens, of-length, outcome}
 use Rattle.read_text.specs.Roled.{Roled}
 

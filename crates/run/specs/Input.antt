@@ -5,14 +5,14 @@ use mathlib.Core.Path.{_≡_}
 use mathlib.Core.List.{List, [], _∷_, _++_}
 use lib.ListN.{length}
 use Rattle.types.specs.Limits.{table-blocks, max-commands, max-turns}
+use Rattle.types.specs.Orders.{Order}
 use Rattle.block.specs.Block.{block-size}
 use Rattle.blocks.specs.Images.{stream}
 use Rattle.program.specs.Tree.{Program}
-use Rattle.commands.specs.Numbers.{Order}
 use Rattle.verdict.specs.ProgramInput.{ImageRight, Reads, WrongLength, WrongBlock, ShortList, program-order, AcceptedImage}
 use Rattle.table.specs.Table.{Record, TableRight, enc-table}
 use Rattle.table.specs.TableFaults.{TableEnds, TableOffends}
-use Rattle.run.specs.Entry.{Begun, Begun.begun}
+use Rattle.run.specs.Entry.{Begun, begun}
 
 -- The conditions ---------------------------------------------------------------------
 
@@ -35,18 +35,17 @@ ManyTurns es = max-turns < length es
 -- Lowest number first. Within 11 and 12 the first place decides, as within 2 and 3 and within 4 and 5: at most one of the two holds, so that
 -- which of them stands before the other says nothing.
 
+-- of a table image, under the program of the image before it
+abbrev pub table-order : List ℕ → List ℕ → Order
+table-order x y = (9, WrongLength table-blocks y) ∷ (10, WrongBlock y) ∷ (11, TableWrongEnd x y) ∷ (12, TableWrongValue x y) ∷ []
+
+-- of turn bytes, output and list
+abbrev pub room-order : List ℕ → List ℕ → List ℕ → Order
+room-order es out list = (13, ShortOutput out) ∷ (13, ShortList list) ∷ (14, ManyTurns es) ∷ []
+
 -- of what a run is given: program image, table image, turn bytes, output and list
 abbrev pub run-order : List ℕ → List ℕ → List ℕ → List ℕ → List ℕ → Order
-run-order x y es out list =
-    program-order x
-    ++ (9, WrongLength table-blocks y)
-    ∷ (10, WrongBlock y)
-    ∷ (11, TableWrongEnd x y)
-    ∷ (12, TableWrongValue x y)
-    ∷ (13, ShortOutput out)
-    ∷ (13, ShortList list)
-    ∷ (14, ManyTurns es)
-    ∷ []
+run-order x y es out list = program-order x ++ table-order x y ++ room-order es out list
 
 -- What is accepted -----------------------------------------------------------------------
 

@@ -3,10 +3,11 @@ use Prim.Native.Nat.{ℕ}
 use mathlib.Core.Path.{_≡_, _∙_}
 use mathlib.Core.List.{List}
 use lib.ListN.{take}
+use Rattle.types.specs.Stages.{Stage.went as accepted}
 use Rattle.block.specs.Put.{put}
 use Rattle.block.specs.PutLaws.{put-front}
 use Rattle.blocks.specs.Images.{stream}
-use Rattle.verdict.specs.Verdict.{Checked.accepted, checked}
+use Rattle.verdict.specs.Verdict.{checked}
 use Rattle.load.specs.declared.Loaded.{Loaded}
 use Rattle.load.specs.Load.{Held}
 use Rattle.load.specs.LoadLaws.{LoadedAs, front-is}

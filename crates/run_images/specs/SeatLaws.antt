@@ -5,14 +5,15 @@ use mathlib.Core.Path.{_≡_, refl, ap, sym, _∙_}
 use mathlib.Core.List.{List, []}
 use lib.ListN.{length}
 use Rattle.types.specs.Limits.{max-instances}
+use Rattle.types.specs.Stages.{Stage.went as table, Stage.stopped as no-table, Stage.went as accepted}
 use Rattle.program.specs.Tree.{Program}
 use Rattle.program.specs.Counts.{Counts}
 use Rattle.program.specs.Laws.ProgramLaws.{program-law}
 use Rattle.judge.specs.ProgramFacts.{types-table}
 use Rattle.table.specs.Table.{Record}
-use Rattle.table.specs.TableReader.{TableAnswer, TableAnswer.table, TableAnswer.no-table}
+use Rattle.table.specs.TableReader.{TableAnswer}
 use Rattle.commands.specs.Bounds.{arities}
-use Rattle.verdict.specs.Verdict.{Checked, Checked.accepted, listed}
+use Rattle.verdict.specs.Verdict.{Checked, listed}
 use Rattle.machine.specs.Published.{structs}
 use Rattle.run.specs.Begin.{begin}
 use Rattle.run.specs.Laws.BeginLaws.{begin-idle, begin-from}

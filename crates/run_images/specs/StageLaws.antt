@@ -6,10 +6,11 @@ use lib.ListN.{length}
 use borrow.Author.Tests.{lt-ltb, le-ltb}
 use Rattle.types.specs.Limits.{table-blocks, max-commands, max-turns}
 use Rattle.types.specs.Numbers.{no-room, many-turns}
+use Rattle.types.specs.Stages.{Stage.stopped as refused}
 use Rattle.block.specs.Block.{block-size}
 use Rattle.program.specs.Tree.{Program}
 use Rattle.table.specs.Table.{Record}
-use Rattle.verdict.specs.Verdict.{Checked, Checked.refused, checked, listed}
+use Rattle.verdict.specs.Verdict.{Checked, checked, listed}
 use Rattle.run.specs.Begin.{begin}
 use Rattle.run.specs.Entry.{Begun, Begun.begun, Begun.not-begun, with-room, of-checked, begins, report, run-report-by, run-output-by, run-list-by}
 use Rattle.run.specs.Entry.{run-report, run-output, run-list}

@@ -7,10 +7,11 @@ use mathlib.Core.List.{List}
 use lib.ListN.{length, take}
 use lib.Dec.{ltb}
 use Rattle.types.specs.Limits.{max-structs, max-params, table-blocks, max-commands, max-turns, schedule-items}
+use Rattle.types.specs.Stages.{Stage.went as accepted}
 use Rattle.block.specs.Block.{block-size}
 use Rattle.program.specs.Tree.{Program}
 use Rattle.commands.specs.Bounds.{program-depth}
-use Rattle.verdict.specs.Verdict.{Checked.accepted, listed}
+use Rattle.verdict.specs.Verdict.{listed}
 use Rattle.judge.specs.ProgramFacts.{types-table}
 use Rattle.machine.specs.Published.{of-items}
 use Rattle.machine.specs.Machine.{Machine}

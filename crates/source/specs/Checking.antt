@@ -5,11 +5,12 @@ use mathlib.Core.Path.{_≡_}
 use mathlib.Core.Logic.{_⊎_}
 use mathlib.Core.List.{List, _++_}
 use lib.ListN.{take}
+use Rattle.types.specs.Orders.{Order}
+use Rattle.types.specs.Stages.{Stage.went as written, Stage.stopped as refused}
 use Rattle.block.specs.Block.{block-size}
-use Rattle.commands.specs.Numbers.{Order}
 use Rattle.verdict.specs.Verdict.{Verdict, refusal, check-verdict}
 use Rattle.verdict.specs.ProgramInput.{check-order}
-use Rattle.source.specs.Source.{Outcome, Outcome.written, Outcome.refused, text-order}
+use Rattle.source.specs.Source.{Outcome, text-order}
 use Rattle.source.specs.TextReader.{outcome, text-blocks, text-output}
 
 -- the blocks written, none after a refusal

@@ -13,6 +13,9 @@ use borrow.Author.Tests.{le-ltb}
 use Rattle.types.specs.Limits.{program-blocks, max-commands}
 use Rattle.types.specs.Numbers.{no-room}
 use Rattle.types.specs.Reflects.{Reflects, Reflects.holds, Reflects.fails, lt-reflects}
+use Rattle.types.specs.Orders.{NoneOf, Foremost}
+use Rattle.types.specs.OrderLaws.{after-first, foremost-unique, foremost-some, foremost-front, none-joined}
+use Rattle.types.specs.Stages.{Stage.went as accepted, Stage.stopped as checked-refused, Stage.went as written, Stage.stopped as refused}
 use Rattle.block.specs.Block.{block-size}
 use Rattle.blocks.specs.declared.Written.the-variants.{Blocks}
 use Rattle.blocks.specs.Images.{image, pieces, write, written-into}
@@ -25,19 +28,18 @@ use Rattle.program.specs.Laws.StandsLaws.{stands-self}
 use Rattle.commands.specs.Decide.BoundsDecide.{within}
 use Rattle.commands.specs.Decide.NamesDecide.{names-right}
 use Rattle.commands.specs.Decide.TypingDecide.{types-right}
-use Rattle.commands.specs.Numbers.{NoneOf, Foremost, over-limits, wrong-names, wrong-types, first, breach-tests, breach-number}
+use Rattle.commands.specs.Numbers.{over-limits, wrong-names, wrong-types, first, breach-tests, breach-number}
 use Rattle.commands.specs.Bounds.{Within}
 use Rattle.commands.specs.Names.{NamesRight}
-use Rattle.commands.specs.Laws.NumbersLaws.{behind-first, foremost-unique, foremost-some, number-names}
-use Rattle.verdict.specs.Verdict.{Checked, Checked.accepted, Checked.refused as checked-refused, judge, of-read, checked}
+use Rattle.commands.specs.Laws.NumbersLaws.{number-names}
+use Rattle.verdict.specs.Verdict.{Checked, judge, of-read, checked}
 use Rattle.verdict.specs.Verdict.{Verdict, refusal, approval, verdict-of, check-verdict}
 use Rattle.verdict.specs.VerdictLaws.{checked-image}
 use Rattle.verdict.specs.ProgramInput.{ShortList, program-order, check-order}
-use Rattle.verdict.specs.InputOrder.{foremost-front, none-behind}
 use Rattle.verdict.specs.ProgramInputLaws.{checked-accepted, accepted-none, verdict-number}
 use Rattle.meaning.specs.Holds.{max-stream, Holds}
 use Rattle.meaning.specs.Nesting.{Shallow}
-use Rattle.source.specs.Source.{Outcome, Outcome.written, Outcome.refused, number-of, blocks-of, output-of, text-order}
+use Rattle.source.specs.Source.{Outcome, number-of, blocks-of, output-of, text-order}
 use Rattle.source.specs.TextReader.{outcome, text-number, text-blocks, text-output}
 use Rattle.source.specs.SourceLaws.{text-refused-exactly, text-written, written-held, written-read}
 use Rattle.source.specs.Stepping.{StepsRight}
@@ -190,7 +192,7 @@ module _ (x out list : List ℕ) where
 
   -- the foremost of checking is the foremost of both, where none of reading holds
   behind-reading : {n : ℕ} → NoneOf (text-order x out) → Foremost (check-order y list) n → Foremost (both-order x out list) n
-  behind-reading f q = behind-first (f .0) (behind-first (f .1 .0) (behind-first (f .1 .1 .0) (behind-first (f .1 .1 .1 .0) q)))
+  behind-reading f q = after-first (f .0) (after-first (f .1 .0) (after-first (f .1 .1 .0) (after-first (f .1 .1 .1 .0) q)))
 
   -- a verdict on what was written is a refusal, or no condition of checking holds
   refuses-or-none : ((n : ℕ) × (check-verdict y list ≡ refusal n)) ⊎ NoneOf (check-order y list)
@@ -200,7 +202,7 @@ module _ (x out list : List ℕ) where
       room : (p : Program) → checked y ≡ accepted p → {t : Bool} → Reflects (ShortList list) t
           → ((n : ℕ) × ((elim t [ true ↦ refusal no-room | false ↦ approval p ]) ≡ refusal n)) ⊎ NoneOf (check-order y list)
       room p e (holds h) = inl (no-room, refl)
-      room p e (fails f) = inr (none-behind (program-order y) ((13, ShortList list) ∷ []) (accepted-none y (checked-accepted y p .0 e)) (f, tt))
+      room p e (fails f) = inr (none-joined (program-order y) ((13, ShortList list) ∷ []) (accepted-none y (checked-accepted y p .0 e)) (f, tt))
 
       go : (c : Checked) → checked y ≡ c → ((n : ℕ) × (verdict-of c list ≡ refusal n)) ⊎ NoneOf (check-order y list)
       go (checked-refused n) e = inl (n, refl)
@@ -220,7 +222,7 @@ module _ (x out list : List ℕ) where
       next : NoneOf (text-order x out) → ((m : ℕ) × (check-verdict y list ≡ refusal m)) ⊎ NoneOf (check-order y list)
           → Foremost (both-order x out list) n → check-verdict y list ≡ refusal n
       next f (inl q) h = q .1 ∙ ap refusal (foremost-unique (behind-reading f (verdict-number y list (q .0) .0 (q .1))) h)
-      next f (inr g) h = absurd (foremost-some h (none-behind (text-order x out) (check-order y list) f g))
+      next f (inr g) h = absurd (foremost-some h (none-joined (text-order x out) (check-order y list) f g))
 
       back : (o : Outcome) → outcome x out ≡ o → Foremost (both-order x out list) n → checked-next o y list ≡ refusal n
       back (refused m) q h = ap refusal (foremost-unique (foremost-front (check-order y list) (text-refused-exactly x out m .0 q)) h)

@@ -8,6 +8,8 @@ use lib.Dec.{ltb}
 use borrow.Author.Tests.{le-ltb}
 use Rattle.types.specs.Limits.{program-blocks}
 use Rattle.types.specs.Types.{Ty.int, Ty.ref, code}
+use Rattle.types.specs.Numbers.{no-derivation}
+use Rattle.types.specs.Stages.{Stage.went as written, Stage.stopped as refused}
 use Rattle.block.specs.Block.{block-size}
 use Rattle.program.specs.Tree.{Var.par as parameter, Op.op-add, Expr.path, Expr.op, Stmt.update, Stmts.end, Stmts.next, Item.call, Items.stop}
 use Rattle.program.specs.Tree.{Items.item, Program, size, items}
@@ -17,7 +19,6 @@ use Rattle.tokens.specs.Scanning.{lex}
 use Rattle.tokens.specs.Rows.{text-P, P-lexed}
 use Rattle.syntax.specs.Reading.{run, ended, read}
 use Rattle.syntax.specs.Rows.{P-derived}
-use Rattle.source.specs.Source.{no-derivation, Outcome.written, Outcome.refused}
 use Rattle.source.specs.TextReader.{of-room, of-held, of-program, of-derivation, of-tokens, of-length, outcome}
 use Rattle.program.specs.Unfold.{encodings}
 use Rattle.tokens.specs.Unfold.{scanning}

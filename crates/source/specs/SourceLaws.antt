@@ -10,14 +10,15 @@ use lib.ListN.{length}
 use lib.Dec.{ltb}
 use borrow.Author.Tests.{ltb-true, ltb-false, le-ltb}
 use Rattle.types.specs.Limits.{program-blocks}
-use Rattle.types.specs.Numbers.{no-room}
+use Rattle.types.specs.Numbers.{no-room, no-derivation, no-program}
+use Rattle.types.specs.Orders.{Order, NoneOf, Foremost}
+use Rattle.types.specs.OrderLaws.{at-first, after-first, foremost-unique, foremost-some}
+use Rattle.types.specs.Stages.{Stage.went as written, Stage.stopped as refused}
 use Rattle.block.specs.Block.{block-size}
 use Rattle.program.specs.Tree.{Program}
 use Rattle.program.specs.Encoding.{enc-program}
 use Rattle.program.specs.Reader.{Result.ok, read as read-stream}
 use Rattle.program.specs.Laws.ProgramLaws.{program-law}
-use Rattle.commands.specs.Numbers.{Order, NoneOf, Foremost}
-use Rattle.commands.specs.Laws.NumbersLaws.{at-first, behind-first, foremost-unique, foremost-some}
 use Rattle.tokens.specs.Tokens.{Token}
 use Rattle.tokens.specs.Lexing.{Lexed}
 use Rattle.tokens.specs.Scanning.{lex}
@@ -34,8 +35,8 @@ use Rattle.meaning.specs.Holds.{Holds}
 use Rattle.meaning.specs.Nesting.{Shallow}
 use Rattle.meaning.specs.NestingLaws.{counts-split}
 use Rattle.meaning.specs.HoldsDecide.{holds, decides-holds}
-use Rattle.source.specs.Source.{max-text, no-derivation, no-program, Derived, Reading, NoTokens, NoDerivation, NoProgram, ShortOutput, text-order}
-use Rattle.source.specs.Source.{Outcome, Outcome.written, Outcome.refused, number-of, blocks-of, output-of}
+use Rattle.source.specs.Source.{max-text, Derived, Reading, NoTokens, NoDerivation, NoProgram, ShortOutput, text-order}
+use Rattle.source.specs.Source.{Outcome, number-of, blocks-of, output-of}
 use Rattle.source.specs.TextReader.{of-room, of-held, of-program, of-derivation, of-tokens, of-length, outcome, text-number}
 use Rattle.source.specs.TextReader.{text-blocks, text-output}
 
@@ -59,7 +60,7 @@ here : {x : List ℕ} {n : ℕ} {C : Type 0} {l : Order} → C → Tells x ((n, 
 here c = refuses (at-first c)
 
 past : {x : List ℕ} {r : ℕ × Type 0} {l : Order} {o : Outcome} → (r .1 → ⊥) → Tells x l o → Tells x (r ∷ l) o
-past f (refuses q) = refuses (behind-first f q)
+past f (refuses q) = refuses (after-first f q)
 past f (writes q r h) = writes (f, q) r h
 
 module _ (x out : List ℕ) where
@@ -201,4 +202,4 @@ module _ (x out : List ℕ) where
     where
       forth : ((c : Derivation) × Derived x c) ⊎ NoDerivation x → (outcome x out ≡ refused no-derivation → ⊥) → (c : Derivation) × Derived x c
       forth (inl q) g = q
-      forth (inr n) g = absurd (g (text-refused-exactly no-derivation .1 (behind-first f (at-first n))))
+      forth (inr n) g = absurd (g (text-refused-exactly no-derivation .1 (after-first f (at-first n))))

@@ -2,8 +2,9 @@
 use Prim.Native.Nat.{ℕ}
 use mathlib.Core.List.{List}
 use mathlib.Core.Option.{Option, none, some}
+use Rattle.types.specs.Stages.{Stage.went as written, Stage.stopped as refused}
 use Rattle.program.specs.Encoding.{enc-program}
-use Rattle.source.specs.Source.{Outcome, Outcome.written, Outcome.refused}
+use Rattle.source.specs.Source.{Outcome}
 
 unfoldable pub streamed : Outcome → Option (List ℕ)
 streamed (written p) = some (enc-program p)

@@ -6,7 +6,8 @@ use mathlib.Core.Option.{Option, none, some}
 use lib.ListN.{length}
 use lib.Dec.{ltb}
 use Rattle.types.specs.Limits.{program-blocks}
-use Rattle.types.specs.Numbers.{no-room}
+use Rattle.types.specs.Numbers.{no-room, no-token, no-derivation, no-program}
+use Rattle.types.specs.Stages.{Stage.went as written, Stage.stopped as refused}
 use Rattle.block.specs.Block.{block-size}
 use Rattle.program.specs.Tree.{Program}
 use Rattle.tokens.specs.Tokens.{Token}
@@ -15,7 +16,7 @@ use Rattle.syntax.specs.Syntax.{Program as Derivation}
 use Rattle.syntax.specs.Reading.{read}
 use Rattle.meaning.specs.Meant.{meant}
 use Rattle.meaning.specs.HoldsDecide.{holds}
-use Rattle.source.specs.Source.{max-text, no-token, no-derivation, no-program, Outcome, Outcome.written, Outcome.refused, number-of, blocks-of, output-of}
+use Rattle.source.specs.Source.{max-text, Outcome, number-of, blocks-of, output-of}
 
 -- with room for the output, or without
 unfoldable pub of-room : Bool → Program → Outcome

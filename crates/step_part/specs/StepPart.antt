@@ -8,10 +8,11 @@ use lib.ListN.{length, take, drop}
 use lib.Dec.{ltb}
 use Rattle.types.specs.Limits.{max-commands}
 use Rattle.types.specs.Numbers.{no-room}
+use Rattle.types.specs.Stages.{Stage.went as accepted, Stage.stopped as refused}
 use Rattle.program.specs.Tree.{Program}
 use Rattle.directory.specs.declared.Row.{Row}
 use Rattle.directory.specs.Directory.{directory, find-row}
-use Rattle.verdict.specs.Verdict.{Checked, Checked.accepted, Checked.refused, checked}
+use Rattle.verdict.specs.Verdict.{Checked, checked}
 use Rattle.step_part.specs.declared.Spot.{Spot}
 
 -- no place, with a number

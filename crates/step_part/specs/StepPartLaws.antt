@@ -10,15 +10,17 @@ use lib.Dec.{ltb}
 use borrow.Author.Tests.{lt-ltb, le-ltb, ltb-true, ltb-false}
 use Rattle.types.specs.Limits.{max-commands}
 use Rattle.types.specs.Numbers.{no-room}
+use Rattle.types.specs.Orders.{Numbered}
+use Rattle.types.specs.OrderLaws.{foremost-numbered}
+use Rattle.types.specs.Stages.{Stage.went as accepted, Stage.stopped as refused}
 use Rattle.program.specs.Tree.{Program}
 use Rattle.commands.specs.Bounds.{Within}
 use Rattle.directory.specs.declared.Row.{Row}
 use Rattle.directory.specs.Directory.{directory, find-row}
 use Rattle.directory.specs.DirectoryLaws.{directory-inside}
 use Rattle.directory.specs.FindLaws.{IfFound, find-all}
-use Rattle.verdict.specs.Verdict.{Checked, Checked.accepted, Checked.refused, checked, verdict-of, check-verdict}
+use Rattle.verdict.specs.Verdict.{Checked, checked, verdict-of, check-verdict}
 use Rattle.verdict.specs.ProgramInput.{program-order}
-use Rattle.verdict.specs.InputOrder.{Numbered, foremost-numbered}
 use Rattle.verdict.specs.ProgramInputLaws.{checked-number, checked-accepted}
 use Rattle.step_part.specs.declared.Spot.{Spot}
 use Rattle.step_part.specs.StepPart.{nowhere, spot-of, spot-by, place-by, step-place, step-part}

@@ -8,6 +8,7 @@ use mathlib.Core.List.{List, [], _∷_, _++_}
 use lib.ListN.{length, take, drop, length-append, length-drop}
 use Rattle.types.specs.Limits.{max-commands}
 use Rattle.types.specs.Numbers.{no-room}
+use Rattle.types.specs.Stages.{Stage.went as accepted, Stage.stopped as refused}
 use Rattle.blocks.specs.Images.{image}
 use Rattle.program.specs.Tree.{Stmts, Program}
 use Rattle.program.specs.Reader.{read}
@@ -19,7 +20,7 @@ use Rattle.directory.specs.declared.Row.{Row}
 use Rattle.directory.specs.Directory.{steps-rows, structs-rows, directory, is-row, find-row}
 use Rattle.directory.specs.Held.{Marks}
 use Rattle.directory.specs.FindLaws.{directory-marks}
-use Rattle.verdict.specs.Verdict.{Checked, Checked.accepted, Checked.refused, of-read, checked, listed, check-list}
+use Rattle.verdict.specs.Verdict.{Checked, of-read, checked, listed, check-list}
 use Rattle.verdict.specs.VerdictLaws.{checked-image}
 use Rattle.verdict.specs.ProgramInputLaws.{checked-accepted, check-approved}
 use Rattle.verdict.specs.Rows.{P, listed-P, checking}

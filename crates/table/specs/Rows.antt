@@ -9,10 +9,11 @@ use lib.IntN.{pos, negsuc}
 use Rattle.types.specs.TypeBytes.{word-end}
 use Rattle.types.specs.Types.{Ty, Ty.int, Ty.nat, Ty.bool, Ty.ref}
 use Rattle.types.specs.Values.{Val, Val.int-val, Val.nat-val, Val.bool-val, Val.label, word-int, value-of}
+use Rattle.types.specs.Stages.{Stage.went as table, Stage.stopped as no-table}
 use Rattle.program.specs.Reader.{byte, read-word}
 use Rattle.table.specs.Table.{Record, struct-at}
 use Rattle.table.specs.TableReader.{read-value, read-values, read-record, read-count, read-table, is-struct, refers, refers-each, references}
-use Rattle.table.specs.TableReader.{TableAnswer, TableAnswer.table, TableAnswer.no-table, table-number, table-answer, table-of-stream}
+use Rattle.table.specs.TableReader.{TableAnswer, table-number, table-answer, table-of-stream}
 use Rattle.program.specs.Unfold.{joining}
 
 -- the parameter types of each struct, a stream, and what it comes to

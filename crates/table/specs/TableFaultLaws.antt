@@ -10,6 +10,7 @@ use mathlib.Core.List.{List, _∷_, _++_, append-assoc}
 use lib.ListN.{length, getD, drop}
 use lib.Seq.{drop-cons}
 use Rattle.types.specs.Types.{Ty}
+use Rattle.types.specs.Stages.{Stage.stopped as no-table}
 use Rattle.program.specs.Encoding.{enc-word}
 use Rattle.program.specs.Reader.{Result, Result.ok, Result.bad, wrong-end, wrong-byte, then, whole}
 use Rattle.program.specs.Exact.{Stands}
@@ -18,7 +19,7 @@ use Rattle.program.specs.Laws.StreamLaws.{exact-at}
 use Rattle.table.specs.Table.{Record, enc-table, HeldTable, TableRight}
 use Rattle.table.specs.TableFaults.{field-bytes, TableEnds, TableEnds.ends-early, TableEnds.goes-on, TableOffends, TableOffends.not-allowed}
 use Rattle.table.specs.TableFaults.{TableOffends.no-byte, TableOffends.wrong-reference}
-use Rattle.table.specs.TableReader.{read-table, references, TableAnswer.no-table, table-end, table-value, table-number, table-of-stream}
+use Rattle.table.specs.TableReader.{read-table, references, table-end, table-value, table-number, table-of-stream}
 use Rattle.table.specs.FieldLaws.{NumberFault.cut, NumberFault.strange, NumberFault.unfit}
 use Rattle.table.specs.RefusingLaws.{blames-is}
 use Rattle.table.specs.TableExact.{table-exact}

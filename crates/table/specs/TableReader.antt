@@ -7,6 +7,7 @@ use lib.ListN.{length, getD}
 use lib.Dec.{ltb, leb, eqb}
 use Rattle.types.specs.Limits.{max-instances}
 pub use Rattle.types.specs.Numbers.{table-end, table-value}
+use Rattle.types.specs.Stages.{Stage, Stage.went as table, Stage.stopped as no-table}
 use Rattle.types.specs.Types.{Ty, Ty.int, Ty.nat, Ty.bool, Ty.ref}
 use Rattle.types.specs.TypeBytes.{word-end}
 use Rattle.types.specs.Values.{Val, Val.int-val, Val.nat-val, Val.bool-val, Val.label, value-of}
@@ -68,9 +69,8 @@ references pss rs (q ∷ qs) = refers-each pss rs (getD pss (q .struct) []) (q .
 
 -- What a table stream comes to: the table, or 11 or 12 ----------------------------------
 
-pub data TableAnswer : Type 0 where
-  table : List Record → TableAnswer
-  no-table : ℕ → TableAnswer
+abbrev pub TableAnswer : Type 0
+TableAnswer = Stage (List Record)
 
 unfoldable pub table-number : ℕ → ℕ
 table-number n = elim (eqb n wrong-end) [ true ↦ table-end | false ↦ table-value ]

@@ -6,13 +6,13 @@ use mathlib.Core.Path.{_≡_, refl, ap, _∙_}
 use mathlib.Core.List.{List, map}
 use lib.ListN.{length, length-map}
 use Rattle.types.specs.Limits.{max-instances, table-blocks}
+use Rattle.types.specs.Stages.{Stage.went as table}
 use Rattle.blocks.specs.Images.{fault, stream}
 use Rattle.block.specs.declared.Found.{Found}
 use Rattle.block.specs.declared.Found.the-variants.{Right, Wrong}
 use Rattle.program.specs.Tree.{Program}
 use Rattle.program.specs.Counts.{Counts}
 use Rattle.table.specs.Table.{Record, HeldTable, TableRight}
-use Rattle.table.specs.TableReader.{TableAnswer.table}
 use Rattle.table.specs.TableLaws.{table-answer-exact}
 use Rattle.judge.specs.ProgramFacts.{types-table}
 use Rattle.machine.specs.Published.{Sched, of-items, structs}

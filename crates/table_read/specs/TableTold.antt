@@ -5,12 +5,13 @@ use mathlib.Core.List.{List, [], _∷_}
 use lib.ListN.{length}
 use Rattle.types.specs.Limits.{table-blocks}
 use Rattle.types.specs.Types.{Ty}
+use Rattle.types.specs.Stages.{Stage.went as table, Stage.stopped as no-table}
 use Rattle.blocks.specs.Images.{fault, stream, table-number}
 use Rattle.block.specs.declared.Found.{Found}
 use Rattle.block.specs.declared.Found.the-variants.{Right, Wrong}
 use Rattle.program.specs.Reader.{then, many, ended}
 use Rattle.table.specs.Table.{count-bytes}
-use Rattle.table.specs.TableReader.{read-record, TableAnswer, TableAnswer.table, TableAnswer.no-table, table-answer, table-of-stream}
+use Rattle.table.specs.TableReader.{read-record, TableAnswer, table-answer, table-of-stream}
 use Rattle.table_read.specs.declared.TableRead.{TableRead}
 use Rattle.table_read.specs.declared.TableRead.the-variants.{Instances, Refused}
 use Rattle.table_read.specs.Params.{lists-of}

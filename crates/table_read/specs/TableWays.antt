@@ -10,6 +10,7 @@ use borrow.Author.Tests.{lt-ltb, le-ltb, le-leb, lt-leb}
 use Rattle.types.specs.Limits.{max-instances, max-params, table-blocks}
 use Rattle.types.specs.Numbers.{table-end, table-value}
 use Rattle.types.specs.Types.{Ty}
+use Rattle.types.specs.Stages.{Stage.went as table, Stage.stopped as no-table}
 use Rattle.blocks.specs.Images.{fault, stream, table-number as block-number}
 use Rattle.block.specs.declared.Fault.{Fault}
 use Rattle.block.specs.declared.Found.the-variants.{Right, Wrong}
@@ -18,7 +19,7 @@ use Rattle.program.specs.Reader.{Result, Result.ok, Result.bad, then, many, gua
 use Rattle.program.specs.Laws.PartLaws.{told-is}
 use Rattle.program.specs.Laws.JoinLaws.{row-exact, flat-row}
 use Rattle.table.specs.Table.{Record, count-bytes, enc-record, HeldRecord}
-use Rattle.table.specs.TableReader.{read-record, read-count, read-table, references, TableAnswer.table, TableAnswer.no-table, table-number}
+use Rattle.table.specs.TableReader.{read-record, read-count, read-table, references, table-number}
 use Rattle.table.specs.TableReader.{table-answer, table-of-stream}
 use Rattle.table.specs.TableExact.{record-exact}
 use Rattle.layout.specs.Layout.{head-size, row-size}

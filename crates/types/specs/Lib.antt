@@ -9,3 +9,7 @@ pub mod Values
 pub mod ValueLaws
 pub mod Constants
 pub mod SetsLaws
+pub mod Orders
+pub mod OrderLaws
+pub mod Stages
+pub mod StageLaws

@@ -1,4 +1,4 @@
--- The numbers that 01 gives a refused input and a run that stops, each once and under a name, in the order of its sections.
+-- The numbers that 01 and 02 give a refused input and a run that stops, each once and under a name: those of 01's input, of 02's, of the state.
 use Prim.Native.Nat.{ℕ}
 
 -- 01, 'Numbers from the input' -------------------------------------------------
@@ -49,6 +49,44 @@ no-room = 13
 
 abbrev pub many-turns : ℕ
 many-turns = 14
+
+-- 02 ---------------------------------------------------------------------------
+
+-- of program text (§1): it does not part into tokens; the grammar derives none of it; it means no program that a stream holds
+abbrev pub no-token : ℕ
+no-token = 15
+
+abbrev pub no-derivation : ℕ
+no-derivation = 16
+
+abbrev pub no-program : ℕ
+no-program = 17
+
+-- of a paused image (§7): its blocks or stream; a state not allowed
+abbrev pub paused-stream : ℕ
+paused-stream = 18
+
+abbrev pub paused-state : ℕ
+paused-state = 19
+
+-- of a program (§10): an iterator names a step with a construct statement
+abbrev pub iterator-constructs : ℕ
+iterator-constructs = 20
+
+-- of what a role asks for (§12): a rights table that is none, or a role, label or parameter that is not there; a right that it lacks
+abbrev pub absent : ℕ
+absent = 21
+
+abbrev pub no-right : ℕ
+no-right = 22
+
+-- of columns (§13): their blocks or stream
+abbrev pub wrong-columns : ℕ
+wrong-columns = 23
+
+-- of what is counted (§14): over 12 commands of the step
+abbrev pub many-commands : ℕ
+many-commands = 24
 
 -- 01, 'Numbers from the state' -------------------------------------------------
 

@@ -1,4 +1,4 @@
-// The numbers that 01 gives a refused input and a run that stops.
+// The numbers that 01 and 02 give a refused input and a run that stops.
 ghost use mathlib.Core.Path.{_≡_};
 ghost use Rattle.types.specs.Constants.{numbers};
 
@@ -33,6 +33,31 @@ pub const NO_ROOM: u8 = 13;
 
 pub const MANY_TURNS: u8 = 14;
 
+// 02: of program text
+pub const NO_TOKEN: u8 = 15;
+
+pub const NO_DERIVATION: u8 = 16;
+
+pub const NO_PROGRAM: u8 = 17;
+
+// of a paused image, of the state in it
+pub const PAUSED_STREAM: u8 = 18;
+
+pub const PAUSED_STATE: u8 = 19;
+
+// of a program with an iterator
+pub const ITERATOR_CONSTRUCTS: u8 = 20;
+
+// of what a role asks for
+pub const ABSENT: u8 = 21;
+
+pub const NO_RIGHT: u8 = 22;
+
+// of columns, of what is counted
+pub const WRONG_COLUMNS: u8 = 23;
+
+pub const MANY_COMMANDS: u8 = 24;
+
 // 01, 'Numbers from the state'
 pub const OUT_OF_TURNS: u8 = 33;
 
@@ -41,7 +66,7 @@ pub const FULL: u8 = 34;
 pub const EXCEEDED: u8 = 35;
 
 // Every number, in order, so that a contract can tie each constant to its definition.
-pub fn all_numbers() -> [u8; 17]
+pub fn all_numbers() -> [u8; 27]
     ensures { λ r. ⌜ r ≡ numbers ⌝ }
 {
     [
@@ -59,6 +84,16 @@ pub fn all_numbers() -> [u8; 17]
         TABLE_VALUE,
         NO_ROOM,
         MANY_TURNS,
+        NO_TOKEN,
+        NO_DERIVATION,
+        NO_PROGRAM,
+        PAUSED_STREAM,
+        PAUSED_STATE,
+        ITERATOR_CONSTRUCTS,
+        ABSENT,
+        NO_RIGHT,
+        WRONG_COLUMNS,
+        MANY_COMMANDS,
         OUT_OF_TURNS,
         FULL,
         EXCEEDED,

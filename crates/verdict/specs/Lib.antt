@@ -2,6 +2,5 @@ pub mod Verdict
 pub mod VerdictLaws
 pub mod ListLaws
 pub mod ProgramInput
-pub mod InputOrder
 pub mod ProgramInputLaws
 pub mod Rows

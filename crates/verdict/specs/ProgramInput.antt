@@ -5,6 +5,7 @@ use mathlib.Core.Path.{_≡_}
 use mathlib.Core.List.{List, [], _∷_, _++_}
 use lib.ListN.{length}
 use Rattle.types.specs.Limits.{program-blocks, max-commands}
+use Rattle.types.specs.Orders.{Order}
 use Rattle.block.specs.declared.Fault.{Fault}
 use Rattle.block.specs.declared.Fault.the-variants.{Sum, Layout}
 use Rattle.blocks.specs.Images.{LengthRight, count, stream}
@@ -17,7 +18,6 @@ use Rattle.commands.specs.Bounds.{Within}
 use Rattle.commands.specs.Names.{NamesRight}
 use Rattle.commands.specs.Typing.{TypesRight}
 use Rattle.commands.specs.Accepted.{Accepted}
-use Rattle.commands.specs.Numbers.{Order}
 use Rattle.verdict.specs.Verdict.{Verdict, approval}
 
 -- an image of at most max blocks, its length and every block right

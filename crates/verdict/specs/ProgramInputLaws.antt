@@ -2,9 +2,9 @@
 -- that number's condition is foremost, and accepted exactly where it meets 01's conditions.
 use Prim.Native.Nat.{ℕ, _≤_}
 use native.Mathlib.Omega.{arith}
-use mathlib.Core.Path.{_≡_, refl, sym, ap, subst, _∙_}
+use mathlib.Core.Path.{_≡_, refl, sym, ap, _∙_}
 use mathlib.Core.Logic.{_↔_}
-use mathlib.Core.Bool.{Bool, true, false}
+use mathlib.Core.Bool.{Bool}
 use mathlib.Core.List.{List, [], _∷_}
 use lib.ListN.{length}
 use borrow.Author.Tests.{le-ltb}
@@ -30,14 +30,17 @@ use Rattle.commands.specs.Typing.{TypesRight}
 use Rattle.commands.specs.Decide.BoundsDecideLaws.{within-reflects}
 use Rattle.commands.specs.Decide.NamesDecideLaws.{names-reflects}
 use Rattle.commands.specs.Decide.TypingDecideLaws.{types-reflects}
-use Rattle.commands.specs.Numbers.{Order, NoneOf, Foremost, breach-number}
-use Rattle.commands.specs.Laws.NumbersLaws.{number-accepted, number-limits, number-names, number-types, foremost-some}
-use Rattle.verdict.specs.Verdict.{Checked, Checked.accepted, Checked.refused, judge, of-read, of-image, checked, Verdict, refusal, approval}
-use Rattle.verdict.specs.Verdict.{verdict-of, check-verdict, list-of, listed, check-list}
+use Rattle.commands.specs.Numbers.{breach-number}
+use Rattle.commands.specs.Laws.NumbersLaws.{number-accepted, number-limits, number-names, number-types}
+use Rattle.verdict.specs.Verdict.{Checked, judge, of-read, of-image, checked, Verdict, refusal, approval}
+use Rattle.verdict.specs.Verdict.{checks, verdict-of, check-verdict, list-of, listed, check-list}
 use Rattle.types.specs.Numbers.{no-room}
+use Rattle.types.specs.Orders.{Order, NoneOf, Foremost, Tells, Tells.passes}
+use Rattle.types.specs.OrderLaws.{here, past, tells-number, tells-none}
+use Rattle.types.specs.Stages.{Stage.went as accepted, Stage.stopped as refused, on, asked, Stages}
+use Rattle.types.specs.StageLaws.{stage-asked, stage-on, stage-number, stage-went, stage-answer, stage-refused}
 use Rattle.verdict.specs.ProgramInput.{ImageRight, Reads, AcceptedImage, reads-of, Approved, WrongEnd, WrongByte, OverLimits, WrongNames}
-use Rattle.verdict.specs.ProgramInput.{WrongTypes, ShortList, program-order, check-order}
-use Rattle.verdict.specs.InputOrder.{none-behind, foremost-front, Tells, Tells.refuses, Tells.passes, here, past, past-all, tells-number, tells-none}
+use Rattle.verdict.specs.ProgramInput.{WrongTypes, program-order, check-order}
 
 -- one program is read from an image
 pub one-program : {x : List ℕ} {p q : Program} → Reads x p → Reads x q → p ≡ q
@@ -57,12 +60,8 @@ no-fault x f a b =
     let z : _≡_ {A = ℕ} 0 1 = cc in omega arith
 
 module _ (x : List ℕ) where
-  -- the program of an answer, accepted
-  abbrev pub Passed : Checked → Type 0
-  Passed c = (p : Program) × (c ≡ accepted p) × (AcceptedImage x p)
-
   abbrev Tell : Order → Checked → Type 1
-  Tell = Tells refused Passed
+  Tell = Stages (AcceptedImage x)
 
   -- 6, 7 and 8
   no-6 : {p : Program} → Reads x p → Within p → OverLimits x → ⊥
@@ -135,15 +134,9 @@ module _ (x : List ℕ) where
           (past (no-fault x Layout (s .1))
           (tell-read (record { length-right = s .0; blocks-right = s .1 }))))
 
-  refused-same : (n m : ℕ) → refused n ≡ refused m → n ≡ m
-  refused-same n m e = cc
-
-  refused-apart : (n : ℕ) → Passed (refused n) → ⊥
-  refused-apart n d = let e = d .1 in let z : _≡_ {A = ℕ} 0 1 = cc in omega arith
-
   -- a program image is refused with a number exactly where that number is foremost of those whose condition holds
   pub checked-number : (n : ℕ) → (checked x ≡ refused n) ↔ Foremost (program-order x) n
-  checked-number = tells-number refused-same refused-apart tell-checked
+  checked-number = stage-number tell-checked
 
   -- what is accepted meets no condition
   pub accepted-none : {p : Program} → AcceptedImage x p → NoneOf (program-order x)
@@ -158,37 +151,23 @@ module _ (x : List ℕ) where
   -- it is accepted as a program exactly where it meets the conditions of 01: right blocks, the program's stream, within counts and
   -- limits, names and types right
   pub checked-accepted : (p : Program) → (checked x ≡ accepted p) ↔ AcceptedImage x p
-  checked-accepted p = (forth tell-checked, back tell-checked)
-    where
-      forth : Tell (program-order x) (checked x) → checked x ≡ accepted p → AcceptedImage x p
-      forth (refuses d q) e = let z : _≡_ {A = ℕ} 0 1 = cc in absurd (omega arith)
-      forth (passes f d) e = let h = d .1 in let q : d .0 ≡ p = cc in rw q at (d .2)
-
-      back : Tell (program-order x) (checked x) → AcceptedImage x p → checked x ≡ accepted p
-      back (refuses d q) a = absurd (foremost-some q (accepted-none a))
-      back (passes f d) a = d .1 ∙ ap accepted (one-program (reads-of (d .2)) (reads-of a))
+  checked-accepted = stage-went tell-checked (λ p a. accepted-none a) (λ p q a b. one-program (reads-of a) (reads-of b))
 
 -- Checking, with a list ------------------------------------------------------------------
 
 module _ (x list : List ℕ) where
-  abbrev Verdicts : Order → Verdict → Type 1
-  Verdicts = Tells refusal (Approved x list)
+  -- an accepted program, and room
+  abbrev Checks : Program → Type 0
+  Checks p = (AcceptedImage x p) × (max-commands ≤ length list)
 
-  tell-verdict : Verdicts (check-order x list) (check-verdict x list)
+  pub tell-checks : Stages Checks (check-order x list) (checks x list)
+  unfolding checks
+  tell-checks = stage-on (tell-checked x) λ p a. stage-asked no-room (lt-reflects (length list) max-commands) λ f. passes tt (p, refl, (a, omega arith))
+
+  -- what is answered of it
+  tell-verdict : Tells refusal (Approved x list) (check-order x list) (check-verdict x list)
   unfolding check-verdict verdict-of
-  tell-verdict = go (tell-checked x)
-    where
-      room : (p : Program) → AcceptedImage x p → {t : Bool} → Reflects (ShortList list) t
-          → Verdicts ((13, ShortList list) ∷ []) (elim t [ true ↦ refusal no-room | false ↦ approval p ])
-      room p a (holds h) = here refl h
-      room p a (fails f) = passes (f, tt) (p, refl, a, omega arith)
-
-      go : Tells refused (Passed x) (program-order x) (checked x) → Verdicts (check-order x list) (verdict-of (checked x) list)
-      go (refuses e q) = refuses (ap (λ (c : Checked). verdict-of c list) e) (foremost-front ((13, ShortList list) ∷ []) q)
-      go (passes f d) =
-          past-all (program-order x) f
-          (subst (Verdicts ((13, ShortList list) ∷ [])) (sym (ap (λ (c : Checked). verdict-of c list) (d .1)))
-          (room (d .0) (d .2) (lt-reflects (length list) max-commands)))
+  tell-verdict = stage-answer tell-checks verdict-of (λ p d. (p, refl, d .0, d .1))
 
   refusal-same : (n m : ℕ) → refusal n ≡ refusal m → n ≡ m
   refusal-same n m e = ap (λ (v : Verdict). v .number) e
@@ -208,24 +187,15 @@ module _ (x list : List ℕ) where
 
   -- an input refusal reports its number alone and leaves the list as it was
   pub check-untouched : (n : ℕ) → Foremost (check-order x list) n → (check-verdict x list ≡ refusal n) × (check-list x list ≡ list)
-  unfolding check-list list-of
-  check-untouched n q = (verdict-number n .1 q, go (tell-checked x))
-    where
-      room : (p : Program) → NoneOf (program-order x) → {t : Bool} → Reflects (ShortList list) t
-          → (elim t [ true ↦ list | false ↦ listed p list ]) ≡ list
-      room p f (holds h) = refl
-      room p f (fails g) = absurd (foremost-some q (none-behind (program-order x) ((13, ShortList list) ∷ []) f (g, tt)))
+  unfolding check-verdict verdict-of check-list list-of
+  check-untouched n q = (stage-refused tell-checks verdict-of n q, stage-refused tell-checks (λ c. list-of c list) n q)
 
-      go : Tells refused (Passed x) (program-order x) (checked x) → list-of (checked x) list ≡ list
-      go (refuses e r) = ap (λ (c : Checked). list-of c list) e
-      go (passes f d) = ap (λ (c : Checked). list-of c list) (d .1) ∙ room (d .0) f (lt-reflects (length list) max-commands)
+  -- an accepted program with room passes, so that it is approved and its commands stand in the list
+  pub checks-passed : (p : Program) → AcceptedImage x p → max-commands ≤ length list → checks x list ≡ accepted p
+  unfolding checks on asked
+  checks-passed p a h = rw (checked-accepted x p .1 a, le-ltb (length list) max-commands h)
 
-  -- an accepted program with room is approved, and its commands stand in the list
   pub check-approved : (p : Program) → AcceptedImage x p → max-commands ≤ length list
       → (check-verdict x list ≡ approval p) × (check-list x list ≡ listed p list)
   unfolding check-verdict verdict-of check-list list-of
-  check-approved p a h =
-      let e = checked-accepted x p .1 a in (
-        ap (λ (c : Checked). verdict-of c list) e ∙ rw (le-ltb (length list) max-commands h, verdict-of),
-        ap (λ (c : Checked). list-of c list) e ∙ rw (le-ltb (length list) max-commands h, list-of),
-      )
+  check-approved p a h = let e = checks-passed p a h in (ap verdict-of e, ap (λ (c : Checked). list-of c list) e)

@@ -7,6 +7,7 @@ use mathlib.Core.List.{List, [], _∷_, _++_}
 use lib.ListN.{length, drop}
 use borrow.Author.Tests.{le-ltb}
 use Rattle.types.specs.Limits.{max-commands}
+use Rattle.types.specs.Stages.{Stage.went as accepted, Stage.stopped as refused, on, asked}
 use Rattle.blocks.specs.Images.{image}
 use Rattle.program.specs.Reader.{read}
 use Rattle.program.specs.Rows.{reading}
@@ -14,7 +15,7 @@ use Rattle.commands.specs.Commands.{commands}
 use Rattle.commands.specs.Decide.{every}
 use Rattle.commands.specs.Numbers.{first}
 use Rattle.commands.specs.ProgramWords.{program-words}
-use Rattle.verdict.specs.Verdict.{Checked, Checked.accepted, Checked.refused, judge, of-read, listed, list-of, check-list}
+use Rattle.verdict.specs.Verdict.{Checked, judge, of-read, checked, listed, list-of, checks, check-list}
 use Rattle.verdict.specs.VerdictLaws.{checked-image}
 use Rattle.commands.specs.Unfold.{judging, coding}
 
@@ -33,10 +34,13 @@ abbrev words-by : Checked → List ℕ
 words-by (accepted p) = program-words p
 words-by (refused n) = []
 
-list-room : (c : Checked) (list : List ℕ) → max-commands ≤ length list → list-of c list ≡ words-by c ++ drop (length (words-by c)) list
-unfolding list-of listed
-list-room (refused n) list h = refl
-list-room (accepted p) list h = rw (le-ltb (length list) max-commands h, list-of)
+list-room : (x list : List ℕ) → max-commands ≤ length list → check-list x list ≡ words-by (checked x) ++ drop (length (words-by (checked x))) list
+unfolding check-list checks on asked list-of listed
+list-room x list h = rw (le-ltb (length list) max-commands h) (go (checked x))
+  where
+    go : (c : Checked) → list-of (on c (λ p. accepted p)) list ≡ words-by c ++ drop (length (words-by c)) list
+    go (refused n) = refl
+    go (accepted p) = refl
 
 words-P : words-by (of-read (read P)) ≡ 2 ∷ 3 ∷ 2 ∷ 4294967299 ∷ 3 ∷ 176093659144 ∷ 2 ∷ 4 ∷ []
 unfolding checking P coding
@@ -46,8 +50,8 @@ words-P = refl
 -- op 41, push this, wr 0
 pub listed-P : (list : List ℕ) → max-commands ≤ length list
     → check-list (image P) list ≡ 2 ∷ 3 ∷ 2 ∷ 4294967299 ∷ 3 ∷ 176093659144 ∷ 2 ∷ 4 ∷ drop 8 list
-unfolding check-list P
+unfolding P
 listed-P list h =
-    ap (λ (c : Checked). list-of c list) (checked-image P (omega arith) (omega arith))
-    ∙ list-room (of-read (read P)) list h
+    list-room (image P) list h
+    ∙ ap (λ (c : Checked). words-by c ++ drop (length (words-by c)) list) (checked-image P (omega arith) (omega arith))
     ∙ ap (λ (w : List ℕ). w ++ drop (length w) list) words-P

@@ -1,12 +1,12 @@
 -- Checking (01, 'Numbers from the input' and 'Names, types, commands'): a program image to its program or the number of its refusal; with a lent list to
 -- what is reported, and to the list's places.
 use Prim.Native.Nat.{ℕ, zero, suc}
-use mathlib.Core.Bool.{true, false}
 use mathlib.Core.List.{List, _++_}
 use lib.ListN.{length, drop}
 use lib.Dec.{ltb}
 use Rattle.types.specs.Limits.{program-blocks, max-commands}
 use Rattle.types.specs.Numbers.{no-room}
+use Rattle.types.specs.Stages.{Stage, Stage.went as accepted, Stage.stopped as refused, on, asked}
 use Rattle.block.specs.declared.Found.{Found}
 use Rattle.block.specs.declared.Found.the-variants.{Right, Wrong}
 use Rattle.blocks.specs.Images.{fault, stream, program-number as block-number}
@@ -18,9 +18,9 @@ use Rattle.commands.specs.Numbers.{breach-number}
 
 -- A program image --------------------------------------------------------------------
 
-pub data Checked : Type 0 where
-  accepted : Program → Checked
-  refused : ℕ → Checked
+-- a program that is accepted, or the number of its refusal
+abbrev pub Checked : Type 0
+Checked = Stage Program
 
 unfoldable pub judge : Program → ℕ → Checked
 judge p zero = accepted p
@@ -66,17 +66,21 @@ approval p = record {
   depth = program-depth p;
 }
 
-unfoldable pub verdict-of : Checked → List ℕ → Verdict
-verdict-of (refused n) list = refusal n
-verdict-of (accepted p) list = elim (ltb (length list) max-commands) [ true ↦ refusal no-room | false ↦ approval p ]
+-- 1 to 8 of an image, then 13 of a lent list
+unfoldable pub checks : List ℕ → List ℕ → Checked
+checks x list = on (checked x) λ p. asked (ltb (length list) max-commands) no-room (accepted p)
+
+unfoldable pub verdict-of : Checked → Verdict
+verdict-of (refused n) = refusal n
+verdict-of (accepted p) = approval p
 
 unfoldable pub list-of : Checked → List ℕ → List ℕ
 list-of (refused n) list = list
-list-of (accepted p) list = elim (ltb (length list) max-commands) [ true ↦ list | false ↦ listed p list ]
+list-of (accepted p) list = listed p list
 
 -- an image and a lent list to the verdict, and to the list's places after it
 unfoldable pub check-verdict : List ℕ → List ℕ → Verdict
-check-verdict x list = verdict-of (checked x) list
+check-verdict x list = verdict-of (checks x list)
 
 unfoldable pub check-list : List ℕ → List ℕ → List ℕ
-check-list x list = list-of (checked x) list
+check-list x list = list-of (checks x list) list

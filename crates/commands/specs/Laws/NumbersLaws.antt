@@ -1,9 +1,8 @@
--- The number that comes out is that of the first condition that holds (01, 'Numbers from the input'), and so for programs.
+-- The number of a program that is read is that of the first condition that it breaks (01, 'Numbers from the input').
 use Prim.Native.Nat.{ℕ}
 use mathlib.Core.Bool.{Bool, true, false, not}
-use mathlib.Core.List.{[], _∷_, _++_}
 use mathlib.Core.Logic.{_↔_}
-use mathlib.Core.Path.{_≡_, refl, sym, ap, subst, _∙_}
+use mathlib.Core.Path.{_≡_, refl}
 use native.Mathlib.Omega.{arith}
 use Rattle.program.specs.Tree.{Program}
 use Rattle.types.specs.Reflects.{Reflects, Reflects.holds, Reflects.fails}
@@ -15,41 +14,7 @@ use Rattle.commands.specs.Typing.{TypesRight}
 use Rattle.commands.specs.Decide.BoundsDecideLaws.{within-reflects}
 use Rattle.commands.specs.Decide.NamesDecideLaws.{names-reflects}
 use Rattle.commands.specs.Decide.TypingDecideLaws.{types-reflects}
-use Rattle.commands.specs.Numbers.{no-breach, Order, NoneOf, Foremost, first, over-limits, wrong-names, wrong-types, breach-tests, breach-number}
-
--- The foremost of an order ----------------------------------------------------------
-
--- the first, if its condition holds; else one of those behind it
-pub at-first : {n : ℕ} {C : Type 0} {l : Order} → C → Foremost ((n, C) ∷ l) n
-at-first {C} {l} c = ([], l, C, refl, c, tt)
-
-pub behind-first : {r : ℕ × Type 0} {l : Order} {n : ℕ} → (r .1 → ⊥) → Foremost l n → Foremost (r ∷ l) n
-behind-first {r} f q = (r ∷ q .0, q .1, q .2, ap (λ (k : Order). r ∷ k) (q .3), q .4, (f, q .5))
-
-one-of : (a b r s : Order) (n m : ℕ) (C D : Type 0) → a ++ (n, C) ∷ r ≡ b ++ (m, D) ∷ s → C → D → NoneOf a → NoneOf b → n ≡ m
-one-of [] [] r s n m C D e c d f g = let q : _≡_ {A = ℕ × Type 0} (n, C) (m, D) = cc in ap (λ (z : ℕ × Type 0). z .0) q
-one-of [] (k ∷ b) r s n m C D e c d f g =
-    let q : _≡_ {A = ℕ × Type 0} (n, C) k = cc in absurd (g .0 (subst (λ (z : ℕ × Type 0). z .1) q c))
-one-of (k ∷ a) [] r s n m C D e c d f g =
-    let q : _≡_ {A = ℕ × Type 0} (m, D) k = cc in absurd (f .0 (subst (λ (z : ℕ × Type 0). z .1) q d))
-one-of (k ∷ a) (j ∷ b) r s n m C D e c d f g =
-    let q : a ++ (n, C) ∷ r ≡ b ++ (m, D) ∷ s = cc in one-of a b r s n m C D q c d (f .1) (g .1)
-
--- only one is foremost
-pub foremost-unique : {l : Order} {n m : ℕ} → Foremost l n → Foremost l m → n ≡ m
-foremost-unique {n} {m} p q = one-of (p .0) (q .0) (p .1) (q .1) n m (p .2) (q .2) (sym (p .3) ∙ q .3) (p .4) (q .4) (p .5) (q .5)
-
-none-there : (a r : Order) (n : ℕ) (C : Type 0) → NoneOf (a ++ (n, C) ∷ r) → C → ⊥
-none-there [] r n C f c = f .0 c
-none-there (k ∷ a) r n C f c = none-there a r n C (f .1) c
-
--- none is where no condition holds
-pub foremost-some : {l : Order} {n : ℕ} → Foremost l n → NoneOf l → ⊥
-foremost-some {n} q f = none-there (q .0) (q .1) n (q .2) (subst NoneOf (q .3) f) (q .4)
-
--- The first of several --------------------------------------------------------------
-
--- Programs --------------------------------------------------------------------------
+use Rattle.commands.specs.Numbers.{no-breach, first, over-limits, wrong-names, wrong-types, breach-tests, breach-number}
 
 -- the number by the three tests
 abbrev outcome : Bool → Bool → Bool → ℕ

@@ -8,7 +8,7 @@ use Rattle.blocks.specs.Images.{image, pieces}
 use Rattle.program.specs.Tree.{Program}
 use Rattle.commands.specs.Bounds.{program-depth}
 use Rattle.table.specs.Table.{Record, enc-table}
-use Rattle.run.specs.Entry.{Begun.begun, begins, report, report-of, output-of}
+use Rattle.run.specs.Entry.{begun, begins, report, report-of, output-of}
 use Rattle.run.specs.Holders.{holders}
 use Rattle.run.specs.Begin.{begin}
 use Rattle.run.specs.Initial.{initially}

@@ -1,26 +1,27 @@
 -- How a row by computation becomes a fact of the entries (01, 'Bench rows'): of the images of streams, of damaged images, of what a
 -- run leaves in memory.
 use Prim.Native.Nat.{ℕ, _*_, _≤_}
-use mathlib.Core.Path.{_≡_, refl, ap, _∙_}
-use mathlib.Core.Bool.{Bool, true, _&&_, _||_}
+use mathlib.Core.Path.{_≡_, refl, ap, ap₂, _∙_}
+use mathlib.Core.Bool.{Bool, true, _&&_}
 use mathlib.Core.Option.{Option}
 use mathlib.Core.List.{List, [], _∷_, _++_, map}
 use lib.ListN.{length, drop, replicate}
-use lib.Dec.{leb, ltb}
+use lib.Dec.{leb}
 use borrow.Author.Tests.{le-ltb}
-use Rattle.types.specs.Limits.{program-blocks, table-blocks, max-commands, max-turns, first-local}
+use Rattle.types.specs.Limits.{program-blocks, table-blocks, max-commands, first-local}
 use Rattle.types.specs.Values.{Val}
 use Rattle.types.specs.Reflects.{Reflects, reflects-iff, reflects-both, le-reflects}
+use Rattle.types.specs.Stages.{Stage.went, Stage.stopped, Stage.went as accepted, Stage.stopped as refused, on, asked}
 use Rattle.block.specs.Block.{block-size, payload-size, block-of}
 use Rattle.blocks.specs.Images.{image, pieces}
 use Rattle.block.specs.declared.Found.{Found}
 use Rattle.program.specs.Counts.{All}
 use Rattle.program.specs.Reader.{read}
 use Rattle.machine.specs.Published.{lookup}
-use Rattle.run.specs.Run.{Outcome, Outcome.stopped, Outcome.jammed, run}
+use Rattle.run.specs.Run.{Outcome, Outcome.stopped as ended, Outcome.jammed, run}
 use Rattle.run.specs.Begin.{begin}
-use Rattle.verdict.specs.Verdict.{Checked, Checked.accepted, Checked.refused, Verdict, refusal, approval, verdict-of, check-verdict, of-read, of-image, checked}
-use Rattle.run.specs.Entry.{Begun, Begun.begun, Begun.not-begun, of-table-image, of-checked, with-room, begins, Report, run-report-by}
+use Rattle.verdict.specs.Verdict.{Checked, Verdict, checks, verdict-of, check-verdict, of-read, of-image, checked}
+use Rattle.run.specs.Entry.{Begun, begun, of-table-image, images, with-room, begins, Report, run-report-by}
 use Rattle.run.specs.Entry.{run-output-by, run-report, run-output}
 use Rattle.run.specs.EntryStreams.{Summary, summed, reported, begins-streams}
 use Rattle.run.specs.Laws.EntryStreamLaws.{report-summed, output-summed, begins-image}
@@ -55,11 +56,6 @@ pub record RowRight (r : Row) : Type 0 where
       → run-output (image (r .program)) (image (r .table)) (r .turns) out list
       ≡ left-in (r .comes-to) out
 
--- what its streams come to
-abbrev pub verdict-by : Checked → Verdict
-verdict-by (accepted p) = approval p
-verdict-by (refused n) = refusal n
-
 -- some bytes, and at most what so many blocks hold
 abbrev pub fits : ℕ → List ℕ → Bool
 fits blocks s = leb 1 (length s) && leb (length s) (payload-size * blocks)
@@ -71,7 +67,7 @@ pub record Computed : Type 0 where
 
 abbrev pub computed : Row → Computed
 computed r = record {
-  verdict = verdict-by (of-read (read (r .program)));
+  verdict = verdict-of (of-read (read (r .program)));
   comes-to = summed (begins-streams (r .program) (r .table) (r .turns)) (r .turns);
   fit = fits program-blocks (r .program) && fits table-blocks (r .table);
 }
@@ -79,17 +75,20 @@ computed r = record {
 abbrev pub said : Row → Computed
 said r = record { verdict = r .verdict; comes-to = r .comes-to; fit = true }
 
-verdict-room : (c : Checked) (list : List ℕ) → max-commands ≤ length list → verdict-of c list ≡ verdict-by c
-unfolding verdict-of
-verdict-room (refused n) list h = refl
-verdict-room (accepted p) list h = rw (le-ltb (length list) max-commands h, verdict-of)
+verdict-room : (x list : List ℕ) → max-commands ≤ length list → check-verdict x list ≡ verdict-of (checked x)
+unfolding check-verdict checks on asked
+verdict-room x list h = rw (le-ltb (length list) max-commands h) (go (checked x))
+  where
+    go : (c : Checked) → verdict-of (on c (λ p. accepted p)) ≡ verdict-of c
+    go (refused n) = refl
+    go (accepted p) = refl
 
 fits-reflects : (blocks : ℕ) (s : List ℕ) → Reflects ((1 ≤ length s) × (length s ≤ payload-size * blocks)) (fits blocks s)
 fits-reflects blocks s = reflects-both (le-reflects 1 (length s)) (le-reflects (length s) (payload-size * blocks))
 
 -- what is computed of a row's streams holds of the entries on its images
 row-right : (r : Row) → computed r ≡ said r → RowRight r
-unfolding check-verdict run-report run-output
+unfolding run-report run-output
 row-right r e =
     let s = r .program in
     let t = r .table in
@@ -98,8 +97,8 @@ row-right r e =
     let begun = begins-image s t (fit .0 .0) (fit .0 .1) (fit .1 .0) (fit .1 .1) es in
     record {
       checked = λ list h.
-          ap (λ (c : Checked). verdict-of c list) (checked-image s (fit .0 .0) (fit .0 .1))
-          ∙ verdict-room (of-read (read s)) list h
+          verdict-room (image s) list h
+          ∙ ap verdict-of (checked-image s (fit .0 .0) (fit .0 .1))
           ∙ ap (λ (c : Computed). c .verdict) e;
       report = λ out list h k.
           ap (λ (b : Begun). run-report-by b es) (begun out list h k)
@@ -133,35 +132,21 @@ lent n = replicate n 0
 abbrev pub reports : ImageRow → Report
 reports r = run-report (r .program) (r .table) (r .turns) (lent (r .out)) (lent (r .list))
 
-abbrev pub tabled : Checked → Found → List ℕ → Begun
-tabled (refused n) g y = not-begun n
-tabled (accepted p) g y = of-table-image p g y
+-- what program and table come to, by what their blocks are found as
+abbrev pub found : ImageRow → Found → Found → Begun
+found r f g = on (of-image f (r .program)) λ p. on (of-table-image (p .params) g (r .table)) λ rs. begun p rs
 
 -- the number by what program and table come to
 abbrev pub number-by : ImageRow → Begun → ℕ
-number-by r b =
-    run-report-by
-    (with-room b
-    (ltb (length (lent (r .out))) (block-size * table-blocks) || ltb (length (lent (r .list))) max-commands)
-    (ltb max-turns (length (r .turns))))
-    (r .turns)
-    .number
+number-by r b = run-report-by (on b (with-room (r .turns) (lent (r .out)) (lent (r .list)))) (r .turns) .number
 
 -- the number by one sweep over each block
 unfoldable pub swept-number : ImageRow → ℕ
-swept-number r = number-by r (tabled (of-image (swept program-blocks (r .program)) (r .program)) (swept table-blocks (r .table)) (r .table))
-
-tabled-is : (c : Checked) (y : List ℕ) → of-checked c y ≡ tabled c (swept table-blocks y) y
-unfolding of-checked
-tabled-is (refused n) y = refl
-tabled-is (accepted p) y = ap (λ (g : Found). of-table-image p g y) (fault-is table-blocks y)
+swept-number r = number-by r (found r (swept program-blocks (r .program)) (swept table-blocks (r .table)))
 
 number-is : (r : ImageRow) → reports r .number ≡ swept-number r
-unfolding run-report begins checked swept-number
-number-is r =
-    ap (number-by r)
-    (tabled-is (checked (r .program)) (r .table)
-    ∙ ap (λ (f : Found). tabled (of-image f (r .program)) (swept table-blocks (r .table)) (r .table)) (fault-is program-blocks (r .program)))
+unfolding run-report begins images checked swept-number
+number-is r = ap (number-by r) (ap₂ (found r) (fault-is program-blocks (r .program)) (fault-is table-blocks (r .table)))
 
 -- rows over the images of two streams and a second block, whose sums are swept up
 abbrev pub swept-over : (List ℕ → List ℕ → List ℕ → List ImageRow) → List ℕ → List ℕ → List ImageRow
@@ -182,9 +167,9 @@ pub record Kept : Type 0 where
   pub local : Option Val
 
 unfoldable pub at-last : Outcome → List Kept
-at-last (stopped n t m) = map (λ i. record { height = length (i .stack); local = lookup (i .env) first-local }) (m .instances)
+at-last (ended n t m) = map (λ i. record { height = length (i .stack); local = lookup (i .env) first-local }) (m .instances)
 at-last jammed = []
 
 unfoldable pub kept : Begun → List ℕ → List Kept
-kept (begun p rs) es = at-last (run p (begin p rs) es)
-kept (not-begun n) es = []
+kept (went (p, rs)) es = at-last (run p (begin p rs) es)
+kept (stopped n) es = []

@@ -4,6 +4,7 @@ use Prim.Native.Nat.{ℕ}
 use mathlib.Core.List.{List}
 use Rattle.types.specs.TypeBytes.{word-end, struct-of}
 use Rattle.types.specs.Types.{code}
+use Rattle.types.specs.Stages.{on, asked}
 use Rattle.types.specs.Values.{default, in-int, int-word, word-int, word, value-of}
 use Rattle.program.specs.Encoding.{enc-word, flat, op-code, var-code}
 use Rattle.commands.specs.Coding.{coded, com-word, command-word, words}
@@ -24,9 +25,10 @@ use Rattle.run.specs.Holders.{holds-code, holders}
 use Rattle.run.specs.Run.{later, is-done, moved, settle-by, settle, fuel, taken, turn, at-last, run}
 use Rattle.run.specs.Begin.{nulls, first-instances, begin, record-of, table-of}
 use Rattle.commands.specs.ProgramWords.{steps-list, structs-list, structs-words, program-words}
+use Rattle.verdict.specs.Verdict.{verdict-of}
 use Rattle.verdict.specs.Rows.{checking}
-use Rattle.run.specs.Entry.{of-table, with-room}
-use Rattle.run.specs.EntryStreams.{Summary, of-outcome, summed, table-read, begins-streams}
+use Rattle.run.specs.Entry.{with-room}
+use Rattle.run.specs.EntryStreams.{Summary, of-outcome, summed, streams, begins-streams}
 
 -- what a run of program stream, table stream and turn bytes comes to, where output and list have room
 unfoldable pub running : List ℕ → List ℕ → List ℕ → Summary
@@ -36,6 +38,6 @@ unfolding checking word-end var-code coded com-word command-word words steps-lis
     read-record read-count read-table is-struct refers refers-each references table-number table-answer table-of-stream before of-item of-items lookup assign
     find-step meet weight bound update-env leaves-stable read-from read-at read-variable write-to write-parameter write-at write negate branch operated operate
     construct perform now-written command-of command-at command called given started repeat move-by labels-from round-from chosen holds-code holders later
-    is-done moved settle-by settle fuel taken turn at-last run nulls first-instances begin record-of table-of of-table with-room of-outcome summed table-read
+    is-done moved settle-by settle fuel taken turn at-last run nulls first-instances begin record-of table-of on asked with-room verdict-of of-outcome summed streams
     begins-streams
 running s t es = summed (begins-streams s t es) es

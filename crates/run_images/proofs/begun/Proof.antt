@@ -5,8 +5,8 @@ use mathlib.Core.Path.{refl, sym, _∙_}
 use mathlib.Core.List.{List}
 use lib.ListN.{take, length-replicate}
 use lib.Seq.{length-take-le}
+use Rattle.types.specs.Stages.{Stage.went as accepted}
 use Rattle.program.specs.Tree.{Program}
-use Rattle.verdict.specs.Verdict.{Checked.accepted}
 use Rattle.run.specs.Begin.{begin}
 use Rattle.layout.specs.State.{state-of}
 use Rattle.run_images.specs.Stages.{Opens, Played}
