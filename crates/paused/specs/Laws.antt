@@ -5,7 +5,6 @@ pub mod ShapeLaws
 pub mod PlaceLaws
 pub mod StepLaws
 pub mod SpotLaws
-pub mod GoodStands
 pub mod AllowedGood
 pub mod AllowedTabled
 pub mod PausableAllowed
@@ -15,15 +14,15 @@ pub mod AlikeRuns
 pub mod JoinedLaws
 pub mod ResumedAlike
 pub mod PausedExact
-pub mod FromKept
 pub mod CarryOn
 pub mod PausableCounted
 pub mod SetLaws
 pub mod DecideLaws
 pub mod PausedBack
 pub mod JudgeLaws
+pub mod LengthLaws
+pub mod CarriedLaws
 pub mod EntryLaws
 pub mod InputLaws
 pub mod LivedLaws
-pub mod AgainLaws
 pub mod FlatLaws

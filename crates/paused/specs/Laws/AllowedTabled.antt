@@ -21,8 +21,8 @@ use Rattle.paused.specs.Paused.{Held, Paused}
 use Rattle.paused.specs.Allowed.{CountedHeld, CountedPaused, Allowed}
 use Rattle.paused.specs.Resumed.{valued, in-spot, at-position, instance-of, resumed}
 use Rattle.paused.specs.Laws.AllowedGood.{struct-kept, allowed-good}
-use Rattle.paused.specs.Laws.FromKept.{LastThere}
-use Rattle.paused.specs.Laws.GoodStands.{good-never-stuck}
+use Rattle.sound.specs.Startable.{Startable}
+use Rattle.sound.specs.Laws.NeverStuckLaws.{never-stuck}
 
 default-value : (t : Ty) → value-of t (word (default t)) ≡ default t
 unfolding value-of word default int-word word-int
@@ -67,7 +67,7 @@ module _ {p : Program} (ok : Accepted p) (q : Paused) (counted : CountedPaused p
             ∙ ap (λ (n : ℕ). map default (params-of p n)) (sym s),
       )
 
-  pub allowed-tabled : Tabled p (resumed p q .instances)
+  allowed-tabled : Tabled p (resumed p q .instances)
   unfolding resumed
   allowed-tabled =
       let size = length-map (q .instances) (instance-of p (q .instances) (job-at p (q .place))) in
@@ -81,12 +81,14 @@ module _ {p : Program} (ok : Accepted p) (q : Paused) (counted : CountedPaused p
             rw (← z) (tabled-held l h g);
       }
 
-  -- the label that acted last exists
-  pub resumed-last : LastThere (resumed p q)
+  -- so a run may begin with it
+  pub allowed-startable : Startable p (resumed p q)
   unfolding resumed
-  resumed-last =
-      let size = length-map (q .instances) (instance-of p (q .instances) (job-at p (q .place))) in let f = al .from in omega arith
+  allowed-startable =
+      let size = length-map (q .instances) (instance-of p (q .instances) (job-at p (q .place))) in
+      let f = al .from in
+      record { good = allowed-good ok q counted al; tabled = allowed-tabled; last = omega arith }
 
   -- "Any accepted image is as safe from stuck commands as a fresh table"
   pub paused-never-stuck : (es : List ℕ) → NeverStuck p (resumed p q) es
-  paused-never-stuck es = good-never-stuck ok (allowed-good ok q counted al) es
+  paused-never-stuck es = never-stuck ok (allowed-startable .good) es

@@ -19,26 +19,24 @@ use Rattle.run.specs.Begin.{table-of}
 use Rattle.run.specs.Holders.{holders, due}
 use Rattle.run.specs.Run.{Outcome.stopped, run}
 use Rattle.run.specs.Laws.RunAgreesVisits.{run-visits}
-use Rattle.sound.specs.Invariant.{Job, Good}
+use Rattle.sound.specs.Invariant.{Job}
+use Rattle.sound.specs.Startable.{Startable}
 use Rattle.sound.specs.Firm.{Firm}
-use Rattle.sound.specs.Tabled.{Tabled}
 use Rattle.sound.specs.Laws.AcceptedLaws.{accepted-firm}
-use Rattle.sound.specs.Laws.NeverStuckLaws.{visits-good}
-use Rattle.sound.specs.Laws.TabledLaws.{visits-tabled}
+use Rattle.sound.specs.Laws.NeverStuckLaws.{never-stuck}
+use Rattle.sound.specs.Laws.StartableLaws.{visits-startable}
 use Rattle.paused.specs.Place.{place-of, job-at}
 use Rattle.paused.specs.Spot.{spot-at, spot, position-left}
 use Rattle.paused.specs.Paused.{Held, Paused}
 use Rattle.paused.specs.Standing.{living}
+use Rattle.paused.specs.Allowed.{CountedPaused, Allowed}
 use Rattle.paused.specs.Resumed.{resumed}
 use Rattle.paused.specs.PausedOf.{word-in, position-in, at-spot, by-job, by-code, held-of, paused-of}
 use Rattle.paused.specs.Alike.{AlikeInst, AlikeAll, AlikeAll.none as no-more, AlikeAll.more, Alike}
 use Rattle.paused.specs.Laws.Basics.{map-members}
 use Rattle.paused.specs.Laws.StepLaws.{among-in}
-use Rattle.paused.specs.Laws.FromKept.{LastThere, visits-last}
-use Rattle.paused.specs.Laws.GoodStands.{good-never-stuck}
 use Rattle.paused.specs.Laws.AlikeRuns.{Twins, holders-alike, run-alike, table-alike}
-use Rattle.paused.specs.Laws.AllowedGood.{allowed-good}
-use Rattle.paused.specs.Laws.AllowedTabled.{allowed-tabled, resumed-last}
+use Rattle.paused.specs.Laws.AllowedTabled.{allowed-startable}
 use Rattle.paused.specs.Laws.PausableAllowed.{job, job-is, passage-of, pausable-allowed}
 use Rattle.paused.specs.Laws.SpotLaws.{written-less, step-place, passage-spot}
 use Rattle.paused.specs.Laws.PausableCounted.{pausable-counted}
@@ -92,7 +90,7 @@ pub same-paused : {a a′ : ℕ} {es es′ : List Bool} {f f′ : ℕ} {hs hs′
     → _≡_ {A = Paused} (record { place = a; entries = es; from = f; instances = hs }) (record { place = a′; entries = es′; from = f′; instances = hs′ })
 same-paused a b c d = rw (a, b, c, d)
 
-module _ {p : Program} (ok : Accepted p) {m n : Machine} (gn : Good p n) (tn : Tabled p (n .instances)) (fn : LastThere n) (al : Alike m n) (busy : due n ≡ false) where
+module _ {p : Program} (ok : Accepted p) {m n : Machine} (start : Startable p n) (al : Alike m n) (busy : due n ≡ false) where
   abbrev r : Option Job
   r = job-at p (place-of p (n .sched))
 
@@ -103,10 +101,10 @@ module _ {p : Program} (ok : Accepted p) {m n : Machine} (gn : Good p n) (tn : T
       go : (c : List Note) → j .code ≡ c → held-of p r i ≡ held-of p r j
       go [] e = idle-alike p r a (a .code ∙ e) e
       go (b ∷ c) e =
-          let g = passage-of ok gn tn fn busy l j at b c e in
+          let g = passage-of ok start busy l j at b c e in
           let k = step-place g in
-          holder-alike p r a b c (g .body) k (g .rest) (job ok gn tn fn busy) e (job-is ok gn tn fn busy) (passage-spot g e)
-          (λ x d. a .locals x (written-less p (job ok gn tn fn busy) j x (g .kept x (among-in 0 max-locals (alive (drop k (lives (g .body)))) x d))))
+          holder-alike p r a b c (g .body) k (g .rest) (job ok start busy) e (job-is ok start busy) (passage-spot g e)
+          (λ x d. a .locals x (written-less p (job ok start busy) j x (g .kept x (among-in 0 max-locals (alive (drop k (lives (g .body)))) x d))))
 
   -- machines that are alike have one paused state
   pub paused-alike : paused-of p m ≡ paused-of p n
@@ -124,52 +122,51 @@ pub record SameEnd (p : Program) (w v : Machine) : Type 0 where
   pub holding : length (holders w) ≡ length (holders v)
   pub paused : due v ≡ false → paused-of p w ≡ paused-of p v
 
-module _ {p : Program} (ok : Accepted p) {m : Machine} (good : Good p m) (tabled : Tabled p (m .instances)) (last : LastThere m) (es : List ℕ) {t : ℕ}
-    {z : Machine} (pauses : run p m es ≡ stopped out-of-turns t z) where
-  firm : Firm p
+module _ {p : Program} (ok : Accepted p) {m : Machine} (start : Startable p m) (es : List ℕ) {t : ℕ} {z : Machine}
+    (pauses : run p m es ≡ stopped out-of-turns t z) where
+  abbrev firm : Firm p
   firm = accepted-firm ok
 
-  good-z : Good p z
-  good-z = visits-good firm good (run-visits p m es pauses .0)
-
-  tabled-z : Tabled p (z .instances)
-  tabled-z = visits-tabled firm good tabled (run-visits p m es pauses .0)
-
-  last-z : LastThere z
-  last-z = visits-last last (run-visits p m es pauses .0)
+  start-z : Startable p z
+  start-z = visits-startable ok start (run-visits p m es pauses .0)
 
   busy : due z ≡ false
-  busy = paused-at firm good es pauses .1
+  busy = paused-at firm (start .good) es pauses .1
 
   abbrev q : Paused
   q = paused-of p z
 
-  -- the machine at which the run paused, and the one that its paused state stands for
+  -- where a run answers 33, its paused state can stand in a stream, and is allowed,
+  pub pauses-counted : CountedPaused p q
+  pauses-counted = pausable-counted ok start-z busy
+
+  pub pauses-allowed : Allowed p q
+  pauses-allowed = pausable-allowed ok start-z busy
+
+  -- and a run may begin with the machine that it stands for
+  pub pauses-startable : Startable p (resumed p q)
+  pauses-startable = allowed-startable ok q pauses-counted pauses-allowed
+
+  -- the machine at which the run paused, and that one
   twins : Twins firm z (resumed p q)
-  twins = (
-    good-z,
-    allowed-good ok q (pausable-counted ok good-z tabled-z last-z busy) (pausable-allowed ok good-z tabled-z last-z busy),
-    resumed-alike ok good-z tabled-z last-z busy,
-  )
+  twins = (start-z .good, pauses-startable .good, resumed-alike ok start-z busy)
 
   -- "Carrying on equals the run with both lists joined, the turns added up"
   pub carry-on-joined : (fs : List ℕ) {k u : ℕ} {v : Machine} → run p (resumed p q) fs ≡ stopped k u v
       → (w : Machine) × (run p m (es ++ fs) ≡ stopped k (t + u) w) × (SameEnd p w v)
   carry-on-joined fs {k} {u} {v} e =
-      let d = good-never-stuck ok good-z fs in
-      let (v′, f, tw) = run-alike firm fs twins (d .returns) in
+      let d = never-stuck ok (start-z .good) fs in
+      let (v′, f, (gw, gv, al)) = run-alike firm fs twins (d .returns) in
       let a : d .number ≡ k = cc in
       let b : d .turns ≡ u = cc in
       let c : v′ ≡ v = cc in
-      let (gw, gv, al) = tw in
-      let visits = run-visits p (resumed p q) fs f .0 in
-      let tv = visits-tabled firm (twins .1) (allowed-tabled ok q (pausable-counted ok good-z tabled-z last-z busy) (pausable-allowed ok good-z tabled-z last-z busy)) visits in
-      let fv = visits-last (resumed-last ok q (pausable-counted ok good-z tabled-z last-z busy) (pausable-allowed ok good-z tabled-z last-z busy)) visits in (
+      let start-v = visits-startable ok pauses-startable (run-visits p (resumed p q) fs f .0) in
+      let joined = run-joined firm (start .good) es pauses fs (d .returns) in (
         d .last,
-        run-joined firm good es pauses fs (d .returns) ∙ ap (λ (x : ℕ). stopped x (t + d .turns) (d .last)) a ∙ ap (λ (x : ℕ). stopped k (t + x) (d .last)) b,
+        joined ∙ ap (λ (x : ℕ). stopped x (t + d .turns) (d .last)) a ∙ ap (λ (x : ℕ). stopped k (t + x) (d .last)) b,
         subst (SameEnd p (d .last)) c (record {
           tables = table-alike p al;
           holding = ap length (holders-alike al);
-          paused = λ busy. paused-alike ok gv tv fv al busy;
+          paused = λ busy. paused-alike ok start-v al busy;
         }),
       )

@@ -1,211 +1,243 @@
--- On images, pausing and carrying on equals the run with both lists joined: number, blocks, depth, holders and every output byte, the turns added up
--- (02, 'Pausing a run').
-use Prim.Native.Nat.{ℕ, zero, suc, _+_, _*_, _/_, _≤_}
+-- What the calls that pause, carry on and finish answer (02, 'Pausing a run'): nothing but the number where they are refused; and in pieces what they
+-- answer in one piece: number, blocks, depth, holders, every output byte and list place, the turns added up.
+use Prim.Native.Nat.{ℕ, _≤_}
 use native.Mathlib.Omega.{arith}
-use mathlib.Core.Path.{_≡_, refl, ap, _∙_}
-use mathlib.Core.Bool.{Bool, true, false}
+use mathlib.Core.Path.{_≡_, refl}
+use mathlib.Core.Bool.{Bool, true, _&&_}
 use mathlib.Core.List.{List, [], _∷_, _++_}
-use lib.ListN.{length, drop, length-append}
-use lib.Dec.{eqb}
-use borrow.Author.Tests.{le-ltb, eqb-true}
+use lib.ListN.{length, length-append}
+use lib.Dec.{ltb}
+use borrow.Author.Tests.{ltb-true}
 use Rattle.types.specs.Limits.{max-commands, max-turns}
 use Rattle.types.specs.Numbers.{out-of-turns}
-use Rattle.block.specs.Block.{block-size}
-use Rattle.blocks.specs.Images.{fault, image, pieces}
-use Rattle.blocks.specs.ImageRoundTrip.{image-accepted, image-stream}
+use Rattle.types.specs.Orders.{Order, Foremost, Numbered, Tells.refuses, Tells.passes}
+use Rattle.types.specs.OrderLaws.{foremost-numbered}
+use Rattle.types.specs.Stages.{Stage, Stage.went, on, Went, Stages}
+use Rattle.types.specs.StageLaws.{stage-refused}
+use Rattle.blocks.specs.Images.{image}
 use Rattle.program.specs.Tree.{Program}
-use Rattle.program.specs.Encoding.{enc-word, flat}
-use Rattle.program.specs.Counts.{All}
-use Rattle.commands.specs.Accepted.{Accepted}
-use Rattle.table.specs.Table.{Record, value-bytes, count-bytes, enc-table}
-use Rattle.verdict.specs.Verdict.{checked}
-use Rattle.verdict.specs.ProgramInputLaws.{checked-accepted}
+use Rattle.verdict.specs.ProgramInput.{AcceptedImage}
+use Rattle.table.specs.Table.{Record}
 use Rattle.machine.specs.Machine.{Machine}
 use Rattle.run.specs.Begin.{begin}
-use Rattle.run.specs.Holders.{due}
-use Rattle.run.specs.Run.{Outcome.stopped, run}
-use Rattle.run.specs.Laws.BeginLaws.{begin-from}
-use Rattle.run.specs.Entry.{Begun, Begun.begun, Begun.not-begun, of-checked, with-room, begins, last-stream}
-use Rattle.run.specs.Input.{Runnable}
-use Rattle.run.specs.Laws.InputLaws.{begins-ready}
-use Rattle.sound.specs.Invariant.{Good}
-use Rattle.sound.specs.Tabled.{Tabled}
-use Rattle.sound.specs.Laws.AcceptedLaws.{accepted-firm, params-counted, ready-accepted}
-use Rattle.sound.specs.Laws.BeginGood.{begin-good}
-use Rattle.sound.specs.Laws.NeverStuckLaws.{visits-good}
-use Rattle.sound.specs.Laws.TabledLaws.{begin-tabled, visits-tabled}
-use Rattle.run.specs.Laws.RunAgreesVisits.{run-visits}
-use Rattle.paused.specs.Paused.{Held, Paused}
-use Rattle.paused.specs.Allowed.{CountedHeld, CountedPaused, Allowed}
+use Rattle.run.specs.Run.{Outcome, Outcome.stopped as ended, Outcome.jammed, run}
+use Rattle.run.specs.Entry.{Report, report, run-report, run-output, run-list}
+use Rattle.run.specs.Entry.{report-of as table-report-of, output-of as table-output-of}
+use Rattle.run.specs.Laws.InputLaws.{ready-runs}
+use Rattle.sound.specs.Startable.{Startable}
+use Rattle.sound.specs.Laws.StartableLaws.{begin-startable}
+use Rattle.paused.specs.Paused.{Paused}
+use Rattle.paused.specs.Resumed.{resumed}
 use Rattle.paused.specs.PausedOf.{paused-of}
-use Rattle.paused.specs.Stream.{enc-value, enc-entry, enc-held, enc-paused}
-use Rattle.paused.specs.Entry.{paused-blocks, paused-bytes, Begins.resumes, of-read, of-image, in-room, short, resume-begins, pause-begins}
-use Rattle.paused.specs.Entry.{left-stream, report-of, output-of, pause-report-by, pause-output-by, resume-report-by, resume-output-by, pause-report}
-use Rattle.paused.specs.Entry.{pause-output, resume-report, resume-output, turns-on}
-use Rattle.paused.specs.Laws.FromKept.{LastThere, visits-last}
-use Rattle.paused.specs.Laws.GoodStands.{good-never-stuck}
-use Rattle.paused.specs.Laws.JoinedLaws.{paused-at}
-use Rattle.paused.specs.Laws.PausableAllowed.{pausable-allowed}
-use Rattle.paused.specs.Laws.PausableCounted.{pausable-counted}
-use Rattle.paused.specs.Laws.PausedExact.{paused-read}
-use Rattle.paused.specs.Laws.JudgeLaws.{allowed-exact}
-use Rattle.paused.specs.Laws.AllowedGood.{allowed-good}
-use Rattle.paused.specs.Laws.CarryOn.{SameEnd, carry-on-joined}
+use Rattle.paused.specs.Stream.{enc-paused}
+use Rattle.paused.specs.Entry.{paused-bytes, table-bytes, pause-begins, carries, Writes, Writes.paused-at-33, Writes.table-at-33, left-stream}
+use Rattle.paused.specs.Entry.{report-of, output-of, Start, call-report, call-output, call-list, from-table, from-paused, written, turns-on}
+use Rattle.paused.specs.Entry.{pause-report, pause-output, pause-list, resume-report, resume-output, resume-list, finish-report, finish-output}
+use Rattle.paused.specs.Entry.{finish-list}
+use Rattle.paused.specs.Input.{pause-order, carry-order, Roomy, Pausable, Resumable}
+use Rattle.paused.specs.Laws.Basics.{and-parts}
+use Rattle.paused.specs.Laws.AllowedTabled.{allowed-startable}
+use Rattle.paused.specs.Laws.InputLaws.{tell-pause, tell-carries, pause-ready, carry-ready}
+use Rattle.paused.specs.Laws.CarriedLaws.{answers-33, pauses-turns, pauses-written, pauses-accepted, carried-report, carried-output}
 
--- Sizes ----------------------------------------------------------------------------------------
+-- Refusals -------------------------------------------------------------------------------
 
-word-length : (i v : ℕ) → length (enc-word i v) ≡ i
-unfolding enc-word
-word-length zero v = refl
-word-length (suc i) v = ap suc (word-length i (v / 256))
+-- a refusal returns its number alone, and leaves output and list as they were
+abbrev pub Untouched : ℕ → Report → List ℕ → List ℕ → List ℕ → List ℕ → Type 0
+Untouched n r out list out′ list′ = (r ≡ report n 0 0 0 0) × (out′ ≡ out) × (list′ ≡ list)
 
-words-length : (ws : List ℕ) → length (flat enc-value ws) ≡ value-bytes * length ws
-unfolding flat
-words-length [] = refl
-words-length (w ∷ ws) = simp length-append (omega (arith, word-length value-bytes w, words-length ws))
+module _ (x y es out list : List ℕ) where
+  pub pause-untouched : (n : ℕ) → Foremost (pause-order x y es out list) n
+      → Untouched n (pause-report x y es out list) out list (pause-output x y es out list) (pause-list x y es out list)
+  unfolding pause-report pause-output pause-list call-report call-output call-list on
+  pause-untouched n q = (
+    stage-refused (tell-pause x y es out list) (λ b. call-report paused-at-33 (from-table b) es) n q,
+    stage-refused (tell-pause x y es out list) (λ b. call-output paused-at-33 (from-table b) es out) n q,
+    stage-refused (tell-pause x y es out list) (λ b. call-list (from-table b) list) n q,
+  )
 
-entries-length : (es : List Bool) → length (flat (λ t. enc-entry t ∷ []) es) ≡ length es
-unfolding flat
-entries-length [] = refl
-entries-length (e ∷ es) = ap suc (entries-length es)
+  pub resume-untouched : (n : ℕ) → Foremost (carry-order paused-bytes x y es out list) n
+      → Untouched n (resume-report x y es out list) out list (resume-output x y es out list) (resume-list x y es out list)
+  unfolding resume-report resume-output resume-list call-report call-output call-list on
+  resume-untouched n q = (
+    stage-refused (tell-carries paused-bytes x y es out list) (λ b. call-report paused-at-33 (from-paused b) es) n q,
+    stage-refused (tell-carries paused-bytes x y es out list) (λ b. call-output paused-at-33 (from-paused b) es out) n q,
+    stage-refused (tell-carries paused-bytes x y es out list) (λ b. call-list (from-paused b) list) n q,
+  )
 
--- bytes of an instance at most: struct, 8 parameters, position, 16 values and 8 locals behind their counts
-abbrev pub held-bytes : ℕ
-held-bytes = 132
+  pub finish-untouched : (n : ℕ) → Foremost (carry-order table-bytes x y es out list) n
+      → Untouched n (finish-report x y es out list) out list (finish-output x y es out list) (finish-list x y es out list)
+  unfolding finish-report finish-output finish-list call-report call-output call-list on
+  finish-untouched n q = (
+    stage-refused (tell-carries table-bytes x y es out list) (λ b. call-report table-at-33 (from-paused b) es) n q,
+    stage-refused (tell-carries table-bytes x y es out list) (λ b. call-output table-at-33 (from-paused b) es out) n q,
+    stage-refused (tell-carries table-bytes x y es out list) (λ b. call-list (from-paused b) list) n q,
+  )
 
-held-length : (p : Program) → Accepted p → (h : Held) → CountedHeld p h → length (enc-held h) ≤ held-bytes
-unfolding enc-held
-held-length p ok h c =
-    let few = params-counted p (ok .0) (h .struct) .0 in
-    let a = c .params .0 in
-    let b = c .stack .0 in
-    let d = c .locals .0 in
-    simp length-append (omega (arith, words-length (h .params), words-length (h .stack), words-length (h .locals)))
+-- In pieces ------------------------------------------------------------------------------
 
-helds-length : (p : Program) → Accepted p → (hs : List Held) → All (CountedHeld p) hs → length (flat enc-held hs) ≤ held-bytes * length hs
-unfolding flat
-helds-length p ok [] c = omega arith
-helds-length p ok (h ∷ hs) c = simp length-append (omega (arith, held-length p ok h (c .0), helds-length p ok hs (c .1)))
+-- two calls answer the same, the turns of the first piece added to those of the second
+pub record Joined (t : ℕ) (whole piece : Report) (whole-out piece-out whole-list piece-list : List ℕ) : Type 0 where
+  pub report : whole ≡ turns-on t piece
+  pub output : whole-out ≡ piece-out
+  pub list : whole-list ≡ piece-list
 
--- a paused stream has at most 33,806 bytes, 68 blocks
-pub paused-length : (p : Program) → Accepted p → (q : Paused) → CountedPaused p q → (1 ≤ length (enc-paused q)) × (length (enc-paused q) ≤ 33806)
-unfolding enc-paused
-paused-length p ok q c =
-    let n = c .count .1 in
-    let e = c .entries in
-    let h = helds-length p ok (q .instances) (c .each) in
-    let f = word-length count-bytes (q .from) in
-    let g = word-length count-bytes (length (q .instances)) in
-    let k = entries-length (q .entries) in
-    (simp length-append (omega arith), simp length-append (omega arith))
+-- a call that answers 33 was not refused: no number from the input is 33
+abbrev Other : ℕ → Type 0
+Other n = n ≡ out-of-turns → ⊥
 
--- The image of a paused state ------------------------------------------------------------------
+not-refused : {A : Type 0} {D : A → Type 0} {l : Order} {s : Stage A} (k : A → Stage Start) (w : Writes) (es : List ℕ) → Numbered Other l → Stages D l s
+    → call-report w (on s k) es .number ≡ out-of-turns → Went D s
+unfolding call-report on
+not-refused k w es others (refuses {n = n} e q) h = absurd (foremost-numbered Other others q (rw e at h))
+not-refused k w es others (passes f d) h = d
 
-module _ {p : Program} (ok : Accepted p) (q : Paused) (counted : CountedPaused p q) (al : Allowed p q) where
-  -- is read as that state
-  pub image-resumes : of-image p (fault paused-blocks (image (enc-paused q))) (image (enc-paused q)) ≡ resumes p q
-  unfolding of-image of-read
-  image-resumes =
-      let s = enc-paused q in
-      let (a, b) = paused-length p ok q counted in
-      let read = paused-read p s q (length s) .1 (counted, refl, refl) in
-      rw (image-accepted s a paused-blocks (omega arith), image-stream s a, read, of-read, allowed-exact p ok q .1 al)
+-- the numbers of an order that are not 33
+abbrev others : Order → Bool
+others [] = true
+others (r ∷ l) = ltb (r .0) out-of-turns && others l
 
--- the same stream is written
-pub same-stream : (p : Program) (n : ℕ) (w v : Machine) → SameEnd p w v → (n ≡ out-of-turns → due v ≡ false) → left-stream p n w ≡ left-stream p n v
-unfolding left-stream
-same-stream p n w v s h = go (eqb n out-of-turns) refl
-  where
-    go : (t : Bool) → eqb n out-of-turns ≡ t
-        → _≡_ {A = List ℕ} (elim t [ true ↦ enc-paused (paused-of p w) | false ↦ last-stream p w ])
-        (elim t [ true ↦ enc-paused (paused-of p v) | false ↦ last-stream p v ])
-    go true e = ap enc-paused (s .paused (h (eqb-true n out-of-turns e)))
-    go false e = ap enc-table (s .tables)
+all-others : (l : Order) → others l ≡ true → Numbered Other l
+all-others [] e = tt
+all-others (r ∷ l) e =
+    let (a, b) = and-parts (ltb (r .0) out-of-turns) (others l) e in
+    let n = ltb-true (r .0) out-of-turns a in
+    (λ h. omega arith, all-others l b)
 
--- Runs -----------------------------------------------------------------------------------------
+-- a piece that answers 33: it begins with a program, a machine, and some turns, and what it wrote is accepted as the paused state of its last machine
+module _ (x : List ℕ) {p : Program} (program : AcceptedImage x p) {m : Machine} (start : Startable p m) (es fs : List ℕ) {t : ℕ} {z : Machine}
+    (pauses : run p m es ≡ ended out-of-turns t z) (out₀ : List ℕ) where
+  abbrev first : Report
+  first = call-report paused-at-33 (went (p, m)) es
 
-roomed : (b : Begun) (few many : Bool) {p : Program} {rs : List Record} → with-room b few many ≡ begun p rs → b ≡ begun p rs
-unfolding with-room
-roomed (not-begun n) few many e = e
-roomed (begun p rs) true many e = let z : _≡_ {A = ℕ} 0 1 = cc in absurd (omega arith)
-roomed (begun p rs) false true e = let z : _≡_ {A = ℕ} 0 1 = cc in absurd (omega arith)
-roomed (begun p rs) false false e = e
+  abbrev handed : List ℕ
+  handed = written first (call-output paused-at-33 (went (p, m)) es out₀)
 
-module _ (x y es fs out list : List ℕ) (p : Program) (rs : List Record) (ready : Runnable x y es out list p rs) (room : paused-bytes ≤ length out)
+  goes-on : (bytes : ℕ) (out list : List ℕ) → Roomy bytes fs out list → carries bytes x handed fs out list ≡ went (p, paused-of p z)
+  goes-on bytes out list r =
+      let ok = program .program in
+      let c = pauses-accepted ok start es fs pauses in
+      rw (pauses-written ok start es fs pauses out₀)
+      (carry-ready bytes x (image (enc-paused (paused-of p z))) fs out list p (paused-of p z) .1 (record { program = program; roomy = r; paused = c }))
+
+  joined : (k : Writes) (bytes : ℕ) (out list : List ℕ) → Roomy bytes fs out list
+      → let b = from-paused (carries bytes x handed fs out list) in
+      Joined (first .turns) (call-report k (went (p, m)) (es ++ fs)) (call-report k b fs) (call-output k (went (p, m)) (es ++ fs) out) (call-output k b fs out)
+      (call-list (went (p, m)) list) (call-list b list)
+  unfolding on call-list
+  joined k bytes out list r =
+      let ok = program .program in
+      let e = goes-on bytes out list r in
+      let n = pauses-turns ok start es fs pauses in
+      rw (n, e) (record { report = carried-report ok start es fs pauses k; output = carried-output ok start es fs pauses k out; list = refl })
+
+-- From a table ---------------------------------------------------------------------------
+
+-- what a run writes at 33 is the table
+table-report : (p : Program) (o : Outcome) → report-of table-at-33 p o ≡ table-report-of p o
+unfolding report-of table-report-of left-stream
+table-report p (ended n t m) = refl
+table-report p jammed = refl
+
+table-output : (p : Program) (o : Outcome) (out : List ℕ) → output-of table-at-33 p o out ≡ table-output-of p o out
+unfolding output-of table-output-of left-stream
+table-output p (ended n t m) out = refl
+table-output p jammed out = refl
+
+module _ (x y es out₀ list₀ : List ℕ) (stops : pause-report x y es out₀ list₀ .number ≡ out-of-turns) (fs out list : List ℕ)
     (few : length (es ++ fs) ≤ max-turns) where
-  ok : Accepted p
-  ok = ready-accepted ready
+  -- the image that the first piece wrote
+  abbrev pub paused-first : List ℕ
+  paused-first = written (pause-report x y es out₀ list₀) (pause-output x y es out₀ list₀)
 
-  no-short : short out list ≡ false
-  no-short = let n = ready .list-room in rw (le-ltb (length out) paused-bytes room, le-ltb (length list) max-commands n)
+  first-ready : (p : Program) × (rs : List Record) × (pause-begins x y es out₀ list₀ ≡ went (p, rs)) × (Pausable x y es out₀ list₀ p rs)
+  unfolding pause-report
+  first-ready =
+      let (q, e, r) =
+      not-refused (λ q. went (q .0, begin (q .0) (q .1))) paused-at-33 es (all-others (pause-order x y es out₀ list₀) refl) (tell-pause x y es out₀ list₀) stops in
+      (q .0, q .1, e, r)
 
-  table-begun : of-checked (checked x) y ≡ begun p rs
-  unfolding begins
-  table-begun = roomed (of-checked (checked x) y) _ _ (begins-ready x y es out list p rs .1 ready)
+  -- pausing and carrying on is the pausing run in one piece: both answer the same
+  pub pause-resume : paused-bytes ≤ length out → max-commands ≤ length list
+      → Joined (pause-report x y es out₀ list₀ .turns) (pause-report x y (es ++ fs) out list) (resume-report x paused-first fs out list)
+      (pause-output x y (es ++ fs) out list) (resume-output x paused-first fs out list)
+      (pause-list x y (es ++ fs) out list) (resume-list x paused-first fs out list)
+  unfolding pause-report pause-output pause-list resume-report resume-output resume-list on
+  pause-resume out-room list-room =
+      let (p, rs, e, r) = first-ready in
+      let whole =
+      pause-ready x y (es ++ fs) out list p rs .1
+      (record { program = r .program; table = r .table; roomy = record { output-room = out-room; list-room = list-room; turns-few = few } }) in
+      let start = begin-startable (r .program .program) rs (r .table .right) in
+      let (t, z, pauses) = answers-33 paused-at-33 p (begin p rs) es (rw e at stops) in
+      let room : Roomy paused-bytes fs out list =
+      record { output-room = out-room; list-room = list-room; turns-few = omega (arith, length-append es fs) } in
+      rw (e, whole) (joined x (r .program) start es fs pauses out₀ paused-at-33 paused-bytes out list room)
 
-  pauses-with : (gs : List ℕ) → length gs ≤ max-turns → pause-begins x y gs out list ≡ begun p rs
-  unfolding pause-begins with-room
-  pauses-with gs h = rw (pause-begins, table-begun, no-short, le-ltb max-turns (length gs) h)
+  -- pausing and finishing is the run in one piece
+  pub pause-finish : table-bytes ≤ length out → max-commands ≤ length list
+      → Joined (pause-report x y es out₀ list₀ .turns) (run-report x y (es ++ fs) out list) (finish-report x paused-first fs out list)
+      (run-output x y (es ++ fs) out list) (finish-output x paused-first fs out list)
+      (run-list x y (es ++ fs) out list) (finish-list x paused-first fs out list)
+  unfolding pause-report pause-output call-report call-output call-list finish-report finish-output finish-list on
+  pause-finish out-room list-room =
+      let (p, rs, e, r) = first-ready in
+      let (a, b, c) =
+      ready-runs x y (es ++ fs) out list p rs
+      (record { program = r .program; table = r .table; output-room = out-room; list-room = list-room; turns-few = few }) in
+      let start = begin-startable (r .program .program) rs (r .table .right) in
+      let (t, z, pauses) = answers-33 paused-at-33 p (begin p rs) es (rw e at stops) in
+      let room : Roomy table-bytes fs out list =
+      record { output-room = out-room; list-room = list-room; turns-few = omega (arith, length-append es fs) } in
+      let whole = run p (begin p rs) (es ++ fs) in
+      rw (a, b, c, ← table-report p whole, ← table-output p whole out, e)
+      (joined x (r .program) start es fs pauses out₀ table-at-33 table-bytes out list room)
 
-  resumes-with : (q : Paused) → CountedPaused p q → Allowed p q → (gs : List ℕ) → length gs ≤ max-turns
-      → resume-begins x (image (enc-paused q)) gs out list ≡ resumes p q
-  unfolding resume-begins in-room
-  resumes-with q c al gs h =
-      rw (resume-begins, checked-accepted x p .1 (ready .program), no-short, le-ltb max-turns (length gs) h) (image-resumes ok q c al)
+-- From a paused image ----------------------------------------------------------------------
 
-  first-good : Good p (begin p rs)
-  first-good = begin-good p (ok .0) rs (ready .table .right)
+module _ (x y es out₀ list₀ : List ℕ) (stops : resume-report x y es out₀ list₀ .number ≡ out-of-turns) (fs out list : List ℕ)
+    (few : length (es ++ fs) ≤ max-turns) where
+  abbrev pub paused-again : List ℕ
+  paused-again = written (resume-report x y es out₀ list₀) (resume-output x y es out₀ list₀)
 
-  first-tabled : Tabled p (begin p rs .instances)
-  first-tabled = begin-tabled p rs (ready .table .right)
+  again-ready : (p : Program) × (q : Paused) × (carries paused-bytes x y es out₀ list₀ ≡ went (p, q)) × (Resumable paused-bytes x y es out₀ list₀ p q)
+  unfolding resume-report
+  again-ready =
+      let (q, e, r) =
+      not-refused (λ q. went (q .0, resumed (q .0) (q .1))) paused-at-33 es (all-others (carry-order paused-bytes x y es out₀ list₀) refl)
+      (tell-carries paused-bytes x y es out₀ list₀) stops in
+      (q .0, q .1, e, r)
 
-  first-last : LastThere (begin p rs)
-  first-last = let e = begin-from p rs in omega arith
+  -- whatever is written at 33 in the end
+  again : (k : Writes) (bytes : ℕ) → bytes ≤ length out → max-commands ≤ length list
+      → let whole = from-paused (carries bytes x y (es ++ fs) out list) in
+      let piece = from-paused (carries bytes x paused-again fs out list) in
+      Joined (resume-report x y es out₀ list₀ .turns) (call-report k whole (es ++ fs)) (call-report k piece fs) (call-output k whole (es ++ fs) out) (call-output k piece fs out)
+      (call-list whole list) (call-list piece list)
+  unfolding resume-report resume-output on
+  again k bytes out-room list-room =
+      let (p, q, e, r) = again-ready in
+      let whole =
+      carry-ready bytes x y (es ++ fs) out list p q .1
+      (record { program = r .program; roomy = record { output-room = out-room; list-room = list-room; turns-few = few }; paused = r .paused }) in
+      let start = allowed-startable (r .program .program) q (r .paused .holds .counted) (r .paused .allowed) in
+      let (t, z, pauses) = answers-33 paused-at-33 p (resumed p q) es (rw e at stops) in
+      let room : Roomy bytes fs out list =
+      record { output-room = out-room; list-room = list-room; turns-few = omega (arith, length-append es fs) } in
+      rw (e, whole) (joined x (r .program) start es fs pauses out₀ k bytes out list room)
 
-  module _ {t : ℕ} {z : Machine} (pauses : run p (begin p rs) es ≡ stopped out-of-turns t z) where
-    abbrev q : Paused
-    q = paused-of p z
+  -- carrying on twice is carrying on once
+  pub resume-resume : paused-bytes ≤ length out → max-commands ≤ length list
+      → Joined (resume-report x y es out₀ list₀ .turns) (resume-report x y (es ++ fs) out list) (resume-report x paused-again fs out list)
+      (resume-output x y (es ++ fs) out list) (resume-output x paused-again fs out list)
+      (resume-list x y (es ++ fs) out list) (resume-list x paused-again fs out list)
+  unfolding resume-report resume-output resume-list
+  resume-resume = again paused-at-33 paused-bytes
 
-    good-z : Good p z
-    good-z = visits-good (accepted-firm ok) first-good (run-visits p (begin p rs) es pauses .0)
-
-    tabled-z : Tabled p (z .instances)
-    tabled-z = visits-tabled (accepted-firm ok) first-good first-tabled (run-visits p (begin p rs) es pauses .0)
-
-    last-z : LastThere z
-    last-z = visits-last first-last (run-visits p (begin p rs) es pauses .0)
-
-    busy : due z ≡ false
-    busy = paused-at (accepted-firm ok) first-good es pauses .1
-
-    counted : CountedPaused p q
-    counted = pausable-counted ok good-z tabled-z last-z busy
-
-    al : Allowed p q
-    al = pausable-allowed ok good-z tabled-z last-z busy
-
-    -- what is written at 33 is the image of the paused state, which is accepted as that state
-    pub pause-writes : (pause-output x y es out list ≡ image (enc-paused q) ++ drop (block-size * pieces (length (enc-paused q))) out)
-        × (resume-begins x (image (enc-paused q)) fs out list ≡ resumes p q)
-    unfolding pause-output pause-output-by output-of left-stream
-    pause-writes = (
-      rw (pauses-with es (ready .turns-few), pauses),
-      resumes-with q counted al fs (omega (arith, length-append es fs)),
-    )
-
-    -- carrying on from it equals the run with both lists joined
-    pub carry-on-images : (pause-report x y (es ++ fs) out list ≡ turns-on t (resume-report x (image (enc-paused q)) fs out list))
-        × (pause-output x y (es ++ fs) out list ≡ resume-output x (image (enc-paused q)) fs out list)
-    unfolding pause-report pause-output resume-report resume-output pause-report-by pause-output-by resume-report-by resume-output-by report-of output-of
-    carry-on-images =
-        let good-q = allowed-good ok q counted al in
-        let d = good-never-stuck ok good-q fs in
-        let (w, e, s) = carry-on-joined ok first-good first-tabled first-last es pauses fs (d .returns) in
-        let v = d .last in
-        let same = same-stream p (d .number) w v s (λ n. paused-at (accepted-firm ok) good-q fs (d .returns ∙ ap (λ (k : ℕ). stopped k (d .turns) v) n) .1) in
-        let all = pauses-with (es ++ fs) few in
-        let rest = resumes-with q counted al fs (omega (arith, length-append es fs)) in
-        let holding = s .holding in (
-          rw (all, rest, e, d .returns, same, holding),
-          rw (all, rest, e, d .returns, same),
-        )
+  -- carrying on and finishing is finishing in one piece
+  pub resume-finish : table-bytes ≤ length out → max-commands ≤ length list
+      → Joined (resume-report x y es out₀ list₀ .turns) (finish-report x y (es ++ fs) out list) (finish-report x paused-again fs out list)
+      (finish-output x y (es ++ fs) out list) (finish-output x paused-again fs out list)
+      (finish-list x y (es ++ fs) out list) (finish-list x paused-again fs out list)
+  unfolding finish-report finish-output finish-list
+  resume-finish = again table-at-33 table-bytes

@@ -1,5 +1,5 @@
 -- Every machine of a run in which some instance holds commands has an allowed paused state (02, 'Pausing a run').
-use Prim.Native.Nat.{ℕ, suc, _+_, _-_, _<_, _≤_}
+use Prim.Native.Nat.{ℕ, suc, _+_, _-_, _<_}
 use native.Mathlib.Omega.{arith}
 use mathlib.Core.Path.{_≡_, refl, ap, sym, _∙_, subst}
 use mathlib.Core.Bool.{false}
@@ -24,8 +24,8 @@ use Rattle.machine.specs.Machine.{Tagged, Instance, Machine}
 use Rattle.run.specs.Begin.{params-in}
 use Rattle.run.specs.Holders.{due}
 use Rattle.sound.specs.Needs.{ValueAmong}
-use Rattle.sound.specs.Invariant.{Job, Fits, Fitted, Passage, Place, Place.resting, Place.passing, Good}
-use Rattle.sound.specs.Tabled.{Tabled}
+use Rattle.sound.specs.Invariant.{Job, Fits, Fitted, Passage, Place, Place.resting, Place.passing}
+use Rattle.sound.specs.Startable.{Startable}
 use Rattle.sound.specs.Laws.ElemLaws.{some-is, at-map, map-at}
 use Rattle.sound.specs.Laws.EachLaws.{each-map, each-of-map}
 use Rattle.sound.specs.Laws.HolderLaws.{chosen-holds}
@@ -109,20 +109,20 @@ module _ (p : Program) (is : List Instance) (r : Option Job) where
 
 -- The machine ------------------------------------------------------------------------------
 
-module _ {p : Program} (ok : Accepted p) {m : Machine} (good : Good p m) (tabled : Tabled p (m .instances)) (from : m .from ≤ length (m .instances))
+module _ {p : Program} (ok : Accepted p) {m : Machine} (start : Startable p m)
     (busy : due m ≡ false) where
   -- the step call or the iterator that runs
-  pub runs : (a : Job) × (good .runs ≡ some a)
+  pub runs : (a : Job) × (start .good .runs ≡ some a)
   runs =
       let (i, n, c, at, e) = chosen-holds m 0 busy in
-      let (a, q, g) = holder-passage (good .all .each _ i at .place) e in
+      let (a, q, g) = holder-passage (start .good .all .each _ i at .place) e in
       (a, q)
 
   abbrev pub job : Job
   job = runs .0
 
   pub started : Begun p job (m .sched)
-  started = running-begun p job (m .sched) (rw (runs .1) at (good .running))
+  started = running-begun p job (m .sched) (rw (runs .1) at (start .good .running))
 
   abbrev pub r : Option Job
   r = job-at p (place-of p (m .sched))
@@ -133,7 +133,7 @@ module _ {p : Program} (ok : Accepted p) {m : Machine} (good : Good p m) (tabled
   -- a holder stands in a step of it
   pub passage-of : (l : ℕ) (i : Instance) → getElem? (m .instances) l ≡ some i → (n : Note) (c : List Note) → i .code ≡ n ∷ c → Passage p job (m .instances) l i
   passage-of l i at n c e =
-      let (a, q, g) = holder-passage (good .all .each l i at .place) e in
+      let (a, q, g) = holder-passage (start .good .all .each l i at .place) e in
       let same : a ≡ job = some-is (sym q ∙ runs .1) in
       subst (λ b. Passage p b (m .instances) l i) same g
 
@@ -163,7 +163,7 @@ module _ {p : Program} (ok : Accepted p) {m : Machine} (good : Good p m) (tabled
     rests-empty : i .code ≡ [] → i .stack ≡ [] → Stands p all job l (held-of p r i)
     rests-empty e χ = subst (λ h. Stands p all job l h) (sym (idle-held i e)) (rests refl refl (inl (ap (map (λ x. word (x .is))) χ)))
 
-    rests-held : i .code ≡ [] → Place p (good .runs) (m .instances) l i → Stands p all job l (held-of p r i)
+    rests-held : i .code ≡ [] → Place p (start .good .runs) (m .instances) l i → Stands p all job l (held-of p r i)
     rests-held e (resting c χ) = rests-empty e χ
     rests-held e (passing g o) =
         let (n, s) = has-step g in
@@ -191,7 +191,7 @@ module _ {p : Program} (ok : Accepted p) {m : Machine} (good : Good p m) (tabled
     stands-held = go (i .code) refl
       where
         go : (c : List Note) → i .code ≡ c → Stands p all job l (held-of p r i)
-        go [] e = rests-held e (good .all .each l i at .place)
+        go [] e = rests-held e (start .good .all .each l i at .place)
         go (n ∷ c) e = holds-held n c e
 
   words-of : (ts : List Ty) → map word (map default ts) ≡ map (λ t. word (default t)) ts
@@ -201,8 +201,8 @@ module _ {p : Program} (ok : Accepted p) {m : Machine} (good : Good p m) (tabled
   null-held : (k : ℕ) → k < structs p
       → (h : Held) × (getElem? all k ≡ some h) × (h .struct ≡ k) × (h .params ≡ map (λ t. word (default t)) (params-of p k))
   null-held k lt =
-      let (i, e, s) = good .all .nulls k lt in
-      let d = tabled .each k i e .1 lt in (
+      let (i, e, s) = start .good .all .nulls k lt in
+      let d = start .tabled .each k i e .1 lt in (
         held-of p r i,
         at-map (held-of p r) (m .instances) k i e,
         held-struct p i r ∙ s,
@@ -223,12 +223,12 @@ module _ {p : Program} (ok : Accepted p) {m : Machine} (good : Good p m) (tabled
     sched = m .sched;
     started = started;
     placed = refl;
-    opened = good .opened;
+    opened = start .good .opened;
     stands = λ l h e. let (i, g, z) = map-at (held-of p r) (m .instances) l h e in rw (← z) (stands-held l i g);
     held = some-held;
     params = λ l h e.
         let (i, g, z) = map-at (held-of p r) (m .instances) l h e in
-        rw (← z) (rw (held-struct p i r, held-params p i r) (params-held p (m .instances) r (params-of p (i .struct)) (i .env) (good .all .each l i g .fitted)));
+        rw (← z) (rw (held-struct p i r, held-params p i r) (params-held p (m .instances) r (params-of p (i .struct)) (i .env) (start .good .all .each l i g .fitted)));
     nulls = null-held;
-    from = rw (length-map (m .instances) (held-of p r)) from;
+    from = rw (length-map (m .instances) (held-of p r)) (start .last);
   }

@@ -28,9 +28,9 @@ use Rattle.machine.specs.Machine.{Tagged, Instance, Machine}
 use Rattle.run.specs.Begin.{params-in}
 use Rattle.run.specs.Holders.{due}
 use Rattle.sound.specs.Needs.{ValueAmong}
-use Rattle.sound.specs.Invariant.{Job, Job.call, Fits, Fitted, Place, Place.resting, Place.passing, Good}
+use Rattle.sound.specs.Invariant.{Job, Job.call, Fits, Fitted, Place, Place.resting, Place.passing}
 use Rattle.sound.specs.Firm.{Firm}
-use Rattle.sound.specs.Tabled.{Tabled}
+use Rattle.sound.specs.Startable.{Startable}
 use Rattle.sound.specs.Laws.AcceptedLaws.{accepted-firm, all-at}
 use Rattle.sound.specs.Laws.ElemLaws.{map-at, elem-all}
 use Rattle.sound.specs.Laws.EachLaws.{each-length}
@@ -136,7 +136,7 @@ module _ (p : Program) (is : List Instance) (few : length is ≤ max-instances) 
 
 -- The machine ------------------------------------------------------------------------------
 
-module _ {p : Program} (ok : Accepted p) {m : Machine} (good : Good p m) (tabled : Tabled p (m .instances)) (from : m .from ≤ length (m .instances))
+module _ {p : Program} (ok : Accepted p) {m : Machine} (start : Startable p m)
     (busy : due m ≡ false) where
   firm : Firm p
   firm = accepted-firm ok
@@ -147,46 +147,46 @@ module _ {p : Program} (ok : Accepted p) {m : Machine} (good : Good p m) (tabled
   module _ (l : ℕ) (i : Instance) (at : getElem? (m .instances) l ≡ some i) where
     stack-few : length (map (λ x. word (x .is)) (i .stack)) ≤ max-depth
     stack-few =
-        let low = good-right firm good .low l i at in
+        let low = good-right firm (start .good) .low l i at in
         let d = depth-within p (ok .1) in
         omega (arith, length-map (i .stack) (λ x. word (x .is)))
 
-    stack-words : Place p (good .runs) (m .instances) l i → All Word (map (λ x. word (x .is)) (i .stack))
+    stack-words : Place p (start .good .runs) (m .instances) l i → All Word (map (λ x. word (x .is)) (i .stack))
     stack-words (resting c χ) = rw χ tt
-    stack-words (passing g h) = stack-low p (m .instances) (tabled .few) r (g .place .stack) (i .stack) (g .stacked)
+    stack-words (passing g h) = stack-low p (m .instances) (start .tabled .few) r (g .place .stack) (i .stack) (g .stacked)
 
     params-words : (length (map word (params-in (i .env))) ≡ length (params-of p (i .struct))) × (All Word (map word (params-in (i .env))))
-    params-words = params-low p (m .instances) (tabled .few) r (params-of p (i .struct)) (i .env) (good .all .each l i at .fitted)
+    params-words = params-low p (m .instances) (start .tabled .few) r (params-of p (i .struct)) (i .env) (start .good .all .each l i at .fitted)
 
     counted-held : CountedHeld p (held-of p r i)
     unfolding living word-in
     counted-held = go (i .code) refl
       where
         go : (c : List Note) → i .code ≡ c → CountedHeld p (held-of p r i)
-        go [] e = rw (idle-held ok good tabled from busy i e) (record {
-          struct = tabled .each l i at .0;
+        go [] e = rw (idle-held ok start busy i e) (record {
+          struct = start .tabled .each l i at .0;
           params = params-words;
           position = tt;
-          stack = (stack-few, stack-words (good .all .each l i at .place));
+          stack = (stack-few, stack-words (start .good .all .each l i at .place));
           locals = (omega arith, tt);
         })
         go (n ∷ c) e =
-            let g = passage-of ok good tabled from busy l i at n c e in
+            let g = passage-of ok start busy l i at n c e in
             let b = g .body in
             let k = step-place g in
-            let a = job ok good tabled from busy in
+            let a = job ok start busy in
             let low = position-byte p (ok .1) a (i .struct) (length (i .code)) in
-            rw (holder-held ok good tabled from busy i n c e g) (record {
-              struct = tabled .each l i at .0;
+            rw (holder-held ok start busy i n c e g) (record {
+              struct = start .tabled .each l i at .0;
               params = params-words;
               position = low;
-              stack = (stack-few, stack-words (good .all .each l i at .place));
+              stack = (stack-few, stack-words (start .good .all .each l i at .place));
               locals = (
                 omega (arith, length-map (living b k) (λ x. word-in (lookup (i .env) (first-local + x))), among-few 0 max-locals (alive (drop k (lives b)))),
                 all-maps (λ x. word-in (lookup (i .env) (first-local + x))) (living b k)
                     (λ x y.
                     let (v, f, o) = g .locals x (g .kept x (among-in 0 max-locals (alive (drop k (lives b))) x y)) in
-                    rw f (word-low p (m .instances) (tabled .few) r (body-local b x int) v o)),
+                    rw f (word-low p (m .instances) (start .tabled .few) r (body-local b x int) v o)),
               );
             })
 
@@ -197,12 +197,12 @@ module _ {p : Program} (ok : Accepted p) {m : Machine} (good : Good p m) (tabled
       let items = items-places (p .schedule) in
       let few = ok .1 .3 in
       let size = length-map (m .instances) (held-of p r) in
-      let n = tabled .null-ones in
-      let k = tabled .few in
+      let n = start .tabled .null-ones in
+      let k = start .tabled .few in
       record {
         place = omega arith;
-        entries = good-entries firm good .0;
-        from = omega arith;
+        entries = good-entries firm (start .good) .0;
+        from = let f = start .last in omega arith;
         count = (omega arith, omega arith);
         each = elem-all (CountedHeld p) (map (held-of p r) (m .instances)) (λ l h e.
             let (i, g, z) = map-at (held-of p r) (m .instances) l h e in

@@ -25,9 +25,9 @@ use Rattle.machine.specs.Machine.{Tagged, tagged, Instance, Machine}
 use Rattle.run.specs.Begin.{params-in}
 use Rattle.run.specs.Holders.{due}
 use Rattle.sound.specs.Needs.{ValueAmong}
-use Rattle.sound.specs.Invariant.{Job, Fits, Fitted, Place, Place.resting, Place.passing, Good}
+use Rattle.sound.specs.Invariant.{Job, Fits, Fitted, Place, Place.resting, Place.passing}
 use Rattle.sound.specs.Firm.{Firm}
-use Rattle.sound.specs.Tabled.{Tabled}
+use Rattle.sound.specs.Startable.{Startable}
 use Rattle.sound.specs.Laws.AcceptedLaws.{accepted-firm}
 use Rattle.sound.specs.Laws.ElemLaws.{at-map, at-below}
 use Rattle.sound.specs.Laws.EnvLaws.{local-at}
@@ -128,7 +128,7 @@ params-back : (p : Program) (is : List Instance) (few : length is ≤ max-instan
     → params-in ξ ≡ valued ts (map word (params-in ξ))
 params-back p is few r ts (env ps ls) f = values-back p is few r ts ps (f .0)
 
-module _ {p : Program} (ok : Accepted p) {m : Machine} (good : Good p m) (tabled : Tabled p (m .instances)) (from : m .from ≤ length (m .instances))
+module _ {p : Program} (ok : Accepted p) {m : Machine} (start : Startable p m)
     (busy : due m ≡ false) where
   abbrev r : Option Job
   r = job-at p (place-of p (m .sched))
@@ -143,19 +143,19 @@ module _ {p : Program} (ok : Accepted p) {m : Machine} (good : Good p m) (tabled
     abbrev back : Instance
     back = instance-of p all r (held-of p r i)
 
-    idle-back : i .code ≡ [] → Place p (good .runs) (m .instances) l i → AlikeInst i back
+    idle-back : i .code ≡ [] → Place p (start .good .runs) (m .instances) l i → AlikeInst i back
     unfolding at-position restored rise
     idle-back e place =
-        let same : back ≡ idle p all (holding p i none []) = ap (instance-of p all r) (idle-held ok good tabled from busy i e) in
+        let same : back ≡ idle p all (holding p i none []) = ap (instance-of p all r) (idle-held ok start busy i e) in
         rw same (record {
           struct = refl;
           code = e;
           stack = go place;
-          params = params-back p (m .instances) (tabled .few) r (params-of p (i .struct)) (i .env) (good .all .each l i at .fitted);
+          params = params-back p (m .instances) (start .tabled .few) r (params-of p (i .struct)) (i .env) (start .good .all .each l i at .fitted);
           locals = λ x k. absurd (List·Memᴰ·not-nil k);
         })
       where
-        go : Place p (good .runs) (m .instances) l i → i .stack ≡ restored all [] (map (λ x. word (x .is)) (i .stack))
+        go : Place p (start .good .runs) (m .instances) l i → i .stack ≡ restored all [] (map (λ x. word (x .is)) (i .stack))
         go (resting c χ) = rw χ
         go (passing g o) =
             let (n, s) = has-step g in
@@ -166,13 +166,13 @@ module _ {p : Program} (ok : Accepted p) {m : Machine} (good : Good p m) (tabled
             let labels = way-labels G c₀ (level .0) (level .1) (rw (nothing-held g e) at (g .way)) in
             let flat : shape G [] c₀ (length c₀ - 0) ≡ [] = no-more (shape G [] c₀ (length c₀ - 0)) (omega (arith, above .high)) in
             let stack : g .place .stack ≡ map ref labels = above .stack ∙ ap (λ χ. χ ++ map ref labels) flat in
-            stack-back p (m .instances) (tabled .few) r [] labels (i .stack) (rw stack at (g .stacked))
+            stack-back p (m .instances) (start .tabled .few) r [] labels (i .stack) (rw stack at (g .stacked))
 
     holder-back : (n : Note) (c : List Note) → i .code ≡ n ∷ c → AlikeInst i back
     unfolding at-position in-spot spot-by living word-in
     holder-back n c e =
-        let g = passage-of ok good tabled from busy l i at n c e in
-        let a = job ok good tabled from busy in
+        let g = passage-of ok start busy l i at n c e in
+        let a = job ok start busy in
         let b = g .body in
         let G = context p (i .struct) b in
         let c₀ = noted G b in
@@ -181,9 +181,9 @@ module _ {p : Program} (ok : Accepted p) {m : Machine} (good : Good p m) (tabled
         let ls = map (λ x. word-in (lookup (i .env) (first-local + x))) (living b k) in
         let h = holding p i (some j) ls in
         let run : spot-by p r (i .struct) j ≡ some (spot-at b k (g .rest)) =
-        ap (λ (o : Option Job). spot-by p o (i .struct) j) (job-is ok good tabled from busy) ∙ passage-spot g e in
+        ap (λ (o : Option Job). spot-by p o (i .struct) j) (job-is ok start busy) ∙ passage-spot g e in
         let same : back ≡ standing p all h k b (g .rest) =
-        ap (instance-of p all r) (holder-held ok good tabled from busy i n c e g) ∙ ap (in-spot p all h) run in
+        ap (instance-of p all r) (holder-held ok start busy i n c e g) ∙ ap (in-spot p all h) run in
         let (u, s) = has-step g in
         let level = step-level p ok (i .struct) u s in
         let above = way-above G c₀ (level .0) (level .1) (g .way) in
@@ -194,14 +194,14 @@ module _ {p : Program} (ok : Accepted p) {m : Machine} (good : Good p m) (tabled
           struct = refl;
           code = g .code ∙ ap (λ d. d ++ g .rest) (sym (way-place (g .way)));
           stack =
-              stack-back p (m .instances) (tabled .few) r (shape G [] c₀ k) labels (i .stack)
+              stack-back p (m .instances) (start .tabled .few) r (shape G [] c₀ k) labels (i .stack)
               (rw (above .stack) at (g .stacked));
-          params = params-back p (m .instances) (tabled .few) r (params-of p (i .struct)) (i .env) (good .all .each l i at .fitted);
+          params = params-back p (m .instances) (start .tabled .few) r (params-of p (i .struct)) (i .env) (start .good .all .each l i at .fitted);
           locals = λ x y.
               let (v, f, o) = g .locals x (g .kept x (among-in 0 max-locals (alive (drop k (lives b))) x y)) in
               let ps = valued (params-of p (i .struct)) (map word (params-in (i .env))) in
               let w = localed-word b (λ x. word-in (lookup (i .env) (first-local + x))) (living b k) (λ z d. low z (among-in 0 max-locals (alive (drop k (lives b))) z d)) x y in
-              f ∙ ap some (sym (word-back p (m .instances) (tabled .few) r (body-local b x int) v o))
+              f ∙ ap some (sym (word-back p (m .instances) (start .tabled .few) r (body-local b x int) v o))
               ∙ ap (λ u. some (value-of (body-local b x int) (word-in u))) (sym f)
               ∙ sym w
               ∙ sym (local-at ps (localed b (living b k) ls) x);
@@ -211,14 +211,14 @@ module _ {p : Program} (ok : Accepted p) {m : Machine} (good : Good p m) (tabled
     inst-back = go (i .code) refl
       where
         go : (c : List Note) → i .code ≡ c → AlikeInst i back
-        go [] e = idle-back e (good .all .each l i at .place)
+        go [] e = idle-back e (start .good .all .each l i at .place)
         go (n ∷ c) e = holder-back n c e
 
   -- a machine in which someone holds commands is like the one that its paused state stands for
   pub resumed-alike : Alike m (resumed p (paused-of p m))
   unfolding resumed paused-of
   resumed-alike = record {
-    sched = sym (place-left p (begun-left p (job ok good tabled from busy) (m .sched) (started ok good tabled from busy)));
+    sched = sym (place-left p (begun-left p (job ok start busy) (m .sched) (started ok start busy)));
     instances =
         rw (map-both (instance-of p all r) (held-of p r) (m .instances))
         (alike-each (λ i. instance-of p all r (held-of p r i)) (m .instances) inst-back);

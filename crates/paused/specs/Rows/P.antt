@@ -28,7 +28,7 @@ P-paused =
     ∷ 0 ∷ 7 ∷ 0 ∷ 0 ∷ 0 ∷ 1 ∷ 0 ∷ 0 ∷ 0 ∷ 3 ∷ 2 ∷ 2 ∷ 0 ∷ 0 ∷ 0 ∷ 7 ∷ 0 ∷ 0 ∷ 0 ∷ 0
     ∷ []
 
-pub P-pauses : pausing P first-table (replicate 9 0) ≡ P-paused
+pub P-pauses : pausing P first-table (replicate 9 0) ≡ summary 33 9 2 3 P-paused
 unfolding pausing program adding addings P cell cells
 P-pauses = refl
 
@@ -38,7 +38,7 @@ unfolding carrying program adding addings P cell cells
 P-carried = refl
 
 -- paused after 23 zeros and carried on with one
-pub P-last-turn : carrying P (pausing P first-table (replicate 23 0)) (0 ∷ []) ≡ summary 0 1 2 0 last-table
+pub P-last-turn : carrying P (pausing P first-table (replicate 23 0) .left) (0 ∷ []) ≡ summary 0 1 2 0 last-table
 unfolding pausing carrying program adding addings P cell cells
 P-last-turn = refl
 

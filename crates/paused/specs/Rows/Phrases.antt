@@ -6,6 +6,7 @@ use mathlib.Core.Bool.{Bool, true, false}
 use mathlib.Core.Option.{Option, none, some}
 use mathlib.Core.List.{List, [], _∷_, _++_}
 use lib.ListN.{replicate}
+use Rattle.run.specs.EntryStreams.{summary}
 use Rattle.paused.specs.Paused.{Held, Paused}
 use Rattle.paused.specs.Stream.{enc-paused}
 use Rattle.paused.specs.Rows.RowsOpen.{pausing, judged}
@@ -99,7 +100,7 @@ Q-paused =
     ∷ 1 ∷ 255 ∷ 0 ∷ 0 ∷ []
 
 -- a run comes to it
-pub Q-pauses : pausing Q table turns ≡ Q-paused
+pub Q-pauses : pausing Q table turns ≡ summary 33 17 3 3 Q-paused
 unfolding pausing Q
 Q-pauses = refl
 

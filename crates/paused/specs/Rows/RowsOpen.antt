@@ -1,22 +1,20 @@
 -- Pausing and carrying on, read off the streams, with every definition open that they compute through; where one of these is unfolded, a row is a
 -- fact by computation.
 use Prim.Native.Nat.{ℕ}
-use mathlib.Core.Path.{_≡_, refl}
-use mathlib.Core.List.{List, [], _∷_, _++_}
-use lib.ListN.{replicate, set}
+use mathlib.Core.List.{List, []}
+use lib.ListN.{length}
+use Rattle.types.specs.Stages.{Stage, Stage.went, Stage.stopped, on}
 use Rattle.program.specs.Tree.{Program}
 use Rattle.program.specs.Reader.{whole}
-use Rattle.program.specs.Rows.{program, adding, addings}
+use Rattle.commands.specs.Bounds.{program-depth}
 use Rattle.commands.specs.Decide.{member}
 use Rattle.commands.specs.Living.{live-walk, live-expr, live-exprs, live-stmt, live-body, lives}
-use Rattle.verdict.specs.Verdict.{Checked, Checked.accepted, Checked.refused}
-use Rattle.verdict.specs.Rows.{P, checking}
-use Rattle.run.specs.Run.{Outcome, Outcome.stopped, Outcome.jammed, run}
-use Rattle.run.specs.Begin.{begin}
-use Rattle.run.specs.Entry.{Begun, Begun.begun, Begun.not-begun}
-use Rattle.run.specs.EntryStreams.{Summary, summary, of-outcome, begins-streams}
+use Rattle.verdict.specs.Rows.{checking}
+use Rattle.run.specs.Holders.{holders}
+use Rattle.run.specs.Run.{Outcome, Outcome.stopped as ended, Outcome.jammed, run}
+use Rattle.run.specs.Entry.{no-number}
+use Rattle.run.specs.EntryStreams.{Summary, summary, begins-streams}
 use Rattle.run.specs.Rows.RowsOpen.{running}
-use Rattle.run.specs.Rows.RowPrograms.{cell, cells}
 use Rattle.paused.specs.Rise.{rise, left-by, shape}
 use Rattle.paused.specs.Place.{places, onward, left-at, first-job, job-at}
 use Rattle.paused.specs.Spot.{step-spot, spot, spot-by, step-notes, position-left}
@@ -29,40 +27,32 @@ use Rattle.paused.specs.Judge.{opens, hold-types, is-empty, same-words, 
 use Rattle.paused.specs.Judge.{some-holds, params-hold, nulls-hold, allowed-by, is-allowed}
 use Rattle.paused.specs.Stream.{enc-entry, enc-position, enc-held, enc-paused, position-of, read-entry, read-position, read-parts}
 use Rattle.paused.specs.Stream.{read-held, read-count, read-instances, read-paused}
-use Rattle.paused.specs.Entry.{Begins, Begins.resumes, Begins.not-resumed, of-read, left-stream}
+use Rattle.paused.specs.Entry.{of-read, judge, Writes.paused-at-33, left-stream, Start, from-table, from-paused}
 
--- the stream that a run of a program stream on a table stream leaves
-abbrev left-of : Program → Outcome → List ℕ
-left-of p (stopped n t m) = left-stream p n m
-left-of p jammed = []
+-- number, turns, depth and holders of a call, and the stream that it leaves
+abbrev of-outcome : Program → Outcome → Summary
+of-outcome p (ended n t m) = summary n t (program-depth p) (length (holders m)) (left-stream paused-at-33 p n m)
+of-outcome p jammed = summary no-number 0 0 0 []
 
-abbrev pausing-by : Begun → List ℕ → List ℕ
-pausing-by (begun p rs) es = left-of p (run p (begin p rs) es)
-pausing-by (not-begun n) es = n ∷ []
+abbrev summed : Stage Start → List ℕ → Summary
+summed (stopped n) es = summary n 0 0 0 []
+summed (went (p, m)) es = of-outcome p (run p m es)
 
-unfoldable pub pausing : List ℕ → List ℕ → List ℕ → List ℕ
-unfolding running rise shape places onward left-at first-job job-at step-spot spot spot-by position-left step-notes among living lives live-walk live-expr live-exprs live-stmt live-body member
-    word-in at-spot by-job by-code paused-of enc-entry enc-position enc-held enc-paused left-stream
-pausing s t es = pausing-by (begins-streams s t es) es
+-- pausing: program stream, table stream and turn bytes, where output and list have room
+unfoldable pub pausing : List ℕ → List ℕ → List ℕ → Summary
+unfolding running rise shape places onward left-at first-job job-at step-spot spot spot-by position-left step-notes among living lives live-walk live-expr
+    live-exprs live-stmt live-body member word-in at-spot by-job by-code paused-of enc-entry enc-position enc-held enc-paused left-stream
+pausing s t es = summed (from-table (begins-streams s t es)) es
 
--- what carrying on from a paused stream comes to
-abbrev carried-by : Begins → List ℕ → Summary
-carried-by (resumes p q) es = of-outcome p (run p (resumed p q) es)
-carried-by (not-resumed n) es = summary n 0 0 0 []
-
-abbrev carried-from : Checked → List ℕ → List ℕ → Summary
-carried-from (accepted p) t es = carried-by (of-read p (whole (read-paused p) t)) es
-carried-from (refused n) t es = summary n 0 0 0 []
-
+-- carrying on: program stream, paused stream and turn bytes
 unfoldable pub carrying : List ℕ → List ℕ → List ℕ → Summary
-unfolding running rise left-by shape places onward left-at first-job job-at step-spot spot spot-by position-left step-notes among living lives live-walk live-expr live-exprs live-stmt live-body member
-    struct-in restored valued localed in-spot at-position resumed lowest grown passed ahead numbers-at at-first may-leave is-label holds-type
-    above-labels this-at behind-this on-top own-right stack-right opens hold-types is-empty same-words step-leaves any-leaves step-holds stands-by all-stand
-    has-position some-holds params-hold nulls-hold allowed-by is-allowed position-of read-entry read-position read-parts read-held read-count
-    read-instances read-paused of-read
-carrying s t es = carried-from (checking s) t es
+unfolding pausing left-by struct-in restored valued localed in-spot at-position resumed lowest grown passed ahead numbers-at at-first may-leave is-label
+    holds-type above-labels this-at behind-this on-top own-right stack-right opens hold-types is-empty same-words step-leaves any-leaves step-holds
+    stands-by all-stand has-position some-holds params-hold nulls-hold allowed-by is-allowed position-of read-entry read-position read-parts read-held
+    read-count read-instances read-paused of-read judge
+carrying s t es = summed (from-paused (on (checking s) λ p. on (of-read (whole (read-paused p) t)) λ q. on (judge p q) λ q. went (p, q))) es
 
 -- the number of carrying on without turns: 33 from a state that is accepted
 unfoldable pub judged : List ℕ → List ℕ → ℕ
-unfolding carrying enc-entry enc-position enc-held enc-paused
+unfolding carrying
 judged s t = carrying s t [] .number

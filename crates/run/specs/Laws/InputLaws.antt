@@ -80,7 +80,7 @@ module _ (x y : List ℕ) where
           (past (λ b. no-fault y (b .0) (s .1) (b .1)) (tell-table p a (record { length-right = s .0; blocks-right = s .1 })))
 
   -- 1 to 12
-  abbrev Tabled : Program × List Record → Type 0
+  abbrev pub Tabled : Program × List Record → Type 0
   Tabled q = (AcceptedImage x (q .0)) × (TableAccepted (q .0) y (q .1))
 
   pub tell-images : Stages Tabled (program-order x ++ table-order x y) (images x y)
@@ -88,14 +88,14 @@ module _ (x y : List ℕ) where
   tell-images = stage-on (tell-checked x) λ p a. stage-on (tell-tabled p a) λ rs t. passes tt ((p, rs), refl, (a, t))
 
   -- an accepted table meets no condition
-  tabled-none : {p : Program} {rs : List Record} → AcceptedImage x p → TableAccepted p y rs → NoneOf (table-order x y)
+  pub tabled-none : {p : Program} {rs : List Record} → AcceptedImage x p → TableAccepted p y rs → NoneOf (table-order x y)
   tabled-none a t = (
     λ f. f (t .image .length-right),
     (λ b. no-fault y (b .0) (t .image .blocks-right) (b .1), (no-11 (reads-of a) t, (no-12 (reads-of a) t, tt))),
   )
 
   -- two images hold one program and one table
-  one-table : (q r : Program × List Record) → Tabled q → Tabled r → q ≡ r
+  pub one-table : (q r : Program × List Record) → Tabled q → Tabled r → q ≡ r
   one-table q r a b =
       let e : q .0 ≡ r .0 = one-program (reads-of (a .0)) (reads-of (b .0)) in
       let t = table-answer-exact (q .0 .params) (stream y) (q .1) .1 (a .1 .right, a .1 .bytes) in

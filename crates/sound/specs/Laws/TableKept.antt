@@ -9,6 +9,7 @@ use mathlib.Core.List.{List, map}
 use lib.ListN.{length, getElem?, drop, length-map, length-drop, length-append}
 use lib.Dec.{ltb}
 use borrow.Author.Tests.{ltb-true, ltb-false}
+use Rattle.types.specs.Stages.{Stage.went, Stage.stopped as no}
 use Rattle.types.specs.Limits.{table-blocks}
 use Rattle.types.specs.Types.{Ty, Ty.int, Ty.nat, Ty.bool, Ty.ref}
 use Rattle.types.specs.Values.{Val, Val.int-val, Val.nat-val, Val.bool-val, Val.label, default}
@@ -32,7 +33,7 @@ use Rattle.run.specs.Runs.{Config, StandsFor}
 use Rattle.run.specs.Comes.{Comes}
 use Rattle.run.specs.Laws.OutcomeLaws.{outcome-complete}
 use Rattle.run.specs.Laws.RunAgreesVisits.{run-visits}
-use Rattle.run.specs.Entry.{Begun, Begun.begun, Begun.not-begun, begins, output-of, run-output-by, run-output}
+use Rattle.run.specs.Entry.{Begun, begins, output-of, run-output-by, run-output}
 use Rattle.run.specs.Input.{TableAccepted}
 use Rattle.run.specs.Laws.InputLaws.{begins-ready}
 use Rattle.sound.specs.Needs.{ValueAmong}
@@ -164,8 +165,8 @@ unfolding run-output run-output-by output-of image
 output-length x y es out list = go (begins x y es out list) refl
   where
     go : (b : Begun) → begins x y es out list ≡ b → length (run-output-by b es out) ≡ length out
-    go (not-begun n) e = refl
-    go (begun p rs) e =
+    go (no n) e = refl
+    go (went (p, rs)) e =
         let r = begins-ready x y es out list p rs .0 e in
         let ok = ready-accepted r in
         let d = demand3 ok rs (r .table .right) es in
