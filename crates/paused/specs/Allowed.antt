@@ -1,9 +1,9 @@
--- The paused states that are allowed (02, 'Pausing a run'; number 19), phrase by phrase, and those that stand in a stream (number 18).
+-- The paused states that are allowed (02, 'Pausing a run'; number 19), phrase by phrase, and those that a stream can hold (number 18).
 use Prim.Native.Nat.{ℕ, _<_, _≤_}
 use mathlib.Core.Path.{_≡_}
 use mathlib.Core.Option.{Option, none, some}
 use mathlib.Core.Logic.{_⊎_}
-use mathlib.Core.List.{List, [], map}
+use mathlib.Core.List.{List, [], _∷_, map}
 use lib.ListN.{length, getElem?, drop}
 use Rattle.types.specs.Limits.{nat-end, max-depth, max-locals, max-instances, fix-levels}
 use Rattle.types.specs.Types.{Ty.int}
@@ -18,7 +18,7 @@ use Rattle.sound.specs.Invariant.{Job, Open}
 use Rattle.paused.specs.Place.{place-of, Begun}
 use Rattle.paused.specs.Spot.{spot-at, spot}
 use Rattle.paused.specs.Paused.{Held, Paused}
-use Rattle.paused.specs.Standing.{living, WordOf, Stacked}
+use Rattle.paused.specs.Standing.{living, WordOf, Stacked, AfterThis}
 
 -- What a stream can hold -----------------------------------------------------------------
 
@@ -54,44 +54,53 @@ pub record CountedPaused (p : Program) (q : Paused) : Type 0 where
 
 -- What a run can have left ---------------------------------------------------------------
 
-module _ (p : Program) (hs : List Held) (a : Job) (l : ℕ) (h : Held) where
-  -- the commands of a step of its struct
-  abbrev pub commands-of : Stmts → List Note
-  commands-of b = noted (context p (h .struct) b) b
+-- the commands of a step of an instance's struct
+abbrev pub commands-of : Program → Held → Stmts → List Note
+commands-of p h b = noted (context p (h .struct) b) b
 
-  pub data Stands : Type 0 where
-    -- its position lies in the step that was started on it, its stack is what some way through that step there leaves, its living locals
-    -- hold their types
-    holds : (j n : ℕ) (b : Stmts) (rest : List Note) → h .position ≡ some j → spot p a (h .struct) j ≡ some (spot-at b n rest) → n < length (commands-of b)
-        → Stacked p hs (h .struct) l b (drop n (commands-of b)) (h .stack)
-        → Each (WordOf hs) (map (λ x. body-local b x int) (living b n)) (h .locals)
-        → Stands
-    -- without commands: an empty stack, or what some way through any step of its struct leaves
-    rests : h .position ≡ none → h .locals ≡ []
-        → (h .stack ≡ []) ⊎ ((n : ℕ) × (b : Stmts) × (step-of p (h .struct) n ≡ some b) × (Stacked p hs (h .struct) l b [] (h .stack)))
-        → Stands
+-- an instance has a position, and while the job a runs that lies in the step b, before its command n
+pub record At (p : Program) (a : Job) (h : Held) (b : Stmts) (n : ℕ) : Type 0 where
+  pub position : ℕ
+  pub rest : List Note
+  pub has : h .position ≡ some position
+  pub lies : spot p a (h .struct) position ≡ some (spot-at b n rest)
 
 -- an instance with a position
 abbrev pub Holding : Held → Type 0
 Holding h = (n : ℕ) × (h .position ≡ some n)
 
+-- A word holds a struct as its type where it is the label of an existing instance of it (`LabelIn`): so `stacks`, `without`, `locals` and `params` say that
+-- "references .. exist".
 pub record Allowed (p : Program) (q : Paused) : Type 0 where
-  -- "the schedule left is one that the program's schedule can leave by starting a step"
+  -- "the schedule left is one that the program's schedule can leave by starting a step": that of the job
   pub job : Job
   pub sched : Sched
   pub started : Begun p job sched
   pub placed : q .place ≡ place-of p sched
   -- "there is one stability entry per open Fix"
   pub opened : Open sched (length (q .entries))
-  -- "every position lies in that step, .. each stack holds the types that position needs .., directly after a push this the top is the
-  -- instance's own label, living locals .. hold their types"
-  pub stands : (l : ℕ) (h : Held) → getElem? (q .instances) l ≡ some h → Stands p (q .instances) job l h
+  -- "every position lies in that step"
+  pub positions : (l : ℕ) (h : Held) → getElem? (q .instances) l ≡ some h → Holding h
+      → (b : Stmts) × (n : ℕ) × (At p job h b n) × (n < length (commands-of p h b))
   -- "some instance holds commands"
   pub held : (l : ℕ) × (h : Held) × (getElem? (q .instances) l ≡ some h) × (Holding h)
-  -- "parameters hold their types", "references .. exist"
+  -- "each stack holds the types that position needs above labels of the structs that construct statements on some way there make"
+  pub stacks : (l : ℕ) (h : Held) → getElem? (q .instances) l ≡ some h → (b : Stmts) (n : ℕ) → At p job h b n
+      → Stacked p (q .instances) (h .struct) b (drop n (commands-of p h b)) (h .stack)
+  -- "(without commands: empty, or what some way through any step of its struct leaves)"
+  pub without : (l : ℕ) (h : Held) → getElem? (q .instances) l ≡ some h → h .position ≡ none
+      → (h .stack ≡ []) ⊎ ((n : ℕ) × (b : Stmts) × (step-of p (h .struct) n ≡ some b) × (Stacked p (q .instances) (h .struct) b [] (h .stack)))
+  -- "directly after a push this the top is the instance's own label"
+  pub own : (l : ℕ) (h : Held) → getElem? (q .instances) l ≡ some h → (b : Stmts) (n : ℕ) → At p job h b n → AfterThis (commands-of p h b) n
+      → (vs : List ℕ) × (h .stack ≡ l ∷ vs)
+  -- "living locals .. hold their types"; without commands none lives
+  pub locals : (l : ℕ) (h : Held) → getElem? (q .instances) l ≡ some h → (b : Stmts) (n : ℕ) → At p job h b n
+      → Each (WordOf (q .instances)) (map (λ x. body-local b x int) (living b n)) (h .locals)
+  pub no-locals : (l : ℕ) (h : Held) → getElem? (q .instances) l ≡ some h → h .position ≡ none → h .locals ≡ []
+  -- "and parameters hold their types"
   pub params : (l : ℕ) (h : Held) → getElem? (q .instances) l ≡ some h → Each (WordOf (q .instances)) (params-of p (h .struct)) (h .params)
   -- "null instances' parameters defaults"
   pub nulls : (k : ℕ) → k < structs p
       → (h : Held) × (getElem? (q .instances) k ≡ some h) × (h .struct ≡ k) × (h .params ≡ map (λ t. word (default t)) (params-of p k))
-  -- "the label that acted last exist[s]"
+  -- "references and the label that acted last exist"
   pub from : q .from ≤ length (q .instances)

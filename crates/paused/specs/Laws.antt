@@ -5,10 +5,13 @@ pub mod ShapeLaws
 pub mod PlaceLaws
 pub mod StepLaws
 pub mod SpotLaws
+pub mod FreshLaws
+pub mod StandsLaws
 pub mod AllowedGood
 pub mod AllowedTabled
 pub mod PausableAllowed
 pub mod AlikeLists
+pub mod AlikeWrites
 pub mod AlikeCommands
 pub mod AlikeRuns
 pub mod JoinedLaws
@@ -19,6 +22,8 @@ pub mod PausableCounted
 pub mod SetLaws
 pub mod DecideLaws
 pub mod PausedBack
+pub mod PlaceExact
+pub mod JudgeInstances
 pub mod JudgeLaws
 pub mod LengthLaws
 pub mod CarriedLaws

@@ -1,5 +1,5 @@
--- The place of what is left of a schedule (02, 'Pausing a run'): a step has one place, a Fix one before its items and one behind them, an iterator one
--- before it starts and one while it runs, and a place is counted from the beginning. The schedule laid flat (`memory/specs/Plan.antt`) has the same places.
+-- The place of what is left of a schedule (02, 'Pausing a run'; docs/PAUSED.md): a step has one place, a Fix one before its items and one after them,
+-- and places are counted from the beginning. The schedule laid flat (`memory/specs/Plan.antt`) has the same places.
 use Prim.Native.Nat.{ℕ, zero, suc, _+_, _-_}
 use mathlib.Core.Option.{Option, none, some}
 use Rattle.program.specs.Tree.{Program}
@@ -14,7 +14,7 @@ places (start a s) = suc (places s)
 places (fixpoint f s) = suc (places f + suc (places s))
 places (active f s) = suc (places s)
 
--- what is left one place on: a step is started, a Fix begins, a Fix ends, an iterator starts, an iterator ends
+-- what is left one place on: a step is started, a Fix begins, a Fix ends
 unfoldable pub onward : Sched → Sched
 onward done = done
 onward (start a s) = s
@@ -26,7 +26,7 @@ unfoldable pub left-at : Sched → ℕ → Sched
 left-at s zero = s
 left-at s (suc n) = onward (left-at s n)
 
--- the step call or the iterator that a schedule begins with
+-- the step call that a schedule begins with
 unfoldable pub first-job : Sched → Option Job
 first-job done = none
 first-job (start a s) = some (call a)
@@ -48,6 +48,6 @@ module _ (p : Program) where
   job-at zero = none
   job-at (suc n) = first-job (schedule-at n)
 
-  -- the schedule s is what a run has left behind the job's start: what stands behind a step, or the iterator that runs
+  -- the schedule s is what a run has left when it has started the job: what comes after the step call
   abbrev pub Begun : Job → Sched → Type 0
   Begun (call a) s = Started p a s

@@ -1,5 +1,5 @@
--- The machine that a paused state stands for (02, 'Pausing a run'). What an image does not hold is none: locals that are dead have no value, and the
--- living ones count as written; what put a stack value there is told by its place, and beneath by the label's own struct.
+-- The machine that a paused state stands for (02, 'Pausing a run'). Locals that do not live have no value, and the living ones count as written. The
+-- place tells what put each stack value there; of a label beneath, its own struct does.
 use Prim.Native.Nat.{ℕ}
 use mathlib.Core.Option.{Option, none, some}
 use mathlib.Core.List.{List, [], _∷_, _++_, map}
@@ -51,7 +51,7 @@ module _ (p : Program) (hs : List Held) where
     written = [];
   }
 
-  -- before command n of the step b, with the rest behind its commands
+  -- before command n of the step b, with the rest after its commands
   abbrev pub standing : Held → ℕ → Stmts → List Note → Instance
   standing h n b rest =
       let c = noted (context p (h .struct) b) b in

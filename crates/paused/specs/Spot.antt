@@ -1,4 +1,4 @@
--- Where a position lies (02, 'Pausing a run'): in which step, before which of its commands, and what stands behind that step's commands.
+-- Where a position lies (02, 'Pausing a run'): in which step, before which of its commands, and which commands come after those of that step.
 use Prim.Native.Nat.{ℕ, _-_}
 use mathlib.Core.Option.{Option, none, some}
 use mathlib.Core.List.{List, []}
@@ -21,9 +21,11 @@ unfoldable pub step-spot : Option Stmts → ℕ → List Note → Option Spot
 step-spot none n r = none
 step-spot (some b) n r = some (spot-at b n r)
 
+-- where position n of an instance of struct k lies while the job runs; nowhere if its struct has no such step
 unfoldable pub spot : Program → Job → ℕ → ℕ → Option Spot
 spot p (call a) k n = step-spot (called p a k) n []
 
+-- and where a job may be missing
 unfoldable pub spot-by : Program → Option Job → ℕ → ℕ → Option Spot
 spot-by p none k n = none
 spot-by p (some a) k n = spot p a k n

@@ -40,6 +40,7 @@ use Rattle.sound.specs.Laws.CommandKept.{commanded, turning-good}
 use Rattle.sound.specs.Laws.ReadyLaws.{written-now}
 use Rattle.paused.specs.Laws.SpotLaws.{written-less}
 use Rattle.paused.specs.Alike.{AlikeInst, AlikeAll, Alike}
+use Rattle.paused.specs.Laws.AlikeWrites.{params-assign, params-local, stable-local, set-asks, now-in}
 use Rattle.paused.specs.Laws.AlikeLists.{AlikeEnv, alike-self, param-alike, alike-length, alike-at, alike-set, alike-snoc, alike-env}
 
 -- both go on, to machines that are alike, or both are refused with one number
@@ -49,30 +50,6 @@ pub data AlikeOut : Out → Out → Type 0 where
 
 outs : {x y u v : Out} → x ≡ u → y ≡ v → AlikeOut u v → AlikeOut x y
 outs e f h = rw (e, f) h
-
--- Environments -------------------------------------------------------------------------
-
-params-assign : (ξ η : Env) → params-in ξ ≡ params-in η → (v : ℕ) (x : Val) → v < first-local → params-in (assign ξ v x) ≡ params-in (assign η v x)
-params-assign (env ps ls) (env qs ks) e v x h = rw (param-set ps ls v x h, param-set qs ks v x h) (ap (λ zs. set zs v x) e)
-
-params-local : (ξ : Env) (y : ℕ) (x : Val) → params-in (assign ξ (first-local + y) x) ≡ params-in ξ
-params-local (env ps ls) y x = rw (local-set ps ls y x)
-
--- stability stays where no parameter is written
-stable-local : (p : Program) (k v : ℕ) (x : Val) (o : Option Val) → ltb v (arity p k) ≡ false → leaves-stable p k v x o ≡ true
-unfolding leaves-stable
-stable-local p k v x none h = refl
-stable-local p k v x (some y) h = rw (leaves-stable, h)
-
--- what a local's wr asks, the declaration's or another
-set-asks : (G : Ctx) (d : Bool) (t : Ty) (v : ℕ) (x : Tags) → Asks G (n-set d t v) x → (x .fresh ≡ true) × (t ≡ G .local v) × Top (ref (G .own) ∷ t ∷ []) x
-set-asks G true t v x a = a
-set-asks G false t v x a = (a .0, a .1, a .3)
-
-now-in : (d : Bool) (t : Ty) (v : ℕ) (w : List ℕ) (y : ℕ) → List·Memᴰ y (now-written (n-set d t v) w) → (y ≡ v) ⊎ (List·Memᴰ y w)
-unfolding now-written
-now-in true t v w y m = List·Memᴰ·cases-cons m
-now-in false t v w y m = inr m
 
 -- whichever a test says
 either : {A : Type 0} (t : Bool) {u : Bool} → u ≡ t → (u ≡ true → A) → (u ≡ false → A) → A
@@ -101,10 +78,10 @@ module _ {p : Program} (firm : Firm p) {m n : Machine} (gm : Good p m) (gn : Goo
   puts : {x y : Instance} → AlikeInst x y → Alike (put m l x) (put n l y)
   puts q = record { sched = al .sched; instances = alike-set (al .instances) l q; stability = al .stability; from = al .from }
 
-  -- behind a command that writes no local
-  behind : (b : Note) (d : List Note) {χ ψ : List Tagged} → now-written b wj ≡ wj → χ ≡ ψ
+  -- the actor after a command that writes no local
+  after : (b : Note) (d : List Note) {χ ψ : List Tagged} → now-written b wj ≡ wj → χ ≡ ψ
       → AlikeInst (with-code (actor i wi b) d χ) (with-code (actor j wj b) d ψ)
-  behind b d w e =
+  after b d w e =
       record { struct = a .struct; code = refl; stack = e; params = a .params; locals = λ x k. a .locals x (less x (rw w at k)) }
 
   -- the same stack, as it is found
@@ -113,14 +90,14 @@ module _ {p : Program} (firm : Firm p) {m n : Machine} (gm : Good p m) (gn : Goo
 
   pushes : (t : Ty) (v : Val) → Goes (n-push t v)
   unfolding perform now-written
-  pushes t v e = nexts (puts (behind (n-push t v) c refl (ap (λ χ. tagged t v ∷ χ) (a .stack))))
+  pushes t v e = nexts (puts (after (n-push t v) c refl (ap (λ χ. tagged t v ∷ χ) (a .stack))))
 
   pushes-this : Goes n-this
   unfolding perform now-written
   pushes-this e =
       let q : tagged (ref (i .struct)) (label l) ∷ i .stack ≡ tagged (ref (j .struct)) (label l) ∷ j .stack =
       ap (λ (k : ℕ). tagged (ref k) (label l) ∷ i .stack) (a .struct) ∙ ap (λ χ. tagged (ref (j .struct)) (label l) ∷ χ) (a .stack) in
-      nexts (puts (behind n-this c refl q))
+      nexts (puts (after n-this c refl q))
 
   negates : Goes n-not
   unfolding perform now-written
@@ -130,7 +107,7 @@ module _ {p : Program} (firm : Firm p) {m n : Machine} (gm : Good p m) (gn : Goo
       let (b, q) = bool-value (n .instances) (x .is) (f .1) in
       let s′ = s ∙ ap (λ v. tagged (x .by) v ∷ χ) q in
       outs (negated p m l (actor i wi n-not) c (stacks s′)) (negated p n l (actor j wj n-not) c s′)
-      (nexts (puts (behind n-not c refl refl)))
+      (nexts (puts (after n-not c refl refl)))
 
   branches : (b : ℕ) → Goes (n-if b)
   unfolding perform now-written
@@ -140,7 +117,7 @@ module _ {p : Program} (firm : Firm p) {m n : Machine} (gm : Good p m) (gn : Goo
       let (t, q) = bool-value (n .instances) (x .is) (f .1) in
       let s′ = s ∙ ap (λ v. tagged (x .by) v ∷ χ) q in
       outs (branched p m l (actor i wi (n-if b)) c b (stacks s′)) (branched p n l (actor j wj (n-if b)) c b s′)
-      (nexts (puts (behind (n-if b) (elim t [ true ↦ c | false ↦ drop b c ]) refl refl)))
+      (nexts (puts (after (n-if b) (elim t [ true ↦ c | false ↦ drop b c ]) refl refl)))
 
   reads-param : (k v : ℕ) → Goes (n-rd k v)
   unfolding perform now-written
@@ -155,8 +132,9 @@ module _ {p : Program} (firm : Firm p) {m n : Machine} (gm : Good p m) (gn : Goo
       let low′ : v < length (params-of p (y .struct)) = rw z low in
       let (d, has, _) = param-holds (n .instances) (params-of p (y .struct)) few v low′ (y .env) (gn .all .each t y at .fitted) in
       let same = param-alike (y′ .env) (y .env) (o .params) v (omega arith) in
-      outs (has-read p m l (actor i wi b) c v (λ d. variable d v) (stacks s′) at′ (same ∙ has)) (has-read p n l (actor j wj b) c v (λ d. variable d v) s′ at has)
-      (nexts (puts (behind b c refl (ap (λ (k : ℕ). tagged (given-by p (variable k v)) d ∷ χ) (o .struct)))))
+      outs (has-read p m l (actor i wi b) c v (λ d. variable d v) (stacks s′) at′ (same ∙ has))
+      (has-read p n l (actor j wj b) c v (λ d. variable d v) s′ at has)
+      (nexts (puts (after b c refl (ap (λ (k : ℕ). tagged (given-by p (variable k v)) d ∷ χ) (o .struct)))))
 
   reads-local : (t : Ty) (v : ℕ) → Goes (n-get t v)
   unfolding perform now-written
@@ -169,7 +147,7 @@ module _ {p : Program} (firm : Firm p) {m n : Machine} (gm : Good p m) (gn : Goo
       let (d, has, _) = local-value g v written in
       outs (has-read p m l (actor i wi b) c (first-local + v) (λ d. local t) (stacks s′) ai (a .locals v (written-less p r j v written) ∙ has))
       (has-read p n l (actor j wj b) c (first-local + v) (λ d. local t) s′ aj has)
-      (nexts (puts (behind b c refl refl)))
+      (nexts (puts (after b c refl refl)))
 
   -- a parameter of the instance q, which is y, written in both
   module _ (k v : ℕ) (x : Val) (χ : List Tagged) (q : ℕ) (y y′ : Instance) (at : getElem? (n .instances) q ≡ some y) (o : AlikeInst y′ y)
@@ -177,7 +155,7 @@ module _ {p : Program} (firm : Firm p) {m n : Machine} (gm : Good p m) (gn : Goo
     written-alike : AlikeOut (write-to p m l (actor i wi (n-wr k v)) c χ v x q y′) (write-to p n l (actor j wj (n-wr k v)) c χ v x q y)
     unfolding write-to now-written
     written-alike =
-        let first = alike-set (al .instances) l (behind (n-wr k v) c {χ = χ} refl refl) in
+        let first = alike-set (al .instances) l (after (n-wr k v) c {χ = χ} refl refl) in
         let same = param-alike (y′ .env) (y .env) (o .params) v low in
         let stable : leaves-stable p (y′ .struct) v x (lookup (y′ .env) v) ≡ leaves-stable p (y .struct) v x (lookup (y .env) v) =
         ap (λ (s : ℕ). leaves-stable p s v x (lookup (y′ .env) v)) (o .struct) ∙ ap (leaves-stable p (y .struct) v x) same in
@@ -205,7 +183,9 @@ module _ {p : Program} (firm : Firm p) {m n : Machine} (gm : Good p m) (gn : Goo
             let same : y ≡ j = some-is (sym at ∙ ap (getElem? (n .instances)) e ∙ aj) in
             let there : getElem? js q ≡ some (with-code (actor j wj (n-wr k v)) c χ) = rw e (at-set-same (n .instances) l _ j aj) in
             alike-env r q there (assign (y′ .env) v x) (assign (y .env) v x) (envs wj (λ z h. o .locals z (rw same (less z h))))
-        go r (no e) = alike-env r q (at-set-other (n .instances) l q _ e ∙ at) (assign (y′ .env) v x) (assign (y .env) v x) (envs (y .written) (λ z h. o .locals z h))
+        go r (no e) =
+            alike-env r q (at-set-other (n .instances) l q _ e ∙ at) (assign (y′ .env) v x) (assign (y .env) v x)
+            (envs (y .written) (λ z h. o .locals z h))
 
   writes : (k v : ℕ) → Goes (n-wr k v)
   unfolding perform now-written
@@ -225,7 +205,7 @@ module _ {p : Program} (firm : Firm p) {m n : Machine} (gm : Good p m) (gn : Goo
       either (ltb t (structs p)) refl
       (λ null.
       outs (leaves-null p m l (actor i wi b) c v (stacks s′) at′ below′ null) (leaves-null p n l (actor j wj b) c v s′ at below null)
-      (nexts (puts (behind b c refl refl))))
+      (nexts (puts (after b c refl refl))))
       (λ other.
       outs (writes-param p m l (actor i wi b) c v (stacks s′) at′ below′ other (same ∙ has)) (writes-param p n l (actor j wj b) c v s′ at below other has)
       (written-alike k v (x .is) χ t z z′ at o (omega arith)))
@@ -281,7 +261,10 @@ module _ {p : Program} (firm : Firm p) {m n : Machine} (gm : Good p m) (gn : Goo
           record {
             sched = al .sched;
             instances =
-                rw (env-set (m .instances) l ξ (with-code (actor i wi (n-set d t v)) c χ), env-set (n .instances) l η (with-code (actor j wj (n-set d t v)) c χ))
+                rw (
+                  env-set (m .instances) l ξ (with-code (actor i wi (n-set d t v)) c χ),
+                  env-set (n .instances) l η (with-code (actor j wj (n-set d t v)) c χ),
+                )
                 (alike-set (al .instances) l one);
             stability =
                 rw (
@@ -309,7 +292,7 @@ module _ {p : Program} (firm : Firm p) {m n : Machine} (gm : Good p m) (gn : Goo
         sched = al .sched;
         instances =
             alike-snoc
-            (alike-set (al .instances) l (behind b c refl (ap (λ (t : ℕ). tagged (ref k) (label t) ∷ χ) long)))
+            (alike-set (al .instances) l (after b c refl (ap (λ (t : ℕ). tagged (ref k) (label t) ∷ χ) long)))
             (alike-self (resting k (reverse (map (λ x. x .is) ξ))));
         stability = ap (λ s. map (λ t. false) s) (al .stability);
         from = al .from;
@@ -330,7 +313,7 @@ module _ {p : Program} (firm : Firm p) {m n : Machine} (gm : Good p m) (gn : Goo
     where
       go : (u : Ty) (χ : List Tagged) (x : Tagged) (w : Answer) → Answers u w
           → AlikeOut (operated p m l (actor i wi (n-op o)) c χ (result o (x .by)) w) (operated p n l (actor j wj (n-op o)) c χ (result o (x .by)) w)
-      go u χ x (value v) z = nexts (puts (behind (n-op o) c refl refl))
+      go u χ x (value v) z = nexts (puts (after (n-op o) c refl refl))
       go u χ x outside z = refusals
       go u χ x unfit z = absurd z
 

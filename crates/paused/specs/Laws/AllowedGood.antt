@@ -36,8 +36,9 @@ use Rattle.paused.specs.Rise.{rise, shape}
 use Rattle.paused.specs.Place.{schedule-at, job-at}
 use Rattle.paused.specs.Spot.{Spot, spot-at, spot, spot-by}
 use Rattle.paused.specs.Paused.{Held, Paused}
-use Rattle.paused.specs.Standing.{living, LabelIn, WordOf, Stacked}
-use Rattle.paused.specs.Allowed.{CountedPaused, Stands, Stands.holds, Stands.rests, Allowed}
+use Rattle.paused.specs.Standing.{living, LabelIn, WordOf}
+use Rattle.paused.specs.Laws.StandsLaws.{StackedOwn, Stands, Stands.holds, Stands.rests, stands-of}
+use Rattle.paused.specs.Allowed.{CountedPaused, Allowed}
 use Rattle.paused.specs.Resumed.{struct-in, restored, valued, localed, idle, standing, in-spot, at-position, instance-of, resumed}
 use Rattle.paused.specs.Laws.Basics.{no-more}
 use Rattle.paused.specs.Laws.ShapeLaws.{way-labels, way-above, fresh-own}
@@ -181,9 +182,10 @@ module _ {p : Program} (ok : Accepted p) (q : Paused) (counted : CountedPaused p
   fitted-held l h e ls long = (valued-each p hs few r (params-of p (h .struct)) (h .params) (al .params l h e), long)
 
   module _ (l : ℕ) (h : Held) (e : getElem? hs l ≡ some h) where
-    -- before command n of a step, with the rest behind its commands
-    holder : (j n : ℕ) (b : Stmts) (rest : List Note) → spot p (al .job) (h .struct) j ≡ some (spot-at b n rest) → n < length (noted (context p (h .struct) b) b)
-        → Stacked p hs (h .struct) l b (drop n (noted (context p (h .struct) b) b)) (h .stack)
+    -- before command n of a step, with the rest after its commands
+    holder : (j n : ℕ) (b : Stmts) (rest : List Note) → spot p (al .job) (h .struct) j ≡ some (spot-at b n rest)
+        → n < length (noted (context p (h .struct) b) b)
+        → StackedOwn p hs (h .struct) l b (drop n (noted (context p (h .struct) b) b)) (h .stack)
         → Each (WordOf hs) (map (λ x. body-local b x int) (living b n)) (h .locals)
         → GoodInst p (some (al .job)) (is p hs few r) l (standing p hs h n b rest)
     unfolding living
@@ -222,7 +224,8 @@ module _ {p : Program} (ok : Accepted p) (q : Paused) (counted : CountedPaused p
             locals = λ x k.
                 let (v, g, o) =
                 localed-at p hs few r b (living b n) (h .locals)
-                (λ y j. low y (rw here (among-in 0 max-locals (alive (drop n (lives b))) y j))) ls x (written-less p (al .job) (standing p hs h n b rest) x k) in
+                (λ y j. low y (rw here (among-in 0 max-locals (alive (drop n (lives b))) y j))) ls x
+                (written-less p (al .job) (standing p hs h n b rest) x k) in
                 (v, local-at (valued (params-of p (h .struct)) (h .params)) (localed b (living b n) (h .locals)) x ∙ g, o);
           }) (inr refl);
         }
@@ -234,7 +237,7 @@ module _ {p : Program} (ok : Accepted p) (q : Paused) (counted : CountedPaused p
         now i b n (inr e) first x m w = subst (λ ys. List·Memᴰ x ys) (sym e) w
 
     -- without commands
-    rester : (h .stack ≡ []) ⊎ ((n : ℕ) × (b : Stmts) × (step-of p (h .struct) n ≡ some b) × (Stacked p hs (h .struct) l b [] (h .stack)))
+    rester : (h .stack ≡ []) ⊎ ((n : ℕ) × (b : Stmts) × (step-of p (h .struct) n ≡ some b) × (StackedOwn p hs (h .struct) l b [] (h .stack)))
         → GoodInst p (some (al .job)) (is p hs few r) l (idle p hs h)
     unfolding restored called rise
     rester (inl empty) = record {
@@ -274,7 +277,7 @@ module _ {p : Program} (ok : Accepted p) (q : Paused) (counted : CountedPaused p
 
     good-held : GoodInst p (some (al .job)) (is p hs few r) l (instance-of p hs r h)
     unfolding at-position in-spot spot-by
-    good-held = go (al .stands l h e)
+    good-held = go (stands-of ok q al l h e)
       where
         go : Stands p hs (al .job) l h → GoodInst p (some (al .job)) (is p hs few r) l (instance-of p hs r h)
         go (holds j n b rest at has lt st ls) =

@@ -62,7 +62,8 @@ module _ {p : Program} (ok : Accepted p) (q : Paused) (counted : CountedPaused p
         λ null.
             let (g, f, k, d) = al .nulls l null in
             let same : g ≡ h = some-is (sym f ∙ e) in
-            let w : h .params ≡ map (λ t. word (default t)) (params-of p (h .struct)) = rw (← same) (d ∙ ap (λ (n : ℕ). map (λ t. word (default t)) (params-of p n)) (sym k)) in
+            let w : h .params ≡ map (λ t. word (default t)) (params-of p (h .struct)) =
+            rw (← same) (d ∙ ap (λ (n : ℕ). map (λ t. word (default t)) (params-of p n)) (sym k)) in
             params-kept p hs r h ∙ ap (valued (params-of p (h .struct))) w ∙ defaults-valued (params-of p (h .struct))
             ∙ ap (λ (n : ℕ). map default (params-of p n)) (sym s),
       )

@@ -27,7 +27,8 @@ use Rattle.paused.specs.Paused.{Paused}
 use Rattle.paused.specs.Resumed.{resumed}
 use Rattle.paused.specs.PausedOf.{paused-of}
 use Rattle.paused.specs.Stream.{enc-paused}
-use Rattle.paused.specs.Entry.{Writes, Writes.paused-at-33, Writes.table-at-33, left-stream, report-of, output-of, call-report, call-output, written, turns-on}
+use Rattle.paused.specs.Entry.{Writes, Writes.paused-at-33, Writes.table-at-33, left-stream, report-of, output-of, call-report, call-output}
+use Rattle.paused.specs.Entry.{written, turns-on}
 use Rattle.paused.specs.Input.{PausedAccepted}
 use Rattle.paused.specs.Laws.JoinedLaws.{paused-at}
 use Rattle.paused.specs.Laws.LengthLaws.{image-paused}

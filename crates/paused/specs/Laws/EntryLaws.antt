@@ -154,7 +154,8 @@ module _ (x y es out₀ list₀ : List ℕ) (stops : pause-report x y es out₀ 
   unfolding pause-report
   first-ready =
       let (q, e, r) =
-      not-refused (λ q. went (q .0, begin (q .0) (q .1))) paused-at-33 es (all-others (pause-order x y es out₀ list₀) refl) (tell-pause x y es out₀ list₀) stops in
+      not-refused (λ q. went (q .0, begin (q .0) (q .1))) paused-at-33 es (all-others (pause-order x y es out₀ list₀) refl)
+      (tell-pause x y es out₀ list₀) stops in
       (q .0, q .1, e, r)
 
   -- pausing and carrying on is the pausing run in one piece: both answer the same
@@ -212,8 +213,8 @@ module _ (x y es out₀ list₀ : List ℕ) (stops : resume-report x y es out₀
   again : (k : Writes) (bytes : ℕ) → bytes ≤ length out → max-commands ≤ length list
       → let whole = from-paused (carries bytes x y (es ++ fs) out list) in
       let piece = from-paused (carries bytes x paused-again fs out list) in
-      Joined (resume-report x y es out₀ list₀ .turns) (call-report k whole (es ++ fs)) (call-report k piece fs) (call-output k whole (es ++ fs) out) (call-output k piece fs out)
-      (call-list whole list) (call-list piece list)
+      Joined (resume-report x y es out₀ list₀ .turns) (call-report k whole (es ++ fs)) (call-report k piece fs)
+      (call-output k whole (es ++ fs) out) (call-output k piece fs out) (call-list whole list) (call-list piece list)
   unfolding resume-report resume-output on
   again k bytes out-room list-room =
       let (p, q, e, r) = again-ready in

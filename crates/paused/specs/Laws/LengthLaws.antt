@@ -36,7 +36,7 @@ unfolding flat
 entries-length [] = refl
 entries-length (e ∷ es) = ap suc (entries-length es)
 
--- bytes of an instance at most: struct, 8 parameters, position, 16 values and 8 locals behind their counts
+-- bytes of an instance at most: struct, 8 parameters, position, 16 values and 8 locals after their counts
 abbrev pub held-bytes : ℕ
 held-bytes = 132
 

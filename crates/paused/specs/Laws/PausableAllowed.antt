@@ -33,8 +33,9 @@ use Rattle.sound.specs.Laws.PassageLaws.{holder-passage, has-step, first-held}
 use Rattle.paused.specs.Place.{place-of, job-at, Begun}
 use Rattle.paused.specs.Spot.{Spot, spot}
 use Rattle.paused.specs.Paused.{Held}
-use Rattle.paused.specs.Standing.{living, WordOf, Stacked}
-use Rattle.paused.specs.Allowed.{Stands, Stands.holds, Stands.rests, Holding, Allowed}
+use Rattle.paused.specs.Standing.{living, WordOf}
+use Rattle.paused.specs.Allowed.{Holding, Allowed}
+use Rattle.paused.specs.Laws.StandsLaws.{StackedOwn, Stands, Stands.holds, Stands.rests, allowed-stands}
 use Rattle.paused.specs.PausedOf.{word-in, position-in, holding, at-spot, by-job, by-code, held-of, paused-of}
 use Rattle.paused.specs.Laws.ShapeLaws.{way-place}
 use Rattle.paused.specs.Laws.PlaceLaws.{job-left, running-begun}
@@ -96,7 +97,7 @@ module _ (p : Program) (is : List Instance) (r : Option Job) where
 
   -- the stack of an instance that stands in a step
   passage-stacked : {a : Job} {l : ℕ} {i : Instance} (g : Passage p a is l i) (c : List Note) → g .held ≡ c
-      → Stacked p hs (i .struct) l (g .body) c (map (λ x. word (x .is)) (i .stack))
+      → StackedOwn p hs (i .struct) l (g .body) c (map (λ x. word (x .is)) (i .stack))
   unfolding word
   passage-stacked {l = l} {i = i} g c e = record {
     place = g .place;
@@ -218,17 +219,12 @@ module _ {p : Program} (ok : Accepted p) {m : Machine} (start : Startable p m)
   -- a machine with the invariant, in the shape of a table, in which someone holds commands has an allowed paused state
   pub pausable-allowed : Allowed p (paused-of p m)
   unfolding paused-of
-  pausable-allowed = record {
-    job = job;
-    sched = m .sched;
-    started = started;
-    placed = refl;
-    opened = start .good .opened;
-    stands = λ l h e. let (i, g, z) = map-at (held-of p r) (m .instances) l h e in rw (← z) (stands-held l i g);
-    held = some-held;
-    params = λ l h e.
-        let (i, g, z) = map-at (held-of p r) (m .instances) l h e in
-        rw (← z) (rw (held-struct p i r, held-params p i r) (params-held p (m .instances) r (params-of p (i .struct)) (i .env) (start .good .all .each l i g .fitted)));
-    nulls = null-held;
-    from = rw (length-map (m .instances) (held-of p r)) (start .last);
-  }
+  pausable-allowed =
+      allowed-stands ok (paused-of p m) job (λ l h e. let (i, g, z) = map-at (held-of p r) (m .instances) l h e in rw (← z) (stands-held l i g))
+      (m .sched) started refl (start .good .opened) some-held params-all null-held (rw (length-map (m .instances) (held-of p r)) (start .last))
+    where
+      params-all : (l : ℕ) (h : Held) → getElem? all l ≡ some h → Each (WordOf all) (params-of p (h .struct)) (h .params)
+      params-all l h e =
+          let (i, g, z) = map-at (held-of p r) (m .instances) l h e in
+          let fitted = start .good .all .each l i g .fitted in
+          rw (← z) (rw (held-struct p i r, held-params p i r) (params-held p (m .instances) r (params-of p (i .struct)) (i .env) fitted))

@@ -82,7 +82,8 @@ unfolding Within
 step-long p w k n {b} e =
     let (t, m, q) = found (getD (p .steps) k []) n e in
     let s = of-each (λ t. step-size t ≤ step-commands) (all-at (All (λ t. step-size t ≤ step-commands)) (p .steps) k tt (w .0)) m in
-    let same : length (noted (context p k b) b) ≡ length (commands b) = sym (length-map (noted (context p k b) b) erase) ∙ ap length (erased (context p k b) b) in
+    let same : length (noted (context p k b) b) ≡ length (commands b) =
+    sym (length-map (noted (context p k b) b) erase) ∙ ap length (erased (context p k b) b) in
     let u : length (commands b) ≤ step-commands = rw q at s in
     omega arith
 

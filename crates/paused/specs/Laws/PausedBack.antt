@@ -31,7 +31,8 @@ use Rattle.paused.specs.Place.{place-of, schedule-at, job-at}
 use Rattle.paused.specs.Spot.{spot-at, spot, spot-by}
 use Rattle.paused.specs.Paused.{Held, Paused}
 use Rattle.paused.specs.Standing.{among, living, WordOf}
-use Rattle.paused.specs.Allowed.{CountedPaused, Stands, Stands.holds, Stands.rests, Allowed}
+use Rattle.paused.specs.Allowed.{CountedPaused, Allowed}
+use Rattle.paused.specs.Laws.StandsLaws.{Stands, Stands.holds, Stands.rests, stands-of}
 use Rattle.paused.specs.Resumed.{restored, valued, localed, idle, standing, in-spot, at-position, instance-of, resumed}
 use Rattle.paused.specs.PausedOf.{word-in, position-in, at-spot, by-job, by-code, held-of, paused-of}
 use Rattle.paused.specs.Laws.Basics.{map-members}
@@ -136,7 +137,7 @@ module _ {p : Program} (ok : Accepted p) (q : Paused) (counted : CountedPaused p
 
     held-back : held-of p r (instance-of p hs r h) ≡ h
     unfolding at-position in-spot spot-by by-code by-job at-spot living
-    held-back = go (al .stands l h e)
+    held-back = go (stands-of ok q al l h e)
       where
         go : Stands p hs (al .job) l h → held-of p r (instance-of p hs r h) ≡ h
         go (holds d n b rest at has lt st ls) =
@@ -167,7 +168,8 @@ module _ {p : Program} (ok : Accepted p) (q : Paused) (counted : CountedPaused p
             ∙ ap (by-code p i r) code
             ∙ ap (by-job p i) job-is
             ∙ ap (at-spot p i (position-in p (al .job) i)) (ap (spot p (al .job) (h .struct)) (told .back) ∙ has)
-            ∙ same-held refl params-back (ap some (told .back) ∙ sym at) (stack-same hs few (shape G [] c₀ n) (map ref ks) (h .stack) (rw stack at (st .typed))) words
+            ∙ same-held refl params-back (ap some (told .back) ∙ sym at)
+            (stack-same hs few (shape G [] c₀ n) (map ref ks) (h .stack) (rw stack at (st .typed))) words
         go (rests at dead st) =
             let same : instance-of p hs r h ≡ idle p hs h = ap (at-position p hs r h) at in
             ap (held-of p r) same ∙ same-held refl params-back (sym at) (labels-same hs few (h .stack)) (sym dead)

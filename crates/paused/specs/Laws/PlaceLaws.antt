@@ -41,7 +41,7 @@ backed-before P (fixpoint g f) s u b = backed-before P f s (u .1) b
 backed-before P (active g f) s u b = absurd u
 
 module _ (r : Sched) where
-  -- at some place this is left, with as many places behind it as it has
+  -- at some place this is left, with as many places after it as it has
   abbrev pub Reached : Sched → Type 0
   Reached s = (n : ℕ) × (left-at r n ≡ s) × (n + places s ≡ places r)
 
@@ -140,7 +140,7 @@ module _ (p : Program) where
   pub running-begun : (a : Job) (s : Sched) → Running p (some a) s → Begun p a s
   running-begun (call a) s r = r
 
-  -- behind a start stands what was started
+  -- what was started comes before the place after its start
   pub job-left : (a : Job) (s : Sched) → Begun p a s → job-at p (place-of p s) ≡ some a
   unfolding job-at first-job places
   job-left (call a) s l =

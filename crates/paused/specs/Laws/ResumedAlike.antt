@@ -200,7 +200,9 @@ module _ {p : Program} (ok : Accepted p) {m : Machine} (start : Startable p m)
           locals = λ x y.
               let (v, f, o) = g .locals x (g .kept x (among-in 0 max-locals (alive (drop k (lives b))) x y)) in
               let ps = valued (params-of p (i .struct)) (map word (params-in (i .env))) in
-              let w = localed-word b (λ x. word-in (lookup (i .env) (first-local + x))) (living b k) (λ z d. low z (among-in 0 max-locals (alive (drop k (lives b))) z d)) x y in
+              let w =
+              localed-word b (λ x. word-in (lookup (i .env) (first-local + x))) (living b k)
+              (λ z d. low z (among-in 0 max-locals (alive (drop k (lives b))) z d)) x y in
               f ∙ ap some (sym (word-back p (m .instances) (start .tabled .few) r (body-local b x int) v o))
               ∙ ap (λ u. some (value-of (body-local b x int) (word-in u))) (sym f)
               ∙ sym w

@@ -1,5 +1,5 @@
 -- Positions (02, 'Pausing a run'): where an instance of a run stands has one position, and a position that lies somewhere tells its step, the commands
--- left and what stands behind them.
+-- left and what comes after them.
 use Prim.Native.Nat.{ℕ, _+_, _-_, _<_, _≤_}
 use native.Mathlib.Omega.{arith}
 use mathlib.Core.Path.{_≡_, refl, ap, sym, _∙_, subst}
@@ -23,7 +23,7 @@ module _ (p : Program) (k : ℕ) where
   abbrev c₀ : Stmts → List Note
   c₀ b = noted (context p k b) b
 
-  -- what a position tells: the step is the job's, what is behind it, and that it is the position of the commands held there
+  -- what a position tells: the step is the job's, which commands come after it, and that it is the position of the commands held there
   pub record Told (a : Job) (j : ℕ) (b : Stmts) (n : ℕ) (r : List Note) : Type 0 where
     pub in-job : InJob p k a b r
     pub back : position-left p a k (length (drop n (c₀ b) ++ r)) ≡ j
@@ -78,7 +78,8 @@ module _ {p : Program} {a : Job} {is : List Instance} {l : ℕ} {i : Instance} (
   step-place = length (noted (context p k (g .body)) (g .body)) - length (g .held)
 
   -- where an instance that holds commands stands, its position tells
-  pub passage-spot : {x : Note} {c : List Note} → i .code ≡ x ∷ c → spot p a k (position-left p a k (length (i .code))) ≡ some (spot-at (g .body) step-place (g .rest))
+  pub passage-spot : {x : Note} {c : List Note} → i .code ≡ x ∷ c
+      → spot p a k (position-left p a k (length (i .code))) ≡ some (spot-at (g .body) step-place (g .rest))
   unfolding spot step-spot position-left step-notes
   passage-spot {x} {c} e = go (g .has) size-held
     where

@@ -22,7 +22,7 @@ use Rattle.paused.specs.Standing.{among, living}
 use Rattle.paused.specs.Resumed.{struct-in, restored, valued, localed, in-spot, at-position, resumed}
 use Rattle.paused.specs.PausedOf.{word-in, at-spot, by-job, by-code, paused-of}
 use Rattle.paused.specs.Sets.{lowest, grown, passed, ahead, numbers-at, at-first, may-leave}
-use Rattle.paused.specs.Decide.{is-label, holds-type, above-labels, this-at, behind-this, on-top, own-right, stack-right}
+use Rattle.paused.specs.Decide.{is-label, holds-type, above-labels, this-at, after-this, on-top, own-right, stack-right}
 use Rattle.paused.specs.Judge.{opens, hold-types, is-empty, same-words, step-leaves, any-leaves, step-holds, stands-by, all-stand, has-position}
 use Rattle.paused.specs.Judge.{some-holds, params-hold, nulls-hold, allowed-by, is-allowed}
 use Rattle.paused.specs.Stream.{enc-entry, enc-position, enc-held, enc-paused, position-of, read-entry, read-position, read-parts}
@@ -47,7 +47,7 @@ pausing s t es = summed (from-table (begins-streams s t es)) es
 -- carrying on: program stream, paused stream and turn bytes
 unfoldable pub carrying : List ℕ → List ℕ → List ℕ → Summary
 unfolding pausing left-by struct-in restored valued localed in-spot at-position resumed lowest grown passed ahead numbers-at at-first may-leave is-label
-    holds-type above-labels this-at behind-this on-top own-right stack-right opens hold-types is-empty same-words step-leaves any-leaves step-holds
+    holds-type above-labels this-at after-this on-top own-right stack-right opens hold-types is-empty same-words step-leaves any-leaves step-holds
     stands-by all-stand has-position some-holds params-hold nulls-hold allowed-by is-allowed position-of read-entry read-position read-parts read-held
     read-count read-instances read-paused of-read judge
 carrying s t es = summed (from-paused (on (checking s) λ p. on (of-read (whole (read-paused p) t)) λ q. on (judge p q) λ q. went (p, q))) es
