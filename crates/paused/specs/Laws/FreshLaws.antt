@@ -87,7 +87,6 @@ module _ (G : Ctx) where
         go {c = c} (branch {j = j} h e f l) short at to =
             flat-stale (drop j c) (let d = length-drop j c in omega arith) to f
 
-
     -- nor does the end of a step
     pub end-stale : {x : Tags} → Way G c₀ at-start [] x → x .fresh ≡ true → ⊥
     unfolding after-this rise

@@ -1,0 +1,4 @@
+pub mod Heights
+pub mod HeightLaws
+pub mod Stacks
+pub mod StackLaws
