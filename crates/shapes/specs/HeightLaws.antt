@@ -87,12 +87,6 @@ module _ (counts : List ℕ) {k : ℕ} (v : ℕ) where
         unfolding takes-by
         takes-one h = rw (takes-by, ne-eqb k 5 a, ne-eqb k 4 b, ne-eqb k 8 d, le-ltb k 3 h)
 
--- past the end of the list a default is found
-pub past-end : (l : List ℕ) (i : ℕ) → length l ≤ i → getD l i 0 ≡ 0
-past-end [] i h = refl
-past-end (x ∷ l) zero h = absurd (omega arith)
-past-end (x ∷ l) (suc i) h = past-end l i (omega arith)
-
 module _ {k : ℕ} where
   pub puts-wr : k ≡ 4 → puts-by k ≡ 0
   unfolding puts-by

@@ -2,3 +2,5 @@ pub mod Heights
 pub mod HeightLaws
 pub mod Stacks
 pub mod StackLaws
+pub mod Afters
+pub mod AfterLaws

@@ -1,4 +1,5 @@
 // How many stack values each place of a step uses, counted from the step's end (02, 'Pausing a run').
+use judging::path::look;
 use little_endian::index;
 ghost use mathlib.Core.Path.{_≡_};
 ghost use Prim.Native.Nat.{_+_, _-_, _^_, _≤_, _<_};
@@ -15,11 +16,7 @@ pub fn takes(counts: &[u8], w: u64) -> usize
 {
     let kind = w % 256;
     if kind == 5 {
-        let k = (w / types::NAT_END) as usize;
-        if k < counts.len() {
-            return index(counts[k]);
-        }
-        return 0;
+        return index(look(counts, (w / types::NAT_END) as usize));
     }
     if kind == 4 {
         return 2;
