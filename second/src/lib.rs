@@ -13,4 +13,4 @@ pub mod examples;
 pub mod generate;
 pub mod tables;
 
-pub use engine::{CheckAnswer, Command, RunAnswer, check, listing, run};
+pub use engine::{CheckAnswer, Command, RunAnswer, check, finish, listing, pause, resume, run};

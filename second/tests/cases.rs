@@ -84,7 +84,7 @@ fn a_file_reads_as_it_was_written() {
     let file = file_of(&cases);
     assert_eq!(cases_of(&file), cases);
     assert!(Case::read(&mut &file[..3]).is_err());
-    assert!(Case::read(&mut &[4u8, 0, 0, 0, 0, 0, 0, 0, 0][..]).is_err());
+    assert!(Case::read(&mut &[7u8, 0, 0, 0, 0, 0, 0, 0, 0][..]).is_err());
     assert!(Case::read(&mut &[1u8, 77, 4, 0, 0, 0, 0, 0, 0][..]).is_err());
 }
 

@@ -108,8 +108,7 @@ pub fn finish(
 }
 
 fn told(answer: Result<RunAnswer, Refusal>) -> RunAnswer {
-    answer
-        .unwrap_or_else(|refusal| RunAnswer { number: refusal.number(), ..RunAnswer::default() })
+    answer.unwrap_or_else(|refusal| RunAnswer { number: refusal.number(), ..RunAnswer::default() })
 }
 
 /// What a call writes at 33.
@@ -175,12 +174,7 @@ fn carry_on_accepted(
 }
 
 /// Hands the commands out, takes the turns and writes what the call writes.
-fn ends(
-    mut machine: Machine,
-    program: &Program,
-    lent: Lent,
-    unfinished: Unfinished,
-) -> RunAnswer {
+fn ends(mut machine: Machine, program: &Program, lent: Lent, unfinished: Unfinished) -> RunAnswer {
     program.hand_out(lent.list);
     let Ending { number, turns, holding } = machine.run(lent.turns);
     let pauses = number == Refusal::NoTurnLeft.number() && unfinished == Unfinished::Paused;

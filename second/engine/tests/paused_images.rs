@@ -170,10 +170,7 @@ fn the_stack_holds_what_the_position_needs() {
 fn without_commands_it_is_what_a_way_leaves() {
     phrase(
         &[&[(20, 22, &[255, 1, 4, 0, 0, 0, 0])], &[(20, 22, &[255, 0, 0])]],
-        &[
-            &[(20, 22, &[255, 1, 3, 0, 0, 0, 0])],
-            &[(20, 22, &[255, 2, 4, 0, 0, 0, 4, 0, 0, 0, 0])],
-        ],
+        &[&[(20, 22, &[255, 1, 3, 0, 0, 0, 0])], &[(20, 22, &[255, 2, 4, 0, 0, 0, 4, 0, 0, 0, 0])]],
     );
     // A mark has no step, so its stack is empty.
     phrase(&[], &[&[(80, 82, &[255, 1, 4, 0, 0, 0, 0])]]);
@@ -272,12 +269,7 @@ fn faults_of_blocks_are_18() {
 // The order of the numbers.
 
 /// A call that lends so much; the number of its refusal.
-fn refusal(
-    entry: Entry,
-    program: &[u8],
-    state: &[u8],
-    lent: (usize, usize, usize),
-) -> u8 {
+fn refusal(entry: Entry, program: &[u8], state: &[u8], lent: (usize, usize, usize)) -> u8 {
     let (room, places, turns) = lent;
     let mut output = vec![FILL; room];
     let mut list = vec![None; places];

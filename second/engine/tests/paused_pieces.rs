@@ -122,7 +122,10 @@ fn after_each_turn_the_image_is_that_of_the_rules() {
         turns += taken;
         ended[usize::from(number)] += 1;
     }
-    println!("{turns} turns; 0: {} 33: {} 34: {} 35: {}", ended[0], ended[33], ended[34], ended[35]);
+    println!(
+        "{turns} turns; 0: {} 33: {} 34: {} 35: {}",
+        ended[0], ended[33], ended[34], ended[35]
+    );
     assert!(turns > 10_000 && ended[0] > 50 && ended[33] > 50 && ended[35] > 5);
 }
 

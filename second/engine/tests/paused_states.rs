@@ -9,7 +9,7 @@ use common::image;
 use common::paused::*;
 use engine::{check, finish, resume};
 use generator::rich::rich;
-use generator::{Random, Source, encode, source};
+use generator::{Random, Source, Stat, encode, source};
 use rules::tables::written;
 use ways::states::{Held, Listed, State, random_state};
 
@@ -18,9 +18,7 @@ fn accepted_source(random: &mut Random) -> (Source, Vec<u8>) {
     loop {
         let source = if random.below(5) == 0 { source(random) } else { rich(random) };
         let program = image(&encode::stream(&source));
-        let listed = |own: u8, statements: &[generator::Stat]| {
-            ways::way(&source, own, statements, 0).1 <= 7
-        };
+        let listed = |own: u8, statements: &[Stat]| ways::way(&source, own, statements, 0).1 <= 7;
         let mut steps = (0..).zip(&source.steps);
         let few = steps.all(|(own, steps)| steps.iter().all(|(_, body)| listed(own, body)));
         if few && check(&program, &mut common::list()).number == 0 {
@@ -63,8 +61,7 @@ fn states_along_any_way_are_accepted_and_carried_on() {
             let entries = state.entries.iter().rev().map(|&entry| entry == 1).collect();
             let (place, from) = (usize::from(state.place), usize::from(state.last));
             let mut rules = rules::State::at(&source, place, entries, from, &given);
-            let turns: Vec<u8> =
-                (0..random.below(120)).map(|_| random.below(256) as u8).collect();
+            let turns: Vec<u8> = (0..random.below(120)).map(|_| random.below(256) as u8).collect();
             let number = carried_on(&program, &state, &mut rules, &turns);
             seen[usize::from(number)] += 1;
             states += 1;
@@ -75,6 +72,72 @@ fn states_along_any_way_are_accepted_and_carried_on() {
     println!("0: {} 33: {} 34: {} 35: {}", seen[0], seen[33], seen[34], seen[35]);
     assert_eq!(seen[0] + seen[33] + seen[34] + seen[35], states);
     assert!(seen[0] > 300 && seen[33] > 300 && seen[35] > 50 && with_labels > 1_000);
+}
+
+// Programs with many ways.
+
+/// What there is of construct statements and declarations in ifs, and of ifs
+/// that end where the if around them does.
+fn count_inside(body: &[Stat], inside: bool, found: &mut [usize; 3]) {
+    for statement in body {
+        match statement {
+            Stat::Construct(..) => found[0] += usize::from(inside),
+            Stat::Declare(..) => found[1] += usize::from(inside),
+            Stat::If(_, body) => {
+                found[2] += usize::from(matches!(body.last(), Some(Stat::If(..))));
+                count_inside(body, true, found);
+            }
+            Stat::Update(..) => {}
+        }
+    }
+}
+
+#[test]
+fn the_programs_are_rich() {
+    let mut random = Random(0x21C4_5EED);
+    let mut found = [0; 3];
+    for _ in 0..300 {
+        let (source, _) = accepted_source(&mut random);
+        let bodies = source.steps.iter().flatten();
+        bodies.for_each(|(_, body)| count_inside(body, false, &mut found));
+    }
+    println!("{found:?}");
+    assert!(found.iter().all(|&count| count >= 150), "{found:?}");
+}
+
+/// Fifteen ifs with a construct statement each, of structs 1, 2, 1, 2, ..: the
+/// stacks left are the parts of that list, in its order, and no others.
+#[test]
+fn a_step_of_thirty_thousand_ways() {
+    let mark = |structure: u8| common::when(&common::boolean(1), &[&[4, structure]]);
+    let marks: Vec<Vec<u8>> = (0..15).map(|at| mark(1 + at % 2)).collect();
+    let marks: Vec<&[u8]> = marks.iter().map(Vec::as_slice).collect();
+    let steps: [&[&[u8]]; 3] = [&[&common::step(0, &marks)], &[], &[]];
+    let program = image(&common::program(&[&[], &[], &[]], &steps, &[1, 1, 0]));
+    let held = |structure, position, stack: &[u32]| {
+        let stack = stack.to_vec();
+        Held { structure, parameters: vec![], position, stack, locals: vec![] }
+    };
+    // Labels 1 and 2, top first; label 0 waits, 250 others are through.
+    let number = |waiting: u8, stack: &[u32], left: &[u32]| {
+        let nulls = [held(0, waiting, stack), held(1, 255, &[]), held(2, 255, &[])];
+        let records = [&nulls[..], &vec![held(0, 255, left); 250]].concat();
+        let state = State { place: 1, entries: vec![], last: 0, records };
+        judged(&program, &image(&state.stream()))
+    };
+    let whole: Vec<u32> = (0..15).map(|at| 1 + at % 2).collect();
+    assert_eq!(number(0, &[], &whole), 33);
+    assert_eq!(number(0, &[], &whole[1..]), 33);
+    assert_eq!(number(0, &[], &[2; 7]), 33);
+    assert_eq!(number(0, &[], &[2; 8]), 19);
+    assert_eq!(number(0, &[], &[1; 8]), 33);
+    assert_eq!(number(0, &[], &[&[2][..], &whole].concat()), 19);
+    assert_eq!(number(44, &whole[1..], &[]), 33);
+    assert_eq!(number(44, &whole, &[]), 19);
+    assert_eq!(number(42, &[1; 7], &[]), 33);
+    assert_eq!(number(42, &[1; 8], &[]), 19);
+    assert_eq!(number(43, &[&[1][..], &whole[1..]].concat(), &[]), 33);
+    assert_eq!(number(43, &[&[2][..], &whole[1..]].concat(), &[]), 19);
 }
 
 // Near states.

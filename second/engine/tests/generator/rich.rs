@@ -8,8 +8,7 @@ const IFS: usize = 6;
 impl Maker<'_> {
     fn rich_stats(&mut self, depth: usize, ifs: &mut usize, most: usize) -> Vec<Stat> {
         let count = 1 + self.random.below(most);
-        let mut stats: Vec<Stat> =
-            (0..count).filter_map(|_| self.rich_stat(depth, ifs)).collect();
+        let mut stats: Vec<Stat> = (0..count).filter_map(|_| self.rich_stat(depth, ifs)).collect();
         // Its last if ends where this body does.
         if depth > 0 && self.random.below(2) == 0 {
             stats.extend(self.rich_if(depth, ifs));

@@ -60,8 +60,7 @@ impl State {
     }
 
     fn all_hold(&self, types: impl ExactSizeIterator<Item = u8>, words: &[u32]) -> bool {
-        types.len() == words.len()
-            && types.zip(words).all(|(of, &word)| self.holds(of, word))
+        types.len() == words.len() && types.zip(words).all(|(of, &word)| self.holds(of, word))
     }
 }
 
@@ -238,8 +237,7 @@ impl Draw<'_> {
         let structure = self.structs[label];
         let parameters = self.parameters(label);
         let (position, site) = self.site(structure);
-        let mut stack: Vec<(u8, u32)> =
-            site.stack.iter().map(|&of| (of, self.value(of))).collect();
+        let mut stack: Vec<(u8, u32)> = site.stack.iter().map(|&of| (of, self.value(of))).collect();
         if site.after_this
             && let Some((_, top)) = stack.last_mut()
         {
