@@ -136,6 +136,34 @@ fn the_schedule_left_is_left_by_starting_a_step() {
     }
 }
 
+/// Fix(0 < 1) < 2: the places, and at those of a started step the Fixes that
+/// are open.
+#[test]
+fn the_places_of_a_schedule() {
+    let set = update(&[0], &int(1));
+    let steps = [0, 1, 2].map(|name| step(name, &[&set]));
+    let steps: Vec<&[u8]> = steps.iter().map(Vec::as_slice).collect();
+    let stream = program(&[&[0]], &[&steps], &[2, 3, 2, 1, 0, 1, 1, 1, 2]);
+    let program = image(&stream);
+    let open = [None, None, Some(1), Some(1), None, Some(0), None, None];
+    for (place, open) in (0u8..).zip(open) {
+        for count in 0..=2u8 {
+            let entries = vec![1; usize::from(count)];
+            let waiting = [&[0, 0, 1, 0, 0, 0, 0, 0, 0][..], &[0, 0, 0]].concat();
+            let stream = [&[place, count][..], &entries, &waiting].concat();
+            let number = if open == Some(count) { 33 } else { 19 };
+            assert_eq!(judged(&program, &image(&stream)), number, "{place} {count}");
+        }
+    }
+    // A run comes to the same places.
+    let place = |turns: usize| {
+        stream_of(&paused_after(&program, &image(&[1, 0, 0, 0, 0, 0, 0]), &vec![0; turns]))[0]
+    };
+    // Two instances of three commands; the Fix goes round once.
+    let seen: Vec<u8> = (0..30).step_by(6).map(place).collect();
+    assert_eq!(seen, [2, 3, 2, 3, 5]);
+}
+
 #[test]
 fn one_stability_entry_for_each_open_fix() {
     phrase(&[&[(2, 2, &[1])]], &[&[(1, 2, &[0])], &[(1, 2, &[2, 0, 0])]]);
