@@ -257,6 +257,24 @@ fn what_the_tables_of_the_stream_shut_out_is_18() {
     assert_eq!(q_number(&[(74, 78, &[&[9][..], &[1; 36]].concat())]), 18);
 }
 
+/// Whole streams of one instance less than there are structs, and of as many
+/// as there may be and one more.
+#[test]
+fn the_number_of_instances() {
+    assert_eq!(
+        judged(&image(&Q), &image(&[&Q_PAUSED[..5], &[1, 0], &Q_PAUSED[7..23]].concat())),
+        18
+    );
+    let two = [&Q_PAUSED[..3], &[0, 0, 2, 0], &Q_PAUSED[7..27]].concat();
+    assert_eq!(judged(&image(&Q), &image(&two)), 33);
+    let many = |count: u16| {
+        let marks = [1, 255, 0, 0].repeat(usize::from(count) - 5);
+        let stream = [&Q_PAUSED[..5], &count.to_le_bytes(), &Q_PAUSED[7..], &marks].concat();
+        judged(&image(&Q), &image(&stream))
+    };
+    assert_eq!((many(5), many(6), many(255), many(256), many(257)), (33, 33, 33, 33, 18));
+}
+
 #[test]
 fn every_shorter_stream_is_18() {
     for length in 1..83 {

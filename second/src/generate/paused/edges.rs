@@ -172,6 +172,13 @@ fn forms() -> Vec<Case> {
         q_with(74, 78, &words(8)),
         q_with(74, 78, &words(9)),
     ];
+    // One instance less than structs, as many as there may be, one more.
+    streams.push([&Q_PAUSED[..3], &[0, 0, 1, 0], &Q_PAUSED[7..23]].concat());
+    streams.push([&Q_PAUSED[..3], &[0, 0, 2, 0], &Q_PAUSED[7..27]].concat());
+    for count in [256u16, 257] {
+        let marks = [1, 255, 0, 0].repeat(usize::from(count) - 5);
+        streams.push([&Q_PAUSED[..5], &count.to_le_bytes(), &Q_PAUSED[7..], &marks].concat());
+    }
     // Where both numbers could be answered, the form comes first.
     streams.push([&[0], &Q_PAUSED[1..], &[0]].concat());
     streams.push([&[77], &Q_PAUSED[1..82], &[9]].concat());
