@@ -22,9 +22,9 @@ use Rattle.layout.specs.declared.Numbers.{Numbers}
 use Rattle.memory.specs.Laws.PlanLaws.{at-end-done}
 use Rattle.interpreter.specs.Ready.{Ready}
 use Rattle.interpreter.specs.Running.{Begun, Standing}
-use Rattle.interpreter.specs.RunWays.{begun-standing}
-use Rattle.interpreter.specs.TurnLaws.{none-hold, some-hold, ends, lasts}
-use Rattle.interpreter.specs.VisitWays.{visits-outcome}
+use Rattle.interpreter.specs.Laws.RunWays.{begun-standing}
+use Rattle.interpreter.specs.Laws.TurnLaws.{none-hold, some-hold, ends, lasts}
+use Rattle.interpreter.specs.Laws.VisitWays.{visits-outcome}
 use Rattle.trace.specs.Trace.{trace}
 use Rattle.trace.specs.LineText.{lines-text, trace-lines}
 use Rattle.trace_lines.specs.Parts.{line-most}

@@ -9,9 +9,9 @@ use Rattle.layout.specs.Codes.{end-code}
 use Rattle.layout.specs.State.{State}
 use Rattle.memory.specs.Laws.PlanLaws.{at-within}
 use Rattle.memory.specs.Move.{move}
-use Rattle.interpreter.specs.MovingLaws.{left}
+use Rattle.interpreter.specs.Laws.MovingLaws.{left}
 use Rattle.interpreter.specs.Running.{Standing}
-use Rattle.interpreter.specs.TurnLaws.{movable, less}
+use Rattle.interpreter.specs.Laws.TurnLaws.{movable, less}
 use Rattle.trace.specs.Trace.{trace}
 use Rattle.trace.specs.LineText.{lines-text}
 use Rattle.audala_trace.specs.declared.telling.Telling.{Telling}

@@ -20,9 +20,9 @@ use Rattle.memory.specs.Choose.{picked}
 use Rattle.memory.specs.Move.{move as move-on}
 use Rattle.interpreter.specs.Ready.{Ready}
 use Rattle.interpreter.specs.Running.{Turned, Turned.turned, Turned.failed}
-use Rattle.interpreter.specs.RunningLaws.{number-some}
-use Rattle.interpreter.specs.TurnLaws.{none-hold, some-hold, moves-to, turned-by}
-use Rattle.interpreter.specs.VisitWays.{visits-on}
+use Rattle.interpreter.specs.Laws.RunningLaws.{number-some}
+use Rattle.interpreter.specs.Laws.TurnLaws.{none-hold, some-hold, moves-to, turned-by}
+use Rattle.interpreter.specs.Laws.VisitWays.{visits-on}
 use Rattle.trace.specs.Trace.{trace}
 use Rattle.trace.specs.LineText.{lines-text}
 use Rattle.trace.specs.TraceTextLaws.{text-move, text-turn, text-untaken, text-stops}

@@ -24,7 +24,7 @@ use Rattle.sound.specs.Startable.{Startable}
 use Rattle.sound.specs.Laws.AcceptedLaws.{ready-accepted}
 use Rattle.sound.specs.Laws.NeverStuckLaws.{never-stuck-numbers}
 use Rattle.claims.specs.Call.{Call}
-use Rattle.claims.specs.JoinLaws.{ready-call}
+use Rattle.claims.specs.Laws.JoinLaws.{ready-call}
 use Rattle.claims.specs.AnyRun.{table-startable, run-states-right, run-entries-within}
 
 -- the machine that a call on a table begins its run with

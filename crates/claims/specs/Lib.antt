@@ -1,6 +1,4 @@
 pub mod Call
-pub mod JoinLaws
-pub mod MemoryLaws
 pub mod AnyRun
 pub mod Demand1
 pub mod Demand2
@@ -11,3 +9,4 @@ pub mod Exact
 pub mod Memory
 pub mod Rounds
 pub mod Orders
+pub mod Laws

@@ -16,9 +16,9 @@ use Rattle.memory.specs.Plan.{At}
 use Rattle.memory.specs.Laws.PlanUnique.{at-unique}
 use Rattle.memory.specs.Stands.{Stands, bits}
 use Rattle.memory.specs.Laws.EntriesLaws.{entry-times, bits-times}
-use Rattle.interpreter.specs.TurnLaws.{held-count}
+use Rattle.interpreter.specs.Laws.TurnLaws.{held-count}
 use Rattle.interpreter.specs.Running.{cleared, Moving, Running, Ended}
-use Rattle.claims.specs.MemoryLaws.{running-visited, ended-visited}
+use Rattle.claims.specs.Laws.MemoryLaws.{running-visited, ended-visited}
 
 module _ (p : Program) (counts list items spans : List ℕ) (m : Machine) {es : List ℕ} {z : State} where
   -- after i turns and the schedule moves after them: `Running` is the invariant of the loop over the turn bytes. The number of holders that the

@@ -11,8 +11,8 @@ use Rattle.directory.specs.declared.Row.{Row}
 use Rattle.directory.specs.Rows.{row-places, put-rows}
 use Rattle.directory.specs.RowsLaws.{put-rows-length, put-rows-append}
 use Rattle.emit.specs.Written.{Good}
-use Rattle.emit.specs.WrittenLaws.{sets-append}
-use Rattle.emit.specs.ReadLaws.{many-value, many-none}
+use Rattle.emit.specs.Laws.WrittenLaws.{sets-append}
+use Rattle.emit.specs.Laws.ReadLaws.{many-value, many-none}
 use Rattle.emit_steps.specs.Emitted.{Stand, place-at, stand, final, Fits}
 
 -- equal parts make equal stands

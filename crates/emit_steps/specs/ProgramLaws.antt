@@ -17,7 +17,7 @@ use Rattle.directory.specs.DirectoryLaws.{directory-few}
 use Rattle.commands.specs.ProgramWords.{structs-words, program-words}
 use Rattle.commands.specs.ProgramWordsLaws.{program-length}
 use Rattle.emit.specs.Written.{structs-at}
-use Rattle.emit.specs.ProgramLaws.{program-steps, whole-program}
+use Rattle.emit.specs.Laws.ProgramLaws.{program-steps, whole-program}
 use Rattle.emit_steps.specs.declared.Place.{Place}
 use Rattle.emit_steps.specs.Emitted.{Stand, from-place, stand, final, Fits, EmittedProgram}
 

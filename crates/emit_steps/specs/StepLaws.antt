@@ -17,7 +17,7 @@ use Rattle.directory.specs.Directory.{row, steps-rows, structs-rows}
 use Rattle.directory.specs.Rows.{row-places, put-row, put-rows}
 use Rattle.emit.specs.declared.Put.{Put}
 use Rattle.emit.specs.Written.{Good, code-of, next-of, Ready, Wrote, steps-at, structs-at}
-use Rattle.emit.specs.ReadLaws.{value, made-value, pair-value, pair-ok, ranged-value, counted-value}
+use Rattle.emit.specs.Laws.ReadLaws.{value, made-value, pair-value, pair-ok, ranged-value, counted-value}
 use Rattle.emit_steps.specs.Emitted.{Stand, place-at, stand, step-row, final, Fits}
 use Rattle.emit_steps.specs.EmittedLaws.{same-stand, final-none, first-fits, next-final, next-fits}
 

@@ -28,7 +28,7 @@ use Rattle.compile.specs.Prepared.{Preparable, Prepared, PreparedProgram}
 use Rattle.table_write.specs.Written.{memory-stream, memory-blocks, memory-image, Filled}
 use Rattle.table_write.specs.WriteStands.{null-ones, filled, stream-stands}
 use Rattle.interpreter.specs.Ready.{Ready}
-use Rattle.interpreter.specs.TurnLaws.{held-count}
+use Rattle.interpreter.specs.Laws.TurnLaws.{held-count}
 use Rattle.interpreter.specs.Running.{cleared, Ended}
 use Rattle.run_images.specs.declared.Report.{Report}
 use Rattle.seating.specs.declared.Seat.{Seat}

@@ -6,7 +6,7 @@ use lib.ListN.{length, take}
 use Rattle.types.specs.Limits.{max-structs, max-params}
 use Rattle.types.specs.Stages.{Stage.went as accepted}
 use Rattle.block.specs.Put.{put}
-use Rattle.block.specs.PutLaws.{put-front}
+use Rattle.block.specs.Laws.PutLaws.{put-front}
 use Rattle.blocks.specs.Images.{stream}
 use Rattle.verdict.specs.Verdict.{checked}
 use Rattle.load.specs.declared.Loaded.{Loaded}

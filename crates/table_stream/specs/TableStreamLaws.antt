@@ -8,7 +8,7 @@ use mathlib.Core.List.{List, [], _∷_, _++_}
 use lib.ListN.{length, getD, set, drop, length-append, drop-of-length-le}
 use lib.Seq.{sets, drop-cons, length-sets}
 use borrow.Author.Tests.{lt-ltb, le-ltb, eq-eqb, ne-eqb}
-use Rattle.emit.specs.WrittenLaws.{sets-append, set-sets}
+use Rattle.emit.specs.Laws.WrittenLaws.{sets-append, set-sets}
 use Rattle.program.specs.Encoding.{enc-word}
 use Rattle.table_stream.specs.TableStream.{value-number, word-bytes, begins, item-bytes, one-line, records-bytes, line-count, stream-of, agreed-from}
 

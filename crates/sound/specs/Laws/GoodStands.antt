@@ -17,7 +17,7 @@ use Rattle.commands.specs.Laws.NotedLaws.{erased}
 use Rattle.machine.specs.Published.{Inst, Inst.inst, State.state}
 use Rattle.machine.specs.Machine.{Instance, Machine}
 use Rattle.machine.specs.Represents.{values, Represents-inst, Represents-all}
-use Rattle.types.specs.ListLaws.{map-drop}
+use Rattle.types.specs.Laws.ListLaws.{map-drop}
 use Rattle.machine.specs.Heads.{plain-head, if-head}
 use Rattle.run.specs.Runs.{Config, Config.config, StandsFor}
 use Rattle.sound.specs.Invariant.{Job, InJob, InJob.in-call, Place, Place.resting, Place.passing, Good}

@@ -1,6 +1,6 @@
 -- `put::pair` meets its contract: its two stores are the number's two bytes.
 use lib.ListN.{length-set}
-use Rattle.block.specs.BlockWriteWays.{put-pair}
+use Rattle.block.specs.Laws.BlockWriteWays.{put-pair}
 use borrow.Author.Needs.{needs}
 use native.Mathlib.Omega.{arith}
 use Rattle.block.proofs.put.pair.Statement.{statement}

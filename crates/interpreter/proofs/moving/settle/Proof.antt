@@ -9,7 +9,7 @@ use native.Mathlib.Omega.{arith}
 use Rattle.layout.specs.State.{state-of}
 use Rattle.interpreter.specs.Moving.{moves-left}
 use Rattle.interpreter.specs.Running.{Led}
-use Rattle.interpreter.specs.SettleWays.{led-none, led-held, led-ended, led-within, led-movable, led-less, led-more}
+use Rattle.interpreter.specs.Laws.SettleWays.{led-none, led-held, led-ended, led-within, led-movable, led-less, led-more}
 use Rattle.interpreter.proofs.moving.settle.Statement.{statement}
 use Rattle.interpreter.proofs.moving.settle.Tie as tie
 

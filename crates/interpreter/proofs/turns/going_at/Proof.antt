@@ -2,7 +2,7 @@
 use mathlib.Core.Path.{sym, _∙_}
 use borrow.Author.Needs.{needs}
 use native.Mathlib.Omega.{arith}
-use Rattle.interpreter.specs.GoingLaws.{at-nobody, at-last, at-turn}
+use Rattle.interpreter.specs.Laws.GoingLaws.{at-nobody, at-last, at-turn}
 use Rattle.interpreter.proofs.turns.going_at.Statement.{statement}
 use Rattle.interpreter.proofs.turns.going_at.Tie as tie
 
