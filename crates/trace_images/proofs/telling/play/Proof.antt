@@ -144,7 +144,8 @@ abbrev begun : tie.At-loop Inv-loop μ-loop → tie.Start Inv-loop μ-loop
 begun c = begin (prepared c)
 
 goes : (c : tie.At-loop Inv-loop μ-loop) (p : Program) (m : Machine) → SeatedHere (prepared c) p m
-    → Goes (some (begun c .args .out .now)) p m (begun c .args .turns .now) (begun c .args .counts .now) (list-of (prepared c)) (items-of (prepared c)) (spans-of (prepared c))
+    → Goes (some (begun c .args .out .now)) p m
+    (begun c .args .turns .now) (begun c .args .counts .now) (list-of (prepared c)) (items-of (prepared c)) (spans-of (prepared c))
     (c .loop .next) (c .loop .heads) (c .loop .cells) (c .loop .out)
 goes c p m w =
     let t = at-settle (c .before) in
@@ -154,7 +155,8 @@ goes c p m w =
     c .loop .inv .6 (some (a .out .now)) p m
     (subst (λ (r : Telling). Goes (some (a .out .now)) p m (a .turns .now) (a .counts .now) (list-of d) (items-of d) (spans-of d) r
     (t .settle .last .1 .1 .1 .0) (a .cells .now) (t .settle .last .1 .1 .1 .1 .0)) (sym (c .before .told-at .ensures))
-    (first-goes (some (a .out .now)) p m (a .turns .now) (a .counts .now) (list-of d) (items-of d) (spans-of d) (a .start) refl (f .first .ensures) (ready d p m w) (t .settle .ensures)))
+    (first-goes (some (a .out .now)) p m
+    (a .turns .now) (a .counts .now) (list-of d) (items-of d) (spans-of d) (a .start) refl (f .first .ensures) (ready d p m w) (t .settle .ensures)))
 
 abbrev the-program : tie.At-loop Inv-loop μ-loop → Program
 the-program c = begun c .pre .0 .0
