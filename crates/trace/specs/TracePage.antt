@@ -1,5 +1,5 @@
--- A page of a trace (docs/FORMAT.md, 'Traces'): the bytes of its text from a place on, as many as a lent buffer holds. Beside it, the number and the turns that the
--- text ends with.
+-- A page of a trace (docs/FORMAT.md, 'Traces'): the bytes of its text from a place on, as many as a lent buffer holds. Beside it, the number and the
+-- turns that the text ends with.
 use Prim.Native.Nat.{ℕ}
 use mathlib.Core.List.{List, _++_}
 use lib.ListN.{length, take, drop}

@@ -1,11 +1,13 @@
--- Pages of a text (docs/FORMAT.md, 'Traces'): those that follow each other are the text, and a page grows with its text. Number and turns are those of the text's last line.
+-- Pages of a text (docs/FORMAT.md, 'Traces'): those that follow each other are the text, and a page grows with its text. Number and turns are those of the
+-- text's last line.
 use Prim.Native.Nat.{ℕ, _+_, _-_, _<_, _≤_, min}
 use native.Mathlib.Omega.{arith}
 use mathlib.Core.Path.{_≡_, refl, sym, ap, _∙_}
 use mathlib.Core.Bool.{Bool, true, false}
 use mathlib.Core.List.{List, [], _++_, append-nil, append-assoc}
 use lib.ListN.{length, take, drop, length-append, length-take, length-drop, drop-of-length-le}
-use lib.Seq.{length-take-le, take-all, take-append-le, take-append-add, take-append-seam, drop-append-le, drop-append-add, take-length, take-nil, drop-nil, take-add, drop-drop}
+use lib.Seq.{length-take-le, take-all, take-length, take-nil, drop-nil, take-add, drop-drop}
+use lib.Seq.{take-append-le, take-append-add, take-append-seam, drop-append-le, drop-append-add}
 use lib.Dec.{leb}
 use borrow.Author.Tests.{lt-ltb, le-ltb, leb-true, leb-false}
 use Rattle.types.specs.Limits.{max-turns}

@@ -7,7 +7,7 @@ use mathlib.Core.Bool.{Bool, true, false}
 use mathlib.Core.List.{List, [], _++_}
 use lib.ListN.{length, take, drop, length-append, length-take, length-drop, drop-of-length-le}
 use lib.Dec.{leb}
-use lib.Seq.{sets-eq, take-at, take-all}
+use lib.Seq.{sets-eq, take-at, take-all, take-length, drop-length}
 use borrow.Author.Tests.{leb-true, leb-false}
 use Rattle.block.specs.Put.{put}
 use Rattle.text.specs.Listing.{Placed}
@@ -27,25 +27,22 @@ paged-kept {text} {lent} {g = g} h = ap length (h .shown) ∙ paged-length (g .f
 
 -- Parts past the end of a list ----------------------------------------------------
 
-take-least : (n : ℕ) (l : List ℕ) → take (min (length l) n) l ≡ take n l
-take-least n l = go (leb n (length l)) refl
+-- of what is the same from the end of a list on, n may be taken for the end where it is greater
+least-same : {A : Type 0} (n : ℕ) (l : List ℕ) (f : ℕ → A) → ((k : ℕ) → length l ≤ k → f k ≡ f (length l)) → f (min (length l) n) ≡ f n
+least-same n l f past = go (leb n (length l)) refl
   where
-    go : (b : Bool) → leb n (length l) ≡ b → take (min (length l) n) l ≡ take n l
-    go true b = let h = leb-true n (length l) b in let e : min (length l) n ≡ n = omega arith in ap (λ (k : ℕ). take k l) e
+    go : (b : Bool) → leb n (length l) ≡ b → f (min (length l) n) ≡ f n
+    go true b = let h = leb-true n (length l) b in let e : min (length l) n ≡ n = omega arith in ap f e
     go false b =
         let h = leb-false n (length l) b in
-        let e : length l ≤ min (length l) n = omega arith in
-        take-all (min (length l) n) l e ∙ sym (take-all n l (omega arith))
+        let e : min (length l) n ≡ length l = omega arith in
+        ap f e ∙ sym (past n (omega arith))
+
+take-least : (n : ℕ) (l : List ℕ) → take (min (length l) n) l ≡ take n l
+take-least n l = least-same n l (λ (k : ℕ). take k l) (λ k h. take-all k l h ∙ sym (take-length l))
 
 drop-least : (n : ℕ) (l : List ℕ) → drop (min (length l) n) l ≡ drop n l
-drop-least n l = go (leb n (length l)) refl
-  where
-    go : (b : Bool) → leb n (length l) ≡ b → drop (min (length l) n) l ≡ drop n l
-    go true b = let h = leb-true n (length l) b in let e : min (length l) n ≡ n = omega arith in ap (λ (k : ℕ). drop k l) e
-    go false b =
-        let h = leb-false n (length l) b in
-        let e : length l ≤ min (length l) n = omega arith in
-        drop-of-length-le l {i = min (length l) n} e ∙ sym (drop-of-length-le l {i = n} (omega arith))
+drop-least n l = least-same n l (λ (k : ℕ). drop k l) (λ k h. drop-of-length-le l {i = k} h ∙ sym (drop-length l))
 
 -- a part within what is left
 sums : (a b n : ℕ) → a ≤ n → b ≤ n - a → a + b ≤ n

@@ -1,5 +1,6 @@
-// The trace of a run on images (docs/FORMAT.md, 'Traces'), a page at a time: a program image, a table image and turn bytes to the number and the turns of the run and
-// the length of its trace's text; of the text the bytes from a place on, as many as the output holds. A call makes the run anew, so that nothing is kept between pages.
+// The trace of a run on images (docs/FORMAT.md, 'Traces'), a page at a time: a program image, a table image and turn bytes to the number and the turns of
+// the run and the length of its trace's text; of the text the bytes from a place on, as many as the output holds. A call makes the run anew: nothing is
+// kept between pages.
 mod pages;
 mod telling;
 
@@ -82,7 +83,8 @@ fn begun(
     ended(r.page, r.number, last.taken, out)
 }
 
-// 1 to 12 and 14 in order, or a run that is told; of the text what lies from a place on, as much as the output holds. Of what is refused the text is its last line.
+// 1 to 12 and 14 in order, or a run that is told; of the text what lies from a place on, as much as the output holds. Of what is refused the text is its
+// last line.
 pub fn trace(program: &[u8], table: &[u8], turns: &[u8], from: usize, out: &mut [u8]) -> Traced
     ensures { λ r. ⌜ r ≡ traced (traced-number (now (program .entry)) (now (table .entry)) (now (turns .entry)))
         (traced-turns (now (program .entry)) (now (table .entry)) (now (turns .entry)))

@@ -1,5 +1,5 @@
-// A page of a trace's text in a lent buffer (docs/FORMAT.md, 'Traces'): the bytes from a place on, as many as the buffer holds. Those before the page and after it
-// are counted and not stored.
+// A page of a trace's text in a lent buffer (docs/FORMAT.md, 'Traces'): the bytes from a place on, as many as the buffer holds. Those before the page and
+// after it are counted and not stored.
 use crate::Traced;
 ghost use mathlib.Core.Path.{_≡_};
 ghost use mathlib.Core.List.{List, _++_};

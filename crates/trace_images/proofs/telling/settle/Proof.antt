@@ -1,5 +1,5 @@
--- `telling::settle` meets its contract. The loop's invariant: the text is told as far as memory has moved, whichever machine it held, with a line at most for each
--- move. The measure is the moves that are left.
+-- `telling::settle` meets its contract. The loop's invariant: the text is told as far as memory has moved, whichever machine it held, with a line at most
+-- for each move. The measure is the moves that are left.
 use native.Mathlib.Omega.{arith}
 use Prim.Native.Nat.{_+_, _*_, _<_, _≤_}
 use mathlib.Core.Path.{_≡_, refl, _∙_}
@@ -9,7 +9,8 @@ use Rattle.types.specs.Limits.{step-names, fix-levels}
 use Rattle.trace_lines.specs.Parts.{line-most}
 use Rattle.trace_images.specs.Telling.{items-most, Silent}
 use Rattle.trace_images.specs.TellingLaws.{nobody-holds, somebody-holds}
-use Rattle.trace_images.specs.SettlingWays.{left-at, silent-none, silent-more, settling-within, settling-moveable, settling-less, settling-most, settling-some}
+use Rattle.trace_images.specs.SettlingWays.{left-at, silent-none, silent-more}
+use Rattle.trace_images.specs.SettlingWays.{settling-within, settling-moveable, settling-less, settling-most, settling-some}
 use Rattle.trace_images.proofs.telling.settle.Statement.{statement}
 use Rattle.trace_images.proofs.telling.settle.Tie as tie
 

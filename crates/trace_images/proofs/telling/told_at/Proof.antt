@@ -19,14 +19,16 @@ returns-2 : tie.Need-returns-2
 returns-2 c =
     let d = c .before .before .before in
     let a = start d .args in
-    c .resting2 .ensures ∙ sym (at-last (a .turns .now) (a .s) (somebody-holds (a .s .coming .machine .numbers) (d .due .ensures) (c .before .before .if1 .left)) (c .before .if2 .taken))
+    let held = somebody-holds (a .s .coming .machine .numbers) (d .due .ensures) (c .before .before .if1 .left) in
+    c .resting2 .ensures ∙ sym (at-last (a .turns .now) (a .s) held (c .before .if2 .taken))
 
 returns-3 : tie.Need-returns-3
 returns-3 c =
     let at-else2 = c .before .before in
     let d = at-else2 .before .before in
     let a = start d .args in
-    sym (at-turn (a .turns .now) (a .s) (somebody-holds (a .s .coming .machine .numbers) (d .due .ensures) (at-else2 .before .if1 .left)) (omega (arith, at-else2 .if2 .left)))
+    let held = somebody-holds (a .s .coming .machine .numbers) (d .due .ensures) (at-else2 .before .if1 .left) in
+    sym (at-turn (a .turns .now) (a .s) held (omega (arith, at-else2 .if2 .left)))
 
 pub told-at-spec : {M : Type 1} → statement M
 told-at-spec =
