@@ -2,3 +2,4 @@
 pub mod NestingLaws
 pub mod MeantComplete
 pub mod MeantLaws
+pub mod UnmeantLaws
