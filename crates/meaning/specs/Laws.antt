@@ -3,3 +3,4 @@ pub mod NestingLaws
 pub mod MeantComplete
 pub mod MeantLaws
 pub mod UnmeantLaws
+pub mod CauseLaws
