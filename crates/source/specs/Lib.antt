@@ -1,4 +1,5 @@
 pub mod Source
+pub mod Causes
 pub mod TextReader
 pub mod Kept
 pub mod Stepping

@@ -1,23 +1,21 @@
 -- A derivation means a program or has a cause of 17 (`Unmeant`), and so has a cause exactly where it means none (02 §1).
-use Prim.Native.Nat.{ℕ, suc, _<_, _≤_}
+use Prim.Native.Nat.{ℕ, _<_, _≤_}
 use native.Mathlib.Omega.{arith}
-use mathlib.Core.Path.{_≡_, refl, sym, ap, _∙_}
+use mathlib.Core.Path.{_≡_, refl, sym, _∙_}
 use mathlib.Core.Bool.{Bool, true, false}
 use mathlib.Core.Logic.{_↔_, _⊎_, inl, inr}
-use mathlib.Core.List.{List, [], _∷_, _++_, map}
+use mathlib.Core.List.{List, [], _∷_, map}
 use lib.ListN.{length}
-use lib.Dec.{eqb, ltb}
+use lib.Dec.{ltb}
 use borrow.Author.Tests.{ltb-true, ltb-false}
 use lib.IntN.{ℤ}
 use Rattle.types.specs.Limits.{nat-end}
 use Rattle.types.specs.Types.{Ty, Ty.int, Ty.nat, Ty.bool, Ty.ref}
 use Rattle.types.specs.Values.{IntRange, in-int, int-word}
-use Rattle.types.specs.Decides.{Decides, decides-eqb}
 use Rattle.program.specs.Tree.{Var as Variable, Var.par as parameter, Var.loc as local, Expr, Expr.inv, Expr.make, Expr.path as path-of, Expr.int-lit}
 use Rattle.program.specs.Tree.{Expr.nat-lit, Expr.bool-lit, Expr.null as null-of, Expr.self, Expr.op, Exprs, Exprs.none as no-args, Exprs.more, args}
 use Rattle.program.specs.Tree.{Stmt, Stmt.when, Stmt.declare, Stmt.update as update-of, Stmt.create, Stmts, Stmts.end, Stmts.next, Item as Call}
 use Rattle.program.specs.Tree.{Item.call, Item.call-in, Item.fix, Items, Items.stop, Items.item, Step as Named, Program}
-use Rattle.tokens.specs.Tokens.{same}
 use Rattle.syntax.specs.Syntax.{Id, TypeName, TypeName.int-type, TypeName.nat-type, TypeName.bool-type, TypeName.id-type, Literal}
 use Rattle.syntax.specs.Syntax.{Literal.int-literal, Literal.nat-literal, Literal.bool-literal, Var, Var.id as one-id, Var.dot}
 use Rattle.syntax.specs.Syntax.{Exp, Exp.binary, Exp.brackets, Exp.negation, Exp.constructor, Exp.variable, Exp.literal, Exp.null, Exp.this, Exps}
@@ -25,14 +23,14 @@ use Rattle.syntax.specs.Syntax.{Exps.no-exps, Exps.exps, Stat, Stat.if-then, St
 use Rattle.syntax.specs.Syntax.{Stats.stats}
 use Rattle.syntax.specs.Syntax.{Par, Step, Step.step, Struct, Item, Item.execution, Item.typed-execution, Item.fixpoint, Sched, Sched.last-item}
 use Rattle.syntax.specs.Syntax.{Sched.barrier, Program as Derivation, Program.program}
-use Rattle.meaning.specs.Scope.{Found, Found.here, Found.later, Absent, Distinct, Each, Each.no-more, Each.and-then, par-id, par-type, step-id}
+use Rattle.meaning.specs.Scope.{Found, Absent, Each, Each.no-more, Each.and-then, par-id, par-type, step-id}
 use Rattle.meaning.specs.Scope.{struct-id, pars-of, steps-of, structs-of, Local, local-id, local-number, local-type}
-use Rattle.meaning.specs.StepNames.{among, once, all-steps, step-names}
+use Rattle.meaning.specs.StepNames.{once, all-steps, step-names}
 use Rattle.meaning.specs.Values.{decimal, signed}
-use Rattle.meaning.specs.Finding.{Place, decides-same}
+use Rattle.meaning.specs.Finding.{Place}
 use Rattle.meaning.specs.Means.{LiteralMeans, LiteralMeans.int-means, LiteralMeans.nat-means, LiteralMeans.true-means, LiteralMeans.false-means}
 use Rattle.meaning.specs.Means.{TypeMeans, TypeMeans.int-is, TypeMeans.nat-is, TypeMeans.bool-is, TypeMeans.struct-is, Refers, Refers.refers}
-use Rattle.meaning.specs.Means.{Further, Further.last, Further.goes-on, Starts, Starts.a-parameter, Starts.a-local, PathMeans, PathMeans.alone}
+use Rattle.meaning.specs.Means.{Further, Further.last, Further.goes-on, Starts.a-parameter, Starts.a-local, PathMeans, PathMeans.alone}
 use Rattle.meaning.specs.Means.{PathMeans.behind}
 use Rattle.meaning.specs.Means.{ExpMeans, ExpMeans.binary-means, ExpMeans.brackets-mean, ExpMeans.negation-means, ExpMeans.constructor-means}
 use Rattle.meaning.specs.Means.{ExpMeans.variable-means, ExpMeans.literal-means, ExpMeans.null-means, ExpMeans.this-means, ExpsMean}
@@ -42,9 +40,9 @@ use Rattle.meaning.specs.Means.{StatsMean, StatsMean.no-stats-mean, Stat
 use Rattle.meaning.specs.Means.{ParsMean.pars-mean, StepMeans, StepMeans.step-means, StepsMean, StepsMean.steps-mean, ItemMeans}
 use Rattle.meaning.specs.Means.{ItemMeans.execution-means, ItemMeans.typed-means, ItemMeans.fix-means, SchedMeans, SchedMeans.last-means}
 use Rattle.meaning.specs.Means.{SchedMeans.barrier-means, Means, Means.means}
-use Rattle.meaning.specs.Unmeant.{Among, Among.first, Among.other, Twice, Twice.again, Twice.later-twice, One, One.this-one, One.later-one}
+use Rattle.meaning.specs.Unmeant.{Among, Among.first, Among.other, One, One.this-one, One.later-one}
 use Rattle.meaning.specs.Unmeant.{Outside, Outside.int-outside, Outside.nat-outside, arguments, alive-behind, met-behind, all-met, NoStruct}
-use Rattle.meaning.specs.Unmeant.{NoType, NoType.no-type, Leads-nowhere, Leads-nowhere.int-nowhere, Leads-nowhere.nat-nowhere}
+use Rattle.meaning.specs.Unmeant.{NoType, NoType.no-type, Leads-nowhere.int-nowhere, Leads-nowhere.nat-nowhere}
 use Rattle.meaning.specs.Unmeant.{Leads-nowhere.bool-nowhere, Leads-nowhere.no-struct-there, NoFurther, NoFurther.no-parameter}
 use Rattle.meaning.specs.Unmeant.{NoFurther.no-parameter-before, NoFurther.not-behind, NotBehind, NotBehind.leads-nowhere, NotBehind.not-in, NoPath}
 use Rattle.meaning.specs.Unmeant.{NoPath.no-variable, NoPath.no-variable-before, NoPath.not-behind-parameter, NoPath.not-behind-local}
@@ -59,89 +57,7 @@ use Rattle.meaning.specs.Unmeant.{NoSched.in-item, NoSched.in-items, Unm
 use Rattle.meaning.specs.Laws.MeantLaws.{range-of}
 use Rattle.meaning.specs.Laws.MeantComplete.{range-test}
 use Rattle.meaning.specs.Laws.UnmeantLaws.{among-absent, arguments-counted, unmeant-none}
-
--- something is meant, or there is a cause why not
-data Or (A : Type 0) (R : A → Type 0) (C : Type 0) : Type 0 where
-  so : (a : A) → R a → Or A R C
-  not-so : C → Or A R C
-
--- one thing after another: the first cause stops
-after : {A B : Type 0} {R : A → Type 0} {S : B → Type 0} {C D : Type 0} → Or A R C → (C → D) → ((a : A) → R a → Or B S D) → Or B S D
-after (so a r) f g = g a r
-after (not-so c) f g = not-so (f c)
-
-given : {B : Type 0} {S : B → Type 0} {P C D : Type 0} → P ⊎ C → (C → D) → (P → Or B S D) → Or B S D
-given (inl p) f g = g p
-given (inr c) f g = not-so (f c)
-
-each-or : {A B : Type 0} {R : A → B → Type 0} {C : A → Type 0} → ((a : A) → Or B (R a) (C a)) → (l : List A) → Or (List B) (Each R l) (One C l)
-each-or h [] = so [] no-more
-each-or h (a ∷ l) = after (h a) this-one λ b r. after (each-or h l) later-one λ m e. so (b ∷ m) (and-then r e)
-
--- Tests ------------------------------------------------------------------------------------------
-
-decided : {P : Type 0} (t : Bool) → Decides t P → P ⊎ (P → ⊥)
-decided true d = inl (d .holds refl)
-decided false d = inr (d .fails refl)
-
-equal-or : (a b : ℕ) → (a ≡ b) ⊎ (a ≡ b → ⊥)
-equal-or a b = decided (eqb a b) (decides-eqb a b)
-
-same-or : (x y : Id) → (x ≡ y) ⊎ (x ≡ y → ⊥)
-same-or x y = decided (same x y) (decides-same x y)
-
-absent-or : (x : Id) (l : List Id) → (Absent x l) ⊎ (Among x l)
-absent-or x [] = inl tt
-absent-or x (y ∷ l) = go (same-or y x) (absent-or x l)
-  where
-    go : (y ≡ x) ⊎ (y ≡ x → ⊥) → (Absent x l) ⊎ (Among x l) → (Absent x (y ∷ l)) ⊎ (Among x (y ∷ l))
-    go (inl e) r = inr (first e)
-    go (inr n) (inl a) = inl (n, a)
-    go (inr n) (inr m) = inr (other m)
-
-distinct-or : (l : List Id) → (Distinct l) ⊎ (Twice l)
-distinct-or [] = inl tt
-distinct-or (x ∷ l) = go (absent-or x l) (distinct-or l)
-  where
-    go : (Absent x l) ⊎ (Among x l) → (Distinct l) ⊎ (Twice l) → (Distinct (x ∷ l)) ⊎ (Twice (x ∷ l))
-    go (inl a) (inl d) = inl (a, d)
-    go (inl a) (inr t) = inr (later-twice t)
-    go (inr m) r = inr (again m)
-
-module _ {A : Type 0} (key : A → Id) (x : Id) where
-  abbrev FoundAt : List A → Place A → Type 0
-  FoundAt l p = Found key x (p .at) (p .element) l
-
-  found-or : (l : List A) → Or (Place A) (FoundAt l) (Absent x (map key l))
-  found-or [] = not-so tt
-  found-or (a ∷ l) = go (same-or (key a) x) (found-or l)
-    where
-      go : (key a ≡ x) ⊎ (key a ≡ x → ⊥) → Or (Place A) (FoundAt l) (Absent x (map key l)) → Or (Place A) (FoundAt (a ∷ l)) (Absent x (map key (a ∷ l)))
-      go (inl e) r = so (record { at = 0; element = a }) (here e)
-      go (inr n) (so p f) = so (record { at = suc (p .at); element = p .element }) (later n f)
-      go (inr n) (not-so b) = not-so (n, b)
-
--- a name among names: by its test, in a longer row, in a row kept as it is
-among-test : (x : Id) (l : List Id) → among x l ≡ true → Among x l
-unfolding among
-among-test x [] e = absurd (let k : _≡_ {A = ℕ} 0 1 = cc in omega (arith, k))
-among-test x (y ∷ l) e = go (same y x) refl (among-test x l)
-  where
-    go : (t : Bool) → same y x ≡ t → (among x l ≡ true → Among x l) → Among x (y ∷ l)
-    go true f rec = first (decides-same y x .holds f)
-    go false f rec = other (rec (rw (f, among) at e))
-
-among-left : {x : Id} {l : List Id} (m : List Id) → Among x l → Among x (l ++ m)
-among-left m (first e) = first e
-among-left m (other a) = other (among-left m a)
-
-among-right : {x : Id} (l : List Id) {m : List Id} → Among x m → Among x (l ++ m)
-among-right [] a = a
-among-right (y ∷ l) a = other (among-right l a)
-
-same-row : {x : Id} {l : List Id} → Among x l → Among x (map (λ z. z) l)
-same-row (first e) = first e
-same-row (other a) = other (same-row a)
+use Rattle.meaning.specs.Laws.EitherLaws.{Or, Or.so, Or.not-so, after, given, each-or, equal-or, absent-or, distinct-or, FoundAt, found-or, among-left, among-right, same-row, once-keeps}
 
 -- Literals and paths -----------------------------------------------------------------------------
 
@@ -290,26 +206,6 @@ module _ (ds : List Struct) where
       par-or q = after (type-or (par-type q)) in-par λ u p. so u (par-means p)
 
   -- the name of a step of the text has a number
-  once-keeps : (x : Id) (met l : List Id) → Among x l → (Among x met) ⊎ (Among x (once met l))
-  unfolding once
-  once-keeps x met [] m = inr m
-  once-keeps x met (y ∷ l) m = go (among y met) refl m (once-keeps x met l) (once-keeps x (y ∷ met) l)
-    where
-      met-already : (l : List Id) → among y l ≡ true → y ≡ x → Among x l
-      met-already l e f = rw (← f) (among-test y l e)
-
-      kept : (Among x (y ∷ met)) ⊎ (Among x (once (y ∷ met) l)) → (Among x met) ⊎ (Among x (y ∷ once (y ∷ met) l))
-      kept (inl (first e)) = inr (first e)
-      kept (inl (other m)) = inl m
-      kept (inr m) = inr (other m)
-
-      go : (b : Bool) → among y met ≡ b → Among x (y ∷ l) → (Among x l → (Among x met) ⊎ (Among x (once met l)))
-          → (Among x l → (Among x (y ∷ met)) ⊎ (Among x (once (y ∷ met) l))) → (Among x met) ⊎ (Among x (once met (y ∷ l)))
-      go true e (first f) rec rec' = inl (met-already met e f)
-      go true e (other n) rec rec' = rw (e, once) (rec n)
-      go false e (first f) rec rec' = inr (rw (e, once) (first f))
-      go false e (other n) rec rec' = rw (e, once) (kept (rec' n))
-
   step-number : (x : Id) → Among x (all-steps ds) → (p : Place Id) × (Found (λ z. z) x (p .at) (p .element) (step-names ds))
   unfolding step-names
   step-number x m = go (once-keeps x [] (all-steps ds) m) (found-or (λ z. z) x (step-names ds))

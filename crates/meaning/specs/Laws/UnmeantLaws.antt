@@ -8,10 +8,10 @@ use lib.ListN.{length}
 use Rattle.types.specs.Types.{Ty}
 use Rattle.program.specs.Tree.{Var as Variable, Expr, Exprs, Stmt, Stmts, Item as Call, Items, Step as Named, Program, args}
 use Rattle.syntax.specs.Syntax.{Id, TypeName, Literal, Var, Exp, Exps, Stat, Stats, Par, Step, Struct, Item, Sched, Program as Derivation}
-use Rattle.meaning.specs.Scope.{Found, Found.here, Found.later, Absent, Distinct, Each, Each.no-more, Each.and-then, par-id, par-type, struct-id}
+use Rattle.meaning.specs.Scope.{Found, Found.here, Found.later, Absent, Distinct, Each, Each.and-then, par-id, par-type, struct-id}
 use Rattle.meaning.specs.Scope.{pars-of, structs-of, Local, local-id, local-type}
 use Rattle.meaning.specs.StepNames.{among, once, all-steps, step-names}
-use Rattle.meaning.specs.Finding.{Place, find, find-complete, found-there}
+use Rattle.meaning.specs.Finding.{Place, find-complete, found-there}
 use Rattle.meaning.specs.Means.{LiteralMeans, LiteralMeans.int-means, LiteralMeans.nat-means}
 use Rattle.meaning.specs.Means.{TypeMeans, TypeMeans.struct-is, Refers, Refers.refers}
 use Rattle.meaning.specs.Means.{Further, Further.last, Further.goes-on, Starts, Starts.a-parameter, Starts.a-local, PathMeans, PathMeans.alone}
