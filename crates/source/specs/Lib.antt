@@ -8,4 +8,5 @@ pub mod Rows
 pub mod Streamed
 pub mod TextRows
 pub mod DeepRows
+pub mod CountRows
 pub mod Laws
