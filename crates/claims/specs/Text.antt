@@ -29,11 +29,13 @@ use Rattle.syntax.specs.SumRows.{compared, two-compared as compared-law}
 use Rattle.meaning.specs.Holds.{max-stream}
 use Rattle.meaning.specs.Means.{Means}
 use Rattle.meaning.specs.Nesting.{Shallow}
-use Rattle.source.specs.Source.{Derived, Reading, NoTokens, text-order}
+use Rattle.source.specs.Source.{Derived, Reading, NoTokens, NoProgram, text-order}
+use Rattle.source.specs.Causes.{Cause}
 use Rattle.source.specs.TextReader.{outcome, text-number, text-blocks, text-output}
 use Rattle.source.specs.Laws.SourceLaws.{derived-one as derived-law, one-reading as reading-law, text-refused-exactly as refused-law}
 use Rattle.source.specs.Laws.SourceLaws.{text-written as written-law}
 use Rattle.source.specs.Laws.SourceLaws.{text-untouched as untouched-law, escapes-16 as escapes-law}
+use Rattle.source.specs.Laws.CauseLaws.{no-program-exactly as causes-law}
 use Rattle.source.specs.Stepping.{StepsRight}
 use Rattle.source.specs.Checking.{Answers, written-image, text-verdict, both-order}
 use Rattle.source.specs.Laws.CheckingLaws.{bytes-blocks, image-written, text-answered as answered-law, deep-exactly, seven-for-steps}
@@ -66,6 +68,12 @@ derived-one a b = derived-law a b
 -- and one program at most that it means
 pub one-reading : {x : List ℕ} {p q : Program} → Reading x p → Reading x q → p ≡ q
 one-reading a b = reading-law a b
+
+-- 17 by its causes: a derived text is read as no program that a stream holds exactly where its derivation has one ("a name with no declaration alive at its
+-- place, a struct, parameter or local name declared twice or a local named as a parameter of its struct, a literal outside its type, other than one
+-- argument per parameter, or more of anything than the stream's counts, numbers or bytes hold")
+pub no-program-exactly : {x : List ℕ} {c : Derivation} → Derived x c → (NoProgram x) ↔ (Cause c)
+no-program-exactly d = causes-law d
 
 -- "more .. than the stream's .. bytes hold": as many bytes as the 64 blocks of the largest image have room for
 pub text-bytes : (p : Program) → (length (enc-program p) ≤ max-stream) ↔ (pieces (length (enc-program p)) ≤ program-blocks)

@@ -2,3 +2,6 @@
 pub mod NestingLaws
 pub mod MeantComplete
 pub mod MeantLaws
+pub mod UnmeantLaws
+pub mod EitherLaws
+pub mod CauseLaws

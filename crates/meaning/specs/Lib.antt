@@ -2,6 +2,7 @@ pub mod Scope
 pub mod StepNames
 pub mod Values
 pub mod Means
+pub mod Unmeant
 pub mod Holds
 pub mod HoldsDecide
 pub mod Nesting
