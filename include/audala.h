@@ -122,6 +122,7 @@ static inline const char *audala_message(uint32_t number) {
 #define AUDALA_WRITE_IMAGE_STACK 1024
 #define AUDALA_TEXT_STACK 237568
 #define AUDALA_LISTING_STACK 65536
+#define AUDALA_TRACE_STACK 133120
 
 /* Types, values and records ---------------------------------------------------------------------------------------------------------------------------- */
 
@@ -295,6 +296,22 @@ audala_copied audala_text(const uint8_t *text, size_t length, uint8_t *output, s
  * bytes. Of an accepted image: `audala`, its structs, steps, commands and depth, then a line for each command: struct, step, position, command. Of a refused
  * one the single line `refused` and the number; what is answered is 0 then, too. 13: the output is too short, and stays as it was. */
 audala_copied audala_listing(const uint8_t *image, size_t length, uint8_t *output, size_t room);
+
+/* What a page of a trace answers. */
+typedef struct {
+    uint32_t number; /* that of the run: 0, 1 to 12, 14 or 33 to 35; there is no 13 */
+    uint32_t turns;  /* commands taken; 0 after 1 to 14 */
+    uint64_t length; /* bytes of the whole trace, whatever the output holds of them */
+    size_t count;    /* bytes of it that were written */
+} audala_traced;
+
+/* A page of the trace of a run (docs/FORMAT.md, 'Traces'): the bytes of its text from the place `from` on, as many as the output holds, in the front of the output;
+ * later bytes are untouched. The text has a line for each move of the schedule and each turn, and a last line `end` with the number and the turns; of a
+ * refused input (1 to 12, 14) it is that line alone. Any place and any output will do: from `length` on nothing is written, and pages that follow each other
+ * are the whole text. So go on with from + count until it is `length`, or ask with an empty output for `length` first.
+ * Each call makes the run anew and tells all of it, whichever page is asked for: a text of L bytes in pages of N bytes costs L / N runs, in an output of L bytes one. */
+audala_traced audala_trace(const uint8_t *program, size_t program_length, const uint8_t *table, size_t table_length, const uint8_t *turns,
+                           size_t turn_count, uint64_t from, uint8_t *output, size_t room);
 
 #ifdef __cplusplus
 }
