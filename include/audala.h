@@ -292,6 +292,16 @@ audala_copied audala_write_image(const uint8_t *stream, size_t length, size_t mo
  * 0, 5, 6, 7 or 8. */
 audala_copied audala_text(const uint8_t *text, size_t length, uint8_t *output, size_t room);
 
+/* What is answered of a text's place. */
+typedef struct {
+    size_t at; /* how many bytes of the text are before the place; its length where the end is the place */
+} audala_stopped;
+
+/* The place at which reading a text stops, for a message beside 15, 16 and 17: of 15 the first byte at which no token begins, of a
+ * text over 65,536 bytes that count; of 16 the first token with which no derivation goes on, the length where the text ends too early; of 17 the token at which a
+ * name, a literal or an argument list is wrong, 0 for declarations of structs, parameters and steps, the length for other counts. It may be after the mistake. */
+audala_stopped audala_place(const uint8_t *text, size_t length);
+
 /* The listing of a program image in the front of the output, lines of ASCII that end in a line feed; later bytes are untouched. The count is that of its
  * bytes. Of an accepted image: `audala`, its structs, steps, commands and depth, then a line for each command: struct, step, position, command. Of a refused
  * one the single line `refused` and the number; what is answered is 0 then, too. 13: the output is too short, and stays as it was. */

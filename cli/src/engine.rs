@@ -13,6 +13,11 @@ pub fn text(text: &[u8]) -> Result<Vec<u8>, u32> {
     if copied.number == 0 { Ok(image) } else { Err(copied.number) }
 }
 
+/// Where reading a text that is refused stops.
+pub fn place(text: &[u8]) -> usize {
+    audala::place(text)
+}
+
 pub fn check(image: &[u8]) -> Verdict {
     audala::check(image, &mut vec![0; audala::LIST_PLACES])
 }

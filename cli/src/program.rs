@@ -40,6 +40,9 @@ pub struct Step {
     pub statements: Vec<String>,
 }
 
+/// The number of a text with a wrong name, literal, argument list or count.
+const WRONG_NAME: u32 = 17;
+
 pub const INT: u8 = 0;
 pub const NAT: u8 = 1;
 pub const BOOL: u8 = 2;
@@ -70,9 +73,10 @@ pub fn read(file: &str) -> Result<(Vec<u8>, Option<Vec<u8>>), Failure> {
     }
 }
 
-/// Where reading a text stopped, as far as it is known.
-fn place(_text: &[u8], _number: u32) -> Option<Spot> {
-    None
+/// Where reading a text stopped, as far as it is known: of a declaration the library has the text's beginning, which says nothing.
+fn place(text: &[u8], number: u32) -> Option<Spot> {
+    let at = engine::place(text);
+    (number != WRONG_NAME || at > 0).then(|| Spot::of(text, at))
 }
 
 impl Program {
