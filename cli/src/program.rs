@@ -54,11 +54,16 @@ pub fn is_image(bytes: &[u8]) -> bool {
     bytes.starts_with(&[0, 0]) || (!bytes.is_empty() && bytes.len() % 512 == 0 && bytes.contains(&0))
 }
 
+/// A file's name in a message.
+pub fn shown(file: &str) -> String {
+    if file == "-" { "standard input".to_string() } else { file.to_string() }
+}
+
 /// A refusal of a file with a number of the library.
 pub fn refused(file: &str, number: u32, spot: Option<Spot>) -> Failure {
     let hints = numbers::hints(number).iter().map(|hint| hint.to_string()).collect();
     let cause = numbers::meaning(number).to_string();
-    Failure::Refused(Box::new(Refusal { file: file.to_string(), number: Some(number), cause, spot, hints }))
+    Failure::Refused(Box::new(Refusal { file: shown(file), number: Some(number), cause, spot, hints }))
 }
 
 /// The image of a program file, and its text where it is one.
@@ -69,14 +74,28 @@ pub fn read(file: &str) -> Result<(Vec<u8>, Option<Vec<u8>>), Failure> {
     }
     match engine::text(&bytes) {
         Ok(image) => Ok((image, Some(bytes))),
-        Err(number) => Err(refused(file, number, place(&bytes, number))),
+        Err(number) => Err(text_refused(file, &bytes, number)),
     }
 }
 
-/// Where reading a text stopped, as far as it is known: of a declaration the library has the text's beginning, which says nothing.
-fn place(text: &[u8], number: u32) -> Option<Spot> {
+/// A refusal of a text with its place, as far as one is known. Of a 17 the library has the text's beginning for a declaration and the text's end for a count,
+/// which are no places to mark.
+fn text_refused(file: &str, text: &[u8], number: u32) -> Failure {
     let at = engine::place(text);
-    (number != WRONG_NAME || at > 0).then(|| Spot::of(text, at))
+    let unmarked = match at {
+        _ if number != WRONG_NAME => None,
+        0 => Some("It is in a declaration of a struct, a parameter or a step; its place is not known."),
+        _ if at == text.len() => Some("There is more of something than a program holds; its place is not known."),
+        _ => None,
+    };
+    let failure = refused(file, number, if unmarked.is_none() { Some(Spot::of(text, at)) } else { None });
+    match (failure, unmarked) {
+        (Failure::Refused(mut refusal), Some(hint)) => {
+            refusal.hints.insert(0, hint.to_string());
+            Failure::Refused(refusal)
+        }
+        (failure, _) => failure,
+    }
 }
 
 impl Program {

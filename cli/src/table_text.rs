@@ -1,7 +1,7 @@
 //! Tables as text to their stream (docs/FORMAT.md, 'Tables as text'): a line for each record with its label, struct and values. A text is converted where
 //! each number is one that its place can hold in four bytes; whether the table is accepted is decided by the library.
 
-use crate::program::{INT, Program};
+use crate::program::{INT, Program, shown};
 use crate::report::{Failure, Refusal, Spot};
 
 /// A text has at most as many bytes, as `audala_table` has it.
@@ -20,11 +20,11 @@ struct Fault {
 
 /// The lines of a table text, each a record of the program's.
 pub fn read(program: &Program, file: &str, text: &[u8]) -> Result<Vec<Line>, Failure> {
-    let lines = lines(text).and_then(|lines| check(program, &lines, text.len()).map(|()| lines));
+    let lines = lines(text).and_then(|lines| check(program, &lines).map(|()| lines));
     lines.map_err(|fault| {
         let hints = vec!["A line is: label struct value value .. (docs/FORMAT.md, 'Tables as text').".to_string()];
         let spot = Some(Spot::of(text, fault.at));
-        Failure::Refused(Box::new(Refusal { file: file.to_string(), number: None, cause: fault.cause, spot, hints }))
+        Failure::Refused(Box::new(Refusal { file: shown(file), number: None, cause: fault.cause, spot, hints }))
     })
 }
 
@@ -94,22 +94,21 @@ fn number(spelled: &[u8], at: usize) -> Result<i64, Fault> {
 }
 
 /// Each line has the label that is due, a struct of the program and one value for each of its parameters.
-fn check(program: &Program, lines: &[Line], end: usize) -> Result<(), Fault> {
+fn check(program: &Program, lines: &[Line]) -> Result<(), Fault> {
+    if lines.len() > usize::from(u16::MAX) {
+        return Err(Fault { at: lines[0].places[0], cause: "there are more than 65535 records".to_string() });
+    }
     for (i, line) in lines.iter().enumerate() {
         let due = program.nulls() + i;
         if line.numbers[0] != due as i64 {
             return Err(Fault { at: line.places[0], cause: format!("label {due} is due here: labels go on from {}", program.nulls()) });
         }
-        let next = lines.get(i + 1).map_or(end, |next| next.places[0]);
-        record(program, line, next)?;
-    }
-    if lines.len() > usize::from(u16::MAX) {
-        return Err(Fault { at: lines[0].places[0], cause: "there are more than 65535 records".to_string() });
+        record(program, line)?;
     }
     Ok(())
 }
 
-fn record(program: &Program, line: &Line, next: usize) -> Result<(), Fault> {
+fn record(program: &Program, line: &Line) -> Result<(), Fault> {
     let last = line.places[line.places.len() - 1];
     let Some(&structure) = line.numbers.get(1) else {
         return Err(Fault { at: last, cause: "a struct is due after the label".to_string() });
@@ -120,7 +119,7 @@ fn record(program: &Program, line: &Line, next: usize) -> Result<(), Fault> {
     };
     let values = &line.numbers[2..];
     if values.len() != kind.parameters.len() {
-        let at = line.places.get(2 + kind.parameters.len()).copied().unwrap_or(last.min(next));
+        let at = line.places.get(2 + kind.parameters.len()).copied().unwrap_or(last);
         let cause = format!("{} has {} parameters, and here are {} values", kind.name, kind.parameters.len(), values.len());
         return Err(Fault { at, cause });
     }

@@ -4,7 +4,7 @@
 use crate::engine;
 use crate::files;
 use crate::numbers;
-use crate::program::{BOOL, FIRST_STRUCT, INT, Program, is_image, refused};
+use crate::program::{self, BOOL, FIRST_STRUCT, INT, Program, is_image, refused};
 use crate::report::{Failure, Refusal, Spot};
 use crate::table_text::{self, Line};
 
@@ -32,7 +32,7 @@ impl Table {
         let lines = table_text::read(program, file, &bytes)?;
         let Ok(image) = engine::table_image(&table_text::stream(&lines)) else {
             let cause = "the table has more than the 8568 bytes that 17 blocks hold".to_string();
-            let refusal = Refusal { file: file.to_string(), number: None, cause, spot: None, hints: Vec::new() };
+            let refusal = Refusal { file: program::shown(file), number: None, cause, spot: None, hints: Vec::new() };
             return Err(Failure::Refused(Box::new(refusal)));
         };
         Table::accepted(program, image, file, Some((&bytes, &lines)))

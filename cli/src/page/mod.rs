@@ -38,7 +38,7 @@ pub fn page(story: &Story, races: &[Race], wish: &Wish) -> Result<String, String
     let plot = Plot::new(&window, lines, cap.as_ref(), lanes.end);
     let verdict = words::verdict(story, &plot, wish.watch.is_some());
     let mut out = head(&wish.title);
-    out += &format!("<h1>{}</h1>\n<p>{}</p>\n", esc(&wish.title), words::ended(story));
+    out += &format!("<h1>{}</h1>\n<p>{} {}</p>\n", esc(&wish.title), words::ended(story), esc(&words::changed(story)));
     out += "<p class=\"mut small\">The number after a name is the instance’s label in the table. Null instances take the steps too.</p>\n";
     let mut alt = format!("Time line of {} turns. The tables below have the same as text.", window.events().count());
     if let Some(verdict) = &verdict {

@@ -3,7 +3,10 @@
 use super::plot::{Plot, minus};
 use super::svg::{esc, rich};
 use super::window::Window;
+use crate::lines::Place;
+use crate::races::Race;
 use crate::story::{Item, Mark, Story};
+use std::collections::BTreeMap;
 
 /// Races that are listed at most.
 const MOST_RACES: usize = 40;
@@ -43,6 +46,21 @@ pub fn ended(story: &Story) -> String {
         34 => format!("The run stopped after {turns} turns with 34: there were 256 instances, and one more was to be made."),
         _ => format!("The run stopped after {turns} turns with 35: a divisor of zero, or a result outside its type."),
     }
+}
+
+/// The parameters that are not as they were at first.
+pub fn changed(story: &Story) -> String {
+    const MOST: usize = 12;
+    let mut last: BTreeMap<Place, i64> = BTreeMap::new();
+    for event in story.events() {
+        if let Mark::Write(place, _, new) = event.mark {
+            last.insert(place, new);
+        }
+    }
+    last.retain(|place, value| story.first[place.0][place.1] != *value);
+    let shown: Vec<String> = last.iter().take(MOST).map(|(&place, &value)| format!("{} = {}", story.at(place), story.value(place, value))).collect();
+    let more = if last.len() > MOST { format!(" and {} more", last.len() - MOST) } else { String::new() };
+    if shown.is_empty() { "No parameter is other than at first.".to_string() } else { format!("Changed: {}{more}.", shown.join(", ")) }
 }
 
 pub fn races(window: &Window, plot: &Plot) -> String {
@@ -125,6 +143,18 @@ pub fn notes(window: &Window, plot: &Plot, turn: usize) -> Vec<String> {
     notes
 }
 
+/// The same in short, for a table.
+fn note(window: &Window, plot: &Plot, turn: usize) -> String {
+    let reads = |wanted: &dyn Fn(&Race) -> bool| {
+        let turns: Vec<String> = window.races.iter().filter(|race| wanted(race)).map(|race| race.read.to_string()).collect();
+        (!turns.is_empty()).then(|| format!("turn{} {}", if turns.len() == 1 { "" } else { "s" }, turns.join(", ")))
+    };
+    let overtakes = reads(&|race| race.write == turn).map(|turns| format!("overtakes what {turns} read"));
+    let rests = reads(&|race| race.late.contains(&turn)).map(|turns| format!("rests on what {turns} read, overtaken since"));
+    let past = plot.past.filter(|(past, _)| *past == turn).map(|_| "first turn past the cap".to_string());
+    [overtakes, rests, past].into_iter().flatten().collect::<Vec<String>>().join("; ")
+}
+
 /// The writes as a table.
 pub fn writes(window: &Window, plot: &Plot) -> String {
     let story = window.story;
@@ -138,7 +168,7 @@ pub fn writes(window: &Window, plot: &Plot) -> String {
             ("Old", "num", esc(&story.value(place, old))),
             ("New", "num", esc(&story.value(place, new))),
             ("Statement", "", format!("<code>{}</code>", esc(&event.statement))),
-            ("Note", "", esc(&notes(window, plot, event.turn.turn).join(" "))),
+            ("Note", "", esc(&note(window, plot, event.turn.turn))),
         ];
         let cell = |(head, class, inner): &(&str, &str, String)| format!("<td role=\"cell\" data-h=\"{head}\" class=\"{class}\">{inner}</td>");
         rows += &format!("<tr role=\"row\">{}</tr>\n", cells.iter().map(cell).collect::<String>());

@@ -1,7 +1,7 @@
 //! `audala check`: whether a program, and a table for it, are accepted.
 
 use crate::args::{Options, Word};
-use crate::program::Program;
+use crate::program::{Program, shown};
 use crate::report::{Answer, Failure};
 use crate::tables::Table;
 
@@ -29,9 +29,9 @@ fn act(options: &Options) -> Result<Answer, Failure> {
         return Ok(Answer::done(out));
     }
     let counts = [count(v.structs, "struct"), count(v.steps, "step"), count(v.commands, "command")].join(", ");
-    let mut out = format!("{}: accepted: {counts}, stack depth {}\n", program.file, v.depth);
+    let mut out = format!("{}: accepted: {counts}, stack depth {}\n", shown(&program.file), v.depth);
     if let Some(table) = table {
-        out += &format!("{}: accepted: {}\n", options.files[1], count(table.records.len() as u32, "record"));
+        out += &format!("{}: accepted: {}\n", shown(&options.files[1]), count(table.records.len() as u32, "record"));
     }
     Ok(Answer::done(out))
 }
