@@ -33,7 +33,11 @@ fn act(program: &Program, table: &Table, bytes: &mut Vec<u8>, labels: &[usize]) 
     for &label in labels {
         let (report, _) = engine::run(&program.image, &table.image, bytes);
         if report.number != OUT_OF_TURNS {
-            return if report.number == 0 || report.number > OUT_OF_TURNS { Ok(()) } else { Err(unseen(bytes.len(), meaning(report.number))) };
+            return if report.number == 0 || report.number > OUT_OF_TURNS {
+                Ok(())
+            } else {
+                Err(unseen(bytes.len(), meaning(report.number)))
+            };
         }
         let holding = report.holding as usize;
         follow(&mut holders, last, holding);
@@ -74,7 +78,8 @@ fn seen(program: &Program, table: &Table, bytes: &[u8], holding: usize) -> (Vec<
     };
     let acted = round(&vec![0; holding]);
     let last = acted.iter().take_while(|(turn, _)| *turn < bytes.len()).last().map(|(_, label)| *label);
-    let mut holders: Vec<usize> = acted.iter().filter(|(turn, _)| *turn >= bytes.len()).map(|(_, label)| *label).collect();
+    let mut holders: Vec<usize> =
+        acted.iter().filter(|(turn, _)| *turn >= bytes.len()).map(|(_, label)| *label).collect();
     if holders.len() < holding {
         // A command on the way is refused: each holder is asked for by its own byte.
         let one = |byte| round(&[byte as u8]).iter().find(|(turn, _)| *turn == bytes.len()).map(|(_, label)| *label);
@@ -86,5 +91,11 @@ fn seen(program: &Program, table: &Table, bytes: &[u8], holding: usize) -> (Vec<
 
 fn unseen(turn: usize, cause: &str) -> Failure {
     let cause = format!("turn {turn}: {cause}");
-    Failure::Refused(Box::new(Refusal { file: "--acting".to_string(), number: None, cause, spot: None, hints: Vec::new() }))
+    Failure::Refused(Box::new(Refusal {
+        file: "--acting".to_string(),
+        number: None,
+        cause,
+        spot: None,
+        hints: Vec::new(),
+    }))
 }

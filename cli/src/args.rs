@@ -76,7 +76,12 @@ impl Options {
         Ok(())
     }
 
-    fn option<'a>(&mut self, word: &'static Word, arg: &str, rest: &mut impl Iterator<Item = &'a String>) -> Result<(), Failure> {
+    fn option<'a>(
+        &mut self,
+        word: &'static Word,
+        arg: &str,
+        rest: &mut impl Iterator<Item = &'a String>,
+    ) -> Result<(), Failure> {
         let (name, given) = match arg.split_once('=').filter(|_| arg.starts_with("--")) {
             Some((name, value)) => (name, Some(value.to_string())),
             None => (if arg == "-o" { "--output" } else { arg }, None),
@@ -91,7 +96,8 @@ impl Options {
         let missing = || misuse(word, format!("{name} needs a value"));
         let value = given.or_else(|| rest.next().cloned()).ok_or_else(missing)?;
         if name == "--random" {
-            let count = rest.next().ok_or_else(|| misuse(word, "--random needs a seed and a number of turns".to_string()))?;
+            let count =
+                rest.next().ok_or_else(|| misuse(word, "--random needs a seed and a number of turns".to_string()))?;
             self.turns.push(turns::random(&value, count).map_err(|message| misuse(word, message))?);
             return Ok(());
         }
@@ -109,7 +115,9 @@ impl Options {
             "--acting" => self.turns.push(turns::acting(&value).map_err(wrong)?),
             "--turns-file" => self.turns.push(turns::file(&value)?),
             "--output" => self.output = Some(value),
-            "--form" => self.form = form(&value).ok_or_else(|| wrong(format!("--form is image or text, not {value:?}")))?,
+            "--form" => {
+                self.form = form(&value).ok_or_else(|| wrong(format!("--form is image or text, not {value:?}")))?
+            }
             "--html" => self.html = Some(value),
             "--title" => self.title = Some(value),
             "--watch" => self.watch = Some(value),

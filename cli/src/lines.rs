@@ -51,7 +51,8 @@ fn turn(line: &str) -> Option<Turn> {
     let (stack, rest) = rest.split_once(']')?;
     let mut words = front.splitn(7, ' ');
     let mut number = || words.next()?.parse::<usize>().ok();
-    let (turn, byte, label, structure, step, position) = (number()?, number()?, number()?, number()?, number()?, number()?);
+    let (turn, byte, label, structure, step, position) =
+        (number()?, number()?, number()?, number()?, number()?, number()?);
     let command = words.next()?.to_string();
     let tagged = |word: &str| {
         let (of, value) = word.split_once(':')?;
@@ -69,7 +70,18 @@ fn turn(line: &str) -> Option<Turn> {
         _ => return None,
     };
     let byte = u8::try_from(byte).ok()?;
-    Some(Turn { turn, byte, label, structure, step, position, command, stack: stack?, wrote, entries: entries.to_string() })
+    Some(Turn {
+        turn,
+        byte,
+        label,
+        structure,
+        step,
+        position,
+        command,
+        stack: stack?,
+        wrote,
+        entries: entries.to_string(),
+    })
 }
 
 #[cfg(test)]

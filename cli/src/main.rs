@@ -3,6 +3,7 @@
 #![deny(unused_must_use)]
 
 mod acting;
+mod acts;
 mod args;
 mod engine;
 mod files;

@@ -50,8 +50,10 @@ pub fn hints(number: u32) -> &'static [&'static str] {
             "Each statement but an if ends with a semicolon; two comparisons in a row need brackets;",
             "load+1 is written load + +1; a comparison is =, not ==.",
         ],
-        17 => &["A name that is not declared or not alive, a name declared twice, a literal outside its type,",
-            "another number of arguments than parameters, or more than a program holds (docs/FORMAT.md, 17)."],
+        17 => &[
+            "A name that is not declared or not alive, a name declared twice, a literal outside its type,",
+            "another number of arguments than parameters, or more than a program holds (docs/FORMAT.md, 17).",
+        ],
         33 => &["Run again from the first table with more turns: the table so far holds no stacks and positions."],
         34 => &["The program makes too many instances. The table is the one before that command."],
         35 => &["Mend the program or the table. The table is the one before that command."],

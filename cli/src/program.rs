@@ -51,7 +51,7 @@ pub const FIRST_LOCAL: usize = 8;
 
 /// Whether bytes are an image and not a text: an image begins with index 0 in two bytes, and no text does; a damaged one is still whole blocks with zeros.
 pub fn is_image(bytes: &[u8]) -> bool {
-    bytes.starts_with(&[0, 0]) || (!bytes.is_empty() && bytes.len() % 512 == 0 && bytes.contains(&0))
+    bytes.starts_with(&[0, 0]) || (!bytes.is_empty() && bytes.len().is_multiple_of(512) && bytes.contains(&0))
 }
 
 /// A file's name in a message.
@@ -107,8 +107,15 @@ impl Program {
             return Err(refused(file, verdict.number, None));
         }
         let structs = shapes(&engine::program_stream(&image));
-        let mut program =
-            Program { file: file.to_string(), image, verdict, source, structs, step_names: Vec::new(), steps: Vec::new() };
+        let mut program = Program {
+            file: file.to_string(),
+            image,
+            verdict,
+            source,
+            structs,
+            step_names: Vec::new(),
+            steps: Vec::new(),
+        };
         program.list_steps();
         if let Some(names) = program.source.as_deref().and_then(names) {
             program.name(names);
@@ -147,7 +154,9 @@ impl Program {
             }
             for named in named.steps {
                 let own = |step: &&mut Step| step.structure == k && step.number == named.number;
-                if let Some(step) = self.steps.iter_mut().find(own).filter(|s| s.commands.len() == named.statements.len()) {
+                if let Some(step) =
+                    self.steps.iter_mut().find(own).filter(|s| s.commands.len() == named.statements.len())
+                {
                     let local = |(name, of): (String, String)| Variable { name, of: type_byte(&of, &kinds) };
                     step.locals = named.locals.into_iter().map(local).collect();
                     step.statements = named.statements;

@@ -72,10 +72,15 @@ fn sentence(story: &Story, index: &Index, read: &Event, write: &Event, late: &[(
         return format!("{front}At turn {turn} {reader} still uses the old {seen} ({}).", statement(turn));
     }
     let decided = index.uses[&read.turn.turn].iter().map(|(turn, _)| *turn).filter(|turn| *turn < write.turn.turn);
-    let decided = decided.filter(|turn| index.by_turn.get(turn).is_some_and(|event| matches!(event.mark, Mark::If(_)))).last();
+    let decided = decided
+        .filter(|turn| index.by_turn.get(turn).is_some_and(|event| matches!(event.mark, Mark::If(_))))
+        .next_back();
     let decided = decided.map_or(String::new(), |turn| format!(" (turn {turn})"));
     let acts: Vec<String> = late.iter().map(|(turn, _)| format!("{} at turn {turn}", statement(turn))).collect();
-    format!("{front}{reader} had decided its `if` by the old {seen}{decided} and still acts on that: {}.", acts.join(" and "))
+    format!(
+        "{front}{reader} had decided its `if` by the old {seen}{decided} and still acts on that: {}.",
+        acts.join(" and ")
+    )
 }
 
 /// The statement of a turn in backquotes; its command where the program came as an image.

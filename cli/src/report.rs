@@ -63,11 +63,8 @@ impl Spot {
         let front = String::from_utf8_lossy(&self.text[..(self.column - 1).min(self.text.len())]).into_owned();
         let rest = String::from_utf8_lossy(&self.text[(self.column - 1).min(self.text.len())..]).trim_end().to_string();
         let count = front.chars().count();
-        let kept: String = if count > ROOM {
-            std::iter::once('…').chain(front.chars().skip(count - ROOM)).collect()
-        } else {
-            front
-        };
+        let kept: String =
+            if count > ROOM { std::iter::once('…').chain(front.chars().skip(count - ROOM)).collect() } else { front };
         let shown: String = if rest.chars().count() > ROOM {
             rest.chars().take(ROOM).chain(std::iter::once('…')).collect()
         } else {

@@ -29,7 +29,8 @@ pub fn watched(story: &Story, spelled: &str) -> Result<Series, String> {
     if structure.parameters[p].of >= FIRST_STRUCT {
         return Err(format!("{place} is a reference, and has no sum"));
     }
-    let condition = condition.map(|name| parameter(story, &format!("{}.{name}", structure.name))).transpose()?.map(|(_, q)| q);
+    let condition =
+        condition.map(|name| parameter(story, &format!("{}.{name}", structure.name))).transpose()?.map(|(_, q)| q);
     if let Some(q) = condition.filter(|&q| structure.parameters[q].of != BOOL) {
         return Err(format!("{}.{} is not a Bool", structure.name, structure.parameters[q].name));
     }
@@ -38,7 +39,8 @@ pub fn watched(story: &Story, spelled: &str) -> Result<Series, String> {
         name += &format!(" with {} = true", structure.parameters[q].name);
     }
     let sum = |values: &[Vec<i64>]| {
-        let counted = values.iter().enumerate().skip(story.program.nulls()).filter(|(label, _)| story.kinds[*label] == k);
+        let counted =
+            values.iter().enumerate().skip(story.program.nulls()).filter(|(label, _)| story.kinds[*label] == k);
         counted.filter(|(_, own)| condition.is_none_or(|q| own[q] != 0)).map(|(_, own)| own[p]).sum()
     };
     Ok(Series { name, points: points(story, sum) })
@@ -66,9 +68,11 @@ pub fn cap(story: &Story, spelled: &str) -> Result<Cap, String> {
 
 /// `STRUCT.PARAMETER` as numbers.
 fn parameter(story: &Story, spelled: &str) -> Result<(usize, usize), String> {
-    let (structure, name) = spelled.trim().split_once('.').ok_or_else(|| format!("{spelled:?} is not STRUCT.PARAMETER"))?;
+    let (structure, name) =
+        spelled.trim().split_once('.').ok_or_else(|| format!("{spelled:?} is not STRUCT.PARAMETER"))?;
     let structs = &story.program.structs;
-    let k = structs.iter().position(|s| s.name == structure).ok_or_else(|| format!("there is no struct {structure}"))?;
+    let k =
+        structs.iter().position(|s| s.name == structure).ok_or_else(|| format!("there is no struct {structure}"))?;
     let p = structs[k].parameters.iter().position(|p| p.name == name);
     Ok((k, p.ok_or_else(|| format!("{structure} has no parameter {name}"))?))
 }
@@ -76,7 +80,8 @@ fn parameter(story: &Story, spelled: &str) -> Result<(usize, usize), String> {
 /// The parameter of the first instance of its struct that is not null.
 fn place(story: &Story, spelled: &str) -> Result<Place, String> {
     let (k, p) = parameter(story, spelled)?;
-    let label = (story.program.nulls()..story.kinds.len()).find(|&label| story.kinds[label] == k && !story.born.contains_key(&label));
+    let label = (story.program.nulls()..story.kinds.len())
+        .find(|&label| story.kinds[label] == k && !story.born.contains_key(&label));
     let label = label.ok_or_else(|| format!("the table has no {}", story.program.structs[k].name))?;
     Ok((label, p))
 }

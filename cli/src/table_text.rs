@@ -101,7 +101,10 @@ fn check(program: &Program, lines: &[Line]) -> Result<(), Fault> {
     for (i, line) in lines.iter().enumerate() {
         let due = program.nulls() + i;
         if line.numbers[0] != due as i64 {
-            return Err(Fault { at: line.places[0], cause: format!("label {due} is due here: labels go on from {}", program.nulls()) });
+            return Err(Fault {
+                at: line.places[0],
+                cause: format!("label {due} is due here: labels go on from {}", program.nulls()),
+            });
         }
         record(program, line)?;
     }
@@ -120,14 +123,18 @@ fn record(program: &Program, line: &Line) -> Result<(), Fault> {
     let values = &line.numbers[2..];
     if values.len() != kind.parameters.len() {
         let at = line.places.get(2 + kind.parameters.len()).copied().unwrap_or(last);
-        let cause = format!("{} has {} parameters, and here are {} values", kind.name, kind.parameters.len(), values.len());
+        let cause =
+            format!("{} has {} parameters, and here are {} values", kind.name, kind.parameters.len(), values.len());
         return Err(Fault { at, cause });
     }
     for (i, (parameter, &value)) in kind.parameters.iter().zip(values).enumerate() {
         let int = i64::from(i32::MIN)..=i64::from(i32::MAX);
         if if parameter.of == INT { !int.contains(&value) } else { value < 0 } {
             let name = program.type_name(parameter.of);
-            return Err(Fault { at: line.places[i + 2], cause: format!("{}: {value} is not a value of {name}", parameter.name) });
+            return Err(Fault {
+                at: line.places[i + 2],
+                cause: format!("{}: {value} is not a value of {name}", parameter.name),
+            });
         }
     }
     Ok(())

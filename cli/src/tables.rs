@@ -39,7 +39,12 @@ impl Table {
     }
 
     /// A table image that the library accepts: a run without turns refuses it or not.
-    fn accepted(program: &Program, image: Vec<u8>, file: &str, text: Option<(&[u8], &[Line])>) -> Result<Table, Failure> {
+    fn accepted(
+        program: &Program,
+        image: Vec<u8>,
+        file: &str,
+        text: Option<(&[u8], &[Line])>,
+    ) -> Result<Table, Failure> {
         let (report, _) = engine::run(&program.image, &image, &[]);
         if report.number != 0 && !numbers::STOPS.contains(&report.number) {
             let failure = refused(file, report.number, None);
@@ -82,7 +87,10 @@ impl Table {
             let values = values.map(|(p, v)| format!("{} {}", p.name, shown(program, &kinds, p.of, i64::from(*v))));
             let values: Vec<String> = values.collect();
             let who = instance(program, &kinds, program.nulls() + i);
-            out += &format!("  {who}: {}\n", if values.is_empty() { "no parameters".to_string() } else { values.join(", ") });
+            out += &format!(
+                "  {who}: {}\n",
+                if values.is_empty() { "no parameters".to_string() } else { values.join(", ") }
+            );
         }
         if out.is_empty() { "  no records\n".to_string() } else { out }
     }
@@ -133,7 +141,8 @@ fn explained(failure: Failure, program: &Program, image: &[u8], text: Option<(&[
     let found = reason(program, &records(program, &engine::table_stream(image)));
     if let Some((record, value, cause)) = found {
         refusal.hints.insert(0, cause);
-        refusal.spot = text.and_then(|(bytes, lines)| Some(Spot::of(bytes, *lines.get(record)?.places.get(value + 2)?)));
+        refusal.spot =
+            text.and_then(|(bytes, lines)| Some(Spot::of(bytes, *lines.get(record)?.places.get(value + 2)?)));
     }
     Failure::Refused(refusal)
 }
@@ -142,10 +151,16 @@ fn explained(failure: Failure, program: &Program, image: &[u8], text: Option<(&[
 fn reason(program: &Program, records: &[Record]) -> Option<(usize, usize, String)> {
     let kinds: Vec<usize> = (0..program.nulls()).chain(records.iter().map(|record| record.structure)).collect();
     if kinds.len() > INSTANCES {
-        return Some((INSTANCES - program.nulls(), usize::MAX - 2, format!("There are {} instances, null ones included; 256 are allowed.", kinds.len())));
+        return Some((
+            INSTANCES - program.nulls(),
+            usize::MAX - 2,
+            format!("There are {} instances, null ones included; 256 are allowed.", kinds.len()),
+        ));
     }
     for (i, record) in records.iter().enumerate() {
-        for (p, (parameter, &value)) in program.structs[record.structure].parameters.iter().zip(&record.values).enumerate() {
+        for (p, (parameter, &value)) in
+            program.structs[record.structure].parameters.iter().zip(&record.values).enumerate()
+        {
             let who = format!("Label {}, {}", program.nulls() + i, parameter.name);
             match parameter.of {
                 BOOL if value > 1 => return Some((i, p, format!("{who}: {value} is neither 0 nor 1."))),

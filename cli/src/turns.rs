@@ -26,7 +26,9 @@ pub fn list(spelled: &str) -> Result<Part, String> {
     let mut bytes = Vec::new();
     for part in spelled.split('+') {
         let (count, row) = match part.split_once('x') {
-            Some((count, row)) => (count.trim().parse::<u64>().map_err(|_| format!("{count:?} is not a count of turns"))?, row),
+            Some((count, row)) => {
+                (count.trim().parse::<u64>().map_err(|_| format!("{count:?} is not a count of turns"))?, row)
+            }
             None => (1, part),
         };
         let row: Result<Vec<u8>, String> = row.split(',').map(byte).collect();
@@ -60,7 +62,9 @@ pub fn random(seed: &str, count: &str) -> Result<Part, String> {
 
 /// Labels that are to act, one after the other.
 pub fn acting(spelled: &str) -> Result<Part, String> {
-    let label = |word: &str| word.trim().parse::<u8>().map(usize::from).map_err(|_| format!("{word:?} is not a label from 0 to 255"));
+    let label = |word: &str| {
+        word.trim().parse::<u8>().map(usize::from).map_err(|_| format!("{word:?} is not a label from 0 to 255"))
+    };
     let labels: Result<Vec<usize>, String> = spelled.split(',').map(label).collect();
     Ok(Part::Acting(labels?))
 }

@@ -70,7 +70,11 @@ fn held(args: &[&str], input: &[u8], mistake: &Mistake) {
     let said = audala(args, input);
     assert_eq!((said.status, said.out.as_str()), (1, ""), "{}", mistake.text);
     assert!(said.err.contains(mistake.says), "{}: {}", mistake.text, said.err);
-    let number = if mistake.number == "form" { ": refused: ".to_string() } else { format!(": refused with {}: ", mistake.number) };
+    let number = if mistake.number == "form" {
+        ": refused: ".to_string()
+    } else {
+        format!(": refused with {}: ", mistake.number)
+    };
     assert!(said.err.contains(&number), "{}: {}", mistake.text, said.err);
     let plain = audala(&[args, &["--plain"]].concat(), input);
     let lines: Vec<&str> = plain.err.lines().collect();
@@ -89,7 +93,10 @@ fn held(args: &[&str], input: &[u8], mistake: &Mistake) {
 #[test]
 fn in_statements() {
     for mistake in &STATEMENTS {
-        let text = format!("struct Deck(load: Int, count: Nat, on: Bool, next: Deck) {{\n  act {{\n{}\n}}\n}}\nact\n", mistake.text);
+        let text = format!(
+            "struct Deck(load: Int, count: Nat, on: Bool, next: Deck) {{\n  act {{\n{}\n}}\n}}\nact\n",
+            mistake.text
+        );
         held(&["check", "-"], text.as_bytes(), mistake);
     }
 }
@@ -136,7 +143,11 @@ fn images_cut_and_damaged() {
     let mut damaged = table.clone();
     damaged[9] ^= 1;
     held(&["check", "examples/sum.audala", "-"], &damaged, &unplaced("a changed byte", "10", "send it again"));
-    held(&["check", "examples/texts/sorting.audala", "-"], &table, &unplaced("another program's table", "11", "another program"));
+    held(
+        &["check", "examples/texts/sorting.audala", "-"],
+        &table,
+        &unplaced("another program's table", "11", "another program"),
+    );
 }
 
 #[test]
@@ -145,5 +156,9 @@ fn turns_that_cannot_be_taken() {
     let many = [&run[..], &["--turns", "65537x0"]].concat();
     held(&many, b"", &unplaced("65537 turns", "14", "more than 65536 turns"));
     let acting = [&run[..], &["--acting", "1,1,1,1,1,1,1,1,1"]].concat();
-    held(&acting, b"", &unplaced("a label too often", "form", "turn 8: label 1 holds no commands; those that do: 0, 2"));
+    held(
+        &acting,
+        b"",
+        &unplaced("a label too often", "form", "turn 8: label 1 holds no commands; those that do: 0, 2"),
+    );
 }

@@ -36,7 +36,8 @@ fn it_says_what_the_run_did() {
     let (breaks, _) = page(&folder, &cap);
     assert!(breaks.contains("This order breaks the cap.") && breaks.contains("This trips the cap."));
     // One deck after the other: the second one sees the first.
-    let (keeps, _) = page(&folder, &[&cap[..], &["--acting", &format!("{}{}", "3,".repeat(23), ["4"; 11].join(","))]].concat());
+    let (keeps, _) =
+        page(&folder, &[&cap[..], &["--acting", &format!("{}{}", "3,".repeat(23), ["4"; 11].join(","))]].concat());
     assert!(keeps.contains("This order keeps the cap.") && keeps.contains("<h2>Races</h2>"), "{keeps}");
     let (given, _) = page(&folder, &["--watch", "Deck.load", "--cap", "11"]);
     assert!(given.contains("The first table is over the cap."));

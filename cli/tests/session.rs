@@ -51,9 +51,12 @@ fn statements_fit_the_commands() {
             let listing = ok(&["list", path.strip_prefix("..").unwrap().to_str().unwrap()]);
             let words = |text: &str| text.split_whitespace().collect::<Vec<&str>>().concat();
             let source = words(&fs::read_to_string(&path).unwrap());
-            let statements: Vec<&str> = listing.lines().filter(|line| line.starts_with("  ") && !line.starts_with("   ")).collect();
+            let statements: Vec<&str> =
+                listing.lines().filter(|line| line.starts_with("  ") && !line.starts_with("   ")).collect();
             assert!(!statements.is_empty(), "{path:?} has no statements: {listing}");
-            statements.iter().for_each(|statement| assert!(source.contains(&words(statement)), "{path:?}: {statement}"));
+            statements
+                .iter()
+                .for_each(|statement| assert!(source.contains(&words(statement)), "{path:?}: {statement}"));
         }
     }
     assert!(texts >= 20);
@@ -62,7 +65,10 @@ fn statements_fit_the_commands() {
 #[test]
 fn runs_end_and_stop() {
     let said = audala(&["run", SUM[0], SUM[1], "--plain"], b"");
-    assert_eq!((said.status, said.out.as_str()), (0, "number 0\nturns 24\nblocks 1\ndepth 2\nholding 0\nrecord 1 0 12 2\nrecord 2 0 12 1\n"));
+    assert_eq!(
+        (said.status, said.out.as_str()),
+        (0, "number 0\nturns 24\nblocks 1\ndepth 2\nholding 0\nrecord 1 0 12 2\nrecord 2 0 12 1\n")
+    );
     let said = audala(&["run", SUM[0], SUM[1], "--turns", "8x254+8x3+8x200", "--plain"], b"");
     assert!(said.status == 0 && said.out.ends_with("record 1 0 17 2\nrecord 2 0 12 1\n"));
     let said = audala(&["run", SUM[0], SUM[1], "--turns=23x0"], b"");
@@ -70,8 +76,13 @@ fn runs_end_and_stop() {
     assert!(said.out.starts_with("The run stopped with 33 after 23 turns: "), "{}", said.out);
     let said = audala(&["run", SUM[0], "-", "--plain"], b"1 0 1 0\n2 0 2147483647 1\n");
     assert!(said.status == 2 && said.out.starts_with("number 35\nturns 17\n"), "{}", said.out);
-    assert_eq!(ok(&["run", SUM[0], SUM[1], "--plain", "--random", "7", "100"]), ok(&["run", SUM[0], SUM[1], "--plain", "--random", "7", "200"]));
-    assert!(ok(&["run", SUM[0], SUM[1], "--turns-file", "examples/zeros.turns"]).contains("Deck 2: load 12, prev Deck 1"));
+    assert_eq!(
+        ok(&["run", SUM[0], SUM[1], "--plain", "--random", "7", "100"]),
+        ok(&["run", SUM[0], SUM[1], "--plain", "--random", "7", "200"])
+    );
+    assert!(
+        ok(&["run", SUM[0], SUM[1], "--turns-file", "examples/zeros.turns"]).contains("Deck 2: load 12, prev Deck 1")
+    );
 }
 
 /// The labels that act in a trace.
@@ -93,17 +104,25 @@ fn labels_that_are_to_act_do() {
     let again = audala(&["trace", paths[0], paths[1], "--plain", "--acting", &labels.join(",")], b"").out;
     assert_eq!(acted(&again), labels);
     // Options are joined in their order.
-    let joined = audala(&["trace", SUM[0], SUM[1], "--plain", "--turns", "2x0", "--acting", "1,0", "--turns", "0"], b"").out;
+    let joined =
+        audala(&["trace", SUM[0], SUM[1], "--plain", "--turns", "2x0", "--acting", "1,0", "--turns", "0"], b"").out;
     assert_eq!(acted(&joined), ["0", "1", "1", "0", "1"]);
 }
 
 #[test]
 fn traces_are_the_library_s_or_have_names() {
     let plain = ok(&["trace", "--plain", SUM[0], SUM[1]]);
-    assert_eq!((plain.lines().count(), plain.lines().next(), plain.lines().last()), (26, Some("move s"), Some("end 0 24")));
+    assert_eq!(
+        (plain.lines().count(), plain.lines().next(), plain.lines().last()),
+        (26, Some("move s"), Some("end 0 24"))
+    );
     assert!(plain.contains("\n22 0 1 0 0 7 wr 0 [ ] 1.0 5 12 s\n"));
     let named = ok(&["trace", SUM[0], SUM[1]]);
-    assert!(named.contains("schedule   starts step add\n") && named.contains("Deck 1     wr load            []  Deck 1.load: 5 -> 12\n"), "{named}");
+    assert!(
+        named.contains("schedule   starts step add\n")
+            && named.contains("Deck 1     wr load            []  Deck 1.load: 5 -> 12\n"),
+        "{named}"
+    );
 }
 
 #[test]
@@ -118,11 +137,22 @@ fn help_version_and_misuse() {
         assert!(said.status == 3 && said.err.ends_with(&format!("See: audala {word} --help\n")), "{}", said.err);
         assert_eq!(audala(&[word, "--nothing", SUM[0], SUM[1]], b"").status, 3);
     }
-    for args in [&[][..], &["nothing"], &["check", "there-is-no-such-file"], &["check", "-", "-"], &["run", SUM[0], SUM[1], "--turns", "0,256"]] {
+    for args in [
+        &[][..],
+        &["nothing"],
+        &["check", "there-is-no-such-file"],
+        &["check", "-", "-"],
+        &["run", SUM[0], SUM[1], "--turns", "0,256"],
+    ] {
         assert_eq!(audala(args, b"").status, 3, "{args:?}");
     }
     let trace = ["trace", SUM[0], SUM[1]];
-    for more in [&["--cap", "3"][..], &["--html", "/dev/null", "--watch", "Oven.load"], &["--random", "1"], &["--form", "table"]] {
+    for more in [
+        &["--cap", "3"][..],
+        &["--html", "/dev/null", "--watch", "Oven.load"],
+        &["--random", "1"],
+        &["--form", "table"],
+    ] {
         assert_eq!(audala(&[&trace[..], more].concat(), b"").status, 3, "{more:?}");
     }
 }
@@ -148,13 +178,21 @@ fn a_refusal_leaves_no_file_and_keeps_the_old_one() {
     let folder = Folder::new();
     let (bad, out, old) = (folder.write("bad", b"struct A( { } s"), folder.file("out"), folder.write("old", b"old"));
     for target in [&out, &old] {
-        for args in [&["text", &bad][..], &["table", SUM[0], &bad], &["run", SUM[0], SUM[1], "--turns", "65537x0"], &["run", SUM[0], &bad]] {
+        for args in [
+            &["text", &bad][..],
+            &["table", SUM[0], &bad],
+            &["run", SUM[0], SUM[1], "--turns", "65537x0"],
+            &["run", SUM[0], &bad],
+        ] {
             assert_eq!(audala(&[args, &["-o", target]].concat(), b"").status, 1, "{args:?}");
         }
         assert_eq!(audala(&["trace", SUM[0], &bad, "--html", target], b"").status, 1);
         assert_eq!(audala(&["trace", SUM[0], SUM[1], "--html", target, "--watch", "No.thing"], b"").status, 3);
     }
-    assert_eq!((folder.names(), fs::read(&old).unwrap()), (vec!["bad".to_string(), "old".to_string()], b"old".to_vec()));
+    assert_eq!(
+        (folder.names(), fs::read(&old).unwrap()),
+        (vec!["bad".to_string(), "old".to_string()], b"old".to_vec())
+    );
 }
 
 #[test]
@@ -171,7 +209,10 @@ fn a_failed_write_keeps_the_old_file() {
     }
     assert!(fs::metadata("/dev/full").is_ok_and(|data| !data.is_file()));
     assert_eq!(shell(&format!("\"$AUDALA\" list {} >/dev/full", SUM[0])).status, 3);
-    assert_eq!(shell(&format!("\"$AUDALA\" list {} | head -n 1", SUM[0])).out, "1 struct, 1 step, 8 commands, stack depth 2\n");
+    assert_eq!(
+        shell(&format!("\"$AUDALA\" list {} | head -n 1", SUM[0])).out,
+        "1 struct, 1 step, 8 commands, stack depth 2\n"
+    );
 }
 
 /// The old file's permissions and a link to it are kept.
@@ -179,7 +220,14 @@ fn a_failed_write_keeps_the_old_file() {
 fn a_file_is_replaced_where_a_link_points() {
     let folder = Folder::new();
     let (old, link) = (folder.write("old", b"old"), folder.file("link"));
-    assert_eq!(shell(&format!("chmod 640 {old}; ln -s old {link}; \"$AUDALA\" text {} -o {link}; stat -c %a {old}; test -L {link}", SUM[0])).status, 0);
+    assert_eq!(
+        shell(&format!(
+            "chmod 640 {old}; ln -s old {link}; \"$AUDALA\" text {} -o {link}; stat -c %a {old}; test -L {link}",
+            SUM[0]
+        ))
+        .status,
+        0
+    );
     assert_eq!(fs::read(&old).unwrap(), fs::read("../examples/sum.program").unwrap());
     assert_eq!(shell(&format!("stat -c %a {old}")).out, "640\n");
 }

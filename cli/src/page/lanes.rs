@@ -27,7 +27,10 @@ pub struct Lanes {
 
 pub fn lanes(window: &Window, labels: &[usize]) -> Lanes {
     let mut lanes = Lanes { width: names_width(window, labels), ..Lanes::default() };
-    lanes.names += &format!("<text class=\"mutt sm\" x=\"8\" y=\"{AXIS}\">turn</text><text class=\"lane\" x=\"8\" y=\"{}\">Schedule</text>", SCHEDULE + 16.0);
+    lanes.names += &format!(
+        "<text class=\"mutt sm\" x=\"8\" y=\"{AXIS}\">turn</text><text class=\"lane\" x=\"8\" y=\"{}\">Schedule</text>",
+        SCHEDULE + 16.0
+    );
     let mut written: BTreeMap<Place, Vec<&Event>> = BTreeMap::new();
     for event in window.events() {
         if let Mark::Write(place, ..) = event.mark {
@@ -38,7 +41,8 @@ pub fn lanes(window: &Window, labels: &[usize]) -> Lanes {
     for &label in labels {
         lanes.bands += &guide("guide", y - 6.0);
         lanes.names += &guide("guide", y - 6.0);
-        lanes.names += &format!("<text class=\"lane\" x=\"8\" y=\"{}\">{}</text>", n(y + 13.0), esc(&window.story.name(label)));
+        lanes.names +=
+            &format!("<text class=\"lane\" x=\"8\" y=\"{}\">{}</text>", n(y + 13.0), esc(&window.story.name(label)));
         let top = y;
         let own: Vec<&Event> = window.events().filter(|event| event.turn.label == label).collect();
         if !own.is_empty() {
@@ -75,8 +79,10 @@ impl Lanes {
             };
             let length = 1 + own[at..].windows(2).take_while(|pair| goes_on(pair)).count();
             let band = &own[at..at + length];
-            let (first, last) = (window.slot(band[0].turn.turn).unwrap_or(0.0), window.slot(band[length - 1].turn.turn).unwrap_or(0.0));
-            let answer = band.iter().rev().find_map(|event| if let Mark::If(yes) = event.mark { Some(yes) } else { None });
+            let (first, last) =
+                (window.slot(band[0].turn.turn).unwrap_or(0.0), window.slot(band[length - 1].turn.turn).unwrap_or(0.0));
+            let answer =
+                band.iter().rev().find_map(|event| if let Mark::If(yes) = event.mark { Some(yes) } else { None });
             let step = || window.story.program.step_name(band[0].turn.step).to_string();
             let statement = if band[0].statement.is_empty() { step() } else { band[0].statement.clone() };
             let said = answer.map_or("", |yes| if yes { "yes: " } else { "no: " }).to_string() + &statement;
@@ -91,7 +97,8 @@ impl Lanes {
     fn row(&mut self, window: &Window, place: Place, writes: &[&Event], y: f64) {
         let story = window.story;
         self.values.insert(place, y + 9.0);
-        self.names += &format!("<text class=\"sm mutt\" x=\"20\" y=\"{}\">{}</text>", n(y + 13.0), esc(story.parameter(place)));
+        self.names +=
+            &format!("<text class=\"sm mutt\" x=\"20\" y=\"{}\">{}</text>", n(y + 13.0), esc(story.parameter(place)));
         let begin = story.born.get(&place.0).and_then(|&turn| window.middle(turn)).unwrap_or(0.0);
         let mut cuts = vec![(begin, String::new())];
         for event in writes {
@@ -124,7 +131,10 @@ pub fn schedule(window: &Window, end: f64) -> String {
             at += 1;
             continue;
         }
-        let turns: Vec<&Event> = items[at..].iter().map_while(|item| if let Item::Event(event) = item { Some(&**event) } else { None }).collect();
+        let turns: Vec<&Event> = items[at..]
+            .iter()
+            .map_while(|item| if let Item::Event(event) = item { Some(&**event) } else { None })
+            .collect();
         let mut steps: Vec<&str> = turns.iter().map(|event| window.story.program.step_name(event.turn.step)).collect();
         steps.dedup();
         let (name, slots) = (steps[0], (at as f64, (at + turns.len()) as f64));

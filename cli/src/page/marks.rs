@@ -34,7 +34,12 @@ pub fn marks(window: &Window, lanes: &Lanes) -> Marks {
             mark += "<rect class=\"late\" x=\"-7.5\" y=\"-7.5\" width=\"15\" height=\"15\"/>";
         }
         if let Some(row) = event.turn.wrote.and_then(|(place, ..)| lanes.values.get(&place)) {
-            let line = format!("<path class=\"flow\" d=\"M0 {}V{2}\"/><circle cx=\"0\" cy=\"{2}\" r=\"{}\" class=\"end\"/>", n(y), 2.4, n(*row));
+            let line = format!(
+                "<path class=\"flow\" d=\"M0 {}V{2}\"/><circle cx=\"0\" cy=\"{2}\" r=\"{}\" class=\"end\"/>",
+                n(y),
+                2.4,
+                n(*row)
+            );
             out.flows += &at(slot, "", &line);
         }
         out.marks += &at(slot, "", &format!("<g transform=\"translate(0,{})\"><g class=\"mk\">{mark}</g></g>", n(y)));
@@ -46,7 +51,8 @@ pub fn marks(window: &Window, lanes: &Lanes) -> Marks {
 fn shape(event: &Event, writers: &HashMap<Place, HashSet<usize>>) -> String {
     match event.mark {
         Mark::Read(place, _) => {
-            let shared = writers.get(&place).is_some_and(|labels| labels.iter().any(|label| *label != event.turn.label));
+            let shared =
+                writers.get(&place).is_some_and(|labels| labels.iter().any(|label| *label != event.turn.label));
             format!("<circle class=\"rd{}\" r=\"4\"/>", if shared { " sh" } else { "" })
         }
         Mark::Write(..) => "<rect class=\"wr\" x=\"-4.5\" y=\"-4.5\" width=\"9\" height=\"9\"/>".to_string(),

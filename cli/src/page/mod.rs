@@ -42,7 +42,12 @@ pub fn page(story: &Story, races: &[Race], wish: &Wish) -> Result<String, String
     out += "<p class=\"mut small\">The number after a name is the instance’s label in the table. Null instances take the steps too.</p>\n";
     let mut alt = format!("Time line of {} turns. The tables below have the same as text.", window.events().count());
     if let Some(verdict) = &verdict {
-        out += &format!("<div class=\"verdict {}\"><b>{}</b><br>{}</div>\n", verdict.class, verdict.head, esc(&verdict.says));
+        out += &format!(
+            "<div class=\"verdict {}\"><b>{}</b><br>{}</div>\n",
+            verdict.class,
+            verdict.head,
+            esc(&verdict.says)
+        );
         alt = format!("{alt} {} {}", verdict.head, verdict.says);
     }
     out += &words::races(&window, &plot);
@@ -118,7 +123,8 @@ fn chart(window: &Window, lanes: &Lanes, plot: &Plot, alt: &str) -> String {
         &lanes.labels,
         &marks.marks,
     ];
-    let drawing = parts.map(|part| part.replace("><g ", ">\n<g ").replace("><rect class=\"s", ">\n<rect class=\"s")).join("\n");
+    let drawing =
+        parts.map(|part| part.replace("><g ", ">\n<g ").replace("><rect class=\"s", ">\n<rect class=\"s")).join("\n");
     format!(
         "<div class=\"chart\"><div class=\"plot\"><div class=\"names\"><svg width=\"{0}\" height=\"{1}\" aria-hidden=\"true\">{2}{values}</svg></div>\n\
         <div class=\"scroll\" id=\"scroll\" tabindex=\"0\" role=\"region\" aria-label=\"Time line, scrolls to the right\">\n\
@@ -147,16 +153,25 @@ fn panel(window: &Window) -> String {
 fn below(window: &Window, plot: &Plot, left_out: &[usize]) -> String {
     let mut out = String::new();
     if let Some(caption) = plot.captions().first() {
-        out += &format!("<p class=\"small\"><b>The line at the bottom:</b> <span id=\"cap\">{}</span></p>\n", esc(caption));
+        out += &format!(
+            "<p class=\"small\"><b>The line at the bottom:</b> <span id=\"cap\">{}</span></p>\n",
+            esc(caption)
+        );
     }
     if !left_out.is_empty() {
         let names: Vec<String> = left_out.iter().take(40).map(|&label| window.story.name(label)).collect();
         let more = left_out.len().checked_sub(41).map_or(String::new(), |more| format!(" and {} more", more + 1));
-        out += &format!("<p class=\"small mut\">Not drawn, since nothing happens to them here or there are too many: {}{more}.</p>\n", esc(&names.join(", ")));
+        out += &format!(
+            "<p class=\"small mut\">Not drawn, since nothing happens to them here or there are too many: {}{more}.</p>\n",
+            esc(&names.join(", "))
+        );
     }
     out += &words::writes(window, plot);
     if let Some(source) = &window.story.program.source {
-        out += &format!("<details><summary>Program text</summary><pre><code>{}</code></pre></details>\n", esc(&String::from_utf8_lossy(source)));
+        out += &format!(
+            "<details><summary>Program text</summary><pre><code>{}</code></pre></details>\n",
+            esc(&String::from_utf8_lossy(source))
+        );
     }
     out + &words::turns(window)
 }
@@ -170,11 +185,23 @@ fn data(window: &Window, lanes: &Lanes, plot: &Plot) -> String {
     let turns: Vec<String> = window.items().iter().map(turn).collect();
     let captions: Vec<String> = plot.captions().iter().map(|caption| json(caption)).collect();
     let past = plot.past.map(|(turn, _)| turn).filter(|turn| window.slot(*turn).is_some());
-    let see = window.races.last().map(|race| race.write).or(past).and_then(|turn| window.slot(turn)).map(|slot| slot as usize);
+    let see = window
+        .races
+        .last()
+        .map(|race| race.write)
+        .or(past)
+        .and_then(|turn| window.slot(turn))
+        .map(|slot| slot as usize);
     let panel = window.events().map(|event| {
         let notes: Vec<String> = words::notes(window, plot, event.turn.turn).iter().map(|note| json(note)).collect();
         let stack = words::stack(story, &event.turn.stack);
-        let parts = [&story.name(event.turn.label), story.program.step_name(event.turn.step), &event.statement, &event.says, &stack];
+        let parts = [
+            &story.name(event.turn.label),
+            story.program.step_name(event.turn.step),
+            &event.statement,
+            &event.says,
+            &stack,
+        ];
         format!("[{},[{}]]", parts.map(json).join(","), notes.join(","))
     });
     let panel: Vec<String> = panel.collect();

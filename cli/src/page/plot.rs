@@ -31,14 +31,20 @@ pub struct Plot<'w> {
 
 impl<'w> Plot<'w> {
     pub fn new(window: &Window, watched: Vec<Series>, cap: Option<&'w Cap>, lanes_end: f64) -> Plot<'w> {
-        let over = |points: &[Point]| points.iter().find_map(|(turn, value)| turn.filter(|_| cap.is_some_and(|cap| *value > cap.value)).map(|turn| (turn, *value)));
+        let over = |points: &[Point]| {
+            points.iter().find_map(|(turn, value)| {
+                turn.filter(|_| cap.is_some_and(|cap| *value > cap.value)).map(|turn| (turn, *value))
+            })
+        };
         let past = watched.first().and_then(|sum| over(&sum.points));
         let also = watched.get(1).map(|line| line.name.clone());
         let mut choices = Vec::new();
         if !watched.is_empty() {
             choices.push(Choice { lines: watched, capped: cap.is_some() });
         }
-        let written = window.events().filter_map(|event| if let Mark::Write(place, ..) = event.mark { Some(place) } else { None });
+        let written = window
+            .events()
+            .filter_map(|event| if let Mark::Write(place, ..) = event.mark { Some(place) } else { None });
         let written: BTreeSet<Place> = written.filter(|place| window.story.is_number(*place)).collect();
         for place in written.into_iter().take(MOST_CHOICES) {
             let line = own(window.story, place);
@@ -71,7 +77,8 @@ impl<'w> Plot<'w> {
         let (mut lines, mut names) = (String::new(), String::new());
         for (k, choice) in self.choices.iter().enumerate() {
             let scale = self.scale(choice);
-            let open = format!("<g class=\"series\" data-k=\"{k}\"{}>", if k == 0 { "" } else { " style=\"display:none\"" });
+            let open =
+                format!("<g class=\"series\" data-k=\"{k}\"{}>", if k == 0 { "" } else { " style=\"display:none\"" });
             let cap = self.cap.filter(|_| choice.capped).map(|cap| cap.value);
             let shown: BTreeSet<i64> = [scale.0, scale.1].into_iter().chain(cap).collect();
             lines += &open;
@@ -107,7 +114,8 @@ impl<'w> Plot<'w> {
         for pair in watched.map_or(Vec::new(), |line| within(window, &line.points)).windows(2) {
             let ((from, value), (to, _)) = (pair[0], pair[1]);
             if value > cap {
-                out += &rect((from, to), self.y(scale, value), self.y(scale, cap) - self.y(scale, value), "over", 0, "");
+                out +=
+                    &rect((from, to), self.y(scale, value), self.y(scale, cap) - self.y(scale, value), "over", 0, "");
             }
         }
         out
@@ -121,8 +129,15 @@ impl<'w> Plot<'w> {
             points.extend([(pair[0].0, y), (pair[1].0, y)]);
         }
         let kept: Vec<String> = points.iter().map(|(slot, y)| format!("{},{y:.1}", n(*slot))).collect();
-        let path: Vec<String> = points.iter().enumerate().map(|(i, (slot, y))| format!("{}{:.1} {y:.1}", if i == 0 { "M" } else { "L" }, x(*slot))).collect();
-        let told = line.points.iter().take(60).map(|(turn, value)| turn.map_or(format!("{value} at first"), |turn| format!("{value} from turn {turn}")));
+        let path: Vec<String> = points
+            .iter()
+            .enumerate()
+            .map(|(i, (slot, y))| format!("{}{:.1} {y:.1}", if i == 0 { "M" } else { "L" }, x(*slot)))
+            .collect();
+        let told =
+            line.points.iter().take(60).map(|(turn, value)| {
+                turn.map_or(format!("{value} at first"), |turn| format!("{value} from turn {turn}"))
+            });
         let told: Vec<String> = told.collect();
         format!(
             "<path class=\"s{}\" data-pts=\"{}\" d=\"{}\"><title>{}</title></path>",
@@ -139,7 +154,11 @@ impl<'w> Plot<'w> {
         let Some(slot) = window.middle(turn) else { return String::new() };
         let line = |a: f64, b: f64| format!("<line class=\"past\" y1=\"{}\" y2=\"{}\"/>", n(a), n(b));
         let said = format!("turn {turn}: {} is over the cap of {}", minus(sum), minus(cap.value));
-        let words = format!("<text class=\"badt halo\" x=\"-6\" text-anchor=\"end\" y=\"{}\">{}</text>", n(self.top - 12.0), esc(&said));
+        let words = format!(
+            "<text class=\"badt halo\" x=\"-6\" text-anchor=\"end\" y=\"{}\">{}</text>",
+            n(self.top - 12.0),
+            esc(&said)
+        );
         at(slot, "", &line(from, lanes_end))
             + "<g class=\"series\" data-k=\"0\">"
             + &at(slot, "", &line(lanes_end, self.base))
@@ -151,10 +170,19 @@ impl<'w> Plot<'w> {
     pub fn captions(&self) -> Vec<String> {
         let caption = |choice: &Choice| {
             let (low, high) = self.scale(choice);
-            let second = choice.lines.get(1).map_or(String::new(), |line| format!(", {} (dotted, drawn a little lower where the two are equal)", line.name));
+            let second = choice.lines.get(1).map_or(String::new(), |line| {
+                format!(", {} (dotted, drawn a little lower where the two are equal)", line.name)
+            });
             let cap = self.cap.filter(|_| choice.capped);
-            let cap = cap.map_or(String::new(), |cap| format!(", against the cap, {} = {} (dashed)", cap.name, minus(cap.value)));
-            format!("{} (solid){second}{cap}. The scale goes from {} to {}.", choice.lines[0].name, minus(low), minus(high))
+            let cap = cap.map_or(String::new(), |cap| {
+                format!(", against the cap, {} = {} (dashed)", cap.name, minus(cap.value))
+            });
+            format!(
+                "{} (solid){second}{cap}. The scale goes from {} to {}.",
+                choice.lines[0].name,
+                minus(low),
+                minus(high)
+            )
         };
         self.choices.iter().map(caption).collect()
     }
@@ -163,7 +191,8 @@ impl<'w> Plot<'w> {
 /// The points of a line within the window, each at its slot; the last one again at the window's end.
 fn within(window: &Window, points: &[Point]) -> Vec<(f64, i64)> {
     let first = window.turns().map_or(0, |(first, _)| first);
-    let before = points.iter().rev().find(|(turn, _)| turn.is_none_or(|turn| turn < first)).map_or(0, |(_, value)| *value);
+    let before =
+        points.iter().rev().find(|(turn, _)| turn.is_none_or(|turn| turn < first)).map_or(0, |(_, value)| *value);
     let inside = points.iter().filter_map(|(turn, value)| Some((window.middle((*turn)?)?, *value)));
     let mut all: Vec<(f64, i64)> = std::iter::once((0.0, before)).chain(inside).collect();
     let last = all[all.len() - 1].1;

@@ -27,7 +27,8 @@ impl<'s> Window<'s> {
             Item::Event(event) => Some(event.turn.turn),
             Item::Move { .. } => None,
         };
-        let first = story.items.iter().position(|item| turn(item).is_some_and(|t| t >= from)).unwrap_or(story.items.len());
+        let first =
+            story.items.iter().position(|item| turn(item).is_some_and(|t| t >= from)).unwrap_or(story.items.len());
         let begin = if from == 0 { 0 } else { first };
         let end = story.items.iter().position(|item| turn(item).is_some_and(|t| t > to)).unwrap_or(story.items.len());
         let end = end.max(begin);
@@ -80,7 +81,8 @@ impl<'s> Window<'s> {
         let nulls = self.story.program.nulls();
         let mut happens: BTreeSet<usize> = self.events().map(|event| event.turn.label).collect();
         happens.extend(self.events().filter_map(|event| event.turn.wrote).map(|((label, _), ..)| label));
-        let mut ranks: BTreeMap<usize, u8> = happens.iter().map(|&label| (label, u8::from(label < nulls) + 1)).collect();
+        let mut ranks: BTreeMap<usize, u8> =
+            happens.iter().map(|&label| (label, u8::from(label < nulls) + 1)).collect();
         let by_turn = |turn: usize| self.events().find(|event| event.turn.turn == turn).map(|event| event.turn.label);
         if happens.len() > MOST_LANES {
             let raced = self.races.iter().flat_map(|race| [race.read, race.write]).filter_map(by_turn);
@@ -90,7 +92,8 @@ impl<'s> Window<'s> {
         chosen.sort_by_key(|label| (ranks[label], *label));
         chosen.truncate(MOST_LANES);
         chosen.sort_by_key(|&label| (label < nulls, label));
-        let left_out = (0..self.story.kinds.len()).filter(|label| !chosen.contains(label) && (*label >= nulls || happens.contains(label)));
+        let left_out = (0..self.story.kinds.len())
+            .filter(|label| !chosen.contains(label) && (*label >= nulls || happens.contains(label)));
         (chosen.clone(), left_out.collect())
     }
 }

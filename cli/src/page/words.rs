@@ -25,15 +25,23 @@ pub fn verdict(story: &Story, plot: &Plot, watched: bool) -> Option<Verdict> {
     let (name, value) = (&cap.name, minus(cap.value));
     let most = sum.points.iter().map(|(_, value)| *value).max()?;
     if sum.points[0].1 > cap.value {
-        let says = format!("The {} is {} before the first turn; the cap ({name}) is {value}.", sum.name, minus(sum.points[0].1));
+        let says = format!(
+            "The {} is {} before the first turn; the cap ({name}) is {value}.",
+            sum.name,
+            minus(sum.points[0].1)
+        );
         return Some(Verdict { class: "bad", head: "✗ The first table is over the cap.", says });
     }
     let Some((turn, over)) = plot.past else {
         let says = format!("The {} is never more than {}; the cap ({name}) is {value}.", sum.name, minus(most));
         return Some(Verdict { class: "ok", head: "✓ This order keeps the cap.", says });
     };
-    let act = story.events().find(|event| event.turn.turn == turn).map_or(String::new(), |event| format!("{} {}", story.name(event.turn.label), event.says));
-    let says = format!("At turn {turn} {act}. From then on the {} is {}; the cap ({name}) is {value}.", sum.name, minus(over));
+    let act = story
+        .events()
+        .find(|event| event.turn.turn == turn)
+        .map_or(String::new(), |event| format!("{} {}", story.name(event.turn.label), event.says));
+    let says =
+        format!("At turn {turn} {act}. From then on the {} is {}; the cap ({name}) is {value}.", sum.name, minus(over));
     Some(Verdict { class: "bad", head: "✗ This order breaks the cap.", says })
 }
 
@@ -43,7 +51,9 @@ pub fn ended(story: &Story) -> String {
     match story.number {
         0 => format!("The run ended by itself after {turns} turns."),
         33 => format!("The list of turns was used up after {turns} turns; commands remain."),
-        34 => format!("The run stopped after {turns} turns with 34: there were 256 instances, and one more was to be made."),
+        34 => format!(
+            "The run stopped after {turns} turns with 34: there were 256 instances, and one more was to be made."
+        ),
         _ => format!("The run stopped after {turns} turns with 35: a divisor of zero, or a result outside its type."),
     }
 }
@@ -58,9 +68,17 @@ pub fn changed(story: &Story) -> String {
         }
     }
     last.retain(|place, value| story.first[place.0][place.1] != *value);
-    let shown: Vec<String> = last.iter().take(MOST).map(|(&place, &value)| format!("{} = {}", story.at(place), story.value(place, value))).collect();
+    let shown: Vec<String> = last
+        .iter()
+        .take(MOST)
+        .map(|(&place, &value)| format!("{} = {}", story.at(place), story.value(place, value)))
+        .collect();
     let more = if last.len() > MOST { format!(" and {} more", last.len() - MOST) } else { String::new() };
-    if shown.is_empty() { "No parameter is other than at first.".to_string() } else { format!("Changed: {}{more}.", shown.join(", ")) }
+    if shown.is_empty() {
+        "No parameter is other than at first.".to_string()
+    } else {
+        format!("Changed: {}{more}.", shown.join(", "))
+    }
 }
 
 pub fn races(window: &Window, plot: &Plot) -> String {
@@ -69,7 +87,8 @@ pub fn races(window: &Window, plot: &Plot) -> String {
     let heading = match races.len() {
         0 => "Races".to_string(),
         count => {
-            let reads = if count == 1 { "1 read is overtaken".to_string() } else { format!("{count} reads are overtaken") };
+            let reads =
+                if count == 1 { "1 read is overtaken".to_string() } else { format!("{count} reads are overtaken") };
             format!("{}{reads}", if past.is_some() { "Why: " } else { "Races: " })
         }
     };
@@ -106,8 +125,16 @@ pub fn key(window: &Window) -> String {
         (read, "read of a value that another instance writes in this run", any(|mark| matches!(mark, Mark::Read(..)))),
         ("<circle class=\"rd\" cx=\"9\" cy=\"9\" r=\"4\"/>", "other read", any(|mark| matches!(mark, Mark::Read(..)))),
         (write, "write", any(|mark| matches!(mark, Mark::Write(..)))),
-        ("<rect class=\"dr\" x=\"5\" y=\"5\" width=\"8\" height=\"8\"/>", "write to a null instance: dropped", any(|mark| *mark == Mark::Dropped)),
-        ("<path class=\"iff\" d=\"M9 3L14 9L9 15L4 9Z\"/>", "if (dashed: its body is left out)", any(|mark| matches!(mark, Mark::If(_)))),
+        (
+            "<rect class=\"dr\" x=\"5\" y=\"5\" width=\"8\" height=\"8\"/>",
+            "write to a null instance: dropped",
+            any(|mark| *mark == Mark::Dropped),
+        ),
+        (
+            "<path class=\"iff\" d=\"M9 3L14 9L9 15L4 9Z\"/>",
+            "if (dashed: its body is left out)",
+            any(|mark| matches!(mark, Mark::If(_))),
+        ),
         ("<path class=\"cons\" d=\"M4 9H14M9 4V14\"/>", "makes an instance", any(|mark| matches!(mark, Mark::Make(_)))),
         ("<path class=\"ot\" d=\"M9 5V13\"/>", "other command", true),
         (&ring, "read that is overtaken (a race)", raced),
@@ -115,9 +142,15 @@ pub fn key(window: &Window) -> String {
         (&late, "act that still rests on the old value", raced),
         ("<rect class=\"mv\" x=\"6\" y=\"1\" width=\"5\" height=\"16\"/>", "the schedule moves", true),
         ("<rect class=\"stat\" x=\"0\" y=\"3\" width=\"18\" height=\"12\"/>", "statement being run", true),
-        ("<rect class=\"val\" x=\"0\" y=\"3\" width=\"18\" height=\"12\"/>", "value of a parameter", any(|mark| matches!(mark, Mark::Write(..)))),
+        (
+            "<rect class=\"val\" x=\"0\" y=\"3\" width=\"18\" height=\"12\"/>",
+            "value of a parameter",
+            any(|mark| matches!(mark, Mark::Write(..))),
+        ),
     ];
-    let item = |(shape, says, _): &(&str, &str, bool)| format!("<li><svg width=\"18\" height=\"18\" aria-hidden=\"true\">{shape}</svg>{says}</li>");
+    let item = |(shape, says, _): &(&str, &str, bool)| {
+        format!("<li><svg width=\"18\" height=\"18\" aria-hidden=\"true\">{shape}</svg>{says}</li>")
+    };
     let items: String = entries.iter().filter(|(_, _, occurs)| *occurs).map(item).collect();
     format!("<ul class=\"key\">{items}</ul>\n")
 }
@@ -134,7 +167,10 @@ pub fn notes(window: &Window, plot: &Plot, turn: usize) -> Vec<String> {
             notes.push(format!("Race {k}: this write overtakes the read of turn {}.", race.read));
         }
         if race.late.contains(&turn) {
-            notes.push(format!("Race {k}: this still rests on the read of turn {}, which turn {} has overtaken.", race.read, race.write));
+            notes.push(format!(
+                "Race {k}: this still rests on the read of turn {}, which turn {} has overtaken.",
+                race.read, race.write
+            ));
         }
     }
     if let (Some((past, sum)), Some(cap)) = (plot.past.filter(|(past, _)| *past == turn), plot.cap) {
@@ -146,11 +182,13 @@ pub fn notes(window: &Window, plot: &Plot, turn: usize) -> Vec<String> {
 /// The same in short, for a table.
 fn note(window: &Window, plot: &Plot, turn: usize) -> String {
     let reads = |wanted: &dyn Fn(&Race) -> bool| {
-        let turns: Vec<String> = window.races.iter().filter(|race| wanted(race)).map(|race| race.read.to_string()).collect();
+        let turns: Vec<String> =
+            window.races.iter().filter(|race| wanted(race)).map(|race| race.read.to_string()).collect();
         (!turns.is_empty()).then(|| format!("turn{} {}", if turns.len() == 1 { "" } else { "s" }, turns.join(", ")))
     };
     let overtakes = reads(&|race| race.write == turn).map(|turns| format!("overtakes what {turns} read"));
-    let rests = reads(&|race| race.late.contains(&turn)).map(|turns| format!("rests on what {turns} read, overtaken since"));
+    let rests =
+        reads(&|race| race.late.contains(&turn)).map(|turns| format!("rests on what {turns} read, overtaken since"));
     let past = plot.past.filter(|(past, _)| *past == turn).map(|_| "first turn past the cap".to_string());
     [overtakes, rests, past].into_iter().flatten().collect::<Vec<String>>().join("; ")
 }
@@ -170,7 +208,9 @@ pub fn writes(window: &Window, plot: &Plot) -> String {
             ("Statement", "", format!("<code>{}</code>", esc(&event.statement))),
             ("Note", "", esc(&note(window, plot, event.turn.turn))),
         ];
-        let cell = |(head, class, inner): &(&str, &str, String)| format!("<td role=\"cell\" data-h=\"{head}\" class=\"{class}\">{inner}</td>");
+        let cell = |(head, class, inner): &(&str, &str, String)| {
+            format!("<td role=\"cell\" data-h=\"{head}\" class=\"{class}\">{inner}</td>")
+        };
         rows += &format!("<tr role=\"row\">{}</tr>\n", cells.iter().map(cell).collect::<String>());
     }
     let mut out = "<h2>Writes</h2>\n".to_string();
@@ -185,7 +225,11 @@ pub fn writes(window: &Window, plot: &Plot) -> String {
     match window.events().filter(|event| event.mark == Mark::Dropped).count() {
         0 => out,
         1 => out + "<p class=\"small mut\">1 write to a null instance is dropped and not in this table.</p>\n",
-        count => out + &format!("<p class=\"small mut\">{count} writes to null instances are dropped and not in this table.</p>\n"),
+        count => {
+            out + &format!(
+                "<p class=\"small mut\">{count} writes to null instances are dropped and not in this table.</p>\n"
+            )
+        }
     }
 }
 
@@ -195,7 +239,10 @@ pub fn turns(window: &Window) -> String {
     let mut rows = String::new();
     for (i, item) in window.items().iter().enumerate() {
         rows += &match item {
-            Item::Move { .. } => format!("<tr><td></td><td>schedule</td><td colspan=\"3\">{}</td></tr>\n", esc(&story.moved(window.items.0 + i))),
+            Item::Move { .. } => format!(
+                "<tr><td></td><td>schedule</td><td colspan=\"3\">{}</td></tr>\n",
+                esc(&story.moved(window.items.0 + i))
+            ),
             Item::Event(event) => format!(
                 "<tr><td class=\"num\">{}</td><td>{}</td><td>{}</td><td><code>{}</code></td><td><code>{}</code></td></tr>\n",
                 event.turn.turn,

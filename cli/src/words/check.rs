@@ -22,7 +22,8 @@ fn act(options: &Options) -> Result<Answer, Failure> {
     let table = options.files.get(1).map(|file| Table::load(&program, file)).transpose()?;
     let v = program.verdict;
     if options.plain {
-        let mut out = format!("number 0\nstructs {}\nsteps {}\ncommands {}\ndepth {}\n", v.structs, v.steps, v.commands, v.depth);
+        let mut out =
+            format!("number 0\nstructs {}\nsteps {}\ncommands {}\ndepth {}\n", v.structs, v.steps, v.commands, v.depth);
         if let Some(table) = table {
             out += &format!("records {}\n", table.records.len());
         }

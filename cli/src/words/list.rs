@@ -1,10 +1,10 @@
 //! `audala list`: the commands of a program, with names where it came as text.
 
+use crate::acts::sign;
 use crate::args::{Options, Word};
 use crate::engine;
 use crate::program::{BOOL, FIRST_LOCAL, FIRST_STRUCT, Program, Step};
 use crate::report::{Answer, Failure};
-use crate::story::sign;
 use crate::words::check::count;
 
 pub const WORD: Word = Word {

@@ -14,7 +14,8 @@ use crate::engine;
 /// The version of this program, as Cargo.toml has it.
 const VERSION: &str = "0.1.0";
 
-pub const WORDS: [&Word; 7] = [&check::WORD, &list::WORD, &names::WORD, &text::WORD, &table::WORD, &run::WORD, &trace::WORD];
+pub const WORDS: [&Word; 7] =
+    [&check::WORD, &list::WORD, &names::WORD, &text::WORD, &table::WORD, &run::WORD, &trace::WORD];
 
 pub fn overview() -> String {
     let mut out = String::from(

@@ -62,7 +62,11 @@ fn human(program: &Program, report: &engine::Report, last: &Table) -> String {
     } else {
         let holding = format!("{} commands", if report.holding == 1 { "1 instance holds" } else { "instances hold" });
         let holding = if report.holding == 1 { holding } else { format!("{} {holding}", report.holding) };
-        format!("The run stopped with {} after {turns}: {}; {holding}.\n", report.number, numbers::meaning(report.number))
+        format!(
+            "The run stopped with {} after {turns}: {}; {holding}.\n",
+            report.number,
+            numbers::meaning(report.number)
+        )
     };
     if report.number != 0 {
         numbers::hints(report.number).iter().for_each(|hint| out += &format!("  {hint}\n"));

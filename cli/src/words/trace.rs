@@ -34,7 +34,19 @@ pub const WORD: Word = Word {
         \x20 --title TEXT       the page's title\n\
         \x20 --from TURN, --to TURN  the turns that the page draws; 4000 at most without them\n\
         \x20 --plain            the trace of docs/FORMAT.md, 'Traces', as the library writes it\n",
-    options: &["--turns", "--random", "--acting", "--turns-file", "--html", "--watch", "--also", "--cap", "--title", "--from", "--to"],
+    options: &[
+        "--turns",
+        "--random",
+        "--acting",
+        "--turns-file",
+        "--html",
+        "--watch",
+        "--also",
+        "--cap",
+        "--title",
+        "--from",
+        "--to",
+    ],
     files: (2, 2),
     act,
 };
@@ -42,7 +54,10 @@ pub const WORD: Word = Word {
 fn act(options: &Options) -> Result<Answer, Failure> {
     let drawn = [&options.watch, &options.also, &options.cap, &options.title].iter().any(|option| option.is_some());
     if options.html.is_none() && (drawn || options.from.is_some() || options.to.is_some()) {
-        return Err(misuse(&WORD, "--watch, --also, --cap, --title, --from and --to are of a page: name it with --html".to_string()));
+        return Err(misuse(
+            &WORD,
+            "--watch, --also, --cap, --title, --from and --to are of a page: name it with --html".to_string(),
+        ));
     }
     let program = Program::load(&options.files[0])?;
     let table = Table::load(&program, &options.files[1])?;
@@ -70,7 +85,9 @@ fn act(options: &Options) -> Result<Answer, Failure> {
 /// Writes the page, and says what it shows.
 fn html(story: &Story, options: &Options, file: &str) -> Result<String, Failure> {
     let races = races(story);
-    let name = Path::new(&options.files[0]).file_name().map_or(options.files[0].clone(), |name| name.to_string_lossy().into_owned());
+    let name = Path::new(&options.files[0])
+        .file_name()
+        .map_or(options.files[0].clone(), |name| name.to_string_lossy().into_owned());
     let wish = Wish {
         title: options.title.clone().unwrap_or_else(|| format!("One order of {name}")),
         watch: options.watch.as_deref(),
@@ -102,12 +119,19 @@ fn human(story: &Story) -> String {
                     format!("  {}: {} -> {}", story.at(place), story.value(place, old), story.value(place, new))
                 });
                 let who = story.name(event.turn.label);
-                out += &format!("{:>5}  {who:<width$}  {:<18} [{}]{wrote}\n", event.turn.turn, event.command, stack.join(", "));
+                out += &format!(
+                    "{:>5}  {who:<width$}  {:<18} [{}]{wrote}\n",
+                    event.turn.turn,
+                    event.command,
+                    stack.join(", ")
+                );
             }
         }
     }
     match story.number {
         0 => out + &format!("The run ended after {} turns.\n", story.turns),
-        number => out + &format!("The run stopped with {number} after {} turns: {}.\n", story.turns, numbers::meaning(number)),
+        number => {
+            out + &format!("The run stopped with {number} after {} turns: {}.\n", story.turns, numbers::meaning(number))
+        }
     }
 }

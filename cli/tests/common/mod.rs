@@ -35,7 +35,12 @@ fn said(mut command: Command, input: &[u8]) -> Said {
     let _ = child.stdin.take().expect("standard input is a pipe").write_all(input);
     let output = child.wait_with_output().expect("the program ends");
     let text = |bytes: &[u8]| String::from_utf8_lossy(bytes).into_owned();
-    Said { status: output.status.code().unwrap_or(-1), out: text(&output.stdout), err: text(&output.stderr), bytes: output.stdout }
+    Said {
+        status: output.status.code().unwrap_or(-1),
+        out: text(&output.stdout),
+        err: text(&output.stderr),
+        bytes: output.stdout,
+    }
 }
 
 /// A folder of its own for a test, removed with it.
@@ -62,7 +67,8 @@ impl Folder {
     /// The names of all files, hidden ones too.
     pub fn names(&self) -> Vec<String> {
         let entries = fs::read_dir(&self.0).expect("the folder can be read");
-        let mut names: Vec<String> = entries.map(|entry| entry.unwrap().file_name().to_string_lossy().into_owned()).collect();
+        let mut names: Vec<String> =
+            entries.map(|entry| entry.unwrap().file_name().to_string_lossy().into_owned()).collect();
         names.sort();
         names
     }
