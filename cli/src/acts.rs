@@ -49,8 +49,10 @@ impl Story<'_> {
 
     fn push(&self, event: &mut Event, seat: &mut Seat, top: Tagged) {
         let this = event.command == "push this";
-        event.says = format!("puts {}{} on its stack", if this { "this, which is " } else { "" }, self.shown(top));
-        event.command = if this { "push this".to_string() } else { format!("push {}", self.shown(top)) };
+        let top = self.shown(top);
+        event.says =
+            if this { format!("puts this, which is {top}, on its stack") } else { format!("puts {top} on its stack") };
+        event.command = if this { "push this".to_string() } else { format!("push {top}") };
         seat.from.push(Vec::new());
     }
 

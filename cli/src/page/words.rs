@@ -8,8 +8,9 @@ use crate::races::Race;
 use crate::story::{Item, Mark, Story};
 use std::collections::BTreeMap;
 
-/// Races that are listed at most.
+/// Races that are listed at most, and those that are not folded.
 const MOST_RACES: usize = 40;
+const OPEN_RACES: usize = 6;
 
 /// Class, headline and sentence.
 pub struct Verdict {
@@ -98,19 +99,34 @@ pub fn races(window: &Window, plot: &Plot) -> String {
             + "<p>None: no instance changed a value between another's read of it and what the other did with it. \
             Other orders of the same program may have races.</p>\n";
     }
-    out += "<ol class=\"races\">";
-    for (k, race) in races.iter().take(MOST_RACES).enumerate() {
-        let trips = if past.is_some_and(|turn| race.late.contains(&turn)) { " <b>This trips the cap.</b>" } else { "" };
-        let button = window.slot(race.write).map_or(String::new(), |_| {
-            format!("<button class=\"noprint js\" hidden data-go=\"{}\" aria-label=\"Show race {} on the time line\">show</button>", race.write, k + 1)
-        });
-        out += &format!("<li>{}{trips} {button}</li>", rich(&race.says));
+    let items: Vec<String> =
+        races.iter().take(MOST_RACES).enumerate().map(|(k, race)| item(window, race, k + 1, past)).collect();
+    let (open, folded) = items.split_at(items.len().min(OPEN_RACES));
+    out += &format!("<ol class=\"races\">{}</ol>\n", open.concat());
+    if !folded.is_empty() {
+        out += &format!(
+            "<details><summary>{} more</summary><ol class=\"races\" start=\"{}\">{}</ol></details>\n",
+            folded.len(),
+            open.len() + 1,
+            folded.concat()
+        );
     }
-    out += "</ol>\n";
     if races.len() > MOST_RACES {
-        out += &format!("<p class=\"small mut\">And {} more.</p>\n", races.len() - MOST_RACES);
+        out += &format!("<p class=\"small mut\">And {} that are not listed.</p>\n", races.len() - MOST_RACES);
     }
     out
+}
+
+/// A race of the list, with a button that shows it on the time line.
+fn item(window: &Window, race: &Race, number: usize, past: Option<usize>) -> String {
+    let trips = if past.is_some_and(|turn| race.late.contains(&turn)) { " <b>This trips the cap.</b>" } else { "" };
+    let button = window.slot(race.write).map_or(String::new(), |_| {
+        format!(
+            " <button class=\"noprint js\" hidden data-go=\"{}\" aria-label=\"Show race {number} on the time line\">show</button>",
+            race.write
+        )
+    });
+    format!("<li>{}{trips}{button}</li>", rich(&race.says))
 }
 
 /// The key to the marks; what does not occur is left out.
