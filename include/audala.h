@@ -121,6 +121,7 @@ static inline const char *audala_message(uint32_t number) {
 #define AUDALA_READ_IMAGE_STACK 1024
 #define AUDALA_WRITE_IMAGE_STACK 1024
 #define AUDALA_TEXT_STACK 237568
+#define AUDALA_PLACE_STACK 208896
 #define AUDALA_LISTING_STACK 65536
 #define AUDALA_TRACE_STACK 133120
 
