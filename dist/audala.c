@@ -1,6 +1,6 @@
 /* The AuDaLa engine as one C99 file, to be compiled beside audala.h. It needs memcpy and memset and nothing else, keeps no data and allocates nothing.
  *
- * Written by tools/mir2c: do not edit. 454 functions, from the MIR that the libraries of the proved crates carry.
+ * Written by tools/mir2c: do not edit. 487 functions, from the MIR that the libraries of the proved crates carry.
  * Kit: rattle-kit-5b-plain logic 097e4c862dff5811
  *
  * Proved, of the MIR: that each function meets its contract for every input, and so reads and writes nothing outside of what it is lent, overflows nothing and
@@ -78,6 +78,10 @@ struct rt_array_uint8_9 {
     uint8_t a[9];
 };
 RT_ASSERT(rt_array_uint8_9, sizeof(struct rt_array_uint8_9) == 9 && offsetof(struct rt_array_uint8_9, a) == 0);
+struct rt_array_uint8_1 {
+    uint8_t a[1];
+};
+RT_ASSERT(rt_array_uint8_1, sizeof(struct rt_array_uint8_1) == 1 && offsetof(struct rt_array_uint8_1, a) == 0);
 struct operators__Answered {
     uint8_t tag;
     uint32_t s0;
@@ -136,12 +140,21 @@ struct blocks__Written {
     uint8_t tag;
     uint64_t s0;
 };
-struct audala__places__Stopped {
-    uint64_t f0;
-};
 struct read_text__Answer {
     uint32_t f0;
     uint32_t f1;
+};
+struct trace_images__Traced {
+    uint8_t f0;
+    uint32_t f1;
+    uint64_t f2;
+    uint64_t f3;
+};
+struct audala__traces__Traced {
+    uint32_t f0;
+    uint32_t f1;
+    uint64_t f2;
+    uint64_t f3;
 };
 struct block__Found {
     uint8_t tag;
@@ -451,6 +464,54 @@ struct table_read__reading__CountRead {
     uint64_t s0;
     uint8_t s1;
 };
+struct trace_images__telling__Start {
+    struct seating__Seat f0;
+    uint64_t f1;
+};
+struct trace_lines__Coming {
+    struct engine__Machine f0;
+    uint64_t f1;
+    uint64_t f2;
+    uint8_t f3;
+};
+struct trace_images__pages__Page {
+    uint64_t f0;
+    uint64_t f1;
+};
+struct trace_images__telling__Telling {
+    struct trace_lines__Coming f0;
+    uint8_t f1;
+    uint8_t f2;
+    struct trace_images__pages__Page f3;
+};
+struct rt_array_uint64_2 {
+    uint64_t a[2];
+};
+RT_ASSERT(rt_array_uint64_2, sizeof(struct rt_array_uint64_2) == 16 && offsetof(struct rt_array_uint64_2, a) == 0);
+struct rt_array_uint8_1024 {
+    uint8_t a[1024];
+};
+RT_ASSERT(rt_array_uint8_1024, sizeof(struct rt_array_uint8_1024) == 1024 && offsetof(struct rt_array_uint8_1024, a) == 0);
+struct trace_lines__Told {
+    struct engine__Machine f0;
+    uint64_t f1;
+    uint64_t f2;
+};
+struct trace_lines__writes__Write {
+    uint8_t f0;
+    uint64_t f1;
+    uint64_t f2;
+    uint64_t f3;
+};
+struct trace_lines__Acting {
+    uint64_t f0;
+    uint8_t f1;
+    uint64_t f2;
+    uint64_t f3;
+    uint64_t f4;
+    uint64_t f5;
+    uint64_t f6;
+};
 struct uses__Seen {
     uint8_t tag;
     uint8_t s0;
@@ -521,8 +582,8 @@ static inline struct audala__images__Copied audala__images__audala_write_image(r
 static inline struct audala__images__Copied audala__images__of_read(struct blocks__Read l1);
 static inline struct audala__images__Copied audala__images__of_written(struct blocks__Written l1);
 static inline struct audala__images__Copied audala__listings__audala_listing(rt_slice l1, rt_slice l2);
-static inline struct audala__places__Stopped audala__places__audala_place(rt_slice l1);
 static inline struct audala__images__Copied audala__texts__audala_text(rt_slice l1, rt_slice l2);
+static inline struct audala__traces__Traced audala__traces__audala_trace(rt_slice l1, rt_slice l2, rt_slice l3, uint64_t l4, rt_slice l5);
 static inline struct block__Found block__block_fault(rt_slice l1, uint64_t l2, uint8_t l3);
 static inline uint8_t block__laid_out(rt_slice l1, uint64_t l2, uint8_t l3);
 static inline rt_slice block__payload(rt_slice l1, uint64_t l2);
@@ -608,7 +669,6 @@ static inline uint8_t derive__roles__renamed(uint8_t l1, uint8_t l2);
 static inline uint8_t derive__roles__role(rt_slice l1, rt_slice l2, struct derive__Mark l3, uint8_t l4, uint64_t l5);
 static inline uint8_t derive__roles__said(uint8_t l1, uint8_t l2);
 static inline uint8_t derive__roles__said_by(rt_slice l1, uint8_t l2, uint8_t l3);
-static inline struct derive__Mark derive__step(rt_slice l1, struct derive__Mark l2, uint8_t l3);
 static inline uint8_t derive__table__mark(rt_slice l1, uint64_t l2);
 static inline uint8_t derive__table__number(rt_slice l1, uint64_t l2);
 static inline uint8_t derive__walk(rt_slice l1, rt_slice l2, rt_slice l3, rt_slice l4, rt_slice l5);
@@ -661,6 +721,7 @@ static inline struct execute_stack__Acted execute_variables__read(rt_slice l1, r
 static inline struct execute_stack__Acted execute_variables__replace(rt_slice l1, uint64_t l2, uint64_t l3);
 static inline struct execute_stack__Acted execute_variables__write(rt_slice l1, rt_slice l2, rt_slice l3, struct execute_stack__Actor l4, uint64_t l5);
 static inline uint64_t holders__holder(rt_slice l1, uint64_t l2, uint64_t l3, uint64_t l4);
+static inline uint64_t holders__holder_of(struct rt_array_holders__Record_256 l1, uint64_t l2, uint64_t l3, uint64_t l4);
 static inline struct rt_array_holders__Record_256 holders__records(rt_slice l1, uint64_t l2);
 static inline struct engine__Machine interpreter__moving__settle(struct engine__Machine l1, rt_slice l2, rt_slice l3, rt_slice l4);
 static inline struct interpreter__turns__Going interpreter__turns__going_at(struct engine__Machine l1, uint64_t l2, struct holders__Record l3, rt_slice l4);
@@ -697,6 +758,7 @@ static inline struct judge__Done judging__statement__nothing(struct judge__Scope
 static inline struct judge__Done judging__statement__updated(struct judge__Scope l1, uint8_t l2, struct judge__Judged l3, struct judge__Facts l4);
 static inline void layout__begin(rt_slice l1, uint64_t l2, uint16_t l3, uint16_t l4);
 static inline uint64_t layout__cell(uint8_t l1, uint64_t l2);
+static inline uint8_t layout__due(struct layout__Numbers l1);
 static inline struct layout__Numbers layout__fresh(uint64_t l1);
 static inline void layout__go(rt_slice l1, uint64_t l2, uint64_t l3, uint64_t l4);
 static inline uint64_t layout__head(rt_slice l1, uint64_t l2, uint64_t l3);
@@ -904,11 +966,43 @@ static inline uint64_t text__other(rt_slice l1, uint64_t l2, uint64_t l3, uint64
 static inline uint64_t text__push(rt_slice l1, uint64_t l2, uint64_t l3, uint64_t l4);
 static inline uint64_t text__put(rt_slice l1, uint64_t l2, rt_slice l3);
 static inline uint64_t text__value(rt_slice l1, uint64_t l2, uint64_t l3, uint64_t l4);
-static inline uint64_t text_place__place(rt_slice l1);
-static inline uint64_t text_place__stopped(rt_slice l1, rt_slice l2, rt_slice l3);
-static inline uint64_t text_place__stuck(rt_slice l1, rt_slice l2);
-static inline uint64_t text_place__unmarked(rt_slice l1);
-static inline uint64_t text_place__unnamed(rt_slice l1, rt_slice l2, rt_slice l3);
+static inline struct trace_images__Traced trace_images__begun(struct load__Loaded l1, struct seating__Params l2, rt_slice l3, rt_slice l4, rt_slice l5, uint64_t l6, rt_slice l7);
+static inline struct trace_images__pages__Page trace_images__pages__blank(uint64_t l1);
+static inline struct trace_images__Traced trace_images__pages__ended(struct trace_images__pages__Page l1, uint8_t l2, uint64_t l3, rt_slice l4);
+static inline uint64_t trace_images__pages__least(uint64_t l1, uint64_t l2);
+static inline uint64_t trace_images__pages__minus(uint64_t l1, uint64_t l2);
+static inline struct trace_images__pages__Page trace_images__pages__put(struct trace_images__pages__Page l1, rt_slice l2, rt_slice l3);
+static inline struct trace_images__Traced trace_images__pages__refused(uint8_t l1, uint64_t l2, rt_slice l3);
+static inline struct seating__SeatRead trace_images__seated(uint64_t l1, rt_slice l2, rt_slice l3, rt_slice l4, rt_slice l5, rt_slice l6);
+static inline struct trace_images__telling__Telling trace_images__telling__behind(struct engine__Machine l1, uint64_t l2, uint64_t l3, struct trace_images__pages__Page l4);
+static inline struct trace_images__telling__Telling trace_images__telling__first(struct trace_images__telling__Start l1);
+static inline struct trace_images__telling__Telling trace_images__telling__moved(struct trace_images__telling__Telling l1, rt_slice l2, rt_slice l3, rt_slice l4, rt_slice l5);
+static inline struct trace_images__telling__Telling trace_images__telling__play(rt_slice l1, rt_slice l2, struct trace_images__telling__Start l3, rt_slice l4, rt_slice l5, rt_slice l6, rt_slice l7);
+static inline struct trace_images__telling__Telling trace_images__telling__resting(struct trace_images__telling__Telling l1, uint8_t l2);
+static inline struct trace_images__telling__Telling trace_images__telling__settle(struct trace_images__telling__Telling l1, rt_slice l2, rt_slice l3, rt_slice l4, rt_slice l5);
+static inline struct trace_images__telling__Telling trace_images__telling__told_at(struct trace_images__telling__Telling l1, rt_slice l2);
+static inline struct trace_images__telling__Telling trace_images__telling__turn(struct trace_images__telling__Telling l1, rt_slice l2, rt_slice l3, rt_slice l4, rt_slice l5, rt_slice l6, rt_slice l7);
+static inline struct trace_images__Traced trace_images__trace(rt_slice l1, rt_slice l2, rt_slice l3, uint64_t l4, rt_slice l5);
+static inline struct trace_lines__Told trace_lines__advance(struct engine__Machine l1, uint64_t l2, rt_slice l3, rt_slice l4, rt_slice l5, rt_slice l6);
+static inline uint64_t trace_lines__back(rt_slice l1, uint64_t l2, uint64_t l3, struct trace_lines__writes__Write l4, struct layout__Numbers l5, rt_slice l6, rt_slice l7);
+static inline uint64_t trace_lines__choice__picked_of(rt_slice l1, uint64_t l2, uint64_t l3, uint64_t l4, uint8_t l5);
+static inline uint64_t trace_lines__columns(rt_slice l1, uint64_t l2, uint64_t l3, uint64_t l4, uint64_t l5);
+static inline uint64_t trace_lines__front(rt_slice l1, struct trace_lines__Acting l2);
+static inline uint64_t trace_lines__minus(uint64_t l1, uint64_t l2);
+static inline uint64_t trace_lines__moved(rt_slice l1, struct layout__Numbers l2);
+static inline uint64_t trace_lines__parts__cell(rt_slice l1, uint64_t l2, rt_slice l3, uint64_t l4);
+static inline uint64_t trace_lines__parts__entries(rt_slice l1, uint64_t l2, uint64_t l3, uint64_t l4);
+static inline uint64_t trace_lines__parts__stack(rt_slice l1, uint64_t l2, rt_slice l3, rt_slice l4, uint64_t l5);
+static inline uint64_t trace_lines__parts__tag(rt_slice l1, uint64_t l2);
+static inline uint64_t trace_lines__parts__worth(rt_slice l1, uint64_t l2, uint64_t l3);
+static inline uint64_t trace_lines__position(rt_slice l1, rt_slice l2, uint64_t l3, uint64_t l4);
+static inline uint64_t trace_lines__step_at(uint64_t l1, uint64_t l2);
+static inline struct trace_lines__Told trace_lines__turn(struct trace_lines__Coming l1, rt_slice l2, rt_slice l3, rt_slice l4, rt_slice l5, rt_slice l6, rt_slice l7);
+static inline uint64_t trace_lines__wide(uint16_t l1);
+static inline struct trace_lines__writes__Write trace_lines__writes__nothing(void);
+static inline uint64_t trace_lines__writes__place(rt_slice l1, uint64_t l2, uint64_t l3, uint64_t l4);
+static inline struct trace_lines__writes__Write trace_lines__writes__target(rt_slice l1, rt_slice l2, rt_slice l3, rt_slice l4, uint64_t l5);
+static inline uint64_t trace_lines__writes__written(rt_slice l1, uint64_t l2, struct trace_lines__writes__Write l3, rt_slice l4);
 static inline uint32_t types__default_word(uint8_t l1);
 static inline uint8_t types__is_reference(uint8_t l1);
 static inline uint8_t types__is_type(uint8_t l1, uint8_t l2);
@@ -1556,15 +1650,6 @@ static inline struct audala__images__Copied audala__listings__audala_listing(rt_
     return l0;
 }
 
-static inline struct audala__places__Stopped audala__places__audala_place(rt_slice l1)
-{
-    struct audala__places__Stopped l0;
-    uint64_t l2;
-    l2 = text_place__place(l1);
-    l0.f0 = l2;
-    return l0;
-}
-
 static inline struct audala__images__Copied audala__texts__audala_text(rt_slice l1, rt_slice l2)
 {
     struct audala__images__Copied l0;
@@ -1579,6 +1664,29 @@ static inline struct audala__images__Copied audala__texts__audala_text(rt_slice 
     l6 = (uint64_t)l3.f1;
     l0.f0 = l3.f0;
     l0.f1 = l6;
+    return l0;
+}
+
+static inline struct audala__traces__Traced audala__traces__audala_trace(rt_slice l1, rt_slice l2, rt_slice l3, uint64_t l4, rt_slice l5)
+{
+    struct audala__traces__Traced l0;
+    struct trace_images__Traced l6;
+    uint64_t l7;
+    uint8_t *l8;
+    rt_slice l9;
+    uint32_t l10;
+    uint64_t l11;
+    l7 = l4;
+    l8 = (uint8_t *)&(*(uint8_t *)l5.p);
+    l9.p = l8;
+    l9.n = l5.n;
+    l6 = trace_images__trace(l1, l2, l3, l7, l9);
+    l10 = (uint32_t)l6.f0;
+    l11 = l6.f2;
+    l0.f0 = l10;
+    l0.f1 = l6.f1;
+    l0.f2 = l11;
+    l0.f3 = l6.f3;
     return l0;
 }
 
@@ -4067,34 +4175,6 @@ static inline uint8_t derive__roles__said_by(rt_slice l1, uint8_t l2, uint8_t l3
     return l0;
 }
 
-static const struct rt_array_uint8_1833 derive__step__l5 = { { UINT8_C(48), UINT8_C(48), UINT8_C(48), UINT8_C(48), UINT8_C(48), UINT8_C(48), UINT8_C(48), UINT8_C(48), UINT8_C(48), UINT8_C(48), UINT8_C(48), UINT8_C(48), UINT8_C(48), UINT8_C(48), UINT8_C(48), UINT8_C(48), UINT8_C(48), UINT8_C(48), UINT8_C(48), UINT8_C(48), UINT8_C(48), UINT8_C(48), UINT8_C(48), UINT8_C(48), UINT8_C(48), UINT8_C(48), UINT8_C(48), UINT8_C(48), UINT8_C(48), UINT8_C(48), UINT8_C(48), UINT8_C(48), UINT8_C(48), UINT8_C(48), UINT8_C(48), UINT8_C(48), UINT8_C(48), UINT8_C(48), UINT8_C(48), UINT8_C(48), UINT8_C(51), UINT8_C(48), UINT8_C(48), UINT8_C(48), UINT8_C(48), UINT8_C(48), UINT8_C(48), UINT8_C(48), UINT8_C(48), UINT8_C(48), UINT8_C(48), UINT8_C(48), UINT8_C(48), UINT8_C(48), UINT8_C(48), UINT8_C(48), UINT8_C(48), UINT8_C(48), UINT8_C(48), UINT8_C(48), UINT8_C(48), UINT8_C(48), UINT8_C(48), UINT8_C(48), UINT8_C(48), UINT8_C(48), UINT8_C(48), UINT8_C(48), UINT8_C(48), UINT8_C(48), UINT8_C(48), UINT8_C(48), UINT8_C(48), UINT8_C(48), UINT8_C(48), UINT8_C(48), UINT8_C(48), UINT8_C(48), UINT8_C(48), UINT8_C(51), UINT8_C(48), UINT8_C(48), UINT8_C(48), UINT8_C(48), UINT8_C(80), UINT8_C(48), UINT8_C(48), UINT8_C(48), UINT8_C(48), UINT8_C(48), UINT8_C(48), UINT8_C(48), UINT8_C(48), UINT8_C(48), UINT8_C(48), UINT8_C(48), UINT8_C(48), UINT8_C(48), UINT8_C(48), UINT8_C(48), UINT8_C(48), UINT8_C(48), UINT8_C(48), UINT8_C(48), UINT8_C(48), UINT8_C(48), UINT8_C(48), UINT8_C(48), UINT8_C(48), UINT8_C(48), UINT8_C(48), UINT8_C(48), UINT8_C(48), UINT8_C(48), UINT8_C(78), UINT8_C(48), UINT8_C(48), UINT8_C(48), UINT8_C(48), UINT8_C(48), UINT8_C(48), UINT8_C(48), UINT8_C(48), UINT8_C(48), UINT8_C(48), UINT8_C(48), UINT8_C(48), UINT8_C(48), UINT8_C(48), UINT8_C(48), UINT8_C(48), UINT8_C(48), UINT8_C(48), UINT8_C(48), UINT8_C(48), UINT8_C(48), UINT8_C(48), UINT8_C(48), UINT8_C(48), UINT8_C(48), UINT8_C(48), UINT8_C(48), UINT8_C(48), UINT8_C(48), UINT8_C(48), UINT8_C(48), UINT8_C(48), UINT8_C(48), UINT8_C(48), UINT8_C(48), UINT8_C(48), UINT8_C(48), UINT8_C(48), UINT8_C(52), UINT8_C(48), UINT8_C(48), UINT8_C(48), UINT8_C(48), UINT8_C(48), UINT8_C(48), UINT8_C(48), UINT8_C(48), UINT8_C(48), UINT8_C(48), UINT8_C(48), UINT8_C(48), UINT8_C(48), UINT8_C(48), UINT8_C(48), UINT8_C(53), UINT8_C(48), UINT8_C(48), UINT8_C(48), UINT8_C(48), UINT8_C(48), UINT8_C(48), UINT8_C(48), UINT8_C(48), UINT8_C(48), UINT8_C(48), UINT8_C(48), UINT8_C(48), UINT8_C(48), UINT8_C(48), UINT8_C(48), UINT8_C(48), UINT8_C(48), UINT8_C(48), UINT8_C(48), UINT8_C(48), UINT8_C(48), UINT8_C(48), UINT8_C(48), UINT8_C(48), UINT8_C(48), UINT8_C(48), UINT8_C(48), UINT8_C(48), UINT8_C(48), UINT8_C(48), UINT8_C(48), UINT8_C(48), UINT8_C(48), UINT8_C(48), UINT8_C(48), UINT8_C(48), UINT8_C(48), UINT8_C(48), UINT8_C(48), UINT8_C(58), UINT8_C(48), UINT8_C(48), UINT8_C(48), UINT8_C(48), UINT8_C(48), UINT8_C(48), UINT8_C(48), UINT8_C(48), UINT8_C(48), UINT8_C(48), UINT8_C(48), UINT8_C(48), UINT8_C(48), UINT8_C(48), UINT8_C(48), UINT8_C(48), UINT8_C(48), UINT8_C(48), UINT8_C(48), UINT8_C(48), UINT8_C(48), UINT8_C(55), UINT8_C(48), UINT8_C(48), UINT8_C(48), UINT8_C(48), UINT8_C(48), UINT8_C(48), UINT8_C(48), UINT8_C(48), UINT8_C(48), UINT8_C(48), UINT8_C(48), UINT8_C(48), UINT8_C(48), UINT8_C(48), UINT8_C(48), UINT8_C(48), UINT8_C(48), UINT8_C(48), UINT8_C(48), UINT8_C(48), UINT8_C(48), UINT8_C(48), UINT8_C(48), UINT8_C(48), UINT8_C(48), UINT8_C(48), UINT8_C(48), UINT8_C(48), UINT8_C(48), UINT8_C(48), UINT8_C(48), UINT8_C(48), UINT8_C(48), UINT8_C(48), UINT8_C(48), UINT8_C(48), UINT8_C(48), UINT8_C(48), UINT8_C(55), UINT8_C(48), UINT8_C(48), UINT8_C(48), UINT8_C(48), UINT8_C(48), UINT8_C(48), UINT8_C(48), UINT8_C(48), UINT8_C(48), UINT8_C(48), UINT8_C(48), UINT8_C(48), UINT8_C(48), UINT8_C(48), UINT8_C(48), UINT8_C(48), UINT8_C(48), UINT8_C(48), UINT8_C(48), UINT8_C(48), UINT8_C(56), UINT8_C(48), UINT8_C(48), UINT8_C(48), UINT8_C(48), UINT8_C(48), UINT8_C(48), UINT8_C(48), UINT8_C(48), UINT8_C(48), UINT8_C(48), UINT8_C(48), UINT8_C(48), UINT8_C(48), UINT8_C(48), UINT8_C(48), UINT8_C(48), UINT8_C(48), UINT8_C(48), UINT8_C(48), UINT8_C(48), UINT8_C(48), UINT8_C(48), UINT8_C(48), UINT8_C(48), UINT8_C(48), UINT8_C(48), UINT8_C(48), UINT8_C(57), UINT8_C(57), UINT8_C(57), UINT8_C(48), UINT8_C(48), UINT8_C(48), UINT8_C(48), UINT8_C(48), UINT8_C(48), UINT8_C(48), UINT8_C(48), UINT8_C(48), UINT8_C(48), UINT8_C(48), UINT8_C(48), UINT8_C(48), UINT8_C(48), UINT8_C(48), UINT8_C(48), UINT8_C(48), UINT8_C(48), UINT8_C(48), UINT8_C(48), UINT8_C(48), UINT8_C(48), UINT8_C(48), UINT8_C(48), UINT8_C(48), UINT8_C(48), UINT8_C(57), UINT8_C(48), UINT8_C(48), UINT8_C(48), UINT8_C(48), UINT8_C(48), UINT8_C(48), UINT8_C(48), UINT8_C(48), UINT8_C(48), UINT8_C(48), UINT8_C(48), UINT8_C(48), UINT8_C(48), UINT8_C(48), UINT8_C(48), UINT8_C(48), UINT8_C(58), UINT8_C(48), UINT8_C(48), UINT8_C(54), UINT8_C(48), UINT8_C(48), UINT8_C(48), UINT8_C(48), UINT8_C(48), UINT8_C(48), UINT8_C(48), UINT8_C(48), UINT8_C(48), UINT8_C(48), UINT8_C(48), UINT8_C(48), UINT8_C(48), UINT8_C(48), UINT8_C(48), UINT8_C(48), UINT8_C(48), UINT8_C(48), UINT8_C(48), UINT8_C(48), UINT8_C(48), UINT8_C(48), UINT8_C(48), UINT8_C(48), UINT8_C(48), UINT8_C(48), UINT8_C(48), UINT8_C(48), UINT8_C(48), UINT8_C(48), UINT8_C(48), UINT8_C(48), UINT8_C(48), UINT8_C(48), UINT8_C(48), UINT8_C(48), UINT8_C(59), UINT8_C(48), UINT8_C(48), UINT8_C(48), UINT8_C(48), UINT8_C(48), UINT8_C(48), UINT8_C(48), UINT8_C(48), UINT8_C(48), UINT8_C(48), UINT8_C(48), UINT8_C(48), UINT8_C(48), UINT8_C(48), UINT8_C(48), UINT8_C(48), UINT8_C(48), UINT8_C(48), UINT8_C(48), UINT8_C(48), UINT8_C(48), UINT8_C(48), UINT8_C(48), UINT8_C(48), UINT8_C(48), UINT8_C(48), UINT8_C(48), UINT8_C(48), UINT8_C(48), UINT8_C(48), UINT8_C(48), UINT8_C(48), UINT8_C(48), UINT8_C(48), UINT8_C(48), UINT8_C(48), UINT8_C(48), UINT8_C(48), UINT8_C(48), UINT8_C(50), UINT8_C(48), UINT8_C(48), UINT8_C(48), UINT8_C(48), UINT8_C(48), UINT8_C(48), UINT8_C(48), UINT8_C(48), UINT8_C(48), UINT8_C(48), UINT8_C(48), UINT8_C(48), UINT8_C(48), UINT8_C(48), UINT8_C(48), UINT8_C(48), UINT8_C(48), UINT8_C(48), UINT8_C(48), UINT8_C(60), UINT8_C(48), UINT8_C(48), UINT8_C(48), UINT8_C(48), UINT8_C(48), UINT8_C(48), UINT8_C(48), UINT8_C(48), UINT8_C(48), UINT8_C(48), UINT8_C(48), UINT8_C(48), UINT8_C(48), UINT8_C(48), UINT8_C(48), UINT8_C(48), UINT8_C(48), UINT8_C(61), UINT8_C(48), UINT8_C(48), UINT8_C(48), UINT8_C(48), UINT8_C(48), UINT8_C(48), UINT8_C(48), UINT8_C(48), UINT8_C(48), UINT8_C(48), UINT8_C(48), UINT8_C(48), UINT8_C(48), UINT8_C(48), UINT8_C(48), UINT8_C(48), UINT8_C(48), UINT8_C(48), UINT8_C(48), UINT8_C(48), UINT8_C(48), UINT8_C(48), UINT8_C(48), UINT8_C(48), UINT8_C(48), UINT8_C(70), UINT8_C(48), UINT8_C(48), UINT8_C(48), UINT8_C(48), UINT8_C(65), UINT8_C(65), UINT8_C(65), UINT8_C(48), UINT8_C(48), UINT8_C(48), UINT8_C(48), UINT8_C(48), UINT8_C(48), UINT8_C(111), UINT8_C(48), UINT8_C(48), UINT8_C(48), UINT8_C(48), UINT8_C(48), UINT8_C(48), UINT8_C(48), UINT8_C(48), UINT8_C(48), UINT8_C(48), UINT8_C(48), UINT8_C(48), UINT8_C(48), UINT8_C(48), UINT8_C(48), UINT8_C(48), UINT8_C(48), UINT8_C(48), UINT8_C(48), UINT8_C(62), UINT8_C(48), UINT8_C(48), UINT8_C(48), UINT8_C(48), UINT8_C(48), UINT8_C(48), UINT8_C(48), UINT8_C(48), UINT8_C(48), UINT8_C(48), UINT8_C(48), UINT8_C(48), UINT8_C(48), UINT8_C(48), UINT8_C(48), UINT8_C(67), UINT8_C(48), UINT8_C(48), UINT8_C(48), UINT8_C(48), UINT8_C(48), UINT8_C(48), UINT8_C(70), UINT8_C(63), UINT8_C(48), UINT8_C(48), UINT8_C(48), UINT8_C(48), UINT8_C(48), UINT8_C(48), UINT8_C(48), UINT8_C(48), UINT8_C(48), UINT8_C(48), UINT8_C(48), UINT8_C(48), UINT8_C(48), UINT8_C(48), UINT8_C(66), UINT8_C(48), UINT8_C(48), UINT8_C(48), UINT8_C(48), UINT8_C(48), UINT8_C(48), UINT8_C(48), UINT8_C(48), UINT8_C(48), UINT8_C(48), UINT8_C(48), UINT8_C(48), UINT8_C(48), UINT8_C(48), UINT8_C(48), UINT8_C(48), UINT8_C(48), UINT8_C(48), UINT8_C(48), UINT8_C(48), UINT8_C(48), UINT8_C(48), UINT8_C(48), UINT8_C(48), UINT8_C(48), UINT8_C(48), UINT8_C(48), UINT8_C(48), UINT8_C(48), UINT8_C(48), UINT8_C(48), UINT8_C(48), UINT8_C(48), UINT8_C(48), UINT8_C(48), UINT8_C(48), UINT8_C(48), UINT8_C(48), UINT8_C(64), UINT8_C(48), UINT8_C(48), UINT8_C(48), UINT8_C(48), UINT8_C(48), UINT8_C(48), UINT8_C(48), UINT8_C(48), UINT8_C(48), UINT8_C(48), UINT8_C(48), UINT8_C(48), UINT8_C(48), UINT8_C(48), UINT8_C(48), UINT8_C(48), UINT8_C(48), UINT8_C(48), UINT8_C(48), UINT8_C(48), UINT8_C(48), UINT8_C(48), UINT8_C(70), UINT8_C(63), UINT8_C(48), UINT8_C(48), UINT8_C(48), UINT8_C(48), UINT8_C(48), UINT8_C(48), UINT8_C(48), UINT8_C(48), UINT8_C(48), UINT8_C(48), UINT8_C(48), UINT8_C(48), UINT8_C(48), UINT8_C(48), UINT8_C(48), UINT8_C(48), UINT8_C(48), UINT8_C(48), UINT8_C(48), UINT8_C(48), UINT8_C(48), UINT8_C(48), UINT8_C(48), UINT8_C(48), UINT8_C(48), UINT8_C(48), UINT8_C(48), UINT8_C(48), UINT8_C(48), UINT8_C(48), UINT8_C(48), UINT8_C(48), UINT8_C(48), UINT8_C(48), UINT8_C(48), UINT8_C(48), UINT8_C(48), UINT8_C(48), UINT8_C(48), UINT8_C(48), UINT8_C(48), UINT8_C(48), UINT8_C(48), UINT8_C(48), UINT8_C(48), UINT8_C(48), UINT8_C(48), UINT8_C(48), UINT8_C(48), UINT8_C(48), UINT8_C(48), UINT8_C(48), UINT8_C(48), UINT8_C(66), UINT8_C(48), UINT8_C(48), UINT8_C(48), UINT8_C(48), UINT8_C(48), UINT8_C(48), UINT8_C(48), UINT8_C(48), UINT8_C(48), UINT8_C(48), UINT8_C(48), UINT8_C(48), UINT8_C(48), UINT8_C(48), UINT8_C(48), UINT8_C(48), UINT8_C(48), UINT8_C(48), UINT8_C(48), UINT8_C(48), UINT8_C(48), UINT8_C(48), UINT8_C(70), UINT8_C(48), UINT8_C(48), UINT8_C(48), UINT8_C(48), UINT8_C(48), UINT8_C(48), UINT8_C(48), UINT8_C(48), UINT8_C(48), UINT8_C(48), UINT8_C(48), UINT8_C(48), UINT8_C(48), UINT8_C(48), UINT8_C(48), UINT8_C(48), UINT8_C(48), UINT8_C(48), UINT8_C(48), UINT8_C(48), UINT8_C(48), UINT8_C(48), UINT8_C(76), UINT8_C(71), UINT8_C(48), UINT8_C(48), UINT8_C(48), UINT8_C(48), UINT8_C(48), UINT8_C(71), UINT8_C(71), UINT8_C(70), UINT8_C(111), UINT8_C(48), UINT8_C(48), UINT8_C(48), UINT8_C(48), UINT8_C(48), UINT8_C(48), UINT8_C(48), UINT8_C(70), UINT8_C(48), UINT8_C(48), UINT8_C(48), UINT8_C(48), UINT8_C(48), UINT8_C(48), UINT8_C(48), UINT8_C(48), UINT8_C(48), UINT8_C(48), UINT8_C(48), UINT8_C(48), UINT8_C(48), UINT8_C(72), UINT8_C(71), UINT8_C(71), UINT8_C(48), UINT8_C(48), UINT8_C(48), UINT8_C(48), UINT8_C(48), UINT8_C(48), UINT8_C(48), UINT8_C(48), UINT8_C(48), UINT8_C(48), UINT8_C(48), UINT8_C(48), UINT8_C(48), UINT8_C(48), UINT8_C(48), UINT8_C(48), UINT8_C(48), UINT8_C(48), UINT8_C(48), UINT8_C(61), UINT8_C(48), UINT8_C(48), UINT8_C(48), UINT8_C(48), UINT8_C(48), UINT8_C(48), UINT8_C(48), UINT8_C(48), UINT8_C(48), UINT8_C(48), UINT8_C(48), UINT8_C(48), UINT8_C(48), UINT8_C(48), UINT8_C(48), UINT8_C(48), UINT8_C(48), UINT8_C(48), UINT8_C(48), UINT8_C(48), UINT8_C(48), UINT8_C(48), UINT8_C(48), UINT8_C(48), UINT8_C(48), UINT8_C(48), UINT8_C(48), UINT8_C(48), UINT8_C(48), UINT8_C(48), UINT8_C(48), UINT8_C(48), UINT8_C(48), UINT8_C(48), UINT8_C(61), UINT8_C(48), UINT8_C(48), UINT8_C(48), UINT8_C(48), UINT8_C(48), UINT8_C(48), UINT8_C(48), UINT8_C(48), UINT8_C(48), UINT8_C(48), UINT8_C(48), UINT8_C(48), UINT8_C(48), UINT8_C(48), UINT8_C(48), UINT8_C(48), UINT8_C(48), UINT8_C(48), UINT8_C(48), UINT8_C(48), UINT8_C(48), UINT8_C(48), UINT8_C(48), UINT8_C(48), UINT8_C(48), UINT8_C(48), UINT8_C(48), UINT8_C(76), UINT8_C(71), UINT8_C(48), UINT8_C(48), UINT8_C(48), UINT8_C(48), UINT8_C(48), UINT8_C(71), UINT8_C(71), UINT8_C(70), UINT8_C(48), UINT8_C(48), UINT8_C(48), UINT8_C(48), UINT8_C(48), UINT8_C(48), UINT8_C(48), UINT8_C(48), UINT8_C(70), UINT8_C(48), UINT8_C(48), UINT8_C(48), UINT8_C(48), UINT8_C(48), UINT8_C(48), UINT8_C(48), UINT8_C(48), UINT8_C(48), UINT8_C(48), UINT8_C(48), UINT8_C(48), UINT8_C(48), UINT8_C(72), UINT8_C(71), UINT8_C(71), UINT8_C(111), UINT8_C(111), UINT8_C(111), UINT8_C(111), UINT8_C(111), UINT8_C(111), UINT8_C(111), UINT8_C(111), UINT8_C(111), UINT8_C(111), UINT8_C(111), UINT8_C(111), UINT8_C(111), UINT8_C(111), UINT8_C(111), UINT8_C(111), UINT8_C(111), UINT8_C(111), UINT8_C(111), UINT8_C(111), UINT8_C(111), UINT8_C(111), UINT8_C(111), UINT8_C(111), UINT8_C(111), UINT8_C(111), UINT8_C(111), UINT8_C(111), UINT8_C(111), UINT8_C(111), UINT8_C(111), UINT8_C(111), UINT8_C(111), UINT8_C(111), UINT8_C(111), UINT8_C(111), UINT8_C(111), UINT8_C(111), UINT8_C(111), UINT8_C(111), UINT8_C(111), UINT8_C(111), UINT8_C(111), UINT8_C(111), UINT8_C(111), UINT8_C(111), UINT8_C(111), UINT8_C(111), UINT8_C(111), UINT8_C(111), UINT8_C(111), UINT8_C(111), UINT8_C(75), UINT8_C(111), UINT8_C(111), UINT8_C(111), UINT8_C(111), UINT8_C(111), UINT8_C(111), UINT8_C(111), UINT8_C(73), UINT8_C(111), UINT8_C(111), UINT8_C(111), UINT8_C(111), UINT8_C(111), UINT8_C(111), UINT8_C(111), UINT8_C(111), UINT8_C(111), UINT8_C(111), UINT8_C(111), UINT8_C(111), UINT8_C(111), UINT8_C(111), UINT8_C(111), UINT8_C(111), UINT8_C(111), UINT8_C(48), UINT8_C(48), UINT8_C(48), UINT8_C(48), UINT8_C(48), UINT8_C(48), UINT8_C(48), UINT8_C(48), UINT8_C(48), UINT8_C(48), UINT8_C(48), UINT8_C(48), UINT8_C(48), UINT8_C(48), UINT8_C(48), UINT8_C(48), UINT8_C(48), UINT8_C(48), UINT8_C(48), UINT8_C(48), UINT8_C(48), UINT8_C(48), UINT8_C(48), UINT8_C(48), UINT8_C(48), UINT8_C(48), UINT8_C(48), UINT8_C(48), UINT8_C(48), UINT8_C(48), UINT8_C(48), UINT8_C(48), UINT8_C(48), UINT8_C(48), UINT8_C(48), UINT8_C(48), UINT8_C(74), UINT8_C(48), UINT8_C(48), UINT8_C(111), UINT8_C(111), UINT8_C(111), UINT8_C(111), UINT8_C(111), UINT8_C(111), UINT8_C(111), UINT8_C(111), UINT8_C(111), UINT8_C(111), UINT8_C(111), UINT8_C(111), UINT8_C(111), UINT8_C(111), UINT8_C(111), UINT8_C(111), UINT8_C(111), UINT8_C(111), UINT8_C(111), UINT8_C(111), UINT8_C(111), UINT8_C(73), UINT8_C(111), UINT8_C(111), UINT8_C(111), UINT8_C(111), UINT8_C(111), UINT8_C(111), UINT8_C(111), UINT8_C(111), UINT8_C(111), UINT8_C(111), UINT8_C(111), UINT8_C(111), UINT8_C(111), UINT8_C(111), UINT8_C(111), UINT8_C(111), UINT8_C(111), UINT8_C(48), UINT8_C(48), UINT8_C(48), UINT8_C(48), UINT8_C(76), UINT8_C(71), UINT8_C(48), UINT8_C(48), UINT8_C(48), UINT8_C(48), UINT8_C(48), UINT8_C(71), UINT8_C(71), UINT8_C(70), UINT8_C(111), UINT8_C(48), UINT8_C(48), UINT8_C(48), UINT8_C(48), UINT8_C(48), UINT8_C(48), UINT8_C(48), UINT8_C(70), UINT8_C(48), UINT8_C(48), UINT8_C(48), UINT8_C(48), UINT8_C(48), UINT8_C(48), UINT8_C(48), UINT8_C(48), UINT8_C(48), UINT8_C(48), UINT8_C(48), UINT8_C(48), UINT8_C(48), UINT8_C(72), UINT8_C(71), UINT8_C(71), UINT8_C(48), UINT8_C(48), UINT8_C(48), UINT8_C(48), UINT8_C(48), UINT8_C(48), UINT8_C(48), UINT8_C(71), UINT8_C(71), UINT8_C(71), UINT8_C(48), UINT8_C(48), UINT8_C(48), UINT8_C(48), UINT8_C(48), UINT8_C(48), UINT8_C(48), UINT8_C(48), UINT8_C(48), UINT8_C(48), UINT8_C(48), UINT8_C(48), UINT8_C(48), UINT8_C(48), UINT8_C(48), UINT8_C(48), UINT8_C(48), UINT8_C(48), UINT8_C(48), UINT8_C(48), UINT8_C(48), UINT8_C(48), UINT8_C(48), UINT8_C(48), UINT8_C(48), UINT8_C(48), UINT8_C(71), UINT8_C(48), UINT8_C(48), UINT8_C(48), UINT8_C(48), UINT8_C(48), UINT8_C(48), UINT8_C(48), UINT8_C(48), UINT8_C(80), UINT8_C(48), UINT8_C(48), UINT8_C(48), UINT8_C(48), UINT8_C(48), UINT8_C(48), UINT8_C(48), UINT8_C(48), UINT8_C(48), UINT8_C(48), UINT8_C(48), UINT8_C(48), UINT8_C(48), UINT8_C(48), UINT8_C(48), UINT8_C(48), UINT8_C(48), UINT8_C(48), UINT8_C(48), UINT8_C(48), UINT8_C(48), UINT8_C(48), UINT8_C(48), UINT8_C(48), UINT8_C(48), UINT8_C(48), UINT8_C(48), UINT8_C(48), UINT8_C(48), UINT8_C(78), UINT8_C(48), UINT8_C(48), UINT8_C(48), UINT8_C(48), UINT8_C(48), UINT8_C(48), UINT8_C(48), UINT8_C(48), UINT8_C(48), UINT8_C(48), UINT8_C(48), UINT8_C(48), UINT8_C(48), UINT8_C(48), UINT8_C(48), UINT8_C(48), UINT8_C(111), UINT8_C(48), UINT8_C(48), UINT8_C(48), UINT8_C(48), UINT8_C(48), UINT8_C(48), UINT8_C(79), UINT8_C(48), UINT8_C(48), UINT8_C(48), UINT8_C(48), UINT8_C(48), UINT8_C(77), UINT8_C(48), UINT8_C(48), UINT8_C(48), UINT8_C(48), UINT8_C(48), UINT8_C(48), UINT8_C(48), UINT8_C(48), UINT8_C(48), UINT8_C(48), UINT8_C(48), UINT8_C(48), UINT8_C(48), UINT8_C(48), UINT8_C(48), UINT8_C(48), UINT8_C(48), UINT8_C(48), UINT8_C(48), UINT8_C(48), UINT8_C(48), UINT8_C(48), UINT8_C(48), UINT8_C(48), UINT8_C(48), UINT8_C(48), UINT8_C(48), UINT8_C(48), UINT8_C(48), UINT8_C(48), UINT8_C(48), UINT8_C(48), UINT8_C(48), UINT8_C(48), UINT8_C(48), UINT8_C(48), UINT8_C(48), UINT8_C(48), UINT8_C(48), UINT8_C(48), UINT8_C(48), UINT8_C(48), UINT8_C(48), UINT8_C(48), UINT8_C(48), UINT8_C(48), UINT8_C(48), UINT8_C(81), UINT8_C(48), UINT8_C(48), UINT8_C(48), UINT8_C(48), UINT8_C(48), UINT8_C(48), UINT8_C(48), UINT8_C(48), UINT8_C(48), UINT8_C(48), UINT8_C(48), UINT8_C(48), UINT8_C(48), UINT8_C(48), UINT8_C(48), UINT8_C(77), UINT8_C(48), UINT8_C(48), UINT8_C(48), UINT8_C(48), UINT8_C(48), UINT8_C(48), UINT8_C(48), UINT8_C(48), UINT8_C(48), UINT8_C(48), UINT8_C(48), UINT8_C(48), UINT8_C(48), UINT8_C(48), UINT8_C(48), UINT8_C(48), UINT8_C(48), UINT8_C(48), UINT8_C(48), UINT8_C(48), UINT8_C(48), UINT8_C(48), UINT8_C(48), UINT8_C(48), UINT8_C(48), UINT8_C(48), UINT8_C(48), UINT8_C(48), UINT8_C(48), UINT8_C(48), UINT8_C(48), UINT8_C(48), UINT8_C(48), UINT8_C(48), UINT8_C(48), UINT8_C(48), UINT8_C(48), UINT8_C(48), UINT8_C(48), UINT8_C(111), UINT8_C(48), UINT8_C(48), UINT8_C(48), UINT8_C(48), UINT8_C(48), UINT8_C(48), UINT8_C(48), UINT8_C(48), UINT8_C(48), UINT8_C(48), UINT8_C(48), UINT8_C(48), UINT8_C(77), UINT8_C(48), UINT8_C(48), UINT8_C(48), UINT8_C(48), UINT8_C(48), UINT8_C(48), UINT8_C(48), UINT8_C(48), UINT8_C(48), UINT8_C(48), UINT8_C(48), UINT8_C(48), UINT8_C(48), UINT8_C(48), UINT8_C(48), UINT8_C(48), UINT8_C(48), UINT8_C(48), UINT8_C(48), UINT8_C(48), UINT8_C(48), UINT8_C(48), UINT8_C(48), UINT8_C(48), UINT8_C(48), UINT8_C(81), UINT8_C(48), UINT8_C(48), UINT8_C(48), UINT8_C(48), UINT8_C(48), UINT8_C(48), UINT8_C(48), UINT8_C(48), UINT8_C(48), UINT8_C(48), UINT8_C(48), UINT8_C(48), UINT8_C(48), UINT8_C(48), UINT8_C(48), UINT8_C(48), UINT8_C(48), UINT8_C(48), UINT8_C(48), UINT8_C(48), UINT8_C(48), UINT8_C(48), UINT8_C(48), UINT8_C(48), UINT8_C(48), UINT8_C(48), UINT8_C(48), UINT8_C(48), UINT8_C(48), UINT8_C(48), UINT8_C(48), UINT8_C(48), UINT8_C(48), UINT8_C(48), UINT8_C(48), UINT8_C(48), UINT8_C(48), UINT8_C(48), UINT8_C(71), UINT8_C(48), UINT8_C(48), UINT8_C(48), UINT8_C(48), UINT8_C(48), UINT8_C(48), UINT8_C(48), UINT8_C(48), UINT8_C(70), UINT8_C(70), UINT8_C(70), UINT8_C(70), UINT8_C(70), UINT8_C(70), UINT8_C(70), UINT8_C(70), UINT8_C(70), UINT8_C(70), UINT8_C(70), UINT8_C(70), UINT8_C(70), UINT8_C(48), UINT8_C(48), UINT8_C(48), UINT8_C(48), UINT8_C(48), UINT8_C(48), UINT8_C(48), UINT8_C(48), UINT8_C(48), UINT8_C(48), UINT8_C(48), UINT8_C(48), UINT8_C(48), UINT8_C(48), UINT8_C(48), UINT8_C(48), UINT8_C(48), UINT8_C(71), UINT8_C(48), UINT8_C(48), UINT8_C(70), UINT8_C(48), UINT8_C(48), UINT8_C(48), UINT8_C(48), UINT8_C(48), UINT8_C(70), UINT8_C(70), UINT8_C(70), UINT8_C(70), UINT8_C(70), UINT8_C(70), UINT8_C(70), UINT8_C(70), UINT8_C(70), UINT8_C(70), UINT8_C(70), UINT8_C(70), UINT8_C(70), UINT8_C(48), UINT8_C(48), UINT8_C(48), UINT8_C(48), UINT8_C(48), UINT8_C(48), UINT8_C(48), UINT8_C(48), UINT8_C(48), UINT8_C(48), UINT8_C(48), UINT8_C(48), UINT8_C(48), UINT8_C(48), UINT8_C(48), UINT8_C(48), UINT8_C(48), UINT8_C(68), UINT8_C(48), UINT8_C(48), UINT8_C(70), UINT8_C(48), UINT8_C(48), UINT8_C(48), UINT8_C(48), UINT8_C(48), UINT8_C(70), UINT8_C(70), UINT8_C(70), UINT8_C(70), UINT8_C(70), UINT8_C(70), UINT8_C(70), UINT8_C(70), UINT8_C(70), UINT8_C(70), UINT8_C(70), UINT8_C(70), UINT8_C(70), UINT8_C(48), UINT8_C(48), UINT8_C(48), UINT8_C(48), UINT8_C(48), UINT8_C(48), UINT8_C(69), UINT8_C(48), UINT8_C(48), UINT8_C(48), UINT8_C(48), UINT8_C(48), UINT8_C(48), UINT8_C(48), UINT8_C(48), UINT8_C(48), UINT8_C(48), UINT8_C(48), UINT8_C(48), UINT8_C(48), UINT8_C(48), UINT8_C(48), UINT8_C(48), UINT8_C(48), UINT8_C(48), UINT8_C(48), UINT8_C(70), UINT8_C(70), UINT8_C(70), UINT8_C(70), UINT8_C(70), UINT8_C(70), UINT8_C(70), UINT8_C(70), UINT8_C(70), UINT8_C(70), UINT8_C(70), UINT8_C(70), UINT8_C(70), UINT8_C(48), UINT8_C(48), UINT8_C(48), UINT8_C(48), UINT8_C(48), UINT8_C(48), UINT8_C(48), UINT8_C(48), UINT8_C(48), UINT8_C(48), UINT8_C(48), UINT8_C(48), UINT8_C(48), UINT8_C(48), UINT8_C(48), UINT8_C(48), UINT8_C(48), UINT8_C(48), UINT8_C(48), UINT8_C(48), UINT8_C(48), UINT8_C(48), UINT8_C(61), UINT8_C(48), UINT8_C(48), UINT8_C(48), UINT8_C(70), UINT8_C(70), UINT8_C(70), UINT8_C(70), UINT8_C(70), UINT8_C(70), UINT8_C(70), UINT8_C(70), UINT8_C(70), UINT8_C(70), UINT8_C(70), UINT8_C(70), UINT8_C(70), UINT8_C(48), UINT8_C(48), UINT8_C(48), UINT8_C(48), UINT8_C(48), UINT8_C(48), UINT8_C(48), UINT8_C(48), UINT8_C(48), UINT8_C(48), UINT8_C(48), UINT8_C(48), UINT8_C(48), UINT8_C(48), UINT8_C(48), UINT8_C(48), UINT8_C(48), UINT8_C(48), UINT8_C(48), UINT8_C(59), UINT8_C(48), UINT8_C(48), UINT8_C(48), UINT8_C(48), UINT8_C(48), UINT8_C(48), UINT8_C(48), UINT8_C(48), UINT8_C(48), UINT8_C(48), UINT8_C(48), UINT8_C(48), UINT8_C(48), UINT8_C(48), UINT8_C(48), UINT8_C(48), UINT8_C(48), UINT8_C(48), UINT8_C(48), UINT8_C(48), UINT8_C(48), UINT8_C(48), UINT8_C(48), UINT8_C(48), UINT8_C(48), UINT8_C(48), UINT8_C(48), UINT8_C(48), UINT8_C(48), UINT8_C(48), UINT8_C(48), UINT8_C(48), UINT8_C(48), UINT8_C(48), UINT8_C(48), UINT8_C(48), UINT8_C(48), UINT8_C(48), UINT8_C(61), UINT8_C(48), UINT8_C(48), UINT8_C(48), UINT8_C(48), UINT8_C(48), UINT8_C(48), UINT8_C(48), UINT8_C(48), UINT8_C(48), UINT8_C(48), UINT8_C(48), UINT8_C(48), UINT8_C(48), UINT8_C(48), UINT8_C(48), UINT8_C(48), UINT8_C(48), UINT8_C(48), UINT8_C(48), UINT8_C(48), UINT8_C(48), UINT8_C(48), UINT8_C(48), UINT8_C(48), UINT8_C(48), UINT8_C(48), UINT8_C(48), UINT8_C(48), UINT8_C(48), UINT8_C(48), UINT8_C(48), UINT8_C(48), UINT8_C(48), UINT8_C(48), UINT8_C(48), UINT8_C(48), UINT8_C(71), UINT8_C(48), UINT8_C(48), UINT8_C(48), UINT8_C(48), UINT8_C(48), UINT8_C(48), UINT8_C(48), UINT8_C(48), UINT8_C(48), UINT8_C(48), UINT8_C(48), UINT8_C(48), UINT8_C(48), UINT8_C(48), UINT8_C(70), UINT8_C(70), UINT8_C(70), UINT8_C(70), UINT8_C(70), UINT8_C(70), UINT8_C(70), UINT8_C(48), UINT8_C(48), UINT8_C(48), UINT8_C(48), UINT8_C(48), UINT8_C(48), UINT8_C(48), UINT8_C(48), UINT8_C(48), UINT8_C(48), UINT8_C(48), UINT8_C(48), UINT8_C(48), UINT8_C(48), UINT8_C(48), UINT8_C(48), UINT8_C(48), UINT8_C(71), UINT8_C(48), UINT8_C(48), UINT8_C(70), UINT8_C(48), UINT8_C(48), UINT8_C(48), UINT8_C(48), UINT8_C(48), UINT8_C(48), UINT8_C(48), UINT8_C(48), UINT8_C(48), UINT8_C(48), UINT8_C(48), UINT8_C(70), UINT8_C(70), UINT8_C(70), UINT8_C(70), UINT8_C(70), UINT8_C(70), UINT8_C(70), UINT8_C(48), UINT8_C(48), UINT8_C(48), UINT8_C(48), UINT8_C(48), UINT8_C(48), UINT8_C(48), UINT8_C(48), UINT8_C(48), UINT8_C(48), UINT8_C(48), UINT8_C(48), UINT8_C(48), UINT8_C(48), UINT8_C(48), UINT8_C(48), UINT8_C(48), UINT8_C(68), UINT8_C(48), UINT8_C(48), UINT8_C(70), UINT8_C(48), UINT8_C(48), UINT8_C(48), UINT8_C(48), UINT8_C(48), UINT8_C(48), UINT8_C(48), UINT8_C(48), UINT8_C(48), UINT8_C(48), UINT8_C(48), UINT8_C(70), UINT8_C(70), UINT8_C(70), UINT8_C(70), UINT8_C(70), UINT8_C(70), UINT8_C(70), UINT8_C(48), UINT8_C(48), UINT8_C(48), UINT8_C(48), UINT8_C(48), UINT8_C(48), UINT8_C(69), UINT8_C(48), UINT8_C(48), UINT8_C(48), UINT8_C(48), UINT8_C(48), UINT8_C(48), UINT8_C(48), UINT8_C(48), UINT8_C(48), UINT8_C(48), UINT8_C(48), UINT8_C(48), UINT8_C(48), UINT8_C(48), UINT8_C(48), UINT8_C(48), UINT8_C(48), UINT8_C(48), UINT8_C(48), UINT8_C(48), UINT8_C(48), UINT8_C(48), UINT8_C(48), UINT8_C(48), UINT8_C(48), UINT8_C(70), UINT8_C(70), UINT8_C(70), UINT8_C(70), UINT8_C(70), UINT8_C(70), UINT8_C(70), UINT8_C(48), UINT8_C(48), UINT8_C(48), UINT8_C(48), UINT8_C(48), UINT8_C(48), UINT8_C(48), UINT8_C(48), UINT8_C(48), UINT8_C(48), UINT8_C(48), UINT8_C(48), UINT8_C(48), UINT8_C(48), UINT8_C(48), UINT8_C(48), UINT8_C(48), UINT8_C(48), UINT8_C(48), UINT8_C(48), UINT8_C(48), UINT8_C(48), UINT8_C(61), UINT8_C(48), UINT8_C(48), UINT8_C(48), UINT8_C(48), UINT8_C(48), UINT8_C(48), UINT8_C(48), UINT8_C(48), UINT8_C(48), UINT8_C(70), UINT8_C(70), UINT8_C(70), UINT8_C(70), UINT8_C(70), UINT8_C(70), UINT8_C(70), UINT8_C(48), UINT8_C(48), UINT8_C(48) } };
-static const struct rt_array_uint8_1833 derive__step__l6 = { { UINT8_C(48), UINT8_C(48), UINT8_C(48), UINT8_C(48), UINT8_C(48), UINT8_C(48), UINT8_C(48), UINT8_C(48), UINT8_C(48), UINT8_C(48), UINT8_C(48), UINT8_C(48), UINT8_C(48), UINT8_C(48), UINT8_C(48), UINT8_C(48), UINT8_C(48), UINT8_C(48), UINT8_C(48), UINT8_C(48), UINT8_C(48), UINT8_C(48), UINT8_C(48), UINT8_C(48), UINT8_C(48), UINT8_C(48), UINT8_C(48), UINT8_C(48), UINT8_C(48), UINT8_C(48), UINT8_C(48), UINT8_C(48), UINT8_C(48), UINT8_C(48), UINT8_C(48), UINT8_C(48), UINT8_C(48), UINT8_C(48), UINT8_C(48), UINT8_C(48), UINT8_C(48), UINT8_C(48), UINT8_C(48), UINT8_C(48), UINT8_C(48), UINT8_C(48), UINT8_C(48), UINT8_C(48), UINT8_C(48), UINT8_C(48), UINT8_C(48), UINT8_C(48), UINT8_C(48), UINT8_C(48), UINT8_C(48), UINT8_C(48), UINT8_C(48), UINT8_C(48), UINT8_C(48), UINT8_C(48), UINT8_C(48), UINT8_C(48), UINT8_C(48), UINT8_C(48), UINT8_C(48), UINT8_C(48), UINT8_C(48), UINT8_C(48), UINT8_C(48), UINT8_C(48), UINT8_C(48), UINT8_C(48), UINT8_C(48), UINT8_C(48), UINT8_C(48), UINT8_C(48), UINT8_C(48), UINT8_C(48), UINT8_C(48), UINT8_C(48), UINT8_C(48), UINT8_C(48), UINT8_C(48), UINT8_C(48), UINT8_C(48), UINT8_C(48), UINT8_C(48), UINT8_C(48), UINT8_C(48), UINT8_C(48), UINT8_C(48), UINT8_C(48), UINT8_C(48), UINT8_C(48), UINT8_C(48), UINT8_C(48), UINT8_C(48), UINT8_C(48), UINT8_C(48), UINT8_C(48), UINT8_C(48), UINT8_C(48), UINT8_C(48), UINT8_C(48), UINT8_C(48), UINT8_C(48), UINT8_C(48), UINT8_C(48), UINT8_C(48), UINT8_C(48), UINT8_C(48), UINT8_C(48), UINT8_C(48), UINT8_C(48), UINT8_C(48), UINT8_C(48), UINT8_C(48), UINT8_C(48), UINT8_C(48), UINT8_C(48), UINT8_C(48), UINT8_C(48), UINT8_C(48), UINT8_C(48), UINT8_C(48), UINT8_C(48), UINT8_C(48), UINT8_C(48), UINT8_C(48), UINT8_C(48), UINT8_C(48), UINT8_C(48), UINT8_C(48), UINT8_C(48), UINT8_C(48), UINT8_C(48), UINT8_C(48), UINT8_C(48), UINT8_C(48), UINT8_C(48), UINT8_C(48), UINT8_C(48), UINT8_C(48), UINT8_C(48), UINT8_C(48), UINT8_C(48), UINT8_C(48), UINT8_C(48), UINT8_C(48), UINT8_C(48), UINT8_C(48), UINT8_C(48), UINT8_C(48), UINT8_C(48), UINT8_C(48), UINT8_C(48), UINT8_C(48), UINT8_C(48), UINT8_C(48), UINT8_C(48), UINT8_C(48), UINT8_C(48), UINT8_C(48), UINT8_C(48), UINT8_C(48), UINT8_C(48), UINT8_C(48), UINT8_C(48), UINT8_C(48), UINT8_C(48), UINT8_C(48), UINT8_C(48), UINT8_C(48), UINT8_C(48), UINT8_C(48), UINT8_C(48), UINT8_C(48), UINT8_C(48), UINT8_C(48), UINT8_C(48), UINT8_C(48), UINT8_C(48), UINT8_C(48), UINT8_C(48), UINT8_C(48), UINT8_C(48), UINT8_C(48), UINT8_C(48), UINT8_C(48), UINT8_C(48), UINT8_C(48), UINT8_C(48), UINT8_C(48), UINT8_C(48), UINT8_C(48), UINT8_C(48), UINT8_C(48), UINT8_C(48), UINT8_C(48), UINT8_C(48), UINT8_C(48), UINT8_C(48), UINT8_C(48), UINT8_C(48), UINT8_C(48), UINT8_C(48), UINT8_C(48), UINT8_C(48), UINT8_C(48), UINT8_C(48), UINT8_C(48), UINT8_C(48), UINT8_C(48), UINT8_C(48), UINT8_C(48), UINT8_C(48), UINT8_C(48), UINT8_C(48), UINT8_C(48), UINT8_C(48), UINT8_C(48), UINT8_C(48), UINT8_C(48), UINT8_C(48), UINT8_C(48), UINT8_C(48), UINT8_C(48), UINT8_C(48), UINT8_C(48), UINT8_C(48), UINT8_C(48), UINT8_C(48), UINT8_C(48), UINT8_C(48), UINT8_C(48), UINT8_C(48), UINT8_C(48), UINT8_C(48), UINT8_C(48), UINT8_C(48), UINT8_C(48), UINT8_C(48), UINT8_C(48), UINT8_C(48), UINT8_C(48), UINT8_C(48), UINT8_C(48), UINT8_C(48), UINT8_C(48), UINT8_C(48), UINT8_C(48), UINT8_C(48), UINT8_C(48), UINT8_C(48), UINT8_C(48), UINT8_C(48), UINT8_C(48), UINT8_C(48), UINT8_C(48), UINT8_C(48), UINT8_C(48), UINT8_C(48), UINT8_C(48), UINT8_C(48), UINT8_C(48), UINT8_C(48), UINT8_C(48), UINT8_C(48), UINT8_C(48), UINT8_C(48), UINT8_C(48), UINT8_C(48), UINT8_C(48), UINT8_C(48), UINT8_C(48), UINT8_C(48), UINT8_C(48), UINT8_C(48), UINT8_C(48), UINT8_C(48), UINT8_C(48), UINT8_C(48), UINT8_C(48), UINT8_C(48), UINT8_C(48), UINT8_C(48), UINT8_C(48), UINT8_C(48), UINT8_C(48), UINT8_C(48), UINT8_C(48), UINT8_C(48), UINT8_C(48), UINT8_C(48), UINT8_C(48), UINT8_C(48), UINT8_C(48), UINT8_C(48), UINT8_C(48), UINT8_C(48), UINT8_C(48), UINT8_C(48), UINT8_C(48), UINT8_C(48), UINT8_C(48), UINT8_C(48), UINT8_C(48), UINT8_C(48), UINT8_C(48), UINT8_C(48), UINT8_C(48), UINT8_C(48), UINT8_C(48), UINT8_C(48), UINT8_C(48), UINT8_C(48), UINT8_C(48), UINT8_C(48), UINT8_C(48), UINT8_C(48), UINT8_C(48), UINT8_C(48), UINT8_C(48), UINT8_C(48), UINT8_C(48), UINT8_C(48), UINT8_C(48), UINT8_C(48), UINT8_C(48), UINT8_C(48), UINT8_C(48), UINT8_C(48), UINT8_C(48), UINT8_C(48), UINT8_C(48), UINT8_C(48), UINT8_C(48), UINT8_C(48), UINT8_C(48), UINT8_C(48), UINT8_C(48), UINT8_C(48), UINT8_C(48), UINT8_C(48), UINT8_C(48), UINT8_C(48), UINT8_C(48), UINT8_C(48), UINT8_C(48), UINT8_C(48), UINT8_C(48), UINT8_C(48), UINT8_C(48), UINT8_C(48), UINT8_C(48), UINT8_C(48), UINT8_C(48), UINT8_C(48), UINT8_C(48), UINT8_C(48), UINT8_C(48), UINT8_C(48), UINT8_C(48), UINT8_C(48), UINT8_C(48), UINT8_C(48), UINT8_C(48), UINT8_C(48), UINT8_C(48), UINT8_C(48), UINT8_C(48), UINT8_C(48), UINT8_C(48), UINT8_C(48), UINT8_C(48), UINT8_C(48), UINT8_C(48), UINT8_C(48), UINT8_C(48), UINT8_C(48), UINT8_C(48), UINT8_C(48), UINT8_C(48), UINT8_C(48), UINT8_C(48), UINT8_C(48), UINT8_C(48), UINT8_C(48), UINT8_C(48), UINT8_C(48), UINT8_C(48), UINT8_C(48), UINT8_C(48), UINT8_C(48), UINT8_C(48), UINT8_C(48), UINT8_C(48), UINT8_C(48), UINT8_C(48), UINT8_C(48), UINT8_C(48), UINT8_C(48), UINT8_C(48), UINT8_C(48), UINT8_C(48), UINT8_C(48), UINT8_C(48), UINT8_C(48), UINT8_C(48), UINT8_C(48), UINT8_C(48), UINT8_C(48), UINT8_C(48), UINT8_C(48), UINT8_C(48), UINT8_C(48), UINT8_C(48), UINT8_C(48), UINT8_C(48), UINT8_C(48), UINT8_C(48), UINT8_C(48), UINT8_C(48), UINT8_C(48), UINT8_C(48), UINT8_C(48), UINT8_C(48), UINT8_C(48), UINT8_C(48), UINT8_C(48), UINT8_C(48), UINT8_C(48), UINT8_C(48), UINT8_C(48), UINT8_C(48), UINT8_C(48), UINT8_C(48), UINT8_C(48), UINT8_C(48), UINT8_C(48), UINT8_C(48), UINT8_C(48), UINT8_C(48), UINT8_C(48), UINT8_C(48), UINT8_C(48), UINT8_C(48), UINT8_C(48), UINT8_C(48), UINT8_C(48), UINT8_C(48), UINT8_C(48), UINT8_C(48), UINT8_C(48), UINT8_C(48), UINT8_C(48), UINT8_C(48), UINT8_C(48), UINT8_C(48), UINT8_C(48), UINT8_C(48), UINT8_C(48), UINT8_C(48), UINT8_C(48), UINT8_C(48), UINT8_C(48), UINT8_C(48), UINT8_C(48), UINT8_C(48), UINT8_C(48), UINT8_C(48), UINT8_C(48), UINT8_C(48), UINT8_C(48), UINT8_C(48), UINT8_C(48), UINT8_C(48), UINT8_C(48), UINT8_C(48), UINT8_C(48), UINT8_C(48), UINT8_C(48), UINT8_C(48), UINT8_C(88), UINT8_C(48), UINT8_C(48), UINT8_C(48), UINT8_C(48), UINT8_C(48), UINT8_C(48), UINT8_C(48), UINT8_C(48), UINT8_C(48), UINT8_C(48), UINT8_C(48), UINT8_C(48), UINT8_C(48), UINT8_C(48), UINT8_C(48), UINT8_C(48), UINT8_C(48), UINT8_C(48), UINT8_C(48), UINT8_C(48), UINT8_C(48), UINT8_C(48), UINT8_C(48), UINT8_C(48), UINT8_C(48), UINT8_C(86), UINT8_C(48), UINT8_C(48), UINT8_C(48), UINT8_C(48), UINT8_C(48), UINT8_C(48), UINT8_C(48), UINT8_C(48), UINT8_C(48), UINT8_C(48), UINT8_C(48), UINT8_C(48), UINT8_C(48), UINT8_C(48), UINT8_C(48), UINT8_C(48), UINT8_C(48), UINT8_C(48), UINT8_C(48), UINT8_C(48), UINT8_C(48), UINT8_C(48), UINT8_C(48), UINT8_C(48), UINT8_C(48), UINT8_C(48), UINT8_C(48), UINT8_C(48), UINT8_C(48), UINT8_C(48), UINT8_C(48), UINT8_C(48), UINT8_C(48), UINT8_C(48), UINT8_C(48), UINT8_C(48), UINT8_C(48), UINT8_C(48), UINT8_C(48), UINT8_C(48), UINT8_C(48), UINT8_C(48), UINT8_C(48), UINT8_C(48), UINT8_C(48), UINT8_C(48), UINT8_C(48), UINT8_C(48), UINT8_C(48), UINT8_C(85), UINT8_C(48), UINT8_C(48), UINT8_C(48), UINT8_C(48), UINT8_C(48), UINT8_C(48), UINT8_C(87), UINT8_C(48), UINT8_C(48), UINT8_C(48), UINT8_C(48), UINT8_C(48), UINT8_C(48), UINT8_C(48), UINT8_C(48), UINT8_C(48), UINT8_C(48), UINT8_C(48), UINT8_C(48), UINT8_C(48), UINT8_C(48), UINT8_C(48), UINT8_C(48), UINT8_C(48), UINT8_C(48), UINT8_C(48), UINT8_C(48), UINT8_C(48), UINT8_C(48), UINT8_C(48), UINT8_C(48), UINT8_C(48), UINT8_C(48), UINT8_C(48), UINT8_C(48), UINT8_C(48), UINT8_C(48), UINT8_C(48), UINT8_C(48), UINT8_C(48), UINT8_C(48), UINT8_C(48), UINT8_C(48), UINT8_C(48), UINT8_C(48), UINT8_C(48), UINT8_C(48), UINT8_C(48), UINT8_C(48), UINT8_C(48), UINT8_C(48), UINT8_C(48), UINT8_C(48), UINT8_C(48), UINT8_C(48), UINT8_C(48), UINT8_C(48), UINT8_C(48), UINT8_C(48), UINT8_C(48), UINT8_C(48), UINT8_C(48), UINT8_C(48), UINT8_C(48), UINT8_C(48), UINT8_C(48), UINT8_C(48), UINT8_C(48), UINT8_C(48), UINT8_C(48), UINT8_C(48), UINT8_C(48), UINT8_C(48), UINT8_C(48), UINT8_C(48), UINT8_C(48), UINT8_C(48), UINT8_C(48), UINT8_C(48), UINT8_C(48), UINT8_C(48), UINT8_C(48), UINT8_C(48), UINT8_C(48), UINT8_C(87), UINT8_C(48), UINT8_C(48), UINT8_C(48), UINT8_C(48), UINT8_C(48), UINT8_C(48), UINT8_C(48), UINT8_C(48), UINT8_C(48), UINT8_C(48), UINT8_C(48), UINT8_C(48), UINT8_C(48), UINT8_C(48), UINT8_C(48), UINT8_C(48), UINT8_C(48), UINT8_C(48), UINT8_C(48), UINT8_C(48), UINT8_C(48), UINT8_C(48), UINT8_C(48), UINT8_C(48), UINT8_C(48), UINT8_C(48), UINT8_C(48), UINT8_C(48), UINT8_C(48), UINT8_C(48), UINT8_C(48), UINT8_C(48), UINT8_C(48), UINT8_C(48), UINT8_C(48), UINT8_C(48), UINT8_C(48), UINT8_C(48), UINT8_C(48), UINT8_C(48), UINT8_C(48), UINT8_C(48), UINT8_C(48), UINT8_C(48), UINT8_C(48), UINT8_C(48), UINT8_C(48), UINT8_C(48), UINT8_C(48), UINT8_C(48), UINT8_C(48), UINT8_C(48), UINT8_C(48), UINT8_C(48), UINT8_C(48), UINT8_C(48), UINT8_C(48), UINT8_C(48), UINT8_C(48), UINT8_C(48), UINT8_C(48), UINT8_C(48), UINT8_C(48), UINT8_C(48), UINT8_C(48), UINT8_C(48), UINT8_C(48), UINT8_C(48), UINT8_C(48), UINT8_C(48), UINT8_C(48), UINT8_C(48), UINT8_C(48), UINT8_C(48), UINT8_C(48), UINT8_C(48), UINT8_C(48), UINT8_C(87), UINT8_C(48), UINT8_C(48), UINT8_C(48), UINT8_C(48), UINT8_C(48), UINT8_C(48), UINT8_C(48), UINT8_C(48), UINT8_C(48), UINT8_C(48), UINT8_C(48), UINT8_C(48), UINT8_C(48), UINT8_C(48), UINT8_C(48), UINT8_C(48), UINT8_C(48), UINT8_C(48), UINT8_C(48), UINT8_C(48), UINT8_C(48), UINT8_C(48), UINT8_C(48), UINT8_C(48), UINT8_C(48), UINT8_C(48), UINT8_C(48), UINT8_C(48), UINT8_C(48), UINT8_C(48), UINT8_C(48), UINT8_C(83), UINT8_C(48), UINT8_C(48), UINT8_C(48), UINT8_C(48), UINT8_C(48), UINT8_C(48), UINT8_C(48), UINT8_C(48), UINT8_C(48), UINT8_C(48), UINT8_C(48), UINT8_C(48), UINT8_C(48), UINT8_C(48), UINT8_C(48), UINT8_C(48), UINT8_C(48), UINT8_C(48), UINT8_C(48), UINT8_C(48), UINT8_C(48), UINT8_C(48), UINT8_C(48), UINT8_C(48), UINT8_C(48), UINT8_C(48), UINT8_C(48), UINT8_C(48), UINT8_C(48), UINT8_C(48), UINT8_C(48), UINT8_C(48), UINT8_C(48), UINT8_C(48), UINT8_C(48), UINT8_C(48), UINT8_C(48), UINT8_C(48), UINT8_C(48), UINT8_C(48), UINT8_C(48), UINT8_C(48), UINT8_C(48), UINT8_C(48), UINT8_C(48), UINT8_C(48), UINT8_C(48), UINT8_C(48), UINT8_C(48), UINT8_C(48), UINT8_C(48), UINT8_C(48), UINT8_C(48), UINT8_C(48), UINT8_C(48), UINT8_C(48), UINT8_C(48), UINT8_C(48), UINT8_C(48), UINT8_C(48), UINT8_C(48), UINT8_C(48), UINT8_C(48), UINT8_C(48), UINT8_C(48), UINT8_C(48), UINT8_C(48), UINT8_C(48), UINT8_C(48), UINT8_C(48), UINT8_C(48), UINT8_C(48), UINT8_C(48), UINT8_C(48), UINT8_C(48), UINT8_C(48), UINT8_C(48), UINT8_C(48), UINT8_C(48), UINT8_C(89), UINT8_C(48), UINT8_C(48), UINT8_C(48), UINT8_C(48), UINT8_C(48), UINT8_C(48), UINT8_C(48), UINT8_C(48), UINT8_C(48), UINT8_C(48), UINT8_C(48), UINT8_C(48), UINT8_C(48), UINT8_C(48), UINT8_C(48), UINT8_C(48), UINT8_C(48), UINT8_C(48), UINT8_C(48), UINT8_C(48), UINT8_C(48), UINT8_C(48), UINT8_C(48), UINT8_C(48), UINT8_C(48), UINT8_C(48), UINT8_C(48), UINT8_C(48), UINT8_C(48), UINT8_C(48), UINT8_C(48), UINT8_C(48), UINT8_C(48), UINT8_C(48), UINT8_C(48), UINT8_C(48), UINT8_C(83), UINT8_C(48), UINT8_C(48), UINT8_C(48), UINT8_C(48), UINT8_C(48), UINT8_C(48), UINT8_C(48), UINT8_C(48), UINT8_C(48), UINT8_C(48), UINT8_C(48), UINT8_C(48), UINT8_C(48), UINT8_C(48), UINT8_C(48), UINT8_C(48), UINT8_C(48), UINT8_C(48), UINT8_C(48), UINT8_C(48), UINT8_C(48), UINT8_C(48), UINT8_C(48), UINT8_C(48), UINT8_C(48), UINT8_C(48), UINT8_C(48), UINT8_C(48), UINT8_C(48), UINT8_C(48), UINT8_C(48), UINT8_C(48), UINT8_C(48), UINT8_C(48), UINT8_C(48), UINT8_C(48), UINT8_C(48), UINT8_C(48), UINT8_C(48), UINT8_C(48), UINT8_C(48), UINT8_C(48), UINT8_C(48), UINT8_C(48), UINT8_C(48), UINT8_C(48), UINT8_C(48), UINT8_C(48), UINT8_C(48), UINT8_C(48), UINT8_C(48), UINT8_C(48), UINT8_C(48), UINT8_C(48), UINT8_C(48), UINT8_C(48), UINT8_C(48), UINT8_C(48), UINT8_C(48), UINT8_C(48), UINT8_C(48), UINT8_C(48), UINT8_C(48), UINT8_C(48), UINT8_C(48), UINT8_C(48), UINT8_C(48), UINT8_C(48), UINT8_C(48), UINT8_C(48), UINT8_C(48), UINT8_C(48), UINT8_C(48), UINT8_C(48), UINT8_C(48), UINT8_C(48), UINT8_C(48), UINT8_C(84), UINT8_C(48), UINT8_C(48), UINT8_C(48), UINT8_C(48), UINT8_C(48), UINT8_C(48), UINT8_C(48), UINT8_C(48), UINT8_C(48), UINT8_C(48), UINT8_C(48), UINT8_C(48), UINT8_C(48), UINT8_C(48), UINT8_C(48), UINT8_C(48), UINT8_C(48), UINT8_C(48), UINT8_C(48), UINT8_C(48), UINT8_C(48), UINT8_C(48), UINT8_C(48), UINT8_C(48), UINT8_C(48), UINT8_C(48), UINT8_C(48), UINT8_C(48), UINT8_C(48), UINT8_C(48), UINT8_C(48), UINT8_C(48), UINT8_C(48), UINT8_C(48), UINT8_C(48), UINT8_C(48), UINT8_C(48), UINT8_C(48), UINT8_C(48), UINT8_C(48), UINT8_C(48), UINT8_C(48), UINT8_C(48), UINT8_C(48), UINT8_C(48), UINT8_C(48), UINT8_C(48), UINT8_C(48), UINT8_C(48), UINT8_C(48), UINT8_C(48), UINT8_C(48), UINT8_C(48), UINT8_C(48), UINT8_C(48), UINT8_C(48), UINT8_C(48), UINT8_C(48), UINT8_C(48), UINT8_C(48), UINT8_C(48), UINT8_C(48), UINT8_C(48), UINT8_C(48), UINT8_C(48), UINT8_C(48), UINT8_C(48), UINT8_C(48), UINT8_C(48), UINT8_C(48), UINT8_C(48), UINT8_C(48), UINT8_C(48), UINT8_C(48), UINT8_C(48), UINT8_C(48), UINT8_C(48), UINT8_C(48), UINT8_C(48), UINT8_C(48), UINT8_C(48), UINT8_C(48), UINT8_C(48), UINT8_C(48), UINT8_C(48), UINT8_C(48), UINT8_C(48), UINT8_C(48), UINT8_C(48), UINT8_C(48), UINT8_C(48), UINT8_C(48), UINT8_C(48), UINT8_C(48), UINT8_C(48), UINT8_C(48), UINT8_C(48), UINT8_C(48), UINT8_C(48), UINT8_C(48), UINT8_C(48), UINT8_C(48), UINT8_C(48), UINT8_C(48), UINT8_C(48), UINT8_C(48), UINT8_C(48), UINT8_C(48), UINT8_C(48), UINT8_C(48), UINT8_C(48), UINT8_C(48), UINT8_C(48), UINT8_C(48), UINT8_C(48), UINT8_C(48), UINT8_C(83), UINT8_C(48), UINT8_C(48), UINT8_C(48), UINT8_C(48), UINT8_C(48), UINT8_C(48), UINT8_C(48), UINT8_C(48), UINT8_C(48), UINT8_C(48), UINT8_C(48), UINT8_C(48), UINT8_C(48), UINT8_C(48), UINT8_C(48), UINT8_C(48), UINT8_C(48), UINT8_C(48), UINT8_C(48), UINT8_C(48), UINT8_C(48), UINT8_C(48), UINT8_C(48), UINT8_C(48), UINT8_C(48), UINT8_C(48), UINT8_C(48), UINT8_C(48), UINT8_C(48), UINT8_C(48), UINT8_C(48), UINT8_C(48), UINT8_C(48), UINT8_C(48), UINT8_C(48), UINT8_C(48), UINT8_C(48), UINT8_C(48), UINT8_C(48), UINT8_C(48), UINT8_C(48), UINT8_C(48), UINT8_C(48), UINT8_C(48), UINT8_C(48), UINT8_C(48), UINT8_C(48), UINT8_C(48), UINT8_C(48), UINT8_C(48), UINT8_C(48), UINT8_C(48), UINT8_C(48), UINT8_C(48), UINT8_C(48), UINT8_C(48), UINT8_C(48), UINT8_C(48), UINT8_C(48), UINT8_C(48), UINT8_C(48), UINT8_C(48), UINT8_C(48), UINT8_C(48), UINT8_C(48), UINT8_C(48), UINT8_C(48), UINT8_C(48), UINT8_C(48), UINT8_C(48), UINT8_C(48), UINT8_C(48), UINT8_C(48), UINT8_C(48), UINT8_C(48), UINT8_C(48), UINT8_C(48), UINT8_C(48), UINT8_C(48), UINT8_C(48), UINT8_C(48), UINT8_C(48), UINT8_C(48), UINT8_C(48), UINT8_C(48), UINT8_C(48), UINT8_C(48), UINT8_C(48), UINT8_C(48), UINT8_C(48), UINT8_C(48), UINT8_C(48), UINT8_C(48), UINT8_C(48), UINT8_C(48), UINT8_C(48), UINT8_C(48), UINT8_C(48), UINT8_C(48), UINT8_C(48), UINT8_C(48), UINT8_C(48), UINT8_C(48), UINT8_C(48), UINT8_C(48), UINT8_C(48), UINT8_C(48), UINT8_C(48), UINT8_C(48), UINT8_C(48), UINT8_C(48), UINT8_C(48), UINT8_C(48), UINT8_C(48), UINT8_C(48), UINT8_C(48), UINT8_C(48), UINT8_C(48), UINT8_C(48), UINT8_C(48), UINT8_C(48), UINT8_C(48), UINT8_C(48), UINT8_C(48), UINT8_C(48), UINT8_C(48), UINT8_C(48), UINT8_C(48), UINT8_C(48), UINT8_C(48), UINT8_C(48), UINT8_C(48), UINT8_C(48), UINT8_C(48), UINT8_C(48), UINT8_C(48), UINT8_C(48), UINT8_C(48), UINT8_C(48), UINT8_C(48), UINT8_C(48), UINT8_C(48), UINT8_C(48), UINT8_C(48), UINT8_C(48), UINT8_C(48), UINT8_C(48), UINT8_C(48), UINT8_C(48), UINT8_C(48), UINT8_C(48), UINT8_C(48), UINT8_C(48), UINT8_C(48), UINT8_C(48), UINT8_C(48), UINT8_C(48), UINT8_C(48), UINT8_C(48), UINT8_C(48), UINT8_C(48), UINT8_C(48), UINT8_C(48), UINT8_C(48), UINT8_C(48), UINT8_C(48), UINT8_C(48), UINT8_C(48), UINT8_C(48), UINT8_C(48), UINT8_C(48), UINT8_C(48), UINT8_C(48), UINT8_C(48), UINT8_C(48), UINT8_C(48), UINT8_C(48), UINT8_C(48), UINT8_C(48), UINT8_C(48), UINT8_C(48), UINT8_C(48), UINT8_C(48), UINT8_C(48), UINT8_C(48), UINT8_C(48), UINT8_C(48), UINT8_C(48), UINT8_C(48), UINT8_C(48), UINT8_C(48), UINT8_C(48), UINT8_C(48), UINT8_C(48), UINT8_C(82), UINT8_C(48), UINT8_C(48), UINT8_C(48), UINT8_C(48), UINT8_C(48), UINT8_C(48), UINT8_C(48), UINT8_C(48), UINT8_C(48), UINT8_C(48), UINT8_C(48), UINT8_C(48), UINT8_C(48), UINT8_C(48), UINT8_C(48), UINT8_C(48), UINT8_C(48), UINT8_C(48), UINT8_C(48), UINT8_C(48), UINT8_C(48), UINT8_C(48), UINT8_C(48), UINT8_C(48), UINT8_C(48), UINT8_C(48), UINT8_C(48), UINT8_C(48), UINT8_C(48), UINT8_C(48), UINT8_C(48), UINT8_C(48), UINT8_C(48), UINT8_C(48), UINT8_C(48), UINT8_C(48), UINT8_C(48), UINT8_C(48), UINT8_C(48), UINT8_C(48), UINT8_C(48), UINT8_C(48), UINT8_C(48), UINT8_C(48), UINT8_C(48), UINT8_C(48), UINT8_C(48), UINT8_C(48), UINT8_C(48), UINT8_C(48), UINT8_C(48), UINT8_C(48), UINT8_C(48), UINT8_C(48), UINT8_C(48), UINT8_C(48), UINT8_C(48), UINT8_C(48), UINT8_C(48), UINT8_C(48), UINT8_C(48), UINT8_C(48), UINT8_C(48), UINT8_C(48), UINT8_C(48), UINT8_C(48), UINT8_C(48), UINT8_C(48), UINT8_C(48), UINT8_C(48), UINT8_C(48), UINT8_C(48), UINT8_C(48), UINT8_C(48), UINT8_C(48), UINT8_C(48), UINT8_C(48), UINT8_C(48), UINT8_C(48), UINT8_C(48), UINT8_C(48), UINT8_C(48), UINT8_C(48), UINT8_C(48), UINT8_C(48), UINT8_C(48), UINT8_C(48), UINT8_C(48), UINT8_C(48), UINT8_C(48), UINT8_C(48), UINT8_C(48), UINT8_C(48), UINT8_C(48), UINT8_C(48), UINT8_C(48), UINT8_C(48), UINT8_C(48), UINT8_C(48), UINT8_C(48), UINT8_C(48), UINT8_C(48), UINT8_C(48), UINT8_C(48), UINT8_C(48), UINT8_C(48), UINT8_C(48), UINT8_C(48), UINT8_C(48), UINT8_C(48), UINT8_C(48), UINT8_C(48), UINT8_C(48), UINT8_C(48), UINT8_C(48), UINT8_C(48), UINT8_C(48), UINT8_C(48), UINT8_C(48), UINT8_C(48), UINT8_C(48), UINT8_C(48), UINT8_C(48), UINT8_C(48), UINT8_C(48), UINT8_C(48), UINT8_C(90), UINT8_C(90), UINT8_C(90), UINT8_C(90), UINT8_C(90), UINT8_C(90), UINT8_C(83), UINT8_C(83), UINT8_C(83), UINT8_C(83), UINT8_C(83), UINT8_C(83), UINT8_C(83), UINT8_C(48), UINT8_C(48), UINT8_C(48), UINT8_C(48), UINT8_C(48), UINT8_C(48), UINT8_C(48), UINT8_C(48), UINT8_C(48), UINT8_C(48), UINT8_C(48), UINT8_C(48), UINT8_C(48), UINT8_C(48), UINT8_C(48), UINT8_C(48), UINT8_C(48), UINT8_C(48), UINT8_C(48), UINT8_C(48), UINT8_C(84), UINT8_C(48), UINT8_C(48), UINT8_C(48), UINT8_C(48), UINT8_C(48), UINT8_C(91), UINT8_C(91), UINT8_C(91), UINT8_C(91), UINT8_C(91), UINT8_C(91), UINT8_C(84), UINT8_C(84), UINT8_C(84), UINT8_C(84), UINT8_C(84), UINT8_C(84), UINT8_C(84), UINT8_C(48), UINT8_C(48), UINT8_C(48), UINT8_C(48), UINT8_C(48), UINT8_C(48), UINT8_C(48), UINT8_C(48), UINT8_C(48), UINT8_C(48), UINT8_C(48), UINT8_C(48), UINT8_C(48), UINT8_C(48), UINT8_C(48), UINT8_C(48), UINT8_C(48), UINT8_C(48), UINT8_C(48), UINT8_C(48), UINT8_C(85), UINT8_C(48), UINT8_C(48), UINT8_C(48), UINT8_C(48), UINT8_C(48), UINT8_C(92), UINT8_C(92), UINT8_C(92), UINT8_C(92), UINT8_C(92), UINT8_C(92), UINT8_C(85), UINT8_C(85), UINT8_C(85), UINT8_C(85), UINT8_C(85), UINT8_C(85), UINT8_C(85), UINT8_C(48), UINT8_C(48), UINT8_C(48), UINT8_C(48), UINT8_C(48), UINT8_C(48), UINT8_C(48), UINT8_C(48), UINT8_C(48), UINT8_C(48), UINT8_C(48), UINT8_C(48), UINT8_C(48), UINT8_C(48), UINT8_C(48), UINT8_C(48), UINT8_C(48), UINT8_C(48), UINT8_C(48), UINT8_C(48), UINT8_C(48), UINT8_C(48), UINT8_C(48), UINT8_C(48), UINT8_C(48), UINT8_C(48), UINT8_C(93), UINT8_C(93), UINT8_C(93), UINT8_C(93), UINT8_C(93), UINT8_C(93), UINT8_C(86), UINT8_C(86), UINT8_C(86), UINT8_C(86), UINT8_C(86), UINT8_C(86), UINT8_C(86), UINT8_C(48), UINT8_C(48), UINT8_C(48), UINT8_C(48), UINT8_C(48), UINT8_C(48), UINT8_C(48), UINT8_C(48), UINT8_C(48), UINT8_C(48), UINT8_C(48), UINT8_C(48), UINT8_C(48), UINT8_C(48), UINT8_C(48), UINT8_C(48), UINT8_C(48), UINT8_C(48), UINT8_C(48), UINT8_C(48), UINT8_C(48), UINT8_C(48), UINT8_C(48), UINT8_C(48), UINT8_C(48), UINT8_C(48), UINT8_C(94), UINT8_C(94), UINT8_C(94), UINT8_C(94), UINT8_C(94), UINT8_C(94), UINT8_C(87), UINT8_C(87), UINT8_C(87), UINT8_C(87), UINT8_C(87), UINT8_C(87), UINT8_C(87), UINT8_C(48), UINT8_C(48), UINT8_C(48), UINT8_C(48), UINT8_C(48), UINT8_C(48), UINT8_C(48), UINT8_C(48), UINT8_C(48), UINT8_C(48), UINT8_C(48), UINT8_C(48), UINT8_C(48), UINT8_C(48), UINT8_C(48), UINT8_C(48), UINT8_C(48), UINT8_C(48), UINT8_C(48), UINT8_C(48), UINT8_C(48), UINT8_C(48), UINT8_C(48), UINT8_C(48), UINT8_C(48), UINT8_C(48), UINT8_C(48), UINT8_C(48), UINT8_C(48), UINT8_C(48), UINT8_C(48), UINT8_C(48), UINT8_C(48), UINT8_C(48), UINT8_C(48), UINT8_C(48), UINT8_C(48), UINT8_C(48), UINT8_C(48), UINT8_C(48), UINT8_C(48), UINT8_C(48), UINT8_C(48), UINT8_C(48), UINT8_C(48), UINT8_C(48), UINT8_C(48), UINT8_C(48), UINT8_C(48), UINT8_C(48), UINT8_C(48), UINT8_C(48), UINT8_C(48), UINT8_C(48), UINT8_C(48), UINT8_C(48), UINT8_C(48), UINT8_C(48), UINT8_C(48), UINT8_C(48), UINT8_C(48), UINT8_C(48), UINT8_C(48), UINT8_C(48), UINT8_C(48), UINT8_C(48), UINT8_C(48), UINT8_C(48), UINT8_C(48), UINT8_C(48), UINT8_C(48), UINT8_C(48), UINT8_C(48), UINT8_C(48), UINT8_C(48), UINT8_C(48), UINT8_C(48), UINT8_C(48), UINT8_C(48), UINT8_C(48), UINT8_C(48), UINT8_C(48), UINT8_C(48), UINT8_C(48), UINT8_C(48), UINT8_C(48), UINT8_C(48), UINT8_C(48), UINT8_C(48), UINT8_C(48), UINT8_C(48), UINT8_C(48), UINT8_C(48), UINT8_C(48), UINT8_C(48), UINT8_C(48), UINT8_C(48), UINT8_C(48), UINT8_C(48), UINT8_C(48), UINT8_C(48), UINT8_C(48), UINT8_C(48), UINT8_C(48), UINT8_C(48), UINT8_C(48), UINT8_C(48), UINT8_C(48), UINT8_C(48), UINT8_C(48), UINT8_C(90), UINT8_C(90), UINT8_C(90), UINT8_C(90), UINT8_C(90), UINT8_C(83), UINT8_C(83), UINT8_C(48), UINT8_C(48), UINT8_C(48), UINT8_C(48), UINT8_C(48), UINT8_C(48), UINT8_C(48), UINT8_C(48), UINT8_C(48), UINT8_C(48), UINT8_C(48), UINT8_C(48), UINT8_C(48), UINT8_C(48), UINT8_C(48), UINT8_C(48), UINT8_C(48), UINT8_C(48), UINT8_C(48), UINT8_C(48), UINT8_C(84), UINT8_C(48), UINT8_C(48), UINT8_C(48), UINT8_C(48), UINT8_C(48), UINT8_C(48), UINT8_C(48), UINT8_C(48), UINT8_C(48), UINT8_C(48), UINT8_C(48), UINT8_C(91), UINT8_C(91), UINT8_C(91), UINT8_C(91), UINT8_C(91), UINT8_C(84), UINT8_C(84), UINT8_C(48), UINT8_C(48), UINT8_C(48), UINT8_C(48), UINT8_C(48), UINT8_C(48), UINT8_C(48), UINT8_C(48), UINT8_C(48), UINT8_C(48), UINT8_C(48), UINT8_C(48), UINT8_C(48), UINT8_C(48), UINT8_C(48), UINT8_C(48), UINT8_C(48), UINT8_C(48), UINT8_C(48), UINT8_C(48), UINT8_C(85), UINT8_C(48), UINT8_C(48), UINT8_C(48), UINT8_C(48), UINT8_C(48), UINT8_C(48), UINT8_C(48), UINT8_C(48), UINT8_C(48), UINT8_C(48), UINT8_C(48), UINT8_C(92), UINT8_C(92), UINT8_C(92), UINT8_C(92), UINT8_C(92), UINT8_C(85), UINT8_C(85), UINT8_C(48), UINT8_C(48), UINT8_C(48), UINT8_C(48), UINT8_C(48), UINT8_C(48), UINT8_C(48), UINT8_C(48), UINT8_C(48), UINT8_C(48), UINT8_C(48), UINT8_C(48), UINT8_C(48), UINT8_C(48), UINT8_C(48), UINT8_C(48), UINT8_C(48), UINT8_C(48), UINT8_C(48), UINT8_C(48), UINT8_C(48), UINT8_C(48), UINT8_C(48), UINT8_C(48), UINT8_C(48), UINT8_C(48), UINT8_C(48), UINT8_C(48), UINT8_C(48), UINT8_C(48), UINT8_C(48), UINT8_C(48), UINT8_C(93), UINT8_C(93), UINT8_C(93), UINT8_C(93), UINT8_C(93), UINT8_C(86), UINT8_C(86), UINT8_C(48), UINT8_C(48), UINT8_C(48), UINT8_C(48), UINT8_C(48), UINT8_C(48), UINT8_C(48), UINT8_C(48), UINT8_C(48), UINT8_C(48), UINT8_C(48), UINT8_C(48), UINT8_C(48), UINT8_C(48), UINT8_C(48), UINT8_C(48), UINT8_C(48), UINT8_C(48), UINT8_C(48), UINT8_C(48), UINT8_C(48), UINT8_C(48), UINT8_C(48), UINT8_C(48), UINT8_C(48), UINT8_C(48), UINT8_C(48), UINT8_C(48), UINT8_C(48), UINT8_C(48), UINT8_C(48), UINT8_C(48), UINT8_C(94), UINT8_C(94), UINT8_C(94), UINT8_C(94), UINT8_C(94), UINT8_C(87), UINT8_C(87), UINT8_C(48), UINT8_C(48), UINT8_C(48) } };
-static inline struct derive__Mark derive__step(rt_slice l1, struct derive__Mark l2, uint8_t l3)
-{
-    struct derive__Mark l0;
-    uint8_t l4;
-    uint8_t *l7;
-    rt_slice l8;
-    uint8_t *l9;
-    rt_slice l10;
-    uint8_t *l11;
-    rt_slice l12;
-    uint64_t l13;
-    l4 = l2.f0;
-    l7 = (uint8_t *)&derive__step__l5;
-    l8.p = l7;
-    l8.n = UINT64_C(1833);
-    l9 = (uint8_t *)&derive__step__l6;
-    l10.p = l9;
-    l10.n = UINT64_C(1833);
-    l11 = (uint8_t *)&(*(uint8_t *)l1.p);
-    l12.p = l11;
-    l12.n = l1.n;
-    l13 = derive__index(l4, l3);
-    l0 = derive__moved(l8, l10, l12, l2, l3, l13);
-    return l0;
-}
-
 static inline uint8_t derive__table__mark(rt_slice l1, uint64_t l2)
 {
     uint8_t l0;
@@ -5994,6 +6074,20 @@ end1:;
     return l0;
 }
 
+static inline uint64_t holders__holder_of(struct rt_array_holders__Record_256 l1, uint64_t l2, uint64_t l3, uint64_t l4)
+{
+    uint64_t l0;
+    struct rt_array_holders__Record_256 l5;
+    uint8_t *l6;
+    rt_slice l7;
+    l5 = l1;
+    l6 = (uint8_t *)&l5;
+    l7.p = l6;
+    l7.n = UINT64_C(256);
+    l0 = holders__holder(l7, l2, l3, l4);
+    return l0;
+}
+
 static inline struct rt_array_holders__Record_256 holders__records(rt_slice l1, uint64_t l2)
 {
     struct rt_array_holders__Record_256 l0;
@@ -6821,6 +6915,13 @@ static inline uint64_t layout__cell(uint8_t l1, uint64_t l2)
     l5 = (uint64_t)((uint64_t)UINT64_C(1) + (uint64_t)l4);
     l6 = (uint64_t)((uint64_t)UINT64_C(4294967296) * (uint64_t)l2);
     l0 = (uint64_t)((uint64_t)l5 + (uint64_t)l6);
+    return l0;
+}
+
+static inline uint8_t layout__due(struct layout__Numbers l1)
+{
+    uint8_t l0;
+    l0 = (uint8_t)(UINT64_C(0) < l1.f5);
     return l0;
 }
 
@@ -13500,47 +13601,324 @@ static inline uint64_t text__value(rt_slice l1, uint64_t l2, uint64_t l3, uint64
     return l0;
 }
 
-static inline uint64_t text_place__place(rt_slice l1)
+static inline struct trace_images__Traced trace_images__begun(struct load__Loaded l1, struct seating__Params l2, rt_slice l3, rt_slice l4, rt_slice l5, uint64_t l6, rt_slice l7)
 {
-    uint64_t l0;
-    uint64_t l2;
-    struct rt_array_uint8_65536 l3;
-    struct rt_array_uint8_65537 l4;
-    uint8_t l5;
-    uint8_t *l6;
-    rt_slice l7;
-    uint8_t *l8;
-    rt_slice l9;
-    l2 = l1.n;
-    l5 = (uint8_t)(UINT64_C(65536) < l2);
-    if (l5) {
-        l0 = UINT64_C(65536);
+    struct trace_images__Traced l0;
+    struct rt_array_uint8_16 l8;
+    struct rt_array_uint8_128 l9;
+    uint64_t l10;
+    uint64_t l11;
+    rt_slice l12;
+    rt_slice l13;
+    struct rt_array_uint16_1536 l14;
+    struct rt_array_uint64_8192 l15;
+    struct seating__SeatRead l16;
+    struct seating__Seat l17;
+    struct trace_images__telling__Start l18;
+    struct trace_images__telling__Telling l19;
+    struct trace_lines__Coming l20;
+    uint8_t *l21;
+    uint8_t *l22;
+    uint8_t *l23;
+    rt_slice l24;
+    uint8_t *l25;
+    rt_slice l26;
+    uint8_t l27;
+    uint8_t *l28;
+    rt_slice l29;
+    uint64_t l30;
+    uint8_t l31;
+    uint8_t *l32;
+    rt_slice l33;
+    uint8_t *l34;
+    rt_slice l35;
+    uint8_t *l36;
+    rt_slice l37;
+    uint8_t *l38;
+    rt_slice l39;
+    uint8_t *l40;
+    rt_slice l41;
+    l8 = l2.f0;
+    l9 = l2.f1;
+    l10 = (uint64_t)l1.f3;
+    l11 = (uint64_t)((uint64_t)UINT64_C(8) * (uint64_t)l10);
+    l21 = (uint8_t *)&l8;
+    l12.p = l21;
+    l12.n = l10;
+    l22 = (uint8_t *)&l9;
+    l13.p = l22;
+    l13.n = l11;
+    memset(&l14, 0, sizeof l14);
+    memset(&l15, 0, sizeof l15);
+    l23 = (uint8_t *)&l14;
+    l24.p = l23;
+    l24.n = UINT64_C(1536);
+    l25 = (uint8_t *)&l15;
+    l26.p = l25;
+    l26.n = UINT64_C(8192);
+    l16 = trace_images__seated(l1.f1, l12, l13, l4, l24, l26);
+    switch (l16.tag) {
+        case UINT8_C(0): {
+            l17 = l16.s0;
+            break;
+        }
+        case UINT8_C(1): default: {
+            l27 = seating__refusal(l16);
+            l28 = (uint8_t *)&(*(uint8_t *)l7.p);
+            l29.p = l28;
+            l29.n = l7.n;
+            l0 = trace_images__pages__refused(l27, l6, l29);
+            return l0;
+            break;
+        }
+    }
+    l30 = l5.n;
+    l31 = (uint8_t)(UINT64_C(65536) < l30);
+    if (l31) {
+        l32 = (uint8_t *)&(*(uint8_t *)l7.p);
+        l33.p = l32;
+        l33.n = l7.n;
+        l0 = trace_images__pages__refused(UINT8_C(14), l6, l33);
         return l0;
     }
-    memset(&l3, 0, sizeof l3);
-    memset(&l4, 0, sizeof l4);
-    l6 = (uint8_t *)&l3;
-    l7.p = l6;
-    l7.n = l2;
-    l8 = (uint8_t *)&l4;
-    l9.p = l8;
-    l9.n = UINT64_C(65537);
-    l0 = text_place__stopped(l1, l7, l9);
+    l18.f0 = l17;
+    l18.f1 = l6;
+    l34 = (uint8_t *)&l14;
+    l35.p = l34;
+    l35.n = UINT64_C(1536);
+    l36 = (uint8_t *)&l15;
+    l37.p = l36;
+    l37.n = UINT64_C(8192);
+    l38 = (uint8_t *)&(*(uint8_t *)l7.p);
+    l39.p = l38;
+    l39.n = l7.n;
+    l19 = trace_images__telling__play(l3, l12, l18, l35, l37, l5, l39);
+    l20 = l19.f0;
+    l40 = (uint8_t *)&(*(uint8_t *)l7.p);
+    l41.p = l40;
+    l41.n = l7.n;
+    l0 = trace_images__pages__ended(l19.f3, l19.f1, l20.f2, l41);
     return l0;
 }
 
-static inline uint64_t text_place__stopped(rt_slice l1, rt_slice l2, rt_slice l3)
+static inline struct trace_images__pages__Page trace_images__pages__blank(uint64_t l1)
+{
+    struct trace_images__pages__Page l0;
+    l0.f0 = l1;
+    l0.f1 = UINT64_C(0);
+    return l0;
+}
+
+static const struct rt_array_uint8_3 trace_images__pages__ended__l9 = { { UINT8_C(101), UINT8_C(110), UINT8_C(100) } };
+static inline struct trace_images__Traced trace_images__pages__ended(struct trace_images__pages__Page l1, uint8_t l2, uint64_t l3, rt_slice l4)
+{
+    struct trace_images__Traced l0;
+    struct rt_array_uint8_1024 l5;
+    uint64_t l6;
+    struct trace_images__pages__Page l7;
+    uint64_t l8;
+    uint8_t *l10;
+    rt_slice l11;
+    uint8_t *l12;
+    rt_slice l13;
+    struct rt_array_uint64_2 l14;
+    uint64_t l15;
+    uint64_t l16;
+    uint8_t *l17;
+    rt_slice l18;
+    uint8_t *l19;
+    rt_slice l20;
+    uint8_t *l21;
+    rt_slice l22;
+    uint64_t l23;
+    uint64_t l24;
+    uint32_t l25;
+    memset(&l5, 0, sizeof l5);
+    l10 = (uint8_t *)&l5;
+    l11.p = l10;
+    l11.n = UINT64_C(1024);
+    l12 = (uint8_t *)&trace_images__pages__ended__l9;
+    l13.p = l12;
+    l13.n = UINT64_C(3);
+    l15 = (uint64_t)l2;
+    l16 = l3;
+    l14 = (struct rt_array_uint64_2){ { l15, l16 } };
+    l17 = (uint8_t *)&l14;
+    l18.p = l17;
+    l18.n = UINT64_C(2);
+    l6 = text__lines__row(l11, UINT64_C(0), l13, l18);
+    l19 = (uint8_t *)&l5;
+    l20.p = l19;
+    l20.n = l6;
+    l21 = (uint8_t *)&(*(uint8_t *)l4.p);
+    l22.p = l21;
+    l22.n = l4.n;
+    l7 = trace_images__pages__put(l1, l20, l22);
+    l23 = l4.n;
+    l24 = trace_images__pages__minus(l7.f1, l7.f0);
+    l8 = trace_images__pages__least(l23, l24);
+    l25 = (uint32_t)l3;
+    l0.f0 = l2;
+    l0.f1 = l25;
+    l0.f2 = l7.f1;
+    l0.f3 = l8;
+    return l0;
+}
+
+static inline uint64_t trace_images__pages__least(uint64_t l1, uint64_t l2)
 {
     uint64_t l0;
+    uint8_t l3;
+    l3 = (uint8_t)(l1 < l2);
+    if (l3) {
+        l0 = l1;
+        return l0;
+    }
+    l0 = l2;
+    return l0;
+}
+
+static inline uint64_t trace_images__pages__minus(uint64_t l1, uint64_t l2)
+{
+    uint64_t l0;
+    uint8_t l3;
+    l3 = (uint8_t)(l1 < l2);
+    if (l3) {
+        l0 = UINT64_C(0);
+        return l0;
+    }
+    l0 = (uint64_t)((uint64_t)l1 - (uint64_t)l2);
+    return l0;
+}
+
+static inline struct trace_images__pages__Page trace_images__pages__put(struct trace_images__pages__Page l1, rt_slice l2, rt_slice l3)
+{
+    struct trace_images__pages__Page l0;
     uint64_t l4;
-    uint8_t l5;
-    uint8_t *l6;
-    rt_slice l7;
-    uint8_t l8;
-    uint8_t *l9;
-    rt_slice l10;
-    uint8_t *l11;
-    rt_slice l12;
+    uint64_t l5;
+    uint64_t l6;
+    uint64_t l7;
+    uint64_t l8;
+    uint64_t l9;
+    uint64_t l10;
+    uint64_t l11;
+    uint8_t *l13;
+    rt_slice l14;
+    uint8_t *l15;
+    uint8_t *l16;
+    rt_slice l17;
+    l7 = l3.n;
+    l8 = trace_images__pages__minus(l1.f1, l1.f0);
+    l4 = trace_images__pages__least(l7, l8);
+    l7 = l2.n;
+    l8 = trace_images__pages__minus(l1.f0, l1.f1);
+    l5 = trace_images__pages__least(l7, l8);
+    l8 = l2.n;
+    l9 = (uint64_t)((uint64_t)l8 - (uint64_t)l5);
+    l10 = l3.n;
+    l11 = (uint64_t)((uint64_t)l10 - (uint64_t)l4);
+    l7 = trace_images__pages__least(l9, l11);
+    l6 = (uint64_t)((uint64_t)l5 + (uint64_t)l7);
+    l13 = (uint8_t *)&(*(uint8_t *)l3.p);
+    l14.p = l13;
+    l14.n = l3.n;
+    l15 = l2.p + (size_t)l5;
+    l7 = (uint64_t)((uint64_t)l6 - (uint64_t)l5);
+    l16 = (uint8_t *)&(*(uint8_t *)l15);
+    l17.p = l16;
+    l17.n = l7;
+    block__put__copy(l14, l4, l17);
+    l11 = l2.n;
+    l7 = (uint64_t)((uint64_t)l1.f1 + (uint64_t)l11);
+    l0.f0 = l1.f0;
+    l0.f1 = l7;
+    return l0;
+}
+
+static inline struct trace_images__Traced trace_images__pages__refused(uint8_t l1, uint64_t l2, rt_slice l3)
+{
+    struct trace_images__Traced l0;
+    struct trace_images__pages__Page l4;
+    uint8_t *l5;
+    rt_slice l6;
+    l4 = trace_images__pages__blank(l2);
+    l5 = (uint8_t *)&(*(uint8_t *)l3.p);
+    l6.p = l5;
+    l6.n = l3.n;
+    l0 = trace_images__pages__ended(l4, l1, UINT64_C(0), l6);
+    return l0;
+}
+
+static inline struct seating__SeatRead trace_images__seated(uint64_t l1, rt_slice l2, rt_slice l3, rt_slice l4, rt_slice l5, rt_slice l6)
+{
+    struct seating__SeatRead l0;
+    struct rt_array_uint8_8568 l7;
+    uint8_t *l8;
+    rt_slice l9;
+    uint8_t *l10;
+    rt_slice l11;
+    uint8_t *l12;
+    rt_slice l13;
+    memset(&l7, 0, sizeof l7);
+    l8 = (uint8_t *)&l7;
+    l9.p = l8;
+    l9.n = UINT64_C(8568);
+    l10 = (uint8_t *)&(*(uint16_t *)l5.p);
+    l11.p = l10;
+    l11.n = l5.n;
+    l12 = (uint8_t *)&(*(uint64_t *)l6.p);
+    l13.p = l12;
+    l13.n = l6.n;
+    l0 = seating__seat_table(l1, l2, l3, l4, l9, l11, l13);
+    return l0;
+}
+
+static inline struct trace_images__telling__Telling trace_images__telling__behind(struct engine__Machine l1, uint64_t l2, uint64_t l3, struct trace_images__pages__Page l4)
+{
+    struct trace_images__telling__Telling l0;
+    struct trace_lines__Coming l5;
+    l5.f0 = l1;
+    l5.f1 = l2;
+    l5.f2 = l3;
+    l5.f3 = UINT8_C(0);
+    l0.f0 = l5;
+    l0.f1 = l1.f0.f4;
+    l0.f2 = 0;
+    l0.f3 = l4;
+    return l0;
+}
+
+static inline struct trace_images__telling__Telling trace_images__telling__first(struct trace_images__telling__Start l1)
+{
+    struct trace_images__telling__Telling l0;
+    struct layout__Numbers l2;
+    struct engine__Machine l3;
+    struct trace_lines__Coming l4;
+    struct trace_images__pages__Page l5;
+    l2 = l1.f0.f1;
+    l3.f0 = l2;
+    l4.f0 = l3;
+    l4.f1 = UINT64_C(0);
+    l4.f2 = UINT64_C(0);
+    l4.f3 = UINT8_C(0);
+    l5 = trace_images__pages__blank(l1.f1);
+    l0.f0 = l4;
+    l0.f1 = UINT8_C(0);
+    l0.f2 = 0;
+    l0.f3 = l5;
+    return l0;
+}
+
+static inline struct trace_images__telling__Telling trace_images__telling__moved(struct trace_images__telling__Telling l1, rt_slice l2, rt_slice l3, rt_slice l4, rt_slice l5)
+{
+    struct trace_images__telling__Telling l0;
+    struct trace_lines__Coming l6;
+    struct engine__Machine l7;
+    struct rt_array_uint8_1024 l8;
+    struct trace_lines__Told l9;
+    struct engine__Machine l10;
+    uint64_t l11;
+    struct trace_images__pages__Page l12;
     uint8_t *l13;
     rt_slice l14;
     uint8_t *l15;
@@ -13549,166 +13927,1187 @@ static inline uint64_t text_place__stopped(rt_slice l1, rt_slice l2, rt_slice l3
     rt_slice l18;
     uint8_t *l19;
     rt_slice l20;
-    l6 = (uint8_t *)&(*(uint8_t *)l2.p);
-    l7.p = l6;
-    l7.n = l2.n;
-    l5 = lexer__mark(l1, l7);
-    l8 = (uint8_t)!l5;
-    if (l8) {
-        l0 = text_place__unmarked(l1);
-        return l0;
-    }
-    l9 = (uint8_t *)&(*(uint8_t *)l2.p);
-    l10.p = l9;
-    l10.n = l2.n;
-    l11 = (uint8_t *)&(*(uint8_t *)l3.p);
-    l12.p = l11;
-    l12.n = l3.n;
-    l4 = text_place__stuck(l10, l12);
-    l13 = (uint8_t *)&(*(uint8_t *)l2.p);
+    l6 = l1.f0;
+    l7 = l6.f0;
+    memset(&l8, 0, sizeof l8);
+    l13 = (uint8_t *)&(*(uint16_t *)l4.p);
     l14.p = l13;
-    l14.n = l2.n;
-    l15 = (uint8_t *)&(*(uint8_t *)l3.p);
+    l14.n = l4.n;
+    l15 = (uint8_t *)&l8;
     l16.p = l15;
-    l16.n = l3.n;
-    l5 = derive__derived(l14, l16);
-    l8 = (uint8_t)!l5;
-    if (l8) {
-        l0 = l4;
-        return l0;
-    }
-    l17 = (uint8_t *)&(*(uint8_t *)l2.p);
+    l16.n = UINT64_C(1024);
+    l9 = trace_lines__advance(l7, l6.f1, l2, l3, l14, l16);
+    l10 = l9.f0;
+    l11 = l9.f2;
+    l17 = (uint8_t *)&l8;
     l18.p = l17;
-    l18.n = l2.n;
-    l19 = (uint8_t *)&(*(uint8_t *)l3.p);
+    l18.n = l11;
+    l19 = (uint8_t *)&(*(uint8_t *)l5.p);
     l20.p = l19;
-    l20.n = l3.n;
-    l0 = text_place__unnamed(l1, l18, l20);
+    l20.n = l5.n;
+    l12 = trace_images__pages__put(l1.f3, l18, l20);
+    l0 = trace_images__telling__behind(l10, l9.f1, l6.f2, l12);
     return l0;
 }
 
-static inline uint64_t text_place__stuck(rt_slice l1, rt_slice l2)
+static inline struct trace_images__telling__Telling trace_images__telling__play(rt_slice l1, rt_slice l2, struct trace_images__telling__Start l3, rt_slice l4, rt_slice l5, rt_slice l6, rt_slice l7)
 {
-    uint64_t l0;
-    struct derive__Mark l3;
-    uint64_t l4;
-    uint8_t l5;
-    uint8_t l6;
+    struct trace_images__telling__Telling l0;
+    struct rt_array_uint64_1024 l8;
+    struct rt_array_uint16_1024 l9;
+    struct rt_array_uint64_129 l10;
+    struct seating__Seat l11;
+    struct trace_images__telling__Telling l12;
+    struct trace_images__telling__Telling l13;
+    struct trace_images__telling__Telling l14;
+    uint8_t *l16;
+    rt_slice l17;
+    uint8_t *l18;
+    rt_slice l19;
+    uint8_t *l20;
+    rt_slice l21;
+    struct trace_images__telling__Telling l22;
+    uint8_t *l23;
+    rt_slice l24;
+    uint8_t *l25;
+    rt_slice l26;
+    uint8_t *l27;
+    rt_slice l28;
+    uint8_t *l29;
+    rt_slice l30;
+    uint8_t l31;
+    uint8_t *l32;
+    rt_slice l33;
+    uint8_t *l34;
+    rt_slice l35;
+    uint8_t *l36;
+    rt_slice l37;
+    uint8_t *l38;
+    rt_slice l39;
+    uint8_t *l40;
+    rt_slice l41;
+    uint8_t *l42;
+    rt_slice l43;
+    uint8_t *l44;
+    rt_slice l45;
+    uint8_t *l46;
+    rt_slice l47;
+    uint8_t *l48;
+    rt_slice l49;
+    memset(&l8, 0, sizeof l8);
+    memset(&l9, 0, sizeof l9);
+    memset(&l10, 0, sizeof l10);
+    l11 = l3.f0;
+    l16 = (uint8_t *)&l8;
+    l17.p = l16;
+    l17.n = UINT64_C(1024);
+    l18 = (uint8_t *)&l9;
+    l19.p = l18;
+    l19.n = UINT64_C(1024);
+    l20 = (uint8_t *)&l10;
+    l21.p = l20;
+    l21.n = UINT64_C(129);
+    compile__program(l1, l2, l11.f0, l17, l19, l21);
+    l22 = trace_images__telling__first(l3);
+    l23 = (uint8_t *)&l10;
+    l24.p = l23;
+    l24.n = UINT64_C(129);
+    l25 = (uint8_t *)&l9;
+    l26.p = l25;
+    l26.n = UINT64_C(1024);
+    l27 = (uint8_t *)&(*(uint16_t *)l4.p);
+    l28.p = l27;
+    l28.n = l4.n;
+    l29 = (uint8_t *)&(*(uint8_t *)l7.p);
+    l30.p = l29;
+    l30.n = l7.n;
+    l12 = trace_images__telling__settle(l22, l24, l26, l28, l30);
+    l13 = trace_images__telling__told_at(l12, l6);
+    for (;;) {
+        l31 = l13.f2;
+        if (l31) {
+        } else {
+            goto end1;
+        }
+        l32 = (uint8_t *)&l8;
+        l33.p = l32;
+        l33.n = UINT64_C(1024);
+        l34 = (uint8_t *)&l9;
+        l35.p = l34;
+        l35.n = UINT64_C(1024);
+        l36 = (uint8_t *)&(*(uint16_t *)l4.p);
+        l37.p = l36;
+        l37.n = l4.n;
+        l38 = (uint8_t *)&(*(uint64_t *)l5.p);
+        l39.p = l38;
+        l39.n = l5.n;
+        l40 = (uint8_t *)&(*(uint8_t *)l7.p);
+        l41.p = l40;
+        l41.n = l7.n;
+        l13 = trace_images__telling__turn(l13, l33, l2, l35, l37, l39, l41);
+        l31 = (uint8_t)(l13.f1 == UINT8_C(0));
+        if (l31) {
+            l42 = (uint8_t *)&l10;
+            l43.p = l42;
+            l43.n = UINT64_C(129);
+            l44 = (uint8_t *)&l9;
+            l45.p = l44;
+            l45.n = UINT64_C(1024);
+            l46 = (uint8_t *)&(*(uint16_t *)l4.p);
+            l47.p = l46;
+            l47.n = l4.n;
+            l48 = (uint8_t *)&(*(uint8_t *)l7.p);
+            l49.p = l48;
+            l49.n = l7.n;
+            l14 = trace_images__telling__settle(l13, l43, l45, l47, l49);
+            l13 = trace_images__telling__told_at(l14, l6);
+        }
+    }
+end1:;
+    l0 = l13;
+    return l0;
+}
+
+static inline struct trace_images__telling__Telling trace_images__telling__resting(struct trace_images__telling__Telling l1, uint8_t l2)
+{
+    struct trace_images__telling__Telling l0;
+    struct trace_lines__Coming l3;
+    struct trace_images__pages__Page l4;
+    l3 = l1.f0;
+    l4 = l1.f3;
+    l0.f0 = l3;
+    l0.f1 = l2;
+    l0.f2 = 0;
+    l0.f3 = l4;
+    return l0;
+}
+
+static inline struct trace_images__telling__Telling trace_images__telling__settle(struct trace_images__telling__Telling l1, rt_slice l2, rt_slice l3, rt_slice l4, rt_slice l5)
+{
+    struct trace_images__telling__Telling l0;
+    struct trace_images__telling__Telling l6;
     uint64_t l7;
     uint8_t l8;
+    uint8_t l9;
+    uint64_t l10;
+    uint8_t *l11;
+    uint64_t l12;
+    uint8_t *l13;
+    rt_slice l14;
+    uint8_t *l15;
+    rt_slice l16;
+    l6 = l1;
+    for (;;) {
+        l8 = layout__due(l6.f0.f0.f0);
+        l9 = (uint8_t)!l8;
+        if (l9) {
+        } else {
+            goto end1;
+        }
+        l7 = l6.f0.f0.f0.f1;
+        l10 = (uint64_t)((uint64_t)l7 * (uint64_t)UINT64_C(8));
+        l11 = l2.p + (size_t)l10;
+        l12 = (*(uint64_t *)l11);
+        l8 = (uint8_t)(l12 == UINT64_C(1025));
+        if (l8) {
+            l0 = l6;
+            return l0;
+        }
+        l13 = (uint8_t *)&(*(uint16_t *)l4.p);
+        l14.p = l13;
+        l14.n = l4.n;
+        l15 = (uint8_t *)&(*(uint8_t *)l5.p);
+        l16.p = l15;
+        l16.n = l5.n;
+        l6 = trace_images__telling__moved(l6, l2, l3, l14, l16);
+    }
+end1:;
+    l0 = l6;
+    return l0;
+}
+
+static inline struct trace_images__telling__Telling trace_images__telling__told_at(struct trace_images__telling__Telling l1, rt_slice l2)
+{
+    struct trace_images__telling__Telling l0;
+    struct trace_lines__Coming l3;
+    uint64_t l4;
+    struct trace_images__pages__Page l5;
+    uint8_t l6;
+    uint8_t l7;
+    uint64_t l8;
     uint8_t *l9;
     uint8_t l10;
-    uint8_t *l11;
-    rt_slice l12;
-    uint8_t l13;
-    l3.f0 = UINT8_C(1);
-    l3.f1 = UINT64_C(0);
-    l4 = UINT64_C(0);
-    for (;;) {
-        l7 = l1.n;
-        l8 = (uint8_t)(l4 < l7);
-        if (l8) {
-        } else {
-            goto end1;
-        }
-        l9 = l1.p + (size_t)l4;
-        l10 = (*(uint8_t *)l9);
-        l5 = l10;
-        l8 = (uint8_t)(l5 != UINT8_C(0));
-        if (l8) {
-            l11 = (uint8_t *)&(*(uint8_t *)l2.p);
-            l12.p = l11;
-            l12.n = l2.n;
-            l3 = derive__step(l12, l3, l5);
-            l6 = l3.f0;
-            l13 = (uint8_t)(l6 == UINT8_C(0));
-            if (l13) {
-                l0 = l4;
-                return l0;
-            }
-        }
-        l4 = (uint64_t)((uint64_t)l4 + (uint64_t)UINT64_C(1));
+    l3 = l1.f0;
+    l6 = layout__due(l3.f0.f0);
+    l7 = (uint8_t)!l6;
+    if (l7) {
+        l0 = trace_images__telling__resting(l1, UINT8_C(0));
+        return l0;
     }
-end1:;
-    l0 = l4;
+    l4 = l3.f2;
+    l8 = l2.n;
+    l6 = (uint8_t)(l8 <= l4);
+    if (l6) {
+        l0 = trace_images__telling__resting(l1, UINT8_C(33));
+        return l0;
+    }
+    l9 = l2.p + (size_t)l4;
+    l10 = (*(uint8_t *)l9);
+    l3.f3 = l10;
+    l5 = l1.f3;
+    l0.f0 = l3;
+    l0.f1 = UINT8_C(0);
+    l0.f2 = 1;
+    l0.f3 = l5;
     return l0;
 }
 
-static inline uint64_t text_place__unmarked(rt_slice l1)
+static inline struct trace_images__telling__Telling trace_images__telling__turn(struct trace_images__telling__Telling l1, rt_slice l2, rt_slice l3, rt_slice l4, rt_slice l5, rt_slice l6, rt_slice l7)
+{
+    struct trace_images__telling__Telling l0;
+    struct trace_lines__Coming l8;
+    struct rt_array_uint8_1024 l9;
+    struct trace_lines__Told l10;
+    struct engine__Machine l11;
+    uint64_t l12;
+    struct trace_images__pages__Page l13;
+    uint8_t *l14;
+    rt_slice l15;
+    uint8_t *l16;
+    rt_slice l17;
+    uint8_t *l18;
+    rt_slice l19;
+    uint8_t l20;
+    uint8_t *l21;
+    rt_slice l22;
+    uint8_t *l23;
+    rt_slice l24;
+    uint64_t l25;
+    l8 = l1.f0;
+    memset(&l9, 0, sizeof l9);
+    l14 = (uint8_t *)&(*(uint16_t *)l5.p);
+    l15.p = l14;
+    l15.n = l5.n;
+    l16 = (uint8_t *)&(*(uint64_t *)l6.p);
+    l17.p = l16;
+    l17.n = l6.n;
+    l18 = (uint8_t *)&l9;
+    l19.p = l18;
+    l19.n = UINT64_C(1024);
+    l10 = trace_lines__turn(l8, l2, l3, l4, l15, l17, l19);
+    l11 = l10.f0;
+    l20 = (uint8_t)(l11.f0.f4 != UINT8_C(0));
+    if (l20) {
+        l0 = trace_images__telling__behind(l11, l8.f1, l8.f2, l1.f3);
+        return l0;
+    }
+    l12 = l10.f2;
+    l21 = (uint8_t *)&l9;
+    l22.p = l21;
+    l22.n = l12;
+    l23 = (uint8_t *)&(*(uint8_t *)l7.p);
+    l24.p = l23;
+    l24.n = l7.n;
+    l13 = trace_images__pages__put(l1.f3, l22, l24);
+    l25 = (uint64_t)((uint64_t)l8.f2 + (uint64_t)UINT64_C(1));
+    l0 = trace_images__telling__behind(l11, l8.f1, l25, l13);
+    return l0;
+}
+
+static inline struct trace_images__Traced trace_images__trace(rt_slice l1, rt_slice l2, rt_slice l3, uint64_t l4, rt_slice l5)
+{
+    struct trace_images__Traced l0;
+    struct rt_array_uint8_5730 l6;
+    struct rt_array_uint8_16 l7;
+    struct rt_array_uint8_128 l8;
+    struct load__Load l9;
+    struct load__Loaded l10;
+    uint64_t l11;
+    struct seating__Params l12;
+    uint8_t *l13;
+    rt_slice l14;
+    uint8_t *l15;
+    rt_slice l16;
+    uint8_t *l17;
+    rt_slice l18;
+    uint8_t l19;
+    uint8_t *l20;
+    rt_slice l21;
+    struct rt_array_uint8_16 l22;
+    struct rt_array_uint8_128 l23;
+    uint8_t *l24;
+    rt_slice l25;
+    uint8_t *l26;
+    rt_slice l27;
+    memset(&l6, 0, sizeof l6);
+    memset(&l7, 0, sizeof l7);
+    memset(&l8, 0, sizeof l8);
+    l13 = (uint8_t *)&l6;
+    l14.p = l13;
+    l14.n = UINT64_C(5730);
+    l15 = (uint8_t *)&l7;
+    l16.p = l15;
+    l16.n = UINT64_C(16);
+    l17 = (uint8_t *)&l8;
+    l18.p = l17;
+    l18.n = UINT64_C(128);
+    l9 = seating__admit(l1, l14, l16, l18);
+    switch (l9.tag) {
+        case UINT8_C(0): {
+            l10 = l9.s0;
+            break;
+        }
+        case UINT8_C(1): default: {
+            l19 = load__refusal(l9);
+            l20 = (uint8_t *)&(*(uint8_t *)l5.p);
+            l21.p = l20;
+            l21.n = l5.n;
+            l0 = trace_images__pages__refused(l19, l4, l21);
+            return l0;
+            break;
+        }
+    }
+    l11 = l10.f0;
+    l22 = l7;
+    l23 = l8;
+    l12.f0 = l22;
+    l12.f1 = l23;
+    l24 = (uint8_t *)&l6;
+    l25.p = l24;
+    l25.n = l11;
+    l26 = (uint8_t *)&(*(uint8_t *)l5.p);
+    l27.p = l26;
+    l27.n = l5.n;
+    l0 = trace_images__begun(l10, l12, l25, l2, l3, l4, l27);
+    return l0;
+}
+
+static inline struct trace_lines__Told trace_lines__advance(struct engine__Machine l1, uint64_t l2, rt_slice l3, rt_slice l4, rt_slice l5, rt_slice l6)
+{
+    struct trace_lines__Told l0;
+    struct layout__Numbers l7;
+    uint64_t l8;
+    uint64_t l9;
+    struct engine__Machine l10;
+    struct layout__Numbers l11;
+    uint64_t l12;
+    uint64_t l13;
+    uint8_t *l14;
+    uint64_t l15;
+    uint8_t *l16;
+    rt_slice l17;
+    uint8_t *l18;
+    rt_slice l19;
+    l7 = l1.f0;
+    l8 = l7.f1;
+    l13 = (uint64_t)((uint64_t)l8 * (uint64_t)UINT64_C(8));
+    l14 = l3.p + (size_t)l13;
+    l15 = (*(uint64_t *)l14);
+    l9 = trace_lines__step_at(l15, l2);
+    l16 = (uint8_t *)&(*(uint16_t *)l5.p);
+    l17.p = l16;
+    l17.n = l5.n;
+    l10 = engine__Machine__advance(l1, l3, l4, l17);
+    l11 = l10.f0;
+    l18 = (uint8_t *)&(*(uint8_t *)l6.p);
+    l19.p = l18;
+    l19.n = l6.n;
+    l12 = trace_lines__moved(l19, l11);
+    l0.f0 = l10;
+    l0.f1 = l9;
+    l0.f2 = l12;
+    return l0;
+}
+
+static const struct rt_array_uint8_2 trace_lines__back__l12 = { { UINT8_C(32), UINT8_C(93) } };
+static const struct rt_array_uint8_1 trace_lines__back__l13 = { { UINT8_C(10) } };
+static inline uint64_t trace_lines__back(rt_slice l1, uint64_t l2, uint64_t l3, struct trace_lines__writes__Write l4, struct layout__Numbers l5, rt_slice l6, rt_slice l7)
 {
     uint64_t l0;
-    uint64_t l2;
-    uint64_t l3;
-    uint64_t l4;
-    uint8_t l5;
-    struct tokens__Spot l6;
+    uint64_t l8;
+    uint64_t l9;
+    uint64_t l10;
+    uint64_t l11;
+    uint8_t *l14;
+    rt_slice l15;
+    uint8_t *l16;
+    rt_slice l17;
+    uint8_t *l18;
+    rt_slice l19;
+    uint8_t *l20;
+    rt_slice l21;
+    uint8_t *l22;
+    rt_slice l23;
+    uint8_t *l24;
+    rt_slice l25;
+    uint8_t *l26;
+    rt_slice l27;
+    l14 = (uint8_t *)&(*(uint8_t *)l1.p);
+    l15.p = l14;
+    l15.n = l1.n;
+    l8 = trace_lines__parts__stack(l15, l2, l6, l7, l3);
+    l16 = (uint8_t *)&(*(uint8_t *)l1.p);
+    l17.p = l16;
+    l17.n = l1.n;
+    l18 = (uint8_t *)&trace_lines__back__l12;
+    l19.p = l18;
+    l19.n = UINT64_C(2);
+    l9 = text__put(l17, l8, l19);
+    l20 = (uint8_t *)&(*(uint8_t *)l1.p);
+    l21.p = l20;
+    l21.n = l1.n;
+    l10 = trace_lines__writes__written(l21, l9, l4, l7);
+    l22 = (uint8_t *)&(*(uint8_t *)l1.p);
+    l23.p = l22;
+    l23.n = l1.n;
+    l11 = trace_lines__parts__entries(l23, l10, l5.f2, l5.f3);
+    l24 = (uint8_t *)&(*(uint8_t *)l1.p);
+    l25.p = l24;
+    l25.n = l1.n;
+    l26 = (uint8_t *)&trace_lines__back__l13;
+    l27.p = l26;
+    l27.n = UINT64_C(1);
+    l0 = text__put(l25, l11, l27);
+    return l0;
+}
+
+static inline uint64_t trace_lines__choice__picked_of(rt_slice l1, uint64_t l2, uint64_t l3, uint64_t l4, uint8_t l5)
+{
+    uint64_t l0;
+    struct rt_array_holders__Record_256 l6;
     uint64_t l7;
-    l2 = UINT64_C(0);
-    for (;;) {
-        l4 = l1.n;
-        l5 = (uint8_t)(l2 < l4);
-        if (l5) {
-        } else {
-            goto end1;
-        }
-        l6 = lexer__token(l1, l2);
-        switch (l6.tag) {
-            case UINT8_C(0): {
-                l3 = l6.s1;
-                l7 = (uint64_t)((uint64_t)l3 + (uint64_t)UINT64_C(1));
-                l2 = (uint64_t)((uint64_t)l2 + (uint64_t)l7);
-                break;
-            }
-            case UINT8_C(1): default: {
-                l0 = l2;
-                return l0;
-                break;
-            }
-        }
-    }
-end1:;
-    l0 = l2;
+    uint64_t l8;
+    l6 = holders__records(l1, l2);
+    l7 = (uint64_t)l5;
+    l8 = (uint64_t)((uint64_t)l7 % (uint64_t)l4);
+    l0 = holders__holder_of(l6, l2, l3, l8);
     return l0;
 }
 
-static inline uint64_t text_place__unnamed(rt_slice l1, rt_slice l2, rt_slice l3)
+static inline uint64_t trace_lines__columns(rt_slice l1, uint64_t l2, uint64_t l3, uint64_t l4, uint64_t l5)
 {
     uint64_t l0;
-    struct rt_array_uint8_65536 l4;
-    struct rt_array_uint64_323 l5;
     uint64_t l6;
-    struct uses__Numbered l7;
+    uint64_t l7;
     uint8_t *l8;
     rt_slice l9;
     uint8_t *l10;
     rt_slice l11;
     uint8_t *l12;
     rt_slice l13;
-    uint64_t l14;
-    memset(&l4, 0, sizeof l4);
-    memset(&l5, 0, sizeof l5);
-    l8 = (uint8_t *)&l5;
+    l8 = (uint8_t *)&(*(uint8_t *)l1.p);
     l9.p = l8;
-    l9.n = UINT64_C(323);
-    l10 = (uint8_t *)&(*(uint8_t *)l3.p);
+    l9.n = l1.n;
+    l6 = text__lines__column(l9, l2, l3);
+    l10 = (uint8_t *)&(*(uint8_t *)l1.p);
     l11.p = l10;
-    l11.n = l3.n;
-    l12 = (uint8_t *)&l4;
+    l11.n = l1.n;
+    l7 = text__lines__column(l11, l6, l4);
+    l12 = (uint8_t *)&(*(uint8_t *)l1.p);
     l13.p = l12;
-    l13.n = UINT64_C(65536);
-    l7 = uses__numbers(l1, l2, l9, l11, l13);
-    switch (l7.tag) {
-        case UINT8_C(0): {
-            l14 = l2.n;
-            break;
-        }
-        case UINT8_C(1): default: {
-            l6 = l7.s0;
-            l14 = l6;
-            break;
-        }
+    l13.n = l1.n;
+    l0 = text__lines__column(l13, l7, l5);
+    return l0;
+}
+
+static const struct rt_array_uint8_2 trace_lines__front__l6 = { { UINT8_C(32), UINT8_C(91) } };
+static inline uint64_t trace_lines__front(rt_slice l1, struct trace_lines__Acting l2)
+{
+    uint64_t l0;
+    uint64_t l3;
+    uint64_t l4;
+    uint64_t l5;
+    uint8_t *l7;
+    rt_slice l8;
+    uint64_t l9;
+    uint64_t l10;
+    uint64_t l11;
+    uint8_t *l12;
+    rt_slice l13;
+    uint8_t *l14;
+    rt_slice l15;
+    uint8_t *l16;
+    rt_slice l17;
+    uint8_t *l18;
+    rt_slice l19;
+    l7 = (uint8_t *)&(*(uint8_t *)l1.p);
+    l8.p = l7;
+    l8.n = l1.n;
+    l9 = l2.f0;
+    l10 = (uint64_t)l2.f1;
+    l11 = l2.f2;
+    l3 = trace_lines__columns(l8, UINT64_C(0), l9, l10, l11);
+    l12 = (uint8_t *)&(*(uint8_t *)l1.p);
+    l13.p = l12;
+    l13.n = l1.n;
+    l9 = l2.f3;
+    l11 = l2.f4;
+    l10 = l2.f5;
+    l4 = trace_lines__columns(l13, l3, l9, l11, l10);
+    l14 = (uint8_t *)&(*(uint8_t *)l1.p);
+    l15.p = l14;
+    l15.n = l1.n;
+    l5 = text__command(l15, l4, l2.f6);
+    l16 = (uint8_t *)&(*(uint8_t *)l1.p);
+    l17.p = l16;
+    l17.n = l1.n;
+    l18 = (uint8_t *)&trace_lines__front__l6;
+    l19.p = l18;
+    l19.n = UINT64_C(2);
+    l0 = text__put(l17, l5, l19);
+    return l0;
+}
+
+static inline uint64_t trace_lines__minus(uint64_t l1, uint64_t l2)
+{
+    uint64_t l0;
+    uint8_t l3;
+    l3 = (uint8_t)(l1 < l2);
+    if (l3) {
+        l0 = UINT64_C(0);
+        return l0;
     }
-    l0 = l14;
+    l0 = (uint64_t)((uint64_t)l1 - (uint64_t)l2);
+    return l0;
+}
+
+static const struct rt_array_uint8_4 trace_lines__moved__l5 = { { UINT8_C(109), UINT8_C(111), UINT8_C(118), UINT8_C(101) } };
+static const struct rt_array_uint8_1 trace_lines__moved__l6 = { { UINT8_C(10) } };
+static inline uint64_t trace_lines__moved(rt_slice l1, struct layout__Numbers l2)
+{
+    uint64_t l0;
+    uint64_t l3;
+    uint64_t l4;
+    uint8_t *l7;
+    rt_slice l8;
+    uint8_t *l9;
+    rt_slice l10;
+    uint8_t *l11;
+    rt_slice l12;
+    uint8_t *l13;
+    rt_slice l14;
+    uint8_t *l15;
+    rt_slice l16;
+    l7 = (uint8_t *)&(*(uint8_t *)l1.p);
+    l8.p = l7;
+    l8.n = l1.n;
+    l9 = (uint8_t *)&trace_lines__moved__l5;
+    l10.p = l9;
+    l10.n = UINT64_C(4);
+    l3 = text__put(l8, UINT64_C(0), l10);
+    l11 = (uint8_t *)&(*(uint8_t *)l1.p);
+    l12.p = l11;
+    l12.n = l1.n;
+    l4 = trace_lines__parts__entries(l12, l3, l2.f2, l2.f3);
+    l13 = (uint8_t *)&(*(uint8_t *)l1.p);
+    l14.p = l13;
+    l14.n = l1.n;
+    l15 = (uint8_t *)&trace_lines__moved__l6;
+    l16.p = l15;
+    l16.n = UINT64_C(1);
+    l0 = text__put(l14, l4, l16);
+    return l0;
+}
+
+static const struct rt_array_uint8_1 trace_lines__parts__cell__l8 = { { UINT8_C(32) } };
+static const struct rt_array_uint8_1 trace_lines__parts__cell__l9 = { { UINT8_C(58) } };
+static inline uint64_t trace_lines__parts__cell(rt_slice l1, uint64_t l2, rt_slice l3, uint64_t l4)
+{
+    uint64_t l0;
+    uint64_t l5;
+    uint64_t l6;
+    uint64_t l7;
+    uint8_t *l10;
+    rt_slice l11;
+    uint8_t *l12;
+    rt_slice l13;
+    uint8_t *l14;
+    rt_slice l15;
+    uint64_t l16;
+    uint8_t *l17;
+    rt_slice l18;
+    uint8_t *l19;
+    rt_slice l20;
+    uint8_t *l21;
+    rt_slice l22;
+    l10 = (uint8_t *)&(*(uint8_t *)l1.p);
+    l11.p = l10;
+    l11.n = l1.n;
+    l12 = (uint8_t *)&trace_lines__parts__cell__l8;
+    l13.p = l12;
+    l13.n = UINT64_C(1);
+    l5 = text__put(l11, l2, l13);
+    l14 = (uint8_t *)&(*(uint8_t *)l1.p);
+    l15.p = l14;
+    l15.n = l1.n;
+    l16 = trace_lines__parts__tag(l3, l4);
+    l6 = text__decimal(l15, l5, l16);
+    l17 = (uint8_t *)&(*(uint8_t *)l1.p);
+    l18.p = l17;
+    l18.n = l1.n;
+    l19 = (uint8_t *)&trace_lines__parts__cell__l9;
+    l20.p = l19;
+    l20.n = UINT64_C(1);
+    l7 = text__put(l18, l6, l20);
+    l21 = (uint8_t *)&(*(uint8_t *)l1.p);
+    l22.p = l21;
+    l22.n = l1.n;
+    l0 = trace_lines__parts__worth(l22, l7, l4);
+    return l0;
+}
+
+static const struct rt_array_uint8_2 trace_lines__parts__entries__l8 = { { UINT8_C(32), UINT8_C(115) } };
+static inline uint64_t trace_lines__parts__entries(rt_slice l1, uint64_t l2, uint64_t l3, uint64_t l4)
+{
+    uint64_t l0;
+    uint64_t l5;
+    uint64_t l6;
+    uint64_t l7;
+    uint8_t *l9;
+    rt_slice l10;
+    uint8_t *l11;
+    rt_slice l12;
+    uint8_t l13;
+    uint8_t *l14;
+    rt_slice l15;
+    uint64_t l16;
+    uint8_t l17;
+    uint8_t l18;
+    l9 = (uint8_t *)&(*(uint8_t *)l1.p);
+    l10.p = l9;
+    l10.n = l1.n;
+    l11 = (uint8_t *)&trace_lines__parts__entries__l8;
+    l12.p = l11;
+    l12.n = UINT64_C(2);
+    l5 = text__put(l10, l2, l12);
+    l6 = l4;
+    l7 = UINT64_C(0);
+    for (;;) {
+        l13 = (uint8_t)(l7 < l3);
+        if (l13) {
+        } else {
+            goto end1;
+        }
+        l14 = (uint8_t *)&(*(uint8_t *)l1.p);
+        l15.p = l14;
+        l15.n = l1.n;
+        l16 = (uint64_t)((uint64_t)l6 % (uint64_t)UINT64_C(2));
+        l17 = (uint8_t)l16;
+        l18 = (uint8_t)((uint32_t)UINT8_C(48) + (uint32_t)l17);
+        l5 = text__byte(l15, l5, l18);
+        l6 = (uint64_t)((uint64_t)l6 / (uint64_t)UINT64_C(2));
+        l7 = (uint64_t)((uint64_t)l7 + (uint64_t)UINT64_C(1));
+    }
+end1:;
+    l0 = l5;
+    return l0;
+}
+
+static inline uint64_t trace_lines__parts__stack(rt_slice l1, uint64_t l2, rt_slice l3, rt_slice l4, uint64_t l5)
+{
+    uint64_t l0;
+    uint64_t l6;
+    uint64_t l7;
+    uint64_t l8;
+    uint64_t l9;
+    uint64_t l10;
+    uint64_t l11;
+    uint64_t l12;
+    uint8_t *l13;
+    uint16_t l14;
+    uint8_t l15;
+    uint8_t *l16;
+    rt_slice l17;
+    uint64_t l18;
+    uint64_t l19;
+    uint8_t *l20;
+    uint64_t l21;
+    l10 = (uint64_t)((uint64_t)UINT64_C(6) * (uint64_t)l5);
+    l11 = (uint64_t)((uint64_t)l10 + (uint64_t)UINT64_C(1));
+    l12 = (uint64_t)((uint64_t)l11 * (uint64_t)UINT64_C(2));
+    l13 = l3.p + (size_t)l12;
+    l14 = (*(uint16_t *)l13);
+    l6 = (uint64_t)l14;
+    l10 = (uint64_t)((uint64_t)UINT64_C(32) * (uint64_t)l5);
+    l7 = (uint64_t)((uint64_t)l10 + (uint64_t)UINT64_C(16));
+    l8 = UINT64_C(0);
+    l9 = l2;
+    for (;;) {
+        l15 = (uint8_t)(l8 < l6);
+        if (l15) {
+        } else {
+            goto end1;
+        }
+        l16 = (uint8_t *)&(*(uint8_t *)l1.p);
+        l17.p = l16;
+        l17.n = l1.n;
+        l18 = (uint64_t)((uint64_t)l7 + (uint64_t)l8);
+        l19 = (uint64_t)((uint64_t)l18 * (uint64_t)UINT64_C(8));
+        l20 = l4.p + (size_t)l19;
+        l21 = (*(uint64_t *)l20);
+        l9 = trace_lines__parts__cell(l17, l9, l3, l21);
+        l8 = (uint64_t)((uint64_t)l8 + (uint64_t)UINT64_C(1));
+    }
+end1:;
+    l0 = l9;
+    return l0;
+}
+
+static inline uint64_t trace_lines__parts__tag(rt_slice l1, uint64_t l2)
+{
+    uint64_t l0;
+    uint64_t l3;
+    uint64_t l4;
+    uint64_t l5;
+    uint64_t l6;
+    uint8_t l7;
+    uint64_t l8;
+    uint64_t l9;
+    uint64_t l10;
+    uint8_t *l11;
+    uint16_t l12;
+    l6 = (uint64_t)((uint64_t)l2 / (uint64_t)UINT64_C(256));
+    l3 = (uint64_t)((uint64_t)l6 % (uint64_t)UINT64_C(256));
+    l7 = (uint8_t)(l3 < UINT64_C(16));
+    if (l7) {
+        l0 = l3;
+        return l0;
+    }
+    l6 = (uint64_t)((uint64_t)l2 / (uint64_t)UINT64_C(4294967296));
+    l4 = l6;
+    l8 = (uint64_t)((uint64_t)UINT64_C(6) * (uint64_t)l4);
+    l9 = (uint64_t)((uint64_t)l8 + (uint64_t)UINT64_C(0));
+    l10 = (uint64_t)((uint64_t)l9 * (uint64_t)UINT64_C(2));
+    l11 = l1.p + (size_t)l10;
+    l12 = (*(uint16_t *)l11);
+    l5 = (uint64_t)l12;
+    l6 = l5;
+    l0 = (uint64_t)((uint64_t)UINT64_C(16) + (uint64_t)l6);
+    return l0;
+}
+
+static inline uint64_t trace_lines__parts__worth(rt_slice l1, uint64_t l2, uint64_t l3)
+{
+    uint64_t l0;
+    uint8_t *l4;
+    rt_slice l5;
+    uint64_t l6;
+    uint64_t l7;
+    uint64_t l8;
+    l4 = (uint8_t *)&(*(uint8_t *)l1.p);
+    l5.p = l4;
+    l5.n = l1.n;
+    l6 = (uint64_t)((uint64_t)l3 / (uint64_t)UINT64_C(256));
+    l7 = (uint64_t)((uint64_t)l6 % (uint64_t)UINT64_C(256));
+    l8 = (uint64_t)((uint64_t)l3 / (uint64_t)UINT64_C(4294967296));
+    l0 = text__value(l5, l2, l7, l8);
+    return l0;
+}
+
+static inline uint64_t trace_lines__position(rt_slice l1, rt_slice l2, uint64_t l3, uint64_t l4)
+{
+    uint64_t l0;
+    uint64_t l5;
+    uint64_t l6;
+    uint64_t l7;
+    uint64_t l8;
+    uint64_t l9;
+    uint64_t l10;
+    uint64_t l11;
+    uint64_t l12;
+    uint64_t l13;
+    uint8_t *l14;
+    uint16_t l15;
+    uint8_t *l16;
+    uint8_t *l17;
+    uint64_t l18;
+    uint8_t *l19;
+    uint64_t l20;
+    uint64_t l21;
+    uint64_t l22;
+    uint8_t *l23;
+    uint16_t l24;
+    l5 = (uint64_t)((uint64_t)UINT64_C(6) * (uint64_t)l3);
+    l12 = (uint64_t)((uint64_t)l5 + (uint64_t)UINT64_C(0));
+    l13 = (uint64_t)((uint64_t)l12 * (uint64_t)UINT64_C(2));
+    l14 = l2.p + (size_t)l13;
+    l15 = (*(uint16_t *)l14);
+    l6 = (uint64_t)l15;
+    l12 = (uint64_t)((uint64_t)UINT64_C(32) * (uint64_t)l6);
+    l13 = (uint64_t)((uint64_t)l12 + (uint64_t)l4);
+    l7 = (uint64_t)((uint64_t)UINT64_C(2) * (uint64_t)l13);
+    l12 = (uint64_t)((uint64_t)l7 * (uint64_t)UINT64_C(2));
+    l16 = l1.p + (size_t)l12;
+    l15 = (*(uint16_t *)l16);
+    l8 = trace_lines__wide(l15);
+    l13 = (uint64_t)((uint64_t)l7 + (uint64_t)UINT64_C(1));
+    l12 = (uint64_t)((uint64_t)l13 * (uint64_t)UINT64_C(2));
+    l17 = l1.p + (size_t)l12;
+    l15 = (*(uint16_t *)l17);
+    l9 = trace_lines__wide(l15);
+    l10 = trace_lines__minus(l9, l8);
+    l12 = (uint64_t)((uint64_t)l5 + (uint64_t)UINT64_C(3));
+    l18 = (uint64_t)((uint64_t)l12 * (uint64_t)UINT64_C(2));
+    l19 = l2.p + (size_t)l18;
+    l15 = (*(uint16_t *)l19);
+    l13 = trace_lines__wide(l15);
+    l21 = (uint64_t)((uint64_t)l5 + (uint64_t)UINT64_C(2));
+    l22 = (uint64_t)((uint64_t)l21 * (uint64_t)UINT64_C(2));
+    l23 = l2.p + (size_t)l22;
+    l24 = (*(uint16_t *)l23);
+    l20 = trace_lines__wide(l24);
+    l11 = trace_lines__minus(l13, l20);
+    l0 = trace_lines__minus(l10, l11);
+    return l0;
+}
+
+static inline uint64_t trace_lines__step_at(uint64_t l1, uint64_t l2)
+{
+    uint64_t l0;
+    uint8_t l3;
+    l3 = (uint8_t)(l1 < UINT64_C(1024));
+    if (l3) {
+        l0 = (uint64_t)((uint64_t)l1 % (uint64_t)UINT64_C(32));
+        return l0;
+    }
+    l0 = l2;
+    return l0;
+}
+
+static inline struct trace_lines__Told trace_lines__turn(struct trace_lines__Coming l1, rt_slice l2, rt_slice l3, rt_slice l4, rt_slice l5, rt_slice l6, rt_slice l7)
+{
+    struct trace_lines__Told l0;
+    struct engine__Machine l8;
+    struct layout__Numbers l9;
+    uint64_t l10;
+    uint64_t l11;
+    struct trace_lines__writes__Write l12;
+    uint64_t l13;
+    uint64_t l14;
+    struct trace_lines__Acting l15;
+    uint64_t l16;
+    struct engine__Machine l17;
+    struct layout__Numbers l18;
+    uint64_t l19;
+    uint8_t *l20;
+    rt_slice l21;
+    uint8_t *l22;
+    rt_slice l23;
+    uint8_t *l24;
+    rt_slice l25;
+    uint64_t l26;
+    uint64_t l27;
+    uint8_t *l28;
+    uint16_t l29;
+    uint8_t *l30;
+    uint64_t l31;
+    uint64_t l32;
+    uint8_t *l33;
+    rt_slice l34;
+    uint64_t l35;
+    uint8_t *l36;
+    uint64_t l37;
+    uint8_t *l38;
+    rt_slice l39;
+    uint8_t *l40;
+    rt_slice l41;
+    uint8_t *l42;
+    rt_slice l43;
+    uint8_t l44;
+    uint8_t *l45;
+    rt_slice l46;
+    uint8_t *l47;
+    rt_slice l48;
+    uint8_t *l49;
+    rt_slice l50;
+    l8 = l1.f0;
+    l9 = l8.f0;
+    l10 = l9.f0;
+    l20 = (uint8_t *)&(*(uint16_t *)l5.p);
+    l21.p = l20;
+    l21.n = l5.n;
+    l11 = trace_lines__choice__picked_of(l21, l10, l9.f6, l9.f5, l1.f3);
+    l22 = (uint8_t *)&(*(uint16_t *)l5.p);
+    l23.p = l22;
+    l23.n = l5.n;
+    l24 = (uint8_t *)&(*(uint64_t *)l6.p);
+    l25.p = l24;
+    l25.n = l6.n;
+    l12 = trace_lines__writes__target(l2, l3, l23, l25, l11);
+    l13 = (uint64_t)((uint64_t)UINT64_C(6) * (uint64_t)l11);
+    l26 = (uint64_t)((uint64_t)l13 + (uint64_t)UINT64_C(2));
+    l27 = (uint64_t)((uint64_t)l26 * (uint64_t)UINT64_C(2));
+    l28 = l5.p + (size_t)l27;
+    l29 = (*(uint16_t *)l28);
+    l14 = (uint64_t)l29;
+    l26 = (uint64_t)((uint64_t)l13 + (uint64_t)UINT64_C(0));
+    l27 = (uint64_t)((uint64_t)l26 * (uint64_t)UINT64_C(2));
+    l30 = l5.p + (size_t)l27;
+    l29 = (*(uint16_t *)l30);
+    l31 = (uint64_t)l29;
+    l33 = (uint8_t *)&(*(uint16_t *)l5.p);
+    l34.p = l33;
+    l34.n = l5.n;
+    l32 = trace_lines__position(l4, l34, l11, l1.f1);
+    l35 = (uint64_t)((uint64_t)l14 * (uint64_t)UINT64_C(8));
+    l36 = l2.p + (size_t)l35;
+    l37 = (*(uint64_t *)l36);
+    l15.f0 = l1.f2;
+    l15.f1 = l1.f3;
+    l15.f2 = l11;
+    l15.f3 = l31;
+    l15.f4 = l1.f1;
+    l15.f5 = l32;
+    l15.f6 = l37;
+    l38 = (uint8_t *)&(*(uint8_t *)l7.p);
+    l39.p = l38;
+    l39.n = l7.n;
+    l16 = trace_lines__front(l39, l15);
+    l40 = (uint8_t *)&(*(uint16_t *)l5.p);
+    l41.p = l40;
+    l41.n = l5.n;
+    l42 = (uint8_t *)&(*(uint64_t *)l6.p);
+    l43.p = l42;
+    l43.n = l6.n;
+    l17 = engine__Machine__command(l8, l2, l3, l41, l43, l11);
+    l18 = l17.f0;
+    l44 = (uint8_t)(l18.f4 != UINT8_C(0));
+    if (l44) {
+        l0.f0 = l17;
+        l0.f1 = l1.f1;
+        l0.f2 = UINT64_C(0);
+        return l0;
+    }
+    l45 = (uint8_t *)&(*(uint8_t *)l7.p);
+    l46.p = l45;
+    l46.n = l7.n;
+    l47 = (uint8_t *)&(*(uint16_t *)l5.p);
+    l48.p = l47;
+    l48.n = l5.n;
+    l49 = (uint8_t *)&(*(uint64_t *)l6.p);
+    l50.p = l49;
+    l50.n = l6.n;
+    l19 = trace_lines__back(l46, l16, l11, l12, l18, l48, l50);
+    l0.f0 = l17;
+    l0.f1 = l1.f1;
+    l0.f2 = l19;
+    return l0;
+}
+
+static inline uint64_t trace_lines__wide(uint16_t l1)
+{
+    uint64_t l0;
+    l0 = (uint64_t)l1;
+    return l0;
+}
+
+static inline struct trace_lines__writes__Write trace_lines__writes__nothing(void)
+{
+    struct trace_lines__writes__Write l0;
+    l0.f0 = 0;
+    l0.f1 = UINT64_C(0);
+    l0.f2 = UINT64_C(0);
+    l0.f3 = UINT64_C(0);
+    return l0;
+}
+
+static const struct rt_array_uint8_1 trace_lines__writes__place__l8 = { { UINT8_C(32) } };
+static const struct rt_array_uint8_1 trace_lines__writes__place__l9 = { { UINT8_C(46) } };
+static inline uint64_t trace_lines__writes__place(rt_slice l1, uint64_t l2, uint64_t l3, uint64_t l4)
+{
+    uint64_t l0;
+    uint64_t l5;
+    uint64_t l6;
+    uint64_t l7;
+    uint8_t *l10;
+    rt_slice l11;
+    uint8_t *l12;
+    rt_slice l13;
+    uint8_t *l14;
+    rt_slice l15;
+    uint64_t l16;
+    uint8_t *l17;
+    rt_slice l18;
+    uint8_t *l19;
+    rt_slice l20;
+    uint8_t *l21;
+    rt_slice l22;
+    l10 = (uint8_t *)&(*(uint8_t *)l1.p);
+    l11.p = l10;
+    l11.n = l1.n;
+    l12 = (uint8_t *)&trace_lines__writes__place__l8;
+    l13.p = l12;
+    l13.n = UINT64_C(1);
+    l5 = text__put(l11, l2, l13);
+    l14 = (uint8_t *)&(*(uint8_t *)l1.p);
+    l15.p = l14;
+    l15.n = l1.n;
+    l16 = l3;
+    l6 = text__decimal(l15, l5, l16);
+    l17 = (uint8_t *)&(*(uint8_t *)l1.p);
+    l18.p = l17;
+    l18.n = l1.n;
+    l19 = (uint8_t *)&trace_lines__writes__place__l9;
+    l20.p = l19;
+    l20.n = UINT64_C(1);
+    l7 = text__put(l18, l6, l20);
+    l21 = (uint8_t *)&(*(uint8_t *)l1.p);
+    l22.p = l21;
+    l22.n = l1.n;
+    l16 = l4;
+    l0 = text__decimal(l22, l7, l16);
+    return l0;
+}
+
+static inline struct trace_lines__writes__Write trace_lines__writes__target(rt_slice l1, rt_slice l2, rt_slice l3, rt_slice l4, uint64_t l5)
+{
+    struct trace_lines__writes__Write l0;
+    uint64_t l6;
+    uint64_t l7;
+    uint64_t l8;
+    uint64_t l9;
+    uint64_t l10;
+    uint64_t l11;
+    uint64_t l12;
+    uint64_t l13;
+    uint64_t l14;
+    uint8_t *l15;
+    uint16_t l16;
+    uint8_t *l17;
+    uint64_t l18;
+    uint8_t l19;
+    uint8_t *l20;
+    uint64_t l21;
+    uint64_t l22;
+    uint8_t *l23;
+    uint8_t *l24;
+    l6 = (uint64_t)((uint64_t)UINT64_C(6) * (uint64_t)l5);
+    l13 = (uint64_t)((uint64_t)l6 + (uint64_t)UINT64_C(2));
+    l14 = (uint64_t)((uint64_t)l13 * (uint64_t)UINT64_C(2));
+    l15 = l3.p + (size_t)l14;
+    l16 = (*(uint16_t *)l15);
+    l7 = (uint64_t)l16;
+    l13 = (uint64_t)((uint64_t)l7 * (uint64_t)UINT64_C(8));
+    l17 = l1.p + (size_t)l13;
+    l18 = (*(uint64_t *)l17);
+    l8 = l18;
+    l18 = (uint64_t)((uint64_t)l8 % (uint64_t)UINT64_C(256));
+    l19 = (uint8_t)(l18 != UINT64_C(4));
+    if (l19) {
+        l0 = trace_lines__writes__nothing();
+        return l0;
+    }
+    l18 = (uint64_t)((uint64_t)l8 / (uint64_t)UINT64_C(4294967296));
+    l9 = l18;
+    l19 = (uint8_t)(UINT64_C(8) <= l9);
+    if (l19) {
+        l0 = trace_lines__writes__nothing();
+        return l0;
+    }
+    l14 = (uint64_t)((uint64_t)l6 + (uint64_t)UINT64_C(1));
+    l13 = (uint64_t)((uint64_t)l14 * (uint64_t)UINT64_C(2));
+    l20 = l3.p + (size_t)l13;
+    l16 = (*(uint16_t *)l20);
+    l21 = (uint64_t)l16;
+    l10 = (uint64_t)((uint64_t)l21 - (uint64_t)UINT64_C(1));
+    l14 = (uint64_t)((uint64_t)UINT64_C(32) * (uint64_t)l5);
+    l21 = (uint64_t)((uint64_t)l14 + (uint64_t)UINT64_C(16));
+    l13 = (uint64_t)((uint64_t)l21 + (uint64_t)l10);
+    l22 = (uint64_t)((uint64_t)l13 * (uint64_t)UINT64_C(8));
+    l23 = l4.p + (size_t)l22;
+    l18 = (*(uint64_t *)l23);
+    l11 = l18;
+    l18 = (uint64_t)((uint64_t)l11 / (uint64_t)UINT64_C(4294967296));
+    l12 = l18;
+    l14 = l2.n;
+    l19 = (uint8_t)(l12 < l14);
+    if (l19) {
+        l0 = trace_lines__writes__nothing();
+        return l0;
+    }
+    l22 = (uint64_t)((uint64_t)UINT64_C(32) * (uint64_t)l12);
+    l21 = (uint64_t)((uint64_t)l22 + (uint64_t)l9);
+    l14 = (uint64_t)((uint64_t)l21 * (uint64_t)UINT64_C(8));
+    l24 = l4.p + (size_t)l14;
+    l18 = (*(uint64_t *)l24);
+    l0.f0 = 1;
+    l0.f1 = l12;
+    l0.f2 = l9;
+    l0.f3 = l18;
+    return l0;
+}
+
+static const struct rt_array_uint8_1 trace_lines__writes__written__l12 = { { UINT8_C(32) } };
+static const struct rt_array_uint8_1 trace_lines__writes__written__l13 = { { UINT8_C(32) } };
+static inline uint64_t trace_lines__writes__written(rt_slice l1, uint64_t l2, struct trace_lines__writes__Write l3, rt_slice l4)
+{
+    uint64_t l0;
+    uint64_t l5;
+    uint64_t l6;
+    uint64_t l7;
+    uint64_t l8;
+    uint64_t l9;
+    uint64_t l10;
+    uint64_t l11;
+    uint8_t l14;
+    uint64_t l15;
+    uint64_t l16;
+    uint64_t l17;
+    uint8_t *l18;
+    uint64_t l19;
+    uint8_t *l20;
+    rt_slice l21;
+    uint8_t *l22;
+    rt_slice l23;
+    uint8_t *l24;
+    rt_slice l25;
+    uint8_t *l26;
+    rt_slice l27;
+    uint8_t *l28;
+    rt_slice l29;
+    uint8_t *l30;
+    rt_slice l31;
+    uint8_t *l32;
+    rt_slice l33;
+    l14 = l3.f0;
+    if (l14) {
+        l5 = l3.f1;
+        l6 = l3.f2;
+        l15 = (uint64_t)((uint64_t)UINT64_C(32) * (uint64_t)l5);
+        l16 = (uint64_t)((uint64_t)l15 + (uint64_t)l6);
+        l17 = (uint64_t)((uint64_t)l16 * (uint64_t)UINT64_C(8));
+        l18 = l4.p + (size_t)l17;
+        l19 = (*(uint64_t *)l18);
+        l7 = l19;
+        l20 = (uint8_t *)&(*(uint8_t *)l1.p);
+        l21.p = l20;
+        l21.n = l1.n;
+        l8 = trace_lines__writes__place(l21, l2, l5, l6);
+        l22 = (uint8_t *)&(*(uint8_t *)l1.p);
+        l23.p = l22;
+        l23.n = l1.n;
+        l24 = (uint8_t *)&trace_lines__writes__written__l12;
+        l25.p = l24;
+        l25.n = UINT64_C(1);
+        l9 = text__put(l23, l8, l25);
+        l26 = (uint8_t *)&(*(uint8_t *)l1.p);
+        l27.p = l26;
+        l27.n = l1.n;
+        l10 = trace_lines__parts__worth(l27, l9, l3.f3);
+        l28 = (uint8_t *)&(*(uint8_t *)l1.p);
+        l29.p = l28;
+        l29.n = l1.n;
+        l30 = (uint8_t *)&trace_lines__writes__written__l13;
+        l31.p = l30;
+        l31.n = UINT64_C(1);
+        l11 = text__put(l29, l10, l31);
+        l32 = (uint8_t *)&(*(uint8_t *)l1.p);
+        l33.p = l32;
+        l33.n = l1.n;
+        l0 = trace_lines__parts__worth(l33, l11, l7);
+        return l0;
+    }
+    l0 = l2;
     return l0;
 }
 
@@ -15309,13 +16708,6 @@ audala_copied audala_listing(const uint8_t *image, size_t length, uint8_t *outpu
     return given;
 }
 
-audala_stopped audala_place(const uint8_t *text, size_t length)
-{
-    struct audala__places__Stopped r = audala__places__audala_place(rt_lent(text, length));
-    audala_stopped given = { .at = (size_t)r.f0 };
-    return given;
-}
-
 audala_copied audala_read_image(const uint8_t *image, size_t length, size_t most, uint8_t *buffer, size_t room)
 {
     struct audala__images__Copied r = audala__images__audala_read_image(rt_lent(image, length), most, rt_lent(buffer, room));
@@ -15341,6 +16733,13 @@ audala_copied audala_text(const uint8_t *text, size_t length, uint8_t *output, s
 {
     struct audala__images__Copied r = audala__texts__audala_text(rt_lent(text, length), rt_lent(output, room));
     audala_copied given = { .number = (uint32_t)r.f0, .count = (size_t)r.f1 };
+    return given;
+}
+
+audala_traced audala_trace(const uint8_t *program, size_t program_length, const uint8_t *table, size_t table_length, const uint8_t *turns, size_t turn_count, uint64_t from, uint8_t *output, size_t room)
+{
+    struct audala__traces__Traced r = audala__traces__audala_trace(rt_lent(program, program_length), rt_lent(table, table_length), rt_lent(turns, turn_count), from, rt_lent(output, room));
+    audala_traced given = { .number = (uint32_t)r.f0, .turns = (uint32_t)r.f1, .length = (uint64_t)r.f2, .count = (size_t)r.f3 };
     return given;
 }
 

@@ -93,7 +93,7 @@ static inline const char *audala_message(uint32_t number) {
 /* Places of the command list that a check or a run asks for, else 13. */
 #define AUDALA_LIST_PLACES 1024
 
-/* Bytes of the output that a run asks for, that program text asks for and that a listing asks for, else 13. */
+/* Bytes of the output that a run asks for, that program text asks for and that a listing asks for, else 13. A trace takes any output. */
 #define AUDALA_OUTPUT_BYTES AUDALA_TABLE_BYTES
 #define AUDALA_IMAGE_BYTES AUDALA_PROGRAM_BYTES
 #define AUDALA_LISTING_BYTES 131072
@@ -121,9 +121,9 @@ static inline const char *audala_message(uint32_t number) {
 #define AUDALA_READ_IMAGE_STACK 1024
 #define AUDALA_WRITE_IMAGE_STACK 1024
 #define AUDALA_TEXT_STACK 237568
-#define AUDALA_PLACE_STACK 208896
+#define AUDALA_PLACE_STACK 208896 /* not computed for ARM */
 #define AUDALA_LISTING_STACK 65536
-#define AUDALA_TRACE_STACK 133120
+#define AUDALA_TRACE_STACK 135168 /* not computed for ARM: that of a run and two lines */
 
 /* Types, values and records ---------------------------------------------------------------------------------------------------------------------------- */
 
@@ -316,11 +316,12 @@ typedef struct {
     size_t count;    /* bytes of it that were written */
 } audala_traced;
 
-/* A page of the trace of a run (docs/FORMAT.md, 'Traces'): the bytes of its text from the place `from` on, as many as the output holds, in the front of the output;
- * later bytes are untouched. The text has a line for each move of the schedule and each turn, and a last line `end` with the number and the turns; of a
- * refused input (1 to 12, 14) it is that line alone. Any place and any output will do: from `length` on nothing is written, and pages that follow each other
- * are the whole text. So go on with from + count until it is `length`, or ask with an empty output for `length` first.
- * Each call makes the run anew and tells all of it, whichever page is asked for: a text of L bytes in pages of N bytes costs L / N runs, in an output of L bytes one. */
+/* A page of the trace of a run (docs/FORMAT.md, 'Traces'): the bytes of its text from the place `from` on, as many as the output holds, in the front of the
+ * output; later bytes are untouched. The text has a line for each move of the schedule and each turn, and a last line `end` with the number and the turns; of
+ * a refused input (1 to 12, 14) it is that line alone. Any place and any output will do: from `length` on nothing is written, and pages that follow each
+ * other are the whole text. So go on with from + count until it is `length`, or ask with an empty output for `length` first.
+ * Each call makes the run anew and tells all of it, whichever page is asked for: a text of L bytes in pages of N bytes costs L / N runs, in an output of
+ * L bytes one. */
 audala_traced audala_trace(const uint8_t *program, size_t program_length, const uint8_t *table, size_t table_length, const uint8_t *turns,
                            size_t turn_count, uint64_t from, uint8_t *output, size_t room);
 

@@ -4,6 +4,7 @@ pub mod images;
 pub mod listings;
 pub mod places;
 pub mod texts;
+pub mod traces;
 
 ghost use mathlib.Core.Path.{_≡_};
 ghost use Rattle.verdict.specs.Verdict.{check-verdict, check-list};
