@@ -121,6 +121,7 @@ static inline const char *audala_message(uint32_t number) {
 #define AUDALA_READ_IMAGE_STACK 1024
 #define AUDALA_WRITE_IMAGE_STACK 1024
 #define AUDALA_TEXT_STACK 237568
+#define AUDALA_PLACE_STACK 208896 /* not computed for ARM */
 #define AUDALA_LISTING_STACK 65536
 #define AUDALA_TRACE_STACK 135168 /* not computed for ARM: that of a run and two lines */
 
@@ -291,6 +292,16 @@ audala_copied audala_write_image(const uint8_t *stream, size_t length, size_t mo
  * written, the first 512 * count bytes, is to be checked like any image: audala_check, with a list of AUDALA_LIST_PLACES, then answers
  * 0, 5, 6, 7 or 8. */
 audala_copied audala_text(const uint8_t *text, size_t length, uint8_t *output, size_t room);
+
+/* What is answered of a text's place. */
+typedef struct {
+    size_t at; /* how many bytes of the text are before the place; its length where the end is the place */
+} audala_stopped;
+
+/* The place at which reading a text stops, for a message beside 15, 16 and 17: of 15 the first byte at which no token begins, of a
+ * text over 65,536 bytes that count; of 16 the first token with which no derivation goes on, the length where the text ends too early; of 17 the token at which a
+ * name, a literal or an argument list is wrong, 0 for declarations of structs, parameters and steps, the length for other counts. It may be after the mistake. */
+audala_stopped audala_place(const uint8_t *text, size_t length);
 
 /* The listing of a program image in the front of the output, lines of ASCII that end in a line feed; later bytes are untouched. The count is that of its
  * bytes. Of an accepted image: `audala`, its structs, steps, commands and depth, then a line for each command: struct, step, position, command. Of a refused

@@ -59,6 +59,13 @@ pub struct Copied {
     pub count: usize,
 }
 
+/// Where reading a text stops: how many bytes are before the place.
+#[repr(C)]
+#[derive(Clone, Copy, Debug, PartialEq, Eq)]
+pub struct Stopped {
+    pub at: usize,
+}
+
 /// What a page of a trace answers.
 #[repr(C)]
 #[derive(Clone, Copy, Debug, PartialEq, Eq)]
@@ -70,7 +77,7 @@ pub struct Traced {
 }
 
 mod entries {
-    use super::{Copied, Part, Report, Traced, Verdict};
+    use super::{Copied, Part, Report, Stopped, Traced, Verdict};
 
     unsafe extern "C" {
         pub fn audala_check(image: *const u8, length: usize, list: *mut u64, places: usize) -> Verdict;
@@ -90,6 +97,7 @@ mod entries {
         pub fn audala_read_image(image: *const u8, length: usize, most: usize, buffer: *mut u8, room: usize) -> Copied;
         pub fn audala_write_image(stream: *const u8, length: usize, most: usize, output: *mut u8, room: usize) -> Copied;
         pub fn audala_text(text: *const u8, length: usize, output: *mut u8, room: usize) -> Copied;
+        pub fn audala_place(text: *const u8, length: usize) -> Stopped;
         pub fn audala_listing(image: *const u8, length: usize, output: *mut u8, room: usize) -> Copied;
         pub fn audala_trace(
             program: *const u8,
@@ -154,6 +162,12 @@ pub fn write_image(stream: &[u8], most: usize, output: &mut [u8]) -> Copied {
 pub fn text(text: &[u8], output: &mut [u8]) -> Copied {
     // SAFETY: as said above.
     unsafe { entries::audala_text(text.as_ptr(), text.len(), output.as_mut_ptr(), output.len()) }
+}
+
+/// The place at which reading a text stops, as a count of the bytes before it.
+pub fn place(text: &[u8]) -> usize {
+    // SAFETY: as said above.
+    unsafe { entries::audala_place(text.as_ptr(), text.len()).at }
 }
 
 /// The listing of a program image in the front of the output.
