@@ -1,8 +1,13 @@
 -- What a run on images comes to (01, 'Numbers from the input', 'Numbers from the state'): what is played of a machine that is seated, and what is
 -- answered. 13 and 14 stand after all others, so that a stage speaks of what program and table come to without them.
-use Prim.Native.Nat.{ℕ}
+use Prim.Native.Nat.{ℕ, _*_}
 use mathlib.Core.Path.{_≡_}
+use mathlib.Core.Bool.{true, false}
 use mathlib.Core.List.{List}
+use lib.Dec.{ltb}
+use Rattle.types.specs.Limits.{table-blocks, max-commands, max-turns}
+use Rattle.types.specs.Numbers.{no-room, many-turns}
+use Rattle.block.specs.Block.{block-size}
 use Rattle.types.specs.Stages.{on}
 use Rattle.program.specs.Tree.{Program}
 use Rattle.verdict.specs.Verdict.{listed}
@@ -15,6 +20,15 @@ use Rattle.seating.specs.declared.Opened.{Opened}
 use Rattle.seating.specs.Seated.{Opens}
 use Rattle.run_images.specs.declared.Report.{Report}
 use Rattle.run_images.specs.Answer.{answer}
+
+-- What a caller lends ---------------------------------------------------------------------
+
+-- 13 for a short output or a short list, 14 for too many turn bytes; 0 where there is room for everything
+unfoldable pub room-number : ℕ → ℕ → ℕ → ℕ
+room-number output list turns = elim (ltb output (block-size * table-blocks)) [
+  | true ↦ no-room
+  | false ↦ elim (ltb list max-commands) [ true ↦ no-room | false ↦ elim (ltb max-turns turns) [ true ↦ many-turns | false ↦ 0 ] ]
+]
 
 -- Its run --------------------------------------------------------------------------------
 

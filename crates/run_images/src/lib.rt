@@ -17,7 +17,7 @@ ghost use Rattle.run.specs.Entry.{report, run-report, run-output, run-list};
 ghost use Rattle.table_write.specs.Written.{Filled, memory-blocks, memory-image};
 ghost use Rattle.seating.specs.Seated.{Opening};
 ghost use Rattle.run_images.specs.Answer.{answer};
-ghost use Rattle.run_images.specs.Stages.{Begins};
+ghost use Rattle.run_images.specs.Stages.{room-number, Begins};
 
 // Output bytes that a run asks for.
 const OUTPUT: usize = types::TABLE_BLOCKS * blocks::BLOCK_SIZE;
@@ -43,6 +43,22 @@ fn refused(number: u8) -> Report
         depth: 0,
         holding: 0,
     }
+}
+
+// 13 where the output or the list is too short, 14 where there are too many turn bytes; 0 where there is room for everything.
+fn room(output: usize, list: usize, turns: usize) -> u8
+    ensures { λ r. ⌜ r ≡ room-number output list turns ⌝ }
+{
+    if output < OUTPUT {
+        return types::number::NO_ROOM;
+    }
+    if list < types::MAX_COMMANDS {
+        return types::number::NO_ROOM;
+    }
+    if types::MAX_TURNS < turns {
+        return types::number::MANY_TURNS;
+    }
+    0
 }
 
 // What a run answers; the table as it stands then is written into the output, its stream into the buffer before.
@@ -109,16 +125,10 @@ fn begun(
     let SeatRead::Taken(seat) = seated else {
         return refused(seating::refusal(seated));
     };
-    // 13
-    if output.len() < OUTPUT {
-        return refused(types::number::NO_ROOM);
-    }
-    if list.len() < types::MAX_COMMANDS {
-        return refused(types::number::NO_ROOM);
-    }
-    // 14
-    if types::MAX_TURNS < turns.len() {
-        return refused(types::number::MANY_TURNS);
+    // 13 and 14
+    let number = room(output.len(), list.len(), turns.len());
+    if number != 0 {
+        return refused(number);
     }
     emit_steps::program(s, cs, seat.at, list);
     let numbers = seat.numbers;

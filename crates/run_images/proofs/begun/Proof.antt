@@ -18,7 +18,7 @@ use Rattle.seating.specs.declared.SeatRead.the-variants.{Taken}
 use Rattle.seating.specs.AdmitLaws.{opens-admits}
 use Rattle.seating.specs.SeatLaws.{with-refused, with-begun}
 use Rattle.run_images.specs.Stages.{Played}
-use Rattle.run_images.specs.StageLaws.{refused-answers, output-short, list-short, turns-many, came-answers}
+use Rattle.run_images.specs.StageLaws.{Room, refused-answers, room-answers, room-open, came-answers}
 use Rattle.run_images.specs.RunLaws.{opens-preparable, admitted-ready, seated-ready, seated-played}
 use Rattle.run_images.specs.RunLaws.{played-filled, played-nulls, played-holders, played-turns, played-came}
 use borrow.Author.Needs.{needs}
@@ -116,42 +116,31 @@ begins c p o = with-begun (the-start c .args .table .now) p (seated c p o .1)
 
 -- The room that is lent ----------------------------------------------------------------------
 
--- the table, from before 13 and after it
-abbrev of-then : tie.Then1 → tie.After-seated
-of-then c = c .before .before
-
-abbrev of-else : tie.Else1 → tie.After-seated
-of-else c = c .before .before
-
 returns-2 : tie.Need-returns-2
-returns-2 c = let at-then = c .before in λ p o. output-short (begins (of-then at-then) p o) (at-then .if1 .taken) (c .refused2 .ensures)
-
-returns-3 : tie.Need-returns-3
-returns-3 c =
-    let at-then = c .before in let at-else = at-then .before in
-    λ p o. list-short (begins (of-else at-else) p o) (at-else .if1 .left) (at-then .if2 .taken) (c .refused3 .ensures)
-
-returns-4 : tie.Need-returns-4
-returns-4 c =
-    let at-then = c .before in let at-else2 = at-then .before in let at-else = at-else2 .before in
-    λ p o. turns-many (begins (of-else at-else) p o) (at-else .if1 .left) (at-else2 .if2 .left) (at-then .if3 .taken) (c .refused4 .ensures)
+returns-2 c =
+    let at-then = c .before in let at-room = at-then .before in
+    λ p o. room-answers (at-room .room .ensures) (begins (at-room .before .before) p o) (at-then .if1 .taken) (c .refused2 .ensures)
 
 -- The run ------------------------------------------------------------------------------------
 
 -- the table, from after 14
-abbrev the-seated : tie.Else3 → tie.After-seated
-the-seated c = of-else (c .before .before)
+abbrev the-seated : tie.Else1 → tie.After-seated
+the-seated c = c .before .before .before
 
--- what was opened before it
-abbrev opened : (c : tie.Else3) → OpensAt (the-start (the-seated c)) (the-start (the-seated c) .pre .0)
+-- what was opened before it, and the room that is left
+abbrev opened : (c : tie.Else1) → OpensAt (the-start (the-seated c)) (the-start (the-seated c) .pre .0)
 opened c = the-start (the-seated c) .pre .1
 
-abbrev after-14 : tie.After-program2 → tie.Else3
+enough : (c : tie.Else1)
+    → Room (the-start (the-seated c) .args .turns .now) (the-start (the-seated c) .args .output .now) (the-start (the-seated c) .args .list .now)
+enough c = room-open (c .before .room .ensures) (c .if1 .left)
+
+abbrev after-14 : tie.After-program2 → tie.Else1
 after-14 c = c .before .before
 
 -- the commands may be written
 program-requires-2 : tie.Need-program-requires-2
-program-requires-2 c κs = let e = c .before in admitted-ready (seated (the-seated e) _ (opened e) .2 .admitted) _ (e .before .if2 .left)
+program-requires-2 c κs = let e = c .before in admitted-ready (seated (the-seated e) _ (opened e) .2 .admitted) _ (enough e .places)
 
 abbrev at-list : tie.After-cells3 → tie.After-program2
 at-list c = let at-arg = c .before .before .before .before in let at-numbers = at-arg .before in at-numbers .before .before .before
@@ -200,24 +189,23 @@ reported-requires c κs =
     let a = o .admitted in (
       played-filled a w,
       (
-        (played-nulls a w, omega (arith, played-turns a w, e .if3 .left), played-holders a w),
-        (omega (arith, the-table d .seat-table .kept .1 .1 .1 .1 .0), e .before .before .if1 .left),
+        (played-nulls a w, omega (arith, played-turns a w, enough e .few), played-holders a w),
+        (omega (arith, the-table d .seat-table .kept .1 .1 .1 .1 .0), enough e .long),
       ),
     )
 
-returns-5 : tie.Need-returns-5
-returns-5 c =
+returns-3 : tie.Need-returns-3
+returns-3 c =
     let at-reported = c .before .before .before in let d = at-run (at-reported .before .before) in let e = after-14 (at-list (d .before)) in
     λ p o. let w = plays d p o in
     let came = played-came (o .admitted) w (o .deep) _ _ (at-reported .reported .ensures .0) (at-reported .reported .ensures .1) in
-    came-answers (begins (the-seated e) p o) (e .before .before .if1 .left) (e .before .if2 .left) (e .if3 .left) came (w .listed)
+    came-answers (begins (the-seated e) p o) (enough e) came (w .listed)
 
 pub begun-spec : {M : Type 1} → statement M
 begun-spec =
     tie.close
     (tie.spec (λ c. search needs) (λ c. search needs) array-share-prefix-counts slice-aggregate-cs array-share-prefix-types slice-aggregate-ts
     (λ c. search needs) (λ c. search needs) (λ c. search needs) program-requires (λ c. search needs) (λ c. search needs) (λ c. search needs)
-    seat-table-requires (λ c. search needs) (λ c. search needs) (λ c κs. search needs) (λ c κs. search needs) returns (λ c κs. search needs) returns-2
-    (λ c κs. search needs) returns-3 (λ c κs. search needs) returns-4 program-requires-2 (λ c. search needs) (λ c. search needs) (λ c. search needs)
-    (λ c. search needs) run-requires (λ c. search needs) (λ c. search needs) slice-aggregate-reported-3 reported-requires (λ c. search needs)
-    (λ c. search needs) returns-5)
+    seat-table-requires (λ c. search needs) (λ c. search needs) (λ c κs. search needs) (λ c κs. search needs) returns (λ c κs. search needs)
+    (λ c κs. search needs) returns-2 program-requires-2 (λ c. search needs) (λ c. search needs) (λ c. search needs) (λ c. search needs) run-requires
+    (λ c. search needs) (λ c. search needs) slice-aggregate-reported-3 reported-requires (λ c. search needs) (λ c. search needs) returns-3)
