@@ -231,3 +231,28 @@ fn a_file_is_replaced_where_a_link_points() {
     assert_eq!(fs::read(&old).unwrap(), fs::read("../examples/sum.program").unwrap());
     assert_eq!(shell(&format!("stat -c %a {old}")).out, "640\n");
 }
+
+/// Each run of the examples gives what its `.runs` file says: number, turns and last table.
+#[test]
+fn the_examples_run_as_written() {
+    let mut runs = 0;
+    for entry in fs::read_dir("../examples/texts").unwrap() {
+        let path = entry.unwrap().path();
+        if path.extension().is_none_or(|end| end != "runs") {
+            continue;
+        }
+        let [program, table] =
+            ["audala", "table"].map(|end| path.with_extension(end).strip_prefix("..").unwrap().to_str().unwrap().to_string());
+        for wanted in fs::read_to_string(&path).unwrap().split("\n\n").filter(|run| !run.trim().is_empty()) {
+            let mut lines = wanted.trim().lines();
+            let turns = lines.next().and_then(|line| line.strip_prefix("turns ")).expect("turns");
+            let said = audala(&["run", "--plain", &program, &table, "--turns", turns], b"").out;
+            let told: Vec<&str> = said.lines().collect();
+            let gives = format!("gives {} {}", &told[0]["number ".len()..], &told[1]["turns ".len()..]);
+            assert_eq!(lines.next(), Some(gives.as_str()), "{program} {turns}");
+            assert!(lines.eq(told[5..].iter().map(|line| &line["record ".len()..])), "{program} {turns}: {said}");
+            runs += 1;
+        }
+    }
+    assert!(runs >= 20);
+}
