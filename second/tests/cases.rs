@@ -218,3 +218,13 @@ fn exports_are_written_and_answered() {
     };
     assert!(answers.iter().filter(apart).count() > 20);
 }
+
+#[test]
+fn the_committed_exports_have_the_committed_answers() {
+    let mut rest = &include_bytes!("../cases/exports.bin")[..];
+    for line in include_str!("../cases/exports.txt").lines() {
+        let case = Export::read(&mut rest).expect("a whole case").expect("a case for each line");
+        assert_eq!(case.answer(), line);
+    }
+    assert!(rest.is_empty());
+}
