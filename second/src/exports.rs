@@ -6,9 +6,9 @@ use crate::cases::{
     Case, MOST_IMAGE, MOST_PLACES, MOST_PROGRAM, MOST_TABLE, MOST_TURNS, OUTPUT_FILL, digest,
     put_bytes, put_number, take_bytes, take_number,
 };
+use crate::generate::Generator;
 use crate::generate::edges::{P, edges};
 use crate::generate::encode::{image, program_stream};
-use crate::generate::Generator;
 use crate::generate::programs::random_program;
 use crate::generate::random::Random;
 use engine::{BlockFault, listing, part, stream, trace, write};

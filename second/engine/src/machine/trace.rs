@@ -187,11 +187,13 @@ impl Tracer<'_> {
     /// The line of a turn that was taken.
     fn tell(&mut self, turn: usize, byte: u8, act: &Act) {
         let Act { label, structure, command, position, .. } = act;
-        let front = format!("{turn} {byte} {label} {structure} {} {position} {command} [", self.step);
+        let front =
+            format!("{turn} {byte} {label} {structure} {} {position} {command} [", self.step);
         self.text.push_str(&front);
         let values = self.machine.instances[usize::from(*label)].stack.values();
         for (of, value) in self.types[usize::from(*label)].stack.iter().zip(values) {
-            write!(self.text, " {}:{}", of.byte(), shown(*of, *value)).expect("a string takes any text");
+            write!(self.text, " {}:{}", of.byte(), shown(*of, *value))
+                .expect("a string takes any text");
         }
         self.text.push_str(" ]");
         if let Some((target, variable, old)) = act.written {
