@@ -42,4 +42,4 @@ if "$work/loop" <"$here/sum.program" >"$work/loop.txt"; then
 fi
 tail -n 1 "$work/loop.txt" | tee "$work/stop.txt"
 grep -q '^round 28: a result lies outside its type' "$work/stop.txt"
-echo "examples: both agree, and the first command prints what README says"
+echo "examples: both agree, and the example over dist/audala.c prints what it should"

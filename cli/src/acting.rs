@@ -1,5 +1,6 @@
 //! Labels that are to act, as turn bytes (01 and 02 §5): the byte e picks the (e modulo R)th of the R holders, counted from the label after the one that acted
-//! last. Who holds commands is asked of the library: a run says how many do, and a trace with zeros after the turns so far shows them one after the other.
+//! last. Who holds commands is asked of the library: a run says how many do, and a trace with zeros after the turns so far shows them one after the other. That
+//! is asked where a step begins, since there a command is hardly ever refused; from then on the one that acted is gone where there is one fewer.
 
 use crate::engine;
 use crate::lines::{Line, lines};
@@ -12,84 +13,102 @@ use crate::turns::{Part, zeros};
 /// The number of a run whose turns are used up.
 const OUT_OF_TURNS: u32 = 33;
 
+/// The holders in the order in which bytes pick them; none for one whose command would be refused, so that no trace shows it.
+type Order = Vec<Option<usize>>;
+
 /// The bytes of all parts; zeros where there is none.
 pub fn bytes(program: &Program, table: &Table, parts: &[Part]) -> Result<Vec<u8>, Failure> {
     if parts.is_empty() {
         return Ok(zeros());
     }
+    let run = Run { program: &program.image, table: &table.image };
     let mut bytes = Vec::new();
     for part in parts {
         match part {
             Part::Bytes(more) => bytes.extend_from_slice(more),
-            Part::Acting(labels) => act(program, table, &mut bytes, labels)?,
+            Part::Acting(labels) => run.act(&mut bytes, labels)?,
         }
     }
     Ok(bytes)
 }
 
-/// Adds a byte for each label, up to the run's end or stop.
-fn act(program: &Program, table: &Table, bytes: &mut Vec<u8>, labels: &[usize]) -> Result<(), Failure> {
-    let (mut holders, mut last) = (Vec::new(), None);
-    for &label in labels {
-        let (report, _) = engine::run(&program.image, &table.image, bytes);
-        if report.number != OUT_OF_TURNS {
-            return if report.number == 0 || report.number > OUT_OF_TURNS {
-                Ok(())
-            } else {
-                Err(unseen(bytes.len(), meaning(report.number)))
-            };
+struct Run<'r> {
+    program: &'r [u8],
+    table: &'r [u8],
+}
+
+impl Run<'_> {
+    /// Adds a byte for each label, up to the run's end or stop. The turns since the last step began are gone through again, to know who holds commands.
+    fn act(&self, bytes: &mut Vec<u8>, labels: &[usize]) -> Result<(), Failure> {
+        let (acted, begun) = self.acted(bytes);
+        if acted.len() < bytes.len() {
+            return Ok(());
         }
-        let holding = report.holding as usize;
-        follow(&mut holders, last, holding);
-        if holders.len() != holding {
-            (holders, last) = seen(program, table, bytes, holding);
+        let before = bytes.split_off(begun);
+        let again = acted[begun..].iter().copied();
+        let mut order = Order::new();
+        for (i, label) in again.chain(labels.iter().copied()).enumerate() {
+            let (report, _) = engine::run(self.program, self.table, bytes);
+            match report.number {
+                OUT_OF_TURNS => self.follow(&mut order, bytes, report.holding as usize),
+                0 | 34.. => return Ok(()),
+                number => return Err(refused(bytes.len(), meaning(number))),
+            }
+            let at = order
+                .iter()
+                .position(|holder| *holder == Some(label))
+                .ok_or_else(|| missing(&order, bytes.len(), label))?;
+            bytes.push(before.get(i).copied().unwrap_or(at as u8));
+            order.rotate_left(at + 1);
         }
-        let from = holders.iter().position(|&holder| last.is_none_or(|last| holder > last)).unwrap_or(0);
-        let Some(at) = holders.iter().position(|&holder| holder == label) else {
-            let others: Vec<String> = holders.iter().map(usize::to_string).collect();
-            let cause = format!("label {label} holds no commands; those that do: {}", others.join(", "));
-            return Err(unseen(bytes.len(), &cause));
-        };
-        bytes.push(((at + holders.len() - from) % holders.len()) as u8);
-        last = Some(label);
+        Ok(())
     }
-    Ok(())
+
+    /// The order before a turn. The one that acted is its last: it is gone where there is one holder fewer. Where it was alone, the schedule may have moved.
+    fn follow(&self, order: &mut Order, bytes: &[u8], holding: usize) {
+        if order.len() > 1 && order.len() == holding + 1 {
+            order.pop();
+        } else if order.len() <= 1 || order.len() != holding {
+            *order = self.seen(bytes, holding);
+        }
+    }
+
+    /// The order after these turns, by a round of zeros; where a command on the way is refused, by each byte alone.
+    fn seen(&self, bytes: &[u8], holding: usize) -> Order {
+        let after = |more: &[u8]| self.acted(&[bytes, more].concat()).0.split_off(bytes.len());
+        let round = after(&vec![0; holding]);
+        if round.len() == holding {
+            return round.into_iter().map(Some).collect();
+        }
+        (0..holding).map(|byte| after(&[byte as u8]).first().copied()).collect()
+    }
+
+    /// The labels that act in a run, and how many of its turns were before the last move of the schedule.
+    fn acted(&self, bytes: &[u8]) -> (Vec<usize>, usize) {
+        let (_, text) = engine::trace(self.program, self.table, bytes);
+        let (mut acted, mut begun) = (Vec::new(), 0);
+        for line in lines(&text).map_or(Vec::new(), |(lines, _, _)| lines) {
+            match line {
+                Line::Turn(turn) => acted.push(turn.label),
+                Line::Move(_) => begun = acted.len(),
+            }
+        }
+        (acted, begun)
+    }
 }
 
-/// The holders after a turn: the one that acted is gone where there is one fewer. Where it was alone, the schedule may have moved, and they are asked for anew.
-fn follow(holders: &mut Vec<usize>, last: Option<usize>, holding: usize) {
-    if holders.len() == 1 {
-        holders.clear();
-    } else if holders.len() == holding + 1 {
-        holders.retain(|&holder| Some(holder) != last);
+/// Why a label has no byte.
+fn missing(order: &Order, turn: usize, label: usize) -> Failure {
+    if order.contains(&None) {
+        return refused(turn, "a command is refused there, so that who holds commands cannot be seen");
     }
+    let mut others: Vec<usize> = order.iter().flatten().copied().collect();
+    others.sort_unstable();
+    let others: Vec<String> = others.iter().map(usize::to_string).collect();
+    refused(turn, &format!("label {label} holds no commands; those that do: {}", others.join(", ")))
 }
 
-/// The labels that hold commands after these turns, in order, and the one that acted last.
-fn seen(program: &Program, table: &Table, bytes: &[u8], holding: usize) -> (Vec<usize>, Option<usize>) {
-    let round = |more: &[u8]| {
-        let (_, text) = engine::trace(&program.image, &table.image, &[bytes, more].concat());
-        let turns = lines(&text).map_or(Vec::new(), |(lines, _, _)| lines);
-        let acted = turns.iter().filter_map(|line| match line {
-            Line::Turn(turn) => Some((turn.turn, turn.label)),
-            Line::Move(_) => None,
-        });
-        acted.collect::<Vec<(usize, usize)>>()
-    };
-    let acted = round(&vec![0; holding]);
-    let last = acted.iter().take_while(|(turn, _)| *turn < bytes.len()).last().map(|(_, label)| *label);
-    let mut holders: Vec<usize> =
-        acted.iter().filter(|(turn, _)| *turn >= bytes.len()).map(|(_, label)| *label).collect();
-    if holders.len() < holding {
-        // A command on the way is refused: each holder is asked for by its own byte.
-        let one = |byte| round(&[byte as u8]).iter().find(|(turn, _)| *turn == bytes.len()).map(|(_, label)| *label);
-        holders = (0..holding).filter_map(one).collect();
-    }
-    holders.sort_unstable();
-    (holders, last)
-}
-
-fn unseen(turn: usize, cause: &str) -> Failure {
+fn refused(turn: usize, cause: &str) -> Failure {
     let cause = format!("turn {turn}: {cause}");
     Failure::Refused(Box::new(Refusal {
         file: "--acting".to_string(),

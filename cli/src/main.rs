@@ -1,5 +1,6 @@
 //! `audala`: the AuDaLa engine at the command line, over dist/audala.c. The library decides what is accepted and what a run gives, and is proved; this program
-//! is not proved. It labels, converts and sets the exit status: 0 done, 1 refused, 2 stopped with 33, 34 or 35, 3 misuse or a file that cannot be read or written.
+//! is not proved. It labels, converts and sets the exit status: 0 done, 1 refused, 2 stopped with 33, 34 or 35, 3 misuse or a file that cannot be read or
+//! written.
 #![deny(unused_must_use)]
 
 mod acting;

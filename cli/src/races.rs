@@ -71,10 +71,9 @@ fn sentence(story: &Story, index: &Index, read: &Event, write: &Event, late: &[(
     if let Some((turn, _)) = late.iter().find(|(_, how)| *how == How::Value) {
         return format!("{front}At turn {turn} {reader} still uses the old {seen} ({}).", statement(turn));
     }
-    let decided = index.uses[&read.turn.turn].iter().map(|(turn, _)| *turn).filter(|turn| *turn < write.turn.turn);
-    let decided = decided
-        .filter(|turn| index.by_turn.get(turn).is_some_and(|event| matches!(event.mark, Mark::If(_))))
-        .next_back();
+    let is_if = |turn: &usize| index.by_turn.get(turn).is_some_and(|event| matches!(event.mark, Mark::If(_)));
+    let mut decided = index.uses[&read.turn.turn].iter().map(|(turn, _)| *turn).filter(|turn| *turn < write.turn.turn);
+    let decided = decided.rfind(is_if);
     let decided = decided.map_or(String::new(), |turn| format!(" (turn {turn})"));
     let acts: Vec<String> = late.iter().map(|(turn, _)| format!("{} at turn {turn}", statement(turn))).collect();
     format!(

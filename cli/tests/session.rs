@@ -103,6 +103,18 @@ fn labels_that_are_to_act_do() {
     assert_eq!(labels.len(), 400);
     let again = audala(&["trace", paths[0], paths[1], "--plain", "--acting", &labels.join(",")], b"").out;
     assert_eq!(acted(&again), labels);
+    // A label whose command is refused stops the run, also where it is asked for after other turns.
+    let table = b"1 0 1 0\n2 0 2147483647 1\n";
+    for (turns, taken) in [
+        (&["--acting", "2,2,2,2,2,2,2,2"][..], 5),
+        (&["--acting", "2,2,2,2,2,1,0,2,1"], 7),
+        (&["--turns", "2,2,2,2,2", "--acting", "1,0,2"], 7),
+        (&["--turns", "24x0", "--acting", "1"], 17),
+    ] {
+        let stopped = audala(&[&["run", "--plain", SUM[0], "-"][..], turns].concat(), table);
+        let gives = format!("number 35\nturns {taken}\n");
+        assert!(stopped.status == 2 && stopped.out.starts_with(&gives), "{turns:?}: {} {}", stopped.out, stopped.err);
+    }
     // Options are joined in their order.
     let joined =
         audala(&["trace", SUM[0], SUM[1], "--plain", "--turns", "2x0", "--acting", "1,0", "--turns", "0"], b"").out;
@@ -230,4 +242,29 @@ fn a_file_is_replaced_where_a_link_points() {
     );
     assert_eq!(fs::read(&old).unwrap(), fs::read("../examples/sum.program").unwrap());
     assert_eq!(shell(&format!("stat -c %a {old}")).out, "640\n");
+}
+
+/// Each run of the examples gives what its `.runs` file says: number, turns and last table.
+#[test]
+fn the_examples_run_as_written() {
+    let mut runs = 0;
+    for entry in fs::read_dir("../examples/texts").unwrap() {
+        let path = entry.unwrap().path();
+        if path.extension().is_none_or(|end| end != "runs") {
+            continue;
+        }
+        let [program, table] = ["audala", "table"]
+            .map(|end| path.with_extension(end).strip_prefix("..").unwrap().to_str().unwrap().to_string());
+        for wanted in fs::read_to_string(&path).unwrap().split("\n\n").filter(|run| !run.trim().is_empty()) {
+            let mut lines = wanted.trim().lines();
+            let turns = lines.next().and_then(|line| line.strip_prefix("turns ")).expect("turns");
+            let said = audala(&["run", "--plain", &program, &table, "--turns", turns], b"").out;
+            let told: Vec<&str> = said.lines().collect();
+            let gives = format!("gives {} {}", &told[0]["number ".len()..], &told[1]["turns ".len()..]);
+            assert_eq!(lines.next(), Some(gives.as_str()), "{program} {turns}");
+            assert!(lines.eq(told[5..].iter().map(|line| &line["record ".len()..])), "{program} {turns}: {said}");
+            runs += 1;
+        }
+    }
+    assert!(runs >= 20);
 }

@@ -73,7 +73,8 @@ fn arcs(window: &Window, lanes: &Lanes) -> String {
         let (left, right) = (x(a), x(b));
         let half = (right - left) / 2.0;
         out += &format!(
-            "<path class=\"race\" marker-end=\"url(#tip)\" data-race=\"{},{},{},{}\" d=\"M{left:.1} {1}C{:.1} {1} {:.1} {3} {right:.1} {3}\"><title>{}</title></path>",
+            "<path class=\"race\" marker-end=\"url(#tip)\" data-race=\"{},{},{},{}\" d=\"M{left:.1} {1}C{:.1} {1} {:.1} {3} {right:.1} {3}\">\
+            <title>{}</title></path>",
             n(a),
             n(from),
             n(b),

@@ -83,7 +83,8 @@ fn part(window: &Window) -> String {
 }
 
 fn controls(plot: &Plot) -> String {
-    let mut out = "<div class=\"bar noprint js\" hidden><button id=\"out\" aria-label=\"Zoom out\">−</button><button id=\"in\" aria-label=\"Zoom in\">+</button>\
+    let mut out = "<div class=\"bar noprint js\" hidden><button id=\"out\" aria-label=\"Zoom out\">−</button>\
+        <button id=\"in\" aria-label=\"Zoom in\">+</button>\
         <button id=\"fit\">Whole run</button><span class=\"small mut\"><span id=\"zoomv\">11</span> px a turn</span>"
         .to_string();
     if plot.choices.len() > 1 {
@@ -128,8 +129,10 @@ fn chart(window: &Window, lanes: &Lanes, plot: &Plot, alt: &str) -> String {
     format!(
         "<div class=\"chart\"><div class=\"plot\"><div class=\"names\"><svg width=\"{0}\" height=\"{1}\" aria-hidden=\"true\">{2}{values}</svg></div>\n\
         <div class=\"scroll\" id=\"scroll\" tabindex=\"0\" role=\"region\" aria-label=\"Time line, scrolls to the right\">\n\
-        <svg id=\"svg\" width=\"{3}\" height=\"{1}\" viewBox=\"0 0 {3} {1}\" role=\"img\" aria-label=\"{4}\"><defs><marker id=\"tip\" viewBox=\"0 0 8 8\" refX=\"7\" refY=\"4\" \
-        markerWidth=\"5\" markerHeight=\"5\" orient=\"auto\"><path d=\"M0 0L8 4L0 8Z\" class=\"tip\"/></marker></defs>\n{drawing}</svg></div></div>\n{5}</div>\n",
+        <svg id=\"svg\" width=\"{3}\" height=\"{1}\" viewBox=\"0 0 {3} {1}\" role=\"img\" aria-label=\"{4}\">\
+        <defs><marker id=\"tip\" viewBox=\"0 0 8 8\" refX=\"7\" refY=\"4\" \
+        markerWidth=\"5\" markerHeight=\"5\" orient=\"auto\"><path d=\"M0 0L8 4L0 8Z\" class=\"tip\"/></marker></defs>\n\
+        {drawing}</svg></div></div>\n{5}</div>\n",
         n(lanes.width),
         n(height),
         lanes.names,
@@ -145,7 +148,8 @@ fn panel(window: &Window) -> String {
     format!(
         "<div class=\"now noprint js\" hidden><div class=\"turn\"><button id=\"prev\" aria-label=\"One turn back\">◀</button><label for=\"turn\">Turn</label>\
         <input id=\"turn\" type=\"range\" min=\"{first}\" max=\"{last}\" value=\"{first}\"><button id=\"next\" aria-label=\"One turn on\">▶</button></div>\
-        <div id=\"now\" aria-live=\"polite\"><p class=\"mut\">Point at the time line, tap it, or move the slider: the turn and its stack are shown here.</p></div></div>\n"
+        <div id=\"now\" aria-live=\"polite\"><p class=\"mut\">\
+        Point at the time line, tap it, or move the slider: the turn and its stack are shown here.</p></div></div>\n"
     )
 }
 
@@ -207,7 +211,8 @@ fn data(window: &Window, lanes: &Lanes, plot: &Plot) -> String {
     let panel: Vec<String> = panel.collect();
     let (first, last) = window.turns().unwrap_or((0, 0));
     format!(
-        "{{\"px\":{PX},\"n\":{},\"h\":{},\"first\":{first},\"last\":{last},\"past\":{},\"see\":{},\n\"slot\":[{}],\n\"turn\":[{}],\n\"caps\":[{}],\n\"t\":[\n{}]}}",
+        "{{\"px\":{PX},\"n\":{},\"h\":{},\"first\":{first},\"last\":{last},\"past\":{},\"see\":{},\n\
+        \"slot\":[{}],\n\"turn\":[{}],\n\"caps\":[{}],\n\"t\":[\n{}]}}",
         window.count(),
         n(plot.height(lanes.end)),
         number(past),

@@ -234,8 +234,10 @@ pub fn writes(window: &Window, plot: &Plot) -> String {
         out += "<p>None.</p>\n";
     } else {
         out += &format!(
-            "<div class=\"wrap\" tabindex=\"0\" role=\"region\" aria-label=\"Writes\"><table class=\"cards\" role=\"table\"><thead><tr role=\"row\"><th class=\"num\">Turn</th>\
-            <th>Who writes</th><th>What</th><th class=\"num\">Old</th><th class=\"num\">New</th><th>Statement</th><th>Note</th></tr></thead><tbody>\n{rows}</tbody></table></div>\n"
+            "<div class=\"wrap\" tabindex=\"0\" role=\"region\" aria-label=\"Writes\"><table class=\"cards\" role=\"table\">\
+            <thead><tr role=\"row\"><th class=\"num\">Turn</th>\
+            <th>Who writes</th><th>What</th><th class=\"num\">Old</th><th class=\"num\">New</th>\
+            <th>Statement</th><th>Note</th></tr></thead><tbody>\n{rows}</tbody></table></div>\n"
         );
     }
     match window.events().filter(|event| event.mark == Mark::Dropped).count() {
