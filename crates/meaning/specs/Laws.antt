@@ -5,3 +5,4 @@ pub mod MeantLaws
 pub mod UnmeantLaws
 pub mod EitherLaws
 pub mod CauseLaws
+pub mod ExceedsLaws

@@ -5,6 +5,7 @@ pub mod Means
 pub mod Unmeant
 pub mod Holds
 pub mod HoldsDecide
+pub mod Exceeds
 pub mod Nesting
 pub mod Finding
 pub mod Meant

@@ -68,7 +68,7 @@ range-or z = go (in-int z) refl
     go true e = inl (range-of z e)
     go false e = inr (λ r. let q : true ≡ false = sym (range-test z r) ∙ e in let k : _≡_ {A = ℕ} 0 1 = cc in omega (arith, k))
 
-below-or : (n m : ℕ) → (n < m) ⊎ (m ≤ n)
+pub below-or : (n m : ℕ) → (n < m) ⊎ (m ≤ n)
 below-or n m = go (ltb n m) refl
   where
     go : (t : Bool) → ltb n m ≡ t → (n < m) ⊎ (m ≤ n)
