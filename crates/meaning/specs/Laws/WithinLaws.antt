@@ -78,7 +78,11 @@ unfolding int-word
 int-held (pos n) h = omega (arith, h)
 int-held (negsuc n) h = omega (arith, h)
 
-module _ (ds : List Struct) (ar : List ℕ) (known : (x : Id) (k : ℕ) (d : Struct) → Found struct-id x k d ds → (k < length ar) × (getD ar k 0 ≡ length (pars-of d))) where
+-- `ar` has the parameter count of each of the structs
+abbrev Known : List Struct → List ℕ → Type 0
+Known ds ar = (x : Id) (k : ℕ) (d : Struct) → Found struct-id x k d ds → (k < length ar) × (getD ar k 0 ≡ length (pars-of d))
+
+module _ (ds : List Struct) (ar : List ℕ) (known : Known ds ar) where
   type-held : {t : TypeName} {u : Ty} → TypeMeans ds t u → IsType (length ar) u
   type-held int-is = tt
   type-held nat-is = tt
@@ -188,8 +192,7 @@ each-length no-more = refl
 each-length (and-then r e) = ap suc (each-length e)
 
 -- what is found among the structs has its place and its parameters in the program
-found-known : (ds : List Struct) {l : List Struct} {us : List (List Ty)} → Each (ParsMean ds) l us → (x : Id) (k : ℕ) (d : Struct) → Found struct-id x k d l
-    → (k < length (map length us)) × (getD (map length us) k 0 ≡ length (pars-of d))
+found-known : (ds : List Struct) {l : List Struct} {us : List (List Ty)} → Each (ParsMean ds) l us → Known l (map length us)
 found-known ds (and-then (pars-mean n p) e) x k d (here q) = (omega arith, each-length p)
 found-known ds (and-then r e) x k d (later {i = i} n f) = let (h, q) = found-known ds e x i d f in (omega (arith, h), q)
 
