@@ -104,7 +104,9 @@ fn html(story: &Story, options: &Options, file: &str) -> Result<String, Failure>
     let mut out = format!("{file}: {} turns, {} of them reads that are overtaken\n", story.turns, races.len());
     match verdict {
         Some(verdict) => out += &format!("  {} {}\n", verdict.head, verdict.says),
-        None if wish.cap.is_some() => out += "  The cap is held to a sum: name one, such as --watch 'Deck.load where on'.\n",
+        None if wish.cap.is_some() => {
+            out += "  The cap is held to a sum: name one, such as --watch 'Deck.load where on'.\n"
+        }
         None => {}
     }
     races.iter().take(10).for_each(|race| out += &format!("  {}\n", race.says));
