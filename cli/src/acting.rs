@@ -1,6 +1,6 @@
 //! Labels that are to act, as turn bytes (01 and 02 §5): the byte e picks the (e modulo R)th of the R holders, counted from the label after the one that acted
-//! last. Who holds commands is seen in the library's trace: where a step begins, by a round of zeros after the turns so far, and from then on by the position of
-//! each turn. Bytes are guessed for many labels at once, each time for twice as many, and kept as far as the trace has those labels.
+//! last. Who holds commands is seen in the library's trace: where a step begins, by a round of zeros after the turns so far, and from then on by each turn's
+//! position. Bytes are guessed for many labels at once, each time for twice as many, and kept as far as the trace has those labels.
 
 use crate::engine;
 use crate::lines::{Line, Turn, lines};
