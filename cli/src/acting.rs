@@ -78,7 +78,7 @@ impl Run<'_> {
                 self.bytes.push(tried[0]);
                 return Ok(());
             }
-            chunk = if kept == tried.len() { 2 * chunk } else { FIRST_GUESS };
+            chunk = if kept == tried.len() { MOST_TURNS.min(2 * chunk) } else { FIRST_GUESS };
             done += kept;
         }
         Ok(())

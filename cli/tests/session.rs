@@ -284,4 +284,10 @@ fn long_lists_of_labels_act_as_they_are_written() {
     assert_eq!(trace(&["--acting", &wanted.join(",")]), wanted);
     let parts = ["--random", "5", "1111", "--acting", &wanted[1_111..].join(",")];
     assert_eq!(trace(&parts), wanted);
+    // Hundreds of short steps.
+    let flips = folder.write("flips.audala", b"struct A(on: Bool) { s { on := !on; } }\nFix(s)");
+    let one = folder.write("one.table", b"1 0 0\n");
+    let trace = |turns: &[&str]| acted(&audala(&[&["trace", "--plain", &flips, &one][..], turns].concat(), b"").out);
+    let wanted = trace(&["--random", "7", "2000"]);
+    assert_eq!(trace(&["--acting", &wanted.join(",")]), wanted);
 }
