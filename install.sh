@@ -1,6 +1,6 @@
 #!/usr/bin/env bash
 # install.sh PREFIX: the library for C, C++ and Rust under a prefix: libaudala.a of dist/audala.c, audala.h, audala.rs, the C file itself and audala.pc for pkg-config.
-# Needs a C99 compiler (CC, CFLAGS) and ar (AR), and no toolchain.
+# Needs a C99 compiler (CC, CFLAGS) and ar (AR), and no toolchain. Where there is a rustc (RUSTC), the command line `audala` is built too (cli/build.sh).
 set -euo pipefail
 top=$(cd "$(dirname "$0")" && pwd)
 [ $# -eq 1 ] || { echo "install.sh PREFIX" >&2; exit 2; }
@@ -26,4 +26,8 @@ Version: $version
 Cflags: -I\${includedir}
 Libs: -L\${libdir} -laudala
 PC
+if command -v "${RUSTC:-rustc}" >/dev/null; then
+    mkdir -p "$prefix/bin"
+    "$top/cli/build.sh" "$prefix/bin/audala"
+fi
 echo "install: audala $version under $prefix"

@@ -6,14 +6,14 @@
 #include <string.h>
 #include <ucontext.h>
 
-enum { STACK = 1 << 19, PAINT = 0xA5, STREAM = 32256, IMAGE = 32768, TABLE = 8704, TEXT = 65536, ENTRIES = 6 };
+enum { STACK = 1 << 19, PAINT = 0xA5, STREAM = 32256, IMAGE = 32768, TABLE = 8704, TEXT = 65536, ENTRIES = 7 };
 
 static uint8_t stack[STACK], image[IMAGE + 1], table[TABLE + 1], output[AUDALA_OUTPUT_BYTES], stream[STREAM], buffer[IMAGE];
 static uint8_t turns[AUDALA_MOST_TURNS + 1];
 static char text[TEXT + 2];
 static uint8_t lines[AUDALA_LISTING_BYTES];
 static uint64_t list[AUDALA_LIST_PLACES];
-static size_t image_length, table_length, turn_count, used, text_length, worst_text;
+static size_t image_length, table_length, turn_count, used, text_length, worst_text, worst_place;
 static ucontext_t caller, callee;
 static size_t worst[ENTRIES];
 static uint32_t number;
@@ -26,7 +26,11 @@ static void run(void) {
 static void read_image(void) { number = audala_read_image(image, image_length, AUDALA_PROGRAM_MOST, buffer, sizeof buffer).number; }
 static void write_image(void) { number = audala_write_image(stream, used, AUDALA_PROGRAM_MOST, buffer, sizeof buffer).number; }
 static void listing(void) { number = audala_listing(image, image_length, lines, sizeof lines).number; }
+static void trace(void) {
+    number = audala_trace(image, image_length, table, table_length, turns, turn_count, 1000, lines, sizeof lines).number;
+}
 static void read_text(void) { number = audala_text((const uint8_t *)text, text_length, buffer, sizeof buffer).number; }
+static void place(void) { number = audala_place((const uint8_t *)text, text_length).at != 0; }
 static void nothing(void) {}
 
 /* The bytes of a painted stack that a call leaves changed. */
@@ -149,7 +153,7 @@ static size_t bytes[ENTRIES];
 static uint32_t numbers[ENTRIES];
 
 static void measure(void) {
-    static void (*const entries[ENTRIES])(void) = {check, step, run, read_image, write_image, listing};
+    static void (*const entries[ENTRIES])(void) = {check, step, run, read_image, write_image, listing, trace};
     size_t base = touched(nothing);
     for (int i = 0; i < ENTRIES; i++) {
         bytes[i] = touched(entries[i]) - base;
@@ -194,6 +198,8 @@ static void deep(const char *front, const char *open, const char *inner, const c
     size_t bytes = touched(read_text) - touched(nothing);
     printf("%6zu times %-16s text %u: %zu\n", pairs, open, number, bytes);
     if (bytes > worst_text) worst_text = bytes;
+    bytes = touched(place) - touched(nothing);
+    if (bytes > worst_place) worst_place = bytes;
 }
 
 /* Every way in which a text nests, closed and cut off. */
@@ -238,7 +244,7 @@ int main(void) {
     table_length = seal(table, records, sizeof records), table[9] = 7, row("table damaged");
     table_length = seal(table, pairs, sizeof pairs), every();
     texts();
-    printf("most bytes of stack: check %zu, step %zu, run %zu, an image read %zu, written %zu, a listing %zu, a text read %zu\n", worst[0], worst[1], worst[2],
-           worst[3], worst[4], worst[5], worst_text);
+    printf("most bytes of stack: check %zu, step %zu, run %zu, an image read %zu, written %zu, a listing %zu, a trace %zu, a text read %zu, its place %zu\n", worst[0],
+           worst[1], worst[2], worst[3], worst[4], worst[5], worst[6], worst_text, worst_place);
     return 0;
 }

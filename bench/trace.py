@@ -1,8 +1,8 @@
-"""trace.py SECOND PROGRAMS COUNT: replays the traces of COUNT generated runs that begin.
+"""trace.py SECOND FILES TABLES COUNT: replays the traces of COUNT generated runs that begin.
 
 A table is kept by label, from the text that audala_table gives of the run's first table. A line of the trace may write a parameter, whose old value has to
 be the one that is kept, or make an instance, of the values that its command took from the stack. What is kept behind the last line has to be the
-text of the table that audala_run writes."""
+text of the table that the run writes. FILES is tools/files.c over the library, TABLES audala_table."""
 import os
 import re
 import subprocess
@@ -92,27 +92,27 @@ class Replay:
         return "".join(" ".join([str(l), k, *values]) + "\n" for l, (k, values) in sorted(self.rows.items()))
 
 
-def compare(programs, folder, program, table, turns):
+def compare(files, tables, folder, program, table, turns):
     """Whether the run begins; a fault where its trace is not the run's."""
     names = [os.path.join(folder, name) for name in ("program", "table", "turns", "last")]
     for name, data in zip(names, (program, table, turns)):
         with open(name, "wb") as file:
             file.write(data)
-    *lines, end = told(programs + "/audala_trace", *names[:3]).splitlines()
-    answer, taken, blocks = told(programs + "/audala_run", *names).split()[:3]
+    *lines, end = told(files, "trace", *names[:3]).splitlines()
+    answer, taken, blocks = told(files, "run", *names).split()[:3]
     hold(end == f"end {answer} {taken}", f"the last line: {end}, of a run that came to {answer} after {taken}")
     if blocks == "0":
         hold(not lines, "a line of a run that does not begin")
         return False
-    replay = Replay(program[4], told(programs + "/audala_table", names[0], names[1]))
+    replay = Replay(program[4], told(tables, names[0], names[1]))
     for line in lines:
         replay.line(line, turns)
     hold(replay.turns == int(taken), "as many lines as turns")
-    hold(replay.text() == told(programs + "/audala_table", names[0], names[3]), "the last table")
+    hold(replay.text() == told(tables, names[0], names[3]), "the last table")
     return True
 
 
-def main(second, programs, count):
+def main(second, files, tables, count):
     begun = refused = seed = 0
     with tempfile.TemporaryDirectory() as folder:
         while begun < count:
@@ -122,7 +122,7 @@ def main(second, programs, count):
                 if begun == count:
                     break
                 try:
-                    went = compare(programs, folder, program, table, turns)
+                    went = compare(files, tables, folder, program, table, turns)
                 except Fault as fault:
                     sys.exit(f"trace: run {i} of 'second generate {seed} {CHUNK}': {fault}")
                 begun += went
@@ -131,4 +131,4 @@ def main(second, programs, count):
 
 
 if __name__ == "__main__":
-    main(sys.argv[1], sys.argv[2], int(sys.argv[3]))
+    main(sys.argv[1], sys.argv[2], sys.argv[3], int(sys.argv[4]))

@@ -8,7 +8,10 @@ set -euo pipefail
 
 here=$(cd "$(dirname "$0")" && pwd)
 top=$(dirname "$here")
-(cd "$top" && ${RT-rt} check audala_trace audala_run audala_table >&2)
+(cd "$top" && ${RT-rt} check audala_table >&2)
+work=$(mktemp -d)
+trap 'rm -rf "$work"' EXIT
+gcc -std=c99 -O2 -I"$top/include" "$top/dist/audala.c" "$top/tools/files.c" -o "$work/files"
 cargo build --quiet --offline --release --jobs 1 --manifest-path "$top/second/Cargo.toml"
 second=${CARGO_TARGET_DIR:-$top/second/target}/release/second
-python3 "$here/trace.py" "$second" "$top/target/bin" "${1-10000}"
+python3 "$here/trace.py" "$second" "$work/files" "$top/target/bin/audala_table" "${1-10000}"

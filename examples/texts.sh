@@ -1,12 +1,12 @@
 #!/usr/bin/env bash
-# Reads each text of examples/texts, lists and runs its image with the proved
-# programs, and holds them to the second reader and engine and to what the text's
-# .runs file says: for each list of turns the number, the turns taken and the
-# last table. The text of the same name in examples/texts/bare, with no bracket
-# that is not needed (02 §2), gives the same image. In the gate audala_cases reads,
-# checks and runs the same texts, and the .runs files are held to the second engine
-# (second/compare.sh); here each proved program has a part, and what it makes is
-# compared byte by byte.
+# Reads each text of examples/texts and lists its image with the proved programs,
+# runs it with dist/audala.c, and holds all of it to the second reader and engine and
+# to what the text's .runs file says: for each list of turns the number, the turns
+# taken and the last table. The text of the same name in examples/texts/bare, with no
+# bracket that is not needed (02 §2), gives the same image. In the gate audala_cases
+# reads, checks and runs the same texts, and the .runs files are held to the second
+# engine (second/compare.sh); here each proved program has a part, and what it makes
+# is compared byte by byte.
 #
 #   texts.sh        fails where something differs
 #   texts.sh write  writes the .runs files anew, for the lists of turns in them
@@ -26,7 +26,8 @@ case ${1-} in
     ;;
 esac
 
-(cd "$top" && ${RT-rt} check audala_text audala_list audala_run audala_table audala_cases >&2)
+(cd "$top" && ${RT-rt} check audala_text audala_list audala_table audala_cases >&2)
+gcc -std=c99 -O2 -I"$top/include" "$top/dist/audala.c" "$top/tools/files.c" -o "$work/files"
 cargo build --quiet --offline --release --jobs 1 --workspace --manifest-path "$top/second/Cargo.toml"
 second=${CARGO_TARGET_DIR:-$top/second/target}/release
 
@@ -63,7 +64,7 @@ as_case() {
 gives() {
     as_case >"$work/case"
     cmp -s <("$bin/audala_cases" <"$work/case") <("$second/second" <"$work/case") || fail "the engines differ on $1"
-    "$bin/audala_run" "$work/program" "$work/table" "$work/turns" "$work/last" >"$work/report" || true
+    "$work/files" run "$work/program" "$work/table" "$work/turns" "$work/last" >"$work/report" || true
     read -r number taken _ <"$work/report" || fail "no report on $1"
     echo "gives $number $taken"
     "$bin/audala_table" "$work/program" "$work/last"

@@ -93,7 +93,7 @@ static inline const char *audala_message(uint32_t number) {
 /* Places of the command list that a check or a run asks for, else 13. */
 #define AUDALA_LIST_PLACES 1024
 
-/* Bytes of the output that a run asks for, that program text asks for and that a listing asks for, else 13. */
+/* Bytes of the output that a run asks for, that program text asks for and that a listing asks for, else 13. A trace takes any output. */
 #define AUDALA_OUTPUT_BYTES AUDALA_TABLE_BYTES
 #define AUDALA_IMAGE_BYTES AUDALA_PROGRAM_BYTES
 #define AUDALA_LISTING_BYTES 131072
@@ -121,7 +121,9 @@ static inline const char *audala_message(uint32_t number) {
 #define AUDALA_READ_IMAGE_STACK 1024
 #define AUDALA_WRITE_IMAGE_STACK 1024
 #define AUDALA_TEXT_STACK 237568
+#define AUDALA_PLACE_STACK 208896 /* not computed for ARM */
 #define AUDALA_LISTING_STACK 65536
+#define AUDALA_TRACE_STACK 135168 /* not computed for ARM: that of a run and two lines */
 
 /* Types, values and records ---------------------------------------------------------------------------------------------------------------------------- */
 
@@ -291,10 +293,37 @@ audala_copied audala_write_image(const uint8_t *stream, size_t length, size_t mo
  * 0, 5, 6, 7 or 8. */
 audala_copied audala_text(const uint8_t *text, size_t length, uint8_t *output, size_t room);
 
+/* What is answered of a text's place. */
+typedef struct {
+    size_t at; /* how many bytes of the text are before the place; its length where the end is the place */
+} audala_stopped;
+
+/* The place at which reading a text stops, for a message beside 15, 16 and 17: of 15 the first byte at which no token begins, of a
+ * text over 65,536 bytes that count; of 16 the first token with which no derivation goes on, the length where the text ends too early; of 17 the token at which a
+ * name, a literal or an argument list is wrong, 0 for declarations of structs, parameters and steps, the length for other counts. It may be after the mistake. */
+audala_stopped audala_place(const uint8_t *text, size_t length);
+
 /* The listing of a program image in the front of the output, lines of ASCII that end in a line feed; later bytes are untouched. The count is that of its
  * bytes. Of an accepted image: `audala`, its structs, steps, commands and depth, then a line for each command: struct, step, position, command. Of a refused
  * one the single line `refused` and the number; what is answered is 0 then, too. 13: the output is too short, and stays as it was. */
 audala_copied audala_listing(const uint8_t *image, size_t length, uint8_t *output, size_t room);
+
+/* What a page of a trace answers. */
+typedef struct {
+    uint32_t number; /* that of the run: 0, 1 to 12, 14 or 33 to 35; there is no 13 */
+    uint32_t turns;  /* commands taken; 0 after 1 to 14 */
+    uint64_t length; /* bytes of the whole trace, whatever the output holds of them */
+    size_t count;    /* bytes of it that were written */
+} audala_traced;
+
+/* A page of the trace of a run (docs/FORMAT.md, 'Traces'): the bytes of its text from the place `from` on, as many as the output holds, in the front of the
+ * output; later bytes are untouched. The text has a line for each move of the schedule and each turn, and a last line `end` with the number and the turns; of
+ * a refused input (1 to 12, 14) it is that line alone. Any place and any output will do: from `length` on nothing is written, and pages that follow each
+ * other are the whole text. So go on with from + count until it is `length`, or ask with an empty output for `length` first.
+ * Each call makes the run anew and tells all of it, whichever page is asked for: a text of L bytes in pages of N bytes costs L / N runs, in an output of
+ * L bytes one. */
+audala_traced audala_trace(const uint8_t *program, size_t program_length, const uint8_t *table, size_t table_length, const uint8_t *turns,
+                           size_t turn_count, uint64_t from, uint8_t *output, size_t room);
 
 #ifdef __cplusplus
 }

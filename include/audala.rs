@@ -59,8 +59,25 @@ pub struct Copied {
     pub count: usize,
 }
 
+/// Where reading a text stops: how many bytes are before the place.
+#[repr(C)]
+#[derive(Clone, Copy, Debug, PartialEq, Eq)]
+pub struct Stopped {
+    pub at: usize,
+}
+
+/// What a page of a trace answers.
+#[repr(C)]
+#[derive(Clone, Copy, Debug, PartialEq, Eq)]
+pub struct Traced {
+    pub number: u32,
+    pub turns: u32,
+    pub length: u64,
+    pub count: usize,
+}
+
 mod entries {
-    use super::{Copied, Part, Report, Verdict};
+    use super::{Copied, Part, Report, Stopped, Traced, Verdict};
 
     unsafe extern "C" {
         pub fn audala_check(image: *const u8, length: usize, list: *mut u64, places: usize) -> Verdict;
@@ -80,7 +97,19 @@ mod entries {
         pub fn audala_read_image(image: *const u8, length: usize, most: usize, buffer: *mut u8, room: usize) -> Copied;
         pub fn audala_write_image(stream: *const u8, length: usize, most: usize, output: *mut u8, room: usize) -> Copied;
         pub fn audala_text(text: *const u8, length: usize, output: *mut u8, room: usize) -> Copied;
+        pub fn audala_place(text: *const u8, length: usize) -> Stopped;
         pub fn audala_listing(image: *const u8, length: usize, output: *mut u8, room: usize) -> Copied;
+        pub fn audala_trace(
+            program: *const u8,
+            program_length: usize,
+            table: *const u8,
+            table_length: usize,
+            turns: *const u8,
+            turn_count: usize,
+            from: u64,
+            output: *mut u8,
+            room: usize,
+        ) -> Traced;
     }
 }
 
@@ -135,8 +164,32 @@ pub fn text(text: &[u8], output: &mut [u8]) -> Copied {
     unsafe { entries::audala_text(text.as_ptr(), text.len(), output.as_mut_ptr(), output.len()) }
 }
 
+/// The place at which reading a text stops, as a count of the bytes before it.
+pub fn place(text: &[u8]) -> usize {
+    // SAFETY: as said above.
+    unsafe { entries::audala_place(text.as_ptr(), text.len()).at }
+}
+
 /// The listing of a program image in the front of the output.
 pub fn listing(image: &[u8], output: &mut [u8]) -> Copied {
     // SAFETY: as said above.
     unsafe { entries::audala_listing(image.as_ptr(), image.len(), output.as_mut_ptr(), output.len()) }
+}
+
+/// The trace of a run from the place `from` of its text on, as much as the output holds, in the front of the output.
+pub fn trace(program: &[u8], table: &[u8], turns: &[u8], from: u64, output: &mut [u8]) -> Traced {
+    // SAFETY: as said above.
+    unsafe {
+        entries::audala_trace(
+            program.as_ptr(),
+            program.len(),
+            table.as_ptr(),
+            table.len(),
+            turns.as_ptr(),
+            turns.len(),
+            from,
+            output.as_mut_ptr(),
+            output.len(),
+        )
+    }
 }

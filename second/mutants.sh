@@ -308,6 +308,15 @@ mutant "1,025 places asked for" program.rs 's/list\.len\(\) >= COMMANDS/list.len
 mutant "8,703 output bytes lent" engine.rs 's/output\.len\(\) < TABLE_BYTES/output.len() < TABLE_BYTES - 1/'
 mutant "8,705 output bytes asked for" engine.rs 's/output\.len\(\) < TABLE_BYTES/output.len() <= TABLE_BYTES/'
 
+# Traces (docs/FORMAT.md, 'Traces'); the tests hold the committed pages of traces to their answers.
+mutant "trace: entries from below" machine/trace.rs 's/entries\.into_iter\(\)\.rev\(\)/entries.into_iter()/'
+mutant "trace: a comparison of its operands' type" machine/trace.rs 's/own\.stack\.push\(operator\.result\(operands\)\)/own.stack.push(operands)/'
+mutant "trace: an Int without its sign" machine/trace.rs 's/i64::from\(value\.cast_signed\(\)\)/i64::from(value)/'
+mutant "trace: a write to a null instance told" machine/trace.rs 's/target >= self\.program\.structs\.len\(\)/target < 256/'
+mutant "trace: positions in the whole list" machine/trace.rs 's/acting\.held\.first - self\.parts\[usize::from\(structure\)\]\.first/acting.held.first/'
+mutant "trace: 65,536 turns refused" machine/trace.rs 's/turns\.len\(\) > TURNS/turns.len() >= TURNS/'
+mutant "trace: no line for a Fix" machine/trace.rs 's/Moved::Fix => \{\}/Moved::Fix => return true,/'
+
 # Program text (02 §1): 15, 16, 17, 13 and their order.
 package=text
 cases=texts.bin

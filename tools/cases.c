@@ -2,6 +2,7 @@
  * buffer has exactly the size that its case says, so that a sanitizer sees a byte outside of it; an empty one is a null pointer. */
 #include "audala.h"
 
+#include <inttypes.h>
 #include <stdio.h>
 #include <stdlib.h>
 #include <string.h>
@@ -32,6 +33,11 @@ static uint32_t number(void) {
     uint32_t value = 0;
     for (int i = 0; i < 4; i++) value |= (uint32_t)byte() << 8 * i;
     return value;
+}
+
+static uint64_t long_number(void) {
+    uint64_t low = number();
+    return low | (uint64_t)number() << 32;
 }
 
 /* So many bytes of the case. */
@@ -113,6 +119,14 @@ static void listing(void) {
     copied("list", audala_listing(input.bytes, input.count, output.bytes, output.count), input, output);
 }
 
+static void trace(void) {
+    uint64_t from = long_number();
+    buffer output = lent(number()), program = given(), table = given(), turns = given();
+    audala_traced t = audala_trace(program.bytes, program.count, table.bytes, table.count, turns.bytes, turns.count, from, output.bytes, output.count);
+    printf("trace %u %u %" PRIu64 " %lu %u\n", (unsigned)t.number, (unsigned)t.turns, t.length, (unsigned long)t.count, (unsigned)output_digest(output));
+    free(program.bytes), free(table.bytes), free(turns.bytes), free(output.bytes);
+}
+
 static void image(int reads) {
     uint32_t most = number();
     buffer output = lent(number()), input = given();
@@ -130,7 +144,8 @@ int main(void) {
         case 5: image(1); break;
         case 6: image(0); break;
         case 7: listing(); break;
-        default: stop("a case is of kind 1 to 7");
+        case 8: trace(); break;
+        default: stop("a case is of kind 1 to 8");
         }
     }
     return fflush(stdout) == 0 ? 0 : 1;

@@ -1,16 +1,17 @@
 //! Cases of the library's further entries: the part of a step, images read and
-//! written, listings. Their format stands in docs/CASES.md, kinds 4 to 7; they
-//! are answered through the C header alone.
+//! written, listings, pages of traces. Their format stands in docs/CASES.md, kinds
+//! 4 to 8; they are answered through the C header alone.
 
 use crate::cases::{
-    Case, MOST_IMAGE, MOST_PLACES, MOST_PROGRAM, OUTPUT_FILL, digest, put_bytes, put_number,
-    take_bytes, take_number,
+    Case, MOST_IMAGE, MOST_PLACES, MOST_PROGRAM, MOST_TABLE, MOST_TURNS, OUTPUT_FILL, digest,
+    put_bytes, put_number, take_bytes, take_number,
 };
+use crate::generate::Generator;
 use crate::generate::edges::{P, edges};
 use crate::generate::encode::{image, program_stream};
 use crate::generate::programs::random_program;
 use crate::generate::random::Random;
-use engine::{BlockFault, listing, part, stream, write};
+use engine::{BlockFault, listing, part, stream, trace, write};
 use std::io::{self, Read};
 
 /// Bytes that an output for a listing has at least, else 13.
@@ -27,6 +28,15 @@ pub enum Export {
     Read { most: usize, room: usize, image: Vec<u8> },
     Write { most: usize, room: usize, stream: Vec<u8> },
     List { room: usize, program: Vec<u8> },
+    Trace { from: u64, room: usize, run: Run },
+}
+
+/// The inputs of a run.
+#[derive(Clone, Debug, PartialEq, Eq)]
+pub struct Run {
+    pub program: Vec<u8>,
+    pub table: Vec<u8>,
+    pub turns: Vec<u8>,
 }
 
 impl Export {
@@ -45,6 +55,14 @@ impl Export {
                 file.push(7);
                 put_number(file, *room);
                 put_bytes(file, program);
+            }
+            Export::Trace { from, room, run: Run { program, table, turns } } => {
+                file.push(8);
+                file.extend_from_slice(&from.to_le_bytes());
+                put_number(file, *room);
+                put_bytes(file, program);
+                put_bytes(file, table);
+                put_bytes(file, turns);
             }
         }
     }
@@ -77,7 +95,20 @@ impl Export {
                 room: take_number(file, MOST_LISTING)?,
                 program: take_bytes(file, MOST_PROGRAM)?,
             },
-            _ => return Err(io::Error::other("a case of an export is of kind 4, 5, 6 or 7")),
+            8 => {
+                let mut from = [0; 8];
+                file.read_exact(&mut from)?;
+                Export::Trace {
+                    from: u64::from_le_bytes(from),
+                    room: take_number(file, MOST_LISTING)?,
+                    run: Run {
+                        program: take_bytes(file, MOST_PROGRAM)?,
+                        table: take_bytes(file, MOST_TABLE)?,
+                        turns: take_bytes(file, MOST_TURNS)?,
+                    },
+                }
+            }
+            _ => return Err(io::Error::other("a case of an export is of kind 4 to 8")),
         }))
     }
 
@@ -91,6 +122,7 @@ impl Export {
             Export::Read { most, room, image } => read_line(*most, *room, image),
             Export::Write { most, room, stream } => write_line(*most, *room, stream),
             Export::List { room, program } => list_line(*room, program),
+            Export::Trace { from, room, run } => trace_line(*from, *room, run),
         }
     }
 }
@@ -139,6 +171,16 @@ fn list_line(room: usize, program: &[u8]) -> String {
     copied_line("list", 0, text.len(), &text, room)
 }
 
+fn trace_line(from: u64, room: usize, run: &Run) -> String {
+    let told = trace(&run.program, &run.table, &run.turns);
+    let text = told.text.as_bytes();
+    let begin = usize::try_from(from).unwrap_or(usize::MAX).min(text.len());
+    let page = &text[begin..text.len().min(begin.saturating_add(room))];
+    let rest = std::iter::repeat_n(OUTPUT_FILL, room - page.len());
+    let shown = digest(page.iter().copied().chain(rest));
+    format!("trace {} {} {} {} {shown}", told.number, told.turns, text.len(), page.len())
+}
+
 /// The committed cases: images of the edges and of seeded programs, each with
 /// what tells one field of an answer from another.
 pub fn cases() -> Vec<Export> {
@@ -154,7 +196,47 @@ pub fn cases() -> Vec<Export> {
     programs.retain(|program| program.len() <= 4 * BLOCK);
     let seeded =
         programs.iter().enumerate().flat_map(|(k, program)| of_program(&mut random, k, program));
-    seeded.chain(of_blocks()).collect()
+    seeded.chain(of_blocks()).chain(of_runs()).collect()
+}
+
+/// Traces of seeded runs and of those of the edges, with no more of each number
+/// than tell it: whole, from a place on, page by page and past the end.
+fn of_runs() -> Vec<Export> {
+    let mut generator = Generator::new(8);
+    let seeded = (0..4_000).map(|_| generator.next_case());
+    let mut left = [4usize; 256];
+    for (number, count) in [(0, 16), (14, 1), (33, 8), (34, 8), (35, 8)] {
+        left[number] = count;
+    }
+    let mut made = Vec::new();
+    for case in edges().into_iter().chain(seeded) {
+        let Case::Run { program, table, turns, .. } = case else { continue };
+        let run = Run { program, table, turns };
+        let told = trace(&run.program, &run.table, &run.turns);
+        let (length, left) = (told.text.len(), &mut left[usize::from(told.number)]);
+        let long = run.program.len() > 2 * BLOCK || run.turns.len() > 4_000 && told.number != 14;
+        if *left == 0 || long || length > MOST_LISTING - 7 {
+            continue;
+        }
+        *left -= 1;
+        made.extend(pages(&run, length, *left));
+    }
+    made
+}
+
+/// The pages of a trace of so many bytes that its turn asks for.
+fn pages(run: &Run, length: usize, turn: usize) -> Vec<Export> {
+    let page = |from: u64, room: usize| Export::Trace { from, room, run: run.clone() };
+    let at = length as u64;
+    match turn % 4 {
+        0 => vec![page(0, length)],
+        1 => {
+            let room = length / 3 + 1;
+            (0..4).map(|k| page((k * room) as u64, room)).collect()
+        }
+        2 => vec![page(0, length + 7), page(at - 1, 2), page(at, 2), page(at + 1, 0), page(0, 0)],
+        _ => vec![page(at / 3, 1), page(u64::MAX, 5), page(1 << 32, 5), page(7, length)],
+    }
 }
 
 /// The last step of the program and one that is perhaps not there, its listing,

@@ -206,7 +206,9 @@ fn exports_are_written_and_answered() {
     let answers: Vec<String> = cases.iter().map(Export::answer).collect();
     for word in [
         "step 0", "step 13", "read 0", "read 1", "read 2", "read 3", "read 13", "write 0",
-        "write 1", "write 13", "list 0", "list 13",
+        "write 1", "write 13", "list 0", "list 13", "trace 0", "trace 1", "trace 2", "trace 3",
+        "trace 4", "trace 5", "trace 6", "trace 7", "trace 8", "trace 9", "trace 10", "trace 11",
+        "trace 12", "trace 14", "trace 33", "trace 34", "trace 35",
     ] {
         assert!(answers.iter().any(|line| line.starts_with(&format!("{word} "))), "{word}");
     }
@@ -215,4 +217,14 @@ fn exports_are_written_and_answered() {
         words[0] == "step" && words[2] != "0" && words[2] != words[3]
     };
     assert!(answers.iter().filter(apart).count() > 20);
+}
+
+#[test]
+fn the_committed_exports_have_the_committed_answers() {
+    let mut rest = &include_bytes!("../cases/exports.bin")[..];
+    for line in include_str!("../cases/exports.txt").lines() {
+        let case = Export::read(&mut rest).expect("a whole case").expect("a case for each line");
+        assert_eq!(case.answer(), line);
+    }
+    assert!(rest.is_empty());
 }

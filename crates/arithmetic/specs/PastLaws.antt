@@ -2,7 +2,7 @@
 use Prim.Native.Nat.{ℕ, _<_}
 use native.Mathlib.Omega.{arith}
 use mathlib.Core.Path.{_≡_}
-use Rattle.operators.specs.WordLaws.{past-numbers}
+use Rattle.operators.specs.Laws.WordLaws.{past-numbers}
 
 -- Above 37 and none of the next five, a byte is above 42.
 pub past-computing : {o : ℕ} → 37 < o → (o ≡ 38 → ⊥) → (o ≡ 39 → ⊥) → (o ≡ 40 → ⊥) → (o ≡ 41 → ⊥) → (o ≡ 42 → ⊥) → 42 < o

@@ -2,7 +2,9 @@
 // 02 §1); include/audala.h declares it.
 pub mod images;
 pub mod listings;
+pub mod places;
 pub mod texts;
+pub mod traces;
 
 ghost use mathlib.Core.Path.{_≡_};
 ghost use Rattle.verdict.specs.Verdict.{check-verdict, check-list};

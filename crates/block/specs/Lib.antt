@@ -1,12 +1,6 @@
 pub mod Put
-pub mod PutLaws
 pub mod Sums
-pub mod SumLaws
 pub mod Block
-pub mod BlockLaws
-pub mod BlockWays
 pub mod BlockFaults
-pub mod BlockFaultLaws
-pub mod BlockRoundTrip
 pub mod BlockBytes
-pub mod BlockWriteWays
+pub mod Laws

@@ -12,7 +12,7 @@ use borrow.Author.Count.{below-more}
 use borrow.Author.Tests.{ltb-true, ltb-false}
 use Rattle.block.specs.Block.{block-size, block-fault}
 use Rattle.block.specs.BlockFaults.{HasFault, BlockSays}
-use Rattle.block.specs.BlockFaultLaws.{block-says, not-right, one-fault}
+use Rattle.block.specs.Laws.BlockFaultLaws.{block-says, not-right, one-fault}
 use Rattle.types.specs.Reflects.{Reflects, Reflects.holds, Reflects.fails, reflects-map, reflects-both, le-reflects, eq-reflects}
 use Rattle.blocks.specs.Images.{LengthRight, length-right, most, block, count, is-last, first-fault, fault}
 use Rattle.blocks.specs.Faults.{AllRight, FirstFault, FirstSays, Says}

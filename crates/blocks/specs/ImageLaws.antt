@@ -9,7 +9,7 @@ use lib.Seq.{take-at, drop-at, take-all, take-append-le, drop-append-le, length-
 use lib.Dec.{eqb}
 use borrow.Author.Tests.{eqb-true, eqb-false, eq-eqb, ne-eqb}
 use Rattle.block.specs.Block.{block-size, payload-size, UsedRight, used, used-part, block-of}
-use Rattle.block.specs.BlockRoundTrip.{block-length, part-length}
+use Rattle.block.specs.Laws.BlockRoundTrip.{block-length, part-length}
 use Rattle.blocks.specs.Images.{LengthRight, block, count, is-last, joined, piece, pieces, image-of}
 use Rattle.blocks.specs.Faults.{AllRight}
 

@@ -8,7 +8,7 @@ use lib.ListN.{length, take, drop}
 use lib.Seq.{take-all, take-add}
 use Rattle.block.specs.Sums.{Bytes}
 use Rattle.block.specs.Block.{block-size, payload-size, used-part, block-of}
-use Rattle.block.specs.BlockRoundTrip.{block-part, block-sums, block-layout, right-block}
+use Rattle.block.specs.Laws.BlockRoundTrip.{block-part, block-sums, block-layout, right-block}
 use Rattle.block.specs.BlockBytes.{bytes-take, bytes-drop}
 use Rattle.blocks.specs.Images.{most, block, count, is-last, fault, joined, stream, piece, pieces, image-of, image}
 use Rattle.blocks.specs.ImageLaws.{piece-length, piece-used, image-length, image-block, count-length, block-whole, stream-piece}

@@ -12,12 +12,12 @@ use lib.Dec.{eqb, leb}
 use borrow.Author.Tests.{eq-eqb, ne-eqb, le-leb, lt-leb, lt-ltb, le-ltb}
 use Rattle.types.specs.Reflects.{reflects-iff}
 use Rattle.block.specs.Put.{put}
-use Rattle.block.specs.PutLaws.{put-next, put-front}
+use Rattle.block.specs.Laws.PutLaws.{put-next, put-front}
 use Rattle.block.specs.Sums.{byte}
 use Rattle.block.specs.Block.{block-size, payload-size, used, used-part, block-fault}
 use Rattle.little_endian.specs.Numbers.{pair-at}
 use Rattle.blocks.specs.Images.{length-right, most, block, count, is-last, first-fault, fault, joined, stream, read, read-of, read-into}
-use Rattle.block.specs.BlockRoundTrip.{used-most}
+use Rattle.block.specs.Laws.BlockRoundTrip.{used-most}
 use Rattle.blocks.specs.ImageLaws.{count-length, joined-length, joined-starts}
 use Rattle.blocks.specs.Faults.{AllRight, Says}
 use Rattle.blocks.specs.FaultLaws.{length-exact, fault-says}

@@ -12,9 +12,9 @@ use lib.Dec.{leb}
 use borrow.Author.Tests.{le-leb, lt-leb, lt-ltb, le-ltb}
 use Rattle.types.specs.Reflects.{Reflects, reflects-iff, reflects-both, le-reflects}
 use Rattle.block.specs.Put.{put}
-use Rattle.block.specs.PutLaws.{put-next, put-front}
+use Rattle.block.specs.Laws.PutLaws.{put-next, put-front}
 use Rattle.block.specs.Block.{payload-size, block-of}
-use Rattle.block.specs.BlockRoundTrip.{block-length}
+use Rattle.block.specs.Laws.BlockRoundTrip.{block-length}
 use Rattle.blocks.specs.Images.{most, piece, pieces, image-of, image, stream-right, write, written-into}
 use Rattle.blocks.specs.ImageLaws.{image-length, piece-fits}
 use Rattle.blocks.specs.Answers.{StreamRight}

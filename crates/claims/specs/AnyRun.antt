@@ -41,7 +41,7 @@ use Rattle.sound.specs.Laws.StartedLaws.{good-one-step}
 use Rattle.sound.specs.Laws.TableKept.{table-kept, table-written, nulls-kept, comes-written}
 use Rattle.sound.specs.Laws.WaitLaws.{holder-waits}
 use Rattle.claims.specs.Call.{Called}
-use Rattle.claims.specs.JoinLaws.{called, passes-right, passes-entries}
+use Rattle.claims.specs.Laws.JoinLaws.{called, passes-right, passes-entries}
 
 -- Where a run may begin ------------------------------------------------------------------
 

@@ -16,7 +16,7 @@ use Rattle.run.specs.Laws.InputLaws.{begins-number, refusal-untouched}
 use Rattle.step_part.specs.StepPart.{step-place, step-part}
 use Rattle.text.specs.Listing.{row}
 use Rattle.listing.specs.Listings.{refused-word, listing-of}
-use Rattle.claims.specs.JoinLaws.{step-numbered, listing-numbered}
+use Rattle.claims.specs.Laws.JoinLaws.{step-numbered, listing-numbered}
 
 module _ (x list : List ℕ) where
   -- The checker: "Lowest number first, save within 2/3, 4/5, 11/12"

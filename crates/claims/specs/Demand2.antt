@@ -46,7 +46,7 @@ use Rattle.sound.specs.Laws.TableKept.{output-length}
 use Rattle.step_part.specs.StepPart.{step-place, step-part}
 use Rattle.step_lines.specs.Lines.{program-lines}
 use Rattle.listing.specs.Listings.{head, listing-of}
-use Rattle.claims.specs.JoinLaws.{step-handed, step-not-there, listing-accepted}
+use Rattle.claims.specs.Laws.JoinLaws.{step-handed, step-not-there, listing-accepted}
 use Rattle.claims.specs.AnyRun.{table-startable, run-states-published, run-states-visited, run-outcome-published, run-outcome-one}
 use Rattle.claims.specs.AnyRun.{run-holders-ended, run-holders-stopped, run-comes-to, run-written-accepted, run-one-step, run-tables-right}
 use Rattle.claims.specs.AnyRun.{run-tables-written, run-nulls-default}

@@ -13,6 +13,7 @@ use Rattle.table.specs.Table.{Record}
 use Rattle.machine.specs.Published.{Sched, Sched.fixpoint, Inst, State.state}
 use Rattle.machine.specs.Machine.{Machine}
 use Rattle.run.specs.Begin.{begin}
+use Rattle.run.specs.Entry.{run-report}
 use Rattle.run.specs.Initial.{initially}
 use Rattle.run.specs.Runs.{Config, Config.config, StandsFor, Passes}
 use Rattle.run.specs.Input.{run-order, Runnable}
@@ -24,7 +25,8 @@ use Rattle.sound.specs.Startable.{Startable}
 use Rattle.sound.specs.Laws.AcceptedLaws.{ready-accepted}
 use Rattle.sound.specs.Laws.NeverStuckLaws.{never-stuck-numbers}
 use Rattle.claims.specs.Call.{Call}
-use Rattle.claims.specs.JoinLaws.{ready-call}
+use Rattle.claims.specs.Laws.JoinLaws.{ready-call}
+use Rattle.claims.specs.Laws.ReportLaws.{report-numbers}
 use Rattle.claims.specs.AnyRun.{table-startable, run-states-right, run-entries-within}
 
 -- the machine that a call on a table begins its run with
@@ -58,6 +60,12 @@ module _ (x y es out list : List ℕ) where
   pub call-none : NoneOf (run-order x y es out list)
       → (p : Program) × (rs : List Record) × Runnable x y es out list p rs × Call x y es out list p rs
   call-none f = let (p, rs, e, r) = begins-none x y es out list .1 f in (p, rs, r, ready-call x y es out list p rs r)
+
+  -- such a call reports 0, 33, 34 or 35
+  pub no-other-report : NoneOf (run-order x y es out list)
+      → (run-report x y es out list .number ≡ 0)
+      ⊎ ((run-report x y es out list .number ≡ 33) ⊎ ((run-report x y es out list .number ≡ 34) ⊎ (run-report x y es out list .number ≡ 35)))
+  no-other-report f = let (p, rs, r, c) = call-none f in report-numbers x y es out list p rs c
 
 -- "A run then ends or stops with 33, 34 or 35" (02 §9): no other number
 pub no-other-number : {p : Program} (rs : List Record) {es : List ℕ} (d : Demand3 p rs es)

@@ -22,9 +22,9 @@ use Rattle.blocks.specs.AnswerLaws.{write-says, read-fits, write-fits, read-wri
 use Rattle.blocks.specs.ImageBytes.{image-bytes}
 use Rattle.blocks.specs.ImageRoundTrip.{one-image}
 use Rattle.types.specs.TypeBytes.{TypeByte, is-type}
-use Rattle.types.specs.TypeLaws.{type-exact}
+use Rattle.types.specs.Laws.TypeLaws.{type-exact}
 use Rattle.types.specs.Values.{Val, IntRange, in-int, int-word, default}
-use Rattle.types.specs.ValueLaws.{int-exact}
+use Rattle.types.specs.Laws.ValueLaws.{int-exact}
 use Rattle.types.specs.Stages.{Stage.went as table}
 use Rattle.program.specs.Tree.{Op, Expr, Program}
 use Rattle.program.specs.Encoding.{enc-word, enc-program}
@@ -47,23 +47,23 @@ use Rattle.commands.specs.Typing.{Types, TypesRight}
 use Rattle.commands.specs.Decide.TypingDecide.{types-right}
 use Rattle.commands.specs.Decide.TypingDecideLaws.{types-unique, types-exact}
 use Rattle.operators.specs.Operators.{Applies, Exceeds}
-use Rattle.operators.specs.ApplyLaws.{applies-unique, applies-not-exceeds}
+use Rattle.operators.specs.Laws.ApplyLaws.{applies-unique, applies-not-exceeds}
 use Rattle.table.specs.Table.{Record, enc-table, HeldTable, TableRight}
 use Rattle.table.specs.TableReader.{table-of-stream}
-use Rattle.table.specs.TableLaws.{table-back, table-injective}
-use Rattle.table.specs.SizeLaws.{Bytes, table-bytes}
+use Rattle.table.specs.Laws.TableLaws.{table-back, table-injective}
+use Rattle.table.specs.Laws.SizeLaws.{Bytes, table-bytes}
 use Rattle.table.specs.TableFaults.{Field, field-bytes, Allowed, Front as TableFront}
-use Rattle.table.specs.TableViable.{Viable, front-viable, offending-final}
+use Rattle.table.specs.Laws.TableViable.{Viable, front-viable, offending-final}
 use Rattle.machine.specs.Published.{StepCall, Sched, Sched.start, Inst, State, State.state, structs}
 use Rattle.machine.specs.Rules.{meet, Actor, Actor.instance, Actor.schedule, Rule}
-use Rattle.machine.specs.RulesLaws.{meet-each}
-use Rattle.machine.specs.RuleUnique.{rule-unique, full-not-exceeded}
+use Rattle.machine.specs.Laws.RulesLaws.{meet-each}
+use Rattle.machine.specs.Laws.RuleUnique.{rule-unique, full-not-exceeded}
 use Rattle.machine.specs.Stops.{Full, Exceeded}
 use Rattle.machine.specs.Machine.{Instance, Machine, Out.stuck, Moved.stuck, command, move}
 use Rattle.machine.specs.Represents.{Represents}
-use Rattle.machine.specs.RepresentsLaws.{Still}
-use Rattle.machine.specs.CommandAgrees.{command-stuck}
-use Rattle.machine.specs.MoveAgrees.{move-stuck}
+use Rattle.machine.specs.Laws.RepresentsLaws.{Still}
+use Rattle.machine.specs.Laws.CommandAgrees.{command-stuck}
+use Rattle.machine.specs.Laws.MoveAgrees.{move-stuck}
 use Rattle.run.specs.Turns.{labels-from, chosen}
 use Rattle.run.specs.Holders.{holders, due}
 use Rattle.run.specs.Laws.TurnLaws.{labels-ascend, holder-chosen}

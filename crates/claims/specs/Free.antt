@@ -17,7 +17,7 @@ use Rattle.commands.specs.Decoding.{decode, InRanges}
 use Rattle.commands.specs.Laws.CodingLaws.{word-injective}
 use Rattle.operators.specs.Operators.{quotient, remainder}
 use Rattle.operators.specs.Rounding.{TowardMinusInfinity, DivisorSigned}
-use Rattle.operators.specs.RoundingLaws.{quotient-downward, quotient-unique, remainder-signed, remainder-unique}
+use Rattle.operators.specs.Laws.RoundingLaws.{quotient-downward, quotient-unique, remainder-signed, remainder-unique}
 use Rattle.verdict.specs.Verdict.{listed}
 use Rattle.verdict.specs.ListLaws.{listed-decoded, words-determine}
 

@@ -1,6 +1,4 @@
 pub mod Call
-pub mod JoinLaws
-pub mod MemoryLaws
 pub mod AnyRun
 pub mod Demand1
 pub mod Demand2
@@ -10,4 +8,6 @@ pub mod Free
 pub mod Exact
 pub mod Memory
 pub mod Rounds
+pub mod Traces
 pub mod Orders
+pub mod Laws

@@ -8,7 +8,7 @@ use Rattle.program.specs.Tree.{Program}
 use Rattle.commands.specs.Accepted.{Accepted}
 use Rattle.table.specs.Table.{Record, TableRight}
 use Rattle.machine.specs.Machine.{Instance, Machine, Out.next, Moved.next, command, move}
-use Rattle.machine.specs.FromLaws.{command-from, move-from}
+use Rattle.machine.specs.Laws.FromLaws.{command-from, move-from}
 use Rattle.run.specs.Holders.{holders}
 use Rattle.run.specs.Begin.{begin}
 use Rattle.run.specs.Visits.{Visits}

@@ -16,21 +16,26 @@ use Rattle.commands.specs.Bounds.{Within}
 use Rattle.verdict.specs.Verdict.{checked, refusal, check-verdict}
 use Rattle.tokens.specs.Tokens.{Token}
 use Rattle.tokens.specs.Lexing.{Lexed}
+use Rattle.tokens.specs.Straying.{Strays}
 use Rattle.tokens.specs.Laws.LexingLaws.{lexed-one as lexed-law}
+use Rattle.tokens.specs.Laws.StrayLaws.{no-tokens-exactly as straying-law}
 use Rattle.syntax.specs.Syntax.{Exp, Exp.binary, Program as Derivation}
 use Rattle.syntax.specs.Yield.{yield}
 use Rattle.syntax.specs.Bracketing.{level, comparisons, Fits, Derives}
 use Rattle.syntax.specs.Bracketed.{BracketedProgram, NoComparison}
 use Rattle.syntax.specs.Laws.CompleteLaws.{one-derivation as derivation-law}
 use Rattle.syntax.specs.Laws.BracketLaws.{brackets-kept as brackets-law, no-two-comparisons as comparisons-law}
+use Rattle.syntax.specs.SumRows.{compared, two-compared as compared-law}
 use Rattle.meaning.specs.Holds.{max-stream}
 use Rattle.meaning.specs.Means.{Means}
 use Rattle.meaning.specs.Nesting.{Shallow}
-use Rattle.source.specs.Source.{Derived, Reading, NoTokens, text-order}
+use Rattle.source.specs.Source.{Derived, Reading, NoTokens, NoProgram, text-order}
+use Rattle.source.specs.Causes.{Cause}
 use Rattle.source.specs.TextReader.{outcome, text-number, text-blocks, text-output}
 use Rattle.source.specs.Laws.SourceLaws.{derived-one as derived-law, one-reading as reading-law, text-refused-exactly as refused-law}
 use Rattle.source.specs.Laws.SourceLaws.{text-written as written-law}
 use Rattle.source.specs.Laws.SourceLaws.{text-untouched as untouched-law, escapes-16 as escapes-law}
+use Rattle.source.specs.Laws.CauseLaws.{no-program-exactly as causes-law}
 use Rattle.source.specs.Stepping.{StepsRight}
 use Rattle.source.specs.Checking.{Answers, written-image, text-verdict, both-order}
 use Rattle.source.specs.Laws.CheckingLaws.{bytes-blocks, image-written, text-answered as answered-law, deep-exactly, seven-for-steps}
@@ -40,6 +45,10 @@ use Rattle.source.specs.Laws.CheckingLaws.{text-checked as checked-law, text-or
 pub lexed-one : {x : List ℕ} {ts us : List Token} → Lexed x ts → Lexed x us → ts ≡ us
 lexed-one a b = lexed-law a b
 
+-- and in none exactly where it strays: "an unclosed comment, or a character sequence that is no token", after gaps and longest tokens;
+pub no-tokens-exactly : (x : List ℕ) → ((ts : List Token) → Lexed x ts → ⊥) ↔ Strays x
+no-tokens-exactly x = straying-law x
+
 -- tokens have one derivation at most,
 pub one-derivation : (ts : List Token) (c d : Derivation) → Derives ts c → Derives ts d → c ≡ d
 one-derivation ts c d a b = derivation-law ts c d a b
@@ -48,6 +57,10 @@ one-derivation ts c d a b = derivation-law ts c d a b
 pub no-two-comparisons : (l : ℕ) (o : Op) (a b : Exp) → level o ≡ comparisons → Fits l (binary o a b) → (NoComparison a) × (NoComparison b)
 no-two-comparisons l o a b q f = comparisons-law l o a b q f
 
+-- whatever the two are: tokens with a o b p c have no derivation
+pub two-compared : (o p : Op) → level o ≡ comparisons → level p ≡ comparisons → (d : Derivation) → Derives (compared o p) d → ⊥
+two-compared o p e f d h = compared-law o p e f d h
+
 -- "and then has one reading": one derivation of the text,
 pub derived-one : {x : List ℕ} {c d : Derivation} → Derived x c → Derived x d → c ≡ d
 derived-one a b = derived-law a b
@@ -55,6 +68,12 @@ derived-one a b = derived-law a b
 -- and one program at most that it means
 pub one-reading : {x : List ℕ} {p q : Program} → Reading x p → Reading x q → p ≡ q
 one-reading a b = reading-law a b
+
+-- 17 by its causes: a derived text is read as no program that a stream holds exactly where its derivation has one ("a name with no declaration alive at its
+-- place, a struct, parameter or local name declared twice or a local named as a parameter of its struct, a literal outside its type, other than one
+-- argument per parameter, or more of anything than the stream's counts, numbers or bytes hold")
+pub no-program-exactly : {x : List ℕ} {c : Derivation} → Derived x c → (NoProgram x) ↔ (Cause c)
+no-program-exactly d = causes-law d
 
 -- "more .. than the stream's .. bytes hold": as many bytes as the 64 blocks of the largest image have room for
 pub text-bytes : (p : Program) → (length (enc-program p) ≤ max-stream) ↔ (pieces (length (enc-program p)) ≤ program-blocks)

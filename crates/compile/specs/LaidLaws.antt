@@ -16,7 +16,7 @@ use Rattle.program.specs.Laws.ProgramLaws.{program-law}
 use Rattle.commands.specs.Bounds.{arities, Within}
 use Rattle.emit.specs.declared.Put.{Put}
 use Rattle.emit.specs.Written.{code-of, Ready, Wrote}
-use Rattle.emit.specs.ProgramLaws.{whole-program}
+use Rattle.emit.specs.Laws.ProgramLaws.{whole-program}
 use Rattle.emit.specs.Written.{structs-at}
 use Rattle.machine.specs.Published.{Sched, of-items}
 use Rattle.memory.specs.Plan.{laid, laid-out, Ranged, Body, At, At.at-end, At.at-start, At.at-fix, At.at-round}

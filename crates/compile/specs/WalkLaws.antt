@@ -13,10 +13,10 @@ use Rattle.program.specs.Laws.PartLaws.{made-ok}
 use Rattle.program.specs.Laws.ItemLaws.{OpensItem, opens-item}
 use Rattle.emit.specs.declared.Put.{Put}
 use Rattle.emit.specs.Written.{Good, next-of, code-of, Ready, Wrote}
-use Rattle.emit.specs.WrittenLaws.{placed-one, placed-as, placed-kept, placed-last, placed-first}
+use Rattle.emit.specs.Laws.WrittenLaws.{placed-one, placed-as, placed-kept, placed-last, placed-first}
 use Rattle.emit.specs.Parts.{Part, Parts}
-use Rattle.emit.specs.PartsLaws.{part-of, same-part, parts-of, parts-ready, parts-next, parts-same, row-none}
-use Rattle.emit.specs.ReadLaws.{value, made-value, pair-value, pair-ok, many-value, ranged-value, counted-value, opened-value}
+use Rattle.emit.specs.Laws.PartsLaws.{part-of, same-part, parts-of, parts-ready, parts-next, parts-same, row-none}
+use Rattle.emit.specs.Laws.ReadLaws.{value, made-value, pair-value, pair-ok, many-value, ranged-value, counted-value, opened-value}
 use Rattle.machine.specs.Published.{StepCall.local}
 use Rattle.layout.specs.Codes.{fix-code, end-code, round-code}
 use Rattle.memory.specs.Plan.{start-code}

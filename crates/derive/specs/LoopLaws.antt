@@ -8,7 +8,7 @@ use lib.ListN.{length, getD, drop, length-set, drop-of-length-le}
 use lib.Seq.{drop-set-lt}
 use lib.Dec.{eqb}
 use borrow.Author.Tests.{ne-eqb}
-use Rattle.types.specs.ListLaws.{drop-next}
+use Rattle.types.specs.Laws.ListLaws.{drop-next}
 use Rattle.tokens.specs.Marking.{kinds-in}
 use Rattle.lexer.specs.Gaps.{Gap}
 use Rattle.lexer.specs.GapLaws.{gap-over}

@@ -1,15 +1,5 @@
 pub mod Written
-pub mod WrittenLaws
 pub mod Leaf
-pub mod LeafLaws
-pub mod WordLaws
-pub mod ReadLaws
-pub mod PathLaws
 pub mod Parts
-pub mod PartsLaws
-pub mod ExprLaws
-pub mod LiteralLaws
-pub mod StmtLaws
-pub mod StepLaws
-pub mod ProgramLaws
 pub mod Rows
+pub mod Laws

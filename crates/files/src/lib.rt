@@ -89,46 +89,6 @@ pub fn load(i: usize, buf: &mut [u8]) -> Loaded
     r
 }
 
-// What a run is made of, as it was read: whether all of it was, and how many bytes of each stand in its buffer.
-pub struct Inputs {
-    pub done: bool,
-    pub program: usize,
-    pub table: usize,
-    pub turns: usize,
-}
-
-// A program image, a table image and turn bytes from the files that arguments 1 to 3 name, for a program that is called with so many words.
-// Each that cannot be read is told; where the words are more or fewer, the program's help is, and nothing is read.
-pub fn load_inputs(
-    words: usize,
-    help: &[u8],
-    program: &mut [u8],
-    table: &mut [u8],
-    turns: &mut [u8],
-) -> Inputs
-    ensures { λ r. ⌜ Counts (r .program) (now (program .exit)) ⌝ }
-    ensures { λ r. ⌜ Counts (r .table) (now (table .exit)) ⌝ }
-    ensures { λ r. ⌜ Counts (r .turns) (now (turns .exit)) ⌝ }
-{
-    if !called(words, help) {
-        return Inputs {
-            done: false,
-            program: io::count(0, program),
-            table: io::count(0, table),
-            turns: io::count(0, turns),
-        };
-    }
-    let p = load(1, program);
-    let t = load(2, table);
-    let e = load(3, turns);
-    Inputs {
-        done: p.done && t.done && e.done,
-        program: p.len,
-        table: t.len,
-        turns: e.len,
-    }
-}
-
 // Whether all was written, as it was answered; where it was not, that is told.
 fn told(done: bool, what: &[u8]) -> bool
     ensures { λ r. ⌜ r ≡ done ⌝ }

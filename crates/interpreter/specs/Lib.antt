@@ -1,13 +1,5 @@
 pub mod Ready
 pub mod Moving
-pub mod MovingLaws
-pub mod CountLaws
 pub mod Running
 pub mod Going
-pub mod VisitWays
-pub mod TurnLaws
-pub mod RunningLaws
-pub mod RecordLaws
-pub mod GoingLaws
-pub mod SettleWays
-pub mod RunWays
+pub mod Laws

@@ -8,7 +8,7 @@ use lib.ListN.{length, getD, drop, length-drop, drop-of-length-le}
 use lib.Seq.{getD-drop}
 use lib.Dec.{eqb}
 use borrow.Author.Tests.{eq-eqb, ne-eqb}
-use Rattle.types.specs.ListLaws.{drop-next, eqb-sym}
+use Rattle.types.specs.Laws.ListLaws.{drop-next, eqb-sym}
 use Rattle.tokens.specs.Lexing.{close}
 use Rattle.tokens.specs.Tokens.{same}
 use Rattle.tokens.specs.Scanning.{span, begins, one-more, closing}

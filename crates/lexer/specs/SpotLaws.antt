@@ -9,7 +9,7 @@ use lib.ListN.{length, getD, take, drop}
 use lib.Seq.{getD-drop, drop-drop}
 use lib.Dec.{eqb}
 use borrow.Author.Tests.{eqb-true, eq-eqb, ne-eqb}
-use Rattle.types.specs.ListLaws.{drop-next, eqb-sym}
+use Rattle.types.specs.Laws.ListLaws.{drop-next, eqb-sym}
 use Rattle.tokens.specs.Laws.ByteLaws.{both-true}
 use Rattle.program.specs.Tree.{Op.op-ne, Op.op-le, Op.op-ge, Op.op-lt, Op.op-gt, Op.op-and, Op.op-or}
 use Rattle.tokens.specs.Tokens.{Sign.colon, Sign.assign, Sign.bang, Token, Token.sign, Token.op, Token.int, Token.nat, nat-end-byte, letter, digit}

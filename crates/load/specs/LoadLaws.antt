@@ -28,7 +28,7 @@ use Rattle.directory.specs.Directory.{directory}
 use Rattle.directory.specs.DirectoryLaws.{directory-count}
 use Rattle.directory.specs.Rows.{rows-from}
 use Rattle.emit.specs.Written.{structs-at}
-use Rattle.emit.specs.ProgramLaws.{program-steps, whole-program}
+use Rattle.emit.specs.Laws.ProgramLaws.{program-steps, whole-program}
 use Rattle.read_program.specs.declared.Summary.{Summary}
 use Rattle.read_program.specs.Whole.{place-of, schedule-place, ReadListed}
 use Rattle.load.specs.declared.Loaded.{Loaded}

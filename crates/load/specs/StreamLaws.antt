@@ -17,11 +17,11 @@ use Rattle.commands.specs.Numbers.{breach-number}
 use Rattle.commands.specs.Laws.NumbersLaws.{number-accepted}
 use Rattle.verdict.specs.Verdict.{judge, of-read}
 use Rattle.judge.specs.ProgramFacts.{program-totals, program-plan, checked-number}
-use Rattle.judge.specs.ProgramFactsLaws.{checked-law, checked-commands, checked-depth}
-use Rattle.judge.specs.ProgramTableLaws.{totals-count}
+use Rattle.judge.specs.Laws.ProgramFactsLaws.{checked-law, checked-commands, checked-depth}
+use Rattle.judge.specs.Laws.ProgramTableLaws.{totals-count}
 use Rattle.directory.specs.Rows.{Listed}
 use Rattle.read_params.specs.ParamsTold.{ParamsKept}
-use Rattle.emit.specs.ProgramLaws.{Standing, program-steps, whole-program}
+use Rattle.emit.specs.Laws.ProgramLaws.{Standing, program-steps, whole-program}
 use Rattle.read_program.specs.declared.Summary.{Summary}
 use Rattle.read_program.specs.declared.ProgramRead.the-variants.{Value, Refused}
 use Rattle.read_program.specs.Whole.{summary, place-of, steps-place, schedule-place, program-told, ReadListed}

@@ -2,3 +2,8 @@
 pub mod NestingLaws
 pub mod MeantComplete
 pub mod MeantLaws
+pub mod UnmeantLaws
+pub mod EitherLaws
+pub mod CauseLaws
+pub mod ExceedsLaws
+pub mod WithinLaws

@@ -2,11 +2,14 @@ pub mod Scope
 pub mod StepNames
 pub mod Values
 pub mod Means
+pub mod Unmeant
 pub mod Holds
 pub mod HoldsDecide
+pub mod Exceeds
 pub mod Nesting
 pub mod Finding
 pub mod Meant
 pub mod Unfold
 pub mod Rows
+pub mod ReadRows
 pub mod Laws

@@ -8,7 +8,7 @@ use mathlib.Core.List.{List, [], _∷_, _++_}
 use lib.ListN.{length, getD, drop, length-append, drop-of-length-le}
 use lib.Seq.{sets, drop-cons, length-sets}
 use borrow.Author.Tests.{lt-ltb, le-ltb}
-use Rattle.emit.specs.WrittenLaws.{sets-append}
+use Rattle.emit.specs.Laws.WrittenLaws.{sets-append}
 use Rattle.text.specs.Listing.{Placed, decimal}
 use Rattle.number_lines.specs.Lines.{separator, sign, word-text, last-end, words-text, lines}
 

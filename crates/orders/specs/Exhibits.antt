@@ -23,8 +23,8 @@ use Rattle.machine.specs.Published.{structs, StepCall.global, Sched.done, Sched
 use Rattle.machine.specs.Rules.{Actor.schedule, Rule}
 use Rattle.machine.specs.Machine.{Tagged, tagged, Instance, Machine, Moved.next, move, machine, started}
 use Rattle.machine.specs.Represents.{Represents}
-use Rattle.machine.specs.RepresentsLaws.{Still, still-done}
-use Rattle.machine.specs.MoveAgrees.{move-follows}
+use Rattle.machine.specs.Laws.RepresentsLaws.{Still, still-done}
+use Rattle.machine.specs.Laws.MoveAgrees.{move-follows}
 use Rattle.run.specs.Begin.{begin, first-instances, table-of}
 use Rattle.run.specs.Initial.{initial, first-insts}
 use Rattle.run.specs.Comes.{table-in}

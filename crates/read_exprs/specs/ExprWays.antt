@@ -14,7 +14,7 @@ use Rattle.answers.specs.Answers.{Answer, Answer.value, Answer.refused, answer,
 use Rattle.answers.specs.AnswerLaws.{answer-is, answer-stops, answer-made, row-none, row-stop, row-more}
 use Rattle.judge.specs.declared.Facts.{Facts}
 use Rattle.judge.specs.Facts.{pushed, negated, combined, travelled, path-of, appended, constructed, no-args, expr-facts, args-facts}
-use Rattle.judge.specs.FollowLaws.{behind, behind-argued, none-behind, behind-none, args-typ, expr-high}
+use Rattle.judge.specs.Laws.FollowLaws.{behind, behind-argued, none-behind, behind-none, args-typ, expr-high}
 use Rattle.read_exprs.specs.declared.read.ByteRead.the-variants.{Byte, NoByte}
 use Rattle.read_exprs.specs.declared.read.ExprRead.{ExprRead}
 use Rattle.read_exprs.specs.declared.read.ExprRead.the-variants.{Value, Refused}

@@ -9,7 +9,7 @@ use lib.ListN.{length, drop, set, length-append, length-map}
 use lib.Seq.{sets, sets-eq}
 use Rattle.types.specs.Types.{Ty, code}
 use Rattle.types.specs.TypeBytes.{is-type}
-use Rattle.types.specs.SetsLaws.{sets-append}
+use Rattle.types.specs.Laws.SetsLaws.{sets-append}
 use Rattle.program.specs.Reader.{Result, Result.ok, Result.bad, then, made, many, tested, ranged, counted, read-type, read-params}
 use Rattle.judge.specs.declared.Facts.{Facts}
 use Rattle.judge.specs.Facts.{pushed}

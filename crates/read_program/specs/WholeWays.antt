@@ -16,7 +16,7 @@ use Rattle.directory.specs.DirectoryLaws.{directory-count}
 use Rattle.directory.specs.Rows.{rows-from}
 use Rattle.judge.specs.ProgramFacts.{Totals as Sum, Planned as Plan, plan, no-totals, types-table, step-totals, items-plan, exceeded}
 use Rattle.judge.specs.ProgramFacts.{totals-number, program-totals, program-plan}
-use Rattle.judge.specs.ProgramTableLaws.{totals-count, totals-listed}
+use Rattle.judge.specs.Laws.ProgramTableLaws.{totals-count, totals-listed}
 use Rattle.read_params.specs.declared.ParamsRead.the-variants.{Value as ParamsValue, Refused as ParamsRefused}
 use Rattle.read_schedule.specs.declared.PlanRead.the-variants.{Value as PlanValue, Refused as PlanRefused}
 use Rattle.read_schedule.specs.declared.Planned.{Planned}

@@ -2,7 +2,7 @@
 use directory::Row;
 use directory::rows::number;
 use directory::rows::put_row;
-use directory::rows::there;
+use directory::rows::row_at;
 use judge::Done;
 use judge::Scope;
 use judging::expression;
@@ -21,6 +21,7 @@ ghost use Rattle.program.specs.Reader.{many, read-step, read-steps};
 ghost use Rattle.directory.specs.Directory.{row, there};
 ghost use Rattle.directory.specs.Rows.{row-places, put-row, rows-from};
 ghost use Rattle.judge.specs.ProgramFacts.{no-totals, struct-totals, step-totals};
+ghost use Rattle.read_program.specs.Own.{Led, Leads};
 ghost use Rattle.read_program.specs.Total.{with, less, over-by, plus, step-total, stmt-refusal, totals-refusal, Told, Low, Free, Bounded};
 
 // Of the steps so far: how many, their commands, the greatest depth, 1 once a limit of a step is passed, and a fault.
@@ -71,15 +72,35 @@ pub fn none() -> Totals
     }
 }
 
+// Whether the struct k has a step n among those of the first rows: its own are the last ones of them, and they alone are asked.
+fn listed(rows: &[u16], end: usize, k: u8, n: u8) -> bool
+    requires { ⌜ (Led k (rows-from (now rows) 0 end)) × (end < 256) ⌝ }
+    ensures { λ r. ⌜ r ≡ there (rows-from (now (rows .entry)) 0 end) k n ⌝ }
+{
+    let mut i = end;
+    while 0 < i {
+        let r = row_at(rows, i - 1);
+        if r.structure != number(k) {
+            return false;
+        }
+        if r.name == number(n) {
+            return true;
+        }
+        i -= 1;
+    }
+    false
+}
+
 // Whether the step n of the struct k is new; its row is written behind those of the steps so far.
 fn noted(rows: &mut [u16], k: u8, n: u8, t: Totals, d: Done) -> bool
     requires { ⌜ (row-places * (t .steps + 1) ≤ length (now rows)) × (t .steps < 256) ⌝ }
     requires { ⌜ (t .commands < 65536) × (d .size < 65536) ⌝ }
+    requires { ⌜ Led k (rows-from (now rows) 0 (t .steps)) ⌝ }
     ensures { λ r. ⌜ r ≡ not (there (rows-from (now (rows .entry)) 0 (t .steps)) k n) ⌝ }
     ensures { λ _. ⌜ now (rows .exit) ≡ put-row (now (rows .entry)) (t .steps) (row k n (t .commands) (d .size)) ⌝ }
 {
     let i = t.steps;
-    let old = there(rows, i as u8, k, n);
+    let old = listed(rows, i, k, n);
     let r = Row {
         structure: number(k),
         name: number(n),
@@ -130,9 +151,11 @@ fn step(
 ) -> TotalsRead
     requires { ⌜ (length (now ar) ≤ max-structs) × (length (now s) < 65536) × (k < max-structs) ⌝ }
     requires { ⌜ Low t at × Free (now rows) t 1 ⌝ }
+    requires { ⌜ Led k (rows-from (now rows) 0 (t .steps)) ⌝ }
     ensures { λ r. ⌜ Told (step-total (now (ar .entry)) (now (types .entry)) k (with t (now (rows .entry))))
         (read-step (now (ar .entry)) (now (s .entry)) at) r (now (rows .exit)) ⌝ }
     ensures { λ r. ⌜ Bounded (now (s .entry)) (t .steps + 1) r ⌝ }
+    ensures { λ r. ⌜ Leads k r (now (rows .exit)) ⌝ }
 {
     let r = read::ranged(s, 0, types::STEP_NAMES, at);
     let ByteRead::Byte(n, m) = r else {
@@ -166,9 +189,11 @@ fn of_struct(
 ) -> TotalsRead
     requires { ⌜ (length (now ar) ≤ max-structs) × (length (now s) < 65536) × (k < max-structs) ⌝ }
     requires { ⌜ Low t at × Free (now rows) t max-steps ⌝ }
+    requires { ⌜ Led k (rows-from (now rows) 0 (t .steps)) ⌝ }
     ensures { λ r. ⌜ Told (λ ts. struct-totals (now (ar .entry)) (now (types .entry)) k ts (with t (now (rows .entry))))
         (read-steps (now (ar .entry)) (now (s .entry)) at) r (now (rows .exit)) ⌝ }
     ensures { λ r. ⌜ Bounded (now (s .entry)) (t .steps + max-steps) r ⌝ }
+    ensures { λ r. ⌜ Leads k r (now (rows .exit)) ⌝ }
 {
     let r = read::ranged(s, 0, types::MAX_STEPS + 1, at);
     let ByteRead::Byte(n, m) = r else {
@@ -201,6 +226,7 @@ pub fn structs(
 ) -> TotalsRead
     requires { ⌜ (length (now ar) ≤ max-structs) × (length (now s) < 65536) × (n ≤ max-structs) ⌝ }
     requires { ⌜ Low t at × (at ≤ length (now s)) × Free (now rows) t (max-steps * n) ⌝ }
+    requires { ⌜ Led 0 (rows-from (now rows) 0 (t .steps)) ⌝ }
     ensures { λ r. ⌜ Told (λ tss. step-totals (now (ar .entry)) (now (types .entry)) 0 tss (with t (now (rows .entry))))
         (many [] _∷_ (read-steps (now (ar .entry)) (now (s .entry))) n at) r (now (rows .exit)) ⌝ }
     ensures { λ r. ⌜ Bounded (now (s .entry)) (t .steps + max-steps * n) r ⌝ }

@@ -15,7 +15,7 @@ use Rattle.directory.specs.declared.Row.{Row}
 use Rattle.directory.specs.Directory.{there}
 use Rattle.judge.specs.Facts.{named}
 use Rattle.judge.specs.ProgramFacts.{Planned as Plan, plan, had, joined, item-plan, items-plan}
-use Rattle.judge.specs.FollowLaws.{joined-assoc, none-joined, joined-none}
+use Rattle.judge.specs.Laws.FollowLaws.{joined-assoc, none-joined, joined-none}
 use Rattle.answers.specs.Answers.{Answer, Answer.value, Answer.refused, answer}
 use Rattle.answers.specs.AnswerLaws.{row-none, row-stop, row-more}
 use Rattle.read_exprs.specs.declared.read.ByteRead.the-variants.{Byte, NoByte}

@@ -14,7 +14,7 @@ use Rattle.read_exprs.specs.Told.{byte-told}
 use Rattle.judge.specs.declared.Scope.{Scope}
 use Rattle.judge.specs.declared.Done.{Done}
 use Rattle.judge.specs.Facts.{nothing, followed, stmt-facts, body-facts}
-use Rattle.judge.specs.FollowLaws.{followed-assoc, nothing-followed, followed-nothing, stmt-low}
+use Rattle.judge.specs.Laws.FollowLaws.{followed-assoc, nothing-followed, followed-nothing, stmt-low}
 use Rattle.read_stmts.specs.declared.StmtRead.the-variants.{Value, Refused}
 use Rattle.read_stmts.specs.Done.{stmt-read, done, DoneAhead, DoneWithin}
 use Rattle.read_stmts.specs.StmtWays.{stmt-value, stmt-refused, done-is, body-is}

@@ -10,7 +10,7 @@ use lib.Seq.{sets}
 use borrow.Author.Tests.{lt-ltb, le-ltb}
 use Rattle.types.specs.Numbers.{no-token, no-derivation}
 use Rattle.types.specs.Stages.{Stage.stopped as refused, on, asked, given}
-use Rattle.types.specs.ListLaws.{sets-whole}
+use Rattle.types.specs.Laws.ListLaws.{sets-whole}
 use Rattle.tokens.specs.Tokens.{Token}
 use Rattle.tokens.specs.Scanning.{lex}
 use Rattle.syntax.specs.Syntax.{Program as Derivation}

@@ -29,7 +29,7 @@ use Rattle.load.specs.Load.{Admitted}
 use Rattle.table_read.specs.declared.TableRead.the-variants.{Instances, Refused}
 use Rattle.table_read.specs.Params.{lists-of, Tables}
 use Rattle.table_read.specs.TableTold.{table-told, TableLaid}
-use Rattle.table_read.specs.ReadStands.{program-tables, image-answer-is, image-right, image-stands}
+use Rattle.table_read.specs.Laws.ReadStands.{program-tables, image-answer-is, image-right, image-stands}
 use Rattle.seating.specs.Seated.{Admits, seat-of, Seated}
 
 pub admitted-counts : {s counts : List ℕ} {at : ℕ} {p : Program} → Admitted s counts at p → Counts p

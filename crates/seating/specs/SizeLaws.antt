@@ -19,7 +19,7 @@ use Rattle.commands.specs.Bounds.{total, item-count, items-count, Within}
 use Rattle.commands.specs.Laws.NumbersLaws.{number-accepts}
 use Rattle.load.specs.declared.Loaded.{Loaded}
 use Rattle.load.specs.LoadLaws.{LoadedAs, accepted-source}
-use Rattle.table.specs.SizeLaws.{word-length}
+use Rattle.table.specs.Laws.SizeLaws.{word-length}
 use Rattle.seating.specs.Seated.{most-bytes}
 
 -- at most five bytes for a command

@@ -1,4 +1,5 @@
 pub mod Source
+pub mod Causes
 pub mod TextReader
 pub mod Kept
 pub mod Stepping
@@ -7,4 +8,5 @@ pub mod Rows
 pub mod Streamed
 pub mod TextRows
 pub mod DeepRows
+pub mod CountRows
 pub mod Laws

@@ -38,7 +38,7 @@ pub stream-P : enc-program program-P ≡ 1 ∷ 2 ∷ 0 ∷ 16 ∷ 1 ∷ 0 ∷ 1 
 unfolding program-P enc-word flat op-code var-code enc-path enc-expr enc-exprs enc-stmt enc-stmts enc-item enc-items enc-step enc-program code size items
 stream-P = refl
 
-short-P : ltb 65536 (length text-P) ≡ false
+pub short-P : ltb 65536 (length text-P) ≡ false
 unfolding text-P
 short-P = refl
 

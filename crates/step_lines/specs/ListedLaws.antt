@@ -8,7 +8,7 @@ use Rattle.types.specs.Limits.{max-structs}
 use Rattle.types.specs.Types.{Ty, Ty.int, Ty.nat, Ty.bool, Ty.ref, IsType}
 use Rattle.types.specs.Values.{default}
 use Rattle.types.specs.TypeBytes.{ValueOf, word-end}
-use Rattle.types.specs.ValueLaws.{value-in-range}
+use Rattle.types.specs.Laws.ValueLaws.{value-in-range}
 use Rattle.program.specs.Tree.{Var, Var.loc, Expr, Expr.inv, Expr.make, Expr.path, Expr.int-lit, Expr.nat-lit, Expr.bool-lit, Expr.null, Expr.self}
 use Rattle.program.specs.Tree.{Expr.op, Exprs, Exprs.none, Exprs.more, Stmt, Stmt.when, Stmt.declare, Stmt.update, Stmt.create, Stmts, Stmts.end}
 use Rattle.program.specs.Tree.{Stmts.next, Step}

@@ -11,7 +11,7 @@ use Rattle.types.specs.Limits.{max-commands}
 use Rattle.types.specs.Numbers.{no-room}
 use Rattle.types.specs.Reflects.{Reflects, Reflects.holds, Reflects.fails, lt-reflects}
 use Rattle.types.specs.Orders.{Numbered}
-use Rattle.types.specs.OrderLaws.{foremost-numbered}
+use Rattle.types.specs.Laws.OrderLaws.{foremost-numbered}
 use Rattle.types.specs.Stages.{Stage.went as accepted, Stage.stopped as refused, on, asked}
 use Rattle.program.specs.Tree.{Program}
 use Rattle.commands.specs.Bounds.{Within}

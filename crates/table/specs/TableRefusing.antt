@@ -15,11 +15,11 @@ use Rattle.table.specs.Table.{Record, value-bytes, count-bytes, enc-valu
 use Rattle.table.specs.TableFaults.{Field, Field.count, Field.struct-byte, Field.value, field-bytes, Allowed, Front, Front.at-count}
 use Rattle.table.specs.TableFaults.{Front.at-struct, Front.at-value}
 use Rattle.table.specs.TableReader.{allowed, read-value, read-values, read-record, read-count, read-table}
-use Rattle.table.specs.ValueLaws.{value-of-word, word-of-value}
+use Rattle.table.specs.Laws.ValueLaws.{value-of-word, word-of-value}
 use Rattle.table.specs.Refusing.{Refusing, Joined, Joined.in-first, Joined.in-second, InRow, InRow.in-row}
-use Rattle.table.specs.RefusingLaws.{refusing-iff, made-refusing, ok-refusing, then-refusing, pair-refusing, row-refusing}
-use Rattle.table.specs.FieldLaws.{NumberFault, number-refusing, byte-refusing}
-use Rattle.table.specs.TableExact.{value-exact, record-exact, count-exact}
+use Rattle.table.specs.Laws.RefusingLaws.{refusing-iff, made-refusing, ok-refusing, then-refusing, pair-refusing, row-refusing}
+use Rattle.table.specs.Laws.FieldLaws.{NumberFault, number-refusing, byte-refusing}
+use Rattle.table.specs.Laws.TableExact.{value-exact, record-exact, count-exact}
 
 module _ (pss : List (List Ty)) where
   -- a field is cut, or not allowed

@@ -7,14 +7,14 @@ use lib.ListN.{length, getD, length-map, List·getD-map}
 use lib.Seq.{ext-getD}
 use Rattle.types.specs.Limits.{max-structs, max-params}
 use Rattle.types.specs.Types.{Ty, Ty.int, code}
-use Rattle.types.specs.TypeLaws.{type-of-code}
+use Rattle.types.specs.Laws.TypeLaws.{type-of-code}
 use Rattle.program.specs.Counts.{All}
-use Rattle.table.specs.SizeLaws.{few-params}
+use Rattle.table.specs.Laws.SizeLaws.{few-params}
 use Rattle.judge.specs.ProgramFacts.{types-table}
-use Rattle.judge.specs.ProgramTableLaws.{types-at}
+use Rattle.judge.specs.Laws.ProgramTableLaws.{types-at}
 use Rattle.read_params.specs.ParamsWays.{table-length}
 use Rattle.table_read.specs.Params.{types-from, lists-of, Tables}
-use Rattle.table_read.specs.ParamsLaws.{lists-length, list-is}
+use Rattle.table_read.specs.Laws.ParamsLaws.{lists-length, list-is}
 
 -- the types whose bytes stand at the places
 types-are : (ts : List ℕ) (i : ℕ) (l : List Ty) → ((x : ℕ) → x < length l → getD ts (i + x) 0 ≡ code (getD l x int)) → types-from ts i (length l) ≡ l

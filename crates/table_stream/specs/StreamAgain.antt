@@ -7,7 +7,7 @@ use mathlib.Core.List.{List, [], _∷_, _++_}
 use lib.Dec.{eqb, ltb}
 use lib.ListN.{length, getD, drop, drop-of-length-le}
 use borrow.Author.Tests.{lt-ltb, le-ltb, lt-leb, le-leb, ltb-false}
-use Rattle.types.specs.ListLaws.{drop-next}
+use Rattle.types.specs.Laws.ListLaws.{drop-next}
 use Rattle.types.specs.Limits.{int-half, nat-end, max-params}
 use Rattle.program.specs.Encoding.{enc-word}
 use Rattle.numbers.specs.Scan.{minus-mark, first-mark}

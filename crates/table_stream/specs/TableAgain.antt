@@ -11,9 +11,9 @@ use Rattle.types.specs.Stages.{Stage.went as table}
 use Rattle.program.specs.Encoding.{enc-word, flat}
 use Rattle.program.specs.Counts.{All}
 use Rattle.table.specs.Table.{Record, enc-value, enc-record, enc-table, Held, HeldRecord, HeldTable, TableRight}
-use Rattle.table.specs.EachLaws.{each-length}
+use Rattle.table.specs.Laws.EachLaws.{each-length}
 use Rattle.table.specs.TableReader.{table-of-stream}
-use Rattle.table.specs.TableLaws.{table-answer-exact}
+use Rattle.table.specs.Laws.TableLaws.{table-answer-exact}
 use Rattle.table_words.specs.TableWords.{arity-at, table-words}
 use Rattle.table_stream.specs.TableStream.{stream-of}
 use Rattle.table_stream.specs.StreamAgain.{Bytes, Ends, stream-again}

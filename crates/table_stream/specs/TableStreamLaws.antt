@@ -5,10 +5,11 @@ use native.Mathlib.Numerals.{add-one}
 use mathlib.Core.Path.{_≡_, refl, sym, ap, _∙_}
 use mathlib.Core.Bool.{Bool, true, false}
 use mathlib.Core.List.{List, [], _∷_, _++_}
-use lib.ListN.{length, getD, set, drop, length-append, drop-of-length-le}
+use lib.ListN.{length, getD, set, drop, replicate, length-append, drop-of-length-le}
 use lib.Seq.{sets, drop-cons, length-sets}
 use borrow.Author.Tests.{lt-ltb, le-ltb, eq-eqb, ne-eqb}
-use Rattle.emit.specs.WrittenLaws.{sets-append, set-sets}
+use Rattle.little_endian.specs.Numbers.{bytes-of}
+use Rattle.emit.specs.Laws.WrittenLaws.{sets-append, set-sets}
 use Rattle.program.specs.Encoding.{enc-word}
 use Rattle.table_stream.specs.TableStream.{value-number, word-bytes, begins, item-bytes, one-line, records-bytes, line-count, stream-of, agreed-from}
 
@@ -50,10 +51,11 @@ module _ {ws out₀ out : List ℕ} {at : ℕ} {struct : Bool} {lines i : ℕ} (
         }
 
   -- behind the last word the number of lines is put in front
-  pub taken-end : {out1 out2 : List ℕ} → length ws ≤ i → out1 ≡ set out 0 (lines % 256) → out2 ≡ set out1 1 (lines / 256 % 256)
+  pub taken-end : {out1 out2 b : List ℕ} → length ws ≤ i → b ≡ sets (replicate 2 0) 0 (bytes-of 2 lines) → out1 ≡ set out 0 (getD b 0 0)
+      → out2 ≡ set out1 1 (getD b 1 0)
       → (at ≡ length (stream-of ws)) × (out2 ≡ sets out₀ 0 (stream-of ws))
-  unfolding records-bytes line-count stream-of
-  taken-end h e1 e2 =
+  unfolding records-bytes line-count stream-of bytes-of
+  taken-end h e e1 e2 =
       let d = drop-of-length-le ws {i = i} h in
       let c : at + 0 ≡ 2 + length (records-bytes false ws) = rw d at (r .count) in
       let l : lines + 0 ≡ line-count ws = rw d at (r .counted) in
@@ -62,7 +64,7 @@ module _ {ws out₀ out : List ℕ} {at : ℕ} {struct : Bool} {lines i : ℕ} (
       let a = line-count ws % 256 in
       let b = line-count ws / 256 % 256 in
       let x = records-bytes false ws in
-      (omega arith, e2 ∙ rw (e1, w, l1) (ap (λ o. set o 1 b) (set-sets out₀ 0 2 a x (omega arith)) ∙ set-sets (set out₀ 0 a) 1 2 b x (omega arith)))
+      (omega arith, e2 ∙ rw (e1, e, w, l1) (ap (λ o. set o 1 b) (set-sets out₀ 0 2 a x (omega arith)) ∙ set-sets (set out₀ 0 a) 1 2 b x (omega arith)))
 
 -- the first i words agree
 pub record Agree (xs ys : List ℕ) (i : ℕ) : Type 0 where
@@ -97,11 +99,11 @@ module _ {xs ys : List ℕ} {i : ℕ} (r : Agree xs ys i) where
           record { within = omega arith; left = rw (next-x, next-y, agreed-from, t) at (r .left) }
 
 -- four bytes one behind the other are a number's
-pub word-put : (out : List ℕ) (at w : ℕ) {o1 o2 o3 o4 : List ℕ} → o1 ≡ set out at (w % 256) → o2 ≡ set o1 (at + 1) (w / 256 % 256)
-    → o3 ≡ set o2 (at + 2) (w / 256 / 256 % 256) → o4 ≡ set o3 (at + 3) (w / 256 / 256 / 256 % 256) → o4 ≡ sets out at (enc-word 4 w)
-unfolding enc-word
-word-put out at w e1 e2 e3 e4 =
+pub word-put : (out : List ℕ) (at w : ℕ) {o1 o2 o3 o4 b : List ℕ} → b ≡ sets (replicate 4 0) 0 (bytes-of 4 w) → o1 ≡ set out at (getD b 0 0)
+    → o2 ≡ set o1 (at + 1) (getD b 1 0) → o3 ≡ set o2 (at + 2) (getD b 2 0) → o4 ≡ set o3 (at + 3) (getD b 3 0) → o4 ≡ sets out at (enc-word 4 w)
+unfolding enc-word bytes-of
+word-put out at w e e1 e2 e3 e4 =
     let a : suc at ≡ at + 1 = omega arith in
     let b : suc (suc at) ≡ at + 2 = omega arith in
     let c : suc (suc (suc at)) ≡ at + 3 = omega arith in
-    e4 ∙ rw (e3, e2, e1, ← a, ← b, ← c)
+    e4 ∙ rw (e3, e2, e1, e, ← a, ← b, ← c)

@@ -34,17 +34,17 @@ fn value_number(w: u64) -> u64
     (types::NAT_END - v) % types::NAT_END
 }
 
+// The bytes of a number of four, as far as there are places.
 fn put_word(out: &mut [u8], at: usize, w: u64)
     requires { ⌜ at < 1000000 ⌝ }
     ensures { λ _. ⌜ now (out .exit) ≡ sets (now (out .entry)) at (enc-word 4 w) ⌝ }
 {
-    let b = w / 256;
-    let c = b / 256;
-    let d = c / 256;
-    put(out, at, (w % 256) as u8);
-    put(out, at + 1, (b % 256) as u8);
-    put(out, at + 2, (c % 256) as u8);
-    put(out, at + 3, (d % 256) as u8);
+    let mut b = [0u8; 4];
+    little_endian::put_word(&mut b, 0, w);
+    put(out, at, b[0]);
+    put(out, at + 1, b[1]);
+    put(out, at + 2, b[2]);
+    put(out, at + 3, b[3]);
 }
 
 // The bytes of a word behind a label; the place behind them.
@@ -106,8 +106,10 @@ pub fn stream(words: &[u64], out: &mut [u8]) -> usize
         lines += one_line(w);
         i += 1;
     }
-    put(out, 0, (lines % 256) as u8);
-    put(out, 1, (lines / 256 % 256) as u8);
+    let mut head = [0u8; 2];
+    little_endian::put_pair(&mut head, 0, lines);
+    put(out, 0, head[0]);
+    put(out, 1, head[1]);
     at
 }
 

@@ -8,7 +8,7 @@ use lib.ListN.{length, getD, set, length-append, length-set}
 use lib.Seq.{sets, length-sets}
 use Rattle.types.specs.Limits.{max-params}
 use Rattle.numbers.specs.Scan.{first-mark}
-use Rattle.emit.specs.WrittenLaws.{sets-append}
+use Rattle.emit.specs.Laws.WrittenLaws.{sets-append}
 use Rattle.table_words.specs.TableWords.{quad, value-word, values-words, arity-at, row-words, rows-words}
 
 pub length-values : (ts s : List ℕ) (i n at : ℕ) → length (values-words ts s i n at) ≡ n

@@ -1,4 +1,7 @@
 // A table stream as numbers (docs/FORMAT.md, 'Tables as text'): label, struct and values of each record, as words of `numbers`.
+use little_endian::index;
+use little_endian::pair_at;
+use little_endian::word_at;
 ghost use mathlib.Core.Path.{_≡_};
 ghost use Prim.Native.Nat.{_+_, _*_, _≤_, _<_};
 ghost use lib.ListN.{length, getD, set};
@@ -7,19 +10,20 @@ ghost use Rattle.types.specs.Limits.{nat-end};
 ghost use Rattle.table_words.specs.TableWords.{quad, value-word, values-words, arity-at, row-words, table-words};
 
 // The byte at a place, 0 where there is none.
-fn byte(s: &[u8], at: usize) -> usize
-    ensures { λ r. ⌜ (r ≡ getD (now (s .entry)) at 0) × (r < 256) ⌝ }
+fn look(s: &[u8], at: usize) -> u8
+    ensures { λ r. ⌜ r ≡ getD (now (s .entry)) at 0 ⌝ }
 {
     if at < s.len() {
-        return wide(s[at]);
+        return s[at];
     }
     0
 }
 
-fn wide(b: u8) -> usize
-    ensures { λ r. ⌜ (r ≡ b) × (r < 256) ⌝ }
+// The same as a place or a count.
+fn byte(s: &[u8], at: usize) -> usize
+    ensures { λ r. ⌜ (r ≡ getD (now (s .entry)) at 0) × (r < 256) ⌝ }
 {
-    b as usize
+    index(look(s, at))
 }
 
 // A word at a place, where there is such a place.
@@ -31,15 +35,18 @@ fn put(out: &mut [u64], at: usize, w: u64)
     }
 }
 
-// The number of four bytes, the lowest first.
+// The number of four bytes that stands there, with 0 for those that do not.
 fn quad(s: &[u8], at: usize) -> u64
     requires { ⌜ at < 4294967296 ⌝ }
     ensures { λ r. ⌜ (r ≡ quad (now (s .entry)) at) × (r < nat-end) ⌝ }
 {
-    (byte(s, at)
-        + 256 * byte(s, at + 1)
-        + 65536 * byte(s, at + 2)
-        + 16777216 * byte(s, at + 3)) as u64
+    let b = [
+        look(s, at),
+        look(s, at + 1),
+        look(s, at + 2),
+        look(s, at + 3),
+    ];
+    word_at(&b, 0)
 }
 
 // The word of a value: an Int from half of the numbers on is negative.
@@ -100,8 +107,9 @@ pub fn words(counts: &[u8], types: &[u8], structs: u8, s: &[u8], out: &mut [u64]
     ensures { λ r. ⌜ r ≡ length (table-words (now (counts .entry)) (now (types .entry)) structs (now (s .entry))) ⌝ }
     ensures { λ _. ⌜ now (out .exit) ≡ sets (now (out .entry)) 0 (table-words (now (counts .entry)) (now (types .entry)) structs (now (s .entry))) ⌝ }
 {
-    let m = byte(s, 0) + 256 * byte(s, 1);
-    let nulls = wide(structs);
+    let b = [look(s, 0), look(s, 1)];
+    let m = pair_at(&b, 0);
+    let nulls = index(structs);
     let mut at = 2;
     let mut n = 0;
     let mut i = 0;

@@ -14,7 +14,7 @@ use Rattle.program.specs.Encoding.{enc-word, flat}
 use Rattle.program.specs.Counts.{Counts}
 use Rattle.commands.specs.Context.{params-of}
 use Rattle.table.specs.Table.{value-bytes, count-bytes, enc-value, enc-record, enc-table}
-use Rattle.table.specs.SizeLaws.{each-length, few-params}
+use Rattle.table.specs.Laws.SizeLaws.{each-length, few-params}
 use Rattle.machine.specs.Published.{Sched, Env, Env.env, lookup, structs}
 use Rattle.machine.specs.Machine.{Instance, Machine}
 use Rattle.run.specs.Begin.{params-in, record-of, table-of}
@@ -28,8 +28,8 @@ use Rattle.layout.specs.State.{State, of-cell}
 use Rattle.memory.specs.Laws.CellLaws.{operand-part, code-byte}
 use Rattle.memory.specs.Stands.{Shows, Stands}
 use Rattle.table_read.specs.Refer.{struct-in}
-use Rattle.table_read.specs.LaidLaws.{at-place}
-use Rattle.table_read.specs.BeginStands.{few-all}
+use Rattle.table_read.specs.Laws.LaidLaws.{at-place}
+use Rattle.table_read.specs.Laws.BeginStands.{few-all}
 use Rattle.table_write.specs.Written.{cells-bytes, rows-bytes, memory-stream, Filled}
 
 -- the number in a cell that shows a value

@@ -17,9 +17,9 @@ use Rattle.little_endian.specs.Numbers.{bytes-of}
 use Rattle.program.specs.Encoding.{enc-word}
 use Rattle.table.specs.Table.{value-bytes, count-bytes}
 use Rattle.table.specs.Sizes.{head-bytes, most-record, most-stream}
-use Rattle.table.specs.SizeLaws.{word-length, stored-word}
+use Rattle.table.specs.Laws.SizeLaws.{word-length, stored-word}
 use Rattle.read_params.specs.ParamsWays.{from-start}
-use Rattle.emit.specs.WrittenLaws.{sets-append}
+use Rattle.emit.specs.Laws.WrittenLaws.{sets-append}
 use Rattle.layout.specs.Layout.{row-size, operand}
 use Rattle.table_read.specs.Refer.{struct-in}
 use Rattle.table_write.specs.Written.{cells-bytes, row-bytes, rows-bytes, memory-stream, memory-blocks, memory-image, Filled}

@@ -6,8 +6,8 @@ use mathlib.Core.List.{List, [], _∷_, _++_}
 use lib.ListN.{length, drop, getD, length-append, drop-of-length-le}
 use lib.Seq.{length-sets}
 use borrow.Author.Tests.{lt-ltb, le-ltb}
-use Rattle.types.specs.ListLaws.{drop-next}
-use Rattle.emit.specs.WrittenLaws.{sets-append}
+use Rattle.types.specs.Laws.ListLaws.{drop-next}
+use Rattle.emit.specs.Laws.WrittenLaws.{sets-append}
 use Rattle.text.specs.Listing.{digits, decimal, tail, Placed}
 
 -- Digits -----------------------------------------------------------------------

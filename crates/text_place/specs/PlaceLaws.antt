@@ -10,7 +10,7 @@ use lib.ListN.{length, getD, drop, replicate, length-drop, length-append, length
 use lib.Seq.{sets, drop-cons, drop-drop}
 use lib.Dec.{eqb}
 use borrow.Author.Tests.{not-true, not-false, ne-eqb, lt-ltb, le-ltb}
-use Rattle.types.specs.ListLaws.{sets-whole}
+use Rattle.types.specs.Laws.ListLaws.{sets-whole}
 use Rattle.source.specs.Source.{max-text}
 use Rattle.tokens.specs.Tokens.{Token}
 use Rattle.tokens.specs.Scanning.{front, lex}

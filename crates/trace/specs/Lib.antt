@@ -4,4 +4,6 @@ pub mod LineText
 pub mod TraceStepLaws
 pub mod TraceText
 pub mod TraceTextLaws
+pub mod TracePage
+pub mod TracePageLaws
 pub mod TraceRows

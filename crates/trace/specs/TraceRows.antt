@@ -20,6 +20,13 @@ use Rattle.trace.specs.LineText.{target-text, flat-writes, written-text,
 use Rattle.trace.specs.LineText.{end-text}
 use Rattle.trace.specs.TraceText.{end-of, run-text, begun-text}
 
+-- two structs, of which the second has a Bool and the step 2: where it is true, a local takes it, `not` of the local is written, and a struct 0 is
+-- constructed; Fix (Fix (2))
+unfoldable pub turned-off : List ℕ
+turned-off =
+    2 ∷ 0 ∷ 1 ∷ 2 ∷ 0 ∷ 1 ∷ 2 ∷ 1 ∷ 1 ∷ 18 ∷ 1 ∷ 0 ∷ 3 ∷ 2 ∷ 2 ∷ 8 ∷ 18 ∷ 1 ∷ 0 ∷ 3 ∷ 1 ∷ 0 ∷ 16 ∷ 18 ∷ 1 ∷ 8 ∷ 4 ∷ 0
+    ∷ 1 ∷ 3 ∷ 1 ∷ 3 ∷ 1 ∷ 1 ∷ 2 ∷ []
+
 -- streams and turn bytes; the lines
 pub record TraceRow : Type 0 where
   pub program : List ℕ
@@ -79,6 +86,50 @@ trace-rows =
     ∷ "end 0 12"
     ∷ []
     )
+    -- another struct than 0, another step than 0, Fixes in one another, a local, an if that is taken and one that is not, `not` and `cons`
+    ∷ traced turned-off (cells 1 (1 ∷ 1 ∷ 0 ∷ 0 ∷ 0 ∷ [])) (replicate 13 1 ++ replicate 15 0) (
+    "move s1"
+    ∷ "move s11"
+    ∷ "move s11"
+    ∷ "0 1 2 1 2 0 push this [ 17:2 ] s11"
+    ∷ "1 1 2 1 2 1 rd 0 [ 2:1 ] s11"
+    ∷ "2 1 2 1 2 2 if 10 [ ] s11"
+    ∷ "3 1 2 1 2 3 push this [ 17:2 ] s11"
+    ∷ "4 1 2 1 2 4 rd 0 [ 2:1 ] s11"
+    ∷ "5 1 2 1 2 5 push this [ 2:1 17:2 ] s11"
+    ∷ "6 1 2 1 2 6 wr 8 [ ] s11"
+    ∷ "7 1 2 1 2 7 push this [ 17:2 ] s11"
+    ∷ "8 1 2 1 2 8 rd 8 [ 2:1 ] s11"
+    ∷ "9 1 2 1 2 9 not [ 2:0 ] s11"
+    ∷ "10 1 2 1 2 10 push this [ 2:0 17:2 ] s11"
+    ∷ "11 1 2 1 2 11 wr 0 [ ] 2.0 1 0 s00"
+    ∷ "12 1 2 1 2 12 cons 0 [ 16:3 ] s00"
+    ∷ "13 0 1 1 2 0 push this [ 17:1 ] s00"
+    ∷ "14 0 1 1 2 1 rd 0 [ 2:0 ] s00"
+    ∷ "15 0 1 1 2 2 if 10 [ ] s00"
+    ∷ "move s10"
+    ∷ "move s10"
+    ∷ "16 0 2 1 2 0 push this [ 17:2 ] s10"
+    ∷ "17 0 1 1 2 0 push this [ 17:1 ] s10"
+    ∷ "18 0 2 1 2 1 rd 0 [ 2:0 ] s10"
+    ∷ "19 0 1 1 2 1 rd 0 [ 2:0 ] s10"
+    ∷ "20 0 2 1 2 2 if 10 [ ] s10"
+    ∷ "21 0 1 1 2 2 if 10 [ ] s10"
+    ∷ "move s0"
+    ∷ "move s1"
+    ∷ "move s11"
+    ∷ "move s11"
+    ∷ "22 0 2 1 2 0 push this [ 17:2 ] s11"
+    ∷ "23 0 1 1 2 0 push this [ 17:1 ] s11"
+    ∷ "24 0 2 1 2 1 rd 0 [ 2:0 ] s11"
+    ∷ "25 0 1 1 2 1 rd 0 [ 2:0 ] s11"
+    ∷ "26 0 2 1 2 2 if 10 [ ] s11"
+    ∷ "27 0 1 1 2 2 if 10 [ ] s11"
+    ∷ "move s1"
+    ∷ "move s"
+    ∷ "end 0 28"
+    ∷ []
+    )
     -- a table that ends early
     ∷ traced P (1 ∷ 0 ∷ []) [] ("end 11 0" ∷ [])
     ∷ []
@@ -86,7 +137,8 @@ trace-rows =
 -- every row's streams have its lines
 pub trace-rows-right : map (λ r. begun-text (begins-streams (r .program) (r .table) (r .turns)) (r .turns)) trace-rows
     ≡ map (λ r. line-bytes (r .lines)) trace-rows
-unfolding trace-rows running program adding addings P one-in-fix cell single cells erase digits decimal column tail row shown command-text bytes line-bytes
-    move-line moves-by moves turn-line turn-lines trace tagged-text stack-text bits stability-text step-name step-size position next-text change-text param-text
-    target-text flat-writes written-text columns front-text acted-text line-text step-behind turn-behind lines-text end-text end-of run-text begun-text
+unfolding trace-rows turned-off running program adding addings P one-in-fix cell single cells erase digits decimal column tail row shown command-text
+    bytes line-bytes move-line moves-by moves turn-line turn-lines trace tagged-text stack-text bits stability-text step-name step-size position
+    next-text change-text param-text target-text flat-writes written-text columns front-text acted-text line-text step-behind turn-behind lines-text
+    end-text end-of run-text begun-text
 trace-rows-right = refl

@@ -111,6 +111,12 @@ module _ (s : ℕ) (cells : List ℕ) (w t : ℕ) where
       unfolding target-by
       target-found h = rw (target-by, eq-eqb (w % 256) wr-kind e, lt-ltb (operand w) first-local x, le-ltb (operand t) s h)
 
+-- of equal labels and variables
+pub same-target : (cells : List ℕ) (q x q′ x′ : ℕ) → q ≡ q′ → x ≡ x′
+    → _≡_ {A = Write} (record { some = true; label = q; variable = x; old = getD cells (variable q x) 0 })
+    (record { some = true; label = q′; variable = x′; old = getD cells (variable q′ x′) 0 })
+same-target cells q x q′ x′ e f = rw (e, f)
+
 module _ (cells : List ℕ) (w : Write) where
   pub write-none : w .some ≡ false → write-text cells w ≡ []
   unfolding write-text

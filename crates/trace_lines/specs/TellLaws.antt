@@ -34,9 +34,9 @@ use Rattle.memory.specs.Plan.{At}
 use Rattle.memory.specs.Laws.PlanLaws.{past-start, past-fix, past-round, at-end-done}
 use Rattle.interpreter.specs.Ready.{Ready}
 use Rattle.interpreter.specs.Running.{Turned, Turned.turned, Turned.failed}
-use Rattle.interpreter.specs.CountLaws.{holders-behind}
-use Rattle.interpreter.specs.RunningLaws.{ready-rows}
-use Rattle.interpreter.specs.TurnLaws.{held-count, picked-fits, turned-by}
+use Rattle.interpreter.specs.Laws.CountLaws.{holders-behind}
+use Rattle.interpreter.specs.Laws.RunningLaws.{ready-rows}
+use Rattle.interpreter.specs.Laws.TurnLaws.{held-count, picked-fits, turned-by}
 use Rattle.scheduler.specs.Ready.{spans-size, Movable}
 use Rattle.text.specs.Listing.{Placed, text}
 use Rattle.text.specs.ListingLaws.{placed-on}

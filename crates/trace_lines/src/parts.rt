@@ -14,11 +14,11 @@ fn tag(heads: &[u16], c: u64) -> u64
     requires { ⌜ CellFits (now heads) c ⌝ }
     ensures { λ r. ⌜ r ≡ tag (now (heads .entry)) c ⌝ }
 {
-    let t = c / 256 % 256;
+    let t = layout::type_byte(c) as u64;
     if t < STRUCT {
         return t;
     }
-    let q = (c / types::NAT_END) as usize;
+    let q = layout::operand(c) as usize;
     let k = heads[layout::HEAD_SIZE * q + layout::STRUCT] as usize;
     STRUCT + k as u64
 }
@@ -29,7 +29,7 @@ pub(crate) fn worth(out: &mut [u8], k: usize, c: u64) -> usize
     ensures { λ r. ⌜ Placed (worth c) (now (out .entry)) k r (now (out .exit)) ⌝ }
     ensures { λ r. ⌜ r ≤ k + 21 ⌝ }
 {
-    text::value(out, k, c / 256 % 256, c / types::NAT_END)
+    text::value(out, k, layout::type_byte(c) as u64, layout::operand(c))
 }
 
 // A value behind its type.

@@ -39,13 +39,13 @@ pub(crate) fn target(list: &[u64], counts: &[u8], heads: &[u16], cells: &[u64], 
     if w % 256 != WR {
         return nothing();
     }
-    let x = (w / types::NAT_END) as usize;
+    let x = layout::operand(w) as usize;
     if types::FIRST_LOCAL <= x {
         return nothing();
     }
     let under = heads[at + layout::HEIGHT] as usize - 1;
     let top = cells[layout::ROW_SIZE * l + types::VARIABLES + under];
-    let q = (top / types::NAT_END) as usize;
+    let q = layout::operand(top) as usize;
     if q < counts.len() {
         return nothing();
     }

@@ -4,13 +4,8 @@ pub mod Limits
 pub mod Numbers
 pub mod Types
 pub mod TypeBytes
-pub mod TypeLaws
 pub mod Values
-pub mod ValueLaws
 pub mod Constants
-pub mod SetsLaws
 pub mod Orders
-pub mod OrderLaws
 pub mod Stages
-pub mod StageLaws
-pub mod ListLaws
+pub mod Laws

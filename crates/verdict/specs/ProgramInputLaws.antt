@@ -36,9 +36,9 @@ use Rattle.verdict.specs.Verdict.{Checked, judge, of-read, of-image, che
 use Rattle.verdict.specs.Verdict.{checks, verdict-of, check-verdict, list-of, listed, check-list}
 use Rattle.types.specs.Numbers.{no-room}
 use Rattle.types.specs.Orders.{Order, NoneOf, Foremost, Tells, Tells.passes}
-use Rattle.types.specs.OrderLaws.{here, past, tells-number, tells-none}
+use Rattle.types.specs.Laws.OrderLaws.{here, past, tells-number, tells-none}
 use Rattle.types.specs.Stages.{Stage.went as accepted, Stage.stopped as refused, on, asked, Stages}
-use Rattle.types.specs.StageLaws.{stage-asked, stage-on, stage-number, stage-went, stage-answer, stage-refused}
+use Rattle.types.specs.Laws.StageLaws.{stage-asked, stage-on, stage-number, stage-went, stage-answer, stage-refused}
 use Rattle.verdict.specs.ProgramInput.{ImageRight, Reads, AcceptedImage, reads-of, Approved, WrongEnd, WrongByte, OverLimits, WrongNames}
 use Rattle.verdict.specs.ProgramInput.{WrongTypes, program-order, check-order}
 

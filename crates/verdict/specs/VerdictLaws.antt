@@ -7,7 +7,7 @@ use lib.ListN.{length}
 use borrow.Author.Tests.{le-ltb}
 use Rattle.types.specs.Limits.{program-blocks, max-commands}
 use Rattle.types.specs.Stages.{asked}
-use Rattle.types.specs.StageLaws.{on-same, on-went}
+use Rattle.types.specs.Laws.StageLaws.{on-same, on-went}
 use Rattle.block.specs.Block.{payload-size}
 use Rattle.blocks.specs.Images.{image}
 use Rattle.blocks.specs.ImageRoundTrip.{image-accepted, image-stream}

@@ -24,5 +24,6 @@ pub use blocks::{BlockFault, stream, write};
 pub use command::Command;
 pub use engine::{CheckAnswer, PartAnswer, RunAnswer, check, part, run};
 pub use listing::listing;
+pub use machine::{Traced, trace};
 pub use operators::Operator;
 pub use types::Type;

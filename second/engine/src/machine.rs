@@ -1,6 +1,10 @@
 //! The machine: turns, commands and step starts (01, "Table and turns"; the
 //! rules of 000, section 4). The state is changed in place.
 
+mod trace;
+
+pub use trace::{Traced, trace};
+
 use crate::command::Command;
 use crate::instance::Instance;
 use crate::limits::{FIRST_LOCAL, INSTANCES};
@@ -87,7 +91,7 @@ impl<'p> Machine<'p> {
     /// One move of the schedule; false if it is empty.
     fn advance(&mut self) -> bool {
         match self.schedule.advance() {
-            Moved::Started(parts) => self.start(parts),
+            Moved::Started(_, parts) => self.start(parts),
             Moved::Fix => {}
             Moved::Empty => return false,
         }
@@ -207,7 +211,7 @@ impl<'p> Machine<'p> {
 mod orders;
 
 #[cfg(test)]
-mod tests {
+pub mod tests {
     use super::*;
     use crate::blocks;
     use crate::table;

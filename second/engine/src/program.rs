@@ -22,10 +22,11 @@ pub struct CompiledStep {
 /// The parts that a step's start gives to the instances of each struct.
 pub type Parts = [Part; STRUCTS];
 
-/// The schedule's moves; a Fix that was met is its close.
+/// The schedule's moves; a Fix that was met is its close. A start has the
+/// name of its step.
 #[derive(Clone, Copy, Debug)]
 pub enum Move {
-    Start(Parts),
+    Start(u8, Parts),
     FixOpen,
     FixClose { body: usize },
 }
@@ -78,9 +79,9 @@ pub fn has_places(list: &[Option<Command>]) -> bool {
 
 fn schedule_move(item: Item, steps: &[CompiledStep]) -> Move {
     match item {
-        Item::Step(name) => Move::Start(parts(steps, |step| step.name == name)),
+        Item::Step(name) => Move::Start(name, parts(steps, |step| step.name == name)),
         Item::TypedStep(structure, name) => {
-            Move::Start(parts(steps, |step| step.structure == structure && step.name == name))
+            Move::Start(name, parts(steps, |step| step.structure == structure && step.name == name))
         }
         Item::FixOpen => Move::FixOpen,
         Item::FixClose { body } => Move::FixClose { body },

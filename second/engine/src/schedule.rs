@@ -31,9 +31,8 @@ impl Stability {
         stable
     }
 
-    /// The entries from below, for tests that look at a whole state.
-    #[cfg(test)]
-    pub fn entries(&self) -> impl Iterator<Item = u32> {
+    /// The entries from below.
+    pub fn entries(&self) -> impl DoubleEndedIterator<Item = u32> {
         (0..self.count).map(|at| u32::from(self.entries >> at & 1))
     }
 
@@ -45,7 +44,7 @@ impl Stability {
 
 /// What one move did.
 pub enum Moved<'p> {
-    Started(&'p Parts),
+    Started(u8, &'p Parts),
     Fix,
     Empty,
 }
@@ -68,7 +67,7 @@ impl<'p> Schedule<'p> {
             return Moved::Empty;
         };
         let moved = match next {
-            Move::Start(parts) => Moved::Started(parts),
+            Move::Start(name, parts) => Moved::Started(*name, parts),
             Move::FixOpen => {
                 self.stability.push_stable();
                 Moved::Fix

@@ -5,7 +5,7 @@ use borrow.Author.Needs.{needs}
 use Rattle.program.specs.Tree.{Op.op-or}
 use Rattle.operators.specs.Apply.{on-truths, apply}
 use Rattle.operators.specs.Words.{op-of}
-use Rattle.operators.specs.WordLaws.{op-first, op-last, truths-unfit, truths-equal, truths-and, truths-or}
+use Rattle.operators.specs.Laws.WordLaws.{op-first, op-last, truths-unfit, truths-equal, truths-and, truths-or}
 use Rattle.arithmetic.proofs.apply_bool.Statement.{statement}
 use Rattle.arithmetic.proofs.apply_bool.Tie as tie
 

@@ -2,7 +2,7 @@
 use mathlib.Core.Path.{_∙_}
 use borrow.Author.Needs.{needs}
 use Rattle.operators.specs.Apply.{apply}
-use Rattle.operators.specs.IntLaws.{int-of-back}
+use Rattle.operators.specs.Laws.IntLaws.{int-of-back}
 use Rattle.arithmetic.proofs.apply_int.Statement.{statement}
 use Rattle.arithmetic.proofs.apply_int.Tie as tie
 

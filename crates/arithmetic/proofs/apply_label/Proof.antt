@@ -4,7 +4,7 @@ use mathlib.Core.Path.{_∙_}
 use borrow.Author.Needs.{needs}
 use Rattle.operators.specs.Apply.{on-labels, apply}
 use Rattle.operators.specs.Words.{op-of}
-use Rattle.operators.specs.WordLaws.{op-first, labels-unfit}
+use Rattle.operators.specs.Laws.WordLaws.{op-first, labels-unfit}
 use Rattle.arithmetic.proofs.apply_label.Statement.{statement}
 use Rattle.arithmetic.proofs.apply_label.Tie as tie
 

@@ -10,8 +10,8 @@ use borrow.Author.Needs.{needs}
 use Rattle.types.specs.Limits.{nat-end}
 use Rattle.operators.specs.Apply.{nat-answer, by-nonzero, answer, compute, apply}
 use Rattle.operators.specs.Words.{op-of, answered}
-use Rattle.operators.specs.WordLaws.{numbers-unfit}
-use Rattle.operators.specs.NatLaws.{nat-in, nat-out, nat-less, nat-more, nat-product, nat-quotient, nat-remainder}
+use Rattle.operators.specs.Laws.WordLaws.{numbers-unfit}
+use Rattle.operators.specs.Laws.NatLaws.{nat-in, nat-out, nat-less, nat-more, nat-product, nat-quotient, nat-remainder}
 use Rattle.arithmetic.specs.PastLaws.{past-computing}
 use Rattle.arithmetic.proofs.apply_nat.Statement.{statement}
 use Rattle.arithmetic.proofs.apply_nat.Tie as tie

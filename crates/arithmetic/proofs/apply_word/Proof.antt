@@ -4,7 +4,7 @@ use borrow.Author.Needs.{needs}
 use Rattle.types.specs.Types.{type-of}
 use Rattle.types.specs.Values.{value-of}
 use Rattle.operators.specs.Words.{apply-word}
-use Rattle.operators.specs.WordLaws.{type-struct}
+use Rattle.operators.specs.Laws.WordLaws.{type-struct}
 use Rattle.arithmetic.proofs.apply_word.Statement.{statement}
 use Rattle.arithmetic.proofs.apply_word.Tie as tie
 

@@ -6,8 +6,8 @@ use mir.ValLaws.{toZ-ofZ}
 use borrow.Author.Needs.{needs}
 use Rattle.operators.specs.Apply.{answer, compute}
 use Rattle.operators.specs.Words.{op-of}
-use Rattle.operators.specs.WordLaws.{op-first}
-use Rattle.operators.specs.SignedLaws.{bits-same}
+use Rattle.operators.specs.Laws.WordLaws.{op-first}
+use Rattle.operators.specs.Laws.SignedLaws.{bits-same}
 use Rattle.arithmetic.proofs.compare.Statement.{statement}
 use Rattle.arithmetic.proofs.compare.Tie as tie
 

@@ -6,9 +6,9 @@ use mir.ValLaws.{toZ-ofZ}
 use borrow.Author.Needs.{needs}
 use Rattle.operators.specs.Apply.{int-answer, answer, compute, by-nonzero}
 use Rattle.operators.specs.Words.{op-of, answered}
-use Rattle.operators.specs.WordLaws.{numbers-unfit}
-use Rattle.operators.specs.SignedLaws.{zero-bits, operands, sum-carries, difference-carries, product-carries, quotient-carries, remainder-carries}
-use Rattle.operators.specs.ApplyLaws.{nonzero}
+use Rattle.operators.specs.Laws.WordLaws.{numbers-unfit}
+use Rattle.operators.specs.Laws.SignedLaws.{zero-bits, operands, sum-carries, difference-carries, product-carries, quotient-carries, remainder-carries}
+use Rattle.operators.specs.Laws.ApplyLaws.{nonzero}
 use Rattle.arithmetic.specs.PastLaws.{past-computing}
 use Rattle.arithmetic.proofs.compute_int.Statement.{statement}
 use Rattle.arithmetic.proofs.compute_int.Tie as tie

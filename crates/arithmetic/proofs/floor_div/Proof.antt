@@ -1,5 +1,5 @@
 -- `floor_div` meets its contract: a dividend below zero by way of -1 - x, another as it stands.
-use Rattle.operators.specs.FloorLaws.{Below, FromZero, below, from-zero}
+use Rattle.operators.specs.Laws.FloorLaws.{Below, FromZero, below, from-zero}
 use Rattle.arithmetic.proofs.floor_div.Statement.{statement}
 use Rattle.arithmetic.proofs.floor_div.Tie as tie
 

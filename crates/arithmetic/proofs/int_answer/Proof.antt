@@ -1,5 +1,5 @@
 -- `int_answer` meets its contract, by the four stretches that its tests tell apart.
-use Rattle.operators.specs.IntLaws.{int-too-low, int-low, int-high, int-too-high}
+use Rattle.operators.specs.Laws.IntLaws.{int-too-low, int-low, int-high, int-too-high}
 use Rattle.arithmetic.proofs.int_answer.Statement.{statement}
 use Rattle.arithmetic.proofs.int_answer.Tie as tie
 

@@ -1,6 +1,6 @@
 -- `int_of` meets its contract: a word from 2147483648 on is 4294967296 less.
 use borrow.Author.Needs.{needs}
-use Rattle.operators.specs.IntLaws.{int-of-low, int-of-fits, int-of-high}
+use Rattle.operators.specs.Laws.IntLaws.{int-of-low, int-of-fits, int-of-high}
 use Rattle.arithmetic.proofs.int_of.Statement.{statement}
 use Rattle.arithmetic.proofs.int_of.Tie as tie
 

@@ -1,6 +1,6 @@
 -- `quotient_of` meets its contract: by a divisor below zero both are negated.
 use mathlib.Core.Path.{_∙_}
-use Rattle.operators.specs.FloorLaws.{Turned, Straight, turned, straight, quotient-back}
+use Rattle.operators.specs.Laws.FloorLaws.{Turned, Straight, turned, straight, quotient-back}
 use Rattle.arithmetic.proofs.quotient_of.Statement.{statement}
 use Rattle.arithmetic.proofs.quotient_of.Tie as tie
 

@@ -1,5 +1,5 @@
 -- `remainder_of` meets its contract: it is the definition, and all of it fits 64 bits.
-use Rattle.operators.specs.FloorLaws.{Leaves, leaves, handed-on}
+use Rattle.operators.specs.Laws.FloorLaws.{Leaves, leaves, handed-on}
 use Rattle.arithmetic.proofs.remainder_of.Statement.{statement}
 use Rattle.arithmetic.proofs.remainder_of.Tie as tie
 

@@ -1,5 +1,5 @@
 -- `block_fault` meets its contract, by a law for each way through it.
-use Rattle.block.specs.BlockWays.{sums-wrong, layout-wrong, block-agrees}
+use Rattle.block.specs.Laws.BlockWays.{sums-wrong, layout-wrong, block-agrees}
 use borrow.Author.Tests.{not-true, not-false}
 use borrow.Author.Needs.{needs}
 use Rattle.block.proofs.block_fault.Statement.{statement}

@@ -1,5 +1,5 @@
 -- `laid_out` meets its contract, by a law for each way through it.
-use Rattle.block.specs.BlockWays.{index-differs, used-wrong, used-agrees}
+use Rattle.block.specs.Laws.BlockWays.{index-differs, used-wrong, used-agrees}
 use borrow.Author.Tests.{not-true, not-false}
 use borrow.Author.Needs.{needs}
 use Rattle.block.proofs.laid_out.Statement.{statement}

@@ -3,7 +3,7 @@
 use Prim.Native.Nat.{ℕ, _≤_, _-_, _*_, _%_}
 use mathlib.Core.Path.{_≡_, refl, subst}
 use Rattle.block.specs.Sums.{byte, sum, sum-a, sum-b}
-use Rattle.block.specs.SumLaws.{sums-turn}
+use Rattle.block.specs.Laws.SumLaws.{sums-turn}
 use borrow.Author.Needs.{needs}
 use native.Mathlib.Omega.{arith}
 use Rattle.block.proofs.sums.Statement.{statement}

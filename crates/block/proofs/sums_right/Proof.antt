@@ -1,5 +1,5 @@
 -- `sums_right` meets its contract, by a law for each way through it.
-use Rattle.block.specs.BlockWays.{a-differs, a-agrees}
+use Rattle.block.specs.Laws.BlockWays.{a-differs, a-agrees}
 use borrow.Author.Needs.{needs}
 use Rattle.block.proofs.sums_right.Statement.{statement}
 use Rattle.block.proofs.sums_right.Tie as tie

@@ -4,7 +4,7 @@ use Prim.Native.Nat.{_-_}
 use mathlib.Core.Path.{_≡_, _∙_, sym, refl}
 use lib.Seq.{slice}
 use Rattle.block.specs.Block.{zeros}
-use Rattle.block.specs.BlockLaws.{zeros-more, zeros-stop, zeros-end}
+use Rattle.block.specs.Laws.BlockLaws.{zeros-more, zeros-stop, zeros-end}
 use borrow.Author.Needs.{needs}
 use Rattle.block.proofs.zeros_from.Statement.{statement}
 use Rattle.block.proofs.zeros_from.Tie as tie

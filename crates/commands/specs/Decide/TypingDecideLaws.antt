@@ -10,7 +10,7 @@ use Rattle.types.specs.Types.{Ty, Ty.int, Ty.nat, Ty.bool, Ty.ref}
 use Rattle.program.specs.Tree.{Var, Var.par, Var.loc, Op, Expr, Expr.inv, Expr.make, Expr.path, Expr.int-lit, Expr.nat-lit, Expr.bool-lit, Expr.null}
 use Rattle.program.specs.Tree.{Expr.self, Expr.op, Exprs, Exprs.none, Exprs.more, Stmt, Stmt.when, Stmt.declare, Stmt.update, Stmt.create, Stmts}
 use Rattle.program.specs.Tree.{Stmts.end, Stmts.next, Step, Program}
-use Rattle.types.specs.TypeLaws.{same-exact}
+use Rattle.types.specs.Laws.TypeLaws.{same-exact}
 use Rattle.types.specs.Reflects.{Reflects, Reflects.holds, Reflects.fails, reflects-iff, reflects-map, reflects-both, lt-reflects}
 use Rattle.commands.specs.Context.{Ctx, typ, context}
 use Rattle.commands.specs.Typing.{Sort, Sort.equality, Sort.order, Sort.arithmetic, Sort.logic, sort, Takes, Takes.any-equal, Takes.order-int}

@@ -8,10 +8,10 @@ use mathlib.Core.List.{List, [], _∷_, map}
 use Rattle.types.specs.Limits.{max-structs, nat-end}
 use Rattle.types.specs.Types.{Ty, Ty.int, Ty.nat, Ty.bool, Ty.ref, code, IsType}
 use Rattle.types.specs.Values.{word}
-use Rattle.types.specs.ValueLaws.{value-of-word}
+use Rattle.types.specs.Laws.ValueLaws.{value-of-word}
 use Rattle.program.specs.Counts.{All}
 use Rattle.program.specs.Reader.{lookup}
-use Rattle.types.specs.TypeLaws.{type-of-code}
+use Rattle.types.specs.Laws.TypeLaws.{type-of-code}
 use Rattle.program.specs.Laws.ExprLaws.{form-code}
 use Rattle.commands.specs.Commands.{Com.push, Com.push-this, Com.rd, Com.wr, Com.cons, Com.not, Com.oper, Flat, Flat.plain, Flat.if-n}
 use Rattle.commands.specs.Coding.{coded, com-word, command-word, words}

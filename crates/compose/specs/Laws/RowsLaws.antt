@@ -12,7 +12,7 @@ use lib.ListN.{length, getD, take, drop, length-append, length-map}
 use lib.Seq.{slice, take-nil, drop-drop, take-at, drop-at}
 use lib.Dec.{leb, ltb}
 use borrow.Author.Tests.{ltb-true}
-use Rattle.types.specs.ListLaws.{cons-eq, map-twice}
+use Rattle.types.specs.Laws.ListLaws.{cons-eq, map-twice}
 use Rattle.types.specs.Limits.{max-structs, max-params}
 use Rattle.types.specs.Types.{Ty, code, struct-code}
 use Rattle.program.specs.Counts.{All}

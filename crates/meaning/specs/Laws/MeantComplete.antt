@@ -37,7 +37,7 @@ use Rattle.meaning.specs.Meant.{exp-meaning, exps-meaning, stat-meaning,
 use Rattle.meaning.specs.Meant.{sched-meaning, text-meaning, meant}
 use Rattle.meaning.specs.Finding.{is-not, decides-absent, decides-distinct, find-complete, found-there}
 
-range-test : (z : ℤ) → IntRange z → in-int z ≡ true
+pub range-test : (z : ℤ) → IntRange z → in-int z ≡ true
 unfolding in-int
 range-test (pos n) h = lt-ltb n _ h
 range-test (negsuc n) h = lt-ltb n _ h

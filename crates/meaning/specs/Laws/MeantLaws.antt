@@ -63,7 +63,7 @@ unfolding provided
 provided-parts true o e = (refl, e)
 provided-parts false o e = nothing-said e
 
-range-of : (z : ℤ) → in-int z ≡ true → IntRange z
+pub range-of : (z : ℤ) → in-int z ≡ true → IntRange z
 unfolding in-int
 range-of (pos n) e = ltb-true n _ e
 range-of (negsuc n) e = ltb-true n _ e

@@ -8,7 +8,7 @@ use lib.IntN.{pos, negsuc}
 use borrow.Author.Tests.{eqb-true, eqb-false}
 use Rattle.types.specs.Limits.{nat-end, max-structs}
 use Rattle.types.specs.Types.{Ty, Ty.int, Ty.nat, Ty.bool, Ty.ref, IsType, code}
-use Rattle.types.specs.TypeLaws.{type-of-code}
+use Rattle.types.specs.Laws.TypeLaws.{type-of-code}
 use Rattle.types.specs.TypeBytes.{ValueOf}
 use Rattle.types.specs.Values.{Val, Val.int-val, Val.nat-val, Val.bool-val, Val.label, int-word, word, value-of}
 use Rattle.program.specs.Tree.{Op, Op.op-eq, Op.op-ne, Op.op-le, Op.op-ge, Op.op-lt, Op.op-gt, Op.op-mul, Op.op-div, Op.op-rem, Op.op-add, Op.op-sub}
@@ -17,11 +17,11 @@ use Rattle.program.specs.Encoding.{op-code}
 use Rattle.commands.specs.Typing.{sort, Takes, Takes.any-equal, Takes.order-int, Takes.order-nat, Takes.arith-int, Takes.arith-nat, Takes.logic-bool}
 use Rattle.commands.specs.Coding.{coded}
 use Rattle.operators.specs.Ranges.{Of as Range, Of.of-int, Of.of-nat, Of.of-bool, Of.of-ref}
-use Rattle.operators.specs.ValueLaws.{value-word}
+use Rattle.operators.specs.Laws.ValueLaws.{value-word}
 use Rattle.operators.specs.Apply.{apply, same-val}
-use Rattle.operators.specs.TestLaws.{same-val-exact, same-val-false}
+use Rattle.operators.specs.Laws.TestLaws.{same-val-exact, same-val-false}
 use Rattle.operators.specs.Words.{answered, apply-word}
-use Rattle.operators.specs.WordLaws.{op-of-code}
+use Rattle.operators.specs.Laws.WordLaws.{op-of-code}
 use Rattle.sound.specs.Sized.{Lasting, Lasting.an-int, Lasting.a-nat, Lasting.a-bool, Lasting.a-null}
 use Rattle.layout.specs.Layout.{cell, type-byte, operand, label-cell}
 use Rattle.memory.specs.Act.{bool-byte, result-byte}

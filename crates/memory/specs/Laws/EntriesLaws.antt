@@ -6,7 +6,7 @@ use mathlib.Core.Path.{_≡_, refl, ap, _∙_}
 use mathlib.Core.Bool.{Bool, true, false, _&&_}
 use mathlib.Core.List.{List, [], _∷_, map}
 use Rattle.machine.specs.Rules.{meet}
-use Rattle.machine.specs.RulesLaws.{meet-each}
+use Rattle.machine.specs.Laws.RulesLaws.{meet-each}
 use Rattle.layout.specs.State.{State, bit, times, unstable}
 use Rattle.memory.specs.Stands.{bits}
 

@@ -17,7 +17,7 @@ use Rattle.commands.specs.Typing.{Sort, sort, Takes, Takes.any-equal, Takes.ord
 use Rattle.commands.specs.Noted.{Note, Note.n-push, Note.n-this, Note.n-not, Note.n-rd, Note.n-wr, Note.n-get, Note.n-set, Note.n-cons, Note.n-op, Note.n-if}
 use Rattle.operators.specs.Apply.{Answer, Answer.value, Answer.outside, Answer.unfit, apply}
 use Rattle.operators.specs.Ranges.{Of as Range, Of.of-int, Of.of-nat, Of.of-bool, Fits as Answers}
-use Rattle.operators.specs.RangesLaws.{apply-fits}
+use Rattle.operators.specs.Laws.RangesLaws.{apply-fits}
 use Rattle.operators.specs.declared.Answered.the-variants.{Value}
 use Rattle.operators.specs.Words.{apply-word, answered}
 use Rattle.machine.specs.Published.{Sched, structs, arity}

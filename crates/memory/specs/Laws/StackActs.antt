@@ -17,7 +17,7 @@ use Rattle.commands.specs.Tags.{result-type}
 use Rattle.commands.specs.Noted.{Note, Note.n-push, Note.n-this, Note.n-not, Note.n-op, Note.n-if, now-written}
 use Rattle.operators.specs.Apply.{Answer, Answer.value, Answer.outside, Answer.unfit, apply}
 use Rattle.operators.specs.Ranges.{Fits as Answers}
-use Rattle.operators.specs.RangesLaws.{apply-fits}
+use Rattle.operators.specs.Laws.RangesLaws.{apply-fits}
 use Rattle.operators.specs.Words.{apply-word, answered as as-words}
 use Rattle.machine.specs.Published.{Sched, structs}
 use Rattle.machine.specs.Machine.{Tagged, tagged, Source.result, Instance, Machine, with-code, with-written, put, operated, perform}

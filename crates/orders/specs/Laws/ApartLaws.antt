@@ -11,10 +11,10 @@ use Rattle.program.specs.Tree.{Program}
 use Rattle.machine.specs.Published.{State, State.state, structs}
 use Rattle.machine.specs.Rules.{Actor.instance, Rule}
 use Rattle.machine.specs.Machine.{Instance, Machine, Out.next, acting, command}
-use Rattle.machine.specs.FromLaws.{command-from}
+use Rattle.machine.specs.Laws.FromLaws.{command-from}
 use Rattle.machine.specs.Represents.{Represents}
-use Rattle.machine.specs.RepresentsLaws.{still-done}
-use Rattle.machine.specs.CommandAgrees.{command-follows}
+use Rattle.machine.specs.Laws.RepresentsLaws.{still-done}
+use Rattle.machine.specs.Laws.CommandAgrees.{command-follows}
 use Rattle.run.specs.Turns.{chosen}
 use Rattle.run.specs.Holders.{due}
 use Rattle.run.specs.Runs.{Due, Config.config, picked}

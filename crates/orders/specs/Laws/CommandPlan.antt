@@ -15,7 +15,7 @@ use Rattle.machine.specs.Machine.{Tagged, tagged, Instance, Machine, Out, Out.n
 use Rattle.machine.specs.Performed.{Reads, Reads.parameter, Reads.of-local, Writes, Writes.to-parameter, Writes.to-local, Performed, Performed.pushed}
 use Rattle.machine.specs.Performed.{Performed.pushed-this, Performed.negated, Performed.read-one, Performed.skipped, Performed.wrote, Performed.calculated}
 use Rattle.machine.specs.Performed.{Performed.exceeding, Performed.constructed, Performed.filled, Performed.branched, Performed.no-way}
-use Rattle.machine.specs.PerformedLaws.{by-ways}
+use Rattle.machine.specs.Laws.PerformedLaws.{by-ways}
 use Rattle.sound.specs.Firm.{Firm}
 use Rattle.sound.specs.Invariant.{Good}
 use Rattle.sound.specs.Needs.{ValueAmong, Needs, NextReady}

@@ -17,9 +17,9 @@ use Rattle.commands.specs.Noted.{Note, Note.n-rd, Note.n-wr}
 use Rattle.machine.specs.Published.{State, structs}
 use Rattle.machine.specs.Machine.{Tagged, Instance, Machine, Out, Out.next, Out.refused, Out.stuck, command}
 use Rattle.machine.specs.Represents.{values, Represents}
-use Rattle.machine.specs.RepresentsLaws.{instance-at, top}
+use Rattle.machine.specs.Laws.RepresentsLaws.{instance-at, top}
 use Rattle.machine.specs.Heads.{Means, Means.m-rd, Means.m-get, Means.m-wr, Means.m-set, next-note}
-use Rattle.machine.specs.CommandAgrees.{command-follows, command-complete}
+use Rattle.machine.specs.Laws.CommandAgrees.{command-follows, command-complete}
 use Rattle.orders.specs.Orders.{Ordered, Ordered.no-turn, Ordered.a-turn}
 use Rattle.orders.specs.Touches.{Use, Use.reading, Use.writing, Touches, Touches.by-rd, Touches.by-wr, Does, Apart}
 use Rattle.orders.specs.Deeds.{Act, Deed, Deed.reads, Deed.writes}

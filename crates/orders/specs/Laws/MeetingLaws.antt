@@ -13,7 +13,7 @@ use Rattle.machine.specs.Machine.{Tagged, Instance, Machine, Out, Out.next, Out
 use Rattle.machine.specs.Performed.{Performed, Performed.pushed, Performed.pushed-this, Performed.negated, Performed.read-one, Performed.skipped}
 use Rattle.machine.specs.Performed.{Performed.wrote, Performed.calculated, Performed.exceeding, Performed.constructed, Performed.filled, Performed.branched}
 use Rattle.machine.specs.Performed.{Performed.no-way}
-use Rattle.machine.specs.PerformedLaws.{by-ways}
+use Rattle.machine.specs.Laws.PerformedLaws.{by-ways}
 use Rattle.run.specs.Holders.{due}
 use Rattle.run.specs.Runs.{Config.config}
 use Rattle.sound.specs.Firm.{Firm}

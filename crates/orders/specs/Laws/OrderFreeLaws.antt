@@ -18,8 +18,8 @@ use Rattle.machine.specs.Rules.{Done, given, started, Actor.schedule, Rule, Rul
 use Rattle.machine.specs.Stops.{Full, Exceeded}
 use Rattle.machine.specs.Machine.{Machine}
 use Rattle.machine.specs.Represents.{Represents}
-use Rattle.machine.specs.RepresentsLaws.{inst-at, still-done}
-use Rattle.machine.specs.MoveAgrees.{move-complete}
+use Rattle.machine.specs.Laws.RepresentsLaws.{inst-at, still-done}
+use Rattle.machine.specs.Laws.MoveAgrees.{move-complete}
 use Rattle.run.specs.Holders.{due}
 use Rattle.table.specs.Table.{Record, TableRight}
 use Rattle.run.specs.Begin.{begin}
@@ -43,8 +43,8 @@ use Rattle.orders.specs.OrderFree.{params-in, entries-in, OrderFree}
 use Rattle.orders.specs.Laws.Holding.{NoCons as NoConsNote, MakesNone as NoneMade}
 use Rattle.machine.specs.Rules.{Actor.instance}
 use Rattle.machine.specs.Machine.{Out.next, command}
-use Rattle.machine.specs.PerformedLaws.{by-ways}
-use Rattle.machine.specs.CommandAgrees.{command-complete}
+use Rattle.machine.specs.Laws.PerformedLaws.{by-ways}
+use Rattle.machine.specs.Laws.CommandAgrees.{command-complete}
 use Rattle.run.specs.Turns.{chosen}
 use Rattle.run.specs.Runs.{picked}
 use Rattle.run.specs.Laws.TurnLaws.{holder-chosen, holders-represent}

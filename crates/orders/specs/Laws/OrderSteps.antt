@@ -15,9 +15,9 @@ use Rattle.machine.specs.Published.{Sched, Inst, Inst.inst, State, State.state,
 use Rattle.machine.specs.Rules.{Actor.instance, Rule}
 use Rattle.machine.specs.Machine.{Tagged, tagged, Instance, Machine, acting}
 use Rattle.machine.specs.Represents.{values, Represents}
-use Rattle.machine.specs.RepresentsLaws.{inst-at}
+use Rattle.machine.specs.Laws.RepresentsLaws.{inst-at}
 use Rattle.machine.specs.Heads.{plain-head}
-use Rattle.machine.specs.CommandAgrees.{command-follows, command-complete}
+use Rattle.machine.specs.Laws.CommandAgrees.{command-follows, command-complete}
 use Rattle.sound.specs.Firm.{Firm}
 use Rattle.sound.specs.Invariant.{Good}
 use Rattle.orders.specs.Orders.{Ordered, Ordered.no-turn, Ordered.a-turn}

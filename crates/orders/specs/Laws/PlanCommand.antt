@@ -21,7 +21,7 @@ use Rattle.machine.specs.Machine.{Tagged, tagged, Instance, Machine, Out, Out.n
 use Rattle.machine.specs.Machine.{with-stability}
 use Rattle.machine.specs.Machine.{put, leaves-stable, write-to, operated}
 use Rattle.machine.specs.Machine.{perform, command, acting, Source.variable, Source.local, Source.result}
-use Rattle.machine.specs.PerformedLaws.{performs}
+use Rattle.machine.specs.Laws.PerformedLaws.{performs}
 use Rattle.sound.specs.Firm.{Firm}
 use Rattle.sound.specs.Laws.Keeps.{env-set}
 use Rattle.sound.specs.Laws.Outcomes.{negated, branched, operates, has-read, leaves-null, writes-param, writes-local}

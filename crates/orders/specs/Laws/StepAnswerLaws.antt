@@ -22,8 +22,8 @@ use Rattle.machine.specs.Published.{StepCall.global, called, of-item, of-items,
 use Rattle.machine.specs.Rules.{started as starting}
 use Rattle.machine.specs.Machine.{Instance, Machine, Moved.next, started, move-by, move}
 use Rattle.machine.specs.Represents.{Represents}
-use Rattle.machine.specs.RepresentsLaws.{represents-map, Still}
-use Rattle.machine.specs.MoveAgrees.{started-represents}
+use Rattle.machine.specs.Laws.RepresentsLaws.{represents-map, Still}
+use Rattle.machine.specs.Laws.MoveAgrees.{started-represents}
 use Rattle.machine.specs.Measure.{codes}
 use Rattle.run.specs.Holders.{due}
 use Rattle.run.specs.Begin.{nulls, resting, first-instances, begin}

@@ -14,8 +14,8 @@ use Rattle.machine.specs.Published.{Sched, Env, Inst, Inst.inst, State, State.s
 use Rattle.machine.specs.Stops.{Full, Full.no-label, Exceeded, Exceeded.no-result, full, exceeded}
 use Rattle.machine.specs.Machine.{Instance, Machine, Out.refused, command}
 use Rattle.machine.specs.Represents.{Represents}
-use Rattle.machine.specs.RepresentsLaws.{instance-at, no-code, Still, still-done, represents-unique}
-use Rattle.machine.specs.CommandAgrees.{command-full, command-exceeded}
+use Rattle.machine.specs.Laws.RepresentsLaws.{instance-at, no-code, Still, still-done, represents-unique}
+use Rattle.machine.specs.Laws.CommandAgrees.{command-full, command-exceeded}
 use Rattle.run.specs.Turns.{holders-of, chosen}
 use Rattle.run.specs.Holders.{holders, due}
 use Rattle.run.specs.Runs.{Due, Config, Config.config, picked, Halts, Halts.at-end, Halts.at-33, Halts.at-34, Halts.at-35}

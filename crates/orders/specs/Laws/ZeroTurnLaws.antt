@@ -10,9 +10,9 @@ use lib.ListN.{length, getElem?}
 use Rattle.program.specs.Tree.{Program}
 use Rattle.commands.specs.Noted.{Note}
 use Rattle.machine.specs.Machine.{Instance, Machine, Out, Out.next, Out.refused, Out.stuck, command}
-use Rattle.machine.specs.RepresentsLaws.{Still}
+use Rattle.machine.specs.Laws.RepresentsLaws.{Still}
 use Rattle.machine.specs.Measure.{total, codes}
-use Rattle.machine.specs.MeasureLaws.{command-shortens}
+use Rattle.machine.specs.Laws.MeasureLaws.{command-shortens}
 use Rattle.run.specs.Holders.{due}
 use Rattle.run.specs.Laws.TurnLaws.{holders-still, due-none}
 use Rattle.sound.specs.Firm.{Firm}

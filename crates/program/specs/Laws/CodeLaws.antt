@@ -13,7 +13,7 @@ use Rattle.program.specs.Encoding.{var-code}
 use Rattle.program.specs.Counts.{IsVar}
 use Rattle.types.specs.TypeBytes.{is-type}
 use Rattle.types.specs.Reflects.{reflects-iff}
-use Rattle.types.specs.TypeLaws.{type-of-code, code-is-type, type-exact, code-type-of}
+use Rattle.types.specs.Laws.TypeLaws.{type-of-code, code-is-type, type-exact, code-type-of}
 use Rattle.program.specs.Reader.{var-of}
 
 -- the type that an allowed byte names is one of the program's, and has that byte

@@ -10,7 +10,7 @@ use Rattle.program.specs.Encoding.{enc-word, var-code, enc-path}
 use Rattle.program.specs.Levels.{all-at}
 use Rattle.program.specs.Counts.{IsVar, IsPath}
 use Rattle.types.specs.TypeBytes.{is-type}
-use Rattle.types.specs.TypeLaws.{type-of-code}
+use Rattle.types.specs.Laws.TypeLaws.{type-of-code}
 use Rattle.program.specs.Reader.{byte-end, ranged, var-of, read-word, read-type, read-var, read-local, read-path}
 use Rattle.program.specs.Exact.{Rowed}
 use Rattle.program.specs.Laws.CodeLaws.{code-type, type-allowed, var-code-of, code-var}

@@ -1,8 +1,9 @@
 -- `rest` meets its contract: a step is not read, or all are, with the schedule behind them.
 use native.Mathlib.Omega.{arith}
-use mathlib.Core.Path.{ap, sym, _∙_}
+use mathlib.Core.Path.{refl, ap, sym, _∙_}
 use Rattle.judge.specs.ProgramFacts.{no-totals}
 use Rattle.read_program.specs.declared.totals.Totals.{Totals}
+use Rattle.read_program.specs.OwnLaws.{led-zero}
 use Rattle.read_program.specs.WholeWays.{begun, rest-stop, rest-on, listed-stop, listed-on}
 use borrow.Author.Needs.{needs}
 use Rattle.read_program.proofs.rest.Statement.{statement}
@@ -17,7 +18,7 @@ unfolding no-totals
 structs-requires c κs =
     let pre = start c .pre in (
       (omega (arith, pre .0), pre .1 .0, pre .0 .1),
-      rw (c .none .ensures) (omega arith, pre .0 .2, (omega (arith, pre), omega (arith, pre .0))),
+      rw (c .none .ensures) ((omega arith, pre .0 .2, (omega (arith, pre), omega (arith, pre .0))), led-zero 0 _ _ refl),
     )
 
 returns : tie.Need-returns

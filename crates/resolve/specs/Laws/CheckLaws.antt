@@ -8,7 +8,7 @@ use mathlib.Core.List.{List, [], _∷_}
 use lib.ListN.{length, getD, set, drop, length-set, length-drop, drop-of-length-le}
 use lib.Seq.{sets}
 use borrow.Author.Tests.{le-leb, lt-leb, lt-ltb, le-ltb}
-use Rattle.types.specs.ListLaws.{drop-next}
+use Rattle.types.specs.Laws.ListLaws.{drop-next}
 use Rattle.types.specs.Limits.{max-params}
 use Rattle.types.specs.Types.{struct-code}
 use Rattle.tokens.specs.Tokens.{same}

@@ -10,7 +10,7 @@ use lib.ListN.{length, take, drop, length-drop, length-append}
 use lib.Seq.{drop-drop}
 use lib.Dec.{leb, ltb}
 use borrow.Author.Tests.{lt-ltb, le-ltb, le-leb, ltb-true, ltb-false}
-use Rattle.types.specs.ListLaws.{cons-eq}
+use Rattle.types.specs.Laws.ListLaws.{cons-eq}
 use Rattle.types.specs.Limits.{max-params, max-steps}
 use Rattle.types.specs.Types.{struct-code, code}
 use Rattle.syntax.specs.Syntax.{Id, TypeName, TypeName.int-type, TypeName.nat-type, TypeName.bool-type, TypeName.id-type, Par, Struct}

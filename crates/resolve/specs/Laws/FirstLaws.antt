@@ -9,7 +9,7 @@ use lib.ListN.{length, getD, set, take, drop, length-set, length-take, drop-of-l
 use lib.Seq.{sets, set-out, take-suc-set}
 use lib.Dec.{leb, ltb}
 use borrow.Author.Tests.{not-true, not-false, ltb-true, ltb-false, le-leb, lt-leb}
-use Rattle.types.specs.ListLaws.{drop-next}
+use Rattle.types.specs.Laws.ListLaws.{drop-next}
 use Rattle.resolve.specs.Named.{name-at, names-at, sought}
 use Rattle.resolve.specs.Tables.{with-one, with-place}
 use Rattle.resolve.specs.Checks.{firsts}

@@ -10,7 +10,7 @@ use mathlib.Core.List.{List, _∷_, map}
 use lib.ListN.{length, getD, drop, length-drop}
 use lib.Dec.{eqb, leb}
 use borrow.Author.Tests.{ne-eqb, eqb-true, eqb-false, le-leb, lt-leb, leb-true}
-use Rattle.types.specs.ListLaws.{drop-next}
+use Rattle.types.specs.Laws.ListLaws.{drop-next}
 use Rattle.tokens.specs.Tokens.{between}
 use Rattle.syntax.specs.Syntax.{Id, TypeName, TypeName.int-type, TypeName.nat-type, TypeName.bool-type, TypeName.id-type}
 use Rattle.syntax.specs.Yield.{type-token}

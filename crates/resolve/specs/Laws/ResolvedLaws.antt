@@ -7,7 +7,7 @@ use mathlib.Core.List.{List, [], _∷_, _++_, map}
 use mathlib.Core.Option.{Option, none, some}
 use lib.ListN.{length, take, drop, length-map}
 use lib.Seq.{drop-drop, take-at, drop-at}
-use Rattle.types.specs.ListLaws.{cons-eq, map-twice}
+use Rattle.types.specs.Laws.ListLaws.{cons-eq, map-twice}
 use Rattle.types.specs.Types.{Ty, code as type-code}
 use Rattle.program.specs.Tree.{Program}
 use Rattle.syntax.specs.Syntax.{Id, Par, Struct, Defs, Sched, Program.program}

@@ -8,7 +8,7 @@ use mathlib.Core.List.{List, [], _∷_}
 use lib.ListN.{length, getD, set, length-set, take, drop, length-drop, drop-of-length-le}
 use lib.Seq.{sets, take-all}
 use lib.Dec.{eqb}
-use Rattle.types.specs.ListLaws.{drop-next}
+use Rattle.types.specs.Laws.ListLaws.{drop-next}
 use Rattle.tokens.specs.Tokens.{same}
 use Rattle.syntax.specs.Syntax.{Id}
 use Rattle.meaning.specs.Finding.{absent, distinct}

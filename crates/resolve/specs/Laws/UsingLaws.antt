@@ -6,7 +6,7 @@ use mathlib.Core.Bool.{Bool, true, false}
 use mathlib.Core.List.{List, [], _∷_, _++_, map}
 use mathlib.Core.Option.{Option, none, some}
 use lib.ListN.{length, drop, length-map}
-use Rattle.types.specs.ListLaws.{cons-eq}
+use Rattle.types.specs.Laws.ListLaws.{cons-eq}
 use Rattle.types.specs.Limits.{first-local}
 use Rattle.syntax.specs.Syntax.{Id, TypeName, Par, Struct}
 use Rattle.meaning.specs.Scope.{par-id, par-type, struct-id, Local, Local.declared, local-id, local-number, local-type}

@@ -10,7 +10,7 @@ use lib.ListN.{length, getD, drop, length-map, length-drop}
 use lib.Seq.{drop-drop}
 use lib.Dec.{leb, ltb}
 use borrow.Author.Tests.{lt-ltb, le-ltb}
-use Rattle.types.specs.ListLaws.{cons-eq}
+use Rattle.types.specs.Laws.ListLaws.{cons-eq}
 use Rattle.types.specs.Limits.{first-local, max-locals}
 use Rattle.types.specs.Types.{Ty, struct-code, code}
 use Rattle.program.specs.Tree.{Var.loc}

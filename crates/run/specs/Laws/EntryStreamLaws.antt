@@ -7,7 +7,7 @@ use lib.ListN.{length, drop}
 use borrow.Author.Tests.{le-ltb}
 use Rattle.types.specs.Limits.{program-blocks, table-blocks, max-commands}
 use Rattle.types.specs.Stages.{Stage.went, Stage.stopped, on, asked}
-use Rattle.types.specs.StageLaws.{on-same}
+use Rattle.types.specs.Laws.StageLaws.{on-same}
 use Rattle.block.specs.Block.{block-size, payload-size}
 use Rattle.blocks.specs.Images.{image, image-of, pieces}
 use Rattle.blocks.specs.ImageRoundTrip.{image-accepted, image-stream}

@@ -12,7 +12,7 @@ use Rattle.program.specs.Tree.{Program}
 use Rattle.machine.specs.Published.{Sched, Sched.done, Sched.start, Sched.fixpoint, Sched.active}
 use Rattle.machine.specs.Machine.{Machine, Out, Out.next, Out.refused, Out.stuck, Moved, Moved.next, Moved.stuck, command, move-by, move}
 use Rattle.machine.specs.Measure.{bound, passages, measure}
-use Rattle.machine.specs.MeasureLaws.{move-falls}
+use Rattle.machine.specs.Laws.MeasureLaws.{move-falls}
 use Rattle.run.specs.Turns.{chosen}
 use Rattle.run.specs.Holders.{holders, due}
 use Rattle.machine.specs.Stops.{ended}

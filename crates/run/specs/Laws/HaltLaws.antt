@@ -10,7 +10,7 @@ use Rattle.program.specs.Tree.{Program}
 use Rattle.machine.specs.Published.{Sched.done, State, State.state}
 use Rattle.machine.specs.Rules.{Actor.instance, Actor.schedule, Rule, Rule.InitG, Rule.InitL, Rule.FixInit, Rule.FixIter, Rule.FixTerm}
 use Rattle.machine.specs.Stops.{Full, Exceeded, ended, out-of-turns, full, exceeded}
-use Rattle.machine.specs.RuleUnique.{rule-not-full, rule-not-exceeded}
+use Rattle.machine.specs.Laws.RuleUnique.{rule-not-full, rule-not-exceeded}
 use Rattle.run.specs.Runs.{Due, Config, Config.config, picked, Halts, Halts.at-end, Halts.at-33, Halts.at-34, Halts.at-35, Runs}
 use Rattle.run.specs.Steps.{Steps.here}
 use Rattle.run.specs.Laws.StepsLaws.{steps-left}

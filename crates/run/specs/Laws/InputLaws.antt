@@ -10,9 +10,9 @@ use Rattle.types.specs.Limits.{table-blocks, max-commands, max-turns}
 use Rattle.types.specs.Numbers.{no-room, many-turns}
 use Rattle.types.specs.Reflects.{lt-reflects}
 use Rattle.types.specs.Orders.{Order, NoneOf, Foremost, Tells.passes}
-use Rattle.types.specs.OrderLaws.{none-joined, here, past}
+use Rattle.types.specs.Laws.OrderLaws.{none-joined, here, past}
 use Rattle.types.specs.Stages.{Stage.went as table, Stage.stopped as no-table, Stages}
-use Rattle.types.specs.StageLaws.{stage-asked, stage-on, stage-number, stage-none, stage-went, stage-refused}
+use Rattle.types.specs.Laws.StageLaws.{stage-asked, stage-on, stage-number, stage-none, stage-went, stage-refused}
 use Rattle.block.specs.Block.{block-size}
 use Rattle.blocks.specs.Images.{stream, fault}
 use Rattle.blocks.specs.Faults.{Says}
@@ -23,8 +23,8 @@ use Rattle.block.specs.declared.Found.the-variants.{Right, Wrong}
 use Rattle.program.specs.Tree.{Program}
 use Rattle.table.specs.Table.{Record}
 use Rattle.table.specs.TableReader.{TableAnswer, table-of-stream, table-end, table-value}
-use Rattle.table.specs.TableLaws.{table-answer-exact, table-numbers}
-use Rattle.table.specs.TableFaultLaws.{table-ends-exactly, table-offends-exactly, ends-or-offends, right-not-ends, right-not-offends}
+use Rattle.table.specs.Laws.TableLaws.{table-answer-exact, table-numbers}
+use Rattle.table.specs.Laws.TableFaultLaws.{table-ends-exactly, table-offends-exactly, ends-or-offends, right-not-ends, right-not-offends}
 use Rattle.run.specs.Run.{run}
 use Rattle.run.specs.Begin.{begin}
 use Rattle.verdict.specs.Verdict.{listed}

@@ -11,9 +11,9 @@ use Rattle.machine.specs.Published.{Sched.done, State, State.state}
 use Rattle.machine.specs.Machine.{Machine, Out.next, Out.refused, command}
 use Rattle.machine.specs.Stops.{full, exceeded, ended}
 use Rattle.machine.specs.Represents.{Represents}
-use Rattle.machine.specs.CommandAgrees.{command-follows, command-complete, command-full, command-exceeded, command-numbers}
-use Rattle.machine.specs.MoveAgrees.{move-follows, move-complete}
-use Rattle.machine.specs.FromLaws.{command-from, move-from}
+use Rattle.machine.specs.Laws.CommandAgrees.{command-follows, command-complete, command-full, command-exceeded, command-numbers}
+use Rattle.machine.specs.Laws.MoveAgrees.{move-follows, move-complete}
+use Rattle.machine.specs.Laws.FromLaws.{command-from, move-from}
 use Rattle.run.specs.Turns.{chosen}
 use Rattle.run.specs.Holders.{holders, due}
 use Rattle.run.specs.Runs.{Due, Config, Config.config, picked, StandsFor, Halts, Halts.at-end, Halts.at-33, Halts.at-34, Halts.at-35, Step}

@@ -5,8 +5,8 @@ use mathlib.Core.List.{List}
 use Rattle.program.specs.Tree.{Program}
 use Rattle.machine.specs.Published.{State.state}
 use Rattle.machine.specs.Machine.{Machine, machine}
-use Rattle.machine.specs.RepresentsLaws.{represents-unique}
-use Rattle.machine.specs.RuleUnique.{represented}
+use Rattle.machine.specs.Laws.RepresentsLaws.{represents-unique}
+use Rattle.machine.specs.Laws.RuleUnique.{represented}
 use Rattle.run.specs.Runs.{Config, Config.config, StandsFor, Runs}
 use Rattle.run.specs.Run.{Outcome.stopped}
 use Rattle.run.specs.Laws.RunAgrees.{run-complete}

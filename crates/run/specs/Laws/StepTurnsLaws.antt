@@ -7,7 +7,7 @@ use mathlib.Core.List.{List, [], _∷_}
 use Rattle.program.specs.Tree.{Program}
 use Rattle.machine.specs.Machine.{Machine, Moved.next, move}
 use Rattle.machine.specs.Measure.{total, codes, share-of}
-use Rattle.machine.specs.MeasureLaws.{command-shortens, moved-codes}
+use Rattle.machine.specs.Laws.MeasureLaws.{command-shortens, moved-codes}
 use Rattle.run.specs.Turns.{chosen}
 use Rattle.run.specs.Holders.{holders}
 use Rattle.run.specs.Laws.TurnLaws.{holders-still, due-none}

@@ -17,7 +17,7 @@ use Rattle.machine.specs.Published.{Sched, Env, Inst, Inst.inst, State.state, I
 use Rattle.machine.specs.Rules.{Done}
 use Rattle.machine.specs.Machine.{Instance, Machine}
 use Rattle.machine.specs.Represents.{Represents-all, Represents}
-use Rattle.machine.specs.RepresentsLaws.{Still}
+use Rattle.machine.specs.Laws.RepresentsLaws.{Still}
 use Rattle.run.specs.Turns.{labels-from, round-from, chosen, holds-coms, holders-of}
 use Rattle.run.specs.Holders.{holds-code, flag, flags, holders, none-of, due}
 use Rattle.run.specs.Runs.{Config.config, StandsFor}

@@ -8,7 +8,7 @@ use mathlib.Core.List.{List, [], _∷_, _++_}
 use lib.ListN.{length}
 use lib.Dec.{eqb}
 use Rattle.block.specs.Sums.{byte, sum, summed, wrap, sum-a, sum-b}
-use Rattle.block.specs.SumLaws.{sum-ext}
+use Rattle.block.specs.Laws.SumLaws.{sum-ext}
 use Rattle.little_endian.specs.Numbers.{pair-at}
 use Rattle.block.specs.Block.{pair, sums-right, laid-out, block-fault, front, block-of}
 use Rattle.blocks.specs.Images.{length-right, count, block, is-last, first-fault, fault}

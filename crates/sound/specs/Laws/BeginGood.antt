@@ -12,7 +12,7 @@ use lib.Dec.{ltb}
 use borrow.Author.Tests.{ltb-true, ltb-false}
 use Rattle.types.specs.Types.{Ty, Ty.ref, IsType}
 use Rattle.types.specs.Values.{Val, Val.label, default}
-use Rattle.types.specs.ValueLaws.{value-as}
+use Rattle.types.specs.Laws.ValueLaws.{value-as}
 use Rattle.program.specs.Tree.{Item, Item.call, Item.call-in, Item.fix, Items, Items.stop, Items.item, Program}
 use Rattle.program.specs.Counts.{All, Counts}
 use Rattle.commands.specs.Context.{params-of}

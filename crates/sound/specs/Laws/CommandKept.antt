@@ -21,7 +21,7 @@ use Rattle.commands.specs.Noted.{noted, now-written}
 use Rattle.table.specs.Table.{Each}
 use Rattle.operators.specs.Apply.{Answer, Answer.value, Answer.outside, Answer.unfit, apply}
 use Rattle.operators.specs.Ranges.{Fits as Answers}
-use Rattle.operators.specs.RangesLaws.{apply-fits}
+use Rattle.operators.specs.Laws.RangesLaws.{apply-fits}
 use Rattle.machine.specs.Published.{structs, arity}
 use Rattle.machine.specs.Machine.{Tagged, tagged, Source.variable, Source.local, Source.result, given-by, Instance, Machine, Out.next}
 use Rattle.machine.specs.Machine.{with-code, with-written, put, acting as turning, write-to, operated, perform, command-of, command-at, command}

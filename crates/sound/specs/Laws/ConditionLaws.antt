@@ -5,8 +5,8 @@ use mathlib.Core.Logic.{_↔_}
 use mathlib.Core.List.{List}
 use Rattle.program.specs.Tree.{Program}
 use Rattle.machine.specs.Machine.{Machine}
-use Rattle.machine.specs.CommandAgrees.{command-follows}
-use Rattle.machine.specs.MoveAgrees.{move-follows}
+use Rattle.machine.specs.Laws.CommandAgrees.{command-follows}
+use Rattle.machine.specs.Laws.MoveAgrees.{move-follows}
 use Rattle.run.specs.Laws.TurnLaws.{due-still}
 use Rattle.run.specs.Runs.{Config, Config.config, picked, StandsFor, Halts}
 use Rattle.run.specs.Laws.RunAgrees.{due-same, none-due, picked-command}

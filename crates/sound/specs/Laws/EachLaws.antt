@@ -7,7 +7,7 @@ use mathlib.Core.List.{List, [], _∷_, _++_, map, reverse, reverseAux, reverse-
 use lib.ListN.{length, getD, getElem?, set}
 use Rattle.types.specs.Types.{Ty}
 use Rattle.table.specs.Table.{Each}
-pub use Rattle.table.specs.EachLaws.{each-length}
+pub use Rattle.table.specs.Laws.EachLaws.{each-length}
 
 -- what holds of each pair and follows from another
 pub each-map : {A : Type 0} {P Q : Ty → A → Type 0} → ((t : Ty) (x : A) → P t x → Q t x) → (ts : List Ty) (xs : List A) → Each P ts xs → Each Q ts xs

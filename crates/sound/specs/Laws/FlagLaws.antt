@@ -17,7 +17,7 @@ use Rattle.machine.specs.Machine.{made, command}
 use Rattle.machine.specs.Performed.{Performed, Performed.pushed, Performed.pushed-this, Performed.negated, Performed.read-one, Performed.skipped}
 use Rattle.machine.specs.Performed.{Performed.wrote, Performed.calculated, Performed.exceeding, Performed.constructed, Performed.filled}
 use Rattle.machine.specs.Performed.{Performed.branched, Performed.no-way}
-use Rattle.machine.specs.PerformedLaws.{by-ways}
+use Rattle.machine.specs.Laws.PerformedLaws.{by-ways}
 use Rattle.run.specs.Holders.{holds-code, flag, flags}
 use Rattle.sound.specs.Laws.ElemLaws.{none-some, at-set-same, at-append}
 

@@ -7,7 +7,7 @@ use mathlib.Core.List.{List, [], _∷_, _++_}
 use lib.ListN.{length, getElem?, set}
 use Rattle.types.specs.Types.{Ty}
 use Rattle.types.specs.Values.{Val}
-use Rattle.types.specs.ValueLaws.{value-as}
+use Rattle.types.specs.Laws.ValueLaws.{value-as}
 use Rattle.machine.specs.Published.{Env}
 use Rattle.machine.specs.Machine.{Tagged, Instance, with-env, update-env}
 use Rattle.sound.specs.Needs.{ValueAmong}

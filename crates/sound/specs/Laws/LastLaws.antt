@@ -9,7 +9,7 @@ use lib.ListN.{length, length-map}
 use Rattle.program.specs.Tree.{Program}
 use Rattle.machine.specs.Published.{Sched, Sched.done, Sched.start, Sched.fixpoint, Sched.active}
 use Rattle.machine.specs.Machine.{Instance, Machine, Moved, Moved.next, Moved.stuck, started, repeat, move-by}
-use Rattle.machine.specs.FromLaws.{command-from, move-from}
+use Rattle.machine.specs.Laws.FromLaws.{command-from, move-from}
 use Rattle.run.specs.Visits.{Acts, Acts.moves, Acts.takes, Visits}
 use Rattle.run.specs.Laws.StepsLaws.{steps-keep}
 use Rattle.sound.specs.Tabled.{LastThere}

@@ -10,8 +10,8 @@ use lib.ListN.{length, getElem?}
 use Rattle.program.specs.Tree.{Stmts, Program}
 use Rattle.machine.specs.Published.{StepCall, called, Sched, Sched.done, Sched.start, Sched.fixpoint, Sched.active, before, of-items}
 use Rattle.machine.specs.Machine.{Instance, Machine, Moved, Moved.next, Moved.stuck, given, started, repeat, move-by, move}
-use Rattle.machine.specs.CallLaws.{called-step}
-use Rattle.machine.specs.RepresentsLaws.{Still}
+use Rattle.machine.specs.Laws.CallLaws.{called-step}
+use Rattle.machine.specs.Laws.RepresentsLaws.{Still}
 use Rattle.commands.specs.Tags.{at-start, Way.start as begins}
 use Rattle.sound.specs.Invariant.{Job, Job.call, InJob.in-call, Place, Place.resting, Place.passing, GoodInst, GoodAll, Good}
 use Rattle.sound.specs.Invariant.{Unbegun, Open, Open.open-start, Open.open-fix, Open.open-active}

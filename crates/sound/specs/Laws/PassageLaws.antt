@@ -15,7 +15,7 @@ use Rattle.commands.specs.Noted.{Note, noted, now-written}
 use Rattle.table.specs.Table.{Each}
 use Rattle.program.specs.Tree.{Stmts}
 use Rattle.machine.specs.Published.{structs, lookup}
-use Rattle.machine.specs.CallLaws.{called-step}
+use Rattle.machine.specs.Laws.CallLaws.{called-step}
 use Rattle.machine.specs.Machine.{Tagged, Instance}
 use Rattle.commands.specs.Tags.{Tags, tags, Top, Asks, jump, Way, at-start}
 use Rattle.sound.specs.Needs.{ValueAmong}

@@ -12,7 +12,7 @@ use borrow.Author.Tests.{ltb-true, ltb-false}
 use Rattle.types.specs.Limits.{table-blocks}
 use Rattle.types.specs.Types.{Ty, Ty.int, Ty.nat, Ty.bool, Ty.ref}
 use Rattle.types.specs.Values.{Val, Val.int-val, Val.nat-val, Val.bool-val, Val.label, default}
-use Rattle.types.specs.ValueLaws.{value-as}
+use Rattle.types.specs.Laws.ValueLaws.{value-as}
 use Rattle.block.specs.Block.{block-size, payload-size}
 use Rattle.blocks.specs.Images.{image, pieces}
 use Rattle.blocks.specs.Faults.{Says}
@@ -23,7 +23,7 @@ use Rattle.program.specs.Tree.{Program}
 use Rattle.commands.specs.Context.{params-of}
 use Rattle.table.specs.Table.{Record, enc-table, Each, Held, HeldRecord, HeldTable, struct-at, Refers, RefersRecord, References, TableRight}
 use Rattle.table.specs.Sizes.{table-size}
-use Rattle.table.specs.SizeLaws.{table-length, program-table-fits}
+use Rattle.table.specs.Laws.SizeLaws.{table-length, program-table-fits}
 use Rattle.machine.specs.Published.{Env, Env.env, structs}
 use Rattle.machine.specs.Machine.{Instance, Machine}
 use Rattle.run.specs.Visits.{Visits}

@@ -24,7 +24,7 @@ use Rattle.machine.specs.Machine.{update-env, given, started, repeat, move-by, 
 use Rattle.machine.specs.Performed.{Performed, Performed.pushed, Performed.pushed-this, Performed.negated, Performed.read-one, Performed.skipped}
 use Rattle.machine.specs.Performed.{Performed.wrote, Performed.calculated, Performed.exceeding, Performed.constructed, Performed.filled, Performed.branched}
 use Rattle.machine.specs.Performed.{Performed.no-way}
-use Rattle.machine.specs.PerformedLaws.{by-ways}
+use Rattle.machine.specs.Laws.PerformedLaws.{by-ways}
 use Rattle.run.specs.Turns.{chosen}
 use Rattle.run.specs.Holders.{holders}
 use Rattle.run.specs.Laws.StepsLaws.{steps-keep}

@@ -11,7 +11,7 @@ use lib.ListN.{length, getD, getElem?, set, take, replicate, length-set, length-
 use lib.Seq.{take-take}
 use Rattle.program.specs.Tree.{Program}
 use Rattle.machine.specs.Machine.{Instance, Machine, Out, Out.next, Out.refused, Out.stuck, command}
-use Rattle.machine.specs.FromLaws.{command-from}
+use Rattle.machine.specs.Laws.FromLaws.{command-from}
 use Rattle.machine.specs.Stops.{full, exceeded}
 use Rattle.run.specs.Turns.{round-from, chosen}
 use Rattle.run.specs.Holders.{flag, flags, holders, due}

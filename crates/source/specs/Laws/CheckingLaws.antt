@@ -12,9 +12,9 @@ use lib.Dec.{ltb}
 use borrow.Author.Tests.{le-ltb}
 use Rattle.types.specs.Limits.{program-blocks, max-commands}
 use Rattle.types.specs.Orders.{Foremost}
-use Rattle.types.specs.OrderLaws.{tells-number}
+use Rattle.types.specs.Laws.OrderLaws.{tells-number}
 use Rattle.types.specs.Stages.{Stage.stopped as checked-refused, Stage.went as written, Stages}
-use Rattle.types.specs.StageLaws.{stage-on, stage-answer}
+use Rattle.types.specs.Laws.StageLaws.{stage-on, stage-answer}
 use Rattle.block.specs.Block.{block-size}
 use Rattle.blocks.specs.declared.Written.the-variants.{Blocks}
 use Rattle.blocks.specs.Images.{image, pieces, write, written-into}

@@ -14,9 +14,9 @@ use Rattle.types.specs.Numbers.{no-room, no-token, no-derivation, no-program}
 use Rattle.types.specs.Reflects.{Reflects, Reflects.holds as so, Reflects.fails as not-so, lt-reflects}
 use Rattle.types.specs.Decides.{reflected}
 use Rattle.types.specs.Orders.{Order, NoneOf, Foremost, Tells.passes}
-use Rattle.types.specs.OrderLaws.{at-first, after-first, here, past}
+use Rattle.types.specs.Laws.OrderLaws.{at-first, after-first, here, past}
 use Rattle.types.specs.Stages.{Stage.went as written, Stage.stopped as refused, on, asked, given, Stages}
-use Rattle.types.specs.StageLaws.{stage-asked, stage-given, stage-number, stage-none, stage-past}
+use Rattle.types.specs.Laws.StageLaws.{stage-asked, stage-given, stage-number, stage-none, stage-past}
 use Rattle.block.specs.Block.{block-size}
 use Rattle.program.specs.Tree.{Program}
 use Rattle.program.specs.Encoding.{enc-program}

@@ -6,7 +6,7 @@ use mathlib.Core.List.{List}
 use lib.ListN.{length, getD}
 use borrow.Author.Tests.{not-true, not-false}
 use Rattle.table_read.specs.Told.{place-refusal}
-use Rattle.table_read.specs.TableWays.{Got, got, behind-refused, behind-more, behind-structs, behind-wrong, behind-right}
+use Rattle.table_read.specs.Laws.TableWays.{Got, got, behind-refused, behind-more, behind-structs, behind-wrong, behind-right}
 use borrow.Author.Needs.{needs}
 use Rattle.table_read.proofs.behind.Statement.{statement}
 use Rattle.table_read.proofs.behind.Tie as tie

@@ -1,9 +1,9 @@
 -- `read` meets its contract: N is refused, or what stands behind it decides.
 use mathlib.Core.Path.{_∙_, ap, sym, refl}
 use Rattle.table_read.specs.Params.{lists-of}
-use Rattle.table_read.specs.ParamsLaws.{lists-length}
+use Rattle.table_read.specs.Laws.ParamsLaws.{lists-length}
 use Rattle.table_read.specs.Told.{count-refusal}
-use Rattle.table_read.specs.TableWays.{table-refused, table-behind}
+use Rattle.table_read.specs.Laws.TableWays.{table-refused, table-behind}
 use borrow.Author.Needs.{needs}
 use Rattle.table_read.proofs.read.Statement.{statement}
 use Rattle.table_read.proofs.read.Tie as tie

@@ -6,7 +6,7 @@ use lib.Seq.{length-take-le}
 use Rattle.blocks.specs.Images.{stream}
 use Rattle.blocks.specs.OpeningLaws.{opened-fault, opened-stream, opened-front}
 use Rattle.table_read.specs.Params.{lists-of}
-use Rattle.table_read.specs.TableWays.{image-refused, image-read}
+use Rattle.table_read.specs.Laws.TableWays.{image-refused, image-read}
 use borrow.Author.Needs.{needs}
 use Rattle.table_read.proofs.read_image.Statement.{statement}
 use Rattle.table_read.proofs.read_image.Tie as tie

@@ -32,12 +32,12 @@ loop-again c =
 returns : tie.Need-returns Inv-loop μ-loop
 returns c =
     let at-put2 = c .before .before in let at-put = at-put2 .before .before .before .before in
-    let at-test = at-put .before .before in
-    taken-end (at-test .before .loop .inv .0) (at-test .loop-test .left) (at-put .put .ensures) (at-put2 .put2 .ensures)
+    let made = at-put .before .before .before in let at-test = made .before .before in
+    taken-end (at-test .before .loop .inv .0) (at-test .loop-test .left) (made .put-pair .ensures) (at-put .put .ensures) (at-put2 .put2 .ensures)
 
 pub stream-spec : {M : Type 1} → statement M
 stream-spec =
     tie.close
     (tie.spec Inv-loop μ-loop loop-holds (λ c. search needs) (λ c. search needs) (λ c κs. search needs) (λ c κs. search needs)
-    (λ c κs. search needs) (λ c. search needs) (λ c. search needs) loop-less loop-again (λ c. search needs) (λ c κs. search needs)
-    (λ c. search needs) (λ c κs. search needs) (λ c. search needs) returns)
+    (λ c κs. search needs) (λ c. search needs) (λ c. search needs) loop-less loop-again (λ c. search needs) (λ c κs. search needs) (λ c. search needs)
+    (λ c κs. search needs) (λ c. search needs) (λ c κs. search needs) (λ c. search needs) returns)

@@ -2,6 +2,7 @@
 use Prim.Native.Nat.{_-_}
 use mathlib.Core.Path.{_≡_, refl, _∙_}
 use borrow.Author.Needs.{needs}
+use Rattle.little_endian.specs.Numbers.{pair-at}
 use lib.ListN.{length}
 use Rattle.table_words.specs.TableWordsLaws.{RowsPassed, rows-begin, rows-next, rows-end}
 use Rattle.table_words.proofs.words.Statement.{statement}
@@ -25,10 +26,11 @@ loop-again c =
     )
 
 returns : tie.Need-returns Inv-loop μ-loop
+unfolding pair-at
 returns c =
-    let at-wide = c .before .before in let at-byte2 = at-wide .before in
-    rw (← at-wide .wide .ensures .0, ← at-byte2 .byte2 .ensures .0, ← at-byte2 .before .byte .ensures .0)
-    (rows-end (c .before .loop .inv .0) (c .loop-test .left))
+    let at-index = c .before .before in let at-pair = at-index .before in let at-look2 = at-pair .before .before in
+    let e = rw (at-look2 .look2 .ensures, at-look2 .before .look .ensures) at (at-pair .pair-at .ensures .0) in
+    rw (← at-index .index .ensures .0, ← e) (rows-end (c .before .loop .inv .0) (c .loop-test .left))
 
 pub words-spec : {M : Type 1} → statement M
 words-spec =

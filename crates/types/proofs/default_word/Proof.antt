@@ -1,6 +1,6 @@
 -- `default_word` meets its contract: a default's word is the number of its struct.
 use mathlib.Core.Path.{_∙_, sym}
-use Rattle.types.specs.ValueLaws.{default-word}
+use Rattle.types.specs.Laws.ValueLaws.{default-word}
 use borrow.Author.Needs.{needs}
 use Rattle.types.proofs.default_word.Statement.{statement}
 use Rattle.types.proofs.default_word.Tie as tie

@@ -1,5 +1,5 @@
 -- `is_reference` meets its contract.
-use Rattle.types.specs.TypeLaws.{ref-byte}
+use Rattle.types.specs.Laws.TypeLaws.{ref-byte}
 use Rattle.types.proofs.is_reference.Statement.{statement}
 use Rattle.types.proofs.is_reference.Tie as tie
 

@@ -1,5 +1,5 @@
 -- `is_type` meets its contract, by a law for each way through it.
-use Rattle.types.specs.TypeLaws.{small-byte, middle-byte, large-byte}
+use Rattle.types.specs.Laws.TypeLaws.{small-byte, middle-byte, large-byte}
 use Rattle.types.proofs.is_type.Statement.{statement}
 use Rattle.types.proofs.is_type.Tie as tie
 

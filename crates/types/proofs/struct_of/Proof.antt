@@ -1,5 +1,5 @@
 -- `struct_of` meets its contract, by a law for each way through it.
-use Rattle.types.specs.TypeLaws.{no-struct-byte, struct-byte}
+use Rattle.types.specs.Laws.TypeLaws.{no-struct-byte, struct-byte}
 use Rattle.types.proofs.struct_of.Statement.{statement}
 use Rattle.types.proofs.struct_of.Tie as tie
 

@@ -9,7 +9,7 @@ use mathlib.Core.List.{List, [], _∷_, map}
 use lib.ListN.{length, getD, drop, length-map, drop-of-length-le}
 use lib.Dec.{eqb, leb}
 use borrow.Author.Tests.{ne-eqb, eqb-true, eqb-false, le-leb, leb-true}
-use Rattle.types.specs.ListLaws.{drop-next}
+use Rattle.types.specs.Laws.ListLaws.{drop-next}
 use Rattle.tokens.specs.Tokens.{between}
 use Rattle.resolve.specs.Laws.StandingLaws.{both-parts}
 use Rattle.resolve.specs.Tables.{places-from, places, with-place, with-one, offsets-from, offsets}

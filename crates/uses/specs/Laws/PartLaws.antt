@@ -5,7 +5,7 @@ use mathlib.Core.Path.{_≡_, refl, sym, ap, _∙_}
 use mathlib.Core.List.{List, [], _∷_, map}
 use lib.ListN.{length, getD, set, take, drop, length-take, length-drop, length-map}
 use lib.Seq.{lt-length-set, take-nil, drop-cons, drop-drop, take-take, getD-take, getD-drop, getD-set-same, take-set-le, drop-set-lt, drop-set-add}
-use Rattle.types.specs.ListLaws.{cons-eq, map-drop, map-take}
+use Rattle.types.specs.Laws.ListLaws.{cons-eq, map-drop, map-take}
 use Rattle.resolve.specs.Checks.{part-of}
 use Rattle.resolve.specs.Using.{last-of}
 use Rattle.resolve.specs.Resolved.{cuts}

@@ -8,7 +8,7 @@ use mathlib.Core.List.{List, []}
 use lib.ListN.{length, getD, drop}
 use lib.Dec.{leb, ltb}
 use borrow.Author.Tests.{ltb-true, ltb-false, lt-ltb, le-ltb, le-leb, lt-leb, eq-eqb, ne-eqb}
-use Rattle.types.specs.ListLaws.{map-drop}
+use Rattle.types.specs.Laws.ListLaws.{map-drop}
 use Rattle.types.specs.Limits.{first-local}
 use Rattle.types.specs.Types.{struct-code}
 use Rattle.syntax.specs.Syntax.{Id}

@@ -8,7 +8,7 @@ use mathlib.Core.Option.{some}
 use lib.ListN.{length, getD, set, take, drop, length-set, length-map}
 use lib.Seq.{drop-cons}
 use borrow.Author.Tests.{eq-eqb, ne-eqb}
-use Rattle.types.specs.ListLaws.{map-drop}
+use Rattle.types.specs.Laws.ListLaws.{map-drop}
 use Rattle.derive.specs.Held.{held}
 use Rattle.derive.specs.HeldLaws.{held-set, held-push}
 use Rattle.meaning.specs.Meant.{provided}

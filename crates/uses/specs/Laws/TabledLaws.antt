@@ -9,7 +9,7 @@ use lib.ListN.{length, getD, take, drop, length-map}
 use lib.Seq.{sets}
 use lib.Dec.{leb}
 use borrow.Author.Tests.{leb-true}
-use Rattle.types.specs.ListLaws.{cons-eq}
+use Rattle.types.specs.Laws.ListLaws.{cons-eq}
 use Rattle.types.specs.Limits.{max-structs, step-names as max-names}
 use Rattle.syntax.specs.Syntax.{Id}
 use Rattle.meaning.specs.Finding.{distinct}

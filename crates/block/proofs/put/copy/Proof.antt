@@ -4,7 +4,7 @@ use mathlib.Core.Path.{_≡_, _∙_, ap, sym}
 use lib.ListN.{length, length-set, set, take, getD}
 use lib.Seq.{take-all}
 use Rattle.block.specs.Put.{put}
-use Rattle.block.specs.PutLaws.{put-nil, put-turn}
+use Rattle.block.specs.Laws.PutLaws.{put-nil, put-turn}
 use borrow.Author.Needs.{needs}
 use native.Mathlib.Omega.{arith}
 use Rattle.block.proofs.put.copy.Statement.{statement}

@@ -3,8 +3,8 @@ use Prim.Native.Nat.{_≤_, _-_, _+_}
 use mathlib.Core.Path.{_≡_, _∙_, ap, sym, refl}
 use lib.ListN.{length, length-set, set, replicate}
 use Rattle.block.specs.Put.{put}
-use Rattle.block.specs.PutLaws.{put-nil}
-use Rattle.block.specs.BlockWriteWays.{zeros-turn}
+use Rattle.block.specs.Laws.PutLaws.{put-nil}
+use Rattle.block.specs.Laws.BlockWriteWays.{zeros-turn}
 use native.Mathlib.Omega.{arith}
 use Rattle.block.proofs.put.zeros.Statement.{statement}
 use Rattle.block.proofs.put.zeros.Tie as tie

@@ -1,5 +1,5 @@
 -- `writing::put_block` meets its contract: the sums are those of bytes 0 to 507, which stand in the output already.
-use Rattle.block.specs.BlockWriteWays.{block-put}
+use Rattle.block.specs.Laws.BlockWriteWays.{block-put}
 use borrow.Author.Needs.{needs}
 use Rattle.block.proofs.writing.put_block.Statement.{statement}
 use Rattle.block.proofs.writing.put_block.Tie as tie

@@ -1,5 +1,5 @@
 -- `writing::put_front` meets its contract: its four writes stand one behind the other.
-use Rattle.block.specs.BlockWriteWays.{front-put}
+use Rattle.block.specs.Laws.BlockWriteWays.{front-put}
 use borrow.Author.Needs.{needs}
 use Rattle.block.proofs.writing.put_front.Statement.{statement}
 use Rattle.block.proofs.writing.put_front.Tie as tie

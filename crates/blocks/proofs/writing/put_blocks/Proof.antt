@@ -3,7 +3,7 @@ use Prim.Native.Nat.{_≤_, _-_}
 use mathlib.Core.Path.{_≡_, _∙_, ap, sym, refl}
 use lib.ListN.{length}
 use Rattle.block.specs.Put.{put}
-use Rattle.block.specs.PutLaws.{put-nil}
+use Rattle.block.specs.Laws.PutLaws.{put-nil}
 use Rattle.blocks.specs.Images.{image-of}
 use Rattle.blocks.specs.ImageLaws.{piece-fits}
 use Rattle.blocks.specs.WriteWays.{blocks-turn}

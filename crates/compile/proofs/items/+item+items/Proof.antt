@@ -18,7 +18,7 @@ use Rattle.compile.proofs.items.+item+items.Tie.{close}
 use native.Mathlib.Omega.{arith}
 use borrow.Author.Needs.{needs}
 use mathlib.Core.Path.{_≡_, _∙_}
-use Rattle.emit.specs.PartsLaws.{part-ready, part-same}
+use Rattle.emit.specs.Laws.PartsLaws.{part-ready, part-same}
 use Rattle.compile.specs.Codes.{row-at, Left}
 use Rattle.compile.specs.WalkLaws.{one-room, one-wrote, item-in, call-one, call-in-one, fix-facts, fix-room, fix-ready, fix-end, fix-wrote}
 use Rattle.compile.specs.WalkLaws.{items-part, left-all, left-ready, left-next, left-none, FixFacts}

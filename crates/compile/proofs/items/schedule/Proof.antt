@@ -3,7 +3,7 @@ use borrow.Author.Needs.{needs}
 use Rattle.compile.proofs.items.schedule.Statement.{statement}
 use Rattle.compile.proofs.items.schedule.Tie as tie
 use native.Mathlib.Omega.{arith}
-use Rattle.emit.specs.PartsLaws.{part-ready, part-room, part-last}
+use Rattle.emit.specs.Laws.PartsLaws.{part-ready, part-room, part-last}
 use Rattle.compile.specs.WalkLaws.{schedule-part}
 use Rattle.compile.specs.LaidLaws.{schedule-laid}
 

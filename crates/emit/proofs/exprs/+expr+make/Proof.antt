@@ -12,10 +12,10 @@ use Rattle.program.specs.Tree.{Exprs}
 use Rattle.program.specs.Reader.{Result}
 use Rattle.emit.specs.Written.{Wrote, args-words, args-at}
 use Rattle.emit.specs.Parts.{Rest}
-use Rattle.emit.specs.WrittenLaws.{placed-kept, placed-one, placed-as}
-use Rattle.emit.specs.PartsLaws.{part-ready, part-room, part-same, part-last, parts-ready, parts-next, parts-room, parts-last, rest-all}
-use Rattle.emit.specs.ExprLaws.{args-ready, args-next, args-none, make-facts, expr-in, inv-part, make-part, path-part, op-parts, MakeFacts}
-use Rattle.emit.specs.LiteralLaws.{leaf-facts, LeafFacts}
+use Rattle.emit.specs.Laws.WrittenLaws.{placed-kept, placed-one, placed-as}
+use Rattle.emit.specs.Laws.PartsLaws.{part-ready, part-room, part-same, part-last, parts-ready, parts-next, parts-room, parts-last, rest-all}
+use Rattle.emit.specs.Laws.ExprLaws.{args-ready, args-next, args-none, make-facts, expr-in, inv-part, make-part, path-part, op-parts, MakeFacts}
+use Rattle.emit.specs.Laws.LiteralLaws.{leaf-facts, LeafFacts}
 use Rattle.emit.proofs.exprs.expr.Reads as expr
 use Rattle.emit.proofs.exprs.expr.Kinds as expr-kinds
 use Rattle.emit.proofs.exprs.+expr+make.Lts-expr as expr-lts

@@ -2,8 +2,8 @@
 use borrow.Author.Needs.{needs}
 use Rattle.emit.proofs.steps.step.Statement.{statement}
 use native.Mathlib.Omega.{arith}
-use Rattle.emit.specs.PartsLaws.{part-ready, part-same}
-use Rattle.emit.specs.StepLaws.{step-part}
+use Rattle.emit.specs.Laws.PartsLaws.{part-ready, part-same}
+use Rattle.emit.specs.Laws.StepLaws.{step-part}
 use Rattle.emit.proofs.steps.step.Tie as tie
 
 body-requires : tie.Need-body-requires

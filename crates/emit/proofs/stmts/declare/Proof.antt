@@ -3,8 +3,8 @@ use borrow.Author.Needs.{needs}
 use Rattle.emit.proofs.stmts.declare.Statement.{statement}
 use native.Mathlib.Omega.{arith}
 use mathlib.Core.Path.{refl, _∙_}
-use Rattle.emit.specs.PartsLaws.{part-ready, part-room}
-use Rattle.emit.specs.StmtLaws.{declare-facts, declare-wrote, DeclareFacts}
+use Rattle.emit.specs.Laws.PartsLaws.{part-ready, part-room}
+use Rattle.emit.specs.Laws.StmtLaws.{declare-facts, declare-wrote, DeclareFacts}
 use Rattle.emit.proofs.stmts.declare.Tie as tie
 
 -- the places that proofs look back to

@@ -2,10 +2,10 @@
 use borrow.Author.Needs.{needs}
 use Rattle.emit.proofs.stmts.update.Statement.{statement}
 use native.Mathlib.Omega.{arith}
-use Rattle.emit.specs.PartsLaws.{part-ready, part-rest}
+use Rattle.emit.specs.Laws.PartsLaws.{part-ready, part-rest}
 use Rattle.emit.specs.Written.{target-words}
-use Rattle.emit.specs.PathLaws.{path-facts}
-use Rattle.emit.specs.StmtLaws.{update-part, update-wrote}
+use Rattle.emit.specs.Laws.PathLaws.{path-facts}
+use Rattle.emit.specs.Laws.StmtLaws.{update-part, update-wrote}
 use Rattle.program.specs.Reader.{read-path}
 use Rattle.emit.proofs.stmts.update.Tie as tie
 

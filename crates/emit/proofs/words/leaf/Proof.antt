@@ -1,7 +1,7 @@
 -- `emit::words::leaf` meets its contract: a law for each test's way.
 use borrow.Author.Needs.{needs}
 use Rattle.emit.proofs.words.leaf.Statement.{statement}
-use Rattle.emit.specs.LeafLaws.{leaf-in, leaf-word-in, leaf-byte-in, leaf-word-is, leaf-bool-is, leaf-null-is, leaf-this-is}
+use Rattle.emit.specs.Laws.LeafLaws.{leaf-in, leaf-word-in, leaf-byte-in, leaf-word-is, leaf-bool-is, leaf-null-is, leaf-this-is}
 use Rattle.emit.proofs.words.leaf.Tie as tie
 
 -- the places that proofs look back to

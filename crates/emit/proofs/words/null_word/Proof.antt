@@ -1,7 +1,7 @@
 -- `emit::words::null_word` meets its contract: the default of a type stands in `types`.
 use borrow.Author.Needs.{needs}
 use Rattle.emit.proofs.words.null_word.Statement.{statement}
-use Rattle.emit.specs.LeafLaws.{null-is}
+use Rattle.emit.specs.Laws.LeafLaws.{null-is}
 use Rattle.emit.proofs.words.null_word.Tie as tie
 
 returns : tie.Need-returns

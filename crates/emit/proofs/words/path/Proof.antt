@@ -4,7 +4,7 @@ use Prim.Native.Nat.{_+_, _≤_}
 use borrow.Author.Needs.{needs}
 use Rattle.emit.proofs.words.path.Statement.{statement}
 use native.Mathlib.Omega.{arith}
-use Rattle.emit.specs.PathLaws.{path-facts, path-room, path-wrote, PathFacts}
+use Rattle.emit.specs.Laws.PathLaws.{path-facts, path-room, path-wrote, PathFacts}
 use Rattle.emit.proofs.words.path.Tie as tie
 
 -- the places that proofs look back to

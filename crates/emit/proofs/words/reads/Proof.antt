@@ -6,7 +6,7 @@ use mathlib.Core.Path.{_≡_, refl, _∙_}
 use lib.ListN.{length}
 use lib.Seq.{sets}
 use Rattle.emit.specs.Leaf.{rd-words}
-use Rattle.emit.specs.LeafLaws.{ReadsLeft, reads-none, reads-more}
+use Rattle.emit.specs.Laws.LeafLaws.{ReadsLeft, reads-none, reads-more}
 use Rattle.emit.proofs.words.reads.Statement.{statement}
 use Rattle.emit.proofs.words.reads.Tie as tie
 

@@ -5,7 +5,7 @@ use borrow.Author.Needs.{needs}
 use Rattle.emit.proofs.words.target.Statement.{statement}
 use native.Mathlib.Omega.{arith}
 use mathlib.Core.Path.{refl}
-use Rattle.emit.specs.PathLaws.{path-facts, target-room, target-wrote, PathFacts}
+use Rattle.emit.specs.Laws.PathLaws.{path-facts, target-room, target-wrote, PathFacts}
 use Rattle.emit.proofs.words.target.Tie as tie
 
 -- the places that proofs look back to

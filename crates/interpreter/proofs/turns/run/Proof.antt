@@ -6,9 +6,9 @@ use borrow.Author.Needs.{needs}
 use Rattle.layout.specs.State.{State}
 use Rattle.holders.specs.Records.{idle}
 use Rattle.interpreter.specs.Going.{memory-of}
-use Rattle.interpreter.specs.GoingLaws.{turns-left}
-use Rattle.interpreter.specs.RunWays.{Stays, begun-standing, stays-on, stays-rows, stays-turning, passed-standing}
-use Rattle.interpreter.specs.RunWays.{passed-over, passed-over-less, passed-more, passed-more-less}
+use Rattle.interpreter.specs.Laws.GoingLaws.{turns-left}
+use Rattle.interpreter.specs.Laws.RunWays.{Stays, begun-standing, stays-on, stays-rows, stays-turning, passed-standing}
+use Rattle.interpreter.specs.Laws.RunWays.{passed-over, passed-over-less, passed-more, passed-more-less}
 use Rattle.interpreter.proofs.turns.run.Statement.{statement}
 use Rattle.interpreter.proofs.turns.run.Tie as tie
 

@@ -66,7 +66,7 @@ use Rattle.engine.proofs.Machine as Mach
 use Rattle.engine.proofs.Machine.Laws as Mach′
 use Rattle.interpreter.specs.declared.turns.Going.{Going}
 use Rattle.interpreter.specs.Going.{searched, Takes, Turning, Passes}
-use Rattle.interpreter.specs.GoingLaws.{turns-left, Kept, kept-none, kept-done, kept-few, kept-asks, kept-within, kept-more, kept-less}
+use Rattle.interpreter.specs.Laws.GoingLaws.{turns-left, Kept, kept-none, kept-done, kept-few, kept-asks, kept-within, kept-more, kept-less}
 use Rattle.interpreter.proofs.Again.{LentAgain, lends-again, comes-back}
 use Rattle.interpreter.proofs.turns.Going as T
 use Rattle.interpreter.proofs.turns.Going.Laws as T′

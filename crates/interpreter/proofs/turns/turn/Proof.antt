@@ -6,7 +6,7 @@ use borrow.Author.Needs.{needs}
 use native.Mathlib.Omega.{arith}
 use Rattle.layout.specs.Layout.{holds}
 use Rattle.interpreter.specs.Going.{going-at}
-use Rattle.interpreter.specs.GoingLaws.{behind-refused, behind-taken}
+use Rattle.interpreter.specs.Laws.GoingLaws.{behind-refused, behind-taken}
 use Rattle.interpreter.proofs.turns.turn.Statement.{statement}
 use Rattle.interpreter.proofs.turns.turn.Tie as tie
 

@@ -4,7 +4,7 @@ use Prim.Native.Nat.{_≤_, _+_, _-_}
 use mathlib.Core.Path.{_≡_, _∙_, refl}
 use native.Mathlib.Omega.{arith}
 use lib.ListN.{length, length-set}
-use Rattle.table_read.specs.NullWays.{defaults-laid, defaults-begin, defaults-turn, defaults-end}
+use Rattle.table_read.specs.Laws.NullWays.{defaults-laid, defaults-begin, defaults-turn, defaults-end}
 use borrow.Author.Needs.{needs}
 use Rattle.table_read.proofs.nulls.defaults.Statement.{statement}
 use Rattle.table_read.proofs.nulls.defaults.Tie as tie

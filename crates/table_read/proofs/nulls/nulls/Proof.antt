@@ -6,7 +6,7 @@ use native.Mathlib.Omega.{arith}
 use lib.ListN.{length}
 use Rattle.table_read.specs.Params.{lists-of}
 use Rattle.table_read.specs.Laid.{heads-laid, rows-laid, null-records}
-use Rattle.table_read.specs.NullWays.{nulls-from, heads-turn, rows-turn, heads-end, rows-end}
+use Rattle.table_read.specs.Laws.NullWays.{nulls-from, heads-turn, rows-turn, heads-end, rows-end}
 use borrow.Author.Needs.{needs}
 use Rattle.table_read.proofs.nulls.nulls.Statement.{statement}
 use Rattle.table_read.proofs.nulls.nulls.Tie as tie

@@ -1,7 +1,7 @@
 -- `reading::allowed` meets its contract.
 use mathlib.Core.Path.{sym, ap}
 use lib.Dec.{ltb}
-use Rattle.table_read.specs.ValueWays.{allowed-bool, allowed-any}
+use Rattle.table_read.specs.Laws.ValueWays.{allowed-bool, allowed-any}
 use Rattle.table_read.proofs.reading.allowed.Statement.{statement}
 use Rattle.table_read.proofs.reading.allowed.Tie as tie
 

@@ -5,7 +5,7 @@ use native.Mathlib.Omega.{arith}
 use Rattle.types.specs.Limits.{max-instances}
 use Rattle.little_endian.specs.Numbers.{number-at}
 use Rattle.little_endian.specs.NumberLaws.{pair-is}
-use Rattle.table_read.specs.TableWays.{count-cut, count-wrong, count-right}
+use Rattle.table_read.specs.Laws.TableWays.{count-cut, count-wrong, count-right}
 use borrow.Author.Needs.{needs}
 use Rattle.table_read.proofs.reading.count.Statement.{statement}
 use Rattle.table_read.proofs.reading.count.Tie as tie

@@ -1,7 +1,7 @@
 -- `reading::one_record` meets its contract: no struct byte, one that is not allowed, the values behind one.
 use native.Mathlib.Omega.{arith}
-use Rattle.table_read.specs.ToldLaws.{within-from}
-use Rattle.table_read.specs.RecordWays.{record-cut, record-wrong, record-right}
+use Rattle.table_read.specs.Laws.ToldLaws.{within-from}
+use Rattle.table_read.specs.Laws.RecordWays.{record-cut, record-wrong, record-right}
 use borrow.Author.Needs.{needs}
 use Rattle.table_read.proofs.reading.one_record.Statement.{statement}
 use Rattle.table_read.proofs.reading.one_record.Tie as tie

@@ -4,7 +4,7 @@ use Prim.Native.Nat.{_≤_, _-_}
 use mathlib.Core.Path.{_≡_, _∙_, refl}
 use native.Mathlib.Omega.{arith}
 use lib.ListN.{length}
-use Rattle.table_read.specs.RecordWays.{RecordsGo, records-begin, records-turn, records-refused, records-end}
+use Rattle.table_read.specs.Laws.RecordWays.{RecordsGo, records-begin, records-turn, records-refused, records-end}
 use borrow.Author.Needs.{needs}
 use Rattle.table_read.proofs.reading.records.Statement.{statement}
 use Rattle.table_read.proofs.reading.records.Tie as tie

@@ -7,7 +7,7 @@ use Rattle.types.specs.Types.{type-of}
 use Rattle.little_endian.specs.NumberLaws.{word-is}
 use Rattle.layout.specs.Layout.{cell}
 use Rattle.table_read.specs.Laid.{value-laid}
-use Rattle.table_read.specs.ValueWays.{value-cut, value-wrong, value-right, value-cell}
+use Rattle.table_read.specs.Laws.ValueWays.{value-cut, value-wrong, value-right, value-cell}
 use borrow.Author.Needs.{needs}
 use Rattle.table_read.proofs.reading.value.Statement.{statement}
 use Rattle.table_read.proofs.reading.value.Tie as tie

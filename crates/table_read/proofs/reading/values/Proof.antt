@@ -3,7 +3,7 @@ use Prim.Native.Nat.{_≤_, _-_}
 use mathlib.Core.Path.{_≡_, _∙_, refl}
 use native.Mathlib.Omega.{arith}
 use lib.ListN.{length}
-use Rattle.table_read.specs.ValuesWays.{ValuesGo, values-begin, values-turn, values-refused, values-end}
+use Rattle.table_read.specs.Laws.ValuesWays.{ValuesGo, values-begin, values-turn, values-refused, values-end}
 use borrow.Author.Needs.{needs}
 use Rattle.table_read.proofs.reading.values.Statement.{statement}
 use Rattle.table_read.proofs.reading.values.Tie as tie

@@ -1,7 +1,7 @@
 -- `refer::cell_refers` meets its contract: no reference, a label that no instance has, the struct of an instance.
 use mathlib.Core.Path.{_∙_, sym}
 use borrow.Author.Tests.{not-true, not-false}
-use Rattle.table_read.specs.ReferWays.{cell-plain, cell-absent, cell-struct}
+use Rattle.table_read.specs.Laws.ReferWays.{cell-plain, cell-absent, cell-struct}
 use borrow.Author.Needs.{needs}
 use Rattle.table_read.proofs.refer.cell_refers.Statement.{statement}
 use Rattle.table_read.proofs.refer.cell_refers.Tie as tie

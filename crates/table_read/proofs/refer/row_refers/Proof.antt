@@ -4,7 +4,7 @@ use mathlib.Core.Path.{_≡_, _∙_, sym}
 use native.Mathlib.Omega.{arith}
 use borrow.Author.Tests.{not-true, not-false}
 use Rattle.table_read.specs.Refer.{row-refers}
-use Rattle.table_read.specs.ReferWays.{row-begin, row-turn, row-stop, row-end}
+use Rattle.table_read.specs.Laws.ReferWays.{row-begin, row-turn, row-stop, row-end}
 use Rattle.table_read.proofs.refer.row_refers.Statement.{statement}
 use Rattle.table_read.proofs.refer.row_refers.Tie as tie
 

@@ -5,7 +5,7 @@ use native.Mathlib.Omega.{arith}
 use lib.ListN.{length}
 use borrow.Author.Tests.{not-true, not-false}
 use Rattle.table_read.specs.Refer.{rows-refer}
-use Rattle.table_read.specs.ReferWays.{rows-turn, rows-stop, rows-end}
+use Rattle.table_read.specs.Laws.ReferWays.{rows-turn, rows-stop, rows-end}
 use borrow.Author.Needs.{needs}
 use Rattle.table_read.proofs.refer.rows_refer.Statement.{statement}
 use Rattle.table_read.proofs.refer.rows_refer.Tie as tie

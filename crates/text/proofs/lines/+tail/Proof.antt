@@ -2,7 +2,7 @@
 use Prim.Native.Nat.{ℕ, _<_, _-_}
 use borrow.Fn.Kinds.{In}
 use borrow.Fn.PlainCycle.{Measures, is, falls, and}
-use Rattle.types.specs.ListLaws.{drop-next}
+use Rattle.types.specs.Laws.ListLaws.{drop-next}
 use Rattle.text.proofs.lines.tail.Reads as tail
 use Rattle.text.proofs.lines.tail.Kinds as tail-kinds
 use Rattle.text.proofs.lines.+tail.Lts-tail as tail-lts

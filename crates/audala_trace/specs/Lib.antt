@@ -1,6 +1,0 @@
-pub mod Pages
-pub mod PageLaws
-pub mod Telling
-pub mod TellingLaws
-pub mod SettlingWays
-pub mod PlayWays

@@ -1,0 +1,11 @@
+pub mod WrittenLaws
+pub mod LeafLaws
+pub mod WordLaws
+pub mod ReadLaws
+pub mod PathLaws
+pub mod PartsLaws
+pub mod ExprLaws
+pub mod LiteralLaws
+pub mod StmtLaws
+pub mod StepLaws
+pub mod ProgramLaws

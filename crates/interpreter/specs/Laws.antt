@@ -1,0 +1,10 @@
+pub mod DueLaws
+pub mod MovingLaws
+pub mod CountLaws
+pub mod VisitWays
+pub mod TurnLaws
+pub mod RunningLaws
+pub mod RecordLaws
+pub mod GoingLaws
+pub mod SettleWays
+pub mod RunWays

@@ -1,0 +1,13 @@
+pub mod DigitLaws
+pub mod FaultLaws
+pub mod SizeFactsLaws
+pub mod ExprFactsLaws
+pub mod LocalLaws
+pub mod ScopeLaws
+pub mod BodyFactsLaws
+pub mod FollowLaws
+pub mod TotalLaws
+pub mod ProgramTableLaws
+pub mod NameTotalLaws
+pub mod ProgramFactsLaws
+pub mod ByteBoundLaws

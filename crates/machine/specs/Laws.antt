@@ -1,0 +1,11 @@
+pub mod RepresentsLaws
+pub mod PerformedLaws
+pub mod CommandFollows
+pub mod CommandComplete
+pub mod CommandAgrees
+pub mod MoveAgrees
+pub mod RuleUnique
+pub mod MeasureLaws
+pub mod RulesLaws
+pub mod CallLaws
+pub mod FromLaws

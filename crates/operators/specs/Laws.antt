@@ -1,0 +1,10 @@
+pub mod RoundingLaws
+pub mod TestLaws
+pub mod ApplyLaws
+pub mod RangesLaws
+pub mod SignedLaws
+pub mod FloorLaws
+pub mod IntLaws
+pub mod NatLaws
+pub mod WordLaws
+pub mod ValueLaws

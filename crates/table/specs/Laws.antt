@@ -1,0 +1,10 @@
+pub mod EachLaws
+pub mod ValueLaws
+pub mod RefusingLaws
+pub mod FieldLaws
+pub mod TableExact
+pub mod ReferenceLaws
+pub mod TableLaws
+pub mod TableFaultLaws
+pub mod TableViable
+pub mod SizeLaws

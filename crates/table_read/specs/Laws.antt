@@ -1,0 +1,12 @@
+pub mod ParamsLaws
+pub mod LaidLaws
+pub mod ToldLaws
+pub mod ValueWays
+pub mod ValuesWays
+pub mod RecordWays
+pub mod NullWays
+pub mod ReferWays
+pub mod ReferLaws
+pub mod TableWays
+pub mod BeginStands
+pub mod ReadStands
