@@ -53,25 +53,25 @@ abbrev pub two-writers : Program
 two-writers = record {
   params = (ref 1 ∷ []) ∷ (bool ∷ []) ∷ [];
   steps = (record { name = 0; body = next (update (par 0) (0 ∷ []) (bool-lit 1)) end } ∷ [])
-  ∷ (record { name = 0; body = next (update (par 0) [] (bool-lit 0)) end } ∷ [])
-  ∷ [];
+      ∷ (record { name = 0; body = next (update (par 0) [] (bool-lit 0)) end } ∷ [])
+      ∷ [];
   schedule = item (call 0) stop;
 }
 
 abbrev pub racing : Machine
 racing = machine done (
-  resting 0 (label 1 ∷ [])
-  ∷ resting 1 (bool-val false ∷ [])
-  ∷ record {
-    struct = 0;
-    code = n-push bool (bool-val true) ∷ n-this ∷ n-rd 0 0 ∷ n-wr 1 0 ∷ [];
-    stack = [];
-    env = fresh-env (label 3 ∷ []);
-    written = [];
-  }
-  ∷ record { struct = 1; code = n-push bool (bool-val false) ∷ n-this ∷ n-wr 1 0 ∷ []; stack = []; env = fresh-env (bool-val false ∷ []); written = [] }
-  ∷ []
-) [] 0
+    resting 0 (label 1 ∷ [])
+    ∷ resting 1 (bool-val false ∷ [])
+    ∷ record {
+      struct = 0;
+      code = n-push bool (bool-val true) ∷ n-this ∷ n-rd 0 0 ∷ n-wr 1 0 ∷ [];
+      stack = [];
+      env = fresh-env (label 3 ∷ []);
+      written = [];
+    }
+    ∷ record { struct = 1; code = n-push bool (bool-val false) ∷ n-this ∷ n-wr 1 0 ∷ []; stack = []; env = fresh-env (bool-val false ∷ []); written = [] }
+    ∷ []
+    ) [] 0
 
 pub raced : three two-writers 3 0 racing ≡ 20 ∷ 15 ∷ 0 ∷ []
 unfolding running total codes sum value-in one-if at-rest at-refusal after tally-by tally-with tally
@@ -83,11 +83,11 @@ makers = record { params = [] ∷ []; steps = (record { name = 0; body = next (c
 
 abbrev pub crowded : Machine
 crowded = machine done (
-  replicate 253 (resting 0 [])
-  ++ record { struct = 0; code = n-cons 0 ∷ []; stack = []; env = fresh-env []; written = [] }
-  ∷ record { struct = 0; code = n-cons 0 ∷ []; stack = []; env = fresh-env []; written = [] }
-  ∷ []
-) [] 0
+    replicate 253 (resting 0 [])
+    ++ record { struct = 0; code = n-cons 0 ∷ []; stack = []; env = fresh-env []; written = [] }
+    ∷ record { struct = 0; code = n-cons 0 ∷ []; stack = []; env = fresh-env []; written = [] }
+    ∷ []
+    ) [] 0
 
 pub one-place : three makers 0 0 crowded ≡ 0 ∷ 0 ∷ 2 ∷ []
 unfolding running total codes sum value-in one-if at-rest at-refusal after tally-by tally-with tally

@@ -30,8 +30,8 @@ module _ {A : Type 0} where
   fewer (x ∷ xs) ys d h =
       let (us, vs, e) = split ys (h x (List·Memᴰ·head refl)) in
       let k =
-          fewer xs (us ++ vs) (d .1)
-          (λ y u. without x y us vs (λ q. d .0 (subst (λ z. List·Memᴰ z xs) q u)) (subst (λ z. List·Memᴰ y z) e (h y (List·Memᴰ·tail u)))) in
+      fewer xs (us ++ vs) (d .1)
+      (λ y u. without x y us vs (λ q. d .0 (subst (λ z. List·Memᴰ z xs) q u)) (subst (λ z. List·Memᴰ y z) e (h y (List·Memᴰ·tail u)))) in
       omega (arith, k, ap length e, length-append us (x ∷ vs), length-append us vs)
 
   pub distinct-append : (xs ys : List A) → Distinct xs → Distinct ys → ((x : A) → List·Memᴰ x xs → List·Memᴰ x ys → ⊥) → Distinct (xs ++ ys)
@@ -83,7 +83,6 @@ number-single {P} ks x h = record {
   once = (λ u. List·Memᴰ·not-nil u, tt);
   many = refl;
 }
-
 
 -- a sequence with the property whose first label is one of these
 pub record Begins (hs : List ℕ) (P : List ℕ → Type 0) (ls : List ℕ) : Type 0 where
