@@ -9,4 +9,5 @@ pub mod Exact
 pub mod Memory
 pub mod Rounds
 pub mod Orders
+pub mod Counts
 pub mod Laws
