@@ -49,13 +49,16 @@ started-commands p rs n = total (share p (global n)) (first-instances p rs)
 
 -- The stages ---------------------------------------------------------------------------
 
--- 13 of the list, then 7, 21, 8 and 24 of step n, label l and parameter v, after a program and its table
-unfoldable pub with-question : ℕ → ℕ → ℕ → List ℕ → Program × List Record → Begun
-with-question n l v list q =
-    asked (ltb (length list) max-commands) no-room
-    (asked (not (stepped n (q .0 .steps))) wrong-names
+-- 7, 21, 8 and 24 of step n, label l and parameter v, after a program and its table
+unfoldable pub of-question : ℕ → ℕ → ℕ → Program × List Record → Begun
+of-question n l v q =
+    asked (not (stepped n (q .0 .steps))) wrong-names
     (on (given (type-at (q .0) (q .1) l v) absent) λ t. asked (not (is-bool t)) wrong-types
-    (asked (ltb most-counted (started-commands (q .0) (q .1) n)) many-commands (went q))))
+    (asked (ltb most-counted (started-commands (q .0) (q .1) n)) many-commands (went q)))
+
+-- and 13 of the list before them
+unfoldable pub with-question : ℕ → ℕ → ℕ → List ℕ → Program × List Record → Begun
+with-question n l v list q = asked (ltb (length list) max-commands) no-room (of-question n l v q)
 
 -- program image, table image, step name, label, parameter, list
 unfoldable pub count-begins : List ℕ → List ℕ → ℕ → ℕ → ℕ → List ℕ → Begun

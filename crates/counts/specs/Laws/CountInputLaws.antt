@@ -35,7 +35,7 @@ use Rattle.orders.specs.StepAnswer.{alone, step-state}
 use Rattle.orders.specs.Laws.StepAnswerLaws.{stepped-had}
 use Rattle.counts.specs.Counts.{Counts}
 use Rattle.counts.specs.Tally.{Kind, Kind.ends, Kind.stops, tally}
-use Rattle.counts.specs.CountEntry.{most-counted, type-in, type-at, is-bool, started-commands, with-question, count-begins, Counted, counted}
+use Rattle.counts.specs.CountEntry.{most-counted, type-in, type-at, is-bool, started-commands, of-question, with-question, count-begins, Counted, counted}
 use Rattle.counts.specs.CountEntry.{count-machine, count-by, count, count-list}
 use Rattle.counts.specs.CountInput.{Declares, ReadsBoth, NoStep, NoPlace, NotBool, ManyCommands, question-order, count-order, Countable}
 use Rattle.counts.specs.Laws.CountLaws.{step-counts, step-fits}
@@ -155,7 +155,7 @@ module _ (x y : List ℕ) (n l v : ℕ) (list : List ℕ) where
     }
 
   pub tell-count : Stages Asked (count-order x y n l v list) (count-begins x y n l v list)
-  unfolding count-begins with-question
+  unfolding count-begins with-question of-question
   tell-count =
       stage-on (tell-images x y) λ q (a, t). stage-asked no-room (lt-reflects (length list) max-commands) λ h.
       stage-asked wrong-names (no-step a t) λ f. stage-given absent (type-at (q .0) (q .1) l v) (no-place a t) (some-place a t) λ u e.
