@@ -2,6 +2,7 @@
 // 02 §1); include/audala.h declares it.
 pub mod images;
 pub mod listings;
+pub mod tallies;
 pub mod texts;
 
 ghost use mathlib.Core.Path.{_≡_};
