@@ -5,11 +5,12 @@
 //! an image. `example NAME` writes the cases of the example in `NAME.audala`,
 //! `NAME.table` and `NAME.runs`, `runs NAME` what `NAME.runs` has to say.
 //! `exports` writes the cases of the library's further entries, `exports answers`
-//! answers such cases.
+//! answers such cases; `counts` and `counts answers` do so of counts of orders.
 #![forbid(unsafe_code)]
 
 use second::bench::bench;
 use second::cases::Case;
+use second::counts::{self, Count};
 use second::examples::Example;
 use second::exports::{self, Export};
 use second::generate::{Generator, edges::edges, texts};
@@ -20,7 +21,8 @@ use std::io::{self, BufReader, BufWriter, Read, Write};
 use std::process::ExitCode;
 
 const USAGE: &str = "second [listing | edges | generate SEED COUNT | texts [SEED COUNT] | bench \
-    | table PROGRAM TEXT | table-text PROGRAM TABLE | example NAME | runs NAME | exports [answers]]";
+    | table PROGRAM TEXT | table-text PROGRAM TABLE | example NAME | runs NAME | exports [answers] \
+    | counts [answers]]";
 
 fn main() -> ExitCode {
     let words: Vec<String> = std::env::args().skip(1).collect();
@@ -40,6 +42,8 @@ fn main() -> ExitCode {
         },
         ["exports"] => write_exports(),
         ["exports", "answers"] => answer_exports(),
+        ["counts"] => write_counts(),
+        ["counts", "answers"] => answer_counts(),
         ["bench"] => io::stdout().write_all(bench().as_bytes()),
         ["table", program, text] => table(program, text),
         ["table-text", program, table] => print_table(program, table),
@@ -75,6 +79,21 @@ fn answer_exports() -> io::Result<()> {
     let mut input = BufReader::new(io::stdin().lock());
     let mut output = BufWriter::new(io::stdout().lock());
     while let Some(case) = Export::read(&mut input)? {
+        writeln!(output, "{}", case.answer())?;
+    }
+    output.flush()
+}
+
+fn write_counts() -> io::Result<()> {
+    let mut bytes = Vec::new();
+    counts::cases().iter().for_each(|case| case.write(&mut bytes));
+    io::stdout().write_all(&bytes)
+}
+
+fn answer_counts() -> io::Result<()> {
+    let mut input = BufReader::new(io::stdin().lock());
+    let mut output = BufWriter::new(io::stdout().lock());
+    while let Some(case) = Count::read(&mut input)? {
         writeln!(output, "{}", case.answer())?;
     }
     output.flush()

@@ -22,7 +22,9 @@ mod typing;
 
 pub use blocks::{BlockFault, stream, write};
 pub use command::Command;
-pub use engine::{CheckAnswer, PartAnswer, RunAnswer, check, part, run};
+pub use engine::{
+    CheckAnswer, CountAnswer, PartAnswer, Question, RunAnswer, check, count, part, run,
+};
 pub use listing::listing;
 pub use machine::{Traced, trace};
 pub use operators::Operator;
