@@ -6,3 +6,4 @@ pub mod UnmeantLaws
 pub mod EitherLaws
 pub mod CauseLaws
 pub mod ExceedsLaws
+pub mod WithinLaws

@@ -40,23 +40,23 @@ unfoldable pub arguments : Exps → ℕ
 arguments no-exps = zero
 arguments (exps e es) = suc (arguments es)
 
--- what is alive behind a statement, and the names declared in its step: a local lives to the end of the innermost body, its name stays declared
-unfoldable pub alive-behind : Stat → List Local → List Id → List Local
-alive-behind (if-then e b) alive met = alive
-alive-behind (assignment t x e) alive met = declared x (length met) t ∷ alive
-alive-behind (update v e) alive met = alive
-alive-behind (construct x es) alive met = alive
+-- what is alive after a statement, and the names declared in its step: a local lives to the end of the innermost body, its name stays declared
+unfoldable pub alive-after : Stat → List Local → List Id → List Local
+alive-after (if-then e b) alive met = alive
+alive-after (assignment t x e) alive met = declared x (length met) t ∷ alive
+alive-after (update v e) alive met = alive
+alive-after (construct x es) alive met = alive
 
 unfoldable mutual
-  pub met-behind : Stat → List Id → List Id
-  met-behind (if-then e b) met = all-met b met
-  met-behind (assignment t x e) met = x ∷ met
-  met-behind (update v e) met = met
-  met-behind (construct x es) met = met
+  pub met-after : Stat → List Id → List Id
+  met-after (if-then e b) met = all-met b met
+  met-after (assignment t x e) met = x ∷ met
+  met-after (update v e) met = met
+  met-after (construct x es) met = met
 
   pub all-met : Stats → List Id → List Id
   all-met no-stats met = met
-  all-met (stats t b) met = all-met b (met-behind t met)
+  all-met (stats t b) met = all-met b (met-after t met)
 
 module _ (ds : List Struct) where
   -- "a name with no declaration alive at its place": a struct's is alive in the whole text
@@ -66,30 +66,30 @@ module _ (ds : List Struct) where
   pub data NoType : TypeName → Type 0 where
     no-type : {x : Id} → NoStruct x → NoType (id-type x)
 
-  -- a type behind whose values nothing is declared
+  -- a type after whose values nothing is declared
   pub data Leads-nowhere : TypeName → Type 0 where
     int-nowhere : Leads-nowhere int-type
     nat-nowhere : Leads-nowhere nat-type
     bool-nowhere : Leads-nowhere bool-type
     no-struct-there : {x : Id} → NoStruct x → Leads-nowhere (id-type x)
 
-  -- a variable behind a dot: the struct before the dot has no such parameter, or the type before it leads nowhere
+  -- a variable after a dot: the struct before the dot has no such parameter, or the type before it leads nowhere
   mutual
     pub data NoFurther : Struct → Var → Type 0 where
       no-parameter : {d : Struct} {x : Id} → Absent x (map par-id (pars-of d)) → NoFurther d (one-id x)
       no-parameter-before : {d : Struct} {x : Id} {v : Var} → Absent x (map par-id (pars-of d)) → NoFurther d (dot x v)
-      not-behind : {d : Struct} {x : Id} {i : ℕ} {q : Par} {v : Var} → Found par-id x i q (pars-of d) → NotBehind (par-type q) v → NoFurther d (dot x v)
+      not-after : {d : Struct} {x : Id} {i : ℕ} {q : Par} {v : Var} → Found par-id x i q (pars-of d) → NotAfter (par-type q) v → NoFurther d (dot x v)
 
-    pub data NotBehind : TypeName → Var → Type 0 where
-      leads-nowhere : {t : TypeName} {v : Var} → Leads-nowhere t → NotBehind t v
-      not-in : {x : Id} {k : ℕ} {d : Struct} {v : Var} → Found struct-id x k d ds → NoFurther d v → NotBehind (id-type x) v
+    pub data NotAfter : TypeName → Var → Type 0 where
+      leads-nowhere : {t : TypeName} {v : Var} → Leads-nowhere t → NotAfter t v
+      not-in : {x : Id} {k : ℕ} {d : Struct} {v : Var} → Found struct-id x k d ds → NoFurther d v → NotAfter (id-type x) v
 
-  -- the first variable is neither a parameter of the struct at hand nor a living local, or what comes behind it is not declared there
+  -- the first variable is neither a parameter of the struct at hand nor a living local, or what comes after it is not declared there
   pub data NoPath (own : List Par) (alive : List Local) : Var → Type 0 where
     no-variable : {x : Id} → Absent x (map par-id own) → Absent x (map local-id alive) → NoPath own alive (one-id x)
     no-variable-before : {x : Id} {v : Var} → Absent x (map par-id own) → Absent x (map local-id alive) → NoPath own alive (dot x v)
-    not-behind-parameter : {x : Id} {i : ℕ} {q : Par} {v : Var} → Found par-id x i q own → NotBehind (par-type q) v → NoPath own alive (dot x v)
-    not-behind-local : {x : Id} {i : ℕ} {l : Local} {v : Var} → Absent x (map par-id own) → Found local-id x i l alive → NotBehind (local-type l) v
+    not-after-parameter : {x : Id} {i : ℕ} {q : Par} {v : Var} → Found par-id x i q own → NotAfter (par-type q) v → NoPath own alive (dot x v)
+    not-after-local : {x : Id} {i : ℕ} {l : Local} {v : Var} → Absent x (map par-id own) → Found local-id x i l alive → NotAfter (local-type l) v
         → NoPath own alive (dot x v)
 
   -- "other than one argument per parameter"
@@ -131,7 +131,7 @@ module _ (ds : List Struct) where
 
     pub data NoStats (own : List Par) : List Local → List Id → Stats → Type 0 where
       in-first : {alive : List Local} {met : List Id} {t : Stat} {b : Stats} → NoStat own alive met t → NoStats own alive met (stats t b)
-      in-rest : {alive : List Local} {met : List Id} {t : Stat} {b : Stats} → NoStats own (alive-behind t alive met) (met-behind t met) b
+      in-rest : {alive : List Local} {met : List Id} {t : Stat} {b : Stats} → NoStats own (alive-after t alive met) (met-after t met) b
           → NoStats own alive met (stats t b)
 
   pub data NoStep (own : List Par) : Step → Type 0 where

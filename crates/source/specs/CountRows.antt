@@ -55,7 +55,7 @@ sixty-five = refl
 pub sixty-five-written : (out : List ℕ) → block-size * program-blocks ≤ length out
     → of-derivation (some (scheduled (calls 31 (last-item (fixpoint (calls 31 (last-item (fixpoint (last-item (execution s)))))))))) out
     ≡ written (scheduled-meant items-65)
-unfolding scheduled scheduled-meant calls calls-meant items-65 of-derivation of-program holding meanings encodings on asked given
+unfolding scheduled scheduled-meant calls calls-meant items-65 item-count items-count of-derivation of-program holding meanings encodings on asked given
 sixty-five-written out h = rw (le-ltb (length out) (block-size * program-blocks) h) refl
 
 -- 33 items in a row

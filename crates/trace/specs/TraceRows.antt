@@ -137,7 +137,8 @@ trace-rows =
 -- every row's streams have its lines
 pub trace-rows-right : map (λ r. begun-text (begins-streams (r .program) (r .table) (r .turns)) (r .turns)) trace-rows
     ≡ map (λ r. line-bytes (r .lines)) trace-rows
-unfolding trace-rows turned-off running program adding addings P one-in-fix cell single cells erase digits decimal column tail row shown command-text bytes line-bytes
-    move-line moves-by moves turn-line turn-lines trace tagged-text stack-text bits stability-text step-name step-size position next-text change-text param-text
-    target-text flat-writes written-text columns front-text acted-text line-text step-behind turn-behind lines-text end-text end-of run-text begun-text
+unfolding trace-rows turned-off running program adding addings P one-in-fix cell single cells erase digits decimal column tail row shown command-text
+    bytes line-bytes move-line moves-by moves turn-line turn-lines trace tagged-text stack-text bits stability-text step-name step-size position
+    next-text change-text param-text target-text flat-writes written-text columns front-text acted-text line-text step-behind turn-behind lines-text
+    end-text end-of run-text begun-text
 trace-rows-right = refl

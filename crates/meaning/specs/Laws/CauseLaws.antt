@@ -41,11 +41,11 @@ use Rattle.meaning.specs.Means.{ParsMean.pars-mean, StepMeans, StepMeans
 use Rattle.meaning.specs.Means.{ItemMeans.execution-means, ItemMeans.typed-means, ItemMeans.fix-means, SchedMeans, SchedMeans.last-means}
 use Rattle.meaning.specs.Means.{SchedMeans.barrier-means, Means, Means.means}
 use Rattle.meaning.specs.Unmeant.{Among, Among.first, Among.other, One, One.this-one, One.later-one}
-use Rattle.meaning.specs.Unmeant.{Outside, Outside.int-outside, Outside.nat-outside, arguments, alive-behind, met-behind, all-met, NoStruct}
+use Rattle.meaning.specs.Unmeant.{Outside, Outside.int-outside, Outside.nat-outside, arguments, alive-after, met-after, all-met, NoStruct}
 use Rattle.meaning.specs.Unmeant.{NoType, NoType.no-type, Leads-nowhere.int-nowhere, Leads-nowhere.nat-nowhere}
 use Rattle.meaning.specs.Unmeant.{Leads-nowhere.bool-nowhere, Leads-nowhere.no-struct-there, NoFurther, NoFurther.no-parameter}
-use Rattle.meaning.specs.Unmeant.{NoFurther.no-parameter-before, NoFurther.not-behind, NotBehind, NotBehind.leads-nowhere, NotBehind.not-in, NoPath}
-use Rattle.meaning.specs.Unmeant.{NoPath.no-variable, NoPath.no-variable-before, NoPath.not-behind-parameter, NoPath.not-behind-local}
+use Rattle.meaning.specs.Unmeant.{NoFurther.no-parameter-before, NoFurther.not-after, NotAfter, NotAfter.leads-nowhere, NotAfter.not-in, NoPath}
+use Rattle.meaning.specs.Unmeant.{NoPath.no-variable, NoPath.no-variable-before, NoPath.not-after-parameter, NoPath.not-after-local}
 use Rattle.meaning.specs.Unmeant.{Miscounted, Miscounted.miscounted, NoExp, NoExp.in-left, NoExp.in-right, NoExp.in-brackets, NoExp.in-negation}
 use Rattle.meaning.specs.Unmeant.{NoExp.none-constructed, NoExp.in-arguments, NoExp.constructor-miscounted, NoExp.in-variable, NoExp.in-literal}
 use Rattle.meaning.specs.Unmeant.{NoExp.in-null, NoExps, NoExps.in-argument, NoExps.in-more, NoStat, NoStat.in-condition, NoStat.in-body}
@@ -57,7 +57,8 @@ use Rattle.meaning.specs.Unmeant.{NoSched.in-item, NoSched.in-items, Unm
 use Rattle.meaning.specs.Laws.MeantLaws.{range-of}
 use Rattle.meaning.specs.Laws.MeantComplete.{range-test}
 use Rattle.meaning.specs.Laws.UnmeantLaws.{among-absent, arguments-counted, unmeant-none}
-use Rattle.meaning.specs.Laws.EitherLaws.{Or, Or.so, Or.not-so, after, given, each-or, equal-or, absent-or, distinct-or, FoundAt, found-or, among-left, among-right, same-row, once-keeps}
+use Rattle.meaning.specs.Laws.EitherLaws.{Or, Or.so, Or.not-so, after, given, each-or, equal-or, absent-or, distinct-or, FoundAt, found-or}
+use Rattle.meaning.specs.Laws.EitherLaws.{among-left, among-right, same-row, once-keeps}
 
 -- Literals and paths -----------------------------------------------------------------------------
 
@@ -91,24 +92,24 @@ module _ (ds : List Struct) where
   type-or bool-type = so bool bool-is
   type-or (id-type x) = after (struct-or x) no-type λ p f. so (ref (p .at)) (struct-is f)
 
-  -- behind a type: its struct, and the parameters from there on
-  pub record BehindType (t : TypeName) (v : Var) (vs : List ℕ) : Type 0 where
+  -- after a type: its struct, and the parameters from there on
+  pub record AfterType (t : TypeName) (v : Var) (vs : List ℕ) : Type 0 where
     pub referred : Struct
     pub refers-there : Refers ds t referred
     pub further-there : Further ds referred v vs
 
-  behind-or : (v : Var) → ((d : Struct) → Or (List ℕ) (Further ds d v) (NoFurther ds d v)) → (t : TypeName) → Or (List ℕ) (BehindType t v) (NotBehind ds t v)
-  behind-or v g int-type = not-so (leads-nowhere int-nowhere)
-  behind-or v g nat-type = not-so (leads-nowhere nat-nowhere)
-  behind-or v g bool-type = not-so (leads-nowhere bool-nowhere)
-  behind-or v g (id-type x) =
+  after-or : (v : Var) → ((d : Struct) → Or (List ℕ) (Further ds d v) (NoFurther ds d v)) → (t : TypeName) → Or (List ℕ) (AfterType t v) (NotAfter ds t v)
+  after-or v g int-type = not-so (leads-nowhere int-nowhere)
+  after-or v g nat-type = not-so (leads-nowhere nat-nowhere)
+  after-or v g bool-type = not-so (leads-nowhere bool-nowhere)
+  after-or v g (id-type x) =
       after (struct-or x) (λ a. leads-nowhere (no-struct-there a)) λ p f. after (g (p .element)) (not-in f) λ vs h.
       so vs (record { referred = p .element; refers-there = refers f; further-there = h })
 
   further-or : (v : Var) (d : Struct) → Or (List ℕ) (Further ds d v) (NoFurther ds d v)
   further-or (one-id x) d = after (found-or par-id x (pars-of d)) no-parameter λ p f. so (p .at ∷ []) (last f)
   further-or (dot x v) d =
-      after (found-or par-id x (pars-of d)) no-parameter-before λ p f. after (behind-or v (further-or v) (par-type (p .element))) (not-behind f) λ vs b.
+      after (found-or par-id x (pars-of d)) no-parameter-before λ p f. after (after-or v (further-or v) (par-type (p .element))) (not-after f) λ vs b.
       so (p .at ∷ vs) (goes-on f (b .refers-there) (b .further-there))
 
   module _ (own : List Par) (alive : List Local) where
@@ -129,10 +130,10 @@ module _ (ds : List Struct) where
         go : Or (Place Par) (FoundAt par-id x own) (Absent x (map par-id own)) → Or (Place Local) (FoundAt local-id x alive) (Absent x (map local-id alive))
             → Or Variable (Whole (dot x v)) (NoPath ds own alive (dot x v))
         go (so p f) r =
-            after (behind-or v (further-or v) (par-type (p .element))) (not-behind-parameter f) λ vs b.
+            after (after-or v (further-or v) (par-type (p .element))) (not-after-parameter f) λ vs b.
             so (parameter (p .at)) (record { rest = vs; means-path = behind (a-parameter f) (b .refers-there) (b .further-there) })
         go (not-so a) (so p f) =
-            after (behind-or v (further-or v) (local-type (p .element))) (not-behind-local a f) λ vs b.
+            after (after-or v (further-or v) (local-type (p .element))) (not-after-local a f) λ vs b.
             so (local (local-number (p .element))) (record { rest = vs; means-path = behind (a-local a f) (b .refers-there) (b .further-there) })
         go (not-so a) (not-so b) = not-so (no-variable-before a b)
 
@@ -172,10 +173,10 @@ module _ (ds : List Struct) where
       pub means-body : StatsMean ds own alive met b c alive-last (all-met b met)
 
     abbrev StatSo : List Local → List Id → Stat → Stmt → Type 0
-    StatSo alive met t u = StatMeans ds own alive met t u (alive-behind t alive met) (met-behind t met)
+    StatSo alive met t u = StatMeans ds own alive met t u (alive-after t alive met) (met-after t met)
 
     mutual
-      unfolding alive-behind met-behind all-met
+      unfolding alive-after met-after all-met
 
       stat-or : (t : Stat) (alive : List Local) (met : List Id) → Or Stmt (StatSo alive met t) (NoStat ds own alive met t)
       stat-or (if-then e b) alive met =
@@ -193,7 +194,7 @@ module _ (ds : List Struct) where
       stats-or : (b : Stats) (alive : List Local) (met : List Id) → Or Stmts (Body alive met b) (NoStats ds own alive met b)
       stats-or no-stats alive met = so end (record { alive-last = alive; means-body = no-stats-mean })
       stats-or (stats t b) alive met =
-          after (stat-or t alive met) in-first λ u p. after (stats-or b (alive-behind t alive met) (met-behind t met)) in-rest λ c q.
+          after (stat-or t alive met) in-first λ u p. after (stats-or b (alive-after t alive met) (met-after t met)) in-rest λ c q.
           so (next u c) (record { alive-last = q .alive-last; means-body = stats-mean p (q .means-body) })
 
   -- Structs and schedules ------------------------------------------------------------------------

@@ -1,34 +1,13 @@
 -- A program that a derivation means is held by a stream exactly where it has none of the causes of `Exceeds` (02 §1, 17).
-use Prim.Native.Nat.{ℕ, suc, _<_, _≤_}
+use Prim.Native.Nat.{ℕ}
 use native.Mathlib.Omega.{arith}
-use mathlib.Core.Path.{_≡_, refl, sym, ap, _∙_}
-use mathlib.Core.Logic.{_↔_, _⊎_, inl, inr}
-use mathlib.Core.List.{List, [], _∷_, map}
-use lib.ListN.{length, getD}
-use lib.IntN.{ℤ, pos, negsuc}
-use Rattle.types.specs.Limits.{max-structs, max-params, max-steps, step-names, max-statements, max-items, nat-end, first-local, max-locals, max-path}
-use Rattle.types.specs.Types.{Ty, IsType}
-use Rattle.types.specs.Values.{IntRange, int-word}
-use Rattle.program.specs.Tree.{Var as Variable, Var.par as parameter, Var.loc as local, Expr, Exprs, Stmt, Stmts, Item as Call, Items, Step as Named}
-use Rattle.program.specs.Tree.{Program, args, size, items}
-use Rattle.program.specs.Encoding.{enc-program}
+use mathlib.Core.List.{List, map}
+use lib.ListN.{length}
+use Rattle.types.specs.Limits.{max-steps}
+use Rattle.program.specs.Tree.{Var as Variable, Expr, Exprs, Stmt, Stmts, Item as Call, Items, Step as Named}
+use Rattle.program.specs.Tree.{Program}
 use Rattle.program.specs.Counts.{All, Few, IsVar, IsPath, CountsExpr, CountsExprs, CountsItem, CountsItems}
-use Rattle.syntax.specs.Syntax.{Id, TypeName, Literal, Exp, Exps, Stat, Stats, Par, Step, Struct, Defs, Defs.last-struct, Defs.defs, Item, Sched}
-use Rattle.syntax.specs.Syntax.{Program as Derivation}
-use Rattle.meaning.specs.Scope.{Found, Found.here, Found.later, Each, Each.no-more, Each.and-then, struct-id, pars-of, structs-of, Local}
-use Rattle.meaning.specs.StepNames.{step-names as names-of}
-use Rattle.meaning.specs.Values.{decimal, signed}
-use Rattle.meaning.specs.Means.{LiteralMeans, LiteralMeans.int-means, LiteralMeans.nat-means, LiteralMeans.true-means, LiteralMeans.false-means}
-use Rattle.meaning.specs.Means.{TypeMeans, TypeMeans.int-is, TypeMeans.nat-is, TypeMeans.bool-is, TypeMeans.struct-is}
-use Rattle.meaning.specs.Means.{ExpMeans, ExpMeans.binary-means, ExpMeans.brackets-mean, ExpMeans.negation-means, ExpMeans.constructor-means}
-use Rattle.meaning.specs.Means.{ExpMeans.variable-means, ExpMeans.literal-means, ExpMeans.null-means, ExpMeans.this-means, ExpsMean}
-use Rattle.meaning.specs.Means.{ExpsMean.no-exps-mean, ExpsMean.exps-mean}
-use Rattle.meaning.specs.Means.{StatMeans, StatMeans.if-means, StatMeans.assignment-means, StatMeans.update-means, StatMeans.construct-means}
-use Rattle.meaning.specs.Means.{StatsMean, StatsMean.no-stats-mean, StatsMean.stats-mean, ParMeans, ParMeans.par-means, ParsMean}
-use Rattle.meaning.specs.Means.{ParsMean.pars-mean, StepMeans, StepMeans.step-means, StepsMean, StepsMean.steps-mean, ItemMeans}
-use Rattle.meaning.specs.Means.{ItemMeans.execution-means, ItemMeans.typed-means, ItemMeans.fix-means, SchedMeans, SchedMeans.last-means}
-use Rattle.meaning.specs.Means.{SchedMeans.barrier-means, Means, Means.means}
-use Rattle.meaning.specs.Holds.{max-stream, HoldsStmt, HoldsStmts, HoldsStep, HoldsSchedule, Counted, Holds}
+use Rattle.meaning.specs.Holds.{HoldsStmt, HoldsStmts, HoldsStep, HoldsSchedule, Counted, Holds}
 use Rattle.meaning.specs.Unmeant.{One, One.this-one, One.later-one}
 use Rattle.meaning.specs.Exceeds.{LargeVar, LargeVar.large-parameter, LargeVar.large-local, LargePath, LargePath.large-first, LargePath.long-path}
 use Rattle.meaning.specs.Exceeds.{LargePath.large-later, LargeExpr, LargeExpr.large-inv, LargeExpr.large-make, LargeExpr.large-path}
@@ -40,7 +19,6 @@ use Rattle.meaning.specs.Exceeds.{LargeStep.large-step, LargeSteps, Larg
 use Rattle.meaning.specs.Exceeds.{LargeItem.call-in-number, LargeItem.many-in-fix, LargeItem.large-in-fix, LargeItems, LargeItems.large-item}
 use Rattle.meaning.specs.Exceeds.{LargeItems.large-items, Exceeds, Exceeds.many-structs, Exceeds.many-parameters, Exceeds.large-steps}
 use Rattle.meaning.specs.Exceeds.{Exceeds.many-items, Exceeds.large-schedule, Exceeds.many-bytes}
-use Rattle.meaning.specs.Laws.CauseLaws.{below-or}
 
 -- A cause is not held ------------------------------------------------------------------------------
 

@@ -25,10 +25,10 @@ use Rattle.meaning.specs.Means.{ParsMean.pars-mean, StepMeans, StepMeans
 use Rattle.meaning.specs.Means.{ItemMeans.execution-means, ItemMeans.typed-means, ItemMeans.fix-means, SchedMeans, SchedMeans.last-means}
 use Rattle.meaning.specs.Means.{SchedMeans.barrier-means, Means, Means.means}
 use Rattle.meaning.specs.Unmeant.{Among, Among.first, Among.other, Twice, Twice.again, Twice.later-twice, One, One.this-one, One.later-one}
-use Rattle.meaning.specs.Unmeant.{Outside, Outside.int-outside, Outside.nat-outside, arguments, alive-behind, met-behind, all-met}
+use Rattle.meaning.specs.Unmeant.{Outside, Outside.int-outside, Outside.nat-outside, arguments, alive-after, met-after, all-met}
 use Rattle.meaning.specs.Unmeant.{NoType, NoType.no-type, Leads-nowhere, Leads-nowhere.no-struct-there, NoFurther, NoFurther.no-parameter}
-use Rattle.meaning.specs.Unmeant.{NoFurther.no-parameter-before, NoFurther.not-behind, NotBehind, NotBehind.leads-nowhere, NotBehind.not-in, NoPath}
-use Rattle.meaning.specs.Unmeant.{NoPath.no-variable, NoPath.no-variable-before, NoPath.not-behind-parameter, NoPath.not-behind-local}
+use Rattle.meaning.specs.Unmeant.{NoFurther.no-parameter-before, NoFurther.not-after, NotAfter, NotAfter.leads-nowhere, NotAfter.not-in, NoPath}
+use Rattle.meaning.specs.Unmeant.{NoPath.no-variable, NoPath.no-variable-before, NoPath.not-after-parameter, NoPath.not-after-local}
 use Rattle.meaning.specs.Unmeant.{Miscounted, Miscounted.miscounted, NoExp, NoExp.in-left, NoExp.in-right, NoExp.in-brackets, NoExp.in-negation}
 use Rattle.meaning.specs.Unmeant.{NoExp.none-constructed, NoExp.in-arguments, NoExp.constructor-miscounted, NoExp.in-variable, NoExp.in-literal}
 use Rattle.meaning.specs.Unmeant.{NoExp.in-null, NoExps, NoExps.in-argument, NoExps.in-more, NoStat, NoStat.in-condition, NoStat.in-body}
@@ -104,11 +104,11 @@ module _ (ds : List Struct) where
     further-none : {d : Struct} {v : Var} {vs : List ℕ} → NoFurther ds d v → Further ds d v vs → ⊥
     further-none (no-parameter a) (last f) = found-there par-id _ f a
     further-none (no-parameter-before a) (goes-on f r g) = found-there par-id _ f a
-    further-none (not-behind f n) (goes-on {e = e} g r h) = behind-none n (subst (λ q. Refers ds (par-type q) e) (found-one par-id g f) r) h
+    further-none (not-after f n) (goes-on {e = e} g r h) = after-none n (subst (λ q. Refers ds (par-type q) e) (found-one par-id g f) r) h
 
-    behind-none : {t : TypeName} {d : Struct} {v : Var} {vs : List ℕ} → NotBehind ds t v → Refers ds t d → Further ds d v vs → ⊥
-    behind-none (leads-nowhere w) r g = nowhere-none w r
-    behind-none {v = v} {vs = vs} (not-in f n) (refers h) g = further-none n (subst (λ d. Further ds d v vs) (found-one struct-id h f) g)
+    after-none : {t : TypeName} {d : Struct} {v : Var} {vs : List ℕ} → NotAfter ds t v → Refers ds t d → Further ds d v vs → ⊥
+    after-none (leads-nowhere w) r g = nowhere-none w r
+    after-none {v = v} {vs = vs} (not-in f n) (refers h) g = further-none n (subst (λ d. Further ds d v vs) (found-one struct-id h f) g)
 
   module _ (own : List Par) (alive : List Local) where
     start-none : {x : Id} {u : Variable} {t : TypeName} → Absent x (map par-id own) → Absent x (map local-id alive) → Starts ds own alive x u t → ⊥
@@ -118,12 +118,12 @@ module _ (ds : List Struct) where
     path-none : {v : Var} {u : Variable} {vs : List ℕ} → NoPath ds own alive v → PathMeans ds own alive v u vs → ⊥
     path-none (no-variable a b) (alone s) = start-none a b s
     path-none (no-variable-before a b) (behind s r g) = start-none a b s
-    path-none (not-behind-parameter f n) (behind {d = d} (a-parameter g) r h) =
-        behind-none n (subst (λ q. Refers ds (par-type q) d) (found-one par-id g f) r) h
-    path-none (not-behind-parameter f n) (behind (a-local a g) r h) = found-there par-id _ f a
-    path-none (not-behind-local a f n) (behind (a-parameter g) r h) = found-there par-id _ g a
-    path-none (not-behind-local a f n) (behind {d = d} (a-local b g) r h) =
-        behind-none n (subst (λ l. Refers ds (local-type l) d) (found-one local-id g f) r) h
+    path-none (not-after-parameter f n) (behind {d = d} (a-parameter g) r h) =
+        after-none n (subst (λ q. Refers ds (par-type q) d) (found-one par-id g f) r) h
+    path-none (not-after-parameter f n) (behind (a-local a g) r h) = found-there par-id _ f a
+    path-none (not-after-local a f n) (behind (a-parameter g) r h) = found-there par-id _ g a
+    path-none (not-after-local a f n) (behind {d = d} (a-local b g) r h) =
+        after-none n (subst (λ l. Refers ds (local-type l) d) (found-one local-id g f) r) h
 
     pub arguments-counted : {es : Exps} {cs : Exprs} → ExpsMean ds own alive es cs → args cs ≡ arguments es
     unfolding args arguments
@@ -154,20 +154,20 @@ module _ (ds : List Struct) where
   -- Statements -----------------------------------------------------------------------------------
 
   module _ (own : List Par) where
-    -- what is alive and declared behind a statement is told from the statement alone
+    -- what is alive and declared after a statement is told from the statement alone
     mutual
-      unfolding alive-behind met-behind all-met
+      unfolding alive-after met-after all-met
 
-      stat-behind : {alive after : List Local} {met met' : List Id} {t : Stat} {u : Stmt} → StatMeans ds own alive met t u after met'
-          → (after ≡ alive-behind t alive met) × (met' ≡ met-behind t met)
-      stat-behind (if-means p q) = (refl, stats-met q)
-      stat-behind (assignment-means p a b n q) = (rw n refl, refl)
-      stat-behind (update-means p q) = (refl, refl)
-      stat-behind (construct-means f p n) = (refl, refl)
+      stat-after : {alive after : List Local} {met met' : List Id} {t : Stat} {u : Stmt} → StatMeans ds own alive met t u after met'
+          → (after ≡ alive-after t alive met) × (met' ≡ met-after t met)
+      stat-after (if-means p q) = (refl, stats-met q)
+      stat-after (assignment-means p a b n q) = (rw n refl, refl)
+      stat-after (update-means p q) = (refl, refl)
+      stat-after (construct-means f p n) = (refl, refl)
 
       stats-met : {alive after : List Local} {met met' : List Id} {b : Stats} {c : Stmts} → StatsMean ds own alive met b c after met' → met' ≡ all-met b met
       stats-met no-stats-mean = refl
-      stats-met (stats-mean {b = b} p q) = stats-met q ∙ ap (all-met b) (stat-behind p .1)
+      stats-met (stats-mean {b = b} p q) = stats-met q ∙ ap (all-met b) (stat-after p .1)
 
     mutual
       stat-none : {alive after : List Local} {met met' : List Id} {t : Stat} {u : Stmt} → NoStat ds own alive met t
@@ -187,7 +187,7 @@ module _ (ds : List Struct) where
       stats-none : {alive after : List Local} {met met' : List Id} {b : Stats} {c : Stmts} → NoStats ds own alive met b
           → StatsMean ds own alive met b c after met' → ⊥
       stats-none (in-first n) (stats-mean p q) = stat-none n p
-      stats-none (in-rest n) (stats-mean p q) = let (e, f) = stat-behind p in stats-none n (rw (e, f) at q)
+      stats-none (in-rest n) (stats-mean p q) = let (e, f) = stat-after p in stats-none n (rw (e, f) at q)
 
   -- Structs and schedules ------------------------------------------------------------------------
 
