@@ -22,8 +22,7 @@ pub(crate) fn pair(dst: &mut [u8], at: usize, n: usize)
     requires { ⌜ (at + 2 ≤ length (now dst)) × (n < 65536) ⌝ }
     ensures { λ _. ⌜ now (dst .exit) ≡ put (now (dst .entry)) at (pair n) ⌝ }
 {
-    dst[at] = (n % 256) as u8;
-    dst[at + 1] = (n / 256) as u8;
+    little_endian::put_pair(dst, at, n);
 }
 
 // n zero bytes.

@@ -5,19 +5,21 @@ use native.Mathlib.Nat.{add-sub-cancel-left}
 use mathlib.Core.Path.{_≡_, refl, ap, sym, _∙_}
 use mathlib.Core.List.{List, [], _∷_, _++_, append-assoc}
 use lib.ListN.{length, take, drop, set, replicate, length-append, length-replicate, replicate-append-replicate}
-use lib.Seq.{take-at, drop-at, length-take-le}
+use lib.Seq.{sets, sets-eq, take-at, drop-at, length-take-le}
+use Rattle.little_endian.specs.Numbers.{bytes-of}
 use Rattle.block.specs.Put.{put}
-use Rattle.block.specs.Laws.PutLaws.{put-one, put-set, put-next}
+use Rattle.block.specs.Laws.PutLaws.{put-set, put-next}
 use Rattle.block.specs.Sums.{sum-a, sum-b}
 use Rattle.block.specs.Block.{payload-size, pair, front, block-of}
 use Rattle.block.specs.Laws.BlockRoundTrip.{front-length}
 
 -- Bytes -------------------------------------------------------------------------
 
-pub put-pair : (d : List ℕ) (at n : ℕ) → at + 2 ≤ length d → set (set d at (n % 256)) (at + 1) (n / 256) ≡ put d at (pair n)
-unfolding pair
-put-pair d at n h =
-    rw (put-one d at (n % 256) (omega arith)) (put-set d at (n % 256 ∷ []) (n / 256) (omega arith))
+pub put-pair : (d : List ℕ) (at n : ℕ) → at + 2 ≤ length d → n < 65536 → sets d at (bytes-of 2 n) ≡ put d at (pair n)
+unfolding put pair bytes-of
+put-pair d at n h k =
+    let high : n / 256 % 256 ≡ n / 256 = omega arith in
+    sets-eq (bytes-of 2 n) d at h ∙ append-assoc (take at d) (bytes-of 2 n) _ ∙ rw high refl
 
 pub zeros-turn : (d : List ℕ) (at n i : ℕ) → at + n ≤ length d → i < n → set (put d at (replicate i 0)) (at + i) 0 ≡ put d at (replicate (i + 1) 0)
 zeros-turn d at n i fits h =
