@@ -253,6 +253,7 @@ mod tests {
         assert_eq!(trace(&[], &table, &[0]).text, "end 1 0\n");
         assert_eq!(trace(&program, &[], &[0]).text, "end 9 0\n");
         assert_eq!(trace(&program, &table, &[0; 65_537]).text, "end 14 0\n");
+        assert_eq!(trace(&program, &table, &[0; 65_536]).turns, 24);
         assert_eq!(trace(&program, &table, &[]).text, "move s\nend 33 0\n");
     }
 }
