@@ -1,5 +1,6 @@
 // What one command changes of memory, kept beside it and put back (02 §14).
 use crate::copies;
+use commands::kind;
 ghost use mathlib.Core.Path.{_≡_};
 ghost use Prim.Native.Nat.{_+_, _*_, _<_, _≤_};
 ghost use lib.ListN.{length};
@@ -49,9 +50,6 @@ fn row_of(cells: &[u64], l: usize) -> [u64; layout::ROW_SIZE]
     kept
 }
 
-// The kind of a wr.
-const WR: u64 = 4;
-
 // The place that the next command of instance l stores a variable at, if it is a wr; else one in its own row.
 fn stored_at(list: &[u64], heads: &[u16], cells: &[u64], l: usize) -> usize
     requires { ⌜ Fitting (now list) (now heads) (now cells) l ⌝ }
@@ -59,7 +57,7 @@ fn stored_at(list: &[u64], heads: &[u16], cells: &[u64], l: usize) -> usize
 {
     let next = layout::head(heads, l, layout::NEXT);
     let w = list[next];
-    if w % 256 != WR {
+    if w % 256 != kind::WR {
         return layout::ROW_SIZE * l;
     }
     let h = layout::head(heads, l, layout::HEIGHT);
