@@ -122,6 +122,8 @@ static inline const char *audala_message(uint32_t number) {
 #define AUDALA_CHECK_STACK 57344
 #define AUDALA_STEP_STACK 57344
 #define AUDALA_RUN_STACK 133120
+/* of libaudala.a 118,000 as measured with 12 commands open, 1,440 for each; of dist/audala.c not computed yet, so with more room than the others */
+#define AUDALA_COUNT_STACK 163840
 #define AUDALA_READ_IMAGE_STACK 1024
 #define AUDALA_WRITE_IMAGE_STACK 1024
 #define AUDALA_TEXT_STACK 237568
@@ -289,7 +291,7 @@ typedef struct {
  * label (null labels too). The order of the numbers: 1 to 8, 9 to 12, 13 of the list, then 7 (no struct has the step), 21 (the label or the parameter is not there), 8 (it is no Bool), 24
  * (the step has over 12 commands over all its instances, null ones included). A refusal leaves the list; otherwise it holds the commands as after a run. Nothing else is written.
  * With at most 12 commands all orders of a step agree, so exactly one of the three counts is not 0: the answer is all or none, and how many. Every order is followed: 12 commands of 12 instances
- * are 479,001,600 orders (12!), which takes minutes; four instances of three commands are 369,600, which takes well under a second. */
+ * are 479,001,600 orders (12!), which takes some two minutes at 0.2 µs for an order (x86-64); four instances of three commands are 369,600, which takes a tenth of a second. */
 audala_counts audala_count(const uint8_t *program, size_t program_length, const uint8_t *table, size_t table_length, uint32_t name, uint32_t label,
                            uint32_t parameter, uint64_t *list, size_t places);
 
