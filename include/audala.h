@@ -287,11 +287,12 @@ typedef struct {
     uint32_t stopped;      /* that stop with 34 or 35, the label of the refused command included */
 } audala_counts;
 
-/* Counts the orders of one step, started on a table for every struct that has it, whatever the program's schedule: by what they leave in a Bool parameter of a
- * label (null labels too). The order of the numbers: 1 to 8, 9 to 12, 13 of the list, then 7 (no struct has the step), 21 (the label or the parameter is not there), 8 (it is no Bool), 24
- * (the step has over 12 commands over all its instances, null ones included). A refusal leaves the list; otherwise it holds the commands as after a run. Nothing else is written.
- * With at most 12 commands all orders of a step agree, so exactly one of the three counts is not 0: the answer is all or none, and how many. Every order is followed: 12 commands of 12 instances
- * are 479,001,600 orders (12!), which takes some two minutes at 0.2 µs for an order (x86-64); four instances of three commands are 369,600, which takes a tenth of a second. */
+/* Counts the orders of one step, started on a table for every struct that has it, whatever the program's schedule, by what they leave in a Bool parameter
+ * of a label (null labels too). The order of the numbers: 1 to 8, 9 to 12, 13 of the list, then 7 (no struct has the step), 21 (the label or the parameter is
+ * not there), 8 (it is no Bool), 24 (the step has over 12 commands over all its instances, null ones included). A refusal leaves the list; otherwise it holds
+ * the commands as after a run. Nothing else is written. With at most 12 commands all orders of a step agree, so exactly one of the three counts is not 0: the
+ * answer is all or none, and how many. Every order is followed: 12 instances of one command have 479,001,600 orders (12!), which takes some two minutes at
+ * 0.2 microseconds for an order (x86-64); four instances of three commands have 369,600, which takes a tenth of a second. */
 audala_counts audala_count(const uint8_t *program, size_t program_length, const uint8_t *table, size_t table_length, uint32_t name, uint32_t label,
                            uint32_t parameter, uint64_t *list, size_t places);
 
