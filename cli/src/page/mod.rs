@@ -15,6 +15,7 @@ use lanes::{Lanes, SCHEDULE};
 use plot::Plot;
 use svg::{PX, esc, json, n, x};
 use window::Window;
+use words::Verdict;
 
 /// What is asked of a page.
 pub struct Wish<'a> {
@@ -26,8 +27,8 @@ pub struct Wish<'a> {
     pub to: Option<usize>,
 }
 
-/// The page of a run. Where a line is asked for that cannot be drawn, why.
-pub fn page(story: &Story, races: &[Race], wish: &Wish) -> Result<String, String> {
+/// The page of a run, and whether a watched sum keeps to the cap. Where a line is asked for that cannot be drawn, why.
+pub fn page(story: &Story, races: &[Race], wish: &Wish) -> Result<(String, Option<Verdict>), String> {
     let cap = wish.cap.map(|spelled| series::cap(story, spelled)).transpose()?;
     let watch = wish.watch.map(|spelled| series::watched(story, spelled)).transpose()?;
     let also = wish.also.map(|spelled| series::single(story, spelled)).transpose()?;
@@ -58,7 +59,8 @@ pub fn page(story: &Story, races: &[Race], wish: &Wish) -> Result<String, String
     out += &chart(&window, &lanes, &plot, &alt);
     out += &below(&window, &plot, &left_out);
     out += &format!("<script type=\"application/json\" id=\"data\">{}</script>\n", data(&window, &lanes, &plot));
-    Ok(out + &format!("<script>\n{}</script>\n</body>\n</html>\n", include_str!("trace.js")))
+    out += &format!("<script>\n{}</script>\n</body>\n</html>\n", include_str!("trace.js"));
+    Ok((out, verdict))
 }
 
 fn head(title: &str) -> String {
