@@ -6,6 +6,7 @@
 mod acting;
 mod acts;
 mod args;
+mod cause;
 mod engine;
 mod files;
 mod lines;

@@ -1,5 +1,6 @@
 //! A program as the words of the command line have it: read from text or from an image, which its bytes tell apart, accepted by the library, and with names.
 
+use crate::cause::{self, Cause};
 use crate::engine::{self, Verdict};
 use crate::files;
 use crate::names::{Names, names};
@@ -43,6 +44,10 @@ pub struct Step {
 /// The number of a text with a wrong name, literal, argument list or count.
 const WRONG_NAME: u32 = 17;
 
+/// Said where a place is not the library's.
+const LOOKED_FOR: &str =
+    "The library gives the number alone; place and cause were looked for in the text, and are not proved.";
+
 pub const INT: u8 = 0;
 pub const NAT: u8 = 1;
 pub const BOOL: u8 = 2;
@@ -78,8 +83,8 @@ pub fn read(file: &str) -> Result<(Vec<u8>, Option<Vec<u8>>), Failure> {
     }
 }
 
-/// A refusal of a text with its place, as far as one is known. Of a 17 the library has the text's beginning for a declaration and the text's end for a count,
-/// which are no places to mark.
+/// A refusal of a text with its place and its cause, as far as they are known. Of a 17 the library has the text's beginning for a declaration and its end for a
+/// count, which are no places to mark.
 fn text_refused(file: &str, text: &[u8], number: u32) -> Failure {
     let at = engine::place(text);
     let unmarked = match at {
@@ -88,13 +93,37 @@ fn text_refused(file: &str, text: &[u8], number: u32) -> Failure {
         _ if at == text.len() => Some("There is more of something than a program holds; its place is not known."),
         _ => None,
     };
-    let failure = refused(file, number, if unmarked.is_none() { Some(Spot::of(text, at)) } else { None });
-    match (failure, unmarked) {
-        (Failure::Refused(mut refusal), Some(hint)) => {
+    match (cause::of_reading(text, number, at), unmarked) {
+        (Some(cause), None) => explained(file, number, text, cause, None),
+        (Some(cause), Some(_)) => explained(file, number, text, cause, Some(LOOKED_FOR)),
+        (None, None) => refused(file, number, Some(Spot::of(text, at))),
+        (None, Some(hint)) => hinted(refused(file, number, None), hint),
+    }
+}
+
+/// A refusal of a program by the checker, with a place and a cause where the program is a text and they are found in it.
+fn check_refused(file: &str, text: Option<&[u8]>, number: u32) -> Failure {
+    match text.and_then(|text| Some((text, cause::of_check(text, number)?))) {
+        Some((text, cause)) => explained(file, number, text, cause, Some(LOOKED_FOR)),
+        None if (5..=8).contains(&number) => hinted(refused(file, number, None), "The checker gives no place."),
+        None => refused(file, number, None),
+    }
+}
+
+/// A refusal with a cause in the place of what often mends it.
+fn explained(file: &str, number: u32, text: &[u8], found: Cause, label: Option<&str>) -> Failure {
+    let hints = [Some(format!("{}.", found.says)), label.map(str::to_string)].into_iter().flatten().collect();
+    let (cause, spot) = (numbers::meaning(number).to_string(), Some(Spot::of(text, found.at)));
+    Failure::Refused(Box::new(Refusal { file: shown(file), number: Some(number), cause, spot, hints }))
+}
+
+fn hinted(failure: Failure, hint: &str) -> Failure {
+    match failure {
+        Failure::Refused(mut refusal) => {
             refusal.hints.insert(0, hint.to_string());
             Failure::Refused(refusal)
         }
-        (failure, _) => failure,
+        failure => failure,
     }
 }
 
@@ -104,7 +133,7 @@ impl Program {
         let (image, source) = read(file)?;
         let verdict = engine::check(&image);
         if verdict.number != 0 {
-            return Err(refused(file, verdict.number, None));
+            return Err(check_refused(file, source.as_deref(), verdict.number));
         }
         let structs = shapes(&engine::program_stream(&image));
         let mut program = Program {

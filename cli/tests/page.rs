@@ -33,7 +33,12 @@ fn the_page_is_the_stored_one() {
 fn it_says_what_the_run_did() {
     let folder = Folder::new();
     let cap = ["--watch", "Deck.load where on", "--cap", "Oven.cap"];
-    let (breaks, _) = page(&folder, &cap);
+    let (breaks, said) = page(&folder, &cap);
+    assert!(
+        said.contains("  ✗ This order breaks the cap. At turn 68 Deck 4 writes Deck 4.on: false → true."),
+        "{said}"
+    );
+    assert!(page(&folder, &cap[2..]).1.contains("The cap is held to a sum: name one"));
     assert!(breaks.contains("This order breaks the cap.") && breaks.contains("This trips the cap."));
     // One deck after the other: the second one sees the first.
     let (keeps, _) =

@@ -96,12 +96,19 @@ fn html(story: &Story, options: &Options, file: &str) -> Result<String, Failure>
         from: options.from,
         to: options.to,
     };
-    let page = page::page(story, &races, &wish).map_err(|message| misuse(&WORD, message))?;
+    let (page, verdict) = page::page(story, &races, &wish).map_err(|message| misuse(&WORD, message))?;
     files::write(file, page.as_bytes())?;
     if options.plain {
         return Ok(format!("number {}\nturns {}\nraces {}\n", story.number, story.turns, races.len()));
     }
     let mut out = format!("{file}: {} turns, {} of them reads that are overtaken\n", story.turns, races.len());
+    match verdict {
+        Some(verdict) => out += &format!("  {} {}\n", verdict.head, verdict.says),
+        None if wish.cap.is_some() => {
+            out += "  The cap is held to a sum: name one, such as --watch 'Deck.load where on'.\n"
+        }
+        None => {}
+    }
     races.iter().take(10).for_each(|race| out += &format!("  {}\n", race.says));
     Ok(out)
 }
