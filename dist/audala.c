@@ -1,6 +1,6 @@
 /* The AuDaLa engine as one C99 file, to be compiled beside audala.h. It needs memcpy and memset and nothing else, keeps no data and allocates nothing.
  *
- * Written by tools/mir2c: do not edit. 494 functions, from the MIR that the libraries of the proved crates carry.
+ * Written by tools/mir2c: do not edit. 516 functions, from the MIR that the libraries of the proved crates carry.
  * Kit: rattle-kit-5b-plain logic 097e4c862dff5811
  *
  * Proved, of the MIR: that each function meets its contract for every input, and so reads and writes nothing outside of what it is lent, overflows nothing and
@@ -25,6 +25,11 @@ RT_ASSERT(uint64, sizeof(uint64_t) == 8);
 RT_ASSERT(unsigned_stays, sizeof(int) <= sizeof(uint32_t)); /* numbers of 32 bits are not promoted to a signed type */
 RT_ASSERT(length, sizeof(size_t) >= 4 && sizeof(size_t) <= 8); /* a length fits 64 bits, an offset fits a length */
 RT_ASSERT(pointer, offsetof(rt_slice, p) == 0);
+RT_ASSERT(audala_counts, sizeof(audala_counts) == 16);
+RT_ASSERT(audala_counts_number, offsetof(audala_counts, number) == 0);
+RT_ASSERT(audala_counts_true_orders, offsetof(audala_counts, true_orders) == 4);
+RT_ASSERT(audala_counts_false_orders, offsetof(audala_counts, false_orders) == 8);
+RT_ASSERT(audala_counts_stopped, offsetof(audala_counts, stopped) == 12);
 RT_ASSERT(audala_part, sizeof(audala_part) == 12);
 RT_ASSERT(audala_part_number, offsetof(audala_part, number) == 0);
 RT_ASSERT(audala_part_start, offsetof(audala_part, start) == 4);
@@ -143,6 +148,18 @@ struct blocks__Written {
 struct audala__places__Stopped {
     uint64_t f0;
 };
+struct count_images__Counts {
+    uint8_t f0;
+    uint32_t f1;
+    uint32_t f2;
+    uint32_t f3;
+};
+struct audala__tallies__Counts {
+    uint32_t f0;
+    uint32_t f1;
+    uint32_t f2;
+    uint32_t f3;
+};
 struct read_text__Answer {
     uint32_t f0;
     uint32_t f1;
@@ -206,11 +223,6 @@ struct emit__Put {
     uint64_t f0;
     uint64_t f1;
 };
-struct emit_steps__Place {
-    uint64_t f0;
-    uint64_t f1;
-    uint64_t f2;
-};
 struct directory__Row {
     uint16_t f0;
     uint16_t f1;
@@ -232,6 +244,96 @@ struct composing__Placed {
     uint8_t tag;
     uint64_t s0;
 };
+struct layout__Numbers {
+    uint64_t f0;
+    uint64_t f1;
+    uint64_t f2;
+    uint64_t f3;
+    uint8_t f4;
+    uint64_t f5;
+    uint64_t f6;
+};
+struct seating__Seat {
+    uint64_t f0;
+    struct layout__Numbers f1;
+};
+struct count_images__Question {
+    uint64_t f0;
+    uint64_t f1;
+    uint64_t f2;
+};
+struct count_images__Asking {
+    struct seating__Seat f0;
+    struct count_images__Question f1;
+    uint64_t f2;
+    uint64_t f3;
+};
+struct engine__Machine {
+    struct layout__Numbers f0;
+};
+struct counting__count__Asked {
+    uint64_t f0;
+    uint64_t f1;
+};
+struct counting__count__Tally {
+    uint32_t f0;
+    uint32_t f1;
+    uint32_t f2;
+};
+struct rt_array_uint64_1024 {
+    uint64_t a[1024];
+};
+RT_ASSERT(rt_array_uint64_1024, sizeof(struct rt_array_uint64_1024) == 8192 && offsetof(struct rt_array_uint64_1024, a) == 0);
+struct rt_array_uint16_1024 {
+    uint16_t a[1024];
+};
+RT_ASSERT(rt_array_uint16_1024, sizeof(struct rt_array_uint16_1024) == 2048 && offsetof(struct rt_array_uint16_1024, a) == 0);
+struct seating__SeatRead {
+    uint8_t tag;
+    struct seating__Seat s0;
+    uint8_t s1;
+};
+struct rt_array_uint8_8568 {
+    uint8_t a[8568];
+};
+RT_ASSERT(rt_array_uint8_8568, sizeof(struct rt_array_uint8_8568) == 8568 && offsetof(struct rt_array_uint8_8568, a) == 0);
+struct rt_array_uint16_1536 {
+    uint16_t a[1536];
+};
+RT_ASSERT(rt_array_uint16_1536, sizeof(struct rt_array_uint16_1536) == 3072 && offsetof(struct rt_array_uint16_1536, a) == 0);
+struct rt_array_uint64_8192 {
+    uint64_t a[8192];
+};
+RT_ASSERT(rt_array_uint64_8192, sizeof(struct rt_array_uint64_8192) == 65536 && offsetof(struct rt_array_uint64_8192, a) == 0);
+struct seating__Opened {
+    struct load__Loaded f0;
+    struct rt_array_uint8_16 f1;
+    struct rt_array_uint8_128 f2;
+};
+struct rt_array_uint8_5730 {
+    uint8_t a[5730];
+};
+RT_ASSERT(rt_array_uint8_5730, sizeof(struct rt_array_uint8_5730) == 5730 && offsetof(struct rt_array_uint8_5730, a) == 0);
+struct rt_array_uint64_129 {
+    uint64_t a[129];
+};
+RT_ASSERT(rt_array_uint64_129, sizeof(struct rt_array_uint64_129) == 1032 && offsetof(struct rt_array_uint64_129, a) == 0);
+struct rt_array_uint16_6 {
+    uint16_t a[6];
+};
+RT_ASSERT(rt_array_uint16_6, sizeof(struct rt_array_uint16_6) == 12 && offsetof(struct rt_array_uint16_6, a) == 0);
+struct rt_array_uint64_32 {
+    uint64_t a[32];
+};
+RT_ASSERT(rt_array_uint64_32, sizeof(struct rt_array_uint64_32) == 256 && offsetof(struct rt_array_uint64_32, a) == 0);
+struct counting__rows__Saved {
+    struct rt_array_uint16_6 f0;
+    struct rt_array_uint16_6 f1;
+    struct rt_array_uint64_32 f2;
+    struct rt_array_uint64_32 f3;
+    uint64_t f4;
+    uint64_t f5;
+};
 struct text_shape__Act {
     uint8_t tag;
     uint8_t s0;
@@ -244,18 +346,6 @@ struct derive__Mark {
 struct directory__rows__Sought {
     uint8_t tag;
     struct directory__Row s0;
-};
-struct layout__Numbers {
-    uint64_t f0;
-    uint64_t f1;
-    uint64_t f2;
-    uint64_t f3;
-    uint8_t f4;
-    uint64_t f5;
-    uint64_t f6;
-};
-struct engine__Machine {
-    struct layout__Numbers f0;
 };
 struct execute_stack__Acted {
     uint8_t tag;
@@ -321,10 +411,6 @@ struct rt_array_uint64_4 {
     uint64_t a[4];
 };
 RT_ASSERT(rt_array_uint64_4, sizeof(struct rt_array_uint64_4) == 32 && offsetof(struct rt_array_uint64_4, a) == 0);
-struct rt_array_uint64_1024 {
-    uint64_t a[1024];
-};
-RT_ASSERT(rt_array_uint64_1024, sizeof(struct rt_array_uint64_1024) == 8192 && offsetof(struct rt_array_uint64_1024, a) == 0);
 struct read_program__Summary {
     uint8_t f0;
     uint64_t f1;
@@ -415,43 +501,6 @@ struct rt_array_uint8_65537 {
     uint8_t a[65537];
 };
 RT_ASSERT(rt_array_uint8_65537, sizeof(struct rt_array_uint8_65537) == 65537 && offsetof(struct rt_array_uint8_65537, a) == 0);
-struct seating__Seat {
-    uint64_t f0;
-    struct layout__Numbers f1;
-};
-struct seating__SeatRead {
-    uint8_t tag;
-    struct seating__Seat s0;
-    uint8_t s1;
-};
-struct rt_array_uint8_8568 {
-    uint8_t a[8568];
-};
-RT_ASSERT(rt_array_uint8_8568, sizeof(struct rt_array_uint8_8568) == 8568 && offsetof(struct rt_array_uint8_8568, a) == 0);
-struct rt_array_uint16_1536 {
-    uint16_t a[1536];
-};
-RT_ASSERT(rt_array_uint16_1536, sizeof(struct rt_array_uint16_1536) == 3072 && offsetof(struct rt_array_uint16_1536, a) == 0);
-struct rt_array_uint64_8192 {
-    uint64_t a[8192];
-};
-RT_ASSERT(rt_array_uint64_8192, sizeof(struct rt_array_uint64_8192) == 65536 && offsetof(struct rt_array_uint64_8192, a) == 0);
-struct seating__Params {
-    struct rt_array_uint8_16 f0;
-    struct rt_array_uint8_128 f1;
-};
-struct rt_array_uint16_1024 {
-    uint16_t a[1024];
-};
-RT_ASSERT(rt_array_uint16_1024, sizeof(struct rt_array_uint16_1024) == 2048 && offsetof(struct rt_array_uint16_1024, a) == 0);
-struct rt_array_uint64_129 {
-    uint64_t a[129];
-};
-RT_ASSERT(rt_array_uint64_129, sizeof(struct rt_array_uint64_129) == 1032 && offsetof(struct rt_array_uint64_129, a) == 0);
-struct rt_array_uint8_5730 {
-    uint8_t a[5730];
-};
-RT_ASSERT(rt_array_uint8_5730, sizeof(struct rt_array_uint8_5730) == 5730 && offsetof(struct rt_array_uint8_5730, a) == 0);
 struct table_read__TableRead {
     uint8_t tag;
     uint64_t s0;
@@ -468,8 +517,9 @@ struct table_read__reading__CountRead {
     uint8_t s1;
 };
 struct trace_images__telling__Start {
-    struct seating__Seat f0;
-    uint64_t f1;
+    struct seating__Opened f0;
+    struct seating__Seat f1;
+    uint64_t f2;
 };
 struct trace_lines__Coming {
     struct engine__Machine f0;
@@ -529,10 +579,6 @@ struct uses__Scope {
     uint64_t f5;
     uint64_t f6;
 };
-struct rt_array_uint64_32 {
-    uint64_t a[32];
-};
-RT_ASSERT(rt_array_uint64_32, sizeof(struct rt_array_uint64_32) == 256 && offsetof(struct rt_array_uint64_32, a) == 0);
 struct uses__Passed {
     uint8_t tag;
     struct uses__Scope s0;
@@ -586,6 +632,7 @@ static inline struct audala__images__Copied audala__images__of_read(struct block
 static inline struct audala__images__Copied audala__images__of_written(struct blocks__Written l1);
 static inline struct audala__images__Copied audala__listings__audala_listing(rt_slice l1, rt_slice l2);
 static inline struct audala__places__Stopped audala__places__audala_place(rt_slice l1);
+static inline struct audala__tallies__Counts audala__tallies__audala_count(rt_slice l1, rt_slice l2, uint32_t l3, uint32_t l4, uint32_t l5, rt_slice l6);
 static inline struct audala__images__Copied audala__texts__audala_text(rt_slice l1, rt_slice l2);
 static inline struct audala__traces__Traced audala__traces__audala_trace(rt_slice l1, rt_slice l2, rt_slice l3, uint64_t l4, rt_slice l5);
 static inline struct block__Found block__block_fault(rt_slice l1, uint64_t l2, uint8_t l3);
@@ -622,7 +669,7 @@ static inline struct emit__Put compile__items__add(rt_slice l1, struct emit__Put
 static inline struct emit__Put compile__items__item(rt_slice l1, uint64_t l2, uint64_t l3, rt_slice l4, uint64_t l5);
 static inline struct emit__Put compile__items__items(rt_slice l1, uint64_t l2, uint64_t l3, rt_slice l4, uint64_t l5);
 static inline struct emit__Put compile__items__schedule(rt_slice l1, uint64_t l2, rt_slice l3);
-static inline void compile__program(rt_slice l1, rt_slice l2, uint64_t l3, rt_slice l4, rt_slice l5, rt_slice l6);
+static inline void compile__program(rt_slice l1, uint64_t l2, uint64_t l3, rt_slice l4, uint64_t l5, rt_slice l6, rt_slice l7);
 static inline void compile__spans__clear(rt_slice l1, uint64_t l2);
 static inline void compile__spans__note(rt_slice l1, uint64_t l2, rt_slice l3);
 static inline void compile__spans__note_row(rt_slice l1, struct directory__Row l2);
@@ -658,6 +705,28 @@ static inline struct composing__Pen composing__waiting__popped(struct composing_
 static inline struct composing__Pen composing__waiting__stacked(rt_slice l1, rt_slice l2, struct composing__Pen l3, uint8_t l4, uint8_t l5);
 static inline struct composing__Pen composing__write(rt_slice l1, rt_slice l2, rt_slice l3, rt_slice l4, rt_slice l5);
 static inline struct composing__Pen composing__written(rt_slice l1, rt_slice l2, rt_slice l3, rt_slice l4, rt_slice l5, rt_slice l6);
+static inline struct count_images__Counts count_images__answered(rt_slice l1, rt_slice l2, rt_slice l3, rt_slice l4, struct count_images__Asking l5, rt_slice l6, rt_slice l7);
+static inline struct count_images__Counts count_images__begun(struct seating__Opened l1, rt_slice l2, rt_slice l3, rt_slice l4, struct count_images__Question l5, rt_slice l6);
+static inline struct count_images__Counts count_images__count(rt_slice l1, rt_slice l2, uint32_t l3, uint32_t l4, uint32_t l5, rt_slice l6);
+static inline uint8_t count_images__has_step(rt_slice l1, uint64_t l2, uint64_t l3);
+static inline uint8_t count_images__place_number(rt_slice l1, rt_slice l2, rt_slice l3, uint64_t l4, struct count_images__Question l5);
+static inline void count_images__prepared(rt_slice l1, rt_slice l2, rt_slice l3, struct count_images__Asking l4, rt_slice l5, rt_slice l6);
+static inline struct count_images__Counts count_images__refused(uint8_t l1);
+static inline void counting__copies__cells(rt_slice l1, uint64_t l2, rt_slice l3);
+static inline void counting__copies__numbers(rt_slice l1, uint64_t l2, rt_slice l3);
+static inline struct counting__count__Tally counting__count__add(struct counting__count__Tally l1, struct counting__count__Tally l2);
+static inline struct counting__count__Tally counting__count__all(struct engine__Machine l1, rt_slice l2, rt_slice l3, rt_slice l4, rt_slice l5, struct counting__count__Asked l6);
+static inline uint64_t counting__count__commands(rt_slice l1, uint64_t l2);
+static inline uint64_t counting__count__held(rt_slice l1, uint64_t l2);
+static inline struct counting__count__Tally counting__count__nothing(void);
+static inline struct counting__count__Tally counting__count__one(struct engine__Machine l1, rt_slice l2, rt_slice l3, rt_slice l4, rt_slice l5, uint64_t l6, struct counting__count__Asked l7);
+static inline struct counting__count__Tally counting__count__resting(rt_slice l1, struct counting__count__Asked l2);
+static inline uint64_t counting__rows__fresh_row(uint64_t l1, uint64_t l2);
+static inline struct rt_array_uint16_6 counting__rows__numbers_of(rt_slice l1, uint64_t l2);
+static inline void counting__rows__restore(rt_slice l1, rt_slice l2, uint64_t l3, uint64_t l4, struct counting__rows__Saved l5);
+static inline struct rt_array_uint64_32 counting__rows__row_of(rt_slice l1, uint64_t l2);
+static inline struct counting__rows__Saved counting__rows__save(rt_slice l1, rt_slice l2, rt_slice l3, uint64_t l4, uint64_t l5);
+static inline uint64_t counting__rows__stored_at(rt_slice l1, rt_slice l2, rt_slice l3, uint64_t l4);
 static inline struct text_shape__Act derive__act_at(rt_slice l1, rt_slice l2, uint64_t l3);
 static inline struct derive__Mark derive__below(rt_slice l1, rt_slice l2, rt_slice l3, uint64_t l4, uint8_t l5);
 static inline struct derive__Mark derive__dead(void);
@@ -704,9 +773,8 @@ static inline struct emit__Put emit__words__path(rt_slice l1, uint64_t l2, rt_sl
 static inline struct emit__Put emit__words__reads(rt_slice l1, uint64_t l2, uint8_t l3, rt_slice l4, uint64_t l5);
 static inline void emit__words__store(rt_slice l1, uint64_t l2, uint64_t l3);
 static inline struct emit__Put emit__words__target(rt_slice l1, uint64_t l2, rt_slice l3, uint64_t l4);
-static inline struct emit_steps__Place emit_steps__of_struct(rt_slice l1, rt_slice l2, uint16_t l3, struct emit_steps__Place l4, rt_slice l5, rt_slice l6);
-static inline struct emit_steps__Place emit_steps__program(rt_slice l1, rt_slice l2, uint64_t l3, rt_slice l4, rt_slice l5);
-static inline struct emit_steps__Place emit_steps__step(rt_slice l1, rt_slice l2, uint16_t l3, struct emit_steps__Place l4, rt_slice l5, rt_slice l6);
+static inline struct emit__Put emit_steps__of_struct(rt_slice l1, rt_slice l2, struct emit__Put l3, rt_slice l4);
+static inline void emit_steps__program(rt_slice l1, rt_slice l2, uint64_t l3, rt_slice l4);
 static inline struct engine__Machine engine__Machine__advance(struct engine__Machine l1, rt_slice l2, rt_slice l3, rt_slice l4);
 static inline struct engine__Machine engine__Machine__command(struct engine__Machine l1, rt_slice l2, rt_slice l3, rt_slice l4, rt_slice l5, uint64_t l6);
 static inline struct layout__Numbers engine__after(struct layout__Numbers l1, struct execute_stack__Acted l2);
@@ -820,7 +888,6 @@ static inline struct load__Load load__of_stream(rt_slice l1, rt_slice l2, rt_sli
 static inline struct load__Load load__program(rt_slice l1, rt_slice l2, rt_slice l3, rt_slice l4, rt_slice l5);
 static inline uint8_t load__refusal(struct load__Load l1);
 static inline struct load__Loaded load__summed(uint64_t l1, uint64_t l2, struct read_program__Summary l3);
-static inline struct load__Load load__tables(rt_slice l1, rt_slice l2, rt_slice l3, rt_slice l4);
 static inline struct read_exprs__read__ExprRead read_exprs__expr__anew(struct read_exprs__read__ExprRead l1);
 static inline struct read_exprs__read__ExprRead read_exprs__expr__around(struct read_exprs__read__ExprRead l1);
 static inline struct read_exprs__read__ExprRead read_exprs__expr__beside(uint8_t l1, struct judge__Facts l2, struct read_exprs__read__ExprRead l3);
@@ -853,6 +920,7 @@ static inline struct read_program__ProgramRead read_program__program(rt_slice l1
 static inline uint8_t read_program__program_refusal(struct read_program__ProgramRead l1);
 static inline struct read_program__ProgramRead read_program__rest(rt_slice l1, rt_slice l2, rt_slice l3, rt_slice l4, uint8_t l5, uint64_t l6);
 static inline struct read_program__Summary read_program__summed(uint8_t l1, uint64_t l2, struct read_program__totals__Totals l3, struct read_schedule__Planned l4);
+static inline uint8_t read_program__totals__listed(rt_slice l1, uint64_t l2, uint8_t l3, uint8_t l4);
 static inline struct read_program__totals__Totals read_program__totals__none(void);
 static inline uint8_t read_program__totals__noted(rt_slice l1, uint8_t l2, uint8_t l3, struct read_program__totals__Totals l4, struct judge__Done l5);
 static inline struct read_program__totals__TotalsRead read_program__totals__of_struct(rt_slice l1, rt_slice l2, rt_slice l3, rt_slice l4, uint8_t l5, struct read_program__totals__Totals l6, uint64_t l7);
@@ -911,10 +979,10 @@ static inline uint64_t resolve__tables__add(rt_slice l1, uint64_t l2, uint64_t l
 static inline uint64_t resolve__tables__counted(uint64_t l1, uint8_t l2);
 static inline uint8_t resolve__tables__distinct(rt_slice l1, rt_slice l2);
 static inline void resolve__tables__put(rt_slice l1, uint64_t l2, uint64_t l3);
-static inline struct run_images__Report run_images__begun(struct load__Loaded l1, struct seating__Params l2, rt_slice l3, rt_slice l4, rt_slice l5, rt_slice l6, rt_slice l7);
-static inline struct interpreter__turns__Ran run_images__played(rt_slice l1, rt_slice l2, struct seating__Seat l3, rt_slice l4, rt_slice l5, rt_slice l6, rt_slice l7);
+static inline struct run_images__Report run_images__begun(struct seating__Opened l1, rt_slice l2, rt_slice l3, rt_slice l4, rt_slice l5, rt_slice l6, rt_slice l7);
 static inline struct run_images__Report run_images__refused(uint8_t l1);
 static inline struct run_images__Report run_images__reported(rt_slice l1, rt_slice l2, rt_slice l3, struct interpreter__turns__Ran l4, uint8_t l5, rt_slice l6, rt_slice l7);
+static inline uint8_t run_images__room(uint64_t l1, uint64_t l2, uint64_t l3);
 static inline struct run_images__Report run_images__run(rt_slice l1, rt_slice l2, rt_slice l3, rt_slice l4, rt_slice l5);
 static inline void scheduler__begin__begin_all(rt_slice l1, rt_slice l2, uint64_t l3, uint64_t l4);
 static inline void scheduler__begin__begin_one(rt_slice l1, rt_slice l2, uint64_t l3, uint64_t l4);
@@ -923,7 +991,7 @@ static inline uint64_t scheduler__count__holding(rt_slice l1, uint64_t l2);
 static inline struct layout__Numbers scheduler__schedule__advance(struct layout__Numbers l1, rt_slice l2, rt_slice l3, rt_slice l4);
 static inline struct layout__Numbers scheduler__schedule__fix(struct layout__Numbers l1);
 static inline struct layout__Numbers scheduler__schedule__round(uint64_t l1, struct layout__Numbers l2);
-static inline struct load__Load seating__admit(rt_slice l1, rt_slice l2, rt_slice l3, rt_slice l4);
+static inline struct load__Load seating__admit(rt_slice l1, rt_slice l2, rt_slice l3, rt_slice l4, rt_slice l5);
 static inline uint8_t seating__refusal(struct seating__SeatRead l1);
 static inline struct seating__SeatRead seating__seat_table(uint64_t l1, rt_slice l2, rt_slice l3, rt_slice l4, rt_slice l5, rt_slice l6, rt_slice l7);
 static inline uint8_t seating__table_refusal(struct table_read__TableRead l1);
@@ -976,7 +1044,7 @@ static inline uint64_t text_place__stopped(rt_slice l1, rt_slice l2, rt_slice l3
 static inline uint64_t text_place__stuck(rt_slice l1, rt_slice l2);
 static inline uint64_t text_place__unmarked(rt_slice l1);
 static inline uint64_t text_place__unnamed(rt_slice l1, rt_slice l2, rt_slice l3);
-static inline struct trace_images__Traced trace_images__begun(struct load__Loaded l1, struct seating__Params l2, rt_slice l3, rt_slice l4, rt_slice l5, uint64_t l6, rt_slice l7);
+static inline struct trace_images__Traced trace_images__begun(struct seating__Opened l1, rt_slice l2, rt_slice l3, rt_slice l4, rt_slice l5, uint64_t l6, rt_slice l7);
 static inline struct trace_images__pages__Page trace_images__pages__blank(uint64_t l1);
 static inline struct trace_images__Traced trace_images__pages__ended(struct trace_images__pages__Page l1, uint8_t l2, uint64_t l3, rt_slice l4);
 static inline uint64_t trace_images__pages__least(uint64_t l1, uint64_t l2);
@@ -1669,6 +1737,25 @@ static inline struct audala__places__Stopped audala__places__audala_place(rt_sli
     return l0;
 }
 
+static inline struct audala__tallies__Counts audala__tallies__audala_count(rt_slice l1, rt_slice l2, uint32_t l3, uint32_t l4, uint32_t l5, rt_slice l6)
+{
+    struct audala__tallies__Counts l0;
+    struct count_images__Counts l7;
+    uint8_t *l8;
+    rt_slice l9;
+    uint32_t l10;
+    l8 = (uint8_t *)&(*(uint64_t *)l6.p);
+    l9.p = l8;
+    l9.n = l6.n;
+    l7 = count_images__count(l1, l2, l3, l4, l5, l9);
+    l10 = (uint32_t)l7.f0;
+    l0.f0 = l10;
+    l0.f1 = l7.f1;
+    l0.f2 = l7.f2;
+    l0.f3 = l7.f3;
+    return l0;
+}
+
 static inline struct audala__images__Copied audala__texts__audala_text(rt_slice l1, rt_slice l2)
 {
     struct audala__images__Copied l0;
@@ -1806,20 +1893,12 @@ end1:;
 
 static inline void block__put__pair(rt_slice l1, uint64_t l2, uint64_t l3)
 {
-    uint64_t l4;
-    uint8_t l5;
-    uint8_t *l6;
-    uint64_t l7;
-    uint8_t *l8;
-    l4 = (uint64_t)((uint64_t)l3 % (uint64_t)UINT64_C(256));
-    l5 = (uint8_t)l4;
-    l6 = l1.p + (size_t)l2;
-    (*(uint8_t *)l6) = l5;
-    l4 = (uint64_t)((uint64_t)l3 / (uint64_t)UINT64_C(256));
-    l5 = (uint8_t)l4;
-    l7 = (uint64_t)((uint64_t)l2 + (uint64_t)UINT64_C(1));
-    l8 = l1.p + (size_t)l7;
-    (*(uint8_t *)l8) = l5;
+    uint8_t *l5;
+    rt_slice l6;
+    l5 = (uint8_t *)&(*(uint8_t *)l1.p);
+    l6.p = l5;
+    l6.n = l1.n;
+    little_endian__put_pair(l6, l2, l3);
     return;
 }
 
@@ -2489,8 +2568,6 @@ static inline struct checker__Verdict checker__check(rt_slice l1, rt_slice l2)
     rt_slice l26;
     uint8_t *l27;
     rt_slice l28;
-    uint8_t *l29;
-    rt_slice l30;
     memset(&l3, 0, sizeof l3);
     memset(&l4, 0, sizeof l4);
     memset(&l5, 0, sizeof l5);
@@ -2537,10 +2614,7 @@ static inline struct checker__Verdict checker__check(rt_slice l1, rt_slice l2)
     l27 = (uint8_t *)&(*(uint64_t *)l2.p);
     l28.p = l27;
     l28.n = l2.n;
-    l29 = (uint8_t *)&l6;
-    l30.p = l29;
-    l30.n = UINT64_C(512);
-    (void)emit_steps__program(l24, l26, l8.f1, l28, l30);
+    emit_steps__program(l24, l26, l8.f1, l28);
     l0 = checker__accepted(l8);
     return l0;
 }
@@ -2727,45 +2801,20 @@ static inline struct emit__Put compile__items__schedule(rt_slice l1, uint64_t l2
     return l0;
 }
 
-static inline void compile__program(rt_slice l1, rt_slice l2, uint64_t l3, rt_slice l4, rt_slice l5, rt_slice l6)
+static inline void compile__program(rt_slice l1, uint64_t l2, uint64_t l3, rt_slice l4, uint64_t l5, rt_slice l6, rt_slice l7)
 {
-    struct rt_array_uint16_512 l7;
-    struct emit_steps__Place l8;
-    uint64_t l9;
-    uint64_t l10;
-    uint8_t *l11;
-    rt_slice l12;
-    uint8_t *l13;
-    rt_slice l14;
-    uint8_t *l16;
-    rt_slice l17;
-    uint64_t l18;
-    uint8_t *l19;
-    rt_slice l20;
-    uint8_t *l22;
-    rt_slice l23;
-    memset(&l7, 0, sizeof l7);
-    l11 = (uint8_t *)&(*(uint64_t *)l4.p);
-    l12.p = l11;
-    l12.n = l4.n;
-    l13 = (uint8_t *)&l7;
-    l14.p = l13;
-    l14.n = UINT64_C(512);
-    l8 = emit_steps__program(l1, l2, l3, l12, l14);
-    l9 = l8.f0;
-    l10 = l8.f2;
-    l16 = (uint8_t *)&l7;
-    l17.p = l16;
-    l17.n = UINT64_C(512);
-    l18 = l2.n;
-    l19 = (uint8_t *)&(*(uint16_t *)l5.p);
-    l20.p = l19;
-    l20.n = l5.n;
-    compile__spans__of_rows(l17, l10, l18, l20);
-    l22 = (uint8_t *)&(*(uint64_t *)l6.p);
-    l23.p = l22;
-    l23.n = l6.n;
-    (void)compile__items__schedule(l1, l9, l23);
+    uint8_t *l9;
+    rt_slice l10;
+    uint8_t *l12;
+    rt_slice l13;
+    l9 = (uint8_t *)&(*(uint16_t *)l6.p);
+    l10.p = l9;
+    l10.n = l6.n;
+    compile__spans__of_rows(l4, l5, l3, l10);
+    l12 = (uint8_t *)&(*(uint64_t *)l7.p);
+    l13.p = l12;
+    l13.n = l7.n;
+    (void)compile__items__schedule(l1, l2, l13);
     return;
 }
 
@@ -3830,6 +3879,914 @@ static inline struct composing__Pen composing__written(rt_slice l1, rt_slice l2,
     }
 end1:;
     l0 = l7;
+    return l0;
+}
+
+static inline struct count_images__Counts count_images__answered(rt_slice l1, rt_slice l2, rt_slice l3, rt_slice l4, struct count_images__Asking l5, rt_slice l6, rt_slice l7)
+{
+    struct count_images__Counts l0;
+    struct rt_array_uint64_1024 l8;
+    struct rt_array_uint16_1024 l9;
+    struct count_images__Question l10;
+    struct layout__Numbers l11;
+    uint8_t l12;
+    struct counting__count__Tally l13;
+    uint8_t *l15;
+    rt_slice l16;
+    uint8_t *l17;
+    rt_slice l18;
+    uint8_t l19;
+    uint8_t *l20;
+    rt_slice l21;
+    uint64_t l22;
+    uint8_t l23;
+    uint8_t *l24;
+    rt_slice l25;
+    uint8_t *l26;
+    rt_slice l27;
+    uint8_t *l28;
+    rt_slice l29;
+    uint8_t *l30;
+    rt_slice l31;
+    uint8_t *l32;
+    rt_slice l33;
+    struct engine__Machine l34;
+    uint8_t *l35;
+    rt_slice l36;
+    uint8_t *l37;
+    rt_slice l38;
+    uint8_t *l39;
+    rt_slice l40;
+    struct counting__count__Asked l41;
+    memset(&l8, 0, sizeof l8);
+    memset(&l9, 0, sizeof l9);
+    l15 = (uint8_t *)&l8;
+    l16.p = l15;
+    l16.n = UINT64_C(1024);
+    l17 = (uint8_t *)&l9;
+    l18.p = l17;
+    l18.n = UINT64_C(1024);
+    count_images__prepared(l1, l2, l4, l5, l16, l18);
+    l10 = l5.f1;
+    l19 = (uint8_t)(UINT64_C(32) <= l10.f0);
+    if (l19) {
+        l0 = count_images__refused(UINT8_C(7));
+        return l0;
+    }
+    l20 = (uint8_t *)&l9;
+    l21.p = l20;
+    l21.n = UINT64_C(1024);
+    l22 = l2.n;
+    l19 = count_images__has_step(l21, l22, l10.f0);
+    l23 = (uint8_t)!l19;
+    if (l23) {
+        l0 = count_images__refused(UINT8_C(7));
+        return l0;
+    }
+    l11 = l5.f0.f1;
+    l24 = (uint8_t *)&(*(uint16_t *)l6.p);
+    l25.p = l24;
+    l25.n = l6.n;
+    l12 = count_images__place_number(l25, l2, l3, l11.f0, l10);
+    l19 = (uint8_t)(l12 != UINT8_C(0));
+    if (l19) {
+        l0 = count_images__refused(l12);
+        return l0;
+    }
+    l26 = (uint8_t *)&l9;
+    l27.p = l26;
+    l27.n = UINT64_C(1024);
+    l28 = (uint8_t *)&(*(uint16_t *)l6.p);
+    l29.p = l28;
+    l29.n = l6.n;
+    scheduler__begin__begin_all(l27, l29, l10.f0, l11.f0);
+    l30 = (uint8_t *)&(*(uint16_t *)l6.p);
+    l31.p = l30;
+    l31.n = l6.n;
+    l22 = counting__count__commands(l31, l11.f0);
+    l19 = (uint8_t)(UINT64_C(12) < l22);
+    if (l19) {
+        l0 = count_images__refused(UINT8_C(24));
+        return l0;
+    }
+    l32 = (uint8_t *)&(*(uint16_t *)l6.p);
+    l33.p = l32;
+    l33.n = l6.n;
+    l11.f5 = scheduler__count__holding(l33, l11.f0);
+    l34.f0 = l11;
+    l35 = (uint8_t *)&l8;
+    l36.p = l35;
+    l36.n = UINT64_C(1024);
+    l37 = (uint8_t *)&(*(uint16_t *)l6.p);
+    l38.p = l37;
+    l38.n = l6.n;
+    l39 = (uint8_t *)&(*(uint64_t *)l7.p);
+    l40.p = l39;
+    l40.n = l7.n;
+    l41.f0 = l10.f1;
+    l41.f1 = l10.f2;
+    l13 = counting__count__all(l34, l36, l2, l38, l40, l41);
+    l0.f0 = UINT8_C(0);
+    l0.f1 = l13.f0;
+    l0.f2 = l13.f1;
+    l0.f3 = l13.f2;
+    return l0;
+}
+
+static inline struct count_images__Counts count_images__begun(struct seating__Opened l1, rt_slice l2, rt_slice l3, rt_slice l4, struct count_images__Question l5, rt_slice l6)
+{
+    struct count_images__Counts l0;
+    struct load__Loaded l7;
+    struct rt_array_uint8_16 l8;
+    struct rt_array_uint8_128 l9;
+    uint64_t l10;
+    uint64_t l11;
+    rt_slice l12;
+    rt_slice l13;
+    struct rt_array_uint8_8568 l14;
+    struct rt_array_uint16_1536 l15;
+    struct rt_array_uint64_8192 l16;
+    struct seating__SeatRead l17;
+    struct seating__Seat l18;
+    struct count_images__Asking l19;
+    struct count_images__Counts l20;
+    uint8_t *l21;
+    uint8_t *l22;
+    uint8_t *l23;
+    rt_slice l24;
+    uint8_t *l25;
+    rt_slice l26;
+    uint8_t *l27;
+    rt_slice l28;
+    uint8_t l29;
+    uint64_t l30;
+    uint8_t l31;
+    uint8_t *l32;
+    rt_slice l33;
+    uint8_t *l34;
+    rt_slice l35;
+    uint8_t *l37;
+    rt_slice l38;
+    l7 = l1.f0;
+    l8 = l1.f1;
+    l9 = l1.f2;
+    l10 = (uint64_t)l7.f3;
+    l11 = (uint64_t)((uint64_t)UINT64_C(8) * (uint64_t)l10);
+    l21 = (uint8_t *)&l8;
+    l12.p = l21;
+    l12.n = l10;
+    l22 = (uint8_t *)&l9;
+    l13.p = l22;
+    l13.n = l11;
+    memset(&l14, 0, sizeof l14);
+    memset(&l15, 0, sizeof l15);
+    memset(&l16, 0, sizeof l16);
+    l23 = (uint8_t *)&l14;
+    l24.p = l23;
+    l24.n = UINT64_C(8568);
+    l25 = (uint8_t *)&l15;
+    l26.p = l25;
+    l26.n = UINT64_C(1536);
+    l27 = (uint8_t *)&l16;
+    l28.p = l27;
+    l28.n = UINT64_C(8192);
+    l17 = seating__seat_table(l7.f1, l12, l13, l4, l24, l26, l28);
+    switch (l17.tag) {
+        case UINT8_C(0): {
+            l18 = l17.s0;
+            break;
+        }
+        case UINT8_C(1): default: {
+            l29 = seating__refusal(l17);
+            l0 = count_images__refused(l29);
+            return l0;
+            break;
+        }
+    }
+    l30 = l6.n;
+    l31 = (uint8_t)(l30 < UINT64_C(1024));
+    if (l31) {
+        l0 = count_images__refused(UINT8_C(13));
+        return l0;
+    }
+    l30 = (uint64_t)l7.f4;
+    l19.f0 = l18;
+    l19.f1 = l5;
+    l19.f2 = l7.f2;
+    l19.f3 = l30;
+    l32 = (uint8_t *)&l15;
+    l33.p = l32;
+    l33.n = UINT64_C(1536);
+    l34 = (uint8_t *)&l16;
+    l35.p = l34;
+    l35.n = UINT64_C(8192);
+    l20 = count_images__answered(l2, l12, l13, l3, l19, l33, l35);
+    l31 = (uint8_t)(l20.f0 != UINT8_C(0));
+    if (l31) {
+        l0 = l20;
+        return l0;
+    }
+    l37 = (uint8_t *)&(*(uint64_t *)l6.p);
+    l38.p = l37;
+    l38.n = l6.n;
+    emit_steps__program(l2, l12, l18.f0, l38);
+    l0 = l20;
+    return l0;
+}
+
+static inline struct count_images__Counts count_images__count(rt_slice l1, rt_slice l2, uint32_t l3, uint32_t l4, uint32_t l5, rt_slice l6)
+{
+    struct count_images__Counts l0;
+    struct rt_array_uint8_5730 l7;
+    struct rt_array_uint8_16 l8;
+    struct rt_array_uint8_128 l9;
+    struct rt_array_uint16_512 l10;
+    struct load__Load l11;
+    struct load__Loaded l12;
+    uint64_t l13;
+    struct seating__Opened l14;
+    struct count_images__Question l15;
+    uint8_t *l16;
+    rt_slice l17;
+    uint8_t *l18;
+    rt_slice l19;
+    uint8_t *l20;
+    rt_slice l21;
+    uint8_t *l22;
+    rt_slice l23;
+    uint8_t l24;
+    struct rt_array_uint8_16 l25;
+    struct rt_array_uint8_128 l26;
+    uint64_t l27;
+    uint64_t l28;
+    uint64_t l29;
+    uint8_t *l30;
+    rt_slice l31;
+    uint8_t *l32;
+    rt_slice l33;
+    uint8_t *l34;
+    rt_slice l35;
+    memset(&l7, 0, sizeof l7);
+    memset(&l8, 0, sizeof l8);
+    memset(&l9, 0, sizeof l9);
+    memset(&l10, 0, sizeof l10);
+    l16 = (uint8_t *)&l7;
+    l17.p = l16;
+    l17.n = UINT64_C(5730);
+    l18 = (uint8_t *)&l8;
+    l19.p = l18;
+    l19.n = UINT64_C(16);
+    l20 = (uint8_t *)&l9;
+    l21.p = l20;
+    l21.n = UINT64_C(128);
+    l22 = (uint8_t *)&l10;
+    l23.p = l22;
+    l23.n = UINT64_C(512);
+    l11 = seating__admit(l1, l17, l19, l21, l23);
+    switch (l11.tag) {
+        case UINT8_C(0): {
+            l12 = l11.s0;
+            break;
+        }
+        case UINT8_C(1): default: {
+            l24 = load__refusal(l11);
+            l0 = count_images__refused(l24);
+            return l0;
+            break;
+        }
+    }
+    l13 = l12.f0;
+    l25 = l8;
+    l26 = l9;
+    l14.f0 = l12;
+    l14.f1 = l25;
+    l14.f2 = l26;
+    l27 = (uint64_t)l3;
+    l28 = (uint64_t)l4;
+    l29 = (uint64_t)l5;
+    l15.f0 = l27;
+    l15.f1 = l28;
+    l15.f2 = l29;
+    l30 = (uint8_t *)&l7;
+    l31.p = l30;
+    l31.n = l13;
+    l32 = (uint8_t *)&l10;
+    l33.p = l32;
+    l33.n = UINT64_C(512);
+    l34 = (uint8_t *)&(*(uint64_t *)l6.p);
+    l35.p = l34;
+    l35.n = l6.n;
+    l0 = count_images__begun(l14, l31, l33, l2, l15, l35);
+    return l0;
+}
+
+static inline uint8_t count_images__has_step(rt_slice l1, uint64_t l2, uint64_t l3)
+{
+    uint8_t l0;
+    uint64_t l4;
+    uint64_t l5;
+    uint8_t l6;
+    uint64_t l7;
+    uint64_t l8;
+    uint8_t *l9;
+    uint16_t l10;
+    uint64_t l11;
+    uint8_t *l12;
+    uint16_t l13;
+    l4 = UINT64_C(0);
+    for (;;) {
+        l6 = (uint8_t)(l4 < l2);
+        if (l6) {
+        } else {
+            goto end1;
+        }
+        l7 = (uint64_t)((uint64_t)UINT64_C(32) * (uint64_t)l4);
+        l8 = (uint64_t)((uint64_t)l7 + (uint64_t)l3);
+        l5 = (uint64_t)((uint64_t)UINT64_C(2) * (uint64_t)l8);
+        l7 = (uint64_t)((uint64_t)l5 * (uint64_t)UINT64_C(2));
+        l9 = l1.p + (size_t)l7;
+        l10 = (*(uint16_t *)l9);
+        l8 = (uint64_t)((uint64_t)l5 + (uint64_t)UINT64_C(1));
+        l11 = (uint64_t)((uint64_t)l8 * (uint64_t)UINT64_C(2));
+        l12 = l1.p + (size_t)l11;
+        l13 = (*(uint16_t *)l12);
+        l6 = (uint8_t)(l10 <= l13);
+        if (l6) {
+            l0 = 1;
+            return l0;
+        }
+        l4 = (uint64_t)((uint64_t)l4 + (uint64_t)UINT64_C(1));
+    }
+end1:;
+    l0 = 0;
+    return l0;
+}
+
+static inline uint8_t count_images__place_number(rt_slice l1, rt_slice l2, rt_slice l3, uint64_t l4, struct count_images__Question l5)
+{
+    uint8_t l0;
+    uint64_t l6;
+    uint64_t l7;
+    uint8_t l8;
+    uint8_t *l9;
+    uint8_t l10;
+    uint64_t l11;
+    uint8_t *l12;
+    l8 = (uint8_t)(l4 <= l5.f1);
+    if (l8) {
+        l0 = UINT8_C(21);
+        return l0;
+    }
+    l6 = layout__head(l1, l5.f1, UINT64_C(0));
+    l9 = l2.p + (size_t)l6;
+    l10 = (*(uint8_t *)l9);
+    l11 = (uint64_t)l10;
+    l8 = (uint8_t)(l11 <= l5.f2);
+    if (l8) {
+        l0 = UINT8_C(21);
+        return l0;
+    }
+    l11 = (uint64_t)((uint64_t)UINT64_C(8) * (uint64_t)l6);
+    l7 = (uint64_t)((uint64_t)l11 + (uint64_t)l5.f2);
+    l12 = l3.p + (size_t)l7;
+    l10 = (*(uint8_t *)l12);
+    l8 = (uint8_t)(l10 != UINT8_C(2));
+    if (l8) {
+        l0 = UINT8_C(8);
+        return l0;
+    }
+    l0 = UINT8_C(0);
+    return l0;
+}
+
+static inline void count_images__prepared(rt_slice l1, rt_slice l2, rt_slice l3, struct count_images__Asking l4, rt_slice l5, rt_slice l6)
+{
+    struct rt_array_uint64_129 l7;
+    uint64_t l9;
+    uint8_t *l10;
+    rt_slice l11;
+    uint8_t *l12;
+    rt_slice l13;
+    uint8_t *l14;
+    rt_slice l15;
+    memset(&l7, 0, sizeof l7);
+    l9 = l2.n;
+    l10 = (uint8_t *)&(*(uint16_t *)l6.p);
+    l11.p = l10;
+    l11.n = l6.n;
+    l12 = (uint8_t *)&l7;
+    l13.p = l12;
+    l13.n = UINT64_C(129);
+    compile__program(l1, l4.f2, l9, l3, l4.f3, l11, l13);
+    l14 = (uint8_t *)&(*(uint64_t *)l5.p);
+    l15.p = l14;
+    l15.n = l5.n;
+    emit_steps__program(l1, l2, l4.f0.f0, l15);
+    return;
+}
+
+static inline struct count_images__Counts count_images__refused(uint8_t l1)
+{
+    struct count_images__Counts l0;
+    l0.f0 = l1;
+    l0.f1 = UINT32_C(0);
+    l0.f2 = UINT32_C(0);
+    l0.f3 = UINT32_C(0);
+    return l0;
+}
+
+static inline void counting__copies__cells(rt_slice l1, uint64_t l2, rt_slice l3)
+{
+    uint64_t l4;
+    uint64_t l5;
+    uint8_t l6;
+    uint8_t *l7;
+    uint64_t l8;
+    uint64_t l9;
+    uint64_t l10;
+    uint8_t *l11;
+    l4 = UINT64_C(0);
+    for (;;) {
+        l5 = l3.n;
+        l6 = (uint8_t)(l4 < l5);
+        if (l6) {
+        } else {
+            goto end1;
+        }
+        l5 = (uint64_t)((uint64_t)l4 * (uint64_t)UINT64_C(8));
+        l7 = l3.p + (size_t)l5;
+        l8 = (*(uint64_t *)l7);
+        l9 = (uint64_t)((uint64_t)l2 + (uint64_t)l4);
+        l10 = (uint64_t)((uint64_t)l9 * (uint64_t)UINT64_C(8));
+        l11 = l1.p + (size_t)l10;
+        (*(uint64_t *)l11) = l8;
+        l4 = (uint64_t)((uint64_t)l4 + (uint64_t)UINT64_C(1));
+    }
+end1:;
+    return;
+}
+
+static inline void counting__copies__numbers(rt_slice l1, uint64_t l2, rt_slice l3)
+{
+    uint64_t l4;
+    uint64_t l5;
+    uint8_t l6;
+    uint8_t *l7;
+    uint16_t l8;
+    uint64_t l9;
+    uint64_t l10;
+    uint8_t *l11;
+    l4 = UINT64_C(0);
+    for (;;) {
+        l5 = l3.n;
+        l6 = (uint8_t)(l4 < l5);
+        if (l6) {
+        } else {
+            goto end1;
+        }
+        l5 = (uint64_t)((uint64_t)l4 * (uint64_t)UINT64_C(2));
+        l7 = l3.p + (size_t)l5;
+        l8 = (*(uint16_t *)l7);
+        l9 = (uint64_t)((uint64_t)l2 + (uint64_t)l4);
+        l10 = (uint64_t)((uint64_t)l9 * (uint64_t)UINT64_C(2));
+        l11 = l1.p + (size_t)l10;
+        (*(uint16_t *)l11) = l8;
+        l4 = (uint64_t)((uint64_t)l4 + (uint64_t)UINT64_C(1));
+    }
+end1:;
+    return;
+}
+
+static inline struct counting__count__Tally counting__count__add(struct counting__count__Tally l1, struct counting__count__Tally l2)
+{
+    struct counting__count__Tally l0;
+    uint32_t l3;
+    uint32_t l4;
+    uint32_t l5;
+    l3 = (uint32_t)((uint32_t)l1.f0 + (uint32_t)l2.f0);
+    l4 = (uint32_t)((uint32_t)l1.f1 + (uint32_t)l2.f1);
+    l5 = (uint32_t)((uint32_t)l1.f2 + (uint32_t)l2.f2);
+    l0.f0 = l3;
+    l0.f1 = l4;
+    l0.f2 = l5;
+    return l0;
+}
+
+static inline struct counting__count__Tally counting__count__all(struct engine__Machine l1, rt_slice l2, rt_slice l3, rt_slice l4, rt_slice l5, struct counting__count__Asked l6)
+{
+    struct counting__count__Tally l0;
+    uint64_t l7;
+    struct counting__count__Tally l8;
+    uint64_t l9;
+    struct counting__count__Tally l10;
+    uint8_t l11;
+    uint8_t *l12;
+    rt_slice l13;
+    uint8_t l14;
+    uint8_t *l15;
+    rt_slice l16;
+    uint8_t *l17;
+    rt_slice l18;
+    l11 = (uint8_t)(l1.f0.f5 == UINT64_C(0));
+    if (l11) {
+        l12 = (uint8_t *)&(*(uint64_t *)l5.p);
+        l13.p = l12;
+        l13.n = l5.n;
+        l0 = counting__count__resting(l13, l6);
+        return l0;
+    }
+    l7 = l1.f0.f0;
+    l8 = counting__count__nothing();
+    l9 = UINT64_C(0);
+    for (;;) {
+        l14 = (uint8_t)(l9 < l7);
+        if (l14) {
+        } else {
+            goto end1;
+        }
+        l15 = (uint8_t *)&(*(uint16_t *)l4.p);
+        l16.p = l15;
+        l16.n = l4.n;
+        l17 = (uint8_t *)&(*(uint64_t *)l5.p);
+        l18.p = l17;
+        l18.n = l5.n;
+        l10 = counting__count__one(l1, l2, l3, l16, l18, l9, l6);
+        l8 = counting__count__add(l8, l10);
+        l9 = (uint64_t)((uint64_t)l9 + (uint64_t)UINT64_C(1));
+    }
+end1:;
+    l0 = l8;
+    return l0;
+}
+
+static inline uint64_t counting__count__commands(rt_slice l1, uint64_t l2)
+{
+    uint64_t l0;
+    uint64_t l3;
+    uint64_t l4;
+    uint8_t l5;
+    uint64_t l6;
+    l3 = UINT64_C(0);
+    l4 = UINT64_C(0);
+    for (;;) {
+        l5 = (uint8_t)(l4 < l2);
+        if (l5) {
+        } else {
+            goto end1;
+        }
+        l6 = counting__count__held(l1, l4);
+        l3 = (uint64_t)((uint64_t)l3 + (uint64_t)l6);
+        l4 = (uint64_t)((uint64_t)l4 + (uint64_t)UINT64_C(1));
+    }
+end1:;
+    l0 = l3;
+    return l0;
+}
+
+static inline uint64_t counting__count__held(rt_slice l1, uint64_t l2)
+{
+    uint64_t l0;
+    uint64_t l3;
+    uint64_t l4;
+    uint8_t l5;
+    l3 = layout__head(l1, l2, UINT64_C(2));
+    l4 = layout__head(l1, l2, UINT64_C(3));
+    l5 = (uint8_t)(l3 < l4);
+    if (l5) {
+        l0 = (uint64_t)((uint64_t)l4 - (uint64_t)l3);
+        return l0;
+    }
+    l0 = UINT64_C(0);
+    return l0;
+}
+
+static inline struct counting__count__Tally counting__count__nothing(void)
+{
+    struct counting__count__Tally l0;
+    l0.f0 = UINT32_C(0);
+    l0.f1 = UINT32_C(0);
+    l0.f2 = UINT32_C(0);
+    return l0;
+}
+
+static inline struct counting__count__Tally counting__count__one(struct engine__Machine l1, rt_slice l2, rt_slice l3, rt_slice l4, rt_slice l5, uint64_t l6, struct counting__count__Asked l7)
+{
+    struct counting__count__Tally l0;
+    uint64_t l8;
+    struct counting__rows__Saved l9;
+    struct engine__Machine l10;
+    struct counting__count__Tally l11;
+    uint8_t l12;
+    uint8_t *l13;
+    rt_slice l14;
+    uint8_t l15;
+    uint8_t *l16;
+    rt_slice l17;
+    uint8_t *l18;
+    rt_slice l19;
+    uint8_t *l20;
+    rt_slice l21;
+    uint8_t *l22;
+    rt_slice l23;
+    uint8_t *l24;
+    rt_slice l25;
+    uint8_t *l26;
+    rt_slice l27;
+    uint8_t *l29;
+    rt_slice l30;
+    uint8_t *l31;
+    rt_slice l32;
+    l13 = (uint8_t *)&(*(uint16_t *)l4.p);
+    l14.p = l13;
+    l14.n = l4.n;
+    l12 = layout__holds(l14, l6);
+    l15 = (uint8_t)!l12;
+    if (l15) {
+        l0 = counting__count__nothing();
+        return l0;
+    }
+    l8 = counting__rows__fresh_row(l1.f0.f0, l6);
+    l16 = (uint8_t *)&(*(uint16_t *)l4.p);
+    l17.p = l16;
+    l17.n = l4.n;
+    l18 = (uint8_t *)&(*(uint64_t *)l5.p);
+    l19.p = l18;
+    l19.n = l5.n;
+    l9 = counting__rows__save(l2, l17, l19, l6, l8);
+    l20 = (uint8_t *)&(*(uint16_t *)l4.p);
+    l21.p = l20;
+    l21.n = l4.n;
+    l22 = (uint8_t *)&(*(uint64_t *)l5.p);
+    l23.p = l22;
+    l23.n = l5.n;
+    l10 = engine__Machine__command(l1, l2, l3, l21, l23, l6);
+    l12 = (uint8_t)(l10.f0.f4 != UINT8_C(0));
+    if (l12) {
+        l0.f0 = UINT32_C(0);
+        l0.f1 = UINT32_C(0);
+        l0.f2 = UINT32_C(1);
+        return l0;
+    }
+    l24 = (uint8_t *)&(*(uint16_t *)l4.p);
+    l25.p = l24;
+    l25.n = l4.n;
+    l26 = (uint8_t *)&(*(uint64_t *)l5.p);
+    l27.p = l26;
+    l27.n = l5.n;
+    l11 = counting__count__all(l10, l2, l3, l25, l27, l7);
+    l29 = (uint8_t *)&(*(uint16_t *)l4.p);
+    l30.p = l29;
+    l30.n = l4.n;
+    l31 = (uint8_t *)&(*(uint64_t *)l5.p);
+    l32.p = l31;
+    l32.n = l5.n;
+    counting__rows__restore(l30, l32, l6, l8, l9);
+    l0 = l11;
+    return l0;
+}
+
+static inline struct counting__count__Tally counting__count__resting(rt_slice l1, struct counting__count__Asked l2)
+{
+    struct counting__count__Tally l0;
+    uint64_t l3;
+    uint64_t l4;
+    uint64_t l5;
+    uint8_t *l6;
+    uint64_t l7;
+    uint8_t l8;
+    l4 = (uint64_t)((uint64_t)UINT64_C(32) * (uint64_t)l2.f0);
+    l3 = (uint64_t)((uint64_t)l4 + (uint64_t)l2.f1);
+    l4 = (uint64_t)((uint64_t)l3 * (uint64_t)UINT64_C(8));
+    l6 = l1.p + (size_t)l4;
+    l7 = (*(uint64_t *)l6);
+    l5 = layout__operand(l7);
+    l8 = (uint8_t)(l5 == UINT64_C(1));
+    if (l8) {
+        l0.f0 = UINT32_C(1);
+        l0.f1 = UINT32_C(0);
+        l0.f2 = UINT32_C(0);
+        return l0;
+    }
+    l0.f0 = UINT32_C(0);
+    l0.f1 = UINT32_C(1);
+    l0.f2 = UINT32_C(0);
+    return l0;
+}
+
+static inline uint64_t counting__rows__fresh_row(uint64_t l1, uint64_t l2)
+{
+    uint64_t l0;
+    uint8_t l3;
+    l3 = (uint8_t)(l1 < UINT64_C(256));
+    if (l3) {
+        l0 = l1;
+        return l0;
+    }
+    l0 = l2;
+    return l0;
+}
+
+static inline struct rt_array_uint16_6 counting__rows__numbers_of(rt_slice l1, uint64_t l2)
+{
+    struct rt_array_uint16_6 l0;
+    struct rt_array_uint16_6 l3;
+    uint64_t l4;
+    uint64_t l5;
+    uint8_t *l7;
+    rt_slice l8;
+    uint64_t l9;
+    uint8_t *l10;
+    uint64_t l11;
+    uint8_t *l12;
+    rt_slice l13;
+    memset(&l3, 0, sizeof l3);
+    l4 = (uint64_t)((uint64_t)UINT64_C(6) * (uint64_t)l2);
+    l5 = (uint64_t)((uint64_t)l4 + (uint64_t)UINT64_C(6));
+    l7 = (uint8_t *)&l3;
+    l8.p = l7;
+    l8.n = UINT64_C(6);
+    l9 = (uint64_t)((uint64_t)l4 * (uint64_t)UINT64_C(2));
+    l10 = l1.p + (size_t)l9;
+    l11 = (uint64_t)((uint64_t)l5 - (uint64_t)l4);
+    l12 = (uint8_t *)&(*(uint16_t *)l10);
+    l13.p = l12;
+    l13.n = l11;
+    counting__copies__numbers(l8, UINT64_C(0), l13);
+    l0 = l3;
+    return l0;
+}
+
+static inline void counting__rows__restore(rt_slice l1, rt_slice l2, uint64_t l3, uint64_t l4, struct counting__rows__Saved l5)
+{
+    struct rt_array_uint16_6 l6;
+    struct rt_array_uint16_6 l7;
+    struct rt_array_uint64_32 l8;
+    struct rt_array_uint64_32 l9;
+    uint64_t l10;
+    uint8_t *l12;
+    rt_slice l13;
+    uint64_t l14;
+    uint8_t *l15;
+    rt_slice l16;
+    uint8_t *l17;
+    rt_slice l18;
+    uint8_t *l19;
+    rt_slice l20;
+    uint8_t *l21;
+    rt_slice l22;
+    uint8_t *l23;
+    rt_slice l24;
+    uint8_t *l25;
+    rt_slice l26;
+    uint8_t *l27;
+    rt_slice l28;
+    uint8_t *l29;
+    l6 = l5.f0;
+    l7 = l5.f1;
+    l8 = l5.f2;
+    l9 = l5.f3;
+    l10 = l5.f4;
+    l12 = (uint8_t *)&(*(uint16_t *)l1.p);
+    l13.p = l12;
+    l13.n = l1.n;
+    l14 = (uint64_t)((uint64_t)UINT64_C(6) * (uint64_t)l4);
+    l15 = (uint8_t *)&l7;
+    l16.p = l15;
+    l16.n = UINT64_C(6);
+    counting__copies__numbers(l13, l14, l16);
+    l17 = (uint8_t *)&(*(uint16_t *)l1.p);
+    l18.p = l17;
+    l18.n = l1.n;
+    l14 = (uint64_t)((uint64_t)UINT64_C(6) * (uint64_t)l3);
+    l19 = (uint8_t *)&l6;
+    l20.p = l19;
+    l20.n = UINT64_C(6);
+    counting__copies__numbers(l18, l14, l20);
+    l21 = (uint8_t *)&(*(uint64_t *)l2.p);
+    l22.p = l21;
+    l22.n = l2.n;
+    l14 = (uint64_t)((uint64_t)UINT64_C(32) * (uint64_t)l4);
+    l23 = (uint8_t *)&l9;
+    l24.p = l23;
+    l24.n = UINT64_C(32);
+    counting__copies__cells(l22, l14, l24);
+    l25 = (uint8_t *)&(*(uint64_t *)l2.p);
+    l26.p = l25;
+    l26.n = l2.n;
+    l14 = (uint64_t)((uint64_t)UINT64_C(32) * (uint64_t)l3);
+    l27 = (uint8_t *)&l8;
+    l28.p = l27;
+    l28.n = UINT64_C(32);
+    counting__copies__cells(l26, l14, l28);
+    l14 = (uint64_t)((uint64_t)l10 * (uint64_t)UINT64_C(8));
+    l29 = l2.p + (size_t)l14;
+    (*(uint64_t *)l29) = l5.f5;
+    return;
+}
+
+static inline struct rt_array_uint64_32 counting__rows__row_of(rt_slice l1, uint64_t l2)
+{
+    struct rt_array_uint64_32 l0;
+    struct rt_array_uint64_32 l3;
+    uint64_t l4;
+    uint64_t l5;
+    uint8_t *l7;
+    rt_slice l8;
+    uint64_t l9;
+    uint8_t *l10;
+    uint64_t l11;
+    uint8_t *l12;
+    rt_slice l13;
+    memset(&l3, 0, sizeof l3);
+    l4 = (uint64_t)((uint64_t)UINT64_C(32) * (uint64_t)l2);
+    l5 = (uint64_t)((uint64_t)l4 + (uint64_t)UINT64_C(32));
+    l7 = (uint8_t *)&l3;
+    l8.p = l7;
+    l8.n = UINT64_C(32);
+    l9 = (uint64_t)((uint64_t)l4 * (uint64_t)UINT64_C(8));
+    l10 = l1.p + (size_t)l9;
+    l11 = (uint64_t)((uint64_t)l5 - (uint64_t)l4);
+    l12 = (uint8_t *)&(*(uint64_t *)l10);
+    l13.p = l12;
+    l13.n = l11;
+    counting__copies__cells(l8, UINT64_C(0), l13);
+    l0 = l3;
+    return l0;
+}
+
+static inline struct counting__rows__Saved counting__rows__save(rt_slice l1, rt_slice l2, rt_slice l3, uint64_t l4, uint64_t l5)
+{
+    struct counting__rows__Saved l0;
+    uint64_t l6;
+    struct rt_array_uint16_6 l7;
+    struct rt_array_uint16_6 l8;
+    struct rt_array_uint64_32 l9;
+    struct rt_array_uint64_32 l10;
+    uint64_t l11;
+    uint64_t l12;
+    uint8_t *l13;
+    uint64_t l14;
+    l6 = counting__rows__stored_at(l1, l2, l3, l4);
+    l7 = counting__rows__numbers_of(l2, l4);
+    l8 = counting__rows__numbers_of(l2, l5);
+    l9 = counting__rows__row_of(l3, l4);
+    l10 = counting__rows__row_of(l3, l5);
+    l12 = (uint64_t)((uint64_t)l6 * (uint64_t)UINT64_C(8));
+    l13 = l3.p + (size_t)l12;
+    l14 = (*(uint64_t *)l13);
+    l11 = l14;
+    l0.f0 = l7;
+    l0.f1 = l8;
+    l0.f2 = l9;
+    l0.f3 = l10;
+    l0.f4 = l6;
+    l0.f5 = l11;
+    return l0;
+}
+
+static inline uint64_t counting__rows__stored_at(rt_slice l1, rt_slice l2, rt_slice l3, uint64_t l4)
+{
+    uint64_t l0;
+    uint64_t l5;
+    uint64_t l6;
+    uint64_t l7;
+    uint64_t l8;
+    uint64_t l9;
+    uint8_t *l10;
+    uint64_t l11;
+    uint8_t l12;
+    uint64_t l13;
+    uint64_t l14;
+    uint64_t l15;
+    uint64_t l16;
+    uint8_t *l17;
+    uint64_t l18;
+    l5 = layout__head(l2, l4, UINT64_C(2));
+    l9 = (uint64_t)((uint64_t)l5 * (uint64_t)UINT64_C(8));
+    l10 = l1.p + (size_t)l9;
+    l11 = (*(uint64_t *)l10);
+    l6 = l11;
+    l11 = (uint64_t)((uint64_t)l6 % (uint64_t)UINT64_C(256));
+    l12 = (uint8_t)(l11 != UINT64_C(4));
+    if (l12) {
+        l0 = (uint64_t)((uint64_t)UINT64_C(32) * (uint64_t)l4);
+        return l0;
+    }
+    l7 = layout__head(l2, l4, UINT64_C(1));
+    l9 = (uint64_t)((uint64_t)UINT64_C(32) * (uint64_t)l4);
+    l13 = (uint64_t)((uint64_t)l9 + (uint64_t)UINT64_C(16));
+    l14 = (uint64_t)((uint64_t)l7 - (uint64_t)UINT64_C(1));
+    l15 = (uint64_t)((uint64_t)l13 + (uint64_t)l14);
+    l16 = (uint64_t)((uint64_t)l15 * (uint64_t)UINT64_C(8));
+    l17 = l3.p + (size_t)l16;
+    l11 = (*(uint64_t *)l17);
+    l8 = l11;
+    l11 = layout__operand(l8);
+    l9 = l11;
+    l16 = (uint64_t)((uint64_t)UINT64_C(32) * (uint64_t)l9);
+    l18 = layout__operand(l6);
+    l15 = l18;
+    l0 = (uint64_t)((uint64_t)l16 + (uint64_t)l15);
     return l0;
 }
 
@@ -5148,131 +6105,70 @@ static inline struct emit__Put emit__words__target(rt_slice l1, uint64_t l2, rt_
     return l0;
 }
 
-static inline struct emit_steps__Place emit_steps__of_struct(rt_slice l1, rt_slice l2, uint16_t l3, struct emit_steps__Place l4, rt_slice l5, rt_slice l6)
+static inline struct emit__Put emit_steps__of_struct(rt_slice l1, rt_slice l2, struct emit__Put l3, rt_slice l4)
 {
-    struct emit_steps__Place l0;
-    uint64_t l7;
-    uint8_t l8;
-    struct emit_steps__Place l9;
+    struct emit__Put l0;
+    uint64_t l5;
+    uint8_t l6;
+    struct emit__Put l7;
+    uint64_t l8;
+    uint64_t l9;
     uint8_t *l10;
     uint8_t l11;
     uint64_t l12;
     uint8_t l13;
     uint8_t *l14;
     rt_slice l15;
-    uint8_t *l16;
-    rt_slice l17;
-    l7 = l4.f0;
-    l10 = l1.p + (size_t)l7;
+    l5 = l3.f0;
+    l10 = l1.p + (size_t)l5;
     l11 = (*(uint8_t *)l10);
-    l8 = l11;
-    l12 = (uint64_t)((uint64_t)l7 + (uint64_t)UINT64_C(1));
-    l9.f0 = l12;
-    l9.f1 = l4.f1;
-    l9.f2 = l4.f2;
+    l6 = l11;
+    l12 = (uint64_t)((uint64_t)l5 + (uint64_t)UINT64_C(1));
+    l7.f0 = l12;
+    l7.f1 = l3.f1;
     for (;;) {
-        l13 = (uint8_t)(l8 != UINT8_C(0));
+        l13 = (uint8_t)(l6 != UINT8_C(0));
         if (l13) {
         } else {
             goto end1;
         }
-        l14 = (uint8_t *)&(*(uint64_t *)l5.p);
+        l8 = l7.f0;
+        l9 = l7.f1;
+        l14 = (uint8_t *)&(*(uint64_t *)l4.p);
         l15.p = l14;
-        l15.n = l5.n;
-        l16 = (uint8_t *)&(*(uint16_t *)l6.p);
-        l17.p = l16;
-        l17.n = l6.n;
-        l9 = emit_steps__step(l1, l2, l3, l9, l15, l17);
-        l8 = (uint8_t)((uint32_t)l8 - (uint32_t)UINT8_C(1));
+        l15.n = l4.n;
+        l7 = emit__steps__step(l1, l2, l8, l15, l9);
+        l6 = (uint8_t)((uint32_t)l6 - (uint32_t)UINT8_C(1));
     }
 end1:;
-    l0 = l9;
+    l0 = l7;
     return l0;
 }
 
-static inline struct emit_steps__Place emit_steps__program(rt_slice l1, rt_slice l2, uint64_t l3, rt_slice l4, rt_slice l5)
+static inline void emit_steps__program(rt_slice l1, rt_slice l2, uint64_t l3, rt_slice l4)
 {
-    struct emit_steps__Place l0;
-    uint16_t l6;
-    uint64_t l7;
-    struct emit_steps__Place l8;
-    uint8_t l9;
-    uint8_t *l10;
-    rt_slice l11;
-    uint8_t *l12;
-    rt_slice l13;
-    l6 = UINT16_C(0);
-    l7 = l2.n;
-    l8.f0 = l3;
-    l8.f1 = UINT64_C(0);
-    l8.f2 = UINT64_C(0);
+    uint64_t l5;
+    struct emit__Put l6;
+    uint8_t l7;
+    uint8_t *l8;
+    rt_slice l9;
+    l5 = l2.n;
+    l6.f0 = l3;
+    l6.f1 = UINT64_C(0);
     for (;;) {
-        l9 = (uint8_t)(l7 != UINT64_C(0));
-        if (l9) {
+        l7 = (uint8_t)(l5 != UINT64_C(0));
+        if (l7) {
         } else {
             goto end1;
         }
-        l10 = (uint8_t *)&(*(uint64_t *)l4.p);
-        l11.p = l10;
-        l11.n = l4.n;
-        l12 = (uint8_t *)&(*(uint16_t *)l5.p);
-        l13.p = l12;
-        l13.n = l5.n;
-        l8 = emit_steps__of_struct(l1, l2, l6, l8, l11, l13);
-        l6 = (uint16_t)((uint32_t)l6 + (uint32_t)UINT16_C(1));
-        l7 = (uint64_t)((uint64_t)l7 - (uint64_t)UINT64_C(1));
+        l8 = (uint8_t *)&(*(uint64_t *)l4.p);
+        l9.p = l8;
+        l9.n = l4.n;
+        l6 = emit_steps__of_struct(l1, l2, l6, l9);
+        l5 = (uint64_t)((uint64_t)l5 - (uint64_t)UINT64_C(1));
     }
 end1:;
-    l0 = l8;
-    return l0;
-}
-
-static inline struct emit_steps__Place emit_steps__step(rt_slice l1, rt_slice l2, uint16_t l3, struct emit_steps__Place l4, rt_slice l5, rt_slice l6)
-{
-    struct emit_steps__Place l0;
-    uint64_t l7;
-    uint64_t l8;
-    uint64_t l9;
-    struct emit__Put l10;
-    uint64_t l11;
-    struct directory__Row l12;
-    uint8_t *l13;
-    rt_slice l14;
-    uint16_t l15;
-    uint8_t *l16;
-    uint8_t l17;
-    uint16_t l18;
-    uint64_t l19;
-    uint16_t l20;
-    uint8_t *l22;
-    rt_slice l23;
-    l7 = l4.f0;
-    l8 = l4.f1;
-    l9 = l4.f2;
-    l13 = (uint8_t *)&(*(uint64_t *)l5.p);
-    l14.p = l13;
-    l14.n = l5.n;
-    l10 = emit__steps__step(l1, l2, l7, l14, l8);
-    l11 = l10.f1;
-    l16 = l1.p + (size_t)l7;
-    l17 = (*(uint8_t *)l16);
-    l15 = directory__rows__number(l17);
-    l18 = (uint16_t)l8;
-    l19 = (uint64_t)((uint64_t)l11 - (uint64_t)l8);
-    l20 = (uint16_t)l19;
-    l12.f0 = l3;
-    l12.f1 = l15;
-    l12.f2 = l18;
-    l12.f3 = l20;
-    l22 = (uint8_t *)&(*(uint16_t *)l6.p);
-    l23.p = l22;
-    l23.n = l6.n;
-    directory__rows__put_row(l23, l9, l12);
-    l19 = (uint64_t)((uint64_t)l9 + (uint64_t)UINT64_C(1));
-    l0.f0 = l10.f0;
-    l0.f1 = l11;
-    l0.f2 = l19;
-    return l0;
+    return;
 }
 
 static inline struct engine__Machine engine__Machine__advance(struct engine__Machine l1, rt_slice l2, rt_slice l3, rt_slice l4)
@@ -6173,31 +7069,33 @@ static inline struct engine__Machine interpreter__moving__settle(struct engine__
     struct engine__Machine l5;
     uint64_t l6;
     uint8_t l7;
-    uint64_t l8;
-    uint8_t *l9;
-    uint64_t l10;
-    uint8_t *l11;
-    rt_slice l12;
+    uint8_t l8;
+    uint64_t l9;
+    uint8_t *l10;
+    uint64_t l11;
+    uint8_t *l12;
+    rt_slice l13;
     l5 = l1;
     for (;;) {
-        l7 = (uint8_t)(l5.f0.f5 == UINT64_C(0));
-        if (l7) {
+        l7 = layout__due(l5.f0);
+        l8 = (uint8_t)!l7;
+        if (l8) {
         } else {
             goto end1;
         }
         l6 = l5.f0.f1;
-        l8 = (uint64_t)((uint64_t)l6 * (uint64_t)UINT64_C(8));
-        l9 = l2.p + (size_t)l8;
-        l10 = (*(uint64_t *)l9);
-        l7 = (uint8_t)(l10 == UINT64_C(1025));
+        l9 = (uint64_t)((uint64_t)l6 * (uint64_t)UINT64_C(8));
+        l10 = l2.p + (size_t)l9;
+        l11 = (*(uint64_t *)l10);
+        l7 = (uint8_t)(l11 == UINT64_C(1025));
         if (l7) {
             l0 = l5;
             return l0;
         }
-        l11 = (uint8_t *)&(*(uint16_t *)l4.p);
-        l12.p = l11;
-        l12.n = l4.n;
-        l5 = engine__Machine__advance(l5, l2, l3, l12);
+        l12 = (uint8_t *)&(*(uint16_t *)l4.p);
+        l13.p = l12;
+        l13.n = l4.n;
+        l5 = engine__Machine__advance(l5, l2, l3, l13);
     }
 end1:;
     l0 = l5;
@@ -6208,27 +7106,27 @@ static inline struct interpreter__turns__Going interpreter__turns__going_at(stru
 {
     struct interpreter__turns__Going l0;
     uint64_t l5;
-    uint64_t l6;
+    uint8_t l6;
     uint8_t l7;
     uint64_t l8;
     uint8_t *l9;
     uint8_t l10;
-    l5 = l1.f0.f5;
-    l7 = (uint8_t)(l5 == UINT64_C(0));
+    l6 = layout__due(l1.f0);
+    l7 = (uint8_t)!l6;
     if (l7) {
         l0 = interpreter__turns__resting(l1, l2, l3, l1.f0.f4);
         return l0;
     }
     l8 = l4.n;
-    l7 = (uint8_t)(l8 <= l2);
-    if (l7) {
+    l6 = (uint8_t)(l8 <= l2);
+    if (l6) {
         l0 = interpreter__turns__resting(l1, l2, l3, UINT8_C(33));
         return l0;
     }
     l9 = l4.p + (size_t)l2;
     l10 = (*(uint8_t *)l9);
-    l6 = (uint64_t)l10;
-    l8 = (uint64_t)((uint64_t)l6 % (uint64_t)l5);
+    l5 = (uint64_t)l10;
+    l8 = (uint64_t)((uint64_t)l5 % (uint64_t)l1.f0.f5);
     l0.f0 = l1;
     l0.f1 = l2;
     l0.f2 = UINT8_C(0);
@@ -8196,8 +9094,8 @@ static inline uint8_t lexer__words__with_t(rt_slice l1)
     return l0;
 }
 
-static const struct rt_array_uint8_7 listing__image__listing__l16 = { { UINT8_C(114), UINT8_C(101), UINT8_C(102), UINT8_C(117), UINT8_C(115), UINT8_C(101), UINT8_C(100) } };
-static const struct rt_array_uint8_6 listing__image__listing__l17 = { { UINT8_C(97), UINT8_C(117), UINT8_C(100), UINT8_C(97), UINT8_C(108), UINT8_C(97) } };
+static const struct rt_array_uint8_7 listing__image__listing__l14 = { { UINT8_C(114), UINT8_C(101), UINT8_C(102), UINT8_C(117), UINT8_C(115), UINT8_C(101), UINT8_C(100) } };
+static const struct rt_array_uint8_6 listing__image__listing__l15 = { { UINT8_C(97), UINT8_C(117), UINT8_C(100), UINT8_C(97), UINT8_C(108), UINT8_C(97) } };
 static inline uint64_t listing__image__listing(rt_slice l1, rt_slice l2)
 {
     uint64_t l0;
@@ -8210,10 +9108,10 @@ static inline uint64_t listing__image__listing(rt_slice l1, rt_slice l2)
     uint64_t l9;
     uint64_t l10;
     struct rt_array_uint64_1024 l11;
-    struct emit_steps__Place l12;
+    struct rt_array_uint64_4 l12;
     uint64_t l13;
-    struct rt_array_uint64_4 l14;
-    uint64_t l15;
+    uint8_t *l16;
+    rt_slice l17;
     uint8_t *l18;
     rt_slice l19;
     uint8_t *l20;
@@ -8224,73 +9122,70 @@ static inline uint64_t listing__image__listing(rt_slice l1, rt_slice l2)
     rt_slice l25;
     uint8_t *l26;
     rt_slice l27;
-    uint8_t *l28;
-    rt_slice l29;
-    struct rt_array_uint64_1 l30;
-    uint8_t l31;
-    uint64_t l32;
-    uint8_t *l33;
-    rt_slice l34;
-    uint8_t *l35;
-    rt_slice l36;
-    uint8_t *l37;
-    rt_slice l38;
-    uint8_t *l39;
-    rt_slice l40;
-    uint8_t *l41;
-    rt_slice l42;
+    struct rt_array_uint64_1 l28;
+    uint8_t l29;
+    uint64_t l30;
+    uint8_t *l31;
+    rt_slice l32;
+    uint8_t *l34;
+    rt_slice l35;
+    uint8_t *l36;
+    rt_slice l37;
+    uint8_t *l38;
+    rt_slice l39;
+    uint64_t l40;
+    uint64_t l41;
+    uint64_t l42;
     uint64_t l43;
-    uint64_t l44;
-    uint64_t l45;
-    uint64_t l46;
-    uint8_t *l47;
-    rt_slice l48;
-    uint8_t *l49;
-    rt_slice l50;
-    uint8_t *l51;
-    rt_slice l52;
+    uint8_t *l44;
+    rt_slice l45;
+    uint8_t *l46;
+    rt_slice l47;
+    uint8_t *l48;
+    rt_slice l49;
+    uint8_t *l50;
+    rt_slice l51;
+    uint64_t l52;
     uint8_t *l53;
     rt_slice l54;
     uint8_t *l55;
     rt_slice l56;
-    uint8_t *l57;
-    rt_slice l58;
     memset(&l3, 0, sizeof l3);
     memset(&l4, 0, sizeof l4);
     memset(&l5, 0, sizeof l5);
     memset(&l6, 0, sizeof l6);
-    l18 = (uint8_t *)&l3;
+    l16 = (uint8_t *)&l3;
+    l17.p = l16;
+    l17.n = UINT64_C(32256);
+    l18 = (uint8_t *)&l4;
     l19.p = l18;
-    l19.n = UINT64_C(32256);
-    l20 = (uint8_t *)&l4;
+    l19.n = UINT64_C(16);
+    l20 = (uint8_t *)&l5;
     l21.p = l20;
-    l21.n = UINT64_C(16);
-    l22 = (uint8_t *)&l5;
+    l21.n = UINT64_C(128);
+    l22 = (uint8_t *)&l6;
     l23.p = l22;
-    l23.n = UINT64_C(128);
-    l24 = (uint8_t *)&l6;
-    l25.p = l24;
-    l25.n = UINT64_C(512);
-    l7 = load__program(l1, l19, l21, l23, l25);
+    l23.n = UINT64_C(512);
+    l7 = load__program(l1, l17, l19, l21, l23);
     switch (l7.tag) {
         case UINT8_C(0): {
             l8 = l7.s0;
             break;
         }
         case UINT8_C(1): default: {
-            l26 = (uint8_t *)&(*(uint8_t *)l2.p);
+            l24 = (uint8_t *)&(*(uint8_t *)l2.p);
+            l25.p = l24;
+            l25.n = l2.n;
+            l26 = (uint8_t *)&listing__image__listing__l14;
             l27.p = l26;
-            l27.n = l2.n;
-            l28 = (uint8_t *)&listing__image__listing__l16;
-            l29.p = l28;
-            l29.n = UINT64_C(7);
-            l31 = load__refusal(l7);
-            l32 = (uint64_t)l31;
-            l30 = (struct rt_array_uint64_1){ { l32 } };
-            l33 = (uint8_t *)&l30;
-            l34.p = l33;
-            l34.n = UINT64_C(1);
-            l0 = text__lines__row(l27, UINT64_C(0), l29, l34);
+            l27.n = UINT64_C(7);
+            l29 = load__refusal(l7);
+            l30 = (uint64_t)l29;
+            l28 = (struct rt_array_uint64_1){ { l30 } };
+            l31 = (uint8_t *)&l28;
+            l32.p = l31;
+            l32.n = UINT64_C(1);
+            l0 = text__lines__row(l25, UINT64_C(0), l27, l32);
             return l0;
             break;
         }
@@ -8298,45 +9193,42 @@ static inline uint64_t listing__image__listing(rt_slice l1, rt_slice l2)
     l9 = l8.f0;
     l10 = (uint64_t)l8.f3;
     memset(&l11, 0, sizeof l11);
-    l35 = (uint8_t *)&l3;
-    l36.p = l35;
-    l36.n = l9;
-    l37 = (uint8_t *)&l4;
-    l38.p = l37;
-    l38.n = l10;
-    l39 = (uint8_t *)&l11;
-    l40.p = l39;
-    l40.n = UINT64_C(1024);
-    l41 = (uint8_t *)&l6;
-    l42.p = l41;
-    l42.n = UINT64_C(512);
-    l12 = emit_steps__program(l36, l38, l8.f1, l40, l42);
-    l13 = l12.f2;
-    l43 = (uint64_t)l8.f3;
-    l44 = (uint64_t)l8.f4;
-    l45 = (uint64_t)l8.f5;
-    l46 = (uint64_t)l8.f6;
-    l14 = (struct rt_array_uint64_4){ { l43, l44, l45, l46 } };
-    l47 = (uint8_t *)&(*(uint8_t *)l2.p);
-    l48.p = l47;
-    l48.n = l2.n;
-    l49 = (uint8_t *)&listing__image__listing__l17;
-    l50.p = l49;
-    l50.n = UINT64_C(6);
-    l51 = (uint8_t *)&l14;
-    l52.p = l51;
-    l52.n = UINT64_C(4);
-    l15 = text__lines__row(l48, UINT64_C(0), l50, l52);
-    l53 = (uint8_t *)&l6;
+    l34 = (uint8_t *)&l3;
+    l35.p = l34;
+    l35.n = l9;
+    l36 = (uint8_t *)&l4;
+    l37.p = l36;
+    l37.n = l10;
+    l38 = (uint8_t *)&l11;
+    l39.p = l38;
+    l39.n = UINT64_C(1024);
+    emit_steps__program(l35, l37, l8.f1, l39);
+    l40 = (uint64_t)l8.f3;
+    l41 = (uint64_t)l8.f4;
+    l42 = (uint64_t)l8.f5;
+    l43 = (uint64_t)l8.f6;
+    l12 = (struct rt_array_uint64_4){ { l40, l41, l42, l43 } };
+    l44 = (uint8_t *)&(*(uint8_t *)l2.p);
+    l45.p = l44;
+    l45.n = l2.n;
+    l46 = (uint8_t *)&listing__image__listing__l15;
+    l47.p = l46;
+    l47.n = UINT64_C(6);
+    l48 = (uint8_t *)&l12;
+    l49.p = l48;
+    l49.n = UINT64_C(4);
+    l13 = text__lines__row(l45, UINT64_C(0), l47, l49);
+    l50 = (uint8_t *)&l6;
+    l51.p = l50;
+    l51.n = UINT64_C(512);
+    l52 = (uint64_t)l8.f4;
+    l53 = (uint8_t *)&l11;
     l54.p = l53;
-    l54.n = UINT64_C(512);
-    l55 = (uint8_t *)&l11;
+    l54.n = UINT64_C(1024);
+    l55 = (uint8_t *)&(*(uint8_t *)l2.p);
     l56.p = l55;
-    l56.n = UINT64_C(1024);
-    l57 = (uint8_t *)&(*(uint8_t *)l2.p);
-    l58.p = l57;
-    l58.n = l2.n;
-    l0 = step_lines__program(l54, l13, l56, l58, l15);
+    l56.n = l2.n;
+    l0 = step_lines__program(l51, l52, l54, l56, l13);
     return l0;
 }
 
@@ -8621,35 +9513,6 @@ static inline struct load__Loaded load__summed(uint64_t l1, uint64_t l2, struct 
     l0.f4 = l4;
     l0.f5 = l5;
     l0.f6 = l6;
-    return l0;
-}
-
-static inline struct load__Load load__tables(rt_slice l1, rt_slice l2, rt_slice l3, rt_slice l4)
-{
-    struct load__Load l0;
-    struct rt_array_uint16_512 l5;
-    uint8_t *l6;
-    rt_slice l7;
-    uint8_t *l8;
-    rt_slice l9;
-    uint8_t *l10;
-    rt_slice l11;
-    uint8_t *l12;
-    rt_slice l13;
-    memset(&l5, 0, sizeof l5);
-    l6 = (uint8_t *)&(*(uint8_t *)l2.p);
-    l7.p = l6;
-    l7.n = l2.n;
-    l8 = (uint8_t *)&(*(uint8_t *)l3.p);
-    l9.p = l8;
-    l9.n = l3.n;
-    l10 = (uint8_t *)&(*(uint8_t *)l4.p);
-    l11.p = l10;
-    l11.n = l4.n;
-    l12 = (uint8_t *)&l5;
-    l13.p = l12;
-    l13.n = UINT64_C(512);
-    l0 = load__program(l1, l7, l9, l11, l13);
     return l0;
 }
 
@@ -9747,6 +10610,42 @@ static inline struct read_program__Summary read_program__summed(uint8_t l1, uint
     return l0;
 }
 
+static inline uint8_t read_program__totals__listed(rt_slice l1, uint64_t l2, uint8_t l3, uint8_t l4)
+{
+    uint8_t l0;
+    uint64_t l5;
+    struct directory__Row l6;
+    uint8_t l7;
+    uint64_t l8;
+    uint16_t l9;
+    l5 = l2;
+    for (;;) {
+        l7 = (uint8_t)(UINT64_C(0) < l5);
+        if (l7) {
+        } else {
+            goto end1;
+        }
+        l8 = (uint64_t)((uint64_t)l5 - (uint64_t)UINT64_C(1));
+        l6 = directory__rows__row_at(l1, l8);
+        l9 = directory__rows__number(l3);
+        l7 = (uint8_t)(l6.f0 != l9);
+        if (l7) {
+            l0 = 0;
+            return l0;
+        }
+        l9 = directory__rows__number(l4);
+        l7 = (uint8_t)(l6.f1 == l9);
+        if (l7) {
+            l0 = 1;
+            return l0;
+        }
+        l5 = (uint64_t)((uint64_t)l5 - (uint64_t)UINT64_C(1));
+    }
+end1:;
+    l0 = 0;
+    return l0;
+}
+
 static inline struct read_program__totals__Totals read_program__totals__none(void)
 {
     struct read_program__totals__Totals l0;
@@ -9766,31 +10665,29 @@ static inline uint8_t read_program__totals__noted(rt_slice l1, uint8_t l2, uint8
     struct directory__Row l8;
     uint8_t *l9;
     rt_slice l10;
-    uint8_t l11;
+    uint16_t l11;
     uint16_t l12;
     uint16_t l13;
     uint16_t l14;
-    uint16_t l15;
-    uint8_t *l17;
-    rt_slice l18;
+    uint8_t *l16;
+    rt_slice l17;
     l6 = l4.f0;
     l9 = (uint8_t *)&(*(uint16_t *)l1.p);
     l10.p = l9;
     l10.n = l1.n;
-    l11 = (uint8_t)l6;
-    l7 = directory__rows__there(l10, l11, l2, l3);
-    l12 = directory__rows__number(l2);
-    l13 = directory__rows__number(l3);
-    l14 = (uint16_t)l4.f1;
-    l15 = (uint16_t)l5.f0;
-    l8.f0 = l12;
-    l8.f1 = l13;
-    l8.f2 = l14;
-    l8.f3 = l15;
-    l17 = (uint8_t *)&(*(uint16_t *)l1.p);
-    l18.p = l17;
-    l18.n = l1.n;
-    directory__rows__put_row(l18, l6, l8);
+    l7 = read_program__totals__listed(l10, l6, l2, l3);
+    l11 = directory__rows__number(l2);
+    l12 = directory__rows__number(l3);
+    l13 = (uint16_t)l4.f1;
+    l14 = (uint16_t)l5.f0;
+    l8.f0 = l11;
+    l8.f1 = l12;
+    l8.f2 = l13;
+    l8.f3 = l14;
+    l16 = (uint8_t *)&(*(uint16_t *)l1.p);
+    l17.p = l16;
+    l17.n = l1.n;
+    directory__rows__put_row(l17, l6, l8);
     l0 = (uint8_t)!l7;
     return l0;
 }
@@ -11579,178 +12476,154 @@ static inline void resolve__tables__put(rt_slice l1, uint64_t l2, uint64_t l3)
     return;
 }
 
-static inline struct run_images__Report run_images__begun(struct load__Loaded l1, struct seating__Params l2, rt_slice l3, rt_slice l4, rt_slice l5, rt_slice l6, rt_slice l7)
+static inline struct run_images__Report run_images__begun(struct seating__Opened l1, rt_slice l2, rt_slice l3, rt_slice l4, rt_slice l5, rt_slice l6, rt_slice l7)
 {
     struct run_images__Report l0;
-    struct rt_array_uint8_16 l8;
-    struct rt_array_uint8_128 l9;
-    uint64_t l10;
+    struct load__Loaded l8;
+    struct rt_array_uint8_16 l9;
+    struct rt_array_uint8_128 l10;
     uint64_t l11;
-    rt_slice l12;
+    uint64_t l12;
     rt_slice l13;
-    struct rt_array_uint8_8568 l14;
-    struct rt_array_uint16_1536 l15;
-    struct rt_array_uint64_8192 l16;
-    struct seating__SeatRead l17;
-    struct seating__Seat l18;
-    struct interpreter__turns__Ran l19;
-    uint8_t *l20;
-    uint8_t *l21;
-    uint8_t *l22;
-    rt_slice l23;
-    uint8_t *l24;
-    rt_slice l25;
+    rt_slice l14;
+    struct rt_array_uint16_1024 l15;
+    struct rt_array_uint64_129 l16;
+    struct rt_array_uint8_8568 l17;
+    struct rt_array_uint16_1536 l18;
+    struct rt_array_uint64_8192 l19;
+    struct seating__SeatRead l20;
+    struct seating__Seat l21;
+    uint8_t l22;
+    struct layout__Numbers l23;
+    struct engine__Machine l24;
+    struct interpreter__turns__Ran l25;
     uint8_t *l26;
-    rt_slice l27;
-    uint8_t l28;
+    uint8_t *l27;
     uint64_t l29;
-    uint8_t l30;
-    uint8_t *l31;
-    rt_slice l32;
-    uint8_t *l33;
-    rt_slice l34;
-    uint8_t *l35;
-    rt_slice l36;
-    uint8_t *l37;
-    rt_slice l38;
-    uint8_t *l39;
-    rt_slice l40;
-    uint8_t *l41;
-    rt_slice l42;
-    uint8_t *l43;
-    rt_slice l44;
-    l8 = l2.f0;
-    l9 = l2.f1;
-    l10 = (uint64_t)l1.f3;
-    l11 = (uint64_t)((uint64_t)UINT64_C(8) * (uint64_t)l10);
-    l20 = (uint8_t *)&l8;
-    l12.p = l20;
-    l12.n = l10;
-    l21 = (uint8_t *)&l9;
-    l13.p = l21;
+    uint8_t *l30;
+    rt_slice l31;
+    uint8_t *l32;
+    rt_slice l33;
+    uint8_t *l34;
+    rt_slice l35;
+    uint8_t *l36;
+    rt_slice l37;
+    uint8_t *l38;
+    rt_slice l39;
+    uint8_t l40;
+    uint64_t l41;
+    uint64_t l42;
+    uint8_t l43;
+    uint8_t *l44;
+    rt_slice l45;
+    uint8_t *l46;
+    rt_slice l47;
+    uint8_t *l48;
+    rt_slice l49;
+    uint8_t *l50;
+    rt_slice l51;
+    uint8_t *l52;
+    rt_slice l53;
+    uint8_t *l54;
+    rt_slice l55;
+    uint8_t *l56;
+    rt_slice l57;
+    uint8_t *l58;
+    rt_slice l59;
+    uint8_t *l60;
+    rt_slice l61;
+    uint8_t *l62;
+    rt_slice l63;
+    l8 = l1.f0;
+    l9 = l1.f1;
+    l10 = l1.f2;
+    l11 = (uint64_t)l8.f3;
+    l12 = (uint64_t)((uint64_t)UINT64_C(8) * (uint64_t)l11);
+    l26 = (uint8_t *)&l9;
+    l13.p = l26;
     l13.n = l11;
-    memset(&l14, 0, sizeof l14);
+    l27 = (uint8_t *)&l10;
+    l14.p = l27;
+    l14.n = l12;
     memset(&l15, 0, sizeof l15);
     memset(&l16, 0, sizeof l16);
-    l22 = (uint8_t *)&l14;
-    l23.p = l22;
-    l23.n = UINT64_C(8568);
-    l24 = (uint8_t *)&l15;
-    l25.p = l24;
-    l25.n = UINT64_C(1536);
-    l26 = (uint8_t *)&l16;
-    l27.p = l26;
-    l27.n = UINT64_C(8192);
-    l17 = seating__seat_table(l1.f1, l12, l13, l4, l23, l25, l27);
-    switch (l17.tag) {
+    l29 = (uint64_t)l8.f4;
+    l30 = (uint8_t *)&l15;
+    l31.p = l30;
+    l31.n = UINT64_C(1024);
+    l32 = (uint8_t *)&l16;
+    l33.p = l32;
+    l33.n = UINT64_C(129);
+    compile__program(l2, l8.f2, l11, l3, l29, l31, l33);
+    memset(&l17, 0, sizeof l17);
+    memset(&l18, 0, sizeof l18);
+    memset(&l19, 0, sizeof l19);
+    l34 = (uint8_t *)&l17;
+    l35.p = l34;
+    l35.n = UINT64_C(8568);
+    l36 = (uint8_t *)&l18;
+    l37.p = l36;
+    l37.n = UINT64_C(1536);
+    l38 = (uint8_t *)&l19;
+    l39.p = l38;
+    l39.n = UINT64_C(8192);
+    l20 = seating__seat_table(l8.f1, l13, l14, l4, l35, l37, l39);
+    switch (l20.tag) {
         case UINT8_C(0): {
-            l18 = l17.s0;
+            l21 = l20.s0;
             break;
         }
         case UINT8_C(1): default: {
-            l28 = seating__refusal(l17);
-            l0 = run_images__refused(l28);
+            l40 = seating__refusal(l20);
+            l0 = run_images__refused(l40);
             return l0;
             break;
         }
     }
     l29 = l6.n;
-    l30 = (uint8_t)(l29 < UINT64_C(8704));
-    if (l30) {
-        l0 = run_images__refused(UINT8_C(13));
+    l41 = l7.n;
+    l42 = l5.n;
+    l22 = run_images__room(l29, l41, l42);
+    l43 = (uint8_t)(l22 != UINT8_C(0));
+    if (l43) {
+        l0 = run_images__refused(l22);
         return l0;
     }
-    l29 = l7.n;
-    l30 = (uint8_t)(l29 < UINT64_C(1024));
-    if (l30) {
-        l0 = run_images__refused(UINT8_C(13));
-        return l0;
-    }
-    l29 = l5.n;
-    l30 = (uint8_t)(UINT64_C(65536) < l29);
-    if (l30) {
-        l0 = run_images__refused(UINT8_C(14));
-        return l0;
-    }
-    l31 = (uint8_t *)&l15;
-    l32.p = l31;
-    l32.n = UINT64_C(1536);
-    l33 = (uint8_t *)&l16;
-    l34.p = l33;
-    l34.n = UINT64_C(8192);
-    l35 = (uint8_t *)&(*(uint64_t *)l7.p);
-    l36.p = l35;
-    l36.n = l7.n;
-    l19 = run_images__played(l3, l12, l18, l32, l34, l5, l36);
-    l37 = (uint8_t *)&l15;
-    l38.p = l37;
-    l38.n = UINT64_C(1536);
-    l39 = (uint8_t *)&l16;
-    l40.p = l39;
-    l40.n = UINT64_C(8192);
-    l41 = (uint8_t *)&l14;
-    l42.p = l41;
-    l42.n = UINT64_C(8568);
-    l43 = (uint8_t *)&(*(uint8_t *)l6.p);
-    l44.p = l43;
-    l44.n = l6.n;
-    l0 = run_images__reported(l12, l38, l40, l19, l1.f6, l42, l44);
-    return l0;
-}
-
-static inline struct interpreter__turns__Ran run_images__played(rt_slice l1, rt_slice l2, struct seating__Seat l3, rt_slice l4, rt_slice l5, rt_slice l6, rt_slice l7)
-{
-    struct interpreter__turns__Ran l0;
-    struct rt_array_uint16_1024 l8;
-    struct rt_array_uint64_129 l9;
-    struct layout__Numbers l10;
-    struct engine__Machine l11;
-    uint8_t *l13;
-    rt_slice l14;
-    uint8_t *l15;
-    rt_slice l16;
-    uint8_t *l17;
-    rt_slice l18;
-    uint8_t *l19;
-    rt_slice l20;
-    uint8_t *l21;
-    rt_slice l22;
-    uint8_t *l23;
-    rt_slice l24;
-    uint8_t *l25;
-    rt_slice l26;
-    uint8_t *l27;
-    rt_slice l28;
-    memset(&l8, 0, sizeof l8);
-    memset(&l9, 0, sizeof l9);
-    l13 = (uint8_t *)&(*(uint64_t *)l7.p);
-    l14.p = l13;
-    l14.n = l7.n;
-    l15 = (uint8_t *)&l8;
-    l16.p = l15;
-    l16.n = UINT64_C(1024);
-    l17 = (uint8_t *)&l9;
-    l18.p = l17;
-    l18.n = UINT64_C(129);
-    compile__program(l1, l2, l3.f0, l14, l16, l18);
-    l10 = l3.f1;
-    l11.f0 = l10;
-    l19 = (uint8_t *)&(*(uint64_t *)l7.p);
-    l20.p = l19;
-    l20.n = l7.n;
-    l21 = (uint8_t *)&l9;
-    l22.p = l21;
-    l22.n = UINT64_C(129);
-    l23 = (uint8_t *)&l8;
-    l24.p = l23;
-    l24.n = UINT64_C(1024);
-    l25 = (uint8_t *)&(*(uint16_t *)l4.p);
-    l26.p = l25;
-    l26.n = l4.n;
-    l27 = (uint8_t *)&(*(uint64_t *)l5.p);
-    l28.p = l27;
-    l28.n = l5.n;
-    l0 = interpreter__turns__run(l11, l20, l2, l22, l24, l26, l28, l6);
+    l44 = (uint8_t *)&(*(uint64_t *)l7.p);
+    l45.p = l44;
+    l45.n = l7.n;
+    emit_steps__program(l2, l13, l21.f0, l45);
+    l23 = l21.f1;
+    l24.f0 = l23;
+    l46 = (uint8_t *)&(*(uint64_t *)l7.p);
+    l47.p = l46;
+    l47.n = l7.n;
+    l48 = (uint8_t *)&l16;
+    l49.p = l48;
+    l49.n = UINT64_C(129);
+    l50 = (uint8_t *)&l15;
+    l51.p = l50;
+    l51.n = UINT64_C(1024);
+    l52 = (uint8_t *)&l18;
+    l53.p = l52;
+    l53.n = UINT64_C(1536);
+    l54 = (uint8_t *)&l19;
+    l55.p = l54;
+    l55.n = UINT64_C(8192);
+    l25 = interpreter__turns__run(l24, l47, l13, l49, l51, l53, l55, l5);
+    l56 = (uint8_t *)&l18;
+    l57.p = l56;
+    l57.n = UINT64_C(1536);
+    l58 = (uint8_t *)&l19;
+    l59.p = l58;
+    l59.n = UINT64_C(8192);
+    l60 = (uint8_t *)&l17;
+    l61.p = l60;
+    l61.n = UINT64_C(8568);
+    l62 = (uint8_t *)&(*(uint8_t *)l6.p);
+    l63.p = l62;
+    l63.n = l6.n;
+    l0 = run_images__reported(l13, l57, l59, l25, l8.f6, l61, l63);
     return l0;
 }
 
@@ -11798,71 +12671,107 @@ static inline struct run_images__Report run_images__reported(rt_slice l1, rt_sli
     return l0;
 }
 
+static inline uint8_t run_images__room(uint64_t l1, uint64_t l2, uint64_t l3)
+{
+    uint8_t l0;
+    uint8_t l4;
+    l4 = (uint8_t)(l1 < UINT64_C(8704));
+    if (l4) {
+        l0 = UINT8_C(13);
+        return l0;
+    }
+    l4 = (uint8_t)(l2 < UINT64_C(1024));
+    if (l4) {
+        l0 = UINT8_C(13);
+        return l0;
+    }
+    l4 = (uint8_t)(UINT64_C(65536) < l3);
+    if (l4) {
+        l0 = UINT8_C(14);
+        return l0;
+    }
+    l0 = UINT8_C(0);
+    return l0;
+}
+
 static inline struct run_images__Report run_images__run(rt_slice l1, rt_slice l2, rt_slice l3, rt_slice l4, rt_slice l5)
 {
     struct run_images__Report l0;
     struct rt_array_uint8_5730 l6;
     struct rt_array_uint8_16 l7;
     struct rt_array_uint8_128 l8;
-    struct load__Load l9;
-    struct load__Loaded l10;
-    uint64_t l11;
-    struct seating__Params l12;
-    uint8_t *l13;
-    rt_slice l14;
-    uint8_t *l15;
-    rt_slice l16;
-    uint8_t *l17;
-    rt_slice l18;
-    uint8_t l19;
-    struct rt_array_uint8_16 l20;
-    struct rt_array_uint8_128 l21;
-    uint8_t *l22;
-    rt_slice l23;
-    uint8_t *l24;
-    rt_slice l25;
-    uint8_t *l26;
-    rt_slice l27;
+    struct rt_array_uint16_512 l9;
+    struct load__Load l10;
+    struct load__Loaded l11;
+    uint64_t l12;
+    struct seating__Opened l13;
+    uint8_t *l14;
+    rt_slice l15;
+    uint8_t *l16;
+    rt_slice l17;
+    uint8_t *l18;
+    rt_slice l19;
+    uint8_t *l20;
+    rt_slice l21;
+    uint8_t l22;
+    struct rt_array_uint8_16 l23;
+    struct rt_array_uint8_128 l24;
+    uint8_t *l25;
+    rt_slice l26;
+    uint8_t *l27;
+    rt_slice l28;
+    uint8_t *l29;
+    rt_slice l30;
+    uint8_t *l31;
+    rt_slice l32;
     memset(&l6, 0, sizeof l6);
     memset(&l7, 0, sizeof l7);
     memset(&l8, 0, sizeof l8);
-    l13 = (uint8_t *)&l6;
-    l14.p = l13;
-    l14.n = UINT64_C(5730);
-    l15 = (uint8_t *)&l7;
-    l16.p = l15;
-    l16.n = UINT64_C(16);
-    l17 = (uint8_t *)&l8;
-    l18.p = l17;
-    l18.n = UINT64_C(128);
-    l9 = seating__admit(l1, l14, l16, l18);
-    switch (l9.tag) {
+    memset(&l9, 0, sizeof l9);
+    l14 = (uint8_t *)&l6;
+    l15.p = l14;
+    l15.n = UINT64_C(5730);
+    l16 = (uint8_t *)&l7;
+    l17.p = l16;
+    l17.n = UINT64_C(16);
+    l18 = (uint8_t *)&l8;
+    l19.p = l18;
+    l19.n = UINT64_C(128);
+    l20 = (uint8_t *)&l9;
+    l21.p = l20;
+    l21.n = UINT64_C(512);
+    l10 = seating__admit(l1, l15, l17, l19, l21);
+    switch (l10.tag) {
         case UINT8_C(0): {
-            l10 = l9.s0;
+            l11 = l10.s0;
             break;
         }
         case UINT8_C(1): default: {
-            l19 = load__refusal(l9);
-            l0 = run_images__refused(l19);
+            l22 = load__refusal(l10);
+            l0 = run_images__refused(l22);
             return l0;
             break;
         }
     }
-    l11 = l10.f0;
-    l20 = l7;
-    l21 = l8;
-    l12.f0 = l20;
-    l12.f1 = l21;
-    l22 = (uint8_t *)&l6;
-    l23.p = l22;
-    l23.n = l11;
-    l24 = (uint8_t *)&(*(uint8_t *)l4.p);
-    l25.p = l24;
-    l25.n = l4.n;
-    l26 = (uint8_t *)&(*(uint64_t *)l5.p);
-    l27.p = l26;
-    l27.n = l5.n;
-    l0 = run_images__begun(l10, l12, l23, l2, l3, l25, l27);
+    l12 = l11.f0;
+    l23 = l7;
+    l24 = l8;
+    l13.f0 = l11;
+    l13.f1 = l23;
+    l13.f2 = l24;
+    l25 = (uint8_t *)&l6;
+    l26.p = l25;
+    l26.n = l12;
+    l27 = (uint8_t *)&l9;
+    l28.p = l27;
+    l28.n = UINT64_C(512);
+    l29 = (uint8_t *)&(*(uint8_t *)l4.p);
+    l30.p = l29;
+    l30.n = l4.n;
+    l31 = (uint8_t *)&(*(uint64_t *)l5.p);
+    l32.p = l31;
+    l32.n = l5.n;
+    l0 = run_images__begun(l13, l26, l28, l2, l3, l30, l32);
     return l0;
 }
 
@@ -12062,54 +12971,59 @@ static inline struct layout__Numbers scheduler__schedule__round(uint64_t l1, str
     return l0;
 }
 
-static inline struct load__Load seating__admit(rt_slice l1, rt_slice l2, rt_slice l3, rt_slice l4)
+static inline struct load__Load seating__admit(rt_slice l1, rt_slice l2, rt_slice l3, rt_slice l4, rt_slice l5)
 {
     struct load__Load l0;
-    struct rt_array_uint8_32256 l5;
-    struct load__Load l6;
-    struct load__Loaded l7;
-    uint64_t l8;
-    uint8_t *l9;
-    rt_slice l10;
-    uint8_t *l11;
-    rt_slice l12;
-    uint8_t *l13;
-    rt_slice l14;
+    struct rt_array_uint8_32256 l6;
+    struct load__Load l7;
+    struct load__Loaded l8;
+    uint64_t l9;
+    uint8_t *l10;
+    rt_slice l11;
+    uint8_t *l12;
+    rt_slice l13;
+    uint8_t *l14;
+    rt_slice l15;
     uint8_t *l16;
     rt_slice l17;
-    uint8_t *l18;
-    rt_slice l19;
-    memset(&l5, 0, sizeof l5);
-    l9 = (uint8_t *)&l5;
-    l10.p = l9;
-    l10.n = UINT64_C(32256);
-    l11 = (uint8_t *)&(*(uint8_t *)l3.p);
-    l12.p = l11;
-    l12.n = l3.n;
-    l13 = (uint8_t *)&(*(uint8_t *)l4.p);
-    l14.p = l13;
-    l14.n = l4.n;
-    l6 = load__tables(l1, l10, l12, l14);
-    switch (l6.tag) {
+    uint8_t *l19;
+    rt_slice l20;
+    uint8_t *l21;
+    rt_slice l22;
+    memset(&l6, 0, sizeof l6);
+    l10 = (uint8_t *)&l6;
+    l11.p = l10;
+    l11.n = UINT64_C(32256);
+    l12 = (uint8_t *)&(*(uint8_t *)l3.p);
+    l13.p = l12;
+    l13.n = l3.n;
+    l14 = (uint8_t *)&(*(uint8_t *)l4.p);
+    l15.p = l14;
+    l15.n = l4.n;
+    l16 = (uint8_t *)&(*(uint16_t *)l5.p);
+    l17.p = l16;
+    l17.n = l5.n;
+    l7 = load__program(l1, l11, l13, l15, l17);
+    switch (l7.tag) {
         case UINT8_C(0): {
-            l7 = l6.s0;
+            l8 = l7.s0;
             break;
         }
         case UINT8_C(1): default: {
-            l0 = l6;
+            l0 = l7;
             return l0;
             break;
         }
     }
-    l8 = l7.f0;
-    l16 = (uint8_t *)&(*(uint8_t *)l2.p);
-    l17.p = l16;
-    l17.n = l2.n;
-    l18 = (uint8_t *)&l5;
-    l19.p = l18;
-    l19.n = l8;
-    block__put__copy(l17, UINT64_C(0), l19);
-    l0 = l6;
+    l9 = l8.f0;
+    l19 = (uint8_t *)&(*(uint8_t *)l2.p);
+    l20.p = l19;
+    l20.n = l2.n;
+    l21 = (uint8_t *)&l6;
+    l22.p = l21;
+    l22.n = l9;
+    block__put__copy(l20, UINT64_C(0), l22);
+    l0 = l7;
     return l0;
 }
 
@@ -13860,35 +14774,35 @@ static inline uint64_t text_place__unnamed(rt_slice l1, rt_slice l2, rt_slice l3
     return l0;
 }
 
-static inline struct trace_images__Traced trace_images__begun(struct load__Loaded l1, struct seating__Params l2, rt_slice l3, rt_slice l4, rt_slice l5, uint64_t l6, rt_slice l7)
+static inline struct trace_images__Traced trace_images__begun(struct seating__Opened l1, rt_slice l2, rt_slice l3, rt_slice l4, rt_slice l5, uint64_t l6, rt_slice l7)
 {
     struct trace_images__Traced l0;
-    struct rt_array_uint8_16 l8;
-    struct rt_array_uint8_128 l9;
-    uint64_t l10;
+    struct load__Loaded l8;
+    struct rt_array_uint8_16 l9;
+    struct rt_array_uint8_128 l10;
     uint64_t l11;
-    rt_slice l12;
+    uint64_t l12;
     rt_slice l13;
-    struct rt_array_uint16_1536 l14;
-    struct rt_array_uint64_8192 l15;
-    struct seating__SeatRead l16;
-    struct seating__Seat l17;
-    struct trace_images__telling__Start l18;
-    struct trace_images__telling__Telling l19;
-    struct trace_lines__Coming l20;
-    uint8_t *l21;
-    uint8_t *l22;
+    rt_slice l14;
+    struct rt_array_uint16_1536 l15;
+    struct rt_array_uint64_8192 l16;
+    struct seating__SeatRead l17;
+    struct seating__Seat l18;
+    struct seating__Opened l19;
+    struct trace_images__telling__Start l20;
+    struct trace_images__telling__Telling l21;
+    struct trace_lines__Coming l22;
     uint8_t *l23;
-    rt_slice l24;
+    uint8_t *l24;
     uint8_t *l25;
     rt_slice l26;
-    uint8_t l27;
-    uint8_t *l28;
-    rt_slice l29;
-    uint64_t l30;
-    uint8_t l31;
-    uint8_t *l32;
-    rt_slice l33;
+    uint8_t *l27;
+    rt_slice l28;
+    uint8_t l29;
+    uint8_t *l30;
+    rt_slice l31;
+    uint64_t l32;
+    uint8_t l33;
     uint8_t *l34;
     rt_slice l35;
     uint8_t *l36;
@@ -13897,66 +14811,71 @@ static inline struct trace_images__Traced trace_images__begun(struct load__Loade
     rt_slice l39;
     uint8_t *l40;
     rt_slice l41;
-    l8 = l2.f0;
-    l9 = l2.f1;
-    l10 = (uint64_t)l1.f3;
-    l11 = (uint64_t)((uint64_t)UINT64_C(8) * (uint64_t)l10);
-    l21 = (uint8_t *)&l8;
-    l12.p = l21;
-    l12.n = l10;
-    l22 = (uint8_t *)&l9;
-    l13.p = l22;
+    uint8_t *l42;
+    rt_slice l43;
+    l8 = l1.f0;
+    l9 = l1.f1;
+    l10 = l1.f2;
+    l11 = (uint64_t)l8.f3;
+    l12 = (uint64_t)((uint64_t)UINT64_C(8) * (uint64_t)l11);
+    l23 = (uint8_t *)&l9;
+    l13.p = l23;
     l13.n = l11;
-    memset(&l14, 0, sizeof l14);
+    l24 = (uint8_t *)&l10;
+    l14.p = l24;
+    l14.n = l12;
     memset(&l15, 0, sizeof l15);
-    l23 = (uint8_t *)&l14;
-    l24.p = l23;
-    l24.n = UINT64_C(1536);
+    memset(&l16, 0, sizeof l16);
     l25 = (uint8_t *)&l15;
     l26.p = l25;
-    l26.n = UINT64_C(8192);
-    l16 = trace_images__seated(l1.f1, l12, l13, l4, l24, l26);
-    switch (l16.tag) {
+    l26.n = UINT64_C(1536);
+    l27 = (uint8_t *)&l16;
+    l28.p = l27;
+    l28.n = UINT64_C(8192);
+    l17 = trace_images__seated(l8.f1, l13, l14, l4, l26, l28);
+    switch (l17.tag) {
         case UINT8_C(0): {
-            l17 = l16.s0;
+            l18 = l17.s0;
             break;
         }
         case UINT8_C(1): default: {
-            l27 = seating__refusal(l16);
-            l28 = (uint8_t *)&(*(uint8_t *)l7.p);
-            l29.p = l28;
-            l29.n = l7.n;
-            l0 = trace_images__pages__refused(l27, l6, l29);
+            l29 = seating__refusal(l17);
+            l30 = (uint8_t *)&(*(uint8_t *)l7.p);
+            l31.p = l30;
+            l31.n = l7.n;
+            l0 = trace_images__pages__refused(l29, l6, l31);
             return l0;
             break;
         }
     }
-    l30 = l5.n;
-    l31 = (uint8_t)(UINT64_C(65536) < l30);
-    if (l31) {
-        l32 = (uint8_t *)&(*(uint8_t *)l7.p);
-        l33.p = l32;
-        l33.n = l7.n;
-        l0 = trace_images__pages__refused(UINT8_C(14), l6, l33);
+    l32 = l5.n;
+    l33 = (uint8_t)(UINT64_C(65536) < l32);
+    if (l33) {
+        l34 = (uint8_t *)&(*(uint8_t *)l7.p);
+        l35.p = l34;
+        l35.n = l7.n;
+        l0 = trace_images__pages__refused(UINT8_C(14), l6, l35);
         return l0;
     }
-    l18.f0 = l17;
-    l18.f1 = l6;
-    l34 = (uint8_t *)&l14;
-    l35.p = l34;
-    l35.n = UINT64_C(1536);
+    l19 = l1;
+    l20.f0 = l19;
+    l20.f1 = l18;
+    l20.f2 = l6;
     l36 = (uint8_t *)&l15;
     l37.p = l36;
-    l37.n = UINT64_C(8192);
-    l38 = (uint8_t *)&(*(uint8_t *)l7.p);
+    l37.n = UINT64_C(1536);
+    l38 = (uint8_t *)&l16;
     l39.p = l38;
-    l39.n = l7.n;
-    l19 = trace_images__telling__play(l3, l12, l18, l35, l37, l5, l39);
-    l20 = l19.f0;
+    l39.n = UINT64_C(8192);
     l40 = (uint8_t *)&(*(uint8_t *)l7.p);
     l41.p = l40;
     l41.n = l7.n;
-    l0 = trace_images__pages__ended(l19.f3, l19.f1, l20.f2, l41);
+    l21 = trace_images__telling__play(l2, l3, l20, l37, l39, l5, l41);
+    l22 = l21.f0;
+    l42 = (uint8_t *)&(*(uint8_t *)l7.p);
+    l43.p = l42;
+    l43.n = l7.n;
+    l0 = trace_images__pages__ended(l21.f3, l21.f1, l22.f2, l43);
     return l0;
 }
 
@@ -14154,13 +15073,13 @@ static inline struct trace_images__telling__Telling trace_images__telling__first
     struct engine__Machine l3;
     struct trace_lines__Coming l4;
     struct trace_images__pages__Page l5;
-    l2 = l1.f0.f1;
+    l2 = l1.f1.f1;
     l3.f0 = l2;
     l4.f0 = l3;
     l4.f1 = UINT64_C(0);
     l4.f2 = UINT64_C(0);
     l4.f3 = UINT8_C(0);
-    l5 = trace_images__pages__blank(l1.f1);
+    l5 = trace_images__pages__blank(l1.f2);
     l0.f0 = l4;
     l0.f1 = UINT8_C(0);
     l0.f2 = 0;
@@ -14212,118 +15131,134 @@ static inline struct trace_images__telling__Telling trace_images__telling__moved
 static inline struct trace_images__telling__Telling trace_images__telling__play(rt_slice l1, rt_slice l2, struct trace_images__telling__Start l3, rt_slice l4, rt_slice l5, rt_slice l6, rt_slice l7)
 {
     struct trace_images__telling__Telling l0;
-    struct rt_array_uint64_1024 l8;
-    struct rt_array_uint16_1024 l9;
-    struct rt_array_uint64_129 l10;
-    struct seating__Seat l11;
-    struct trace_images__telling__Telling l12;
-    struct trace_images__telling__Telling l13;
-    struct trace_images__telling__Telling l14;
-    uint8_t *l16;
-    rt_slice l17;
-    uint8_t *l18;
-    rt_slice l19;
+    struct seating__Opened l8;
+    struct rt_array_uint8_16 l9;
+    struct load__Loaded l10;
+    uint64_t l11;
+    rt_slice l12;
+    struct rt_array_uint64_1024 l13;
+    struct rt_array_uint16_1024 l14;
+    struct rt_array_uint64_129 l15;
+    struct seating__Seat l16;
+    struct trace_images__telling__Telling l17;
+    struct trace_images__telling__Telling l18;
+    struct trace_images__telling__Telling l19;
     uint8_t *l20;
-    rt_slice l21;
-    struct trace_images__telling__Telling l22;
+    uint64_t l22;
     uint8_t *l23;
     rt_slice l24;
     uint8_t *l25;
     rt_slice l26;
     uint8_t *l27;
     rt_slice l28;
-    uint8_t *l29;
-    rt_slice l30;
-    uint8_t l31;
+    struct trace_images__telling__Telling l29;
+    uint8_t *l30;
+    rt_slice l31;
     uint8_t *l32;
     rt_slice l33;
     uint8_t *l34;
     rt_slice l35;
     uint8_t *l36;
     rt_slice l37;
-    uint8_t *l38;
-    rt_slice l39;
-    uint8_t *l40;
-    rt_slice l41;
-    uint8_t *l42;
-    rt_slice l43;
-    uint8_t *l44;
-    rt_slice l45;
-    uint8_t *l46;
-    rt_slice l47;
-    uint8_t *l48;
-    rt_slice l49;
-    memset(&l8, 0, sizeof l8);
-    memset(&l9, 0, sizeof l9);
-    memset(&l10, 0, sizeof l10);
-    l11 = l3.f0;
-    l16 = (uint8_t *)&l8;
-    l17.p = l16;
-    l17.n = UINT64_C(1024);
-    l18 = (uint8_t *)&l9;
-    l19.p = l18;
-    l19.n = UINT64_C(1024);
-    l20 = (uint8_t *)&l10;
-    l21.p = l20;
-    l21.n = UINT64_C(129);
-    compile__program(l1, l2, l11.f0, l17, l19, l21);
-    l22 = trace_images__telling__first(l3);
-    l23 = (uint8_t *)&l10;
+    uint8_t l38;
+    uint8_t *l39;
+    rt_slice l40;
+    uint8_t *l41;
+    rt_slice l42;
+    uint8_t *l43;
+    rt_slice l44;
+    uint8_t *l45;
+    rt_slice l46;
+    uint8_t *l47;
+    rt_slice l48;
+    uint8_t *l49;
+    rt_slice l50;
+    uint8_t *l51;
+    rt_slice l52;
+    uint8_t *l53;
+    rt_slice l54;
+    uint8_t *l55;
+    rt_slice l56;
+    l8 = l3.f0;
+    l9 = l8.f1;
+    l10 = l8.f0;
+    l11 = (uint64_t)l10.f3;
+    l20 = (uint8_t *)&l9;
+    l12.p = l20;
+    l12.n = l11;
+    memset(&l13, 0, sizeof l13);
+    memset(&l14, 0, sizeof l14);
+    memset(&l15, 0, sizeof l15);
+    l22 = (uint64_t)l10.f4;
+    l23 = (uint8_t *)&l14;
     l24.p = l23;
-    l24.n = UINT64_C(129);
-    l25 = (uint8_t *)&l9;
+    l24.n = UINT64_C(1024);
+    l25 = (uint8_t *)&l15;
     l26.p = l25;
-    l26.n = UINT64_C(1024);
-    l27 = (uint8_t *)&(*(uint16_t *)l4.p);
+    l26.n = UINT64_C(129);
+    compile__program(l1, l10.f2, l11, l2, l22, l24, l26);
+    l16 = l3.f1;
+    l27 = (uint8_t *)&l13;
     l28.p = l27;
-    l28.n = l4.n;
-    l29 = (uint8_t *)&(*(uint8_t *)l7.p);
-    l30.p = l29;
-    l30.n = l7.n;
-    l12 = trace_images__telling__settle(l22, l24, l26, l28, l30);
-    l13 = trace_images__telling__told_at(l12, l6);
+    l28.n = UINT64_C(1024);
+    emit_steps__program(l1, l12, l16.f0, l28);
+    l29 = trace_images__telling__first(l3);
+    l30 = (uint8_t *)&l15;
+    l31.p = l30;
+    l31.n = UINT64_C(129);
+    l32 = (uint8_t *)&l14;
+    l33.p = l32;
+    l33.n = UINT64_C(1024);
+    l34 = (uint8_t *)&(*(uint16_t *)l4.p);
+    l35.p = l34;
+    l35.n = l4.n;
+    l36 = (uint8_t *)&(*(uint8_t *)l7.p);
+    l37.p = l36;
+    l37.n = l7.n;
+    l17 = trace_images__telling__settle(l29, l31, l33, l35, l37);
+    l18 = trace_images__telling__told_at(l17, l6);
     for (;;) {
-        l31 = l13.f2;
-        if (l31) {
+        l38 = l18.f2;
+        if (l38) {
         } else {
             goto end1;
         }
-        l32 = (uint8_t *)&l8;
-        l33.p = l32;
-        l33.n = UINT64_C(1024);
-        l34 = (uint8_t *)&l9;
-        l35.p = l34;
-        l35.n = UINT64_C(1024);
-        l36 = (uint8_t *)&(*(uint16_t *)l4.p);
-        l37.p = l36;
-        l37.n = l4.n;
-        l38 = (uint8_t *)&(*(uint64_t *)l5.p);
-        l39.p = l38;
-        l39.n = l5.n;
-        l40 = (uint8_t *)&(*(uint8_t *)l7.p);
-        l41.p = l40;
-        l41.n = l7.n;
-        l13 = trace_images__telling__turn(l13, l33, l2, l35, l37, l39, l41);
-        l31 = (uint8_t)(l13.f1 == UINT8_C(0));
-        if (l31) {
-            l42 = (uint8_t *)&l10;
-            l43.p = l42;
-            l43.n = UINT64_C(129);
-            l44 = (uint8_t *)&l9;
-            l45.p = l44;
-            l45.n = UINT64_C(1024);
-            l46 = (uint8_t *)&(*(uint16_t *)l4.p);
-            l47.p = l46;
-            l47.n = l4.n;
-            l48 = (uint8_t *)&(*(uint8_t *)l7.p);
-            l49.p = l48;
-            l49.n = l7.n;
-            l14 = trace_images__telling__settle(l13, l43, l45, l47, l49);
-            l13 = trace_images__telling__told_at(l14, l6);
+        l39 = (uint8_t *)&l13;
+        l40.p = l39;
+        l40.n = UINT64_C(1024);
+        l41 = (uint8_t *)&l14;
+        l42.p = l41;
+        l42.n = UINT64_C(1024);
+        l43 = (uint8_t *)&(*(uint16_t *)l4.p);
+        l44.p = l43;
+        l44.n = l4.n;
+        l45 = (uint8_t *)&(*(uint64_t *)l5.p);
+        l46.p = l45;
+        l46.n = l5.n;
+        l47 = (uint8_t *)&(*(uint8_t *)l7.p);
+        l48.p = l47;
+        l48.n = l7.n;
+        l18 = trace_images__telling__turn(l18, l40, l12, l42, l44, l46, l48);
+        l38 = (uint8_t)(l18.f1 == UINT8_C(0));
+        if (l38) {
+            l49 = (uint8_t *)&l15;
+            l50.p = l49;
+            l50.n = UINT64_C(129);
+            l51 = (uint8_t *)&l14;
+            l52.p = l51;
+            l52.n = UINT64_C(1024);
+            l53 = (uint8_t *)&(*(uint16_t *)l4.p);
+            l54.p = l53;
+            l54.n = l4.n;
+            l55 = (uint8_t *)&(*(uint8_t *)l7.p);
+            l56.p = l55;
+            l56.n = l7.n;
+            l19 = trace_images__telling__settle(l18, l50, l52, l54, l56);
+            l18 = trace_images__telling__told_at(l19, l6);
         }
     }
 end1:;
-    l0 = l13;
+    l0 = l18;
     return l0;
 }
 
@@ -14479,65 +15414,78 @@ static inline struct trace_images__Traced trace_images__trace(rt_slice l1, rt_sl
     struct rt_array_uint8_5730 l6;
     struct rt_array_uint8_16 l7;
     struct rt_array_uint8_128 l8;
-    struct load__Load l9;
-    struct load__Loaded l10;
-    uint64_t l11;
-    struct seating__Params l12;
-    uint8_t *l13;
-    rt_slice l14;
-    uint8_t *l15;
-    rt_slice l16;
-    uint8_t *l17;
-    rt_slice l18;
-    uint8_t l19;
+    struct rt_array_uint16_512 l9;
+    struct load__Load l10;
+    struct load__Loaded l11;
+    uint64_t l12;
+    struct seating__Opened l13;
+    uint8_t *l14;
+    rt_slice l15;
+    uint8_t *l16;
+    rt_slice l17;
+    uint8_t *l18;
+    rt_slice l19;
     uint8_t *l20;
     rt_slice l21;
-    struct rt_array_uint8_16 l22;
-    struct rt_array_uint8_128 l23;
-    uint8_t *l24;
-    rt_slice l25;
-    uint8_t *l26;
-    rt_slice l27;
+    uint8_t l22;
+    uint8_t *l23;
+    rt_slice l24;
+    struct rt_array_uint8_16 l25;
+    struct rt_array_uint8_128 l26;
+    uint8_t *l27;
+    rt_slice l28;
+    uint8_t *l29;
+    rt_slice l30;
+    uint8_t *l31;
+    rt_slice l32;
     memset(&l6, 0, sizeof l6);
     memset(&l7, 0, sizeof l7);
     memset(&l8, 0, sizeof l8);
-    l13 = (uint8_t *)&l6;
-    l14.p = l13;
-    l14.n = UINT64_C(5730);
-    l15 = (uint8_t *)&l7;
-    l16.p = l15;
-    l16.n = UINT64_C(16);
-    l17 = (uint8_t *)&l8;
-    l18.p = l17;
-    l18.n = UINT64_C(128);
-    l9 = seating__admit(l1, l14, l16, l18);
-    switch (l9.tag) {
+    memset(&l9, 0, sizeof l9);
+    l14 = (uint8_t *)&l6;
+    l15.p = l14;
+    l15.n = UINT64_C(5730);
+    l16 = (uint8_t *)&l7;
+    l17.p = l16;
+    l17.n = UINT64_C(16);
+    l18 = (uint8_t *)&l8;
+    l19.p = l18;
+    l19.n = UINT64_C(128);
+    l20 = (uint8_t *)&l9;
+    l21.p = l20;
+    l21.n = UINT64_C(512);
+    l10 = seating__admit(l1, l15, l17, l19, l21);
+    switch (l10.tag) {
         case UINT8_C(0): {
-            l10 = l9.s0;
+            l11 = l10.s0;
             break;
         }
         case UINT8_C(1): default: {
-            l19 = load__refusal(l9);
-            l20 = (uint8_t *)&(*(uint8_t *)l5.p);
-            l21.p = l20;
-            l21.n = l5.n;
-            l0 = trace_images__pages__refused(l19, l4, l21);
+            l22 = load__refusal(l10);
+            l23 = (uint8_t *)&(*(uint8_t *)l5.p);
+            l24.p = l23;
+            l24.n = l5.n;
+            l0 = trace_images__pages__refused(l22, l4, l24);
             return l0;
             break;
         }
     }
-    l11 = l10.f0;
-    l22 = l7;
-    l23 = l8;
-    l12.f0 = l22;
-    l12.f1 = l23;
-    l24 = (uint8_t *)&l6;
-    l25.p = l24;
-    l25.n = l11;
-    l26 = (uint8_t *)&(*(uint8_t *)l5.p);
-    l27.p = l26;
-    l27.n = l5.n;
-    l0 = trace_images__begun(l10, l12, l25, l2, l3, l4, l27);
+    l12 = l11.f0;
+    l25 = l7;
+    l26 = l8;
+    l13.f0 = l11;
+    l13.f1 = l25;
+    l13.f2 = l26;
+    l27 = (uint8_t *)&l6;
+    l28.p = l27;
+    l28.n = l12;
+    l29 = (uint8_t *)&l9;
+    l30.p = l29;
+    l30.n = UINT64_C(512);
+    l31 = (uint8_t *)&(*(uint8_t *)l5.p);
+    l32.p = l31;
+    l32.n = l5.n;
+    l0 = trace_images__begun(l13, l28, l30, l2, l3, l4, l32);
     return l0;
 }
 
@@ -14918,30 +15866,31 @@ static inline uint64_t trace_lines__parts__tag(rt_slice l1, uint64_t l2)
     uint64_t l3;
     uint64_t l4;
     uint64_t l5;
-    uint64_t l6;
+    uint8_t l6;
     uint8_t l7;
     uint64_t l8;
     uint64_t l9;
     uint64_t l10;
-    uint8_t *l11;
-    uint16_t l12;
-    l6 = (uint64_t)((uint64_t)l2 / (uint64_t)UINT64_C(256));
-    l3 = (uint64_t)((uint64_t)l6 % (uint64_t)UINT64_C(256));
+    uint64_t l11;
+    uint8_t *l12;
+    uint16_t l13;
+    l6 = layout__type_byte(l2);
+    l3 = (uint64_t)l6;
     l7 = (uint8_t)(l3 < UINT64_C(16));
     if (l7) {
         l0 = l3;
         return l0;
     }
-    l6 = (uint64_t)((uint64_t)l2 / (uint64_t)UINT64_C(4294967296));
-    l4 = l6;
-    l8 = (uint64_t)((uint64_t)UINT64_C(6) * (uint64_t)l4);
-    l9 = (uint64_t)((uint64_t)l8 + (uint64_t)UINT64_C(0));
-    l10 = (uint64_t)((uint64_t)l9 * (uint64_t)UINT64_C(2));
-    l11 = l1.p + (size_t)l10;
-    l12 = (*(uint16_t *)l11);
-    l5 = (uint64_t)l12;
-    l6 = l5;
-    l0 = (uint64_t)((uint64_t)UINT64_C(16) + (uint64_t)l6);
+    l8 = layout__operand(l2);
+    l4 = l8;
+    l9 = (uint64_t)((uint64_t)UINT64_C(6) * (uint64_t)l4);
+    l10 = (uint64_t)((uint64_t)l9 + (uint64_t)UINT64_C(0));
+    l11 = (uint64_t)((uint64_t)l10 * (uint64_t)UINT64_C(2));
+    l12 = l1.p + (size_t)l11;
+    l13 = (*(uint16_t *)l12);
+    l5 = (uint64_t)l13;
+    l8 = l5;
+    l0 = (uint64_t)((uint64_t)UINT64_C(16) + (uint64_t)l8);
     return l0;
 }
 
@@ -14950,15 +15899,15 @@ static inline uint64_t trace_lines__parts__worth(rt_slice l1, uint64_t l2, uint6
     uint64_t l0;
     uint8_t *l4;
     rt_slice l5;
-    uint64_t l6;
+    uint8_t l6;
     uint64_t l7;
     uint64_t l8;
     l4 = (uint8_t *)&(*(uint8_t *)l1.p);
     l5.p = l4;
     l5.n = l1.n;
-    l6 = (uint64_t)((uint64_t)l3 / (uint64_t)UINT64_C(256));
-    l7 = (uint64_t)((uint64_t)l6 % (uint64_t)UINT64_C(256));
-    l8 = (uint64_t)((uint64_t)l3 / (uint64_t)UINT64_C(4294967296));
+    l6 = layout__type_byte(l3);
+    l7 = (uint64_t)l6;
+    l8 = layout__operand(l3);
     l0 = text__value(l5, l2, l7, l8);
     return l0;
 }
@@ -15256,7 +16205,7 @@ static inline struct trace_lines__writes__Write trace_lines__writes__target(rt_s
         l0 = trace_lines__writes__nothing();
         return l0;
     }
-    l18 = (uint64_t)((uint64_t)l8 / (uint64_t)UINT64_C(4294967296));
+    l18 = layout__operand(l8);
     l9 = l18;
     l19 = (uint8_t)(UINT64_C(8) <= l9);
     if (l19) {
@@ -15276,7 +16225,7 @@ static inline struct trace_lines__writes__Write trace_lines__writes__target(rt_s
     l23 = l4.p + (size_t)l22;
     l18 = (*(uint64_t *)l23);
     l11 = l18;
-    l18 = (uint64_t)((uint64_t)l11 / (uint64_t)UINT64_C(4294967296));
+    l18 = layout__operand(l11);
     l12 = l18;
     l14 = l2.n;
     l19 = (uint8_t)(l12 < l14);
@@ -16957,6 +17906,13 @@ audala_verdict audala_check(const uint8_t *image, size_t length, uint64_t *list,
 {
     struct audala__Answer r = audala__audala_check(rt_lent(image, length), rt_lent(list, places));
     audala_verdict given = { .number = (uint32_t)r.f0, .structs = (uint32_t)r.f1, .steps = (uint32_t)r.f2, .commands = (uint32_t)r.f3, .depth = (uint32_t)r.f4 };
+    return given;
+}
+
+audala_counts audala_count(const uint8_t *program, size_t program_length, const uint8_t *table, size_t table_length, uint32_t name, uint32_t label, uint32_t parameter, uint64_t *list, size_t places)
+{
+    struct audala__tallies__Counts r = audala__tallies__audala_count(rt_lent(program, program_length), rt_lent(table, table_length), name, label, parameter, rt_lent(list, places));
+    audala_counts given = { .number = (uint32_t)r.f0, .true_orders = (uint32_t)r.f1, .false_orders = (uint32_t)r.f2, .stopped = (uint32_t)r.f3 };
     return given;
 }
 

@@ -1,5 +1,5 @@
 #!/usr/bin/env bash
-# Builds the C and Rust examples over the static library and runs each pair on P's image or text: their output must be the same. Then the first command of README, the
+# Builds the C and Rust examples over the static library and runs each pair on P's image or text: their output must be the same. Then the C command of README, the
 # trace of its run and, with rule.c, every run of texts/ and tutorial/, over dist/audala.c. The static library is built, unless a folder that holds it is named.
 set -euo pipefail
 here=$(cd "$(dirname "$0")" && pwd)

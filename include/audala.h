@@ -122,7 +122,7 @@ static inline const char *audala_message(uint32_t number) {
 #define AUDALA_CHECK_STACK 57344
 #define AUDALA_STEP_STACK 57344
 #define AUDALA_RUN_STACK 133120
-/* of libaudala.a 118,000 as measured with 12 commands open, 1,440 for each; of dist/audala.c not computed yet, so with more room than the others */
+/* of libaudala.a measured 115,064 with 10 commands open and 1,440 for each more, so some 118,000 with 12; of dist/audala.c not computed, so with more room than the others */
 #define AUDALA_COUNT_STACK 163840
 #define AUDALA_READ_IMAGE_STACK 1024
 #define AUDALA_WRITE_IMAGE_STACK 1024

@@ -47,6 +47,20 @@ pub fn trace(program: &[u8], table: &[u8], turns: &[u8]) -> (u32, Vec<u8>) {
     (traced.number, output)
 }
 
+/// The text of a run's trace from a place on, where so many turns are to be read: one call, and a second one where their lines are longer than expected.
+pub fn trace_from(program: &[u8], table: &[u8], turns: &[u8], from: u64, expected: usize) -> Vec<u8> {
+    const LINE: usize = 128;
+    let mut output = vec![0; LINE * (expected + LINE)];
+    loop {
+        let traced = audala::trace(program, table, turns, from, &mut output);
+        if traced.length <= from + output.len() as u64 {
+            output.truncate(traced.count);
+            return output;
+        }
+        output = vec![0; (traced.length - from) as usize];
+    }
+}
+
 /// The stream of a program image that was accepted.
 pub fn program_stream(image: &[u8]) -> Vec<u8> {
     stream(image, audala::PROGRAM_MOST)

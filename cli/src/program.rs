@@ -83,8 +83,8 @@ pub fn read(file: &str) -> Result<(Vec<u8>, Option<Vec<u8>>), Failure> {
     }
 }
 
-/// A refusal of a text with its place and its cause, as far as they are known. Of a 17 the library has the text's beginning for a declaration and the text's end
-/// for a count, which are no places to mark.
+/// A refusal of a text with its place and its cause, as far as they are known. Of a 17 the library has the text's beginning for a declaration and its end for a
+/// count, which are no places to mark.
 fn text_refused(file: &str, text: &[u8], number: u32) -> Failure {
     let at = engine::place(text);
     let unmarked = match at {

@@ -268,3 +268,26 @@ fn the_examples_run_as_written() {
     }
     assert!(runs >= 20);
 }
+
+/// Thousands of labels, in steps whose ifs are met for some instances and not for others, with turns before them: those act that were asked for.
+#[test]
+fn long_lists_of_labels_act_as_they_are_written() {
+    let folder = Folder::new();
+    let records: String = (1..=40).map(|label| format!("{label} 0 0 {}\n", 7 * label % 100)).collect();
+    let table = folder.write("fill.table", records.as_bytes());
+    let trace = |turns: &[&str]| {
+        let args = [&["trace", "--plain", "examples/tutorial/fill.audala", &table][..], turns].concat();
+        acted(&audala(&args, b"").out)
+    };
+    let wanted = trace(&["--random", "5", "8000"]);
+    assert_eq!(wanted.len(), 8_000);
+    assert_eq!(trace(&["--acting", &wanted.join(",")]), wanted);
+    let parts = ["--random", "5", "1111", "--acting", &wanted[1_111..].join(",")];
+    assert_eq!(trace(&parts), wanted);
+    // Hundreds of short steps.
+    let flips = folder.write("flips.audala", b"struct A(on: Bool) { s { on := !on; } }\nFix(s)");
+    let one = folder.write("one.table", b"1 0 0\n");
+    let trace = |turns: &[&str]| acted(&audala(&[&["trace", "--plain", &flips, &one][..], turns].concat(), b"").out);
+    let wanted = trace(&["--random", "7", "2000"]);
+    assert_eq!(trace(&["--acting", &wanted.join(",")]), wanted);
+}

@@ -8,7 +8,7 @@ use super::{Findings, NAME, Sort, TYPE, count};
 const MOST_PATH: usize = 4;
 
 /// Brackets and arguments that the walk goes into; in deeper ones it is lost.
-const MOST_OPEN: usize = 1_000;
+const MOST_OPEN: usize = 256;
 
 /// What is known of an expression: its type, where there is no mistake in it; levels, commands and the greatest height of the stack.
 #[derive(Debug, Clone, Copy)]

@@ -99,28 +99,40 @@ fn count(number: usize, thing: &str) -> String {
 #[cfg(test)]
 mod tests {
     use super::*;
+    use crate::engine;
     use std::path::Path;
 
-    /// In the texts of all examples, which the library accepts, the walk finds nothing and comes to the end.
-    #[test]
-    fn nothing_is_found_in_accepted_texts() {
-        let mut texts = 0;
-        for folder in ["texts", "texts/bare", "tutorial"] {
-            let folder = Path::new(env!("CARGO_MANIFEST_DIR")).join("../examples").join(folder);
-            for entry in std::fs::read_dir(folder).unwrap() {
-                let path = entry.unwrap().path();
-                if path.extension().is_some_and(|end| end == "audala") {
-                    let text = std::fs::read(&path).unwrap();
-                    assert!(walked(&text).0.is_empty(), "{path:?}: {:?}", walked(&text));
-                    texts += 1;
-                    let mut cursor = Cursor::new(&text);
-                    let mut found = Findings::default();
-                    let declared = Declared::read(&mut cursor, &mut found).expect("declarations");
-                    assert!(statements::walk(&text, &declared, &mut found).is_some(), "{path:?}");
-                    assert!(schedule::walk(&mut cursor, &declared, &mut found).is_some(), "{path:?}");
-                }
-            }
+    /// The texts of second/cases/texts.bin: the byte 3, the output's length, the text's length, the text (docs/CASES.md).
+    fn cases() -> Vec<Vec<u8>> {
+        let bytes = std::fs::read(Path::new(env!("CARGO_MANIFEST_DIR")).join("../second/cases/texts.bin")).unwrap();
+        let (mut texts, mut rest) = (Vec::new(), &bytes[..]);
+        while let [3, _, _, _, _, a, b, c, d, tail @ ..] = rest {
+            let (text, more) = tail.split_at(u32::from_le_bytes([*a, *b, *c, *d]) as usize);
+            texts.push(text.to_vec());
+            rest = more;
         }
-        assert!(texts > 40, "{texts}");
+        assert!(rest.is_empty());
+        texts
+    }
+
+    /// On the committed cases: nothing is found in a text that is accepted; of a number from 5 to 8 something is found unless brackets are too deep for the
+    /// walk, and nothing of a lower number, which the library would give.
+    #[test]
+    fn findings_fit_the_library() {
+        let (mut accepted, mut refused, mut lost) = (0, 0, 0);
+        for text in cases() {
+            let Ok(image) = engine::text(&text) else { continue };
+            let (number, found) = (engine::check(&image).number, walked(&text));
+            let shown = String::from_utf8_lossy(&text[..text.len().min(200)]).into_owned();
+            if number == 0 {
+                assert!(found.0.is_empty(), "{shown}: {found:?}");
+                accepted += 1;
+                continue;
+            }
+            assert!(found.0.iter().all(|finding| finding.number >= number), "{number}: {shown}: {found:?}");
+            refused += 1;
+            lost += usize::from(of_check(&text, number).is_none());
+        }
+        assert!(accepted > 100 && refused > 200 && lost < 10, "{accepted} accepted, {refused} refused, {lost} lost");
     }
 }

@@ -184,7 +184,6 @@ fn below(window: &Window, plot: &Plot, left_out: &[usize]) -> String {
 
 /// What the page's script asks for.
 fn data(window: &Window, lanes: &Lanes, plot: &Plot) -> String {
-    let story = window.story;
     let number = |value: Option<usize>| value.map_or("null".to_string(), |value| value.to_string());
     let slots: Vec<String> = window.events().map(|event| n(window.slot(event.turn.turn).unwrap_or(0.0))).collect();
     let turn = |item: &Item| number(if let Item::Event(event) = item { Some(event.turn.turn) } else { None });
@@ -198,19 +197,6 @@ fn data(window: &Window, lanes: &Lanes, plot: &Plot) -> String {
         .or(past)
         .and_then(|turn| window.slot(turn))
         .map(|slot| slot as usize);
-    let panel = window.events().map(|event| {
-        let notes: Vec<String> = words::notes(window, plot, event.turn.turn).iter().map(|note| json(note)).collect();
-        let stack = words::stack(story, &event.turn.stack);
-        let parts = [
-            &story.name(event.turn.label),
-            story.program.step_name(event.turn.step),
-            &event.statement,
-            &event.says,
-            &stack,
-        ];
-        format!("[{},[{}]]", parts.map(json).join(","), notes.join(","))
-    });
-    let panel: Vec<String> = panel.collect();
     let (first, last) = window.turns().unwrap_or((0, 0));
     format!(
         "{{\"px\":{PX},\"n\":{},\"h\":{},\"first\":{first},\"last\":{last},\"past\":{},\"see\":{},\n\
@@ -222,6 +208,24 @@ fn data(window: &Window, lanes: &Lanes, plot: &Plot) -> String {
         slots.join(","),
         turns.join(","),
         captions.join(","),
-        panel.join(",\n")
+        told(window, plot)
     )
+}
+
+/// What the panel shows of each turn: who acts, the step, the statement, the act, the stack and notes.
+fn told(window: &Window, plot: &Plot) -> String {
+    let story = window.story;
+    let turns = window.events().map(|event| {
+        let notes: Vec<String> = words::notes(window, plot, event.turn.turn).iter().map(|note| json(note)).collect();
+        let stack = words::stack(story, &event.turn.stack);
+        let parts = [
+            &story.name(event.turn.label),
+            story.program.step_name(event.turn.step),
+            &event.statement,
+            &event.says,
+            &stack,
+        ];
+        format!("[{},[{}]]", parts.map(json).join(","), notes.join(","))
+    });
+    turns.collect::<Vec<String>>().join(",\n")
 }

@@ -28,9 +28,19 @@ pub fn shell(line: &str) -> Said {
     said(command, b"")
 }
 
-fn said(mut command: Command, input: &[u8]) -> Said {
-    let top = Path::new(env!("CARGO_MANIFEST_DIR")).join("..");
-    command.current_dir(top).stdin(Stdio::piped()).stdout(Stdio::piped()).stderr(Stdio::piped());
+/// A shell command line in a folder, in which $AUDALA is the program.
+pub fn said_in(folder: &Folder, line: &str) -> Said {
+    let mut command = Command::new("sh");
+    command.args(["-c", line]).env("AUDALA", env!("CARGO_BIN_EXE_audala"));
+    said_at(&folder.0, command, b"")
+}
+
+fn said(command: Command, input: &[u8]) -> Said {
+    said_at(&Path::new(env!("CARGO_MANIFEST_DIR")).join(".."), command, input)
+}
+
+fn said_at(folder: &Path, mut command: Command, input: &[u8]) -> Said {
+    command.current_dir(folder).stdin(Stdio::piped()).stdout(Stdio::piped()).stderr(Stdio::piped());
     let mut child = command.spawn().expect("the program starts");
     let _ = child.stdin.take().expect("standard input is a pipe").write_all(input);
     let output = child.wait_with_output().expect("the program ends");
