@@ -7,7 +7,7 @@ use crate::cases::{
     take_number,
 };
 use crate::generate::encode::image;
-use engine::{Question, count};
+use engine::{Command, CountAnswer, Counting, Question, count, count_up_to};
 use std::io::{self, Read};
 
 /// The kind byte.
@@ -25,6 +25,10 @@ pub struct Count {
 }
 
 impl Count {
+    pub fn new(places: usize, question: Question, program: Vec<u8>, table: Vec<u8>) -> Count {
+        Count { places, question, program, table }
+    }
+
     /// Adds the case to a file's bytes.
     pub fn write(&self, file: &mut Vec<u8>) {
         file.push(KIND);
@@ -59,16 +63,32 @@ impl Count {
     /// The line that answers the case.
     pub fn answer(&self) -> String {
         let mut list = vec![None; self.places];
-        let answer = count(&self.program, &self.table, self.question, &mut list);
-        format!(
-            "count {} {} {} {} {}",
-            answer.number,
-            answer.with_true,
-            answer.with_false,
-            answer.stopped,
-            list_digest(&list)
-        )
+        line(&count(&self.program, &self.table, self.question, &mut list), &list)
     }
+
+    /// The answer with so many commands at most in the place of 12.
+    pub fn count_up_to(&self, most: usize, counting: Counting) -> CountAnswer {
+        let mut list = vec![None; self.places];
+        count_up_to(most, counting, &self.program, &self.table, self.question, &mut list)
+    }
+
+    /// The line of such an answer, by sums.
+    pub fn summed(&self, most: usize) -> String {
+        let (mut list, by) = (vec![None; self.places], Counting::Summed);
+        let answer = count_up_to(most, by, &self.program, &self.table, self.question, &mut list);
+        line(&answer, &list)
+    }
+}
+
+fn line(answer: &CountAnswer, list: &[Option<Command>]) -> String {
+    format!(
+        "count {} {} {} {} {}",
+        answer.number,
+        answer.with_true,
+        answer.with_false,
+        answer.stopped,
+        list_digest(list)
+    )
 }
 
 /// One struct (Bool, Int): step 3 is `on := true`, 4 has no statement, 5 is step 3

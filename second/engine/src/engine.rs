@@ -3,7 +3,7 @@
 
 use crate::command::Command;
 use crate::limits::{COMMANDS, COUNTED_COMMANDS, TABLE_BYTES, TURNS};
-use crate::machine::{Ending, Machine, Orders};
+use crate::machine::{Ending, Machine};
 use crate::program::{CompiledStep, Program, has_places, parts};
 use crate::refusal::Refusal;
 use crate::table;
@@ -136,6 +136,14 @@ pub struct Question {
     pub parameter: u32,
 }
 
+/// How orders are counted: by listing every sequence into a set, or by sums over
+/// the states that sequences meet in.
+#[derive(Clone, Copy, PartialEq, Eq, Debug)]
+pub enum Counting {
+    Listed,
+    Summed,
+}
+
 /// Counts the orders of a step started on a table for every struct that has it.
 /// The list gets the commands; a refusal leaves it untouched.
 pub fn count(
@@ -144,13 +152,28 @@ pub fn count(
     question: Question,
     list: &mut [Option<Command>],
 ) -> CountAnswer {
-    count_accepted(program, table, question, list).unwrap_or_else(|refusal| CountAnswer {
+    count_up_to(COUNTED_COMMANDS, Counting::Listed, program, table, question, list)
+}
+
+/// The same with so many commands at most in the place of 12.
+pub fn count_up_to(
+    most: usize,
+    counting: Counting,
+    program: &[u8],
+    table: &[u8],
+    question: Question,
+    list: &mut [Option<Command>],
+) -> CountAnswer {
+    let counted = count_accepted(most, counting, program, table, question, list);
+    counted.unwrap_or_else(|refusal| CountAnswer {
         number: refusal.number(),
         ..CountAnswer::default()
     })
 }
 
 fn count_accepted(
+    most: usize,
+    counting: Counting,
     program: &[u8],
     table: &[u8],
     question: Question,
@@ -176,18 +199,16 @@ fn count_accepted(
         let part = parts[usize::from(structure)];
         usize::from(part.end - part.first)
     };
-    if instances.iter().map(|instance| held(instance.structure)).sum::<usize>() > COUNTED_COMMANDS {
+    if instances.iter().map(|instance| held(instance.structure)).sum::<usize>() > most {
         return Err(Refusal::ManyCommands);
     }
-    let Orders { with_true, with_false, stopped } =
-        Machine::new(&program, instances).orders(&parts, label, parameter);
+    let machine = Machine::new(&program, instances);
+    let [with_true, with_false, stopped] = match counting {
+        Counting::Listed => machine.orders(&parts, label, parameter).counts(),
+        Counting::Summed => machine.sums(&parts, label, parameter),
+    };
     program.hand_out(list);
-    Ok(CountAnswer {
-        number: 0,
-        with_true: with_true.len(),
-        with_false: with_false.len(),
-        stopped: stopped.len(),
-    })
+    Ok(CountAnswer { number: 0, with_true, with_false, stopped })
 }
 
 #[cfg(test)]
@@ -201,12 +222,17 @@ mod tests {
         image
     }
 
-    /// Numbers and counts of a question, and whether the list was written.
+    /// Numbers and counts of a question, and whether the list was written; sums
+    /// over states give the same.
     fn asked(program: &[u8], table: &[u8], places: usize, asked: [u32; 3]) -> [usize; 5] {
         let mut list = vec![None; places];
         let [name, label, parameter] = asked;
-        let answer =
-            count(&image(program), &image(table), Question { name, label, parameter }, &mut list);
+        let (program, table) = (image(program), image(table));
+        let question = Question { name, label, parameter };
+        let answer = count(&program, &table, question, &mut list);
+        let (mut other, by) = (vec![None; places], Counting::Summed);
+        let summed = count_up_to(COUNTED_COMMANDS, by, &program, &table, question, &mut other);
+        assert_eq!((answer, &list), (summed, &other));
         let written = list.iter().flatten().count();
         [usize::from(answer.number), answer.with_true, answer.with_false, answer.stopped, written]
     }

@@ -15,8 +15,6 @@ use crate::types::Type;
 
 mod counts;
 
-pub use counts::Orders;
-
 pub struct Machine<'p> {
     structs: &'p [Vec<Type>],
     commands: &'p [Command],
