@@ -1,6 +1,6 @@
 /* The AuDaLa engine as one C99 file, to be compiled beside audala.h. It needs memcpy and memset and nothing else, keeps no data and allocates nothing.
  *
- * Written by tools/mir2c: do not edit. 493 functions, from the MIR that the libraries of the proved crates carry.
+ * Written by tools/mir2c: do not edit. 516 functions, from the MIR that the libraries of the proved crates carry.
  * Kit: rattle-kit-5b-plain logic 097e4c862dff5811
  *
  * Proved, of the MIR: that each function meets its contract for every input, and so reads and writes nothing outside of what it is lent, overflows nothing and
@@ -25,6 +25,11 @@ RT_ASSERT(uint64, sizeof(uint64_t) == 8);
 RT_ASSERT(unsigned_stays, sizeof(int) <= sizeof(uint32_t)); /* numbers of 32 bits are not promoted to a signed type */
 RT_ASSERT(length, sizeof(size_t) >= 4 && sizeof(size_t) <= 8); /* a length fits 64 bits, an offset fits a length */
 RT_ASSERT(pointer, offsetof(rt_slice, p) == 0);
+RT_ASSERT(audala_counts, sizeof(audala_counts) == 16);
+RT_ASSERT(audala_counts_number, offsetof(audala_counts, number) == 0);
+RT_ASSERT(audala_counts_true_orders, offsetof(audala_counts, true_orders) == 4);
+RT_ASSERT(audala_counts_false_orders, offsetof(audala_counts, false_orders) == 8);
+RT_ASSERT(audala_counts_stopped, offsetof(audala_counts, stopped) == 12);
 RT_ASSERT(audala_part, sizeof(audala_part) == 12);
 RT_ASSERT(audala_part_number, offsetof(audala_part, number) == 0);
 RT_ASSERT(audala_part_start, offsetof(audala_part, start) == 4);
@@ -143,6 +148,18 @@ struct blocks__Written {
 struct audala__places__Stopped {
     uint64_t f0;
 };
+struct count_images__Counts {
+    uint8_t f0;
+    uint32_t f1;
+    uint32_t f2;
+    uint32_t f3;
+};
+struct audala__tallies__Counts {
+    uint32_t f0;
+    uint32_t f1;
+    uint32_t f2;
+    uint32_t f3;
+};
 struct read_text__Answer {
     uint32_t f0;
     uint32_t f1;
@@ -227,6 +244,96 @@ struct composing__Placed {
     uint8_t tag;
     uint64_t s0;
 };
+struct layout__Numbers {
+    uint64_t f0;
+    uint64_t f1;
+    uint64_t f2;
+    uint64_t f3;
+    uint8_t f4;
+    uint64_t f5;
+    uint64_t f6;
+};
+struct seating__Seat {
+    uint64_t f0;
+    struct layout__Numbers f1;
+};
+struct count_images__Question {
+    uint64_t f0;
+    uint64_t f1;
+    uint64_t f2;
+};
+struct count_images__Asking {
+    struct seating__Seat f0;
+    struct count_images__Question f1;
+    uint64_t f2;
+    uint64_t f3;
+};
+struct engine__Machine {
+    struct layout__Numbers f0;
+};
+struct counting__count__Asked {
+    uint64_t f0;
+    uint64_t f1;
+};
+struct counting__count__Tally {
+    uint32_t f0;
+    uint32_t f1;
+    uint32_t f2;
+};
+struct rt_array_uint64_1024 {
+    uint64_t a[1024];
+};
+RT_ASSERT(rt_array_uint64_1024, sizeof(struct rt_array_uint64_1024) == 8192 && offsetof(struct rt_array_uint64_1024, a) == 0);
+struct rt_array_uint16_1024 {
+    uint16_t a[1024];
+};
+RT_ASSERT(rt_array_uint16_1024, sizeof(struct rt_array_uint16_1024) == 2048 && offsetof(struct rt_array_uint16_1024, a) == 0);
+struct seating__SeatRead {
+    uint8_t tag;
+    struct seating__Seat s0;
+    uint8_t s1;
+};
+struct rt_array_uint8_8568 {
+    uint8_t a[8568];
+};
+RT_ASSERT(rt_array_uint8_8568, sizeof(struct rt_array_uint8_8568) == 8568 && offsetof(struct rt_array_uint8_8568, a) == 0);
+struct rt_array_uint16_1536 {
+    uint16_t a[1536];
+};
+RT_ASSERT(rt_array_uint16_1536, sizeof(struct rt_array_uint16_1536) == 3072 && offsetof(struct rt_array_uint16_1536, a) == 0);
+struct rt_array_uint64_8192 {
+    uint64_t a[8192];
+};
+RT_ASSERT(rt_array_uint64_8192, sizeof(struct rt_array_uint64_8192) == 65536 && offsetof(struct rt_array_uint64_8192, a) == 0);
+struct seating__Opened {
+    struct load__Loaded f0;
+    struct rt_array_uint8_16 f1;
+    struct rt_array_uint8_128 f2;
+};
+struct rt_array_uint8_5730 {
+    uint8_t a[5730];
+};
+RT_ASSERT(rt_array_uint8_5730, sizeof(struct rt_array_uint8_5730) == 5730 && offsetof(struct rt_array_uint8_5730, a) == 0);
+struct rt_array_uint64_129 {
+    uint64_t a[129];
+};
+RT_ASSERT(rt_array_uint64_129, sizeof(struct rt_array_uint64_129) == 1032 && offsetof(struct rt_array_uint64_129, a) == 0);
+struct rt_array_uint16_6 {
+    uint16_t a[6];
+};
+RT_ASSERT(rt_array_uint16_6, sizeof(struct rt_array_uint16_6) == 12 && offsetof(struct rt_array_uint16_6, a) == 0);
+struct rt_array_uint64_32 {
+    uint64_t a[32];
+};
+RT_ASSERT(rt_array_uint64_32, sizeof(struct rt_array_uint64_32) == 256 && offsetof(struct rt_array_uint64_32, a) == 0);
+struct counting__rows__Saved {
+    struct rt_array_uint16_6 f0;
+    struct rt_array_uint16_6 f1;
+    struct rt_array_uint64_32 f2;
+    struct rt_array_uint64_32 f3;
+    uint64_t f4;
+    uint64_t f5;
+};
 struct text_shape__Act {
     uint8_t tag;
     uint8_t s0;
@@ -239,18 +346,6 @@ struct derive__Mark {
 struct directory__rows__Sought {
     uint8_t tag;
     struct directory__Row s0;
-};
-struct layout__Numbers {
-    uint64_t f0;
-    uint64_t f1;
-    uint64_t f2;
-    uint64_t f3;
-    uint8_t f4;
-    uint64_t f5;
-    uint64_t f6;
-};
-struct engine__Machine {
-    struct layout__Numbers f0;
 };
 struct execute_stack__Acted {
     uint8_t tag;
@@ -316,10 +411,6 @@ struct rt_array_uint64_4 {
     uint64_t a[4];
 };
 RT_ASSERT(rt_array_uint64_4, sizeof(struct rt_array_uint64_4) == 32 && offsetof(struct rt_array_uint64_4, a) == 0);
-struct rt_array_uint64_1024 {
-    uint64_t a[1024];
-};
-RT_ASSERT(rt_array_uint64_1024, sizeof(struct rt_array_uint64_1024) == 8192 && offsetof(struct rt_array_uint64_1024, a) == 0);
 struct read_program__Summary {
     uint8_t f0;
     uint64_t f1;
@@ -410,44 +501,6 @@ struct rt_array_uint8_65537 {
     uint8_t a[65537];
 };
 RT_ASSERT(rt_array_uint8_65537, sizeof(struct rt_array_uint8_65537) == 65537 && offsetof(struct rt_array_uint8_65537, a) == 0);
-struct seating__Seat {
-    uint64_t f0;
-    struct layout__Numbers f1;
-};
-struct seating__SeatRead {
-    uint8_t tag;
-    struct seating__Seat s0;
-    uint8_t s1;
-};
-struct rt_array_uint16_1024 {
-    uint16_t a[1024];
-};
-RT_ASSERT(rt_array_uint16_1024, sizeof(struct rt_array_uint16_1024) == 2048 && offsetof(struct rt_array_uint16_1024, a) == 0);
-struct rt_array_uint64_129 {
-    uint64_t a[129];
-};
-RT_ASSERT(rt_array_uint64_129, sizeof(struct rt_array_uint64_129) == 1032 && offsetof(struct rt_array_uint64_129, a) == 0);
-struct rt_array_uint8_8568 {
-    uint8_t a[8568];
-};
-RT_ASSERT(rt_array_uint8_8568, sizeof(struct rt_array_uint8_8568) == 8568 && offsetof(struct rt_array_uint8_8568, a) == 0);
-struct rt_array_uint16_1536 {
-    uint16_t a[1536];
-};
-RT_ASSERT(rt_array_uint16_1536, sizeof(struct rt_array_uint16_1536) == 3072 && offsetof(struct rt_array_uint16_1536, a) == 0);
-struct rt_array_uint64_8192 {
-    uint64_t a[8192];
-};
-RT_ASSERT(rt_array_uint64_8192, sizeof(struct rt_array_uint64_8192) == 65536 && offsetof(struct rt_array_uint64_8192, a) == 0);
-struct seating__Opened {
-    struct load__Loaded f0;
-    struct rt_array_uint8_16 f1;
-    struct rt_array_uint8_128 f2;
-};
-struct rt_array_uint8_5730 {
-    uint8_t a[5730];
-};
-RT_ASSERT(rt_array_uint8_5730, sizeof(struct rt_array_uint8_5730) == 5730 && offsetof(struct rt_array_uint8_5730, a) == 0);
 struct table_read__TableRead {
     uint8_t tag;
     uint64_t s0;
@@ -526,10 +579,6 @@ struct uses__Scope {
     uint64_t f5;
     uint64_t f6;
 };
-struct rt_array_uint64_32 {
-    uint64_t a[32];
-};
-RT_ASSERT(rt_array_uint64_32, sizeof(struct rt_array_uint64_32) == 256 && offsetof(struct rt_array_uint64_32, a) == 0);
 struct uses__Passed {
     uint8_t tag;
     struct uses__Scope s0;
@@ -583,6 +632,7 @@ static inline struct audala__images__Copied audala__images__of_read(struct block
 static inline struct audala__images__Copied audala__images__of_written(struct blocks__Written l1);
 static inline struct audala__images__Copied audala__listings__audala_listing(rt_slice l1, rt_slice l2);
 static inline struct audala__places__Stopped audala__places__audala_place(rt_slice l1);
+static inline struct audala__tallies__Counts audala__tallies__audala_count(rt_slice l1, rt_slice l2, uint32_t l3, uint32_t l4, uint32_t l5, rt_slice l6);
 static inline struct audala__images__Copied audala__texts__audala_text(rt_slice l1, rt_slice l2);
 static inline struct audala__traces__Traced audala__traces__audala_trace(rt_slice l1, rt_slice l2, rt_slice l3, uint64_t l4, rt_slice l5);
 static inline struct block__Found block__block_fault(rt_slice l1, uint64_t l2, uint8_t l3);
@@ -655,6 +705,28 @@ static inline struct composing__Pen composing__waiting__popped(struct composing_
 static inline struct composing__Pen composing__waiting__stacked(rt_slice l1, rt_slice l2, struct composing__Pen l3, uint8_t l4, uint8_t l5);
 static inline struct composing__Pen composing__write(rt_slice l1, rt_slice l2, rt_slice l3, rt_slice l4, rt_slice l5);
 static inline struct composing__Pen composing__written(rt_slice l1, rt_slice l2, rt_slice l3, rt_slice l4, rt_slice l5, rt_slice l6);
+static inline struct count_images__Counts count_images__answered(rt_slice l1, rt_slice l2, rt_slice l3, rt_slice l4, struct count_images__Asking l5, rt_slice l6, rt_slice l7);
+static inline struct count_images__Counts count_images__begun(struct seating__Opened l1, rt_slice l2, rt_slice l3, rt_slice l4, struct count_images__Question l5, rt_slice l6);
+static inline struct count_images__Counts count_images__count(rt_slice l1, rt_slice l2, uint32_t l3, uint32_t l4, uint32_t l5, rt_slice l6);
+static inline uint8_t count_images__has_step(rt_slice l1, uint64_t l2, uint64_t l3);
+static inline uint8_t count_images__place_number(rt_slice l1, rt_slice l2, rt_slice l3, uint64_t l4, struct count_images__Question l5);
+static inline void count_images__prepared(rt_slice l1, rt_slice l2, rt_slice l3, struct count_images__Asking l4, rt_slice l5, rt_slice l6);
+static inline struct count_images__Counts count_images__refused(uint8_t l1);
+static inline void counting__copies__cells(rt_slice l1, uint64_t l2, rt_slice l3);
+static inline void counting__copies__numbers(rt_slice l1, uint64_t l2, rt_slice l3);
+static inline struct counting__count__Tally counting__count__add(struct counting__count__Tally l1, struct counting__count__Tally l2);
+static inline struct counting__count__Tally counting__count__all(struct engine__Machine l1, rt_slice l2, rt_slice l3, rt_slice l4, rt_slice l5, struct counting__count__Asked l6);
+static inline uint64_t counting__count__commands(rt_slice l1, uint64_t l2);
+static inline uint64_t counting__count__held(rt_slice l1, uint64_t l2);
+static inline struct counting__count__Tally counting__count__nothing(void);
+static inline struct counting__count__Tally counting__count__one(struct engine__Machine l1, rt_slice l2, rt_slice l3, rt_slice l4, rt_slice l5, uint64_t l6, struct counting__count__Asked l7);
+static inline struct counting__count__Tally counting__count__resting(rt_slice l1, struct counting__count__Asked l2);
+static inline uint64_t counting__rows__fresh_row(uint64_t l1, uint64_t l2);
+static inline struct rt_array_uint16_6 counting__rows__numbers_of(rt_slice l1, uint64_t l2);
+static inline void counting__rows__restore(rt_slice l1, rt_slice l2, uint64_t l3, uint64_t l4, struct counting__rows__Saved l5);
+static inline struct rt_array_uint64_32 counting__rows__row_of(rt_slice l1, uint64_t l2);
+static inline struct counting__rows__Saved counting__rows__save(rt_slice l1, rt_slice l2, rt_slice l3, uint64_t l4, uint64_t l5);
+static inline uint64_t counting__rows__stored_at(rt_slice l1, rt_slice l2, rt_slice l3, uint64_t l4);
 static inline struct text_shape__Act derive__act_at(rt_slice l1, rt_slice l2, uint64_t l3);
 static inline struct derive__Mark derive__below(rt_slice l1, rt_slice l2, rt_slice l3, uint64_t l4, uint8_t l5);
 static inline struct derive__Mark derive__dead(void);
@@ -1662,6 +1734,25 @@ static inline struct audala__places__Stopped audala__places__audala_place(rt_sli
     uint64_t l2;
     l2 = text_place__place(l1);
     l0.f0 = l2;
+    return l0;
+}
+
+static inline struct audala__tallies__Counts audala__tallies__audala_count(rt_slice l1, rt_slice l2, uint32_t l3, uint32_t l4, uint32_t l5, rt_slice l6)
+{
+    struct audala__tallies__Counts l0;
+    struct count_images__Counts l7;
+    uint8_t *l8;
+    rt_slice l9;
+    uint32_t l10;
+    l8 = (uint8_t *)&(*(uint64_t *)l6.p);
+    l9.p = l8;
+    l9.n = l6.n;
+    l7 = count_images__count(l1, l2, l3, l4, l5, l9);
+    l10 = (uint32_t)l7.f0;
+    l0.f0 = l10;
+    l0.f1 = l7.f1;
+    l0.f2 = l7.f2;
+    l0.f3 = l7.f3;
     return l0;
 }
 
@@ -3788,6 +3879,914 @@ static inline struct composing__Pen composing__written(rt_slice l1, rt_slice l2,
     }
 end1:;
     l0 = l7;
+    return l0;
+}
+
+static inline struct count_images__Counts count_images__answered(rt_slice l1, rt_slice l2, rt_slice l3, rt_slice l4, struct count_images__Asking l5, rt_slice l6, rt_slice l7)
+{
+    struct count_images__Counts l0;
+    struct rt_array_uint64_1024 l8;
+    struct rt_array_uint16_1024 l9;
+    struct count_images__Question l10;
+    struct layout__Numbers l11;
+    uint8_t l12;
+    struct counting__count__Tally l13;
+    uint8_t *l15;
+    rt_slice l16;
+    uint8_t *l17;
+    rt_slice l18;
+    uint8_t l19;
+    uint8_t *l20;
+    rt_slice l21;
+    uint64_t l22;
+    uint8_t l23;
+    uint8_t *l24;
+    rt_slice l25;
+    uint8_t *l26;
+    rt_slice l27;
+    uint8_t *l28;
+    rt_slice l29;
+    uint8_t *l30;
+    rt_slice l31;
+    uint8_t *l32;
+    rt_slice l33;
+    struct engine__Machine l34;
+    uint8_t *l35;
+    rt_slice l36;
+    uint8_t *l37;
+    rt_slice l38;
+    uint8_t *l39;
+    rt_slice l40;
+    struct counting__count__Asked l41;
+    memset(&l8, 0, sizeof l8);
+    memset(&l9, 0, sizeof l9);
+    l15 = (uint8_t *)&l8;
+    l16.p = l15;
+    l16.n = UINT64_C(1024);
+    l17 = (uint8_t *)&l9;
+    l18.p = l17;
+    l18.n = UINT64_C(1024);
+    count_images__prepared(l1, l2, l4, l5, l16, l18);
+    l10 = l5.f1;
+    l19 = (uint8_t)(UINT64_C(32) <= l10.f0);
+    if (l19) {
+        l0 = count_images__refused(UINT8_C(7));
+        return l0;
+    }
+    l20 = (uint8_t *)&l9;
+    l21.p = l20;
+    l21.n = UINT64_C(1024);
+    l22 = l2.n;
+    l19 = count_images__has_step(l21, l22, l10.f0);
+    l23 = (uint8_t)!l19;
+    if (l23) {
+        l0 = count_images__refused(UINT8_C(7));
+        return l0;
+    }
+    l11 = l5.f0.f1;
+    l24 = (uint8_t *)&(*(uint16_t *)l6.p);
+    l25.p = l24;
+    l25.n = l6.n;
+    l12 = count_images__place_number(l25, l2, l3, l11.f0, l10);
+    l19 = (uint8_t)(l12 != UINT8_C(0));
+    if (l19) {
+        l0 = count_images__refused(l12);
+        return l0;
+    }
+    l26 = (uint8_t *)&l9;
+    l27.p = l26;
+    l27.n = UINT64_C(1024);
+    l28 = (uint8_t *)&(*(uint16_t *)l6.p);
+    l29.p = l28;
+    l29.n = l6.n;
+    scheduler__begin__begin_all(l27, l29, l10.f0, l11.f0);
+    l30 = (uint8_t *)&(*(uint16_t *)l6.p);
+    l31.p = l30;
+    l31.n = l6.n;
+    l22 = counting__count__commands(l31, l11.f0);
+    l19 = (uint8_t)(UINT64_C(12) < l22);
+    if (l19) {
+        l0 = count_images__refused(UINT8_C(24));
+        return l0;
+    }
+    l32 = (uint8_t *)&(*(uint16_t *)l6.p);
+    l33.p = l32;
+    l33.n = l6.n;
+    l11.f5 = scheduler__count__holding(l33, l11.f0);
+    l34.f0 = l11;
+    l35 = (uint8_t *)&l8;
+    l36.p = l35;
+    l36.n = UINT64_C(1024);
+    l37 = (uint8_t *)&(*(uint16_t *)l6.p);
+    l38.p = l37;
+    l38.n = l6.n;
+    l39 = (uint8_t *)&(*(uint64_t *)l7.p);
+    l40.p = l39;
+    l40.n = l7.n;
+    l41.f0 = l10.f1;
+    l41.f1 = l10.f2;
+    l13 = counting__count__all(l34, l36, l2, l38, l40, l41);
+    l0.f0 = UINT8_C(0);
+    l0.f1 = l13.f0;
+    l0.f2 = l13.f1;
+    l0.f3 = l13.f2;
+    return l0;
+}
+
+static inline struct count_images__Counts count_images__begun(struct seating__Opened l1, rt_slice l2, rt_slice l3, rt_slice l4, struct count_images__Question l5, rt_slice l6)
+{
+    struct count_images__Counts l0;
+    struct load__Loaded l7;
+    struct rt_array_uint8_16 l8;
+    struct rt_array_uint8_128 l9;
+    uint64_t l10;
+    uint64_t l11;
+    rt_slice l12;
+    rt_slice l13;
+    struct rt_array_uint8_8568 l14;
+    struct rt_array_uint16_1536 l15;
+    struct rt_array_uint64_8192 l16;
+    struct seating__SeatRead l17;
+    struct seating__Seat l18;
+    struct count_images__Asking l19;
+    struct count_images__Counts l20;
+    uint8_t *l21;
+    uint8_t *l22;
+    uint8_t *l23;
+    rt_slice l24;
+    uint8_t *l25;
+    rt_slice l26;
+    uint8_t *l27;
+    rt_slice l28;
+    uint8_t l29;
+    uint64_t l30;
+    uint8_t l31;
+    uint8_t *l32;
+    rt_slice l33;
+    uint8_t *l34;
+    rt_slice l35;
+    uint8_t *l37;
+    rt_slice l38;
+    l7 = l1.f0;
+    l8 = l1.f1;
+    l9 = l1.f2;
+    l10 = (uint64_t)l7.f3;
+    l11 = (uint64_t)((uint64_t)UINT64_C(8) * (uint64_t)l10);
+    l21 = (uint8_t *)&l8;
+    l12.p = l21;
+    l12.n = l10;
+    l22 = (uint8_t *)&l9;
+    l13.p = l22;
+    l13.n = l11;
+    memset(&l14, 0, sizeof l14);
+    memset(&l15, 0, sizeof l15);
+    memset(&l16, 0, sizeof l16);
+    l23 = (uint8_t *)&l14;
+    l24.p = l23;
+    l24.n = UINT64_C(8568);
+    l25 = (uint8_t *)&l15;
+    l26.p = l25;
+    l26.n = UINT64_C(1536);
+    l27 = (uint8_t *)&l16;
+    l28.p = l27;
+    l28.n = UINT64_C(8192);
+    l17 = seating__seat_table(l7.f1, l12, l13, l4, l24, l26, l28);
+    switch (l17.tag) {
+        case UINT8_C(0): {
+            l18 = l17.s0;
+            break;
+        }
+        case UINT8_C(1): default: {
+            l29 = seating__refusal(l17);
+            l0 = count_images__refused(l29);
+            return l0;
+            break;
+        }
+    }
+    l30 = l6.n;
+    l31 = (uint8_t)(l30 < UINT64_C(1024));
+    if (l31) {
+        l0 = count_images__refused(UINT8_C(13));
+        return l0;
+    }
+    l30 = (uint64_t)l7.f4;
+    l19.f0 = l18;
+    l19.f1 = l5;
+    l19.f2 = l7.f2;
+    l19.f3 = l30;
+    l32 = (uint8_t *)&l15;
+    l33.p = l32;
+    l33.n = UINT64_C(1536);
+    l34 = (uint8_t *)&l16;
+    l35.p = l34;
+    l35.n = UINT64_C(8192);
+    l20 = count_images__answered(l2, l12, l13, l3, l19, l33, l35);
+    l31 = (uint8_t)(l20.f0 != UINT8_C(0));
+    if (l31) {
+        l0 = l20;
+        return l0;
+    }
+    l37 = (uint8_t *)&(*(uint64_t *)l6.p);
+    l38.p = l37;
+    l38.n = l6.n;
+    emit_steps__program(l2, l12, l18.f0, l38);
+    l0 = l20;
+    return l0;
+}
+
+static inline struct count_images__Counts count_images__count(rt_slice l1, rt_slice l2, uint32_t l3, uint32_t l4, uint32_t l5, rt_slice l6)
+{
+    struct count_images__Counts l0;
+    struct rt_array_uint8_5730 l7;
+    struct rt_array_uint8_16 l8;
+    struct rt_array_uint8_128 l9;
+    struct rt_array_uint16_512 l10;
+    struct load__Load l11;
+    struct load__Loaded l12;
+    uint64_t l13;
+    struct seating__Opened l14;
+    struct count_images__Question l15;
+    uint8_t *l16;
+    rt_slice l17;
+    uint8_t *l18;
+    rt_slice l19;
+    uint8_t *l20;
+    rt_slice l21;
+    uint8_t *l22;
+    rt_slice l23;
+    uint8_t l24;
+    struct rt_array_uint8_16 l25;
+    struct rt_array_uint8_128 l26;
+    uint64_t l27;
+    uint64_t l28;
+    uint64_t l29;
+    uint8_t *l30;
+    rt_slice l31;
+    uint8_t *l32;
+    rt_slice l33;
+    uint8_t *l34;
+    rt_slice l35;
+    memset(&l7, 0, sizeof l7);
+    memset(&l8, 0, sizeof l8);
+    memset(&l9, 0, sizeof l9);
+    memset(&l10, 0, sizeof l10);
+    l16 = (uint8_t *)&l7;
+    l17.p = l16;
+    l17.n = UINT64_C(5730);
+    l18 = (uint8_t *)&l8;
+    l19.p = l18;
+    l19.n = UINT64_C(16);
+    l20 = (uint8_t *)&l9;
+    l21.p = l20;
+    l21.n = UINT64_C(128);
+    l22 = (uint8_t *)&l10;
+    l23.p = l22;
+    l23.n = UINT64_C(512);
+    l11 = seating__admit(l1, l17, l19, l21, l23);
+    switch (l11.tag) {
+        case UINT8_C(0): {
+            l12 = l11.s0;
+            break;
+        }
+        case UINT8_C(1): default: {
+            l24 = load__refusal(l11);
+            l0 = count_images__refused(l24);
+            return l0;
+            break;
+        }
+    }
+    l13 = l12.f0;
+    l25 = l8;
+    l26 = l9;
+    l14.f0 = l12;
+    l14.f1 = l25;
+    l14.f2 = l26;
+    l27 = (uint64_t)l3;
+    l28 = (uint64_t)l4;
+    l29 = (uint64_t)l5;
+    l15.f0 = l27;
+    l15.f1 = l28;
+    l15.f2 = l29;
+    l30 = (uint8_t *)&l7;
+    l31.p = l30;
+    l31.n = l13;
+    l32 = (uint8_t *)&l10;
+    l33.p = l32;
+    l33.n = UINT64_C(512);
+    l34 = (uint8_t *)&(*(uint64_t *)l6.p);
+    l35.p = l34;
+    l35.n = l6.n;
+    l0 = count_images__begun(l14, l31, l33, l2, l15, l35);
+    return l0;
+}
+
+static inline uint8_t count_images__has_step(rt_slice l1, uint64_t l2, uint64_t l3)
+{
+    uint8_t l0;
+    uint64_t l4;
+    uint64_t l5;
+    uint8_t l6;
+    uint64_t l7;
+    uint64_t l8;
+    uint8_t *l9;
+    uint16_t l10;
+    uint64_t l11;
+    uint8_t *l12;
+    uint16_t l13;
+    l4 = UINT64_C(0);
+    for (;;) {
+        l6 = (uint8_t)(l4 < l2);
+        if (l6) {
+        } else {
+            goto end1;
+        }
+        l7 = (uint64_t)((uint64_t)UINT64_C(32) * (uint64_t)l4);
+        l8 = (uint64_t)((uint64_t)l7 + (uint64_t)l3);
+        l5 = (uint64_t)((uint64_t)UINT64_C(2) * (uint64_t)l8);
+        l7 = (uint64_t)((uint64_t)l5 * (uint64_t)UINT64_C(2));
+        l9 = l1.p + (size_t)l7;
+        l10 = (*(uint16_t *)l9);
+        l8 = (uint64_t)((uint64_t)l5 + (uint64_t)UINT64_C(1));
+        l11 = (uint64_t)((uint64_t)l8 * (uint64_t)UINT64_C(2));
+        l12 = l1.p + (size_t)l11;
+        l13 = (*(uint16_t *)l12);
+        l6 = (uint8_t)(l10 <= l13);
+        if (l6) {
+            l0 = 1;
+            return l0;
+        }
+        l4 = (uint64_t)((uint64_t)l4 + (uint64_t)UINT64_C(1));
+    }
+end1:;
+    l0 = 0;
+    return l0;
+}
+
+static inline uint8_t count_images__place_number(rt_slice l1, rt_slice l2, rt_slice l3, uint64_t l4, struct count_images__Question l5)
+{
+    uint8_t l0;
+    uint64_t l6;
+    uint64_t l7;
+    uint8_t l8;
+    uint8_t *l9;
+    uint8_t l10;
+    uint64_t l11;
+    uint8_t *l12;
+    l8 = (uint8_t)(l4 <= l5.f1);
+    if (l8) {
+        l0 = UINT8_C(21);
+        return l0;
+    }
+    l6 = layout__head(l1, l5.f1, UINT64_C(0));
+    l9 = l2.p + (size_t)l6;
+    l10 = (*(uint8_t *)l9);
+    l11 = (uint64_t)l10;
+    l8 = (uint8_t)(l11 <= l5.f2);
+    if (l8) {
+        l0 = UINT8_C(21);
+        return l0;
+    }
+    l11 = (uint64_t)((uint64_t)UINT64_C(8) * (uint64_t)l6);
+    l7 = (uint64_t)((uint64_t)l11 + (uint64_t)l5.f2);
+    l12 = l3.p + (size_t)l7;
+    l10 = (*(uint8_t *)l12);
+    l8 = (uint8_t)(l10 != UINT8_C(2));
+    if (l8) {
+        l0 = UINT8_C(8);
+        return l0;
+    }
+    l0 = UINT8_C(0);
+    return l0;
+}
+
+static inline void count_images__prepared(rt_slice l1, rt_slice l2, rt_slice l3, struct count_images__Asking l4, rt_slice l5, rt_slice l6)
+{
+    struct rt_array_uint64_129 l7;
+    uint64_t l9;
+    uint8_t *l10;
+    rt_slice l11;
+    uint8_t *l12;
+    rt_slice l13;
+    uint8_t *l14;
+    rt_slice l15;
+    memset(&l7, 0, sizeof l7);
+    l9 = l2.n;
+    l10 = (uint8_t *)&(*(uint16_t *)l6.p);
+    l11.p = l10;
+    l11.n = l6.n;
+    l12 = (uint8_t *)&l7;
+    l13.p = l12;
+    l13.n = UINT64_C(129);
+    compile__program(l1, l4.f2, l9, l3, l4.f3, l11, l13);
+    l14 = (uint8_t *)&(*(uint64_t *)l5.p);
+    l15.p = l14;
+    l15.n = l5.n;
+    emit_steps__program(l1, l2, l4.f0.f0, l15);
+    return;
+}
+
+static inline struct count_images__Counts count_images__refused(uint8_t l1)
+{
+    struct count_images__Counts l0;
+    l0.f0 = l1;
+    l0.f1 = UINT32_C(0);
+    l0.f2 = UINT32_C(0);
+    l0.f3 = UINT32_C(0);
+    return l0;
+}
+
+static inline void counting__copies__cells(rt_slice l1, uint64_t l2, rt_slice l3)
+{
+    uint64_t l4;
+    uint64_t l5;
+    uint8_t l6;
+    uint8_t *l7;
+    uint64_t l8;
+    uint64_t l9;
+    uint64_t l10;
+    uint8_t *l11;
+    l4 = UINT64_C(0);
+    for (;;) {
+        l5 = l3.n;
+        l6 = (uint8_t)(l4 < l5);
+        if (l6) {
+        } else {
+            goto end1;
+        }
+        l5 = (uint64_t)((uint64_t)l4 * (uint64_t)UINT64_C(8));
+        l7 = l3.p + (size_t)l5;
+        l8 = (*(uint64_t *)l7);
+        l9 = (uint64_t)((uint64_t)l2 + (uint64_t)l4);
+        l10 = (uint64_t)((uint64_t)l9 * (uint64_t)UINT64_C(8));
+        l11 = l1.p + (size_t)l10;
+        (*(uint64_t *)l11) = l8;
+        l4 = (uint64_t)((uint64_t)l4 + (uint64_t)UINT64_C(1));
+    }
+end1:;
+    return;
+}
+
+static inline void counting__copies__numbers(rt_slice l1, uint64_t l2, rt_slice l3)
+{
+    uint64_t l4;
+    uint64_t l5;
+    uint8_t l6;
+    uint8_t *l7;
+    uint16_t l8;
+    uint64_t l9;
+    uint64_t l10;
+    uint8_t *l11;
+    l4 = UINT64_C(0);
+    for (;;) {
+        l5 = l3.n;
+        l6 = (uint8_t)(l4 < l5);
+        if (l6) {
+        } else {
+            goto end1;
+        }
+        l5 = (uint64_t)((uint64_t)l4 * (uint64_t)UINT64_C(2));
+        l7 = l3.p + (size_t)l5;
+        l8 = (*(uint16_t *)l7);
+        l9 = (uint64_t)((uint64_t)l2 + (uint64_t)l4);
+        l10 = (uint64_t)((uint64_t)l9 * (uint64_t)UINT64_C(2));
+        l11 = l1.p + (size_t)l10;
+        (*(uint16_t *)l11) = l8;
+        l4 = (uint64_t)((uint64_t)l4 + (uint64_t)UINT64_C(1));
+    }
+end1:;
+    return;
+}
+
+static inline struct counting__count__Tally counting__count__add(struct counting__count__Tally l1, struct counting__count__Tally l2)
+{
+    struct counting__count__Tally l0;
+    uint32_t l3;
+    uint32_t l4;
+    uint32_t l5;
+    l3 = (uint32_t)((uint32_t)l1.f0 + (uint32_t)l2.f0);
+    l4 = (uint32_t)((uint32_t)l1.f1 + (uint32_t)l2.f1);
+    l5 = (uint32_t)((uint32_t)l1.f2 + (uint32_t)l2.f2);
+    l0.f0 = l3;
+    l0.f1 = l4;
+    l0.f2 = l5;
+    return l0;
+}
+
+static inline struct counting__count__Tally counting__count__all(struct engine__Machine l1, rt_slice l2, rt_slice l3, rt_slice l4, rt_slice l5, struct counting__count__Asked l6)
+{
+    struct counting__count__Tally l0;
+    uint64_t l7;
+    struct counting__count__Tally l8;
+    uint64_t l9;
+    struct counting__count__Tally l10;
+    uint8_t l11;
+    uint8_t *l12;
+    rt_slice l13;
+    uint8_t l14;
+    uint8_t *l15;
+    rt_slice l16;
+    uint8_t *l17;
+    rt_slice l18;
+    l11 = (uint8_t)(l1.f0.f5 == UINT64_C(0));
+    if (l11) {
+        l12 = (uint8_t *)&(*(uint64_t *)l5.p);
+        l13.p = l12;
+        l13.n = l5.n;
+        l0 = counting__count__resting(l13, l6);
+        return l0;
+    }
+    l7 = l1.f0.f0;
+    l8 = counting__count__nothing();
+    l9 = UINT64_C(0);
+    for (;;) {
+        l14 = (uint8_t)(l9 < l7);
+        if (l14) {
+        } else {
+            goto end1;
+        }
+        l15 = (uint8_t *)&(*(uint16_t *)l4.p);
+        l16.p = l15;
+        l16.n = l4.n;
+        l17 = (uint8_t *)&(*(uint64_t *)l5.p);
+        l18.p = l17;
+        l18.n = l5.n;
+        l10 = counting__count__one(l1, l2, l3, l16, l18, l9, l6);
+        l8 = counting__count__add(l8, l10);
+        l9 = (uint64_t)((uint64_t)l9 + (uint64_t)UINT64_C(1));
+    }
+end1:;
+    l0 = l8;
+    return l0;
+}
+
+static inline uint64_t counting__count__commands(rt_slice l1, uint64_t l2)
+{
+    uint64_t l0;
+    uint64_t l3;
+    uint64_t l4;
+    uint8_t l5;
+    uint64_t l6;
+    l3 = UINT64_C(0);
+    l4 = UINT64_C(0);
+    for (;;) {
+        l5 = (uint8_t)(l4 < l2);
+        if (l5) {
+        } else {
+            goto end1;
+        }
+        l6 = counting__count__held(l1, l4);
+        l3 = (uint64_t)((uint64_t)l3 + (uint64_t)l6);
+        l4 = (uint64_t)((uint64_t)l4 + (uint64_t)UINT64_C(1));
+    }
+end1:;
+    l0 = l3;
+    return l0;
+}
+
+static inline uint64_t counting__count__held(rt_slice l1, uint64_t l2)
+{
+    uint64_t l0;
+    uint64_t l3;
+    uint64_t l4;
+    uint8_t l5;
+    l3 = layout__head(l1, l2, UINT64_C(2));
+    l4 = layout__head(l1, l2, UINT64_C(3));
+    l5 = (uint8_t)(l3 < l4);
+    if (l5) {
+        l0 = (uint64_t)((uint64_t)l4 - (uint64_t)l3);
+        return l0;
+    }
+    l0 = UINT64_C(0);
+    return l0;
+}
+
+static inline struct counting__count__Tally counting__count__nothing(void)
+{
+    struct counting__count__Tally l0;
+    l0.f0 = UINT32_C(0);
+    l0.f1 = UINT32_C(0);
+    l0.f2 = UINT32_C(0);
+    return l0;
+}
+
+static inline struct counting__count__Tally counting__count__one(struct engine__Machine l1, rt_slice l2, rt_slice l3, rt_slice l4, rt_slice l5, uint64_t l6, struct counting__count__Asked l7)
+{
+    struct counting__count__Tally l0;
+    uint64_t l8;
+    struct counting__rows__Saved l9;
+    struct engine__Machine l10;
+    struct counting__count__Tally l11;
+    uint8_t l12;
+    uint8_t *l13;
+    rt_slice l14;
+    uint8_t l15;
+    uint8_t *l16;
+    rt_slice l17;
+    uint8_t *l18;
+    rt_slice l19;
+    uint8_t *l20;
+    rt_slice l21;
+    uint8_t *l22;
+    rt_slice l23;
+    uint8_t *l24;
+    rt_slice l25;
+    uint8_t *l26;
+    rt_slice l27;
+    uint8_t *l29;
+    rt_slice l30;
+    uint8_t *l31;
+    rt_slice l32;
+    l13 = (uint8_t *)&(*(uint16_t *)l4.p);
+    l14.p = l13;
+    l14.n = l4.n;
+    l12 = layout__holds(l14, l6);
+    l15 = (uint8_t)!l12;
+    if (l15) {
+        l0 = counting__count__nothing();
+        return l0;
+    }
+    l8 = counting__rows__fresh_row(l1.f0.f0, l6);
+    l16 = (uint8_t *)&(*(uint16_t *)l4.p);
+    l17.p = l16;
+    l17.n = l4.n;
+    l18 = (uint8_t *)&(*(uint64_t *)l5.p);
+    l19.p = l18;
+    l19.n = l5.n;
+    l9 = counting__rows__save(l2, l17, l19, l6, l8);
+    l20 = (uint8_t *)&(*(uint16_t *)l4.p);
+    l21.p = l20;
+    l21.n = l4.n;
+    l22 = (uint8_t *)&(*(uint64_t *)l5.p);
+    l23.p = l22;
+    l23.n = l5.n;
+    l10 = engine__Machine__command(l1, l2, l3, l21, l23, l6);
+    l12 = (uint8_t)(l10.f0.f4 != UINT8_C(0));
+    if (l12) {
+        l0.f0 = UINT32_C(0);
+        l0.f1 = UINT32_C(0);
+        l0.f2 = UINT32_C(1);
+        return l0;
+    }
+    l24 = (uint8_t *)&(*(uint16_t *)l4.p);
+    l25.p = l24;
+    l25.n = l4.n;
+    l26 = (uint8_t *)&(*(uint64_t *)l5.p);
+    l27.p = l26;
+    l27.n = l5.n;
+    l11 = counting__count__all(l10, l2, l3, l25, l27, l7);
+    l29 = (uint8_t *)&(*(uint16_t *)l4.p);
+    l30.p = l29;
+    l30.n = l4.n;
+    l31 = (uint8_t *)&(*(uint64_t *)l5.p);
+    l32.p = l31;
+    l32.n = l5.n;
+    counting__rows__restore(l30, l32, l6, l8, l9);
+    l0 = l11;
+    return l0;
+}
+
+static inline struct counting__count__Tally counting__count__resting(rt_slice l1, struct counting__count__Asked l2)
+{
+    struct counting__count__Tally l0;
+    uint64_t l3;
+    uint64_t l4;
+    uint64_t l5;
+    uint8_t *l6;
+    uint64_t l7;
+    uint8_t l8;
+    l4 = (uint64_t)((uint64_t)UINT64_C(32) * (uint64_t)l2.f0);
+    l3 = (uint64_t)((uint64_t)l4 + (uint64_t)l2.f1);
+    l4 = (uint64_t)((uint64_t)l3 * (uint64_t)UINT64_C(8));
+    l6 = l1.p + (size_t)l4;
+    l7 = (*(uint64_t *)l6);
+    l5 = layout__operand(l7);
+    l8 = (uint8_t)(l5 == UINT64_C(1));
+    if (l8) {
+        l0.f0 = UINT32_C(1);
+        l0.f1 = UINT32_C(0);
+        l0.f2 = UINT32_C(0);
+        return l0;
+    }
+    l0.f0 = UINT32_C(0);
+    l0.f1 = UINT32_C(1);
+    l0.f2 = UINT32_C(0);
+    return l0;
+}
+
+static inline uint64_t counting__rows__fresh_row(uint64_t l1, uint64_t l2)
+{
+    uint64_t l0;
+    uint8_t l3;
+    l3 = (uint8_t)(l1 < UINT64_C(256));
+    if (l3) {
+        l0 = l1;
+        return l0;
+    }
+    l0 = l2;
+    return l0;
+}
+
+static inline struct rt_array_uint16_6 counting__rows__numbers_of(rt_slice l1, uint64_t l2)
+{
+    struct rt_array_uint16_6 l0;
+    struct rt_array_uint16_6 l3;
+    uint64_t l4;
+    uint64_t l5;
+    uint8_t *l7;
+    rt_slice l8;
+    uint64_t l9;
+    uint8_t *l10;
+    uint64_t l11;
+    uint8_t *l12;
+    rt_slice l13;
+    memset(&l3, 0, sizeof l3);
+    l4 = (uint64_t)((uint64_t)UINT64_C(6) * (uint64_t)l2);
+    l5 = (uint64_t)((uint64_t)l4 + (uint64_t)UINT64_C(6));
+    l7 = (uint8_t *)&l3;
+    l8.p = l7;
+    l8.n = UINT64_C(6);
+    l9 = (uint64_t)((uint64_t)l4 * (uint64_t)UINT64_C(2));
+    l10 = l1.p + (size_t)l9;
+    l11 = (uint64_t)((uint64_t)l5 - (uint64_t)l4);
+    l12 = (uint8_t *)&(*(uint16_t *)l10);
+    l13.p = l12;
+    l13.n = l11;
+    counting__copies__numbers(l8, UINT64_C(0), l13);
+    l0 = l3;
+    return l0;
+}
+
+static inline void counting__rows__restore(rt_slice l1, rt_slice l2, uint64_t l3, uint64_t l4, struct counting__rows__Saved l5)
+{
+    struct rt_array_uint16_6 l6;
+    struct rt_array_uint16_6 l7;
+    struct rt_array_uint64_32 l8;
+    struct rt_array_uint64_32 l9;
+    uint64_t l10;
+    uint8_t *l12;
+    rt_slice l13;
+    uint64_t l14;
+    uint8_t *l15;
+    rt_slice l16;
+    uint8_t *l17;
+    rt_slice l18;
+    uint8_t *l19;
+    rt_slice l20;
+    uint8_t *l21;
+    rt_slice l22;
+    uint8_t *l23;
+    rt_slice l24;
+    uint8_t *l25;
+    rt_slice l26;
+    uint8_t *l27;
+    rt_slice l28;
+    uint8_t *l29;
+    l6 = l5.f0;
+    l7 = l5.f1;
+    l8 = l5.f2;
+    l9 = l5.f3;
+    l10 = l5.f4;
+    l12 = (uint8_t *)&(*(uint16_t *)l1.p);
+    l13.p = l12;
+    l13.n = l1.n;
+    l14 = (uint64_t)((uint64_t)UINT64_C(6) * (uint64_t)l4);
+    l15 = (uint8_t *)&l7;
+    l16.p = l15;
+    l16.n = UINT64_C(6);
+    counting__copies__numbers(l13, l14, l16);
+    l17 = (uint8_t *)&(*(uint16_t *)l1.p);
+    l18.p = l17;
+    l18.n = l1.n;
+    l14 = (uint64_t)((uint64_t)UINT64_C(6) * (uint64_t)l3);
+    l19 = (uint8_t *)&l6;
+    l20.p = l19;
+    l20.n = UINT64_C(6);
+    counting__copies__numbers(l18, l14, l20);
+    l21 = (uint8_t *)&(*(uint64_t *)l2.p);
+    l22.p = l21;
+    l22.n = l2.n;
+    l14 = (uint64_t)((uint64_t)UINT64_C(32) * (uint64_t)l4);
+    l23 = (uint8_t *)&l9;
+    l24.p = l23;
+    l24.n = UINT64_C(32);
+    counting__copies__cells(l22, l14, l24);
+    l25 = (uint8_t *)&(*(uint64_t *)l2.p);
+    l26.p = l25;
+    l26.n = l2.n;
+    l14 = (uint64_t)((uint64_t)UINT64_C(32) * (uint64_t)l3);
+    l27 = (uint8_t *)&l8;
+    l28.p = l27;
+    l28.n = UINT64_C(32);
+    counting__copies__cells(l26, l14, l28);
+    l14 = (uint64_t)((uint64_t)l10 * (uint64_t)UINT64_C(8));
+    l29 = l2.p + (size_t)l14;
+    (*(uint64_t *)l29) = l5.f5;
+    return;
+}
+
+static inline struct rt_array_uint64_32 counting__rows__row_of(rt_slice l1, uint64_t l2)
+{
+    struct rt_array_uint64_32 l0;
+    struct rt_array_uint64_32 l3;
+    uint64_t l4;
+    uint64_t l5;
+    uint8_t *l7;
+    rt_slice l8;
+    uint64_t l9;
+    uint8_t *l10;
+    uint64_t l11;
+    uint8_t *l12;
+    rt_slice l13;
+    memset(&l3, 0, sizeof l3);
+    l4 = (uint64_t)((uint64_t)UINT64_C(32) * (uint64_t)l2);
+    l5 = (uint64_t)((uint64_t)l4 + (uint64_t)UINT64_C(32));
+    l7 = (uint8_t *)&l3;
+    l8.p = l7;
+    l8.n = UINT64_C(32);
+    l9 = (uint64_t)((uint64_t)l4 * (uint64_t)UINT64_C(8));
+    l10 = l1.p + (size_t)l9;
+    l11 = (uint64_t)((uint64_t)l5 - (uint64_t)l4);
+    l12 = (uint8_t *)&(*(uint64_t *)l10);
+    l13.p = l12;
+    l13.n = l11;
+    counting__copies__cells(l8, UINT64_C(0), l13);
+    l0 = l3;
+    return l0;
+}
+
+static inline struct counting__rows__Saved counting__rows__save(rt_slice l1, rt_slice l2, rt_slice l3, uint64_t l4, uint64_t l5)
+{
+    struct counting__rows__Saved l0;
+    uint64_t l6;
+    struct rt_array_uint16_6 l7;
+    struct rt_array_uint16_6 l8;
+    struct rt_array_uint64_32 l9;
+    struct rt_array_uint64_32 l10;
+    uint64_t l11;
+    uint64_t l12;
+    uint8_t *l13;
+    uint64_t l14;
+    l6 = counting__rows__stored_at(l1, l2, l3, l4);
+    l7 = counting__rows__numbers_of(l2, l4);
+    l8 = counting__rows__numbers_of(l2, l5);
+    l9 = counting__rows__row_of(l3, l4);
+    l10 = counting__rows__row_of(l3, l5);
+    l12 = (uint64_t)((uint64_t)l6 * (uint64_t)UINT64_C(8));
+    l13 = l3.p + (size_t)l12;
+    l14 = (*(uint64_t *)l13);
+    l11 = l14;
+    l0.f0 = l7;
+    l0.f1 = l8;
+    l0.f2 = l9;
+    l0.f3 = l10;
+    l0.f4 = l6;
+    l0.f5 = l11;
+    return l0;
+}
+
+static inline uint64_t counting__rows__stored_at(rt_slice l1, rt_slice l2, rt_slice l3, uint64_t l4)
+{
+    uint64_t l0;
+    uint64_t l5;
+    uint64_t l6;
+    uint64_t l7;
+    uint64_t l8;
+    uint64_t l9;
+    uint8_t *l10;
+    uint64_t l11;
+    uint8_t l12;
+    uint64_t l13;
+    uint64_t l14;
+    uint64_t l15;
+    uint64_t l16;
+    uint8_t *l17;
+    uint64_t l18;
+    l5 = layout__head(l2, l4, UINT64_C(2));
+    l9 = (uint64_t)((uint64_t)l5 * (uint64_t)UINT64_C(8));
+    l10 = l1.p + (size_t)l9;
+    l11 = (*(uint64_t *)l10);
+    l6 = l11;
+    l11 = (uint64_t)((uint64_t)l6 % (uint64_t)UINT64_C(256));
+    l12 = (uint8_t)(l11 != UINT64_C(4));
+    if (l12) {
+        l0 = (uint64_t)((uint64_t)UINT64_C(32) * (uint64_t)l4);
+        return l0;
+    }
+    l7 = layout__head(l2, l4, UINT64_C(1));
+    l9 = (uint64_t)((uint64_t)UINT64_C(32) * (uint64_t)l4);
+    l13 = (uint64_t)((uint64_t)l9 + (uint64_t)UINT64_C(16));
+    l14 = (uint64_t)((uint64_t)l7 - (uint64_t)UINT64_C(1));
+    l15 = (uint64_t)((uint64_t)l13 + (uint64_t)l14);
+    l16 = (uint64_t)((uint64_t)l15 * (uint64_t)UINT64_C(8));
+    l17 = l3.p + (size_t)l16;
+    l11 = (*(uint64_t *)l17);
+    l8 = l11;
+    l11 = layout__operand(l8);
+    l9 = l11;
+    l16 = (uint64_t)((uint64_t)UINT64_C(32) * (uint64_t)l9);
+    l18 = layout__operand(l6);
+    l15 = l18;
+    l0 = (uint64_t)((uint64_t)l16 + (uint64_t)l15);
     return l0;
 }
 
@@ -16907,6 +17906,13 @@ audala_verdict audala_check(const uint8_t *image, size_t length, uint64_t *list,
 {
     struct audala__Answer r = audala__audala_check(rt_lent(image, length), rt_lent(list, places));
     audala_verdict given = { .number = (uint32_t)r.f0, .structs = (uint32_t)r.f1, .steps = (uint32_t)r.f2, .commands = (uint32_t)r.f3, .depth = (uint32_t)r.f4 };
+    return given;
+}
+
+audala_counts audala_count(const uint8_t *program, size_t program_length, const uint8_t *table, size_t table_length, uint32_t name, uint32_t label, uint32_t parameter, uint64_t *list, size_t places)
+{
+    struct audala__tallies__Counts r = audala__tallies__audala_count(rt_lent(program, program_length), rt_lent(table, table_length), name, label, parameter, rt_lent(list, places));
+    audala_counts given = { .number = (uint32_t)r.f0, .true_orders = (uint32_t)r.f1, .false_orders = (uint32_t)r.f2, .stopped = (uint32_t)r.f3 };
     return given;
 }
 

@@ -51,6 +51,16 @@ pub struct Report {
     pub holding: u32,
 }
 
+/// How many orders of a step end in which way; after a refusal all but the number are 0.
+#[repr(C)]
+#[derive(Clone, Copy, Debug, PartialEq, Eq)]
+pub struct Counts {
+    pub number: u32,
+    pub true_orders: u32,
+    pub false_orders: u32,
+    pub stopped: u32,
+}
+
 /// What reading or writing an image, reading program text or listing answers.
 #[repr(C)]
 #[derive(Clone, Copy, Debug, PartialEq, Eq)]
@@ -77,7 +87,7 @@ pub struct Traced {
 }
 
 mod entries {
-    use super::{Copied, Part, Report, Stopped, Traced, Verdict};
+    use super::{Copied, Counts, Part, Report, Stopped, Traced, Verdict};
 
     unsafe extern "C" {
         pub fn audala_check(image: *const u8, length: usize, list: *mut u64, places: usize) -> Verdict;
@@ -94,6 +104,17 @@ mod entries {
             list: *mut u64,
             places: usize,
         ) -> Report;
+        pub fn audala_count(
+            program: *const u8,
+            program_length: usize,
+            table: *const u8,
+            table_length: usize,
+            name: u32,
+            label: u32,
+            parameter: u32,
+            list: *mut u64,
+            places: usize,
+        ) -> Counts;
         pub fn audala_read_image(image: *const u8, length: usize, most: usize, buffer: *mut u8, room: usize) -> Copied;
         pub fn audala_write_image(stream: *const u8, length: usize, most: usize, output: *mut u8, room: usize) -> Copied;
         pub fn audala_text(text: *const u8, length: usize, output: *mut u8, room: usize) -> Copied;
@@ -140,6 +161,24 @@ pub fn run(program: &[u8], table: &[u8], turns: &[u8], output: &mut [u8], list: 
             turns.len(),
             output.as_mut_ptr(),
             output.len(),
+            list.as_mut_ptr(),
+            list.len(),
+        )
+    }
+}
+
+/// Counts the orders of a step on a table by what they leave in a Bool parameter of a label; the commands stand in the list.
+pub fn count(program: &[u8], table: &[u8], name: u32, label: u32, parameter: u32, list: &mut [u64]) -> Counts {
+    // SAFETY: as said above.
+    unsafe {
+        entries::audala_count(
+            program.as_ptr(),
+            program.len(),
+            table.as_ptr(),
+            table.len(),
+            name,
+            label,
+            parameter,
             list.as_mut_ptr(),
             list.len(),
         )

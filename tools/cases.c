@@ -104,6 +104,14 @@ static void step(void) {
     free(program.bytes), free(list.bytes);
 }
 
+static void count(void) {
+    uint32_t places = number(), name = number(), label = number(), parameter = number();
+    buffer program = given(), table = given(), list = lent(8 * (size_t)places);
+    audala_counts c = audala_count(program.bytes, program.count, table.bytes, table.count, name, label, parameter, list_of(list), places);
+    printf("count %u %u %u %u %u\n", (unsigned)c.number, (unsigned)c.true_orders, (unsigned)c.false_orders, (unsigned)c.stopped, (unsigned)list_digest(list));
+    free(program.bytes), free(table.bytes), free(list.bytes);
+}
+
 static void copied(const char *word, audala_copied c, buffer input, buffer output) {
     printf("%s %u %lu %u\n", word, (unsigned)c.number, (unsigned long)c.count, (unsigned)output_digest(output));
     free(input.bytes), free(output.bytes);
@@ -145,7 +153,8 @@ int main(void) {
         case 6: image(0); break;
         case 7: listing(); break;
         case 8: trace(); break;
-        default: stop("a case is of kind 1 to 8");
+        case 13: count(); break;
+        default: stop("a case is of kind 1 to 8 or 13");
         }
     }
     return fflush(stdout) == 0 ? 0 : 1;

@@ -17,7 +17,8 @@ static void holds(int truth, const char *what) {
 static void messages(void) {
     const char *unknown = audala_message(99);
     for (uint32_t n = 0; n < 99; n++) {
-        int answered = n <= AUDALA_TEXT_NAME || (n >= AUDALA_OUT_OF_TURNS && n <= AUDALA_ARITHMETIC);
+        int counts = n == AUDALA_ABSENT || n == AUDALA_TOO_MANY_ORDERS;
+        int answered = n <= AUDALA_TEXT_NAME || counts || (n >= AUDALA_OUT_OF_TURNS && n <= AUDALA_ARITHMETIC);
         holds((strcmp(audala_message(n), unknown) != 0) == answered, "a number that is answered has words");
         for (uint32_t m = 0; m < n && answered; m++) holds(strcmp(audala_message(m), audala_message(n)) != 0, "two numbers have two texts");
     }

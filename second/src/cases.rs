@@ -122,7 +122,7 @@ fn text_line(output: usize, text: &[u8]) -> String {
     format!("text {} {} {}", answer.number, answer.blocks, digest(output.iter().copied()))
 }
 
-fn list_digest(list: &[Option<Command>]) -> u64 {
+pub fn list_digest(list: &[Option<Command>]) -> u64 {
     digest(list.iter().flat_map(|place| coded(*place).to_le_bytes()))
 }
 

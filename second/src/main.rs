@@ -5,22 +5,27 @@
 //! an image. `example NAME` writes the cases of the example in `NAME.audala`,
 //! `NAME.table` and `NAME.runs`, `runs NAME` what `NAME.runs` has to say.
 //! `exports` writes the cases of the library's further entries, `exports answers`
-//! answers such cases.
+//! answers such cases; `counts` and `counts answers` do so of counts of orders,
+//! `more SEED` and `more answers` of steps of 13 to 20 commands.
 #![forbid(unsafe_code)]
 
+use engine::Counting;
 use second::bench::bench;
 use second::cases::Case;
+use second::counts::{self, Count};
 use second::examples::Example;
 use second::exports::{self, Export};
 use second::generate::{Generator, edges::edges, texts};
 use second::listing;
+use second::more;
 use second::tables::{table_image, table_text};
 use std::fs;
 use std::io::{self, BufReader, BufWriter, Read, Write};
 use std::process::ExitCode;
 
 const USAGE: &str = "second [listing | edges | generate SEED COUNT | texts [SEED COUNT] | bench \
-    | table PROGRAM TEXT | table-text PROGRAM TABLE | example NAME | runs NAME | exports [answers]]";
+    | table PROGRAM TEXT | table-text PROGRAM TABLE | example NAME | runs NAME | exports [answers] \
+    | counts [answers] | more SEED | more answers]";
 
 fn main() -> ExitCode {
     let words: Vec<String> = std::env::args().skip(1).collect();
@@ -40,6 +45,13 @@ fn main() -> ExitCode {
         },
         ["exports"] => write_exports(),
         ["exports", "answers"] => answer_exports(),
+        ["counts"] => write_counts(),
+        ["counts", "answers"] => answer_counts(),
+        ["more", "answers"] => answer_more(),
+        ["more", seed] => match seed.parse() {
+            Ok(seed) => write_more(seed),
+            Err(_) => Err(io::Error::other(USAGE)),
+        },
         ["bench"] => io::stdout().write_all(bench().as_bytes()),
         ["table", program, text] => table(program, text),
         ["table-text", program, table] => print_table(program, table),
@@ -77,6 +89,47 @@ fn answer_exports() -> io::Result<()> {
     while let Some(case) = Export::read(&mut input)? {
         writeln!(output, "{}", case.answer())?;
     }
+    output.flush()
+}
+
+fn write_counts() -> io::Result<()> {
+    let mut bytes = Vec::new();
+    counts::cases().iter().for_each(|case| case.write(&mut bytes));
+    io::stdout().write_all(&bytes)
+}
+
+fn answer_counts() -> io::Result<()> {
+    let mut input = BufReader::new(io::stdin().lock());
+    let mut output = BufWriter::new(io::stdout().lock());
+    while let Some(case) = Count::read(&mut input)? {
+        writeln!(output, "{}", case.answer())?;
+    }
+    output.flush()
+}
+
+fn write_more(seed: u64) -> io::Result<()> {
+    let mut bytes = Vec::new();
+    more::cases(seed).iter().for_each(|case| case.write(&mut bytes));
+    io::stdout().write_all(&bytes)
+}
+
+/// Answers by sums over states; where there are few sequences they are listed too,
+/// and have to be as many.
+fn answer_more() -> io::Result<()> {
+    let mut input = BufReader::new(io::stdin().lock());
+    let mut output = BufWriter::new(io::stdout().lock());
+    let mut listed = 0;
+    while let Some(case) = Count::read(&mut input)? {
+        let answer = case.count_up_to(more::MOST, Counting::Summed);
+        if answer.with_true + answer.with_false + answer.stopped <= more::MOST_LISTED {
+            listed += 1;
+            if case.count_up_to(more::MOST, Counting::Listed) != answer {
+                return Err(io::Error::other("sums and the list of all sequences differ"));
+            }
+        }
+        writeln!(output, "{}", case.summed(more::MOST))?;
+    }
+    eprintln!("{listed} of the steps were listed too");
     output.flush()
 }
 

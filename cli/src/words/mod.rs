@@ -1,6 +1,7 @@
 //! The words of the program, a module each. A word is what its `WORD` says; `WORDS` lists them in the order of the overview.
 
 mod check;
+mod count;
 mod list;
 mod names;
 mod run;
@@ -14,8 +15,8 @@ use crate::engine;
 /// The version of this program, as Cargo.toml has it.
 const VERSION: &str = "0.1.0";
 
-pub const WORDS: [&Word; 7] =
-    [&check::WORD, &list::WORD, &names::WORD, &text::WORD, &table::WORD, &run::WORD, &trace::WORD];
+pub const WORDS: [&Word; 8] =
+    [&check::WORD, &list::WORD, &names::WORD, &text::WORD, &table::WORD, &run::WORD, &trace::WORD, &count::WORD];
 
 pub fn overview() -> String {
     let mut out = String::from(

@@ -3,6 +3,7 @@
 pub mod images;
 pub mod listings;
 pub mod places;
+pub mod tallies;
 pub mod texts;
 pub mod traces;
 

@@ -10,4 +10,5 @@ pub mod Memory
 pub mod Rounds
 pub mod Traces
 pub mod Orders
+pub mod Counts
 pub mod Laws

@@ -22,7 +22,10 @@ mod typing;
 
 pub use blocks::{BlockFault, stream, write};
 pub use command::Command;
-pub use engine::{CheckAnswer, PartAnswer, RunAnswer, check, part, run};
+pub use engine::{
+    CheckAnswer, CountAnswer, Counting, PartAnswer, Question, RunAnswer, check, count, count_up_to,
+    part, run,
+};
 pub use listing::listing;
 pub use machine::{Traced, trace};
 pub use operators::Operator;

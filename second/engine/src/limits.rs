@@ -35,3 +35,6 @@ pub const ITEMS: usize = 64;
 /// Sizes of a run.
 pub const INSTANCES: usize = 256;
 pub const TURNS: usize = 65_536;
+
+/// Commands over all instances of a step whose orders are counted (02 §14).
+pub const COUNTED_COMMANDS: usize = 12;

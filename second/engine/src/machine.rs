@@ -13,6 +13,8 @@ use crate::refusal::Refusal;
 use crate::schedule::{Moved, Schedule};
 use crate::types::Type;
 
+mod counts;
+
 pub struct Machine<'p> {
     structs: &'p [Vec<Type>],
     commands: &'p [Command],

@@ -89,7 +89,7 @@ fn schedule_move(item: Item, steps: &[CompiledStep]) -> Move {
 }
 
 /// The parts of the chosen steps; a step that isn't there gives an empty one.
-fn parts(steps: &[CompiledStep], chosen: impl Fn(&CompiledStep) -> bool) -> Parts {
+pub fn parts(steps: &[CompiledStep], chosen: impl Fn(&CompiledStep) -> bool) -> Parts {
     let mut parts = Parts::default();
     for step in steps.iter().filter(|step| chosen(step)) {
         parts[usize::from(step.structure)] = step.part;

@@ -18,6 +18,8 @@ pub enum Refusal {
     TableValue = 12,
     Room = 13,
     TurnCount = 14,
+    Absent = 21,
+    ManyCommands = 24,
     NoTurnLeft = 33,
     InstancesFull = 34,
     Arithmetic = 35,

@@ -58,7 +58,7 @@ true-false e = let z : _≡_ {A = ℕ} 0 1 = cc in absurd (omega arith)
 
 -- A step that some struct has -----------------------------------------------------------------------
 
-stepped-had : (n : ℕ) (tss : List (List Step)) → stepped n tss ≡ true → Had n tss
+pub stepped-had : (n : ℕ) (tss : List (List Step)) → stepped n tss ≡ true → Had n tss
 unfolding stepped
 stepped-had n [] e = true-false (sym e)
 stepped-had n (ts ∷ tss) e = go (λ h. stepped-had n tss h) (member n (names-of-steps ts)) refl e
@@ -92,7 +92,7 @@ constructing-free (j ∷ is) e (suc l) i g = constructing-free is (or-right (con
 
 -- The started step ------------------------------------------------------------------------------------
 
-still-first : (k : ℕ) (tss : List (List Ty)) (rs : List Record) → Still (nulls k tss ++ map (λ r. resting (r .struct) (r .values)) rs)
+pub still-first : (k : ℕ) (tss : List (List Ty)) (rs : List Record) → Still (nulls k tss ++ map (λ r. resting (r .struct) (r .values)) rs)
 unfolding nulls
 still-first k [] [] = tt
 still-first k [] (r ∷ rs) = (refl, still-first k [] rs)
@@ -105,11 +105,11 @@ module _ (p : Program) (rs : List Record) (n : ℕ) where
   starting-alone [] = refl
   starting-alone (inst k c χ ξ ∷ σ) = ap {B = List Inst} (λ x. starting p (global n) (inst k c χ ξ) ∷ x) (starting-alone σ)
 
-  state-alone : step-state (alone p n) rs n ≡ step-state p rs n
+  pub state-alone : step-state (alone p n) rs n ≡ step-state p rs n
   unfolding step-state first-insts
   state-alone = ap (λ σ. state done σ []) (starting-alone (first-insts p rs))
 
-  step-stands : Represents (step-machine (alone p n) rs n) (step-state (alone p n) rs n)
+  pub step-stands : Represents (step-machine (alone p n) rs n) (step-state (alone p n) rs n)
   unfolding step-state step-machine begin initial
   step-stands = (
     refl,
@@ -118,7 +118,7 @@ module _ (p : Program) (rs : List Record) (n : ℕ) where
     refl,
   )
 
-  begin-moves : move (alone p n) (begin (alone p n) rs) ≡ next (step-machine (alone p n) rs n)
+  pub begin-moves : move (alone p n) (begin (alone p n) rs) ≡ next (step-machine (alone p n) rs n)
   unfolding begin of-item of-items move-by step-machine
   begin-moves = refl
 
@@ -127,10 +127,10 @@ module _ (p : Program) (rs : List Record) (n : ℕ) where
   begin-due = due-none (begin (alone p n) rs) .1 (holders-still (begin (alone p n) rs) .1 (still-first 0 (p .params) rs))
 
   module _ (acc : Accepted p) (right : TableRight (p .params) rs) (had : Had n (p .steps)) where
-    alone-firm : Firm (alone p n)
+    pub alone-firm : Firm (alone p n)
     alone-firm = accepted-firm (alone-accepted p n acc had)
 
-    step-good : Good (alone p n) (step-machine (alone p n) rs n)
+    pub step-good : Good (alone p n) (step-machine (alone p n) rs n)
     step-good = acts-good alone-firm (moves begin-due begin-moves) (begin-good (alone p n) (alone-accepted p n acc had .0) rs right)
 
     step-stood : constructing (step-machine (alone p n) rs n .instances) ≡ false

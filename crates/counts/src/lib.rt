@@ -1,0 +1,1 @@
+// The definitions and laws of 02 §14 are in specs/.
