@@ -11,7 +11,8 @@ use Rattle.run.specs.Begin.{begin}
 use Rattle.run.specs.Run.{Outcome.stopped as ended, run}
 use Rattle.paused.specs.Paused.{Paused}
 use Rattle.paused.specs.Resumed.{resumed}
-use Rattle.paused.specs.Entry.{paused-bytes, table-bytes, pause-begins, carries, Writes, Writes.paused-at-33, Writes.table-at-33, Start, report-of, output-of, Answers}
+use Rattle.paused.specs.Entry.{paused-bytes, table-bytes, pause-begins, carries, Writes, Writes.paused-at-33, Writes.table-at-33, Start, Answers}
+use Rattle.paused.specs.Entry.{report-of, output-of}
 use Rattle.paused.specs.Entry.{call-report, call-output, call-list, from-table, from-paused, pause-report, pause-output, pause-list, resume-report}
 use Rattle.paused.specs.Entry.{resume-output, resume-list, finish-report, finish-output, finish-list}
 use Rattle.paused.specs.Input.{Pausable, Resumable}

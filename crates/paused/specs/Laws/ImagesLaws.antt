@@ -25,7 +25,7 @@ use Rattle.paused.specs.PausedOf.{paused-of}
 use Rattle.paused.specs.Stream.{enc-paused}
 use Rattle.paused.specs.Allowed.{CountedPaused}
 use Rattle.paused.specs.Entry.{paused-blocks, paused-bytes}
-use Rattle.paused.specs.Input.{PausedAccepted}
+use Rattle.paused.specs.Input.{PausedAccepted, Storable}
 use Rattle.paused.specs.Laws.LengthLaws.{paused-length, image-paused}
 use Rattle.paused.specs.Laws.PausableAllowed.{pausable-allowed}
 use Rattle.paused.specs.Laws.PausableCounted.{pausable-counted}
@@ -53,9 +53,8 @@ module _ {p : Program} where
       omega arith
 
   -- every machine of a run, from whatever machine it began, is written so where someone holds commands
-  pub machine-written : Accepted p → {m z : Machine} {es fs : List ℕ} → Startable p m → Visits p m es z fs → due z ≡ false
-      → (PausedAccepted p (image (enc-paused (paused-of p z))) (paused-of p z)) × (length (image (enc-paused (paused-of p z))) ≤ paused-bytes)
-  machine-written ok {z = z} start v busy =
+  pub machine-storable : Accepted p → {m z : Machine} {es fs : List ℕ} → Startable p m → Visits p m es z fs → due z ≡ false → Storable p z
+  machine-storable ok {z = z} start v busy =
       let s = visits-startable ok start v in
       let c = pausable-counted ok s busy in
-      (image-paused ok (paused-of p z) c (pausable-allowed ok s busy), image-small ok (paused-of p z) c)
+      record { accepted = image-paused ok (paused-of p z) c (pausable-allowed ok s busy); small = image-small ok (paused-of p z) c }
