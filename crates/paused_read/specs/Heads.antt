@@ -1,0 +1,46 @@
+-- The head of a paused stream, read off its bytes and of a paused state (02, 'Pausing a run'; docs/PAUSED.md, 'The stream').
+use Prim.Native.Nat.{ℕ}
+use mathlib.Core.Bool.{true, false}
+use mathlib.Core.List.{List}
+use lib.ListN.{length, getD}
+use Rattle.little_endian.specs.Numbers.{pair-at}
+use Rattle.program.specs.Reader.{Result, Result.ok, Result.bad}
+use Rattle.memory.specs.Stands.{bits}
+use Rattle.paused.specs.Paused.{Paused}
+use Rattle.paused_read.specs.declared.Head.{Head}
+use Rattle.paused_read.specs.declared.Scan.{Scan}
+use Rattle.paused_read.specs.declared.Scan.the-variants.{Stream, NoStream}
+use Rattle.paused_read.specs.Scan.{entries-count, entries-place, from-place, count-place, instances-place, entries-number, is-stream}
+
+abbrev pub head-at : List ℕ → Head
+head-at s =
+    let e = getD s entries-count 0 in
+    record {
+      place = getD s 0 0;
+      fixes = e;
+      stable = entries-number s entries-place e;
+      from = pair-at s (from-place e);
+      count = pair-at s (count-place e);
+      at = instances-place e;
+    }
+
+abbrev pub head-of : Paused → Head
+head-of q = record {
+  place = q .place;
+  fixes = length (q .entries);
+  stable = bits (q .entries);
+  from = q .from;
+  count = length (q .instances);
+  at = instances-place (length (q .entries));
+}
+
+-- What the pass answers --------------------------------------------------------------------
+
+-- the head of a stream that is one of a paused state
+unfoldable pub scanned : List ℕ → List ℕ → Scan
+scanned counts s = elim (is-stream counts s) [ true ↦ Stream (head-at s) | false ↦ NoStream ]
+
+-- and of what is read from it
+abbrev pub scan-of : Result Paused → Scan
+scan-of (ok q m) = Stream (head-of q)
+scan-of (bad at n) = NoStream
