@@ -1,6 +1,7 @@
 -- The head of a paused stream, read off its bytes and of a paused state (02, 'Pausing a run'; docs/PAUSED.md, 'The stream').
 use Prim.Native.Nat.{ℕ}
 use mathlib.Core.Bool.{true, false}
+use mathlib.Core.Option.{Option, none, some}
 use mathlib.Core.List.{List}
 use lib.ListN.{length, getD}
 use Rattle.little_endian.specs.Numbers.{pair-at}
@@ -8,6 +9,8 @@ use Rattle.program.specs.Reader.{Result, Result.ok, Result.bad}
 use Rattle.memory.specs.Stands.{bits}
 use Rattle.paused.specs.Paused.{Paused}
 use Rattle.paused_read.specs.declared.Head.{Head}
+use Rattle.paused_read.specs.declared.places.Next.{Next}
+use Rattle.paused_read.specs.declared.places.Next.the-variants.{At, Nowhere}
 use Rattle.paused_read.specs.declared.Scan.{Scan}
 use Rattle.paused_read.specs.declared.Scan.the-variants.{Stream, NoStream}
 use Rattle.paused_read.specs.Scan.{entries-count, entries-place, from-place, count-place, instances-place, entries-number, is-stream}
@@ -44,3 +47,8 @@ scanned counts s = elim (is-stream counts s) [ true ↦ Stream (head-at s) | fal
 abbrev pub scan-of : Result Paused → Scan
 scan-of (ok q m) = Stream (head-of q)
 scan-of (bad at n) = NoStream
+
+-- the next place, where there is one
+abbrev pub next-told : Option ℕ → Next
+next-told none = Nowhere
+next-told (some m) = At m

@@ -1,5 +1,6 @@
 pub mod ScanLaws
 pub mod HeldScan
 pub mod StreamScan
+pub mod PlaceWays
 pub mod HeadLaws
 pub mod ScannedLaws

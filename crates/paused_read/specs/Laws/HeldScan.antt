@@ -71,21 +71,6 @@ module _ (s : List ℕ) (small : (i : ℕ) → getD s i 0 < byte-end) where
   unfolding words-next
   words-end most at h = rw (le-ltb at (length s) h, words-next)
 
-  -- words end within the stream
-  pub words-within : (most at k : ℕ) → words-next s most at ≡ some k → k ≤ length s
-  unfolding words-next
-  words-within most at k e = go (decLt at (length s))
-    where
-      counts : at < length s → Dec (getD s at 0 ≤ most) → k ≤ length s
-      counts l (yes u) =
-          let (q, h) = reach-is s (at + 1 + value-bytes * getD s at 0) k (sym (rw (lt-ltb at (length s) l, words-next, le-leb (getD s at 0) most u) at e)) in
-          omega arith
-      counts l (no f) = none-some (rw (lt-ltb at (length s) l, words-next, lt-leb (getD s at 0) most (omega arith)) at e)
-
-      go : Dec (at < length s) → k ≤ length s
-      go (yes l) = counts l (decLe (getD s at 0) most)
-      go (no f) = none-some (sym (words-end most at (omega arith)) ∙ e)
-
   -- A record -------------------------------------------------------------------------------
 
   -- stack and locals
