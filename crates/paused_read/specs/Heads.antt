@@ -1,6 +1,6 @@
 -- The head of a paused stream, read off its bytes and of a paused state (02, 'Pausing a run'; docs/PAUSED.md, 'The stream').
 use Prim.Native.Nat.{ℕ}
-use mathlib.Core.Bool.{true, false}
+use mathlib.Core.Bool.{Bool, true, false}
 use mathlib.Core.Option.{Option, none, some}
 use mathlib.Core.List.{List}
 use lib.ListN.{length, getD}
@@ -40,8 +40,12 @@ head-of q = record {
 -- What the pass answers --------------------------------------------------------------------
 
 -- the head of a stream that is one of a paused state
+abbrev pub scan-by : List ℕ → Bool → Scan
+scan-by s true = Stream (head-at s)
+scan-by s false = NoStream
+
 unfoldable pub scanned : List ℕ → List ℕ → Scan
-scanned counts s = elim (is-stream counts s) [ true ↦ Stream (head-at s) | false ↦ NoStream ]
+scanned counts s = scan-by s (is-stream s counts)
 
 -- and of what is read from it
 abbrev pub scan-of : Result Paused → Scan

@@ -84,23 +84,23 @@ entries-number s at (suc n) = getD s at 0 + 2 * entries-number s (suc at) n
 
 -- The stream -------------------------------------------------------------------------------
 
-module _ (counts s : List ℕ) where
+module _ (s : List ℕ) where
   abbrev pub entries-of : ℕ
   entries-of = getD s entries-count 0
 
   abbrev pub instances-of : ℕ
   instances-of = pair-at s (count-place entries-of)
 
-  -- its counts and entries are right, and it has the bytes of its head
-  unfoldable pub head-right : Bool
-  head-right =
+  -- for a program with so many structs: its counts and entries are right, and it has the bytes of its head
+  unfoldable pub head-right : ℕ → Bool
+  head-right structs =
       ltb entries-count (length s) && (leb entries-of fix-levels && (leb (instances-place entries-of) (length s)
-      && (entries-right s entries-place entries-of && (leb (length counts) instances-of && leb instances-of max-instances))))
+      && (entries-right s entries-place entries-of && (leb structs instances-of && leb instances-of max-instances))))
 
   -- it does not go on after its instances
   unfoldable pub ends-there : Option ℕ → Bool
   ends-there none = false
   ends-there (some m) = not (ltb m (length s))
 
-  unfoldable pub is-stream : Bool
-  is-stream = head-right && ends-there (helds-next counts s instances-of (instances-place entries-of))
+  unfoldable pub is-stream : List ℕ → Bool
+  is-stream counts = head-right (length counts) && ends-there (helds-next counts s instances-of (instances-place entries-of))

@@ -1,7 +1,15 @@
 // The reader of paused images (02, 'Pausing a run'; docs/PAUSED.md). First a pass over the stream says whether it is that of a paused state (18), and what its head
 // holds; the state is judged (19) and seated in memory after that.
 
+mod heads;
 mod places;
+
+use places::Next;
+ghost use mathlib.Core.Path.{_≡_};
+ghost use Prim.Native.Nat.{_≤_};
+ghost use lib.ListN.{length};
+ghost use Rattle.paused.specs.Entry.{paused-bytes};
+ghost use Rattle.paused_read.specs.Heads.{scanned};
 
 // The head of a paused stream: the place of the schedule left, how many stability entries there are and the entries as bits with the innermost lowest, the
 // label after the one that acted last, how many instances there are, and the place of the first of them in the stream.
@@ -18,4 +26,23 @@ pub struct Head {
 pub enum Scan {
     Stream(Head),
     NoStream,
+}
+
+// Whether a stream is that of a paused state, of a program whose structs have these numbers of parameters, and what its head holds.
+pub fn scan_stream(s: &[u8], counts: &[u8]) -> Scan
+    requires { ⌜ length (now s) ≤ paused-bytes ⌝ }
+    ensures { λ r. ⌜ r ≡ scanned (now (counts .entry)) (now (s .entry)) ⌝ }
+{
+    if !heads::right(s, counts.len()) {
+        return Scan::NoStream;
+    }
+    let h = heads::head(s);
+    let r = places::helds(s, counts, h.count, h.at);
+    let Next::At(end) = r else {
+        return Scan::NoStream;
+    };
+    if end < s.len() {
+        return Scan::NoStream;
+    }
+    Scan::Stream(h)
 }

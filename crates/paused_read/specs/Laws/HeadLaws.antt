@@ -1,22 +1,21 @@
 -- The head that is read off the bytes of a paused state is that of the state (02, 'Pausing a run').
-use Prim.Native.Nat.{ℕ, zero, suc, _+_, _*_, _/_, _%_, _<_, _≤_}
+use Prim.Native.Nat.{ℕ, suc, _+_, _*_, _/_, _%_, _<_}
 use native.Mathlib.Omega.{arith}
 use mathlib.Core.Path.{_≡_, refl, ap, ap₂, sym, _∙_}
 use mathlib.Core.Bool.{Bool, true, false}
 use mathlib.Core.List.{List, [], _∷_, _++_, append-assoc}
 use lib.ListN.{length, getD, length-append, List·getD-append}
 use lib.Seq.{getD-append-add}
-use Rattle.types.specs.Limits.{max-instances}
 use Rattle.little_endian.specs.Numbers.{pair-at}
 use Rattle.program.specs.Tree.{Program}
-use Rattle.program.specs.Encoding.{enc-word, flat, enc-list}
+use Rattle.program.specs.Encoding.{enc-word, flat}
 use Rattle.table.specs.Table.{count-bytes}
 use Rattle.memory.specs.Stands.{bits}
-use Rattle.paused.specs.Paused.{Held, Paused}
+use Rattle.paused.specs.Paused.{Paused}
 use Rattle.paused.specs.Allowed.{CountedPaused}
 use Rattle.paused.specs.Stream.{enc-entry, enc-held, enc-paused}
 use Rattle.paused_read.specs.declared.Head.{Head}
-use Rattle.paused_read.specs.Scan.{entries-count, entries-place, from-place, count-place, instances-place, entries-number}
+use Rattle.paused_read.specs.Scan.{entries-place, from-place, count-place, entries-number}
 use Rattle.paused_read.specs.Heads.{head-at, head-of}
 
 -- Entries ----------------------------------------------------------------------------------

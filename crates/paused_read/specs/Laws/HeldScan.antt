@@ -3,18 +3,16 @@ use Prim.Native.Nat.{ℕ, zero, suc, _+_, _*_, _<_, _≤_}
 use native.Mathlib.Omega.{arith}
 use native.Mathlib.Decide.{decLt, decLe}
 use mathlib.Core.Path.{_≡_, refl, ap, sym, _∙_}
-use mathlib.Core.Bool.{true, false}
-use mathlib.Core.Option.{Option, none, some}
+use mathlib.Core.Option.{Option, none}
 use mathlib.Core.List.{List, [], _∷_, map}
 use lib.ListN.{length, getD, length-map, List·getD-map}
 use borrow.Author.Tests.{lt-ltb, le-ltb, le-leb, lt-leb}
 use Rattle.types.specs.Limits.{max-depth, max-locals}
 use Rattle.program.specs.Tree.{Program}
-use Rattle.program.specs.Reader.{Result, Result.ok, Result.bad, then, pair, made, many, ranged, counted, read-word, byte-end}
+use Rattle.program.specs.Reader.{Result, Result.ok, Result.bad, then, pair, many, ranged, counted, read-word, byte-end}
 use Rattle.commands.specs.Context.{params-of}
 use Rattle.table.specs.Table.{value-bytes}
 use Rattle.machine.specs.Published.{structs}
-use Rattle.sound.specs.Laws.ElemLaws.{none-some, some-is}
 use Rattle.paused.specs.Paused.{Held}
 use Rattle.paused.specs.Stream.{read-position, read-words, read-parts, read-held}
 use Rattle.paused_read.specs.Scan.{next-on, reach, words-next, stack-place, held-next, helds-next}

@@ -1,17 +1,15 @@
 -- Each way of the code that passes over the places of a stream (02, 'Pausing a run'; number 18).
-use Prim.Native.Nat.{ℕ, zero, suc, _+_, _-_, _*_, _<_, _≤_}
+use Prim.Native.Nat.{ℕ, suc, _+_, _-_, _*_, _<_, _≤_}
 use native.Mathlib.Omega.{arith}
 use native.Mathlib.Decide.{decLt, decLe}
-use native.Mathlib.Numerals.{add-one}
 use mathlib.Core.Path.{_≡_, refl, ap, sym, _∙_}
-use mathlib.Core.Bool.{true, false}
 use mathlib.Core.Option.{Option, none, some}
 use mathlib.Core.List.{List}
 use lib.ListN.{length, getD}
 use borrow.Author.Tests.{lt-ltb, le-ltb, le-leb, lt-leb}
 use Rattle.types.specs.Limits.{max-depth, max-locals}
 use Rattle.table.specs.Table.{value-bytes}
-use Rattle.sound.specs.Laws.ElemLaws.{none-some, some-is}
+use Rattle.sound.specs.Laws.ElemLaws.{none-some}
 use Rattle.paused_read.specs.declared.places.Next.{Next}
 use Rattle.paused_read.specs.declared.places.Next.the-variants.{At, Nowhere}
 use Rattle.paused_read.specs.Scan.{next-on, reach, words-next, held-next, helds-next}

@@ -1,27 +1,17 @@
 -- The pass over the places of a stream says whether a paused state is read from it (02, 'Pausing a run'; number 18).
 use Prim.Native.Nat.{ℕ, zero, suc, _+_, _-_, _*_, _<_, _≤_}
 use native.Mathlib.Omega.{arith}
-use native.Mathlib.Numerals.{add-one}
-use mathlib.Core.Path.{_≡_, refl, ap, ap₂, sym, _∙_}
-use mathlib.Core.Bool.{Bool, true, false, _&&_}
+use mathlib.Core.Path.{_≡_, refl, ap, sym, _∙_}
+use mathlib.Core.Bool.{Bool, true, false}
 use mathlib.Core.Option.{Option, none, some}
-use mathlib.Core.List.{List, [], _∷_, map}
-use lib.ListN.{length, getD, length-map, List·getD-map}
-use lib.Dec.{ltb, leb, eqb}
-use borrow.Author.Tests.{lt-ltb, le-ltb, ltb-true, ltb-false, le-leb, lt-leb, leb-true, leb-false}
-use Rattle.types.specs.Limits.{max-depth, max-locals, max-instances, fix-levels}
-use Rattle.little_endian.specs.Numbers.{pair-at}
-use Rattle.program.specs.Tree.{Program}
-use Rattle.program.specs.Reader.{Result, Result.ok, Result.bad, then, pair, made, many, guard, between, byte, tested, ranged, counted, read-word, ended, whole}
-use Rattle.program.specs.Reader.{byte-end, bool-end}
+use mathlib.Core.List.{List}
+use lib.ListN.{length, getD}
+use lib.Dec.{leb}
+use borrow.Author.Tests.{lt-ltb, le-ltb, le-leb, lt-leb, leb-true, leb-false}
+use Rattle.program.specs.Reader.{Result, Result.ok, Result.bad, then, pair, made, many, guard, between, tested, ranged}
 use Rattle.program.specs.Laws.PartLaws.{byte-ok, byte-none}
-use Rattle.commands.specs.Context.{params-of}
-use Rattle.table.specs.Table.{value-bytes, count-bytes}
-use Rattle.machine.specs.Published.{structs}
 use Rattle.sound.specs.Laws.ElemLaws.{none-some, some-is}
-use Rattle.paused.specs.Stream.{read-entry, read-position, read-words, read-parts, read-held, read-count, read-instances, read-paused}
-use Rattle.paused_read.specs.Scan.{next-on, reach, words-next, stack-place, held-next, helds-next, entries-count, entries-place, from-place, count-place}
-use Rattle.paused_read.specs.Scan.{instances-place, entries-right, entries-of, instances-of, head-right, ends-there, is-stream}
+use Rattle.paused_read.specs.Scan.{next-on, reach}
 
 -- What was read --------------------------------------------------------------------------
 

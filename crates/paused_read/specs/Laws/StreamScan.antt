@@ -4,11 +4,11 @@ use native.Mathlib.Omega.{arith}
 use native.Mathlib.Decide.{decLt, decLe}
 use mathlib.Core.Path.{_≡_, refl, ap, ap₂, sym, _∙_}
 use mathlib.Core.Bool.{Bool, true, false, not, _&&_}
-use mathlib.Core.Option.{Option, none, some}
+use mathlib.Core.Option.{Option, none}
 use mathlib.Core.List.{List, [], _∷_, map}
 use lib.ListN.{length, getD, length-map}
 use lib.Dec.{ltb, leb, eqb}
-use borrow.Author.Tests.{lt-ltb, le-ltb, le-leb, lt-leb, leb-true, leb-false}
+use borrow.Author.Tests.{lt-ltb, le-ltb, le-leb, lt-leb}
 use Rattle.types.specs.Limits.{max-instances, fix-levels}
 use Rattle.little_endian.specs.Numbers.{pair-at}
 use Rattle.program.specs.Tree.{Program}
@@ -19,11 +19,10 @@ use Rattle.machine.specs.Published.{structs}
 use Rattle.sound.specs.Laws.ElemLaws.{none-some}
 use Rattle.paused.specs.Paused.{Held, Paused}
 use Rattle.paused.specs.Stream.{read-entry, read-held, read-count, read-instances, read-paused}
-use Rattle.paused_read.specs.Scan.{next-on, reach, helds-next, entries-count, entries-place, from-place, count-place, instances-place, entries-right}
+use Rattle.paused_read.specs.Scan.{next-on, reach, helds-next, entries-place, from-place, count-place, instances-place, entries-right}
 use Rattle.paused_read.specs.Scan.{entries-of, instances-of, head-right, ends-there, is-stream}
-use Rattle.paused_read.specs.Laws.ScanLaws.{comes, comes-made, comes-pair, within, beyond, below-there, below-over, below-end, reach-is, then-comes}
-use Rattle.paused_read.specs.Laws.ScanLaws.{comes-ok}
-use Rattle.paused_read.specs.Laws.HeldScan.{byte-comes, word-comes, helds-come}
+use Rattle.paused_read.specs.Laws.ScanLaws.{comes, comes-made, comes-pair, within, beyond, below-there, below-over, below-end, then-comes}
+use Rattle.paused_read.specs.Laws.HeldScan.{word-comes, helds-come}
 
 -- whether something was read
 unfoldable pub is-read : {A : Type 0} → Result A → Bool
@@ -187,10 +186,10 @@ module _ (s : List ℕ) (small : (i : ℕ) → getD s i 0 < byte-end) where
         go false (no f) v = rw (lt-leb (instances-place e) (length s) (omega arith))
 
     abbrev e₀ : ℕ
-    e₀ = entries-of counts s
+    e₀ = entries-of s
 
     abbrev heads : Option ℕ
-    heads = helds-next counts s (instances-of counts s) (instances-place e₀)
+    heads = helds-next counts s (instances-of s) (instances-place e₀)
 
     -- the count of the entries, the entries and the rest, from a place on
     abbrev counted-rest : ℕ → ℕ → Result (List Bool × (ℕ × List Held))
@@ -205,7 +204,7 @@ module _ (s : List ℕ) (small : (i : ℕ) → getD s i 0 < byte-end) where
         ∙ ap comes (grouped (ranged s 0 (suc fix-levels) n) (λ i k. many [] _∷_ (read-entry s) i k) (λ es m. rest m))
 
     -- after the place byte
-    second : Dec (1 < length s) → Dec (e₀ ≤ fix-levels) → comes (counted-rest 0 1) ≡ if-right (head-right counts s) heads
+    second : Dec (1 < length s) → Dec (e₀ ≤ fix-levels) → comes (counted-rest 0 1) ≡ if-right (head-right s (length counts)) heads
     unfolding head-right
     second (yes l) (yes u) =
         nested 1 ∙ ap comes (below-there s (suc fix-levels) 1 _ l (omega arith))
@@ -216,19 +215,19 @@ module _ (s : List ℕ) (small : (i : ℕ) → getD s i 0 < byte-end) where
     second (no f) u = nested 1 ∙ below-end s (suc fix-levels) 1 _ (omega arith) ∙ sym (rw (le-ltb 1 (length s) (omega arith), head-right) refl)
 
     -- the place that reading a paused state comes to
-    pub paused-comes : comes (read-paused p s 0) ≡ if-right (head-right counts s) heads
+    pub paused-comes : comes (read-paused p s 0) ≡ if-right (head-right s (length counts)) heads
     unfolding read-paused head-right
     paused-comes =
         comes-made _ (pair (ranged s 0 byte-end 0) counted-rest) ∙ comes-pair (ranged s 0 byte-end 0) counted-rest ∙ go (decLt 0 (length s))
       where
-        go : Dec (0 < length s) → comes (then (ranged s 0 byte-end 0) counted-rest) ≡ if-right (head-right counts s) heads
+        go : Dec (0 < length s) → comes (then (ranged s 0 byte-end 0) counted-rest) ≡ if-right (head-right s (length counts)) heads
         go (yes l) = ap comes (below-there s byte-end 0 counted-rest l (small 0)) ∙ second (decLt 1 (length s)) (decLe e₀ fix-levels)
         go (no f) = below-end s byte-end 0 counted-rest (omega arith) ∙ sym (rw (le-ltb 1 (length s) (omega arith), head-right) refl)
 
     -- 18: a paused state is read exactly where the pass says so
-    pub stream-read : is-read (whole (read-paused p) s) ≡ is-stream counts s
+    pub stream-read : is-read (whole (read-paused p) s) ≡ is-stream s counts
     unfolding whole is-read is-stream then ended comes ends-there
-    stream-read = go (read-paused p s 0) (head-right counts s) paused-comes
+    stream-read = go (read-paused p s 0) (head-right s (length counts)) paused-comes
       where
         last : (q : Paused) (k : ℕ) → is-read (ended s q k) ≡ not (ltb k (length s))
         last q k = by (ltb k (length s))
@@ -237,8 +236,8 @@ module _ (s : List ℕ) (small : (i : ℕ) → getD s i 0 < byte-end) where
             by true = refl
             by false = refl
 
-        go : (r : Result Paused) (t : Bool) → comes r ≡ if-right t heads → is-read (then r (ended s)) ≡ t && ends-there counts s heads
-        go (ok q k) true e = last q k ∙ ap (ends-there counts s) e
+        go : (r : Result Paused) (t : Bool) → comes r ≡ if-right t heads → is-read (then r (ended s)) ≡ t && ends-there s heads
+        go (ok q k) true e = last q k ∙ ap (ends-there s) e
         go (ok q k) false e = none-some (sym e)
-        go (bad i j) true e = ap (ends-there counts s) e
+        go (bad i j) true e = ap (ends-there s) e
         go (bad i j) false e = refl

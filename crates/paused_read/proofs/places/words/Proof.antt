@@ -1,6 +1,4 @@
 -- `places::words` meets its contract: no count, too great a count, words that are cut, the place after them.
-use mathlib.Core.Path.{_≡_}
-use native.Mathlib.Omega.{arith}
 use Rattle.paused_read.specs.Laws.PlaceWays.{words-cut, words-many, words-short, words-there}
 use borrow.Author.Needs.{needs}
 use Rattle.paused_read.proofs.places.words.Statement.{statement}
