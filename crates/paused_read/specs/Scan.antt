@@ -1,5 +1,5 @@
--- Whether a stream is that of a paused state (02, 'Pausing a run'; docs/PAUSED.md, 'The stream'; number 18), by one pass over its places that reads the counts, the
--- struct bytes and the entries and nothing else; and what stands in its head. `counts` has the number of parameters of each struct.
+-- Whether a stream is that of a paused state (02, 'Pausing a run'; docs/PAUSED.md, 'The stream'; number 18), by one pass over its places that reads the
+-- counts, the struct bytes and the entries and nothing else. `counts` has the number of parameters of each struct.
 use Prim.Native.Nat.{ℕ, zero, suc, _+_, _*_}
 use mathlib.Core.Bool.{Bool, true, false, not, _&&_}
 use mathlib.Core.Option.{Option, none, some}

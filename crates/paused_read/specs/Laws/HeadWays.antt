@@ -14,7 +14,8 @@ use Rattle.program.specs.Reader.{byte-end, bool-end}
 use Rattle.little_endian.specs.Numbers.{pair-at}
 use Rattle.paused_read.specs.declared.Head.{Head}
 use Rattle.paused_read.specs.Heads.{head-at}
-use Rattle.paused_read.specs.Scan.{entries-count, entries-place, from-place, count-place, instances-place, entries-right, entries-number, entries-of, head-right}
+use Rattle.paused_read.specs.Scan.{entries-count, entries-place, from-place, count-place, instances-place, entries-right, entries-number}
+use Rattle.paused_read.specs.Scan.{entries-of, head-right}
 
 -- Entries ----------------------------------------------------------------------------------
 

@@ -108,7 +108,9 @@ module _ (s : List ℕ) (small : (i : ℕ) → getD s i 0 < byte-end) where
 
     few-between : (n : ℕ) → between (structs p) (suc max-instances) n ≡ few n
     unfolding between
-    few-between n = ap (λ k. leb k n && ltb n (suc max-instances)) (sym (length-map (p .params) length)) ∙ ap (λ t. leb (length counts) n && t) (go (decLe n max-instances))
+    few-between n =
+        ap (λ k. leb k n && ltb n (suc max-instances)) (sym (length-map (p .params) length))
+        ∙ ap (λ t. leb (length counts) n && t) (go (decLe n max-instances))
       where
         go : Dec (n ≤ max-instances) → ltb n (suc max-instances) ≡ leb n max-instances
         go (yes h) = lt-ltb n (suc max-instances) (omega arith) ∙ sym (le-leb n max-instances h)
