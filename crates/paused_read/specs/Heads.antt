@@ -4,6 +4,10 @@ use mathlib.Core.Bool.{Bool, true, false}
 use mathlib.Core.Option.{Option, none, some}
 use mathlib.Core.List.{List}
 use lib.ListN.{length, getD}
+use Rattle.types.specs.Stages.{Stage, Stage.went, Stage.stopped}
+use Rattle.block.specs.declared.Found.{Found}
+use Rattle.block.specs.declared.Found.the-variants.{Right, Wrong}
+use Rattle.blocks.specs.Images.{fault, stream}
 use Rattle.little_endian.specs.Numbers.{pair-at}
 use Rattle.program.specs.Reader.{Result, Result.ok, Result.bad}
 use Rattle.memory.specs.Stands.{bits}
@@ -56,3 +60,22 @@ scan-of (bad at n) = NoStream
 abbrev pub next-told : Option ℕ → Next
 next-told none = Nowhere
 next-told (some m) = At m
+
+-- An image ---------------------------------------------------------------------------------
+
+-- blocks that the image of a paused state has at most (law `paused-length`: a stream has at most 33,806 bytes)
+abbrev pub image-blocks : ℕ
+image-blocks = 68
+
+-- 18 of an image: its blocks before its stream
+unfoldable pub scan-found : List ℕ → List ℕ → Found → Scan
+scan-found counts y (Wrong f) = NoStream
+scan-found counts y Right = scanned counts (stream y)
+
+unfoldable pub image-scanned : List ℕ → List ℕ → Scan
+image-scanned counts y = scan-found counts y (fault image-blocks y)
+
+-- and of what the entries make of it
+abbrev pub scan-stage : Stage Paused → Scan
+scan-stage (went q) = Stream (head-of q)
+scan-stage (stopped n) = NoStream

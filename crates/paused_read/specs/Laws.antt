@@ -5,3 +5,4 @@ pub mod PlaceWays
 pub mod HeadWays
 pub mod HeadLaws
 pub mod ScannedLaws
+pub mod ImageScan
