@@ -6,3 +6,4 @@ pub mod HeadWays
 pub mod HeadLaws
 pub mod ScannedLaws
 pub mod ImageScan
+pub mod ImageRead
