@@ -1,0 +1,5 @@
+pub mod Written
+pub mod WrittenWays
+pub mod StandingLaws
+pub mod StreamWays
+pub mod ImageWays
