@@ -19,11 +19,11 @@ use Rattle.table.specs.Table.{Each}
 use Rattle.sound.specs.Invariant.{Job}
 use Rattle.sound.specs.Laws.ElemLaws.{none-some, some-is}
 use Rattle.paused.specs.Place.{schedule-at, job-at}
-use Rattle.paused.specs.Paused.{Held, Paused}
+use Rattle.paused.specs.Paused.{Held, Paused, has-position}
 use Rattle.paused.specs.Standing.{WordOf}
 use Rattle.paused.specs.Allowed.{Holding, Allowed}
 use Rattle.paused.specs.Laws.StandsLaws.{Stands, stands-of, allowed-stands}
-use Rattle.paused.specs.Judge.{opens, hold-types, same-words, stands-by, all-stand, has-position}
+use Rattle.paused.specs.Judge.{opens, hold-types, same-words, stands-by, all-stand}
 use Rattle.paused.specs.Judge.{some-holds, params-hold, nulls-hold, allowed-by, is-allowed}
 use Rattle.paused.specs.Laws.PlaceLaws.{place-left, begun-left, job-left, left-open}
 use Rattle.paused.specs.Laws.Basics.{and-both, and-parts, or-left, or-right, or-cases, eqb-same}
