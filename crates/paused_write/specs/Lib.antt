@@ -3,3 +3,4 @@ pub mod WrittenWays
 pub mod StandingLaws
 pub mod StreamWays
 pub mod ImageWays
+pub mod WriteStands

@@ -40,7 +40,7 @@ module _ (cs h spans list : List ℕ) (code l k m t : ℕ) (k-is : k ≡ struct-
       pub forward : a ≤ b
       pub within : b ≤ length list
       pub few : e - n ≤ b - a
-      pub short : b - a < no-position
+      pub short : b - a - (e - n) < no-position
       pub ahead : n ≤ e
 
     pub counted : Placed cs h spans list code l → Counted

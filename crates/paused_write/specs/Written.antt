@@ -82,12 +82,12 @@ module _ (cs h spans list : List ℕ) (code l : ℕ) where
         | false ↦ standing-with no-position (replicate max-locals 0)
       ]
 
-  -- it has the commands of its struct's step, at most so many as a position byte tells
+  -- it has commands of its struct's step, from a position that a byte tells
   pub record Running : Type 0 where
     pub forward : step-from spans code (struct-in h l) ≤ step-to spans code (struct-in h l)
     pub within : step-to spans code (struct-in h l) ≤ length list
     pub few : left-in ≤ step-size spans code (struct-in h l)
-    pub short : step-size spans code (struct-in h l) < no-position
+    pub short : position-in < no-position
 
   -- its numbers can be told from memory
   pub record Placed : Type 0 where
