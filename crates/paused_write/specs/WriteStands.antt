@@ -5,7 +5,7 @@ use native.Mathlib.Omega.{arith}
 use native.Mathlib.Nat.{add-zero}
 use mathlib.Core.Path.{_≡_, refl, ap, ap₂, sym, _∙_, subst}
 use mathlib.Core.Bool.{Bool, true, false}
-use mathlib.Core.Option.{some}
+use mathlib.Core.Option.{none, some}
 use mathlib.Core.List.{List, [], _∷_, _++_, map, append-assoc}
 use lib.ListN.{length, getD, getElem?, replicate, length-map, List·getD-map}
 use borrow.Author.Tests.{eq-eqb, ne-eqb}
@@ -25,6 +25,7 @@ use Rattle.run.specs.Holders.{holds-code}
 use Rattle.layout.specs.Layout.{holds, variable, operand, head, height-of}
 use Rattle.layout.specs.State.{State, bit}
 use Rattle.memory.specs.Laws.ChooseStands.{holds-same}
+use Rattle.table_read.specs.Refer.{struct-in}
 use Rattle.table_read.specs.Laws.LaidLaws.{at-place}
 use Rattle.sound.specs.Laws.AcceptedLaws.{params-counted}
 use Rattle.living.specs.Walk.{locals-from, locals-of, living-at}
@@ -34,11 +35,12 @@ use Rattle.paused.specs.Paused.{Held, Paused}
 use Rattle.paused.specs.PausedOf.{paused-of}
 use Rattle.paused.specs.Standing.{among, living}
 use Rattle.paused.specs.Stream.{enc-value, enc-entry, enc-position, enc-held, enc-paused}
+use Rattle.paused.specs.Laws.PausableAllowed.{passage-of}
 use Rattle.paused.specs.Laws.PausableCounted.{pausable-counted}
-use Rattle.paused_memory.specs.InMemory.{entries-in, stack-in, step-from, call-code, struct-at, position-at, held-with, stack-at, locals-at, held-at, helds-from, paused-in}
+use Rattle.paused_memory.specs.InMemory.{entries-in, stack-in, step-from, step-to, call-code, struct-at, position-at, held-with, stack-at, locals-at, held-at, helds-from, paused-in}
 use Rattle.paused_memory.specs.InMemory.{Pausing, FindsLiving}
 use Rattle.paused_memory.specs.Laws.CallCodes.{step-within, size-is, noted-length}
-use Rattle.paused_memory.specs.Laws.InMemoryLaws.{memory-paused}
+use Rattle.paused_memory.specs.Laws.InMemoryLaws.{memory-paused, left-is, called-here, step-sized, held-long}
 use Rattle.paused_write.specs.declared.Left.{Left}
 use Rattle.paused_write.specs.Written.{held-bytes, standing-at, standing-with, position-in, helds-bytes, front-bytes, memory-stream, Running, Placed, Pausable}
 use Rattle.paused_write.specs.WrittenWays.{stack-length}
@@ -162,3 +164,77 @@ module _ (p : Program) (ok : Accepted p) (list items spans : List ℕ) (m : Mach
       let w : 0 + l ≡ l = omega arith in
       subst (λ (i : ℕ). CountedHeld p (held-at live′ cs items spans z i)) w
       (each-held live′ cs items spans z (CountedHeld p) 0 (z .machine .count) (counted .each) l b)
+
+  -- struct and stack, whether it holds commands or not
+  pub record Parts (l : ℕ) (q : Held) : Type 0 where
+    pub struct : q .struct ≡ struct-in (z .heads) l
+    pub stack : q .stack ≡ stack-in (z .cells) l (getD (z .heads) (head l height-of) 0)
+
+  held-parts : (l : ℕ) → Parts l (held-at live′ cs items spans z l)
+  unfolding held-at
+  held-parts l = go (holds (z .heads) l)
+    where
+      go : (t : Bool) → Parts l (elim t [
+        | true ↦ held-with live′ cs items spans z l (some (position-at live′ cs items spans z l)) (locals-at live′ cs items spans z l)
+        | false ↦ held-with live′ cs items spans z l none []
+      ])
+      go true = record { struct = refl; stack = refl }
+      go false = record { struct = refl; stack = refl }
+
+  structs-are : length cs ≡ structs p
+  structs-are = length-map (p .params) length
+
+  abbrev a : Left
+  a = left-of cs items spans list z
+
+  -- a position that is told is below 255
+  position-low : (l : ℕ) → l < z .machine .count → holds (z .heads) l ≡ true → position-in cs (z .heads) spans list (a .code) l < no-position
+  unfolding held-at
+  position-low l b e =
+      let c = counted-at l b .position in
+      rw (e, held-at) at c
+
+  module _ (l : ℕ) (i : Instance) (at : getElem? (m .instances) l ≡ some i) (b : l < z .machine .count) (on : holds (z .heads) l ≡ true) where
+    runs-by : (c : List Note) → i .code ≡ c → Running cs (z .heads) spans list (a .code) l
+    unfolding holds-code
+    runs-by [] e =
+        let f : false ≡ true = sym (holds-same (h .stands .each l i at) ∙ ap holds-code e) ∙ on in
+        let w : _≡_ {A = ℕ} 0 1 = cc in
+        absurd (omega arith)
+    runs-by (n ∷ c) e =
+        let fl = finds-living p ok list in
+        let calls = called-here ok h live′ fl l i at n c e in
+        let known = h .start .tabled .each l i at .0 in
+        let same = h .stands .each l i at .struct in
+        let within = step-within p list spans (h .located) (i .struct) known (a .code) (calls .step) in
+        let sized = step-sized ok h live′ fl l i at n c e in
+        let left = left-is ok h live′ fl l i at in
+        let g = passage-of ok (h .start) (h .busy) l i at n c e in
+        let some-held = held-long ok h live′ fl l i at n c e in
+        let short = way-short (g .way) in
+        let long = noted-length p (i .struct) (g .body) in
+        let some-left = ap length e in
+        let w = subst (λ (k : ℕ). (step-from spans (a .code) k ≤ step-to spans (a .code) k) × (step-to spans (a .code) k ≤ length list)) (sym same) within in
+        record { forward = w .0; within = w .1; few = omega arith; short = position-low l b on }
+
+  -- memory can be written
+  pub pausable : Pausable cs (z .heads) (z .cells) spans list a
+  unfolding paused-in Counts
+  pausable = record {
+    place = counted .place;
+    fixes = omega (arith, entries-count cs items spans list z (z .machine .fixes) (z .machine .stable), counted .entries);
+    most = h .stands .few;
+    params = λ k. rw (List·getD-map length (p .params) k []) (params-counted p (ok .0) k .0);
+    cells-long = omega (arith, h .stands .cells-long, h .stands .few);
+    high = λ l b.
+        let n = ap length (held-parts l .stack) ∙ stack-length (z .cells) l (getD (z .heads) (head l height-of) 0) in
+        omega (arith, counted-at l b .stack .0);
+    each = λ l b.
+        let (i, at) = at-place (m .instances) l (rw (h .stands .counted) at b) in record {
+          heads-long = omega (arith, h .stands .heads-long, h .stands .few);
+          known = omega (arith, held-parts l .struct, counted-at l b .struct, structs-are);
+          structs = omega (arith, structs-are, ok .0 .0 .1);
+          spanned = wide;
+          runs = λ on. runs-by l i at b on (i .code) refl;
+        };
+  }

@@ -53,7 +53,13 @@ fn local(out: &mut [u8], at: usize, cell: u64, mark: u8) -> usize
 }
 
 // The locals of instance l that have a mark, in the order of their numbers. The place after them.
-pub(crate) fn locals(out: &mut [u8], at: usize, cells: &[u64], l: usize, marks: [u8; LOCALS]) -> usize
+pub(crate) fn locals(
+    out: &mut [u8],
+    at: usize,
+    cells: &[u64],
+    l: usize,
+    marks: [u8; LOCALS],
+) -> usize
     requires { ⌜ (at + value-bytes * max-locals ≤ length (now out)) × (row-size * l + row-size ≤ length (now cells)) ⌝ }
     ensures { λ r. ⌜ r ≡ at + length (locals-bytes (now (cells .entry)) l (locals-of marks)) ⌝ }
     ensures { λ _. ⌜ now (out .exit) ≡ sets (now (out .entry)) at (locals-bytes (now (cells .entry)) l (locals-of marks)) ⌝ }
@@ -61,7 +67,12 @@ pub(crate) fn locals(out: &mut [u8], at: usize, cells: &[u64], l: usize, marks: 
     let mut next = at;
     let mut x = 0;
     while x < LOCALS {
-        next = local(out, next, cells[layout::ROW_SIZE * l + types::FIRST_LOCAL + x], marks[x]);
+        next = local(
+            out,
+            next,
+            cells[layout::ROW_SIZE * l + types::FIRST_LOCAL + x],
+            marks[x],
+        );
         x += 1;
     }
     next
