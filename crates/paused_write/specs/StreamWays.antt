@@ -5,10 +5,10 @@ use native.Mathlib.Nat.{add-zero, sub-zero}
 use native.Mathlib.Numerals.{add-one}
 use mathlib.Core.Path.{_≡_, refl, ap, sym, _∙_}
 use mathlib.Core.Bool.{Bool, true, false}
-use mathlib.Core.List.{List, [], _∷_, _++_}
+use mathlib.Core.List.{List, _∷_, _++_}
 use lib.ListN.{length, getD, set, replicate, length-append, length-map}
 use lib.Seq.{sets}
-use Rattle.types.specs.Limits.{max-params, max-depth, max-locals, fix-levels, max-instances}
+use Rattle.types.specs.Limits.{max-locals}
 use Rattle.little_endian.specs.Numbers.{bytes-of}
 use Rattle.program.specs.Encoding.{enc-word, flat}
 use Rattle.table.specs.Table.{value-bytes, count-bytes}
@@ -26,8 +26,8 @@ use Rattle.paused.specs.Stream.{enc-value}
 use Rattle.paused_memory.specs.InMemory.{words-from, stack-in, step-from}
 use Rattle.paused_write.specs.declared.Left.{Left}
 use Rattle.paused_write.specs.declared.standing.Standing.{Standing}
-use Rattle.paused_write.specs.Written.{entries-bytes, params-bytes, stack-bytes, local-words, locals-bytes, held-bytes, most-held, Short, standing-at, standing-with, position-in}
-use Rattle.paused_write.specs.Written.{helds-bytes, front-bytes, front-size, memory-stream, most-stream, Pausable}
+use Rattle.paused_write.specs.Written.{entries-bytes, params-bytes, stack-bytes, local-words, locals-bytes, held-bytes, most-held}
+use Rattle.paused_write.specs.Written.{Short, standing-at, standing-with, position-in, helds-bytes, front-bytes, front-size, memory-stream, most-stream, Pausable}
 use Rattle.paused_write.specs.WrittenWays.{first-byte, words-length, entries-length, stack-length}
 
 -- Parts in a row ----------------------------------------------------------------------------
@@ -96,7 +96,8 @@ module _ (c : List ℕ) (l : ℕ) (s : Standing) where
   unfolding held-bytes
   held-written at o o₁ o₂ o₃ k d e n f =
       let z : row-size * l ≡ variable l 0 = omega arith in
-      let p : cells-bytes c (row-size * l) (s .params) ≡ P = params-are c (row-size * l) (s .params) ∙ ap (λ (a : ℕ). flat enc-value (words-from c a (s .params))) z in
+      let p : cells-bytes c (row-size * l) (s .params) ≡ P =
+      params-are c (row-size * l) (s .params) ∙ ap (λ (a : ℕ). flat enc-value (words-from c a (s .params))) z in
       let at-p = position-place at in
       let at-l = locals-place at in
       let q : set o₂ at-l k ≡ set o₂ at-l few = ap (set o₂ at-l) n in

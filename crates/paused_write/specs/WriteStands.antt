@@ -7,15 +7,14 @@ use mathlib.Core.Path.{_≡_, refl, ap, ap₂, sym, _∙_, subst}
 use mathlib.Core.Bool.{Bool, true, false}
 use mathlib.Core.Option.{none, some}
 use mathlib.Core.List.{List, [], _∷_, _++_, map, append-assoc}
-use lib.ListN.{length, getD, getElem?, replicate, length-map, List·getD-map}
+use lib.ListN.{length, getD, getElem?, length-map, List·getD-map}
 use borrow.Author.Tests.{eq-eqb, ne-eqb}
-use Rattle.types.specs.Limits.{max-locals, max-params, first-local}
+use Rattle.types.specs.Limits.{max-locals, first-local}
 use Rattle.program.specs.Tree.{Program}
 use Rattle.program.specs.Counts.{All, Counts}
-use Rattle.program.specs.Encoding.{enc-word, flat, enc-list}
+use Rattle.program.specs.Encoding.{enc-word, flat}
 use Rattle.commands.specs.Accepted.{Accepted}
 use Rattle.commands.specs.Decide.{member}
-use Rattle.commands.specs.Living.{alive, lives}
 use Rattle.commands.specs.Noted.{Note}
 use Rattle.commands.specs.Laws.SecureWays.{way-short}
 use Rattle.table.specs.Table.{count-bytes}
@@ -28,21 +27,21 @@ use Rattle.memory.specs.Laws.ChooseStands.{holds-same}
 use Rattle.table_read.specs.Refer.{struct-in}
 use Rattle.table_read.specs.Laws.LaidLaws.{at-place}
 use Rattle.sound.specs.Laws.AcceptedLaws.{params-counted}
-use Rattle.living.specs.Walk.{locals-from, locals-of, living-at}
+use Rattle.living.specs.Walk.{locals-from, living-at}
 use Rattle.living.specs.Living.{Marking, marks-living}
-use Rattle.paused.specs.Allowed.{no-position, Positioned, CountedHeld, CountedPaused}
+use Rattle.paused.specs.Allowed.{no-position, CountedHeld, CountedPaused}
 use Rattle.paused.specs.Paused.{Held, Paused}
 use Rattle.paused.specs.PausedOf.{paused-of}
 use Rattle.paused.specs.Standing.{among, living}
-use Rattle.paused.specs.Stream.{enc-value, enc-entry, enc-position, enc-held, enc-paused}
+use Rattle.paused.specs.Stream.{enc-entry, enc-position, enc-held, enc-paused}
 use Rattle.paused.specs.Laws.PausableAllowed.{passage-of}
 use Rattle.paused.specs.Laws.PausableCounted.{pausable-counted}
-use Rattle.paused_memory.specs.InMemory.{entries-in, stack-in, step-from, step-to, call-code, struct-at, position-at, held-with, stack-at, locals-at, held-at, helds-from, paused-in}
-use Rattle.paused_memory.specs.InMemory.{Pausing, FindsLiving}
-use Rattle.paused_memory.specs.Laws.CallCodes.{step-within, size-is, noted-length}
+use Rattle.paused_memory.specs.InMemory.{entries-in, stack-in, step-from, step-to, call-code, struct-at, position-at, held-with}
+use Rattle.paused_memory.specs.InMemory.{locals-at, held-at, helds-from, paused-in, Pausing, FindsLiving}
+use Rattle.paused_memory.specs.Laws.CallCodes.{step-within, noted-length}
 use Rattle.paused_memory.specs.Laws.InMemoryLaws.{memory-paused, left-is, called-here, step-sized, held-long}
 use Rattle.paused_write.specs.declared.Left.{Left}
-use Rattle.paused_write.specs.Written.{held-bytes, standing-at, standing-with, position-in, helds-bytes, front-bytes, memory-stream, Running, Placed, Pausable}
+use Rattle.paused_write.specs.Written.{held-bytes, standing-at, position-in, helds-bytes, front-bytes, memory-stream, Running, Pausable}
 use Rattle.paused_write.specs.WrittenWays.{stack-length}
 
 -- The living locals -------------------------------------------------------------------------
@@ -96,7 +95,9 @@ module _ (cs items spans list : List ℕ) (z : State) where
 
       go : (t : Bool) → holds (z .heads) l ≡ t
           → held-bytes (z .cells) l (standing-at cs (z .heads) spans list (left-of .code) l) ≡ enc-held (held-at live cs items spans z l)
-      go true e = rw (standing-at, held-at, e, stack-length (z .cells) l h, length-map (live (step-from spans (left-of .code) (struct-at live cs items spans z l)) (position-at live cs items spans z l)) word-of)
+      go true e =
+          let xs = live (step-from spans (left-of .code) (struct-at live cs items spans z l)) (position-at live cs items spans z l) in
+          rw (standing-at, held-at, e, stack-length (z .cells) l h, length-map xs word-of)
       go false e = rw (standing-at, held-at, e, stack-length (z .cells) l h)
 
   helds-stand : (l n : ℕ) → helds-bytes cs (z .heads) (z .cells) spans list (left-of .code) l n ≡ flat enc-held (helds-from live cs items spans z l n)

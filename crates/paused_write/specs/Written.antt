@@ -14,7 +14,7 @@ use Rattle.table.specs.Table.{value-bytes, count-bytes}
 use Rattle.table.specs.Sizes.{most-record}
 use Rattle.layout.specs.declared.Numbers.{Numbers}
 use Rattle.layout.specs.Layout.{head, head-size, row-size, height-of, next-of, end-of, variable, operand, holds}
-use Rattle.table_read.specs.Refer.{struct-in, Structs}
+use Rattle.table_read.specs.Refer.{struct-in}
 use Rattle.living.specs.Walk.{marks-at, locals-of}
 use Rattle.paused.specs.Allowed.{no-position}
 use Rattle.paused.specs.Stream.{enc-value, enc-entry}

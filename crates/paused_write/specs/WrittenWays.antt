@@ -5,26 +5,25 @@ use native.Mathlib.Nat.{add-zero, sub-zero}
 use native.Mathlib.Numerals.{add-one}
 use mathlib.Core.Path.{_≡_, refl, ap, sym, _∙_}
 use mathlib.Core.Bool.{Bool, true, false}
-use mathlib.Core.List.{List, [], _∷_, _++_, map}
-use lib.ListN.{length, getD, set, length-append, length-map}
+use mathlib.Core.List.{List, [], _∷_, _++_}
+use lib.ListN.{length, getD, set, length-append}
 use lib.Dec.{eqb}
 use lib.Seq.{sets}
 use borrow.Author.Tests.{eqb-true, eqb-false, eq-eqb, ne-eqb}
 use native.Mathlib.Decide.{ℕ-discrete}
-use Rattle.types.specs.Limits.{max-params, max-depth, max-locals, first-local, variables}
+use Rattle.types.specs.Limits.{max-locals, first-local, variables}
 use Rattle.little_endian.specs.Numbers.{bytes-of}
 use Rattle.program.specs.Encoding.{enc-word, flat}
-use Rattle.table.specs.Table.{value-bytes, count-bytes}
+use Rattle.table.specs.Table.{value-bytes}
 use Rattle.table.specs.Laws.SizeLaws.{word-length, stored-word}
 use Rattle.emit.specs.Laws.WrittenLaws.{sets-append}
 use Rattle.layout.specs.Layout.{row-size, variable, stacked, operand}
-use Rattle.table_write.specs.Written.{cells-bytes}
-use Rattle.living.specs.Walk.{locals-from, locals-of}
-use Rattle.living.specs.WalkLaws.{local-on, local-off, locals-none, locals-few}
+use Rattle.living.specs.Walk.{locals-from}
+use Rattle.living.specs.WalkLaws.{local-on, local-off, locals-none}
 use Rattle.paused.specs.Stream.{enc-value, enc-entry}
-use Rattle.paused_memory.specs.InMemory.{entries-in, words-from, stack-in}
+use Rattle.paused_memory.specs.InMemory.{entries-in, stack-in}
 use Rattle.paused_write.specs.declared.standing.Standing.{Standing}
-use Rattle.paused_write.specs.Written.{entries-bytes, params-bytes, stack-bytes, marked-bytes, local-words, locals-bytes, held-bytes, most-held, Short}
+use Rattle.paused_write.specs.Written.{entries-bytes, stack-bytes, marked-bytes, locals-bytes}
 
 -- Words -------------------------------------------------------------------------------------
 

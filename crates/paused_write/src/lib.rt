@@ -56,7 +56,8 @@ pub fn stream(
 ) -> usize
     requires { ⌜ Pausable (now counts) (now heads) (now cells) (now spans) (now list) left ⌝ }
     requires { ⌜ most-stream ≤ length (now out) ⌝ }
-    ensures { λ r. ⌜ r ≡ length (memory-stream (now (counts .entry)) (now (heads .entry)) (now (cells .entry)) (now (spans .entry)) (now (list .entry)) left) ⌝ }
+    ensures { λ r. ⌜ r ≡ length
+        (memory-stream (now (counts .entry)) (now (heads .entry)) (now (cells .entry)) (now (spans .entry)) (now (list .entry)) left) ⌝ }
     ensures { λ _. ⌜ now (out .exit) ≡ sets (now (out .entry)) 0
         (memory-stream (now (counts .entry)) (now (heads .entry)) (now (cells .entry)) (now (spans .entry)) (now (list .entry)) left) ⌝ }
 {

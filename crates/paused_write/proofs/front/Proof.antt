@@ -3,7 +3,6 @@ use mathlib.Core.Path.{_∙_}
 use native.Mathlib.Omega.{arith}
 use lib.ListN.{length-set}
 use Rattle.paused_write.specs.StreamWays.{front-written}
-use borrow.Author.Needs.{needs}
 use Rattle.paused_write.proofs.front.Statement.{statement}
 use Rattle.paused_write.proofs.front.Tie as tie
 

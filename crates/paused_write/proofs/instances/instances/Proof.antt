@@ -8,7 +8,6 @@ use lib.ListN.{length}
 use lib.Seq.{sets}
 use Rattle.paused_write.specs.Written.{most-held, front-size, helds-bytes}
 use Rattle.paused_write.specs.StreamWays.{held-few, helds-begin, helds-turn, helds-end, all-short}
-use borrow.Author.Needs.{needs}
 use Rattle.paused_write.proofs.instances.instances.Statement.{statement}
 use Rattle.paused_write.proofs.instances.instances.Tie as tie
 
@@ -56,11 +55,12 @@ held-requires c κs =
 
 loop-again : tie.Need-loop-again Inv-loop μ-loop
 loop-again c =
-    let at-held = c .before .before in let d = at-held .before .before in let e = in-loop d in let s = the-start e in let args = s .args in let loop = e .before .loop in
+    let at-held = c .before .before in let d = at-held .before .before in let e = in-loop d in let s = the-start e in let args = s .args in
+    let loop = e .before .loop in
     let short = all-short (s .pre .0) (loop .l) (e .loop-test .taken) (d .standing-of .ensures) in
     let turn = helds-turn (args .counts .now) (args .heads .now) (args .cells .now) (args .spans .now) (args .list .now) (args .left .code)
-    (args .left .numbers .count) (loop .l) (e .loop-test .taken) (d .standing-of .result) (d .standing-of .ensures) (loop .next) (at-held .held .result) (loop .out)
-    (at-held .held .last .0) (at-held .held .ensures .0) (at-held .held .ensures .1) in (
+    (args .left .numbers .count) (loop .l) (e .loop-test .taken) (d .standing-of .result) (d .standing-of .ensures) (loop .next) (at-held .held .result)
+    (loop .out) (at-held .held .last .0) (at-held .held .ensures .0) (at-held .held .ensures .1) in (
       (
         omega arith,
         omega (arith, held-few (args .cells .now) (loop .l) (d .standing-of .result) short, at-held .held .ensures .0),

@@ -11,7 +11,8 @@ returns c = let args = c .before .before .args in local-none (args .at) (args .m
 
 returns-2 : tie.Need-returns-2
 returns-2 c =
-    let at-word = c .before .before in let at-operand = at-word .before in let at-else = at-operand .before .before in let args = at-else .before .before .args in
+    let at-word = c .before .before in let at-operand = at-word .before in let at-else = at-operand .before .before in
+    let args = at-else .before .before .args in
     local-written (args .at) (args .mark) (at-operand .operand .result) (operand (args .cell)) (args .out .now) (at-word .put-word .last .0)
     (at-else .if1 .left) (at-operand .operand .ensures .0) (at-word .put-word .ensures)
 

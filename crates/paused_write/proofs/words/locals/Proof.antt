@@ -10,7 +10,6 @@ use Rattle.table.specs.Table.{value-bytes}
 use Rattle.living.specs.Walk.{locals-of}
 use Rattle.paused_write.specs.Written.{locals-bytes}
 use Rattle.paused_write.specs.WrittenWays.{from-local, locals-turn, locals-end, own-few}
-use borrow.Author.Needs.{needs}
 use Rattle.paused_write.proofs.words.locals.Statement.{statement}
 use Rattle.paused_write.proofs.words.locals.Tie as tie
 
