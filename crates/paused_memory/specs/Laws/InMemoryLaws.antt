@@ -89,7 +89,7 @@ module _ {p : Program} (ok : Accepted p) {list items spans : List ℕ} {m : Mach
   abbrev r : Option Job
   r = job-at p (place-of p (m .sched))
 
-  placed : z .machine .place ≡ place-of p (m .sched)
+  pub placed : z .machine .place ≡ place-of p (m .sched)
   placed = at-place items p (h .ends) (h .stands .scheduled)
 
   module _ (l : ℕ) (i : Instance) (at : getElem? (m .instances) l ≡ some i) where
@@ -121,7 +121,7 @@ module _ {p : Program} (ok : Accepted p) {list items spans : List ℕ} {m : Mach
     stack-are = ap (stack-in (z .cells) l) (held .height) ∙ stack-shown (z .cells) l (i .stack) (held .stack)
 
     -- as many commands are left as its numbers are apart
-    left-is : of-head z l end-of - of-head z l next-of ≡ length (i .code)
+    pub left-is : of-head z l end-of - of-head z l next-of ≡ length (i .code)
     left-is =
         sym (part-length list (of-head z l next-of) (of-head z l end-of) (held .within))
         ∙ ap length (held .code) ∙ words-length (map erase (i .code)) ∙ length-map (i .code) erase
@@ -135,11 +135,11 @@ module _ {p : Program} (ok : Accepted p) {list items spans : List ℕ} {m : Mach
 
     -- with commands, in a step b of the job that runs
     module _ (n : Note) (c : List Note) (e : i .code ≡ n ∷ c) where
-      abbrev g : Passage p (job ok (h .start) (h .busy)) (m .instances) l i
+      abbrev pub g : Passage p (job ok (h .start) (h .busy)) (m .instances) l i
       g = passage-of ok (h .start) (h .busy) l i at n c e
 
       -- what the code before the place says of it
-      record Calls (a : Job) (b : Stmts) (rest : List Note) : Type 0 where
+      pub record Calls (a : Job) (b : Stmts) (rest : List Note) : Type 0 where
         pub ends : rest ≡ []
         pub step : step-of p (i .struct) (call-code alive cs items spans z % step-names) ≡ some b
         pub left : position-left p a (i .struct) (length (i .code)) ≡ length (commands b) - length (i .code)
@@ -154,20 +154,20 @@ module _ {p : Program} (ok : Accepted p) {list items spans : List ℕ} {m : Mach
             left = rw q (ap (λ k. k - length (i .code)) (noted-length p (i .struct) b));
           }
 
-      called-here : Calls (job ok (h .start) (h .busy)) (g .body) (g .rest)
+      pub called-here : Calls (job ok (h .start) (h .busy)) (g .body) (g .rest)
       called-here = calls (job ok (h .start) (h .busy)) (g .body) (g .rest) (g .has) (started ok (h .start) (h .busy))
 
-      abbrev code : ℕ
+      abbrev pub code : ℕ
       code = call-code alive cs items spans z
 
-      step-sized : step-size spans code (struct-at alive cs items spans z l) ≡ length (commands (g .body))
+      pub step-sized : step-size spans code (struct-at alive cs items spans z l) ≡ length (commands (g .body))
       step-sized = ap (step-size spans code) struct-is ∙ size-is p list spans (h .located) (i .struct) known code (called-here .step)
 
       position-is : position-at alive cs items spans z l ≡ position-in p (job ok (h .start) (h .busy)) i
       position-is = ap₂ (λ a b. a - b) step-sized left-is ∙ sym (called-here .left)
 
       -- the commands that it holds are those that are left of the step, and there are some
-      held-long : length (g .held) ≡ suc (length c)
+      pub held-long : length (g .held) ≡ suc (length c)
       held-long =
           let a = ap length (g .code) ∙ length-append (g .held) (g .rest) in
           let b = ap length (called-here .ends) in
