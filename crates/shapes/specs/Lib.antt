@@ -1,0 +1,6 @@
+pub mod Heights
+pub mod HeightLaws
+pub mod Stacks
+pub mod StackLaws
+pub mod Direct
+pub mod DirectLaws

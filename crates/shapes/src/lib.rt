@@ -1,0 +1,3 @@
+// The shapes of a step's places, read off the words of its commands (02, 'Pausing a run').
+pub mod heights;
+pub mod stack;
