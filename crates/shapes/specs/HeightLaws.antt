@@ -10,6 +10,7 @@ use borrow.Author.Tests.{lt-ltb, le-ltb, eq-eqb, ne-eqb}
 use Rattle.types.specs.Types.{code}
 use Rattle.types.specs.Values.{word}
 use Rattle.program.specs.Encoding.{op-code}
+use Rattle.commands.specs.CommandKinds.{push-kind, this-kind, rd-kind, wr-kind, cons-kind, if-kind, not-kind, op-kind}
 use Rattle.commands.specs.Coding.{coded, com-word, command-word, words}
 use Rattle.commands.specs.Commands.{Com.push, Com.push-this, Com.rd, Com.wr, Com.cons, Com.not, Com.oper, Flat, Flat.plain, Flat.if-n}
 use Rattle.commands.specs.Context.{Ctx}
@@ -18,37 +19,37 @@ use Rattle.shapes.specs.Heights.{kind, operand, takes-by, puts-by, word-
 use Rattle.shapes.specs.Heights.{RisenFrom}
 
 -- the kind and the operand of a word
-kind-of : (k t v : ℕ) → k < 256 → kind (coded k t v) ≡ k
+pub kind-of : (k t v : ℕ) → k < 256 → kind (coded k t v) ≡ k
 unfolding coded
 kind-of k t v h = omega arith
 
-operand-of : (k v : ℕ) → k < 256 → operand (coded k 0 v) ≡ v
+pub operand-of : (k v : ℕ) → k < 256 → operand (coded k 0 v) ≡ v
 unfolding coded
 operand-of k v h = omega arith
 
 module _ (G : Ctx) (counts : List ℕ) (counted : (k : ℕ) → getD counts k 0 ≡ length (G .params k)) where
   takes-word : (m : Flat) → word-takes counts (command-word m) ≡ flat-takes G m
   unfolding takes-by command-word com-word
-  takes-word (plain (push t v)) = ap (λ (k : ℕ). takes-by counts k (operand (coded 1 (code t) (word v)))) (kind-of 1 (code t) (word v) (omega arith))
-  takes-word (plain push-this) = ap (λ (k : ℕ). takes-by counts k (operand (coded 2 0 0))) (kind-of 2 0 0 (omega arith))
-  takes-word (plain (rd x)) = ap (λ (k : ℕ). takes-by counts k (operand (coded 3 0 x))) (kind-of 3 0 x (omega arith))
-  takes-word (plain (wr x)) = ap (λ (k : ℕ). takes-by counts k (operand (coded 4 0 x))) (kind-of 4 0 x (omega arith))
+  takes-word (plain (push t v)) = ap (λ (k : ℕ). takes-by counts k (operand (coded push-kind (code t) (word v)))) (kind-of push-kind (code t) (word v) (omega arith))
+  takes-word (plain push-this) = ap (λ (k : ℕ). takes-by counts k (operand (coded this-kind 0 0))) (kind-of this-kind 0 0 (omega arith))
+  takes-word (plain (rd x)) = ap (λ (k : ℕ). takes-by counts k (operand (coded rd-kind 0 x))) (kind-of rd-kind 0 x (omega arith))
+  takes-word (plain (wr x)) = ap (λ (k : ℕ). takes-by counts k (operand (coded wr-kind 0 x))) (kind-of wr-kind 0 x (omega arith))
   takes-word (plain (cons k)) =
-      ap₂ (takes-by counts) (kind-of 5 0 k (omega arith)) (operand-of 5 k (omega arith)) ∙ counted k
-  takes-word (plain not) = ap (λ (k : ℕ). takes-by counts k (operand (coded 7 0 0))) (kind-of 7 0 0 (omega arith))
-  takes-word (plain (oper o)) = ap (λ (k : ℕ). takes-by counts k (operand (coded 8 0 (op-code o)))) (kind-of 8 0 (op-code o) (omega arith))
-  takes-word (if-n n) = ap (λ (k : ℕ). takes-by counts k (operand (coded 6 0 n))) (kind-of 6 0 n (omega arith))
+      ap₂ (takes-by counts) (kind-of cons-kind 0 k (omega arith)) (operand-of cons-kind k (omega arith)) ∙ counted k
+  takes-word (plain not) = ap (λ (k : ℕ). takes-by counts k (operand (coded not-kind 0 0))) (kind-of not-kind 0 0 (omega arith))
+  takes-word (plain (oper o)) = ap (λ (k : ℕ). takes-by counts k (operand (coded op-kind 0 (op-code o)))) (kind-of op-kind 0 (op-code o) (omega arith))
+  takes-word (if-n n) = ap (λ (k : ℕ). takes-by counts k (operand (coded if-kind 0 n))) (kind-of if-kind 0 n (omega arith))
 
   puts-word : (m : Flat) → word-puts (command-word m) ≡ flat-puts m
   unfolding puts-by command-word com-word
-  puts-word (plain (push t v)) = ap puts-by (kind-of 1 (code t) (word v) (omega arith))
-  puts-word (plain push-this) = ap puts-by (kind-of 2 0 0 (omega arith))
-  puts-word (plain (rd x)) = ap puts-by (kind-of 3 0 x (omega arith))
-  puts-word (plain (wr x)) = ap puts-by (kind-of 4 0 x (omega arith))
-  puts-word (plain (cons k)) = ap puts-by (kind-of 5 0 k (omega arith))
-  puts-word (plain not) = ap puts-by (kind-of 7 0 0 (omega arith))
-  puts-word (plain (oper o)) = ap puts-by (kind-of 8 0 (op-code o) (omega arith))
-  puts-word (if-n n) = ap puts-by (kind-of 6 0 n (omega arith))
+  puts-word (plain (push t v)) = ap puts-by (kind-of push-kind (code t) (word v) (omega arith))
+  puts-word (plain push-this) = ap puts-by (kind-of this-kind 0 0 (omega arith))
+  puts-word (plain (rd x)) = ap puts-by (kind-of rd-kind 0 x (omega arith))
+  puts-word (plain (wr x)) = ap puts-by (kind-of wr-kind 0 x (omega arith))
+  puts-word (plain (cons k)) = ap puts-by (kind-of cons-kind 0 k (omega arith))
+  puts-word (plain not) = ap puts-by (kind-of not-kind 0 0 (omega arith))
+  puts-word (plain (oper o)) = ap puts-by (kind-of op-kind 0 (op-code o) (omega arith))
+  puts-word (if-n n) = ap puts-by (kind-of if-kind 0 n (omega arith))
 
   -- where the list has the words of these commands from place i on, the height there is theirs
   pub rise-words : (list : List ℕ) (c : List Flat) (i : ℕ) → ((j : ℕ) → j < length c → getD list (i + j) 0 ≡ getD (words c) j 0)
@@ -64,41 +65,41 @@ module _ (G : Ctx) (counts : List ℕ) (counted : (k : ℕ) → getD counts k 0 
 -- Each way of the code ----------------------------------------------------------------------
 
 module _ (counts : List ℕ) {k : ℕ} (v : ℕ) where
-  pub takes-cons : k ≡ 5 → takes-by counts k v ≡ getD counts v 0
+  pub takes-cons : k ≡ cons-kind → takes-by counts k v ≡ getD counts v 0
   unfolding takes-by
-  takes-cons e = rw (takes-by, eq-eqb k 5 e)
+  takes-cons e = rw (takes-by, eq-eqb k cons-kind e)
 
-  module _ (a : k ≡ 5 → ⊥) where
-    pub takes-wr : k ≡ 4 → takes-by counts k v ≡ 2
+  module _ (a : k ≡ cons-kind → ⊥) where
+    pub takes-wr : k ≡ wr-kind → takes-by counts k v ≡ 2
     unfolding takes-by
-    takes-wr e = rw (takes-by, ne-eqb k 5 a, eq-eqb k 4 e)
+    takes-wr e = rw (takes-by, ne-eqb k cons-kind a, eq-eqb k wr-kind e)
 
-    module _ (b : k ≡ 4 → ⊥) where
-      pub takes-op : k ≡ 8 → takes-by counts k v ≡ 2
+    module _ (b : k ≡ wr-kind → ⊥) where
+      pub takes-op : k ≡ op-kind → takes-by counts k v ≡ 2
       unfolding takes-by
-      takes-op e = rw (takes-by, ne-eqb k 5 a, ne-eqb k 4 b, eq-eqb k 8 e)
+      takes-op e = rw (takes-by, ne-eqb k cons-kind a, ne-eqb k wr-kind b, eq-eqb k op-kind e)
 
-      module _ (d : k ≡ 8 → ⊥) where
-        pub takes-push : k < 3 → takes-by counts k v ≡ 0
+      module _ (d : k ≡ op-kind → ⊥) where
+        pub takes-push : k < rd-kind → takes-by counts k v ≡ 0
         unfolding takes-by
-        takes-push h = rw (takes-by, ne-eqb k 5 a, ne-eqb k 4 b, ne-eqb k 8 d, lt-ltb k 3 h)
+        takes-push h = rw (takes-by, ne-eqb k cons-kind a, ne-eqb k wr-kind b, ne-eqb k op-kind d, lt-ltb k rd-kind h)
 
-        pub takes-one : 3 ≤ k → takes-by counts k v ≡ 1
+        pub takes-one : rd-kind ≤ k → takes-by counts k v ≡ 1
         unfolding takes-by
-        takes-one h = rw (takes-by, ne-eqb k 5 a, ne-eqb k 4 b, ne-eqb k 8 d, le-ltb k 3 h)
+        takes-one h = rw (takes-by, ne-eqb k cons-kind a, ne-eqb k wr-kind b, ne-eqb k op-kind d, le-ltb k rd-kind h)
 
 module _ {k : ℕ} where
-  pub puts-wr : k ≡ 4 → puts-by k ≡ 0
+  pub puts-wr : k ≡ wr-kind → puts-by k ≡ 0
   unfolding puts-by
-  puts-wr e = rw (puts-by, eq-eqb k 4 e)
+  puts-wr e = rw (puts-by, eq-eqb k wr-kind e)
 
-  pub puts-if : (k ≡ 4 → ⊥) → k ≡ 6 → puts-by k ≡ 0
+  pub puts-if : (k ≡ wr-kind → ⊥) → k ≡ if-kind → puts-by k ≡ 0
   unfolding puts-by
-  puts-if a e = rw (puts-by, ne-eqb k 4 a, eq-eqb k 6 e)
+  puts-if a e = rw (puts-by, ne-eqb k wr-kind a, eq-eqb k if-kind e)
 
-  pub puts-one : (k ≡ 4 → ⊥) → (k ≡ 6 → ⊥) → puts-by k ≡ 1
+  pub puts-one : (k ≡ wr-kind → ⊥) → (k ≡ if-kind → ⊥) → puts-by k ≡ 1
   unfolding puts-by
-  puts-one a b = rw (puts-by, ne-eqb k 4 a, ne-eqb k 6 b)
+  puts-one a b = rw (puts-by, ne-eqb k wr-kind a, ne-eqb k if-kind b)
 
 -- The places of a step ---------------------------------------------------------------------
 

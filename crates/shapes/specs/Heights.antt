@@ -7,8 +7,9 @@ use mathlib.Core.List.{List}
 use lib.ListN.{getD}
 use lib.Dec.{ltb, eqb}
 use Rattle.types.specs.Limits.{nat-end, step-commands}
+use Rattle.commands.specs.CommandKinds.{rd-kind, wr-kind, cons-kind, if-kind, op-kind}
 
--- the kind of a command and its operand (`commands/specs/Coding.antt`): 4 is wr, 5 cons, 6 if, 8 an operator, below 3 a push
+-- the kind of a command and its operand (`commands/specs/Coding.antt`); below rd there are the pushes
 abbrev pub kind : ℕ → ℕ
 kind w = w % 256
 
@@ -18,13 +19,13 @@ operand w = w / nat-end
 -- how many values a command of kind k with the operand v takes off the stack, and how many it puts there
 unfoldable pub takes-by : List ℕ → ℕ → ℕ → ℕ
 takes-by counts k v =
-    elim (eqb k 5) [
+    elim (eqb k cons-kind) [
       | true ↦ getD counts v 0
-      | false ↦ elim (eqb k 4) [ true ↦ 2 | false ↦ elim (eqb k 8) [ true ↦ 2 | false ↦ elim (ltb k 3) [ true ↦ 0 | false ↦ 1 ] ] ]
+      | false ↦ elim (eqb k wr-kind) [ true ↦ 2 | false ↦ elim (eqb k op-kind) [ true ↦ 2 | false ↦ elim (ltb k rd-kind) [ true ↦ 0 | false ↦ 1 ] ] ]
     ]
 
 unfoldable pub puts-by : ℕ → ℕ
-puts-by k = elim (eqb k 4) [ true ↦ 0 | false ↦ elim (eqb k 6) [ true ↦ 0 | false ↦ 1 ] ]
+puts-by k = elim (eqb k wr-kind) [ true ↦ 0 | false ↦ elim (eqb k if-kind) [ true ↦ 0 | false ↦ 1 ] ]
 
 abbrev pub word-takes : List ℕ → ℕ → ℕ
 word-takes counts w = takes-by counts (kind w) (operand w)

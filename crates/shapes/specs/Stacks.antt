@@ -3,7 +3,7 @@ use Prim.Native.Nat.{ℕ, zero, suc, _≤_}
 use mathlib.Core.Path.{_≡_}
 use mathlib.Core.List.{List, [], _∷_}
 use lib.ListN.{length, getD}
-use Rattle.types.specs.Limits.{max-depth}
+use Rattle.types.specs.Limits.{step-commands}
 use Rattle.shapes.specs.declared.stack.Stack.{Stack}
 
 -- the first h bytes, the last of them on top
@@ -17,5 +17,5 @@ types-in s = shown (s .bytes) (s .height)
 
 -- its array is as long as it should be, and it is no higher
 pub record Formed (s : Stack) : Type 0 where
-  pub wide : length (s .bytes) ≡ max-depth
-  pub high : s .height ≤ max-depth
+  pub wide : length (s .bytes) ≡ step-commands
+  pub high : s .height ≤ step-commands

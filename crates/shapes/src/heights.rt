@@ -1,4 +1,5 @@
 // How many stack values each place of a step uses, counted from the step's end (02, 'Pausing a run').
+use commands::kind;
 use judging::path::look;
 use little_endian::index;
 ghost use mathlib.Core.Path.{_≡_};
@@ -14,17 +15,17 @@ pub const PLACES: usize = 65;
 pub fn takes(counts: &[u8], w: u64) -> usize
     ensures { λ r. ⌜ (r ≡ word-takes (now (counts .entry)) w) × (r < 256) ⌝ }
 {
-    let kind = w % 256;
-    if kind == 5 {
+    let k = w % 256;
+    if k == kind::CONS {
         return index(look(counts, (w / types::NAT_END) as usize));
     }
-    if kind == 4 {
+    if k == kind::WR {
         return 2;
     }
-    if kind == 8 {
+    if k == kind::OP {
         return 2;
     }
-    if kind < 3 {
+    if k < kind::RD {
         return 0;
     }
     1
@@ -34,11 +35,11 @@ pub fn takes(counts: &[u8], w: u64) -> usize
 pub fn puts(w: u64) -> usize
     ensures { λ r. ⌜ (r ≡ word-puts w) × (r ≤ 1) ⌝ }
 {
-    let kind = w % 256;
-    if kind == 4 {
+    let k = w % 256;
+    if k == kind::WR {
         return 0;
     }
-    if kind == 6 {
+    if k == kind::IF {
         return 0;
     }
     1

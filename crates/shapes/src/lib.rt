@@ -1,3 +1,4 @@
 // The shapes of a step's places, read off the words of its commands (02, 'Pausing a run').
+pub mod after;
 pub mod heights;
 pub mod stack;
