@@ -22,10 +22,6 @@ struct-byte k = (struct-code + k) % 256
 abbrev pub bool-byte : ℕ
 bool-byte = 2
 
--- the mark of a local that is not written, in place of its type
-abbrev pub unwritten : ℕ
-unwritten = 255
-
 -- what a rd of the variable v leaves, where b is on top: the type of a parameter of that struct, or of a local
 unfoldable pub read-byte : List ℕ → List ℕ → ℕ → ℕ → ℕ
 read-byte types locals v b =

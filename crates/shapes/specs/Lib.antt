@@ -4,5 +4,5 @@ pub mod Stacks
 pub mod StackLaws
 pub mod Afters
 pub mod AfterLaws
-pub mod Direct
-pub mod DirectLaws
+pub mod Walks
+pub mod WalkLaws

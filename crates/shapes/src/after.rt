@@ -13,10 +13,8 @@ ghost use Rattle.shapes.specs.Heights.{kind, operand};
 ghost use Rattle.shapes.specs.Stacks.{types-in, Formed};
 ghost use Rattle.shapes.specs.Afters.{struct-byte, read-byte, result-byte, word-put, word-after, locals-by};
 
-// The locals of a step, and the mark of one that is not written, in place of its type.
+// The locals of a step.
 pub const LOCALS: usize = types::VARIABLES - types::FIRST_LOCAL;
-
-pub const UNWRITTEN: u8 = 255;
 
 // The byte of struct k as a type.
 fn struct_byte(k: usize) -> u8

@@ -2,3 +2,4 @@
 pub mod after;
 pub mod heights;
 pub mod stack;
+pub mod walk;

@@ -14,7 +14,7 @@ pub struct Stack {
 
 // As a step begins.
 pub fn empty() -> Stack
-    ensures { λ r. ⌜ (types-in r ≡ []) × (Formed r) ⌝ }
+    ensures { λ r. ⌜ (types-in r ≡ []) × (Formed r) × (r .height ≡ 0) ⌝ }
 {
     Stack {
         height: 0,

@@ -7,7 +7,7 @@ use Rattle.shapes.proofs.stack.empty.Tie as tie
 
 returns : tie.Need-returns
 unfolding shown
-returns c = (refl, record { wide = refl; high = omega arith })
+returns c = (refl, record { wide = refl; high = omega arith }, refl)
 
 pub empty-spec : {M : Type 1} → statement M
 empty-spec = tie.close (tie.spec returns)
