@@ -2,9 +2,10 @@
 use Prim.Native.Nat.{ℕ, zero, suc, _+_, _-_, _*_, _<_, _≤_}
 use native.Mathlib.Omega.{arith}
 use mathlib.Core.Path.{_≡_, refl}
-use mathlib.Core.Bool.{_&&_}
+use mathlib.Core.Bool.{Bool, true, false, _&&_}
 use mathlib.Core.List.{List, [], _∷_}
-use lib.ListN.{length, getD, drop, set}
+use lib.ListN.{length, getD, drop, set, length-set}
+use lib.Dec.{ltb, leb, eqb}
 use borrow.Author.Tests.{lt-ltb, le-ltb, le-leb, lt-leb, eq-eqb, ne-eqb}
 use Rattle.types.specs.Limits.{first-local, variables, max-params}
 use Rattle.types.specs.Types.{struct-code}
@@ -101,3 +102,11 @@ module _ (k v b : ℕ) (locals : List ℕ) where
       pub locals-none : variables ≤ v → locals-by k v b locals ≡ locals
       unfolding locals-by
       locals-none h = rw (locals-by, eq-eqb k wr-kind w, le-leb first-local v l, le-ltb v variables h)
+
+  pub locals-long : length (locals-by k v b locals) ≡ length locals
+  unfolding locals-by
+  locals-long = go (eqb k wr-kind && (leb first-local v && ltb v variables))
+    where
+      go : (q : Bool) → length {A = ℕ} (elim q [ true ↦ set locals (v - first-local) b | false ↦ locals ]) ≡ length locals
+      go true = length-set locals (v - first-local) b
+      go false = refl

@@ -28,7 +28,7 @@ unfolding coded
 operand-of k v h = omega arith
 
 module _ (G : Ctx) (counts : List ℕ) (counted : (k : ℕ) → getD counts k 0 ≡ length (G .params k)) where
-  takes-word : (m : Flat) → word-takes counts (command-word m) ≡ flat-takes G m
+  pub takes-word : (m : Flat) → word-takes counts (command-word m) ≡ flat-takes G m
   unfolding takes-by command-word com-word
   takes-word (plain (push t v)) = ap (λ (k : ℕ). takes-by counts k (operand (coded push-kind (code t) (word v)))) (kind-of push-kind (code t) (word v) (omega arith))
   takes-word (plain push-this) = ap (λ (k : ℕ). takes-by counts k (operand (coded this-kind 0 0))) (kind-of this-kind 0 0 (omega arith))
@@ -40,7 +40,7 @@ module _ (G : Ctx) (counts : List ℕ) (counted : (k : ℕ) → getD counts k 0 
   takes-word (plain (oper o)) = ap (λ (k : ℕ). takes-by counts k (operand (coded op-kind 0 (op-code o)))) (kind-of op-kind 0 (op-code o) (omega arith))
   takes-word (if-n n) = ap (λ (k : ℕ). takes-by counts k (operand (coded if-kind 0 n))) (kind-of if-kind 0 n (omega arith))
 
-  puts-word : (m : Flat) → word-puts (command-word m) ≡ flat-puts m
+  pub puts-word : (m : Flat) → word-puts (command-word m) ≡ flat-puts m
   unfolding puts-by command-word com-word
   puts-word (plain (push t v)) = ap puts-by (kind-of push-kind (code t) (word v) (omega arith))
   puts-word (plain push-this) = ap puts-by (kind-of this-kind 0 0 (omega arith))

@@ -6,3 +6,5 @@ pub mod Afters
 pub mod AfterLaws
 pub mod Walks
 pub mod WalkLaws
+pub mod NoteLaws
+pub mod WayLaws
