@@ -8,3 +8,5 @@ pub mod Walks
 pub mod WalkLaws
 pub mod NoteLaws
 pub mod WayLaws
+pub mod LabelSets
+pub mod LabelLaws

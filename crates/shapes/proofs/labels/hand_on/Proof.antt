@@ -1,0 +1,85 @@
+-- `labels::hand_on` meets its contract. The invariant: the numbers below t are handed on. The measure is how many numbers are left.
+use Prim.Native.Nat.{ℕ, _+_, _-_, _*_, _≤_}
+use mathlib.Core.Bool.{true}
+use lib.ListN.{length-set}
+use native.Mathlib.Omega.{arith}
+use borrow.Author.Needs.{needs}
+use mathlib.Core.Path.{_≡_, subst, sym, ap, _∙_}
+use mathlib.Core.Logic.{⊎-elim}
+use Rattle.shapes.specs.LabelSets.{structs-of, numbers, row-at}
+use Rattle.shapes.specs.LabelLaws.{HandedBelow, handed-none, handed-row, handed-all, handed-not, handed-more, passed-same}
+use Rattle.shapes.proofs.labels.hand_on.Statement.{statement}
+use Rattle.shapes.proofs.labels.hand_on.Tie as tie
+
+abbrev Inv-loop : tie.InvT-loop
+Inv-loop sets₀ found i jump makes k t₀ sets t = HandedBelow (structs-of found) makes k i jump sets₀ t sets × (t ≤ numbers)
+
+abbrev μ-loop : tie.MeasureT-loop
+μ-loop sets₀ found i jump makes k t₀ sets t = numbers - t
+
+loop-holds : tie.Need-loop-holds Inv-loop μ-loop
+loop-holds c = (handed-none _ _ _ _ _ _, omega arith)
+
+passed-requires : tie.Need-passed-requires Inv-loop μ-loop
+passed-requires c κs =
+    let l = c .before .before .loop .inv .0 .long in
+    (c .before .before .before .before .pre .0, omega (arith, c .before .loop-test .taken), omega (arith, c .before .before .before .before .pre .1, c .before .before .before .before .pre .2))
+
+add-sets : tie.Need-add-sets Inv-loop μ-loop
+add-sets c = omega (arith, c .before .before .before .loop-test .taken, c .before .before .before .before .before .before .pre .1)
+
+mul-sets : tie.Need-mul-sets Inv-loop μ-loop
+mul-sets c = omega (arith, c .before .before .before .loop-test .taken, c .before .before .before .before .before .before .pre .1)
+
+add-sets-2 : tie.Need-add-sets-2 Inv-loop μ-loop
+add-sets-2 c = omega (arith, c .before .before .before .loop-test .taken, c .before .before .before .before .before .before .pre .1)
+
+slice-write-sets : tie.Need-slice-write-sets Inv-loop μ-loop
+slice-write-sets c = let l = c .before .before .before .before .loop .inv .0 .long in omega (arith, c .before .before .before .loop-test .taken, c .before .before .before .before .before .before .pre .1, c .before .before .before .before .before .before .pre .2)
+
+add-sets-3 : tie.Need-add-sets-3 Inv-loop μ-loop
+add-sets-3 c = omega (arith, c .before .before .before .loop-test .taken, c .before .before .before .before .before .before .pre .1)
+
+add-sets-4 : tie.Need-add-sets-4 Inv-loop μ-loop
+add-sets-4 c = omega (arith, c .before .before .before .loop-test .taken, c .before .before .before .before .before .before .pre .1)
+
+mul-sets-2 : tie.Need-mul-sets-2 Inv-loop μ-loop
+mul-sets-2 c = omega (arith, c .before .before .before .loop-test .taken, c .before .before .before .before .before .before .pre .1)
+
+add-sets-5 : tie.Need-add-sets-5 Inv-loop μ-loop
+add-sets-5 c = omega (arith, c .before .before .before .loop-test .taken, c .before .before .before .before .before .before .pre .1)
+
+slice-write-sets-2 : tie.Need-slice-write-sets-2 Inv-loop μ-loop
+slice-write-sets-2 c =
+    let l = c .before .before .before .before .loop .inv .0 .long in
+    omega (arith, length-set (c .before .before .before .before .loop .sets) (numbers * (c .before .before .before .before .before .before .args .i + 1) + c .before .before .before .before .loop .t) true, c .before .before .before .loop-test .taken, c .before .before .before .before .before .before .pre .1, c .before .before .before .before .before .before .pre .2)
+
+add-t : tie.Need-add-t Inv-loop μ-loop
+add-t c = omega (arith, c .before .before .before .loop-test .taken)
+
+loop-less : tie.Need-loop-less Inv-loop μ-loop
+loop-less c = omega (arith, c .before .before .before .loop-test .taken)
+
+loop-again : tie.Need-loop-again Inv-loop μ-loop
+loop-again c =
+    let a = c .before .before .before .before .before .before .args in
+    let h = c .before .before .before .before .loop .inv .0 in
+    let low = c .before .before .before .loop-test .taken in
+    let p = c .before .passed .ensures in
+    let same = passed-same (structs-of (a .found)) (a .makes) (a .k) _ (row-at (a .sets .now) (a .i)) (c .before .before .before .before .loop .t) low (handed-row _ _ _ _ _ _ h) in
+    ⊎-elim
+    (λ w. (rw (w .1) (handed-more (structs-of (a .found)) (a .makes) (a .k) (a .i) (a .jump) (a .sets .now) (c .before .before .before .before .loop .t) low h (sym same ∙ sym p ∙ w .0 .taken) (omega (arith, c .before .before .before .before .before .before .pre .1, c .before .before .before .before .before .before .pre .2))), omega arith))
+    (λ w. (rw (w .1) (handed-not (structs-of (a .found)) (a .makes) (a .k) (a .i) (a .jump) (a .sets .now) (c .before .before .before .before .loop .t) low h (sym same ∙ sym p ∙ w .0 .left)), omega arith))
+    (c .if1 .came)
+
+same-length : tie.Need-same-length Inv-loop μ-loop
+same-length c = c .before .loop .inv .0 .long
+
+returns : tie.Need-returns Inv-loop μ-loop
+returns c =
+    let h = c .before .loop .inv in let t = c .loop-test .left in
+    handed-all _ _ _ _ _ _ (h .0) (omega (arith, h .1))
+
+pub hand-on-spec : {M : Type 1} → statement M
+hand-on-spec =
+    tie.close (tie.spec Inv-loop μ-loop loop-holds passed-requires add-sets mul-sets add-sets-2 slice-write-sets add-sets-3 add-sets-4 mul-sets-2 add-sets-5 slice-write-sets-2 add-t loop-less loop-again same-length returns)
