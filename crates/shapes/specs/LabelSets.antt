@@ -21,11 +21,18 @@ pub record FoundFits (f : Found) : Type 0 where
   pub few : f .count ≤ max-depth
 
 -- how many commands a command may leave out, and whether it makes a label that no later command uses, where these use h values
-abbrev pub jump-by : ℕ → ℕ → ℕ
+unfoldable pub jump-by : ℕ → ℕ → ℕ
 jump-by k v = elim (eqb k if-kind) [ true ↦ v | false ↦ 0 ]
 
 abbrev pub word-jump : ℕ → ℕ
 word-jump w = jump-by (kind w) (operand w)
+
+-- a jump past the place asked for, where `left` commands come before it, is not looked at
+unfoldable pub capped : ℕ → ℕ → ℕ
+capped v left = elim (leb v left) [ true ↦ v | false ↦ 0 ]
+
+abbrev pub jump-within : ℕ → ℕ → ℕ
+jump-within w left = capped (word-jump w) left
 
 abbrev pub word-makes : ℕ → ℕ → Bool
 word-makes w h = eqb (kind w) cons-kind && eqb h 0
@@ -44,6 +51,10 @@ module _ (counts list : List ℕ) (from to : ℕ) (ks : List ℕ) where
       let h = rise-at counts list (from + suc i) (to - from - suc i) in
       sets-at i (suc d) t || ((eqb d 0 || eqb d (word-jump w)) && passed-by ks (word-makes w h) (operand w) (sets-at i 0) t)
 
+  -- whether some way to command n leaves labels of these structs
+  abbrev pub words-leave : ℕ → Bool
+  words-leave n = sets-at n 0 (length ks)
+
 -- Rows ---------------------------------------------------------------------------------
 
 -- the numbers of labels on a stack
@@ -61,3 +72,8 @@ pub record HandedOn (ks : List ℕ) (makes : Bool) (k i jump : ℕ) (sets after 
   pub long : length after ≡ length sets
   pub rows : (j t : ℕ) → t < numbers
       → row-at after j t ≡ (row-at sets j t || ((eqb j (i + 1) || eqb j (i + 1 + jump)) && passed-by ks makes k (row-at sets i) t))
+
+-- the rows of the places from i to n after i commands
+pub record RowsAt (counts list : List ℕ) (from to : ℕ) (ks : List ℕ) (n i : ℕ) (sets : List Bool) : Type 0 where
+  pub long : length sets ≡ row-places
+  pub rows : (j t : ℕ) → i ≤ j → j ≤ n → t < numbers → row-at sets j t ≡ sets-at counts list from to ks i (j - i) t

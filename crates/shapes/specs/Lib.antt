@@ -10,3 +10,4 @@ pub mod NoteLaws
 pub mod WayLaws
 pub mod LabelSets
 pub mod LabelLaws
+pub mod RowLaws
