@@ -11,3 +11,4 @@ pub mod WayLaws
 pub mod LabelSets
 pub mod LabelLaws
 pub mod RowLaws
+pub mod LeaveLaws

@@ -25,11 +25,11 @@ module _ (w : ℕ) where
   pub makes-cons : (h : ℕ) → kind w ≡ cons-kind → word-makes w h ≡ eqb h 0
   makes-cons h e = rw (eq-eqb (kind w) cons-kind e)
 
-  jump-if : kind w ≡ if-kind → word-jump w ≡ operand w
+  pub jump-if : kind w ≡ if-kind → word-jump w ≡ operand w
   unfolding jump-by
   jump-if e = rw (jump-by, eq-eqb (kind w) if-kind e)
 
-  jump-none : (kind w ≡ if-kind → ⊥) → word-jump w ≡ 0
+  pub jump-none : (kind w ≡ if-kind → ⊥) → word-jump w ≡ 0
   unfolding jump-by
   jump-none e = rw (jump-by, ne-eqb (kind w) if-kind e)
 
