@@ -12,3 +12,5 @@ pub mod LabelSets
 pub mod LabelLaws
 pub mod RowLaws
 pub mod LeaveLaws
+pub mod StackWords
+pub mod StackWordLaws

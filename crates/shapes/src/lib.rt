@@ -4,3 +4,4 @@ pub mod heights;
 pub mod labels;
 pub mod stack;
 pub mod walk;
+pub mod words;
