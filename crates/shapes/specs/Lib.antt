@@ -14,3 +14,5 @@ pub mod RowLaws
 pub mod LeaveLaws
 pub mod StackWords
 pub mod StackWordLaws
+pub mod Rightness
+pub mod RightLaws

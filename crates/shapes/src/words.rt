@@ -13,7 +13,7 @@ ghost use Rattle.shapes.specs.Stacks.{types-in, Formed};
 ghost use Rattle.shapes.specs.StackWords.{word-bytes, word-holds, all-hold, label-struct, LabelsFound};
 
 // The bytes of a word.
-const WORD: usize = 4;
+pub const WORD: usize = 4;
 
 // The labels among the words of a stack: whether each of them is one, and their structs.
 pub struct Labels {
