@@ -16,3 +16,4 @@ pub mod StackWords
 pub mod StackWordLaws
 pub mod Rightness
 pub mod RightLaws
+pub mod StackListed
