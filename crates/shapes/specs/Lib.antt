@@ -17,3 +17,4 @@ pub mod StackWordLaws
 pub mod Rightness
 pub mod RightLaws
 pub mod StackListed
+pub mod StackRight

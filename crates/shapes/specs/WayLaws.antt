@@ -97,3 +97,9 @@ comes-shape G c₀ level flat n h {y} b =
     let high : rise G (drop n c₀) ≡ length S = sym (a .high) ∙ ap (λ (i : ℕ). length (shape G [] c₀ i)) here in
     ap (take (rise G (drop n c₀))) (b .stack) ∙ sym (map-take code (rise G (drop n c₀)) (b .tags .stack))
     ∙ ap (map code) (ap₂ take high stack ∙ take-append-seam S (map ref ks))
+
+pub comes-high : (G : Ctx) (c₀ : List Note) → Level G c₀ → rise G c₀ ≡ 0 → (n : ℕ) → n ≤ length c₀ → {y : Bytes} → Comes G c₀ n y
+    → rise G (drop n c₀) ≡ length (shape G [] c₀ n)
+comes-high G c₀ level flat n h b =
+    let here : length c₀ - length (drop n c₀) ≡ n = omega (arith, length-drop n c₀) in
+    sym (way-above G c₀ level flat (b .way) .high) ∙ ap (λ (i : ℕ). length (shape G [] c₀ i)) here
