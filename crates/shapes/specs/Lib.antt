@@ -18,3 +18,6 @@ pub mod Rightness
 pub mod RightLaws
 pub mod StackListed
 pub mod StackRight
+pub mod LivingWords
+pub mod LivingLaws
+pub mod LocalsRight

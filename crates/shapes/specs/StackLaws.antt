@@ -47,3 +47,9 @@ unfolding shown
 shown-past bs zero n low = refl
 shown-past bs (suc h) zero low = absurd (omega arith)
 shown-past bs (suc h) (suc n) low = shown-past bs h n (omega arith)
+
+-- how many
+pub shown-long : (bs : List ℕ) (h : ℕ) → length (shown bs h) ≡ h
+unfolding shown
+shown-long bs zero = refl
+shown-long bs (suc h) = ap suc (shown-long bs h)

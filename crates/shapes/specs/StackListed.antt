@@ -69,7 +69,7 @@ module _ (heads : List ℕ) (n : ℕ) (s : List ℕ) where
   next-word : (at j : ℕ) → nth-word s at (suc j) ≡ nth-word s (at + word-bytes) j
   next-word at j = let e : at + word-bytes * suc j ≡ at + word-bytes + word-bytes * j = omega arith in ap (word-at s) e
 
-  hold-front : (t : ℕ) (ts : List ℕ) (at m : ℕ)
+  pub hold-front : (t : ℕ) (ts : List ℕ) (at m : ℕ)
       → all-hold heads n (t ∷ ts) s at (suc m) ≡ (word-holds heads n t (word-at s at) && all-hold heads n ts s (at + word-bytes) m)
   unfolding all-hold
   hold-front t ts at zero = ap (word-holds heads n t) (first-word at) ∙ sym (and-true (word-holds heads n t (word-at s at)))

@@ -3,6 +3,7 @@ pub mod after;
 pub mod heights;
 pub mod judge;
 pub mod labels;
+pub mod locals;
 pub mod stack;
 pub mod walk;
 pub mod words;

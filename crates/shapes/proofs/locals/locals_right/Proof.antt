@@ -1,0 +1,48 @@
+-- `locals::locals_right` meets its contract: as many words as living locals, of their types.
+use Prim.Native.Nat.{ℕ}
+use native.Mathlib.Omega.{arith}
+use borrow.Author.Needs.{needs}
+use mathlib.Core.Path.{_≡_, sym, ap, ap₂, _∙_}
+use mathlib.Core.List.{List}
+use lib.ListN.{length}
+use Rattle.shapes.specs.Stacks.{types-in}
+use Rattle.shapes.specs.StackLaws.{shown-long}
+use Rattle.shapes.specs.StackWords.{all-hold}
+use Rattle.shapes.specs.LivingWords.{kept-all, living-types}
+use Rattle.shapes.specs.LivingLaws.{locals-count, locals-hold}
+use Rattle.shapes.proofs.locals.locals_right.Statement.{statement}
+use Rattle.shapes.proofs.locals.locals_right.Tie as tie
+
+living-requires : tie.Need-living-requires
+living-requires c κs = let p = c .before .before .before .before .before .pre .0 in omega (arith, p .low, p .within, p .before)
+
+types-before-requires : tie.Need-types-before-requires
+types-before-requires c κs = let p = c .before .before .before .before .before .before .pre .0 in (omega (arith, p .low, p .within, p .before), omega (arith, p .short, p .before))
+
+returns : tie.Need-returns
+returns c =
+    let a = c .before .before .before .before .before .before .before .before .before .before .before .before .args in
+    let k = c .before .before .before .kept-types .ensures in
+    let same : types-in (c .before .before .before .kept-types .result) ≡ living-types (a .list .now) (a .counts .now) (a .types .now) (a .heads .now) (a .s .now) (a .place) (a .held) =
+    k .0 ∙ ap₂ kept-all (c .before .before .before .before .before .before .living .ensures) (c .before .before .before .before .before .types-before .ensures .locals) in
+    let long = shown-long (c .before .before .before .kept-types .result .bytes) (c .before .before .before .kept-types .result .height) in
+    sym (locals-count (a .list .now) (a .counts .now) (a .types .now) (a .heads .now) (a .s .now) (a .place) (a .held) _
+    (λ e. c .if1 .taken (sym long ∙ ap length same ∙ e)))
+
+hold-requires : tie.Need-hold-requires
+hold-requires c κs = let h = c .before .before .before .before .before .before .before .before .before .before .before .before .pre .1 in (h .known, c .before .before .before .kept-types .ensures .1, h .within)
+
+returns-2 : tie.Need-returns-2
+returns-2 c =
+    let a = c .before .before .before .before .before .before .before .before .before .before .before .before .before .args in
+    let k = c .before .before .before .before .kept-types .ensures in
+    let same : types-in (c .before .before .before .before .kept-types .result) ≡ living-types (a .list .now) (a .counts .now) (a .types .now) (a .heads .now) (a .s .now) (a .place) (a .held) =
+    k .0 ∙ ap₂ kept-all (c .before .before .before .before .before .before .before .living .ensures) (c .before .before .before .before .before .before .types-before .ensures .locals) in
+    let long = shown-long (c .before .before .before .before .kept-types .result .bytes) (c .before .before .before .before .kept-types .result .height) in
+    c .hold .ensures ∙ ap (λ (ts : List ℕ). all-hold (a .heads .now) (a .held .instances) ts (a .s .now) (a .held .at) (a .held .height)) same
+    ∙ sym (locals-hold (a .list .now) (a .counts .now) (a .types .now) (a .heads .now) (a .s .now) (a .place) (a .held) _
+    (sym (ap length same) ∙ long ∙ c .before .if1 .left))
+
+pub locals-right-spec : {M : Type 1} → statement M
+locals-right-spec =
+    tie.close (tie.spec living-requires types-before-requires (λ c κs. search needs) returns hold-requires returns-2)
